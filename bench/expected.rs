@@ -1,0 +1,58 @@
+//! What a call has to answer, by std's UTF-16 and one code unit at a time.
+
+use crate::codec::{Action, Flavor};
+use std::str;
+
+fn unit_bytes(flavor: Flavor, unit: u16, out: &mut Vec<u8>) {
+    let low = |shift: u32| 0x80 | (unit >> shift & 0x3F) as u8;
+    match unit {
+        0 if flavor == Flavor::Mutf8 => out.extend([0xC0, 0x80]),
+        0..0x80 => out.push(unit as u8),
+        0x80..0x800 => out.extend([0xC0 | (unit >> 6) as u8, low(0)]),
+        _ => out.extend([0xE0 | (unit >> 12) as u8, low(6), low(0)]),
+    }
+}
+
+pub fn encoded(flavor: Flavor, text: &str) -> Vec<u8> {
+    let mut out = Vec::new();
+    for unit in text.encode_utf16() {
+        unit_bytes(flavor, unit, &mut out);
+    }
+    out
+}
+
+/// The code units that bytes of one to three spell, or none where the bytes end early or have another
+/// form. An overlong form shows when the text is encoded again.
+fn units(bytes: &[u8]) -> Option<Vec<u16>> {
+    let mut units = Vec::new();
+    let mut rest = bytes;
+    while let Some(first) = rest.first() {
+        let (count, lead) = match first {
+            0x00..=0x7F => (1, *first),
+            0xC0..=0xDF => (2, first & 0x1F),
+            0xE0..=0xEF => (3, first & 0x0F),
+            _ => return None,
+        };
+        let mut unit = lead as u16;
+        for byte in rest.get(1..count)? {
+            unit = unit << 6 | (byte & 0x3F) as u16;
+        }
+        units.push(unit);
+        rest = &rest[count..];
+    }
+    Some(units)
+}
+
+fn strictly_decoded(flavor: Flavor, bytes: &[u8]) -> Option<Vec<u8>> {
+    let text = String::from_utf16(&units(bytes)?).ok()?;
+    (encoded(flavor, &text) == bytes).then(|| text.into_bytes())
+}
+
+/// The answer, or none where the input has to be refused.
+pub fn expected(action: Action, flavor: Flavor, input: &[u8]) -> Option<Vec<u8>> {
+    match action {
+        Action::Encode => Some(encoded(flavor, str::from_utf8(input).ok()?)),
+        Action::Decode if str::from_utf8(input).is_ok() => Some(input.to_vec()),
+        Action::Decode | Action::DecodeStrict => strictly_decoded(flavor, input),
+    }
+}

@@ -1,0 +1,46 @@
+#!/bin/sh
+# Proves and builds the static library, builds the driver, and runs it:
+#   bench/run.sh [--cpu LEVEL] [--against LEVEL].. [the driver's arguments]
+# README.md says more. It needs the kit's rt, rustc and, for --against, cc.
+set -eu
+
+bench=$(cd "$(dirname "$0")" && pwd)
+crate=$bench/../crates/cesu8_static
+out=$bench/out
+kit=$(dirname "$(dirname "$(readlink -f "$(command -v rt)")")")
+
+cpu=x86-64-v2
+against=
+while [ $# -ge 2 ]; do
+    case $1 in
+        --cpu) cpu=$2 ;;
+        --against) against="$against $2" ;;
+        *) break ;;
+    esac
+    shift 2
+done
+
+# The archive for one processor level, proved and built.
+build() {
+    mkdir -p "$out/$1"
+    if ! (cd "$crate" && rt lib --cpu "$1") >"$out/$1/rt.log" 2>&1; then
+        cat "$out/$1/rt.log" >&2
+        exit 1
+    fi
+    tail -n 1 "$out/$1/rt.log" >&2
+    cp "$crate/out/libcesu8_static.a" "$out/$1/"
+}
+
+for level in $against; do
+    build "$level"
+    cc -shared -o "$out/$level/cesu8_static.so" -Wl,--whole-archive "$out/$level/libcesu8_static.a" \
+        -Wl,--no-whole-archive "$kit/c/liblibc_c.a"
+    set -- "$@" "simd_cesu8 at $level=$out/$level/cesu8_static.so"
+done
+
+build "$cpu"
+rustc --edition 2024 -O -o "$out/driver" "$bench/driver.rs" \
+    -L "native=$out/$cpu" -l static=cesu8_static -L "native=$kit/c" -l static=libc_c
+
+echo "$(date +%F), $(grep -m 1 'model name' /proc/cpuinfo | sed 's/.*: //'), library built for $cpu"
+"$out/driver" "$@"

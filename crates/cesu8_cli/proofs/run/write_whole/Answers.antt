@@ -1,0 +1,13 @@
+use Rattle.std.proofs.Common.{◌++◌, take}
+use Rattle.std.proofs.KnownBytes.{Appends-trans}
+use Rattle.cesu8_cli.proofs.Written.{whole_after}
+use Rattle.cesu8_cli.proofs.run.write_whole.Goals as goal
+
+pub loop-rest-preserved : goal.loop-rest-preserved
+loop-rest-preserved g c =
+    let before = c.loop-rest.invariant in
+    let piece = take c.in-Ok.count c.loop-rest.rest.now in (
+      before.0 ++ piece,
+      whole_after c.args.bytes.now before.0 c.loop-rest.rest.now c.in-Ok.count before.1,
+      Appends-trans _ _ _ before.0 piece before.2 c.in-Ok.ensures.bytes,
+    )

@@ -1,0 +1,107 @@
+//! The whole answer to a command, from the whole input.
+
+ghost use Rattle.std.specs.Prelude.{◌≡◌, ◌⊎◌, IfOk, IfErr, Ok, Err};
+ghost use Rattle.std.specs.Str.{chars};
+ghost use Rattle.simd_cesu8.specs.Text.{utf8};
+ghost use Rattle.simd_cesu8.specs.Reading.{IsStrictReading, IsLenientReading};
+ghost use Rattle.simd_cesu8.specs.Lossy.{reading, IsLenientLossyReading};
+ghost use Rattle.simd_cesu8.specs.Answer.{answer_bytes, answer_text};
+ghost use Rattle.cesu8_cli.specs.Answers.{flavor_of, IsAnswer, IsEncodingAnswer, IsTextAnswer};
+
+use crate::command::{Command, FlavorWord};
+use crate::fault::RunFault;
+use simd_cesu8::{CowBytes, CowText, mutf8};
+use std::alloc::Global;
+use std::str;
+
+/// The bytes that answer the command, or the fault.
+pub fn answer<'a>(
+    alloc: Global,
+    command: Command,
+    input: &'a [u8],
+) -> Result<CowBytes<'a>, RunFault>
+    ensures ok { IfOk result (λ answer. IsAnswer command input.now (Ok (answer_bytes answer))) }
+    ensures err { IfErr result (λ fault. (fault ≡ RunFault.Memory) ⊎ IsAnswer command input.now (Err fault)) }
+{
+    match command {
+        Command::Encode(flavor) => encode(alloc, flavor, input),
+        Command::Decode(flavor) => decode(alloc, flavor, input),
+        Command::DecodeStrict(flavor) => decode_strict(alloc, flavor, input),
+        Command::Lossy(flavor) => decode_lossy(alloc, flavor, input),
+        Command::LossyStrict(flavor) => decode_lossy_strict(alloc, flavor, input),
+    }
+}
+
+fn encode(alloc: Global, flavor: FlavorWord, input: &[u8]) -> Result<CowBytes<'_>, RunFault>
+    ensures ok { IfOk result (λ answer. IsEncodingAnswer (flavor_of flavor) input.now (Ok (answer_bytes answer))) }
+    ensures err { IfErr result (λ fault. (fault ≡ RunFault.Memory)
+        ⊎ IsEncodingAnswer (flavor_of flavor) input.now (Err fault)) }
+{
+    let Ok(text) = str::from_utf8(input) else {
+        return Err(RunFault::NotUtf8);
+    };
+    match flavor {
+        FlavorWord::Cesu8 => Ok(simd_cesu8::encode(alloc, text)?),
+        FlavorWord::Mutf8 => Ok(mutf8::encode(alloc, text)?),
+    }
+}
+
+fn decode(alloc: Global, flavor: FlavorWord, input: &[u8]) -> Result<CowBytes<'_>, RunFault>
+    ensures ok { IfOk result (λ answer.
+        IsTextAnswer (IsLenientReading (flavor_of flavor) input.now) (Ok (answer_bytes answer))) }
+    ensures err { IfErr result (λ fault. (fault ≡ RunFault.Memory)
+        ⊎ IsTextAnswer (IsLenientReading (flavor_of flavor) input.now) (Err fault)) }
+{
+    match flavor {
+        FlavorWord::Cesu8 => Ok(into_bytes(simd_cesu8::decode(alloc, input)?)),
+        FlavorWord::Mutf8 => Ok(into_bytes(mutf8::decode(alloc, input)?)),
+    }
+}
+
+fn decode_strict(alloc: Global, flavor: FlavorWord, input: &[u8]) -> Result<CowBytes<'_>, RunFault>
+    ensures ok { IfOk result (λ answer.
+        IsTextAnswer (IsStrictReading (flavor_of flavor) input.now) (Ok (answer_bytes answer))) }
+    ensures err { IfErr result (λ fault. (fault ≡ RunFault.Memory)
+        ⊎ IsTextAnswer (IsStrictReading (flavor_of flavor) input.now) (Err fault)) }
+{
+    match flavor {
+        FlavorWord::Cesu8 => Ok(into_bytes(simd_cesu8::decode_strict(alloc, input)?)),
+        FlavorWord::Mutf8 => Ok(into_bytes(mutf8::decode_strict(alloc, input)?)),
+    }
+}
+
+fn decode_lossy(alloc: Global, flavor: FlavorWord, input: &[u8]) -> Result<CowBytes<'_>, RunFault>
+    ensures ok { IfOk result (λ answer.
+        IsTextAnswer (IsLenientLossyReading (flavor_of flavor) input.now) (Ok (answer_bytes answer))) }
+    ensures err { IfErr result (λ fault. fault ≡ RunFault.Memory) }
+{
+    match flavor {
+        FlavorWord::Cesu8 => Ok(into_bytes(simd_cesu8::decode_lossy(alloc, input)?)),
+        FlavorWord::Mutf8 => Ok(into_bytes(mutf8::decode_lossy(alloc, input)?)),
+    }
+}
+
+fn decode_lossy_strict(
+    alloc: Global,
+    flavor: FlavorWord,
+    input: &[u8],
+) -> Result<CowBytes<'_>, RunFault>
+    ensures ok { IfOk result (λ answer.
+        IsTextAnswer (λ text. text ≡ reading (flavor_of flavor) input.now) (Ok (answer_bytes answer))) }
+    ensures err { IfErr result (λ fault. fault ≡ RunFault.Memory) }
+{
+    match flavor {
+        FlavorWord::Cesu8 => Ok(into_bytes(simd_cesu8::decode_lossy_strict(alloc, input)?)),
+        FlavorWord::Mutf8 => Ok(into_bytes(mutf8::decode_lossy_strict(alloc, input)?)),
+    }
+}
+
+/// A text's bytes, with no copy. They are its UTF-8.
+fn into_bytes(text: CowText<'_>) -> CowBytes<'_>
+    ensures { answer_bytes result ≡ utf8 (chars (answer_text text.entry)) }
+{
+    match text {
+        CowText::Borrowed(text) => CowBytes::Borrowed(text.as_bytes()),
+        CowText::Owned(text) => CowBytes::Owned(text.into_bytes()),
+    }
+}

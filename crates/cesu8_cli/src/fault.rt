@@ -1,0 +1,67 @@
+//! Why a run ends without an answer.
+
+ghost use Rattle.std.specs.Prelude.{◌≡◌};
+ghost use Rattle.cesu8_cli.specs.declared.fault.RunFault.TheVariants.{Memory};
+ghost use Rattle.cesu8_cli.specs.Faults.{line_of, status_of, run_fault_of};
+
+use simd_cesu8::{DecodeFault, DecodingError};
+use std::alloc::AllocError;
+
+/// Why a run ends without an answer, or without the whole of it.
+#[derive(Debug, Drop)]
+pub enum RunFault {
+    /// The words are no command with its flavor. Nothing was read.
+    Usage,
+    /// The input is not UTF-8.
+    NotUtf8,
+    /// The input is no encoding of a text.
+    Invalid(DecodingError),
+    /// A request for memory was refused.
+    Memory,
+    /// A read, a write or a flush failed, or a write took nothing.
+    Io,
+}
+
+impl From<AllocError> for RunFault {
+    ghost from_gives = { λ _ fault. fault ≡ Memory };
+
+    fn from(_: AllocError) -> RunFault {
+        RunFault::Memory
+    }
+}
+
+impl From<DecodeFault> for RunFault {
+    ghost from_gives = { λ fault outcome. outcome ≡ run_fault_of fault };
+
+    fn from(fault: DecodeFault) -> RunFault {
+        match fault {
+            DecodeFault::Invalid(error) => RunFault::Invalid(error),
+            DecodeFault::Memory(_) => RunFault::Memory,
+        }
+    }
+}
+
+/// What to write on standard error, without the line's end.
+pub fn fault_line(fault: &RunFault) -> &'static str
+    ensures { result.now ≡ line_of fault.now }
+{
+    match fault {
+        RunFault::Usage => "usage: cesu8_cli COMMAND FLAVOR",
+        RunFault::Invalid(_) => "cesu8: invalid input",
+        RunFault::NotUtf8 => "cesu8: input is not UTF-8",
+        RunFault::Memory => "cesu8: out of memory",
+        RunFault::Io => "cesu8: input or output failed",
+    }
+}
+
+/// The status to end with.
+pub fn fault_status(fault: &RunFault) -> u8
+    ensures { result ≡ status_of fault.now }
+{
+    match fault {
+        RunFault::Invalid(_) | RunFault::NotUtf8 => 1,
+        RunFault::Usage => 2,
+        RunFault::Memory => 3,
+        RunFault::Io => 4,
+    }
+}

@@ -1,0 +1,49 @@
+//! Converts between UTF-8, CESU-8 and Modified UTF-8, from standard input to standard output.
+#![tactic(auto)]
+
+mod answer;
+mod command;
+mod fault;
+mod run;
+
+use crate::fault::{RunFault, fault_line, fault_status};
+use crate::run::run;
+use std::process::ExitCode;
+use std::{env, io};
+
+fn main(rt: HostRuntime) -> ExitCode {
+    match run_words(&rt) {
+        Ok(()) => ExitCode::SUCCESS,
+        Err(fault) => {
+            // A failure to write the line changes nothing.
+            let _ = rt.eprintln(fault_line(&fault));
+            ExitCode::from(fault_status(&fault))
+        }
+    }
+}
+
+/// Hands the arguments after the program's name to `run`. Where they can't be had, it is as for a
+/// failed read.
+fn run_words(rt: &HostRuntime) -> Result<(), RunFault> {
+    let Ok(args) = env::args(rt) else {
+        return Err(RunFault::Io);
+    };
+    let mut owned = Vec::new(rt.alloc());
+    for arg in args.skip(1) {
+        if owned.push(arg).is_err() {
+            return Err(RunFault::Io);
+        }
+    }
+    let mut words = Vec::new(rt.alloc());
+    for arg in &owned {
+        if words.push(arg.as_str()).is_err() {
+            return Err(RunFault::Io);
+        }
+    }
+    run(
+        rt.alloc(),
+        words.as_slice(),
+        &mut rt.reader(),
+        &mut io::writer(rt),
+    )
+}

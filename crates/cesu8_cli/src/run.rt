@@ -1,0 +1,97 @@
+//! One run of the program, over any reader and any writer.
+
+ghost use Rattle.std.specs.Prelude.{◌≡◌, ◌≢◌, ◌≤◌, ◌<◌, ◌+◌, ◌*◌, ◌/◌, ◌++◌, ◌⊎◌, ◌↔◌, ℕ, List, length, vec_len, OnOk, OnErr, IfOk, IfErr, IfSome, Ok, Err};
+ghost use Rattle.std.specs.Io.KnownBytes.{Appends, Consumes, IsAtEnd, Keeps};
+ghost use Rattle.cesu8_cli.specs.Faults.{IsRefusal};
+ghost use Rattle.cesu8_cli.specs.Answers.{AreWordsOf, IsAnswerTo};
+ghost use Rattle.cesu8_cli.specs.declared.command.Command.{Command as CommandType};
+
+use crate::answer::answer;
+use crate::command::parse;
+use crate::fault::RunFault;
+use std::alloc::Global;
+use std::io::{Read, Write};
+
+/// How many bytes one read may give.
+const CHUNK: usize = 16384;
+
+/// Reads the whole input, makes the whole answer, and then writes it and flushes once.
+pub fn run<R: Read, W: Write>(
+    alloc: Global,
+    words: &[&str],
+    input: &mut R,
+    output: &mut W,
+) -> Result<(), RunFault>
+    // What was written is the answer to what was read.
+    ensures ok { OnOk result (IfSome (R.remaining input.old) (λ bytes.
+        (answer : List ℕ) × IsAnswerTo words.now bytes (Ok answer)
+        × Appends (W.contents output.old) (W.contents output.new) answer)) }
+
+    // The words are tested before anything is read.
+    ensures usage { (result ≡ Err RunFault.Usage) ↔ ((command : CommandType) → ¬ (AreWordsOf command words.now)) }
+    ensures unread { result ≡ Err RunFault.Usage → input.new ≡ input.old }
+
+    // Nothing is written before the whole answer is there.
+    ensures refused { IfErr result (λ fault. IsRefusal fault → IfSome (R.remaining input.old) (λ bytes.
+        IsAnswerTo words.now bytes (Err fault))) }
+    ensures unwritten { IfErr result (λ fault. fault ≢ RunFault.Io → output.new ≡ output.old) }
+    ensures io { result ≡ Err RunFault.Io → (output.new ≡ output.old) ⊎ (IsAtEnd (R.remaining input.new)
+        × IfSome (R.remaining input.old) (λ bytes.
+        (written : List ℕ) × (rest : List ℕ) × IsAnswerTo words.now bytes (Ok (written ++ rest))
+        × Appends (W.contents output.old) (W.contents output.new) written)) }
+{
+    let Some(command) = parse(words) else {
+        return Err(RunFault::Usage);
+    };
+    let bytes = read_whole(alloc, input)?;
+    let answer = answer(alloc, command, bytes.as_slice())?;
+    write_whole(answer.as_bytes(), output)
+}
+
+/// The bytes of a reader, up to its end.
+fn read_whole<R: Read>(alloc: Global, input: &mut R) -> Result<Vec<u8>, RunFault>
+    ensures bytes { IfOk result (λ bytes. Consumes (R.remaining input.old) (R.remaining input.new) bytes.items) }
+    ensures end { OnOk result (IsAtEnd (R.remaining input.new)) }
+    ensures err { IfErr result (λ fault. (fault ≡ RunFault.Memory) ⊎ (fault ≡ RunFault.Io)) }
+{
+    let mut bytes = Vec::new(alloc);
+    let mut chunk = [0; CHUNK];
+    loop {
+        let Ok(count) = input.read(&mut chunk) else {
+            return Err(RunFault::Io);
+        };
+        if count == 0 {
+            return Ok(bytes);
+        }
+        if count > usize::MAX / 2 - bytes.len() {
+            return Err(RunFault::Memory);
+        }
+        bytes.extend_from_slice(&chunk[..count])?;
+    }
+}
+
+/// Writes all of the bytes, and flushes once.
+fn write_whole<W: Write>(bytes: &[u8], output: &mut W) -> Result<(), RunFault>
+    ensures ok { OnOk result (Appends (W.contents output.old) (W.contents output.new) bytes.now) }
+    ensures err { OnErr result ((written : List ℕ) × (rest : List ℕ) × (bytes.now ≡ written ++ rest)
+        × Appends (W.contents output.old) (W.contents output.new) written) }
+    ensures fault { IfErr result (λ fault. fault ≡ RunFault.Io) }
+{
+    let mut rest = bytes;
+    while !rest.is_empty() {
+        let Ok(count) = output.write(rest) else {
+            return Err(RunFault::Io);
+        };
+        if count == 0 {
+            return Err(RunFault::Io);
+        }
+        rest = &rest[count..];
+    }
+    match output.flush() {
+        Ok(()) => Ok(()),
+        Err(_) => Err(RunFault::Io),
+    }
+}
+
+#[cfg(test)]
+mod tests;

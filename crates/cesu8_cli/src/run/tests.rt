@@ -1,0 +1,106 @@
+mod commands;
+mod devices;
+mod memory;
+
+use self::devices::{Reader, Writer};
+use super::*;
+use crate::fault::{fault_line, fault_status};
+use std::io::ErrorKind;
+
+/// What a user sees of an end: the status, and the line on standard error.
+fn shown(outcome: Result<(), RunFault>) -> (u8, &'static str) {
+    match outcome {
+        Ok(()) => (0, ""),
+        Err(fault) => (fault_status(&fault), fault_line(&fault)),
+    }
+}
+
+const DONE: (u8, &str) = (0, "");
+
+const INVALID: (u8, &str) = (1, "cesu8: invalid input");
+
+const NOT_UTF8: (u8, &str) = (1, "cesu8: input is not UTF-8");
+
+const USAGE: (u8, &str) = (2, "usage: cesu8_cli COMMAND FLAVOR");
+
+const OUT_OF_MEMORY: (u8, &str) = (3, "cesu8: out of memory");
+
+const FAILED: (u8, &str) = (4, "cesu8: input or output failed");
+
+#[test]
+fn shows_each_fault(rt: HostRuntime) {
+    assert_eq!(rt; shown(Err(RunFault::NotUtf8)), NOT_UTF8);
+    assert_eq!(rt; shown(Err(RunFault::Usage)), USAGE);
+    assert_eq!(rt; shown(Err(RunFault::Memory)), OUT_OF_MEMORY);
+    assert_eq!(rt; shown(Err(RunFault::Io)), FAILED);
+}
+
+#[test]
+fn tests_words_first(rt: HostRuntime) {
+    let cases: [&[&str]; 15] = [
+        &[],
+        &["encode"],
+        &["encode", "cesu8", "cesu8"],
+        &["recode", "cesu8"],
+        &["encode", "utf9"],
+        &["encode", ""],
+        &["", "cesu8"],
+        &["cesu8", "encode"],
+        &["decode", "utf8"],
+        &["decode_strict", "cesu8"],
+        &["decode-strict", "mutf8", "mutf8"],
+        &["needs", "cesu8"],
+        &["needs", "mutf8"],
+        &["java-write", "mutf8"],
+        &["java-read", "mutf8"],
+    ];
+    for words in cases {
+        let mut input = Reader::new(b"", ErrorKind::Other);
+        let mut output = Vec::new(rt.alloc());
+        let result = run(rt.alloc(), words, &mut input, &mut output);
+        assert_eq!(rt; shown(result), USAGE, "at {words:?}");
+        assert_eq!(rt; input.reads(), 0, "at {words:?}");
+        assert!(rt; output.is_empty(), "at {words:?}");
+    }
+}
+
+#[test]
+fn stops_at_a_failed_read(rt: HostRuntime) {
+    for kind in [
+        ErrorKind::Other,
+        ErrorKind::Interrupted,
+        ErrorKind::UnexpectedEof,
+    ] {
+        let mut input = Reader::new(b"a\xF4", kind);
+        let mut output = Vec::new(rt.alloc());
+        let result = run(rt.alloc(), &["encode", "cesu8"], &mut input, &mut output);
+        assert_eq!(rt; shown(result), FAILED, "at {kind:?}");
+        assert_eq!(rt; input.reads(), 2, "at {kind:?}");
+        assert!(rt; output.is_empty(), "at {kind:?}");
+    }
+}
+
+#[test]
+fn writes_to_slow_and_failing_writers(rt: HostRuntime) {
+    let whole: &[u8] = b"a\xED\xAF\xBF\xED\xBF\xBF";
+    let cases: [(&str, Writer, (u8, &str), &[u8], usize); 5] = [
+        ("one byte a call", Writer::new().at_most(1), DONE, whole, 1),
+        (
+            "three bytes, then an error",
+            Writer::new().room(3),
+            FAILED,
+            b"a\xED\xAF",
+            0,
+        ),
+        ("an error at once", Writer::new().room(0), FAILED, b"", 0),
+        ("no byte", Writer::new().at_most(0), FAILED, b"", 0),
+        ("a failed flush", Writer::new().no_flush(), FAILED, whole, 1),
+    ];
+    for (name, mut output, want, kept, flushes) in cases {
+        let mut input: &[u8] = b"a\xF4\x8F\xBF\xBF";
+        let result = run(rt.alloc(), &["encode", "cesu8"], &mut input, &mut output);
+        assert_eq!(rt; shown(result), want, "at {name}");
+        assert_eq!(rt; output.kept(), kept, "at {name}");
+        assert_eq!(rt; output.flushes(), flushes, "at {name}");
+    }
+}

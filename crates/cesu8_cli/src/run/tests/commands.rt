@@ -1,0 +1,142 @@
+//! What each command writes, and how it ends.
+
+use super::{DONE, INVALID, NOT_UTF8, shown};
+use crate::run::run;
+
+#[test]
+fn encodes_to_cesu8(rt: HostRuntime) {
+    let cases: [(&[u8], (u8, &str), &[u8]); 6] = [
+        (b"", DONE, b""),
+        (b"a\xF4\x8F\xBF\xBF", DONE, b"a\xED\xAF\xBF\xED\xBF\xBF"),
+        (b"\xC8\x85", DONE, b"\xC8\x85"),
+        (b"a\x00", DONE, b"a\x00"),
+        (b"\xFF", NOT_UTF8, b""),
+        (b"\xED\xA0\xBD", NOT_UTF8, b""),
+    ];
+    for (bytes, want, written) in cases {
+        let mut input = bytes;
+        let mut output = Vec::new(rt.alloc());
+        let ended = run(rt.alloc(), &["encode", "cesu8"], &mut input, &mut output);
+        assert_eq!(rt; shown(ended), want, "at {bytes:?}");
+        assert_eq!(rt; output.as_slice(), written, "at {bytes:?}");
+    }
+}
+
+#[test]
+fn encodes_to_mutf8(rt: HostRuntime) {
+    let cases: [(&[u8], (u8, &str), &[u8]); 5] = [
+        (b"", DONE, b""),
+        (b"a\x00", DONE, b"a\xC0\x80"),
+        (b"a\xF4\x8F\xBF\xBF", DONE, b"a\xED\xAF\xBF\xED\xBF\xBF"),
+        (b"\xFF", NOT_UTF8, b""),
+        (b"\xC0\x80", NOT_UTF8, b""),
+    ];
+    for (bytes, want, written) in cases {
+        let mut input = bytes;
+        let mut output = Vec::new(rt.alloc());
+        let ended = run(rt.alloc(), &["encode", "mutf8"], &mut input, &mut output);
+        assert_eq!(rt; shown(ended), want, "at {bytes:?}");
+        assert_eq!(rt; output.as_slice(), written, "at {bytes:?}");
+    }
+}
+
+#[test]
+fn decodes_strictly(rt: HostRuntime) {
+    let cases: [(&str, &[u8], (u8, &str), &[u8]); 10] = [
+        ("cesu8", b"", DONE, b""),
+        (
+            "cesu8",
+            b"\xED\xA0\xBD\xED\xB2\x96",
+            DONE,
+            b"\xF0\x9F\x92\x96",
+        ),
+        ("cesu8", b"\x00", DONE, b"\x00"),
+        ("cesu8", b"\xF0\x9F\x92\x96", INVALID, b""),
+        ("cesu8", b"a\xED\xA0\xBD", INVALID, b""),
+        ("mutf8", b"", DONE, b""),
+        (
+            "mutf8",
+            b"\xED\xA0\xBD\xED\xB2\x96",
+            DONE,
+            b"\xF0\x9F\x92\x96",
+        ),
+        ("mutf8", b"\xC0\x80", DONE, b"\x00"),
+        ("mutf8", b"\x00", INVALID, b""),
+        ("mutf8", b"a\x00", INVALID, b""),
+    ];
+    for (flavor, bytes, want, written) in cases {
+        let mut input = bytes;
+        let mut output = Vec::new(rt.alloc());
+        let ended = run(
+            rt.alloc(),
+            &["decode-strict", flavor],
+            &mut input,
+            &mut output,
+        );
+        assert_eq!(rt; shown(ended), want, "{flavor} at {bytes:?}");
+        assert_eq!(rt; output.as_slice(), written, "{flavor} at {bytes:?}");
+    }
+}
+
+#[test]
+fn decodes_leniently(rt: HostRuntime) {
+    let mixed = b"\xF0\x9F\x92\x96\xED\xA0\xBD\xED\xB2\x96".as_slice();
+    let cases: [(&str, &[u8], (u8, &str), &[u8]); 10] = [
+        ("cesu8", b"", DONE, b""),
+        ("cesu8", b"\xF0\x9F\x92\x96", DONE, b"\xF0\x9F\x92\x96"),
+        (
+            "cesu8",
+            b"\xED\xA0\xBD\xED\xB2\x96",
+            DONE,
+            b"\xF0\x9F\x92\x96",
+        ),
+        ("cesu8", mixed, INVALID, b""),
+        ("cesu8", b"\xC0\x80", INVALID, b""),
+        ("mutf8", b"", DONE, b""),
+        ("mutf8", b"A\x00B", DONE, b"A\x00B"),
+        ("mutf8", b"A\xC0\x80B", DONE, b"A\x00B"),
+        ("mutf8", b"\x00\xC0\x80", INVALID, b""),
+        ("mutf8", mixed, INVALID, b""),
+    ];
+    for (flavor, bytes, want, written) in cases {
+        let mut input = bytes;
+        let mut output = Vec::new(rt.alloc());
+        let ended = run(rt.alloc(), &["decode", flavor], &mut input, &mut output);
+        assert_eq!(rt; shown(ended), want, "{flavor} at {bytes:?}");
+        assert_eq!(rt; output.as_slice(), written, "{flavor} at {bytes:?}");
+    }
+}
+
+#[test]
+fn decodes_with_damage(rt: HostRuntime) {
+    let cases: [(&str, &str, &[u8], &[u8]); 6] = [
+        ("lossy", "cesu8", b"\xF0\x9F\x92\x96", b"\xF0\x9F\x92\x96"),
+        (
+            "lossy",
+            "cesu8",
+            b"\xF0\x9F\x92\x96\xFF",
+            b"\xEF\xBF\xBD\xEF\xBF\xBD\xEF\xBF\xBD\xEF\xBF\xBD\xEF\xBF\xBD",
+        ),
+        ("lossy", "mutf8", b"\x00\xC0\x80", b"\xEF\xBF\xBD\x00"),
+        (
+            "lossy-strict",
+            "mutf8",
+            b"\xC0\xC0\x80",
+            b"\xEF\xBF\xBD\x00",
+        ),
+        (
+            "lossy-strict",
+            "cesu8",
+            b"\xC0\xC0\x80",
+            b"\xEF\xBF\xBD\xEF\xBF\xBD\xEF\xBF\xBD",
+        ),
+        ("lossy-strict", "cesu8", b"", b""),
+    ];
+    for (command, flavor, bytes, written) in cases {
+        let mut input = bytes;
+        let mut output = Vec::new(rt.alloc());
+        let ended = run(rt.alloc(), &[command, flavor], &mut input, &mut output);
+        assert_eq!(rt; shown(ended), DONE, "at {bytes:?}");
+        assert_eq!(rt; output.as_slice(), written, "at {bytes:?}");
+    }
+}

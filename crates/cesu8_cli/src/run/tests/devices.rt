@@ -1,0 +1,121 @@
+//! Readers and writers that fail. They claim nothing of their bytes, and allocate nothing.
+
+use std::io::{Error, ErrorKind, Read, Result, Write};
+
+/// How many bytes a `Writer` can keep.
+const SIZE: usize = 16;
+
+/// Gives its bytes, and then fails at each read.
+#[derive(Drop)]
+pub struct Reader<'a> {
+    rest: &'a [u8],
+    kind: ErrorKind,
+    reads: usize,
+}
+
+impl<'a> Reader<'a> {
+    pub fn new(bytes: &'a [u8], kind: ErrorKind) -> Reader<'a> {
+        Reader {
+            rest: bytes,
+            kind,
+            reads: 0,
+        }
+    }
+
+    /// How many reads it was asked for.
+    pub fn reads(&self) -> usize {
+        self.reads
+    }
+}
+
+impl<'a> Read for Reader<'a> {
+    fn read(&mut self, buf: &mut [u8]) -> Result<usize> {
+        self.reads = self.reads.saturating_add(1);
+        let count = self.rest.len().min(buf.len());
+        if count == 0 {
+            return Err(Error::from(self.kind));
+        }
+        buf[..count].copy_from_slice(&self.rest[..count]);
+        self.rest = &self.rest[count..];
+        Ok(count)
+    }
+}
+
+/// Keeps what it takes, and fails where it has no more room.
+#[derive(Drop)]
+pub struct Writer {
+    bytes: [u8; SIZE],
+    len: usize,
+    room: usize,
+    most: usize,
+    flushes: usize,
+    can_flush: bool,
+}
+
+impl Writer {
+    pub fn new() -> Writer {
+        Writer {
+            bytes: [0; SIZE],
+            len: 0,
+            room: SIZE,
+            most: SIZE,
+            flushes: 0,
+            can_flush: true,
+        }
+    }
+
+    /// Takes at most this many bytes a call.
+    pub fn at_most(mut self, most: usize) -> Writer {
+        self.most = most;
+        self
+    }
+
+    /// Takes this many bytes in all.
+    pub fn room(mut self, room: usize) -> Writer {
+        self.room = room;
+        self
+    }
+
+    /// Fails at each flush.
+    pub fn no_flush(mut self) -> Writer {
+        self.can_flush = false;
+        self
+    }
+
+    /// The bytes that it took.
+    pub fn kept(&self) -> &[u8] {
+        self.bytes.get(..self.len).unwrap_or(&[])
+    }
+
+    /// How many flushes it was asked for.
+    pub fn flushes(&self) -> usize {
+        self.flushes
+    }
+}
+
+impl Write for Writer {
+    fn write(&mut self, buf: &[u8]) -> Result<usize> {
+        if self.room == 0 {
+            return Err(Error::from(ErrorKind::StorageFull));
+        }
+        let count = buf.len().min(self.most).min(self.room);
+        self.room -= count;
+        for byte in &buf[..count] {
+            let Some(place) = self.bytes.get_mut(self.len) else {
+                return Err(Error::from(ErrorKind::StorageFull));
+            };
+            *place = *byte;
+            self.len = self.len.saturating_add(1);
+        }
+        Ok(count)
+    }
+
+    fn flush(&mut self) -> Result<()> {
+        self.flushes = self.flushes.saturating_add(1);
+        if self.can_flush {
+            Ok(())
+        } else {
+            Err(Error::from(ErrorKind::BrokenPipe))
+        }
+    }
+}

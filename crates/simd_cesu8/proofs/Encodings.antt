@@ -1,0 +1,31 @@
+-- The encoding of a text, from those of its scalar values.
+use Rattle.std.proofs.Common.{◌≡◌, ℕ, ◌+◌, List, [], ◌∷◌, ◌++◌, refl, sym, ap, ◌∙◌, length, arith, length-append, append-nil}
+use Rattle.std.specs.Str.{chars}
+use Rattle.std.proofs.lemmas.Str.{chars-nil}
+use Rattle.std.specs.List.{flat_map}
+use Rattle.std.proofs.lemmas.List.Concat.{flat_map-append}
+use Rattle.simd_cesu8.specs.Utf16.{units_of, units}
+use Rattle.simd_cesu8.specs.Encoding.{Flavor, form, encoding}
+
+pub encoding_nil : (f : Flavor) → encoding f [] ≡ []
+unfolding encoding
+encoding_nil f = refl
+
+-- The encoding of a concatenation is the concatenation of the encodings.
+pub encoding_append : (f : Flavor) (s t : List ℕ) → encoding f (s ++ t) ≡ encoding f s ++ encoding f t
+unfolding encoding
+encoding_append f s t =
+    ap (flat_map (form f)) (flat_map-append units_of s t) ∙ flat_map-append (form f) (units s) (units t)
+
+pub encoding_cons : (f : Flavor) (c : ℕ) (text : List ℕ) →
+    encoding f (c ∷ text) ≡ encoding f (c ∷ []) ++ encoding f text
+encoding_cons f c text = encoding_append f (c ∷ []) text
+
+-- Nothing is left to encode after the last byte.
+pub nothing_left : (f : Flavor) (whole rest out : List ℕ) → length rest ≡ 0 → whole ≡ out ++ encoding f (chars rest) →
+    out ≡ whole
+nothing_left f whole [] out e h = sym (h ∙ rw (chars-nil, encoding_nil f) (append-nil out))
+nothing_left f whole (b ∷ rest) out e h = absurd (omega arith)
+
+pub lengths_of_parts : (a b c d : List ℕ) → a ++ b ≡ c ++ d → length a + length b ≡ length c + length d
+lengths_of_parts a b c d e = sym (length-append a b) ∙ ap length e ∙ length-append c d

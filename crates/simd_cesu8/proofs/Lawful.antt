@@ -1,0 +1,19 @@
+-- The laws, from the lemmas on both encodings.
+use Rattle.std.proofs.Common.{refl, sym, ap, arith, length}
+use Rattle.simd_cesu8.specs.Laws.{RoundTrip, Needs}
+use Rattle.simd_cesu8.proofs.Needs.{encoding_same, encoding_longer}
+use Rattle.simd_cesu8.proofs.Unique.{same_text}
+
+pub round_trip : RoundTrip
+round_trip f text h = (
+  (h, refl),
+  (λ other k. sym (same_text f text other h k.0 (sym k.1))),
+  (λ other k e. same_text f text other h k e),
+)
+
+-- an encoding that is the text's UTF-8 needs nothing
+pub needs : Needs
+needs f text h = (
+  (λ n. encoding_same f text h n),
+  (λ e n. omega (arith, encoding_longer f text h n, ap length e)),
+)

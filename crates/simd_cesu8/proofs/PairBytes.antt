@@ -1,0 +1,61 @@
+-- The shifts and masks that make the bytes of a surrogate pair from the four bytes of its character.
+use Rattle.std.proofs.Common.{◌≡◌, ℕ, ◌+◌, ◌*◌, ◌/◌, ◌%◌, ◌^◌, ◌<◌, ◌≤◌, List, [], ◌∷◌, refl, sym, ap, ◌∙◌, arith, bit_and, bit_or, slice_index_or}
+use Rattle.std.proofs.lemmas.Nat.{and_mask, or_shifted}
+use Rattle.simd_cesu8.specs.Text.{utf8_of}
+use Rattle.simd_cesu8.specs.Encoding.{Flavor, encoding}
+use Rattle.simd_cesu8.proofs.Shapes.{IsPair, utf8_of_pair, pair_digits}
+use Rattle.simd_cesu8.proofs.Forms.{encoding_pair}
+
+-- the bits above a mask go
+second : (w x : ℕ) → w < 16 → x < 64 →
+    159 + bit_or (bit_and (240 + (w + 1) / 4) 7 * 4 % 256) (bit_and ((128 + ((w + 1) % 4 * 16 + x / 4)) / 16) 3) ≡ 160 + w
+second w x hw hx =
+    let high : bit_and (240 + (w + 1) / 4) 7 * 4 % 256 ≡ (w + 1) / 4 * 2 ^ 2 =
+    omega (arith, and_mask (240 + (w + 1) / 4) 3) in
+    let low : bit_and ((128 + ((w + 1) % 4 * 16 + x / 4)) / 16) 3 ≡ (w + 1) % 4 =
+    omega (arith, and_mask ((128 + ((w + 1) % 4 * 16 + x / 4)) / 16) 2) in
+    rw (high, low, or_shifted ((w + 1) / 4) 2 ((w + 1) % 4) (omega arith)) (omega arith)
+
+third : (w x y : ℕ) → w < 16 → x < 64 → y < 16 →
+    bit_or (bit_or 128 (bit_and (128 + ((w + 1) % 4 * 16 + x / 4)) 15 * 4 % 256)) (bit_and ((128 + (x % 4 * 16 + y)) / 16) 3)
+    ≡ 128 + x
+third w x y hw hx hy =
+    let high : bit_and (128 + ((w + 1) % 4 * 16 + x / 4)) 15 * 4 % 256 ≡ x / 4 * 4 =
+    omega (arith, and_mask (128 + ((w + 1) % 4 * 16 + x / 4)) 4) in
+    let low : bit_and ((128 + (x % 4 * 16 + y)) / 16) 3 ≡ x % 4 =
+    omega (arith, and_mask ((128 + (x % 4 * 16 + y)) / 16) 2) in
+    let lead : bit_or 128 (x / 4 * 4) ≡ (32 + x / 4) * 2 ^ 2 = or_shifted 2 6 (x / 4 * 4) (omega arith) ∙ omega arith in
+    rw (high, low, lead, or_shifted (32 + x / 4) 2 (x % 4) (omega arith)) (omega arith)
+
+fifth : (x y : ℕ) → y < 16 → bit_or 176 (bit_and (128 + (x % 4 * 16 + y)) 15) ≡ 176 + y
+fifth x y h =
+    let low : bit_and (128 + (x % 4 * 16 + y)) 15 ≡ y = omega (arith, and_mask (128 + (x % 4 * 16 + y)) 4) in
+    rw low (or_shifted 11 4 y h)
+
+sixth : (z : ℕ) → z < 64 → bit_or 128 (bit_and (128 + z) 63) ≡ 128 + z
+sixth z h =
+    let low : bit_and (128 + z) 63 ≡ z = omega (arith, and_mask (128 + z) 6) in
+    rw low (or_shifted 2 6 z h)
+
+-- The six bytes, from the four in s.
+abbrev pub six_bytes : List ℕ → List ℕ
+six_bytes s =
+    237 ∷ (159 + bit_or (bit_and (slice_index_or s 0 0) 7 * 4 % 256) (bit_and (slice_index_or s 1 0 / 16) 3))
+    ∷ bit_or (bit_or 128 (bit_and (slice_index_or s 1 0) 15 * 4 % 256)) (bit_and (slice_index_or s 2 0 / 16) 3)
+    ∷ 237 ∷ bit_or 176 (bit_and (slice_index_or s 2 0) 15) ∷ bit_or 128 (bit_and (slice_index_or s 3 0) 63) ∷ []
+
+six_by_digits : (f : Flavor) (c w x y z : ℕ) → IsPair c w x y z → six_bytes (utf8_of c) ≡ encoding f (c ∷ [])
+six_by_digits f c w x y z h =
+    rw (
+      encoding_pair f c w x y z h,
+      utf8_of_pair c w x y z h,
+      second w x h.first h.second,
+      third w x y h.first h.second h.third,
+      fifth x y h.third,
+      sixth z h.last,
+    ) refl
+
+pub six_bytes_are : (f : Flavor) (c : ℕ) (s : List ℕ) → 65536 ≤ c → c < 1114112 → utf8_of c ≡ s →
+    six_bytes s ≡ encoding f (c ∷ [])
+six_bytes_are f c s low high e =
+    ap six_bytes (sym e) ∙ six_by_digits f c _ _ _ _ (pair_digits c low high)

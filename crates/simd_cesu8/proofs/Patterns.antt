@@ -1,0 +1,58 @@
+-- The byte patterns of encoded characters: what bytes that begin with one look like.
+use Rattle.std.proofs.Common.{◌≡◌, ℕ, ◌+◌, ◌<◌, ◌≤◌, ◌⊎◌, List, [], ◌∷◌, ◌++◌, refl, ap, ◌∙◌, inl, inr, arith, length, get_or}
+use Rattle.std.proofs.lemmas.Bool.{cases_eq}
+use Rattle.simd_cesu8.specs.Text.{IsScalarValue}
+use Rattle.simd_cesu8.specs.Encoding.{Flavor, Cesu8, Mutf8, encoding}
+use Rattle.simd_cesu8.specs.Reading.{BeginsWith}
+use Rattle.simd_cesu8.proofs.Shapes.{IsTwo, IsThree, IsPair, Shape, one, two, three, pair, shape}
+use Rattle.simd_cesu8.proofs.Forms.{encoding_one, encoding_two, encoding_three, encoding_pair, short_form_null, short_form_other}
+
+-- The encoding of c, and more, by its bytes.
+pub data Pattern (f : Flavor) (bytes : List ℕ) (c : ℕ) : Type 0 where
+  of_one : get_or bytes 0 0 ≡ c → c < 128 → (f ≡ Mutf8 → 0 < c) → Pattern f bytes c
+  of_null : f ≡ Mutf8 → c ≡ 0 → get_or bytes 0 0 ≡ 192 → get_or bytes 1 0 ≡ 128 → 2 ≤ length bytes → Pattern f bytes c
+  of_two : (x y : ℕ) → IsTwo c x y → get_or bytes 0 0 ≡ 192 + x → get_or bytes 1 0 ≡ 128 + y → 2 ≤ length bytes →
+      Pattern f bytes c
+  of_three : (x y z : ℕ) → IsThree c x y z → (x ≡ 13 → y < 32) → get_or bytes 0 0 ≡ 224 + x → get_or bytes 1 0 ≡ 128 + y →
+      get_or bytes 2 0 ≡ 128 + z → 3 ≤ length bytes → Pattern f bytes c
+  of_pair : (w x y z : ℕ) → IsPair c w x y z → get_or bytes 0 0 ≡ 237 → get_or bytes 1 0 ≡ 160 + w →
+      get_or bytes 2 0 ≡ 128 + x → get_or bytes 3 0 ≡ 237 → get_or bytes 4 0 ≡ 176 + y → get_or bytes 5 0 ≡ 128 + z →
+      6 ≤ length bytes → Pattern f bytes c
+
+-- A scalar value is no surrogate.
+no_surrogate : (c x y z : ℕ) → IsThree c x y z → IsScalarValue c → x ≡ 13 → y < 32
+no_surrogate c x y z h (inl low) e = omega arith
+no_surrogate c x y z h (inr high) e = omega (arith, high.0)
+
+at : (i : ℕ) (bytes bytes' : List ℕ) → bytes ≡ bytes' → get_or bytes i 0 ≡ get_or bytes' i 0
+at i bytes bytes' e = ap (λ bs. get_or bs i 0) e
+
+-- by the number of bytes, where e says what the bytes are
+by_one : (f : Flavor) (bytes rest : List ℕ) (c : ℕ) → c < 128 → bytes ≡ encoding f (c ∷ []) ++ rest →
+    (c ≡ 0) ⊎ (c ≡ 0 → ⊥) → Pattern f bytes c
+by_one Cesu8 bytes rest c h e _ =
+    of_one (at 0 bytes _ (e ∙ ap (λ bs. bs ++ rest) (encoding_one Cesu8 c h))) h (λ m. absurd (cc))
+by_one Mutf8 bytes rest c h e (inl z) =
+    let same = e ∙ ap (λ bs. bs ++ rest) (encoding_one Mutf8 c h ∙ short_form_null c z) in
+    of_null refl z (at 0 bytes _ same) (at 1 bytes _ same) (omega (arith, ap length same))
+by_one Mutf8 bytes rest c h e (inr n) =
+    of_one (at 0 bytes _ (e ∙ ap (λ bs. bs ++ rest) (encoding_one Mutf8 c h ∙ short_form_other Mutf8 c n))) h
+    (λ m. omega arith)
+
+by_shape : (f : Flavor) (bytes rest : List ℕ) (c : ℕ) → IsScalarValue c → Shape c →
+    bytes ≡ encoding f (c ∷ []) ++ rest → Pattern f bytes c
+by_shape f bytes rest c s (one h) e = by_one f bytes rest c h e (cases_eq c 0)
+by_shape f bytes rest c s (two x y h) e =
+    let same = e ∙ ap (λ bs. bs ++ rest) (encoding_two f c x y h) in
+    of_two x y h (at 0 bytes _ same) (at 1 bytes _ same) (omega (arith, ap length same))
+by_shape f bytes rest c s (three x y z h) e =
+    let same = e ∙ ap (λ bs. bs ++ rest) (encoding_three f c x y z h) in
+    of_three x y z h (no_surrogate c x y z h s) (at 0 bytes _ same) (at 1 bytes _ same) (at 2 bytes _ same)
+    (omega (arith, ap length same))
+by_shape f bytes rest c s (pair w x y z h) e =
+    let same = e ∙ ap (λ bs. bs ++ rest) (encoding_pair f c w x y z h) in
+    of_pair w x y z h (at 0 bytes _ same) (at 1 bytes _ same) (at 2 bytes _ same) (at 3 bytes _ same) (at 4 bytes _ same)
+    (at 5 bytes _ same) (omega (arith, ap length same))
+
+pub pattern : (f : Flavor) (bytes : List ℕ) (c : ℕ) (rest : List ℕ) → BeginsWith f bytes c rest → Pattern f bytes c
+pattern f bytes c rest h = by_shape f bytes rest c h.scalar (shape c h.scalar) h.bytes_are

@@ -1,0 +1,5 @@
+use Rattle.simd_cesu8.proofs.Lawful.{needs}
+use Rattle.simd_cesu8.proofs.laws.needs.Goals as goal
+
+pub returns : goal.returns
+returns c = needs

@@ -1,0 +1,5 @@
+use Rattle.simd_cesu8.proofs.Greedy.{no_overlap}
+use Rattle.simd_cesu8.proofs.laws.no_overlap.Goals as goal
+
+pub returns : goal.returns
+returns c = no_overlap

@@ -1,0 +1,5 @@
+use Rattle.simd_cesu8.proofs.EncodedBytes.{same_text_law}
+use Rattle.simd_cesu8.proofs.laws.same_text.Goals as goal
+
+pub returns : goal.returns
+returns c = same_text_law

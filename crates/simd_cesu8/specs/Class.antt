@@ -1,0 +1,16 @@
+-- The classes of bytes that tell whether UTF-8 has to change.
+use Rattle.std.specs.Prelude.{ℕ, Bool, IsTrue, nat_le, ◌&&◌, ◌||◌, ◌==◌}
+
+-- F0 to F7 (hexadecimal): in UTF-8 the lead byte of four. F5 to F7 lead nothing there.
+abbrev pub is_four : ℕ → Bool
+is_four b = nat_le 0xF0 b && nat_le b 0xF7
+
+-- That, or the byte 0.
+abbrev pub is_null_four : ℕ → Bool
+is_null_four b = b == 0 || is_four b
+
+abbrev pub IsFour : ℕ → Type 0
+IsFour b = IsTrue (is_four b)
+
+abbrev pub IsNullFour : ℕ → Type 0
+IsNullFour b = IsTrue (is_null_four b)

@@ -1,0 +1,44 @@
+-- Bytes cut into encoded characters and replaced bytes.
+use Rattle.std.specs.Prelude.{◌≡◌, ℕ, List, [], ◌∷◌, map, ⊤}
+use Rattle.std.specs.List.{flat_map}
+use Rattle.simd_cesu8.specs.Text.{IsScalarValue}
+use Rattle.simd_cesu8.specs.Encoding.{Flavor, encoding}
+use Rattle.simd_cesu8.specs.Reading.{NoneBegins}
+
+-- A character, with the bytes of its encoding, or a single byte that is replaced.
+pub data Piece : Type 0 where
+  Character : (c : ℕ) → Piece
+  Replaced : (byte : ℕ) → Piece
+
+abbrev pub bytes_of_piece : Flavor → Piece → List ℕ
+bytes_of_piece f (Character c) = encoding f (c ∷ [])
+bytes_of_piece f (Replaced byte) = byte ∷ []
+
+abbrev pub bytes_of : Flavor → List Piece → List ℕ
+bytes_of f pieces = flat_map (bytes_of_piece f) pieces
+
+abbrev pub character_of : Piece → ℕ
+character_of (Character c) = c
+character_of (Replaced byte) = 0xFFFD
+
+-- The text of a cutting has the replacement character for each replaced byte.
+abbrev pub text_of : List Piece → List ℕ
+text_of pieces = map character_of pieces
+
+abbrev pub IsPiece : Piece → Type 0
+IsPiece (Character c) = IsScalarValue c
+IsPiece (Replaced byte) = ⊤
+
+abbrev pub ArePieces : List Piece → Type 0
+ArePieces [] = ⊤
+ArePieces (piece ∷ pieces) = IsPiece piece × ArePieces pieces
+
+-- The pieces' bytes, joined, are the bytes.
+abbrev pub IsCutting : Flavor → List ℕ → List Piece → Type 0
+IsCutting f bytes pieces = ArePieces pieces × (bytes_of f pieces ≡ bytes)
+
+-- At the place of no replaced byte a character stands: none begins the bytes from there on.
+abbrev pub IsGreedy : Flavor → List Piece → Type 0
+IsGreedy f [] = ⊤
+IsGreedy f (Character c ∷ pieces) = IsGreedy f pieces
+IsGreedy f (Replaced byte ∷ pieces) = NoneBegins f (byte ∷ bytes_of f pieces) × IsGreedy f pieces

@@ -1,0 +1,10 @@
+pub mod Text
+pub mod Utf16
+pub mod Encoding
+pub mod Class
+pub mod Reading
+pub mod Lossy
+pub mod Cutting
+pub mod Answer
+pub mod Internal
+pub mod Laws

@@ -1,0 +1,10 @@
+//! The kernels: whether bytes hold one that encoding changes. Their names are no promise to users.
+
+pub mod fallback;
+
+/// The kernels that the calls of the crate use.
+pub mod active {
+    pub use super::fallback::{
+        contains_null_or_utf8_4_byte_char_header, contains_utf8_4_byte_char_header,
+    };
+}

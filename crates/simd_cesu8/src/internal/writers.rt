@@ -1,0 +1,60 @@
+//! Writers into room that is there, so that none of them can fail.
+
+ghost use Rattle.std.specs.Prelude.{◌≡◌, ◌+◌, ◌≤◌, ◌++◌, [], length, take, drop, IfOk, IsOk, vec_len, vec_capacity};
+ghost use Rattle.std.specs.String.{string_bytes, string_capacity};
+
+use std::alloc::{AllocError, Allocator};
+
+/// Appends bytes for which there is room.
+pub fn push_all<const N: usize, A: Allocator>(bytes: [u8; N], out: &mut Vec<u8, A>)
+    requires { vec_len out.old + N ≤ vec_capacity out.old }
+    ensures bytes { out.new.items ≡ out.old.items ++ bytes.entry }
+    ensures capacity { vec_capacity out.new ≡ vec_capacity out.old }
+{
+    for byte in bytes {
+        out.push_reserved(byte);
+    }
+}
+
+/// Appends the first N bytes, and gives those after them.
+pub fn copy_front<'a, const N: usize, A: Allocator>(
+    bytes: &'a [u8],
+    out: &mut Vec<u8, A>,
+) -> &'a [u8]
+    requires long { N ≤ length bytes.now }
+    requires room { vec_len out.old + N ≤ vec_capacity out.old }
+    ensures bytes { out.new.items ≡ out.old.items ++ take N bytes.now }
+    ensures rest { result.now ≡ drop N bytes.now }
+    ensures capacity { vec_capacity out.new ≡ vec_capacity out.old }
+{
+    for i in 0..N {
+        out.push_reserved(bytes[i]);
+    }
+    &bytes[N..]
+}
+
+/// A copy of some bytes, after one request for their length.
+pub fn copy<A: Allocator>(alloc: A, bytes: &[u8]) -> Result<Vec<u8, A>, AllocError>
+    ensures bytes { IfOk result (λ copied. copied.items ≡ bytes.now) }
+    ensures capacity { IfOk result (λ copied. vec_capacity copied ≡ length bytes.now) }
+    ensures empty { bytes.now ≡ [] → IsOk result }
+{
+    let mut copied = Vec::with_capacity(alloc, bytes.len())?;
+    for byte in bytes {
+        copied.push_reserved(*byte);
+    }
+    Ok(copied)
+}
+
+/// A copy of a text, after one request for its length.
+pub fn copy_text<A: Allocator>(alloc: A, text: &str) -> Result<String<A>, AllocError>
+    ensures text { IfOk result (λ copied. string_bytes copied ≡ text.now) }
+    ensures capacity { IfOk result (λ copied. string_capacity copied ≡ length text.now) }
+    ensures empty { text.now ≡ [] → IsOk result }
+{
+    let copied = copy(alloc, text.as_bytes())?;
+    match String::from_utf8(copied) {
+        Ok(copied) => Ok(copied),
+        Err(_) => unreachable!(),
+    }
+}

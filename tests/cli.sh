@@ -1,0 +1,232 @@
+#!/usr/bin/env bash
+# Runs the program as a person would: each case of tests/cli_cases.txt, and below it those that need
+# more than words and bytes. It compares the status, standard output and standard error, prints each
+# case that is wrong, and ends with the counts. The status is 0 where no case is wrong.
+#
+# It needs the kit's `rt`, bash and the core utilities.
+set -u
+unset CDPATH
+export LC_ALL=C
+
+top=$(cd "$(dirname "${BASH_SOURCE[0]}")/.." && pwd) || exit 2
+cases=$top/tests/cli_cases.txt
+program=$top/crates/cesu8_cli/out/cesu8_cli
+scratch=$(mktemp -d) || exit 2
+trap 'rm -rf "$scratch"' EXIT
+
+passed=0
+failed=0
+
+# `rt run` leaves the program in out/, and is the only command that does (`rt try` builds without
+# proof, and keeps nothing). In a clean clone it proves the two crates first. With no change since
+# the last run it only runs the program.
+build() {
+    echo "building the program"
+    if ! (cd "$top/crates/cesu8_cli" && rt run -- encode cesu8) </dev/null >"$scratch/build" 2>&1; then
+        cat "$scratch/build" >&2
+        echo "the program was not built" >&2
+        exit 2
+    fi
+}
+
+# The text without the blanks around it.
+trim() {
+    local text=$1
+    text=${text#"${text%%[![:blank:]]*}"}
+    printf '%s' "${text%"${text##*[![:blank:]]}"}"
+}
+
+# The bytes of a list such as '61 C8 85'.
+bytes() {
+    local byte
+    for byte in $1; do
+        # shellcheck disable=SC2059
+        printf "\\x$byte"
+    done
+}
+
+# The list of a file's bytes, on one line.
+hex() {
+    local list
+    list=$(od -An -v -tx1 "$1" | tr '\n' ' ' | tr -s ' ')
+    trim "${list^^}"
+}
+
+# Compares the run that just ended, whose output lies in $scratch/output and whose standard error
+# lies in $scratch/error: `expect NAME GOT-STATUS STATUS OUTPUT LINE`.
+expect() {
+    local name=$1 got_status=$2 status=$3 output=$4 line=$5 wrong='' got
+    [[ $got_status == "$status" ]] || wrong+="  status: $got_status, and not $status"$'\n'
+    got=$(hex "$scratch/output")
+    [[ $got == "$output" ]] || wrong+="  output: $got, and not $output"$'\n'
+    printf '%s' "${line:+$line$'\n'}" >"$scratch/line"
+    [[ $(hex "$scratch/error") == "$(hex "$scratch/line")" ]] ||
+        wrong+="  standard error: $(cat "$scratch/error"), and not $line"$'\n'
+    if [[ -z $wrong ]]; then
+        passed=$((passed + 1))
+    else
+        failed=$((failed + 1))
+        printf 'wrong: %s\n%s' "$name" "$wrong"
+    fi
+}
+
+# Runs the cases of the file.
+run_cases() {
+    local number=0 text bars words input status output line word_list got
+    while IFS= read -r text || [[ -n $text ]]; do
+        number=$((number + 1))
+        case $(trim "$text") in '' | '#'*) continue ;; esac
+        bars=${text//[^|]/}
+        IFS='|' read -r words input status output line <<<"$text"
+        status=$(trim "$status")
+        if [[ ${#bars} != 4 || ! $status =~ ^[0-9]+$ ]]; then
+            failed=$((failed + 1))
+            echo "wrong: line $number of $cases has other fields than five"
+            continue
+        fi
+        read -r -a word_list <<<"$words"
+        bytes "$input" >"$scratch/input"
+        "$program" ${word_list[@]+"${word_list[@]}"} \
+            <"$scratch/input" >"$scratch/output" 2>"$scratch/error"
+        got=$?
+        expect "line $number: $(trim "$words") | $(trim "$input")" \
+            "$got" "$status" "$(trim "$output")" "$(trim "$line")"
+    done <"$cases"
+    if ((number == 0)); then
+        failed=$((failed + 1))
+        echo "wrong: no line in $cases"
+    fi
+}
+
+device_failed='cesu8: input or output failed'
+
+full_output() {
+    bytes '61' >"$scratch/input"
+    : >"$scratch/output"
+    "$program" encode cesu8 <"$scratch/input" >/dev/full 2>"$scratch/error"
+    expect 'output to a full device' $? 4 '' "$device_failed"
+}
+
+folder_as_input() {
+    "$program" encode cesu8 <"$scratch" >"$scratch/output" 2>"$scratch/error"
+    expect 'a folder as standard input' $? 4 '' "$device_failed"
+}
+
+argument_not_utf8() {
+    "$program" encode $'\xFF' </dev/null >"$scratch/output" 2>"$scratch/error"
+    expect 'an argument that is not UTF-8' $? 4 '' "$device_failed"
+}
+
+full_error() {
+    : >"$scratch/error"
+    "$program" encode utf9 </dev/null >"$scratch/output" 2>/dev/full
+    expect 'standard error to a full device' $? 2 '' ''
+}
+
+# What the program leaves of its input goes to the output.
+unread_input() {
+    bytes '61 C8 85' >"$scratch/input"
+    {
+        "$program" encode utf9 2>"$scratch/error"
+        status=$?
+        cat
+    } <"$scratch/input" >"$scratch/output"
+    expect 'input that is not read' "$status" 2 '61 C8 85' 'usage: cesu8_cli COMMAND FLAVOR'
+}
+
+# The pieces are cut inside characters.
+input_in_pieces() {
+    {
+        bytes '61 F0 90'
+        sleep 0.2
+        bytes '90'
+        sleep 0.2
+        bytes '80 C8'
+        sleep 0.2
+        bytes '85'
+    } | "$program" encode cesu8 >"$scratch/output" 2>"$scratch/error"
+    expect 'input in pieces' $? 0 '61 ED A0 81 ED B0 80 C8 85' ''
+}
+
+# Repeats a list of bytes: `repeated TIMES BYTES`.
+repeated() {
+    local format="\\x${2// /\\x}"
+    # shellcheck disable=SC2046,SC2059
+    printf "$format%.0s" $(seq "$1")
+}
+
+# Runs on the input in $scratch/input, and compares with $scratch/wanted what came: `expect_long NAME
+# COMMAND FLAVOR`. The bytes are too many to print.
+expect_long() {
+    local name=$1
+    "$program" "$2" "$3" <"$scratch/input" >"$scratch/long" 2>"$scratch/error"
+    local status=$?
+    : >"$scratch/output"
+    expect "$name, its status" "$status" 0 '' ''
+    if cmp -s "$scratch/long" "$scratch/wanted"; then
+        passed=$((passed + 1))
+    else
+        failed=$((failed + 1))
+        printf 'wrong: %s, its bytes: %s of them\n' "$name" "$(stat -c %s "$scratch/long")"
+    fi
+}
+
+# One list of 20 to 27 bytes again and again, to just above 1 MiB: `long_text NAME COMMAND FLAVOR INPUT
+# OUTPUT`.
+long_text() {
+    repeated 52429 "$4" >"$scratch/input"
+    repeated 52429 "$5" >"$scratch/wanted"
+    expect_long "$1" "$2" "$3"
+}
+
+# The characters U+0061, U+0205, U+20AC, U+10400, U+0000, U+07FF, U+FFFF and U+1F496, again and again.
+long_texts() {
+    local utf8='61 C8 85 E2 82 AC F0 90 90 80 00 DF BF EF BF BF F0 9F 92 96'
+    local cesu8='61 C8 85 E2 82 AC ED A0 81 ED B0 80 00 DF BF EF BF BF ED A0 BD ED B2 96'
+    local mutf8='61 C8 85 E2 82 AC ED A0 81 ED B0 80 C0 80 DF BF EF BF BF ED A0 BD ED B2 96'
+    long_text '1 MiB of mixed text' encode cesu8 "$utf8" "$cesu8"
+    long_text '1 MiB of mixed text to MUTF-8' encode mutf8 "$utf8" "$mutf8"
+    long_text '1 MiB of mixed text from CESU-8' decode-strict cesu8 "$cesu8" "$utf8"
+    long_text '1 MiB of mixed text from MUTF-8' decode mutf8 "$mutf8" "$utf8"
+}
+
+# No byte is in a character, so U+FFFD comes for each.
+long_damage() {
+    repeated 65536 'FF' >"$scratch/input"
+    repeated 65536 'EF BF BD' >"$scratch/wanted"
+    expect_long '64 KiB of damage' lossy-strict cesu8
+}
+
+# Repeats the first list of bytes, with the second in place of each 167th: 174763 lists, which is just
+# above 1 MiB where they have 6 bytes.
+mostly() {
+    local stretch
+    stretch="$(printf "$1 %.0s" {1..166})$2"
+    repeated 1046 "$stretch"
+    repeated 81 "$1"
+}
+
+# Of the pairs of U+1F496 some have FF as the first byte, and then U+FFFD comes for all six bytes.
+long_pairs() {
+    local command
+    mostly 'ED A0 BD ED B2 96' 'FF A0 BD ED B2 96' >"$scratch/input"
+    mostly 'F0 9F 92 96' 'EF BF BD EF BF BD EF BF BD EF BF BD EF BF BD EF BF BD' >"$scratch/wanted"
+    for command in lossy lossy-strict; do
+        expect_long "1 MiB of pairs, $command" "$command" cesu8
+    done
+}
+
+build
+run_cases
+full_output
+folder_as_input
+argument_not_utf8
+full_error
+unread_input
+input_in_pieces
+long_texts
+long_damage
+long_pairs
+
+echo "$passed passed, $failed failed"
+((failed == 0))
