@@ -1,5 +1,5 @@
 -- What an answer shows, and when it borrows; and why there is none.
-use Rattle.std.specs.Prelude.{ℕ, Bool, true, false, ⊤, List, String}
+use Rattle.std.specs.Prelude.{ℕ, Bool, true, false, ⊤, List, String, codes}
 use Rattle.std.specs.Global.{Vec, Global}
 use Rattle.std.specs.String.{string_bytes}
 use Rattle.simd_cesu8.specs.declared.cow.CowText.{CowText}
@@ -36,6 +36,11 @@ borrows_text (texts.Owned text) = false
 abbrev pub IfOwnedText : CowText → (String Global → Type 0) → Type 0
 IfOwnedText (texts.Borrowed text) P = ⊤
 IfOwnedText (texts.Owned text) P = P text
+
+-- What a fault is shown as.
+abbrev pub message_of : DecodeFault → List ℕ
+message_of (Invalid error) = codes "invalid input"
+message_of (Memory error) = codes "out of memory"
 
 -- A fact that holds where the input is refused.
 abbrev pub IfInvalid : DecodeFault → Type 0 → Type 0

@@ -1,6 +1,6 @@
 //! The calls over either flavor: each chooses between borrowing and building.
 
-ghost use Rattle.std.specs.Prelude.{◌≡◌, ◌*◌, ◌↔◌, ◌⊎◌, false, length, IfSome, IfNone, IsTrue, IsUtf8, Any, IfOk, IfErr, IsOk, vec_capacity};
+ghost use Rattle.std.specs.Prelude.{◌≡◌, ◌≤◌, ◌+◌, ◌*◌, ◌++◌, [], max, ◌↔◌, ◌⊎◌, false, length, IfSome, IfNone, IsTrue, IsUtf8, Any, IfOk, IfErr, OnOk, OnErr, IsOk, vec_len, vec_capacity};
 ghost use Rattle.std.specs.String.{string_capacity};
 ghost use Rattle.std.specs.Str.{chars};
 ghost use Rattle.simd_cesu8.specs.Encoding.{encoding, NeedsEncoding};
@@ -44,6 +44,25 @@ pub fn encode(alloc: Global, flavor: Flavor, value: &str) -> Result<CowBytes<'_>
     }
     let encoded = internal::encode(alloc, flavor, value)?;
     Ok(CowBytes::Owned(encoded))
+}
+
+pub fn encode_into(flavor: Flavor, value: &str, buf: &mut Vec<u8>) -> Result<(), AllocError>
+    ensures ok { OnOk result (buf.new.items ≡ buf.old.items ++ encoding (flavor_of flavor) (chars value.now)) }
+    ensures err { OnErr result (buf.new.items ≡ buf.old.items) }
+    ensures room { vec_len buf.old + 2 * length value.now ≤ vec_capacity buf.old → IsOk result }
+    ensures room_unchanged { ¬ (NeedsEncoding (flavor_of flavor) (chars value.now))
+        → vec_len buf.old + length value.now ≤ vec_capacity buf.old → IsOk result }
+    ensures empty { value.now ≡ [] → IsOk result }
+    ensures capacity { NeedsEncoding (flavor_of flavor) (chars value.now) → OnOk result (vec_capacity buf.new
+        ≡ max (vec_capacity buf.old) (vec_len buf.old + 2 * length value.now)) }
+    ensures capacity_unchanged { ¬ (NeedsEncoding (flavor_of flavor) (chars value.now)) → OnOk result
+        (vec_capacity buf.new ≡ max (vec_capacity buf.old) (vec_len buf.old + length value.now)) }
+{
+    if needs_encoded(flavor, value) {
+        internal::encode_into(flavor, value, buf)
+    } else {
+        internal::copy_into(value.as_bytes(), buf)
+    }
 }
 
 /// The bytes as a text, where they are UTF-8 without a byte that is written otherwise.

@@ -7,8 +7,8 @@ mod encoder;
 mod writers;
 
 pub use decoder::decode;
-pub use encoder::encode;
-pub use writers::{copy, copy_text};
+pub use encoder::{encode, encode_into};
+pub use writers::{copy, copy_into, copy_text};
 
 /// Which of the two encodings.
 #[derive(Clone, Copy)]

@@ -15,7 +15,7 @@
 //! ```
 #![tactic(auto)]
 
-ghost use Rattle.std.specs.Prelude.{◌≡◌, ◌≤◌, ◌*◌, ◌/◌, ◌↔◌, length, IsTrue, IsUtf8, Any, IfOk, IfErr, IsOk, vec_capacity};
+ghost use Rattle.std.specs.Prelude.{◌≡◌, ◌≤◌, ◌+◌, ◌*◌, ◌/◌, ◌++◌, [], max, ◌↔◌, length, IsTrue, IsUtf8, Any, IfOk, IfErr, OnOk, OnErr, IsOk, vec_len, vec_capacity};
 ghost use Rattle.std.specs.String.{string_capacity};
 ghost use Rattle.std.specs.Str.{chars};
 ghost use Rattle.simd_cesu8.specs.Encoding.{Cesu8, encoding, NeedsEncoding};
@@ -70,6 +70,37 @@ pub fn encode(alloc: Global, value: &str) -> Result<CowBytes<'_>, AllocError>
     ensures capacity { IfOk result (λ answer. IfOwned answer (λ bytes. vec_capacity bytes ≡ 2 * length value.now)) }
 {
     answer::encode(alloc, Flavor::Cesu8, value)
+}
+
+/// Appends the CESU-8 (Unicode Technical Report 26) of a text to what stands in the buffer.
+///
+/// It makes one request, before it writes: for the text's length, in bytes, where nothing needs
+/// encoding, and else for twice that. It makes none where the buffer has that room, so none for the
+/// empty text. `AllocError` comes where the request is refused, and then the buffer's bytes are as
+/// before.
+///
+/// ```rust
+/// let mut buf = simd_cesu8::encode(alloc, "id=")?.into_vec(alloc)?;
+/// simd_cesu8::encode_into("\u{1F496}", &mut buf)?;
+/// assert_eq!(rt; buf.as_slice(), b"id=\xED\xA0\xBD\xED\xB2\x96".as_slice());
+/// ```
+pub fn encode_into(value: &str, buf: &mut Vec<u8>) -> Result<(), AllocError>
+    ensures ok { OnOk result (buf.new.items ≡ buf.old.items ++ encoding Cesu8 (chars value.now)) }
+    ensures err { OnErr result (buf.new.items ≡ buf.old.items) }
+
+    // No request is refused where there is room for what it asks.
+    ensures room { vec_len buf.old + 2 * length value.now ≤ vec_capacity buf.old → IsOk result }
+    ensures room_unchanged { ¬ (NeedsEncoding Cesu8 (chars value.now))
+        → vec_len buf.old + length value.now ≤ vec_capacity buf.old → IsOk result }
+    ensures empty { value.now ≡ [] → IsOk result }
+
+    // What it asks for where there is none.
+    ensures capacity { NeedsEncoding Cesu8 (chars value.now) → OnOk result (vec_capacity buf.new
+        ≡ max (vec_capacity buf.old) (vec_len buf.old + 2 * length value.now)) }
+    ensures capacity_unchanged { ¬ (NeedsEncoding Cesu8 (chars value.now)) → OnOk result
+        (vec_capacity buf.new ≡ max (vec_capacity buf.old) (vec_len buf.old + length value.now)) }
+{
+    answer::encode_into(Flavor::Cesu8, value, buf)
 }
 
 /// Decodes CESU-8 (Unicode Technical Report 26), strictly: the text whose encoding the bytes are.

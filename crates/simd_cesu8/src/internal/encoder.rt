@@ -1,6 +1,6 @@
 //! The encoder: characters of one to three bytes are copied, and those of four become surrogate pairs.
 
-ghost use Rattle.std.specs.Prelude.{◌≡◌, ◌+◌, ◌*◌, ◌/◌, ◌<◌, ◌≤◌, ◌++◌, [], ◌∷◌, ℕ, length, take, drop, slice_index, IfOk, IsUtf8, vec_len, vec_capacity};
+ghost use Rattle.std.specs.Prelude.{◌≡◌, ◌+◌, ◌*◌, ◌/◌, ◌<◌, ◌≤◌, ◌++◌, [], ◌∷◌, ℕ, max, length, take, drop, slice_index, OnOk, OnErr, IfOk, IsOk, IsUtf8, vec_len, vec_capacity};
 ghost use Rattle.std.specs.Str.{chars};
 ghost use Rattle.simd_cesu8.specs.Text.{utf8_of};
 ghost use Rattle.simd_cesu8.specs.Encoding.{Flavor as FlavorName, encoding, short_form};
@@ -15,10 +15,26 @@ pub fn encode<A: Allocator>(alloc: A, flavor: Flavor, text: &str) -> Result<Vec<
     ensures bytes { IfOk result (λ encoded. encoded.items ≡ encoding (flavor_of flavor) (chars text.now)) }
     ensures capacity { IfOk result (λ encoded. vec_capacity encoded ≡ 2 * length text.now) }
 {
-    let len = text.as_bytes().len();
-    let mut encoded = Vec::with_capacity(alloc, 2 * len)?;
-    write_text(flavor, text, &mut encoded);
+    let mut encoded = Vec::new(alloc);
+    encode_into(flavor, text, &mut encoded)?;
     Ok(encoded)
+}
+
+/// Appends the encoding of a text, after one request for twice its length, where there is no room.
+pub fn encode_into<A: Allocator>(
+    flavor: Flavor,
+    text: &str,
+    out: &mut Vec<u8, A>,
+) -> Result<(), AllocError>
+    ensures ok { OnOk result (out.new.items ≡ out.old.items ++ encoding (flavor_of flavor) (chars text.now)) }
+    ensures err { OnErr result (out.new.items ≡ out.old.items) }
+    ensures room { vec_len out.old + 2 * length text.now ≤ vec_capacity out.old → IsOk result }
+    ensures capacity { OnOk result (vec_capacity out.new
+        ≡ max (vec_capacity out.old) (vec_len out.old + 2 * length text.now)) }
+{
+    out.reserve_exact(2 * text.as_bytes().len())?;
+    write_text(flavor, text, out);
+    Ok(())
 }
 
 /// Appends the encoding of a text, for which there is room.

@@ -1,6 +1,6 @@
 //! Writers into room that is there, so that none of them can fail.
 
-ghost use Rattle.std.specs.Prelude.{◌≡◌, ◌+◌, ◌≤◌, ◌++◌, [], length, take, drop, IfOk, IsOk, vec_len, vec_capacity};
+ghost use Rattle.std.specs.Prelude.{◌≡◌, ◌+◌, ◌≤◌, ◌++◌, [], max, length, take, drop, OnOk, OnErr, IfOk, IsOk, vec_len, vec_capacity};
 ghost use Rattle.std.specs.String.{string_bytes, string_capacity};
 
 use std::alloc::{AllocError, Allocator};
@@ -39,11 +39,24 @@ pub fn copy<A: Allocator>(alloc: A, bytes: &[u8]) -> Result<Vec<u8, A>, AllocErr
     ensures capacity { IfOk result (λ copied. vec_capacity copied ≡ length bytes.now) }
     ensures empty { bytes.now ≡ [] → IsOk result }
 {
-    let mut copied = Vec::with_capacity(alloc, bytes.len())?;
-    for byte in bytes {
-        copied.push_reserved(*byte);
-    }
+    let mut copied = Vec::new(alloc);
+    copy_into(bytes, &mut copied)?;
     Ok(copied)
+}
+
+/// Appends some bytes, after one request for their length, where there is no room.
+pub fn copy_into<A: Allocator>(bytes: &[u8], out: &mut Vec<u8, A>) -> Result<(), AllocError>
+    ensures ok { OnOk result (out.new.items ≡ out.old.items ++ bytes.now) }
+    ensures err { OnErr result (out.new.items ≡ out.old.items) }
+    ensures room { vec_len out.old + length bytes.now ≤ vec_capacity out.old → IsOk result }
+    ensures capacity { OnOk result (vec_capacity out.new
+        ≡ max (vec_capacity out.old) (vec_len out.old + length bytes.now)) }
+{
+    out.reserve_exact(bytes.len())?;
+    for byte in bytes {
+        out.push_reserved(*byte);
+    }
+    Ok(())
 }
 
 /// A copy of a text, after one request for its length.
