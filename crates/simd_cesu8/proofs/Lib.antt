@@ -24,4 +24,5 @@ pub mod Inside
 pub mod Marks
 pub mod Steps
 pub mod Greedy
+pub mod Cuttings
 pub mod LossyBorrowing

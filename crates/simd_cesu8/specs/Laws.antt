@@ -1,5 +1,5 @@
 -- The laws of both encodings, over the definitions alone.
-use Rattle.std.specs.Prelude.{◌≡◌, ℕ, ◌+◌, ◌<◌, ◌≤◌, ◌≢◌, ◌⊎◌, ◌↔◌, List, All}
+use Rattle.std.specs.Prelude.{◌≡◌, ℕ, ◌+◌, ◌*◌, ◌<◌, ◌≤◌, ◌≢◌, ◌⊎◌, ◌↔◌, List, ◌++◌, length, All}
 use Rattle.simd_cesu8.specs.Text.{IsText, utf8, IsUtf8Of}
 use Rattle.simd_cesu8.specs.Encoding.{Flavor, Mutf8, encoding, NeedsEncoding}
 use Rattle.simd_cesu8.specs.Reading.{IsStrictReading, StandsAt, width, IsMark}
@@ -13,6 +13,10 @@ RoundTrip = (f : Flavor) (text : List ℕ) → IsText text →
     × ((other : List ℕ) → IsStrictReading f (encoding f text) other → other ≡ text)
     × ((other : List ℕ) → IsText other → encoding f text ≡ encoding f other → text ≡ other)
 
+-- The encoding of a concatenation is the concatenation of the encodings.
+abbrev pub Concat : Type 0
+Concat = (f : Flavor) (s t : List ℕ) → encoding f (s ++ t) ≡ encoding f s ++ encoding f t
+
 -- Bytes that are both UTF-8 and an encoding mean the same text in both.
 abbrev pub SameText : Type 0
 SameText = (f : Flavor) (bytes text other : List ℕ) → IsUtf8Of text bytes → IsStrictReading f bytes other → text ≡ other
@@ -25,6 +29,27 @@ Needs = (f : Flavor) (text : List ℕ) → IsText text → (¬ (NeedsEncoding f 
 abbrev pub NoZero : Type 0
 NoZero = (text : List ℕ) → IsText text →
     All (λ byte. byte ≢ 0) (encoding Mutf8 text) × ((f : Flavor) → All (λ byte. byte < 0xF0) (encoding f text))
+
+-- An encoding has at most twice the bytes of the text.
+abbrev pub EncodingBound : Type 0
+EncodingBound = (f : Flavor) (text : List ℕ) → IsText text → length (encoding f text) ≤ 2 * length (utf8 text)
+
+-- A strict reading has at most the bytes of the input.
+abbrev pub StrictBound : Type 0
+StrictBound = (f : Flavor) (bytes text : List ℕ) → IsStrictReading f bytes text → length (utf8 text) ≤ length bytes
+
+-- The text of every cutting, greedy or not, has at most three times the bytes of the input.
+abbrev pub CuttingBound : Type 0
+CuttingBound = (f : Flavor) (bytes : List ℕ) (pieces : List Piece) → IsCutting f bytes pieces →
+    length (utf8 (text_of pieces)) ≤ 3 * length bytes
+
+-- The lossy reading has at most three times the bytes of the input.
+abbrev pub LossyBound : Type 0
+LossyBound = (f : Flavor) (bytes : List ℕ) → length (utf8 (reading f bytes)) ≤ 3 * length bytes
+
+-- How long an encoding and the readings can be.
+abbrev pub Bounds : Type 0
+Bounds = EncodingBound × StrictBound × CuttingBound × LossyBound
 
 -- The stretches of the characters at any two places, the same place included, are equal or disjoint.
 abbrev pub NoOverlap : Type 0

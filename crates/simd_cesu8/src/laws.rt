@@ -1,11 +1,16 @@
 //! The laws of both encodings. Each function makes no call: its contract is the law, for every text
 //! and every list of bytes, in both flavors, and its proof is the evidence.
 
-ghost use Rattle.simd_cesu8.specs.Laws.{RoundTrip, SameText, Needs, NoZero, NoOverlap, OneMark, Places};
+ghost use Rattle.simd_cesu8.specs.Laws.{RoundTrip, Concat, SameText, Needs, NoZero, Bounds, NoOverlap, OneMark, Places};
 
 /// The strict reading of an encoding is the text, and texts with equal encodings are equal.
 pub fn round_trip()
     ensures { RoundTrip }
+{}
+
+/// The encoding of a concatenation is the concatenation of the encodings.
+pub fn concat()
+    ensures { Concat }
 {}
 
 /// Bytes that are both UTF-8 and an encoding mean the same text in both.
@@ -21,6 +26,12 @@ pub fn needs()
 /// A MUTF-8 encoding holds no byte 00, and no encoding holds a byte of F0 (hexadecimal) or more.
 pub fn no_zero()
     ensures { NoZero }
+{}
+
+/// An encoding has at most twice the bytes of the text, and a strict reading at most the bytes of the
+/// input. The text of every cutting and the lossy reading have at most three times as many.
+pub fn bounds()
+    ensures { Bounds }
 {}
 
 /// The stretches of the encoded characters at any two places are equal or disjoint.

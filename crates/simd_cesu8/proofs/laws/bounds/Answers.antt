@@ -1,0 +1,5 @@
+use Rattle.simd_cesu8.proofs.Lawful.{bounds_law}
+use Rattle.simd_cesu8.proofs.laws.bounds.Goals as goal
+
+pub returns : goal.returns
+returns c = bounds_law

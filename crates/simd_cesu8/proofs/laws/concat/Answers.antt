@@ -1,0 +1,5 @@
+use Rattle.simd_cesu8.proofs.Lawful.{concat}
+use Rattle.simd_cesu8.proofs.laws.concat.Goals as goal
+
+pub returns : goal.returns
+returns c = concat
