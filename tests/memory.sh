@@ -21,6 +21,11 @@ failed=0
 # A test a line, and then how it ends with the first request refused, the second, and so on: `ok`,
 # or the error.
 library='
+memory::appending::a_refusal_leaves_the_buffer  AllocError          AllocError
+memory::appending::encode_into_asks_once        AllocError          ok
+memory::appending::encode_into_asks_once_for_what_stays AllocError  ok
+memory::appending::encode_into_takes_the_empty_text ok              ok
+memory::appending::encode_into_uses_room        AllocError          ok
 memory::borrowing::an_empty_answer_is_copied    ok                  ok
 memory::borrowing::cesu8_borrows_null           ok                  ok
 memory::borrowing::decode_borrows_all_utf8      ok                  ok

@@ -1,6 +1,8 @@
 //! The value that says that bytes can't be decoded.
 
 use simd_cesu8::{CowText, DecodeFault, DecodingError, decode, mutf8};
+use std::alloc::AllocError;
+use std::error::Error;
 use std::test::Fail;
 
 /// The error of a call that refused its input.
@@ -30,5 +32,47 @@ fn an_error_prints_its_name(rt: HostRuntime) -> Result<(), Fail> {
     assert_eq!(rt; plain.as_str(), "DecodingError");
     let wide = format!(in rt.alloc(); "{error:20?}")?;
     assert_eq!(rt; wide.as_str(), "DecodingError");
+    Ok(())
+}
+
+#[test]
+fn an_error_is_shown(rt: HostRuntime) -> Result<(), Fail> {
+    let error = refusal(decode(rt.alloc(), b"\xFF")).ok_or("FF is decoded")?;
+    let plain = format!(in rt.alloc(); "{error}")?;
+    assert_eq!(rt; plain.as_str(), "invalid input");
+    let wide = format!(in rt.alloc(); "{error:>20}")?;
+    assert_eq!(rt; wide.as_str(), "invalid input");
+    Ok(())
+}
+
+#[test]
+fn a_fault_is_shown(rt: HostRuntime) -> Result<(), Fail> {
+    let error = refusal(decode(rt.alloc(), b"\xFF")).ok_or("FF is decoded")?;
+    let cases = [
+        (DecodeFault::Invalid(error), "invalid input"),
+        (DecodeFault::Memory(AllocError), "out of memory"),
+    ];
+    for (fault, want) in &cases {
+        let plain = format!(in rt.alloc(); "{fault}")?;
+        assert_eq!(rt; plain.as_str(), *want);
+        let wide = format!(in rt.alloc(); "{fault:>20}")?;
+        assert_eq!(rt; wide.as_str(), *want, "with a width");
+    }
+    Ok(())
+}
+
+/// What takes any error takes these.
+fn message<E: Error>(error: &E) -> &E {
+    error
+}
+
+#[test]
+fn both_are_errors(rt: HostRuntime) -> Result<(), Fail> {
+    let error = refusal(decode(rt.alloc(), b"\xFF")).ok_or("FF is decoded")?;
+    let shown = format!(in rt.alloc(); "{}", message(&error))?;
+    assert_eq!(rt; shown.as_str(), "invalid input");
+    let fault = DecodeFault::Memory(AllocError);
+    let shown = format!(in rt.alloc(); "{}", message(&fault))?;
+    assert_eq!(rt; shown.as_str(), "out of memory");
     Ok(())
 }

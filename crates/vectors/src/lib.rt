@@ -6,6 +6,8 @@
 #[cfg(test)]
 mod all_pairs;
 #[cfg(test)]
+mod appending;
+#[cfg(test)]
 mod borders;
 #[cfg(test)]
 mod damage;
