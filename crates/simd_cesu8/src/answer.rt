@@ -74,10 +74,7 @@ fn unchanged_text(flavor: Flavor, bytes: &[u8]) -> Option<&str>
     if contains_changed(flavor, bytes) {
         return None;
     }
-    match compat::from_utf8(bytes) {
-        Ok(text) => Some(text),
-        Err(_) => None,
-    }
+    compat::from_utf8(bytes).ok()
 }
 
 /// The text of the bytes, built.

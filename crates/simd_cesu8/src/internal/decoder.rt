@@ -26,13 +26,8 @@ pub fn decode<A: Allocator>(
     ensures invalid { IfErr result (λ fault. IfInvalid fault
         ((options.lossy ≡ false) × HasNoStrictReading (flavor_of options.flavor) bytes.now)) }
 {
-    let Some(room) = room_for(options, bytes) else {
-        return Err(DecodeFault::Memory(AllocError));
-    };
-    let mut text = match Vec::with_capacity(alloc, room) {
-        Ok(text) => text,
-        Err(error) => return Err(DecodeFault::Memory(error)),
-    };
+    let room = room_for(options, bytes).ok_or(DecodeFault::Memory(AllocError))?;
+    let mut text = Vec::with_capacity(alloc, room).map_err(DecodeFault::Memory)?;
     if let Err(error) = read_text(options, bytes, &mut text) {
         return Err(DecodeFault::Invalid(error));
     }
@@ -132,14 +127,9 @@ fn read_one_byte<'a, A: Allocator>(
     ensures read { ReadsCharacter (flavor_of flavor) bytes.now out.old.items out.new.items result }
     ensures capacity { vec_capacity out.new ≡ vec_capacity out.old }
 {
-    match flavor {
-        Flavor::Cesu8 => Some(copy_front::<1, A>(bytes, out)),
-        Flavor::Mutf8 => {
-            if bytes[0] == 0 {
-                return None;
-            }
-            Some(copy_front::<1, A>(bytes, out))
-        }
+    match (flavor, bytes[0]) {
+        (Flavor::Mutf8, 0) => None,
+        _ => Some(copy_front::<1, A>(bytes, out)),
     }
 }
 
