@@ -1,6 +1,6 @@
-//! The calls that decode, by the name of the encoding that they read.
+//! The calls that encode and decode, by the name of the encoding.
 
-use simd_cesu8::{CowText, DecodeFault, mutf8};
+use simd_cesu8::{CowBytes, CowText, DecodeFault, mutf8};
 use std::alloc::{AllocError, Global};
 
 /// One of the two encodings.
@@ -8,6 +8,14 @@ use std::alloc::{AllocError, Global};
 pub enum Flavor {
     Cesu8,
     Mutf8,
+}
+
+/// The call that encodes.
+pub fn encode(alloc: Global, flavor: Flavor, text: &str) -> Result<CowBytes<'_>, AllocError> {
+    match flavor {
+        Flavor::Cesu8 => simd_cesu8::encode(alloc, text),
+        Flavor::Mutf8 => mutf8::encode(alloc, text),
+    }
 }
 
 /// The strict call.

@@ -30,6 +30,8 @@ mod lossy_flavors;
 #[cfg(test)]
 mod memory;
 #[cfg(test)]
+mod mixed_texts;
+#[cfg(test)]
 mod pattern;
 #[cfg(test)]
 mod readings;
