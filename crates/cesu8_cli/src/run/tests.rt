@@ -49,8 +49,8 @@ fn tests_words_first(rt: HostRuntime) {
         &["decode", "utf8"],
         &["decode_strict", "cesu8"],
         &["decode-strict", "mutf8", "mutf8"],
-        &["needs", "cesu8"],
-        &["needs", "mutf8"],
+        &["need", "cesu8"],
+        &["needs", "utf8"],
         &["java-write", "mutf8"],
         &["java-read", "mutf8"],
     ];
