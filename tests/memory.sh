@@ -52,6 +52,7 @@ program='
 run::tests::memory::reads_and_borrows           Memory              ok      ok
 run::tests::memory::reads_and_builds            Memory              Memory  ok
 run::tests::memory::reads_and_refuses           Memory              Memory  ok
+run::tests::memory::reads_and_tells             Memory              ok      ok
 run::tests::memory::reads_nothing               ok                  ok      ok
 '
 

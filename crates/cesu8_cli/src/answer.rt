@@ -1,12 +1,12 @@
 //! The whole answer to a command, from the whole input.
 
-ghost use Rattle.std.specs.Prelude.{◌≡◌, ◌⊎◌, IfOk, IfErr, Ok, Err};
+ghost use Rattle.std.specs.Prelude.{◌≡◌, ◌≢◌, ◌⊎◌, IfOk, IfErr, Ok, Err};
 ghost use Rattle.std.specs.Str.{chars};
-ghost use Rattle.simd_cesu8.specs.Text.{utf8};
+ghost use Rattle.simd_cesu8.specs.Text.{utf8, IsUtf8Of};
 ghost use Rattle.simd_cesu8.specs.Reading.{IsStrictReading, IsLenientReading};
 ghost use Rattle.simd_cesu8.specs.Lossy.{reading, IsLenientLossyReading};
 ghost use Rattle.simd_cesu8.specs.Answer.{answer_bytes, answer_text};
-ghost use Rattle.cesu8_cli.specs.Answers.{flavor_of, IsAnswer, IsEncodingAnswer, IsTextAnswer};
+ghost use Rattle.cesu8_cli.specs.Answers.{flavor_of, IsAnswer, IsUtf8Fault, IsEncodingAnswer, IsNeedsAnswer, IsTextAnswer};
 
 use crate::command::{Command, FlavorWord};
 use crate::fault::RunFault;
@@ -15,6 +15,7 @@ use std::alloc::Global;
 use std::str;
 
 /// The bytes that answer the command, or the fault.
+#[tactic(auto, unfolding(crate::specs::Answers::IsAnswer))]
 pub fn answer<'a>(
     alloc: Global,
     command: Command,
@@ -22,9 +23,11 @@ pub fn answer<'a>(
 ) -> Result<CowBytes<'a>, RunFault>
     ensures ok { IfOk result (λ answer. IsAnswer command input.now (Ok (answer_bytes answer))) }
     ensures err { IfErr result (λ fault. (fault ≡ RunFault.Memory) ⊎ IsAnswer command input.now (Err fault)) }
+    ensures words { IfErr result (λ fault. fault ≢ RunFault.Usage) }
 {
     match command {
         Command::Encode(flavor) => encode(alloc, flavor, input),
+        Command::Needs(flavor) => needs(flavor, input),
         Command::Decode(flavor) => decode(alloc, flavor, input),
         Command::DecodeStrict(flavor) => decode_strict(alloc, flavor, input),
         Command::Lossy(flavor) => decode_lossy(alloc, flavor, input),
@@ -37,12 +40,38 @@ fn encode(alloc: Global, flavor: FlavorWord, input: &[u8]) -> Result<CowBytes<'_
     ensures err { IfErr result (λ fault. (fault ≡ RunFault.Memory)
         ⊎ IsEncodingAnswer (flavor_of flavor) input.now (Err fault)) }
 {
-    let Ok(text) = str::from_utf8(input) else {
-        return Err(RunFault::NotUtf8);
-    };
+    let text = input_text(input)?;
     match flavor {
         FlavorWord::Cesu8 => Ok(simd_cesu8::encode(alloc, text)?),
         FlavorWord::Mutf8 => Ok(mutf8::encode(alloc, text)?),
+    }
+}
+
+/// `yes` or `no`, as a line. Both are constants, so this takes no memory.
+fn needs(flavor: FlavorWord, input: &[u8]) -> Result<CowBytes<'_>, RunFault>
+    ensures ok { IfOk result (λ answer. IsNeedsAnswer (flavor_of flavor) input.now (Ok (answer_bytes answer))) }
+    ensures err { IfErr result (λ fault. IsNeedsAnswer (flavor_of flavor) input.now (Err fault)) }
+{
+    let text = input_text(input)?;
+    let needed = match flavor {
+        FlavorWord::Cesu8 => simd_cesu8::needs_encoded(text),
+        FlavorWord::Mutf8 => mutf8::needs_encoded(text),
+    };
+    if needed {
+        Ok(CowBytes::Borrowed(b"yes\n"))
+    } else {
+        Ok(CowBytes::Borrowed(b"no\n"))
+    }
+}
+
+/// The input as a text, for the commands that take UTF-8.
+fn input_text(input: &[u8]) -> Result<&str, RunFault>
+    ensures ok { IfOk result (λ text. IsUtf8Of (chars text.now) input.now) }
+    ensures err { IfErr result (λ fault. IsUtf8Fault input.now fault) }
+{
+    match str::from_utf8(input) {
+        Ok(text) => Ok(text),
+        Err(_) => Err(RunFault::NotUtf8),
     }
 }
 

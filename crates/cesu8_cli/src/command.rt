@@ -9,6 +9,8 @@ ghost use Rattle.cesu8_cli.specs.declared.command.Command.{Command as CommandTyp
 pub enum Command {
     /// Encodes UTF-8.
     Encode(FlavorWord),
+    /// Tells whether UTF-8 needs encoding.
+    Needs(FlavorWord),
     /// Decodes UTF-8 as a whole, or else the encoding.
     Decode(FlavorWord),
     /// Decodes the encoding alone.
@@ -41,6 +43,7 @@ pub fn parse(words: &[&str]) -> Option<Command>
     };
     match *command {
         "encode" => Some(Command::Encode(flavor)),
+        "needs" => Some(Command::Needs(flavor)),
         "decode" => Some(Command::Decode(flavor)),
         "decode-strict" => Some(Command::DecodeStrict(flavor)),
         "lossy" => Some(Command::Lossy(flavor)),

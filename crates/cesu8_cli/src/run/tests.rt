@@ -2,9 +2,10 @@ mod commands;
 mod devices;
 mod memory;
 
-use self::devices::{Reader, Writer};
+use self::devices::{Reader, WatchedWriter, WatchingReader, Writer};
 use super::*;
 use crate::fault::{fault_line, fault_status};
+use std::cell::Cell;
 use std::io::ErrorKind;
 
 /// What a user sees of an end: the status, and the line on standard error.
@@ -26,6 +27,22 @@ const USAGE: (u8, &str) = (2, "usage: cesu8_cli COMMAND FLAVOR");
 const OUT_OF_MEMORY: (u8, &str) = (3, "cesu8: out of memory");
 
 const FAILED: (u8, &str) = (4, "cesu8: input or output failed");
+
+/// Every pair of words, and what it writes for U+0061 and U+0205.
+const PAIRS: [(&[&str], &[u8]); 12] = [
+    (&["encode", "cesu8"], b"a\xC8\x85"),
+    (&["encode", "mutf8"], b"a\xC8\x85"),
+    (&["needs", "cesu8"], b"no\n"),
+    (&["needs", "mutf8"], b"no\n"),
+    (&["decode", "cesu8"], b"a\xC8\x85"),
+    (&["decode", "mutf8"], b"a\xC8\x85"),
+    (&["decode-strict", "cesu8"], b"a\xC8\x85"),
+    (&["decode-strict", "mutf8"], b"a\xC8\x85"),
+    (&["lossy", "cesu8"], b"a\xC8\x85"),
+    (&["lossy", "mutf8"], b"a\xC8\x85"),
+    (&["lossy-strict", "cesu8"], b"a\xC8\x85"),
+    (&["lossy-strict", "mutf8"], b"a\xC8\x85"),
+];
 
 #[test]
 fn shows_each_fault(rt: HostRuntime) {
@@ -49,8 +66,8 @@ fn tests_words_first(rt: HostRuntime) {
         &["decode", "utf8"],
         &["decode_strict", "cesu8"],
         &["decode-strict", "mutf8", "mutf8"],
-        &["needs", "cesu8"],
-        &["needs", "mutf8"],
+        &["need", "cesu8"],
+        &["needs", "utf8"],
         &["java-write", "mutf8"],
         &["java-read", "mutf8"],
     ];
@@ -61,6 +78,31 @@ fn tests_words_first(rt: HostRuntime) {
         assert_eq!(rt; shown(result), USAGE, "at {words:?}");
         assert_eq!(rt; input.reads(), 0, "at {words:?}");
         assert!(rt; output.is_empty(), "at {words:?}");
+    }
+}
+
+#[test]
+fn reads_to_the_end_before_it_writes(rt: HostRuntime) {
+    for (words, written) in PAIRS {
+        let is_asked = Cell::new(false);
+        let mut input = WatchingReader::new(b"a\xC8\x85", &is_asked);
+        let mut output = WatchedWriter::new(&is_asked);
+        let result = run(rt.alloc(), words, &mut input, &mut output);
+        assert_eq!(rt; shown(result), DONE, "at {words:?}");
+        assert_eq!(rt; output.kept(), written, "at {words:?}");
+    }
+}
+
+#[test]
+fn flushes_once_after_the_answer(rt: HostRuntime) {
+    for (words, written) in PAIRS {
+        let mut input: &[u8] = b"a\xC8\x85";
+        let mut output = Writer::new().at_most(2);
+        let result = run(rt.alloc(), words, &mut input, &mut output);
+        assert_eq!(rt; shown(result), DONE, "at {words:?}");
+        assert_eq!(rt; output.flushed(), written, "at {words:?}");
+        assert_eq!(rt; output.kept(), written, "at {words:?}");
+        assert_eq!(rt; output.flushes(), 1, "at {words:?}");
     }
 }
 

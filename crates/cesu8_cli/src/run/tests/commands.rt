@@ -41,6 +41,37 @@ fn encodes_to_mutf8(rt: HostRuntime) {
 }
 
 #[test]
+fn tells_whether_encoding_is_needed(rt: HostRuntime) {
+    let cases: [(&str, &[u8], (u8, &str), &[u8]); 18] = [
+        ("cesu8", b"", DONE, b"no\n"),
+        ("cesu8", b"E", DONE, b"no\n"),
+        ("cesu8", b"\xC8\x85", DONE, b"no\n"),
+        ("cesu8", b"\xE2\x82\xAC", DONE, b"no\n"),
+        ("cesu8", b"\xF0\x90\x90\x80", DONE, b"yes\n"),
+        ("cesu8", b"\xF0\x9F\x92\x96", DONE, b"yes\n"),
+        ("cesu8", b"\x00", DONE, b"no\n"),
+        ("cesu8", b"\xFF", NOT_UTF8, b""),
+        ("cesu8", b"\xED\xA0\xBD\xED\xB2\x96", NOT_UTF8, b""),
+        ("mutf8", b"", DONE, b"no\n"),
+        ("mutf8", b"E", DONE, b"no\n"),
+        ("mutf8", b"\xC8\x85", DONE, b"no\n"),
+        ("mutf8", b"\xE2\x82\xAC", DONE, b"no\n"),
+        ("mutf8", b"\xF0\x90\x90\x80", DONE, b"yes\n"),
+        ("mutf8", b"\xF0\x9F\x92\x96", DONE, b"yes\n"),
+        ("mutf8", b"\x00", DONE, b"yes\n"),
+        ("mutf8", b"\xFF", NOT_UTF8, b""),
+        ("mutf8", b"\xC0\x80", NOT_UTF8, b""),
+    ];
+    for (flavor, bytes, want, written) in cases {
+        let mut input = bytes;
+        let mut output = Vec::new(rt.alloc());
+        let ended = run(rt.alloc(), &["needs", flavor], &mut input, &mut output);
+        assert_eq!(rt; shown(ended), want, "{flavor} at {bytes:?}");
+        assert_eq!(rt; output.as_slice(), written, "{flavor} at {bytes:?}");
+    }
+}
+
+#[test]
 fn decodes_strictly(rt: HostRuntime) {
     let cases: [(&str, &[u8], (u8, &str), &[u8]); 10] = [
         ("cesu8", b"", DONE, b""),

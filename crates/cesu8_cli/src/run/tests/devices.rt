@@ -1,5 +1,6 @@
-//! Readers and writers that fail. They claim nothing of their bytes, and allocate nothing.
+//! Readers and writers that fail, or watch. They claim nothing of their bytes, and allocate nothing.
 
+use std::cell::Cell;
 use std::io::{Error, ErrorKind, Read, Result, Write};
 
 /// How many bytes a `Writer` can keep.
@@ -49,6 +50,7 @@ pub struct Writer {
     room: usize,
     most: usize,
     flushes: usize,
+    flushed: usize,
     can_flush: bool,
 }
 
@@ -60,6 +62,7 @@ impl Writer {
             room: SIZE,
             most: SIZE,
             flushes: 0,
+            flushed: 0,
             can_flush: true,
         }
     }
@@ -87,6 +90,11 @@ impl Writer {
         self.bytes.get(..self.len).unwrap_or(&[])
     }
 
+    /// The bytes that it had taken at its last flush.
+    pub fn flushed(&self) -> &[u8] {
+        self.bytes.get(..self.flushed).unwrap_or(&[])
+    }
+
     /// How many flushes it was asked for.
     pub fn flushes(&self) -> usize {
         self.flushes
@@ -112,10 +120,73 @@ impl Write for Writer {
 
     fn flush(&mut self) -> Result<()> {
         self.flushes = self.flushes.saturating_add(1);
+        self.flushed = self.len;
         if self.can_flush {
             Ok(())
         } else {
             Err(Error::from(ErrorKind::BrokenPipe))
         }
+    }
+}
+
+/// Gives one byte a read, and then its end. It fails once the writer beside it was asked for
+/// something.
+#[derive(Drop)]
+pub struct WatchingReader<'a> {
+    rest: &'a [u8],
+    is_asked: &'a Cell<bool>,
+}
+
+impl<'a> WatchingReader<'a> {
+    pub fn new(bytes: &'a [u8], is_asked: &'a Cell<bool>) -> WatchingReader<'a> {
+        WatchingReader {
+            rest: bytes,
+            is_asked,
+        }
+    }
+}
+
+impl<'a> Read for WatchingReader<'a> {
+    fn read(&mut self, buf: &mut [u8]) -> Result<usize> {
+        if self.is_asked.get() {
+            return Err(Error::from(ErrorKind::Other));
+        }
+        let count = self.rest.len().min(buf.len()).min(1);
+        buf[..count].copy_from_slice(&self.rest[..count]);
+        self.rest = &self.rest[count..];
+        Ok(count)
+    }
+}
+
+/// A `Writer` that tells in a cell that it was asked for something.
+#[derive(Drop)]
+pub struct WatchedWriter<'a> {
+    writer: Writer,
+    is_asked: &'a Cell<bool>,
+}
+
+impl<'a> WatchedWriter<'a> {
+    pub fn new(is_asked: &'a Cell<bool>) -> WatchedWriter<'a> {
+        WatchedWriter {
+            writer: Writer::new(),
+            is_asked,
+        }
+    }
+
+    /// The bytes that it took.
+    pub fn kept(&self) -> &[u8] {
+        self.writer.kept()
+    }
+}
+
+impl<'a> Write for WatchedWriter<'a> {
+    fn write(&mut self, buf: &[u8]) -> Result<usize> {
+        self.is_asked.set(true);
+        self.writer.write(buf)
+    }
+
+    fn flush(&mut self) -> Result<()> {
+        self.is_asked.set(true);
+        self.writer.flush()
     }
 }

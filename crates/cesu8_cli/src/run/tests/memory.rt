@@ -32,6 +32,13 @@ fn reads_and_borrows(rt: HostRuntime) -> Result<(), Fail> {
     Ok(())
 }
 
+/// The answer is a constant, so only what is read takes memory.
+#[test]
+fn reads_and_tells(rt: HostRuntime) -> Result<(), Fail> {
+    assert_run!(rt, &["needs", "mutf8"], b"a\x00", b"yes\n");
+    Ok(())
+}
+
 /// Both requests come before the input is seen to be damaged.
 #[test]
 fn reads_and_refuses(rt: HostRuntime) -> Result<(), Fail> {
