@@ -78,12 +78,13 @@ record Sizes (f : Flavor) (text : List ℕ) : Type 0 where
   needs : NeedsEncoding f text → length (utf8 text) < size f (utf8 text)
 
 sizes_cons : (f : Flavor) (c : ℕ) (text : List ℕ) → IsScalarValue c → Change f c → Sizes f text → Sizes f (c ∷ text)
-sizes_cons f c text s (same n e) h = record {
-  low = rw (length-append (utf8_of c) (utf8 text), as_long f c (utf8 text) s e) (omega (arith, h.low));
-  needs = λ p. ⊎_elim (λ o. absurd (n o))
-      (λ q. rw (length-append (utf8_of c) (utf8 text), as_long f c (utf8 text) s e) (omega (arith, h.needs q)))
-      (any_cons (IsEncodedOtherwise f) c text p);
-}
+sizes_cons f c text s (same n e) h =
+    let later : NeedsEncoding f text → length (utf8 (c ∷ text)) < size f (utf8 (c ∷ text)) =
+    λ q. rw (length-append (utf8_of c) (utf8 text), as_long f c (utf8 text) s e) (omega (arith, h.needs q)) in
+    record {
+      low = rw (length-append (utf8_of c) (utf8 text), as_long f c (utf8 text) s e) (omega (arith, h.low));
+      needs = λ p. ⊎_elim (λ o. absurd (n o)) later (any_cons (IsEncodedOtherwise f) c text p);
+    }
 sizes_cons f c text s (longer o _ _) h =
     let more = longer_by f c (utf8 text) (shape c s) o in
     record {

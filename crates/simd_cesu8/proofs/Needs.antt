@@ -1,5 +1,5 @@
 -- When a text needs encoding: by its UTF-8, and by its encoding.
-use Rattle.std.proofs.Common.{◌≡◌, ℕ, ◌+◌, ◌*◌, ◌/◌, ◌%◌, ◌<◌, ◌≤◌, ◌⊎◌, ◌↔◌, List, [], ◌∷◌, refl, ap, ◌∙◌, subst, inl, inr, ⊎_elim, arith, length, length-append}
+use Rattle.std.proofs.Common.{◌≡◌, ℕ, ◌+◌, ◌*◌, ◌/◌, ◌%◌, ◌<◌, ◌≤◌, ◌⊎◌, ◌↔◌, ◌==◌, IsTrue, List, [], ◌∷◌, refl, ap, ◌∙◌, subst, inl, inr, ⊎_elim, arith, length, length-append}
 use Rattle.std.specs.Str.{chars, IsUtf8}
 use Rattle.std.specs.List.{Any}
 use Rattle.std.proofs.lemmas.Bool.{and_parts, and_from, le-leb, leb-true, eqb-true, eq-eqb, or_cases, or_left, or_right}
@@ -26,7 +26,8 @@ changed_by_four Mutf8 b h = or_right _ _ h
 unchanged : (f : Flavor) (b : ℕ) → 0 < b → b < 240 → IsChangedByte f b → ⊥
 unchanged Cesu8 b l h p = not_four b h p
 unchanged Mutf8 b l h p =
-    ⊎_elim (λ e. omega (arith, eqb-true b 0 e)) (λ q. not_four b h q) (or_cases _ _ p)
+    let not_null : IsTrue (b == 0) → ⊥ = λ e. omega (arith, eqb-true b 0 e) in
+    ⊎_elim not_null (not_four b h) (or_cases _ _ p)
 
 -- A scalar value is encoded otherwise exactly where its UTF-8 has such a byte.
 neither : (P Q : Type 0) → (P → ⊥) → (Q → ⊥) → P ↔ Q
