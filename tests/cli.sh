@@ -171,7 +171,7 @@ expect_long() {
     fi
 }
 
-# One list of 20 to 27 bytes again and again, to just above 1 MiB: `long_text NAME COMMAND FLAVOR INPUT
+# One list of 20 to 25 bytes again and again, to just above 1 MiB of UTF-8: `long_text NAME COMMAND FLAVOR INPUT
 # OUTPUT`.
 long_text() {
     repeated 52429 "$4" >"$scratch/input"

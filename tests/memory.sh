@@ -1,12 +1,13 @@
 #!/usr/bin/env bash
 # Refuses memory: runs the tests of the modules `memory` of crates/vectors and crates/cesu8_cli with
 # the first request of each refused, then with the second alone, and in cesu8_cli then with the third.
-# A test makes only the requests of the calls that it is about. So a test that passes with its first
-# request refused makes none, one that passes with its second refused makes no second, and where a
-# test fails its error is that of the call whose request was refused. The tables below say what has
-# to come. It prints what is wrong, and ends with the counts. The status is 0 where nothing is wrong.
+# A test makes only the requests of the calls that it is about, but two of `appending` first make
+# their buffer's own. So a test that passes with its first request refused makes none, one that passes
+# with its second refused makes no second, and where a test fails its error is that of the call whose
+# request was refused. The tables below say what has to come. It prints what is wrong, and ends with
+# the counts. The status is 0 where nothing is wrong.
 #
-# It needs the kit's `rt` (which builds the tests here without proof), bash and the core utilities.
+# It needs the kit's `rt` (which builds the tests here without proof), bash, awk and the core utilities.
 set -u
 unset CDPATH
 export LC_ALL=C
@@ -31,6 +32,7 @@ memory::borrowing::cesu8_borrows_null           ok                  ok
 memory::borrowing::decode_borrows_all_utf8      ok                  ok
 memory::borrowing::encode_borrows               ok                  ok
 memory::borrowing::every_decoder_borrows        ok                  ok
+memory::borrowing::lossy_decoding_borrows       ok                  ok
 memory::borrowing::needs_encoded_takes_no_memory ok                 ok
 memory::building::decode_builds                 Memory(AllocError)  ok
 memory::building::decode_strict_builds          Memory(AllocError)  ok
@@ -40,13 +42,12 @@ memory::building::into_string_copies            AllocError          ok
 memory::building::into_string_hands_out         Memory(AllocError)  ok
 memory::building::into_vec_copies               AllocError          ok
 memory::building::into_vec_hands_out            AllocError          ok
+memory::building::lossy_decoding_builds         AllocError          ok
+memory::building::lossy_strict_decoding_builds  AllocError          ok
 memory::building::mutf8_decode_builds           Memory(AllocError)  ok
 memory::building::mutf8_decode_strict_builds    Memory(AllocError)  ok
 memory::building::mutf8_encode_builds           AllocError          ok
-memory::building::lossy_decoding_builds         AllocError          ok
-memory::building::lossy_strict_decoding_builds  AllocError          ok
 memory::building::mutf8_lossy_strict_decoding_builds AllocError     ok
-memory::borrowing::lossy_decoding_borrows       ok                  ok
 '
 program='
 run::tests::memory::reads_and_borrows           Memory              ok      ok

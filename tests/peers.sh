@@ -69,13 +69,13 @@ write_text() {
     local escapes
     escapes=$(awk '
         function escape(byte) { printf "\\x%02x", byte }
-        function further(value) { escape(128 + int(value) % 64) }
+        function continuation(value) { escape(128 + int(value) % 64) }
         $1 < 128 { escape($1) }
         $1 >= 128 && $1 < 2048 { escape(192 + int($1 / 64)) }
         $1 >= 2048 && $1 < 65536 { escape(224 + int($1 / 4096)) }
-        $1 >= 65536 { escape(240 + int($1 / 262144)); further($1 / 4096) }
-        $1 >= 2048 { further($1 / 64) }
-        $1 >= 128 { further($1) }
+        $1 >= 65536 { escape(240 + int($1 / 262144)); continuation($1 / 4096) }
+        $1 >= 2048 { continuation($1 / 64) }
+        $1 >= 128 { continuation($1) }
     ')
     # shellcheck disable=SC2059
     printf "$escapes" >"$scratch/texts/$1"

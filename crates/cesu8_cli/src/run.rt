@@ -1,7 +1,7 @@
 //! One run of the program, over any reader and any writer.
 
-ghost use Rattle.std.specs.Prelude.{◌≡◌, ◌≢◌, ◌≤◌, ◌<◌, ◌+◌, ◌*◌, ◌/◌, ◌++◌, ◌⊎◌, ◌↔◌, ℕ, List, length, vec_len, OnOk, OnErr, IfOk, IfErr, IfSome, Ok, Err};
-ghost use Rattle.std.specs.Io.KnownBytes.{Appends, Consumes, IsAtEnd, Keeps};
+ghost use Rattle.std.specs.Prelude.{◌≡◌, ◌≢◌, ◌++◌, ◌⊎◌, ◌↔◌, ℕ, List, OnOk, OnErr, IfOk, IfErr, IfSome, Ok, Err};
+ghost use Rattle.std.specs.Io.KnownBytes.{Appends, Consumes, IsAtEnd};
 ghost use Rattle.cesu8_cli.specs.Faults.{IsRefusal};
 ghost use Rattle.cesu8_cli.specs.Answers.{AreWordsOf, IsAnswerTo};
 ghost use Rattle.cesu8_cli.specs.declared.command.Command.{Command as CommandType};
@@ -63,6 +63,7 @@ fn read_whole<R: Read>(alloc: Global, input: &mut R) -> Result<Vec<u8>, RunFault
         if count == 0 {
             return Ok(bytes);
         }
+        // No vector holds more, so this counts as a refused request.
         if count > usize::MAX / 2 - bytes.len() {
             return Err(RunFault::Memory);
         }

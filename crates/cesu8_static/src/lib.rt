@@ -6,7 +6,7 @@
 //! input is tested for UTF-8.
 #![tactic(auto)]
 
-ghost use Rattle.std.specs.Prelude.{◌≡◌, ◌↔◌, length, IsTrue, IsUtf8, Any, IfOk, IfErr};
+ghost use Rattle.std.specs.Prelude.{◌≡◌, ◌↔◌, IsTrue, IsUtf8, Any, IfOk, IfErr};
 ghost use Rattle.std.specs.Str.{chars};
 ghost use Rattle.simd_cesu8.specs.Text.{utf8};
 ghost use Rattle.simd_cesu8.specs.Encoding.{Cesu8, Mutf8, encoding, NeedsEncoding};
@@ -33,7 +33,9 @@ pub struct Outcome {
     pub is_invalid: bool,
 }
 
-/// Encodes UTF-8 to CESU-8. Other input is invalid.
+/// Encodes UTF-8 to CESU-8 (Unicode Technical Report 26), as `simd_cesu8::encode` does:
+/// it borrows where the encoding is the input, and elsewhere requests twice the input's length, in
+/// bytes. Other input is invalid.
 #[unsafe(no_mangle)]
 pub extern "C" fn cesu8_static_encode(alloc: Global, text: &[u8], room: &mut [u8]) -> Outcome
     ensures encoding { IsTrue result.has_answer →
@@ -48,7 +50,9 @@ pub extern "C" fn cesu8_static_encode(alloc: Global, text: &[u8], room: &mut [u8
     }
 }
 
-/// Encodes UTF-8 to MUTF-8. Other input is invalid.
+/// Encodes UTF-8 to MUTF-8 (Java's `DataOutput`, without a length in front), as `simd_cesu8::mutf8::encode` does:
+/// it borrows where the encoding is the input, and elsewhere requests twice the input's length, in
+/// bytes. Other input is invalid.
 #[unsafe(no_mangle)]
 pub extern "C" fn cesu8_static_mutf8_encode(alloc: Global, text: &[u8], room: &mut [u8]) -> Outcome
     ensures encoding { IsTrue result.has_answer →
@@ -63,7 +67,9 @@ pub extern "C" fn cesu8_static_mutf8_encode(alloc: Global, text: &[u8], room: &m
     }
 }
 
-/// Decodes bytes that are UTF-8 as a whole, or else CESU-8, to UTF-8.
+/// Decodes bytes that are UTF-8 as a whole, or else CESU-8, to UTF-8, as `simd_cesu8::decode`
+/// does: it borrows what is UTF-8, and elsewhere requests the input's length, in bytes. Input that is
+/// neither is invalid.
 #[unsafe(no_mangle)]
 pub extern "C" fn cesu8_static_decode(alloc: Global, bytes: &[u8], room: &mut [u8]) -> Outcome
     ensures text { IsTrue result.has_answer →
@@ -75,7 +81,9 @@ pub extern "C" fn cesu8_static_decode(alloc: Global, bytes: &[u8], room: &mut [u
     tell_text(simd_cesu8::decode(alloc, bytes), room)
 }
 
-/// Decodes bytes that are UTF-8 as a whole, or else MUTF-8, to UTF-8.
+/// Decodes bytes that are UTF-8 as a whole, or else MUTF-8, to UTF-8, as `simd_cesu8::mutf8::decode`
+/// does: it borrows what is UTF-8, and elsewhere requests the input's length, in bytes. Input that is
+/// neither is invalid.
 #[unsafe(no_mangle)]
 pub extern "C" fn cesu8_static_mutf8_decode(alloc: Global, bytes: &[u8], room: &mut [u8]) -> Outcome
     ensures text { IsTrue result.has_answer →
@@ -87,7 +95,9 @@ pub extern "C" fn cesu8_static_mutf8_decode(alloc: Global, bytes: &[u8], room: &
     tell_text(mutf8::decode(alloc, bytes), room)
 }
 
-/// Decodes CESU-8 to UTF-8, strictly.
+/// Decodes CESU-8 to UTF-8, as `simd_cesu8::decode_strict` does: it borrows where the text's
+/// UTF-8 is the input, and elsewhere requests the input's length, in bytes. Input that is the encoding
+/// of no text is invalid.
 #[unsafe(no_mangle)]
 pub extern "C" fn cesu8_static_decode_strict(
     alloc: Global,
@@ -103,7 +113,9 @@ pub extern "C" fn cesu8_static_decode_strict(
     tell_text(simd_cesu8::decode_strict(alloc, bytes), room)
 }
 
-/// Decodes MUTF-8 to UTF-8, strictly.
+/// Decodes MUTF-8 to UTF-8, as `simd_cesu8::mutf8::decode_strict` does: it borrows where the text's
+/// UTF-8 is the input, and elsewhere requests the input's length, in bytes. Input that is the encoding
+/// of no text is invalid.
 #[unsafe(no_mangle)]
 pub extern "C" fn cesu8_static_mutf8_decode_strict(
     alloc: Global,

@@ -1,7 +1,7 @@
 -- The classes of bytes that tell whether UTF-8 has to change.
 use Rattle.std.specs.Prelude.{ℕ, Bool, IsTrue, nat_le, ◌&&◌, ◌||◌, ◌==◌}
 
--- F0 to F7 (hexadecimal): in UTF-8 the lead byte of four. F5 to F7 lead nothing there.
+-- F0 to F7 (hexadecimal). In UTF-8, F0 to F4 lead four bytes, and F5 to F7 lead nothing.
 abbrev pub is_four : ℕ → Bool
 is_four b = nat_le 0xF0 b && nat_le b 0xF7
 

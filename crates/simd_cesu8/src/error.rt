@@ -12,6 +12,13 @@ use std::fmt::{Debug, Display, Formatter};
 /// The input is no encoding of a text. It says neither where nor why.
 ///
 /// It shows itself as `invalid input`, and as `DecodingError` with `{:?}`, whatever width is asked for.
+///
+/// ```rust
+/// if let Err(DecodeFault::Invalid(error)) = simd_cesu8::decode(alloc, b"\xFF") {
+///     let shown = format!(in alloc; "{error}")?;
+///     assert_eq!(rt; shown.as_str(), "invalid input");
+/// }
+/// ```
 #[derive(Clone, Copy, Eq)]
 pub struct DecodingError(pub(crate) ());
 
@@ -49,6 +56,14 @@ impl Error for DecodingError {}
 /// Why a call that decodes gives no text.
 ///
 /// It shows itself as `invalid input` or `out of memory`, whatever width is asked for.
+///
+/// ```rust
+/// match simd_cesu8::decode_strict(alloc, bytes) {
+///     Ok(text) => rt.println(text.as_str())?,
+///     Err(DecodeFault::Invalid(_)) => rt.println("no CESU-8")?,
+///     Err(DecodeFault::Memory(error)) => return Err(error.into()),
+/// }
+/// ```
 #[derive(Debug, Drop)]
 pub enum DecodeFault {
     /// The input is refused.

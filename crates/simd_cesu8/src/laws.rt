@@ -1,5 +1,6 @@
-//! The laws of both encodings. Each function makes no call: its contract is the law, for every text
-//! and every list of bytes, in both flavors, and its proof is the evidence.
+//! The laws of both encodings. Each function does nothing: its contract is the law, for every text
+//! and every list of bytes, in both flavors, and its proof is the evidence. docs/DEFINITIONS.md says
+//! what a stretch, a mark and a cutting are.
 
 ghost use Rattle.simd_cesu8.specs.Laws.{RoundTrip, Concat, SameText, Needs, NoZero, Bounds, NoOverlap, OneMark, Places};
 

@@ -6,7 +6,7 @@
 //! assert_eq!(rt; built.as_bytes(), b"a\xC0\x80".as_slice());
 //! ```
 
-ghost use Rattle.std.specs.Prelude.{◌≡◌, ◌≤◌, ◌*◌, ◌/◌, ◌↔◌, length, IsTrue, IsUtf8, Any, IfOk, IfErr, IsOk, vec_capacity};
+ghost use Rattle.std.specs.Prelude.{◌≡◌, ◌*◌, ◌↔◌, length, IsTrue, IsUtf8, Any, IfOk, IfErr, IsOk, vec_capacity};
 ghost use Rattle.std.specs.String.{string_capacity};
 ghost use Rattle.std.specs.Str.{chars};
 ghost use Rattle.simd_cesu8.specs.Encoding.{Mutf8, encoding, NeedsEncoding};

@@ -6,10 +6,15 @@ use std::process::Abort;
 use std::test::Fail;
 
 /// A row: its bytes, the text that stands in them, and whether the answer borrows them.
-type Row = (&'static [u8], &'static str, bool);
+pub type Row = (&'static [u8], &'static str, bool);
 
 /// Compares `decode_lossy_strict` with a row.
-fn compare_strict(rt: &impl Abort, alloc: Global, flavor: Flavor, row: Row) -> Result<(), Fail> {
+pub fn compare_strict(
+    rt: &impl Abort,
+    alloc: Global,
+    flavor: Flavor,
+    row: Row,
+) -> Result<(), Fail> {
     let (bytes, text, borrowed) = row;
     let answer = decode_lossy_strict(alloc, flavor, bytes)?;
     assert_eq!(rt;
@@ -26,7 +31,12 @@ fn compare_strict(rt: &impl Abort, alloc: Global, flavor: Flavor, row: Row) -> R
 }
 
 /// Compares `decode_lossy` with a row.
-fn compare_lenient(rt: &impl Abort, alloc: Global, flavor: Flavor, row: Row) -> Result<(), Fail> {
+pub fn compare_lenient(
+    rt: &impl Abort,
+    alloc: Global,
+    flavor: Flavor,
+    row: Row,
+) -> Result<(), Fail> {
     let (bytes, text, borrowed) = row;
     let answer = decode_lossy(alloc, flavor, bytes)?;
     assert_eq!(rt; answer.as_str(), text, "in {flavor:?}, of {bytes:?}");
@@ -74,6 +84,32 @@ fn reads_alike(rt: HostRuntime) -> Result<(), Fail> {
     ];
     for row in rows {
         compare_all(&rt, rt.alloc(), row)?;
+    }
+    Ok(())
+}
+
+/// Bytes that are in no character, in front of characters, between them and after them.
+#[test]
+fn reads_damage_alike(rt: HostRuntime) -> Result<(), Fail> {
+    let rows: [(&'static [u8], &'static str); 12] = [
+        (b"\x80", "\u{FFFD}"),
+        (b"\xC0A", "\u{FFFD}A"),
+        (b"\xC1\xBF", "\u{FFFD}\u{FFFD}"),
+        (b"\xC2", "\u{FFFD}"),
+        (b"\xC2\xC2\x80", "\u{FFFD}\u{80}"),
+        (b"\xE0\x80\x80", "\u{FFFD}\u{FFFD}\u{FFFD}"),
+        (b"\xE0\x9F\xBF", "\u{FFFD}\u{FFFD}\u{FFFD}"),
+        (b"\xE2\x82", "\u{FFFD}\u{FFFD}"),
+        (b"\xE2\x82\xE2\x82\xAC", "\u{FFFD}\u{FFFD}\u{20AC}"),
+        (b"\xF8", "\u{FFFD}"),
+        (b"\xFFA\xFF", "\u{FFFD}A\u{FFFD}"),
+        (
+            b"\xF0\x9F\x92\x96\xED\xA0\xBD\xED\xB2\x96",
+            "\u{FFFD}\u{FFFD}\u{FFFD}\u{FFFD}\u{1F496}",
+        ),
+    ];
+    for (bytes, text) in rows {
+        compare_all(&rt, rt.alloc(), (bytes, text, false))?;
     }
     Ok(())
 }

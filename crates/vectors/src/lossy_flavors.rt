@@ -1,247 +1,59 @@
-//! Decoding with damage where the two encodings, or the two calls, differ.
+//! Decoding with damage where the two encodings differ, and where the two calls do.
 
-use crate::flavors::{Flavor, decode_lossy, decode_lossy_strict};
+use crate::flavors::Flavor;
+use crate::lossy::{compare_lenient, compare_strict};
 use std::test::Fail;
 
-/// A row: its bytes, and the text with whether it is borrowed, in CESU-8 and in MUTF-8.
-type Row = (&'static [u8], &'static str, bool, &'static str, bool);
-
-/// What `decode_lossy_strict` gives.
-const STRICT: [Row; 21] = [
-    (b"\x80", "\u{FFFD}", false, "\u{FFFD}", false),
-    (b"\xC0\x80", "\u{FFFD}\u{FFFD}", false, "\0", false),
-    (b"\xC0A", "\u{FFFD}A", false, "\u{FFFD}A", false),
-    (
-        b"\xC1\xBF",
-        "\u{FFFD}\u{FFFD}",
-        false,
-        "\u{FFFD}\u{FFFD}",
-        false,
-    ),
-    (b"\xC2", "\u{FFFD}", false, "\u{FFFD}", false),
-    (
-        b"\xC2\xC2\x80",
-        "\u{FFFD}\u{80}",
-        false,
-        "\u{FFFD}\u{80}",
-        false,
-    ),
-    (
-        b"\xC2\xC0\x80",
-        "\u{FFFD}\u{FFFD}\u{FFFD}",
-        false,
-        "\u{FFFD}\0",
-        false,
-    ),
-    (
-        b"\xC0\xC0\x80",
-        "\u{FFFD}\u{FFFD}\u{FFFD}",
-        false,
-        "\u{FFFD}\0",
-        false,
-    ),
-    (
-        b"\xE0\x80\x80",
-        "\u{FFFD}\u{FFFD}\u{FFFD}",
-        false,
-        "\u{FFFD}\u{FFFD}\u{FFFD}",
-        false,
-    ),
-    (
-        b"\xE0\x9F\xBF",
-        "\u{FFFD}\u{FFFD}\u{FFFD}",
-        false,
-        "\u{FFFD}\u{FFFD}\u{FFFD}",
-        false,
-    ),
-    (
-        b"\xE2\x82",
-        "\u{FFFD}\u{FFFD}",
-        false,
-        "\u{FFFD}\u{FFFD}",
-        false,
-    ),
-    (
-        b"\xE2\x82\xE2\x82\xAC",
-        "\u{FFFD}\u{FFFD}\u{20AC}",
-        false,
-        "\u{FFFD}\u{FFFD}\u{20AC}",
-        false,
-    ),
-    (b"A\0B", "A\0B", true, "A\u{FFFD}B", false),
-    (b"\xF8", "\u{FFFD}", false, "\u{FFFD}", false),
-    (
-        b"\xFFA\xFF",
-        "\u{FFFD}A\u{FFFD}",
-        false,
-        "\u{FFFD}A\u{FFFD}",
-        false,
-    ),
-    (
-        b"\xF0\x9F\x92\x96",
-        "\u{FFFD}\u{FFFD}\u{FFFD}\u{FFFD}",
-        false,
-        "\u{FFFD}\u{FFFD}\u{FFFD}\u{FFFD}",
-        false,
-    ),
-    (
-        b"\xF0\x9F\x92\x96\xED\xA0\xBD\xED\xB2\x96",
-        "\u{FFFD}\u{FFFD}\u{FFFD}\u{FFFD}\u{1F496}",
-        false,
-        "\u{FFFD}\u{FFFD}\u{FFFD}\u{FFFD}\u{1F496}",
-        false,
-    ),
-    (b"\0", "\0", true, "\u{FFFD}", false),
-    (b"\0\0\0", "\0\0\0", true, "\u{FFFD}\u{FFFD}\u{FFFD}", false),
-    (
-        b"\0\xC0\x80",
-        "\0\u{FFFD}\u{FFFD}",
-        false,
-        "\u{FFFD}\0",
-        false,
-    ),
-    (
-        b"\xC0\x80\xEF\xBF\xBD",
-        "\u{FFFD}\u{FFFD}\u{FFFD}",
-        false,
-        "\0\u{FFFD}",
-        false,
-    ),
-];
-
-/// What `decode_lossy` gives.
-const LENIENT: [Row; 21] = [
-    (b"\x80", "\u{FFFD}", false, "\u{FFFD}", false),
-    (b"\xC0\x80", "\u{FFFD}\u{FFFD}", false, "\0", false),
-    (b"\xC0A", "\u{FFFD}A", false, "\u{FFFD}A", false),
-    (
-        b"\xC1\xBF",
-        "\u{FFFD}\u{FFFD}",
-        false,
-        "\u{FFFD}\u{FFFD}",
-        false,
-    ),
-    (b"\xC2", "\u{FFFD}", false, "\u{FFFD}", false),
-    (
-        b"\xC2\xC2\x80",
-        "\u{FFFD}\u{80}",
-        false,
-        "\u{FFFD}\u{80}",
-        false,
-    ),
-    (
-        b"\xC2\xC0\x80",
-        "\u{FFFD}\u{FFFD}\u{FFFD}",
-        false,
-        "\u{FFFD}\0",
-        false,
-    ),
-    (
-        b"\xC0\xC0\x80",
-        "\u{FFFD}\u{FFFD}\u{FFFD}",
-        false,
-        "\u{FFFD}\0",
-        false,
-    ),
-    (
-        b"\xE0\x80\x80",
-        "\u{FFFD}\u{FFFD}\u{FFFD}",
-        false,
-        "\u{FFFD}\u{FFFD}\u{FFFD}",
-        false,
-    ),
-    (
-        b"\xE0\x9F\xBF",
-        "\u{FFFD}\u{FFFD}\u{FFFD}",
-        false,
-        "\u{FFFD}\u{FFFD}\u{FFFD}",
-        false,
-    ),
-    (
-        b"\xE2\x82",
-        "\u{FFFD}\u{FFFD}",
-        false,
-        "\u{FFFD}\u{FFFD}",
-        false,
-    ),
-    (
-        b"\xE2\x82\xE2\x82\xAC",
-        "\u{FFFD}\u{FFFD}\u{20AC}",
-        false,
-        "\u{FFFD}\u{FFFD}\u{20AC}",
-        false,
-    ),
-    (b"A\0B", "A\0B", true, "A\0B", true),
-    (b"\xF8", "\u{FFFD}", false, "\u{FFFD}", false),
-    (
-        b"\xFFA\xFF",
-        "\u{FFFD}A\u{FFFD}",
-        false,
-        "\u{FFFD}A\u{FFFD}",
-        false,
-    ),
-    (b"\xF0\x9F\x92\x96", "\u{1F496}", true, "\u{1F496}", true),
-    (
-        b"\xF0\x9F\x92\x96\xED\xA0\xBD\xED\xB2\x96",
-        "\u{FFFD}\u{FFFD}\u{FFFD}\u{FFFD}\u{1F496}",
-        false,
-        "\u{FFFD}\u{FFFD}\u{FFFD}\u{FFFD}\u{1F496}",
-        false,
-    ),
-    (b"\0", "\0", true, "\0", true),
-    (b"\0\0\0", "\0\0\0", true, "\0\0\0", true),
-    (
-        b"\0\xC0\x80",
-        "\0\u{FFFD}\u{FFFD}",
-        false,
-        "\u{FFFD}\0",
-        false,
-    ),
-    (
-        b"\xC0\x80\xEF\xBF\xBD",
-        "\u{FFFD}\u{FFFD}\u{FFFD}",
-        false,
-        "\0\u{FFFD}",
-        false,
-    ),
-];
-
+/// The bytes, and their text in CESU-8 and in MUTF-8. Both calls give it.
 #[test]
-fn reads_strictly_as_cesu8(rt: HostRuntime) -> Result<(), Fail> {
-    for (bytes, text, borrowed, _, _) in STRICT {
-        let answer = decode_lossy_strict(rt.alloc(), Flavor::Cesu8, bytes)?;
-        assert_eq!(rt; answer.as_str(), text, "of {bytes:?}");
-        assert_eq!(rt; answer.is_borrowed(), borrowed, "of {bytes:?}");
+fn reads_each_encoding(rt: HostRuntime) -> Result<(), Fail> {
+    let rows: [(&'static [u8], &'static str, &'static str); 5] = [
+        (b"\xC0\x80", "\u{FFFD}\u{FFFD}", "\0"),
+        (
+            b"\xC2\xC0\x80",
+            "\u{FFFD}\u{FFFD}\u{FFFD}",
+            "\u{FFFD}\0",
+        ),
+        (
+            b"\xC0\xC0\x80",
+            "\u{FFFD}\u{FFFD}\u{FFFD}",
+            "\u{FFFD}\0",
+        ),
+        (b"\0\xC0\x80", "\0\u{FFFD}\u{FFFD}", "\u{FFFD}\0"),
+        (
+            b"\xC0\x80\xEF\xBF\xBD",
+            "\u{FFFD}\u{FFFD}\u{FFFD}",
+            "\0\u{FFFD}",
+        ),
+    ];
+    for (bytes, cesu8, mutf8) in rows {
+        for (flavor, text) in [(Flavor::Cesu8, cesu8), (Flavor::Mutf8, mutf8)] {
+            let row = (bytes, text, false);
+            compare_strict(&rt, rt.alloc(), flavor, row)?;
+            compare_lenient(&rt, rt.alloc(), flavor, row)?;
+        }
     }
     Ok(())
 }
 
+/// Bytes that are UTF-8, which `decode_lossy` borrows, and what `decode_lossy_strict` gives, in CESU-8,
+/// with whether that is borrowed, and in MUTF-8, where none is.
 #[test]
-fn reads_strictly_as_mutf8(rt: HostRuntime) -> Result<(), Fail> {
-    for (bytes, _, _, text, borrowed) in STRICT {
-        let answer = decode_lossy_strict(rt.alloc(), Flavor::Mutf8, bytes)?;
-        assert_eq!(rt; answer.as_str(), text, "of {bytes:?}");
-        assert_eq!(rt; answer.is_borrowed(), borrowed, "of {bytes:?}");
-    }
-    Ok(())
-}
-
-#[test]
-fn reads_utf8_or_cesu8(rt: HostRuntime) -> Result<(), Fail> {
-    for (bytes, text, borrowed, _, _) in LENIENT {
-        let answer = decode_lossy(rt.alloc(), Flavor::Cesu8, bytes)?;
-        assert_eq!(rt; answer.as_str(), text, "of {bytes:?}");
-        assert_eq!(rt; answer.is_borrowed(), borrowed, "of {bytes:?}");
-    }
-    Ok(())
-}
-
-#[test]
-fn reads_utf8_or_mutf8(rt: HostRuntime) -> Result<(), Fail> {
-    for (bytes, _, _, text, borrowed) in LENIENT {
-        let answer = decode_lossy(rt.alloc(), Flavor::Mutf8, bytes)?;
-        assert_eq!(rt; answer.as_str(), text, "of {bytes:?}");
-        assert_eq!(rt; answer.is_borrowed(), borrowed, "of {bytes:?}");
+fn reads_utf8_or_the_encoding(rt: HostRuntime) -> Result<(), Fail> {
+    let four = "\u{FFFD}\u{FFFD}\u{FFFD}\u{FFFD}";
+    let rows: [(&'static str, &'static str, bool, &'static str); 4] = [
+        ("\0", "\0", true, "\u{FFFD}"),
+        ("\0\0\0", "\0\0\0", true, "\u{FFFD}\u{FFFD}\u{FFFD}"),
+        ("A\0B", "A\0B", true, "A\u{FFFD}B"),
+        ("\u{1F496}", four, false, four),
+    ];
+    for (utf8, cesu8, borrowed, mutf8) in rows {
+        let bytes = utf8.as_bytes();
+        for flavor in [Flavor::Cesu8, Flavor::Mutf8] {
+            compare_lenient(&rt, rt.alloc(), flavor, (bytes, utf8, true))?;
+        }
+        compare_strict(&rt, rt.alloc(), Flavor::Cesu8, (bytes, cesu8, borrowed))?;
+        compare_strict(&rt, rt.alloc(), Flavor::Mutf8, (bytes, mutf8, false))?;
     }
     Ok(())
 }

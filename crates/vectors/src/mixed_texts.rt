@@ -9,8 +9,8 @@ use std::process::Abort;
 use std::test::Fail;
 
 // The characters of each width, drawn in turn. The lists' lengths have no divisor in common with one
-// another, or with the 819 or 1,638 draws for a text, so no two texts are the same. tests/peers.sh has
-// the same lists.
+// another, or with the draws for a text, 819 from `ONE` and 1,638 from each other list, so no two texts
+// are the same. tests/peers.sh has the same lists.
 const ONE: [char; 8] = ['\u{01}', '\t', '\n', ' ', '0', 'A', 'z', '\u{7F}'];
 
 const TWO: [char; 11] = [

@@ -3,10 +3,13 @@
 ghost use Rattle.std.specs.Prelude.{IsTrue, ◌↔◌, Any};
 ghost use Rattle.simd_cesu8.specs.Class.{IsFour, IsNullFour};
 
-/// Whether some byte is F0 to F7 (hexadecimal). In UTF-8 these lead the characters of four bytes.
+/// Whether some byte is F0 to F7 (hexadecimal). In UTF-8 the lead byte of every character of four
+/// bytes is among these.
 ///
 /// ```rust
-/// assert!(rt; contains_utf8_4_byte_char_header("\u{1F496}".as_bytes()));
+/// use simd_cesu8::implementation::fallback;
+///
+/// assert!(rt; fallback::contains_utf8_4_byte_char_header("\u{1F496}".as_bytes()));
 /// ```
 pub fn contains_utf8_4_byte_char_header(value: &[u8]) -> bool
     ensures { IsTrue result ↔ Any IsFour value.now }
@@ -17,7 +20,9 @@ pub fn contains_utf8_4_byte_char_header(value: &[u8]) -> bool
 /// Whether some byte is 00, or F0 to F7 (hexadecimal).
 ///
 /// ```rust
-/// assert!(rt; contains_null_or_utf8_4_byte_char_header(b"a\0"));
+/// use simd_cesu8::implementation::fallback;
+///
+/// assert!(rt; fallback::contains_null_or_utf8_4_byte_char_header(b"a\0"));
 /// ```
 pub fn contains_null_or_utf8_4_byte_char_header(value: &[u8]) -> bool
     ensures { IsTrue result ↔ Any IsNullFour value.now }

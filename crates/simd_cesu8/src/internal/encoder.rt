@@ -1,6 +1,6 @@
 //! The encoder: characters of one to three bytes are copied, and those of four become surrogate pairs.
 
-ghost use Rattle.std.specs.Prelude.{◌≡◌, ◌+◌, ◌*◌, ◌/◌, ◌<◌, ◌≤◌, ◌++◌, [], ◌∷◌, ℕ, max, length, take, drop, slice_index, OnOk, OnErr, IfOk, IsOk, IsUtf8, vec_len, vec_capacity};
+ghost use Rattle.std.specs.Prelude.{◌≡◌, ◌+◌, ◌*◌, ◌<◌, ◌≤◌, ◌++◌, [], ◌∷◌, ℕ, max, length, take, drop, slice_index, OnOk, OnErr, IfOk, IsOk, IsUtf8, vec_len, vec_capacity};
 ghost use Rattle.std.specs.Str.{chars};
 ghost use Rattle.simd_cesu8.specs.Text.{utf8_of};
 ghost use Rattle.simd_cesu8.specs.Encoding.{Flavor as FlavorName, encoding, short_form};

@@ -1,4 +1,4 @@
-//! Writers into room that is there, so that none of them can fail.
+//! Writers into room that is there, which can't fail, and copies, each with its one request.
 
 ghost use Rattle.std.specs.Prelude.{◌≡◌, ◌+◌, ◌≤◌, ◌++◌, [], max, length, take, drop, OnOk, OnErr, IfOk, IsOk, vec_len, vec_capacity};
 ghost use Rattle.std.specs.String.{string_bytes, string_capacity};
