@@ -16,11 +16,7 @@ use std::str;
 
 /// The bytes that answer the command, or the fault.
 #[tactic(auto, unfolding(crate::specs::Answers::IsAnswer))]
-pub fn answer<'a>(
-    alloc: Global,
-    command: Command,
-    input: &'a [u8],
-) -> Result<CowBytes<'a>, RunFault>
+pub fn answer(alloc: Global, command: Command, input: &[u8]) -> Result<CowBytes<'_>, RunFault>
     ensures ok { IfOk result (λ answer. IsAnswer command input.now (Ok (answer_bytes answer))) }
     ensures err { IfErr result (λ fault. (fault ≡ RunFault.Memory) ⊎ IsAnswer command input.now (Err fault)) }
     ensures words { IfErr result (λ fault. fault ≢ RunFault.Usage) }

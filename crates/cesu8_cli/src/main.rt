@@ -22,21 +22,12 @@ fn main(rt: HostRuntime) -> ExitCode {
     }
 }
 
-/// Hands the arguments after the program's name to `run`. Where they can't be had, it is as for a
-/// failed read.
+/// Hands the arguments to `run`.
 fn run_words(rt: &HostRuntime) -> Result<(), RunFault> {
-    let Ok(args) = env::args(rt) else {
-        return Err(RunFault::Io);
-    };
-    let mut owned = Vec::new(rt.alloc());
-    for arg in args.skip(1) {
-        if owned.push(arg).is_err() {
-            return Err(RunFault::Io);
-        }
-    }
+    let arguments = arguments(rt)?;
     let mut words = Vec::new(rt.alloc());
-    for arg in &owned {
-        if words.push(arg.as_str()).is_err() {
+    for argument in &arguments {
+        if words.push(argument.as_str()).is_err() {
             return Err(RunFault::Io);
         }
     }
@@ -46,4 +37,18 @@ fn run_words(rt: &HostRuntime) -> Result<(), RunFault> {
         &mut rt.reader(),
         &mut io::writer(rt),
     )
+}
+
+/// The arguments after the program's name. Where they can't be had, it is as for a failed read.
+fn arguments(rt: &HostRuntime) -> Result<Vec<String>, RunFault> {
+    let Ok(all) = env::args(rt) else {
+        return Err(RunFault::Io);
+    };
+    let mut arguments = Vec::new(rt.alloc());
+    for argument in all.skip(1) {
+        if arguments.push(argument).is_err() {
+            return Err(RunFault::Io);
+        }
+    }
+    Ok(arguments)
 }

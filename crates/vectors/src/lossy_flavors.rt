@@ -9,16 +9,8 @@ use std::test::Fail;
 fn reads_each_encoding(rt: HostRuntime) -> Result<(), Fail> {
     let rows: [(&'static [u8], &'static str, &'static str); 5] = [
         (b"\xC0\x80", "\u{FFFD}\u{FFFD}", "\0"),
-        (
-            b"\xC2\xC0\x80",
-            "\u{FFFD}\u{FFFD}\u{FFFD}",
-            "\u{FFFD}\0",
-        ),
-        (
-            b"\xC0\xC0\x80",
-            "\u{FFFD}\u{FFFD}\u{FFFD}",
-            "\u{FFFD}\0",
-        ),
+        (b"\xC2\xC0\x80", "\u{FFFD}\u{FFFD}\u{FFFD}", "\u{FFFD}\0"),
+        (b"\xC0\xC0\x80", "\u{FFFD}\u{FFFD}\u{FFFD}", "\u{FFFD}\0"),
         (b"\0\xC0\x80", "\0\u{FFFD}\u{FFFD}", "\u{FFFD}\0"),
         (
             b"\xC0\x80\xEF\xBF\xBD",

@@ -167,7 +167,11 @@ fn decodes_with_damage(rt: HostRuntime) {
         let mut input = bytes;
         let mut output = Vec::new(rt.alloc());
         let ended = run(rt.alloc(), &[command, flavor], &mut input, &mut output);
-        assert_eq!(rt; shown(ended), DONE, "at {bytes:?}");
-        assert_eq!(rt; output.as_slice(), written, "at {bytes:?}");
+        assert_eq!(rt; shown(ended), DONE, "{command} {flavor} at {bytes:?}");
+        assert_eq!(rt;
+            output.as_slice(),
+            written,
+            "{command} {flavor} at {bytes:?}"
+        );
     }
 }
