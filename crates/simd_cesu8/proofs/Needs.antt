@@ -1,5 +1,5 @@
 -- When a text needs encoding: by its UTF-8, and by its encoding.
-use Rattle.std.proofs.Common.{◌≡◌, ℕ, ◌+◌, ◌*◌, ◌/◌, ◌%◌, ◌<◌, ◌≤◌, ◌⊎◌, ◌↔◌, ◌==◌, IsTrue, List, [], ◌∷◌, refl, ap, ◌∙◌, subst, inl, inr, ⊎_elim, arith, length, length-append}
+use Rattle.std.proofs.Common.{◌≡◌, ◌≢◌, ℕ, ◌+◌, ◌*◌, ◌/◌, ◌%◌, ◌<◌, ◌≤◌, ◌⊎◌, ◌↔◌, List, [], ◌∷◌, refl, ap, ◌∙◌, subst, inl, inr, ⊎_elim, arith, length, length-append}
 use Rattle.std.specs.Str.{chars, IsUtf8}
 use Rattle.std.specs.List.{Any}
 use Rattle.std.proofs.lemmas.Bool.{and_parts, and_from, le-leb, leb-true, eqb-true, eq-eqb, or_cases, or_left, or_right}
@@ -23,11 +23,10 @@ changed_by_four : (f : Flavor) (b : ℕ) → IsFour b → IsChangedByte f b
 changed_by_four Cesu8 b h = h
 changed_by_four Mutf8 b h = or_right _ _ h
 
-unchanged : (f : Flavor) (b : ℕ) → 0 < b → b < 240 → IsChangedByte f b → ⊥
-unchanged Cesu8 b l h p = not_four b h p
-unchanged Mutf8 b l h p =
-    let not_null : IsTrue (b == 0) → ⊥ = λ e. omega (arith, eqb-true b 0 e) in
-    ⊎_elim not_null (not_four b h) (or_cases _ _ p)
+-- A byte below F0 (hexadecimal) that in MUTF-8 is not 0 stays as it is.
+pub unchanged : (f : Flavor) (b : ℕ) → b < 240 → (f ≡ Mutf8 → b ≢ 0) → IsChangedByte f b → ⊥
+unchanged Cesu8 b h n p = not_four b h p
+unchanged Mutf8 b h n p = ⊎_elim (λ e. n refl (eqb-true b 0 e)) (not_four b h) (or_cases _ _ p)
 
 -- A scalar value is encoded otherwise exactly where its UTF-8 has such a byte.
 neither : (P Q : Type 0) → (P → ⊥) → (Q → ⊥) → P ↔ Q
@@ -43,8 +42,8 @@ shows_one Mutf8 c h = (
 
 none_of_two : (f : Flavor) (a b : ℕ) → 0 < a → a < 240 → 0 < b → b < 240 → Any (IsChangedByte f) (a ∷ b ∷ []) → ⊥
 none_of_two f a b la ha lb hb =
-    none_cons (IsChangedByte f) a (b ∷ []) (unchanged f a la ha)
-    (none_cons (IsChangedByte f) b [] (unchanged f b lb hb) (any_nil (IsChangedByte f)))
+    none_cons (IsChangedByte f) a (b ∷ []) (unchanged f a ha (λ _ e. omega arith))
+    (none_cons (IsChangedByte f) b [] (unchanged f b hb (λ _ e. omega arith)) (any_nil (IsChangedByte f)))
 
 shows_by : (f : Flavor) (c : ℕ) → Shape c → Any (IsChangedByte f) (utf8_of c) ↔ IsEncodedOtherwise f c
 shows_by f c (one h) = rw (utf8_of_one c h) (shows_one f c h)
@@ -52,7 +51,7 @@ shows_by f c (two x y h) = rw (utf8_of_two c x y h) (neither _ _
     (none_of_two f (192 + x) (128 + y) (omega arith) (omega arith) (omega arith) (omega arith))
     (not_otherwise f c (omega arith) (omega arith)))
 shows_by f c (three x y z h) = rw (utf8_of_three c x y z h) (neither _ _
-    (none_cons _ (224 + x) ((128 + y) ∷ (128 + z) ∷ []) (unchanged f (224 + x) (omega arith) (omega arith))
+    (none_cons _ (224 + x) ((128 + y) ∷ (128 + z) ∷ []) (unchanged f (224 + x) (omega arith) (λ _ e. omega arith))
     (none_of_two f (128 + y) (128 + z) (omega arith) (omega arith) (omega arith) (omega arith)))
     (not_otherwise f c (omega arith) (omega arith)))
 shows_by f c (pair w x y z h) = rw (utf8_of_pair c w x y z h) (

@@ -37,6 +37,11 @@ pub IsUtf8Of_chars : (bytes : List ℕ) → IsUtf8 bytes → IsUtf8Of (chars byt
 IsUtf8Of_chars bytes h =
     (IsText_from_scalars (chars bytes) (scalars-chars bytes h), utf8_encodes (chars bytes) ∙ encodes-chars bytes h)
 
+-- The same, where the bytes have another name.
+pub IsUtf8Of_chars_at : (bytes text : List ℕ) → text ≡ bytes → IsUtf8 bytes → IsUtf8Of (chars text) bytes
+IsUtf8Of_chars_at bytes text e h = subst (λ bs. IsUtf8Of (chars bs) bytes) (sym e) (IsUtf8Of_chars bytes h)
+
+-- The UTF-8 of a text is UTF-8, and its characters are the text.
 pub IsUtf8_utf8 : (text : List ℕ) → IsText text → IsUtf8 (utf8 text)
 IsUtf8_utf8 text h = (text, (scalars_from_IsText text h, sym (utf8_encodes text)))
 
@@ -49,3 +54,7 @@ std_utf8 bytes = (
   (λ (h : IsUtf8 bytes). (chars bytes, IsUtf8Of_chars bytes h)),
   (λ (h : (text : List ℕ) × IsUtf8Of text bytes). subst IsUtf8 h.1.1 (IsUtf8_utf8 h.0 h.1.0)),
 )
+
+-- So what std takes for no UTF-8 is the UTF-8 of no text.
+pub not_utf8_of : (bytes : List ℕ) → (IsUtf8 bytes → ⊥) → (text : List ℕ) → IsUtf8Of text bytes → ⊥
+not_utf8_of bytes n text h = n ((std_utf8 bytes).1 (text, h))
