@@ -44,11 +44,15 @@ shorter f lossy bytes rest c (Read h) =
     omega (arith, long.some, long.fits, ap length h.bytes_are, length-append (encoding f (c ∷ [])) rest)
 shorter f lossy bytes rest c (Replace _ _ _ b s) = omega (arith, ap length s)
 
--- What it needs of the room.
-utf8_of_replacement : length (utf8_of 0xFFFD) ≡ 3
+-- The UTF-8 of the replacement character, and its length.
+utf8_replacement : utf8_of 0xFFFD ≡ 0xEF ∷ 0xBF ∷ 0xBD ∷ []
 unfolding utf8_of
-utf8_of_replacement = refl
+utf8_replacement = refl
 
+length_of_replacement : length (utf8_of 0xFFFD) ≡ 3
+length_of_replacement = ap length utf8_replacement
+
+-- What a step needs of the room.
 room_of_step : (f : Flavor) (lossy : Bool) (bytes rest : List ℕ) (c : ℕ) → IsStep f lossy bytes c rest →
     length (utf8_of c) + room_of lossy (length rest) ≤ room_of lossy (length bytes)
 room_of_step f true bytes rest c (Read h) =
@@ -58,7 +62,7 @@ room_of_step f false bytes rest c (Read h) =
     let long = length_of_character f c h.scalar in
     omega (arith, long.fits, ap length h.bytes_are, length-append (encoding f (c ∷ [])) rest)
 room_of_step f true bytes rest c (Replace _ _ e b s) =
-    omega (arith, ap length s, utf8_of_replacement, ap (λ d. length (utf8_of d)) e)
+    omega (arith, ap length s, length_of_replacement, ap (λ d. length (utf8_of d)) e)
 room_of_step f false bytes rest c (Replace t _ _ _ _) = absurd (true≢false (sym t))
 
 pub room_left : (f : Flavor) (lossy : Bool) (bytes rest out new : List ℕ) (c : ℕ) → IsStep f lossy bytes c rest →
@@ -128,15 +132,11 @@ pub written_text : (f : Flavor) (lossy : Bool) (bytes text out : List ℕ) → I
 written_text f lossy bytes text out h e =
     subst (IsDecodedText f lossy bytes) (sym (ap chars e ∙ chars_utf8 text h.0)) h
 
--- A byte is replaced where no character begins.
-utf8_replacement : utf8_of 0xFFFD ≡ 0xEF ∷ 0xBF ∷ 0xBD ∷ []
-unfolding utf8_of
-utf8_replacement = refl
-
 first_and_rest : (bytes : List ℕ) → 0 < length bytes → bytes ≡ get_or bytes 0 0 ∷ take (length bytes - 1) (drop 1 bytes)
 first_and_rest [] l = absurd (omega arith)
 first_and_rest (b ∷ bytes) l = ap (λ bs. b ∷ bs) (sym (take_rest (b ∷ bytes) 1))
 
+-- A byte is replaced where no character begins.
 pub replaced : (f : Flavor) (lossy : Bool) (bytes old out new : List ℕ) → 0 < length bytes → lossy ≡ true → NoneBegins f bytes →
     out ≡ old → new ≡ out ++ 0xEF ∷ 0xBF ∷ 0xBD ∷ [] →
     (c : ℕ) × IsStep f lossy bytes c (take (length bytes - 1) (drop 1 bytes)) × (new ≡ old ++ utf8_of c)
@@ -152,4 +152,4 @@ on_err (Ok x) P h = tt
 on_err (Err e) P h = h
 
 pub length_utf8_replaced : (text : List ℕ) → length (utf8 (0xFFFD ∷ text)) ≡ 3 + length (utf8 text)
-length_utf8_replaced text = omega (arith, length-append (utf8_of 0xFFFD) (utf8 text), utf8_of_replacement)
+length_utf8_replaced text = omega (arith, length-append (utf8_of 0xFFFD) (utf8 text), length_of_replacement)

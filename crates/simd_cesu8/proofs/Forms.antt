@@ -5,7 +5,7 @@ use Rattle.simd_cesu8.specs.Utf16.{units_of}
 use Rattle.simd_cesu8.specs.Encoding.{Flavor, Cesu8, Mutf8, short_form, form, encoding}
 use Rattle.simd_cesu8.proofs.Shapes.{IsTwo, IsThree, IsPair}
 
--- The bytes of one scalar value.
+-- The code units of one scalar value, and the bytes of one code unit.
 pub units_of_low : (c : ℕ) → c < 65536 → units_of c ≡ c ∷ []
 unfolding units_of
 units_of_low c h = rw (lt-ltb c 65536 h) refl

@@ -14,7 +14,7 @@ round_trip f text h = (
   (λ other k e. same_text f text other h k e),
 )
 
--- an encoding that is the text's UTF-8 needs nothing
+-- nothing needs encoding exactly where the encoding is the UTF-8
 pub needs : Needs
 needs f text h = (
   (λ n. encoding_same f text h n),
