@@ -1,11 +1,11 @@
 -- The bytes of an encoding: below F0 (hexadecimal), and in MUTF-8 none is 0.
-use Rattle.std.proofs.Common.{◌≡◌, ◌≢◌, ℕ, ◌+◌, ◌<◌, ◌⊎◌, List, [], ◌∷◌, refl, sym, ◌∙◌, subst, inl, inr, arith}
+use Rattle.std.proofs.Common.{◌≡◌, ◌≢◌, ℕ, ◌+◌, ◌<◌, ◌⊎◌, List, [], ◌∷◌, sym, ◌∙◌, subst, inl, inr, arith}
 use Rattle.std.specs.List.{All, Any}
 use Rattle.std.proofs.lemmas.List.Elements.{All-nil, All-cons, All-append}
 use Rattle.std.proofs.lemmas.Bool.{cases_eq}
 use Rattle.simd_cesu8.specs.Text.{IsText, utf8}
 use Rattle.simd_cesu8.specs.Encoding.{Flavor, Cesu8, Mutf8, encoding}
-use Rattle.simd_cesu8.specs.Laws.{NoZero, SameText}
+use Rattle.simd_cesu8.specs.Laws.{SameText}
 use Rattle.simd_cesu8.specs.Internal.{IsChangedByte}
 use Rattle.simd_cesu8.proofs.Shapes.{Shape, one, two, three, pair, shape}
 use Rattle.simd_cesu8.proofs.Forms.{encoding_one, encoding_two, encoding_three, encoding_pair, short_form_null, short_form_other}
@@ -60,12 +60,6 @@ encoded_bytes f (c ∷ text) h =
     rw (encoding_cons f c text)
     (All-append (IsEncodedByte f) (encoding f (c ∷ [])) (encoding f text) (bytes_by f c (shape c h.0)) (encoded_bytes f text h.1))
 
-pub no_zero : NoZero
-no_zero text h = (
-  (λ k d l. (encoded_bytes Mutf8 text h k d l).some refl),
-  (λ f k d l. (encoded_bytes f text h k d l).low),
-)
-
 -- No byte of an encoding shows a change.
 pub none_changed : (f : Flavor) (text : List ℕ) → IsText text → Any (IsChangedByte f) (encoding f text) → ⊥
 none_changed f text h found =
@@ -73,8 +67,8 @@ none_changed f text h found =
     unchanged f found.1 byte.low byte.some found.4
 
 -- So UTF-8 that is an encoding is that of its own text.
-pub same_text_law : SameText
-same_text_law f bytes text other u r =
+pub same_in_both : SameText
+same_in_both f bytes text other u r =
     let none : Any (IsChangedByte f) (utf8 text) → ⊥ = λ found.
     none_changed f other r.0 (subst (Any (IsChangedByte f)) (u.1 ∙ sym r.1) found) in
     same_text f text other u.0 r.0

@@ -6,10 +6,9 @@ use Rattle.simd_cesu8.specs.Encoding.{Flavor, encoding}
 use Rattle.simd_cesu8.specs.Reading.{BeginsWith, StandsAt, width}
 use Rattle.simd_cesu8.specs.Lossy.{reading}
 use Rattle.simd_cesu8.specs.Cutting.{Piece, Character, Replaced, ArePieces, bytes_of, text_of, IsGreedy}
-use Rattle.simd_cesu8.specs.Laws.{NoOverlap, OneMark, Places}
+use Rattle.simd_cesu8.specs.Laws.{NoOverlap, Places}
 use Rattle.simd_cesu8.proofs.Unique.{same_character}
 use Rattle.simd_cesu8.proofs.Inside.{none_inside}
-use Rattle.simd_cesu8.proofs.Marks.{mark_is, mark_from}
 use Rattle.simd_cesu8.proofs.Steps.{reading_nil, reading_character, reading_replaced}
 
 -- a character at a later place begins past the stretch of the earlier
@@ -33,9 +32,6 @@ no_overlap f bytes i j c d h k =
     (λ (l : i < j). inl (past f bytes i j c d h k l))
     (λ (l : j < i). inr (past f bytes j i d c k h l)) n))
     (cases_order i j)
-
-pub one_mark_law : OneMark
-one_mark_law f bytes i = (mark_is f bytes i, (λ other h. sym (mark_from f bytes i other h)))
 
 -- by the pieces, from the first on
 greedy_reading : (f : Flavor) (pieces : List Piece) → ArePieces pieces → IsGreedy f pieces →
