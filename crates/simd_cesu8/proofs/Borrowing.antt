@@ -41,6 +41,7 @@ pub built_lenient : (f : Flavor) (bytes : List ℕ) (r : Result CowText DecodeFa
 built_lenient f bytes (Ok answer) n h = inr (not_utf8_of bytes n, h)
 built_lenient f bytes (Err fault) n h = h
 
+-- The same of the answer that is built.
 pub built_refused : (f : Flavor) (bytes : List ℕ) (r : Result CowText DecodeFault) → (IsUtf8 bytes → ⊥) →
     IfErr r (λ fault. IfInvalid fault (HasNoStrictReading f bytes)) →
     IfErr r (λ fault. IfInvalid fault (HasNoLenientReading f bytes))

@@ -13,6 +13,7 @@ use Rattle.simd_cesu8.proofs.Encodings.{encoding_nil, encoding_cons}
 use Rattle.simd_cesu8.proofs.Needs.{unchanged, shows_need, encoding_same}
 use Rattle.simd_cesu8.proofs.Unique.{same_text}
 
+-- A byte that an encoding can have: below F0 (hexadecimal), and in MUTF-8 not 0.
 pub record IsEncodedByte (f : Flavor) (b : ℕ) : Type 0 where
   pub low : b < 240
   pub some : f ≡ Mutf8 → b ≢ 0
@@ -54,6 +55,7 @@ bytes_by f c (pair w x y z h) =
     (three_bytes f 237 (160 + w) (128 + x) (237 ∷ (176 + y) ∷ (128 + z) ∷ []) (omega arith) (omega arith) (omega arith) (omega arith) (omega arith) (omega arith)
     (three_bytes f 237 (176 + y) (128 + z) [] (omega arith) (omega arith) (omega arith) (omega arith) (omega arith) (omega arith) (All-nil (IsEncodedByte f))))
 
+-- Each byte of an encoding is such a byte.
 pub encoded_bytes : (f : Flavor) (text : List ℕ) → IsText text → All (IsEncodedByte f) (encoding f text)
 encoded_bytes f [] h = rw (encoding_nil f) (All-nil (IsEncodedByte f))
 encoded_bytes f (c ∷ text) h =

@@ -29,6 +29,7 @@ begins (c ∷ text) b bs h e = (
   },
 )
 
+-- UTF-8 that is not empty begins with a character.
 pub first_character : (b : ℕ) (bs : List ℕ) → IsUtf8 (b ∷ bs) → (c : ℕ) × (rest : List ℕ) × Begins c (b ∷ bs) rest
 first_character b bs h = begins (chars (b ∷ bs)) b bs (IsUtf8Of_chars (b ∷ bs) h) refl
 
@@ -134,9 +135,11 @@ lead f (b ∷ bs) h l = lead_says f (b ∷ bs) (front f b bs h)
 
 -- What the first character takes of the room, and what is left to write after it.
 module _ (f : Flavor) (bytes : List ℕ) (width : ℕ) (written : List ℕ) (h : Writes f bytes width written) where
+  -- the encoding is as long as what is written and the encoding of the rest
   pub room_of_written : length (encoding f (chars bytes)) ≡ length written + length (encoding f (chars (drop width bytes)))
   room_of_written = ap length h.encoded ∙ length-append written _
 
+  -- what was to be written is what is written and the encoding of the rest
   pub written_and_rest : (old new rest : List ℕ) → new ≡ old ++ written → rest ≡ drop width bytes →
       old ++ encoding f (chars bytes) ≡ new ++ encoding f (chars rest)
   written_and_rest old new rest e d = rw (e, d, h.encoded) (sym (append_assoc old written _))

@@ -23,6 +23,7 @@ past f bytes i j c d h k l =
     (λ (beyond : i + width f c ≤ j). beyond)
     (cases_lt j (i + width f c))
 
+-- The stretches of two characters are equal or disjoint.
 pub no_overlap : NoOverlap
 no_overlap f bytes i j c d h k =
     ⊎_elim
@@ -44,5 +45,6 @@ greedy_reading f (Character c ∷ pieces) h g =
 greedy_reading f (Replaced byte ∷ pieces) h g =
     rw (reading_replaced f byte (bytes_of f pieces) g.0) (ap (λ text. 0xFFFD ∷ text) (greedy_reading f pieces h.1 g.1))
 
+-- The text of a greedy cutting is the lossy reading.
 pub places : Places
 places f bytes pieces h g = greedy_reading f pieces h.0 g ∙ ap (reading f) h.1

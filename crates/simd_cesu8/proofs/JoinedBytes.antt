@@ -36,6 +36,7 @@ four_bytes s =
     ∷ bit_or (bit_or 128 (bit_and (slice_index_or s 1 0) 3 * 16 % 256)) (bit_and (slice_index_or s 2 0) 15)
     ∷ slice_index_or s 3 0 ∷ []
 
+-- They are the UTF-8 of the scalar value of the pair.
 pub four_bytes_are : (c w x y z : ℕ) (s : List ℕ) → IsPair c w x y z →
     s ≡ (160 + w) ∷ (128 + x) ∷ (176 + y) ∷ (128 + z) ∷ [] → four_bytes s ≡ utf8_of c
 four_bytes_are c w x y z s h e =

@@ -34,7 +34,7 @@ between low high x e =
 in_between : (low high x : ℕ) → (low ≤ x) × (x < high) → (leb low x && ltb x high) ≡ true
 in_between low high x h = and_from (leb low x) (ltb x high) (le-leb low x h.0) (lt-ltb x high h.1)
 
--- The four bytes of the word, in the order of the bytes.
+-- Four bytes whose word passes the test end a pair.
 pub word_ends_pair : (a b c d : ℕ) → a < 256 → b < 256 → c < 256 → d < 256 →
     bit_and (a * 16777216 + b * 65536 + c * 256 + d) 0xC0FFF0C0 ≡ 0x80EDB080 →
     EndsPair a b c d
@@ -50,6 +50,7 @@ word_ends_pair a b c d ha hb hc hd e =
       between 128 192 d (sym (continuation_test d hd) ∙ eq-eqb _ _ ed),
     )
 
+-- The word of four bytes that end a pair passes the test.
 pub pair_ends_word : (a b c d : ℕ) → a < 256 → b < 256 → c < 256 → d < 256 → EndsPair a b c d →
     bit_and (a * 16777216 + b * 65536 + c * 256 + d) 0xC0FFF0C0 ≡ 0x80EDB080
 pair_ends_word a b c d ha hb hc hd h =

@@ -55,6 +55,7 @@ six_by_digits f c w x y z h =
       sixth_byte z h.last,
     ) refl
 
+-- They are the encoding of the character whose UTF-8 is in s.
 pub six_bytes_are : (f : Flavor) (c : ℕ) (s : List ℕ) → 65536 ≤ c → c < 1114112 → utf8_of c ≡ s →
     six_bytes s ≡ encoding f (c ∷ [])
 six_bytes_are f c s low high e =

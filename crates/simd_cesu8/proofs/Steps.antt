@@ -135,6 +135,7 @@ reading_character f bytes c rest h =
     ∙ reading_parts f front rest (λ j d k l. none_crosses f c rest h.scalar j d k l)
     ∙ ap (λ ms. ms ++ reading f rest) (front_marks f (front ++ rest) c (width f c) rest whole (omega (arith, (length_of_character f c h.scalar).some, (length_of_character f c h.scalar).fits)) refl)
 
+-- The lossy reading of no bytes is empty.
 pub reading_nil : (f : Flavor) → reading f [] ≡ []
 unfolding reading
 reading_nil f = refl
