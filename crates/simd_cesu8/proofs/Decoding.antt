@@ -19,6 +19,7 @@ IsText_append : (s t : List ℕ) → IsText s → IsText t → IsText (s ++ t)
 IsText_append [] t h k = k
 IsText_append (c ∷ s) t h k = (h.0, IsText_append s t h.1 k)
 
+-- The UTF-8 of a concatenation is the concatenation of the UTF-8.
 pub utf8_append : (s t : List ℕ) → utf8 (s ++ t) ≡ utf8 s ++ utf8 t
 utf8_append s t = flat_map-append utf8_of s t
 
@@ -38,17 +39,22 @@ step_strict : (f : Flavor) (lossy : Bool) (bytes rest : List ℕ) (c : ℕ) → 
 step_strict f lossy bytes rest c (Read h) strict = h.bytes_are
 step_strict f lossy bytes rest c (Replace t _ _ _ _) strict = absurd (true≢false (sym t ∙ strict))
 
+-- A step leaves fewer bytes.
 pub shorter : (f : Flavor) (lossy : Bool) (bytes rest : List ℕ) (c : ℕ) → IsStep f lossy bytes c rest → length rest < length bytes
 shorter f lossy bytes rest c (Read h) =
     let long = length_of_character f c h.scalar in
     omega (arith, long.some, long.fits, ap length h.bytes_are, length-append (encoding f (c ∷ [])) rest)
 shorter f lossy bytes rest c (Replace _ _ _ b s) = omega (arith, ap length s)
 
--- What it needs of the room.
-utf8_of_replacement : length (utf8_of 0xFFFD) ≡ 3
+-- The UTF-8 of the replacement character, and its length.
+utf8_replacement : utf8_of 0xFFFD ≡ 0xEF ∷ 0xBF ∷ 0xBD ∷ []
 unfolding utf8_of
-utf8_of_replacement = refl
+utf8_replacement = refl
 
+length_of_replacement : length (utf8_of 0xFFFD) ≡ 3
+length_of_replacement = ap length utf8_replacement
+
+-- What a step needs of the room.
 room_of_step : (f : Flavor) (lossy : Bool) (bytes rest : List ℕ) (c : ℕ) → IsStep f lossy bytes c rest →
     length (utf8_of c) + room_of lossy (length rest) ≤ room_of lossy (length bytes)
 room_of_step f true bytes rest c (Read h) =
@@ -58,9 +64,10 @@ room_of_step f false bytes rest c (Read h) =
     let long = length_of_character f c h.scalar in
     omega (arith, long.fits, ap length h.bytes_are, length-append (encoding f (c ∷ [])) rest)
 room_of_step f true bytes rest c (Replace _ _ e b s) =
-    omega (arith, ap length s, utf8_of_replacement, ap (λ d. length (utf8_of d)) e)
+    omega (arith, ap length s, length_of_replacement, ap (λ d. length (utf8_of d)) e)
 room_of_step f false bytes rest c (Replace t _ _ _ _) = absurd (true≢false (sym t))
 
+-- What a step writes, and the room for what it leaves, fit the room that there was.
 pub room_left : (f : Flavor) (lossy : Bool) (bytes rest out new : List ℕ) (c : ℕ) → IsStep f lossy bytes c rest →
     new ≡ out ++ utf8_of c → length new + room_of lossy (length rest) ≤ length out + room_of lossy (length bytes)
 room_left f lossy bytes rest out new c h e =
@@ -74,6 +81,7 @@ pub record IsReadSoFar (f : Flavor) (lossy : Bool) (bytes rest old new : List �
   pub strict_reading : lossy ≡ false → bytes ≡ encoding f text ++ rest
   pub written : new ≡ old ++ utf8 text
 
+-- Before the first step nothing is read, and all bytes are left.
 pub nothing_read : (f : Flavor) (lossy : Bool) (bytes old : List ℕ) → IsReadSoFar f lossy bytes bytes old old
 nothing_read f lossy bytes old = record {
   text = [];
@@ -83,6 +91,7 @@ nothing_read f lossy bytes old = record {
   written = sym (append-nil old);
 }
 
+-- A step adds its character to the text.
 pub one_more : (f : Flavor) (lossy : Bool) (bytes rest after old out new : List ℕ) (c : ℕ) →
     IsReadSoFar f lossy bytes rest old out → IsStep f lossy rest c after → new ≡ out ++ utf8_of c →
     IsReadSoFar f lossy bytes after old new
@@ -97,7 +106,7 @@ one_more f lossy bytes rest after old out new c h s e = record {
       ∙ ap (λ bs. old ++ bs) (ap (λ bs. utf8 h.text ++ bs) (sym (append-nil (utf8_of c))) ∙ sym (utf8_append h.text (c ∷ [])));
 }
 
--- The end, and a fault.
+-- Where no bytes are left, the text so far is the decoded text.
 pub all_read : (f : Flavor) (lossy : Bool) (bytes rest old new : List ℕ) → IsReadSoFar f lossy bytes rest old new →
     length rest ≡ 0 → (text : List ℕ) × IsDecodedText f lossy bytes text × (new ≡ old ++ utf8 text)
 all_read f lossy bytes [] old new h e = (
@@ -111,32 +120,31 @@ all_read f lossy bytes [] old new h e = (
 )
 all_read f lossy bytes (b ∷ rest) old new h e = absurd (omega arith)
 
+-- Where no character begins what is left, the whole has no strict reading.
 pub fault_at : (f : Flavor) (lossy : Bool) (bytes rest old new : List ℕ) → IsReadSoFar f lossy bytes rest old new →
     (length rest ≡ 0 → ⊥) → lossy ≡ false → NoneBegins f rest → HasNoStrictReading f bytes
 fault_at f lossy bytes rest old new h l strict n =
     no_reading f bytes h.text rest h.scalars (h.strict_reading strict) (omega arith) n
 
--- What was written into nothing is UTF-8, and its text is the one that was read.
+-- What was written into nothing is the UTF-8 of the text.
 pub written_alone : (old out : List ℕ) (text : List ℕ) → out ≡ old ++ utf8 text → old ≡ [] → out ≡ utf8 text
 written_alone old out text e n = e ∙ ap (λ bs. bs ++ utf8 text) n
 
+-- Bytes that are the UTF-8 of a text are UTF-8.
 pub written_utf8 : (text out : List ℕ) → IsText text → out ≡ utf8 text → IsUtf8 out
 written_utf8 text out h e = subst IsUtf8 (sym e) (IsUtf8_utf8 text h)
 
+-- Where the text is a decoded one, so are the characters of its UTF-8.
 pub written_text : (f : Flavor) (lossy : Bool) (bytes text out : List ℕ) → IsDecodedText f lossy bytes text → out ≡ utf8 text →
     IsDecodedText f lossy bytes (chars out)
 written_text f lossy bytes text out h e =
     subst (IsDecodedText f lossy bytes) (sym (ap chars e ∙ chars_utf8 text h.0)) h
 
--- A byte is replaced where no character begins.
-utf8_replacement : utf8_of 0xFFFD ≡ 0xEF ∷ 0xBF ∷ 0xBD ∷ []
-unfolding utf8_of
-utf8_replacement = refl
-
 first_and_rest : (bytes : List ℕ) → 0 < length bytes → bytes ≡ get_or bytes 0 0 ∷ take (length bytes - 1) (drop 1 bytes)
 first_and_rest [] l = absurd (omega arith)
 first_and_rest (b ∷ bytes) l = ap (λ bs. b ∷ bs) (sym (take_rest (b ∷ bytes) 1))
 
+-- A byte is replaced where no character begins.
 pub replaced : (f : Flavor) (lossy : Bool) (bytes old out new : List ℕ) → 0 < length bytes → lossy ≡ true → NoneBegins f bytes →
     out ≡ old → new ≡ out ++ 0xEF ∷ 0xBF ∷ 0xBD ∷ [] →
     (c : ℕ) × IsStep f lossy bytes c (take (length bytes - 1) (drop 1 bytes)) × (new ≡ old ++ utf8_of c)
@@ -151,5 +159,6 @@ pub on_err : {T E : Type 0} (r : Result T E) (P : Type 0) → P → OnErr r P
 on_err (Ok x) P h = tt
 on_err (Err e) P h = h
 
+-- A replacement character at the front takes three bytes of UTF-8.
 pub length_utf8_replaced : (text : List ℕ) → length (utf8 (0xFFFD ∷ text)) ≡ 3 + length (utf8 text)
-length_utf8_replaced text = omega (arith, length-append (utf8_of 0xFFFD) (utf8 text), utf8_of_replacement)
+length_utf8_replaced text = omega (arith, length-append (utf8_of 0xFFFD) (utf8 text), length_of_replacement)

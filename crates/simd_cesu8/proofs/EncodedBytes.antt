@@ -1,27 +1,22 @@
 -- The bytes of an encoding: below F0 (hexadecimal), and in MUTF-8 none is 0.
-use Rattle.std.proofs.Common.{◌≡◌, ◌≢◌, ℕ, ◌+◌, ◌<◌, ◌⊎◌, List, [], ◌∷◌, refl, sym, ◌∙◌, subst, inl, inr, ⊎_elim, arith}
+use Rattle.std.proofs.Common.{◌≡◌, ◌≢◌, ℕ, ◌+◌, ◌<◌, ◌⊎◌, List, [], ◌∷◌, sym, ◌∙◌, subst, inl, inr, arith}
 use Rattle.std.specs.List.{All, Any}
-use Rattle.std.proofs.lemmas.List.Elements.{All-cons, All-append}
-use Rattle.std.proofs.lemmas.Bool.{cases_eq, eqb-true, or_cases}
+use Rattle.std.proofs.lemmas.List.Elements.{All-nil, All-cons, All-append}
+use Rattle.std.proofs.lemmas.Bool.{cases_eq}
 use Rattle.simd_cesu8.specs.Text.{IsText, utf8}
 use Rattle.simd_cesu8.specs.Encoding.{Flavor, Cesu8, Mutf8, encoding}
-use Rattle.simd_cesu8.specs.Laws.{NoZero, SameText}
+use Rattle.simd_cesu8.specs.Laws.{SameText}
 use Rattle.simd_cesu8.specs.Internal.{IsChangedByte}
 use Rattle.simd_cesu8.proofs.Shapes.{Shape, one, two, three, pair, shape}
 use Rattle.simd_cesu8.proofs.Forms.{encoding_one, encoding_two, encoding_three, encoding_pair, short_form_null, short_form_other}
 use Rattle.simd_cesu8.proofs.Encodings.{encoding_nil, encoding_cons}
-use Rattle.simd_cesu8.proofs.Needs.{not_four, shows_need, encoding_same}
+use Rattle.simd_cesu8.proofs.Needs.{unchanged, shows_need, encoding_same}
 use Rattle.simd_cesu8.proofs.Unique.{same_text}
 
+-- A byte that an encoding can have: below F0 (hexadecimal), and in MUTF-8 not 0.
 pub record IsEncodedByte (f : Flavor) (b : ℕ) : Type 0 where
   pub low : b < 240
   pub some : f ≡ Mutf8 → b ≢ 0
-
-nil : (f : Flavor) → All (IsEncodedByte f) []
-nil f k d l = absurd (omega arith)
-
-put : (f : Flavor) (b : ℕ) (bs : List ℕ) → IsEncodedByte f b → All (IsEncodedByte f) bs → All (IsEncodedByte f) (b ∷ bs)
-put f b bs h k = All-cons (IsEncodedByte f) b bs h k
 
 -- a byte that is not 0 serves both flavors
 byte : (f : Flavor) (b : ℕ) → 0 < b → b < 240 → IsEncodedByte f b
@@ -29,59 +24,54 @@ byte f b l h = record { low = h; some = λ _ e. omega arith }
 
 bytes_one : (f : Flavor) (c : ℕ) → c < 128 → (c ≡ 0) ⊎ (c ≡ 0 → ⊥) → All (IsEncodedByte f) (encoding f (c ∷ []))
 bytes_one Cesu8 c h _ =
-    rw (encoding_one Cesu8 c h) (put Cesu8 c [] (record { low = omega arith; some = λ e. absurd (cc) }) (nil Cesu8))
+    rw (encoding_one Cesu8 c h)
+    (All-cons (IsEncodedByte Cesu8) c [] (record { low = omega arith; some = λ e. absurd (cc) }) (All-nil (IsEncodedByte Cesu8)))
 bytes_one Mutf8 c h (inl z) =
     rw (encoding_one Mutf8 c h, short_form_null c z)
-    (put Mutf8 192 (128 ∷ []) (byte Mutf8 192 (omega arith) (omega arith))
-    (put Mutf8 128 [] (byte Mutf8 128 (omega arith) (omega arith)) (nil Mutf8)))
+    (All-cons (IsEncodedByte Mutf8) 192 (128 ∷ []) (byte Mutf8 192 (omega arith) (omega arith))
+    (All-cons (IsEncodedByte Mutf8) 128 [] (byte Mutf8 128 (omega arith) (omega arith)) (All-nil (IsEncodedByte Mutf8))))
 bytes_one Mutf8 c h (inr n) =
     rw (encoding_one Mutf8 c h, short_form_other Mutf8 c n)
-    (put Mutf8 c [] (record { low = omega arith; some = λ _. n }) (nil Mutf8))
+    (All-cons (IsEncodedByte Mutf8) c [] (record { low = omega arith; some = λ _. n }) (All-nil (IsEncodedByte Mutf8)))
 
 three_bytes : (f : Flavor) (a b d : ℕ) (rest : List ℕ) → 0 < a → a < 240 → 0 < b → b < 240 → 0 < d → d < 240 →
     All (IsEncodedByte f) rest → All (IsEncodedByte f) (a ∷ b ∷ d ∷ rest)
 three_bytes f a b d rest la ha lb hb ld hd h =
-    put f a (b ∷ d ∷ rest) (byte f a la ha) (put f b (d ∷ rest) (byte f b lb hb) (put f d rest (byte f d ld hd) h))
+    All-cons (IsEncodedByte f) a (b ∷ d ∷ rest) (byte f a la ha)
+    (All-cons (IsEncodedByte f) b (d ∷ rest) (byte f b lb hb)
+    (All-cons (IsEncodedByte f) d rest (byte f d ld hd) h))
 
 bytes_by : (f : Flavor) (c : ℕ) → Shape c → All (IsEncodedByte f) (encoding f (c ∷ []))
 bytes_by f c (one h) = bytes_one f c h (cases_eq c 0)
 bytes_by f c (two x y h) =
     rw (encoding_two f c x y h)
-    (put f (192 + x) ((128 + y) ∷ []) (byte f (192 + x) (omega arith) (omega arith))
-    (put f (128 + y) [] (byte f (128 + y) (omega arith) (omega arith)) (nil f)))
+    (All-cons (IsEncodedByte f) (192 + x) ((128 + y) ∷ []) (byte f (192 + x) (omega arith) (omega arith))
+    (All-cons (IsEncodedByte f) (128 + y) [] (byte f (128 + y) (omega arith) (omega arith)) (All-nil (IsEncodedByte f))))
 bytes_by f c (three x y z h) =
     rw (encoding_three f c x y z h)
-    (three_bytes f (224 + x) (128 + y) (128 + z) [] (omega arith) (omega arith) (omega arith) (omega arith) (omega arith) (omega arith) (nil f))
+    (three_bytes f (224 + x) (128 + y) (128 + z) [] (omega arith) (omega arith) (omega arith) (omega arith) (omega arith) (omega arith) (All-nil (IsEncodedByte f)))
 bytes_by f c (pair w x y z h) =
     rw (encoding_pair f c w x y z h)
     (three_bytes f 237 (160 + w) (128 + x) (237 ∷ (176 + y) ∷ (128 + z) ∷ []) (omega arith) (omega arith) (omega arith) (omega arith) (omega arith) (omega arith)
-    (three_bytes f 237 (176 + y) (128 + z) [] (omega arith) (omega arith) (omega arith) (omega arith) (omega arith) (omega arith) (nil f)))
+    (three_bytes f 237 (176 + y) (128 + z) [] (omega arith) (omega arith) (omega arith) (omega arith) (omega arith) (omega arith) (All-nil (IsEncodedByte f))))
 
+-- Each byte of an encoding is such a byte.
 pub encoded_bytes : (f : Flavor) (text : List ℕ) → IsText text → All (IsEncodedByte f) (encoding f text)
-encoded_bytes f [] h = rw (encoding_nil f) (nil f)
+encoded_bytes f [] h = rw (encoding_nil f) (All-nil (IsEncodedByte f))
 encoded_bytes f (c ∷ text) h =
     rw (encoding_cons f c text)
     (All-append (IsEncodedByte f) (encoding f (c ∷ [])) (encoding f text) (bytes_by f c (shape c h.0)) (encoded_bytes f text h.1))
 
-pub no_zero : NoZero
-no_zero text h = (
-  (λ k d l. (encoded_bytes Mutf8 text h k d l).some refl),
-  (λ f k d l. (encoded_bytes f text h k d l).low),
-)
-
 -- No byte of an encoding shows a change.
-not_changed : (f : Flavor) (b : ℕ) → IsEncodedByte f b → IsChangedByte f b → ⊥
-not_changed Cesu8 b h p = not_four b h.low p
-not_changed Mutf8 b h p = ⊎_elim (λ e. h.some refl (eqb-true b 0 e)) (λ q. not_four b h.low q) (or_cases _ _ p)
-
 pub none_changed : (f : Flavor) (text : List ℕ) → IsText text → Any (IsChangedByte f) (encoding f text) → ⊥
 none_changed f text h found =
-    not_changed f found.1 (subst (IsEncodedByte f) found.3 (encoded_bytes f text h found.0 found.1 found.2)) found.4
+    let byte = subst (IsEncodedByte f) found.3 (encoded_bytes f text h found.0 found.1 found.2) in
+    unchanged f found.1 byte.low byte.some found.4
 
 -- So UTF-8 that is an encoding is that of its own text.
-pub same_text_law : SameText
-same_text_law f bytes text other u r =
-    let unchanged : Any (IsChangedByte f) (utf8 text) → ⊥ = λ found.
+pub same_in_both : SameText
+same_in_both f bytes text other u r =
+    let none : Any (IsChangedByte f) (utf8 text) → ⊥ = λ found.
     none_changed f other r.0 (subst (Any (IsChangedByte f)) (u.1 ∙ sym r.1) found) in
     same_text f text other u.0 r.0
-    (encoding_same f text u.0 (λ needs. unchanged ((shows_need f text u.0).1 needs)) ∙ u.1 ∙ sym r.1)
+    (encoding_same f text u.0 (λ needs. none ((shows_need f text u.0).1 needs)) ∙ u.1 ∙ sym r.1)

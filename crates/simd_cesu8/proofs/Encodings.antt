@@ -7,6 +7,7 @@ use Rattle.std.proofs.lemmas.List.Concat.{flat_map-append}
 use Rattle.simd_cesu8.specs.Utf16.{units_of, units}
 use Rattle.simd_cesu8.specs.Encoding.{Flavor, form, encoding}
 
+-- The encoding of the empty text is empty.
 pub encoding_nil : (f : Flavor) → encoding f [] ≡ []
 unfolding encoding
 encoding_nil f = refl
@@ -17,6 +18,7 @@ unfolding encoding
 encoding_append f s t =
     ap (flat_map (form f)) (flat_map-append units_of s t) ∙ flat_map-append (form f) (units s) (units t)
 
+-- The encoding of a text is that of its first scalar value, and then that of the others.
 pub encoding_cons : (f : Flavor) (c : ℕ) (text : List ℕ) →
     encoding f (c ∷ text) ≡ encoding f (c ∷ []) ++ encoding f text
 encoding_cons f c text = encoding_append f (c ∷ []) text
@@ -27,5 +29,6 @@ pub nothing_left : (f : Flavor) (whole rest out : List ℕ) → length rest ≡ 
 nothing_left f whole [] out e h = sym (h ∙ rw (chars-nil, encoding_nil f) (append-nil out))
 nothing_left f whole (b ∷ rest) out e h = absurd (omega arith)
 
+-- Where two lists that are cut in two are equal, so are the sums of the lengths of their parts.
 pub lengths_of_parts : (a b c d : List ℕ) → a ++ b ≡ c ++ d → length a + length b ≡ length c + length d
 lengths_of_parts a b c d e = sym (length-append a b) ∙ ap length e ∙ length-append c d

@@ -5,11 +5,12 @@ use Rattle.simd_cesu8.specs.Utf16.{units_of}
 use Rattle.simd_cesu8.specs.Encoding.{Flavor, Cesu8, Mutf8, short_form, form, encoding}
 use Rattle.simd_cesu8.proofs.Shapes.{IsTwo, IsThree, IsPair}
 
--- The bytes of one scalar value.
+-- The code units of one scalar value, and the bytes of one code unit.
 pub units_of_low : (c : ℕ) → c < 65536 → units_of c ≡ c ∷ []
 unfolding units_of
 units_of_low c h = rw (lt-ltb c 65536 h) refl
 
+-- A code unit below 80 (hexadecimal) has the short form, and the others have two or three bytes.
 pub form_short : (f : Flavor) (u : ℕ) → u < 128 → form f u ≡ short_form f u
 unfolding form
 form_short f u h = rw (lt-ltb u 128 h) refl
@@ -34,6 +35,7 @@ form_three f c x y z h =
 three_digits : (u x y z : ℕ) → u ≡ x * 4096 + y * 64 + z → 2048 ≤ u → x < 16 → y < 64 → z < 64 → IsThree u x y z
 three_digits u x y z e low hx hy hz = record { value = e; low = low; high = hx; middle = hy; last = hz }
 
+-- A scalar value from 10000 (hexadecimal) on has a high and a low surrogate.
 pub units_of_pair : (c w x y z : ℕ) → IsPair c w x y z →
     units_of c ≡ (55296 + (w * 64 + x)) ∷ (56320 + (y * 64 + z)) ∷ []
 unfolding units_of
@@ -42,11 +44,12 @@ units_of_pair c w x y z h =
     let e1 : (c - 65536) % 1024 ≡ y * 64 + z = omega arith in
     rw (le-ltb c 65536 (omega arith), e0, e1) refl
 
--- Encodings of one scalar value.
+-- below that it has the form of its one code unit
 one_unit : (f : Flavor) (c : ℕ) → c < 65536 → encoding f (c ∷ []) ≡ form f c ++ []
 unfolding encoding
 one_unit f c h = rw (units_of_low c h) refl
 
+-- The encoding of one scalar value: of one byte, of two, of three, and as a surrogate pair.
 pub encoding_one : (f : Flavor) (c : ℕ) → c < 128 → encoding f (c ∷ []) ≡ short_form f c
 encoding_one f c h = one_unit f c (omega arith) ∙ append-nil _ ∙ form_short f c h
 
@@ -67,10 +70,11 @@ encoding_pair f c w x y z h =
     let e1 : 128 + (48 + y) ≡ 176 + y = omega arith in
     rw (units_of_pair c w x y z h, form_three f _ 13 (32 + w) x high, form_three f _ 13 (48 + y) z low, e0, e1) refl
 
--- The one code unit that MUTF-8 writes otherwise, and the others.
+-- The code unit 0 has two bytes in MUTF-8.
 pub short_form_null : (u : ℕ) → u ≡ 0 → short_form Mutf8 u ≡ 192 ∷ 128 ∷ []
 short_form_null u e = rw e refl
 
+-- Every other code unit is its short form, as one byte.
 pub short_form_other : (f : Flavor) (u : ℕ) → (u ≡ 0 → ⊥) → short_form f u ≡ u ∷ []
 short_form_other Cesu8 u n = refl
 short_form_other Mutf8 u n = rw (ne_eqb u 0 n) refl

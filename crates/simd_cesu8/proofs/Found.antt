@@ -23,6 +23,7 @@ copied f c n bytes front s e t enc utf = record {
   utf8_is = t ∙ sym utf;
 }
 
+-- A byte below 80 (hexadecimal) that is its own short form is a character.
 pub found_one : (f : Flavor) (bytes : List ℕ) → 0 < length bytes → get_or bytes 0 0 < 128 →
     short_form f (get_or bytes 0 0) ≡ get_or bytes 0 0 ∷ [] → Found f bytes 1 (take 1 bytes)
 found_one f [] l h e = absurd (omega arith)
@@ -42,10 +43,12 @@ found_null_at (a ∷ b ∷ bytes) l h e = record {
   utf8_is = sym (utf8_of_one 0 (omega arith));
 }
 
+-- C0 80 (hexadecimal) is the null character of MUTF-8.
 pub found_null : (f : Flavor) (bytes : List ℕ) → f ≡ Mutf8 → 2 ≤ length bytes → get_or bytes 0 0 ≡ 192 →
     get_or bytes 1 0 ≡ 128 → Found f bytes 2 (0 ∷ [])
 found_null f bytes m l h e = subst (λ g. Found g bytes 2 (0 ∷ [])) (sym m) (found_null_at bytes l h e)
 
+-- A lead byte of two and a continuation byte are a character.
 pub found_two : (f : Flavor) (bytes : List ℕ) → 2 ≤ length bytes → 194 ≤ get_or bytes 0 0 → get_or bytes 0 0 < 224 →
     IsContinuation (get_or bytes 1 0) → Found f bytes 2 (take 2 bytes)
 found_two f [] l low high h = absurd (omega arith)
@@ -77,6 +80,7 @@ scalar_of_three a b d low high h k q =
     (λ (l : 237 ≤ a). ⊎_elim (λ e. inl (omega (arith, q e, k.1))) (λ n. inr (omega (arith, h.0), omega (arith, h.1, k.1))) (cases_eq a 237))
     (cases_lt a 237)
 
+-- A lead byte of three and two continuation bytes are a character that needs three and is no surrogate.
 pub found_three : (f : Flavor) (bytes : List ℕ) → 3 ≤ length bytes → 224 ≤ get_or bytes 0 0 → get_or bytes 0 0 < 240 →
     IsContinuation (get_or bytes 1 0) → IsContinuation (get_or bytes 2 0) →
     (get_or bytes 0 0 ≡ 224 → 160 ≤ get_or bytes 1 0) → (get_or bytes 0 0 ≡ 237 → get_or bytes 1 0 < 160) →
@@ -96,10 +100,11 @@ found_three f (a ∷ b ∷ d ∷ bytes) l low high h k p q =
     copied f c 3 (a ∷ b ∷ d ∷ bytes) (a ∷ b ∷ d ∷ []) (scalar_of_three a b d low high h k q) refl refl
     (encoding_three f c _ _ _ digits ∙ same) (utf8_of_three c _ _ _ digits ∙ same)
 
--- The digits that six bytes of a surrogate pair have.
+-- The scalar value of a surrogate pair, by its digits.
 pub pair_value : ℕ → ℕ → ℕ → ℕ → ℕ
 pair_value w x y z = 65536 + w * 65536 + x * 1024 + y * 64 + z
 
+-- It has these digits.
 pub pair_of : (w x y z : ℕ) → w < 16 → x < 64 → y < 16 → z < 64 → IsPair (pair_value w x y z) w x y z
 unfolding pair_value
 pair_of w x y z hw hx hy hz = record { value = refl; first = hw; second = hx; third = hy; last = hz }
@@ -127,6 +132,7 @@ found_six f a b d e g h rest written lead low high ends joins =
       utf8_is = joins _ _ _ _ _ digits (rw (e1, e2, e4, e5) refl);
     }
 
+-- Six bytes with the pattern of a surrogate pair are a character.
 pub found_pair : (f : Flavor) (bytes written : List ℕ) → 6 ≤ length bytes → get_or bytes 0 0 ≡ 237 → 160 ≤ get_or bytes 1 0 →
     get_or bytes 1 0 < 176 → EndsPair (get_or bytes 2 0) (get_or bytes 3 0) (get_or bytes 4 0) (get_or bytes 5 0) →
     Joins (get_or bytes 1 0 ∷ get_or bytes 2 0 ∷ get_or bytes 4 0 ∷ get_or bytes 5 0 ∷ []) written → Found f bytes 6 written

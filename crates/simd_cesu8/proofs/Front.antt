@@ -29,6 +29,7 @@ begins (c ∷ text) b bs h e = (
   },
 )
 
+-- UTF-8 that is not empty begins with a character.
 pub first_character : (b : ℕ) (bs : List ℕ) → IsUtf8 (b ∷ bs) → (c : ℕ) × (rest : List ℕ) × Begins c (b ∷ bs) rest
 first_character b bs h = begins (chars (b ∷ bs)) b bs (IsUtf8Of_chars (b ∷ bs) h) refl
 
@@ -88,11 +89,11 @@ writes f bytes rest written width long e h = record {
 }
 
 -- What a lead byte says of its character.
-record LeadSays (f : Flavor) (bytes : List ℕ) : Type 0 where
-  of_one : get_or bytes 0 0 < 128 → Writes f bytes 1 (short_form f (get_or bytes 0 0))
-  of_two : 128 ≤ get_or bytes 0 0 → get_or bytes 0 0 < 224 → Writes f bytes 2 (take 2 bytes)
-  of_three : 224 ≤ get_or bytes 0 0 → get_or bytes 0 0 < 240 → Writes f bytes 3 (take 3 bytes)
-  of_four : 240 ≤ get_or bytes 0 0 → (c : ℕ) × (65536 ≤ c) × (c < 1114112) × (utf8_of c ≡ take 4 bytes)
+pub record LeadSays (f : Flavor) (bytes : List ℕ) : Type 0 where
+  pub of_one : get_or bytes 0 0 < 128 → Writes f bytes 1 (short_form f (get_or bytes 0 0))
+  pub of_two : 128 ≤ get_or bytes 0 0 → get_or bytes 0 0 < 224 → Writes f bytes 2 (take 2 bytes)
+  pub of_three : 224 ≤ get_or bytes 0 0 → get_or bytes 0 0 < 240 → Writes f bytes 3 (take 3 bytes)
+  pub of_four : 240 ≤ get_or bytes 0 0 → (c : ℕ) × (65536 ≤ c) × (c < 1114112) × (utf8_of c ≡ take 4 bytes)
       × Writes f bytes 4 (encoding f (c ∷ []))
 
 lead_says : (f : Flavor) (bytes : List ℕ) → Front f bytes → LeadSays f bytes
@@ -127,30 +128,18 @@ lead_says f bytes (front_four scalar a b c d rest l low high u e s) = subst (Lea
   );
 })
 
-lead : (f : Flavor) (bytes : List ℕ) → IsUtf8 bytes → 0 < length bytes → LeadSays f bytes
+-- UTF-8 that is not empty has such a lead byte.
+pub lead : (f : Flavor) (bytes : List ℕ) → IsUtf8 bytes → 0 < length bytes → LeadSays f bytes
 lead f [] h l = absurd (omega arith)
 lead f (b ∷ bs) h l = lead_says f (b ∷ bs) (front f b bs h)
 
--- The first character, by its lead byte.
-module _ (f : Flavor) (bytes : List ℕ) (utf8 : IsUtf8 bytes) (nonempty : 0 < length bytes) where
-  pub lead_one : get_or bytes 0 0 < 128 → Writes f bytes 1 (short_form f (get_or bytes 0 0))
-  lead_one = (lead f bytes utf8 nonempty).of_one
-
-  pub lead_two : 128 ≤ get_or bytes 0 0 → get_or bytes 0 0 < 224 → Writes f bytes 2 (take 2 bytes)
-  lead_two = (lead f bytes utf8 nonempty).of_two
-
-  pub lead_three : 224 ≤ get_or bytes 0 0 → get_or bytes 0 0 < 240 → Writes f bytes 3 (take 3 bytes)
-  lead_three = (lead f bytes utf8 nonempty).of_three
-
-  pub lead_four : 240 ≤ get_or bytes 0 0 → (c : ℕ) × (65536 ≤ c) × (c < 1114112) × (utf8_of c ≡ take 4 bytes)
-      × Writes f bytes 4 (encoding f (c ∷ []))
-  lead_four = (lead f bytes utf8 nonempty).of_four
-
 -- What the first character takes of the room, and what is left to write after it.
 module _ (f : Flavor) (bytes : List ℕ) (width : ℕ) (written : List ℕ) (h : Writes f bytes width written) where
+  -- the encoding is as long as what is written and the encoding of the rest
   pub room_of_written : length (encoding f (chars bytes)) ≡ length written + length (encoding f (chars (drop width bytes)))
   room_of_written = ap length h.encoded ∙ length-append written _
 
+  -- what was to be written is what is written and the encoding of the rest
   pub written_and_rest : (old new rest : List ℕ) → new ≡ old ++ written → rest ≡ drop width bytes →
       old ++ encoding f (chars bytes) ≡ new ++ encoding f (chars rest)
   written_and_rest old new rest e d = rw (e, d, h.encoded) (sym (append_assoc old written _))

@@ -6,10 +6,9 @@ use Rattle.simd_cesu8.specs.Encoding.{Flavor, encoding}
 use Rattle.simd_cesu8.specs.Reading.{BeginsWith, StandsAt, width}
 use Rattle.simd_cesu8.specs.Lossy.{reading}
 use Rattle.simd_cesu8.specs.Cutting.{Piece, Character, Replaced, ArePieces, bytes_of, text_of, IsGreedy}
-use Rattle.simd_cesu8.specs.Laws.{NoOverlap, OneMark, Places}
+use Rattle.simd_cesu8.specs.Laws.{NoOverlap, Places}
 use Rattle.simd_cesu8.proofs.Unique.{same_character}
 use Rattle.simd_cesu8.proofs.Inside.{none_inside}
-use Rattle.simd_cesu8.proofs.Marks.{mark_is, mark_from}
 use Rattle.simd_cesu8.proofs.Steps.{reading_nil, reading_character, reading_replaced}
 
 -- a character at a later place begins past the stretch of the earlier
@@ -24,6 +23,7 @@ past f bytes i j c d h k l =
     (λ (beyond : i + width f c ≤ j). beyond)
     (cases_lt j (i + width f c))
 
+-- The stretches of two characters are equal or disjoint.
 pub no_overlap : NoOverlap
 no_overlap f bytes i j c d h k =
     ⊎_elim
@@ -33,9 +33,6 @@ no_overlap f bytes i j c d h k =
     (λ (l : i < j). inl (past f bytes i j c d h k l))
     (λ (l : j < i). inr (past f bytes j i d c k h l)) n))
     (cases_order i j)
-
-pub one_mark_law : OneMark
-one_mark_law f bytes i = (mark_is f bytes i, (λ other h. sym (mark_from f bytes i other h)))
 
 -- by the pieces, from the first on
 greedy_reading : (f : Flavor) (pieces : List Piece) → ArePieces pieces → IsGreedy f pieces →
@@ -48,5 +45,6 @@ greedy_reading f (Character c ∷ pieces) h g =
 greedy_reading f (Replaced byte ∷ pieces) h g =
     rw (reading_replaced f byte (bytes_of f pieces) g.0) (ap (λ text. 0xFFFD ∷ text) (greedy_reading f pieces h.1 g.1))
 
+-- The text of a greedy cutting is the lossy reading.
 pub places : Places
 places f bytes pieces h g = greedy_reading f pieces h.0 g ∙ ap (reading f) h.1

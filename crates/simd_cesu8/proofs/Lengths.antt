@@ -15,11 +15,13 @@ pub data Change (f : Flavor) (c : ℕ) : Type 0 where
   longer : IsEncodedOtherwise f c → length (utf8_of c) < length (encoding f (c ∷ [])) →
       length (encoding f (c ∷ [])) ≤ 2 * length (utf8_of c) → Change f c
 
+-- Between 0 and 10000 (hexadecimal) no scalar value is encoded otherwise.
 pub not_otherwise : (f : Flavor) (c : ℕ) → 0 < c → c < 65536 → IsEncodedOtherwise f c → ⊥
 not_otherwise Cesu8 c l h e = omega arith
 not_otherwise Mutf8 c l h (inl e) = omega arith
 not_otherwise Mutf8 c l h (inr e) = omega arith
 
+-- From 10000 (hexadecimal) on each is.
 pub otherwise : (f : Flavor) (c : ℕ) → 65536 ≤ c → IsEncodedOtherwise f c
 otherwise Cesu8 c h = h
 otherwise Mutf8 c h = inr h
@@ -45,6 +47,7 @@ change_by f c (pair w x y z h) =
     let six : length (encoding f (c ∷ [])) ≡ 6 = ap length (encoding_pair f c w x y z h) in
     longer (otherwise f c (omega arith)) (omega arith) (omega arith)
 
+-- Each scalar value is encoded in one of these ways.
 pub change : (f : Flavor) (c : ℕ) → IsScalarValue c → Change f c
 change f c h = change_by f c (shape c h)
 
@@ -65,6 +68,7 @@ bounds_cons f c text (longer _ l u) h =
     let sum' : length (utf8 (c ∷ text)) ≡ length (utf8_of c) + length (utf8 text) = length-append (utf8_of c) (utf8 text) in
     record { low = omega arith; high = omega arith }
 
+-- Each text has an encoding within these bounds.
 pub bounds : (f : Flavor) (text : List ℕ) → IsText text → Bounds f text
 bounds f [] h =
     let none : length (encoding f []) ≡ 0 = ap length (encoding_nil f) in
@@ -92,5 +96,6 @@ fits_by : (f : Flavor) (c : ℕ) → Change f c → length (utf8_of c) ≤ lengt
 fits_by f c (same _ e) = omega (arith, ap length e)
 fits_by f c (longer _ l _) = omega arith
 
+-- Each scalar value has these lengths.
 pub length_of_character : (f : Flavor) (c : ℕ) → IsScalarValue c → CharacterLengths f c
 length_of_character f c h = record { some = some_utf8 c (shape c h); fits = fits_by f c (change f c h) }

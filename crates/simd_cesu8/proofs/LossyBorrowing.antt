@@ -1,20 +1,19 @@
 -- In UTF-8 a replaced byte only lengthens the lossy reading, so that equals its input only where no byte
 -- of the input is written otherwise.
-use Rattle.std.proofs.Common.{◌≡◌, ℕ, ◌+◌, ◌*◌, ◌/◌, ◌%◌, ◌<◌, ◌≤◌, ◌⊎◌, ◌↔◌, false, List, [], ◌∷◌, ◌++◌, Result, Ok, Err, IfOk, IsTrue, refl, sym, ap, ◌∙◌, subst, inl, inr, ⊎_elim, arith, length, length-append}
+use Rattle.std.proofs.Common.{◌≡◌, ℕ, ◌+◌, ◌*◌, ◌/◌, ◌%◌, ◌<◌, ◌≤◌, ◌⊎◌, List, [], ◌∷◌, ◌++◌, Result, Ok, Err, IfOk, refl, sym, ap, ◌∙◌, subst, inl, inr, ⊎_elim, arith, length, length-append}
 use Rattle.std.specs.Str.{chars, IsUtf8}
 use Rattle.std.specs.List.{Any}
-use Rattle.std.proofs.lemmas.Bool.{false≢true}
-use Rattle.simd_cesu8.specs.Text.{IsScalarValue, IsText, utf8_of, utf8, IsUtf8Of}
+use Rattle.simd_cesu8.specs.Text.{IsScalarValue, IsText, utf8_of, utf8}
 use Rattle.simd_cesu8.specs.Encoding.{Flavor, Cesu8, Mutf8, encoding, IsEncodedOtherwise, NeedsEncoding}
 use Rattle.simd_cesu8.specs.Reading.{NoneBegins}
 use Rattle.simd_cesu8.specs.Lossy.{reading, IsLenientLossyReading}
-use Rattle.simd_cesu8.specs.Answer.{answer_text, borrows_text}
+use Rattle.simd_cesu8.specs.Answer.{answer_text}
 use Rattle.simd_cesu8.specs.declared.cow.CowText.{CowText}
-use Rattle.simd_cesu8.proofs.StdUtf8.{IsUtf8Of_chars}
+use Rattle.simd_cesu8.proofs.StdUtf8.{IsUtf8Of_chars, not_utf8_of}
 use Rattle.simd_cesu8.proofs.Shapes.{Shape, one, two, three, pair, shape, utf8_of_one, utf8_of_pair}
 use Rattle.simd_cesu8.proofs.Lengths.{Change, same, longer, change, not_otherwise}
 use Rattle.simd_cesu8.proofs.Encodings.{encoding_nil, encoding_cons}
-use Rattle.simd_cesu8.proofs.Borrowing.{unchanged_reading, not_utf8_of}
+use Rattle.simd_cesu8.proofs.Borrowing.{unchanged_reading}
 use Rattle.simd_cesu8.proofs.Elements.{any_cons, any_nil}
 use Rattle.simd_cesu8.proofs.Needs.{IsChangedByte, needs_by_bytes}
 use Rattle.simd_cesu8.proofs.NoneFound.{none_by_lead, none_by_zero}
@@ -101,15 +100,15 @@ unfolding size
 too_long f text e m = omega (arith, ap (λ cs. length (utf8 cs)) e)
 
 -- The lossy reading of other bytes than unchanged UTF-8 is not the input.
-pub changed_reading : (f : Flavor) (bytes text : List ℕ) → IsUtf8 text → chars text ≡ reading f bytes →
-    Any (IsChangedByte f) bytes ⊎ (IsUtf8 bytes → ⊥) → text ≡ bytes → ⊥
-changed_reading f bytes text h r (inl changed) e =
+pub changed_reading : (f : Flavor) (bytes : List ℕ) → Any (IsChangedByte f) bytes ⊎ (IsUtf8 bytes → ⊥) → (text : List ℕ) →
+    IsUtf8 text → chars text ≡ reading f bytes → text ≡ bytes → ⊥
+changed_reading f bytes (inl changed) text h r e =
     let utf8_bytes = subst IsUtf8 e h in
     let of_chars = IsUtf8Of_chars bytes utf8_bytes in
     let same : reading f (utf8 (chars bytes)) ≡ chars bytes = ap (reading f) of_chars.1 ∙ sym r ∙ ap chars e in
     let more = (sizes f (chars bytes) of_chars.0).needs ((needs_by_bytes f bytes utf8_bytes).0 changed) in
     too_long f (chars bytes) same more
-changed_reading f bytes text h r (inr n) e = n (subst IsUtf8 e h)
+changed_reading f bytes (inr n) text h r e = n (subst IsUtf8 e h)
 
 -- The lossy reading of an encoding is its text.
 pub reading_encoding : (f : Flavor) (text : List ℕ) → IsText text → reading f (encoding f text) ≡ text
@@ -119,27 +118,14 @@ reading_encoding f (c ∷ text) h =
     (record { scalar = h.0; bytes_are = encoding_cons f c text })
     ∙ ap (λ cs. c ∷ cs) (reading_encoding f text h.1)
 
--- So is that of unchanged UTF-8, and the built answers say the rest.
+-- So is that of unchanged UTF-8.
 pub unchanged_lossy : (f : Flavor) (bytes text : List ℕ) → text ≡ bytes → IsUtf8 bytes → (Any (IsChangedByte f) bytes → ⊥) →
     chars text ≡ reading f bytes
 unchanged_lossy f bytes text e h n =
     let strict = unchanged_reading f bytes text e h n in
     sym (ap (reading f) (sym strict.1) ∙ reading_encoding f (chars text) strict.0)
 
-pub built_changed_lossy : {E : Type 0} (f : Flavor) (bytes : List ℕ) (r : Result CowText E) →
-    Any (IsChangedByte f) bytes ⊎ (IsUtf8 bytes → ⊥) → IfOk r (λ answer. chars (answer_text answer) ≡ reading f bytes) →
-    IfOk r (λ answer. IsUtf8 (answer_text answer)) → IfOk r (λ answer. borrows_text answer ≡ false) →
-    IfOk r (λ answer. IsTrue (borrows_text answer) ↔ (answer_text answer ≡ bytes))
-built_changed_lossy f bytes (Ok answer) changed reading utf8 owned = (
-  (λ t. absurd (false≢true (sym owned ∙ t))),
-  (λ e. absurd (changed_reading f bytes (answer_text answer) utf8 reading changed e)),
-)
-built_changed_lossy f bytes (Err fault) changed reading utf8 owned = reading
-
-pub utf8_lossy_reading : (f : Flavor) (bytes text : List ℕ) → text ≡ bytes → IsUtf8 bytes →
-    IsLenientLossyReading f bytes (chars text)
-utf8_lossy_reading f bytes text e h = inl (subst (λ t. IsUtf8Of (chars t) bytes) (sym e) (IsUtf8Of_chars bytes h))
-
+-- Where the bytes are no UTF-8, the lenient reading is the lossy one.
 pub built_lenient_lossy : {E : Type 0} (f : Flavor) (bytes : List ℕ) (r : Result CowText E) → (IsUtf8 bytes → ⊥) →
     IfOk r (λ answer. chars (answer_text answer) ≡ reading f bytes) →
     IfOk r (λ answer. IsLenientLossyReading f bytes (chars (answer_text answer)))

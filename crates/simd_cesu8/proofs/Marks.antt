@@ -17,6 +17,7 @@ by_standing f bytes None e c rest h = absurd (standing_none f bytes e c rest h)
 by_standing f bytes (Some d) e c rest h =
     ap Some (same_character f bytes d c (drop (width f d) bytes) rest (standing_begins f bytes d e) h).0
 
+-- The function finds the character that begins the bytes.
 pub standing_is : (f : Flavor) (bytes : List ℕ) (c : ℕ) (rest : List ℕ) → BeginsWith f bytes c rest → standing f bytes ≡ Some c
 standing_is f bytes c rest h = by_standing f bytes (standing f bytes) refl c rest h
 
@@ -26,6 +27,7 @@ reaches_stands : (f : Flavor) (bytes : List ℕ) (i j : ℕ) (o : Option ℕ) �
 reaches_stands f bytes i j None e l h = absurd (omega arith)
 reaches_stands f bytes i j (Some c) e l h = (j, c, (drop (width f c) (drop j bytes), standing_begins f (drop j bytes) c e), l, h)
 
+-- A place that passes the test lies within a stretch.
 pub within_from_test : (f : Flavor) (bytes : List ℕ) (i : ℕ) → lies_within f bytes i ≡ true → LiesWithin f bytes i
 unfolding lies_within
 within_from_test f bytes i t =
@@ -35,6 +37,7 @@ within_from_test f bytes i t =
     reaches_stands f bytes i found.1 (standing f (drop found.1 bytes)) refl (omega arith)
     (ltb-true i (found.1 + width_of f (standing f (drop found.1 bytes))) found.4)
 
+-- A place that lies within a stretch passes the test.
 pub test_from_within : (f : Flavor) (bytes : List ℕ) (i : ℕ) → LiesWithin f bytes i → lies_within f bytes i ≡ true
 unfolding lies_within
 test_from_within f bytes i h =
@@ -47,7 +50,7 @@ test_from_within f bytes i h =
     (omega (arith, h.3, length-range_with_len 0 i))
     (subst (λ k. ltb i (k + width_of f (standing f (drop k bytes))) ≡ true) (sym place) reaches)
 
--- The function has for each place what the relation says.
+-- by what stands there, and whether the place lies within a stretch
 mark_by_is : (f : Flavor) (bytes : List ℕ) (i : ℕ) (o : Option ℕ) (w : Bool) → standing f (drop i bytes) ≡ o →
     lies_within f bytes i ≡ w → IsMark f bytes i (mark_by o w)
 mark_by_is f bytes i (Some c) w e h = Stands c (drop (width f c) (drop i bytes), standing_begins f (drop i bytes) c e)
@@ -55,6 +58,7 @@ mark_by_is f bytes i None true e h = Within (standing_none f (drop i bytes) e) (
 mark_by_is f bytes i None false e h =
     Damaged (standing_none f (drop i bytes) e) (λ inside. both_ways (lies_within f bytes i) h (test_from_within f bytes i inside))
 
+-- What the function has for a place is the mark of the place.
 pub mark_is : (f : Flavor) (bytes : List ℕ) (i : ℕ) → IsMark f bytes i (mark f bytes i)
 unfolding mark
 mark_is f bytes i = mark_by_is f bytes i (standing f (drop i bytes)) (lies_within f bytes i) refl refl
@@ -71,5 +75,6 @@ one_mark f bytes i m n (Damaged none _) (Stands d k) = absurd (none d k.0 k.1)
 one_mark f bytes i m n (Damaged _ w) (Within _ v) = absurd (w v)
 one_mark f bytes i m n (Damaged _ w) (Damaged _ v) = refl
 
+-- So the function has for a place whatever is its mark.
 pub mark_from : (f : Flavor) (bytes : List ℕ) (i : ℕ) (m : List ℕ) → IsMark f bytes i m → mark f bytes i ≡ m
 mark_from f bytes i m h = one_mark f bytes i (mark f bytes i) m (mark_is f bytes i) h

@@ -6,15 +6,15 @@ use Rattle.simd_cesu8.specs.Internal.{EndsPair}
 
 -- a word's mask is that of each of its bytes
 masked : (a b c d : ℕ) → a < 256 → b < 256 → c < 256 → d < 256 →
-    bit_and (a * 16777216 + b * 65536 + c * 256 + d) 3237998784
+    bit_and (a * 16777216 + b * 65536 + c * 256 + d) 0xC0FFF0C0
     ≡ bit_and a 192 * 16777216 + b * 65536 + bit_and c 240 * 256 + bit_and d 192
 masked a b c d ha hb hc hd =
     let whole : a * 16777216 + b * 65536 + c * 256 + d ≡ a * 2 ^ 24 + (b * 2 ^ 16 + (c * 2 ^ 8 + d)) = omega arith in
     let all : bit_and b 255 ≡ b = omega (arith, and_mask b 8) in
     rw (
       whole,
-      and_block 24 a 192 (b * 2 ^ 16 + (c * 2 ^ 8 + d)) 16773312 (omega arith) (omega arith),
-      and_block 16 b 255 (c * 2 ^ 8 + d) 61632 (omega arith) (omega arith),
+      and_block 24 a 192 (b * 2 ^ 16 + (c * 2 ^ 8 + d)) 0xFFF0C0 (omega arith) (omega arith),
+      and_block 16 b 255 (c * 2 ^ 8 + d) 0xF0C0 (omega arith) (omega arith),
       and_block 8 c 240 d 192 (omega arith) (omega arith),
       all,
     ) (omega arith)
@@ -34,9 +34,9 @@ between low high x e =
 in_between : (low high x : ℕ) → (low ≤ x) × (x < high) → (leb low x && ltb x high) ≡ true
 in_between low high x h = and_from (leb low x) (ltb x high) (le-leb low x h.0) (lt-ltb x high h.1)
 
--- The four bytes of the word, in the order of the bytes.
+-- Four bytes whose word passes the test end a pair.
 pub word_ends_pair : (a b c d : ℕ) → a < 256 → b < 256 → c < 256 → d < 256 →
-    bit_and (a * 16777216 + b * 65536 + c * 256 + d) 3237998784 ≡ 2163060864 →
+    bit_and (a * 16777216 + b * 65536 + c * 256 + d) 0xC0FFF0C0 ≡ 0x80EDB080 →
     EndsPair a b c d
 word_ends_pair a b c d ha hb hc hd e =
     let sum = sym (masked a b c d ha hb hc hd) ∙ e in
@@ -50,8 +50,9 @@ word_ends_pair a b c d ha hb hc hd e =
       between 128 192 d (sym (continuation_test d hd) ∙ eq-eqb _ _ ed),
     )
 
+-- The word of four bytes that end a pair passes the test.
 pub pair_ends_word : (a b c d : ℕ) → a < 256 → b < 256 → c < 256 → d < 256 → EndsPair a b c d →
-    bit_and (a * 16777216 + b * 65536 + c * 256 + d) 3237998784 ≡ 2163060864
+    bit_and (a * 16777216 + b * 65536 + c * 256 + d) 0xC0FFF0C0 ≡ 0x80EDB080
 pair_ends_word a b c d ha hb hc hd h =
     let ea = eqb-true _ _ (continuation_test a ha ∙ in_between 128 192 a h.0) in
     let ec = eqb-true _ _ (low_surrogate_test c hc ∙ in_between 176 192 c h.2) in

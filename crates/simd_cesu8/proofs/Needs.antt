@@ -1,5 +1,5 @@
 -- When a text needs encoding: by its UTF-8, and by its encoding.
-use Rattle.std.proofs.Common.{◌≡◌, ℕ, ◌+◌, ◌*◌, ◌/◌, ◌%◌, ◌<◌, ◌≤◌, ◌⊎◌, ◌↔◌, ◌==◌, IsTrue, List, [], ◌∷◌, refl, ap, ◌∙◌, subst, inl, inr, ⊎_elim, arith, length, length-append}
+use Rattle.std.proofs.Common.{◌≡◌, ◌≢◌, ℕ, ◌+◌, ◌*◌, ◌/◌, ◌%◌, ◌<◌, ◌≤◌, ◌⊎◌, ◌↔◌, List, [], ◌∷◌, refl, ap, ◌∙◌, subst, inl, inr, ⊎_elim, arith, length, length-append}
 use Rattle.std.specs.Str.{chars, IsUtf8}
 use Rattle.std.specs.List.{Any}
 use Rattle.std.proofs.lemmas.Bool.{and_parts, and_from, le-leb, leb-true, eqb-true, eq-eqb, or_cases, or_left, or_right}
@@ -16,20 +16,19 @@ use Rattle.simd_cesu8.proofs.Elements.{any_nil, any_here, any_there, any_cons, a
 four_from : (b : ℕ) → 240 ≤ b → b ≤ 247 → IsFour b
 four_from b l h = and_from _ _ (le-leb 240 b l) (le-leb b 247 h)
 
-pub not_four : (b : ℕ) → b < 240 → IsFour b → ⊥
+not_four : (b : ℕ) → b < 240 → IsFour b → ⊥
 not_four b l h = omega (arith, leb-true 240 b (and_parts _ _ h).0)
 
 changed_by_four : (f : Flavor) (b : ℕ) → IsFour b → IsChangedByte f b
 changed_by_four Cesu8 b h = h
 changed_by_four Mutf8 b h = or_right _ _ h
 
-unchanged : (f : Flavor) (b : ℕ) → 0 < b → b < 240 → IsChangedByte f b → ⊥
-unchanged Cesu8 b l h p = not_four b h p
-unchanged Mutf8 b l h p =
-    let not_null : IsTrue (b == 0) → ⊥ = λ e. omega (arith, eqb-true b 0 e) in
-    ⊎_elim not_null (not_four b h) (or_cases _ _ p)
+-- A byte below F0 (hexadecimal) that in MUTF-8 is not 0 stays as it is.
+pub unchanged : (f : Flavor) (b : ℕ) → b < 240 → (f ≡ Mutf8 → b ≢ 0) → IsChangedByte f b → ⊥
+unchanged Cesu8 b h n p = not_four b h p
+unchanged Mutf8 b h n p = ⊎_elim (λ e. n refl (eqb-true b 0 e)) (not_four b h) (or_cases _ _ p)
 
--- A scalar value is encoded otherwise exactly where its UTF-8 has such a byte.
+-- two facts that both fail are equivalent
 neither : (P Q : Type 0) → (P → ⊥) → (Q → ⊥) → P ↔ Q
 neither P Q p q = ((λ h. absurd (p h)), (λ h. absurd (q h)))
 
@@ -43,16 +42,17 @@ shows_one Mutf8 c h = (
 
 none_of_two : (f : Flavor) (a b : ℕ) → 0 < a → a < 240 → 0 < b → b < 240 → Any (IsChangedByte f) (a ∷ b ∷ []) → ⊥
 none_of_two f a b la ha lb hb =
-    none_cons (IsChangedByte f) a (b ∷ []) (unchanged f a la ha)
-    (none_cons (IsChangedByte f) b [] (unchanged f b lb hb) (any_nil (IsChangedByte f)))
+    none_cons (IsChangedByte f) a (b ∷ []) (unchanged f a ha (λ _ e. omega arith))
+    (none_cons (IsChangedByte f) b [] (unchanged f b hb (λ _ e. omega arith)) (any_nil (IsChangedByte f)))
 
+-- a scalar value is encoded otherwise exactly where its UTF-8 has such a byte
 shows_by : (f : Flavor) (c : ℕ) → Shape c → Any (IsChangedByte f) (utf8_of c) ↔ IsEncodedOtherwise f c
 shows_by f c (one h) = rw (utf8_of_one c h) (shows_one f c h)
 shows_by f c (two x y h) = rw (utf8_of_two c x y h) (neither _ _
     (none_of_two f (192 + x) (128 + y) (omega arith) (omega arith) (omega arith) (omega arith))
     (not_otherwise f c (omega arith) (omega arith)))
 shows_by f c (three x y z h) = rw (utf8_of_three c x y z h) (neither _ _
-    (none_cons _ (224 + x) ((128 + y) ∷ (128 + z) ∷ []) (unchanged f (224 + x) (omega arith) (omega arith))
+    (none_cons _ (224 + x) ((128 + y) ∷ (128 + z) ∷ []) (unchanged f (224 + x) (omega arith) (λ _ e. omega arith))
     (none_of_two f (128 + y) (128 + z) (omega arith) (omega arith) (omega arith) (omega arith)))
     (not_otherwise f c (omega arith) (omega arith)))
 shows_by f c (pair w x y z h) = rw (utf8_of_pair c w x y z h) (
@@ -74,12 +74,13 @@ shows_need f (c ∷ text) h =
           (any_cons (IsEncodedOtherwise f) c text p)),
     )
 
--- What needs no encoding is encoded as its UTF-8, and what needs it is longer.
+-- with one scalar value more at the front
 same_by : (f : Flavor) (c : ℕ) (text : List ℕ) → Change f c → (IsEncodedOtherwise f c → ⊥) →
     encoding f text ≡ utf8 text → encoding f (c ∷ text) ≡ utf8 (c ∷ text)
 same_by f c text (same _ e) n h = rw (encoding_cons f c text, e, h) refl
 same_by f c text (longer p _ _) n h = absurd (n p)
 
+-- A text that needs no encoding is encoded as its UTF-8.
 pub encoding_same : (f : Flavor) (text : List ℕ) → IsText text → (NeedsEncoding f text → ⊥) → encoding f text ≡ utf8 text
 encoding_same f [] h n = encoding_nil f
 encoding_same f (c ∷ text) h n =
@@ -96,6 +97,7 @@ longer_by f c text (longer p l _) b _ =
     rw (encoding_cons f c text, length-append (encoding f (c ∷ [])) (encoding f text), length-append (utf8_of c) (utf8 text))
     (omega (arith, b.low))
 
+-- The encoding of a text that needs it is longer than the UTF-8.
 pub encoding_longer : (f : Flavor) (text : List ℕ) → IsText text → NeedsEncoding f text →
     length (utf8 text) < length (encoding f text)
 encoding_longer f [] h n = absurd (any_nil _ n)
@@ -105,19 +107,23 @@ encoding_longer f (c ∷ text) h n =
 
 -- The same of the text that std's UTF-8 has.
 module _ (f : Flavor) (bytes : List ℕ) (h : IsUtf8 bytes) where
+  -- the bytes show whether their text needs encoding
   pub needs_by_bytes : Any (IsChangedByte f) bytes ↔ NeedsEncoding f (chars bytes)
   needs_by_bytes =
       let of_chars = IsUtf8Of_chars bytes h in
       subst (λ bs. Any (IsChangedByte f) bs ↔ NeedsEncoding f (chars bytes)) of_chars.1 (shows_need f (chars bytes) of_chars.0)
 
+  -- so does a test for such a byte
   pub needs_by_test : (R : Type 0) → R ↔ Any (IsChangedByte f) bytes → R ↔ NeedsEncoding f (chars bytes)
   needs_by_test R t = ((λ r. needs_by_bytes.0 (t.0 r)), (λ n. t.1 (needs_by_bytes.1 n)))
 
+  -- the encoding of a text that needs none is the bytes
   pub encoding_is_bytes : (NeedsEncoding f (chars bytes) → ⊥) → encoding f (chars bytes) ≡ bytes
   encoding_is_bytes n =
       let of_chars = IsUtf8Of_chars bytes h in
       encoding_same f (chars bytes) of_chars.0 n ∙ of_chars.1
 
+  -- the encoding of a text that needs it is not the bytes
   pub encoding_is_not_bytes : NeedsEncoding f (chars bytes) → encoding f (chars bytes) ≡ bytes → ⊥
   encoding_is_not_bytes n e =
       let of_chars = IsUtf8Of_chars bytes h in

@@ -18,6 +18,7 @@ lead_fails f bytes l n h c (of_two x y d e _ _) = omega (arith, h (omega arith))
 lead_fails f bytes l n h c (of_three x y z d _ e _ _ _) = omega (arith, h (omega arith))
 lead_fails f bytes l n h c (of_pair w x y z d e _ _ _ _ _ _) = omega (arith, h (omega arith))
 
+-- A lead byte that begins no form begins no character.
 pub none_by_lead : (f : Flavor) (bytes : List ℕ) → 128 ≤ get_or bytes 0 0 → (get_or bytes 0 0 ≡ 192 → ⊥) →
     (194 ≤ get_or bytes 0 0 → 240 ≤ get_or bytes 0 0) → NoneBegins f bytes
 none_by_lead f bytes l n h = none f bytes (lead_fails f bytes l n h)
@@ -30,6 +31,7 @@ zero_fails f bytes m z c (of_two x y d e _ _) = omega arith
 zero_fails f bytes m z c (of_three x y z' d _ e _ _ _) = omega arith
 zero_fails f bytes m z c (of_pair w x y z' d e _ _ _ _ _ _) = omega arith
 
+-- In MUTF-8 the byte 0 begins none.
 pub none_by_zero : (f : Flavor) (bytes : List ℕ) → f ≡ Mutf8 → get_or bytes 0 0 ≡ 0 → NoneBegins f bytes
 none_by_zero f bytes m z = none f bytes (zero_fails f bytes m z)
 
@@ -42,6 +44,7 @@ null_fails f bytes l n c (of_two x y d e _ _) = omega arith
 null_fails f bytes l n c (of_three x y z d _ e _ _ _) = omega arith
 null_fails f bytes l n c (of_pair w x y z d e _ _ _ _ _ _) = omega arith
 
+-- C0 (hexadecimal) begins none, where it is not the null character of MUTF-8.
 pub none_by_null : (f : Flavor) (bytes : List ℕ) → get_or bytes 0 0 ≡ 192 →
     (f ≡ Mutf8 → 2 ≤ length bytes → get_or bytes 1 0 ≡ 128 → ⊥) → NoneBegins f bytes
 none_by_null f bytes l n = none f bytes (null_fails f bytes l n)
@@ -55,6 +58,7 @@ two_fails f bytes l h n c (of_two x y d _ e long) = n long (omega arith, omega a
 two_fails f bytes l h n c (of_three x y z d _ e _ _ _) = omega arith
 two_fails f bytes l h n c (of_pair w x y z d e _ _ _ _ _ _) = omega arith
 
+-- A lead byte of two begins none, where no continuation byte is after it.
 pub none_by_two : (f : Flavor) (bytes : List ℕ) → 194 ≤ get_or bytes 0 0 → get_or bytes 0 0 < 224 →
     (2 ≤ length bytes → IsContinuation (get_or bytes 1 0) → ⊥) → NoneBegins f bytes
 none_by_two f bytes l h n = none f bytes (two_fails f bytes l h n)
@@ -71,6 +75,7 @@ three_fails f bytes l s n c (of_three x y z d _ e0 e1 e2 long) =
     n long (omega arith, omega arith) (omega arith, omega arith) (λ e. omega arith)
 three_fails f bytes l s n c (of_pair w x y z d e0 e1 _ _ _ _ long) = omega (arith, s e0 (omega arith))
 
+-- A lead byte of three, but no surrogate, begins none, where the two bytes after it do not fit.
 pub none_by_three : (f : Flavor) (bytes : List ℕ) → 224 ≤ get_or bytes 0 0 →
     (get_or bytes 0 0 ≡ 237 → 2 ≤ length bytes → get_or bytes 1 0 < 160) →
     (3 ≤ length bytes → IsContinuation (get_or bytes 1 0) → IsContinuation (get_or bytes 2 0) →
@@ -89,6 +94,7 @@ pair_fails f bytes l s n c (of_three x y z d t e0 e1 e2 long) = omega (arith, t 
 pair_fails f bytes l s n c (of_pair w x y z d e0 e1 e2 e3 e4 e5 long) =
     n long (omega arith) ((omega arith, omega arith), e3, (omega arith, omega arith), (omega arith, omega arith))
 
+-- A surrogate begins none, where its six bytes are no surrogate pair.
 pub none_by_pair : (f : Flavor) (bytes : List ℕ) → get_or bytes 0 0 ≡ 237 → 160 ≤ get_or bytes 1 0 →
     (6 ≤ length bytes → get_or bytes 1 0 < 176 →
     EndsPair (get_or bytes 2 0) (get_or bytes 3 0) (get_or bytes 4 0) (get_or bytes 5 0) → ⊥) → NoneBegins f bytes

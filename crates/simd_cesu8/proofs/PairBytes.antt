@@ -6,20 +6,20 @@ use Rattle.simd_cesu8.specs.Encoding.{Flavor, encoding}
 use Rattle.simd_cesu8.proofs.Shapes.{IsPair, utf8_of_pair, pair_digits}
 use Rattle.simd_cesu8.proofs.Forms.{encoding_pair}
 
--- the bits above a mask go
-second : (w x : ℕ) → w < 16 → x < 64 →
+-- each byte of the pair, from the digits
+second_byte : (w x : ℕ) → w < 16 → x < 64 →
     159 + bit_or (bit_and (240 + (w + 1) / 4) 7 * 4 % 256) (bit_and ((128 + ((w + 1) % 4 * 16 + x / 4)) / 16) 3) ≡ 160 + w
-second w x hw hx =
+second_byte w x hw hx =
     let high : bit_and (240 + (w + 1) / 4) 7 * 4 % 256 ≡ (w + 1) / 4 * 2 ^ 2 =
     omega (arith, and_mask (240 + (w + 1) / 4) 3) in
     let low : bit_and ((128 + ((w + 1) % 4 * 16 + x / 4)) / 16) 3 ≡ (w + 1) % 4 =
     omega (arith, and_mask ((128 + ((w + 1) % 4 * 16 + x / 4)) / 16) 2) in
     rw (high, low, or_shifted ((w + 1) / 4) 2 ((w + 1) % 4) (omega arith)) (omega arith)
 
-third : (w x y : ℕ) → w < 16 → x < 64 → y < 16 →
+third_byte : (w x y : ℕ) → w < 16 → x < 64 → y < 16 →
     bit_or (bit_or 128 (bit_and (128 + ((w + 1) % 4 * 16 + x / 4)) 15 * 4 % 256)) (bit_and ((128 + (x % 4 * 16 + y)) / 16) 3)
     ≡ 128 + x
-third w x y hw hx hy =
+third_byte w x y hw hx hy =
     let high : bit_and (128 + ((w + 1) % 4 * 16 + x / 4)) 15 * 4 % 256 ≡ x / 4 * 4 =
     omega (arith, and_mask (128 + ((w + 1) % 4 * 16 + x / 4)) 4) in
     let low : bit_and ((128 + (x % 4 * 16 + y)) / 16) 3 ≡ x % 4 =
@@ -27,13 +27,13 @@ third w x y hw hx hy =
     let lead : bit_or 128 (x / 4 * 4) ≡ (32 + x / 4) * 2 ^ 2 = or_shifted 2 6 (x / 4 * 4) (omega arith) ∙ omega arith in
     rw (high, low, lead, or_shifted (32 + x / 4) 2 (x % 4) (omega arith)) (omega arith)
 
-fifth : (x y : ℕ) → y < 16 → bit_or 176 (bit_and (128 + (x % 4 * 16 + y)) 15) ≡ 176 + y
-fifth x y h =
+fifth_byte : (x y : ℕ) → y < 16 → bit_or 176 (bit_and (128 + (x % 4 * 16 + y)) 15) ≡ 176 + y
+fifth_byte x y h =
     let low : bit_and (128 + (x % 4 * 16 + y)) 15 ≡ y = omega (arith, and_mask (128 + (x % 4 * 16 + y)) 4) in
     rw low (or_shifted 11 4 y h)
 
-sixth : (z : ℕ) → z < 64 → bit_or 128 (bit_and (128 + z) 63) ≡ 128 + z
-sixth z h =
+sixth_byte : (z : ℕ) → z < 64 → bit_or 128 (bit_and (128 + z) 63) ≡ 128 + z
+sixth_byte z h =
     let low : bit_and (128 + z) 63 ≡ z = omega (arith, and_mask (128 + z) 6) in
     rw low (or_shifted 2 6 z h)
 
@@ -49,12 +49,13 @@ six_by_digits f c w x y z h =
     rw (
       encoding_pair f c w x y z h,
       utf8_of_pair c w x y z h,
-      second w x h.first h.second,
-      third w x y h.first h.second h.third,
-      fifth x y h.third,
-      sixth z h.last,
+      second_byte w x h.first h.second,
+      third_byte w x y h.first h.second h.third,
+      fifth_byte x y h.third,
+      sixth_byte z h.last,
     ) refl
 
+-- They are the encoding of the character whose UTF-8 is in s.
 pub six_bytes_are : (f : Flavor) (c : ℕ) (s : List ℕ) → 65536 ≤ c → c < 1114112 → utf8_of c ≡ s →
     six_bytes s ≡ encoding f (c ∷ [])
 six_bytes_are f c s low high e =

@@ -54,5 +54,6 @@ by_shape f bytes rest c s (pair w x y z h) e =
     of_pair w x y z h (at 0 bytes _ same) (at 1 bytes _ same) (at 2 bytes _ same) (at 3 bytes _ same) (at 4 bytes _ same)
     (at 5 bytes _ same) (omega (arith, ap length same))
 
+-- Bytes that begin with a character have its pattern.
 pub pattern : (f : Flavor) (bytes : List ℕ) (c : ℕ) (rest : List ℕ) → BeginsWith f bytes c rest → Pattern f bytes c
 pattern f bytes c rest h = by_shape f bytes rest c h.scalar (shape c h.scalar) h.bytes_are

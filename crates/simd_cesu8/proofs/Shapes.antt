@@ -4,13 +4,14 @@ use Rattle.std.proofs.lemmas.Bool.{lt-ltb, le-ltb, cases_lt}
 use Rattle.simd_cesu8.specs.Text.{IsScalarValue, utf8_of}
 pub use Rattle.simd_cesu8.specs.Internal.{IsPair}
 
--- The digits of a scalar value of two bytes, of three, and of a surrogate pair.
+-- The digits of a scalar value of two bytes.
 pub record IsTwo (c x y : ℕ) : Type 0 where
   pub value : c ≡ x * 64 + y
   pub low : 2 ≤ x
   pub high : x < 32
   pub last : y < 64
 
+-- The digits of a scalar value of three bytes.
 pub record IsThree (c x y z : ℕ) : Type 0 where
   pub value : c ≡ x * 4096 + y * 64 + z
   pub low : 2048 ≤ c
@@ -29,6 +30,7 @@ below_top : (c : ℕ) → IsScalarValue c → c < 1114112
 below_top c (inl h) = omega arith
 below_top c (inr h) = h.1
 
+-- A scalar value from 10000 (hexadecimal) on has the digits of a surrogate pair.
 pub pair_digits : (c : ℕ) → 65536 ≤ c → c < 1114112 →
     IsPair c ((c - 65536) / 65536) ((c - 65536) / 1024 % 64) ((c - 65536) / 64 % 16) ((c - 65536) % 64)
 pair_digits c low high = record {
@@ -39,6 +41,7 @@ pair_digits c low high = record {
   last = omega arith;
 }
 
+-- Each scalar value has a shape.
 pub shape : (c : ℕ) → IsScalarValue c → Shape c
 shape c scalar = by (cases_lt c 128) (cases_lt c 2048) (cases_lt c 65536)
   where
@@ -56,7 +59,7 @@ shape c scalar = by (cases_lt c 128) (cases_lt c 2048) (cases_lt c 65536)
         })
     by (inr _) (inr _) (inr l) = pair _ _ _ _ (pair_digits c l (below_top c scalar))
 
--- UTF-8, by the digits.
+-- The UTF-8 of a scalar value, by its digits: one byte, two, three, and four.
 pub utf8_of_one : (c : ℕ) → c < 128 → utf8_of c ≡ c ∷ []
 unfolding utf8_of
 utf8_of_one c h = rw (lt-ltb c 128 h) refl

@@ -72,10 +72,12 @@ is_candidate f bytes c (of_two x y d e0 e1 _) = inr (inl (omega arith))
 is_candidate f bytes c (of_three x y z d _ e0 e1 e2 _) = inr (inr (inl (omega arith)))
 is_candidate f bytes c (of_pair w x y z d e0 e1 e2 e3 e4 e5 _) = inr (inr (inr (inl (omega arith))))
 
+-- The character that the function finds begins the bytes.
 pub standing_begins : (f : Flavor) (bytes : List ℕ) (c : ℕ) → standing f bytes ≡ Some c → BeginsWith f bytes c (drop (width f c) bytes)
 unfolding standing
 standing_begins f bytes c e = begins_from_test f bytes c (found_passes (begins f bytes) (candidates bytes) c e)
 
+-- Where it finds none, none begins them.
 pub standing_none : (f : Flavor) (bytes : List ℕ) → standing f bytes ≡ None → NoneBegins f bytes
 unfolding standing
 standing_none f bytes e c rest h =

@@ -11,6 +11,7 @@ pub utf8_of_encode : (c : ℕ) → utf8_of c ≡ encode c
 unfolding utf8_of encode
 utf8_of_encode c = refl
 
+-- So they write a text alike.
 pub utf8_encodes : (text : List ℕ) → utf8 text ≡ encodes text
 utf8_encodes [] = refl
 utf8_encodes (c ∷ text) = rw (utf8_of_encode c, utf8_encodes text) refl
@@ -21,12 +22,14 @@ scalar_from_IsScalarValue c (inl low) = low_scalar c low
 scalar_from_IsScalarValue c (inr high) =
     rw (le-ltb c 55296 (omega arith), le-leb 57344 c high.0, lt-ltb c 1114112 high.1) refl
 
+-- So what std takes for scalar values is a text.
 pub IsText_from_scalars : (text : List ℕ) → scalars text ≡ true → IsText text
 IsText_from_scalars [] e = tt
 IsText_from_scalars (c ∷ text) e =
     let parts = and_parts (scalar c) (scalars text) e in
     (scalar_cases c parts.0, IsText_from_scalars text parts.1)
 
+-- A text is what std takes for scalar values.
 pub scalars_from_IsText : (text : List ℕ) → IsText text → scalars text ≡ true
 scalars_from_IsText [] h = refl
 scalars_from_IsText (c ∷ text) h =
@@ -37,9 +40,15 @@ pub IsUtf8Of_chars : (bytes : List ℕ) → IsUtf8 bytes → IsUtf8Of (chars byt
 IsUtf8Of_chars bytes h =
     (IsText_from_scalars (chars bytes) (scalars-chars bytes h), utf8_encodes (chars bytes) ∙ encodes-chars bytes h)
 
+-- The same, where the bytes have another name.
+pub IsUtf8Of_chars_at : (bytes text : List ℕ) → text ≡ bytes → IsUtf8 bytes → IsUtf8Of (chars text) bytes
+IsUtf8Of_chars_at bytes text e h = subst (λ bs. IsUtf8Of (chars bs) bytes) (sym e) (IsUtf8Of_chars bytes h)
+
+-- The UTF-8 of a text is UTF-8.
 pub IsUtf8_utf8 : (text : List ℕ) → IsText text → IsUtf8 (utf8 text)
 IsUtf8_utf8 text h = (text, (scalars_from_IsText text h, sym (utf8_encodes text)))
 
+-- Its characters are the text.
 pub chars_utf8 : (text : List ℕ) → IsText text → chars (utf8 text) ≡ text
 chars_utf8 text h = rw (utf8_encodes text) (chars-encodes text (scalars_from_IsText text h))
 
@@ -49,3 +58,7 @@ std_utf8 bytes = (
   (λ (h : IsUtf8 bytes). (chars bytes, IsUtf8Of_chars bytes h)),
   (λ (h : (text : List ℕ) × IsUtf8Of text bytes). subst IsUtf8 h.1.1 (IsUtf8_utf8 h.0 h.1.0)),
 )
+
+-- So what std takes for no UTF-8 is the UTF-8 of no text.
+pub not_utf8_of : (bytes : List ℕ) → (IsUtf8 bytes → ⊥) → (text : List ℕ) → IsUtf8Of text bytes → ⊥
+not_utf8_of bytes n text h = n ((std_utf8 bytes).1 (text, h))

@@ -110,11 +110,11 @@ inside_marks f bytes c i (suc n) rest h l m =
     ) refl
 
 -- a character that stands in the stretch of the first is the first
-crosses : (f : Flavor) (c : ℕ) (rest : List ℕ) → IsScalarValue c → NoneCrosses f (encoding f (c ∷ [])) rest
-crosses f c rest s zero d k l =
+none_crosses : (f : Flavor) (c : ℕ) (rest : List ℕ) → IsScalarValue c → NoneCrosses f (encoding f (c ∷ [])) rest
+none_crosses f c rest s zero d k l =
     let same = same_character f (encoding f (c ∷ []) ++ rest) c d rest k.0 (record { scalar = s; bytes_are = refl }) k.1 in
     omega (arith, ap (width f) same.0)
-crosses f c rest s (suc j) d k l =
+none_crosses f c rest s (suc j) d k l =
     absurd (none_inside f (encoding f (c ∷ []) ++ rest) c d (suc j) rest (record { scalar = s; bytes_are = refl }) k (omega arith) l)
 
 front_marks : (f : Flavor) (bytes : List ℕ) (c n : ℕ) (rest : List ℕ) → BeginsWith f bytes c rest → 0 < n → n ≡ width f c →
@@ -132,9 +132,10 @@ reading_character f bytes c rest h =
     let front = encoding f (c ∷ []) in
     let whole : BeginsWith f (front ++ rest) c rest = record { scalar = h.scalar; bytes_are = refl } in
     ap (reading f) h.bytes_are
-    ∙ reading_parts f front rest (λ j d k l. crosses f c rest h.scalar j d k l)
+    ∙ reading_parts f front rest (λ j d k l. none_crosses f c rest h.scalar j d k l)
     ∙ ap (λ ms. ms ++ reading f rest) (front_marks f (front ++ rest) c (width f c) rest whole (omega (arith, (length_of_character f c h.scalar).some, (length_of_character f c h.scalar).fits)) refl)
 
+-- The lossy reading of no bytes is empty.
 pub reading_nil : (f : Flavor) → reading f [] ≡ []
 unfolding reading
 reading_nil f = refl

@@ -53,8 +53,8 @@ EndsPair a b c d = IsContinuation a × (b ≡ 0xED) × ((0xB0 ≤ c) × (c < 0xC
 
 -- The digits of a scalar value that is written as a surrogate pair.
 pub record IsPair (c w x y z : ℕ) : Type 0 where
-  pub value : c ≡ 65536 + w * 65536 + x * 1024 + y * 64 + z
-  pub first : w < 16
-  pub second : x < 64
-  pub third : y < 16
-  pub last : z < 64
+  pub value : c ≡ 0x10000 + w * 0x10000 + x * 0x400 + y * 0x40 + z
+  pub first : w < 0x10
+  pub second : x < 0x40
+  pub third : y < 0x10
+  pub last : z < 0x40

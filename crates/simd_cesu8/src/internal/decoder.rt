@@ -236,7 +236,7 @@ fn ends_pair(a: u8, b: u8, c: u8, d: u8) -> bool
 /// sixth.
 fn joined(pair: [u8; 4]) -> [u8; 4]
     ensures { (c w x y z : ℕ) → IsPair c w x y z
-        → pair ≡ (160 + w) ∷ (128 + x) ∷ (176 + y) ∷ (128 + z) ∷ [] → result ≡ utf8_of c }
+        → pair ≡ (0xA0 + w) ∷ (0x80 + x) ∷ (0xB0 + y) ∷ (0x80 + z) ∷ [] → result ≡ utf8_of c }
 {
     let [high, middle, low, last] = pair;
     let planes = (high & 0x0F) + 1;

@@ -6,5 +6,8 @@ abbrev pub decreases-loop-rest : goal.decreases-loop-rest
 decreases-loop-rest g l = length l.rest
 
 abbrev pub invariant-loop-rest : goal.invariant-loop-rest
-invariant-loop-rest g l = (written : List ℕ) × (l.fn.bytes ≡ written ++ l.rest)
-    × Appends (g.W.Write.contents l.initial.output) (g.W.Write.contents l.output) written
+invariant-loop-rest g l = record {
+  written : List ℕ;
+  whole : l.fn.bytes ≡ written ++ l.rest;
+  appended : Appends (g.W.Write.contents l.initial.output) (g.W.Write.contents l.output) written;
+}

@@ -1,10 +1,12 @@
+use Rattle.std.proofs.Common.{inl}
 use Rattle.simd_cesu8.specs.Internal.{flavor_of}
-use Rattle.simd_cesu8.proofs.Borrowing.{utf8_reading, built_lenient, built_refused}
+use Rattle.simd_cesu8.proofs.StdUtf8.{IsUtf8Of_chars_at}
+use Rattle.simd_cesu8.proofs.Borrowing.{built_lenient, built_refused}
 use Rattle.simd_cesu8.proofs.answer.decode.Goals as goal
 
 pub returns-in-Ok-clause-text : goal.returns-in-Ok-clause-text
 returns-in-Ok-clause-text c =
-    utf8_reading (flavor_of c.args.flavor) c.args.bytes.now c.in-Ok.whole.now c.in-Ok.ensures.cases.0 c.in-Ok.ensures.cases.1
+    inl (IsUtf8Of_chars_at c.args.bytes.now c.in-Ok.whole.now c.in-Ok.ensures.cases.0 c.in-Ok.ensures.cases.1)
 
 pub returns-in-Err-clause-text : goal.returns-in-Err-clause-text
 returns-in-Err-clause-text c =

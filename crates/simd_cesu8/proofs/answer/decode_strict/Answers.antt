@@ -1,5 +1,5 @@
 use Rattle.simd_cesu8.specs.Internal.{flavor_of}
-use Rattle.simd_cesu8.proofs.Borrowing.{unchanged_reading, built_changed}
+use Rattle.simd_cesu8.proofs.Borrowing.{unchanged_reading, changed_text, owned_differs}
 use Rattle.simd_cesu8.proofs.answer.decode_strict.Goals as goal
 
 pub returns-in-Some-clause-text : goal.returns-in-Some-clause-text
@@ -9,5 +9,6 @@ returns-in-Some-clause-text c =
 
 pub returns-in-None-clause-borrowed : goal.returns-in-None-clause-borrowed
 returns-in-None-clause-borrowed c =
-    built_changed (flavor_of c.args.flavor) c.args.bytes.now c.build_strictly.result c.in-None.ensures.none
+    owned_differs c.args.bytes.now c.build_strictly.result
+    (changed_text (flavor_of c.args.flavor) c.args.bytes.now c.in-None.ensures.none)
     c.build_strictly.ensures.text c.build_strictly.ensures.utf8 c.build_strictly.ensures.owned

@@ -1,5 +1,5 @@
-use Rattle.simd_cesu8.proofs.Lawful.{needs}
+use Rattle.simd_cesu8.proofs.Lawful.{needs_law}
 use Rattle.simd_cesu8.proofs.laws.needs.Goals as goal
 
 pub returns : goal.returns
-returns c = needs
+returns c = needs_law

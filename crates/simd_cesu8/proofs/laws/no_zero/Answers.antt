@@ -1,5 +1,5 @@
-use Rattle.simd_cesu8.proofs.EncodedBytes.{no_zero}
+use Rattle.simd_cesu8.proofs.Lawful.{no_zero_law}
 use Rattle.simd_cesu8.proofs.laws.no_zero.Goals as goal
 
 pub returns : goal.returns
-returns c = no_zero
+returns c = no_zero_law

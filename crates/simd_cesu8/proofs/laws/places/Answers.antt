@@ -1,5 +1,5 @@
-use Rattle.simd_cesu8.proofs.Greedy.{places}
+use Rattle.simd_cesu8.proofs.Lawful.{places_law}
 use Rattle.simd_cesu8.proofs.laws.places.Goals as goal
 
 pub returns : goal.returns
-returns c = places
+returns c = places_law

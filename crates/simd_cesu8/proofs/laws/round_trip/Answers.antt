@@ -1,5 +1,5 @@
-use Rattle.simd_cesu8.proofs.Lawful.{round_trip}
+use Rattle.simd_cesu8.proofs.Lawful.{round_trip_law}
 use Rattle.simd_cesu8.proofs.laws.round_trip.Goals as goal
 
 pub returns : goal.returns
-returns c = round_trip
+returns c = round_trip_law

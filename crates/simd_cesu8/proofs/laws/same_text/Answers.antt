@@ -1,4 +1,4 @@
-use Rattle.simd_cesu8.proofs.EncodedBytes.{same_text_law}
+use Rattle.simd_cesu8.proofs.Lawful.{same_text_law}
 use Rattle.simd_cesu8.proofs.laws.same_text.Goals as goal
 
 pub returns : goal.returns

@@ -5,7 +5,7 @@ use Rattle.simd_cesu8.proofs.internal.decoder.ends_pair.Goals as goal
 
 pub returns : goal.returns
 returns c =
-    let word = ap (λ word. bit_and word 3237998784) c.from_be_bytes.ensures in (
+    let word = ap (λ word. bit_and word 0xC0FFF0C0) c.from_be_bytes.ensures in (
       (λ t. word_ends_pair c.args.a c.args.b c.args.c c.args.d (omega arith) (omega arith) (omega arith) (omega arith)
           (sym word ∙ eqb-true _ _ t)),
       (λ h. eq-eqb _ _ (word
