@@ -15,26 +15,26 @@ use Rattle.simd_cesu8.proofs.Unique.{same_text}
 
 -- A byte that an encoding can have: below F0 (hexadecimal), and in MUTF-8 not 0.
 pub record IsEncodedByte (f : Flavor) (b : ℕ) : Type 0 where
-  pub low : b < 240
+  pub low : b < 0xF0
   pub some : f ≡ Mutf8 → b ≢ 0
 
 -- a byte that is not 0 serves both flavors
-byte : (f : Flavor) (b : ℕ) → 0 < b → b < 240 → IsEncodedByte f b
+byte : (f : Flavor) (b : ℕ) → 0 < b → b < 0xF0 → IsEncodedByte f b
 byte f b l h = record { low = h; some = λ _ e. omega arith }
 
-bytes_one : (f : Flavor) (c : ℕ) → c < 128 → (c ≡ 0) ⊎ (c ≡ 0 → ⊥) → All (IsEncodedByte f) (encoding f (c ∷ []))
+bytes_one : (f : Flavor) (c : ℕ) → c < 0x80 → (c ≡ 0) ⊎ (c ≡ 0 → ⊥) → All (IsEncodedByte f) (encoding f (c ∷ []))
 bytes_one Cesu8 c h _ =
     rw (encoding_one Cesu8 c h)
     (All-cons (IsEncodedByte Cesu8) c [] (record { low = omega arith; some = λ e. absurd (cc) }) (All-nil (IsEncodedByte Cesu8)))
 bytes_one Mutf8 c h (inl z) =
     rw (encoding_one Mutf8 c h, short_form_null c z)
-    (All-cons (IsEncodedByte Mutf8) 192 (128 ∷ []) (byte Mutf8 192 (omega arith) (omega arith))
-    (All-cons (IsEncodedByte Mutf8) 128 [] (byte Mutf8 128 (omega arith) (omega arith)) (All-nil (IsEncodedByte Mutf8))))
+    (All-cons (IsEncodedByte Mutf8) 0xC0 (0x80 ∷ []) (byte Mutf8 0xC0 (omega arith) (omega arith))
+    (All-cons (IsEncodedByte Mutf8) 0x80 [] (byte Mutf8 0x80 (omega arith) (omega arith)) (All-nil (IsEncodedByte Mutf8))))
 bytes_one Mutf8 c h (inr n) =
     rw (encoding_one Mutf8 c h, short_form_other Mutf8 c n)
     (All-cons (IsEncodedByte Mutf8) c [] (record { low = omega arith; some = λ _. n }) (All-nil (IsEncodedByte Mutf8)))
 
-three_bytes : (f : Flavor) (a b d : ℕ) (rest : List ℕ) → 0 < a → a < 240 → 0 < b → b < 240 → 0 < d → d < 240 →
+three_bytes : (f : Flavor) (a b d : ℕ) (rest : List ℕ) → 0 < a → a < 0xF0 → 0 < b → b < 0xF0 → 0 < d → d < 0xF0 →
     All (IsEncodedByte f) rest → All (IsEncodedByte f) (a ∷ b ∷ d ∷ rest)
 three_bytes f a b d rest la ha lb hb ld hd h =
     All-cons (IsEncodedByte f) a (b ∷ d ∷ rest) (byte f a la ha)
@@ -45,15 +45,15 @@ bytes_by : (f : Flavor) (c : ℕ) → Shape c → All (IsEncodedByte f) (encodin
 bytes_by f c (one h) = bytes_one f c h (cases_eq c 0)
 bytes_by f c (two x y h) =
     rw (encoding_two f c x y h)
-    (All-cons (IsEncodedByte f) (192 + x) ((128 + y) ∷ []) (byte f (192 + x) (omega arith) (omega arith))
-    (All-cons (IsEncodedByte f) (128 + y) [] (byte f (128 + y) (omega arith) (omega arith)) (All-nil (IsEncodedByte f))))
+    (All-cons (IsEncodedByte f) (0xC0 + x) ((0x80 + y) ∷ []) (byte f (0xC0 + x) (omega arith) (omega arith))
+    (All-cons (IsEncodedByte f) (0x80 + y) [] (byte f (0x80 + y) (omega arith) (omega arith)) (All-nil (IsEncodedByte f))))
 bytes_by f c (three x y z h) =
     rw (encoding_three f c x y z h)
-    (three_bytes f (224 + x) (128 + y) (128 + z) [] (omega arith) (omega arith) (omega arith) (omega arith) (omega arith) (omega arith) (All-nil (IsEncodedByte f)))
+    (three_bytes f (0xE0 + x) (0x80 + y) (0x80 + z) [] (omega arith) (omega arith) (omega arith) (omega arith) (omega arith) (omega arith) (All-nil (IsEncodedByte f)))
 bytes_by f c (pair w x y z h) =
     rw (encoding_pair f c w x y z h)
-    (three_bytes f 237 (160 + w) (128 + x) (237 ∷ (176 + y) ∷ (128 + z) ∷ []) (omega arith) (omega arith) (omega arith) (omega arith) (omega arith) (omega arith)
-    (three_bytes f 237 (176 + y) (128 + z) [] (omega arith) (omega arith) (omega arith) (omega arith) (omega arith) (omega arith) (All-nil (IsEncodedByte f))))
+    (three_bytes f 0xED (0xA0 + w) (0x80 + x) (0xED ∷ (0xB0 + y) ∷ (0x80 + z) ∷ []) (omega arith) (omega arith) (omega arith) (omega arith) (omega arith) (omega arith)
+    (three_bytes f 0xED (0xB0 + y) (0x80 + z) [] (omega arith) (omega arith) (omega arith) (omega arith) (omega arith) (omega arith) (All-nil (IsEncodedByte f))))
 
 -- Each byte of an encoding is such a byte.
 pub encoded_bytes : (f : Flavor) (text : List ℕ) → IsText text → All (IsEncodedByte f) (encoding f text)

@@ -24,13 +24,13 @@ copied f c n bytes front s e t enc utf = record {
 }
 
 -- A byte below 80 (hexadecimal) that is its own short form is a character.
-pub found_one : (f : Flavor) (bytes : List ℕ) → 0 < length bytes → get_or bytes 0 0 < 128 →
+pub found_one : (f : Flavor) (bytes : List ℕ) → 0 < length bytes → get_or bytes 0 0 < 0x80 →
     short_form f (get_or bytes 0 0) ≡ get_or bytes 0 0 ∷ [] → Found f bytes 1 (take 1 bytes)
 found_one f [] l h e = absurd (omega arith)
 found_one f (a ∷ bytes) l h e =
     copied f a 1 (a ∷ bytes) (a ∷ []) (inl (omega arith)) refl refl (encoding_one f a h ∙ e) (utf8_of_one a h)
 
-found_null_at : (bytes : List ℕ) → 2 ≤ length bytes → get_or bytes 0 0 ≡ 192 → get_or bytes 1 0 ≡ 128 →
+found_null_at : (bytes : List ℕ) → 2 ≤ length bytes → get_or bytes 0 0 ≡ 0xC0 → get_or bytes 1 0 ≡ 0x80 →
     Found Mutf8 bytes 2 (0 ∷ [])
 found_null_at [] l h e = absurd (omega arith)
 found_null_at (a ∷ []) l h e = absurd (omega arith)
@@ -44,46 +44,46 @@ found_null_at (a ∷ b ∷ bytes) l h e = record {
 }
 
 -- C0 80 (hexadecimal) is the null character of MUTF-8.
-pub found_null : (f : Flavor) (bytes : List ℕ) → f ≡ Mutf8 → 2 ≤ length bytes → get_or bytes 0 0 ≡ 192 →
-    get_or bytes 1 0 ≡ 128 → Found f bytes 2 (0 ∷ [])
+pub found_null : (f : Flavor) (bytes : List ℕ) → f ≡ Mutf8 → 2 ≤ length bytes → get_or bytes 0 0 ≡ 0xC0 →
+    get_or bytes 1 0 ≡ 0x80 → Found f bytes 2 (0 ∷ [])
 found_null f bytes m l h e = subst (λ g. Found g bytes 2 (0 ∷ [])) (sym m) (found_null_at bytes l h e)
 
 -- A lead byte of two and a continuation byte are a character.
-pub found_two : (f : Flavor) (bytes : List ℕ) → 2 ≤ length bytes → 194 ≤ get_or bytes 0 0 → get_or bytes 0 0 < 224 →
+pub found_two : (f : Flavor) (bytes : List ℕ) → 2 ≤ length bytes → 0xC2 ≤ get_or bytes 0 0 → get_or bytes 0 0 < 0xE0 →
     IsContinuation (get_or bytes 1 0) → Found f bytes 2 (take 2 bytes)
 found_two f [] l low high h = absurd (omega arith)
 found_two f (a ∷ []) l low high h = absurd (omega arith)
 found_two f (a ∷ b ∷ bytes) l low high h =
-    let c = (a - 192) * 64 + (b - 128) in
-    let digits : IsTwo c (a - 192) (b - 128) =
+    let c = (a - 0xC0) * 0x40 + (b - 0x80) in
+    let digits : IsTwo c (a - 0xC0) (b - 0x80) =
     record { value = refl; low = omega arith; high = omega arith; last = omega (arith, h.0, h.1) } in
-    let e0 : 192 + (a - 192) ≡ a = omega arith in
-    let e1 : 128 + (b - 128) ≡ b = omega (arith, h.0) in
-    let same : (192 + (a - 192)) ∷ (128 + (b - 128)) ∷ [] ≡ a ∷ b ∷ [] = rw (e0, e1) refl in
+    let e0 : 0xC0 + (a - 0xC0) ≡ a = omega arith in
+    let e1 : 0x80 + (b - 0x80) ≡ b = omega (arith, h.0) in
+    let same : (0xC0 + (a - 0xC0)) ∷ (0x80 + (b - 0x80)) ∷ [] ≡ a ∷ b ∷ [] = rw (e0, e1) refl in
     copied f c 2 (a ∷ b ∷ bytes) (a ∷ b ∷ []) (inl (omega (arith, h.1))) refl refl
     (encoding_two f c _ _ digits ∙ same) (utf8_of_two c _ _ digits ∙ same)
 
 -- The value of three bytes is no smaller than what needs them, and is no surrogate.
 value_of_three : ℕ → ℕ → ℕ → ℕ
-value_of_three a b d = (a - 224) * 4096 + (b - 128) * 64 + (d - 128)
+value_of_three a b d = (a - 0xE0) * 0x1000 + (b - 0x80) * 0x40 + (d - 0x80)
 
-low_of_three : (a b d : ℕ) → 224 ≤ a → IsContinuation b → (a ≡ 224 → 160 ≤ b) → 2048 ≤ value_of_three a b d
+low_of_three : (a b d : ℕ) → 0xE0 ≤ a → IsContinuation b → (a ≡ 0xE0 → 0xA0 ≤ b) → 0x800 ≤ value_of_three a b d
 unfolding value_of_three
 low_of_three a b d low h p =
-    ⊎_elim (λ e. omega (arith, p e)) (λ n. omega (arith, h.0)) (cases_eq a 224)
+    ⊎_elim (λ e. omega (arith, p e)) (λ n. omega (arith, h.0)) (cases_eq a 0xE0)
 
-scalar_of_three : (a b d : ℕ) → 224 ≤ a → a < 240 → IsContinuation b → IsContinuation d → (a ≡ 237 → b < 160) →
+scalar_of_three : (a b d : ℕ) → 0xE0 ≤ a → a < 0xF0 → IsContinuation b → IsContinuation d → (a ≡ 0xED → b < 0xA0) →
     IsScalarValue (value_of_three a b d)
 unfolding value_of_three
 scalar_of_three a b d low high h k q =
-    ⊎_elim (λ (l : a < 237). inl (omega (arith, h.1, k.1)))
-    (λ (l : 237 ≤ a). ⊎_elim (λ e. inl (omega (arith, q e, k.1))) (λ n. inr (omega (arith, h.0), omega (arith, h.1, k.1))) (cases_eq a 237))
-    (cases_lt a 237)
+    ⊎_elim (λ (l : a < 0xED). inl (omega (arith, h.1, k.1)))
+    (λ (l : 0xED ≤ a). ⊎_elim (λ e. inl (omega (arith, q e, k.1))) (λ n. inr (omega (arith, h.0), omega (arith, h.1, k.1))) (cases_eq a 0xED))
+    (cases_lt a 0xED)
 
 -- A lead byte of three and two continuation bytes are a character that needs three and is no surrogate.
-pub found_three : (f : Flavor) (bytes : List ℕ) → 3 ≤ length bytes → 224 ≤ get_or bytes 0 0 → get_or bytes 0 0 < 240 →
+pub found_three : (f : Flavor) (bytes : List ℕ) → 3 ≤ length bytes → 0xE0 ≤ get_or bytes 0 0 → get_or bytes 0 0 < 0xF0 →
     IsContinuation (get_or bytes 1 0) → IsContinuation (get_or bytes 2 0) →
-    (get_or bytes 0 0 ≡ 224 → 160 ≤ get_or bytes 1 0) → (get_or bytes 0 0 ≡ 237 → get_or bytes 1 0 < 160) →
+    (get_or bytes 0 0 ≡ 0xE0 → 0xA0 ≤ get_or bytes 1 0) → (get_or bytes 0 0 ≡ 0xED → get_or bytes 1 0 < 0xA0) →
     Found f bytes 3 (take 3 bytes)
 unfolding value_of_three
 found_three f [] l low high h k p q = absurd (omega arith)
@@ -91,40 +91,40 @@ found_three f (a ∷ []) l low high h k p q = absurd (omega arith)
 found_three f (a ∷ b ∷ []) l low high h k p q = absurd (omega arith)
 found_three f (a ∷ b ∷ d ∷ bytes) l low high h k p q =
     let c = value_of_three a b d in
-    let digits : IsThree c (a - 224) (b - 128) (d - 128) =
+    let digits : IsThree c (a - 0xE0) (b - 0x80) (d - 0x80) =
     record { value = refl; low = low_of_three a b d low h p; high = omega arith; middle = omega (arith, h.0, h.1); last = omega (arith, k.0, k.1) } in
-    let e0 : 224 + (a - 224) ≡ a = omega arith in
-    let e1 : 128 + (b - 128) ≡ b = omega (arith, h.0) in
-    let e2 : 128 + (d - 128) ≡ d = omega (arith, k.0) in
-    let same : (224 + (a - 224)) ∷ (128 + (b - 128)) ∷ (128 + (d - 128)) ∷ [] ≡ a ∷ b ∷ d ∷ [] = rw (e0, e1, e2) refl in
+    let e0 : 0xE0 + (a - 0xE0) ≡ a = omega arith in
+    let e1 : 0x80 + (b - 0x80) ≡ b = omega (arith, h.0) in
+    let e2 : 0x80 + (d - 0x80) ≡ d = omega (arith, k.0) in
+    let same : (0xE0 + (a - 0xE0)) ∷ (0x80 + (b - 0x80)) ∷ (0x80 + (d - 0x80)) ∷ [] ≡ a ∷ b ∷ d ∷ [] = rw (e0, e1, e2) refl in
     copied f c 3 (a ∷ b ∷ d ∷ bytes) (a ∷ b ∷ d ∷ []) (scalar_of_three a b d low high h k q) refl refl
     (encoding_three f c _ _ _ digits ∙ same) (utf8_of_three c _ _ _ digits ∙ same)
 
 -- The scalar value of a surrogate pair, by its digits.
 pub pair_value : ℕ → ℕ → ℕ → ℕ → ℕ
-pair_value w x y z = 65536 + w * 65536 + x * 1024 + y * 64 + z
+pair_value w x y z = 0x10000 + w * 0x10000 + x * 0x400 + y * 0x40 + z
 
 -- It has these digits.
-pub pair_of : (w x y z : ℕ) → w < 16 → x < 64 → y < 16 → z < 64 → IsPair (pair_value w x y z) w x y z
+pub pair_of : (w x y z : ℕ) → w < 0x10 → x < 0x40 → y < 0x10 → z < 0x40 → IsPair (pair_value w x y z) w x y z
 unfolding pair_value
 pair_of w x y z hw hx hy hz = record { value = refl; first = hw; second = hx; third = hy; last = hz }
 
 -- What joins the digits, wherever they stand, to the UTF-8 that is written.
 abbrev pub Joins : List ℕ → List ℕ → Type 0
-Joins four written = (c w x y z : ℕ) → IsPair c w x y z → four ≡ (160 + w) ∷ (128 + x) ∷ (176 + y) ∷ (128 + z) ∷ [] →
+Joins four written = (c w x y z : ℕ) → IsPair c w x y z → four ≡ (0xA0 + w) ∷ (0x80 + x) ∷ (0xB0 + y) ∷ (0x80 + z) ∷ [] →
     written ≡ utf8_of c
 
-found_six : (f : Flavor) (a b d e g h : ℕ) (rest written : List ℕ) → a ≡ 237 → 160 ≤ b → b < 176 → EndsPair d e g h →
+found_six : (f : Flavor) (a b d e g h : ℕ) (rest written : List ℕ) → a ≡ 0xED → 0xA0 ≤ b → b < 0xB0 → EndsPair d e g h →
     Joins (b ∷ d ∷ g ∷ h ∷ []) written → Found f (a ∷ b ∷ d ∷ e ∷ g ∷ h ∷ rest) 6 written
 unfolding pair_value
 found_six f a b d e g h rest written lead low high ends joins =
-    let digits = pair_of (b - 160) (d - 128) (g - 176) (h - 128) (omega arith) (omega (arith, ends.0.1)) (omega (arith, ends.2.1)) (omega (arith, ends.3.1)) in
-    let e1 : 160 + (b - 160) ≡ b = omega arith in
-    let e2 : 128 + (d - 128) ≡ d = omega (arith, ends.0.0) in
-    let e4 : 176 + (g - 176) ≡ g = omega (arith, ends.2.0) in
-    let e5 : 128 + (h - 128) ≡ h = omega (arith, ends.3.0) in
+    let digits = pair_of (b - 0xA0) (d - 0x80) (g - 0xB0) (h - 0x80) (omega arith) (omega (arith, ends.0.1)) (omega (arith, ends.2.1)) (omega (arith, ends.3.1)) in
+    let e1 : 0xA0 + (b - 0xA0) ≡ b = omega arith in
+    let e2 : 0x80 + (d - 0x80) ≡ d = omega (arith, ends.0.0) in
+    let e4 : 0xB0 + (g - 0xB0) ≡ g = omega (arith, ends.2.0) in
+    let e5 : 0x80 + (h - 0x80) ≡ h = omega (arith, ends.3.0) in
     record {
-      character = pair_value (b - 160) (d - 128) (g - 176) (h - 128);
+      character = pair_value (b - 0xA0) (d - 0x80) (g - 0xB0) (h - 0x80);
       begins = record {
         scalar = inr (omega arith, omega (arith, ends.0.1, ends.2.1, ends.3.1));
         bytes_are = rw (encoding_pair f _ _ _ _ _ digits, e1, e2, e4, e5, lead, ends.1) refl;
@@ -133,8 +133,8 @@ found_six f a b d e g h rest written lead low high ends joins =
     }
 
 -- Six bytes with the pattern of a surrogate pair are a character.
-pub found_pair : (f : Flavor) (bytes written : List ℕ) → 6 ≤ length bytes → get_or bytes 0 0 ≡ 237 → 160 ≤ get_or bytes 1 0 →
-    get_or bytes 1 0 < 176 → EndsPair (get_or bytes 2 0) (get_or bytes 3 0) (get_or bytes 4 0) (get_or bytes 5 0) →
+pub found_pair : (f : Flavor) (bytes written : List ℕ) → 6 ≤ length bytes → get_or bytes 0 0 ≡ 0xED → 0xA0 ≤ get_or bytes 1 0 →
+    get_or bytes 1 0 < 0xB0 → EndsPair (get_or bytes 2 0) (get_or bytes 3 0) (get_or bytes 4 0) (get_or bytes 5 0) →
     Joins (get_or bytes 1 0 ∷ get_or bytes 2 0 ∷ get_or bytes 4 0 ∷ get_or bytes 5 0 ∷ []) written → Found f bytes 6 written
 found_pair f (a ∷ b ∷ d ∷ e ∷ g ∷ h ∷ rest) written l lead low high ends joins =
     found_six f a b d e g h rest written lead low high ends joins

@@ -40,11 +40,11 @@ pub record Step (f : Flavor) (bytes rest written : List ℕ) : Type 0 where
 
 -- The first character by its bytes.
 pub data Front (f : Flavor) (bytes : List ℕ) : Type 0 where
-  front_one : (a : ℕ) (rest : List ℕ) → a < 128 → bytes ≡ a ∷ rest → Step f bytes rest (short_form f a) → Front f bytes
-  front_two : (a b : ℕ) (rest : List ℕ) → 192 ≤ a → a < 224 → bytes ≡ a ∷ b ∷ rest → Step f bytes rest (a ∷ b ∷ []) → Front f bytes
-  front_three : (a b c : ℕ) (rest : List ℕ) → 224 ≤ a → a < 240 → bytes ≡ a ∷ b ∷ c ∷ rest →
+  front_one : (a : ℕ) (rest : List ℕ) → a < 0x80 → bytes ≡ a ∷ rest → Step f bytes rest (short_form f a) → Front f bytes
+  front_two : (a b : ℕ) (rest : List ℕ) → 0xC0 ≤ a → a < 0xE0 → bytes ≡ a ∷ b ∷ rest → Step f bytes rest (a ∷ b ∷ []) → Front f bytes
+  front_three : (a b c : ℕ) (rest : List ℕ) → 0xE0 ≤ a → a < 0xF0 → bytes ≡ a ∷ b ∷ c ∷ rest →
       Step f bytes rest (a ∷ b ∷ c ∷ []) → Front f bytes
-  front_four : (scalar a b c d : ℕ) (rest : List ℕ) → 240 ≤ a → 65536 ≤ scalar → scalar < 1114112 →
+  front_four : (scalar a b c d : ℕ) (rest : List ℕ) → 0xF0 ≤ a → 0x10000 ≤ scalar → scalar < 0x110000 →
       utf8_of scalar ≡ a ∷ b ∷ c ∷ d ∷ [] → bytes ≡ a ∷ b ∷ c ∷ d ∷ rest →
       Step f bytes rest (encoding f (scalar ∷ [])) → Front f bytes
 
@@ -60,10 +60,10 @@ by_shape f c bytes rest h (one low) =
     front_one c rest low (rw (utf8_of_one c low) at h.bytes_are)
     (step f c bytes rest _ h (encoding_one f c low))
 by_shape f c bytes rest h (two x y d) =
-    front_two (192 + x) (128 + y) rest (omega arith) (omega arith) (rw (utf8_of_two c x y d) at h.bytes_are)
+    front_two (0xC0 + x) (0x80 + y) rest (omega arith) (omega arith) (rw (utf8_of_two c x y d) at h.bytes_are)
     (step f c bytes rest _ h (encoding_two f c x y d))
 by_shape f c bytes rest h (three x y z d) =
-    front_three (224 + x) (128 + y) (128 + z) rest (omega arith) (omega arith) (rw (utf8_of_three c x y z d) at h.bytes_are)
+    front_three (0xE0 + x) (0x80 + y) (0x80 + z) rest (omega arith) (omega arith) (rw (utf8_of_three c x y z d) at h.bytes_are)
     (step f c bytes rest _ h (encoding_three f c x y z d))
 by_shape f c bytes rest h (pair w x y z d) =
     front_four c _ _ _ _ rest (omega arith) (omega arith) (omega arith) (utf8_of_pair c w x y z d) (rw (utf8_of_pair c w x y z d) at h.bytes_are)
@@ -90,10 +90,10 @@ writes f bytes rest written width long e h = record {
 
 -- What a lead byte says of its character.
 pub record LeadSays (f : Flavor) (bytes : List ℕ) : Type 0 where
-  pub of_one : get_or bytes 0 0 < 128 → Writes f bytes 1 (short_form f (get_or bytes 0 0))
-  pub of_two : 128 ≤ get_or bytes 0 0 → get_or bytes 0 0 < 224 → Writes f bytes 2 (take 2 bytes)
-  pub of_three : 224 ≤ get_or bytes 0 0 → get_or bytes 0 0 < 240 → Writes f bytes 3 (take 3 bytes)
-  pub of_four : 240 ≤ get_or bytes 0 0 → (c : ℕ) × (65536 ≤ c) × (c < 1114112) × (utf8_of c ≡ take 4 bytes)
+  pub of_one : get_or bytes 0 0 < 0x80 → Writes f bytes 1 (short_form f (get_or bytes 0 0))
+  pub of_two : 0x80 ≤ get_or bytes 0 0 → get_or bytes 0 0 < 0xE0 → Writes f bytes 2 (take 2 bytes)
+  pub of_three : 0xE0 ≤ get_or bytes 0 0 → get_or bytes 0 0 < 0xF0 → Writes f bytes 3 (take 3 bytes)
+  pub of_four : 0xF0 ≤ get_or bytes 0 0 → (c : ℕ) × (0x10000 ≤ c) × (c < 0x110000) × (utf8_of c ≡ take 4 bytes)
       × Writes f bytes 4 (encoding f (c ∷ []))
 
 lead_says : (f : Flavor) (bytes : List ℕ) → Front f bytes → LeadSays f bytes
@@ -145,5 +145,5 @@ module _ (f : Flavor) (bytes : List ℕ) (width : ℕ) (written : List ℕ) (h :
   written_and_rest old new rest e d = rw (e, d, h.encoded) (sym (append_assoc old written _))
 
 -- A surrogate pair is six bytes.
-pub length_of_pair : (f : Flavor) (c : ℕ) → 65536 ≤ c → c < 1114112 → length (encoding f (c ∷ [])) ≡ 6
+pub length_of_pair : (f : Flavor) (c : ℕ) → 0x10000 ≤ c → c < 0x110000 → length (encoding f (c ∷ [])) ≡ 6
 length_of_pair f c low high = ap length (encoding_pair f c _ _ _ _ (pair_digits c low high))

@@ -8,7 +8,7 @@ use Rattle.simd_cesu8.proofs.Patterns.{Pattern, of_one, of_null, of_two, of_thre
 
 -- a byte that no character begins with: a continuation byte, or ED before the end of a low surrogate
 abbrev IsInner : List ℕ → ℕ → Type 0
-IsInner bytes j = IsContinuation (get_or bytes j 0) ⊎ ((get_or bytes j 0 ≡ 237) × (176 ≤ get_or bytes (suc j) 0))
+IsInner bytes j = IsContinuation (get_or bytes j 0) ⊎ ((get_or bytes j 0 ≡ 0xED) × (0xB0 ≤ get_or bytes (suc j) 0))
 
 -- no pattern begins with one
 inner_begins_none : (f : Flavor) (bytes : List ℕ) (c : ℕ) → IsInner bytes 0 → Pattern f bytes c → ⊥
@@ -23,7 +23,7 @@ inner_begins_none f bytes c (inr h) (of_two x y d e _ _) = omega (arith, h.0)
 inner_begins_none f bytes c (inr h) (of_three x y z d s e e1 _ _) = omega (arith, h.0, h.1, s (omega (arith, h.0)))
 inner_begins_none f bytes c (inr h) (of_pair w x y z d e e1 _ _ _ _ _) = omega (arith, h.1)
 
-width_one : (f : Flavor) (c : ℕ) → c < 128 → (f ≡ Mutf8 → 0 < c) → width f c ≡ 1
+width_one : (f : Flavor) (c : ℕ) → c < 0x80 → (f ≡ Mutf8 → 0 < c) → width f c ≡ 1
 width_one Cesu8 c h n = ap length (encoding_one Cesu8 c h)
 width_one Mutf8 c h n = ap length (encoding_one Mutf8 c h ∙ short_form_other Mutf8 c (λ e. omega (arith, n refl)))
 

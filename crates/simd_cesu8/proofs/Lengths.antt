@@ -16,17 +16,17 @@ pub data Change (f : Flavor) (c : ℕ) : Type 0 where
       length (encoding f (c ∷ [])) ≤ 2 * length (utf8_of c) → Change f c
 
 -- Between 0 and 10000 (hexadecimal) no scalar value is encoded otherwise.
-pub not_otherwise : (f : Flavor) (c : ℕ) → 0 < c → c < 65536 → IsEncodedOtherwise f c → ⊥
+pub not_otherwise : (f : Flavor) (c : ℕ) → 0 < c → c < 0x10000 → IsEncodedOtherwise f c → ⊥
 not_otherwise Cesu8 c l h e = omega arith
 not_otherwise Mutf8 c l h (inl e) = omega arith
 not_otherwise Mutf8 c l h (inr e) = omega arith
 
 -- From 10000 (hexadecimal) on each is.
-pub otherwise : (f : Flavor) (c : ℕ) → 65536 ≤ c → IsEncodedOtherwise f c
+pub otherwise : (f : Flavor) (c : ℕ) → 0x10000 ≤ c → IsEncodedOtherwise f c
 otherwise Cesu8 c h = h
 otherwise Mutf8 c h = inr h
 
-change_one : (f : Flavor) (c : ℕ) → c < 128 → (c ≡ 0) ⊎ (c ≡ 0 → ⊥) → Change f c
+change_one : (f : Flavor) (c : ℕ) → c < 0x80 → (c ≡ 0) ⊎ (c ≡ 0 → ⊥) → Change f c
 change_one Cesu8 c h _ = same (λ l. omega arith) (encoding_one Cesu8 c h ∙ sym (utf8_of_one c h))
 change_one Mutf8 c h (inl e) =
     let utf : length (utf8_of c) ≡ 1 = ap length (utf8_of_one c h) in

@@ -29,11 +29,11 @@ unfolding size
 size_replaced f b bytes n = rw (reading_replaced f b bytes n) (length_utf8_replaced (reading f bytes))
 
 -- a lead byte of four, and a continuation byte
-none_begins : (f : Flavor) (b : ℕ) (bytes : List ℕ) → 128 ≤ b → (b < 192) ⊎ (240 ≤ b) → NoneBegins f (b ∷ bytes)
+none_begins : (f : Flavor) (b : ℕ) (bytes : List ℕ) → 0x80 ≤ b → (b < 0xC0) ⊎ (0xF0 ≤ b) → NoneBegins f (b ∷ bytes)
 none_begins f b bytes l (inl h) = none_by_lead f (b ∷ bytes) l (λ e. omega arith) (λ p. omega arith)
 none_begins f b bytes l (inr h) = none_by_lead f (b ∷ bytes) l (λ e. omega arith) (λ p. h)
 
-size_of_four : (f : Flavor) (a b d e : ℕ) (bytes : List ℕ) → 240 ≤ a → 128 ≤ b → b < 192 → 128 ≤ d → d < 192 → 128 ≤ e → e < 192 →
+size_of_four : (f : Flavor) (a b d e : ℕ) (bytes : List ℕ) → 0xF0 ≤ a → 0x80 ≤ b → b < 0xC0 → 0x80 ≤ d → d < 0xC0 → 0x80 ≤ e → e < 0xC0 →
     size f (a ∷ b ∷ d ∷ e ∷ bytes) ≡ 12 + size f bytes
 size_of_four f a b d e bytes la lb hb ld hd le he =
     omega (
@@ -45,7 +45,7 @@ size_of_four f a b d e bytes la lb hb ld hd le he =
     )
 
 -- A scalar value that is encoded otherwise is longer in the reading of its UTF-8, and the others are as long.
-null_longer : (f : Flavor) (c : ℕ) (bytes : List ℕ) → c < 128 → IsEncodedOtherwise f c →
+null_longer : (f : Flavor) (c : ℕ) (bytes : List ℕ) → c < 0x80 → IsEncodedOtherwise f c →
     1 + size f bytes < size f (c ∷ bytes)
 null_longer Cesu8 c bytes h o = absurd (omega arith)
 null_longer Mutf8 c bytes h (inl z) = omega (arith, size_replaced Mutf8 c bytes (none_by_zero Mutf8 (c ∷ bytes) refl z))
@@ -60,7 +60,7 @@ longer_by f c bytes (pair w x y z h) o =
     rw (utf8_of_pair c w x y z h)
     (omega (
       arith,
-      size_of_four f (240 + (w + 1) / 4) (128 + ((w + 1) % 4 * 16 + x / 4)) (128 + (x % 4 * 16 + y)) (128 + z) bytes
+      size_of_four f (0xF0 + (w + 1) / 4) (0x80 + ((w + 1) % 4 * 0x10 + x / 4)) (0x80 + (x % 4 * 0x10 + y)) (0x80 + z) bytes
           (omega arith) (omega arith) (omega arith) (omega arith) (omega arith) (omega arith) (omega arith),
     ))
 

@@ -5,26 +5,26 @@ use Rattle.std.proofs.lemmas.Nat.{and_mask, and_block, and_le_r}
 use Rattle.simd_cesu8.specs.Internal.{EndsPair}
 
 -- a word's mask is that of each of its bytes
-masked : (a b c d : ℕ) → a < 256 → b < 256 → c < 256 → d < 256 →
-    bit_and (a * 16777216 + b * 65536 + c * 256 + d) 0xC0FFF0C0
-    ≡ bit_and a 192 * 16777216 + b * 65536 + bit_and c 240 * 256 + bit_and d 192
+masked : (a b c d : ℕ) → a < 0x100 → b < 0x100 → c < 0x100 → d < 0x100 →
+    bit_and (a * 0x1000000 + b * 0x10000 + c * 0x100 + d) 0xC0FFF0C0
+    ≡ bit_and a 0xC0 * 0x1000000 + b * 0x10000 + bit_and c 0xF0 * 0x100 + bit_and d 0xC0
 masked a b c d ha hb hc hd =
-    let whole : a * 16777216 + b * 65536 + c * 256 + d ≡ a * 2 ^ 24 + (b * 2 ^ 16 + (c * 2 ^ 8 + d)) = omega arith in
-    let all : bit_and b 255 ≡ b = omega (arith, and_mask b 8) in
+    let whole : a * 0x1000000 + b * 0x10000 + c * 0x100 + d ≡ a * 2 ^ 24 + (b * 2 ^ 16 + (c * 2 ^ 8 + d)) = omega arith in
+    let all : bit_and b 0xFF ≡ b = omega (arith, and_mask b 8) in
     rw (
       whole,
-      and_block 24 a 192 (b * 2 ^ 16 + (c * 2 ^ 8 + d)) 0xFFF0C0 (omega arith) (omega arith),
-      and_block 16 b 255 (c * 2 ^ 8 + d) 0xF0C0 (omega arith) (omega arith),
-      and_block 8 c 240 d 192 (omega arith) (omega arith),
+      and_block 24 a 0xC0 (b * 2 ^ 16 + (c * 2 ^ 8 + d)) 0xFFF0C0 (omega arith) (omega arith),
+      and_block 16 b 0xFF (c * 2 ^ 8 + d) 0xF0C0 (omega arith) (omega arith),
+      and_block 8 c 0xF0 d 0xC0 (omega arith) (omega arith),
       all,
     ) (omega arith)
 
 -- a mask tests a range
-continuation_test : (x : ℕ) → x < 256 → eqb (bit_and x 192) 128 ≡ (leb 128 x && ltb x 192)
-continuation_test x h = agree_below_at (λ x. eqb (bit_and x 192) 128) (λ x. leb 128 x && ltb x 192) 256 x refl h
+continuation_test : (x : ℕ) → x < 0x100 → eqb (bit_and x 0xC0) 0x80 ≡ (leb 0x80 x && ltb x 0xC0)
+continuation_test x h = agree_below_at (λ x. eqb (bit_and x 0xC0) 0x80) (λ x. leb 0x80 x && ltb x 0xC0) 0x100 x refl h
 
-low_surrogate_test : (x : ℕ) → x < 256 → eqb (bit_and x 240) 176 ≡ (leb 176 x && ltb x 192)
-low_surrogate_test x h = agree_below_at (λ x. eqb (bit_and x 240) 176) (λ x. leb 176 x && ltb x 192) 256 x refl h
+low_surrogate_test : (x : ℕ) → x < 0x100 → eqb (bit_and x 0xF0) 0xB0 ≡ (leb 0xB0 x && ltb x 0xC0)
+low_surrogate_test x h = agree_below_at (λ x. eqb (bit_and x 0xF0) 0xB0) (λ x. leb 0xB0 x && ltb x 0xC0) 0x100 x refl h
 
 between : (low high x : ℕ) → (leb low x && ltb x high) ≡ true → (low ≤ x) × (x < high)
 between low high x e =
@@ -35,26 +35,26 @@ in_between : (low high x : ℕ) → (low ≤ x) × (x < high) → (leb low x && 
 in_between low high x h = and_from (leb low x) (ltb x high) (le-leb low x h.0) (lt-ltb x high h.1)
 
 -- Four bytes whose word passes the test end a pair.
-pub word_ends_pair : (a b c d : ℕ) → a < 256 → b < 256 → c < 256 → d < 256 →
-    bit_and (a * 16777216 + b * 65536 + c * 256 + d) 0xC0FFF0C0 ≡ 0x80EDB080 →
+pub word_ends_pair : (a b c d : ℕ) → a < 0x100 → b < 0x100 → c < 0x100 → d < 0x100 →
+    bit_and (a * 0x1000000 + b * 0x10000 + c * 0x100 + d) 0xC0FFF0C0 ≡ 0x80EDB080 →
     EndsPair a b c d
 word_ends_pair a b c d ha hb hc hd e =
     let sum = sym (masked a b c d ha hb hc hd) ∙ e in
-    let ea : bit_and a 192 ≡ 128 = omega (arith, and_le_r a 192, and_le_r c 240, and_le_r d 192) in
-    let eb : b ≡ 237 = omega (arith, and_le_r a 192, and_le_r c 240, and_le_r d 192) in
-    let ec : bit_and c 240 ≡ 176 = omega (arith, and_le_r a 192, and_le_r c 240, and_le_r d 192) in
-    let ed : bit_and d 192 ≡ 128 = omega (arith, and_le_r a 192, and_le_r c 240, and_le_r d 192) in (
-      between 128 192 a (sym (continuation_test a ha) ∙ eq-eqb _ _ ea),
+    let ea : bit_and a 0xC0 ≡ 0x80 = omega (arith, and_le_r a 0xC0, and_le_r c 0xF0, and_le_r d 0xC0) in
+    let eb : b ≡ 0xED = omega (arith, and_le_r a 0xC0, and_le_r c 0xF0, and_le_r d 0xC0) in
+    let ec : bit_and c 0xF0 ≡ 0xB0 = omega (arith, and_le_r a 0xC0, and_le_r c 0xF0, and_le_r d 0xC0) in
+    let ed : bit_and d 0xC0 ≡ 0x80 = omega (arith, and_le_r a 0xC0, and_le_r c 0xF0, and_le_r d 0xC0) in (
+      between 0x80 0xC0 a (sym (continuation_test a ha) ∙ eq-eqb _ _ ea),
       eb,
-      between 176 192 c (sym (low_surrogate_test c hc) ∙ eq-eqb _ _ ec),
-      between 128 192 d (sym (continuation_test d hd) ∙ eq-eqb _ _ ed),
+      between 0xB0 0xC0 c (sym (low_surrogate_test c hc) ∙ eq-eqb _ _ ec),
+      between 0x80 0xC0 d (sym (continuation_test d hd) ∙ eq-eqb _ _ ed),
     )
 
 -- The word of four bytes that end a pair passes the test.
-pub pair_ends_word : (a b c d : ℕ) → a < 256 → b < 256 → c < 256 → d < 256 → EndsPair a b c d →
-    bit_and (a * 16777216 + b * 65536 + c * 256 + d) 0xC0FFF0C0 ≡ 0x80EDB080
+pub pair_ends_word : (a b c d : ℕ) → a < 0x100 → b < 0x100 → c < 0x100 → d < 0x100 → EndsPair a b c d →
+    bit_and (a * 0x1000000 + b * 0x10000 + c * 0x100 + d) 0xC0FFF0C0 ≡ 0x80EDB080
 pair_ends_word a b c d ha hb hc hd h =
-    let ea = eqb-true _ _ (continuation_test a ha ∙ in_between 128 192 a h.0) in
-    let ec = eqb-true _ _ (low_surrogate_test c hc ∙ in_between 176 192 c h.2) in
-    let ed = eqb-true _ _ (continuation_test d hd ∙ in_between 128 192 d h.3) in
+    let ea = eqb-true _ _ (continuation_test a ha ∙ in_between 0x80 0xC0 a h.0) in
+    let ec = eqb-true _ _ (low_surrogate_test c hc ∙ in_between 0xB0 0xC0 c h.2) in
+    let ed = eqb-true _ _ (continuation_test d hd ∙ in_between 0x80 0xC0 d h.3) in
     masked a b c d ha hb hc hd ∙ rw (ea, ec, ed) (omega (arith, h.1))

@@ -13,18 +13,18 @@ use Rattle.simd_cesu8.proofs.Encodings.{encoding_nil, encoding_cons}
 use Rattle.simd_cesu8.proofs.Lengths.{Change, same, longer, change, not_otherwise, otherwise, Bounds, bounds}
 use Rattle.simd_cesu8.proofs.Elements.{any_nil, any_here, any_there, any_cons, any_left, any_right, any_append, none_cons}
 
-four_from : (b : ℕ) → 240 ≤ b → b ≤ 247 → IsFour b
-four_from b l h = and_from _ _ (le-leb 240 b l) (le-leb b 247 h)
+four_from : (b : ℕ) → 0xF0 ≤ b → b ≤ 0xF7 → IsFour b
+four_from b l h = and_from _ _ (le-leb 0xF0 b l) (le-leb b 0xF7 h)
 
-not_four : (b : ℕ) → b < 240 → IsFour b → ⊥
-not_four b l h = omega (arith, leb-true 240 b (and_parts _ _ h).0)
+not_four : (b : ℕ) → b < 0xF0 → IsFour b → ⊥
+not_four b l h = omega (arith, leb-true 0xF0 b (and_parts _ _ h).0)
 
 changed_by_four : (f : Flavor) (b : ℕ) → IsFour b → IsChangedByte f b
 changed_by_four Cesu8 b h = h
 changed_by_four Mutf8 b h = or_right _ _ h
 
 -- A byte below F0 (hexadecimal) that in MUTF-8 is not 0 stays as it is.
-pub unchanged : (f : Flavor) (b : ℕ) → b < 240 → (f ≡ Mutf8 → b ≢ 0) → IsChangedByte f b → ⊥
+pub unchanged : (f : Flavor) (b : ℕ) → b < 0xF0 → (f ≡ Mutf8 → b ≢ 0) → IsChangedByte f b → ⊥
 unchanged Cesu8 b h n p = not_four b h p
 unchanged Mutf8 b h n p = ⊎_elim (λ e. n refl (eqb-true b 0 e)) (not_four b h) (or_cases _ _ p)
 
@@ -32,7 +32,7 @@ unchanged Mutf8 b h n p = ⊎_elim (λ e. n refl (eqb-true b 0 e)) (not_four b h
 neither : (P Q : Type 0) → (P → ⊥) → (Q → ⊥) → P ↔ Q
 neither P Q p q = ((λ h. absurd (p h)), (λ h. absurd (q h)))
 
-shows_one : (f : Flavor) (c : ℕ) → c < 128 → Any (IsChangedByte f) (c ∷ []) ↔ IsEncodedOtherwise f c
+shows_one : (f : Flavor) (c : ℕ) → c < 0x80 → Any (IsChangedByte f) (c ∷ []) ↔ IsEncodedOtherwise f c
 shows_one Cesu8 c h = neither _ _ (none_cons _ c [] (not_four c (omega arith)) (any_nil _)) (λ l. omega arith)
 shows_one Mutf8 c h = (
   (λ p. ⊎_elim (λ q. ⊎_elim (λ e. inl (eqb-true c 0 e)) (λ r. absurd (not_four c (omega arith) r)) (or_cases _ _ q))
@@ -40,7 +40,7 @@ shows_one Mutf8 c h = (
   (λ e. any_here IsNullFour c [] (⊎_elim (λ z. or_left _ _ (eq-eqb c 0 z)) (λ l. absurd (omega arith)) e)),
 )
 
-none_of_two : (f : Flavor) (a b : ℕ) → 0 < a → a < 240 → 0 < b → b < 240 → Any (IsChangedByte f) (a ∷ b ∷ []) → ⊥
+none_of_two : (f : Flavor) (a b : ℕ) → 0 < a → a < 0xF0 → 0 < b → b < 0xF0 → Any (IsChangedByte f) (a ∷ b ∷ []) → ⊥
 none_of_two f a b la ha lb hb =
     none_cons (IsChangedByte f) a (b ∷ []) (unchanged f a ha (λ _ e. omega arith))
     (none_cons (IsChangedByte f) b [] (unchanged f b hb (λ _ e. omega arith)) (any_nil (IsChangedByte f)))
@@ -49,17 +49,17 @@ none_of_two f a b la ha lb hb =
 shows_by : (f : Flavor) (c : ℕ) → Shape c → Any (IsChangedByte f) (utf8_of c) ↔ IsEncodedOtherwise f c
 shows_by f c (one h) = rw (utf8_of_one c h) (shows_one f c h)
 shows_by f c (two x y h) = rw (utf8_of_two c x y h) (neither _ _
-    (none_of_two f (192 + x) (128 + y) (omega arith) (omega arith) (omega arith) (omega arith))
+    (none_of_two f (0xC0 + x) (0x80 + y) (omega arith) (omega arith) (omega arith) (omega arith))
     (not_otherwise f c (omega arith) (omega arith)))
 shows_by f c (three x y z h) = rw (utf8_of_three c x y z h) (neither _ _
-    (none_cons _ (224 + x) ((128 + y) ∷ (128 + z) ∷ []) (unchanged f (224 + x) (omega arith) (λ _ e. omega arith))
-    (none_of_two f (128 + y) (128 + z) (omega arith) (omega arith) (omega arith) (omega arith)))
+    (none_cons _ (0xE0 + x) ((0x80 + y) ∷ (0x80 + z) ∷ []) (unchanged f (0xE0 + x) (omega arith) (λ _ e. omega arith))
+    (none_of_two f (0x80 + y) (0x80 + z) (omega arith) (omega arith) (omega arith) (omega arith)))
     (not_otherwise f c (omega arith) (omega arith)))
 shows_by f c (pair w x y z h) = rw (utf8_of_pair c w x y z h) (
   (λ _. otherwise f c (omega arith)),
-  (λ _. any_here _ (240 + (w + 1) / 4)
-      ((128 + ((w + 1) % 4 * 16 + x / 4)) ∷ (128 + (x % 4 * 16 + y)) ∷ (128 + z) ∷ []) (changed_by_four f (240 + (w + 1) / 4)
-      (four_from (240 + (w + 1) / 4) (omega arith) (omega arith)))),
+  (λ _. any_here _ (0xF0 + (w + 1) / 4)
+      ((0x80 + ((w + 1) % 4 * 0x10 + x / 4)) ∷ (0x80 + (x % 4 * 0x10 + y)) ∷ (0x80 + z) ∷ []) (changed_by_four f (0xF0 + (w + 1) / 4)
+      (four_from (0xF0 + (w + 1) / 4) (omega arith) (omega arith)))),
 )
 
 -- Bytes of UTF-8 show whether their text needs encoding.

@@ -10,8 +10,8 @@ none : (f : Flavor) (bytes : List ℕ) → ((c : ℕ) → Pattern f bytes c → 
 none f bytes n c rest h = n c (pattern f bytes c rest h)
 
 -- a lead byte that begins no form
-lead_fails : (f : Flavor) (bytes : List ℕ) → 128 ≤ get_or bytes 0 0 → (get_or bytes 0 0 ≡ 192 → ⊥) →
-    (194 ≤ get_or bytes 0 0 → 240 ≤ get_or bytes 0 0) → (c : ℕ) → Pattern f bytes c → ⊥
+lead_fails : (f : Flavor) (bytes : List ℕ) → 0x80 ≤ get_or bytes 0 0 → (get_or bytes 0 0 ≡ 0xC0 → ⊥) →
+    (0xC2 ≤ get_or bytes 0 0 → 0xF0 ≤ get_or bytes 0 0) → (c : ℕ) → Pattern f bytes c → ⊥
 lead_fails f bytes l n h c (of_one e low _) = omega arith
 lead_fails f bytes l n h c (of_null _ _ e _ _) = n e
 lead_fails f bytes l n h c (of_two x y d e _ _) = omega (arith, h (omega arith))
@@ -19,8 +19,8 @@ lead_fails f bytes l n h c (of_three x y z d _ e _ _ _) = omega (arith, h (omega
 lead_fails f bytes l n h c (of_pair w x y z d e _ _ _ _ _ _) = omega (arith, h (omega arith))
 
 -- A lead byte that begins no form begins no character.
-pub none_by_lead : (f : Flavor) (bytes : List ℕ) → 128 ≤ get_or bytes 0 0 → (get_or bytes 0 0 ≡ 192 → ⊥) →
-    (194 ≤ get_or bytes 0 0 → 240 ≤ get_or bytes 0 0) → NoneBegins f bytes
+pub none_by_lead : (f : Flavor) (bytes : List ℕ) → 0x80 ≤ get_or bytes 0 0 → (get_or bytes 0 0 ≡ 0xC0 → ⊥) →
+    (0xC2 ≤ get_or bytes 0 0 → 0xF0 ≤ get_or bytes 0 0) → NoneBegins f bytes
 none_by_lead f bytes l n h = none f bytes (lead_fails f bytes l n h)
 
 -- the byte 0 in MUTF-8
@@ -36,8 +36,8 @@ pub none_by_zero : (f : Flavor) (bytes : List ℕ) → f ≡ Mutf8 → get_or by
 none_by_zero f bytes m z = none f bytes (zero_fails f bytes m z)
 
 -- C0, where it is not the null character of MUTF-8
-null_fails : (f : Flavor) (bytes : List ℕ) → get_or bytes 0 0 ≡ 192 →
-    (f ≡ Mutf8 → 2 ≤ length bytes → get_or bytes 1 0 ≡ 128 → ⊥) → (c : ℕ) → Pattern f bytes c → ⊥
+null_fails : (f : Flavor) (bytes : List ℕ) → get_or bytes 0 0 ≡ 0xC0 →
+    (f ≡ Mutf8 → 2 ≤ length bytes → get_or bytes 1 0 ≡ 0x80 → ⊥) → (c : ℕ) → Pattern f bytes c → ⊥
 null_fails f bytes l n c (of_one e low _) = omega arith
 null_fails f bytes l n c (of_null m _ _ e long) = n m long e
 null_fails f bytes l n c (of_two x y d e _ _) = omega arith
@@ -45,12 +45,12 @@ null_fails f bytes l n c (of_three x y z d _ e _ _ _) = omega arith
 null_fails f bytes l n c (of_pair w x y z d e _ _ _ _ _ _) = omega arith
 
 -- C0 (hexadecimal) begins none, where it is not the null character of MUTF-8.
-pub none_by_null : (f : Flavor) (bytes : List ℕ) → get_or bytes 0 0 ≡ 192 →
-    (f ≡ Mutf8 → 2 ≤ length bytes → get_or bytes 1 0 ≡ 128 → ⊥) → NoneBegins f bytes
+pub none_by_null : (f : Flavor) (bytes : List ℕ) → get_or bytes 0 0 ≡ 0xC0 →
+    (f ≡ Mutf8 → 2 ≤ length bytes → get_or bytes 1 0 ≡ 0x80 → ⊥) → NoneBegins f bytes
 none_by_null f bytes l n = none f bytes (null_fails f bytes l n)
 
 -- a lead byte of two with no continuation byte after it
-two_fails : (f : Flavor) (bytes : List ℕ) → 194 ≤ get_or bytes 0 0 → get_or bytes 0 0 < 224 →
+two_fails : (f : Flavor) (bytes : List ℕ) → 0xC2 ≤ get_or bytes 0 0 → get_or bytes 0 0 < 0xE0 →
     (2 ≤ length bytes → IsContinuation (get_or bytes 1 0) → ⊥) → (c : ℕ) → Pattern f bytes c → ⊥
 two_fails f bytes l h n c (of_one e low _) = omega arith
 two_fails f bytes l h n c (of_null _ _ e _ _) = omega arith
@@ -59,15 +59,15 @@ two_fails f bytes l h n c (of_three x y z d _ e _ _ _) = omega arith
 two_fails f bytes l h n c (of_pair w x y z d e _ _ _ _ _ _) = omega arith
 
 -- A lead byte of two begins none, where no continuation byte is after it.
-pub none_by_two : (f : Flavor) (bytes : List ℕ) → 194 ≤ get_or bytes 0 0 → get_or bytes 0 0 < 224 →
+pub none_by_two : (f : Flavor) (bytes : List ℕ) → 0xC2 ≤ get_or bytes 0 0 → get_or bytes 0 0 < 0xE0 →
     (2 ≤ length bytes → IsContinuation (get_or bytes 1 0) → ⊥) → NoneBegins f bytes
 none_by_two f bytes l h n = none f bytes (two_fails f bytes l h n)
 
 -- a lead byte of three, but no surrogate, whose two continuation bytes are not there or too small
-three_fails : (f : Flavor) (bytes : List ℕ) → 224 ≤ get_or bytes 0 0 →
-    (get_or bytes 0 0 ≡ 237 → 2 ≤ length bytes → get_or bytes 1 0 < 160) →
+three_fails : (f : Flavor) (bytes : List ℕ) → 0xE0 ≤ get_or bytes 0 0 →
+    (get_or bytes 0 0 ≡ 0xED → 2 ≤ length bytes → get_or bytes 1 0 < 0xA0) →
     (3 ≤ length bytes → IsContinuation (get_or bytes 1 0) → IsContinuation (get_or bytes 2 0) →
-    (get_or bytes 0 0 ≡ 224 → 160 ≤ get_or bytes 1 0) → ⊥) → (c : ℕ) → Pattern f bytes c → ⊥
+    (get_or bytes 0 0 ≡ 0xE0 → 0xA0 ≤ get_or bytes 1 0) → ⊥) → (c : ℕ) → Pattern f bytes c → ⊥
 three_fails f bytes l s n c (of_one e low _) = omega arith
 three_fails f bytes l s n c (of_null _ _ e _ _) = omega arith
 three_fails f bytes l s n c (of_two x y d e _ _) = omega arith
@@ -76,15 +76,15 @@ three_fails f bytes l s n c (of_three x y z d _ e0 e1 e2 long) =
 three_fails f bytes l s n c (of_pair w x y z d e0 e1 _ _ _ _ long) = omega (arith, s e0 (omega arith))
 
 -- A lead byte of three, but no surrogate, begins none, where the two bytes after it do not fit.
-pub none_by_three : (f : Flavor) (bytes : List ℕ) → 224 ≤ get_or bytes 0 0 →
-    (get_or bytes 0 0 ≡ 237 → 2 ≤ length bytes → get_or bytes 1 0 < 160) →
+pub none_by_three : (f : Flavor) (bytes : List ℕ) → 0xE0 ≤ get_or bytes 0 0 →
+    (get_or bytes 0 0 ≡ 0xED → 2 ≤ length bytes → get_or bytes 1 0 < 0xA0) →
     (3 ≤ length bytes → IsContinuation (get_or bytes 1 0) → IsContinuation (get_or bytes 2 0) →
-    (get_or bytes 0 0 ≡ 224 → 160 ≤ get_or bytes 1 0) → ⊥) → NoneBegins f bytes
+    (get_or bytes 0 0 ≡ 0xE0 → 0xA0 ≤ get_or bytes 1 0) → ⊥) → NoneBegins f bytes
 none_by_three f bytes l s n = none f bytes (three_fails f bytes l s n)
 
 -- a surrogate with no low surrogate after it
-pair_fails : (f : Flavor) (bytes : List ℕ) → get_or bytes 0 0 ≡ 237 → 160 ≤ get_or bytes 1 0 →
-    (6 ≤ length bytes → get_or bytes 1 0 < 176 →
+pair_fails : (f : Flavor) (bytes : List ℕ) → get_or bytes 0 0 ≡ 0xED → 0xA0 ≤ get_or bytes 1 0 →
+    (6 ≤ length bytes → get_or bytes 1 0 < 0xB0 →
     EndsPair (get_or bytes 2 0) (get_or bytes 3 0) (get_or bytes 4 0) (get_or bytes 5 0) → ⊥) →
     (c : ℕ) → Pattern f bytes c → ⊥
 pair_fails f bytes l s n c (of_one e low _) = omega arith
@@ -95,7 +95,7 @@ pair_fails f bytes l s n c (of_pair w x y z d e0 e1 e2 e3 e4 e5 long) =
     n long (omega arith) ((omega arith, omega arith), e3, (omega arith, omega arith), (omega arith, omega arith))
 
 -- A surrogate begins none, where its six bytes are no surrogate pair.
-pub none_by_pair : (f : Flavor) (bytes : List ℕ) → get_or bytes 0 0 ≡ 237 → 160 ≤ get_or bytes 1 0 →
-    (6 ≤ length bytes → get_or bytes 1 0 < 176 →
+pub none_by_pair : (f : Flavor) (bytes : List ℕ) → get_or bytes 0 0 ≡ 0xED → 0xA0 ≤ get_or bytes 1 0 →
+    (6 ≤ length bytes → get_or bytes 1 0 < 0xB0 →
     EndsPair (get_or bytes 2 0) (get_or bytes 3 0) (get_or bytes 4 0) (get_or bytes 5 0) → ⊥) → NoneBegins f bytes
 none_by_pair f bytes l s n = none f bytes (pair_fails f bytes l s n)

@@ -9,18 +9,18 @@ use Rattle.simd_cesu8.proofs.Forms.{encoding_one, encoding_two, encoding_three, 
 
 -- The encoding of c, and more, by its bytes.
 pub data Pattern (f : Flavor) (bytes : List ℕ) (c : ℕ) : Type 0 where
-  of_one : get_or bytes 0 0 ≡ c → c < 128 → (f ≡ Mutf8 → 0 < c) → Pattern f bytes c
-  of_null : f ≡ Mutf8 → c ≡ 0 → get_or bytes 0 0 ≡ 192 → get_or bytes 1 0 ≡ 128 → 2 ≤ length bytes → Pattern f bytes c
-  of_two : (x y : ℕ) → IsTwo c x y → get_or bytes 0 0 ≡ 192 + x → get_or bytes 1 0 ≡ 128 + y → 2 ≤ length bytes →
+  of_one : get_or bytes 0 0 ≡ c → c < 0x80 → (f ≡ Mutf8 → 0 < c) → Pattern f bytes c
+  of_null : f ≡ Mutf8 → c ≡ 0 → get_or bytes 0 0 ≡ 0xC0 → get_or bytes 1 0 ≡ 0x80 → 2 ≤ length bytes → Pattern f bytes c
+  of_two : (x y : ℕ) → IsTwo c x y → get_or bytes 0 0 ≡ 0xC0 + x → get_or bytes 1 0 ≡ 0x80 + y → 2 ≤ length bytes →
       Pattern f bytes c
-  of_three : (x y z : ℕ) → IsThree c x y z → (x ≡ 13 → y < 32) → get_or bytes 0 0 ≡ 224 + x → get_or bytes 1 0 ≡ 128 + y →
-      get_or bytes 2 0 ≡ 128 + z → 3 ≤ length bytes → Pattern f bytes c
-  of_pair : (w x y z : ℕ) → IsPair c w x y z → get_or bytes 0 0 ≡ 237 → get_or bytes 1 0 ≡ 160 + w →
-      get_or bytes 2 0 ≡ 128 + x → get_or bytes 3 0 ≡ 237 → get_or bytes 4 0 ≡ 176 + y → get_or bytes 5 0 ≡ 128 + z →
+  of_three : (x y z : ℕ) → IsThree c x y z → (x ≡ 0x0D → y < 0x20) → get_or bytes 0 0 ≡ 0xE0 + x → get_or bytes 1 0 ≡ 0x80 + y →
+      get_or bytes 2 0 ≡ 0x80 + z → 3 ≤ length bytes → Pattern f bytes c
+  of_pair : (w x y z : ℕ) → IsPair c w x y z → get_or bytes 0 0 ≡ 0xED → get_or bytes 1 0 ≡ 0xA0 + w →
+      get_or bytes 2 0 ≡ 0x80 + x → get_or bytes 3 0 ≡ 0xED → get_or bytes 4 0 ≡ 0xB0 + y → get_or bytes 5 0 ≡ 0x80 + z →
       6 ≤ length bytes → Pattern f bytes c
 
 -- A scalar value is no surrogate.
-no_surrogate : (c x y z : ℕ) → IsThree c x y z → IsScalarValue c → x ≡ 13 → y < 32
+no_surrogate : (c x y z : ℕ) → IsThree c x y z → IsScalarValue c → x ≡ 0x0D → y < 0x20
 no_surrogate c x y z h (inl low) e = omega arith
 no_surrogate c x y z h (inr high) e = omega (arith, high.0)
 
@@ -28,7 +28,7 @@ at : (i : ℕ) (bytes bytes' : List ℕ) → bytes ≡ bytes' → get_or bytes i
 at i bytes bytes' e = ap (λ bs. get_or bs i 0) e
 
 -- by the number of bytes, where e says what the bytes are
-by_one : (f : Flavor) (bytes rest : List ℕ) (c : ℕ) → c < 128 → bytes ≡ encoding f (c ∷ []) ++ rest →
+by_one : (f : Flavor) (bytes rest : List ℕ) (c : ℕ) → c < 0x80 → bytes ≡ encoding f (c ∷ []) ++ rest →
     (c ≡ 0) ⊎ (c ≡ 0 → ⊥) → Pattern f bytes c
 by_one Cesu8 bytes rest c h e _ =
     of_one (at 0 bytes _ (e ∙ ap (λ bs. bs ++ rest) (encoding_one Cesu8 c h))) h (λ m. absurd (cc))

@@ -14,15 +14,15 @@ use Rattle.simd_cesu8.proofs.Patterns.{Pattern, of_one, of_null, of_two, of_thre
 -- the two tests say what they are to say
 scalar_from_test : (c : ℕ) → is_scalar_value c ≡ true → IsScalarValue c
 scalar_from_test c e =
-    ⊎_elim (λ l. inl (ltb-true c 55296 l))
-    (λ h. let parts = and_parts (leb 57344 c) (ltb c 1114112) h in
-    inr (leb-true 57344 c parts.0, ltb-true c 1114112 parts.1))
-    (or_cases (ltb c 55296) (leb 57344 c && ltb c 1114112) e)
+    ⊎_elim (λ l. inl (ltb-true c 0xD800 l))
+    (λ h. let parts = and_parts (leb 0xE000 c) (ltb c 0x110000) h in
+    inr (leb-true 0xE000 c parts.0, ltb-true c 0x110000 parts.1))
+    (or_cases (ltb c 0xD800) (leb 0xE000 c && ltb c 0x110000) e)
 
 test_from_scalar : (c : ℕ) → IsScalarValue c → is_scalar_value c ≡ true
-test_from_scalar c (inl l) = or_left (ltb c 55296) _ (lt-ltb c 55296 l)
+test_from_scalar c (inl l) = or_left (ltb c 0xD800) _ (lt-ltb c 0xD800 l)
 test_from_scalar c (inr h) =
-    or_right (ltb c 55296) _ (and_from (leb 57344 c) (ltb c 1114112) (le-leb 57344 c h.0) (lt-ltb c 1114112 h.1))
+    or_right (ltb c 0xD800) _ (and_from (leb 0xE000 c) (ltb c 0x110000) (le-leb 0xE000 c h.0) (lt-ltb c 0x110000 h.1))
 
 -- the test of one candidate
 abbrev begins : Flavor → List ℕ → ℕ → Bool

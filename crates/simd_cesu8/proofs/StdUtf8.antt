@@ -20,7 +20,7 @@ utf8_encodes (c ∷ text) = rw (utf8_of_encode c, utf8_encodes text) refl
 pub scalar_from_IsScalarValue : (c : ℕ) → IsScalarValue c → scalar c ≡ true
 scalar_from_IsScalarValue c (inl low) = low_scalar c low
 scalar_from_IsScalarValue c (inr high) =
-    rw (le-ltb c 55296 (omega arith), le-leb 57344 c high.0, lt-ltb c 1114112 high.1) refl
+    rw (le-ltb c 0xD800 (omega arith), le-leb 0xE000 c high.0, lt-ltb c 0x110000 high.1) refl
 
 -- So what std takes for scalar values is a text.
 pub IsText_from_scalars : (text : List ℕ) → scalars text ≡ true → IsText text

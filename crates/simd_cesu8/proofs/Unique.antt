@@ -12,34 +12,34 @@ use Rattle.simd_cesu8.proofs.Lengths.{length_of_character}
 -- the value that a pattern's bytes have
 value : List ℕ → ℕ
 value bytes =
-    cond (ltb (get_or bytes 0 0) 128) (get_or bytes 0 0)
-    (cond (ltb (get_or bytes 0 0) 224) ((get_or bytes 0 0 - 192) * 64 + (get_or bytes 1 0 - 128))
-    (cond (eqb (get_or bytes 0 0) 237 && leb 160 (get_or bytes 1 0))
-    (65536 + (get_or bytes 1 0 - 160) * 65536 + (get_or bytes 2 0 - 128) * 1024 + (get_or bytes 4 0 - 176) * 64 + (get_or bytes 5 0 - 128))
-    ((get_or bytes 0 0 - 224) * 4096 + (get_or bytes 1 0 - 128) * 64 + (get_or bytes 2 0 - 128))))
+    cond (ltb (get_or bytes 0 0) 0x80) (get_or bytes 0 0)
+    (cond (ltb (get_or bytes 0 0) 0xE0) ((get_or bytes 0 0 - 0xC0) * 0x40 + (get_or bytes 1 0 - 0x80))
+    (cond (eqb (get_or bytes 0 0) 0xED && leb 0xA0 (get_or bytes 1 0))
+    (0x10000 + (get_or bytes 1 0 - 0xA0) * 0x10000 + (get_or bytes 2 0 - 0x80) * 0x400 + (get_or bytes 4 0 - 0xB0) * 0x40 + (get_or bytes 5 0 - 0x80))
+    ((get_or bytes 0 0 - 0xE0) * 0x1000 + (get_or bytes 1 0 - 0x80) * 0x40 + (get_or bytes 2 0 - 0x80))))
 
-no_pair : (a b x y : ℕ) → a ≡ 224 + x → b ≡ 128 + y → (x ≡ 13 → y < 32) → (eqb a 237 && leb 160 b) ≡ false
+no_pair : (a b x y : ℕ) → a ≡ 0xE0 + x → b ≡ 0x80 + y → (x ≡ 0x0D → y < 0x20) → (eqb a 0xED && leb 0xA0 b) ≡ false
 no_pair a b x y ea eb s =
-    ⊎_elim (λ e. and_right (eqb a 237) (leb 160 b) (lt-leb 160 b (omega (arith, s (omega arith)))))
-    (λ n. and_left (eqb a 237) (leb 160 b) (ne_eqb a 237 n)) (cases_eq a 237)
+    ⊎_elim (λ e. and_right (eqb a 0xED) (leb 0xA0 b) (lt-leb 0xA0 b (omega (arith, s (omega arith)))))
+    (λ n. and_left (eqb a 0xED) (leb 0xA0 b) (ne_eqb a 0xED n)) (cases_eq a 0xED)
 
 has_value : (f : Flavor) (bytes : List ℕ) (c : ℕ) → Pattern f bytes c → value bytes ≡ c
 unfolding value
-has_value f bytes c (of_one e low _) = rw (lt-ltb (get_or bytes 0 0) 128 (omega arith)) e
+has_value f bytes c (of_one e low _) = rw (lt-ltb (get_or bytes 0 0) 0x80 (omega arith)) e
 has_value f bytes c (of_null _ z e0 e1 _) = rw (e0, e1) (sym z)
 has_value f bytes c (of_two x y d e0 e1 _) =
-    rw (le-ltb (get_or bytes 0 0) 128 (omega arith), lt-ltb (get_or bytes 0 0) 224 (omega arith)) (omega arith)
+    rw (le-ltb (get_or bytes 0 0) 0x80 (omega arith), lt-ltb (get_or bytes 0 0) 0xE0 (omega arith)) (omega arith)
 has_value f bytes c (of_three x y z d s e0 e1 e2 _) =
     rw (
-      le-ltb (get_or bytes 0 0) 128 (omega arith),
-      le-ltb (get_or bytes 0 0) 224 (omega arith),
+      le-ltb (get_or bytes 0 0) 0x80 (omega arith),
+      le-ltb (get_or bytes 0 0) 0xE0 (omega arith),
       no_pair (get_or bytes 0 0) (get_or bytes 1 0) x y e0 e1 s,
     ) (omega arith)
 has_value f bytes c (of_pair w x y z d e0 e1 e2 e3 e4 e5 _) =
     rw (
-      le-ltb (get_or bytes 0 0) 128 (omega arith),
-      le-ltb (get_or bytes 0 0) 224 (omega arith),
-      and_from _ _ (eq-eqb (get_or bytes 0 0) 237 e0) (le-leb 160 (get_or bytes 1 0) (omega arith)),
+      le-ltb (get_or bytes 0 0) 0x80 (omega arith),
+      le-ltb (get_or bytes 0 0) 0xE0 (omega arith),
+      and_from _ _ (eq-eqb (get_or bytes 0 0) 0xED e0) (le-leb 0xA0 (get_or bytes 1 0) (omega arith)),
     ) (omega arith)
 
 -- One character at most begins the bytes, and what follows it is one too.
