@@ -10,24 +10,13 @@ export LC_ALL=C
 
 top=$(cd "$(dirname "${BASH_SOURCE[0]}")/.." && pwd) || exit 2
 cases=$top/tests/cli_cases.txt
-program=$top/crates/cesu8_cli/out/cesu8_cli
 scratch=$(mktemp -d) || exit 2
 trap 'rm -rf "$scratch"' EXIT
+# shellcheck source=tests/program.sh
+source "$top/tests/program.sh" || exit 2
 
 passed=0
 failed=0
-
-# `rt run` leaves the program in out/, and is the only command that does (`rt try` builds without
-# proof, and keeps nothing). In a clean clone it proves the two crates first. With no change since
-# the last run it only runs the program.
-build() {
-    echo "building the program"
-    if ! (cd "$top/crates/cesu8_cli" && rt run -- encode cesu8) </dev/null >"$scratch/build" 2>&1; then
-        cat "$scratch/build" >&2
-        echo "the program was not built" >&2
-        exit 2
-    fi
-}
 
 # The text without the blanks around it.
 trim() {
@@ -171,8 +160,8 @@ expect_long() {
     fi
 }
 
-# One list of 20 to 25 bytes again and again, to just above 1 MiB of UTF-8: `long_text NAME COMMAND FLAVOR INPUT
-# OUTPUT`.
+# One list of 20 to 25 bytes again and again, to just above 1 MiB of UTF-8: `long_text NAME COMMAND
+# FLAVOR INPUT OUTPUT`.
 long_text() {
     repeated 52429 "$4" >"$scratch/input"
     repeated 52429 "$5" >"$scratch/wanted"

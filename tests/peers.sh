@@ -13,23 +13,14 @@ unset CDPATH
 export LC_ALL=C
 
 top=$(cd "$(dirname "${BASH_SOURCE[0]}")/.." && pwd) || exit 2
-program=$top/crates/cesu8_cli/out/cesu8_cli
 scratch=$(mktemp -d) || exit 2
 trap 'rm -rf "$scratch"' EXIT
+# shellcheck source=tests/program.sh
+source "$top/tests/program.sh" || exit 2
 mkdir "$scratch"/{texts,ours,java,uconv} || exit 2
 
 passed=0
 failed=0
-
-# In a clean clone this proves the program's crates first, as in tests/cli.sh.
-build() {
-    echo "building the program"
-    if ! (cd "$top/crates/cesu8_cli" && rt run -- encode cesu8) </dev/null >"$scratch/build" 2>&1; then
-        cat "$scratch/build" >&2
-        echo "the program was not built" >&2
-        exit 2
-    fi
-}
 
 # The first and the last scalar value of each form, and some between.
 borders=(

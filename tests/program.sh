@@ -1,0 +1,18 @@
+# The built program, for the scripts that run it. They source this file, and set `top` before, the
+# repository's folder, and `scratch`, a folder for what the build prints.
+# shellcheck shell=bash disable=SC2154
+
+# shellcheck disable=SC2034
+program=$top/crates/cesu8_cli/out/cesu8_cli
+
+# `rt run` leaves the program in out/, and is the only command that does (`rt try` builds without
+# proof, and keeps nothing). In a clean clone it proves the two crates first. With no change since
+# the last run it only runs the program.
+build() {
+    echo "building the program"
+    if ! (cd "$top/crates/cesu8_cli" && rt run -- encode cesu8) </dev/null >"$scratch/build" 2>&1; then
+        cat "$scratch/build" >&2
+        echo "the program was not built" >&2
+        exit 2
+    fi
+}
