@@ -1,13 +1,12 @@
 -- A text that is read a step at a time.
-use Rattle.std.proofs.Common.{◌≡◌, ℕ, ◌+◌, ◌<◌, ◌≤◌, Bool, true, false, List, [], ◌∷◌, ◌++◌, refl, sym, ap, ◌∙◌, subst, inr, arith, length, take, drop, get_or, Result, Ok, Err, OnErr, ◌-◌, append_assoc, append-nil, length-append}
+use Rattle.std.proofs.Common.{◌≡◌, ℕ, ◌+◌, ◌<◌, ◌≤◌, Bool, true, false, List, [], ◌∷◌, ◌++◌, refl, sym, ap, ◌∙◌, subst, inr, arith, length, take, drop, get_or, Result, Ok, Err, OnOk, OnErr, ◌-◌, append_assoc, append-nil, length-append}
 use Rattle.std.specs.Str.{chars, IsUtf8}
 use Rattle.std.proofs.lemmas.List.Concat.{flat_map-append}
 use Rattle.std.proofs.lemmas.Bool.{true≢false}
 use Rattle.std.proofs.lemmas.List.{take_rest}
 use Rattle.simd_cesu8.specs.Text.{IsScalarValue, IsText, utf8_of, utf8}
 use Rattle.simd_cesu8.specs.Encoding.{Flavor, encoding}
-use Rattle.simd_cesu8.specs.Reading.{NoneBegins, HasNoStrictReading}
-use Rattle.simd_cesu8.specs.Lossy.{reading}
+use Rattle.simd_cesu8.specs.Reading.{NoneBegins, HasNoStrictReading, reading, lossy_length}
 use Rattle.simd_cesu8.specs.Internal.{IsStep, Read, Replace, IsDecodedText, room_of}
 use Rattle.simd_cesu8.proofs.StdUtf8.{IsUtf8_utf8, chars_utf8}
 use Rattle.simd_cesu8.proofs.Encodings.{encoding_nil, encoding_append}
@@ -16,8 +15,8 @@ use Rattle.simd_cesu8.proofs.Unique.{no_reading}
 use Rattle.simd_cesu8.proofs.Steps.{reading_nil, reading_character, reading_replaced}
 
 IsText_append : (s t : List ℕ) → IsText s → IsText t → IsText (s ++ t)
-IsText_append [] t h k = k
-IsText_append (c ∷ s) t h k = (h.0, IsText_append s t h.1 k)
+IsText_append [] t is_text other_is_text = other_is_text
+IsText_append (c ∷ s) t is_text other_is_text = (is_text.0, IsText_append s t is_text.1 other_is_text)
 
 -- The UTF-8 of a concatenation is the concatenation of the UTF-8.
 pub utf8_append : (s t : List ℕ) → utf8 (s ++ t) ≡ utf8 s ++ utf8 t
@@ -25,53 +24,64 @@ utf8_append s t = flat_map-append utf8_of s t
 
 -- What a step reads: a scalar value, which the lossy reading has there.
 step_scalar : (f : Flavor) (lossy : Bool) (bytes rest : List ℕ) (c : ℕ) → IsStep f lossy bytes c rest → IsScalarValue c
-step_scalar f lossy bytes rest c (Read h) = h.scalar
-step_scalar f lossy bytes rest c (Replace _ _ e _ _) = inr (omega arith, omega arith)
+step_scalar f lossy bytes rest c (Read begins) = begins.scalar
+step_scalar f lossy bytes rest c (Replace _ _ replacement _ _) = inr (omega arith, omega arith)
 
 step_reading : (f : Flavor) (lossy : Bool) (bytes rest : List ℕ) (c : ℕ) → IsStep f lossy bytes c rest →
     reading f bytes ≡ c ∷ reading f rest
-step_reading f lossy bytes rest c (Read h) = reading_character f bytes c rest h
-step_reading f lossy bytes rest c (Replace _ n e b s) =
-    ap (reading f) s ∙ reading_replaced f b rest (subst (NoneBegins f) s n) ∙ ap (λ d. d ∷ reading f rest) (sym e)
+step_reading f lossy bytes rest c (Read begins) = reading_character f bytes c rest begins
+step_reading f lossy bytes rest c (Replace _ none_begins replacement b bytes_are) =
+    ap (reading f) bytes_are ∙ reading_replaced f b rest (subst (NoneBegins f) bytes_are none_begins)
+    ∙ ap (λ d. d ∷ reading f rest) (sym replacement)
 
 step_strict : (f : Flavor) (lossy : Bool) (bytes rest : List ℕ) (c : ℕ) → IsStep f lossy bytes c rest → lossy ≡ false →
     bytes ≡ encoding f (c ∷ []) ++ rest
-step_strict f lossy bytes rest c (Read h) strict = h.bytes_are
-step_strict f lossy bytes rest c (Replace t _ _ _ _) strict = absurd (true≢false (sym t ∙ strict))
+step_strict f lossy bytes rest c (Read begins) strict = begins.bytes_are
+step_strict f lossy bytes rest c (Replace is_lossy _ _ _ _) strict =
+    absurd (true≢false (sym is_lossy ∙ strict))
 
 -- A step leaves fewer bytes.
 pub shorter : (f : Flavor) (lossy : Bool) (bytes rest : List ℕ) (c : ℕ) → IsStep f lossy bytes c rest → length rest < length bytes
-shorter f lossy bytes rest c (Read h) =
-    let long = length_of_character f c h.scalar in
-    omega (arith, long.some, long.fits, ap length h.bytes_are, length-append (encoding f (c ∷ [])) rest)
-shorter f lossy bytes rest c (Replace _ _ _ b s) = omega (arith, ap length s)
+shorter f lossy bytes rest c (Read begins) =
+    let long = length_of_character f c begins.scalar in
+    omega (arith, long.some, long.fits, ap length begins.bytes_are, length-append (encoding f (c ∷ [])) rest)
+shorter f lossy bytes rest c (Replace _ _ _ b bytes_are) = omega (arith, ap length bytes_are)
 
 -- The UTF-8 of the replacement character, and its length.
 utf8_replacement : utf8_of 0xFFFD ≡ 0xEF ∷ 0xBF ∷ 0xBD ∷ []
 unfolding utf8_of
 utf8_replacement = refl
 
-length_of_replacement : length (utf8_of 0xFFFD) ≡ 3
+pub length_of_replacement : length (utf8_of 0xFFFD) ≡ 3
 length_of_replacement = ap length utf8_replacement
 
+-- What a step adds to the length of the lossy reading.
+pub step_length : (f : Flavor) (lossy : Bool) (bytes rest : List ℕ) (c : ℕ) → IsStep f lossy bytes c rest →
+    lossy_length f bytes ≡ length (utf8_of c) + lossy_length f rest
+unfolding lossy_length
+step_length f lossy bytes rest c step =
+    rw (step_reading f lossy bytes rest c step) (length-append (utf8_of c) (utf8 (reading f rest)))
+
+-- The lossy reading of no bytes has none.
+pub lossy_length_nil : (f : Flavor) (bytes : List ℕ) → length bytes ≡ 0 → lossy_length f bytes ≡ 0
+unfolding lossy_length
+lossy_length_nil f [] empty = ap (λ text. length (utf8 text)) (reading_nil f)
+lossy_length_nil f (b ∷ bytes) empty = absurd (omega arith)
+
 -- What a step needs of the room.
-room_of_step : (f : Flavor) (lossy : Bool) (bytes rest : List ℕ) (c : ℕ) → IsStep f lossy bytes c rest →
-    length (utf8_of c) + room_of lossy (length rest) ≤ room_of lossy (length bytes)
-room_of_step f true bytes rest c (Read h) =
-    let long = length_of_character f c h.scalar in
-    omega (arith, long.fits, ap length h.bytes_are, length-append (encoding f (c ∷ [])) rest)
-room_of_step f false bytes rest c (Read h) =
-    let long = length_of_character f c h.scalar in
-    omega (arith, long.fits, ap length h.bytes_are, length-append (encoding f (c ∷ [])) rest)
-room_of_step f true bytes rest c (Replace _ _ e b s) =
-    omega (arith, ap length s, length_of_replacement, ap (λ d. length (utf8_of d)) e)
-room_of_step f false bytes rest c (Replace t _ _ _ _) = absurd (true≢false (sym t))
+pub room_of_step : (f : Flavor) (lossy : Bool) (bytes rest : List ℕ) (c : ℕ) → IsStep f lossy bytes c rest →
+    length (utf8_of c) + room_of f lossy rest ≤ room_of f lossy bytes
+room_of_step f true bytes rest c step = omega (arith, step_length f true bytes rest c step)
+room_of_step f false bytes rest c (Read begins) =
+    let long = length_of_character f c begins.scalar in
+    omega (arith, long.fits, ap length begins.bytes_are, length-append (encoding f (c ∷ [])) rest)
+room_of_step f false bytes rest c (Replace is_lossy _ _ _ _) = absurd (true≢false (sym is_lossy))
 
 -- What a step writes, and the room for what it leaves, fit the room that there was.
 pub room_left : (f : Flavor) (lossy : Bool) (bytes rest out new : List ℕ) (c : ℕ) → IsStep f lossy bytes c rest →
-    new ≡ out ++ utf8_of c → length new + room_of lossy (length rest) ≤ length out + room_of lossy (length bytes)
-room_left f lossy bytes rest out new c h e =
-    omega (arith, room_of_step f lossy bytes rest c h, ap length e, length-append out (utf8_of c))
+    new ≡ out ++ utf8_of c → length new + room_of f lossy rest ≤ length out + room_of f lossy bytes
+room_left f lossy bytes rest out new c step new_is =
+    omega (arith, room_of_step f lossy bytes rest c step, ap length new_is, length-append out (utf8_of c))
 
 -- The text so far, whose UTF-8 was written, and the bytes that are left.
 pub record IsReadSoFar (f : Flavor) (lossy : Bool) (bytes rest old new : List ℕ) : Type 0 where
@@ -95,63 +105,79 @@ nothing_read f lossy bytes old = record {
 pub one_more : (f : Flavor) (lossy : Bool) (bytes rest after old out new : List ℕ) (c : ℕ) →
     IsReadSoFar f lossy bytes rest old out → IsStep f lossy rest c after → new ≡ out ++ utf8_of c →
     IsReadSoFar f lossy bytes after old new
-one_more f lossy bytes rest after old out new c h s e = record {
-  text = h.text ++ c ∷ [];
-  scalars = IsText_append h.text (c ∷ []) h.scalars (step_scalar f lossy rest after c s, tt);
-  lossy_reading = h.lossy_reading ∙ ap (λ cs. h.text ++ cs) (step_reading f lossy rest after c s)
-      ∙ sym (append_assoc h.text (c ∷ []) (reading f after));
-  strict_reading = λ strict. h.strict_reading strict ∙ ap (λ bs. encoding f h.text ++ bs) (step_strict f lossy rest after c s strict)
-      ∙ rw (encoding_append f h.text (c ∷ [])) (sym (append_assoc (encoding f h.text) (encoding f (c ∷ [])) after));
-  written = e ∙ ap (λ bs. bs ++ utf8_of c) h.written ∙ append_assoc old (utf8 h.text) (utf8_of c)
-      ∙ ap (λ bs. old ++ bs) (ap (λ bs. utf8 h.text ++ bs) (sym (append-nil (utf8_of c))) ∙ sym (utf8_append h.text (c ∷ [])));
+one_more f lossy bytes rest after old out new c so_far step new_is = record {
+  text = so_far.text ++ c ∷ [];
+  scalars = IsText_append so_far.text (c ∷ []) so_far.scalars (step_scalar f lossy rest after c step, tt);
+  lossy_reading = so_far.lossy_reading ∙ ap (λ cs. so_far.text ++ cs) (step_reading f lossy rest after c step)
+      ∙ sym (append_assoc so_far.text (c ∷ []) (reading f after));
+  strict_reading = λ strict. so_far.strict_reading strict
+      ∙ ap (λ bs. encoding f so_far.text ++ bs) (step_strict f lossy rest after c step strict)
+      ∙ rw (encoding_append f so_far.text (c ∷ []))
+      (sym (append_assoc (encoding f so_far.text) (encoding f (c ∷ [])) after));
+  written = new_is ∙ ap (λ bs. bs ++ utf8_of c) so_far.written ∙ append_assoc old (utf8 so_far.text) (utf8_of c)
+      ∙ ap (λ bs. old ++ bs)
+      (ap (λ bs. utf8 so_far.text ++ bs) (sym (append-nil (utf8_of c))) ∙ sym (utf8_append so_far.text (c ∷ [])));
 }
 
 -- Where no bytes are left, the text so far is the decoded text.
 pub all_read : (f : Flavor) (lossy : Bool) (bytes rest old new : List ℕ) → IsReadSoFar f lossy bytes rest old new →
     length rest ≡ 0 → (text : List ℕ) × IsDecodedText f lossy bytes text × (new ≡ old ++ utf8 text)
-all_read f lossy bytes [] old new h e = (
-  h.text,
+all_read f lossy bytes [] old new so_far empty = (
+  so_far.text,
   (
-    h.scalars,
-    sym (h.lossy_reading ∙ ap (λ cs. h.text ++ cs) (reading_nil f) ∙ append-nil h.text),
-    λ strict. sym (h.strict_reading strict ∙ append-nil (encoding f h.text)),
+    so_far.scalars,
+    sym (so_far.lossy_reading ∙ ap (λ cs. so_far.text ++ cs) (reading_nil f) ∙ append-nil so_far.text),
+    λ strict. sym (so_far.strict_reading strict ∙ append-nil (encoding f so_far.text)),
   ),
-  h.written,
+  so_far.written,
 )
-all_read f lossy bytes (b ∷ rest) old new h e = absurd (omega arith)
+all_read f lossy bytes (b ∷ rest) old new so_far empty = absurd (omega arith)
 
 -- Where no character begins what is left, the whole has no strict reading.
 pub fault_at : (f : Flavor) (lossy : Bool) (bytes rest old new : List ℕ) → IsReadSoFar f lossy bytes rest old new →
     (length rest ≡ 0 → ⊥) → lossy ≡ false → NoneBegins f rest → HasNoStrictReading f bytes
-fault_at f lossy bytes rest old new h l strict n =
-    no_reading f bytes h.text rest h.scalars (h.strict_reading strict) (omega arith) n
+fault_at f lossy bytes rest old new so_far some strict none_begins =
+    no_reading f bytes so_far.text rest so_far.scalars (so_far.strict_reading strict) (omega arith) none_begins
 
--- What was written into nothing is the UTF-8 of the text.
-pub written_alone : (old out : List ℕ) (text : List ℕ) → out ≡ old ++ utf8 text → old ≡ [] → out ≡ utf8 text
-written_alone old out text e n = e ∙ ap (λ bs. bs ++ utf8 text) n
+-- What was decoded into nothing is the UTF-8 of the text.
+written_alone : (old out text : List ℕ) → old ≡ [] → out ≡ old ++ utf8 text → out ≡ utf8 text
+written_alone old out text nothing out_is = out_is ∙ ap (λ bs. bs ++ utf8 text) nothing
 
--- Bytes that are the UTF-8 of a text are UTF-8.
-pub written_utf8 : (text out : List ℕ) → IsText text → out ≡ utf8 text → IsUtf8 out
-written_utf8 text out h e = subst IsUtf8 (sym e) (IsUtf8_utf8 text h)
+-- So it is UTF-8,
+pub decoded_utf8 : (f : Flavor) (lossy : Bool) (bytes old out : List ℕ) → old ≡ [] →
+    ((text : List ℕ) × IsDecodedText f lossy bytes text × (out ≡ old ++ utf8 text)) → IsUtf8 out
+decoded_utf8 f lossy bytes old out nothing read =
+    subst IsUtf8 (sym (written_alone old out read.0 nothing read.2)) (IsUtf8_utf8 read.0 read.1.0)
 
--- Where the text is a decoded one, so are the characters of its UTF-8.
-pub written_text : (f : Flavor) (lossy : Bool) (bytes text out : List ℕ) → IsDecodedText f lossy bytes text → out ≡ utf8 text →
-    IsDecodedText f lossy bytes (chars out)
-written_text f lossy bytes text out h e =
-    subst (IsDecodedText f lossy bytes) (sym (ap chars e ∙ chars_utf8 text h.0)) h
+-- and its characters are the text.
+pub decoded_text : (f : Flavor) (lossy : Bool) (bytes old out : List ℕ) → old ≡ [] →
+    ((text : List ℕ) × IsDecodedText f lossy bytes text × (out ≡ old ++ utf8 text)) → IsDecodedText f lossy bytes (chars out)
+decoded_text f lossy bytes old out nothing read =
+    subst (IsDecodedText f lossy bytes)
+    (sym (ap chars (written_alone old out read.0 nothing read.2) ∙ chars_utf8 read.0 read.1.0)) read.1
+
+-- What refuses only in strict reading gives something in lossy reading.
+pub never_refused : {T E : Type 0} (P Q : Type 0) (r : Result T E) → OnOk r P → OnErr r ((true ≡ false) × Q) → P
+never_refused P Q (Ok x) given refused = given
+never_refused P Q (Err e) given refused = absurd (true≢false refused.0)
 
 first_and_rest : (bytes : List ℕ) → 0 < length bytes → bytes ≡ get_or bytes 0 0 ∷ take (length bytes - 1) (drop 1 bytes)
-first_and_rest [] l = absurd (omega arith)
-first_and_rest (b ∷ bytes) l = ap (λ bs. b ∷ bs) (sym (take_rest (b ∷ bytes) 1))
+first_and_rest [] some = absurd (omega arith)
+first_and_rest (b ∷ bytes) some = ap (λ bs. b ∷ bs) (sym (take_rest (b ∷ bytes) 1))
 
 -- A byte is replaced where no character begins.
-pub replaced : (f : Flavor) (lossy : Bool) (bytes old out new : List ℕ) → 0 < length bytes → lossy ≡ true → NoneBegins f bytes →
-    out ≡ old → new ≡ out ++ 0xEF ∷ 0xBF ∷ 0xBD ∷ [] →
+pub replaced_step : (f : Flavor) (lossy : Bool) (bytes : List ℕ) → 0 < length bytes → lossy ≡ true → NoneBegins f bytes →
+    IsStep f lossy bytes 0xFFFD (take (length bytes - 1) (drop 1 bytes))
+replaced_step f lossy bytes some is_lossy none_begins =
+    Replace is_lossy none_begins refl (get_or bytes 0 0) (first_and_rest bytes some)
+
+pub replaced : (f : Flavor) (lossy : Bool) (bytes old new : List ℕ) → 0 < length bytes → lossy ≡ true → NoneBegins f bytes →
+    new ≡ old ++ 0xEF ∷ 0xBF ∷ 0xBD ∷ [] →
     (c : ℕ) × IsStep f lossy bytes c (take (length bytes - 1) (drop 1 bytes)) × (new ≡ old ++ utf8_of c)
-replaced f lossy bytes old out new l t n e w = (
+replaced f lossy bytes old new some is_lossy none_begins new_is = (
   0xFFFD,
-  Replace t n refl (get_or bytes 0 0) (first_and_rest bytes l),
-  w ∙ ap (λ bs. bs ++ 0xEF ∷ 0xBF ∷ 0xBD ∷ []) e ∙ ap (λ bs. old ++ bs) (sym utf8_replacement),
+  replaced_step f lossy bytes some is_lossy none_begins,
+  new_is ∙ ap (λ bs. old ++ bs) (sym utf8_replacement),
 )
 
 -- A fact that does not depend on the error holds at the exit of a `?`.

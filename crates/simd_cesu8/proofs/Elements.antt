@@ -12,13 +12,13 @@ any_here P x xs p = (0, x, omega arith, refl, p)
 
 -- P holds of an element where it holds of one after the first.
 pub any_there : {X : Type 0} (P : X → Type 0) (x : X) (xs : List X) → Any P xs → Any P (x ∷ xs)
-any_there P x xs h = (suc h.0, h.1, omega (arith, h.2), h.3, h.4)
+any_there P x xs any = (suc any.0, any.1, omega (arith, any.2), any.3, any.4)
 
 -- by the place of the element
 at_front : {X : Type 0} (P : X → Type 0) (x : X) (xs : List X) (k : ℕ) (y : X) → k < suc (length xs) →
     get_or (x ∷ xs) k y ≡ y → P y → P x ⊎ Any P xs
-at_front P x xs zero y l e p = inl (subst P (sym e) p)
-at_front P x xs (suc k) y l e p = inr (k, y, omega arith, e, p)
+at_front P x xs zero y inside same holds = inl (subst P (sym same) holds)
+at_front P x xs (suc k) y inside same holds = inr (k, y, omega arith, same, holds)
 
 -- Where P holds of an element, it holds of the first or of one after it.
 pub any_cons : {X : Type 0} (P : X → Type 0) (x : X) (xs : List X) → Any P (x ∷ xs) → P x ⊎ Any P xs
@@ -26,22 +26,24 @@ any_cons P x xs h = at_front P x xs h.0 h.1 h.2 h.3 h.4
 
 -- P holds of an element of the whole where it holds of one of the front.
 pub any_left : {X : Type 0} (P : X → Type 0) (xs ys : List X) → Any P xs → Any P (xs ++ ys)
-any_left P [] ys h = absurd (any_nil P h)
-any_left P (x ∷ xs) ys h =
-    ⊎_elim (λ p. any_here P x (xs ++ ys) p) (λ q. any_there P x (xs ++ ys) (any_left P xs ys q)) (any_cons P x xs h)
+any_left P [] ys any = absurd (any_nil P any)
+any_left P (x ∷ xs) ys any =
+    ⊎_elim (λ first. any_here P x (xs ++ ys) first)
+    (λ later. any_there P x (xs ++ ys) (any_left P xs ys later)) (any_cons P x xs any)
 
 -- P holds of an element of the whole where it holds of one of the back.
 pub any_right : {X : Type 0} (P : X → Type 0) (xs ys : List X) → Any P ys → Any P (xs ++ ys)
-any_right P [] ys h = h
-any_right P (x ∷ xs) ys h = any_there P x (xs ++ ys) (any_right P xs ys h)
+any_right P [] ys any = any
+any_right P (x ∷ xs) ys any = any_there P x (xs ++ ys) (any_right P xs ys any)
 
 -- Where P holds of an element of the whole, it holds of one of the front or of one of the back.
 pub any_append : {X : Type 0} (P : X → Type 0) (xs ys : List X) → Any P (xs ++ ys) → Any P xs ⊎ Any P ys
-any_append P [] ys h = inr h
-any_append P (x ∷ xs) ys h =
-    ⊎_elim (λ p. inl (any_here P x xs p))
-    (λ q. ⊎_elim (λ r. inl (any_there P x xs r)) (λ r. inr r) (any_append P xs ys q)) (any_cons P x (xs ++ ys) h)
+any_append P [] ys any = inr any
+any_append P (x ∷ xs) ys any =
+    ⊎_elim (λ first. inl (any_here P x xs first))
+    (λ later. ⊎_elim (λ front. inl (any_there P x xs front)) (λ back. inr back) (any_append P xs ys later))
+    (any_cons P x (xs ++ ys) any)
 
 -- Where P holds neither of the first nor of one after it, it holds of none.
 pub none_cons : {X : Type 0} (P : X → Type 0) (x : X) (xs : List X) → (P x → ⊥) → (Any P xs → ⊥) → Any P (x ∷ xs) → ⊥
-none_cons P x xs p q h = ⊎_elim p q (any_cons P x xs h)
+none_cons P x xs not_first not_later any = ⊎_elim not_first not_later (any_cons P x xs any)

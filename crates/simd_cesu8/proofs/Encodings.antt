@@ -26,9 +26,9 @@ encoding_cons f c text = encoding_append f (c ∷ []) text
 -- Nothing is left to encode after the last byte.
 pub nothing_left : (f : Flavor) (whole rest out : List ℕ) → length rest ≡ 0 → whole ≡ out ++ encoding f (chars rest) →
     out ≡ whole
-nothing_left f whole [] out e h = sym (h ∙ rw (chars-nil, encoding_nil f) (append-nil out))
-nothing_left f whole (b ∷ rest) out e h = absurd (omega arith)
+nothing_left f whole [] out empty whole_is = sym (whole_is ∙ rw (chars-nil, encoding_nil f) (append-nil out))
+nothing_left f whole (b ∷ rest) out empty whole_is = absurd (omega arith)
 
 -- Where two lists that are cut in two are equal, so are the sums of the lengths of their parts.
 pub lengths_of_parts : (a b c d : List ℕ) → a ++ b ≡ c ++ d → length a + length b ≡ length c + length d
-lengths_of_parts a b c d e = sym (length-append a b) ∙ ap length e ∙ length-append c d
+lengths_of_parts a b c d same = sym (length-append a b) ∙ ap length same ∙ length-append c d

@@ -17,62 +17,65 @@ pub record Begins (c : ℕ) (bytes rest : List ℕ) : Type 0 where
 
 begins : (text : List ℕ) (b : ℕ) (bs : List ℕ) → IsUtf8Of text (b ∷ bs) → chars (b ∷ bs) ≡ text →
     (c : ℕ) × (rest : List ℕ) × Begins c (b ∷ bs) rest
-begins [] b bs h e = absurd (let e1 = h.1 in cc)
-begins (c ∷ text) b bs h e = (
+begins [] b bs is_utf8_of chars_are = absurd (let bytes_are = is_utf8_of.1 in cc)
+begins (c ∷ text) b bs is_utf8_of chars_are = (
   c,
   utf8 text,
   record {
-    scalar = h.0.0;
-    bytes_are = sym h.1;
-    rest_utf8 = IsUtf8_utf8 text h.0.1;
-    chars_are = rw (chars_utf8 text h.0.1) e;
+    scalar = is_utf8_of.0.0;
+    bytes_are = sym is_utf8_of.1;
+    rest_utf8 = IsUtf8_utf8 text is_utf8_of.0.1;
+    chars_are = rw (chars_utf8 text is_utf8_of.0.1) chars_are;
   },
 )
 
 -- UTF-8 that is not empty begins with a character.
 pub first_character : (b : ℕ) (bs : List ℕ) → IsUtf8 (b ∷ bs) → (c : ℕ) × (rest : List ℕ) × Begins c (b ∷ bs) rest
-first_character b bs h = begins (chars (b ∷ bs)) b bs (IsUtf8Of_chars (b ∷ bs) h) refl
+first_character b bs is_utf8 = begins (chars (b ∷ bs)) b bs (IsUtf8Of_chars (b ∷ bs) is_utf8) refl
 
--- After the bytes written for the first character, rest is left to encode.
-pub record Step (f : Flavor) (bytes rest written : List ℕ) : Type 0 where
+-- After the bytes that are written for the first character, rest is left to encode.
+pub record LeavesAfter (f : Flavor) (bytes rest written : List ℕ) : Type 0 where
   pub utf8 : IsUtf8 rest
   pub encoded : encoding f (chars bytes) ≡ written ++ encoding f (chars rest)
 
 -- The first character by its bytes.
 pub data Front (f : Flavor) (bytes : List ℕ) : Type 0 where
-  front_one : (a : ℕ) (rest : List ℕ) → a < 0x80 → bytes ≡ a ∷ rest → Step f bytes rest (short_form f a) → Front f bytes
-  front_two : (a b : ℕ) (rest : List ℕ) → 0xC0 ≤ a → a < 0xE0 → bytes ≡ a ∷ b ∷ rest → Step f bytes rest (a ∷ b ∷ []) → Front f bytes
+  front_one : (a : ℕ) (rest : List ℕ) → a < 0x80 → bytes ≡ a ∷ rest → LeavesAfter f bytes rest (short_form f a) → Front f bytes
+  front_two : (a b : ℕ) (rest : List ℕ) → 0xC0 ≤ a → a < 0xE0 → bytes ≡ a ∷ b ∷ rest → LeavesAfter f bytes rest (a ∷ b ∷ []) → Front f bytes
   front_three : (a b c : ℕ) (rest : List ℕ) → 0xE0 ≤ a → a < 0xF0 → bytes ≡ a ∷ b ∷ c ∷ rest →
-      Step f bytes rest (a ∷ b ∷ c ∷ []) → Front f bytes
+      LeavesAfter f bytes rest (a ∷ b ∷ c ∷ []) → Front f bytes
   front_four : (scalar a b c d : ℕ) (rest : List ℕ) → 0xF0 ≤ a → 0x10000 ≤ scalar → scalar < 0x110000 →
       utf8_of scalar ≡ a ∷ b ∷ c ∷ d ∷ [] → bytes ≡ a ∷ b ∷ c ∷ d ∷ rest →
-      Step f bytes rest (encoding f (scalar ∷ [])) → Front f bytes
+      LeavesAfter f bytes rest (encoding f (scalar ∷ [])) → Front f bytes
 
-step : (f : Flavor) (c : ℕ) (bytes rest written : List ℕ) → Begins c bytes rest → encoding f (c ∷ []) ≡ written →
-    Step f bytes rest written
-step f c bytes rest written h e = record {
-  utf8 = h.rest_utf8;
-  encoded = rw (h.chars_are, encoding_cons f c (chars rest), e) refl;
+leaves_after : (f : Flavor) (c : ℕ) (bytes rest written : List ℕ) → Begins c bytes rest → encoding f (c ∷ []) ≡ written →
+    LeavesAfter f bytes rest written
+leaves_after f c bytes rest written begins encoded = record {
+  utf8 = begins.rest_utf8;
+  encoded = rw (begins.chars_are, encoding_cons f c (chars rest), encoded) refl;
 }
 
-by_shape : (f : Flavor) (c : ℕ) (bytes rest : List ℕ) → Begins c bytes rest → Shape c → Front f bytes
-by_shape f c bytes rest h (one low) =
-    front_one c rest low (rw (utf8_of_one c low) at h.bytes_are)
-    (step f c bytes rest _ h (encoding_one f c low))
-by_shape f c bytes rest h (two x y d) =
-    front_two (0xC0 + x) (0x80 + y) rest (omega arith) (omega arith) (rw (utf8_of_two c x y d) at h.bytes_are)
-    (step f c bytes rest _ h (encoding_two f c x y d))
-by_shape f c bytes rest h (three x y z d) =
-    front_three (0xE0 + x) (0x80 + y) (0x80 + z) rest (omega arith) (omega arith) (rw (utf8_of_three c x y z d) at h.bytes_are)
-    (step f c bytes rest _ h (encoding_three f c x y z d))
-by_shape f c bytes rest h (pair w x y z d) =
-    front_four c _ _ _ _ rest (omega arith) (omega arith) (omega arith) (utf8_of_pair c w x y z d) (rw (utf8_of_pair c w x y z d) at h.bytes_are)
-    (step f c bytes rest _ h refl)
+front_by_shape : (f : Flavor) (c : ℕ) (bytes rest : List ℕ) → Begins c bytes rest → Shape c → Front f bytes
+front_by_shape f c bytes rest begins (one ascii) =
+    front_one c rest ascii (rw (utf8_of_one c ascii) at begins.bytes_are)
+    (leaves_after f c bytes rest _ begins (encoding_one f c ascii))
+front_by_shape f c bytes rest begins (two x y digits) =
+    front_two (0xC0 + x) (0x80 + y) rest (omega arith) (omega arith)
+    (rw (utf8_of_two c x y digits) at begins.bytes_are)
+    (leaves_after f c bytes rest _ begins (encoding_two f c x y digits))
+front_by_shape f c bytes rest begins (three x y z digits) =
+    front_three (0xE0 + x) (0x80 + y) (0x80 + z) rest (omega arith) (omega arith)
+    (rw (utf8_of_three c x y z digits) at begins.bytes_are)
+    (leaves_after f c bytes rest _ begins (encoding_three f c x y z digits))
+front_by_shape f c bytes rest begins (pair w x y z digits) =
+    front_four c _ _ _ _ rest (omega arith) (omega arith) (omega arith) (utf8_of_pair c w x y z digits)
+    (rw (utf8_of_pair c w x y z digits) at begins.bytes_are)
+    (leaves_after f c bytes rest _ begins refl)
 
 front : (f : Flavor) (b : ℕ) (bs : List ℕ) → IsUtf8 (b ∷ bs) → Front f (b ∷ bs)
-front f b bs h =
-    let found = first_character b bs h in
-    by_shape f found.0 (b ∷ bs) found.1 found.2 (shape found.0 found.2.scalar)
+front f b bs is_utf8 =
+    let found = first_character b bs is_utf8 in
+    front_by_shape f found.0 (b ∷ bs) found.1 found.2 (shape found.0 found.2.scalar)
 
 -- The first width bytes are a character that is written so.
 pub record Writes (f : Flavor) (bytes : List ℕ) (width : ℕ) (written : List ℕ) : Type 0 where
@@ -81,11 +84,11 @@ pub record Writes (f : Flavor) (bytes : List ℕ) (width : ℕ) (written : List 
   pub encoded : encoding f (chars bytes) ≡ written ++ encoding f (chars (drop width bytes))
 
 writes : (f : Flavor) (bytes rest written : List ℕ) (width : ℕ) → width ≤ length bytes → drop width bytes ≡ rest →
-    Step f bytes rest written → Writes f bytes width written
-writes f bytes rest written width long e h = record {
+    LeavesAfter f bytes rest written → Writes f bytes width written
+writes f bytes rest written width long rest_is leaves = record {
   long = long;
-  utf8 = subst IsUtf8 (sym e) h.utf8;
-  encoded = rw e h.encoded;
+  utf8 = subst IsUtf8 (sym rest_is) leaves.utf8;
+  encoded = rw rest_is leaves.encoded;
 }
 
 -- What a lead byte says of its character.
@@ -97,52 +100,57 @@ pub record LeadSays (f : Flavor) (bytes : List ℕ) : Type 0 where
       × Writes f bytes 4 (encoding f (c ∷ []))
 
 lead_says : (f : Flavor) (bytes : List ℕ) → Front f bytes → LeadSays f bytes
-lead_says f bytes (front_one a rest h e s) = subst (LeadSays f) (sym e) (record {
-  of_one = λ _. writes f (a ∷ rest) rest _ 1 (omega arith) refl (subst (λ bs. Step f bs rest (short_form f a)) e s);
-  of_two = λ l _. absurd (omega arith);
-  of_three = λ l _. absurd (omega arith);
-  of_four = λ l. absurd (omega arith);
+lead_says f bytes (front_one a rest ascii bytes_are leaves) = subst (LeadSays f) (sym bytes_are) (record {
+  of_one = λ _. writes f (a ∷ rest) rest _ 1 (omega arith) refl
+      (subst (λ bs. LeavesAfter f bs rest (short_form f a)) bytes_are leaves);
+  of_two = λ lead _. absurd (omega arith);
+  of_three = λ lead _. absurd (omega arith);
+  of_four = λ lead. absurd (omega arith);
 })
-lead_says f bytes (front_two a b rest l h e s) = subst (LeadSays f) (sym e) (record {
-  of_one = λ p. absurd (omega arith);
-  of_two = λ _ _. writes f (a ∷ b ∷ rest) rest _ 2 (omega arith) refl (subst (λ bs. Step f bs rest (a ∷ b ∷ [])) e s);
-  of_three = λ p _. absurd (omega arith);
-  of_four = λ p. absurd (omega arith);
+lead_says f bytes (front_two a b rest low high bytes_are leaves) = subst (LeadSays f) (sym bytes_are) (record {
+  of_one = λ lead. absurd (omega arith);
+  of_two = λ _ _. writes f (a ∷ b ∷ rest) rest _ 2 (omega arith) refl
+      (subst (λ bs. LeavesAfter f bs rest (a ∷ b ∷ [])) bytes_are leaves);
+  of_three = λ lead _. absurd (omega arith);
+  of_four = λ lead. absurd (omega arith);
 })
-lead_says f bytes (front_three a b c rest l h e s) = subst (LeadSays f) (sym e) (record {
-  of_one = λ p. absurd (omega arith);
-  of_two = λ _ p. absurd (omega arith);
-  of_three = λ _ _. writes f (a ∷ b ∷ c ∷ rest) rest _ 3 (omega arith) refl (subst (λ bs. Step f bs rest (a ∷ b ∷ c ∷ [])) e s);
-  of_four = λ p. absurd (omega arith);
+lead_says f bytes (front_three a b c rest low high bytes_are leaves) = subst (LeadSays f) (sym bytes_are) (record {
+  of_one = λ lead. absurd (omega arith);
+  of_two = λ _ lead. absurd (omega arith);
+  of_three = λ _ _. writes f (a ∷ b ∷ c ∷ rest) rest _ 3 (omega arith) refl
+      (subst (λ bs. LeavesAfter f bs rest (a ∷ b ∷ c ∷ [])) bytes_are leaves);
+  of_four = λ lead. absurd (omega arith);
 })
-lead_says f bytes (front_four scalar a b c d rest l low high u e s) = subst (LeadSays f) (sym e) (record {
-  of_one = λ p. absurd (omega arith);
-  of_two = λ _ p. absurd (omega arith);
-  of_three = λ _ p. absurd (omega arith);
+lead_says f bytes (front_four scalar a b c d rest four low high utf bytes_are leaves) = subst (LeadSays f) (sym bytes_are) (record {
+  of_one = λ lead. absurd (omega arith);
+  of_two = λ _ lead. absurd (omega arith);
+  of_three = λ _ lead. absurd (omega arith);
   of_four = λ _. (
     scalar,
     low,
     high,
-    u,
-    writes f (a ∷ b ∷ c ∷ d ∷ rest) rest _ 4 (omega arith) refl (subst (λ bs. Step f bs rest (encoding f (scalar ∷ []))) e s),
+    utf,
+    writes f (a ∷ b ∷ c ∷ d ∷ rest) rest _ 4 (omega arith) refl
+        (subst (λ bs. LeavesAfter f bs rest (encoding f (scalar ∷ []))) bytes_are leaves),
   );
 })
 
 -- UTF-8 that is not empty has such a lead byte.
 pub lead : (f : Flavor) (bytes : List ℕ) → IsUtf8 bytes → 0 < length bytes → LeadSays f bytes
-lead f [] h l = absurd (omega arith)
-lead f (b ∷ bs) h l = lead_says f (b ∷ bs) (front f b bs h)
+lead f [] is_utf8 some = absurd (omega arith)
+lead f (b ∷ bs) is_utf8 some = lead_says f (b ∷ bs) (front f b bs is_utf8)
 
 -- What the first character takes of the room, and what is left to write after it.
-module _ (f : Flavor) (bytes : List ℕ) (width : ℕ) (written : List ℕ) (h : Writes f bytes width written) where
+module _ (f : Flavor) (bytes : List ℕ) (width : ℕ) (written : List ℕ) (first : Writes f bytes width written) where
   -- the encoding is as long as what is written and the encoding of the rest
   pub room_of_written : length (encoding f (chars bytes)) ≡ length written + length (encoding f (chars (drop width bytes)))
-  room_of_written = ap length h.encoded ∙ length-append written _
+  room_of_written = ap length first.encoded ∙ length-append written _
 
   -- what was to be written is what is written and the encoding of the rest
   pub written_and_rest : (old new rest : List ℕ) → new ≡ old ++ written → rest ≡ drop width bytes →
       old ++ encoding f (chars bytes) ≡ new ++ encoding f (chars rest)
-  written_and_rest old new rest e d = rw (e, d, h.encoded) (sym (append_assoc old written _))
+  written_and_rest old new rest new_is rest_is =
+      rw (new_is, rest_is, first.encoded) (sym (append_assoc old written _))
 
 -- A surrogate pair is six bytes.
 pub length_of_pair : (f : Flavor) (c : ℕ) → 0x10000 ≤ c → c < 0x110000 → length (encoding f (c ∷ [])) ≡ 6

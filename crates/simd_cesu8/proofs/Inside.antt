@@ -12,52 +12,73 @@ IsInner bytes j = IsContinuation (get_or bytes j 0) ⊎ ((get_or bytes j 0 ≡ 0
 
 -- no pattern begins with one
 inner_begins_none : (f : Flavor) (bytes : List ℕ) (c : ℕ) → IsInner bytes 0 → Pattern f bytes c → ⊥
-inner_begins_none f bytes c (inl h) (of_one e low _) = omega (arith, h.0)
-inner_begins_none f bytes c (inl h) (of_null _ _ e _ _) = omega (arith, h.1)
-inner_begins_none f bytes c (inl h) (of_two x y d e _ _) = omega (arith, h.1)
-inner_begins_none f bytes c (inl h) (of_three x y z d _ e _ _ _) = omega (arith, h.1)
-inner_begins_none f bytes c (inl h) (of_pair w x y z d e _ _ _ _ _ _) = omega (arith, h.1)
-inner_begins_none f bytes c (inr h) (of_one e low _) = omega (arith, h.0)
-inner_begins_none f bytes c (inr h) (of_null _ _ e _ _) = omega (arith, h.0)
-inner_begins_none f bytes c (inr h) (of_two x y d e _ _) = omega (arith, h.0)
-inner_begins_none f bytes c (inr h) (of_three x y z d s e e1 _ _) = omega (arith, h.0, h.1, s (omega (arith, h.0)))
-inner_begins_none f bytes c (inr h) (of_pair w x y z d e e1 _ _ _ _ _) = omega (arith, h.1)
+inner_begins_none f bytes c (inl continuation) (of_one first ascii _) = omega (arith, continuation.0)
+inner_begins_none f bytes c (inl continuation) (of_null _ _ first _ _) = omega (arith, continuation.1)
+inner_begins_none f bytes c (inl continuation) (of_two x y digits first _ _) = omega (arith, continuation.1)
+inner_begins_none f bytes c (inl continuation) (of_three x y z digits _ first _ _ _) =
+    omega (arith, continuation.1)
+inner_begins_none f bytes c (inl continuation) (of_pair w x y z digits first _ _ _ _ _ _) =
+    omega (arith, continuation.1)
+inner_begins_none f bytes c (inr surrogate) (of_one first ascii _) = omega (arith, surrogate.0)
+inner_begins_none f bytes c (inr surrogate) (of_null _ _ first _ _) = omega (arith, surrogate.0)
+inner_begins_none f bytes c (inr surrogate) (of_two x y digits first _ _) = omega (arith, surrogate.0)
+inner_begins_none f bytes c (inr surrogate) (of_three x y z digits no_surrogate first second _ _) =
+    omega (arith, surrogate.0, surrogate.1, no_surrogate (omega (arith, surrogate.0)))
+inner_begins_none f bytes c (inr surrogate) (of_pair w x y z digits first second _ _ _ _ _) =
+    omega (arith, surrogate.1)
 
 width_one : (f : Flavor) (c : ℕ) → c < 0x80 → (f ≡ Mutf8 → 0 < c) → width f c ≡ 1
-width_one Cesu8 c h n = ap length (encoding_one Cesu8 c h)
-width_one Mutf8 c h n = ap length (encoding_one Mutf8 c h ∙ short_form_other Mutf8 c (λ e. omega (arith, n refl)))
+width_one Cesu8 c ascii not_null = ap length (encoding_one Cesu8 c ascii)
+width_one Mutf8 c ascii not_null =
+    ap length (encoding_one Mutf8 c ascii ∙ short_form_other Mutf8 c (λ null. omega (arith, not_null refl)))
 
 width_null : (f : Flavor) (c : ℕ) → f ≡ Mutf8 → c ≡ 0 → width f c ≡ 2
-width_null f c m z =
-    subst (λ g. width g c ≡ 2) (sym m) (ap length (encoding_one Mutf8 c (omega arith) ∙ short_form_null c z))
+width_null f c mutf8 null =
+    subst (λ g. width g c ≡ 2) (sym mutf8)
+    (ap length (encoding_one Mutf8 c (omega arith) ∙ short_form_null c null))
 
 -- each byte of a character but the first is one
 inner_at : (f : Flavor) (bytes : List ℕ) (c j : ℕ) → Pattern f bytes c → 0 < j → j < width f c → IsInner bytes j
-inner_at f bytes c zero p l h = absurd (omega arith)
-inner_at f bytes c (suc j) (of_one e low n) l h = absurd (omega (arith, width_one f c low n))
-inner_at f bytes c (suc zero) (of_null m z e0 e1 _) l h = inl (omega arith, omega arith)
-inner_at f bytes c (suc (suc j)) (of_null m z e0 e1 _) l h = absurd (omega (arith, width_null f c m z))
-inner_at f bytes c (suc zero) (of_two x y d e0 e1 _) l h = inl (omega arith, omega arith)
-inner_at f bytes c (suc (suc j)) (of_two x y d e0 e1 _) l h = absurd (omega (arith, ap length (encoding_two f c x y d)))
-inner_at f bytes c (suc zero) (of_three x y z d _ e0 e1 e2 _) l h = inl (omega arith, omega arith)
-inner_at f bytes c (suc (suc zero)) (of_three x y z d _ e0 e1 e2 _) l h = inl (omega arith, omega arith)
-inner_at f bytes c (suc (suc (suc j))) (of_three x y z d _ e0 e1 e2 _) l h =
-    absurd (omega (arith, ap length (encoding_three f c x y z d)))
-inner_at f bytes c (suc zero) (of_pair w x y z d e0 e1 e2 e3 e4 e5 _) l h = inl (omega arith, omega arith)
-inner_at f bytes c (suc (suc zero)) (of_pair w x y z d e0 e1 e2 e3 e4 e5 _) l h = inl (omega arith, omega arith)
-inner_at f bytes c (suc (suc (suc zero))) (of_pair w x y z d e0 e1 e2 e3 e4 e5 _) l h = inr (e3, omega arith)
-inner_at f bytes c (suc (suc (suc (suc zero)))) (of_pair w x y z d e0 e1 e2 e3 e4 e5 _) l h = inl (omega arith, omega arith)
-inner_at f bytes c (suc (suc (suc (suc (suc zero))))) (of_pair w x y z d e0 e1 e2 e3 e4 e5 _) l h = inl (omega arith, omega arith)
-inner_at f bytes c (suc (suc (suc (suc (suc (suc j)))))) (of_pair w x y z d e0 e1 e2 e3 e4 e5 _) l h =
-    absurd (omega (arith, ap length (encoding_pair f c w x y z d)))
+inner_at f bytes c zero _ later inside = absurd (omega arith)
+inner_at f bytes c (suc j) (of_one _ ascii not_null) later inside =
+    absurd (omega (arith, width_one f c ascii not_null))
+inner_at f bytes c (suc zero) (of_null _ _ _ second _) later inside = inl (omega arith, omega arith)
+inner_at f bytes c (suc (suc j)) (of_null mutf8 null _ _ _) later inside =
+    absurd (omega (arith, width_null f c mutf8 null))
+inner_at f bytes c (suc zero) (of_two x y digits _ second _) later inside = inl (omega arith, omega arith)
+inner_at f bytes c (suc (suc j)) (of_two x y digits _ _ _) later inside =
+    absurd (omega (arith, ap length (encoding_two f c x y digits)))
+inner_at f bytes c (suc zero) (of_three x y z digits _ _ second _ _) later inside =
+    inl (omega arith, omega arith)
+inner_at f bytes c (suc (suc zero)) (of_three x y z digits _ _ _ third _) later inside =
+    inl (omega arith, omega arith)
+inner_at f bytes c (suc (suc (suc j))) (of_three x y z digits _ _ _ _ _) later inside =
+    absurd (omega (arith, ap length (encoding_three f c x y z digits)))
+inner_at f bytes c (suc zero) (of_pair w x y z digits _ second _ _ _ _ _) later inside =
+    inl (omega arith, omega arith)
+inner_at f bytes c (suc (suc zero)) (of_pair w x y z digits _ _ third _ _ _ _) later inside =
+    inl (omega arith, omega arith)
+inner_at f bytes c (suc (suc (suc zero))) (of_pair w x y z digits _ _ _ fourth fifth _ _) later inside =
+    inr (fourth, omega arith)
+inner_at f bytes c (suc (suc (suc (suc zero)))) (of_pair w x y z digits _ _ _ _ fifth _ _) later inside =
+    inl (omega arith, omega arith)
+inner_at f bytes c (suc (suc (suc (suc (suc zero))))) (of_pair w x y z digits _ _ _ _ _ sixth _) later inside =
+    inl (omega arith, omega arith)
+inner_at f bytes c (suc (suc (suc (suc (suc (suc j)))))) (of_pair w x y z digits _ _ _ _ _ _ _) later inside =
+    absurd (omega (arith, ap length (encoding_pair f c w x y z digits)))
 
 moved : (bytes : List ℕ) (j : ℕ) → IsInner bytes j → IsInner (drop j bytes) 0
-moved bytes j (inl h) = inl (rw (get_or-drop j bytes 0 0, add-zero j) h)
-moved bytes j (inr h) = inr (rw (get_or-drop j bytes 0 0, add-zero j) h.0, rw (get_or-drop j bytes 1 0, add-one j) h.1)
+moved bytes j (inl continuation) = inl (rw (get_or-drop j bytes 0 0, add-zero j) continuation)
+moved bytes j (inr surrogate) =
+    inr (
+      rw (get_or-drop j bytes 0 0, add-zero j) surrogate.0,
+      rw (get_or-drop j bytes 1 0, add-one j) surrogate.1,
+    )
 
 -- Where a character stands at the front, none stands at a later place of its stretch.
 pub none_inside : (f : Flavor) (bytes : List ℕ) (c d j : ℕ) (rest : List ℕ) → BeginsWith f bytes c rest → StandsAt f bytes j d →
     0 < j → j < width f c → ⊥
-none_inside f bytes c d j rest h k l m =
-    inner_begins_none f (drop j bytes) d (moved bytes j (inner_at f bytes c j (pattern f bytes c rest h) l m))
-    (pattern f (drop j bytes) d k.0 k.1)
+none_inside f bytes c d j rest begins stands later inside =
+    inner_begins_none f (drop j bytes) d
+    (moved bytes j (inner_at f bytes c j (pattern f bytes c rest begins) later inside))
+    (pattern f (drop j bytes) d stands.0 stands.1)

@@ -21,39 +21,44 @@ pub data Pattern (f : Flavor) (bytes : List ℕ) (c : ℕ) : Type 0 where
 
 -- A scalar value is no surrogate.
 no_surrogate : (c x y z : ℕ) → IsThree c x y z → IsScalarValue c → x ≡ 0x0D → y < 0x20
-no_surrogate c x y z h (inl low) e = omega arith
-no_surrogate c x y z h (inr high) e = omega (arith, high.0)
+no_surrogate c x y z digits (inl low) lead = omega arith
+no_surrogate c x y z digits (inr high) lead = omega (arith, high.0)
 
 at : (i : ℕ) (bytes bytes' : List ℕ) → bytes ≡ bytes' → get_or bytes i 0 ≡ get_or bytes' i 0
-at i bytes bytes' e = ap (λ bs. get_or bs i 0) e
+at i bytes bytes' same = ap (λ bs. get_or bs i 0) same
 
 -- by the number of bytes, where e says what the bytes are
 by_one : (f : Flavor) (bytes rest : List ℕ) (c : ℕ) → c < 0x80 → bytes ≡ encoding f (c ∷ []) ++ rest →
     (c ≡ 0) ⊎ (c ≡ 0 → ⊥) → Pattern f bytes c
-by_one Cesu8 bytes rest c h e _ =
-    of_one (at 0 bytes _ (e ∙ ap (λ bs. bs ++ rest) (encoding_one Cesu8 c h))) h (λ m. absurd (cc))
-by_one Mutf8 bytes rest c h e (inl z) =
-    let same = e ∙ ap (λ bs. bs ++ rest) (encoding_one Mutf8 c h ∙ short_form_null c z) in
-    of_null refl z (at 0 bytes _ same) (at 1 bytes _ same) (omega (arith, ap length same))
-by_one Mutf8 bytes rest c h e (inr n) =
-    of_one (at 0 bytes _ (e ∙ ap (λ bs. bs ++ rest) (encoding_one Mutf8 c h ∙ short_form_other Mutf8 c n))) h
-    (λ m. omega arith)
+by_one Cesu8 bytes rest c ascii bytes_are _ =
+    of_one (at 0 bytes _ (bytes_are ∙ ap (λ bs. bs ++ rest) (encoding_one Cesu8 c ascii))) ascii
+    (λ mutf8. absurd (cc))
+by_one Mutf8 bytes rest c ascii bytes_are (inl null) =
+    let same = bytes_are ∙ ap (λ bs. bs ++ rest) (encoding_one Mutf8 c ascii ∙ short_form_null c null) in
+    of_null refl null (at 0 bytes _ same) (at 1 bytes _ same) (omega (arith, ap length same))
+by_one Mutf8 bytes rest c ascii bytes_are (inr not_null) =
+    let same = bytes_are ∙ ap (λ bs. bs ++ rest) (encoding_one Mutf8 c ascii ∙ short_form_other Mutf8 c not_null) in
+    of_one (at 0 bytes _ same) ascii (λ mutf8. omega arith)
 
-by_shape : (f : Flavor) (bytes rest : List ℕ) (c : ℕ) → IsScalarValue c → Shape c →
+pattern_by_shape : (f : Flavor) (bytes rest : List ℕ) (c : ℕ) → IsScalarValue c → Shape c →
     bytes ≡ encoding f (c ∷ []) ++ rest → Pattern f bytes c
-by_shape f bytes rest c s (one h) e = by_one f bytes rest c h e (cases_eq c 0)
-by_shape f bytes rest c s (two x y h) e =
-    let same = e ∙ ap (λ bs. bs ++ rest) (encoding_two f c x y h) in
-    of_two x y h (at 0 bytes _ same) (at 1 bytes _ same) (omega (arith, ap length same))
-by_shape f bytes rest c s (three x y z h) e =
-    let same = e ∙ ap (λ bs. bs ++ rest) (encoding_three f c x y z h) in
-    of_three x y z h (no_surrogate c x y z h s) (at 0 bytes _ same) (at 1 bytes _ same) (at 2 bytes _ same)
+pattern_by_shape f bytes rest c scalar (one ascii) bytes_are =
+    by_one f bytes rest c ascii bytes_are (cases_eq c 0)
+pattern_by_shape f bytes rest c scalar (two x y digits) bytes_are =
+    let same = bytes_are ∙ ap (λ bs. bs ++ rest) (encoding_two f c x y digits) in
+    of_two x y digits (at 0 bytes _ same) (at 1 bytes _ same) (omega (arith, ap length same))
+pattern_by_shape f bytes rest c scalar (three x y z digits) bytes_are =
+    let same = bytes_are ∙ ap (λ bs. bs ++ rest) (encoding_three f c x y z digits) in
+    of_three x y z digits (no_surrogate c x y z digits scalar) (at 0 bytes _ same) (at 1 bytes _ same)
+    (at 2 bytes _ same)
     (omega (arith, ap length same))
-by_shape f bytes rest c s (pair w x y z h) e =
-    let same = e ∙ ap (λ bs. bs ++ rest) (encoding_pair f c w x y z h) in
-    of_pair w x y z h (at 0 bytes _ same) (at 1 bytes _ same) (at 2 bytes _ same) (at 3 bytes _ same) (at 4 bytes _ same)
+pattern_by_shape f bytes rest c scalar (pair w x y z digits) bytes_are =
+    let same = bytes_are ∙ ap (λ bs. bs ++ rest) (encoding_pair f c w x y z digits) in
+    of_pair w x y z digits (at 0 bytes _ same) (at 1 bytes _ same) (at 2 bytes _ same) (at 3 bytes _ same)
+    (at 4 bytes _ same)
     (at 5 bytes _ same) (omega (arith, ap length same))
 
 -- Bytes that begin with a character have its pattern.
 pub pattern : (f : Flavor) (bytes : List ℕ) (c : ℕ) (rest : List ℕ) → BeginsWith f bytes c rest → Pattern f bytes c
-pattern f bytes c rest h = by_shape f bytes rest c h.scalar (shape c h.scalar) h.bytes_are
+pattern f bytes c rest begins =
+    pattern_by_shape f bytes rest c begins.scalar (shape c begins.scalar) begins.bytes_are

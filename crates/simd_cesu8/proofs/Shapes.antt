@@ -46,18 +46,18 @@ pub shape : (c : ℕ) → IsScalarValue c → Shape c
 shape c scalar = by (cases_lt c 0x80) (cases_lt c 0x800) (cases_lt c 0x10000)
   where
     by : (c < 0x80) ⊎ (0x80 ≤ c) → (c < 0x800) ⊎ (0x800 ≤ c) → (c < 0x10000) ⊎ (0x10000 ≤ c) → Shape c
-    by (inl h) _ _ = one h
-    by (inr l) (inl h) _ =
+    by (inl ascii) _ _ = one ascii
+    by (inr low) (inl high) _ =
         two (c / 0x40) (c % 0x40) (record { value = omega arith; low = omega arith; high = omega arith; last = omega arith })
-    by (inr _) (inr l) (inl h) =
+    by (inr _) (inr low) (inl high) =
         three (c / 0x1000) (c / 0x40 % 0x40) (c % 0x40) (record {
           value = omega arith;
-          low = l;
+          low = low;
           high = omega arith;
           middle = omega arith;
           last = omega arith;
         })
-    by (inr _) (inr _) (inr l) = pair _ _ _ _ (pair_digits c l (below_top c scalar))
+    by (inr _) (inr _) (inr low) = pair _ _ _ _ (pair_digits c low (below_top c scalar))
 
 -- The UTF-8 of a scalar value, by its digits: one byte, two, three, and four.
 pub utf8_of_one : (c : ℕ) → c < 0x80 → utf8_of c ≡ c ∷ []
@@ -66,14 +66,14 @@ utf8_of_one c h = rw (lt-ltb c 0x80 h) refl
 
 pub utf8_of_two : (c x y : ℕ) → IsTwo c x y → utf8_of c ≡ (0xC0 + x) ∷ (0x80 + y) ∷ []
 unfolding utf8_of
-utf8_of_two c x y h =
+utf8_of_two c x y digits =
     let e0 : c / 0x40 ≡ x = omega arith in
     let e1 : c % 0x40 ≡ y = omega arith in
     rw (le-ltb c 0x80 (omega arith), lt-ltb c 0x800 (omega arith), e0, e1) refl
 
 pub utf8_of_three : (c x y z : ℕ) → IsThree c x y z → utf8_of c ≡ (0xE0 + x) ∷ (0x80 + y) ∷ (0x80 + z) ∷ []
 unfolding utf8_of
-utf8_of_three c x y z h =
+utf8_of_three c x y z digits =
     let e0 : c / 0x1000 ≡ x = omega arith in
     let e1 : c / 0x40 % 0x40 ≡ y = omega arith in
     let e2 : c % 0x40 ≡ z = omega arith in
@@ -82,7 +82,7 @@ utf8_of_three c x y z h =
 pub utf8_of_pair : (c w x y z : ℕ) → IsPair c w x y z →
     utf8_of c ≡ (0xF0 + (w + 1) / 4) ∷ (0x80 + ((w + 1) % 4 * 0x10 + x / 4)) ∷ (0x80 + (x % 4 * 0x10 + y)) ∷ (0x80 + z) ∷ []
 unfolding utf8_of
-utf8_of_pair c w x y z h =
+utf8_of_pair c w x y z digits =
     let e0 : c / 0x40000 ≡ (w + 1) / 4 = omega arith in
     let e1 : c / 0x1000 % 0x40 ≡ (w + 1) % 4 * 0x10 + x / 4 = omega arith in
     let e2 : c / 0x40 % 0x40 ≡ x % 4 * 0x10 + y = omega arith in

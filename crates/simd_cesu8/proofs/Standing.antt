@@ -7,30 +7,30 @@ use Rattle.std.proofs.lemmas.Slice.Eq.{bytes_eq-Decides}
 use Rattle.std.proofs.lemmas.Bool.{and_parts, and_from, or_cases, or_left, or_right, ltb-true, leb-true, lt-ltb, le-leb, cases_Bool}
 use Rattle.simd_cesu8.specs.Text.{IsScalarValue}
 use Rattle.simd_cesu8.specs.Encoding.{Flavor, encoding}
-use Rattle.simd_cesu8.specs.Reading.{BeginsWith, NoneBegins, width}
-use Rattle.simd_cesu8.specs.Lossy.{candidates, is_scalar_value, standing}
+use Rattle.simd_cesu8.specs.Reading.{BeginsWith, NoneBegins, width, candidates, is_scalar_value, standing}
 use Rattle.simd_cesu8.proofs.Patterns.{Pattern, of_one, of_null, of_two, of_three, of_pair, pattern}
 
 -- the two tests say what they are to say
 scalar_from_test : (c : ℕ) → is_scalar_value c ≡ true → IsScalarValue c
-scalar_from_test c e =
-    ⊎_elim (λ l. inl (ltb-true c 0xD800 l))
-    (λ h. let parts = and_parts (leb 0xE000 c) (ltb c 0x110000) h in
+scalar_from_test c passes =
+    ⊎_elim (λ low. inl (ltb-true c 0xD800 low))
+    (λ high. let parts = and_parts (leb 0xE000 c) (ltb c 0x110000) high in
     inr (leb-true 0xE000 c parts.0, ltb-true c 0x110000 parts.1))
-    (or_cases (ltb c 0xD800) (leb 0xE000 c && ltb c 0x110000) e)
+    (or_cases (ltb c 0xD800) (leb 0xE000 c && ltb c 0x110000) passes)
 
 test_from_scalar : (c : ℕ) → IsScalarValue c → is_scalar_value c ≡ true
-test_from_scalar c (inl l) = or_left (ltb c 0xD800) _ (lt-ltb c 0xD800 l)
-test_from_scalar c (inr h) =
-    or_right (ltb c 0xD800) _ (and_from (leb 0xE000 c) (ltb c 0x110000) (le-leb 0xE000 c h.0) (lt-ltb c 0x110000 h.1))
+test_from_scalar c (inl low) = or_left (ltb c 0xD800) _ (lt-ltb c 0xD800 low)
+test_from_scalar c (inr high) =
+    or_right (ltb c 0xD800) _
+    (and_from (leb 0xE000 c) (ltb c 0x110000) (le-leb 0xE000 c high.0) (lt-ltb c 0x110000 high.1))
 
 -- the test of one candidate
 abbrev begins : Flavor → List ℕ → ℕ → Bool
 begins f bytes c = is_scalar_value c && starts_with eqb bytes (encoding f (c ∷ []))
 
 begins_from_test : (f : Flavor) (bytes : List ℕ) (c : ℕ) → begins f bytes c ≡ true → BeginsWith f bytes c (drop (width f c) bytes)
-begins_from_test f bytes c e =
-    let parts = and_parts (is_scalar_value c) (starts_with eqb bytes (encoding f (c ∷ []))) e in
+begins_from_test f bytes c passes =
+    let parts = and_parts (is_scalar_value c) (starts_with eqb bytes (encoding f (c ∷ []))) passes in
     let front = (bytes_eq-Decides (encoding f (c ∷ [])) (take (width f c) bytes)).0 parts.1 in
     record {
       scalar = scalar_from_test c parts.0;
@@ -45,10 +45,12 @@ test_from_begins f bytes c rest h =
 
 -- the first of a list that passes
 found_passes : (p : ℕ → Bool) (xs : List ℕ) (c : ℕ) → find p xs ≡ Some c → p c ≡ true
-found_passes p [] c e = absurd (cc)
-found_passes p (x ∷ xs) c e =
-    ⊎_elim (λ t. let s : Some x ≡ Some c = rw t at e in subst (λ y. p y ≡ true) (let q : x ≡ c = cc in q) t)
-    (λ n. found_passes p xs c (rw n at e)) (cases_Bool (p x))
+found_passes p [] c found = absurd (cc)
+found_passes p (x ∷ xs) c found =
+    ⊎_elim
+    (λ passes. let first : Some x ≡ Some c = rw passes at found in
+    subst (λ y. p y ≡ true) (let same : x ≡ c = cc in same) passes)
+    (λ fails. found_passes p xs c (rw fails at found)) (cases_Bool (p x))
 
 -- x stands in the list
 abbrev Among : List ℕ → ℕ → Type 0
@@ -56,29 +58,34 @@ Among [] x = ⊥
 Among (y ∷ ys) x = (x ≡ y) ⊎ Among ys x
 
 none_found : (p : ℕ → Bool) (xs : List ℕ) → find p xs ≡ None → (x : ℕ) → Among xs x → p x ≡ true → ⊥
-none_found p [] e x a t = a
-none_found p (y ∷ ys) e x a t =
+none_found p [] nothing x among passes = among
+none_found p (y ∷ ys) nothing x among passes =
     ⊎_elim
-    (λ here. let s : cond (p y) (Some y) (find p ys) ≡ None = e in
-    absurd (let yes : p y ≡ true = subst (λ z. p z ≡ true) here t in let q = rw yes at s in cc))
-    (λ there. ⊎_elim (λ yes. absurd (let q = rw yes at e in cc)) (λ no. none_found p ys (rw no at e) x there t) (cases_Bool (p y)))
-    a
+    (λ here. let answer : cond (p y) (Some y) (find p ys) ≡ None = nothing in
+    absurd (let yes : p y ≡ true = subst (λ z. p z ≡ true) here passes in
+    let none_is_some = rw yes at answer in cc))
+    (λ there. ⊎_elim (λ yes. absurd (let none_is_some = rw yes at nothing in cc))
+    (λ no. none_found p ys (rw no at nothing) x there passes) (cases_Bool (p y)))
+    among
 
 -- the character that begins the bytes is among the candidates
 is_candidate : (f : Flavor) (bytes : List ℕ) (c : ℕ) → Pattern f bytes c → Among (candidates bytes) c
-is_candidate f bytes c (of_one e _ _) = inl (sym e)
-is_candidate f bytes c (of_null _ z e0 e1 _) = inr (inl (omega arith))
-is_candidate f bytes c (of_two x y d e0 e1 _) = inr (inl (omega arith))
-is_candidate f bytes c (of_three x y z d _ e0 e1 e2 _) = inr (inr (inl (omega arith)))
-is_candidate f bytes c (of_pair w x y z d e0 e1 e2 e3 e4 e5 _) = inr (inr (inr (inl (omega arith))))
+is_candidate f bytes c (of_one first _ _) = inl (sym first)
+is_candidate f bytes c (of_null _ null first second _) = inr (inl (omega arith))
+is_candidate f bytes c (of_two x y digits first second _) = inr (inl (omega arith))
+is_candidate f bytes c (of_three x y z digits _ first second third _) = inr (inr (inl (omega arith)))
+is_candidate f bytes c (of_pair w x y z digits first second third fourth fifth sixth _) =
+    inr (inr (inr (inl (omega arith))))
 
 -- The character that the function finds begins the bytes.
 pub standing_begins : (f : Flavor) (bytes : List ℕ) (c : ℕ) → standing f bytes ≡ Some c → BeginsWith f bytes c (drop (width f c) bytes)
 unfolding standing
-standing_begins f bytes c e = begins_from_test f bytes c (found_passes (begins f bytes) (candidates bytes) c e)
+standing_begins f bytes c found =
+    begins_from_test f bytes c (found_passes (begins f bytes) (candidates bytes) c found)
 
 -- Where it finds none, none begins them.
 pub standing_none : (f : Flavor) (bytes : List ℕ) → standing f bytes ≡ None → NoneBegins f bytes
 unfolding standing
-standing_none f bytes e c rest h =
-    none_found (begins f bytes) (candidates bytes) e c (is_candidate f bytes c (pattern f bytes c rest h)) (test_from_begins f bytes c rest h)
+standing_none f bytes nothing c rest stands =
+    none_found (begins f bytes) (candidates bytes) nothing c
+    (is_candidate f bytes c (pattern f bytes c rest stands)) (test_from_begins f bytes c rest stands)

@@ -42,7 +42,8 @@ IsUtf8Of_chars bytes h =
 
 -- The same, where the bytes have another name.
 pub IsUtf8Of_chars_at : (bytes text : List ℕ) → text ≡ bytes → IsUtf8 bytes → IsUtf8Of (chars text) bytes
-IsUtf8Of_chars_at bytes text e h = subst (λ bs. IsUtf8Of (chars bs) bytes) (sym e) (IsUtf8Of_chars bytes h)
+IsUtf8Of_chars_at bytes text same is_utf8 =
+    subst (λ bs. IsUtf8Of (chars bs) bytes) (sym same) (IsUtf8Of_chars bytes is_utf8)
 
 -- The UTF-8 of a text is UTF-8.
 pub IsUtf8_utf8 : (text : List ℕ) → IsText text → IsUtf8 (utf8 text)
@@ -55,10 +56,11 @@ chars_utf8 text h = rw (utf8_encodes text) (chars-encodes text (scalars_from_IsT
 -- The whole of it: bytes are std's UTF-8 exactly where they are the UTF-8 of some text.
 pub std_utf8 : (bytes : List ℕ) → IsUtf8 bytes ↔ ((text : List ℕ) × IsUtf8Of text bytes)
 std_utf8 bytes = (
-  (λ (h : IsUtf8 bytes). (chars bytes, IsUtf8Of_chars bytes h)),
-  (λ (h : (text : List ℕ) × IsUtf8Of text bytes). subst IsUtf8 h.1.1 (IsUtf8_utf8 h.0 h.1.0)),
+  (λ (is_utf8 : IsUtf8 bytes). (chars bytes, IsUtf8Of_chars bytes is_utf8)),
+  (λ (of_text : (text : List ℕ) × IsUtf8Of text bytes).
+      subst IsUtf8 of_text.1.1 (IsUtf8_utf8 of_text.0 of_text.1.0)),
 )
 
 -- So what std takes for no UTF-8 is the UTF-8 of no text.
 pub not_utf8_of : (bytes : List ℕ) → (IsUtf8 bytes → ⊥) → (text : List ℕ) → IsUtf8Of text bytes → ⊥
-not_utf8_of bytes n text h = n ((std_utf8 bytes).1 (text, h))
+not_utf8_of bytes not_utf8 text is_utf8_of = not_utf8 ((std_utf8 bytes).1 (text, is_utf8_of))

@@ -2,7 +2,8 @@
 use Rattle.std.proofs.Common.{◌≡◌, [], ◌∷◌, refl}
 use Rattle.simd_cesu8.specs.Utf16.{units_of}
 use Rattle.simd_cesu8.specs.Encoding.{Cesu8, Mutf8, form, encoding}
-use Rattle.simd_cesu8.specs.Lossy.{standing, lies_within, mark, reading}
+use Rattle.simd_cesu8.specs.Reading.{standing, lies_within, mark, reading}
+use Rattle.simd_cesu8.specs.Laws.{HalvesJoin}
 
 -- two high surrogates and a low one: the first is damage, and the others are U+1F496
 two_high : reading Cesu8 (0xED ∷ 0xA0 ∷ 0xBD ∷ 0xED ∷ 0xA0 ∷ 0xBD ∷ 0xED ∷ 0xB2 ∷ 0x96 ∷ [])
@@ -29,3 +30,9 @@ null_after_damage = refl
 no_null : reading Cesu8 (0xC0 ∷ 0xC0 ∷ 0x80 ∷ []) ≡ 0xFFFD ∷ 0xFFFD ∷ 0xFFFD ∷ []
 unfolding units_of form encoding standing lies_within mark reading
 no_null = refl
+
+-- The halves of a pair, apart and joined.
+pub halves_join : HalvesJoin
+unfolding units_of form encoding standing lies_within mark reading
+halves_join Cesu8 = (refl, refl, refl)
+halves_join Mutf8 = (refl, refl, refl)

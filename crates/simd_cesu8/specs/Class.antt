@@ -1,5 +1,6 @@
 -- The classes of bytes that tell whether UTF-8 has to change.
-use Rattle.std.specs.Prelude.{ℕ, Bool, IsTrue, nat_le, ◌&&◌, ◌||◌, ◌==◌}
+use Rattle.std.specs.Prelude.{ℕ, Bool, IsTrue, nat_le, ◌&&◌, ◌||◌, ◌==◌, List, Any, IsUtf8}
+use Rattle.simd_cesu8.specs.Encoding.{Flavor, Cesu8, Mutf8}
 
 -- F0 to F7 (hexadecimal). In UTF-8, F0 to F4 lead four bytes, and F5 to F7 lead nothing.
 abbrev pub is_four : ℕ → Bool
@@ -14,3 +15,12 @@ IsFour b = IsTrue (is_four b)
 
 abbrev pub IsNullFour : ℕ → Type 0
 IsNullFour b = IsTrue (is_null_four b)
+
+-- The class of a flavor: a byte of UTF-8 that it writes otherwise.
+abbrev pub IsChangedByte : Flavor → ℕ → Type 0
+IsChangedByte Cesu8 = IsFour
+IsChangedByte Mutf8 = IsNullFour
+
+-- UTF-8 without a byte of the flavor's class.
+abbrev pub IsUnchangedUtf8 : Flavor → List ℕ → Type 0
+IsUnchangedUtf8 f bytes = IsUtf8 bytes × (¬ (Any (IsChangedByte f) bytes))

@@ -1,5 +1,5 @@
 -- Bytes cut into encoded characters and replaced bytes.
-use Rattle.std.specs.Prelude.{◌≡◌, ℕ, List, [], ◌∷◌, map, ⊤}
+use Rattle.std.specs.Prelude.{◌≡◌, ℕ, ◌+◌, List, [], ◌∷◌, map, ⊤}
 use Rattle.std.specs.List.{flat_map}
 use Rattle.simd_cesu8.specs.Text.{IsScalarValue}
 use Rattle.simd_cesu8.specs.Encoding.{Flavor, encoding}
@@ -42,3 +42,9 @@ abbrev pub IsGreedy : Flavor → List Piece → Type 0
 IsGreedy f [] = ⊤
 IsGreedy f (Character c ∷ pieces) = IsGreedy f pieces
 IsGreedy f (Replaced byte ∷ pieces) = NoneBegins f (byte ∷ bytes_of f pieces) × IsGreedy f pieces
+
+-- The cost of a cutting: how many bytes it replaces.
+abbrev pub cost : List Piece → ℕ
+cost [] = 0
+cost (Character c ∷ pieces) = cost pieces
+cost (Replaced byte ∷ pieces) = 1 + cost pieces

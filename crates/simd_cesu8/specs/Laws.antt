@@ -1,10 +1,13 @@
 -- The laws of both encodings, over the definitions alone.
-use Rattle.std.specs.Prelude.{◌≡◌, ℕ, ◌+◌, ◌*◌, ◌<◌, ◌≤◌, ◌≢◌, ◌⊎◌, ◌↔◌, List, ◌++◌, length, All}
+use Rattle.std.specs.Prelude.{◌≡◌, ℕ, ◌+◌, ◌*◌, ◌<◌, ◌≤◌, ◌≢◌, ◌⊎◌, ◌↔◌, List, [], ◌∷◌, ◌++◌, length, All}
+use Rattle.std.specs.Ordering.{MatchOrdering, nat_cmp}
+use Rattle.std.specs.Cmp.Lexicographic.{slice_cmp}
 use Rattle.simd_cesu8.specs.Text.{IsText, utf8, IsUtf8Of}
-use Rattle.simd_cesu8.specs.Encoding.{Flavor, Mutf8, encoding, NeedsEncoding}
-use Rattle.simd_cesu8.specs.Reading.{IsStrictReading, StandsAt, width, IsMark}
-use Rattle.simd_cesu8.specs.Lossy.{mark, reading}
-use Rattle.simd_cesu8.specs.Cutting.{Piece, IsCutting, IsGreedy, text_of}
+use Rattle.simd_cesu8.specs.Utf16.{units}
+use Rattle.simd_cesu8.specs.Encoding.{Flavor, Cesu8, Mutf8, encoding, NeedsEncoding}
+use Rattle.simd_cesu8.specs.Reading.{IsStrictReading, StandsAt, width, IsMark, mark, reading}
+use Rattle.simd_cesu8.specs.Cutting.{Piece, IsCutting, IsGreedy, text_of, cost}
+use Rattle.simd_cesu8.specs.Order.{IsBelow, ExactlyOne, ComparesAs}
 
 -- The strict reading of an encoding is the text, and no other; texts with equal encodings are equal.
 abbrev pub RoundTrip : Type 0
@@ -65,3 +68,81 @@ OneMark = (f : Flavor) (bytes : List ℕ) (i : ℕ) →
 abbrev pub Places : Type 0
 Places = (f : Flavor) (bytes : List ℕ) (pieces : List Piece) → IsCutting f bytes pieces → IsGreedy f pieces →
     text_of pieces ≡ reading f bytes
+
+-- Every list of bytes has a greedy cutting.
+abbrev pub HasGreedyCutting : Type 0
+HasGreedyCutting = (f : Flavor) (bytes : List ℕ) →
+    (pieces : List Piece) × IsCutting f bytes pieces × IsGreedy f pieces
+
+-- Bytes have a cutting that is greedy, whose text is the lossy reading, and every other cutting of
+-- them is it or costs more.
+abbrev pub Fewest : Type 0
+Fewest = (f : Flavor) (bytes : List ℕ) → (pieces : List Piece) ×
+    IsCutting f bytes pieces × IsGreedy f pieces × (text_of pieces ≡ reading f bytes)
+    × ((other : List Piece) → IsCutting f bytes other → (other ≡ pieces) ⊎ (cost pieces < cost other))
+
+-- No encoded character begins in the front and ends in the back.
+abbrev pub NoneCrosses : Flavor → List ℕ → List ℕ → Type 0
+NoneCrosses f front back =
+    (i c : ℕ) → StandsAt f (front ++ back) i c → i < length front → i + width f c ≤ length front
+
+-- The lossy reading of a and then b is that of a and then that of b exactly where no encoded character
+-- begins in a and ends in b.
+abbrev pub Split : Type 0
+Split = (f : Flavor) (a b : List ℕ) →
+    (reading f (a ++ b) ≡ reading f a ++ reading f b) ↔ NoneCrosses f a b
+
+-- The condition is needed: the two halves of a surrogate pair are damage by themselves, and joined they
+-- are U+1F496.
+abbrev pub HalvesJoin : Type 0
+HalvesJoin = (f : Flavor) →
+    let high = 0xED ∷ 0xA0 ∷ 0xBD ∷ [] in
+    let low = 0xED ∷ 0xB2 ∷ 0x96 ∷ [] in
+    (reading f high ≡ 0xFFFD ∷ 0xFFFD ∷ 0xFFFD ∷ []) × (reading f low ≡ 0xFFFD ∷ 0xFFFD ∷ 0xFFFD ∷ [])
+    × (reading f (high ++ low) ≡ 0x1F496 ∷ [])
+
+-- The lossy reading of an encoded text s, bytes w and an encoded text t is s, the reading of w, and t.
+abbrev pub Around : Type 0
+Around = (f : Flavor) (s w t : List ℕ) → IsText s → IsText t →
+    reading f (encoding f s ++ w ++ encoding f t) ≡ s ++ reading f w ++ t
+
+-- The lossy reading of bytes a, an encoded text t that is not empty and bytes b is that of a, t, and
+-- that of b.
+abbrev pub Middle : Type 0
+Middle = (f : Flavor) (a t b : List ℕ) → IsText t → t ≢ [] →
+    reading f (a ++ encoding f t ++ b) ≡ reading f a ++ t ++ reading f b
+
+-- Of two lists the first is below, or they are equal, or the first is above, and only one of these.
+abbrev pub Trichotomy : Type 0
+Trichotomy = (xs ys : List ℕ) → ExactlyOne (IsBelow xs ys) (xs ≡ ys) (IsBelow ys xs)
+
+-- What is below something is below all that this is below.
+abbrev pub Transitivity : Type 0
+Transitivity = (xs ys zs : List ℕ) → IsBelow xs ys → IsBelow ys zs → IsBelow xs zs
+
+-- What std answers to `cmp` of two slices of numbers is their dictionary order.
+abbrev pub SliceOrder : Type 0
+SliceOrder = (xs ys : List ℕ) →
+    MatchOrdering (slice_cmp nat_cmp xs ys) (IsBelow xs ys) (xs ≡ ys) (IsBelow ys xs)
+
+-- Two encodings in CESU-8 compare as the code units do.
+abbrev pub OrderInCesu8 : Type 0
+OrderInCesu8 = (s t : List ℕ) → IsText s → IsText t →
+    ComparesAs (encoding Cesu8 s) (encoding Cesu8 t) (units s) (units t)
+
+-- In MUTF-8 they do where neither text holds U+0000.
+abbrev pub OrderInMutf8 : Type 0
+OrderInMutf8 = (s t : List ℕ) → IsText s → IsText t → All (λ c. c ≢ 0) s → All (λ c. c ≢ 0) t →
+    ComparesAs (encoding Mutf8 s) (encoding Mutf8 t) (units s) (units t)
+
+-- And not for all texts: U+0000 has the code unit below that of "A", and the encoding above.
+abbrev pub NullOutOfOrder : Type 0
+NullOutOfOrder =
+    IsBelow (units (0x0 ∷ [])) (units (0x41 ∷ []))
+    × IsBelow (encoding Mutf8 (0x41 ∷ [])) (encoding Mutf8 (0x0 ∷ []))
+
+-- Nor is it the order of the scalar values: U+FFFF is below U+10000, and its encodings are above.
+abbrev pub ScalarsOutOfOrder : Type 0
+ScalarsOutOfOrder =
+    IsBelow (0xFFFF ∷ []) (0x10000 ∷ [])
+    × ((f : Flavor) → IsBelow (encoding f (0x10000 ∷ [])) (encoding f (0xFFFF ∷ [])))

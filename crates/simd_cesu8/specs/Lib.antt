@@ -2,9 +2,11 @@ pub mod Text
 pub mod Utf16
 pub mod Encoding
 pub mod Class
+pub mod Kernels
 pub mod Reading
-pub mod Lossy
 pub mod Cutting
-pub mod Answer
+pub mod Cow
+pub mod Fault
 pub mod Internal
+pub mod Order
 pub mod Laws

@@ -1,6 +1,7 @@
 -- How bytes are read as a text.
-use Rattle.std.specs.Prelude.{◌≡◌, ◌⊎◌, ℕ, ◌+◌, ◌<◌, List, [], ◌∷◌, ◌++◌, length, drop}
-use Rattle.simd_cesu8.specs.Text.{IsScalarValue, IsText, IsUtf8Of}
+use Rattle.std.specs.Prelude.{◌≡◌, ◌⊎◌, ℕ, ◌+◌, ◌-◌, ◌*◌, ◌<◌, Bool, ◌&&◌, ◌||◌, nat_eq, nat_lt, nat_le, if◌then◌else◌, List, [], ◌∷◌, ◌++◌, length, drop, slice_index, Option, Some, None}
+use Rattle.std.specs.List.{flat_map, find, list_any, range_with_len, starts_with}
+use Rattle.simd_cesu8.specs.Text.{IsScalarValue, IsText, utf8, IsUtf8Of}
 use Rattle.simd_cesu8.specs.Encoding.{Flavor, encoding}
 
 -- The bytes are the encoding of the scalar value c, and then rest.
@@ -46,3 +47,62 @@ pub data IsMark (f : Flavor) (bytes : List ℕ) (i : ℕ) : List ℕ → Type 0 
   Stands : (c : ℕ) → StandsAt f bytes i c → IsMark f bytes i (c ∷ [])
   Within : NoneBegins f (drop i bytes) → LiesWithin f bytes i → IsMark f bytes i []
   Damaged : NoneBegins f (drop i bytes) → ¬ (LiesWithin f bytes i) → IsMark f bytes i (0xFFFD ∷ [])
+
+-- The lossy reading again, computed.
+
+-- The forms turned round: the number of which two bytes, or three, would be the form; and that of a
+-- surrogate pair, by its second, third, fifth and sixth byte.
+abbrev pub two_byte_value : ℕ → ℕ → ℕ
+two_byte_value a b = (a - 0xC0) * 0x40 + (b - 0x80)
+
+abbrev pub three_byte_value : ℕ → ℕ → ℕ → ℕ
+three_byte_value a b d = (a - 0xE0) * 0x1000 + (b - 0x80) * 0x40 + (d - 0x80)
+
+abbrev pub pair_value : ℕ → ℕ → ℕ → ℕ → ℕ
+pair_value b d g h = 0x10000 + (b - 0xA0) * 0x10000 + (d - 0x80) * 0x400 + (g - 0xB0) * 0x40 + (h - 0x80)
+
+-- The numbers whose encoding the bytes could begin with: one for each length.
+abbrev pub candidates : List ℕ → List ℕ
+candidates bytes =
+    let b = slice_index bytes in
+    b 0 ∷ two_byte_value (b 0) (b 1) ∷ three_byte_value (b 0) (b 1) (b 2) ∷ pair_value (b 1) (b 2) (b 4) (b 5) ∷ []
+
+abbrev pub is_scalar_value : ℕ → Bool
+is_scalar_value c = nat_lt c 0xD800 || (nat_le 0xE000 c && nat_lt c 0x110000)
+
+-- The character that begins the bytes: the first candidate whose encoding they begin with.
+unfoldable pub standing : Flavor → List ℕ → Option ℕ
+standing f bytes =
+    find (λ c. is_scalar_value c && starts_with nat_eq bytes (encoding f (c ∷ []))) (candidates bytes)
+
+-- How many bytes it takes, or 0.
+abbrev pub width_of : Flavor → Option ℕ → ℕ
+width_of f (Some c) = width f c
+width_of f None = 0
+
+-- Whether place i lies in a stretch that begins earlier.
+unfoldable pub lies_within : Flavor → List ℕ → ℕ → Bool
+lies_within f bytes i =
+    list_any (λ j. nat_lt i (j + width_of f (standing f (drop j bytes)))) (range_with_len 0 i)
+
+-- What the lossy reading has for a place, by what stands there and whether the place lies within a stretch.
+abbrev pub mark_by : Option ℕ → Bool → List ℕ
+mark_by (Some c) within = c ∷ []
+mark_by None within = if within then [] else 0xFFFD ∷ []
+
+unfoldable pub mark : Flavor → List ℕ → ℕ → List ℕ
+mark f bytes i = mark_by (standing f (drop i bytes)) (lies_within f bytes i)
+
+-- The lossy reading: what it has for each place, in the order of the places.
+unfoldable pub reading : Flavor → List ℕ → List ℕ
+reading f bytes = flat_map (mark f bytes) (range_with_len 0 (length bytes))
+
+-- How many bytes its UTF-8 has.
+unfoldable pub lossy_length : Flavor → List ℕ → ℕ
+lossy_length f bytes = length (utf8 (reading f bytes))
+
+-- The lenient lossy reading of bytes: their text where they are UTF-8 as a whole, and the lossy
+-- reading elsewhere.
+abbrev pub IsLenientLossyReading : Flavor → List ℕ → List ℕ → Type 0
+IsLenientLossyReading f bytes text =
+    IsUtf8Of text bytes ⊎ (((other : List ℕ) → ¬ (IsUtf8Of other bytes)) × (text ≡ reading f bytes))

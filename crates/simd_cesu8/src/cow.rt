@@ -14,7 +14,7 @@ pub enum CowBytes<'a> {
 
 impl<'a> CowBytes<'a> {
     ghost use Rattle.std.specs.Prelude.{◌≡◌, [], length, IsTrue, IfOk, IsOk, OnErr, Ok, vec_capacity};
-    ghost use Rattle.simd_cesu8.specs.Answer.{answer_bytes, borrows_bytes, IfOwned};
+    ghost use Rattle.simd_cesu8.specs.Cow.{answer_bytes, borrows_bytes, IfOwned};
 
     /// The bytes, in either case.
     ///
@@ -46,8 +46,8 @@ impl<'a> CowBytes<'a> {
     /// borrowed.
     ///
     /// Only a copy takes memory: one request for the answer's length, in bytes, and none where that
-    /// is 0. `AllocError` comes where that request is refused. Nothing is lost then, since the caller
-    /// still has what was borrowed.
+    /// is 0. `AllocError` comes where that request is refused. Nothing is lost then, since the
+    /// caller still has what was borrowed.
     ///
     /// ```rust
     /// let bytes = simd_cesu8::encode(alloc, "\u{205}")?.into_vec(alloc)?;
@@ -80,7 +80,7 @@ pub enum CowText<'a> {
 impl<'a> CowText<'a> {
     ghost use Rattle.std.specs.Prelude.{◌≡◌, [], length, IsTrue, IfOk, IsOk, OnErr, Ok};
     ghost use Rattle.std.specs.String.{string_bytes, string_capacity};
-    ghost use Rattle.simd_cesu8.specs.Answer.{answer_text, borrows_text, IfOwnedText};
+    ghost use Rattle.simd_cesu8.specs.Cow.{answer_text, borrows_text, IfOwnedText};
 
     /// The text, in either case.
     ///
@@ -111,9 +111,9 @@ impl<'a> CowText<'a> {
     /// The text as a string of the caller's own: the one that was built, or a copy of what was
     /// borrowed.
     ///
-    /// Only a copy takes memory: one request for the text's length, in bytes, and none where that is
-    /// 0. `AllocError` comes where that request is refused. Nothing is lost then, since the caller
-    /// still has what was borrowed.
+    /// Only a copy takes memory: one request for the text's length, in bytes, and none where that
+    /// is 0. `AllocError` comes where that request is refused. Nothing is lost then, since the
+    /// caller still has what was borrowed.
     ///
     /// ```rust
     /// let text = simd_cesu8::decode_strict(alloc, b"a")?.into_string(alloc)?;

@@ -2,7 +2,7 @@
 
 ghost use Rattle.std.specs.Prelude.{Some, codes, true};
 ghost use Rattle.std.proofs.Common.{rules};
-ghost use Rattle.simd_cesu8.specs.Answer.{message_of};
+ghost use Rattle.simd_cesu8.specs.Fault.{message_of};
 
 use std::alloc::AllocError;
 use std::error::Error;
@@ -11,9 +11,12 @@ use std::fmt::{Debug, Display, Formatter};
 
 /// The input is no encoding of a text. It says neither where nor why.
 ///
-/// It shows itself as `invalid input`, and as `DecodingError` with `{:?}`, whatever width is asked for.
+/// It shows itself as `invalid input`, and as `DecodingError` with `{:?}`, whatever width is asked
+/// for.
 ///
 /// ```rust
+/// use simd_cesu8::DecodeFault;
+///
 /// if let Err(DecodeFault::Invalid(error)) = simd_cesu8::decode(alloc, b"\xFF") {
 ///     let shown = format!(in alloc; "{error}")?;
 ///     assert_eq!(rt; shown.as_str(), "invalid input");
@@ -58,6 +61,8 @@ impl Error for DecodingError {}
 /// It shows itself as `invalid input` or `out of memory`, whatever width is asked for.
 ///
 /// ```rust
+/// use simd_cesu8::DecodeFault;
+///
 /// match simd_cesu8::decode_strict(alloc, bytes) {
 ///     Ok(text) => rt.println(text.as_str())?,
 ///     Err(DecodeFault::Invalid(_)) => rt.println("no CESU-8")?,

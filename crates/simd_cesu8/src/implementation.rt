@@ -1,10 +1,13 @@
 //! The kernels: whether bytes hold one that encoding changes. Their names are no promise to users.
 
+pub(crate) mod count;
 pub mod fallback;
+pub mod simd;
+pub mod word;
 
 /// The kernels that the calls of the crate use.
 pub mod active {
-    pub use super::fallback::{
+    pub use super::simd::{
         contains_null_or_utf8_4_byte_char_header, contains_utf8_4_byte_char_header,
     };
 }

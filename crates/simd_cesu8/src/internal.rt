@@ -3,12 +3,15 @@
 //! A call that builds makes its one request here, and the writers below it can't fail.
 
 mod decoder;
+mod encoded_character;
 mod encoder;
+mod lengths;
 mod writers;
 
-pub use decoder::decode;
+pub use decoder::{decode_lossy, decode_strict, lossy_len};
 pub use encoder::{encode, encode_into};
-pub use writers::{copy, copy_into, copy_text};
+pub use lengths::encoded_len;
+pub use writers::{copy, copy_text};
 
 /// Which of the two encodings.
 #[derive(Clone, Copy)]

@@ -1,8 +1,31 @@
 //! The laws of both encodings. Each function does nothing: its contract is the law, for every text
-//! and every list of bytes, in both flavors, and its proof is the evidence. docs/DEFINITIONS.md says
-//! what a stretch, a mark and a cutting are.
+//! and every list of bytes, in both flavors, and its proof is the evidence. docs/DEFINITIONS.md
+//! says what a stretch, a mark, a cutting and its cost are, and draws an example.
 
-ghost use Rattle.simd_cesu8.specs.Laws.{RoundTrip, Concat, SameText, Needs, NoZero, Bounds, NoOverlap, OneMark, Places};
+ghost use Rattle.simd_cesu8.specs.Laws.{
+  RoundTrip,
+  Concat,
+  SameText,
+  Needs,
+  NoZero,
+  Bounds,
+  NoOverlap,
+  OneMark,
+  Places,
+  HasGreedyCutting,
+  Fewest,
+  Split,
+  HalvesJoin,
+  Around,
+  Middle,
+  Trichotomy,
+  Transitivity,
+  SliceOrder,
+  OrderInCesu8,
+  OrderInMutf8,
+  NullOutOfOrder,
+  ScalarsOutOfOrder,
+};
 
 /// The strict reading of an encoding is the text, and texts with equal encodings are equal.
 pub fn round_trip()
@@ -29,8 +52,8 @@ pub fn no_zero()
     ensures { NoZero }
 {}
 
-/// An encoding has at most twice the bytes of the text, and a strict reading at most the bytes of the
-/// input. The text of every cutting and the lossy reading have at most three times as many.
+/// An encoding has at most twice the bytes of the text, and a strict reading at most the bytes of
+/// the input. The text of every cutting and the lossy reading have at most three times as many.
 pub fn bounds()
     ensures { Bounds }
 {}
@@ -45,7 +68,55 @@ pub fn one_mark()
     ensures { OneMark }
 {}
 
-/// The text of every greedy cutting into encoded characters and replaced bytes is the lossy reading.
+/// Bytes have a greedy cutting into encoded characters and replaced bytes, and the text of each one
+/// is the lossy reading.
 pub fn places()
-    ensures { Places }
+    ensures text { Places }
+    ensures exists { HasGreedyCutting }
+{}
+
+/// Of all cuttings of bytes the greedy one, whose text is the lossy reading, is the only one that
+/// replaces the fewest bytes.
+pub fn fewest()
+    ensures { Fewest }
+{}
+
+/// The lossy reading of bytes a and then b is that of a and then that of b exactly where no encoded
+/// character begins in a and ends in b. The halves of a surrogate pair are damage apart, and one
+/// character when joined.
+pub fn split()
+    ensures parts { Split }
+    ensures halves_join { HalvesJoin }
+{}
+
+/// The lossy reading of an encoded text, bytes and another encoded text is the one text, the
+/// reading of the bytes, and the other text. Each of the texts may be empty.
+pub fn around()
+    ensures { Around }
+{}
+
+/// The lossy reading of bytes, an encoded text that is not empty and more bytes is the reading of
+/// the first bytes, the text, and the reading of the others.
+pub fn middle()
+    ensures { Middle }
+{}
+
+/// Dictionary order is an order: of two lists the first is below, or they are equal, or the first
+/// is above, and only one of these; what is below something is below all that this is below. It is
+/// what std answers to `cmp` of two slices.
+pub fn dictionary_order()
+    ensures one_of_three { Trichotomy }
+    ensures transitive { Transitivity }
+    ensures slices { SliceOrder }
+{}
+
+/// Two encodings compare, in dictionary order, as the UTF-16 code units of their texts do: in
+/// CESU-8 always, and in MUTF-8 where neither text holds U+0000, whose encoding is above that of
+/// "A". It is not the order of the scalar values, nor of UTF-8: the encodings of U+FFFF are above
+/// those of U+10000.
+pub fn order()
+    ensures cesu8 { OrderInCesu8 }
+    ensures mutf8 { OrderInMutf8 }
+    ensures null_differs { NullOutOfOrder }
+    ensures scalars_differ { ScalarsOutOfOrder }
 {}

@@ -7,6 +7,20 @@
 //! An answer borrows from the input exactly where its bytes are the input's bytes, and elsewhere is
 //! built after one request for memory. Where that is refused, the call answers `AllocError`.
 //!
+//! | you have | you want | call |
+//! |---|---|---|
+//! | text | its encoding | [`encode`]; [`encode_into`] to append it to a buffer of your own |
+//! | text | to know whether that differs from its UTF-8 | [`needs_encoded`] |
+//! | text | the length of its encoding | [`encoded_len`] |
+//! | bytes of the encoding | their text, or a refusal | [`decode_strict`] |
+//! | bytes of the encoding, perhaps damaged | a text in any case | [`decode_lossy_strict`] |
+//! | bytes of the encoding, perhaps damaged | the length of that text | [`lossy_len`] |
+//! | bytes that are UTF-8, or else the encoding | their text, or a refusal | [`decode`] |
+//! | bytes that are UTF-8, or else the encoding, perhaps damaged | a text in any case | [`decode_lossy`] |
+//!
+//! The root's calls are for CESU-8, and those of [`mutf8`] for MUTF-8. Take a strict call where the
+//! bytes can only be the encoding: a lenient one lets raw UTF-8 pass, as a character of four bytes.
+//!
 //! ```rust
 //! assert!(rt; simd_cesu8::encode(alloc, "caf\u{E9}")?.is_borrowed());
 //!
@@ -15,16 +29,15 @@
 //! ```
 #![tactic(auto)]
 
-ghost use Rattle.std.specs.Prelude.{◌≡◌, ◌≤◌, ◌+◌, ◌*◌, ◌++◌, [], max, ◌↔◌, length, IsTrue, IsUtf8, Any, IfOk, IfErr, OnOk, OnErr, IsOk, vec_len, vec_capacity};
-ghost use Rattle.std.specs.String.{string_capacity};
+ghost use Rattle.std.specs.Prelude.{◌≡◌, ◌<◌, ◌≤◌, ◌+◌, ◌*◌, ◌++◌, [], ◌↔◌, length, IsTrue, IsUtf8, OnOk, OnErr, IsOk, vec_len, vec_capacity, IfSome, IfNone};
 ghost use Rattle.std.specs.Str.{chars};
 ghost use Rattle.simd_cesu8.specs.Encoding.{Cesu8, encoding, NeedsEncoding};
-ghost use Rattle.simd_cesu8.specs.Class.{IsFour};
-ghost use Rattle.simd_cesu8.specs.Reading.{IsStrictReading, HasNoStrictReading, IsLenientReading, HasNoLenientReading};
-ghost use Rattle.simd_cesu8.specs.Lossy.{reading, IsLenientLossyReading};
-ghost use Rattle.simd_cesu8.specs.Answer.{answer_bytes, borrows_bytes, IfOwned, answer_text, borrows_text, IfOwnedText, IfInvalid};
+ghost use Rattle.simd_cesu8.specs.Class.{IsUnchangedUtf8};
+ghost use Rattle.simd_cesu8.specs.Reading.{IsStrictReading, HasNoStrictReading, IsLenientReading, HasNoLenientReading, reading, lossy_length, IsLenientLossyReading};
+ghost use Rattle.simd_cesu8.specs.Cow.{IfBytes, BorrowsBytesWhere, BuildsBytesOfCapacity, IfText, BorrowsTextWhere, BuildsTextOfCapacity, AnswersTextOfLength};
+ghost use Rattle.simd_cesu8.specs.Fault.{OnInvalid};
 
-mod answer;
+mod borrow_or_build;
 mod cow;
 mod error;
 pub mod implementation;
@@ -47,13 +60,24 @@ use std::alloc::{AllocError, Global};
 pub fn needs_encoded(value: &str) -> bool
     ensures { IsTrue result ↔ NeedsEncoding Cesu8 (chars value.now) }
 {
-    answer::needs_encoded(Flavor::Cesu8, value)
+    borrow_or_build::needs_encoded(Flavor::Cesu8, value)
+}
+
+/// The length of the CESU-8 (Unicode Technical Report 26) of a text, in bytes. It takes no memory.
+///
+/// ```rust
+/// assert_eq!(rt; simd_cesu8::encoded_len("a\u{10FFFF}"), 7);
+/// ```
+pub fn encoded_len(value: &str) -> usize
+    ensures { result ≡ length (encoding Cesu8 (chars value.now)) }
+{
+    internal::encoded_len(Flavor::Cesu8, value)
 }
 
 /// Encodes a text to CESU-8 (Unicode Technical Report 26).
 ///
-/// The answer borrows the text's bytes where they are the encoding, which takes no memory. Elsewhere
-/// it is built after one request for twice the text's length, in bytes, and `AllocError` comes where
+/// The answer borrows the text's bytes where they are the encoding, which takes no memory.
+/// Elsewhere it is built after one request for exactly its length, and `AllocError` comes where
 /// that is refused.
 ///
 /// ```rust
@@ -64,20 +88,20 @@ pub fn needs_encoded(value: &str) -> bool
 /// assert_eq!(rt; built.as_bytes(), b"\xED\xA0\x81\xED\xB0\x80".as_slice());
 /// ```
 pub fn encode(alloc: Global, value: &str) -> Result<CowBytes<'_>, AllocError>
-    ensures encoding { IfOk result (λ answer. answer_bytes answer ≡ encoding Cesu8 (chars value.now)) }
-    ensures borrowed { IfOk result (λ answer. IsTrue (borrows_bytes answer) ↔ (answer_bytes answer ≡ value.now)) }
+    ensures encoding { IfBytes result (λ bytes. bytes ≡ encoding Cesu8 (chars value.now)) }
+    ensures borrowed { BorrowsBytesWhere result (λ bytes. bytes ≡ value.now) }
     ensures succeeds { ¬ (NeedsEncoding Cesu8 (chars value.now)) → IsOk result }
-    ensures capacity { IfOk result (λ answer. IfOwned answer (λ bytes. vec_capacity bytes ≡ 2 * length value.now)) }
+    ensures capacity { BuildsBytesOfCapacity result (length (encoding Cesu8 (chars value.now))) }
 {
-    answer::encode(alloc, Flavor::Cesu8, value)
+    borrow_or_build::encode(alloc, Flavor::Cesu8, value)
 }
 
 /// Appends the CESU-8 (Unicode Technical Report 26) of a text to what stands in the buffer.
 ///
-/// It makes one request, before it writes: for the text's length, in bytes, where nothing needs
-/// encoding, and else for twice that. It makes none where the buffer has that room, so none for the
-/// empty text. `AllocError` comes where the request is refused, and then the buffer's bytes are as
-/// before.
+/// Where the buffer has no room for the encoding, it makes one request, before it writes. So it
+/// makes none for the empty text. The buffer grows by a factor then, as `Vec::push` lets it grow,
+/// so that many short texts are appended with few requests. `AllocError` comes where the request is
+/// refused, and then the buffer is as before.
 ///
 /// ```rust
 /// let mut buf = simd_cesu8::encode(alloc, "id=")?.into_vec(alloc)?;
@@ -87,28 +111,25 @@ pub fn encode(alloc: Global, value: &str) -> Result<CowBytes<'_>, AllocError>
 pub fn encode_into(value: &str, buf: &mut Vec<u8>) -> Result<(), AllocError>
     ensures ok { OnOk result (buf.new.items ≡ buf.old.items ++ encoding Cesu8 (chars value.now)) }
     ensures err { OnErr result (buf.new.items ≡ buf.old.items) }
+    ensures err_capacity { OnErr result (vec_capacity buf.new ≡ vec_capacity buf.old) }
 
-    // No request is refused where there is room for what it asks.
-    ensures room { vec_len buf.old + 2 * length value.now ≤ vec_capacity buf.old → IsOk result }
-    ensures room_unchanged { ¬ (NeedsEncoding Cesu8 (chars value.now))
-        → vec_len buf.old + length value.now ≤ vec_capacity buf.old → IsOk result }
+    // No request is refused where there is room for the encoding.
+    ensures room { vec_len buf.old + length (encoding Cesu8 (chars value.now))
+        ≤ vec_capacity buf.old → IsOk result }
     ensures empty { value.now ≡ [] → IsOk result }
-
-    // What it asks for where there is none.
-    ensures capacity { NeedsEncoding Cesu8 (chars value.now) → OnOk result (vec_capacity buf.new
-        ≡ max (vec_capacity buf.old) (vec_len buf.old + 2 * length value.now)) }
-    ensures capacity_unchanged { ¬ (NeedsEncoding Cesu8 (chars value.now)) → OnOk result
-        (vec_capacity buf.new ≡ max (vec_capacity buf.old) (vec_len buf.old + length value.now)) }
+    ensures grows { vec_capacity buf.old ≤ vec_capacity buf.new }
 {
-    answer::encode_into(Flavor::Cesu8, value, buf)
+    internal::encode_into(Flavor::Cesu8, value, buf)
 }
 
 /// Decodes CESU-8 (Unicode Technical Report 26), strictly: the text whose encoding the bytes are.
 ///
-/// The answer borrows the bytes where they are the text's UTF-8, which takes no memory. Elsewhere it
-/// is built after one request for the input's length, in bytes, and `Memory` comes where that is
+/// The answer borrows the bytes where they are the text's UTF-8, which takes no memory. Elsewhere
+/// it is built after one request for the input's length, in bytes, and `Memory` comes where that is
 /// refused. `Invalid` comes where no text has the bytes as its encoding: damage, an unpaired
 /// surrogate, an overlong form, or a UTF-8 form of four bytes.
+///
+/// [`decode`] takes UTF-8 too, and [`decode_lossy_strict`] refuses nothing.
 ///
 /// ```rust
 /// let built = simd_cesu8::decode_strict(alloc, b"\xED\xA0\xBD\xED\xB2\x96")?;
@@ -116,13 +137,14 @@ pub fn encode_into(value: &str, buf: &mut Vec<u8>) -> Result<(), AllocError>
 /// assert!(rt; simd_cesu8::decode_strict(alloc, "\u{1F496}".as_bytes()).is_err());
 /// ```
 pub fn decode_strict(alloc: Global, bytes: &[u8]) -> Result<CowText<'_>, DecodeFault>
-    ensures text { IfOk result (λ answer. IsStrictReading Cesu8 bytes.now (chars (answer_text answer))) }
-    ensures invalid { IfErr result (λ fault. IfInvalid fault (HasNoStrictReading Cesu8 bytes.now)) }
-    ensures borrowed { IfOk result (λ answer. IsTrue (borrows_text answer) ↔ (answer_text answer ≡ bytes.now)) }
-    ensures succeeds { IsUtf8 bytes.now → ¬ (Any IsFour bytes.now) → IsOk result }
-    ensures capacity { IfOk result (λ answer. IfOwnedText answer (λ text. string_capacity text ≡ length bytes.now)) }
+    ensures text { IfText result (IsStrictReading Cesu8 bytes.now) }
+    ensures invalid { OnInvalid result (HasNoStrictReading Cesu8 bytes.now) }
+    ensures borrowed { BorrowsTextWhere result (λ text. text ≡ bytes.now) }
+    ensures borrowed_where { BorrowsTextWhere result (λ _. IsUnchangedUtf8 Cesu8 bytes.now) }
+    ensures succeeds { IsUnchangedUtf8 Cesu8 bytes.now → IsOk result }
+    ensures capacity { BuildsTextOfCapacity result (length bytes.now) }
 {
-    answer::decode_strict(alloc, Flavor::Cesu8, bytes)
+    borrow_or_build::decode_strict(alloc, Flavor::Cesu8, bytes)
 }
 
 /// Decodes bytes that are UTF-8 as a whole, or else CESU-8 (Unicode Technical Report 26).
@@ -132,6 +154,8 @@ pub fn decode_strict(alloc: Global, bytes: &[u8]) -> Result<CowText<'_>, DecodeF
 /// comes where the bytes are neither UTF-8 as a whole nor the encoding of a text: no input is read
 /// partly as one and partly as the other.
 ///
+/// [`decode_strict`] takes the encoding alone, and [`decode_lossy`] refuses nothing.
+///
 /// ```rust
 /// let borrowed = simd_cesu8::decode(alloc, "\u{1F496}".as_bytes())?;
 /// assert!(rt; borrowed.is_borrowed());
@@ -140,53 +164,77 @@ pub fn decode_strict(alloc: Global, bytes: &[u8]) -> Result<CowText<'_>, DecodeF
 /// assert_eq!(rt; built.as_str(), "\u{1F496}");
 /// ```
 pub fn decode(alloc: Global, bytes: &[u8]) -> Result<CowText<'_>, DecodeFault>
-    ensures text { IfOk result (λ answer. IsLenientReading Cesu8 bytes.now (chars (answer_text answer))) }
-    ensures invalid { IfErr result (λ fault. IfInvalid fault (HasNoLenientReading Cesu8 bytes.now)) }
-    ensures borrowed { IfOk result (λ answer. IsTrue (borrows_text answer) ↔ IsUtf8 bytes.now) }
-    ensures unchanged { IfOk result (λ answer. IsUtf8 bytes.now ↔ (answer_text answer ≡ bytes.now)) }
+    ensures text { IfText result (IsLenientReading Cesu8 bytes.now) }
+    ensures invalid { OnInvalid result (HasNoLenientReading Cesu8 bytes.now) }
+    ensures borrowed { BorrowsTextWhere result (λ text. text ≡ bytes.now) }
+    ensures borrowed_where { BorrowsTextWhere result (λ _. IsUtf8 bytes.now) }
     ensures succeeds { IsUtf8 bytes.now → IsOk result }
-    ensures capacity { IfOk result (λ answer. IfOwnedText answer (λ text. string_capacity text ≡ length bytes.now)) }
+    ensures capacity { BuildsTextOfCapacity result (length bytes.now) }
 {
-    answer::decode(alloc, Flavor::Cesu8, bytes)
+    borrow_or_build::decode(alloc, Flavor::Cesu8, bytes)
 }
 
 /// Decodes CESU-8 (Unicode Technical Report 26) with damage: each encoded character that stands in
 /// the bytes, and one U+FFFD for each byte that is in none.
 ///
-/// The answer borrows the bytes where they are the text's UTF-8, which takes no memory. Elsewhere it
-/// is built after one request for three times the input's length, in bytes, and `AllocError` comes
-/// where that is refused or does not fit.
+/// The answer borrows the bytes where they are the text's UTF-8, which takes no memory. Elsewhere
+/// it is built after one request for exactly its length, [`lossy_len`], and `AllocError` comes
+/// where that is refused or does not fit `usize`.
+///
+/// [`decode_strict`] refuses such input, and [`decode_lossy`] takes UTF-8 too.
 ///
 /// ```rust
 /// let text = simd_cesu8::decode_lossy_strict(alloc, b"\xE2\x82A")?;
 /// assert_eq!(rt; text.as_str(), "\u{FFFD}\u{FFFD}A");
 /// ```
 pub fn decode_lossy_strict(alloc: Global, bytes: &[u8]) -> Result<CowText<'_>, AllocError>
-    ensures reading { IfOk result (λ answer. chars (answer_text answer) ≡ reading Cesu8 bytes.now) }
-    ensures borrowed { IfOk result (λ answer. IsTrue (borrows_text answer) ↔ (answer_text answer ≡ bytes.now)) }
-    ensures succeeds { IsUtf8 bytes.now → ¬ (Any IsFour bytes.now) → IsOk result }
-    ensures capacity { IfOk result (λ answer. IfOwnedText answer (λ text. string_capacity text ≡ 3 * length bytes.now)) }
+    ensures reading { IfText result (λ text. text ≡ reading Cesu8 bytes.now) }
+    ensures text_length { AnswersTextOfLength result (lossy_length Cesu8 bytes.now) }
+    ensures borrowed { BorrowsTextWhere result (λ text. text ≡ bytes.now) }
+    ensures borrowed_where { BorrowsTextWhere result (λ _. IsUnchangedUtf8 Cesu8 bytes.now) }
+    ensures succeeds { IsUnchangedUtf8 Cesu8 bytes.now → IsOk result }
+    ensures capacity { BuildsTextOfCapacity result (lossy_length Cesu8 bytes.now) }
 {
-    answer::decode_lossy_strict(alloc, Flavor::Cesu8, bytes)
+    borrow_or_build::decode_lossy_strict(alloc, Flavor::Cesu8, bytes)
 }
 
 /// Decodes bytes that are UTF-8 as a whole, or else CESU-8 (Unicode Technical Report 26) with
-/// damage: each encoded character that stands in them, and one U+FFFD for each byte that is in none.
+/// damage: each encoded character that stands in them, and one U+FFFD for each byte that is in
+/// none.
 ///
 /// The answer borrows bytes that are UTF-8, which takes no memory. Elsewhere it is built after one
-/// request for three times the input's length, in bytes, and `AllocError` comes where that is
-/// refused or does not fit. No input is read partly as UTF-8 and partly as the encoding.
+/// request for exactly its length, [`lossy_len`], and `AllocError` comes where that is refused or
+/// does not fit `usize`. No input is read partly as UTF-8 and partly as the encoding.
+///
+/// [`decode`] refuses such input, and [`decode_lossy_strict`] takes the encoding alone.
 ///
 /// ```rust
 /// let text = simd_cesu8::decode_lossy(alloc, b"\xF0\x9F\x92\x96\xFF")?;
 /// assert_eq!(rt; text.as_str(), "\u{FFFD}\u{FFFD}\u{FFFD}\u{FFFD}\u{FFFD}");
 /// ```
 pub fn decode_lossy(alloc: Global, bytes: &[u8]) -> Result<CowText<'_>, AllocError>
-    ensures reading { IfOk result (λ answer. IsLenientLossyReading Cesu8 bytes.now (chars (answer_text answer))) }
-    ensures borrowed { IfOk result (λ answer. IsTrue (borrows_text answer) ↔ IsUtf8 bytes.now) }
-    ensures unchanged { IfOk result (λ answer. IsUtf8 bytes.now ↔ (answer_text answer ≡ bytes.now)) }
+    ensures reading { IfText result (IsLenientLossyReading Cesu8 bytes.now) }
+    ensures borrowed { BorrowsTextWhere result (λ text. text ≡ bytes.now) }
+    ensures borrowed_where { BorrowsTextWhere result (λ _. IsUtf8 bytes.now) }
     ensures succeeds { IsUtf8 bytes.now → IsOk result }
-    ensures capacity { IfOk result (λ answer. IfOwnedText answer (λ text. string_capacity text ≡ 3 * length bytes.now)) }
+    ensures capacity { BuildsTextOfCapacity result (lossy_length Cesu8 bytes.now) }
 {
-    answer::decode_lossy(alloc, Flavor::Cesu8, bytes)
+    borrow_or_build::decode_lossy(alloc, Flavor::Cesu8, bytes)
+}
+
+/// The number of bytes of the text that [`decode_lossy_strict`] gives, which reads CESU-8 (Unicode
+/// Technical Report 26) with damage: each byte that is in no encoded character counts as the three
+/// of U+FFFD. `None` comes where the number does not fit `usize`. It takes no memory.
+///
+/// [`decode_lossy`] borrows what is UTF-8 as a whole, and its text is then as long as its input.
+///
+/// ```rust
+/// assert_eq!(rt; simd_cesu8::lossy_len(b"\xE2\x82A"), Some(7));
+/// assert_eq!(rt; simd_cesu8::lossy_len(b"\xED\xA0\xBD\xED\xB2\x96"), Some(4));
+/// ```
+pub fn lossy_len(bytes: &[u8]) -> Option<usize>
+    ensures some { IfSome result (λ len. len ≡ lossy_length Cesu8 bytes.now) }
+    ensures none { IfNone result (usize.MAX < lossy_length Cesu8 bytes.now) }
+{
+    internal::lossy_len(Flavor::Cesu8, bytes)
 }

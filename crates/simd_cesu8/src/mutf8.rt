@@ -6,19 +6,18 @@
 //! assert_eq!(rt; built.as_bytes(), b"a\xC0\x80".as_slice());
 //! ```
 
-ghost use Rattle.std.specs.Prelude.{◌≡◌, ◌*◌, ◌↔◌, length, IsTrue, IsUtf8, Any, IfOk, IfErr, IsOk, vec_capacity};
-ghost use Rattle.std.specs.String.{string_capacity};
+ghost use Rattle.std.specs.Prelude.{◌≡◌, ◌<◌, ◌≤◌, ◌+◌, ◌*◌, ◌++◌, [], ◌↔◌, length, IsTrue, IsUtf8, OnOk, OnErr, IsOk, vec_len, vec_capacity, IfSome, IfNone};
 ghost use Rattle.std.specs.Str.{chars};
 ghost use Rattle.simd_cesu8.specs.Encoding.{Mutf8, encoding, NeedsEncoding};
-ghost use Rattle.simd_cesu8.specs.Class.{IsNullFour};
-ghost use Rattle.simd_cesu8.specs.Reading.{IsStrictReading, HasNoStrictReading, IsLenientReading, HasNoLenientReading};
-ghost use Rattle.simd_cesu8.specs.Lossy.{reading, IsLenientLossyReading};
-ghost use Rattle.simd_cesu8.specs.Answer.{answer_bytes, borrows_bytes, IfOwned, answer_text, borrows_text, IfOwnedText, IfInvalid};
+ghost use Rattle.simd_cesu8.specs.Class.{IsUnchangedUtf8};
+ghost use Rattle.simd_cesu8.specs.Reading.{IsStrictReading, HasNoStrictReading, IsLenientReading, HasNoLenientReading, reading, lossy_length, IsLenientLossyReading};
+ghost use Rattle.simd_cesu8.specs.Cow.{IfBytes, BorrowsBytesWhere, BuildsBytesOfCapacity, IfText, BorrowsTextWhere, BuildsTextOfCapacity, AnswersTextOfLength};
+ghost use Rattle.simd_cesu8.specs.Fault.{OnInvalid};
 
-use crate::answer;
 use crate::cow::{CowBytes, CowText};
 use crate::error::DecodeFault;
 use crate::internal::Flavor;
+use crate::{borrow_or_build, internal};
 use std::alloc::{AllocError, Global};
 
 /// Whether the MUTF-8 of a text is other than its UTF-8: whether some scalar value is U+0000, or
@@ -31,13 +30,25 @@ use std::alloc::{AllocError, Global};
 pub fn needs_encoded(value: &str) -> bool
     ensures { IsTrue result ↔ NeedsEncoding Mutf8 (chars value.now) }
 {
-    answer::needs_encoded(Flavor::Mutf8, value)
+    borrow_or_build::needs_encoded(Flavor::Mutf8, value)
+}
+
+/// The length of the MUTF-8 (Java's `DataOutput`, without a length in front) of a text, in bytes.
+/// It takes no memory.
+///
+/// ```rust
+/// assert_eq!(rt; simd_cesu8::mutf8::encoded_len("a\0"), 3);
+/// ```
+pub fn encoded_len(value: &str) -> usize
+    ensures { result ≡ length (encoding Mutf8 (chars value.now)) }
+{
+    internal::encoded_len(Flavor::Mutf8, value)
 }
 
 /// Encodes a text to MUTF-8 (Java's `DataOutput`, without a length in front).
 ///
-/// The answer borrows the text's bytes where they are the encoding, which takes no memory. Elsewhere
-/// it is built after one request for twice the text's length, in bytes, and `AllocError` comes where
+/// The answer borrows the text's bytes where they are the encoding, which takes no memory.
+/// Elsewhere it is built after one request for exactly its length, and `AllocError` comes where
 /// that is refused.
 ///
 /// ```rust
@@ -48,22 +59,51 @@ pub fn needs_encoded(value: &str) -> bool
 /// assert_eq!(rt; built.as_bytes(), b"a\xC0\x80".as_slice());
 /// ```
 pub fn encode(alloc: Global, value: &str) -> Result<CowBytes<'_>, AllocError>
-    ensures encoding { IfOk result (λ answer. answer_bytes answer ≡ encoding Mutf8 (chars value.now)) }
-    ensures borrowed { IfOk result (λ answer. IsTrue (borrows_bytes answer) ↔ (answer_bytes answer ≡ value.now)) }
+    ensures encoding { IfBytes result (λ bytes. bytes ≡ encoding Mutf8 (chars value.now)) }
+    ensures borrowed { BorrowsBytesWhere result (λ bytes. bytes ≡ value.now) }
     ensures succeeds { ¬ (NeedsEncoding Mutf8 (chars value.now)) → IsOk result }
-    ensures capacity { IfOk result (λ answer. IfOwned answer (λ bytes. vec_capacity bytes ≡ 2 * length value.now)) }
+    ensures capacity { BuildsBytesOfCapacity result (length (encoding Mutf8 (chars value.now))) }
 {
-    answer::encode(alloc, Flavor::Mutf8, value)
+    borrow_or_build::encode(alloc, Flavor::Mutf8, value)
 }
 
-/// Decodes MUTF-8 (Java's `DataInput`, without a length in front), strictly: the text whose encoding
-/// the bytes are.
+/// Appends the MUTF-8 (Java's `DataOutput`, without a length in front) of a text to what stands in
+/// the buffer.
 ///
-/// The answer borrows the bytes where they are the text's UTF-8, which takes no memory. Elsewhere it
-/// is built after one request for the input's length, in bytes, and `Memory` comes where that is
+/// Where the buffer has no room for the encoding, it makes one request, before it writes. So it
+/// makes none for the empty text. The buffer grows by a factor then, as `Vec::push` lets it grow,
+/// so that many short texts are appended with few requests. `AllocError` comes where the request is
+/// refused, and then the buffer is as before.
+///
+/// ```rust
+/// let mut buf = simd_cesu8::mutf8::encode(alloc, "id=")?.into_vec(alloc)?;
+/// simd_cesu8::mutf8::encode_into("a\0", &mut buf)?;
+/// assert_eq!(rt; buf.as_slice(), b"id=a\xC0\x80".as_slice());
+/// ```
+pub fn encode_into(value: &str, buf: &mut Vec<u8>) -> Result<(), AllocError>
+    ensures ok { OnOk result (buf.new.items ≡ buf.old.items ++ encoding Mutf8 (chars value.now)) }
+    ensures err { OnErr result (buf.new.items ≡ buf.old.items) }
+    ensures err_capacity { OnErr result (vec_capacity buf.new ≡ vec_capacity buf.old) }
+
+    // No request is refused where there is room for the encoding.
+    ensures room { vec_len buf.old + length (encoding Mutf8 (chars value.now))
+        ≤ vec_capacity buf.old → IsOk result }
+    ensures empty { value.now ≡ [] → IsOk result }
+    ensures grows { vec_capacity buf.old ≤ vec_capacity buf.new }
+{
+    internal::encode_into(Flavor::Mutf8, value, buf)
+}
+
+/// Decodes MUTF-8 (Java's `DataInput`, without a length in front), strictly: the text whose
+/// encoding the bytes are.
+///
+/// The answer borrows the bytes where they are the text's UTF-8, which takes no memory. Elsewhere
+/// it is built after one request for the input's length, in bytes, and `Memory` comes where that is
 /// refused. `Invalid` comes where no text has the bytes as its encoding: damage, an unpaired
-/// surrogate, an overlong form, a raw byte 00, or a UTF-8 form of four bytes. Java's own reader takes
-/// some of these.
+/// surrogate, an overlong form, a raw byte 00, or a UTF-8 form of four bytes. Java's own reader
+/// takes some of these.
+///
+/// [`decode`] takes UTF-8 too, and [`decode_lossy_strict`] refuses nothing.
 ///
 /// ```rust
 /// let built = simd_cesu8::mutf8::decode_strict(alloc, b"\xC0\x80")?;
@@ -71,13 +111,14 @@ pub fn encode(alloc: Global, value: &str) -> Result<CowBytes<'_>, AllocError>
 /// assert!(rt; simd_cesu8::mutf8::decode_strict(alloc, b"\0").is_err());
 /// ```
 pub fn decode_strict(alloc: Global, bytes: &[u8]) -> Result<CowText<'_>, DecodeFault>
-    ensures text { IfOk result (λ answer. IsStrictReading Mutf8 bytes.now (chars (answer_text answer))) }
-    ensures invalid { IfErr result (λ fault. IfInvalid fault (HasNoStrictReading Mutf8 bytes.now)) }
-    ensures borrowed { IfOk result (λ answer. IsTrue (borrows_text answer) ↔ (answer_text answer ≡ bytes.now)) }
-    ensures succeeds { IsUtf8 bytes.now → ¬ (Any IsNullFour bytes.now) → IsOk result }
-    ensures capacity { IfOk result (λ answer. IfOwnedText answer (λ text. string_capacity text ≡ length bytes.now)) }
+    ensures text { IfText result (IsStrictReading Mutf8 bytes.now) }
+    ensures invalid { OnInvalid result (HasNoStrictReading Mutf8 bytes.now) }
+    ensures borrowed { BorrowsTextWhere result (λ text. text ≡ bytes.now) }
+    ensures borrowed_where { BorrowsTextWhere result (λ _. IsUnchangedUtf8 Mutf8 bytes.now) }
+    ensures succeeds { IsUnchangedUtf8 Mutf8 bytes.now → IsOk result }
+    ensures capacity { BuildsTextOfCapacity result (length bytes.now) }
 {
-    answer::decode_strict(alloc, Flavor::Mutf8, bytes)
+    borrow_or_build::decode_strict(alloc, Flavor::Mutf8, bytes)
 }
 
 /// Decodes bytes that are UTF-8 as a whole, or else MUTF-8 (Java's `DataInput`).
@@ -87,6 +128,8 @@ pub fn decode_strict(alloc: Global, bytes: &[u8]) -> Result<CowText<'_>, DecodeF
 /// comes where the bytes are neither UTF-8 as a whole nor the encoding of a text: no input is read
 /// partly as one and partly as the other.
 ///
+/// [`decode_strict`] takes the encoding alone, and [`decode_lossy`] refuses nothing.
+///
 /// ```rust
 /// let borrowed = simd_cesu8::mutf8::decode(alloc, b"a\0")?;
 /// assert!(rt; borrowed.is_borrowed());
@@ -95,53 +138,76 @@ pub fn decode_strict(alloc: Global, bytes: &[u8]) -> Result<CowText<'_>, DecodeF
 /// assert_eq!(rt; built.as_str(), "a\0");
 /// ```
 pub fn decode(alloc: Global, bytes: &[u8]) -> Result<CowText<'_>, DecodeFault>
-    ensures text { IfOk result (λ answer. IsLenientReading Mutf8 bytes.now (chars (answer_text answer))) }
-    ensures invalid { IfErr result (λ fault. IfInvalid fault (HasNoLenientReading Mutf8 bytes.now)) }
-    ensures borrowed { IfOk result (λ answer. IsTrue (borrows_text answer) ↔ IsUtf8 bytes.now) }
-    ensures unchanged { IfOk result (λ answer. IsUtf8 bytes.now ↔ (answer_text answer ≡ bytes.now)) }
+    ensures text { IfText result (IsLenientReading Mutf8 bytes.now) }
+    ensures invalid { OnInvalid result (HasNoLenientReading Mutf8 bytes.now) }
+    ensures borrowed { BorrowsTextWhere result (λ text. text ≡ bytes.now) }
+    ensures borrowed_where { BorrowsTextWhere result (λ _. IsUtf8 bytes.now) }
     ensures succeeds { IsUtf8 bytes.now → IsOk result }
-    ensures capacity { IfOk result (λ answer. IfOwnedText answer (λ text. string_capacity text ≡ length bytes.now)) }
+    ensures capacity { BuildsTextOfCapacity result (length bytes.now) }
 {
-    answer::decode(alloc, Flavor::Mutf8, bytes)
+    borrow_or_build::decode(alloc, Flavor::Mutf8, bytes)
 }
 
-/// Decodes MUTF-8 (Java's `DataInput`) with damage: each encoded character that stands in the bytes,
-/// and one U+FFFD for each byte that is in none.
+/// Decodes MUTF-8 (Java's `DataInput`) with damage: each encoded character that stands in the
+/// bytes, and one U+FFFD for each byte that is in none.
 ///
-/// The answer borrows the bytes where they are the text's UTF-8, which takes no memory. Elsewhere it
-/// is built after one request for three times the input's length, in bytes, and `AllocError` comes
-/// where that is refused or does not fit.
+/// The answer borrows the bytes where they are the text's UTF-8, which takes no memory. Elsewhere
+/// it is built after one request for exactly its length, [`lossy_len`], and `AllocError` comes
+/// where that is refused or does not fit `usize`.
+///
+/// [`decode_strict`] refuses such input, and [`decode_lossy`] takes UTF-8 too.
 ///
 /// ```rust
 /// let text = simd_cesu8::mutf8::decode_lossy_strict(alloc, b"\xC0\xC0\x80")?;
 /// assert_eq!(rt; text.as_str(), "\u{FFFD}\0");
 /// ```
 pub fn decode_lossy_strict(alloc: Global, bytes: &[u8]) -> Result<CowText<'_>, AllocError>
-    ensures reading { IfOk result (λ answer. chars (answer_text answer) ≡ reading Mutf8 bytes.now) }
-    ensures borrowed { IfOk result (λ answer. IsTrue (borrows_text answer) ↔ (answer_text answer ≡ bytes.now)) }
-    ensures succeeds { IsUtf8 bytes.now → ¬ (Any IsNullFour bytes.now) → IsOk result }
-    ensures capacity { IfOk result (λ answer. IfOwnedText answer (λ text. string_capacity text ≡ 3 * length bytes.now)) }
+    ensures reading { IfText result (λ text. text ≡ reading Mutf8 bytes.now) }
+    ensures text_length { AnswersTextOfLength result (lossy_length Mutf8 bytes.now) }
+    ensures borrowed { BorrowsTextWhere result (λ text. text ≡ bytes.now) }
+    ensures borrowed_where { BorrowsTextWhere result (λ _. IsUnchangedUtf8 Mutf8 bytes.now) }
+    ensures succeeds { IsUnchangedUtf8 Mutf8 bytes.now → IsOk result }
+    ensures capacity { BuildsTextOfCapacity result (lossy_length Mutf8 bytes.now) }
 {
-    answer::decode_lossy_strict(alloc, Flavor::Mutf8, bytes)
+    borrow_or_build::decode_lossy_strict(alloc, Flavor::Mutf8, bytes)
 }
 
 /// Decodes bytes that are UTF-8 as a whole, or else MUTF-8 (Java's `DataInput`) with damage: each
 /// encoded character that stands in them, and one U+FFFD for each byte that is in none.
 ///
 /// The answer borrows bytes that are UTF-8, which takes no memory. Elsewhere it is built after one
-/// request for three times the input's length, in bytes, and `AllocError` comes where that is
-/// refused or does not fit. No input is read partly as UTF-8 and partly as the encoding.
+/// request for exactly its length, [`lossy_len`], and `AllocError` comes where that is refused or
+/// does not fit `usize`. No input is read partly as UTF-8 and partly as the encoding.
+///
+/// [`decode`] refuses such input, and [`decode_lossy_strict`] takes the encoding alone.
 ///
 /// ```rust
 /// let text = simd_cesu8::mutf8::decode_lossy(alloc, b"\0\xC0\x80")?;
 /// assert_eq!(rt; text.as_str(), "\u{FFFD}\0");
 /// ```
 pub fn decode_lossy(alloc: Global, bytes: &[u8]) -> Result<CowText<'_>, AllocError>
-    ensures reading { IfOk result (λ answer. IsLenientLossyReading Mutf8 bytes.now (chars (answer_text answer))) }
-    ensures borrowed { IfOk result (λ answer. IsTrue (borrows_text answer) ↔ IsUtf8 bytes.now) }
-    ensures unchanged { IfOk result (λ answer. IsUtf8 bytes.now ↔ (answer_text answer ≡ bytes.now)) }
+    ensures reading { IfText result (IsLenientLossyReading Mutf8 bytes.now) }
+    ensures borrowed { BorrowsTextWhere result (λ text. text ≡ bytes.now) }
+    ensures borrowed_where { BorrowsTextWhere result (λ _. IsUtf8 bytes.now) }
     ensures succeeds { IsUtf8 bytes.now → IsOk result }
-    ensures capacity { IfOk result (λ answer. IfOwnedText answer (λ text. string_capacity text ≡ 3 * length bytes.now)) }
+    ensures capacity { BuildsTextOfCapacity result (lossy_length Mutf8 bytes.now) }
 {
-    answer::decode_lossy(alloc, Flavor::Mutf8, bytes)
+    borrow_or_build::decode_lossy(alloc, Flavor::Mutf8, bytes)
+}
+
+/// The number of bytes of the text that [`decode_lossy_strict`] gives, which reads MUTF-8 (Java's
+/// `DataInput`) with damage: each byte that is in no encoded character counts as the three of
+/// U+FFFD. `None` comes where the number does not fit `usize`. It takes no memory.
+///
+/// [`decode_lossy`] borrows what is UTF-8 as a whole, and its text is then as long as its input.
+///
+/// ```rust
+/// assert_eq!(rt; simd_cesu8::mutf8::lossy_len(b"\xC0\x80"), Some(1));
+/// assert_eq!(rt; simd_cesu8::mutf8::lossy_len(b"\0"), Some(3));
+/// ```
+pub fn lossy_len(bytes: &[u8]) -> Option<usize>
+    ensures some { IfSome result (λ len. len ≡ lossy_length Mutf8 bytes.now) }
+    ensures none { IfNone result (usize.MAX < lossy_length Mutf8 bytes.now) }
+{
+    internal::lossy_len(Flavor::Mutf8, bytes)
 }

@@ -1,11 +1,12 @@
 //! Writers into room that is there, which can't fail, and copies, each with its one request.
 
-ghost use Rattle.std.specs.Prelude.{◌≡◌, ◌+◌, ◌≤◌, ◌++◌, [], max, length, take, drop, OnOk, OnErr, IfOk, IsOk, vec_len, vec_capacity};
+ghost use Rattle.std.specs.Prelude.{◌≡◌, ◌+◌, ◌≤◌, ◌++◌, [], length, take, drop, IfOk, IsOk, vec_len, vec_capacity};
 ghost use Rattle.std.specs.String.{string_bytes, string_capacity};
 
 use std::alloc::{AllocError, Allocator};
 
 /// Appends bytes for which there is room.
+#[inline(always)]
 pub fn push_all<const N: usize, A: Allocator>(bytes: [u8; N], out: &mut Vec<u8, A>)
     requires { vec_len out.old + N ≤ vec_capacity out.old }
     ensures bytes { out.new.items ≡ out.old.items ++ bytes.entry }
@@ -17,6 +18,7 @@ pub fn push_all<const N: usize, A: Allocator>(bytes: [u8; N], out: &mut Vec<u8, 
 }
 
 /// Appends the first N bytes, and gives those after them.
+#[inline(always)]
 pub fn copy_front<'a, const N: usize, A: Allocator>(
     bytes: &'a [u8],
     out: &mut Vec<u8, A>,
@@ -39,24 +41,11 @@ pub fn copy<A: Allocator>(alloc: A, bytes: &[u8]) -> Result<Vec<u8, A>, AllocErr
     ensures capacity { IfOk result (λ copied. vec_capacity copied ≡ length bytes.now) }
     ensures empty { bytes.now ≡ [] → IsOk result }
 {
-    let mut copied = Vec::new(alloc);
-    copy_into(bytes, &mut copied)?;
-    Ok(copied)
-}
-
-/// Appends some bytes, after one request for their length, where there is no room.
-pub fn copy_into<A: Allocator>(bytes: &[u8], out: &mut Vec<u8, A>) -> Result<(), AllocError>
-    ensures ok { OnOk result (out.new.items ≡ out.old.items ++ bytes.now) }
-    ensures err { OnErr result (out.new.items ≡ out.old.items) }
-    ensures room { vec_len out.old + length bytes.now ≤ vec_capacity out.old → IsOk result }
-    ensures capacity { OnOk result (vec_capacity out.new
-        ≡ max (vec_capacity out.old) (vec_len out.old + length bytes.now)) }
-{
-    out.reserve_exact(bytes.len())?;
+    let mut copied = Vec::with_capacity(alloc, bytes.len())?;
     for byte in bytes {
-        out.push_reserved(*byte);
+        copied.push_reserved(*byte);
     }
-    Ok(())
+    Ok(copied)
 }
 
 /// A copy of a text, after one request for its length.
@@ -65,9 +54,14 @@ pub fn copy_text<A: Allocator>(alloc: A, text: &str) -> Result<String<A>, AllocE
     ensures capacity { IfOk result (λ copied. string_capacity copied ≡ length text.now) }
     ensures empty { text.now ≡ [] → IsOk result }
 {
-    let copied = copy(alloc, text.as_bytes())?;
-    match String::from_utf8(copied) {
-        Ok(copied) => Ok(copied),
-        Err(_) => unreachable!(),
+    let mut copied = String::with_capacity(alloc, text.len())?;
+    if text.is_empty() {
+        return Ok(copied);
     }
+    copied.push_str(text)?;
+    // There was room, so nothing has grown. std's words leave that open, and `capacity` does not.
+    if copied.capacity() != text.len() {
+        return Err(AllocError);
+    }
+    Ok(copied)
 }

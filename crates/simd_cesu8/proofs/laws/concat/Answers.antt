@@ -1,5 +1,5 @@
-use Rattle.simd_cesu8.proofs.Lawful.{concat_law}
+use Rattle.simd_cesu8.proofs.Encodings.{encoding_append}
 use Rattle.simd_cesu8.proofs.laws.concat.Goals as goal
 
 pub returns : goal.returns
-returns c = concat_law
+returns c = encoding_append

@@ -1,5 +1,5 @@
-use Rattle.simd_cesu8.proofs.Lawful.{no_overlap_law}
+use Rattle.simd_cesu8.proofs.Stretches.{no_overlap}
 use Rattle.simd_cesu8.proofs.laws.no_overlap.Goals as goal
 
 pub returns : goal.returns
-returns c = no_overlap_law
+returns c = no_overlap

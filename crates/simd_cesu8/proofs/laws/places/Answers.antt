@@ -1,5 +1,6 @@
-use Rattle.simd_cesu8.proofs.Lawful.{places_law}
+use Rattle.simd_cesu8.proofs.Greedy.{places}
+use Rattle.simd_cesu8.proofs.Lawful.{has_greedy_cutting_law}
 use Rattle.simd_cesu8.proofs.laws.places.Goals as goal
 
 pub returns : goal.returns
-returns c = places_law
+returns c = record { text = places; exists = has_greedy_cutting_law }

@@ -1,5 +1,5 @@
-use Rattle.simd_cesu8.proofs.Lawful.{same_text_law}
+use Rattle.simd_cesu8.proofs.EncodedBytes.{same_in_both}
 use Rattle.simd_cesu8.proofs.laws.same_text.Goals as goal
 
 pub returns : goal.returns
-returns c = same_text_law
+returns c = same_in_both

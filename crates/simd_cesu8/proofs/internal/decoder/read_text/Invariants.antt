@@ -9,6 +9,6 @@ decreases-loop-rest g l = length l.rest
 abbrev pub invariant-loop-rest : goal.invariant-loop-rest
 invariant-loop-rest g l = record {
   so_far : IsReadSoFar (flavor_of l.options.flavor) l.options.lossy l.fn.bytes l.rest l.initial.out.items l.out.items;
-  room : vec_len l.out + room_of l.options.lossy (length l.rest) ≤ vec_capacity l.out;
+  room : vec_len l.out + room_of (flavor_of l.options.flavor) l.options.lossy l.rest ≤ vec_capacity l.out;
   capacity : vec_capacity l.out ≡ vec_capacity l.initial.out;
 }

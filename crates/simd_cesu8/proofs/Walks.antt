@@ -1,0 +1,29 @@
+-- A walk over a list that finds no element of a kind.
+use Rattle.std.proofs.Common.{◌≡◌, ℕ, false, IsTrue, ◌+◌, ◌<◌, ◌≤◌, ◌↔◌, List, sym, ap, ◌∙◌, subst, ⊎_elim, arith, length, get_or}
+use Rattle.std.specs.List.{Any}
+use Rattle.std.proofs.lemmas.Bool.{cases_lt, false≢true}
+use Rattle.std.proofs.lemmas.List.{get_or_default}
+
+module _ {X : Type 0} (P : X → Type 0) (xs : List X) where
+  -- P holds of no element before a place.
+  abbrev pub NoneBefore : ℕ → Type 0
+  NoneBefore n = (i : ℕ) (x : X) → i < n → i < length xs → get_or xs i x ≡ x → P x → ⊥
+
+  -- P holds of no element before the first.
+  pub none_before_start : NoneBefore 0
+  none_before_start i x l long e p = absurd (omega arith)
+
+  -- Where P holds of none before a place and not of the one there, it holds of none before the next place.
+  pub none_with_next : (n : ℕ) (y : X) → n < length xs → y ≡ get_or xs n y → NoneBefore n → (P y → ⊥) → NoneBefore (n + 1)
+  none_with_next n y l at none this i x before long e p =
+      ⊎_elim (λ earlier. none i x earlier long e p)
+      (λ from. (let here : i ≡ n = omega arith in
+      this (subst P (sym e ∙ ap (λ j. get_or xs j x) here ∙ get_or_default xs n x y l ∙ sym at) p))) (cases_lt i n)
+
+  -- Where P holds of none before the end, it holds of no element, so the answer is no.
+  pub none_at_end : (n : ℕ) → length xs ≤ n → NoneBefore n → IsTrue false ↔ Any P xs
+  none_at_end n l none = ((λ t. absurd (false≢true t)), (λ h. absurd (none h.0 h.1 (omega (arith, h.2)) h.2 h.3 h.4)))
+
+  -- Where P holds of the element at a place, it holds of an element.
+  pub any_at : (n : ℕ) (y : X) → n < length xs → y ≡ get_or xs n y → P y → Any P xs
+  any_at n y l at p = (n, y, l, sym at, p)

@@ -1,0 +1,5 @@
+use Rattle.simd_cesu8.proofs.EncodedTexts.{around}
+use Rattle.simd_cesu8.proofs.laws.around.Goals as goal
+
+pub returns : goal.returns
+returns c = around

@@ -1,0 +1,5 @@
+use Rattle.simd_cesu8.proofs.Below.{trichotomy, transitive, slice_order}
+use Rattle.simd_cesu8.proofs.laws.dictionary_order.Goals as goal
+
+pub returns : goal.returns
+returns c = record { one_of_three = trichotomy; transitive = transitive; slices = slice_order }

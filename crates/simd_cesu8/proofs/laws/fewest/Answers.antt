@@ -1,0 +1,5 @@
+use Rattle.simd_cesu8.proofs.Costs.{fewest}
+use Rattle.simd_cesu8.proofs.laws.fewest.Goals as goal
+
+pub returns : goal.returns
+returns c = fewest

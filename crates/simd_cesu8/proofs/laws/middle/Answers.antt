@@ -1,0 +1,5 @@
+use Rattle.simd_cesu8.proofs.EncodedTexts.{middle}
+use Rattle.simd_cesu8.proofs.laws.middle.Goals as goal
+
+pub returns : goal.returns
+returns c = middle

@@ -1,0 +1,10 @@
+use Rattle.simd_cesu8.proofs.UnitOrder.{order_in_cesu8, order_in_mutf8, null_out_of_order, scalars_out_of_order}
+use Rattle.simd_cesu8.proofs.laws.order.Goals as goal
+
+pub returns : goal.returns
+returns c = record {
+  cesu8 = order_in_cesu8;
+  mutf8 = order_in_mutf8;
+  null_differs = null_out_of_order;
+  scalars_differ = scalars_out_of_order;
+}

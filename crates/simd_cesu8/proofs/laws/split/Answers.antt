@@ -1,0 +1,6 @@
+use Rattle.simd_cesu8.proofs.Splits.{split}
+use Rattle.simd_cesu8.proofs.Worked.{halves_join}
+use Rattle.simd_cesu8.proofs.laws.split.Goals as goal
+
+pub returns : goal.returns
+returns c = record { parts = split; halves_join = halves_join }

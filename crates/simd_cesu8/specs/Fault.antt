@@ -1,0 +1,18 @@
+-- Why there is no text, and how that is shown.
+use Rattle.std.specs.Prelude.{ℕ, ⊤, List, codes, Result, IfErr}
+use Rattle.simd_cesu8.specs.declared.error.DecodeFault.{DecodeFault}
+use Rattle.simd_cesu8.specs.declared.error.DecodeFault.TheVariants.{Invalid, Memory}
+
+-- What a fault is shown as.
+abbrev pub message_of : DecodeFault → List ℕ
+message_of (Invalid error) = codes "invalid input"
+message_of (Memory error) = codes "out of memory"
+
+-- A fact that holds where the input is refused.
+abbrev pub IfInvalid : DecodeFault → Type 0 → Type 0
+IfInvalid (Invalid error) P = P
+IfInvalid (Memory error) P = ⊤
+
+-- A fact that holds where a call refuses its input.
+abbrev pub OnInvalid : {T : Type 0} → Result T DecodeFault → Type 0 → Type 0
+OnInvalid result P = IfErr result (λ fault. IfInvalid fault P)

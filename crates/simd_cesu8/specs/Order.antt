@@ -1,0 +1,19 @@
+-- Dictionary order of lists of numbers.
+use Rattle.std.specs.Prelude.{◌≡◌, ℕ, ◌<◌, ◌⊎◌, ◌↔◌, List, [], ◌∷◌, ⊤}
+
+-- One list is below another where it is a proper beginning of it, or where at the first place at which
+-- they differ its number is the smaller. (UTR 26, "binary collation")
+abbrev pub IsBelow : List ℕ → List ℕ → Type 0
+IsBelow [] [] = ⊥
+IsBelow [] (y ∷ ys) = ⊤
+IsBelow (x ∷ xs) [] = ⊥
+IsBelow (x ∷ xs) (y ∷ ys) = (x < y) ⊎ ((x ≡ y) × IsBelow xs ys)
+
+-- Exactly one of three holds.
+abbrev pub ExactlyOne : Type 0 → Type 0 → Type 0 → Type 0
+ExactlyOne P Q R = (P × ¬ Q × ¬ R) ⊎ ((¬ P × Q × ¬ R) ⊎ (¬ P × ¬ Q × R))
+
+-- The first two lists compare as the other two do: below, equal and above.
+abbrev pub ComparesAs : List ℕ → List ℕ → List ℕ → List ℕ → Type 0
+ComparesAs xs ys us vs =
+    (IsBelow xs ys ↔ IsBelow us vs) × ((xs ≡ ys) ↔ (us ≡ vs)) × (IsBelow ys xs ↔ IsBelow vs us)

@@ -1,0 +1,126 @@
+//! The calls over either flavor: each borrows where no byte changes, and builds elsewhere.
+
+ghost use Rattle.std.specs.Prelude.{◌≡◌, ◌≤◌, ◌+◌, ◌*◌, ◌++◌, [], ◌↔◌, length, IfSome, IfNone, IsTrue, IsUtf8, Any, OnOk, OnErr, IsOk, vec_len, vec_capacity};
+ghost use Rattle.std.specs.Str.{chars};
+ghost use Rattle.simd_cesu8.specs.Encoding.{encoding, NeedsEncoding};
+ghost use Rattle.simd_cesu8.specs.Class.{IsChangedByte, IsUnchangedUtf8};
+ghost use Rattle.simd_cesu8.specs.Reading.{IsStrictReading, HasNoStrictReading, IsLenientReading, HasNoLenientReading, reading, lossy_length, IsLenientLossyReading};
+ghost use Rattle.simd_cesu8.specs.Cow.{IfBytes, BorrowsBytesWhere, BuildsBytesOfCapacity, IfText, BorrowsTextWhere, BuildsTextOfCapacity, AnswersTextOfLength};
+ghost use Rattle.simd_cesu8.specs.Fault.{OnInvalid};
+ghost use Rattle.simd_cesu8.specs.Internal.{flavor_of};
+
+use crate::cow::{CowBytes, CowText};
+use crate::error::DecodeFault;
+use crate::implementation::active;
+use crate::internal;
+use crate::internal::Flavor;
+use simdutf8::compat;
+use std::alloc::{AllocError, Global};
+
+/// Whether some byte of UTF-8 is written otherwise in the flavor.
+fn contains_changed(flavor: Flavor, bytes: &[u8]) -> bool
+    ensures { IsTrue result ↔ Any (IsChangedByte (flavor_of flavor)) bytes.now }
+{
+    match flavor {
+        Flavor::Cesu8 => active::contains_utf8_4_byte_char_header(bytes),
+        Flavor::Mutf8 => active::contains_null_or_utf8_4_byte_char_header(bytes),
+    }
+}
+
+pub fn needs_encoded(flavor: Flavor, value: &str) -> bool
+    ensures { IsTrue result ↔ NeedsEncoding (flavor_of flavor) (chars value.now) }
+{
+    contains_changed(flavor, value.as_bytes())
+}
+
+pub fn encode(alloc: Global, flavor: Flavor, value: &str) -> Result<CowBytes<'_>, AllocError>
+    ensures encoding { IfBytes result
+        (λ bytes. bytes ≡ encoding (flavor_of flavor) (chars value.now)) }
+    ensures borrowed { BorrowsBytesWhere result (λ bytes. bytes ≡ value.now) }
+    ensures succeeds { ¬ (NeedsEncoding (flavor_of flavor) (chars value.now)) → IsOk result }
+    ensures capacity { BuildsBytesOfCapacity result
+        (length (encoding (flavor_of flavor) (chars value.now))) }
+{
+    if !needs_encoded(flavor, value) {
+        return Ok(CowBytes::Borrowed(value.as_bytes()));
+    }
+    let encoded = internal::encode(alloc, flavor, value)?;
+    Ok(CowBytes::Owned(encoded))
+}
+
+/// The bytes as a text, where they are UTF-8 without a byte that is written otherwise.
+fn unchanged_text(flavor: Flavor, bytes: &[u8]) -> Option<&str>
+    ensures some { IfSome result (λ text. (text.now ≡ bytes.now)
+        × IsUnchangedUtf8 (flavor_of flavor) bytes.now) }
+    ensures none { IfNone result (¬ (IsUnchangedUtf8 (flavor_of flavor) bytes.now)) }
+{
+    if contains_changed(flavor, bytes) {
+        return None;
+    }
+    compat::from_utf8(bytes).ok()
+}
+
+pub fn decode_strict(
+    alloc: Global,
+    flavor: Flavor,
+    bytes: &[u8],
+) -> Result<CowText<'_>, DecodeFault>
+    ensures text { IfText result (IsStrictReading (flavor_of flavor) bytes.now) }
+    ensures invalid { OnInvalid result (HasNoStrictReading (flavor_of flavor) bytes.now) }
+    ensures borrowed { BorrowsTextWhere result (λ text. text ≡ bytes.now) }
+    ensures borrowed_where { BorrowsTextWhere result
+        (λ _. IsUnchangedUtf8 (flavor_of flavor) bytes.now) }
+    ensures succeeds { IsUnchangedUtf8 (flavor_of flavor) bytes.now → IsOk result }
+    ensures capacity { BuildsTextOfCapacity result (length bytes.now) }
+{
+    match unchanged_text(flavor, bytes) {
+        Some(text) => Ok(CowText::Borrowed(text)),
+        None => Ok(CowText::Owned(internal::decode_strict(alloc, flavor, bytes)?)),
+    }
+}
+
+pub fn decode(alloc: Global, flavor: Flavor, bytes: &[u8]) -> Result<CowText<'_>, DecodeFault>
+    ensures text { IfText result (IsLenientReading (flavor_of flavor) bytes.now) }
+    ensures invalid { OnInvalid result (HasNoLenientReading (flavor_of flavor) bytes.now) }
+    ensures borrowed { BorrowsTextWhere result (λ text. text ≡ bytes.now) }
+    ensures borrowed_where { BorrowsTextWhere result (λ _. IsUtf8 bytes.now) }
+    ensures succeeds { IsUtf8 bytes.now → IsOk result }
+    ensures capacity { BuildsTextOfCapacity result (length bytes.now) }
+{
+    match compat::from_utf8(bytes) {
+        Ok(whole) => Ok(CowText::Borrowed(whole)),
+        Err(_) => Ok(CowText::Owned(internal::decode_strict(alloc, flavor, bytes)?)),
+    }
+}
+
+pub fn decode_lossy_strict(
+    alloc: Global,
+    flavor: Flavor,
+    bytes: &[u8],
+) -> Result<CowText<'_>, AllocError>
+    ensures reading { IfText result (λ text. text ≡ reading (flavor_of flavor) bytes.now) }
+    ensures text_length { AnswersTextOfLength result (lossy_length (flavor_of flavor) bytes.now) }
+    ensures borrowed { BorrowsTextWhere result (λ text. text ≡ bytes.now) }
+    ensures borrowed_where { BorrowsTextWhere result
+        (λ _. IsUnchangedUtf8 (flavor_of flavor) bytes.now) }
+    ensures succeeds { IsUnchangedUtf8 (flavor_of flavor) bytes.now → IsOk result }
+    ensures capacity { BuildsTextOfCapacity result (lossy_length (flavor_of flavor) bytes.now) }
+{
+    match unchanged_text(flavor, bytes) {
+        Some(text) => Ok(CowText::Borrowed(text)),
+        None => Ok(CowText::Owned(internal::decode_lossy(alloc, flavor, bytes)?)),
+    }
+}
+
+pub fn decode_lossy(alloc: Global, flavor: Flavor, bytes: &[u8]) -> Result<CowText<'_>, AllocError>
+    ensures reading { IfText result (IsLenientLossyReading (flavor_of flavor) bytes.now) }
+    ensures borrowed { BorrowsTextWhere result (λ text. text ≡ bytes.now) }
+    ensures borrowed_where { BorrowsTextWhere result (λ _. IsUtf8 bytes.now) }
+    ensures succeeds { IsUtf8 bytes.now → IsOk result }
+    ensures capacity { BuildsTextOfCapacity result (lossy_length (flavor_of flavor) bytes.now) }
+{
+    match compat::from_utf8(bytes) {
+        Ok(text) => Ok(CowText::Borrowed(text)),
+        Err(_) => Ok(CowText::Owned(internal::decode_lossy(alloc, flavor, bytes)?)),
+    }
+}

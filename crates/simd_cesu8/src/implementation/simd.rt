@@ -1,0 +1,230 @@
+//! Up to 64 bytes at a time, as the lanes of a vector.
+//!
+//! F0 to F7 (hexadecimal) are the bytes that an exclusive or with F0 makes less than 8. So a lane is
+//! made less than 8 where its byte is in the class that is sought, and 8 or more where it is not, and
+//! the lesser of two lanes tells of both. To test for such a lane costs more than to join two
+//! vectors, so four are joined before a test.
+//!
+//! All is inlined: a call would pass vectors through memory, and most values are short.
+
+ghost use Rattle.std.specs.Prelude.{◌≡◌, ◌≤◌, ◌<◌, ◌↔◌, ◌⊎◌, ℕ, Bool, IsTrue, Any};
+ghost use Rattle.simd_cesu8.specs.Class.{is_four, is_null_four, IsFour, IsNullFour};
+ghost use Rattle.simd_cesu8.specs.Kernels.{AnyIn, MayTest, Finds, IsMarked};
+
+use super::fallback;
+use std::simd::prelude::*;
+
+/// Whether some byte is F0 to F7 (hexadecimal). In UTF-8 the lead byte of every character of four
+/// bytes is among these.
+///
+/// ```rust
+/// use simd_cesu8::implementation::simd;
+///
+/// assert!(rt; simd::contains_utf8_4_byte_char_header("caf\u{E9} \u{1F496}".as_bytes()));
+/// ```
+#[inline(always)]
+pub fn contains_utf8_4_byte_char_header(value: &[u8]) -> bool
+    ensures { IsTrue result ↔ Any IsFour value.now }
+{
+    lanes_four(value, fallback::contains_utf8_4_byte_char_header)
+}
+
+/// Whether some byte is 00, or F0 to F7 (hexadecimal).
+///
+/// ```rust
+/// use simd_cesu8::implementation::simd;
+///
+/// assert!(rt; simd::contains_null_or_utf8_4_byte_char_header(b"caf\xC3\xA9\0"));
+/// ```
+#[inline(always)]
+pub fn contains_null_or_utf8_4_byte_char_header(value: &[u8]) -> bool
+    ensures { IsTrue result ↔ Any IsNullFour value.now }
+{
+    lanes_null_four(value, fallback::contains_null_or_utf8_4_byte_char_header)
+}
+
+/// Whether some byte is F0 to F7 (hexadecimal). The vectors of each width take what the wider ones
+/// left, and one byte that is left goes to the fallback.
+#[inline(always)]
+fn lanes_four<F>(value: &[u8], fallback: F) -> bool
+where
+    F: Fn(&[u8]) -> bool,
+    requires { MayTest (λ len. len ≡ 1) F.Fn fallback }
+    ensures { Finds (λ len. len ≡ 1) F.Fn fallback is_four → IsTrue result ↔ Any IsFour value.now }
+{
+    macro_rules! find_four {
+        ($rest:ident, $width:literal) => {
+            let (chunks, $rest) = $rest.as_chunks::<$width>();
+            if any_in_chunks::<Four, $width>(chunks) {
+                return true;
+            }
+        };
+    }
+    find_four!(value, 64);
+    find_four!(value, 32);
+    find_four!(value, 16);
+    find_four!(value, 8);
+    find_four!(value, 4);
+    find_four!(value, 2);
+    !value.is_empty() && fallback(value)
+}
+
+/// The same for 00, or F0 to F7 (hexadecimal).
+#[inline(always)]
+fn lanes_null_four<F>(value: &[u8], fallback: F) -> bool
+where
+    F: Fn(&[u8]) -> bool,
+    requires { MayTest (λ len. len ≡ 1) F.Fn fallback }
+    ensures { Finds (λ len. len ≡ 1) F.Fn fallback is_null_four
+        → IsTrue result ↔ Any IsNullFour value.now }
+{
+    macro_rules! find_null_four {
+        ($rest:ident, $width:literal) => {
+            let (chunks, $rest) = $rest.as_chunks::<$width>();
+            if any_in_chunks::<NullFour, $width>(chunks) {
+                return true;
+            }
+        };
+    }
+    find_null_four!(value, 64);
+    find_null_four!(value, 32);
+    find_null_four!(value, 16);
+    find_null_four!(value, 8);
+    find_null_four!(value, 4);
+    find_null_four!(value, 2);
+    !value.is_empty() && fallback(value)
+}
+
+/// A class of bytes.
+trait Class<const N: usize> {
+    ghost class: { ℕ → Bool };
+
+    /// Marks the lanes whose bytes are in the class.
+    fn marks(bytes: Simd<u8, N>) -> Simd<u8, N>
+        ensures { Any IsMarked result ↔ AnyIn class bytes.entry };
+}
+
+/// F0 to F7 (hexadecimal).
+struct Four;
+
+impl<const N: usize> Class<N> for Four {
+    ghost class = { is_four };
+
+    #[inline(always)]
+    fn marks(bytes: Simd<u8, N>) -> Simd<u8, N>
+        ensures { Any IsMarked result ↔ AnyIn is_four bytes.entry }
+    {
+        bytes ^ Simd::splat(0xF0)
+    }
+}
+
+/// 00, or F0 to F7 (hexadecimal).
+struct NullFour;
+
+impl<const N: usize> Class<N> for NullFour {
+    ghost class = { is_null_four };
+
+    #[inline(always)]
+    fn marks(bytes: Simd<u8, N>) -> Simd<u8, N>
+        ensures { Any IsMarked result ↔ AnyIn is_null_four bytes.entry }
+    {
+        let null = bytes.simd_eq(Simd::splat(0x00));
+        null.select(Simd::splat(0x00), bytes ^ Simd::splat(0xF0))
+    }
+}
+
+/// Whether some byte of the chunks is in the class. A short value has none of most widths.
+#[inline(always)]
+fn any_in_chunks<C: Class<N>, const N: usize>(chunks: &[[u8; N]]) -> bool
+    requires { (0 < N) × (N ≤ 64) }
+    ensures { IsTrue result ↔ Any (AnyIn C.class) chunks.now }
+{
+    if chunks.is_empty() {
+        return false;
+    }
+    let (groups, rest) = chunks.as_chunks::<4>();
+    any_in_groups::<C, N>(groups) || any_in_each::<C, N>(rest)
+}
+
+#[inline(always)]
+fn any_in_groups<C: Class<N>, const N: usize>(groups: &[[[u8; N]; 4]]) -> bool
+    requires { N ≤ 64 }
+    ensures { IsTrue result ↔ Any (Any (AnyIn C.class)) groups.now }
+{
+    for group in groups {
+        if any_in_group::<C, N>(group) {
+            return true;
+        }
+    }
+    false
+}
+
+/// The four chunks are joined before the test.
+#[inline(always)]
+fn any_in_group<C: Class<N>, const N: usize>(group: &[[u8; N]; 4]) -> bool
+    requires { N ≤ 64 }
+    ensures { IsTrue result ↔ Any (AnyIn C.class) group.now }
+{
+    let [a, b, c, d] = *group;
+    let front = joined(C::marks(Simd::from_array(a)), C::marks(Simd::from_array(b)));
+    let back = joined(C::marks(Simd::from_array(c)), C::marks(Simd::from_array(d)));
+    has_mark(joined(front, back))
+}
+
+#[inline(always)]
+fn any_in_each<C: Class<N>, const N: usize>(chunks: &[[u8; N]]) -> bool
+    requires { N ≤ 64 }
+    ensures { IsTrue result ↔ Any (AnyIn C.class) chunks.now }
+{
+    for chunk in chunks {
+        if has_mark(C::marks(Simd::from_array(*chunk))) {
+            return true;
+        }
+    }
+    false
+}
+
+/// A lane is marked where it is in one of the two.
+#[inline(always)]
+fn joined<const N: usize>(a: Simd<u8, N>, b: Simd<u8, N>) -> Simd<u8, N>
+    ensures { Any IsMarked result ↔ (Any IsMarked a.entry ⊎ Any IsMarked b.entry) }
+{
+    a.simd_min(b)
+}
+
+/// Whether some lane is less than 8.
+#[inline(always)]
+fn has_mark<const N: usize>(marks: Simd<u8, N>) -> bool
+    requires { N ≤ 64 }
+    ensures { IsTrue result ↔ Any IsMarked marks.entry }
+{
+    (marks & Simd::splat(0xF8)).simd_eq(Simd::splat(0x00)).any()
+}
+
+#[cfg(test)]
+mod tests {
+    use super::{lanes_four, lanes_null_four};
+
+    /// The fallback is asked where one byte is left, and nowhere else.
+    #[test]
+    fn asks_the_fallback_of_a_last_byte(rt: HostRuntime) {
+        let cases = [
+            (0, false),
+            (1, true),
+            (2, false),
+            (3, true),
+            (126, false),
+            (127, true),
+        ];
+        let bytes = [0x61; 127];
+        for (len, answer) in cases {
+            let bytes = &bytes[..len];
+            assert_eq!(rt; lanes_four(bytes, |_: &[u8]| true), answer, "{len} bytes");
+            assert_eq!(rt;
+                lanes_null_four(bytes, |_: &[u8]| true),
+                answer,
+                "{len} bytes, with null"
+            );
+        }
+    }
+}

@@ -1,0 +1,24 @@
+//! How long an encoding is, without making it.
+
+ghost use Rattle.std.specs.Prelude.{◌≡◌, length};
+ghost use Rattle.std.specs.Str.{chars};
+ghost use Rattle.simd_cesu8.specs.Encoding.{encoding};
+ghost use Rattle.simd_cesu8.specs.Internal.{flavor_of};
+
+use super::Flavor;
+use crate::implementation::count::count;
+
+/// The length of a text's encoding, in bytes. A character of four bytes becomes six, and in MUTF-8
+/// U+0000 becomes two.
+pub fn encoded_len(flavor: Flavor, text: &str) -> usize
+    ensures { result ≡ length (encoding (flavor_of flavor) (chars text.now)) }
+{
+    let bytes = text.as_bytes();
+    match flavor {
+        Flavor::Cesu8 => bytes.len() + 2 * count(bytes).fours,
+        Flavor::Mutf8 => {
+            let counts = count(bytes);
+            bytes.len() + counts.nulls + 2 * counts.fours
+        }
+    }
+}
