@@ -14,44 +14,42 @@ pub struct Outcome {
 
 pub type Call = unsafe extern "C" fn(*const u8, usize, *mut u8, usize) -> Outcome;
 
-unsafe extern "C" {
-    fn cesu8_static_encode(
-        input: *const u8,
-        length: usize,
-        room: *mut u8,
-        room_length: usize,
-    ) -> Outcome;
-    fn cesu8_static_mutf8_encode(
-        input: *const u8,
-        length: usize,
-        room: *mut u8,
-        room_length: usize,
-    ) -> Outcome;
-    fn cesu8_static_decode(
-        input: *const u8,
-        length: usize,
-        room: *mut u8,
-        room_length: usize,
-    ) -> Outcome;
-    fn cesu8_static_mutf8_decode(
-        input: *const u8,
-        length: usize,
-        room: *mut u8,
-        room_length: usize,
-    ) -> Outcome;
-    fn cesu8_static_decode_strict(
-        input: *const u8,
-        length: usize,
-        room: *mut u8,
-        room_length: usize,
-    ) -> Outcome;
-    fn cesu8_static_mutf8_decode_strict(
-        input: *const u8,
-        length: usize,
-        room: *mut u8,
-        room_length: usize,
-    ) -> Outcome;
+macro_rules! linked_calls {
+    ($($symbol:ident),* $(,)?) => {
+        unsafe extern "C" {
+            $(fn $symbol(
+                input: *const u8,
+                length: usize,
+                room: *mut u8,
+                room_length: usize,
+            ) -> Outcome;)*
+        }
 
+        /// The calls that are linked, by their names.
+        const LINKED: &[(&str, Call)] = &[$((stringify!($symbol), $symbol)),*];
+    };
+}
+
+linked_calls! {
+    cesu8_static_encode,
+    cesu8_static_mutf8_encode,
+    cesu8_static_encoded_len,
+    cesu8_static_mutf8_encoded_len,
+    cesu8_static_decode,
+    cesu8_static_mutf8_decode,
+    cesu8_static_decode_strict,
+    cesu8_static_mutf8_decode_strict,
+    cesu8_static_decode_lossy,
+    cesu8_static_mutf8_decode_lossy,
+    cesu8_static_decode_lossy_strict,
+    cesu8_static_mutf8_decode_lossy_strict,
+    cesu8_static_lossy_len,
+    cesu8_static_mutf8_lossy_len,
+    cesu8_static_contains_utf8_4_byte_char_header,
+    cesu8_static_contains_null_or_utf8_4_byte_char_header,
+}
+
+unsafe extern "C" {
     fn dlopen(file: *const c_char, flags: c_int) -> *mut c_void;
     fn dlsym(object: *mut c_void, name: *const c_char) -> *mut c_void;
     fn dlerror() -> *const c_char;
@@ -70,18 +68,62 @@ pub const FLAVORS: [Flavor; 2] = [Flavor::Cesu8, Flavor::Mutf8];
 #[derive(Clone, Copy, PartialEq)]
 pub enum Action {
     Encode,
+    EncodedLength,
     Decode,
     DecodeStrict,
+    DecodeLossy,
+    DecodeLossyStrict,
+    LossyLength,
 }
 
-pub const ACTIONS: [Action; 3] = [Action::Encode, Action::Decode, Action::DecodeStrict];
+pub const ACTIONS: [Action; 7] = [
+    Action::Encode,
+    Action::EncodedLength,
+    Action::Decode,
+    Action::DecodeStrict,
+    Action::DecodeLossy,
+    Action::DecodeLossyStrict,
+    Action::LossyLength,
+];
 
 impl Action {
     pub fn title(self) -> &'static str {
         match self {
             Action::Encode => "encode",
+            Action::EncodedLength => "encoded_len",
             Action::Decode => "decode",
             Action::DecodeStrict => "decode_strict",
+            Action::DecodeLossy => "decode_lossy",
+            Action::DecodeLossyStrict => "decode_lossy_strict",
+            Action::LossyLength => "lossy_len",
+        }
+    }
+
+    /// Whether the call takes a text, as its UTF-8.
+    pub fn takes_text(self) -> bool {
+        matches!(self, Action::Encode | Action::EncodedLength)
+    }
+
+    /// Whether the call tells a length alone, and writes nothing.
+    pub fn tells_length(self) -> bool {
+        matches!(self, Action::EncodedLength | Action::LossyLength)
+    }
+}
+
+/// A test whether bytes hold one that encoding changes.
+#[derive(Clone, Copy, PartialEq)]
+pub enum Kernel {
+    Four,
+    NullFour,
+}
+
+pub const KERNELS: [Kernel; 2] = [Kernel::Four, Kernel::NullFour];
+
+impl Kernel {
+    pub fn title(self) -> &'static str {
+        match self {
+            Kernel::Four => "contains_utf8_4_byte_char_header",
+            Kernel::NullFour => "contains_null_or_utf8_4_byte_char_header",
         }
     }
 }
@@ -94,33 +136,27 @@ pub fn call_name(action: Action, flavor: Flavor) -> String {
     format!("{prefix}{}", action.title())
 }
 
-/// The six calls of one codec.
+/// The calls of one codec, by their names. An older build, or another codec, may have some of them
+/// alone.
 pub struct Codec {
     pub name: String,
-    calls: Vec<(Action, Flavor, Call)>,
+    calls: Vec<(String, Call)>,
+}
+
+fn found_in(object: *mut c_void, symbol: &str) -> Option<Call> {
+    let symbol_name = CString::new(symbol).ok()?;
+    let found = unsafe { dlsym(object, symbol_name.as_ptr()) };
+    (!found.is_null()).then(|| unsafe { mem::transmute::<*mut c_void, Call>(found) })
 }
 
 impl Codec {
     pub fn linked() -> Codec {
-        let calls: Vec<(Action, Flavor, Call)> = vec![
-            (Action::Encode, Flavor::Cesu8, cesu8_static_encode),
-            (Action::Encode, Flavor::Mutf8, cesu8_static_mutf8_encode),
-            (Action::Decode, Flavor::Cesu8, cesu8_static_decode),
-            (Action::Decode, Flavor::Mutf8, cesu8_static_mutf8_decode),
-            (
-                Action::DecodeStrict,
-                Flavor::Cesu8,
-                cesu8_static_decode_strict,
-            ),
-            (
-                Action::DecodeStrict,
-                Flavor::Mutf8,
-                cesu8_static_mutf8_decode_strict,
-            ),
-        ];
+        let calls = LINKED.iter();
         Codec {
             name: "simd_cesu8".to_string(),
-            calls,
+            calls: calls
+                .map(|(name, call)| (name.to_string(), *call))
+                .collect(),
         }
     }
 
@@ -132,18 +168,12 @@ impl Codec {
                 .to_string_lossy()
                 .into_owned());
         }
-        let mut calls = Vec::new();
-        for action in ACTIONS {
-            for flavor in FLAVORS {
-                let symbol = call_name(action, flavor);
-                let symbol_name = CString::new(symbol.as_str()).map_err(|e| e.to_string())?;
-                let found = unsafe { dlsym(object, symbol_name.as_ptr()) };
-                if found.is_null() {
-                    return Err(format!("{file} has no {symbol}"));
-                }
-                let call = unsafe { mem::transmute::<*mut c_void, Call>(found) };
-                calls.push((action, flavor, call));
-            }
+        let names = LINKED.iter().map(|(name, _)| name.to_string());
+        let calls: Vec<(String, Call)> = names
+            .filter_map(|name| found_in(object, &name).map(|call| (name, call)))
+            .collect();
+        if calls.is_empty() {
+            return Err(format!("{file} has none of the calls"));
         }
         Ok(Codec {
             name: name.to_string(),
@@ -151,11 +181,33 @@ impl Codec {
         })
     }
 
-    pub fn call(&self, action: Action, flavor: Flavor) -> Call {
-        let found = self
-            .calls
-            .iter()
-            .find(|call| call.0 == action && call.1 == flavor);
-        found.expect("each codec has all six calls").2
+    fn named(&self, name: &str) -> Option<Call> {
+        let found = self.calls.iter().find(|call| call.0 == name);
+        found.map(|call| call.1)
     }
+
+    pub fn call(&self, action: Action, flavor: Flavor) -> Option<Call> {
+        self.named(&call_name(action, flavor))
+    }
+
+    pub fn kernel(&self, kernel: Kernel) -> Option<Call> {
+        self.named(&format!("cesu8_static_{}", kernel.title()))
+    }
+}
+
+/// Makes a call with this room.
+pub fn outcome(call: Call, input: &[u8], room: &mut [u8]) -> Outcome {
+    unsafe { call(input.as_ptr(), input.len(), room.as_mut_ptr(), room.len()) }
+}
+
+/// Whether a call answers as it has to. The answer of one that tells a length is taken as that many
+/// bytes.
+pub fn answers(call: Call, action: Action, input: &[u8], answer: &[u8]) -> bool {
+    let mut room = vec![0; answer.len()];
+    let outcome = outcome(call, input, &mut room);
+    outcome.has_answer
+        && !outcome.is_invalid
+        && outcome.length == answer.len()
+        && outcome.is_borrowed == (answer == input && !action.tells_length())
+        && (room == answer || action.tells_length())
 }

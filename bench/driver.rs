@@ -3,15 +3,21 @@
 //!
 //! Usage: driver [--rounds N] [NAME=FILE ..]
 //!
-//! Each FILE is a shared object with the calls of `cesu8_static.h`, which is measured in the same rounds.
+//! Each FILE is a shared object with the calls that `crates/cesu8_static/include/cesu8_static.h`
+//! declares, or some of them, which is measured in the same rounds.
 
+mod built;
 mod codec;
 mod expected;
+mod kernels;
+mod lengths;
 mod sets;
 mod table;
 mod timing;
 
+use crate::built::built_table;
 use crate::codec::Codec;
+use crate::kernels::kernel_table;
 use crate::table::Table;
 use std::{env, process};
 
@@ -19,8 +25,14 @@ const DEFAULT_ROUNDS: u32 = 4_000;
 
 fn run(rounds: u32, codecs: &[Codec]) -> Result<(), String> {
     let mut table = Table::of(codecs)?;
+    let mut built = built_table(codecs)?;
+    let mut kernels = kernel_table(codecs, table.ascii())?;
     table.measure(rounds);
+    built.measure(rounds);
+    kernels.measure(rounds);
     table.print(rounds);
+    built.print();
+    kernels.print();
     Ok(())
 }
 

@@ -48,11 +48,38 @@ fn strictly_decoded(flavor: Flavor, bytes: &[u8]) -> Option<Vec<u8>> {
     (encoded(flavor, &text) == bytes).then(|| text.into_bytes())
 }
 
-/// The answer, or none where the input has to be refused.
+/// The character whose encoding the bytes begin with, in UTF-8, and how many bytes that takes.
+fn first_character(flavor: Flavor, bytes: &[u8]) -> Option<(Vec<u8>, usize)> {
+    let mut lengths = [1, 2, 3, 6].into_iter();
+    lengths.find_map(|length| Some((strictly_decoded(flavor, bytes.get(..length)?)?, length)))
+}
+
+/// Each encoded character, and U+FFFD for each byte that is in none. A character of more bytes than
+/// one is sought where no shorter one stands, so what is found is never two.
+fn lossily_decoded(flavor: Flavor, bytes: &[u8]) -> Vec<u8> {
+    let mut text = Vec::new();
+    let mut rest = bytes;
+    while !rest.is_empty() {
+        let replaced = || ("\u{FFFD}".as_bytes().to_vec(), 1);
+        let (character, length) = first_character(flavor, rest).unwrap_or_else(replaced);
+        text.extend(character);
+        rest = &rest[length..];
+    }
+    text
+}
+
+/// The answer, or none where the input has to be refused. For a call that tells a length it is what
+/// has that length.
 pub fn expected(action: Action, flavor: Flavor, input: &[u8]) -> Option<Vec<u8>> {
+    let is_utf8 = str::from_utf8(input).is_ok();
     match action {
-        Action::Encode => Some(encoded(flavor, str::from_utf8(input).ok()?)),
-        Action::Decode if str::from_utf8(input).is_ok() => Some(input.to_vec()),
+        Action::Encode | Action::EncodedLength => {
+            Some(encoded(flavor, str::from_utf8(input).ok()?))
+        }
+        Action::Decode | Action::DecodeLossy if is_utf8 => Some(input.to_vec()),
         Action::Decode | Action::DecodeStrict => strictly_decoded(flavor, input),
+        Action::DecodeLossy | Action::DecodeLossyStrict | Action::LossyLength => {
+            Some(lossily_decoded(flavor, input))
+        }
     }
 }

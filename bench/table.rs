@@ -1,6 +1,6 @@
 //! All that is measured, and the tables of it.
 
-use crate::codec::{ACTIONS, Action, Codec, FLAVORS, Flavor, call_name};
+use crate::codec::{ACTIONS, Action, Call, Codec, FLAVORS, Flavor, answers, call_name};
 use crate::sets::{INPUT_LENGTH, Set, sets};
 use crate::timing::{Measured, call_run, copy_run, utf8_run};
 
@@ -24,22 +24,20 @@ fn encoder_takes(set: &Set) -> bool {
     set.input == set.text
 }
 
-/// Compares one answer with what it has to be.
-fn test(codec: &Codec, action: Action, flavor: Flavor, set: &Set) -> Result<(), String> {
-    let answer = set
-        .answer(action, flavor)
-        .expect("only answered calls are measured");
-    let input = set.input;
-    let mut room = vec![0; 2 * INPUT_LENGTH];
-    let outcome = unsafe {
-        codec.call(action, flavor)(input.as_ptr(), input.len(), room.as_mut_ptr(), room.len())
+/// The call that is measured on a set: none where the codec has no such call, or has to refuse the
+/// set.
+fn tested(
+    codec: &Codec,
+    action: Action,
+    flavor: Flavor,
+    set: &Set,
+) -> Result<Option<Call>, String> {
+    let answer = set.answer(action, flavor);
+    let Some((call, answer)) = codec.call(action, flavor).zip(answer) else {
+        return Ok(None);
     };
-    if outcome.has_answer
-        && !outcome.is_invalid
-        && outcome.is_borrowed == (answer == input)
-        && room.get(..outcome.length) == Some(answer.as_slice())
-    {
-        return Ok(());
+    if answers(call, action, set.input, &answer) {
+        return Ok(Some(call));
     }
     Err(format!(
         "{}: {} answers wrongly on: {}",
@@ -73,20 +71,23 @@ impl Table<'_> {
         Ok(table)
     }
 
+    /// The first set's input, which is ASCII without null.
+    pub fn ascii(&self) -> &'static [u8] {
+        self.sets[0].input
+    }
+
     fn add(&mut self, codec: usize, action: Action, set: usize) -> Result<(), String> {
         let input = &self.sets[set];
-        if action == Action::Encode && !encoder_takes(input) {
+        if action.takes_text() && !encoder_takes(input) {
             return Ok(());
         }
         let mut calls = [None, None];
         for (place, flavor) in calls.iter_mut().zip(FLAVORS) {
-            if input.answer(action, flavor).is_none() {
-                continue;
+            if let Some(call) = tested(&self.codecs[codec], action, flavor, input)? {
+                *place = Some(self.measured.len());
+                let run = call_run(call, input.input);
+                self.measured.push(Measured::new(input.input.len(), run));
             }
-            test(&self.codecs[codec], action, flavor, input)?;
-            *place = Some(self.measured.len());
-            let run = call_run(self.codecs[codec].call(action, flavor), input.input);
-            self.measured.push(Measured::new(input.input.len(), run));
         }
         if calls != [None, None] {
             self.rows.push(Row {
@@ -117,13 +118,19 @@ impl Table<'_> {
         );
         for (at, codec) in self.codecs.iter().enumerate() {
             for action in ACTIONS {
+                let rows = self.rows.iter();
+                let rows: Vec<&Row> = rows
+                    .filter(|row| row.codec == at && row.action == action)
+                    .collect();
+                if rows.is_empty() {
+                    continue;
+                }
                 println!("\n`{}`, {}:\n", action.title(), codec.name);
                 println!(
                     "| input | from_utf8 | CESU-8 | to copy | to from_utf8 | MUTF-8 | to copy | to from_utf8 |"
                 );
                 println!("|---|--:|--:|--:|--:|--:|--:|--:|");
-                let rows = self.rows.iter();
-                for row in rows.filter(|row| row.codec == at && row.action == action) {
+                for row in rows {
                     self.print_row(row, copy);
                 }
             }

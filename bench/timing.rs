@@ -46,6 +46,10 @@ impl Measured {
         self.best = self.best.min(seconds);
     }
 
+    pub fn bytes(&self) -> usize {
+        self.bytes
+    }
+
     pub fn gigabytes(&self) -> f64 {
         self.bytes as f64 / self.best / 1e9
     }

@@ -1,28 +1,42 @@
--- What is told of a decoder's answer.
-use Rattle.std.proofs.Common.{◌≡◌, ◌↔◌, ℕ, List, IsTrue, Result, Ok, Err, IfOk, IfErr, rules}
+-- What an export tells of the library's answer.
+use Rattle.std.proofs.Common.{◌≡◌, ℕ, List, IsTrue, Result, Ok, Err, IfOk, IfErr, rules}
+use Rattle.std.specs.Prelude.{IsUtf8}
+use Rattle.std.specs.declared.alloc.AllocError.{AllocError}
 use Rattle.std.specs.Str.{chars}
 use Rattle.simd_cesu8.specs.Text.{utf8}
-use Rattle.simd_cesu8.specs.Answer.{answer_text, borrows_text}
+use Rattle.simd_cesu8.specs.Encoding.{Flavor, encoding}
+use Rattle.simd_cesu8.specs.Cow.{answer_bytes, borrows_bytes, IfBytes, BorrowsBytesWhere}
+use Rattle.simd_cesu8.specs.Cow.{answer_text, borrows_text, IfText, BorrowsTextWhere}
+use Rattle.simd_cesu8.specs.declared.cow.CowBytes.{CowBytes}
 use Rattle.simd_cesu8.specs.declared.cow.CowText.{CowText}
-use Rattle.simd_cesu8.specs.declared.error.DecodeFault.{DecodeFault}
-use Rattle.cesu8_static.specs.declared.Outcome.{Outcome}
-use Rattle.cesu8_static.specs.Outcomes.{Tells, AnswersText, IsInvalid}
+use Rattle.simd_cesu8.proofs.StdUtf8.{IsUtf8Of_chars_at}
+use Rattle.cesu8_static.specs.declared.outcome.Outcome.{Outcome}
+use Rattle.cesu8_static.specs.Outcomes.{Tells, TellsEncoding, TellsReading}
 
-pub told : (IsReading : List ℕ → Type 0) (outcome : Outcome) (input old new : List ℕ) (result : Result CowText DecodeFault) →
+-- What is told of an encoder's answer to a text whose bytes are the input.
+pub tells_encoding : (f : Flavor) (outcome : Outcome) (input text old new : List ℕ)
+    (result : Result CowBytes AllocError) →
+    (text ≡ input) × IsUtf8 input →
+    IfOk result (λ answer. Tells outcome (answer_bytes answer) (borrows_bytes answer) old new) →
+    IfErr result (λ error. ¬ (IsTrue outcome.has_answer)) →
+    IfBytes result (λ bytes. bytes ≡ encoding f (chars text)) →
+    BorrowsBytesWhere result (λ bytes. bytes ≡ text) →
+    IsTrue outcome.has_answer → TellsEncoding f input outcome old new
+tells_encoding f outcome input text old new (Ok answer) same tells none encoded borrowed _ =
+    let is_utf8 = IsUtf8Of_chars_at input text same.0 same.1 in
+    (chars text, is_utf8, search (rules, same, tells, encoded, borrowed))
+tells_encoding f outcome input text old new (Err error) same tells none encoded borrowed answers =
+    absurd (none answers)
+
+-- What is told of a decoder's answer.
+pub tells_reading : {E : Type 0} (IsReading : List ℕ → Type 0) (outcome : Outcome)
+    (input old new : List ℕ) (result : Result CowText E) →
     IfOk result (λ answer. Tells outcome (answer_text answer) (borrows_text answer) old new) →
     IfOk result (λ answer. utf8 (chars (answer_text answer)) ≡ answer_text answer) →
-    IfErr result (λ fault. (¬ (IsTrue outcome.has_answer)) × (IsTrue outcome.is_invalid → IsInvalid fault) × (new ≡ old)) →
-    IfOk result (λ answer. IsReading (chars (answer_text answer))) →
-    IfOk result (λ answer. IsTrue (borrows_text answer) ↔ (answer_text answer ≡ input)) →
-    IsTrue outcome.has_answer → AnswersText IsReading outcome input old new
-told IsReading outcome input old new (Ok answer) tells same n reading borrowed h =
+    IfErr result (λ fault. ¬ (IsTrue outcome.has_answer)) →
+    IfText result IsReading → BorrowsTextWhere result (λ bytes. bytes ≡ input) →
+    IsTrue outcome.has_answer → TellsReading IsReading input outcome old new
+tells_reading IsReading outcome input old new (Ok answer) tells same none reading borrowed _ =
     (chars (answer_text answer), reading, search (rules, same, tells, borrowed))
-told IsReading outcome input old new (Err fault) tells same n reading borrowed h = absurd (n.0 h)
-
--- What is borrowed exactly where the input is UTF-8 is borrowed exactly where it is the input.
-pub borrowed_as : (input : List ℕ) (P : Type 0) (result : Result CowText DecodeFault) →
-    IfOk result (λ answer. IsTrue (borrows_text answer) ↔ P) →
-    IfOk result (λ answer. P ↔ (answer_text answer ≡ input)) →
-    IfOk result (λ answer. IsTrue (borrows_text answer) ↔ (answer_text answer ≡ input))
-borrowed_as input P (Ok answer) borrowed same = ((λ h. same.0 (borrowed.0 h)), (λ h. borrowed.1 (same.1 h)))
-borrowed_as input P (Err fault) borrowed same = tt
+tells_reading IsReading outcome input old new (Err fault) tells same none reading borrowed answers =
+    absurd (none answers)

@@ -1,10 +1,12 @@
 use Rattle.simd_cesu8.specs.Encoding.{Cesu8}
 use Rattle.simd_cesu8.specs.Reading.{IsStrictReading}
-use Rattle.cesu8_static.proofs.Told.{told}
+use Rattle.cesu8_static.proofs.Told.{tells_reading}
 use Rattle.cesu8_static.proofs.cesu8_static_decode_strict.Goals as goal
 
 pub returns-clause-text : goal.returns-clause-text
 returns-clause-text c =
-    let done = c.tell_text.ensures in
-    told (IsStrictReading Cesu8 c.args.bytes.now) c.tell_text.result c.args.bytes.now c.args.room.now c.tell_text.new.room c.decode_strict.result
-    done.ok done.utf8 done.err c.decode_strict.ensures.text c.decode_strict.ensures.borrowed
+    let library = c.decode_strict.ensures in
+    let told = c.tell_text in
+    tells_reading (IsStrictReading Cesu8 c.args.bytes.now)
+    told.result c.args.bytes.now c.args.room.now told.new.room c.decode_strict.result
+    told.ensures.ok told.ensures.utf8 told.ensures.err library.text library.borrowed
