@@ -1,0 +1,80 @@
+-- What the first two bytes of a form count, and that bytes begin with one form at most.
+use Rattle.std.proofs.Common.{◌≡◌, ℕ, ◌+◌, ◌*◌, ◌/◌, ◌%◌, ◌<◌, ◌≤◌, List, [], ◌∷◌, ◌++◌, sym, ap, ◌∙◌, inl, inr, length, get_or, take, drop, arith, lit<, length-append}
+use Rattle.std.proofs.Math.Seq.{take-append_seam, drop-append_seam, drop-append-add}
+use Rattle.std.proofs.lemmas.List.{take-append-drop, length-take-le}
+use Rattle.simd_cesu8.specs.Encoding.{Mutf8, encoding}
+use Rattle.simd_cesu8.specs.Reading.{IsStrictReading, HasNoStrictReading}
+use Rattle.simd_cesu8.proofs.Lawful.{round_trip_law}
+use Rattle.simd_cesu8.specs.Fault as decoding
+use Rattle.simd_cesu8.specs.declared.error.DecodeFault.{DecodeFault}
+use Rattle.simd_cesu8.specs.declared.error.DecodeFault.TheVariants.{Invalid, Memory}
+use Rattle.java_text.specs.Fault.{IfRefused, read_fault_of}
+use Rattle.java_text.specs.Form.{mutf8_len, java_form, BeginsWithForm, NoFormBegins, BeginsOnlyWithForm, count_in, counted, rest_in, IsTruncated}
+
+-- The first two bytes of a form count the others.
+count_in_form : (bytes text rest : List ℕ) → BeginsWithForm bytes text rest → count_in bytes ≡ mutf8_len text
+unfolding java_form
+count_in_form bytes text rest h = rw h.bytes_are (omega arith)
+
+-- So the bytes that they count are the text's MUTF-8.
+pub counted_in_form : (bytes text rest : List ℕ) → BeginsWithForm bytes text rest → counted bytes ≡ encoding Mutf8 text
+unfolding java_form
+counted_in_form bytes text rest h =
+    ap (λ n. take n (drop 2 bytes)) (count_in_form bytes text rest h)
+    ∙ ap (λ bs. take (mutf8_len text) (drop 2 bs)) h.bytes_are ∙ take-append_seam (encoding Mutf8 text) rest
+
+-- What follows a number of bytes follows as many after the first two.
+drop_after_two : (a b n : ℕ) (bytes : List ℕ) → drop (2 + n) (a ∷ b ∷ bytes) ≡ drop n bytes
+drop_after_two a b n bytes = drop-append-add (a ∷ b ∷ []) bytes n
+
+-- So what follows those bytes is what follows the form.
+pub rest_in_form : (bytes text rest : List ℕ) → BeginsWithForm bytes text rest → rest_in bytes ≡ rest
+unfolding java_form
+rest_in_form bytes text rest h =
+    ap (λ n. drop (2 + n) bytes) (count_in_form bytes text rest h)
+    ∙ ap (drop (2 + mutf8_len text)) h.bytes_are
+    ∙ drop_after_two _ _ (mutf8_len text) (encoding Mutf8 text ++ rest) ∙ drop-append_seam (encoding Mutf8 text) rest
+
+-- No form begins bytes that are too few.
+pub none_begins_truncated : (bytes : List ℕ) → IsTruncated bytes → NoFormBegins bytes
+unfolding java_form
+none_begins_truncated bytes t text rest h =
+    omega (arith, t, count_in_form bytes text rest h, ap length h.bytes_are, length-append (encoding Mutf8 text) rest)
+
+-- No form begins bytes of which the counted ones are no encoding.
+pub none_begins_invalid : (bytes : List ℕ) → HasNoStrictReading Mutf8 (counted bytes) → NoFormBegins bytes
+none_begins_invalid bytes n text rest h = n text (h.scalars, sym (counted_in_form bytes text rest h))
+
+-- Bytes begin with the form of one text at most, and with one rest.
+pub one_form : (bytes text rest : List ℕ) → BeginsWithForm bytes text rest → BeginsOnlyWithForm bytes text rest
+one_form bytes text rest h other more k = (
+  sym ((round_trip_law Mutf8 text h.scalars).2 other k.scalars
+      (sym (counted_in_form bytes text rest h) ∙ counted_in_form bytes other more k)),
+  sym (rest_in_form bytes other more k) ∙ rest_in_form bytes text rest h,
+)
+
+-- Where the counted bytes are there and are the encoding of a text, its form begins the bytes.
+pub begins_with_form : (bytes text : List ℕ) → ((i : ℕ) → get_or bytes i 0 < 256) → (IsTruncated bytes → ⊥) →
+    IsStrictReading Mutf8 (counted bytes) text → BeginsWithForm bytes text (rest_in bytes)
+unfolding java_form
+begins_with_form [] text small n h = absurd (n (inl (lit< tt)))
+begins_with_form (a ∷ []) text small n h = absurd (n (inl (lit< tt)))
+begins_with_form (a ∷ b ∷ bytes) text small n h =
+    let first : a < 256 = small 0 in
+    let second : b < 256 = small 1 in
+    let short : 2 + length bytes < 2 + (0x100 * a + b) → ⊥ = λ l. n (inr (omega arith)) in
+    let there : 0x100 * a + b ≤ length bytes = omega arith in
+    let len : mutf8_len text ≡ 0x100 * a + b = ap length h.1 ∙ length-take-le (0x100 * a + b) bytes there in
+    let high : a ≡ mutf8_len text / 0x100 = omega arith in
+    let low : b ≡ mutf8_len text % 0x100 = omega arith in
+    let after : bytes ≡ encoding Mutf8 text ++ rest_in (a ∷ b ∷ bytes) =
+    sym (ap (λ bs. bs ++ rest_in (a ∷ b ∷ bytes)) h.1
+    ∙ ap (λ bs. take (0x100 * a + b) bytes ++ bs) (drop_after_two a b (0x100 * a + b) bytes)
+    ∙ take-append-drop (0x100 * a + b) bytes) in
+    record { scalars = h.0; fits = omega arith; bytes_are = cc }
+
+-- What the decoder refuses begins with no form.
+pub refused_as : (fault : DecodeFault) (bytes : List ℕ) → decoding.IfInvalid fault (HasNoStrictReading Mutf8 (counted bytes)) →
+    IfRefused (read_fault_of fault) (NoFormBegins bytes)
+refused_as (Invalid error) bytes h = none_begins_invalid bytes h
+refused_as (Memory error) bytes h = tt

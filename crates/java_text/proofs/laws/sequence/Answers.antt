@@ -1,0 +1,5 @@
+use Rattle.java_text.proofs.Lawful.{sequence_law}
+use Rattle.java_text.proofs.laws.sequence.Goals as goal
+
+pub returns : goal.returns
+returns c = sequence_law

@@ -1,0 +1,40 @@
+-- Why a call gives no form or no text, and how that is shown.
+use Rattle.std.specs.Prelude.{ℕ, ⊤, List, codes, Result, IfErr}
+use Rattle.simd_cesu8.specs.declared.error.DecodeFault.{DecodeFault}
+use Rattle.simd_cesu8.specs.declared.error.DecodeFault.TheVariants as decoding
+use Rattle.java_text.specs.declared.fault.WriteFault.{WriteFault}
+use Rattle.java_text.specs.declared.fault.WriteFault.TheVariants as writing
+use Rattle.java_text.specs.declared.fault.ReadFault.{ReadFault}
+use Rattle.java_text.specs.declared.fault.ReadFault.TheVariants.{Truncated, Invalid, Memory}
+
+-- What a fault is shown as.
+abbrev pub write_message_of : WriteFault → List ℕ
+write_message_of (writing.TooLong count) = codes "text is too long"
+write_message_of writing.Memory = codes "out of memory"
+
+abbrev pub read_message_of : ReadFault → List ℕ
+read_message_of Truncated = codes "input is truncated"
+read_message_of (Invalid error) = codes "invalid input"
+read_message_of Memory = codes "out of memory"
+
+-- What a fault of the decoder is told as.
+abbrev pub read_fault_of : DecodeFault → ReadFault
+read_fault_of (decoding.Invalid error) = Invalid error
+read_fault_of (decoding.Memory error) = Memory
+
+-- A fact that holds where the counted bytes are refused.
+abbrev pub IfInvalid : ReadFault → Type 0 → Type 0
+IfInvalid (Invalid error) P = P
+IfInvalid other P = ⊤
+
+-- A fact that holds where the input is refused.
+abbrev pub IfRefused : ReadFault → Type 0 → Type 0
+IfRefused Memory P = ⊤
+IfRefused other P = P
+
+-- The same for a call.
+abbrev pub OnInvalid : {T : Type 0} → Result T ReadFault → Type 0 → Type 0
+OnInvalid result P = IfErr result (λ fault. IfInvalid fault P)
+
+abbrev pub OnRefused : {T : Type 0} → Result T ReadFault → Type 0 → Type 0
+OnRefused result P = IfErr result (λ fault. IfRefused fault P)

@@ -1,0 +1,35 @@
+-- The laws of the form, over the definitions alone.
+use Rattle.std.specs.Prelude.{◌≡◌, ℕ, ◌+◌, ◌≤◌, List, [], ◌∷◌, ◌++◌, length}
+use Rattle.std.specs.List.{flat_map}
+use Rattle.simd_cesu8.specs.Text.{IsText}
+use Rattle.java_text.specs.Form.{HasForm, java_form, mutf8_len, BeginsWithForm, BeginsOnlyWithForm}
+
+-- Bytes begin with the form of one text at most, and with one rest.
+abbrev pub OneForm : Type 0
+OneForm = (bytes text rest : List ℕ) → BeginsWithForm bytes text rest → BeginsOnlyWithForm bytes text rest
+
+-- So no form begins another: where it seems to, it is the other.
+abbrev pub NoFormBeginsAnother : Type 0
+NoFormBeginsAnother = (text other rest : List ℕ) → IsText text → HasForm text → IsText other → HasForm other →
+    java_form text ≡ java_form other ++ rest → (text ≡ other) × (rest ≡ [])
+
+-- Texts that have a form each.
+abbrev pub HaveForms : List (List ℕ) → Type 0
+HaveForms [] = Unit {0}
+HaveForms (text ∷ texts) = IsText text × HasForm text × HaveForms texts
+
+-- The bytes are read as these texts, each from the rest of the one before it, and nothing is left.
+abbrev pub AreReadInTurn : List ℕ → List (List ℕ) → Type 0
+AreReadInTurn bytes [] = bytes ≡ []
+AreReadInTurn bytes (text ∷ texts) = (rest : List ℕ) × BeginsWithForm bytes text rest × AreReadInTurn rest texts
+
+-- Forms in a row read back as their texts, and as no others.
+abbrev pub Sequence : Type 0
+Sequence = (texts : List (List ℕ)) → HaveForms texts →
+    AreReadInTurn (flat_map java_form texts) texts
+    × ((others : List (List ℕ)) → AreReadInTurn (flat_map java_form texts) others → others ≡ texts)
+
+-- A form has two bytes more than the MUTF-8 of its text, so 2 to 65,537.
+abbrev pub Bounds : Type 0
+Bounds = (text : List ℕ) → HasForm text →
+    (length (java_form text) ≡ 2 + mutf8_len text) × (2 ≤ length (java_form text)) × (length (java_form text) ≤ 65537)

@@ -1,0 +1,4 @@
+pub mod Form
+pub mod Fault
+pub mod Read
+pub mod Laws

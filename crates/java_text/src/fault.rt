@@ -1,0 +1,95 @@
+//! Why a text could not be written, or none be read.
+
+ghost use Rattle.std.specs.Prelude.{◌≡◌, Some};
+ghost use Rattle.java_text.specs.Fault.{write_message_of, read_message_of, read_fault_of};
+ghost use Rattle.java_text.specs.declared.fault.WriteFault.TheVariants as writing;
+ghost use Rattle.java_text.specs.declared.fault.ReadFault.TheVariants as reading;
+
+use simd_cesu8::{DecodeFault, DecodingError};
+use std::alloc::AllocError;
+use std::error::Error;
+use std::fmt;
+use std::fmt::{Display, Formatter};
+
+/// Why `write_utf` writes nothing.
+///
+/// It shows itself as `text is too long` or `out of memory`, whatever width is asked for.
+#[derive(Debug, Drop)]
+pub enum WriteFault {
+    /// The text has this many bytes of MUTF-8, and two bytes count no more than 65,535.
+    TooLong(usize),
+    /// A request for memory was refused.
+    Memory,
+}
+
+impl From<AllocError> for WriteFault {
+    ghost from_gives = { λ _ fault. fault ≡ writing.Memory };
+
+    fn from(_: AllocError) -> WriteFault {
+        WriteFault::Memory
+    }
+}
+
+impl Display for WriteFault {
+    ghost output = { λ fault. Some (write_message_of fault) };
+
+    ghost styled_output = { λ fault _. Some (write_message_of fault) };
+
+    fn fmt<W: fmt::Write>(&self, f: &mut Formatter<W>) -> fmt::Result {
+        match self {
+            WriteFault::TooLong(_) => f.write_str("text is too long"),
+            WriteFault::Memory => f.write_str("out of memory"),
+        }
+    }
+}
+
+impl Error for WriteFault {}
+
+/// Why a call that reads gives no text.
+///
+/// It shows itself as `input is truncated`, `invalid input` or `out of memory`, whatever width is
+/// asked for.
+#[derive(Debug, Drop)]
+pub enum ReadFault {
+    /// There are fewer than two bytes, or fewer after them than they count.
+    Truncated,
+    /// The counted bytes are no encoding of a text.
+    Invalid(DecodingError),
+    /// A request for memory was refused.
+    Memory,
+}
+
+impl From<AllocError> for ReadFault {
+    ghost from_gives = { λ _ fault. fault ≡ reading.Memory };
+
+    fn from(_: AllocError) -> ReadFault {
+        ReadFault::Memory
+    }
+}
+
+impl From<DecodeFault> for ReadFault {
+    ghost from_gives = { λ fault told. told ≡ read_fault_of fault };
+
+    fn from(fault: DecodeFault) -> ReadFault {
+        match fault {
+            DecodeFault::Invalid(error) => ReadFault::Invalid(error),
+            DecodeFault::Memory(_) => ReadFault::Memory,
+        }
+    }
+}
+
+impl Display for ReadFault {
+    ghost output = { λ fault. Some (read_message_of fault) };
+
+    ghost styled_output = { λ fault _. Some (read_message_of fault) };
+
+    fn fmt<W: fmt::Write>(&self, f: &mut Formatter<W>) -> fmt::Result {
+        match self {
+            ReadFault::Truncated => f.write_str("input is truncated"),
+            ReadFault::Invalid(_) => f.write_str("invalid input"),
+            ReadFault::Memory => f.write_str("out of memory"),
+        }
+    }
+}
+
+impl Error for ReadFault {}
