@@ -2,32 +2,54 @@
 use Rattle.std.specs.Prelude.{ℕ, List, codes, ⊤}
 use Rattle.simd_cesu8.specs.declared.error.DecodeFault.{DecodeFault}
 use Rattle.simd_cesu8.specs.declared.error.DecodeFault.TheVariants as faults
+use Rattle.java_text.specs.declared.fault.WriteFault.{WriteFault}
+use Rattle.java_text.specs.declared.fault.WriteFault.TheVariants as writing
+use Rattle.java_text.specs.declared.fault.ReadFault.{ReadFault}
+use Rattle.java_text.specs.declared.fault.ReadFault.TheVariants as reading
 use Rattle.cesu8_cli.specs.declared.fault.RunFault.{RunFault}
-use Rattle.cesu8_cli.specs.declared.fault.RunFault.TheVariants.{Usage, NotUtf8, Invalid, Memory, Io}
+use Rattle.cesu8_cli.specs.declared.fault.RunFault.TheVariants.{Usage, NotUtf8, Invalid, Truncated, TooLong, Trailing, Memory, Io}
 
 -- The line on standard error.
 abbrev pub line_of : RunFault → List ℕ
 line_of Usage = codes "usage: cesu8_cli COMMAND FLAVOR"
 line_of (Invalid error) = codes "cesu8: invalid input"
 line_of NotUtf8 = codes "cesu8: input is not UTF-8"
+line_of Truncated = codes "cesu8: input is truncated"
+line_of (TooLong length) = codes "cesu8: text is too long"
+line_of Trailing = codes "cesu8: bytes after the string"
 line_of Memory = codes "cesu8: out of memory"
 line_of Io = codes "cesu8: input or output failed"
 
--- The exit status: 1 for bad input, 2 for bad words, 3 for want of memory, 4 for failed input or output.
+-- The exit status: 1 for bad input, 2 for bad words, 3 for want of memory, 4 for failed input or
+-- output.
 abbrev pub status_of : RunFault → ℕ
 status_of Usage = 2
 status_of NotUtf8 = 1
 status_of (Invalid error) = 1
+status_of Truncated = 1
+status_of (TooLong length) = 1
+status_of Trailing = 1
 status_of Memory = 3
 status_of Io = 4
 
--- The faults that say of the input that it has no answer.
+-- The faults that say of the input that it has no answer: all but those of the words, of memory and
+-- of the devices.
 abbrev pub IsRefusal : RunFault → Type 0
-IsRefusal NotUtf8 = ⊤
-IsRefusal (Invalid error) = ⊤
-IsRefusal other = ⊥
+IsRefusal Usage = ⊥
+IsRefusal Memory = ⊥
+IsRefusal Io = ⊥
+IsRefusal other = ⊤
 
--- What a fault of the library ends a run with.
+-- What a fault of the libraries ends a run with.
 abbrev pub run_fault_of : DecodeFault → RunFault
 run_fault_of (faults.Invalid error) = Invalid error
 run_fault_of (faults.Memory error) = Memory
+
+abbrev pub write_fault_of : WriteFault → RunFault
+write_fault_of (writing.TooLong length) = TooLong length
+write_fault_of writing.Memory = Memory
+
+abbrev pub read_fault_of : ReadFault → RunFault
+read_fault_of reading.Truncated = Truncated
+read_fault_of (reading.Invalid error) = Invalid error
+read_fault_of reading.Memory = Memory

@@ -1,2 +1,3 @@
-pub mod Answers
+pub mod Command
+pub mod Answer
 pub mod Faults

@@ -3,23 +3,27 @@
 ghost use Rattle.std.specs.Prelude.{◌≡◌, ◌≢◌, ◌⊎◌, IfOk, IfErr, Ok, Err};
 ghost use Rattle.std.specs.Str.{chars};
 ghost use Rattle.simd_cesu8.specs.Text.{utf8, IsUtf8Of};
-ghost use Rattle.simd_cesu8.specs.Reading.{IsStrictReading, IsLenientReading};
-ghost use Rattle.simd_cesu8.specs.Lossy.{reading, IsLenientLossyReading};
-ghost use Rattle.simd_cesu8.specs.Answer.{answer_bytes, answer_text};
-ghost use Rattle.cesu8_cli.specs.Answers.{flavor_of, IsAnswer, IsUtf8Fault, IsEncodingAnswer, IsNeedsAnswer, IsTextAnswer};
+ghost use Rattle.simd_cesu8.specs.Reading.{IsStrictReading, IsLenientReading, reading, IsLenientLossyReading};
+ghost use Rattle.simd_cesu8.specs.Cow.{answer_bytes, answer_text, IfBytes};
+ghost use Rattle.cesu8_cli.specs.Command.{flavor_of};
+ghost use Rattle.cesu8_cli.specs.Faults.{IsRefusal};
+ghost use Rattle.cesu8_cli.specs.Answer.{IsAnswer, TakesNoMemory, IsUtf8Fault, IsEncodingAnswer, IsNeedsAnswer, IsTextAnswer, IsJavaWriteAnswer, IsJavaReadAnswer};
 
 use crate::command::{Command, FlavorWord};
 use crate::fault::RunFault;
+use java_text::{read_utf, write_utf};
 use simd_cesu8::{CowBytes, CowText, mutf8};
 use std::alloc::Global;
 use std::str;
 
 /// The bytes that answer the command, or the fault.
-#[tactic(auto, unfolding(crate::specs::Answers::IsAnswer))]
+#[tactic(auto, unfolding(crate::specs::Answer::IsAnswer))]
 pub fn answer(alloc: Global, command: Command, input: &[u8]) -> Result<CowBytes<'_>, RunFault>
-    ensures ok { IfOk result (λ answer. IsAnswer command input.now (Ok (answer_bytes answer))) }
-    ensures err { IfErr result (λ fault. (fault ≡ RunFault.Memory) ⊎ IsAnswer command input.now (Err fault)) }
-    ensures words { IfErr result (λ fault. fault ≢ RunFault.Usage) }
+    ensures ok { IfBytes result (λ bytes. IsAnswer command input.now (Ok bytes)) }
+    ensures err { IfErr result (λ fault.
+        (fault ≡ RunFault.Memory) ⊎ IsAnswer command input.now (Err fault)) }
+    ensures memory { TakesNoMemory command input.now → result ≢ Err RunFault.Memory }
+    ensures faults { IfErr result (λ fault. (fault ≡ RunFault.Memory) ⊎ IsRefusal fault) }
 {
     match command {
         Command::Encode(flavor) => encode(alloc, flavor, input),
@@ -28,13 +32,17 @@ pub fn answer(alloc: Global, command: Command, input: &[u8]) -> Result<CowBytes<
         Command::DecodeStrict(flavor) => decode_strict(alloc, flavor, input),
         Command::Lossy(flavor) => decode_lossy(alloc, flavor, input),
         Command::LossyStrict(flavor) => decode_lossy_strict(alloc, flavor, input),
+        Command::JavaWrite => java_write(alloc, input),
+        Command::JavaRead => java_read(alloc, input),
     }
 }
 
 fn encode(alloc: Global, flavor: FlavorWord, input: &[u8]) -> Result<CowBytes<'_>, RunFault>
-    ensures ok { IfOk result (λ answer. IsEncodingAnswer (flavor_of flavor) input.now (Ok (answer_bytes answer))) }
-    ensures err { IfErr result (λ fault. (fault ≡ RunFault.Memory)
-        ⊎ IsEncodingAnswer (flavor_of flavor) input.now (Err fault)) }
+    ensures ok { IfBytes result (λ bytes.
+        IsEncodingAnswer (flavor_of flavor) input.now (Ok bytes)) }
+    ensures err { IfErr result (λ fault. (fault ≡ RunFault.Memory) ⊎ IsUtf8Fault input.now fault) }
+    ensures memory { TakesNoMemory (Command.Encode flavor) input.now
+        → result ≢ Err RunFault.Memory }
 {
     let text = input_text(input)?;
     match flavor {
@@ -45,8 +53,8 @@ fn encode(alloc: Global, flavor: FlavorWord, input: &[u8]) -> Result<CowBytes<'_
 
 /// `yes` or `no`, as a line. Both are constants, so this takes no memory.
 fn needs(flavor: FlavorWord, input: &[u8]) -> Result<CowBytes<'_>, RunFault>
-    ensures ok { IfOk result (λ answer. IsNeedsAnswer (flavor_of flavor) input.now (Ok (answer_bytes answer))) }
-    ensures err { IfErr result (λ fault. IsNeedsAnswer (flavor_of flavor) input.now (Err fault)) }
+    ensures ok { IfBytes result (λ bytes. IsNeedsAnswer (flavor_of flavor) input.now (Ok bytes)) }
+    ensures err { IfErr result (λ fault. IsUtf8Fault input.now fault) }
 {
     let text = input_text(input)?;
     let needed = match flavor {
@@ -72,10 +80,12 @@ fn input_text(input: &[u8]) -> Result<&str, RunFault>
 }
 
 fn decode(alloc: Global, flavor: FlavorWord, input: &[u8]) -> Result<CowBytes<'_>, RunFault>
-    ensures ok { IfOk result (λ answer.
-        IsTextAnswer (IsLenientReading (flavor_of flavor) input.now) (Ok (answer_bytes answer))) }
+    ensures ok { IfBytes result (λ bytes.
+        IsTextAnswer (IsLenientReading (flavor_of flavor) input.now) (Ok bytes)) }
     ensures err { IfErr result (λ fault. (fault ≡ RunFault.Memory)
         ⊎ IsTextAnswer (IsLenientReading (flavor_of flavor) input.now) (Err fault)) }
+    ensures memory { TakesNoMemory (Command.Decode flavor) input.now
+        → result ≢ Err RunFault.Memory }
 {
     match flavor {
         FlavorWord::Cesu8 => Ok(into_bytes(simd_cesu8::decode(alloc, input)?)),
@@ -84,10 +94,12 @@ fn decode(alloc: Global, flavor: FlavorWord, input: &[u8]) -> Result<CowBytes<'_
 }
 
 fn decode_strict(alloc: Global, flavor: FlavorWord, input: &[u8]) -> Result<CowBytes<'_>, RunFault>
-    ensures ok { IfOk result (λ answer.
-        IsTextAnswer (IsStrictReading (flavor_of flavor) input.now) (Ok (answer_bytes answer))) }
+    ensures ok { IfBytes result (λ bytes.
+        IsTextAnswer (IsStrictReading (flavor_of flavor) input.now) (Ok bytes)) }
     ensures err { IfErr result (λ fault. (fault ≡ RunFault.Memory)
         ⊎ IsTextAnswer (IsStrictReading (flavor_of flavor) input.now) (Err fault)) }
+    ensures memory { TakesNoMemory (Command.DecodeStrict flavor) input.now
+        → result ≢ Err RunFault.Memory }
 {
     match flavor {
         FlavorWord::Cesu8 => Ok(into_bytes(simd_cesu8::decode_strict(alloc, input)?)),
@@ -96,9 +108,11 @@ fn decode_strict(alloc: Global, flavor: FlavorWord, input: &[u8]) -> Result<CowB
 }
 
 fn decode_lossy(alloc: Global, flavor: FlavorWord, input: &[u8]) -> Result<CowBytes<'_>, RunFault>
-    ensures ok { IfOk result (λ answer.
-        IsTextAnswer (IsLenientLossyReading (flavor_of flavor) input.now) (Ok (answer_bytes answer))) }
+    ensures ok { IfBytes result (λ bytes.
+        IsTextAnswer (IsLenientLossyReading (flavor_of flavor) input.now) (Ok bytes)) }
     ensures err { IfErr result (λ fault. fault ≡ RunFault.Memory) }
+    ensures memory { TakesNoMemory (Command.Lossy flavor) input.now
+        → result ≢ Err RunFault.Memory }
 {
     match flavor {
         FlavorWord::Cesu8 => Ok(into_bytes(simd_cesu8::decode_lossy(alloc, input)?)),
@@ -111,14 +125,41 @@ fn decode_lossy_strict(
     flavor: FlavorWord,
     input: &[u8],
 ) -> Result<CowBytes<'_>, RunFault>
-    ensures ok { IfOk result (λ answer.
-        IsTextAnswer (λ text. text ≡ reading (flavor_of flavor) input.now) (Ok (answer_bytes answer))) }
+    ensures ok { IfBytes result (λ bytes.
+        IsTextAnswer (λ text. text ≡ reading (flavor_of flavor) input.now) (Ok bytes)) }
     ensures err { IfErr result (λ fault. fault ≡ RunFault.Memory) }
+    ensures memory { TakesNoMemory (Command.LossyStrict flavor) input.now
+        → result ≢ Err RunFault.Memory }
 {
     match flavor {
         FlavorWord::Cesu8 => Ok(into_bytes(simd_cesu8::decode_lossy_strict(alloc, input)?)),
         FlavorWord::Mutf8 => Ok(into_bytes(mutf8::decode_lossy_strict(alloc, input)?)),
     }
+}
+
+fn java_write(alloc: Global, input: &[u8]) -> Result<CowBytes<'_>, RunFault>
+    ensures ok { IfBytes result (λ bytes. IsJavaWriteAnswer input.now (Ok bytes)) }
+    ensures err { IfErr result (λ fault.
+        (fault ≡ RunFault.Memory) ⊎ IsJavaWriteAnswer input.now (Err fault)) }
+    ensures memory { TakesNoMemory Command.JavaWrite input.now → result ≢ Err RunFault.Memory }
+{
+    let text = input_text(input)?;
+    let mut form = Vec::new(alloc);
+    write_utf(text, &mut form)?;
+    Ok(CowBytes::Owned(form))
+}
+
+fn java_read(alloc: Global, input: &[u8]) -> Result<CowBytes<'_>, RunFault>
+    ensures ok { IfBytes result (λ bytes. IsJavaReadAnswer input.now (Ok bytes)) }
+    ensures err { IfErr result (λ fault.
+        (fault ≡ RunFault.Memory) ⊎ IsJavaReadAnswer input.now (Err fault)) }
+    ensures memory { TakesNoMemory Command.JavaRead input.now → result ≢ Err RunFault.Memory }
+{
+    let (text, rest) = read_utf(alloc, input)?;
+    if !rest.is_empty() {
+        return Err(RunFault::Trailing);
+    }
+    Ok(into_bytes(text))
 }
 
 /// A text's bytes, with no copy. They are its UTF-8.

@@ -1,8 +1,7 @@
 //! The words that say what to do.
 
 ghost use Rattle.std.specs.Prelude.{MatchOption};
-ghost use Rattle.cesu8_cli.specs.Answers.{AreWordsOf};
-ghost use Rattle.cesu8_cli.specs.declared.command.Command.{Command as CommandType};
+ghost use Rattle.cesu8_cli.specs.Command.{AreWordsOf, AreNoCommand};
 
 /// What the program can be asked to do.
 #[derive(Clone, Copy, Debug)]
@@ -19,6 +18,10 @@ pub enum Command {
     Lossy(FlavorWord),
     /// Decodes the encoding alone, with damage.
     LossyStrict(FlavorWord),
+    /// Writes UTF-8 as a Java string, which is MUTF-8 with its length in front.
+    JavaWrite,
+    /// Reads one Java string.
+    JavaRead,
 }
 
 /// The encoding that the second word names.
@@ -30,7 +33,7 @@ pub enum FlavorWord {
 
 /// The command that has exactly these words.
 pub fn parse(words: &[&str]) -> Option<Command>
-    ensures { MatchOption result ((command : CommandType) → ¬ (AreWordsOf command words.now))
+    ensures { MatchOption result (AreNoCommand words.now)
         (λ command. AreWordsOf command words.now) }
 {
     let [command, flavor] = words else {
@@ -41,13 +44,15 @@ pub fn parse(words: &[&str]) -> Option<Command>
         "mutf8" => FlavorWord::Mutf8,
         _ => return None,
     };
-    match *command {
-        "encode" => Some(Command::Encode(flavor)),
-        "needs" => Some(Command::Needs(flavor)),
-        "decode" => Some(Command::Decode(flavor)),
-        "decode-strict" => Some(Command::DecodeStrict(flavor)),
-        "lossy" => Some(Command::Lossy(flavor)),
-        "lossy-strict" => Some(Command::LossyStrict(flavor)),
+    match (*command, flavor) {
+        ("encode", _) => Some(Command::Encode(flavor)),
+        ("needs", _) => Some(Command::Needs(flavor)),
+        ("decode", _) => Some(Command::Decode(flavor)),
+        ("decode-strict", _) => Some(Command::DecodeStrict(flavor)),
+        ("lossy", _) => Some(Command::Lossy(flavor)),
+        ("lossy-strict", _) => Some(Command::LossyStrict(flavor)),
+        ("java-write", FlavorWord::Mutf8) => Some(Command::JavaWrite),
+        ("java-read", FlavorWord::Mutf8) => Some(Command::JavaRead),
         _ => None,
     }
 }

@@ -2,8 +2,9 @@
 
 ghost use Rattle.std.specs.Prelude.{◌≡◌};
 ghost use Rattle.cesu8_cli.specs.declared.fault.RunFault.TheVariants.{Memory};
-ghost use Rattle.cesu8_cli.specs.Faults.{line_of, status_of, run_fault_of};
+ghost use Rattle.cesu8_cli.specs.Faults.{line_of, status_of, run_fault_of, write_fault_of, read_fault_of};
 
+use java_text::{ReadFault, WriteFault};
 use simd_cesu8::{DecodeFault, DecodingError};
 use std::alloc::AllocError;
 
@@ -14,8 +15,14 @@ pub enum RunFault {
     Usage,
     /// The input is not UTF-8.
     NotUtf8,
-    /// The input is no encoding of a text.
+    /// The input is no encoding of a text, or the Java string in it is none.
     Invalid(DecodingError),
+    /// The input ends before the Java string does.
+    Truncated,
+    /// The text has this many bytes of MUTF-8, more than a Java string can have.
+    TooLong(usize),
+    /// Bytes follow the Java string.
+    Trailing,
     /// A request for memory was refused.
     Memory,
     /// A read, a write or a flush failed, or a write took nothing.
@@ -41,6 +48,29 @@ impl From<DecodeFault> for RunFault {
     }
 }
 
+impl From<WriteFault> for RunFault {
+    ghost from_gives = { λ fault outcome. outcome ≡ write_fault_of fault };
+
+    fn from(fault: WriteFault) -> RunFault {
+        match fault {
+            WriteFault::TooLong(len) => RunFault::TooLong(len),
+            WriteFault::Memory => RunFault::Memory,
+        }
+    }
+}
+
+impl From<ReadFault> for RunFault {
+    ghost from_gives = { λ fault outcome. outcome ≡ read_fault_of fault };
+
+    fn from(fault: ReadFault) -> RunFault {
+        match fault {
+            ReadFault::Truncated => RunFault::Truncated,
+            ReadFault::Invalid(error) => RunFault::Invalid(error),
+            ReadFault::Memory => RunFault::Memory,
+        }
+    }
+}
+
 /// What to write on standard error, without the line's end.
 pub fn fault_line(fault: &RunFault) -> &'static str
     ensures { result.now ≡ line_of fault.now }
@@ -49,6 +79,9 @@ pub fn fault_line(fault: &RunFault) -> &'static str
         RunFault::Usage => "usage: cesu8_cli COMMAND FLAVOR",
         RunFault::Invalid(_) => "cesu8: invalid input",
         RunFault::NotUtf8 => "cesu8: input is not UTF-8",
+        RunFault::Truncated => "cesu8: input is truncated",
+        RunFault::TooLong(_) => "cesu8: text is too long",
+        RunFault::Trailing => "cesu8: bytes after the string",
         RunFault::Memory => "cesu8: out of memory",
         RunFault::Io => "cesu8: input or output failed",
     }
@@ -59,7 +92,11 @@ pub fn fault_status(fault: &RunFault) -> u8
     ensures { result ≡ status_of fault.now }
 {
     match fault {
-        RunFault::Invalid(_) | RunFault::NotUtf8 => 1,
+        RunFault::Invalid(_)
+        | RunFault::NotUtf8
+        | RunFault::Truncated
+        | RunFault::TooLong(_)
+        | RunFault::Trailing => 1,
         RunFault::Usage => 2,
         RunFault::Memory => 3,
         RunFault::Io => 4,

@@ -1,10 +1,10 @@
 //! One run of the program, over any reader and any writer.
 
-ghost use Rattle.std.specs.Prelude.{◌≡◌, ◌≢◌, ◌++◌, ◌⊎◌, ◌↔◌, ℕ, List, OnOk, OnErr, IfOk, IfErr, IfSome, Ok, Err};
+ghost use Rattle.std.specs.Prelude.{◌≡◌, ◌≢◌, ◌++◌, ◌⊎◌, ◌↔◌, ℕ, List, OnOk, OnErr, IfOk, IfErr, IfSome, Err};
 ghost use Rattle.std.specs.Io.KnownBytes.{Appends, Consumes, IsAtEnd};
 ghost use Rattle.cesu8_cli.specs.Faults.{IsRefusal};
-ghost use Rattle.cesu8_cli.specs.Answers.{AreWordsOf, IsAnswerTo};
-ghost use Rattle.cesu8_cli.specs.declared.command.Command.{Command as CommandType};
+ghost use Rattle.cesu8_cli.specs.Command.{AreNoCommand};
+ghost use Rattle.cesu8_cli.specs.Answer.{IsAnswerTo, AppendsAnswer, AppendsBeginning};
 
 use crate::answer::answer;
 use crate::command::parse;
@@ -22,23 +22,26 @@ pub fn run<R: Read, W: Write>(
     input: &mut R,
     output: &mut W,
 ) -> Result<(), RunFault>
-    // What was written is the answer to what was read.
-    ensures ok { OnOk result (IfSome (R.remaining input.old) (λ bytes.
-        (answer : List ℕ) × IsAnswerTo words.now bytes (Ok answer)
-        × Appends (W.contents output.old) (W.contents output.new) answer)) }
+    // What was written is the answer to what was read, which is the whole input.
+    ensures ok { OnOk result (AppendsAnswer words.now (R.remaining input.old)
+        (W.contents output.old) (W.contents output.new)) }
+    ensures end { OnOk result (IsAtEnd (R.remaining input.new)) }
 
     // The words are tested before anything is read.
-    ensures usage { (result ≡ Err RunFault.Usage) ↔ ((command : CommandType) → ¬ (AreWordsOf command words.now)) }
+    ensures usage { (result ≡ Err RunFault.Usage) ↔ AreNoCommand words.now }
     ensures unread { result ≡ Err RunFault.Usage → input.new ≡ input.old }
 
+    // Only the whole input is refused.
+    ensures refused { IfErr result (λ fault. IsRefusal fault → IfSome (R.remaining input.old)
+        (λ bytes. IsAnswerTo words.now bytes (Err fault))) }
+    ensures refused_end { IfErr result (λ fault.
+        IsRefusal fault → IsAtEnd (R.remaining input.new)) }
+
     // Nothing is written before the whole answer is there.
-    ensures refused { IfErr result (λ fault. IsRefusal fault → IfSome (R.remaining input.old) (λ bytes.
-        IsAnswerTo words.now bytes (Err fault))) }
     ensures unwritten { IfErr result (λ fault. fault ≢ RunFault.Io → output.new ≡ output.old) }
-    ensures io { result ≡ Err RunFault.Io → (output.new ≡ output.old) ⊎ (IsAtEnd (R.remaining input.new)
-        × IfSome (R.remaining input.old) (λ bytes.
-        (written : List ℕ) × (rest : List ℕ) × IsAnswerTo words.now bytes (Ok (written ++ rest))
-        × Appends (W.contents output.old) (W.contents output.new) written)) }
+    ensures io { result ≡ Err RunFault.Io → (output.new ≡ output.old)
+        ⊎ (IsAtEnd (R.remaining input.new) × AppendsBeginning words.now (R.remaining input.old)
+        (W.contents output.old) (W.contents output.new)) }
 {
     let Some(command) = parse(words) else {
         return Err(RunFault::Usage);
@@ -50,7 +53,8 @@ pub fn run<R: Read, W: Write>(
 
 /// The bytes of a reader, up to its end.
 fn read_whole<R: Read>(alloc: Global, input: &mut R) -> Result<Vec<u8>, RunFault>
-    ensures bytes { IfOk result (λ bytes. Consumes (R.remaining input.old) (R.remaining input.new) bytes.items) }
+    ensures bytes { IfOk result (λ bytes.
+        Consumes (R.remaining input.old) (R.remaining input.new) bytes.items) }
     ensures end { OnOk result (IsAtEnd (R.remaining input.new)) }
     ensures err { IfErr result (λ fault. (fault ≡ RunFault.Memory) ⊎ (fault ≡ RunFault.Io)) }
 {

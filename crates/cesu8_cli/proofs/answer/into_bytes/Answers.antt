@@ -3,7 +3,7 @@ use Rattle.std.specs.Str.{chars, IsUtf8}
 use Rattle.std.specs.String.{string_bytes}
 use Rattle.std.proofs.lemmas.Str.{IsUtf8-string_bytes}
 use Rattle.simd_cesu8.specs.Text.{utf8}
-use Rattle.simd_cesu8.specs.Answer.{answer_text}
+use Rattle.simd_cesu8.specs.Cow.{answer_text}
 use Rattle.cesu8_cli.proofs.Encoded.{text_bytes}
 use Rattle.cesu8_cli.proofs.answer.into_bytes.Goals as goal
 

@@ -1,6 +1,6 @@
 //! What each command writes, and how it ends.
 
-use super::{DONE, INVALID, NOT_UTF8, shown};
+use super::{DONE, INVALID, NOT_UTF8, TOO_LONG, TRAILING, TRUNCATED, shown};
 use crate::run::run;
 
 #[test]
@@ -173,5 +173,59 @@ fn decodes_with_damage(rt: HostRuntime) {
             written,
             "{command} {flavor} at {bytes:?}"
         );
+    }
+}
+
+#[test]
+fn writes_java_strings(rt: HostRuntime) {
+    let nulls = [0; 32768];
+    let cases: [(&[u8], (u8, &str), &[u8]); 6] = [
+        (b"", DONE, b"\x00\x00"),
+        (b"a\x00", DONE, b"\x00\x03a\xC0\x80"),
+        (b"\xC8\x85", DONE, b"\x00\x02\xC8\x85"),
+        (
+            b"\xF0\x9F\x92\x96",
+            DONE,
+            b"\x00\x06\xED\xA0\xBD\xED\xB2\x96",
+        ),
+        (b"\xFF", NOT_UTF8, b""),
+        (&nulls, TOO_LONG, b""),
+    ];
+    for (bytes, want, written) in cases {
+        let mut input = bytes;
+        let mut output = Vec::new(rt.alloc());
+        let ended = run(
+            rt.alloc(),
+            &["java-write", "mutf8"],
+            &mut input,
+            &mut output,
+        );
+        assert_eq!(rt; shown(ended), want, "at {bytes:?}");
+        assert_eq!(rt; output.as_slice(), written, "at {bytes:?}");
+    }
+}
+
+#[test]
+fn reads_java_strings(rt: HostRuntime) {
+    let cases: [(&[u8], (u8, &str), &[u8]); 12] = [
+        (b"\x00\x00", DONE, b""),
+        (b"\x00\x01A", DONE, b"A"),
+        (b"\x00\x02\xC0\x80", DONE, b"\x00"),
+        (b"", TRUNCATED, b""),
+        (b"\x00", TRUNCATED, b""),
+        (b"\x00\x01", TRUNCATED, b""),
+        (b"\x00\x03a\xC0", TRUNCATED, b""),
+        (b"\x00\x01\x00", INVALID, b""),
+        (b"\x00\x01\x00B", INVALID, b""),
+        (b"\x00\x04\xF0\x9F\x92\x96", INVALID, b""),
+        (b"\x00\x01AB", TRAILING, b""),
+        (b"\x00\x00\x07", TRAILING, b""),
+    ];
+    for (bytes, want, written) in cases {
+        let mut input = bytes;
+        let mut output = Vec::new(rt.alloc());
+        let ended = run(rt.alloc(), &["java-read", "mutf8"], &mut input, &mut output);
+        assert_eq!(rt; shown(ended), want, "at {bytes:?}");
+        assert_eq!(rt; output.as_slice(), written, "at {bytes:?}");
     }
 }

@@ -1,4 +1,4 @@
-//! Readers and writers that fail, or watch. They claim nothing of their bytes, and allocate nothing.
+//! Readers and writers that fail, or watch. They claim nothing of their bytes, and take no memory.
 
 use std::cell::Cell;
 use std::io::{Error, ErrorKind, Read, Result, Write};
@@ -135,6 +135,7 @@ impl Write for Writer {
 pub struct WatchingReader<'a> {
     rest: &'a [u8],
     is_asked: &'a Cell<bool>,
+    reads: usize,
 }
 
 impl<'a> WatchingReader<'a> {
@@ -142,12 +143,19 @@ impl<'a> WatchingReader<'a> {
         WatchingReader {
             rest: bytes,
             is_asked,
+            reads: 0,
         }
+    }
+
+    /// How many reads it was asked for.
+    pub fn reads(&self) -> usize {
+        self.reads
     }
 }
 
 impl<'a> Read for WatchingReader<'a> {
     fn read(&mut self, buf: &mut [u8]) -> Result<usize> {
+        self.reads = self.reads.saturating_add(1);
         if self.is_asked.get() {
             return Err(Error::from(ErrorKind::Other));
         }

@@ -1,5 +1,5 @@
-//! Requests for memory. Here they are granted. `tests/memory.sh` runs these tests again, and refuses
-//! each request in turn: where the run asks for it, the test ends with the run's fault.
+//! Requests for memory. Here they are granted. `tests/memory.sh` runs these tests again, and
+//! refuses each request in turn: where the run asks for it, the test ends with the run's fault.
 
 use super::devices::Writer;
 use crate::fault::RunFault;
@@ -61,5 +61,19 @@ fn reads_and_refuses(rt: HostRuntime) -> Result<(), Fail> {
 #[test]
 fn reads_nothing(rt: HostRuntime) -> Result<(), Fail> {
     assert_run!(rt, &["encode", "cesu8"], b"", b"");
+    Ok(())
+}
+
+#[test]
+fn reads_and_writes_a_java_string(rt: HostRuntime) -> Result<(), Fail> {
+    let written = b"\x00\x03a\xC0\x80";
+    assert_run!(rt, &["java-write", "mutf8"], b"a\x00", written);
+    Ok(())
+}
+
+#[test]
+fn reads_a_java_string(rt: HostRuntime) -> Result<(), Fail> {
+    let input = b"\x00\x03a\xC0\x80";
+    assert_run!(rt, &["java-read", "mutf8"], input, b"a\x00");
     Ok(())
 }
