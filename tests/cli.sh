@@ -59,9 +59,28 @@ expect() {
     fi
 }
 
+# Keeps in word_list the words of a list such as 'encode cesu8'. A word in double quotes can be empty
+# or hold blanks.
+split_words() {
+    local rest=$1 word
+    word_list=()
+    while [[ $rest =~ [^[:blank:]] ]]; do
+        rest=${rest#"${rest%%[![:blank:]]*}"}
+        if [[ $rest == '"'*'"'* ]]; then
+            rest=${rest#'"'}
+            word=${rest%%'"'*}
+            rest=${rest#*'"'}
+        else
+            word=${rest%%[[:blank:]]*}
+            rest=${rest#"$word"}
+        fi
+        word_list+=("$word")
+    done
+}
+
 # Runs the cases of the file.
 run_cases() {
-    local number=0 text bars words input status output line word_list got
+    local number=0 ran=0 text bars words input status output line word_list got
     while IFS= read -r text || [[ -n $text ]]; do
         number=$((number + 1))
         case $(trim "$text") in '' | '#'*) continue ;; esac
@@ -73,17 +92,18 @@ run_cases() {
             echo "wrong: line $number of $cases has other fields than five"
             continue
         fi
-        read -r -a word_list <<<"$words"
+        split_words "$words"
         bytes "$input" >"$scratch/input"
         "$program" ${word_list[@]+"${word_list[@]}"} \
             <"$scratch/input" >"$scratch/output" 2>"$scratch/error"
         got=$?
         expect "line $number: $(trim "$words") | $(trim "$input")" \
             "$got" "$status" "$(trim "$output")" "$(trim "$line")"
+        ran=$((ran + 1))
     done <"$cases"
-    if ((number == 0)); then
+    if ((ran == 0)); then
         failed=$((failed + 1))
-        echo "wrong: no line in $cases"
+        echo "wrong: no case in $cases"
     fi
 }
 
@@ -205,6 +225,83 @@ long_pairs() {
     done
 }
 
+# The longest Java string, 65,535 bytes after their count, and a text that has one byte more.
+java_strings() {
+    { repeated 32767 '00' && bytes '61'; } >"$scratch/input"
+    { bytes 'FF FF' && repeated 32767 'C0 80' && bytes '61'; } >"$scratch/wanted"
+    expect_long 'the longest Java string' java-write mutf8
+    mv "$scratch/wanted" "$scratch/string"
+    mv "$scratch/input" "$scratch/wanted"
+    mv "$scratch/string" "$scratch/input"
+    expect_long 'the longest Java string, read' java-read mutf8
+    repeated 32768 '00' >"$scratch/input"
+    "$program" java-write mutf8 <"$scratch/input" >"$scratch/output" 2>"$scratch/error"
+    expect 'a text too long for a Java string' $? 1 '' 'cesu8: text is too long'
+}
+
+# Repeats a list of bytes a million times and more: `million BYTES`.
+million() {
+    head -c $((1 << 20)) /dev/zero | sed "s/\\x00/\\x${1// /\\x}/g"
+}
+
+# No length as such is want of memory.
+very_long_text() {
+    million 'C8 85 E2 82 AC 20 61 0A C8 85 E2 82 AC 20 61 0A C8 85 E2 82 AC 20 61 0A C8 85 E2 82 AC 20 61 0A' \
+        >"$scratch/input"
+    cp "$scratch/input" "$scratch/wanted"
+    expect_long '32 MiB of text that stays' encode cesu8
+}
+
+# Runs with at most so many KiB of memory, on $scratch/input. What came has to be the whole answer in
+# $scratch/wanted, or want of memory and no byte of it: `run_within KIB COMMAND FLAVOR`.
+run_within() {
+    local status
+    (ulimit -v "$1" && exec "$program" "$2" "$3") \
+        <"$scratch/input" >"$scratch/long" 2>"$scratch/error"
+    status=$?
+    if ((status == 0)); then
+        answered=$((answered + 1))
+        : >"$scratch/output"
+        expect "$2 $3 within $1 KiB" "$status" 0 '' ''
+        if ! cmp -s "$scratch/long" "$scratch/wanted"; then
+            failed=$((failed + 1))
+            echo "wrong: $2 $3 within $1 KiB ends with status 0, and not with the whole answer"
+        fi
+    else
+        refused=$((refused + 1))
+        head -c 20 "$scratch/long" >"$scratch/output"
+        expect "$2 $3 within $1 KiB" "$status" 3 '' 'cesu8: out of memory'
+    fi
+}
+
+# Of these runs some have to answer, and some have to be refused: `within_sizes COMMAND FLAVOR`. A size
+# in which the program can't start, and so can't tell that it has no words, is passed over.
+within_sizes() {
+    local kib answered=0 refused=0
+    for kib in 4096 6144 8192 12288 16384 24576 32768 49152 65536; do
+        (ulimit -v "$kib" && exec "$program") </dev/null >"$scratch/output" 2>&1
+        (($? == 2)) && run_within "$kib" "$1" "$2"
+    done
+    if ((answered == 0 || refused == 0)); then
+        failed=$((failed + 1))
+        echo "wrong: $1 $2 within several sizes: $answered answered, and $refused were refused"
+    fi
+}
+
+# Some megabytes: UTF-8 of four bytes, the pairs that encode it, and these with damage after them.
+little_memory() {
+    million 'F0 9F 92 96' >"$scratch/text"
+    million 'ED A0 BD ED B2 96' >"$scratch/pairs"
+    cp "$scratch/text" "$scratch/input"
+    cp "$scratch/text" "$scratch/wanted"
+    within_sizes decode cesu8
+    cp "$scratch/pairs" "$scratch/wanted"
+    within_sizes encode mutf8
+    { cat "$scratch/pairs" && bytes 'FF'; } >"$scratch/input"
+    { cat "$scratch/text" && bytes 'EF BF BD'; } >"$scratch/wanted"
+    within_sizes lossy cesu8
+}
+
 build
 run_cases
 full_output
@@ -216,6 +313,9 @@ input_in_pieces
 long_texts
 long_damage
 long_pairs
+java_strings
+very_long_text
+little_memory
 
 echo "$passed passed, $failed failed"
 ((failed == 0))

@@ -1,10 +1,11 @@
 #!/usr/bin/env bash
 # Compares the program with other implementations, where they are at hand: with the JDK's `writeUTF`
-# and `readUTF` for MUTF-8, with its charset CESU-8, and with ICU's `uconv` for CESU-8. Of each text
-# the program's encoding has to be theirs byte for byte, and each of the two has to read the text in
-# what the other wrote. It prints each text that is wrong, says which implementation was not run and
-# how many texts were compared with each, and ends with the counts of these comparisons. The status is
-# 0 where none is wrong.
+# and `readUTF` for Java strings, and without their count for MUTF-8, with its charset CESU-8, and with
+# ICU's `uconv` for CESU-8. Of each text what the program writes has to be what they write, byte for
+# byte, and each of the two has to read the text in what the other wrote. The program has to read a
+# constant out of a class file of `javac` too. It prints each text that is wrong, says which
+# implementation was not run and how many texts were compared with each, and ends with the counts of
+# these comparisons. The status is 0 where none is wrong.
 #
 # It needs the kit's `rt`, bash, awk and the core utilities; and to compare with the JDK, one of version
 # 11 or later.
@@ -19,27 +20,37 @@ trap 'rm -rf "$scratch"' EXIT
 source "$top/tests/program.sh" || exit 2
 mkdir "$scratch"/{texts,ours,java,uconv} || exit 2
 
+# The words that write and read what is compared: the two encodings, and Java strings.
+declare -A writes=([cesu8]='encode cesu8' [mutf8]='encode mutf8' [string]='java-write mutf8')
+declare -A reads=([cesu8]='decode-strict cesu8' [mutf8]='decode-strict mutf8' [string]='java-read mutf8')
+
 passed=0
 failed=0
 
-# The first and the last scalar value of each form, and some between.
-borders=(
-    0x0 0x1 0x7F 0x80 0x7FF 0x800 0xFFF 0x1000 0xCFFF 0xD000 0xD7FF 0xE000 0xFFFD 0xFFFF
-    0x10000 0x103FF 0x10400 0x1F496 0xFFFFF 0x100000 0x10FFFF
-)
+# The scalar values of a list of crates/vectors/src/mixed_texts.rt, as many as it declares: `list NAME`.
+list() {
+    local file=$top/crates/vectors/src/mixed_texts.rt declared
+    declared=$(sed -n "s/^const $1: \[char; \([0-9]*\)\].*/\1/p" "$file")
+    sed -n "/^const $1: /,/;\$/p" "$file" |
+        grep -o '\\u{[0-9A-F]*}' | sed 's/.*{/0x/; s/}//' >"$scratch/list"
+    [[ $(wc -l <"$scratch/list") == "$declared" ]] && cat "$scratch/list"
+}
 
-# Scalar values of one to four bytes of UTF-8, to be drawn in turn. The lists are those of
-# crates/vectors/src/mixed_texts.rt, and so are the texts.
-one=(0x1 0x9 0xA 0x20 0x30 0x41 0x7A 0x7F)
-two=(0x80 0xA0 0xE9 0xFF 0x100 0x205 0x3A9 0x416 0x5D0 0x627 0x7FF)
-three=(
-    0x800 0x905 0xFFF 0x1000 0x1E9E 0x20AC 0x3042 0x4E2D 0xAC00 0xCFFF 0xD000 0xD7FF 0xE000
-    0xF8FF 0xFEFF 0xFFFD 0xFFFF
-)
-four=(
-    0x10000 0x103FF 0x10400 0x107FF 0x1D11E 0x1F496 0x1F600 0x1FFFF 0x20000 0x2A6DF 0x30000
-    0x3FFFF 0x40000 0x7FFFF 0x80000 0xE0001 0xFFFFF 0x100000 0x10FFFF
-)
+# Keeps the lists that crates/vectors has: characters of one to four bytes of UTF-8, to be drawn in
+# turn, and those at the borders of the forms.
+read_lists() {
+    mapfile -t one < <(list ONE)
+    mapfile -t two < <(list TWO)
+    mapfile -t three < <(list THREE)
+    mapfile -t four < <(list FOUR)
+    mapfile -t borders < <(
+        grep -o '"U+[0-9A-F]*"' "$top/crates/vectors/src/borders.rt" | sed 's/"U+/0x/; s/"//'
+    )
+    if ((${#one[@]} == 0 || ${#two[@]} == 0 || ${#three[@]} == 0 || ${#four[@]} == 0)); then
+        echo "the lists of crates/vectors were not read" >&2
+        exit 2
+    fi
+}
 
 # The scalar values of the drawn text of this number: 819 groups of one width after the other.
 drawn_scalars() {
@@ -108,24 +119,25 @@ convert() {
     "$@" <"$input" >"$output" 2>>"$scratch/errors" || rm -f "$output"
 }
 
-# The program's encodings.
+# What the program writes of each text. Its words are separated by blanks.
+# shellcheck disable=SC2086
 encode_texts() {
-    local name encoding
+    local name form
     for name in "${names[@]}"; do
-        for encoding in cesu8 mutf8; do
-            convert "$scratch/texts/$name" "$scratch/ours/$name.$encoding" \
-                "$program" encode "$encoding"
+        for form in "${!writes[@]}"; do
+            convert "$scratch/texts/$name" "$scratch/ours/$name.$form" "$program" ${writes[$form]}
         done
     done
 }
 
-# Compares what a peer wrote and read with what the program does: `compare PEER ENCODING NAME`.
+# Compares what a peer wrote and read with what the program does: `compare PEER FORM NAME`.
+# shellcheck disable=SC2086
 compare() {
     local text=$scratch/texts/$3 ours=$scratch/ours/$3.$2 theirs=$scratch/$1/$3.$2 wrong=''
-    cmp -s "$ours" "$theirs" || wrong+='  the encodings differ'$'\n'
+    cmp -s "$ours" "$theirs" || wrong+='  what is written differs'$'\n'
     cmp -s "$text" "$theirs.utf8" || wrong+="  $1 reads another text, or none"$'\n'
     rm -f "$scratch/read"
-    [[ -e $theirs ]] && convert "$theirs" "$scratch/read" "$program" decode-strict "$2"
+    [[ -e $theirs ]] && convert "$theirs" "$scratch/read" "$program" ${reads[$2]}
     cmp -s "$text" "$scratch/read" || wrong+='  the program reads another text, or none'$'\n'
     if [[ -z $wrong ]]; then
         passed=$((passed + 1))
@@ -135,13 +147,27 @@ compare() {
     fi
 }
 
-# Compares all texts: `compare_all PEER ENCODING`.
+# Compares all texts: `compare_all PEER FORM`.
 compare_all() {
     local name before=$passed
     for name in "${names[@]}"; do
         compare "$1" "$2" "$name"
     done
     summary+="$1, $2: ${#names[@]} texts compared, $((passed - before)) agree"$'\n'
+}
+
+# Reads the constant of tests/peers/Peer.java out of its class file. Here it is in UTF-8.
+compare_constant() {
+    printf 'a\0\303\251\342\202\254\360\237\222\226' >"$scratch/constant"
+    rm -f "$scratch/read"
+    convert "$scratch/java/constant" "$scratch/read" "$program" java-read mutf8
+    if cmp -s "$scratch/constant" "$scratch/read"; then
+        passed=$((passed + 1))
+        summary+="javac: the program reads the constant of a class file"$'\n'
+    else
+        failed=$((failed + 1))
+        echo 'wrong: the program reads another constant of a class file, or none'
+    fi
 }
 
 # Keeps for the end that a peer was not run, and why: `not_run PEER WHY [FILE]`. The file has the
@@ -151,29 +177,43 @@ not_run() {
     [[ -z ${3-} ]] || head -n 5 "$3" >&2
 }
 
-# The JDK runs from the source, once for all texts. What it says first shows that it could be run.
+# The JDK runs once for all texts.
 run_java() {
-    local ready version status
+    local word version status
     if ! command -v java >/dev/null; then
         not_run java 'is not here'
         return
     fi
-    cp "$top/tests/peers/Peer.java" "$scratch/" || exit 2
-    # In the locale C it finds no file where the folder's name is not ASCII.
-    (cd "$scratch" && LC_ALL=C.UTF-8 java Peer.java) \
+    # A program that only tells its version shows whether this is a JDK that runs.
+    cat >"$scratch/Version.java" <<'JAVA'
+class Version {
+    public static void main(String[] arguments) {
+        System.out.println("version " + Runtime.version());
+    }
+}
+JAVA
+    (cd "$scratch" && LC_ALL=C.UTF-8 java Version.java) \
         </dev/null >"$scratch/java.output" 2>"$scratch/java.error"
-    status=$?
-    read -r ready version <"$scratch/java.output"
-    if [[ ${ready-} != ready ]]; then
+    read -r word version <"$scratch/java.output"
+    if [[ ${word-} != version ]]; then
         not_run java 'is here and cannot be run' "$scratch/java.error"
         return
     fi
+    # From here on, whatever goes wrong counts.
+    cp "$top/tests/peers/Peer.java" "$scratch/" || exit 2
+    # In the locale C it finds no file where the folder's name is not ASCII.
+    (cd "$scratch" && export LC_ALL=C.UTF-8 && javac -d classes Peer.java && java -cp classes Peer) \
+        </dev/null 2>"$scratch/java.error"
+    status=$?
     summary+="java is version $version"$'\n'
+    head -n 20 "$scratch/java.error" >&2
     if ((status != 0)); then
         failed=$((failed + 1))
-        echo "wrong: java ended with status $status"
+        echo "wrong: tests/peers/Peer.java ended with status $status"
+        return
     fi
-    head -n 20 "$scratch/java.error" >&2
+    compare_all java string
+    compare_constant
     compare_all java mutf8
     compare_all java cesu8
 }
@@ -199,6 +239,7 @@ run_uconv() {
 }
 
 build
+read_lists
 write_texts
 mapfile -t names < <(cd "$scratch/texts" && ls)
 summary=''

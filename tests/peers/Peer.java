@@ -1,7 +1,9 @@
 // The JDK's part of tests/peers.sh. For each file of the folder `texts`, which is UTF-8, it writes to
-// the folder `java` the text in both encodings, as NAME.mutf8 and NAME.cesu8, and what it reads in
-// the program's own files of these names in the folder `ours`, as NAME.mutf8.utf8 and
-// NAME.cesu8.utf8. A file that can't be made is left out, and standard error says why.
+// the folder `java` the text in both encodings, as NAME.mutf8 and NAME.cesu8, and with its length in
+// front, as NAME.string; and what it reads in the program's own files of these names in the folder
+// `ours`, as NAME.mutf8.utf8, NAME.cesu8.utf8 and NAME.string.utf8. To `java/constant` it copies a
+// constant out of its own class file, as `javac` wrote it. A file that can't be made is left out, and
+// standard error says why.
 
 import java.io.ByteArrayInputStream;
 import java.io.ByteArrayOutputStream;
@@ -18,27 +20,31 @@ import java.util.Arrays;
 public class Peer {
     private static final Charset CESU_8 = Charset.forName("CESU-8");
 
+    /** U+0061, U+0000, U+00E9, U+20AC and U+1F496. The class file has it in MUTF-8. */
+    private static final String CONSTANT = "a\0\u00E9\u20AC\uD83D\uDC96";
+
     private interface Maker {
         byte[] make() throws IOException;
     }
 
     public static void main(String[] args) throws IOException {
-        // From here on, whatever goes wrong counts.
-        System.out.println("ready " + System.getProperty("java.version"));
         try (DirectoryStream<Path> texts = Files.newDirectoryStream(Path.of("texts"))) {
             for (Path text : texts) {
                 answer(text);
             }
         }
+        write("constant", () -> constant(Files.readAllBytes(Path.of("classes", "Peer.class"))));
     }
 
     private static void answer(Path file) throws IOException {
         String name = file.getFileName().toString();
         String text = new String(Files.readAllBytes(file), StandardCharsets.UTF_8);
-        write(name + ".mutf8", () -> writeUtf(text));
+        write(name + ".mutf8", () -> writeUncounted(text));
         write(name + ".cesu8", () -> text.getBytes(CESU_8));
-        write(name + ".mutf8.utf8", () -> utf8(readUtf(ours(name + ".mutf8"))));
+        write(name + ".string", () -> writeUtf(text));
+        write(name + ".mutf8.utf8", () -> utf8(readCounted(ours(name + ".mutf8"))));
         write(name + ".cesu8.utf8", () -> utf8(new String(ours(name + ".cesu8"), CESU_8)));
+        write(name + ".string.utf8", () -> utf8(readUtf(ours(name + ".string"))));
     }
 
     private static void write(String name, Maker maker) throws IOException {
@@ -60,15 +66,31 @@ public class Peer {
         return text.getBytes(StandardCharsets.UTF_8);
     }
 
-    /** The bytes that writeUTF writes, without the two that count them. */
+    /** The bytes that writeUTF writes. */
     private static byte[] writeUtf(String text) throws IOException {
         ByteArrayOutputStream written = new ByteArrayOutputStream();
         new DataOutputStream(written).writeUTF(text);
-        return Arrays.copyOfRange(written.toByteArray(), 2, written.size());
+        return written.toByteArray();
+    }
+
+    /** The bytes that writeUTF writes, without the two that count them. */
+    private static byte[] writeUncounted(String text) throws IOException {
+        byte[] written = writeUtf(text);
+        return Arrays.copyOfRange(written, 2, written.length);
+    }
+
+    /** What readUTF reads in these bytes, which it has to read to their end. */
+    private static String readUtf(byte[] bytes) throws IOException {
+        DataInputStream in = new DataInputStream(new ByteArrayInputStream(bytes));
+        String text = in.readUTF();
+        if (in.read() != -1) {
+            throw new IOException("bytes after the string");
+        }
+        return text;
     }
 
     /** What readUTF reads in these bytes, after two that count them. */
-    private static String readUtf(byte[] bytes) throws IOException {
+    private static String readCounted(byte[] bytes) throws IOException {
         if (bytes.length > 65_535) {
             throw new IOException("too long for readUTF");
         }
@@ -76,6 +98,45 @@ public class Peer {
         DataOutputStream out = new DataOutputStream(counted);
         out.writeShort(bytes.length);
         out.write(bytes);
-        return new DataInputStream(new ByteArrayInputStream(counted.toByteArray())).readUTF();
+        return readUtf(counted.toByteArray());
+    }
+
+    /** The bytes of CONSTANT in the constant pool of a class file, their count included. */
+    private static byte[] constant(byte[] file) throws IOException {
+        DataInputStream in = new DataInputStream(new ByteArrayInputStream(file));
+        in.skipBytes(8);
+        int entries = in.readUnsignedShort();
+        for (int entry = 1; entry < entries; entry++) {
+            int tag = in.readUnsignedByte();
+            if (tag == 1) {
+                int start = file.length - in.available();
+                if (in.readUTF().equals(CONSTANT)) {
+                    return Arrays.copyOfRange(file, start, file.length - in.available());
+                }
+            } else {
+                in.skipBytes(lengthOf(tag));
+                // Numbers of eight bytes count as two entries.
+                if (tag == 5 || tag == 6) {
+                    entry++;
+                }
+            }
+        }
+        throw new IOException("the class file does not have the constant");
+    }
+
+    /** The length of an entry of the constant pool, of any tag but that of a string's bytes. */
+    private static int lengthOf(int tag) throws IOException {
+        switch (tag) {
+            case 7: case 8: case 16: case 19: case 20:
+                return 2;
+            case 15:
+                return 3;
+            case 3: case 4: case 9: case 10: case 11: case 12: case 17: case 18:
+                return 4;
+            case 5: case 6:
+                return 8;
+            default:
+                throw new IOException("a tag of the constant pool that is not known: " + tag);
+        }
     }
 }

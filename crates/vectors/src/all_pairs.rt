@@ -1,7 +1,7 @@
 //! All 65,536 inputs of two bytes, against a reading by the table of byte patterns that shares no
 //! code with the library.
 
-use crate::flavors::{Flavor, decode, decode_lossy, decode_lossy_strict, decode_strict};
+use crate::helpers::flavors::{Flavor, decode, decode_lossy, decode_lossy_strict, decode_strict};
 use simd_cesu8::{CowText, DecodeFault};
 use std::alloc::Global;
 use std::process::Abort;
@@ -167,27 +167,31 @@ fn count(rt: &impl Abort, alloc: Global, flavor: Flavor) -> Result<Counts, Fail>
 }
 
 #[test]
-fn reads_two_bytes_as_cesu8(rt: HostRuntime) -> Result<(), Fail> {
-    let want = Counts {
-        strict: 18_304,
-        strict_borrowed: 18_304,
-        lenient: 18_304,
-        lossy_strict_damage: 61_696,
-        lossy_damage: 61_696,
-    };
-    assert_eq!(rt; count(&rt, rt.alloc(), Flavor::Cesu8)?, want);
-    Ok(())
-}
-
-#[test]
-fn reads_two_bytes_as_mutf8(rt: HostRuntime) -> Result<(), Fail> {
-    let want = Counts {
-        strict: 18_050,
-        strict_borrowed: 18_049,
-        lenient: 18_305,
-        lossy_strict_damage: 62_206,
-        lossy_damage: 61_950,
-    };
-    assert_eq!(rt; count(&rt, rt.alloc(), Flavor::Mutf8)?, want);
+fn reads_all_pairs(rt: HostRuntime) -> Result<(), Fail> {
+    let rows = [
+        (
+            Flavor::Cesu8,
+            Counts {
+                strict: 18_304,
+                strict_borrowed: 18_304,
+                lenient: 18_304,
+                lossy_strict_damage: 61_696,
+                lossy_damage: 61_696,
+            },
+        ),
+        (
+            Flavor::Mutf8,
+            Counts {
+                strict: 18_050,
+                strict_borrowed: 18_049,
+                lenient: 18_305,
+                lossy_strict_damage: 62_206,
+                lossy_damage: 61_950,
+            },
+        ),
+    ];
+    for (flavor, want) in rows {
+        assert_eq!(rt; count(&rt, rt.alloc(), flavor)?, want, "in {flavor:?}");
+    }
     Ok(())
 }

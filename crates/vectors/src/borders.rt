@@ -1,4 +1,9 @@
 //! Scalar values at the borders of the forms, with their bytes in UTF-8 and in both encodings.
+//! tests/peers.sh reads their names here.
+
+use crate::helpers::flavors::{FLAVORS, Flavor, decode_strict, encode, encoded_len, needs_encoded};
+use std::str;
+use std::test::Fail;
 
 /// One scalar value, and the bytes that stand for it.
 #[derive(Clone, Copy)]
@@ -7,6 +12,15 @@ pub struct Border {
     pub utf8: &'static [u8],
     pub cesu8: &'static [u8],
     pub mutf8: &'static [u8],
+}
+
+impl Border {
+    pub fn encoded(&self, flavor: Flavor) -> &'static [u8] {
+        match flavor {
+            Flavor::Cesu8 => self.cesu8,
+            Flavor::Mutf8 => self.mutf8,
+        }
+    }
 }
 
 macro_rules! border {
@@ -79,3 +93,48 @@ pub static BORDERS: [Border; 21] = [
         b"\xED\xAF\xBF\xED\xBF\xBF",
     ),
 ];
+
+#[test]
+fn encodes_the_borders(rt: HostRuntime) -> Result<(), Fail> {
+    for flavor in FLAVORS {
+        for row in &BORDERS {
+            let name = row.name;
+            let text = str::from_utf8(row.utf8)?;
+            let bytes = row.encoded(flavor);
+            let same = bytes == row.utf8;
+            let answer = encode(rt.alloc(), flavor, text)?;
+            assert_eq!(rt; answer.as_bytes(), bytes, "{flavor:?} at {name}");
+            assert_eq!(rt; answer.is_borrowed(), same, "{flavor:?} at {name}");
+            assert_eq!(rt; needs_encoded(flavor, text), !same, "{flavor:?} at {name}");
+            assert_eq!(rt;
+                encoded_len(flavor, text),
+                bytes.len(),
+                "{flavor:?} at {name}"
+            );
+            let owned = answer.into_vec(rt.alloc())?;
+            assert_eq!(rt; owned.as_slice(), bytes, "into_vec, {flavor:?} at {name}");
+        }
+    }
+    Ok(())
+}
+
+#[test]
+fn decodes_the_borders(rt: HostRuntime) -> Result<(), Fail> {
+    for flavor in FLAVORS {
+        for row in &BORDERS {
+            let name = row.name;
+            let text = str::from_utf8(row.utf8)?;
+            let bytes = row.encoded(flavor);
+            let answer = decode_strict(rt.alloc(), flavor, bytes)?;
+            assert_eq!(rt; answer.as_str(), text, "{flavor:?} at {name}");
+            assert_eq!(rt;
+                answer.is_borrowed(),
+                bytes == row.utf8,
+                "{flavor:?} at {name}"
+            );
+            let owned = answer.into_string(rt.alloc())?;
+            assert_eq!(rt; owned.as_str(), text, "into_string, {flavor:?} at {name}");
+        }
+    }
+    Ok(())
+}

@@ -1,107 +1,153 @@
-//! Bytes that are no encoding of a text.
+//! Bytes that are no encoding of a text, whole ones beside them: what refuses damage, and what puts
+//! U+FFFD for it, in each encoding, where both encodings read alike.
 
-use crate::decoders::{DECODERS, Decoder, Outcome, outcome_of};
-use crate::flavors::Flavor;
+use crate::helpers::lossy_rows::{Row, compare_all, compare_damage};
+use std::test::Fail;
 
-/// U+1F496 in both encodings.
-const PAIR: [u8; 6] = *b"\xED\xA0\xBD\xED\xB2\x96";
-
+/// Bytes that are all in characters.
 #[test]
-fn refuses_fronts_of_a_pair(rt: HostRuntime) {
-    for decoder in DECODERS {
-        for len in 1..6 {
-            let front = PAIR.get(..len).unwrap_or(&[]);
-            assert_eq!(rt; front.len(), len);
-            let result = decoder.call(rt.alloc(), front);
-            assert_eq!(rt;
-                outcome_of(&result),
-                Outcome::Invalid,
-                "at {decoder:?} of {front:?}"
-            );
-        }
-    }
-}
-
-#[test]
-fn refuses_backs_of_a_pair(rt: HostRuntime) {
-    for decoder in DECODERS {
-        for start in 1..6 {
-            let back = PAIR.get(start..).unwrap_or(&[]);
-            assert_eq!(rt; back.len(), 6 - start);
-            let result = decoder.call(rt.alloc(), back);
-            assert_eq!(rt;
-                outcome_of(&result),
-                Outcome::Invalid,
-                "at {decoder:?} of {back:?}"
-            );
-        }
-    }
-}
-
-#[test]
-fn refuses_a_pair_with_one_byte_changed(rt: HostRuntime) {
-    let cases = [
-        b"\xEC\xA0\xBD\xED\xB2\x96",
-        b"\xED\x9F\xBD\xED\xB2\x96",
-        b"\xED\xB0\xBD\xED\xB2\x96",
-        b"\xED\xA0\x41\xED\xB2\x96",
-        b"\xED\xA0\xBD\xEC\xB2\x96",
-        b"\xED\xA0\xBD\xED\xAF\x96",
-        b"\xED\xA0\xBD\xED\x9F\x96",
-        b"\xED\xA0\xBD\xED\xB2\x41",
-        b"\xED\xA0\xBD\xED\xB2\xC0",
+fn reads_whole_bytes(rt: HostRuntime) -> Result<(), Fail> {
+    let rows: [Row; 4] = [
+        (b"", "", true),
+        (b"Hello, world!", "Hello, world!", true),
+        (b"\xEF\xBF\xBD", "\u{FFFD}", true),
+        (b"\xED\xA0\xBD\xED\xB2\x96", "\u{1F496}", false),
     ];
-    for decoder in DECODERS {
-        for bytes in cases {
-            let result = decoder.call(rt.alloc(), bytes);
-            assert_eq!(rt;
-                outcome_of(&result),
-                Outcome::Invalid,
-                "at {decoder:?} of {bytes:?}"
-            );
-        }
+    for row in rows {
+        compare_all(&rt, rt.alloc(), row)?;
     }
+    Ok(())
 }
 
+/// Bytes that are in no character, in front of characters, between them and after them.
 #[test]
-fn refuses_damage_in_both_encodings(rt: HostRuntime) {
-    let cases: [(&str, &[u8]); 13] = [
-        ("a high surrogate alone", b"\xED\xA0\xBD"),
-        ("a low surrogate alone", b"\xED\xB2\x96"),
-        ("two high surrogates", b"\xED\xA0\xBD\xED\xA0\xBD"),
+fn tells_damage(rt: HostRuntime) -> Result<(), Fail> {
+    let rows: [(&'static [u8], &'static str); 16] = [
+        (b"\x80", "\u{FFFD}"),
+        (b"\xC0A", "\u{FFFD}A"),
+        (b"\xC0\x81", "\u{FFFD}\u{FFFD}"),
+        (b"\xC1\xBF", "\u{FFFD}\u{FFFD}"),
+        (b"\xC2", "\u{FFFD}"),
+        (b"\xC2\xC2\x80", "\u{FFFD}\u{80}"),
+        (b"\xE0\x80\x80", "\u{FFFD}\u{FFFD}\u{FFFD}"),
+        (b"\xE0\x9F\xBF", "\u{FFFD}\u{FFFD}\u{FFFD}"),
+        (b"\xE2\x82", "\u{FFFD}\u{FFFD}"),
+        (b"\xE2\x82A", "\u{FFFD}\u{FFFD}A"),
+        (b"\xE2\x82\xE2\x82\xAC", "\u{FFFD}\u{FFFD}\u{20AC}"),
+        (b"\xF8", "\u{FFFD}"),
+        (b"\xFFA\xFF", "\u{FFFD}A\u{FFFD}"),
         (
-            "a low surrogate before a high one",
-            b"\xED\xB2\x96\xED\xA0\xBD",
+            b"\xF0\x9F\x92\x96\xFF",
+            "\u{FFFD}\u{FFFD}\u{FFFD}\u{FFFD}\u{FFFD}",
         ),
-        ("two bytes for U+007F", b"\xC1\xBF"),
-        ("three bytes for U+07FF", b"\xE0\x9F\xBF"),
-        ("three bytes for U+0000", b"\xE0\x80\x80"),
-        ("two bytes for U+0001", b"\xC0\x81"),
-        ("C0 before no continuation byte", b"\xC0\x41"),
-        ("a continuation byte alone", b"\x80"),
-        ("a character cut short", b"\xE2\x82"),
-        ("F8", b"\xF8"),
-        ("FF about a letter", b"\xFF\x41\xFF"),
+        (
+            b"\xFF\xF0\x9F\x92\x96",
+            "\u{FFFD}\u{FFFD}\u{FFFD}\u{FFFD}\u{FFFD}",
+        ),
+        (
+            b"\xF0\x9F\x92\x96\xED\xA0\xBD\xED\xB2\x96",
+            "\u{FFFD}\u{FFFD}\u{FFFD}\u{FFFD}\u{1F496}",
+        ),
     ];
-    for decoder in DECODERS {
-        for (name, bytes) in cases {
-            let result = decoder.call(rt.alloc(), bytes);
-            assert_eq!(rt;
-                outcome_of(&result),
-                Outcome::Invalid,
-                "at {decoder:?} of {name}"
-            );
-        }
+    for (bytes, text) in rows {
+        compare_damage(&rt, rt.alloc(), bytes, text)?;
     }
+    Ok(())
 }
 
+/// Surrogates that are not in a pair, beside one that is.
 #[test]
-fn refuses_a_long_null_in_cesu8(rt: HostRuntime) {
-    for decoder in [
-        Decoder::Decode(Flavor::Cesu8),
-        Decoder::DecodeStrict(Flavor::Cesu8),
-    ] {
-        let result = decoder.call(rt.alloc(), b"\xC0\x80");
-        assert_eq!(rt; outcome_of(&result), Outcome::Invalid, "at {decoder:?}");
+fn tells_unpaired_surrogates(rt: HostRuntime) -> Result<(), Fail> {
+    let rows: [(&'static [u8], &'static str); 5] = [
+        (b"\xED\xA0\xBD", "\u{FFFD}\u{FFFD}\u{FFFD}"),
+        (b"\xED\xB2\x96", "\u{FFFD}\u{FFFD}\u{FFFD}"),
+        (
+            b"\xED\xB2\x96\xED\xA0\xBD",
+            "\u{FFFD}\u{FFFD}\u{FFFD}\u{FFFD}\u{FFFD}\u{FFFD}",
+        ),
+        (
+            b"\xED\xA0\xBD\xED\xA0\xBD",
+            "\u{FFFD}\u{FFFD}\u{FFFD}\u{FFFD}\u{FFFD}\u{FFFD}",
+        ),
+        (
+            b"\xED\xA0\xBD\xED\xA0\xBD\xED\xB2\x96",
+            "\u{FFFD}\u{FFFD}\u{FFFD}\u{1F496}",
+        ),
+    ];
+    for (bytes, text) in rows {
+        compare_damage(&rt, rt.alloc(), bytes, text)?;
     }
+    Ok(())
+}
+
+/// Each front and each back of a pair has as many U+FFFD as bytes.
+#[test]
+fn tells_cuts_of_a_pair(rt: HostRuntime) -> Result<(), Fail> {
+    let rows: [(&'static [u8], &'static [u8], &'static str); 5] = [
+        (b"\xED", b"\x96", "\u{FFFD}"),
+        (b"\xED\xA0", b"\xB2\x96", "\u{FFFD}\u{FFFD}"),
+        (b"\xED\xA0\xBD", b"\xED\xB2\x96", "\u{FFFD}\u{FFFD}\u{FFFD}"),
+        (
+            b"\xED\xA0\xBD\xED",
+            b"\xBD\xED\xB2\x96",
+            "\u{FFFD}\u{FFFD}\u{FFFD}\u{FFFD}",
+        ),
+        (
+            b"\xED\xA0\xBD\xED\xB2",
+            b"\xA0\xBD\xED\xB2\x96",
+            "\u{FFFD}\u{FFFD}\u{FFFD}\u{FFFD}\u{FFFD}",
+        ),
+    ];
+    for (front, back, text) in rows {
+        compare_damage(&rt, rt.alloc(), front, text)?;
+        compare_damage(&rt, rt.alloc(), back, text)?;
+    }
+    Ok(())
+}
+
+/// The pair ED A0 BD ED B2 96 with one byte changed.
+#[test]
+fn tells_changed_pairs(rt: HostRuntime) -> Result<(), Fail> {
+    let rows: [(&'static [u8], &'static str); 9] = [
+        (
+            b"\xEC\xA0\xBD\xED\xB2\x96",
+            "\u{C83D}\u{FFFD}\u{FFFD}\u{FFFD}",
+        ),
+        (
+            b"\xED\x9F\xBD\xED\xB2\x96",
+            "\u{D7FD}\u{FFFD}\u{FFFD}\u{FFFD}",
+        ),
+        (
+            b"\xED\xB0\xBD\xED\xB2\x96",
+            "\u{FFFD}\u{FFFD}\u{FFFD}\u{FFFD}\u{FFFD}\u{FFFD}",
+        ),
+        (
+            b"\xED\xA0\x41\xED\xB2\x96",
+            "\u{FFFD}\u{FFFD}A\u{FFFD}\u{FFFD}\u{FFFD}",
+        ),
+        (
+            b"\xED\xA0\xBD\xEC\xB2\x96",
+            "\u{FFFD}\u{FFFD}\u{FFFD}\u{CC96}",
+        ),
+        (
+            b"\xED\xA0\xBD\xED\xAF\x96",
+            "\u{FFFD}\u{FFFD}\u{FFFD}\u{FFFD}\u{FFFD}\u{FFFD}",
+        ),
+        (
+            b"\xED\xA0\xBD\xED\x9F\x96",
+            "\u{FFFD}\u{FFFD}\u{FFFD}\u{D7D6}",
+        ),
+        (
+            b"\xED\xA0\xBD\xED\xB2\x41",
+            "\u{FFFD}\u{FFFD}\u{FFFD}\u{FFFD}\u{FFFD}A",
+        ),
+        (
+            b"\xED\xA0\xBD\xED\xB2\xC0",
+            "\u{FFFD}\u{FFFD}\u{FFFD}\u{FFFD}\u{FFFD}\u{FFFD}",
+        ),
+    ];
+    for (bytes, text) in rows {
+        compare_damage(&rt, rt.alloc(), bytes, text)?;
+    }
+    Ok(())
 }

@@ -54,9 +54,9 @@ fn a_fault_is_shown(rt: HostRuntime) -> Result<(), Fail> {
     ];
     for (fault, want) in &cases {
         let plain = format!(in rt.alloc(); "{fault}")?;
-        assert_eq!(rt; plain.as_str(), *want);
+        assert_eq!(rt; plain.as_str(), *want, "{fault:?}");
         let wide = format!(in rt.alloc(); "{fault:>20}")?;
-        assert_eq!(rt; wide.as_str(), *want, "with a width");
+        assert_eq!(rt; wide.as_str(), *want, "{fault:?} with a width");
     }
     Ok(())
 }

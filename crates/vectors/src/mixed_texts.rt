@@ -2,16 +2,18 @@
 //! UTF-8, then U+0000, then characters of two, three and four, again and again. What they are in
 //! both encodings is computed here from the code units, by division and remainder.
 
-use crate::decoders::{Decoder, Outcome, outcome_of};
-use crate::flavors::{Flavor, encode};
+use crate::helpers::decoders::{Decoder, Outcome, outcome_of};
+use crate::helpers::flavors::{Flavor, encode, encoded_len, lossy_len};
 use std::alloc::{AllocError, Global};
 use std::process::Abort;
 use std::test::Fail;
 
-// The characters of each width, drawn in turn. The lists' lengths have no divisor in common with one
-// another, or with the draws for a text, 819 from `ONE` and 1,638 from each other list, so no two texts
-// are the same. tests/peers.sh has the same lists.
-const ONE: [char; 8] = ['\u{01}', '\t', '\n', ' ', '0', 'A', 'z', '\u{7F}'];
+// The characters of each width, drawn in turn. The lists' lengths have no divisor in common with
+// one another, or with the draws for a text, 819 from `ONE` and 1,638 from each other list, so no
+// two texts are the same. tests/peers.sh reads the lists here.
+const ONE: [char; 8] = [
+    '\u{1}', '\u{9}', '\u{A}', '\u{20}', '\u{30}', '\u{41}', '\u{7A}', '\u{7F}',
+];
 
 const TWO: [char; 11] = [
     '\u{80}', '\u{A0}', '\u{E9}', '\u{FF}', '\u{100}', '\u{205}', '\u{3A9}', '\u{416}', '\u{5D0}',
@@ -118,12 +120,20 @@ fn check_texts(rt: &impl Abort, alloc: Global, flavor: Flavor, len: usize) -> Re
     for number in 0..TEXTS {
         let (text, bytes) = text_and_bytes(alloc, flavor, number)?;
         assert_eq!(rt; text.len(), 16_380, "text {number}");
-        assert_eq!(rt; bytes.len(), len, "text {number}");
+        assert_eq!(rt; bytes.len(), len, "{flavor:?} of text {number}");
+        let told = encoded_len(flavor, text.as_str());
+        assert_eq!(rt; told, len, "{flavor:?} of text {number}");
+        let told = lossy_len(flavor, bytes.as_slice());
+        assert_eq!(rt;
+            told,
+            Some(16_380),
+            "back from {flavor:?}, of text {number}"
+        );
 
         let answer = encode(alloc, flavor, text.as_str())?;
         assert!(rt;
             answer.as_bytes() == bytes.as_slice(),
-            "encode of text {number}"
+            "encode to {flavor:?} of text {number}"
         );
         for decoder in [Decoder::Decode(flavor), Decoder::DecodeStrict(flavor)] {
             let result = decoder.call(alloc, bytes.as_slice());
@@ -137,11 +147,7 @@ fn check_texts(rt: &impl Abort, alloc: Global, flavor: Flavor, len: usize) -> Re
 }
 
 #[test]
-fn encodes_and_decodes_cesu8(rt: HostRuntime) -> Result<(), Fail> {
-    check_texts(&rt, rt.alloc(), Flavor::Cesu8, 19_656)
-}
-
-#[test]
-fn encodes_and_decodes_mutf8(rt: HostRuntime) -> Result<(), Fail> {
+fn encodes_and_decodes_mixed_texts(rt: HostRuntime) -> Result<(), Fail> {
+    check_texts(&rt, rt.alloc(), Flavor::Cesu8, 19_656)?;
     check_texts(&rt, rt.alloc(), Flavor::Mutf8, 20_475)
 }

@@ -1,9 +1,8 @@
 //! A text with characters of each width, once and many times over: U+0061, U+0205, U+20AC,
-//! U+10400, U+0000, U+07FF, U+FFFF and U+1F496.
+//! U+10400, U+0000, U+07FF, U+FFFF and U+1F496. tests/memory.sh reads the bytes here.
 
-use crate::decoders::{Decoder, Outcome, outcome_of};
-use crate::flavors::Flavor;
-use simd_cesu8::{encode, mutf8};
+use crate::helpers::decoders::{Decoder, Outcome, outcome_of};
+use crate::helpers::flavors::{Flavor, encode, encoded_len};
 use std::alloc::{AllocError, Global};
 use std::str;
 use std::test::Fail;
@@ -26,51 +25,36 @@ fn repeated(alloc: Global, bytes: &[u8], times: usize) -> Result<Vec<u8>, AllocE
     Ok(all)
 }
 
-#[test]
-fn encodes_and_decodes_cesu8(rt: HostRuntime) -> Result<(), Fail> {
-    for (times, len) in [(1, 24), (819, 19656)] {
-        let utf8 = repeated(rt.alloc(), &UTF8, times)?;
-        let text = str::from_utf8(utf8.as_slice())?;
-        let cesu8 = repeated(rt.alloc(), &CESU8, times)?;
-        assert_eq!(rt; cesu8.len(), len, "{times} times");
-
-        let answer = encode(rt.alloc(), text)?;
-        assert!(rt;
-            answer.as_bytes() == cesu8.as_slice(),
-            "encode, {times} times"
-        );
-        for decoder in [
-            Decoder::Decode(Flavor::Cesu8),
-            Decoder::DecodeStrict(Flavor::Cesu8),
-        ] {
-            let result = decoder.call(rt.alloc(), cesu8.as_slice());
-            assert!(rt;
-                outcome_of(&result) == Outcome::Owned(text),
-                "{decoder:?}, {times} times"
-            );
-        }
+/// The bytes of the pattern in an encoding.
+fn encoded(flavor: Flavor) -> &'static [u8] {
+    match flavor {
+        Flavor::Cesu8 => &CESU8,
+        Flavor::Mutf8 => &MUTF8,
     }
-    Ok(())
 }
 
 #[test]
-fn encodes_and_decodes_mutf8(rt: HostRuntime) -> Result<(), Fail> {
-    for (times, len) in [(1, 25), (819, 20475)] {
+fn encodes_and_decodes_the_pattern(rt: HostRuntime) -> Result<(), Fail> {
+    let rows = [
+        (Flavor::Cesu8, 1, 24),
+        (Flavor::Cesu8, 819, 19_656),
+        (Flavor::Mutf8, 1, 25),
+        (Flavor::Mutf8, 819, 20_475),
+    ];
+    for (flavor, times, len) in rows {
         let utf8 = repeated(rt.alloc(), &UTF8, times)?;
         let text = str::from_utf8(utf8.as_slice())?;
-        let mutf8 = repeated(rt.alloc(), &MUTF8, times)?;
-        assert_eq!(rt; mutf8.len(), len, "{times} times");
+        let bytes = repeated(rt.alloc(), encoded(flavor), times)?;
+        assert_eq!(rt; bytes.len(), len, "{flavor:?}, {times} times");
+        assert_eq!(rt; encoded_len(flavor, text), len, "{flavor:?}, {times} times");
 
-        let answer = mutf8::encode(rt.alloc(), text)?;
+        let answer = encode(rt.alloc(), flavor, text)?;
         assert!(rt;
-            answer.as_bytes() == mutf8.as_slice(),
-            "encode, {times} times"
+            answer.as_bytes() == bytes.as_slice(),
+            "encode to {flavor:?}, {times} times"
         );
-        for decoder in [
-            Decoder::Decode(Flavor::Mutf8),
-            Decoder::DecodeStrict(Flavor::Mutf8),
-        ] {
-            let result = decoder.call(rt.alloc(), mutf8.as_slice());
+        for decoder in [Decoder::Decode(flavor), Decoder::DecodeStrict(flavor)] {
+            let result = decoder.call(rt.alloc(), bytes.as_slice());
             assert!(rt;
                 outcome_of(&result) == Outcome::Owned(text),
                 "{decoder:?}, {times} times"

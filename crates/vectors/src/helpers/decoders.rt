@@ -1,6 +1,6 @@
 //! The calls that decode, to go over in a loop, and what they answer, to compare.
 
-use crate::flavors::{Flavor, decode, decode_strict};
+use crate::helpers::flavors::{Flavor, decode, decode_strict};
 use simd_cesu8::{CowText, DecodeFault};
 use std::alloc::Global;
 

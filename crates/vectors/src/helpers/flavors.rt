@@ -10,11 +10,38 @@ pub enum Flavor {
     Mutf8,
 }
 
+/// Each encoding.
+pub const FLAVORS: [Flavor; 2] = [Flavor::Cesu8, Flavor::Mutf8];
+
+/// The call that tells whether a text needs encoding.
+pub fn needs_encoded(flavor: Flavor, text: &str) -> bool {
+    match flavor {
+        Flavor::Cesu8 => simd_cesu8::needs_encoded(text),
+        Flavor::Mutf8 => mutf8::needs_encoded(text),
+    }
+}
+
 /// The call that encodes.
 pub fn encode(alloc: Global, flavor: Flavor, text: &str) -> Result<CowBytes<'_>, AllocError> {
     match flavor {
         Flavor::Cesu8 => simd_cesu8::encode(alloc, text),
         Flavor::Mutf8 => mutf8::encode(alloc, text),
+    }
+}
+
+/// The call that appends an encoding.
+pub fn encode_into(flavor: Flavor, text: &str, buf: &mut Vec<u8>) -> Result<(), AllocError> {
+    match flavor {
+        Flavor::Cesu8 => simd_cesu8::encode_into(text, buf),
+        Flavor::Mutf8 => mutf8::encode_into(text, buf),
+    }
+}
+
+/// The call that tells the length of an encoding.
+pub fn encoded_len(flavor: Flavor, text: &str) -> usize {
+    match flavor {
+        Flavor::Cesu8 => simd_cesu8::encoded_len(text),
+        Flavor::Mutf8 => mutf8::encoded_len(text),
     }
 }
 
@@ -59,5 +86,13 @@ pub fn decode_lossy(
     match flavor {
         Flavor::Cesu8 => simd_cesu8::decode_lossy(alloc, bytes),
         Flavor::Mutf8 => mutf8::decode_lossy(alloc, bytes),
+    }
+}
+
+/// The call that tells the length of a lossy reading.
+pub fn lossy_len(flavor: Flavor, bytes: &[u8]) -> Option<usize> {
+    match flavor {
+        Flavor::Cesu8 => simd_cesu8::lossy_len(bytes),
+        Flavor::Mutf8 => mutf8::lossy_len(bytes),
     }
 }

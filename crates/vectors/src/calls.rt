@@ -1,0 +1,187 @@
+//! One call, by its name, and what came of it.
+
+use crate::helpers::flavors;
+use crate::helpers::flavors::Flavor;
+use java_text::{ReadFault, WriteFault, read_utf, read_utf_lossy, write_utf};
+use simd_cesu8::{CowBytes, CowText, DecodeFault};
+use std::alloc::{AllocError, Global};
+use std::io::{ErrorKind, Write};
+use std::{io, str};
+
+/// Makes the call that the line names on the bytes, and prints what came of it.
+pub fn make(rt: &HostRuntime, line: &[u8], bytes: &[u8]) -> io::Result<()> {
+    let Some((call, flavor)) = parse(line) else {
+        return Err(ErrorKind::InvalidInput.into());
+    };
+    match call {
+        "decode" => tell_text(rt, flavors::decode(rt.alloc(), flavor, bytes)),
+        "decode_strict" => tell_text(rt, flavors::decode_strict(rt.alloc(), flavor, bytes)),
+        "decode_lossy" => tell_lossy(rt, flavors::decode_lossy(rt.alloc(), flavor, bytes)),
+        "decode_lossy_strict" => {
+            tell_lossy(rt, flavors::decode_lossy_strict(rt.alloc(), flavor, bytes))
+        }
+        "into_string" => make_into_string(rt, flavor, bytes),
+        "read_utf" => tell_read(rt, read_utf(rt.alloc(), bytes)),
+        "read_utf_lossy" => tell_read(rt, read_utf_lossy(rt.alloc(), bytes)),
+        _ => match str::from_utf8(bytes) {
+            Ok(text) => make_of_text(rt, call, flavor, text),
+            Err(_) => Err(ErrorKind::InvalidInput.into()),
+        },
+    }
+}
+
+/// The call and the encoding.
+fn parse(line: &[u8]) -> Option<(&str, Flavor)> {
+    let (call, flavor) = str::from_utf8(line).ok()?.split_once(' ')?;
+    match flavor {
+        "cesu8" => Some((call, Flavor::Cesu8)),
+        "mutf8" => Some((call, Flavor::Mutf8)),
+        _ => None,
+    }
+}
+
+/// Makes a call that takes a text.
+fn make_of_text(rt: &HostRuntime, call: &str, flavor: Flavor, text: &str) -> io::Result<()> {
+    match call {
+        "needs_encoded" => {
+            let needs = flavors::needs_encoded(flavor, text);
+            tell(rt, if needs { "yes" } else { "no" }, &[])
+        }
+        "encoded_len" => {
+            let len = flavors::encoded_len(flavor, text);
+            println!(rt; "{len}, {} more", granted(rt.alloc()))
+        }
+        "encode" => tell_bytes(rt, flavors::encode(rt.alloc(), flavor, text)),
+        "into_vec" => make_into_vec(rt, flavor, text),
+        "encode_into" => append(rt, Ok(Vec::new(rt.alloc())), flavor, text),
+        "encode_into_full" => {
+            let full = vec![in rt.alloc(); 1, 2].map_err(AllocError::from);
+            append(rt, full, flavor, text)
+        }
+        "encode_into_room" => {
+            let room = flavors::encoded_len(flavor, text);
+            append(rt, Vec::with_capacity(rt.alloc(), room), flavor, text)
+        }
+        "encode_into_less" => {
+            let room = flavors::encoded_len(flavor, text).saturating_sub(1);
+            append(rt, Vec::with_capacity(rt.alloc(), room), flavor, text)
+        }
+        "write_utf" => write(rt, Ok(Vec::new(rt.alloc())), text),
+        "write_utf_full" => {
+            let full = vec![in rt.alloc(); 1, 2].map_err(AllocError::from);
+            write(rt, full, text)
+        }
+        "write_utf_room" => {
+            let room = flavors::encoded_len(flavor, text).saturating_add(2);
+            write(rt, Vec::with_capacity(rt.alloc(), room), text)
+        }
+        "write_utf_less" => {
+            let room = flavors::encoded_len(flavor, text).saturating_add(1);
+            write(rt, Vec::with_capacity(rt.alloc(), room), text)
+        }
+        _ => Err(ErrorKind::InvalidInput.into()),
+    }
+}
+
+/// Appends to a buffer, if there is one, and prints its bytes, after a refusal too.
+fn append(
+    rt: &HostRuntime,
+    buf: Result<Vec<u8>, AllocError>,
+    flavor: Flavor,
+    text: &str,
+) -> io::Result<()> {
+    let Ok(mut buf) = buf else {
+        return tell(rt, "memory", &[]);
+    };
+    let outcome = match flavors::encode_into(flavor, text, &mut buf) {
+        Ok(()) => "appended",
+        Err(_) => "memory",
+    };
+    tell(rt, outcome, buf.as_slice())
+}
+
+/// Writes a Java string to a buffer, if there is one, and prints its bytes, after a refusal too.
+fn write(rt: &HostRuntime, buf: Result<Vec<u8>, AllocError>, text: &str) -> io::Result<()> {
+    let Ok(mut buf) = buf else {
+        return tell(rt, "memory", &[]);
+    };
+    let outcome = match write_utf(text, &mut buf) {
+        Ok(()) => "written",
+        Err(WriteFault::TooLong(_)) => "too_long",
+        Err(WriteFault::Memory) => "memory",
+    };
+    tell(rt, outcome, buf.as_slice())
+}
+
+/// Makes a vector of an encoder's answer.
+fn make_into_vec(rt: &HostRuntime, flavor: Flavor, text: &str) -> io::Result<()> {
+    let copied = match flavors::encode(rt.alloc(), flavor, text) {
+        Ok(answer) => answer.into_vec(rt.alloc()),
+        Err(error) => Err(error),
+    };
+    match copied {
+        Ok(bytes) => tell(rt, "owned", bytes.as_slice()),
+        Err(_) => tell(rt, "memory", &[]),
+    }
+}
+
+/// Makes a string of the answer of lenient decoding.
+fn make_into_string(rt: &HostRuntime, flavor: Flavor, bytes: &[u8]) -> io::Result<()> {
+    match flavors::decode(rt.alloc(), flavor, bytes) {
+        Ok(answer) => match answer.into_string(rt.alloc()) {
+            Ok(text) => tell(rt, "owned", text.as_bytes()),
+            Err(_) => tell(rt, "memory", &[]),
+        },
+        refused => tell_text(rt, refused),
+    }
+}
+
+fn tell_bytes(rt: &HostRuntime, answer: Result<CowBytes<'_>, AllocError>) -> io::Result<()> {
+    match answer {
+        Ok(CowBytes::Borrowed(bytes)) => tell(rt, "borrowed", bytes),
+        Ok(CowBytes::Owned(bytes)) => tell(rt, "owned", bytes.as_slice()),
+        Err(_) => tell(rt, "memory", &[]),
+    }
+}
+
+fn tell_text(rt: &HostRuntime, answer: Result<CowText<'_>, DecodeFault>) -> io::Result<()> {
+    match answer {
+        Ok(CowText::Borrowed(text)) => tell(rt, "borrowed", text.as_bytes()),
+        Ok(CowText::Owned(text)) => tell(rt, "owned", text.as_bytes()),
+        Err(DecodeFault::Invalid(_)) => tell(rt, "invalid", &[]),
+        Err(DecodeFault::Memory(_)) => tell(rt, "memory", &[]),
+    }
+}
+
+fn tell_lossy(rt: &HostRuntime, answer: Result<CowText<'_>, AllocError>) -> io::Result<()> {
+    tell_text(rt, answer.map_err(DecodeFault::Memory))
+}
+
+/// Prints the text, and then the bytes after it.
+fn tell_read(rt: &HostRuntime, answer: Result<(CowText<'_>, &[u8]), ReadFault>) -> io::Result<()> {
+    match answer {
+        Ok((text, rest)) => {
+            tell_text(rt, Ok(text))?;
+            io::writer(rt).write_all(rest)
+        }
+        Err(ReadFault::Truncated) => tell(rt, "truncated", &[]),
+        Err(ReadFault::Invalid(_)) => tell(rt, "invalid", &[]),
+        Err(ReadFault::Memory) => tell(rt, "memory", &[]),
+    }
+}
+
+/// Prints what came of a call, and what further requests come to.
+fn tell(rt: &HostRuntime, outcome: &str, bytes: &[u8]) -> io::Result<()> {
+    println!(rt; "{outcome}, {} more", granted(rt.alloc()))?;
+    io::writer(rt).write_all(bytes)
+}
+
+/// How many of three requests are granted before one is refused.
+fn granted(alloc: Global) -> u8 {
+    for number in 0..3 {
+        if Vec::<u8>::with_capacity(alloc, 1).is_err() {
+            return number;
+        }
+    }
+    3
+}
