@@ -109,11 +109,108 @@ run_cases() {
 
 device_failed='cesu8: input or output failed'
 
+bad_word=$'\xFF'
+
+# Every pair of words. An answer of each is a byte or more for the input 61, or for a Java string of it.
+every_pair() {
+    local command flavor
+    for command in encode needs decode decode-strict lossy lossy-strict; do
+        for flavor in cesu8 mutf8; do
+            "$@" "$command" "$flavor"
+        done
+    done
+    "$@" java-write mutf8
+    "$@" java-read mutf8
+}
+
 full_output() {
+    if [[ $1 == java-read ]]; then
+        bytes '00 01 61' >"$scratch/input"
+    else
+        bytes '61' >"$scratch/input"
+    fi
+    : >"$scratch/output"
+    "$program" "$1" "$2" <"$scratch/input" >/dev/full 2>"$scratch/error"
+    expect "output of $1 $2 to a full device" $? 4 '' "$device_failed"
+}
+
+# The only reader of the pipe at 4 is gone.
+closed_pipe() {
     bytes '61' >"$scratch/input"
     : >"$scratch/output"
-    "$program" encode cesu8 <"$scratch/input" >/dev/full 2>"$scratch/error"
-    expect 'output to a full device' $? 4 '' "$device_failed"
+    mkfifo "$scratch/pipe" && exec 3<>"$scratch/pipe" 4>"$scratch/pipe" 3>&-
+    "$program" encode cesu8 <"$scratch/input" >&4 2>"$scratch/error"
+    expect 'output to a closed pipe' $? 4 '' "$device_failed"
+    exec 4>&-
+    rm "$scratch/pipe"
+}
+
+closed_streams() {
+    bytes '61' >"$scratch/input"
+    "$program" encode cesu8 <&- >"$scratch/output" 2>"$scratch/error"
+    expect 'closed standard input' $? 4 '' "$device_failed"
+    : >"$scratch/output"
+    "$program" encode cesu8 <"$scratch/input" >&- 2>"$scratch/error"
+    expect 'closed standard output' $? 4 '' "$device_failed"
+    "$program" encode cesu8 </dev/null >&- 2>"$scratch/error"
+    expect 'closed standard output, and nothing to write' $? 0 '' ''
+    : >"$scratch/error"
+    "$program" encode cesu8 <"$scratch/input" >"$scratch/output" 2>&-
+    expect 'closed standard error' $? 0 '61' ''
+    "$program" encode utf9 <"$scratch/input" >"$scratch/output" 2>&-
+    expect 'closed standard error, and a line for it' $? 2 '' ''
+    "$program" encode cesu8 <&- >&- 2>&-
+    expect 'all three closed' $? 4 '' ''
+}
+
+# A pipe at 3 with nothing in it, whose reads and writes do not wait. `dd` sets that of the pipe itself,
+# so that it holds for the program too.
+open_pipe() {
+    mkfifo "$scratch/pipe" && exec 3<>"$scratch/pipe"
+    rm "$scratch/pipe"
+    dd iflag=nonblock count=0 status=none <&3
+}
+
+nothing_in_a_pipe() {
+    open_pipe
+    "$program" encode cesu8 <&3 >"$scratch/output" 2>"$scratch/error"
+    expect 'a pipe that does not wait, with nothing in it' $? 4 '' "$device_failed"
+    bytes '61 C8' >&3
+    "$program" encode cesu8 <&3 >"$scratch/output" 2>"$scratch/error"
+    expect 'a pipe that does not wait, with two bytes in it' $? 4 '' "$device_failed"
+    exec 3>&-
+}
+
+# After a failed write a beginning of the answer in $scratch/wanted stands in $scratch/long: `expect_begun
+# NAME GOT-STATUS`.
+expect_begun() {
+    local len
+    len=$(stat -c %s "$scratch/long")
+    : >"$scratch/output"
+    expect "$1, its status" "$2" 4 '' "$device_failed"
+    if ((len > 0 && len < $(stat -c %s "$scratch/wanted"))) &&
+        cmp -s -n "$len" "$scratch/long" "$scratch/wanted"; then
+        passed=$((passed + 1))
+    else
+        failed=$((failed + 1))
+        echo "wrong: $1, its bytes: $len of them"
+    fi
+}
+
+# Writes that fail after a part of the answer: to a pipe that does not wait, and that takes no more; and
+# to a file that may have no more than eight blocks.
+begun_output() {
+    million 'F0 9F 92 96' >"$scratch/input"
+    million 'ED A0 BD ED B2 96' >"$scratch/wanted"
+    open_pipe
+    "$program" encode cesu8 <"$scratch/input" >&3 2>"$scratch/error"
+    status=$?
+    cat <&3 >"$scratch/long" 2>/dev/null
+    exec 3>&-
+    expect_begun 'output to a pipe that takes no more' "$status"
+    (trap '' XFSZ && ulimit -f 8 && exec "$program" encode cesu8) \
+        <"$scratch/input" >"$scratch/long" 2>"$scratch/error"
+    expect_begun 'output to a file that may not grow' $?
 }
 
 folder_as_input() {
@@ -121,9 +218,30 @@ folder_as_input() {
     expect 'a folder as standard input' $? 4 '' "$device_failed"
 }
 
+# Wherever it stands, and however many words there are.
 argument_not_utf8() {
-    "$program" encode $'\xFF' </dev/null >"$scratch/output" 2>"$scratch/error"
-    expect 'an argument that is not UTF-8' $? 4 '' "$device_failed"
+    local words
+    for words in "encode $bad_word" "$bad_word cesu8" "$bad_word" "encode cesu8 $bad_word"; do
+        # shellcheck disable=SC2086
+        "$program" $words </dev/null >"$scratch/output" 2>"$scratch/error"
+        expect "an argument that is not UTF-8: ${words/$bad_word/FF}" $? 4 '' "$device_failed"
+    done
+}
+
+# None of these is read from, so their input goes to the output. Empty words stand in the cases.
+many_words() {
+    local words
+    read -r -a words < <(yes encode cesu8 | head -n 500 | tr '\n' ' ')
+    bytes '61 C8 85' >"$scratch/input"
+    {
+        "$program" "${words[@]}" 2>"$scratch/error"
+        status=$?
+        cat
+    } <"$scratch/input" >"$scratch/output"
+    expect 'a thousand words' "$status" 2 '61 C8 85' 'usage: cesu8_cli COMMAND FLAVOR'
+    "$program" encode "$(repeated 100000 '61')" <"$scratch/input" >"$scratch/output" \
+        2>"$scratch/error"
+    expect 'a long word' $? 2 '' 'usage: cesu8_cli COMMAND FLAVOR'
 }
 
 full_error() {
@@ -225,6 +343,47 @@ long_pairs() {
     done
 }
 
+# About the lengths where a read ends, 16,384 bytes, with a character of two bytes across each.
+file_lengths() {
+    local len
+    for len in 1 16383 16384 16385 32767 32768 32769 65536 65537; do
+        { bytes '61' && repeated 40000 'C8 85'; } | head -c $((len / 2 * 2 + 1)) >"$scratch/input"
+        cp "$scratch/input" "$scratch/wanted"
+        expect_long "a file of $((len / 2 * 2 + 1)) bytes" lossy-strict mutf8
+        head -c "$len" /dev/zero >"$scratch/input"
+        cp "$scratch/input" "$scratch/wanted"
+        expect_long "a file of $len nulls" decode-strict cesu8
+    done
+    { repeated 16383 '61' && bytes 'F0 9F'; } >"$scratch/input"
+    "$program" encode cesu8 <"$scratch/input" >"$scratch/output" 2>"$scratch/error"
+    expect 'a file that ends within a character' $? 1 '' 'cesu8: input is not UTF-8'
+}
+
+# Passes so many pieces of a megabyte on, with a pause after each: `slowly PIECES`.
+slowly() {
+    local piece
+    for ((piece = 0; piece < $1; piece++)); do
+        head -c 1000000
+        sleep 0.01
+    done
+}
+
+# Both ends wait for the program, and let it wait.
+slow_pipes() {
+    yes "$(bytes 'F0 9F 92 96')" | tr -d '\n' | head -c 64000000 >"$scratch/input"
+    yes "$(bytes 'ED A0 BD ED B2 96')" | tr -d '\n' | head -c 96000000 >"$scratch/wanted"
+    slowly 64 <"$scratch/input" | "$program" encode cesu8 2>"$scratch/error" | slowly 96 >"$scratch/long"
+    status=${PIPESTATUS[1]}
+    : >"$scratch/output"
+    expect '64 MB through slow pipes, its status' "$status" 0 '' ''
+    if cmp -s "$scratch/long" "$scratch/wanted"; then
+        passed=$((passed + 1))
+    else
+        failed=$((failed + 1))
+        echo "wrong: 64 MB through slow pipes, its bytes"
+    fi
+}
+
 # The longest Java string, 65,535 bytes after their count, and a text that has one byte more.
 java_strings() {
     { repeated 32767 '00' && bytes '61'; } >"$scratch/input"
@@ -304,12 +463,19 @@ little_memory() {
 
 build
 run_cases
-full_output
+every_pair full_output
+closed_pipe
+closed_streams
+nothing_in_a_pipe
+begun_output
 folder_as_input
 argument_not_utf8
+many_words
 full_error
 unread_input
 input_in_pieces
+file_lengths
+slow_pipes
 long_texts
 long_damage
 long_pairs

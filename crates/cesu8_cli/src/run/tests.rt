@@ -1,12 +1,12 @@
 mod commands;
 mod devices;
 mod memory;
+mod reading;
+mod writing;
 
-use self::devices::{Reader, WatchedWriter, WatchingReader, Writer};
+use self::devices::Reader;
 use super::*;
 use crate::fault::{fault_line, fault_status};
-use std::cell::Cell;
-use std::io::ErrorKind;
 
 /// What a user sees of an end: the status, and the line on standard error.
 fn shown(outcome: Result<(), RunFault>) -> (u8, &'static str) {
@@ -34,25 +34,42 @@ const OUT_OF_MEMORY: (u8, &str) = (3, "cesu8: out of memory");
 
 const FAILED: (u8, &str) = (4, "cesu8: input or output failed");
 
-/// U+0061 and U+0205, which have the same bytes in all three.
-const TEXT: &[u8] = b"a\xC8\x85";
-
 /// Every pair of words, an input of it, and what it writes.
 const PAIRS: [(&[&str], &[u8], &[u8]); 14] = [
-    (&["encode", "cesu8"], TEXT, TEXT),
-    (&["encode", "mutf8"], TEXT, TEXT),
-    (&["needs", "cesu8"], TEXT, b"no\n"),
-    (&["needs", "mutf8"], TEXT, b"no\n"),
-    (&["decode", "cesu8"], TEXT, TEXT),
-    (&["decode", "mutf8"], TEXT, TEXT),
-    (&["decode-strict", "cesu8"], TEXT, TEXT),
-    (&["decode-strict", "mutf8"], TEXT, TEXT),
-    (&["lossy", "cesu8"], TEXT, TEXT),
-    (&["lossy", "mutf8"], TEXT, TEXT),
-    (&["lossy-strict", "cesu8"], TEXT, TEXT),
-    (&["lossy-strict", "mutf8"], TEXT, TEXT),
-    (&["java-write", "mutf8"], TEXT, b"\x00\x03a\xC8\x85"),
-    (&["java-read", "mutf8"], b"\x00\x03a\xC8\x85", TEXT),
+    (
+        &["encode", "cesu8"],
+        b"a\xF4\x8F\xBF\xBF",
+        b"a\xED\xAF\xBF\xED\xBF\xBF",
+    ),
+    (&["encode", "mutf8"], b"a\x00\xC8\x85", b"a\xC0\x80\xC8\x85"),
+    (&["needs", "cesu8"], b"a\xC8\x85", b"no\n"),
+    (&["needs", "mutf8"], b"a\x00", b"yes\n"),
+    (
+        &["decode", "cesu8"],
+        b"a\xED\xA0\xBD\xED\xB2\x96",
+        b"a\xF0\x9F\x92\x96",
+    ),
+    (
+        &["decode", "mutf8"],
+        b"\x00\xF0\x9F\x92\x96",
+        b"\x00\xF0\x9F\x92\x96",
+    ),
+    (&["decode-strict", "cesu8"], b"a\xC8\x85", b"a\xC8\x85"),
+    (&["decode-strict", "mutf8"], b"a\xC0\x80", b"a\x00"),
+    (
+        &["lossy", "cesu8"],
+        b"\xF0\x9F\x92\x96",
+        b"\xF0\x9F\x92\x96",
+    ),
+    (&["lossy", "mutf8"], b"\xC0\x80\xFF", b"\x00\xEF\xBF\xBD"),
+    (
+        &["lossy-strict", "cesu8"],
+        b"\xE2\x82A",
+        b"\xEF\xBF\xBD\xEF\xBF\xBDA",
+    ),
+    (&["lossy-strict", "mutf8"], b"a\x00", b"a\xEF\xBF\xBD"),
+    (&["java-write", "mutf8"], b"a\x00", b"\x00\x03a\xC0\x80"),
+    (&["java-read", "mutf8"], b"\x00\x03a\xC0\x80", b"a\x00"),
 ];
 
 #[test]
@@ -86,97 +103,11 @@ fn tests_words_first(rt: HostRuntime) {
         &["java-read", "cesu8"],
     ];
     for words in cases {
-        let mut input = Reader::new(b"", ErrorKind::Other);
+        let mut input = Reader::new(b"");
         let mut output = Vec::new(rt.alloc());
         let result = run(rt.alloc(), words, &mut input, &mut output);
         assert_eq!(rt; shown(result), USAGE, "at {words:?}");
         assert_eq!(rt; input.reads(), 0, "at {words:?}");
         assert!(rt; output.is_empty(), "at {words:?}");
-    }
-}
-
-#[test]
-fn reads_to_the_end_before_it_writes(rt: HostRuntime) {
-    for (words, bytes, written) in PAIRS {
-        let is_asked = Cell::new(false);
-        let mut input = WatchingReader::new(bytes, &is_asked);
-        let mut output = WatchedWriter::new(&is_asked);
-        let result = run(rt.alloc(), words, &mut input, &mut output);
-        assert_eq!(rt; shown(result), DONE, "at {words:?}");
-        assert_eq!(rt; output.kept(), written, "at {words:?}");
-        // One for each byte, and one that tells the end.
-        assert_eq!(rt;
-            Some(input.reads()),
-            bytes.len().checked_add(1),
-            "at {words:?}"
-        );
-    }
-}
-
-#[test]
-fn flushes_once_after_the_answer(rt: HostRuntime) {
-    for (words, bytes, written) in PAIRS {
-        let mut input = bytes;
-        let mut output = Writer::new().at_most(2);
-        let result = run(rt.alloc(), words, &mut input, &mut output);
-        assert_eq!(rt; shown(result), DONE, "at {words:?}");
-        assert_eq!(rt; output.flushed(), written, "at {words:?}");
-        assert_eq!(rt; output.kept(), written, "at {words:?}");
-        assert_eq!(rt; output.flushes(), 1, "at {words:?}");
-    }
-}
-
-#[test]
-fn flushes_an_empty_answer(rt: HostRuntime) {
-    for command in ["encode", "decode", "decode-strict", "lossy", "lossy-strict"] {
-        for flavor in ["cesu8", "mutf8"] {
-            let mut input: &[u8] = b"";
-            let mut output = Writer::new();
-            let result = run(rt.alloc(), &[command, flavor], &mut input, &mut output);
-            assert_eq!(rt; shown(result), DONE, "at {command} {flavor}");
-            assert_eq!(rt; output.kept(), b"".as_slice(), "at {command} {flavor}");
-            assert_eq!(rt; output.flushes(), 1, "at {command} {flavor}");
-        }
-    }
-}
-
-#[test]
-fn stops_at_a_failed_read(rt: HostRuntime) {
-    for kind in [
-        ErrorKind::Other,
-        ErrorKind::Interrupted,
-        ErrorKind::UnexpectedEof,
-    ] {
-        let mut input = Reader::new(b"a\xF4", kind);
-        let mut output = Vec::new(rt.alloc());
-        let result = run(rt.alloc(), &["encode", "cesu8"], &mut input, &mut output);
-        assert_eq!(rt; shown(result), FAILED, "at {kind:?}");
-        assert_eq!(rt; input.reads(), 2, "at {kind:?}");
-        assert!(rt; output.is_empty(), "at {kind:?}");
-    }
-}
-
-#[test]
-fn writes_to_slow_and_failing_writers(rt: HostRuntime) {
-    let whole: &[u8] = b"a\xED\xAF\xBF\xED\xBF\xBF";
-    let cases: [(&str, Writer, (u8, &str), &[u8], usize); 5] = [
-        ("one byte a call", Writer::new().at_most(1), DONE, whole, 1),
-        (
-            "three bytes, then an error",
-            Writer::new().room(3),
-            FAILED,
-            b"a\xED\xAF",
-            0,
-        ),
-        ("an error at once", Writer::new().room(0), FAILED, b"", 0),
-        ("no byte", Writer::new().at_most(0), FAILED, b"", 0),
-        ("a failed flush", Writer::new().no_flush(), FAILED, whole, 1),
-    ];
-    for (name, mut output, want, kept, flushes) in cases {
-        let mut input: &[u8] = b"a\xF4\x8F\xBF\xBF";
-        let result = run(rt.alloc(), &["encode", "cesu8"], &mut input, &mut output);
-        assert_eq!(rt; shown(result), want, "at {name}");
-        assert_eq!(rt; output.kept(), kept, "at {name}");
-        assert_eq!(rt; output.flushes(), flushes, "at {name}");
     }
 }

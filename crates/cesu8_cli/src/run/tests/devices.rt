@@ -1,4 +1,4 @@
-//! Readers and writers that fail, or watch. They claim nothing of their bytes, and take no memory.
+//! Readers and writers that fail, are slow, or watch. They take no memory.
 
 use std::cell::Cell;
 use std::io::{Error, ErrorKind, Read, Result, Write};
@@ -6,21 +6,81 @@ use std::io::{Error, ErrorKind, Read, Result, Write};
 /// How many bytes a `Writer` can keep.
 const SIZE: usize = 16;
 
-/// Gives its bytes, and then fails at each read.
+/// Every kind of error.
+pub const KINDS: [ErrorKind; 42] = [
+    ErrorKind::NotFound,
+    ErrorKind::PermissionDenied,
+    ErrorKind::ConnectionRefused,
+    ErrorKind::ConnectionReset,
+    ErrorKind::HostUnreachable,
+    ErrorKind::NetworkUnreachable,
+    ErrorKind::ConnectionAborted,
+    ErrorKind::NotConnected,
+    ErrorKind::AddrInUse,
+    ErrorKind::AddrNotAvailable,
+    ErrorKind::NetworkDown,
+    ErrorKind::BrokenPipe,
+    ErrorKind::AlreadyExists,
+    ErrorKind::WouldBlock,
+    ErrorKind::NotADirectory,
+    ErrorKind::IsADirectory,
+    ErrorKind::DirectoryNotEmpty,
+    ErrorKind::ReadOnlyFilesystem,
+    ErrorKind::FilesystemLoop,
+    ErrorKind::StaleNetworkFileHandle,
+    ErrorKind::InvalidInput,
+    ErrorKind::InvalidData,
+    ErrorKind::TimedOut,
+    ErrorKind::WriteZero,
+    ErrorKind::StorageFull,
+    ErrorKind::NotSeekable,
+    ErrorKind::QuotaExceeded,
+    ErrorKind::FileTooLarge,
+    ErrorKind::ResourceBusy,
+    ErrorKind::ExecutableFileBusy,
+    ErrorKind::Deadlock,
+    ErrorKind::CrossesDevices,
+    ErrorKind::TooManyLinks,
+    ErrorKind::InvalidFilename,
+    ErrorKind::ArgumentListTooLong,
+    ErrorKind::Interrupted,
+    ErrorKind::Unsupported,
+    ErrorKind::UnexpectedEof,
+    ErrorKind::OutOfMemory,
+    ErrorKind::InProgress,
+    ErrorKind::Other,
+    ErrorKind::Uncategorized,
+];
+
+/// Gives its bytes, and then at each read its end, or an error.
 #[derive(Drop)]
 pub struct Reader<'a> {
     rest: &'a [u8],
-    kind: ErrorKind,
+    most: usize,
+    error: Option<ErrorKind>,
     reads: usize,
 }
 
 impl<'a> Reader<'a> {
-    pub fn new(bytes: &'a [u8], kind: ErrorKind) -> Reader<'a> {
+    pub fn new(bytes: &'a [u8]) -> Reader<'a> {
         Reader {
             rest: bytes,
-            kind,
+            most: usize::MAX,
+            error: None,
             reads: 0,
         }
+    }
+
+    /// Gives at most this many bytes a read.
+    pub fn at_most(mut self, most: usize) -> Reader<'a> {
+        self.most = most;
+        self
+    }
+
+    /// Fails after its bytes.
+    pub fn fails(mut self, kind: ErrorKind) -> Reader<'a> {
+        self.error = Some(kind);
+        self
     }
 
     /// How many reads it was asked for.
@@ -32,26 +92,51 @@ impl<'a> Reader<'a> {
 impl<'a> Read for Reader<'a> {
     fn read(&mut self, buf: &mut [u8]) -> Result<usize> {
         self.reads = self.reads.saturating_add(1);
-        let count = self.rest.len().min(buf.len());
-        if count == 0 {
-            return Err(Error::from(self.kind));
+        if self.rest.is_empty() {
+            return match self.error {
+                Some(kind) => Err(Error::from(kind)),
+                None => Ok(0),
+            };
         }
+        let count = self.rest.len().min(buf.len()).min(self.most);
         buf[..count].copy_from_slice(&self.rest[..count]);
         self.rest = &self.rest[count..];
         Ok(count)
     }
 }
 
-/// Keeps what it takes, and fails where it has no more room.
+/// Tells once that it gave so many bytes, or as many as were asked for, and writes none of them.
+#[derive(Drop)]
+pub struct ClaimingReader {
+    claimed: usize,
+}
+
+impl ClaimingReader {
+    pub fn new(claimed: usize) -> ClaimingReader {
+        ClaimingReader { claimed }
+    }
+}
+
+impl Read for ClaimingReader {
+    fn read(&mut self, buf: &mut [u8]) -> Result<usize> {
+        let count = self.claimed.min(buf.len());
+        self.claimed = 0;
+        Ok(count)
+    }
+}
+
+/// Keeps what it takes. Where it has no more room, it fails or takes nothing.
 #[derive(Drop)]
 pub struct Writer {
     bytes: [u8; SIZE],
     len: usize,
     room: usize,
     most: usize,
+    full: Option<ErrorKind>,
+    no_flush: Option<ErrorKind>,
+    writes: usize,
     flushes: usize,
     flushed: usize,
-    can_flush: bool,
 }
 
 impl Writer {
@@ -61,9 +146,11 @@ impl Writer {
             len: 0,
             room: SIZE,
             most: SIZE,
+            full: None,
+            no_flush: None,
+            writes: 0,
             flushes: 0,
             flushed: 0,
-            can_flush: true,
         }
     }
 
@@ -79,9 +166,15 @@ impl Writer {
         self
     }
 
+    /// Fails where it has no more room.
+    pub fn fails(mut self, kind: ErrorKind) -> Writer {
+        self.full = Some(kind);
+        self
+    }
+
     /// Fails at each flush.
-    pub fn no_flush(mut self) -> Writer {
-        self.can_flush = false;
+    pub fn no_flush(mut self, kind: ErrorKind) -> Writer {
+        self.no_flush = Some(kind);
         self
     }
 
@@ -95,6 +188,11 @@ impl Writer {
         self.bytes.get(..self.flushed).unwrap_or(&[])
     }
 
+    /// How many writes it was asked for.
+    pub fn writes(&self) -> usize {
+        self.writes
+    }
+
     /// How many flushes it was asked for.
     pub fn flushes(&self) -> usize {
         self.flushes
@@ -103,8 +201,12 @@ impl Writer {
 
 impl Write for Writer {
     fn write(&mut self, buf: &[u8]) -> Result<usize> {
+        self.writes = self.writes.saturating_add(1);
         if self.room == 0 {
-            return Err(Error::from(ErrorKind::StorageFull));
+            return match self.full {
+                Some(kind) => Err(Error::from(kind)),
+                None => Ok(0),
+            };
         }
         let count = buf.len().min(self.most).min(self.room);
         self.room -= count;
@@ -121,10 +223,9 @@ impl Write for Writer {
     fn flush(&mut self) -> Result<()> {
         self.flushes = self.flushes.saturating_add(1);
         self.flushed = self.len;
-        if self.can_flush {
-            Ok(())
-        } else {
-            Err(Error::from(ErrorKind::BrokenPipe))
+        match self.no_flush {
+            Some(kind) => Err(Error::from(kind)),
+            None => Ok(()),
         }
     }
 }
