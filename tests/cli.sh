@@ -111,7 +111,7 @@ device_failed='cesu8: input or output failed'
 
 bad_word=$'\xFF'
 
-# Every pair of words. An answer of each is a byte or more for the input 61, or for a Java string of it.
+# Runs a command for every pair of words, with these words: `every_pair COMMAND..`.
 every_pair() {
     local command flavor
     for command in encode needs decode decode-strict lossy lossy-strict; do
@@ -163,8 +163,8 @@ closed_streams() {
     expect 'all three closed' $? 4 '' ''
 }
 
-# A pipe at 3 with nothing in it, whose reads and writes do not wait. `dd` sets that of the pipe itself,
-# so that it holds for the program too.
+# A pipe at 3 with nothing in it, whose reads and writes do not wait. `dd` sets that of the pipe
+# itself, so that it holds for the program too.
 open_pipe() {
     mkfifo "$scratch/pipe" && exec 3<>"$scratch/pipe"
     rm "$scratch/pipe"
@@ -181,8 +181,8 @@ nothing_in_a_pipe() {
     exec 3>&-
 }
 
-# After a failed write a beginning of the answer in $scratch/wanted stands in $scratch/long: `expect_begun
-# NAME GOT-STATUS`.
+# After a failed write a beginning of the answer in $scratch/wanted stands in $scratch/long:
+# `expect_begun NAME GOT-STATUS`.
 expect_begun() {
     local len
     len=$(stat -c %s "$scratch/long")
@@ -197,8 +197,8 @@ expect_begun() {
     fi
 }
 
-# Writes that fail after a part of the answer: to a pipe that does not wait, and that takes no more; and
-# to a file that may have no more than eight blocks.
+# Writes that fail after a part of the answer: to a pipe that does not wait and is full, and to a
+# file that may have no more than eight blocks.
 begun_output() {
     million 'F0 9F 92 96' >"$scratch/input"
     million 'ED A0 BD ED B2 96' >"$scratch/wanted"
@@ -372,7 +372,8 @@ slowly() {
 slow_pipes() {
     yes "$(bytes 'F0 9F 92 96')" | tr -d '\n' | head -c 64000000 >"$scratch/input"
     yes "$(bytes 'ED A0 BD ED B2 96')" | tr -d '\n' | head -c 96000000 >"$scratch/wanted"
-    slowly 64 <"$scratch/input" | "$program" encode cesu8 2>"$scratch/error" | slowly 96 >"$scratch/long"
+    slowly 64 <"$scratch/input" | "$program" encode cesu8 2>"$scratch/error" |
+        slowly 96 >"$scratch/long"
     status=${PIPESTATUS[1]}
     : >"$scratch/output"
     expect '64 MB through slow pipes, its status' "$status" 0 '' ''

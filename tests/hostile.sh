@@ -1,24 +1,23 @@
 #!/usr/bin/env bash
-# Runs the built program on 64 MB of bytes that are bad to read, of six kinds, for every pair of words:
-# halves of surrogate pairs, characters of four bytes, bytes of no character, pairs that are cut, nulls and
-# noise. The table below says what has to come. The answers are written here from the table of the encoded
+# Runs the built program for every pair of words on 64 MB of each kind of hostile bytes. The table
+# below says what has to come. The answers are written here, from the table of the encoded
 # characters, and compared byte for byte.
 #
-# Each run has a limit on memory: what the vector of the input has grown to, which is the next power of two,
-# and the one request for the answer, with a fifth to spare. Each is run again with nothing to spare, so
-# that there is no room for the program itself: then it has to end for want of memory, and to write
-# nothing. So the limit is not above need by more than that fifth.
+# Each run has a limit on memory: what the vector of the input has grown to, which is the next power
+# of two, and the one request for the answer, with a fifth to spare. Each is run again with nothing
+# to spare, so that there is no room for the program itself: then it has to end for want of memory,
+# and to write nothing. So the limit is not above need by more than that fifth.
 #
 # | command | the request for the answer |
 # |---|---|
-# | `encode`, `lossy`, `lossy-strict` | none where the answer is the input, else exactly the answer |
-# | `decode`, `decode-strict` | none where the answer is the input, else the input's length |
+# | `encode`, `lossy`, `lossy-strict` | none where the answer is the input, else its length |
+# | `decode`, `decode-strict` | none where the answer is the input, else that of the input |
 # | `needs` | none |
 # | `java-write` | none, since the text is too long |
 # | `java-read` | the bytes that the first two count, 65,535 at most |
 #
-# It prints what is wrong, and ends with the counts. The status is 0 where nothing is wrong. It needs the
-# kit's `rt`, bash, awk and the core utilities, and half a gigabyte for its files.
+# It prints what is wrong, and ends with the counts. The status is 0 where nothing is wrong. It
+# needs the kit's `rt`, bash, awk and the core utilities, and half a gigabyte for its files.
 set -u
 unset CDPATH
 export LC_ALL=C
@@ -28,6 +27,8 @@ scratch=$(mktemp -d) || exit 2
 trap 'rm -rf "$scratch"' EXIT
 # shellcheck source=tests/program.sh
 source "$top/tests/program.sh" || exit 2
+# shellcheck source=tests/hostile_bytes.sh
+source "$top/tests/hostile_bytes.sh" || exit 2
 
 passed=0
 failed=0
@@ -36,58 +37,23 @@ failed=0
 length=64000000
 capacity=67108864
 
-# What each command has to answer to an input. `same` is the input itself, and the other names of answers
-# are those of the files that `write_answers` makes.
+# What each command has to answer to an input. `same` is the input itself, and the other names of
+# answers are those of the files that `write_answers` makes.
 table='
-input  flavor  encode    needs     decode   decode-strict  lossy      lossy-strict  java-write  java-read
-half   cesu8   not_utf8  not_utf8  invalid  invalid        replaced   replaced      -           -
-half   mutf8   not_utf8  not_utf8  invalid  invalid        replaced   replaced      not_utf8    invalid
-four   cesu8   pairs     yes       same     invalid        same       replaced      -           -
-four   mutf8   pairs     yes       same     invalid        same       replaced      too_long    invalid
-lead   cesu8   not_utf8  not_utf8  invalid  invalid        replaced   replaced      -           -
-lead   mutf8   not_utf8  not_utf8  invalid  invalid        replaced   replaced      not_utf8    invalid
-cut    cesu8   not_utf8  not_utf8  invalid  invalid        replaced   replaced      -           -
-cut    mutf8   not_utf8  not_utf8  invalid  invalid        replaced   replaced      not_utf8    invalid
-null   cesu8   same      no        same     same           same       same          -           -
-null   mutf8   nulls     yes       same     invalid        same       replaced      too_long    trailing
-noise  cesu8   not_utf8  not_utf8  invalid  invalid        cesu8      cesu8         -           -
-noise  mutf8   not_utf8  not_utf8  invalid  invalid        mutf8      mutf8         not_utf8    invalid
+input flavor encode   needs    decode  decode-strict lossy    lossy-strict java-write java-read
+half  cesu8  not_utf8 not_utf8 invalid invalid       replaced replaced     -          -
+half  mutf8  not_utf8 not_utf8 invalid invalid       replaced replaced     not_utf8   invalid
+four  cesu8  pairs    yes      same    invalid       same     replaced     -          -
+four  mutf8  pairs    yes      same    invalid       same     replaced     too_long   invalid
+lead  cesu8  not_utf8 not_utf8 invalid invalid       replaced replaced     -          -
+lead  mutf8  not_utf8 not_utf8 invalid invalid       replaced replaced     not_utf8   invalid
+cut   cesu8  not_utf8 not_utf8 invalid invalid       replaced replaced     -          -
+cut   mutf8  not_utf8 not_utf8 invalid invalid       replaced replaced     not_utf8   invalid
+null  cesu8  same     no       same    same          same     same         -          -
+null  mutf8  nulls    yes      same    invalid       same     replaced     too_long   trailing
+noise cesu8  not_utf8 not_utf8 invalid invalid       cesu8    cesu8        -          -
+noise mutf8  not_utf8 not_utf8 invalid invalid       mutf8    mutf8        not_utf8   invalid
 '
-
-# The first so many bytes of these ones again and again: `repeated LENGTH BYTES`, the bytes as printf
-# takes them.
-repeated() {
-    # shellcheck disable=SC2059
-    yes "$(printf "$2")" | tr -d '\n' | head -c "$1"
-}
-
-# The file's bytes 64 times.
-times_64() {
-    local time
-    for ((time = 0; time < 64; time++)); do
-        cat "$1"
-    done
-}
-
-# The bytes that a program of awk prints, as \0 and three octal digits each.
-awk_bytes() {
-    printf '%b' "$(awk "$@")"
-}
-
-# A million bytes, the same in each run: any ones at first, and then those of which characters are cut and
-# pairs are made. The last is a letter, so no character goes from one million into the next.
-noise() {
-    awk_bytes 'BEGIN {
-        many = split("0 65 128 150 160 178 189 191 192 194 223 224 237 239 240 244", some)
-        random = 1
-        for (at = 1; at < 1000000; at++) {
-            random = random * 16807 % 2147483647
-            byte = int(random / 8192) % 256
-            printf "\\0%03o", at <= 500000 ? byte : some[byte % many + 1]
-        }
-        printf "\\0%03o", 97
-    }'
-}
 
 # The lossy reading of the bytes that come as numbers, a line each: `reading FLAVOR`.
 reading() {
@@ -144,30 +110,21 @@ write_answers() {
 
 # The input, and the answers that it alone has: `write_input NAME`.
 write_input() {
-    rm -f "$scratch"/{input,pairs,nulls,cesu8,mutf8}
+    rm -f "$scratch"/{pairs,nulls,cesu8,mutf8}
+    hostile_bytes "$1" "$length" >"$scratch/input"
     case $1 in
-        half) repeated "$length" '\xED\xA0\xBD' ;;
-        four)
-            repeated "$length" '\xF4\x8F\xBF\xBF'
-            repeated $((length / 4 * 6)) '\xED\xAF\xBF\xED\xBF\xBF' >"$scratch/pairs"
-            ;;
-        lead) repeated "$length" '\xC0' ;;
-        cut) repeated "$length" '\xED\xA0' ;;
-        null)
-            head -c "$length" /dev/zero
-            repeated $((length * 2)) '\xC0\x80' >"$scratch/nulls"
-            ;;
-        noise) write_noise ;;
-    esac >"$scratch/input"
+        four) repeated $((length / 4 * 6)) '\xED\xAF\xBF\xED\xBF\xBF' >"$scratch/pairs" ;;
+        null) repeated $((length * 2)) '\xC0\x80' >"$scratch/nulls" ;;
+        noise) write_readings ;;
+    esac
 }
 
-write_noise() {
+# Of noise, the readings of one million, as often as it stands in the input.
+write_readings() {
     local flavor
-    noise >"$scratch/part"
-    times_64 "$scratch/part"
     for flavor in cesu8 mutf8; do
-        od -An -v -tu1 -w1 "$scratch/part" | reading "$flavor" >"$scratch/read"
-        times_64 "$scratch/read" >"$scratch/$flavor"
+        od -An -v -tu1 -w1 "$scratch/million" | reading "$flavor" >"$scratch/read"
+        copies $((length / 1000000)) "$scratch/read" >"$scratch/$flavor"
     done
 }
 
@@ -209,8 +166,8 @@ expect() {
 
 # Runs what a row of the table asks for: `run_row INPUT FLAVOR OUTCOME..`.
 run_row() {
-    local flavor=$2 commands=(encode needs decode decode-strict lossy lossy-strict java-write java-read)
-    local command
+    local commands=(encode needs decode decode-strict lossy lossy-strict java-write java-read)
+    local command flavor=$2
     if [[ $input != "$1" ]]; then
         input=$1
         write_input "$input"

@@ -1,0 +1,60 @@
+#!/usr/bin/env bash
+# Times the built program on hostile bytes of 1, 10 and 100 MB, in milliseconds, with the process,
+# its reading and its writing, and prints how many times as long 100 MB take as 10 MB:
+#   bench/growth.sh [ROUNDS]
+# The best of the rounds counts, 3 if they are left out. README.md says more. It needs the kit's rt,
+# bash, awk and the core utilities.
+set -eu
+export LC_ALL=C
+
+top=$(cd "$(dirname "${BASH_SOURCE[0]}")/.." && pwd)
+scratch=$(mktemp -d)
+trap 'rm -rf "$scratch"' EXIT
+# shellcheck source=tests/program.sh
+source "$top/tests/program.sh"
+# shellcheck source=tests/hostile_bytes.sh
+source "$top/tests/hostile_bytes.sh"
+
+rounds=${1:-3}
+lengths=(1000000 10000000 100000000)
+
+# The best time of a command on a file, in microseconds: `best_time COMMAND FILE`.
+best_time() {
+    local round start took best=''
+    for ((round = 0; round < rounds; round++)); do
+        start=${EPOCHREALTIME/./}
+        "$program" "$1" mutf8 <"$2" >/dev/null 2>&1 || true
+        took=$((${EPOCHREALTIME/./} - start))
+        if [[ -z $best ]] || ((took < best)); then
+            best=$took
+        fi
+    done
+    echo "$best"
+}
+
+# A line of the table: `print_row KIND COMMAND`.
+print_row() {
+    local length times=()
+    for length in "${lengths[@]}"; do
+        times+=("$(best_time "$2" "$scratch/$length")")
+    done
+    awk -v kind="$1" -v command="$2" 'BEGIN {
+        printf "| %s | `%s` | %.1f | %.1f | %.1f | %.1f |\n",
+            kind, command, ARGV[1] / 1000, ARGV[2] / 1000, ARGV[3] / 1000, ARGV[3] / ARGV[2]
+    }' "${times[@]}"
+}
+
+build >&2
+processor=$(grep -m 1 'model name' /proc/cpuinfo | sed 's/.*: //')
+echo "$(date +%F), $processor, MUTF-8, best of $rounds rounds"
+echo
+echo '| bytes | command | 1 MB | 10 MB | 100 MB | 100 to 10 |'
+echo '|---|---|--:|--:|--:|--:|'
+for kind in half four lead cut null noise; do
+    for length in "${lengths[@]}"; do
+        hostile_bytes "$kind" "$length" >"$scratch/$length"
+    done
+    for command in encode needs decode decode-strict lossy lossy-strict java-write java-read; do
+        print_row "$kind" "$command"
+    done
+done
