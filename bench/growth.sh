@@ -1,6 +1,7 @@
 #!/usr/bin/env bash
-# Times the built program on hostile bytes of 1, 10 and 100 MB, in milliseconds, with the process,
-# its reading and its writing, and prints how many times as long 100 MB take as 10 MB:
+# Measures the built program on hostile bytes of 1, 10 and 100 MB: the processor's time that its
+# process takes, in milliseconds, with its reading and writing, and how many times as much 100 MB
+# take as 10 MB:
 #   bench/growth.sh [ROUNDS]
 # The best of the rounds counts, 3 if they are left out. README.md says more. It needs the kit's rt,
 # bash, awk and the core utilities.
@@ -18,13 +19,13 @@ source "$top/tests/hostile_bytes.sh"
 rounds=${1:-3}
 lengths=(1000000 10000000 100000000)
 
-# The best time of a command on a file, in microseconds: `best_time COMMAND FILE`.
+# The best time of a command on a file: `best_time COMMAND FILE`.
 best_time() {
-    local round start took best=''
+    local round took user system best='' TIMEFORMAT='%3U %3S'
     for ((round = 0; round < rounds; round++)); do
-        start=${EPOCHREALTIME/./}
-        "$program" "$1" mutf8 <"$2" >/dev/null 2>&1 || true
-        took=$((${EPOCHREALTIME/./} - start))
+        took=$({ time "$program" "$1" mutf8 <"$2" >/dev/null 2>&1 || true; } 2>&1)
+        read -r user system <<<"$took"
+        took=$((10#${user/./} + 10#${system/./}))
         if [[ -z $best ]] || ((took < best)); then
             best=$took
         fi
@@ -39,8 +40,9 @@ print_row() {
         times+=("$(best_time "$2" "$scratch/$length")")
     done
     awk -v kind="$1" -v command="$2" 'BEGIN {
-        printf "| %s | `%s` | %.1f | %.1f | %.1f | %.1f |\n",
-            kind, command, ARGV[1] / 1000, ARGV[2] / 1000, ARGV[3] / 1000, ARGV[3] / ARGV[2]
+        growth = ARGV[2] ? sprintf("%.1f", ARGV[3] / ARGV[2]) : "–"
+        printf "| %s | `%s` | %d | %d | %d | %s |\n",
+            kind, command, ARGV[1], ARGV[2], ARGV[3], growth
     }' "${times[@]}"
 }
 
