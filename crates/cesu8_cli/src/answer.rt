@@ -1,6 +1,6 @@
 //! The whole answer to a command, from the whole input.
 
-ghost use Rattle.std.specs.Prelude.{◌≡◌, ◌≢◌, ◌⊎◌, IfOk, IfErr, Ok, Err};
+ghost use Rattle.std.specs.Prelude.{◌≡◌, ◌≢◌, ◌⊎◌, [], IfOk, IfErr, Ok, Err};
 ghost use Rattle.std.specs.Str.{chars};
 ghost use Rattle.simd_cesu8.specs.Text.{utf8, IsUtf8Of};
 ghost use Rattle.simd_cesu8.specs.Reading.{IsStrictReading, IsLenientReading, reading, IsLenientLossyReading};
@@ -23,6 +23,7 @@ pub fn answer(alloc: Global, command: Command, input: &[u8]) -> Result<CowBytes<
     ensures err { IfErr result (λ fault.
         (fault ≡ RunFault.Memory) ⊎ IsAnswer command input.now (Err fault)) }
     ensures memory { TakesNoMemory command input.now → result ≢ Err RunFault.Memory }
+    ensures empty { input.now ≡ [] → result ≡ Err RunFault.Memory → command ≡ Command.JavaWrite }
     ensures faults { IfErr result (λ fault. (fault ≡ RunFault.Memory) ⊎ IsRefusal fault) }
 {
     match command {

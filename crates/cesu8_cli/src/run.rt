@@ -1,9 +1,10 @@
 //! One run of the program, over any reader and any writer.
 
-ghost use Rattle.std.specs.Prelude.{◌≡◌, ◌≢◌, ◌++◌, ◌⊎◌, ◌↔◌, ℕ, List, OnOk, OnErr, IfOk, IfErr, IfSome, Err};
+ghost use Rattle.std.specs.Prelude.{◌≡◌, ◌≢◌, ◌++◌, ◌⊎◌, ◌↔◌, ℕ, List, [], OnOk, OnErr, IfOk, IfErr, IfSome, Some, Err};
 ghost use Rattle.std.specs.Io.KnownBytes.{Appends, Consumes, IsAtEnd};
 ghost use Rattle.cesu8_cli.specs.Faults.{IsRefusal};
-ghost use Rattle.cesu8_cli.specs.Command.{AreNoCommand};
+ghost use Rattle.cesu8_cli.specs.declared.command.Command.TheVariants.{JavaWrite};
+ghost use Rattle.cesu8_cli.specs.Command.{AreWordsOf, AreNoCommand};
 ghost use Rattle.cesu8_cli.specs.Answer.{IsAnswerTo, AppendsAnswer, AppendsBeginning};
 
 use crate::answer::answer;
@@ -26,6 +27,10 @@ pub fn run<R: Read, W: Write>(
     ensures ok { OnOk result (AppendsAnswer words.now (R.remaining input.old)
         (W.contents output.old) (W.contents output.new)) }
     ensures end { OnOk result (IsAtEnd (R.remaining input.new)) }
+
+    // The empty input takes no memory, but for the count of a Java string.
+    ensures empty { R.remaining input.old ≡ Some [] → result ≡ Err RunFault.Memory
+        → AreWordsOf JavaWrite words.now }
 
     // The words are tested before anything is read.
     ensures usage { (result ≡ Err RunFault.Usage) ↔ AreNoCommand words.now }
@@ -57,6 +62,7 @@ fn read_whole<R: Read>(alloc: Global, input: &mut R) -> Result<Vec<u8>, RunFault
         Consumes (R.remaining input.old) (R.remaining input.new) bytes.items) }
     ensures end { OnOk result (IsAtEnd (R.remaining input.new)) }
     ensures err { IfErr result (λ fault. (fault ≡ RunFault.Memory) ⊎ (fault ≡ RunFault.Io)) }
+    ensures empty { R.remaining input.old ≡ Some [] → result ≢ Err RunFault.Memory }
 {
     let mut bytes = Vec::new(alloc);
     let mut chunk = [0; CHUNK];
