@@ -253,6 +253,8 @@ refuse_requests() {
     run 0 encode utf9
     arguments=$requests
     hold 'the arguments' [ "$arguments" -gt 0 ]
+    keep '' ''
+    refuse_in_turn 'words that ask for nothing' encode utf9 2 'usage: cesu8_cli COMMAND FLAVOR'
     rows
     on_each 100000 long_row
     on_java_strings long_row

@@ -204,7 +204,11 @@ fn tell_bytes(rt: &HostRuntime, answer: Result<CowBytes<'_>, AllocError>) -> io:
 
 fn tell_text(rt: &HostRuntime, answer: Result<CowText<'_>, DecodeFault>) -> io::Result<()> {
     match answer {
-        Ok(answer) => tell(rt, case_of(answer.is_borrowed()), answer.as_str().as_bytes()),
+        Ok(answer) => tell(
+            rt,
+            case_of(answer.is_borrowed()),
+            answer.as_str().as_bytes(),
+        ),
         Err(DecodeFault::Invalid(_)) => tell(rt, "invalid", &[]),
         Err(DecodeFault::Memory(_)) => tell(rt, "memory", &[]),
     }
