@@ -271,11 +271,12 @@ run_within() {
     status=$?
 }
 
-# Keeps in least how many KiB the program needs to see its words, in pages of 4 KiB.
+# Keeps in least how many KiB the program needs to see its words, in pages of 4 KiB. These are wrong
+# ones, longer than any pair.
 find_least() {
     : >"$scratch/input"
     for ((least = 1024; least < 65536; least += 4)); do
-        run_within "$least" encode utf9
+        run_within "$least" decode-strict utf-16
         ((status == 2)) && return
     done
     hold 'the words, in 64 MiB of memory' false
