@@ -20,9 +20,9 @@
 # is too long, and one that is cut short.
 #
 # `rt try` refuses one request of a process, and builds for 15 seconds. It builds once for each place
-# of the request that is refused, and runs all rows that have so many requests on that, at less than a
-# tenth of a second each. The three runs, and those of the program, are side by side, so that all take
-# about two minutes on four processors, and under four where others keep these busy.
+# of the request that is refused, and runs all rows that have so many requests on that, most of them in
+# less than a tenth of a second, and the longest inputs in half of one. The three runs, and those of the
+# program, are side by side: all took under four minutes on four processors that had other work too.
 #
 # Of the program: runs the tests of the module `memory` of crates/cesu8_cli with the first request
 # of each refused, then with the second alone, and then with the third. The table below says what
