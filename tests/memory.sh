@@ -4,17 +4,29 @@
 #
 # Of the libraries: the program of crates/vectors makes one call, which its standard input names, and
 # tells what came of it, how many of three further requests are granted before one is refused, and
-# the answer. The rows below say what has to come with memory there, and how many requests the call
-# makes. Every row is run with the first request of the process refused, and again with the second
-# refused. So where a call makes no request, it is the same in both, and the refusal meets a further
-# request; and where it makes one, the first run has to end in want of memory, and the second as
-# with memory there, with the first further request refused. A call that asks twice, or asks again
-# after a refusal, is seen by either. `rt try` builds once for each of the two and runs all rows on
-# that, so a row costs less than a tenth of a second.
+# the answer. The rows below are every public call, on inputs that borrow, that build, that are
+# refused and that are empty, and at the lengths about which blocks of bytes begin and end. A row says
+# what has to come with memory there, and how many requests the call makes. Each of its requests is
+# refused in turn, until a run meets none: there the first further request is refused, so that a call
+# is seen to make as many requests as its row says, and to answer as with memory there whatever
+# becomes of a later one. Where a request is refused, want of memory has to come, whatever the input
+# is, and a caller's buffer holds what it held. A call whose row has no request succeeds so with every
+# request refused. One that asks once more, or gives back what it asked for, is seen by the count.
+#
+# The requests of a row and its answers come from the standards' table of encoded characters, which
+# stands below, and from these rules: an answer borrows, and takes no request, exactly where its bytes
+# are the input's; what is built, copied or refused takes one, and what is appended one where the
+# buffer has too little room; an empty copy and a length take none, and neither do a Java string that
+# is too long, and one that is cut short.
+#
+# `rt try` refuses one request of a process, and builds for 15 seconds. It builds once for each place
+# of the request that is refused, and runs all rows that have so many requests on that, most of them in
+# less than a tenth of a second, and the longest inputs in half of one. The three runs, and those of the
+# program, are side by side: all took under four minutes on four processors that had other work too.
 #
 # Of the program: runs the tests of the module `memory` of crates/cesu8_cli with the first request
 # of each refused, then with the second alone, and then with the third. The table below says what
-# has to come.
+# has to come. tests/requests.sh does so with the built program.
 #
 # It prints what is wrong, and ends with the counts. The status is 0 where nothing is wrong. It
 # needs the kit's `rt` (which builds here without proof), bash, awk, sed and the core utilities.
@@ -25,167 +37,336 @@ export LC_ALL=C
 top=$(cd "$(dirname "${BASH_SOURCE[0]}")/.." && pwd) || exit 2
 scratch=$(mktemp -d) || exit 2
 trap 'rm -rf "$scratch"' EXIT
-mkdir "$scratch"/{1,2} || exit 2
+mkdir "$scratch"/{1,2,3} || exit 2
 
 passed=0
 failed=0
 rows=0
+runs=(0 0 0 0)
 
 # The bytes of a list of crates/vectors/src/pattern.rt, as `printf %b` takes them: `pattern NAME`.
 pattern() {
     sed -n "/^const $1:/,/;\$/s/.*b\"\\(.*\\)\".*/\\1/p" "$top/crates/vectors/src/pattern.rt"
 }
 
-# `repeated TIMES BYTES`
+# `repeated TIMES BYTES`, where no or fewer times is none.
 repeated() {
-    local bytes
-    printf -v bytes '%*s' "$1" ''
+    local bytes=''
+    (($1 > 0)) && printf -v bytes '%*s' "$1" ''
     printf '%s' "${bytes// /$2}"
 }
 
-# One file of standard input, and one of what has to be printed: `expect REFUSED OUTCOME MORE BYTES`.
+# Keeps in length how many bytes `printf %b` makes of these: `measure BYTES`.
+measure() {
+    printf '%b%n' "$1" length >/dev/null
+}
+
+# What is printed with this request refused: `expect REFUSED OUTCOME MORE BYTES`.
 expect() {
     local file=$scratch/$1/$name
+    runs[$1]=$((runs[$1] + 1))
     printf '%s\n%b' "$call" "$input" >"$file"
     printf '%s, %s more\n%b' "$2" "$3" "$4" >"$file.stdout"
 }
 
-# A row: `row CALL INPUT OUTCOME REQUESTS ANSWER`, the call with its encoding. After a refused
-# request there is no answer, and a buffer is as it was before.
+# A row: `row CALL INPUT OUTCOME REQUESTS ANSWER`, the call with its encoding. The first request of a
+# call on a full buffer is the buffer's own.
 row() {
     local call=$1 input=$2 outcome=$3 requests=$4 answer=$5 name refused
     rows=$((rows + 1))
-    printf -v name '%04d_%s_%s' "$rows" "${call/ /_}" "$outcome"
-    for refused in 1 2; do
-        if ((refused > requests)); then
-            expect "$refused" "$outcome" "$((refused - 1 - requests))" "$answer"
-        elif [[ $call == *_full* ]] && ((refused == 2)); then
+    printf -v name '%04d_%s' "$rows" "${call/ /_}"
+    for ((refused = 1; refused <= requests; refused++)); do
+        if [[ $call == *_full* ]] && ((refused == 2)); then
             expect "$refused" memory 3 '\x01\x02'
         else
-            expect "$refused" memory 3 ''
+            expect "$refused" "${shown_refused}memory" 3 ''
         fi
     done
+    expect "$refused" "${shown}$outcome" 0 "$answer"
+}
+
+# What a row prints before the outcome, with memory there and without.
+shown=''
+shown_refused=''
+
+# The encoded characters that are told apart here, in UTF-8, CESU-8 and MUTF-8: U+0061, U+20AC, U+0000
+# and U+1F496. And the reading of their UTF-8 as each encoding, with damage: U+FFFD for each byte that
+# is in no encoded character.
+mark='\xEF\xBF\xBD'
+declare -A in_utf8=([a]=a [euro]='\xE2\x82\xAC' [null]='\x00' [heart]='\xF0\x9F\x92\x96')
+declare -A in_cesu8=([a]=a [euro]='\xE2\x82\xAC' [null]='\x00' [heart]='\xED\xA0\xBD\xED\xB2\x96')
+declare -A in_mutf8=([a]=a [euro]='\xE2\x82\xAC' [null]='\xC0\x80' [heart]='\xED\xA0\xBD\xED\xB2\x96')
+declare -A damaged_cesu8=([a]=a [euro]='\xE2\x82\xAC' [null]='\x00' [heart]="$mark$mark$mark$mark")
+declare -A damaged_mutf8=([a]=a [euro]='\xE2\x82\xAC' [null]="$mark" [heart]="$mark$mark$mark$mark")
+
+# Keeps the text of these characters in each form, each as many times: `text TIMES CHARACTER..`.
+text() {
+    utf8='' cesu8='' mutf8='' read_as_cesu8='' read_as_mutf8=''
+    while (($# > 0)); do
+        utf8+=$(repeated "$1" "${in_utf8[$2]}")
+        cesu8+=$(repeated "$1" "${in_cesu8[$2]}")
+        mutf8+=$(repeated "$1" "${in_mutf8[$2]}")
+        read_as_cesu8+=$(repeated "$1" "${damaged_cesu8[$2]}")
+        read_as_mutf8+=$(repeated "$1" "${damaged_mutf8[$2]}")
+        shift 2
+    done
+}
+
+# The calls that take a text, of the text that is kept: `text_rows ENCODING..`.
+text_rows() {
+    local encoding encoded length any less
+    for encoding in "$@"; do
+        encoded=${!encoding}
+        measure "$encoded"
+        any=$((length > 0))
+        less=$((length > 1 ? 2 : length))
+        if [[ $encoded == "$utf8" ]]; then
+            row "needs_encoded $encoding" "$utf8" no 0 ''
+            row "encode $encoding" "$utf8" borrowed 0 "$utf8"
+        else
+            row "needs_encoded $encoding" "$utf8" yes 0 ''
+            row "encode $encoding" "$utf8" owned 1 "$encoded"
+        fi
+        row "encoded_len $encoding" "$utf8" "$length" 0 ''
+        row "into_vec $encoding" "$utf8" owned "$any" "$encoded"
+        row "encode_into $encoding" "$utf8" appended "$any" "$encoded"
+        row "encode_into_room $encoding" "$utf8" appended "$any" "$encoded"
+        row "encode_into_less $encoding" "$utf8" appended "$less" "$encoded"
+        row "encode_into_full $encoding" "$utf8" appended "$((1 + any))" "\\x01\\x02$encoded"
+    done
+}
+
+# The kernels, on the UTF-8 of the text that is kept. Their classes are the bytes at which an encoding
+# is another: `kernel_rows ENCODING..`.
+kernel_rows() {
+    local encoding found module
+    for encoding in "$@"; do
+        found=yes
+        [[ ${!encoding} == "$utf8" ]] && found=no
+        for module in active fallback simd word; do
+            row "$module $encoding" "$utf8" "$found" 0 ''
+        done
+    done
+}
+
+# The calls that take bytes, on the encoding of the text that is kept: `encoding_rows ENCODING..`.
+encoding_rows() {
+    local encoding encoded length outcome requests call
+    measure "$utf8"
+    for encoding in "$@"; do
+        encoded=${!encoding}
+        outcome=owned
+        requests=1
+        [[ $encoded == "$utf8" ]] && outcome=borrowed requests=0
+        for call in decode decode_strict decode_lossy decode_lossy_strict; do
+            row "$call $encoding" "$encoded" "$outcome" "$requests" "$utf8"
+        done
+        row "lossy_len $encoding" "$encoded" "$length" 0 ''
+        row "into_string $encoding" "$encoded" owned "$((length > 0))" "$utf8"
+    done
+}
+
+# The calls that take bytes, on the UTF-8 of the text that is kept, which is no encoding of a text:
+# what a lenient call borrows, a strict one refuses: `utf8_rows ENCODING..`.
+utf8_rows() {
+    local encoding name reading length
+    for encoding in "$@"; do
+        name=read_as_$encoding
+        reading=${!name}
+        row "decode $encoding" "$utf8" borrowed 0 "$utf8"
+        row "decode_lossy $encoding" "$utf8" borrowed 0 "$utf8"
+        row "into_string $encoding" "$utf8" owned 1 "$utf8"
+        row "decode_strict $encoding" "$utf8" invalid 1 ''
+        row "decode_lossy_strict $encoding" "$utf8" owned 1 "$reading"
+        measure "$reading"
+        row "lossy_len $encoding" "$utf8" "$length" 0 ''
+    done
+}
+
+# The same calls, on the encoding of the text that is kept and then so many bytes that are in no
+# encoded character. One request comes before the first byte is read, so its refusal hides the damage:
+# `damage_rows COUNT BYTES`.
+damage_rows() {
+    local encoding damaged reading length call
+    reading=$utf8$(repeated "$1" "$mark")
+    measure "$reading"
+    for encoding in cesu8 mutf8; do
+        damaged=${!encoding}$2
+        for call in decode decode_strict; do
+            row "$call $encoding" "$damaged" invalid 1 ''
+            row "${call/decode/decode_lossy} $encoding" "$damaged" owned 1 "$reading"
+        done
+        row "lossy_len $encoding" "$damaged" "$length" 0 ''
+    done
+}
+
+# Bytes of MUTF-8 and before them the two that count them: `form BYTES COUNT`.
+form() {
+    printf '\\x%02X\\x%02X%s' "$(($2 / 256))" "$(($2 % 256))" "$1"
+}
+
+# Writing a Java string, of the text that is kept. One that is too long is told before any request.
+write_rows() {
+    local length written
+    measure "$mutf8"
+    if ((length > 65535)); then
+        row 'write_utf mutf8' "$utf8" too_long 0 ''
+        row 'write_utf_full mutf8' "$utf8" too_long 1 '\x01\x02'
+        return
+    fi
+    written=$(form "$mutf8" "$length")
+    row 'write_utf mutf8' "$utf8" written 1 "$written"
+    row 'write_utf_room mutf8' "$utf8" written 1 "$written"
+    row 'write_utf_less mutf8' "$utf8" written 2 "$written"
+    row 'write_utf_full mutf8' "$utf8" written 2 "\\x01\\x02$written"
+}
+
+# Reading one, of the text that is kept, with bytes after it; and one that counts a byte more.
+read_rows() {
+    local length written call outcome=owned requests=1
+    measure "$mutf8"
+    ((length > 65535)) && return
+    written=$(form "$mutf8" "$length")
+    [[ $mutf8 == "$utf8" ]] && outcome=borrowed requests=0
+    for call in read_utf read_utf_lossy; do
+        row "$call mutf8" "${written}rest" "$outcome" "$requests" "${utf8}rest"
+        ((length < 65535)) || continue
+        row "$call mutf8" "$(form "$mutf8" "$((length + 1))")" truncated 0 ''
+    done
+}
+
+# Reading one whose counted bytes are the MUTF-8 of the text that is kept and then one that is in no
+# encoded character.
+damaged_read_rows() {
+    local length written
+    measure "$mutf8"
+    ((length > 65534)) && return
+    written=$(form "$mutf8\\xED" "$((length + 1))")
+    row 'read_utf mutf8' "${written}rest" invalid 1 ''
+    row 'read_utf_lossy mutf8' "${written}rest" owned 1 "$utf8${mark}rest"
 }
 
 # A text that stays as it is in both encodings, and one that is other bytes in each.
-stays='Gr\xC3\xBC\xC3\x9Fe aus \xE6\x9D\xB1\xE4\xBA\xAC, \xE2\x82\xAC 205, \xEF\xBF\xBD\xEF\xBF\xBF'
-text=$(repeated 3 "$(pattern UTF8)")
-cesu8=$(repeated 3 "$(pattern CESU8)")
-mutf8=$(repeated 3 "$(pattern MUTF8)")
-if ((${#text} == 0 || ${#cesu8} <= ${#text} || ${#mutf8} <= ${#cesu8})); then
-    echo 'the pattern was not read from crates/vectors/src/pattern.rt' >&2
-    exit 2
-fi
-mark='\xEF\xBF\xBD'
-
-# Calls that take a text. `encode_into` is called with an empty buffer, and with one that is full, has
-# exactly the room or a byte less, which is a request of its own.
-for encoding in cesu8 mutf8; do
-    encoded=${!encoding}
-    row "needs_encoded $encoding" "$stays" no 0 ''
-    row "needs_encoded $encoding" "$text" yes 0 ''
-    row "encode $encoding" "$stays" borrowed 0 "$stays"
-    row "encode $encoding" "$text" owned 1 "$encoded"
-    row "into_vec $encoding" '' owned 0 ''
-    row "into_vec $encoding" "$stays" owned 1 "$stays"
-    row "into_vec $encoding" "$text" owned 1 "$encoded"
-    row "encode_into $encoding" '' appended 0 ''
-    row "encode_into $encoding" "$stays" appended 1 "$stays"
-    row "encode_into $encoding" "$text" appended 1 "$encoded"
-    row "encode_into_full $encoding" '' appended 1 '\x01\x02'
-    row "encode_into_full $encoding" "$stays" appended 2 "\\x01\\x02$stays"
-    row "encode_into_full $encoding" "$text" appended 2 "\\x01\\x02$encoded"
-    row "encode_into_room $encoding" "$stays" appended 1 "$stays"
-    row "encode_into_room $encoding" "$text" appended 1 "$encoded"
-    row "encode_into_less $encoding" "$stays" appended 2 "$stays"
-    row "encode_into_less $encoding" "$text" appended 2 "$encoded"
-    row "encoded_len $encoding" '' 0 0 ''
-done
-row 'encoded_len cesu8' 'a\x00\xF4\x8F\xBF\xBF' 8 0 ''
-row 'encoded_len mutf8' 'a\x00\xF4\x8F\xBF\xBF' 9 0 ''
-
-# Calls that take bytes. One request comes before the first byte is read, so on bytes that are no
-# encoding its refusal hides that. Bytes with a UTF-8 form of four bytes are UTF-8 or no encoding,
-# and so is 00 in MUTF-8.
-for encoding in cesu8 mutf8; do
-    encoded=${!encoding}
-    for call in decode decode_strict decode_lossy decode_lossy_strict; do
-        row "$call $encoding" "$stays" borrowed 0 "$stays"
-        row "$call $encoding" "$encoded" owned 1 "$text"
-    done
-    for call in decode decode_strict; do
-        row "$call $encoding" '\xED\xA0\xBD' invalid 1 ''
-        row "$call $encoding" "$encoded\\xFF" invalid 1 ''
-        row "${call/decode/decode_lossy} $encoding" '\xED\xA0\xBD' owned 1 "$mark$mark$mark"
-        row "${call/decode/decode_lossy} $encoding" "$encoded\\xFF" owned 1 "$text$mark"
-    done
-    row "decode $encoding" "$text" borrowed 0 "$text"
-    row "decode_lossy $encoding" "$text" borrowed 0 "$text"
-    row "decode_strict $encoding" '\xF0\x9F\x92\x96' invalid 1 ''
-    row "decode_lossy_strict $encoding" '\xF0\x9F\x92\x96' owned 1 "$mark$mark$mark$mark"
-    row "into_string $encoding" '' owned 0 ''
-    row "into_string $encoding" "$stays" owned 1 "$stays"
-    row "into_string $encoding" "$encoded" owned 1 "$text"
-done
-row 'decode_strict cesu8' 'a\x00' borrowed 0 'a\x00'
-row 'decode_strict mutf8' 'a\x00' invalid 1 ''
-row 'decode_lossy_strict cesu8' 'a\x00' borrowed 0 'a\x00'
-row 'decode_lossy_strict mutf8' 'a\x00' owned 1 "a$mark"
-
-# The two bytes that count the bytes, and then the bytes: `form BYTES`.
-form() {
-    local length
-    length=$(printf '%b' "$1" | wc -c)
-    printf '\\x%02X\\x%02X%s' "$((length / 256))" "$((length % 256))" "$1"
+keep_pattern() {
+    text 0 a
+    if [[ $1 == stays ]]; then
+        utf8='Gr\xC3\xBC\xC3\x9Fe aus \xE6\x9D\xB1\xE4\xBA\xAC, \xE2\x82\xAC 205, \xEF\xBF\xBD\xEF\xBF\xBF'
+        cesu8=$utf8
+        mutf8=$utf8
+    else
+        utf8=$(repeated 3 "$(pattern UTF8)")
+        cesu8=$(repeated 3 "$(pattern CESU8)")
+        mutf8=$(repeated 3 "$(pattern MUTF8)")
+    fi
+    if ((${#utf8} == 0 || ${#cesu8} < ${#utf8} || ${#mutf8} < ${#cesu8})); then
+        echo 'the pattern was not read from crates/vectors/src/pattern.rt' >&2
+        exit 2
+    fi
 }
 
-# Java strings. A text that is too long, and a form that is cut short, are told before any request.
-row 'write_utf mutf8' '' written 1 '\x00\x00'
-nulls=$(repeated 32768 '\x00')
-row 'write_utf mutf8' "$nulls" too_long 0 ''
-row 'write_utf_full mutf8' "$nulls" too_long 1 '\x01\x02'
-for written in "$stays" "$text"; do
-    encoded=$stays
-    [[ $written == "$stays" ]] || encoded=$mutf8
-    row 'write_utf mutf8' "$written" written 1 "$(form "$encoded")"
-    row 'write_utf_full mutf8' "$written" written 2 "\\x01\\x02$(form "$encoded")"
-    row 'write_utf_room mutf8' "$written" written 1 "$(form "$encoded")"
-    row 'write_utf_less mutf8' "$written" written 2 "$(form "$encoded")"
-done
-for call in read_utf read_utf_lossy; do
-    row "$call mutf8" '\x00\x03a\xC0' truncated 0 ''
-    row "$call mutf8" '\x00\x00' borrowed 0 ''
-    row "$call mutf8" "$(form "$stays")rest" borrowed 0 "${stays}rest"
-    row "$call mutf8" "$(form "$mutf8")rest" owned 1 "${text}rest"
-done
-row 'read_utf mutf8' '\x00\x03\xED\xA0\xBDrest' invalid 1 ''
-row 'read_utf_lossy mutf8' '\x00\x03\xED\xA0\xBDrest' owned 1 "$mark$mark${mark}rest"
-
-# Lengths about which blocks begin and end: letters alone, and with a pair after them.
-four='\xF0\x9F\x92\x96'
-pair='\xED\xA0\xBD\xED\xB2\x96'
-for length in 0 1 63 64 65 1023 1024 1025 65536; do
-    letters=$(repeated "$length" a)
-    for encoding in cesu8 mutf8; do
-        row "needs_encoded $encoding" "$letters" no 0 ''
-        row "needs_encoded $encoding" "$letters$four" yes 0 ''
-        row "encode $encoding" "$letters" borrowed 0 "$letters"
-        row "encode $encoding" "$letters$four" owned 1 "$letters$pair"
-        row "into_vec $encoding" "$letters" owned "$((length > 0))" "$letters"
-        row "encode_into $encoding" "$letters" appended "$((length > 0))" "$letters"
-        row "encode_into $encoding" "$letters$four" appended 1 "$letters$pair"
-        row "encode_into_room $encoding" "$letters$four" appended 1 "$letters$pair"
-        row "encode_into_less $encoding" "$letters$four" appended 2 "$letters$pair"
-        row "encoded_len $encoding" "$letters$four" "$((length + 6))" 0 ''
-        row "into_string $encoding" "$letters" owned "$((length > 0))" "$letters"
-        for call in decode decode_strict decode_lossy decode_lossy_strict; do
-            row "$call $encoding" "$letters" borrowed 0 "$letters"
-            row "$call $encoding" "$letters$pair" owned 1 "$letters$four"
-        done
-        row "decode $encoding" "$letters\\xED" invalid 1 ''
-        row "decode_strict $encoding" "$letters\\xED" invalid 1 ''
+# Every call, on short inputs.
+short_rows() {
+    local kept
+    for kept in empty stays changes; do
+        if [[ $kept == empty ]]; then text 0 a; else keep_pattern "$kept"; fi
+        text_rows cesu8 mutf8
+        kernel_rows cesu8 mutf8
+        encoding_rows cesu8 mutf8
+        damage_rows 1 '\xFF'
+        damage_rows 3 '\xED\xA0\xBD'
+        write_rows
+        read_rows
+        damaged_read_rows
     done
+    text 1 a 1 null 2 heart
+    utf8_rows cesu8 mutf8
+    text 1 a 1 null
+    text_rows cesu8 mutf8
+    encoding_rows cesu8 mutf8
+    utf8_rows mutf8
+    row 'read_utf mutf8' '' truncated 0 ''
+    row 'read_utf_lossy mutf8' '\x00' truncated 0 ''
+}
+
+# Calls that have no input, or show what they refuse.
+other_rows() {
+    row 'laws cesu8' '' true 0 ''
+    shown_refused=$'out of memory, out of memory\ntext is too long, out of memory\n'
+    shown=${shown_refused/#out of memory/invalid input}
+    shown+=$'input is truncated, out of memory\n'
+    shown_refused+=$'input is truncated, out of memory\n'
+    shown+=$'invalid input, DecodingError, invalid input\n'
+    row 'faults cesu8' '\xED\xA0\xBD' yes 1 ''
+    row 'faults mutf8' '\x00' yes 1 ''
+    shown=''
+    shown_refused=''
+}
+
+# At a length: letters alone; of so many bytes with a character at their end that is other bytes in an
+# encoding; with such a character across it; and with damage that ends there.
+border_rows() {
+    local length=$1 front=$(($1 > 3 ? $1 - 3 : $1))
+    text "$length" a
+    text_rows cesu8 mutf8
+    kernel_rows cesu8 mutf8
+    encoding_rows cesu8 mutf8
+    write_rows
+    read_rows
+
+    text "$((length - 4))" a 1 heart
+    ((length >= 4)) && text_rows cesu8 && kernel_rows cesu8
+    text "$((length - 6))" a 1 heart
+    ((length >= 6)) && encoding_rows cesu8
+    text "$((length - 1))" a 1 null
+    ((length >= 1)) && text_rows mutf8 && kernel_rows mutf8
+    text "$((length - 2))" a 1 null
+    ((length >= 2)) && encoding_rows mutf8 && write_rows && read_rows
+
+    text "$front" a 1 heart 9 a
+    text_rows cesu8 mutf8
+    encoding_rows cesu8 mutf8
+    utf8_rows cesu8 mutf8
+    write_rows
+    read_rows
+
+    text "$((length - 1))" a
+    damage_rows 1 '\xFF'
+    text "$((length - 3))" a
+    ((length >= 3)) && damage_rows 3 '\xED\xA0\xBD'
+    damaged_read_rows
+}
+
+# Where nothing stays as it is, and each block ends in another part of a character: the longest
+# inputs, and the longest Java string.
+long_rows() {
+    text 16384 heart
+    text_rows cesu8 mutf8
+    text 10922 heart 4 a
+    encoding_rows cesu8 mutf8
+    text 65536 null
+    text_rows mutf8
+    write_rows
+    text 32768 null
+    encoding_rows mutf8
+    write_rows
+    text 32767 null 1 a
+    write_rows
+    read_rows
+    text 65534 a
+    read_rows
+    text 65535 a
+    write_rows
+    read_rows
+    text 0 a
+    damage_rows 65536 "$(repeated 65536 '\xFF')"
+}
+
+short_rows
+other_rows
+for border in 0 1 63 64 65 1023 1024 1025 65536; do
+    border_rows "$border"
 done
+long_rows
 
 # A test a line, and then how it ends with the first request refused, the second, and so on: `ok`,
 # or the error.
@@ -214,11 +395,11 @@ run_tests() {
 # Counts the rows of a run that ended well and printed what they have to. What a wrong row printed
 # stands in a line of its own, and where no row ran, the output says why.
 compare_rows() {
-    local output=$scratch/rows.$1 right
+    local output=$scratch/rows.$1 right due=${runs[$1]}
     right=$(grep -a -c '^case=[^ ]* run=ended status=0 .*output=expected' "$output")
     passed=$((passed + right))
-    ((right == rows)) && return
-    failed=$((failed + rows - right))
+    ((right == due)) && return
+    failed=$((failed + due - right))
     echo "wrong, with request $1 refused:"
     grep -a -v -e 'output=expected' -e '^allocations: ' "$output" | cut -c 1-400
 }
@@ -251,6 +432,7 @@ compare_tests() {
 
 run_rows 1
 run_rows 2
+run_rows 3
 run_tests 1
 run_tests 2
 run_tests 3
@@ -258,6 +440,7 @@ wait
 
 compare_rows 1
 compare_rows 2
+compare_rows 3
 compare_tests 1
 compare_tests 2
 compare_tests 3

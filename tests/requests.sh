@@ -1,13 +1,21 @@
 #!/usr/bin/env bash
-# Counts the requests for memory that the built program makes, and refuses each of them in turn. For
-# every pair of words there is an input whose answer is borrowed and one whose answer is built: beside
-# the requests for the arguments the first has to make one, for the input, and the second one more. Where
-# a request for the arguments is refused, the program has to end as for failed input or output, and where
-# a later one is, as for want of memory, and either time nothing is written. It prints what is wrong, and
-# ends with the counts. The status is 0 where nothing is wrong.
+# Refuses memory to the built program, for every pair of words.
+#
+# First each of its requests is refused in turn, until a run meets none. Where a request for the
+# arguments is refused, the program has to end as for failed input or output, and where a later one
+# is, as for want of memory, and either time nothing is written. The run that meets none has to answer.
+# On short inputs its requests are counted too: beside those for the arguments one for the input, and
+# one more where the answer is built. On a longer input the reading makes as many as it likes.
+#
+# Then its whole memory is limited, as a person would do it, from what is too little for 10 MB of input
+# to what is enough, for each pair of words: the whole answer has to come, or want of memory and
+# nothing written, and both have to be seen. This needs no compiler.
+#
+# It prints what is wrong, and ends with the counts. The status is 0 where nothing is wrong. It takes
+# less than a minute once the program is built.
 #
 # It needs the kit's `rt`, bash and the core utilities; and `cc` for tests/requests.c, which stands
-# between the program and the C library. Where there is none it says so, and runs nothing.
+# between the program and the C library. Where there is none it says so, and refuses no single request.
 set -u
 unset CDPATH
 export LC_ALL=C
@@ -20,6 +28,37 @@ source "$top/tests/program.sh" || exit 2
 
 passed=0
 failed=0
+io='cesu8: input or output failed'
+memory='cesu8: out of memory'
+: >"$scratch/nothing"
+
+# Counts what has to hold: `hold NAME TEST..`.
+hold() {
+    local name=$1
+    shift
+    if "$@"; then
+        passed=$((passed + 1))
+    else
+        failed=$((failed + 1))
+        echo "wrong: $name: status $status, $requests requests," \
+            "$(stat -c %s "$scratch/output") bytes written, $(cat "$scratch/error")"
+    fi
+}
+
+# Whether the last run ended with this status and line, and wrote what stands in this file, and no
+# more: `ended STATUS LINE FILE`.
+ended() {
+    printf '%s' "${2:+$2$'\n'}" >"$scratch/line"
+    [[ $status == "$1" ]] && cmp -s "$scratch/line" "$scratch/error" &&
+        cmp -s "$3" "$scratch/output"
+}
+
+# Writes the input, and what has to be written of it; a line stands for the answer where there is
+# none. Both are as `printf %b` takes them: `keep INPUT ANSWER`.
+keep() {
+    printf '%b' "$1" >"$scratch/input"
+    printf '%b' "$2" >"$scratch/wanted"
+}
 
 # Runs the program on $scratch/input with the request of this number refused, or none at 0. The count
 # of the requests is kept in requests: `run REFUSED WORD..`.
@@ -32,111 +71,264 @@ run() {
     requests=$(stat -c %s "$scratch/requests")
 }
 
-# Counts what has to hold: `hold NAME TEST..`.
-hold() {
-    local name=$1
-    shift
-    if "$@"; then
-        passed=$((passed + 1))
-    else
-        failed=$((failed + 1))
-        echo "wrong: $name: status $status, $requests requests, $(cat "$scratch/error")"
-    fi
-}
-
-# Whether the run ended with this status and line, and wrote nothing: `told STATUS LINE`.
-told() {
-    [[ $status == "$1" && $(cat "$scratch/error") == "$2" && ! -s $scratch/output ]]
-}
-
-# Whether the run ended with this status, after so many requests: `counted STATUS REQUESTS`.
-counted() {
-    [[ $status == "$1" && $requests == "$2" ]]
-}
-
-# A row: the words, and the status and the requests after those for the arguments on this input, which
-# is as printf takes it: `row COMMAND FLAVOR STATUS REQUESTS INPUT`.
-row() {
-    local name="$1 $2 on $5" refused last=$((arguments + $4))
-    # shellcheck disable=SC2059
-    printf "$5" >"$scratch/input"
-    run 0 "$1" "$2"
-    hold "$name" counted "$3" "$last"
-    for ((refused = 1; refused <= last; refused++)); do
-        run "$refused" "$1" "$2"
-        if ((refused <= arguments)); then
-            hold "$name, request $refused refused" told 4 'cesu8: input or output failed'
+# Refuses each request in turn, until a run meets none, which has to end with this status and line:
+# `refuse_in_turn NAME COMMAND FLAVOR STATUS LINE`.
+refuse_in_turn() {
+    local refused
+    for ((refused = 1; refused <= 1000; refused++)); do
+        run "$refused" "$2" "$3"
+        if ((requests < refused)); then
+            hold "$1" ended "$4" "$5" "$scratch/wanted"
+            return
+        elif ((refused <= arguments)); then
+            hold "$1, request $refused refused" ended 4 "$io" "$scratch/nothing"
         else
-            hold "$name, request $refused refused" told 3 'cesu8: out of memory'
+            hold "$1, request $refused refused" ended 3 "$memory" "$scratch/nothing"
         fi
     done
+    hold "$1, its requests, which do not end" false
+}
+
+# A short input and its answer: `row COMMAND FLAVOR REQUESTS INPUT ANSWER`, with the requests after
+# those for the arguments.
+row() {
+    keep "$4" "$5"
+    refuse_in_turn "$1 $2 on $4" "$1" "$2" 0 ''
+    hold "$1 $2 on $4, its requests" [ "$requests" -eq $((arguments + $3)) ]
+}
+
+# A short input that is refused, and the line that says so: `refused_row COMMAND FLAVOR REQUESTS INPUT
+# LINE`.
+refused_row() {
+    keep "$4" ''
+    refuse_in_turn "$1 $2 on $4" "$1" "$2" 1 "$5"
+    hold "$1 $2 on $4, its requests" [ "$requests" -eq $((arguments + $3)) ]
 }
 
 rows() {
-    # The answer is empty, and so is the input.
-    row encode cesu8 0 0 ''
-    row needs cesu8 0 0 ''
-    row decode mutf8 0 0 ''
-    row lossy-strict mutf8 0 0 ''
+    local flavor command heart='\xF0\x9F\x92\x96' pair='\xED\xA0\xBD\xED\xB2\x96' mark='\xEF\xBF\xBD'
+    local marks=$mark$mark$mark$mark stays='a\xC8\x85\xE2\x82\xAC' invalid='cesu8: invalid input'
 
-    # The answer has a count, and so is built of the empty input too.
-    row java-write mutf8 0 1 ''
+    # Nothing is read, and so nothing is asked for; but a Java string has a count of nothing too.
+    for flavor in cesu8 mutf8; do
+        for command in encode decode decode-strict lossy lossy-strict; do
+            row "$command" "$flavor" 0 '' ''
+        done
+        row needs "$flavor" 0 '' 'no\n'
+    done
+    row java-write mutf8 1 '' '\x00\x00'
+    refused_row java-read mutf8 0 '' 'cesu8: input is truncated'
 
     # The answer borrows: the input, or a constant.
-    row encode cesu8 0 1 'a\xC8\x85\x00'
-    row encode mutf8 0 1 'a\xC8\x85\xE2\x82\xAC'
-    row needs cesu8 0 1 'a\xF0\x9F\x92\x96'
-    row needs cesu8 0 1 'a\xC8\x85\x00'
-    row needs mutf8 0 1 'a\xC8\x85\x00'
-    row needs mutf8 0 1 'a\xC8\x85\xE2\x82\xAC'
-    row decode cesu8 0 1 'a\xF0\x9F\x92\x96'
-    row decode mutf8 0 1 'a\xF0\x9F\x92\x96\x00'
-    row decode-strict cesu8 0 1 'a\xC8\x85\x00'
-    row decode-strict mutf8 0 1 'a\xC8\x85\xE2\x82\xAC'
-    row lossy cesu8 0 1 'a\xF0\x9F\x92\x96'
-    row lossy mutf8 0 1 'a\xF0\x9F\x92\x96\x00'
-    row lossy-strict cesu8 0 1 'a\xC8\x85\x00'
-    row lossy-strict mutf8 0 1 'a\xC8\x85\xE2\x82\xAC'
-    row java-read mutf8 0 1 '\x00\x03a\xC8\x85'
+    for flavor in cesu8 mutf8; do
+        for command in encode decode decode-strict lossy lossy-strict; do
+            row "$command" "$flavor" 1 "$stays" "$stays"
+        done
+        for command in decode lossy; do
+            row "$command" "$flavor" 1 "a$heart\\x00" "a$heart\\x00"
+        done
+        row needs "$flavor" 1 "$stays" 'no\n'
+        row needs "$flavor" 1 "a$heart" 'yes\n'
+    done
+    for command in encode decode-strict lossy-strict; do
+        row "$command" cesu8 1 'a\x00' 'a\x00'
+    done
+    row needs cesu8 1 'a\x00' 'no\n'
+    row needs mutf8 1 'a\x00' 'yes\n'
+    row java-read mutf8 1 '\x00\x00' ''
+    row java-read mutf8 1 "\\x00\\x06$stays" "$stays"
 
     # The answer is built.
-    row encode cesu8 0 2 'a\xF0\x9F\x92\x96\xC8\x85'
-    row encode mutf8 0 2 'a\x00\xC8\x85'
-    row decode cesu8 0 2 'a\xED\xA0\xBD\xED\xB2\x96\xC8\x85'
-    row decode mutf8 0 2 'a\xC0\x80\xC8\x85'
-    row decode-strict cesu8 0 2 'a\xED\xA0\xBD\xED\xB2\x96\xC8\x85'
-    row decode-strict mutf8 0 2 'a\xC0\x80\xC8\x85'
-    row lossy cesu8 0 2 'a\xFF\xC8\x85'
-    row lossy mutf8 0 2 'a\xC0\x80\xC8\x85'
-    row lossy-strict cesu8 0 2 'a\xF0\x9F\x92\x96'
-    row lossy-strict mutf8 0 2 'a\x00\xC8\x85'
-    row java-write mutf8 0 2 'a\xC8\x85'
-    row java-read mutf8 0 2 '\x00\x03a\xC0\x80'
+    for flavor in cesu8 mutf8; do
+        row encode "$flavor" 2 "a$heart" "a$pair"
+        for command in decode decode-strict lossy lossy-strict; do
+            row "$command" "$flavor" 2 "a$pair" "a$heart"
+        done
+        row lossy "$flavor" 2 "$heart\\xFF" "$marks$mark"
+        row lossy-strict "$flavor" 2 "a$heart" "a$marks"
+    done
+    row encode mutf8 2 'a\x00' 'a\xC0\x80'
+    for command in decode decode-strict lossy lossy-strict; do
+        row "$command" mutf8 2 'a\xC0\x80' 'a\x00'
+    done
+    row lossy-strict mutf8 2 'a\x00' "a$mark"
+    row java-write mutf8 2 'a' '\x00\x01a'
+    row java-write mutf8 2 'a\x00' '\x00\x03a\xC0\x80'
+    row java-read mutf8 2 '\x00\x03a\xC0\x80' 'a\x00'
 
-    # The input is refused: before the answer's request, or after it.
-    row encode cesu8 1 1 'a\xFF\xC8\x85'
-    row needs mutf8 1 1 'a\xFF\xC8\x85'
-    row decode mutf8 1 2 'a\xFF\xC8\x85'
-    row decode-strict cesu8 1 2 'a\xED\xA0\xBD'
-    row java-write mutf8 1 1 'a\xFF'
-    row java-read mutf8 1 1 '\x00\x03a\xC0'
-    row java-read mutf8 1 2 '\x00\x03\xED\xA0\xBD'
-    row java-read mutf8 1 1 '\x00\x01ab'
+    # The input is refused: before a request for the answer, or after it.
+    for flavor in cesu8 mutf8; do
+        refused_row encode "$flavor" 1 'a\xFF' 'cesu8: input is not UTF-8'
+        refused_row needs "$flavor" 1 'a\xFF' 'cesu8: input is not UTF-8'
+        refused_row decode "$flavor" 2 'a\xFF' "$invalid"
+        refused_row decode-strict "$flavor" 2 'a\xED\xA0\xBD' "$invalid"
+    done
+    refused_row java-write mutf8 1 'a\xFF' 'cesu8: input is not UTF-8'
+    refused_row java-read mutf8 1 '\x00\x03a\xC0' 'cesu8: input is truncated'
+    refused_row java-read mutf8 1 '\x00\x01ab' 'cesu8: bytes after the string'
+    refused_row java-read mutf8 2 '\x00\x03\xED\xA0\xBD' "$invalid"
+    refused_row java-read mutf8 2 '\x00\x03a\xC0\x80b' 'cesu8: bytes after the string'
 }
 
-if ! command -v cc >/dev/null; then
-    echo 'cc is not here: not run'
-    exit 0
-fi
-build
-cc -Wall -Wextra -Werror -shared -fPIC -o "$scratch/requests.so" "$top/tests/requests.c" -ldl || exit 1
+# So many bytes of these again and again, or of 00 where they are none: `filled COUNT BYTES`.
+filled() {
+    if [[ -z $2 ]]; then
+        head -c "$1" /dev/zero
+    else
+        yes "$2" | tr -d '\n' | head -c "$1"
+    fi
+}
 
-# Words that ask for nothing are told after the requests for the arguments, and before any other.
-: >"$scratch/input"
-run 0 encode utf9
-arguments=$requests
-hold 'the arguments' [ "$arguments" -gt 0 ]
-rows
+# Writes an input of so many bytes, of one part again and again and then of letters, and the answer to
+# it, which has another part for each: `keep_long COUNT PART PART-LENGTH ANSWER ANSWER-LENGTH`.
+keep_long() {
+    local times=$(($1 / $3)) letters=$(($1 % $3))
+    { filled $((times * $3)) "$2" && filled "$letters" a; } >"$scratch/input"
+    { filled $((times * $5)) "$4" && filled "$letters" a; } >"$scratch/wanted"
+}
+
+# Writes an input of so many bytes for each pair of words but those of Java strings, with an answer
+# that is built where one can be, and hands it on: `on_each COUNT WHAT`, as `WHAT COMMAND FLAVOR`.
+on_each() {
+    local heart=$'\xF0\x9F\x92\x96' pair=$'\xED\xA0\xBD\xED\xB2\x96' mark=$'\xEF\xBF\xBD' command
+    keep_long "$1" "$heart" 4 "$pair" 6
+    "$2" encode cesu8
+    keep_long "$1" '' 1 $'\xC0\x80' 2
+    "$2" encode mutf8
+    printf 'yes\n' >"$scratch/wanted"
+    "$2" needs mutf8
+    printf 'no\n' >"$scratch/wanted"
+    "$2" needs cesu8
+    keep_long "$1" "$pair" 6 "$heart" 4
+    for command in decode decode-strict; do
+        "$2" "$command" cesu8
+    done
+    keep_long "$1" $'\xC0\x80' 2 '' 1
+    for command in decode decode-strict; do
+        "$2" "$command" mutf8
+    done
+    keep_long "$1" $'\xFF' 1 "$mark" 3
+    "$2" lossy cesu8
+    "$2" lossy mutf8
+    keep_long "$1" "$heart" 4 "$mark" 12
+    "$2" lossy-strict cesu8
+    keep_long "$1" '' 1 "$mark" 3
+    "$2" lossy-strict mutf8
+}
+
+# Writes a Java string of so many bytes of MUTF-8, an even number below 65,536, and its text.
+keep_java_string() {
+    printf '%b' "$(printf '\\x%02X\\x%02X' $(($1 / 256)) $(($1 % 256)))" >"$scratch/form"
+    filled "$1" $'\xC0\x80' >>"$scratch/form"
+    filled $(($1 / 2)) '' >"$scratch/text"
+}
+
+# The two commands of Java strings, on the longest string and its text: `on_java_strings WHAT`.
+on_java_strings() {
+    keep_java_string 65534
+    cp "$scratch/text" "$scratch/input"
+    cp "$scratch/form" "$scratch/wanted"
+    "$1" java-write mutf8
+    cp "$scratch/form" "$scratch/input"
+    cp "$scratch/text" "$scratch/wanted"
+    "$1" java-read mutf8
+}
+
+long_row() {
+    refuse_in_turn "$1 $2 on a long input" "$1" "$2" 0 ''
+}
+
+refuse_requests() {
+    if ! command -v cc >/dev/null; then
+        echo 'cc is not here: no single request is refused'
+        return
+    fi
+    if ! cc -Wall -Wextra -Werror -shared -fPIC -o "$scratch/requests.so" \
+        "$top/tests/requests.c" -ldl; then
+        failed=$((failed + 1))
+        return
+    fi
+    # Words that ask for nothing are told after the requests for the arguments, and before any other.
+    : >"$scratch/input"
+    run 0 encode utf9
+    arguments=$requests
+    hold 'the arguments' [ "$arguments" -gt 0 ]
+    keep '' ''
+    refuse_in_turn 'words that ask for nothing' encode utf9 2 'usage: cesu8_cli COMMAND FLAVOR'
+    rows
+    on_each 100000 long_row
+    on_java_strings long_row
+}
+
+# Runs the program on $scratch/input with at most so many KiB of memory: `run_within KIB WORD..`. The
+# C library takes 128 KiB more than it is asked for, unless it is told so, and a Java string and its
+# text fit into that.
+run_within() {
+    local kib=$1
+    shift
+    (ulimit -v "$kib" && MALLOC_TOP_PAD_=0 exec "$program" "$@") \
+        <"$scratch/input" >"$scratch/output" 2>"$scratch/error"
+    status=$?
+}
+
+# Keeps in least how many KiB the program needs to see its words, in pages of 4 KiB. These are wrong
+# ones, longer than any pair.
+find_least() {
+    : >"$scratch/input"
+    for ((least = 1024; least < 65536; least += 4)); do
+        run_within "$least" decode-strict utf-16
+        ((status == 2)) && return
+    done
+    hold 'the words, in 64 MiB of memory' false
+}
+
+# Runs with more and more memory, until it was enough twice: `grow STEP COMMAND FLAVOR STATUS LINE`,
+# with what the run has to end with then.
+grow() {
+    local kib answered=0 refused=0
+    for ((kib = least; answered < 2 && kib < least + 131072; kib += $1)); do
+        run_within "$kib" "$2" "$3"
+        if ((status == 3)); then
+            refused=$((refused + 1))
+            hold "$2 $3 within $kib KiB" ended 3 "$memory" "$scratch/nothing"
+        else
+            answered=$((answered + 1))
+            hold "$2 $3 within $kib KiB" ended "$4" "$5" "$scratch/wanted"
+        fi
+    done
+    hold "$2 $3, too little memory" [ "$refused" -gt 0 ]
+    hold "$2 $3, enough memory" [ "$answered" -eq 2 ]
+}
+
+grow_by_mebibytes() {
+    grow 1024 "$1" "$2" 0 ''
+}
+
+grow_by_pages() {
+    grow 4 "$1" "$2" 0 ''
+}
+
+# No Java string has 10 MB, so these are refused once there is memory to read them; the longest one
+# is written and read.
+limit_java_strings() {
+    on_java_strings grow_by_pages
+    cp "$scratch/nothing" "$scratch/wanted"
+    filled 10000000 a >"$scratch/input"
+    grow 1024 java-write mutf8 1 'cesu8: text is too long'
+    { cat "$scratch/form" && filled 10000000 a; } >"$scratch/input"
+    grow 1024 java-read mutf8 1 'cesu8: bytes after the string'
+}
+
+limit_memory() {
+    requests=uncounted
+    find_least
+    on_each 10000000 grow_by_mebibytes
+    limit_java_strings
+}
+
+build
+refuse_requests
+limit_memory
 
 echo "$passed passed, $failed failed"
 ((failed == 0))

@@ -3,7 +3,8 @@
 use crate::helpers::flavors;
 use crate::helpers::flavors::Flavor;
 use java_text::{ReadFault, WriteFault, read_utf, read_utf_lossy, write_utf};
-use simd_cesu8::{CowBytes, CowText, DecodeFault};
+use simd_cesu8::implementation::{active, fallback, simd, word};
+use simd_cesu8::{CowBytes, CowText, DecodeFault, DecodingError, laws};
 use std::alloc::{AllocError, Global};
 use std::io::{ErrorKind, Write};
 use std::{io, str};
@@ -21,6 +22,13 @@ pub fn make(rt: &HostRuntime, line: &[u8], bytes: &[u8]) -> io::Result<()> {
             tell_lossy(rt, flavors::decode_lossy_strict(rt.alloc(), flavor, bytes))
         }
         "into_string" => make_into_string(rt, flavor, bytes),
+        "lossy_len" => tell_length(rt, flavors::lossy_len(flavor, bytes)),
+        "active" | "fallback" | "simd" | "word" => ask_kernel(rt, call, flavor, bytes),
+        "faults" => show_faults(rt, flavors::decode_strict(rt.alloc(), flavor, bytes)),
+        "laws" => {
+            use_laws();
+            tell(rt, "true", &[])
+        }
         "read_utf" => tell_read(rt, read_utf(rt.alloc(), bytes)),
         "read_utf_lossy" => tell_read(rt, read_utf_lossy(rt.alloc(), bytes)),
         _ => match str::from_utf8(bytes) {
@@ -43,14 +51,8 @@ fn parse(line: &[u8]) -> Option<(&str, Flavor)> {
 /// Makes a call that takes a text.
 fn make_of_text(rt: &HostRuntime, call: &str, flavor: Flavor, text: &str) -> io::Result<()> {
     match call {
-        "needs_encoded" => {
-            let needs = flavors::needs_encoded(flavor, text);
-            tell(rt, if needs { "yes" } else { "no" }, &[])
-        }
-        "encoded_len" => {
-            let len = flavors::encoded_len(flavor, text);
-            println!(rt; "{len}, {} more", granted(rt.alloc()))
-        }
+        "needs_encoded" => tell(rt, yes_or_no(flavors::needs_encoded(flavor, text)), &[]),
+        "encoded_len" => tell_length(rt, Some(flavors::encoded_len(flavor, text))),
         "encode" => tell_bytes(rt, flavors::encode(rt.alloc(), flavor, text)),
         "into_vec" => make_into_vec(rt, flavor, text),
         "encode_into" => append(rt, Ok(Vec::new(rt.alloc())), flavor, text),
@@ -81,6 +83,63 @@ fn make_of_text(rt: &HostRuntime, call: &str, flavor: Flavor, text: &str) -> io:
         }
         _ => Err(ErrorKind::InvalidInput.into()),
     }
+}
+
+/// Asks the kernel of a module for the class of the encoding.
+fn ask_kernel(rt: &HostRuntime, module: &str, flavor: Flavor, bytes: &[u8]) -> io::Result<()> {
+    let found = match (module, flavor) {
+        ("fallback", Flavor::Cesu8) => fallback::contains_utf8_4_byte_char_header(bytes),
+        ("fallback", Flavor::Mutf8) => fallback::contains_null_or_utf8_4_byte_char_header(bytes),
+        ("simd", Flavor::Cesu8) => simd::contains_utf8_4_byte_char_header(bytes),
+        ("simd", Flavor::Mutf8) => simd::contains_null_or_utf8_4_byte_char_header(bytes),
+        ("word", Flavor::Cesu8) => word::contains_utf8_4_byte_char_header(bytes),
+        ("word", Flavor::Mutf8) => word::contains_null_or_utf8_4_byte_char_header(bytes),
+        (_, Flavor::Cesu8) => active::contains_utf8_4_byte_char_header(bytes),
+        (_, Flavor::Mutf8) => active::contains_null_or_utf8_4_byte_char_header(bytes),
+    };
+    tell(rt, yes_or_no(found), &[])
+}
+
+/// Prints each fault, that of the answer first, and whether the error equals itself.
+fn show_faults(rt: &HostRuntime, answer: Result<CowText<'_>, DecodeFault>) -> io::Result<()> {
+    let Err(fault) = answer else {
+        return Err(ErrorKind::InvalidInput.into());
+    };
+    println!(rt; "{fault}, {}", DecodeFault::Memory(AllocError))?;
+    println!(rt; "{}, {}", WriteFault::TooLong(65_536), WriteFault::Memory)?;
+    println!(rt; "{}, {}", ReadFault::Truncated, ReadFault::Memory)?;
+    match fault {
+        DecodeFault::Invalid(error) => show_error(rt, error),
+        DecodeFault::Memory(_) => tell(rt, "memory", &[]),
+    }
+}
+
+fn show_error(rt: &HostRuntime, error: DecodingError) -> io::Result<()> {
+    println!(rt; "{error}, {error:?}, {}", ReadFault::Invalid(error))?;
+    tell(rt, yes_or_no(error == error), &[])
+}
+
+/// Calls the function of each law.
+fn use_laws() {
+    laws::round_trip();
+    laws::concat();
+    laws::same_text();
+    laws::needs();
+    laws::no_zero();
+    laws::bounds();
+    laws::no_overlap();
+    laws::one_mark();
+    laws::places();
+    laws::fewest();
+    laws::split();
+    laws::around();
+    laws::middle();
+    laws::dictionary_order();
+    laws::order();
+    java_text::laws::one_form();
+    java_text::laws::no_form_begins_another();
+    java_text::laws::sequence();
+    java_text::laws::bounds();
 }
 
 /// Appends to a buffer, if there is one, and prints its bytes, after a refusal too.
@@ -138,18 +197,36 @@ fn make_into_string(rt: &HostRuntime, flavor: Flavor, bytes: &[u8]) -> io::Resul
 
 fn tell_bytes(rt: &HostRuntime, answer: Result<CowBytes<'_>, AllocError>) -> io::Result<()> {
     match answer {
-        Ok(CowBytes::Borrowed(bytes)) => tell(rt, "borrowed", bytes),
-        Ok(CowBytes::Owned(bytes)) => tell(rt, "owned", bytes.as_slice()),
+        Ok(answer) => tell(rt, case_of(answer.is_borrowed()), answer.as_bytes()),
         Err(_) => tell(rt, "memory", &[]),
     }
 }
 
 fn tell_text(rt: &HostRuntime, answer: Result<CowText<'_>, DecodeFault>) -> io::Result<()> {
     match answer {
-        Ok(CowText::Borrowed(text)) => tell(rt, "borrowed", text.as_bytes()),
-        Ok(CowText::Owned(text)) => tell(rt, "owned", text.as_bytes()),
+        Ok(answer) => tell(
+            rt,
+            case_of(answer.is_borrowed()),
+            answer.as_str().as_bytes(),
+        ),
         Err(DecodeFault::Invalid(_)) => tell(rt, "invalid", &[]),
         Err(DecodeFault::Memory(_)) => tell(rt, "memory", &[]),
+    }
+}
+
+fn case_of(is_borrowed: bool) -> &'static str {
+    if is_borrowed { "borrowed" } else { "owned" }
+}
+
+fn yes_or_no(answer: bool) -> &'static str {
+    if answer { "yes" } else { "no" }
+}
+
+/// Prints a length as the outcome.
+fn tell_length(rt: &HostRuntime, len: Option<usize>) -> io::Result<()> {
+    match len {
+        Some(len) => println!(rt; "{len}, {} more", granted(rt.alloc())),
+        None => tell(rt, "none", &[]),
     }
 }
 
