@@ -412,56 +412,6 @@ very_long_text() {
     expect_long '32 MiB of text that stays' encode cesu8
 }
 
-# Runs with at most so many KiB of memory, on $scratch/input. What came has to be the whole answer in
-# $scratch/wanted, or want of memory and no byte of it: `run_within KIB COMMAND FLAVOR`.
-run_within() {
-    local status
-    (ulimit -v "$1" && exec "$program" "$2" "$3") \
-        <"$scratch/input" >"$scratch/long" 2>"$scratch/error"
-    status=$?
-    if ((status == 0)); then
-        answered=$((answered + 1))
-        : >"$scratch/output"
-        expect "$2 $3 within $1 KiB" "$status" 0 '' ''
-        if ! cmp -s "$scratch/long" "$scratch/wanted"; then
-            failed=$((failed + 1))
-            echo "wrong: $2 $3 within $1 KiB ends with status 0, and not with the whole answer"
-        fi
-    else
-        refused=$((refused + 1))
-        head -c 20 "$scratch/long" >"$scratch/output"
-        expect "$2 $3 within $1 KiB" "$status" 3 '' 'cesu8: out of memory'
-    fi
-}
-
-# Of these runs some have to answer, and some have to be refused: `within_sizes COMMAND FLAVOR`. A size
-# in which the program can't start, and so can't tell that it has no words, is passed over.
-within_sizes() {
-    local kib answered=0 refused=0
-    for kib in 4096 6144 8192 12288 16384 24576 32768 49152 65536; do
-        (ulimit -v "$kib" && exec "$program") </dev/null >"$scratch/output" 2>&1
-        (($? == 2)) && run_within "$kib" "$1" "$2"
-    done
-    if ((answered == 0 || refused == 0)); then
-        failed=$((failed + 1))
-        echo "wrong: $1 $2 within several sizes: $answered answered, and $refused were refused"
-    fi
-}
-
-# Some megabytes: UTF-8 of four bytes, the pairs that encode it, and these with damage after them.
-little_memory() {
-    million 'F0 9F 92 96' >"$scratch/text"
-    million 'ED A0 BD ED B2 96' >"$scratch/pairs"
-    cp "$scratch/text" "$scratch/input"
-    cp "$scratch/text" "$scratch/wanted"
-    within_sizes decode cesu8
-    cp "$scratch/pairs" "$scratch/wanted"
-    within_sizes encode mutf8
-    { cat "$scratch/pairs" && bytes 'FF'; } >"$scratch/input"
-    { cat "$scratch/text" && bytes 'EF BF BD'; } >"$scratch/wanted"
-    within_sizes lossy cesu8
-}
-
 build
 run_cases
 every_pair full_output
@@ -482,7 +432,6 @@ long_damage
 long_pairs
 java_strings
 very_long_text
-little_memory
 
 echo "$passed passed, $failed failed"
 ((failed == 0))
