@@ -1,0 +1,5 @@
+pub mod JoinedTexts
+pub mod OrderedKeys
+pub mod Texts
+pub mod WholeText
+pub mod CopiedStrings

@@ -1,0 +1,55 @@
+//! The repair of a damaged log.
+
+ghost use Rattle.std.specs.Prelude.{◌≡◌, ◌↔◌, IsTrue, IfOk};
+ghost use Rattle.std.specs.Str.{chars};
+ghost use Rattle.simd_cesu8.specs.Encoding.{Cesu8};
+ghost use Rattle.simd_cesu8.specs.Reading.{HasNoStrictReading, IsStrictReading, reading};
+ghost use Rattle.simd_cesu8.specs.Cow.{answer_text};
+ghost use Rattle.uses.specs.Repair.{KeepsRecords, ReplacesFewest};
+
+use simd_cesu8::{CowText, DecodeFault, laws};
+use std::alloc::{AllocError, Global};
+
+/// The text of a log, and whether the log was damaged.
+#[derive(Drop)]
+pub struct Repaired<'a> {
+    /// What could be read, with one U+FFFD for each byte that could not.
+    pub text: CowText<'a>,
+    /// Whether some byte was replaced.
+    pub is_damaged: bool,
+}
+
+/// Reads a log in CESU-8 that may be damaged.
+///
+/// ```rust
+/// let repaired = uses::repair_log(alloc, b"one\n\xED\xA0\xBDtwo\n")?;
+/// assert!(rt; repaired.is_damaged);
+/// assert_eq!(rt; repaired.text.as_str(), "one\n\u{FFFD}\u{FFFD}\u{FFFD}two\n");
+/// ```
+pub fn repair_log(alloc: Global, log: &[u8]) -> Result<Repaired<'_>, AllocError>
+    ensures text { IfOk result (λ repaired.
+        chars (answer_text repaired.text) ≡ reading Cesu8 log.now) }
+    ensures damaged { IfOk result (λ repaired.
+        IsTrue repaired.is_damaged ↔ HasNoStrictReading Cesu8 log.now) }
+    ensures whole { IfOk result (λ repaired. (¬ (IsTrue repaired.is_damaged))
+        ↔ IsStrictReading Cesu8 log.now (chars (answer_text repaired.text))) }
+    ensures kept { IfOk result (λ repaired.
+        KeepsRecords log.now (chars (answer_text repaired.text))) }
+    ensures fewest { IfOk result (λ repaired.
+        ReplacesFewest log.now (chars (answer_text repaired.text))) }
+{
+    laws::around();
+    laws::middle();
+    laws::fewest();
+    match simd_cesu8::decode_strict(alloc, log) {
+        Ok(text) => Ok(Repaired {
+            text,
+            is_damaged: false,
+        }),
+        Err(DecodeFault::Invalid(_)) => Ok(Repaired {
+            text: simd_cesu8::decode_lossy_strict(alloc, log)?,
+            is_damaged: true,
+        }),
+        Err(DecodeFault::Memory(error)) => Err(error),
+    }
+}
