@@ -1,7 +1,9 @@
 -- The constants of a Java class file that are texts.
 use Rattle.std.specs.Prelude.{◌≡◌, ◌≢◌, ◌⊎◌, ℕ, ◌∷◌, ◌++◌, [], List, Result, IfErr, drop, slice_index}
 use Rattle.simd_cesu8.specs.Text.{IsText}
-use Rattle.java_text.specs.Form.{HasForm, java_form, IsTruncated}
+use Rattle.simd_cesu8.specs.Class.{IsUnchangedUtf8}
+use Rattle.simd_cesu8.specs.Encoding.{Mutf8}
+use Rattle.java_text.specs.Form.{HasForm, java_form, counted, IsTruncated}
 use Rattle.java_text.specs.Fault as java
 use Rattle.uses.specs.declared.class_file.ConstantFault.{ConstantFault}
 use Rattle.uses.specs.declared.class_file.ConstantFault.TheVariants.{OtherTag, Text}
@@ -28,6 +30,11 @@ HasOtherTag bytes = (bytes ≢ []) × (slice_index bytes 0 ≢ 1)
 -- There are fewer bytes than the tag, or than the two bytes after it, say.
 abbrev pub IsCutShort : List ℕ → Type 0
 IsCutShort bytes = (bytes ≡ []) ⊎ ((slice_index bytes 0 ≡ 1) × IsTruncated (drop 1 bytes))
+
+-- The bytes of a constant are there, and those of its text are the same in UTF-8.
+abbrev pub IsPlainConstant : List ℕ → Type 0
+IsPlainConstant bytes = (slice_index bytes 0 ≡ 1) × ¬ (IsTruncated (drop 1 bytes))
+    × IsUnchangedUtf8 Mutf8 (counted (drop 1 bytes))
 
 -- A fact that holds where a call refuses its input.
 abbrev pub IfRefused : ConstantFault → Type 0 → Type 0

@@ -1,8 +1,8 @@
 //! The constants of a Java class file that are texts.
 
-ghost use Rattle.std.specs.Prelude.{◌≡◌, ◌↔◌, slice_index};
+ghost use Rattle.std.specs.Prelude.{◌≡◌, ◌↔◌, slice_index, IsOk};
 ghost use Rattle.java_text.specs.Read.{IfRead};
-ghost use Rattle.uses.specs.ClassFile.{BeginsWithConstant, BeginsOnlyWithConstant, HasOtherTag, IsCutShort, NoConstantBegins, OnRefused};
+ghost use Rattle.uses.specs.ClassFile.{BeginsWithConstant, BeginsOnlyWithConstant, HasOtherTag, IsCutShort, IsPlainConstant, NoConstantBegins, OnRefused};
 ghost use Rattle.uses.specs.declared.class_file.ConstantFault.TheVariants.{Text};
 
 use java_text::ReadFault;
@@ -33,7 +33,8 @@ impl From<ReadFault> for ConstantFault {
 /// Virtual Machine Specification): its text, and the bytes after it, where the next constant
 /// begins.
 ///
-/// A class file may hold unpaired surrogates in such a constant. These are no text, and refused.
+/// The text borrows where its bytes are its UTF-8, which takes no memory, as in `java_text`. A class
+/// file may hold unpaired surrogates in such a constant. These are no text, and refused.
 ///
 /// ```rust
 /// let (name, rest) = uses::read_utf8_constant(alloc, b"\x01\0\x03a\xC0\x80\x07\0\x02")?;
@@ -52,6 +53,7 @@ pub fn read_utf8_constant(
     ensures truncated { result ≡ Err (ConstantFault.Text ReadFault.Truncated)
         ↔ IsCutShort bytes.now }
     ensures refused { OnRefused result (NoConstantBegins bytes.now) }
+    ensures succeeds { IsPlainConstant bytes.now → IsOk result }
 {
     let [tag, form @ ..] = bytes else {
         return Err(ConstantFault::Text(ReadFault::Truncated));

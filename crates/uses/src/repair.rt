@@ -1,7 +1,8 @@
 //! The repair of a damaged log.
 
-ghost use Rattle.std.specs.Prelude.{◌≡◌, ◌↔◌, IsTrue, IfOk};
+ghost use Rattle.std.specs.Prelude.{◌≡◌, ◌↔◌, IsTrue, IfOk, IsOk};
 ghost use Rattle.std.specs.Str.{chars};
+ghost use Rattle.simd_cesu8.specs.Class.{IsUnchangedUtf8};
 ghost use Rattle.simd_cesu8.specs.Encoding.{Cesu8};
 ghost use Rattle.simd_cesu8.specs.Reading.{HasNoStrictReading, IsStrictReading, reading};
 ghost use Rattle.simd_cesu8.specs.Cow.{answer_text};
@@ -10,16 +11,20 @@ ghost use Rattle.uses.specs.Repair.{KeepsRecords, ReplacesFewest};
 use simd_cesu8::{CowText, DecodeFault, laws};
 use std::alloc::{AllocError, Global};
 
-/// The text of a log, and whether the log was damaged.
+/// The text of a log, and whether the log is damaged.
 #[derive(Drop)]
 pub struct Repaired<'a> {
     /// What could be read, with one U+FFFD for each byte that could not.
     pub text: CowText<'a>,
-    /// Whether some byte was replaced.
+    /// Whether the log is the CESU-8 of no text.
     pub is_damaged: bool,
 }
 
 /// Reads a log in CESU-8 that may be damaged.
+///
+/// Each record that is whole stays what it is, wherever the damage lies, and no other way to cut the
+/// log into characters and replaced bytes loses fewer bytes. `AllocError` comes where the one
+/// request for memory is refused; a log without damage and without surrogate pairs makes none.
 ///
 /// ```rust
 /// let repaired = uses::repair_log(alloc, b"one\n\xED\xA0\xBDtwo\n")?;
@@ -37,6 +42,7 @@ pub fn repair_log(alloc: Global, log: &[u8]) -> Result<Repaired<'_>, AllocError>
         KeepsRecords log.now (chars (answer_text repaired.text))) }
     ensures fewest { IfOk result (λ repaired.
         ReplacesFewest log.now (chars (answer_text repaired.text))) }
+    ensures succeeds { IsUnchangedUtf8 Cesu8 log.now → IsOk result }
 {
     laws::around();
     laws::middle();
