@@ -12,7 +12,8 @@ abbrev pub encoded : Bor (List ℕ) → List ℕ
 encoded text = encoding Cesu8 (chars text.now)
 
 -- The encoding of the texts in a row is their encodings in a row.
-pub encoding-joined : Concat → (texts : List (Bor (List ℕ))) → encoding Cesu8 (joined texts) ≡ flat_map encoded texts
+pub encoding-joined : Concat → (texts : List (Bor (List ℕ))) →
+    encoding Cesu8 (joined texts) ≡ flat_map encoded texts
 unfolding encoding
 encoding-joined concat [] = refl
 encoding-joined concat (text ∷ texts) =
@@ -20,5 +21,6 @@ encoding-joined concat (text ∷ texts) =
 
 -- One text more.
 pub encoded_more : (texts : List (Bor (List ℕ))) (i : ℕ) (d : Bor (List ℕ)) → i < length texts →
-    flat_map encoded (take (i + 1) texts) ≡ flat_map encoded (take i texts) ++ encoded (get_or texts i d)
+    flat_map encoded (take (i + 1) texts)
+    ≡ flat_map encoded (take i texts) ++ encoded (get_or texts i d)
 encoded_more texts i d inside = grind (arith, common_steps)

@@ -16,6 +16,7 @@ unfolding reading
 nothing_read f = refl
 
 -- The lossy reading of an encoding is its text: nothing stands after it.
-pub reading-encoding : Around → (f : Flavor) (text : List ℕ) → IsText text → reading f (encoding f text) ≡ text
+pub reading-encoding : Around → (f : Flavor) (text : List ℕ) → IsText text →
+    reading f (encoding f text) ≡ text
 reading-encoding around f text is_text =
     simp (nothing f, nothing_read f, append-nil) at (around f text [] [] is_text tt)

@@ -16,7 +16,8 @@ value_at store text = get_by (λ key. slice_cmp nat_cmp (encoding Cesu8 text) ke
 -- Where two keys are those of texts, the first text's code units are below the other's.
 abbrev pub IsBelowInUtf16 : Vec ℕ → Vec ℕ → Type 0
 IsBelowInUtf16 key other = (s t : List ℕ) →
-    IsStrictReading Cesu8 key.items s → IsStrictReading Cesu8 other.items t → IsBelow (units s) (units t)
+    IsStrictReading Cesu8 key.items s → IsStrictReading Cesu8 other.items t →
+    IsBelow (units s) (units t)
 
 -- The store has its keys in the order of UTF-16: each is below those after it.
 abbrev pub IsInUtf16Order : BTreeMap (Vec ℕ) ℕ → Type 0

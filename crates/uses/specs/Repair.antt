@@ -5,13 +5,15 @@ use Rattle.simd_cesu8.specs.Encoding.{Cesu8, encoding}
 use Rattle.simd_cesu8.specs.Reading.{reading}
 use Rattle.simd_cesu8.specs.Cutting.{Piece, IsCutting, text_of, cost}
 
--- Each encoded record of the log stands in the text, between what was read before it and after it.
+-- Each whole record of the log stands in the text, between what is read before it and after it.
 abbrev pub KeepsRecords : List ℕ → List ℕ → Type 0
-KeepsRecords log text = (before record_text after : List ℕ) → IsText record_text → record_text ≢ [] →
-    log ≡ before ++ encoding Cesu8 record_text ++ after →
-    text ≡ reading Cesu8 before ++ record_text ++ reading Cesu8 after
+KeepsRecords log text = (before whole after : List ℕ) → IsText whole → whole ≢ [] →
+    log ≡ before ++ encoding Cesu8 whole ++ after →
+    text ≡ reading Cesu8 before ++ whole ++ reading Cesu8 after
 
 -- The text is that of a cutting of the log, and every other cutting replaces more bytes.
 abbrev pub ReplacesFewest : List ℕ → List ℕ → Type 0
-ReplacesFewest log text = (pieces : List Piece) × IsCutting Cesu8 log pieces × (text_of pieces ≡ text)
-    × ((other : List Piece) → IsCutting Cesu8 log other → (other ≡ pieces) ⊎ (cost pieces < cost other))
+ReplacesFewest log text = (pieces : List Piece)
+    × IsCutting Cesu8 log pieces × (text_of pieces ≡ text)
+    × ((other : List Piece) → IsCutting Cesu8 log other →
+    (other ≡ pieces) ⊎ (cost pieces < cost other))

@@ -33,8 +33,8 @@ impl From<ReadFault> for ConstantFault {
 /// Virtual Machine Specification): its text, and the bytes after it, where the next constant
 /// begins.
 ///
-/// The text borrows where its bytes are its UTF-8, which takes no memory, as in `java_text`. A class
-/// file may hold unpaired surrogates in such a constant. These are no text, and refused.
+/// The text borrows where its bytes are its UTF-8, which takes no memory. A class file may hold
+/// unpaired surrogates in such a constant. These are no text, and refused.
 ///
 /// ```rust
 /// let (name, rest) = uses::read_utf8_constant(alloc, b"\x01\0\x03a\xC0\x80\x07\0\x02")?;

@@ -22,9 +22,9 @@ pub struct Repaired<'a> {
 
 /// Reads a log in CESU-8 that may be damaged.
 ///
-/// Each record that is whole stays what it is, wherever the damage lies, and no other way to cut the
-/// log into characters and replaced bytes loses fewer bytes. `AllocError` comes where the one
-/// request for memory is refused; a log without damage and without surrogate pairs makes none.
+/// Each whole record stays what it is, wherever the damage lies, and no other way to cut the log
+/// into characters and replaced bytes replaces fewer bytes. `AllocError` comes where a request for
+/// memory is refused; a log without damage and without surrogate pairs makes none.
 ///
 /// ```rust
 /// let repaired = uses::repair_log(alloc, b"one\n\xED\xA0\xBDtwo\n")?;

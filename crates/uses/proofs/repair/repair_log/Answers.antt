@@ -10,7 +10,8 @@ use Rattle.uses.proofs.repair.repair_log.Goals as goal
 is_reading : (c : goal.In-Ok) → chars (answer_text c.in-Ok.text) ≡ reading Cesu8 c.args.log.now
 is_reading c =
     let text = chars (answer_text c.in-Ok.text) in
-    sym (reading-encoding c.around.ensures Cesu8 text c.in-Ok.ensures.text.0) ∙ ap (reading Cesu8) c.in-Ok.ensures.text.1
+    sym (reading-encoding c.around.ensures Cesu8 text c.in-Ok.ensures.text.0)
+    ∙ ap (reading Cesu8) c.in-Ok.ensures.text.1
 
 pub returns-in-Ok-clause-text : goal.returns-in-Ok-clause-text
 returns-in-Ok-clause-text c = is_reading c
@@ -28,4 +29,5 @@ pub returns-in_ok-decode_lossy_strict-in-Err-Invalid-clause-fewest :
     goal.returns-in_ok-decode_lossy_strict-in-Err-Invalid-clause-fewest
 returns-in_ok-decode_lossy_strict-in-Err-Invalid-clause-fewest c =
     let cutting = c.fewest.ensures Cesu8 c.args.log.now in
-    (cutting.0, cutting.1, cutting.3 ∙ sym c.in_ok-decode_lossy_strict-in-Err-Invalid.ensures.reading, cutting.4)
+    let reading = c.in_ok-decode_lossy_strict-in-Err-Invalid.ensures.reading in
+    (cutting.0, cutting.1, cutting.3 ∙ sym reading, cutting.4)
