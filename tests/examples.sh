@@ -10,7 +10,7 @@
 #
 # The examples are built in a repository of their own beside copies of the libraries, without proof.
 # It prints what is wrong, and ends with the counts. The status is 0 where nothing is wrong. It needs
-# the kit's `rt`, bash, awk and the core utilities.
+# the kit's `rt`, bash, awk, grep, sed, find and the core utilities.
 set -u
 unset CDPATH
 export LC_ALL=C
