@@ -1,4 +1,5 @@
 pub mod JoinedTexts
+pub mod LostBytes
 pub mod OrderedKeys
 pub mod Texts
 pub mod WholeText

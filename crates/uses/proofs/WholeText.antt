@@ -6,7 +6,7 @@ use Rattle.simd_cesu8.specs.Reading.{reading}
 use Rattle.simd_cesu8.specs.Laws.{Around}
 
 -- Nothing is encoded as nothing.
-nothing : (f : Flavor) → encoding f [] ≡ []
+pub nothing : (f : Flavor) → encoding f [] ≡ []
 unfolding encoding
 nothing f = refl
 

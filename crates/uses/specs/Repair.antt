@@ -11,6 +11,10 @@ KeepsRecords log text = (before whole after : List ℕ) → IsText whole → who
     log ≡ before ++ encoding Cesu8 whole ++ after →
     text ≡ reading Cesu8 before ++ whole ++ reading Cesu8 after
 
+-- Every cutting of the log into characters and replaced bytes replaces some byte.
+abbrev pub LosesBytes : List ℕ → Type 0
+LosesBytes log = (pieces : List Piece) → IsCutting Cesu8 log pieces → 0 < cost pieces
+
 -- The text is that of a cutting of the log, and every other cutting replaces more bytes.
 abbrev pub ReplacesFewest : List ℕ → List ℕ → Type 0
 ReplacesFewest log text = (pieces : List Piece)

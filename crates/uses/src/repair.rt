@@ -4,9 +4,9 @@ ghost use Rattle.std.specs.Prelude.{◌≡◌, ◌↔◌, IsTrue, IfOk, IsOk};
 ghost use Rattle.std.specs.Str.{chars};
 ghost use Rattle.simd_cesu8.specs.Class.{IsUnchangedUtf8};
 ghost use Rattle.simd_cesu8.specs.Encoding.{Cesu8};
-ghost use Rattle.simd_cesu8.specs.Reading.{HasNoStrictReading, IsStrictReading, reading};
+ghost use Rattle.simd_cesu8.specs.Reading.{IsStrictReading, reading};
 ghost use Rattle.simd_cesu8.specs.Cow.{answer_text};
-ghost use Rattle.uses.specs.Repair.{KeepsRecords, ReplacesFewest};
+ghost use Rattle.uses.specs.Repair.{KeepsRecords, LosesBytes, ReplacesFewest};
 
 use simd_cesu8::{CowText, DecodeFault, laws};
 use std::alloc::{AllocError, Global};
@@ -16,7 +16,7 @@ use std::alloc::{AllocError, Global};
 pub struct Repaired<'a> {
     /// What could be read, with one U+FFFD for each byte that could not.
     pub text: CowText<'a>,
-    /// Whether the log is the CESU-8 of no text.
+    /// Whether some byte had to be replaced: whether the log is the CESU-8 of no text.
     pub is_damaged: bool,
 }
 
@@ -35,7 +35,7 @@ pub fn repair_log(alloc: Global, log: &[u8]) -> Result<Repaired<'_>, AllocError>
     ensures text { IfOk result (λ repaired.
         chars (answer_text repaired.text) ≡ reading Cesu8 log.now) }
     ensures damaged { IfOk result (λ repaired.
-        IsTrue repaired.is_damaged ↔ HasNoStrictReading Cesu8 log.now) }
+        IsTrue repaired.is_damaged ↔ LosesBytes log.now) }
     ensures whole { IfOk result (λ repaired. (¬ (IsTrue repaired.is_damaged))
         ↔ IsStrictReading Cesu8 log.now (chars (answer_text repaired.text))) }
     ensures kept { IfOk result (λ repaired.
@@ -44,6 +44,7 @@ pub fn repair_log(alloc: Global, log: &[u8]) -> Result<Repaired<'_>, AllocError>
         ReplacesFewest log.now (chars (answer_text repaired.text))) }
     ensures succeeds { IsUnchangedUtf8 Cesu8 log.now → IsOk result }
 {
+    laws::concat();
     laws::around();
     laws::middle();
     laws::fewest();

@@ -81,6 +81,8 @@ fn orders_keys_as_utf16(rt: HostRuntime) -> Result<(), Fail> {
 fn appends_all_texts(rt: HostRuntime) -> Result<(), Fail> {
     let mut buf = Vec::new(rt.alloc());
     append_all(&["id", "=", "", "\u{1F496}\0"], &mut buf)?;
+    // No clause says it: the buffer has room for these and no more.
+    assert_eq!(rt; (buf.len(), buf.capacity()), (10, 10));
     append_all(&[], &mut buf)?;
     append_all(&["\u{20AC}"], &mut buf)?;
     assert_eq!(rt;
