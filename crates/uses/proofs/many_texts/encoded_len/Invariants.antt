@@ -1,0 +1,7 @@
+use Rattle.std.proofs.Common.{◌≡◌, length, take}
+use Rattle.std.specs.List.{flat_map}
+use Rattle.uses.proofs.JoinedTexts.{encoded}
+use Rattle.uses.proofs.many_texts.encoded_len.Given as goal
+
+abbrev pub invariant-loop-text : goal.invariant-loop-text
+invariant-loop-text l = l.total ≡ length (flat_map encoded (take l.text-index l.texts))

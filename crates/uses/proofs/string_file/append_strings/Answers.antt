@@ -1,0 +1,22 @@
+use Rattle.std.proofs.Common.{◌≡◌, [], length, rules, arith, ap}
+use Rattle.std.proofs.lemmas.Grind.{common_steps}
+use Rattle.uses.proofs.CopiedStrings.{one_copied, refused_whole}
+use Rattle.uses.proofs.string_file.append_strings.Goals as goal
+
+pub returns-in_err-text-clause-refused : goal.returns-in_err-text-clause-refused
+returns-in_err-text-clause-refused c =
+    let some_left : c.loop-rest.rest.now ≡ [] → ⊥ =
+    λ none. let len = ap length none in grind (arith, common_steps) in
+    let refused = refused_whole c.in_err-text.field-0.0 c.loop-rest.invariant some_left
+    c.in_err-text.ensures.refused in
+    search (rules, refused)
+
+pub loop-rest-preserved-in-Ok : goal.loop-rest-preserved-in-Ok
+loop-rest-preserved-in-Ok c =
+    one_copied c.bounds.ensures c.loop-rest.invariant c.in_ok-text.ensures.text
+    c.in_ok-text.ensures.only (rw c.as_str.ensures at c.in-Ok.ensures.ok)
+
+pub loop-rest-preserved : goal.loop-rest-preserved
+loop-rest-preserved c =
+    one_copied c.bounds.ensures c.loop-rest.invariant c.in_ok-text.ensures.text
+    c.in_ok-text.ensures.only (rw c.as_str.ensures at c.in-Ok.ensures.ok)

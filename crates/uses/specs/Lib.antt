@@ -1,0 +1,5 @@
+pub mod ClassFile
+pub mod Texts
+pub mod KeyStore
+pub mod Repair
+pub mod StringFile

@@ -1,0 +1,59 @@
+//! A store whose keys order as UTF-16 does.
+
+ghost use Rattle.std.specs.Prelude.{◌≡◌, ◌≢◌, ℕ, List, IfOk, OnOk, OnErr};
+ghost use Rattle.std.specs.BTreeMap.{IsUnchanged};
+ghost use Rattle.std.specs.Str.{chars};
+ghost use Rattle.simd_cesu8.specs.Text.{IsText};
+ghost use Rattle.uses.specs.KeyStore.{value_at, IsInUtf16Order};
+
+use simd_cesu8::laws;
+use std::alloc::{AllocError, Global};
+use std::collections::BTreeMap;
+
+/// Values at texts. A key is the CESU-8 of its text, so the keys stand in the order of the texts'
+/// UTF-16 code units, as Java's `compareTo` has it.
+pub type Store = BTreeMap<Vec<u8>, u64>;
+
+/// Puts a value at a text, in the place of the one that it had.
+///
+/// `AllocError` comes where a request for memory is refused, and the store is as before then.
+///
+/// ```rust
+/// let mut store = BTreeMap::new(alloc);
+/// uses::put_value(alloc, &mut store, "\u{FFFF}", 1)?;
+/// uses::put_value(alloc, &mut store, "\u{10000}", 2)?;
+/// let mut values = store.values();
+/// assert_eq!(rt; (values.next(), values.next()), (Some(&2), Some(&1)));
+/// ```
+pub fn put_value(alloc: Global, store: &mut Store, key: &str, value: u64) -> Result<(), AllocError>
+    ensures ok { OnOk result (value_at store.new (chars key.now) ≡ Some value) }
+    ensures others { (other : List ℕ) → IsText other → other ≢ chars key.now
+        → value_at store.new other ≡ value_at store.old other }
+    ensures err { OnErr result (IsUnchanged store.old store.new) }
+    ensures order { OnOk result (IsInUtf16Order store.new) }
+{
+    laws::round_trip();
+    laws::order();
+    laws::dictionary_order();
+    let encoded = simd_cesu8::encode(alloc, key)?.into_vec(alloc)?;
+    store.insert(encoded, value)?;
+    Ok(())
+}
+
+/// The value at a text, if it has one.
+///
+/// `AllocError` comes where a request for memory is refused, which is made for a key that is other
+/// than the text's UTF-8.
+///
+/// ```rust
+/// let mut store = BTreeMap::new(alloc);
+/// uses::put_value(alloc, &mut store, "\u{1F496}", 3)?;
+/// assert_eq!(rt; uses::get_value(alloc, &store, "\u{1F496}")?, Some(3));
+/// assert_eq!(rt; uses::get_value(alloc, &store, "")?, None);
+/// ```
+pub fn get_value(alloc: Global, store: &Store, key: &str) -> Result<Option<u64>, AllocError>
+    ensures { IfOk result (λ value. value ≡ value_at store.now (chars key.now)) }
+{
+    let encoded = simd_cesu8::encode(alloc, key)?;
+    Ok(store.get(encoded.as_bytes()).copied())
+}

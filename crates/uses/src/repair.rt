@@ -1,0 +1,62 @@
+//! The repair of a damaged log.
+
+ghost use Rattle.std.specs.Prelude.{◌≡◌, ◌↔◌, IsTrue, IfOk, IsOk};
+ghost use Rattle.std.specs.Str.{chars};
+ghost use Rattle.simd_cesu8.specs.Class.{IsUnchangedUtf8};
+ghost use Rattle.simd_cesu8.specs.Encoding.{Cesu8};
+ghost use Rattle.simd_cesu8.specs.Reading.{IsStrictReading, reading};
+ghost use Rattle.simd_cesu8.specs.Cow.{answer_text};
+ghost use Rattle.uses.specs.Repair.{KeepsRecords, LosesBytes, ReplacesFewest};
+
+use simd_cesu8::{CowText, DecodeFault, laws};
+use std::alloc::{AllocError, Global};
+
+/// The text of a log, and whether the log is damaged.
+#[derive(Drop)]
+pub struct Repaired<'a> {
+    /// What could be read, with one U+FFFD for each byte that could not.
+    pub text: CowText<'a>,
+    /// Whether some byte had to be replaced: whether the log is the CESU-8 of no text.
+    pub is_damaged: bool,
+}
+
+/// Reads a log in CESU-8 that may be damaged.
+///
+/// Each whole record stays what it is, wherever the damage lies, and no other way to cut the log
+/// into characters and replaced bytes replaces fewer bytes. `AllocError` comes where a request for
+/// memory is refused; a log without damage and without surrogate pairs makes none.
+///
+/// ```rust
+/// let repaired = uses::repair_log(alloc, b"one\n\xED\xA0\xBDtwo\n")?;
+/// assert!(rt; repaired.is_damaged);
+/// assert_eq!(rt; repaired.text.as_str(), "one\n\u{FFFD}\u{FFFD}\u{FFFD}two\n");
+/// ```
+pub fn repair_log(alloc: Global, log: &[u8]) -> Result<Repaired<'_>, AllocError>
+    ensures text { IfOk result (λ repaired.
+        chars (answer_text repaired.text) ≡ reading Cesu8 log.now) }
+    ensures damaged { IfOk result (λ repaired.
+        IsTrue repaired.is_damaged ↔ LosesBytes log.now) }
+    ensures whole { IfOk result (λ repaired. (¬ (IsTrue repaired.is_damaged))
+        ↔ IsStrictReading Cesu8 log.now (chars (answer_text repaired.text))) }
+    ensures kept { IfOk result (λ repaired.
+        KeepsRecords log.now (chars (answer_text repaired.text))) }
+    ensures fewest { IfOk result (λ repaired.
+        ReplacesFewest log.now (chars (answer_text repaired.text))) }
+    ensures succeeds { IsUnchangedUtf8 Cesu8 log.now → IsOk result }
+{
+    laws::concat();
+    laws::around();
+    laws::middle();
+    laws::fewest();
+    match simd_cesu8::decode_strict(alloc, log) {
+        Ok(text) => Ok(Repaired {
+            text,
+            is_damaged: false,
+        }),
+        Err(DecodeFault::Invalid(_)) => Ok(Repaired {
+            text: simd_cesu8::decode_lossy_strict(alloc, log)?,
+            is_damaged: true,
+        }),
+        Err(DecodeFault::Memory(error)) => Err(error),
+    }
+}
