@@ -26,6 +26,9 @@ pub mod Appended
 pub mod Borrowing
 pub mod Lawful
 pub mod EncodedBytes
+pub mod EncodedLanes
+pub mod EncodedBlocks
+pub mod EncodedRows
 pub mod Worked
 pub mod Standing
 pub mod Inside

@@ -7,6 +7,9 @@ ghost use Rattle.simd_cesu8.specs.Text.{utf8_of};
 ghost use Rattle.simd_cesu8.specs.Encoding.{Flavor as FlavorName, encoding, short_form};
 ghost use Rattle.simd_cesu8.specs.Internal.{flavor_of};
 
+mod blocks;
+mod rows;
+
 use super::Flavor;
 use super::lengths::encoded_len;
 use super::writers::{copy_front, push_all};
