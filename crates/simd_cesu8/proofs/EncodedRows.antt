@@ -1,13 +1,15 @@
 -- How a row of eight bytes is packed by a shuffle.
-use Rattle.std.proofs.Common.{◌≡◌, ℕ, zero, suc, ◌+◌, ◌*◌, ◌/◌, ◌%◌, ◌-◌, ◌<◌, ◌≤◌, Bool, true, false, cond, List, [], ◌∷◌, ◌++◌, map, length, take, drop, get_or, replicate, eqb, refl, sym, ap, ◌∙◌, subst, arith, w8, T, count_ones, eqb-true, length-append, append_assoc}
+use Rattle.std.proofs.Common.{◌≡◌, ℕ, zero, suc, ◌+◌, ◌*◌, ◌/◌, ◌%◌, ◌-◌, ◌^◌, ◌<◌, ◌≤◌, Bool, true, false, cond, List, [], ◌∷◌, ◌++◌, map, length, take, drop, get_or, replicate, eqb, refl, sym, ap, ◌∙◌, subst, arith, w8, T, count_ones, eqb-true, length-append, append_assoc, append-nil, bit_and}
 use Rattle.std.specs.List.{range_with_len}
 use Rattle.std.proofs.lemmas.Bool.{agree_below_at}
-use Rattle.std.proofs.lemmas.List.{ext_get_or, get_or-map, length-map, length-take-le, map-append, take_at}
+use Rattle.std.proofs.lemmas.List.{ext_get_or, get_or-map, length-map, length-take-le, length-drop, map-append, take_at, drop_at, drop_all, drop-drop}
+use Rattle.std.proofs.lemmas.Nat.{and_mask}
+use Rattle.std.proofs.Math.Nat.{mul-zero, mul_assoc, pow-succ', add-mul-div_left, add-mul-mod_self_left, div-eq_of_lt, mod-eq_of_lt, one-le-pow}
 use Rattle.std.proofs.lemmas.List.FromFn.{length-range_with_len}
-use Rattle.std.proofs.lemmas.Simd.{swz_l, SwzOk, SwzOk-from_below, length-swz_l, get_or-swz_l_below, pick_l-range_with_len, put_chunk_is, ones-mask_l_cons, Each1-from_get_or}
+use Rattle.std.proofs.lemmas.Simd.{swz_l, SwzOk, SwzOk-from_below, length-swz_l, get_or-swz_l_below, pick_l-range_with_len, pick_l_left, mask_l-lt, put_chunk_is, ones-mask_l_cons, Each1-from_get_or}
 use lib.Dec.{ltb→lt}
 use mir.ValLaws.{and_both}
-use lib.Lanes.{Each1, mask_l, put_chunk, chunk, all_below}
+use lib.Lanes.{Each1, mask_l, put_chunk, chunk, pick_l, all_below}
 use Rattle.simd_cesu8.specs.EncodedPlaces.{packed, kept_lanes, shuffle_of}
 
 -- the lowest bit of a mask, and the others
@@ -130,3 +132,80 @@ packed_parts (suc n) (t ∷ ts) [] seconds e f = absurd (omega arith)
 packed_parts (suc n) (t ∷ ts) (a ∷ firsts) [] e f = absurd (omega arith)
 packed_parts (suc n) (true ∷ ts) (a ∷ firsts) (b ∷ seconds) e f = ap (λ l. a ∷ b ∷ l) (packed_parts n ts firsts seconds (omega arith) (omega arith))
 packed_parts (suc n) (false ∷ ts) (a ∷ firsts) (b ∷ seconds) e f = ap (λ l. b ∷ l) (packed_parts n ts firsts seconds (omega arith) (omega arith))
+
+-- A mask is that of its first n tests, and above them that of the others.
+mask_parts : (n : ℕ) (ts : List Bool) → mask_l ts ≡ mask_l (take n ts) + 2 ^ n * mask_l (drop n ts)
+mask_parts zero ts = omega arith
+mask_parts (suc n) [] = omega (arith, mul-zero (2 ^ suc n))
+mask_parts (suc n) (t ∷ ts) =
+    let times : 2 ^ suc n * mask_l (drop n ts) ≡ 2 * (2 ^ n * mask_l (drop n ts)) =
+    ap (λ k. k * mask_l (drop n ts)) (pow-succ' 2 n) ∙ mul_assoc 2 (2 ^ n) (mask_l (drop n ts)) in
+    omega (arith, mask_parts n ts, times)
+
+front_below : (n : ℕ) (ts : List Bool) → n ≤ length ts → mask_l (take n ts) < 2 ^ n
+front_below n ts le = subst (λ k. mask_l (take n ts) < 2 ^ k) (length-take-le n ts le) (mask_l-lt (take n ts))
+
+-- Its lower bits are those of the first tests,
+pub mask_front : (n : ℕ) (ts : List Bool) → n ≤ length ts → mask_l ts % 2 ^ n ≡ mask_l (take n ts)
+mask_front n ts le =
+    ap (λ m. m % 2 ^ n) (mask_parts n ts) ∙ add-mul-mod_self_left (mask_l (take n ts)) (2 ^ n) (mask_l (drop n ts))
+    ∙ mod-eq_of_lt (front_below n ts le)
+
+-- and its upper bits those of the others.
+mask_rest : (n : ℕ) (ts : List Bool) → n ≤ length ts → mask_l ts / 2 ^ n ≡ mask_l (drop n ts)
+mask_rest n ts le =
+    let first : mask_l (take n ts) / 2 ^ n ≡ 0 = div-eq_of_lt (front_below n ts le) in
+    ap (λ m. m / 2 ^ n) (mask_parts n ts)
+    ∙ add-mul-div_left (mask_l (take n ts)) (mask_l (drop n ts)) (one-le-pow n 2 (omega arith))
+    ∙ omega (arith, first)
+
+-- The tests of the row from a on are eight bits of the mask.
+pub row_mask : (a : ℕ) (ts : List Bool) (d : ℕ) → a + 8 ≤ length ts → d ≡ mask_l ts →
+    bit_and (d / 2 ^ a) 0xFF ≡ mask_l (chunk a 8 ts)
+row_mask a ts d le is =
+    and_mask (d / 2 ^ a) 8
+    ∙ ap (λ m. m % 0x100) (ap (λ m. m / 2 ^ a) is ∙ mask_rest a ts (omega arith))
+    ∙ mask_front 8 (drop a ts) (omega (arith, length-drop a ts))
+
+pub first_mask : (ts : List Bool) (d : ℕ) → 8 ≤ length ts → d ≡ mask_l ts → bit_and d 0xFF ≡ mask_l (chunk 0 8 ts)
+first_mask ts d le is = and_mask d 8 ∙ ap (λ m. m % 0x100) is ∙ mask_front 8 ts le
+
+module _ (firsts seconds : List ℕ) (ts : List Bool) (f : length firsts ≡ 32) (s : length seconds ≡ 32) (t : length ts ≡ 32) where
+  -- the vector of a row
+  abbrev halves : ℕ → List ℕ
+  halves a = pick_l 0 (seconds ++ firsts) (range_with_len a 8 ++ range_with_len (32 + a) 8)
+
+  abbrev row : ℕ → List ℕ
+  row a = packed (chunk a 8 ts) (chunk 8 8 (halves a)) (chunk 0 8 (halves a))
+
+  lower : (a : ℕ) → a + 8 ≤ 32 → T (all_below 32 (range_with_len a 8)) → chunk 0 8 (halves a) ≡ chunk a 8 seconds
+  lower a le small = pick_l_left 0 seconds firsts 32 (range_with_len a 8) s small ∙ pick_l-range_with_len 0 seconds a 8 (omega (arith, s))
+
+  upper : (a : ℕ) → a + 8 ≤ 32 → chunk 8 8 (halves a) ≡ chunk a 8 firsts
+  upper a le =
+      pick_l-range_with_len 0 (seconds ++ firsts) (32 + a) 8 (omega (arith, s, f, length-append seconds firsts))
+      ∙ ap (take 8) (sym (drop-drop a 32 (seconds ++ firsts)) ∙ ap (drop a) (drop_at seconds firsts 32 s))
+
+  part : (a : ℕ) → a + 8 ≤ 32 → T (all_below 32 (range_with_len a 8)) →
+      packed (drop a ts) (drop a firsts) (drop a seconds) ≡ row a ++ packed (drop (a + 8) ts) (drop (a + 8) firsts) (drop (a + 8) seconds)
+  part a le small =
+      packed_parts 8 (drop a ts) (drop a firsts) (drop a seconds)
+      (omega (arith, length-drop a ts, length-drop a firsts, f, t)) (omega (arith, length-drop a ts, length-drop a seconds, s, t))
+      ∙ rw (drop-drop 8 a ts, drop-drop 8 a firsts, drop-drop 8 a seconds, lower a le small, upper a le) refl
+
+  last : packed (drop 32 ts) (drop 32 firsts) (drop 32 seconds) ≡ []
+  last = rw (drop_all 32 ts (omega (arith, t))) refl
+
+  -- The four rows, one behind the other, are the block.
+  pub four_rows : (x0 x1 x2 x3 x4 : List ℕ) → x1 ≡ x0 ++ row 0 → x2 ≡ x1 ++ row 8 → x3 ≡ x2 ++ row 16 → x4 ≡ x3 ++ row 24 →
+      x4 ≡ x0 ++ packed ts firsts seconds
+  four_rows x0 x1 x2 x3 x4 e1 e2 e3 e4 =
+      let whole : packed ts firsts seconds ≡ row 0 ++ (row 8 ++ (row 16 ++ row 24)) =
+      part 0 (omega arith) tt ∙ ap (λ l. row 0 ++ l) (part 8 (omega arith) tt
+      ∙ ap (λ l. row 8 ++ l) (part 16 (omega arith) tt
+      ∙ ap (λ l. row 16 ++ l) (part 24 (omega arith) tt ∙ ap (λ l. row 24 ++ l) last ∙ append-nil (row 24)))) in
+      e4 ∙ ap (λ x. x ++ row 24) (e3 ∙ ap (λ x. x ++ row 16) (e2 ∙ ap (λ x. x ++ row 8) e1))
+      ∙ append_assoc ((x0 ++ row 0) ++ row 8) (row 16) (row 24)
+      ∙ append_assoc (x0 ++ row 0) (row 8) (row 16 ++ row 24)
+      ∙ append_assoc x0 (row 0) (row 8 ++ (row 16 ++ row 24))
+      ∙ ap (λ l. x0 ++ l) (sym whole)

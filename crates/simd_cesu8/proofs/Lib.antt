@@ -29,6 +29,9 @@ pub mod EncodedBytes
 pub mod EncodedLanes
 pub mod EncodedBlocks
 pub mod EncodedRows
+pub mod EncodedWindows
+pub mod RecodedText
+pub mod Shuffles
 pub mod Worked
 pub mod Standing
 pub mod Inside

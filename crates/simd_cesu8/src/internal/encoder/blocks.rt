@@ -47,8 +47,51 @@ impl NullForm for TwoByteNull {
     }
 }
 
+/// Writes a block, and gives the end of what is written for it.
+#[inline(always)]
+pub fn write_block<N: NullForm>(
+    window: &[u8],
+    at: usize,
+    rows: &Rows,
+    out: &mut [u8],
+    end: usize,
+) -> usize
+    requires rows { AreShuffles rows.now }
+    requires window { at + 35 ≤ length window.now }
+    requires room { end + 64 ≤ length out.old }
+    ensures bytes { take result out.new ≡ take end out.old ++ places N.flavor window.now at 32 }
+    ensures end { (end ≤ result) × (result ≤ end + 64) }
+    ensures len { length out.new ≡ length out.old }
+{
+    let block = encode_block::<N>(window, at);
+    if block.is_unchanged {
+        u8x32::from_slice(&window[at + 2..]).copy_to_slice(&mut out[end..]);
+        return end + 32;
+    }
+    store_rows(block.seconds, block.firsts, block.doubled, rows, out, end)
+}
+
+/// Writes the first `count` bytes of a window of one block, and gives the end of what is written.
+#[inline(always)]
+pub fn write_front<N: NullForm>(
+    window: &[u8; 35],
+    count: usize,
+    rows: &Rows,
+    out: &mut [u8; 64],
+) -> usize
+    requires rows { AreShuffles rows.now }
+    requires count { count ≤ 32 }
+    ensures bytes { take result out.new ≡ places N.flavor window.now 0 count }
+    ensures end { result ≤ 64 }
+{
+    let block = encode_block::<N>(window, 0);
+    store_rows(block.seconds, block.firsts, block.doubled, rows, out, 0);
+    count + (block.doubled & ((1 << count) - 1)).count_ones() as usize
+}
+
 /// What encoding makes of the bytes of a block. A byte becomes its lane of `seconds`, and where its
 /// bit of `doubled` is set, its lane of `firsts` before that.
+#[derive(Drop)]
 struct EncodedBlock {
     seconds: u8x32,
     firsts: u8x32,
@@ -140,7 +183,6 @@ fn store_rows(
     at: usize,
 ) -> usize
     requires rows { AreShuffles rows.now }
-    requires small { doubled < 2 ^ 32 }
     requires room { at + 64 ≤ length out.old }
     ensures bytes { (ts : List Bool) → length ts ≡ 32 → doubled ≡ mask_l ts
         → take result out.new ≡ take at out.old ++ packed ts firsts seconds }
