@@ -1,7 +1,7 @@
 -- What is written for parts of a text.
-use Rattle.std.proofs.Common.{◌≡◌, ℕ, zero, suc, ◌+◌, ◌-◌, ◌*◌, ◌%◌, ◌^◌, ◌<◌, ◌≤◌, Bool, true, false, cond, List, [], ◌∷◌, ◌++◌, map, refl, sym, ap, ◌∙◌, subst, arith, length, take, drop, get_or, replicate, bit_and, length-append, count_ones}
+use Rattle.std.proofs.Common.{◌≡◌, ℕ, zero, suc, ◌+◌, ◌-◌, ◌*◌, ◌%◌, ◌^◌, ◌<◌, ◌≤◌, Bool, true, false, cond, List, [], ◌∷◌, ◌++◌, map, refl, sym, ap, ◌∙◌, subst, arith, length, take, drop, get_or, replicate, bit_and, length-append, append_assoc, count_ones}
 use Rattle.std.specs.List.{flat_map, range_with_len}
-use Rattle.std.proofs.lemmas.List.{get_or-drop, get_or-take, length-take-le, take_at, take-take}
+use Rattle.std.proofs.lemmas.List.{get_or-drop, get_or-take, length-drop, length-take-le, take_all, take_at, take-take}
 use Rattle.std.proofs.lemmas.List.Concat.{flat_map-append}
 use Rattle.std.proofs.lemmas.List.FromFn.{length-range_with_len, length-map-range_with_len, take-map-range_with_len}
 use Rattle.std.proofs.lemmas.Nat.{and_mask}
@@ -54,11 +54,21 @@ unfolding places
 places_agree f v w i j n h = agree f v w i j n h
 
 -- A window from i on in the text, i being its byte behind two, has the text's bytes.
-pub places_drop : (f : Flavor) (text : List ℕ) (i n : ℕ) → 2 ≤ i → places f (drop (i - 2) text) 0 n ≡ places f (0 ∷ 0 ∷ text) i n
-places_drop f text i n le = places_agree f (drop (i - 2) text) (0 ∷ 0 ∷ text) 0 i n (λ k l.
+from_drop : (f : Flavor) (text : List ℕ) (i n : ℕ) → 2 ≤ i → places f (drop (i - 2) text) 0 n ≡ places f (0 ∷ 0 ∷ text) i n
+from_drop f text i n le = places_agree f (drop (i - 2) text) (0 ∷ 0 ∷ text) 0 i n (λ k l.
     let here : 0 + k ≡ k = omega arith in
     let there : suc (suc (i - 2 + k)) ≡ i + k = omega arith in
     ap (λ m. get_or (drop (i - 2) text) m 0) here ∙ get_or-drop (i - 2) text k 0 ∙ ap (λ m. get_or (0 ∷ 0 ∷ text) m 0) there)
+
+-- a part up to the end, as the code takes it
+abbrev pub part_from : ℕ → List ℕ → List ℕ
+part_from i text = take (length text - i) (drop i text)
+
+whole_part : (i : ℕ) (text : List ℕ) → part_from i text ≡ drop i text
+whole_part i text = take_all (length text - i) (drop i text) (omega (arith, length-drop i text))
+
+pub places_drop : (f : Flavor) (text : List ℕ) (i n : ℕ) → 2 ≤ i → places f (part_from (i - 2) text) 0 n ≡ places f (0 ∷ 0 ∷ text) i n
+places_drop f text i n le = ap (λ window. places f window 0 n) (whole_part (i - 2) text) ∙ from_drop f text i n le
 
 -- ---- a block of which fewer bytes count
 
@@ -129,13 +139,13 @@ module _ (f : Flavor) (window out : List ℕ) (n doubled end : ℕ) (le : n ≤ 
 
 -- ---- a window with zeros around it
 
-zeros_at : (n i : ℕ) → get_or (replicate n 0) i 0 ≡ 0
+zeros_at : (n i : ℕ) → ◌≡◌ {A = ℕ} (get_or (replicate n 0) i 0) 0
 zeros_at zero i = refl
 zeros_at (suc n) zero = refl
 zeros_at (suc n) (suc i) = zeros_at n i
 
 -- Zeros behind a list change none of its elements, nor what is read past its end.
-padded : (xs rest : List ℕ) → ((i : ℕ) → get_or rest i 0 ≡ 0) → (k : ℕ) → get_or (xs ++ rest) k 0 ≡ get_or xs k 0
+padded : (xs rest : List ℕ) → ((i : ℕ) → ◌≡◌ {A = ℕ} (get_or rest i 0) 0) → (k : ℕ) → get_or (xs ++ rest) k 0 ≡ get_or xs k 0
 padded [] rest zeros k = zeros k
 padded (x ∷ xs) rest zeros zero = refl
 padded (x ∷ xs) rest zeros (suc k) = padded xs rest zeros k
@@ -159,9 +169,9 @@ places_first f text window n le is = places_agree f window (0 ∷ 0 ∷ text) 0 
     first (suc (suc k)) l = get_or-take 33 text k 0 (omega arith)
 
 pub places_last : (f : Flavor) (text window : List ℕ) (i n : ℕ) → 2 ≤ i →
-    ((k : ℕ) → get_or window k 0 ≡ get_or (drop (i - 2) text) k 0) → places f window 0 n ≡ places f (0 ∷ 0 ∷ text) i n
+    ((k : ℕ) → get_or window k 0 ≡ get_or (part_from (i - 2) text) k 0) → places f window 0 n ≡ places f (0 ∷ 0 ∷ text) i n
 places_last f text window i n le is =
-    places_agree f window (drop (i - 2) text) 0 0 n (λ k l. is (0 + k)) ∙ places_drop f text i n le
+    places_agree f window (part_from (i - 2) text) 0 0 n (λ k l. is (0 + k)) ∙ places_drop f text i n le
 
 -- What is written for n bytes and then m is no longer than what is written for as many and more.
 pub room_for_parts : (f : Flavor) (window : List ℕ) (i n m whole : ℕ) → n + m ≤ whole →
@@ -177,3 +187,58 @@ room_for_parts f window i n m whole le =
       ap length (places_append f window (i + n) m rest),
       length-append (places f window (i + n) m) (places f window (i + n + m) rest),
     )
+
+-- What is stored of a block, and cut to its first n bytes.
+pub front_written : (f : Flavor) (window out firsts seconds : List ℕ) (n doubled end : ℕ) → n ≤ 32 → end ≤ 64 → length out ≡ 64 →
+    take end out ≡ packed (map (is_doubled_at f window) (range_with_len 0 32)) firsts seconds →
+    firsts ≡ map (inserted_at f window) (range_with_len 0 32) → seconds ≡ map (changed_at f window) (range_with_len 0 32) →
+    doubled ≡ mask_l (map (is_doubled_at f window) (range_with_len 0 32)) →
+    let kept = n + count_ones (bit_and doubled (1 * 2 ^ n % 0x10000000000000000 - 1)) in
+    (kept ≤ 64) × (take kept out ≡ places f window 0 n)
+front_written f window out firsts seconds n doubled end le within long out_is firsts_are seconds_are doubled_is =
+    let whole : take end out ≡ places f window 0 32 =
+    out_is ∙ (λ i. packed (map (is_doubled_at f window) (range_with_len 0 32)) (firsts_are i) (seconds_are i)) ∙ packed_block f window 0 32 in
+    let fits : end ≤ length out = omega (arith, within, long) in (
+      omega (arith, front_end f window out n doubled end le fits whole doubled_is, within),
+      front_of_block f window out n doubled end le fits whole doubled_is,
+    )
+
+-- With one block more.
+pub window_step : (f : Flavor) (window : List ℕ) (i : ℕ) (xs ys : List ℕ) → xs ≡ places f window 0 (32 * i) →
+    ys ≡ xs ++ places f window (32 * i) 32 → ys ≡ places f window 0 (32 * (i + 1))
+window_step f window i xs ys xs_are ys_are =
+    let start : 32 * i ≡ 0 + 32 * i = omega arith in
+    let sum : 32 * i + 32 ≡ 32 * (i + 1) = omega arith in
+    ys_are ∙ ap (λ l. l ++ places f window (32 * i) 32) xs_are ∙ ap (λ k. places f window 0 (32 * i) ++ places f window k 32) start
+    ∙ sym (places_append f window 0 (32 * i) 32) ∙ ap (places f window 0) sum
+
+module _ (f : Flavor) (text : List ℕ) where
+  abbrev around : List ℕ
+  around = 0 ∷ 0 ∷ text
+
+  -- With n bytes more, from i on.
+  pub text_step : (i n : ℕ) (x0 x1 x2 piece : List ℕ) → 32 ≤ i → x1 ≡ x0 ++ places f around 32 (i - 32) → x2 ≡ x1 ++ piece →
+      piece ≡ places f around i n → x2 ≡ x0 ++ places f around 32 (i + n - 32)
+  text_step i n x0 x1 x2 piece le e1 e2 e3 =
+      let start : i ≡ 32 + (i - 32) = omega arith in
+      let sum : i - 32 + n ≡ i + n - 32 = omega arith in
+      e2 ∙ ap (λ l. l ++ piece) e1 ∙ append_assoc x0 (places f around 32 (i - 32)) piece
+      ∙ ap (λ l. x0 ++ (places f around 32 (i - 32) ++ l)) (e3 ∙ ap (λ k. places f around k n) start)
+      ∙ ap (λ l. x0 ++ l) (sym (places_append f around 32 (i - 32) n) ∙ ap (places f around 32) sum)
+
+  pub text_room : (i n : ℕ) → 32 ≤ i → i + n ≤ length text →
+      length (places f around 32 (i - 32)) + length (places f around i n) ≤ length (places f around 32 (length text - 32))
+  text_room i n le within =
+      let start : 32 + (i - 32) ≡ i = omega arith in
+      subst (λ k. length (places f around 32 (i - 32)) + length (places f around k n) ≤ length (places f around 32 (length text - 32))) start
+      (room_for_parts f around 32 (i - 32) n (length text - 32) (omega (arith, le, within)))
+
+  -- A text of more than 32 bytes, in three parts.
+  pub three_parts : (i : ℕ) → 32 ≤ i → i ≤ length text →
+      recoded f text ≡ places f around 0 32 ++ (places f around 32 (i - 32) ++ places f around i (length text - i))
+  three_parts i le within =
+      let sum : length text ≡ 32 + (i - 32 + (length text - i)) = omega (arith, le, within) in
+      let start : 32 + (i - 32) ≡ i = omega arith in
+      ap (places f around 0) sum ∙ places_append f around 0 32 (i - 32 + (length text - i))
+      ∙ ap (λ l. places f around 0 32 ++ l) (places_append f around 32 (i - 32) (length text - i)
+      ∙ ap (λ k. places f around 32 (i - 32) ++ places f around k (length text - i)) start)

@@ -1,5 +1,5 @@
 -- What is written for the bytes of UTF-8, each by its neighbours, is the encoding.
-use Rattle.std.proofs.Common.{◌≡◌, ℕ, suc, ◌+◌, ◌*◌, ◌/◌, ◌%◌, ◌<◌, ◌≤◌, Bool, true, false, List, [], ◌∷◌, ◌++◌, refl, sym, ap, ◌∙◌, subst, inl, inr, ⊎_elim, arith, length, get_or, eqb, bit_and, bit_or, eqb-true}
+use Rattle.std.proofs.Common.{◌≡◌, ℕ, zero, suc, ◌+◌, ◌*◌, ◌/◌, ◌%◌, ◌<◌, ◌≤◌, Bool, true, false, List, [], ◌∷◌, ◌++◌, refl, sym, ap, ◌∙◌, subst, inl, inr, ⊎_elim, arith, length, get_or, eqb, bit_and, bit_or, eqb-true}
 use Rattle.std.specs.Str.{chars, IsUtf8}
 use Rattle.std.specs.List.{flat_map, range_with_len}
 use Rattle.std.proofs.lemmas.Bool.{agree_below_at, lt-leb, le-leb, ne_eqb, cases_eq}
@@ -30,7 +30,7 @@ later f x window i =
 
 all_later : (f : Flavor) (x : ℕ) (window : List ℕ) (i n : ℕ) →
     flat_map (place_at f (x ∷ window)) (range_with_len (i + 1) n) ≡ flat_map (place_at f window) (range_with_len i n)
-all_later f x window i 0 = refl
+all_later f x window i zero = refl
 all_later f x window i (suc n) = rw (later f x window i, all_later f x window (i + 1) n) refl
 
 by_places : (f : Flavor) (x y : ℕ) (bytes : List ℕ) → flat_map (place_at f (x ∷ y ∷ bytes)) (range_with_len 0 (length bytes)) ≡ written f x y bytes
