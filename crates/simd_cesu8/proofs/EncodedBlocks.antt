@@ -1,11 +1,11 @@
 -- What the encoder's vectors say of the places of a block.
-use Rattle.std.proofs.Common.{◌≡◌, ℕ, ◌+◌, ◌≤◌, Bool, true, List, map, length, get_or, eqb, bit_or, refl, sym, ap, ◌∙◌, arith, eqb-true}
+use Rattle.std.proofs.Common.{◌≡◌, ℕ, ◌+◌, ◌≤◌, Bool, List, map, length, get_or, eqb, bit_or, refl, sym, ap, ◌∙◌, arith}
 use Rattle.std.specs.List.{range_with_len}
 use Rattle.std.proofs.lemmas.Simd.{map-map, pick_l-range_with_len, zip2_of_maps}
 use lib.Lanes.{zip2, mask_l, chunk}
 use Rattle.simd_cesu8.specs.Encoding.{Flavor}
-use Rattle.simd_cesu8.specs.EncodedPlaces.{is_lead, is_null, mask, six_bits, changed_at, inserted_at, is_doubled_at, places}
-use Rattle.simd_cesu8.proofs.EncodedLanes.{loaded, second_vector, second_lanes, first_vector, first_lanes, doubled_lanes, all_stay}
+use Rattle.simd_cesu8.specs.EncodedPlaces.{is_lead, is_null, mask, six_bits, changed_at, inserted_at, is_doubled_at}
+use Rattle.simd_cesu8.proofs.EncodedLanes.{loaded, second_vector, second_lanes, first_vector, first_lanes, doubled_lanes}
 
 -- Marks of the bytes of a load, by places.
 pub marks_at : (t : ℕ → Bool) (window : List ℕ) (at d : ℕ) (lanes : List ℕ) → at + d + 32 ≤ length window →
@@ -62,14 +62,3 @@ module _ (f : Flavor) (window : List ℕ) (at : ℕ) (lead before two_before nul
   doubled_are bits is = is ∙ rw (lead_at, two_before_at, null_at)
       (ap mask_l (doubled_lanes (λ i. is_lead (get_or window (i + 2) 0)) (λ i. is_lead (get_or window i 0))
       (λ i. is_null f (get_or window (i + 2) 0)) (range_with_len at 32)))
-
-  pub unchanged : (bits : ℕ) →
-      bits ≡ mask_l (map (λ x. eqb x 0xFF) (zip2 bit_or (zip2 bit_or (zip2 bit_or lead two_before) null) before)) →
-      eqb bits 0 ≡ true → places f window at 32 ≡ chunk (at + 2) 32 window
-  unfolding places
-  unchanged bits is none =
-      all_stay (λ i. is_lead (get_or window (i + 2) 0)) (λ i. is_lead (get_or window (i + 1) 0)) (λ i. is_lead (get_or window i 0))
-      (λ i. is_null f (get_or window (i + 2) 0)) (λ i. get_or window (i + 2) 0)
-      (λ i. six_bits (get_or window (i + 2) 0) (get_or window (i + 3) 0)) (range_with_len at 32)
-      (sym (is ∙ rw (lead_at, before_at, two_before_at, null_at) refl) ∙ eqb-true _ _ none)
-      ∙ sym (loaded window at 2 32 (omega (arith, marks.room)))

@@ -2,7 +2,6 @@
 use Rattle.std.proofs.Common.{◌≡◌, ℕ, zero, suc, ◌+◌, ◌*◌, ◌/◌, ◌%◌, ◌^◌, ◌<◌, ◌≤◌, Bool, true, false, cond, ◌||◌, List, [], ◌∷◌, ◌++◌, map, length, take, drop, get_or, replicate, eqb, leb, bit_and, bit_or, refl, sym, ap, ◌∙◌, subst, arith, w8}
 use Rattle.std.specs.List.{flat_map, range_with_len}
 use Rattle.std.proofs.lemmas.Simd.{bitmask_splat, pick_l-range_with_len}
-use lib.Bits.{or_add_and, and_zero_r}
 use lib.Lanes.{zip2, sel_l, mask_l, top, chunk}
 use Rattle.simd_cesu8.specs.EncodedPlaces.{is_lead, mask, six_bits, packed}
 use Rattle.simd_cesu8.proofs.Lanes.{equal}
@@ -153,50 +152,6 @@ pub doubled_lanes : (a b c : ℕ → Bool) (vs : List ℕ) →
     ≡ map (λ v. (a v || b v) || c v) vs
 doubled_lanes a b c [] = refl
 doubled_lanes a b c (v ∷ vs) = λ i. doubled_lane (a v) (b v) (c v) i ∷ doubled_lanes a b c vs i
-
-or_zero : (a : ℕ) → bit_or a 0 ≡ a
-or_zero a = omega (arith, or_add_and a 0, and_zero_r a)
-
--- A byte of which no test holds stays as it is.
-abbrev unit : Bool → Bool → Bool → Bool → ℕ → ℕ → List ℕ
-unit lead before two_before null b six =
-    cond ((lead || two_before) || null) (cond null 0xC0 0xED ∷ second lead before two_before null b six ∷ [])
-    (second lead before two_before null b six ∷ [])
-
-unit_stays : (lead before two_before null : Bool) (b six : ℕ) →
-    eqb (bit_or (bit_or (bit_or (mask lead) (mask two_before)) (mask null)) (mask before)) 0xFF ≡ false →
-    unit lead before two_before null b six ≡ b ∷ []
-unit_stays true true true true b six e = absurd (let h = e in cc)
-unit_stays true true true false b six e = absurd (let h = e in cc)
-unit_stays true true false true b six e = absurd (let h = e in cc)
-unit_stays true true false false b six e = absurd (let h = e in cc)
-unit_stays true false true true b six e = absurd (let h = e in cc)
-unit_stays true false true false b six e = absurd (let h = e in cc)
-unit_stays true false false true b six e = absurd (let h = e in cc)
-unit_stays true false false false b six e = absurd (let h = e in cc)
-unit_stays false true true true b six e = absurd (let h = e in cc)
-unit_stays false true true false b six e = absurd (let h = e in cc)
-unit_stays false true false true b six e = absurd (let h = e in cc)
-unit_stays false true false false b six e = absurd (let h = e in cc)
-unit_stays false false true true b six e = absurd (let h = e in cc)
-unit_stays false false true false b six e = absurd (let h = e in cc)
-unit_stays false false false true b six e = absurd (let h = e in cc)
-unit_stays false false false false b six e = ap (λ x. x ∷ []) (or_zero (bit_or b 0) ∙ or_zero b)
-
-clear : (t : Bool) (m : ℕ) → cond t 1 0 + 2 * m ≡ 0 → (t ≡ false) × (m ≡ 0)
-clear true m e = absurd (omega arith)
-clear false m e = (refl, omega arith)
-
-module _ (lead before two_before null : ℕ → Bool) (byte six : ℕ → ℕ) where
-  -- Where no lane of four tests is marked, the bytes stay as they are.
-  pub all_stay : (vs : List ℕ) →
-      mask_l (map (λ x. eqb x 0xFF) (zip2 bit_or (zip2 bit_or (zip2 bit_or (map (λ v. mask (lead v)) vs) (map (λ v. mask (two_before v)) vs))
-      (map (λ v. mask (null v)) vs)) (map (λ v. mask (before v)) vs))) ≡ 0 →
-      flat_map (λ v. unit (lead v) (before v) (two_before v) (null v) (byte v) (six v)) vs ≡ map byte vs
-  all_stay [] e = refl
-  all_stay (v ∷ vs) e =
-      let here = clear _ _ e in
-      rw (unit_stays (lead v) (before v) (two_before v) (null v) (byte v) (six v) here.0) (ap (λ l. byte v ∷ l) (all_stay vs here.1))
 
 packed_one : (t : Bool) (a b : ℕ) (ts : List Bool) (firsts seconds rest : List ℕ) → packed ts firsts seconds ≡ rest →
     packed (t ∷ ts) (a ∷ firsts) (b ∷ seconds) ≡ cond t (a ∷ b ∷ []) (b ∷ []) ++ rest

@@ -64,10 +64,6 @@ pub fn write_block<N: NullForm>(
     ensures len { length out.new ≡ length out.old }
 {
     let block = encode_block::<N>(window, at);
-    if block.is_unchanged {
-        u8x32::from_slice(&window[at + 2..]).copy_to_slice(&mut out[end..]);
-        return end + 32;
-    }
     store_rows(block.seconds, block.firsts, block.doubled, rows, out, end)
 }
 
@@ -96,8 +92,6 @@ struct EncodedBlock {
     seconds: u8x32,
     firsts: u8x32,
     doubled: u64,
-    /// Whether every byte stays as it is.
-    is_unchanged: bool,
 }
 
 /// The lanes of the block behind the first `at` bytes of a window, and two more.
@@ -108,8 +102,6 @@ fn encode_block<N: NullForm>(window: &[u8], at: usize) -> EncodedBlock
     ensures firsts { result.firsts ≡ map (inserted_at N.flavor window.now) (range_with_len at 32) }
     ensures doubled { result.doubled
         ≡ mask_l (map (is_doubled_at N.flavor window.now) (range_with_len at 32)) }
-    ensures unchanged { IsTrue result.is_unchanged
-        → places N.flavor window.now at 32 ≡ chunk (at + 2) 32 window.now }
 {
     let bytes = u8x32::from_slice(&window[at + 2..]);
     let lead = leads(bytes);
@@ -126,7 +118,6 @@ fn encode_block<N: NullForm>(window: &[u8], at: usize) -> EncodedBlock
         seconds: is_of_high.simd_eq(u8x32::splat(0)).select(other, of_high),
         firsts: null.simd_eq(u8x32::splat(0)).select(u8x32::splat(0xED), u8x32::splat(0xC0)),
         doubled: bits(doubled),
-        is_unchanged: bits(doubled | lead_before) == 0,
     }
 }
 
