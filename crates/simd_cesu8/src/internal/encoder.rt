@@ -1,5 +1,16 @@
-//! The encoder: characters of one to three bytes are copied, and those of four become surrogate
-//! pairs.
+//! The encoder: 32 bytes at a time, by vectors, with no branch on what a byte is.
+//!
+//! What is written for a byte of UTF-8 is told by the two bytes before it and the one after it. The
+//! four bytes `a b c d` of one character become a surrogate pair, ED and two bytes each:
+//!
+//! ```text
+//! a ──► ED, four bits of a and two of b      c ──► ED, four bits of c
+//! b ──► four bits of b and two of c          d ──► d
+//! ```
+//!
+//! In MUTF-8 the byte 00 becomes C0 80, and every other byte stays as it is. So a row of eight bytes
+//! becomes sixteen lanes, and one shuffle packs those that are written: `blocks` makes the lanes,
+//! `rows` has the shuffles, and `windows` has the loop over the text.
 
 ghost use Rattle.std.specs.Prelude.{◌≡◌, ◌+◌, ◌≤◌, ◌++◌, [], length, OnOk, OnErr, IfOk, IsOk, vec_len, vec_capacity};
 ghost use Rattle.std.specs.Str.{chars};
