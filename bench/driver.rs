@@ -13,12 +13,14 @@ mod kernels;
 mod lengths;
 mod sets;
 mod table;
+mod texts;
 mod timing;
 
 use crate::built::built_table;
 use crate::codec::Codec;
 use crate::kernels::kernel_table;
 use crate::table::Table;
+use crate::texts::TextTable;
 use std::{env, process};
 
 const DEFAULT_ROUNDS: u32 = 4_000;
@@ -27,10 +29,13 @@ fn run(rounds: u32, codecs: &[Codec]) -> Result<(), String> {
     let mut table = Table::of(codecs)?;
     let mut built = built_table(codecs)?;
     let mut kernels = kernel_table(codecs, table.ascii())?;
+    let mut texts = TextTable::of(codecs)?;
     table.measure(rounds);
+    texts.measure(rounds);
     built.measure(rounds);
     kernels.measure(rounds);
     table.print(rounds);
+    texts.print();
     built.print();
     kernels.print();
     Ok(())

@@ -3,9 +3,6 @@
 use crate::codec::{Call, Codec};
 use crate::timing::{Measured, call_run};
 
-/// Inputs of this many bytes and more are measured in one round of a hundred.
-const LONG: usize = 1 << 20;
-
 /// One call at one length. The calls of the codecs are places in the list of what is measured.
 struct Row {
     title: String,
@@ -59,7 +56,7 @@ impl LengthTable<'_> {
         for round in 0..rounds {
             let is_long_round = round % 100 == 0;
             let measured = self.measured.iter_mut();
-            for one in measured.filter(|one| one.bytes() < LONG || is_long_round) {
+            for one in measured.filter(|one| !one.is_long() || is_long_round) {
                 one.round();
             }
         }

@@ -119,3 +119,114 @@ pub fn sets() -> Vec<Set> {
     }
     sets
 }
+
+/// A kind of text for the encoders.
+#[derive(Clone, Copy, PartialEq)]
+pub enum Kind {
+    Ascii,
+    Two,
+    Three,
+    Pattern,
+    Four,
+    Null,
+    NullInTurn,
+    Random,
+    RandomWithNull,
+    SparseAscii,
+    Sparse,
+}
+
+impl Kind {
+    pub const ALL: [Kind; 11] = [
+        Kind::Ascii,
+        Kind::Two,
+        Kind::Three,
+        Kind::Pattern,
+        Kind::Four,
+        Kind::Null,
+        Kind::NullInTurn,
+        Kind::Random,
+        Kind::RandomWithNull,
+        Kind::SparseAscii,
+        Kind::Sparse,
+    ];
+
+    pub fn title(self) -> &'static str {
+        match self {
+            Kind::Ascii => "ASCII without null",
+            Kind::Two => "two-byte characters",
+            Kind::Three => "three-byte characters",
+            Kind::Pattern => "mixed UTF-8",
+            Kind::Four => "four-byte characters",
+            Kind::Null => "null alone",
+            Kind::NullInTurn => "ASCII and null in turn",
+            Kind::Random => "all lengths by chance",
+            Kind::RandomWithNull => "all lengths and null by chance",
+            Kind::SparseAscii => "ASCII, one emoji in 97",
+            Kind::Sparse => "one to three bytes, one emoji in 97",
+        }
+    }
+
+    /// Whether no processor can foretell its characters.
+    pub fn is_by_chance(self) -> bool {
+        matches!(
+            self,
+            Kind::Random | Kind::RandomWithNull | Kind::SparseAscii | Kind::Sparse
+        )
+    }
+
+    /// The character at a place of such a text.
+    fn character(self, random: &mut Random, place: usize) -> char {
+        let is_emoji = place % 97 == 10;
+        match self {
+            Kind::Ascii => random.character(0x01, 0x7F),
+            Kind::Two => random.character(0x80, 0x7FF),
+            Kind::Three => random.character(0x800, 0xFFFF),
+            Kind::Pattern => [
+                'a',
+                '\u{205}',
+                '\u{20AC}',
+                '\u{10400}',
+                '\0',
+                '\u{7FF}',
+                '\u{FFFF}',
+                '\u{1F496}',
+            ][place % 8],
+            Kind::Four => random.character(0x1_0000, 0x10_FFFF),
+            Kind::Null => '\0',
+            Kind::NullInTurn if place % 2 == 1 => '\0',
+            Kind::NullInTurn => random.character(0x01, 0x7F),
+            Kind::Random => of_any_length(random, 4),
+            Kind::RandomWithNull => of_any_length(random, 5),
+            Kind::SparseAscii | Kind::Sparse if is_emoji => '\u{1F496}',
+            Kind::SparseAscii => random.character(0x01, 0x7F),
+            Kind::Sparse => of_any_length(random, 3),
+        }
+    }
+}
+
+/// A character of one, two, three or four bytes, or U+0000: the first few of these.
+fn of_any_length(random: &mut Random, kinds: u64) -> char {
+    match random.next() % kinds {
+        0 => random.character(0x01, 0x7F),
+        1 => random.character(0x80, 0x7FF),
+        2 => random.character(0x800, 0xFFFF),
+        3 => random.character(0x1_0000, 0x10_FFFF),
+        _ => '\0',
+    }
+}
+
+/// A text of this kind, of so many bytes, filled up with ASCII.
+pub fn text_of(kind: Kind, length: usize) -> &'static [u8] {
+    let mut random = Random(SEED);
+    let mut text = String::with_capacity(length);
+    let mut place = 0;
+    while length - text.len() >= 4 {
+        text.push(kind.character(&mut random, place));
+        place += 1;
+    }
+    while text.len() < length {
+        text.push('z');
+    }
+    at_page_start(text.as_bytes())
+}

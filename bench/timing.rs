@@ -9,6 +9,9 @@ use std::time::{Duration, Instant};
 /// How long one batch of calls is to take, so that reading the clock costs next to nothing.
 const BATCH: Duration = Duration::from_micros(40);
 
+/// Inputs of this many bytes and more are measured in one round of a hundred.
+const LONG: usize = 1 << 20;
+
 /// What is measured, the bytes that one run of it takes, and its best time.
 pub struct Measured {
     run: Box<dyn FnMut()>,
@@ -46,8 +49,14 @@ impl Measured {
         self.best = self.best.min(seconds);
     }
 
-    pub fn bytes(&self) -> usize {
-        self.bytes
+    /// Whether it takes so long that it is measured in one round of a hundred.
+    pub fn is_long(&self) -> bool {
+        self.bytes >= LONG
+    }
+
+    /// The best time.
+    pub fn seconds(&self) -> f64 {
+        self.best
     }
 
     pub fn gigabytes(&self) -> f64 {

@@ -26,6 +26,12 @@ pub mod Appended
 pub mod Borrowing
 pub mod Lawful
 pub mod EncodedBytes
+pub mod EncodedLanes
+pub mod EncodedBlocks
+pub mod EncodedRows
+pub mod EncodedWindows
+pub mod RecodedText
+pub mod Shuffles
 pub mod Worked
 pub mod Standing
 pub mod Inside

@@ -1,6 +1,7 @@
 pub mod Text
 pub mod Utf16
 pub mod Encoding
+pub mod EncodedPlaces
 pub mod Class
 pub mod Kernels
 pub mod Reading

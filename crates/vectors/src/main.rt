@@ -22,6 +22,8 @@ mod damage;
 #[cfg(test)]
 mod errors;
 #[cfg(test)]
+mod every_place;
+#[cfg(test)]
 mod examples;
 mod helpers;
 #[cfg(test)]

@@ -1,21 +1,28 @@
-use Rattle.std.proofs.Common.{sym, ◌∙◌, arith}
+use Rattle.std.proofs.Common.{◌++◌, ap, sym, ◌∙◌, arith, length}
 use Rattle.std.specs.Str.{chars}
-use Rattle.std.proofs.lemmas.Bool.{eqb-true}
-use Rattle.simd_cesu8.specs.Encoding.{encoding}
+use Rattle.simd_cesu8.specs.Encoding.{Cesu8, Mutf8, encoding}
 use Rattle.simd_cesu8.specs.Internal.{flavor_of}
-use Rattle.simd_cesu8.proofs.Encodings.{nothing_left, lengths_of_parts}
+use Rattle.simd_cesu8.proofs.RecodedText.{recoded_chars}
 use Rattle.simd_cesu8.proofs.internal.encoder.write_text.Goals as goal
 
-pub write_character-rest-requires-clause-room : goal.write_character-rest-requires-clause-room
-write_character-rest-requires-clause-room g c =
-    omega (
-      arith,
-      lengths_of_parts c.args.out.now.items (encoding (flavor_of c.args.flavor) (chars c.args.text.now)) c.loop-rest.out.items
-          (encoding (flavor_of c.args.flavor) (chars c.loop-rest.rest.now)) c.loop-rest.invariant.written,
-      c.loop-rest.out.ok.0,
-      c.args.out.now.ok.0,
-    )
+pub write_bytes-requires : goal.write_bytes-requires
+write_bytes-requires g c =
+    let known = recoded_chars Cesu8 c.args.text.now _ c.as_bytes.ensures.value c.utf8.text in
+    omega (arith, ap length (known ∙ ap (λ o. encoding (flavor_of o) (chars c.args.text.now)) (sym c.in-Cesu8.is)), c.requires)
 
-pub returns-clause-bytes : goal.returns-clause-bytes
-returns-clause-bytes g c =
-    nothing_left (flavor_of c.args.flavor) _ c.loop-rest.rest.now _ (eqb-true _ _ (sym c.is_empty.ensures ∙ c.loop-rest-test.false)) c.loop-rest.invariant.written
+pub write_bytes-requires-in-Mutf8 : goal.write_bytes-requires-in-Mutf8
+write_bytes-requires-in-Mutf8 g c =
+    let known = recoded_chars Mutf8 c.args.text.now _ c.as_bytes-in-Mutf8.ensures.value c.utf8.text in
+    omega (arith, ap length (known ∙ ap (λ o. encoding (flavor_of o) (chars c.args.text.now)) (sym c.in-Mutf8.is)), c.requires)
+
+pub returns-in-Cesu8-clause-bytes : goal.returns-in-Cesu8-clause-bytes
+returns-in-Cesu8-clause-bytes g c =
+    let known = recoded_chars Cesu8 c.args.text.now _ c.as_bytes.ensures.value c.utf8.text in
+    c.write_bytes.ensures.bytes
+    ∙ ap (λ l. c.args.out.now.items ++ l) (known ∙ ap (λ o. encoding (flavor_of o) (chars c.args.text.now)) (sym c.in-Cesu8.is))
+
+pub returns-in-Mutf8-clause-bytes : goal.returns-in-Mutf8-clause-bytes
+returns-in-Mutf8-clause-bytes g c =
+    let known = recoded_chars Mutf8 c.args.text.now _ c.as_bytes-in-Mutf8.ensures.value c.utf8.text in
+    c.write_bytes-in-Mutf8.ensures.bytes
+    ∙ ap (λ l. c.args.out.now.items ++ l) (known ∙ ap (λ o. encoding (flavor_of o) (chars c.args.text.now)) (sym c.in-Mutf8.is))

@@ -1,0 +1,244 @@
+-- What is written for parts of a text.
+use Rattle.std.proofs.Common.{◌≡◌, ℕ, zero, suc, ◌+◌, ◌-◌, ◌*◌, ◌%◌, ◌^◌, ◌<◌, ◌≤◌, Bool, true, false, cond, List, [], ◌∷◌, ◌++◌, map, refl, sym, ap, ◌∙◌, subst, arith, length, take, drop, get_or, replicate, bit_and, length-append, append_assoc, count_ones}
+use Rattle.std.specs.List.{flat_map, range_with_len}
+use Rattle.std.proofs.lemmas.List.{get_or-drop, get_or-take, length-drop, length-take-le, take_all, take_at, take-take}
+use Rattle.std.proofs.lemmas.List.Concat.{flat_map-append}
+use Rattle.std.proofs.lemmas.List.FromFn.{length-range_with_len, length-map-range_with_len, take-map-range_with_len}
+use Rattle.std.proofs.lemmas.Nat.{and_mask}
+use Rattle.std.proofs.Math.Nat.{mod-eq_of_lt}
+use lib.Pow.{pow_mono}
+use Rattle.std.proofs.lemmas.Simd.{ones-mask_l_cons}
+use lib.Lanes.{mask_l}
+use Rattle.simd_cesu8.specs.Encoding.{Flavor}
+use Rattle.simd_cesu8.specs.EncodedPlaces.{place, place_at, places, recoded, is_doubled_at, inserted_at, changed_at, packed}
+use Rattle.simd_cesu8.proofs.EncodedLanes.{packed_places}
+use Rattle.simd_cesu8.proofs.EncodedRows.{mask_front}
+
+range_parts : (i n m : ℕ) → range_with_len i (n + m) ≡ range_with_len i n ++ range_with_len (i + n) m
+range_parts i zero m =
+    let e : 0 + m ≡ m = omega arith in
+    let e' : i + 0 ≡ i = omega arith in
+    rw (e, e') refl
+range_parts i (suc n) m =
+    let e : suc n + m ≡ suc (n + m) = omega arith in
+    let e' : i + suc n ≡ i + 1 + n = omega arith in
+    rw (e, e') (ap (λ l. i ∷ l) (range_parts (i + 1) n m))
+
+-- What is written for n bytes and m more is what is written for each.
+pub places_append : (f : Flavor) (window : List ℕ) (i n m : ℕ) → places f window i (n + m) ≡ places f window i n ++ places f window (i + n) m
+unfolding places
+places_append f window i n m =
+    ap (flat_map (place_at f window)) (range_parts i n m) ∙ flat_map-append (place_at f window) (range_with_len i n) (range_with_len (i + n) m)
+
+pub places_none : (f : Flavor) (window : List ℕ) (i : ℕ) → places f window i 0 ≡ []
+unfolding places
+places_none f window i = refl
+
+-- Two windows with the same bytes have the same written for them.
+agree : (f : Flavor) (v w : List ℕ) (i j n : ℕ) → ((k : ℕ) → k < n + 3 → get_or v (i + k) 0 ≡ get_or w (j + k) 0) →
+    flat_map (place_at f v) (range_with_len i n) ≡ flat_map (place_at f w) (range_with_len j n)
+agree f v w i j zero h = refl
+agree f v w i j (suc n) h =
+    let i0 : i ≡ i + 0 = omega arith in
+    let j0 : j + 0 ≡ j = omega arith in
+    let first : get_or v i 0 ≡ get_or w j 0 = ap (λ k. get_or v k 0) i0 ∙ h 0 (omega arith) ∙ ap (λ k. get_or w k 0) j0 in
+    let rest : (k : ℕ) → k < n + 3 → get_or v (i + 1 + k) 0 ≡ get_or w (j + 1 + k) 0 = λ k l.
+    (let ik : i + 1 + k ≡ i + (k + 1) = omega arith in
+    let jk : j + (k + 1) ≡ j + 1 + k = omega arith in
+    ap (λ m. get_or v m 0) ik ∙ h (k + 1) (omega arith) ∙ ap (λ m. get_or w m 0) jk) in
+    rw (first, h 1 (omega arith), h 2 (omega arith), h 3 (omega arith), agree f v w (i + 1) (j + 1) n rest) refl
+
+pub places_agree : (f : Flavor) (v w : List ℕ) (i j n : ℕ) → ((k : ℕ) → k < n + 3 → get_or v (i + k) 0 ≡ get_or w (j + k) 0) →
+    places f v i n ≡ places f w j n
+unfolding places
+places_agree f v w i j n h = agree f v w i j n h
+
+-- A window from i on in the text, i being its byte behind two, has the text's bytes.
+from_drop : (f : Flavor) (text : List ℕ) (i n : ℕ) → 2 ≤ i → places f (drop (i - 2) text) 0 n ≡ places f (0 ∷ 0 ∷ text) i n
+from_drop f text i n le = places_agree f (drop (i - 2) text) (0 ∷ 0 ∷ text) 0 i n (λ k l.
+    let here : 0 + k ≡ k = omega arith in
+    let there : suc (suc (i - 2 + k)) ≡ i + k = omega arith in
+    ap (λ m. get_or (drop (i - 2) text) m 0) here ∙ get_or-drop (i - 2) text k 0 ∙ ap (λ m. get_or (0 ∷ 0 ∷ text) m 0) there)
+
+-- a part up to the end, as the code takes it
+abbrev pub part_from : ℕ → List ℕ → List ℕ
+part_from i text = take (length text - i) (drop i text)
+
+whole_part : (i : ℕ) (text : List ℕ) → part_from i text ≡ drop i text
+whole_part i text = take_all (length text - i) (drop i text) (omega (arith, length-drop i text))
+
+pub places_drop : (f : Flavor) (text : List ℕ) (i n : ℕ) → 2 ≤ i → places f (part_from (i - 2) text) 0 n ≡ places f (0 ∷ 0 ∷ text) i n
+places_drop f text i n le = ap (λ window. places f window 0 n) (whole_part (i - 2) text) ∙ from_drop f text i n le
+
+-- ---- a block of which fewer bytes count
+
+length_written : (t : ℕ → Bool) (g h : ℕ → ℕ) (vs : List ℕ) →
+    length (flat_map (λ v. cond (t v) (g v ∷ h v ∷ []) (h v ∷ [])) vs) ≡ length vs + count_ones (mask_l (map t vs))
+unfolding lib.Count.ones
+length_written t g h [] = refl
+length_written t g h (v ∷ vs) =
+    length_one (t v) (g v) (h v) _ (length vs) _ _ (length_written t g h vs) (ones-mask_l_cons (t v) (map t vs))
+  where
+    length_one : (s : Bool) (a b : ℕ) (xs : List ℕ) (n m k : ℕ) → length xs ≡ n + m → k ≡ cond s 1 0 + m →
+        length (cond s (a ∷ b ∷ []) (b ∷ []) ++ xs) ≡ suc n + k
+    length_one true a b xs n m k e f = omega (arith, e, f)
+    length_one false a b xs n m k e f = omega (arith, e, f)
+
+-- What is written for n bytes has as many bytes as they and the bits of those that become two.
+pub length_places : (f : Flavor) (window : List ℕ) (i n : ℕ) →
+    length (places f window i n) ≡ n + count_ones (mask_l (map (is_doubled_at f window) (range_with_len i n)))
+unfolding places
+length_places f window i n =
+    length_written (is_doubled_at f window) (inserted_at f window) (changed_at f window) (range_with_len i n)
+    ∙ ap (λ k. k + count_ones (mask_l (map (is_doubled_at f window) (range_with_len i n)))) (length-range_with_len i n)
+
+-- What packing the lanes of a block writes is what is written for its places.
+pub packed_block : (f : Flavor) (window : List ℕ) (i n : ℕ) →
+    packed (map (is_doubled_at f window) (range_with_len i n)) (map (inserted_at f window) (range_with_len i n)) (map (changed_at f window) (range_with_len i n))
+    ≡ places f window i n
+unfolding places
+packed_block f window i n = packed_places (is_doubled_at f window) (inserted_at f window) (changed_at f window) (range_with_len i n)
+
+-- The number of n set bits, as the code makes it.
+ones_are : (n : ℕ) → n ≤ 32 → 1 * 2 ^ n % 0x10000000000000000 - 1 ≡ 2 ^ n - 1
+ones_are n le =
+    let small : 2 ^ n ≤ 2 ^ 32 = pow_mono le in
+    let fits : 1 * 2 ^ n < 0x10000000000000000 = omega arith in
+    ap (λ k. k - 1) (mod-eq_of_lt fits ∙ omega arith)
+
+-- The front of what is written for 32 bytes, as long as the mask tells of the first n, is theirs.
+module _ (f : Flavor) (window out : List ℕ) (n doubled end : ℕ) (le : n ≤ 32) (within : end ≤ length out)
+    (out_is : take end out ≡ places f window 0 32)
+    (doubled_is : doubled ≡ mask_l (map (is_doubled_at f window) (range_with_len 0 32))) where
+  front_bits : bit_and doubled (2 ^ n - 1) ≡ mask_l (map (is_doubled_at f window) (range_with_len 0 n))
+  front_bits =
+      and_mask doubled n ∙ ap (λ m. m % 2 ^ n) doubled_is
+      ∙ mask_front n (map (is_doubled_at f window) (range_with_len 0 32)) (omega (arith, length-map-range_with_len (is_doubled_at f window) 0 32))
+      ∙ ap mask_l (take-map-range_with_len (is_doubled_at f window) 0 32 n le)
+
+  front_long : length (places f window 0 n) ≡ n + count_ones (bit_and doubled (2 ^ n - 1))
+  front_long = length_places f window 0 n ∙ ap (λ b. n + count_ones b) (sym front_bits)
+
+  parts : take end out ≡ places f window 0 n ++ places f window (0 + n) (32 - n)
+  parts =
+      let sum : 32 ≡ n + (32 - n) = omega arith in
+      out_is ∙ ap (places f window 0) sum ∙ places_append f window 0 n (32 - n)
+
+  ends_within : n + count_ones (bit_and doubled (2 ^ n - 1)) ≤ end
+  ends_within = omega (arith, front_long, ap length parts, length-append (places f window 0 n) (places f window (0 + n) (32 - n)), length-take-le end out within)
+
+  pub front_end : n + count_ones (bit_and doubled (1 * 2 ^ n % 0x10000000000000000 - 1)) ≤ end
+  front_end = subst (λ k. n + count_ones (bit_and doubled k) ≤ end) (sym (ones_are n le)) ends_within
+
+  pub front_of_block : take (n + count_ones (bit_and doubled (1 * 2 ^ n % 0x10000000000000000 - 1))) out ≡ places f window 0 n
+  front_of_block =
+      ap (λ k. take (n + count_ones (bit_and doubled k)) out) (ones_are n le)
+      ∙ sym (take-take (n + count_ones (bit_and doubled (2 ^ n - 1))) end out ends_within)
+      ∙ ap (take (n + count_ones (bit_and doubled (2 ^ n - 1)))) parts
+      ∙ take_at (places f window 0 n) (places f window (0 + n) (32 - n)) _ front_long
+
+-- ---- a window with zeros around it
+
+zeros_at : (n i : ℕ) → ◌≡◌ {A = ℕ} (get_or (replicate n 0) i 0) 0
+zeros_at zero i = refl
+zeros_at (suc n) zero = refl
+zeros_at (suc n) (suc i) = zeros_at n i
+
+-- Zeros behind a list change none of its elements, nor what is read past its end.
+padded : (xs rest : List ℕ) → ((i : ℕ) → ◌≡◌ {A = ℕ} (get_or rest i 0) 0) → (k : ℕ) → get_or (xs ++ rest) k 0 ≡ get_or xs k 0
+padded [] rest zeros k = zeros k
+padded (x ∷ xs) rest zeros zero = refl
+padded (x ∷ xs) rest zeros (suc k) = padded xs rest zeros k
+
+-- Bytes that are copied into zeros, behind the first two, or at the front.
+pub behind_two : (near : List ℕ) (n k : ℕ) → get_or (0 ∷ 0 ∷ (near ++ drop n (drop 2 (replicate 35 0)))) k 0 ≡ get_or (0 ∷ 0 ∷ near) k 0
+behind_two near n = padded (0 ∷ 0 ∷ near) (drop n (drop 2 (replicate 35 0))) (λ i.
+    get_or-drop n (drop 2 (replicate 35 0)) i 0 ∙ get_or-drop 2 (replicate 35 0) (n + i) 0 ∙ zeros_at 35 (2 + (n + i)))
+
+pub in_front : (near : List ℕ) (n k : ℕ) → get_or (near ++ drop n (replicate 35 0)) k 0 ≡ get_or near k 0
+in_front near n = padded near (drop n (replicate 35 0)) (λ i. get_or-drop n (replicate 35 0) i 0 ∙ zeros_at 35 (n + i))
+
+-- So what is written for the first bytes of a text, and for those from i on.
+pub places_first : (f : Flavor) (text window : List ℕ) (n : ℕ) → n ≤ 32 →
+    ((k : ℕ) → get_or window k 0 ≡ get_or (0 ∷ 0 ∷ take 33 text) k 0) → places f window 0 n ≡ places f (0 ∷ 0 ∷ text) 0 n
+places_first f text window n le is = places_agree f window (0 ∷ 0 ∷ text) 0 0 n (λ k l. is (0 + k) ∙ first (0 + k) (omega arith))
+  where
+    first : (k : ℕ) → k < 35 → get_or (0 ∷ 0 ∷ take 33 text) k 0 ≡ get_or (0 ∷ 0 ∷ text) k 0
+    first zero l = refl
+    first (suc zero) l = refl
+    first (suc (suc k)) l = get_or-take 33 text k 0 (omega arith)
+
+pub places_last : (f : Flavor) (text window : List ℕ) (i n : ℕ) → 2 ≤ i →
+    ((k : ℕ) → get_or window k 0 ≡ get_or (part_from (i - 2) text) k 0) → places f window 0 n ≡ places f (0 ∷ 0 ∷ text) i n
+places_last f text window i n le is =
+    places_agree f window (part_from (i - 2) text) 0 0 n (λ k l. is (0 + k)) ∙ places_drop f text i n le
+
+-- What is written for n bytes and then m is no longer than what is written for as many and more.
+pub room_for_parts : (f : Flavor) (window : List ℕ) (i n m whole : ℕ) → n + m ≤ whole →
+    length (places f window i n) + length (places f window (i + n) m) ≤ length (places f window i whole)
+room_for_parts f window i n m whole le =
+    let sum : whole ≡ n + (m + (whole - (n + m))) = omega arith in
+    let rest = whole - (n + m) in
+    omega (
+      arith,
+      ap (λ k. length (places f window i k)) sum,
+      ap length (places_append f window i n (m + rest)),
+      length-append (places f window i n) (places f window (i + n) (m + rest)),
+      ap length (places_append f window (i + n) m rest),
+      length-append (places f window (i + n) m) (places f window (i + n + m) rest),
+    )
+
+-- What is stored of a block, and cut to its first n bytes.
+pub front_written : (f : Flavor) (window out firsts seconds : List ℕ) (n doubled end : ℕ) → n ≤ 32 → end ≤ 64 → length out ≡ 64 →
+    take end out ≡ packed (map (is_doubled_at f window) (range_with_len 0 32)) firsts seconds →
+    firsts ≡ map (inserted_at f window) (range_with_len 0 32) → seconds ≡ map (changed_at f window) (range_with_len 0 32) →
+    doubled ≡ mask_l (map (is_doubled_at f window) (range_with_len 0 32)) →
+    let kept = n + count_ones (bit_and doubled (1 * 2 ^ n % 0x10000000000000000 - 1)) in
+    (kept ≤ 64) × (take kept out ≡ places f window 0 n)
+front_written f window out firsts seconds n doubled end le within long out_is firsts_are seconds_are doubled_is =
+    let whole : take end out ≡ places f window 0 32 =
+    out_is ∙ (λ i. packed (map (is_doubled_at f window) (range_with_len 0 32)) (firsts_are i) (seconds_are i)) ∙ packed_block f window 0 32 in
+    let fits : end ≤ length out = omega (arith, within, long) in (
+      omega (arith, front_end f window out n doubled end le fits whole doubled_is, within),
+      front_of_block f window out n doubled end le fits whole doubled_is,
+    )
+
+-- With one block more.
+pub window_step : (f : Flavor) (window : List ℕ) (i : ℕ) (xs ys : List ℕ) → xs ≡ places f window 0 (32 * i) →
+    ys ≡ xs ++ places f window (32 * i) 32 → ys ≡ places f window 0 (32 * (i + 1))
+window_step f window i xs ys xs_are ys_are =
+    let start : 32 * i ≡ 0 + 32 * i = omega arith in
+    let sum : 32 * i + 32 ≡ 32 * (i + 1) = omega arith in
+    ys_are ∙ ap (λ l. l ++ places f window (32 * i) 32) xs_are ∙ ap (λ k. places f window 0 (32 * i) ++ places f window k 32) start
+    ∙ sym (places_append f window 0 (32 * i) 32) ∙ ap (places f window 0) sum
+
+module _ (f : Flavor) (text : List ℕ) where
+  abbrev around : List ℕ
+  around = 0 ∷ 0 ∷ text
+
+  -- With n bytes more, from i on.
+  pub text_step : (i n : ℕ) (x0 x1 x2 piece : List ℕ) → 32 ≤ i → x1 ≡ x0 ++ places f around 32 (i - 32) → x2 ≡ x1 ++ piece →
+      piece ≡ places f around i n → x2 ≡ x0 ++ places f around 32 (i + n - 32)
+  text_step i n x0 x1 x2 piece le e1 e2 e3 =
+      let start : i ≡ 32 + (i - 32) = omega arith in
+      let sum : i - 32 + n ≡ i + n - 32 = omega arith in
+      e2 ∙ ap (λ l. l ++ piece) e1 ∙ append_assoc x0 (places f around 32 (i - 32)) piece
+      ∙ ap (λ l. x0 ++ (places f around 32 (i - 32) ++ l)) (e3 ∙ ap (λ k. places f around k n) start)
+      ∙ ap (λ l. x0 ++ l) (sym (places_append f around 32 (i - 32) n) ∙ ap (places f around 32) sum)
+
+  pub text_room : (i n : ℕ) → 32 ≤ i → i + n ≤ length text →
+      length (places f around 32 (i - 32)) + length (places f around i n) ≤ length (places f around 32 (length text - 32))
+  text_room i n le within =
+      let start : 32 + (i - 32) ≡ i = omega arith in
+      subst (λ k. length (places f around 32 (i - 32)) + length (places f around k n) ≤ length (places f around 32 (length text - 32))) start
+      (room_for_parts f around 32 (i - 32) n (length text - 32) (omega (arith, le, within)))
+
+  -- A text of more than 32 bytes, in three parts.
+  pub three_parts : (i : ℕ) → 32 ≤ i → i ≤ length text →
+      recoded f text ≡ places f around 0 32 ++ (places f around 32 (i - 32) ++ places f around i (length text - i))
+  three_parts i le within =
+      let sum : length text ≡ 32 + (i - 32 + (length text - i)) = omega (arith, le, within) in
+      let start : 32 + (i - 32) ≡ i = omega arith in
+      ap (places f around 0) sum ∙ places_append f around 0 32 (i - 32 + (length text - i))
+      ∙ ap (λ l. places f around 0 32 ++ l) (places_append f around 32 (i - 32) (length text - i)
+      ∙ ap (λ k. places f around 32 (i - 32) ++ places f around k (length text - i)) start)

@@ -1,0 +1,191 @@
+//! What encoding makes of 32 bytes, by vectors.
+
+ghost use Rattle.std.specs.Prelude.{◌≡◌, List, Bool, ◌+◌, ◌*◌, ◌%◌, ◌/◌, ◌^◌, ◌<◌, ◌≤◌, ◌==◌, ◌++◌, map, length, take, IsTrue};
+ghost use Rattle.std.specs.List.{range_with_len};
+ghost use Rattle.std.specs.Simd.Lanes.{chunk, zip2, mask_l};
+ghost use Rattle.simd_cesu8.specs.Encoding.{Flavor, Cesu8, Mutf8};
+ghost use Rattle.simd_cesu8.specs.EncodedPlaces.{is_lead, is_null, mask, six_bits, changed_at, inserted_at, is_doubled_at, packed, places, AreShuffles};
+
+use super::rows::Rows;
+use std::simd::prelude::*;
+
+/// The form of U+0000.
+pub trait NullForm {
+    ghost flavor: { Flavor };
+
+    /// Marks the bytes that are written as C0 80.
+    fn nulls(bytes: u8x32) -> u8x32
+        ensures { result ≡ map (λ b. mask (is_null flavor b)) bytes };
+}
+
+/// One byte, 00, as in CESU-8.
+pub struct OneByteNull;
+
+impl NullForm for OneByteNull {
+    ghost flavor = { Cesu8 };
+
+    #[inline(always)]
+    fn nulls(bytes: u8x32) -> u8x32
+        ensures { result ≡ map (λ b. mask (is_null Cesu8 b)) bytes }
+    {
+        let _ = bytes;
+        u8x32::splat(0)
+    }
+}
+
+/// Two bytes, C0 80, as in MUTF-8.
+pub struct TwoByteNull;
+
+impl NullForm for TwoByteNull {
+    ghost flavor = { Mutf8 };
+
+    #[inline(always)]
+    fn nulls(bytes: u8x32) -> u8x32
+        ensures { result ≡ map (λ b. mask (is_null Mutf8 b)) bytes }
+    {
+        bytes.simd_eq(u8x32::splat(0)).select(u8x32::splat(0xFF), u8x32::splat(0))
+    }
+}
+
+/// Writes a block, and gives the end of what is written for it.
+#[inline(always)]
+pub fn write_block<N: NullForm>(
+    window: &[u8],
+    at: usize,
+    rows: &Rows,
+    out: &mut [u8],
+    end: usize,
+) -> usize
+    requires rows { AreShuffles rows.now }
+    requires window { at + 35 ≤ length window.now }
+    requires room { end + 64 ≤ length out.old }
+    ensures bytes { take result out.new ≡ take end out.old ++ places N.flavor window.now at 32 }
+    ensures end { (end ≤ result) × (result ≤ end + 64) }
+    ensures len { length out.new ≡ length out.old }
+{
+    let block = encode_block::<N>(window, at);
+    store_rows(block.seconds, block.firsts, block.doubled, rows, out, end)
+}
+
+/// Writes the first `count` bytes of a window of one block, and gives the end of what is written.
+#[inline(always)]
+pub fn write_front<N: NullForm>(
+    window: &[u8; 35],
+    count: usize,
+    rows: &Rows,
+    out: &mut [u8; 64],
+) -> usize
+    requires rows { AreShuffles rows.now }
+    requires count { count ≤ 32 }
+    ensures bytes { take result out.new ≡ places N.flavor window.now 0 count }
+    ensures end { result ≤ 64 }
+{
+    let block = encode_block::<N>(window, 0);
+    store_rows(block.seconds, block.firsts, block.doubled, rows, out, 0);
+    count + (block.doubled & ((1 << count) - 1)).count_ones() as usize
+}
+
+/// What encoding makes of the bytes of a block. A byte becomes its lane of `seconds`, and where its
+/// bit of `doubled` is set, its lane of `firsts` before that.
+#[derive(Drop)]
+struct EncodedBlock {
+    seconds: u8x32,
+    firsts: u8x32,
+    doubled: u64,
+}
+
+/// The lanes of the block behind the first `at` bytes of a window, and two more.
+#[inline(always)]
+fn encode_block<N: NullForm>(window: &[u8], at: usize) -> EncodedBlock
+    requires { at + 35 ≤ length window.now }
+    ensures seconds { result.seconds ≡ map (changed_at N.flavor window.now) (range_with_len at 32) }
+    ensures firsts { result.firsts ≡ map (inserted_at N.flavor window.now) (range_with_len at 32) }
+    ensures doubled { result.doubled
+        ≡ mask_l (map (is_doubled_at N.flavor window.now) (range_with_len at 32)) }
+{
+    let bytes = u8x32::from_slice(&window[at + 2..]);
+    let lead = leads(bytes);
+    let lead_before = leads(u8x32::from_slice(&window[at + 1..]));
+    let lead_two_before = leads(u8x32::from_slice(&window[at..]));
+    let null = N::nulls(bytes);
+
+    let six_bits = six_bits(bytes, u8x32::from_slice(&window[at + 3..]));
+    let of_high = six_bits + (u8x32::splat(0x80) + (lead & u8x32::splat(0x1F)));
+    let other = bytes | (lead_two_before & u8x32::splat(0x30)) | (null & u8x32::splat(0x80));
+    let is_of_high = lead | lead_before;
+    let doubled = lead | lead_two_before | null;
+    EncodedBlock {
+        seconds: is_of_high.simd_eq(u8x32::splat(0)).select(other, of_high),
+        firsts: null.simd_eq(u8x32::splat(0)).select(u8x32::splat(0xED), u8x32::splat(0xC0)),
+        doubled: bits(doubled),
+    }
+}
+
+/// Which bytes lead four.
+#[inline(always)]
+fn leads(bytes: u8x32) -> u8x32
+    ensures { result ≡ map (λ b. mask (is_lead b)) bytes }
+{
+    bytes.simd_ge(u8x32::splat(0xF0)).select(u8x32::splat(0xFF), u8x32::splat(0))
+}
+
+/// The last four bits of each byte and two of the next.
+#[inline(always)]
+fn six_bits(bytes: u8x32, next: u8x32) -> u8x32
+    ensures { result ≡ zip2 six_bits bytes next }
+{
+    let high = (bytes << u8x32::splat(2)) & u8x32::splat(0x3C);
+    let low = (next >> u8x32::splat(4)) & u8x32::splat(0x03);
+    high | low
+}
+
+/// A bit for each lane that is all ones.
+#[inline(always)]
+fn bits(lanes: u8x32) -> u64
+    ensures { result ≡ mask_l (map (λ b. b == 0xFF) lanes) }
+{
+    lanes.simd_eq(u8x32::splat(0xFF)).to_bitmask()
+}
+
+/// Stores a row, packed, and gives the end of what it holds.
+#[inline(always)]
+fn store_row(lanes: u8x16, doubled: usize, rows: &Rows, out: &mut [u8], at: usize) -> usize
+    requires rows { AreShuffles rows.now }
+    requires small { doubled < 0x100 }
+    requires room { at + 16 ≤ length out.old }
+    ensures bytes { (ts : List Bool) → length ts ≡ 8 → doubled ≡ mask_l ts
+        → take result out.new ≡ take at out.old ++ packed ts (chunk 8 8 lanes) (chunk 0 8 lanes) }
+    ensures end { (at ≤ result) × (result ≤ at + 16) }
+    ensures len { length out.new ≡ length out.old }
+{
+    let packed = lanes.swizzle_dyn(u8x16::from_array(rows[doubled]));
+    packed.copy_to_slice(&mut out[at..]);
+    at + 8 + doubled.count_ones() as usize
+}
+
+/// Stores the four rows of a block, and gives the end of what they hold.
+#[inline(always)]
+fn store_rows(
+    seconds: u8x32,
+    firsts: u8x32,
+    doubled: u64,
+    rows: &Rows,
+    out: &mut [u8],
+    at: usize,
+) -> usize
+    requires rows { AreShuffles rows.now }
+    requires room { at + 64 ≤ length out.old }
+    ensures bytes { (ts : List Bool) → length ts ≡ 32 → doubled ≡ mask_l ts
+        → take result out.new ≡ take at out.old ++ packed ts firsts seconds }
+    ensures end { (at ≤ result) × (result ≤ at + 64) }
+    ensures len { length out.new ≡ length out.old }
+{
+    let row = seconds.shuffle::<16>(firsts, [0, 1, 2, 3, 4, 5, 6, 7, 32, 33, 34, 35, 36, 37, 38, 39]);
+    let at = store_row(row, (doubled & 0xFF) as usize, rows, out, at);
+    let row = seconds.shuffle::<16>(firsts, [8, 9, 10, 11, 12, 13, 14, 15, 40, 41, 42, 43, 44, 45, 46, 47]);
+    let at = store_row(row, (doubled >> 8 & 0xFF) as usize, rows, out, at);
+    let row = seconds.shuffle::<16>(firsts, [16, 17, 18, 19, 20, 21, 22, 23, 48, 49, 50, 51, 52, 53, 54, 55]);
+    let at = store_row(row, (doubled >> 16 & 0xFF) as usize, rows, out, at);
+    let row = seconds.shuffle::<16>(firsts, [24, 25, 26, 27, 28, 29, 30, 31, 56, 57, 58, 59, 60, 61, 62, 63]);
+    store_row(row, (doubled >> 24 & 0xFF) as usize, rows, out, at)
+}

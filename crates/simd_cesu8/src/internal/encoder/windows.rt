@@ -1,0 +1,136 @@
+//! A text a window at a time: into an array on the stack, and from there into the room.
+//!
+//! The bytes around a window are read with it, since what is written for a byte depends on its
+//! neighbours. At the ends of the text, where there are none, a small array of zeros stands for them.
+
+ghost use Rattle.std.specs.Prelude.{◌≡◌, ℕ, ◌+◌, ◌-◌, ◌*◌, ◌<◌, ◌≤◌, ◌⊎◌, ◌∷◌, ◌++◌, length, take, slice_index, vec_len, vec_capacity};
+ghost use Rattle.simd_cesu8.specs.EncodedPlaces.{places, recoded, AreShuffles};
+
+use super::blocks::{NullForm, write_block, write_front};
+use super::rows::{Rows, rows};
+use std::alloc::Allocator;
+
+/// The blocks of a window, of 32 bytes each.
+const BLOCKS: usize = 32;
+
+/// Appends what the bytes of a text become, for which there is room.
+pub fn write_bytes<N: NullForm, A: Allocator>(text: &[u8], out: &mut Vec<u8, A>)
+    requires { vec_len out.old + length (recoded N.flavor text.now) ≤ vec_capacity out.old }
+    ensures bytes { out.new.items ≡ out.old.items ++ recoded N.flavor text.now }
+    ensures capacity { vec_capacity out.new ≡ vec_capacity out.old }
+{
+    let window = behind_zeros(first_bytes(text));
+    if text.len() <= 32 {
+        return write_end::<N, A>(&window, text.len(), out);
+    }
+    write_end::<N, A>(&window, 32, out);
+    let at = write_windows::<N, A>(text, out);
+    write_end::<N, A>(&before_zeros(&text[at - 2..]), text.len() - at, out);
+}
+
+/// The first bytes of a text, as many as a block has, and one.
+#[inline(always)]
+fn first_bytes(text: &[u8]) -> &[u8]
+    ensures { result.now ≡ take 33 text.now }
+{
+    if text.len() <= 33 { text } else { &text[..33] }
+}
+
+/// A window of bytes before which there is nothing.
+#[inline(always)]
+fn behind_zeros(near: &[u8]) -> [u8; 35]
+    requires { length near.now ≤ 33 }
+    ensures { (k : ℕ) → slice_index result k ≡ slice_index (0 ∷ 0 ∷ near.now) k }
+{
+    let mut window = [0; 35];
+    window[2..2 + near.len()].copy_from_slice(near);
+    window
+}
+
+/// A window of bytes behind which there is nothing.
+#[inline(always)]
+fn before_zeros(near: &[u8]) -> [u8; 35]
+    requires { length near.now ≤ 35 }
+    ensures { (k : ℕ) → slice_index result k ≡ slice_index near.now k }
+{
+    let mut window = [0; 35];
+    window[..near.len()].copy_from_slice(near);
+    window
+}
+
+/// Appends what the first `count` bytes of a window of one block become.
+#[inline(always)]
+fn write_end<N: NullForm, A: Allocator>(window: &[u8; 35], count: usize, out: &mut Vec<u8, A>)
+    requires short { count ≤ 32 }
+    requires room { vec_len out.old + length (places N.flavor window.now 0 count)
+        ≤ vec_capacity out.old }
+    ensures bytes { out.new.items ≡ out.old.items ++ places N.flavor window.now 0 count }
+    ensures capacity { vec_capacity out.new ≡ vec_capacity out.old }
+{
+    let mut written = [0; 64];
+    let end = write_front::<N>(window, count, rows(), &mut written);
+    append(&written[..end], out);
+}
+
+/// Appends what the bytes of a text become from the 33rd on, as many whole blocks as have a byte
+/// behind them, and gives the place of the rest.
+#[inline(always)]
+fn write_windows<N: NullForm, A: Allocator>(text: &[u8], out: &mut Vec<u8, A>) -> usize
+    requires long { 32 < length text.now }
+    requires room { vec_len out.old
+        + length (places N.flavor (0 ∷ 0 ∷ text.now) 32 (length text.now - 32)) ≤ vec_capacity out.old }
+    ensures place { (32 ≤ result) × (result < length text.now) × (length text.now ≤ result + 32) }
+    ensures bytes { out.new.items
+        ≡ out.old.items ++ places N.flavor (0 ∷ 0 ∷ text.now) 32 (result - 32) }
+    ensures capacity { vec_capacity out.new ≡ vec_capacity out.old }
+{
+    let mut at = 32;
+    if text.len() - at <= 32 {
+        return at;
+    }
+    let mut written = [0; 64 * BLOCKS];
+    while 32 < text.len() - at {
+        let count = blocks_before_end(text.len() - at);
+        let end = write_window::<N>(&text[at - 2..], count, &mut written);
+        append(&written[..end], out);
+        at += 32 * count;
+    }
+    at
+}
+
+/// How many blocks of the bytes that are left go into a window, with a byte behind them.
+#[inline(always)]
+fn blocks_before_end(left: usize) -> usize
+    requires { 32 < left }
+    ensures { (0 < result) × (result ≤ BLOCKS) × (32 * result < left) }
+{
+    let whole = (left - 1) / 32;
+    if whole < BLOCKS { whole } else { BLOCKS }
+}
+
+/// Writes a window of `count` blocks, and gives the end of what is written.
+#[inline(always)]
+fn write_window<N: NullForm>(window: &[u8], count: usize, out: &mut [u8; 64 * BLOCKS]) -> usize
+    requires window { 32 * count + 3 ≤ length window.now }
+    requires room { count ≤ BLOCKS }
+    ensures bytes { take result out.new ≡ places N.flavor window.now 0 (32 * count) }
+    ensures end { result ≤ 64 * count }
+{
+    let mut end = 0;
+    for i in 0..count {
+        end = write_block::<N>(window, 32 * i, rows(), out, end);
+    }
+    end
+}
+
+/// Appends bytes for which there is room.
+#[inline(always)]
+fn append<A: Allocator>(bytes: &[u8], out: &mut Vec<u8, A>)
+    requires { vec_len out.old + length bytes.now ≤ vec_capacity out.old }
+    ensures bytes { out.new.items ≡ out.old.items ++ bytes.now }
+    ensures capacity { vec_capacity out.new ≡ vec_capacity out.old }
+{
+    for byte in bytes {
+        out.push_reserved(*byte);
+    }
+}
