@@ -115,16 +115,24 @@ character_written : (f : Flavor) (c p q : ℕ) (rest encoded : List ℕ) → Sha
     written f p q (utf8_of c ++ rest) ≡ encoding f (c ∷ []) ++ encoded
 unfolding written
 character_written f c p q rest encoded (one ascii) hp hq continues =
-    rw (utf8_of_one c ascii, encoding_one f c ascii, plain f p q c (get_or rest 0 0) hp hq (omega arith),
-    continues q c hq (omega arith)) refl
+    rw (
+      utf8_of_one c ascii,
+      encoding_one f c ascii,
+      plain f p q c (get_or rest 0 0) hp hq (omega arith),
+      continues q c hq (omega arith),
+    ) refl
 character_written f c p q rest encoded (two x y digits) hp hq continues =
     let a = 0xC0 + x in
     let b = 0x80 + y in
     let h_x = digits.high in
     let h_y = digits.last in
-    rw (utf8_of_two c x y digits, encoding_two f c x y digits,
-    same f p q a b hp hq (omega arith) (omega arith), same f q a b (get_or rest 0 0) hq (omega arith) (omega arith) (omega arith),
-    continues a b (omega arith) (omega arith)) refl
+    rw (
+      utf8_of_two c x y digits,
+      encoding_two f c x y digits,
+      same f p q a b hp hq (omega arith) (omega arith),
+      same f q a b (get_or rest 0 0) hq (omega arith) (omega arith) (omega arith),
+      continues a b (omega arith) (omega arith),
+    ) refl
 character_written f c p q rest encoded (three x y z digits) hp hq continues =
     let a = 0xE0 + x in
     let b = 0x80 + y in
@@ -132,10 +140,14 @@ character_written f c p q rest encoded (three x y z digits) hp hq continues =
     let h_x = digits.high in
     let h_y = digits.middle in
     let h_z = digits.last in
-    rw (utf8_of_three c x y z digits, encoding_three f c x y z digits,
-    same f p q a b hp hq (omega arith) (omega arith), same f q a b d hq (omega arith) (omega arith) (omega arith),
-    same f a b d (get_or rest 0 0) (omega arith) (omega arith) (omega arith) (omega arith),
-    continues b d (omega arith) (omega arith)) refl
+    rw (
+      utf8_of_three c x y z digits,
+      encoding_three f c x y z digits,
+      same f p q a b hp hq (omega arith) (omega arith),
+      same f q a b d hq (omega arith) (omega arith) (omega arith),
+      same f a b d (get_or rest 0 0) (omega arith) (omega arith) (omega arith) (omega arith),
+      continues b d (omega arith) (omega arith),
+    ) refl
 character_written f c p q rest encoded (pair w x y z digits) hp hq continues =
     rw (utf8_of_pair c w x y z digits, encoding_pair f c w x y z digits)
     (pair_written f c w x y z p q rest encoded digits hp hq continues)
