@@ -1,5 +1,5 @@
 -- What is written for the bytes of UTF-8, each by its neighbours, is the encoding.
-use Rattle.std.proofs.Common.{◌≡◌, ℕ, zero, suc, ◌+◌, ◌*◌, ◌/◌, ◌%◌, ◌<◌, ◌≤◌, Bool, true, false, List, [], ◌∷◌, ◌++◌, refl, sym, ap, ◌∙◌, subst, inl, inr, ⊎_elim, arith, length, get_or, eqb, bit_and, bit_or, eqb-true}
+use Rattle.std.proofs.Common.{◌≡◌, ℕ, zero, suc, ◌+◌, ◌*◌, ◌/◌, ◌%◌, ◌<◌, ◌≤◌, true, false, List, [], ◌∷◌, ◌++◌, refl, sym, ap, ◌∙◌, ⊎_elim, arith, length, get_or, eqb, bit_and, bit_or, eqb-true}
 use Rattle.std.specs.Str.{chars, IsUtf8}
 use Rattle.std.specs.List.{flat_map, range_with_len}
 use Rattle.std.proofs.lemmas.Bool.{agree_below_at, lt-leb, le-leb, ne_eqb, cases_eq}
@@ -7,7 +7,7 @@ use Rattle.std.proofs.lemmas.Nat.{and_mask, or_shifted}
 use lib.Bits.{or_add_and, and_zero_r}
 use Rattle.simd_cesu8.specs.Text.{IsText, utf8_of, utf8}
 use Rattle.simd_cesu8.specs.Encoding.{Flavor, Cesu8, Mutf8, encoding, short_form}
-use Rattle.simd_cesu8.specs.EncodedPlaces.{is_lead, is_null, six_bits, place, place_at, places, recoded}
+use Rattle.simd_cesu8.specs.EncodedPlaces.{is_null, six_bits, place, place_at, places, recoded}
 use Rattle.simd_cesu8.proofs.StdUtf8.{IsUtf8Of_chars}
 use Rattle.simd_cesu8.proofs.Shapes.{Shape, IsPair, one, two, three, pair, shape, utf8_of_one, utf8_of_two, utf8_of_three, utf8_of_pair}
 use Rattle.simd_cesu8.proofs.Forms.{encoding_one, encoding_two, encoding_three, encoding_pair, short_form_other}
