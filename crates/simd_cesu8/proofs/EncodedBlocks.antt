@@ -1,5 +1,5 @@
 -- What the encoder's vectors say of the places of a block.
-use Rattle.std.proofs.Common.{◌≡◌, ℕ, ◌+◌, ◌≤◌, Bool, List, map, length, get_or, eqb, bit_or, refl, sym, ap, ◌∙◌, arith}
+use Rattle.std.proofs.Common.{◌≡◌, ℕ, ◌+◌, ◌≤◌, Bool, List, map, length, get_or, eqb, bit_or, sym, ap, ◌∙◌, arith}
 use Rattle.std.specs.List.{range_with_len}
 use Rattle.std.proofs.lemmas.Simd.{map-map, pick_l-range_with_len, zip2_of_maps}
 use lib.Lanes.{zip2, mask_l, chunk}

@@ -5,11 +5,10 @@ use Rattle.std.proofs.lemmas.Bool.{agree_below_at}
 use Rattle.std.proofs.lemmas.List.{ext_get_or, get_or-map, length-map, length-take-le, length-drop, map-append, take_at, drop_at, drop_all, drop-drop}
 use Rattle.std.proofs.lemmas.Nat.{and_mask}
 use Rattle.std.proofs.Math.Nat.{mul-zero, mul_assoc, pow-succ', add-mul-div_left, add-mul-mod_self_left, div-eq_of_lt, mod-eq_of_lt, one-le-pow}
-use Rattle.std.proofs.lemmas.List.FromFn.{length-range_with_len}
 use Rattle.std.proofs.lemmas.Simd.{swz_l, SwzOk, SwzOk-from_below, length-swz_l, get_or-swz_l_below, pick_l-range_with_len, pick_l_left, mask_l-lt, put_chunk_is, ones-mask_l_cons, Each1-from_get_or}
 use lib.Dec.{ltb→lt}
 use mir.ValLaws.{and_both}
-use lib.Lanes.{Each1, mask_l, put_chunk, chunk, pick_l, all_below}
+use lib.Lanes.{mask_l, put_chunk, chunk, pick_l, all_below}
 use Rattle.simd_cesu8.specs.EncodedPlaces.{packed, kept_lanes, shuffle_of}
 
 -- the lowest bit of a mask, and the others

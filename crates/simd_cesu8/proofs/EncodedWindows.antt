@@ -10,7 +10,7 @@ use lib.Pow.{pow_mono}
 use Rattle.std.proofs.lemmas.Simd.{ones-mask_l_cons}
 use lib.Lanes.{mask_l}
 use Rattle.simd_cesu8.specs.Encoding.{Flavor}
-use Rattle.simd_cesu8.specs.EncodedPlaces.{place, place_at, places, recoded, is_doubled_at, inserted_at, changed_at, packed}
+use Rattle.simd_cesu8.specs.EncodedPlaces.{place_at, places, recoded, is_doubled_at, inserted_at, changed_at, packed}
 use Rattle.simd_cesu8.proofs.EncodedLanes.{packed_places}
 use Rattle.simd_cesu8.proofs.EncodedRows.{mask_front}
 

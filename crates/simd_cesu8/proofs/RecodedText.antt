@@ -1,5 +1,5 @@
 -- What is written for the bytes of UTF-8, each by its neighbours, is the encoding.
-use Rattle.std.proofs.Common.{◌≡◌, ℕ, zero, suc, ◌+◌, ◌*◌, ◌/◌, ◌%◌, ◌<◌, ◌≤◌, Bool, true, false, List, [], ◌∷◌, ◌++◌, refl, sym, ap, ◌∙◌, subst, inl, inr, ⊎_elim, arith, length, get_or, eqb, bit_and, bit_or, eqb-true}
+use Rattle.std.proofs.Common.{◌≡◌, ℕ, zero, suc, ◌+◌, ◌*◌, ◌/◌, ◌%◌, ◌<◌, ◌≤◌, true, false, List, [], ◌∷◌, ◌++◌, refl, sym, ap, ◌∙◌, ⊎_elim, arith, length, get_or, eqb, bit_and, bit_or, eqb-true}
 use Rattle.std.specs.Str.{chars, IsUtf8}
 use Rattle.std.specs.List.{flat_map, range_with_len}
 use Rattle.std.proofs.lemmas.Bool.{agree_below_at, lt-leb, le-leb, ne_eqb, cases_eq}
@@ -7,7 +7,7 @@ use Rattle.std.proofs.lemmas.Nat.{and_mask, or_shifted}
 use lib.Bits.{or_add_and, and_zero_r}
 use Rattle.simd_cesu8.specs.Text.{IsText, utf8_of, utf8}
 use Rattle.simd_cesu8.specs.Encoding.{Flavor, Cesu8, Mutf8, encoding, short_form}
-use Rattle.simd_cesu8.specs.EncodedPlaces.{is_lead, is_null, six_bits, place, place_at, places, recoded}
+use Rattle.simd_cesu8.specs.EncodedPlaces.{is_null, six_bits, place, place_at, places, recoded}
 use Rattle.simd_cesu8.proofs.StdUtf8.{IsUtf8Of_chars}
 use Rattle.simd_cesu8.proofs.Shapes.{Shape, IsPair, one, two, three, pair, shape, utf8_of_one, utf8_of_two, utf8_of_three, utf8_of_pair}
 use Rattle.simd_cesu8.proofs.Forms.{encoding_one, encoding_two, encoding_three, encoding_pair, short_form_other}
@@ -115,16 +115,24 @@ character_written : (f : Flavor) (c p q : ℕ) (rest encoded : List ℕ) → Sha
     written f p q (utf8_of c ++ rest) ≡ encoding f (c ∷ []) ++ encoded
 unfolding written
 character_written f c p q rest encoded (one ascii) hp hq continues =
-    rw (utf8_of_one c ascii, encoding_one f c ascii, plain f p q c (get_or rest 0 0) hp hq (omega arith),
-    continues q c hq (omega arith)) refl
+    rw (
+      utf8_of_one c ascii,
+      encoding_one f c ascii,
+      plain f p q c (get_or rest 0 0) hp hq (omega arith),
+      continues q c hq (omega arith),
+    ) refl
 character_written f c p q rest encoded (two x y digits) hp hq continues =
     let a = 0xC0 + x in
     let b = 0x80 + y in
     let h_x = digits.high in
     let h_y = digits.last in
-    rw (utf8_of_two c x y digits, encoding_two f c x y digits,
-    same f p q a b hp hq (omega arith) (omega arith), same f q a b (get_or rest 0 0) hq (omega arith) (omega arith) (omega arith),
-    continues a b (omega arith) (omega arith)) refl
+    rw (
+      utf8_of_two c x y digits,
+      encoding_two f c x y digits,
+      same f p q a b hp hq (omega arith) (omega arith),
+      same f q a b (get_or rest 0 0) hq (omega arith) (omega arith) (omega arith),
+      continues a b (omega arith) (omega arith),
+    ) refl
 character_written f c p q rest encoded (three x y z digits) hp hq continues =
     let a = 0xE0 + x in
     let b = 0x80 + y in
@@ -132,10 +140,14 @@ character_written f c p q rest encoded (three x y z digits) hp hq continues =
     let h_x = digits.high in
     let h_y = digits.middle in
     let h_z = digits.last in
-    rw (utf8_of_three c x y z digits, encoding_three f c x y z digits,
-    same f p q a b hp hq (omega arith) (omega arith), same f q a b d hq (omega arith) (omega arith) (omega arith),
-    same f a b d (get_or rest 0 0) (omega arith) (omega arith) (omega arith) (omega arith),
-    continues b d (omega arith) (omega arith)) refl
+    rw (
+      utf8_of_three c x y z digits,
+      encoding_three f c x y z digits,
+      same f p q a b hp hq (omega arith) (omega arith),
+      same f q a b d hq (omega arith) (omega arith) (omega arith),
+      same f a b d (get_or rest 0 0) (omega arith) (omega arith) (omega arith) (omega arith),
+      continues b d (omega arith) (omega arith),
+    ) refl
 character_written f c p q rest encoded (pair w x y z digits) hp hq continues =
     rw (utf8_of_pair c w x y z digits, encoding_pair f c w x y z digits)
     (pair_written f c w x y z p q rest encoded digits hp hq continues)

@@ -1,6 +1,6 @@
 -- What encoding makes of each byte of UTF-8, from the byte and its neighbours alone: the two before it
 -- and the one after it. Every list of bytes is taken, with zeros around it.
-use Rattle.std.specs.Prelude.{ℕ, zero, suc, ◌+◌, ◌-◌, ◌*◌, ◌/◌, ◌%◌, Bool, true, false, ◌||◌, ◌==◌, nat_le, if◌then◌else◌, ◌≡◌, ◌<◌, List, [], ◌∷◌, ◌++◌, length, slice_index, slice_index_or, replicate, bit_and, bit_or}
+use Rattle.std.specs.Prelude.{ℕ, zero, suc, ◌+◌, ◌-◌, ◌*◌, ◌/◌, ◌%◌, Bool, false, ◌||◌, ◌==◌, nat_le, if◌then◌else◌, ◌≡◌, ◌<◌, List, [], ◌∷◌, ◌++◌, length, slice_index, slice_index_or, replicate, bit_and, bit_or}
 use Rattle.std.specs.List.{flat_map, range_with_len}
 use Rattle.simd_cesu8.specs.Encoding.{Flavor, Cesu8, Mutf8}
 

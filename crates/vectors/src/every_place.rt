@@ -1,14 +1,14 @@
 //! Texts of every length up to 300 bytes, with a character that an encoding changes at every place.
 
-use crate::helpers::flavors::{FLAVORS, Flavor, encode, encode_into};
-use std::alloc::Global;
+use crate::helpers::flavors::{FLAVORS, Flavor, encode};
+use std::alloc::{AllocError, Global};
 use std::process::Abort;
 use std::str;
 use std::test::Fail;
 
 const LONGEST: usize = 300;
 
-/// The bytes around the character. Their number of kinds, 89, divides no width of a loop, so that
+/// The bytes around the character. Their number of kinds, 89, has no divisor in common with the width of a loop, so that
 /// bytes that are lost, doubled or moved are seen.
 const FIRST: u8 = 0x21;
 const KINDS: usize = 89;
@@ -48,49 +48,45 @@ const CHANGED: [Changed; 3] = [
     },
 ];
 
-/// `LONGEST` bytes of ASCII.
-fn around() -> [u8; LONGEST] {
-    let mut bytes = [0; LONGEST];
-    for i in 0..LONGEST {
-        bytes[i] = FIRST + (i % KINDS) as u8;
-    }
-    bytes
-}
-
-/// Whether an encoding is the bytes around, with those of the character at the place.
-fn is_encoding(encoded: &[u8], around: &[u8], place: usize, width: usize, character: &[u8]) -> bool {
-    encoded.strip_prefix(&around[..place]).is_some_and(|rest| {
-        rest.strip_prefix(character)
-            .is_some_and(|rest| rest == &around[place + width..])
-    })
-}
-
-/// Encodes each text of this length with the character in it, and appends it too.
-fn check_length(rt: &impl Abort, alloc: Global, len: usize, changed: &Changed) -> Result<(), Fail> {
-    let around = around();
-    let around = &around[..len];
-    let width = changed.utf8.len();
-    let mut buf = Vec::new(alloc);
-    for place in 0..len {
-        if len - place < width {
-            break;
+/// A text of ASCII with the character before byte `place` of it, and the bytes that it is in the
+/// encoding.
+fn text_and_bytes(
+    alloc: Global,
+    flavor: Flavor,
+    around: usize,
+    place: usize,
+    changed: &Changed,
+) -> Result<(Vec<u8>, Vec<u8>), AllocError> {
+    let mut text = Vec::new(alloc);
+    let mut bytes = Vec::new(alloc);
+    for i in 0..=around {
+        if i == place {
+            text.extend_from_slice(changed.utf8)?;
+            bytes.extend_from_slice(changed.encoded(flavor))?;
         }
-        let mut bytes = [0; LONGEST];
-        bytes[..len].copy_from_slice(around);
-        bytes[place..place + width].copy_from_slice(changed.utf8);
-        let text = str::from_utf8(&bytes[..len])?;
+        if i < around {
+            let byte = FIRST.wrapping_add((i % KINDS) as u8);
+            text.extend_from_slice(&[byte])?;
+            bytes.extend_from_slice(&[byte])?;
+        }
+    }
+    Ok((text, bytes))
+}
+
+/// Encodes each text of this much ASCII with the character in it.
+fn check_length(
+    rt: &impl Abort,
+    alloc: Global,
+    around: usize,
+    changed: &Changed,
+) -> Result<(), Fail> {
+    for place in 0..=around {
         for flavor in FLAVORS {
-            let character = changed.encoded(flavor);
-            let answer = encode(alloc, flavor, text)?;
+            let (text, bytes) = text_and_bytes(alloc, flavor, around, place, changed)?;
+            let answer = encode(alloc, flavor, str::from_utf8(text.as_slice())?)?;
             assert!(rt;
-                is_encoding(answer.as_bytes(), around, place, width, character),
-                "{flavor:?} of {len} bytes, changed at {place}"
-            );
-            buf.clear();
-            encode_into(flavor, text, &mut buf)?;
-            assert!(rt;
-                buf.as_slice() == answer.as_bytes(),
-                "{flavor:?} of {len} bytes, changed at {place}, appended"
+                answer.as_bytes() == bytes.as_slice(),
+                "{flavor:?} of {around} bytes around a character at {place}"
             );
         }
     }
@@ -100,8 +96,8 @@ fn check_length(rt: &impl Abort, alloc: Global, len: usize, changed: &Changed) -
 #[test]
 fn encodes_a_changed_byte_at_every_place(rt: HostRuntime) -> Result<(), Fail> {
     for changed in &CHANGED {
-        for len in 0..=LONGEST {
-            check_length(&rt, rt.alloc(), len, changed)?;
+        for around in 0..LONGEST {
+            check_length(&rt, rt.alloc(), around, changed)?;
         }
     }
     Ok(())

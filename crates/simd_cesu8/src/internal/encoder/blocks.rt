@@ -43,7 +43,9 @@ impl NullForm for TwoByteNull {
     fn nulls(bytes: u8x32) -> u8x32
         ensures { result ≡ map (λ b. mask (is_null Mutf8 b)) bytes }
     {
-        bytes.simd_eq(u8x32::splat(0)).select(u8x32::splat(0xFF), u8x32::splat(0))
+        bytes
+            .simd_eq(u8x32::splat(0))
+            .select(u8x32::splat(0xFF), u8x32::splat(0))
     }
 }
 
@@ -116,7 +118,9 @@ fn encode_block<N: NullForm>(window: &[u8], at: usize) -> EncodedBlock
     let doubled = lead | lead_two_before | null;
     EncodedBlock {
         seconds: is_of_high.simd_eq(u8x32::splat(0)).select(other, of_high),
-        firsts: null.simd_eq(u8x32::splat(0)).select(u8x32::splat(0xED), u8x32::splat(0xC0)),
+        firsts: null
+            .simd_eq(u8x32::splat(0))
+            .select(u8x32::splat(0xED), u8x32::splat(0xC0)),
         doubled: bits(doubled),
     }
 }
@@ -126,7 +130,9 @@ fn encode_block<N: NullForm>(window: &[u8], at: usize) -> EncodedBlock
 fn leads(bytes: u8x32) -> u8x32
     ensures { result ≡ map (λ b. mask (is_lead b)) bytes }
 {
-    bytes.simd_ge(u8x32::splat(0xF0)).select(u8x32::splat(0xFF), u8x32::splat(0))
+    bytes
+        .simd_ge(u8x32::splat(0xF0))
+        .select(u8x32::splat(0xFF), u8x32::splat(0))
 }
 
 /// The last four bits of each byte and two of the next.
@@ -180,12 +186,28 @@ fn store_rows(
     ensures end { (at ≤ result) × (result ≤ at + 64) }
     ensures len { length out.new ≡ length out.old }
 {
-    let row = seconds.shuffle::<16>(firsts, [0, 1, 2, 3, 4, 5, 6, 7, 32, 33, 34, 35, 36, 37, 38, 39]);
+    let row = seconds.shuffle::<16>(
+        firsts,
+        [0, 1, 2, 3, 4, 5, 6, 7, 32, 33, 34, 35, 36, 37, 38, 39],
+    );
     let at = store_row(row, (doubled & 0xFF) as usize, rows, out, at);
-    let row = seconds.shuffle::<16>(firsts, [8, 9, 10, 11, 12, 13, 14, 15, 40, 41, 42, 43, 44, 45, 46, 47]);
+    let row = seconds.shuffle::<16>(
+        firsts,
+        [8, 9, 10, 11, 12, 13, 14, 15, 40, 41, 42, 43, 44, 45, 46, 47],
+    );
     let at = store_row(row, (doubled >> 8 & 0xFF) as usize, rows, out, at);
-    let row = seconds.shuffle::<16>(firsts, [16, 17, 18, 19, 20, 21, 22, 23, 48, 49, 50, 51, 52, 53, 54, 55]);
+    let row = seconds.shuffle::<16>(
+        firsts,
+        [
+            16, 17, 18, 19, 20, 21, 22, 23, 48, 49, 50, 51, 52, 53, 54, 55,
+        ],
+    );
     let at = store_row(row, (doubled >> 16 & 0xFF) as usize, rows, out, at);
-    let row = seconds.shuffle::<16>(firsts, [24, 25, 26, 27, 28, 29, 30, 31, 56, 57, 58, 59, 60, 61, 62, 63]);
+    let row = seconds.shuffle::<16>(
+        firsts,
+        [
+            24, 25, 26, 27, 28, 29, 30, 31, 56, 57, 58, 59, 60, 61, 62, 63,
+        ],
+    );
     store_row(row, (doubled >> 24 & 0xFF) as usize, rows, out, at)
 }

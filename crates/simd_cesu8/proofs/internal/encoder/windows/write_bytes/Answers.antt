@@ -1,4 +1,4 @@
-use Rattle.std.proofs.Common.{◌≡◌, ℕ, ◌+◌, ◌-◌, ◌∷◌, ◌++◌, sym, ap, ◌∙◌, arith, length, get_or, length-append, length-take, append_assoc}
+use Rattle.std.proofs.Common.{ℕ, ◌-◌, ◌∷◌, ◌++◌, sym, ap, ◌∙◌, arith, length, get_or, length-append, length-take, append_assoc}
 use Rattle.simd_cesu8.specs.EncodedPlaces.{places}
 use Rattle.simd_cesu8.proofs.EncodedWindows.{places_first, places_last, room_for_parts, three_parts}
 use Rattle.simd_cesu8.proofs.internal.encoder.windows.write_bytes.Goals as goal

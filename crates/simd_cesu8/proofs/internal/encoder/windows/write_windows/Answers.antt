@@ -1,4 +1,4 @@
-use Rattle.std.proofs.Common.{◌+◌, ◌-◌, ◌*◌, ◌++◌, ◌∷◌, sym, ap, ◌∙◌, refl, arith, length, length-append, append-nil}
+use Rattle.std.proofs.Common.{◌-◌, ◌*◌, ◌++◌, ◌∷◌, sym, ap, ◌∙◌, refl, arith, length, length-append, append-nil}
 use Rattle.simd_cesu8.specs.EncodedPlaces.{places}
 use Rattle.simd_cesu8.proofs.EncodedWindows.{places_none, places_drop, text_step, text_room}
 use Rattle.simd_cesu8.proofs.internal.encoder.windows.write_windows.Goals as goal
