@@ -11,6 +11,7 @@ const LONGEST: usize = 300;
 /// The bytes around the character. Their number of kinds, 89, has no divisor in common with the width of a loop, so that
 /// bytes that are lost, doubled or moved are seen.
 const FIRST: u8 = 0x21;
+
 const KINDS: usize = 89;
 
 /// A character's UTF-8, and its bytes in CESU-8 and in MUTF-8.
