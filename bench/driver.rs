@@ -8,6 +8,7 @@
 
 mod built;
 mod codec;
+mod damage;
 mod expected;
 mod kernels;
 mod lengths;
@@ -18,6 +19,7 @@ mod timing;
 
 use crate::built::built_table;
 use crate::codec::Codec;
+use crate::damage::damage_table;
 use crate::kernels::kernel_table;
 use crate::table::Table;
 use crate::texts::TextTable;
@@ -28,15 +30,18 @@ const DEFAULT_ROUNDS: u32 = 4_000;
 fn run(rounds: u32, codecs: &[Codec]) -> Result<(), String> {
     let mut table = Table::of(codecs)?;
     let mut built = built_table(codecs)?;
+    let mut damage = damage_table(codecs)?;
     let mut kernels = kernel_table(codecs, table.ascii())?;
     let mut texts = TextTable::of(codecs)?;
     table.measure(rounds);
     texts.measure(rounds);
     built.measure(rounds);
+    damage.measure(rounds);
     kernels.measure(rounds);
     table.print(rounds);
     texts.print();
     built.print();
+    damage.print();
     kernels.print();
     Ok(())
 }

@@ -230,3 +230,66 @@ pub fn text_of(kind: Kind, length: usize) -> &'static [u8] {
     }
     at_page_start(text.as_bytes())
 }
+
+/// A kind of MUTF-8 for the decoders: characters of any length and U+0000, all by chance.
+#[derive(Clone, Copy, PartialEq)]
+pub enum Damage {
+    None,
+    OneIn500,
+    OneIn50,
+    OtherFlavor,
+    Noise,
+}
+
+impl Damage {
+    pub const ALL: [Damage; 5] = [
+        Damage::None,
+        Damage::OneIn500,
+        Damage::OneIn50,
+        Damage::OtherFlavor,
+        Damage::Noise,
+    ];
+
+    pub fn title(self) -> &'static str {
+        match self {
+            Damage::None => "all lengths and null by chance",
+            Damage::OneIn500 => "one damaged byte in 500",
+            Damage::OneIn50 => "one damaged byte in 50",
+            Damage::OtherFlavor => "CESU-8 with null",
+            Damage::Noise => "noise",
+        }
+    }
+
+    /// One byte in how many is replaced by chance, if any.
+    fn distance(self) -> Option<u64> {
+        match self {
+            Damage::None | Damage::OtherFlavor => None,
+            Damage::OneIn500 => Some(500),
+            Damage::OneIn50 => Some(50),
+            Damage::Noise => Some(1),
+        }
+    }
+}
+
+/// So many bytes of this kind, of which the last is ASCII.
+pub fn damaged_bytes(damage: Damage, length: usize) -> Vec<u8> {
+    let mut random = Random(SEED);
+    let flavor = match damage {
+        Damage::OtherFlavor => Flavor::Cesu8,
+        _ => Flavor::Mutf8,
+    };
+    let mut bytes = Vec::with_capacity(length);
+    while length - bytes.len() > 6 {
+        let character = of_any_length(&mut random, 5);
+        bytes.extend(encoded(flavor, &character.to_string()));
+    }
+    if let Some(distance) = damage.distance() {
+        for byte in &mut bytes {
+            if random.next() % distance == 0 {
+                *byte = random.next() as u8;
+            }
+        }
+    }
+    bytes.resize(length, b'z');
+    bytes
+}

@@ -1,16 +1,18 @@
 -- What is appended for an encoded character, by its lengths, is its UTF-8.
-use Rattle.std.proofs.Common.{◌≡◌, ℕ, ◌+◌, ◌<◌, ◌≤◌, Bool, true, List, [], ◌∷◌, ◌++◌, refl, sym, ap, ◌∙◌, subst, inl, inr, arith, length, take, drop, get_or, length-append}
+use Rattle.std.proofs.Common.{◌≡◌, ℕ, ◌+◌, ◌<◌, ◌≤◌, Bool, true, List, [], ◌∷◌, ◌++◌, refl, sym, ap, ◌∙◌, subst, inl, inr, arith, length, take, drop, length-append}
 use Rattle.std.proofs.lemmas.List.{take_rest}
 use Rattle.std.proofs.Math.Seq.{take-append_seam, drop-append_seam}
 use Rattle.simd_cesu8.specs.Text.{utf8_of}
 use Rattle.simd_cesu8.specs.Encoding.{Flavor, Cesu8, Mutf8, encoding, IsEncodedOtherwise}
 use Rattle.simd_cesu8.specs.Reading.{BeginsWith, NoneBegins, width, lossy_length}
 use Rattle.simd_cesu8.specs.declared.internal.encoded_character.EncodedCharacter.{EncodedCharacter}
-use Rattle.simd_cesu8.specs.Internal.{BeginsInLengths, BeginsAs, IsStep, Read, room_of}
-use Rattle.simd_cesu8.proofs.Shapes.{IsPair, Shape, one, two, three, pair, shape, utf8_of_one, utf8_of_two, utf8_of_three, utf8_of_pair}
+use Rattle.simd_cesu8.specs.declared.internal.encoded_character.EncodedCharacter.TheVariants.{OneByte, TwoBytes, ThreeBytes, Null, SurrogatePair}
+use Rattle.simd_cesu8.specs.Internal.{BeginsInLengths, BeginsAs, IsStep, Read, utf8_length}
+use Rattle.simd_cesu8.specs.Joining.{Joins, second_third_fifth_sixth}
+use Rattle.simd_cesu8.proofs.Shapes.{Shape, one, two, three, pair, shape, utf8_of_one, utf8_of_two, utf8_of_three, utf8_of_pair}
 use Rattle.simd_cesu8.proofs.Forms.{encoding_pair}
 use Rattle.simd_cesu8.proofs.Lengths.{Change, same, longer, change}
-use Rattle.simd_cesu8.proofs.Decoding.{room_of_step, step_length, replaced_step, length_of_replacement}
+use Rattle.simd_cesu8.proofs.Decoding.{step_length, replaced, replaced_step, length_of_replacement}
 
 -- A character that begins the bytes, where it is known which.
 pub begins_as : (f : Flavor) (bytes : List ℕ) (character known : EncodedCharacter) → character ≡ known →
@@ -28,23 +30,11 @@ long_enough f bytes m n found =
     )
 
 -- and those after them are the rest.
-rest_is : (f : Flavor) (bytes : List ℕ) (m n : ℕ) → (found : BeginsInLengths f bytes m n) →
+pub rest_is : (f : Flavor) (bytes : List ℕ) (m n : ℕ) → (found : BeginsInLengths f bytes m n) →
     drop m bytes ≡ found.rest
 rest_is f bytes m n found =
     ap (λ i. drop i bytes) (sym found.encoded) ∙ ap (drop (width f found.character)) found.begins.bytes_are
     ∙ drop-append_seam (encoding f (found.character ∷ [])) found.rest
-
--- There is room for its UTF-8.
-pub room_enough : (f : Flavor) (lossy : Bool) (bytes : List ℕ) (m n : ℕ) → BeginsInLengths f bytes m n → n ≤ room_of f lossy bytes
-room_enough f lossy bytes m n found =
-    omega (arith, found.in_utf8, room_of_step f lossy bytes found.rest found.character (Read found.begins))
-
--- And for a replacement character where none begins.
-pub room_for_replacement : (f : Flavor) (lossy : Bool) (bytes : List ℕ) → 0 < length bytes → lossy ≡ true →
-    NoneBegins f bytes → 3 ≤ room_of f lossy bytes
-room_for_replacement f lossy bytes some is_lossy none_begins =
-    let step = replaced_step f lossy bytes some is_lossy none_begins in
-    omega (arith, length_of_replacement, room_of_step f lossy bytes _ 0xFFFD step)
 
 -- What a step reads and appends.
 abbrev pub Reads : Flavor → Bool → List ℕ → List ℕ → List ℕ → List ℕ → Type 0
@@ -81,7 +71,7 @@ otherwise_null Mutf8 c ascii (inl null) = null
 otherwise_null Mutf8 c ascii (inr high) = absurd (omega arith)
 
 -- A character of two bytes with one of UTF-8 is null.
-null_is : (f : Flavor) (c : ℕ) → width f c ≡ 2 → length (utf8_of c) ≡ 1 → Shape c → Change f c → 0 ∷ [] ≡ utf8_of c
+pub null_is : (f : Flavor) (c : ℕ) → width f c ≡ 2 → length (utf8_of c) ≡ 1 → Shape c → Change f c → 0 ∷ [] ≡ utf8_of c
 null_is f c two_bytes one_byte (one ascii) (same _ encoded) =
     absurd (omega (arith, two_bytes, one_byte, ap length encoded))
 null_is f c two_bytes one_byte (one ascii) (longer otherwise _ _) =
@@ -100,15 +90,7 @@ reads_null f lossy bytes rest old new found rest_are new_is =
     (null_is f found.character found.encoded found.in_utf8 (shape found.character found.begins.scalar)
     (change f found.character found.begins.scalar))
 
--- What joins the digits, wherever they stand, to the UTF-8 of the character.
-abbrev pub Joins : List ℕ → List ℕ → Type 0
-Joins four written = (c w x y z : ℕ) → IsPair c w x y z → four ≡ (0xA0 + w) ∷ (0x80 + x) ∷ (0xB0 + y) ∷ (0x80 + z) ∷ [] →
-    written ≡ utf8_of c
-
-abbrev second_third_fifth_sixth : List ℕ → List ℕ
-second_third_fifth_sixth bytes = get_or bytes 1 0 ∷ get_or bytes 2 0 ∷ get_or bytes 4 0 ∷ get_or bytes 5 0 ∷ []
-
-pair_is : (f : Flavor) (bytes written : List ℕ) → (found : BeginsInLengths f bytes 6 4) →
+pub pair_is : (f : Flavor) (bytes written : List ℕ) → (found : BeginsInLengths f bytes 6 4) →
     Shape found.character → Joins (second_third_fifth_sixth bytes) written → written ≡ utf8_of found.character
 pair_is f bytes written found (one ascii) joins =
     absurd (omega (arith, found.in_utf8, ap length (utf8_of_one _ ascii)))
@@ -129,6 +111,13 @@ reads_pair f lossy bytes rest old new written found rest_are new_is joins =
     reads f lossy bytes rest old new written 6 4 found rest_are new_is
     (pair_is f bytes written found (shape found.character found.begins.scalar) joins)
 
+-- A byte that begins no character is replaced.
+pub reads_replaced : (f : Flavor) (lossy : Bool) (bytes rest old new : List ℕ) → 0 < length bytes → lossy ≡ true →
+    NoneBegins f bytes → rest ≡ drop 1 bytes → new ≡ old ++ 0xEF ∷ 0xBF ∷ 0xBD ∷ [] → Reads f lossy bytes rest old new
+reads_replaced f lossy bytes rest old new some is_lossy none_begins rest_is new_is =
+    subst (λ after. Reads f lossy bytes after old new) (take_rest bytes 1 ∙ sym rest_is)
+    (replaced f lossy bytes old new some is_lossy none_begins new_is)
+
 -- The character that begins the bytes adds its UTF-8 to the length of the lossy reading,
 pub lossy_length_character : (f : Flavor) (bytes : List ℕ) (m n : ℕ) → BeginsInLengths f bytes m n →
     lossy_length f bytes ≡ n + lossy_length f (drop m bytes)
@@ -142,3 +131,11 @@ pub lossy_length_replaced : (f : Flavor) (bytes : List ℕ) → 0 < length bytes
 lossy_length_replaced f bytes some none_begins =
     step_length f true bytes _ 0xFFFD (replaced_step f true bytes some refl none_begins)
     ∙ rw (length_of_replacement, take_rest bytes 1) refl
+
+-- The UTF-8 of an encoded character takes four bytes at most.
+pub at_most_four : (character : EncodedCharacter) → utf8_length character ≤ 4
+at_most_four OneByte = omega arith
+at_most_four TwoBytes = omega arith
+at_most_four ThreeBytes = omega arith
+at_most_four Null = omega arith
+at_most_four SurrogatePair = omega arith

@@ -1,20 +1,18 @@
 -- A text that is read a step at a time.
-use Rattle.std.proofs.Common.{◌≡◌, ℕ, ◌+◌, ◌<◌, ◌≤◌, Bool, true, false, List, [], ◌∷◌, ◌++◌, refl, sym, ap, ◌∙◌, subst, inr, arith, length, take, drop, get_or, Result, Ok, Err, OnOk, OnErr, ◌-◌, append_assoc, append-nil, length-append}
-use Rattle.std.specs.Str.{chars, IsUtf8}
+use Rattle.std.proofs.Common.{◌≡◌, ℕ, ◌+◌, ◌<◌, Bool, true, false, List, [], ◌∷◌, ◌++◌, refl, sym, ap, ◌∙◌, subst, inr, arith, length, take, drop, get_or, Result, Ok, Err, OnErr, ◌-◌, append_assoc, append-nil, length-append}
 use Rattle.std.proofs.lemmas.List.Concat.{flat_map-append}
 use Rattle.std.proofs.lemmas.Bool.{true≢false}
 use Rattle.std.proofs.lemmas.List.{take_rest}
 use Rattle.simd_cesu8.specs.Text.{IsScalarValue, IsText, utf8_of, utf8}
 use Rattle.simd_cesu8.specs.Encoding.{Flavor, encoding}
-use Rattle.simd_cesu8.specs.Reading.{NoneBegins, HasNoStrictReading, reading, lossy_length}
-use Rattle.simd_cesu8.specs.Internal.{IsStep, Read, Replace, IsDecodedText, room_of}
-use Rattle.simd_cesu8.proofs.StdUtf8.{IsUtf8_utf8, chars_utf8}
+use Rattle.simd_cesu8.specs.Reading.{NoneBegins, reading, lossy_length}
+use Rattle.simd_cesu8.specs.Internal.{IsStep, Read, Replace, IsDecodedText}
+use Rattle.simd_cesu8.specs.Pieces.{IsReadSoFar}
 use Rattle.simd_cesu8.proofs.Encodings.{encoding_nil, encoding_append}
 use Rattle.simd_cesu8.proofs.Lengths.{length_of_character}
-use Rattle.simd_cesu8.proofs.Unique.{no_reading}
 use Rattle.simd_cesu8.proofs.Steps.{reading_nil, reading_character, reading_replaced}
 
-IsText_append : (s t : List ℕ) → IsText s → IsText t → IsText (s ++ t)
+pub IsText_append : (s t : List ℕ) → IsText s → IsText t → IsText (s ++ t)
 IsText_append [] t is_text other_is_text = other_is_text
 IsText_append (c ∷ s) t is_text other_is_text = (is_text.0, IsText_append s t is_text.1 other_is_text)
 
@@ -39,6 +37,12 @@ step_strict : (f : Flavor) (lossy : Bool) (bytes rest : List ℕ) (c : ℕ) → 
 step_strict f lossy bytes rest c (Read begins) strict = begins.bytes_are
 step_strict f lossy bytes rest c (Replace is_lossy _ _ _ _) strict =
     absurd (true≢false (sym is_lossy ∙ strict))
+
+-- A step leaves a rest of the bytes.
+pub step_rest : (f : Flavor) (lossy : Bool) (bytes rest : List ℕ) (c : ℕ) → IsStep f lossy bytes c rest →
+    (front : List ℕ) × (bytes ≡ front ++ rest)
+step_rest f lossy bytes rest c (Read begins) = (encoding f (c ∷ []), begins.bytes_are)
+step_rest f lossy bytes rest c (Replace _ _ _ b bytes_are) = (b ∷ [], bytes_are)
 
 -- A step leaves fewer bytes.
 pub shorter : (f : Flavor) (lossy : Bool) (bytes rest : List ℕ) (c : ℕ) → IsStep f lossy bytes c rest → length rest < length bytes
@@ -67,29 +71,6 @@ pub lossy_length_nil : (f : Flavor) (bytes : List ℕ) → length bytes ≡ 0 �
 unfolding lossy_length
 lossy_length_nil f [] empty = ap (λ text. length (utf8 text)) (reading_nil f)
 lossy_length_nil f (b ∷ bytes) empty = absurd (omega arith)
-
--- What a step needs of the room.
-pub room_of_step : (f : Flavor) (lossy : Bool) (bytes rest : List ℕ) (c : ℕ) → IsStep f lossy bytes c rest →
-    length (utf8_of c) + room_of f lossy rest ≤ room_of f lossy bytes
-room_of_step f true bytes rest c step = omega (arith, step_length f true bytes rest c step)
-room_of_step f false bytes rest c (Read begins) =
-    let long = length_of_character f c begins.scalar in
-    omega (arith, long.fits, ap length begins.bytes_are, length-append (encoding f (c ∷ [])) rest)
-room_of_step f false bytes rest c (Replace is_lossy _ _ _ _) = absurd (true≢false (sym is_lossy))
-
--- What a step writes, and the room for what it leaves, fit the room that there was.
-pub room_left : (f : Flavor) (lossy : Bool) (bytes rest out new : List ℕ) (c : ℕ) → IsStep f lossy bytes c rest →
-    new ≡ out ++ utf8_of c → length new + room_of f lossy rest ≤ length out + room_of f lossy bytes
-room_left f lossy bytes rest out new c step new_is =
-    omega (arith, room_of_step f lossy bytes rest c step, ap length new_is, length-append out (utf8_of c))
-
--- The text so far, whose UTF-8 was written, and the bytes that are left.
-pub record IsReadSoFar (f : Flavor) (lossy : Bool) (bytes rest old new : List ℕ) : Type 0 where
-  pub text : List ℕ
-  pub scalars : IsText text
-  pub lossy_reading : reading f bytes ≡ text ++ reading f rest
-  pub strict_reading : lossy ≡ false → bytes ≡ encoding f text ++ rest
-  pub written : new ≡ old ++ utf8 text
 
 -- Before the first step nothing is read, and all bytes are left.
 pub nothing_read : (f : Flavor) (lossy : Bool) (bytes old : List ℕ) → IsReadSoFar f lossy bytes bytes old old
@@ -132,34 +113,6 @@ all_read f lossy bytes [] old new so_far empty = (
   so_far.written,
 )
 all_read f lossy bytes (b ∷ rest) old new so_far empty = absurd (omega arith)
-
--- Where no character begins what is left, the whole has no strict reading.
-pub fault_at : (f : Flavor) (lossy : Bool) (bytes rest old new : List ℕ) → IsReadSoFar f lossy bytes rest old new →
-    (length rest ≡ 0 → ⊥) → lossy ≡ false → NoneBegins f rest → HasNoStrictReading f bytes
-fault_at f lossy bytes rest old new so_far some strict none_begins =
-    no_reading f bytes so_far.text rest so_far.scalars (so_far.strict_reading strict) (omega arith) none_begins
-
--- What was decoded into nothing is the UTF-8 of the text.
-written_alone : (old out text : List ℕ) → old ≡ [] → out ≡ old ++ utf8 text → out ≡ utf8 text
-written_alone old out text nothing out_is = out_is ∙ ap (λ bs. bs ++ utf8 text) nothing
-
--- So it is UTF-8,
-pub decoded_utf8 : (f : Flavor) (lossy : Bool) (bytes old out : List ℕ) → old ≡ [] →
-    ((text : List ℕ) × IsDecodedText f lossy bytes text × (out ≡ old ++ utf8 text)) → IsUtf8 out
-decoded_utf8 f lossy bytes old out nothing read =
-    subst IsUtf8 (sym (written_alone old out read.0 nothing read.2)) (IsUtf8_utf8 read.0 read.1.0)
-
--- and its characters are the text.
-pub decoded_text : (f : Flavor) (lossy : Bool) (bytes old out : List ℕ) → old ≡ [] →
-    ((text : List ℕ) × IsDecodedText f lossy bytes text × (out ≡ old ++ utf8 text)) → IsDecodedText f lossy bytes (chars out)
-decoded_text f lossy bytes old out nothing read =
-    subst (IsDecodedText f lossy bytes)
-    (sym (ap chars (written_alone old out read.0 nothing read.2) ∙ chars_utf8 read.0 read.1.0)) read.1
-
--- What refuses only in strict reading gives something in lossy reading.
-pub never_refused : {T E : Type 0} (P Q : Type 0) (r : Result T E) → OnOk r P → OnErr r ((true ≡ false) × Q) → P
-never_refused P Q (Ok x) given refused = given
-never_refused P Q (Err e) given refused = absurd (true≢false refused.0)
 
 first_and_rest : (bytes : List ℕ) → 0 < length bytes → bytes ≡ get_or bytes 0 0 ∷ take (length bytes - 1) (drop 1 bytes)
 first_and_rest [] some = absurd (omega arith)

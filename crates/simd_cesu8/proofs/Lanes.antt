@@ -1,12 +1,13 @@
 -- Vectors of bytes, lane by lane.
-use Rattle.std.proofs.Common.{◌≡◌, ℕ, Bool, not, cond, IsTrue, ◌%◌, ◌^◌, ◌<◌, ◌≤◌, ◌↔◌, ◌⊎◌, List, [], ◌∷◌, map, length, replicate, eqb, ltb, refl, sym, ap, ◌∙◌, subst, inl, inr, ⊎_elim, arith, bit_and, bit_xor, w8, Fits}
+use Rattle.std.proofs.Common.{◌≡◌, ℕ, Bool, not, cond, ◌&&◌, ◌||◌, IsTrue, ◌%◌, ◌^◌, ◌≤◌, ◌↔◌, ◌⊎◌, List, [], ◌∷◌, map, length, replicate, true, false, ◌+◌, ◌*◌, eqb, ltb, leb, refl, sym, ap, ◌∙◌, subst, inl, inr, ⊎_elim, arith, bit_and, bit_or, w8, Fits}
 use Rattle.std.specs.List.{Any}
-use Rattle.std.proofs.lemmas.Bool.{agree_below_at, cases_lt, eqb-false, le-ltb, lt-ltb, ltb-true, ne_eqb, not-true}
+use Rattle.std.proofs.lemmas.Bool.{agree_below_at, both_ways, cases_lt, eq-eqb, eqb-false, eqb-true, le-leb, le-ltb, leb-true, lt-ltb, ne_eqb, not-true}
 use Rattle.std.proofs.lemmas.List.{length-map}
-use Rattle.std.proofs.lemmas.Simd.{bitmask_splat, zip2_splat}
+use Rattle.std.proofs.lemmas.Simd.{mask_l-mod, tops_compared, zip2_splat_left}
 use lib.Lanes.{zip2, sel_l, mask_l, top, Each1}
 use Rattle.simd_cesu8.specs.Class.{is_four, is_null_four}
-use Rattle.simd_cesu8.specs.Kernels.{AnyIn, IsMarked}
+use Rattle.simd_cesu8.specs.EncodedPlaces.{is_lead}
+use Rattle.simd_cesu8.specs.Kernels.{AnyIn}
 use Rattle.simd_cesu8.proofs.Elements.{any_nil, any_here, any_there, any_cons}
 
 -- all ones where a test holds, and else 0
@@ -19,125 +20,151 @@ equal a b = ones (eqb a b)
 abbrev pub below : ℕ → ℕ → ℕ
 below a b = ones (ltb a b)
 
--- ---- marks
+-- ---- the greater and the lesser of two lanes
 
--- Lanes made of bytes have a mark where the class has a byte.
-marked_bytes : (f : ℕ → ℕ) (class : ℕ → Bool) → ((b : ℕ) → b < 256 → ltb (f b) 8 ≡ class b) → (bytes : List ℕ) →
-    Each1 (Fits w8) bytes → Any IsMarked (map f bytes) ↔ AnyIn class bytes
-marked_bytes f class tells [] h = ((λ p. absurd (any_nil IsMarked p)), (λ p. absurd (any_nil (λ b. IsTrue (class b)) p)))
-marked_bytes f class tells (b ∷ bytes) h =
-    let rest = marked_bytes f class tells bytes h.1 in
-    let this = tells b h.0.fits in (
-      (λ p. ⊎_elim (λ m. any_here (λ b. IsTrue (class b)) b bytes (sym this ∙ lt-ltb _ _ m))
-          (λ q. any_there (λ b. IsTrue (class b)) b bytes (rest.0 q)) (any_cons IsMarked (f b) (map f bytes) p)),
-      (λ p. ⊎_elim (λ t. any_here IsMarked (f b) (map f bytes) (ltb-true _ _ (this ∙ t)))
-          (λ q. any_there IsMarked (f b) (map f bytes) (rest.1 q)) (any_cons (λ b. IsTrue (class b)) b bytes p)),
-    )
+-- Where P holds of a lane of one of two vectors, it holds of one of the vector that f makes of them.
+kept : (P : ℕ → Type 0) (f : ℕ → ℕ → ℕ) → ((a b : ℕ) → P a ⊎ P b → P (f a b)) → (xs ys : List ℕ) → length xs ≡ length ys →
+    Any P xs ⊎ Any P ys → Any P (zip2 f xs ys)
+kept P f keeps [] [] e s = ⊎_elim (λ p. p) (λ p. p) s
+kept P f keeps [] (y ∷ ys) e s = absurd (omega arith)
+kept P f keeps (x ∷ xs) [] e s = absurd (omega arith)
+kept P f keeps (x ∷ xs) (y ∷ ys) e s = ⊎_elim
+    (λ p. ⊎_elim (λ m. any_here P (f x y) (zip2 f xs ys) (keeps x y (inl m)))
+    (λ q. any_there P (f x y) (zip2 f xs ys) (kept P f keeps xs ys (omega arith) (inl q))) (any_cons P x xs p))
+    (λ p. ⊎_elim (λ m. any_here P (f x y) (zip2 f xs ys) (keeps x y (inr m)))
+    (λ q. any_there P (f x y) (zip2 f xs ys) (kept P f keeps xs ys (omega arith) (inr q))) (any_cons P y ys p)) s
 
-abbrev pub four_vector : ℕ → List ℕ → List ℕ
-four_vector n bytes = zip2 bit_xor bytes (replicate n 0xF0)
+abbrev greater : ℕ → ℕ → ℕ
+greater a b = cond (top 7 (below a b)) b a
 
--- An exclusive or with F0 marks F0 to F7.
-pub four_marks : (n : ℕ) (bytes : List ℕ) → length bytes ≡ n → Each1 (Fits w8) bytes → Any IsMarked (four_vector n bytes) ↔ AnyIn is_four bytes
-four_marks n bytes long fits =
-    subst (λ l. Any IsMarked l ↔ AnyIn is_four bytes) (sym (zip2_splat bit_xor bytes n 0xF0 long))
-    (marked_bytes (λ b. bit_xor b 0xF0) is_four (λ b l. agree_below_at (λ b. ltb (bit_xor b 0xF0) 8) is_four 256 b refl l) bytes fits)
+abbrev pub greater_lanes : List ℕ → List ℕ → List ℕ
+greater_lanes xs ys = sel_l (map (top 7) (zip2 below xs ys)) ys xs
 
-abbrev pub null_four : ℕ → ℕ
-null_four b = cond (top 7 (equal b 0)) 0 (bit_xor b 0xF0)
+greater_each : (xs ys : List ℕ) → greater_lanes xs ys ≡ zip2 greater xs ys
+greater_each [] ys = refl
+greater_each (x ∷ xs) [] = refl
+greater_each (x ∷ xs) (y ∷ ys) = ap (λ l. greater x y ∷ l) (greater_each xs ys)
 
-abbrev pub null_four_vector : ℕ → List ℕ → List ℕ
-null_four_vector n bytes = sel_l (map (top 7) (zip2 equal bytes (replicate n 0))) (replicate n 0) (four_vector n bytes)
+greater_keeps : (a b : ℕ) → IsTrue (is_lead a) ⊎ IsTrue (is_lead b) → IsTrue (is_lead (greater a b))
+greater_keeps a b s = ⊎_elim
+    (λ l. (let is : greater a b ≡ b = ap (λ t. cond (top 7 (ones t)) b a) (lt-ltb a b l) in
+    subst (λ x. IsTrue (is_lead x)) (sym is) (⊎_elim (λ m. le-leb 0xF0 b (omega (arith, leb-true 0xF0 a m, l))) (λ m. m) s)))
+    (λ l. (let is : greater a b ≡ a = ap (λ t. cond (top 7 (ones t)) b a) (le-ltb a b l) in
+    subst (λ x. IsTrue (is_lead x)) (sym is) (⊎_elim (λ m. m) (λ m. le-leb 0xF0 a (omega (arith, leb-true 0xF0 b m, l))) s)))
+    (cases_lt a b)
 
-null_four_lanes : (bytes : List ℕ) → null_four_vector (length bytes) bytes ≡ map null_four bytes
-null_four_lanes [] = refl
-null_four_lanes (b ∷ bytes) = ap (λ l. null_four b ∷ l) (null_four_lanes bytes)
+-- The greater of two lanes is F0 or more where one of them is.
+pub lead_in_greater : (xs ys : List ℕ) → length xs ≡ length ys → AnyIn is_lead xs ⊎ AnyIn is_lead ys → AnyIn is_lead (greater_lanes xs ys)
+lead_in_greater xs ys e s =
+    subst (AnyIn is_lead) (sym (greater_each xs ys)) (kept (λ b. IsTrue (is_lead b)) greater greater_keeps xs ys e s)
 
--- These and the lanes whose bytes are 00 mark 00, or F0 to F7.
-pub null_four_marks : (n : ℕ) (bytes : List ℕ) → length bytes ≡ n → Each1 (Fits w8) bytes →
-    Any IsMarked (null_four_vector n bytes) ↔ AnyIn is_null_four bytes
-null_four_marks n bytes long fits =
-    subst (λ n. Any IsMarked (null_four_vector n bytes) ↔ AnyIn is_null_four bytes) long
-    (subst (λ l. Any IsMarked l ↔ AnyIn is_null_four bytes) (sym (null_four_lanes bytes))
-    (marked_bytes null_four is_null_four (λ b l. agree_below_at (λ b. ltb (null_four b) 8) is_null_four 256 b refl l) bytes fits))
-
--- ---- two vectors joined
-
--- the lesser of two lanes
-abbrev pub lesser : ℕ → ℕ → ℕ
+abbrev lesser : ℕ → ℕ → ℕ
 lesser a b = cond (top 7 (below a b)) a b
 
 abbrev pub lesser_lanes : List ℕ → List ℕ → List ℕ
 lesser_lanes xs ys = sel_l (map (top 7) (zip2 below xs ys)) xs ys
 
-marked_either : (a b : ℕ) → IsMarked (lesser a b) ↔ (IsMarked a ⊎ IsMarked b)
-marked_either a b = ⊎_elim
-    (λ l. (let is : lesser a b ≡ a = ap (λ t. cond (top 7 (ones t)) a b) (lt-ltb a b l) in (
-      (λ m. inl (subst IsMarked is m)),
-      (λ s. subst IsMarked (sym is) (⊎_elim (λ m. m) (λ m. omega (arith, l, m)) s)),
-    )))
-    (λ l. (let is : lesser a b ≡ b = ap (λ t. cond (top 7 (ones t)) a b) (le-ltb a b l) in (
-      (λ m. inr (subst IsMarked is m)),
-      (λ s. subst IsMarked (sym is) (⊎_elim (λ m. omega (arith, l, m)) (λ m. m) s)),
-    )))
+lesser_each : (xs ys : List ℕ) → lesser_lanes xs ys ≡ zip2 lesser xs ys
+lesser_each [] ys = refl
+lesser_each (x ∷ xs) [] = refl
+lesser_each (x ∷ xs) (y ∷ ys) = ap (λ l. lesser x y ∷ l) (lesser_each xs ys)
+
+lesser_keeps : (a b : ℕ) → IsTrue (eqb a 0) ⊎ IsTrue (eqb b 0) → IsTrue (eqb (lesser a b) 0)
+lesser_keeps a b s = ⊎_elim
+    (λ l. (let is : lesser a b ≡ a = ap (λ t. cond (top 7 (ones t)) a b) (lt-ltb a b l) in
+    subst (λ x. IsTrue (eqb x 0)) (sym is) (⊎_elim (λ m. m) (λ m. eq-eqb a 0 (omega (arith, eqb-true b 0 m, l))) s)))
+    (λ l. (let is : lesser a b ≡ b = ap (λ t. cond (top 7 (ones t)) a b) (le-ltb a b l) in
+    subst (λ x. IsTrue (eqb x 0)) (sym is) (⊎_elim (λ m. eq-eqb b 0 (omega (arith, eqb-true a 0 m, l))) (λ m. m) s)))
     (cases_lt a b)
 
--- Vectors joined lane by lane have a mark where one of them has one.
-pub joined_marks : (xs ys : List ℕ) → length xs ≡ length ys → Any IsMarked (lesser_lanes xs ys) ↔ (Any IsMarked xs ⊎ Any IsMarked ys)
-joined_marks [] [] e = ((λ p. inl p), (λ s. ⊎_elim (λ p. p) (λ p. p) s))
-joined_marks [] (y ∷ ys) e = absurd (omega arith)
-joined_marks (x ∷ xs) [] e = absurd (omega arith)
-joined_marks (x ∷ xs) (y ∷ ys) e =
-    let this = marked_either x y in
-    let rest = joined_marks xs ys (omega arith) in (
-      (λ p. ⊎_elim
-          (λ m. ⊎_elim (λ a. inl (any_here IsMarked x xs a)) (λ b. inr (any_here IsMarked y ys b)) (this.0 m))
-          (λ q. ⊎_elim (λ a. inl (any_there IsMarked x xs a)) (λ b. inr (any_there IsMarked y ys b)) (rest.0 q))
-          (any_cons IsMarked (lesser x y) (lesser_lanes xs ys) p)),
-      (λ s. ⊎_elim
-          (λ p. ⊎_elim (λ m. any_here IsMarked (lesser x y) (lesser_lanes xs ys) (this.1 (inl m)))
-          (λ q. any_there IsMarked (lesser x y) (lesser_lanes xs ys) (rest.1 (inl q))) (any_cons IsMarked x xs p))
-          (λ p. ⊎_elim (λ m. any_here IsMarked (lesser x y) (lesser_lanes xs ys) (this.1 (inr m)))
-          (λ q. any_there IsMarked (lesser x y) (lesser_lanes xs ys) (rest.1 (inr q))) (any_cons IsMarked y ys p)) s),
+-- The lesser of two lanes is 00 where one of them is.
+pub null_in_lesser : (xs ys : List ℕ) → length xs ≡ length ys → AnyIn (λ b. eqb b 0) xs ⊎ AnyIn (λ b. eqb b 0) ys →
+    AnyIn (λ b. eqb b 0) (lesser_lanes xs ys)
+null_in_lesser xs ys e s =
+    subst (AnyIn (λ b. eqb b 0)) (sym (lesser_each xs ys)) (kept (λ b. IsTrue (eqb b 0)) lesser lesser_keeps xs ys e s)
+
+-- ---- a class by the greatest and the least
+
+first_holds : (s t : Bool) → (s && t) ≡ true → s ≡ true
+first_holds true t e = refl
+first_holds false t e = e
+
+either_holds : (s t : Bool) → (s || t) ≡ true → (s ≡ true) ⊎ (t ≡ true)
+either_holds true t e = inl refl
+either_holds false t e = inr e
+
+-- F0 to F7 is F0 or more.
+pub lead_of_four : (chunks : List (List ℕ)) → Any (AnyIn is_four) chunks → Any (AnyIn is_lead) chunks
+lead_of_four chunks h = (h.0, h.1, h.2, h.3, (h.4.0, h.4.1, h.4.2, h.4.3, first_holds (leb 0xF0 h.4.1) (leb h.4.1 0xF7) h.4.4))
+
+-- So a byte of the other class is F0 or more, or it is 00.
+pub lead_or_null : (chunks : List (List ℕ)) → Any (AnyIn is_null_four) chunks →
+    Any (AnyIn is_lead) chunks ⊎ Any (AnyIn (λ b. eqb b 0)) chunks
+lead_or_null chunks h = ⊎_elim
+    (λ null. inr (h.0, h.1, h.2, h.3, (h.4.0, h.4.1, h.4.2, h.4.3, null)))
+    (λ four. inl (h.0, h.1, h.2, h.3, (h.4.0, h.4.1, h.4.2, h.4.3, first_holds (leb 0xF0 h.4.1) (leb h.4.1 0xF7) four)))
+    (either_holds (eqb h.4.1 0) (is_four h.4.1) h.4.4)
+
+-- ---- the test for a lane
+
+-- by whether the first lane passes
+some_passes_by : (p : ℕ → Bool) (x : ℕ) (lanes : List ℕ) (t : Bool) → p x ≡ t → (mask_l (map p lanes) ≡ 0 → ⊥) ↔ AnyIn p lanes →
+    (cond t 1 0 + 2 * mask_l (map p lanes) ≡ 0 → ⊥) ↔ AnyIn p (x ∷ lanes)
+some_passes_by p x lanes true is rest = ((λ n. any_here (λ b. IsTrue (p b)) x lanes is), (λ q e. omega (arith, e)))
+some_passes_by p x lanes false is rest = (
+  (λ n. any_there (λ b. IsTrue (p b)) x lanes (rest.0 (λ e. n (omega (arith, e))))),
+  (λ q e. ⊎_elim (λ m. both_ways (p x) is m) (λ r. rest.1 r (omega (arith, e))) (any_cons (λ b. IsTrue (p b)) x lanes q)),
+)
+
+some_passes : (p : ℕ → Bool) (lanes : List ℕ) → (mask_l (map p lanes) ≡ 0 → ⊥) ↔ AnyIn p lanes
+some_passes p [] = ((λ n. absurd (n refl)), (λ q. absurd (any_nil (λ b. IsTrue (p b)) q)))
+some_passes p (x ∷ lanes) = some_passes_by p x lanes (p x) refl (some_passes p lanes)
+
+-- Bits that tell of each lane whether it passes a test tell whether some lane does.
+pub any_passes : (p : ℕ → Bool) (lanes : List ℕ) (bits : ℕ) → bits ≡ mask_l (map p lanes) → IsTrue (not (eqb bits 0)) ↔ AnyIn p lanes
+any_passes p lanes bits is =
+    let tells = some_passes p lanes in (
+      (λ t. tells.0 (λ e. eqb-false _ _ (not-true _ t) (is ∙ e))),
+      (λ q. ap not (ne_eqb _ _ (λ e. tells.1 q (sym is ∙ e)))),
     )
 
--- ---- the test for a mark
+-- A comparison with F0 tells of each lane whether it is F0 or more.
+pub lead_bits : (n : ℕ) (lanes : List ℕ) → length lanes ≡ n → n ≤ 64 →
+    mask_l (map (top 7) (zip2 (λ a b. ones (leb a b)) (replicate n 0xF0) lanes)) % 2 ^ 64 ≡ mask_l (map is_lead lanes)
+lead_bits n lanes long small =
+    ap (λ ms. mask_l ms % 2 ^ 64) (tops_compared w8 leb (replicate n 0xF0) lanes ∙ zip2_splat_left leb 0xF0 n lanes long)
+    ∙ mask_l-mod (map is_lead lanes) 64 (omega (arith, long, small, length-map lanes is_lead))
 
--- A byte is below 8 where its upper five bits are 0.
-marked_by_mask : (b : ℕ) → b < 256 → eqb (bit_and b 0xF8) 0 ≡ ltb b 8
-marked_by_mask b l = agree_below_at (λ b. eqb (bit_and b 0xF8) 0) (λ b. ltb b 8) 256 b refl l
+abbrev pub four_vector : ℕ → List ℕ → List ℕ
+four_vector n bytes = zip2 equal (zip2 bit_and bytes (replicate n 0xF8)) (replicate n 0xF0)
 
-abbrev bit : Bool → ℕ
-bit t = cond t 1 0
+four_tests : (bytes : List ℕ) → Each1 (Fits w8) bytes → map (top 7) (four_vector (length bytes) bytes) ≡ map is_four bytes
+four_tests [] h = refl
+four_tests (b ∷ bytes) h =
+    let this = agree_below_at (λ b. top 7 (equal (bit_and b 0xF8) 0xF0)) is_four 256 b refl h.0.fits in
+    λ i. this i ∷ four_tests bytes h.1 i
 
--- a bit for each lane, set where the lane is marked
-abbrev pub mark_bits : List ℕ → ℕ
-mark_bits lanes = mask_l (map (λ m. eqb m 0) (map (λ b. bit_and b 0xF8) lanes))
+-- A comparison of the upper five bits with those of F0 tells whether it is F0 to F7.
+pub four_bits : (n : ℕ) (bytes : List ℕ) → length bytes ≡ n → Each1 (Fits w8) bytes → n ≤ 64 →
+    mask_l (map (top 7) (four_vector n bytes)) % 2 ^ 64 ≡ mask_l (map is_four bytes)
+four_bits n bytes long fits small =
+    subst (λ n. mask_l (map (top 7) (four_vector n bytes)) % 2 ^ 64 ≡ mask_l (map is_four bytes)) long
+    (ap (λ ms. mask_l ms % 2 ^ 64) (four_tests bytes fits)
+    ∙ mask_l-mod (map is_four bytes) 64 (omega (arith, long, small, length-map bytes is_four)))
 
-some_bit : (lanes : List ℕ) → Each1 (Fits w8) lanes → (mark_bits lanes ≡ 0 → ⊥) ↔ Any IsMarked lanes
-some_bit [] h = ((λ n. absurd (n refl)), (λ p. absurd (any_nil IsMarked p)))
-some_bit (x ∷ lanes) h =
-    let rest = some_bit lanes h.1 in
-    let this = marked_by_mask x h.0.fits in
-    ⊎_elim
-    (λ m. (let set : bit (eqb (bit_and x 0xF8) 0) ≡ 1 = ap bit (this ∙ lt-ltb x 8 m) in (
-      (λ n. any_here IsMarked x lanes m),
-      (λ p e. omega (arith, e, set)),
-    )))
-    (λ l. (let clear : bit (eqb (bit_and x 0xF8) 0) ≡ 0 = ap bit (this ∙ le-ltb x 8 l) in (
-      (λ n. any_there IsMarked x lanes (rest.0 (λ e. n (omega (arith, e, clear))))),
-      (λ p e. ⊎_elim (λ m. omega (arith, l, m)) (λ q. rest.1 q (omega (arith, e, clear))) (any_cons IsMarked x lanes p)),
-    )))
-    (cases_lt x 8)
+abbrev pub null_four_vector : ℕ → List ℕ → List ℕ
+null_four_vector n bytes = zip2 bit_or (four_vector n bytes) (zip2 equal bytes (replicate n 0))
 
--- Up to 64 lanes whose upper five bits are compared with 0 tell whether one is marked.
-pub has_mark : (n : ℕ) (lanes : List ℕ) → length lanes ≡ n → Each1 (Fits w8) lanes → n ≤ 64 →
-    IsTrue (not (eqb (mask_l (map (top 7) (zip2 equal (zip2 bit_and lanes (replicate n 0xF8)) (replicate n 0))) % 2 ^ 64) 0)) ↔ Any IsMarked lanes
-has_mark n lanes long fits small =
-    let upper = zip2_splat bit_and lanes n 0xF8 long in
-    let same = bitmask_splat w8 eqb _ n 0 (ap length upper ∙ length-map lanes (λ b. bit_and b 0xF8) ∙ long) small
-    ∙ ap (λ l. mask_l (map (λ m. eqb m 0) l)) upper in
-    let tells = some_bit lanes fits in (
-      (λ t. tells.0 (λ e. eqb-false _ _ (not-true _ t) (same ∙ e))),
-      (λ p. ap not (ne_eqb _ _ (λ e. tells.1 p (sym same ∙ e)))),
-    )
+null_four_tests : (bytes : List ℕ) → Each1 (Fits w8) bytes → map (top 7) (null_four_vector (length bytes) bytes) ≡ map is_null_four bytes
+null_four_tests [] h = refl
+null_four_tests (b ∷ bytes) h =
+    let this = agree_below_at (λ b. top 7 (bit_or (equal (bit_and b 0xF8) 0xF0) (equal b 0))) is_null_four 256 b refl h.0.fits in
+    λ i. this i ∷ null_four_tests bytes h.1 i
+
+-- That and one with 00 tell whether it is 00, or F0 to F7.
+pub null_four_bits : (n : ℕ) (bytes : List ℕ) → length bytes ≡ n → Each1 (Fits w8) bytes → n ≤ 64 →
+    mask_l (map (top 7) (null_four_vector n bytes)) % 2 ^ 64 ≡ mask_l (map is_null_four bytes)
+null_four_bits n bytes long fits small =
+    subst (λ n. mask_l (map (top 7) (null_four_vector n bytes)) % 2 ^ 64 ≡ mask_l (map is_null_four bytes)) long
+    (ap (λ ms. mask_l ms % 2 ^ 64) (null_four_tests bytes fits)
+    ∙ mask_l-mod (map is_null_four bytes) 64 (omega (arith, long, small, length-map bytes is_null_four)))

@@ -23,6 +23,10 @@ pub mod Lanes
 pub mod Chunks
 pub mod Decoding
 pub mod Appended
+pub mod Joining
+pub mod PairWords
+pub mod JoinedText
+pub mod Pieces
 pub mod Borrowing
 pub mod Lawful
 pub mod EncodedBytes

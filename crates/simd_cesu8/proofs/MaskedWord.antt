@@ -20,13 +20,13 @@ masked a b c d a_byte b_byte c_byte d_byte =
     ) (omega arith)
 
 -- a mask tests a range
-continuation_test : (x : ℕ) → x < 0x100 → eqb (bit_and x 0xC0) 0x80 ≡ (leb 0x80 x && ltb x 0xC0)
+pub continuation_test : (x : ℕ) → x < 0x100 → eqb (bit_and x 0xC0) 0x80 ≡ (leb 0x80 x && ltb x 0xC0)
 continuation_test x h = agree_below_at (λ x. eqb (bit_and x 0xC0) 0x80) (λ x. leb 0x80 x && ltb x 0xC0) 0x100 x refl h
 
-low_surrogate_test : (x : ℕ) → x < 0x100 → eqb (bit_and x 0xF0) 0xB0 ≡ (leb 0xB0 x && ltb x 0xC0)
+pub low_surrogate_test : (x : ℕ) → x < 0x100 → eqb (bit_and x 0xF0) 0xB0 ≡ (leb 0xB0 x && ltb x 0xC0)
 low_surrogate_test x h = agree_below_at (λ x. eqb (bit_and x 0xF0) 0xB0) (λ x. leb 0xB0 x && ltb x 0xC0) 0x100 x refl h
 
-between : (low high x : ℕ) → (leb low x && ltb x high) ≡ true → (low ≤ x) × (x < high)
+pub between : (low high x : ℕ) → (leb low x && ltb x high) ≡ true → (low ≤ x) × (x < high)
 between low high x passes =
     let parts = and_parts (leb low x) (ltb x high) passes in
     (leb-true low x parts.0, ltb-true x high parts.1)

@@ -13,13 +13,13 @@ use Rattle.simd_cesu8.proofs.Encodings.{encoding_nil, encoding_cons}
 use Rattle.simd_cesu8.proofs.Lengths.{Change, same, longer, change, not_otherwise, otherwise, LengthBounds, length_bounds}
 use Rattle.simd_cesu8.proofs.Elements.{any_nil, any_here, any_there, any_cons, any_left, any_right, any_append, none_cons}
 
-four_from : (b : ℕ) → 0xF0 ≤ b → b ≤ 0xF7 → IsFour b
+pub four_from : (b : ℕ) → 0xF0 ≤ b → b ≤ 0xF7 → IsFour b
 four_from b low high = and_from _ _ (le-leb 0xF0 b low) (le-leb b 0xF7 high)
 
 not_four : (b : ℕ) → b < 0xF0 → IsFour b → ⊥
 not_four b low four = omega (arith, leb-true 0xF0 b (and_parts _ _ four).0)
 
-changed_by_four : (f : Flavor) (b : ℕ) → IsFour b → IsChangedByte f b
+pub changed_by_four : (f : Flavor) (b : ℕ) → IsFour b → IsChangedByte f b
 changed_by_four Cesu8 b h = h
 changed_by_four Mutf8 b h = or_right _ _ h
 

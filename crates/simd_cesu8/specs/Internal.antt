@@ -1,7 +1,7 @@
 -- What the contracts of the crate's inner functions cite.
-use Rattle.std.specs.Prelude.{◌≡◌, ℕ, ◌+◌, ◌*◌, ◌<◌, ◌≤◌, Bool, true, false, if◌then◌else◌, List, ◌∷◌, length, Option, MatchOption}
+use Rattle.std.specs.Prelude.{◌≡◌, ℕ, ◌+◌, ◌*◌, ◌<◌, ◌≤◌, Bool, true, false, List, ◌∷◌, length, Option, MatchOption}
 use Rattle.simd_cesu8.specs.Text.{IsText, utf8_of}
-use Rattle.simd_cesu8.specs.Reading.{BeginsWith, NoneBegins, width, reading, lossy_length}
+use Rattle.simd_cesu8.specs.Reading.{BeginsWith, NoneBegins, width, reading}
 use Rattle.simd_cesu8.specs.Encoding.{Flavor, Cesu8, Mutf8, encoding}
 use Rattle.simd_cesu8.specs.declared.internal.Flavor.{Flavor as FlavorOption}
 use Rattle.simd_cesu8.specs.declared.internal.Flavor.TheVariants as options
@@ -60,10 +60,6 @@ pub data IsStep (f : Flavor) (lossy : Bool) (bytes : List ℕ) (c : ℕ) (rest :
 abbrev pub IsDecodedText : Flavor → Bool → List ℕ → List ℕ → Type 0
 IsDecodedText f lossy bytes text =
     IsText text × (text ≡ reading f bytes) × (lossy ≡ false → encoding f text ≡ bytes)
-
--- The room, in bytes, that is requested for the text of the bytes.
-abbrev pub room_of : Flavor → Bool → List ℕ → ℕ
-room_of f lossy bytes = if lossy then lossy_length f bytes else length bytes
 
 -- A byte that follows a lead byte: 80 to BF (hexadecimal).
 abbrev pub IsContinuation : ℕ → Type 0

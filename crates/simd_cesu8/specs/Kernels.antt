@@ -28,7 +28,3 @@ MayTestWords g test = (word : ℕ) → word < 2 ^ 64 → g.pre test (word, tt)
 abbrev pub FindsInWords : {T : Type 0} → Shared T (ℕ × Unit {0}) Bool → T → (ℕ → Bool) → Type 0
 FindsInWords g test class = (word : ℕ) (result : Bool) → word < 2 ^ 64
     → g.post test (word, tt) result → IsTrue result ↔ AnyIn class (to_le_bytes w64 word)
-
--- A lane that marks a byte is below 8.
-abbrev pub IsMarked : ℕ → Type 0
-IsMarked lane = lane < 8

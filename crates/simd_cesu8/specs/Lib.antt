@@ -9,5 +9,7 @@ pub mod Cutting
 pub mod Cow
 pub mod Fault
 pub mod Internal
+pub mod Joining
+pub mod Pieces
 pub mod Order
 pub mod Laws

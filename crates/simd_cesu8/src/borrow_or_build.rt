@@ -1,31 +1,20 @@
 //! The calls over either flavor: each borrows where no byte changes, and builds elsewhere.
 
-ghost use Rattle.std.specs.Prelude.{◌≡◌, ◌≤◌, ◌+◌, ◌*◌, ◌++◌, [], ◌↔◌, length, IfSome, IfNone, IsTrue, IsUtf8, Any, OnOk, OnErr, IsOk, vec_len, vec_capacity};
+ghost use Rattle.std.specs.Prelude.{◌≡◌, ◌≤◌, ◌+◌, ◌*◌, ◌++◌, [], ◌↔◌, length, IfSome, IfNone, IsTrue, IsUtf8, Any, MatchResult, ◌<◌, OnOk, OnErr, IsOk, vec_len, vec_capacity};
 ghost use Rattle.std.specs.Str.{chars};
 ghost use Rattle.simd_cesu8.specs.Encoding.{encoding, NeedsEncoding};
 ghost use Rattle.simd_cesu8.specs.Class.{IsChangedByte, IsUnchangedUtf8};
 ghost use Rattle.simd_cesu8.specs.Reading.{IsStrictReading, HasNoStrictReading, IsLenientReading, HasNoLenientReading, reading, lossy_length, IsLenientLossyReading};
 ghost use Rattle.simd_cesu8.specs.Cow.{IfBytes, BorrowsBytesWhere, BuildsBytesOfCapacity, IfText, BorrowsTextWhere, BuildsTextOfCapacity, AnswersTextOfLength};
 ghost use Rattle.simd_cesu8.specs.Fault.{OnInvalid};
-ghost use Rattle.simd_cesu8.specs.Internal.{flavor_of};
+ghost use Rattle.simd_cesu8.specs.Internal.{flavor_of, IsContinuation};
 
 use crate::cow::{CowBytes, CowText};
 use crate::error::DecodeFault;
-use crate::implementation::active;
 use crate::internal;
-use crate::internal::Flavor;
-use simdutf8::compat;
+use crate::internal::{Flavor, contains_changed};
+use simdutf8::basic;
 use std::alloc::{AllocError, Global};
-
-/// Whether some byte of UTF-8 is written otherwise in the flavor.
-fn contains_changed(flavor: Flavor, bytes: &[u8]) -> bool
-    ensures { IsTrue result ↔ Any (IsChangedByte (flavor_of flavor)) bytes.now }
-{
-    match flavor {
-        Flavor::Cesu8 => active::contains_utf8_4_byte_char_header(bytes),
-        Flavor::Mutf8 => active::contains_null_or_utf8_4_byte_char_header(bytes),
-    }
-}
 
 pub fn needs_encoded(flavor: Flavor, value: &str) -> bool
     ensures { IsTrue result ↔ NeedsEncoding (flavor_of flavor) (chars value.now) }
@@ -48,6 +37,49 @@ pub fn encode(alloc: Global, flavor: Flavor, value: &str) -> Result<CowBytes<'_>
     Ok(CowBytes::Owned(encoded))
 }
 
+/// How many bytes are tested first, where there are many more.
+const FRONT: usize = 512;
+
+/// The bytes as a text, where they are UTF-8. Where they are not, their front mostly shows it, and
+/// the others are not tested.
+fn whole_text(bytes: &[u8]) -> Result<&str, basic::Utf8Error>
+    ensures cases { MatchResult result (λ text. (text.now ≡ bytes.now) × IsUtf8 bytes.now)
+        (λ _. ¬ (IsUtf8 bytes.now)) }
+{
+    if bytes.len() >= 4 * FRONT && !has_utf8_front(bytes, front_end(bytes)) {
+        return Err(basic::Utf8Error);
+    }
+    basic::from_utf8(bytes)
+}
+
+/// Where the front ends, which is mostly no place within a character.
+fn front_end(bytes: &[u8]) -> usize
+    requires { 2048 ≤ length bytes.now }
+    ensures { result ≤ 512 }
+{
+    for back in 0..3 {
+        if !is_continuation(bytes[FRONT - back]) {
+            return FRONT - back;
+        }
+    }
+    FRONT - 3
+}
+
+/// Whether the bytes before a place are UTF-8, or the place is one within a character.
+fn has_utf8_front(bytes: &[u8], end: usize) -> bool
+    requires { end < length bytes.now }
+    ensures { IsUtf8 bytes.now → IsTrue result }
+{
+    is_continuation(bytes[end]) || simdutf8::is_utf8(&bytes[..end])
+}
+
+/// Whether a byte continues a character of UTF-8.
+fn is_continuation(byte: u8) -> bool
+    ensures { IsTrue result ↔ IsContinuation byte }
+{
+    matches!(byte, 0x80..=0xBF)
+}
+
 /// The bytes as a text, where they are UTF-8 without a byte that is written otherwise.
 fn unchanged_text(flavor: Flavor, bytes: &[u8]) -> Option<&str>
     ensures some { IfSome result (λ text. (text.now ≡ bytes.now)
@@ -57,7 +89,7 @@ fn unchanged_text(flavor: Flavor, bytes: &[u8]) -> Option<&str>
     if contains_changed(flavor, bytes) {
         return None;
     }
-    compat::from_utf8(bytes).ok()
+    whole_text(bytes).ok()
 }
 
 pub fn decode_strict(
@@ -87,7 +119,7 @@ pub fn decode(alloc: Global, flavor: Flavor, bytes: &[u8]) -> Result<CowText<'_>
     ensures succeeds { IsUtf8 bytes.now → IsOk result }
     ensures capacity { BuildsTextOfCapacity result (length bytes.now) }
 {
-    match compat::from_utf8(bytes) {
+    match whole_text(bytes) {
         Ok(whole) => Ok(CowText::Borrowed(whole)),
         Err(_) => Ok(CowText::Owned(internal::decode_strict(alloc, flavor, bytes)?)),
     }
@@ -119,7 +151,7 @@ pub fn decode_lossy(alloc: Global, flavor: Flavor, bytes: &[u8]) -> Result<CowTe
     ensures succeeds { IsUtf8 bytes.now → IsOk result }
     ensures capacity { BuildsTextOfCapacity result (lossy_length (flavor_of flavor) bytes.now) }
 {
-    match compat::from_utf8(bytes) {
+    match whole_text(bytes) {
         Ok(text) => Ok(CowText::Borrowed(text)),
         Err(_) => Ok(CowText::Owned(internal::decode_lossy(alloc, flavor, bytes)?)),
     }

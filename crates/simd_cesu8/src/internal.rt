@@ -2,12 +2,19 @@
 //!
 //! A call that builds makes its one request here, and the writers below it can't fail.
 
+ghost use Rattle.std.specs.Prelude.{◌↔◌, IsTrue, Any};
+ghost use Rattle.simd_cesu8.specs.Class.{IsChangedByte};
+ghost use Rattle.simd_cesu8.specs.Internal.{flavor_of};
+
 mod decoder;
 mod encoded_character;
 mod encoder;
+mod joining;
 mod lengths;
+mod window;
 mod writers;
 
+use crate::implementation::active;
 pub use decoder::{decode_lossy, decode_strict, lossy_len};
 pub use encoder::{encode, encode_into};
 pub use lengths::encoded_len;
@@ -26,4 +33,14 @@ pub struct DecodeOptions {
     pub flavor: Flavor,
     /// Whether a byte that is in no encoded character is replaced, and not refused.
     pub lossy: bool,
+}
+
+/// Whether some byte of UTF-8 is written otherwise in the flavor.
+pub fn contains_changed(flavor: Flavor, bytes: &[u8]) -> bool
+    ensures { IsTrue result ↔ Any (IsChangedByte (flavor_of flavor)) bytes.now }
+{
+    match flavor {
+        Flavor::Cesu8 => active::contains_utf8_4_byte_char_header(bytes),
+        Flavor::Mutf8 => active::contains_null_or_utf8_4_byte_char_header(bytes),
+    }
 }

@@ -44,6 +44,8 @@ mod order;
 mod pattern;
 #[cfg(test)]
 mod splits;
+#[cfg(test)]
+mod windows;
 
 use std::io;
 use std::io::{ErrorKind, Read};

@@ -1,15 +1,17 @@
 //! Up to 64 bytes at a time, as the lanes of a vector.
 //!
-//! F0 to F7 (hexadecimal) are the bytes that an exclusive or with F0 makes less than 8. So a lane is
-//! made less than 8 where its byte is in the class that is sought, and 8 or more where it is not, and
-//! the lesser of two lanes tells of both. To test for such a lane costs more than to join two
-//! vectors, so four are joined before a test.
+//! The bytes F0 to F7 (hexadecimal) are those whose upper five bits are those of F0. Before vectors
+//! are tested for these, four at once are tested for what needs no work on each: the greatest and the
+//! least byte of each lane. Where the one is below F0, and the other above 00, no byte is in a class.
+//! Elsewhere each vector is tested by itself, since it may have bytes above F7. UTF-8 has none, so
+//! there that happens once.
 //!
 //! All is inlined: a call would pass vectors through memory, and most values are short.
 
-ghost use Rattle.std.specs.Prelude.{◌≡◌, ◌≤◌, ◌<◌, ◌↔◌, ◌⊎◌, ℕ, Bool, IsTrue, Any};
+ghost use Rattle.std.specs.Prelude.{◌≡◌, ◌==◌, ◌≤◌, ◌<◌, ◌↔◌, ◌⊎◌, ℕ, Bool, IsTrue, Any};
 ghost use Rattle.simd_cesu8.specs.Class.{is_four, is_null_four, IsFour, IsNullFour};
-ghost use Rattle.simd_cesu8.specs.Kernels.{AnyIn, MayTest, Finds, IsMarked};
+ghost use Rattle.simd_cesu8.specs.EncodedPlaces.{is_lead};
+ghost use Rattle.simd_cesu8.specs.Kernels.{AnyIn, MayTest, Finds};
 
 use super::fallback;
 use std::simd::prelude::*;
@@ -99,9 +101,15 @@ where
 trait Class<const N: usize> {
     ghost class: { ℕ → Bool };
 
-    /// Marks the lanes whose bytes are in the class.
-    fn marks(bytes: Simd<u8, N>) -> Simd<u8, N>
-        ensures { Any IsMarked result ↔ AnyIn class bytes.entry };
+    /// Whether some byte of the chunks may be in the class: where one is, the answer is yes.
+    fn may_have(group: &[[u8; N]; 4]) -> bool
+        requires { N ≤ 64 }
+        ensures { Any (AnyIn class) group.now → IsTrue result };
+
+    /// Whether some byte is in the class.
+    fn has(bytes: Simd<u8, N>) -> bool
+        requires { N ≤ 64 }
+        ensures { IsTrue result ↔ AnyIn class bytes.entry };
 }
 
 /// F0 to F7 (hexadecimal).
@@ -111,10 +119,19 @@ impl<const N: usize> Class<N> for Four {
     ghost class = { is_four };
 
     #[inline(always)]
-    fn marks(bytes: Simd<u8, N>) -> Simd<u8, N>
-        ensures { Any IsMarked result ↔ AnyIn is_four bytes.entry }
+    fn may_have(group: &[[u8; N]; 4]) -> bool
+        requires { N ≤ 64 }
+        ensures { Any (AnyIn is_four) group.now → IsTrue result }
     {
-        bytes ^ Simd::splat(0xF0)
+        has_lead(greatest(group))
+    }
+
+    #[inline(always)]
+    fn has(bytes: Simd<u8, N>) -> bool
+        requires { N ≤ 64 }
+        ensures { IsTrue result ↔ AnyIn is_four bytes.entry }
+    {
+        (bytes & Simd::splat(0xF8)).simd_eq(Simd::splat(0xF0)).any()
     }
 }
 
@@ -125,11 +142,21 @@ impl<const N: usize> Class<N> for NullFour {
     ghost class = { is_null_four };
 
     #[inline(always)]
-    fn marks(bytes: Simd<u8, N>) -> Simd<u8, N>
-        ensures { Any IsMarked result ↔ AnyIn is_null_four bytes.entry }
+    fn may_have(group: &[[u8; N]; 4]) -> bool
+        requires { N ≤ 64 }
+        ensures { Any (AnyIn is_null_four) group.now → IsTrue result }
     {
+        has_lead(greatest(group)) || has_null(least(group))
+    }
+
+    #[inline(always)]
+    fn has(bytes: Simd<u8, N>) -> bool
+        requires { N ≤ 64 }
+        ensures { IsTrue result ↔ AnyIn is_null_four bytes.entry }
+    {
+        let four = (bytes & Simd::splat(0xF8)).simd_eq(Simd::splat(0xF0));
         let null = bytes.simd_eq(Simd::splat(0x00));
-        null.select(Simd::splat(0x00), bytes ^ Simd::splat(0xF0))
+        (four | null).any()
     }
 }
 
@@ -159,16 +186,13 @@ fn any_in_groups<C: Class<N>, const N: usize>(groups: &[[[u8; N]; 4]]) -> bool
     false
 }
 
-/// The four chunks are joined before the test.
+/// Most groups have no byte that may be in the class, and the others are looked at again.
 #[inline(always)]
 fn any_in_group<C: Class<N>, const N: usize>(group: &[[u8; N]; 4]) -> bool
     requires { N ≤ 64 }
     ensures { IsTrue result ↔ Any (AnyIn C.class) group.now }
 {
-    let [a, b, c, d] = *group;
-    let front = joined(C::marks(Simd::from_array(a)), C::marks(Simd::from_array(b)));
-    let back = joined(C::marks(Simd::from_array(c)), C::marks(Simd::from_array(d)));
-    has_mark(joined(front, back))
+    C::may_have(group) && any_in_each::<C, N>(group)
 }
 
 #[inline(always)]
@@ -177,28 +201,66 @@ fn any_in_each<C: Class<N>, const N: usize>(chunks: &[[u8; N]]) -> bool
     ensures { IsTrue result ↔ Any (AnyIn C.class) chunks.now }
 {
     for chunk in chunks {
-        if has_mark(C::marks(Simd::from_array(*chunk))) {
+        if C::has(Simd::from_array(*chunk)) {
             return true;
         }
     }
     false
 }
 
-/// A lane is marked where it is in one of the two.
+/// The greatest byte of each lane.
 #[inline(always)]
-fn joined<const N: usize>(a: Simd<u8, N>, b: Simd<u8, N>) -> Simd<u8, N>
-    ensures { Any IsMarked result ↔ (Any IsMarked a.entry ⊎ Any IsMarked b.entry) }
+fn greatest<const N: usize>(group: &[[u8; N]; 4]) -> Simd<u8, N>
+    ensures { Any (AnyIn is_lead) group.now → AnyIn is_lead result }
+{
+    let [a, b, c, d] = *group;
+    let front = greater(Simd::from_array(a), Simd::from_array(b));
+    let back = greater(Simd::from_array(c), Simd::from_array(d));
+    greater(front, back)
+}
+
+#[inline(always)]
+fn greater<const N: usize>(a: Simd<u8, N>, b: Simd<u8, N>) -> Simd<u8, N>
+    ensures { (AnyIn is_lead a.entry ⊎ AnyIn is_lead b.entry) → AnyIn is_lead result }
+{
+    a.simd_max(b)
+}
+
+/// The least byte of each lane.
+#[inline(always)]
+fn least<const N: usize>(group: &[[u8; N]; 4]) -> Simd<u8, N>
+    ensures { Any (AnyIn (λ byte. byte == 0)) group.now → AnyIn (λ byte. byte == 0) result }
+{
+    let [a, b, c, d] = *group;
+    let front = lesser(Simd::from_array(a), Simd::from_array(b));
+    let back = lesser(Simd::from_array(c), Simd::from_array(d));
+    lesser(front, back)
+}
+
+#[inline(always)]
+fn lesser<const N: usize>(a: Simd<u8, N>, b: Simd<u8, N>) -> Simd<u8, N>
+    ensures { (AnyIn (λ byte. byte == 0) a.entry ⊎ AnyIn (λ byte. byte == 0) b.entry)
+        → AnyIn (λ byte. byte == 0) result }
 {
     a.simd_min(b)
 }
 
-/// Whether some lane is less than 8.
+/// Whether some byte is F0 (hexadecimal) or more.
 #[inline(always)]
-fn has_mark<const N: usize>(marks: Simd<u8, N>) -> bool
+fn has_lead<const N: usize>(bytes: Simd<u8, N>) -> bool
     requires { N ≤ 64 }
-    ensures { IsTrue result ↔ Any IsMarked marks.entry }
+    ensures { IsTrue result ↔ AnyIn is_lead bytes.entry }
 {
-    (marks & Simd::splat(0xF8)).simd_eq(Simd::splat(0x00)).any()
+    bytes.simd_ge(Simd::splat(0xF0)).any()
+}
+
+/// Whether some byte is 00.
+#[inline(always)]
+fn has_null<const N: usize>(bytes: Simd<u8, N>) -> bool
+    requires { N ≤ 64 }
+    ensures { IsTrue result ↔ AnyIn (λ byte. byte == 0) bytes.entry }
+{
+    bytes.simd_eq(Simd::splat(0x00)).any()
 }
 
 #[cfg(test)]

@@ -1,21 +1,78 @@
-//! The decoder: characters of one to three bytes are copied, and surrogate pairs are joined.
+//! The decoder: windows are read where they can be, and elsewhere a character at a time.
+//!
+//! A window never refuses bytes. What it gives no text for is read by exact steps, which refuse or
+//! replace, and then windows are tried again.
 
-ghost use Rattle.std.specs.Prelude.{◌≡◌, ◌+◌, ◌*◌, ◌<◌, ◌≤◌, ◌++◌, [], ◌∷◌, ℕ, length, drop, List, false, IsUtf8, OnOk, OnErr, IfOk, IfSome, IfNone, vec_len, vec_capacity};
+ghost use Rattle.std.specs.Prelude.{◌≡◌, ◌+◌, ◌<◌, ◌≤◌, ◌++◌, ℕ, length, take, drop, List, Bool, false, OnOk, OnErr, IfOk, IfSome, IfNone};
 ghost use Rattle.std.specs.String.{string_bytes, string_capacity};
 ghost use Rattle.std.specs.Str.{chars};
 ghost use Rattle.simd_cesu8.specs.Text.{utf8_of, utf8};
 ghost use Rattle.simd_cesu8.specs.Reading.{NoneBegins, IsStrictReading, HasNoStrictReading, reading, lossy_length};
 ghost use Rattle.simd_cesu8.specs.Fault.{OnInvalid};
-ghost use Rattle.simd_cesu8.specs.Internal.{flavor_of, IsStep, IsDecodedText, room_of, IsPair};
+ghost use Rattle.simd_cesu8.specs.Internal.{flavor_of, IsStep, IsDecodedText};
+ghost use Rattle.simd_cesu8.specs.Pieces.{IsPiece, HasFault};
 
 use super::encoded_character::{EncodedCharacter, first_character};
-use super::writers::{copy_front, push_all};
+use super::joining::{Place, WINDOW, joined};
+use super::window::{Piece, SHORT, read_window};
 use super::{DecodeOptions, Flavor};
 use crate::error::{DecodeFault, DecodingError};
+use simdutf8::basic;
 use std::alloc::{AllocError, Allocator};
 
 /// The UTF-8 of the replacement character, U+FFFD.
 const REPLACEMENT: [u8; 3] = [0xEF, 0xBF, 0xBD];
+
+/// How many exact steps are made for one piece of text.
+const STEPS: usize = 32;
+
+/// Room for the UTF-8 of so many exact steps.
+type StepRoom = [u8; 128];
+
+/// How many bytes the shortest window has.
+const SHORTEST: usize = 64;
+
+/// When the next window is tried. So windows cost little where most of them give nothing.
+#[derive(Clone, Copy)]
+struct Pace {
+    /// How many pieces are read by exact steps before it.
+    pause: usize,
+    /// How many bytes it has.
+    window: usize,
+}
+
+impl Pace {
+    fn at_start() -> Pace {
+        Pace {
+            pause: 0,
+            window: WINDOW,
+        }
+    }
+
+    /// After a window that gave text.
+    fn after_text(self) -> Pace {
+        Pace {
+            pause: 0,
+            window: self.window.saturating_mul(2).min(WINDOW),
+        }
+    }
+
+    /// After a window that gave nothing.
+    fn after_nothing(self) -> Pace {
+        Pace {
+            pause: WINDOW / self.window.max(SHORTEST),
+            window: (self.window / 2).max(SHORTEST),
+        }
+    }
+
+    /// After a piece by exact steps.
+    fn after_steps(self) -> Pace {
+        Pace {
+            pause: self.pause.saturating_sub(1),
+            window: self.window,
+        }
+    }
+}
 
 /// The strict reading of the bytes, after one request for their length.
 pub fn decode_strict<A: Allocator>(
@@ -32,11 +89,12 @@ pub fn decode_strict<A: Allocator>(
         flavor,
         lossy: false,
     };
-    let mut text = Vec::with_capacity(alloc, bytes.len()).map_err(DecodeFault::Memory)?;
-    if let Err(error) = read_text(options, bytes, &mut text) {
-        return Err(DecodeFault::Invalid(error));
+    let mut text = String::with_capacity(alloc, bytes.len()).map_err(DecodeFault::Memory)?;
+    read_text(options, bytes, &mut text)?;
+    match exactly(text, bytes.len()) {
+        Ok(exact) => Ok(exact),
+        Err(error) => Err(DecodeFault::Memory(error)),
     }
-    Ok(into_text(text))
 }
 
 /// The lossy reading of the bytes, after one request for its length. A length that does not fit
@@ -55,11 +113,26 @@ pub fn decode_lossy<A: Allocator>(
         flavor,
         lossy: true,
     };
-    let room = lossy_len(flavor, bytes).ok_or(AllocError)?;
-    let mut text = Vec::with_capacity(alloc, room)?;
-    // Lossy reading refuses nothing.
-    let _ = read_text(options, bytes, &mut text);
-    Ok(into_text(text))
+    let len = lossy_len(flavor, bytes).ok_or(AllocError)?;
+    let mut text = String::with_capacity(alloc, len)?;
+    // Lossy reading refuses nothing, so only memory can be missing.
+    if let Err(_) = read_text(options, bytes, &mut text) {
+        return Err(AllocError);
+    }
+    let exact = exactly(text, len)?;
+    Ok(exact)
+}
+
+/// The text, whose capacity has to be what was asked for. There was room for all of it, so nothing
+/// has grown: std's words leave that open, and the contract does not.
+fn exactly<A: Allocator>(text: String<A>, capacity: usize) -> Result<String<A>, AllocError>
+    ensures text { IfOk result (λ exact. string_bytes exact ≡ string_bytes text) }
+    ensures capacity { IfOk result (λ exact. string_capacity exact ≡ capacity) }
+{
+    if text.capacity() != capacity {
+        return Err(AllocError);
+    }
+    Ok(text)
 }
 
 /// The length of the lossy reading, in bytes of UTF-8, if it fits.
@@ -67,23 +140,76 @@ pub fn lossy_len(flavor: Flavor, bytes: &[u8]) -> Option<usize>
     ensures some { IfSome result (λ len. len ≡ lossy_length (flavor_of flavor) bytes.now) }
     ensures none { IfNone result (usize.MAX < lossy_length (flavor_of flavor) bytes.now) }
 {
+    let mut pace = Pace::at_start();
     let mut len: usize = 0;
     let mut rest = bytes;
     while !rest.is_empty() {
-        let (width, len_utf8) = lossy_step(flavor, rest);
-        len = len.checked_add(len_utf8)?;
-        rest = &rest[width..];
+        let (read, written) = measure_piece(flavor, rest, &mut pace);
+        len = len.checked_add(written)?;
+        rest = &rest[read..];
     }
     Some(len)
 }
 
-/// How many bytes the next step of lossy reading reads, and how many of UTF-8 it gives: the encoded
-/// character that begins the bytes, or the replacement character for one byte.
-fn lossy_step(flavor: Flavor, bytes: &[u8]) -> (usize, usize)
+/// How many bytes the next piece of lossy reading takes, and how many its UTF-8.
+fn measure_piece(flavor: Flavor, bytes: &[u8], pace: &mut Pace) -> (usize, usize)
     requires { 0 < length bytes.now }
     ensures reads { (0 < result.0) × (result.0 ≤ length bytes.now) }
     ensures gives { lossy_length (flavor_of flavor) bytes.now
         ≡ result.1 + lossy_length (flavor_of flavor) (drop result.0 bytes.now) }
+{
+    if bytes.len() > SHORT && pace.pause == 0 {
+        if let Some(measured) = measure_window(flavor, bytes, pace.window) {
+            *pace = pace.after_text();
+            return measured;
+        }
+        *pace = pace.after_nothing();
+    }
+    *pace = pace.after_steps();
+    measure_steps(flavor, bytes)
+}
+
+/// The same for a window, where it gives text. Its room is made only where it is called.
+#[inline(never)]
+fn measure_window(flavor: Flavor, bytes: &[u8], len: usize) -> Option<(usize, usize)>
+    requires { 64 < length bytes.now }
+    ensures reads { IfSome result (λ measured. (0 < measured.0) × (measured.0 ≤ length bytes.now)) }
+    ensures gives { IfSome result (λ measured. lossy_length (flavor_of flavor) bytes.now
+        ≡ measured.1 + lossy_length (flavor_of flavor) (drop measured.0 bytes.now)) }
+{
+    let mut room = [0; 1088];
+    let piece = read_window(flavor, bytes, len, &mut room)?;
+    Some((piece.read, piece.text.len()))
+}
+
+/// The same by exact steps.
+fn measure_steps(flavor: Flavor, bytes: &[u8]) -> (usize, usize)
+    requires { 0 < length bytes.now }
+    ensures reads { (0 < result.0) × (result.0 ≤ length bytes.now) }
+    ensures gives { lossy_length (flavor_of flavor) bytes.now
+        ≡ result.1 + lossy_length (flavor_of flavor) (drop result.0 bytes.now) }
+{
+    let mut rest = bytes;
+    let mut len = 0;
+    let mut steps = 0;
+    while steps < STEPS && !rest.is_empty() {
+        let (read, written) = measure_step(flavor, rest);
+        rest = &rest[read..];
+        len += written;
+        steps += 1;
+    }
+    (bytes.len() - rest.len(), len)
+}
+
+/// How many bytes the encoded character that begins the bytes takes, and how many its UTF-8, or one
+/// byte and the replacement character.
+#[inline(always)]
+fn measure_step(flavor: Flavor, bytes: &[u8]) -> (usize, usize)
+    requires { 0 < length bytes.now }
+    ensures reads { (0 < result.0) × (result.0 ≤ length bytes.now) }
+    ensures gives { lossy_length (flavor_of flavor) bytes.now
+        ≡ result.1 + lossy_length (flavor_of flavor) (drop result.0 bytes.now) }
+    ensures few { result.1 ≤ 4 }
 {
     match first_character(flavor, bytes) {
         Some(character) => (character.width(), character.len_utf8()),
@@ -91,92 +217,215 @@ fn lossy_step(flavor: Flavor, bytes: &[u8]) -> (usize, usize)
     }
 }
 
-/// The text whose UTF-8 the bytes are.
-fn into_text<A: Allocator>(bytes: Vec<u8, A>) -> String<A>
-    requires { IsUtf8 bytes.items }
-    ensures text { string_bytes result ≡ bytes.items }
-    ensures capacity { string_capacity result ≡ vec_capacity bytes }
-{
-    match String::from_utf8(bytes) {
-        Ok(text) => text,
-        Err(_) => unreachable!(),
-    }
-}
-
-/// Appends the UTF-8 of the text of the bytes.
+/// Appends the text of the bytes.
 fn read_text<A: Allocator>(
     options: DecodeOptions,
     bytes: &[u8],
-    out: &mut Vec<u8, A>,
-) -> Result<(), DecodingError>
-    requires { vec_len out.old + room_of (flavor_of options.flavor) options.lossy bytes.now
-        ≤ vec_capacity out.old }
+    out: &mut String<A>,
+) -> Result<(), DecodeFault>
     ensures ok { OnOk result ((text : List ℕ)
         × IsDecodedText (flavor_of options.flavor) options.lossy bytes.now text
-        × (out.new.items ≡ out.old.items ++ utf8 text)) }
-    ensures err { OnErr result ((options.lossy ≡ false)
-        × HasNoStrictReading (flavor_of options.flavor) bytes.now) }
-    ensures capacity { vec_capacity out.new ≡ vec_capacity out.old }
+        × (string_bytes out.new ≡ string_bytes out.old ++ utf8 text)) }
+    ensures invalid { OnInvalid result (HasNoStrictReading (flavor_of options.flavor) bytes.now) }
 {
+    let mut pace = Pace::at_start();
     let mut rest = bytes;
     while !rest.is_empty() {
-        rest = read_step(options, rest, out)?;
+        let read = read_piece(options, rest, &mut pace, out)?;
+        rest = &rest[read..];
     }
     Ok(())
 }
 
-/// Appends the UTF-8 of the encoded character that begins the bytes, or of the replacement
-/// character for one byte, and gives the bytes after it.
-#[inline(always)]
-fn read_step<'a, A: Allocator>(
+/// Appends the next piece of text: a window, or some characters by exact steps. Gives how many bytes
+/// it read.
+fn read_piece<A: Allocator>(
     options: DecodeOptions,
-    bytes: &'a [u8],
-    out: &mut Vec<u8, A>,
-) -> Result<&'a [u8], DecodingError>
-    requires nonempty { 0 < length bytes.now }
-    requires room { vec_len out.old + room_of (flavor_of options.flavor) options.lossy bytes.now
-        ≤ vec_capacity out.old }
-    ensures ok { IfOk result (λ rest. (c : ℕ)
-        × IsStep (flavor_of options.flavor) options.lossy bytes.now c rest.now
-        × (out.new.items ≡ out.old.items ++ utf8_of c)) }
-    ensures err { OnErr result ((options.lossy ≡ false)
-        × NoneBegins (flavor_of options.flavor) bytes.now) }
-    ensures capacity { vec_capacity out.new ≡ vec_capacity out.old }
+    bytes: &[u8],
+    pace: &mut Pace,
+    out: &mut String<A>,
+) -> Result<usize, DecodeFault>
+    requires { 0 < length bytes.now }
+    ensures within { IfOk result (λ read. (0 < read) × (read ≤ length bytes.now)) }
+    ensures ok { IfOk result (λ read. (piece : List ℕ)
+        × IsPiece (flavor_of options.flavor) options.lossy bytes.now (drop read bytes.now) piece
+        × (string_bytes out.new ≡ string_bytes out.old ++ piece)) }
+    ensures invalid { OnInvalid result ((options.lossy ≡ false)
+        × HasFault (flavor_of options.flavor) bytes.now) }
 {
-    match first_character(options.flavor, bytes) {
-        Some(EncodedCharacter::OneByte) => Ok(copy_front::<1, A>(bytes, out)),
-        Some(EncodedCharacter::TwoBytes) => Ok(copy_front::<2, A>(bytes, out)),
-        Some(EncodedCharacter::ThreeBytes) => Ok(copy_front::<3, A>(bytes, out)),
-        Some(EncodedCharacter::Null) => {
-            out.push_reserved(0);
-            Ok(&bytes[2..])
+    if bytes.len() > SHORT && pace.pause == 0 {
+        if let Some(read) = append_window(options.flavor, bytes, pace.window, out)? {
+            *pace = pace.after_text();
+            return Ok(read);
         }
+        *pace = pace.after_nothing();
+    }
+    *pace = pace.after_steps();
+    let mut room = [0; 128];
+    let piece = read_exactly(options, bytes, &mut room).map_err(DecodeFault::Invalid)?;
+    append(piece.text, out)?;
+    Ok(piece.read)
+}
+
+/// Appends the text of a window, where it gives text. Its room is made only where it is called.
+#[inline(never)]
+fn append_window<A: Allocator>(
+    flavor: Flavor,
+    bytes: &[u8],
+    len: usize,
+    out: &mut String<A>,
+) -> Result<Option<usize>, DecodeFault>
+    requires { 64 < length bytes.now }
+    ensures within { IfOk result (λ found. IfSome found
+        (λ read. (0 < read) × (read ≤ length bytes.now))) }
+    ensures some { IfOk result (λ found. IfSome found (λ read. (lossy : Bool) → (piece : List ℕ)
+        × IsPiece (flavor_of flavor) lossy bytes.now (drop read bytes.now) piece
+        × (string_bytes out.new ≡ string_bytes out.old ++ piece))) }
+    ensures none { IfOk result (λ found. IfNone found (string_bytes out.new ≡ string_bytes out.old)) }
+    ensures invalid { OnInvalid result ⊥ }
+{
+    let mut room = [0; 1088];
+    match read_window(flavor, bytes, len, &mut room) {
+        Some(piece) => {
+            append(piece.text, out)?;
+            Ok(Some(piece.read))
+        }
+        None => Ok(None),
+    }
+}
+
+/// Appends a piece of text.
+fn append<A: Allocator>(text: &str, out: &mut String<A>) -> Result<(), DecodeFault>
+    ensures ok { OnOk result (string_bytes out.new ≡ string_bytes out.old ++ text.now) }
+    ensures invalid { OnInvalid result ⊥ }
+{
+    match out.push_str(text) {
+        Ok(()) => Ok(()),
+        Err(error) => Err(DecodeFault::Memory(error)),
+    }
+}
+
+/// Reads some characters by exact steps.
+fn read_exactly<'a>(
+    options: DecodeOptions,
+    bytes: &[u8],
+    room: &'a mut StepRoom,
+) -> Result<Piece<'a>, DecodingError>
+    requires { 0 < length bytes.now }
+    ensures within { IfOk result (λ piece. (0 < piece.read) × (piece.read ≤ length bytes.now)) }
+    ensures ok { IfOk result (λ piece. IsPiece (flavor_of options.flavor) options.lossy bytes.now
+        (drop piece.read bytes.now) piece.text.now) }
+    ensures err { OnErr result ((options.lossy ≡ false)
+        × HasFault (flavor_of options.flavor) bytes.now) }
+{
+    let at = read_steps(options, bytes, room)?;
+    match basic::from_utf8(&room[..at.written]) {
+        Ok(text) => Ok(Piece {
+            read: bytes.len() - at.rest.len(),
+            text,
+        }),
+        // What was written is UTF-8, so nothing is refused here.
+        Err(_) => Err(DecodingError(())),
+    }
+}
+
+/// Makes some exact steps, and writes the UTF-8 of what they read to the room.
+fn read_steps<'b>(
+    options: DecodeOptions,
+    bytes: &'b [u8],
+    room: &mut StepRoom,
+) -> Result<Place<'b>, DecodingError>
+    requires { 0 < length bytes.now }
+    ensures within { IfOk result (λ at. (length at.rest.now < length bytes.now)
+        × (at.written ≤ 128)) }
+    ensures rest { IfOk result (λ at. (front : List ℕ) × (bytes.now ≡ front ++ at.rest.now)) }
+    ensures ok { IfOk result (λ at. IsPiece (flavor_of options.flavor) options.lossy bytes.now
+        at.rest.now (take at.written room.new)) }
+    ensures err { OnErr result ((options.lossy ≡ false)
+        × HasFault (flavor_of options.flavor) bytes.now) }
+{
+    let mut at = Place {
+        rest: bytes,
+        written: 0,
+    };
+    let mut steps = 0;
+    while steps < STEPS && !at.rest.is_empty() {
+        at = read_step(options, at, room)?;
+        steps += 1;
+    }
+    Ok(at)
+}
+
+/// Writes the UTF-8 of the encoded character that begins what is left, or of the replacement
+/// character for one byte.
+#[inline(always)]
+fn read_step<'b>(
+    options: DecodeOptions,
+    at: Place<'b>,
+    room: &mut StepRoom,
+) -> Result<Place<'b>, DecodingError>
+    requires nonempty { 0 < length at.rest.now }
+    requires room { at.written + 4 ≤ 128 }
+    ensures ok { IfOk result (λ after. (c : ℕ)
+        × IsStep (flavor_of options.flavor) options.lossy at.entry.rest.now c after.rest.now
+        × (take after.written room.new ≡ take at.entry.written room.old ++ utf8_of c)) }
+    ensures room { IfOk result (λ after. after.written ≤ at.entry.written + 4) }
+    ensures err { OnErr result ((options.lossy ≡ false)
+        × NoneBegins (flavor_of options.flavor) at.entry.rest.now) }
+{
+    match first_character(options.flavor, at.rest) {
+        Some(EncodedCharacter::OneByte) => Ok(copy_front::<1>(at, room)),
+        Some(EncodedCharacter::TwoBytes) => Ok(copy_front::<2>(at, room)),
+        Some(EncodedCharacter::ThreeBytes) => Ok(copy_front::<3>(at, room)),
+        Some(EncodedCharacter::Null) => Ok(write_for(2, at, [0], room)),
         Some(EncodedCharacter::SurrogatePair) => {
-            push_all(joined([bytes[1], bytes[2], bytes[4], bytes[5]]), out);
-            Ok(&bytes[6..])
+            let pair = at.rest;
+            let bytes = joined(&[pair[0], pair[1], pair[2], pair[3], pair[4], pair[5], 0, 0]);
+            Ok(write_for(6, at, bytes, room))
         }
         None => {
             if !options.lossy {
                 return Err(DecodingError(()));
             }
-            push_all(REPLACEMENT, out);
-            Ok(&bytes[1..])
+            Ok(write_for(1, at, REPLACEMENT, room))
         }
     }
 }
 
-/// The four bytes of a character whose surrogate pair has these for its second, third, fifth and
-/// sixth.
-fn joined(pair: [u8; 4]) -> [u8; 4]
-    ensures { (c w x y z : ℕ) → IsPair c w x y z
-        → pair ≡ (0xA0 + w) ∷ (0x80 + x) ∷ (0xB0 + y) ∷ (0x80 + z) ∷ [] → result ≡ utf8_of c }
+/// Writes the first N bytes.
+#[inline(always)]
+fn copy_front<'b, const N: usize>(at: Place<'b>, room: &mut StepRoom) -> Place<'b>
+    requires long { N ≤ length at.rest.now }
+    requires room { at.written + N ≤ 128 }
+    ensures written { result.written ≡ at.entry.written + N }
+    ensures bytes { take result.written room.new ≡ take at.entry.written room.old
+        ++ take N at.entry.rest.now }
+    ensures rest { result.rest.now ≡ drop N at.entry.rest.now }
 {
-    let [high, middle, low, last] = pair;
-    let planes = (high & 0x0F) + 1;
-    [
-        0xF0 | (planes >> 2),
-        0x80 | ((planes & 0x03) << 4) | ((middle >> 2) & 0x0F),
-        0x80 | ((middle & 0x03) << 4) | (low & 0x0F),
-        last,
-    ]
+    room[at.written..at.written + N].copy_from_slice(&at.rest[..N]);
+    Place {
+        rest: &at.rest[N..],
+        written: at.written + N,
+    }
+}
+
+/// Writes some bytes for the first `read`.
+#[inline(always)]
+fn write_for<'b, const N: usize>(
+    read: usize,
+    at: Place<'b>,
+    bytes: [u8; N],
+    room: &mut StepRoom,
+) -> Place<'b>
+    requires long { read ≤ length at.rest.now }
+    requires room { at.written + N ≤ 128 }
+    ensures written { result.written ≡ at.entry.written + N }
+    ensures bytes { take result.written room.new ≡ take at.entry.written room.old ++ bytes.entry }
+    ensures rest { result.rest.now ≡ drop read at.entry.rest.now }
+{
+    room[at.written..at.written + N].copy_from_slice(&bytes);
+    Place {
+        rest: &at.rest[read..],
+        written: at.written + N,
+    }
 }

@@ -12,7 +12,7 @@
 //! becomes sixteen lanes, and one shuffle packs those that are written: `blocks` makes the lanes,
 //! `rows` has the shuffles, and `windows` has the loop over the text.
 
-ghost use Rattle.std.specs.Prelude.{◌≡◌, ◌+◌, ◌≤◌, ◌++◌, [], length, OnOk, OnErr, IfOk, IsOk, vec_len, vec_capacity};
+ghost use Rattle.std.specs.Prelude.{◌≡◌, ◌+◌, ◌≤◌, ◌++◌, ◌*◌, [], length, take, OnOk, OnErr, IfOk, IsOk, vec_len, vec_capacity};
 ghost use Rattle.std.specs.Str.{chars};
 ghost use Rattle.simd_cesu8.specs.Encoding.{encoding};
 ghost use Rattle.simd_cesu8.specs.Internal.{flavor_of};
@@ -22,9 +22,10 @@ mod rows;
 mod windows;
 
 use self::blocks::{OneByteNull, TwoByteNull};
-use self::windows::write_bytes;
+use self::windows::{SHORT, write_bytes, write_short};
 use super::Flavor;
 use super::lengths::encoded_len;
+use super::writers::copy;
 use std::alloc::{AllocError, Allocator};
 
 /// The encoding of a text, after one request for exactly its length.
@@ -34,6 +35,10 @@ pub fn encode<A: Allocator>(alloc: A, flavor: Flavor, text: &str) -> Result<Vec<
     ensures capacity { IfOk result (λ encoded.
         vec_capacity encoded ≡ length (encoding (flavor_of flavor) (chars text.now))) }
 {
+    if text.len() <= SHORT {
+        let (written, len) = encode_short(flavor, text);
+        return copy(alloc, &written[..len]);
+    }
     let mut encoded = Vec::with_capacity(alloc, encoded_len(flavor, text))?;
     write_text(flavor, text, &mut encoded);
     Ok(encoded)
@@ -62,6 +67,21 @@ pub fn encode_into<A: Allocator>(
     }
     write_text(flavor, text, out);
     Ok(())
+}
+
+/// The encoding of a short text, and its length. No pass counts that before.
+#[inline(always)]
+fn encode_short(flavor: Flavor, text: &str) -> ([u8; 2 * SHORT], usize)
+    requires { length text.now ≤ SHORT }
+    ensures bytes { take result.1 result.0 ≡ encoding (flavor_of flavor) (chars text.now) }
+    ensures len { result.1 ≤ 2 * SHORT }
+{
+    let mut written = [0; 2 * SHORT];
+    let len = match flavor {
+        Flavor::Cesu8 => write_short::<OneByteNull>(text.as_bytes(), &mut written),
+        Flavor::Mutf8 => write_short::<TwoByteNull>(text.as_bytes(), &mut written),
+    };
+    (written, len)
 }
 
 /// Appends the encoding of a text, for which there is room.

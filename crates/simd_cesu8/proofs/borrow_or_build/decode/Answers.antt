@@ -13,16 +13,16 @@ returns-in-Ok-clause-text c =
 
 pub returns-in_ok-decode_strict-in-Err-clause-text : goal.returns-in_ok-decode_strict-in-Err-clause-text
 returns-in_ok-decode_strict-in-Err-clause-text c =
-    built_lenient (flavor_of c.args.flavor) c.args.bytes.now (chars (string_bytes c.in_ok-decode_strict-in-Err.field-0)) c.in-Err.ensures.cases.0
+    built_lenient (flavor_of c.args.flavor) c.args.bytes.now (chars (string_bytes c.in_ok-decode_strict-in-Err.field-0)) c.in-Err.ensures.cases
     c.in_ok-decode_strict-in-Err.ensures.text
 
 pub returns-in_ok-decode_strict-in-Err-clause-borrowed : goal.returns-in_ok-decode_strict-in-Err-clause-borrowed
 returns-in_ok-decode_strict-in-Err-clause-borrowed c =
     let built = c.in_ok-decode_strict-in-Err.field-0 in
-    never_borrowed (not_utf8_differs c.args.bytes.now (string_bytes built) c.in-Err.ensures.cases.0 (IsUtf8-string_bytes built))
+    never_borrowed (not_utf8_differs c.args.bytes.now (string_bytes built) c.in-Err.ensures.cases (IsUtf8-string_bytes built))
 
 pub returns-in_err-decode_strict-in-Err-clause-invalid : goal.returns-in_err-decode_strict-in-Err-clause-invalid
 returns-in_err-decode_strict-in-Err-clause-invalid c =
-    let refused = refused_lenient (flavor_of c.args.flavor) c.args.bytes.now c.in_err-decode_strict-in-Err.field-0.0 c.in-Err.ensures.cases.0
+    let refused = refused_lenient (flavor_of c.args.flavor) c.args.bytes.now c.in_err-decode_strict-in-Err.field-0.0 c.in-Err.ensures.cases
     c.in_err-decode_strict-in-Err.ensures.invalid in
     search (rules, refused)

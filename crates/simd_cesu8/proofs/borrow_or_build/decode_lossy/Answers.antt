@@ -14,10 +14,10 @@ returns-in-Ok-clause-reading c =
 
 pub returns-in_ok-decode_lossy-in-Err-clause-reading : goal.returns-in_ok-decode_lossy-in-Err-clause-reading
 returns-in_ok-decode_lossy-in-Err-clause-reading c =
-    built_lenient_lossy (flavor_of c.args.flavor) c.args.bytes.now (chars (string_bytes c.in_ok-decode_lossy-in-Err.field-0)) c.in-Err.ensures.cases.0
+    built_lenient_lossy (flavor_of c.args.flavor) c.args.bytes.now (chars (string_bytes c.in_ok-decode_lossy-in-Err.field-0)) c.in-Err.ensures.cases
     c.in_ok-decode_lossy-in-Err.ensures.text
 
 pub returns-in_ok-decode_lossy-in-Err-clause-borrowed : goal.returns-in_ok-decode_lossy-in-Err-clause-borrowed
 returns-in_ok-decode_lossy-in-Err-clause-borrowed c =
     let built = c.in_ok-decode_lossy-in-Err.field-0 in
-    never_borrowed (not_utf8_differs c.args.bytes.now (string_bytes built) c.in-Err.ensures.cases.0 (IsUtf8-string_bytes built))
+    never_borrowed (not_utf8_differs c.args.bytes.now (string_bytes built) c.in-Err.ensures.cases (IsUtf8-string_bytes built))

@@ -10,6 +10,9 @@ use super::blocks::{NullForm, write_block, write_front};
 use super::rows::{Rows, rows};
 use std::alloc::Allocator;
 
+/// How many bytes a text has at most that one block encodes.
+pub const SHORT: usize = 32;
+
 /// The blocks of a window, of 32 bytes each.
 const BLOCKS: usize = 32;
 
@@ -19,21 +22,24 @@ pub fn write_bytes<N: NullForm, A: Allocator>(text: &[u8], out: &mut Vec<u8, A>)
     ensures bytes { out.new.items ≡ out.old.items ++ recoded N.flavor text.now }
     ensures capacity { vec_capacity out.new ≡ vec_capacity out.old }
 {
-    let window = behind_zeros(first_bytes(text));
-    if text.len() <= 32 {
-        return write_end::<N, A>(&window, text.len(), out);
+    if text.len() <= SHORT {
+        let mut written = [0; 2 * SHORT];
+        let end = write_short::<N>(text, &mut written);
+        return append(&written[..end], out);
     }
-    write_end::<N, A>(&window, 32, out);
+    write_end::<N, A>(&behind_zeros(&text[..33]), 32, out);
     let at = write_windows::<N, A>(text, out);
     write_end::<N, A>(&before_zeros(&text[at - 2..]), text.len() - at, out);
 }
 
-/// The first bytes of a text, as many as a block has, and one.
+/// Writes what the bytes of a short text become, and gives the end of it.
 #[inline(always)]
-fn first_bytes(text: &[u8]) -> &[u8]
-    ensures { result.now ≡ take 33 text.now }
+pub fn write_short<N: NullForm>(text: &[u8], out: &mut [u8; 2 * SHORT]) -> usize
+    requires { length text.now ≤ SHORT }
+    ensures bytes { take result out.new ≡ recoded N.flavor text.now }
+    ensures end { result ≤ 2 * SHORT }
 {
-    if text.len() <= 33 { text } else { &text[..33] }
+    write_front::<N>(&behind_zeros(text), text.len(), rows(), out)
 }
 
 /// A window of bytes before which there is nothing.

@@ -7,17 +7,17 @@ use Rattle.simd_cesu8.proofs.implementation.simd.any_in_each.Goals as goal
 pub loop-chunk-init : goal.loop-chunk-init
 loop-chunk-init g c = none_before_start (AnyIn g.C.Class.class) c.args.chunks.now
 
-pub returns-then-has_mark : goal.returns-then-has_mark
-returns-then-has_mark g c = (
+pub returns-then-has : goal.returns-then-has
+returns-then-has g c = (
   (λ _. any_at (AnyIn g.C.Class.class) c.args.chunks.now c.loop-chunk.chunk-index c.chunk-item.result c.loop-chunk-test.true
-      c.chunk-item.is (c.marks.ensures.0 (c.has_mark.ensures.0 c.if-has_mark.true))),
+      c.chunk-item.is (c.has.ensures.0 c.if-has.true)),
   (λ _. refl),
 )
 
 pub loop-chunk-preserved : goal.loop-chunk-preserved
 loop-chunk-preserved g c =
     none_with_next (AnyIn g.C.Class.class) c.args.chunks.now c.loop-chunk.chunk-index c.chunk-item.result c.loop-chunk-test.true
-    c.chunk-item.is c.loop-chunk.invariant (λ p. iff_false c.has_mark.ensures c.if-has_mark.false (c.marks.ensures.1 p))
+    c.chunk-item.is c.loop-chunk.invariant (iff_false c.has.ensures c.if-has.false)
 
 pub returns : goal.returns
 returns g c =

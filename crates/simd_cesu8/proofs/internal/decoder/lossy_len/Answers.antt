@@ -6,7 +6,7 @@ use Rattle.simd_cesu8.proofs.Decoding.{lossy_length_nil}
 use Rattle.simd_cesu8.proofs.internal.decoder.lossy_len.Goals as goal
 
 pub loop-rest-preserved : goal.loop-rest-preserved
-loop-rest-preserved c = rw take_rest (omega (arith, c.loop-rest.invariant, c.lossy_step-width.ensures.gives))
+loop-rest-preserved c = rw take_rest (omega (arith, c.loop-rest.invariant, c.measure_piece-read.ensures.gives))
 
 pub returns-clause-some : goal.returns-clause-some
 returns-clause-some c =

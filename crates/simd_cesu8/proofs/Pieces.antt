@@ -1,0 +1,111 @@
+-- Text that is read a piece at a time.
+use Rattle.std.proofs.Common.{◌≡◌, ℕ, ◌+◌, ◌-◌, ◌<◌, Bool, true, false, List, [], ◌++◌, Option, Some, IfSome, refl, sym, ap, ◌∙◌, subst, arith, length, take, drop, append_assoc, length-append}
+use Rattle.std.specs.Str.{chars, IsUtf8}
+use Rattle.std.proofs.Math.Seq.{drop-append_seam}
+use Rattle.std.proofs.lemmas.List.{take-append-drop}
+use Rattle.simd_cesu8.specs.Text.{utf8}
+use Rattle.simd_cesu8.specs.Encoding.{Flavor, encoding}
+use Rattle.simd_cesu8.specs.Reading.{NoneBegins, IsStrictReading, HasNoStrictReading, reading, lossy_length}
+use Rattle.simd_cesu8.specs.Fault.{IfInvalid}
+use Rattle.simd_cesu8.specs.declared.error.DecodeFault.{DecodeFault}
+use Rattle.simd_cesu8.specs.declared.error.DecodeFault.TheVariants.{Invalid, Memory}
+use Rattle.simd_cesu8.specs.Internal.{IsDecodedText}
+use Rattle.simd_cesu8.specs.Pieces.{IsReadSoFar, IsPiece, HasFault}
+use Rattle.simd_cesu8.proofs.StdUtf8.{IsUtf8Of_chars, IsUtf8_utf8, chars_utf8}
+use Rattle.simd_cesu8.proofs.Encodings.{encoding_append}
+use Rattle.simd_cesu8.proofs.EncodedTexts.{reading_text}
+use Rattle.simd_cesu8.proofs.Unique.{no_reading}
+use Rattle.simd_cesu8.proofs.Decoding.{IsText_append, utf8_append}
+
+-- A piece adds its text.
+pub more_read : (f : Flavor) (lossy : Bool) (bytes rest after old out piece new : List ℕ) →
+    IsReadSoFar f lossy bytes rest old out → IsPiece f lossy rest after piece → new ≡ out ++ piece →
+    IsReadSoFar f lossy bytes after old new
+more_read f lossy bytes rest after old out piece new so_far next new_is = record {
+  text = so_far.text ++ next.text;
+  scalars = IsText_append so_far.text next.text so_far.scalars next.scalars;
+  lossy_reading = so_far.lossy_reading ∙ ap (λ cs. so_far.text ++ cs) next.lossy_reading
+      ∙ sym (append_assoc so_far.text next.text (reading f after));
+  strict_reading = λ strict. so_far.strict_reading strict
+      ∙ ap (λ bs. encoding f so_far.text ++ bs) (next.strict_reading strict)
+      ∙ rw (encoding_append f so_far.text next.text)
+      (sym (append_assoc (encoding f so_far.text) (encoding f next.text) after));
+  written = new_is ∙ ap (λ bs. out ++ bs) next.written ∙ ap (λ bs. bs ++ utf8 next.text) so_far.written
+      ∙ append_assoc old (utf8 so_far.text) (utf8 next.text)
+      ∙ ap (λ bs. old ++ bs) (sym (utf8_append so_far.text next.text));
+}
+
+-- Bytes that are the encoding of a text are a piece.
+pub piece_of_encoding : (f : Flavor) (lossy : Bool) (bytes text : List ℕ) (n : ℕ) → IsUtf8 text →
+    IsStrictReading f (take n bytes) (chars text) → IsPiece f lossy bytes (drop n bytes) text
+piece_of_encoding f lossy bytes text n is_utf8 reads =
+    let bytes_are : bytes ≡ encoding f (chars text) ++ drop n bytes =
+    sym (take-append-drop n bytes) ∙ ap (λ bs. bs ++ drop n bytes) (sym reads.1) in
+    record {
+      text = chars text;
+      scalars = reads.0;
+      lossy_reading = ap (reading f) bytes_are ∙ reading_text f (chars text) (drop n bytes) reads.0;
+      strict_reading = λ _. bytes_are;
+      written = sym (IsUtf8Of_chars text is_utf8).1;
+    }
+
+-- What is read is UTF-8.
+pub piece_utf8 : (f : Flavor) (lossy : Bool) (bytes rest piece : List ℕ) → IsPiece f lossy bytes rest piece → IsUtf8 piece
+piece_utf8 f lossy bytes rest piece read = subst IsUtf8 (sym read.written) (IsUtf8_utf8 read.text read.scalars)
+
+-- A fault after a piece is one of the whole.
+pub fault_after : (f : Flavor) (lossy : Bool) (bytes rest old out : List ℕ) → IsReadSoFar f lossy bytes rest old out →
+    lossy ≡ false → HasFault f rest → HasNoStrictReading f bytes
+fault_after f lossy bytes rest old out so_far strict fault =
+    let whole : bytes ≡ encoding f (so_far.text ++ fault.before.text) ++ fault.rest =
+    so_far.strict_reading strict ∙ ap (λ bs. encoding f so_far.text ++ bs) (fault.before.strict_reading refl)
+    ∙ sym (append_assoc (encoding f so_far.text) (encoding f fault.before.text) fault.rest)
+    ∙ ap (λ bs. bs ++ fault.rest) (sym (encoding_append f so_far.text fault.before.text)) in
+    no_reading f bytes (so_far.text ++ fault.before.text) fault.rest
+    (IsText_append so_far.text fault.before.text so_far.scalars fault.before.scalars) whole fault.some fault.none_begins
+
+-- So it is where the next piece is refused.
+pub refused_after : (f : Flavor) (lossy : Bool) (bytes rest old out : List ℕ) (fault : DecodeFault) →
+    IsReadSoFar f lossy bytes rest old out → IfInvalid fault ((lossy ≡ false) × HasFault f rest) →
+    IfInvalid fault (HasNoStrictReading f bytes)
+refused_after f lossy bytes rest old out (Invalid error) so_far refused =
+    fault_after f lossy bytes rest old out so_far refused.0 refused.1
+refused_after f lossy bytes rest old out (Memory error) so_far memory = memory
+
+-- Where no character begins what is left, there is a fault.
+pub fault_here : (f : Flavor) (lossy : Bool) (bytes rest piece : List ℕ) → IsPiece f lossy bytes rest piece → lossy ≡ false →
+    0 < length rest → NoneBegins f rest → HasFault f bytes
+fault_here f lossy bytes rest piece before strict some none_begins = record {
+  rest = rest;
+  piece = piece;
+  before = subst (λ l. IsPiece f l bytes rest piece) strict before;
+  some = some;
+  none_begins = none_begins;
+}
+
+-- The text of what was decoded into nothing.
+pub decoded_text : (f : Flavor) (lossy : Bool) (bytes old out : List ℕ) → old ≡ [] →
+    ((text : List ℕ) × IsDecodedText f lossy bytes text × (out ≡ old ++ utf8 text)) → IsDecodedText f lossy bytes (chars out)
+decoded_text f lossy bytes old out nothing read =
+    subst (IsDecodedText f lossy bytes)
+    (sym (ap chars (read.2 ∙ ap (λ bs. bs ++ utf8 read.0) nothing) ∙ chars_utf8 read.0 read.1.0)) read.1
+
+-- A piece adds its length to that of the lossy reading.
+pub piece_length : (f : Flavor) (bytes rest piece : List ℕ) → IsPiece f true bytes rest piece →
+    lossy_length f bytes ≡ length piece + lossy_length f rest
+unfolding lossy_length
+piece_length f bytes rest piece read =
+    ap (λ text. length (utf8 text)) read.lossy_reading ∙ ap length (utf8_append read.text (reading f rest))
+    ∙ length-append (utf8 read.text) (utf8 (reading f rest)) ∙ ap (λ bs. length bs + length (utf8 (reading f rest))) (sym read.written)
+
+-- What is left after a front is what is dropped for it.
+pub rest_of_front : (bytes rest : List ℕ) → ((front : List ℕ) × (bytes ≡ front ++ rest)) →
+    drop (length bytes - length rest) bytes ≡ rest
+rest_of_front bytes rest front =
+    let long : length bytes - length rest ≡ length front.0 =
+    omega (arith, ap length front.1, length-append front.0 rest) in
+    ap (λ n. drop n bytes) long ∙ ap (drop (length front.0)) front.1 ∙ drop-append_seam front.0 rest
+
+-- What holds of an answer that is there holds of it where it is known which.
+pub where_some : {T : Type 0} (answer : Option T) (x : T) (P : T → Type 0) → answer ≡ Some x → IfSome answer P → P x
+where_some answer x P is holds = subst (λ o. IfSome o P) is holds

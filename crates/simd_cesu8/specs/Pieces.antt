@@ -1,0 +1,25 @@
+-- Text that is read a piece at a time.
+use Rattle.std.specs.Prelude.{◌≡◌, ℕ, ◌<◌, Bool, false, List, [], ◌++◌, length}
+use Rattle.simd_cesu8.specs.Text.{IsText, utf8}
+use Rattle.simd_cesu8.specs.Encoding.{Flavor, encoding}
+use Rattle.simd_cesu8.specs.Reading.{NoneBegins, reading}
+
+-- The text so far, whose UTF-8 was written after old, and the bytes that are left.
+pub record IsReadSoFar (f : Flavor) (lossy : Bool) (bytes rest old new : List ℕ) : Type 0 where
+  pub text : List ℕ
+  pub scalars : IsText text
+  pub lossy_reading : reading f bytes ≡ text ++ reading f rest
+  pub strict_reading : lossy ≡ false → bytes ≡ encoding f text ++ rest
+  pub written : new ≡ old ++ utf8 text
+
+-- A piece of text, in UTF-8, is read before the rest.
+abbrev pub IsPiece : Flavor → Bool → List ℕ → List ℕ → List ℕ → Type 0
+IsPiece f lossy bytes rest piece = IsReadSoFar f lossy bytes rest [] piece
+
+-- After some text no encoded character begins what is left.
+pub record HasFault (f : Flavor) (bytes : List ℕ) : Type 0 where
+  pub rest : List ℕ
+  pub piece : List ℕ
+  pub before : IsPiece f false bytes rest piece
+  pub some : 0 < length rest
+  pub none_begins : NoneBegins f rest

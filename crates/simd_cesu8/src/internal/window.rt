@@ -1,0 +1,76 @@
+//! Windows: a stretch of bytes is joined into a room, and read where UTF-8 comes out.
+
+ghost use Rattle.std.specs.Prelude.{◌<◌, ◌≤◌, length, take, drop, Bool, IfSome};
+ghost use Rattle.simd_cesu8.specs.Encoding.{Flavor as AnyFlavor};
+ghost use Rattle.simd_cesu8.specs.Internal.{flavor_of};
+ghost use Rattle.simd_cesu8.specs.Joining.{IsJoined};
+ghost use Rattle.simd_cesu8.specs.Pieces.{IsPiece};
+
+use super::joining::{REACH, Room, WINDOW, join};
+use super::{Flavor, contains_changed};
+use simdutf8::basic;
+
+/// How many bytes are no window's worth.
+pub const SHORT: usize = 64;
+
+/// The text of the first bytes, and how many they are.
+#[derive(Drop)]
+pub struct Piece<'a> {
+    pub read: usize,
+    pub text: &'a str,
+}
+
+/// Reads a window of at most so many bytes and a character. Where it gives none, nothing is said of
+/// the bytes.
+pub fn read_window<'a>(
+    flavor: Flavor,
+    bytes: &[u8],
+    len: usize,
+    room: &'a mut Room,
+) -> Option<Piece<'a>>
+    requires { 64 < length bytes.now }
+    ensures within { IfSome result (λ piece. (0 < piece.read) × (piece.read ≤ length bytes.now)) }
+    ensures text { IfSome result (λ piece. (lossy : Bool) → IsPiece (flavor_of flavor) lossy
+        bytes.now (drop piece.read bytes.now) piece.text.now) }
+{
+    let (read, written) = join_window(flavor, bytes, len, room);
+    if read == 0 {
+        return None;
+    }
+    if contains_changed(flavor, &bytes[..read]) {
+        return None;
+    }
+    match basic::from_utf8(&room[..written]) {
+        Ok(text) => Some(Piece { read, text }),
+        Err(_) => None,
+    }
+}
+
+/// Joins the first bytes, up to the end of a character. Gives how many it read, and how many it wrote.
+fn join_window(flavor: Flavor, bytes: &[u8], len: usize, room: &mut Room) -> (usize, usize)
+    requires { 64 < length bytes.now }
+    ensures within { (result.0 ≤ length bytes.now) × (result.1 ≤ 1036) }
+    ensures joined { IsJoined (flavor_of flavor) (take result.0 bytes.now)
+        (take result.1 room.new) }
+{
+    let end = len.min(WINDOW).min(bytes.len() - REACH);
+    let (read, written) = join(flavor, bytes, end, room);
+    copy_end(bytes, read, written, room)
+}
+
+/// Copies the continuation bytes that stand at a place.
+fn copy_end(bytes: &[u8], start: usize, filled: usize, room: &mut Room) -> (usize, usize)
+    requires { (start ≤ length bytes.now) × (filled ≤ 1030) }
+    ensures within { (result.0 ≤ length bytes.now) × (result.1 ≤ 1036) }
+    ensures joined { (f : AnyFlavor) → IsJoined f (take start bytes.now) (take filled room.old)
+        → IsJoined f (take result.0 bytes.now) (take result.1 room.new) }
+{
+    let mut read = start;
+    let mut written = filled;
+    while read < bytes.len() && bytes[read] & 0xC0 == 0x80 && written < 1036 {
+        room[written] = bytes[read];
+        read += 1;
+        written += 1;
+    }
+    (read, written)
+}
