@@ -1,7 +1,7 @@
 //! Measures the library's calls, through the static library `cesu8_static`, beside a plain copy and
 //! `str::from_utf8`, in one run on one machine. README.md says how to run it and what it prints.
 //!
-//! Usage: driver [--rounds N] [NAME=FILE ..]
+//! Usage: driver [--rounds N] [--machine WORDS] [--picture FILE] [NAME=FILE ..]
 //!
 //! Each FILE is a shared object with the calls that `crates/cesu8_static/include/cesu8_static.h`
 //! declares, or some of them, which is measured in the same rounds.
@@ -12,62 +12,98 @@ mod damage;
 mod expected;
 mod kernels;
 mod lengths;
+mod picture;
 mod sets;
 mod table;
 mod texts;
 mod timing;
 
 use crate::built::built_table;
-use crate::codec::Codec;
+use crate::codec::{Action, Codec};
 use crate::damage::damage_table;
 use crate::kernels::kernel_table;
+use crate::picture::{Run, picture};
 use crate::table::Table;
 use crate::texts::TextTable;
-use std::{env, process};
+use std::{env, fs, process};
 
 const DEFAULT_ROUNDS: u32 = 4_000;
 
-fn run(rounds: u32, codecs: &[Codec]) -> Result<(), String> {
+const USAGE: &str = "usage: driver [--rounds N] [--machine WORDS] [--picture FILE] [NAME=FILE ..]";
+
+/// What the words after the driver's name ask for.
+struct Asked {
+    rounds: u32,
+    /// The date and the machine, as the picture names them.
+    machine: String,
+    /// Where the picture is written.
+    picture: Option<String>,
+    codecs: Vec<Codec>,
+}
+
+/// Writes the picture of the first codec, beside the second where there is one.
+fn draw(file: &str, asked: &Asked, table: &Table, texts: &TextTable) -> Result<(), String> {
+    let panels = [texts.panel(), table.panel(Action::DecodeStrict)];
+    let run = Run {
+        machine: &asked.machine,
+        copy: table.copy(),
+        other: asked.codecs.get(1).map(|codec| codec.name.as_str()),
+    };
+    fs::write(file, picture(&run, &panels)?).map_err(|error| format!("{file}: {error}"))
+}
+
+fn run(asked: &Asked) -> Result<(), String> {
+    let codecs = &asked.codecs;
     let mut table = Table::of(codecs)?;
     let mut built = built_table(codecs)?;
     let mut damage = damage_table(codecs)?;
     let mut kernels = kernel_table(codecs, table.ascii())?;
     let mut texts = TextTable::of(codecs)?;
-    table.measure(rounds);
-    texts.measure(rounds);
-    built.measure(rounds);
-    damage.measure(rounds);
-    kernels.measure(rounds);
-    table.print(rounds);
+    table.measure(asked.rounds);
+    texts.measure(asked.rounds);
+    built.measure(asked.rounds);
+    damage.measure(asked.rounds);
+    kernels.measure(asked.rounds);
+    table.print(asked.rounds);
     texts.print();
     built.print();
     damage.print();
     kernels.print();
-    Ok(())
+    match &asked.picture {
+        Some(file) => draw(file, asked, &table, &texts),
+        None => Ok(()),
+    }
 }
 
-fn arguments() -> Result<(u32, Vec<Codec>), String> {
-    let mut rounds = DEFAULT_ROUNDS;
-    let mut codecs = vec![Codec::linked()];
+fn asked() -> Result<Asked, String> {
+    let mut asked = Asked {
+        rounds: DEFAULT_ROUNDS,
+        machine: String::new(),
+        picture: None,
+        codecs: vec![Codec::linked()],
+    };
     let mut words = env::args().skip(1);
     while let Some(word) = words.next() {
-        if word == "--rounds" {
-            let number = words.next().ok_or("--rounds needs a number")?;
-            rounds = number
-                .parse()
-                .map_err(|_| format!("{number} is no number of rounds"))?;
-        } else if let Some((name, file)) = word.split_once('=') {
-            codecs.push(Codec::opened(name, file)?);
-        } else {
-            return Err("usage: driver [--rounds N] [NAME=FILE ..]".to_string());
+        let mut value = || words.next().ok_or(format!("{word} needs a value"));
+        match word.as_str() {
+            "--rounds" => {
+                let number = value()?;
+                let rounds = number.parse();
+                asked.rounds = rounds.map_err(|_| format!("{number} is no number of rounds"))?;
+            }
+            "--machine" => asked.machine = value()?,
+            "--picture" => asked.picture = Some(value()?),
+            _ => match word.split_once('=') {
+                Some((name, file)) => asked.codecs.push(Codec::opened(name, file)?),
+                None => return Err(USAGE.to_string()),
+            },
         }
     }
-    Ok((rounds, codecs))
+    Ok(asked)
 }
 
 fn main() {
-    let result = arguments().and_then(|(rounds, codecs)| run(rounds, &codecs));
-    if let Err(error) = result {
+    if let Err(error) = asked().and_then(|asked| run(&asked)) {
         eprintln!("{error}");
         process::exit(1);
     }

@@ -42,5 +42,6 @@ build "$cpu"
 rustc --edition 2024 -O -o "$out/driver" "$bench/driver.rs" \
     -L "native=$out/$cpu" -l static=cesu8_static -L "native=$kit/c" -l static=libc_c
 
-echo "$(date +%F), $(grep -m 1 'model name' /proc/cpuinfo | sed 's/.*: //'), library built for $cpu"
-"$out/driver" "$@"
+machine="$(date +%F), $(grep -m 1 'model name' /proc/cpuinfo | sed 's/.*: //'), library built for $cpu"
+echo "$machine"
+"$out/driver" --machine "$machine" "$@"

@@ -1,6 +1,7 @@
 //! All that is measured, and the tables of it.
 
 use crate::codec::{ACTIONS, Action, Call, Codec, FLAVORS, Flavor, answers, call_name};
+use crate::picture::{Bars, Panel};
 use crate::sets::{INPUT_LENGTH, Set, sets};
 use crate::timing::{Measured, call_run, copy_run, utf8_run};
 
@@ -111,8 +112,33 @@ impl Table<'_> {
         }
     }
 
+    /// The speed of the plain copy, in GB/s.
+    pub fn copy(&self) -> f64 {
+        self.measured[0].gigabytes()
+    }
+
+    /// What a picture shows of one call.
+    pub fn panel(&self, action: Action) -> Panel {
+        let speeds = |row: &Row| row.calls.map(|call| Some(self.measured[call?].gigabytes()));
+        let of = |codec: usize| {
+            let rows = self.rows.iter();
+            rows.filter(move |row| row.codec == codec && row.action == action)
+        };
+        let rows = of(0).map(|row| Bars {
+            title: self.sets[row.set].name.to_string(),
+            speeds: speeds(row),
+            others: of(1)
+                .find(|other| other.set == row.set)
+                .map_or([None, None], speeds),
+        });
+        Panel {
+            title: action.title().to_string(),
+            rows: rows.collect(),
+        }
+    }
+
     pub fn print(&self, rounds: u32) {
-        let copy = self.measured[0].gigabytes();
+        let copy = self.copy();
         println!(
             "Inputs of {INPUT_LENGTH} bytes, best of {rounds} rounds, in GB/s. A plain copy: {copy:.1} GB/s."
         );

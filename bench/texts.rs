@@ -3,11 +3,15 @@
 
 use crate::codec::{Action, Call, Codec, FLAVORS, Flavor, answers, call_name};
 use crate::expected::encoded;
+use crate::picture::{Bars, Panel};
 use crate::sets::{Kind, text_of};
 use crate::timing::{Measured, call_run};
 use std::str;
 
 const LENGTHS: [usize; 5] = [24, 200, 1_024, 16_380, 16_777_212];
+
+/// The length whose speeds the picture shows.
+const PICTURED: usize = 16_380;
 
 /// One text, and the places of its calls in the list of what is measured: for each codec the test
 /// alone, and `encode` in both flavors.
@@ -104,6 +108,26 @@ impl TextTable<'_> {
         let calls = row.calls[codec]?;
         let seconds = |at: usize| self.measured[calls[at]].seconds();
         Some(row.length as f64 / (seconds(1 + flavor) - seconds(0)) / 1e9)
+    }
+
+    /// What a picture shows of `encode`.
+    pub fn panel(&self) -> Panel {
+        let speeds = |row: &Row, codec: usize| {
+            [0, 1].map(|flavor| {
+                let is_there = codec < self.codecs.len();
+                is_there.then(|| self.speed(row, codec, flavor)).flatten()
+            })
+        };
+        let rows = self.rows.iter().filter(|row| row.length == PICTURED);
+        let rows = rows.map(|row| Bars {
+            title: row.kind.title().to_string(),
+            speeds: speeds(row, 0),
+            others: speeds(row, 1),
+        });
+        Panel {
+            title: "encode, of a text".to_string(),
+            rows: rows.collect(),
+        }
     }
 
     pub fn print(&self) {

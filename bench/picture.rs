@@ -1,0 +1,169 @@
+//! The speeds of one run as a picture: a bar for each kind of text and encoding, its length the ratio
+//! to a plain copy on a logarithmic scale, and a line across it where another codec's bar would end.
+
+use std::fmt::{self, Write};
+
+/// What is drawn of one kind of text: bytes in nanoseconds, in CESU-8 and in MUTF-8, of this codec and
+/// of the other one.
+pub struct Bars {
+    pub title: String,
+    pub speeds: [Option<f64>; 2],
+    pub others: [Option<f64>; 2],
+}
+
+/// The bars of one call.
+pub struct Panel {
+    pub title: String,
+    pub rows: Vec<Bars>,
+}
+
+/// What the picture says of its run.
+pub struct Run<'a> {
+    /// The date, the machine, and what the library was built for.
+    pub machine: &'a str,
+    /// The speed of a plain copy.
+    pub copy: f64,
+    /// The name of the codec beside this one, where there is one.
+    pub other: Option<&'a str>,
+}
+
+const WIDTH: f64 = 880.0;
+/// Where the bars begin, and how long that of a plain copy is.
+const BARS: f64 = 250.0;
+const COPY_LENGTH: f64 = 380.0;
+/// The ratio to a plain copy at which a bar has no length.
+const LEAST: f64 = 0.001;
+const ROW: f64 = 26.0;
+const BAR: f64 = 10.0;
+const TOP: f64 = 84.0;
+const NAMES: [&str; 2] = ["CESU-8", "MUTF-8"];
+
+/// How long the bar of this ratio to a plain copy is.
+fn bar_length(ratio: f64) -> f64 {
+    let part = (ratio / LEAST).log10() / LEAST.recip().log10();
+    (COPY_LENGTH * part).max(0.0)
+}
+
+fn text(svg: &mut String, x: f64, y: f64, style: &str, words: &str) -> fmt::Result {
+    let words = words.replace('&', "&amp;").replace('<', "&lt;");
+    writeln!(svg, r#"<text x="{x:.0}" y="{y:.1}" {style}>{words}</text>"#)
+}
+
+fn legend(svg: &mut String, run: &Run<'_>) -> fmt::Result {
+    text(
+        svg,
+        16.0,
+        24.0,
+        r#"class="head""#,
+        "simd_cesu8: speed by kind of text, 16,380 bytes",
+    )?;
+    text(svg, 16.0, 42.0, r#"class="note""#, run.machine)?;
+    for (at, name) in NAMES.iter().enumerate() {
+        let x = 16.0 + 90.0 * at as f64;
+        writeln!(
+            svg,
+            r#"<rect x="{x}" y="54" width="11" height="11" class="bar{at}"/>"#
+        )?;
+        text(svg, x + 16.0, 63.5, "", name)?;
+    }
+    let copy = format!(
+        "bar: ratio to a plain copy ({:.0} GB/s), logarithmic",
+        run.copy
+    );
+    text(svg, 196.0, 63.5, r#"class="note""#, &copy)?;
+    if let Some(other) = run.other {
+        let line = format!("black line, and × at the right: {other}, in the same run");
+        text(svg, 520.0, 63.5, r#"class="note""#, &line)?;
+    }
+    Ok(())
+}
+
+/// The scale over the bars of a panel, and its lines through them.
+fn scale(svg: &mut String, y: f64, height: f64) -> fmt::Result {
+    for mark in [0.001, 0.01, 0.1, 1.0] {
+        let x = BARS + bar_length(mark);
+        let end = y + height;
+        writeln!(svg, r#"<path d="M{x:.1} {y:.1}V{end:.1}" class="scale"/>"#)?;
+        text(svg, x, y - 4.0, r#"class="mark""#, &mark.to_string())?;
+    }
+    Ok(())
+}
+
+fn bar(svg: &mut String, y: f64, at: usize, bars: &Bars, copy: f64) -> fmt::Result {
+    let Some(speed) = bars.speeds[at] else {
+        return Ok(());
+    };
+    let width = bar_length(speed / copy);
+    writeln!(
+        svg,
+        r#"<rect x="{BARS}" y="{y:.1}" width="{width:.1}" height="{BAR}" class="bar{at}"/>"#
+    )?;
+    let mut words = format!("{speed:.2} GB/s");
+    if let Some(other) = bars.others[at] {
+        let x = BARS + bar_length(other / copy);
+        let end = y + BAR;
+        writeln!(svg, r#"<path d="M{x:.1} {y:.1}V{end:.1}" class="other"/>"#)?;
+        write!(words, ", {:.1}×", speed / other)?;
+    }
+    text(
+        svg,
+        BARS + COPY_LENGTH + 16.0,
+        y + 9.5,
+        r#"class="note""#,
+        &words,
+    )
+}
+
+fn panel(svg: &mut String, y: f64, panel: &Panel, copy: f64) -> fmt::Result {
+    text(svg, 16.0, y - 4.0, r#"class="call""#, &panel.title)?;
+    scale(svg, y, ROW * panel.rows.len() as f64)?;
+    for (at, bars) in panel.rows.iter().enumerate() {
+        let top = y + 2.5 + ROW * at as f64;
+        text(svg, 16.0, top + 14.0, "", &bars.title)?;
+        bar(svg, top, 0, bars, copy)?;
+        bar(svg, top + BAR + 1.0, 1, bars, copy)?;
+    }
+    Ok(())
+}
+
+fn drawn(run: &Run<'_>, panels: &[Panel]) -> Result<String, fmt::Error> {
+    let mut svg = String::new();
+    let mut y = TOP + 20.0;
+    for one in panels {
+        panel(&mut svg, y, one, run.copy)?;
+        y += ROW * one.rows.len() as f64 + 44.0;
+    }
+    let height = y - 20.0;
+    let mut whole = String::new();
+    writeln!(
+        whole,
+        r#"<svg xmlns="http://www.w3.org/2000/svg" viewBox="0 0 {WIDTH} {height}" width="{WIDTH}">"#
+    )?;
+    whole.push_str(STYLE);
+    writeln!(
+        whole,
+        r#"<rect width="{WIDTH}" height="{height}" fill="white"/>"#
+    )?;
+    legend(&mut whole, run)?;
+    whole.push_str(&svg);
+    whole.push_str("</svg>\n");
+    Ok(whole)
+}
+
+const STYLE: &str = "<style>
+text { font: 12px sans-serif; fill: #222 }
+.bar0 { fill: #2f6f9f }
+.bar1 { fill: #c1762a }
+.head { font-size: 16px; font-weight: bold }
+.call { font-weight: bold }
+.note { font-size: 11px; fill: #444 }
+.other { stroke: black; stroke-width: 2 }
+.scale { stroke: #ccc }
+.mark { font-size: 10px; fill: #666; text-anchor: middle }
+</style>
+";
+
+/// The picture, as SVG.
+pub fn picture(run: &Run<'_>, panels: &[Panel]) -> Result<String, String> {
+    drawn(run, panels).map_err(|error| error.to_string())
+}
