@@ -80,6 +80,28 @@ fn decodes_the_same_by_every_call(rt: HostRuntime) {
     }
 }
 
+/// Compares what `decode` and `decode_strict` answer to bytes.
+fn compare_decoding(
+    rt: &impl Abort,
+    alloc: Global,
+    flavor: Flavor,
+    bytes: &[u8],
+    (lenient, strict): (Outcome<'_>, Outcome<'_>),
+) {
+    let result = Decoder::Decode(flavor).call(alloc, bytes);
+    assert_eq!(rt;
+        outcome_of(&result),
+        lenient,
+        "{flavor:?}, decode of {bytes:?}"
+    );
+    let result = Decoder::DecodeStrict(flavor).call(alloc, bytes);
+    assert_eq!(rt;
+        outcome_of(&result),
+        strict,
+        "{flavor:?}, decode_strict of {bytes:?}"
+    );
+}
+
 #[test]
 fn decodes_bytes(rt: HostRuntime) {
     // The bytes, and the answers of `decode` and of `decode_strict`.
@@ -93,18 +115,7 @@ fn decodes_bytes(rt: HostRuntime) {
         (Mutf8, b"\x00\xC0\x80", Invalid, Invalid),
     ];
     for (flavor, bytes, lenient, strict) in rows {
-        let result = Decoder::Decode(flavor).call(rt.alloc(), bytes);
-        assert_eq!(rt;
-            outcome_of(&result),
-            lenient,
-            "{flavor:?}, decode of {bytes:?}"
-        );
-        let result = Decoder::DecodeStrict(flavor).call(rt.alloc(), bytes);
-        assert_eq!(rt;
-            outcome_of(&result),
-            strict,
-            "{flavor:?}, decode_strict of {bytes:?}"
-        );
+        compare_decoding(&rt, rt.alloc(), flavor, bytes, (lenient, strict));
     }
 }
 
@@ -122,18 +133,7 @@ fn decodes_four_bytes(rt: HostRuntime) {
     ];
     for flavor in FLAVORS {
         for (bytes, lenient, strict) in rows {
-            let result = Decoder::Decode(flavor).call(rt.alloc(), bytes);
-            assert_eq!(rt;
-                outcome_of(&result),
-                lenient,
-                "{flavor:?}, decode of {bytes:?}"
-            );
-            let result = Decoder::DecodeStrict(flavor).call(rt.alloc(), bytes);
-            assert_eq!(rt;
-                outcome_of(&result),
-                strict,
-                "{flavor:?}, decode_strict of {bytes:?}"
-            );
+            compare_decoding(&rt, rt.alloc(), flavor, bytes, (lenient, strict));
         }
     }
 }

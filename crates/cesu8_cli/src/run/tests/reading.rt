@@ -1,6 +1,7 @@
 //! Readers that are slow, that fail, and that give less than they say.
 
-use super::devices::{ClaimingReader, KINDS, Reader, WatchedWriter, WatchingReader, Writer};
+use super::devices::{ClaimingReader, Reader, WatchedWriter, WatchingReader, Writer};
+use super::error_kinds::KINDS;
 use super::{DONE, FAILED, INVALID, PAIRS, TRUNCATED, shown};
 use crate::run::run;
 use std::cell::Cell;

@@ -1,6 +1,7 @@
 //! Writers that are slow, that take nothing, and that fail.
 
-use super::devices::{KINDS, Writer};
+use super::devices::Writer;
+use super::error_kinds::KINDS;
 use super::{DONE, FAILED, PAIRS, shown};
 use crate::run::run;
 
