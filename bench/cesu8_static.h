@@ -1,4 +1,4 @@
-// The calls of crates/cesu8_static, for C.
+// The calls of crates/measured, which bench measures, and of other codecs that it measures beside.
 #ifndef CESU8_STATIC_H
 #define CESU8_STATIC_H
 

@@ -1,6 +1,6 @@
-//! The calls of `simd_cesu8` for C, over byte slices.
+//! The calls of `simd_cesu8` as bench measures them, over byte slices.
 //!
-//! Each slice is passed as a pointer and a length, as `include/cesu8_static.h` declares it. The
+//! Each slice is passed as a pointer and a length, as `bench/cesu8_static.h` declares it. The
 //! answer is made as the library makes it, and then copied to the front of `room` where it fits
 //! there. So a call with an empty room costs what the library's call costs, and tells how much
 //! room its answer needs. Before an encoder's call, or one that tells of an encoding, its input
