@@ -1,9 +1,9 @@
-//! Measures the library's calls, through the static library `cesu8_static`, beside a plain copy and
+//! Measures the library's calls, through the static library `measured`, beside a plain copy and
 //! `str::from_utf8`, in one run on one machine. README.md says how to run it and what it prints.
 //!
 //! Usage: driver [--rounds N] [--machine WORDS] [--picture FILE] [NAME=FILE ..]
 //!
-//! Each FILE is a shared object with the calls that `crates/cesu8_static/include/cesu8_static.h`
+//! Each FILE is a shared object with the calls that `bench/cesu8_static.h`
 //! declares, or some of them, which is measured in the same rounds.
 
 mod built;

@@ -5,7 +5,7 @@
 set -eu
 
 bench=$(cd "$(dirname "$0")" && pwd)
-crate=$bench/../crates/cesu8_static
+crate=$bench/../crates/measured
 out=$bench/out
 kit=$(dirname "$(dirname "$(readlink -f "$(command -v rt)")")")
 
@@ -28,19 +28,19 @@ build() {
         exit 1
     fi
     tail -n 1 "$out/$1/rt.log" >&2
-    cp "$crate/out/libcesu8_static.a" "$out/$1/"
+    cp "$crate/out/libmeasured.a" "$out/$1/"
 }
 
 for level in $against; do
     build "$level"
-    cc -shared -o "$out/$level/cesu8_static.so" -Wl,--whole-archive "$out/$level/libcesu8_static.a" \
+    cc -shared -o "$out/$level/measured.so" -Wl,--whole-archive "$out/$level/libmeasured.a" \
         -Wl,--no-whole-archive "$kit/c/liblibc_c.a"
-    set -- "$@" "simd_cesu8 at $level=$out/$level/cesu8_static.so"
+    set -- "$@" "simd_cesu8 at $level=$out/$level/measured.so"
 done
 
 build "$cpu"
 rustc --edition 2024 -O -o "$out/driver" "$bench/driver.rs" \
-    -L "native=$out/$cpu" -l static=cesu8_static -L "native=$kit/c" -l static=libc_c
+    -L "native=$out/$cpu" -l static=measured -L "native=$kit/c" -l static=libc_c
 
 machine="$(date +%F), $(grep -m 1 'model name' /proc/cpuinfo | sed 's/.*: //'), library built for $cpu"
 echo "$machine"

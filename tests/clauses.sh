@@ -65,9 +65,8 @@ sources() {
     same 'the kernels simd and word' "$scratch/simd" "$scratch/word"
     same 'the kernels word and fallback' "$scratch/word" "$scratch/fallback"
     clauses cesu8_static '' lib.rt >"$scratch/exports"
-    clauses cesu8_static '' mutf8.rt | sed 's/cesu8_static_mutf8_/cesu8_static_/' >"$scratch/exports_mutf8"
-    grep -v ' cesu8_static_contains_' "$scratch/exports" >"$scratch/exports_root"
-    same 'the exports of the two encodings' "$scratch/exports_root" "$scratch/exports_mutf8"
+    clauses cesu8_static '' mutf8.rt | sed 's/cesu8_mutf8_/cesu8_/' >"$scratch/exports_mutf8"
+    same 'the exports of the two encodings' "$scratch/exports" "$scratch/exports_mutf8"
     {
         cat "$scratch/root" "$scratch/simd" "$scratch/exports"
         clauses simd_cesu8 '' cow.rt
@@ -76,6 +75,7 @@ sources() {
         clauses java_text '' lib.rt
         clauses java_text '' fault.rt
         clauses java_text laws:: laws.rt
+        clauses cesu8_static '' java.rt
         clauses cesu8_cli '' run.rt
         clauses cesu8_cli '' answer.rt
         clauses cesu8_cli '' fault.rt

@@ -5,7 +5,7 @@
 // all, can be refused. It prints each call that is wrong, and ends with the counts. The status is
 // 0 where none is wrong.
 
-#include "cesu8_static.h"
+#include "cesu8.h"
 
 #include <stdio.h>
 #include <stdlib.h>
@@ -45,24 +45,85 @@ void __wrap_free(void *block)
     __real_free(block);
 }
 
+// What a call tells, in one form for all. What is decided is a length here, 1 for yes.
+struct told {
+    enum cesu8_status status;
+    size_t length, taken;
+};
+
+typedef struct told call(const uint8_t *input, size_t length, uint8_t *room, size_t room_length);
+
+#define PLACES(name)                                                                               \
+    static struct told name(const uint8_t *input, size_t n, uint8_t *room, size_t m)               \
+    {                                                                                              \
+        struct cesu8_answer answer = cesu8_##name(input, n, room, m);                              \
+        return (struct told){answer.status, answer.length, 0};                                     \
+    }
+#define TELLS(name)                                                                                \
+    static struct told name(const uint8_t *input, size_t n, uint8_t *room, size_t m)               \
+    {                                                                                              \
+        (void)room, (void)m;                                                                       \
+        struct cesu8_answer answer = cesu8_##name(input, n);                                       \
+        return (struct told){answer.status, answer.length, 0};                                     \
+    }
+#define DECIDES(name)                                                                              \
+    static struct told name(const uint8_t *input, size_t n, uint8_t *room, size_t m)               \
+    {                                                                                              \
+        (void)room, (void)m;                                                                       \
+        struct cesu8_decision decision = cesu8_##name(input, n);                                   \
+        return (struct told){decision.status, decision.is_needed, 0};                              \
+    }
+#define READS(name)                                                                                \
+    static struct told name(const uint8_t *input, size_t n, uint8_t *room, size_t m)               \
+    {                                                                                              \
+        struct cesu8_reading reading = cesu8_##name(input, n, room, m);                            \
+        return (struct told){reading.status, reading.length, reading.taken};                       \
+    }
+
+DECIDES(needs_encoded)
+DECIDES(mutf8_needs_encoded)
+TELLS(encoded_len)
+TELLS(mutf8_encoded_len)
+PLACES(encode)
+PLACES(mutf8_encode)
+PLACES(decode_strict)
+PLACES(mutf8_decode_strict)
+PLACES(decode)
+PLACES(mutf8_decode)
+PLACES(decode_lossy_strict)
+PLACES(mutf8_decode_lossy_strict)
+PLACES(decode_lossy)
+PLACES(mutf8_decode_lossy)
+TELLS(lossy_len)
+TELLS(mutf8_lossy_len)
+PLACES(java_write)
+READS(java_read)
+READS(java_read_lossy)
+
 struct bytes {
     const char *start;
     size_t length;
 };
 
-typedef struct cesu8_static_outcome call(const uint8_t *input, size_t length,
-                                         uint8_t *room, size_t room_length);
-
 struct row {
     const char *name;
     call *call;
-    struct bytes input, answer; // No answer where the input is invalid.
-    int requests;               // As many as come where none is refused.
+    struct bytes input;
+    enum cesu8_status status; // In a room of the length that is needed,
+    struct bytes answer;      // which is this one's. It has no start where nothing is placed.
+    int requests;             // As many as come there where none is refused.
+    size_t taken;             // Whatever the room.
 };
 
-#define CALL(name) #name, cesu8_static_##name
+#define CALL(name) #name, name
 #define BYTES(literal) {literal, sizeof literal - 1}
-#define INVALID {NULL, 0}
+#define LENGTH(length) {NULL, length}
+#define NOTHING {NULL, 0}
+#define OK CESU8_OK
+#define NOT_UTF8 CESU8_NOT_UTF8
+#define INVALID CESU8_INVALID
+#define TRUNCATED CESU8_TRUNCATED
+#define TOO_LONG CESU8_TOO_LONG
 
 #define ALIKE "a\xC8\x85\xE2\x82\xAC"           // U+0061, U+0205 and U+20AC, in each encoding
 #define ZERO "\0"                               // U+0000 in UTF-8 and CESU-8
@@ -72,142 +133,168 @@ struct row {
 
 #define REPLACEMENT "\xEF\xBF\xBD"              // U+FFFD in UTF-8
 
-// What the room is filled with, so that an answer of these bytes is a length with the room as it
-// was.
-static const char FILLING[] = "~~~~~~~~~~~~~~~~~~~~~~~~~~~~~~~~";
-#define LENGTH(length) {FILLING, length}
-#define YES LENGTH(1)
-#define NO LENGTH(0)
+// As many as two bytes can count, and one more; and the form of the former.
+static char long_text[65536];
+static char long_form[65537];
 
-// For each call an input that borrows, one that builds, one that is invalid or damaged and the
-// empty one, and for each that tells whether a byte is there one of either. What is built takes a
-// request, and so does what a decoder refuses, since it asks before it reads.
+// For each call an input that is its own answer, one whose answer is built, one that is refused or
+// damaged and the empty one. What is built takes a request. So does what a decoder refuses, where
+// its length does not show that it has to.
 static const struct row rows[] = {
-    {CALL(encode), BYTES(ALIKE ZERO), BYTES(ALIKE ZERO), 0},
-    {CALL(encode), BYTES(ALIKE FOUR_BYTES), BYTES(ALIKE SURROGATES), 1},
-    {CALL(encode), BYTES(ALIKE SURROGATES), INVALID, 0},
-    {CALL(encode), BYTES(""), BYTES(""), 0},
-    {CALL(mutf8_encode), BYTES(ALIKE), BYTES(ALIKE), 0},
-    {CALL(mutf8_encode), BYTES(ALIKE ZERO FOUR_BYTES), BYTES(ALIKE C0_80 SURROGATES), 1},
-    {CALL(mutf8_encode), BYTES(ALIKE C0_80), INVALID, 0},
-    {CALL(mutf8_encode), BYTES(""), BYTES(""), 0},
-    {CALL(decode), BYTES(ALIKE ZERO FOUR_BYTES), BYTES(ALIKE ZERO FOUR_BYTES), 0},
-    {CALL(decode), BYTES(ALIKE ZERO SURROGATES), BYTES(ALIKE ZERO FOUR_BYTES), 1},
-    {CALL(decode), BYTES(FOUR_BYTES SURROGATES), INVALID, 1},
-    {CALL(decode), BYTES(""), BYTES(""), 0},
-    {CALL(mutf8_decode), BYTES(ALIKE ZERO FOUR_BYTES), BYTES(ALIKE ZERO FOUR_BYTES), 0},
-    {CALL(mutf8_decode), BYTES(ALIKE C0_80 SURROGATES), BYTES(ALIKE ZERO FOUR_BYTES), 1},
-    {CALL(mutf8_decode), BYTES(ALIKE ZERO SURROGATES), INVALID, 1},
-    {CALL(mutf8_decode), BYTES(""), BYTES(""), 0},
-    {CALL(decode_strict), BYTES(ALIKE ZERO), BYTES(ALIKE ZERO), 0},
-    {CALL(decode_strict), BYTES(ALIKE ZERO SURROGATES), BYTES(ALIKE ZERO FOUR_BYTES), 1},
-    {CALL(decode_strict), BYTES(ALIKE FOUR_BYTES), INVALID, 1},
-    {CALL(decode_strict), BYTES(""), BYTES(""), 0},
-    {CALL(mutf8_decode_strict), BYTES(ALIKE), BYTES(ALIKE), 0},
-    {CALL(mutf8_decode_strict), BYTES(ALIKE C0_80 SURROGATES), BYTES(ALIKE ZERO FOUR_BYTES), 1},
-    {CALL(mutf8_decode_strict), BYTES(ALIKE ZERO), INVALID, 1},
-    {CALL(mutf8_decode_strict), BYTES(""), BYTES(""), 0},
-    {CALL(decode_lossy), BYTES(ALIKE ZERO FOUR_BYTES), BYTES(ALIKE ZERO FOUR_BYTES), 0},
-    {CALL(decode_lossy), BYTES(ALIKE ZERO SURROGATES), BYTES(ALIKE ZERO FOUR_BYTES), 1},
-    {CALL(decode_lossy), BYTES(SURROGATES "\xFF" FOUR_BYTES),
-     BYTES(FOUR_BYTES REPLACEMENT REPLACEMENT REPLACEMENT REPLACEMENT REPLACEMENT), 1},
-    {CALL(decode_lossy), BYTES(""), BYTES(""), 0},
-    {CALL(mutf8_decode_lossy), BYTES(ALIKE ZERO FOUR_BYTES), BYTES(ALIKE ZERO FOUR_BYTES), 0},
-    {CALL(mutf8_decode_lossy), BYTES(ALIKE C0_80 SURROGATES), BYTES(ALIKE ZERO FOUR_BYTES), 1},
-    {CALL(mutf8_decode_lossy), BYTES(SURROGATES ZERO), BYTES(FOUR_BYTES REPLACEMENT), 1},
-    {CALL(mutf8_decode_lossy), BYTES(""), BYTES(""), 0},
-    {CALL(decode_lossy_strict), BYTES(ALIKE ZERO), BYTES(ALIKE ZERO), 0},
-    {CALL(decode_lossy_strict), BYTES(ALIKE ZERO SURROGATES), BYTES(ALIKE ZERO FOUR_BYTES), 1},
-    {CALL(decode_lossy_strict), BYTES(FOUR_BYTES),
-     BYTES(REPLACEMENT REPLACEMENT REPLACEMENT REPLACEMENT), 1},
-    {CALL(decode_lossy_strict), BYTES(""), BYTES(""), 0},
-    {CALL(mutf8_decode_lossy_strict), BYTES(ALIKE), BYTES(ALIKE), 0},
-    {CALL(mutf8_decode_lossy_strict), BYTES(ALIKE C0_80 SURROGATES),
-     BYTES(ALIKE ZERO FOUR_BYTES), 1},
-    {CALL(mutf8_decode_lossy_strict), BYTES(ALIKE ZERO), BYTES(ALIKE REPLACEMENT), 1},
-    {CALL(mutf8_decode_lossy_strict), BYTES(""), BYTES(""), 0},
-    {CALL(encoded_len), BYTES(ALIKE ZERO), LENGTH(7), 0},
-    {CALL(encoded_len), BYTES(ALIKE FOUR_BYTES), LENGTH(12), 0},
-    {CALL(encoded_len), BYTES(ALIKE SURROGATES), INVALID, 0},
-    {CALL(encoded_len), BYTES(""), LENGTH(0), 0},
-    {CALL(mutf8_encoded_len), BYTES(ALIKE), LENGTH(6), 0},
-    {CALL(mutf8_encoded_len), BYTES(ALIKE ZERO FOUR_BYTES), LENGTH(14), 0},
-    {CALL(mutf8_encoded_len), BYTES(ALIKE C0_80), INVALID, 0},
-    {CALL(mutf8_encoded_len), BYTES(""), LENGTH(0), 0},
-    {CALL(lossy_len), BYTES(ALIKE ZERO), LENGTH(7), 0},
-    {CALL(lossy_len), BYTES(SURROGATES "\xFF" FOUR_BYTES), LENGTH(19), 0},
-    {CALL(lossy_len), BYTES(""), LENGTH(0), 0},
-    {CALL(mutf8_lossy_len), BYTES(ALIKE), LENGTH(6), 0},
-    {CALL(mutf8_lossy_len), BYTES(C0_80 SURROGATES ZERO), LENGTH(8), 0},
-    {CALL(mutf8_lossy_len), BYTES(""), LENGTH(0), 0},
-    {CALL(contains_utf8_4_byte_char_header), BYTES(ALIKE FOUR_BYTES), YES, 0},
-    {CALL(contains_utf8_4_byte_char_header), BYTES(ALIKE ZERO), NO, 0},
-    {CALL(contains_null_or_utf8_4_byte_char_header), BYTES(ALIKE ZERO), YES, 0},
-    {CALL(contains_null_or_utf8_4_byte_char_header), BYTES(ALIKE SURROGATES), NO, 0},
+    {CALL(needs_encoded), BYTES(ALIKE ZERO), OK, LENGTH(0), 0, 0},
+    {CALL(needs_encoded), BYTES(ALIKE FOUR_BYTES), OK, LENGTH(1), 0, 0},
+    {CALL(needs_encoded), BYTES(FOUR_BYTES "\xFF"), NOT_UTF8, NOTHING, 0, 0},
+    {CALL(needs_encoded), BYTES(""), OK, LENGTH(0), 0, 0},
+    {CALL(mutf8_needs_encoded), BYTES(ALIKE), OK, LENGTH(0), 0, 0},
+    {CALL(mutf8_needs_encoded), BYTES(ALIKE ZERO), OK, LENGTH(1), 0, 0},
+    {CALL(mutf8_needs_encoded), BYTES(ZERO C0_80), NOT_UTF8, NOTHING, 0, 0},
+    {CALL(mutf8_needs_encoded), BYTES(""), OK, LENGTH(0), 0, 0},
+    {CALL(encoded_len), BYTES(ALIKE ZERO), OK, LENGTH(7), 0, 0},
+    {CALL(encoded_len), BYTES(ALIKE FOUR_BYTES), OK, LENGTH(12), 0, 0},
+    {CALL(encoded_len), BYTES(ALIKE SURROGATES), NOT_UTF8, NOTHING, 0, 0},
+    {CALL(encoded_len), BYTES(""), OK, LENGTH(0), 0, 0},
+    {CALL(mutf8_encoded_len), BYTES(ALIKE), OK, LENGTH(6), 0, 0},
+    {CALL(mutf8_encoded_len), BYTES(ALIKE ZERO FOUR_BYTES), OK, LENGTH(14), 0, 0},
+    {CALL(mutf8_encoded_len), BYTES(ALIKE C0_80), NOT_UTF8, NOTHING, 0, 0},
+    {CALL(mutf8_encoded_len), BYTES(""), OK, LENGTH(0), 0, 0},
+    {CALL(encode), BYTES(ALIKE ZERO), OK, BYTES(ALIKE ZERO), 0, 0},
+    {CALL(encode), BYTES(ALIKE FOUR_BYTES), OK, BYTES(ALIKE SURROGATES), 1, 0},
+    {CALL(encode), BYTES(ALIKE SURROGATES), NOT_UTF8, NOTHING, 0, 0},
+    {CALL(encode), BYTES(""), OK, BYTES(""), 0, 0},
+    {CALL(mutf8_encode), BYTES(ALIKE), OK, BYTES(ALIKE), 0, 0},
+    {CALL(mutf8_encode), BYTES(ALIKE ZERO FOUR_BYTES), OK, BYTES(ALIKE C0_80 SURROGATES), 1, 0},
+    {CALL(mutf8_encode), BYTES(ALIKE C0_80), NOT_UTF8, NOTHING, 0, 0},
+    {CALL(mutf8_encode), BYTES(""), OK, BYTES(""), 0, 0},
+    {CALL(decode_strict), BYTES(ALIKE ZERO), OK, BYTES(ALIKE ZERO), 0, 0},
+    {CALL(decode_strict), BYTES(ALIKE ZERO SURROGATES), OK, BYTES(ALIKE ZERO FOUR_BYTES), 1, 0},
+    {CALL(decode_strict), BYTES(ALIKE FOUR_BYTES), INVALID, NOTHING, 0, 0},
+    {CALL(decode_strict), BYTES(SURROGATES SURROGATES "\xFF"), INVALID, LENGTH(11), 1, 0},
+    {CALL(decode_strict), BYTES(""), OK, BYTES(""), 0, 0},
+    {CALL(mutf8_decode_strict), BYTES(ALIKE), OK, BYTES(ALIKE), 0, 0},
+    {CALL(mutf8_decode_strict), BYTES(ALIKE C0_80 SURROGATES), OK, BYTES(ALIKE ZERO FOUR_BYTES),
+     1, 0},
+    {CALL(mutf8_decode_strict), BYTES(ALIKE ZERO), INVALID, NOTHING, 0, 0},
+    {CALL(mutf8_decode_strict), BYTES(C0_80 C0_80 ZERO), INVALID, LENGTH(5), 1, 0},
+    {CALL(mutf8_decode_strict), BYTES(""), OK, BYTES(""), 0, 0},
+    {CALL(decode), BYTES(ALIKE ZERO FOUR_BYTES), OK, BYTES(ALIKE ZERO FOUR_BYTES), 0, 0},
+    {CALL(decode), BYTES(ALIKE ZERO SURROGATES), OK, BYTES(ALIKE ZERO FOUR_BYTES), 1, 0},
+    {CALL(decode), BYTES(FOUR_BYTES SURROGATES), INVALID, NOTHING, 0, 0},
+    {CALL(decode), BYTES(""), OK, BYTES(""), 0, 0},
+    {CALL(mutf8_decode), BYTES(ALIKE ZERO FOUR_BYTES), OK, BYTES(ALIKE ZERO FOUR_BYTES), 0, 0},
+    {CALL(mutf8_decode), BYTES(ALIKE C0_80 SURROGATES), OK, BYTES(ALIKE ZERO FOUR_BYTES), 1, 0},
+    {CALL(mutf8_decode), BYTES(ALIKE ZERO SURROGATES), INVALID, LENGTH(13), 1, 0},
+    {CALL(mutf8_decode), BYTES(""), OK, BYTES(""), 0, 0},
+    {CALL(decode_lossy_strict), BYTES(ALIKE ZERO), OK, BYTES(ALIKE ZERO), 0, 0},
+    {CALL(decode_lossy_strict), BYTES(ALIKE ZERO SURROGATES), OK, BYTES(ALIKE ZERO FOUR_BYTES),
+     1, 0},
+    {CALL(decode_lossy_strict), BYTES(FOUR_BYTES), OK,
+     BYTES(REPLACEMENT REPLACEMENT REPLACEMENT REPLACEMENT), 1, 0},
+    {CALL(decode_lossy_strict), BYTES(""), OK, BYTES(""), 0, 0},
+    {CALL(mutf8_decode_lossy_strict), BYTES(ALIKE), OK, BYTES(ALIKE), 0, 0},
+    {CALL(mutf8_decode_lossy_strict), BYTES(ALIKE C0_80 SURROGATES), OK,
+     BYTES(ALIKE ZERO FOUR_BYTES), 1, 0},
+    {CALL(mutf8_decode_lossy_strict), BYTES(ALIKE ZERO), OK, BYTES(ALIKE REPLACEMENT), 1, 0},
+    {CALL(mutf8_decode_lossy_strict), BYTES(""), OK, BYTES(""), 0, 0},
+    {CALL(decode_lossy), BYTES(ALIKE ZERO FOUR_BYTES), OK, BYTES(ALIKE ZERO FOUR_BYTES), 0, 0},
+    {CALL(decode_lossy), BYTES(ALIKE ZERO SURROGATES), OK, BYTES(ALIKE ZERO FOUR_BYTES), 1, 0},
+    {CALL(decode_lossy), BYTES(SURROGATES "\xFF" FOUR_BYTES), OK,
+     BYTES(FOUR_BYTES REPLACEMENT REPLACEMENT REPLACEMENT REPLACEMENT REPLACEMENT), 1, 0},
+    {CALL(decode_lossy), BYTES(""), OK, BYTES(""), 0, 0},
+    {CALL(mutf8_decode_lossy), BYTES(ALIKE ZERO FOUR_BYTES), OK, BYTES(ALIKE ZERO FOUR_BYTES),
+     0, 0},
+    {CALL(mutf8_decode_lossy), BYTES(ALIKE C0_80 SURROGATES), OK, BYTES(ALIKE ZERO FOUR_BYTES),
+     1, 0},
+    {CALL(mutf8_decode_lossy), BYTES(SURROGATES ZERO), OK, BYTES(FOUR_BYTES REPLACEMENT), 1, 0},
+    {CALL(mutf8_decode_lossy), BYTES(""), OK, BYTES(""), 0, 0},
+    {CALL(lossy_len), BYTES(ALIKE ZERO), OK, LENGTH(7), 0, 0},
+    {CALL(lossy_len), BYTES(SURROGATES "\xFF" FOUR_BYTES), OK, LENGTH(19), 0, 0},
+    {CALL(lossy_len), BYTES(""), OK, LENGTH(0), 0, 0},
+    {CALL(mutf8_lossy_len), BYTES(ALIKE), OK, LENGTH(6), 0, 0},
+    {CALL(mutf8_lossy_len), BYTES(C0_80 SURROGATES ZERO), OK, LENGTH(8), 0, 0},
+    {CALL(mutf8_lossy_len), BYTES(""), OK, LENGTH(0), 0, 0},
+    {CALL(java_write), BYTES(ALIKE), OK, BYTES("\0\x06" ALIKE), 0, 0},
+    {CALL(java_write), BYTES(ALIKE ZERO FOUR_BYTES), OK, BYTES("\0\x0E" ALIKE C0_80 SURROGATES),
+     1, 0},
+    {CALL(java_write), BYTES(ALIKE SURROGATES), NOT_UTF8, NOTHING, 0, 0},
+    {CALL(java_write), {long_text, 65535}, OK, {long_form, 65537}, 0, 0},
+    {CALL(java_write), {long_text, 65536}, TOO_LONG, NOTHING, 0, 0},
+    {CALL(java_write), BYTES(""), OK, BYTES("\0\0"), 0, 0},
+    {CALL(java_read), BYTES("\0\x06" ALIKE "\0\0"), OK, BYTES(ALIKE), 0, 8},
+    {CALL(java_read), BYTES("\0\x08" C0_80 SURROGATES), OK, BYTES(ZERO FOUR_BYTES), 1, 10},
+    {CALL(java_read), {long_form, 65537}, OK, {long_text, 65535}, 0, 65537},
+    {CALL(java_read), BYTES("\0\x04" FOUR_BYTES "\0"), INVALID, NOTHING, 0, 6},
+    {CALL(java_read), BYTES("\0\x03" C0_80), TRUNCATED, NOTHING, 0, 0},
+    {CALL(java_read), BYTES("\0"), TRUNCATED, NOTHING, 0, 0},
+    {CALL(java_read), BYTES("\0\0\0\0"), OK, BYTES(""), 0, 2},
+    {CALL(java_read_lossy), BYTES("\0\x06" ALIKE "\0\0"), OK, BYTES(ALIKE), 0, 8},
+    {CALL(java_read_lossy), BYTES("\0\x09" C0_80 SURROGATES "\xFF\0"), OK,
+     BYTES(ZERO FOUR_BYTES REPLACEMENT), 1, 11},
+    {CALL(java_read_lossy), BYTES("\0\x03" C0_80), TRUNCATED, NOTHING, 0, 0},
+    {CALL(java_read_lossy), BYTES("\0\0\0\0"), OK, BYTES(""), 0, 2},
 };
 
 // Every answer above fits here, with bytes behind it that no call may write.
-enum { SPACE = 32 };
+enum { SPACE = 65600, FILLING = '~' };
 
-static bool is_equal(struct bytes one, struct bytes other)
+static bool is_asked_first(const struct row *row, size_t room_length)
 {
-    return one.length == other.length && memcmp(one.start, other.start, one.length) == 0;
+    bool has_room = row->answer.start != NULL || row->status != OK;
+    return has_room && room_length < row->answer.length;
 }
 
 // What has to come back, with the bytes that the room has to have then.
-static struct cesu8_static_outcome expected(const struct row *row, size_t room_length,
-                                            bool is_out_of_memory, char *room)
+static struct told expected(const struct row *row, size_t room_length, bool is_out_of_memory,
+                            char *room)
 {
-    struct cesu8_static_outcome outcome = {0};
+    if (is_asked_first(row, room_length))
+        return (struct told){CESU8_TOO_SMALL, row->answer.length, row->taken};
     if (is_out_of_memory)
-        return outcome;
-    if (row->answer.start == NULL) {
-        outcome.is_invalid = true;
-        return outcome;
-    }
-    outcome.has_answer = true;
-    outcome.length = row->answer.length;
-    outcome.is_borrowed = row->answer.start != FILLING && is_equal(row->answer, row->input);
-    if (outcome.length <= room_length)
-        memcpy(room, row->answer.start, outcome.length);
-    return outcome;
+        return (struct told){CESU8_OUT_OF_MEMORY, 0, row->taken};
+    if (row->status != OK)
+        return (struct told){row->status, 0, row->taken};
+    if (row->answer.start != NULL)
+        memcpy(room, row->answer.start, row->answer.length);
+    return (struct told){OK, row->answer.length, row->taken};
 }
 
 // Makes the call of a row, with this room and this refusal, and tells whether it does as it has to.
 static bool agrees(const struct row *row, size_t room_length, int refusal)
 {
-    char room[SPACE], wanted_room[SPACE];
-    memset(room, FILLING[0], SPACE);
-    memset(wanted_room, FILLING[0], SPACE);
+    static char room[SPACE], wanted_room[SPACE];
+    memset(room, FILLING, SPACE);
+    memset(wanted_room, FILLING, SPACE);
+    int all_requests = is_asked_first(row, room_length) ? 0 : row->requests;
     int until_refusal = refusal == ALL ? 1 : refusal;
-    bool is_out_of_memory = refusal != NONE && until_refusal <= row->requests;
-    int wanted_requests = is_out_of_memory ? until_refusal : row->requests;
-    struct cesu8_static_outcome wanted = expected(row, room_length, is_out_of_memory, wanted_room);
+    bool is_out_of_memory = refusal != NONE && until_refusal <= all_requests;
+    int wanted_requests = is_out_of_memory ? until_refusal : all_requests;
+    struct told wanted = expected(row, room_length, is_out_of_memory, wanted_room);
 
     refused = refusal;
     requests = blocks = 0;
-    struct cesu8_static_outcome got = row->call((const uint8_t *)row->input.start,
-                                                row->input.length, (uint8_t *)room, room_length);
+    struct told got = row->call((const uint8_t *)row->input.start, row->input.length,
+                                (uint8_t *)room, room_length);
     refused = NONE;
 
-    if (got.length == wanted.length && got.has_answer == wanted.has_answer
-        && got.is_borrowed == wanted.is_borrowed && got.is_invalid == wanted.is_invalid
+    if (got.status == wanted.status && got.length == wanted.length && got.taken == wanted.taken
         && memcmp(room, wanted_room, SPACE) == 0 && requests == wanted_requests && blocks == 0)
         return true;
     printf("wrong: %s of", row->name);
-    for (size_t i = 0; i < row->input.length; i++)
+    for (size_t i = 0; i < row->input.length && i < 32; i++)
         printf(" %02X", (unsigned char)row->input.start[i]);
-    printf(", room for %zu bytes, refused request %d (0: none, -1: all)\n"
-           "  length %zu, has_answer %d, is_borrowed %d, is_invalid %d, and not %zu, %d, %d, %d\n"
+    printf(" (%zu bytes), room for %zu bytes, refused request %d (0: none, -1: all)\n"
+           "  status %d, length %zu, taken %zu, and not %d, %zu, %zu\n"
            "  requests %d, and not %d; blocks not freed %d; the room is %s\n",
-           room_length, refusal, got.length, got.has_answer, got.is_borrowed, got.is_invalid,
-           wanted.length, wanted.has_answer, wanted.is_borrowed, wanted.is_invalid, requests,
-           wanted_requests, blocks, memcmp(room, wanted_room, SPACE) == 0 ? "right" : "wrong");
+           row->input.length, room_length, refusal, got.status, got.length, got.taken,
+           wanted.status, wanted.length, wanted.taken, requests, wanted_requests, blocks,
+           memcmp(room, wanted_room, SPACE) == 0 ? "right" : "wrong");
     return false;
 }
 
 int main(void)
 {
+    memset(long_text, 'a', sizeof long_text);
+    memset(long_form, 'a', sizeof long_form);
+    memset(long_form, 0xFF, 2);
     int passed = 0, failed = 0;
     for (const struct row *row = rows; row < rows + sizeof rows / sizeof *rows; row++) {
         size_t length = row->answer.length;

@@ -1,12 +1,15 @@
 #!/usr/bin/env bash
 # Runs the exports of crates/cesu8_static: builds the static library, links tests/exports.c with
-# it, which calls each export, and runs that. Then bench/run.sh builds its driver and runs it for
-# one round, before which the driver compares what each call answers to inputs of many bytes. Where
-# there is no C compiler, or no rustc, it says what was not run; what is at hand and does not build
-# counts as wrong. The status is 0 where nothing is wrong.
+# it, which calls each export, and runs that. The same with the archive that archive.sh builds, for
+# this processor's own level of x86-64. Then it builds and runs the examples in C and in Rust. Then
+# bench/run.sh builds its driver and runs it for one round, before which the driver compares what
+# each measured call answers to inputs of many bytes. Where there is no C compiler, no objcopy or no
+# rustc, it says what was not run; what is at hand and does not build counts as wrong. The status is
+# 0 where nothing is wrong.
 #
-# It needs the kit's `rt`, bash, grep, sed and the core utilities; for the first part a C compiler
-# `cc` whose linker knows --wrap; and for the second a rustc that knows the edition 2024.
+# It needs the kit's `rt`, bash, grep, sed and the core utilities; for C a compiler `cc` whose
+# linker knows --wrap; for the archive `ar`, `nm`, `awk` and `objcopy` too; and for the last a rustc
+# that knows the edition 2024.
 set -u
 unset CDPATH
 export LC_ALL=C
@@ -18,6 +21,12 @@ scratch=$(mktemp -d) || exit 2
 trap 'rm -rf "$scratch"' EXIT
 
 wrong=0
+
+# Notes that something is wrong: `wrong WHAT`.
+wrong() {
+    echo "wrong: $1"
+    wrong=1
+}
 
 # Runs a command, and prints what it said where it fails: `quietly COMMAND..`.
 quietly() {
@@ -33,6 +42,7 @@ build_library() {
         echo "the static library was not built" >&2
         exit 2
     fi
+    cp "$crate/out/libcesu8_static.a" "$scratch/" || exit 2
 }
 
 # Whether a compiler builds the program that stands in a file: `can_build WHAT COMPILER ARGUMENT..`.
@@ -50,44 +60,112 @@ can_build() {
     fi
 }
 
-# That the table of tests/exports.c has each function that the crate exports.
-all_in_table() {
-    local name
-    while read -r name; do
-        if ! grep -q "CALL($name)" "$top/tests/exports.c"; then
-            echo "wrong: no row of tests/exports.c calls cesu8_static_$name"
-            wrong=1
-        fi
-    done < <(sed -n 's/^pub extern "C" fn cesu8_static_\([a-z0-9_]*\).*/\1/p' "$crate"/src/*.rt)
+can_build_c() {
+    printf '#include <stdio.h>\nint main(void) { return puts("") < 0; }\n' >"$scratch/probe.c"
+    can_build "$1" cc -o "$scratch/probe" "$scratch/probe.c"
 }
 
+can_build_rust() {
+    echo 'fn main() {}' >"$scratch/probe.rs"
+    can_build "$1" rustc --edition 2024 -o "$scratch/probe" "$scratch/probe.rs"
+}
+
+# The functions that the crate exports.
+exports() {
+    sed -n 's/^pub extern "C" fn cesu8_\([a-z0-9_]*\).*/\1/p' "$crate"/src/*.rt
+}
+
+# That the table of tests/exports.c, the header and the chooser have each of them.
+all_are_named() {
+    local name
+    while read -r name; do
+        grep -q "CALL($name)" "$top/tests/exports.c" ||
+            wrong "no row of tests/exports.c calls cesu8_$name"
+        grep -q " cesu8_$name(" "$crate/include/cesu8.h" || wrong "cesu8.h lacks cesu8_$name"
+        grep -q " cesu8_$name)" "$crate/chooser.c" || wrong "chooser.c lacks cesu8_$name"
+    done < <(exports)
+}
+
+# Builds tests/exports.c with these libraries, and runs it: `call_exports LIBRARY..`.
 call_exports() {
-    all_in_table
-    printf '#include <stdio.h>\nint main(void) { return puts("") < 0; }\n' >"$scratch/probe.c"
-    can_build 'the calls from C' cc -o "$scratch/probe" "$scratch/probe.c" || return
     if ! quietly cc -std=c11 -O1 -Wall -Wextra -Werror -I "$crate/include" \
         -Wl,--wrap=malloc,--wrap=realloc,--wrap=free -o "$scratch/exports" \
-        "$top/tests/exports.c" "$crate/out/libcesu8_static.a" "$kit/c/liblibc_c.a"; then
-        echo "wrong: tests/exports.c does not build"
-        wrong=1
+        "$top/tests/exports.c" "$@"; then
+        wrong 'tests/exports.c does not build'
         return
     fi
     "$scratch/exports" || wrong=1
 }
 
-run_driver() {
-    echo 'fn main() {}' >"$scratch/probe.rs"
-    can_build "bench's driver" rustc --edition 2024 -o "$scratch/probe" "$scratch/probe.rs" ||
+# Runs an example, and compares what it prints: `example NAME`.
+example() {
+    "$scratch/example" >"$scratch/printed" 2>&1 || wrong "$1 fails"
+    if cmp -s "$scratch/printed" "$crate/examples/keys.stdout"; then
+        echo "$1 was built and run"
+    else
+        cat "$scratch/printed"
+        wrong "$1 prints other than examples/keys.stdout"
+    fi
+}
+
+# The page of C, with these libraries: `example_in_c LIBRARY..`.
+example_in_c() {
+    if quietly cc -std=c11 -O1 -Wall -Wextra -Werror -I "$crate/include" \
+        -o "$scratch/example" "$crate/examples/keys.c" "$@"; then
+        example keys.c
+    else
+        wrong 'keys.c does not build'
+    fi
+}
+
+example_in_rust() {
+    if quietly rustc --edition 2024 -D warnings -o "$scratch/example" "$crate/examples/keys.rs" \
+        -L "native=$scratch" -l static=cesu8_static -L "native=$kit/c" -l static=libc_c; then
+        example keys.rs
+    else
+        wrong 'keys.rs does not build'
+    fi
+}
+
+# The archive for both levels. That its code for each level is there is seen in its symbols, since
+# this processor runs one of them.
+run_archive() {
+    local name
+    if ! command -v objcopy >/dev/null; then
+        echo 'objcopy is not here: the archive not built'
         return
+    fi
+    if ! quietly sh "$crate/archive.sh" "$scratch/libcesu8.a"; then
+        wrong 'the archive does not build'
+        return
+    fi
+    nm -g --defined-only "$scratch/libcesu8.a" >"$scratch/symbols" 2>/dev/null
+    while read -r name; do
+        for symbol in "cesu8_$name" "cesu8_${name}_v2" "cesu8_${name}_v3"; do
+            grep -q " T $symbol\$" "$scratch/symbols" || wrong "the archive lacks $symbol"
+        done
+    done < <(exports)
+    call_exports "$scratch/libcesu8.a"
+    example_in_c "$scratch/libcesu8.a"
+}
+
+run_driver() {
     if quietly "$top/bench/run.sh" --rounds 1; then
         echo "bench's driver was built and run"
     else
-        echo "wrong: bench's driver does not build, or does not run"
-        wrong=1
+        wrong "bench's driver does not build, or does not run"
     fi
 }
 
 build_library
-call_exports
-run_driver
+all_are_named
+if can_build_c 'the calls from C'; then
+    call_exports "$scratch/libcesu8_static.a" "$kit/c/liblibc_c.a"
+    example_in_c "$scratch/libcesu8_static.a" "$kit/c/liblibc_c.a"
+    run_archive
+fi
+if can_build_rust "the example in Rust and bench's driver"; then
+    example_in_rust
+    run_driver
+fi
 ((wrong == 0))

@@ -1,0 +1,49 @@
+// The calls of crates/measured, which bench measures, and of other codecs that it measures beside.
+#ifndef CESU8_STATIC_H
+#define CESU8_STATIC_H
+
+#include <stdbool.h>
+#include <stddef.h>
+#include <stdint.h>
+
+// What a call answered. With neither an answer nor an invalid input, a request for memory was
+// refused, or the length of a lossy reading does not fit size_t.
+struct cesu8_static_outcome {
+    size_t length;    // The answer's bytes, and 0 where there is none.
+    bool has_answer;
+    bool is_borrowed; // The answer is the input's own bytes. Without an answer it is false.
+    bool is_invalid;  // The input is refused.
+};
+
+// Each call makes its answer, copies it to the front of the room where it fits there, and frees it.
+// A room of length 0 gets no copy. No pointer may be null, and the room shares no byte with the
+// input. The encoders, and the calls that tell the length of an encoding, test that their input is
+// UTF-8, and other input is invalid. To a lossy call no input is invalid.
+#define CESU8_STATIC_CALL(name)                                                                    \
+    struct cesu8_static_outcome cesu8_static_##name(                                               \
+        const uint8_t *input, size_t length, uint8_t *room, size_t room_length)
+
+CESU8_STATIC_CALL(encode);
+CESU8_STATIC_CALL(mutf8_encode);
+CESU8_STATIC_CALL(decode);
+CESU8_STATIC_CALL(mutf8_decode);
+CESU8_STATIC_CALL(decode_strict);
+CESU8_STATIC_CALL(mutf8_decode_strict);
+CESU8_STATIC_CALL(decode_lossy);
+CESU8_STATIC_CALL(mutf8_decode_lossy);
+CESU8_STATIC_CALL(decode_lossy_strict);
+CESU8_STATIC_CALL(mutf8_decode_lossy_strict);
+
+// The length of the answer of encode, and of decode_lossy_strict: the answer has that length, and
+// nothing is written.
+CESU8_STATIC_CALL(encoded_len);
+CESU8_STATIC_CALL(mutf8_encoded_len);
+CESU8_STATIC_CALL(lossy_len);
+CESU8_STATIC_CALL(mutf8_lossy_len);
+
+// Whether some byte is F0 to F7, and whether some is 00 or one of these: the answer's length is 1
+// for yes and 0 for no, and nothing is written.
+CESU8_STATIC_CALL(contains_utf8_4_byte_char_header);
+CESU8_STATIC_CALL(contains_null_or_utf8_4_byte_char_header);
+
+#endif

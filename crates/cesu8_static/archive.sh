@@ -1,0 +1,36 @@
+#!/bin/sh
+# Builds one archive with the code for x86-64-v2 and for x86-64-v3, and chooser.c, which picks one
+# of them as the program runs, and the kit's code that calls malloc:
+#   archive.sh FILE.a
+# It proves the crate and the library below it where that is not done. It needs the kit's rt, cc,
+# ar, objcopy and nm.
+set -eu
+
+crate=$(cd "$(dirname "$0")" && pwd)
+kit=$(dirname "$(dirname "$(readlink -f "$(command -v rt)")")")
+scratch=$(mktemp -d)
+trap 'rm -rf "$scratch"' EXIT
+
+archive=$1
+rm -f "$archive"
+
+# The code for x86-64-v2 comes last, and stays in out/, since it is what rt builds by default.
+for level in v3 v2; do
+    if ! (cd "$crate" && rt lib --cpu "x86-64-$level") >"$scratch/rt.log" 2>&1; then
+        cat "$scratch/rt.log" >&2
+        exit 1
+    fi
+    mkdir "$scratch/$level"
+    (cd "$scratch/$level" && ar x "$crate/out/libcesu8_static.a")
+    # Each export gets the level behind its name. What the code calls keeps its name.
+    nm -g --defined-only "$scratch/$level"/*.o |
+        awk -v level="$level" 'NF == 3 { print $3, $3 "_" level }' >"$scratch/$level/names"
+    for object in "$scratch/$level"/*.o; do
+        objcopy --redefine-syms="$scratch/$level/names" "$object" \
+            "$scratch/${level}_$(basename "$object")"
+    done
+done
+
+cc -std=c11 -O2 -fPIC -Wall -Wextra -Werror -I "$crate/include" -c -o "$scratch/chooser.o" "$crate/chooser.c"
+(cd "$scratch" && ar x "$kit/c/liblibc_c.a")
+ar rcs "$archive" "$scratch"/*.o

@@ -1,0 +1,43 @@
+// The calls of the archive that archive.sh builds: each goes on to the code for x86-64-v3 where the
+// processor has it, and else to that for x86-64-v2. This file is plain C, and nothing of it is
+// proved.
+//
+// What the processor has is asked once, by the compiler's runtime, before main begins; a call reads
+// what was found. A call that comes before that takes the code for x86-64-v2.
+
+#include "cesu8.h"
+
+#define CHOOSE(result, name, parameters, arguments)                                                \
+    result name##_v2 parameters;                                                                   \
+    result name##_v3 parameters;                                                                   \
+    result name parameters                                                                         \
+    {                                                                                              \
+        return __builtin_cpu_supports("x86-64-v3") ? name##_v3 arguments : name##_v2 arguments;    \
+    }
+
+#define CHOOSE_TOLD(result, name)                                                                  \
+    CHOOSE(result, name, (const uint8_t *input, size_t length), (input, length))
+#define CHOOSE_PLACED(result, name)                                                                \
+    CHOOSE(result, name,                                                                           \
+           (const uint8_t *input, size_t length, uint8_t *room, size_t room_length),               \
+           (input, length, room, room_length))
+
+CHOOSE_TOLD(struct cesu8_decision, cesu8_needs_encoded)
+CHOOSE_TOLD(struct cesu8_decision, cesu8_mutf8_needs_encoded)
+CHOOSE_TOLD(struct cesu8_answer, cesu8_encoded_len)
+CHOOSE_TOLD(struct cesu8_answer, cesu8_mutf8_encoded_len)
+CHOOSE_PLACED(struct cesu8_answer, cesu8_encode)
+CHOOSE_PLACED(struct cesu8_answer, cesu8_mutf8_encode)
+CHOOSE_PLACED(struct cesu8_answer, cesu8_decode_strict)
+CHOOSE_PLACED(struct cesu8_answer, cesu8_mutf8_decode_strict)
+CHOOSE_PLACED(struct cesu8_answer, cesu8_decode)
+CHOOSE_PLACED(struct cesu8_answer, cesu8_mutf8_decode)
+CHOOSE_PLACED(struct cesu8_answer, cesu8_decode_lossy_strict)
+CHOOSE_PLACED(struct cesu8_answer, cesu8_mutf8_decode_lossy_strict)
+CHOOSE_PLACED(struct cesu8_answer, cesu8_decode_lossy)
+CHOOSE_PLACED(struct cesu8_answer, cesu8_mutf8_decode_lossy)
+CHOOSE_TOLD(struct cesu8_answer, cesu8_lossy_len)
+CHOOSE_TOLD(struct cesu8_answer, cesu8_mutf8_lossy_len)
+CHOOSE_PLACED(struct cesu8_answer, cesu8_java_write)
+CHOOSE_PLACED(struct cesu8_reading, cesu8_java_read)
+CHOOSE_PLACED(struct cesu8_reading, cesu8_java_read_lossy)

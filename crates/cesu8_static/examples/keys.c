@@ -1,0 +1,58 @@
+// Reads the strings of a file that Java's DataOutput.writeUTF wrote, and prints for each the key by
+// which a store has it that orders as Java does: its CESU-8.
+
+#include "cesu8.h"
+
+#include <stdio.h>
+#include <stdlib.h>
+
+// "caf" and U+00E9, and "a", U+0000 and U+1F496.
+static const uint8_t file[] = "\0\x05" "caf\xC3\xA9" "\0\x09" "a\xC0\x80\xED\xA0\xBD\xED\xB2\x96";
+
+static void print(const char *name, const uint8_t *bytes, size_t length)
+{
+    printf("%s", name);
+    for (size_t i = 0; i < length; i++)
+        printf(" %02X", bytes[i]);
+    printf("\n");
+}
+
+// The key of a text. It has to be freed, and there is none where memory is refused.
+static uint8_t *key_of(const uint8_t *text, size_t text_length, size_t *key_length)
+{
+    // The length is asked first, which takes no memory.
+    *key_length = cesu8_encoded_len(text, text_length).length;
+    uint8_t *key = malloc(*key_length + 1);
+    if (key != NULL && cesu8_encode(text, text_length, key, *key_length).status != CESU8_OK) {
+        free(key);
+        return NULL;
+    }
+    return key;
+}
+
+int main(void)
+{
+    const uint8_t *rest = file;
+    size_t left = sizeof file - 1;
+    while (left > 0) {
+        // No string is longer than this in UTF-8.
+        static uint8_t text[65535];
+        struct cesu8_reading read = cesu8_java_read(rest, left, text, sizeof text);
+        if (read.status != CESU8_OK) {
+            fprintf(stderr, "status %d at byte %zu\n", read.status, sizeof file - 1 - left);
+            return 1;
+        }
+        size_t key_length;
+        uint8_t *key = key_of(text, read.length, &key_length);
+        if (key == NULL) {
+            fprintf(stderr, "out of memory\n");
+            return 1;
+        }
+        print("text", text, read.length);
+        print(" key", key, key_length);
+        free(key);
+        rest += read.taken;
+        left -= read.taken;
+    }
+    return 0;
+}

@@ -1,0 +1,70 @@
+//! The same as `keys.c`, in Rust: reads the strings of a file that Java's `DataOutput.writeUTF`
+//! wrote, and prints for each the key by which a store has it that orders as Java does.
+
+const OK: u32 = 0;
+
+#[repr(C)]
+struct Answer {
+    status: u32,
+    length: usize,
+}
+
+#[repr(C)]
+struct Reading {
+    status: u32,
+    length: usize,
+    taken: usize,
+}
+
+unsafe extern "C" {
+    fn cesu8_encoded_len(text: *const u8, length: usize) -> Answer;
+    fn cesu8_encode(text: *const u8, length: usize, room: *mut u8, room_length: usize) -> Answer;
+    fn cesu8_java_read(
+        bytes: *const u8,
+        length: usize,
+        room: *mut u8,
+        room_length: usize,
+    ) -> Reading;
+}
+
+/// The CESU-8 of a text.
+fn key_of(text: &str) -> Result<Vec<u8>, u32> {
+    // A slice's pointer is never null, and a new vector shares no byte with the text.
+    let mut key = vec![0; unsafe { cesu8_encoded_len(text.as_ptr(), text.len()) }.length];
+    let room = key.as_mut_ptr();
+    match unsafe { cesu8_encode(text.as_ptr(), text.len(), room, key.len()) }.status {
+        OK => Ok(key),
+        status => Err(status),
+    }
+}
+
+/// The string that begins the bytes, and how many of them it takes.
+fn read(bytes: &[u8]) -> Result<(String, usize), u32> {
+    // No string is longer in UTF-8 than it is there.
+    let mut text = vec![0; bytes.len()];
+    let room = text.as_mut_ptr();
+    let read = unsafe { cesu8_java_read(bytes.as_ptr(), bytes.len(), room, text.len()) };
+    if read.status != OK {
+        return Err(read.status);
+    }
+    text.truncate(read.length);
+    let text = String::from_utf8(text).expect("what is read is UTF-8");
+    Ok((text, read.taken))
+}
+
+fn print(name: &str, bytes: &[u8]) {
+    let hex: Vec<String> = bytes.iter().map(|byte| format!(" {byte:02X}")).collect();
+    println!("{name}{}", hex.concat());
+}
+
+fn main() -> Result<(), u32> {
+    // "caf" and U+00E9, and "a", U+0000 and U+1F496.
+    let mut rest = b"\0\x05caf\xC3\xA9\0\x09a\xC0\x80\xED\xA0\xBD\xED\xB2\x96".as_slice();
+    while !rest.is_empty() {
+        let (text, taken) = read(rest)?;
+        print("text", text.as_bytes());
+        print(" key", &key_of(&text)?);
+        rest = &rest[taken..];
+    }
+    Ok(())
+}

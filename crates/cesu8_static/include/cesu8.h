@@ -1,0 +1,128 @@
+// CESU-8, Modified UTF-8 (MUTF-8) and Java strings with their length in front. docs/C.md tells how
+// to build and link the library, what is proved of it and what is not.
+#ifndef CESU8_H
+#define CESU8_H
+
+#include <stdbool.h>
+#include <stddef.h>
+#include <stdint.h>
+
+#ifdef __cplusplus
+extern "C" {
+#endif
+
+enum cesu8_status {
+    CESU8_OK = 0,
+    CESU8_NOT_UTF8 = 1,      // The input has to be UTF-8, and is not.
+    CESU8_INVALID = 2,       // The input is the encoding of no text.
+    CESU8_TRUNCATED = 3,     // Fewer than two bytes, or fewer after them than they count.
+    CESU8_TOO_LONG = 4,      // More bytes than a Java string or a size_t can count.
+    CESU8_TOO_SMALL = 5,     // The room is shorter than the answer.
+    CESU8_OUT_OF_MEMORY = 6, // malloc refused.
+};
+
+struct cesu8_answer {
+    enum cesu8_status status;
+    size_t length; // The answer's, in bytes. With CESU8_TOO_SMALL the one it needs, and else 0.
+};
+
+struct cesu8_decision {
+    enum cesu8_status status; // CESU8_OK or CESU8_NOT_UTF8.
+    bool is_needed;           // Without CESU8_OK it is false.
+};
+
+struct cesu8_reading {
+    enum cesu8_status status;
+    size_t length; // As in cesu8_answer.
+    size_t taken;  // The bytes of the input that the string takes. With CESU8_TRUNCATED it is 0.
+};
+
+// Every input and every room is a pointer and a length in bytes. No pointer may be null, not even
+// with the length 0, and a room shares no byte with the input.
+//
+// With CESU8_OK the answer stands at the front of the room. The bytes behind it, and with any other
+// status the whole room, are as before. Nothing is ended by a zero.
+//
+// With CESU8_TOO_SMALL no memory was taken, and a room of the length that is told is enough for the
+// answer, if there is one. So a call with a room of the length 0 asks how much is needed.
+//
+// A call takes memory only where its answer is other than its input: one block from malloc, as
+// noted below, which it frees before it returns. No call keeps anything, so calls may run at once
+// in many threads.
+
+// Whether the encoding of UTF-8 is other than it. If not, the text can be used as it is.
+// CESU8_OK, CESU8_NOT_UTF8. No memory.
+struct cesu8_decision cesu8_needs_encoded(const uint8_t *text, size_t text_length);
+struct cesu8_decision cesu8_mutf8_needs_encoded(const uint8_t *text, size_t text_length);
+
+// The length of the encoding of UTF-8: at most twice the text's. CESU8_OK, CESU8_NOT_UTF8.
+// No memory.
+struct cesu8_answer cesu8_encoded_len(const uint8_t *text, size_t text_length);
+struct cesu8_answer cesu8_mutf8_encoded_len(const uint8_t *text, size_t text_length);
+
+// Encodes UTF-8 to CESU-8 (Unicode Technical Report 26) or to MUTF-8 (Java's DataOutput, without a
+// length in front). CESU8_OK, CESU8_NOT_UTF8, CESU8_TOO_SMALL, CESU8_OUT_OF_MEMORY.
+// Memory: the encoding's length.
+struct cesu8_answer cesu8_encode(
+    const uint8_t *text, size_t text_length, uint8_t *room, size_t room_length);
+struct cesu8_answer cesu8_mutf8_encode(
+    const uint8_t *text, size_t text_length, uint8_t *room, size_t room_length);
+
+// Decodes the encoding to UTF-8. What is no encoding of a text is refused, so UTF-8 with a
+// character of four bytes is too, and a zero byte in MUTF-8. A room of the input's length is
+// always enough. CESU8_OK, CESU8_INVALID, CESU8_TOO_SMALL, CESU8_OUT_OF_MEMORY.
+// Memory: the input's length.
+struct cesu8_answer cesu8_decode_strict(
+    const uint8_t *bytes, size_t bytes_length, uint8_t *room, size_t room_length);
+struct cesu8_answer cesu8_mutf8_decode_strict(
+    const uint8_t *bytes, size_t bytes_length, uint8_t *room, size_t room_length);
+
+// Decodes what is UTF-8 as a whole, which stays as it is, or else the encoding, as the calls above.
+struct cesu8_answer cesu8_decode(
+    const uint8_t *bytes, size_t bytes_length, uint8_t *room, size_t room_length);
+struct cesu8_answer cesu8_mutf8_decode(
+    const uint8_t *bytes, size_t bytes_length, uint8_t *room, size_t room_length);
+
+// Decodes the encoding with damage to UTF-8: each encoded character that stands in the bytes, and
+// U+FFFD for each byte that is in none. A room of three times the input's length is always enough.
+// CESU8_OK, CESU8_TOO_LONG, CESU8_TOO_SMALL, CESU8_OUT_OF_MEMORY. Memory: the answer's length.
+struct cesu8_answer cesu8_decode_lossy_strict(
+    const uint8_t *bytes, size_t bytes_length, uint8_t *room, size_t room_length);
+struct cesu8_answer cesu8_mutf8_decode_lossy_strict(
+    const uint8_t *bytes, size_t bytes_length, uint8_t *room, size_t room_length);
+
+// Decodes what is UTF-8 as a whole, which stays as it is, or else the encoding with damage, as the
+// calls above.
+struct cesu8_answer cesu8_decode_lossy(
+    const uint8_t *bytes, size_t bytes_length, uint8_t *room, size_t room_length);
+struct cesu8_answer cesu8_mutf8_decode_lossy(
+    const uint8_t *bytes, size_t bytes_length, uint8_t *room, size_t room_length);
+
+// The length of what cesu8_decode_lossy_strict gives. CESU8_OK, CESU8_TOO_LONG. No memory.
+struct cesu8_answer cesu8_lossy_len(const uint8_t *bytes, size_t bytes_length);
+struct cesu8_answer cesu8_mutf8_lossy_len(const uint8_t *bytes, size_t bytes_length);
+
+// Writes UTF-8 as Java's DataOutput.writeUTF does: the count of its bytes of MUTF-8 in two bytes,
+// the high byte first, and then these, of which there may be 65,535. CESU8_OK, CESU8_NOT_UTF8,
+// CESU8_TOO_LONG, CESU8_TOO_SMALL, CESU8_OUT_OF_MEMORY. Memory: the MUTF-8's length.
+struct cesu8_answer cesu8_java_write(
+    const uint8_t *text, size_t text_length, uint8_t *room, size_t room_length);
+
+// Reads such a string from the front of the input, to UTF-8, and tells how many bytes it takes,
+// also where it is refused or the room is too small. The one refuses what is no MUTF-8, and the
+// other reads it with damage, as cesu8_mutf8_decode_lossy_strict does. CESU8_OK, CESU8_TRUNCATED,
+// CESU8_INVALID (not in the other), CESU8_TOO_SMALL, CESU8_OUT_OF_MEMORY.
+// Memory: the counted bytes' length, and in the other the answer's.
+struct cesu8_reading cesu8_java_read(
+    const uint8_t *bytes, size_t bytes_length, uint8_t *room, size_t room_length);
+struct cesu8_reading cesu8_java_read_lossy(
+    const uint8_t *bytes, size_t bytes_length, uint8_t *room, size_t room_length);
+
+#ifdef __cplusplus
+}
+static_assert(sizeof(enum cesu8_status) == sizeof(uint32_t), "the library returns 32 bits");
+#else
+_Static_assert(sizeof(enum cesu8_status) == sizeof(uint32_t), "the library returns 32 bits");
+#endif
+
+#endif

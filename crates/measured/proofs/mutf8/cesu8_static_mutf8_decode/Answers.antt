@@ -1,0 +1,12 @@
+use Rattle.simd_cesu8.specs.Encoding.{Mutf8}
+use Rattle.simd_cesu8.specs.Reading.{IsLenientReading}
+use Rattle.measured.proofs.Told.{tells_reading}
+use Rattle.measured.proofs.mutf8.cesu8_static_mutf8_decode.Goals as goal
+
+pub returns-clause-text : goal.returns-clause-text
+returns-clause-text c =
+    let library = c.decode.ensures in
+    let told = c.tell_text in
+    tells_reading (IsLenientReading Mutf8 c.args.bytes.now)
+    told.result c.args.bytes.now c.args.room.now told.new.room c.decode.result
+    told.ensures.ok told.ensures.utf8 told.ensures.err library.text library.borrowed
