@@ -1,8 +1,8 @@
 -- How many bytes of a class there are: by parts, and by a mask.
-use Rattle.std.proofs.Common.{◌≡◌, ℕ, ◌+◌, ◌^◌, ◌<◌, ◌≤◌, Bool, cond, List, [], ◌∷◌, length, map, take, drop, replicate, refl, sym, ap, ◌∙◌, arith, eqb, bit_and, count_ones, count_by, ◌%◌, Fits, w8}
-use lib.Lanes.{zip2, mask_l, top, Each1}
-use Rattle.std.proofs.lemmas.List.{length-map}
-use Rattle.std.proofs.lemmas.Simd.{zip2_splat, bitmask_splat, ones-mask_l, Each1-weaker}
+use Rattle.std.proofs.Common.{◌≡◌, ℕ, ◌+◌, ◌*◌, ◌^◌, ◌<◌, ◌≤◌, Bool, true, false, cond, List, [], ◌∷◌, length, map, take, drop, replicate, refl, sym, ap, ◌∙◌, subst, arith, eqb, bit_and, count_ones, count_by, ◌%◌, Fits, w8, w32}
+use lib.Lanes.{zip2, mask_l, top, sel_l, sum_l, fold_l, chunk, products, dots, Each1, Each2, Steps}
+use Rattle.std.proofs.lemmas.List.{length-map, drop-drop}
+use Rattle.std.proofs.lemmas.Simd.{zip2_splat, bitmask_splat, ones-mask_l, Each1-weaker, Each2-of, Each1-zip2, Each1-replicate, sum-zip2, length-zip2, length-chunk, sum_bound, map-map, sum_dots, sum_by-ones, sum_fits, fold-sum, bytes_below}
 use Rattle.std.proofs.lemmas.Bool.{agree_below_at}
 use Rattle.std.proofs.lemmas.List.Sums.{sum_by-cons, sum_by-take-drop, count_by-le-length}
 use Rattle.simd_cesu8.specs.Class.{is_four}
@@ -53,3 +53,109 @@ pub counted_fits : {X : Type 0} (p : X → Bool) (n : ℕ) (whole xs chunk : Lis
 counted_fits p n whole xs chunk seen here front counted known =
     let parts = sum_by-take-drop (λ y. cond (p y) 1 0) xs n in
     omega (arith, counted ∙ ap (count_by p) front, count_by-le-length p whole)
+
+-- ---- lanes that count their own bytes
+
+-- A one for each element that passes.
+abbrev pub ones : (ℕ → Bool) → List ℕ → List ℕ
+ones p xs = map (λ x. cond (p x) 1 0) xs
+
+chosen : (t : Bool) → ◌≡◌ {A = ℕ} (cond (top 7 (cond t 255 0)) 1 0) (cond t 1 0)
+chosen true = refl
+chosen false = refl
+
+ones_of : (t : ℕ → ℕ → Bool) (y : ℕ) (xs : List ℕ) →
+    sel_l (map (top 7) (zip2 (λ a b. cond (t a b) 255 0) xs (replicate (length xs) y))) (replicate (length xs) 1) (replicate (length xs) 0)
+    ≡ ones (λ x. t x y) xs
+ones_of t y [] = refl
+ones_of t y (x ∷ xs) = λ i. chosen (t x y) i ∷ ones_of t y xs i
+
+-- Choosing by a comparison with one byte gives the ones.
+pub ones_are : (t : ℕ → ℕ → Bool) (y : ℕ) (xs : List ℕ) → length xs ≡ 64 →
+    sel_l (map (top 7) (zip2 (λ a b. cond (t a b) 255 0) xs (replicate 64 y))) (replicate 64 1) (replicate 64 0) ≡ ones (λ x. t x y) xs
+ones_are t y xs long =
+    subst (λ n. sel_l (map (top 7) (zip2 (λ a b. cond (t a b) 255 0) xs (replicate n y))) (replicate n 1) (replicate n 0) ≡ ones (λ x. t x y) xs)
+    long (ones_of t y xs)
+
+ones_agree : (p q : ℕ → Bool) (xs : List ℕ) → Each1 (λ x. p x ≡ q x) xs → ones p xs ≡ ones q xs
+ones_agree p q [] h = refl
+ones_agree p q (x ∷ xs) h = λ i. cond (h.0 i) 1 0 ∷ ones_agree p q xs h.1 i
+
+-- Lanes whose upper five bits are compared with those of F0 have a one where they are F0 to F7.
+pub four_ones_by_mask : (lanes : List ℕ) → length lanes ≡ 64 → Each1 (Fits w8) lanes →
+    sel_l (map (top 7) (zip2 (λ a b. cond (eqb a b) 255 0) (zip2 bit_and lanes (replicate 64 0xF8)) (replicate 64 0xF0))) (replicate 64 1) (replicate 64 0)
+    ≡ ones is_four lanes
+four_ones_by_mask lanes long fits =
+    let upper = zip2_splat bit_and lanes 64 0xF8 long in
+    ones_are eqb 0xF0 _ (ap length upper ∙ length-map lanes (λ b. bit_and b 0xF8) ∙ long)
+    ∙ ap (ones (λ b. eqb b 0xF0)) upper
+    ∙ map-map (λ b. cond (eqb b 0xF0) 1 0) (λ b. bit_and b 0xF8) lanes
+    ∙ ones_agree (λ b. eqb (bit_and b 0xF8) 0xF0) is_four lanes (Each1-weaker (Fits w8) _ (λ b h. four_by_mask b h.fits) lanes fits)
+
+one_low : (t : Bool) → cond t 1 0 ≤ 1
+one_low true = omega arith
+one_low false = omega arith
+
+ones_low : (p : ℕ → Bool) (xs : List ℕ) → Each1 (λ a. a ≤ 1) (ones p xs)
+ones_low p [] = tt
+ones_low p (x ∷ xs) = (one_low (p x), ones_low p xs)
+
+ones_total : (p : ℕ → Bool) (xs : List ℕ) → sum_l (ones p xs) ≡ count_by p xs
+ones_total p [] = refl
+ones_total p (x ∷ xs) = ap (λ n. cond (p x) 1 0 + n) (ones_total p xs) ∙ sym (sum_by-cons (λ y. cond (p y) 1 0) x xs)
+
+-- After n vectors of a block each lane has counted at most n bytes, and all lanes those of the class.
+pub record HaveCounted (p : ℕ → Bool) (block : List ℕ) (n : ℕ) (lanes : List ℕ) : Type 0 where
+  pub long : length lanes ≡ 64
+  pub low : Each1 (λ a. a ≤ n) lanes
+  pub total : sum_l lanes ≡ count_by p (take (64 * n) block)
+
+-- To start with, no lane has counted any.
+pub none_counted : (p : ℕ → Bool) (block : List ℕ) → HaveCounted p block 0 (replicate 64 0)
+none_counted p block = record { long = refl; low = Each1-replicate (λ a. a ≤ 0) 64 0 (omega arith); total = refl }
+
+module _ (p : ℕ → Bool) (block : List ℕ) (n : ℕ) (lanes more : List ℕ) (have : HaveCounted p block n lanes)
+    (ones_of_next : more ≡ ones p (chunk (64 * n) 64 block)) (room : 64 * n + 64 ≤ length block) where
+  more_long : length more ≡ 64
+  more_long = ap length ones_of_next ∙ length-map (chunk (64 * n) 64 block) (λ x. cond (p x) 1 0) ∙ length-chunk (64 * n) 64 block room
+
+  more_low : Each1 (λ a. a ≤ 1) more
+  more_low = subst (Each1 (λ a. a ≤ 1)) (sym ones_of_next) (ones_low p (chunk (64 * n) 64 block))
+
+  -- A lane has room for one more.
+  pub one_more_fits : n < 255 → Each2 (λ a b. Fits w8 (a + b)) lanes more
+  one_more_fits few =
+      Each2-of (λ a. a ≤ n) (λ b. b ≤ 1) (λ a b. Fits w8 (a + b)) (λ a b h k. record { fits = omega (arith, h, k, few) }) lanes more have.low more_low
+
+  total_more : sum_l (zip2 (λ a b. a + b) lanes more) ≡ count_by p (take (64 * n + 64) block)
+  total_more =
+      let here = sum_by-take-drop (λ y. cond (p y) 1 0) block (64 * n) in
+      let next = sum_by-take-drop (λ y. cond (p y) 1 0) (drop (64 * n) block) 64 in
+      let past = sum_by-take-drop (λ y. cond (p y) 1 0) block (64 * n + 64) in
+      let more_total : sum_l more ≡ count_by p (chunk (64 * n) 64 block) = ap sum_l ones_of_next ∙ ones_total p (chunk (64 * n) 64 block) in
+      omega (arith, sum-zip2 lanes more (have.long ∙ sym more_long), have.total, more_total, here, next, past,
+        ap (count_by p) (drop-drop 64 (64 * n) block))
+
+  -- One vector more is counted.
+  pub counted_more : HaveCounted p block (n + 1) (zip2 (λ a b. a + b) lanes more)
+  counted_more =
+      let next : 64 * n + 64 ≡ 64 * (n + 1) = omega arith in
+      record {
+        long = length-zip2 (λ a b. a + b) lanes more (have.long ∙ sym more_long) ∙ have.long;
+        low = Each1-zip2 (λ a b. a + b) (λ a. a ≤ n + 1) lanes more
+            (Each2-of (λ a. a ≤ n) (λ b. b ≤ 1) (λ a b. a + b ≤ n + 1) (λ a b h k. omega (arith, h, k)) lanes more have.low more_low);
+        total = total_more ∙ ap (λ m. count_by p (take m block)) next;
+      }
+
+-- The sum of dot products with ones is the sum of the lanes, which fits.
+module _ (lanes : List ℕ) (long : length lanes ≡ 64) (fits : Each1 (Fits w8) lanes) where
+  dots_total : sum_l (dots lanes (replicate 64 1)) ≡ sum_l lanes
+  dots_total = (sum_dots 16 lanes (replicate 64 1) long refl).0 ∙ subst (λ n. sum_l (products lanes (replicate n 1)) ≡ sum_l lanes) long (sum_by-ones lanes)
+
+  pub dots_sum_fits : Steps (λ s x. Fits w32 (s + x)) (λ s x. s + x) 0 (dots lanes (replicate 64 1))
+  dots_sum_fits =
+      let low = sum_bound 255 lanes (bytes_below lanes fits) in
+      sum_fits w32 0 (dots lanes (replicate 64 1)) (omega (arith, dots_total, low, long))
+
+  pub dots_sum : fold_l (λ s x. s + x) 0 (dots lanes (replicate 64 1)) ≡ sum_l lanes
+  dots_sum = omega (arith, fold-sum 0 (dots lanes (replicate 64 1)), dots_total)

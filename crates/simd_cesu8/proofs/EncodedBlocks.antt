@@ -1,11 +1,11 @@
 -- What the encoder's vectors say of the places of a block.
-use Rattle.std.proofs.Common.{◌≡◌, ℕ, ◌+◌, ◌≤◌, Bool, List, map, length, get_or, eqb, bit_or, sym, ap, ◌∙◌, arith}
+use Rattle.std.proofs.Common.{◌≡◌, ℕ, ◌+◌, ◌%◌, ◌^◌, ◌≤◌, Bool, List, map, length, get_or, eqb, bit_or, sym, ap, ◌∙◌, arith}
 use Rattle.std.specs.List.{range_with_len}
 use Rattle.std.proofs.lemmas.Simd.{map-map, pick_l-range_with_len, zip2_of_maps}
 use lib.Lanes.{zip2, mask_l, chunk}
 use Rattle.simd_cesu8.specs.Encoding.{Flavor}
 use Rattle.simd_cesu8.specs.EncodedPlaces.{is_lead, is_null, mask, six_bits, changed_at, inserted_at, is_doubled_at}
-use Rattle.simd_cesu8.proofs.EncodedLanes.{loaded, second_vector, second_lanes, first_vector, first_lanes, doubled_lanes}
+use Rattle.simd_cesu8.proofs.EncodedLanes.{loaded, second_vector, second_lanes, first_vector, first_lanes, doubled_lanes, lead_or_null}
 
 -- Marks of the bytes of a load, by places.
 pub marks_at : (t : ℕ → Bool) (window : List ℕ) (at d : ℕ) (lanes : List ℕ) → at + d + 32 ≤ length window →
@@ -57,8 +57,8 @@ module _ (f : Flavor) (window : List ℕ) (at : ℕ) (lead before two_before nul
   pub firsts_are : first_vector 32 null ≡ map (inserted_at f window) (range_with_len at 32)
   firsts_are = rw null_at (first_lanes (λ i. is_null f (get_or window (i + 2) 0)) (range_with_len at 32))
 
-  pub doubled_are : (bits : ℕ) → bits ≡ mask_l (map (λ x. eqb x 0xFF) (zip2 bit_or (zip2 bit_or lead two_before) null)) →
+  pub doubled_are : (bits : ℕ) → bits ≡ mask_l (map (λ x. eqb x 0xFF) (zip2 bit_or (zip2 (λ a b. (a + b) % 2 ^ 8) lead null) two_before)) →
       bits ≡ mask_l (map (is_doubled_at f window) (range_with_len at 32))
   doubled_are bits is = is ∙ rw (lead_at, two_before_at, null_at)
       (ap mask_l (doubled_lanes (λ i. is_lead (get_or window (i + 2) 0)) (λ i. is_lead (get_or window i 0))
-      (λ i. is_null f (get_or window (i + 2) 0)) (range_with_len at 32)))
+      (λ i. is_null f (get_or window (i + 2) 0)) (λ i. lead_or_null f (get_or window (i + 2) 0)) (range_with_len at 32)))

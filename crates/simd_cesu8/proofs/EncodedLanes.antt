@@ -1,9 +1,12 @@
 -- What the vectors of the encoder hold, lane by lane.
-use Rattle.std.proofs.Common.{◌≡◌, ℕ, zero, suc, ◌+◌, ◌*◌, ◌/◌, ◌%◌, ◌^◌, ◌≤◌, Bool, true, false, cond, ◌||◌, List, [], ◌∷◌, ◌++◌, map, length, get_or, replicate, eqb, leb, bit_and, bit_or, refl, sym, ap, ◌∙◌, subst, arith, w8}
+use Rattle.std.proofs.Common.{◌≡◌, ℕ, zero, suc, ◌+◌, ◌*◌, ◌/◌, ◌%◌, ◌^◌, ◌≤◌, Bool, true, false, cond, ◌||◌, ◌&&◌, List, [], ◌∷◌, ◌++◌, map, length, get_or, replicate, eqb, leb, bit_and, bit_or, refl, sym, ap, ◌∙◌, subst, arith, w8}
 use Rattle.std.specs.List.{flat_map, range_with_len}
+use Rattle.std.proofs.lemmas.Bool.{false≢true}
+use Rattle.std.proofs.lemmas.Bool.Decides.{nat_tests}
 use Rattle.std.proofs.lemmas.Simd.{bitmask_splat, pick_l-range_with_len}
 use lib.Lanes.{zip2, sel_l, mask_l, top, chunk}
-use Rattle.simd_cesu8.specs.EncodedPlaces.{is_lead, mask, six_bits, packed}
+use Rattle.simd_cesu8.specs.Encoding.{Flavor, Cesu8, Mutf8}
+use Rattle.simd_cesu8.specs.EncodedPlaces.{is_lead, is_null, mask, six_bits, packed}
 use Rattle.simd_cesu8.proofs.Lanes.{equal}
 
 abbrev pub at_most : ℕ → ℕ → ℕ
@@ -136,22 +139,33 @@ pub first_lanes : (null : ℕ → Bool) (vs : List ℕ) →
 first_lanes null [] = refl
 first_lanes null (v ∷ vs) = λ i. first_lane (null v) i ∷ first_lanes null vs i
 
-doubled_lane : (a b c : Bool) → eqb (bit_or (bit_or (mask a) (mask b)) (mask c)) 0xFF ≡ ((a || b) || c)
-doubled_lane true true true = refl
-doubled_lane true true false = refl
-doubled_lane true false true = refl
-doubled_lane true false false = refl
-doubled_lane false true true = refl
-doubled_lane false true false = refl
-doubled_lane false false true = refl
-doubled_lane false false false = refl
+doubled_lane : (a b c : Bool) → (a && c) ≡ false → eqb (bit_or ((mask a + mask c) % 2 ^ 8) (mask b)) 0xFF ≡ ((a || b) || c)
+doubled_lane true b true h = absurd (false≢true (sym h))
+doubled_lane true true false h = refl
+doubled_lane true false false h = refl
+doubled_lane false true true h = refl
+doubled_lane false true false h = refl
+doubled_lane false false true h = refl
+doubled_lane false false false h = refl
 
--- The lanes of three tests, joined, tell which hold.
-pub doubled_lanes : (a b c : ℕ → Bool) (vs : List ℕ) →
-    map (λ x. eqb x 0xFF) (zip2 bit_or (zip2 bit_or (map (λ v. mask (a v)) vs) (map (λ v. mask (b v)) vs)) (map (λ v. mask (c v)) vs))
+-- The lanes of three tests, joined, tell which hold. The first and the last never hold together.
+pub doubled_lanes : (a b c : ℕ → Bool) → ((v : ℕ) → (a v && c v) ≡ false) → (vs : List ℕ) →
+    map (λ x. eqb x 0xFF) (zip2 bit_or (zip2 (λ a b. (a + b) % 2 ^ 8) (map (λ v. mask (a v)) vs) (map (λ v. mask (c v)) vs)) (map (λ v. mask (b v)) vs))
     ≡ map (λ v. (a v || b v) || c v) vs
-doubled_lanes a b c [] = refl
-doubled_lanes a b c (v ∷ vs) = λ i. doubled_lane (a v) (b v) (c v) i ∷ doubled_lanes a b c vs i
+doubled_lanes a b c apart [] = refl
+doubled_lanes a b c apart (v ∷ vs) = λ i. doubled_lane (a v) (b v) (c v) (apart v) i ∷ doubled_lanes a b c apart vs i
+
+lead_is_not_null : (b : ℕ) → (is_lead b && is_null Mutf8 b) ≡ false
+lead_is_not_null b = grind (arith, nat_tests)
+
+neither : (t : Bool) → (t && false) ≡ false
+neither true = refl
+neither false = refl
+
+-- No lead byte is null.
+pub lead_or_null : (f : Flavor) (b : ℕ) → (is_lead b && is_null f b) ≡ false
+lead_or_null Cesu8 b = neither (is_lead b)
+lead_or_null Mutf8 b = lead_is_not_null b
 
 packed_one : (t : Bool) (a b : ℕ) (ts : List Bool) (firsts seconds rest : List ℕ) → packed ts firsts seconds ≡ rest →
     packed (t ∷ ts) (a ∷ firsts) (b ∷ seconds) ≡ cond t (a ∷ b ∷ []) (b ∷ []) ++ rest

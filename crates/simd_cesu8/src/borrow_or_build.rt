@@ -16,12 +16,14 @@ use crate::internal::{Flavor, contains_changed};
 use simdutf8::basic;
 use std::alloc::{AllocError, Global};
 
+#[inline(always)]
 pub fn needs_encoded(flavor: Flavor, value: &str) -> bool
     ensures { IsTrue result ↔ NeedsEncoding (flavor_of flavor) (chars value.now) }
 {
     contains_changed(flavor, value.as_bytes())
 }
 
+#[inline(always)]
 pub fn encode(alloc: Global, flavor: Flavor, value: &str) -> Result<CowBytes<'_>, AllocError>
     ensures encoding { IfBytes result
         (λ bytes. bytes ≡ encoding (flavor_of flavor) (chars value.now)) }

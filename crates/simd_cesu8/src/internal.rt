@@ -36,6 +36,7 @@ pub struct DecodeOptions {
 }
 
 /// Whether some byte of UTF-8 is written otherwise in the flavor.
+#[inline(always)]
 pub fn contains_changed(flavor: Flavor, bytes: &[u8]) -> bool
     ensures { IsTrue result ↔ Any (IsChangedByte (flavor_of flavor)) bytes.now }
 {

@@ -29,6 +29,7 @@ use super::writers::copy;
 use std::alloc::{AllocError, Allocator};
 
 /// The encoding of a text, after one request for exactly its length.
+#[inline(never)]
 pub fn encode<A: Allocator>(alloc: A, flavor: Flavor, text: &str) -> Result<Vec<u8, A>, AllocError>
     ensures bytes { IfOk result (λ encoded.
         encoded.items ≡ encoding (flavor_of flavor) (chars text.now)) }
