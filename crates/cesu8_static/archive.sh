@@ -31,6 +31,7 @@ for level in v3 v2; do
     done
 done
 
-cc -std=c11 -O2 -fPIC -Wall -Wextra -Werror -I "$crate/include" -c -o "$scratch/chooser.o" "$crate/chooser.c"
+cc -std=c11 -O2 -fPIC -Wall -Wextra -Werror -I "$crate/include" -c -o "$scratch/chooser.o" \
+    "$crate/chooser.c"
 (cd "$scratch" && ar x "$kit/c/liblibc_c.a")
 ar rcs "$archive" "$scratch"/*.o

@@ -11,15 +11,15 @@ returns-in-Some-clause-ok c ok =
     subst (λ answer. PlacesReading (IsTextOfForm c.args.bytes.now) answer c.args.room.now c.decode_strict-answer.new.room)
     (sym of)
     (form_places c.args.bytes.now c.in-Some.counted.now c.decode_strict-answer.result c.args.room.now c.decode_strict-answer.new.room
-      (λ i. omega (arith, c.type_inv.bytes i)) c.in-Some.ensures.whole c.in-Some.ensures.some
-      (c.decode_strict-answer.ensures.ok (ap (λ answer. answer.status) (sym of) ∙ ok)))
+    (λ i. omega (arith, c.type_inv.bytes i)) c.in-Some.ensures.whole c.in-Some.ensures.some
+    (c.decode_strict-answer.ensures.ok (ap (λ answer. answer.status) (sym of) ∙ ok)))
 
 pub returns-in-Some-clause-too_small : goal.returns-in-Some-clause-too_small
 returns-in-Some-clause-too_small c =
     subst (λ answer. AsksRoomFor (IsTextOfForm c.args.bytes.now) answer c.args.room.now)
     (sym c.of.ensures.answer)
     (form_asks c.args.bytes.now c.in-Some.counted.now c.decode_strict-answer.result c.args.room.now
-      c.in-Some.ensures.some c.decode_strict-answer.ensures.too_small)
+    c.in-Some.ensures.some c.decode_strict-answer.ensures.too_small)
 
 pub returns-in-None-clause-too_small : goal.returns-in-None-clause-too_small
 returns-in-None-clause-too_small c text form =
