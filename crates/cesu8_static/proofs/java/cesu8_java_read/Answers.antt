@@ -1,7 +1,6 @@
-use Rattle.std.proofs.Common.{◌≡◌, ap, sym, subst, ◌∙◌, arith}
+use Rattle.std.proofs.Common.{ap, sym, subst, ◌∙◌, arith}
 use Rattle.java_text.proofs.Forms.{none_begins_truncated}
 use Rattle.cesu8_static.specs.Answers.{PlacesReading, AsksRoomFor}
-use Rattle.cesu8_static.specs.declared.answer.Answer.{Answer}
 use Rattle.cesu8_static.proofs.Forms.{IsTextOfForm, form_places, form_asks}
 use Rattle.cesu8_static.proofs.java.cesu8_java_read.Goals as goal
 
