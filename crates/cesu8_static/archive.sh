@@ -11,6 +11,10 @@ kit=$(dirname "$(dirname "$(readlink -f "$(command -v rt)")")")
 scratch=$(mktemp -d)
 trap 'rm -rf "$scratch"' EXIT
 
+if [ $# -ne 1 ]; then
+    echo 'usage: archive.sh FILE.a' >&2
+    exit 2
+fi
 archive=$1
 rm -f "$archive"
 
