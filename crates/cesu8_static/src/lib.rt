@@ -18,13 +18,14 @@ ghost use Rattle.simd_cesu8.specs.Reading.{reading, lossy_length, IsLenientLossy
 ghost use Rattle.cesu8_static.specs.Answers.{Places, PlacesReading, Leaves, IsAmong};
 ghost use Rattle.cesu8_static.specs.Answers.{AsksRoomOf, AsksRoomFor, AsksAtMost};
 
-pub mod answer;
+mod answer;
 mod calls;
 mod flavor;
 pub mod java;
 pub mod mutf8;
 
-use crate::answer::{Answer, Decision, INVALID, NOT_UTF8, OK, OUT_OF_MEMORY, TOO_LONG, TOO_SMALL};
+pub use crate::answer::{Answer, Decision, Reading};
+use crate::answer::{INVALID, NOT_UTF8, OK, OUT_OF_MEMORY, TOO_LONG, TOO_SMALL};
 use crate::flavor::Flavor;
 use std::alloc::Global;
 
