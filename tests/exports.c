@@ -138,8 +138,8 @@ static char long_text[65536];
 static char long_form[65537];
 
 // For each call an input that is its own answer, one whose answer is built, one that is refused or
-// damaged and the empty one. What is built takes a request. So does what a decoder refuses, where
-// its length does not show that it has to.
+// damaged and the empty one. What is built takes a request, and so does what a decoder refuses.
+// Where such an input has no length here, a smaller room than it shows that it has to be refused.
 static const struct row rows[] = {
     {CALL(needs_encoded), BYTES(ALIKE ZERO), OK, LENGTH(0), 0, 0},
     {CALL(needs_encoded), BYTES(ALIKE FOUR_BYTES), OK, LENGTH(1), 0, 0},
@@ -167,18 +167,18 @@ static const struct row rows[] = {
     {CALL(mutf8_encode), BYTES(""), OK, BYTES(""), 0, 0},
     {CALL(decode_strict), BYTES(ALIKE ZERO), OK, BYTES(ALIKE ZERO), 0, 0},
     {CALL(decode_strict), BYTES(ALIKE ZERO SURROGATES), OK, BYTES(ALIKE ZERO FOUR_BYTES), 1, 0},
-    {CALL(decode_strict), BYTES(ALIKE FOUR_BYTES), INVALID, NOTHING, 0, 0},
+    {CALL(decode_strict), BYTES(ALIKE FOUR_BYTES), INVALID, NOTHING, 1, 0},
     {CALL(decode_strict), BYTES(SURROGATES SURROGATES "\xFF"), INVALID, LENGTH(11), 1, 0},
     {CALL(decode_strict), BYTES(""), OK, BYTES(""), 0, 0},
     {CALL(mutf8_decode_strict), BYTES(ALIKE), OK, BYTES(ALIKE), 0, 0},
     {CALL(mutf8_decode_strict), BYTES(ALIKE C0_80 SURROGATES), OK, BYTES(ALIKE ZERO FOUR_BYTES),
      1, 0},
-    {CALL(mutf8_decode_strict), BYTES(ALIKE ZERO), INVALID, NOTHING, 0, 0},
+    {CALL(mutf8_decode_strict), BYTES(ALIKE ZERO), INVALID, NOTHING, 1, 0},
     {CALL(mutf8_decode_strict), BYTES(C0_80 C0_80 ZERO), INVALID, LENGTH(5), 1, 0},
     {CALL(mutf8_decode_strict), BYTES(""), OK, BYTES(""), 0, 0},
     {CALL(decode), BYTES(ALIKE ZERO FOUR_BYTES), OK, BYTES(ALIKE ZERO FOUR_BYTES), 0, 0},
     {CALL(decode), BYTES(ALIKE ZERO SURROGATES), OK, BYTES(ALIKE ZERO FOUR_BYTES), 1, 0},
-    {CALL(decode), BYTES(FOUR_BYTES SURROGATES), INVALID, NOTHING, 0, 0},
+    {CALL(decode), BYTES(FOUR_BYTES SURROGATES), INVALID, NOTHING, 1, 0},
     {CALL(decode), BYTES(""), OK, BYTES(""), 0, 0},
     {CALL(mutf8_decode), BYTES(ALIKE ZERO FOUR_BYTES), OK, BYTES(ALIKE ZERO FOUR_BYTES), 0, 0},
     {CALL(mutf8_decode), BYTES(ALIKE C0_80 SURROGATES), OK, BYTES(ALIKE ZERO FOUR_BYTES), 1, 0},
@@ -222,7 +222,7 @@ static const struct row rows[] = {
     {CALL(java_read), BYTES("\0\x06" ALIKE "\0\0"), OK, BYTES(ALIKE), 0, 8},
     {CALL(java_read), BYTES("\0\x08" C0_80 SURROGATES), OK, BYTES(ZERO FOUR_BYTES), 1, 10},
     {CALL(java_read), {long_form, 65537}, OK, {long_text, 65535}, 0, 65537},
-    {CALL(java_read), BYTES("\0\x04" FOUR_BYTES "\0"), INVALID, NOTHING, 0, 6},
+    {CALL(java_read), BYTES("\0\x04" FOUR_BYTES "\0"), INVALID, NOTHING, 1, 6},
     {CALL(java_read), BYTES("\0\x03" C0_80), TRUNCATED, NOTHING, 0, 0},
     {CALL(java_read), BYTES("\0"), TRUNCATED, NOTHING, 0, 0},
     {CALL(java_read), BYTES("\0\0\0\0"), OK, BYTES(""), 0, 2},
@@ -240,6 +240,14 @@ static bool is_asked_first(const struct row *row, size_t room_length)
 {
     bool has_room = row->answer.start != NULL || row->status != OK;
     return has_room && room_length < row->answer.length;
+}
+
+// Whether the length that is counted for a small room is greater than the input's, and so shows that
+// it is the encoding of no text.
+static bool is_refused_early(const struct row *row, size_t room_length)
+{
+    bool is_longer = row->answer.length == 0;
+    return row->status == INVALID && is_longer && room_length < row->input.length;
 }
 
 // What has to come back, with the bytes that the room has to have then.
@@ -263,7 +271,8 @@ static bool agrees(const struct row *row, size_t room_length, int refusal)
     static char room[SPACE], wanted_room[SPACE];
     memset(room, FILLING, SPACE);
     memset(wanted_room, FILLING, SPACE);
-    int all_requests = is_asked_first(row, room_length) ? 0 : row->requests;
+    bool is_early = is_asked_first(row, room_length) || is_refused_early(row, room_length);
+    int all_requests = is_early ? 0 : row->requests;
     int until_refusal = refusal == ALL ? 1 : refusal;
     bool is_out_of_memory = refusal != NONE && until_refusal <= all_requests;
     int wanted_requests = is_out_of_memory ? until_refusal : all_requests;
@@ -298,8 +307,8 @@ int main(void)
     int passed = 0, failed = 0;
     for (const struct row *row = rows; row < rows + sizeof rows / sizeof *rows; row++) {
         size_t length = row->answer.length;
-        // None, one byte too little, what is needed, and more.
-        size_t rooms[] = {0, length == 0 ? 0 : length - 1, length, length + 3};
+        // None, one byte too little, what is needed, more, and what is enough for any answer.
+        size_t rooms[] = {0, length == 0 ? 0 : length - 1, length, length + 3, SPACE - 8};
         for (size_t i = 0; i < sizeof rooms / sizeof *rooms; i++)
             for (int refusal = ALL; refusal <= row->requests + 1; refusal++)
                 if (agrees(row, rooms[i], refusal))

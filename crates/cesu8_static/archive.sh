@@ -11,6 +11,10 @@ kit=$(dirname "$(dirname "$(readlink -f "$(command -v rt)")")")
 scratch=$(mktemp -d)
 trap 'rm -rf "$scratch"' EXIT
 
+if [ $# -ne 1 ]; then
+    echo 'usage: archive.sh FILE.a' >&2
+    exit 2
+fi
 archive=$1
 rm -f "$archive"
 
@@ -31,6 +35,7 @@ for level in v3 v2; do
     done
 done
 
-cc -std=c11 -O2 -fPIC -Wall -Wextra -Werror -I "$crate/include" -c -o "$scratch/chooser.o" "$crate/chooser.c"
+cc -std=c11 -O2 -fPIC -Wall -Wextra -Werror -I "$crate/include" -c -o "$scratch/chooser.o" \
+    "$crate/chooser.c"
 (cd "$scratch" && ar x "$kit/c/liblibc_c.a")
 ar rcs "$archive" "$scratch"/*.o

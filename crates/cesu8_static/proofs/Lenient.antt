@@ -1,5 +1,5 @@
 -- Lenient readings: the text of what is UTF-8 as a whole, and another reading elsewhere.
-use Rattle.std.proofs.Common.{◌≡◌, ◌⊎◌, ℕ, ◌<◌, List, inl, inr, refl, sym, subst, ap, length}
+use Rattle.std.proofs.Common.{◌≡◌, ◌⊎◌, ℕ, List, inl, inr, refl, sym, subst, length}
 use Rattle.std.specs.Prelude.{IsUtf8}
 use Rattle.std.specs.Str.{chars}
 use Rattle.simd_cesu8.specs.Text.{utf8, IsUtf8Of}

@@ -1,2 +1,3 @@
 mod Strict
 mod Lenient
+mod Forms

@@ -35,14 +35,19 @@ abbrev pub AsksRoomOf : ℕ → Answer → List ℕ → Type 0
 AsksRoomOf n answer old =
     (answer.status ≡ TOO_SMALL ↔ length old < n) × (answer.status ≡ TOO_SMALL → answer.length ≡ n)
 
--- The UTF-8 of each reading of the input has this length.
-abbrev pub HasLengthOf : (List ℕ → Type 0) → ℕ → Type 0
-HasLengthOf IsReading n = (text : List ℕ) → IsReading text → length (utf8 text) ≡ n
-
 -- It does so for the UTF-8 of each reading of the input.
 abbrev pub AsksRoomFor : (List ℕ → Type 0) → Answer → List ℕ → Type 0
 AsksRoomFor IsReading answer old =
     (text : List ℕ) → IsReading text → AsksRoomOf (length (utf8 text)) answer old
+
+-- What is found to be needed is enough for this length, and is it where there is less room.
+abbrev pub IsRoomFor : ℕ → ℕ → ℕ → Type 0
+IsRoomFor n room needed = (n ≤ needed) × (room < needed → needed ≡ n)
+
+-- The same for the UTF-8 of each reading of the input.
+abbrev pub IsRoomForReadings : (List ℕ → Type 0) → ℕ → ℕ → Type 0
+IsRoomForReadings IsReading room needed =
+    (text : List ℕ) → IsReading text → IsRoomFor (length (utf8 text)) room needed
 
 -- Where the call says that the room is too small, it tells a length that is greater, and at most this.
 abbrev pub AsksAtMost : ℕ → Answer → List ℕ → Type 0

@@ -1,5 +1,5 @@
-//! The calls in either encoding. Each finds the length that its answer needs before it asks for
-//! memory, and asks for none where the room is shorter.
+//! The calls in either encoding. Each finds what room its answer needs before it asks for memory,
+//! and asks for none where the room is shorter.
 
 ghost use Rattle.std.specs.Prelude.{◌≡◌, ◌≢◌, ◌<◌, ◌≤◌, ◌↔◌, [], ◌∷◌, length, IsTrue, IsUtf8, IfSome, IfNone};
 ghost use Rattle.std.specs.Str.{chars};
@@ -7,7 +7,7 @@ ghost use Rattle.simd_cesu8.specs.Text.{utf8};
 ghost use Rattle.simd_cesu8.specs.Encoding.{encoding, NeedsEncoding};
 ghost use Rattle.simd_cesu8.specs.Class.{IsUnchangedUtf8};
 ghost use Rattle.simd_cesu8.specs.Reading.{IsStrictReading, HasNoStrictReading, IsLenientReading, HasNoLenientReading, reading, lossy_length, IsLenientLossyReading};
-ghost use Rattle.cesu8_static.specs.Answers.{flavor_of, Places, PlacesReading, Leaves, AsksRoomOf, AsksRoomFor, HasLengthOf, AsksAtMost, IsAmong};
+ghost use Rattle.cesu8_static.specs.Answers.{flavor_of, Places, PlacesReading, Leaves, AsksRoomOf, AsksRoomFor, IsRoomFor, IsRoomForReadings, AsksAtMost, IsAmong};
 ghost use Rattle.simd_cesu8.specs.Cow.{answer_text};
 
 use crate::answer::{Answer, Decision, INVALID, NOT_UTF8, OK, OUT_OF_MEMORY, TOO_LONG, TOO_SMALL};
@@ -65,9 +65,9 @@ pub fn encode(alloc: Global, flavor: Flavor, text: &[u8], room: &mut [u8]) -> An
     let Ok(text) = basic::from_utf8(text) else {
         return Answer::without(NOT_UTF8);
     };
-    let length = flavor.encoded_len(text);
-    if room.len() < length {
-        return Answer::too_small(length);
+    let needed = room_for_encoding(flavor, text, room.len());
+    if room.len() < needed {
+        return Answer::too_small(needed);
     }
     match flavor.encode(alloc, text) {
         Ok(answer) => Answer::placed(answer.as_bytes(), room),
@@ -75,8 +75,19 @@ pub fn encode(alloc: Global, flavor: Flavor, text: &[u8], room: &mut [u8]) -> An
     }
 }
 
-/// The strict reading. It is never longer than the input, so a length that is says that there is
-/// none.
+/// What room the encoding needs: its length, where the room is shorter than that, and else perhaps
+/// more, which is found faster. An encoding has at most twice the bytes of its text.
+fn room_for_encoding(flavor: Flavor, text: &str, room: usize) -> usize
+    ensures { IsRoomFor (length (encoding (flavor_of flavor) (chars text.now))) room result }
+{
+    laws::bounds();
+    if text.len() <= room / 2 {
+        return room;
+    }
+    flavor.encoded_len(text)
+}
+
+/// The strict reading.
 pub fn decode_strict(alloc: Global, flavor: Flavor, bytes: &[u8], room: &mut [u8]) -> Answer
     ensures ok { result.status ≡ OK →
         PlacesReading (IsStrictReading (flavor_of flavor) bytes.now) result room.old room.new }
@@ -88,11 +99,11 @@ pub fn decode_strict(alloc: Global, flavor: Flavor, bytes: &[u8], room: &mut [u8
         result.status ≢ OUT_OF_MEMORY }
     ensures none { Leaves result room.old room.new }
 {
-    let Some(length) = strict_length(flavor, bytes) else {
+    let Some(needed) = room_for_strict(flavor, bytes, room.len()) else {
         return Answer::without(INVALID);
     };
-    if room.len() < length {
-        return Answer::too_small(length);
+    if room.len() < needed {
+        return Answer::too_small(needed);
     }
     match flavor.decode_strict(alloc, bytes) {
         Ok(text) => placed_text(text, room),
@@ -101,17 +112,19 @@ pub fn decode_strict(alloc: Global, flavor: Flavor, bytes: &[u8], room: &mut [u8
     }
 }
 
-/// The length of the strict reading, where there is one. It is that of the lossy reading, and at
-/// most the input's.
-fn strict_length(flavor: Flavor, bytes: &[u8]) -> Option<usize>
-    ensures some { IfSome result (λ n. (n ≡ lossy_length (flavor_of flavor) bytes.now)
-        × (n ≤ length bytes.now)) }
-    ensures readings { IfSome result (λ n.
-        HasLengthOf (IsStrictReading (flavor_of flavor) bytes.now) n) }
+/// What room the strict reading needs, where there can be one, as in [`room_for_encoding`]. It is
+/// the lossy reading then, and never longer than the input.
+fn room_for_strict(flavor: Flavor, bytes: &[u8], room: usize) -> Option<usize>
+    ensures readings { IfSome result (λ needed.
+        IsRoomForReadings (IsStrictReading (flavor_of flavor) bytes.now) room needed) }
+    ensures at_most { IfSome result (λ needed. needed ≤ length bytes.now) }
     ensures none { IfNone result (HasNoStrictReading (flavor_of flavor) bytes.now) }
 {
     laws::around();
     laws::bounds();
+    if bytes.len() <= room {
+        return Some(bytes.len());
+    }
     match flavor.lossy_len(bytes) {
         Some(length) if length <= bytes.len() => Some(length),
         _ => None,
@@ -132,7 +145,8 @@ pub fn decode(alloc: Global, flavor: Flavor, bytes: &[u8], room: &mut [u8]) -> A
     ensures ok { result.status ≡ OK →
         PlacesReading (IsLenientReading (flavor_of flavor) bytes.now) result room.old room.new }
     ensures invalid { result.status ≡ INVALID → HasNoLenientReading (flavor_of flavor) bytes.now }
-    ensures too_small { AsksRoomFor (IsLenientReading (flavor_of flavor) bytes.now) result room.old }
+    ensures too_small { AsksRoomFor
+        (IsLenientReading (flavor_of flavor) bytes.now) result room.old }
     ensures at_most { AsksAtMost (length bytes.now) result room.old }
     ensures statuses { IsAmong (OK ∷ INVALID ∷ TOO_SMALL ∷ OUT_OF_MEMORY ∷ []) result.status }
     ensures memory { IsUtf8 bytes.now → result.status ≢ OUT_OF_MEMORY }
@@ -157,16 +171,30 @@ pub fn decode_lossy_strict(alloc: Global, flavor: Flavor, bytes: &[u8], room: &m
         result.status ≢ OUT_OF_MEMORY }
     ensures none { Leaves result room.old room.new }
 {
-    let Some(length) = flavor.lossy_len(bytes) else {
+    let Some(needed) = room_for_lossy(flavor, bytes, room.len()) else {
         return Answer::without(TOO_LONG);
     };
-    if room.len() < length {
-        return Answer::too_small(length);
+    if room.len() < needed {
+        return Answer::too_small(needed);
     }
     match flavor.decode_lossy_strict(alloc, bytes) {
         Ok(text) => placed_text(text, room),
         Err(_) => Answer::without(OUT_OF_MEMORY),
     }
+}
+
+/// What room the lossy reading needs, where its length fits `usize`, as in [`room_for_encoding`].
+/// It has at most three times the bytes of the input.
+fn room_for_lossy(flavor: Flavor, bytes: &[u8], room: usize) -> Option<usize>
+    ensures some { IfSome result (λ needed.
+        IsRoomFor (lossy_length (flavor_of flavor) bytes.now) room needed) }
+    ensures none { IfNone result (usize.MAX < lossy_length (flavor_of flavor) bytes.now) }
+{
+    laws::bounds();
+    if bytes.len() <= room / 3 {
+        return Some(room);
+    }
+    flavor.lossy_len(bytes)
 }
 
 /// The text of what is UTF-8 as a whole, which is the input, or else the lossy reading.

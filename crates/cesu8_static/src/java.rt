@@ -5,9 +5,9 @@ ghost use Rattle.std.specs.Str.{chars};
 ghost use Rattle.simd_cesu8.specs.Text.{utf8};
 ghost use Rattle.simd_cesu8.specs.Encoding.{Mutf8, NeedsEncoding};
 ghost use Rattle.simd_cesu8.specs.Class.{IsUnchangedUtf8};
-ghost use Rattle.simd_cesu8.specs.Reading.{IsStrictReading, HasNoStrictReading};
+ghost use Rattle.simd_cesu8.specs.Reading.{HasNoStrictReading};
 ghost use Rattle.simd_cesu8.specs.Reading.{reading, lossy_length};
-ghost use Rattle.java_text.specs.Form.{HasForm, java_form, count_in, counted, IsTruncated};
+ghost use Rattle.java_text.specs.Form.{HasForm, java_form, BeginsWithForm, count_in, counted, rest_in, IsTruncated};
 ghost use Rattle.cesu8_static.specs.Answers.{Places, PlacesReading, Leaves, IsAmong};
 ghost use Rattle.cesu8_static.specs.Answers.{AsksRoomOf, AsksRoomFor, AsksAtMost, answer_of};
 
@@ -76,14 +76,15 @@ fn placed_form(count: u16, encoded: &[u8], room: &mut [u8]) -> Answer
 /// is freed.
 #[unsafe(no_mangle)]
 pub extern "C" fn cesu8_java_read(alloc: Global, bytes: &[u8], room: &mut [u8]) -> Reading
-    ensures ok { result.status ≡ OK → PlacesReading (IsStrictReading Mutf8 (counted bytes.now))
+    ensures ok { result.status ≡ OK → PlacesReading
+        (λ text. BeginsWithForm bytes.now text (rest_in bytes.now))
         (answer_of result) room.old room.new }
     ensures truncated { result.status ≡ TRUNCATED ↔ IsTruncated bytes.now }
     ensures invalid { result.status ≡ INVALID → HasNoStrictReading Mutf8 (counted bytes.now) }
     ensures taken { ¬ (IsTruncated bytes.now) → result.taken ≡ 2 + count_in bytes.now }
     ensures not_taken { IsTruncated bytes.now → result.taken ≡ 0 }
-    ensures too_small { ¬ (IsTruncated bytes.now) →
-        AsksRoomFor (IsStrictReading Mutf8 (counted bytes.now)) (answer_of result) room.old }
+    ensures too_small { AsksRoomFor (λ text. BeginsWithForm bytes.now text (rest_in bytes.now))
+        (answer_of result) room.old }
     ensures at_most { AsksAtMost (count_in bytes.now) (answer_of result) room.old }
     ensures statuses { IsAmong (OK ∷ TRUNCATED ∷ INVALID ∷ TOO_SMALL ∷ OUT_OF_MEMORY ∷ [])
         result.status }

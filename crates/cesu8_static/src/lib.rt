@@ -1,10 +1,10 @@
 //! The library for C: the calls of `simd_cesu8` and `java_text` over byte slices.
 //!
 //! Each slice is passed as a pointer and a length, as `include/cesu8.h` declares it. A call tells a
-//! status and the length of its answer, and places the answer at the front of the caller's room. It
-//! finds the length first: where the room is shorter, it says so, tells the length that is needed,
-//! and takes no memory. The calls here are for CESU-8, those of [`mutf8`] for MUTF-8, and those of
-//! [`java`] for Java strings with their length in front.
+//! status and the length of its answer, and places the answer at the front of the caller's room.
+//! Where the room is shorter, it says so, tells the length that is needed, and takes no memory. The
+//! calls here are for CESU-8, those of [`mutf8`] for MUTF-8, and those of [`java`] for Java strings
+//! with their length in front.
 #![tactic(auto)]
 
 ghost use Rattle.std.specs.Prelude.{◌≡◌, ◌≢◌, ◌<◌, ◌↔◌, [], ◌∷◌, length, IsTrue, IsUtf8};
@@ -18,13 +18,14 @@ ghost use Rattle.simd_cesu8.specs.Reading.{reading, lossy_length, IsLenientLossy
 ghost use Rattle.cesu8_static.specs.Answers.{Places, PlacesReading, Leaves, IsAmong};
 ghost use Rattle.cesu8_static.specs.Answers.{AsksRoomOf, AsksRoomFor, AsksAtMost};
 
-pub mod answer;
+mod answer;
 mod calls;
 mod flavor;
 pub mod java;
 pub mod mutf8;
 
-use crate::answer::{Answer, Decision, INVALID, NOT_UTF8, OK, OUT_OF_MEMORY, TOO_LONG, TOO_SMALL};
+pub use crate::answer::{Answer, Decision, Reading};
+use crate::answer::{INVALID, NOT_UTF8, OK, OUT_OF_MEMORY, TOO_LONG, TOO_SMALL};
 use crate::flavor::Flavor;
 use std::alloc::Global;
 
@@ -54,8 +55,8 @@ pub extern "C" fn cesu8_encoded_len(text: &[u8]) -> Answer
     calls::encoded_len(Flavor::Cesu8, text)
 }
 
-/// Encodes UTF-8 to CESU-8 (Unicode Technical Report 26), as `simd_cesu8::encode` does. Memory is taken
-/// where the encoding is other than the input: one block of its length, which is freed.
+/// Encodes UTF-8 to CESU-8 (Unicode Technical Report 26), as `simd_cesu8::encode` does. Memory is
+/// taken where the encoding is other than the input: one block of its length, which is freed.
 #[unsafe(no_mangle)]
 pub extern "C" fn cesu8_encode(alloc: Global, text: &[u8], room: &mut [u8]) -> Answer
     ensures ok { result.status ≡ OK →

@@ -42,8 +42,9 @@ pub extern "C" fn cesu8_mutf8_encoded_len(text: &[u8]) -> Answer
     calls::encoded_len(Flavor::Mutf8, text)
 }
 
-/// Encodes UTF-8 to MUTF-8 (Java's `DataOutput`, without a length in front), as `simd_cesu8::mutf8::encode` does. Memory is taken
-/// where the encoding is other than the input: one block of its length, which is freed.
+/// Encodes UTF-8 to MUTF-8 (Java's `DataOutput`, without a length in front), as
+/// `simd_cesu8::mutf8::encode` does. Memory is taken where the encoding is other than the input:
+/// one block of its length, which is freed.
 #[unsafe(no_mangle)]
 pub extern "C" fn cesu8_mutf8_encode(alloc: Global, text: &[u8], room: &mut [u8]) -> Answer
     ensures ok { result.status ≡ OK →

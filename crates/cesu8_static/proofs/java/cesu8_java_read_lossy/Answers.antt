@@ -1,4 +1,4 @@
-use Rattle.std.proofs.Common.{◌≡◌, ℕ, ◌<◌, ◌≤◌, List, subst, sym, ap, rules, arith, length}
+use Rattle.std.proofs.Common.{◌≡◌, ℕ, ◌≤◌, List, subst, sym, rules, arith, length}
 use Rattle.simd_cesu8.specs.Encoding.{Mutf8}
 use Rattle.simd_cesu8.specs.Reading.{lossy_length}
 use Rattle.simd_cesu8.specs.Laws.{LossyBound}

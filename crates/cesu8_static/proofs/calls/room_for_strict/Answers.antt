@@ -1,11 +1,18 @@
 use Rattle.std.proofs.Common.{sym, ◌∙◌, arith}
 use Rattle.cesu8_static.specs.Answers.{flavor_of}
 use Rattle.cesu8_static.proofs.Strict.{strict_length}
-use Rattle.cesu8_static.proofs.calls.strict_length.Goals as goal
+use Rattle.cesu8_static.proofs.calls.room_for_strict.Goals as goal
+
+pub returns-then-bytes-room-clause-readings : goal.returns-then-bytes-room-clause-readings
+returns-then-bytes-room-clause-readings c text reads = (
+  c.bounds.ensures.1 (flavor_of c.args.flavor) c.args.bytes.now text reads,
+  λ less. omega (arith, less, c.if-bytes-room.true),
+)
 
 pub returns-in-Some-clause-readings : goal.returns-in-Some-clause-readings
 returns-in-Some-clause-readings c text reads =
-    strict_length (flavor_of c.args.flavor) c.args.bytes.now text c.around.ensures reads ∙ sym c.in-Some.ensures.some
+    let same = strict_length (flavor_of c.args.flavor) c.args.bytes.now text c.around.ensures reads in
+    (omega (arith, same, c.in-Some.ensures.some), λ _. c.in-Some.ensures.some ∙ sym same)
 
 pub returns-in_default-clause-none : goal.returns-in_default-clause-none
 returns-in_default-clause-none c text reads =
@@ -22,7 +29,6 @@ returns-in_default-2-clause-none c text reads =
     omega (
       arith,
       c.in_default.ensures.none,
-      c.type_inv.bytes,
       strict_length (flavor_of c.args.flavor) c.args.bytes.now text c.around.ensures reads,
       c.bounds.ensures.1 (flavor_of c.args.flavor) c.args.bytes.now text reads,
     )
