@@ -1,4 +1,4 @@
-use Rattle.std.proofs.Common.{ℕ, ◌-◌, ◌∷◌, ◌++◌, sym, ap, ◌∙◌, arith, length, length-append, append_assoc}
+use Rattle.std.proofs.Common.{◌-◌, ◌∷◌, ◌++◌, sym, ap, ◌∙◌, arith, length, length-append, append_assoc}
 use Rattle.simd_cesu8.specs.EncodedPlaces.{places}
 use Rattle.simd_cesu8.proofs.EncodedWindows.{room_for_parts, three_parts}
 use Rattle.simd_cesu8.proofs.internal.encoder.windows.write_bytes.Goals as goal
