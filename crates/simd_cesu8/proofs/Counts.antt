@@ -131,8 +131,16 @@ module _ (p : ℕ → Bool) (block : List ℕ) (n : ℕ) (lanes more : List ℕ)
       let next = sum_by-take-drop (λ y. cond (p y) 1 0) (drop (64 * n) block) 64 in
       let past = sum_by-take-drop (λ y. cond (p y) 1 0) block (64 * n + 64) in
       let more_total : sum_l more ≡ count_by p (chunk (64 * n) 64 block) = ap sum_l ones_of_next ∙ ones_total p (chunk (64 * n) 64 block) in
-      omega (arith, sum-zip2 lanes more (have.long ∙ sym more_long), have.total, more_total, here, next, past,
-        ap (count_by p) (drop-drop 64 (64 * n) block))
+      omega (
+        arith,
+        sum-zip2 lanes more (have.long ∙ sym more_long),
+        have.total,
+        more_total,
+        here,
+        next,
+        past,
+        ap (count_by p) (drop-drop 64 (64 * n) block),
+      )
 
   -- One vector more is counted.
   pub counted_more : HaveCounted p block (n + 1) (zip2 (λ a b. a + b) lanes more)

@@ -8,7 +8,7 @@ write_end-requires-clause-room g c =
     omega (
       arith,
       ap length (places_last g.N.NullForm.flavor text c.put_before_zeros.new.window c.args.at (length text - c.args.at)
-      (omega (arith, c.requires.place)) c.put_before_zeros.ensures),
+          (omega (arith, c.requires.place)) c.put_before_zeros.ensures),
       c.requires.room,
     )
 
