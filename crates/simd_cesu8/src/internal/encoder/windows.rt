@@ -138,7 +138,8 @@ fn write_windows<N: NullForm, A: Allocator>(text: &[u8], out: &mut Vec<u8, A>) -
 #[inline(always)]
 fn blocks_before_end(left: usize) -> usize
     requires { 32 < left }
-    ensures { (0 < result) × (result ≤ BLOCKS) × (32 * result < left) }
+    ensures within { (0 < result) × (result ≤ BLOCKS) × (32 * result < left) }
+    ensures most { result < BLOCKS → left ≤ 32 * result + 32 }
 {
     let whole = (left - 1) / 32;
     if whole < BLOCKS { whole } else { BLOCKS }
