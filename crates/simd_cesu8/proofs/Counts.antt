@@ -1,8 +1,8 @@
 -- How many bytes of a class there are: by parts, and by a mask.
-use Rattle.std.proofs.Common.{◌≡◌, ℕ, ◌+◌, ◌*◌, ◌^◌, ◌<◌, ◌≤◌, Bool, true, false, cond, List, [], ◌∷◌, length, map, take, drop, replicate, refl, sym, ap, ◌∙◌, subst, arith, eqb, bit_and, count_ones, count_by, ◌%◌, Fits, w8, w32}
-use lib.Lanes.{zip2, mask_l, top, sel_l, sum_l, fold_l, chunk, products, dots, Each1, Each2, Steps}
+use Rattle.std.proofs.Common.{◌≡◌, ℕ, ◌+◌, ◌*◌, ◌<◌, ◌≤◌, Bool, true, false, cond, List, [], ◌∷◌, length, map, take, drop, replicate, refl, sym, ap, ◌∙◌, subst, arith, eqb, bit_and, count_by, Fits, w8, w32}
+use lib.Lanes.{zip2, top, sel_l, sum_l, fold_l, chunk, products, dots, Each1, Each2, Steps}
 use Rattle.std.proofs.lemmas.List.{length-map, drop-drop}
-use Rattle.std.proofs.lemmas.Simd.{zip2_splat, bitmask_splat, ones-mask_l, Each1-weaker, Each2-of, Each1-zip2, Each1-replicate, sum-zip2, length-zip2, length-chunk, sum_bound, map-map, sum_dots, sum_by-ones, sum_fits, fold-sum, bytes_below}
+use Rattle.std.proofs.lemmas.Simd.{zip2_splat, Each1-weaker, Each1-all, Each2-of, Each1-zip2, Each1-replicate, sum-zip2, length-zip2, length-chunk, sum_bound, map-map, sum_dots, sum_by-ones, sum_fits, fold-sum, bytes_below}
 use Rattle.std.proofs.lemmas.Bool.{agree_below_at}
 use Rattle.std.proofs.lemmas.List.Sums.{sum_by-cons, sum_by-take-drop, count_by-le-length}
 use Rattle.simd_cesu8.specs.Class.{is_four}
@@ -26,18 +26,6 @@ count_by-map p f (x ∷ xs) =
 -- A byte is F0 to F7 (hexadecimal) where its upper five bits are those of F0.
 pub four_by_mask : (b : ℕ) → b < 0x100 → eqb (bit_and b 0xF8) 0xF0 ≡ is_four b
 four_by_mask b h = agree_below_at (λ b. eqb (bit_and b 0xF8) 0xF0) is_four 0x100 b refl h
-
--- Lanes whose upper five bits are compared with those of F0 are counted where they are F0 to F7.
-pub four_lanes_by_mask : (lanes : List ℕ) → length lanes ≡ 64 → Each1 (Fits w8) lanes →
-    count_ones (mask_l (map (top 7) (zip2 (λ a b. cond (eqb a b) 0xFF 0) (zip2 bit_and lanes (replicate 64 0xF8)) (replicate 64 0xF0))) % 2 ^ 64)
-    ≡ count_by is_four lanes
-four_lanes_by_mask lanes long fits =
-    let upper = zip2_splat bit_and lanes 64 0xF8 long in
-    ap count_ones (bitmask_splat w8 eqb _ 64 0xF0 (ap length upper ∙ length-map lanes (λ b. bit_and b 0xF8) ∙ long) (omega arith))
-    ∙ ones-mask_l (λ b. eqb b 0xF0) (zip2 bit_and lanes (replicate 64 0xF8))
-    ∙ ap (count_by (λ b. eqb b 0xF0)) upper
-    ∙ count_by-map (λ b. eqb b 0xF0) (λ b. bit_and b 0xF8) lanes
-    ∙ count_by_agree (λ b. eqb (bit_and b 0xF8) 0xF0) is_four lanes (Each1-weaker (Fits w8) _ (λ b h. four_by_mask b h.fits) lanes fits)
 
 -- A chunk's count and that of the bytes after it make up the count of both.
 pub count_by_chunk : {X : Type 0} (p : X → Bool) (n : ℕ) (xs chunk after : List X) (seen here whole : ℕ) →
@@ -104,6 +92,16 @@ ones_total : (p : ℕ → Bool) (xs : List ℕ) → sum_l (ones p xs) ≡ count_
 ones_total p [] = refl
 ones_total p (x ∷ xs) = ap (λ n. cond (p x) 1 0 + n) (ones_total p xs) ∙ sym (sum_by-cons (λ y. cond (p y) 1 0) x xs)
 
+one_is_chosen : (t : Bool) → eqb (cond t 1 0) 1 ≡ t
+one_is_chosen true = refl
+one_is_chosen false = refl
+
+-- The lanes that are one are as many as the bytes that pass.
+pub ones_counted : (p : ℕ → Bool) (xs lanes : List ℕ) (count : ℕ) → lanes ≡ ones p xs → count ≡ count_by (λ lane. eqb lane 1) lanes → count ≡ count_by p xs
+ones_counted p xs lanes count are counted =
+    counted ∙ ap (count_by (λ lane. eqb lane 1)) are ∙ count_by-map (λ lane. eqb lane 1) (λ x. cond (p x) 1 0) xs
+    ∙ count_by_agree (λ x. eqb (cond (p x) 1 0) 1) p xs (Each1-all (λ x. eqb (cond (p x) 1 0) 1 ≡ p x) (λ x. one_is_chosen (p x)) xs)
+
 -- After n vectors of a block each lane has counted at most n bytes, and all lanes those of the class.
 pub record HaveCounted (p : ℕ → Bool) (block : List ℕ) (n : ℕ) (lanes : List ℕ) : Type 0 where
   pub long : length lanes ≡ 64
@@ -133,8 +131,16 @@ module _ (p : ℕ → Bool) (block : List ℕ) (n : ℕ) (lanes more : List ℕ)
       let next = sum_by-take-drop (λ y. cond (p y) 1 0) (drop (64 * n) block) 64 in
       let past = sum_by-take-drop (λ y. cond (p y) 1 0) block (64 * n + 64) in
       let more_total : sum_l more ≡ count_by p (chunk (64 * n) 64 block) = ap sum_l ones_of_next ∙ ones_total p (chunk (64 * n) 64 block) in
-      omega (arith, sum-zip2 lanes more (have.long ∙ sym more_long), have.total, more_total, here, next, past,
-        ap (count_by p) (drop-drop 64 (64 * n) block))
+      omega (
+        arith,
+        sum-zip2 lanes more (have.long ∙ sym more_long),
+        have.total,
+        more_total,
+        here,
+        next,
+        past,
+        ap (count_by p) (drop-drop 64 (64 * n) block),
+      )
 
   -- One vector more is counted.
   pub counted_more : HaveCounted p block (n + 1) (zip2 (λ a b. a + b) lanes more)

@@ -61,25 +61,6 @@ fn count_block(block: &[u8]) -> Counts
     }
 }
 
-/// A one for each lane that is 00.
-#[inline(always)]
-fn null_ones(lanes: u8x64) -> u8x64
-    ensures { result ≡ map (λ byte. if byte == 0 then 1 else 0) lanes }
-{
-    let null = lanes.simd_eq(u8x64::splat(0));
-    null.select(u8x64::splat(1), u8x64::splat(0))
-}
-
-/// A one for each lane that is F0 to F7 (hexadecimal).
-#[inline(always)]
-fn four_ones(lanes: u8x64) -> u8x64
-    ensures { result ≡ map (λ byte. if is_four byte then 1 else 0) lanes }
-{
-    let upper = lanes & u8x64::splat(0xF8);
-    let four = upper.simd_eq(u8x64::splat(0xF0));
-    four.select(u8x64::splat(1), u8x64::splat(0))
-}
-
 /// The sum of the lanes.
 #[inline(always)]
 fn lane_sum(lanes: u8x64) -> usize
@@ -126,14 +107,40 @@ fn padded(bytes: &[u8]) -> u8x64
 fn null_lanes(lanes: u8x64) -> usize
     ensures { result ≡ count_by (λ byte. byte == 0) lanes }
 {
-    lanes.simd_eq(u8x64::splat(0)).to_bitmask().count_ones() as usize
+    count_ones(null_ones(lanes))
 }
 
-/// How many lanes are F0 to F7 (hexadecimal): those whose upper five bits are those of F0.
+/// How many lanes are F0 to F7 (hexadecimal).
 #[inline(always)]
 fn four_lanes(lanes: u8x64) -> usize
     ensures { result ≡ count_by is_four lanes }
 {
+    count_ones(four_ones(lanes))
+}
+
+/// How many lanes are one.
+#[inline(always)]
+fn count_ones(lanes: u8x64) -> usize
+    ensures { result ≡ count_by (λ lane. lane == 1) lanes }
+{
+    lanes.simd_eq(u8x64::splat(1)).to_bitmask().count_ones() as usize
+}
+
+/// A one for each lane that is 00.
+#[inline(always)]
+fn null_ones(lanes: u8x64) -> u8x64
+    ensures { result ≡ map (λ byte. if byte == 0 then 1 else 0) lanes }
+{
+    let null = lanes.simd_eq(u8x64::splat(0));
+    null.select(u8x64::splat(1), u8x64::splat(0))
+}
+
+/// A one for each lane that is F0 to F7 (hexadecimal): those whose upper five bits are those of F0.
+#[inline(always)]
+fn four_ones(lanes: u8x64) -> u8x64
+    ensures { result ≡ map (λ byte. if is_four byte then 1 else 0) lanes }
+{
     let upper = lanes & u8x64::splat(0xF8);
-    upper.simd_eq(u8x64::splat(0xF0)).to_bitmask().count_ones() as usize
+    let four = upper.simd_eq(u8x64::splat(0xF0));
+    four.select(u8x64::splat(1), u8x64::splat(0))
 }

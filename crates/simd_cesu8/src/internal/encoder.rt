@@ -37,7 +37,8 @@ pub fn encode<A: Allocator>(alloc: A, flavor: Flavor, text: &str) -> Result<Vec<
         vec_capacity encoded ≡ length (encoding (flavor_of flavor) (chars text.now))) }
 {
     if text.len() <= SHORT {
-        let (written, len) = encode_short(flavor, text);
+        let mut written = [0; 2 * SHORT];
+        let len = encode_short(flavor, text, &mut written);
         return copy(alloc, &written[..len]);
     }
     let mut encoded = Vec::with_capacity(alloc, encoded_len(flavor, text))?;
@@ -70,19 +71,17 @@ pub fn encode_into<A: Allocator>(
     Ok(())
 }
 
-/// The encoding of a short text, and its length. No pass counts that before.
+/// Writes the encoding of a short text, and gives its length. No pass counts that before.
 #[inline(always)]
-fn encode_short(flavor: Flavor, text: &str) -> ([u8; 2 * SHORT], usize)
+fn encode_short(flavor: Flavor, text: &str, out: &mut [u8; 2 * SHORT]) -> usize
     requires { length text.now ≤ SHORT }
-    ensures bytes { take result.1 result.0 ≡ encoding (flavor_of flavor) (chars text.now) }
-    ensures len { result.1 ≤ 2 * SHORT }
+    ensures bytes { take result out.new ≡ encoding (flavor_of flavor) (chars text.now) }
+    ensures len { result ≤ 2 * SHORT }
 {
-    let mut written = [0; 2 * SHORT];
-    let len = match flavor {
-        Flavor::Cesu8 => write_short::<OneByteNull>(text.as_bytes(), &mut written),
-        Flavor::Mutf8 => write_short::<TwoByteNull>(text.as_bytes(), &mut written),
-    };
-    (written, len)
+    match flavor {
+        Flavor::Cesu8 => write_short::<OneByteNull>(text.as_bytes(), out),
+        Flavor::Mutf8 => write_short::<TwoByteNull>(text.as_bytes(), out),
+    }
 }
 
 /// Appends the encoding of a text, for which there is room.

@@ -35,6 +35,18 @@ pub fn copy_front<'a, const N: usize, A: Allocator>(
     &bytes[N..]
 }
 
+/// Appends bytes for which there is room.
+#[inline(always)]
+pub fn append<A: Allocator>(bytes: &[u8], out: &mut Vec<u8, A>)
+    requires { vec_len out.old + length bytes.now ≤ vec_capacity out.old }
+    ensures bytes { out.new.items ≡ out.old.items ++ bytes.now }
+    ensures capacity { vec_capacity out.new ≡ vec_capacity out.old }
+{
+    for byte in bytes {
+        out.push_reserved(*byte);
+    }
+}
+
 /// A copy of some bytes, after one request for their length.
 pub fn copy<A: Allocator>(alloc: A, bytes: &[u8]) -> Result<Vec<u8, A>, AllocError>
     ensures bytes { IfOk result (λ copied. copied.items ≡ bytes.now) }
@@ -42,9 +54,7 @@ pub fn copy<A: Allocator>(alloc: A, bytes: &[u8]) -> Result<Vec<u8, A>, AllocErr
     ensures empty { bytes.now ≡ [] → IsOk result }
 {
     let mut copied = Vec::with_capacity(alloc, bytes.len())?;
-    for byte in bytes {
-        copied.push_reserved(*byte);
-    }
+    append(bytes, &mut copied);
     Ok(copied)
 }
 

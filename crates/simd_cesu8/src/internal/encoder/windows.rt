@@ -3,11 +3,12 @@
 //! The bytes around a window are read with it, since what is written for a byte depends on its
 //! neighbours. At the ends of the text, where there are none, a small array of zeros stands for them.
 
-ghost use Rattle.std.specs.Prelude.{◌≡◌, ℕ, ◌+◌, ◌-◌, ◌*◌, ◌<◌, ◌≤◌, ◌⊎◌, ◌∷◌, ◌++◌, length, take, slice_index, vec_len, vec_capacity};
+ghost use Rattle.std.specs.Prelude.{◌≡◌, ℕ, ◌+◌, ◌-◌, ◌*◌, ◌<◌, ◌≤◌, ◌⊎◌, ◌∷◌, ◌++◌, length, take, replicate, slice_index, vec_len, vec_capacity};
 ghost use Rattle.simd_cesu8.specs.EncodedPlaces.{places, recoded, AreShuffles};
 
 use super::blocks::{NullForm, write_block, write_front};
 use super::rows::{Rows, rows};
+use crate::internal::writers::append;
 use std::alloc::Allocator;
 
 /// How many bytes a text has at most that one block encodes.
@@ -27,9 +28,9 @@ pub fn write_bytes<N: NullForm, A: Allocator>(text: &[u8], out: &mut Vec<u8, A>)
         let end = write_short::<N>(text, &mut written);
         return append(&written[..end], out);
     }
-    write_end::<N, A>(&behind_zeros(&text[..33]), 32, out);
+    write_first::<N, A>(text, out);
     let at = write_windows::<N, A>(text, out);
-    write_end::<N, A>(&before_zeros(&text[at - 2..]), text.len() - at, out);
+    write_last::<N, A>(text, at, out);
 }
 
 /// Writes what the bytes of a short text become, and gives the end of it.
@@ -39,29 +40,58 @@ pub fn write_short<N: NullForm>(text: &[u8], out: &mut [u8; 2 * SHORT]) -> usize
     ensures bytes { take result out.new ≡ recoded N.flavor text.now }
     ensures end { result ≤ 2 * SHORT }
 {
-    write_front::<N>(&behind_zeros(text), text.len(), rows(), out)
+    let mut window = [0; 35];
+    put_behind_zeros(text, &mut window);
+    write_front::<N>(&window, text.len(), rows(), out)
 }
 
-/// A window of bytes before which there is nothing.
+/// Appends what the first 32 bytes of a longer text become.
 #[inline(always)]
-fn behind_zeros(near: &[u8]) -> [u8; 35]
-    requires { length near.now ≤ 33 }
-    ensures { (k : ℕ) → slice_index result k ≡ slice_index (0 ∷ 0 ∷ near.now) k }
+fn write_first<N: NullForm, A: Allocator>(text: &[u8], out: &mut Vec<u8, A>)
+    requires long { 32 < length text.now }
+    requires room { vec_len out.old + length (places N.flavor (0 ∷ 0 ∷ text.now) 0 32)
+        ≤ vec_capacity out.old }
+    ensures bytes { out.new.items ≡ out.old.items ++ places N.flavor (0 ∷ 0 ∷ text.now) 0 32 }
+    ensures capacity { vec_capacity out.new ≡ vec_capacity out.old }
 {
     let mut window = [0; 35];
+    put_behind_zeros(&text[..33], &mut window);
+    write_end::<N, A>(&window, 32, out);
+}
+
+/// Appends what the last bytes of a text become.
+#[inline(always)]
+fn write_last<N: NullForm, A: Allocator>(text: &[u8], at: usize, out: &mut Vec<u8, A>)
+    requires place { (32 ≤ at) × (at < length text.now) × (length text.now ≤ at + 32) }
+    requires room { vec_len out.old
+        + length (places N.flavor (0 ∷ 0 ∷ text.now) at (length text.now - at)) ≤ vec_capacity out.old }
+    ensures bytes { out.new.items
+        ≡ out.old.items ++ places N.flavor (0 ∷ 0 ∷ text.now) at (length text.now - at) }
+    ensures capacity { vec_capacity out.new ≡ vec_capacity out.old }
+{
+    let mut window = [0; 35];
+    put_before_zeros(&text[at - 2..], &mut window);
+    write_end::<N, A>(&window, text.len() - at, out);
+}
+
+/// Makes a window of zeros one of bytes before which there is nothing.
+#[inline(always)]
+fn put_behind_zeros(near: &[u8], window: &mut [u8; 35])
+    requires short { length near.now ≤ 33 }
+    requires zeros { window.old ≡ replicate 35 0 }
+    ensures { (k : ℕ) → slice_index window.new k ≡ slice_index (0 ∷ 0 ∷ near.now) k }
+{
     window[2..2 + near.len()].copy_from_slice(near);
-    window
 }
 
-/// A window of bytes behind which there is nothing.
+/// Makes a window of zeros one of bytes behind which there is nothing.
 #[inline(always)]
-fn before_zeros(near: &[u8]) -> [u8; 35]
-    requires { length near.now ≤ 35 }
-    ensures { (k : ℕ) → slice_index result k ≡ slice_index near.now k }
+fn put_before_zeros(near: &[u8], window: &mut [u8; 35])
+    requires short { length near.now ≤ 35 }
+    requires zeros { window.old ≡ replicate 35 0 }
+    ensures { (k : ℕ) → slice_index window.new k ≡ slice_index near.now k }
 {
-    let mut window = [0; 35];
     window[..near.len()].copy_from_slice(near);
-    window
 }
 
 /// Appends what the first `count` bytes of a window of one block become.
@@ -108,7 +138,8 @@ fn write_windows<N: NullForm, A: Allocator>(text: &[u8], out: &mut Vec<u8, A>) -
 #[inline(always)]
 fn blocks_before_end(left: usize) -> usize
     requires { 32 < left }
-    ensures { (0 < result) × (result ≤ BLOCKS) × (32 * result < left) }
+    ensures within { (0 < result) × (result ≤ BLOCKS) × (32 * result < left) }
+    ensures most { result < BLOCKS → left ≤ 32 * result + 32 }
 {
     let whole = (left - 1) / 32;
     if whole < BLOCKS { whole } else { BLOCKS }
@@ -127,16 +158,4 @@ fn write_window<N: NullForm>(window: &[u8], count: usize, out: &mut [u8; 64 * BL
         end = write_block::<N>(window, 32 * i, rows(), out, end);
     }
     end
-}
-
-/// Appends bytes for which there is room.
-#[inline(always)]
-fn append<A: Allocator>(bytes: &[u8], out: &mut Vec<u8, A>)
-    requires { vec_len out.old + length bytes.now ≤ vec_capacity out.old }
-    ensures bytes { out.new.items ≡ out.old.items ++ bytes.now }
-    ensures capacity { vec_capacity out.new ≡ vec_capacity out.old }
-{
-    for byte in bytes {
-        out.push_reserved(*byte);
-    }
 }

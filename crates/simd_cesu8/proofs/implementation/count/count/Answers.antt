@@ -1,4 +1,4 @@
-use Rattle.std.proofs.Common.{◌≡◌, ◌==◌, ap, ◌∙◌, arith, count_by}
+use Rattle.std.proofs.Common.{◌==◌, arith}
 use Rattle.simd_cesu8.specs.Class.{is_four}
 use Rattle.simd_cesu8.proofs.Counts.{count_by_chunk, counted_fits}
 use Rattle.simd_cesu8.proofs.implementation.count.count.Goals as goal

@@ -1,4 +1,4 @@
-use Rattle.std.proofs.Common.{◌≡◌, ◌<◌, ◌≤◌, ◌+◌, ◌*◌, ◌==◌, length, arith}
+use Rattle.std.proofs.Common.{◌==◌, arith}
 use Rattle.simd_cesu8.specs.Class.{is_four}
 use Rattle.simd_cesu8.proofs.Counts.{one_more_fits, counted_more}
 use Rattle.simd_cesu8.proofs.implementation.count.count_block.Goals as goal

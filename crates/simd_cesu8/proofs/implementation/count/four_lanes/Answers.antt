@@ -1,5 +1,6 @@
-use Rattle.simd_cesu8.proofs.Counts.{four_lanes_by_mask}
+use Rattle.simd_cesu8.specs.Class.{is_four}
+use Rattle.simd_cesu8.proofs.Counts.{ones_counted}
 use Rattle.simd_cesu8.proofs.implementation.count.four_lanes.Goals as goal
 
 pub returns : goal.returns
-returns c = four_lanes_by_mask c.args.lanes c.fits-lanes.0 c.fits-lanes.1
+returns c = ones_counted is_four c.args.lanes _ _ c.four_ones.ensures c.count_ones.ensures

@@ -8,9 +8,9 @@ use Rattle.simd_cesu8.proofs.internal.encoder.encode_short.Goals as goal
 pub returns-in-Cesu8-clause-bytes : goal.returns-in-Cesu8-clause-bytes
 returns-in-Cesu8-clause-bytes c =
     let known = recoded_chars Cesu8 c.args.text.now _ c.as_bytes.ensures.value c.utf8.text in
-    c.write_short-len.ensures.bytes ∙ known ∙ ap (λ o. encoding (flavor_of o) (chars c.args.text.now)) (sym c.in-Cesu8.is)
+    c.write_short.ensures.bytes ∙ known ∙ ap (λ o. encoding (flavor_of o) (chars c.args.text.now)) (sym c.in-Cesu8.is)
 
 pub returns-in-Mutf8-clause-bytes : goal.returns-in-Mutf8-clause-bytes
 returns-in-Mutf8-clause-bytes c =
     let known = recoded_chars Mutf8 c.args.text.now _ c.as_bytes-in-Mutf8.ensures.value c.utf8.text in
-    c.write_short-len-in-Mutf8.ensures.bytes ∙ known ∙ ap (λ o. encoding (flavor_of o) (chars c.args.text.now)) (sym c.in-Mutf8.is)
+    c.write_short-in-Mutf8.ensures.bytes ∙ known ∙ ap (λ o. encoding (flavor_of o) (chars c.args.text.now)) (sym c.in-Mutf8.is)

@@ -20,7 +20,7 @@ append-requires g c =
     let f = g.N.NullForm.flavor in
     let text = c.args.text.now in
     let n = 32 * c.blocks_before_end-count.result in
-    let count = c.blocks_before_end-count.ensures in
+    let count = c.blocks_before_end-count.ensures.within in
     let inv = c.loop-at.invariant in
     omega (
       arith,
@@ -39,7 +39,7 @@ loop-at-preserved g c =
     let f = g.N.NullForm.flavor in
     let text = c.args.text.now in
     let n = 32 * c.blocks_before_end-count.result in
-    let count = c.blocks_before_end-count.ensures in
+    let count = c.blocks_before_end-count.ensures.within in
     let inv = c.loop-at.invariant in
     record {
       start = omega (arith, inv.start);

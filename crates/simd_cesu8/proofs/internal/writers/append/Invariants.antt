@@ -1,5 +1,5 @@
 use Rattle.std.proofs.Common.{◌≡◌, ◌+◌, ◌++◌, take, vec_len, vec_capacity}
-use Rattle.simd_cesu8.proofs.internal.encoder.windows.append.Given as goal
+use Rattle.simd_cesu8.proofs.internal.writers.append.Given as goal
 
 abbrev pub invariant-loop-byte : goal.invariant-loop-byte
 invariant-loop-byte g l = record {
