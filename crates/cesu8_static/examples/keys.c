@@ -20,9 +20,9 @@ static void print(const char *name, const uint8_t *bytes, size_t length)
 // The key of a text. It has to be freed, and there is none where memory is refused.
 static uint8_t *key_of(const uint8_t *text, size_t text_length, size_t *key_length)
 {
-    // The length is asked first, which takes no memory.
+    // The length is asked first, which takes no memory. What was read is UTF-8.
     *key_length = cesu8_encoded_len(text, text_length).length;
-    uint8_t *key = malloc(*key_length + 1);
+    uint8_t *key = malloc(*key_length + 1); // The room's pointer may not be null.
     if (key != NULL && cesu8_encode(text, text_length, key, *key_length).status != CESU8_OK) {
         free(key);
         return NULL;
