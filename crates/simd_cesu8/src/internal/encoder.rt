@@ -28,7 +28,8 @@ use super::lengths::encoded_len;
 use super::writers::copy;
 use std::alloc::{AllocError, Allocator};
 
-/// The encoding of a text, after one request for exactly its length.
+/// The encoding of a text, after one request for exactly its length. It is not inlined, so that a
+/// text that is borrowed pays for none of its stack.
 #[inline(never)]
 pub fn encode<A: Allocator>(alloc: A, flavor: Flavor, text: &str) -> Result<Vec<u8, A>, AllocError>
     ensures bytes { IfOk result (λ encoded.
