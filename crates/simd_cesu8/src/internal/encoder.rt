@@ -8,9 +8,9 @@
 //! b ──► four bits of b and two of c          d ──► d
 //! ```
 //!
-//! In MUTF-8 the byte 00 becomes C0 80, and every other byte stays as it is. So a row of eight bytes
-//! becomes sixteen lanes, and one shuffle packs those that are written: `blocks` makes the lanes,
-//! `rows` has the shuffles, and `windows` has the loop over the text.
+//! In MUTF-8 the byte 00 becomes C0 80, and every other byte stays as it is. So a row of eight
+//! bytes becomes sixteen lanes, and one shuffle packs those that are written: `blocks` makes the
+//! lanes, `rows` has the shuffles, and `windows` has the loop over the text.
 
 ghost use Rattle.std.specs.Prelude.{◌≡◌, ◌+◌, ◌≤◌, ◌++◌, ◌*◌, [], length, take, OnOk, OnErr, IfOk, IsOk, vec_len, vec_capacity};
 ghost use Rattle.std.specs.Str.{chars};
