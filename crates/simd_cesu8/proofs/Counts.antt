@@ -1,5 +1,5 @@
 -- How many bytes of a class there are: by parts, and by a mask.
-use Rattle.std.proofs.Common.{◌≡◌, ℕ, ◌+◌, ◌*◌, ◌<◌, ◌≤◌, Bool, true, false, cond, List, [], ◌∷◌, length, map, take, drop, replicate, refl, sym, ap, ◌∙◌, subst, arith, eqb, bit_and, count_by, Fits, w8, w32}
+use Rattle.std.proofs.Common.{◌≡◌, ◌==◌, ℕ, ◌+◌, ◌*◌, ◌<◌, ◌≤◌, Bool, true, false, cond, List, [], ◌∷◌, length, map, take, drop, replicate, refl, sym, ap, ◌∙◌, subst, arith, eqb, bit_and, count_by, Fits, w8, w32}
 use lib.Lanes.{zip2, top, sel_l, sum_l, fold_l, chunk, products, dots, Each1, Each2, Steps}
 use Rattle.std.proofs.lemmas.List.{length-map, drop-drop}
 use Rattle.std.proofs.lemmas.Simd.{zip2_splat, Each1-weaker, Each1-all, Each2-of, Each1-zip2, Each1-replicate, sum-zip2, length-zip2, length-chunk, sum_bound, map-map, sum_dots, sum_by-ones, sum_fits, fold-sum, bytes_below}
@@ -41,6 +41,11 @@ pub counted_fits : {X : Type 0} (p : X → Bool) (n : ℕ) (whole xs chunk : Lis
 counted_fits p n whole xs chunk seen here front counted known =
     let parts = sum_by-take-drop (λ y. cond (p y) 1 0) xs n in
     omega (arith, counted ∙ ap (count_by p) front, count_by-le-length p whole)
+
+-- What is counted so far of each class, and what there is in the rest, make up what there is in the whole.
+pub record ArePartlyCounted (null_count four_count : ℕ) (rest whole : List ℕ) : Type 0 where
+  pub nulls : null_count + count_by (λ byte. byte == 0) rest ≡ count_by (λ byte. byte == 0) whole
+  pub fours : four_count + count_by is_four rest ≡ count_by is_four whole
 
 -- ---- lanes that count their own bytes
 

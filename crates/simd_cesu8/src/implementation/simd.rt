@@ -1,10 +1,10 @@
 //! Up to 64 bytes at a time, as the lanes of a vector.
 //!
 //! The bytes F0 to F7 (hexadecimal) are those whose upper five bits are those of F0. Before vectors
-//! are tested for these, four at once are tested for what needs no work on each: the greatest and the
-//! least byte of each lane. Where the one is below F0, and the other above 00, no byte is in a class.
-//! Elsewhere each vector is tested by itself, since it may have bytes above F7. UTF-8 has none, so
-//! there that happens once.
+//! are tested for these, four at once are tested for what needs no work on each: the greatest and
+//! the least byte of each lane. Where the one is below F0, and the other above 00, no byte is in a
+//! class. Elsewhere each vector is tested by itself, since it may have bytes above F7. UTF-8 has
+//! none, so there that happens once.
 //!
 //! All is inlined: a call would pass vectors through memory, and most values are short.
 

@@ -8,9 +8,9 @@
 //! b ──► four bits of b and two of c          d ──► d
 //! ```
 //!
-//! In MUTF-8 the byte 00 becomes C0 80, and every other byte stays as it is. So a row of eight bytes
-//! becomes sixteen lanes, and one shuffle packs those that are written: `blocks` makes the lanes,
-//! `rows` has the shuffles, and `windows` has the loop over the text.
+//! In MUTF-8 the byte 00 becomes C0 80, and every other byte stays as it is. So a row of eight
+//! bytes becomes sixteen lanes, and one shuffle packs those that are written: `blocks` makes the
+//! lanes, `rows` has the shuffles, and `windows` has the loop over the text.
 
 ghost use Rattle.std.specs.Prelude.{◌≡◌, ◌+◌, ◌≤◌, ◌++◌, ◌*◌, [], length, take, OnOk, OnErr, IfOk, IsOk, vec_len, vec_capacity};
 ghost use Rattle.std.specs.Str.{chars};
@@ -28,7 +28,8 @@ use super::lengths::encoded_len;
 use super::writers::copy;
 use std::alloc::{AllocError, Allocator};
 
-/// The encoding of a text, after one request for exactly its length.
+/// The encoding of a text, after one request for exactly its length. It is not inlined, so that a
+/// text that is borrowed pays for none of its stack.
 #[inline(never)]
 pub fn encode<A: Allocator>(alloc: A, flavor: Flavor, text: &str) -> Result<Vec<u8, A>, AllocError>
     ensures bytes { IfOk result (λ encoded.

@@ -115,7 +115,7 @@ fn encode_block<N: NullForm>(window: &[u8], at: usize) -> EncodedBlock
     let of_high = six_bits + (u8x32::splat(0x80) + (lead & u8x32::splat(0x1F)));
     let other = bytes | (lead_two_before & u8x32::splat(0x30)) | (null & u8x32::splat(0x80));
     let is_of_high = lead | lead_before;
-    // No byte is both a lead byte and null. As a sum the two comparisons stay apart.
+    // No byte is both a lead byte and null. Joined by `|`, the two tests would become a third.
     let doubled = (lead + null) | lead_two_before;
     EncodedBlock {
         seconds: is_of_high.simd_eq(u8x32::splat(0)).select(other, of_high),

@@ -1,7 +1,8 @@
 //! A text a window at a time: into an array on the stack, and from there into the room.
 //!
 //! The bytes around a window are read with it, since what is written for a byte depends on its
-//! neighbours. At the ends of the text, where there are none, a small array of zeros stands for them.
+//! neighbours. At the ends of the text, where there are none, a small array of zeros stands for
+//! them.
 
 ghost use Rattle.std.specs.Prelude.{◌≡◌, ℕ, ◌+◌, ◌-◌, ◌*◌, ◌<◌, ◌≤◌, ◌⊎◌, ◌∷◌, ◌++◌, length, take, replicate, slice_index, vec_len, vec_capacity};
 ghost use Rattle.simd_cesu8.specs.EncodedPlaces.{places, recoded, AreShuffles};
@@ -64,7 +65,8 @@ fn write_first<N: NullForm, A: Allocator>(text: &[u8], out: &mut Vec<u8, A>)
 fn write_last<N: NullForm, A: Allocator>(text: &[u8], at: usize, out: &mut Vec<u8, A>)
     requires place { (32 ≤ at) × (at < length text.now) × (length text.now ≤ at + 32) }
     requires room { vec_len out.old
-        + length (places N.flavor (0 ∷ 0 ∷ text.now) at (length text.now - at)) ≤ vec_capacity out.old }
+        + length (places N.flavor (0 ∷ 0 ∷ text.now) at (length text.now - at))
+        ≤ vec_capacity out.old }
     ensures bytes { out.new.items
         ≡ out.old.items ++ places N.flavor (0 ∷ 0 ∷ text.now) at (length text.now - at) }
     ensures capacity { vec_capacity out.new ≡ vec_capacity out.old }
@@ -114,7 +116,8 @@ fn write_end<N: NullForm, A: Allocator>(window: &[u8; 35], count: usize, out: &m
 fn write_windows<N: NullForm, A: Allocator>(text: &[u8], out: &mut Vec<u8, A>) -> usize
     requires long { 32 < length text.now }
     requires room { vec_len out.old
-        + length (places N.flavor (0 ∷ 0 ∷ text.now) 32 (length text.now - 32)) ≤ vec_capacity out.old }
+        + length (places N.flavor (0 ∷ 0 ∷ text.now) 32 (length text.now - 32))
+        ≤ vec_capacity out.old }
     ensures place { (32 ≤ result) × (result < length text.now) × (length text.now ≤ result + 32) }
     ensures bytes { out.new.items
         ≡ out.old.items ++ places N.flavor (0 ∷ 0 ∷ text.now) 32 (result - 32) }
