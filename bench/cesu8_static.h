@@ -46,4 +46,10 @@ CESU8_STATIC_CALL(mutf8_lossy_len);
 CESU8_STATIC_CALL(contains_utf8_4_byte_char_header);
 CESU8_STATIC_CALL(contains_null_or_utf8_4_byte_char_header);
 
+// Whether the input is UTF-8, in the same way: the test that the encoders make. Another codec need not
+// have it. Where it has the encoders of an input that the caller knows to be UTF-8, these are measured.
+CESU8_STATIC_CALL(is_utf8);
+CESU8_STATIC_CALL(encode_text);
+CESU8_STATIC_CALL(mutf8_encode_text);
+
 #endif

@@ -47,7 +47,11 @@ linked_calls! {
     cesu8_static_mutf8_lossy_len,
     cesu8_static_contains_utf8_4_byte_char_header,
     cesu8_static_contains_null_or_utf8_4_byte_char_header,
+    cesu8_static_is_utf8,
 }
+
+/// Calls that another codec may have beside these, or in their place.
+const TEXT_CALLS: [&str; 2] = ["cesu8_static_encode_text", "cesu8_static_mutf8_encode_text"];
 
 unsafe extern "C" {
     fn dlopen(file: *const c_char, flags: c_int) -> *mut c_void;
@@ -136,6 +140,14 @@ pub fn call_name(action: Action, flavor: Flavor) -> String {
     format!("{prefix}{}", action.title())
 }
 
+/// The calls that tell what encoding a text costs.
+pub struct TextCalls {
+    /// In CESU-8 and in MUTF-8.
+    pub encoders: [Call; 2],
+    /// The test for UTF-8 that the encoders make, if they make one.
+    pub test: Option<Call>,
+}
+
 /// The calls of one codec, by their names. An older build, or another codec, may have some of them
 /// alone.
 pub struct Codec {
@@ -168,7 +180,8 @@ impl Codec {
                 .to_string_lossy()
                 .into_owned());
         }
-        let names = LINKED.iter().map(|(name, _)| name.to_string());
+        let names = LINKED.iter().map(|(name, _)| *name).chain(TEXT_CALLS);
+        let names = names.map(str::to_string);
         let calls: Vec<(String, Call)> = names
             .filter_map(|name| found_in(object, &name).map(|call| (name, call)))
             .collect();
@@ -188,6 +201,27 @@ impl Codec {
 
     pub fn call(&self, action: Action, flavor: Flavor) -> Option<Call> {
         self.named(&call_name(action, flavor))
+    }
+
+    /// How the encoding of a text is measured: by the encoders of what is known to be UTF-8, or by
+    /// those that test it, and the test alone, whose time is taken away. `decode` of UTF-8 is such a
+    /// test too.
+    pub fn text_calls(&self) -> Option<TextCalls> {
+        let [cesu8, mutf8] = TEXT_CALLS.map(|name| self.named(name));
+        if let Some(encoders) = cesu8.zip(mutf8) {
+            return Some(TextCalls {
+                encoders: encoders.into(),
+                test: None,
+            });
+        }
+        let decode = self.call(Action::Decode, Flavor::Cesu8);
+        Some(TextCalls {
+            encoders: [
+                self.call(Action::Encode, Flavor::Cesu8)?,
+                self.call(Action::Encode, Flavor::Mutf8)?,
+            ],
+            test: Some(self.named("cesu8_static_is_utf8").or(decode)?),
+        })
     }
 
     pub fn kernel(&self, kernel: Kernel) -> Option<Call> {

@@ -1,7 +1,7 @@
-//! What encoding a text costs alone. An export tests its bytes for UTF-8 first, and `decode` on the
-//! same bytes does nothing else, so its time is taken away.
+//! What encoding a text costs alone. An export tests its bytes for UTF-8 first, so the time of that
+//! test is taken away, unless the codec has an export without it.
 
-use crate::codec::{Action, Call, Codec, FLAVORS, Flavor, answers, call_name};
+use crate::codec::{Action, Call, Codec, FLAVORS, TextCalls, answers, call_name};
 use crate::expected::encoded;
 use crate::picture::{Bars, Panel};
 use crate::sets::{Kind, text_of};
@@ -13,12 +13,17 @@ const LENGTHS: [usize; 5] = [24, 200, 1_024, 16_380, 16_777_212];
 /// The length whose speeds the picture shows.
 const PICTURED: usize = 16_380;
 
-/// One text, and the places of its calls in the list of what is measured: for each codec the test
-/// alone, and `encode` in both flavors.
+/// The places of one codec's calls in the list of what is measured.
+struct Places {
+    encoders: [usize; 2],
+    test: Option<usize>,
+}
+
+/// One text, and the calls of each codec.
 struct Row {
     kind: Kind,
     length: usize,
-    calls: Vec<Option<[usize; 3]>>,
+    calls: Vec<Option<Places>>,
 }
 
 pub struct TextTable<'a> {
@@ -27,20 +32,24 @@ pub struct TextTable<'a> {
     rows: Vec<Row>,
 }
 
-fn tested(codec: &Codec, flavor: Flavor, row: &Row, input: &[u8]) -> Result<Option<Call>, String> {
+/// The calls of a codec, whose encoders answer rightly.
+fn tested(codec: &Codec, row: &Row, input: &[u8]) -> Result<Option<TextCalls>, String> {
     let text = str::from_utf8(input).map_err(|e| e.to_string())?;
-    match codec.call(Action::Encode, flavor) {
-        Some(call) if !answers(call, Action::Encode, input, &encoded(flavor, text)) => {
-            Err(format!(
+    let Some(calls) = codec.text_calls() else {
+        return Ok(None);
+    };
+    for (call, flavor) in calls.encoders.into_iter().zip(FLAVORS) {
+        if !answers(call, Action::Encode, input, &encoded(flavor, text)) {
+            return Err(format!(
                 "{}: {} answers wrongly on {} bytes of {}",
                 codec.name,
                 call_name(Action::Encode, flavor),
                 row.length,
                 row.kind.title()
-            ))
+            ));
         }
-        call => Ok(call),
     }
+    Ok(Some(calls))
 }
 
 impl TextTable<'_> {
@@ -70,24 +79,21 @@ impl TextTable<'_> {
             calls: Vec::new(),
         };
         for codec in self.codecs {
-            let calls = [
-                codec.call(Action::Decode, Flavor::Cesu8),
-                tested(codec, FLAVORS[0], &row, input)?,
-                tested(codec, FLAVORS[1], &row, input)?,
-            ];
-            let start = self.measured.len();
-            let [Some(test), Some(cesu8), Some(mutf8)] = calls else {
-                row.calls.push(None);
-                continue;
-            };
-            for call in [test, cesu8, mutf8] {
-                let run = call_run(call, input);
-                self.measured.push(Measured::new(input.len(), run));
-            }
-            row.calls.push(Some([start, start + 1, start + 2]));
+            let calls = tested(codec, &row, input)?;
+            row.calls.push(calls.map(|calls| Places {
+                encoders: calls.encoders.map(|call| self.place(call, input)),
+                test: calls.test.map(|call| self.place(call, input)),
+            }));
         }
         self.rows.push(row);
         Ok(())
+    }
+
+    /// The place of a call that is to be measured.
+    fn place(&mut self, call: Call, input: &'static [u8]) -> usize {
+        let run = call_run(call, input);
+        self.measured.push(Measured::new(input.len(), run));
+        self.measured.len() - 1
     }
 
     pub fn measure(&mut self, rounds: u32) {
@@ -105,9 +111,10 @@ impl TextTable<'_> {
 
     /// The speed of a codec's `encode` without the test, in GB/s.
     fn speed(&self, row: &Row, codec: usize, flavor: usize) -> Option<f64> {
-        let calls = row.calls[codec]?;
-        let seconds = |at: usize| self.measured[calls[at]].seconds();
-        Some(row.length as f64 / (seconds(1 + flavor) - seconds(0)) / 1e9)
+        let calls = row.calls[codec].as_ref()?;
+        let seconds = |at: usize| self.measured[at].seconds();
+        let encoding = seconds(calls.encoders[flavor]) - calls.test.map_or(0.0, seconds);
+        Some(row.length as f64 / encoding / 1e9)
     }
 
     /// What a picture shows of `encode`.

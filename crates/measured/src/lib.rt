@@ -175,3 +175,15 @@ pub extern "C" fn cesu8_static_contains_null_or_utf8_4_byte_char_header(
     let _ = room;
     tell_whether(active::contains_null_or_utf8_4_byte_char_header(bytes))
 }
+
+/// Whether bytes are UTF-8: the answer's length is 1 for yes and 0 for no, and nothing is written.
+/// It is the test that the encoders' exports make.
+#[unsafe(no_mangle)]
+pub extern "C" fn cesu8_static_is_utf8(bytes: &[u8], room: &mut [u8]) -> Outcome
+    ensures yes { IsUtf8 bytes.now → TellsLength 1 result }
+    ensures no { ¬ (IsUtf8 bytes.now) → TellsLength 0 result }
+    ensures unchanged { room.new ≡ room.old }
+{
+    let _ = room;
+    tell_whether(compat::from_utf8(bytes).is_ok())
+}
