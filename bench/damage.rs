@@ -1,7 +1,7 @@
 //! Decoding of bytes that no processor can foretell: with pairs, with damage, noise, and bytes of the
 //! other flavor.
 
-use crate::codec::{Action, Call, Codec, Flavor, answers, call_name};
+use crate::codec::{Action, Call, Codec, FLAVORS, Flavor, answers, call_name};
 use crate::expected::expected;
 use crate::lengths::LengthTable;
 use crate::sets::{Damage, at_page_start, damaged_bytes};
@@ -11,8 +11,9 @@ const LENGTHS: [usize; 5] = [24, 200, 1_024, 16_380, 16_777_212];
 
 const LONGEST_PART: usize = 16_380;
 
-const ACTIONS: [Action; 3] = [
+const ACTIONS: [Action; 4] = [
     Action::DecodeStrict,
+    Action::DecodeLossy,
     Action::DecodeLossyStrict,
     Action::LossyLength,
 ];
@@ -20,19 +21,20 @@ const ACTIONS: [Action; 3] = [
 /// A call on one kind of input. The parts end where a character ends.
 struct Case {
     action: Action,
+    flavor: Flavor,
     damage: Damage,
     part: Vec<u8>,
     times: usize,
 }
 
 fn tested(codec: &Codec, case: &Case, answer: &[u8], input: &[u8]) -> Result<Option<Call>, String> {
-    match codec.call(case.action, Flavor::Mutf8) {
+    match codec.call(case.action, case.flavor) {
         Some(call) if !answers(call, case.action, input, answer) => Err(format!(
             "{}: {} answers wrongly on {} bytes of {}",
             codec.name,
-            call_name(case.action, Flavor::Mutf8),
+            call_name(case.action, case.flavor),
             input.len(),
-            case.damage.title()
+            case.damage.title(case.flavor)
         )),
         call => Ok(call),
     }
@@ -40,30 +42,52 @@ fn tested(codec: &Codec, case: &Case, answer: &[u8], input: &[u8]) -> Result<Opt
 
 /// Adds a row, unless the call has to refuse the input.
 fn add(table: &mut LengthTable<'_>, case: &Case) -> Result<(), String> {
-    let Some(answer) = expected(case.action, Flavor::Mutf8, &case.part) else {
+    let Some(answer) = expected(case.action, case.flavor, &case.part) else {
         return Ok(());
     };
     let answer = answer.repeat(case.times);
     let input: &'static [u8] = at_page_start(&case.part.repeat(case.times));
-    let title = format!("`mutf8::{}`, {}", case.action.title(), case.damage.title());
+    let path = match case.flavor {
+        Flavor::Cesu8 => "",
+        Flavor::Mutf8 => "mutf8::",
+    };
+    let title = format!(
+        "`{path}{}`, {}",
+        case.action.title(),
+        case.damage.title(case.flavor)
+    );
     table.add(&title, input, |codec| tested(codec, case, &answer, input))
+}
+
+/// Adds the rows of a call on one kind of input.
+fn add_lengths(
+    table: &mut LengthTable<'_>,
+    action: Action,
+    flavor: Flavor,
+    damage: Damage,
+) -> Result<(), String> {
+    for length in LENGTHS {
+        let part = damaged_bytes(damage, flavor, length.min(LONGEST_PART));
+        let times = length / part.len();
+        let case = Case {
+            action,
+            flavor,
+            damage,
+            part,
+            times,
+        };
+        add(table, &case)?;
+    }
+    Ok(())
 }
 
 /// Tests each call on each input, and times none yet.
 pub fn damage_table(codecs: &[Codec]) -> Result<LengthTable<'_>, String> {
     let mut table = LengthTable::of(codecs);
-    for action in ACTIONS {
-        for damage in Damage::ALL {
-            for length in LENGTHS {
-                let part = damaged_bytes(damage, length.min(LONGEST_PART));
-                let times = length / part.len();
-                let case = Case {
-                    action,
-                    damage,
-                    part,
-                    times,
-                };
-                add(&mut table, &case)?;
+    for flavor in FLAVORS {
+        for action in ACTIONS {
+            for damage in Damage::ALL {
+                add_lengths(&mut table, action, flavor, damage)?;
             }
         }
     }

@@ -231,10 +231,11 @@ pub fn text_of(kind: Kind, length: usize) -> &'static [u8] {
     at_page_start(text.as_bytes())
 }
 
-/// A kind of MUTF-8 for the decoders: characters of any length and U+0000, all by chance.
+/// A kind of input for the decoders: characters by chance, with pairs, and damage.
 #[derive(Clone, Copy, PartialEq)]
 pub enum Damage {
     None,
+    Sparse,
     OneIn500,
     OneIn50,
     OtherFlavor,
@@ -242,46 +243,62 @@ pub enum Damage {
 }
 
 impl Damage {
-    pub const ALL: [Damage; 5] = [
+    pub const ALL: [Damage; 6] = [
         Damage::None,
+        Damage::Sparse,
         Damage::OneIn500,
         Damage::OneIn50,
         Damage::OtherFlavor,
         Damage::Noise,
     ];
 
-    pub fn title(self) -> &'static str {
-        match self {
-            Damage::None => "all lengths and null by chance",
-            Damage::OneIn500 => "one damaged byte in 500",
-            Damage::OneIn50 => "one damaged byte in 50",
-            Damage::OtherFlavor => "CESU-8 with null",
-            Damage::Noise => "noise",
+    pub fn title(self, flavor: Flavor) -> &'static str {
+        match (self, flavor) {
+            (Damage::None, _) => "all lengths and null by chance",
+            (Damage::Sparse, _) => "one to three bytes, one pair in 97",
+            (Damage::OneIn500, _) => "one damaged byte in 500",
+            (Damage::OneIn50, _) => "one damaged byte in 50",
+            (Damage::OtherFlavor, Flavor::Cesu8) => "MUTF-8 with null",
+            (Damage::OtherFlavor, Flavor::Mutf8) => "CESU-8 with null",
+            (Damage::Noise, _) => "noise",
         }
     }
 
     /// One byte in how many is replaced by chance, if any.
     fn distance(self) -> Option<u64> {
         match self {
-            Damage::None | Damage::OtherFlavor => None,
+            Damage::None | Damage::Sparse | Damage::OtherFlavor => None,
             Damage::OneIn500 => Some(500),
             Damage::OneIn50 => Some(50),
             Damage::Noise => Some(1),
         }
     }
+
+    /// The character at a place of such input, before it is damaged.
+    fn character(self, random: &mut Random, place: usize) -> char {
+        match self {
+            // The first pair stands within the shortest input.
+            Damage::Sparse if place % 97 == 3 => '\u{1F496}',
+            Damage::Sparse => of_any_length(random, 3),
+            _ => of_any_length(random, 5),
+        }
+    }
 }
 
 /// So many bytes of this kind, of which the last is ASCII.
-pub fn damaged_bytes(damage: Damage, length: usize) -> Vec<u8> {
+pub fn damaged_bytes(damage: Damage, flavor: Flavor, length: usize) -> Vec<u8> {
     let mut random = Random(SEED);
-    let flavor = match damage {
-        Damage::OtherFlavor => Flavor::Cesu8,
-        _ => Flavor::Mutf8,
+    let written = match (damage, flavor) {
+        (Damage::OtherFlavor, Flavor::Cesu8) => Flavor::Mutf8,
+        (Damage::OtherFlavor, Flavor::Mutf8) => Flavor::Cesu8,
+        _ => flavor,
     };
     let mut bytes = Vec::with_capacity(length);
+    let mut place = 0;
     while length - bytes.len() > 6 {
-        let character = of_any_length(&mut random, 5);
-        bytes.extend(encoded(flavor, &character.to_string()));
+        let character = damage.character(&mut random, place);
+        bytes.extend(encoded(written, &character.to_string()));
+        place += 1;
     }
     if let Some(distance) = damage.distance() {
         for byte in &mut bytes {

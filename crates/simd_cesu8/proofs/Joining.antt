@@ -1,5 +1,5 @@
 -- What joining keeps, a step at a time.
-use Rattle.std.proofs.Common.{◌≡◌, ℕ, zero, suc, ◌+◌, ◌-◌, ◌<◌, ◌≤◌, List, [], ◌∷◌, ◌++◌, refl, sym, ap, ◌∙◌, subst, arith, length, take, drop, get_or, append_assoc, append-nil, length-append, inl, replicate}
+use Rattle.std.proofs.Common.{◌≡◌, ℕ, zero, suc, ◌+◌, ◌-◌, ◌<◌, ◌≤◌, List, [], ◌∷◌, ◌++◌, refl, sym, ap, ◌∙◌, subst, arith, length, take, drop, append_assoc, append-nil, length-append, inl, replicate}
 use Rattle.std.proofs.lemmas.List.{take-append-drop, take-append-le, length-take-le}
 use Rattle.std.proofs.lemmas.List.Concat.{flat_map-append}
 use Rattle.std.proofs.Math.Seq.{take-append_seam, take-append-add, take-length}
@@ -7,7 +7,7 @@ use Rattle.simd_cesu8.specs.Text.{utf8_of}
 use Rattle.simd_cesu8.specs.Utf16.{units_of}
 use Rattle.simd_cesu8.specs.Encoding.{Flavor, Mutf8, encoding, form}
 use Rattle.simd_cesu8.specs.Internal.{BeginsInLengths}
-use Rattle.simd_cesu8.specs.Joining.{Part, Stays, Changes, AreParts, encoded_part, utf8_part, IsJoined, IsJoinedSoFar, KeepsJoined, nulls, HasPair, Joins, second_third_fifth_sixth}
+use Rattle.simd_cesu8.specs.Joining.{Part, Stays, Changes, AreParts, encoded_part, utf8_part, IsJoined, IsJoinedSoFar, KeepsJoined, nulls, HasPair, HasNull, Joins, second_third_fifth_sixth}
 use Rattle.simd_cesu8.proofs.Lengths.{Change, same, longer, change}
 use Rattle.simd_cesu8.proofs.Appended.{rest_is, pair_is, null_is}
 use Rattle.simd_cesu8.proofs.Found.{found_null, found_pair}
@@ -123,13 +123,13 @@ keeps_pair f rest out after four new long has_pair joins after_is new_is =
     (pair_is f rest four found (shape found.character found.begins.scalar) joins) after_is new_is
 
 -- A null character that was joined.
-pub keeps_null : (rest out after new : List ℕ) → 2 ≤ length rest → get_or rest 0 0 ≡ 0xC0 → get_or rest 1 0 ≡ 0x80 →
-    after ≡ drop 2 rest → new ≡ out ++ 0 ∷ [] → KeepsJoined Mutf8 rest out after new
-keeps_null rest out after new long lead continuation after_is new_is =
-    let found = found_null Mutf8 rest refl long lead continuation in
-    keeps_changed Mutf8 rest out after (0 ∷ []) new 2 1 (omega arith) found
-    (null_is Mutf8 found.character found.encoded found.in_utf8 (shape found.character found.begins.scalar)
-    (change Mutf8 found.character found.begins.scalar))
+pub keeps_null : (f : Flavor) (rest out after new : List ℕ) → 2 ≤ length rest → HasNull f rest → after ≡ drop 2 rest →
+    new ≡ out ++ 0 ∷ [] → KeepsJoined f rest out after new
+keeps_null f rest out after new long has_null after_is new_is =
+    let found = found_null f rest has_null.flavor long has_null.lead has_null.continuation in
+    keeps_changed f rest out after (0 ∷ []) new 2 1 (omega arith) found
+    (null_is f found.character found.encoded found.in_utf8 (shape found.character found.begins.scalar)
+    (change f found.character found.begins.scalar))
     after_is new_is
 
 AreParts_nulls : (n : ℕ) → AreParts Mutf8 (replicate n (Changes 0))

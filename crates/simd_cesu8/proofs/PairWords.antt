@@ -1,5 +1,5 @@
 -- The words by which a surrogate pair is found and joined: its six bytes and two more.
-use Rattle.std.proofs.Common.{◌≡◌, ℕ, ◌&&◌, ◌+◌, ◌*◌, ◌/◌, ◌%◌, ◌^◌, ◌<◌, ◌≤◌, [], ◌∷◌, refl, sym, ◌∙◌, arith, bit_and, eqb, leb, ltb, w32}
+use Rattle.std.proofs.Common.{◌≡◌, ℕ, ◌&&◌, ◌+◌, ◌*◌, ◌/◌, ◌%◌, ◌^◌, ◌<◌, ◌≤◌, [], ◌∷◌, refl, sym, ap, ◌∙◌, arith, bit_and, eqb, leb, ltb, w32}
 use Rattle.std.specs.Int.{to_le_bytes}
 use Rattle.std.proofs.lemmas.Bool.{agree_below_at, eq-eqb}
 use Rattle.std.proofs.lemmas.Nat.{and_mask, and_block, and_le_r}
@@ -69,10 +69,9 @@ word_is_pair a b d e g h more a_byte b_byte d_byte e_byte g_byte h_byte passes =
 -- The word of the UTF-8 that the word of a surrogate pair is joined to.
 abbrev pub joined_word : ℕ → ℕ
 joined_word word =
-    0xF0 + (bit_and (word / 0x100) 0x0F + 1) / 4
-    + (0x80 + (bit_and (word / 0x100) 0x0F + 1) % 4 * 0x10 + bit_and (word / 0x10000) 0x3F / 4) * 0x100
-    + (0x80 + bit_and (word / 0x10000) 0x3F % 4 * 0x10 + bit_and (word / 0x100000000) 0x0F) * 0x10000
-    + (0x80 + bit_and (word / 0x10000000000) 0x3F) * 0x1000000
+    0x808080F0 + (bit_and (word / 0x100) 0x0F + 1) / 4 + (bit_and (word / 0x100) 0x0F + 1) % 4 * 0x1000
+    + bit_and (word / 0x10000) 0x3F / 4 * 0x100 + bit_and (word / 0x10000) 0x3F % 4 * 0x100000
+    + bit_and (word / 0x100000000) 0x0F * 0x10000 + bit_and (word / 0x10000000000) 0x3F * 0x1000000
 
 -- A word has its bytes.
 bytes_of_word : (p q r s : ℕ) → p < 0x100 → q < 0x100 → r < 0x100 → s < 0x100 →
@@ -92,7 +91,8 @@ joined_word_is c w x y z a e more word digits a_byte e_byte word_is =
     let x_is : bit_and (word / 0x10000) 0x3F ≡ x = omega (arith, and_mask (word / 0x10000) 6) in
     let y_is : bit_and (word / 0x100000000) 0x0F ≡ y = omega (arith, and_mask (word / 0x100000000) 4) in
     let z_is : bit_and (word / 0x10000000000) 0x3F ≡ z = omega (arith, and_mask (word / 0x10000000000) 6) in
-    let second : 0x80 + (w + 1) % 4 * 0x10 + x / 4 ≡ 0x80 + ((w + 1) % 4 * 0x10 + x / 4) = omega arith in
-    let third : 0x80 + x % 4 * 0x10 + y ≡ 0x80 + (x % 4 * 0x10 + y) = omega arith in
-    rw (w_is, x_is, y_is, z_is, second, third, utf8_of_pair c w x y z digits)
-    (bytes_of_word _ _ _ _ (omega arith) (omega arith) (omega arith) (omega arith))
+    let flat : 0x808080F0 + (w + 1) / 4 + (w + 1) % 4 * 0x1000 + x / 4 * 0x100 + x % 4 * 0x100000 + y * 0x10000 + z * 0x1000000
+    ≡ 0xF0 + (w + 1) / 4 + (0x80 + ((w + 1) % 4 * 0x10 + x / 4)) * 0x100 + (0x80 + (x % 4 * 0x10 + y)) * 0x10000 + (0x80 + z) * 0x1000000 =
+    omega arith in
+    rw (w_is, x_is, y_is, z_is, utf8_of_pair c w x y z digits)
+    (ap (to_le_bytes w32) flat ∙ bytes_of_word _ _ _ _ (omega arith) (omega arith) (omega arith) (omega arith))

@@ -1,8 +1,8 @@
 -- Bytes that are joined: their surrogate pairs, and C0 80 in MUTF-8, become UTF-8, and the others stay.
-use Rattle.std.specs.Prelude.{◌≡◌, ℕ, ◌+◌, ◌*◌, ◌<◌, ◌≤◌, List, [], ◌∷◌, ◌++◌, slice_index, replicate}
+use Rattle.std.specs.Prelude.{◌≡◌, ℕ, ◌+◌, ◌*◌, ◌<◌, ◌≤◌, List, [], ◌∷◌, ◌++◌, length, slice_index, replicate}
 use Rattle.std.specs.List.{flat_map}
 use Rattle.simd_cesu8.specs.Text.{IsScalarValue, utf8_of}
-use Rattle.simd_cesu8.specs.Encoding.{Flavor, encoding, IsEncodedOtherwise}
+use Rattle.simd_cesu8.specs.Encoding.{Flavor, Mutf8, encoding, IsEncodedOtherwise}
 use Rattle.simd_cesu8.specs.Internal.{EndsPair, IsPair}
 
 -- A part of what is joined: a byte that stays, or a scalar value that is encoded otherwise than in
@@ -46,6 +46,13 @@ abbrev pub KeepsJoined : Flavor → List ℕ → List ℕ → List ℕ → List 
 KeepsJoined f rest out after new =
     (bytes : List ℕ) → IsJoinedSoFar f bytes rest out → IsJoinedSoFar f bytes after new
 
+-- How far a step of joining goes: never back, past stop by the end of a pair at most, and what is
+-- written is no longer than what was read.
+pub record IsJoinedAfter (rest after : List ℕ) (written new stop : ℕ) : Type 0 where
+  pub shorter : length after ≤ length rest
+  pub past : stop ≤ length after + 6
+  pub room : new + length after ≤ written + length rest
+
 -- Sixteen null characters of MUTF-8.
 abbrev pub nulls : List ℕ
 nulls = flat_map (λ part. 0xC0 ∷ 0x80 ∷ []) (replicate 16 (Stays 0))
@@ -55,6 +62,12 @@ pub record HasPair (bytes : List ℕ) : Type 0 where
   pub lead : slice_index bytes 0 ≡ 0xED
   pub high : (0xA0 ≤ slice_index bytes 1) × (slice_index bytes 1 < 0xB0)
   pub ends : EndsPair (slice_index bytes 2) (slice_index bytes 3) (slice_index bytes 4) (slice_index bytes 5)
+
+-- They begin with the null character of MUTF-8.
+pub record HasNull (f : Flavor) (bytes : List ℕ) : Type 0 where
+  pub flavor : f ≡ Mutf8
+  pub lead : slice_index bytes 0 ≡ 0xC0
+  pub continuation : slice_index bytes 1 ≡ 0x80
 
 -- What joins the digits of a surrogate pair, wherever they stand, to the UTF-8 of the character.
 abbrev pub Joins : List ℕ → List ℕ → Type 0

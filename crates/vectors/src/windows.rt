@@ -171,7 +171,7 @@ fn compare(
 fn reads_each_place_of_each_length(rt: HostRuntime) -> Result<(), Fail> {
     for row in &ROWS {
         for flavor in FLAVORS {
-            for len in 0..300 {
+            for len in 0..=300 {
                 for before in 0..=len {
                     compare(&rt, rt.alloc(), row, flavor, before, len - before)?;
                 }

@@ -4,10 +4,10 @@
 //! change. Whether what comes out is UTF-8 is not looked at here, so it does not matter which bytes
 //! the mask marks: where it leaves one out that has to change, no UTF-8 comes out.
 
-ghost use Rattle.std.specs.Prelude.{◌≡◌, ◌+◌, ◌*◌, ◌<◌, ◌≤◌, length, take, slice_index, IsTrue};
+ghost use Rattle.std.specs.Prelude.{◌≡◌, ◌+◌, ◌*◌, ◌<◌, ◌≤◌, length, take, drop, slice_index, IsTrue, IfSome, IfNone};
 ghost use Rattle.simd_cesu8.specs.Encoding.{Flavor as AnyFlavor, Mutf8};
 ghost use Rattle.simd_cesu8.specs.Internal.{flavor_of};
-ghost use Rattle.simd_cesu8.specs.Joining.{IsJoined, KeepsJoined, nulls, HasPair, Joins, second_third_fifth_sixth, word_of};
+ghost use Rattle.simd_cesu8.specs.Joining.{IsJoined, IsJoinedAfter, KeepsJoined, nulls, HasPair, HasNull, Joins, second_third_fifth_sixth, word_of};
 
 use super::Flavor;
 use std::simd::prelude::*;
@@ -66,121 +66,109 @@ fn join_blocks(flavor: Flavor, bytes: &[u8], end: usize, room: &mut Room) -> (us
     (bytes.len() - at.rest.len(), at.written)
 }
 
-/// Copies a block without marks, or joins one with marks.
+/// Copies a block without marks before its end, or joins one with marks.
 #[inline(always)]
 fn join_block<'a>(flavor: Flavor, at: Place<'a>, stop: usize, room: &mut Room) -> Place<'a>
     requires stop { (stop < length at.rest.now) × (48 ≤ stop) }
     requires room { at.written + length at.rest.now ≤ 1024 + stop }
-    ensures shorter { length result.rest.now ≤ length at.entry.rest.now }
-    ensures stop { stop ≤ length result.rest.now + 6 }
-    ensures room { result.written + length result.rest.now ≤ at.entry.written + length at.entry.rest.now }
-    ensures joined { KeepsJoined (flavor_of flavor) at.entry.rest.now (take at.entry.written room.old)
+    ensures after { IsJoinedAfter at.entry.rest.now result.rest.now
+        at.entry.written result.written stop }
+    ensures joined { KeepsJoined (flavor_of flavor)
+        at.entry.rest.now (take at.entry.written room.old)
         result.rest.now (take result.written room.new) }
 {
     let marks = marks(flavor, at.rest);
-    if marks != 0 {
-        return join_marked(flavor, at, marks, stop, room);
-    }
     let left = at.rest.len() - stop;
-    if left < 32 {
-        return copy_run(at, left, room);
+    let run = left.min(32);
+    if marks.trailing_zeros() as usize >= run {
+        copy_run(at.rest, run, at.written, room);
+        return Place {
+            rest: &at.rest[run..],
+            written: at.written + run,
+        };
     }
-    copy_run(at, 32, room)
+    match flavor {
+        Flavor::Mutf8 if left >= 32 && marks & NULL_MARKS == NULL_MARKS && is_nulls(at.rest) => {
+            join_nulls(at, room)
+        }
+        _ => join_marked(flavor, at, marks, stop, room),
+    }
 }
 
-/// Marks the bytes of a block that may have to change, the first byte in the lowest bit.
+/// Marks the bytes of a block that may have to change, the first byte in the lowest bit: those that
+/// lead a surrogate pair or a null character, and those that no window may have.
 #[inline(always)]
-fn marks(flavor: Flavor, bytes: &[u8]) -> u64
+fn marks(flavor: Flavor, bytes: &[u8]) -> u32
     requires { 33 ≤ length bytes.now }
 {
     let block = u8x32::from_slice(bytes);
     let next = u8x32::from_slice(&bytes[1..]);
-    let surrogate = block.simd_eq(u8x32::splat(0xED)) & next.simd_ge(u8x32::splat(0xA0));
+    let high = next & u8x32::splat(0xF0);
+    let pair = block.simd_eq(u8x32::splat(0xED)) & high.simd_eq(u8x32::splat(0xA0));
     let other = block.simd_eq(u8x32::splat(0xC0)) | block.simd_ge(u8x32::splat(0xF0));
-    let marks = surrogate | other;
-    match flavor {
+    let marks = pair | other;
+    let bits = match flavor {
         Flavor::Cesu8 => marks.to_bitmask(),
         Flavor::Mutf8 => (marks | block.simd_eq(u8x32::splat(0x00))).to_bitmask(),
-    }
+    };
+    (bits & 0xFFFF_FFFF) as u32
 }
 
-/// Joins what is marked, and copies what stands before it.
+/// Joins what is marked, and copies what stands before it, up to a mark of what can't be joined.
 #[inline(always)]
 fn join_marked<'a>(
     flavor: Flavor,
     start: Place<'a>,
-    marks: u64,
+    marks: u32,
     stop: usize,
     room: &mut Room,
 ) -> Place<'a>
     requires stop { (stop < length start.rest.now) × (48 ≤ stop) }
     requires room { start.written + length start.rest.now ≤ 1024 + stop }
-    ensures shorter { length result.rest.now ≤ length start.entry.rest.now }
-    ensures stop { stop ≤ length result.rest.now + 6 }
-    ensures room { result.written + length result.rest.now ≤ start.entry.written + length start.entry.rest.now }
-    ensures joined { KeepsJoined (flavor_of flavor) start.entry.rest.now (take start.entry.written room.old)
+    ensures after { IsJoinedAfter start.entry.rest.now result.rest.now
+        start.entry.written result.written stop }
+    ensures joined { KeepsJoined (flavor_of flavor)
+        start.entry.rest.now (take start.entry.written room.old)
         result.rest.now (take result.written room.new) }
 {
-    let mut at = start;
+    let bytes = start.rest;
+    let mut read = 0;
+    let mut written = start.written;
     let mut marks = marks;
-    while marks != 0 && at.rest.len() > stop {
-        let len = at.rest.len();
-        let run = (marks.trailing_zeros() as usize).min(len - stop).min(32);
-        at = join_at_mark(flavor, at, run, stop, room);
-        let read = len - at.rest.len();
-        if read == run {
-            // What is marked can't be joined.
+    while marks != 0 {
+        // The place follows from the marks alone, so the processor need not wait for what was read.
+        let place = marks.trailing_zeros() as usize;
+        if place < read || place > bytes.len() - stop {
             break;
         }
-        marks = if read < 64 { marks >> read } else { 0 };
+        marks &= marks - 1;
+        copy_run(&bytes[read..], place - read, written, room);
+        written += place - read;
+        read = place;
+        match join_changed(flavor, &bytes[place..], written, room) {
+            Some((width, len)) => {
+                read += width;
+                written += len;
+            }
+            None => break,
+        }
     }
-    at
-}
-
-/// Copies a run of bytes, and joins what stands after it.
-#[inline(always)]
-fn join_at_mark<'a>(
-    flavor: Flavor,
-    at: Place<'a>,
-    run: usize,
-    stop: usize,
-    room: &mut Room,
-) -> Place<'a>
-    requires stop { (stop + run ≤ length at.rest.now) × (48 ≤ stop) }
-    requires run { run ≤ 32 }
-    requires room { at.written + length at.rest.now ≤ 1024 + stop }
-    ensures shorter { length result.rest.now + run ≤ length at.entry.rest.now }
-    ensures stop { stop ≤ length result.rest.now + 6 }
-    ensures room { result.written + length result.rest.now ≤ at.entry.written + length at.entry.rest.now }
-    ensures joined { KeepsJoined (flavor_of flavor) at.entry.rest.now (take at.entry.written room.old)
-        result.rest.now (take result.written room.new) }
-{
-    if run == 0 {
-        return join_changed(flavor, at, stop, room);
+    Place {
+        rest: &bytes[read..],
+        written,
     }
-    let after = copy_run(at, run, room);
-    join_changed(flavor, after, stop, room)
 }
 
 /// Copies a run of bytes, with the others of their block behind them.
 #[inline(always)]
-fn copy_run<'a>(at: Place<'a>, run: usize, room: &mut Room) -> Place<'a>
+fn copy_run(bytes: &[u8], run: usize, written: usize, room: &mut Room)
     requires run { run ≤ 32 }
-    requires long { 32 ≤ length at.rest.now }
-    requires room { at.written + 32 ≤ 1088 }
-    ensures rest { length result.rest.now + run ≡ length at.entry.rest.now }
-    ensures written { result.written ≡ at.entry.written + run }
-    ensures joined { (f : AnyFlavor) → KeepsJoined f at.entry.rest.now (take at.entry.written room.old)
-        result.rest.now (take result.written room.new) }
+    requires long { 32 ≤ length bytes.now }
+    requires room { written + 32 ≤ 1088 }
+    ensures { (f : AnyFlavor) → KeepsJoined f bytes.now (take written room.old)
+        (drop run bytes.now) (take (written + run) room.new) }
 {
-    store(
-        u8x32::from_slice(at.rest),
-        &mut room[at.written..at.written + 32],
-    );
-    Place {
-        rest: &at.rest[run..],
-        written: at.written + run,
-    }
+    store(u8x32::from_slice(bytes), &mut room[written..written + 32]);
 }
 
 /// Stores a block.
@@ -192,47 +180,31 @@ fn store(block: u8x32, out: &mut [u8])
     block.copy_to_slice(out);
 }
 
-/// Joins surrogate pairs, and in MUTF-8 then null characters, as many as stand here.
+/// Joins the surrogate pair that begins the bytes, or in MUTF-8 the null character, and gives how
+/// many bytes it read, and how many it wrote. No branch asks which of them it is, since no
+/// processor can foretell it.
 #[inline(always)]
-fn join_changed<'a>(flavor: Flavor, at: Place<'a>, stop: usize, room: &mut Room) -> Place<'a>
-    requires stop { (stop ≤ length at.rest.now) × (48 ≤ stop) }
-    requires room { at.written + length at.rest.now ≤ 1024 + stop }
-    ensures shorter { length result.rest.now ≤ length at.entry.rest.now }
-    ensures stop { stop ≤ length result.rest.now + 6 }
-    ensures room { result.written + length result.rest.now ≤ at.entry.written + length at.entry.rest.now }
-    ensures joined { KeepsJoined (flavor_of flavor) at.entry.rest.now (take at.entry.written room.old)
-        result.rest.now (take result.written room.new) }
+fn join_changed(
+    flavor: Flavor,
+    bytes: &[u8],
+    written: usize,
+    room: &mut Room,
+) -> Option<(usize, usize)>
+    requires long { 8 ≤ length bytes.now }
+    requires room { written + 4 ≤ 1088 }
+    ensures few { IfSome result (λ step. (0 < step.1) × (step.1 ≤ step.0) × (step.0 ≤ 6)) }
+    ensures joined { IfSome result (λ step. KeepsJoined (flavor_of flavor) bytes.now
+        (take written room.old) (drop step.0 bytes.now) (take (written + step.1) room.new)) }
+    ensures none { IfNone result (room.new ≡ room.old) }
 {
-    let after = join_pairs(at, stop, room);
-    match flavor {
-        Flavor::Mutf8 if after.rest[0] == 0xC0 => join_nulls(after, stop, room),
-        _ => after,
+    let pair = is_pair(bytes);
+    if !(pair | is_null(flavor, bytes)) {
+        return None;
     }
-}
-
-/// Joins surrogate pairs, as many as stand here.
-#[inline(always)]
-fn join_pairs<'a>(start: Place<'a>, stop: usize, room: &mut Room) -> Place<'a>
-    requires stop { (stop ≤ length start.rest.now) × (48 ≤ stop) }
-    requires room { start.written + length start.rest.now ≤ 1024 + stop }
-    ensures shorter { length result.rest.now ≤ length start.entry.rest.now }
-    ensures stop { stop ≤ length result.rest.now + 6 }
-    ensures room { result.written + length result.rest.now ≤ start.entry.written + length start.entry.rest.now }
-    ensures joined { (f : AnyFlavor) → KeepsJoined f start.entry.rest.now (take start.entry.written room.old)
-        result.rest.now (take result.written room.new) }
-{
-    let mut at = start;
-    while at.rest.len() > stop {
-        if !is_pair(at.rest) {
-            break;
-        }
-        room[at.written..at.written + 4].copy_from_slice(&joined(at.rest));
-        at = Place {
-            rest: &at.rest[6..],
-            written: at.written + 4,
-        };
-    }
-    at
+    let four = joined(bytes);
+    let (width, utf8, len) = if pair { (6, four, 4) } else { (2, [0; 4], 1) };
+    room[written..written + 4].copy_from_slice(&utf8);
+    Some((width, len))
 }
 
 /// Whether a surrogate pair begins the bytes.
@@ -242,6 +214,18 @@ fn is_pair(bytes: &[u8]) -> bool
     ensures { IsTrue result → HasPair bytes.now }
 {
     front_word(bytes) & 0x0000_C0F0_FFC0_F0FF == 0x0000_80B0_ED80_A0ED
+}
+
+/// Whether the null character of MUTF-8 begins the bytes.
+#[inline(always)]
+fn is_null(flavor: Flavor, bytes: &[u8]) -> bool
+    requires { 2 ≤ length bytes.now }
+    ensures { IsTrue result → HasNull (flavor_of flavor) bytes.now }
+{
+    match flavor {
+        Flavor::Cesu8 => false,
+        Flavor::Mutf8 => u16::from_le_bytes([bytes[0], bytes[1]]) == 0x80C0,
+    }
 }
 
 /// The UTF-8 of the character whose surrogate pair begins the bytes.
@@ -255,10 +239,14 @@ pub fn joined(bytes: &[u8]) -> [u8; 4]
     let middle = (word >> 16) & 0x3F;
     let low = (word >> 32) & 0x0F;
     let last = (word >> 40) & 0x3F;
-    let first = 0xF0 + plane / 4;
-    let second = 0x80 + plane % 4 * 0x10 + middle / 4;
-    let third = 0x80 + middle % 4 * 0x10 + low;
-    let utf8 = first + second * 0x100 + third * 0x1_0000 + (0x80 + last) * 0x100_0000;
+    // A flat sum of digits, each at its place, so that few shifts are left of it.
+    let utf8 = 0x8080_80F0
+        + plane / 4
+        + plane % 4 * 0x1000
+        + middle / 4 * 0x100
+        + middle % 4 * 0x10_0000
+        + low * 0x1_0000
+        + last * 0x100_0000;
     (utf8 as u32).to_le_bytes()
 }
 
@@ -279,35 +267,12 @@ const NULLS: [u8; 32] = [
     0xC0, 0x80, 0xC0, 0x80, 0xC0, 0x80, 0xC0, 0x80, 0xC0, 0x80, 0xC0, 0x80, 0xC0, 0x80, 0xC0, 0x80,
 ];
 
-/// Joins null characters of MUTF-8, as many as stand here. It is a call, since inlined it takes
-/// registers from the loops around it.
-#[inline(never)]
-fn join_nulls<'a>(start: Place<'a>, stop: usize, room: &mut Room) -> Place<'a>
-    requires stop { (stop ≤ length start.rest.now + 6) × (48 ≤ stop) }
-    requires room { start.written + length start.rest.now ≤ 1024 + stop }
-    ensures shorter { length result.rest.now ≤ length start.entry.rest.now }
-    ensures stop { stop ≤ length result.rest.now + 6 }
-    ensures room { result.written + length result.rest.now ≤ start.entry.written + length start.entry.rest.now }
-    ensures joined { KeepsJoined Mutf8 start.entry.rest.now (take start.entry.written room.old)
-        result.rest.now (take result.written room.new) }
-{
-    let mut at = start;
-    while at.rest.len() >= stop + 32 {
-        if !begins_with_nulls(at.rest) {
-            break;
-        }
-        room[at.written..at.written + 16].copy_from_slice(&[0; 16]);
-        at = Place {
-            rest: &at.rest[32..],
-            written: at.written + 16,
-        };
-    }
-    join_single_nulls(at, stop, room)
-}
+/// The marks of 16 null characters of MUTF-8.
+const NULL_MARKS: u32 = 0x5555_5555;
 
 /// Whether 16 null characters of MUTF-8 begin the bytes.
 #[inline(always)]
-fn begins_with_nulls(bytes: &[u8]) -> bool
+fn is_nulls(bytes: &[u8]) -> bool
     requires { 32 ≤ length bytes.now }
     ensures { IsTrue result → take 32 bytes.now ≡ nulls }
 {
@@ -315,27 +280,20 @@ fn begins_with_nulls(bytes: &[u8]) -> bool
     front == NULLS.as_slice()
 }
 
-/// Joins them one at a time.
+/// Joins 16 null characters of MUTF-8.
 #[inline(always)]
-fn join_single_nulls<'a>(start: Place<'a>, stop: usize, room: &mut Room) -> Place<'a>
-    requires stop { (stop ≤ length start.rest.now + 6) × (48 ≤ stop) }
-    requires room { start.written + length start.rest.now ≤ 1024 + stop }
-    ensures shorter { length result.rest.now ≤ length start.entry.rest.now }
-    ensures stop { stop ≤ length result.rest.now + 6 }
-    ensures room { result.written + length result.rest.now ≤ start.entry.written + length start.entry.rest.now }
-    ensures joined { KeepsJoined Mutf8 start.entry.rest.now (take start.entry.written room.old)
+fn join_nulls<'a>(at: Place<'a>, room: &mut Room) -> Place<'a>
+    requires nulls { take 32 at.rest.now ≡ nulls }
+    requires long { 32 ≤ length at.rest.now }
+    requires room { at.written + 16 ≤ 1088 }
+    ensures rest { length result.rest.now + 32 ≡ length at.entry.rest.now }
+    ensures written { result.written ≡ at.entry.written + 16 }
+    ensures joined { KeepsJoined Mutf8 at.entry.rest.now (take at.entry.written room.old)
         result.rest.now (take result.written room.new) }
 {
-    let mut at = start;
-    while at.rest.len() > stop {
-        if at.rest[0] != 0xC0 || at.rest[1] != 0x80 {
-            break;
-        }
-        room[at.written] = 0;
-        at = Place {
-            rest: &at.rest[2..],
-            written: at.written + 1,
-        };
+    room[at.written..at.written + 16].copy_from_slice(&[0; 16]);
+    Place {
+        rest: &at.rest[32..],
+        written: at.written + 16,
     }
-    at
 }

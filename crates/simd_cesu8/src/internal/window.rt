@@ -46,7 +46,8 @@ pub fn read_window<'a>(
     }
 }
 
-/// Joins the first bytes, up to the end of a character. Gives how many it read, and how many it wrote.
+/// Joins the first bytes, up to the end of a character. Gives how many it read, and how many it
+/// wrote.
 fn join_window(flavor: Flavor, bytes: &[u8], len: usize, room: &mut Room) -> (usize, usize)
     requires { 64 < length bytes.now }
     ensures within { (result.0 ≤ length bytes.now) × (result.1 ≤ 1036) }

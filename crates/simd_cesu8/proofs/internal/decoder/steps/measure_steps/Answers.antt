@@ -1,7 +1,7 @@
 use Rattle.std.proofs.Common.{◌∙◌, ◌++◌, [], refl, sym, ap, arith, append_assoc, take, drop}
 use Rattle.std.proofs.lemmas.List.{take_rest, take-append-drop}
 use Rattle.simd_cesu8.proofs.Pieces.{rest_of_front}
-use Rattle.simd_cesu8.proofs.internal.decoder.measure_steps.Goals as goal
+use Rattle.simd_cesu8.proofs.internal.decoder.steps.measure_steps.Goals as goal
 
 pub loop-steps-init : goal.loop-steps-init
 loop-steps-init c = record {

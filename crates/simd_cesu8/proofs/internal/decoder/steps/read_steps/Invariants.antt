@@ -1,7 +1,7 @@
 use Rattle.std.proofs.Common.{◌≡◌, ◌+◌, ◌*◌, ◌≤◌, ◌++◌, ℕ, List, length, take}
 use Rattle.simd_cesu8.specs.Internal.{flavor_of}
 use Rattle.simd_cesu8.specs.Pieces.{IsPiece}
-use Rattle.simd_cesu8.proofs.internal.decoder.read_steps.Given as goal
+use Rattle.simd_cesu8.proofs.internal.decoder.steps.read_steps.Given as goal
 
 abbrev pub decreases-loop-steps : goal.decreases-loop-steps
 decreases-loop-steps l = length l.at.rest.now

@@ -1,6 +1,6 @@
 use Rattle.simd_cesu8.specs.Internal.{flavor_of}
 use Rattle.simd_cesu8.proofs.Appended.{lossy_length_character, lossy_length_replaced, at_most_four}
-use Rattle.simd_cesu8.proofs.internal.decoder.measure_step.Goals as goal
+use Rattle.simd_cesu8.proofs.internal.decoder.steps.measure_step.Goals as goal
 
 pub returns-in-Some-clause-gives : goal.returns-in-Some-clause-gives
 returns-in-Some-clause-gives c =

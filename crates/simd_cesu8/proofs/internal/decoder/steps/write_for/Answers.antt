@@ -1,6 +1,6 @@
 use Rattle.std.proofs.Common.{◌++◌, ◌∙◌, ap, arith, length, take}
 use Rattle.simd_cesu8.proofs.Joining.{written_whole}
-use Rattle.simd_cesu8.proofs.internal.decoder.write_for.Goals as goal
+use Rattle.simd_cesu8.proofs.internal.decoder.steps.write_for.Goals as goal
 
 pub returns-clause-bytes : goal.returns-clause-bytes
 returns-clause-bytes g c =

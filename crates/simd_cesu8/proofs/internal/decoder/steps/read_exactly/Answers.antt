@@ -1,6 +1,6 @@
 use Rattle.simd_cesu8.specs.Internal.{flavor_of}
 use Rattle.simd_cesu8.proofs.Pieces.{piece_utf8, rest_of_front}
-use Rattle.simd_cesu8.proofs.internal.decoder.read_exactly.Goals as goal
+use Rattle.simd_cesu8.proofs.internal.decoder.steps.read_exactly.Goals as goal
 
 pub returns-in-Ok-clause-ok : goal.returns-in-Ok-clause-ok
 returns-in-Ok-clause-ok c =

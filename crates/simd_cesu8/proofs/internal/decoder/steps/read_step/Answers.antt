@@ -2,7 +2,7 @@ use Rattle.std.proofs.lemmas.Bool.{not-false}
 use Rattle.simd_cesu8.specs.declared.internal.encoded_character.EncodedCharacter.TheVariants.{OneByte, TwoBytes, ThreeBytes, Null, SurrogatePair}
 use Rattle.simd_cesu8.specs.Internal.{flavor_of}
 use Rattle.simd_cesu8.proofs.Appended.{begins_as, reads_copied, reads_null, reads_pair, reads_replaced}
-use Rattle.simd_cesu8.proofs.internal.decoder.read_step.Goals as goal
+use Rattle.simd_cesu8.proofs.internal.decoder.steps.read_step.Goals as goal
 
 pub returns-in-Some-OneByte-clause-ok : goal.returns-in-Some-OneByte-clause-ok
 returns-in-Some-OneByte-clause-ok c =

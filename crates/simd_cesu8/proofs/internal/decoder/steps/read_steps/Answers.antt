@@ -1,7 +1,7 @@
 use Rattle.std.proofs.Common.{◌∙◌, ◌++◌, [], refl, sym, ap, arith, append_assoc}
 use Rattle.simd_cesu8.specs.Internal.{flavor_of}
 use Rattle.simd_cesu8.proofs.Decoding.{nothing_read, one_more, shorter, step_rest}
-use Rattle.simd_cesu8.proofs.internal.decoder.read_steps.Goals as goal
+use Rattle.simd_cesu8.proofs.internal.decoder.steps.read_steps.Goals as goal
 
 pub loop-steps-init : goal.loop-steps-init
 loop-steps-init c = record {
