@@ -35,7 +35,7 @@ const COPY_LENGTH: f64 = 380.0;
 const LEAST: f64 = 0.001;
 const ROW: f64 = 26.0;
 const BAR: f64 = 10.0;
-const TOP: f64 = 84.0;
+const TOP: f64 = 96.0;
 const NAMES: [&str; 2] = ["CESU-8", "MUTF-8"];
 
 /// How long the bar of this ratio to a plain copy is.
@@ -67,13 +67,13 @@ fn legend(svg: &mut String, run: &Run<'_>) -> fmt::Result {
         text(svg, x + 16.0, 63.5, "", name)?;
     }
     let copy = format!(
-        "bar: ratio to a plain copy ({:.0} GB/s), logarithmic",
+        "a bar ends at its ratio to a plain copy ({:.0} GB/s); no bar: refused in that encoding",
         run.copy
     );
     text(svg, 196.0, 63.5, r#"class="note""#, &copy)?;
     if let Some(other) = run.other {
-        let line = format!("black line, and × at the right: {other}, in the same run");
-        text(svg, 520.0, 63.5, r#"class="note""#, &line)?;
+        let line = format!("black line: {other}, in the same run; ×: our speed over its");
+        text(svg, 196.0, 78.5, r#"class="note""#, &line)?;
     }
     Ok(())
 }
@@ -84,7 +84,12 @@ fn scale(svg: &mut String, y: f64, height: f64) -> fmt::Result {
         let x = BARS + bar_length(mark);
         let end = y + height;
         writeln!(svg, r#"<path d="M{x:.1} {y:.1}V{end:.1}" class="scale"/>"#)?;
-        text(svg, x, y - 4.0, r#"class="mark""#, &mark.to_string())?;
+        let words = if mark == 1.0 {
+            "1 = a copy".to_string()
+        } else {
+            mark.to_string()
+        };
+        text(svg, x, y - 4.0, r#"class="mark""#, &words)?;
     }
     Ok(())
 }
@@ -119,7 +124,7 @@ fn panel(svg: &mut String, y: f64, panel: &Panel, copy: f64) -> fmt::Result {
     scale(svg, y, ROW * panel.rows.len() as f64)?;
     for (at, bars) in panel.rows.iter().enumerate() {
         let top = y + 2.5 + ROW * at as f64;
-        text(svg, 16.0, top + 14.0, "", &bars.title)?;
+        text(svg, 16.0, top + 14.0, r#"class="note""#, &bars.title)?;
         bar(svg, top, 0, bars, copy)?;
         bar(svg, top + BAR + 1.0, 1, bars, copy)?;
     }
