@@ -69,9 +69,9 @@ word_is_pair a b d e g h more a_byte b_byte d_byte e_byte g_byte h_byte passes =
 -- The word of the UTF-8 that the word of a surrogate pair is joined to.
 abbrev pub joined_word : ℕ → ℕ
 joined_word word =
-    0x808080F0 + (bit_and (word / 0x100) 0x0F + 1) / 4 + (bit_and (word / 0x100) 0x0F + 1) % 4 * 0x1000
-    + bit_and (word / 0x10000) 0x3F / 4 * 0x100 + bit_and (word / 0x10000) 0x3F % 4 * 0x100000
-    + bit_and (word / 0x100000000) 0x0F * 0x10000 + bit_and (word / 0x10000000000) 0x3F * 0x1000000
+    0x808080F0 + bit_and ((word + 0x100) % 2 ^ 64 / 2 ^ 10) 0x0F07
+    + bit_and ((word + 0x100) % 2 ^ 64) 0x30300 * 2 ^ 4 % 2 ^ 64
+    + bit_and ((word + 0x100) % 2 ^ 64 / 2 ^ 16) 0x3F0F0000
 
 -- A word has its bytes.
 bytes_of_word : (p q r s : ℕ) → p < 0x100 → q < 0x100 → r < 0x100 → s < 0x100 →
@@ -83,16 +83,72 @@ bytes_of_word p q r s p_byte q_byte r_byte s_byte =
     let s_is : (p + q * 0x100 + r * 0x10000 + s * 0x1000000) / 0x1000000 % 0x100 ≡ s = omega arith in
     rw (p_is, q_is, r_is, s_is) refl
 
+-- The digits that move by ten bits, by four the other way, and by sixteen.
+module _ (a w x e y z more : ℕ) (a_byte : a < 0x100) (w_low : w < 0x10) (x_low : x < 0x40)
+    (e_byte : e < 0x100) (y_low : y < 0x10) (z_low : z < 0x40) where
+  abbrev word : ℕ
+  word = word_of a (0xA1 + w) (0x80 + x) e (0xB0 + y) (0x80 + z) more
+
+  by_ten : bit_and (word / 2 ^ 10) 0x0F07 ≡ (w + 1) / 4 + x / 4 * 0x100
+  by_ten =
+      let high = (0x80 + x) / 4 + e * 0x40 + (0xB0 + y) * 0x4000 + (0x80 + z) * 0x400000 + more * 0x40000000 in
+      let low = (0xA1 + w) / 4 + x % 4 * 0x40 in
+      let parts : word / 2 ^ 10 ≡ high * 2 ^ 8 + low = omega arith in
+      let x_is : bit_and high 0x0F ≡ x / 4 = omega (arith, and_mask high 4) in
+      let w_is : bit_and low 7 ≡ (w + 1) / 4 = omega (arith, and_mask low 3) in
+      rw (parts, and_block 8 high 0x0F low 7 (omega arith) (omega arith), x_is, w_is) (omega arith)
+
+  by_four : bit_and word 0x30300 ≡ (w + 1) % 4 * 0x100 + x % 4 * 0x10000
+  by_four =
+      let high = (0x80 + x) + e * 0x100 + (0xB0 + y) * 0x10000 + (0x80 + z) * 0x1000000 + more * 0x100000000 in
+      let parts : word ≡ high * 2 ^ 16 + ((0xA1 + w) * 2 ^ 8 + a) = omega arith in
+      let x_is : bit_and high 3 ≡ x % 4 = omega (arith, and_mask high 2) in
+      let w_is : bit_and (0xA1 + w) 3 ≡ (w + 1) % 4 = omega (arith, and_mask (0xA1 + w) 2) in
+      let none : bit_and a 0 ≡ 0 = omega (arith, and_le_r a 0) in
+      rw (
+        parts,
+        and_block 16 high 3 ((0xA1 + w) * 2 ^ 8 + a) 0x300 (omega arith) (omega arith),
+        and_block 8 (0xA1 + w) 3 a 0 (omega arith) (omega arith),
+        x_is,
+        w_is,
+        none,
+      ) (omega arith)
+
+  by_sixteen : bit_and (word / 2 ^ 16) 0x3F0F0000 ≡ y * 0x10000 + z * 0x1000000
+  by_sixteen =
+      let high = (0x80 + z) + more * 0x100 in
+      let low = (0x80 + x) + e * 0x100 in
+      let parts : word / 2 ^ 16 ≡ high * 2 ^ 24 + ((0xB0 + y) * 2 ^ 16 + low) = omega arith in
+      let z_is : bit_and high 0x3F ≡ z = omega (arith, and_mask high 6) in
+      let y_is : bit_and (0xB0 + y) 0x0F ≡ y = omega (arith, and_mask (0xB0 + y) 4) in
+      let none : bit_and low 0 ≡ 0 = omega (arith, and_le_r low 0) in
+      rw (
+        parts,
+        and_block 24 high 0x3F ((0xB0 + y) * 2 ^ 16 + low) 0x0F0000 (omega arith) (omega arith),
+        and_block 16 (0xB0 + y) 0x0F low 0 (omega arith) (omega arith),
+        z_is,
+        y_is,
+        none,
+      ) (omega arith)
+
 -- Its bytes are the UTF-8 of the character.
-pub joined_word_is : (c w x y z a e more word : ℕ) → IsPair c w x y z → a < 0x100 → e < 0x100 →
+pub joined_word_is : (c w x y z a e more word : ℕ) → IsPair c w x y z → a < 0x100 → e < 0x100 → more < 0x10000 →
     word ≡ word_of a (0xA0 + w) (0x80 + x) e (0xB0 + y) (0x80 + z) more → to_le_bytes w32 (joined_word word) ≡ utf8_of c
-joined_word_is c w x y z a e more word digits a_byte e_byte word_is =
-    let w_is : bit_and (word / 0x100) 0x0F ≡ w = omega (arith, and_mask (word / 0x100) 4) in
-    let x_is : bit_and (word / 0x10000) 0x3F ≡ x = omega (arith, and_mask (word / 0x10000) 6) in
-    let y_is : bit_and (word / 0x100000000) 0x0F ≡ y = omega (arith, and_mask (word / 0x100000000) 4) in
-    let z_is : bit_and (word / 0x10000000000) 0x3F ≡ z = omega (arith, and_mask (word / 0x10000000000) 6) in
-    let flat : 0x808080F0 + (w + 1) / 4 + (w + 1) % 4 * 0x1000 + x / 4 * 0x100 + x % 4 * 0x100000 + y * 0x10000 + z * 0x1000000
+joined_word_is c w x y z a e more word digits a_byte e_byte more_low word_is =
+    let w_low = digits.first in
+    let x_low = digits.second in
+    let y_low = digits.third in
+    let z_low = digits.last in
+    let next : (word + 0x100) % 2 ^ 64 ≡ word_of a (0xA1 + w) (0x80 + x) e (0xB0 + y) (0x80 + z) more = omega arith in
+    let moved : ((w + 1) % 4 * 0x100 + x % 4 * 0x10000) * 2 ^ 4 % 2 ^ 64 ≡ (w + 1) % 4 * 0x1000 + x % 4 * 0x100000 = omega arith in
+    let flat : 0x808080F0 + ((w + 1) / 4 + x / 4 * 0x100) + ((w + 1) % 4 * 0x1000 + x % 4 * 0x100000) + (y * 0x10000 + z * 0x1000000)
     ≡ 0xF0 + (w + 1) / 4 + (0x80 + ((w + 1) % 4 * 0x10 + x / 4)) * 0x100 + (0x80 + (x % 4 * 0x10 + y)) * 0x10000 + (0x80 + z) * 0x1000000 =
     omega arith in
-    rw (w_is, x_is, y_is, z_is, utf8_of_pair c w x y z digits)
-    (ap (to_le_bytes w32) flat ∙ bytes_of_word _ _ _ _ (omega arith) (omega arith) (omega arith) (omega arith))
+    rw (
+      next,
+      by_ten a w x e y z more a_byte w_low x_low e_byte y_low z_low,
+      by_four a w x e y z more a_byte w_low x_low e_byte y_low z_low,
+      by_sixteen a w x e y z more a_byte w_low x_low e_byte y_low z_low,
+      moved,
+      utf8_of_pair c w x y z digits,
+    ) (ap (to_le_bytes w32) flat ∙ bytes_of_word _ _ _ _ (omega arith) (omega arith) (omega arith) (omega arith))

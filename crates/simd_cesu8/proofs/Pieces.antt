@@ -1,5 +1,5 @@
 -- Text that is read a piece at a time.
-use Rattle.std.proofs.Common.{◌≡◌, ℕ, ◌+◌, ◌-◌, ◌<◌, Bool, true, false, List, [], ◌++◌, Option, Some, IfSome, refl, sym, ap, ◌∙◌, subst, arith, length, take, drop, append_assoc, length-append}
+use Rattle.std.proofs.Common.{◌≡◌, ℕ, ◌+◌, ◌-◌, ◌<◌, Bool, true, false, List, [], ◌++◌, Option, Some, IfSome, refl, sym, ap, ◌∙◌, subst, arith, length, take, drop, append_assoc, length-append, length-drop}
 use Rattle.std.specs.Str.{chars, IsUtf8}
 use Rattle.std.proofs.Math.Seq.{drop-append_seam}
 use Rattle.std.proofs.lemmas.List.{take-append-drop}
@@ -15,7 +15,7 @@ use Rattle.simd_cesu8.proofs.StdUtf8.{IsUtf8Of_chars, IsUtf8_utf8, chars_utf8}
 use Rattle.simd_cesu8.proofs.Encodings.{encoding_append}
 use Rattle.simd_cesu8.proofs.EncodedTexts.{reading_text}
 use Rattle.simd_cesu8.proofs.Unique.{no_reading}
-use Rattle.simd_cesu8.proofs.Decoding.{IsText_append, utf8_append}
+use Rattle.simd_cesu8.proofs.Decoding.{IsText_append, utf8_append, nothing_read, all_read, lossy_length_nil}
 
 -- A piece adds its text.
 pub more_read : (f : Flavor) (lossy : Bool) (bytes rest after old out piece new : List ℕ) →
@@ -97,6 +97,26 @@ unfolding lossy_length
 piece_length f bytes rest piece read =
     ap (λ text. length (utf8 text)) read.lossy_reading ∙ ap length (utf8_append read.text (reading f rest))
     ∙ length-append (utf8 read.text) (utf8 (reading f rest)) ∙ ap (λ bs. length bs + length (utf8 (reading f rest))) (sym read.written)
+
+-- A piece that leaves nothing is the text of the whole, and has the length of its reading.
+pub whole_text : (f : Flavor) (lossy : Bool) (bytes piece : List ℕ) (n : ℕ) → IsPiece f lossy bytes (drop n bytes) piece →
+    n ≡ length bytes → IsDecodedText f lossy bytes (chars piece)
+whole_text f lossy bytes piece n read all =
+    decoded_text f lossy bytes [] piece refl
+    (all_read f lossy bytes (drop n bytes) [] piece read (omega (arith, length-drop n bytes, all)))
+
+pub whole_length : (f : Flavor) (bytes piece : List ℕ) (n : ℕ) → IsPiece f true bytes (drop n bytes) piece →
+    n ≡ length bytes → lossy_length f bytes ≡ length piece
+whole_length f bytes piece n read all =
+    omega (
+      arith,
+      piece_length f bytes (drop n bytes) piece read,
+      lossy_length_nil f (drop n bytes) (omega (arith, length-drop n bytes, all)),
+    )
+
+-- A fault of the bytes leaves them no strict reading.
+pub fault_of_whole : (f : Flavor) (bytes : List ℕ) → HasFault f bytes → HasNoStrictReading f bytes
+fault_of_whole f bytes = fault_after f false bytes bytes [] [] (nothing_read f false bytes []) refl
 
 -- What is left after a front is what is dropped for it.
 pub rest_of_front : (bytes rest : List ℕ) → ((front : List ℕ) × (bytes ≡ front ++ rest)) →

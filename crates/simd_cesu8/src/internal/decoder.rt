@@ -3,7 +3,7 @@
 //! A window never refuses bytes. What it gives no text for is read by exact steps, which refuse or
 //! replace, and then windows are tried again.
 
-ghost use Rattle.std.specs.Prelude.{◌≡◌, ◌+◌, ◌<◌, ◌≤◌, ◌++◌, ℕ, length, drop, List, Bool, false, OnOk, IfOk, IfSome, IfNone};
+ghost use Rattle.std.specs.Prelude.{◌≡◌, ◌+◌, ◌<◌, ◌≤◌, ◌++◌, ℕ, length, drop, List, Bool, false, OnOk, IfOk, IfSome, IfNone, true};
 ghost use Rattle.std.specs.String.{string_bytes, string_capacity};
 ghost use Rattle.std.specs.Str.{chars};
 ghost use Rattle.simd_cesu8.specs.Text.{utf8};
@@ -12,69 +12,18 @@ ghost use Rattle.simd_cesu8.specs.Fault.{OnInvalid};
 ghost use Rattle.simd_cesu8.specs.Internal.{flavor_of, IsDecodedText};
 ghost use Rattle.simd_cesu8.specs.Pieces.{IsPiece, HasFault};
 
+mod pace;
 mod steps;
 
-use super::joining::WINDOW;
 use super::window::{SHORT, read_window};
 use super::{DecodeOptions, Flavor};
 use crate::error::DecodeFault;
+use pace::Pace;
 use std::alloc::{AllocError, Allocator};
 use steps::{measure_steps, read_exactly};
 
-/// How many bytes the shortest window has.
-const SHORTEST: usize = 64;
-
-/// How many pieces are read by exact steps at most before the next window.
-const LONGEST_PAUSE: usize = 16;
-
-/// When the next window is tried. So windows cost little where most of them give nothing, and one
-/// damaged byte makes those after it shorter for a while.
-#[derive(Clone, Copy)]
-struct Pace {
-    /// How many pieces are read by exact steps before it.
-    pause: usize,
-    /// How many bytes it has.
-    window: usize,
-    /// How many pieces are read by exact steps after it, if it gives nothing.
-    next_pause: usize,
-}
-
-impl Pace {
-    fn at_start() -> Pace {
-        Pace {
-            pause: 0,
-            window: WINDOW,
-            next_pause: 1,
-        }
-    }
-
-    /// After a window that gave text.
-    fn after_text(self) -> Pace {
-        Pace {
-            pause: 0,
-            window: self.window.saturating_add(self.window / 4).min(WINDOW),
-            next_pause: (self.next_pause / 2).max(1),
-        }
-    }
-
-    /// After a window that gave nothing.
-    fn after_nothing(self) -> Pace {
-        Pace {
-            pause: self.next_pause,
-            window: (self.window / 2).max(SHORTEST),
-            next_pause: self.next_pause.saturating_mul(2).min(LONGEST_PAUSE),
-        }
-    }
-
-    /// After a piece by exact steps.
-    fn after_steps(self) -> Pace {
-        Pace {
-            pause: self.pause.saturating_sub(1),
-            window: self.window,
-            next_pause: self.next_pause,
-        }
-    }
-}
+/// How many exact steps are made at most for one piece of a longer text.
+const STEPS: usize = 32;
 
 /// The strict reading of the bytes, after one request for their length.
 pub fn decode_strict<A: Allocator>(
@@ -91,6 +40,9 @@ pub fn decode_strict<A: Allocator>(
         flavor,
         lossy: false,
     };
+    if bytes.len() <= SHORT {
+        return decode_short(alloc, options, bytes);
+    }
     let mut text = String::with_capacity(alloc, bytes.len()).map_err(DecodeFault::Memory)?;
     read_text(options, bytes, &mut text)?;
     match exactly(text, bytes.len()) {
@@ -115,6 +67,12 @@ pub fn decode_lossy<A: Allocator>(
         flavor,
         lossy: true,
     };
+    if bytes.len() <= SHORT {
+        return match decode_short(alloc, options, bytes) {
+            Ok(text) => Ok(text),
+            Err(_) => Err(AllocError),
+        };
+    }
     let len = lossy_len(flavor, bytes).ok_or(AllocError)?;
     let mut text = String::with_capacity(alloc, len)?;
     // Lossy reading refuses nothing, so only memory can be missing.
@@ -123,6 +81,46 @@ pub fn decode_lossy<A: Allocator>(
     }
     let exact = exactly(text, len)?;
     Ok(exact)
+}
+
+/// The text of a short input, which is read before memory is asked for, so no pass measures it.
+fn decode_short<A: Allocator>(
+    alloc: A,
+    options: DecodeOptions,
+    bytes: &[u8],
+) -> Result<String<A>, DecodeFault>
+    requires { length bytes.now ≤ 64 }
+    ensures text { IfOk result (λ text. IsDecodedText (flavor_of options.flavor) options.lossy
+        bytes.now (chars (string_bytes text))) }
+    ensures strict_capacity { options.lossy ≡ false → IfOk result (λ text.
+        string_capacity text ≡ length bytes.now) }
+    ensures lossy_capacity { options.lossy ≡ true → IfOk result (λ text.
+        string_capacity text ≡ lossy_length (flavor_of options.flavor) bytes.now) }
+    ensures invalid { OnInvalid result (HasNoStrictReading (flavor_of options.flavor) bytes.now) }
+{
+    let mut room = [0; 256];
+    match read_exactly(options, bytes, SHORT, &mut room) {
+        Ok(piece) => {
+            let capacity = if options.lossy {
+                piece.text.len()
+            } else {
+                bytes.len()
+            };
+            let text = build(alloc, piece.text, capacity).map_err(DecodeFault::Memory)?;
+            Ok(text)
+        }
+        Err(error) => Err(DecodeFault::Invalid(error)),
+    }
+}
+
+/// A copy of a text, after one request for so many bytes.
+fn build<A: Allocator>(alloc: A, text: &str, capacity: usize) -> Result<String<A>, AllocError>
+    ensures text { IfOk result (λ built. string_bytes built ≡ text.now) }
+    ensures capacity { IfOk result (λ built. string_capacity built ≡ capacity) }
+{
+    let mut built = String::with_capacity(alloc, capacity)?;
+    built.push_str(text)?;
+    exactly(built, capacity)
 }
 
 /// The text, whose capacity has to be what was asked for. There was room for all of it, so nothing
@@ -228,8 +226,8 @@ fn read_piece<A: Allocator>(
         *pace = pace.after_nothing();
     }
     *pace = pace.after_steps();
-    let mut room = [0; 128];
-    let piece = read_exactly(options, bytes, &mut room).map_err(DecodeFault::Invalid)?;
+    let mut room = [0; 256];
+    let piece = read_exactly(options, bytes, STEPS, &mut room).map_err(DecodeFault::Invalid)?;
     append(piece.text, out)?;
     Ok(piece.read)
 }

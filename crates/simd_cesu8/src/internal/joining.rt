@@ -91,8 +91,51 @@ fn join_block<'a>(flavor: Flavor, at: Place<'a>, stop: usize, room: &mut Room) -
         Flavor::Mutf8 if left >= 32 && marks & NULL_MARKS == NULL_MARKS && is_nulls(at.rest) => {
             join_nulls(at, room)
         }
+        _ if marks & PAIR_MARKS == PAIR_MARKS => join_pairs(at, stop, room),
         _ => join_marked(flavor, at, marks, stop, room),
     }
+}
+
+/// The marks of three surrogate pairs, one behind the other.
+const PAIR_MARKS: u32 = 0x0000_1041;
+
+/// Joins surrogate pairs that stand one behind the other. There is nothing to copy between them,
+/// and where the next one begins does not wait for what was read.
+#[inline(always)]
+fn join_pairs<'a>(start: Place<'a>, stop: usize, room: &mut Room) -> Place<'a>
+    requires stop { (stop < length start.rest.now) × (48 ≤ stop) }
+    requires room { start.written + length start.rest.now ≤ 1024 + stop }
+    ensures after { IsJoinedAfter start.entry.rest.now result.rest.now
+        start.entry.written result.written stop }
+    ensures joined { (f : AnyFlavor) → KeepsJoined f
+        start.entry.rest.now (take start.entry.written room.old)
+        result.rest.now (take result.written room.new) }
+{
+    let bytes = start.rest;
+    let mut read = 0;
+    let mut written = start.written;
+    while bytes.len() - read > stop && is_pair(&bytes[read..]) {
+        join_pair(&bytes[read..], written, room);
+        read += 6;
+        written += 4;
+    }
+    Place {
+        rest: &bytes[read..],
+        written,
+    }
+}
+
+/// Joins the surrogate pair that begins the bytes.
+#[inline(always)]
+fn join_pair(bytes: &[u8], written: usize, room: &mut Room)
+    requires pair { HasPair bytes.now }
+    requires long { 8 ≤ length bytes.now }
+    requires room { written + 4 ≤ 1088 }
+    ensures { (f : AnyFlavor) → KeepsJoined f bytes.now (take written room.old)
+        (drop 6 bytes.now) (take (written + 4) room.new) }
+{
+    let four = joined(bytes);
+    room[written..written + 4].copy_from_slice(&four);
 }
 
 /// Marks the bytes of a block that may have to change, the first byte in the lowest bit: those that
@@ -234,19 +277,13 @@ pub fn joined(bytes: &[u8]) -> [u8; 4]
     requires { 8 ≤ length bytes.now }
     ensures { Joins (second_third_fifth_sixth bytes.now) result }
 {
-    let word = front_word(bytes);
-    let plane = ((word >> 8) & 0x0F) + 1;
-    let middle = (word >> 16) & 0x3F;
-    let low = (word >> 32) & 0x0F;
-    let last = (word >> 40) & 0x3F;
-    // A flat sum of digits, each at its place, so that few shifts are left of it.
+    // The plane offset: one more than the last four bits of the second byte.
+    let word = front_word(bytes).wrapping_add(0x100);
+    // Digits that move by the same number of bits are moved together.
     let utf8 = 0x8080_80F0
-        + plane / 4
-        + plane % 4 * 0x1000
-        + middle / 4 * 0x100
-        + middle % 4 * 0x10_0000
-        + low * 0x1_0000
-        + last * 0x100_0000;
+        + (word >> 10 & 0x0000_0F07)
+        + ((word & 0x0003_0300) << 4)
+        + (word >> 16 & 0x3F0F_0000);
     (utf8 as u32).to_le_bytes()
 }
 

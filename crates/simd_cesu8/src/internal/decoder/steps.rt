@@ -1,6 +1,7 @@
 //! Exact steps: a character at a time is read, or refused, or a byte replaced.
 
-ghost use Rattle.std.specs.Prelude.{◌≡◌, ◌+◌, ◌<◌, ◌≤◌, ◌++◌, ℕ, length, take, drop, List, false, OnErr, IfOk};
+ghost use Rattle.std.specs.Prelude.{◌≡◌, ◌+◌, ◌<◌, ◌≤◌, ◌++◌, ℕ, length, take, drop, List, false, OnErr, IfOk, MatchResult};
+ghost use Rattle.std.specs.Str.{IsUtf8};
 ghost use Rattle.simd_cesu8.specs.Text.{utf8_of};
 ghost use Rattle.simd_cesu8.specs.Reading.{NoneBegins, lossy_length};
 ghost use Rattle.simd_cesu8.specs.Internal.{flavor_of, IsStep};
@@ -16,11 +17,14 @@ use simdutf8::basic;
 /// The UTF-8 of the replacement character, U+FFFD.
 const REPLACEMENT: [u8; 3] = [0xEF, 0xBF, 0xBD];
 
-/// How many exact steps are made for one piece of text.
+/// How many exact steps are made to measure one piece of text.
 const STEPS: usize = 32;
 
-/// Room for the UTF-8 of so many exact steps.
-pub type StepRoom = [u8; 128];
+/// How many bytes are tested for UTF-8 at once.
+const BLOCK: usize = 64;
+
+/// Room for the UTF-8 of 64 exact steps.
+pub type StepRoom = [u8; 256];
 
 /// How many bytes some characters take, and how many their UTF-8, by exact steps.
 pub fn measure_steps(flavor: Flavor, bytes: &[u8]) -> (usize, usize)
@@ -57,21 +61,25 @@ fn measure_step(flavor: Flavor, bytes: &[u8]) -> (usize, usize)
     }
 }
 
-/// Reads some characters by exact steps.
+/// Reads some characters by exact steps, of which so many are made at most. As many as there are
+/// bytes read them all.
 pub fn read_exactly<'a>(
     options: DecodeOptions,
     bytes: &[u8],
+    most: usize,
     room: &'a mut StepRoom,
 ) -> Result<Piece<'a>, DecodingError>
-    requires { 0 < length bytes.now }
-    ensures within { IfOk result (λ piece. (0 < piece.read) × (piece.read ≤ length bytes.now)) }
+    requires few { most ≤ 64 }
+    ensures within { IfOk result (λ piece. piece.read ≤ length bytes.now) }
+    ensures some { 0 < length bytes.now → 0 < most → IfOk result (λ piece. 0 < piece.read) }
+    ensures all { length bytes.now ≤ most → IfOk result (λ piece. piece.read ≡ length bytes.now) }
     ensures ok { IfOk result (λ piece. IsPiece (flavor_of options.flavor) options.lossy bytes.now
         (drop piece.read bytes.now) piece.text.now) }
     ensures err { OnErr result ((options.lossy ≡ false)
         × HasFault (flavor_of options.flavor) bytes.now) }
 {
-    let at = read_steps(options, bytes, room)?;
-    match basic::from_utf8(&room[..at.written]) {
+    let at = read_steps(options, bytes, most, room)?;
+    match text_of(room, at.written) {
         Ok(text) => Ok(Piece {
             read: bytes.len() - at.rest.len(),
             text,
@@ -81,15 +89,35 @@ pub fn read_exactly<'a>(
     }
 }
 
+/// What is written of the room, as a text, where it is UTF-8. A whole block is tested at once, with
+/// the bytes behind what is written, which mostly are 0.
+fn text_of(room: &StepRoom, written: usize) -> Result<&str, basic::Utf8Error>
+    requires { written ≤ 256 }
+    ensures { MatchResult result
+        (λ text. (text.now ≡ take written room.now) × IsUtf8 (take written room.now))
+        (λ _. ¬ (IsUtf8 (take written room.now))) }
+{
+    if written < BLOCK && room[written] < 0x80 {
+        if let Ok(block) = basic::from_utf8(&room[..BLOCK]) {
+            return Ok(&block[..written]);
+        }
+    }
+    basic::from_utf8(&room[..written])
+}
+
 /// Makes some exact steps, and writes the UTF-8 of what they read to the room.
 fn read_steps<'b>(
     options: DecodeOptions,
     bytes: &'b [u8],
+    most: usize,
     room: &mut StepRoom,
 ) -> Result<Place<'b>, DecodingError>
-    requires { 0 < length bytes.now }
-    ensures within { IfOk result (λ at. (length at.rest.now < length bytes.now)
-        × (at.written ≤ 128)) }
+    requires { most ≤ 64 }
+    ensures within { IfOk result (λ at. (length at.rest.now ≤ length bytes.now)
+        × (at.written ≤ 256)) }
+    ensures some { 0 < length bytes.now → 0 < most → IfOk result (λ at.
+        length at.rest.now < length bytes.now) }
+    ensures all { length bytes.now ≤ most → IfOk result (λ at. length at.rest.now ≡ 0) }
     ensures rest { IfOk result (λ at. (front : List ℕ) × (bytes.now ≡ front ++ at.rest.now)) }
     ensures ok { IfOk result (λ at. IsPiece (flavor_of options.flavor) options.lossy bytes.now
         at.rest.now (take at.written room.new)) }
@@ -101,7 +129,7 @@ fn read_steps<'b>(
         written: 0,
     };
     let mut steps = 0;
-    while steps < STEPS && !at.rest.is_empty() {
+    while steps < most && !at.rest.is_empty() {
         at = read_step(options, at, room)?;
         steps += 1;
     }
@@ -117,7 +145,7 @@ fn read_step<'b>(
     room: &mut StepRoom,
 ) -> Result<Place<'b>, DecodingError>
     requires nonempty { 0 < length at.rest.now }
-    requires room { at.written + 4 ≤ 128 }
+    requires room { at.written + 4 ≤ 256 }
     ensures ok { IfOk result (λ after. (c : ℕ)
         × IsStep (flavor_of options.flavor) options.lossy at.entry.rest.now c after.rest.now
         × (take after.written room.new ≡ take at.entry.written room.old ++ utf8_of c)) }
@@ -148,7 +176,7 @@ fn read_step<'b>(
 #[inline(always)]
 fn copy_front<'b, const N: usize>(at: Place<'b>, room: &mut StepRoom) -> Place<'b>
     requires long { N ≤ length at.rest.now }
-    requires room { at.written + N ≤ 128 }
+    requires room { at.written + N ≤ 256 }
     ensures written { result.written ≡ at.entry.written + N }
     ensures bytes { take result.written room.new ≡ take at.entry.written room.old
         ++ take N at.entry.rest.now }
@@ -170,7 +198,7 @@ fn write_for<'b, const N: usize>(
     room: &mut StepRoom,
 ) -> Place<'b>
     requires long { read ≤ length at.rest.now }
-    requires room { at.written + N ≤ 128 }
+    requires room { at.written + N ≤ 256 }
     ensures written { result.written ≡ at.entry.written + N }
     ensures bytes { take result.written room.new ≡ take at.entry.written room.old ++ bytes.entry }
     ensures rest { result.rest.now ≡ drop read at.entry.rest.now }

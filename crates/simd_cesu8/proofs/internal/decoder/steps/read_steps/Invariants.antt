@@ -12,5 +12,5 @@ invariant-loop-steps l = record {
   front : (front : List ℕ) × (l.fn.bytes ≡ front ++ l.at.rest.now);
   room : l.at.written ≤ 4 * l.steps;
   shorter : length l.at.rest.now + l.steps ≤ length l.fn.bytes;
-  few : l.steps ≤ 32;
+  few : l.steps ≤ l.most;
 }
