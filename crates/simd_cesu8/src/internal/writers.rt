@@ -1,39 +1,9 @@
 //! Writers into room that is there, which can't fail, and copies, each with its one request.
 
-ghost use Rattle.std.specs.Prelude.{◌≡◌, ◌+◌, ◌≤◌, ◌++◌, [], length, take, drop, IfOk, IsOk, vec_len, vec_capacity};
+ghost use Rattle.std.specs.Prelude.{◌≡◌, ◌+◌, ◌≤◌, ◌++◌, [], length, IfOk, IsOk, vec_len, vec_capacity};
 ghost use Rattle.std.specs.String.{string_bytes, string_capacity};
 
 use std::alloc::{AllocError, Allocator};
-
-/// Appends bytes for which there is room.
-#[inline(always)]
-pub fn push_all<const N: usize, A: Allocator>(bytes: [u8; N], out: &mut Vec<u8, A>)
-    requires { vec_len out.old + N ≤ vec_capacity out.old }
-    ensures bytes { out.new.items ≡ out.old.items ++ bytes.entry }
-    ensures capacity { vec_capacity out.new ≡ vec_capacity out.old }
-{
-    for byte in bytes {
-        out.push_reserved(byte);
-    }
-}
-
-/// Appends the first N bytes, and gives those after them.
-#[inline(always)]
-pub fn copy_front<'a, const N: usize, A: Allocator>(
-    bytes: &'a [u8],
-    out: &mut Vec<u8, A>,
-) -> &'a [u8]
-    requires long { N ≤ length bytes.now }
-    requires room { vec_len out.old + N ≤ vec_capacity out.old }
-    ensures bytes { out.new.items ≡ out.old.items ++ take N bytes.now }
-    ensures rest { result.now ≡ drop N bytes.now }
-    ensures capacity { vec_capacity out.new ≡ vec_capacity out.old }
-{
-    for i in 0..N {
-        out.push_reserved(bytes[i]);
-    }
-    &bytes[N..]
-}
 
 /// Appends bytes for which there is room.
 #[inline(always)]
