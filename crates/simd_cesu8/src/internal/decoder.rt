@@ -20,10 +20,7 @@ use super::{DecodeOptions, Flavor};
 use crate::error::DecodeFault;
 use pace::Pace;
 use std::alloc::{AllocError, Allocator};
-use steps::{measure_steps, read_exactly};
-
-/// How many exact steps are made at most for one piece of a longer text.
-const STEPS: usize = 32;
+use steps::{STEPS, measure_steps, read_exactly};
 
 /// The strict reading of the bytes, after one request for their length.
 pub fn decode_strict<A: Allocator>(
