@@ -34,14 +34,34 @@ pub fn copy_text<A: Allocator>(alloc: A, text: &str) -> Result<String<A>, AllocE
     ensures capacity { IfOk result (λ copied. string_capacity copied ≡ length text.now) }
     ensures empty { text.now ≡ [] → IsOk result }
 {
-    let mut copied = String::with_capacity(alloc, text.len())?;
     if text.is_empty() {
-        return Ok(copied);
+        return String::with_capacity(alloc, 0);
     }
+    copy_text_with_capacity(alloc, text, text.len())
+}
+
+/// A copy of a text, after one request for so many bytes.
+pub fn copy_text_with_capacity<A: Allocator>(
+    alloc: A,
+    text: &str,
+    capacity: usize,
+) -> Result<String<A>, AllocError>
+    ensures text { IfOk result (λ copied. string_bytes copied ≡ text.now) }
+    ensures capacity { IfOk result (λ copied. string_capacity copied ≡ capacity) }
+{
+    let mut copied = String::with_capacity(alloc, capacity)?;
     copied.push_str(text)?;
-    // There was room, so nothing has grown. std's words leave that open, and `capacity` does not.
-    if copied.capacity() != text.len() {
+    exactly(copied, capacity)
+}
+
+/// The text, whose capacity has to be what was asked for. There was room for all of it, so nothing
+/// has grown: std's words leave that open, and the contract does not.
+pub fn exactly<A: Allocator>(text: String<A>, capacity: usize) -> Result<String<A>, AllocError>
+    ensures text { IfOk result (λ exact. string_bytes exact ≡ string_bytes text) }
+    ensures capacity { IfOk result (λ exact. string_capacity exact ≡ capacity) }
+{
+    if text.capacity() != capacity {
         return Err(AllocError);
     }
-    Ok(copied)
+    Ok(text)
 }
