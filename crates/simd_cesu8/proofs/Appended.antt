@@ -19,17 +19,7 @@ pub begins_as : (f : Flavor) (bytes : List ℕ) (character known : EncodedCharac
     BeginsAs f bytes character → BeginsAs f bytes known
 begins_as f bytes character known equal begins = subst (BeginsAs f bytes) equal begins
 
--- The bytes that it takes are there,
-pub long_enough : (f : Flavor) (bytes : List ℕ) (m n : ℕ) → BeginsInLengths f bytes m n → m ≤ length bytes
-long_enough f bytes m n found =
-    omega (
-      arith,
-      found.encoded,
-      ap length found.begins.bytes_are,
-      length-append (encoding f (found.character ∷ [])) found.rest,
-    )
-
--- and those after them are the rest.
+-- The bytes after those that it takes are the rest.
 pub rest_is : (f : Flavor) (bytes : List ℕ) (m n : ℕ) → (found : BeginsInLengths f bytes m n) →
     drop m bytes ≡ found.rest
 rest_is f bytes m n found =

@@ -113,10 +113,6 @@ pub record HaveCounted (p : ℕ → Bool) (block : List ℕ) (n : ℕ) (lanes : 
   pub low : Each1 (λ a. a ≤ n) lanes
   pub total : sum_l lanes ≡ count_by p (take (64 * n) block)
 
--- To start with, no lane has counted any.
-pub none_counted : (p : ℕ → Bool) (block : List ℕ) → HaveCounted p block 0 (replicate 64 0)
-none_counted p block = record { long = refl; low = Each1-replicate (λ a. a ≤ 0) 64 0 (omega arith); total = refl }
-
 module _ (p : ℕ → Bool) (block : List ℕ) (n : ℕ) (lanes more : List ℕ) (have : HaveCounted p block n lanes)
     (ones_of_next : more ≡ ones p (chunk (64 * n) 64 block)) (room : 64 * n + 64 ≤ length block) where
   more_long : length more ≡ 64

@@ -133,11 +133,6 @@ replaced f lossy bytes old new some is_lossy none_begins new_is = (
   new_is ∙ ap (λ bs. old ++ bs) (sym utf8_replacement),
 )
 
--- A fact that does not depend on the error holds at the exit of a `?`.
-pub on_err : {T E : Type 0} (r : Result T E) (P : Type 0) → P → OnErr r P
-on_err (Ok x) P h = tt
-on_err (Err e) P h = h
-
 -- A replacement character at the front takes three bytes of UTF-8.
 pub length_utf8_replaced : (text : List ℕ) → length (utf8 (0xFFFD ∷ text)) ≡ 3 + length (utf8 text)
 length_utf8_replaced text = omega (arith, length-append (utf8_of 0xFFFD) (utf8 text), length_of_replacement)

@@ -72,17 +72,6 @@ refused_after f lossy bytes rest old out (Invalid error) so_far refused =
     fault_after f lossy bytes rest old out so_far refused.0 refused.1
 refused_after f lossy bytes rest old out (Memory error) so_far memory = memory
 
--- Where no character begins what is left, there is a fault.
-pub fault_here : (f : Flavor) (lossy : Bool) (bytes rest piece : List ℕ) → IsPiece f lossy bytes rest piece → lossy ≡ false →
-    0 < length rest → NoneBegins f rest → HasFault f bytes
-fault_here f lossy bytes rest piece before strict some none_begins = record {
-  rest = rest;
-  piece = piece;
-  before = subst (λ l. IsPiece f l bytes rest piece) strict before;
-  some = some;
-  none_begins = none_begins;
-}
-
 -- The text of what was decoded into nothing.
 pub decoded_text : (f : Flavor) (lossy : Bool) (bytes old out : List ℕ) → old ≡ [] →
     ((text : List ℕ) × IsDecodedText f lossy bytes text × (out ≡ old ++ utf8 text)) → IsDecodedText f lossy bytes (chars out)
