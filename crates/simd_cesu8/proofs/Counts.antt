@@ -2,7 +2,7 @@
 use Rattle.std.proofs.Common.{◌≡◌, ◌==◌, ℕ, ◌+◌, ◌*◌, ◌<◌, ◌≤◌, Bool, true, false, cond, List, [], ◌∷◌, length, map, take, drop, replicate, refl, sym, ap, ◌∙◌, subst, arith, eqb, bit_and, count_by, Fits, w8, w32}
 use lib.Lanes.{zip2, top, sel_l, sum_l, fold_l, chunk, products, dots, Each1, Each2, Steps}
 use Rattle.std.proofs.lemmas.List.{length-map, drop-drop}
-use Rattle.std.proofs.lemmas.Simd.{zip2_splat, Each1-weaker, Each1-all, Each2-of, Each1-zip2, Each1-replicate, sum-zip2, length-zip2, length-chunk, sum_bound, map-map, sum_dots, sum_by-ones, sum_fits, fold-sum, bytes_below}
+use Rattle.std.proofs.lemmas.Simd.{zip2_splat, Each1-weaker, Each1-all, Each2-of, Each1-zip2, sum-zip2, length-zip2, length-chunk, sum_bound, map-map, sum_dots, sum_by-ones, sum_fits, fold-sum, bytes_below}
 use Rattle.std.proofs.lemmas.Bool.{agree_below_at}
 use Rattle.std.proofs.lemmas.List.Sums.{sum_by-cons, sum_by-take-drop, count_by-le-length}
 use Rattle.simd_cesu8.specs.Class.{is_four}

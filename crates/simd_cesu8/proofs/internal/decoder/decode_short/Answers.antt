@@ -13,8 +13,8 @@ returns-after-options-clause-text g c =
     let f = flavor_of c.args.options.flavor in
     where_mapped c.copy_text_with_capacity.result c.map_err.result _ _ _ c.map_err.ensures.cases c.map_err.ensures.variant
     (λ copied same. subst (λ text. IsDecodedText f c.args.options.lossy c.args.bytes.now (chars text)) (sym same)
-        (whole_text f c.args.options.lossy c.args.bytes.now c.in-Ok.piece.text.now c.in-Ok.piece.read c.in-Ok.ensures.ok
-        (c.in-Ok.ensures.all c.requires)))
+    (whole_text f c.args.options.lossy c.args.bytes.now c.in-Ok.piece.text.now c.in-Ok.piece.read c.in-Ok.ensures.ok
+    (c.in-Ok.ensures.all c.requires)))
     c.copy_text_with_capacity.ensures.text
 
 pub returns-after-options-clause-lossy_capacity : goal.returns-after-options-clause-lossy_capacity
@@ -25,5 +25,5 @@ returns-after-options-clause-lossy_capacity g c is_lossy =
     let asked : c.if-options.capacity ≡ length c.in-Ok.piece.text.now = search (rules, is_lossy) in
     where_mapped c.copy_text_with_capacity.result c.map_err.result _ _ _ c.map_err.ensures.cases c.map_err.ensures.variant
     (λ copied same. same ∙ asked
-        ∙ sym (whole_length f c.args.bytes.now c.in-Ok.piece.text.now c.in-Ok.piece.read read (c.in-Ok.ensures.all c.requires)))
+    ∙ sym (whole_length f c.args.bytes.now c.in-Ok.piece.text.now c.in-Ok.piece.read read (c.in-Ok.ensures.all c.requires)))
     c.copy_text_with_capacity.ensures.capacity

@@ -12,5 +12,5 @@ returns-clause-text g c =
     (search rules) c.in_ok-read_text.ensures.ok in
     where_mapped c.exactly.result c.map_err-2.result _ _ _ c.map_err-2.ensures.cases c.map_err-2.ensures.variant
     (λ exact same. subst (λ bytes. IsStrictReading (flavor_of c.args.flavor) c.args.bytes.now (chars bytes)) (sym same)
-        (read.0, read.2 refl))
+    (read.0, read.2 refl))
     c.exactly.ensures.text
