@@ -35,6 +35,7 @@ pub fn copy_text<A: Allocator>(alloc: A, text: &str) -> Result<String<A>, AllocE
     ensures empty { text.now ≡ [] → IsOk result }
 {
     if text.is_empty() {
+        // Nothing is asked for, so nothing is refused.
         return String::with_capacity(alloc, 0);
     }
     copy_text_with_capacity(alloc, text, text.len())
