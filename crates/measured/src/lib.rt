@@ -5,7 +5,7 @@
 //! there. So a call with an empty room costs what the library's call costs, and tells how much
 //! room its answer needs. Before an encoder's call, or one that tells of an encoding, its input
 //! is tested for UTF-8.
-#![tactic(auto)]
+#![tactic(auto, using(crate::proofs::Told::tells_reading))]
 
 ghost use Rattle.std.specs.Prelude.{◌≡◌, ◌↔◌, ◌<◌, length, IsTrue, IsUtf8, Any};
 ghost use Rattle.std.specs.Str.{chars};

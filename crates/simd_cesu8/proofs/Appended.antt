@@ -1,5 +1,5 @@
 -- What is appended for an encoded character, by its lengths, is its UTF-8.
-use Rattle.std.proofs.Common.{◌≡◌, ℕ, ◌+◌, ◌<◌, ◌≤◌, Bool, true, List, [], ◌∷◌, ◌++◌, refl, sym, ap, ◌∙◌, subst, inl, inr, arith, length, take, drop, length-append}
+use Rattle.std.proofs.Common.{◌≡◌, ℕ, ◌+◌, ◌<◌, ◌≤◌, Bool, true, List, [], ◌∷◌, ◌++◌, refl, sym, ap, ◌∙◌, subst, inl, inr, arith, length, take, drop}
 use Rattle.std.proofs.lemmas.List.{take_rest}
 use Rattle.std.proofs.Math.Seq.{take-append_seam, drop-append_seam}
 use Rattle.simd_cesu8.specs.Text.{utf8_of}
@@ -19,17 +19,7 @@ pub begins_as : (f : Flavor) (bytes : List ℕ) (character known : EncodedCharac
     BeginsAs f bytes character → BeginsAs f bytes known
 begins_as f bytes character known equal begins = subst (BeginsAs f bytes) equal begins
 
--- The bytes that it takes are there,
-pub long_enough : (f : Flavor) (bytes : List ℕ) (m n : ℕ) → BeginsInLengths f bytes m n → m ≤ length bytes
-long_enough f bytes m n found =
-    omega (
-      arith,
-      found.encoded,
-      ap length found.begins.bytes_are,
-      length-append (encoding f (found.character ∷ [])) found.rest,
-    )
-
--- and those after them are the rest.
+-- The bytes after those that it takes are the rest.
 pub rest_is : (f : Flavor) (bytes : List ℕ) (m n : ℕ) → (found : BeginsInLengths f bytes m n) →
     drop m bytes ≡ found.rest
 rest_is f bytes m n found =

@@ -2,7 +2,7 @@
 use Rattle.std.proofs.Common.{◌≡◌, ◌==◌, ℕ, ◌+◌, ◌*◌, ◌<◌, ◌≤◌, Bool, true, false, cond, List, [], ◌∷◌, length, map, take, drop, replicate, refl, sym, ap, ◌∙◌, subst, arith, eqb, bit_and, count_by, Fits, w8, w32}
 use lib.Lanes.{zip2, top, sel_l, sum_l, fold_l, chunk, products, dots, Each1, Each2, Steps}
 use Rattle.std.proofs.lemmas.List.{length-map, drop-drop}
-use Rattle.std.proofs.lemmas.Simd.{zip2_splat, Each1-weaker, Each1-all, Each2-of, Each1-zip2, Each1-replicate, sum-zip2, length-zip2, length-chunk, sum_bound, map-map, sum_dots, sum_by-ones, sum_fits, fold-sum, bytes_below}
+use Rattle.std.proofs.lemmas.Simd.{zip2_splat, Each1-weaker, Each1-all, Each2-of, Each1-zip2, sum-zip2, length-zip2, length-chunk, sum_bound, map-map, sum_dots, sum_by-ones, sum_fits, fold-sum, bytes_below}
 use Rattle.std.proofs.lemmas.Bool.{agree_below_at}
 use Rattle.std.proofs.lemmas.List.Sums.{sum_by-cons, sum_by-take-drop, count_by-le-length}
 use Rattle.simd_cesu8.specs.Class.{is_four}
@@ -112,10 +112,6 @@ pub record HaveCounted (p : ℕ → Bool) (block : List ℕ) (n : ℕ) (lanes : 
   pub long : length lanes ≡ 64
   pub low : Each1 (λ a. a ≤ n) lanes
   pub total : sum_l lanes ≡ count_by p (take (64 * n) block)
-
--- To start with, no lane has counted any.
-pub none_counted : (p : ℕ → Bool) (block : List ℕ) → HaveCounted p block 0 (replicate 64 0)
-none_counted p block = record { long = refl; low = Each1-replicate (λ a. a ≤ 0) 64 0 (omega arith); total = refl }
 
 module _ (p : ℕ → Bool) (block : List ℕ) (n : ℕ) (lanes more : List ℕ) (have : HaveCounted p block n lanes)
     (ones_of_next : more ≡ ones p (chunk (64 * n) 64 block)) (room : 64 * n + 64 ≤ length block) where

@@ -1,5 +1,5 @@
 -- A text that is read a step at a time.
-use Rattle.std.proofs.Common.{◌≡◌, ℕ, ◌+◌, ◌<◌, Bool, true, false, List, [], ◌∷◌, ◌++◌, refl, sym, ap, ◌∙◌, subst, inr, arith, length, take, drop, get_or, Result, Ok, Err, OnErr, ◌-◌, append_assoc, append-nil, length-append}
+use Rattle.std.proofs.Common.{◌≡◌, ℕ, ◌+◌, ◌<◌, Bool, true, false, List, [], ◌∷◌, ◌++◌, refl, sym, ap, ◌∙◌, subst, inr, arith, length, take, drop, get_or, ◌-◌, append_assoc, append-nil, length-append}
 use Rattle.std.proofs.lemmas.List.Concat.{flat_map-append}
 use Rattle.std.proofs.lemmas.Bool.{true≢false}
 use Rattle.std.proofs.lemmas.List.{take_rest}
@@ -132,11 +132,6 @@ replaced f lossy bytes old new some is_lossy none_begins new_is = (
   replaced_step f lossy bytes some is_lossy none_begins,
   new_is ∙ ap (λ bs. old ++ bs) (sym utf8_replacement),
 )
-
--- A fact that does not depend on the error holds at the exit of a `?`.
-pub on_err : {T E : Type 0} (r : Result T E) (P : Type 0) → P → OnErr r P
-on_err (Ok x) P h = tt
-on_err (Err e) P h = h
 
 -- A replacement character at the front takes three bytes of UTF-8.
 pub length_utf8_replaced : (text : List ℕ) → length (utf8 (0xFFFD ∷ text)) ≡ 3 + length (utf8 text)

@@ -1,5 +1,5 @@
 -- The encoding of a text, from those of its scalar values.
-use Rattle.std.proofs.Common.{◌≡◌, ℕ, ◌+◌, List, [], ◌∷◌, ◌++◌, refl, sym, ap, ◌∙◌, length, arith, length-append, append-nil}
+use Rattle.std.proofs.Common.{◌≡◌, ℕ, List, [], ◌∷◌, ◌++◌, refl, sym, ap, ◌∙◌, length, arith, append-nil}
 use Rattle.std.specs.Str.{chars}
 use Rattle.std.proofs.lemmas.Str.{chars-nil}
 use Rattle.std.specs.List.{flat_map}
@@ -28,7 +28,3 @@ pub nothing_left : (f : Flavor) (whole rest out : List ℕ) → length rest ≡ 
     out ≡ whole
 nothing_left f whole [] out empty whole_is = sym (whole_is ∙ rw (chars-nil, encoding_nil f) (append-nil out))
 nothing_left f whole (b ∷ rest) out empty whole_is = absurd (omega arith)
-
--- Where two lists that are cut in two are equal, so are the sums of the lengths of their parts.
-pub lengths_of_parts : (a b c d : List ℕ) → a ++ b ≡ c ++ d → length a + length b ≡ length c + length d
-lengths_of_parts a b c d same = sym (length-append a b) ∙ ap length same ∙ length-append c d

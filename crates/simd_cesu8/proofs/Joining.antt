@@ -57,10 +57,6 @@ joined_changes f bytes m n fewer found (longer otherwise _ _) = record {
   out_is = sym (append-nil (utf8_of found.character));
 }
 
--- Before the first step nothing is joined.
-pub joined_before : (f : Flavor) (bytes : List ℕ) → IsJoinedSoFar f bytes bytes []
-joined_before f bytes = record { front = []; bytes_are = refl; joined = joined_nothing f }
-
 -- A step joins the next bytes.
 more_joined : (f : Flavor) (next rest out after written new : List ℕ) → rest ≡ next ++ after → new ≡ out ++ written →
     IsJoined f next written → KeepsJoined f rest out after new

@@ -3,8 +3,6 @@ pub mod Borders
 pub mod Shapes
 pub mod Forms
 pub mod Encodings
-pub mod Front
-pub mod PairBytes
 pub mod Lengths
 pub mod EncodedLength
 pub mod Elements
@@ -12,7 +10,6 @@ pub mod Counts
 pub mod Needs
 pub mod Patterns
 pub mod Found
-pub mod JoinedBytes
 pub mod MaskedWord
 pub mod NoneFound
 pub mod Unique

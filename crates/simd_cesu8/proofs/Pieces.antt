@@ -1,11 +1,11 @@
 -- Text that is read a piece at a time.
-use Rattle.std.proofs.Common.{◌≡◌, ℕ, ◌+◌, ◌-◌, ◌<◌, Bool, true, false, List, [], ◌++◌, Option, Some, IfSome, refl, sym, ap, ◌∙◌, subst, arith, length, take, drop, append_assoc, length-append, length-drop}
+use Rattle.std.proofs.Common.{◌≡◌, ℕ, ◌+◌, ◌-◌, Bool, true, false, List, [], ◌++◌, Option, Some, IfSome, Result, Ok, Err, IfOk, MatchResult, is_ok, true≢false, refl, sym, ap, ◌∙◌, subst, arith, length, take, drop, append_assoc, length-append, length-drop}
 use Rattle.std.specs.Str.{chars, IsUtf8}
 use Rattle.std.proofs.Math.Seq.{drop-append_seam}
 use Rattle.std.proofs.lemmas.List.{take-append-drop}
 use Rattle.simd_cesu8.specs.Text.{utf8}
 use Rattle.simd_cesu8.specs.Encoding.{Flavor, encoding}
-use Rattle.simd_cesu8.specs.Reading.{NoneBegins, IsStrictReading, HasNoStrictReading, reading, lossy_length}
+use Rattle.simd_cesu8.specs.Reading.{IsStrictReading, HasNoStrictReading, reading, lossy_length}
 use Rattle.simd_cesu8.specs.Fault.{IfInvalid}
 use Rattle.simd_cesu8.specs.declared.error.DecodeFault.{DecodeFault}
 use Rattle.simd_cesu8.specs.declared.error.DecodeFault.TheVariants.{Invalid, Memory}
@@ -72,17 +72,6 @@ refused_after f lossy bytes rest old out (Invalid error) so_far refused =
     fault_after f lossy bytes rest old out so_far refused.0 refused.1
 refused_after f lossy bytes rest old out (Memory error) so_far memory = memory
 
--- Where no character begins what is left, there is a fault.
-pub fault_here : (f : Flavor) (lossy : Bool) (bytes rest piece : List ℕ) → IsPiece f lossy bytes rest piece → lossy ≡ false →
-    0 < length rest → NoneBegins f rest → HasFault f bytes
-fault_here f lossy bytes rest piece before strict some none_begins = record {
-  rest = rest;
-  piece = piece;
-  before = subst (λ l. IsPiece f l bytes rest piece) strict before;
-  some = some;
-  none_begins = none_begins;
-}
-
 -- The text of what was decoded into nothing.
 pub decoded_text : (f : Flavor) (lossy : Bool) (bytes old out : List ℕ) → old ≡ [] →
     ((text : List ℕ) × IsDecodedText f lossy bytes text × (out ≡ old ++ utf8 text)) → IsDecodedText f lossy bytes (chars out)
@@ -129,3 +118,10 @@ rest_of_front bytes rest front =
 -- What holds of an answer that is there holds of it where it is known which.
 pub where_some : {T : Type 0} (answer : Option T) (x : T) (P : T → Type 0) → answer ≡ Some x → IfSome answer P → P x
 where_some answer x P is holds = subst (λ o. IfSome o P) is holds
+
+-- What holds of a value that is there holds of it where the error is mapped.
+pub where_mapped : {T E D : Type 0} (r : Result T E) (mapped : Result T D) (P Q : T → Type 0) (R : E → Type 0) →
+    MatchResult r (λ x. mapped ≡ Ok x) R → is_ok mapped ≡ is_ok r → ((x : T) → P x → Q x) → IfOk r P → IfOk mapped Q
+where_mapped (Ok x) mapped P Q R is same weaker holds = subst (λ m. IfOk m Q) (sym is) (weaker x holds)
+where_mapped (Err e) (Ok y) P Q R is same weaker holds = absurd (true≢false same)
+where_mapped (Err e) (Err d) P Q R is same weaker holds = tt

@@ -7,12 +7,12 @@ ghost use Rattle.simd_cesu8.specs.Class.{IsChangedByte, IsUnchangedUtf8};
 ghost use Rattle.simd_cesu8.specs.Reading.{IsStrictReading, HasNoStrictReading, IsLenientReading, HasNoLenientReading, reading, lossy_length, IsLenientLossyReading};
 ghost use Rattle.simd_cesu8.specs.Cow.{IfBytes, BorrowsBytesWhere, BuildsBytesOfCapacity, IfText, BorrowsTextWhere, BuildsTextOfCapacity, AnswersTextOfLength};
 ghost use Rattle.simd_cesu8.specs.Fault.{OnInvalid};
-ghost use Rattle.simd_cesu8.specs.Internal.{flavor_of, IsContinuation};
+ghost use Rattle.simd_cesu8.specs.Internal.{flavor_of};
 
 use crate::cow::{CowBytes, CowText};
 use crate::error::DecodeFault;
 use crate::internal;
-use crate::internal::{Flavor, contains_changed};
+use crate::internal::{Flavor, contains_changed, is_continuation};
 use simdutf8::basic;
 use std::alloc::{AllocError, Global};
 
@@ -73,13 +73,6 @@ fn has_utf8_front(bytes: &[u8], end: usize) -> bool
     ensures { IsUtf8 bytes.now → IsTrue result }
 {
     is_continuation(bytes[end]) || simdutf8::is_utf8(&bytes[..end])
-}
-
-/// Whether a byte continues a character of UTF-8.
-fn is_continuation(byte: u8) -> bool
-    ensures { IsTrue result ↔ IsContinuation byte }
-{
-    matches!(byte, 0x80..=0xBF)
 }
 
 /// The bytes as a text, where they are UTF-8 without a byte that is written otherwise.

@@ -16,14 +16,12 @@ mod pace;
 mod steps;
 
 use super::window::{SHORT, read_window};
+use super::writers::{copy_text_with_capacity, exactly};
 use super::{DecodeOptions, Flavor};
 use crate::error::DecodeFault;
 use pace::Pace;
 use std::alloc::{AllocError, Allocator};
-use steps::{measure_steps, read_exactly};
-
-/// How many exact steps are made at most for one piece of a longer text.
-const STEPS: usize = 32;
+use steps::{STEPS, measure_steps, read_exactly};
 
 /// The strict reading of the bytes, after one request for their length.
 pub fn decode_strict<A: Allocator>(
@@ -45,10 +43,7 @@ pub fn decode_strict<A: Allocator>(
     }
     let mut text = String::with_capacity(alloc, bytes.len()).map_err(DecodeFault::Memory)?;
     read_text(options, bytes, &mut text)?;
-    match exactly(text, bytes.len()) {
-        Ok(exact) => Ok(exact),
-        Err(error) => Err(DecodeFault::Memory(error)),
-    }
+    exactly(text, bytes.len()).map_err(DecodeFault::Memory)
 }
 
 /// The lossy reading of the bytes, after one request for its length. A length that does not fit
@@ -79,8 +74,7 @@ pub fn decode_lossy<A: Allocator>(
     if let Err(_) = read_text(options, bytes, &mut text) {
         return Err(AllocError);
     }
-    let exact = exactly(text, len)?;
-    Ok(exact)
+    exactly(text, len)
 }
 
 /// The text of a short input, which is read before memory is asked for, so no pass measures it.
@@ -106,33 +100,10 @@ fn decode_short<A: Allocator>(
             } else {
                 bytes.len()
             };
-            let text = build(alloc, piece.text, capacity).map_err(DecodeFault::Memory)?;
-            Ok(text)
+            copy_text_with_capacity(alloc, piece.text, capacity).map_err(DecodeFault::Memory)
         }
         Err(error) => Err(DecodeFault::Invalid(error)),
     }
-}
-
-/// A copy of a text, after one request for so many bytes.
-fn build<A: Allocator>(alloc: A, text: &str, capacity: usize) -> Result<String<A>, AllocError>
-    ensures text { IfOk result (λ built. string_bytes built ≡ text.now) }
-    ensures capacity { IfOk result (λ built. string_capacity built ≡ capacity) }
-{
-    let mut built = String::with_capacity(alloc, capacity)?;
-    built.push_str(text)?;
-    exactly(built, capacity)
-}
-
-/// The text, whose capacity has to be what was asked for. There was room for all of it, so nothing
-/// has grown: std's words leave that open, and the contract does not.
-fn exactly<A: Allocator>(text: String<A>, capacity: usize) -> Result<String<A>, AllocError>
-    ensures text { IfOk result (λ exact. string_bytes exact ≡ string_bytes text) }
-    ensures capacity { IfOk result (λ exact. string_capacity exact ≡ capacity) }
-{
-    if text.capacity() != capacity {
-        return Err(AllocError);
-    }
-    Ok(text)
 }
 
 /// The length of the lossy reading, in bytes of UTF-8, if it fits.
@@ -265,8 +236,5 @@ fn append<A: Allocator>(text: &str, out: &mut String<A>) -> Result<(), DecodeFau
     ensures ok { OnOk result (string_bytes out.new ≡ string_bytes out.old ++ text.now) }
     ensures invalid { OnInvalid result ⊥ }
 {
-    match out.push_str(text) {
-        Ok(()) => Ok(()),
-        Err(error) => Err(DecodeFault::Memory(error)),
-    }
+    out.push_str(text).map_err(DecodeFault::Memory)
 }

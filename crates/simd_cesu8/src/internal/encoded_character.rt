@@ -134,8 +134,9 @@ fn surrogate_pair(bytes: &[u8]) -> Option<EncodedCharacter>
     Some(EncodedCharacter::SurrogatePair)
 }
 
-/// Whether a byte can follow a lead byte.
-fn is_continuation(byte: u8) -> bool
+/// Whether a byte is a continuation byte, as it is in UTF-8 and in both flavors.
+#[inline(always)]
+pub fn is_continuation(byte: u8) -> bool
     ensures { IsTrue result ↔ IsContinuation byte }
 {
     matches!(byte, 0x80..=0xBF)

@@ -4,18 +4,23 @@
 //! change. Whether what comes out is UTF-8 is not looked at here, so it does not matter which bytes
 //! the mask marks: where it leaves one out that has to change, no UTF-8 comes out.
 
-ghost use Rattle.std.specs.Prelude.{◌≡◌, ◌+◌, ◌*◌, ◌<◌, ◌≤◌, length, take, drop, slice_index, IsTrue, IfSome, IfNone};
+ghost use Rattle.std.specs.Prelude.{◌≡◌, ◌+◌, ◌<◌, ◌≤◌, length, take, drop, IsTrue, IfSome, IfNone};
 ghost use Rattle.simd_cesu8.specs.Encoding.{Flavor as AnyFlavor, Mutf8};
 ghost use Rattle.simd_cesu8.specs.Internal.{flavor_of};
-ghost use Rattle.simd_cesu8.specs.Joining.{IsJoined, IsJoinedAfter, KeepsJoined, nulls, HasPair, HasNull, Joins, second_third_fifth_sixth, word_of};
+ghost use Rattle.simd_cesu8.specs.Joining.{IsJoined, IsJoinedAfter, KeepsJoined, nulls, HasNull};
+
+mod pairs;
 
 use super::Flavor;
+pub use pairs::joined;
+use pairs::{PAIR_MARKS, is_pair, join_pairs};
 use std::simd::prelude::*;
 
 /// How many bytes are joined at most, beside the end of a pair.
 pub const WINDOW: usize = 1024;
 
-/// How many bytes have to stand after those that are joined: a block and a byte.
+/// How many bytes have to stand after those that are joined. Of these, a block that is copied from
+/// their end takes 32, one that is marked from their last byte as many, and a pair across it, 8.
 pub const REACH: usize = 48;
 
 /// Room for what a window is joined to, and for the last block that is copied.
@@ -94,48 +99,6 @@ fn join_block<'a>(flavor: Flavor, at: Place<'a>, stop: usize, room: &mut Room) -
         _ if marks & PAIR_MARKS == PAIR_MARKS => join_pairs(at, stop, room),
         _ => join_marked(flavor, at, marks, stop, room),
     }
-}
-
-/// The marks of three surrogate pairs, one behind the other.
-const PAIR_MARKS: u32 = 0x0000_1041;
-
-/// Joins surrogate pairs that stand one behind the other. There is nothing to copy between them,
-/// and where the next one begins does not wait for what was read.
-#[inline(always)]
-fn join_pairs<'a>(start: Place<'a>, stop: usize, room: &mut Room) -> Place<'a>
-    requires stop { (stop < length start.rest.now) × (48 ≤ stop) }
-    requires room { start.written + length start.rest.now ≤ 1024 + stop }
-    ensures after { IsJoinedAfter start.entry.rest.now result.rest.now
-        start.entry.written result.written stop }
-    ensures joined { (f : AnyFlavor) → KeepsJoined f
-        start.entry.rest.now (take start.entry.written room.old)
-        result.rest.now (take result.written room.new) }
-{
-    let bytes = start.rest;
-    let mut read = 0;
-    let mut written = start.written;
-    while bytes.len() - read > stop && is_pair(&bytes[read..]) {
-        join_pair(&bytes[read..], written, room);
-        read += 6;
-        written += 4;
-    }
-    Place {
-        rest: &bytes[read..],
-        written,
-    }
-}
-
-/// Joins the surrogate pair that begins the bytes.
-#[inline(always)]
-fn join_pair(bytes: &[u8], written: usize, room: &mut Room)
-    requires pair { HasPair bytes.now }
-    requires long { 8 ≤ length bytes.now }
-    requires room { written + 4 ≤ 1088 }
-    ensures { (f : AnyFlavor) → KeepsJoined f bytes.now (take written room.old)
-        (drop 6 bytes.now) (take (written + 4) room.new) }
-{
-    let four = joined(bytes);
-    room[written..written + 4].copy_from_slice(&four);
 }
 
 /// Marks the bytes of a block that may have to change, the first byte in the lowest bit: those that
@@ -250,15 +213,6 @@ fn join_changed(
     Some((width, len))
 }
 
-/// Whether a surrogate pair begins the bytes.
-#[inline(always)]
-fn is_pair(bytes: &[u8]) -> bool
-    requires { 8 ≤ length bytes.now }
-    ensures { IsTrue result → HasPair bytes.now }
-{
-    front_word(bytes) & 0x0000_C0F0_FFC0_F0FF == 0x0000_80B0_ED80_A0ED
-}
-
 /// Whether the null character of MUTF-8 begins the bytes.
 #[inline(always)]
 fn is_null(flavor: Flavor, bytes: &[u8]) -> bool
@@ -269,33 +223,6 @@ fn is_null(flavor: Flavor, bytes: &[u8]) -> bool
         Flavor::Cesu8 => false,
         Flavor::Mutf8 => u16::from_le_bytes([bytes[0], bytes[1]]) == 0x80C0,
     }
-}
-
-/// The UTF-8 of the character whose surrogate pair begins the bytes.
-#[inline(always)]
-pub fn joined(bytes: &[u8]) -> [u8; 4]
-    requires { 8 ≤ length bytes.now }
-    ensures { Joins (second_third_fifth_sixth bytes.now) result }
-{
-    // The plane offset: one more than the last four bits of the second byte.
-    let word = front_word(bytes).wrapping_add(0x100);
-    // Digits that move by the same number of bits are moved together.
-    let utf8 = 0x8080_80F0
-        + (word >> 10 & 0x0000_0F07)
-        + ((word & 0x0003_0300) << 4)
-        + (word >> 16 & 0x3F0F_0000);
-    (utf8 as u32).to_le_bytes()
-}
-
-/// The first eight bytes as one word, the first in its lowest byte.
-#[inline(always)]
-fn front_word(bytes: &[u8]) -> u64
-    requires { 8 ≤ length bytes.now }
-    ensures { result ≡ word_of (slice_index bytes.now 0) (slice_index bytes.now 1)
-        (slice_index bytes.now 2) (slice_index bytes.now 3) (slice_index bytes.now 4)
-        (slice_index bytes.now 5) (slice_index bytes.now 6 + slice_index bytes.now 7 * 0x100) }
-{
-    u64::from_le_bytes(u8x8::from_slice(bytes).to_array())
 }
 
 /// The bytes of 16 null characters of MUTF-8.

@@ -7,7 +7,7 @@ ghost use Rattle.simd_cesu8.specs.Joining.{IsJoined};
 ghost use Rattle.simd_cesu8.specs.Pieces.{IsPiece};
 
 use super::joining::{REACH, Room, WINDOW, join};
-use super::{Flavor, contains_changed};
+use super::{Flavor, contains_changed, is_continuation};
 use simdutf8::basic;
 
 /// How many bytes are no window's worth.
@@ -68,7 +68,7 @@ fn copy_end(bytes: &[u8], start: usize, filled: usize, room: &mut Room) -> (usiz
 {
     let mut read = start;
     let mut written = filled;
-    while read < bytes.len() && bytes[read] & 0xC0 == 0x80 && written < 1036 {
+    while read < bytes.len() && is_continuation(bytes[read]) && written < 1036 {
         room[written] = bytes[read];
         read += 1;
         written += 1;

@@ -1,39 +1,9 @@
 //! Writers into room that is there, which can't fail, and copies, each with its one request.
 
-ghost use Rattle.std.specs.Prelude.{◌≡◌, ◌+◌, ◌≤◌, ◌++◌, [], length, take, drop, IfOk, IsOk, vec_len, vec_capacity};
+ghost use Rattle.std.specs.Prelude.{◌≡◌, ◌+◌, ◌≤◌, ◌++◌, [], length, IfOk, IsOk, vec_len, vec_capacity};
 ghost use Rattle.std.specs.String.{string_bytes, string_capacity};
 
 use std::alloc::{AllocError, Allocator};
-
-/// Appends bytes for which there is room.
-#[inline(always)]
-pub fn push_all<const N: usize, A: Allocator>(bytes: [u8; N], out: &mut Vec<u8, A>)
-    requires { vec_len out.old + N ≤ vec_capacity out.old }
-    ensures bytes { out.new.items ≡ out.old.items ++ bytes.entry }
-    ensures capacity { vec_capacity out.new ≡ vec_capacity out.old }
-{
-    for byte in bytes {
-        out.push_reserved(byte);
-    }
-}
-
-/// Appends the first N bytes, and gives those after them.
-#[inline(always)]
-pub fn copy_front<'a, const N: usize, A: Allocator>(
-    bytes: &'a [u8],
-    out: &mut Vec<u8, A>,
-) -> &'a [u8]
-    requires long { N ≤ length bytes.now }
-    requires room { vec_len out.old + N ≤ vec_capacity out.old }
-    ensures bytes { out.new.items ≡ out.old.items ++ take N bytes.now }
-    ensures rest { result.now ≡ drop N bytes.now }
-    ensures capacity { vec_capacity out.new ≡ vec_capacity out.old }
-{
-    for i in 0..N {
-        out.push_reserved(bytes[i]);
-    }
-    &bytes[N..]
-}
 
 /// Appends bytes for which there is room.
 #[inline(always)]
@@ -64,14 +34,35 @@ pub fn copy_text<A: Allocator>(alloc: A, text: &str) -> Result<String<A>, AllocE
     ensures capacity { IfOk result (λ copied. string_capacity copied ≡ length text.now) }
     ensures empty { text.now ≡ [] → IsOk result }
 {
-    let mut copied = String::with_capacity(alloc, text.len())?;
     if text.is_empty() {
-        return Ok(copied);
+        // Nothing is asked for, so nothing is refused.
+        return String::with_capacity(alloc, 0);
     }
+    copy_text_with_capacity(alloc, text, text.len())
+}
+
+/// A copy of a text, after one request for so many bytes.
+pub fn copy_text_with_capacity<A: Allocator>(
+    alloc: A,
+    text: &str,
+    capacity: usize,
+) -> Result<String<A>, AllocError>
+    ensures text { IfOk result (λ copied. string_bytes copied ≡ text.now) }
+    ensures capacity { IfOk result (λ copied. string_capacity copied ≡ capacity) }
+{
+    let mut copied = String::with_capacity(alloc, capacity)?;
     copied.push_str(text)?;
-    // There was room, so nothing has grown. std's words leave that open, and `capacity` does not.
-    if copied.capacity() != text.len() {
+    exactly(copied, capacity)
+}
+
+/// The text, whose capacity has to be what was asked for. There was room for all of it, so nothing
+/// has grown: std's words leave that open, and the contract does not.
+pub fn exactly<A: Allocator>(text: String<A>, capacity: usize) -> Result<String<A>, AllocError>
+    ensures text { IfOk result (λ exact. string_bytes exact ≡ string_bytes text) }
+    ensures capacity { IfOk result (λ exact. string_capacity exact ≡ capacity) }
+{
+    if text.capacity() != capacity {
         return Err(AllocError);
     }
-    Ok(copied)
+    Ok(text)
 }

@@ -17,8 +17,8 @@ use simdutf8::basic;
 /// The UTF-8 of the replacement character, U+FFFD.
 const REPLACEMENT: [u8; 3] = [0xEF, 0xBF, 0xBD];
 
-/// How many exact steps are made to measure one piece of text.
-const STEPS: usize = 32;
+/// How many exact steps are made at most for one piece of a longer text.
+pub const STEPS: usize = 32;
 
 /// How many bytes are tested for UTF-8 at once.
 const BLOCK: usize = 64;

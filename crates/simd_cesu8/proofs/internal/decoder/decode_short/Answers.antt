@@ -1,26 +1,29 @@
 use Rattle.std.proofs.Common.{◌≡◌, ◌∙◌, sym, subst, rules, length, drop}
 use Rattle.std.specs.Str.{chars}
-use Rattle.std.specs.String.{string_bytes, string_capacity}
 use Rattle.simd_cesu8.specs.Internal.{flavor_of, IsDecodedText}
 use Rattle.simd_cesu8.specs.Pieces.{IsPiece}
-use Rattle.simd_cesu8.proofs.Pieces.{whole_text, whole_length, fault_of_whole}
+use Rattle.simd_cesu8.proofs.Pieces.{whole_text, whole_length, fault_of_whole, where_mapped}
 use Rattle.simd_cesu8.proofs.internal.decoder.decode_short.Goals as goal
 
 pub returns-in-Err-clause-invalid : goal.returns-in-Err-clause-invalid
 returns-in-Err-clause-invalid g c = fault_of_whole (flavor_of c.args.options.flavor) c.args.bytes.now c.in-Err.ensures.err.1
 
-pub returns-in_ok-text-in-Ok-clause-text : goal.returns-in_ok-text-in-Ok-clause-text
-returns-in_ok-text-in-Ok-clause-text g c =
+pub returns-after-options-clause-text : goal.returns-after-options-clause-text
+returns-after-options-clause-text g c =
     let f = flavor_of c.args.options.flavor in
-    let same : string_bytes c.in_ok-text-in-Ok.text ≡ c.in-Ok.piece.text.now = search rules in
-    subst (λ text. IsDecodedText f c.args.options.lossy c.args.bytes.now (chars text)) (sym same)
+    where_mapped c.copy_text_with_capacity.result c.map_err.result _ _ _ c.map_err.ensures.cases c.map_err.ensures.variant
+    (λ copied same. subst (λ text. IsDecodedText f c.args.options.lossy c.args.bytes.now (chars text)) (sym same)
     (whole_text f c.args.options.lossy c.args.bytes.now c.in-Ok.piece.text.now c.in-Ok.piece.read c.in-Ok.ensures.ok
-    (c.in-Ok.ensures.all c.requires))
+    (c.in-Ok.ensures.all c.requires)))
+    c.copy_text_with_capacity.ensures.text
 
-pub returns-in_ok-text-in-Ok-clause-lossy_capacity : goal.returns-in_ok-text-in-Ok-clause-lossy_capacity
-returns-in_ok-text-in-Ok-clause-lossy_capacity g c is_lossy =
+pub returns-after-options-clause-lossy_capacity : goal.returns-after-options-clause-lossy_capacity
+returns-after-options-clause-lossy_capacity g c is_lossy =
     let f = flavor_of c.args.options.flavor in
-    let asked : string_capacity c.in_ok-text-in-Ok.text ≡ length c.in-Ok.piece.text.now = search (rules, is_lossy) in
     let read = subst (λ l. IsPiece f l c.args.bytes.now (drop c.in-Ok.piece.read c.args.bytes.now) c.in-Ok.piece.text.now)
     is_lossy c.in-Ok.ensures.ok in
-    asked ∙ sym (whole_length f c.args.bytes.now c.in-Ok.piece.text.now c.in-Ok.piece.read read (c.in-Ok.ensures.all c.requires))
+    let asked : c.if-options.capacity ≡ length c.in-Ok.piece.text.now = search (rules, is_lossy) in
+    where_mapped c.copy_text_with_capacity.result c.map_err.result _ _ _ c.map_err.ensures.cases c.map_err.ensures.variant
+    (λ copied same. same ∙ asked
+    ∙ sym (whole_length f c.args.bytes.now c.in-Ok.piece.text.now c.in-Ok.piece.read read (c.in-Ok.ensures.all c.requires)))
+    c.copy_text_with_capacity.ensures.capacity

@@ -1,7 +1,7 @@
 use Rattle.std.proofs.Common.{◌+◌, ◌-◌, ◌≤◌, length, take, drop}
 use Rattle.simd_cesu8.specs.Encoding.{Flavor}
 use Rattle.simd_cesu8.specs.Joining.{KeepsJoined}
-use Rattle.simd_cesu8.proofs.internal.joining.join_pairs.Given as goal
+use Rattle.simd_cesu8.proofs.internal.joining.pairs.join_pairs.Given as goal
 
 abbrev pub decreases-loop-read : goal.decreases-loop-read
 decreases-loop-read l = length l.bytes - l.read

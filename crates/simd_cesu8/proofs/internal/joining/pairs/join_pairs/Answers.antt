@@ -1,7 +1,7 @@
 use Rattle.std.proofs.Common.{◌+◌, subst, arith, take}
 use Rattle.std.proofs.lemmas.List.{drop-drop, take_rest}
 use Rattle.simd_cesu8.specs.Joining.{IsJoinedSoFar}
-use Rattle.simd_cesu8.proofs.internal.joining.join_pairs.Goals as goal
+use Rattle.simd_cesu8.proofs.internal.joining.pairs.join_pairs.Goals as goal
 
 pub loop-read-preserved : goal.loop-read-preserved
 loop-read-preserved c = record {

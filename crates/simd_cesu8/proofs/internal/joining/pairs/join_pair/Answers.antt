@@ -1,6 +1,6 @@
 use Rattle.std.proofs.Common.{◌++◌, ◌∙◌, ap, refl, arith, length, take}
 use Rattle.simd_cesu8.proofs.Joining.{keeps_pair, written_whole}
-use Rattle.simd_cesu8.proofs.internal.joining.join_pair.Goals as goal
+use Rattle.simd_cesu8.proofs.internal.joining.pairs.join_pair.Goals as goal
 
 pub returns : goal.returns
 returns c f =

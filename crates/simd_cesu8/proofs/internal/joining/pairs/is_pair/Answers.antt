@@ -1,7 +1,7 @@
 use Rattle.std.proofs.Common.{◌∙◌, ◌+◌, ◌*◌, ◌<◌, ℕ, ap, sym, get_or, bit_and, arith}
 use Rattle.std.proofs.lemmas.Bool.{eqb-true}
 use Rattle.simd_cesu8.proofs.PairWords.{word_is_pair}
-use Rattle.simd_cesu8.proofs.internal.joining.is_pair.Goals as goal
+use Rattle.simd_cesu8.proofs.internal.joining.pairs.is_pair.Goals as goal
 
 pub returns : goal.returns
 returns c passes =

@@ -1,6 +1,6 @@
 use Rattle.std.proofs.Common.{arith}
 use Rattle.std.proofs.lemmas.List.{get_or-take}
-use Rattle.simd_cesu8.proofs.internal.joining.front_word.Goals as goal
+use Rattle.simd_cesu8.proofs.internal.joining.pairs.front_word.Goals as goal
 
 pub returns : goal.returns
 returns c = omega (

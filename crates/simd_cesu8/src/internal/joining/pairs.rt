@@ -1,0 +1,86 @@
+//! Surrogate pairs, found and joined by words of eight bytes.
+
+ghost use Rattle.std.specs.Prelude.{◌≡◌, ◌+◌, ◌*◌, ◌<◌, ◌≤◌, length, take, drop, slice_index, IsTrue};
+ghost use Rattle.simd_cesu8.specs.Encoding.{Flavor as AnyFlavor};
+ghost use Rattle.simd_cesu8.specs.Joining.{IsJoinedAfter, KeepsJoined, HasPair, Joins, second_third_fifth_sixth, word_of};
+
+use super::{Place, Room};
+use std::simd::prelude::*;
+
+/// The marks of three surrogate pairs, one behind the other.
+pub const PAIR_MARKS: u32 = 0x0000_1041;
+
+/// Joins surrogate pairs that stand one behind the other. There is nothing to copy between them,
+/// and where the next one begins does not wait for what was read.
+#[inline(always)]
+pub fn join_pairs<'a>(start: Place<'a>, stop: usize, room: &mut Room) -> Place<'a>
+    requires stop { (stop < length start.rest.now) × (48 ≤ stop) }
+    requires room { start.written + length start.rest.now ≤ 1024 + stop }
+    ensures after { IsJoinedAfter start.entry.rest.now result.rest.now
+        start.entry.written result.written stop }
+    ensures joined { (f : AnyFlavor) → KeepsJoined f
+        start.entry.rest.now (take start.entry.written room.old)
+        result.rest.now (take result.written room.new) }
+{
+    let bytes = start.rest;
+    let mut read = 0;
+    let mut written = start.written;
+    while bytes.len() - read > stop && is_pair(&bytes[read..]) {
+        join_pair(&bytes[read..], written, room);
+        read += 6;
+        written += 4;
+    }
+    Place {
+        rest: &bytes[read..],
+        written,
+    }
+}
+
+/// Joins the surrogate pair that begins the bytes.
+#[inline(always)]
+fn join_pair(bytes: &[u8], written: usize, room: &mut Room)
+    requires pair { HasPair bytes.now }
+    requires long { 8 ≤ length bytes.now }
+    requires room { written + 4 ≤ 1088 }
+    ensures { (f : AnyFlavor) → KeepsJoined f bytes.now (take written room.old)
+        (drop 6 bytes.now) (take (written + 4) room.new) }
+{
+    let four = joined(bytes);
+    room[written..written + 4].copy_from_slice(&four);
+}
+
+/// Whether a surrogate pair begins the bytes.
+#[inline(always)]
+pub fn is_pair(bytes: &[u8]) -> bool
+    requires { 8 ≤ length bytes.now }
+    ensures { IsTrue result → HasPair bytes.now }
+{
+    front_word(bytes) & 0x0000_C0F0_FFC0_F0FF == 0x0000_80B0_ED80_A0ED
+}
+
+/// The UTF-8 of the character whose surrogate pair begins the bytes.
+#[inline(always)]
+pub fn joined(bytes: &[u8]) -> [u8; 4]
+    requires { 8 ≤ length bytes.now }
+    ensures { Joins (second_third_fifth_sixth bytes.now) result }
+{
+    // The plane offset: one more than the last four bits of the second byte.
+    let word = front_word(bytes).wrapping_add(0x100);
+    // Digits that move by the same number of bits are moved together.
+    let utf8 = 0x8080_80F0
+        + (word >> 10 & 0x0000_0F07)
+        + ((word & 0x0003_0300) << 4)
+        + (word >> 16 & 0x3F0F_0000);
+    (utf8 as u32).to_le_bytes()
+}
+
+/// The first eight bytes as one word, the first in its lowest byte.
+#[inline(always)]
+fn front_word(bytes: &[u8]) -> u64
+    requires { 8 ≤ length bytes.now }
+    ensures { result ≡ word_of (slice_index bytes.now 0) (slice_index bytes.now 1)
+        (slice_index bytes.now 2) (slice_index bytes.now 3) (slice_index bytes.now 4)
+        (slice_index bytes.now 5) (slice_index bytes.now 6 + slice_index bytes.now 7 * 0x100) }
+{
+    u64::from_le_bytes(u8x8::from_slice(bytes).to_array())
+}
