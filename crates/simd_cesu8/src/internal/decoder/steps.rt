@@ -5,6 +5,7 @@ ghost use Rattle.std.specs.Str.{IsUtf8};
 ghost use Rattle.simd_cesu8.specs.Text.{utf8_of};
 ghost use Rattle.simd_cesu8.specs.Reading.{NoneBegins, lossy_length};
 ghost use Rattle.simd_cesu8.specs.Internal.{flavor_of, IsStep};
+ghost use Rattle.simd_cesu8.specs.Joining.{Joins, second_third_fifth_sixth};
 ghost use Rattle.simd_cesu8.specs.Pieces.{IsPiece, HasFault};
 
 use crate::error::DecodingError;
@@ -158,11 +159,7 @@ fn read_step<'b>(
         Some(EncodedCharacter::TwoBytes) => Ok(copy_front::<2>(at, room)),
         Some(EncodedCharacter::ThreeBytes) => Ok(copy_front::<3>(at, room)),
         Some(EncodedCharacter::Null) => Ok(write_for(2, at, [0], room)),
-        Some(EncodedCharacter::SurrogatePair) => {
-            let pair = at.rest;
-            let bytes = joined(&[pair[0], pair[1], pair[2], pair[3], pair[4], pair[5], 0, 0]);
-            Ok(write_for(6, at, bytes, room))
-        }
+        Some(EncodedCharacter::SurrogatePair) => Ok(write_for(6, at, pair_utf8(at.rest), room)),
         None => {
             if !options.lossy {
                 return Err(DecodingError(()));
@@ -170,6 +167,20 @@ fn read_step<'b>(
             Ok(write_for(1, at, REPLACEMENT, room))
         }
     }
+}
+
+/// The UTF-8 of the character whose surrogate pair begins the bytes.
+#[inline(always)]
+fn pair_utf8(bytes: &[u8]) -> [u8; 4]
+    requires { 6 ≤ length bytes.now }
+    ensures { Joins (second_third_fifth_sixth bytes.now) result }
+{
+    if bytes.len() >= 8 {
+        return joined(bytes);
+    }
+    joined(&[
+        bytes[0], bytes[1], bytes[2], bytes[3], bytes[4], bytes[5], 0, 0,
+    ])
 }
 
 /// Writes the first N bytes.

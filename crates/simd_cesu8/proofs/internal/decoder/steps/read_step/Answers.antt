@@ -26,9 +26,9 @@ returns-in-Some-Null-clause-ok c =
 
 pub returns-in-Some-SurrogatePair-clause-ok : goal.returns-in-Some-SurrogatePair-clause-ok
 returns-in-Some-SurrogatePair-clause-ok c =
-    reads_pair _ c.args.options.lossy _ _ _ _ c.joined-bytes.result
+    reads_pair _ c.args.options.lossy _ _ _ _ c.pair_utf8.result
     (begins_as _ _ _ SurrogatePair c.in-Some-SurrogatePair.field-0-is c.in-Some-SurrogatePair.ensures)
-    c.write_for-in-Some-SurrogatePair.ensures.rest c.write_for-in-Some-SurrogatePair.ensures.bytes c.joined-bytes.ensures
+    c.write_for-in-Some-SurrogatePair.ensures.rest c.write_for-in-Some-SurrogatePair.ensures.bytes c.pair_utf8.ensures
 
 pub returns-else-not-options-clause-ok : goal.returns-else-not-options-clause-ok
 returns-else-not-options-clause-ok c =
