@@ -4,6 +4,7 @@ pub mod Shapes
 pub mod Forms
 pub mod Encodings
 pub mod Front
+mod Fronts
 pub mod PairBytes
 pub mod Lengths
 pub mod EncodedLength

@@ -22,9 +22,6 @@ use pace::Pace;
 use std::alloc::{AllocError, Allocator};
 use steps::{measure_steps, read_exactly};
 
-/// How many exact steps are made at most for one piece of a longer text.
-const STEPS: usize = 32;
-
 /// The strict reading of the bytes, after one request for their length.
 pub fn decode_strict<A: Allocator>(
     alloc: A,
@@ -160,13 +157,14 @@ fn measure_piece(flavor: Flavor, bytes: &[u8], pace: &mut Pace) -> (usize, usize
 {
     if bytes.len() > SHORT && pace.pause == 0 {
         if let Some(measured) = measure_window(flavor, bytes, pace.window) {
-            *pace = pace.after_text();
+            *pace = pace.after_text(measured.0, bytes.len() - measured.0);
             return measured;
         }
         *pace = pace.after_nothing();
     }
+    let steps = pace.steps();
     *pace = pace.after_steps();
-    measure_steps(flavor, bytes)
+    measure_steps(flavor, bytes, steps)
 }
 
 /// The same for a window, where it gives text. Its room is made only where it is called.
@@ -220,14 +218,15 @@ fn read_piece<A: Allocator>(
 {
     if bytes.len() > SHORT && pace.pause == 0 {
         if let Some(read) = append_window(options.flavor, bytes, pace.window, out)? {
-            *pace = pace.after_text();
+            *pace = pace.after_text(read, bytes.len() - read);
             return Ok(read);
         }
         *pace = pace.after_nothing();
     }
+    let steps = pace.steps();
     *pace = pace.after_steps();
     let mut room = [0; 256];
-    let piece = read_exactly(options, bytes, STEPS, &mut room).map_err(DecodeFault::Invalid)?;
+    let piece = read_exactly(options, bytes, steps, &mut room).map_err(DecodeFault::Invalid)?;
     append(piece.text, out)?;
     Ok(piece.read)
 }
