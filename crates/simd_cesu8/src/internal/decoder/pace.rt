@@ -8,6 +8,9 @@ use crate::internal::window::SHORT;
 /// How many bytes the shortest window has.
 const SHORTEST: usize = 64;
 
+/// How many bytes are less than a window should give.
+const LITTLE: usize = 96;
+
 /// How many pieces are read by exact steps at most before the next window.
 const LONGEST_PAUSE: usize = 16;
 
@@ -52,23 +55,33 @@ impl Pace {
         }
     }
 
-    /// After a window that gave text for so many bytes, with so many left behind them. Where it
-    /// ended before its own end and that of the input, it ended before a fault.
+    /// After a window that gave text for so many bytes, with so many left behind them.
     pub fn after_text(self, read: usize, left: usize) -> Pace {
-        let next_pause = (self.next_pause / 2).max(1);
+        // A window that ended neither at its own end nor at that of the input ended at a fault.
         if read < self.window && left > SHORT {
-            return Pace {
-                pause: 1,
-                window: (self.window / 2).max(SHORTEST),
-                next_pause,
-                is_at_fault: true,
-            };
+            return self.after_front(read);
         }
         Pace {
             pause: 0,
             window: self.window.saturating_mul(2).min(WINDOW),
-            next_pause,
+            next_pause: (self.next_pause / 2).max(1),
             is_at_fault: false,
+        }
+    }
+
+    /// After a window that ended before a fault. One that gave little counts as one that gave
+    /// nothing.
+    fn after_front(self, read: usize) -> Pace {
+        let (pause, next_pause) = if read < LITTLE {
+            (self.next_pause, self.longer_pause())
+        } else {
+            (1, (self.next_pause / 2).max(1))
+        };
+        Pace {
+            pause,
+            window: self.shorter_window(),
+            next_pause,
+            is_at_fault: true,
         }
     }
 
@@ -76,10 +89,18 @@ impl Pace {
     pub fn after_nothing(self) -> Pace {
         Pace {
             pause: self.next_pause,
-            window: (self.window / 2).max(SHORTEST),
-            next_pause: self.next_pause.saturating_mul(2).min(LONGEST_PAUSE),
+            window: self.shorter_window(),
+            next_pause: self.longer_pause(),
             is_at_fault: false,
         }
+    }
+
+    fn shorter_window(self) -> usize {
+        (self.window / 2).max(SHORTEST)
+    }
+
+    fn longer_pause(self) -> usize {
+        self.next_pause.saturating_mul(2).min(LONGEST_PAUSE)
     }
 
     /// After a piece by exact steps.
