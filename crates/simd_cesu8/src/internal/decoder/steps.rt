@@ -24,12 +24,12 @@ const BLOCK: usize = 64;
 pub type StepRoom = [u8; 256];
 
 /// How many bytes some characters take, and how many their UTF-8, by exact steps, of which so many
-/// are made at most.
+/// are made at most. As many as there are bytes measure them all.
 pub fn measure_steps(flavor: Flavor, bytes: &[u8], most: usize) -> (usize, usize)
-    requires nonempty { 0 < length bytes.now }
-    requires some { 0 < most }
     requires few { most ≤ 64 }
-    ensures reads { (0 < result.0) × (result.0 ≤ length bytes.now) }
+    ensures within { result.0 ≤ length bytes.now }
+    ensures some { 0 < length bytes.now → 0 < most → 0 < result.0 }
+    ensures all { length bytes.now ≤ most → result.0 ≡ length bytes.now }
     ensures gives { lossy_length (flavor_of flavor) bytes.now
         ≡ result.1 + lossy_length (flavor_of flavor) (drop result.0 bytes.now) }
 {

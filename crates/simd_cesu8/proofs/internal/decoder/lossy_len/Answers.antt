@@ -1,4 +1,4 @@
-use Rattle.std.proofs.Common.{◌∙◌, sym, arith}
+use Rattle.std.proofs.Common.{◌∙◌, sym, arith, drop, length-drop}
 use Rattle.std.proofs.lemmas.Bool.{eqb-true}
 use Rattle.std.proofs.lemmas.List.{take_rest}
 use Rattle.simd_cesu8.specs.Internal.{flavor_of}
@@ -14,4 +14,15 @@ returns-clause-some c =
       arith,
       c.loop-rest.invariant,
       lossy_length_nil (flavor_of c.args.flavor) c.loop-rest.rest.now (eqb-true _ _ (sym c.is_empty.ensures ∙ c.loop-rest-test.false)),
+    )
+
+pub returns-then-bytes-le-SHORT-clause-some : goal.returns-then-bytes-le-SHORT-clause-some
+returns-then-bytes-le-SHORT-clause-some c =
+    let f = flavor_of c.args.flavor in
+    let read = c.measure_steps.result.0 in
+    omega (
+      arith,
+      c.measure_steps.ensures.gives,
+      lossy_length_nil f (drop read c.args.bytes.now)
+      (omega (arith, length-drop read c.args.bytes.now, c.measure_steps.ensures.all (omega arith))),
     )
