@@ -215,8 +215,7 @@ pub joined_front : (f : Flavor) (bytes out text more : List ℕ) → IsJoined f 
     IsText text → utf8 text ++ more ≡ out → (rest : List ℕ) × IsJoined f rest more × (bytes ≡ encoding f text ++ rest)
 joined_front f bytes out text more joined none is_text out_is =
     let begins = spells_text f more text is_text joined.parts joined.are_parts (out_is ∙ joined.out_is)
-    (λ found. none (subst (Any (IsChangedByte f)) (sym joined.bytes_are) found)) in
-    (
+    (λ found. none (subst (Any (IsChangedByte f)) (sym joined.bytes_are) found)) in (
       spelled f begins.others,
       record {
         parts = begins.others;

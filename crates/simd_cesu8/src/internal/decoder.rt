@@ -141,6 +141,15 @@ pub fn lossy_len(flavor: Flavor, bytes: &[u8]) -> Option<usize>
     if bytes.len() <= SHORT {
         return Some(measure_steps(flavor, bytes, SHORT).1);
     }
+    long_lossy_len(flavor, bytes)
+}
+
+/// The same for input of any length. Its room is made only where it is called.
+#[inline(never)]
+fn long_lossy_len(flavor: Flavor, bytes: &[u8]) -> Option<usize>
+    ensures some { IfSome result (λ len. len ≡ lossy_length (flavor_of flavor) bytes.now) }
+    ensures none { IfNone result (usize.MAX < lossy_length (flavor_of flavor) bytes.now) }
+{
     let mut room = [0; 1088];
     let mut pace = Pace::at_start();
     let mut len: usize = 0;
@@ -154,12 +163,7 @@ pub fn lossy_len(flavor: Flavor, bytes: &[u8]) -> Option<usize>
 }
 
 /// How many bytes the next piece of lossy reading takes, and how many its UTF-8.
-fn measure_piece(
-    flavor: Flavor,
-    bytes: &[u8],
-    pace: &mut Pace,
-    room: &mut Room,
-) -> (usize, usize)
+fn measure_piece(flavor: Flavor, bytes: &[u8], pace: &mut Pace, room: &mut Room) -> (usize, usize)
     requires { 0 < length bytes.now }
     ensures reads { (0 < result.0) × (result.0 ≤ length bytes.now) }
     ensures gives { lossy_length (flavor_of flavor) bytes.now

@@ -6,8 +6,8 @@ ghost use Rattle.simd_cesu8.specs.Internal.{flavor_of};
 ghost use Rattle.simd_cesu8.specs.Joining.{IsJoined};
 ghost use Rattle.simd_cesu8.specs.Pieces.{IsPiece, IsFront};
 
-use super::lengths::encoded_len;
 use super::joining::{REACH, Room, WINDOW, join};
+use super::lengths::encoded_len;
 use super::{Flavor, contains_changed};
 use simdutf8::{basic, is_utf8};
 

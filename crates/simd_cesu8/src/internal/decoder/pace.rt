@@ -79,7 +79,8 @@ impl Pace {
         };
         Pace {
             pause,
-            window: self.shorter_window(),
+            // The next fault is mostly about as far as this one was.
+            window: (self.window / 2).min(read.saturating_mul(2)).max(SHORTEST),
             next_pause,
             is_at_fault: true,
         }
@@ -89,14 +90,10 @@ impl Pace {
     pub fn after_nothing(self) -> Pace {
         Pace {
             pause: self.next_pause,
-            window: self.shorter_window(),
+            window: (self.window / 2).max(SHORTEST),
             next_pause: self.longer_pause(),
             is_at_fault: false,
         }
-    }
-
-    fn shorter_window(self) -> usize {
-        (self.window / 2).max(SHORTEST)
     }
 
     fn longer_pause(self) -> usize {

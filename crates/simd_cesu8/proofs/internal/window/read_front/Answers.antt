@@ -11,6 +11,6 @@ returns-else-read-eq0 c = record {
   begins = (
     drop c.front_end.result c.args.joined.now,
     sym (take-append-drop c.front_end.result c.args.joined.now)
-    ∙ ap (λ bs. bs ++ drop c.front_end.result c.args.joined.now) (sym c.in-Ok.ensures.0),
+        ∙ ap (λ bs. bs ++ drop c.front_end.result c.args.joined.now) (sym c.in-Ok.ensures.0),
   );
 }
