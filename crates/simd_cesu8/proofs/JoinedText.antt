@@ -1,5 +1,5 @@
 -- Where joined bytes are the UTF-8 of a text, the bytes were its encoding.
-use Rattle.std.proofs.Common.{◌≡◌, ℕ, ◌+◌, ◌*◌, ◌/◌, ◌%◌, ◌<◌, List, [], ◌∷◌, ◌++◌, refl, sym, ap, ◌∙◌, subst, inl, inr, arith, length, get_or, length-append}
+use Rattle.std.proofs.Common.{◌≡◌, ℕ, ◌+◌, ◌*◌, ◌/◌, ◌%◌, ◌<◌, List, [], ◌∷◌, ◌++◌, refl, sym, ap, ◌∙◌, subst, inl, inr, arith, length, get_or, append_assoc, append-nil, length-append}
 use Rattle.std.specs.List.{flat_map, Any}
 use Rattle.std.proofs.lemmas.Bool.{or_left, eq-eqb}
 use Rattle.simd_cesu8.specs.Text.{IsText, utf8_of, utf8}
@@ -87,43 +87,68 @@ stays_short Cesu8 c others none = refl
 stays_short Mutf8 c others none =
     short_form_other Mutf8 c (λ zero. none (any_here (IsChangedByte Mutf8) c (spelled Mutf8 others) (or_left _ _ (eq-eqb c 0 zero))))
 
--- The text's encoding is what the parts spell, if that of the rest is.
-abbrev Spells : Flavor → List ℕ → Type 0
-Spells f text = (parts : List Part) → AreParts f parts → utf8 text ≡ flat_map utf8_part parts → NoneChanged f parts →
-    encoding f text ≡ spelled f parts
+-- What the parts spell begins with the text's encoding, and the others are joined to more.
+record BeginsWith (f : Flavor) (text more : List ℕ) (parts : List Part) : Type 0 where
+  others : List Part
+  are_parts : AreParts f others
+  none : NoneChanged f others
+  spelled_is : spelled f parts ≡ encoding f text ++ spelled f others
+  more_is : more ≡ flat_map utf8_part others
 
-spells_one : (f : Flavor) (c : ℕ) (text : List ℕ) (parts : List Part) → c < 0x80 → Spells f text → NoneChanged f parts →
-    First f parts c (utf8 text) → encoding f (c ∷ text) ≡ spelled f parts
-spells_one f c text parts ascii spells none (stays others parts_are are_parts rest_is) =
+-- It does where they are joined to its UTF-8 and more.
+abbrev Spells : Flavor → List ℕ → List ℕ → Type 0
+Spells f more text = (parts : List Part) → AreParts f parts → utf8 text ++ more ≡ flat_map utf8_part parts →
+    NoneChanged f parts → BeginsWith f text more parts
+
+-- A character before the text is spelled by a part, or some, before those of the text.
+begins_after : (f : Flavor) (c : ℕ) (text more : List ℕ) (parts others : List Part) → BeginsWith f text more others →
+    spelled f parts ≡ encoding f (c ∷ []) ++ spelled f others → BeginsWith f (c ∷ text) more parts
+begins_after f c text more parts others begins parts_are = record {
+  others = begins.others;
+  are_parts = begins.are_parts;
+  none = begins.none;
+  spelled_is = parts_are ∙ ap (λ bs. encoding f (c ∷ []) ++ bs) begins.spelled_is
+      ∙ sym (append_assoc (encoding f (c ∷ [])) (encoding f text) (spelled f begins.others))
+      ∙ ap (λ bs. bs ++ spelled f begins.others) (sym (encoding_cons f c text));
+  more_is = begins.more_is;
+}
+
+spells_one : (f : Flavor) (c : ℕ) (more text : List ℕ) (parts : List Part) → c < 0x80 → Spells f more text →
+    NoneChanged f parts → First f parts c (utf8 text ++ more) → BeginsWith f (c ∷ text) more parts
+spells_one f c more text parts ascii spells none (stays others parts_are are_parts rest_is) =
     let none_changed = subst (NoneChanged f) parts_are none in
-    rw (parts_are, encoding_cons f c text, encoding_one f c ascii, stays_short f c others none_changed)
-    (ap (λ bs. c ∷ bs) (spells others are_parts rest_is (others_unchanged f (Stays c) others none_changed)))
-spells_one f c text parts ascii spells none (null others mutf8 parts_are are_parts zero rest_is) =
+    begins_after f c text more parts others (spells others are_parts rest_is (others_unchanged f (Stays c) others none_changed))
+    (rw (parts_are, encoding_one f c ascii, stays_short f c others none_changed) refl)
+spells_one f c more text parts ascii spells none (null others mutf8 parts_are are_parts zero rest_is) =
     let none_changed = subst (NoneChanged f) parts_are none in
-    rw (parts_are, encoding_cons f c text, zero)
-    (ap (λ bs. encoding f (0 ∷ []) ++ bs) (spells others are_parts rest_is (others_unchanged f (Changes 0) others none_changed)))
-spells_one f c text parts ascii spells none (four d w x y z others digits parts_are are_parts out_is) =
+    begins_after f c text more parts others (spells others are_parts rest_is (others_unchanged f (Changes 0) others none_changed))
+    (rw (parts_are, zero) refl)
+spells_one f c more text parts ascii spells none (four d w x y z others digits parts_are are_parts out_is) =
     absurd (omega (arith, ap (λ bs. get_or bs 0 0) out_is))
 
-spells_two : (f : Flavor) (a b : ℕ) (text : List ℕ) (parts : List Part) → 0 < a → a < 0xF0 → 0 < b → b < 0xF0 →
-    Spells f text → NoneChanged f parts → First f parts a (b ∷ utf8 text) → a ∷ b ∷ encoding f text ≡ spelled f parts
-spells_two f a b text parts a_some a_low b_some b_low spells none begins =
-    let at_a = first_stays f parts a (b ∷ utf8 text) a_some a_low begins in
-    let at_b = first_stays f at_a.0 b (utf8 text) b_some b_low (first f at_a.0 b (utf8 text) at_a.2 at_a.3) in
+spells_two : (f : Flavor) (a b c : ℕ) (more text : List ℕ) (parts : List Part) → 0 < a → a < 0xF0 → 0 < b → b < 0xF0 →
+    encoding f (c ∷ []) ≡ a ∷ b ∷ [] → Spells f more text → NoneChanged f parts → First f parts a (b ∷ utf8 text ++ more) →
+    BeginsWith f (c ∷ text) more parts
+spells_two f a b c more text parts a_some a_low b_some b_low bytes_are spells none begins =
+    let at_a = first_stays f parts a (b ∷ utf8 text ++ more) a_some a_low begins in
+    let at_b = first_stays f at_a.0 b (utf8 text ++ more) b_some b_low (first f at_a.0 b (utf8 text ++ more) at_a.2 at_a.3) in
     let after_a : NoneChanged f at_a.0 = others_unchanged f (Stays a) at_a.0 (subst (NoneChanged f) at_a.1 none) in
     let after_b : NoneChanged f at_b.0 = others_unchanged f (Stays b) at_b.0 (subst (NoneChanged f) at_b.1 after_a) in
-    ap (λ bs. a ∷ b ∷ bs) (spells at_b.0 at_b.2 at_b.3 after_b)
-    ∙ sym (ap (spelled f) at_a.1 ∙ ap (λ ps. a ∷ spelled f ps) at_b.1)
+    begins_after f c text more parts at_b.0 (spells at_b.0 at_b.2 at_b.3 after_b)
+    (rw (bytes_are) (ap (spelled f) at_a.1 ∙ ap (λ ps. a ∷ spelled f ps) at_b.1))
 
-spells_three : (f : Flavor) (a b d : ℕ) (text : List ℕ) (parts : List Part) → 0 < a → a < 0xF0 → 0 < b → b < 0xF0 → 0 < d →
-    d < 0xF0 → Spells f text → NoneChanged f parts → First f parts a (b ∷ d ∷ utf8 text) →
-    a ∷ b ∷ d ∷ encoding f text ≡ spelled f parts
-spells_three f a b d text parts a_some a_low b_some b_low d_some d_low spells none begins =
-    let at_a = first_stays f parts a (b ∷ d ∷ utf8 text) a_some a_low begins in
+spells_three : (f : Flavor) (a b d c : ℕ) (more text : List ℕ) (parts : List Part) → 0 < a → a < 0xF0 → 0 < b → b < 0xF0 →
+    0 < d → d < 0xF0 → encoding f (c ∷ []) ≡ a ∷ b ∷ d ∷ [] → Spells f more text → NoneChanged f parts →
+    First f parts a (b ∷ d ∷ utf8 text ++ more) → BeginsWith f (c ∷ text) more parts
+spells_three f a b d c more text parts a_some a_low b_some b_low d_some d_low bytes_are spells none begins =
+    let at_a = first_stays f parts a (b ∷ d ∷ utf8 text ++ more) a_some a_low begins in
+    let at_b = first_stays f at_a.0 b (d ∷ utf8 text ++ more) b_some b_low (first f at_a.0 b (d ∷ utf8 text ++ more) at_a.2 at_a.3) in
+    let at_d = first_stays f at_b.0 d (utf8 text ++ more) d_some d_low (first f at_b.0 d (utf8 text ++ more) at_b.2 at_b.3) in
     let after_a : NoneChanged f at_a.0 = others_unchanged f (Stays a) at_a.0 (subst (NoneChanged f) at_a.1 none) in
-    ap (λ bs. a ∷ bs) (spells_two f b d text at_a.0 b_some b_low d_some d_low spells after_a
-    (first f at_a.0 b (d ∷ utf8 text) at_a.2 at_a.3))
-    ∙ sym (ap (spelled f) at_a.1)
+    let after_b : NoneChanged f at_b.0 = others_unchanged f (Stays b) at_b.0 (subst (NoneChanged f) at_b.1 after_a) in
+    let after_d : NoneChanged f at_d.0 = others_unchanged f (Stays d) at_d.0 (subst (NoneChanged f) at_d.1 after_b) in
+    begins_after f c text more parts at_d.0 (spells at_d.0 at_d.2 at_d.3 after_d)
+    (rw (bytes_are) (ap (spelled f) at_a.1 ∙ ap (λ ps. a ∷ spelled f ps) at_b.1 ∙ ap (λ ps. a ∷ b ∷ spelled f ps) at_d.1))
 
 -- Four bytes are those of one scalar value.
 same_pair : (c w x y z d t u v s : ℕ) → IsPair c w x y z → IsPair d t u v s → (w + 1) / 4 ≡ (t + 1) / 4 →
@@ -134,54 +159,81 @@ same_pair c w x y z d t u v s digits others first second third last =
     let low : y ≡ v = omega (arith, digits.third, others.third) in
     omega (arith, digits.value, others.value)
 
-spells_pair : (f : Flavor) (c w x y z : ℕ) (text : List ℕ) (parts : List Part) → IsPair c w x y z → Spells f text →
+spells_pair : (f : Flavor) (c w x y z : ℕ) (more text : List ℕ) (parts : List Part) → IsPair c w x y z → Spells f more text →
     NoneChanged f parts →
-    First f parts (0xF0 + (w + 1) / 4) ((0x80 + ((w + 1) % 4 * 0x10 + x / 4)) ∷ (0x80 + (x % 4 * 0x10 + y)) ∷ (0x80 + z) ∷ utf8 text) →
-    encoding f (c ∷ text) ≡ spelled f parts
-spells_pair f c w x y z text parts digits spells none (stays others parts_are are_parts rest_is) =
+    First f parts (0xF0 + (w + 1) / 4)
+    ((0x80 + ((w + 1) % 4 * 0x10 + x / 4)) ∷ (0x80 + (x % 4 * 0x10 + y)) ∷ (0x80 + z) ∷ utf8 text ++ more) →
+    BeginsWith f (c ∷ text) more parts
+spells_pair f c w x y z more text parts digits spells none (stays others parts_are are_parts rest_is) =
     absurd (subst (NoneChanged f) parts_are none (any_here (IsChangedByte f) (0xF0 + (w + 1) / 4) (spelled f others)
     (changed_by_four f _ (four_from (0xF0 + (w + 1) / 4) (omega arith) (omega (arith, digits.first))))))
-spells_pair f c w x y z text parts digits spells none (null others mutf8 parts_are are_parts zero rest_is) =
+spells_pair f c w x y z more text parts digits spells none (null others mutf8 parts_are are_parts zero rest_is) =
     absurd (omega arith)
-spells_pair f c w x y z text parts digits spells none (four d t u v s others their_digits parts_are are_parts out_is) =
+spells_pair f c w x y z more text parts digits spells none (four d t u v s others their_digits parts_are are_parts out_is) =
     let e0 : 0xF0 + (w + 1) / 4 ≡ 0xF0 + (t + 1) / 4 = cc in
     let e1 : 0x80 + ((w + 1) % 4 * 0x10 + x / 4) ≡ 0x80 + ((t + 1) % 4 * 0x10 + u / 4) = cc in
     let e2 : 0x80 + (x % 4 * 0x10 + y) ≡ 0x80 + (u % 4 * 0x10 + v) = cc in
     let e3 : 0x80 + z ≡ 0x80 + s = cc in
-    let rest_is : utf8 text ≡ flat_map utf8_part others = cc in
+    let rest_is : utf8 text ++ more ≡ flat_map utf8_part others = cc in
     let same = same_pair c w x y z d t u v s digits their_digits (omega arith) (omega arith) (omega arith) (omega arith) in
-    encoding_cons f c text
-    ∙ ap (λ bs. encoding f (c ∷ []) ++ bs)
+    begins_after f c text more parts others
     (spells others are_parts rest_is (others_unchanged f (Changes d) others (subst (NoneChanged f) parts_are none)))
-    ∙ ap (λ e. encoding f (e ∷ []) ++ spelled f others) same ∙ sym (ap (spelled f) parts_are)
+    (ap (spelled f) parts_are ∙ ap (λ e. encoding f (e ∷ []) ++ spelled f others) (sym same))
 
-spells_by : (f : Flavor) (c : ℕ) (text : List ℕ) (parts : List Part) → Shape c → AreParts f parts →
-    utf8_of c ++ utf8 text ≡ flat_map utf8_part parts → NoneChanged f parts → Spells f text →
-    encoding f (c ∷ text) ≡ spelled f parts
-spells_by f c text parts (one ascii) are_parts out_is none spells =
-    spells_one f c text parts ascii spells none (first f parts c (utf8 text) are_parts (rw (utf8_of_one c ascii) at out_is))
-spells_by f c text parts (two x y digits) are_parts out_is none spells =
-    rw (encoding_cons f c text, encoding_two f c x y digits)
-    (spells_two f (0xC0 + x) (0x80 + y) text parts (omega arith) (omega (arith, digits.high)) (omega arith) (omega (arith, digits.last)) spells none
-    (first f parts _ _ are_parts (rw (utf8_of_two c x y digits) at out_is)))
-spells_by f c text parts (three x y z digits) are_parts out_is none spells =
-    rw (encoding_cons f c text, encoding_three f c x y z digits)
-    (spells_three f (0xE0 + x) (0x80 + y) (0x80 + z) text parts (omega arith) (omega (arith, digits.high)) (omega arith) (omega (arith, digits.middle)) (omega arith) (omega (arith, digits.last))
-    spells none (first f parts _ _ are_parts (rw (utf8_of_three c x y z digits) at out_is)))
-spells_by f c text parts (pair w x y z digits) are_parts out_is none spells =
-    spells_pair f c w x y z text parts digits spells none
+spells_by : (f : Flavor) (c : ℕ) (more text : List ℕ) (parts : List Part) → Shape c → AreParts f parts →
+    utf8_of c ++ (utf8 text ++ more) ≡ flat_map utf8_part parts → NoneChanged f parts → Spells f more text →
+    BeginsWith f (c ∷ text) more parts
+spells_by f c more text parts (one ascii) are_parts out_is none spells =
+    spells_one f c more text parts ascii spells none (first f parts c _ are_parts (rw (utf8_of_one c ascii) at out_is))
+spells_by f c more text parts (two x y digits) are_parts out_is none spells =
+    spells_two f (0xC0 + x) (0x80 + y) c more text parts (omega arith) (omega (arith, digits.high)) (omega arith) (omega (arith, digits.last))
+    (encoding_two f c x y digits) spells none
+    (first f parts _ _ are_parts (rw (utf8_of_two c x y digits) at out_is))
+spells_by f c more text parts (three x y z digits) are_parts out_is none spells =
+    spells_three f (0xE0 + x) (0x80 + y) (0x80 + z) c more text parts (omega arith) (omega (arith, digits.high)) (omega arith) (omega (arith, digits.middle)) (omega arith) (omega (arith, digits.last))
+    (encoding_three f c x y z digits) spells none
+    (first f parts _ _ are_parts (rw (utf8_of_three c x y z digits) at out_is))
+spells_by f c more text parts (pair w x y z digits) are_parts out_is none spells =
+    spells_pair f c w x y z more text parts digits spells none
     (first f parts _ _ are_parts (rw (utf8_of_pair c w x y z digits) at out_is))
 
-spells_text : (f : Flavor) (text : List ℕ) → IsText text → Spells f text
-spells_text f [] is_text parts are_parts out_is none =
-    encoding_nil f ∙ sym (ap (spelled f) (no_parts f parts are_parts out_is))
-spells_text f (c ∷ text) is_text parts are_parts out_is none =
-    spells_by f c text parts (shape c is_text.0) are_parts out_is none (spells_text f text is_text.1)
+spells_text : (f : Flavor) (more text : List ℕ) → IsText text → Spells f more text
+spells_text f more [] is_text parts are_parts out_is none = record {
+  others = parts;
+  are_parts = are_parts;
+  none = none;
+  spelled_is = ap (λ bs. bs ++ spelled f parts) (sym (encoding_nil f));
+  more_is = out_is;
+}
+spells_text f more (c ∷ text) is_text parts are_parts out_is none =
+    spells_by f c more text parts (shape c is_text.0) are_parts
+    (sym (append_assoc (utf8_of c) (utf8 text) more) ∙ out_is) none (spells_text f more text is_text.1)
 
--- The bytes are the text's encoding, where none of them is of the class.
+-- Where bytes without one of the class are joined to a text's UTF-8 and more, they begin with its
+-- encoding.
+pub joined_front : (f : Flavor) (bytes out text more : List ℕ) → IsJoined f bytes out → (Any (IsChangedByte f) bytes → ⊥) →
+    IsText text → utf8 text ++ more ≡ out → (rest : List ℕ) × IsJoined f rest more × (bytes ≡ encoding f text ++ rest)
+joined_front f bytes out text more joined none is_text out_is =
+    let begins = spells_text f more text is_text joined.parts joined.are_parts (out_is ∙ joined.out_is)
+    (λ found. none (subst (Any (IsChangedByte f)) (sym joined.bytes_are) found)) in (
+      spelled f begins.others,
+      record {
+        parts = begins.others;
+        are_parts = begins.are_parts;
+        bytes_are = refl;
+        out_is = begins.more_is;
+      },
+      joined.bytes_are ∙ begins.spelled_is,
+    )
+
+-- Nothing is joined of no bytes alone.
+nothing_joined : (f : Flavor) (bytes : List ℕ) → IsJoined f bytes [] → bytes ≡ []
+nothing_joined f bytes joined =
+    joined.bytes_are ∙ ap (spelled f) (no_parts f joined.parts joined.are_parts joined.out_is)
+
+-- Where that is all, they are the text's encoding.
 pub joined_text : (f : Flavor) (bytes out text : List ℕ) → IsJoined f bytes out → (Any (IsChangedByte f) bytes → ⊥) →
     IsText text → utf8 text ≡ out → encoding f text ≡ bytes
 joined_text f bytes out text joined none is_text out_is =
-    spells_text f text is_text joined.parts joined.are_parts (out_is ∙ joined.out_is)
-    (λ found. none (subst (Any (IsChangedByte f)) (sym joined.bytes_are) found))
-    ∙ sym joined.bytes_are
+    let begins = joined_front f bytes out text [] joined none is_text (append-nil (utf8 text) ∙ out_is) in
+    sym (begins.2 ∙ ap (λ bs. encoding f text ++ bs) (nothing_joined f begins.0 begins.1) ∙ append-nil (encoding f text))

@@ -3,6 +3,7 @@ pub mod Borders
 pub mod Shapes
 pub mod Forms
 pub mod Encodings
+mod Fronts
 pub mod Lengths
 pub mod EncodedLength
 pub mod Elements

@@ -49,6 +49,21 @@ piece_of_encoding f lossy bytes text n is_utf8 reads =
       written = sym (IsUtf8Of_chars text is_utf8).1;
     }
 
+-- So is a text whose encoding begins them.
+pub piece_of_front : (f : Flavor) (lossy : Bool) (bytes text more : List ℕ) (n : ℕ) → IsUtf8 text →
+    bytes ≡ encoding f (chars text) ++ more → n ≡ length (encoding f (chars text)) → IsPiece f lossy bytes (drop n bytes) text
+piece_of_front f lossy bytes text more n is_utf8 bytes_are n_is =
+    let rest_is : drop n bytes ≡ more =
+    ap (λ k. drop k bytes) n_is ∙ ap (drop (length (encoding f (chars text)))) bytes_are
+    ∙ drop-append_seam (encoding f (chars text)) more in
+    subst (λ rest. IsPiece f lossy bytes rest text) (sym rest_is) (record {
+      text = chars text;
+      scalars = (IsUtf8Of_chars text is_utf8).0;
+      lossy_reading = ap (reading f) bytes_are ∙ reading_text f (chars text) more (IsUtf8Of_chars text is_utf8).0;
+      strict_reading = λ _. bytes_are;
+      written = sym (IsUtf8Of_chars text is_utf8).1;
+    })
+
 -- What is read is UTF-8.
 pub piece_utf8 : (f : Flavor) (lossy : Bool) (bytes rest piece : List ℕ) → IsPiece f lossy bytes rest piece → IsUtf8 piece
 piece_utf8 f lossy bytes rest piece read = subst IsUtf8 (sym read.written) (IsUtf8_utf8 read.text read.scalars)

@@ -15,13 +15,14 @@ ghost use Rattle.simd_cesu8.specs.Pieces.{IsPiece, HasFault};
 mod pace;
 mod steps;
 
+use super::joining::Room;
 use super::window::{SHORT, read_window};
 use super::writers::{copy_text_with_capacity, exactly};
 use super::{DecodeOptions, Flavor};
 use crate::error::DecodeFault;
 use pace::Pace;
 use std::alloc::{AllocError, Allocator};
-use steps::{STEPS, measure_steps, read_exactly};
+use steps::{measure_steps, read_exactly};
 
 /// The strict reading of the bytes, after one request for their length.
 pub fn decode_strict<A: Allocator>(
@@ -111,11 +112,24 @@ pub fn lossy_len(flavor: Flavor, bytes: &[u8]) -> Option<usize>
     ensures some { IfSome result (λ len. len ≡ lossy_length (flavor_of flavor) bytes.now) }
     ensures none { IfNone result (usize.MAX < lossy_length (flavor_of flavor) bytes.now) }
 {
+    if bytes.len() <= SHORT {
+        return Some(measure_steps(flavor, bytes, SHORT).1);
+    }
+    long_lossy_len(flavor, bytes)
+}
+
+/// The same for input of any length. Its room is made only where it is called.
+#[inline(never)]
+fn long_lossy_len(flavor: Flavor, bytes: &[u8]) -> Option<usize>
+    ensures some { IfSome result (λ len. len ≡ lossy_length (flavor_of flavor) bytes.now) }
+    ensures none { IfNone result (usize.MAX < lossy_length (flavor_of flavor) bytes.now) }
+{
+    let mut room = [0; 1088];
     let mut pace = Pace::at_start();
     let mut len: usize = 0;
     let mut rest = bytes;
     while !rest.is_empty() {
-        let (read, written) = measure_piece(flavor, rest, &mut pace);
+        let (read, written) = measure_piece(flavor, rest, &mut pace, &mut room);
         len = len.checked_add(written)?;
         rest = &rest[read..];
     }
@@ -123,33 +137,37 @@ pub fn lossy_len(flavor: Flavor, bytes: &[u8]) -> Option<usize>
 }
 
 /// How many bytes the next piece of lossy reading takes, and how many its UTF-8.
-fn measure_piece(flavor: Flavor, bytes: &[u8], pace: &mut Pace) -> (usize, usize)
+fn measure_piece(flavor: Flavor, bytes: &[u8], pace: &mut Pace, room: &mut Room) -> (usize, usize)
     requires { 0 < length bytes.now }
     ensures reads { (0 < result.0) × (result.0 ≤ length bytes.now) }
     ensures gives { lossy_length (flavor_of flavor) bytes.now
         ≡ result.1 + lossy_length (flavor_of flavor) (drop result.0 bytes.now) }
 {
     if bytes.len() > SHORT && pace.pause == 0 {
-        if let Some(measured) = measure_window(flavor, bytes, pace.window) {
-            *pace = pace.after_text();
+        if let Some(measured) = measure_window(flavor, bytes, pace.window, room) {
+            *pace = pace.after_text(measured.0, bytes.len() - measured.0);
             return measured;
         }
         *pace = pace.after_nothing();
     }
+    let steps = pace.steps();
     *pace = pace.after_steps();
-    measure_steps(flavor, bytes)
+    measure_steps(flavor, bytes, steps)
 }
 
-/// The same for a window, where it gives text. Its room is made only where it is called.
-#[inline(never)]
-fn measure_window(flavor: Flavor, bytes: &[u8], len: usize) -> Option<(usize, usize)>
+/// The same for a window, where it gives text.
+fn measure_window(
+    flavor: Flavor,
+    bytes: &[u8],
+    len: usize,
+    room: &mut Room,
+) -> Option<(usize, usize)>
     requires { 64 < length bytes.now }
     ensures reads { IfSome result (λ measured. (0 < measured.0) × (measured.0 ≤ length bytes.now)) }
     ensures gives { IfSome result (λ measured. lossy_length (flavor_of flavor) bytes.now
         ≡ measured.1 + lossy_length (flavor_of flavor) (drop measured.0 bytes.now)) }
 {
-    let mut room = [0; 1088];
-    let piece = read_window(flavor, bytes, len, &mut room)?;
+    let piece = read_window(flavor, bytes, len, room)?;
     Some((piece.read, piece.text.len()))
 }
 
@@ -164,10 +182,11 @@ fn read_text<A: Allocator>(
         × (string_bytes out.new ≡ string_bytes out.old ++ utf8 text)) }
     ensures invalid { OnInvalid result (HasNoStrictReading (flavor_of options.flavor) bytes.now) }
 {
+    let mut room = [0; 1088];
     let mut pace = Pace::at_start();
     let mut rest = bytes;
     while !rest.is_empty() {
-        let read = read_piece(options, rest, &mut pace, out)?;
+        let read = read_piece(options, rest, &mut pace, &mut room, out)?;
         rest = &rest[read..];
     }
     Ok(())
@@ -179,6 +198,7 @@ fn read_piece<A: Allocator>(
     options: DecodeOptions,
     bytes: &[u8],
     pace: &mut Pace,
+    window_room: &mut Room,
     out: &mut String<A>,
 ) -> Result<usize, DecodeFault>
     requires { 0 < length bytes.now }
@@ -190,25 +210,26 @@ fn read_piece<A: Allocator>(
         × HasFault (flavor_of options.flavor) bytes.now) }
 {
     if bytes.len() > SHORT && pace.pause == 0 {
-        if let Some(read) = append_window(options.flavor, bytes, pace.window, out)? {
-            *pace = pace.after_text();
+        if let Some(read) = append_window(options.flavor, bytes, pace.window, window_room, out)? {
+            *pace = pace.after_text(read, bytes.len() - read);
             return Ok(read);
         }
         *pace = pace.after_nothing();
     }
+    let steps = pace.steps();
     *pace = pace.after_steps();
     let mut room = [0; 256];
-    let piece = read_exactly(options, bytes, STEPS, &mut room).map_err(DecodeFault::Invalid)?;
+    let piece = read_exactly(options, bytes, steps, &mut room).map_err(DecodeFault::Invalid)?;
     append(piece.text, out)?;
     Ok(piece.read)
 }
 
-/// Appends the text of a window, where it gives text. Its room is made only where it is called.
-#[inline(never)]
+/// Appends the text of a window, where it gives text.
 fn append_window<A: Allocator>(
     flavor: Flavor,
     bytes: &[u8],
     len: usize,
+    room: &mut Room,
     out: &mut String<A>,
 ) -> Result<Option<usize>, DecodeFault>
     requires { 64 < length bytes.now }
@@ -221,8 +242,7 @@ fn append_window<A: Allocator>(
         IfNone found (string_bytes out.new ≡ string_bytes out.old)) }
     ensures invalid { OnInvalid result ⊥ }
 {
-    let mut room = [0; 1088];
-    match read_window(flavor, bytes, len, &mut room) {
+    match read_window(flavor, bytes, len, room) {
         Some(piece) => {
             append(piece.text, out)?;
             Ok(Some(piece.read))

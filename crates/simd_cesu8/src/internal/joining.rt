@@ -96,7 +96,7 @@ fn join_block<'a>(flavor: Flavor, at: Place<'a>, stop: usize, room: &mut Room) -
         Flavor::Mutf8 if left >= 32 && marks & NULL_MARKS == NULL_MARKS && is_nulls(at.rest) => {
             join_nulls(at, room)
         }
-        _ if marks & PAIR_MARKS == PAIR_MARKS => join_pairs(at, stop, room),
+        _ if marks & PAIR_MARKS == PAIR_MARKS && is_pair(at.rest) => join_pairs(at, stop, room),
         _ => join_marked(flavor, at, marks, stop, room),
     }
 }

@@ -18,26 +18,26 @@ use simdutf8::basic;
 /// The UTF-8 of the replacement character, U+FFFD.
 const REPLACEMENT: [u8; 3] = [0xEF, 0xBF, 0xBD];
 
-/// How many exact steps are made at most for one piece of a longer text.
-pub const STEPS: usize = 32;
-
 /// How many bytes are tested for UTF-8 at once.
 const BLOCK: usize = 64;
 
 /// Room for the UTF-8 of 64 exact steps.
 pub type StepRoom = [u8; 256];
 
-/// How many bytes some characters take, and how many their UTF-8, by exact steps.
-pub fn measure_steps(flavor: Flavor, bytes: &[u8]) -> (usize, usize)
-    requires { 0 < length bytes.now }
-    ensures reads { (0 < result.0) × (result.0 ≤ length bytes.now) }
+/// How many bytes some characters take, and how many their UTF-8, by exact steps, of which so many
+/// are made at most. As many as there are bytes measure them all.
+pub fn measure_steps(flavor: Flavor, bytes: &[u8], most: usize) -> (usize, usize)
+    requires few { most ≤ 64 }
+    ensures within { result.0 ≤ length bytes.now }
+    ensures some { 0 < length bytes.now → 0 < most → 0 < result.0 }
+    ensures all { length bytes.now ≤ most → result.0 ≡ length bytes.now }
     ensures gives { lossy_length (flavor_of flavor) bytes.now
         ≡ result.1 + lossy_length (flavor_of flavor) (drop result.0 bytes.now) }
 {
     let mut rest = bytes;
     let mut len = 0;
     let mut steps = 0;
-    while steps < STEPS && !rest.is_empty() {
+    while steps < most && !rest.is_empty() {
         let (read, written) = measure_step(flavor, rest);
         rest = &rest[read..];
         len += written;

@@ -1,17 +1,15 @@
-use Rattle.std.proofs.Common.{◌∙◌, sym, arith}
-use Rattle.std.proofs.lemmas.Bool.{eqb-true}
-use Rattle.std.proofs.lemmas.List.{take_rest}
+use Rattle.std.proofs.Common.{arith, drop, length-drop}
 use Rattle.simd_cesu8.specs.Internal.{flavor_of}
 use Rattle.simd_cesu8.proofs.Decoding.{lossy_length_nil}
 use Rattle.simd_cesu8.proofs.internal.decoder.lossy_len.Goals as goal
 
-pub loop-rest-preserved : goal.loop-rest-preserved
-loop-rest-preserved c = rw take_rest (omega (arith, c.loop-rest.invariant, c.measure_piece-read.ensures.gives))
-
-pub returns-clause-some : goal.returns-clause-some
-returns-clause-some c =
+pub returns-then-bytes-le-SHORT-clause-some : goal.returns-then-bytes-le-SHORT-clause-some
+returns-then-bytes-le-SHORT-clause-some c =
+    let f = flavor_of c.args.flavor in
+    let read = c.measure_steps.result.0 in
     omega (
       arith,
-      c.loop-rest.invariant,
-      lossy_length_nil (flavor_of c.args.flavor) c.loop-rest.rest.now (eqb-true _ _ (sym c.is_empty.ensures ∙ c.loop-rest-test.false)),
+      c.measure_steps.ensures.gives,
+      lossy_length_nil f (drop read c.args.bytes.now)
+          (omega (arith, length-drop read c.args.bytes.now, c.measure_steps.ensures.all (omega arith))),
     )

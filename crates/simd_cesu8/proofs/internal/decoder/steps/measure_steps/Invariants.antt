@@ -12,5 +12,5 @@ invariant-loop-steps l = record {
   front : (front : List ℕ) × (l.fn.bytes ≡ front ++ l.rest);
   len : l.len ≤ 4 * l.steps;
   shorter : length l.rest + l.steps ≤ length l.fn.bytes;
-  few : l.steps ≤ 32;
+  few : l.steps ≤ 64;
 }

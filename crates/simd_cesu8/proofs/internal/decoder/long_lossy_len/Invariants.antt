@@ -1,7 +1,7 @@
 use Rattle.std.proofs.Common.{◌≡◌, ◌+◌, length}
 use Rattle.simd_cesu8.specs.Reading.{lossy_length}
 use Rattle.simd_cesu8.specs.Internal.{flavor_of}
-use Rattle.simd_cesu8.proofs.internal.decoder.lossy_len.Given as goal
+use Rattle.simd_cesu8.proofs.internal.decoder.long_lossy_len.Given as goal
 
 abbrev pub decreases-loop-rest : goal.decreases-loop-rest
 decreases-loop-rest l = length l.rest
