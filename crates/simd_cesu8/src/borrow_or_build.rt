@@ -12,7 +12,7 @@ ghost use Rattle.simd_cesu8.specs.Internal.{flavor_of};
 use crate::cow::{CowBytes, CowText};
 use crate::error::DecodeFault;
 use crate::internal;
-use crate::internal::{Flavor, contains_changed, is_continuation};
+use crate::internal::{Flavor, character_start, contains_changed, is_continuation};
 use simdutf8::basic;
 use std::alloc::{AllocError, Global};
 
@@ -48,23 +48,10 @@ fn whole_text(bytes: &[u8]) -> Result<&str, basic::Utf8Error>
     ensures cases { MatchResult result (λ text. (text.now ≡ bytes.now) × IsUtf8 bytes.now)
         (λ _. ¬ (IsUtf8 bytes.now)) }
 {
-    if bytes.len() >= 4 * FRONT && !has_utf8_front(bytes, front_end(bytes)) {
+    if bytes.len() >= 4 * FRONT && !has_utf8_front(bytes, character_start(bytes, FRONT)) {
         return Err(basic::Utf8Error);
     }
     basic::from_utf8(bytes)
-}
-
-/// Where the front ends, which is mostly no place within a character.
-fn front_end(bytes: &[u8]) -> usize
-    requires { 2048 ≤ length bytes.now }
-    ensures { result ≤ 512 }
-{
-    for back in 0..3 {
-        if !is_continuation(bytes[FRONT - back]) {
-            return FRONT - back;
-        }
-    }
-    FRONT - 3
 }
 
 /// Whether the bytes before a place are UTF-8, or the place is one within a character.

@@ -16,7 +16,7 @@ mod writers;
 
 use crate::implementation::active;
 pub use decoder::{decode_lossy, decode_strict, lossy_len};
-pub use encoded_character::is_continuation;
+pub use encoded_character::{character_start, is_continuation};
 pub use encoder::{encode, encode_into};
 pub use lengths::encoded_len;
 pub use writers::{copy, copy_text};

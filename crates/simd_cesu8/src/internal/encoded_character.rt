@@ -1,6 +1,6 @@
 //! Which encoded character begins some bytes.
 
-ghost use Rattle.std.specs.Prelude.{◌≡◌, ◌<◌, ◌≤◌, length, slice_index, IsTrue, ◌↔◌};
+ghost use Rattle.std.specs.Prelude.{◌≡◌, ◌+◌, ◌<◌, ◌≤◌, length, slice_index, IsTrue, ◌↔◌};
 ghost use Rattle.simd_cesu8.specs.Internal.{flavor_of, encoded_width, utf8_length, IsFirstCharacter, IsFirstInBoth, IsContinuation, EndsPair};
 
 use super::Flavor;
@@ -140,6 +140,19 @@ pub fn is_continuation(byte: u8) -> bool
     ensures { IsTrue result ↔ IsContinuation byte }
 {
     matches!(byte, 0x80..=0xBF)
+}
+
+/// Where the character begins that a place is in, if it is in one.
+pub fn character_start(bytes: &[u8], place: usize) -> usize
+    requires { (3 ≤ place) × (place < length bytes.now) }
+    ensures { (result ≤ place) × (place ≤ result + 3) }
+{
+    for back in 0..3 {
+        if !is_continuation(bytes[place - back]) {
+            return place - back;
+        }
+    }
+    place - 3
 }
 
 /// Whether the four bytes after ED A0 to ED AF make a surrogate pair of them.

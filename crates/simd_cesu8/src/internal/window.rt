@@ -8,7 +8,7 @@ ghost use Rattle.simd_cesu8.specs.Pieces.{IsPiece, IsFront};
 
 use super::joining::{REACH, Room, WINDOW, join};
 use super::lengths::encoded_len;
-use super::{Flavor, contains_changed, is_continuation};
+use super::{Flavor, character_start, contains_changed, is_continuation};
 use simdutf8::{basic, is_utf8};
 
 /// How many bytes are no window's worth.
@@ -87,19 +87,6 @@ fn front_end(joined: &[u8]) -> usize
         }
     }
     low
-}
-
-/// Where the character begins that a place is in, if it is in one.
-fn character_start(bytes: &[u8], place: usize) -> usize
-    requires { (3 ≤ place) × (place < length bytes.now) }
-    ensures { (result ≤ place) × (place ≤ result + 3) }
-{
-    for back in 0..3 {
-        if bytes[place - back] & 0xC0 != 0x80 {
-            return place - back;
-        }
-    }
-    place - 3
 }
 
 /// Joins the first bytes, up to the end of a character. Gives how many it read, and how many it
