@@ -24,8 +24,8 @@ pub struct Piece<'a> {
     pub text: &'a str,
 }
 
-/// Reads a window of at most so many bytes and a character. Where it gives none, nothing is said of
-/// the bytes.
+/// Reads a window of at most so many bytes and a character, or what stands in it before a fault.
+/// Where it gives none, nothing is said of the bytes.
 pub fn read_window<'a>(
     flavor: Flavor,
     bytes: &[u8],
@@ -51,7 +51,8 @@ pub fn read_window<'a>(
     }
 }
 
-/// Reads what stands before a fault of the joined bytes, or not much less.
+/// Reads what stands before the first fault of the joined bytes, or a little less. So many bytes as
+/// its encoding has were joined to it. It is not inlined, since most windows have no fault.
 #[inline(never)]
 fn read_front(flavor: Flavor, joined: &[u8]) -> Option<Piece<'_>>
     ensures { IfSome result (λ piece.

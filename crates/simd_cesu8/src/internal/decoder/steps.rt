@@ -26,6 +26,7 @@ pub type StepRoom = [u8; 256];
 
 /// How many bytes some characters take, and how many their UTF-8, by exact steps, of which so many
 /// are made at most. As many as there are bytes measure them all.
+#[inline(always)]
 pub fn measure_steps(flavor: Flavor, bytes: &[u8], most: usize) -> (usize, usize)
     requires few { most ≤ 64 }
     ensures within { result.0 ≤ length bytes.now }
