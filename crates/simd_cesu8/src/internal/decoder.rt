@@ -17,7 +17,7 @@ mod steps;
 
 use super::joining::Room;
 use super::window::{SHORT, read_window};
-use super::writers::{copy_text_with_capacity, exactly};
+use super::writers::{copy_text, exactly};
 use super::{DecodeOptions, Flavor};
 use crate::error::DecodeFault;
 use pace::Pace;
@@ -39,9 +39,6 @@ pub fn decode_strict<A: Allocator>(
         flavor,
         lossy: false,
     };
-    if bytes.len() <= SHORT {
-        return decode_short(alloc, options, bytes);
-    }
     let mut text = String::with_capacity(alloc, bytes.len()).map_err(DecodeFault::Memory)?;
     read_text(options, bytes, &mut text)?;
     exactly(text, bytes.len()).map_err(DecodeFault::Memory)
@@ -64,10 +61,7 @@ pub fn decode_lossy<A: Allocator>(
         lossy: true,
     };
     if bytes.len() <= SHORT {
-        return match decode_short(alloc, options, bytes) {
-            Ok(text) => Ok(text),
-            Err(_) => Err(AllocError),
-        };
+        return decode_short(alloc, options, bytes);
     }
     let len = lossy_len(flavor, bytes).ok_or(AllocError)?;
     let mut text = String::with_capacity(alloc, len)?;
@@ -78,32 +72,25 @@ pub fn decode_lossy<A: Allocator>(
     exactly(text, len)
 }
 
-/// The text of a short input, which is read before memory is asked for, so no pass measures it.
+/// The lossy reading of a short input, which is read before memory is asked for, so no pass measures
+/// it.
 fn decode_short<A: Allocator>(
     alloc: A,
     options: DecodeOptions,
     bytes: &[u8],
-) -> Result<String<A>, DecodeFault>
-    requires { length bytes.now ≤ 64 }
-    ensures text { IfOk result (λ text. IsDecodedText (flavor_of options.flavor) options.lossy
-        bytes.now (chars (string_bytes text))) }
-    ensures strict_capacity { options.lossy ≡ false → IfOk result (λ text.
-        string_capacity text ≡ length bytes.now) }
-    ensures lossy_capacity { options.lossy ≡ true → IfOk result (λ text.
+) -> Result<String<A>, AllocError>
+    requires lossy { options.lossy ≡ true }
+    requires short { length bytes.now ≤ 64 }
+    ensures text { IfOk result (λ text.
+        chars (string_bytes text) ≡ reading (flavor_of options.flavor) bytes.now) }
+    ensures capacity { IfOk result (λ text.
         string_capacity text ≡ lossy_length (flavor_of options.flavor) bytes.now) }
-    ensures invalid { OnInvalid result (HasNoStrictReading (flavor_of options.flavor) bytes.now) }
 {
     let mut room = [0; 256];
     match read_exactly(options, bytes, SHORT, &mut room) {
-        Ok(piece) => {
-            let capacity = if options.lossy {
-                piece.text.len()
-            } else {
-                bytes.len()
-            };
-            copy_text_with_capacity(alloc, piece.text, capacity).map_err(DecodeFault::Memory)
-        }
-        Err(error) => Err(DecodeFault::Invalid(error)),
+        Ok(piece) => copy_text(alloc, piece.text),
+        // Lossy reading refuses nothing.
+        Err(_) => Err(AllocError),
     }
 }
 
@@ -173,6 +160,43 @@ fn measure_window(
 
 /// Appends the text of the bytes.
 fn read_text<A: Allocator>(
+    options: DecodeOptions,
+    bytes: &[u8],
+    out: &mut String<A>,
+) -> Result<(), DecodeFault>
+    ensures ok { OnOk result ((text : List ℕ)
+        × IsDecodedText (flavor_of options.flavor) options.lossy bytes.now text
+        × (string_bytes out.new ≡ string_bytes out.old ++ utf8 text)) }
+    ensures invalid { OnInvalid result (HasNoStrictReading (flavor_of options.flavor) bytes.now) }
+{
+    if bytes.len() <= SHORT {
+        return read_short(options, bytes, out);
+    }
+    read_long(options, bytes, out)
+}
+
+/// The same for a short input, by exact steps alone.
+fn read_short<A: Allocator>(
+    options: DecodeOptions,
+    bytes: &[u8],
+    out: &mut String<A>,
+) -> Result<(), DecodeFault>
+    requires { length bytes.now ≤ 64 }
+    ensures ok { OnOk result ((text : List ℕ)
+        × IsDecodedText (flavor_of options.flavor) options.lossy bytes.now text
+        × (string_bytes out.new ≡ string_bytes out.old ++ utf8 text)) }
+    ensures invalid { OnInvalid result (HasNoStrictReading (flavor_of options.flavor) bytes.now) }
+{
+    let mut room = [0; 256];
+    match read_exactly(options, bytes, SHORT, &mut room) {
+        Ok(piece) => append(piece.text, out),
+        Err(error) => Err(DecodeFault::Invalid(error)),
+    }
+}
+
+/// The same for input of any length. Its room is made only where it is called.
+#[inline(never)]
+fn read_long<A: Allocator>(
     options: DecodeOptions,
     bytes: &[u8],
     out: &mut String<A>,

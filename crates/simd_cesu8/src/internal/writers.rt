@@ -38,21 +38,9 @@ pub fn copy_text<A: Allocator>(alloc: A, text: &str) -> Result<String<A>, AllocE
         // Nothing is asked for, so nothing is refused.
         return String::with_capacity(alloc, 0);
     }
-    copy_text_with_capacity(alloc, text, text.len())
-}
-
-/// A copy of a text, after one request for so many bytes.
-pub fn copy_text_with_capacity<A: Allocator>(
-    alloc: A,
-    text: &str,
-    capacity: usize,
-) -> Result<String<A>, AllocError>
-    ensures text { IfOk result (λ copied. string_bytes copied ≡ text.now) }
-    ensures capacity { IfOk result (λ copied. string_capacity copied ≡ capacity) }
-{
-    let mut copied = String::with_capacity(alloc, capacity)?;
+    let mut copied = String::with_capacity(alloc, text.len())?;
     copied.push_str(text)?;
-    exactly(copied, capacity)
+    exactly(copied, text.len())
 }
 
 /// The text, whose capacity has to be what was asked for. There was room for all of it, so nothing

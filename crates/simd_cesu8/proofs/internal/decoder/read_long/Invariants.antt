@@ -2,7 +2,7 @@ use Rattle.std.proofs.Common.{length}
 use Rattle.std.specs.String.{string_bytes}
 use Rattle.simd_cesu8.specs.Internal.{flavor_of}
 use Rattle.simd_cesu8.specs.Pieces.{IsReadSoFar}
-use Rattle.simd_cesu8.proofs.internal.decoder.read_text.Given as goal
+use Rattle.simd_cesu8.proofs.internal.decoder.read_long.Given as goal
 
 abbrev pub decreases-loop-rest : goal.decreases-loop-rest
 decreases-loop-rest g l = length l.rest

@@ -5,7 +5,7 @@ use Rattle.std.proofs.lemmas.List.{take_rest}
 use Rattle.simd_cesu8.specs.Internal.{flavor_of}
 use Rattle.simd_cesu8.proofs.Decoding.{nothing_read, all_read}
 use Rattle.simd_cesu8.proofs.Pieces.{more_read, refused_after}
-use Rattle.simd_cesu8.proofs.internal.decoder.read_text.Goals as goal
+use Rattle.simd_cesu8.proofs.internal.decoder.read_long.Goals as goal
 
 pub loop-rest-init : goal.loop-rest-init
 loop-rest-init g c = nothing_read (flavor_of c.args.options.flavor) c.args.options.lossy c.args.bytes.now (string_bytes c.args.out.now)
