@@ -1,46 +1,25 @@
 #!/usr/bin/env bash
-# Compares docs/PROVED.md with the contracts: each clause that the page names has to stand in the
-# sources, each clause of a public function has to be named on the page, and what stands twice, once
-# for each encoding or kernel, has to have the same clauses. In README.md the clauses that are named
-# have to be there too. It prints what is wrong, and ends with the counts. The status is 0 where
-# nothing is wrong. It needs bash, awk, sed, grep and the core utilities.
+# Compares the public contracts with docs/PROVED.md, with README.md and with tests/clauses.txt:
+#   tests/clauses.sh            compares, and prints what is wrong and then the counts
+#   tests/clauses.sh --write    writes tests/clauses.txt anew from the sources
+# Each clause that docs/PROVED.md names has to stand in the sources, and each public clause has to
+# be named there; each name in the README's table of clauses has to be there too. A public function
+# has to promise something, and may ask nothing of its caller. What stands twice, once for each
+# encoding or kernel, has to say the same. tests/clauses.txt has each public clause, signature and
+# type, and the definitions that these cite, so that whatever of them changes is a changed line
+# there. The status is 0 where nothing is wrong. It needs bash, awk, sed, grep and the core
+# utilities.
 set -u
 unset CDPATH
 export LC_ALL=C
 
 top=$(cd "$(dirname "${BASH_SOURCE[0]}")/.." && pwd) || exit 2
+cd "$top" || exit 2
 scratch=$(mktemp -d) || exit 2
 trap 'rm -rf "$scratch"' EXIT
 
 # Notes in a file, since what a pipe ends in counts for itself.
 : >"$scratch/wrong"
-
-# The clauses of a file's public functions and of its types' traits, a line each: the crate, the name
-# and the clause, or a dash where it has no name: `clauses CRATE PREFIX FILE`.
-clauses() {
-    awk -v crate="$1" -v prefix="$2" '
-        /^impl/ {
-            type = $0
-            is_trait = type ~ / for /
-            if (is_trait) sub(/.* for /, "", type)
-            else sub(/^impl[^ ]* /, "", type)
-            sub(/[< {].*/, "", type)
-        }
-        /^}/ { type = ""; is_trait = 0 }
-        /^ *(pub(\([a-z]*\))? )?(extern "C" )?fn / {
-            name = $0
-            is_public = name ~ /^ *pub (extern "C" )?fn /
-            sub(/.*fn /, "", name)
-            sub(/[^a-z0-9_].*/, "", name)
-            if (type != "") name = type "::" name
-        }
-        is_public && /^ *ensures / {
-            clause = $2 == "{" ? "-" : $2
-            print crate, prefix name, clause
-        }
-        is_trait && /^ *ghost [a-z_]* =/ && $2 !~ /^(laws|class)$/ { print crate, type, $2 }
-    ' "$top/crates/$1/src/$3" | sort -u
-}
 
 # Notes that something is wrong where there are lines: `none WHAT`.
 none() {
@@ -50,36 +29,108 @@ none() {
     done
 }
 
-# What stands twice has to have the same clauses: `same NAME FILE FILE`, the files of clauses.
+# The public items of a file, as contracts.awk tells them: `items CRATE PREFIX FILE`.
+items() {
+    echo "crates/$1/src/$3" >>"$scratch/files"
+    awk -v crate="$1" -v prefix="$2" -f tests/contracts.awk "crates/$1/src/$3"
+}
+
+# Those of a file, of the public modules below it, and of the private ones whose types it hands on:
+# `public_items CRATE PREFIX FILE`.
+public_items() {
+    local crate=$1 prefix=$2 file=$3 told folder module
+    told=$(items "$crate" "$prefix" "$file")
+    echo "$told"
+    folder=${file%.rt}/
+    for module in $(sed -n 's/.*\tpub mod \([a-z0-9_]*\);$/\1/p' <<<"$told"); do
+        public_items "$crate" "$prefix$module::" "${folder#lib/}$module.rt"
+    done
+    for module in $(sed -n 's/.*\tpub use crate::\([a-z0-9_]*\)::.*/\1/p' <<<"$told" | sort -u); do
+        public_items "$crate" "$prefix" "$module.rt"
+    done
+}
+
+# What users can name: of the program, which hands nothing on, all but `main` and the tests.
+everything() {
+    local file
+    public_items simd_cesu8 '' lib.rt
+    public_items java_text '' lib.rt
+    for file in crates/cesu8_cli/src/*.rt; do
+        [[ $file == */main.rt ]] || items cesu8_cli '' "${file##*/}"
+    done
+    public_items cesu8_static '' lib.rt
+}
+
+# What is told of the functions whose names begin so, with the rest of the name: `those CRATE BEGIN`.
+those() {
+    awk -F '\t' -v OFS='\t' -v crate="$1" -v begin="$2" '
+        $1 == crate && $3 != "!item" && index($2, begin) == 1 {
+            name = substr($2, length(begin) + 1)
+            if ($3 == "!fn") is_function[name]
+            if (name in is_function && name !~ /::/) print $1, name, $3, $4
+        }
+    ' "$scratch/everything" | sort
+}
+
+# What is said of MUTF-8, as if it were said of CESU-8.
+of_cesu8() {
+    sed 's/Cesu8/(not Mutf8)/g; s/Mutf8/Cesu8/g; s/cesu8_mutf8_/cesu8_/g'
+}
+
+# What stands twice has to say the same: `same WHAT FILE FILE`, the files of what is told.
 same() {
     diff "$2" "$3" | grep '^[<>]' | none "$1 differ"
 }
 
+# The sources' items, with one of each that stands twice.
 sources() {
-    clauses simd_cesu8 '' lib.rt >"$scratch/root"
-    clauses simd_cesu8 '' mutf8.rt >"$scratch/mutf8"
+    local kernel
+    everything >"$scratch/everything"
+    those simd_cesu8 '' >"$scratch/root"
+    those simd_cesu8 mutf8:: | of_cesu8 | sort >"$scratch/mutf8"
     same 'the calls of the root and of mutf8' "$scratch/root" "$scratch/mutf8"
     for kernel in simd word fallback; do
-        clauses simd_cesu8 implementation:: "implementation/$kernel.rt" >"$scratch/$kernel"
+        those simd_cesu8 "implementation::$kernel::" >"$scratch/$kernel"
     done
     same 'the kernels simd and word' "$scratch/simd" "$scratch/word"
     same 'the kernels word and fallback' "$scratch/word" "$scratch/fallback"
-    clauses cesu8_static '' lib.rt >"$scratch/exports"
-    clauses cesu8_static '' mutf8.rt | sed 's/cesu8_mutf8_/cesu8_/' >"$scratch/exports_mutf8"
+    those cesu8_static '' >"$scratch/exports"
+    those cesu8_static mutf8:: | of_cesu8 | sort >"$scratch/exports_mutf8"
     same 'the exports of the two encodings' "$scratch/exports" "$scratch/exports_mutf8"
-    {
-        cat "$scratch/root" "$scratch/simd" "$scratch/exports"
-        clauses simd_cesu8 '' cow.rt
-        clauses simd_cesu8 '' error.rt
-        clauses simd_cesu8 laws:: laws.rt
-        clauses java_text '' lib.rt
-        clauses java_text '' fault.rt
-        clauses java_text laws:: laws.rt
-        clauses cesu8_static '' java.rt
-        clauses cesu8_cli '' run.rt
-        clauses cesu8_cli '' answer.rt
-        clauses cesu8_cli '' fault.rt
-    } | sort -u >"$scratch/sources"
+    awk -F '\t' -v OFS='\t' '
+        $3 != "!item" && $2 ~ /^(mutf8|implementation::(word|fallback))::/ { next }
+        $3 != "!item" { sub(/^implementation::simd::/, "implementation::", $2) }
+        $3 != "!item" { sub(/^java::cesu8_/, "cesu8_", $2) }
+        { print }
+    ' "$scratch/everything" >"$scratch/items"
+    awk -F '\t' '$3 !~ /^!/ { print $1, $2, $3 }' "$scratch/items" | sort -u >"$scratch/sources"
+}
+
+# What no public function may have, or be without.
+rules() {
+    told '!requires' | none 'a public function asks something of its caller'
+    told '!none' | none 'public, and without a contract'
+    told '!unread' | none 'tests/contracts.awk does not know how to read'
+    grep -rl --include='*.rt' '^#\[unsafe(no_mangle)\]' crates/cesu8_static/src |
+        grep -v '/\(lib\|mutf8\|java\)\.rt$' | none 'an export in a module that is not public'
+}
+
+# The items with such a mark: `told MARK`.
+told() {
+    awk -F '\t' -v mark="$1" '$3 == mark { print $1, $2 ": " $4 }' "$scratch/everything"
+}
+
+# What tests/clauses.txt has to hold.
+texts() {
+    local files
+    echo '# What the public contracts say, a line each, and then the definitions that they cite.'
+    echo '# Written by tests/clauses.sh --write; docs/PROVED.md has the same in words.'
+    awk -F '\t' '$3 !~ /^!(none|unread)$/ { print $1 " " $2 ": " $4 }' "$scratch/items"
+    awk -F '\t' '$3 !~ /^!(fn|item)$/ { print $4 }' "$scratch/items" >"$scratch/cited"
+    mapfile -t files < <(sort -u "$scratch/files")
+    awk -f tests/definitions.awk "$scratch/cited" "${files[@]}" \
+        crates/{simd_cesu8,java_text,cesu8_cli,cesu8_static}/specs/*.antt |
+        sed 's,^crates/\([a-z0-9_]*\)/\([^\t]*\)\t,\1 \2: ,'
 }
 
 # What the last cells of the page's tables name: entries that a semicolon parts, each a name and,
@@ -101,26 +152,47 @@ page() {
                 for (j = 1; j <= names; j++) print crate, substr(entry[i], 1, at), name[j]
             }
         }
-    ' "$top/docs/PROVED.md" | sort -u >"$scratch/page"
+    ' docs/PROVED.md | sort -u >"$scratch/page"
+    comm -13 "$scratch/sources" "$scratch/page" | none 'named in docs/PROVED.md, and not there'
+    comm -23 "$scratch/sources" "$scratch/page" | none 'not named in docs/PROVED.md'
 }
 
-# The clauses that README.md names: a function in code, a colon, and names in code.
+# The README's table of clauses names functions with clauses of theirs, in code with a colon
+# between, and beside these functions, laws, definitions and faults alone.
 readme() {
-    grep -o '`[a-z_:]*`: `[a-z_]*`\(, `[a-z_]*`\)*' "$top/README.md" | tr -d '` ' |
+    awk '/^\| words \| clause \|$/ { is_table = 1 } !/^\|/ { is_table = 0 } is_table' README.md |
+        awk -F '|' '{ print $(NF - 1) }' >"$scratch/table"
+    [[ -s $scratch/table ]] || echo 'the table of clauses' | none 'not in README.md'
+    grep -o '`[a-z_:]*`: `[a-z_]*`\(, `[a-z_]*`\)*' "$scratch/table" | tr -d '` ' |
         awk '{
             at = match($0, /[^:]:[^:]/)
             names = split(substr($0, at + 2), name, ",")
             for (j = 1; j <= names; j++) print substr($0, 1, at), name[j]
-        }' | sort -u >"$scratch/readme"
-    cut -d ' ' -f 2- "$scratch/sources" | sort -u >"$scratch/names"
+        }' | sort -u >"$scratch/pairs"
+    cut -d ' ' -f 2- "$scratch/sources" | sort -u | comm -13 - "$scratch/pairs" |
+        none 'named in README.md, and not there'
+    {
+        cut -d ' ' -f 2 "$scratch/sources"
+        grep -o '[A-Z][A-Za-z0-9]*' "$scratch/clauses.txt"
+    } | sort -u >"$scratch/names"
+    sed 's/: `[a-z_]*`\(, `[a-z_]*`\)*//g' "$scratch/table" | grep -o '`[^`]*`' | tr -d '`' |
+        sort -u | comm -13 "$scratch/names" - |
+        none 'named in README.md, and nowhere in the contracts'
 }
 
 sources
+texts >"$scratch/clauses.txt"
+if [[ ${1-} == --write ]]; then
+    cp "$scratch/clauses.txt" tests/clauses.txt || exit 2
+elif (($# > 0)); then
+    echo 'usage: tests/clauses.sh [--write]' >&2
+    exit 2
+fi
+rules
 page
 readme
-comm -13 "$scratch/sources" "$scratch/page" | none 'named in docs/PROVED.md, and not there'
-comm -23 "$scratch/sources" "$scratch/page" | none 'not named in docs/PROVED.md'
-comm -13 "$scratch/names" "$scratch/readme" | none 'named in README.md, and not there'
+diff tests/clauses.txt "$scratch/clauses.txt" | grep '^[<>]' |
+    none 'other than in tests/clauses.txt (tests/clauses.sh --write writes it anew)'
 
 cat "$scratch/wrong"
 echo "$(wc -l <"$scratch/sources") clauses, $(wc -l <"$scratch/wrong") wrong"

@@ -57,7 +57,7 @@ impl Answer {
     }
 
     /// An answer that fits the room, copied to its front.
-    pub fn placed(answer: &[u8], room: &mut [u8]) -> Answer
+    pub(crate) fn placed(answer: &[u8], room: &mut [u8]) -> Answer
         requires { length answer.now ≤ length room.old }
         ensures status { result.status ≡ OK }
         ensures placed { Places answer.now result room.old room.new }

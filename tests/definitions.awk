@@ -1,0 +1,116 @@
+# The definitions that clauses cite, and those that these cite, a line each: the file and the whole
+# text, with ` | ` where a line of its own begins:
+#   awk -f definitions.awk TEXTS FILE.rt... FILE.antt...
+# TEXTS has the clauses; the names in them are those that the .rt files import. Each .antt file is a
+# module of definitions.
+
+FILENAME == ARGV[1] {
+    cite($0)
+    next
+}
+
+# Imports, which may take several lines in a .rt file.
+/^ *(ghost )?use / { importing = "" ; is_import = 1 }
+is_import {
+    importing = importing " " $0
+    if (FILENAME ~ /\.rt$/ && $0 !~ /;/) next
+    import(importing)
+    is_import = 0
+    is_open = 0
+    next
+}
+FILENAME ~ /\.rt$/ { next }
+
+# A definition begins where a line does, and ends before an empty line or a comment.
+FNR == 1 || /^ *(--.*)?$/ { is_open = 0 }
+/^ *(--.*)?$/ || /^(pub )?mod / { next }
+!is_open {
+    is_open = 1
+    count++
+    file[count] = FILENAME
+    text[count] = $0
+    name = $0
+    sub(/^((abbrev|unfoldable|unfolding|pub|data|record) )*/, "", name)
+    defines(name)
+    next
+}
+{
+    text[count] = text[count] (/^   / ? " " : " | ") substr($0, match($0, /[^ ]/))
+    if (/^  [A-Z]/) defines(substr($0, 3))
+}
+
+# The definition that was read last has this name, which the rest of a line follows.
+function defines(name) {
+    sub(/[ :].*/, "", name)
+    definition[module_of(FILENAME), name] = count
+}
+
+# crates/CRATE/specs/MODULE.antt is Rattle.CRATE.specs.MODULE.
+function module_of(path) {
+    sub(/.*crates\//, "Rattle.", path)
+    sub(/\.antt$/, "", path)
+    gsub(/\//, ".", path)
+    return path
+}
+
+# Notes what an import names: each item, or the module itself.
+function import(line,    module, names, total, i, parts) {
+    sub(/^ *(ghost )?use +/, "", line)
+    gsub(/[;}]/, "", line)
+    module = line
+    if (index(line, "{") == 0) {
+        total = split(line, parts, " as ")
+        sub(/ +$/, "", parts[total])
+        sub(/.*\./, "", parts[total])
+        sub(/ as .*/, "", module)
+        module_named[FILENAME, parts[total]] = module
+        return
+    }
+    sub(/\.?{.*/, "", module)
+    sub(/.*{/, "", line)
+    total = split(line, names, ",")
+    for (i = 1; i <= total; i++) {
+        gsub(/^ +| +$/, "", names[i])
+        parts[2] = ""
+        split(names[i], parts, " as ")
+        item_of[FILENAME, parts[2] == "" ? parts[1] : parts[2]] = module SUBSEP parts[1]
+        if (FILENAME ~ /\.rt$/) importer[parts[2] == "" ? parts[1] : parts[2], ++importers] = FILENAME
+    }
+}
+
+# Notes the names in a clause.
+function cite(line,    names, total, i) {
+    total = split(line, names, /[^A-Za-z0-9_'.-]+/)
+    for (i = 1; i <= total; i++) is_cited[names[i]]
+}
+
+# The definition that a name means in a file, or 0.
+function meant(path, name,    key, parts) {
+    key = module_of(path) SUBSEP name
+    if (key in definition) return definition[key]
+    if ((path, name) in item_of) {
+        key = item_of[path, name]
+        return key in definition ? definition[key] : 0
+    }
+    if (split(name, parts, ".") == 2 && (path, parts[1]) in module_named) {
+        key = module_named[path, parts[1]] SUBSEP parts[2]
+        return key in definition ? definition[key] : 0
+    }
+    return 0
+}
+
+# Reaches a definition, and all that it cites.
+function reach(which,    names, total, i) {
+    if (which == 0 || is_reached[which]) return
+    is_reached[which] = 1
+    total = split(text[which], names, /[^A-Za-z0-9_'.-]+/)
+    for (i = 1; i <= total; i++) reach(meant(file[which], names[i]))
+}
+
+END {
+    for (key in importer) {
+        split(key, parts, SUBSEP)
+        if (parts[1] in is_cited) reach(meant(importer[key], parts[1]))
+    }
+    for (i = 1; i <= count; i++) if (is_reached[i]) print file[i] "\t" text[i]
+}
