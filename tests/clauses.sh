@@ -74,7 +74,7 @@ those() {
 
 # What is said of MUTF-8, as if it were said of CESU-8.
 of_cesu8() {
-    sed 's/Cesu8/(not Mutf8)/g; s/Mutf8/Cesu8/g; s/cesu8_mutf8_/cesu8_/g'
+    sed 's/Cesu8/(Cesu8 of mutf8)/g; s/Mutf8/Cesu8/g; s/cesu8_mutf8_/cesu8_/g'
 }
 
 # What stands twice has to say the same: `same WHAT FILE FILE`, the files of what is told.

@@ -10,7 +10,10 @@ FILENAME == ARGV[1] {
 }
 
 # Imports, which may take several lines in a .rt file.
-/^ *(ghost )?use / { importing = "" ; is_import = 1 }
+/^ *ghost use / || /^use / && FILENAME ~ /\.antt$/ {
+    importing = ""
+    is_import = 1
+}
 is_import {
     importing = importing " " $0
     if (FILENAME ~ /\.rt$/ && $0 !~ /;/) next
@@ -71,6 +74,7 @@ function import(line,    module, names, total, i, parts) {
     total = split(line, names, ",")
     for (i = 1; i <= total; i++) {
         gsub(/^ +| +$/, "", names[i])
+        if (names[i] == "") continue
         parts[2] = ""
         split(names[i], parts, " as ")
         item_of[FILENAME, parts[2] == "" ? parts[1] : parts[2]] = module SUBSEP parts[1]
@@ -112,5 +116,46 @@ END {
         split(key, parts, SUBSEP)
         if (parts[1] in is_cited) reach(meant(importer[key], parts[1]))
     }
-    for (i = 1; i <= count; i++) if (is_reached[i]) print file[i] "\t" text[i]
+    for (i = 1; i <= count; i++) {
+        if (!is_reached[i]) continue
+        print file[i] "\t" text[i]
+        is_used[file[i]]
+    }
+    tell_meanings()
+}
+
+# A name that means one thing here and another there is told with what it means in each file that
+# imports it, so that no import can make a clause mean something else unseen.
+function tell_meanings(    key, parts, item) {
+    for (key in item_of) {
+        split(key, parts, SUBSEP)
+        if (is_told(parts[1], parts[2])) means(parts[2], item_of[key])
+    }
+    for (key in item_of) {
+        split(key, parts, SUBSEP)
+        split(item_of[key], item, SUBSEP)
+        if (meanings[parts[2]] > 1 || item[2] != parts[2])
+            tell_meaning(parts[1], parts[2], item_of[key])
+    }
+    for (key in module_named) {
+        split(key, parts, SUBSEP)
+        tell_meaning(parts[1], parts[2], module_named[key])
+    }
+}
+
+function means(name, what) {
+    if ((name, what) in is_meant) return
+    is_meant[name, what]
+    meanings[name]++
+}
+
+# Whether a file that imports a name has what tests/clauses.txt tells.
+function is_told(path, name) {
+    return path ~ /\.rt$/ ? name in is_cited : path in is_used
+}
+
+function tell_meaning(path, name, what) {
+    if (!is_told(path, name)) return
+    sub(SUBSEP, ".", what)
+    print path "\t" name " is " what | "sort"
 }
