@@ -61,7 +61,7 @@ everything() {
     public_items cesu8_static '' lib.rt
 }
 
-# What is told of the functions whose names begin so, with the rest of the name: `those CRATE BEGIN`.
+# The items of functions whose names begin so, with the rest of the name: `those CRATE BEGIN`.
 those() {
     awk -F '\t' -v OFS='\t' -v crate="$1" -v begin="$2" '
         $1 == crate && $3 != "!item" && index($2, begin) == 1 {
@@ -89,18 +89,21 @@ sources() {
     those simd_cesu8 '' >"$scratch/root"
     those simd_cesu8 mutf8:: | of_cesu8 | sort >"$scratch/mutf8"
     same 'the calls of the root and of mutf8' "$scratch/root" "$scratch/mutf8"
-    for kernel in simd word fallback; do
-        those simd_cesu8 "implementation::$kernel::" >"$scratch/$kernel"
+    those simd_cesu8 implementation::simd:: >"$scratch/simd"
+    for kernel in $(told '!fn' | sed -n 's,^simd_cesu8 implementation::\([a-z]*\)::.*,\1,p' |
+        sort -u); do
+        those simd_cesu8 "implementation::$kernel::" >"$scratch/kernel"
+        same "the kernels simd and $kernel" "$scratch/simd" "$scratch/kernel"
     done
-    same 'the kernels simd and word' "$scratch/simd" "$scratch/word"
-    same 'the kernels word and fallback' "$scratch/word" "$scratch/fallback"
     those cesu8_static '' >"$scratch/exports"
     those cesu8_static mutf8:: | of_cesu8 | sort >"$scratch/exports_mutf8"
     same 'the exports of the two encodings' "$scratch/exports" "$scratch/exports_mutf8"
     awk -F '\t' -v OFS='\t' '
-        $3 != "!item" && $2 ~ /^(mutf8|implementation::(word|fallback))::/ { next }
-        $3 != "!item" { sub(/^implementation::simd::/, "implementation::", $2) }
-        $3 != "!item" { sub(/^java::cesu8_/, "cesu8_", $2) }
+        $3 != "!item" {
+            sub(/^implementation::simd::/, "implementation::", $2)
+            sub(/^java::cesu8_/, "cesu8_", $2)
+            if ($2 ~ /^(mutf8|implementation::[a-z0-9_]+)::/) next
+        }
         { print }
     ' "$scratch/everything" >"$scratch/items"
     awk -F '\t' '$3 !~ /^!/ { print $1, $2, $3 }' "$scratch/items" | sort -u >"$scratch/sources"

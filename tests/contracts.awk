@@ -136,11 +136,11 @@ function item(    taken) {
         function_item()
     else if (text ~ /^(unsafe )?impl[ <]/)
         open_impl()
-    else if (text ~ /^(pub(\([a-z: ]*\))? )?mod [A-Za-z0-9_]+ *{/)
+    else if (text ~ /^(pub(\([a-z: ]*\))? )?mod [A-Za-z0-9_]+ *[{]/)
         open_module()
     else if (text ~ /^ghost [a-z_]+ *=/)
         ghost_member()
-    else if (text ~ /^(pub|ghost|mod|use|type|const|static|extern|struct|enum|trait|macro_rules!?) ?/)
+    else if (text ~ /^(pub|ghost|mod|use|type|const|static|extern|struct|enum|trait)[ (]/)
         other_item()
     else
         unread()
@@ -188,7 +188,7 @@ function open_module(    taken) {
     if (taken !~ /^pub / || is_test) is_hidden = 1
     is_test = 0
     sub(/.*mod /, "", taken)
-    sub(/ *{/, "", taken)
+    sub(/ *[{]/, "", taken)
     inner = inner taken "::"
 }
 

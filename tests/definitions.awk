@@ -19,21 +19,18 @@ is_import {
     if (FILENAME ~ /\.rt$/ && $0 !~ /;/) next
     import(importing)
     is_import = 0
-    is_open = 0
     next
 }
 FILENAME ~ /\.rt$/ { next }
 
-# A definition begins where a line does, and ends before an empty line or a comment.
-FNR == 1 || /^ *(--.*)?$/ { is_open = 0 }
+# A definition begins with its type, and its lines follow that.
 /^ *(--.*)?$/ || /^(pub )?mod / { next }
-!is_open {
-    is_open = 1
+/^(abbrev|unfoldable|pub|data|record) / || /^[^ ]+ : / {
     count++
     file[count] = FILENAME
     text[count] = $0
     name = $0
-    sub(/^((abbrev|unfoldable|unfolding|pub|data|record) )*/, "", name)
+    sub(/^((abbrev|unfoldable|pub|data|record) )*/, "", name)
     defines(name)
     next
 }
@@ -57,7 +54,7 @@ function module_of(path) {
 }
 
 # Notes what an import names: each item, or the module itself.
-function import(line,    module, names, total, i, parts) {
+function import(line,    module, names, total, i, parts, name) {
     sub(/^ *(ghost )?use +/, "", line)
     gsub(/[;}]/, "", line)
     module = line
@@ -69,16 +66,17 @@ function import(line,    module, names, total, i, parts) {
         module_named[FILENAME, parts[total]] = module
         return
     }
-    sub(/\.?{.*/, "", module)
-    sub(/.*{/, "", line)
+    sub(/\.?[{].*/, "", module)
+    sub(/.*[{]/, "", line)
     total = split(line, names, ",")
     for (i = 1; i <= total; i++) {
         gsub(/^ +| +$/, "", names[i])
         if (names[i] == "") continue
         parts[2] = ""
         split(names[i], parts, " as ")
-        item_of[FILENAME, parts[2] == "" ? parts[1] : parts[2]] = module SUBSEP parts[1]
-        if (FILENAME ~ /\.rt$/) importer[parts[2] == "" ? parts[1] : parts[2], ++importers] = FILENAME
+        name = parts[2] == "" ? parts[1] : parts[2]
+        item_of[FILENAME, name] = module SUBSEP parts[1]
+        if (FILENAME ~ /\.rt$/) importer[name, ++importers] = FILENAME
     }
 }
 

@@ -81,7 +81,7 @@ IsAnswer (LossyStrict word) input answer =
 IsAnswer JavaWrite input answer = IsJavaWriteAnswer input answer
 IsAnswer JavaRead input answer = IsJavaReadAnswer input answer
 
--- The command answers such an input with no memory: it borrows the input or a constant, or refuses.
+-- The command can answer such an input with no memory: it borrows the input or a constant, or refuses.
 abbrev pub TakesNoMemory : Command → List ℕ → Type 0
 TakesNoMemory (Encode word) input = IsUtf8 input → ¬ (Any (IsChangedByte (flavor_of word)) input)
 TakesNoMemory (Needs word) input = ⊤

@@ -28,7 +28,7 @@ pub fn run<R: Read, W: Write>(
         (W.contents output.old) (W.contents output.new)) }
     ensures end { OnOk result (IsAtEnd (R.remaining input.new)) }
 
-    // The empty input takes no memory, but for the count of a Java string.
+    // On the empty input want of memory is no fault, but for the count of a Java string.
     ensures empty { R.remaining input.old ≡ Some [] → result ≡ Err RunFault.Memory
         → AreWordsOf JavaWrite words.now }
 

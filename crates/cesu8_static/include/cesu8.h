@@ -46,9 +46,9 @@ struct cesu8_reading {
 // With CESU8_TOO_SMALL no memory was taken, and a room of the length that is told is enough for the
 // answer, if there is one. So a call with a room of the length 0 asks how much is needed.
 //
-// A call takes memory only where its answer is other than its input: one block from malloc, as
-// noted below, which it frees before it returns. No call keeps anything, so calls may run at once
-// in many threads.
+// A call takes memory only to build bytes that do not stand in its input: one block from malloc, as
+// noted below, which it frees before it returns. A call that decodes may take it and then say
+// CESU8_INVALID. No call keeps anything, so calls may run at once in many threads.
 
 // Whether the encoding of UTF-8 is other than it. If not, the text can be used as it is.
 // CESU8_OK, CESU8_NOT_UTF8. No memory.
