@@ -29,7 +29,9 @@ pub fn tells_encoded_length(alloc: Global, text: &str) -> Result<bool, AllocErro
 pub fn tells_lossy_length(alloc: Global, bytes: &[u8]) -> Result<bool, AllocError>
     ensures { IfOk result (λ agree. IsTrue agree) }
 {
-    let length = simd_cesu8::decode_lossy_strict(alloc, bytes)?.as_str().len();
+    let length = simd_cesu8::decode_lossy_strict(alloc, bytes)?
+        .as_str()
+        .len();
     Ok(simd_cesu8::lossy_len(bytes) == Some(length))
 }
 

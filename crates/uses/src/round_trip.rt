@@ -42,7 +42,6 @@ pub fn decode_and_encode(alloc: Global, bytes: &[u8]) -> Result<Vec<u8>, DecodeF
     ensures same { IfOk result (λ back. back.items ≡ bytes.now) }
     ensures invalid { OnInvalid result (HasNoStrictReading Cesu8 bytes.now) }
 {
-    laws::inverse();
     let text = simd_cesu8::decode_strict(alloc, bytes)?;
     match simd_cesu8::encode(alloc, text.as_str()) {
         Ok(encoded) => encoded.into_vec(alloc).map_err(DecodeFault::Memory),
