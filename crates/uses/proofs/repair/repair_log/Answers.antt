@@ -10,9 +10,6 @@ use Rattle.uses.proofs.repair.repair_log.Goals as goal
 is_reading : (c : goal.In-Ok) → chars (answer_text c.in-Ok.text) ≡ reading Cesu8 c.args.log.now
 is_reading c = sym (c.lossy.ensures.strict Cesu8 c.args.log.now _ c.in-Ok.ensures.text)
 
-pub returns-in-Ok-clause-text : goal.returns-in-Ok-clause-text
-returns-in-Ok-clause-text c = is_reading c
-
 pub returns-in-Ok-clause-damaged : goal.returns-in-Ok-clause-damaged
 returns-in-Ok-clause-damaged c = (
   (λ (is_true : IsTrue false). absurd (cc)),
