@@ -7,9 +7,8 @@ use Rattle.uses.proofs.round_trip.encode_and_decode.Goals as goal
 
 pub returns-in-Ok : goal.returns-in-Ok
 returns-in-Ok c =
-    IfOk-weaker _ _ _
-    (λ back is. c.inverse.ensures.decoded Cesu8 c.args.text.now _ (string_bytes back) c.utf8.text (IsUtf8-string_bytes back)
-    (c.as_bytes.ensures ∙ c.in_ok-encoded.ensures.encoding) (rw is c.in-Ok.ensures.text))
+    IfOk-weaker _ _ _ (λ back is. c.inverse.ensures.decoded Cesu8 c.args.text.now _ (string_bytes back) c.utf8.text
+    (IsUtf8-string_bytes back) (c.as_bytes.ensures ∙ c.in_ok-encoded.ensures.encoding) (rw is c.in-Ok.ensures.text))
     c.into_string.ensures.text
 
 pub unreachable-requires : goal.unreachable-requires
