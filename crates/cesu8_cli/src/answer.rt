@@ -12,7 +12,7 @@ ghost use Rattle.cesu8_cli.specs.Answer.{IsAnswer, TakesNoMemory, IsUtf8Fault, I
 use crate::command::{Command, FlavorWord};
 use crate::fault::RunFault;
 use java_text::{read_utf, write_utf};
-use simd_cesu8::{CowBytes, CowText, mutf8};
+use simd_cesu8::{CowBytes, CowText, laws, mutf8};
 use std::alloc::Global;
 use std::str;
 
@@ -45,6 +45,7 @@ fn encode(alloc: Global, flavor: FlavorWord, input: &[u8]) -> Result<CowBytes<'_
     ensures memory { TakesNoMemory (Command.Encode flavor) input.now
         → result ≢ Err RunFault.Memory }
 {
+    laws::unchanged();
     let text = input_text(input)?;
     match flavor {
         FlavorWord::Cesu8 => Ok(simd_cesu8::encode(alloc, text)?),

@@ -120,7 +120,7 @@ fn room_for_strict(flavor: Flavor, bytes: &[u8], room: usize) -> Option<usize>
     ensures at_most { IfSome result (λ needed. needed ≤ length bytes.now) }
     ensures none { IfNone result (HasNoStrictReading (flavor_of flavor) bytes.now) }
 {
-    laws::around();
+    laws::lossy();
     laws::bounds();
     if bytes.len() <= room {
         return Some(bytes.len());

@@ -91,6 +91,7 @@ pub extern "C" fn cesu8_java_read(alloc: Global, bytes: &[u8], room: &mut [u8]) 
     ensures memory { IsUnchangedUtf8 Mutf8 (counted bytes.now) → result.status ≢ OUT_OF_MEMORY }
     ensures none { Leaves (answer_of result) room.old room.new }
 {
+    java_text::laws::parts();
     match counted_bytes(bytes) {
         Some(counted) => {
             let answer = calls::decode_strict(alloc, Flavor::Mutf8, counted, room);

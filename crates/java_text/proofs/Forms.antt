@@ -4,7 +4,7 @@ use Rattle.std.proofs.Math.Seq.{take-append_seam, drop-append_seam, drop-append-
 use Rattle.std.proofs.lemmas.List.{take-append-drop, length-take-le}
 use Rattle.simd_cesu8.specs.Encoding.{Mutf8, encoding}
 use Rattle.simd_cesu8.specs.Reading.{IsStrictReading, HasNoStrictReading}
-use Rattle.simd_cesu8.proofs.Lawful.{round_trip_law}
+use Rattle.simd_cesu8.specs.Laws.{RoundTrip}
 use Rattle.simd_cesu8.specs.Fault as decoding
 use Rattle.simd_cesu8.specs.declared.error.DecodeFault.{DecodeFault}
 use Rattle.simd_cesu8.specs.declared.error.DecodeFault.TheVariants.{Invalid, Memory}
@@ -12,7 +12,7 @@ use Rattle.java_text.specs.Fault.{IfRefused, read_fault_of}
 use Rattle.java_text.specs.Form.{mutf8_len, java_form, BeginsWithForm, NoFormBegins, BeginsOnlyWithForm, count_in, counted, rest_in, IsTruncated}
 
 -- The first two bytes of a form count the others.
-count_in_form : (bytes text rest : List ℕ) → BeginsWithForm bytes text rest → count_in bytes ≡ mutf8_len text
+pub count_in_form : (bytes text rest : List ℕ) → BeginsWithForm bytes text rest → count_in bytes ≡ mutf8_len text
 unfolding java_form
 count_in_form bytes text rest h = rw h.bytes_are (omega arith)
 
@@ -45,10 +45,10 @@ none_begins_truncated bytes t text rest h =
 pub none_begins_invalid : (bytes : List ℕ) → HasNoStrictReading Mutf8 (counted bytes) → NoFormBegins bytes
 none_begins_invalid bytes n text rest h = n text (h.scalars, sym (counted_in_form bytes text rest h))
 
--- Bytes begin with the form of one text at most, and with one rest.
-pub one_form : (bytes text rest : List ℕ) → BeginsWithForm bytes text rest → BeginsOnlyWithForm bytes text rest
-one_form bytes text rest h other more k = (
-  sym ((round_trip_law Mutf8 text h.scalars).2 other k.scalars
+-- Bytes begin with the form of one text at most, and with one rest, since texts with equal encodings are equal.
+pub one_form : RoundTrip → (bytes text rest : List ℕ) → BeginsWithForm bytes text rest → BeginsOnlyWithForm bytes text rest
+one_form round_trip bytes text rest h other more k = (
+  sym ((round_trip Mutf8 text h.scalars).2 other k.scalars
       (sym (counted_in_form bytes text rest h) ∙ counted_in_form bytes other more k)),
   sym (rest_in_form bytes other more k) ∙ rest_in_form bytes text rest h,
 )

@@ -1,8 +1,22 @@
 -- The laws of the form, over the definitions alone.
-use Rattle.std.specs.Prelude.{◌≡◌, ℕ, ◌+◌, ◌≤◌, List, [], ◌∷◌, ◌++◌, length}
+use Rattle.std.specs.Prelude.{◌≡◌, ℕ, ◌+◌, ◌<◌, ◌≤◌, List, [], ◌∷◌, ◌++◌, length, slice_index}
 use Rattle.std.specs.List.{flat_map}
 use Rattle.simd_cesu8.specs.Text.{IsText}
-use Rattle.java_text.specs.Form.{HasForm, java_form, mutf8_len, BeginsWithForm, BeginsOnlyWithForm}
+use Rattle.simd_cesu8.specs.Encoding.{Mutf8}
+use Rattle.simd_cesu8.specs.Reading.{IsStrictReading}
+use Rattle.java_text.specs.Form.{HasForm, java_form, mutf8_len, BeginsWithForm, BeginsOnlyWithForm, count_in, counted, rest_in, IsTruncated}
+
+-- Bytes that a form begins are not truncated, they count the bytes of the text's MUTF-8, the counted
+-- bytes are that, and the rest follows these.
+abbrev pub FormIsCut : Type 0
+FormIsCut = (bytes text rest : List ℕ) → BeginsWithForm bytes text rest →
+    (¬ (IsTruncated bytes)) × (count_in bytes ≡ mutf8_len text)
+    × IsStrictReading Mutf8 (counted bytes) text × (rest ≡ rest_in bytes)
+
+-- And bytes that are not truncated, and count bytes that are the MUTF-8 of a text, begin with its form.
+abbrev pub PartsAreForm : Type 0
+PartsAreForm = (bytes text : List ℕ) → ((i : ℕ) → slice_index bytes i < 0x100) → ¬ (IsTruncated bytes) →
+    IsStrictReading Mutf8 (counted bytes) text → BeginsWithForm bytes text (rest_in bytes)
 
 -- Bytes begin with the form of one text at most, and with one rest.
 abbrev pub OneForm : Type 0

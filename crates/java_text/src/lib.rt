@@ -115,6 +115,7 @@ pub fn read_utf(alloc: Global, bytes: &[u8]) -> Result<(CowText<'_>, &[u8]), Rea
         → IsOk result }
     ensures capacity { BuildsTextOfCapacity (text_of result) (count_in bytes.now) }
 {
+    laws::one_form();
     let (counted, rest) = split_counted(bytes)?;
     Ok((mutf8::decode_strict(alloc, counted)?, rest))
 }

@@ -45,6 +45,7 @@ pub mod Cuttings
 pub mod Costs
 pub mod Splits
 pub mod EncodedTexts
+pub mod LossyTexts
 pub mod Below
 pub mod UnitOrder
 pub mod LossyBorrowing

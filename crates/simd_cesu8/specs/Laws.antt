@@ -2,10 +2,12 @@
 use Rattle.std.specs.Prelude.{◌≡◌, ℕ, ◌+◌, ◌*◌, ◌<◌, ◌≤◌, ◌≢◌, ◌⊎◌, ◌↔◌, List, [], ◌∷◌, ◌++◌, length, All}
 use Rattle.std.specs.Ordering.{MatchOrdering, nat_cmp}
 use Rattle.std.specs.Cmp.Lexicographic.{slice_cmp}
+use Rattle.std.specs.Str.{chars, IsUtf8}
 use Rattle.simd_cesu8.specs.Text.{IsText, utf8, IsUtf8Of}
 use Rattle.simd_cesu8.specs.Utf16.{units}
 use Rattle.simd_cesu8.specs.Encoding.{Flavor, Cesu8, Mutf8, encoding, NeedsEncoding}
-use Rattle.simd_cesu8.specs.Reading.{IsStrictReading, StandsAt, width, IsMark, mark, reading}
+use Rattle.simd_cesu8.specs.Class.{IsUnchangedUtf8}
+use Rattle.simd_cesu8.specs.Reading.{IsStrictReading, HasNoStrictReading, StandsAt, width, IsMark, mark, reading}
 use Rattle.simd_cesu8.specs.Cutting.{Piece, IsCutting, IsGreedy, text_of, cost}
 use Rattle.simd_cesu8.specs.Order.{IsBelow, ExactlyOne, ComparesAs}
 
@@ -15,6 +17,33 @@ RoundTrip = (f : Flavor) (text : List ℕ) → IsText text →
     IsStrictReading f (encoding f text) text
     × ((other : List ℕ) → IsStrictReading f (encoding f text) other → other ≡ text)
     × ((other : List ℕ) → IsText other → encoding f text ≡ encoding f other → text ≡ other)
+
+-- The characters of a string are a text,
+abbrev pub CharsAreText : Type 0
+CharsAreText = (string : List ℕ) → IsUtf8 string → IsText (chars string)
+
+-- its bytes are the UTF-8 of that,
+abbrev pub CharsInUtf8 : Type 0
+CharsInUtf8 = (string : List ℕ) → IsUtf8 string → utf8 (chars string) ≡ string
+
+-- and strings with equal characters have equal bytes.
+abbrev pub SameBytes : Type 0
+SameBytes = (string other : List ℕ) → IsUtf8 string → IsUtf8 other → chars string ≡ chars other → string ≡ other
+
+-- Strictly decoded, the encoding of a string gives back the string,
+abbrev pub DecodedBack : Type 0
+DecodedBack = (f : Flavor) (string bytes back : List ℕ) → IsUtf8 string → IsUtf8 back →
+    bytes ≡ encoding f (chars string) → IsStrictReading f bytes (chars back) → back ≡ string
+
+-- and is never refused.
+abbrev pub NotRefused : Type 0
+NotRefused = (f : Flavor) (string bytes : List ℕ) → IsUtf8 string →
+    bytes ≡ encoding f (chars string) → ¬ (HasNoStrictReading f bytes)
+
+-- Encoded, what was strictly decoded gives back the bytes.
+abbrev pub EncodedBack : Type 0
+EncodedBack = (f : Flavor) (bytes string back : List ℕ) →
+    IsStrictReading f bytes (chars string) → back ≡ encoding f (chars string) → back ≡ bytes
 
 -- The encoding of a concatenation is the concatenation of the encodings.
 abbrev pub Concat : Type 0
@@ -27,6 +56,16 @@ SameText = (f : Flavor) (bytes text other : List ℕ) → IsUtf8Of text bytes �
 -- Nothing needs encoding exactly where the encoding is the UTF-8.
 abbrev pub Needs : Type 0
 Needs = (f : Flavor) (text : List ℕ) → IsText text → (¬ (NeedsEncoding f text)) ↔ (encoding f text ≡ utf8 text)
+
+-- And exactly where the encoding is UTF-8 without a byte of the class.
+abbrev pub UnchangedEncoding : Type 0
+UnchangedEncoding = (f : Flavor) (text : List ℕ) → IsText text →
+    (¬ (NeedsEncoding f text)) ↔ IsUnchangedUtf8 f (encoding f text)
+
+-- So it is told from the bytes of a string.
+abbrev pub UnchangedString : Type 0
+UnchangedString = (f : Flavor) (string : List ℕ) → IsUtf8 string →
+    (¬ (NeedsEncoding f (chars string))) ↔ IsUnchangedUtf8 f string
 
 -- No byte of MUTF-8 is 0, and no byte of an encoding is F0 (hexadecimal) or more.
 abbrev pub NoZero : Type 0
@@ -80,6 +119,27 @@ abbrev pub Fewest : Type 0
 Fewest = (f : Flavor) (bytes : List ℕ) → (pieces : List Piece) ×
     IsCutting f bytes pieces × IsGreedy f pieces × (text_of pieces ≡ reading f bytes)
     × ((other : List Piece) → IsCutting f bytes other → (other ≡ pieces) ⊎ (cost pieces < cost other))
+
+-- The lossy reading of any bytes is a text,
+abbrev pub ReadingIsText : Type 0
+ReadingIsText = (f : Flavor) (bytes : List ℕ) → IsText (reading f bytes)
+
+-- that of an encoding is the text that was encoded,
+abbrev pub ReadingOfEncoding : Type 0
+ReadingOfEncoding = (f : Flavor) (text : List ℕ) → IsText text → reading f (encoding f text) ≡ text
+
+-- so what was read is, encoded, read as itself.
+abbrev pub ReadAgain : Type 0
+ReadAgain = (f : Flavor) (bytes : List ℕ) → reading f (encoding f (reading f bytes)) ≡ reading f bytes
+
+-- Where bytes have a strict reading, the lossy reading is it.
+abbrev pub LossyIsStrict : Type 0
+LossyIsStrict = (f : Flavor) (bytes text : List ℕ) → IsStrictReading f bytes text → reading f bytes ≡ text
+
+-- They have one where the lossy reading holds no U+FFFD. (One that it holds may also be encoded in the bytes.)
+abbrev pub NothingReplaced : Type 0
+NothingReplaced = (f : Flavor) (bytes : List ℕ) → All (λ c. c ≢ 0xFFFD) (reading f bytes) →
+    IsStrictReading f bytes (reading f bytes)
 
 -- No encoded character begins in the front and ends in the back.
 abbrev pub NoneCrosses : Flavor → List ℕ → List ℕ → Type 0

@@ -4,9 +4,17 @@
 
 ghost use Rattle.simd_cesu8.specs.Laws.{
   RoundTrip,
+  CharsAreText,
+  CharsInUtf8,
+  SameBytes,
+  DecodedBack,
+  NotRefused,
+  EncodedBack,
   Concat,
   SameText,
   Needs,
+  UnchangedEncoding,
+  UnchangedString,
   NoZero,
   Bounds,
   NoOverlap,
@@ -14,6 +22,11 @@ ghost use Rattle.simd_cesu8.specs.Laws.{
   Places,
   HasGreedyCutting,
   Fewest,
+  ReadingIsText,
+  ReadingOfEncoding,
+  ReadAgain,
+  LossyIsStrict,
+  NothingReplaced,
   Split,
   HalvesJoin,
   Around,
@@ -32,6 +45,22 @@ pub fn round_trip()
     ensures { RoundTrip }
 {}
 
+/// The characters of a `&str` are a text, its bytes are their UTF-8, and two strings with equal
+/// characters have equal bytes.
+pub fn chars()
+    ensures text { CharsAreText }
+    ensures utf8 { CharsInUtf8 }
+    ensures same_bytes { SameBytes }
+{}
+
+/// `decode_strict` after `encode` gives back the string that went in, and never refuses it, and
+/// `encode` after `decode_strict` gives back the bytes that went in.
+pub fn inverse()
+    ensures decoded { DecodedBack }
+    ensures not_refused { NotRefused }
+    ensures encoded { EncodedBack }
+{}
+
 /// The encoding of a concatenation is the concatenation of the encodings.
 pub fn concat()
     ensures { Concat }
@@ -45,6 +74,13 @@ pub fn same_text()
 /// Nothing needs encoding exactly where the encoding is the text's UTF-8.
 pub fn needs()
     ensures { Needs }
+{}
+
+/// Nothing needs encoding exactly where the encoding is UTF-8 without a byte of the class: of a
+/// text, and of a `&str`, whose own bytes tell it.
+pub fn unchanged()
+    ensures encoding { UnchangedEncoding }
+    ensures string { UnchangedString }
 {}
 
 /// A MUTF-8 encoding holds no byte 00, and no encoding holds a byte of F0 (hexadecimal) or more.
@@ -79,6 +115,17 @@ pub fn places()
 /// replaces the fewest bytes.
 pub fn fewest()
     ensures { Fewest }
+{}
+
+/// The lossy reading of any bytes is a text, that of an encoding is the text that was encoded, and
+/// so it is itself when it is encoded and read again. Where bytes have a strict reading, the lossy
+/// reading is it, and where that holds no U+FFFD they have one.
+pub fn lossy()
+    ensures text { ReadingIsText }
+    ensures encoding { ReadingOfEncoding }
+    ensures again { ReadAgain }
+    ensures strict { LossyIsStrict }
+    ensures undamaged { NothingReplaced }
 {}
 
 /// The lossy reading of bytes a and then b is that of a and then that of b exactly where no encoded

@@ -1,12 +1,16 @@
 -- A log loses bytes exactly where it is no encoding.
 use Rattle.std.proofs.Common.{◌≡◌, ℕ, List, [], ◌∷◌, ◌++◌, map, refl, sym, ap, ◌∙◌, subst, arith}
 use Rattle.simd_cesu8.specs.Text.{IsText}
-use Rattle.simd_cesu8.specs.Encoding.{Cesu8, encoding}
+use Rattle.simd_cesu8.specs.Encoding.{Flavor, Cesu8, encoding}
 use Rattle.simd_cesu8.specs.Reading.{IsStrictReading, HasNoStrictReading}
 use Rattle.simd_cesu8.specs.Cutting.{Piece, Character, Replaced, IsCutting, ArePieces, bytes_of, text_of, cost}
 use Rattle.simd_cesu8.specs.Laws.{Concat}
 use Rattle.uses.specs.Repair.{LosesBytes}
-use Rattle.uses.proofs.WholeText.{nothing}
+
+-- Nothing is encoded as nothing.
+nothing : (f : Flavor) → encoding f [] ≡ []
+unfolding encoding
+nothing f = refl
 
 -- A cutting that replaces nothing is the encoding of its text.
 read_from_free : Concat → (pieces : List Piece) → ArePieces pieces → cost pieces ≡ 0 →

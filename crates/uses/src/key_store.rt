@@ -32,6 +32,7 @@ pub fn put_value(alloc: Global, store: &mut Store, key: &str, value: u64) -> Res
     ensures err { OnErr result (IsUnchanged store.old store.new) }
     ensures order { OnOk result (IsInUtf16Order store.new) }
 {
+    laws::chars();
     laws::round_trip();
     laws::order();
     laws::dictionary_order();

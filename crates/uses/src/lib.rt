@@ -5,16 +5,26 @@
 //! as `laws::concat()`, a call that does nothing. docs/CALLING.md explains them.
 #![tactic(auto)]
 
+mod agreement;
 mod class_file;
 mod key_store;
+mod keys;
 mod many_texts;
 mod repair;
+mod round_trip;
 mod string_file;
 
+pub use crate::agreement::{
+    append_and_encode, decodes_to_same, needs_or_borrows, tells_encoded_length, tells_lossy_length,
+};
 pub use crate::class_file::{ConstantFault, read_utf8_constant};
 pub use crate::key_store::{Store, get_value, put_value};
+pub use crate::keys::{compare_as_utf16, key_without_zero};
 pub use crate::many_texts::append_all;
-pub use crate::repair::{Repaired, repair_log};
+pub use crate::repair::{Repaired, repair_log, rewrite_log};
+pub use crate::round_trip::{
+    decode_and_encode, encode_and_decode, encode_and_read, write_and_read,
+};
 pub use crate::string_file::copy_strings;
 
 #[cfg(test)]

@@ -1,6 +1,6 @@
 //! The repair of a damaged log.
 
-ghost use Rattle.std.specs.Prelude.{◌≡◌, ◌↔◌, IsTrue, IfOk, IsOk};
+ghost use Rattle.std.specs.Prelude.{◌≡◌, ◌≢◌, ◌↔◌, ℕ, List, All, IsTrue, IfOk, IsOk};
 ghost use Rattle.std.specs.Str.{chars};
 ghost use Rattle.simd_cesu8.specs.Class.{IsUnchangedUtf8};
 ghost use Rattle.simd_cesu8.specs.Encoding.{Cesu8};
@@ -45,7 +45,7 @@ pub fn repair_log(alloc: Global, log: &[u8]) -> Result<Repaired<'_>, AllocError>
     ensures succeeds { IsUnchangedUtf8 Cesu8 log.now → IsOk result }
 {
     laws::concat();
-    laws::around();
+    laws::lossy();
     laws::middle();
     laws::fewest();
     match simd_cesu8::decode_strict(alloc, log) {
@@ -59,4 +59,28 @@ pub fn repair_log(alloc: Global, log: &[u8]) -> Result<Repaired<'_>, AllocError>
         }),
         Err(DecodeFault::Memory(error)) => Err(error),
     }
+}
+
+/// A log again, in which every byte that could not be read is an encoded U+FFFD.
+///
+/// It is the CESU-8 of the log's reading, so it is not damaged, and its own reading is the same. A
+/// log that was not damaged stays as it was, and so does one in whose reading no U+FFFD stands.
+///
+/// ```rust
+/// let rewritten = uses::rewrite_log(alloc, b"one\n\xEDtwo\n")?;
+/// assert_eq!(rt; rewritten.as_slice(), b"one\n\xEF\xBF\xBDtwo\n".as_slice());
+/// ```
+pub fn rewrite_log(alloc: Global, log: &[u8]) -> Result<Vec<u8>, AllocError>
+    ensures strict { IfOk result (λ rewritten.
+        IsStrictReading Cesu8 rewritten.items (reading Cesu8 log.now)) }
+    ensures again { IfOk result (λ rewritten.
+        reading Cesu8 rewritten.items ≡ reading Cesu8 log.now) }
+    ensures whole { (text : List ℕ) → IsStrictReading Cesu8 log.now text
+        → IfOk result (λ rewritten. rewritten.items ≡ log.now) }
+    ensures clean { All (λ c. c ≢ 0xFFFD) (reading Cesu8 log.now)
+        → IfOk result (λ rewritten. rewritten.items ≡ log.now) }
+{
+    laws::lossy();
+    let text = simd_cesu8::decode_lossy_strict(alloc, log)?;
+    simd_cesu8::encode(alloc, text.as_str())?.into_vec(alloc)
 }

@@ -3,9 +3,13 @@
 //! 26.
 
 use crate::{
-    ConstantFault, append_all, copy_strings, get_value, put_value, read_utf8_constant, repair_log,
+    ConstantFault, append_all, append_and_encode, compare_as_utf16, copy_strings,
+    decode_and_encode, decodes_to_same, encode_and_decode, encode_and_read, get_value,
+    key_without_zero, needs_or_borrows, put_value, read_utf8_constant, repair_log, rewrite_log,
+    tells_encoded_length, tells_lossy_length, write_and_read,
 };
-use java_text::ReadFault;
+use java_text::{ReadFault, WriteFault};
+use std::cmp::Ordering;
 use std::collections::BTreeMap;
 use std::test::Fail;
 
@@ -116,6 +120,26 @@ fn repairs_logs(rt: HostRuntime) -> Result<(), Fail> {
 }
 
 #[test]
+fn rewrites_logs(rt: HostRuntime) -> Result<(), Fail> {
+    // A log, and the log again.
+    let rows: [(&[u8], &[u8]); 4] = [
+        (b"one\ntwo\n", b"one\ntwo\n"),
+        (b"\xED\xA0\xBD\xED\xB2\x96", b"\xED\xA0\xBD\xED\xB2\x96"),
+        (b"\xEF\xBF\xBD\n", b"\xEF\xBF\xBD\n"),
+        (b"one\n\xE2\x82two", b"one\n\xEF\xBF\xBD\xEF\xBF\xBDtwo"),
+    ];
+    for (log, want) in rows {
+        let rewritten = rewrite_log(rt.alloc(), log)?;
+        assert_eq!(rt; rewritten.as_slice(), want, "of {log:?}");
+        assert!(rt;
+            !repair_log(rt.alloc(), rewritten.as_slice())?.is_damaged,
+            "of {log:?}"
+        );
+    }
+    Ok(())
+}
+
+#[test]
 fn copies_all_strings_or_none(rt: HostRuntime) -> Result<(), Fail> {
     // A source, and how many strings it holds.
     let rows: [(&[u8], usize); 4] = [
@@ -137,5 +161,80 @@ fn copies_all_strings_or_none(rt: HostRuntime) -> Result<(), Fail> {
         assert!(rt; copied.is_err(), "of {source:?}");
         assert_eq!(rt; target.as_slice(), b"\x01\x02".as_slice(), "of {source:?}");
     }
+    Ok(())
+}
+
+// Texts of each length of an encoded character.
+const TEXTS: [&str; 5] = [
+    "",
+    "a\0",
+    "\u{7FF}",
+    "\u{20AC}\u{FFFF}",
+    "a\u{1F496}\u{10FFFF}",
+];
+
+#[test]
+fn gives_back_what_went_in(rt: HostRuntime) -> Result<(), Fail> {
+    for text in TEXTS {
+        let back = encode_and_decode(rt.alloc(), text)?;
+        assert_eq!(rt; back.as_str(), text);
+        let back = encode_and_read(rt.alloc(), text)?;
+        assert_eq!(rt; back.as_str(), text);
+        let back = write_and_read(rt.alloc(), text, b"\xFF").or(Err("is refused"))?;
+        assert_eq!(rt; back.as_str(), text);
+    }
+    let bytes = b"a\xED\xA0\xBD\xED\xB2\x96".as_slice();
+    let back = decode_and_encode(rt.alloc(), bytes).or(Err("is refused"))?;
+    assert_eq!(rt; back.as_slice(), bytes);
+    assert!(rt; decode_and_encode(rt.alloc(), b"\xF0\x9F\x92\x96").is_err());
+    Ok(())
+}
+
+#[test]
+fn refuses_to_write_what_has_no_form(rt: HostRuntime) -> Result<(), Fail> {
+    let mut long = String::new(rt.alloc());
+    for _ in 0..32_768 {
+        long.push_str("\0")?;
+    }
+    let refused = write_and_read(rt.alloc(), long.as_str(), b"");
+    assert!(rt; matches!(refused, Err(WriteFault::TooLong(65_536))));
+    Ok(())
+}
+
+#[test]
+fn makes_keys(rt: HostRuntime) -> Result<(), Fail> {
+    let key = key_without_zero(rt.alloc(), "a\0\u{1F496}")?;
+    assert_eq!(rt;
+        key.as_slice(),
+        b"a\xC0\x80\xED\xA0\xBD\xED\xB2\x96".as_slice()
+    );
+    // Java's `compareTo`: the code unit D83D is below FFFF.
+    let rows = [
+        ("A", "A", Ordering::Equal),
+        ("\0", "A", Ordering::Less),
+        ("\u{FFFF}", "\u{1F496}", Ordering::Greater),
+    ];
+    for (text, other, want) in rows {
+        let ordering = compare_as_utf16(rt.alloc(), text, other)?;
+        assert_eq!(rt; ordering, want, "of {text:?} and {other:?}");
+    }
+    Ok(())
+}
+
+#[test]
+fn tells_what_other_calls_answer(rt: HostRuntime) -> Result<(), Fail> {
+    for text in TEXTS {
+        assert!(rt; needs_or_borrows(rt.alloc(), text)?, "of {text:?}");
+        assert!(rt; tells_encoded_length(rt.alloc(), text)?, "of {text:?}");
+        assert!(rt;
+            tells_lossy_length(rt.alloc(), text.as_bytes())?,
+            "of {text:?}"
+        );
+        assert!(rt; decodes_to_same(rt.alloc(), text)?, "of {text:?}");
+    }
+    let mut buf = vec![in rt.alloc(); b'=']?;
+    let encoded = append_and_encode(rt.alloc(), "\u{10400}", &mut buf)?;
+    assert_eq!(rt; encoded.as_slice(), b"\xED\xA0\x81\xED\xB0\x80".as_slice());
+    assert_eq!(rt; buf.as_slice(), b"=\xED\xA0\x81\xED\xB0\x80".as_slice());
     Ok(())
 }

@@ -122,20 +122,25 @@ fn show_error(rt: &HostRuntime, error: DecodingError) -> io::Result<()> {
 /// Calls the function of each law.
 fn use_laws() {
     laws::round_trip();
+    laws::chars();
+    laws::inverse();
     laws::concat();
     laws::same_text();
     laws::needs();
+    laws::unchanged();
     laws::no_zero();
     laws::bounds();
     laws::no_overlap();
     laws::one_mark();
     laws::places();
     laws::fewest();
+    laws::lossy();
     laws::split();
     laws::around();
     laws::middle();
     laws::dictionary_order();
     laws::order();
+    java_text::laws::parts();
     java_text::laws::one_form();
     java_text::laws::no_form_begins_another();
     java_text::laws::sequence();

@@ -5,7 +5,7 @@ use Rattle.simd_cesu8.specs.Encoding.{Mutf8}
 use Rattle.simd_cesu8.specs.Fault.{IfInvalid}
 use Rattle.simd_cesu8.specs.Reading.{IsStrictReading, HasNoStrictReading}
 use Rattle.java_text.specs.Form.{BeginsWithForm}
-use Rattle.java_text.proofs.Forms.{none_begins_truncated, refused_as, one_form, begins_with_form}
+use Rattle.java_text.proofs.Forms.{none_begins_truncated, refused_as, begins_with_form}
 use Rattle.java_text.proofs.read_utf.Goals as goal
 
 pub returns-in_err-counted-clause-refused : goal.returns-in_err-counted-clause-refused
@@ -31,4 +31,4 @@ pub returns-clause-text : goal.returns-clause-text
 returns-clause-text c = begins c
 
 pub returns-clause-only : goal.returns-clause-only
-returns-clause-only c = one_form _ _ _ (begins c)
+returns-clause-only c = c.one_form.ensures _ _ _ (begins c)

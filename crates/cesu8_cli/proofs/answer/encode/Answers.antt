@@ -18,11 +18,11 @@ returns-in_ok-encode-in-Mutf8-clause-ok c =
 pub returns-in_err-encode-in-Cesu8-clause-memory : goal.returns-in_err-encode-in-Cesu8-clause-memory
 returns-in_err-encode-in-Cesu8-clause-memory c none _ =
     cc (c.in_err-encode-in-Cesu8.ensures.succeeds
-    (needs_none c.args.flavor Cesu8 c.args.input.now (chars c.in_ok-text.text.now)
+    (needs_none c.unchanged.ensures.string c.args.flavor Cesu8 c.args.input.now (chars c.in_ok-text.text.now)
     (ap flavor_of c.in-Cesu8.is) c.in_ok-text.ensures.ok none))
 
 pub returns-in_err-encode-in-Mutf8-clause-memory : goal.returns-in_err-encode-in-Mutf8-clause-memory
 returns-in_err-encode-in-Mutf8-clause-memory c none _ =
     cc (c.in_err-encode-in-Mutf8.ensures.succeeds
-    (needs_none c.args.flavor Mutf8 c.args.input.now (chars c.in_ok-text.text.now)
+    (needs_none c.unchanged.ensures.string c.args.flavor Mutf8 c.args.input.now (chars c.in_ok-text.text.now)
     (ap flavor_of c.in-Mutf8.is) c.in_ok-text.ensures.ok none))

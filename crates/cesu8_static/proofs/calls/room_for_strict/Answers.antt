@@ -11,7 +11,7 @@ returns-then-bytes-room-clause-readings c text reads = (
 
 pub returns-in-Some-clause-readings : goal.returns-in-Some-clause-readings
 returns-in-Some-clause-readings c text reads =
-    let same = strict_length (flavor_of c.args.flavor) c.args.bytes.now text c.around.ensures reads in
+    let same = strict_length c.lossy.ensures.strict (flavor_of c.args.flavor) c.args.bytes.now text reads in
     (omega (arith, same, c.in-Some.ensures.some), λ _. c.in-Some.ensures.some ∙ sym same)
 
 pub returns-in_default-clause-none : goal.returns-in_default-clause-none
@@ -20,7 +20,7 @@ returns-in_default-clause-none c text reads =
       arith,
       c.if-length-bytes.false,
       c.in-Some.ensures.some,
-      strict_length (flavor_of c.args.flavor) c.args.bytes.now text c.around.ensures reads,
+      strict_length c.lossy.ensures.strict (flavor_of c.args.flavor) c.args.bytes.now text reads,
       c.bounds.ensures.1 (flavor_of c.args.flavor) c.args.bytes.now text reads,
     )
 
@@ -29,6 +29,6 @@ returns-in_default-2-clause-none c text reads =
     omega (
       arith,
       c.in_default.ensures.none,
-      strict_length (flavor_of c.args.flavor) c.args.bytes.now text c.around.ensures reads,
+      strict_length c.lossy.ensures.strict (flavor_of c.args.flavor) c.args.bytes.now text reads,
       c.bounds.ensures.1 (flavor_of c.args.flavor) c.args.bytes.now text reads,
     )

@@ -1,5 +1,4 @@
 use Rattle.std.proofs.Common.{ap, sym, subst, ◌∙◌, arith}
-use Rattle.java_text.proofs.Forms.{none_begins_truncated}
 use Rattle.cesu8_static.specs.Answers.{PlacesReading, AsksRoomFor}
 use Rattle.cesu8_static.proofs.Forms.{IsTextOfForm, form_places, form_asks}
 use Rattle.cesu8_static.proofs.java.cesu8_java_read.Goals as goal
@@ -9,7 +8,7 @@ returns-in-Some-clause-ok c ok =
     let of = c.of.ensures.answer in
     subst (λ answer. PlacesReading (IsTextOfForm c.args.bytes.now) answer c.args.room.now c.decode_strict-answer.new.room)
     (sym of)
-    (form_places c.args.bytes.now c.in-Some.counted.now c.decode_strict-answer.result c.args.room.now c.decode_strict-answer.new.room
+    (form_places c.parts.ensures.joined c.args.bytes.now c.in-Some.counted.now c.decode_strict-answer.result c.args.room.now c.decode_strict-answer.new.room
     (λ i. omega (arith, c.type_inv.bytes i)) c.in-Some.ensures.whole c.in-Some.ensures.some
     (c.decode_strict-answer.ensures.ok (ap (λ answer. answer.status) (sym of) ∙ ok)))
 
@@ -17,9 +16,9 @@ pub returns-in-Some-clause-too_small : goal.returns-in-Some-clause-too_small
 returns-in-Some-clause-too_small c =
     subst (λ answer. AsksRoomFor (IsTextOfForm c.args.bytes.now) answer c.args.room.now)
     (sym c.of.ensures.answer)
-    (form_asks c.args.bytes.now c.in-Some.counted.now c.decode_strict-answer.result c.args.room.now
+    (form_asks c.parts.ensures.cut c.args.bytes.now c.in-Some.counted.now c.decode_strict-answer.result c.args.room.now
     c.in-Some.ensures.some c.decode_strict-answer.ensures.too_small)
 
 pub returns-in-None-clause-too_small : goal.returns-in-None-clause-too_small
 returns-in-None-clause-too_small c text form =
-    absurd (none_begins_truncated c.args.bytes.now c.in-None.ensures.none text _ form)
+    absurd ((c.parts.ensures.cut c.args.bytes.now text _ form).0 c.in-None.ensures.none)

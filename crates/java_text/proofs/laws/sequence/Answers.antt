@@ -2,4 +2,4 @@ use Rattle.java_text.proofs.Lawful.{sequence_law}
 use Rattle.java_text.proofs.laws.sequence.Goals as goal
 
 pub returns : goal.returns
-returns c = sequence_law
+returns c = sequence_law c.one_form.ensures

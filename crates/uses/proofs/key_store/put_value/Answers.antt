@@ -1,13 +1,12 @@
 use Rattle.std.proofs.Common.{◌∙◌}
 use Rattle.std.specs.Str.{chars}
 use Rattle.uses.proofs.OrderedKeys.{in_utf16_order, others_stay}
-use Rattle.uses.proofs.Texts.{is_text_of_str}
 use Rattle.uses.proofs.key_store.put_value.Goals as goal
 
 pub returns-clause-others : goal.returns-clause-others
 returns-clause-others c other is_other differ =
     others_stay c.dictionary_order.ensures.slices c.round_trip.ensures (chars c.args.key.now) other
-    (is_text_of_str c.args.key.now c.utf8.key) is_other differ c.in_ok-encoded.encoded
+    (c.chars.ensures.text c.args.key.now c.utf8.key) is_other differ c.in_ok-encoded.encoded
     (c.in_ok-encoded.ensures.bytes ∙ c.in_ok-encode.ensures.encoding)
     c.args.store.now c.insert.new.self _ c.in_ok-insert.ensures.updates
 

@@ -4,18 +4,11 @@ use Rattle.simd_cesu8.specs.Cow.{answer_text}
 use Rattle.simd_cesu8.specs.Encoding.{Cesu8}
 use Rattle.simd_cesu8.specs.Reading.{reading}
 use Rattle.uses.proofs.LostBytes.{loses_bytes, loses_none}
-use Rattle.uses.proofs.WholeText.{reading-encoding}
 use Rattle.uses.proofs.repair.repair_log.Goals as goal
 
 -- The strict reading is the lossy one.
 is_reading : (c : goal.In-Ok) → chars (answer_text c.in-Ok.text) ≡ reading Cesu8 c.args.log.now
-is_reading c =
-    let text = chars (answer_text c.in-Ok.text) in
-    sym (reading-encoding c.around.ensures Cesu8 text c.in-Ok.ensures.text.0)
-    ∙ ap (reading Cesu8) c.in-Ok.ensures.text.1
-
-pub returns-in-Ok-clause-text : goal.returns-in-Ok-clause-text
-returns-in-Ok-clause-text c = is_reading c
+is_reading c = sym (c.lossy.ensures.strict Cesu8 c.args.log.now _ c.in-Ok.ensures.text)
 
 pub returns-in-Ok-clause-damaged : goal.returns-in-Ok-clause-damaged
 returns-in-Ok-clause-damaged c = (

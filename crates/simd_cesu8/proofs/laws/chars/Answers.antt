@@ -1,0 +1,5 @@
+use Rattle.simd_cesu8.proofs.Lawful.{chars_are_text_law, chars_in_utf8_law, same_bytes_law}
+use Rattle.simd_cesu8.proofs.laws.chars.Goals as goal
+
+pub returns : goal.returns
+returns c = record { text = chars_are_text_law; utf8 = chars_in_utf8_law; same_bytes = same_bytes_law }

@@ -1,0 +1,5 @@
+use Rattle.simd_cesu8.proofs.Lawful.{decoded_back_law, not_refused_law, encoded_back_law}
+use Rattle.simd_cesu8.proofs.laws.inverse.Goals as goal
+
+pub returns : goal.returns
+returns c = record { decoded = decoded_back_law; not_refused = not_refused_law; encoded = encoded_back_law }

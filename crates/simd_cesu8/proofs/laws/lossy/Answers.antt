@@ -1,0 +1,13 @@
+use Rattle.simd_cesu8.proofs.EncodedTexts.{reading_encoding}
+use Rattle.simd_cesu8.proofs.Lawful.{read_again_law, lossy_is_strict_law}
+use Rattle.simd_cesu8.proofs.LossyTexts.{reading_is_text, nothing_replaced}
+use Rattle.simd_cesu8.proofs.laws.lossy.Goals as goal
+
+pub returns : goal.returns
+returns c = record {
+  text = reading_is_text;
+  encoding = reading_encoding;
+  again = read_again_law;
+  strict = lossy_is_strict_law;
+  undamaged = nothing_replaced;
+}

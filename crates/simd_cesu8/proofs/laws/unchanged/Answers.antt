@@ -1,0 +1,5 @@
+use Rattle.simd_cesu8.proofs.Lawful.{unchanged_encoding_law, unchanged_string_law}
+use Rattle.simd_cesu8.proofs.laws.unchanged.Goals as goal
+
+pub returns : goal.returns
+returns c = record { encoding = unchanged_encoding_law; string = unchanged_string_law }

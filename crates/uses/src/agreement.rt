@@ -1,0 +1,66 @@
+//! Calls that tell what other calls answer. Each function asks both, and its answer is always yes.
+
+ghost use Rattle.std.specs.Prelude.{◌≡◌, ◌++◌, IfOk, IsOk, IsTrue};
+ghost use Rattle.std.specs.Str.{chars};
+ghost use Rattle.simd_cesu8.specs.Encoding.{Cesu8, NeedsEncoding};
+
+use simd_cesu8::{DecodeFault, laws};
+use std::alloc::{AllocError, Global};
+
+/// Whether `encode` borrows exactly where `needs_encoded` says no.
+pub fn needs_or_borrows(alloc: Global, text: &str) -> Result<bool, AllocError>
+    ensures { IfOk result (λ agree. IsTrue agree) }
+{
+    laws::chars();
+    laws::needs();
+    let is_borrowed = simd_cesu8::encode(alloc, text)?.is_borrowed();
+    Ok(is_borrowed != simd_cesu8::needs_encoded(text))
+}
+
+/// Whether `encoded_len` is the length of what `encode` answers.
+pub fn tells_encoded_length(alloc: Global, text: &str) -> Result<bool, AllocError>
+    ensures { IfOk result (λ agree. IsTrue agree) }
+{
+    let length = simd_cesu8::encoded_len(text);
+    Ok(simd_cesu8::encode(alloc, text)?.as_bytes().len() == length)
+}
+
+/// Whether `lossy_len` is the length of what `decode_lossy_strict` answers.
+pub fn tells_lossy_length(alloc: Global, bytes: &[u8]) -> Result<bool, AllocError>
+    ensures { IfOk result (λ agree. IsTrue agree) }
+{
+    let length = simd_cesu8::decode_lossy_strict(alloc, bytes)?
+        .as_str()
+        .len();
+    Ok(simd_cesu8::lossy_len(bytes) == Some(length))
+}
+
+/// Appends by `encode_into` what `encode` answers, which is given too.
+pub fn append_and_encode(
+    alloc: Global,
+    text: &str,
+    buf: &mut Vec<u8>,
+) -> Result<Vec<u8>, AllocError>
+    ensures { IfOk result (λ encoded. buf.new.items ≡ buf.old.items ++ encoded.items) }
+{
+    simd_cesu8::encode_into(text, buf)?;
+    simd_cesu8::encode(alloc, text)?.into_vec(alloc)
+}
+
+/// Whether `decode_strict` gives back the text that `encode` was given. Where nothing needs
+/// encoding, both borrow, and no memory is asked for.
+pub fn decodes_to_same(alloc: Global, text: &str) -> Result<bool, AllocError>
+    ensures same { IfOk result (λ agree. IsTrue agree) }
+    ensures succeeds { ¬ (NeedsEncoding Cesu8 (chars text.now)) → IsOk result }
+{
+    laws::chars();
+    laws::inverse();
+    laws::unchanged();
+    let encoded = simd_cesu8::encode(alloc, text)?;
+    match simd_cesu8::decode_strict(alloc, encoded.as_bytes()) {
+        Ok(decoded) => Ok(decoded.as_str() == text),
+        Err(DecodeFault::Memory(error)) => Err(error),
+        // An encoding is never refused.
+        Err(DecodeFault::Invalid(_)) => unreachable!(),
+    }
+}

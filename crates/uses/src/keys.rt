@@ -1,0 +1,48 @@
+//! Keys by themselves.
+
+ghost use Rattle.std.specs.Prelude.{◌≡◌, ◌≢◌, All, IfOk};
+ghost use Rattle.std.specs.Ordering.{MatchOrdering};
+ghost use Rattle.std.specs.Str.{chars};
+ghost use Rattle.simd_cesu8.specs.Encoding.{Mutf8, encoding};
+ghost use Rattle.simd_cesu8.specs.Order.{IsBelow};
+ghost use Rattle.simd_cesu8.specs.Utf16.{units};
+
+use simd_cesu8::{laws, mutf8};
+use std::alloc::{AllocError, Global};
+use std::cmp::Ordering;
+
+/// The MUTF-8 of a text, in which no byte is 0: so it may stand where a zero byte ends a string.
+///
+/// ```rust
+/// let key = uses::key_without_zero(alloc, "a\0")?;
+/// assert_eq!(rt; key.as_slice(), b"a\xC0\x80".as_slice());
+/// ```
+pub fn key_without_zero(alloc: Global, text: &str) -> Result<Vec<u8>, AllocError>
+    ensures bytes { IfOk result (λ key. key.items ≡ encoding Mutf8 (chars text.now)) }
+    ensures no_zero { IfOk result (λ key. All (λ byte. byte ≢ 0) key.items) }
+{
+    laws::chars();
+    laws::no_zero();
+    mutf8::encode(alloc, text)?.into_vec(alloc)
+}
+
+/// How two texts compare by their UTF-16 code units, as Java's `compareTo` has it: as their CESU-8
+/// does.
+///
+/// ```rust
+/// let ordering = uses::compare_as_utf16(alloc, "\u{FFFF}", "\u{10000}")?;
+/// assert_eq!(rt; ordering, Ordering::Greater);
+/// ```
+pub fn compare_as_utf16(alloc: Global, text: &str, other: &str) -> Result<Ordering, AllocError>
+    ensures { IfOk result (λ ordering. MatchOrdering ordering
+        (IsBelow (units (chars text.now)) (units (chars other.now)))
+        (units (chars text.now) ≡ units (chars other.now))
+        (IsBelow (units (chars other.now)) (units (chars text.now)))) }
+{
+    laws::chars();
+    laws::order();
+    laws::dictionary_order();
+    let key = simd_cesu8::encode(alloc, text)?;
+    let other_key = simd_cesu8::encode(alloc, other)?;
+    Ok(key.as_bytes().cmp(other_key.as_bytes()))
+}

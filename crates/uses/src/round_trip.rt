@@ -1,0 +1,89 @@
+//! What goes in comes out again.
+
+ghost use Rattle.std.specs.Prelude.{◌≡◌, IfOk, IsOkUnless};
+ghost use Rattle.std.specs.Str.{chars};
+ghost use Rattle.std.specs.String.{string_bytes};
+ghost use Rattle.simd_cesu8.specs.Encoding.{Cesu8};
+ghost use Rattle.simd_cesu8.specs.Fault.{OnInvalid};
+ghost use Rattle.simd_cesu8.specs.Reading.{HasNoStrictReading};
+ghost use Rattle.java_text.specs.Form.{HasForm};
+
+use java_text::{ReadFault, WriteFault};
+use simd_cesu8::{DecodeFault, laws};
+use std::alloc::{AllocError, Global};
+
+/// Encodes a text, and decodes that: the text again.
+///
+/// ```rust
+/// let back = uses::encode_and_decode(alloc, "a\u{1F496}")?;
+/// assert_eq!(rt; back.as_str(), "a\u{1F496}");
+/// ```
+pub fn encode_and_decode(alloc: Global, text: &str) -> Result<String, AllocError>
+    ensures { IfOk result (λ back. string_bytes back ≡ text.now) }
+{
+    laws::inverse();
+    let encoded = simd_cesu8::encode(alloc, text)?;
+    match simd_cesu8::decode_strict(alloc, encoded.as_bytes()) {
+        Ok(decoded) => decoded.into_string(alloc),
+        Err(DecodeFault::Memory(error)) => Err(error),
+        // An encoding is never refused.
+        Err(DecodeFault::Invalid(_)) => unreachable!(),
+    }
+}
+
+/// Decodes bytes strictly, and encodes that: the bytes again.
+///
+/// ```rust
+/// let back = uses::decode_and_encode(alloc, b"a\xED\xA0\xBD\xED\xB2\x96")?;
+/// assert_eq!(rt; back.as_slice(), b"a\xED\xA0\xBD\xED\xB2\x96".as_slice());
+/// assert!(rt; uses::decode_and_encode(alloc, b"\xED\xA0\xBD").is_err());
+/// ```
+pub fn decode_and_encode(alloc: Global, bytes: &[u8]) -> Result<Vec<u8>, DecodeFault>
+    ensures same { IfOk result (λ back. back.items ≡ bytes.now) }
+    ensures invalid { OnInvalid result (HasNoStrictReading Cesu8 bytes.now) }
+{
+    let text = simd_cesu8::decode_strict(alloc, bytes)?;
+    match simd_cesu8::encode(alloc, text.as_str()) {
+        Ok(encoded) => encoded.into_vec(alloc).map_err(DecodeFault::Memory),
+        Err(error) => Err(DecodeFault::Memory(error)),
+    }
+}
+
+/// Encodes a text, and reads that as if it were damaged: the text again.
+///
+/// ```rust
+/// let back = uses::encode_and_read(alloc, "a\u{1F496}")?;
+/// assert_eq!(rt; back.as_str(), "a\u{1F496}");
+/// ```
+pub fn encode_and_read(alloc: Global, text: &str) -> Result<String, AllocError>
+    ensures { IfOk result (λ back. string_bytes back ≡ text.now) }
+{
+    laws::chars();
+    laws::lossy();
+    let encoded = simd_cesu8::encode(alloc, text)?;
+    simd_cesu8::decode_lossy_strict(alloc, encoded.as_bytes())?.into_string(alloc)
+}
+
+/// Writes a text as a Java string with other bytes after it, and reads that: the text again.
+///
+/// `TooLong` comes only where the text has no form.
+///
+/// ```rust
+/// let back = uses::write_and_read(alloc, "a\0", b"\xFF")?;
+/// assert_eq!(rt; back.as_str(), "a\0");
+/// ```
+pub fn write_and_read(alloc: Global, text: &str, rest: &[u8]) -> Result<String, WriteFault>
+    ensures same { IfOk result (λ back. string_bytes back ≡ text.now) }
+    ensures fits { HasForm (chars text.now) → IsOkUnless result WriteFault.Memory }
+{
+    laws::chars();
+    let mut buf = Vec::new(alloc);
+    java_text::write_utf(text, &mut buf)?;
+    buf.extend_from_slice(rest)?;
+    match java_text::read_utf(alloc, buf.as_slice()) {
+        Ok((back, _)) => Ok(back.into_string(alloc)?),
+        Err(ReadFault::Memory) => Err(WriteFault::Memory),
+        // A form begins what was written.
+        Err(ReadFault::Truncated | ReadFault::Invalid(_)) => unreachable!(),
+    }
+}
