@@ -85,9 +85,11 @@ pub fn encode_into(value: &str, buf: &mut Vec<u8>) -> Result<(), AllocError>
     ensures err { OnErr result (buf.new.items ≡ buf.old.items) }
     ensures err_capacity { OnErr result (vec_capacity buf.new ≡ vec_capacity buf.old) }
 
-    // No request is refused where there is room for the encoding.
+    // Where there is room for the encoding, nothing is refused, and nothing is asked for.
     ensures room { vec_len buf.old + length (encoding Mutf8 (chars value.now))
         ≤ vec_capacity buf.old → IsOk result }
+    ensures stays { vec_len buf.old + length (encoding Mutf8 (chars value.now))
+        ≤ vec_capacity buf.old → vec_capacity buf.new ≡ vec_capacity buf.old }
     ensures empty { value.now ≡ [] → IsOk result }
     ensures grows { vec_capacity buf.old ≤ vec_capacity buf.new }
 {

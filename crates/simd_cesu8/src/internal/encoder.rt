@@ -25,8 +25,9 @@ use self::blocks::{OneByteNull, TwoByteNull};
 use self::windows::{SHORT, write_bytes, write_short};
 use super::Flavor;
 use super::lengths::encoded_len;
-use super::writers::copy;
+use super::writers::{append, copy, make_room};
 use std::alloc::{AllocError, Allocator};
+use std::mem;
 
 /// The encoding of a text, after one request for exactly its length. It is not inlined, so that a
 /// text that is borrowed pays for none of its stack.
@@ -48,28 +49,40 @@ pub fn encode<A: Allocator>(alloc: A, flavor: Flavor, text: &str) -> Result<Vec<
 }
 
 /// Appends the encoding of a text, after one request for its length, where there is no room.
-pub fn encode_into<A: Allocator>(
-    flavor: Flavor,
-    text: &str,
-    out: &mut Vec<u8, A>,
-) -> Result<(), AllocError>
+pub fn encode_into(flavor: Flavor, text: &str, out: &mut Vec<u8>) -> Result<(), AllocError>
     ensures ok { OnOk result
         (out.new.items ≡ out.old.items ++ encoding (flavor_of flavor) (chars text.now)) }
     ensures err { OnErr result (out.new.items ≡ out.old.items) }
     ensures err_capacity { OnErr result (vec_capacity out.new ≡ vec_capacity out.old) }
     ensures room { vec_len out.old + length (encoding (flavor_of flavor) (chars text.now))
         ≤ vec_capacity out.old → IsOk result }
+    ensures stays { vec_len out.old + length (encoding (flavor_of flavor) (chars text.now))
+        ≤ vec_capacity out.old → vec_capacity out.new ≡ vec_capacity out.old }
     ensures empty { text.now ≡ [] → IsOk result }
     ensures grows { vec_capacity out.old ≤ vec_capacity out.new }
 {
     let len = encoded_len(flavor, text);
-    out.reserve(len)?;
+    make_room(len, out)?;
+    // The length of a vector of its own stays in a register while it grows.
+    let mut taken = mem::replace(out, Vec::new(*out.allocator()));
+    write_text_of(flavor, text, len, &mut taken);
+    *out = taken;
+    Ok(())
+}
+
+/// Appends the encoding of a text, which has this length, and for which there is room.
+#[inline(always)]
+fn write_text_of<A: Allocator>(flavor: Flavor, text: &str, len: usize, out: &mut Vec<u8, A>)
+    requires len { len ≡ length (encoding (flavor_of flavor) (chars text.now)) }
+    requires room { vec_len out.old + len ≤ vec_capacity out.old }
+    ensures bytes { out.new.items ≡ out.old.items ++ encoding (flavor_of flavor) (chars text.now) }
+    ensures capacity { vec_capacity out.new ≡ vec_capacity out.old }
+{
     if len == text.len() {
         // An encoding that differs from the UTF-8 is longer.
-        return out.extend_from_slice(text.as_bytes());
+        return append(text.as_bytes(), out);
     }
     write_text(flavor, text, out);
-    Ok(())
 }
 
 /// Writes the encoding of a short text, and gives its length. No pass counts that before.

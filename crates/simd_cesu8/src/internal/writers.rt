@@ -1,9 +1,25 @@
 //! Writers into room that is there, which can't fail, and copies, each with its one request.
 
-ghost use Rattle.std.specs.Prelude.{◌≡◌, ◌+◌, ◌≤◌, ◌++◌, [], length, IfOk, IsOk, vec_len, vec_capacity};
+ghost use Rattle.std.specs.Prelude.{◌≡◌, ◌+◌, ◌<◌, ◌≤◌, ◌++◌, [], length, OnOk, OnErr, IfOk, IsOk, vec_len, vec_capacity};
 ghost use Rattle.std.specs.String.{string_bytes, string_capacity};
 
 use std::alloc::{AllocError, Allocator};
+
+/// Makes room for so many bytes more, by one request where there is none.
+pub fn make_room<A: Allocator>(len: usize, out: &mut Vec<u8, A>) -> Result<(), AllocError>
+    ensures items { out.new.items ≡ out.old.items }
+    ensures ok { OnOk result (vec_len out.new + len ≤ vec_capacity out.new) }
+    ensures err { OnErr result (vec_capacity out.new ≡ vec_capacity out.old) }
+    ensures full { OnErr result (vec_capacity out.old < vec_len out.old + len) }
+    ensures stays { vec_len out.old + len ≤ vec_capacity out.old
+        → vec_capacity out.new ≡ vec_capacity out.old }
+    ensures grows { vec_capacity out.old ≤ vec_capacity out.new }
+{
+    if len <= out.capacity() - out.len() {
+        return Ok(());
+    }
+    out.reserve(len)
+}
 
 /// Appends bytes for which there is room.
 #[inline(always)]
