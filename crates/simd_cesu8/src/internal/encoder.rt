@@ -27,12 +27,11 @@ use super::Flavor;
 use super::lengths::encoded_len;
 use super::writers::{append, copy, make_room};
 use std::alloc::{AllocError, Allocator};
-use std::mem;
 
 /// The encoding of a text, after one request for exactly its length. It is not inlined, so that a
 /// text that is borrowed pays for none of its stack.
 #[inline(never)]
-pub fn encode<A: Allocator>(alloc: A, flavor: Flavor, text: &str) -> Result<Vec<u8, A>, AllocError>
+pub fn encode<A: Allocator + Copy>(alloc: A, flavor: Flavor, text: &str) -> Result<Vec<u8, A>, AllocError>
     ensures bytes { IfOk result (λ encoded.
         encoded.items ≡ encoding (flavor_of flavor) (chars text.now)) }
     ensures capacity { IfOk result (λ encoded.
@@ -49,7 +48,11 @@ pub fn encode<A: Allocator>(alloc: A, flavor: Flavor, text: &str) -> Result<Vec<
 }
 
 /// Appends the encoding of a text, after one request for its length, where there is no room.
-pub fn encode_into(flavor: Flavor, text: &str, out: &mut Vec<u8>) -> Result<(), AllocError>
+pub fn encode_into<A: Allocator + Copy>(
+    flavor: Flavor,
+    text: &str,
+    out: &mut Vec<u8, A>,
+) -> Result<(), AllocError>
     ensures ok { OnOk result
         (out.new.items ≡ out.old.items ++ encoding (flavor_of flavor) (chars text.now)) }
     ensures err { OnErr result (out.new.items ≡ out.old.items) }
@@ -63,16 +66,13 @@ pub fn encode_into(flavor: Flavor, text: &str, out: &mut Vec<u8>) -> Result<(), 
 {
     let len = encoded_len(flavor, text);
     make_room(len, out)?;
-    // The length of a vector of its own stays in a register while it grows.
-    let mut taken = mem::replace(out, Vec::new(*out.allocator()));
-    write_text_of(flavor, text, len, &mut taken);
-    *out = taken;
+    write_text_of(flavor, text, len, out);
     Ok(())
 }
 
 /// Appends the encoding of a text, which has this length, and for which there is room.
 #[inline(always)]
-fn write_text_of<A: Allocator>(flavor: Flavor, text: &str, len: usize, out: &mut Vec<u8, A>)
+fn write_text_of<A: Allocator + Copy>(flavor: Flavor, text: &str, len: usize, out: &mut Vec<u8, A>)
     requires len { len ≡ length (encoding (flavor_of flavor) (chars text.now)) }
     requires room { vec_len out.old + len ≤ vec_capacity out.old }
     ensures bytes { out.new.items ≡ out.old.items ++ encoding (flavor_of flavor) (chars text.now) }
@@ -99,7 +99,7 @@ fn encode_short(flavor: Flavor, text: &str, out: &mut [u8; 2 * SHORT]) -> usize
 }
 
 /// Appends the encoding of a text, for which there is room.
-fn write_text<A: Allocator>(flavor: Flavor, text: &str, out: &mut Vec<u8, A>)
+fn write_text<A: Allocator + Copy>(flavor: Flavor, text: &str, out: &mut Vec<u8, A>)
     requires { vec_len out.old + length (encoding (flavor_of flavor) (chars text.now))
         ≤ vec_capacity out.old }
     ensures bytes { out.new.items ≡ out.old.items ++ encoding (flavor_of flavor) (chars text.now) }

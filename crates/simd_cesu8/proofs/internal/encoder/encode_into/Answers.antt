@@ -4,7 +4,7 @@ use Rattle.simd_cesu8.proofs.Lengths.{length_encoding_chars}
 use Rattle.simd_cesu8.proofs.internal.encoder.encode_into.Goals as goal
 
 pub returns-in_err-make_room-clause-empty : goal.returns-in_err-make_room-clause-empty
-returns-in_err-make_room-clause-empty c empty =
+returns-in_err-make_room-clause-empty g c empty =
     absurd (omega (
       arith,
       ap length empty,
