@@ -47,42 +47,32 @@ pub fn encode<A: Allocator + Copy>(alloc: A, flavor: Flavor, text: &str) -> Resu
     Ok(encoded)
 }
 
-/// Appends the encoding of a text, after one request for its length, where there is no room.
+/// Appends the encoding of a text, which has this length, after one request, where there is no
+/// room.
 pub fn encode_into<A: Allocator + Copy>(
     flavor: Flavor,
     text: &str,
+    len: usize,
     out: &mut Vec<u8, A>,
 ) -> Result<(), AllocError>
+    requires { len ≡ length (encoding (flavor_of flavor) (chars text.now)) }
     ensures ok { OnOk result
         (out.new.items ≡ out.old.items ++ encoding (flavor_of flavor) (chars text.now)) }
     ensures err { OnErr result (out.new.items ≡ out.old.items) }
     ensures err_capacity { OnErr result (vec_capacity out.new ≡ vec_capacity out.old) }
-    ensures room { vec_len out.old + length (encoding (flavor_of flavor) (chars text.now))
-        ≤ vec_capacity out.old → IsOk result }
-    ensures stays { vec_len out.old + length (encoding (flavor_of flavor) (chars text.now))
-        ≤ vec_capacity out.old → vec_capacity out.new ≡ vec_capacity out.old }
-    ensures empty { text.now ≡ [] → IsOk result }
+    ensures room { vec_len out.old + len ≤ vec_capacity out.old → IsOk result }
+    ensures stays { vec_len out.old + len ≤ vec_capacity out.old
+        → vec_capacity out.new ≡ vec_capacity out.old }
     ensures grows { vec_capacity out.old ≤ vec_capacity out.new }
 {
-    let len = encoded_len(flavor, text);
     make_room(len, out)?;
-    write_text_of(flavor, text, len, out);
-    Ok(())
-}
-
-/// Appends the encoding of a text, which has this length, and for which there is room.
-#[inline(always)]
-fn write_text_of<A: Allocator + Copy>(flavor: Flavor, text: &str, len: usize, out: &mut Vec<u8, A>)
-    requires len { len ≡ length (encoding (flavor_of flavor) (chars text.now)) }
-    requires room { vec_len out.old + len ≤ vec_capacity out.old }
-    ensures bytes { out.new.items ≡ out.old.items ++ encoding (flavor_of flavor) (chars text.now) }
-    ensures capacity { vec_capacity out.new ≡ vec_capacity out.old }
-{
     if len == text.len() {
         // An encoding that differs from the UTF-8 is longer.
-        return append(text.as_bytes(), out);
+        append(text.as_bytes(), out);
+    } else {
+        write_text(flavor, text, out);
     }
-    write_text(flavor, text, out);
+    Ok(())
 }
 
 /// Writes the encoding of a short text, and gives its length. No pass counts that before.
@@ -98,7 +88,9 @@ fn encode_short(flavor: Flavor, text: &str, out: &mut [u8; 2 * SHORT]) -> usize
     }
 }
 
-/// Appends the encoding of a text, for which there is room.
+/// Appends the encoding of a text, for which there is room. It is not inlined, so that a text that
+/// stays as it is pays for none of its stack.
+#[inline(never)]
 fn write_text<A: Allocator + Copy>(flavor: Flavor, text: &str, out: &mut Vec<u8, A>)
     requires { vec_len out.old + length (encoding (flavor_of flavor) (chars text.now))
         ≤ vec_capacity out.old }
