@@ -64,22 +64,28 @@ pub fn write_utf(text: &str, buf: &mut Vec<u8>) -> Result<(), WriteFault>
     ensures err { OnErr result (buf.new.items ≡ buf.old.items) }
     ensures err_capacity { OnErr result (vec_capacity buf.new ≡ vec_capacity buf.old) }
 
-    // No request is refused where there is room for the form.
+    // Where there is room for the form, nothing is refused, and nothing is asked for.
     ensures room { HasForm (chars text.now)
         → vec_len buf.old + length (java_form (chars text.now)) ≤ vec_capacity buf.old
         → IsOk result }
+    ensures stays { HasForm (chars text.now)
+        → vec_len buf.old + length (java_form (chars text.now)) ≤ vec_capacity buf.old
+        → vec_capacity buf.new ≡ vec_capacity buf.old }
     ensures grows { vec_capacity buf.old ≤ vec_capacity buf.new }
 {
-    let length = mutf8::encoded_len(text);
+    let counted = mutf8::counted(text);
+    let length = counted.encoded_len();
     let Ok(count) = u16::try_from(length) else {
         return Err(WriteFault::TooLong(length));
     };
-    buf.reserve(2 + length)?;
+    if buf.capacity() - buf.len() < 2 + length {
+        buf.reserve(2 + length)?;
+    }
     let [high, low] = count.to_be_bytes();
     buf.push_reserved(high);
     buf.push_reserved(low);
     // There is room for these bytes, so this can't fail.
-    mutf8::encode_into(text, buf).unwrap();
+    counted.encode_into(buf).unwrap();
     Ok(())
 }
 

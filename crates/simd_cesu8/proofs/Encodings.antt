@@ -12,6 +12,10 @@ pub encoding_nil : (f : Flavor) → encoding f [] ≡ []
 unfolding encoding
 encoding_nil f = refl
 
+-- The same of the text that std reads.
+pub encoding_of_empty : (f : Flavor) (bytes : List ℕ) → bytes ≡ [] → encoding f (chars bytes) ≡ []
+encoding_of_empty f bytes empty = rw (empty, chars-nil) (encoding_nil f)
+
 -- The encoding of a concatenation is the concatenation of the encodings.
 pub encoding_append : (f : Flavor) (s t : List ℕ) → encoding f (s ++ t) ≡ encoding f s ++ encoding f t
 unfolding encoding

@@ -7,6 +7,7 @@ pub mod Kernels
 pub mod Reading
 pub mod Cutting
 pub mod Cow
+pub mod Counted
 pub mod Fault
 pub mod Internal
 pub mod Joining

@@ -35,9 +35,11 @@ ghost use Rattle.simd_cesu8.specs.Encoding.{Cesu8, encoding, NeedsEncoding};
 ghost use Rattle.simd_cesu8.specs.Class.{IsUnchangedUtf8};
 ghost use Rattle.simd_cesu8.specs.Reading.{IsStrictReading, HasNoStrictReading, IsLenientReading, HasNoLenientReading, reading, lossy_length, IsLenientLossyReading};
 ghost use Rattle.simd_cesu8.specs.Cow.{IfBytes, BorrowsBytesWhere, BuildsBytesOfCapacity, IfText, BorrowsTextWhere, BuildsTextOfCapacity, AnswersTextOfLength};
+ghost use Rattle.simd_cesu8.specs.Counted.{counted_encoding};
 ghost use Rattle.simd_cesu8.specs.Fault.{OnInvalid};
 
 mod borrow_or_build;
+mod counted_text;
 mod cow;
 mod error;
 pub mod implementation;
@@ -45,6 +47,7 @@ mod internal;
 pub mod laws;
 pub mod mutf8;
 
+pub use crate::counted_text::CountedText;
 pub use crate::cow::{CowBytes, CowText};
 pub use crate::error::{DecodeFault, DecodingError};
 use crate::internal::Flavor;
@@ -72,6 +75,18 @@ pub fn encoded_len(value: &str) -> usize
     ensures { result ≡ length (encoding Cesu8 (chars value.now)) }
 {
     internal::encoded_len(Flavor::Cesu8, value)
+}
+
+/// A text with the length of its CESU-8 (Unicode Technical Report 26), for who writes that length in
+/// front of the encoding: it is counted once. It takes no memory.
+///
+/// ```rust
+/// assert_eq!(rt; simd_cesu8::counted("a\u{10FFFF}").encoded_len(), 7);
+/// ```
+pub fn counted(value: &str) -> CountedText<'_>
+    ensures { counted_encoding result ≡ encoding Cesu8 (chars value.now) }
+{
+    CountedText::new(Flavor::Cesu8, value)
 }
 
 /// Encodes a text to CESU-8 (Unicode Technical Report 26).
@@ -113,13 +128,15 @@ pub fn encode_into(value: &str, buf: &mut Vec<u8>) -> Result<(), AllocError>
     ensures err { OnErr result (buf.new.items ≡ buf.old.items) }
     ensures err_capacity { OnErr result (vec_capacity buf.new ≡ vec_capacity buf.old) }
 
-    // No request is refused where there is room for the encoding.
+    // Where there is room for the encoding, nothing is refused, and nothing is asked for.
     ensures room { vec_len buf.old + length (encoding Cesu8 (chars value.now))
         ≤ vec_capacity buf.old → IsOk result }
+    ensures stays { vec_len buf.old + length (encoding Cesu8 (chars value.now))
+        ≤ vec_capacity buf.old → vec_capacity buf.new ≡ vec_capacity buf.old }
     ensures empty { value.now ≡ [] → IsOk result }
     ensures grows { vec_capacity buf.old ≤ vec_capacity buf.new }
 {
-    internal::encode_into(Flavor::Cesu8, value, buf)
+    counted(value).encode_into(buf)
 }
 
 /// Decodes CESU-8 (Unicode Technical Report 26), strictly: the text whose encoding the bytes are.

@@ -12,8 +12,10 @@ ghost use Rattle.simd_cesu8.specs.Encoding.{Mutf8, encoding, NeedsEncoding};
 ghost use Rattle.simd_cesu8.specs.Class.{IsUnchangedUtf8};
 ghost use Rattle.simd_cesu8.specs.Reading.{IsStrictReading, HasNoStrictReading, IsLenientReading, HasNoLenientReading, reading, lossy_length, IsLenientLossyReading};
 ghost use Rattle.simd_cesu8.specs.Cow.{IfBytes, BorrowsBytesWhere, BuildsBytesOfCapacity, IfText, BorrowsTextWhere, BuildsTextOfCapacity, AnswersTextOfLength};
+ghost use Rattle.simd_cesu8.specs.Counted.{counted_encoding};
 ghost use Rattle.simd_cesu8.specs.Fault.{OnInvalid};
 
+use crate::counted_text::CountedText;
 use crate::cow::{CowBytes, CowText};
 use crate::error::DecodeFault;
 use crate::internal::Flavor;
@@ -43,6 +45,18 @@ pub fn encoded_len(value: &str) -> usize
     ensures { result ≡ length (encoding Mutf8 (chars value.now)) }
 {
     internal::encoded_len(Flavor::Mutf8, value)
+}
+
+/// A text with the length of its MUTF-8 (Java's `DataOutput`, without a length in front), for who
+/// writes that length in front of the encoding: it is counted once. It takes no memory.
+///
+/// ```rust
+/// assert_eq!(rt; simd_cesu8::mutf8::counted("a\0").encoded_len(), 3);
+/// ```
+pub fn counted(value: &str) -> CountedText<'_>
+    ensures { counted_encoding result ≡ encoding Mutf8 (chars value.now) }
+{
+    CountedText::new(Flavor::Mutf8, value)
 }
 
 /// Encodes a text to MUTF-8 (Java's `DataOutput`, without a length in front).
@@ -85,13 +99,15 @@ pub fn encode_into(value: &str, buf: &mut Vec<u8>) -> Result<(), AllocError>
     ensures err { OnErr result (buf.new.items ≡ buf.old.items) }
     ensures err_capacity { OnErr result (vec_capacity buf.new ≡ vec_capacity buf.old) }
 
-    // No request is refused where there is room for the encoding.
+    // Where there is room for the encoding, nothing is refused, and nothing is asked for.
     ensures room { vec_len buf.old + length (encoding Mutf8 (chars value.now))
         ≤ vec_capacity buf.old → IsOk result }
+    ensures stays { vec_len buf.old + length (encoding Mutf8 (chars value.now))
+        ≤ vec_capacity buf.old → vec_capacity buf.new ≡ vec_capacity buf.old }
     ensures empty { value.now ≡ [] → IsOk result }
     ensures grows { vec_capacity buf.old ≤ vec_capacity buf.new }
 {
-    internal::encode_into(Flavor::Mutf8, value, buf)
+    counted(value).encode_into(buf)
 }
 
 /// Decodes MUTF-8 (Java's `DataInput`, without a length in front), strictly: the text whose

@@ -1,7 +1,8 @@
 //! Appending an encoding to what stands in a buffer.
 
 use crate::borders::BORDERS;
-use crate::helpers::flavors::{FLAVORS, Flavor, encode_into};
+use crate::helpers::flavors::{FLAVORS, Flavor, counted, encode_into};
+use crate::helpers::full::{FULL, full_buffer, is_filler};
 use std::str;
 use std::test::Fail;
 
@@ -59,6 +60,52 @@ fn appends_after_what_stands(rt: HostRuntime) -> Result<(), Fail> {
             let mut buf = vec![in rt.alloc(); 1, 2]?;
             encode_into(flavor, text, &mut buf)?;
             assert_eq!(rt; buf.as_slice(), bytes, "{flavor:?} of {text:?}");
+        }
+    }
+    Ok(())
+}
+
+#[test]
+fn appends_behind_a_full_buffer(rt: HostRuntime) -> Result<(), Fail> {
+    for flavor in FLAVORS {
+        for length in FULL {
+            for row in &BORDERS {
+                let mut buf = full_buffer(rt.alloc(), length)?;
+                assert_eq!(rt; buf.capacity(), length);
+                encode_into(flavor, str::from_utf8(row.utf8)?, &mut buf)?;
+                let (before, appended) = buf.as_slice().split_at_checked(length).ok_or("cut")?;
+                assert!(rt; before.iter().all(is_filler), "{flavor:?} at {}", row.name);
+                assert_eq!(rt; appended, row.encoded(flavor), "{flavor:?} at {}", row.name);
+            }
+        }
+    }
+    Ok(())
+}
+
+#[test]
+fn room_is_left_as_it_is(rt: HostRuntime) -> Result<(), Fail> {
+    for flavor in FLAVORS {
+        for row in &BORDERS {
+            let room = row.encoded(flavor).len();
+            let mut buf = Vec::with_capacity(rt.alloc(), room)?;
+            encode_into(flavor, str::from_utf8(row.utf8)?, &mut buf)?;
+            assert_eq!(rt; buf.capacity(), room, "{flavor:?} at {}", row.name);
+        }
+    }
+    Ok(())
+}
+
+/// Texts that were counted: each length, and what is appended without a further count.
+#[test]
+fn appends_what_was_counted(rt: HostRuntime) -> Result<(), Fail> {
+    for flavor in FLAVORS {
+        for row in &BORDERS {
+            let counted = counted(flavor, str::from_utf8(row.utf8)?);
+            let mut buf = Vec::new(rt.alloc());
+            counted.encode_into(&mut buf)?;
+            let encoded = row.encoded(flavor);
+            assert_eq!(rt; buf.as_slice(), encoded, "{flavor:?} at {}", row.name);
+            assert_eq!(rt; counted.encoded_len(), encoded.len(), "{flavor:?} at {}", row.name);
         }
     }
     Ok(())

@@ -5,4 +5,6 @@
 pub mod decoders;
 pub mod flavors;
 #[cfg(test)]
+pub mod full;
+#[cfg(test)]
 pub mod lossy_rows;

@@ -1,6 +1,7 @@
 //! Java strings with their length in front: worked examples, each length at which something
 //! changes, forms in a row, and forms that are cut short.
 
+use crate::helpers::full::{FULL, full_buffer, is_filler};
 use java_text::{ReadFault, WriteFault, read_utf, read_utf_lossy, write_utf};
 use simd_cesu8::CowText;
 use std::alloc::{AllocError, Global};
@@ -45,6 +46,31 @@ fn writes_after_what_stands(rt: HostRuntime) -> Result<(), Fail> {
         let mut want = vec![in rt.alloc(); 1, 2]?;
         want.extend_from_slice(form)?;
         assert_eq!(rt; buf.as_slice(), want.as_slice(), "at {text:?}");
+    }
+    Ok(())
+}
+
+#[test]
+fn writes_behind_a_full_buffer(rt: HostRuntime) -> Result<(), Fail> {
+    for length in FULL {
+        for (text, form) in FORMS {
+            let mut buf = full_buffer(rt.alloc(), length)?;
+            assert_eq!(rt; buf.capacity(), length);
+            write_utf(text, &mut buf)?;
+            let (before, written) = buf.as_slice().split_at_checked(length).ok_or("cut")?;
+            assert!(rt; before.iter().all(is_filler), "{length} bytes, then {text:?}");
+            assert_eq!(rt; written, form, "{length} bytes, then {text:?}");
+        }
+    }
+    Ok(())
+}
+
+#[test]
+fn room_is_left_as_it_is(rt: HostRuntime) -> Result<(), Fail> {
+    for (text, form) in FORMS {
+        let mut buf = Vec::with_capacity(rt.alloc(), form.len())?;
+        write_utf(text, &mut buf)?;
+        assert_eq!(rt; buf.capacity(), form.len(), "at {text:?}");
     }
     Ok(())
 }

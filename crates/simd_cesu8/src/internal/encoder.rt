@@ -25,13 +25,13 @@ use self::blocks::{OneByteNull, TwoByteNull};
 use self::windows::{SHORT, write_bytes, write_short};
 use super::Flavor;
 use super::lengths::encoded_len;
-use super::writers::copy;
+use super::writers::{append, copy, make_room};
 use std::alloc::{AllocError, Allocator};
 
 /// The encoding of a text, after one request for exactly its length. It is not inlined, so that a
 /// text that is borrowed pays for none of its stack.
 #[inline(never)]
-pub fn encode<A: Allocator>(alloc: A, flavor: Flavor, text: &str) -> Result<Vec<u8, A>, AllocError>
+pub fn encode<A: Allocator + Copy>(alloc: A, flavor: Flavor, text: &str) -> Result<Vec<u8, A>, AllocError>
     ensures bytes { IfOk result (λ encoded.
         encoded.items ≡ encoding (flavor_of flavor) (chars text.now)) }
     ensures capacity { IfOk result (λ encoded.
@@ -47,28 +47,31 @@ pub fn encode<A: Allocator>(alloc: A, flavor: Flavor, text: &str) -> Result<Vec<
     Ok(encoded)
 }
 
-/// Appends the encoding of a text, after one request for its length, where there is no room.
-pub fn encode_into<A: Allocator>(
+/// Appends the encoding of a text, which has this length, after one request, where there is no
+/// room.
+pub fn encode_into<A: Allocator + Copy>(
     flavor: Flavor,
     text: &str,
+    len: usize,
     out: &mut Vec<u8, A>,
 ) -> Result<(), AllocError>
+    requires { len ≡ length (encoding (flavor_of flavor) (chars text.now)) }
     ensures ok { OnOk result
         (out.new.items ≡ out.old.items ++ encoding (flavor_of flavor) (chars text.now)) }
     ensures err { OnErr result (out.new.items ≡ out.old.items) }
     ensures err_capacity { OnErr result (vec_capacity out.new ≡ vec_capacity out.old) }
-    ensures room { vec_len out.old + length (encoding (flavor_of flavor) (chars text.now))
-        ≤ vec_capacity out.old → IsOk result }
-    ensures empty { text.now ≡ [] → IsOk result }
+    ensures room { vec_len out.old + len ≤ vec_capacity out.old → IsOk result }
+    ensures stays { vec_len out.old + len ≤ vec_capacity out.old
+        → vec_capacity out.new ≡ vec_capacity out.old }
     ensures grows { vec_capacity out.old ≤ vec_capacity out.new }
 {
-    let len = encoded_len(flavor, text);
-    out.reserve(len)?;
+    make_room(len, out)?;
     if len == text.len() {
         // An encoding that differs from the UTF-8 is longer.
-        return out.extend_from_slice(text.as_bytes());
+        append(text.as_bytes(), out);
+    } else {
+        write_text(flavor, text, out);
     }
-    write_text(flavor, text, out);
     Ok(())
 }
 
@@ -85,8 +88,10 @@ fn encode_short(flavor: Flavor, text: &str, out: &mut [u8; 2 * SHORT]) -> usize
     }
 }
 
-/// Appends the encoding of a text, for which there is room.
-fn write_text<A: Allocator>(flavor: Flavor, text: &str, out: &mut Vec<u8, A>)
+/// Appends the encoding of a text, for which there is room. It is not inlined, so that a text that
+/// stays as it is pays for none of its stack.
+#[inline(never)]
+fn write_text<A: Allocator + Copy>(flavor: Flavor, text: &str, out: &mut Vec<u8, A>)
     requires { vec_len out.old + length (encoding (flavor_of flavor) (chars text.now))
         ≤ vec_capacity out.old }
     ensures bytes { out.new.items ≡ out.old.items ++ encoding (flavor_of flavor) (chars text.now) }

@@ -1,24 +1,45 @@
 //! Writers into room that is there, which can't fail, and copies, each with its one request.
 
-ghost use Rattle.std.specs.Prelude.{◌≡◌, ◌+◌, ◌≤◌, ◌++◌, [], length, IfOk, IsOk, vec_len, vec_capacity};
+ghost use Rattle.std.specs.Prelude.{◌≡◌, ◌+◌, ◌<◌, ◌≤◌, ◌++◌, [], length, OnOk, OnErr, IfOk, IsOk, vec_len, vec_capacity};
 ghost use Rattle.std.specs.String.{string_bytes, string_capacity};
 
 use std::alloc::{AllocError, Allocator};
+use std::mem;
+
+/// Makes room for so many bytes more, by one request where there is none.
+pub fn make_room<A: Allocator>(len: usize, out: &mut Vec<u8, A>) -> Result<(), AllocError>
+    ensures items { out.new.items ≡ out.old.items }
+    ensures ok { OnOk result (vec_len out.new + len ≤ vec_capacity out.new) }
+    ensures err { OnErr result (vec_capacity out.new ≡ vec_capacity out.old) }
+    ensures full { OnErr result (vec_capacity out.old < vec_len out.old + len) }
+    ensures stays { vec_len out.old + len ≤ vec_capacity out.old
+        → vec_capacity out.new ≡ vec_capacity out.old }
+    ensures grows { vec_capacity out.old ≤ vec_capacity out.new }
+{
+    if len <= out.capacity() - out.len() {
+        return Ok(());
+    }
+    out.reserve(len)
+}
 
 /// Appends bytes for which there is room.
 #[inline(always)]
-pub fn append<A: Allocator>(bytes: &[u8], out: &mut Vec<u8, A>)
+pub fn append<A: Allocator + Copy>(bytes: &[u8], out: &mut Vec<u8, A>)
     requires { vec_len out.old + length bytes.now ≤ vec_capacity out.old }
     ensures bytes { out.new.items ≡ out.old.items ++ bytes.now }
     ensures capacity { vec_capacity out.new ≡ vec_capacity out.old }
 {
+    // The length of a vector of its own stays in a register; behind a reference, each byte that is
+    // written would store it.
+    let mut taken = mem::replace(out, Vec::new(*out.allocator()));
     for byte in bytes {
-        out.push_reserved(*byte);
+        taken.push_reserved(*byte);
     }
+    *out = taken;
 }
 
 /// A copy of some bytes, after one request for their length.
-pub fn copy<A: Allocator>(alloc: A, bytes: &[u8]) -> Result<Vec<u8, A>, AllocError>
+pub fn copy<A: Allocator + Copy>(alloc: A, bytes: &[u8]) -> Result<Vec<u8, A>, AllocError>
     ensures bytes { IfOk result (λ copied. copied.items ≡ bytes.now) }
     ensures capacity { IfOk result (λ copied. vec_capacity copied ≡ length bytes.now) }
     ensures empty { bytes.now ≡ [] → IsOk result }

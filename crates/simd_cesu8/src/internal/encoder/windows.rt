@@ -19,7 +19,7 @@ pub const SHORT: usize = 32;
 const BLOCKS: usize = 32;
 
 /// Appends what the bytes of a text become, for which there is room.
-pub fn write_bytes<N: NullForm, A: Allocator>(text: &[u8], out: &mut Vec<u8, A>)
+pub fn write_bytes<N: NullForm, A: Allocator + Copy>(text: &[u8], out: &mut Vec<u8, A>)
     requires { vec_len out.old + length (recoded N.flavor text.now) ≤ vec_capacity out.old }
     ensures bytes { out.new.items ≡ out.old.items ++ recoded N.flavor text.now }
     ensures capacity { vec_capacity out.new ≡ vec_capacity out.old }
@@ -48,7 +48,7 @@ pub fn write_short<N: NullForm>(text: &[u8], out: &mut [u8; 2 * SHORT]) -> usize
 
 /// Appends what the first 32 bytes of a longer text become.
 #[inline(always)]
-fn write_first<N: NullForm, A: Allocator>(text: &[u8], out: &mut Vec<u8, A>)
+fn write_first<N: NullForm, A: Allocator + Copy>(text: &[u8], out: &mut Vec<u8, A>)
     requires long { 32 < length text.now }
     requires room { vec_len out.old + length (places N.flavor (0 ∷ 0 ∷ text.now) 0 32)
         ≤ vec_capacity out.old }
@@ -62,7 +62,7 @@ fn write_first<N: NullForm, A: Allocator>(text: &[u8], out: &mut Vec<u8, A>)
 
 /// Appends what the last bytes of a text become.
 #[inline(always)]
-fn write_last<N: NullForm, A: Allocator>(text: &[u8], at: usize, out: &mut Vec<u8, A>)
+fn write_last<N: NullForm, A: Allocator + Copy>(text: &[u8], at: usize, out: &mut Vec<u8, A>)
     requires place { (32 ≤ at) × (at < length text.now) × (length text.now ≤ at + 32) }
     requires room { vec_len out.old
         + length (places N.flavor (0 ∷ 0 ∷ text.now) at (length text.now - at))
@@ -98,7 +98,7 @@ fn put_before_zeros(near: &[u8], window: &mut [u8; 35])
 
 /// Appends what the first `count` bytes of a window of one block become.
 #[inline(always)]
-fn write_end<N: NullForm, A: Allocator>(window: &[u8; 35], count: usize, out: &mut Vec<u8, A>)
+fn write_end<N: NullForm, A: Allocator + Copy>(window: &[u8; 35], count: usize, out: &mut Vec<u8, A>)
     requires short { count ≤ 32 }
     requires room { vec_len out.old + length (places N.flavor window.now 0 count)
         ≤ vec_capacity out.old }
@@ -113,7 +113,7 @@ fn write_end<N: NullForm, A: Allocator>(window: &[u8; 35], count: usize, out: &m
 /// Appends what the bytes of a text become from the 33rd on, as many whole blocks as have a byte
 /// behind them, and gives the place of the rest.
 #[inline(always)]
-fn write_windows<N: NullForm, A: Allocator>(text: &[u8], out: &mut Vec<u8, A>) -> usize
+fn write_windows<N: NullForm, A: Allocator + Copy>(text: &[u8], out: &mut Vec<u8, A>) -> usize
     requires long { 32 < length text.now }
     requires room { vec_len out.old
         + length (places N.flavor (0 ∷ 0 ∷ text.now) 32 (length text.now - 32))

@@ -3,7 +3,7 @@ use Rattle.simd_cesu8.proofs.internal.writers.append.Given as goal
 
 abbrev pub invariant-loop-byte : goal.invariant-loop-byte
 invariant-loop-byte g l = record {
-  items : l.out.items ≡ l.initial.out.items ++ take l.byte-index l.bytes;
-  len : vec_len l.out ≡ vec_len l.initial.out + l.byte-index;
-  capacity : vec_capacity l.out ≡ vec_capacity l.initial.out;
+  items : l.taken.items ≡ l.initial.taken.items ++ take l.byte-index l.bytes;
+  len : vec_len l.taken ≡ vec_len l.initial.taken + l.byte-index;
+  capacity : vec_capacity l.taken ≡ vec_capacity l.initial.taken;
 }

@@ -1,0 +1,8 @@
+use Rattle.std.proofs.Common.{◌∙◌}
+use Rattle.simd_cesu8.specs.Encoding.{Cesu8}
+use Rattle.simd_cesu8.proofs.Encodings.{encoding_of_empty}
+use Rattle.simd_cesu8.proofs.encode_into.Goals as goal
+
+pub returns-clause-empty : goal.returns-clause-empty
+returns-clause-empty c empty =
+    c.encode_into.ensures.empty (c.counted.ensures ∙ encoding_of_empty Cesu8 c.args.value.now empty)
