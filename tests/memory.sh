@@ -3,14 +3,15 @@
 # tests/requests.sh does so of the built program.
 #
 # The program of crates/vectors makes one call, which its standard input names, and tells what came of
-# it, how many of three further requests are granted before one is refused, and the answer. The rows below are every public call, on inputs that borrow, that build, that are
-# refused and that are empty, and at the lengths about which blocks of bytes begin and end. A row says
-# what has to come with memory there, and how many requests the call makes. Each of its requests is
-# refused in turn, until a run meets none: there the first further request is refused, so that a call
-# is seen to make as many requests as its row says, and to answer as with memory there whatever
-# becomes of a later one. Where a request is refused, want of memory has to come, whatever the input
-# is, and a caller's buffer holds what it held. A call whose row has no request succeeds so with every
-# request refused. One that asks once more, or gives back what it asked for, is seen by the count.
+# it, how many of three further requests are granted before one is refused, and the answer. The rows
+# below are every public call, on inputs that borrow, that build, that are refused and that are empty,
+# and at the lengths about which blocks of bytes begin and end. A row says what has to come with memory
+# there, and how many requests the call makes. Each of its requests is refused in turn, until a run
+# meets none: there the first further request is refused, so that a call is seen to make as many
+# requests as its row says, and to answer as with memory there whatever becomes of a later one. Where a
+# request is refused, want of memory has to come, whatever the input is, and a caller's buffer holds
+# what it held. A call whose row has no request succeeds so with every request refused. One that asks
+# once more, or gives back what it asked for, is seen by the count.
 #
 # The requests of a row and its answers come from the standards' table of encoded characters, which
 # stands below, and from these rules: an answer borrows, and takes no request, exactly where its bytes
