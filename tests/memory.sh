@@ -1,17 +1,17 @@
 #!/usr/bin/env bash
-# Counts and refuses requests for memory, by each public call of `simd_cesu8` and `java_text` and by
-# the program.
+# Counts and refuses requests for memory, by each public call of `simd_cesu8` and `java_text`.
+# tests/requests.sh does so of the built program.
 #
-# Of the libraries: the program of crates/vectors makes one call, which its standard input names, and
-# tells what came of it, how many of three further requests are granted before one is refused, and
-# the answer. The rows below are every public call, on inputs that borrow, that build, that are
-# refused and that are empty, and at the lengths about which blocks of bytes begin and end. A row says
-# what has to come with memory there, and how many requests the call makes. Each of its requests is
-# refused in turn, until a run meets none: there the first further request is refused, so that a call
-# is seen to make as many requests as its row says, and to answer as with memory there whatever
-# becomes of a later one. Where a request is refused, want of memory has to come, whatever the input
-# is, and a caller's buffer holds what it held. A call whose row has no request succeeds so with every
-# request refused. One that asks once more, or gives back what it asked for, is seen by the count.
+# The program of crates/vectors makes one call, which its standard input names, and tells what came of
+# it, how many of three further requests are granted before one is refused, and the answer. The rows
+# below are every public call, on inputs that borrow, that build, that are refused and that are empty,
+# and at the lengths about which blocks of bytes begin and end. A row says what has to come with memory
+# there, and how many requests the call makes. Each of its requests is refused in turn, until a run
+# meets none: there the first further request is refused, so that a call is seen to make as many
+# requests as its row says, and to answer as with memory there whatever becomes of a later one. Where a
+# request is refused, want of memory has to come, whatever the input is, and a caller's buffer holds
+# what it held. A call whose row has no request succeeds so with every request refused. One that asks
+# once more, or gives back what it asked for, is seen by the count.
 #
 # The requests of a row and its answers come from the standards' table of encoded characters, which
 # stands below, and from these rules: an answer borrows, and takes no request, exactly where its bytes
@@ -21,15 +21,10 @@
 #
 # `rt try` refuses one request of a process, and builds for 15 seconds. It builds once for each place
 # of the request that is refused, and runs all rows that have so many requests on that, most of them in
-# less than a tenth of a second, and the longest inputs in half of one. The three runs, and those of the
-# program, are side by side: all took under four minutes on four processors that had other work too.
-#
-# Of the program: runs the tests of the module `memory` of crates/cesu8_cli with the first request
-# of each refused, then with the second alone, and then with the third. The table below says what
-# has to come. tests/requests.sh does so with the built program.
+# less than a tenth of a second, and the longest inputs in half of one. The three runs are side by side.
 #
 # It prints what is wrong, and ends with the counts. The status is 0 where nothing is wrong. It
-# needs the kit's `rt` (which builds here without proof), bash, awk, sed and the core utilities.
+# needs the kit's `rt` (which builds here without proof), bash, sed and the core utilities.
 set -u
 unset CDPATH
 export LC_ALL=C
@@ -368,28 +363,10 @@ for border in 0 1 63 64 65 1023 1024 1025 65536; do
 done
 long_rows
 
-# A test a line, and then how it ends with the first request refused, the second, and so on: `ok`,
-# or the error.
-program='
-run::tests::memory::reads_a_java_string         Memory              Memory  ok
-run::tests::memory::reads_and_borrows           Memory              ok      ok
-run::tests::memory::reads_and_builds            Memory              Memory  ok
-run::tests::memory::reads_and_refuses           Memory              Memory  ok
-run::tests::memory::reads_and_tells             Memory              ok      ok
-run::tests::memory::reads_and_writes_a_java_string Memory           Memory  ok
-run::tests::memory::reads_nothing               ok                  ok      ok
-'
-
-# The runs are side by side. One of the library refuses the request of this place in every row.
+# The runs are side by side. One refuses the request of this place in every row.
 run_rows() {
     (cd "$top/crates/vectors" && rt try --fail-alloc "$1" --cases "$scratch/$1") \
         </dev/null >"$scratch/rows.$1" 2>&1 &
-}
-
-# One of the program refuses it in every test.
-run_tests() {
-    (cd "$top/crates/cesu8_cli" && rt try --test --fail-alloc "$1" -- memory::) \
-        </dev/null >"$scratch/tests.$1" 2>&1 &
 }
 
 # Counts the rows of a run that ended well and printed what they have to. What a wrong row printed
@@ -404,46 +381,14 @@ compare_rows() {
     grep -a -v -e 'output=expected' -e '^allocations: ' "$output" | cut -c 1-400
 }
 
-# How each test of a run ended, as in the table: a line `NAME OUTCOME`.
-outcomes() {
-    awk '
-        /^test .* \.\.\. / { if (name) print name, ended; name = $2; ended = $4 }
-        /^    error: / && ended == "FAILED" { ended = substr($0, 12); gsub(/ /, "_", ended) }
-        /^test result: / { if (name) print name, ended; name = "" }
-    ' "$1" | sort
-}
-
-# Compares a run of the program's tests with a column of the table.
-compare_tests() {
-    local output=$scratch/tests.$1 name want got
-    awk -v column="$(($1 + 1))" 'NF { print $1, $column }' <<<"$program" | sort >"$scratch/want"
-    outcomes "$output" >"$scratch/got"
-    while read -r name want got; do
-        if [[ $got == "$want" ]]; then
-            passed=$((passed + 1))
-        else
-            failed=$((failed + 1))
-            echo "wrong: $name of cesu8_cli, with request $1 refused: $got, and not $want"
-        fi
-    done < <(join -a 1 -a 2 -e nothing -o 0,1.2,2.2 "$scratch/want" "$scratch/got")
-    # Where no test ran, this says why.
-    [[ -s $scratch/got ]] || cat "$output"
-}
-
 run_rows 1
 run_rows 2
 run_rows 3
-run_tests 1
-run_tests 2
-run_tests 3
 wait
 
 compare_rows 1
 compare_rows 2
 compare_rows 3
-compare_tests 1
-compare_tests 2
-compare_tests 3
 
 echo "$passed passed, $failed failed"
 ((failed == 0))

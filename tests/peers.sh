@@ -27,43 +27,11 @@ declare -A reads=([cesu8]='decode-strict cesu8' [mutf8]='decode-strict mutf8' [s
 passed=0
 failed=0
 
-# The scalar values of a list of crates/vectors/src/mixed_texts.rt, as many as it declares: `list NAME`.
-list() {
-    local file=$top/crates/vectors/src/mixed_texts.rt declared
-    declared=$(sed -n "s/^const $1: \[char; \([0-9]*\)\].*/\1/p" "$file")
-    sed -n "/^const $1: /,/;\$/p" "$file" |
-        grep -o '\\u{[0-9A-F]*}' | sed 's/.*{/0x/; s/}//' >"$scratch/list"
-    [[ $(wc -l <"$scratch/list") == "$declared" ]] && cat "$scratch/list"
-}
-
-# Keeps the lists that crates/vectors has: characters of one to four bytes of UTF-8, to be drawn in
-# turn, and those at the borders of the forms.
-read_lists() {
-    mapfile -t one < <(list ONE)
-    mapfile -t two < <(list TWO)
-    mapfile -t three < <(list THREE)
-    mapfile -t four < <(list FOUR)
+# The scalar values at the borders of the forms, which crates/vectors has.
+read_borders() {
     mapfile -t borders < <(
         grep -o '"U+[0-9A-F]*"' "$top/crates/vectors/src/borders.rt" | sed 's/"U+/0x/; s/"//'
     )
-    if ((${#one[@]} == 0 || ${#two[@]} == 0 || ${#three[@]} == 0 || ${#four[@]} == 0)); then
-        echo "the lists of crates/vectors were not read" >&2
-        exit 2
-    fi
-}
-
-# The scalar values of the drawn text of this number: 819 groups of one width after the other.
-drawn_scalars() {
-    local group number first second
-    for ((group = 0; group < 819; group++)); do
-        number=$((819 * $1 + group))
-        first=$((2 * number))
-        second=$((first + 1))
-        printf '%d\n' "${one[number % ${#one[@]}]}" "${two[first % ${#two[@]}]}" \
-            "${three[first % ${#three[@]}]}" "${four[first % ${#four[@]}]}" 0 \
-            "${two[second % ${#two[@]}]}" "${three[second % ${#three[@]}]}" \
-            "${four[second % ${#four[@]}]}"
-    done
 }
 
 # Writes the text of the scalar values on standard input, one a line, as UTF-8: `write_text NAME`.
@@ -94,18 +62,15 @@ write_blocks() {
 
 # Writes all texts, and makes sure that they are not cut short, since too little would agree too.
 write_texts() {
-    local scalar number bytes
+    local scalar bytes
     write_text empty </dev/null
     for scalar in "${borders[@]}"; do
         printf '%d\n' "$scalar" | write_text "$(printf 'U+%04X' "$scalar")"
     done
-    for ((number = 0; number < 100; number++)); do
-        drawn_scalars "$number" | write_text "drawn_$number"
-    done
     write_blocks
     bytes=$(cat "$scratch"/texts/* | wc -c)
-    # The borders have 62 bytes, and a drawn text 16,380. All scalar values have 4,382,592.
-    if ((bytes != 62 + 100 * 16380 + 4382592)); then
+    # The borders have 62 bytes, and all scalar values 4,382,592.
+    if ((bytes != 62 + 4382592)); then
         echo "the texts were not written: they have $bytes bytes" >&2
         exit 2
     fi
@@ -239,7 +204,7 @@ run_uconv() {
 }
 
 build
-read_lists
+read_borders
 write_texts
 mapfile -t names < <(cd "$scratch/texts" && ls)
 summary=''

@@ -10,7 +10,7 @@ use std::test::Fail;
 
 // The characters of each width, drawn in turn. The lists' lengths have no divisor in common with
 // one another, or with the draws for a text, 819 from `ONE` and 1,638 from each other list, so no
-// two texts are the same. tests/peers.sh reads the lists here.
+// two texts are the same.
 const ONE: [char; 8] = [
     '\u{1}', '\u{9}', '\u{A}', '\u{20}', '\u{30}', '\u{41}', '\u{7A}', '\u{7F}',
 ];

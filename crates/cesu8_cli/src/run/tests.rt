@@ -1,7 +1,6 @@
 mod commands;
 mod devices;
 mod error_kinds;
-mod memory;
 mod reading;
 mod writing;
 
