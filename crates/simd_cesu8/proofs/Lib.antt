@@ -4,6 +4,12 @@ pub mod Shapes
 pub mod Forms
 pub mod Encodings
 mod Fronts
+pub mod FrontWidths
+pub mod WidthTests
+pub mod DecodedBytes
+pub mod DecodedText
+pub mod Savings
+pub mod Codes
 pub mod Lengths
 pub mod EncodedLength
 pub mod Elements
