@@ -1,76 +1,81 @@
--- What the bytes become, by their places in a window.
-use Rattle.std.proofs.Common.{◌≡◌, ℕ, zero, suc, ◌+◌, ◌<◌, List, [], ◌∷◌, ◌++◌, refl, sym, ap, ◌∙◌, arith, length, get_or}
-use Rattle.std.specs.List.{flat_map, range_with_len}
+-- What the bytes of a window become, between borders, is the UTF-8 of their lossy reading.
+use Rattle.std.proofs.Common.{◌≡◌, ℕ, zero, suc, ◌+◌, ◌<◌, ◌≤◌, true, List, [], ◌∷◌, ◌++◌, refl, sym, ap, ◌∙◌, arith, length, take, drop, get_or, length-drop, zero-add, add-zero, subst}
+use Rattle.std.proofs.lemmas.List.{take-append-drop, append_cancel_right}
 use Rattle.simd_cesu8.specs.Text.{utf8}
-use Rattle.simd_cesu8.specs.Encoding.{Flavor, Cesu8, Mutf8}
+use Rattle.simd_cesu8.specs.Encoding.{Flavor}
 use Rattle.simd_cesu8.specs.Reading.{reading}
-use Rattle.simd_cesu8.specs.DecodedPlaces.{front_width, front_width_by, width_at, decoded_byte, decoded_at, decoded, IsPadded}
+use Rattle.simd_cesu8.specs.DecodedPlaces.{front_width, width_at, decoded_byte, decoded_at, decoded, IsPadded, is_border_at}
+use Rattle.simd_cesu8.proofs.Decoding.{utf8_append}
+use Rattle.simd_cesu8.proofs.Splits.{split}
 use Rattle.simd_cesu8.proofs.DecodedBytes.{Ended, decoded_after, decoded_after_ended}
-use Rattle.simd_cesu8.proofs.WidthTests.{width_by_six}
+use Rattle.simd_cesu8.proofs.WindowPlaces.{Follows, follows_later, follows_zeros, width_following, border_agrees, decoded_split}
+use Rattle.simd_cesu8.proofs.PlaceBorders.{border_ends, border_of_zeros, none_crosses_border}
 
-stand_later : (f : Flavor) (x : ℕ) (window : List ℕ) (i j : ℕ) → j ≡ suc i → width_at f (x ∷ window) j ≡ width_at f window i
-stand_later f x window i j e =
-    let e1 : j + 1 ≡ suc (i + 1) = omega arith in
-    let e2 : j + 2 ≡ suc (i + 2) = omega arith in
-    let e3 : j + 3 ≡ suc (i + 3) = omega arith in
-    let e4 : j + 4 ≡ suc (i + 4) = omega arith in
-    let e5 : j + 5 ≡ suc (i + 5) = omega arith in
-    (λ k. front_width_by f (get_or (x ∷ window) (e k) 0) (get_or (x ∷ window) (e1 k) 0) (get_or (x ∷ window) (e2 k) 0)
-    (get_or (x ∷ window) (e3 k) 0) (get_or (x ∷ window) (e4 k) 0) (get_or (x ∷ window) (e5 k) 0))
+-- by the bytes, from the first on
+by_index : (f : Flavor) (window bytes : List ℕ) (i : ℕ) → Follows window bytes (i + 5) →
+    decoded f window i (length bytes)
+    ≡ decoded_after f (width_at f window (i + 4)) (width_at f window (i + 3)) (width_at f window (i + 2)) (width_at f window (i + 1))
+    (width_at f window i) (get_or window (i + 3) 0) (get_or window (i + 4) 0) bytes
+unfolding decoded decoded_after
+by_index f window [] i follows = refl
+by_index f window (b ∷ bytes) i follows =
+    let width = width_following f window (b ∷ bytes) (i + 5) follows (omega arith) in
+    let first : get_or window (i + 5) 0 ≡ b = ap (λ p. get_or window p 0) (sym (add-zero (i + 5))) ∙ follows 0 in
+    let e1 : i + 1 + 1 ≡ i + 2 = omega arith in
+    let e2 : i + 1 + 2 ≡ i + 3 = omega arith in
+    let e3 : i + 1 + 3 ≡ i + 4 = omega arith in
+    let e4 : i + 1 + 4 ≡ i + 5 = omega arith in
+    let place : 1 + (i + 5) ≡ i + 1 + 5 = omega arith in
+    let rest = by_index f window bytes (i + 1) (subst (Follows window bytes) place (follows_later window (b ∷ bytes) (i + 5) 1 follows)) in
+    let w = width_at f window in
+    (λ k. decoded_byte (width k) (w (i + 4)) (w (i + 3)) (w (i + 2)) (w (i + 1)) (w i) (get_or window (i + 3) 0) (get_or window (i + 4) 0) (first k)
+    ++ (rest ∙ (λ k. decoded_after f ((ap w e4 ∙ width) k) (w (e3 k)) (w (e2 k)) (w (e1 k)) (w (i + 1))
+    (get_or window (e3 k) 0) ((ap (λ p. get_or window p 0) e4 ∙ first) k) bytes)) k)
 
-byte_later : (x : ℕ) (window : List ℕ) (i j : ℕ) → j ≡ suc i → get_or (x ∷ window) j 0 ≡ get_or window i 0
-byte_later x window i j e = (λ k. get_or (x ∷ window) (e k) 0)
+-- From a border on, all bytes become the UTF-8 of their lossy reading.
+pub decoded_from_border : (f : Flavor) (window bytes : List ℕ) (i : ℕ) → Follows window bytes (i + 5) → is_border_at f window i ≡ true →
+    decoded f window i (length bytes) ≡ utf8 (reading f bytes)
+decoded_from_border f window bytes i follows border =
+    let ends = border_ends f window i border in
+    by_index f window bytes i follows
+    ∙ decoded_after_ended f bytes _ _ _ _ _ (get_or window (i + 3) 0) (get_or window (i + 4) 0) (record {
+      first = omega (arith, ends 4 (omega arith));
+      second = omega (arith, ends 3 (omega arith));
+      third = omega (arith, ends 2 (omega arith));
+      fourth = omega (arith, ends 1 (omega arith));
+      fifth = omega (arith, ends 0 (omega arith), ap (width_at f window) (add-zero i));
+    })
 
-later : (f : Flavor) (x : ℕ) (window : List ℕ) (i : ℕ) → decoded_at f (x ∷ window) (i + 1) ≡ decoded_at f window i
-later f x window i =
-    (λ k. decoded_byte (stand_later f x window (i + 5) (i + 1 + 5) (omega arith) k) (stand_later f x window (i + 4) (i + 1 + 4) (omega arith) k)
-    (stand_later f x window (i + 3) (i + 1 + 3) (omega arith) k) (stand_later f x window (i + 2) (i + 1 + 2) (omega arith) k)
-    (stand_later f x window (i + 1) (i + 1 + 1) (omega arith) k) (stand_later f x window i (i + 1) (omega arith) k)
-    (byte_later x window (i + 3) (i + 1 + 3) (omega arith) k) (byte_later x window (i + 4) (i + 1 + 4) (omega arith) k)
-    (byte_later x window (i + 5) (i + 1 + 5) (omega arith) k))
+-- Between two borders they become that of theirs.
+pub decoded_between : (f : Flavor) (window bytes : List ℕ) (n : ℕ) → Follows window bytes 5 → n ≤ length bytes →
+    is_border_at f window 0 ≡ true → is_border_at f window n ≡ true →
+    decoded f window 0 n ≡ utf8 (reading f (take n bytes))
+decoded_between f window bytes n follows fits first border =
+    let front = take n bytes in
+    let back = drop n bytes in
+    let all : n + length back ≡ length bytes = omega (arith, length-drop n bytes) in
+    let behind : decoded f window (0 + n) (length back) ≡ utf8 (reading f back) =
+    ap (λ i. decoded f window i (length back)) (zero-add n)
+    ∙ decoded_from_border f window back n (follows_later window bytes 5 n follows) border in
+    append_cancel_right (decoded f window 0 n) (utf8 (reading f front)) (utf8 (reading f back))
+    (ap (λ bs. decoded f window 0 n ++ bs) (sym behind)
+    ∙ sym (decoded_split f window 0 n (length back))
+    ∙ ap (decoded f window 0) all
+    ∙ decoded_from_border f window bytes 0 follows first
+    ∙ ap (λ bs. utf8 (reading f bs)) (sym (take-append-drop n bytes))
+    ∙ ap utf8 ((split f front back).1 (none_crosses_border f window bytes n follows fits border))
+    ∙ utf8_append (reading f front) (reading f back))
 
-all_later : (f : Flavor) (x : ℕ) (window : List ℕ) (i n : ℕ) →
-    flat_map (decoded_at f (x ∷ window)) (range_with_len (i + 1) n) ≡ flat_map (decoded_at f window) (range_with_len i n)
-all_later f x window i zero = refl
-all_later f x window i (suc n) = rw (later f x window i, all_later f x window (i + 1) n) refl
+-- A padded window has the bytes behind a border.
+pub padded_follows : (bytes window : List ℕ) → IsPadded bytes window → Follows window bytes 5
+padded_follows bytes window padded k = padded (5 + k) ∙ follows_zeros bytes k
 
--- what stands, in a list that has a byte
-stands : (f : Flavor) (b : ℕ) (bytes : List ℕ) → width_at f (b ∷ bytes) 0 ≡ front_width f (b ∷ bytes)
-stands f b bytes = sym (width_by_six f (b ∷ bytes) (omega arith))
-
-by_list : (f : Flavor) (v5 v4 v3 v2 v1 : ℕ) (bytes : List ℕ) →
-    flat_map (decoded_at f (v5 ∷ v4 ∷ v3 ∷ v2 ∷ v1 ∷ bytes)) (range_with_len 0 (length bytes))
-    ≡ decoded_after f (front_width f (v1 ∷ bytes)) (front_width f (v2 ∷ v1 ∷ bytes)) (front_width f (v3 ∷ v2 ∷ v1 ∷ bytes))
-    (front_width f (v4 ∷ v3 ∷ v2 ∷ v1 ∷ bytes)) (front_width f (v5 ∷ v4 ∷ v3 ∷ v2 ∷ v1 ∷ bytes)) v2 v1 bytes
-unfolding decoded_after
-by_list f v5 v4 v3 v2 v1 [] = refl
-by_list f v5 v4 v3 v2 v1 (b ∷ bytes) =
-    let here : decoded_at f (v5 ∷ v4 ∷ v3 ∷ v2 ∷ v1 ∷ b ∷ bytes) 0
-    ≡ decoded_byte (front_width f (b ∷ bytes)) (front_width f (v1 ∷ b ∷ bytes)) (front_width f (v2 ∷ v1 ∷ b ∷ bytes))
-    (front_width f (v3 ∷ v2 ∷ v1 ∷ b ∷ bytes)) (front_width f (v4 ∷ v3 ∷ v2 ∷ v1 ∷ b ∷ bytes))
-    (front_width f (v5 ∷ v4 ∷ v3 ∷ v2 ∷ v1 ∷ b ∷ bytes)) v2 v1 b =
-    (λ k. decoded_byte (stands f b bytes k) (stands f v1 (b ∷ bytes) k) (stands f v2 (v1 ∷ b ∷ bytes) k)
-    (stands f v3 (v2 ∷ v1 ∷ b ∷ bytes) k) (stands f v4 (v3 ∷ v2 ∷ v1 ∷ b ∷ bytes) k)
-    (stands f v5 (v4 ∷ v3 ∷ v2 ∷ v1 ∷ b ∷ bytes) k) v2 v1 b) in
-    let rest = all_later f v5 (v4 ∷ v3 ∷ v2 ∷ v1 ∷ b ∷ bytes) 0 (length bytes) ∙ by_list f v4 v3 v2 v1 b bytes in
-    (λ k. here k ++ rest k)
-
--- a zero is no character of two bytes or more
-zero_stands : (f : Flavor) (bytes : List ℕ) → front_width f (0 ∷ bytes) < 2
-unfolding front_width_by
-zero_stands Cesu8 bytes = rw (width_by_six Cesu8 (0 ∷ bytes) (omega arith)) (omega arith)
-zero_stands Mutf8 bytes = rw (width_by_six Mutf8 (0 ∷ bytes) (omega arith)) (omega arith)
+pub padded_border : (f : Flavor) (bytes window : List ℕ) → IsPadded bytes window → is_border_at f window 0 ≡ true
+padded_border f bytes window padded =
+    border_agrees f window (0 ∷ 0 ∷ 0 ∷ 0 ∷ 0 ∷ bytes) 0 0 (λ k small. padded (0 + k)) ∙ border_of_zeros f bytes
 
 -- What all bytes become is the UTF-8 of the lossy reading.
-pub by_places : (f : Flavor) (bytes : List ℕ) →
-    decoded f (0 ∷ 0 ∷ 0 ∷ 0 ∷ 0 ∷ bytes) 0 (length bytes) ≡ utf8 (reading f bytes)
-unfolding decoded
-by_places f bytes =
-    by_list f 0 0 0 0 0 bytes
-    ∙ decoded_after_ended f bytes _ _ _ _ _ 0 0 (record {
-      first = zero_stands f bytes;
-      second = omega (arith, zero_stands f (0 ∷ bytes));
-      third = omega (arith, zero_stands f (0 ∷ 0 ∷ bytes));
-      fourth = omega (arith, zero_stands f (0 ∷ 0 ∷ 0 ∷ bytes));
-      fifth = omega (arith, zero_stands f (0 ∷ 0 ∷ 0 ∷ 0 ∷ bytes));
-    })
+pub decoded_is_reading : (f : Flavor) (bytes window : List ℕ) → IsPadded bytes window →
+    decoded f window 0 (length bytes) ≡ utf8 (reading f bytes)
+decoded_is_reading f bytes window padded =
+    decoded_from_border f window bytes 0 (padded_follows bytes window padded) (padded_border f bytes window padded)

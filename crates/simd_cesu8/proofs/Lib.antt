@@ -7,6 +7,8 @@ mod Fronts
 pub mod FrontWidths
 pub mod WidthTests
 pub mod DecodedBytes
+pub mod WindowPlaces
+pub mod PlaceBorders
 pub mod DecodedText
 pub mod Savings
 pub mod Codes

@@ -1,6 +1,6 @@
 -- What the lossy reading makes of each byte, from the byte and its neighbours alone: the two before it,
 -- and how wide the characters are that begin at its place and at the five before it.
-use Rattle.std.specs.Prelude.{◌≡◌, ℕ, zero, suc, ◌+◌, ◌*◌, ◌/◌, ◌%◌, ◌&&◌, ◌||◌, ◌==◌, nat_le, nat_lt, if◌then◌else◌, Bool, true, false, List, [], ◌∷◌, slice_index}
+use Rattle.std.specs.Prelude.{◌≡◌, ℕ, zero, suc, ◌+◌, ◌*◌, ◌/◌, ◌%◌, ◌<◌, ◌&&◌, ◌||◌, ◌==◌, nat_le, nat_lt, if◌then◌else◌, not, Bool, true, false, List, [], ◌∷◌, slice_index}
 use Rattle.std.specs.List.{flat_map, range_with_len}
 use Rattle.simd_cesu8.specs.Encoding.{Flavor, Cesu8, Mutf8}
 use Rattle.simd_cesu8.specs.Reading.{standing, width_of}
@@ -86,19 +86,30 @@ decoded f window i n = flat_map (decoded_at f window) (range_with_len i n)
 abbrev pub IsPadded : List ℕ → List ℕ → Type 0
 IsPadded bytes window = (k : ℕ) → slice_index window k ≡ slice_index (0 ∷ 0 ∷ 0 ∷ 0 ∷ 0 ∷ bytes) k
 
--- No encoded character covers the byte that stands behind i bytes of a window and five more.
+-- One on the first n of them and five more: what begins before n is told by these.
+abbrev pub IsPaddedFor : ℕ → List ℕ → List ℕ → Type 0
+IsPaddedFor n bytes window =
+    (k : ℕ) → k < n + 10 → slice_index window k ≡ slice_index (0 ∷ 0 ∷ 0 ∷ 0 ∷ 0 ∷ bytes) k
+
+-- No encoded character covers a byte, by the widths at its place and at the five before it.
+abbrev pub damaged_by : (w0 w1 w2 w3 w4 w5 : ℕ) → Bool
+damaged_by w0 w1 w2 w3 w4 w5 =
+    not (nat_le 1 w0 || (nat_le 2 w1 || (nat_le 3 w2 || (w3 == 6 || (w4 == 6 || w5 == 6)))))
+
+-- The same for the byte of a window that stands behind i bytes and five more.
 abbrev pub is_damaged_at : Flavor → List ℕ → ℕ → Bool
 is_damaged_at f window i =
-    if nat_le 1 (width_at f window (i + 5)) || (nat_le 2 (width_at f window (i + 4)) || nat_le 3 (width_at f window (i + 3))) then false
-    else if width_at f window (i + 2) == 6 || (width_at f window (i + 1) == 6 || width_at f window i == 6) then false
-    else true
+    damaged_by (width_at f window (i + 5)) (width_at f window (i + 4)) (width_at f window (i + 3)) (width_at f window (i + 2))
+    (width_at f window (i + 1)) (width_at f window i)
 
--- The byte there begins no later than every character ends that began at one of the five places before
--- it: none reaches over it from the left.
+-- No encoded character reaches over a border from the five places before it, by their widths.
+abbrev pub border_by : (w1 w2 w3 w4 w5 : ℕ) → Bool
+border_by w1 w2 w3 w4 w5 = nat_le w1 1 && (nat_le w2 2 && (nat_le w3 3 && (nat_le w4 4 && nat_le w5 5)))
+
+-- The border before the byte of a window that stands behind i bytes and five more.
 abbrev pub is_border_at : Flavor → List ℕ → ℕ → Bool
 is_border_at f window i =
-    nat_le (width_at f window (i + 4)) 1 && (nat_le (width_at f window (i + 3)) 2 && (nat_le (width_at f window (i + 2)) 3
-    && (nat_le (width_at f window (i + 1)) 4 && nat_le (width_at f window i) 5)))
+    border_by (width_at f window (i + 4)) (width_at f window (i + 3)) (width_at f window (i + 2)) (width_at f window (i + 1)) (width_at f window i)
 
 -- How many bytes a place saves: three times the bytes of the character that begins there, less those of
 -- its UTF-8. A damaged byte saves none.
