@@ -11,6 +11,7 @@ pub mod WindowPlaces
 pub mod PlaceBorders
 pub mod DecodedText
 pub mod Savings
+pub mod Damage
 pub mod Codes
 pub mod Lengths
 pub mod EncodedLength

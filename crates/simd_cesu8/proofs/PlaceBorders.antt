@@ -84,8 +84,8 @@ border_of_zeros f bytes =
 
 -- ---- borders in bytes
 
--- the width at a place is that of the character that begins there
-width_of_standing : (f : Flavor) (window bytes : List ℕ) (i c : ℕ) → Follows window bytes 5 → i < length bytes → StandsAt f bytes i c →
+-- The width at a place is that of the character that begins there.
+pub width_of_standing : (f : Flavor) (window bytes : List ℕ) (i c : ℕ) → Follows window bytes 5 → i < length bytes → StandsAt f bytes i c →
     width_at f window (i + 5) ≡ width f c
 width_of_standing f window bytes i c follows inside stands =
     width_in f window bytes 5 i follows inside ∙ width_of_front f (drop i bytes) c stands.0 stands.1

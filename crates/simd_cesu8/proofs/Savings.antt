@@ -1,15 +1,16 @@
 -- The length of the lossy reading, by what each place saves of three bytes.
-use Rattle.std.proofs.Common.{◌≡◌, ℕ, ◌+◌, ◌*◌, ◌<◌, ◌⊎◌, List, [], ◌∷◌, ◌++◌, refl, sym, ap, ◌∙◌, inl, inr, arith, length, length-append, zero-add}
+use Rattle.std.proofs.Common.{◌≡◌, ℕ, ◌+◌, ◌*◌, ◌<◌, ◌⊎◌, List, [], ◌∷◌, ◌++◌, refl, sym, ap, ◌∙◌, inl, inr, arith, length, length-append, zero-add, add-zero, subst, get_or}
 use Rattle.std.proofs.lemmas.Bool.{ne_eqb, cases_eq}
 use Rattle.simd_cesu8.specs.Text.{IsScalarValue, utf8_of, utf8}
 use Rattle.simd_cesu8.specs.Encoding.{Flavor, Cesu8, Mutf8, encoding}
-use Rattle.simd_cesu8.specs.Reading.{NoneBegins, width, reading}
+use Rattle.simd_cesu8.specs.Reading.{NoneBegins, width, reading, lossy_length}
 use Rattle.simd_cesu8.specs.Cutting.{Piece, Character, Replaced, ArePieces, bytes_of, text_of, IsGreedy}
-use Rattle.simd_cesu8.specs.DecodedPlaces.{front_width, saved, all_saved}
+use Rattle.simd_cesu8.specs.DecodedPlaces.{front_width, saved, saved_between, all_saved}
 use Rattle.simd_cesu8.proofs.Shapes.{Shape, IsTwo, IsThree, IsPair, one, two, three, pair, shape, utf8_of_one, utf8_of_two, utf8_of_three, utf8_of_pair}
 use Rattle.simd_cesu8.proofs.Forms.{encoding_one, encoding_two, encoding_three, encoding_pair, short_form_null, short_form_other}
 use Rattle.simd_cesu8.proofs.Decoding.{length_utf8_replaced}
 use Rattle.simd_cesu8.proofs.FrontWidths.{begins_front, width_of_front, width_of_none, width_inside}
+use Rattle.simd_cesu8.proofs.WindowPlaces.{Follows, follows_later, width_following}
 use Rattle.simd_cesu8.proofs.Cuttings.{greedy_cutting}
 use Rattle.simd_cesu8.proofs.Greedy.{places}
 
@@ -162,3 +163,20 @@ length_by_savings f bytes =
       ap (all_saved f) cutting.cuts.1,
       ap (λ text. length (utf8 text)) (places f bytes cutting.pieces cutting.cuts cutting.greedy),
     )
+
+-- What all places of bytes save is what they save in a window.
+pub all_between : (f : Flavor) (window bytes : List ℕ) (i : ℕ) → Follows window bytes i → saved_between f window i (length bytes) ≡ all_saved f bytes
+unfolding saved_between all_saved
+all_between f window [] i follows = refl
+all_between f window (b ∷ bytes) i follows =
+    let width = width_following f window (b ∷ bytes) i follows (omega arith) in
+    let first : get_or window i 0 ≡ b = ap (λ p. get_or window p 0) (sym (add-zero i)) ∙ follows 0 in
+    let place : 1 + i ≡ i + 1 = omega arith in
+    let rest = all_between f window bytes (i + 1) (subst (Follows window bytes) place (follows_later window (b ∷ bytes) i 1 follows)) in
+    (λ k. saved (width k) (first k) + rest k)
+
+-- So the length of the lossy reading is three times the bytes, less what is saved between their ends.
+pub length_by_places : (f : Flavor) (bytes : List ℕ) → lossy_length f bytes + saved_between f bytes 0 (length bytes) ≡ 3 * length bytes
+unfolding lossy_length
+length_by_places f bytes =
+    omega (arith, length_by_savings f bytes, all_between f bytes bytes 0 (λ k. ap (λ p. get_or bytes p 0) (zero-add k)))
