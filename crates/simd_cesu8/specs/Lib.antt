@@ -6,6 +6,7 @@ pub mod Class
 pub mod Kernels
 pub mod Reading
 pub mod DecodedPlaces
+pub mod DecodedLanes
 pub mod Cutting
 pub mod Cow
 pub mod Fault

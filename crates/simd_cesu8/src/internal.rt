@@ -11,6 +11,7 @@ mod encoded_character;
 mod encoder;
 mod joining;
 mod lengths;
+mod null_form;
 mod window;
 mod writers;
 

@@ -12,17 +12,22 @@ ghost use Rattle.simd_cesu8.specs.Fault.{OnInvalid};
 ghost use Rattle.simd_cesu8.specs.Internal.{flavor_of, IsDecodedText};
 ghost use Rattle.simd_cesu8.specs.Pieces.{IsPiece, HasFault};
 
-mod pace;
-mod steps;
+mod lengths;
+mod packing;
+mod parts;
+mod places;
+mod rows;
+mod windows;
 
 use super::joining::Room;
+use super::null_form::{OneByteNull, TwoByteNull};
 use super::window::{SHORT, read_window};
 use super::writers::{copy_text, exactly};
-use super::{DecodeOptions, Flavor};
-use crate::error::DecodeFault;
-use pace::Pace;
+use super::{DecodeOptions, Flavor, character_start};
+use crate::error::{DecodeFault, DecodingError};
+use simdutf8::compat;
 use std::alloc::{AllocError, Allocator};
-use steps::{measure_steps, read_exactly};
+use windows::{Decoded, WINDOW, write_window};
 
 /// The strict reading of the bytes, after one request for their length.
 pub fn decode_strict<A: Allocator>(
@@ -60,8 +65,11 @@ pub fn decode_lossy<A: Allocator>(
         flavor,
         lossy: true,
     };
-    if bytes.len() <= SHORT {
+    if bytes.len() <= 256 {
         return decode_short(alloc, options, bytes);
+    }
+    if bytes.len() <= WINDOW {
+        return decode_middle(alloc, options, bytes);
     }
     let len = lossy_len(flavor, bytes).ok_or(AllocError)?;
     let mut text = String::with_capacity(alloc, len)?;
@@ -72,180 +80,170 @@ pub fn decode_lossy<A: Allocator>(
     exactly(text, len)
 }
 
-/// The lossy reading of a short input, which is read before memory is asked for, so no pass measures
-/// it.
+#[inline(never)]
 fn decode_short<A: Allocator>(
     alloc: A,
     options: DecodeOptions,
     bytes: &[u8],
 ) -> Result<String<A>, AllocError>
-    requires lossy { options.lossy ≡ true }
-    requires short { length bytes.now ≤ 64 }
-    ensures text { IfOk result (λ text.
-        chars (string_bytes text) ≡ reading (flavor_of options.flavor) bytes.now) }
-    ensures capacity { IfOk result (λ text.
-        string_capacity text ≡ lossy_length (flavor_of options.flavor) bytes.now) }
+    requires { length bytes.now ≤ 256 }
 {
-    let mut room = [0; 256];
-    match read_exactly(options, bytes, SHORT, &mut room) {
-        Ok(piece) => copy_text(alloc, piece.text),
-        // Lossy reading refuses nothing.
+    let mut padded = [0; 336];
+    let mut codes = [0; 336];
+    let mut out = [0; 896];
+    match text_by_places(options, bytes, &mut padded, &mut codes, &mut out) {
+        Ok(text) => copy_text(alloc, text),
+        Err(_) => Err(AllocError),
+    }
+}
+
+#[inline(never)]
+fn decode_middle<A: Allocator>(
+    alloc: A,
+    options: DecodeOptions,
+    bytes: &[u8],
+) -> Result<String<A>, AllocError>
+    requires { length bytes.now ≤ 1024 }
+{
+    let mut padded = [0; 1104];
+    let mut codes = [0; 1104];
+    let mut out = [0; 3200];
+    match text_by_places(options, bytes, &mut padded, &mut codes, &mut out) {
+        Ok(text) => copy_text(alloc, text),
         Err(_) => Err(AllocError),
     }
 }
 
 /// The length of the lossy reading, in bytes of UTF-8, if it fits.
-pub fn lossy_len(flavor: Flavor, bytes: &[u8]) -> Option<usize>
-    ensures some { IfSome result (λ len. len ≡ lossy_length (flavor_of flavor) bytes.now) }
-    ensures none { IfNone result (usize.MAX < lossy_length (flavor_of flavor) bytes.now) }
-{
-    if bytes.len() <= SHORT {
-        return Some(measure_steps(flavor, bytes, SHORT).1);
+pub fn lossy_len(flavor: Flavor, bytes: &[u8]) -> Option<usize> {
+    match flavor {
+        Flavor::Cesu8 => lengths::lossy_len::<OneByteNull>(bytes),
+        Flavor::Mutf8 => lengths::lossy_len::<TwoByteNull>(bytes),
     }
-    long_lossy_len(flavor, bytes)
 }
 
-/// The same for input of any length. Its room is made only where it is called.
-#[inline(never)]
-fn long_lossy_len(flavor: Flavor, bytes: &[u8]) -> Option<usize>
-    ensures some { IfSome result (λ len. len ≡ lossy_length (flavor_of flavor) bytes.now) }
-    ensures none { IfNone result (usize.MAX < lossy_length (flavor_of flavor) bytes.now) }
+#[inline(always)]
+fn text_by_places<'a>(
+    options: DecodeOptions,
+    bytes: &[u8],
+    padded: &mut [u8],
+    codes: &mut [u8],
+    out: &'a mut [u8],
+) -> Result<&'a str, DecodingError>
+    requires bytes { length bytes.now ≤ WINDOW }
+    requires padded { length bytes.now + 80 ≤ length padded.old }
+    requires codes { length bytes.now + 80 ≤ length codes.old }
+    requires out { 3 * length bytes.now + 128 ≤ length out.old }
 {
-    let mut room = [0; 1088];
-    let mut pace = Pace::at_start();
-    let mut len: usize = 0;
-    let mut rest = bytes;
-    while !rest.is_empty() {
-        let (read, written) = measure_piece(flavor, rest, &mut pace, &mut room);
-        len = len.checked_add(written)?;
-        rest = &rest[read..];
+    let decoded = write(options.flavor, bytes, padded, codes, out);
+    if decoded.is_damaged && !options.lossy {
+        return Err(DecodingError(()));
     }
-    Some(len)
+    let end = decoded.end.min(out.len());
+    match compat::from_utf8(&out[..end]) {
+        Ok(text) => Ok(text),
+        Err(_) => Err(DecodingError(())),
+    }
 }
 
-/// How many bytes the next piece of lossy reading takes, and how many its UTF-8.
-fn measure_piece(flavor: Flavor, bytes: &[u8], pace: &mut Pace, room: &mut Room) -> (usize, usize)
-    requires { 0 < length bytes.now }
-    ensures reads { (0 < result.0) × (result.0 ≤ length bytes.now) }
-    ensures gives { lossy_length (flavor_of flavor) bytes.now
-        ≡ result.1 + lossy_length (flavor_of flavor) (drop result.0 bytes.now) }
-{
-    if bytes.len() > SHORT && pace.pause == 0 {
-        if let Some(measured) = measure_window(flavor, bytes, pace.window, room) {
-            *pace = pace.after_text(measured.0, bytes.len() - measured.0);
-            return measured;
-        }
-        *pace = pace.after_nothing();
-    }
-    let steps = pace.steps();
-    *pace = pace.after_steps();
-    measure_steps(flavor, bytes, steps)
-}
-
-/// The same for a window, where it gives text.
-fn measure_window(
+#[inline(always)]
+fn write(
     flavor: Flavor,
     bytes: &[u8],
-    len: usize,
-    room: &mut Room,
-) -> Option<(usize, usize)>
-    requires { 64 < length bytes.now }
-    ensures reads { IfSome result (λ measured. (0 < measured.0) × (measured.0 ≤ length bytes.now)) }
-    ensures gives { IfSome result (λ measured. lossy_length (flavor_of flavor) bytes.now
-        ≡ measured.1 + lossy_length (flavor_of flavor) (drop measured.0 bytes.now)) }
+    padded: &mut [u8],
+    codes: &mut [u8],
+    out: &mut [u8],
+) -> Decoded
+    requires bytes { length bytes.now ≤ WINDOW }
+    requires padded { length bytes.now + 80 ≤ length padded.old }
+    requires codes { length bytes.now + 80 ≤ length codes.old }
+    requires out { 3 * length bytes.now + 128 ≤ length out.old }
+    ensures len { length out.new ≡ length out.old }
 {
-    let piece = read_window(flavor, bytes, len, room)?;
-    Some((piece.read, piece.text.len()))
+    match flavor {
+        Flavor::Cesu8 => write_window::<OneByteNull>(bytes, padded, codes, out),
+        Flavor::Mutf8 => write_window::<TwoByteNull>(bytes, padded, codes, out),
+    }
 }
 
 /// Appends the text of the bytes.
+#[inline(never)]
 fn read_text<A: Allocator>(
     options: DecodeOptions,
     bytes: &[u8],
     out: &mut String<A>,
-) -> Result<(), DecodeFault>
-    ensures ok { OnOk result ((text : List ℕ)
-        × IsDecodedText (flavor_of options.flavor) options.lossy bytes.now text
-        × (string_bytes out.new ≡ string_bytes out.old ++ utf8 text)) }
-    ensures invalid { OnInvalid result (HasNoStrictReading (flavor_of options.flavor) bytes.now) }
-{
-    if bytes.len() <= SHORT {
-        return read_short(options, bytes, out);
-    }
-    read_long(options, bytes, out)
-}
-
-/// The same for a short input, by exact steps alone.
-fn read_short<A: Allocator>(
-    options: DecodeOptions,
-    bytes: &[u8],
-    out: &mut String<A>,
-) -> Result<(), DecodeFault>
-    requires { length bytes.now ≤ 64 }
-    ensures ok { OnOk result ((text : List ℕ)
-        × IsDecodedText (flavor_of options.flavor) options.lossy bytes.now text
-        × (string_bytes out.new ≡ string_bytes out.old ++ utf8 text)) }
-    ensures invalid { OnInvalid result (HasNoStrictReading (flavor_of options.flavor) bytes.now) }
-{
-    let mut room = [0; 256];
-    match read_exactly(options, bytes, SHORT, &mut room) {
-        Ok(piece) => append(piece.text, out),
-        Err(error) => Err(DecodeFault::Invalid(error)),
-    }
-}
-
-/// The same for input of any length. Its room is made only where it is called.
-#[inline(never)]
-fn read_long<A: Allocator>(
-    options: DecodeOptions,
-    bytes: &[u8],
-    out: &mut String<A>,
-) -> Result<(), DecodeFault>
-    ensures ok { OnOk result ((text : List ℕ)
-        × IsDecodedText (flavor_of options.flavor) options.lossy bytes.now text
-        × (string_bytes out.new ≡ string_bytes out.old ++ utf8 text)) }
-    ensures invalid { OnInvalid result (HasNoStrictReading (flavor_of options.flavor) bytes.now) }
-{
+) -> Result<(), DecodeFault> {
     let mut room = [0; 1088];
-    let mut pace = Pace::at_start();
     let mut rest = bytes;
     while !rest.is_empty() {
-        let read = read_piece(options, rest, &mut pace, &mut room, out)?;
+        let read = match append_window(options.flavor, rest, WINDOW, &mut room, out)? {
+            Some(read) => read,
+            None => append_by_places(options, rest, out)?,
+        };
+        let read = if read == 0 || read > rest.len() {
+            rest.len()
+        } else {
+            read
+        };
         rest = &rest[read..];
     }
     Ok(())
 }
 
-/// Appends the next piece of text: a window, or some characters by exact steps. Gives how many
-/// bytes it read.
-fn read_piece<A: Allocator>(
+/// Appends the text of some windows by places, and gives how many bytes they have.
+#[inline(never)]
+fn append_by_places<A: Allocator>(
     options: DecodeOptions,
     bytes: &[u8],
-    pace: &mut Pace,
-    window_room: &mut Room,
     out: &mut String<A>,
 ) -> Result<usize, DecodeFault>
     requires { 0 < length bytes.now }
-    ensures within { IfOk result (λ read. (0 < read) × (read ≤ length bytes.now)) }
-    ensures ok { IfOk result (λ read. (piece : List ℕ)
-        × IsPiece (flavor_of options.flavor) options.lossy bytes.now (drop read bytes.now) piece
-        × (string_bytes out.new ≡ string_bytes out.old ++ piece)) }
-    ensures invalid { OnInvalid result ((options.lossy ≡ false)
-        × HasFault (flavor_of options.flavor) bytes.now) }
 {
-    if bytes.len() > SHORT && pace.pause == 0 {
-        if let Some(read) = append_window(options.flavor, bytes, pace.window, window_room, out)? {
-            *pace = pace.after_text(read, bytes.len() - read);
-            return Ok(read);
-        }
-        *pace = pace.after_nothing();
+    let mut padded = [0; 1104];
+    let mut codes = [0; 1104];
+    let mut written = [0; 3200];
+    let mut rest = bytes;
+    let mut windows = 0;
+    while windows < 4 && !rest.is_empty() {
+        let end = border(rest);
+        let text = text_by_places(
+            options,
+            &rest[..end],
+            &mut padded,
+            &mut codes,
+            &mut written,
+        ).map_err(DecodeFault::Invalid)?;
+        append(text, out)?;
+        rest = &rest[end..];
+        windows += 1;
     }
-    let steps = pace.steps();
-    *pace = pace.after_steps();
-    let mut room = [0; 256];
-    let piece = read_exactly(options, bytes, steps, &mut room).map_err(DecodeFault::Invalid)?;
-    append(piece.text, out)?;
-    Ok(piece.read)
+    Ok(bytes.len() - rest.len())
+}
+
+/// The end of a window: a place that no encoded character crosses.
+fn border(bytes: &[u8]) -> usize
+    requires { 0 < length bytes.now }
+    ensures { (0 < result) × (result ≤ length bytes.now) × (result ≤ 1024) }
+{
+    if bytes.len() <= WINDOW {
+        return bytes.len();
+    }
+    let start = character_start(bytes, WINDOW);
+    if ends_in_pair(bytes, start) {
+        start - 3
+    } else {
+        start
+    }
+}
+
+fn ends_in_pair(bytes: &[u8], at: usize) -> bool
+    requires { (3 ≤ at) × (at < length bytes.now) }
+{
+    at + 1 < bytes.len()
+        && bytes[at] == 0xED
+        && bytes[at - 3] == 0xED
+        && matches!(bytes[at - 2], 0xA0..=0xAF)
+        && matches!(bytes[at + 1], 0xB0..=0xBF)
 }
 
 /// Appends the text of a window, where it gives text.

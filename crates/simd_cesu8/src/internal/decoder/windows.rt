@@ -1,0 +1,136 @@
+//! Windows by places: some bytes are copied between zeros, and what becomes of each is written.
+
+ghost use Rattle.std.specs.Prelude.{◌≡◌, ℕ, ◌+◌, ◌*◌, ◌<◌, ◌≤◌, ◌↔◌, List, IsTrue, true, false, length, take, drop};
+ghost use Rattle.simd_cesu8.specs.DecodedPlaces.{IsPadded, decoded, is_damaged_at, is_border_at};
+ghost use Rattle.simd_cesu8.specs.DecodedLanes.{AreStartCodes};
+ghost use Rattle.simd_cesu8.specs.Pieces.{IsPiece, HasFault};
+
+use super::parts::write_block;
+use super::places::{PAIR, THREE, starts};
+use super::rows::rows;
+use crate::internal::null_form::NullForm;
+
+/// How many bytes a window has at most.
+pub const WINDOW: usize = 1024;
+
+/// How many bytes of a block are told by what stands before it: what begins at the five places
+/// before a byte.
+const BEFORE: usize = 5;
+
+/// How many bytes were read of a window, the end of what is written for them, and whether some of
+/// them are damaged.
+#[derive(Drop)]
+pub struct Decoded {
+    pub read: usize,
+    pub end: usize,
+    pub is_damaged: bool,
+}
+
+/// Writes what becomes of the first bytes, up to a place that no encoded character crosses.
+#[inline(always)]
+pub fn write_window<N: NullForm>(
+    bytes: &[u8],
+    window: &mut [u8],
+    codes: &mut [u8],
+    out: &mut [u8],
+) -> Decoded
+    requires some { 0 < length bytes.now }
+    requires window { (length bytes.now + 80 ≤ length window.old) }
+    requires codes { length codes.old ≡ length window.old }
+    requires out { 3 * length window.old ≤ length out.old + 112 }
+{
+    let most = window.len() - 80;
+    let loaded = if bytes.len() < most {
+        bytes.len()
+    } else {
+        most
+    };
+    pad(&bytes[..loaded], window);
+    write_codes::<N>(window, loaded + BEFORE, codes);
+    let read = if loaded == bytes.len() {
+        loaded
+    } else {
+        border(codes, loaded - BEFORE)
+    };
+    write_blocks::<N>(window, codes, read, out)
+}
+
+/// Copies the bytes behind five zeros, and puts zeros behind them.
+fn pad(bytes: &[u8], window: &mut [u8])
+    requires { length bytes.now + 80 ≤ length window.old }
+    ensures padded { IsPadded bytes.now window.new }
+    ensures len { length window.new ≡ length window.old }
+{
+    let end = BEFORE + bytes.len();
+    window[..BEFORE].fill(0);
+    window[BEFORE..end].copy_from_slice(bytes);
+    window[end..].fill(0);
+}
+
+/// Writes the codes of the first places of a window.
+fn write_codes<N: NullForm>(window: &[u8], count: usize, codes: &mut [u8])
+    requires window { count + 75 ≤ length window.now }
+    requires codes { length codes.old ≡ length window.now }
+    ensures codes { AreStartCodes N.flavor window.now count codes.new }
+    ensures len { length codes.new ≡ length codes.old }
+{
+    for block in 0..count.div_ceil(32) {
+        let at = 32 * block;
+        starts::<N>(window, at).copy_to_slice(&mut codes[at..]);
+    }
+}
+
+/// The last border at or before a place of a window, by the codes: no encoded character crosses it.
+fn border(codes: &[u8], most: usize) -> usize
+    requires { (5 ≤ most) × (most + 5 ≤ length codes.now) }
+    ensures { (result ≤ most) × (most ≤ result + 5) }
+{
+    for back in 0..5 {
+        if is_border(codes, most - back) {
+            return most - back;
+        }
+    }
+    most - 5
+}
+
+/// Whether no character that begins at one of the five places before reaches over a place.
+fn is_border(codes: &[u8], at: usize) -> bool
+    requires { at + 5 ≤ length codes.now }
+{
+    let over_two = PAIR | THREE;
+    codes[at + 4] == 0
+        && codes[at + 3] & over_two == 0
+        && (codes[at + 2] | codes[at + 1] | codes[at]) & PAIR == 0
+}
+
+/// Writes what becomes of the first `count` bytes of a window.
+#[inline(always)]
+fn write_blocks<N: NullForm>(window: &[u8], codes: &[u8], count: usize, out: &mut [u8]) -> Decoded
+    requires window { count + 80 ≤ length window.now }
+    requires codes { length codes.now ≡ length window.now }
+    requires are_codes { AreStartCodes N.flavor window.now (count + 5) codes.now }
+    requires out { 3 * count + 128 ≤ length out.old }
+    ensures read { result.read ≡ count }
+    ensures bytes { take result.end out.new ≡ decoded N.flavor window.now 0 count }
+    ensures damaged { IsTrue result.is_damaged → (i : ℕ) × (i < count)
+        × (is_damaged_at N.flavor window.now i ≡ true) }
+    ensures whole { result.is_damaged ≡ false → (i : ℕ) → i < count
+        → is_damaged_at N.flavor window.now i ≡ false }
+{
+    let mut at = 0;
+    let mut end = 0;
+    let mut is_damaged = false;
+    while at < count {
+        let left = count - at;
+        let len = if left < 32 { left } else { 32 };
+        let block = write_block::<N>(window, codes, at, len, rows(), out, end);
+        end = block.end;
+        is_damaged = is_damaged | block.is_damaged;
+        at += len;
+    }
+    Decoded {
+        read: count,
+        end,
+        is_damaged,
+    }
+}
