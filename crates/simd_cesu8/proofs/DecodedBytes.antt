@@ -8,7 +8,7 @@ use Rattle.simd_cesu8.specs.Cutting.{Piece, Character, Replaced, ArePieces, byte
 use Rattle.simd_cesu8.specs.DecodedPlaces.{front_width, decoded_byte}
 use Rattle.simd_cesu8.proofs.Shapes.{Shape, IsTwo, IsThree, IsPair, one, two, three, pair, shape, utf8_of_one, utf8_of_two, utf8_of_three, utf8_of_pair}
 use Rattle.simd_cesu8.proofs.Forms.{encoding_one, encoding_two, encoding_three, encoding_pair, short_form_null, short_form_other}
-use Rattle.simd_cesu8.proofs.FrontWidths.{begins_front, width_of_front, width_of_none, width_inside}
+use Rattle.simd_cesu8.proofs.FrontWidths.{begins_encoded, width_of_front, width_of_none, width_inside}
 use Rattle.simd_cesu8.proofs.Cuttings.{greedy_cutting}
 use Rattle.simd_cesu8.proofs.Greedy.{places}
 
@@ -106,7 +106,7 @@ one_read : (f : Flavor) (c w1 w2 w3 w4 w5 p q : ℕ) (rest text : List ℕ) → 
     Ended w1 w2 w3 w4 w5 → Continues f rest text → decoded_after f w1 w2 w3 w4 w5 p q (c ∷ rest) ≡ c ∷ text
 unfolding decoded_after
 one_read f c w1 w2 w3 w4 w5 p q rest text scalar ascii same ended continues =
-    let begins = begins_front f c (c ∷ []) rest scalar same in
+    let begins = begins_encoded f c (c ∷ []) rest scalar same in
     rw (
       width_of_front f (c ∷ rest) c rest begins,
       ap length same,
@@ -131,7 +131,7 @@ two_read f c x y w1 w2 w3 w4 w5 p q rest text scalar digits ended continues =
     let a = 0xC0 + x in
     let b = 0x80 + y in
     let same = encoding_two f c x y digits in
-    let begins = begins_front f c (a ∷ b ∷ []) rest scalar same in
+    let begins = begins_encoded f c (a ∷ b ∷ []) rest scalar same in
     let long : width f c ≡ 2 = ap length same in
     let low = digits.low in
     rw (
@@ -163,7 +163,7 @@ three_read f c x y z w1 w2 w3 w4 w5 p q rest text scalar digits ended continues 
     let b = 0x80 + y in
     let d = 0x80 + z in
     let same = encoding_three f c x y z digits in
-    let begins = begins_front f c (a ∷ b ∷ d ∷ []) rest scalar same in
+    let begins = begins_encoded f c (a ∷ b ∷ d ∷ []) rest scalar same in
     let long : width f c ≡ 3 = ap length same in
     rw (
       width_of_front f (a ∷ b ∷ d ∷ rest) c rest begins,
@@ -193,7 +193,7 @@ null_read : (f : Flavor) (c w1 w2 w3 w4 w5 p q : ℕ) (rest text : List ℕ) →
     Ended w1 w2 w3 w4 w5 → Continues f rest text → decoded_after f w1 w2 w3 w4 w5 p q (0xC0 ∷ 0x80 ∷ rest) ≡ 0 ∷ text
 unfolding decoded_after
 null_read f c w1 w2 w3 w4 w5 p q rest text scalar same ended continues =
-    let begins = begins_front f c (0xC0 ∷ 0x80 ∷ []) rest scalar same in
+    let begins = begins_encoded f c (0xC0 ∷ 0x80 ∷ []) rest scalar same in
     let long : width f c ≡ 2 = ap length same in
     rw (
       width_of_front f (0xC0 ∷ 0x80 ∷ rest) c rest begins,
@@ -222,7 +222,7 @@ pair_read f c w x y z w1 w2 w3 w4 w5 p q rest text scalar digits continues =
     let g = 0xB0 + y in
     let h = 0x80 + z in
     let same = encoding_pair f c w x y z digits in
-    let begins = begins_front f c (0xED ∷ b ∷ d ∷ 0xED ∷ g ∷ h ∷ []) rest scalar same in
+    let begins = begins_encoded f c (0xED ∷ b ∷ d ∷ 0xED ∷ g ∷ h ∷ []) rest scalar same in
     let long : width f c ≡ 6 = ap length same in
     let h_w = digits.first in
     let h_x = digits.second in

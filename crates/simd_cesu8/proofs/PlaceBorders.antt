@@ -1,12 +1,12 @@
 -- Places that no encoded character reaches over, told by the widths at the five before.
-use Rattle.std.proofs.Common.{◌≡◌, ℕ, zero, suc, ◌+◌, ◌-◌, ◌<◌, ◌≤◌, ◌⊎◌, ⊎_elim, Bool, true, false, ◌&&◌, leb, List, [], ◌∷◌, ◌++◌, refl, sym, ap, ◌∙◌, subst, inl, inr, arith, length, take, drop, get_or, cond, add-zero, zero-add}
+use Rattle.std.proofs.Common.{◌≡◌, ℕ, zero, suc, ◌+◌, ◌-◌, ◌<◌, ◌≤◌, ◌⊎◌, ⊎_elim, Bool, true, false, ◌&&◌, leb, List, [], ◌∷◌, ◌++◌, refl, sym, ap, ◌∙◌, subst, inl, inr, arith, length, take, drop, get_or, cond, add-zero, zero-add, length-drop}
 use Rattle.std.proofs.lemmas.Bool.{and_parts, and_from, leb-true, le-leb, cases_lt}
 use Rattle.std.proofs.lemmas.List.{take-append-drop, length-take-le}
 use Rattle.simd_cesu8.specs.Encoding.{Flavor, Cesu8, Mutf8}
 use Rattle.simd_cesu8.specs.Reading.{BeginsWith, StandsAt, width}
 use Rattle.simd_cesu8.specs.Laws.{NoneCrosses}
 use Rattle.simd_cesu8.specs.DecodedPlaces.{front_width, front_width_by, width_at, is_border_at, border_by, one_at, null_at, two_at, three_at, pair_at}
-use Rattle.simd_cesu8.proofs.FrontWidths.{IsWide, wide, width_of_front}
+use Rattle.simd_cesu8.proofs.FrontWidths.{IsWide, wide, width_of_front, width_fits}
 use Rattle.simd_cesu8.proofs.Stretches.{no_overlap}
 use Rattle.simd_cesu8.proofs.WindowPlaces.{Follows, width_in}
 
@@ -130,3 +130,17 @@ border_at_character f window bytes i follows first inside some =
     let place : i + s - 5 + 5 ≡ i + s = omega arith in
     omega (arith, ends_before f window bytes (i + s - 5) i follows (omega arith) inside some, ap (width_at f window) place))
     (cases_lt (i + s) 5))
+
+-- The end of the bytes is a border.
+pub border_at_end : (f : Flavor) (window bytes : List ℕ) → Follows window bytes 5 → is_border_at f window 0 ≡ true →
+    is_border_at f window (length bytes) ≡ true
+border_at_end f window bytes follows first =
+    border_where f window (length bytes) (λ s small. ⊎_elim
+    (λ (early : length bytes + s < 5).
+    omega (arith, border_ends f window 0 first (length bytes + s) early, ap (width_at f window) (zero-add (length bytes + s))))
+    (λ (later : 5 ≤ length bytes + s).
+    let p = length bytes + s - 5 in
+    let place : p + 5 ≡ length bytes + s = omega arith in
+    let there = width_in f window bytes 5 p follows (omega arith) in
+    omega (arith, width_fits f (drop p bytes), length-drop p bytes, ap (width_at f window) place))
+    (cases_lt (length bytes + s) 5))

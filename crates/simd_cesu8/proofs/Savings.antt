@@ -9,7 +9,7 @@ use Rattle.simd_cesu8.specs.DecodedPlaces.{front_width, saved, saved_between, al
 use Rattle.simd_cesu8.proofs.Shapes.{Shape, IsTwo, IsThree, IsPair, one, two, three, pair, shape, utf8_of_one, utf8_of_two, utf8_of_three, utf8_of_pair}
 use Rattle.simd_cesu8.proofs.Forms.{encoding_one, encoding_two, encoding_three, encoding_pair, short_form_null, short_form_other}
 use Rattle.simd_cesu8.proofs.Decoding.{length_utf8_replaced}
-use Rattle.simd_cesu8.proofs.FrontWidths.{begins_front, width_of_front, width_of_none, width_inside}
+use Rattle.simd_cesu8.proofs.FrontWidths.{begins_encoded, width_of_front, width_of_none, width_inside}
 use Rattle.simd_cesu8.proofs.WindowPlaces.{Follows, follows_later, width_following}
 use Rattle.simd_cesu8.proofs.Cuttings.{greedy_cutting}
 use Rattle.simd_cesu8.proofs.Greedy.{places}
@@ -23,7 +23,7 @@ pub record Saves (f : Flavor) (c : ℕ) (rest : List ℕ) : Type 0 where
 one_saves : (f : Flavor) (c : ℕ) (rest : List ℕ) → IsScalarValue c → c < 0x80 → encoding f (c ∷ []) ≡ c ∷ [] → Saves f c rest
 unfolding all_saved
 one_saves f c rest scalar ascii same =
-    let begins = begins_front f c (c ∷ []) rest scalar same in
+    let begins = begins_encoded f c (c ∷ []) rest scalar same in
     record {
       some = 2;
       saves = rw (same, width_of_front f (c ∷ rest) c rest begins, ap length same) refl;
@@ -33,7 +33,7 @@ one_saves f c rest scalar ascii same =
 null_saves : (f : Flavor) (c : ℕ) (rest : List ℕ) → IsScalarValue c → c < 0x80 → encoding f (c ∷ []) ≡ 0xC0 ∷ 0x80 ∷ [] → Saves f c rest
 unfolding all_saved
 null_saves f c rest scalar ascii same =
-    let begins = begins_front f c (0xC0 ∷ 0x80 ∷ []) rest scalar same in
+    let begins = begins_encoded f c (0xC0 ∷ 0x80 ∷ []) rest scalar same in
     let long : width f c ≡ 2 = ap length same in
     record {
       some = 5;
@@ -52,7 +52,7 @@ two_saves f c x y rest scalar digits =
     let a = 0xC0 + x in
     let b = 0x80 + y in
     let same = encoding_two f c x y digits in
-    let begins = begins_front f c (a ∷ b ∷ []) rest scalar same in
+    let begins = begins_encoded f c (a ∷ b ∷ []) rest scalar same in
     let long : width f c ≡ 2 = ap length same in
     let low = digits.low in
     record {
@@ -74,7 +74,7 @@ three_saves f c x y z rest scalar digits =
     let b = 0x80 + y in
     let d = 0x80 + z in
     let same = encoding_three f c x y z digits in
-    let begins = begins_front f c (a ∷ b ∷ d ∷ []) rest scalar same in
+    let begins = begins_encoded f c (a ∷ b ∷ d ∷ []) rest scalar same in
     let long : width f c ≡ 3 = ap length same in
     record {
       some = 6;
@@ -96,7 +96,7 @@ pair_saves f c w x y z rest scalar digits =
     let g = 0xB0 + y in
     let h = 0x80 + z in
     let same = encoding_pair f c w x y z digits in
-    let begins = begins_front f c (0xED ∷ b ∷ d ∷ 0xED ∷ g ∷ h ∷ []) rest scalar same in
+    let begins = begins_encoded f c (0xED ∷ b ∷ d ∷ 0xED ∷ g ∷ h ∷ []) rest scalar same in
     let long : width f c ≡ 6 = ap length same in
     record {
       some = 14;
