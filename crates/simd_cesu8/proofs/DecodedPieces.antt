@@ -14,7 +14,7 @@ use Rattle.simd_cesu8.proofs.Greedy.{places}
 use Rattle.simd_cesu8.proofs.Splits.{split}
 use Rattle.simd_cesu8.proofs.Pieces.{fault_of_whole}
 use Rattle.simd_cesu8.proofs.WindowPlaces.{Agree, agree_later, Follows, follows_zeros, width_agrees, border_agrees, damage_agrees, decoded_agrees}
-use Rattle.simd_cesu8.proofs.PlaceBorders.{border_of_zeros, none_crosses_border, border_at_character}
+use Rattle.simd_cesu8.proofs.PlaceBorders.{border_of_zeros, none_crosses_border, border_at_character, border_near}
 use Rattle.simd_cesu8.proofs.Damage.{IsCovered, piece_of_text, covered_read, uncovered_fault, covered_where, not_covered_where, covered_in_front}
 use Rattle.simd_cesu8.proofs.DecodedText.{decoded_between, padded_follows, padded_border}
 
@@ -86,6 +86,16 @@ module _ (f : Flavor) (bytes window : List ℕ) (n : ℕ) (padded : IsPaddedFor 
       (omega (arith, width_agrees f window all (i + 5) (i + 5) (agrees (i + 5) 6 (omega arith))))
 
   module _ (fits : n ≤ length bytes) where
+    -- The end of the first n is a border, or one of the five places before it is.
+    pub border_behind : (m : ℕ) × (m ≤ n) × (n ≤ m + 5) × (is_border_at f window m ≡ true)
+    border_behind =
+        let near = border_near f all bytes n (follows_zeros bytes) (border_of_zeros f bytes) fits in (
+          near.0,
+          near.1,
+          near.2,
+          border_agrees f window all near.0 near.0 (agrees near.0 10 (omega (arith, near.1))) ∙ near.3,
+        )
+
     -- A damaged place is a fault.
     pub fault_at : (i : ℕ) → i < n → is_damaged_at f window i ≡ true → HasFault f bytes
     fault_at i inside damaged =
