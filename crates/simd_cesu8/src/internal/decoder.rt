@@ -172,27 +172,26 @@ fn read_text<A: Allocator>(
     let mut most = SHORT;
     let mut rest = bytes;
     while !rest.is_empty() {
-        let read = read_windows(options, rest, most, &mut room, out)?;
-        rest = &rest[read..];
+        rest = read_windows(options, rest, most, &mut room, out)?;
         most = WINDOW;
     }
     Ok(())
 }
 
-/// Appends the next piece of text, and gives how many bytes it read: a window that is joined, or some
-/// by places.
-fn read_windows<A: Allocator>(
+/// Appends the next piece of text, a window that is joined or some by places, and gives the bytes that
+/// are left.
+fn read_windows<'b, A: Allocator>(
     options: DecodeOptions,
-    bytes: &[u8],
+    bytes: &'b [u8],
     most: usize,
     room: &mut Room,
     out: &mut String<A>,
-) -> Result<usize, DecodeFault>
+) -> Result<&'b [u8], DecodeFault>
     requires some { 0 < length bytes.now }
-    requires most { most ≤ WINDOW }
-    ensures within { IfOk result (λ read. (0 < read) × (read ≤ length bytes.now)) }
-    ensures ok { IfOk result (λ read. (piece : List ℕ)
-        × IsPiece (flavor_of options.flavor) options.lossy bytes.now (drop read bytes.now) piece
+    requires most { (SHORT ≤ most) × (most ≤ WINDOW) }
+    ensures less { IfOk result (λ rest. length rest.now < length bytes.now) }
+    ensures ok { IfOk result (λ rest. (piece : List ℕ)
+        × IsPiece (flavor_of options.flavor) options.lossy bytes.now rest.now piece
         × (string_bytes out.new ≡ string_bytes out.old ++ piece)) }
     ensures invalid { OnInvalid result ((options.lossy ≡ false)
         × HasFault (flavor_of options.flavor) bytes.now) }
@@ -200,7 +199,7 @@ fn read_windows<A: Allocator>(
     if bytes.len() > SHORT {
         if let Some(piece) = read_window(options.flavor, bytes, most, room) {
             append(piece.text, out)?;
-            return Ok(piece.read);
+            return Ok(&bytes[piece.read..]);
         }
     }
     if bytes.len() <= SMALL {
@@ -209,20 +208,20 @@ fn read_windows<A: Allocator>(
     append_windows(options, bytes, most, out)
 }
 
-/// Appends the text of some windows by places, which have at most so many bytes each, and gives how
-/// many bytes it read. Its rooms are made only where it is called.
+/// Appends the text of some windows by places, which have at most so many bytes each, and gives the
+/// bytes that are left. Its rooms are made only where it is called.
 #[inline(never)]
-fn append_windows<A: Allocator>(
+fn append_windows<'b, A: Allocator>(
     options: DecodeOptions,
-    bytes: &[u8],
+    bytes: &'b [u8],
     most: usize,
     out: &mut String<A>,
-) -> Result<usize, DecodeFault>
+) -> Result<&'b [u8], DecodeFault>
     requires some { 0 < length bytes.now }
-    requires most { most ≤ WINDOW }
-    ensures within { IfOk result (λ read. (0 < read) × (read ≤ length bytes.now)) }
-    ensures ok { IfOk result (λ read. (piece : List ℕ)
-        × IsPiece (flavor_of options.flavor) options.lossy bytes.now (drop read bytes.now) piece
+    requires most { (SHORT ≤ most) × (most ≤ WINDOW) }
+    ensures less { IfOk result (λ rest. length rest.now < length bytes.now) }
+    ensures ok { IfOk result (λ rest. (piece : List ℕ)
+        × IsPiece (flavor_of options.flavor) options.lossy bytes.now rest.now piece
         × (string_bytes out.new ≡ string_bytes out.old ++ piece)) }
     ensures invalid { OnInvalid result ((options.lossy ≡ false)
         × HasFault (flavor_of options.flavor) bytes.now) }
@@ -234,7 +233,7 @@ fn append_windows<A: Allocator>(
     let mut rest = bytes;
     let mut windows = 0;
     while windows < WINDOWS && !rest.is_empty() {
-        let read = append_window(
+        rest = append_window(
             options,
             rest,
             &mut window[..room],
@@ -242,24 +241,23 @@ fn append_windows<A: Allocator>(
             &mut written,
             out,
         )?;
-        rest = &rest[read..];
         windows += 1;
     }
-    Ok(bytes.len() - rest.len())
+    Ok(rest)
 }
 
 /// Appends the text of a few bytes, by places.
 #[inline(never)]
-fn append_small<A: Allocator>(
+fn append_small<'b, A: Allocator>(
     options: DecodeOptions,
-    bytes: &[u8],
+    bytes: &'b [u8],
     out: &mut String<A>,
-) -> Result<usize, DecodeFault>
+) -> Result<&'b [u8], DecodeFault>
     requires some { 0 < length bytes.now }
     requires small { length bytes.now ≤ SMALL }
-    ensures within { IfOk result (λ read. (0 < read) × (read ≤ length bytes.now)) }
-    ensures ok { IfOk result (λ read. (piece : List ℕ)
-        × IsPiece (flavor_of options.flavor) options.lossy bytes.now (drop read bytes.now) piece
+    ensures less { IfOk result (λ rest. length rest.now < length bytes.now) }
+    ensures ok { IfOk result (λ rest. (piece : List ℕ)
+        × IsPiece (flavor_of options.flavor) options.lossy bytes.now rest.now piece
         × (string_bytes out.new ≡ string_bytes out.old ++ piece)) }
     ensures invalid { OnInvalid result ((options.lossy ≡ false)
         × HasFault (flavor_of options.flavor) bytes.now) }
@@ -270,23 +268,23 @@ fn append_small<A: Allocator>(
     append_window(options, bytes, &mut window, &mut codes, &mut written, out)
 }
 
-/// Appends the text of a window by places, and gives how many bytes it read.
+/// Appends the text of a window by places, and gives the bytes that are left.
 #[inline(always)]
-fn append_window<A: Allocator>(
+fn append_window<'b, A: Allocator>(
     options: DecodeOptions,
-    bytes: &[u8],
+    bytes: &'b [u8],
     window: &mut [u8],
     codes: &mut [u8],
     written: &mut [u8],
     out: &mut String<A>,
-) -> Result<usize, DecodeFault>
+) -> Result<&'b [u8], DecodeFault>
     requires some { 0 < length bytes.now }
     requires window { 90 ≤ length window.old }
     requires codes { length codes.old ≡ length window.old }
     requires written { 3 * length window.old ≤ length written.old + 112 }
-    ensures within { IfOk result (λ read. (0 < read) × (read ≤ length bytes.now)) }
-    ensures ok { IfOk result (λ read. (piece : List ℕ)
-        × IsPiece (flavor_of options.flavor) options.lossy bytes.now (drop read bytes.now) piece
+    ensures less { IfOk result (λ rest. length rest.now < length bytes.now) }
+    ensures ok { IfOk result (λ rest. (piece : List ℕ)
+        × IsPiece (flavor_of options.flavor) options.lossy bytes.now rest.now piece
         × (string_bytes out.new ≡ string_bytes out.old ++ piece)) }
     ensures invalid { OnInvalid result ((options.lossy ≡ false)
         × HasFault (flavor_of options.flavor) bytes.now) }
@@ -296,7 +294,7 @@ fn append_window<A: Allocator>(
         return Err(DecodeFault::Invalid(DecodingError(())));
     }
     append(read.text, out)?;
-    Ok(read.len)
+    Ok(&bytes[read.len..])
 }
 
 /// What is read by places: how many bytes, their text in lossy reading, and whether some of them are

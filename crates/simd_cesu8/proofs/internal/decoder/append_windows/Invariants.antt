@@ -1,4 +1,4 @@
-use Rattle.std.proofs.Common.{◌≡◌, ◌<◌, ◌≤◌, ◌-◌, ◌+◌, length, List, ℕ}
+use Rattle.std.proofs.Common.{◌≡◌, ◌<◌, ◌≤◌, ◌-◌, length}
 use Rattle.std.specs.String.{string_bytes}
 use Rattle.simd_cesu8.specs.Internal.{flavor_of}
 use Rattle.simd_cesu8.specs.Pieces.{IsReadSoFar}
@@ -10,5 +10,7 @@ decreases-loop-windows g l = 4 - l.windows
 abbrev pub invariant-loop-windows : goal.invariant-loop-windows
 invariant-loop-windows g l = record {
   so_far : IsReadSoFar (flavor_of l.options.flavor) l.options.lossy l.fn.bytes l.rest (string_bytes l.initial.out) (string_bytes l.out);
-  some : 0 < length l.rest → l.windows ≡ 0 → 0 < 1;
+  within : length l.rest ≤ length l.fn.bytes;
+  first : l.windows ≡ 0 → length l.rest ≡ length l.fn.bytes;
+  less : 0 < l.windows → length l.rest < length l.fn.bytes;
 }
