@@ -13,7 +13,7 @@ pub mod DecodedText
 pub mod Savings
 pub mod Damage
 pub mod DecodedPieces
-pub mod Codes
+pub mod StartCodes
 pub mod Lengths
 pub mod EncodedLength
 pub mod Elements
