@@ -112,7 +112,11 @@ lanes_parts (suc n) (g ∷ gone) (d ∷ damaged) (b ∷ bytes) e f =
     ap (λ l. this ++ l) (lanes_parts n gone damaged bytes (omega arith) (omega arith))
     ∙ sym (append_assoc this (written_lanes (take n gone) (take n damaged) (take n bytes)) (written_lanes (drop n gone) (drop n damaged) (drop n bytes)))
 
-module _ (gone damaged bytes : List ℕ) (long : ℕ) (g : length gone ≡ long) (d : length damaged ≡ long) (b : length bytes ≡ long) where
+-- what stands behind x, with four bytes written
+abbrev pub AddsFour : (x y lanes : List ℕ) → ℕ → Type 0
+AddsFour x y lanes set = (gone damaged : List Bool) → length gone ≡ 4 → length damaged ≡ 4 → set ≡ mask_l (gone ++ damaged) → y ≡ x ++ written gone damaged lanes
+
+module _ (gone damaged bytes : List ℕ) where
   -- what is written for n lanes from a on, and for all from there on
   abbrev part : ℕ → ℕ → List ℕ
   part a n = written_lanes (chunk a n gone) (chunk a n damaged) (chunk a n bytes)
@@ -120,88 +124,87 @@ module _ (gone damaged bytes : List ℕ) (long : ℕ) (g : length gone ≡ long)
   abbrev rest : ℕ → List ℕ
   rest a = written_lanes (drop a gone) (drop a damaged) (drop a bytes)
 
-  next : (a n : ℕ) → rest a ≡ part a n ++ rest (a + n)
-  next a n =
-      lanes_parts n (drop a gone) (drop a damaged) (drop a bytes)
-      (omega (arith, length-drop a gone, length-drop a damaged)) (omega (arith, length-drop a gone, length-drop a bytes))
-      ∙ rw (drop-drop n a gone, drop-drop n a damaged, drop-drop n a bytes) refl
+  module _ (long : ℕ) (g : length gone ≡ long) (d : length damaged ≡ long) (b : length bytes ≡ long) where
+    next : (a n : ℕ) → rest a ≡ part a n ++ rest (a + n)
+    next a n =
+        lanes_parts n (drop a gone) (drop a damaged) (drop a bytes)
+        (omega (arith, length-drop a gone, length-drop a damaged)) (omega (arith, length-drop a gone, length-drop a bytes))
+        ∙ rw (drop-drop n a gone, drop-drop n a damaged, drop-drop n a bytes) refl
 
-  last : (a n : ℕ) → a + n ≡ long → rest a ≡ part a n
-  last a n e = next a n ∙ rw (drop_all (a + n) gone (omega arith)) (append-nil (part a n))
+    last : (a n : ℕ) → a + n ≡ long → rest a ≡ part a n
+    last a n e = next a n ∙ rw (drop_all (a + n) gone (omega arith)) (append-nil (part a n))
 
--- what stands behind x, with four bytes written
-abbrev pub AddsFour : (x y lanes : List ℕ) → ℕ → Type 0
-AddsFour x y lanes set = (gone damaged : List Bool) → length gone ≡ 4 → length damaged ≡ 4 → set ≡ mask_l (gone ++ damaged) → y ≡ x ++ written gone damaged lanes
+  -- ---- four times four lanes
 
-module _ (gone damaged bytes : List ℕ) (g : length gone ≡ 16) (d : length damaged ≡ 16) (b : length bytes ≡ 16) where
-  -- the tests of four bytes, and the lanes of eight
-  abbrev tests : ℕ → List Bool
-  tests a = map is_high (chunk a 4 gone) ++ map is_high (chunk a 4 damaged)
+  module _ (g : length gone ≡ 16) (d : length damaged ≡ 16) (b : length bytes ≡ 16) where
+    -- the tests of four bytes, and the lanes of eight
+    abbrev tests : ℕ → List Bool
+    tests a = map is_high (chunk a 4 gone) ++ map is_high (chunk a 4 damaged)
 
-  abbrev pub lanes_of_eight : ℕ → List ℕ
-  lanes_of_eight a = pick_l 0 (gone ++ damaged)
-      (range_with_len a 4 ++ (range_with_len (16 + a) 4 ++ (range_with_len (a + 4) 4 ++ range_with_len (16 + (a + 4)) 4)))
+    abbrev lanes_of_eight : ℕ → List ℕ
+    lanes_of_eight a = pick_l 0 (gone ++ damaged)
+        (range_with_len a 4 ++ (range_with_len (16 + a) 4 ++ (range_with_len (a + 4) 4 ++ range_with_len (16 + (a + 4)) 4)))
 
-  tests_are : (a : ℕ) → a + 4 ≤ 16 →
-      map is_high (pick_l 0 (gone ++ damaged) (range_with_len a 4)) ++ map is_high (pick_l 0 (gone ++ damaged) (range_with_len (16 + a) 4)) ≡ tests a
-  tests_are a le =
-      let first = lanes_of_first gone damaged a 4 (omega arith) in
-      let second = lanes_of_second gone damaged 16 a 4 g (omega arith) in
-      λ i. map is_high (first i) ++ map is_high (second i)
+    tests_are : (a : ℕ) → a + 4 ≤ 16 →
+        map is_high (pick_l 0 (gone ++ damaged) (range_with_len a 4)) ++ map is_high (pick_l 0 (gone ++ damaged) (range_with_len (16 + a) 4)) ≡ tests a
+    tests_are a le =
+        let first = lanes_of_first gone damaged a 4 (omega arith) in
+        let second = lanes_of_second gone damaged 16 a 4 g (omega arith) in
+        λ i. map is_high (first i) ++ map is_high (second i)
 
-  lower_set : (a set : ℕ) → a + 4 ≤ 16 → set ≡ mask_l (map is_high (lanes_of_eight a)) → bit_and set 0xFF ≡ mask_l (tests a)
-  lower_set a set le is = first_mask (map is_high (lanes_of_eight a)) set (omega arith) is ∙ ap mask_l (tests_are a le)
+    lower_set : (a set : ℕ) → a + 4 ≤ 16 → set ≡ mask_l (map is_high (lanes_of_eight a)) → bit_and set 0xFF ≡ mask_l (tests a)
+    lower_set a set le is = first_mask (map is_high (lanes_of_eight a)) set (omega arith) is ∙ ap mask_l (tests_are a le)
 
-  upper_set : (a set : ℕ) → a + 8 ≤ 16 → set ≡ mask_l (map is_high (lanes_of_eight a)) → bit_and (set / 2 ^ 8) 0xFF ≡ mask_l (tests (a + 4))
-  upper_set a set le is = row_mask 8 (map is_high (lanes_of_eight a)) set (omega arith) is ∙ ap mask_l (tests_are (a + 4) (omega arith))
+    upper_set : (a set : ℕ) → a + 8 ≤ 16 → set ≡ mask_l (map is_high (lanes_of_eight a)) → bit_and (set / 2 ^ 8) 0xFF ≡ mask_l (tests (a + 4))
+    upper_set a set le is = row_mask 8 (map is_high (lanes_of_eight a)) set (omega arith) is ∙ ap mask_l (tests_are (a + 4) (omega arith))
 
-  adds : (x y lanes : List ℕ) (a set : ℕ) → a + 4 ≤ 16 → lanes ≡ chunk a 4 bytes → set ≡ mask_l (tests a) → AddsFour x y lanes set → y ≡ x ++ part gone damaged bytes 16 g d b a 4
-  adds x y lanes a set le lanes_are set_is add =
-      let flags : List ℕ → List Bool = λ l. map is_high (chunk a 4 l) in
-      add (flags gone) (flags damaged)
-      (length-map (chunk a 4 gone) is_high ∙ length-chunk a 4 gone (omega arith)) (length-map (chunk a 4 damaged) is_high ∙ length-chunk a 4 damaged (omega arith)) set_is
-      ∙ ap (λ l. x ++ written (flags gone) (flags damaged) l) lanes_are
+    adds : (x y lanes : List ℕ) (a set : ℕ) → a + 4 ≤ 16 → lanes ≡ chunk a 4 bytes → set ≡ mask_l (tests a) → AddsFour x y lanes set → y ≡ x ++ part a 4
+    adds x y lanes a set le lanes_are set_is add =
+        let flags : List ℕ → List Bool = λ l. map is_high (chunk a 4 l) in
+        add (flags gone) (flags damaged)
+        (length-map (chunk a 4 gone) is_high ∙ length-chunk a 4 gone (omega arith)) (length-map (chunk a 4 damaged) is_high ∙ length-chunk a 4 damaged (omega arith)) set_is
+        ∙ ap (λ l. x ++ written (flags gone) (flags damaged) l) lanes_are
 
-  -- Four calls write sixteen bytes.
-  pub stored_half : (x0 x1 x2 x3 x4 v0 v1 v2 v3 : List ℕ) (front back : ℕ) →
-      front ≡ mask_l (map is_high (lanes_of_eight 0)) → back ≡ mask_l (map is_high (lanes_of_eight 8)) →
-      v0 ≡ chunk 0 4 bytes → v1 ≡ chunk 4 4 bytes → v2 ≡ chunk 8 4 bytes → v3 ≡ chunk 12 4 bytes →
-      AddsFour x0 x1 v0 (bit_and front 0xFF) → AddsFour x1 x2 v1 (bit_and (front / 2 ^ 8) 0xFF) →
-      AddsFour x2 x3 v2 (bit_and back 0xFF) → AddsFour x3 x4 v3 (bit_and (back / 2 ^ 8) 0xFF) →
-      x4 ≡ x0 ++ written_lanes gone damaged bytes
-  stored_half x0 x1 x2 x3 x4 v0 v1 v2 v3 front back f k is0 is1 is2 is3 add0 add1 add2 add3 =
-      let quarter = λ (a : ℕ). part gone damaged bytes 16 g d b a 4 in
-      let next_four = λ (a : ℕ). next gone damaged bytes 16 g d b a 4 in
-      four_calls x0 x1 x2 x3 x4 (quarter 0) (quarter 4) (quarter 8) (quarter 12)
-      (adds x0 x1 v0 0 _ (omega arith) is0 (lower_set 0 front (omega arith) f) add0)
-      (adds x1 x2 v1 4 _ (omega arith) is1 (upper_set 0 front (omega arith) f) add1)
-      (adds x2 x3 v2 8 _ (omega arith) is2 (lower_set 8 back (omega arith) k) add2)
-      (adds x3 x4 v3 12 _ (omega arith) is3 (upper_set 8 back (omega arith) k) add3)
-      ∙ ap (λ l. x0 ++ l) (sym (next_four 0 ∙ ap (λ l. quarter 0 ++ l) (next_four 4 ∙ ap (λ l. quarter 4 ++ l)
-      (next_four 8 ∙ ap (λ l. quarter 8 ++ l) (last gone damaged bytes 16 g d b 12 4 refl)))))
+    -- Four calls write sixteen bytes.
+    pub stored_half : (x0 x1 x2 x3 x4 v0 v1 v2 v3 : List ℕ) (front back : ℕ) →
+        front ≡ mask_l (map is_high (lanes_of_eight 0)) → back ≡ mask_l (map is_high (lanes_of_eight 8)) →
+        v0 ≡ chunk 0 4 bytes → v1 ≡ chunk 4 4 bytes → v2 ≡ chunk 8 4 bytes → v3 ≡ chunk 12 4 bytes →
+        AddsFour x0 x1 v0 (bit_and front 0xFF) → AddsFour x1 x2 v1 (bit_and (front / 2 ^ 8) 0xFF) →
+        AddsFour x2 x3 v2 (bit_and back 0xFF) → AddsFour x3 x4 v3 (bit_and (back / 2 ^ 8) 0xFF) →
+        x4 ≡ x0 ++ written_lanes gone damaged bytes
+    stored_half x0 x1 x2 x3 x4 v0 v1 v2 v3 front back f k is0 is1 is2 is3 add0 add1 add2 add3 =
+        four_calls x0 x1 x2 x3 x4 (part 0 4) (part 4 4) (part 8 4) (part 12 4)
+        (adds x0 x1 v0 0 _ (omega arith) is0 (lower_set 0 front (omega arith) f) add0)
+        (adds x1 x2 v1 4 _ (omega arith) is1 (upper_set 0 front (omega arith) f) add1)
+        (adds x2 x3 v2 8 _ (omega arith) is2 (lower_set 8 back (omega arith) k) add2)
+        (adds x3 x4 v3 12 _ (omega arith) is3 (upper_set 8 back (omega arith) k) add3)
+        ∙ ap (λ l. x0 ++ l) (sym (next 16 g d b 0 4 ∙ ap (λ l. part 0 4 ++ l) (next 16 g d b 4 4
+        ∙ ap (λ l. part 4 4 ++ l) (next 16 g d b 8 4 ∙ ap (λ l. part 8 4 ++ l) (last 16 g d b 12 4 refl)))))
 
--- ---- thirty-two lanes
+  -- ---- two halves
 
-module _ (gone damaged bytes : List ℕ) (g : length gone ≡ 32) (d : length damaged ≡ 32) (b : length bytes ≡ 32) where
-  abbrev taken : ℕ → List ℕ → List ℕ
-  taken a lanes = pick_l 0 (lanes ++ lanes) (range_with_len a 16)
+  module _ (g : length gone ≡ 32) (d : length damaged ≡ 32) (b : length bytes ≡ 32) where
+    abbrev taken : ℕ → List ℕ → List ℕ
+    taken a lanes = pick_l 0 (lanes ++ lanes) (range_with_len a 16)
 
-  abbrev half : ℕ → List ℕ
-  half a = written_lanes (taken a gone) (taken a damaged) (taken a bytes)
+    abbrev half : ℕ → List ℕ
+    half a = written_lanes (taken a gone) (taken a damaged) (taken a bytes)
 
-  half_is : (a : ℕ) → a + 16 ≤ 32 → half a ≡ part gone damaged bytes 32 g d b a 16
-  half_is a le =
-      let gone_are = lanes_of_first gone gone a 16 (omega arith) in
-      let damaged_are = lanes_of_first damaged damaged a 16 (omega arith) in
-      let bytes_are = lanes_of_first bytes bytes a 16 (omega arith) in
-      λ i. written_lanes (gone_are i) (damaged_are i) (bytes_are i)
+    half_is : (a : ℕ) → a + 16 ≤ 32 → half a ≡ part a 16
+    half_is a le =
+        let gone_are = lanes_of_first gone gone a 16 (omega arith) in
+        let damaged_are = lanes_of_first damaged damaged a 16 (omega arith) in
+        let bytes_are = lanes_of_first bytes bytes a 16 (omega arith) in
+        λ i. written_lanes (gone_are i) (damaged_are i) (bytes_are i)
 
-  -- Two halves, one behind the other, are all.
-  pub stored_halves : (x0 x1 x2 : List ℕ) → x1 ≡ x0 ++ half 0 → x2 ≡ x1 ++ half 16 → x2 ≡ x0 ++ written_lanes gone damaged bytes
-  stored_halves x0 x1 x2 e1 e2 =
-      e2 ∙ ap (λ l. l ++ half 16) e1 ∙ append_assoc x0 (half 0) (half 16)
-      ∙ ap (λ l. x0 ++ l) ((λ i. half_is 0 (omega arith) i ++ half_is 16 (omega arith) i)
-      ∙ sym (next gone damaged bytes 32 g d b 0 16 ∙ ap (λ l. part gone damaged bytes 32 g d b 0 16 ++ l) (last gone damaged bytes 32 g d b 16 16 refl)))
+    -- Two halves, one behind the other, are all.
+    pub stored_halves : (x0 x1 x2 : List ℕ) → x1 ≡ x0 ++ half 0 → x2 ≡ x1 ++ half 16 → x2 ≡ x0 ++ written_lanes gone damaged bytes
+    stored_halves x0 x1 x2 e1 e2 =
+        e2 ∙ ap (λ l. l ++ half 16) e1 ∙ append_assoc x0 (half 0) (half 16)
+        ∙ ap (λ l. x0 ++ l) ((λ i. half_is 0 (omega arith) i ++ half_is 16 (omega arith) i)
+        ∙ sym (next 32 g d b 0 16 ∙ ap (λ l. part 0 16 ++ l) (last 32 g d b 16 16 refl)))
+
+-- ---- nothing gone or damaged
 
 unset : (t : Bool) (m : ℕ) → cond t 1 0 + 2 * m ≡ 0 → (t ≡ false) × (m ≡ 0)
 unset true m e = absurd (omega arith)
