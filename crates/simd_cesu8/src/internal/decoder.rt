@@ -32,7 +32,7 @@ use super::{DecodeOptions, Flavor};
 use crate::error::{DecodeFault, DecodingError};
 use simdutf8::basic;
 use std::alloc::{AllocError, Allocator};
-use windows::{AROUND, Decoded, write_window};
+use windows::{Decoded, write_window};
 
 /// How many bytes are read in one window at most.
 const WINDOW: usize = 1024;
@@ -187,8 +187,7 @@ fn read_windows<'b, A: Allocator>(
     room: &mut Room,
     out: &mut String<A>,
 ) -> Result<&'b [u8], DecodeFault>
-    requires some { 0 < length bytes.now }
-    requires most { (SHORT ≤ most) × (most ≤ WINDOW) }
+    requires { 0 < length bytes.now }
     ensures less { IfOk result (λ rest. length rest.now < length bytes.now) }
     ensures ok { IfOk result (λ rest. (piece : List ℕ)
         × IsPiece (flavor_of options.flavor) options.lossy bytes.now rest.now piece
@@ -202,23 +201,21 @@ fn read_windows<'b, A: Allocator>(
             return Ok(&bytes[piece.read..]);
         }
     }
-    if bytes.len() <= SMALL {
+    if most <= SMALL || bytes.len() <= SMALL {
         return append_small(options, bytes, out);
     }
-    append_windows(options, bytes, most, out)
+    append_windows(options, bytes, out)
 }
 
-/// Appends the text of some windows by places, which have at most so many bytes each, and gives the
-/// bytes that are left. Its rooms are made only where it is called.
+/// Appends the text of some windows by places, and gives the bytes that are left. Its rooms are made
+/// only where it is called.
 #[inline(never)]
 fn append_windows<'b, A: Allocator>(
     options: DecodeOptions,
     bytes: &'b [u8],
-    most: usize,
     out: &mut String<A>,
 ) -> Result<&'b [u8], DecodeFault>
-    requires some { 0 < length bytes.now }
-    requires most { (SHORT ≤ most) × (most ≤ WINDOW) }
+    requires { 0 < length bytes.now }
     ensures less { IfOk result (λ rest. length rest.now < length bytes.now) }
     ensures ok { IfOk result (λ rest. (piece : List ℕ)
         × IsPiece (flavor_of options.flavor) options.lossy bytes.now rest.now piece
@@ -229,32 +226,23 @@ fn append_windows<'b, A: Allocator>(
     let mut window = [0; WINDOW_ROOM];
     let mut codes = [0; WINDOW_ROOM];
     let mut written = [0; WRITTEN_ROOM];
-    let room = most + AROUND;
     let mut rest = bytes;
     let mut windows = 0;
     while windows < WINDOWS && !rest.is_empty() {
-        rest = append_window(
-            options,
-            rest,
-            &mut window[..room],
-            &mut codes[..room],
-            &mut written,
-            out,
-        )?;
+        rest = append_window(options, rest, &mut window, &mut codes, &mut written, out)?;
         windows += 1;
     }
     Ok(rest)
 }
 
-/// Appends the text of a few bytes, by places.
+/// The same for one small window.
 #[inline(never)]
 fn append_small<'b, A: Allocator>(
     options: DecodeOptions,
     bytes: &'b [u8],
     out: &mut String<A>,
 ) -> Result<&'b [u8], DecodeFault>
-    requires some { 0 < length bytes.now }
-    requires small { length bytes.now ≤ SMALL }
+    requires { 0 < length bytes.now }
     ensures less { IfOk result (λ rest. length rest.now < length bytes.now) }
     ensures ok { IfOk result (λ rest. (piece : List ℕ)
         × IsPiece (flavor_of options.flavor) options.lossy bytes.now rest.now piece

@@ -1,4 +1,4 @@
-use Rattle.std.proofs.Common.{◌∙◌, sym, rules, arith}
+use Rattle.std.proofs.Common.{◌∙◌, sym, rules}
 use Rattle.std.specs.String.{string_bytes}
 use Rattle.std.proofs.lemmas.Bool.{eqb-true}
 use Rattle.simd_cesu8.specs.Internal.{flavor_of}
@@ -7,27 +7,22 @@ use Rattle.simd_cesu8.proofs.Pieces.{more_read, refused_after, refused_whole}
 use Rattle.simd_cesu8.proofs.internal.decoder.read_text.Goals as goal
 
 pub loop-rest-init : goal.loop-rest-init
-loop-rest-init g c = record {
-  so_far = nothing_read (flavor_of c.args.options.flavor) c.args.options.lossy c.args.bytes.now (string_bytes c.args.out.now);
-  most = (omega arith, omega arith);
-}
+loop-rest-init g c = nothing_read (flavor_of c.args.options.flavor) c.args.options.lossy c.args.bytes.now (string_bytes c.args.out.now)
 
 pub returns-in_err-rest-clause-invalid : goal.returns-in_err-rest-clause-invalid
 returns-in_err-rest-clause-invalid g c =
     let refused = refused_whole (flavor_of c.args.options.flavor) c.args.options.lossy c.args.bytes.now c.in_err-rest.field-0.0
     (refused_after (flavor_of c.args.options.flavor) c.args.options.lossy c.args.bytes.now c.loop-rest.rest.now _ _
-    c.in_err-rest.field-0.0 c.loop-rest.invariant.so_far c.in_err-rest.ensures.invalid) in
+    c.in_err-rest.field-0.0 c.loop-rest.invariant c.in_err-rest.ensures.invalid) in
     search (rules, refused)
 
 pub loop-rest-preserved : goal.loop-rest-preserved
 loop-rest-preserved g c =
-    let next = c.in_ok-rest.ensures.ok in record {
-      so_far = more_read (flavor_of c.args.options.flavor) c.args.options.lossy c.args.bytes.now c.loop-rest.rest.now _ _ _ next.0 _
-          c.loop-rest.invariant.so_far next.1 next.2;
-      most = (omega arith, omega arith);
-    }
+    let next = c.in_ok-rest.ensures.ok in
+    more_read (flavor_of c.args.options.flavor) c.args.options.lossy c.args.bytes.now c.loop-rest.rest.now _ _ _ next.0 _
+    c.loop-rest.invariant next.1 next.2
 
 pub returns-clause-ok : goal.returns-clause-ok
 returns-clause-ok g c =
     all_read (flavor_of c.args.options.flavor) c.args.options.lossy c.args.bytes.now c.loop-rest.rest.now _ _
-    c.loop-rest.invariant.so_far (eqb-true _ _ (sym c.is_empty.ensures ∙ c.loop-rest-test.false))
+    c.loop-rest.invariant (eqb-true _ _ (sym c.is_empty.ensures ∙ c.loop-rest-test.false))

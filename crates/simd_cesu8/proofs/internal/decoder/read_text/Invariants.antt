@@ -1,4 +1,4 @@
-use Rattle.std.proofs.Common.{◌≤◌, length}
+use Rattle.std.proofs.Common.{length}
 use Rattle.std.specs.String.{string_bytes}
 use Rattle.simd_cesu8.specs.Internal.{flavor_of}
 use Rattle.simd_cesu8.specs.Pieces.{IsReadSoFar}
@@ -8,7 +8,5 @@ abbrev pub decreases-loop-rest : goal.decreases-loop-rest
 decreases-loop-rest g l = length l.rest
 
 abbrev pub invariant-loop-rest : goal.invariant-loop-rest
-invariant-loop-rest g l = record {
-  so_far : IsReadSoFar (flavor_of l.options.flavor) l.options.lossy l.fn.bytes l.rest (string_bytes l.initial.out) (string_bytes l.out);
-  most : (64 ≤ l.most) × (l.most ≤ 1024);
-}
+invariant-loop-rest g l =
+    IsReadSoFar (flavor_of l.options.flavor) l.options.lossy l.fn.bytes l.rest (string_bytes l.initial.out) (string_bytes l.out)
