@@ -16,11 +16,10 @@ use Rattle.simd_cesu8.proofs.EncodedTexts.{reading_text}
 use Rattle.simd_cesu8.proofs.Unique.{no_reading}
 use Rattle.simd_cesu8.proofs.Decoding.{IsText_append, utf8_append, all_read, lossy_length_nil}
 
--- A piece adds its text.
-pub more_read : (f : Flavor) (lossy : Bool) (bytes rest after old out piece new : List ℕ) →
-    IsReadSoFar f lossy bytes rest old out → IsPiece f lossy rest after piece → new ≡ out ++ piece →
-    IsReadSoFar f lossy bytes after old new
-more_read f lossy bytes rest after old out piece new so_far next new_is = record {
+-- What is read after what was read so far adds its text.
+pub more_read : (f : Flavor) (lossy : Bool) (bytes rest after old out new : List ℕ) →
+    IsReadSoFar f lossy bytes rest old out → IsReadSoFar f lossy rest after out new → IsReadSoFar f lossy bytes after old new
+more_read f lossy bytes rest after old out new so_far next = record {
   text = so_far.text ++ next.text;
   scalars = IsText_append so_far.text next.text so_far.scalars next.scalars;
   lossy_reading = so_far.lossy_reading ∙ ap (λ cs. so_far.text ++ cs) next.lossy_reading
@@ -29,9 +28,20 @@ more_read f lossy bytes rest after old out piece new so_far next new_is = record
       ∙ ap (λ bs. encoding f so_far.text ++ bs) (next.strict_reading strict)
       ∙ rw (encoding_append f so_far.text next.text)
       (sym (append_assoc (encoding f so_far.text) (encoding f next.text) after));
-  written = new_is ∙ ap (λ bs. out ++ bs) next.written ∙ ap (λ bs. bs ++ utf8 next.text) so_far.written
+  written = next.written ∙ ap (λ bs. bs ++ utf8 next.text) so_far.written
       ∙ append_assoc old (utf8 so_far.text) (utf8 next.text)
       ∙ ap (λ bs. old ++ bs) (sym (utf8_append so_far.text next.text));
+}
+
+-- A piece that is appended is read after what was there.
+pub piece_appended : (f : Flavor) (lossy : Bool) (bytes rest piece old new : List ℕ) → IsPiece f lossy bytes rest piece →
+    new ≡ old ++ piece → IsReadSoFar f lossy bytes rest old new
+piece_appended f lossy bytes rest piece old new is_piece new_is = record {
+  text = is_piece.text;
+  scalars = is_piece.scalars;
+  lossy_reading = is_piece.lossy_reading;
+  strict_reading = is_piece.strict_reading;
+  written = new_is ∙ ap (λ bs. old ++ bs) is_piece.written;
 }
 
 -- Bytes that are the encoding of a text are a piece.

@@ -15,7 +15,7 @@ ghost use Rattle.simd_cesu8.specs.Text.{utf8};
 ghost use Rattle.simd_cesu8.specs.Reading.{IsStrictReading, HasNoStrictReading, reading, lossy_length};
 ghost use Rattle.simd_cesu8.specs.Fault.{OnInvalid};
 ghost use Rattle.simd_cesu8.specs.Internal.{flavor_of, IsDecodedText};
-ghost use Rattle.simd_cesu8.specs.Pieces.{IsPiece, HasFault};
+ghost use Rattle.simd_cesu8.specs.Pieces.{IsPiece, IsReadSoFar, HasFault};
 
 mod lengths;
 mod packing;
@@ -189,9 +189,8 @@ fn read_windows<'b, A: Allocator>(
 ) -> Result<&'b [u8], DecodeFault>
     requires { 0 < length bytes.now }
     ensures less { IfOk result (λ rest. length rest.now < length bytes.now) }
-    ensures ok { IfOk result (λ rest. (piece : List ℕ)
-        × IsPiece (flavor_of options.flavor) options.lossy bytes.now rest.now piece
-        × (string_bytes out.new ≡ string_bytes out.old ++ piece)) }
+    ensures ok { IfOk result (λ rest. IsReadSoFar (flavor_of options.flavor) options.lossy
+        bytes.now rest.now (string_bytes out.old) (string_bytes out.new)) }
     ensures invalid { OnInvalid result ((options.lossy ≡ false)
         × HasFault (flavor_of options.flavor) bytes.now) }
 {
@@ -217,9 +216,8 @@ fn append_windows<'b, A: Allocator>(
 ) -> Result<&'b [u8], DecodeFault>
     requires { 0 < length bytes.now }
     ensures less { IfOk result (λ rest. length rest.now < length bytes.now) }
-    ensures ok { IfOk result (λ rest. (piece : List ℕ)
-        × IsPiece (flavor_of options.flavor) options.lossy bytes.now rest.now piece
-        × (string_bytes out.new ≡ string_bytes out.old ++ piece)) }
+    ensures ok { IfOk result (λ rest. IsReadSoFar (flavor_of options.flavor) options.lossy
+        bytes.now rest.now (string_bytes out.old) (string_bytes out.new)) }
     ensures invalid { OnInvalid result ((options.lossy ≡ false)
         × HasFault (flavor_of options.flavor) bytes.now) }
 {
@@ -244,9 +242,8 @@ fn append_small<'b, A: Allocator>(
 ) -> Result<&'b [u8], DecodeFault>
     requires { 0 < length bytes.now }
     ensures less { IfOk result (λ rest. length rest.now < length bytes.now) }
-    ensures ok { IfOk result (λ rest. (piece : List ℕ)
-        × IsPiece (flavor_of options.flavor) options.lossy bytes.now rest.now piece
-        × (string_bytes out.new ≡ string_bytes out.old ++ piece)) }
+    ensures ok { IfOk result (λ rest. IsReadSoFar (flavor_of options.flavor) options.lossy
+        bytes.now rest.now (string_bytes out.old) (string_bytes out.new)) }
     ensures invalid { OnInvalid result ((options.lossy ≡ false)
         × HasFault (flavor_of options.flavor) bytes.now) }
 {
@@ -271,9 +268,8 @@ fn append_window<'b, A: Allocator>(
     requires codes { length codes.old ≡ length window.old }
     requires written { 3 * length window.old ≤ length written.old + 112 }
     ensures less { IfOk result (λ rest. length rest.now < length bytes.now) }
-    ensures ok { IfOk result (λ rest. (piece : List ℕ)
-        × IsPiece (flavor_of options.flavor) options.lossy bytes.now rest.now piece
-        × (string_bytes out.new ≡ string_bytes out.old ++ piece)) }
+    ensures ok { IfOk result (λ rest. IsReadSoFar (flavor_of options.flavor) options.lossy
+        bytes.now rest.now (string_bytes out.old) (string_bytes out.new)) }
     ensures invalid { OnInvalid result ((options.lossy ≡ false)
         × HasFault (flavor_of options.flavor) bytes.now) }
 {

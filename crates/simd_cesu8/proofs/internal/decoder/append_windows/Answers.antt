@@ -14,14 +14,13 @@ loop-windows-init g c = record {
 }
 
 pub loop-windows-preserved : goal.loop-windows-preserved
-loop-windows-preserved g c =
-    let next = c.in_ok-rest.ensures.ok in record {
-      so_far = more_read (flavor_of c.args.options.flavor) c.args.options.lossy c.args.bytes.now c.loop-windows.rest.now _ _ _ next.0 _
-          c.loop-windows.invariant.so_far next.1 next.2;
-      within = omega (arith, c.in_ok-rest.ensures.less);
-      first = λ none. absurd (omega arith);
-      less = λ some. omega (arith, c.in_ok-rest.ensures.less);
-    }
+loop-windows-preserved g c = record {
+  so_far = more_read (flavor_of c.args.options.flavor) c.args.options.lossy c.args.bytes.now c.loop-windows.rest.now _ _ _ _
+      c.loop-windows.invariant.so_far c.in_ok-rest.ensures.ok;
+  within = omega (arith, c.in_ok-rest.ensures.less);
+  first = λ none. absurd (omega arith);
+  less = λ some. omega (arith, c.in_ok-rest.ensures.less);
+}
 
 pub returns-in_err-rest-clause-invalid : goal.returns-in_err-rest-clause-invalid
 returns-in_err-rest-clause-invalid g c =

@@ -18,9 +18,8 @@ returns-in_err-rest-clause-invalid g c =
 
 pub loop-rest-preserved : goal.loop-rest-preserved
 loop-rest-preserved g c =
-    let next = c.in_ok-rest.ensures.ok in
-    more_read (flavor_of c.args.options.flavor) c.args.options.lossy c.args.bytes.now c.loop-rest.rest.now _ _ _ next.0 _
-    c.loop-rest.invariant next.1 next.2
+    more_read (flavor_of c.args.options.flavor) c.args.options.lossy c.args.bytes.now c.loop-rest.rest.now _ _ _ _
+    c.loop-rest.invariant c.in_ok-rest.ensures.ok
 
 pub returns-clause-ok : goal.returns-clause-ok
 returns-clause-ok g c =
