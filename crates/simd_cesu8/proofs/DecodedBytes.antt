@@ -8,7 +8,7 @@ use Rattle.simd_cesu8.specs.Cutting.{Piece, Character, Replaced, ArePieces, byte
 use Rattle.simd_cesu8.specs.DecodedPlaces.{front_width, decoded_byte}
 use Rattle.simd_cesu8.proofs.Shapes.{Shape, IsTwo, IsThree, IsPair, one, two, three, pair, shape, utf8_of_one, utf8_of_two, utf8_of_three, utf8_of_pair}
 use Rattle.simd_cesu8.proofs.Forms.{encoding_one, encoding_two, encoding_three, encoding_pair, short_form_null, short_form_other}
-use Rattle.simd_cesu8.proofs.FrontWidths.{begins_front, width_of_front, width_of_none, width_inside}
+use Rattle.simd_cesu8.proofs.FrontWidths.{begins_encoded, width_of_front, width_of_none, width_inside}
 use Rattle.simd_cesu8.proofs.Cuttings.{greedy_cutting}
 use Rattle.simd_cesu8.proofs.Greedy.{places}
 
@@ -26,6 +26,9 @@ pub record Ended (w1 w2 w3 w4 w5 : ℕ) : Type 0 where
   pub third : w3 < 4
   pub fourth : w4 < 5
   pub fifth : w5 < 6
+
+ended_by : {w1 w2 w3 w4 w5 : ℕ} → w1 < 2 → w2 < 3 → w3 < 4 → w4 < 5 → w5 < 6 → Ended w1 w2 w3 w4 w5
+ended_by h1 h2 h3 h4 h5 = record { first = h1; second = h2; third = h3; fourth = h4; fifth = h5 }
 
 covers : (w0 w1 w2 : ℕ) → (1 ≤ w0) ⊎ ((2 ≤ w1) ⊎ (3 ≤ w2)) → (leb 1 w0 || (leb 2 w1 || leb 3 w2)) ≡ true
 covers w0 w1 w2 (inl h) = or_left (leb 1 w0) _ (le-leb 1 w0 h)
@@ -63,21 +66,21 @@ null_first : (w1 w2 w3 w4 w5 p q : ℕ) → Ended w1 w2 w3 w4 w5 → decoded_byt
 unfolding decoded_byte
 null_first w1 w2 w3 w4 w5 p q ended =
     rw (
-      not_six w1 (omega (arith, ended.first)),
-      not_six w2 (omega (arith, ended.second)),
-      not_six w3 (omega (arith, ended.third)),
-      not_six w4 (omega (arith, ended.fourth)),
-      not_six w5 ended.fifth,
+      not_six w1 (omega arith),
+      not_six w2 (omega arith),
+      not_six w3 (omega arith),
+      not_six w4 (omega arith),
+      not_six w5 (omega arith),
     ) refl
 
 null_second : (w1 w2 w3 w4 w5 q b : ℕ) → Ended w1 w2 w3 w4 w5 → decoded_byte 0 2 w1 w2 w3 w4 q 0xC0 b ≡ 0 ∷ []
 unfolding decoded_byte
 null_second w1 w2 w3 w4 w5 q b ended =
     rw (
-      not_six w1 (omega (arith, ended.first)),
-      not_six w2 (omega (arith, ended.second)),
-      not_six w3 (omega (arith, ended.third)),
-      not_six w4 (omega (arith, ended.fourth)),
+      not_six w1 (omega arith),
+      not_six w2 (omega arith),
+      not_six w3 (omega arith),
+      not_six w4 (omega arith),
     ) refl
 
 -- A byte in no character is replaced.
@@ -85,12 +88,12 @@ byte_replaced : (w1 w2 w3 w4 w5 p q b : ℕ) → Ended w1 w2 w3 w4 w5 → decode
 unfolding decoded_byte
 byte_replaced w1 w2 w3 w4 w5 p q b ended =
     rw (
-      ne_eqb w1 6 (λ e. omega (arith, ended.first)),
-      ne_eqb w2 6 (λ e. omega (arith, ended.second)),
-      ne_eqb w3 6 (λ e. omega (arith, ended.third)),
-      ne_eqb w4 6 (λ e. omega (arith, ended.fourth)),
-      ne_eqb w5 6 (λ e. omega (arith, ended.fifth)),
-      ne_eqb w1 2 (λ e. omega (arith, ended.first)),
+      ne_eqb w1 6 (λ e. omega arith),
+      ne_eqb w2 6 (λ e. omega arith),
+      ne_eqb w3 6 (λ e. omega arith),
+      ne_eqb w4 6 (λ e. omega arith),
+      ne_eqb w5 6 (λ e. omega arith),
+      ne_eqb w1 2 (λ e. omega arith),
       lt-leb 2 w1 ended.first,
       lt-leb 3 w2 ended.second,
     ) refl
@@ -106,21 +109,14 @@ one_read : (f : Flavor) (c w1 w2 w3 w4 w5 p q : ℕ) (rest text : List ℕ) → 
     Ended w1 w2 w3 w4 w5 → Continues f rest text → decoded_after f w1 w2 w3 w4 w5 p q (c ∷ rest) ≡ c ∷ text
 unfolding decoded_after
 one_read f c w1 w2 w3 w4 w5 p q rest text scalar ascii same ended continues =
-    let begins = begins_front f c (c ∷ []) rest scalar same in
+    let begins = begins_encoded f c (c ∷ []) rest scalar same in
     rw (
       width_of_front f (c ∷ rest) c rest begins,
       ap length same,
-      byte_kept 1 w1 w2 w3 w4 w5 p q c (omega arith) (omega (arith, ended.first)) (omega (arith, ended.second))
-          (omega (arith, ended.third)) (omega (arith, ended.fourth)) ended.fifth (λ e. absurd (omega arith))
-          (λ e. absurd (omega (arith, ended.first))) (inl (omega arith)),
-      continues 1 w1 w2 w3 w4 q c
-          (record {
-            first = omega arith;
-            second = omega (arith, ended.first);
-            third = omega (arith, ended.second);
-            fourth = omega (arith, ended.third);
-            fifth = omega (arith, ended.fourth);
-          }),
+      byte_kept 1 w1 w2 w3 w4 w5 p q c (omega arith) (omega arith) (omega arith)
+          (omega arith) (omega arith) (omega arith) (λ e. absurd (omega arith))
+          (λ e. absurd (omega arith)) (inl (omega arith)),
+      continues 1 w1 w2 w3 w4 q c (ended_by (omega arith) (omega arith) (omega arith) (omega arith) (omega arith)),
     ) refl
 
 two_read : (f : Flavor) (c x y w1 w2 w3 w4 w5 p q : ℕ) (rest text : List ℕ) → IsScalarValue c → IsTwo c x y →
@@ -131,27 +127,20 @@ two_read f c x y w1 w2 w3 w4 w5 p q rest text scalar digits ended continues =
     let a = 0xC0 + x in
     let b = 0x80 + y in
     let same = encoding_two f c x y digits in
-    let begins = begins_front f c (a ∷ b ∷ []) rest scalar same in
+    let begins = begins_encoded f c (a ∷ b ∷ []) rest scalar same in
     let long : width f c ≡ 2 = ap length same in
     let low = digits.low in
     rw (
       width_of_front f (a ∷ b ∷ rest) c rest begins,
       width_inside f (a ∷ b ∷ rest) c 1 rest begins (omega arith) (omega (arith, long)),
       long,
-      byte_kept 2 w1 w2 w3 w4 w5 p q a (omega arith) (omega (arith, ended.first)) (omega (arith, ended.second))
-          (omega (arith, ended.third)) (omega (arith, ended.fourth)) ended.fifth (λ e h. omega arith)
-          (λ e. absurd (omega (arith, ended.first))) (inl (omega arith)),
-      byte_kept 0 2 w1 w2 w3 w4 q a b (omega arith) (omega arith) (omega (arith, ended.first))
-          (omega (arith, ended.second)) (omega (arith, ended.third)) (omega (arith, ended.fourth)) (λ e. absurd (omega arith))
+      byte_kept 2 w1 w2 w3 w4 w5 p q a (omega arith) (omega arith) (omega arith)
+          (omega arith) (omega arith) (omega arith) (λ e h. omega arith)
+          (λ e. absurd (omega arith)) (inl (omega arith)),
+      byte_kept 0 2 w1 w2 w3 w4 q a b (omega arith) (omega arith) (omega arith)
+          (omega arith) (omega arith) (omega arith) (λ e. absurd (omega arith))
           (λ e h. omega arith) (inr (inl (omega arith))),
-      continues 0 2 w1 w2 w3 a b
-          (record {
-            first = omega arith;
-            second = omega arith;
-            third = omega (arith, ended.first);
-            fourth = omega (arith, ended.second);
-            fifth = omega (arith, ended.third);
-          }),
+      continues 0 2 w1 w2 w3 a b (ended_by (omega arith) (omega arith) (omega arith) (omega arith) (omega arith)),
     ) refl
 
 three_read : (f : Flavor) (c x y z w1 w2 w3 w4 w5 p q : ℕ) (rest text : List ℕ) → IsScalarValue c → IsThree c x y z →
@@ -163,37 +152,30 @@ three_read f c x y z w1 w2 w3 w4 w5 p q rest text scalar digits ended continues 
     let b = 0x80 + y in
     let d = 0x80 + z in
     let same = encoding_three f c x y z digits in
-    let begins = begins_front f c (a ∷ b ∷ d ∷ []) rest scalar same in
+    let begins = begins_encoded f c (a ∷ b ∷ d ∷ []) rest scalar same in
     let long : width f c ≡ 3 = ap length same in
     rw (
       width_of_front f (a ∷ b ∷ d ∷ rest) c rest begins,
       width_inside f (a ∷ b ∷ d ∷ rest) c 1 rest begins (omega arith) (omega (arith, long)),
       width_inside f (a ∷ b ∷ d ∷ rest) c 2 rest begins (omega arith) (omega (arith, long)),
       long,
-      byte_kept 3 w1 w2 w3 w4 w5 p q a (omega arith) (omega (arith, ended.first)) (omega (arith, ended.second))
-          (omega (arith, ended.third)) (omega (arith, ended.fourth)) ended.fifth (λ e. absurd (omega arith))
-          (λ e. absurd (omega (arith, ended.first))) (inl (omega arith)),
-      byte_kept 0 3 w1 w2 w3 w4 q a b (omega arith) (omega arith) (omega (arith, ended.first))
-          (omega (arith, ended.second)) (omega (arith, ended.third)) (omega (arith, ended.fourth)) (λ e. absurd (omega arith))
+      byte_kept 3 w1 w2 w3 w4 w5 p q a (omega arith) (omega arith) (omega arith)
+          (omega arith) (omega arith) (omega arith) (λ e. absurd (omega arith))
+          (λ e. absurd (omega arith)) (inl (omega arith)),
+      byte_kept 0 3 w1 w2 w3 w4 q a b (omega arith) (omega arith) (omega arith)
+          (omega arith) (omega arith) (omega arith) (λ e. absurd (omega arith))
           (λ e. absurd (omega arith)) (inr (inl (omega arith))),
-      byte_kept 0 0 3 w1 w2 w3 a b d (omega arith) (omega arith) (omega arith) (omega (arith, ended.first))
-          (omega (arith, ended.second)) (omega (arith, ended.third)) (λ e. absurd (omega arith))
+      byte_kept 0 0 3 w1 w2 w3 a b d (omega arith) (omega arith) (omega arith) (omega arith)
+          (omega arith) (omega arith) (λ e. absurd (omega arith))
           (λ e. absurd (omega arith)) (inr (inr (omega arith))),
-      continues 0 0 3 w1 w2 b d
-          (record {
-            first = omega arith;
-            second = omega arith;
-            third = omega arith;
-            fourth = omega (arith, ended.first);
-            fifth = omega (arith, ended.second);
-          }),
+      continues 0 0 3 w1 w2 b d (ended_by (omega arith) (omega arith) (omega arith) (omega arith) (omega arith)),
     ) refl
 
 null_read : (f : Flavor) (c w1 w2 w3 w4 w5 p q : ℕ) (rest text : List ℕ) → IsScalarValue c → encoding f (c ∷ []) ≡ 0xC0 ∷ 0x80 ∷ [] →
     Ended w1 w2 w3 w4 w5 → Continues f rest text → decoded_after f w1 w2 w3 w4 w5 p q (0xC0 ∷ 0x80 ∷ rest) ≡ 0 ∷ text
 unfolding decoded_after
 null_read f c w1 w2 w3 w4 w5 p q rest text scalar same ended continues =
-    let begins = begins_front f c (0xC0 ∷ 0x80 ∷ []) rest scalar same in
+    let begins = begins_encoded f c (0xC0 ∷ 0x80 ∷ []) rest scalar same in
     let long : width f c ≡ 2 = ap length same in
     rw (
       width_of_front f (0xC0 ∷ 0x80 ∷ rest) c rest begins,
@@ -201,14 +183,7 @@ null_read f c w1 w2 w3 w4 w5 p q rest text scalar same ended continues =
       long,
       null_first w1 w2 w3 w4 w5 p q ended,
       null_second w1 w2 w3 w4 w5 q 0x80 ended,
-      continues 0 2 w1 w2 w3 0xC0 0x80
-          (record {
-            first = omega arith;
-            second = omega arith;
-            third = omega (arith, ended.first);
-            fourth = omega (arith, ended.second);
-            fifth = omega (arith, ended.third);
-          }),
+      continues 0 2 w1 w2 w3 0xC0 0x80 (ended_by (omega arith) (omega arith) (omega arith) (omega arith) (omega arith)),
     ) refl
 
 pair_read : (f : Flavor) (c w x y z w1 w2 w3 w4 w5 p q : ℕ) (rest text : List ℕ) → IsScalarValue c → IsPair c w x y z →
@@ -222,7 +197,7 @@ pair_read f c w x y z w1 w2 w3 w4 w5 p q rest text scalar digits continues =
     let g = 0xB0 + y in
     let h = 0x80 + z in
     let same = encoding_pair f c w x y z digits in
-    let begins = begins_front f c (0xED ∷ b ∷ d ∷ 0xED ∷ g ∷ h ∷ []) rest scalar same in
+    let begins = begins_encoded f c (0xED ∷ b ∷ d ∷ 0xED ∷ g ∷ h ∷ []) rest scalar same in
     let long : width f c ≡ 6 = ap length same in
     let h_w = digits.first in
     let h_x = digits.second in
@@ -241,14 +216,7 @@ pair_read f c w x y z w1 w2 w3 w4 w5 p q rest text scalar digits continues =
       e0,
       e1,
       e2,
-      continues 0 0 0 0 0 g h
-          (record {
-            first = omega arith;
-            second = omega arith;
-            third = omega arith;
-            fourth = omega arith;
-            fifth = omega arith;
-          }),
+      continues 0 0 0 0 0 g h (ended_by (omega arith) (omega arith) (omega arith) (omega arith) (omega arith)),
     ) refl
 
 -- ---- by the pieces, from the first on
@@ -293,14 +261,7 @@ replaced_read f b w1 w2 w3 w4 w5 p q rest text none_begins ended continues =
     rw (
       width_of_none f (b ∷ rest) none_begins,
       byte_replaced w1 w2 w3 w4 w5 p q b ended,
-      continues 0 w1 w2 w3 w4 q b
-          (record {
-            first = omega arith;
-            second = omega (arith, ended.first);
-            third = omega (arith, ended.second);
-            fourth = omega (arith, ended.third);
-            fifth = omega (arith, ended.fourth);
-          }),
+      continues 0 w1 w2 w3 w4 q b (ended_by (omega arith) (omega arith) (omega arith) (omega arith) (omega arith)),
     ) refl
 
 pieces_read : (f : Flavor) (pieces : List Piece) → ArePieces pieces → IsGreedy f pieces →
