@@ -59,3 +59,4 @@ pub mod Below
 pub mod UnitOrder
 pub mod LossyBorrowing
 pub mod StartCodes
+pub mod StartLanes
