@@ -60,3 +60,5 @@ pub mod UnitOrder
 pub mod LossyBorrowing
 pub mod StartCodes
 pub mod StartLanes
+pub mod SavedLanes
+pub mod SavedRest
