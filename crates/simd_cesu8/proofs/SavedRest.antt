@@ -1,9 +1,9 @@
 -- What the last places of bytes save, where FF stands behind them.
-use Rattle.std.proofs.Common.{◌≡◌, ℕ, zero, suc, ◌+◌, ◌-◌, ◌<◌, ◌≤◌, ◌⊎◌, ⊎_elim, List, ◌++◌, length, get_or, replicate, refl, sym, ap, ◌∙◌, inl, inr, arith, zero-add, add-zero}
+use Rattle.std.proofs.Common.{◌≡◌, ℕ, zero, suc, ◌+◌, ◌-◌, ◌<◌, ◌≤◌, ◌⊎◌, ⊎_elim, List, ◌++◌, length, get_or, replicate, refl, ap, ◌∙◌, inl, inr, arith, zero-add}
 use Rattle.std.proofs.lemmas.Bool.{cases_lt}
 use Rattle.std.proofs.lemmas.List.{get_or_past, get_or_append_left, get_or-append_right, get_or-replicate}
 use Rattle.simd_cesu8.specs.Encoding.{Flavor, Cesu8, Mutf8}
-use Rattle.simd_cesu8.specs.DecodedPlaces.{front_width_by, width_at, saved, saved_between, all_saved}
+use Rattle.simd_cesu8.specs.DecodedPlaces.{front_width_by, saved, saved_between, all_saved}
 use Rattle.simd_cesu8.specs.DecodedLanes.{saved_at}
 use Rattle.simd_cesu8.proofs.WindowPlaces.{saved_split}
 use Rattle.simd_cesu8.proofs.Savings.{all_between}
