@@ -1,6 +1,7 @@
 -- Bytes have a strict reading exactly where encoded characters cover them all.
-use Rattle.std.proofs.Common.{◌≡◌, ℕ, ◌+◌, ◌-◌, ◌<◌, ◌≤◌, ◌⊎◌, ⊎_elim, Bool, true, false, ◌||◌, not, eqb, leb, zero, suc, List, [], ◌∷◌, ◌++◌, refl, sym, ap, ◌∙◌, subst, inl, inr, arith, length, drop, length-append, append_assoc, add-zero, zero-add}
+use Rattle.std.proofs.Common.{◌≡◌, ℕ, ◌+◌, ◌-◌, ◌<◌, ◌≤◌, ◌⊎◌, ⊎_elim, Bool, true, false, ◌||◌, not, eqb, leb, zero, suc, List, [], ◌∷◌, ◌++◌, refl, sym, ap, ◌∙◌, subst, inl, inr, arith, length, drop, length-append, append_assoc, add-zero, zero-add, length-drop}
 use Rattle.std.proofs.lemmas.Bool.{cases_lt, leb-true, leb-false, eqb-true, eqb-false, or_cases, or_parts, not-true, not-false}
+use Rattle.std.proofs.lemmas.List.{drop-append-le}
 use Rattle.simd_cesu8.specs.Text.{IsScalarValue, IsText, utf8}
 use Rattle.simd_cesu8.specs.Encoding.{Flavor, encoding}
 use Rattle.simd_cesu8.specs.Reading.{BeginsWith, NoneBegins, StandsAt, width, reading, IsStrictReading}
@@ -11,6 +12,7 @@ use Rattle.simd_cesu8.specs.Pieces.{IsPiece, HasFault}
 use Rattle.simd_cesu8.proofs.Encodings.{encoding_nil, encoding_cons}
 use Rattle.simd_cesu8.proofs.EncodedTexts.{reading_text}
 use Rattle.simd_cesu8.proofs.Stretches.{later, earlier, none_crosses_character}
+use Rattle.simd_cesu8.proofs.Splits.{begins_front}
 use Rattle.simd_cesu8.proofs.Cuttings.{greedy_cutting}
 use Rattle.simd_cesu8.proofs.Greedy.{places}
 use Rattle.simd_cesu8.proofs.FrontWidths.{IsWide, wide}
@@ -148,6 +150,22 @@ uncovered_fault f bytes i inside uncovered =
     (encoding_covered f (reading f bytes) i reads.0 (omega (arith, ap length reads.1))))))
     (λ fault. fault)
     (read_or_fault f bytes)
+
+-- What a character covers that ends in the front, it covers there.
+pub covered_in_front : (f : Flavor) (front back : List ℕ) (i : ℕ) → NoneCrosses f front back → i < length front →
+    IsCovered f (front ++ back) i → IsCovered f front i
+covered_in_front f front back i crosses inside covered =
+    let p = covered.place in
+    let c = covered.character in
+    let begun = covered.begun in
+    let ended = crosses p c covered.stands (omega arith) in
+    let begins = subst (λ bs. BeginsWith f bs c covered.stands.0) (drop-append-le p front back (omega arith)) covered.stands.1 in record {
+      place = p;
+      character = c;
+      stands = (drop (width f c) (drop p front), begins_front f (drop p front) back covered.stands.0 c begins (omega (arith, length-drop p front)));
+      begun = begun;
+      ends = covered.ends;
+    }
 
 -- ---- by widths
 

@@ -1,5 +1,5 @@
 -- How wide the character is that begins bytes.
-use Rattle.std.proofs.Common.{◌≡◌, ℕ, ◌<◌, ◌≤◌, List, [], ◌∷◌, ◌++◌, Option, Some, None, refl, sym, ap, ⊎_elim, arith, drop}
+use Rattle.std.proofs.Common.{◌≡◌, ℕ, ◌<◌, ◌≤◌, List, [], ◌∷◌, ◌++◌, Option, Some, None, refl, sym, ap, ⊎_elim, arith, drop, length, length-append}
 use Rattle.std.proofs.lemmas.Bool.{cases_lt}
 use Rattle.simd_cesu8.specs.Text.{IsScalarValue}
 use Rattle.simd_cesu8.specs.Encoding.{Flavor, encoding}
@@ -10,9 +10,9 @@ use Rattle.simd_cesu8.proofs.Marks.{standing_is}
 use Rattle.simd_cesu8.proofs.Standing.{standing_begins}
 
 -- An encoding and what follows begin with its character.
-pub begins_front : (f : Flavor) (c : ℕ) (front rest : List ℕ) → IsScalarValue c → encoding f (c ∷ []) ≡ front →
+pub begins_encoded : (f : Flavor) (c : ℕ) (front rest : List ℕ) → IsScalarValue c → encoding f (c ∷ []) ≡ front →
     BeginsWith f (front ++ rest) c rest
-begins_front f c front rest scalar same = record { scalar = scalar; bytes_are = ap (λ bs. bs ++ rest) (sym same) }
+begins_encoded f c front rest scalar same = record { scalar = scalar; bytes_are = ap (λ bs. bs ++ rest) (sym same) }
 
 -- It is the width of the character that begins them,
 pub width_of_front : (f : Flavor) (bytes : List ℕ) (c : ℕ) (rest : List ℕ) → BeginsWith f bytes c rest → front_width f bytes ≡ width f c
@@ -36,6 +36,13 @@ wide_by f bytes (Some c) found some = record {
 
 pub wide : (f : Flavor) (bytes : List ℕ) → 0 < front_width f bytes → IsWide f bytes
 wide f bytes some = wide_by f bytes (standing f bytes) refl some
+
+-- It is no more than the bytes,
+pub width_fits : (f : Flavor) (bytes : List ℕ) → front_width f bytes ≤ length bytes
+width_fits f bytes =
+    ⊎_elim (λ some. let found = wide f bytes some in
+    omega (arith, found.wide, ap length found.begins.bytes_are, length-append (encoding f (found.character ∷ [])) found.rest))
+    (λ (none : front_width f bytes ≤ 0). omega arith) (cases_lt 0 (front_width f bytes))
 
 -- and 0 where none begins them.
 pub width_of_none : (f : Flavor) (bytes : List ℕ) → NoneBegins f bytes → front_width f bytes ≡ 0

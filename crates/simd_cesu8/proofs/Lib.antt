@@ -12,6 +12,7 @@ pub mod PlaceBorders
 pub mod DecodedText
 pub mod Savings
 pub mod Damage
+pub mod DecodedPieces
 pub mod Codes
 pub mod Lengths
 pub mod EncodedLength

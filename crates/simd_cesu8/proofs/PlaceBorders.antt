@@ -1,12 +1,12 @@
 -- Places that no encoded character reaches over, told by the widths at the five before.
-use Rattle.std.proofs.Common.{◌≡◌, ℕ, zero, suc, ◌+◌, ◌-◌, ◌<◌, ◌≤◌, ◌⊎◌, ⊎_elim, Bool, true, false, ◌&&◌, leb, List, [], ◌∷◌, ◌++◌, refl, sym, ap, ◌∙◌, subst, inl, inr, arith, length, take, drop, get_or, cond, add-zero, zero-add}
-use Rattle.std.proofs.lemmas.Bool.{and_parts, and_from, leb-true, le-leb, cases_lt}
+use Rattle.std.proofs.Common.{◌≡◌, ℕ, zero, suc, ◌+◌, ◌-◌, ◌<◌, ◌≤◌, ◌⊎◌, ⊎_elim, Bool, true, false, ◌&&◌, leb, List, [], ◌∷◌, ◌++◌, refl, sym, ap, ◌∙◌, subst, inl, inr, arith, length, take, drop, get_or, cond, add-zero, zero-add, length-drop}
+use Rattle.std.proofs.lemmas.Bool.{and_parts, and_from, and_cases, leb-true, leb-false, le-leb, cases_lt, cases_Bool}
 use Rattle.std.proofs.lemmas.List.{take-append-drop, length-take-le}
 use Rattle.simd_cesu8.specs.Encoding.{Flavor, Cesu8, Mutf8}
 use Rattle.simd_cesu8.specs.Reading.{BeginsWith, StandsAt, width}
 use Rattle.simd_cesu8.specs.Laws.{NoneCrosses}
 use Rattle.simd_cesu8.specs.DecodedPlaces.{front_width, front_width_by, width_at, is_border_at, border_by, one_at, null_at, two_at, three_at, pair_at}
-use Rattle.simd_cesu8.proofs.FrontWidths.{IsWide, wide, width_of_front}
+use Rattle.simd_cesu8.proofs.FrontWidths.{IsWide, wide, width_of_front, width_fits}
 use Rattle.simd_cesu8.proofs.Stretches.{no_overlap}
 use Rattle.simd_cesu8.proofs.WindowPlaces.{Follows, width_in}
 
@@ -130,3 +130,51 @@ border_at_character f window bytes i follows first inside some =
     let place : i + s - 5 + 5 ≡ i + s = omega arith in
     omega (arith, ends_before f window bytes (i + s - 5) i follows (omega arith) inside some, ap (width_at f window) place))
     (cases_lt (i + s) 5))
+
+-- The end of the bytes is a border.
+pub border_at_end : (f : Flavor) (window bytes : List ℕ) → Follows window bytes 5 → is_border_at f window 0 ≡ true →
+    is_border_at f window (length bytes) ≡ true
+border_at_end f window bytes follows first =
+    border_where f window (length bytes) (λ s small. ⊎_elim
+    (λ (early : length bytes + s < 5).
+    omega (arith, border_ends f window 0 first (length bytes + s) early, ap (width_at f window) (zero-add (length bytes + s))))
+    (λ (later : 5 ≤ length bytes + s).
+    let p = length bytes + s - 5 in
+    let place : p + 5 ≡ length bytes + s = omega arith in
+    let there = width_in f window bytes 5 p follows (omega arith) in
+    omega (arith, width_fits f (drop p bytes), length-drop p bytes, ap (width_at f window) place))
+    (cases_lt (length bytes + s) 5))
+
+-- where there is none, a character reaches over the place
+reaching : (f : Flavor) (window : List ℕ) (i : ℕ) → is_border_at f window i ≡ false →
+    (s : ℕ) × (s < 5) × (5 < width_at f window (i + s) + s)
+reaching f window i over =
+    let w = width_at f window in
+    ⊎_elim (λ h. (4, omega arith, omega (arith, leb-false (w (i + 4)) 1 h)))
+    (λ h. ⊎_elim (λ h. (3, omega arith, omega (arith, leb-false (w (i + 3)) 2 h)))
+    (λ h. ⊎_elim (λ h. (2, omega arith, omega (arith, leb-false (w (i + 2)) 3 h)))
+    (λ h. ⊎_elim (λ h. (1, omega arith, omega (arith, leb-false (w (i + 1)) 4 h)))
+    (λ h. (0, omega arith, omega (arith, leb-false (w i) 5 h, ap w (add-zero i))))
+    (and_cases (leb (w (i + 1)) 4) (leb (w i) 5) h))
+    (and_cases (leb (w (i + 2)) 3) _ h))
+    (and_cases (leb (w (i + 3)) 2) _ h))
+    (and_cases (leb (w (i + 4)) 1) _ over)
+
+-- Each place is a border, or one of the five before it is: where a character begins that reaches over it.
+pub border_near : (f : Flavor) (window bytes : List ℕ) (n : ℕ) → Follows window bytes 5 → is_border_at f window 0 ≡ true →
+    n ≤ length bytes → (m : ℕ) × (m ≤ n) × (n ≤ m + 5) × (is_border_at f window m ≡ true)
+border_near f window bytes n follows first fits =
+    ⊎_elim (λ (border : is_border_at f window n ≡ true). (n, omega arith, omega arith, border))
+    (λ (over : is_border_at f window n ≡ false). let reach = reaching f window n over in by_reach reach.0 reach.1 reach.2)
+    (cases_Bool (is_border_at f window n))
+  where
+    by_reach : (s : ℕ) → s < 5 → 5 < width_at f window (n + s) + s → (m : ℕ) × (m ≤ n) × (n ≤ m + 5) × (is_border_at f window m ≡ true)
+    by_reach s small far =
+        ⊎_elim (λ (early : n + s < 5).
+        absurd (omega (arith, border_ends f window 0 first (n + s) early, ap (width_at f window) (zero-add (n + s)))))
+        (λ (later : 5 ≤ n + s).
+        let m = n + s - 5 in
+        let place : m + 5 ≡ n + s = omega arith in
+        let same = ap (width_at f window) place in
+        (m, omega arith, omega arith, border_at_character f window bytes m follows first (omega arith) (omega arith)))
+        (cases_lt (n + s) 5)

@@ -1,5 +1,5 @@
 -- The length of the lossy reading, by what each place saves of three bytes.
-use Rattle.std.proofs.Common.{◌≡◌, ℕ, ◌+◌, ◌*◌, ◌<◌, ◌⊎◌, List, [], ◌∷◌, ◌++◌, refl, sym, ap, ◌∙◌, inl, inr, arith, length, length-append, zero-add, add-zero, subst, get_or}
+use Rattle.std.proofs.Common.{◌≡◌, ℕ, ◌+◌, ◌*◌, ◌<◌, ◌⊎◌, List, [], ◌∷◌, ◌++◌, refl, sym, ap, ◌∙◌, inl, inr, arith, length, length-append, zero-add, add-zero, subst, get_or, drop, suc}
 use Rattle.std.proofs.lemmas.Bool.{ne_eqb, cases_eq}
 use Rattle.simd_cesu8.specs.Text.{IsScalarValue, utf8_of, utf8}
 use Rattle.simd_cesu8.specs.Encoding.{Flavor, Cesu8, Mutf8, encoding}
@@ -9,122 +9,62 @@ use Rattle.simd_cesu8.specs.DecodedPlaces.{front_width, saved, saved_between, al
 use Rattle.simd_cesu8.proofs.Shapes.{Shape, IsTwo, IsThree, IsPair, one, two, three, pair, shape, utf8_of_one, utf8_of_two, utf8_of_three, utf8_of_pair}
 use Rattle.simd_cesu8.proofs.Forms.{encoding_one, encoding_two, encoding_three, encoding_pair, short_form_null, short_form_other}
 use Rattle.simd_cesu8.proofs.Decoding.{length_utf8_replaced}
-use Rattle.simd_cesu8.proofs.FrontWidths.{begins_front, width_of_front, width_of_none, width_inside}
+use Rattle.simd_cesu8.proofs.FrontWidths.{begins_encoded, width_of_front, width_of_none, width_inside}
 use Rattle.simd_cesu8.proofs.WindowPlaces.{Follows, follows_later, width_following}
 use Rattle.simd_cesu8.proofs.Cuttings.{greedy_cutting}
 use Rattle.simd_cesu8.proofs.Greedy.{places}
 
+-- places where none begins save nothing
+free : (f : Flavor) (front rest : List ℕ) → ((j : ℕ) → j < length front → front_width f (drop j (front ++ rest)) ≡ 0) →
+    all_saved f (front ++ rest) ≡ all_saved f rest
+unfolding all_saved
+free f [] rest none = refl
+free f (b ∷ front) rest none =
+    rw (none 0 (omega arith)) (zero-add (all_saved f (front ++ rest)) ∙ free f front rest (λ j small. none (suc j) (omega arith)))
+
+-- so a character saves what its first place does
+first_saves : (f : Flavor) (c b : ℕ) (front rest : List ℕ) → IsScalarValue c → encoding f (c ∷ []) ≡ b ∷ front →
+    all_saved f (encoding f (c ∷ []) ++ rest) ≡ saved (length (b ∷ front)) b + all_saved f rest
+unfolding all_saved
+first_saves f c b front rest scalar same =
+    let bytes = b ∷ front ++ rest in
+    let begins = begins_encoded f c (b ∷ front) rest scalar same in
+    let inside = free f front rest (λ j small. width_inside f bytes c (suc j) rest begins (omega arith) (omega (arith, ap length same))) in
+    rw (same, width_of_front f bytes c rest begins, ap length same) (ap (λ n. saved (length (b ∷ front)) b + n) inside)
+
 -- what a character saves, and its UTF-8 and three times its bytes
-pub record Saves (f : Flavor) (c : ℕ) (rest : List ℕ) : Type 0 where
+record Saves (f : Flavor) (c : ℕ) (rest : List ℕ) : Type 0 where
   pub some : ℕ
   pub saves : all_saved f (encoding f (c ∷ []) ++ rest) ≡ some + all_saved f rest
   pub fits : length (utf8_of c) + some ≡ 3 * width f c
 
-one_saves : (f : Flavor) (c : ℕ) (rest : List ℕ) → IsScalarValue c → c < 0x80 → encoding f (c ∷ []) ≡ c ∷ [] → Saves f c rest
-unfolding all_saved
-one_saves f c rest scalar ascii same =
-    let begins = begins_front f c (c ∷ []) rest scalar same in
-    record {
-      some = 2;
-      saves = rw (same, width_of_front f (c ∷ rest) c rest begins, ap length same) refl;
-      fits = omega (arith, ap length (utf8_of_one c ascii), ap length same);
-    }
-
-null_saves : (f : Flavor) (c : ℕ) (rest : List ℕ) → IsScalarValue c → c < 0x80 → encoding f (c ∷ []) ≡ 0xC0 ∷ 0x80 ∷ [] → Saves f c rest
-unfolding all_saved
-null_saves f c rest scalar ascii same =
-    let begins = begins_front f c (0xC0 ∷ 0x80 ∷ []) rest scalar same in
-    let long : width f c ≡ 2 = ap length same in
-    record {
-      some = 5;
-      saves = rw (
-        same,
-        width_of_front f (0xC0 ∷ 0x80 ∷ rest) c rest begins,
-        width_inside f (0xC0 ∷ 0x80 ∷ rest) c 1 rest begins (omega arith) (omega (arith, long)),
-        long,
-      ) (ap (λ n. 5 + n) (zero-add (all_saved f rest)));
-      fits = omega (arith, ap length (utf8_of_one c ascii), long);
-    }
-
-two_saves : (f : Flavor) (c x y : ℕ) (rest : List ℕ) → IsScalarValue c → IsTwo c x y → Saves f c rest
-unfolding all_saved
-two_saves f c x y rest scalar digits =
-    let a = 0xC0 + x in
-    let b = 0x80 + y in
-    let same = encoding_two f c x y digits in
-    let begins = begins_front f c (a ∷ b ∷ []) rest scalar same in
-    let long : width f c ≡ 2 = ap length same in
-    let low = digits.low in
-    record {
-      some = 4;
-      saves = rw (
-        same,
-        width_of_front f (a ∷ b ∷ rest) c rest begins,
-        width_inside f (a ∷ b ∷ rest) c 1 rest begins (omega arith) (omega (arith, long)),
-        long,
-        ne_eqb a 0xC0 (λ e. omega arith),
-      ) (ap (λ n. 4 + n) (zero-add (all_saved f rest)));
-      fits = omega (arith, ap length (utf8_of_two c x y digits), long);
-    }
-
-three_saves : (f : Flavor) (c x y z : ℕ) (rest : List ℕ) → IsScalarValue c → IsThree c x y z → Saves f c rest
-unfolding all_saved
-three_saves f c x y z rest scalar digits =
-    let a = 0xE0 + x in
-    let b = 0x80 + y in
-    let d = 0x80 + z in
-    let same = encoding_three f c x y z digits in
-    let begins = begins_front f c (a ∷ b ∷ d ∷ []) rest scalar same in
-    let long : width f c ≡ 3 = ap length same in
-    record {
-      some = 6;
-      saves = rw (
-        same,
-        width_of_front f (a ∷ b ∷ d ∷ rest) c rest begins,
-        width_inside f (a ∷ b ∷ d ∷ rest) c 1 rest begins (omega arith) (omega (arith, long)),
-        width_inside f (a ∷ b ∷ d ∷ rest) c 2 rest begins (omega arith) (omega (arith, long)),
-        long,
-      ) (ap (λ n. 6 + n) (zero-add (0 + all_saved f rest) ∙ zero-add (all_saved f rest)));
-      fits = omega (arith, ap length (utf8_of_three c x y z digits), long);
-    }
-
-pair_saves : (f : Flavor) (c w x y z : ℕ) (rest : List ℕ) → IsScalarValue c → IsPair c w x y z → Saves f c rest
-unfolding all_saved
-pair_saves f c w x y z rest scalar digits =
-    let b = 0xA0 + w in
-    let d = 0x80 + x in
-    let g = 0xB0 + y in
-    let h = 0x80 + z in
-    let same = encoding_pair f c w x y z digits in
-    let begins = begins_front f c (0xED ∷ b ∷ d ∷ 0xED ∷ g ∷ h ∷ []) rest scalar same in
-    let long : width f c ≡ 6 = ap length same in
-    record {
-      some = 14;
-      saves = rw (
-        same,
-        width_of_front f (0xED ∷ b ∷ d ∷ 0xED ∷ g ∷ h ∷ rest) c rest begins,
-        width_inside f (0xED ∷ b ∷ d ∷ 0xED ∷ g ∷ h ∷ rest) c 1 rest begins (omega arith) (omega (arith, long)),
-        width_inside f (0xED ∷ b ∷ d ∷ 0xED ∷ g ∷ h ∷ rest) c 2 rest begins (omega arith) (omega (arith, long)),
-        width_inside f (0xED ∷ b ∷ d ∷ 0xED ∷ g ∷ h ∷ rest) c 3 rest begins (omega arith) (omega (arith, long)),
-        width_inside f (0xED ∷ b ∷ d ∷ 0xED ∷ g ∷ h ∷ rest) c 4 rest begins (omega arith) (omega (arith, long)),
-        width_inside f (0xED ∷ b ∷ d ∷ 0xED ∷ g ∷ h ∷ rest) c 5 rest begins (omega arith) (omega (arith, long)),
-        long,
-      ) (ap (λ n. 14 + n) (zero-add (0 + (0 + (0 + (0 + all_saved f rest)))) ∙ zero-add (0 + (0 + (0 + all_saved f rest))) ∙ zero-add (0 + (0 + all_saved f rest)) ∙ zero-add (0 + all_saved f rest) ∙ zero-add (all_saved f rest)));
-      fits = omega (arith, ap length (utf8_of_pair c w x y z digits), long);
-    }
+-- one whose UTF-8 has n bytes
+by_lengths : (f : Flavor) (c b n : ℕ) (front rest : List ℕ) → IsScalarValue c → encoding f (c ∷ []) ≡ b ∷ front →
+    length (utf8_of c) ≡ n → n + saved (length (b ∷ front)) b ≡ 3 * length (b ∷ front) → Saves f c rest
+by_lengths f c b n front rest scalar same in_utf8 fits = record {
+  some = saved (length (b ∷ front)) b;
+  saves = first_saves f c b front rest scalar same;
+  fits = rw (in_utf8, ap length same) fits;
+}
 
 ascii_saves : (f : Flavor) (c : ℕ) (rest : List ℕ) → IsScalarValue c → c < 0x80 → (c ≡ 0) ⊎ (c ≡ 0 → ⊥) → Saves f c rest
-ascii_saves Cesu8 c rest scalar ascii _ = one_saves Cesu8 c rest scalar ascii (encoding_one Cesu8 c ascii)
+ascii_saves Cesu8 c rest scalar ascii _ =
+    by_lengths Cesu8 c c 1 [] rest scalar (encoding_one Cesu8 c ascii) (ap length (utf8_of_one c ascii)) refl
 ascii_saves Mutf8 c rest scalar ascii (inl null) =
-    null_saves Mutf8 c rest scalar ascii (encoding_one Mutf8 c ascii ∙ short_form_null c null)
+    by_lengths Mutf8 c 0xC0 1 (0x80 ∷ []) rest scalar (encoding_one Mutf8 c ascii ∙ short_form_null c null) (ap length (utf8_of_one c ascii)) refl
 ascii_saves Mutf8 c rest scalar ascii (inr some) =
-    one_saves Mutf8 c rest scalar ascii (encoding_one Mutf8 c ascii ∙ short_form_other Mutf8 c some)
+    by_lengths Mutf8 c c 1 [] rest scalar (encoding_one Mutf8 c ascii ∙ short_form_other Mutf8 c some) (ap length (utf8_of_one c ascii)) refl
 
 character_saves : (f : Flavor) (c : ℕ) (rest : List ℕ) → IsScalarValue c → Shape c → Saves f c rest
 character_saves f c rest scalar (one ascii) = ascii_saves f c rest scalar ascii (cases_eq c 0)
-character_saves f c rest scalar (two x y digits) = two_saves f c x y rest scalar digits
-character_saves f c rest scalar (three x y z digits) = three_saves f c x y z rest scalar digits
-character_saves f c rest scalar (pair w x y z digits) = pair_saves f c w x y z rest scalar digits
+character_saves f c rest scalar (two x y digits) =
+    by_lengths f c (0xC0 + x) 2 ((0x80 + y) ∷ []) rest scalar (encoding_two f c x y digits) (ap length (utf8_of_two c x y digits))
+    (rw (ne_eqb (0xC0 + x) 0xC0 (λ e. omega (arith, digits.low))) refl)
+character_saves f c rest scalar (three x y z digits) =
+    by_lengths f c (0xE0 + x) 3 ((0x80 + y) ∷ (0x80 + z) ∷ []) rest scalar (encoding_three f c x y z digits) (ap length (utf8_of_three c x y z digits)) refl
+character_saves f c rest scalar (pair w x y z digits) =
+    by_lengths f c 0xED 4 ((0xA0 + w) ∷ (0x80 + x) ∷ 0xED ∷ (0xB0 + y) ∷ (0x80 + z) ∷ []) rest scalar
+    (encoding_pair f c w x y z digits) (ap length (utf8_of_pair c w x y z digits)) refl
 
 replaced_saves : (f : Flavor) (b : ℕ) (rest : List ℕ) → NoneBegins f (b ∷ rest) → all_saved f (b ∷ rest) ≡ all_saved f rest
 unfolding all_saved
