@@ -58,3 +58,4 @@ pub mod EncodedTexts
 pub mod Below
 pub mod UnitOrder
 pub mod LossyBorrowing
+pub mod DecodedParts
