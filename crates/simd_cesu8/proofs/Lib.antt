@@ -58,4 +58,5 @@ pub mod EncodedTexts
 pub mod Below
 pub mod UnitOrder
 pub mod LossyBorrowing
+pub mod StartCodes
 pub mod DecodedParts
