@@ -60,3 +60,4 @@ pub mod UnitOrder
 pub mod LossyBorrowing
 pub mod StartCodes
 pub mod DecodedParts
+pub mod DecodedBlocks

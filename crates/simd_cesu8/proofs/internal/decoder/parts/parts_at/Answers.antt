@@ -1,4 +1,3 @@
-use Rattle.simd_cesu8.proofs.DecodedParts.{decoded_is_written}
 use Rattle.simd_cesu8.proofs.internal.decoder.parts.parts_at.Goals as goal
 
 pub returns-clause-written : goal.returns-clause-written
