@@ -61,3 +61,4 @@ pub mod LossyBorrowing
 pub mod StartCodes
 pub mod DecodedParts
 pub mod DecodedBlocks
+pub mod StartLanes

@@ -14,7 +14,11 @@ start_code_by f a b d e g h =
     else if pair_at a b d e g h then 0x20
     else 0
 
--- The same for place i of a window. Behind the window there are zeros.
+-- The code of what two bytes begin, if the others are there.
+abbrev pub code_of_two : Flavor → ℕ → ℕ → ℕ
+code_of_two f a b = start_code_by f a b 0x80 0xED 0xB0 0x80
+
+-- The code of what begins at place i of a window. Behind the window there are zeros.
 abbrev pub start_code : Flavor → List ℕ → ℕ → ℕ
 start_code f window i =
     let w = slice_index window in
