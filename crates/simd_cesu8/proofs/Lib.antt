@@ -62,3 +62,4 @@ pub mod StartCodes
 pub mod DecodedParts
 pub mod DecodedBlocks
 pub mod StartLanes
+pub mod DecodedRows
