@@ -11,10 +11,11 @@ use Rattle.std.specs.Int.Bits.{and_zero_r}
 use lib.Lanes.{zip2, sel_l, top, chunk, Each1}
 use Rattle.simd_cesu8.specs.Encoding.{Flavor, Cesu8, Mutf8}
 use Rattle.simd_cesu8.specs.EncodedPlaces.{is_null, mask}
-use Rattle.simd_cesu8.specs.DecodedPlaces.{one_at, null_at, two_at, three_at, pair_at, front_width_by, width_at, is_damaged_at, decoded}
-use Rattle.simd_cesu8.specs.DecodedLanes.{start_code, AreStartCodes, is_high, goes_at, byte_at}
+use Rattle.simd_cesu8.specs.DecodedPlaces.{one_at, null_at, two_at, three_at, pair_at, front_width_by, width_at, is_damaged_at, decoded_at, decoded}
+use Rattle.simd_cesu8.specs.DecodedLanes.{start_code, AreStartCodes, is_high, goes_at, byte_at, written_for, written, written_lanes}
 use Rattle.simd_cesu8.specs.declared.internal.decoder.parts.TheConstants.{FIRST_BY_SECOND, SECOND_BY_SECOND, THIRD_BY_THIRD}
 use Rattle.simd_cesu8.proofs.EncodedLanes.{loaded}
+use Rattle.simd_cesu8.proofs.DecodedParts.{decoded_is_written}
 use Rattle.simd_cesu8.proofs.StartCodes.{Start, nothing, one, null, two_low, two_high, three_low, three_high, three_last, pair, start_at, pair_bit, over_two, over_one, null_bit}
 
 -- ---- bits of two numbers
@@ -254,6 +255,20 @@ lane_byte f window i =
 
 -- ---- the lanes of a block, by places
 
+-- a lane at a place, by the codes that the vectors hold
+abbrev pub gone_of : List ℕ → ℕ → ℕ
+gone_of codes i = gone_lane (get_or codes (i + 5) 0) (get_or codes (i + 4) 0)
+
+abbrev pub damaged_of : Flavor → List ℕ → List ℕ → ℕ → ℕ
+damaged_of f window codes i =
+    damaged_lane f (covered_lane (get_or codes (i + 5) 0) (get_or codes (i + 4) 0) (get_or codes (i + 3) 0) (get_or codes (i + 2) 0)
+    (get_or codes (i + 1) 0) (get_or codes i 0)) (get_or window (i + 5) 0)
+
+abbrev pub byte_of : List ℕ → List ℕ → ℕ → ℕ
+byte_of window codes i =
+    byte_lane (get_or codes (i + 4) 0) (get_or codes (i + 3) 0) (get_or codes (i + 2) 0) (get_or codes (i + 1) 0)
+    (get_or window (i + 3) 0) (get_or window (i + 4) 0) (get_or window (i + 5) 0)
+
 on_range : {X : Type 0} (g h : ℕ → X) (a n : ℕ) → ((i : ℕ) → i < a + n → g i ≡ h i) → map g (range_with_len a n) ≡ map h (range_with_len a n)
 on_range g h a zero same = refl
 on_range g h a (suc n) same =
@@ -275,7 +290,7 @@ module _ (window codes : List ℕ) (at : ℕ) (window_room : at + 37 ≤ length 
   pub gone_lanes :
       zip2 bit_or (chunk (at + 5) 32 codes)
       (zip2 (λ a b. a * 2 ^ b % 2 ^ 8) (zip2 bit_or (chunk (at + 5) 32 codes) (chunk (at + 4) 32 codes)) (replicate 32 2))
-      ≡ map (λ i. gone_lane (get_or codes (i + 5) 0) (get_or codes (i + 4) 0)) (range_with_len at 32)
+      ≡ map (gone_of codes) (range_with_len at 32)
   gone_lanes = rw (code_behind 5 (omega arith), code_behind 4 (omega arith)) refl
 
   -- those that say which are damaged,
@@ -288,8 +303,7 @@ module _ (window codes : List ℕ) (at : ℕ) (window_room : at + 37 ≤ length 
       (zip2 bit_and (chunk at 32 codes) (replicate 32 0x20)))) →
       nulls ≡ map (λ b. mask (is_null f b)) (chunk (at + 5) 32 window) →
       zip2 bit_and alone (zip2 bit_or (chunk (at + 5) 32 window) nulls)
-      ≡ map (λ i. damaged_lane f (covered_lane (get_or codes (i + 5) 0) (get_or codes (i + 4) 0) (get_or codes (i + 3) 0) (get_or codes (i + 2) 0)
-      (get_or codes (i + 1) 0) (get_or codes i 0)) (get_or window (i + 5) 0)) (range_with_len at 32)
+      ≡ map (damaged_of f window codes) (range_with_len at 32)
   damaged_lanes f alone nulls alone_is nulls_are =
       rw (alone_is, nulls_are, code_behind 5 (omega arith), code_behind 4 (omega arith), code_behind 3 (omega arith), code_behind 2 (omega arith),
       code_behind 1 (omega arith), code_here, byte_behind 5 (omega arith)) refl
@@ -307,8 +321,7 @@ module _ (window codes : List ℕ) (at : ℕ) (window_room : at + 37 ≤ length 
       two ≡ chosen_lanes 2
       (zip2 bit_or second (zip2 bit_and (zip2 (λ a b. a / 2 ^ b) (chunk (at + 4) 32 window) (replicate 32 2)) (replicate 32 0x0F))) fourth →
       last ≡ chosen_lanes 3 first two →
-      last ≡ map (λ i. byte_lane (get_or codes (i + 4) 0) (get_or codes (i + 3) 0) (get_or codes (i + 2) 0) (get_or codes (i + 1) 0)
-      (get_or window (i + 3) 0) (get_or window (i + 4) 0) (get_or window (i + 5) 0)) (range_with_len at 32)
+      last ≡ map (byte_of window codes) (range_with_len at 32)
   byte_lanes first second third fourth two last first_is second_is third_is fourth_is two_is last_is =
       last_is ∙ rw (two_is, fourth_is, first_is, second_is, third_is, tops_compared w8 leb (replicate 32 0x80) (chunk (at + 4) 32 codes),
       code_behind 4 (omega arith), code_behind 3 (omega arith), code_behind 2 (omega arith), code_behind 1 (omega arith),
@@ -325,38 +338,32 @@ module _ (window codes : List ℕ) (at : ℕ) (window_room : at + 37 ≤ length 
         ap (take count) are ∙ take-map-range_with_len g at 32 count small ∙ on_range g h at count same
 
     -- Of the first ones they say which go,
-    pub first_gone : (lanes : List ℕ) → lanes ≡ map (λ i. gone_lane (get_or codes (i + 5) 0) (get_or codes (i + 4) 0)) (range_with_len at 32) →
+    pub first_gone : (lanes : List ℕ) → lanes ≡ map (gone_of codes) (range_with_len at 32) →
         map is_high (take count lanes) ≡ map (goes_at f window) (range_with_len at count)
     first_gone lanes are =
         sym (take-map is_high count lanes)
-        ∙ first_lanes (λ i. is_high (gone_lane (get_or codes (i + 5) 0) (get_or codes (i + 4) 0))) (goes_at f window)
+        ∙ first_lanes (λ i. is_high (gone_of codes i)) (goes_at f window)
         (λ i inside. (λ k. is_high (gone_lane (told i 5 (omega arith) inside k) (told i 4 (omega arith) inside k)))
         ∙ lane_goes _ _ _ _ _ _ (start_at f window (i + 5)) (start_at f window (i + 4)))
-        (map is_high lanes) (ap (map is_high) are ∙ map-map is_high _ (range_with_len at 32))
+        (map is_high lanes) (ap (map is_high) are ∙ map-map is_high (gone_of codes) (range_with_len at 32))
 
     -- which are damaged,
-    pub first_damaged : ((i : ℕ) → Fits w8 (get_or window i 0)) → (lanes : List ℕ) →
-        lanes ≡ map (λ i. damaged_lane f (covered_lane (get_or codes (i + 5) 0) (get_or codes (i + 4) 0) (get_or codes (i + 3) 0) (get_or codes (i + 2) 0)
-        (get_or codes (i + 1) 0) (get_or codes i 0)) (get_or window (i + 5) 0)) (range_with_len at 32) →
+    pub first_damaged : ((i : ℕ) → Fits w8 (get_or window i 0)) → (lanes : List ℕ) → lanes ≡ map (damaged_of f window codes) (range_with_len at 32) →
         map is_high (take count lanes) ≡ map (is_damaged_at f window) (range_with_len at count)
     first_damaged fits lanes are =
         sym (take-map is_high count lanes)
-        ∙ first_lanes (λ i. is_high (damaged_lane f (covered_lane (get_or codes (i + 5) 0) (get_or codes (i + 4) 0) (get_or codes (i + 3) 0)
-        (get_or codes (i + 2) 0) (get_or codes (i + 1) 0) (get_or codes i 0)) (get_or window (i + 5) 0))) (is_damaged_at f window)
+        ∙ first_lanes (λ i. is_high (damaged_of f window codes i)) (is_damaged_at f window)
         (λ i inside. (λ k. is_high (damaged_lane f (covered_lane (told i 5 (omega arith) inside k) (told i 4 (omega arith) inside k)
         (told i 3 (omega arith) inside k) (told i 2 (omega arith) inside k) (told i 1 (omega arith) inside k) (are_codes i (omega arith) k))
         (get_or window (i + 5) 0)))
         ∙ lane_damaged f window i (fits (i + 5)).fits)
-        (map is_high lanes) (ap (map is_high) are ∙ map-map is_high _ (range_with_len at 32))
+        (map is_high lanes) (ap (map is_high) are ∙ map-map is_high (damaged_of f window codes) (range_with_len at 32))
 
     -- and what is written.
-    pub first_bytes : (lanes : List ℕ) →
-        lanes ≡ map (λ i. byte_lane (get_or codes (i + 4) 0) (get_or codes (i + 3) 0) (get_or codes (i + 2) 0) (get_or codes (i + 1) 0)
-        (get_or window (i + 3) 0) (get_or window (i + 4) 0) (get_or window (i + 5) 0)) (range_with_len at 32) →
+    pub first_bytes : (lanes : List ℕ) → lanes ≡ map (byte_of window codes) (range_with_len at 32) →
         take count lanes ≡ map (byte_at f window) (range_with_len at count)
     first_bytes lanes are =
-        first_lanes (λ i. byte_lane (get_or codes (i + 4) 0) (get_or codes (i + 3) 0) (get_or codes (i + 2) 0) (get_or codes (i + 1) 0)
-        (get_or window (i + 3) 0) (get_or window (i + 4) 0) (get_or window (i + 5) 0)) (byte_at f window)
+        first_lanes (byte_of window codes) (byte_at f window)
         (λ i inside. (λ k. byte_lane (told i 4 (omega arith) inside k) (told i 3 (omega arith) inside k) (told i 2 (omega arith) inside k)
         (told i 1 (omega arith) inside k) (get_or window (i + 3) 0) (get_or window (i + 4) 0) (get_or window (i + 5) 0)) ∙ lane_byte f window i)
         lanes are
@@ -416,3 +423,41 @@ undamaged_behind (x ∷ xs) count start (suc n) fits e =
     ∙ agree_below_at (λ x. leb 0x80 (bit_and x 0xFF)) (λ x. leb 0x80 x) 0x100 x refl fits.0.fits in
     let rest = undamaged_behind xs count (start + 1) n fits.1 (omega arith) in
     λ k. first k ∷ rest k
+
+-- ---- what is written for a block
+
+all_go : {X Y : Type 0} (xs : List X) (ys : List Y) (bytes : List ℕ) → written (map (λ _. true) xs) (map (λ _. false) ys) bytes ≡ []
+all_go [] ys bytes = refl
+all_go (x ∷ xs) [] bytes = refl
+all_go (x ∷ xs) (y ∷ ys) [] = refl
+all_go (x ∷ xs) (y ∷ ys) (b ∷ bytes) = all_go xs ys bytes
+
+-- For what goes behind the first ones nothing is written.
+written_first : {X Y : Type 0} (gone damaged : List Bool) (xs : List X) (ys : List Y) (bytes : List ℕ) (n : ℕ) → length gone ≡ n → length damaged ≡ n →
+    written (gone ++ map (λ _. true) xs) (damaged ++ map (λ _. false) ys) bytes ≡ written gone damaged (take n bytes)
+written_first [] [] xs ys bytes n e e' = all_go xs ys bytes
+written_first [] (d ∷ damaged) xs ys bytes n e e' = absurd (omega arith)
+written_first (g ∷ gone) [] xs ys bytes n e e' = absurd (omega arith)
+written_first (g ∷ gone) (d ∷ damaged) xs ys bytes zero e e' = absurd (omega arith)
+written_first (g ∷ gone) (d ∷ damaged) xs ys [] (suc n) e e' = refl
+written_first (g ∷ gone) (d ∷ damaged) xs ys (b ∷ bytes) (suc n) e e' =
+    ap (λ l. written_for g d b ++ l) (written_first gone damaged xs ys bytes n (omega arith) (omega arith))
+
+written_places : (f : Flavor) (window : List ℕ) (places : List ℕ) →
+    written (map (goes_at f window) places) (map (is_damaged_at f window) places) (map (byte_at f window) places) ≡ flat_map (decoded_at f window) places
+written_places f window [] = refl
+written_places f window (i ∷ places) = λ k. sym (decoded_is_written f window i) k ++ written_places f window places k
+
+-- What is written for the lanes is what the first bytes become.
+pub block_written : (f : Flavor) (window : List ℕ) (at count : ℕ) (gone damaged bytes gone_behind damaged_behind : List ℕ) →
+    map is_high gone ≡ map (goes_at f window) (range_with_len at count) ++ map (λ _. true) gone_behind →
+    map is_high damaged ≡ map (is_damaged_at f window) (range_with_len at count) ++ map (λ _. false) damaged_behind →
+    take count bytes ≡ map (byte_at f window) (range_with_len at count) →
+    written_lanes gone damaged bytes ≡ decoded f window at count
+unfolding decoded
+block_written f window at count gone damaged bytes gone_behind damaged_behind gone_is damaged_is bytes_are =
+    (λ k. written (gone_is k) (damaged_is k) bytes)
+    ∙ written_first (map (goes_at f window) (range_with_len at count)) (map (is_damaged_at f window) (range_with_len at count)) gone_behind damaged_behind bytes
+    count (length-map-range_with_len (goes_at f window) at count) (length-map-range_with_len (is_damaged_at f window) at count)
+    ∙ ap (written (map (goes_at f window) (range_with_len at count)) (map (is_damaged_at f window) (range_with_len at count))) bytes_are
+    ∙ written_places f window (range_with_len at count)
