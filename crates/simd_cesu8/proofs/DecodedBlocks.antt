@@ -1,9 +1,9 @@
 -- What the decoder's vectors say of the bytes of a block, lane by lane.
-use Rattle.std.proofs.Common.{◌≡◌, ℕ, zero, suc, ◌+◌, ◌-◌, ◌*◌, ◌/◌, ◌%◌, ◌^◌, ◌<◌, ◌≤◌, ⊎_elim, Bool, true, false, ◌&&◌, ◌||◌, not, eqb, leb, ltb, List, [], ◌∷◌, ◌++◌, refl, sym, ap, ◌∙◌, subst, arith, cond, get_or, map, take, drop, length, replicate, bit_and, bit_or, bit_xor, add-zero, Fits, w8}
+use Rattle.std.proofs.Common.{◌≡◌, ℕ, zero, suc, ◌+◌, ◌-◌, ◌*◌, ◌/◌, ◌%◌, ◌^◌, ◌<◌, ◌≤◌, ⊎_elim, Bool, true, false, ◌&&◌, ◌||◌, not, eqb, leb, ltb, List, [], ◌∷◌, ◌++◌, refl, sym, ap, ◌∙◌, subst, arith, cond, get_or, map, take, drop, length, replicate, bit_and, bit_or, bit_xor, add-zero, zero-add, Fits, w8}
 use Rattle.std.specs.List.{flat_map, range_with_len}
 use Rattle.std.proofs.lemmas.Bool.{agree_below_at, cases_lt, eqb-true, le-leb, lt-leb, eq-eqb, ne_eqb, cases_eq}
 use Rattle.std.proofs.lemmas.Bool.Decides.{nat_tests}
-use Rattle.std.proofs.lemmas.Nat.{and_mask, le_or_l, le_or_r, or_lt, or_mod, or_block, or_shifted}
+use Rattle.std.proofs.lemmas.Nat.{and_le_l, and_mask, le_or_l, le_or_r, or_lt, or_mod, or_block, or_shifted}
 use Rattle.std.proofs.lemmas.List.{take-map}
 use Rattle.std.proofs.lemmas.List.FromFn.{take-map-range_with_len, length-map-range_with_len}
 use Rattle.std.proofs.lemmas.Simd.{map-map, pick_l-range_with_len, tops_compared}
@@ -179,6 +179,10 @@ over n w = grind (arith, nat_tests)
 abbrev pub damaged_lane : Flavor → (covered b : ℕ) → ℕ
 damaged_lane f covered b = bit_and (mask (eqb covered 0)) (bit_or b (mask (is_null f b)))
 
+mask_fits : (t : Bool) → mask t < 0x100
+mask_fits true = omega arith
+mask_fits false = omega arith
+
 -- It says whether the byte is damaged.
 pub lane_damaged : (f : Flavor) (window : List ℕ) (i : ℕ) → get_or window (i + 5) 0 < 0x100 →
     let c = start_code f window in
@@ -189,14 +193,10 @@ lane_damaged f window i small =
     let w = width_at f window in
     let b = get_or window (i + 5) 0 in
     let covered = covered_lane (c (i + 5)) (c (i + 4)) (c (i + 3)) (c (i + 2)) (c (i + 1)) (c i) in
-    masked (eqb covered 0) (bit_or b (mask (is_null f b))) (or_lt 8 b (mask (is_null f b)) small (byte (is_null f b)))
+    masked (eqb covered 0) (bit_or b (mask (is_null f b))) (or_lt 8 b (mask (is_null f b)) small (mask_fits (is_null f b)))
     ∙ (λ k. covered_is f window i k && no_one f b k)
     ∙ damage_by (one_at f b) (leb (w (i + 5)) 1) (leb (w (i + 4)) 1) (leb (w (i + 3)) 2) (eqb (w (i + 2)) 6) (eqb (w (i + 1)) 6) (eqb (w i) 6)
     ∙ (λ k. not (sym (begins_one f window (i + 5)) k || (over 1 (w (i + 4)) k || (over 2 (w (i + 3)) k || (eqb (w (i + 2)) 6 || (eqb (w (i + 1)) 6 || eqb (w i) 6))))))
-  where
-    byte : (t : Bool) → mask t < 0x100
-    byte true = omega arith
-    byte false = omega arith
 
 abbrev first_byte : ℕ → ℕ
 first_byte before = get_or FIRST_BY_SECOND (before % 16) 0
@@ -253,121 +253,6 @@ lane_byte f window i =
     (cond (some_pair _ _ _ (s (i + 2)) k) (second_is two_before before k)
     (cond (some_pair _ _ _ (s (i + 1)) k) (third_is two_before b k) (cond (null_bit _ _ _ (s (i + 4)) k) 0 b)))
 
--- ---- the lanes of a block, by places
-
--- a lane at a place, by the codes that the vectors hold
-abbrev pub gone_of : List ℕ → ℕ → ℕ
-gone_of codes i = gone_lane (get_or codes (i + 5) 0) (get_or codes (i + 4) 0)
-
-abbrev pub damaged_of : Flavor → List ℕ → List ℕ → ℕ → ℕ
-damaged_of f window codes i =
-    damaged_lane f (covered_lane (get_or codes (i + 5) 0) (get_or codes (i + 4) 0) (get_or codes (i + 3) 0) (get_or codes (i + 2) 0)
-    (get_or codes (i + 1) 0) (get_or codes i 0)) (get_or window (i + 5) 0)
-
-abbrev pub byte_of : List ℕ → List ℕ → ℕ → ℕ
-byte_of window codes i =
-    byte_lane (get_or codes (i + 4) 0) (get_or codes (i + 3) 0) (get_or codes (i + 2) 0) (get_or codes (i + 1) 0)
-    (get_or window (i + 3) 0) (get_or window (i + 4) 0) (get_or window (i + 5) 0)
-
-on_range : {X : Type 0} (g h : ℕ → X) (a n : ℕ) → ((i : ℕ) → i < a + n → g i ≡ h i) → map g (range_with_len a n) ≡ map h (range_with_len a n)
-on_range g h a zero same = refl
-on_range g h a (suc n) same =
-    let first = same a (omega arith) in
-    let rest = on_range g h (a + 1) n (λ i inside. same i (omega arith)) in
-    λ k. first k ∷ rest k
-
-module _ (window codes : List ℕ) (at : ℕ) (window_room : at + 37 ≤ length window) (codes_room : at + 37 ≤ length codes) where
-  byte_behind : (d : ℕ) → d ≤ 5 → chunk (at + d) 32 window ≡ map (λ i. get_or window (i + d) 0) (range_with_len at 32)
-  byte_behind d near = loaded window at d 32 (omega arith)
-
-  code_behind : (d : ℕ) → d ≤ 5 → chunk (at + d) 32 codes ≡ map (λ i. get_or codes (i + d) 0) (range_with_len at 32)
-  code_behind d near = loaded codes at d 32 (omega arith)
-
-  code_here : chunk at 32 codes ≡ map (λ i. get_or codes i 0) (range_with_len at 32)
-  code_here = sym (pick_l-range_with_len 0 codes at 32 (omega arith))
-
-  -- The lanes that say which bytes go,
-  pub gone_lanes :
-      zip2 bit_or (chunk (at + 5) 32 codes)
-      (zip2 (λ a b. a * 2 ^ b % 2 ^ 8) (zip2 bit_or (chunk (at + 5) 32 codes) (chunk (at + 4) 32 codes)) (replicate 32 2))
-      ≡ map (gone_of codes) (range_with_len at 32)
-  gone_lanes = rw (code_behind 5 (omega arith), code_behind 4 (omega arith)) refl
-
-  -- those that say which are damaged,
-  pub damaged_lanes : (f : Flavor) (alone nulls : List ℕ) →
-      alone ≡ map (λ lane. mask (eqb lane 0))
-      (zip2 bit_or
-      (zip2 bit_or (zip2 bit_or (chunk (at + 5) 32 codes) (chunk (at + 4) 32 codes)) (zip2 bit_and (chunk (at + 3) 32 codes) (replicate 32 0x3C)))
-      (zip2 bit_or
-      (zip2 bit_or (zip2 bit_and (chunk (at + 2) 32 codes) (replicate 32 0x20)) (zip2 bit_and (chunk (at + 1) 32 codes) (replicate 32 0x20)))
-      (zip2 bit_and (chunk at 32 codes) (replicate 32 0x20)))) →
-      nulls ≡ map (λ b. mask (is_null f b)) (chunk (at + 5) 32 window) →
-      zip2 bit_and alone (zip2 bit_or (chunk (at + 5) 32 window) nulls)
-      ≡ map (damaged_of f window codes) (range_with_len at 32)
-  damaged_lanes f alone nulls alone_is nulls_are =
-      rw (alone_is, nulls_are, code_behind 5 (omega arith), code_behind 4 (omega arith), code_behind 3 (omega arith), code_behind 2 (omega arith),
-      code_behind 1 (omega arith), code_here, byte_behind 5 (omega arith)) refl
-
-  abbrev pub chosen_lanes : ℕ → List ℕ → List ℕ → List ℕ
-  chosen_lanes d some other = sel_l (map (λ lane. not (eqb lane 0)) (zip2 bit_and (chunk (at + d) 32 codes) (replicate 32 0x20))) some other
-
-  -- and those of the bytes.
-  pub byte_lanes : (first second third fourth two last : List ℕ) →
-      first ≡ map (λ lane. get_or FIRST_BY_SECOND (lane % 16) 0) (chunk (at + 4) 32 window) →
-      second ≡ map (λ lane. get_or SECOND_BY_SECOND (lane % 16) 0) (chunk (at + 3) 32 window) →
-      third ≡ map (λ lane. get_or THIRD_BY_THIRD (lane % 16) 0) (chunk (at + 3) 32 window) →
-      fourth ≡ chosen_lanes 1 (zip2 bit_or third (zip2 bit_and (chunk (at + 5) 32 window) (replicate 32 0x0F)))
-      (sel_l (map (top 7) (zip2 (λ a b. cond (leb a b) 255 0) (replicate 32 0x80) (chunk (at + 4) 32 codes))) (replicate 32 0) (chunk (at + 5) 32 window)) →
-      two ≡ chosen_lanes 2
-      (zip2 bit_or second (zip2 bit_and (zip2 (λ a b. a / 2 ^ b) (chunk (at + 4) 32 window) (replicate 32 2)) (replicate 32 0x0F))) fourth →
-      last ≡ chosen_lanes 3 first two →
-      last ≡ map (byte_of window codes) (range_with_len at 32)
-  byte_lanes first second third fourth two last first_is second_is third_is fourth_is two_is last_is =
-      last_is ∙ rw (two_is, fourth_is, first_is, second_is, third_is, tops_compared w8 leb (replicate 32 0x80) (chunk (at + 4) 32 codes),
-      code_behind 4 (omega arith), code_behind 3 (omega arith), code_behind 2 (omega arith), code_behind 1 (omega arith),
-      byte_behind 5 (omega arith), byte_behind 4 (omega arith), byte_behind 3 (omega arith)) refl
-
-  module _ (f : Flavor) (count : ℕ) (small : count ≤ 32) (are_codes : AreStartCodes f window (at + count + 5) codes) where
-    -- the code of a place of the first ones, and of five before
-    told : (i d : ℕ) → d ≤ 5 → i < at + count → get_or codes (i + d) 0 ≡ start_code f window (i + d)
-    told i d near inside = are_codes (i + d) (omega arith)
-
-    first_lanes : {X : Type 0} (g h : ℕ → X) → ((i : ℕ) → i < at + count → g i ≡ h i) → (lanes : List X) → lanes ≡ map g (range_with_len at 32) →
-        take count lanes ≡ map h (range_with_len at count)
-    first_lanes g h same lanes are =
-        ap (take count) are ∙ take-map-range_with_len g at 32 count small ∙ on_range g h at count same
-
-    -- Of the first ones they say which go,
-    pub first_gone : (lanes : List ℕ) → lanes ≡ map (gone_of codes) (range_with_len at 32) →
-        map is_high (take count lanes) ≡ map (goes_at f window) (range_with_len at count)
-    first_gone lanes are =
-        sym (take-map is_high count lanes)
-        ∙ first_lanes (λ i. is_high (gone_of codes i)) (goes_at f window)
-        (λ i inside. (λ k. is_high (gone_lane (told i 5 (omega arith) inside k) (told i 4 (omega arith) inside k)))
-        ∙ lane_goes _ _ _ _ _ _ (start_at f window (i + 5)) (start_at f window (i + 4)))
-        (map is_high lanes) (ap (map is_high) are ∙ map-map is_high (gone_of codes) (range_with_len at 32))
-
-    -- which are damaged,
-    pub first_damaged : ((i : ℕ) → Fits w8 (get_or window i 0)) → (lanes : List ℕ) → lanes ≡ map (damaged_of f window codes) (range_with_len at 32) →
-        map is_high (take count lanes) ≡ map (is_damaged_at f window) (range_with_len at count)
-    first_damaged fits lanes are =
-        sym (take-map is_high count lanes)
-        ∙ first_lanes (λ i. is_high (damaged_of f window codes i)) (is_damaged_at f window)
-        (λ i inside. (λ k. is_high (damaged_lane f (covered_lane (told i 5 (omega arith) inside k) (told i 4 (omega arith) inside k)
-        (told i 3 (omega arith) inside k) (told i 2 (omega arith) inside k) (told i 1 (omega arith) inside k) (are_codes i (omega arith) k))
-        (get_or window (i + 5) 0)))
-        ∙ lane_damaged f window i (fits (i + 5)).fits)
-        (map is_high lanes) (ap (map is_high) are ∙ map-map is_high (damaged_of f window codes) (range_with_len at 32))
-
-    -- and what is written.
-    pub first_bytes : (lanes : List ℕ) → lanes ≡ map (byte_of window codes) (range_with_len at 32) →
-        take count lanes ≡ map (byte_at f window) (range_with_len at count)
-    first_bytes lanes are =
-        first_lanes (byte_of window codes) (byte_at f window)
-        (λ i inside. (λ k. byte_lane (told i 4 (omega arith) inside k) (told i 3 (omega arith) inside k) (told i 2 (omega arith) inside k)
-        (told i 1 (omega arith) inside k) (get_or window (i + 3) 0) (get_or window (i + 4) 0) (get_or window (i + 5) 0)) ∙ lane_byte f window i)
-        lanes are
-
 -- ---- the first lanes of a block
 
 or_neither : (t : Bool) → (t || false) ≡ t
@@ -384,7 +269,7 @@ abbrev pub behind_lanes : (count start n : ℕ) → List ℕ
 behind_lanes count start n = map (λ lane. mask (leb count lane)) (range_with_len start n)
 
 all_behind : (xs : List ℕ) (count start : ℕ) → count ≤ start →
-    map is_high (zip2 bit_or xs (behind_lanes count start (length xs))) ≡ map (λ _. true) xs
+    map is_high (zip2 bit_or xs (behind_lanes count start (length xs))) ≡ replicate (length xs) true
 all_behind [] count start past = refl
 all_behind (x ∷ xs) count start past =
     let first = ap (λ (t : Bool). leb 0x80 (bit_or x (mask t))) (le-leb count start past) ∙ or_all x in
@@ -392,18 +277,20 @@ all_behind (x ∷ xs) count start past =
     λ k. first k ∷ rest k
 
 -- The lanes behind the first ones go,
-pub gone_behind : (xs : List ℕ) (count start n : ℕ) → count ≡ start + n →
-    map is_high (zip2 bit_or xs (behind_lanes count start (length xs))) ≡ map is_high (take n xs) ++ map (λ _. true) (drop n xs)
-gone_behind [] count start zero e = refl
-gone_behind [] count start (suc n) e = refl
-gone_behind (x ∷ xs) count start zero e = all_behind (x ∷ xs) count start (omega arith)
-gone_behind (x ∷ xs) count start (suc n) e =
+pub gone_behind : (xs : List ℕ) (count start n m : ℕ) → count ≡ start + n → length xs ≡ n + m →
+    map is_high (zip2 bit_or xs (behind_lanes count start (length xs))) ≡ map is_high (take n xs) ++ replicate m true
+gone_behind xs count start zero m e long = all_behind xs count start (omega arith) ∙ ap (λ l. replicate l true) (long ∙ zero-add m)
+gone_behind [] count start (suc n) m e long = absurd (omega arith)
+gone_behind (x ∷ xs) count start (suc n) m e long =
     let first = ap (λ (t : Bool). leb 0x80 (bit_or x (mask t))) (lt-leb count start (omega arith)) ∙ or_no x in
-    let rest = gone_behind xs count (start + 1) n (omega arith) in
+    let rest = gone_behind xs count (start + 1) n m (omega arith) (omega arith) in
     λ k. first k ∷ rest k
 
+abbrev pub before_lanes : (count start n : ℕ) → List ℕ
+before_lanes count start n = zip2 bit_xor (behind_lanes count start n) (replicate n 0xFF)
+
 none_behind : (xs : List ℕ) (count start : ℕ) → count ≤ start →
-    map is_high (zip2 bit_and xs (zip2 bit_xor (behind_lanes count start (length xs)) (replicate (length xs) 0xFF))) ≡ map (λ _. false) xs
+    map is_high (zip2 bit_and xs (before_lanes count start (length xs))) ≡ replicate (length xs) false
 none_behind [] count start past = refl
 none_behind (x ∷ xs) count start past =
     let first = ap (λ (t : Bool). leb 0x80 (bit_and x (bit_xor (mask t) 0xFF))) (le-leb count start past)
@@ -412,36 +299,170 @@ none_behind (x ∷ xs) count start past =
     λ k. first k ∷ rest k
 
 -- and are not damaged.
-pub undamaged_behind : (xs : List ℕ) (count start n : ℕ) → Each1 (Fits w8) xs → count ≡ start + n →
-    map is_high (zip2 bit_and xs (zip2 bit_xor (behind_lanes count start (length xs)) (replicate (length xs) 0xFF)))
-    ≡ map is_high (take n xs) ++ map (λ _. false) (drop n xs)
-undamaged_behind [] count start zero fits e = refl
-undamaged_behind [] count start (suc n) fits e = refl
-undamaged_behind (x ∷ xs) count start zero fits e = none_behind (x ∷ xs) count start (omega arith)
-undamaged_behind (x ∷ xs) count start (suc n) fits e =
+pub undamaged_behind : (xs : List ℕ) (count start n m : ℕ) → Each1 (λ x. x < 0x100) xs → count ≡ start + n → length xs ≡ n + m →
+    map is_high (zip2 bit_and xs (before_lanes count start (length xs))) ≡ map is_high (take n xs) ++ replicate m false
+undamaged_behind xs count start zero m fits e long = none_behind xs count start (omega arith) ∙ ap (λ l. replicate l false) (long ∙ zero-add m)
+undamaged_behind [] count start (suc n) m fits e long = absurd (omega arith)
+undamaged_behind (x ∷ xs) count start (suc n) m fits e long =
     let first = ap (λ (t : Bool). leb 0x80 (bit_and x (bit_xor (mask t) 0xFF))) (lt-leb count start (omega arith))
-    ∙ agree_below_at (λ x. leb 0x80 (bit_and x 0xFF)) (λ x. leb 0x80 x) 0x100 x refl fits.0.fits in
-    let rest = undamaged_behind xs count (start + 1) n fits.1 (omega arith) in
+    ∙ agree_below_at (λ x. leb 0x80 (bit_and x 0xFF)) (λ x. leb 0x80 x) 0x100 x refl fits.0 in
+    let rest = undamaged_behind xs count (start + 1) n m fits.1 (omega arith) (omega arith) in
     λ k. first k ∷ rest k
+
+-- ---- the lanes of a block, by places
+
+-- a lane at a place, by the codes that the vectors hold
+abbrev pub gone_of : List ℕ → ℕ → ℕ
+gone_of codes i = gone_lane (get_or codes (i + 5) 0) (get_or codes (i + 4) 0)
+
+abbrev pub damaged_of : Flavor → List ℕ → List ℕ → ℕ → ℕ
+damaged_of f window codes i =
+    damaged_lane f (covered_lane (get_or codes (i + 5) 0) (get_or codes (i + 4) 0) (get_or codes (i + 3) 0) (get_or codes (i + 2) 0)
+    (get_or codes (i + 1) 0) (get_or codes i 0)) (get_or window (i + 5) 0)
+
+damaged_bytes : (f : Flavor) (window codes places : List ℕ) → Each1 (λ x. x < 0x100) (map (damaged_of f window codes) places)
+damaged_bytes f window codes [] = tt
+damaged_bytes f window codes (i ∷ places) =
+    let covered = covered_lane (get_or codes (i + 5) 0) (get_or codes (i + 4) 0) (get_or codes (i + 3) 0) (get_or codes (i + 2) 0)
+    (get_or codes (i + 1) 0) (get_or codes i 0) in
+    let b = get_or window (i + 5) 0 in
+    let first : damaged_of f window codes i < 0x100 =
+    omega (arith, and_le_l (mask (eqb covered 0)) (bit_or b (mask (is_null f b))), mask_fits (eqb covered 0)) in
+    (first, damaged_bytes f window codes places)
+
+abbrev pub byte_of : List ℕ → List ℕ → ℕ → ℕ
+byte_of window codes i =
+    byte_lane (get_or codes (i + 4) 0) (get_or codes (i + 3) 0) (get_or codes (i + 2) 0) (get_or codes (i + 1) 0)
+    (get_or window (i + 3) 0) (get_or window (i + 4) 0) (get_or window (i + 5) 0)
+
+on_range : {X : Type 0} (g h : ℕ → X) (a n : ℕ) → ((i : ℕ) → i < a + n → g i ≡ h i) → map g (range_with_len a n) ≡ map h (range_with_len a n)
+on_range g h a zero same = refl
+on_range g h a (suc n) same =
+    let first = same a (omega arith) in
+    let rest = on_range g h (a + 1) n (λ i inside. same i (omega arith)) in
+    λ k. first k ∷ rest k
+
+module _ (codes : List ℕ) (at : ℕ) (codes_room : at + 37 ≤ length codes) where
+  code_behind : (d : ℕ) → d ≤ 5 → chunk (at + d) 32 codes ≡ map (λ i. get_or codes (i + d) 0) (range_with_len at 32)
+  code_behind d near = loaded codes at d 32 (omega arith)
+
+  code_here : chunk at 32 codes ≡ map (λ i. get_or codes i 0) (range_with_len at 32)
+  code_here = sym (pick_l-range_with_len 0 codes at 32 (omega arith))
+
+  -- The lanes that say which bytes go,
+  pub gone_lanes :
+      zip2 bit_or (chunk (at + 5) 32 codes)
+      (zip2 (λ a b. a * 2 ^ b % 2 ^ 8) (zip2 bit_or (chunk (at + 5) 32 codes) (chunk (at + 4) 32 codes)) (replicate 32 2))
+      ≡ map (gone_of codes) (range_with_len at 32)
+  gone_lanes = rw (code_behind 5 (omega arith), code_behind 4 (omega arith)) refl
+
+  module _ (window : List ℕ) (window_room : at + 37 ≤ length window) where
+    byte_behind : (d : ℕ) → d ≤ 5 → chunk (at + d) 32 window ≡ map (λ i. get_or window (i + d) 0) (range_with_len at 32)
+    byte_behind d near = loaded window at d 32 (omega arith)
+
+    -- those that say which are damaged,
+    pub damaged_lanes : (f : Flavor) (alone nulls : List ℕ) →
+        alone ≡ map (λ lane. mask (eqb lane 0))
+        (zip2 bit_or
+        (zip2 bit_or (zip2 bit_or (chunk (at + 5) 32 codes) (chunk (at + 4) 32 codes)) (zip2 bit_and (chunk (at + 3) 32 codes) (replicate 32 0x3C)))
+        (zip2 bit_or
+        (zip2 bit_or (zip2 bit_and (chunk (at + 2) 32 codes) (replicate 32 0x20)) (zip2 bit_and (chunk (at + 1) 32 codes) (replicate 32 0x20)))
+        (zip2 bit_and (chunk at 32 codes) (replicate 32 0x20)))) →
+        nulls ≡ map (λ b. mask (is_null f b)) (chunk (at + 5) 32 window) →
+        zip2 bit_and alone (zip2 bit_or (chunk (at + 5) 32 window) nulls)
+        ≡ map (damaged_of f window codes) (range_with_len at 32)
+    damaged_lanes f alone nulls alone_is nulls_are =
+        rw (alone_is, nulls_are, code_behind 5 (omega arith), code_behind 4 (omega arith), code_behind 3 (omega arith), code_behind 2 (omega arith),
+        code_behind 1 (omega arith), code_here, byte_behind 5 (omega arith)) refl
+
+    abbrev pub chosen_lanes : ℕ → List ℕ → List ℕ → List ℕ
+    chosen_lanes d some other = sel_l (map (λ lane. not (eqb lane 0)) (zip2 bit_and (chunk (at + d) 32 codes) (replicate 32 0x20))) some other
+
+    -- and those of the bytes.
+    pub byte_lanes : (first second third fourth two last : List ℕ) →
+        first ≡ map (λ lane. get_or FIRST_BY_SECOND (lane % 16) 0) (chunk (at + 4) 32 window) →
+        second ≡ map (λ lane. get_or SECOND_BY_SECOND (lane % 16) 0) (chunk (at + 3) 32 window) →
+        third ≡ map (λ lane. get_or THIRD_BY_THIRD (lane % 16) 0) (chunk (at + 3) 32 window) →
+        fourth ≡ chosen_lanes 1 (zip2 bit_or third (zip2 bit_and (chunk (at + 5) 32 window) (replicate 32 0x0F)))
+        (sel_l (map (top 7) (zip2 (λ a b. cond (leb a b) 255 0) (replicate 32 0x80) (chunk (at + 4) 32 codes))) (replicate 32 0) (chunk (at + 5) 32 window)) →
+        two ≡ chosen_lanes 2
+        (zip2 bit_or second (zip2 bit_and (zip2 (λ a b. a / 2 ^ b) (chunk (at + 4) 32 window) (replicate 32 2)) (replicate 32 0x0F))) fourth →
+        last ≡ chosen_lanes 3 first two →
+        last ≡ map (byte_of window codes) (range_with_len at 32)
+    byte_lanes first second third fourth two last first_is second_is third_is fourth_is two_is last_is =
+        last_is ∙ rw (two_is, fourth_is, first_is, second_is, third_is, tops_compared w8 leb (replicate 32 0x80) (chunk (at + 4) 32 codes),
+        code_behind 4 (omega arith), code_behind 3 (omega arith), code_behind 2 (omega arith), code_behind 1 (omega arith),
+        byte_behind 5 (omega arith), byte_behind 4 (omega arith), byte_behind 3 (omega arith)) refl
+
+  module _ (f : Flavor) (window : List ℕ) (count : ℕ) (small : count ≤ 32) (are_codes : AreStartCodes f window (at + count + 5) codes) where
+    -- the code of a place of the first ones, and of five before
+    told : (i d : ℕ) → d ≤ 5 → i < at + count → get_or codes (i + d) 0 ≡ start_code f window (i + d)
+    told i d near inside = are_codes (i + d) (omega arith)
+
+    first_lanes : {X : Type 0} (g h : ℕ → X) → ((i : ℕ) → i < at + count → g i ≡ h i) → (lanes : List X) → lanes ≡ map g (range_with_len at 32) →
+        take count lanes ≡ map h (range_with_len at count)
+    first_lanes g h same lanes are =
+        ap (take count) are ∙ take-map-range_with_len g at 32 count small ∙ on_range g h at count same
+
+    -- Of the first ones they say which go,
+    pub first_gone : (lanes marks : List ℕ) → lanes ≡ map (gone_of codes) (range_with_len at 32) → marks ≡ behind_lanes count 0 32 →
+        map is_high (zip2 bit_or lanes marks) ≡ map (goes_at f window) (range_with_len at count) ++ replicate (32 - count) true
+    first_gone lanes marks are marks_are =
+        let long = ap length are ∙ length-map-range_with_len (gone_of codes) at 32 in
+        ap (λ m. map is_high (zip2 bit_or lanes m)) (marks_are ∙ ap (behind_lanes count 0) (sym long))
+        ∙ gone_behind lanes count 0 count (32 - count) (omega arith) (omega arith)
+        ∙ ap (λ l. l ++ replicate (32 - count) true) (sym (take-map is_high count lanes)
+        ∙ first_lanes (λ i. is_high (gone_of codes i)) (goes_at f window)
+        (λ i inside. (λ k. is_high (gone_lane (told i 5 (omega arith) inside k) (told i 4 (omega arith) inside k)))
+        ∙ lane_goes _ _ _ _ _ _ (start_at f window (i + 5)) (start_at f window (i + 4)))
+        (map is_high lanes) (ap (map is_high) are ∙ map-map is_high (gone_of codes) (range_with_len at 32)))
+
+    -- which are damaged,
+    pub first_damaged : ((i : ℕ) → Fits w8 (get_or window i 0)) → (lanes marks : List ℕ) →
+        lanes ≡ map (damaged_of f window codes) (range_with_len at 32) → marks ≡ behind_lanes count 0 32 →
+        map is_high (zip2 bit_and lanes (zip2 bit_xor marks (replicate 32 0xFF)))
+        ≡ map (is_damaged_at f window) (range_with_len at count) ++ replicate (32 - count) false
+    first_damaged fits lanes marks are marks_are =
+        let long = ap length are ∙ length-map-range_with_len (damaged_of f window codes) at 32 in
+        ap (λ m. map is_high (zip2 bit_and lanes (zip2 bit_xor m (replicate 32 0xFF)))) marks_are
+        ∙ ap (λ n. map is_high (zip2 bit_and lanes (before_lanes count 0 n))) (sym long)
+        ∙ undamaged_behind lanes count 0 count (32 - count)
+        (subst (Each1 (λ x. x < 0x100)) (sym are) (damaged_bytes f window codes (range_with_len at 32))) (omega arith) (omega arith)
+        ∙ ap (λ l. l ++ replicate (32 - count) false) (sym (take-map is_high count lanes)
+        ∙ first_lanes (λ i. is_high (damaged_of f window codes i)) (is_damaged_at f window)
+        (λ i inside. (λ k. is_high (damaged_lane f (covered_lane (told i 5 (omega arith) inside k) (told i 4 (omega arith) inside k)
+        (told i 3 (omega arith) inside k) (told i 2 (omega arith) inside k) (told i 1 (omega arith) inside k) (are_codes i (omega arith) k))
+        (get_or window (i + 5) 0)))
+        ∙ lane_damaged f window i (fits (i + 5)).fits)
+        (map is_high lanes) (ap (map is_high) are ∙ map-map is_high (damaged_of f window codes) (range_with_len at 32)))
+
+    -- and what is written.
+    pub first_bytes : (lanes : List ℕ) → lanes ≡ map (byte_of window codes) (range_with_len at 32) →
+        take count lanes ≡ map (byte_at f window) (range_with_len at count)
+    first_bytes lanes are =
+        first_lanes (byte_of window codes) (byte_at f window)
+        (λ i inside. (λ k. byte_lane (told i 4 (omega arith) inside k) (told i 3 (omega arith) inside k) (told i 2 (omega arith) inside k)
+        (told i 1 (omega arith) inside k) (get_or window (i + 3) 0) (get_or window (i + 4) 0) (get_or window (i + 5) 0)) ∙ lane_byte f window i)
+        lanes are
 
 -- ---- what is written for a block
 
-all_go : {X Y : Type 0} (xs : List X) (ys : List Y) (bytes : List ℕ) → written (map (λ _. true) xs) (map (λ _. false) ys) bytes ≡ []
-all_go [] ys bytes = refl
-all_go (x ∷ xs) [] bytes = refl
-all_go (x ∷ xs) (y ∷ ys) [] = refl
-all_go (x ∷ xs) (y ∷ ys) (b ∷ bytes) = all_go xs ys bytes
+all_go : (m n : ℕ) (bytes : List ℕ) → written (replicate m true) (replicate n false) bytes ≡ []
+all_go zero n bytes = refl
+all_go (suc m) zero bytes = refl
+all_go (suc m) (suc n) [] = refl
+all_go (suc m) (suc n) (b ∷ bytes) = all_go m n bytes
 
 -- For what goes behind the first ones nothing is written.
-written_first : {X Y : Type 0} (gone damaged : List Bool) (xs : List X) (ys : List Y) (bytes : List ℕ) (n : ℕ) → length gone ≡ n → length damaged ≡ n →
-    written (gone ++ map (λ _. true) xs) (damaged ++ map (λ _. false) ys) bytes ≡ written gone damaged (take n bytes)
-written_first [] [] xs ys bytes n e e' = all_go xs ys bytes
-written_first [] (d ∷ damaged) xs ys bytes n e e' = absurd (omega arith)
-written_first (g ∷ gone) [] xs ys bytes n e e' = absurd (omega arith)
-written_first (g ∷ gone) (d ∷ damaged) xs ys bytes zero e e' = absurd (omega arith)
-written_first (g ∷ gone) (d ∷ damaged) xs ys [] (suc n) e e' = refl
-written_first (g ∷ gone) (d ∷ damaged) xs ys (b ∷ bytes) (suc n) e e' =
-    ap (λ l. written_for g d b ++ l) (written_first gone damaged xs ys bytes n (omega arith) (omega arith))
+written_first : (gone damaged : List Bool) (m n count : ℕ) (bytes : List ℕ) → length gone ≡ count → length damaged ≡ count →
+    written (gone ++ replicate m true) (damaged ++ replicate n false) bytes ≡ written gone damaged (take count bytes)
+written_first [] [] m n count bytes e e' = all_go m n bytes
+written_first [] (d ∷ damaged) m n count bytes e e' = absurd (omega arith)
+written_first (g ∷ gone) [] m n count bytes e e' = absurd (omega arith)
+written_first (g ∷ gone) (d ∷ damaged) m n zero bytes e e' = absurd (omega arith)
+written_first (g ∷ gone) (d ∷ damaged) m n (suc count) [] e e' = refl
+written_first (g ∷ gone) (d ∷ damaged) m n (suc count) (b ∷ bytes) e e' =
+    ap (λ l. written_for g d b ++ l) (written_first gone damaged m n count bytes (omega arith) (omega arith))
 
 written_places : (f : Flavor) (window : List ℕ) (places : List ℕ) →
     written (map (goes_at f window) places) (map (is_damaged_at f window) places) (map (byte_at f window) places) ≡ flat_map (decoded_at f window) places
@@ -449,15 +470,17 @@ written_places f window [] = refl
 written_places f window (i ∷ places) = λ k. sym (decoded_is_written f window i) k ++ written_places f window places k
 
 -- What is written for the lanes is what the first bytes become.
-pub block_written : (f : Flavor) (window : List ℕ) (at count : ℕ) (gone damaged bytes gone_behind damaged_behind : List ℕ) →
-    map is_high gone ≡ map (goes_at f window) (range_with_len at count) ++ map (λ _. true) gone_behind →
-    map is_high damaged ≡ map (is_damaged_at f window) (range_with_len at count) ++ map (λ _. false) damaged_behind →
+pub block_written : (f : Flavor) (window : List ℕ) (at count m n : ℕ) (gone damaged bytes : List ℕ) →
+    map is_high gone ≡ map (goes_at f window) (range_with_len at count) ++ replicate m true →
+    map is_high damaged ≡ map (is_damaged_at f window) (range_with_len at count) ++ replicate n false →
     take count bytes ≡ map (byte_at f window) (range_with_len at count) →
     written_lanes gone damaged bytes ≡ decoded f window at count
 unfolding decoded
-block_written f window at count gone damaged bytes gone_behind damaged_behind gone_is damaged_is bytes_are =
-    (λ k. written (gone_is k) (damaged_is k) bytes)
-    ∙ written_first (map (goes_at f window) (range_with_len at count)) (map (is_damaged_at f window) (range_with_len at count)) gone_behind damaged_behind bytes
-    count (length-map-range_with_len (goes_at f window) at count) (length-map-range_with_len (is_damaged_at f window) at count)
-    ∙ ap (written (map (goes_at f window) (range_with_len at count)) (map (is_damaged_at f window) (range_with_len at count))) bytes_are
+block_written f window at count m n gone damaged bytes gone_are damaged_are bytes_are =
+    let goes = map (goes_at f window) (range_with_len at count) in
+    let damage = map (is_damaged_at f window) (range_with_len at count) in
+    (λ k. written (gone_are k) (damaged_are k) bytes)
+    ∙ written_first goes damage m n count bytes
+    (length-map-range_with_len (goes_at f window) at count) (length-map-range_with_len (is_damaged_at f window) at count)
+    ∙ ap (written goes damage) bytes_are
     ∙ written_places f window (range_with_len at count)

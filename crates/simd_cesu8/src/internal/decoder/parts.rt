@@ -9,7 +9,7 @@
 //! fourth ──► two bits of the second, four of the third
 //! ```
 
-ghost use Rattle.std.specs.Prelude.{◌≡◌, ℕ, ◌+◌, ◌-◌, ◌<◌, ◌≤◌, ◌++◌, ◌==◌, not, nat_le, IsTrue, true, false, length, take, map, replicate};
+ghost use Rattle.std.specs.Prelude.{◌≡◌, ℕ, List, ◌+◌, ◌-◌, ◌<◌, ◌≤◌, ◌++◌, ◌==◌, not, nat_le, IsTrue, true, false, length, take, map, replicate};
 ghost use Rattle.std.specs.List.{range_with_len};
 ghost use Rattle.std.specs.Simd.Lanes.{sel_l};
 ghost use Rattle.simd_cesu8.specs.Encoding.{Flavor};
@@ -99,14 +99,48 @@ fn parts_at<N: NullForm>(window: &[u8], codes: &[u8], at: usize, count: usize) -
         ≡ map (is_damaged_at N.flavor window.now) (range_with_len at count)
         ++ replicate (32 - count) false }
 {
-    let here = u8x32::from_slice(&codes[at + 5..]);
-    let near = here | u8x32::from_slice(&codes[at + 4..]);
-    let behind = behind(count as u8);
     Parts {
         bytes: joined(window, codes, at),
-        gone: (here | (near << u8x32::splat(2))) | behind,
-        damaged: damaged::<N>(window, codes, at) & (behind ^ u8x32::splat(0xFF)),
+        gone: gone(codes, at, count),
+        damaged: damaged::<N>(window, codes, at, count),
     }
+}
+
+/// Marks, with the highest bit, those of the first `count` bytes that go, and the others.
+#[inline(always)]
+fn gone(codes: &[u8], at: usize, count: usize) -> u8x32
+    requires count { count ≤ 32 }
+    requires codes { at + 37 ≤ length codes.now }
+    ensures { (f : Flavor) (window : List ℕ) → AreStartCodes f window (at + count + 5) codes.now
+        → map is_high result
+        ≡ map (goes_at f window) (range_with_len at count) ++ replicate (32 - count) true }
+{
+    let here = u8x32::from_slice(&codes[at + 5..]);
+    let near = here | u8x32::from_slice(&codes[at + 4..]);
+    (here | (near << u8x32::splat(2))) | behind(count as u8)
+}
+
+/// Marks, with the highest bit, those of the first `count` bytes that no encoded character covers.
+#[inline(always)]
+fn damaged<N: NullForm>(window: &[u8], codes: &[u8], at: usize, count: usize) -> u8x32
+    requires count { count ≤ 32 }
+    requires window { at + 37 ≤ length window.now }
+    requires codes { at + 37 ≤ length codes.now }
+    requires are_codes { AreStartCodes N.flavor window.now (at + count + 5) codes.now }
+    ensures { map is_high result
+        ≡ map (is_damaged_at N.flavor window.now) (range_with_len at count)
+        ++ replicate (32 - count) false }
+{
+    let pair = u8x32::splat(PAIR);
+    let near = u8x32::from_slice(&codes[at + 5..]) | u8x32::from_slice(&codes[at + 4..]);
+    let of_three = u8x32::from_slice(&codes[at + 3..]) & u8x32::splat(PAIR | THREE);
+    let of_pair = (u8x32::from_slice(&codes[at + 2..]) & pair)
+        | (u8x32::from_slice(&codes[at + 1..]) & pair)
+        | (u8x32::from_slice(&codes[at..]) & pair);
+    let alone = equal(near | of_three | of_pair, 0);
+    // A byte below 80 is a character of its own, but 00 is none in MUTF-8.
+    let byte = u8x32::from_slice(&window[at + 5..]);
+    alone & (byte | N::nulls(byte)) & (behind(count as u8) ^ u8x32::splat(0xFF))
 }
 
 /// All ones in the lanes from `count` on, and else zeros.
@@ -117,27 +151,6 @@ fn behind(count: u8) -> u8x32
     u8x32::from_array(NUMBERS)
         .simd_ge(u8x32::splat(count))
         .select(u8x32::splat(0xFF), u8x32::splat(0))
-}
-
-/// Marks, with the highest bit, the bytes that no encoded character covers.
-#[inline(always)]
-fn damaged<N: NullForm>(window: &[u8], codes: &[u8], at: usize) -> u8x32
-    requires window { at + 37 ≤ length window.now }
-    requires codes { at + 37 ≤ length codes.now }
-    ensures { (count : ℕ) → count ≤ 32
-        → AreStartCodes N.flavor window.now (at + count + 5) codes.now
-        → map is_high (take count result)
-        ≡ map (is_damaged_at N.flavor window.now) (range_with_len at count) }
-{
-    let pair = u8x32::splat(PAIR);
-    let near = u8x32::from_slice(&codes[at + 5..]) | u8x32::from_slice(&codes[at + 4..]);
-    let of_three = u8x32::from_slice(&codes[at + 3..]) & u8x32::splat(PAIR | THREE);
-    let of_pair = (u8x32::from_slice(&codes[at + 2..]) & pair)
-        | (u8x32::from_slice(&codes[at + 1..]) & pair)
-        | (u8x32::from_slice(&codes[at..]) & pair);
-    // A byte below 80 is a character of its own, but 00 is none in MUTF-8.
-    let byte = u8x32::from_slice(&window[at + 5..]);
-    equal(near | of_three | of_pair, 0) & (byte | N::nulls(byte))
 }
 
 /// The bytes, and in place of those of surrogate pairs and of C0 80 what they become.
