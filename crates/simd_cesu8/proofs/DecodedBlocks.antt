@@ -1,14 +1,14 @@
 -- What the decoder's vectors say of the bytes of a block, lane by lane.
-use Rattle.std.proofs.Common.{◌≡◌, ℕ, zero, suc, ◌+◌, ◌-◌, ◌*◌, ◌/◌, ◌%◌, ◌^◌, ◌<◌, ◌≤◌, ⊎_elim, Bool, true, false, ◌&&◌, ◌||◌, not, eqb, leb, ltb, List, [], ◌∷◌, ◌++◌, refl, sym, ap, ◌∙◌, subst, arith, cond, get_or, map, take, drop, length, replicate, bit_and, bit_or, bit_xor, add-zero, zero-add, Fits, w8}
+use Rattle.std.proofs.Common.{◌≡◌, ◌≢◌, ℕ, zero, suc, ◌+◌, ◌-◌, ◌*◌, ◌/◌, ◌%◌, ◌^◌, ◌<◌, ◌≤◌, ⊎_elim, Bool, true, false, ◌&&◌, ◌||◌, not, eqb, leb, ltb, List, [], ◌∷◌, ◌++◌, refl, sym, ap, ◌∙◌, subst, arith, cond, get_or, map, take, drop, length, replicate, bit_and, bit_or, bit_xor, add-zero, zero-add, Fits, w8}
 use Rattle.std.specs.List.{flat_map, range_with_len}
-use Rattle.std.proofs.lemmas.Bool.{agree_below_at, cases_lt, eqb-true, le-leb, lt-leb, eq-eqb, ne_eqb, cases_eq}
+use Rattle.std.proofs.lemmas.Bool.{agree_below_at, cases_lt, cases_Bool, eqb-true, le-leb, lt-leb, eq-eqb, ne_eqb, cases_eq}
 use Rattle.std.proofs.lemmas.Bool.Decides.{nat_tests}
 use Rattle.std.proofs.lemmas.Nat.{and_le_l, and_mask, le_or_l, le_or_r, or_lt, or_mod, or_block, or_shifted}
 use Rattle.std.proofs.lemmas.List.{take-map}
 use Rattle.std.proofs.lemmas.List.FromFn.{take-map-range_with_len, length-map-range_with_len}
 use Rattle.std.proofs.lemmas.Simd.{map-map, pick_l-range_with_len, tops_compared}
 use Rattle.std.specs.Int.Bits.{and_zero_r}
-use lib.Lanes.{zip2, sel_l, top, chunk, Each1}
+use lib.Lanes.{zip2, sel_l, mask_l, top, chunk, Each1}
 use Rattle.simd_cesu8.specs.Encoding.{Flavor, Cesu8, Mutf8}
 use Rattle.simd_cesu8.specs.EncodedPlaces.{is_null, mask}
 use Rattle.simd_cesu8.specs.DecodedPlaces.{one_at, null_at, two_at, three_at, pair_at, front_width_by, width_at, is_damaged_at, decoded_at, decoded}
@@ -484,3 +484,31 @@ block_written f window at count m n gone damaged bytes gone_are damaged_are byte
     (length-map-range_with_len (goes_at f window) at count) (length-map-range_with_len (is_damaged_at f window) at count)
     ∙ ap (written goes damage) bytes_are
     ∙ written_places f window (range_with_len at count)
+
+-- ---- the bits of the damaged
+
+no_bits : (m : ℕ) → mask_l (replicate m false) ≡ 0
+no_bits zero = refl
+no_bits (suc m) = omega (arith, no_bits m)
+
+-- Where the bits of tests are not all 0, a test holds,
+pub some_bit : (p : ℕ → Bool) (a n m : ℕ) → mask_l (map p (range_with_len a n) ++ replicate m false) ≢ 0 →
+    (i : ℕ) × (a ≤ i) × (i < a + n) × (p i ≡ true)
+some_bit p a zero m some = absurd (some (no_bits m))
+some_bit p a (suc n) m some =
+    ⊎_elim (λ (holds : p a ≡ true). (a, omega arith, omega arith, holds))
+    (λ (fails : p a ≡ false).
+    let rest = some_bit p (a + 1) n m (λ none. some (rw fails (omega (arith, none)))) in
+    (rest.0, omega (arith, rest.1), omega (arith, rest.2), rest.3))
+    (cases_Bool (p a))
+
+-- and where they are, none.
+pub no_bit : (p : ℕ → Bool) (a n m : ℕ) → mask_l (map p (range_with_len a n) ++ replicate m false) ≡ 0 →
+    (i : ℕ) → a ≤ i → i < a + n → p i ≡ false
+no_bit p a zero m none i from before = absurd (omega arith)
+no_bit p a (suc n) m none i from before =
+    ⊎_elim (λ (holds : p a ≡ true). let bits = rw holds at none in absurd (omega (arith, bits)))
+    (λ (fails : p a ≡ false). ⊎_elim (λ (here : i ≡ a). ap p here ∙ fails)
+    (λ (there : i ≢ a). let bits = rw fails at none in no_bit p (a + 1) n m (omega (arith, bits)) i (omega arith) (omega arith))
+    (cases_eq i a))
+    (cases_Bool (p a))
