@@ -2,7 +2,7 @@
 use Rattle.std.proofs.Common.{◌≡◌, ◌==◌, ℕ, ◌+◌, ◌*◌, ◌<◌, ◌≤◌, Bool, true, false, cond, List, [], ◌∷◌, length, map, take, drop, replicate, refl, sym, ap, ◌∙◌, subst, arith, eqb, bit_and, count_by, Fits, w8, w32}
 use lib.Lanes.{zip2, top, sel_l, sum_l, fold_l, chunk, products, dots, Each1, Each2, Steps}
 use Rattle.std.proofs.lemmas.List.{length-map, drop-drop}
-use Rattle.std.proofs.lemmas.Simd.{zip2_splat, Each1-weaker, Each1-all, Each2-of, Each1-zip2, sum-zip2, length-zip2, length-chunk, sum_bound, map-map, sum_dots, sum_by-ones, sum_fits, fold-sum, bytes_below}
+use Rattle.std.proofs.lemmas.Simd.{length-replicate, zip2_splat, Each1-weaker, Each1-all, Each2-of, Each1-zip2, sum-zip2, length-zip2, length-chunk, sum_bound, map-map, sum_dots, sum_by-ones, sum_fits, fold-sum, bytes_below}
 use Rattle.std.proofs.lemmas.Bool.{agree_below_at}
 use Rattle.std.proofs.lemmas.List.Sums.{sum_by-cons, sum_by-take-drop, count_by-le-length}
 use Rattle.simd_cesu8.specs.Class.{is_four}
@@ -155,14 +155,16 @@ module _ (p : ℕ → Bool) (block : List ℕ) (n : ℕ) (lanes more : List ℕ)
       }
 
 -- The sum of dot products with ones is the sum of the lanes, which fits.
-module _ (lanes : List ℕ) (long : length lanes ≡ 64) (fits : Each1 (Fits w8) lanes) where
-  dots_total : sum_l (dots lanes (replicate 64 1)) ≡ sum_l lanes
-  dots_total = (sum_dots 16 lanes (replicate 64 1) long refl).0 ∙ subst (λ n. sum_l (products lanes (replicate n 1)) ≡ sum_l lanes) long (sum_by-ones lanes)
+module _ (n : ℕ) (few : n ≤ 16) (lanes : List ℕ) (long : length lanes ≡ 4 * n) (fits : Each1 (Fits w8) lanes) where
+  dots_total : sum_l (dots lanes (replicate (4 * n) 1)) ≡ sum_l lanes
+  dots_total =
+      (sum_dots n lanes (replicate (4 * n) 1) long (length-replicate (4 * n) 1)).0
+      ∙ subst (λ k. sum_l (products lanes (replicate k 1)) ≡ sum_l lanes) long (sum_by-ones lanes)
 
-  pub dots_sum_fits : Steps (λ s x. Fits w32 (s + x)) (λ s x. s + x) 0 (dots lanes (replicate 64 1))
+  pub dots_sum_fits : Steps (λ s x. Fits w32 (s + x)) (λ s x. s + x) 0 (dots lanes (replicate (4 * n) 1))
   dots_sum_fits =
       let low = sum_bound 255 lanes (bytes_below lanes fits) in
-      sum_fits w32 0 (dots lanes (replicate 64 1)) (omega (arith, dots_total, low, long))
+      sum_fits w32 0 (dots lanes (replicate (4 * n) 1)) (omega (arith, dots_total, low, long))
 
-  pub dots_sum : fold_l (λ s x. s + x) 0 (dots lanes (replicate 64 1)) ≡ sum_l lanes
-  dots_sum = omega (arith, fold-sum 0 (dots lanes (replicate 64 1)), dots_total)
+  pub dots_sum : fold_l (λ s x. s + x) 0 (dots lanes (replicate (4 * n) 1)) ≡ sum_l lanes
+  dots_sum = omega (arith, fold-sum 0 (dots lanes (replicate (4 * n) 1)), dots_total)

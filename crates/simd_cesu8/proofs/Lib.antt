@@ -63,3 +63,5 @@ pub mod DecodedParts
 pub mod DecodedBlocks
 pub mod StartLanes
 pub mod DecodedRows
+pub mod SavedLanes
+pub mod SavedRest

@@ -23,7 +23,7 @@ map_agree f g (x ∷ xs) h = λ i. h.0 i ∷ map_agree f g xs h.1 i
 
 -- ---- a choice by a comparison
 
-chosen : (t : Bool) (m n : ℕ) → cond (top 7 (cond t 255 0)) m n ≡ cond t m n
+pub chosen : (t : Bool) (m n : ℕ) → cond (top 7 (cond t 255 0)) m n ≡ cond t m n
 chosen true m n = refl
 chosen false m n = refl
 

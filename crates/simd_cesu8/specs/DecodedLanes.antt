@@ -2,7 +2,7 @@
 use Rattle.std.specs.Prelude.{◌≡◌, ℕ, zero, suc, ◌+◌, ◌*◌, ◌/◌, ◌%◌, ◌-◌, ◌<◌, ◌&&◌, ◌||◌, ◌==◌, nat_le, nat_lt, if◌then◌else◌, Bool, true, false, List, [], ◌∷◌, ◌++◌, map, length, slice_index, slice_index_or, replicate}
 use Rattle.std.specs.List.{range_with_len}
 use Rattle.simd_cesu8.specs.Encoding.{Flavor, Cesu8, Mutf8}
-use Rattle.simd_cesu8.specs.DecodedPlaces.{one_at, null_at, two_at, three_at, pair_at, width_at, is_damaged_at}
+use Rattle.simd_cesu8.specs.DecodedPlaces.{one_at, null_at, two_at, three_at, pair_at, width_at, is_damaged_at, saved}
 
 -- The code of the character that begins at a place, by the six bytes there: a bit, or 0 where none
 -- begins or one of one byte.
@@ -88,3 +88,7 @@ shuffle_of_four set =
 -- The rows of shuffles, one for each number below 100 (hexadecimal).
 abbrev pub AreShufflesOfFour : List (List ℕ) → Type 0
 AreShufflesOfFour rows = (set : ℕ) → set < 0x100 → slice_index_or rows set [] ≡ shuffle_of_four set
+
+-- What place i of a window saves.
+abbrev pub saved_at : Flavor → List ℕ → ℕ → ℕ
+saved_at f window i = saved (width_at f window i) (slice_index window i)

@@ -40,8 +40,11 @@ const TWICE: [usize; 32] = [
     13, 14, 15,
 ];
 
+/// How many bytes behind a place tell what begins there.
+pub const BEHIND: usize = 5;
+
 /// How many bytes tell what begins at the places of a block.
-pub const REACH: usize = 37;
+pub const REACH: usize = 32 + BEHIND;
 
 /// The codes of the 32 places from `at` on.
 #[inline(always)]
