@@ -7,7 +7,7 @@ use Rattle.simd_cesu8.specs.Reading.{reading}
 use Rattle.simd_cesu8.specs.DecodedPlaces.{front_width, width_at, decoded_byte, decoded_at, decoded, IsPadded, is_border_at}
 use Rattle.simd_cesu8.proofs.Decoding.{utf8_append}
 use Rattle.simd_cesu8.proofs.Splits.{split}
-use Rattle.simd_cesu8.proofs.DecodedBytes.{Ended, decoded_after, decoded_after_ended}
+use Rattle.simd_cesu8.proofs.DecodedBytes.{decoded_after, decoded_after_ended}
 use Rattle.simd_cesu8.proofs.WindowPlaces.{Follows, follows_later, follows_zeros, width_following, border_agrees, decoded_split}
 use Rattle.simd_cesu8.proofs.PlaceBorders.{border_ends, border_of_zeros, none_crosses_border}
 
@@ -38,13 +38,9 @@ pub decoded_from_border : (f : Flavor) (window bytes : List ℕ) (i : ℕ) → F
 decoded_from_border f window bytes i follows border =
     let ends = border_ends f window i border in
     by_index f window bytes i follows
-    ∙ decoded_after_ended f bytes _ _ _ _ _ (get_or window (i + 3) 0) (get_or window (i + 4) 0) (record {
-      first = omega (arith, ends 4 (omega arith));
-      second = omega (arith, ends 3 (omega arith));
-      third = omega (arith, ends 2 (omega arith));
-      fourth = omega (arith, ends 1 (omega arith));
-      fifth = omega (arith, ends 0 (omega arith), ap (width_at f window) (add-zero i));
-    })
+    ∙ decoded_after_ended f bytes _ _ _ _ _ (get_or window (i + 3) 0) (get_or window (i + 4) 0)
+    (omega (arith, ends 4 (omega arith))) (omega (arith, ends 3 (omega arith))) (omega (arith, ends 2 (omega arith)))
+    (omega (arith, ends 1 (omega arith))) (omega (arith, ends 0 (omega arith), ap (width_at f window) (add-zero i)))
 
 -- Between two borders they become that of theirs.
 pub decoded_between : (f : Flavor) (window bytes : List ℕ) (n : ℕ) → Follows window bytes 5 → n ≤ length bytes →

@@ -128,12 +128,12 @@ any_passes p lanes bits is =
       (λ q. ap not (ne_eqb _ _ (λ e. tells.1 q (sym is ∙ e)))),
     )
 
--- A comparison with F0 tells of each lane whether it is F0 or more.
-pub lead_bits : (n : ℕ) (lanes : List ℕ) → length lanes ≡ n → n ≤ 64 →
-    mask_l (map (top 7) (zip2 (λ a b. ones (leb a b)) (replicate n 0xF0) lanes)) % 2 ^ 64 ≡ mask_l (map is_lead lanes)
-lead_bits n lanes long small =
-    ap (λ ms. mask_l ms % 2 ^ 64) (tops_compared w8 leb (replicate n 0xF0) lanes ∙ zip2_splat_left leb 0xF0 n lanes long)
-    ∙ mask_l-mod (map is_lead lanes) 64 (omega (arith, long, small, length-map lanes is_lead))
+-- A comparison with a number tells of each lane whether it is that or more.
+pub least_bits : (least n : ℕ) (lanes : List ℕ) → length lanes ≡ n → n ≤ 64 →
+    mask_l (map (top 7) (zip2 (λ a b. ones (leb a b)) (replicate n least) lanes)) % 2 ^ 64 ≡ mask_l (map (leb least) lanes)
+least_bits least n lanes long small =
+    ap (λ ms. mask_l ms % 2 ^ 64) (tops_compared w8 leb (replicate n least) lanes ∙ zip2_splat_left leb least n lanes long)
+    ∙ mask_l-mod (map (leb least) lanes) 64 (omega (arith, long, small, length-map lanes (leb least)))
 
 abbrev pub four_vector : ℕ → List ℕ → List ℕ
 four_vector n bytes = zip2 equal (zip2 bit_and bytes (replicate n 0xF8)) (replicate n 0xF0)

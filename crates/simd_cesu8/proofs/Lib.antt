@@ -59,6 +59,9 @@ pub mod Below
 pub mod UnitOrder
 pub mod LossyBorrowing
 pub mod StartCodes
+pub mod DecodedParts
+pub mod DecodedBlocks
 pub mod StartLanes
+pub mod DecodedRows
 pub mod SavedLanes
 pub mod SavedRest

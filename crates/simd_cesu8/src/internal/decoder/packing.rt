@@ -1,6 +1,6 @@
 //! How what becomes of 32 bytes is packed: four bytes at a time, by a shuffle each.
 
-ghost use Rattle.std.specs.Prelude.{◌≡◌, List, Bool, ◌+◌, ◌<◌, ◌≤◌, ◌∷◌, [], ◌++◌, length, map, take};
+ghost use Rattle.std.specs.Prelude.{◌≡◌, List, Bool, ◌+◌, ◌%◌, ◌<◌, ◌≤◌, ◌∷◌, [], ◌++◌, length, map, take, slice_index};
 ghost use Rattle.std.specs.Simd.Lanes.{chunk, mask_l};
 ghost use Rattle.simd_cesu8.specs.DecodedLanes.{is_high, written, written_lanes, AreShufflesOfFour};
 
@@ -142,6 +142,8 @@ fn store_four(lanes: u8x16, set: usize, rows: &Rows, out: &mut [u8], at: usize) 
 
 /// The lanes at the positions that the lower halves of a row's numbers are.
 #[inline(always)]
-fn picked(lanes: u8x16, row: u8x16) -> u8x16 {
+fn picked(lanes: u8x16, row: u8x16) -> u8x16
+    ensures { result ≡ map (λ j. slice_index lanes (j % 0x10)) row }
+{
     lanes.swizzle_dyn_within::<16>(row & u8x16::splat(0x0F))
 }
