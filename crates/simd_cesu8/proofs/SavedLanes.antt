@@ -15,7 +15,7 @@ use Rattle.simd_cesu8.specs.EncodedPlaces.{is_null, mask}
 use Rattle.simd_cesu8.specs.DecodedPlaces.{one_at, width_at, saved, saved_between, all_saved}
 use Rattle.simd_cesu8.specs.DecodedLanes.{start_code, saved_at}
 use Rattle.simd_cesu8.proofs.StartCodes.{Start, nothing, one, null, two_low, two_high, three_low, three_high, three_last, pair, start_at, one_by_first}
-use Rattle.simd_cesu8.proofs.StartLanes.{chosen}
+use Rattle.simd_cesu8.proofs.Lanes.{chosen}
 use Rattle.simd_cesu8.proofs.WindowPlaces.{saved_split}
 use Rattle.simd_cesu8.proofs.Savings.{all_between, length_by_savings}
 

@@ -21,26 +21,6 @@ pub map_agree : {X Y : Type 0} (f g : X → Y) (xs : List X) → Each1 (λ x. f 
 map_agree f g [] h = refl
 map_agree f g (x ∷ xs) h = λ i. h.0 i ∷ map_agree f g xs h.1 i
 
--- ---- a choice by a comparison
-
-pub chosen : (t : Bool) (m n : ℕ) → cond (top 7 (cond t 255 0)) m n ≡ cond t m n
-chosen true m n = refl
-chosen false m n = refl
-
-chosen_of : (t : ℕ → ℕ → Bool) (y m n : ℕ) (xs : List ℕ) →
-    sel_l (map (top 7) (zip2 (λ a b. cond (t a b) 255 0) xs (replicate (length xs) y))) (replicate (length xs) m) (replicate (length xs) n)
-    ≡ map (λ x. cond (t x y) m n) xs
-chosen_of t y m n [] = refl
-chosen_of t y m n (x ∷ xs) = λ i. chosen (t x y) m n i ∷ chosen_of t y m n xs i
-
--- Choosing one of two numbers by a comparison with one byte.
-pub chosen_lanes : (t : ℕ → ℕ → Bool) (y m n : ℕ) (xs : List ℕ) → length xs ≡ 32 →
-    sel_l (map (top 7) (zip2 (λ a b. cond (t a b) 255 0) xs (replicate 32 y))) (replicate 32 m) (replicate 32 n)
-    ≡ map (λ x. cond (t x y) m n) xs
-chosen_lanes t y m n xs long =
-    subst (λ k. sel_l (map (top 7) (zip2 (λ a b. cond (t a b) 255 0) xs (replicate k y))) (replicate k m) (replicate k n) ≡ map (λ x. cond (t x y) m n) xs)
-    long (chosen_of t y m n xs)
-
 -- ---- a look-up by the lower half of each lane
 
 abbrev twice : List ℕ
