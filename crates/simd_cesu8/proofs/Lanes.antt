@@ -20,6 +20,11 @@ equal a b = ones (eqb a b)
 abbrev pub below : ℕ → ℕ → ℕ
 below a b = ones (ltb a b)
 
+-- Maps that agree on each element are equal.
+pub map_agree : {X Y : Type 0} (f g : X → Y) (xs : List X) → Each1 (λ x. f x ≡ g x) xs → map f xs ≡ map g xs
+map_agree f g [] h = refl
+map_agree f g (x ∷ xs) h = λ i. h.0 i ∷ map_agree f g xs h.1 i
+
 -- ---- a choice by a comparison
 
 pub chosen : (t : Bool) (m n : ℕ) → cond (top 7 (ones t)) m n ≡ cond t m n
