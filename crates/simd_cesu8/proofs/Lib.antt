@@ -55,4 +55,10 @@ pub mod EncodedTexts
 pub mod Below
 pub mod UnitOrder
 pub mod LossyBorrowing
+pub mod StartCodes
+pub mod DecodedParts
+pub mod DecodedBlocks
+pub mod StartLanes
 pub mod DecodedRows
+pub mod SavedLanes
+pub mod SavedRest

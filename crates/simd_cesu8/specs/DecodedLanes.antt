@@ -2,7 +2,7 @@
 use Rattle.std.specs.Prelude.{◌≡◌, ℕ, zero, suc, ◌+◌, ◌*◌, ◌/◌, ◌%◌, ◌-◌, ◌<◌, ◌&&◌, ◌||◌, ◌==◌, nat_le, nat_lt, if◌then◌else◌, Bool, true, false, List, [], ◌∷◌, ◌++◌, map, length, slice_index, slice_index_or, replicate}
 use Rattle.std.specs.List.{range_with_len}
 use Rattle.simd_cesu8.specs.Encoding.{Flavor, Cesu8, Mutf8}
-use Rattle.simd_cesu8.specs.DecodedPlaces.{one_at, null_at, two_at, three_at, pair_at, width_at, is_damaged_at}
+use Rattle.simd_cesu8.specs.DecodedPlaces.{one_at, null_at, two_at, three_at, pair_at, width_at, is_damaged_at, saved}
 
 -- The code of the character that begins at a place, by the six bytes there: a bit, or 0 where none
 -- begins or one of one byte.
@@ -14,7 +14,11 @@ start_code_by f a b d e g h =
     else if pair_at a b d e g h then 0x20
     else 0
 
--- The same for place i of a window. Behind the window there are zeros.
+-- The code of what two bytes begin, if the others are there.
+abbrev pub code_of_two : Flavor → ℕ → ℕ → ℕ
+code_of_two f a b = start_code_by f a b 0x80 0xED 0xB0 0x80
+
+-- The code of what begins at place i of a window. Behind the window there are zeros.
 abbrev pub start_code : Flavor → List ℕ → ℕ → ℕ
 start_code f window i =
     let w = slice_index window in
@@ -84,3 +88,7 @@ shuffle_of_four set =
 -- The rows of shuffles, one for each number below 100 (hexadecimal).
 abbrev pub AreShufflesOfFour : List (List ℕ) → Type 0
 AreShufflesOfFour rows = (set : ℕ) → set < 0x100 → slice_index_or rows set [] ≡ shuffle_of_four set
+
+-- What place i of a window saves.
+abbrev pub saved_at : Flavor → List ℕ → ℕ → ℕ
+saved_at f window i = saved (width_at f window i) (slice_index window i)

@@ -9,13 +9,16 @@
 //! fourth ──► two bits of the second, four of the third
 //! ```
 
-ghost use Rattle.std.specs.Prelude.{◌≡◌, ℕ, ◌+◌, ◌*◌, ◌-◌, ◌<◌, ◌≤◌, ◌↔◌, ◌++◌, ◌||◌, ◌&&◌, not, nat_le, IsTrue, true, false, length, take, map};
+ghost use Rattle.std.specs.Prelude.{◌≡◌, ℕ, List, ◌+◌, ◌-◌, ◌<◌, ◌≤◌, ◌++◌, ◌==◌, not, nat_le, IsTrue, true, false, length, take, map, replicate};
 ghost use Rattle.std.specs.List.{range_with_len};
+ghost use Rattle.std.specs.Simd.Lanes.{sel_l};
+ghost use Rattle.simd_cesu8.specs.Encoding.{Flavor};
+ghost use Rattle.simd_cesu8.specs.EncodedPlaces.{mask};
 ghost use Rattle.simd_cesu8.specs.DecodedPlaces.{decoded, is_damaged_at};
 ghost use Rattle.simd_cesu8.specs.DecodedLanes.{AreStartCodes, AreShufflesOfFour, is_high, goes_at, byte_at, written_lanes};
 
 use super::packing::{Parts, highest_bits, store};
-use super::places::{PAIR, THREE, look_up, ones_where};
+use super::places::{PAIR, THREE, equal, look_up};
 use super::rows::Rows;
 use crate::internal::null_form::NullForm;
 use std::simd::prelude::*;
@@ -74,7 +77,7 @@ pub fn write_block<N: NullForm>(
     ensures end { (end ≤ result.end) × (result.end ≤ end + 96) }
     ensures len { length out.new ≡ length out.old }
 {
-    let parts = front(parts_at::<N>(window, codes, at), count);
+    let parts = parts_at::<N>(window, codes, at, count);
     let is_damaged = highest_bits(parts.damaged) != 0;
     Block {
         end: store(parts, rows, out, end),
@@ -82,98 +85,103 @@ pub fn write_block<N: NullForm>(
     }
 }
 
-/// The first `count` parts. The others go.
+/// What becomes of the first `count` of the 32 bytes behind `at` bytes of the window and five more.
+/// The others go.
 #[inline(always)]
-fn front(parts: Parts, count: usize) -> Parts
-    requires { count ≤ 32 }
-    ensures bytes { result.bytes ≡ parts.bytes }
-    ensures gone { map is_high result.gone
-        ≡ map is_high (take count parts.gone) ++ map (λ _. true) (range_with_len count (32 - count)) }
-    ensures damaged { map is_high result.damaged
-        ≡ map is_high (take count parts.damaged) ++ map (λ _. false) (range_with_len count (32 - count)) }
-{
-    let numbers = u8x32::from_array(NUMBERS);
-    let behind = ones_where(numbers.simd_ge(u8x32::splat(count as u8)));
-    Parts {
-        bytes: parts.bytes,
-        gone: parts.gone | behind,
-        damaged: parts.damaged & (behind ^ u8x32::splat(0xFF)),
-    }
-}
-
-/// What becomes of the 32 bytes behind `at` bytes of the window and five more. Of those whose codes
-/// are not there nothing is said.
-#[inline(always)]
-fn parts_at<N: NullForm>(window: &[u8], codes: &[u8], at: usize) -> Parts
+fn parts_at<N: NullForm>(window: &[u8], codes: &[u8], at: usize, count: usize) -> Parts
+    requires count { count ≤ 32 }
     requires window { at + 37 ≤ length window.now }
     requires codes { at + 37 ≤ length codes.now }
-    ensures written { (count : ℕ) → count ≤ 32
-        → AreStartCodes N.flavor window.now (at + count + 5) codes.now
-        → written_lanes (take count result.gone) (take count result.damaged)
-        (take count result.bytes) ≡ decoded N.flavor window.now at count }
-    ensures damaged { (count : ℕ) → count ≤ 32
-        → AreStartCodes N.flavor window.now (at + count + 5) codes.now
-        → map is_high (take count result.damaged)
-        ≡ map (is_damaged_at N.flavor window.now) (range_with_len at count) }
+    requires are_codes { AreStartCodes N.flavor window.now (at + count + 5) codes.now }
+    ensures written { written_lanes result.gone result.damaged result.bytes
+        ≡ decoded N.flavor window.now at count }
+    ensures damaged { map is_high result.damaged
+        ≡ map (is_damaged_at N.flavor window.now) (range_with_len at count)
+        ++ replicate (32 - count) false }
 {
-    let pair = u8x32::splat(PAIR);
-    let here = u8x32::from_slice(&codes[at + 5..]);
-    let one_before = u8x32::from_slice(&codes[at + 4..]);
-    let two_before = u8x32::from_slice(&codes[at + 3..]);
-    let three_before = u8x32::from_slice(&codes[at + 2..]) & pair;
-    let four_before = u8x32::from_slice(&codes[at + 1..]) & pair;
-    let five_before = u8x32::from_slice(&codes[at..]) & pair;
-    let byte = u8x32::from_slice(&window[at + 5..]);
-
-    let near = here | one_before;
-    let of_three = two_before & u8x32::splat(PAIR | THREE);
-    let covered = near | of_three | (three_before | four_before | five_before);
-    // A byte below 80 is a character of its own, but 00 is none in MUTF-8.
-    let is_damaged = ones_where(covered.simd_eq(u8x32::splat(0))) & (byte | N::nulls(byte));
     Parts {
-        bytes: joined(
-            window,
-            at,
-            one_before,
-            two_before & pair,
-            three_before,
-            four_before,
-        ),
-        gone: here | ((near & pair) << u8x32::splat(2)),
-        damaged: is_damaged,
+        bytes: joined(window, codes, at),
+        gone: gone(codes, at, count),
+        damaged: damaged::<N>(window, codes, at, count),
     }
 }
 
-/// The bytes, and in place of those of surrogate pairs and of C0 80 what they become, by the codes of
-/// the places before, of which those two and more before are only of pairs.
+/// Marks, with the highest bit, those of the first `count` bytes that go, and the others.
 #[inline(always)]
-fn joined(
-    window: &[u8],
-    at: usize,
-    one_before: u8x32,
-    two_before: u8x32,
-    three_before: u8x32,
-    four_before: u8x32,
-) -> u8x32
-    requires { at + 37 ≤ length window.now }
+fn gone(codes: &[u8], at: usize, count: usize) -> u8x32
+    requires count { count ≤ 32 }
+    requires codes { at + 37 ≤ length codes.now }
+    ensures { (f : Flavor) (window : List ℕ) → AreStartCodes f window (at + count + 5) codes.now
+        → map is_high result
+        ≡ map (goes_at f window) (range_with_len at count) ++ replicate (32 - count) true }
 {
+    let here = u8x32::from_slice(&codes[at + 5..]);
+    let near = here | u8x32::from_slice(&codes[at + 4..]);
+    (here | (near << u8x32::splat(2))) | behind(count as u8)
+}
+
+/// Marks, with the highest bit, those of the first `count` bytes that no encoded character covers.
+#[inline(always)]
+fn damaged<N: NullForm>(window: &[u8], codes: &[u8], at: usize, count: usize) -> u8x32
+    requires count { count ≤ 32 }
+    requires window { at + 37 ≤ length window.now }
+    requires codes { at + 37 ≤ length codes.now }
+    requires are_codes { AreStartCodes N.flavor window.now (at + count + 5) codes.now }
+    ensures { map is_high result
+        ≡ map (is_damaged_at N.flavor window.now) (range_with_len at count)
+        ++ replicate (32 - count) false }
+{
+    let pair = u8x32::splat(PAIR);
+    let near = u8x32::from_slice(&codes[at + 5..]) | u8x32::from_slice(&codes[at + 4..]);
+    let of_three = u8x32::from_slice(&codes[at + 3..]) & u8x32::splat(PAIR | THREE);
+    let of_pair = (u8x32::from_slice(&codes[at + 2..]) & pair)
+        | (u8x32::from_slice(&codes[at + 1..]) & pair)
+        | (u8x32::from_slice(&codes[at..]) & pair);
+    let alone = equal(near | of_three | of_pair, 0);
+    // A byte below 80 is a character of its own, but 00 is none in MUTF-8.
+    let byte = u8x32::from_slice(&window[at + 5..]);
+    alone & (byte | N::nulls(byte)) & (behind(count as u8) ^ u8x32::splat(0xFF))
+}
+
+/// All ones in the lanes from `count` on, and else zeros.
+#[inline(always)]
+fn behind(count: u8) -> u8x32
+    ensures { result ≡ map (λ lane. mask (nat_le count lane)) (range_with_len 0 32) }
+{
+    u8x32::from_array(NUMBERS)
+        .simd_ge(u8x32::splat(count))
+        .select(u8x32::splat(0xFF), u8x32::splat(0))
+}
+
+/// The bytes, and in place of those of surrogate pairs and of C0 80 what they become.
+#[inline(always)]
+fn joined(window: &[u8], codes: &[u8], at: usize) -> u8x32
+    requires window { at + 37 ≤ length window.now }
+    requires codes { at + 37 ≤ length codes.now }
+    ensures { (f : Flavor) (count : ℕ) → count ≤ 32
+        → AreStartCodes f window.now (at + count + 5) codes.now
+        → take count result ≡ map (byte_at f window.now) (range_with_len at count) }
+{
+    let pair = u8x32::splat(PAIR);
     let half = u8x32::splat(0x0F);
     let byte = u8x32::from_slice(&window[at + 5..]);
     let before = u8x32::from_slice(&window[at + 4..]);
-    let byte_two_before = u8x32::from_slice(&window[at + 3..]);
+    let two_before = u8x32::from_slice(&window[at + 3..]);
     let first = look_up(FIRST_BY_SECOND, before);
-    let second = look_up(SECOND_BY_SECOND, byte_two_before) | ((before >> u8x32::splat(2)) & half);
-    let third = look_up(THIRD_BY_THIRD, byte_two_before) | (byte & half);
-    let joined = chosen(two_before, first, byte);
-    let joined = chosen(three_before, second, joined);
-    let joined = chosen(four_before, third, joined);
-    one_before
+    let second = look_up(SECOND_BY_SECOND, two_before) | ((before >> u8x32::splat(2)) & half);
+    let third = look_up(THIRD_BY_THIRD, two_before) | (byte & half);
+    let joined = u8x32::from_slice(&codes[at + 4..])
         .simd_ge(u8x32::splat(0x80))
-        .select(u8x32::splat(0), joined)
+        .select(u8x32::splat(0), byte);
+    let joined = chosen(u8x32::from_slice(&codes[at + 1..]) & pair, third, joined);
+    let joined = chosen(u8x32::from_slice(&codes[at + 2..]) & pair, second, joined);
+    chosen(u8x32::from_slice(&codes[at + 3..]) & pair, first, joined)
 }
 
 /// The lanes of `some` where those of a mark are not 0, and else of `other`.
 #[inline(always)]
-fn chosen(mark: u8x32, some: u8x32, other: u8x32) -> u8x32 {
+fn chosen(mark: u8x32, some: u8x32, other: u8x32) -> u8x32
+    ensures { result ≡ sel_l (map (λ lane. not (lane == 0)) mark) some other }
+{
     mark.simd_ne(u8x32::splat(0)).select(some, other)
 }

@@ -2,9 +2,12 @@
 //!
 //! It is told by the six bytes from the place on, and kept as a code of one bit, or none.
 
-ghost use Rattle.std.specs.Prelude.{◌≡◌, ◌+◌, ◌≤◌, length, map};
+ghost use Rattle.std.specs.Prelude.{◌≡◌, ◌==◌, ◌+◌, ◌%◌, ◌≤◌, length, map, slice_index};
 ghost use Rattle.std.specs.List.{range_with_len};
-ghost use Rattle.simd_cesu8.specs.DecodedLanes.{start_code};
+ghost use Rattle.std.specs.Simd.Lanes.{zip2};
+ghost use Rattle.simd_cesu8.specs.EncodedPlaces.{mask};
+ghost use Rattle.simd_cesu8.specs.DecodedPlaces.{continues};
+ghost use Rattle.simd_cesu8.specs.DecodedLanes.{code_of_two, start_code};
 
 use crate::internal::null_form::NullForm;
 use std::simd::prelude::*;
@@ -22,15 +25,14 @@ pub const PAIR: u8 = 0x20;
 pub const NULL: u8 = 0x80;
 
 /// The codes of what two bytes begin are in all of three tables: by the upper half of the first byte,
-/// by its lower half, and by the upper half of the second. Bit 40 (hexadecimal) is that of a low
-/// surrogate, and 80 that of C0 80 to C0 8F.
-const BY_HIGH: [u8; 16] = [0, 0, 0, 0, 0, 0, 0, 0, 0, 0, 0, 0, 0x81, 0x02, 0x7C, 0];
+/// by its lower half, and by the upper half of the second. There `NULL` is that of C0 80 to C0 8F.
+const BY_HIGH: [u8; 16] = [0, 0, 0, 0, 0, 0, 0, 0, 0, 0, 0, 0, 0x81, 0x02, 0x3C, 0];
 
 const BY_LOW: [u8; 16] = [
-    0x86, 0x0A, 0x0B, 0x0B, 0x0B, 0x0B, 0x0B, 0x0B, 0x0B, 0x0B, 0x0B, 0x0B, 0x0B, 0x73, 0x0B, 0x0B,
+    0x86, 0x0A, 0x0B, 0x0B, 0x0B, 0x0B, 0x0B, 0x0B, 0x0B, 0x0B, 0x0B, 0x0B, 0x0B, 0x33, 0x0B, 0x0B,
 ];
 
-const BY_NEXT: [u8; 16] = [0, 0, 0, 0, 0, 0, 0, 0, 0x9B, 0x1B, 0x2F, 0x4F, 0, 0, 0, 0];
+const BY_NEXT: [u8; 16] = [0, 0, 0, 0, 0, 0, 0, 0, 0x9B, 0x1B, 0x2F, 0x0F, 0, 0, 0, 0];
 
 /// The positions of sixteen lanes, twice.
 const TWICE: [usize; 32] = [
@@ -38,13 +40,16 @@ const TWICE: [usize; 32] = [
     13, 14, 15,
 ];
 
+/// How many bytes behind a place tell what begins there.
+pub const BEHIND: usize = 5;
+
 /// How many bytes tell what begins at the places of a block.
-pub const REACH: usize = 37;
+pub const REACH: usize = 32 + BEHIND;
 
 /// The codes of the 32 places from `at` on.
 #[inline(always)]
 pub fn starts<N: NullForm>(bytes: &[u8], at: usize) -> u8x32
-    requires { at + 37 ≤ length bytes.now }
+    requires { at + REACH ≤ length bytes.now }
     ensures { result ≡ map (start_code N.flavor bytes.now) (range_with_len at 32) }
 {
     let first = u8x32::from_slice(&bytes[at..]);
@@ -53,8 +58,8 @@ pub fn starts<N: NullForm>(bytes: &[u8], at: usize) -> u8x32
     let fourth = u8x32::from_slice(&bytes[at + 3..]);
     let fifth = u8x32::from_slice(&bytes[at + 4..]);
     let sixth = u8x32::from_slice(&bytes[at + 5..]);
-    let ends_pair = ones_where(fourth.simd_eq(u8x32::splat(0xED)))
-        & ones_where((fifth & u8x32::splat(0xF0)).simd_eq(u8x32::splat(0xB0)))
+    let ends_pair = equal(fourth, 0xED)
+        & equal(fifth & u8x32::splat(0xF0), 0xB0)
         & continuations(sixth)
         & u8x32::splat(PAIR);
     let of_three = continuations(third) & (ends_pair | u8x32::splat(THREE));
@@ -63,7 +68,9 @@ pub fn starts<N: NullForm>(bytes: &[u8], at: usize) -> u8x32
 
 /// What two bytes begin, if the others are there.
 #[inline(always)]
-fn by_two<N: NullForm>(first: u8x32, second: u8x32) -> u8x32 {
+fn by_two<N: NullForm>(first: u8x32, second: u8x32) -> u8x32
+    ensures { result ≡ zip2 (code_of_two N.flavor) first second }
+{
     let four = u8x32::splat(4);
     look_up(BY_HIGH, first >> four)
         & look_up(BY_LOW, first)
@@ -73,20 +80,28 @@ fn by_two<N: NullForm>(first: u8x32, second: u8x32) -> u8x32 {
 
 /// What a table has for the lower half of each lane.
 #[inline(always)]
-pub fn look_up(table: [u8; 16], lanes: u8x32) -> u8x32 {
+pub fn look_up(table: [u8; 16], lanes: u8x32) -> u8x32
+    ensures { result ≡ map (λ lane. slice_index table (lane % 16)) lanes }
+{
     u8x16::from_array(table)
         .swizzle::<32>(TWICE)
         .swizzle_dyn_within::<16>(lanes & u8x32::splat(15))
 }
 
-/// All ones where a comparison holds, and else zeros.
+/// All ones where a lane is equal to a byte, and else zeros.
 #[inline(always)]
-pub fn ones_where(mask: Mask<i8, 32>) -> u8x32 {
-    mask.select(u8x32::splat(0xFF), u8x32::splat(0))
+pub fn equal(lanes: u8x32, byte: u8) -> u8x32
+    ensures { result ≡ map (λ lane. mask (lane == byte)) lanes }
+{
+    lanes
+        .simd_eq(u8x32::splat(byte))
+        .select(u8x32::splat(0xFF), u8x32::splat(0))
 }
 
 /// All ones where a byte is a continuation byte.
 #[inline(always)]
-fn continuations(bytes: u8x32) -> u8x32 {
-    ones_where((bytes & u8x32::splat(0xC0)).simd_eq(u8x32::splat(0x80)))
+fn continuations(bytes: u8x32) -> u8x32
+    ensures { result ≡ map (λ b. mask (continues b)) bytes }
+{
+    equal(bytes & u8x32::splat(0xC0), 0x80)
 }
