@@ -1,5 +1,5 @@
 -- Bytes have a strict reading exactly where encoded characters cover them all.
-use Rattle.std.proofs.Common.{◌≡◌, ℕ, ◌+◌, ◌-◌, ◌<◌, ◌≤◌, ◌⊎◌, ⊎_elim, Bool, true, false, ◌||◌, not, eqb, leb, zero, suc, List, [], ◌∷◌, ◌++◌, refl, sym, ap, ◌∙◌, subst, inl, inr, arith, length, drop, length-append, append_assoc, add-zero, zero-add, length-drop}
+use Rattle.std.proofs.Common.{◌≡◌, ℕ, ◌+◌, ◌-◌, ◌<◌, ◌≤◌, ◌⊎◌, ⊎_elim, Bool, true, false, eqb, leb, zero, suc, List, [], ◌∷◌, ◌++◌, refl, sym, ap, ◌∙◌, subst, inl, inr, arith, length, drop, length-append, append_assoc, add-zero, zero-add, length-drop}
 use Rattle.std.proofs.lemmas.Bool.{cases_lt, leb-true, leb-false, eqb-true, eqb-false, or_cases, or_parts, not-true, not-false}
 use Rattle.std.proofs.lemmas.List.{drop-append-le}
 use Rattle.simd_cesu8.specs.Text.{IsScalarValue, IsText, utf8}
@@ -15,7 +15,7 @@ use Rattle.simd_cesu8.proofs.Stretches.{later, earlier, none_crosses_character}
 use Rattle.simd_cesu8.proofs.Splits.{begins_front}
 use Rattle.simd_cesu8.proofs.Cuttings.{greedy_cutting}
 use Rattle.simd_cesu8.proofs.Greedy.{places}
-use Rattle.simd_cesu8.proofs.FrontWidths.{IsWide, wide}
+use Rattle.simd_cesu8.proofs.FrontWidths.{wide}
 use Rattle.simd_cesu8.proofs.WindowPlaces.{Follows, width_in}
 use Rattle.simd_cesu8.proofs.PlaceBorders.{width_bounds, border_ends, width_of_standing}
 
@@ -111,11 +111,11 @@ encoding_covered f (c ∷ text) i is_text inside =
     (cases_lt i (width f c)))
 
 -- no character crosses from an encoding into what follows it
-none_crosses_text : (f : Flavor) (text rest : List ℕ) → IsText text → NoneCrosses f (encoding f text) rest
-none_crosses_text f [] rest is_text = λ i c stands inside. absurd (omega (arith, ap length (encoding_nil f)))
-none_crosses_text f (d ∷ text) rest is_text =
+none_crosses_encoding : (f : Flavor) (text rest : List ℕ) → IsText text → NoneCrosses f (encoding f text) rest
+none_crosses_encoding f [] rest is_text = λ i c stands inside. absurd (omega (arith, ap length (encoding_nil f)))
+none_crosses_encoding f (d ∷ text) rest is_text =
     subst (λ bs. NoneCrosses f bs rest) (sym (encoding_cons f d text))
-    (none_crosses_character f d (encoding f text) rest is_text.0 (none_crosses_text f text rest is_text.1))
+    (none_crosses_character f d (encoding f text) rest is_text.0 (none_crosses_encoding f text rest is_text.1))
 
 -- so the first byte of a rest that begins none is not covered
 fault_not_covered : (f : Flavor) (text rest : List ℕ) → IsText text → NoneBegins f rest →
@@ -123,7 +123,7 @@ fault_not_covered : (f : Flavor) (text rest : List ℕ) → IsText text → None
 fault_not_covered f text rest is_text none_begins covered =
     let front = encoding f text in
     ⊎_elim (λ (before : covered.place < length front).
-    omega (arith, covered.ends, none_crosses_text f text rest is_text covered.place covered.character covered.stands before))
+    omega (arith, covered.ends, none_crosses_encoding f text rest is_text covered.place covered.character covered.stands before))
     (λ (from : length front ≤ covered.place).
     let here : covered.place ≡ length front + 0 = omega (arith, covered.begun) in
     let begins = earlier f front rest 0 covered.character (subst (λ j. StandsAt f (front ++ rest) j covered.character) here covered.stands) in

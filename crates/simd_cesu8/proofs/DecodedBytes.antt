@@ -1,9 +1,9 @@
 -- What the bytes become, each by its neighbours, is the UTF-8 of the lossy reading.
-use Rattle.std.proofs.Common.{◌≡◌, ℕ, ◌+◌, ◌*◌, ◌/◌, ◌%◌, ◌<◌, ◌≤◌, ◌⊎◌, ⊎_elim, true, false, ◌&&◌, ◌||◌, eqb, leb, List, [], ◌∷◌, ◌++◌, Option, Some, None, refl, sym, ap, ◌∙◌, subst, inl, inr, arith, drop, length, get_or}
-use Rattle.std.proofs.lemmas.Bool.{ne_eqb, eq-eqb, le-leb, lt-leb, cases_eq, or_left, or_right, and_left, and_right}
+use Rattle.std.proofs.Common.{◌≡◌, ℕ, ◌+◌, ◌*◌, ◌/◌, ◌%◌, ◌<◌, ◌≤◌, ◌⊎◌, eqb, leb, List, [], ◌∷◌, ◌++◌, refl, sym, ap, ◌∙◌, subst, inl, inr, arith, length}
+use Rattle.std.proofs.lemmas.Bool.{ne_eqb, lt-leb, cases_eq}
 use Rattle.simd_cesu8.specs.Text.{IsScalarValue, utf8_of, utf8}
-use Rattle.simd_cesu8.specs.Encoding.{Flavor, Cesu8, Mutf8, encoding, short_form}
-use Rattle.simd_cesu8.specs.Reading.{BeginsWith, NoneBegins, width, width_of, standing, reading}
+use Rattle.simd_cesu8.specs.Encoding.{Flavor, Cesu8, Mutf8, encoding}
+use Rattle.simd_cesu8.specs.Reading.{NoneBegins, width, reading}
 use Rattle.simd_cesu8.specs.Cutting.{Piece, Character, Replaced, ArePieces, bytes_of, text_of, IsGreedy}
 use Rattle.simd_cesu8.specs.DecodedPlaces.{front_width, decoded_byte}
 use Rattle.simd_cesu8.proofs.Shapes.{Shape, IsTwo, IsThree, IsPair, one, two, three, pair, shape, utf8_of_one, utf8_of_two, utf8_of_three, utf8_of_pair}

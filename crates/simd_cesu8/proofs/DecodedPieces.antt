@@ -1,7 +1,6 @@
 -- What a window of bytes becomes is a piece of their text, or a damaged place in it is their fault.
-use Rattle.std.proofs.Common.{◌≡◌, ℕ, zero, suc, ◌+◌, ◌<◌, ◌≤◌, Bool, true, false, true≢false, List, [], ◌∷◌, ◌++◌, refl, sym, ap, ◌∙◌, subst, inl, inr, arith, length, take, drop, get_or, zero-add, add-zero}
-use Rattle.std.proofs.lemmas.List.{take-append-drop, length-take-le, get_or-take, take_all}
-use Rattle.std.proofs.lemmas.Bool.{cases_Bool, cases_lt}
+use Rattle.std.proofs.Common.{◌≡◌, ℕ, zero, suc, ◌+◌, ◌<◌, ◌≤◌, Bool, true, false, true≢false, List, [], ◌∷◌, ◌++◌, refl, sym, ap, ◌∙◌, subst, inr, arith, length, take, drop, get_or}
+use Rattle.std.proofs.lemmas.List.{take-append-drop, length-take-le, get_or-take}
 use Rattle.simd_cesu8.specs.Text.{IsText, utf8}
 use Rattle.simd_cesu8.specs.Encoding.{Flavor}
 use Rattle.simd_cesu8.specs.Reading.{reading, IsStrictReading, HasNoStrictReading}
@@ -13,8 +12,8 @@ use Rattle.simd_cesu8.proofs.Cuttings.{greedy_cutting}
 use Rattle.simd_cesu8.proofs.Greedy.{places}
 use Rattle.simd_cesu8.proofs.Splits.{split}
 use Rattle.simd_cesu8.proofs.Pieces.{fault_of_whole}
-use Rattle.simd_cesu8.proofs.WindowPlaces.{Agree, agree_later, Follows, follows_zeros, width_agrees, border_agrees, damage_agrees, decoded_agrees}
-use Rattle.simd_cesu8.proofs.PlaceBorders.{border_of_zeros, none_crosses_border, border_at_character, border_near}
+use Rattle.simd_cesu8.proofs.WindowPlaces.{Agree, follows_zeros, width_agrees, border_agrees, damage_agrees, decoded_agrees}
+use Rattle.simd_cesu8.proofs.PlaceBorders.{border_of_zeros, none_crosses_border, border_at_character, border_at_end, border_near}
 use Rattle.simd_cesu8.proofs.Damage.{IsCovered, piece_of_text, covered_read, uncovered_fault, covered_where, not_covered_where, covered_in_front}
 use Rattle.simd_cesu8.proofs.DecodedText.{decoded_between, padded_follows, padded_border}
 
@@ -84,6 +83,12 @@ module _ (f : Flavor) (bytes window : List ℕ) (n : ℕ) (padded : IsPaddedFor 
       border_agrees f window all i i (agrees i 10 (omega arith))
       ∙ border_at_character f all bytes i (follows_zeros bytes) (border_of_zeros f bytes) inside
       (omega (arith, width_agrees f window all (i + 5) (i + 5) (agrees (i + 5) 6 (omega arith))))
+
+  -- The end of the bytes is one.
+  pub border_last : length bytes ≡ n → is_border_at f window n ≡ true
+  border_last end =
+      border_agrees f window all n n (agrees n 10 (omega arith))
+      ∙ subst (λ m. is_border_at f all m ≡ true) end (border_at_end f all bytes (follows_zeros bytes) (border_of_zeros f bytes))
 
   module _ (fits : n ≤ length bytes) where
     -- The end of the first n is a border, or one of the five places before it is.

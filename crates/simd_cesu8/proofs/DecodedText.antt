@@ -1,10 +1,10 @@
 -- What the bytes of a window become, between borders, is the UTF-8 of their lossy reading.
-use Rattle.std.proofs.Common.{◌≡◌, ℕ, zero, suc, ◌+◌, ◌<◌, ◌≤◌, true, List, [], ◌∷◌, ◌++◌, refl, sym, ap, ◌∙◌, arith, length, take, drop, get_or, length-drop, zero-add, add-zero, subst}
+use Rattle.std.proofs.Common.{◌≡◌, ℕ, ◌+◌, ◌≤◌, true, List, [], ◌∷◌, ◌++◌, refl, sym, ap, ◌∙◌, arith, length, take, drop, get_or, length-drop, zero-add, add-zero, subst}
 use Rattle.std.proofs.lemmas.List.{take-append-drop, append_cancel_right}
 use Rattle.simd_cesu8.specs.Text.{utf8}
 use Rattle.simd_cesu8.specs.Encoding.{Flavor}
 use Rattle.simd_cesu8.specs.Reading.{reading}
-use Rattle.simd_cesu8.specs.DecodedPlaces.{front_width, width_at, decoded_byte, decoded_at, decoded, IsPadded, is_border_at}
+use Rattle.simd_cesu8.specs.DecodedPlaces.{width_at, decoded_byte, decoded, IsPadded, is_border_at}
 use Rattle.simd_cesu8.proofs.Decoding.{utf8_append}
 use Rattle.simd_cesu8.proofs.Splits.{split}
 use Rattle.simd_cesu8.proofs.DecodedBytes.{decoded_after, decoded_after_ended}
@@ -62,10 +62,11 @@ decoded_between f window bytes n follows fits first border =
     ∙ ap utf8 ((split f front back).1 (none_crosses_border f window bytes n follows fits border))
     ∙ utf8_append (reading f front) (reading f back))
 
--- A padded window has the bytes behind a border.
+-- A padded window has the bytes behind its first five places.
 pub padded_follows : (bytes window : List ℕ) → IsPadded bytes window → Follows window bytes 5
 padded_follows bytes window padded k = padded (5 + k) ∙ follows_zeros bytes k
 
+-- No character reaches over its first byte.
 pub padded_border : (f : Flavor) (bytes window : List ℕ) → IsPadded bytes window → is_border_at f window 0 ≡ true
 padded_border f bytes window padded =
     border_agrees f window (0 ∷ 0 ∷ 0 ∷ 0 ∷ 0 ∷ bytes) 0 0 (λ k small. padded (0 + k)) ∙ border_of_zeros f bytes

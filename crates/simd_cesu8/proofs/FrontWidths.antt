@@ -14,11 +14,11 @@ pub begins_encoded : (f : Flavor) (c : ℕ) (front rest : List ℕ) → IsScalar
     BeginsWith f (front ++ rest) c rest
 begins_encoded f c front rest scalar same = record { scalar = scalar; bytes_are = ap (λ bs. bs ++ rest) (sym same) }
 
--- It is the width of the character that begins them,
+-- The width of bytes is that of the character that begins them.
 pub width_of_front : (f : Flavor) (bytes : List ℕ) (c : ℕ) (rest : List ℕ) → BeginsWith f bytes c rest → front_width f bytes ≡ width f c
 width_of_front f bytes c rest begins = ap (width_of f) (standing_is f bytes c rest begins)
 
--- A character begins bytes with a width, and it is as wide.
+-- A character begins the bytes, and is as wide as they say.
 pub record IsWide (f : Flavor) (bytes : List ℕ) : Type 0 where
   pub character : ℕ
   pub rest : List ℕ
@@ -34,17 +34,18 @@ wide_by f bytes (Some c) found some = record {
   wide = ap (width_of f) found;
 }
 
+-- One does where the width is not 0.
 pub wide : (f : Flavor) (bytes : List ℕ) → 0 < front_width f bytes → IsWide f bytes
 wide f bytes some = wide_by f bytes (standing f bytes) refl some
 
--- It is no more than the bytes,
+-- The width is no more than the bytes.
 pub width_fits : (f : Flavor) (bytes : List ℕ) → front_width f bytes ≤ length bytes
 width_fits f bytes =
     ⊎_elim (λ some. let found = wide f bytes some in
     omega (arith, found.wide, ap length found.begins.bytes_are, length-append (encoding f (found.character ∷ [])) found.rest))
     (λ (none : front_width f bytes ≤ 0). omega arith) (cases_lt 0 (front_width f bytes))
 
--- and 0 where none begins them.
+-- It is 0 where none begins them.
 pub width_of_none : (f : Flavor) (bytes : List ℕ) → NoneBegins f bytes → front_width f bytes ≡ 0
 width_of_none f bytes none_begins =
     ⊎_elim (λ some. let found = wide f bytes some in absurd (none_begins found.character found.rest found.begins))

@@ -1,12 +1,12 @@
 -- Places that no encoded character reaches over, told by the widths at the five before.
-use Rattle.std.proofs.Common.{◌≡◌, ℕ, zero, suc, ◌+◌, ◌-◌, ◌<◌, ◌≤◌, ◌⊎◌, ⊎_elim, Bool, true, false, ◌&&◌, leb, List, [], ◌∷◌, ◌++◌, refl, sym, ap, ◌∙◌, subst, inl, inr, arith, length, take, drop, get_or, cond, add-zero, zero-add, length-drop}
+use Rattle.std.proofs.Common.{◌≡◌, ℕ, zero, suc, ◌+◌, ◌-◌, ◌<◌, ◌≤◌, ◌⊎◌, ⊎_elim, Bool, true, false, leb, List, ◌∷◌, refl, ap, ◌∙◌, subst, inl, inr, arith, length, take, drop, get_or, cond, add-zero, zero-add, length-drop}
 use Rattle.std.proofs.lemmas.Bool.{and_parts, and_from, and_cases, leb-true, leb-false, le-leb, cases_lt, cases_Bool}
 use Rattle.std.proofs.lemmas.List.{take-append-drop, length-take-le}
 use Rattle.simd_cesu8.specs.Encoding.{Flavor, Cesu8, Mutf8}
-use Rattle.simd_cesu8.specs.Reading.{BeginsWith, StandsAt, width}
+use Rattle.simd_cesu8.specs.Reading.{StandsAt, width}
 use Rattle.simd_cesu8.specs.Laws.{NoneCrosses}
-use Rattle.simd_cesu8.specs.DecodedPlaces.{front_width, front_width_by, width_at, is_border_at, border_by, one_at, null_at, two_at, three_at, pair_at}
-use Rattle.simd_cesu8.proofs.FrontWidths.{IsWide, wide, width_of_front, width_fits}
+use Rattle.simd_cesu8.specs.DecodedPlaces.{front_width, front_width_by, width_at, is_border_at, one_at, null_at, two_at, three_at, pair_at}
+use Rattle.simd_cesu8.proofs.FrontWidths.{wide, width_of_front, width_fits}
 use Rattle.simd_cesu8.proofs.Stretches.{no_overlap}
 use Rattle.simd_cesu8.proofs.WindowPlaces.{Follows, width_in}
 
@@ -30,7 +30,7 @@ width_bounds f window i =
     (pair_at (w i) (w (i + 1)) (w (i + 2)) (w (i + 3)) (w (i + 4)) (w (i + 5)))
 
 -- A zero is no character of two bytes or more.
-pub zero_width : (f : Flavor) (window : List ℕ) (i : ℕ) → get_or window i 0 ≡ 0 → width_at f window i ≤ 1
+zero_width : (f : Flavor) (window : List ℕ) (i : ℕ) → get_or window i 0 ≡ 0 → width_at f window i ≤ 1
 unfolding front_width_by
 zero_width Cesu8 window i null = rw null (omega arith)
 zero_width Mutf8 window i null = rw null (omega arith)

@@ -6,7 +6,7 @@ use Rattle.simd_cesu8.specs.Encoding.{Flavor, Cesu8, Mutf8, encoding}
 use Rattle.simd_cesu8.specs.Reading.{NoneBegins, width, reading, lossy_length}
 use Rattle.simd_cesu8.specs.Cutting.{Piece, Character, Replaced, ArePieces, bytes_of, text_of, IsGreedy}
 use Rattle.simd_cesu8.specs.DecodedPlaces.{front_width, saved, saved_between, all_saved}
-use Rattle.simd_cesu8.proofs.Shapes.{Shape, IsTwo, IsThree, IsPair, one, two, three, pair, shape, utf8_of_one, utf8_of_two, utf8_of_three, utf8_of_pair}
+use Rattle.simd_cesu8.proofs.Shapes.{Shape, one, two, three, pair, shape, utf8_of_one, utf8_of_two, utf8_of_three, utf8_of_pair}
 use Rattle.simd_cesu8.proofs.Forms.{encoding_one, encoding_two, encoding_three, encoding_pair, short_form_null, short_form_other}
 use Rattle.simd_cesu8.proofs.Decoding.{length_utf8_replaced}
 use Rattle.simd_cesu8.proofs.FrontWidths.{begins_encoded, width_of_front, width_of_none, width_inside}

@@ -1,9 +1,8 @@
 -- How wide the character is that begins bytes, by tests of the first six of them.
-use Rattle.std.proofs.Common.{◌≡◌, ℕ, ◌+◌, ◌<◌, ◌≤◌, ◌⊎◌, ⊎_elim, Bool, true, false, ◌&&◌, eqb, leb, ltb, List, [], ◌∷◌, refl, sym, ap, ◌∙◌, inl, inr, arith, length, get_or, cond}
-use Rattle.std.proofs.lemmas.Bool.{and_parts, and_from, eqb-true, leb-true, ltb-true, eq-eqb, le-leb, lt-ltb, lt-leb, le-ltb, ne_eqb, cases_eq, cases_lt, cases_Bool, both_ways, cond-true, cond-false}
+use Rattle.std.proofs.Common.{◌≡◌, ℕ, ◌<◌, ◌≤◌, ⊎_elim, true, false, ◌&&◌, eqb, leb, ltb, List, refl, ◌∙◌, arith, length, get_or}
+use Rattle.std.proofs.lemmas.Bool.{and_parts, and_from, eqb-true, leb-true, ltb-true, eq-eqb, le-leb, lt-ltb, ne_eqb, cases_eq, cases_lt, cases_Bool, both_ways}
 use Rattle.std.proofs.lemmas.List.{get_or_past}
 use Rattle.simd_cesu8.specs.Encoding.{Flavor, Cesu8, Mutf8}
-use Rattle.simd_cesu8.specs.Reading.{BeginsWith, NoneBegins}
 use Rattle.simd_cesu8.specs.Internal.{IsContinuation, BeginsInLengths}
 use Rattle.simd_cesu8.specs.DecodedPlaces.{front_width, continues, one_at, null_at, two_at, fits_three, three_at, pair_at, front_width_by, width_at}
 use Rattle.simd_cesu8.proofs.Patterns.{Pattern, of_one, of_null, of_two, of_three, of_pair, pattern}

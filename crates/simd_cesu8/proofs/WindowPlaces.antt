@@ -1,6 +1,5 @@
 -- What is told of the places of a window rests on its bytes there and a few more.
-use Rattle.std.proofs.Common.{◌≡◌, ℕ, zero, suc, ◌+◌, ◌<◌, ◌≤◌, Bool, List, ◌++◌, refl, sym, ap, ◌∙◌, arith, get_or, append_assoc, add-zero, zero-add, suc-add, length, drop, length-drop, get_or-drop, [], ◌∷◌}
-use Rattle.std.specs.List.{flat_map, range_with_len}
+use Rattle.std.proofs.Common.{◌≡◌, ℕ, zero, suc, ◌+◌, ◌<◌, ◌≤◌, List, ◌++◌, refl, sym, ap, ◌∙◌, arith, get_or, append_assoc, add-zero, zero-add, suc-add, length, drop, length-drop, get_or-drop, ◌∷◌}
 use Rattle.simd_cesu8.specs.Encoding.{Flavor}
 use Rattle.simd_cesu8.specs.DecodedPlaces.{front_width, front_width_by, width_at, decoded_byte, decoded_at, decoded, is_damaged_at, damaged_by, is_border_at, border_by, saved, saved_between}
 use Rattle.simd_cesu8.proofs.WidthTests.{width_by_six}
@@ -45,8 +44,8 @@ damage_agrees f a b i j agree =
     (width_later f a b i j 11 3 (omega arith) agree k) (width_later f a b i j 11 2 (omega arith) agree k)
     (width_later f a b i j 11 1 (omega arith) agree k) (width_first f a b i j 11 (omega arith) agree k))
 
--- and what a byte becomes too.
-pub byte_decoded_alike : (f : Flavor) (a b : List ℕ) (i j : ℕ) → Agree a b i j 11 → decoded_at f a i ≡ decoded_at f b j
+-- and what a byte becomes
+byte_decoded_alike : (f : Flavor) (a b : List ℕ) (i j : ℕ) → Agree a b i j 11 → decoded_at f a i ≡ decoded_at f b j
 byte_decoded_alike f a b i j agree =
     (λ k. decoded_byte (width_later f a b i j 11 5 (omega arith) agree k) (width_later f a b i j 11 4 (omega arith) agree k)
     (width_later f a b i j 11 3 (omega arith) agree k) (width_later f a b i j 11 2 (omega arith) agree k)

@@ -9,34 +9,37 @@ use Rattle.simd_cesu8.specs.Reading.{standing, width_of}
 abbrev pub front_width : Flavor → List ℕ → ℕ
 front_width f bytes = width_of f (standing f bytes)
 
--- The same by the first six bytes.
-
--- A continuation byte.
+-- Tests of the first six bytes. A continuation byte:
 abbrev pub continues : ℕ → Bool
 continues b = nat_le 0x80 b && nat_lt b 0xC0
 
+-- A character of one byte,
 abbrev pub one_at : Flavor → ℕ → Bool
 one_at Cesu8 a = nat_lt a 0x80
 one_at Mutf8 a = nat_le 1 a && nat_lt a 0x80
 
+-- the null of MUTF-8,
 abbrev pub null_at : Flavor → ℕ → ℕ → Bool
 null_at Cesu8 a b = false
 null_at Mutf8 a b = a == 0xC0 && b == 0x80
 
+-- one of two other bytes,
 abbrev pub two_at : ℕ → ℕ → Bool
 two_at a b = nat_le 0xC2 a && (nat_lt a 0xE0 && continues b)
 
--- E0 is followed by A0 or more, and ED by less.
+-- one of three bytes, where E0 is followed by A0 or more, and ED by less,
 abbrev pub fits_three : ℕ → ℕ → Bool
 fits_three a b = if a == 0xE0 then nat_le 0xA0 b else if a == 0xED then nat_lt b 0xA0 else true
 
 abbrev pub three_at : ℕ → ℕ → ℕ → Bool
 three_at a b d = nat_le 0xE0 a && (nat_lt a 0xF0 && (continues b && (continues d && fits_three a b)))
 
+-- and a surrogate pair.
 abbrev pub pair_at : ℕ → ℕ → ℕ → ℕ → ℕ → ℕ → Bool
 pair_at a b d e g h =
     a == 0xED && (nat_le 0xA0 b && (nat_lt b 0xB0 && (continues d && (e == 0xED && (nat_le 0xB0 g && (nat_lt g 0xC0 && continues h))))))
 
+-- The width by these tests.
 unfoldable pub front_width_by : Flavor → ℕ → ℕ → ℕ → ℕ → ℕ → ℕ → ℕ
 front_width_by f a b d e g h =
     if one_at f a then 1
@@ -44,6 +47,22 @@ front_width_by f a b d e g h =
     else if two_at a b then 2
     else if three_at a b d then 3
     else if pair_at a b d e g h then 6
+    else 0
+
+-- The bit of a first byte E0 to EF, and a second.
+abbrev pub three_code : ℕ → ℕ → ℕ
+three_code a b =
+    if a == 0xE0 then (if nat_le 0xA0 b then 4 else 0)
+    else if a == 0xED then (if nat_lt b 0xA0 then 0x10 else if nat_lt b 0xB0 then 0x20 else 0x40)
+    else 8
+
+-- What two bytes begin if the bytes behind them agree, as a bit: 1 or 2 for two bytes, 4, 8 or 10
+-- (hexadecimal) for three, 20 for a surrogate pair and 40 for its second half, 80 for C0 and 80 to 8F.
+unfoldable pub code_by : ℕ → ℕ → ℕ
+code_by a b =
+    if two_at a b then (if nat_lt a 0xD0 then 1 else 2)
+    else if nat_le 0xE0 a && (nat_lt a 0xF0 && continues b) then three_code a b
+    else if a == 0xC0 && (nat_le 0x80 b && nat_lt b 0x90) then 0x80
     else 0
 
 -- How wide the character is that begins at place i of a window, by six bytes of it. Behind the window

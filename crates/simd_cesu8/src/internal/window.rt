@@ -4,7 +4,7 @@ ghost use Rattle.std.specs.Prelude.{◌+◌, ◌<◌, ◌≤◌, length, take, d
 ghost use Rattle.simd_cesu8.specs.Encoding.{Flavor as AnyFlavor};
 ghost use Rattle.simd_cesu8.specs.Internal.{flavor_of};
 ghost use Rattle.simd_cesu8.specs.Joining.{IsJoined};
-ghost use Rattle.simd_cesu8.specs.Pieces.{IsPiece, IsFront};
+ghost use Rattle.simd_cesu8.specs.Pieces.{IsPiece};
 
 use super::joining::{REACH, Room, WINDOW, join};
 use super::{Flavor, contains_changed, is_continuation};

@@ -10,8 +10,8 @@ use super::places::{PAIR, THREE, starts};
 use super::rows::rows;
 use crate::internal::null_form::NullForm;
 
-/// How many bytes a window has at most.
-pub const WINDOW: usize = 1024;
+/// How many bytes a window's room has beside those of the window.
+pub const AROUND: usize = 80;
 
 /// How many bytes of a block are told by what stands before it: what begins at the five places
 /// before a byte.
@@ -34,12 +34,20 @@ pub fn write_window<N: NullForm>(
     codes: &mut [u8],
     out: &mut [u8],
 ) -> Decoded
-    requires some { 0 < length bytes.now }
-    requires window { (length bytes.now + 80 ≤ length window.old) }
+    requires window { 90 ≤ length window.old }
     requires codes { length codes.old ≡ length window.old }
     requires out { 3 * length window.old ≤ length out.old + 112 }
+    ensures some { 0 < length bytes.now → 0 < result.read }
+    ensures within { result.read ≤ length bytes.now }
+    ensures all { length bytes.now + 80 ≤ length window.old → result.read ≡ length bytes.now }
+    ensures end { result.end ≤ length out.new }
+    ensures lossy { IsPiece N.flavor true bytes.now
+        (drop result.read bytes.now) (take result.end out.new) }
+    ensures strict { result.is_damaged ≡ false → IsPiece N.flavor false bytes.now
+        (drop result.read bytes.now) (take result.end out.new) }
+    ensures damaged { result.is_damaged ≡ true → HasFault N.flavor bytes.now }
 {
-    let most = window.len() - 80;
+    let most = window.len() - AROUND;
     let loaded = if bytes.len() < most {
         bytes.len()
     } else {
