@@ -12,7 +12,7 @@ pub mod DecodedText
 pub mod Savings
 pub mod Damage
 pub mod DecodedPieces
-pub mod StartCodes
+pub mod Codes
 pub mod Lengths
 pub mod EncodedLength
 pub mod Elements
