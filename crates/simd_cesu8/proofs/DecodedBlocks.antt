@@ -36,7 +36,7 @@ zero_or_less : (a b : ℕ) → a ≡ 0 → b ≡ 0 → bit_or a b ≡ 0
 zero_or_less a b e e' = rw (e, e') refl
 
 -- and no bit where none of them has one.
-no_bit_or : (a b : ℕ) → eqb (bit_or a b) 0 ≡ (eqb a 0 && eqb b 0)
+pub no_bit_or : (a b : ℕ) → eqb (bit_or a b) 0 ≡ (eqb a 0 && eqb b 0)
 no_bit_or a b =
     ⊎_elim (λ (none : a ≡ 0). ⊎_elim
     (λ (none' : b ≡ 0). eq-eqb (bit_or a b) 0 (zero_or_less a b none none') ∙ sym ((λ i. eq-eqb a 0 none i && eq-eqb b 0 none' i)))
@@ -91,7 +91,7 @@ abbrev pub covered_lane : (c0 c1 c2 c3 c4 c5 : ℕ) → ℕ
 covered_lane c0 c1 c2 c3 c4 c5 =
     bit_or (bit_or (bit_or c0 c1) (bit_and c2 0x3C)) (bit_or (bit_or (bit_and c3 0x20) (bit_and c4 0x20)) (bit_and c5 0x20))
 
-no_pair : (a w c : ℕ) → Start a w c → eqb (bit_and c 0x20) 0 ≡ not (eqb w 6)
+pub no_pair : (a w c : ℕ) → Start a w c → eqb (bit_and c 0x20) 0 ≡ not (eqb w 6)
 no_pair a w c what = ap (λ n. eqb n 0) (pair_bit a w c what) ∙ by_test (eqb w 6)
   where
     by_test : (t : Bool) → eqb (cond t 0x20 0) 0 ≡ not t

@@ -65,3 +65,4 @@ pub mod StartLanes
 pub mod DecodedRows
 pub mod SavedLanes
 pub mod SavedRest
+pub mod DecodedWindows

@@ -43,6 +43,9 @@ const NUMBERS: [u8; 32] = [
     26, 27, 28, 29, 30, 31,
 ];
 
+/// How many bytes of room a block needs. What is written last may be of no use.
+pub const ROOM: usize = 112;
+
 /// The end of what is written for a block, and whether some of its bytes are damaged.
 #[derive(Drop)]
 pub struct Block {
@@ -67,7 +70,7 @@ pub fn write_block<N: NullForm>(
     requires codes { at + 37 ≤ length codes.now }
     requires are_codes { AreStartCodes N.flavor window.now (at + count + 5) codes.now }
     requires rows { AreShufflesOfFour rows.now }
-    requires room { end + 112 ≤ length out.old }
+    requires room { end + ROOM ≤ length out.old }
     ensures bytes { take result.end out.new
         ≡ take end out.old ++ decoded N.flavor window.now at count }
     ensures damaged { IsTrue result.is_damaged → (i : ℕ) × (at ≤ i) × (i < at + count)
