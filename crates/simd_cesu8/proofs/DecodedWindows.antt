@@ -2,7 +2,8 @@
 use Rattle.std.proofs.Common.{◌≡◌, ℕ, zero, suc, ◌+◌, ◌-◌, ◌*◌, ◌<◌, ◌≤◌, ◌⊎◌, ⊎_elim, Bool, true, false, ◌&&◌, ◌||◌, not, eqb, leb, List, [], ◌∷◌, ◌++◌, refl, sym, ap, ◌∙◌, subst, inl, inr, arith, IsTrue, true≢false, map, get_or, length, take, drop, replicate, length-append, length-drop, zero-add, bit_and, bit_or}
 use Rattle.std.proofs.lemmas.Bool.{ne_eqb, eq-eqb, le-leb, lt-leb, cases_lt}
 use Rattle.simd_cesu8.specs.Encoding.{Flavor}
-use Rattle.simd_cesu8.specs.DecodedPlaces.{width_at, is_border_at, IsPadded, IsPaddedFor, decoded}
+use Rattle.simd_cesu8.specs.DecodedPlaces.{width_at, is_border_at, IsPadded, IsPaddedFor, is_damaged_at, decoded}
+use Rattle.simd_cesu8.specs.Pieces.{IsPiece, HasFault}
 use Rattle.simd_cesu8.specs.DecodedLanes.{start_code, AreStartCodes}
 use Rattle.std.specs.List.{range_with_len}
 use Rattle.std.proofs.lemmas.Simd.{get_or-put_chunk_below, get_or-put_chunk_at}
@@ -16,7 +17,7 @@ use Rattle.simd_cesu8.proofs.EncodedWindows.{zeros_at, padded}
 use Rattle.simd_cesu8.proofs.StartCodes.{start_at, over_one, over_two}
 use Rattle.simd_cesu8.proofs.PlaceBorders.{width_bounds, border_at_end}
 use Rattle.simd_cesu8.proofs.DecodedText.{padded_follows, padded_border}
-use Rattle.simd_cesu8.proofs.DecodedPieces.{padded_for, padded_take, border_behind}
+use Rattle.simd_cesu8.proofs.DecodedPieces.{padded_for, padded_take, border_behind, fault_at, lossy_piece, strict_piece}
 use Rattle.simd_cesu8.proofs.DecodedBlocks.{no_bit_or, no_pair}
 
 -- ---- borders
@@ -153,3 +154,19 @@ part_read f bytes window loaded read padded fits some inside last =
       fits = omega arith;
       border = last near.0 near.1 near.2 near.3;
     }
+
+module _ (f : Flavor) (bytes window : List ℕ) (n : ℕ) (is_read : IsRead f bytes window n) where
+  -- What they become is a piece in lossy reading,
+  pub read_lossily : (read : ℕ) (piece : List ℕ) → read ≡ n → piece ≡ decoded f window 0 n → IsPiece f true bytes (drop read bytes) piece
+  read_lossily read piece read_is piece_is =
+      rw (read_is, piece_is) (lossy_piece f bytes window n is_read.padded is_read.fits is_read.border)
+
+  -- in strict reading where none of them is damaged,
+  pub read_strictly : (read : ℕ) (piece : List ℕ) → read ≡ n → piece ≡ decoded f window 0 n →
+      ((i : ℕ) → i < n → is_damaged_at f window i ≡ false) → IsPiece f false bytes (drop read bytes) piece
+  read_strictly read piece read_is piece_is fine =
+      rw (read_is, piece_is) (strict_piece f bytes window n is_read.padded is_read.fits is_read.border false fine)
+
+  -- and one that is damaged is a fault.
+  pub read_fault : (i : ℕ) × (i < n) × (is_damaged_at f window i ≡ true) → HasFault f bytes
+  read_fault damaged = fault_at f bytes window n is_read.padded is_read.fits damaged.0 damaged.1 damaged.2
