@@ -3,7 +3,6 @@ pub mod Borders
 pub mod Shapes
 pub mod Forms
 pub mod Encodings
-mod Fronts
 pub mod FrontWidths
 pub mod WidthTests
 pub mod DecodedBytes
@@ -21,7 +20,6 @@ pub mod Counts
 pub mod Needs
 pub mod Patterns
 pub mod Found
-pub mod MaskedWord
 pub mod NoneFound
 pub mod Unique
 pub mod Words
@@ -30,7 +28,6 @@ pub mod Windows
 pub mod Lanes
 pub mod Chunks
 pub mod Decoding
-pub mod Appended
 pub mod Joining
 pub mod PairWords
 pub mod JoinedText

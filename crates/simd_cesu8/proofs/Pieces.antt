@@ -1,7 +1,6 @@
 -- Text that is read a piece at a time.
-use Rattle.std.proofs.Common.{◌≡◌, ℕ, ◌+◌, ◌-◌, Bool, true, false, List, [], ◌++◌, Option, Some, IfSome, Result, Ok, Err, IfOk, MatchResult, is_ok, true≢false, refl, sym, ap, ◌∙◌, subst, arith, length, take, drop, append_assoc, length-append, length-drop}
+use Rattle.std.proofs.Common.{◌≡◌, ℕ, ◌+◌, ◌-◌, Bool, true, false, List, [], ◌++◌, Result, Ok, Err, IfOk, MatchResult, is_ok, true≢false, refl, sym, ap, ◌∙◌, subst, arith, length, take, drop, append_assoc, length-append, length-drop}
 use Rattle.std.specs.Str.{chars, IsUtf8}
-use Rattle.std.proofs.Math.Seq.{drop-append_seam}
 use Rattle.std.proofs.lemmas.List.{take-append-drop}
 use Rattle.simd_cesu8.specs.Text.{utf8}
 use Rattle.simd_cesu8.specs.Encoding.{Flavor, encoding}
@@ -15,7 +14,7 @@ use Rattle.simd_cesu8.proofs.StdUtf8.{IsUtf8Of_chars, IsUtf8_utf8, chars_utf8}
 use Rattle.simd_cesu8.proofs.Encodings.{encoding_append}
 use Rattle.simd_cesu8.proofs.EncodedTexts.{reading_text}
 use Rattle.simd_cesu8.proofs.Unique.{no_reading}
-use Rattle.simd_cesu8.proofs.Decoding.{IsText_append, utf8_append, nothing_read, all_read, lossy_length_nil}
+use Rattle.simd_cesu8.proofs.Decoding.{IsText_append, utf8_append, all_read, lossy_length_nil}
 
 -- What is read after what was read so far adds its text.
 pub more_read : (f : Flavor) (lossy : Bool) (bytes rest after old out new : List ℕ) →
@@ -58,21 +57,6 @@ piece_of_encoding f lossy bytes text n is_utf8 reads =
       strict_reading = λ _. bytes_are;
       written = sym (IsUtf8Of_chars text is_utf8).1;
     }
-
--- So is a text whose encoding begins them.
-pub piece_of_front : (f : Flavor) (lossy : Bool) (bytes text more : List ℕ) (n : ℕ) → IsUtf8 text →
-    bytes ≡ encoding f (chars text) ++ more → n ≡ length (encoding f (chars text)) → IsPiece f lossy bytes (drop n bytes) text
-piece_of_front f lossy bytes text more n is_utf8 bytes_are n_is =
-    let rest_is : drop n bytes ≡ more =
-    ap (λ k. drop k bytes) n_is ∙ ap (drop (length (encoding f (chars text)))) bytes_are
-    ∙ drop-append_seam (encoding f (chars text)) more in
-    subst (λ rest. IsPiece f lossy bytes rest text) (sym rest_is) (record {
-      text = chars text;
-      scalars = (IsUtf8Of_chars text is_utf8).0;
-      lossy_reading = ap (reading f) bytes_are ∙ reading_text f (chars text) more (IsUtf8Of_chars text is_utf8).0;
-      strict_reading = λ _. bytes_are;
-      written = sym (IsUtf8Of_chars text is_utf8).1;
-    })
 
 -- What is read is UTF-8.
 pub piece_utf8 : (f : Flavor) (lossy : Bool) (bytes rest piece : List ℕ) → IsPiece f lossy bytes rest piece → IsUtf8 piece
@@ -146,18 +130,6 @@ whole_length f bytes piece n read all =
       piece_length f bytes (drop n bytes) piece read,
       lossy_length_nil f (drop n bytes) (omega (arith, length-drop n bytes, all)),
     )
-
--- What is left after a front is what is dropped for it.
-pub rest_of_front : (bytes rest : List ℕ) → ((front : List ℕ) × (bytes ≡ front ++ rest)) →
-    drop (length bytes - length rest) bytes ≡ rest
-rest_of_front bytes rest front =
-    let long : length bytes - length rest ≡ length front.0 =
-    omega (arith, ap length front.1, length-append front.0 rest) in
-    ap (λ n. drop n bytes) long ∙ ap (drop (length front.0)) front.1 ∙ drop-append_seam front.0 rest
-
--- What holds of an answer that is there holds of it where it is known which.
-pub where_some : {T : Type 0} (answer : Option T) (x : T) (P : T → Type 0) → answer ≡ Some x → IfSome answer P → P x
-where_some answer x P is holds = subst (λ o. IfSome o P) is holds
 
 -- What holds of a value that is there holds of it where the error is mapped.
 pub where_mapped : {T E D : Type 0} (r : Result T E) (mapped : Result T D) (P Q : T → Type 0) (R : E → Type 0) →

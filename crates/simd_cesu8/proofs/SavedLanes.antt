@@ -1,23 +1,22 @@
 -- What the places of a block save, lane by lane.
-use Rattle.std.proofs.Common.{◌≡◌, ℕ, zero, suc, ◌+◌, ◌*◌, ◌/◌, ◌%◌, ◌^◌, ◌-◌, ◌<◌, ◌≤◌, ◌⊎◌, Bool, true, false, cond, ◌&&◌, List, [], ◌∷◌, ◌++◌, map, length, get_or, replicate, eqb, leb, ltb, bit_or, refl, sym, ap, ◌∙◌, subst, inl, inr, ⊎_elim, Result, Ok, Err, arith, Fits, w8, drop, length-drop, get_or-drop, zero-add, add-zero}
+use Rattle.std.proofs.Common.{◌≡◌, ℕ, zero, suc, ◌+◌, ◌*◌, ◌/◌, ◌%◌, ◌^◌, ◌-◌, ◌<◌, ◌≤◌, ◌⊎◌, true, false, cond, List, [], ◌∷◌, map, length, get_or, replicate, eqb, ltb, bit_or, refl, sym, ap, ◌∙◌, subst, inl, inr, ⊎_elim, Result, Ok, Err, arith, Fits, w8, drop, length-drop, get_or-drop, zero-add}
 use Rattle.std.specs.Int.Bits.{or_zero_r}
 use Rattle.std.specs.List.{range_with_len}
 use Rattle.std.specs.Option.{IfSome, IfNone}
 use Rattle.std.specs.Result.{OkIff, result_ok}
-use Rattle.std.proofs.lemmas.Bool.{cases_Bool, cases_lt, eqb-true, eqb-false, le-leb, cond_both}
+use Rattle.std.proofs.lemmas.Bool.{cases_Bool, cases_lt, eqb-true, eqb-false, le-leb}
 use Rattle.std.proofs.lemmas.Bool.Decides.{nat_tests}
-use Rattle.std.proofs.lemmas.List.{get_or_past, length-map, get_or_append_left, get_or-append_right}
 use Rattle.std.proofs.lemmas.List.FromFn.{length-map-range_with_len}
-use Rattle.std.proofs.lemmas.Simd.{Each1-replicate, length-zip2, sum-zip2, Each1-all, Each1-zip2, Each2-of, length-replicate, get_or-replicate}
+use Rattle.std.proofs.lemmas.Simd.{Each1-replicate, length-zip2, sum-zip2, Each1-zip2, Each2-of}
 use lib.Lanes.{zip2, sel_l, top, sum_l, Each1, Each2}
 use Rattle.simd_cesu8.specs.Encoding.{Flavor, Cesu8, Mutf8}
 use Rattle.simd_cesu8.specs.Reading.{lossy_length}
 use Rattle.simd_cesu8.specs.EncodedPlaces.{is_null, mask}
-use Rattle.simd_cesu8.specs.DecodedPlaces.{one_at, front_width_by, width_at, saved, saved_between, all_saved}
+use Rattle.simd_cesu8.specs.DecodedPlaces.{one_at, width_at, saved, saved_between, all_saved}
 use Rattle.simd_cesu8.specs.DecodedLanes.{start_code, saved_at}
 use Rattle.simd_cesu8.proofs.StartCodes.{Start, nothing, one, null, two_low, two_high, three_low, three_high, three_last, pair, start_at, one_by_first}
-use Rattle.simd_cesu8.proofs.StartLanes.{chosen}
-use Rattle.simd_cesu8.proofs.WindowPlaces.{Follows, saved_split}
+use Rattle.simd_cesu8.proofs.Lanes.{chosen}
+use Rattle.simd_cesu8.proofs.WindowPlaces.{saved_split}
 use Rattle.simd_cesu8.proofs.Savings.{all_between, length_by_savings}
 
 -- ---- one lane

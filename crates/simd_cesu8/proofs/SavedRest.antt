@@ -1,9 +1,9 @@
 -- What the last places of bytes save, where FF stands behind them.
-use Rattle.std.proofs.Common.{◌≡◌, ℕ, zero, suc, ◌+◌, ◌-◌, ◌<◌, ◌≤◌, ◌⊎◌, ⊎_elim, List, ◌++◌, length, get_or, replicate, refl, sym, ap, ◌∙◌, inl, inr, arith, zero-add, add-zero}
+use Rattle.std.proofs.Common.{◌≡◌, ℕ, zero, suc, ◌+◌, ◌-◌, ◌<◌, ◌≤◌, ◌⊎◌, ⊎_elim, List, ◌++◌, length, get_or, replicate, refl, sym, ap, ◌∙◌, inl, inr, arith, zero-add}
 use Rattle.std.proofs.lemmas.Bool.{cases_lt}
 use Rattle.std.proofs.lemmas.List.{get_or_past, get_or_append_left, get_or-append_right, get_or-replicate}
 use Rattle.simd_cesu8.specs.Encoding.{Flavor, Cesu8, Mutf8}
-use Rattle.simd_cesu8.specs.DecodedPlaces.{front_width_by, width_at, saved, saved_between, all_saved}
+use Rattle.simd_cesu8.specs.DecodedPlaces.{front_width_by, saved, saved_between, all_saved}
 use Rattle.simd_cesu8.specs.DecodedLanes.{saved_at}
 use Rattle.simd_cesu8.proofs.WindowPlaces.{saved_split}
 use Rattle.simd_cesu8.proofs.Savings.{all_between}
@@ -13,31 +13,14 @@ use Rattle.simd_cesu8.proofs.Savings.{all_between}
 abbrev Filled : ℕ → ℕ → Type 0
 Filled x y = (x ≡ y) ⊎ ((x ≡ 0xFF) × (y ≡ 0))
 
-second : (f : Flavor) (a b n d e g h : ℕ) → Filled b n → front_width_by f a b d e g h ≡ front_width_by f a n d e g h
-unfolding front_width_by
-second f a b n d e g h (inl same) = ap (λ b. front_width_by f a b d e g h) same
-second Cesu8 a b n d e g h (inr end) = rw (end.0, end.1) refl
-second Mutf8 a b n d e g h (inr end) = rw (end.0, end.1) refl
+alike : (g : ℕ → ℕ) (x y : ℕ) → g 0xFF ≡ g 0 → Filled x y → g x ≡ g y
+alike g x y same (inl here) = ap g here
+alike g x y same (inr end) = ap g end.0 ∙ same ∙ sym (ap g end.1)
 
-third : (f : Flavor) (a b d n e g h : ℕ) → Filled d n → front_width_by f a b d e g h ≡ front_width_by f a b n e g h
+second_alike : (f : Flavor) (a d e g h : ℕ) → front_width_by f a 0xFF d e g h ≡ front_width_by f a 0 d e g h
 unfolding front_width_by
-third f a b d n e g h (inl same) = ap (λ d. front_width_by f a b d e g h) same
-third f a b d n e g h (inr end) = rw (end.0, end.1) refl
-
-fourth : (f : Flavor) (a b d e n g h : ℕ) → Filled e n → front_width_by f a b d e g h ≡ front_width_by f a b d n g h
-unfolding front_width_by
-fourth f a b d e n g h (inl same) = ap (λ e. front_width_by f a b d e g h) same
-fourth f a b d e n g h (inr end) = rw (end.0, end.1) refl
-
-fifth : (f : Flavor) (a b d e g n h : ℕ) → Filled g n → front_width_by f a b d e g h ≡ front_width_by f a b d e n h
-unfolding front_width_by
-fifth f a b d e g n h (inl same) = ap (λ g. front_width_by f a b d e g h) same
-fifth f a b d e g n h (inr end) = rw (end.0, end.1) refl
-
-sixth : (f : Flavor) (a b d e g h n : ℕ) → Filled h n → front_width_by f a b d e g h ≡ front_width_by f a b d e g n
-unfolding front_width_by
-sixth f a b d e g h n (inl same) = ap (front_width_by f a b d e g) same
-sixth f a b d e g h n (inr end) = rw (end.0, end.1) refl
+second_alike Cesu8 a d e g h = refl
+second_alike Mutf8 a d e g h = refl
 
 -- FF begins nothing.
 none_begins : (f : Flavor) (b d e g h : ℕ) → front_width_by f 0xFF b d e g h ≡ 0
@@ -82,24 +65,26 @@ module _ (f : Flavor) (bytes : List ℕ) (n : ℕ) where
       (λ (past : length bytes ≤ k). inr (behind k past small, get_or_past bytes k 0 past)) (cases_lt k (length bytes))
 
   saved_here : (k : ℕ) → k < length bytes → 5 ≤ n → saved_at f padded k ≡ saved_at f bytes k
+  unfolding front_width_by
   saved_here k inside room =
       let p = λ (j : ℕ). get_or padded j 0 in
       let b = λ (j : ℕ). get_or bytes j 0 in
       let width =
-          second f (p k) (p (k + 1)) (b (k + 1)) (p (k + 2)) (p (k + 3)) (p (k + 4)) (p (k + 5)) (filled (k + 1) (omega arith))
-          ∙ third f (p k) (b (k + 1)) (p (k + 2)) (b (k + 2)) (p (k + 3)) (p (k + 4)) (p (k + 5)) (filled (k + 2) (omega arith))
-          ∙ fourth f (p k) (b (k + 1)) (b (k + 2)) (p (k + 3)) (b (k + 3)) (p (k + 4)) (p (k + 5)) (filled (k + 3) (omega arith))
-          ∙ fifth f (p k) (b (k + 1)) (b (k + 2)) (b (k + 3)) (p (k + 4)) (b (k + 4)) (p (k + 5)) (filled (k + 4) (omega arith))
-          ∙ sixth f (p k) (b (k + 1)) (b (k + 2)) (b (k + 3)) (b (k + 4)) (p (k + 5)) (b (k + 5)) (filled (k + 5) (omega arith))
-          ∙ ap (λ a. front_width_by f a (b (k + 1)) (b (k + 2)) (b (k + 3)) (b (k + 4)) (b (k + 5))) (here k inside) in
+      alike (λ n. front_width_by f (p k) n (p (k + 2)) (p (k + 3)) (p (k + 4)) (p (k + 5))) (p (k + 1)) (b (k + 1))
+      (second_alike f (p k) (p (k + 2)) (p (k + 3)) (p (k + 4)) (p (k + 5))) (filled (k + 1) (omega arith))
+      ∙ alike (λ n. front_width_by f (p k) (b (k + 1)) n (p (k + 3)) (p (k + 4)) (p (k + 5))) (p (k + 2)) (b (k + 2)) refl (filled (k + 2) (omega arith))
+      ∙ alike (λ n. front_width_by f (p k) (b (k + 1)) (b (k + 2)) n (p (k + 4)) (p (k + 5))) (p (k + 3)) (b (k + 3)) refl (filled (k + 3) (omega arith))
+      ∙ alike (λ n. front_width_by f (p k) (b (k + 1)) (b (k + 2)) (b (k + 3)) n (p (k + 5))) (p (k + 4)) (b (k + 4)) refl (filled (k + 4) (omega arith))
+      ∙ alike (λ n. front_width_by f (p k) (b (k + 1)) (b (k + 2)) (b (k + 3)) (b (k + 4)) n) (p (k + 5)) (b (k + 5)) refl (filled (k + 5) (omega arith))
+      ∙ ap (λ a. front_width_by f a (b (k + 1)) (b (k + 2)) (b (k + 3)) (b (k + 4)) (b (k + 5))) (here k inside) in
       (λ j. saved (width j) (here k inside j))
 
   saved_behind : (k : ℕ) → length bytes ≤ k → k < length bytes + n → saved_at f padded k ≡ 0
   saved_behind k past small =
       let p = λ (j : ℕ). get_or padded j 0 in
       let width =
-          ap (λ a. front_width_by f a (p (k + 1)) (p (k + 2)) (p (k + 3)) (p (k + 4)) (p (k + 5))) (behind k past small)
-          ∙ none_begins f (p (k + 1)) (p (k + 2)) (p (k + 3)) (p (k + 4)) (p (k + 5)) in
+      ap (λ a. front_width_by f a (p (k + 1)) (p (k + 2)) (p (k + 3)) (p (k + 4)) (p (k + 5))) (behind k past small)
+      ∙ none_begins f (p (k + 1)) (p (k + 2)) (p (k + 3)) (p (k + 4)) (p (k + 5)) in
       ap (λ w. saved w (p k)) width
 
   -- They save what the bytes save.

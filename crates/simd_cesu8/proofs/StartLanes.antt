@@ -7,39 +7,15 @@ use Rattle.std.proofs.lemmas.Grind.{same_number_lists}
 use Rattle.std.proofs.lemmas.List.{length-map, get_or-map, get_or_append_left}
 use Rattle.std.proofs.lemmas.Nat.{and_mask}
 use Rattle.std.proofs.lemmas.Simd.{SwzOk, swz_l, SwzOk-from_below, length-swz_l, get_or-swz_l_below, length-zip2, get_or-zip2, zip2_of_maps, pick_l-range_with_len, length-chunk, get_or-replicate, zip2_splat, map-map, Each1-from_get_or, Each1-weaker}
-use lib.Lanes.{zip2, sel_l, top, pick_l, Each1, chunk}
+use lib.Lanes.{zip2, pick_l, Each1, chunk}
 use Rattle.simd_cesu8.specs.Encoding.{Flavor}
 use Rattle.simd_cesu8.specs.EncodedPlaces.{mask}
 use Rattle.simd_cesu8.specs.DecodedPlaces.{continues, null_at, two_at, fits_three}
 use Rattle.simd_cesu8.specs.DecodedLanes.{start_code_by, code_of_two, start_code}
+use Rattle.simd_cesu8.proofs.Lanes.{map_agree}
 use Rattle.simd_cesu8.proofs.EncodedLanes.{loaded}
 use Rattle.simd_cesu8.proofs.EncodedBlocks.{marks_at}
 use Rattle.simd_cesu8.proofs.Codes.{cond_same, and_cond, by_high, by_low, by_next, looked_up}
-
--- Maps that agree on each element are equal.
-pub map_agree : {X Y : Type 0} (f g : X → Y) (xs : List X) → Each1 (λ x. f x ≡ g x) xs → map f xs ≡ map g xs
-map_agree f g [] h = refl
-map_agree f g (x ∷ xs) h = λ i. h.0 i ∷ map_agree f g xs h.1 i
-
--- ---- a choice by a comparison
-
-pub chosen : (t : Bool) (m n : ℕ) → cond (top 7 (cond t 255 0)) m n ≡ cond t m n
-chosen true m n = refl
-chosen false m n = refl
-
-chosen_of : (t : ℕ → ℕ → Bool) (y m n : ℕ) (xs : List ℕ) →
-    sel_l (map (top 7) (zip2 (λ a b. cond (t a b) 255 0) xs (replicate (length xs) y))) (replicate (length xs) m) (replicate (length xs) n)
-    ≡ map (λ x. cond (t x y) m n) xs
-chosen_of t y m n [] = refl
-chosen_of t y m n (x ∷ xs) = λ i. chosen (t x y) m n i ∷ chosen_of t y m n xs i
-
--- Choosing one of two numbers by a comparison with one byte.
-pub chosen_lanes : (t : ℕ → ℕ → Bool) (y m n : ℕ) (xs : List ℕ) → length xs ≡ 32 →
-    sel_l (map (top 7) (zip2 (λ a b. cond (t a b) 255 0) xs (replicate 32 y))) (replicate 32 m) (replicate 32 n)
-    ≡ map (λ x. cond (t x y) m n) xs
-chosen_lanes t y m n xs long =
-    subst (λ k. sel_l (map (top 7) (zip2 (λ a b. cond (t a b) 255 0) xs (replicate k y))) (replicate k m) (replicate k n) ≡ map (λ x. cond (t x y) m n) xs)
-    long (chosen_of t y m n xs)
 
 -- ---- a look-up by the lower half of each lane
 

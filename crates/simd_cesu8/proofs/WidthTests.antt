@@ -3,10 +3,10 @@ use Rattle.std.proofs.Common.{◌≡◌, ℕ, ◌<◌, ◌≤◌, ⊎_elim, true
 use Rattle.std.proofs.lemmas.Bool.{and_parts, and_from, eqb-true, leb-true, ltb-true, eq-eqb, le-leb, lt-ltb, ne_eqb, cases_eq, cases_lt, cases_Bool, both_ways}
 use Rattle.std.proofs.lemmas.List.{get_or_past}
 use Rattle.simd_cesu8.specs.Encoding.{Flavor, Cesu8, Mutf8}
-use Rattle.simd_cesu8.specs.Internal.{IsContinuation, BeginsInLengths}
+use Rattle.simd_cesu8.specs.Internal.{IsContinuation}
 use Rattle.simd_cesu8.specs.DecodedPlaces.{front_width, continues, one_at, null_at, two_at, fits_three, three_at, pair_at, front_width_by, width_at}
 use Rattle.simd_cesu8.proofs.Patterns.{Pattern, of_one, of_null, of_two, of_three, of_pair, pattern}
-use Rattle.simd_cesu8.proofs.Found.{found_one, found_null, found_two, found_three, found_pair}
+use Rattle.simd_cesu8.proofs.Found.{BeginsInLengths, found_one, found_null, found_two, found_three, found_pair}
 use Rattle.simd_cesu8.proofs.Forms.{short_form_other}
 use Rattle.simd_cesu8.proofs.FrontWidths.{width_of_front, width_of_none}
 

@@ -105,9 +105,3 @@ fn continuations(bytes: u8x32) -> u8x32
 {
     equal(bytes & u8x32::splat(0xC0), 0x80)
 }
-
-/// All ones where a comparison holds, and else zeros.
-#[inline(always)]
-pub fn ones_where(mask: Mask<i8, 32>) -> u8x32 {
-    mask.select(u8x32::splat(0xFF), u8x32::splat(0))
-}
