@@ -18,7 +18,7 @@ use Rattle.simd_cesu8.proofs.StartCodes.{start_at, over_one, over_two}
 use Rattle.simd_cesu8.proofs.PlaceBorders.{width_bounds, border_at_end}
 use Rattle.simd_cesu8.proofs.DecodedText.{padded_follows, padded_border}
 use Rattle.simd_cesu8.proofs.DecodedPieces.{padded_for, padded_take, border_behind, fault_at, lossy_piece, strict_piece}
-use Rattle.simd_cesu8.proofs.DecodedBlocks.{no_bit_or, no_pair}
+use Rattle.simd_cesu8.proofs.LaneTests.{no_bit_or, no_pair}
 
 -- ---- borders
 
@@ -123,7 +123,7 @@ none_damaged p at len false here first then none i inside =
 pub more_written : (f : Flavor) (window old new : List ℕ) (at len : ℕ) → old ≡ decoded f window 0 at →
     new ≡ old ++ decoded f window at len → new ≡ decoded f window 0 (at + len)
 more_written f window old new at len old_is new_is =
-    new_is ∙ ap (λ l. l ++ decoded f window at len) old_is 
+    new_is ∙ ap (λ l. l ++ decoded f window at len) old_is
     ∙ ap (λ i. decoded f window 0 at ++ decoded f window i len) (sym (zero-add at)) ∙ sym (decoded_split f window 0 at len)
 
 -- ---- windows

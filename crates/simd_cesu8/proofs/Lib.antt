@@ -57,6 +57,8 @@ pub mod UnitOrder
 pub mod LossyBorrowing
 pub mod StartCodes
 pub mod DecodedParts
+pub mod LaneTests
+pub mod FirstLanes
 pub mod DecodedBlocks
 pub mod StartLanes
 pub mod DecodedRows

@@ -16,15 +16,15 @@ returns g c =
     let fits : loaded ≤ length bytes =
     elim c.if-bytes-most.branch [ then-bytes-most w ↦ omega arith | else-bytes-most w ↦ omega arith ] in
     let is_read : IsRead f bytes window count = elim c.if-loaded-bytes.branch [
-      then-loaded-bytes w ↦
-        subst (IsRead f bytes window) (sym (w.read-is ∙ w.if-loaded-bytes.true))
-        (all_read f bytes window (subst (λ bs. IsPadded bs window) (take_all loaded bytes (omega (arith, w.if-loaded-bytes.true))) c.pad.ensures.padded))
-    | else-loaded-bytes w ↦
-        subst (IsRead f bytes window) (sym w.read-is)
-        (part_read f bytes window loaded w.border-read.result c.pad.ensures.padded fits
-        (elim c.if-bytes-most.branch [ then-bytes-most v ↦ absurd (w.if-loaded-bytes.false v.loaded-is) | else-bytes-most v ↦ omega arith ])
-        w.border-read.ensures.within.0
-        (w.border-read.ensures.border f window (λ k small. c.write_codes.ensures.codes k (omega arith))))
+      | then-loaded-bytes w ↦
+          subst (IsRead f bytes window) (sym (w.read-is ∙ w.if-loaded-bytes.true))
+          (all_read f bytes window (subst (λ bs. IsPadded bs window) (take_all loaded bytes (omega (arith, w.if-loaded-bytes.true))) c.pad.ensures.padded))
+      | else-loaded-bytes w ↦
+          subst (IsRead f bytes window) (sym w.read-is)
+          (part_read f bytes window loaded w.border-read.result c.pad.ensures.padded fits
+          (elim c.if-bytes-most.branch [ then-bytes-most v ↦ absurd (w.if-loaded-bytes.false v.loaded-is) | else-bytes-most v ↦ omega arith ])
+          w.border-read.ensures.within.0
+          (w.border-read.ensures.border f window (λ k small. c.write_codes.ensures.codes k (omega arith))))
     ] in
     record {
       some = search rules;
