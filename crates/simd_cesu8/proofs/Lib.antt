@@ -57,8 +57,11 @@ pub mod UnitOrder
 pub mod LossyBorrowing
 pub mod StartCodes
 pub mod DecodedParts
+pub mod LaneTests
+pub mod FirstLanes
 pub mod DecodedBlocks
 pub mod StartLanes
 pub mod DecodedRows
 pub mod SavedLanes
 pub mod SavedRest
+pub mod DecodedWindows

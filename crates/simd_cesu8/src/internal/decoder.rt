@@ -30,9 +30,10 @@ use super::window::{SHORT, read_window};
 use super::writers::{copy_text, exactly};
 use super::{DecodeOptions, Flavor};
 use crate::error::{DecodeFault, DecodingError};
+use parts::ROOM;
 use simdutf8::basic;
 use std::alloc::{AllocError, Allocator};
-use windows::{Decoded, write_window};
+use windows::{AROUND, Decoded, write_window};
 
 /// How many bytes are read in one window at most.
 const WINDOW: usize = 1024;
@@ -264,9 +265,9 @@ fn append_window<'b, A: Allocator>(
     out: &mut String<A>,
 ) -> Result<&'b [u8], DecodeFault>
     requires some { 0 < length bytes.now }
-    requires window { 90 ≤ length window.old }
+    requires window { AROUND + 11 ≤ length window.old }
     requires codes { length codes.old ≡ length window.old }
-    requires written { 3 * length window.old ≤ length written.old + 112 }
+    requires written { 3 * length window.old ≤ length written.old + ROOM }
     ensures less { IfOk result (λ rest. length rest.now < length bytes.now) }
     ensures ok { IfOk result (λ rest. IsReadSoFar (flavor_of options.flavor) options.lossy
         bytes.now rest.now (string_bytes out.old) (string_bytes out.new)) }
@@ -299,12 +300,12 @@ fn read_by_places<'a>(
     codes: &mut [u8],
     written: &'a mut [u8],
 ) -> ReadWindow<'a>
-    requires window { 90 ≤ length window.old }
+    requires window { AROUND + 11 ≤ length window.old }
     requires codes { length codes.old ≡ length window.old }
-    requires written { 3 * length window.old ≤ length written.old + 112 }
+    requires written { 3 * length window.old ≤ length written.old + ROOM }
     ensures some { 0 < length bytes.now → 0 < result.len }
     ensures within { result.len ≤ length bytes.now }
-    ensures all { length bytes.now + 80 ≤ length window.old → result.len ≡ length bytes.now }
+    ensures all { length bytes.now + AROUND ≤ length window.old → result.len ≡ length bytes.now }
     ensures lossy { IsPiece (flavor_of flavor) true bytes.now
         (drop result.len bytes.now) result.text.now }
     ensures strict { result.is_damaged ≡ false → IsPiece (flavor_of flavor) false bytes.now
@@ -331,12 +332,12 @@ fn write_in_flavor(
     codes: &mut [u8],
     written: &mut [u8],
 ) -> Decoded
-    requires window { 90 ≤ length window.old }
+    requires window { AROUND + 11 ≤ length window.old }
     requires codes { length codes.old ≡ length window.old }
-    requires written { 3 * length window.old ≤ length written.old + 112 }
+    requires written { 3 * length window.old ≤ length written.old + ROOM }
     ensures some { 0 < length bytes.now → 0 < result.read }
     ensures within { result.read ≤ length bytes.now }
-    ensures all { length bytes.now + 80 ≤ length window.old → result.read ≡ length bytes.now }
+    ensures all { length bytes.now + AROUND ≤ length window.old → result.read ≡ length bytes.now }
     ensures end { result.end ≤ length written.new }
     ensures lossy { IsPiece (flavor_of flavor) true bytes.now
         (drop result.read bytes.now) (take result.end written.new) }

@@ -18,7 +18,7 @@ ghost use Rattle.simd_cesu8.specs.DecodedPlaces.{decoded, is_damaged_at};
 ghost use Rattle.simd_cesu8.specs.DecodedLanes.{AreStartCodes, AreShufflesOfFour, is_high, goes_at, byte_at, written_lanes};
 
 use super::packing::{Parts, highest_bits, store};
-use super::places::{PAIR, THREE, equal, look_up};
+use super::places::{PAIR, REACH, THREE, equal, look_up};
 use super::rows::Rows;
 use crate::internal::null_form::NullForm;
 use std::simd::prelude::*;
@@ -43,6 +43,9 @@ const NUMBERS: [u8; 32] = [
     26, 27, 28, 29, 30, 31,
 ];
 
+/// How many bytes of room a block needs. What is written last may be of no use.
+pub const ROOM: usize = 112;
+
 /// The end of what is written for a block, and whether some of its bytes are damaged.
 #[derive(Drop)]
 pub struct Block {
@@ -63,11 +66,11 @@ pub fn write_block<N: NullForm>(
     end: usize,
 ) -> Block
     requires count { count ≤ 32 }
-    requires window { at + 37 ≤ length window.now }
-    requires codes { at + 37 ≤ length codes.now }
+    requires window { at + REACH ≤ length window.now }
+    requires codes { at + REACH ≤ length codes.now }
     requires are_codes { AreStartCodes N.flavor window.now (at + count + 5) codes.now }
     requires rows { AreShufflesOfFour rows.now }
-    requires room { end + 112 ≤ length out.old }
+    requires room { end + ROOM ≤ length out.old }
     ensures bytes { take result.end out.new
         ≡ take end out.old ++ decoded N.flavor window.now at count }
     ensures damaged { IsTrue result.is_damaged → (i : ℕ) × (at ≤ i) × (i < at + count)
@@ -90,8 +93,8 @@ pub fn write_block<N: NullForm>(
 #[inline(always)]
 fn parts_at<N: NullForm>(window: &[u8], codes: &[u8], at: usize, count: usize) -> Parts
     requires count { count ≤ 32 }
-    requires window { at + 37 ≤ length window.now }
-    requires codes { at + 37 ≤ length codes.now }
+    requires window { at + REACH ≤ length window.now }
+    requires codes { at + REACH ≤ length codes.now }
     requires are_codes { AreStartCodes N.flavor window.now (at + count + 5) codes.now }
     ensures written { written_lanes result.gone result.damaged result.bytes
         ≡ decoded N.flavor window.now at count }
@@ -110,7 +113,7 @@ fn parts_at<N: NullForm>(window: &[u8], codes: &[u8], at: usize, count: usize) -
 #[inline(always)]
 fn gone(codes: &[u8], at: usize, count: usize) -> u8x32
     requires count { count ≤ 32 }
-    requires codes { at + 37 ≤ length codes.now }
+    requires codes { at + REACH ≤ length codes.now }
     ensures { (f : Flavor) (window : List ℕ) → AreStartCodes f window (at + count + 5) codes.now
         → map is_high result
         ≡ map (goes_at f window) (range_with_len at count) ++ replicate (32 - count) true }
@@ -124,8 +127,8 @@ fn gone(codes: &[u8], at: usize, count: usize) -> u8x32
 #[inline(always)]
 fn damaged<N: NullForm>(window: &[u8], codes: &[u8], at: usize, count: usize) -> u8x32
     requires count { count ≤ 32 }
-    requires window { at + 37 ≤ length window.now }
-    requires codes { at + 37 ≤ length codes.now }
+    requires window { at + REACH ≤ length window.now }
+    requires codes { at + REACH ≤ length codes.now }
     requires are_codes { AreStartCodes N.flavor window.now (at + count + 5) codes.now }
     ensures { map is_high result
         ≡ map (is_damaged_at N.flavor window.now) (range_with_len at count)
@@ -156,8 +159,8 @@ fn behind(count: u8) -> u8x32
 /// The bytes, and in place of those of surrogate pairs and of C0 80 what they become.
 #[inline(always)]
 fn joined(window: &[u8], codes: &[u8], at: usize) -> u8x32
-    requires window { at + 37 ≤ length window.now }
-    requires codes { at + 37 ≤ length codes.now }
+    requires window { at + REACH ≤ length window.now }
+    requires codes { at + REACH ≤ length codes.now }
     ensures { (f : Flavor) (count : ℕ) → count ≤ 32
         → AreStartCodes f window.now (at + count + 5) codes.now
         → take count result ≡ map (byte_at f window.now) (range_with_len at count) }
