@@ -6,3 +6,5 @@ pub mod decoders;
 pub mod flavors;
 #[cfg(test)]
 pub mod lossy_rows;
+#[cfg(test)]
+pub mod plain;
