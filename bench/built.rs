@@ -1,6 +1,6 @@
 //! Calls that build their answer, and those that tell its length, at three lengths.
 
-use crate::codec::{Action, Call, Codec, Flavor, answers, call_name};
+use crate::codec::{Action, Codec, Flavor, Question};
 use crate::expected::expected;
 use crate::lengths::LengthTable;
 use crate::sets::at_page_start;
@@ -49,31 +49,24 @@ const CASES: [Case; 5] = [
     },
 ];
 
-fn tested(codec: &Codec, case: &Case, input: &[u8]) -> Result<Option<Call>, String> {
-    let part = expected(case.action, Flavor::Cesu8, case.part);
-    let answer = part
-        .expect("only answered calls are measured")
-        .repeat(input.len() / case.part.len());
-    match codec.call(case.action, Flavor::Cesu8) {
-        Some(call) if !answers(call, case.action, input, &answer) => Err(format!(
-            "{}: {} answers wrongly on {} bytes of {}",
-            codec.name,
-            call_name(case.action, Flavor::Cesu8),
-            input.len(),
-            case.kind
-        )),
-        call => Ok(call),
-    }
-}
-
 /// Tests each call at each length, and times none yet.
 pub fn built_table(codecs: &[Codec]) -> Result<LengthTable<'_>, String> {
     let mut table = LengthTable::of(codecs);
     for case in &CASES {
         let title = format!("`{}`, {}", case.action.title(), case.kind);
+        let answer = expected(case.action, Flavor::Cesu8, case.part);
         for length in LENGTHS {
-            let input: &'static [u8] = at_page_start(&case.part.repeat(length / case.part.len()));
-            table.add(&title, input, |codec| tested(codec, case, input))?;
+            let times = length / case.part.len();
+            let input: &'static [u8] = at_page_start(&case.part.repeat(times));
+            let answer = answer.as_ref().map(|part| part.repeat(times));
+            let question = Question {
+                action: case.action,
+                flavor: Flavor::Cesu8,
+                kind: case.kind,
+                input,
+                answer: answer.as_deref(),
+            };
+            table.add(&title, input, |codec| question.tested(codec))?;
         }
     }
     Ok(table)

@@ -69,6 +69,15 @@ pub enum Flavor {
 
 pub const FLAVORS: [Flavor; 2] = [Flavor::Cesu8, Flavor::Mutf8];
 
+impl Flavor {
+    pub fn other(self) -> Flavor {
+        match self {
+            Flavor::Cesu8 => Flavor::Mutf8,
+            Flavor::Mutf8 => Flavor::Cesu8,
+        }
+    }
+}
+
 #[derive(Clone, Copy, PartialEq)]
 pub enum Action {
     Encode,
@@ -138,6 +147,14 @@ pub fn call_name(action: Action, flavor: Flavor) -> String {
         Flavor::Mutf8 => "cesu8_static_mutf8_",
     };
     format!("{prefix}{}", action.title())
+}
+
+/// A call as the library's pages name it.
+pub fn path(action: Action, flavor: Flavor) -> String {
+    match flavor {
+        Flavor::Cesu8 => action.title().to_string(),
+        Flavor::Mutf8 => format!("mutf8::{}", action.title()),
+    }
 }
 
 /// The calls that tell what encoding a text costs.
@@ -244,4 +261,42 @@ pub fn answers(call: Call, action: Action, input: &[u8], answer: &[u8]) -> bool 
         && outcome.length == answer.len()
         && outcome.is_borrowed == (answer == input && !action.tells_length())
         && (room == answer || action.tells_length())
+}
+
+/// Whether a call refuses an input.
+fn refuses(call: Call, input: &[u8]) -> bool {
+    let outcome = outcome(call, input, &mut []);
+    outcome.is_invalid && !outcome.has_answer
+}
+
+/// An input for a call, and what it has to answer, or none where it has to refuse the input.
+pub struct Question<'a> {
+    pub action: Action,
+    pub flavor: Flavor,
+    pub kind: &'a str,
+    pub input: &'a [u8],
+    pub answer: Option<&'a [u8]>,
+}
+
+impl Question<'_> {
+    fn is_answered_by(&self, call: Call) -> bool {
+        match self.answer {
+            Some(answer) => answers(call, self.action, self.input, answer),
+            None => refuses(call, self.input),
+        }
+    }
+
+    /// A codec's call, which answers rightly, or none where the codec has no such call.
+    pub fn tested(&self, codec: &Codec) -> Result<Option<Call>, String> {
+        match codec.call(self.action, self.flavor) {
+            Some(call) if !self.is_answered_by(call) => Err(format!(
+                "{}: {} answers wrongly on {} bytes of {}",
+                codec.name,
+                call_name(self.action, self.flavor),
+                self.input.len(),
+                self.kind
+            )),
+            call => Ok(call),
+        }
+    }
 }

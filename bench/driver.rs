@@ -10,6 +10,7 @@ mod built;
 mod codec;
 mod damage;
 mod expected;
+mod hostile;
 mod kernels;
 mod lengths;
 mod picture;
@@ -21,6 +22,7 @@ mod timing;
 use crate::built::built_table;
 use crate::codec::{Action, Codec};
 use crate::damage::damage_table;
+use crate::hostile::HostileTable;
 use crate::kernels::kernel_table;
 use crate::picture::{Run, picture};
 use crate::table::Table;
@@ -57,17 +59,20 @@ fn run(asked: &Asked) -> Result<(), String> {
     let mut table = Table::of(codecs)?;
     let mut built = built_table(codecs)?;
     let mut damage = damage_table(codecs)?;
+    let mut hostile = HostileTable::of(codecs)?;
     let mut kernels = kernel_table(codecs, table.ascii())?;
     let mut texts = TextTable::of(codecs)?;
     table.measure(asked.rounds);
     texts.measure(asked.rounds);
     built.measure(asked.rounds);
     damage.measure(asked.rounds);
+    hostile.measure(asked.rounds);
     kernels.measure(asked.rounds);
     table.print(asked.rounds);
     texts.print();
     built.print();
     damage.print();
+    hostile.print();
     kernels.print();
     match &asked.picture {
         Some(file) => draw(file, asked, &table, &texts),

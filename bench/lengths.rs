@@ -1,13 +1,36 @@
-//! Tables of calls on one kind of input at several lengths, with a column for each codec.
+//! Tables of calls on inputs of several lengths: one table for each kind of input, with a column for
+//! each codec, or one for all kinds, with a column for each length.
 
 use crate::codec::{Call, Codec};
 use crate::timing::{Measured, call_run};
+use std::collections::BTreeSet;
 
 /// One call at one length. The calls of the codecs are places in the list of what is measured.
 struct Row {
     title: String,
     length: usize,
     calls: Vec<Option<usize>>,
+}
+
+/// What a table with a column for each length says of the first codec.
+#[derive(Clone, Copy)]
+pub enum Unit {
+    Gigabytes,
+    Nanoseconds,
+}
+
+/// A length, and the place of a codec. The first codec's column says how fast it is, and any other
+/// one how much faster the first is than that.
+#[derive(Clone, Copy)]
+struct Column {
+    length: usize,
+    codec: usize,
+}
+
+/// What stands in a column, and a number that is the less the slower the first codec is.
+struct Cell {
+    written: String,
+    speed: f64,
 }
 
 pub struct LengthTable<'a> {
@@ -49,16 +72,24 @@ impl LengthTable<'_> {
         Ok(())
     }
 
-    pub fn measure(&mut self, rounds: u32) {
+    pub fn calibrate(&mut self) {
         for one in &mut self.measured {
             one.calibrate();
         }
+    }
+
+    pub fn round(&mut self, round: u32) {
+        let is_long_round = round % 100 == 0;
+        let measured = self.measured.iter_mut();
+        for one in measured.filter(|one| !one.is_long() || is_long_round) {
+            one.round();
+        }
+    }
+
+    pub fn measure(&mut self, rounds: u32) {
+        self.calibrate();
         for round in 0..rounds {
-            let is_long_round = round % 100 == 0;
-            let measured = self.measured.iter_mut();
-            for one in measured.filter(|one| !one.is_long() || is_long_round) {
-                one.round();
-            }
+            self.round(round);
         }
     }
 
@@ -106,4 +137,80 @@ impl LengthTable<'_> {
         }
         println!();
     }
+
+    fn cell(&self, title: &str, column: Column, unit: Unit) -> Option<Cell> {
+        let mut rows = self.rows.iter();
+        let row = rows.find(|row| row.title == title && row.length == column.length)?;
+        let first = &self.measured[row.calls[0]?];
+        let speed = match column.codec {
+            0 => first.seconds().recip(),
+            codec => self.measured[row.calls[codec]?].seconds() / first.seconds(),
+        };
+        let written = match (column.codec, unit) {
+            (0, Unit::Gigabytes) => format!("{:.2}", first.gigabytes()),
+            (0, Unit::Nanoseconds) => format!("{:.0}", first.seconds() * 1e9),
+            _ => format!("{speed:.2}"),
+        };
+        Some(Cell { written, speed })
+    }
+
+    /// The slowest of a column, and its title.
+    fn slowest(&self, titles: &[&str], column: Column, unit: Unit) -> Option<String> {
+        let cells = titles.iter().filter_map(|title| {
+            let cell = self.cell(title, column, unit)?;
+            Some((cell, title))
+        });
+        let (cell, title) = cells.min_by(|(a, _), (b, _)| a.speed.total_cmp(&b.speed))?;
+        Some(format!("{}, {title}", cell.written))
+    }
+
+    /// The columns in which something stands.
+    fn columns(&self, titles: &[&str], unit: Unit) -> Vec<Column> {
+        let lengths: BTreeSet<usize> = self.rows.iter().map(|row| row.length).collect();
+        let mut columns = Vec::new();
+        for length in lengths {
+            for codec in 0..self.codecs.len() {
+                let column = Column { length, codec };
+                if self.slowest(titles, column, unit).is_some() {
+                    columns.push(column);
+                }
+            }
+        }
+        columns
+    }
+
+    /// One table with a line for each title and a column for each length, unless there is no row.
+    /// The last line tells the slowest of each column.
+    pub fn print_by_length(&self, heading: &str, unit: Unit) {
+        let mut titles: Vec<&str> = self.rows.iter().map(|row| row.title.as_str()).collect();
+        titles.dedup();
+        let columns = self.columns(&titles, unit);
+        if columns.is_empty() {
+            return;
+        }
+        print!("\n{heading}:\n\n| input |");
+        for column in &columns {
+            match column.codec {
+                0 => print!(" {} |", column.length),
+                codec => print!(" to {} |", self.codecs[codec].name),
+            }
+        }
+        println!("\n|---|{}", "--:|".repeat(columns.len()));
+        for title in &titles {
+            let cells = columns.iter().map(|column| self.cell(title, *column, unit));
+            print_line(title, cells.map(|cell| Some(cell?.written)));
+        }
+        let slowest = columns
+            .iter()
+            .map(|column| self.slowest(&titles, *column, unit));
+        print_line("slowest", slowest);
+    }
+}
+
+fn print_line(title: &str, cells: impl Iterator<Item = Option<String>>) {
+    print!("| {title} |");
+    for cell in cells {
+        print!(" {} |", cell.as_deref().unwrap_or("–"));
+    }
+    println!();
 }

@@ -6,13 +6,13 @@ use std::alloc::{Layout, alloc};
 use std::{ptr, slice};
 
 pub const INPUT_LENGTH: usize = 16_380;
-const SEED: u64 = 16_380;
+pub const SEED: u64 = 16_380;
 
 /// SplitMix64.
-struct Random(u64);
+pub struct Random(pub u64);
 
 impl Random {
-    fn next(&mut self) -> u64 {
+    pub fn next(&mut self) -> u64 {
         self.0 = self.0.wrapping_add(0x9E37_79B9_7F4A_7C15);
         let mut z = self.0;
         z = (z ^ z >> 30).wrapping_mul(0xBF58_476D_1CE4_E5B9);
@@ -176,7 +176,7 @@ impl Kind {
     }
 
     /// The character at a place of such a text.
-    fn character(self, random: &mut Random, place: usize) -> char {
+    pub fn character(self, random: &mut Random, place: usize) -> char {
         let is_emoji = place % 97 == 10;
         match self {
             Kind::Ascii => random.character(0x01, 0x7F),
@@ -206,7 +206,7 @@ impl Kind {
 }
 
 /// A character of one, two, three or four bytes, or U+0000: the first few of these.
-fn of_any_length(random: &mut Random, kinds: u64) -> char {
+pub fn of_any_length(random: &mut Random, kinds: u64) -> char {
     match random.next() % kinds {
         0 => random.character(0x01, 0x7F),
         1 => random.character(0x80, 0x7FF),
@@ -231,76 +231,23 @@ pub fn text_of(kind: Kind, length: usize) -> &'static [u8] {
     at_page_start(text.as_bytes())
 }
 
-/// A kind of input for the decoders: characters by chance, with pairs, and damage.
-#[derive(Clone, Copy, PartialEq)]
-pub enum Damage {
-    None,
-    Sparse,
-    OneIn500,
-    OneIn50,
-    OtherFlavor,
-    Noise,
-}
-
-impl Damage {
-    pub const ALL: [Damage; 6] = [
-        Damage::None,
-        Damage::Sparse,
-        Damage::OneIn500,
-        Damage::OneIn50,
-        Damage::OtherFlavor,
-        Damage::Noise,
-    ];
-
-    pub fn title(self, flavor: Flavor) -> &'static str {
-        match (self, flavor) {
-            (Damage::None, _) => "all lengths and null by chance",
-            (Damage::Sparse, _) => "one to three bytes, one pair in 97",
-            (Damage::OneIn500, _) => "one damaged byte in 500",
-            (Damage::OneIn50, _) => "one damaged byte in 50",
-            (Damage::OtherFlavor, Flavor::Cesu8) => "MUTF-8 with null",
-            (Damage::OtherFlavor, Flavor::Mutf8) => "CESU-8 with null",
-            (Damage::Noise, _) => "noise",
-        }
-    }
-
-    /// One byte in how many is replaced by chance, if any.
-    fn distance(self) -> Option<u64> {
-        match self {
-            Damage::None | Damage::Sparse | Damage::OtherFlavor => None,
-            Damage::OneIn500 => Some(500),
-            Damage::OneIn50 => Some(50),
-            Damage::Noise => Some(1),
-        }
-    }
-
-    /// The character at a place of such input, before it is damaged.
-    fn character(self, random: &mut Random, place: usize) -> char {
-        match self {
-            // The first pair stands within the shortest input.
-            Damage::Sparse if place % 97 == 3 => '\u{1F496}',
-            Damage::Sparse => of_any_length(random, 3),
-            _ => of_any_length(random, 5),
-        }
-    }
-}
-
-/// So many bytes of this kind, of which the last is ASCII.
-pub fn damaged_bytes(damage: Damage, flavor: Flavor, length: usize) -> Vec<u8> {
+/// So many bytes, of which the last is ASCII: the encoding of characters, with one byte in so many, if
+/// any, replaced by chance.
+pub fn encoded_bytes(
+    flavor: Flavor,
+    length: usize,
+    damaged_in: Option<u64>,
+    character: impl Fn(&mut Random, usize) -> char,
+) -> Vec<u8> {
     let mut random = Random(SEED);
-    let written = match (damage, flavor) {
-        (Damage::OtherFlavor, Flavor::Cesu8) => Flavor::Mutf8,
-        (Damage::OtherFlavor, Flavor::Mutf8) => Flavor::Cesu8,
-        _ => flavor,
-    };
     let mut bytes = Vec::with_capacity(length);
     let mut place = 0;
     while length - bytes.len() > 6 {
-        let character = damage.character(&mut random, place);
-        bytes.extend(encoded(written, &character.to_string()));
+        let next = character(&mut random, place);
+        bytes.extend(encoded(flavor, &next.to_string()));
         place += 1;
     }
-    if let Some(distance) = damage.distance() {
+    if let Some(distance) = damaged_in {
         for byte in &mut bytes {
             if random.next() % distance == 0 {
                 *byte = random.next() as u8;

@@ -1,6 +1,6 @@
 //! All that is measured, and the tables of it.
 
-use crate::codec::{ACTIONS, Action, Call, Codec, FLAVORS, Flavor, answers, call_name};
+use crate::codec::{ACTIONS, Action, Call, Codec, FLAVORS, Flavor, Question};
 use crate::picture::{Bars, Panel};
 use crate::sets::{INPUT_LENGTH, Set, sets};
 use crate::timing::{Measured, call_run, copy_run, utf8_run};
@@ -33,19 +33,17 @@ fn tested(
     flavor: Flavor,
     set: &Set,
 ) -> Result<Option<Call>, String> {
-    let answer = set.answer(action, flavor);
-    let Some((call, answer)) = codec.call(action, flavor).zip(answer) else {
+    let Some(answer) = set.answer(action, flavor) else {
         return Ok(None);
     };
-    if answers(call, action, set.input, &answer) {
-        return Ok(Some(call));
-    }
-    Err(format!(
-        "{}: {} answers wrongly on: {}",
-        codec.name,
-        call_name(action, flavor),
-        set.name
-    ))
+    let question = Question {
+        action,
+        flavor,
+        kind: set.name,
+        input: set.input,
+        answer: Some(&answer),
+    };
+    question.tested(codec)
 }
 
 impl Table<'_> {

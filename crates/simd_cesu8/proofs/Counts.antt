@@ -2,10 +2,11 @@
 use Rattle.std.proofs.Common.{◌≡◌, ◌==◌, ℕ, ◌+◌, ◌*◌, ◌<◌, ◌≤◌, Bool, true, false, cond, List, [], ◌∷◌, length, map, take, drop, replicate, refl, sym, ap, ◌∙◌, subst, arith, eqb, bit_and, count_by, Fits, w8, w32}
 use lib.Lanes.{zip2, top, sel_l, sum_l, fold_l, chunk, products, dots, Each1, Each2, Steps}
 use Rattle.std.proofs.lemmas.List.{length-map, drop-drop}
-use Rattle.std.proofs.lemmas.Simd.{zip2_splat, Each1-weaker, Each1-all, Each2-of, Each1-zip2, sum-zip2, length-zip2, length-chunk, sum_bound, map-map, sum_dots, sum_by-ones, sum_fits, fold-sum, bytes_below}
+use Rattle.std.proofs.lemmas.Simd.{length-replicate, zip2_splat, Each1-weaker, Each1-all, Each2-of, Each1-zip2, sum-zip2, length-zip2, length-chunk, sum_bound, map-map, sum_dots, sum_by-ones, sum_fits, fold-sum, bytes_below}
 use Rattle.std.proofs.lemmas.Bool.{agree_below_at}
 use Rattle.std.proofs.lemmas.List.Sums.{sum_by-cons, sum_by-take-drop, count_by-le-length}
 use Rattle.simd_cesu8.specs.Class.{is_four}
+use Rattle.simd_cesu8.proofs.Lanes.{map_agree, chosen_lanes}
 
 -- Tests that agree on each element count alike.
 pub count_by_agree : {X : Type 0} (p q : X → Bool) (xs : List X) → Each1 (λ x. p x ≡ q x) xs → count_by p xs ≡ count_by q xs
@@ -53,37 +54,16 @@ pub record ArePartlyCounted (null_count four_count : ℕ) (rest whole : List ℕ
 abbrev pub ones : (ℕ → Bool) → List ℕ → List ℕ
 ones p xs = map (λ x. cond (p x) 1 0) xs
 
-chosen : (t : Bool) → ◌≡◌ {A = ℕ} (cond (top 7 (cond t 255 0)) 1 0) (cond t 1 0)
-chosen true = refl
-chosen false = refl
-
-ones_of : (t : ℕ → ℕ → Bool) (y : ℕ) (xs : List ℕ) →
-    sel_l (map (top 7) (zip2 (λ a b. cond (t a b) 255 0) xs (replicate (length xs) y))) (replicate (length xs) 1) (replicate (length xs) 0)
-    ≡ ones (λ x. t x y) xs
-ones_of t y [] = refl
-ones_of t y (x ∷ xs) = λ i. chosen (t x y) i ∷ ones_of t y xs i
-
--- Choosing by a comparison with one byte gives the ones.
-pub ones_are : (t : ℕ → ℕ → Bool) (y : ℕ) (xs : List ℕ) → length xs ≡ 64 →
-    sel_l (map (top 7) (zip2 (λ a b. cond (t a b) 255 0) xs (replicate 64 y))) (replicate 64 1) (replicate 64 0) ≡ ones (λ x. t x y) xs
-ones_are t y xs long =
-    subst (λ n. sel_l (map (top 7) (zip2 (λ a b. cond (t a b) 255 0) xs (replicate n y))) (replicate n 1) (replicate n 0) ≡ ones (λ x. t x y) xs)
-    long (ones_of t y xs)
-
-ones_agree : (p q : ℕ → Bool) (xs : List ℕ) → Each1 (λ x. p x ≡ q x) xs → ones p xs ≡ ones q xs
-ones_agree p q [] h = refl
-ones_agree p q (x ∷ xs) h = λ i. cond (h.0 i) 1 0 ∷ ones_agree p q xs h.1 i
-
 -- Lanes whose upper five bits are compared with those of F0 have a one where they are F0 to F7.
 pub four_ones_by_mask : (lanes : List ℕ) → length lanes ≡ 64 → Each1 (Fits w8) lanes →
     sel_l (map (top 7) (zip2 (λ a b. cond (eqb a b) 255 0) (zip2 bit_and lanes (replicate 64 0xF8)) (replicate 64 0xF0))) (replicate 64 1) (replicate 64 0)
     ≡ ones is_four lanes
 four_ones_by_mask lanes long fits =
     let upper = zip2_splat bit_and lanes 64 0xF8 long in
-    ones_are eqb 0xF0 _ (ap length upper ∙ length-map lanes (λ b. bit_and b 0xF8) ∙ long)
+    chosen_lanes 64 eqb 0xF0 1 0 _ (ap length upper ∙ length-map lanes (λ b. bit_and b 0xF8) ∙ long)
     ∙ ap (ones (λ b. eqb b 0xF0)) upper
     ∙ map-map (λ b. cond (eqb b 0xF0) 1 0) (λ b. bit_and b 0xF8) lanes
-    ∙ ones_agree (λ b. eqb (bit_and b 0xF8) 0xF0) is_four lanes (Each1-weaker (Fits w8) _ (λ b h. four_by_mask b h.fits) lanes fits)
+    ∙ map_agree _ _ lanes (Each1-weaker (Fits w8) _ (λ b h. ap (λ t. cond t 1 0) (four_by_mask b h.fits)) lanes fits)
 
 one_low : (t : Bool) → cond t 1 0 ≤ 1
 one_low true = omega arith
@@ -155,14 +135,16 @@ module _ (p : ℕ → Bool) (block : List ℕ) (n : ℕ) (lanes more : List ℕ)
       }
 
 -- The sum of dot products with ones is the sum of the lanes, which fits.
-module _ (lanes : List ℕ) (long : length lanes ≡ 64) (fits : Each1 (Fits w8) lanes) where
-  dots_total : sum_l (dots lanes (replicate 64 1)) ≡ sum_l lanes
-  dots_total = (sum_dots 16 lanes (replicate 64 1) long refl).0 ∙ subst (λ n. sum_l (products lanes (replicate n 1)) ≡ sum_l lanes) long (sum_by-ones lanes)
+module _ (n : ℕ) (few : n ≤ 16) (lanes : List ℕ) (long : length lanes ≡ 4 * n) (fits : Each1 (Fits w8) lanes) where
+  dots_total : sum_l (dots lanes (replicate (4 * n) 1)) ≡ sum_l lanes
+  dots_total =
+      (sum_dots n lanes (replicate (4 * n) 1) long (length-replicate (4 * n) 1)).0
+      ∙ subst (λ k. sum_l (products lanes (replicate k 1)) ≡ sum_l lanes) long (sum_by-ones lanes)
 
-  pub dots_sum_fits : Steps (λ s x. Fits w32 (s + x)) (λ s x. s + x) 0 (dots lanes (replicate 64 1))
+  pub dots_sum_fits : Steps (λ s x. Fits w32 (s + x)) (λ s x. s + x) 0 (dots lanes (replicate (4 * n) 1))
   dots_sum_fits =
       let low = sum_bound 255 lanes (bytes_below lanes fits) in
-      sum_fits w32 0 (dots lanes (replicate 64 1)) (omega (arith, dots_total, low, long))
+      sum_fits w32 0 (dots lanes (replicate (4 * n) 1)) (omega (arith, dots_total, low, long))
 
-  pub dots_sum : fold_l (λ s x. s + x) 0 (dots lanes (replicate 64 1)) ≡ sum_l lanes
-  dots_sum = omega (arith, fold-sum 0 (dots lanes (replicate 64 1)), dots_total)
+  pub dots_sum : fold_l (λ s x. s + x) 0 (dots lanes (replicate (4 * n) 1)) ≡ sum_l lanes
+  dots_sum = omega (arith, fold-sum 0 (dots lanes (replicate (4 * n) 1)), dots_total)

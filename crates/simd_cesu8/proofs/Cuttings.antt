@@ -1,10 +1,9 @@
 -- How long the text of a cutting is, and that every list of bytes has a greedy one.
-use Rattle.std.proofs.Common.{◌≡◌, ℕ, false, suc, zero, ◌*◌, ◌≤◌, List, [], ◌∷◌, ◌++◌, Option, Some, None, refl, sym, ap, ◌∙◌, subst, arith, length, drop, length-append}
+use Rattle.std.proofs.Common.{◌≡◌, ℕ, suc, zero, ◌*◌, ◌≤◌, List, [], ◌∷◌, ◌++◌, Option, Some, None, refl, sym, ap, ◌∙◌, subst, arith, length, drop, length-append}
 use Rattle.simd_cesu8.specs.Text.{utf8_of, utf8}
 use Rattle.simd_cesu8.specs.Encoding.{Flavor, encoding}
 use Rattle.simd_cesu8.specs.Reading.{BeginsWith, NoneBegins, width, standing, reading}
 use Rattle.simd_cesu8.specs.Cutting.{Piece, Character, Replaced, ArePieces, bytes_of, text_of, IsCutting, IsGreedy}
-use Rattle.simd_cesu8.specs.Internal.{Read}
 use Rattle.simd_cesu8.proofs.Lengths.{length_of_character}
 use Rattle.simd_cesu8.proofs.Standing.{standing_begins, standing_none}
 use Rattle.simd_cesu8.proofs.Decoding.{shorter, length_utf8_replaced}
@@ -66,7 +65,7 @@ by_front f b bytes n long after None nothing =
 by_front f b bytes n long after (Some c) found =
     let begins = standing_begins f (b ∷ bytes) c found in
     let rest = drop (width f c) (b ∷ bytes) in
-    let short = shorter f false (b ∷ bytes) rest c (Read begins) in
+    let short = shorter f (b ∷ bytes) rest c begins in
     character_first f (b ∷ bytes) rest c begins (after rest (omega arith))
 
 -- a cutting of at most n bytes

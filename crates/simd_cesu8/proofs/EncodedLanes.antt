@@ -30,27 +30,6 @@ lead_lanes bytes long =
     subst (λ n. sel_l (map (top 7) (zip2 at_most (replicate n 0xF0) bytes)) (replicate n 0xFF) (replicate n 0) ≡ map (λ b. mask (is_lead b)) bytes)
     long (leads_of bytes)
 
-nulls_of : (bytes : List ℕ) →
-    sel_l (map (top 7) (zip2 equal bytes (replicate (length bytes) 0))) (replicate (length bytes) 0xFF) (replicate (length bytes) 0)
-    ≡ map (λ b. mask (eqb b 0)) bytes
-nulls_of [] = refl
-nulls_of (b ∷ bytes) = λ i. chosen (eqb b 0) i ∷ nulls_of bytes i
-
--- One with 00 marks the nulls.
-pub null_lanes : (bytes : List ℕ) → length bytes ≡ 32 →
-    sel_l (map (top 7) (zip2 equal bytes (replicate 32 0))) (replicate 32 0xFF) (replicate 32 0) ≡ map (λ b. mask (eqb b 0)) bytes
-null_lanes bytes long =
-    subst (λ n. sel_l (map (top 7) (zip2 equal bytes (replicate n 0))) (replicate n 0xFF) (replicate n 0) ≡ map (λ b. mask (eqb b 0)) bytes)
-    long (nulls_of bytes)
-
-zeros_of : (bytes : List ℕ) → replicate (length bytes) 0 ≡ map (λ b. mask false) bytes
-zeros_of [] = refl
-zeros_of (b ∷ bytes) = ap (λ l. 0 ∷ l) (zeros_of bytes)
-
--- No lane is marked where no byte is.
-pub no_lanes : (bytes : List ℕ) → length bytes ≡ 32 → replicate 32 0 ≡ map (λ b. mask false) bytes
-no_lanes bytes long = subst (λ n. replicate n 0 ≡ map (λ b. mask false) bytes) long (zeros_of bytes)
-
 abbrev shl : ℕ → ℕ → ℕ
 shl a b = a * 2 ^ b % 2 ^ 8
 

@@ -2,17 +2,17 @@
 use Rattle.std.proofs.Common.{◌≡◌, ℕ, zero, suc, ◌+◌, ◌*◌, ◌/◌, ◌%◌, ◌-◌, ◌^◌, ◌<◌, ◌≤◌, Bool, true, false, cond, List, [], ◌∷◌, ◌++◌, map, length, take, drop, get_or, replicate, eqb, refl, sym, ap, ◌∙◌, subst, arith, w8, T, count_ones, eqb-true, length-append, append_assoc, append-nil, bit_and}
 use Rattle.std.specs.List.{range_with_len}
 use Rattle.std.proofs.lemmas.Bool.{agree_below_at}
-use Rattle.std.proofs.lemmas.List.{ext_get_or, get_or-map, length-map, length-take-le, length-drop, map-append, take_at, drop_at, drop_all, drop-drop}
+use Rattle.std.proofs.lemmas.List.{ext_get_or, get_or-map, length-map, length-take-le, length-drop, map-append, take_at, drop_at, drop_all, drop-drop, take-append-le, drop-append-le}
 use Rattle.std.proofs.lemmas.Nat.{and_mask}
 use Rattle.std.proofs.Math.Nat.{mul-zero, mul_assoc, pow-succ', add-mul-div_left, add-mul-mod_self_left, div-eq_of_lt, mod-eq_of_lt, one-le-pow}
-use Rattle.std.proofs.lemmas.Simd.{swz_l, SwzOk, SwzOk-from_below, length-swz_l, get_or-swz_l_below, pick_l-range_with_len, pick_l_left, mask_l-lt, put_chunk_is, ones-mask_l_cons, Each1-from_get_or}
+use Rattle.std.proofs.lemmas.Simd.{swz_l, SwzOk, SwzOk-from_below, length-swz_l, get_or-swz_l_below, pick_l-range_with_len, mask_l-lt, put_chunk_is, ones-mask_l_cons, Each1-from_get_or, Each1-get_or}
 use lib.Dec.{ltb→lt}
 use mir.ValLaws.{and_both}
-use lib.Lanes.{mask_l, put_chunk, chunk, pick_l, all_below}
+use lib.Lanes.{mask_l, put_chunk, chunk, pick_l, all_below, Each1}
 use Rattle.simd_cesu8.specs.EncodedPlaces.{packed, kept_lanes, shuffle_of}
 
 -- the lowest bit of a mask, and the others
-lowest : (t : Bool) (m : ℕ) → (eqb ((cond t 1 0 + 2 * m) % 2) 1 ≡ t) × ((cond t 1 0 + 2 * m) / 2 ≡ m)
+pub lowest : (t : Bool) (m : ℕ) → (eqb ((cond t 1 0 + 2 * m) % 2) 1 ≡ t) × ((cond t 1 0 + 2 * m) / 2 ≡ m)
 lowest true m =
     let odd : (1 + 2 * m) % 2 ≡ 1 = omega arith in
     (rw odd refl, omega arith)
@@ -55,26 +55,35 @@ below_at n (j ∷ js) h zero l = ltb→lt j n (and_both _ _ h).0
 below_at n (j ∷ js) h (suc m) l = below_at n js (and_both _ _ h).1 m (omega arith)
 
 -- Each lane of a shuffle is below 16, and they are sixteen.
-pub shuffle_below : (d : ℕ) → d < 0x100 → T (all_below 16 (shuffle_of d))
-shuffle_below d l = subst T (sym (agree_below_at (λ d. all_below 16 (shuffle_of d)) (λ d. true) 0x100 d refl l)) tt
+shuffle_below : (d : ℕ) → d < 0x100 → Each1 (λ j. j < 16) (shuffle_of d)
+shuffle_below d l =
+    Each1-from_get_or (λ j. j < 16) (shuffle_of d) 0 (below_at 16 (shuffle_of d)
+    (subst T (sym (agree_below_at (λ d. all_below 16 (shuffle_of d)) (λ d. true) 0x100 d refl l)) tt))
 
-pub shuffle_long : (d : ℕ) → d < 0x100 → length (shuffle_of d) ≡ 16
+shuffle_long : (d : ℕ) → d < 0x100 → length (shuffle_of d) ≡ 16
 shuffle_long d l = eqb-true _ _ (agree_below_at (λ d. eqb (length (shuffle_of d)) 16) (λ d. true) 0x100 d refl l)
 
 pub shuffle_ok : (d : ℕ) (row : List ℕ) → d < 0x100 → row ≡ shuffle_of d → SwzOk w8 16 16 0 row
-shuffle_ok d row l is = subst (SwzOk w8 16 16 0) (sym is)
-    (SwzOk-from_below w8 16 1 16 0 (shuffle_of d) refl (omega (arith, shuffle_long d l))
-    (Each1-from_get_or (λ j. j < 16) (shuffle_of d) 0 (below_at 16 (shuffle_of d) (shuffle_below d l))))
+shuffle_ok d row l is = subst (SwzOk w8 16 16 0) (sym is) (SwzOk-from_below w8 16 1 16 0 (shuffle_of d) refl (omega (arith, shuffle_long d l)) (shuffle_below d l))
 
 -- It takes the lanes at its positions.
-shuffled : (lanes js : List ℕ) → length js ≡ 16 → T (all_below 16 js) → swz_l w8 16 lanes 0 js ≡ map (λ j. get_or lanes j 0) js
+pub shuffled : (lanes js : List ℕ) → length js ≡ 16 → Each1 (λ j. j < 16) js → swz_l w8 16 lanes 0 js ≡ map (λ j. get_or lanes j 0) js
 shuffled lanes js long small =
     ext_get_or 0 _ _ (length-swz_l w8 16 lanes 0 js ∙ sym (length-map js (λ j. get_or lanes j 0))) (λ m l.
     let within : m < length js = omega (arith, length-swz_l w8 16 lanes 0 js) in
     let here : 16 * ((0 + m) / 16) + get_or js m 0 ≡ get_or js m 0 = omega arith in
-    get_or-swz_l_below w8 16 lanes 0 js m within (below_at 16 js small m within)
+    get_or-swz_l_below w8 16 lanes 0 js m within (Each1-get_or (λ j. j < 16) js m 0 within small)
     ∙ ap (λ k. get_or lanes k 0) here
     ∙ sym (get_or-map (λ j. get_or lanes j 0) js m 0 0 within))
+
+-- A vector that is stored leaves what stood before it, and its own front up to there.
+pub stored_front : (out front padding : List ℕ) (at m : ℕ) → at + (length front + length padding) ≤ length out → m ≡ at + length front →
+    take m (put_chunk at out (front ++ padding)) ≡ take at out ++ front
+stored_front out front padding at m room end =
+    let behind = drop (length (front ++ padding)) (drop at out) in
+    let parts : take at out ++ ((front ++ padding) ++ behind) ≡ (take at out ++ front) ++ (padding ++ behind) = simp append_assoc in
+    ap (take m) (put_chunk_is at out (front ++ padding) (omega (arith, length-append front padding)) ∙ parts)
+    ∙ take_at (take at out ++ front) (padding ++ behind) m (omega (arith, length-append (take at out) front, length-take-le at out (omega arith)))
 
 -- ---- a row that is stored
 
@@ -103,21 +112,12 @@ module _ (out lanes row : List ℕ) (at d : ℕ) (ts : List Bool)
   pub stored_row : take (at + 8 + count_ones d) (put_chunk at out (swz_l w8 16 lanes 0 row))
       ≡ take at out ++ packed ts (chunk 8 8 lanes) (chunk 0 8 lanes)
   stored_row =
-      let vector = swz_l w8 16 lanes 0 row in
-      let padding = map lane (replicate (16 - length kept) 0) in
-      let vector_is : vector ≡ map lane kept ++ padding =
-      ap (swz_l w8 16 lanes 0) row_is ∙ shuffled lanes (shuffle_of d) (shuffle_long d small) (shuffle_below d small)
-      ∙ map-append lane kept (replicate (16 - length kept) 0) in
-      let vector_long : length vector ≡ 16 = ap (λ r. length (swz_l w8 16 lanes 0 r)) row_is ∙ length-swz_l w8 16 lanes 0 (shuffle_of d) ∙ shuffle_long d small in
-      let behind = drop (length vector) (drop at out) in
-      let parts : put_chunk at out vector ≡ (take at out ++ map lane kept) ++ (padding ++ behind) =
-      put_chunk_is at out vector (omega arith)
-      ∙ ap (λ v. take at out ++ (v ++ behind)) vector_is
-      ∙ ap (λ l. take at out ++ l) (append_assoc (map lane kept) padding behind)
-      ∙ sym (append_assoc (take at out) (map lane kept) (padding ++ behind)) in
-      ap (take (at + 8 + count_ones d)) parts
-      ∙ take_at (take at out ++ map lane kept) (padding ++ behind) (at + 8 + count_ones d)
-      (omega (arith, length-append (take at out) (map lane kept), length-take-le at out (omega arith), length-map kept lane, kept_long))
+      let padding : List ℕ = replicate (16 - length kept) 0 in
+      ap (λ v. take (at + 8 + count_ones d) (put_chunk at out v))
+      (ap (swz_l w8 16 lanes 0) row_is ∙ shuffled lanes (shuffle_of d) (shuffle_long d small) (shuffle_below d small) ∙ map-append lane kept padding)
+      ∙ stored_front out (map lane kept) (map lane padding) at (at + 8 + count_ones d)
+      (omega (arith, shuffle_long d small, length-append kept padding, length-map kept lane, length-map padding lane))
+      (omega (arith, length-map kept lane, kept_long))
       ∙ ap (λ l. take at out ++ l) kept_is
 
 -- ---- four rows
@@ -151,7 +151,7 @@ mask_front n ts le =
     ∙ mod-eq_of_lt (front_below n ts le)
 
 -- and its upper bits those of the others.
-mask_rest : (n : ℕ) (ts : List Bool) → n ≤ length ts → mask_l ts / 2 ^ n ≡ mask_l (drop n ts)
+pub mask_rest : (n : ℕ) (ts : List Bool) → n ≤ length ts → mask_l ts / 2 ^ n ≡ mask_l (drop n ts)
 mask_rest n ts le =
     let first : mask_l (take n ts) / 2 ^ n ≡ 0 = div-eq_of_lt (front_below n ts le) in
     ap (λ m. m / 2 ^ n) (mask_parts n ts)
@@ -169,6 +169,23 @@ row_mask a ts d le is =
 pub first_mask : (ts : List Bool) (d : ℕ) → 8 ≤ length ts → d ≡ mask_l ts → bit_and d 0xFF ≡ mask_l (chunk 0 8 ts)
 first_mask ts d le is = and_mask d 8 ∙ ap (λ m. m % 0x100) is ∙ mask_front 8 ts le
 
+-- Neighbouring lanes of two vectors, one behind the other, are lanes of the first
+pub lanes_of_first : (xs ys : List ℕ) (a n : ℕ) → a + n ≤ length xs → pick_l 0 (xs ++ ys) (range_with_len a n) ≡ chunk a n xs
+lanes_of_first xs ys a n le =
+    pick_l-range_with_len 0 (xs ++ ys) a n (omega (arith, length-append xs ys))
+    ∙ ap (take n) (drop-append-le a xs ys (omega arith)) ∙ take-append-le n (drop a xs) ys (omega (arith, length-drop a xs))
+
+-- or of the second.
+pub lanes_of_second : (xs ys : List ℕ) (k a n : ℕ) → length xs ≡ k → a + n ≤ length ys → pick_l 0 (xs ++ ys) (range_with_len (k + a) n) ≡ chunk a n ys
+lanes_of_second xs ys k a n e le =
+    pick_l-range_with_len 0 (xs ++ ys) (k + a) n (omega (arith, length-append xs ys))
+    ∙ ap (take n) (sym (drop-drop a k (xs ++ ys)) ∙ ap (drop a) (drop_at xs ys k e))
+
+-- What four calls write, one behind the other.
+pub four_calls : (x0 x1 x2 x3 x4 a b c d : List ℕ) → x1 ≡ x0 ++ a → x2 ≡ x1 ++ b → x3 ≡ x2 ++ c → x4 ≡ x3 ++ d →
+    x4 ≡ x0 ++ (a ++ (b ++ (c ++ d)))
+four_calls x0 x1 x2 x3 x4 a b c d e1 e2 e3 e4 = rw (e4, e3, e2, e1) (simp append_assoc)
+
 module _ (firsts seconds : List ℕ) (ts : List Bool) (f : length firsts ≡ 32) (s : length seconds ≡ 32) (t : length ts ≡ 32) where
   -- the vector of a row
   abbrev halves : ℕ → List ℕ
@@ -177,20 +194,11 @@ module _ (firsts seconds : List ℕ) (ts : List Bool) (f : length firsts ≡ 32)
   abbrev row : ℕ → List ℕ
   row a = packed (chunk a 8 ts) (chunk 8 8 (halves a)) (chunk 0 8 (halves a))
 
-  lower : (a : ℕ) → a + 8 ≤ 32 → T (all_below 32 (range_with_len a 8)) → chunk 0 8 (halves a) ≡ chunk a 8 seconds
-  lower a le small = pick_l_left 0 seconds firsts 32 (range_with_len a 8) s small ∙ pick_l-range_with_len 0 seconds a 8 (omega (arith, s))
-
-  upper : (a : ℕ) → a + 8 ≤ 32 → chunk 8 8 (halves a) ≡ chunk a 8 firsts
-  upper a le =
-      pick_l-range_with_len 0 (seconds ++ firsts) (32 + a) 8 (omega (arith, s, f, length-append seconds firsts))
-      ∙ ap (take 8) (sym (drop-drop a 32 (seconds ++ firsts)) ∙ ap (drop a) (drop_at seconds firsts 32 s))
-
-  part : (a : ℕ) → a + 8 ≤ 32 → T (all_below 32 (range_with_len a 8)) →
-      packed (drop a ts) (drop a firsts) (drop a seconds) ≡ row a ++ packed (drop (a + 8) ts) (drop (a + 8) firsts) (drop (a + 8) seconds)
-  part a le small =
+  part : (a : ℕ) → a + 8 ≤ 32 → packed (drop a ts) (drop a firsts) (drop a seconds) ≡ row a ++ packed (drop (a + 8) ts) (drop (a + 8) firsts) (drop (a + 8) seconds)
+  part a le =
       packed_parts 8 (drop a ts) (drop a firsts) (drop a seconds)
       (omega (arith, length-drop a ts, length-drop a firsts, f, t)) (omega (arith, length-drop a ts, length-drop a seconds, s, t))
-      ∙ rw (drop-drop 8 a ts, drop-drop 8 a firsts, drop-drop 8 a seconds, lower a le small, upper a le) refl
+      ∙ rw (drop-drop 8 a ts, drop-drop 8 a firsts, drop-drop 8 a seconds, lanes_of_first seconds firsts a 8 (omega (arith, s)), lanes_of_second seconds firsts 32 a 8 s (omega (arith, f))) refl
 
   last : packed (drop 32 ts) (drop 32 firsts) (drop 32 seconds) ≡ []
   last = rw (drop_all 32 ts (omega (arith, t))) refl
@@ -199,12 +207,7 @@ module _ (firsts seconds : List ℕ) (ts : List Bool) (f : length firsts ≡ 32)
   pub four_rows : (x0 x1 x2 x3 x4 : List ℕ) → x1 ≡ x0 ++ row 0 → x2 ≡ x1 ++ row 8 → x3 ≡ x2 ++ row 16 → x4 ≡ x3 ++ row 24 →
       x4 ≡ x0 ++ packed ts firsts seconds
   four_rows x0 x1 x2 x3 x4 e1 e2 e3 e4 =
-      let whole : packed ts firsts seconds ≡ row 0 ++ (row 8 ++ (row 16 ++ row 24)) =
-      part 0 (omega arith) tt ∙ ap (λ l. row 0 ++ l) (part 8 (omega arith) tt
-      ∙ ap (λ l. row 8 ++ l) (part 16 (omega arith) tt
-      ∙ ap (λ l. row 16 ++ l) (part 24 (omega arith) tt ∙ ap (λ l. row 24 ++ l) last ∙ append-nil (row 24)))) in
-      e4 ∙ ap (λ x. x ++ row 24) (e3 ∙ ap (λ x. x ++ row 16) (e2 ∙ ap (λ x. x ++ row 8) e1))
-      ∙ append_assoc ((x0 ++ row 0) ++ row 8) (row 16) (row 24)
-      ∙ append_assoc (x0 ++ row 0) (row 8) (row 16 ++ row 24)
-      ∙ append_assoc x0 (row 0) (row 8 ++ (row 16 ++ row 24))
-      ∙ ap (λ l. x0 ++ l) (sym whole)
+      four_calls x0 x1 x2 x3 x4 (row 0) (row 8) (row 16) (row 24) e1 e2 e3 e4
+      ∙ ap (λ l. x0 ++ l) (sym (part 0 (omega arith) ∙ ap (λ l. row 0 ++ l) (part 8 (omega arith)
+      ∙ ap (λ l. row 8 ++ l) (part 16 (omega arith)
+      ∙ ap (λ l. row 16 ++ l) (part 24 (omega arith) ∙ ap (λ l. row 24 ++ l) last ∙ append-nil (row 24))))))

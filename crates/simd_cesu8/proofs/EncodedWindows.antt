@@ -139,13 +139,13 @@ module _ (f : Flavor) (window out : List ℕ) (n doubled end : ℕ) (le : n ≤ 
 
 -- ---- a window with zeros around it
 
-zeros_at : (n i : ℕ) → ◌≡◌ {A = ℕ} (get_or (replicate n 0) i 0) 0
+pub zeros_at : (n i : ℕ) → ◌≡◌ {A = ℕ} (get_or (replicate n 0) i 0) 0
 zeros_at zero i = refl
 zeros_at (suc n) zero = refl
 zeros_at (suc n) (suc i) = zeros_at n i
 
 -- Zeros behind a list change none of its elements, nor what is read past its end.
-padded : (xs rest : List ℕ) → ((i : ℕ) → ◌≡◌ {A = ℕ} (get_or rest i 0) 0) → (k : ℕ) → get_or (xs ++ rest) k 0 ≡ get_or xs k 0
+pub padded : (xs rest : List ℕ) → ((i : ℕ) → ◌≡◌ {A = ℕ} (get_or rest i 0) 0) → (k : ℕ) → get_or (xs ++ rest) k 0 ≡ get_or xs k 0
 padded [] rest zeros k = zeros k
 padded (x ∷ xs) rest zeros zero = refl
 padded (x ∷ xs) rest zeros (suc k) = padded xs rest zeros k

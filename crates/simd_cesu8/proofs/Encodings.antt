@@ -1,7 +1,5 @@
 -- The encoding of a text, from those of its scalar values.
-use Rattle.std.proofs.Common.{◌≡◌, ℕ, List, [], ◌∷◌, ◌++◌, refl, sym, ap, ◌∙◌, length, arith, append-nil}
-use Rattle.std.specs.Str.{chars}
-use Rattle.std.proofs.lemmas.Str.{chars-nil}
+use Rattle.std.proofs.Common.{◌≡◌, ℕ, List, [], ◌∷◌, ◌++◌, refl, ap, ◌∙◌}
 use Rattle.std.specs.List.{flat_map}
 use Rattle.std.proofs.lemmas.List.Concat.{flat_map-append}
 use Rattle.simd_cesu8.specs.Utf16.{units_of, units}
@@ -26,9 +24,3 @@ encoding_append f s t =
 pub encoding_cons : (f : Flavor) (c : ℕ) (text : List ℕ) →
     encoding f (c ∷ text) ≡ encoding f (c ∷ []) ++ encoding f text
 encoding_cons f c text = encoding_append f (c ∷ []) text
-
--- Nothing is left to encode after the last byte.
-pub nothing_left : (f : Flavor) (whole rest out : List ℕ) → length rest ≡ 0 → whole ≡ out ++ encoding f (chars rest) →
-    out ≡ whole
-nothing_left f whole [] out empty whole_is = sym (whole_is ∙ rw (chars-nil, encoding_nil f) (append-nil out))
-nothing_left f whole (b ∷ rest) out empty whole_is = absurd (omega arith)

@@ -1,12 +1,27 @@
 -- Bytes that look like an encoded character begin with one.
 use Rattle.std.proofs.Common.{◌≡◌, ℕ, ◌+◌, ◌-◌, ◌<◌, ◌≤◌, List, [], ◌∷◌, ◌++◌, refl, sym, ap, ◌∙◌, subst, inl, inr, ⊎_elim, arith, length, drop, get_or}
 use Rattle.std.proofs.lemmas.Bool.{cases_eq, cases_lt}
+use Rattle.std.proofs.Math.Seq.{drop-append_seam}
 use Rattle.simd_cesu8.specs.Text.{IsScalarValue, utf8_of}
 use Rattle.simd_cesu8.specs.Encoding.{Flavor, Mutf8, encoding, short_form}
-use Rattle.simd_cesu8.specs.Reading.{two_byte_value, three_byte_value, pair_value}
-use Rattle.simd_cesu8.specs.Internal.{BeginsInLengths, IsContinuation, EndsPair}
+use Rattle.simd_cesu8.specs.Reading.{BeginsWith, width, two_byte_value, three_byte_value, pair_value}
+use Rattle.simd_cesu8.specs.Internal.{IsContinuation, EndsPair}
 use Rattle.simd_cesu8.proofs.Shapes.{IsTwo, IsThree, IsPair, utf8_of_one, utf8_of_two, utf8_of_three, utf8_of_pair}
 use Rattle.simd_cesu8.proofs.Forms.{encoding_one, encoding_two, encoding_three, encoding_pair}
+
+-- A character begins the bytes: its encoding takes m of them, and its UTF-8 takes n.
+pub record BeginsInLengths (f : Flavor) (bytes : List ℕ) (m n : ℕ) : Type 0 where
+  pub character : ℕ
+  pub rest : List ℕ
+  pub begins : BeginsWith f bytes character rest
+  pub encoded : width f character ≡ m
+  pub in_utf8 : length (utf8_of character) ≡ n
+
+-- The bytes after those that it takes are the rest.
+pub rest_is : (f : Flavor) (bytes : List ℕ) (m n : ℕ) → (found : BeginsInLengths f bytes m n) → drop m bytes ≡ found.rest
+rest_is f bytes m n found =
+    ap (λ i. drop i bytes) (sym found.encoded) ∙ ap (drop (width f found.character)) found.begins.bytes_are
+    ∙ drop-append_seam (encoding f (found.character ∷ [])) found.rest
 
 -- a character whose encoding and UTF-8 are these bytes
 unchanged : (f : Flavor) (c n : ℕ) (bytes front : List ℕ) → IsScalarValue c → bytes ≡ front ++ drop n bytes →

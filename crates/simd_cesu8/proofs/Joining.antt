@@ -1,17 +1,17 @@
 -- What joining keeps, a step at a time.
-use Rattle.std.proofs.Common.{◌≡◌, ℕ, zero, suc, ◌+◌, ◌-◌, ◌<◌, ◌≤◌, List, [], ◌∷◌, ◌++◌, refl, sym, ap, ◌∙◌, subst, arith, length, take, drop, append_assoc, append-nil, length-append, inl, replicate}
+use Rattle.std.proofs.Common.{◌≡◌, ℕ, zero, suc, ◌+◌, ◌-◌, ◌<◌, ◌≤◌, List, [], ◌∷◌, ◌++◌, refl, sym, ap, ◌∙◌, subst, arith, length, take, drop, append_assoc, append-nil, length-append, inl, inr, replicate}
 use Rattle.std.proofs.lemmas.List.{take-append-drop, take-append-le, length-take-le}
 use Rattle.std.proofs.lemmas.List.Concat.{flat_map-append}
 use Rattle.std.proofs.Math.Seq.{take-append_seam, take-append-add, take-length}
 use Rattle.simd_cesu8.specs.Text.{utf8_of}
 use Rattle.simd_cesu8.specs.Utf16.{units_of}
-use Rattle.simd_cesu8.specs.Encoding.{Flavor, Mutf8, encoding, form}
-use Rattle.simd_cesu8.specs.Internal.{BeginsInLengths}
+use Rattle.simd_cesu8.specs.Encoding.{Flavor, Cesu8, Mutf8, encoding, form, IsEncodedOtherwise}
+use Rattle.simd_cesu8.specs.Reading.{width}
 use Rattle.simd_cesu8.specs.Joining.{Part, Stays, Changes, AreParts, encoded_part, utf8_part, IsJoined, IsJoinedSoFar, KeepsJoined, nulls, HasPair, HasNull, Joins, second_third_fifth_sixth}
 use Rattle.simd_cesu8.proofs.Lengths.{Change, same, longer, change}
-use Rattle.simd_cesu8.proofs.Appended.{rest_is, pair_is, null_is}
-use Rattle.simd_cesu8.proofs.Found.{found_null, found_pair}
-use Rattle.simd_cesu8.proofs.Shapes.{shape}
+use Rattle.simd_cesu8.proofs.Found.{BeginsInLengths, rest_is, found_null, found_pair}
+use Rattle.simd_cesu8.proofs.Shapes.{Shape, one, two, three, pair, shape, utf8_of_one, utf8_of_two, utf8_of_three, utf8_of_pair}
+use Rattle.simd_cesu8.proofs.Forms.{encoding_pair}
 
 AreParts_append : (f : Flavor) (parts more : List Part) → AreParts f parts → AreParts f more → AreParts f (parts ++ more)
 AreParts_append f [] more are_parts more_are_parts = more_are_parts
@@ -110,6 +110,20 @@ written_whole room written behind i n fits long =
     written_at room written behind i n fits (omega arith)
     ∙ ap (λ bs. take i room ++ bs) (ap (λ m. take m written) (sym long) ∙ take-length written)
 
+-- A character of six bytes with four of UTF-8 is what joins its digits.
+pair_is : (f : Flavor) (bytes written : List ℕ) → (found : BeginsInLengths f bytes 6 4) →
+    Shape found.character → Joins (second_third_fifth_sixth bytes) written → written ≡ utf8_of found.character
+pair_is f bytes written found (one ascii) joins =
+    absurd (omega (arith, found.in_utf8, ap length (utf8_of_one _ ascii)))
+pair_is f bytes written found (two x y digits) joins =
+    absurd (omega (arith, found.in_utf8, ap length (utf8_of_two _ x y digits)))
+pair_is f bytes written found (three x y z digits) joins =
+    absurd (omega (arith, found.in_utf8, ap length (utf8_of_three _ x y z digits)))
+pair_is f bytes written found (pair w x y z digits) joins =
+    joins found.character w x y z digits
+    (ap second_third_fifth_sixth
+    (found.begins.bytes_are ∙ ap (λ bs. bs ++ found.rest) (encoding_pair f found.character w x y z digits)))
+
 -- A surrogate pair that was joined.
 pub keeps_pair : (f : Flavor) (rest out after four new : List ℕ) → 6 ≤ length rest → HasPair rest →
     Joins (second_third_fifth_sixth rest) four → after ≡ drop 6 rest → new ≡ out ++ four → KeepsJoined f rest out after new
@@ -117,6 +131,25 @@ keeps_pair f rest out after four new long has_pair joins after_is new_is =
     let found = found_pair f rest long has_pair.lead has_pair.high.0 has_pair.high.1 has_pair.ends in
     keeps_changed f rest out after four new 6 4 (omega arith) found
     (pair_is f rest four found (shape found.character found.begins.scalar) joins) after_is new_is
+
+-- Below 80 (hexadecimal), only 0 is encoded otherwise.
+otherwise_null : (f : Flavor) (c : ℕ) → c < 0x80 → IsEncodedOtherwise f c → c ≡ 0
+otherwise_null Cesu8 c ascii high = absurd (omega arith)
+otherwise_null Mutf8 c ascii (inl null) = null
+otherwise_null Mutf8 c ascii (inr high) = absurd (omega arith)
+
+-- A character of two bytes with one of UTF-8 is null.
+null_is : (f : Flavor) (c : ℕ) → width f c ≡ 2 → length (utf8_of c) ≡ 1 → Shape c → Change f c → 0 ∷ [] ≡ utf8_of c
+null_is f c two_bytes one_byte (one ascii) (same _ encoded) =
+    absurd (omega (arith, two_bytes, one_byte, ap length encoded))
+null_is f c two_bytes one_byte (one ascii) (longer otherwise _ _) =
+    rw (utf8_of_one c ascii) (ap (λ d. d ∷ []) (sym (otherwise_null f c ascii otherwise)))
+null_is f c two_bytes one_byte (two x y digits) _ =
+    absurd (omega (arith, one_byte, ap length (utf8_of_two c x y digits)))
+null_is f c two_bytes one_byte (three x y z digits) _ =
+    absurd (omega (arith, one_byte, ap length (utf8_of_three c x y z digits)))
+null_is f c two_bytes one_byte (pair w x y z digits) _ =
+    absurd (omega (arith, one_byte, ap length (utf8_of_pair c w x y z digits)))
 
 -- A null character that was joined.
 pub keeps_null : (f : Flavor) (rest out after new : List ℕ) → 2 ≤ length rest → HasNull f rest → after ≡ drop 2 rest →

@@ -20,6 +20,30 @@ equal a b = ones (eqb a b)
 abbrev pub below : ℕ → ℕ → ℕ
 below a b = ones (ltb a b)
 
+-- Maps that agree on each element are equal.
+pub map_agree : {X Y : Type 0} (f g : X → Y) (xs : List X) → Each1 (λ x. f x ≡ g x) xs → map f xs ≡ map g xs
+map_agree f g [] h = refl
+map_agree f g (x ∷ xs) h = λ i. h.0 i ∷ map_agree f g xs h.1 i
+
+-- ---- a choice by a comparison
+
+pub chosen : (t : Bool) (m n : ℕ) → cond (top 7 (ones t)) m n ≡ cond t m n
+chosen true m n = refl
+chosen false m n = refl
+
+chosen_of : (t : ℕ → ℕ → Bool) (y m n : ℕ) (xs : List ℕ) →
+    sel_l (map (top 7) (zip2 (λ a b. ones (t a b)) xs (replicate (length xs) y))) (replicate (length xs) m) (replicate (length xs) n)
+    ≡ map (λ x. cond (t x y) m n) xs
+chosen_of t y m n [] = refl
+chosen_of t y m n (x ∷ xs) = λ i. chosen (t x y) m n i ∷ chosen_of t y m n xs i
+
+-- Choosing one of two numbers by a comparison with one byte.
+pub chosen_lanes : (size : ℕ) (t : ℕ → ℕ → Bool) (y m n : ℕ) (xs : List ℕ) → length xs ≡ size →
+    sel_l (map (top 7) (zip2 (λ a b. ones (t a b)) xs (replicate size y))) (replicate size m) (replicate size n) ≡ map (λ x. cond (t x y) m n) xs
+chosen_lanes size t y m n xs long =
+    subst (λ k. sel_l (map (top 7) (zip2 (λ a b. ones (t a b)) xs (replicate k y))) (replicate k m) (replicate k n) ≡ map (λ x. cond (t x y) m n) xs)
+    long (chosen_of t y m n xs)
+
 -- ---- the greater and the lesser of two lanes
 
 -- Where P holds of a lane of one of two vectors, it holds of one of the vector that f makes of them.
@@ -128,12 +152,12 @@ any_passes p lanes bits is =
       (λ q. ap not (ne_eqb _ _ (λ e. tells.1 q (sym is ∙ e)))),
     )
 
--- A comparison with F0 tells of each lane whether it is F0 or more.
-pub lead_bits : (n : ℕ) (lanes : List ℕ) → length lanes ≡ n → n ≤ 64 →
-    mask_l (map (top 7) (zip2 (λ a b. ones (leb a b)) (replicate n 0xF0) lanes)) % 2 ^ 64 ≡ mask_l (map is_lead lanes)
-lead_bits n lanes long small =
-    ap (λ ms. mask_l ms % 2 ^ 64) (tops_compared w8 leb (replicate n 0xF0) lanes ∙ zip2_splat_left leb 0xF0 n lanes long)
-    ∙ mask_l-mod (map is_lead lanes) 64 (omega (arith, long, small, length-map lanes is_lead))
+-- A comparison with a number tells of each lane whether it is that or more.
+pub least_bits : (least n : ℕ) (lanes : List ℕ) → length lanes ≡ n → n ≤ 64 →
+    mask_l (map (top 7) (zip2 (λ a b. ones (leb a b)) (replicate n least) lanes)) % 2 ^ 64 ≡ mask_l (map (leb least) lanes)
+least_bits least n lanes long small =
+    ap (λ ms. mask_l ms % 2 ^ 64) (tops_compared w8 leb (replicate n least) lanes ∙ zip2_splat_left leb least n lanes long)
+    ∙ mask_l-mod (map (leb least) lanes) 64 (omega (arith, long, small, length-map lanes (leb least)))
 
 abbrev pub four_vector : ℕ → List ℕ → List ℕ
 four_vector n bytes = zip2 equal (zip2 bit_and bytes (replicate n 0xF8)) (replicate n 0xF0)

@@ -3,7 +3,16 @@ pub mod Borders
 pub mod Shapes
 pub mod Forms
 pub mod Encodings
-mod Fronts
+pub mod FrontWidths
+pub mod WidthTests
+pub mod DecodedBytes
+pub mod WindowPlaces
+pub mod PlaceBorders
+pub mod DecodedText
+pub mod Savings
+pub mod Damage
+pub mod DecodedPieces
+pub mod Codes
 pub mod Lengths
 pub mod EncodedLength
 pub mod Elements
@@ -11,7 +20,6 @@ pub mod Counts
 pub mod Needs
 pub mod Patterns
 pub mod Found
-pub mod MaskedWord
 pub mod NoneFound
 pub mod Unique
 pub mod Words
@@ -20,7 +28,6 @@ pub mod Windows
 pub mod Lanes
 pub mod Chunks
 pub mod Decoding
-pub mod Appended
 pub mod Joining
 pub mod PairWords
 pub mod JoinedText
@@ -49,3 +56,13 @@ pub mod LossyTexts
 pub mod Below
 pub mod UnitOrder
 pub mod LossyBorrowing
+pub mod StartCodes
+pub mod DecodedParts
+pub mod LaneTests
+pub mod FirstLanes
+pub mod DecodedBlocks
+pub mod StartLanes
+pub mod DecodedRows
+pub mod SavedLanes
+pub mod SavedRest
+pub mod DecodedWindows

@@ -1,11 +1,10 @@
 -- In UTF-8 a replaced byte only lengthens the lossy reading, so that equals its input only where no byte
 -- of the input is written otherwise.
-use Rattle.std.proofs.Common.{◌≡◌, ℕ, true, ◌+◌, ◌*◌, ◌/◌, ◌%◌, ◌<◌, ◌≤◌, ◌⊎◌, ◌≢◌, List, [], ◌∷◌, ◌++◌, refl, sym, ap, ◌∙◌, subst, inl, inr, ⊎_elim, arith, length, length-append}
+use Rattle.std.proofs.Common.{◌≡◌, ℕ, ◌+◌, ◌*◌, ◌/◌, ◌%◌, ◌<◌, ◌≤◌, ◌⊎◌, ◌≢◌, List, [], ◌∷◌, ◌++◌, refl, sym, ap, ◌∙◌, subst, inl, inr, ⊎_elim, arith, length, length-append}
 use Rattle.std.specs.Str.{chars, IsUtf8}
 use Rattle.simd_cesu8.specs.Text.{IsScalarValue, IsText, utf8_of, utf8}
 use Rattle.simd_cesu8.specs.Encoding.{Flavor, Cesu8, Mutf8, encoding, IsEncodedOtherwise, NeedsEncoding}
 use Rattle.simd_cesu8.specs.Reading.{NoneBegins, reading, lossy_length, IsLenientLossyReading}
-use Rattle.simd_cesu8.specs.Internal.{Read}
 use Rattle.simd_cesu8.specs.Class.{IsUnchangedUtf8}
 use Rattle.simd_cesu8.proofs.StdUtf8.{IsUtf8Of_chars, not_utf8_of}
 use Rattle.simd_cesu8.proofs.Shapes.{Shape, one, two, three, pair, shape, utf8_of_one, utf8_of_pair}
@@ -15,8 +14,7 @@ use Rattle.simd_cesu8.proofs.Elements.{any_cons, any_nil}
 use Rattle.simd_cesu8.proofs.Needs.{needs_by_bytes}
 use Rattle.simd_cesu8.proofs.NoneFound.{none_by_lead, none_by_zero}
 use Rattle.simd_cesu8.proofs.EncodedTexts.{reading_encoding}
-use Rattle.simd_cesu8.proofs.Decoding.{step_length}
-use Rattle.simd_cesu8.proofs.Appended.{lossy_length_replaced}
+use Rattle.simd_cesu8.proofs.Decoding.{lossy_length_character, lossy_length_replaced}
 
 -- The text of the lossy reading has the bytes of its length.
 pub length_of_reading : (f : Flavor) (bytes text : List ℕ) → IsUtf8 text → chars text ≡ reading f bytes →
@@ -24,10 +22,6 @@ pub length_of_reading : (f : Flavor) (bytes text : List ℕ) → IsUtf8 text →
 unfolding lossy_length
 length_of_reading f bytes text is_utf8 chars_are =
     sym (ap length (IsUtf8Of_chars text is_utf8).1) ∙ ap (λ cs. length (utf8 cs)) chars_are
-
-replaced_adds : (f : Flavor) (b : ℕ) (bytes : List ℕ) → NoneBegins f (b ∷ bytes) →
-    lossy_length f (b ∷ bytes) ≡ 3 + lossy_length f bytes
-replaced_adds f b bytes none = lossy_length_replaced f (b ∷ bytes) (omega arith) none
 
 -- a lead byte of four, and a continuation byte
 none_begins : (f : Flavor) (b : ℕ) (bytes : List ℕ) → 0x80 ≤ b → (b < 0xC0) ⊎ (0xF0 ≤ b) → NoneBegins f (b ∷ bytes)
@@ -40,10 +34,10 @@ four_add : (f : Flavor) (a b d e : ℕ) (bytes : List ℕ) → 0xF0 ≤ a → 0x
 four_add f a b d e bytes lead b_low b_high d_low d_high e_low e_high =
     omega (
       arith,
-      replaced_adds f a (b ∷ d ∷ e ∷ bytes) (none_begins f a _ (omega arith) (inr lead)),
-      replaced_adds f b (d ∷ e ∷ bytes) (none_begins f b _ b_low (inl b_high)),
-      replaced_adds f d (e ∷ bytes) (none_begins f d _ d_low (inl d_high)),
-      replaced_adds f e bytes (none_begins f e _ e_low (inl e_high)),
+      lossy_length_replaced f a (b ∷ d ∷ e ∷ bytes) (none_begins f a _ (omega arith) (inr lead)),
+      lossy_length_replaced f b (d ∷ e ∷ bytes) (none_begins f b _ b_low (inl b_high)),
+      lossy_length_replaced f d (e ∷ bytes) (none_begins f d _ d_low (inl d_high)),
+      lossy_length_replaced f e bytes (none_begins f e _ e_low (inl e_high)),
     )
 
 -- A scalar value that is encoded otherwise is longer in the reading of its UTF-8, and the others are as long.
@@ -51,7 +45,7 @@ null_longer : (f : Flavor) (c : ℕ) (bytes : List ℕ) → c < 0x80 → IsEncod
     1 + lossy_length f bytes < lossy_length f (c ∷ bytes)
 null_longer Cesu8 c bytes ascii otherwise = absurd (omega arith)
 null_longer Mutf8 c bytes ascii (inl null) =
-    omega (arith, replaced_adds Mutf8 c bytes (none_by_zero Mutf8 (c ∷ bytes) refl null))
+    omega (arith, lossy_length_replaced Mutf8 c bytes (none_by_zero Mutf8 (c ∷ bytes) refl null))
 null_longer Mutf8 c bytes ascii (inr high) = absurd (omega arith)
 
 reading_longer_by : (f : Flavor) (c : ℕ) (bytes : List ℕ) → Shape c → IsEncodedOtherwise f c →
@@ -73,8 +67,8 @@ reading_longer_by f c bytes (pair w x y z digits) otherwise =
 as_long : (f : Flavor) (c : ℕ) (bytes : List ℕ) → IsScalarValue c → encoding f (c ∷ []) ≡ utf8_of c →
     lossy_length f (utf8_of c ++ bytes) ≡ length (utf8_of c) + lossy_length f bytes
 as_long f c bytes scalar encoded =
-    step_length f true (utf8_of c ++ bytes) bytes c
-    (Read (record { scalar = scalar; bytes_are = ap (λ bs. bs ++ bytes) (sym encoded) }))
+    lossy_length_character f (utf8_of c ++ bytes) bytes c
+    (record { scalar = scalar; bytes_are = ap (λ bs. bs ++ bytes) (sym encoded) })
 
 -- The reading of a text's UTF-8 is no shorter than that, and longer where the text needs encoding.
 record Sizes (f : Flavor) (text : List ℕ) : Type 0 where

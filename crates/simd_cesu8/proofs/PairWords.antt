@@ -1,12 +1,11 @@
 -- The words by which a surrogate pair is found and joined: its six bytes and two more.
-use Rattle.std.proofs.Common.{◌≡◌, ℕ, ◌&&◌, ◌+◌, ◌*◌, ◌/◌, ◌%◌, ◌^◌, ◌<◌, ◌≤◌, [], ◌∷◌, refl, sym, ap, ◌∙◌, arith, bit_and, eqb, leb, ltb, w32}
+use Rattle.std.proofs.Common.{◌≡◌, ℕ, true, ◌&&◌, ◌+◌, ◌*◌, ◌/◌, ◌%◌, ◌^◌, ◌<◌, ◌≤◌, [], ◌∷◌, refl, sym, ap, ◌∙◌, arith, bit_and, eqb, leb, ltb, w32}
 use Rattle.std.specs.Int.{to_le_bytes}
-use Rattle.std.proofs.lemmas.Bool.{agree_below_at, eq-eqb}
+use Rattle.std.proofs.lemmas.Bool.{agree_below_at, eq-eqb, and_parts, leb-true, ltb-true}
 use Rattle.std.proofs.lemmas.Nat.{and_mask, and_block, and_le_r}
 use Rattle.simd_cesu8.specs.Text.{utf8_of}
 use Rattle.simd_cesu8.specs.Internal.{EndsPair}
 use Rattle.simd_cesu8.specs.Joining.{word_of}
-use Rattle.simd_cesu8.proofs.MaskedWord.{between, continuation_test, low_surrogate_test}
 use Rattle.simd_cesu8.proofs.Shapes.{IsPair, utf8_of_pair}
 
 -- a word's mask is that of each of its bytes
@@ -33,8 +32,19 @@ masked a b d e g h more a_byte b_byte d_byte e_byte g_byte h_byte =
     ) (omega arith)
 
 -- a mask tests a range
+continuation_test : (x : ℕ) → x < 0x100 → eqb (bit_and x 0xC0) 0x80 ≡ (leb 0x80 x && ltb x 0xC0)
+continuation_test x h = agree_below_at (λ x. eqb (bit_and x 0xC0) 0x80) (λ x. leb 0x80 x && ltb x 0xC0) 0x100 x refl h
+
+low_surrogate_test : (x : ℕ) → x < 0x100 → eqb (bit_and x 0xF0) 0xB0 ≡ (leb 0xB0 x && ltb x 0xC0)
+low_surrogate_test x h = agree_below_at (λ x. eqb (bit_and x 0xF0) 0xB0) (λ x. leb 0xB0 x && ltb x 0xC0) 0x100 x refl h
+
 high_surrogate_test : (x : ℕ) → x < 0x100 → eqb (bit_and x 0xF0) 0xA0 ≡ (leb 0xA0 x && ltb x 0xB0)
 high_surrogate_test x h = agree_below_at (λ x. eqb (bit_and x 0xF0) 0xA0) (λ x. leb 0xA0 x && ltb x 0xB0) 0x100 x refl h
+
+between : (low high x : ℕ) → (leb low x && ltb x high) ≡ true → (low ≤ x) × (x < high)
+between low high x passes =
+    let parts = and_parts (leb low x) (ltb x high) passes in
+    (leb-true low x parts.0, ltb-true x high parts.1)
 
 -- The six bytes of a surrogate pair, if their word passes the test.
 pub record IsPairBytes (a b d e g h : ℕ) : Type 0 where

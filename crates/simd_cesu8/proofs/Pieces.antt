@@ -1,7 +1,6 @@
 -- Text that is read a piece at a time.
-use Rattle.std.proofs.Common.{◌≡◌, ℕ, ◌+◌, ◌-◌, Bool, true, false, List, [], ◌++◌, Option, Some, IfSome, Result, Ok, Err, IfOk, MatchResult, is_ok, true≢false, refl, sym, ap, ◌∙◌, subst, arith, length, take, drop, append_assoc, length-append, length-drop}
+use Rattle.std.proofs.Common.{◌≡◌, ℕ, ◌+◌, ◌-◌, Bool, true, false, List, [], ◌++◌, Result, Ok, Err, IfOk, MatchResult, is_ok, true≢false, refl, sym, ap, ◌∙◌, subst, arith, length, take, drop, append_assoc, length-append, length-drop}
 use Rattle.std.specs.Str.{chars, IsUtf8}
-use Rattle.std.proofs.Math.Seq.{drop-append_seam}
 use Rattle.std.proofs.lemmas.List.{take-append-drop}
 use Rattle.simd_cesu8.specs.Text.{utf8}
 use Rattle.simd_cesu8.specs.Encoding.{Flavor, encoding}
@@ -15,13 +14,12 @@ use Rattle.simd_cesu8.proofs.StdUtf8.{IsUtf8Of_chars, IsUtf8_utf8, chars_utf8}
 use Rattle.simd_cesu8.proofs.Encodings.{encoding_append}
 use Rattle.simd_cesu8.proofs.EncodedTexts.{reading_text}
 use Rattle.simd_cesu8.proofs.Unique.{no_reading}
-use Rattle.simd_cesu8.proofs.Decoding.{IsText_append, utf8_append, nothing_read, all_read, lossy_length_nil}
+use Rattle.simd_cesu8.proofs.Decoding.{IsText_append, utf8_append, all_read, lossy_length_nil}
 
--- A piece adds its text.
-pub more_read : (f : Flavor) (lossy : Bool) (bytes rest after old out piece new : List ℕ) →
-    IsReadSoFar f lossy bytes rest old out → IsPiece f lossy rest after piece → new ≡ out ++ piece →
-    IsReadSoFar f lossy bytes after old new
-more_read f lossy bytes rest after old out piece new so_far next new_is = record {
+-- What is read after what was read so far adds its text.
+pub more_read : (f : Flavor) (lossy : Bool) (bytes rest after old out new : List ℕ) →
+    IsReadSoFar f lossy bytes rest old out → IsReadSoFar f lossy rest after out new → IsReadSoFar f lossy bytes after old new
+more_read f lossy bytes rest after old out new so_far next = record {
   text = so_far.text ++ next.text;
   scalars = IsText_append so_far.text next.text so_far.scalars next.scalars;
   lossy_reading = so_far.lossy_reading ∙ ap (λ cs. so_far.text ++ cs) next.lossy_reading
@@ -30,9 +28,20 @@ more_read f lossy bytes rest after old out piece new so_far next new_is = record
       ∙ ap (λ bs. encoding f so_far.text ++ bs) (next.strict_reading strict)
       ∙ rw (encoding_append f so_far.text next.text)
       (sym (append_assoc (encoding f so_far.text) (encoding f next.text) after));
-  written = new_is ∙ ap (λ bs. out ++ bs) next.written ∙ ap (λ bs. bs ++ utf8 next.text) so_far.written
+  written = next.written ∙ ap (λ bs. bs ++ utf8 next.text) so_far.written
       ∙ append_assoc old (utf8 so_far.text) (utf8 next.text)
       ∙ ap (λ bs. old ++ bs) (sym (utf8_append so_far.text next.text));
+}
+
+-- A piece that is appended is read after what was there.
+pub piece_appended : (f : Flavor) (lossy : Bool) (bytes rest piece old new : List ℕ) → IsPiece f lossy bytes rest piece →
+    new ≡ old ++ piece → IsReadSoFar f lossy bytes rest old new
+piece_appended f lossy bytes rest piece old new is_piece new_is = record {
+  text = is_piece.text;
+  scalars = is_piece.scalars;
+  lossy_reading = is_piece.lossy_reading;
+  strict_reading = is_piece.strict_reading;
+  written = new_is ∙ ap (λ bs. old ++ bs) is_piece.written;
 }
 
 -- Bytes that are the encoding of a text are a piece.
@@ -49,43 +58,47 @@ piece_of_encoding f lossy bytes text n is_utf8 reads =
       written = sym (IsUtf8Of_chars text is_utf8).1;
     }
 
--- So is a text whose encoding begins them.
-pub piece_of_front : (f : Flavor) (lossy : Bool) (bytes text more : List ℕ) (n : ℕ) → IsUtf8 text →
-    bytes ≡ encoding f (chars text) ++ more → n ≡ length (encoding f (chars text)) → IsPiece f lossy bytes (drop n bytes) text
-piece_of_front f lossy bytes text more n is_utf8 bytes_are n_is =
-    let rest_is : drop n bytes ≡ more =
-    ap (λ k. drop k bytes) n_is ∙ ap (drop (length (encoding f (chars text)))) bytes_are
-    ∙ drop-append_seam (encoding f (chars text)) more in
-    subst (λ rest. IsPiece f lossy bytes rest text) (sym rest_is) (record {
-      text = chars text;
-      scalars = (IsUtf8Of_chars text is_utf8).0;
-      lossy_reading = ap (reading f) bytes_are ∙ reading_text f (chars text) more (IsUtf8Of_chars text is_utf8).0;
-      strict_reading = λ _. bytes_are;
-      written = sym (IsUtf8Of_chars text is_utf8).1;
-    })
-
 -- What is read is UTF-8.
 pub piece_utf8 : (f : Flavor) (lossy : Bool) (bytes rest piece : List ℕ) → IsPiece f lossy bytes rest piece → IsUtf8 piece
 piece_utf8 f lossy bytes rest piece read = subst IsUtf8 (sym read.written) (IsUtf8_utf8 read.text read.scalars)
 
--- A fault after a piece is one of the whole.
+-- A fault after a piece is one of the whole,
 pub fault_after : (f : Flavor) (lossy : Bool) (bytes rest old out : List ℕ) → IsReadSoFar f lossy bytes rest old out →
-    lossy ≡ false → HasFault f rest → HasNoStrictReading f bytes
-fault_after f lossy bytes rest old out so_far strict fault =
-    let whole : bytes ≡ encoding f (so_far.text ++ fault.before.text) ++ fault.rest =
-    so_far.strict_reading strict ∙ ap (λ bs. encoding f so_far.text ++ bs) (fault.before.strict_reading refl)
-    ∙ sym (append_assoc (encoding f so_far.text) (encoding f fault.before.text) fault.rest)
-    ∙ ap (λ bs. bs ++ fault.rest) (sym (encoding_append f so_far.text fault.before.text)) in
-    no_reading f bytes (so_far.text ++ fault.before.text) fault.rest
-    (IsText_append so_far.text fault.before.text so_far.scalars fault.before.scalars) whole fault.some fault.none_begins
+    lossy ≡ false → HasFault f rest → HasFault f bytes
+fault_after f lossy bytes rest old out so_far strict fault = record {
+  rest = fault.rest;
+  piece = utf8 (so_far.text ++ fault.before.text);
+  before = record {
+    text = so_far.text ++ fault.before.text;
+    scalars = IsText_append so_far.text fault.before.text so_far.scalars fault.before.scalars;
+    lossy_reading = so_far.lossy_reading ∙ ap (λ text. so_far.text ++ text) fault.before.lossy_reading
+        ∙ sym (append_assoc so_far.text fault.before.text (reading f fault.rest));
+    strict_reading = λ _. so_far.strict_reading strict ∙ ap (λ bs. encoding f so_far.text ++ bs) (fault.before.strict_reading refl)
+        ∙ sym (append_assoc (encoding f so_far.text) (encoding f fault.before.text) fault.rest)
+        ∙ ap (λ bs. bs ++ fault.rest) (sym (encoding_append f so_far.text fault.before.text));
+    written = refl;
+  };
+  some = fault.some;
+  none_begins = fault.none_begins;
+}
+
+-- and leaves it no strict reading.
+pub fault_of_whole : (f : Flavor) (bytes : List ℕ) → HasFault f bytes → HasNoStrictReading f bytes
+fault_of_whole f bytes fault =
+    no_reading f bytes fault.before.text fault.rest fault.before.scalars (fault.before.strict_reading refl) fault.some fault.none_begins
 
 -- So it is where the next piece is refused.
 pub refused_after : (f : Flavor) (lossy : Bool) (bytes rest old out : List ℕ) (fault : DecodeFault) →
     IsReadSoFar f lossy bytes rest old out → IfInvalid fault ((lossy ≡ false) × HasFault f rest) →
-    IfInvalid fault (HasNoStrictReading f bytes)
+    IfInvalid fault ((lossy ≡ false) × HasFault f bytes)
 refused_after f lossy bytes rest old out (Invalid error) so_far refused =
-    fault_after f lossy bytes rest old out so_far refused.0 refused.1
+    (refused.0, fault_after f lossy bytes rest old out so_far refused.0 refused.1)
 refused_after f lossy bytes rest old out (Memory error) so_far memory = memory
+
+pub refused_whole : (f : Flavor) (lossy : Bool) (bytes : List ℕ) (fault : DecodeFault) →
+    IfInvalid fault ((lossy ≡ false) × HasFault f bytes) → IfInvalid fault (HasNoStrictReading f bytes)
+refused_whole f lossy bytes (Invalid error) refused = fault_of_whole f bytes refused.1
+refused_whole f lossy bytes (Memory error) memory = memory
 
 -- The text of what was decoded into nothing.
 pub decoded_text : (f : Flavor) (lossy : Bool) (bytes old out : List ℕ) → old ≡ [] →
@@ -117,22 +130,6 @@ whole_length f bytes piece n read all =
       piece_length f bytes (drop n bytes) piece read,
       lossy_length_nil f (drop n bytes) (omega (arith, length-drop n bytes, all)),
     )
-
--- A fault of the bytes leaves them no strict reading.
-pub fault_of_whole : (f : Flavor) (bytes : List ℕ) → HasFault f bytes → HasNoStrictReading f bytes
-fault_of_whole f bytes = fault_after f false bytes bytes [] [] (nothing_read f false bytes []) refl
-
--- What is left after a front is what is dropped for it.
-pub rest_of_front : (bytes rest : List ℕ) → ((front : List ℕ) × (bytes ≡ front ++ rest)) →
-    drop (length bytes - length rest) bytes ≡ rest
-rest_of_front bytes rest front =
-    let long : length bytes - length rest ≡ length front.0 =
-    omega (arith, ap length front.1, length-append front.0 rest) in
-    ap (λ n. drop n bytes) long ∙ ap (drop (length front.0)) front.1 ∙ drop-append_seam front.0 rest
-
--- What holds of an answer that is there holds of it where it is known which.
-pub where_some : {T : Type 0} (answer : Option T) (x : T) (P : T → Type 0) → answer ≡ Some x → IfSome answer P → P x
-where_some answer x P is holds = subst (λ o. IfSome o P) is holds
 
 -- What holds of a value that is there holds of it where the error is mapped.
 pub where_mapped : {T E D : Type 0} (r : Result T E) (mapped : Result T D) (P Q : T → Type 0) (R : E → Type 0) →

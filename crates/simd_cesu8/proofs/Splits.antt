@@ -21,7 +21,7 @@ joined_pieces [] q are_pieces others = others
 joined_pieces (piece ∷ p) q are_pieces others = (are_pieces.0, joined_pieces p q are_pieces.1 others)
 
 -- A character that ends in the front begins the front alone.
-begins_front : (f : Flavor) (front back rest : List ℕ) (c : ℕ) → BeginsWith f (front ++ back) c rest → width f c ≤ length front →
+pub begins_front : (f : Flavor) (front back rest : List ℕ) (c : ℕ) → BeginsWith f (front ++ back) c rest → width f c ≤ length front →
     BeginsWith f front c (drop (width f c) front)
 begins_front f front back rest c begins inside = record {
   scalar = begins.scalar;

@@ -5,6 +5,8 @@ pub mod EncodedPlaces
 pub mod Class
 pub mod Kernels
 pub mod Reading
+pub mod DecodedPlaces
+pub mod DecodedLanes
 pub mod Cutting
 pub mod Cow
 pub mod Counted

@@ -1,6 +1,5 @@
 -- Text that is read a piece at a time.
 use Rattle.std.specs.Prelude.{◌≡◌, ℕ, ◌<◌, Bool, false, List, [], ◌++◌, length}
-use Rattle.std.specs.Str.{chars, IsUtf8}
 use Rattle.simd_cesu8.specs.Text.{IsText, utf8}
 use Rattle.simd_cesu8.specs.Encoding.{Flavor, encoding}
 use Rattle.simd_cesu8.specs.Reading.{NoneBegins, reading}
@@ -16,13 +15,6 @@ pub record IsReadSoFar (f : Flavor) (lossy : Bool) (bytes rest old new : List �
 -- A piece of text, in UTF-8, is read before the rest.
 abbrev pub IsPiece : Flavor → Bool → List ℕ → List ℕ → List ℕ → Type 0
 IsPiece f lossy bytes rest piece = IsReadSoFar f lossy bytes rest [] piece
-
--- The text begins what bytes were joined to, and so many of them are its encoding.
-pub record IsFront (f : Flavor) (joined : List ℕ) (read : ℕ) (text : List ℕ) : Type 0 where
-  pub some : 0 < read
-  pub is_utf8 : IsUtf8 text
-  pub encoded : read ≡ length (encoding f (chars text))
-  pub begins : (more : List ℕ) × (joined ≡ text ++ more)
 
 -- After some text no encoded character begins what is left.
 pub record HasFault (f : Flavor) (bytes : List ℕ) : Type 0 where

@@ -6,17 +6,18 @@ ghost use Rattle.std.specs.Prelude.{◌↔◌, IsTrue, Any};
 ghost use Rattle.simd_cesu8.specs.Class.{IsChangedByte};
 ghost use Rattle.simd_cesu8.specs.Internal.{flavor_of};
 
+mod continuation;
 mod decoder;
-mod encoded_character;
 mod encoder;
 mod joining;
 mod lengths;
+mod null_form;
 mod window;
 mod writers;
 
 use crate::implementation::active;
+pub use continuation::{character_start, is_continuation};
 pub use decoder::{decode_lossy, decode_strict, lossy_len};
-pub use encoded_character::{character_start, is_continuation};
 pub use encoder::{encode, encode_into};
 pub use lengths::encoded_len;
 pub use writers::{copy, copy_text};

@@ -8,3 +8,5 @@ pub mod flavors;
 pub mod full;
 #[cfg(test)]
 pub mod lossy_rows;
+#[cfg(test)]
+pub mod plain;

@@ -16,6 +16,8 @@ mod all_pairs;
 mod appending;
 #[cfg(test)]
 mod borders;
+#[cfg(test)]
+mod by_places;
 mod calls;
 #[cfg(test)]
 mod damage;
@@ -25,6 +27,8 @@ mod errors;
 mod every_place;
 #[cfg(test)]
 mod examples;
+#[cfg(test)]
+mod fragments;
 mod helpers;
 #[cfg(test)]
 mod java_strings;

@@ -21,10 +21,10 @@ mod blocks;
 mod rows;
 mod windows;
 
-use self::blocks::{OneByteNull, TwoByteNull};
 use self::windows::{SHORT, write_bytes, write_short};
 use super::Flavor;
 use super::lengths::encoded_len;
+use super::null_form::{OneByteNull, TwoByteNull};
 use super::writers::{append, copy, make_room};
 use std::alloc::{AllocError, Allocator};
 

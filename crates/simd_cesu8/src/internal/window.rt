@@ -4,18 +4,14 @@ ghost use Rattle.std.specs.Prelude.{◌+◌, ◌<◌, ◌≤◌, length, take, d
 ghost use Rattle.simd_cesu8.specs.Encoding.{Flavor as AnyFlavor};
 ghost use Rattle.simd_cesu8.specs.Internal.{flavor_of};
 ghost use Rattle.simd_cesu8.specs.Joining.{IsJoined};
-ghost use Rattle.simd_cesu8.specs.Pieces.{IsPiece, IsFront};
+ghost use Rattle.simd_cesu8.specs.Pieces.{IsPiece};
 
 use super::joining::{REACH, Room, WINDOW, join};
-use super::lengths::encoded_len;
-use super::{Flavor, character_start, contains_changed, is_continuation};
-use simdutf8::{basic, is_utf8};
+use super::{Flavor, contains_changed, is_continuation};
+use simdutf8::compat;
 
 /// How many bytes are no window's worth.
 pub const SHORT: usize = 64;
-
-/// How many bytes a fault is sought in no further.
-const NEAR: usize = 16;
 
 /// The text of the first bytes, and how many they are.
 #[derive(Drop)]
@@ -45,49 +41,10 @@ pub fn read_window<'a>(
         return None;
     }
     let joined = &room[..written];
-    match basic::from_utf8(joined) {
+    match compat::from_utf8(joined) {
         Ok(text) => Some(Piece { read, text }),
-        Err(_) => read_front(flavor, joined),
-    }
-}
-
-/// Reads what stands before the first fault of the joined bytes, or a little less. So many bytes as
-/// its encoding has were joined to it. It is not inlined, since most windows have no fault.
-#[inline(never)]
-fn read_front(flavor: Flavor, joined: &[u8]) -> Option<Piece<'_>>
-    ensures { IfSome result (λ piece.
-        IsFront (flavor_of flavor) joined.now piece.read piece.text.now) }
-{
-    if joined.len() < SHORT {
-        return None;
-    }
-    match basic::from_utf8(&joined[..front_end(joined)]) {
-        Ok(text) => {
-            let read = encoded_len(flavor, text);
-            if read == 0 {
-                return None;
-            }
-            Some(Piece { read, text })
-        }
         Err(_) => None,
     }
-}
-
-/// A place before the first fault of the joined bytes, and mostly near it.
-fn front_end(joined: &[u8]) -> usize
-    ensures { result ≤ length joined.now }
-{
-    let mut low = 0;
-    let mut high = joined.len();
-    while high - low > NEAR {
-        let middle = character_start(joined, low + (high - low) / 2);
-        if middle > low && is_utf8(&joined[low..middle]) {
-            low = middle;
-        } else {
-            high = middle;
-        }
-    }
-    low
 }
 
 /// Joins the first bytes, up to the end of a character. Gives how many it read, and how many it

@@ -7,47 +7,8 @@ ghost use Rattle.simd_cesu8.specs.Encoding.{Flavor, Cesu8, Mutf8};
 ghost use Rattle.simd_cesu8.specs.EncodedPlaces.{is_lead, is_null, mask, six_bits, changed_at, inserted_at, is_doubled_at, packed, places, AreShuffles};
 
 use super::rows::Rows;
+use crate::internal::null_form::NullForm;
 use std::simd::prelude::*;
-
-/// The form of U+0000.
-pub trait NullForm {
-    ghost flavor: { Flavor };
-
-    /// Marks the bytes that are written as C0 80.
-    fn nulls(bytes: u8x32) -> u8x32
-        ensures { result ≡ map (λ b. mask (is_null flavor b)) bytes };
-}
-
-/// One byte, 00, as in CESU-8.
-pub struct OneByteNull;
-
-impl NullForm for OneByteNull {
-    ghost flavor = { Cesu8 };
-
-    #[inline(always)]
-    fn nulls(bytes: u8x32) -> u8x32
-        ensures { result ≡ map (λ b. mask (is_null Cesu8 b)) bytes }
-    {
-        let _ = bytes;
-        u8x32::splat(0)
-    }
-}
-
-/// Two bytes, C0 80, as in MUTF-8.
-pub struct TwoByteNull;
-
-impl NullForm for TwoByteNull {
-    ghost flavor = { Mutf8 };
-
-    #[inline(always)]
-    fn nulls(bytes: u8x32) -> u8x32
-        ensures { result ≡ map (λ b. mask (is_null Mutf8 b)) bytes }
-    {
-        bytes
-            .simd_eq(u8x32::splat(0))
-            .select(u8x32::splat(0xFF), u8x32::splat(0))
-    }
-}
 
 /// Writes a block, and gives the end of what is written for it.
 #[inline(always)]

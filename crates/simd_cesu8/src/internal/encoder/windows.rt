@@ -7,8 +7,9 @@
 ghost use Rattle.std.specs.Prelude.{◌≡◌, ℕ, ◌+◌, ◌-◌, ◌*◌, ◌<◌, ◌≤◌, ◌⊎◌, ◌∷◌, ◌++◌, length, take, replicate, slice_index, vec_len, vec_capacity};
 ghost use Rattle.simd_cesu8.specs.EncodedPlaces.{places, recoded, AreShuffles};
 
-use super::blocks::{NullForm, write_block, write_front};
+use super::blocks::{write_block, write_front};
 use super::rows::{Rows, rows};
+use crate::internal::null_form::NullForm;
 use crate::internal::writers::append;
 use std::alloc::Allocator;
 

@@ -1,33 +1,19 @@
 use Rattle.std.proofs.Common.{sym, subst, take}
 use Rattle.std.specs.Str.{chars, IsUtf8}
 use Rattle.std.proofs.lemmas.Bool.{iff_false}
-use Rattle.std.proofs.lemmas.Option.{IfSome_then}
 use Rattle.simd_cesu8.specs.Internal.{flavor_of}
 use Rattle.simd_cesu8.proofs.StdUtf8.{IsUtf8Of_chars_at}
 use Rattle.simd_cesu8.proofs.JoinedText.{joined_text}
 use Rattle.simd_cesu8.proofs.Pieces.{piece_of_encoding}
-use Rattle.simd_cesu8.proofs.Fronts.{front_within, front_is_piece}
 use Rattle.simd_cesu8.proofs.internal.window.read_window.Goals as goal
 
 pub returns-in-Ok-clause-text : goal.returns-in-Ok-clause-text
 returns-in-Ok-clause-text c lossy =
     let f = flavor_of c.args.flavor in
-    let of_chars = IsUtf8Of_chars_at (take c.join_window-read.result.1 c.join_window-read.new.room) c.in-Ok.text.now c.in-Ok.ensures.0 c.in-Ok.ensures.1 in
+    let of_chars = IsUtf8Of_chars_at (take c.join_window-read.result.1 c.join_window-read.new.room) c.in-Ok.text.now c.in-Ok.ensures.cases.0 c.in-Ok.ensures.cases.1 in
     piece_of_encoding f lossy c.args.bytes.now c.in-Ok.text.now c.join_window-read.result.0
-    (subst IsUtf8 (sym c.in-Ok.ensures.0) c.in-Ok.ensures.1) (
+    (subst IsUtf8 (sym c.in-Ok.ensures.cases.0) c.in-Ok.ensures.cases.1) (
       of_chars.0,
       joined_text f _ _ (chars c.in-Ok.text.now) c.join_window-read.ensures.joined
           (λ found. iff_false c.contains_changed.ensures c.if-contains_changed.false found) of_chars.0 of_chars.1,
     )
-
-pub returns-in-Err-clause-within : goal.returns-in-Err-clause-within
-returns-in-Err-clause-within c =
-    IfSome_then c.read_front.result c.read_front.ensures (λ piece front.
-    front_within (flavor_of c.args.flavor) c.args.bytes.now c.join_window-read.result.0 _ piece.read piece.text.now
-    c.join_window-read.ensures.joined (λ found. iff_false c.contains_changed.ensures c.if-contains_changed.false found) front)
-
-pub returns-in-Err-clause-text : goal.returns-in-Err-clause-text
-returns-in-Err-clause-text c =
-    IfSome_then c.read_front.result c.read_front.ensures (λ piece front. λ lossy.
-    front_is_piece (flavor_of c.args.flavor) lossy c.args.bytes.now c.join_window-read.result.0 _ piece.read piece.text.now
-    c.join_window-read.ensures.joined (λ found. iff_false c.contains_changed.ensures c.if-contains_changed.false found) front)

@@ -1,0 +1,172 @@
+-- What is read and written by windows.
+use Rattle.std.proofs.Common.{◌≡◌, ℕ, ◌+◌, ◌-◌, ◌*◌, ◌<◌, ◌≤◌, ◌⊎◌, ⊎_elim, Bool, true, false, ◌&&◌, ◌||◌, not, eqb, leb, List, [], ◌∷◌, ◌++◌, refl, sym, ap, ◌∙◌, arith, IsTrue, true≢false, map, get_or, length, take, drop, replicate, length-append, length-drop, zero-add, bit_and, bit_or}
+use Rattle.std.proofs.lemmas.Bool.{ne_eqb, eq-eqb, le-leb, lt-leb, cases_lt}
+use Rattle.simd_cesu8.specs.Encoding.{Flavor}
+use Rattle.simd_cesu8.specs.DecodedPlaces.{width_at, is_border_at, IsPadded, IsPaddedFor, is_damaged_at, decoded}
+use Rattle.simd_cesu8.specs.Pieces.{IsPiece, HasFault}
+use Rattle.simd_cesu8.specs.DecodedLanes.{start_code, AreStartCodes}
+use Rattle.std.specs.List.{range_with_len}
+use Rattle.std.proofs.lemmas.Simd.{get_or-put_chunk_below, get_or-put_chunk_at}
+use Rattle.std.proofs.lemmas.List.FromFn.{length-map-range_with_len, get_or-map-range_with_len}
+use lib.Lanes.{put_chunk}
+use Rattle.simd_cesu8.proofs.WindowPlaces.{decoded_split}
+use Rattle.std.proofs.lemmas.Slice.{take-put_mid}
+use borrow.Rule.Slice.PartMut.{put_mid, post_of}
+use Rattle.std.proofs.lemmas.List.{get_or_past, length-take-le}
+use Rattle.simd_cesu8.proofs.EncodedWindows.{zeros_at, padded}
+use Rattle.simd_cesu8.proofs.StartCodes.{start_at, over_one, over_two}
+use Rattle.simd_cesu8.proofs.PlaceBorders.{width_bounds, border_at_end}
+use Rattle.simd_cesu8.proofs.DecodedText.{padded_follows, padded_border}
+use Rattle.simd_cesu8.proofs.DecodedPieces.{padded_for, padded_take, border_behind, fault_at, lossy_piece, strict_piece}
+use Rattle.simd_cesu8.proofs.LaneTests.{no_bit_or, no_pair}
+
+-- ---- borders
+
+-- a pair reaches over two places more, and nothing else does
+by_bounds : (w n : ℕ) → (w ≤ 3) ⊎ (w ≡ 6) → 3 ≤ n → n < 6 → not (eqb w 6) ≡ leb w n
+by_bounds w n bounds low high =
+    ⊎_elim (λ (small : w ≤ 3). ap not (ne_eqb w 6 (λ six. omega arith)) ∙ sym (le-leb w n (omega arith)))
+    (λ (six : w ≡ 6). ap not (eq-eqb w 6 six) ∙ sym (lt-leb w n (omega arith))) bounds
+
+regroup : (a b c d e : Bool) → ((a && b) && ((e && d) && c)) ≡ (a && (b && (c && (d && e))))
+regroup false b c d e = refl
+regroup true false c d e = refl
+regroup true true false false false = refl
+regroup true true false false true = refl
+regroup true true false true false = refl
+regroup true true false true true = refl
+regroup true true true false false = refl
+regroup true true true false true = refl
+regroup true true true true false = refl
+regroup true true true true true = refl
+
+-- The codes of five places tell whether there is a border behind them.
+pub border_told : (f : Flavor) (window codes : List ℕ) (at : ℕ) → AreStartCodes f window (at + 5) codes →
+    eqb (bit_or (bit_or (get_or codes (at + 4) 0) (bit_and (get_or codes (at + 3) 0) 0x3C))
+    (bit_or (bit_or (bit_and (get_or codes at 0) 0x20) (bit_and (get_or codes (at + 1) 0) 0x20)) (bit_and (get_or codes (at + 2) 0) 0x20))) 0
+    ≡ is_border_at f window at
+border_told f window codes at are_codes =
+    let w = width_at f window in
+    let c : ℕ → ℕ = λ k. get_or codes k 0 in
+    let s = start_at f window in
+    let two = bit_and (c (at + 3)) 0x3C in
+    let p0 = bit_and (c at) 0x20 in
+    let p1 = bit_and (c (at + 1)) 0x20 in
+    let p2 = bit_and (c (at + 2)) 0x20 in
+    let told : (k : ℕ) → k < at + 5 → c k ≡ start_code f window k = are_codes in
+    let reach = λ (k n : ℕ) (near : k < at + 5) (low : 3 ≤ n) (high : n < 6).
+    ap (λ x. eqb (bit_and x 0x20) 0) (told k near) ∙ no_pair _ _ _ (s k) ∙ by_bounds (w k) n (width_bounds f window k) low high in
+    no_bit_or (bit_or (c (at + 4)) two) (bit_or (bit_or p0 p1) p2)
+    ∙ (λ i. no_bit_or (c (at + 4)) two i && no_bit_or (bit_or p0 p1) p2 i)
+    ∙ (λ i. (eqb (c (at + 4)) 0 && eqb two 0) && (no_bit_or p0 p1 i && eqb p2 0))
+    ∙ (λ i. ((ap (λ x. eqb x 0) (told (at + 4) (omega arith)) ∙ over_one _ _ _ (s (at + 4))) i
+    && (ap (λ x. eqb (bit_and x 0x3C) 0) (told (at + 3) (omega arith)) ∙ over_two _ _ _ (s (at + 3))) i)
+    && ((reach at 5 (omega arith) (omega arith) (omega arith) i && reach (at + 1) 4 (omega arith) (omega arith) (omega arith) i)
+    && reach (at + 2) 3 (omega arith) (omega arith) (omega arith) i))
+    ∙ regroup (leb (w (at + 4)) 1) (leb (w (at + 3)) 2) (leb (w (at + 2)) 3) (leb (w (at + 1)) 4) (leb (w at) 5)
+
+-- ---- a window between zeros
+
+zeros_then : (m : ℕ) (rest : List ℕ) → ((i : ℕ) → ◌≡◌ {A = ℕ} (get_or rest i 0) 0) → (i : ℕ) → ◌≡◌ {A = ℕ} (get_or (replicate m 0 ++ rest) i 0) 0
+zeros_then m rest zeros i = padded (replicate m 0) rest zeros i ∙ zeros_at m i
+
+-- Bytes that are copied behind five zeros, with zeros behind them.
+pub between_zeros : (window bytes front copied back : List ℕ) (m n : ℕ) → 5 + length bytes ≤ length window →
+    front ≡ replicate (length (take 5 window)) 0 → copied ≡ bytes → back ≡ replicate m 0 →
+    let whole = put_mid 5 (5 + length bytes - 5) (front ++ drop 5 window) copied in
+    n ≡ length whole - (5 + length bytes) → IsPadded bytes (put_mid (5 + length bytes) n whole back)
+between_zeros window bytes front copied back m n fits front_is copied_is back_is rest_is k =
+    let zeros : front ≡ 0 ∷ 0 ∷ 0 ∷ 0 ∷ 0 ∷ [] = front_is ∙ ap (λ l. replicate l 0) (length-take-le 5 window (omega arith)) in
+    let whole = put_mid 5 (5 + length bytes - 5) (front ++ drop 5 window) copied in
+    let begun : take (5 + length bytes) whole ≡ 0 ∷ 0 ∷ 0 ∷ 0 ∷ 0 ∷ bytes =
+    take-put_mid 5 (5 + length bytes - 5) (front ++ drop 5 window) copied (5 + length bytes) (omega (arith, ap length copied_is))
+    (omega (arith, ap length zeros, length-append front (drop 5 window)))
+    ∙ (λ i. take 5 (zeros i ++ drop 5 window) ++ copied_is i) in
+    (λ i. get_or (begun i ++ (back_is i ++ post_of (5 + length bytes) n whole)) k 0)
+    ∙ padded (0 ∷ 0 ∷ 0 ∷ 0 ∷ 0 ∷ bytes) (replicate m 0 ++ post_of (5 + length bytes) n whole)
+    (zeros_then m (post_of (5 + length bytes) n whole) (λ i. get_or_past (post_of (5 + length bytes) n whole) i 0 (omega (arith, length-drop n (drop (5 + length bytes) whole), length-drop (5 + length bytes) whole)))) k
+
+-- ---- codes
+
+-- The codes of a block behind those before it.
+pub more_codes : (f : Flavor) (window codes lanes : List ℕ) (block : ℕ) → 32 * block + 32 ≤ length codes → AreStartCodes f window (32 * block) codes →
+    lanes ≡ map (start_code f window) (range_with_len (32 * block) 32) → AreStartCodes f window (32 * (block + 1)) (put_chunk (32 * block) codes lanes)
+more_codes f window codes lanes block room are_codes lanes_are k small =
+    let at = 32 * block in
+    let long = ap length lanes_are ∙ length-map-range_with_len (start_code f window) at 32 in
+    ⊎_elim (λ (early : k < at). get_or-put_chunk_below at codes lanes k 0 early ∙ are_codes k early)
+    (λ (late : at ≤ k).
+    let place : at + (k - at) ≡ k = omega arith in
+    ap (λ p. get_or (put_chunk at codes lanes) p 0) (sym place)
+    ∙ get_or-put_chunk_at at codes lanes (k - at) 0 (omega arith) (omega arith)
+    ∙ ap (λ l. get_or l (k - at) 0) lanes_are
+    ∙ get_or-map-range_with_len (start_code f window) at 32 (k - at) k 0 (omega arith) place)
+    (cases_lt k at)
+
+-- ---- blocks
+
+-- The bytes of a block are damaged, or those before.
+pub more_damaged : (p : ℕ → Bool) (at len : ℕ) (before here : Bool) →
+    (before ≡ true → (i : ℕ) × (i < at) × (p i ≡ true)) → (IsTrue here → (i : ℕ) × (at ≤ i) × (i < at + len) × (p i ≡ true)) →
+    (before || here) ≡ true → (i : ℕ) × (i < at + len) × (p i ≡ true)
+more_damaged p at len true here first then some = let found = first refl in (found.0, omega (arith, found.1), found.2)
+more_damaged p at len false here first then some = let found = then some in (found.0, found.2, found.3)
+
+pub none_damaged : (p : ℕ → Bool) (at len : ℕ) (before here : Bool) →
+    (before ≡ false → (i : ℕ) → i < at → p i ≡ false) → (here ≡ false → (i : ℕ) → at ≤ i → i < at + len → p i ≡ false) →
+    (before || here) ≡ false → (i : ℕ) → i < at + len → p i ≡ false
+none_damaged p at len true here first then none i inside = absurd (true≢false none)
+none_damaged p at len false here first then none i inside =
+    ⊎_elim (λ (early : i < at). first refl i early) (λ (late : at ≤ i). then none i late inside) (cases_lt i at)
+
+-- What more bytes become is written behind what the first ones become.
+pub more_written : (f : Flavor) (window old new : List ℕ) (at len : ℕ) → old ≡ decoded f window 0 at →
+    new ≡ old ++ decoded f window at len → new ≡ decoded f window 0 (at + len)
+more_written f window old new at len old_is new_is =
+    new_is ∙ ap (λ l. l ++ decoded f window at len) old_is
+    ∙ ap (λ i. decoded f window 0 at ++ decoded f window i len) (sym (zero-add at)) ∙ sym (decoded_split f window 0 at len)
+
+-- ---- windows
+
+-- The first n bytes are read by a window, up to a border.
+pub record IsRead (f : Flavor) (bytes window : List ℕ) (n : ℕ) : Type 0 where
+  pub padded : IsPaddedFor n bytes window
+  pub fits : n ≤ length bytes
+  pub border : is_border_at f window n ≡ true
+
+-- A window on all bytes reads them all,
+pub all_read : (f : Flavor) (bytes window : List ℕ) → IsPadded bytes window → IsRead f bytes window (length bytes)
+all_read f bytes window padded = record {
+  padded = padded_for bytes window (length bytes) padded;
+  fits = omega arith;
+  border = border_at_end f window bytes (padded_follows bytes window padded) (padded_border f bytes window padded);
+}
+
+-- and one on the first of them those before the last border that is told.
+pub part_read : (f : Flavor) (bytes window : List ℕ) (loaded read : ℕ) → IsPadded (take loaded bytes) window → loaded ≤ length bytes → 5 ≤ loaded →
+    read ≤ loaded - 5 →
+    ((n : ℕ) → n ≤ loaded - 5 → loaded - 5 ≤ n + 5 → is_border_at f window n ≡ true → is_border_at f window read ≡ true) →
+    IsRead f bytes window read
+part_read f bytes window loaded read padded fits some inside last =
+    let near = border_behind f bytes window (loaded - 5) (padded_take bytes window loaded (loaded - 5) (omega arith) padded) (omega arith) in
+    record {
+      padded = padded_take bytes window loaded read (omega arith) padded;
+      fits = omega arith;
+      border = last near.0 near.1 near.2 near.3;
+    }
+
+module _ (f : Flavor) (bytes window : List ℕ) (n : ℕ) (is_read : IsRead f bytes window n) where
+  -- What they become is a piece in lossy reading,
+  pub read_lossily : (read : ℕ) (piece : List ℕ) → read ≡ n → piece ≡ decoded f window 0 n → IsPiece f true bytes (drop read bytes) piece
+  read_lossily read piece read_is piece_is =
+      rw (read_is, piece_is) (lossy_piece f bytes window n is_read.padded is_read.fits is_read.border)
+
+  -- in strict reading where none of them is damaged,
+  pub read_strictly : (read : ℕ) (piece : List ℕ) → read ≡ n → piece ≡ decoded f window 0 n →
+      ((i : ℕ) → i < n → is_damaged_at f window i ≡ false) → IsPiece f false bytes (drop read bytes) piece
+  read_strictly read piece read_is piece_is fine =
+      rw (read_is, piece_is) (strict_piece f bytes window n is_read.padded is_read.fits is_read.border false fine)
+
+  -- and one that is damaged is a fault.
+  pub read_fault : (i : ℕ) × (i < n) × (is_damaged_at f window i ≡ true) → HasFault f bytes
+  read_fault damaged = fault_at f bytes window n is_read.padded is_read.fits damaged.0 damaged.1 damaged.2

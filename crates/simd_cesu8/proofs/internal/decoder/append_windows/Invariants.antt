@@ -1,0 +1,16 @@
+use Rattle.std.proofs.Common.{◌≡◌, ◌<◌, ◌≤◌, ◌-◌, length}
+use Rattle.std.specs.String.{string_bytes}
+use Rattle.simd_cesu8.specs.Internal.{flavor_of}
+use Rattle.simd_cesu8.specs.Pieces.{IsReadSoFar}
+use Rattle.simd_cesu8.proofs.internal.decoder.append_windows.Given as goal
+
+abbrev pub decreases-loop-windows : goal.decreases-loop-windows
+decreases-loop-windows g l = 4 - l.windows
+
+abbrev pub invariant-loop-windows : goal.invariant-loop-windows
+invariant-loop-windows g l = record {
+  so_far : IsReadSoFar (flavor_of l.options.flavor) l.options.lossy l.fn.bytes l.rest (string_bytes l.initial.out) (string_bytes l.out);
+  within : length l.rest ≤ length l.fn.bytes;
+  first : l.windows ≡ 0 → length l.rest ≡ length l.fn.bytes;
+  less : 0 < l.windows → length l.rest < length l.fn.bytes;
+}

@@ -1,0 +1,9 @@
+use Rattle.simd_cesu8.proofs.DecodedBlocks.{block_written}
+use Rattle.simd_cesu8.proofs.internal.decoder.parts.parts_at.Goals as goal
+
+pub returns-clause-written : goal.returns-clause-written
+returns-clause-written g c =
+    let f = g.N.NullForm.flavor in
+    let window = c.args.window.now in
+    block_written f window c.args.at c.args.count _ _ _ _ _ (c.gone.ensures f window c.requires.are_codes) c.damaged.ensures
+    (c.joined.ensures f c.args.count c.requires.count c.requires.are_codes)

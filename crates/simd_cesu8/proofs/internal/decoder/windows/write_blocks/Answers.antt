@@ -1,0 +1,33 @@
+use Rattle.std.proofs.Common.{◌∙◌, arith, refl}
+use Rattle.simd_cesu8.specs.DecodedPlaces.{decoded, is_damaged_at}
+use Rattle.simd_cesu8.proofs.DecodedWindows.{more_damaged, none_damaged, more_written}
+use Rattle.simd_cesu8.proofs.internal.decoder.windows.write_blocks.Goals as goal
+use Rattle.simd_cesu8.proofs.internal.decoder.windows.write_blocks.Goals.{then-left-lt32, else-left-lt32}
+
+pub loop-at-init : goal.loop-at-init
+unfolding decoded
+loop-at-init g c = record {
+  within = omega arith;
+  room = λ some. omega arith;
+  end = omega arith;
+  len = refl;
+  bytes = refl;
+  damaged = λ some. cc;
+  whole = λ none i before. absurd (omega arith);
+}
+
+pub loop-at-preserved : goal.loop-at-preserved
+loop-at-preserved g c =
+    let f = g.N.NullForm.flavor in
+    let window = c.args.window.now in
+    let inv = c.loop-at.invariant in
+    let block = c.write_block-block.ensures in
+    record {
+      within = elim c.if-left-lt32.branch [ then-left-lt32 w ↦ omega arith | else-left-lt32 w ↦ omega arith ];
+      room = λ more. elim c.if-left-lt32.branch [ then-left-lt32 w ↦ omega arith | else-left-lt32 w ↦ omega arith ];
+      end = omega (arith, inv.room, block.end, block.len, inv.len);
+      len = block.len ∙ inv.len;
+      bytes = more_written f window _ _ c.loop-at.at c.if-left-lt32.len inv.bytes block.bytes;
+      damaged = more_damaged (is_damaged_at f window) c.loop-at.at c.if-left-lt32.len _ _ inv.damaged block.damaged;
+      whole = none_damaged (is_damaged_at f window) c.loop-at.at c.if-left-lt32.len _ _ inv.whole block.whole;
+    }

@@ -1,0 +1,37 @@
+use Rattle.std.proofs.Common.{◌≤◌, sym, ◌∙◌, subst, length, arith, rules}
+use Rattle.std.proofs.lemmas.List.{take_all}
+use Rattle.simd_cesu8.specs.DecodedPlaces.{IsPadded}
+use Rattle.simd_cesu8.proofs.DecodedWindows.{IsRead, all_read, part_read, read_lossily, read_strictly, read_fault}
+use Rattle.simd_cesu8.proofs.internal.decoder.windows.write_window.Goals as goal
+use Rattle.simd_cesu8.proofs.internal.decoder.windows.write_window.Goals.{then-bytes-most, else-bytes-most, then-loaded-bytes, else-loaded-bytes}
+
+pub returns : goal.returns
+returns g c =
+    let f = g.N.NullForm.flavor in
+    let bytes = c.args.bytes.now in
+    let window = c.pad.new.window in
+    let blocks = c.write_blocks.ensures in
+    let loaded = c.if-bytes-most.loaded in
+    let count = c.if-loaded-bytes.read in
+    let fits : loaded ≤ length bytes =
+    elim c.if-bytes-most.branch [ then-bytes-most w ↦ omega arith | else-bytes-most w ↦ omega arith ] in
+    let is_read : IsRead f bytes window count = elim c.if-loaded-bytes.branch [
+      | then-loaded-bytes w ↦
+          subst (IsRead f bytes window) (sym (w.read-is ∙ w.if-loaded-bytes.true))
+          (all_read f bytes window (subst (λ bs. IsPadded bs window) (take_all loaded bytes (omega (arith, w.if-loaded-bytes.true))) c.pad.ensures.padded))
+      | else-loaded-bytes w ↦
+          subst (IsRead f bytes window) (sym w.read-is)
+          (part_read f bytes window loaded w.border-read.result c.pad.ensures.padded fits
+          (elim c.if-bytes-most.branch [ then-bytes-most v ↦ absurd (w.if-loaded-bytes.false v.loaded-is) | else-bytes-most v ↦ omega arith ])
+          w.border-read.ensures.within.0
+          (w.border-read.ensures.border f window (λ k small. c.write_codes.ensures.codes k (omega arith))))
+    ] in
+    record {
+      some = search rules;
+      within = search rules;
+      all = search rules;
+      end = blocks.end;
+      lossy = read_lossily f bytes window count is_read _ _ blocks.read blocks.bytes;
+      strict = λ fine. read_strictly f bytes window count is_read _ _ blocks.read blocks.bytes (blocks.whole fine);
+      damaged = λ damaged. read_fault f bytes window count is_read (blocks.damaged damaged);
+    }

@@ -1,5 +1,0 @@
-use Rattle.simd_cesu8.proofs.EncodedLanes.{no_lanes}
-use Rattle.simd_cesu8.proofs.internal.encoder.blocks.OneByteNullNullForm.nulls.Goals as goal
-
-pub returns : goal.returns
-returns c = no_lanes c.args.bytes c.fits-bytes.0

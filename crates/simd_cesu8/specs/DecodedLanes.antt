@@ -1,0 +1,94 @@
+-- What the vectors of the decoder hold, lane by lane.
+use Rattle.std.specs.Prelude.{◌≡◌, ℕ, zero, suc, ◌+◌, ◌*◌, ◌/◌, ◌%◌, ◌-◌, ◌<◌, ◌&&◌, ◌||◌, ◌==◌, nat_le, nat_lt, if◌then◌else◌, Bool, true, false, List, [], ◌∷◌, ◌++◌, map, length, slice_index, slice_index_or, replicate}
+use Rattle.std.specs.List.{range_with_len}
+use Rattle.simd_cesu8.specs.Encoding.{Flavor, Cesu8, Mutf8}
+use Rattle.simd_cesu8.specs.DecodedPlaces.{one_at, null_at, two_at, three_at, pair_at, width_at, is_damaged_at, saved}
+
+-- The code of the character that begins at a place, by the six bytes there: a bit, or 0 where none
+-- begins or one of one byte.
+unfoldable pub start_code_by : Flavor → ℕ → ℕ → ℕ → ℕ → ℕ → ℕ → ℕ
+start_code_by f a b d e g h =
+    if null_at f a b then 0x80
+    else if two_at a b then (if nat_lt a 0xD0 then 0x01 else 0x02)
+    else if three_at a b d then (if a == 0xE0 then 0x04 else if a == 0xED then 0x10 else 0x08)
+    else if pair_at a b d e g h then 0x20
+    else 0
+
+-- The code of what two bytes begin, if the others are there.
+abbrev pub code_of_two : Flavor → ℕ → ℕ → ℕ
+code_of_two f a b = start_code_by f a b 0x80 0xED 0xB0 0x80
+
+-- The code of what begins at place i of a window. Behind the window there are zeros.
+abbrev pub start_code : Flavor → List ℕ → ℕ → ℕ
+start_code f window i =
+    let w = slice_index window in
+    start_code_by f (w i) (w (i + 1)) (w (i + 2)) (w (i + 3)) (w (i + 4)) (w (i + 5))
+
+-- The codes of the first n places of a window.
+abbrev pub AreStartCodes : Flavor → List ℕ → ℕ → List ℕ → Type 0
+AreStartCodes f window n codes = (k : ℕ) → k < n → slice_index codes k ≡ start_code f window k
+
+-- Whether a byte goes, and the byte that is written for one that stays, by the widths of what begins at
+-- its place and at the five before it, and by the two bytes before it.
+abbrev pub goes_by : (w0 w1 before b : ℕ) → Bool
+goes_by w0 w1 before b = w0 == 6 || (w1 == 6 || (w0 == 2 && b == 0xC0))
+
+abbrev pub byte_by : (w1 w2 w3 w4 two_before before b : ℕ) → ℕ
+byte_by w1 w2 w3 w4 two_before before b =
+    if w2 == 6 then 0xF0 + (before % 0x10 + 1) / 4
+    else if w3 == 6 then 0x80 + ((two_before % 0x10 + 1) % 4 * 0x10 + before / 4 % 0x10)
+    else if w4 == 6 then 0x80 + (two_before % 4 * 0x10 + b % 0x10)
+    else if w1 == 2 && before == 0xC0 then 0
+    else b
+
+-- The same for the byte of a window that stands behind i bytes and five more.
+abbrev pub goes_at : Flavor → List ℕ → ℕ → Bool
+goes_at f window i =
+    goes_by (width_at f window (i + 5)) (width_at f window (i + 4)) (slice_index window (i + 4)) (slice_index window (i + 5))
+
+abbrev pub byte_at : Flavor → List ℕ → ℕ → ℕ
+byte_at f window i =
+    byte_by (width_at f window (i + 4)) (width_at f window (i + 3)) (width_at f window (i + 2)) (width_at f window (i + 1))
+    (slice_index window (i + 3)) (slice_index window (i + 4)) (slice_index window (i + 5))
+
+-- A lane whose highest bit is set.
+abbrev pub is_high : ℕ → Bool
+is_high lane = nat_le 0x80 lane
+
+-- What is written for bytes in a row: the replacement character for one that is damaged, nothing for
+-- one that goes, and else the byte.
+abbrev pub written_for : Bool → Bool → ℕ → List ℕ
+written_for gone damaged b = if damaged then 0xEF ∷ 0xBF ∷ 0xBD ∷ [] else if gone then [] else b ∷ []
+
+abbrev pub written : List Bool → List Bool → List ℕ → List ℕ
+written [] damaged bytes = []
+written (g ∷ gone) [] bytes = []
+written (g ∷ gone) (d ∷ damaged) [] = []
+written (g ∷ gone) (d ∷ damaged) (b ∷ bytes) = written_for g d b ++ written gone damaged bytes
+
+-- What is written for the lanes of three vectors.
+abbrev pub written_lanes : List ℕ → List ℕ → List ℕ → List ℕ
+written_lanes gone damaged bytes = written (map is_high gone) (map is_high damaged) bytes
+
+-- The lanes that packing keeps of four bytes and a replacement character behind them, from byte i on,
+-- for n bytes. Bit i of the first number says whether byte i goes, and of the second whether it is
+-- damaged.
+abbrev pub kept_of_four : ℕ → ℕ → ℕ → ℕ → List ℕ
+kept_of_four gone damaged i zero = []
+kept_of_four gone damaged i (suc n) =
+    (if damaged % 2 == 1 then 4 ∷ 5 ∷ 6 ∷ [] else if gone % 2 == 1 then [] else i ∷ [])
+    ++ kept_of_four (gone / 2) (damaged / 2) (i + 1) n
+
+-- The same as a shuffle of sixteen lanes, of which the last says how many are kept, and those before it
+-- are of no use.
+abbrev pub shuffle_of_four : ℕ → List ℕ
+shuffle_of_four set =
+    let kept = kept_of_four (set % 0x10) (set / 0x10) 0 4 in kept ++ replicate (15 - length kept) 0 ++ length kept ∷ []
+
+-- The rows of shuffles, one for each number below 100 (hexadecimal).
+abbrev pub AreShufflesOfFour : List (List ℕ) → Type 0
+AreShufflesOfFour rows = (set : ℕ) → set < 0x100 → slice_index_or rows set [] ≡ shuffle_of_four set
+
+-- What place i of a window saves.
+abbrev pub saved_at : Flavor → List ℕ → ℕ → ℕ
+saved_at f window i = saved (width_at f window i) (slice_index window i)

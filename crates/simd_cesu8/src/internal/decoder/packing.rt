@@ -1,0 +1,149 @@
+//! How what becomes of 32 bytes is packed: four bytes at a time, by a shuffle each.
+
+ghost use Rattle.std.specs.Prelude.{◌≡◌, List, Bool, ◌+◌, ◌%◌, ◌<◌, ◌≤◌, ◌∷◌, [], ◌++◌, length, map, take, slice_index};
+ghost use Rattle.std.specs.Simd.Lanes.{chunk, mask_l};
+ghost use Rattle.simd_cesu8.specs.DecodedLanes.{is_high, written, written_lanes, AreShufflesOfFour};
+
+use super::rows::Rows;
+use std::simd::prelude::*;
+
+/// What becomes of the bytes of a block. Where a lane of `damaged` has its highest bit, the
+/// replacement character is written, else where one of `gone` has it, nothing is, and else the lane
+/// of `bytes`.
+#[derive(Drop)]
+pub struct Parts {
+    pub bytes: u8x32,
+    pub gone: u8x32,
+    pub damaged: u8x32,
+}
+
+/// How many bytes are written for a block at most.
+const MOST: usize = 96;
+
+/// Stores what becomes of a block, and gives the end of it.
+#[inline(always)]
+pub fn store(parts: Parts, rows: &Rows, out: &mut [u8], at: usize) -> usize
+    requires rows { AreShufflesOfFour rows.now }
+    requires room { at + 112 ≤ length out.old }
+    ensures bytes { take result out.new
+        ≡ take at out.old ++ written_lanes parts.gone parts.damaged parts.bytes }
+    ensures end { (at ≤ result) × (result ≤ at + 96) }
+    ensures len { length out.new ≡ length out.old }
+{
+    if highest_bits(parts.gone | parts.damaged) == 0 {
+        parts.bytes.copy_to_slice(&mut out[at..]);
+        return at + 32;
+    }
+    let at = store_half(
+        parts.bytes.extract::<0, 16>(),
+        parts.gone.extract::<0, 16>(),
+        parts.damaged.extract::<0, 16>(),
+        rows,
+        out,
+        at,
+    );
+    store_half(
+        parts.bytes.extract::<16, 16>(),
+        parts.gone.extract::<16, 16>(),
+        parts.damaged.extract::<16, 16>(),
+        rows,
+        out,
+        at,
+    )
+}
+
+/// A bit for each lane whose highest bit is set.
+#[inline(always)]
+pub fn highest_bits(lanes: u8x32) -> u64
+    ensures { result ≡ mask_l (map is_high lanes) }
+{
+    lanes.simd_ge(u8x32::splat(0x80)).to_bitmask()
+}
+
+/// The replacement character, U+FFFD, twice, each in four lanes.
+const REPLACEMENTS: [u8; 16] = [
+    0xEF, 0xBF, 0xBD, 0, 0xEF, 0xBF, 0xBD, 0, 0xEF, 0xBF, 0xBD, 0, 0xEF, 0xBF, 0xBD, 0,
+];
+
+/// Stores what becomes of sixteen bytes.
+#[inline(always)]
+fn store_half(
+    bytes: u8x16,
+    gone: u8x16,
+    damaged: u8x16,
+    rows: &Rows,
+    out: &mut [u8],
+    at: usize,
+) -> usize
+    requires rows { AreShufflesOfFour rows.now }
+    requires room { at + 64 ≤ length out.old }
+    ensures bytes { take result out.new ≡ take at out.old ++ written_lanes gone damaged bytes }
+    ensures end { (at ≤ result) × (result ≤ at + 48) }
+    ensures len { length out.new ≡ length out.old }
+{
+    let replacements = u8x16::from_array(REPLACEMENTS);
+    let first = bytes.shuffle::<16>(
+        replacements,
+        [0, 1, 2, 3, 16, 17, 18, 19, 4, 5, 6, 7, 20, 21, 22, 23],
+    );
+    let third = bytes.shuffle::<16>(
+        replacements,
+        [8, 9, 10, 11, 16, 17, 18, 19, 12, 13, 14, 15, 20, 21, 22, 23],
+    );
+    let front = sets(gone.shuffle::<16>(
+        damaged,
+        [0, 1, 2, 3, 16, 17, 18, 19, 4, 5, 6, 7, 20, 21, 22, 23],
+    ));
+    let back = sets(gone.shuffle::<16>(
+        damaged,
+        [8, 9, 10, 11, 24, 25, 26, 27, 12, 13, 14, 15, 28, 29, 30, 31],
+    ));
+    let at = store_four(first, front & 0xFF, rows, out, at);
+    let at = store_four(second_of(first), front >> 8 & 0xFF, rows, out, at);
+    let at = store_four(third, back & 0xFF, rows, out, at);
+    store_four(second_of(third), back >> 8 & 0xFF, rows, out, at)
+}
+
+/// The upper half of some lanes, twice.
+#[inline(always)]
+fn second_of(lanes: u8x16) -> u8x16
+    ensures { result ≡ chunk 8 8 lanes ++ chunk 8 8 lanes }
+{
+    lanes.swizzle::<16>([8, 9, 10, 11, 12, 13, 14, 15, 8, 9, 10, 11, 12, 13, 14, 15])
+}
+
+/// A bit for each lane whose highest bit is set.
+#[inline(always)]
+fn sets(lanes: u8x16) -> usize
+    ensures { result ≡ mask_l (map is_high lanes) }
+{
+    lanes.simd_ge(u8x16::splat(0x80)).to_bitmask() as usize
+}
+
+/// Stores what becomes of four bytes, behind which the replacement character stands, and gives the
+/// end of it. The lower four bits of the set say which go, and the others which are damaged.
+#[inline(always)]
+fn store_four(lanes: u8x16, set: usize, rows: &Rows, out: &mut [u8], at: usize) -> usize
+    requires rows { AreShufflesOfFour rows.now }
+    requires small { set < 0x100 }
+    requires replacement { chunk 4 3 lanes ≡ 0xEF ∷ 0xBF ∷ 0xBD ∷ [] }
+    requires room { at + 16 ≤ length out.old }
+    ensures bytes { (gone damaged : List Bool) → length gone ≡ 4 → length damaged ≡ 4
+        → set ≡ mask_l (gone ++ damaged)
+        → take result out.new ≡ take at out.old ++ written gone damaged (chunk 0 4 lanes) }
+    ensures end { (at ≤ result) × (result ≤ at + 12) }
+    ensures len { length out.new ≡ length out.old }
+{
+    let row = &rows[set];
+    let packed = picked(lanes, u8x16::from_array(*row));
+    packed.copy_to_slice(&mut out[at..]);
+    at + row[15] as usize
+}
+
+/// The lanes at the positions that the lower halves of a row's numbers are.
+#[inline(always)]
+fn picked(lanes: u8x16, row: u8x16) -> u8x16
+    ensures { result ≡ map (λ j. slice_index lanes (j % 0x10)) row }
+{
+    lanes.swizzle_dyn_within::<16>(row & u8x16::splat(0x0F))
+}

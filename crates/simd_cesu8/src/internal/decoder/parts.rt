@@ -1,0 +1,190 @@
+//! What becomes of 32 bytes, by vectors: each stays, changes, goes or is replaced.
+//!
+//! It is told by what begins at the byte's place and at the five before it. The six bytes of a
+//! surrogate pair, ED and two, and again, become four:
+//!
+//! ```text
+//! first, second ──► nothing                       fifth ──► two bits of the third, four of its own
+//! third ──► F0 and three bits of the second       sixth ──► itself
+//! fourth ──► two bits of the second, four of the third
+//! ```
+
+ghost use Rattle.std.specs.Prelude.{◌≡◌, ℕ, List, ◌+◌, ◌-◌, ◌<◌, ◌≤◌, ◌++◌, ◌==◌, not, nat_le, IsTrue, true, false, length, take, map, replicate};
+ghost use Rattle.std.specs.List.{range_with_len};
+ghost use Rattle.std.specs.Simd.Lanes.{sel_l};
+ghost use Rattle.simd_cesu8.specs.Encoding.{Flavor};
+ghost use Rattle.simd_cesu8.specs.EncodedPlaces.{mask};
+ghost use Rattle.simd_cesu8.specs.DecodedPlaces.{decoded, is_damaged_at};
+ghost use Rattle.simd_cesu8.specs.DecodedLanes.{AreStartCodes, AreShufflesOfFour, is_high, goes_at, byte_at, written_lanes};
+
+use super::packing::{Parts, highest_bits, store};
+use super::places::{PAIR, REACH, THREE, equal, look_up};
+use super::rows::Rows;
+use crate::internal::null_form::NullForm;
+use std::simd::prelude::*;
+
+/// The first byte of the UTF-8 of a surrogate pair, by the lower half of the pair's second byte, the
+/// two upper bits of the second, and, by the lower half of the pair's third byte, those of the third.
+const FIRST_BY_SECOND: [u8; 16] = [
+    0xF0, 0xF0, 0xF0, 0xF1, 0xF1, 0xF1, 0xF1, 0xF2, 0xF2, 0xF2, 0xF2, 0xF3, 0xF3, 0xF3, 0xF3, 0xF4,
+];
+
+const SECOND_BY_SECOND: [u8; 16] = [
+    0x90, 0xA0, 0xB0, 0x80, 0x90, 0xA0, 0xB0, 0x80, 0x90, 0xA0, 0xB0, 0x80, 0x90, 0xA0, 0xB0, 0x80,
+];
+
+const THIRD_BY_THIRD: [u8; 16] = [
+    0x80, 0x90, 0xA0, 0xB0, 0x80, 0x90, 0xA0, 0xB0, 0x80, 0x90, 0xA0, 0xB0, 0x80, 0x90, 0xA0, 0xB0,
+];
+
+/// The numbers of the lanes.
+const NUMBERS: [u8; 32] = [
+    0, 1, 2, 3, 4, 5, 6, 7, 8, 9, 10, 11, 12, 13, 14, 15, 16, 17, 18, 19, 20, 21, 22, 23, 24, 25,
+    26, 27, 28, 29, 30, 31,
+];
+
+/// How many bytes of room a block needs. What is written last may be of no use.
+pub const ROOM: usize = 112;
+
+/// The end of what is written for a block, and whether some of its bytes are damaged.
+#[derive(Drop)]
+pub struct Block {
+    pub end: usize,
+    pub is_damaged: bool,
+}
+
+/// Writes what becomes of the first `count` bytes of a block, which stand behind `at` bytes of the
+/// window and five more.
+#[inline(always)]
+pub fn write_block<N: NullForm>(
+    window: &[u8],
+    codes: &[u8],
+    at: usize,
+    count: usize,
+    rows: &Rows,
+    out: &mut [u8],
+    end: usize,
+) -> Block
+    requires count { count ≤ 32 }
+    requires window { at + REACH ≤ length window.now }
+    requires codes { at + REACH ≤ length codes.now }
+    requires are_codes { AreStartCodes N.flavor window.now (at + count + 5) codes.now }
+    requires rows { AreShufflesOfFour rows.now }
+    requires room { end + ROOM ≤ length out.old }
+    ensures bytes { take result.end out.new
+        ≡ take end out.old ++ decoded N.flavor window.now at count }
+    ensures damaged { IsTrue result.is_damaged → (i : ℕ) × (at ≤ i) × (i < at + count)
+        × (is_damaged_at N.flavor window.now i ≡ true) }
+    ensures whole { result.is_damaged ≡ false → (i : ℕ) → at ≤ i → i < at + count
+        → is_damaged_at N.flavor window.now i ≡ false }
+    ensures end { (end ≤ result.end) × (result.end ≤ end + 96) }
+    ensures len { length out.new ≡ length out.old }
+{
+    let parts = parts_at::<N>(window, codes, at, count);
+    let is_damaged = highest_bits(parts.damaged) != 0;
+    Block {
+        end: store(parts, rows, out, end),
+        is_damaged,
+    }
+}
+
+/// What becomes of the first `count` of the 32 bytes behind `at` bytes of the window and five more.
+/// The others go.
+#[inline(always)]
+fn parts_at<N: NullForm>(window: &[u8], codes: &[u8], at: usize, count: usize) -> Parts
+    requires count { count ≤ 32 }
+    requires window { at + REACH ≤ length window.now }
+    requires codes { at + REACH ≤ length codes.now }
+    requires are_codes { AreStartCodes N.flavor window.now (at + count + 5) codes.now }
+    ensures written { written_lanes result.gone result.damaged result.bytes
+        ≡ decoded N.flavor window.now at count }
+    ensures damaged { map is_high result.damaged
+        ≡ map (is_damaged_at N.flavor window.now) (range_with_len at count)
+        ++ replicate (32 - count) false }
+{
+    Parts {
+        bytes: joined(window, codes, at),
+        gone: gone(codes, at, count),
+        damaged: damaged::<N>(window, codes, at, count),
+    }
+}
+
+/// Marks, with the highest bit, those of the first `count` bytes that go, and the others.
+#[inline(always)]
+fn gone(codes: &[u8], at: usize, count: usize) -> u8x32
+    requires count { count ≤ 32 }
+    requires codes { at + REACH ≤ length codes.now }
+    ensures { (f : Flavor) (window : List ℕ) → AreStartCodes f window (at + count + 5) codes.now
+        → map is_high result
+        ≡ map (goes_at f window) (range_with_len at count) ++ replicate (32 - count) true }
+{
+    let here = u8x32::from_slice(&codes[at + 5..]);
+    let near = here | u8x32::from_slice(&codes[at + 4..]);
+    (here | (near << u8x32::splat(2))) | behind(count as u8)
+}
+
+/// Marks, with the highest bit, those of the first `count` bytes that no encoded character covers.
+#[inline(always)]
+fn damaged<N: NullForm>(window: &[u8], codes: &[u8], at: usize, count: usize) -> u8x32
+    requires count { count ≤ 32 }
+    requires window { at + REACH ≤ length window.now }
+    requires codes { at + REACH ≤ length codes.now }
+    requires are_codes { AreStartCodes N.flavor window.now (at + count + 5) codes.now }
+    ensures { map is_high result
+        ≡ map (is_damaged_at N.flavor window.now) (range_with_len at count)
+        ++ replicate (32 - count) false }
+{
+    let pair = u8x32::splat(PAIR);
+    let near = u8x32::from_slice(&codes[at + 5..]) | u8x32::from_slice(&codes[at + 4..]);
+    let of_three = u8x32::from_slice(&codes[at + 3..]) & u8x32::splat(PAIR | THREE);
+    let of_pair = (u8x32::from_slice(&codes[at + 2..]) & pair)
+        | (u8x32::from_slice(&codes[at + 1..]) & pair)
+        | (u8x32::from_slice(&codes[at..]) & pair);
+    let alone = equal(near | of_three | of_pair, 0);
+    // A byte below 80 is a character of its own, but 00 is none in MUTF-8.
+    let byte = u8x32::from_slice(&window[at + 5..]);
+    alone & (byte | N::nulls(byte)) & (behind(count as u8) ^ u8x32::splat(0xFF))
+}
+
+/// All ones in the lanes from `count` on, and else zeros.
+#[inline(always)]
+fn behind(count: u8) -> u8x32
+    ensures { result ≡ map (λ lane. mask (nat_le count lane)) (range_with_len 0 32) }
+{
+    u8x32::from_array(NUMBERS)
+        .simd_ge(u8x32::splat(count))
+        .select(u8x32::splat(0xFF), u8x32::splat(0))
+}
+
+/// The bytes, and in place of those of surrogate pairs and of C0 80 what they become.
+#[inline(always)]
+fn joined(window: &[u8], codes: &[u8], at: usize) -> u8x32
+    requires window { at + REACH ≤ length window.now }
+    requires codes { at + REACH ≤ length codes.now }
+    ensures { (f : Flavor) (count : ℕ) → count ≤ 32
+        → AreStartCodes f window.now (at + count + 5) codes.now
+        → take count result ≡ map (byte_at f window.now) (range_with_len at count) }
+{
+    let pair = u8x32::splat(PAIR);
+    let half = u8x32::splat(0x0F);
+    let byte = u8x32::from_slice(&window[at + 5..]);
+    let before = u8x32::from_slice(&window[at + 4..]);
+    let two_before = u8x32::from_slice(&window[at + 3..]);
+    let first = look_up(FIRST_BY_SECOND, before);
+    let second = look_up(SECOND_BY_SECOND, two_before) | ((before >> u8x32::splat(2)) & half);
+    let third = look_up(THIRD_BY_THIRD, two_before) | (byte & half);
+    let joined = u8x32::from_slice(&codes[at + 4..])
+        .simd_ge(u8x32::splat(0x80))
+        .select(u8x32::splat(0), byte);
+    let joined = chosen(u8x32::from_slice(&codes[at + 1..]) & pair, third, joined);
+    let joined = chosen(u8x32::from_slice(&codes[at + 2..]) & pair, second, joined);
+    chosen(u8x32::from_slice(&codes[at + 3..]) & pair, first, joined)
+}
+
+/// The lanes of `some` where those of a mark are not 0, and else of `other`.
+#[inline(always)]
+fn chosen(mark: u8x32, some: u8x32, other: u8x32) -> u8x32
+    ensures { result ≡ sel_l (map (λ lane. not (lane == 0)) mark) some other }
+{
+    mark.simd_ne(u8x32::splat(0)).select(some, other)
+}

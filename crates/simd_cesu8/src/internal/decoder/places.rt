@@ -1,0 +1,107 @@
+//! What begins at each place of some bytes, by vectors.
+//!
+//! It is told by the six bytes from the place on, and kept as a code of one bit, or none.
+
+ghost use Rattle.std.specs.Prelude.{◌≡◌, ◌==◌, ◌+◌, ◌%◌, ◌≤◌, length, map, slice_index};
+ghost use Rattle.std.specs.List.{range_with_len};
+ghost use Rattle.std.specs.Simd.Lanes.{zip2};
+ghost use Rattle.simd_cesu8.specs.EncodedPlaces.{mask};
+ghost use Rattle.simd_cesu8.specs.DecodedPlaces.{continues};
+ghost use Rattle.simd_cesu8.specs.DecodedLanes.{code_of_two, start_code};
+
+use crate::internal::null_form::NullForm;
+use std::simd::prelude::*;
+
+/// The codes of characters of two bytes.
+const TWO: u8 = 0x03;
+
+/// Those of characters of three bytes: from E0 on, from ED, and from another byte.
+pub const THREE: u8 = 0x1C;
+
+/// That of a surrogate pair.
+pub const PAIR: u8 = 0x20;
+
+/// That of C0 80 in MUTF-8.
+pub const NULL: u8 = 0x80;
+
+/// The codes of what two bytes begin are in all of three tables: by the upper half of the first byte,
+/// by its lower half, and by the upper half of the second. There `NULL` is that of C0 80 to C0 8F.
+const BY_HIGH: [u8; 16] = [0, 0, 0, 0, 0, 0, 0, 0, 0, 0, 0, 0, 0x81, 0x02, 0x3C, 0];
+
+const BY_LOW: [u8; 16] = [
+    0x86, 0x0A, 0x0B, 0x0B, 0x0B, 0x0B, 0x0B, 0x0B, 0x0B, 0x0B, 0x0B, 0x0B, 0x0B, 0x33, 0x0B, 0x0B,
+];
+
+const BY_NEXT: [u8; 16] = [0, 0, 0, 0, 0, 0, 0, 0, 0x9B, 0x1B, 0x2F, 0x0F, 0, 0, 0, 0];
+
+/// The positions of sixteen lanes, twice.
+const TWICE: [usize; 32] = [
+    0, 1, 2, 3, 4, 5, 6, 7, 8, 9, 10, 11, 12, 13, 14, 15, 0, 1, 2, 3, 4, 5, 6, 7, 8, 9, 10, 11, 12,
+    13, 14, 15,
+];
+
+/// How many bytes behind a place tell what begins there.
+pub const BEHIND: usize = 5;
+
+/// How many bytes tell what begins at the places of a block.
+pub const REACH: usize = 32 + BEHIND;
+
+/// The codes of the 32 places from `at` on.
+#[inline(always)]
+pub fn starts<N: NullForm>(bytes: &[u8], at: usize) -> u8x32
+    requires { at + REACH ≤ length bytes.now }
+    ensures { result ≡ map (start_code N.flavor bytes.now) (range_with_len at 32) }
+{
+    let first = u8x32::from_slice(&bytes[at..]);
+    let second = u8x32::from_slice(&bytes[at + 1..]);
+    let third = u8x32::from_slice(&bytes[at + 2..]);
+    let fourth = u8x32::from_slice(&bytes[at + 3..]);
+    let fifth = u8x32::from_slice(&bytes[at + 4..]);
+    let sixth = u8x32::from_slice(&bytes[at + 5..]);
+    let ends_pair = equal(fourth, 0xED)
+        & equal(fifth & u8x32::splat(0xF0), 0xB0)
+        & continuations(sixth)
+        & u8x32::splat(PAIR);
+    let of_three = continuations(third) & (ends_pair | u8x32::splat(THREE));
+    by_two::<N>(first, second) & (of_three | u8x32::splat(TWO | NULL))
+}
+
+/// What two bytes begin, if the others are there.
+#[inline(always)]
+fn by_two<N: NullForm>(first: u8x32, second: u8x32) -> u8x32
+    ensures { result ≡ zip2 (code_of_two N.flavor) first second }
+{
+    let four = u8x32::splat(4);
+    look_up(BY_HIGH, first >> four)
+        & look_up(BY_LOW, first)
+        & look_up(BY_NEXT, second >> four)
+        & N::second_of_null(second)
+}
+
+/// What a table has for the lower half of each lane.
+#[inline(always)]
+pub fn look_up(table: [u8; 16], lanes: u8x32) -> u8x32
+    ensures { result ≡ map (λ lane. slice_index table (lane % 16)) lanes }
+{
+    u8x16::from_array(table)
+        .swizzle::<32>(TWICE)
+        .swizzle_dyn_within::<16>(lanes & u8x32::splat(15))
+}
+
+/// All ones where a lane is equal to a byte, and else zeros.
+#[inline(always)]
+pub fn equal(lanes: u8x32, byte: u8) -> u8x32
+    ensures { result ≡ map (λ lane. mask (lane == byte)) lanes }
+{
+    lanes
+        .simd_eq(u8x32::splat(byte))
+        .select(u8x32::splat(0xFF), u8x32::splat(0))
+}
+
+/// All ones where a byte is a continuation byte.
+#[inline(always)]
+fn continuations(bytes: u8x32) -> u8x32
+    ensures { result ≡ map (λ b. mask (continues b)) bytes }
+{
+    equal(bytes & u8x32::splat(0xC0), 0x80)
+}
