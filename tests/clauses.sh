@@ -70,6 +70,7 @@ sources() {
     {
         cat "$scratch/root" "$scratch/simd" "$scratch/exports"
         clauses simd_cesu8 '' cow.rt
+        clauses simd_cesu8 '' counted_text.rt
         clauses simd_cesu8 '' error.rt
         clauses simd_cesu8 laws:: laws.rt
         clauses java_text '' lib.rt
