@@ -124,6 +124,7 @@ text_rows() {
         fi
         row "encoded_len $encoding" "$utf8" "$length" 0 ''
         row "into_vec $encoding" "$utf8" owned "$any" "$encoded"
+        row "counted $encoding" "$utf8" appended "$any" "$encoded"
         row "encode_into $encoding" "$utf8" appended "$any" "$encoded"
         row "encode_into_room $encoding" "$utf8" appended "$any" "$encoded"
         row "encode_into_less $encoding" "$utf8" appended "$less" "$encoded"

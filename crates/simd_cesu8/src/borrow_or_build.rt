@@ -87,9 +87,13 @@ pub fn decode_strict(
     ensures succeeds { IsUnchangedUtf8 (flavor_of flavor) bytes.now → IsOk result }
     ensures capacity { BuildsTextOfCapacity result (length bytes.now) }
 {
-    match unchanged_text(flavor, bytes) {
-        Some(text) => Ok(CowText::Borrowed(text)),
-        None => Ok(CowText::Owned(internal::decode_strict(alloc, flavor, bytes)?)),
+    // No encoding has a byte that changes, so there is nothing to decode.
+    if contains_changed(flavor, bytes) {
+        return Err(internal::refuse(alloc, bytes.len()));
+    }
+    match whole_text(bytes) {
+        Ok(whole) => Ok(CowText::Borrowed(whole)),
+        Err(_) => Ok(CowText::Owned(internal::decode_strict(alloc, flavor, bytes)?)),
     }
 }
 

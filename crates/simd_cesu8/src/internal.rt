@@ -17,7 +17,7 @@ mod writers;
 
 use crate::implementation::active;
 pub use continuation::{character_start, is_continuation};
-pub use decoder::{decode_lossy, decode_strict, lossy_len};
+pub use decoder::{decode_lossy, decode_strict, lossy_len, refuse};
 pub use encoder::{encode, encode_into};
 pub use lengths::encoded_len;
 pub use writers::{copy, copy_text};

@@ -105,7 +105,12 @@ fn appends_what_was_counted(rt: HostRuntime) -> Result<(), Fail> {
             counted.encode_into(&mut buf)?;
             let encoded = row.encoded(flavor);
             assert_eq!(rt; buf.as_slice(), encoded, "{flavor:?} at {}", row.name);
-            assert_eq!(rt; counted.encoded_len(), encoded.len(), "{flavor:?} at {}", row.name);
+            assert_eq!(rt;
+                counted.encoded_len(),
+                encoded.len(),
+                "{flavor:?} at {}",
+                row.name
+            );
         }
     }
     Ok(())

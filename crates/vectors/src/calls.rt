@@ -4,7 +4,7 @@ use crate::helpers::flavors;
 use crate::helpers::flavors::Flavor;
 use java_text::{ReadFault, WriteFault, read_utf, read_utf_lossy, write_utf};
 use simd_cesu8::implementation::{active, fallback, simd, word};
-use simd_cesu8::{CowBytes, CowText, DecodeFault, DecodingError, laws};
+use simd_cesu8::{CountedText, CowBytes, CowText, DecodeFault, DecodingError, laws};
 use std::alloc::{AllocError, Global};
 use std::io::{ErrorKind, Write};
 use std::{io, str};
@@ -55,6 +55,7 @@ fn make_of_text(rt: &HostRuntime, call: &str, flavor: Flavor, text: &str) -> io:
         "encoded_len" => tell_length(rt, Some(flavors::encoded_len(flavor, text))),
         "encode" => tell_bytes(rt, flavors::encode(rt.alloc(), flavor, text)),
         "into_vec" => make_into_vec(rt, flavor, text),
+        "counted" => append_counted(rt, Vec::new(rt.alloc()), flavors::counted(flavor, text)),
         "encode_into" => append(rt, Ok(Vec::new(rt.alloc())), flavor, text),
         "encode_into_full" => {
             let full = vec![in rt.alloc(); 1, 2].map_err(AllocError::from);
@@ -157,11 +158,12 @@ fn append(
     let Ok(mut buf) = buf else {
         return tell(rt, "memory", &[]);
     };
-    let outcome = match flavors::encode_into(flavor, text, &mut buf) {
-        Ok(()) => "appended",
-        Err(_) => "memory",
-    };
-    tell(rt, outcome, buf.as_slice())
+    tell_appended(rt, flavors::encode_into(flavor, text, &mut buf), &buf)
+}
+
+/// Appends what was counted to a buffer, and prints its bytes, after a refusal too.
+fn append_counted(rt: &HostRuntime, mut buf: Vec<u8>, counted: CountedText<'_>) -> io::Result<()> {
+    tell_appended(rt, counted.encode_into(&mut buf), &buf)
 }
 
 /// Writes a Java string to a buffer, if there is one, and prints its bytes, after a refusal too.
@@ -216,6 +218,17 @@ fn tell_text(rt: &HostRuntime, answer: Result<CowText<'_>, DecodeFault>) -> io::
         ),
         Err(DecodeFault::Invalid(_)) => tell(rt, "invalid", &[]),
         Err(DecodeFault::Memory(_)) => tell(rt, "memory", &[]),
+    }
+}
+
+fn tell_appended(
+    rt: &HostRuntime,
+    answer: Result<(), AllocError>,
+    buf: &Vec<u8>,
+) -> io::Result<()> {
+    match answer {
+        Ok(()) => tell(rt, "appended", buf.as_slice()),
+        Err(_) => tell(rt, "memory", buf.as_slice()),
     }
 }
 

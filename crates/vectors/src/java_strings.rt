@@ -58,7 +58,10 @@ fn writes_behind_a_full_buffer(rt: HostRuntime) -> Result<(), Fail> {
             assert_eq!(rt; buf.capacity(), length);
             write_utf(text, &mut buf)?;
             let (before, written) = buf.as_slice().split_at_checked(length).ok_or("cut")?;
-            assert!(rt; before.iter().all(is_filler), "{length} bytes, then {text:?}");
+            assert!(rt;
+                before.iter().all(is_filler),
+                "{length} bytes, then {text:?}"
+            );
             assert_eq!(rt; written, form, "{length} bytes, then {text:?}");
         }
     }

@@ -74,6 +74,15 @@ pub fn decode_strict<A: Allocator>(
     exactly(text, bytes.len()).map_err(DecodeFault::Memory)
 }
 
+/// The fault of bytes that are known to have no strict reading. Memory for so many is asked for first,
+/// as it is of others.
+pub fn refuse<A: Allocator>(alloc: A, len: usize) -> DecodeFault {
+    match String::with_capacity(alloc, len) {
+        Ok(_) => DecodeFault::Invalid(DecodingError(())),
+        Err(error) => DecodeFault::Memory(error),
+    }
+}
+
 /// The lossy reading of the bytes, after one request for its length. A length that does not fit
 /// counts as refused. Up to a window is read before memory is asked for, so that no pass measures it.
 pub fn decode_lossy<A: Allocator>(

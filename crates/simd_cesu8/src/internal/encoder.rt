@@ -31,7 +31,11 @@ use std::alloc::{AllocError, Allocator};
 /// The encoding of a text, after one request for exactly its length. It is not inlined, so that a
 /// text that is borrowed pays for none of its stack.
 #[inline(never)]
-pub fn encode<A: Allocator + Copy>(alloc: A, flavor: Flavor, text: &str) -> Result<Vec<u8, A>, AllocError>
+pub fn encode<A: Allocator + Copy>(
+    alloc: A,
+    flavor: Flavor,
+    text: &str,
+) -> Result<Vec<u8, A>, AllocError>
     ensures bytes { IfOk result (λ encoded.
         encoded.items ≡ encoding (flavor_of flavor) (chars text.now)) }
     ensures capacity { IfOk result (λ encoded.

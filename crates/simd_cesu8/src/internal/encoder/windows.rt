@@ -99,7 +99,11 @@ fn put_before_zeros(near: &[u8], window: &mut [u8; 35])
 
 /// Appends what the first `count` bytes of a window of one block become.
 #[inline(always)]
-fn write_end<N: NullForm, A: Allocator + Copy>(window: &[u8; 35], count: usize, out: &mut Vec<u8, A>)
+fn write_end<N: NullForm, A: Allocator + Copy>(
+    window: &[u8; 35],
+    count: usize,
+    out: &mut Vec<u8, A>,
+)
     requires short { count ≤ 32 }
     requires room { vec_len out.old + length (places N.flavor window.now 0 count)
         ≤ vec_capacity out.old }
