@@ -100,6 +100,11 @@ pub refused_whole : (f : Flavor) (lossy : Bool) (bytes : List ℕ) (fault : Deco
 refused_whole f lossy bytes (Invalid error) refused = fault_of_whole f bytes refused.1
 refused_whole f lossy bytes (Memory error) memory = memory
 
+-- Whatever the fault is, it is right of bytes that have no strict reading.
+pub refused_by_any : {P : Type 0} (fault : DecodeFault) → P → IfInvalid fault P
+refused_by_any (Invalid error) holds = holds
+refused_by_any (Memory error) holds = tt
+
 -- The text of what was decoded into nothing.
 pub decoded_text : (f : Flavor) (lossy : Bool) (bytes old out : List ℕ) → old ≡ [] →
     ((text : List ℕ) × IsDecodedText f lossy bytes text × (out ≡ old ++ utf8 text)) → IsDecodedText f lossy bytes (chars out)
