@@ -1,22 +1,19 @@
 -- What the decoder's vectors say of the bytes of a block, by their places.
-use Rattle.std.proofs.Common.{◌≡◌, ◌≢◌, ℕ, zero, suc, ◌+◌, ◌-◌, ◌*◌, ◌/◌, ◌%◌, ◌^◌, ◌<◌, ◌≤◌, ⊎_elim, Bool, true, false, ◌&&◌, ◌||◌, not, eqb, leb, ltb, List, [], ◌∷◌, ◌++◌, refl, sym, ap, ◌∙◌, subst, arith, cond, get_or, map, take, drop, length, replicate, bit_and, bit_or, bit_xor, add-zero, zero-add, Fits, w8}
+use Rattle.std.proofs.Common.{◌≡◌, ℕ, zero, suc, ◌+◌, ◌-◌, ◌*◌, ◌/◌, ◌%◌, ◌^◌, ◌<◌, ◌≤◌, true, false, not, eqb, leb, List, [], ◌∷◌, ◌++◌, refl, sym, ap, ◌∙◌, subst, arith, cond, get_or, map, take, length, replicate, bit_and, bit_or, bit_xor, Fits, w8}
 use Rattle.std.specs.List.{flat_map, range_with_len}
-use Rattle.std.proofs.lemmas.Bool.{agree_below_at, cases_lt, cases_Bool, eqb-true, le-leb, lt-leb, eq-eqb, ne_eqb, cases_eq}
-use Rattle.std.proofs.lemmas.Bool.Decides.{nat_tests}
-use Rattle.std.proofs.lemmas.Nat.{and_le_l, and_mask, le_or_l, le_or_r, or_lt, or_mod, or_block, or_shifted}
+use Rattle.std.proofs.lemmas.Nat.{and_le_l}
 use Rattle.std.proofs.lemmas.List.{take-map}
 use Rattle.std.proofs.lemmas.List.FromFn.{take-map-range_with_len, length-map-range_with_len}
 use Rattle.std.proofs.lemmas.Simd.{map-map, pick_l-range_with_len, tops_compared}
-use Rattle.std.specs.Int.Bits.{and_zero_r}
-use lib.Lanes.{zip2, sel_l, mask_l, top, chunk, Each1}
-use Rattle.simd_cesu8.specs.Encoding.{Flavor, Cesu8, Mutf8}
+use lib.Lanes.{zip2, sel_l, top, chunk, Each1}
+use Rattle.simd_cesu8.specs.Encoding.{Flavor}
 use Rattle.simd_cesu8.specs.EncodedPlaces.{is_null, mask}
-use Rattle.simd_cesu8.specs.DecodedPlaces.{one_at, null_at, two_at, three_at, pair_at, front_width_by, width_at, is_damaged_at, decoded_at, decoded}
-use Rattle.simd_cesu8.specs.DecodedLanes.{start_code, AreStartCodes, is_high, goes_at, byte_at, written_for, written, written_lanes}
+use Rattle.simd_cesu8.specs.DecodedPlaces.{is_damaged_at, decoded_at, decoded}
+use Rattle.simd_cesu8.specs.DecodedLanes.{start_code, AreStartCodes, is_high, goes_at, byte_at, written, written_lanes}
 use Rattle.simd_cesu8.specs.declared.internal.decoder.parts.TheConstants.{FIRST_BY_SECOND, SECOND_BY_SECOND, THIRD_BY_THIRD}
 use Rattle.simd_cesu8.proofs.EncodedLanes.{loaded}
 use Rattle.simd_cesu8.proofs.DecodedParts.{decoded_is_written}
-use Rattle.simd_cesu8.proofs.StartCodes.{Start, nothing, one, null, two_low, two_high, three_low, three_high, three_last, pair, start_at, pair_bit, over_two, over_one, null_bit}
+use Rattle.simd_cesu8.proofs.StartCodes.{start_at}
 use Rattle.simd_cesu8.proofs.LaneTests.{gone_lane, lane_goes, covered_lane, damaged_lane, lane_damaged, mask_fits, byte_lane, lane_byte}
 use Rattle.simd_cesu8.proofs.FirstLanes.{behind_lanes, before_lanes, gone_behind, undamaged_behind, written_first}
 

@@ -1,11 +1,10 @@
 -- What each byte becomes, told apart: whether it goes, whether it is damaged, and the byte that is written.
-use Rattle.std.proofs.Common.{◌≡◌, ℕ, zero, suc, ◌≢◌, ◌+◌, ◌-◌, ◌*◌, ◌/◌, ◌%◌, ◌<◌, ◌≤◌, ⊎_elim, Bool, true, false, true≢false, ◌&&◌, ◌||◌, not, eqb, leb, ltb, List, [], ◌∷◌, ◌++◌, refl, sym, ap, ◌∙◌, arith, cond, get_or, map}
-use Rattle.std.specs.List.{flat_map, range_with_len}
-use Rattle.std.proofs.lemmas.Bool.{and_parts, eqb-true, ltb-true, ne_eqb, or_cases, leb-true, le-leb}
+use Rattle.std.proofs.Common.{◌≡◌, ℕ, zero, suc, ◌≢◌, ◌+◌, ◌-◌, ◌<◌, ◌≤◌, ⊎_elim, Bool, true, false, true≢false, ◌&&◌, ◌||◌, not, eqb, leb, ltb, List, [], ◌∷◌, refl, sym, ap, ◌∙◌, arith, cond, get_or}
+use Rattle.std.proofs.lemmas.Bool.{and_parts, eqb-true, ltb-true, ne_eqb, or_cases}
 use Rattle.std.proofs.lemmas.Bool.Decides.{nat_tests}
-use Rattle.simd_cesu8.specs.Encoding.{Flavor, Cesu8, Mutf8}
-use Rattle.simd_cesu8.specs.DecodedPlaces.{front_width_by, width_at, one_at, null_at, two_at, three_at, pair_at, continues, decoded_byte, decoded_at, decoded, damaged_by, is_damaged_at}
-use Rattle.simd_cesu8.specs.DecodedLanes.{goes_by, byte_by, goes_at, byte_at, written_for, written}
+use Rattle.simd_cesu8.specs.Encoding.{Flavor}
+use Rattle.simd_cesu8.specs.DecodedPlaces.{front_width_by, width_at, one_at, null_at, two_at, three_at, pair_at, continues, decoded_byte, decoded_at, is_damaged_at}
+use Rattle.simd_cesu8.specs.DecodedLanes.{goes_at, byte_at, written_for}
 
 -- ---- one place
 

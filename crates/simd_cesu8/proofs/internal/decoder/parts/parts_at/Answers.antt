@@ -1,4 +1,3 @@
-use Rattle.std.proofs.Common.{◌-◌}
 use Rattle.simd_cesu8.proofs.DecodedBlocks.{block_written}
 use Rattle.simd_cesu8.proofs.internal.decoder.parts.parts_at.Goals as goal
 

@@ -1,4 +1,4 @@
-use Rattle.std.proofs.Common.{◌-◌, ap, ◌∙◌, sym, eqb}
+use Rattle.std.proofs.Common.{◌-◌, ap, ◌∙◌, sym}
 use Rattle.std.proofs.lemmas.Bool.{not-true, not-false, eqb-true, eqb-false}
 use lib.Lanes.{mask_l}
 use Rattle.simd_cesu8.specs.DecodedPlaces.{is_damaged_at}

@@ -1,4 +1,4 @@
-use Rattle.std.proofs.Common.{◌+◌, ◌∙◌, arith, refl, zero-add}
+use Rattle.std.proofs.Common.{◌∙◌, arith, refl}
 use Rattle.simd_cesu8.specs.DecodedPlaces.{decoded, is_damaged_at}
 use Rattle.simd_cesu8.proofs.DecodedWindows.{more_damaged, none_damaged, more_written}
 use Rattle.simd_cesu8.proofs.internal.decoder.windows.write_blocks.Goals as goal

@@ -1,4 +1,4 @@
-use Rattle.std.proofs.Common.{◌≡◌, ◌+◌, ◌-◌, ◌*◌, ◌<◌, ◌≤◌, ℕ, true, false, length, take}
+use Rattle.std.proofs.Common.{◌≡◌, ◌-◌, ◌*◌, ◌<◌, ◌≤◌, ℕ, true, false, length, take}
 use Rattle.simd_cesu8.specs.DecodedPlaces.{decoded, is_damaged_at}
 use Rattle.simd_cesu8.proofs.internal.decoder.windows.write_blocks.Given as goal
 

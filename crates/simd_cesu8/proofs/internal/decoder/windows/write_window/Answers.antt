@@ -1,4 +1,4 @@
-use Rattle.std.proofs.Common.{◌≡◌, ◌+◌, ◌≤◌, sym, ◌∙◌, subst, length, arith, rules}
+use Rattle.std.proofs.Common.{◌≤◌, sym, ◌∙◌, subst, length, arith, rules}
 use Rattle.std.proofs.lemmas.List.{take_all}
 use Rattle.simd_cesu8.specs.DecodedPlaces.{IsPadded}
 use Rattle.simd_cesu8.proofs.DecodedWindows.{IsRead, all_read, part_read, read_lossily, read_strictly, read_fault}
