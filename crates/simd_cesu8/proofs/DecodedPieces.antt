@@ -3,34 +3,18 @@ use Rattle.std.proofs.Common.{◌≡◌, ℕ, zero, suc, ◌+◌, ◌<◌, ◌�
 use Rattle.std.proofs.lemmas.List.{take-append-drop, length-take-le, get_or-take}
 use Rattle.simd_cesu8.specs.Text.{IsText, utf8}
 use Rattle.simd_cesu8.specs.Encoding.{Flavor}
-use Rattle.simd_cesu8.specs.Reading.{reading, IsStrictReading, HasNoStrictReading}
+use Rattle.simd_cesu8.specs.Reading.{reading, IsStrictReading}
 use Rattle.simd_cesu8.specs.Cutting.{Piece, Character, Replaced, ArePieces, text_of}
 use Rattle.simd_cesu8.specs.Laws.{NoneCrosses}
 use Rattle.simd_cesu8.specs.Pieces.{IsPiece, HasFault}
-use Rattle.simd_cesu8.specs.DecodedPlaces.{width_at, decoded, is_damaged_at, is_border_at, IsPadded, IsPaddedFor}
+use Rattle.simd_cesu8.specs.DecodedPlaces.{decoded, is_damaged_at, is_border_at, IsPadded, IsPaddedFor}
 use Rattle.simd_cesu8.proofs.Cuttings.{greedy_cutting}
 use Rattle.simd_cesu8.proofs.Greedy.{places}
 use Rattle.simd_cesu8.proofs.Splits.{split}
-use Rattle.simd_cesu8.proofs.Pieces.{fault_of_whole}
-use Rattle.simd_cesu8.proofs.WindowPlaces.{Agree, follows_zeros, width_agrees, border_agrees, damage_agrees, decoded_agrees}
-use Rattle.simd_cesu8.proofs.PlaceBorders.{border_of_zeros, none_crosses_border, border_at_character, border_at_end, border_near}
+use Rattle.simd_cesu8.proofs.WindowPlaces.{Agree, follows_zeros, border_agrees, damage_agrees, decoded_agrees}
+use Rattle.simd_cesu8.proofs.PlaceBorders.{border_of_zeros, none_crosses_border, border_near}
 use Rattle.simd_cesu8.proofs.Damage.{IsCovered, piece_of_text, covered_read, uncovered_fault, covered_where, not_covered_where, covered_in_front}
-use Rattle.simd_cesu8.proofs.DecodedText.{decoded_between, padded_follows, padded_border}
-
--- ---- strict reading of all bytes
-
--- Bytes with no damaged place are the encoding of their lossy reading.
-pub strict_where_none_damaged : (f : Flavor) (bytes window : List ℕ) → IsPadded bytes window →
-    ((i : ℕ) → i < length bytes → is_damaged_at f window i ≡ false) → IsStrictReading f bytes (reading f bytes)
-strict_where_none_damaged f bytes window padded fine =
-    covered_read f bytes (λ i inside. covered_where f window bytes (padded_follows bytes window padded) (padded_border f bytes window padded) i inside (fine i inside))
-
--- Those with one have no strict reading.
-pub no_strict_where_damaged : (f : Flavor) (bytes window : List ℕ) (i : ℕ) → IsPadded bytes window → i < length bytes →
-    is_damaged_at f window i ≡ true → HasNoStrictReading f bytes
-no_strict_where_damaged f bytes window i padded inside damaged =
-    fault_of_whole f bytes (uncovered_fault f bytes i inside
-    (not_covered_where f window bytes (padded_follows bytes window padded) (padded_border f bytes window padded) i inside damaged))
+use Rattle.simd_cesu8.proofs.DecodedText.{decoded_between}
 
 -- ---- pieces
 
@@ -76,19 +60,6 @@ module _ (f : Flavor) (bytes window : List ℕ) (n : ℕ) (padded : IsPaddedFor 
 
   agrees : (i m : ℕ) → i + m ≤ n + 10 → Agree window all i i m
   agrees i m fits k small = padded (i + k) (omega arith)
-
-  -- Where a character begins is a border.
-  pub border_before : (i : ℕ) → i < n → i < length bytes → 0 < width_at f window (i + 5) → is_border_at f window i ≡ true
-  border_before i before inside some =
-      border_agrees f window all i i (agrees i 10 (omega arith))
-      ∙ border_at_character f all bytes i (follows_zeros bytes) (border_of_zeros f bytes) inside
-      (omega (arith, width_agrees f window all (i + 5) (i + 5) (agrees (i + 5) 6 (omega arith))))
-
-  -- The end of the bytes is one.
-  pub border_last : length bytes ≡ n → is_border_at f window n ≡ true
-  border_last end =
-      border_agrees f window all n n (agrees n 10 (omega arith))
-      ∙ subst (λ m. is_border_at f all m ≡ true) end (border_at_end f all bytes (follows_zeros bytes) (border_of_zeros f bytes))
 
   module _ (fits : n ≤ length bytes) where
     -- The end of the first n is a border, or one of the five places before it is.

@@ -70,9 +70,3 @@ padded_follows bytes window padded k = padded (5 + k) ∙ follows_zeros bytes k
 pub padded_border : (f : Flavor) (bytes window : List ℕ) → IsPadded bytes window → is_border_at f window 0 ≡ true
 padded_border f bytes window padded =
     border_agrees f window (0 ∷ 0 ∷ 0 ∷ 0 ∷ 0 ∷ bytes) 0 0 (λ k small. padded (0 + k)) ∙ border_of_zeros f bytes
-
--- What all bytes become is the UTF-8 of the lossy reading.
-pub decoded_is_reading : (f : Flavor) (bytes window : List ℕ) → IsPadded bytes window →
-    decoded f window 0 (length bytes) ≡ utf8 (reading f bytes)
-decoded_is_reading f bytes window padded =
-    decoded_from_border f window bytes 0 (padded_follows bytes window padded) (padded_border f bytes window padded)

@@ -1,5 +1,5 @@
 -- Text that is read a piece at a time.
-use Rattle.std.proofs.Common.{◌≡◌, ℕ, ◌+◌, ◌-◌, Bool, true, false, List, [], ◌++◌, Result, Ok, Err, IfOk, MatchResult, is_ok, true≢false, refl, sym, ap, ◌∙◌, subst, arith, length, take, drop, append_assoc, length-append, length-drop}
+use Rattle.std.proofs.Common.{◌≡◌, ℕ, ◌+◌, Bool, true, false, List, [], ◌++◌, Result, Ok, Err, IfOk, MatchResult, is_ok, true≢false, refl, sym, ap, ◌∙◌, subst, arith, length, take, drop, append_assoc, length-append, length-drop}
 use Rattle.std.specs.Str.{chars, IsUtf8}
 use Rattle.std.proofs.lemmas.List.{take-append-drop}
 use Rattle.simd_cesu8.specs.Text.{utf8}

@@ -3,7 +3,7 @@ use Rattle.std.proofs.Common.{◌≡◌, ℕ, ◌+◌, ◌*◌, ◌<◌, ◌⊎�
 use Rattle.std.proofs.lemmas.Bool.{ne_eqb, cases_eq}
 use Rattle.simd_cesu8.specs.Text.{IsScalarValue, utf8_of, utf8}
 use Rattle.simd_cesu8.specs.Encoding.{Flavor, Cesu8, Mutf8, encoding}
-use Rattle.simd_cesu8.specs.Reading.{NoneBegins, width, reading, lossy_length}
+use Rattle.simd_cesu8.specs.Reading.{NoneBegins, width, reading}
 use Rattle.simd_cesu8.specs.Cutting.{Piece, Character, Replaced, ArePieces, bytes_of, text_of, IsGreedy}
 use Rattle.simd_cesu8.specs.DecodedPlaces.{front_width, saved, saved_between, all_saved}
 use Rattle.simd_cesu8.proofs.Shapes.{Shape, one, two, three, pair, shape, utf8_of_one, utf8_of_two, utf8_of_three, utf8_of_pair}
@@ -114,9 +114,3 @@ all_between f window (b ∷ bytes) i follows =
     let place : 1 + i ≡ i + 1 = omega arith in
     let rest = all_between f window bytes (i + 1) (subst (Follows window bytes) place (follows_later window (b ∷ bytes) i 1 follows)) in
     (λ k. saved (width k) (first k) + rest k)
-
--- So the length of the lossy reading is three times the bytes, less what is saved between their ends.
-pub length_by_places : (f : Flavor) (bytes : List ℕ) → lossy_length f bytes + saved_between f bytes 0 (length bytes) ≡ 3 * length bytes
-unfolding lossy_length
-length_by_places f bytes =
-    omega (arith, length_by_savings f bytes, all_between f bytes bytes 0 (λ k. ap (λ p. get_or bytes p 0) (zero-add k)))

@@ -1,7 +1,7 @@
 -- What is told of the places of a window rests on its bytes there and a few more.
 use Rattle.std.proofs.Common.{◌≡◌, ℕ, zero, suc, ◌+◌, ◌<◌, ◌≤◌, List, ◌++◌, refl, sym, ap, ◌∙◌, arith, get_or, append_assoc, add-zero, zero-add, suc-add, length, drop, length-drop, get_or-drop, ◌∷◌}
 use Rattle.simd_cesu8.specs.Encoding.{Flavor}
-use Rattle.simd_cesu8.specs.DecodedPlaces.{front_width, front_width_by, width_at, decoded_byte, decoded_at, decoded, is_damaged_at, damaged_by, is_border_at, border_by, saved, saved_between}
+use Rattle.simd_cesu8.specs.DecodedPlaces.{front_width, front_width_by, width_at, decoded_byte, decoded_at, decoded, is_damaged_at, damaged_by, is_border_at, border_by, saved_between}
 use Rattle.simd_cesu8.proofs.WidthTests.{width_by_six}
 
 -- Two windows have the same n bytes, one from i on and the other from j on.
@@ -69,16 +69,6 @@ decoded_split f window i zero n = rw (add-zero i, zero-add n) refl
 decoded_split f window i (suc m) n =
     let place : i + 1 + m ≡ i + suc m = omega arith in
     rw (suc-add m n, decoded_split f window (i + 1) m n, place) (sym (append_assoc (decoded_at f window i) _ _))
-
--- What n places save rests on five more bytes.
-pub saved_agrees : (f : Flavor) (a b : List ℕ) (i j n : ℕ) → Agree a b i j (n + 5) → saved_between f a i n ≡ saved_between f b j n
-unfolding saved_between
-saved_agrees f a b i j zero agree = refl
-saved_agrees f a b i j (suc n) agree =
-    let width = width_first f a b i j (suc n + 5) (omega arith) agree in
-    let byte = first_agrees a b i j (suc n + 5) (omega arith) agree in
-    let rest = saved_agrees f a b (i + 1) (j + 1) n (agree_later a b i j (suc n + 5) 1 (n + 5) (omega arith) agree) in
-    (λ k. saved (width k) (byte k) + rest k)
 
 -- What more places save is what the first save and the others.
 pub saved_split : (f : Flavor) (window : List ℕ) (i m n : ℕ) →

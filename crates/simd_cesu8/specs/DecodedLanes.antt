@@ -1,8 +1,7 @@
 -- What the vectors of the decoder hold, lane by lane.
-use Rattle.std.specs.Prelude.{◌≡◌, ℕ, zero, suc, ◌+◌, ◌*◌, ◌/◌, ◌%◌, ◌-◌, ◌<◌, ◌&&◌, ◌||◌, ◌==◌, nat_le, nat_lt, if◌then◌else◌, Bool, true, false, List, [], ◌∷◌, ◌++◌, map, length, slice_index, slice_index_or, replicate}
-use Rattle.std.specs.List.{range_with_len}
-use Rattle.simd_cesu8.specs.Encoding.{Flavor, Cesu8, Mutf8}
-use Rattle.simd_cesu8.specs.DecodedPlaces.{one_at, null_at, two_at, three_at, pair_at, width_at, is_damaged_at, saved}
+use Rattle.std.specs.Prelude.{◌≡◌, ℕ, zero, suc, ◌+◌, ◌*◌, ◌/◌, ◌%◌, ◌-◌, ◌<◌, ◌&&◌, ◌||◌, ◌==◌, nat_le, nat_lt, if◌then◌else◌, Bool, List, [], ◌∷◌, ◌++◌, map, length, slice_index, slice_index_or, replicate}
+use Rattle.simd_cesu8.specs.Encoding.{Flavor}
+use Rattle.simd_cesu8.specs.DecodedPlaces.{null_at, two_at, three_at, pair_at, width_at, saved}
 
 -- The code of the character that begins at a place, by the six bytes there: a bit, or 0 where none
 -- begins or one of one byte.

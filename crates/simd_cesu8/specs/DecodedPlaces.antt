@@ -49,22 +49,6 @@ front_width_by f a b d e g h =
     else if pair_at a b d e g h then 6
     else 0
 
--- The bit of a first byte E0 to EF, and a second.
-abbrev pub three_code : ℕ → ℕ → ℕ
-three_code a b =
-    if a == 0xE0 then (if nat_le 0xA0 b then 4 else 0)
-    else if a == 0xED then (if nat_lt b 0xA0 then 0x10 else if nat_lt b 0xB0 then 0x20 else 0x40)
-    else 8
-
--- What two bytes begin if the bytes behind them agree, as a bit: 1 or 2 for two bytes, 4, 8 or 10
--- (hexadecimal) for three, 20 for a surrogate pair and 40 for its second half, 80 for C0 and 80 to 8F.
-unfoldable pub code_by : ℕ → ℕ → ℕ
-code_by a b =
-    if two_at a b then (if nat_lt a 0xD0 then 1 else 2)
-    else if nat_le 0xE0 a && (nat_lt a 0xF0 && continues b) then three_code a b
-    else if a == 0xC0 && (nat_le 0x80 b && nat_lt b 0x90) then 0x80
-    else 0
-
 -- How wide the character is that begins at place i of a window, by six bytes of it. Behind the window
 -- there are zeros.
 abbrev pub width_at : Flavor → List ℕ → ℕ → ℕ

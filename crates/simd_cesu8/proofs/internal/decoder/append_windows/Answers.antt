@@ -1,4 +1,4 @@
-use Rattle.std.proofs.Common.{◌∙◌, sym, rules, arith, refl}
+use Rattle.std.proofs.Common.{rules, arith, refl}
 use Rattle.std.specs.String.{string_bytes}
 use Rattle.simd_cesu8.specs.Internal.{flavor_of}
 use Rattle.simd_cesu8.proofs.Decoding.{nothing_read}

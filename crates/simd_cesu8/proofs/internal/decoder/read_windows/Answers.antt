@@ -1,4 +1,3 @@
-use Rattle.std.specs.String.{string_bytes}
 use Rattle.std.proofs.lemmas.List.{take_rest}
 use Rattle.simd_cesu8.specs.Internal.{flavor_of}
 use Rattle.simd_cesu8.proofs.Pieces.{piece_appended}
