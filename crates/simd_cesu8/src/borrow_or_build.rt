@@ -92,8 +92,11 @@ pub fn decode_strict(
         return Err(internal::refuse(alloc, bytes.len()));
     }
     match whole_text(bytes) {
-        Ok(whole) => Ok(CowText::Borrowed(whole)),
-        Err(_) => Ok(CowText::Owned(internal::decode_strict(alloc, flavor, bytes)?)),
+        Ok(text) => Ok(CowText::Borrowed(text)),
+        Err(_) => {
+            let built = internal::decode_strict(alloc, flavor, bytes)?;
+            Ok(CowText::Owned(built))
+        }
     }
 }
 

@@ -18,11 +18,11 @@ returns-then-contains_changed-clause-invalid c =
 
 pub returns-in-Ok-clause-text : goal.returns-in-Ok-clause-text
 returns-in-Ok-clause-text c =
-    unchanged_reading (flavor_of c.args.flavor) c.args.bytes.now c.in-Ok.whole.now c.in-Ok.ensures.cases.0
+    unchanged_reading (flavor_of c.args.flavor) c.args.bytes.now c.in-Ok.text.now c.in-Ok.ensures.cases.0
     (c.in-Ok.ensures.cases.1, λ found. iff_false c.contains_changed.ensures c.if-contains_changed.false found)
 
-pub returns-in_ok-decode_strict-in-Err-clause-borrowed : goal.returns-in_ok-decode_strict-in-Err-clause-borrowed
-returns-in_ok-decode_strict-in-Err-clause-borrowed c =
-    let built = c.in_ok-decode_strict-in-Err.field-0 in
+pub returns-in_ok-built-in-Err-clause-borrowed : goal.returns-in_ok-built-in-Err-clause-borrowed
+returns-in_ok-built-in-Err-clause-borrowed c =
+    let built = c.in_ok-built-in-Err.built in
     never_borrowed (changed_text (flavor_of c.args.flavor) c.args.bytes.now (string_bytes built) (λ unchanged. c.in-Err.ensures.cases unchanged.0)
-    (IsUtf8-string_bytes built) c.in_ok-decode_strict-in-Err.ensures.text)
+    (IsUtf8-string_bytes built) c.in_ok-built-in-Err.ensures.text)
