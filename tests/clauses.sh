@@ -98,7 +98,6 @@ sources() {
     those cesu8_static '' >"$scratch/exports"
     those cesu8_static mutf8:: | of_cesu8 | sort >"$scratch/exports_mutf8"
     same 'the exports of the two encodings' "$scratch/exports" "$scratch/exports_mutf8"
-<<<<<<< HEAD
     awk -F '\t' -v OFS='\t' '
         $3 != "!item" {
             sub(/^implementation::simd::/, "implementation::", $2)
@@ -135,22 +134,6 @@ texts() {
     awk -f tests/definitions.awk "$scratch/cited" "${files[@]}" \
         crates/{simd_cesu8,java_text,cesu8_cli,cesu8_static}/specs/*.antt |
         sed 's,^crates/\([a-z0-9_]*\)/\([^\t]*\)\t,\1 \2: ,'
-=======
-    {
-        cat "$scratch/root" "$scratch/simd" "$scratch/exports"
-        clauses simd_cesu8 '' cow.rt
-        clauses simd_cesu8 '' counted_text.rt
-        clauses simd_cesu8 '' error.rt
-        clauses simd_cesu8 laws:: laws.rt
-        clauses java_text '' lib.rt
-        clauses java_text '' fault.rt
-        clauses java_text laws:: laws.rt
-        clauses cesu8_static '' java.rt
-        clauses cesu8_cli '' run.rt
-        clauses cesu8_cli '' answer.rt
-        clauses cesu8_cli '' fault.rt
-    } | sort -u >"$scratch/sources"
->>>>>>> clauses
 }
 
 # What the last cells of the page's tables name: entries that a semicolon parts, each a name and,
