@@ -186,7 +186,7 @@ fn reads_each_place_of_each_length(rt: HostRuntime) -> Result<(), Fail> {
 fn reads_across_the_ends_of_windows(rt: HostRuntime) -> Result<(), Fail> {
     for row in &ROWS {
         for flavor in FLAVORS {
-            for end in [960, 1024, 1984, 2048] {
+            for end in [64, 256, 1024, 1088, 1280, 2048] {
                 for before in end - 40..end + 40 {
                     compare(&rt, rt.alloc(), row, flavor, before, 2200 - before)?;
                 }
