@@ -12,6 +12,7 @@
 //! | text | its encoding | [`encode`]; [`encode_into`] to append it to a buffer of your own |
 //! | text | to know whether that differs from its UTF-8 | [`needs_encoded`] |
 //! | text | the length of its encoding | [`encoded_len`] |
+//! | text | its encoding behind its length, counted once | [`counted`] |
 //! | bytes of the encoding | their text, or a refusal | [`decode_strict`] |
 //! | bytes of the encoding, perhaps damaged | a text in any case | [`decode_lossy_strict`] |
 //! | bytes of the encoding, perhaps damaged | the length of that text | [`lossy_len`] |

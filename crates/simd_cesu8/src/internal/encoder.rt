@@ -74,7 +74,7 @@ pub fn encode_into<A: Allocator + Copy>(
         // An encoding that differs from the UTF-8 is longer.
         append(text.as_bytes(), out);
     } else {
-        write_text(flavor, text, out);
+        append_changed(flavor, text, out);
     }
     Ok(())
 }
@@ -95,6 +95,17 @@ fn encode_short(flavor: Flavor, text: &str, out: &mut [u8; 2 * SHORT]) -> usize
 /// Appends the encoding of a text, for which there is room. It is not inlined, so that a text that
 /// stays as it is pays for none of its stack.
 #[inline(never)]
+fn append_changed<A: Allocator + Copy>(flavor: Flavor, text: &str, out: &mut Vec<u8, A>)
+    requires { vec_len out.old + length (encoding (flavor_of flavor) (chars text.now))
+        ≤ vec_capacity out.old }
+    ensures bytes { out.new.items ≡ out.old.items ++ encoding (flavor_of flavor) (chars text.now) }
+    ensures capacity { vec_capacity out.new ≡ vec_capacity out.old }
+{
+    write_text(flavor, text, out);
+}
+
+/// Appends the encoding of a text, for which there is room.
+#[inline(always)]
 fn write_text<A: Allocator + Copy>(flavor: Flavor, text: &str, out: &mut Vec<u8, A>)
     requires { vec_len out.old + length (encoding (flavor_of flavor) (chars text.now))
         ≤ vec_capacity out.old }
