@@ -1,5 +1,5 @@
 -- What is read and written by windows.
-use Rattle.std.proofs.Common.{◌≡◌, ℕ, ◌+◌, ◌-◌, ◌*◌, ◌<◌, ◌≤◌, ◌⊎◌, ⊎_elim, Bool, true, false, ◌&&◌, ◌||◌, not, eqb, leb, List, [], ◌∷◌, ◌++◌, refl, sym, ap, ◌∙◌, arith, IsTrue, true≢false, map, get_or, length, take, drop, replicate, length-append, length-drop, zero-add, bit_and, bit_or}
+use Rattle.std.proofs.Common.{◌≡◌, ℕ, ◌+◌, ◌-◌, ◌*◌, ◌<◌, ◌≤◌, ◌⊎◌, ⊎_elim, Bool, true, false, ◌&&◌, ◌||◌, not, eqb, leb, List, [], ◌∷◌, ◌++◌, refl, sym, ap, subst, ◌∙◌, arith, IsTrue, true≢false, map, get_or, length, take, drop, replicate, length-append, length-drop, zero-add, bit_and, bit_or}
 use Rattle.std.proofs.lemmas.Bool.{ne_eqb, eq-eqb, le-leb, lt-leb, cases_lt}
 use Rattle.simd_cesu8.specs.Encoding.{Flavor}
 use Rattle.simd_cesu8.specs.DecodedPlaces.{width_at, is_border_at, IsPadded, IsPaddedFor, is_damaged_at, decoded}
@@ -10,9 +10,11 @@ use Rattle.std.proofs.lemmas.Simd.{get_or-put_chunk_below, get_or-put_chunk_at}
 use Rattle.std.proofs.lemmas.List.FromFn.{length-map-range_with_len, get_or-map-range_with_len}
 use lib.Lanes.{put_chunk}
 use Rattle.simd_cesu8.proofs.WindowPlaces.{decoded_split}
-use Rattle.std.proofs.lemmas.Slice.{take-put_mid}
 use borrow.Rule.Slice.PartMut.{put_mid, post_of}
-use Rattle.std.proofs.lemmas.List.{get_or_past, length-take-le}
+use Rattle.std.proofs.lemmas.List.{get_or-drop, take-replicate, take-append-le, length-take-le, length-replicate}
+use Rattle.std.proofs.Math.Seq.{take-append-add}
+use Rattle.std.specs.Str.{IsUtf8}
+use Rattle.std.proofs.lemmas.Str.{IsUtf8-append, IsUtf8-from_ascii}
 use Rattle.simd_cesu8.proofs.EncodedWindows.{zeros_at, padded}
 use Rattle.simd_cesu8.proofs.StartCodes.{start_at, over_one, over_two}
 use Rattle.simd_cesu8.proofs.PlaceBorders.{width_bounds, border_at_end}
@@ -67,24 +69,16 @@ border_told f window codes at are_codes =
 
 -- ---- a window between zeros
 
-zeros_then : (m : ℕ) (rest : List ℕ) → ((i : ℕ) → ◌≡◌ {A = ℕ} (get_or rest i 0) 0) → (i : ℕ) → ◌≡◌ {A = ℕ} (get_or (replicate m 0 ++ rest) i 0) 0
-zeros_then m rest zeros i = padded (replicate m 0) rest zeros i ∙ zeros_at m i
-
--- Bytes that are copied behind five zeros, with zeros behind them.
-pub between_zeros : (window bytes front copied back : List ℕ) (m n : ℕ) → 5 + length bytes ≤ length window →
-    front ≡ replicate (length (take 5 window)) 0 → copied ≡ bytes → back ≡ replicate m 0 →
-    let whole = put_mid 5 (5 + length bytes - 5) (front ++ drop 5 window) copied in
-    n ≡ length whole - (5 + length bytes) → IsPadded bytes (put_mid (5 + length bytes) n whole back)
-between_zeros window bytes front copied back m n fits front_is copied_is back_is rest_is k =
-    let zeros : front ≡ 0 ∷ 0 ∷ 0 ∷ 0 ∷ 0 ∷ [] = front_is ∙ ap (λ l. replicate l 0) (length-take-le 5 window (omega arith)) in
-    let whole = put_mid 5 (5 + length bytes - 5) (front ++ drop 5 window) copied in
-    let begun : take (5 + length bytes) whole ≡ 0 ∷ 0 ∷ 0 ∷ 0 ∷ 0 ∷ bytes =
-    take-put_mid 5 (5 + length bytes - 5) (front ++ drop 5 window) copied (5 + length bytes) (omega (arith, ap length copied_is))
-    (omega (arith, ap length zeros, length-append front (drop 5 window)))
-    ∙ (λ i. take 5 (zeros i ++ drop 5 window) ++ copied_is i) in
-    (λ i. get_or (begun i ++ (back_is i ++ post_of (5 + length bytes) n whole)) k 0)
-    ∙ padded (0 ∷ 0 ∷ 0 ∷ 0 ∷ 0 ∷ bytes) (replicate m 0 ++ post_of (5 + length bytes) n whole)
-    (zeros_then m (post_of (5 + length bytes) n whole) (λ i. get_or_past (post_of (5 + length bytes) n whole) i 0 (omega (arith, length-drop n (drop (5 + length bytes) whole), length-drop (5 + length bytes) whole)))) k
+-- Bytes that are copied into zeros, behind five of them.
+pub between_zeros : (window bytes copied : List ℕ) → 5 + length bytes ≤ length window →
+    window ≡ replicate (length window) 0 → copied ≡ bytes → IsPadded bytes (put_mid 5 (5 + length bytes - 5) window copied)
+between_zeros window bytes copied fits zeros copied_is k =
+    let n = 5 + length bytes - 5 in
+    let all : List ℕ = replicate (length window) 0 in
+    let front : take 5 window ≡ 0 ∷ 0 ∷ 0 ∷ 0 ∷ 0 ∷ [] = ap (take 5) zeros ∙ take-replicate 5 (length window) 0 (omega arith) in
+    (λ i. get_or (front i ++ (copied_is i ++ post_of 5 n window)) k 0)
+    ∙ padded (0 ∷ 0 ∷ 0 ∷ 0 ∷ 0 ∷ bytes) (post_of 5 n window)
+    (λ i. ap (λ w. get_or (drop n (drop 5 w)) i 0) zeros ∙ get_or-drop n (drop 5 all) i 0 ∙ get_or-drop 5 all (n + i) 0 ∙ zeros_at (length window) (5 + (n + i))) k
 
 -- ---- codes
 
@@ -170,3 +164,19 @@ module _ (f : Flavor) (bytes window : List ℕ) (n : ℕ) (is_read : IsRead f by
   -- and one that is damaged is a fault.
   pub read_fault : (i : ℕ) × (i < n) × (is_damaged_at f window i ≡ true) → HasFault f bytes
   read_fault damaged = fault_at f bytes window n is_read.padded is_read.fits damaged.0 damaged.1 damaged.2
+
+-- ---- the test of a short text
+
+-- Zeros behind a text leave it one.
+pub text_and_zeros : (written zeros : List ℕ) (end k n : ℕ) → end ≤ length written → end < 64 → 64 ≤ n → zeros ≡ replicate n 0 →
+    IsUtf8 (take end written) → IsUtf8 (take 64 (put_mid end k written zeros))
+text_and_zeros written zeros end k n fits small long zeros_are text =
+    let front = take end written in
+    let rest = zeros ++ post_of end k written in
+    let place : 64 ≡ length front + (64 - end) = omega (arith, length-take-le end written fits) in
+    let tested : take 64 (front ++ rest) ≡ front ++ replicate (64 - end) 0 =
+    ap (λ n. take n (front ++ rest)) place ∙ take-append-add front rest (64 - end)
+    ∙ ap (λ l. front ++ l) (take-append-le (64 - end) zeros (post_of end k written) (omega (arith, ap length zeros_are, length-replicate {A = ℕ} n 0))
+    ∙ ap (take (64 - end)) zeros_are ∙ take-replicate (64 - end) n 0 (omega arith)) in
+    subst IsUtf8 (sym tested) (IsUtf8-append front (replicate (64 - end) 0) text
+    (IsUtf8-from_ascii (replicate (64 - end) 0) (λ i. omega (arith, zeros_at (64 - end) i))))

@@ -8,7 +8,7 @@
 //! Longer input goes by windows. Where the text is whole, a window is joined as it stands, which is
 //! faster; where that gives no text, this window and a few after it are read by places.
 
-ghost use Rattle.std.specs.Prelude.{◌≡◌, ◌+◌, ◌*◌, ◌<◌, ◌≤◌, ◌++◌, ℕ, length, take, drop, List, Bool, false, true, OnOk, OnErr, IfOk, IfSome, IfNone};
+ghost use Rattle.std.specs.Prelude.{◌≡◌, ◌+◌, ◌*◌, ◌<◌, ◌≤◌, ◌++◌, ℕ, length, drop, replicate, List, false, true, OnOk, OnErr, IfOk, IfSome, IfNone};
 ghost use Rattle.std.specs.String.{string_bytes, string_capacity};
 ghost use Rattle.std.specs.Str.{chars};
 ghost use Rattle.simd_cesu8.specs.Text.{utf8};
@@ -17,6 +17,7 @@ ghost use Rattle.simd_cesu8.specs.Fault.{OnInvalid};
 ghost use Rattle.simd_cesu8.specs.Internal.{flavor_of, IsDecodedText};
 ghost use Rattle.simd_cesu8.specs.Pieces.{IsPiece, IsReadSoFar, HasFault};
 
+mod by_places;
 mod lengths;
 mod packing;
 mod parts;
@@ -30,16 +31,18 @@ use super::window::{SHORT, read_window};
 use super::writers::{copy_text, exactly};
 use super::{DecodeOptions, Flavor};
 use crate::error::{DecodeFault, DecodingError};
+use by_places::read_by_places;
 use parts::ROOM;
-use simdutf8::basic;
 use std::alloc::{AllocError, Allocator};
-use windows::{AROUND, Decoded, write_window};
+use windows::AROUND;
 
 /// How many bytes are read in one window at most.
 const WINDOW: usize = 1024;
 
-/// How many bytes are read in a room that is made faster.
+/// How many bytes are read in rooms that are made faster.
 const SMALL: usize = 256;
+
+const FEW: usize = 64;
 
 /// The lengths of the rooms for a window and for what is written of it: so much and more, since
 /// whole vectors are read and written.
@@ -50,6 +53,10 @@ const WRITTEN_ROOM: usize = 3200;
 const SMALL_WINDOW_ROOM: usize = 336;
 
 const SMALL_WRITTEN_ROOM: usize = 896;
+
+const FEW_ROOM: usize = 144;
+
+const FEW_WRITTEN_ROOM: usize = 320;
 
 /// How many windows are read by places before one is joined again.
 const WINDOWS: usize = 4;
@@ -95,6 +102,9 @@ pub fn decode_lossy<A: Allocator>(
     ensures capacity { IfOk result (λ text.
         string_capacity text ≡ lossy_length (flavor_of flavor) bytes.now) }
 {
+    if bytes.len() <= FEW {
+        return decode_few(alloc, flavor, bytes);
+    }
     if bytes.len() <= SMALL {
         return decode_small(alloc, flavor, bytes);
     }
@@ -115,6 +125,26 @@ pub fn decode_lossy<A: Allocator>(
 }
 
 /// The lossy reading of a few bytes.
+#[inline(never)]
+fn decode_few<A: Allocator>(
+    alloc: A,
+    flavor: Flavor,
+    bytes: &[u8],
+) -> Result<String<A>, AllocError>
+    requires { length bytes.now ≤ FEW }
+    ensures text { IfOk result (λ text.
+        chars (string_bytes text) ≡ reading (flavor_of flavor) bytes.now) }
+    ensures capacity { IfOk result (λ text.
+        string_capacity text ≡ lossy_length (flavor_of flavor) bytes.now) }
+{
+    let mut window = [0; FEW_ROOM];
+    let mut codes = [0; FEW_ROOM];
+    let mut written = [0; FEW_WRITTEN_ROOM];
+    let read = read_by_places(flavor, bytes, &mut window, &mut codes, &mut written);
+    copy_text(alloc, read.text)
+}
+
+/// The lossy reading of the bytes of a small window.
 #[inline(never)]
 fn decode_small<A: Allocator>(
     alloc: A,
@@ -177,24 +207,17 @@ fn read_text<A: Allocator>(
         × (string_bytes out.new ≡ string_bytes out.old ++ utf8 text)) }
     ensures invalid { OnInvalid result (HasNoStrictReading (flavor_of options.flavor) bytes.now) }
 {
-    let mut room = [0; 1088];
-    // A first window that is short refuses most input that is no text.
-    let mut most = if options.lossy { WINDOW } else { SHORT };
     let mut rest = bytes;
     while !rest.is_empty() {
-        rest = read_windows(options, rest, most, &mut room, out)?;
-        most = WINDOW;
+        rest = append_next(options, rest, out)?;
     }
     Ok(())
 }
 
-/// Appends the next piece of text, a window that is joined or some by places, and gives the bytes that
-/// are left.
-fn read_windows<'b, A: Allocator>(
+/// Appends the text of the next bytes, all but a few of them, and gives those that are left.
+fn append_next<'b, A: Allocator>(
     options: DecodeOptions,
     bytes: &'b [u8],
-    most: usize,
-    room: &mut Room,
     out: &mut String<A>,
 ) -> Result<&'b [u8], DecodeFault>
     requires { 0 < length bytes.now }
@@ -207,6 +230,50 @@ fn read_windows<'b, A: Allocator>(
     if bytes.len() <= SMALL {
         return append_small(options, bytes, out);
     }
+    append_long(options, bytes, out)
+}
+
+/// The same for more bytes than are read in a small window. Its room is made only where it is called.
+#[inline(never)]
+fn append_long<'b, A: Allocator>(
+    options: DecodeOptions,
+    bytes: &'b [u8],
+    out: &mut String<A>,
+) -> Result<&'b [u8], DecodeFault>
+    requires { SMALL < length bytes.now }
+    ensures less { IfOk result (λ rest. length rest.now < length bytes.now) }
+    ensures ok { IfOk result (λ rest. IsReadSoFar (flavor_of options.flavor) options.lossy
+        bytes.now rest.now (string_bytes out.old) (string_bytes out.new)) }
+    ensures invalid { OnInvalid result ((options.lossy ≡ false)
+        × HasFault (flavor_of options.flavor) bytes.now) }
+{
+    let mut room = [0; 1088];
+    // A first window that is short refuses most input that is no text.
+    let mut most = if options.lossy { WINDOW } else { SHORT };
+    let mut rest = bytes;
+    while rest.len() > SMALL {
+        rest = read_windows(options, rest, most, &mut room, out)?;
+        most = WINDOW;
+    }
+    Ok(rest)
+}
+
+/// Appends the next piece of text, a window that is joined or some by places, and gives the bytes that
+/// are left.
+fn read_windows<'b, A: Allocator>(
+    options: DecodeOptions,
+    bytes: &'b [u8],
+    most: usize,
+    room: &mut Room,
+    out: &mut String<A>,
+) -> Result<&'b [u8], DecodeFault>
+    requires { SMALL < length bytes.now }
+    ensures less { IfOk result (λ rest. length rest.now < length bytes.now) }
+    ensures ok { IfOk result (λ rest. IsReadSoFar (flavor_of options.flavor) options.lossy
+        bytes.now rest.now (string_bytes out.old) (string_bytes out.new)) }
+    ensures invalid { OnInvalid result ((options.lossy ≡ false)
+        × HasFault (flavor_of options.flavor) bytes.now) }
+{
     if let Some(piece) = read_window(options.flavor, bytes, most, room) {
         append(piece.text, out)?;
         return Ok(&bytes[piece.read..]);
@@ -232,12 +299,12 @@ fn append_windows<'b, A: Allocator>(
     ensures invalid { OnInvalid result ((options.lossy ≡ false)
         × HasFault (flavor_of options.flavor) bytes.now) }
 {
-    let mut window = [0; WINDOW_ROOM];
     let mut codes = [0; WINDOW_ROOM];
     let mut written = [0; WRITTEN_ROOM];
     let mut rest = bytes;
     let mut windows = 0;
     while windows < WINDOWS && !rest.is_empty() {
+        let mut window = [0; WINDOW_ROOM];
         rest = append_window(options, rest, &mut window, &mut codes, &mut written, out)?;
         windows += 1;
     }
@@ -258,9 +325,32 @@ fn append_small<'b, A: Allocator>(
     ensures invalid { OnInvalid result ((options.lossy ≡ false)
         × HasFault (flavor_of options.flavor) bytes.now) }
 {
+    if bytes.len() <= FEW {
+        return append_few(options, bytes, out);
+    }
     let mut window = [0; SMALL_WINDOW_ROOM];
     let mut codes = [0; SMALL_WINDOW_ROOM];
     let mut written = [0; SMALL_WRITTEN_ROOM];
+    append_window(options, bytes, &mut window, &mut codes, &mut written, out)
+}
+
+/// The same for a window of a few bytes.
+#[inline(never)]
+fn append_few<'b, A: Allocator>(
+    options: DecodeOptions,
+    bytes: &'b [u8],
+    out: &mut String<A>,
+) -> Result<&'b [u8], DecodeFault>
+    requires { 0 < length bytes.now }
+    ensures less { IfOk result (λ rest. length rest.now < length bytes.now) }
+    ensures ok { IfOk result (λ rest. IsReadSoFar (flavor_of options.flavor) options.lossy
+        bytes.now rest.now (string_bytes out.old) (string_bytes out.new)) }
+    ensures invalid { OnInvalid result ((options.lossy ≡ false)
+        × HasFault (flavor_of options.flavor) bytes.now) }
+{
+    let mut window = [0; FEW_ROOM];
+    let mut codes = [0; FEW_ROOM];
+    let mut written = [0; FEW_WRITTEN_ROOM];
     append_window(options, bytes, &mut window, &mut codes, &mut written, out)
 }
 
@@ -276,6 +366,7 @@ fn append_window<'b, A: Allocator>(
 ) -> Result<&'b [u8], DecodeFault>
     requires some { 0 < length bytes.now }
     requires window { AROUND + 11 ≤ length window.old }
+    requires zeros { window.old ≡ replicate (length window.old) 0 }
     requires codes { length codes.old ≡ length window.old }
     requires written { 3 * length window.old ≤ length written.old + ROOM }
     ensures less { IfOk result (λ rest. length rest.now < length bytes.now) }
@@ -290,75 +381,6 @@ fn append_window<'b, A: Allocator>(
     }
     append(read.text, out)?;
     Ok(&bytes[read.len..])
-}
-
-/// What is read by places: how many bytes, their text in lossy reading, and whether some of them are
-/// damaged.
-#[derive(Drop)]
-struct ReadWindow<'a> {
-    len: usize,
-    text: &'a str,
-    is_damaged: bool,
-}
-
-/// Reads the first bytes by places.
-#[inline(always)]
-fn read_by_places<'a>(
-    flavor: Flavor,
-    bytes: &[u8],
-    window: &mut [u8],
-    codes: &mut [u8],
-    written: &'a mut [u8],
-) -> ReadWindow<'a>
-    requires window { AROUND + 11 ≤ length window.old }
-    requires codes { length codes.old ≡ length window.old }
-    requires written { 3 * length window.old ≤ length written.old + ROOM }
-    ensures some { 0 < length bytes.now → 0 < result.len }
-    ensures within { result.len ≤ length bytes.now }
-    ensures all { length bytes.now + AROUND ≤ length window.old → result.len ≡ length bytes.now }
-    ensures lossy { IsPiece (flavor_of flavor) true bytes.now
-        (drop result.len bytes.now) result.text.now }
-    ensures strict { result.is_damaged ≡ false → IsPiece (flavor_of flavor) false bytes.now
-        (drop result.len bytes.now) result.text.now }
-    ensures damaged { result.is_damaged ≡ true → HasFault (flavor_of flavor) bytes.now }
-{
-    let decoded = write_in_flavor(flavor, bytes, window, codes, written);
-    match basic::from_utf8(&written[..decoded.end]) {
-        Ok(text) => ReadWindow {
-            len: decoded.read,
-            text,
-            is_damaged: decoded.is_damaged,
-        },
-        Err(_) => unreachable!(),
-    }
-}
-
-/// Writes what becomes of the first bytes.
-#[inline(always)]
-fn write_in_flavor(
-    flavor: Flavor,
-    bytes: &[u8],
-    window: &mut [u8],
-    codes: &mut [u8],
-    written: &mut [u8],
-) -> Decoded
-    requires window { AROUND + 11 ≤ length window.old }
-    requires codes { length codes.old ≡ length window.old }
-    requires written { 3 * length window.old ≤ length written.old + ROOM }
-    ensures some { 0 < length bytes.now → 0 < result.read }
-    ensures within { result.read ≤ length bytes.now }
-    ensures all { length bytes.now + AROUND ≤ length window.old → result.read ≡ length bytes.now }
-    ensures end { result.end ≤ length written.new }
-    ensures lossy { IsPiece (flavor_of flavor) true bytes.now
-        (drop result.read bytes.now) (take result.end written.new) }
-    ensures strict { result.is_damaged ≡ false → IsPiece (flavor_of flavor) false bytes.now
-        (drop result.read bytes.now) (take result.end written.new) }
-    ensures damaged { result.is_damaged ≡ true → HasFault (flavor_of flavor) bytes.now }
-{
-    match flavor {
-        Flavor::Cesu8 => write_window::<OneByteNull>(bytes, window, codes, written),
-        Flavor::Mutf8 => write_window::<TwoByteNull>(bytes, window, codes, written),
-    }
 }
 
 /// Appends a piece of text.

@@ -1,6 +1,6 @@
 //! Windows by places: some bytes are copied between zeros, and what becomes of each is written.
 
-ghost use Rattle.std.specs.Prelude.{◌≡◌, ℕ, ◌+◌, ◌*◌, ◌<◌, ◌≤◌, List, IsTrue, true, false, length, take, drop};
+ghost use Rattle.std.specs.Prelude.{◌≡◌, ℕ, ◌+◌, ◌*◌, ◌<◌, ◌≤◌, List, IsTrue, true, false, length, take, drop, replicate};
 ghost use Rattle.simd_cesu8.specs.Encoding.{Flavor};
 ghost use Rattle.simd_cesu8.specs.DecodedPlaces.{IsPadded, decoded, is_damaged_at, is_border_at};
 ghost use Rattle.simd_cesu8.specs.DecodedLanes.{AreStartCodes};
@@ -39,6 +39,7 @@ pub fn write_window<N: NullForm>(
     out: &mut [u8],
 ) -> Decoded
     requires window { AROUND + 11 ≤ length window.old }
+    requires zeros { window.old ≡ replicate (length window.old) 0 }
     requires codes { length codes.old ≡ length window.old }
     requires out { 3 * length window.old ≤ length out.old + ROOM }
     ensures some { 0 < length bytes.now → 0 < result.read }
@@ -67,16 +68,14 @@ pub fn write_window<N: NullForm>(
     write_blocks::<N>(window, codes, read, out)
 }
 
-/// Copies the bytes behind five zeros, and puts zeros behind them.
+/// Copies the bytes into zeros, behind five of them.
 fn pad(bytes: &[u8], window: &mut [u8])
-    requires { length bytes.now + AROUND ≤ length window.old }
+    requires room { length bytes.now + AROUND ≤ length window.old }
+    requires zeros { window.old ≡ replicate (length window.old) 0 }
     ensures padded { IsPadded bytes.now window.new }
     ensures len { length window.new ≡ length window.old }
 {
-    let end = BEFORE + bytes.len();
-    window[..BEFORE].fill(0);
-    window[BEFORE..end].copy_from_slice(bytes);
-    window[end..].fill(0);
+    window[BEFORE..BEFORE + bytes.len()].copy_from_slice(bytes);
 }
 
 /// Writes the codes of the first places of a window.

@@ -1,0 +1,103 @@
+//! Reads bytes by places in one flavor or the other, and tests that what is written is a text.
+
+ghost use Rattle.std.specs.Prelude.{◌≡◌, ◌+◌, ◌*◌, ◌<◌, ◌≤◌, length, take, drop, replicate, false, true};
+ghost use Rattle.std.specs.Str.{IsUtf8};
+ghost use Rattle.simd_cesu8.specs.Internal.{flavor_of};
+ghost use Rattle.simd_cesu8.specs.Pieces.{IsPiece, HasFault};
+
+use super::parts::ROOM;
+use super::windows::{AROUND, Decoded, write_window};
+use crate::internal::Flavor;
+use crate::internal::null_form::{OneByteNull, TwoByteNull};
+use simdutf8::basic;
+
+/// How many bytes are tested by vectors at least.
+const TESTED: usize = 64;
+
+/// What is read by places: how many bytes, their text in lossy reading, and whether some of them are
+/// damaged.
+#[derive(Drop)]
+pub struct ReadWindow<'a> {
+    pub len: usize,
+    pub text: &'a str,
+    pub is_damaged: bool,
+}
+
+/// Reads the first bytes by places.
+#[inline(always)]
+pub fn read_by_places<'a>(
+    flavor: Flavor,
+    bytes: &[u8],
+    window: &mut [u8],
+    codes: &mut [u8],
+    written: &'a mut [u8],
+) -> ReadWindow<'a>
+    requires window { AROUND + 11 ≤ length window.old }
+    requires zeros { window.old ≡ replicate (length window.old) 0 }
+    requires codes { length codes.old ≡ length window.old }
+    requires written { 3 * length window.old ≤ length written.old + ROOM }
+    ensures some { 0 < length bytes.now → 0 < result.len }
+    ensures within { result.len ≤ length bytes.now }
+    ensures all { length bytes.now + AROUND ≤ length window.old → result.len ≡ length bytes.now }
+    ensures lossy { IsPiece (flavor_of flavor) true bytes.now
+        (drop result.len bytes.now) result.text.now }
+    ensures strict { result.is_damaged ≡ false → IsPiece (flavor_of flavor) false bytes.now
+        (drop result.len bytes.now) result.text.now }
+    ensures damaged { result.is_damaged ≡ true → HasFault (flavor_of flavor) bytes.now }
+{
+    let decoded = write_in_flavor(flavor, bytes, window, codes, written);
+    ReadWindow {
+        len: decoded.read,
+        text: text_of(written, decoded.end),
+        is_damaged: decoded.is_damaged,
+    }
+}
+
+/// The text that is written up to `end`. If it is short, it is tested with zeros behind it: the test
+/// by vectors needs that many bytes.
+#[inline(always)]
+fn text_of(written: &mut [u8], end: usize) -> &str
+    requires room { 2 * TESTED ≤ length written.old }
+    requires end { end ≤ length written.old }
+    requires utf8 { IsUtf8 (take end written.old) }
+    ensures { result.now ≡ take end written.old }
+{
+    let mut len = end;
+    if end < TESTED {
+        written[end..end + TESTED].fill(0);
+        len = TESTED;
+    }
+    match basic::from_utf8(&written[..len]) {
+        Ok(text) => &text[..end],
+        Err(_) => unreachable!(),
+    }
+}
+
+/// Writes what becomes of the first bytes.
+#[inline(always)]
+fn write_in_flavor(
+    flavor: Flavor,
+    bytes: &[u8],
+    window: &mut [u8],
+    codes: &mut [u8],
+    written: &mut [u8],
+) -> Decoded
+    requires window { AROUND + 11 ≤ length window.old }
+    requires zeros { window.old ≡ replicate (length window.old) 0 }
+    requires codes { length codes.old ≡ length window.old }
+    requires written { 3 * length window.old ≤ length written.old + ROOM }
+    ensures some { 0 < length bytes.now → 0 < result.read }
+    ensures within { result.read ≤ length bytes.now }
+    ensures all { length bytes.now + AROUND ≤ length window.old → result.read ≡ length bytes.now }
+    ensures end { result.end ≤ length written.new }
+    ensures lossy { IsPiece (flavor_of flavor) true bytes.now
+        (drop result.read bytes.now) (take result.end written.new) }
+    ensures strict { result.is_damaged ≡ false → IsPiece (flavor_of flavor) false bytes.now
+        (drop result.read bytes.now) (take result.end written.new) }
+    ensures damaged { result.is_damaged ≡ true → HasFault (flavor_of flavor) bytes.now }
+{
+    match flavor {
+        Flavor::Cesu8 => write_window::<OneByteNull>(bytes, window, codes, written),
+        Flavor::Mutf8 => write_window::<TwoByteNull>(bytes, window, codes, written),
+    }
+}
