@@ -83,6 +83,7 @@ pub fn decode_strict<A: Allocator>(
 
 /// The lossy reading of the bytes, after one request for its length. A length that does not fit
 /// counts as refused. Up to a window is read before memory is asked for, so that no pass measures it.
+#[inline(never)]
 pub fn decode_lossy<A: Allocator>(
     alloc: A,
     flavor: Flavor,
@@ -116,7 +117,7 @@ pub fn decode_lossy<A: Allocator>(
 }
 
 /// The lossy reading of a few bytes.
-#[inline(never)]
+#[inline(always)]
 fn decode_few<A: Allocator>(
     alloc: A,
     flavor: Flavor,
@@ -206,6 +207,7 @@ fn read_text<A: Allocator>(
 }
 
 /// Appends the text of the next bytes, all but a few of them, and gives those that are left.
+#[inline(always)]
 fn append_next<'b, A: Allocator>(
     options: DecodeOptions,
     bytes: &'b [u8],
@@ -326,7 +328,7 @@ fn append_small<'b, A: Allocator>(
 }
 
 /// The same for a window of a few bytes.
-#[inline(never)]
+#[inline(always)]
 fn append_few<'b, A: Allocator>(
     options: DecodeOptions,
     bytes: &'b [u8],
