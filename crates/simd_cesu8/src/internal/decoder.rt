@@ -42,7 +42,7 @@ const WINDOW: usize = 1024;
 /// How many bytes are read in rooms that are made faster.
 const SMALL: usize = 256;
 
-const FEW: usize = 64;
+const FEW: usize = 96;
 
 /// The lengths of the rooms for a window and for what is written of it: so much and more, since
 /// whole vectors are read and written.
@@ -54,9 +54,9 @@ const SMALL_WINDOW_ROOM: usize = 336;
 
 const SMALL_WRITTEN_ROOM: usize = 896;
 
-const FEW_ROOM: usize = 144;
+const FEW_ROOM: usize = 176;
 
-const FEW_WRITTEN_ROOM: usize = 320;
+const FEW_WRITTEN_ROOM: usize = 416;
 
 /// How many windows are read by places before one is joined again.
 const WINDOWS: usize = 4;
@@ -188,7 +188,7 @@ pub fn lossy_len(flavor: Flavor, bytes: &[u8]) -> Option<usize>
 }
 
 /// Appends the text of the bytes.
-#[inline(never)]
+#[inline(always)]
 fn read_text<A: Allocator>(
     options: DecodeOptions,
     bytes: &[u8],
