@@ -42,7 +42,7 @@ const WINDOW: usize = 1024;
 /// How many bytes are read in rooms that are made faster.
 const SMALL: usize = 256;
 
-const FEW: usize = 64;
+const FEW: usize = 96;
 
 /// The lengths of the rooms for a window and for what is written of it: so much and more, since
 /// whole vectors are read and written.
@@ -54,9 +54,9 @@ const SMALL_WINDOW_ROOM: usize = 336;
 
 const SMALL_WRITTEN_ROOM: usize = 896;
 
-const FEW_ROOM: usize = 144;
+const FEW_ROOM: usize = 176;
 
-const FEW_WRITTEN_ROOM: usize = 320;
+const FEW_WRITTEN_ROOM: usize = 416;
 
 /// How many windows are read by places before one is joined again.
 const WINDOWS: usize = 4;
@@ -92,6 +92,7 @@ pub fn refuse<A: Allocator>(alloc: A, len: usize) -> DecodeFault {
 
 /// The lossy reading of the bytes, after one request for its length. A length that does not fit
 /// counts as refused. Up to a window is read before memory is asked for, so that no pass measures it.
+#[inline(never)]
 pub fn decode_lossy<A: Allocator>(
     alloc: A,
     flavor: Flavor,
@@ -125,7 +126,7 @@ pub fn decode_lossy<A: Allocator>(
 }
 
 /// The lossy reading of a few bytes.
-#[inline(never)]
+#[inline(always)]
 fn decode_few<A: Allocator>(
     alloc: A,
     flavor: Flavor,
@@ -196,7 +197,7 @@ pub fn lossy_len(flavor: Flavor, bytes: &[u8]) -> Option<usize>
 }
 
 /// Appends the text of the bytes.
-#[inline(never)]
+#[inline(always)]
 fn read_text<A: Allocator>(
     options: DecodeOptions,
     bytes: &[u8],
@@ -215,6 +216,7 @@ fn read_text<A: Allocator>(
 }
 
 /// Appends the text of the next bytes, all but a few of them, and gives those that are left.
+#[inline(always)]
 fn append_next<'b, A: Allocator>(
     options: DecodeOptions,
     bytes: &'b [u8],
@@ -335,7 +337,7 @@ fn append_small<'b, A: Allocator>(
 }
 
 /// The same for a window of a few bytes.
-#[inline(never)]
+#[inline(always)]
 fn append_few<'b, A: Allocator>(
     options: DecodeOptions,
     bytes: &'b [u8],
