@@ -39,18 +39,19 @@ use windows::AROUND;
 /// How many bytes are read in one window at most.
 const WINDOW: usize = 1024;
 
-/// How many bytes are read in rooms that are made faster.
+/// How many bytes are read in rooms that are made faster,
 const SMALL: usize = 256;
 
+/// and in the fastest.
 const FEW: usize = 96;
 
-/// The lengths of the rooms for a window and for what is written of it: so much and more, since
-/// whole vectors are read and written.
+// The lengths of the rooms for a window and for what is written of it: so much and more, since whole
+// vectors are read and written.
 const WINDOW_ROOM: usize = 1104;
 
 const WRITTEN_ROOM: usize = 3200;
 
-const SMALL_WINDOW_ROOM: usize = 336;
+const SMALL_ROOM: usize = 336;
 
 const SMALL_WRITTEN_ROOM: usize = 896;
 
@@ -104,13 +105,13 @@ pub fn decode_lossy<A: Allocator>(
         string_capacity text ≡ lossy_length (flavor_of flavor) bytes.now) }
 {
     if bytes.len() <= FEW {
-        return decode_few(alloc, flavor, bytes);
+        return decode_in::<FEW_ROOM, FEW_WRITTEN_ROOM, A>(alloc, flavor, bytes);
     }
     if bytes.len() <= SMALL {
-        return decode_small(alloc, flavor, bytes);
+        return decode_in::<SMALL_ROOM, SMALL_WRITTEN_ROOM, A>(alloc, flavor, bytes);
     }
     if bytes.len() <= WINDOW {
-        return decode_window(alloc, flavor, bytes);
+        return decode_in::<WINDOW_ROOM, WRITTEN_ROOM, A>(alloc, flavor, bytes);
     }
     let options = DecodeOptions {
         flavor,
@@ -125,62 +126,24 @@ pub fn decode_lossy<A: Allocator>(
     exactly(text, len)
 }
 
-/// The lossy reading of a few bytes.
-#[inline(always)]
-fn decode_few<A: Allocator>(
-    alloc: A,
-    flavor: Flavor,
-    bytes: &[u8],
-) -> Result<String<A>, AllocError>
-    requires { length bytes.now ≤ FEW }
-    ensures text { IfOk result (λ text.
-        chars (string_bytes text) ≡ reading (flavor_of flavor) bytes.now) }
-    ensures capacity { IfOk result (λ text.
-        string_capacity text ≡ lossy_length (flavor_of flavor) bytes.now) }
-{
-    let mut window = [0; FEW_ROOM];
-    let mut codes = [0; FEW_ROOM];
-    let mut written = [0; FEW_WRITTEN_ROOM];
-    let read = read_by_places(flavor, bytes, &mut window, &mut codes, &mut written);
-    copy_text(alloc, read.text)
-}
-
-/// The lossy reading of the bytes of a small window.
+/// The lossy reading of the bytes of one window, in rooms of these lengths. It is not inlined, so that
+/// they are made only where it is called.
 #[inline(never)]
-fn decode_small<A: Allocator>(
+fn decode_in<const LEN: usize, const WRITTEN: usize, A: Allocator>(
     alloc: A,
     flavor: Flavor,
     bytes: &[u8],
 ) -> Result<String<A>, AllocError>
-    requires { length bytes.now ≤ SMALL }
+    requires window { (length bytes.now + AROUND ≤ LEN) × (AROUND + 11 ≤ LEN) }
+    requires written { (3 * LEN ≤ WRITTEN + ROOM) × (WRITTEN ≤ WRITTEN_ROOM) }
     ensures text { IfOk result (λ text.
         chars (string_bytes text) ≡ reading (flavor_of flavor) bytes.now) }
     ensures capacity { IfOk result (λ text.
         string_capacity text ≡ lossy_length (flavor_of flavor) bytes.now) }
 {
-    let mut window = [0; SMALL_WINDOW_ROOM];
-    let mut codes = [0; SMALL_WINDOW_ROOM];
-    let mut written = [0; SMALL_WRITTEN_ROOM];
-    let read = read_by_places(flavor, bytes, &mut window, &mut codes, &mut written);
-    copy_text(alloc, read.text)
-}
-
-/// The lossy reading of the bytes of one window.
-#[inline(never)]
-fn decode_window<A: Allocator>(
-    alloc: A,
-    flavor: Flavor,
-    bytes: &[u8],
-) -> Result<String<A>, AllocError>
-    requires { length bytes.now ≤ WINDOW }
-    ensures text { IfOk result (λ text.
-        chars (string_bytes text) ≡ reading (flavor_of flavor) bytes.now) }
-    ensures capacity { IfOk result (λ text.
-        string_capacity text ≡ lossy_length (flavor_of flavor) bytes.now) }
-{
-    let mut window = [0; WINDOW_ROOM];
-    let mut codes = [0; WINDOW_ROOM];
-    let mut written = [0; WRITTEN_ROOM];
+    let mut window = [0; LEN];
+    let mut codes = [0; LEN];
+    let mut written = [0; WRITTEN];
     let read = read_by_places(flavor, bytes, &mut window, &mut codes, &mut written);
     copy_text(alloc, read.text)
 }
@@ -314,7 +277,6 @@ fn append_windows<'b, A: Allocator>(
 }
 
 /// The same for one small window.
-#[inline(never)]
 fn append_small<'b, A: Allocator>(
     options: DecodeOptions,
     bytes: &'b [u8],
@@ -328,31 +290,30 @@ fn append_small<'b, A: Allocator>(
         × HasFault (flavor_of options.flavor) bytes.now) }
 {
     if bytes.len() <= FEW {
-        return append_few(options, bytes, out);
+        return append_in::<FEW_ROOM, FEW_WRITTEN_ROOM, A>(options, bytes, out);
     }
-    let mut window = [0; SMALL_WINDOW_ROOM];
-    let mut codes = [0; SMALL_WINDOW_ROOM];
-    let mut written = [0; SMALL_WRITTEN_ROOM];
-    append_window(options, bytes, &mut window, &mut codes, &mut written, out)
+    append_in::<SMALL_ROOM, SMALL_WRITTEN_ROOM, A>(options, bytes, out)
 }
 
-/// The same for a window of a few bytes.
-#[inline(always)]
-fn append_few<'b, A: Allocator>(
+/// The same for one window in rooms of these lengths, which are made only where it is called.
+#[inline(never)]
+fn append_in<'b, const LEN: usize, const WRITTEN: usize, A: Allocator>(
     options: DecodeOptions,
     bytes: &'b [u8],
     out: &mut String<A>,
 ) -> Result<&'b [u8], DecodeFault>
-    requires { 0 < length bytes.now }
+    requires some { 0 < length bytes.now }
+    requires window { AROUND + 11 ≤ LEN }
+    requires written { (3 * LEN ≤ WRITTEN + ROOM) × (WRITTEN ≤ WRITTEN_ROOM) }
     ensures less { IfOk result (λ rest. length rest.now < length bytes.now) }
     ensures ok { IfOk result (λ rest. IsReadSoFar (flavor_of options.flavor) options.lossy
         bytes.now rest.now (string_bytes out.old) (string_bytes out.new)) }
     ensures invalid { OnInvalid result ((options.lossy ≡ false)
         × HasFault (flavor_of options.flavor) bytes.now) }
 {
-    let mut window = [0; FEW_ROOM];
-    let mut codes = [0; FEW_ROOM];
-    let mut written = [0; FEW_WRITTEN_ROOM];
+    let mut window = [0; LEN];
+    let mut codes = [0; LEN];
+    let mut written = [0; WRITTEN];
     append_window(options, bytes, &mut window, &mut codes, &mut written, out)
 }
 

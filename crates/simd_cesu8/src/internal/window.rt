@@ -8,7 +8,7 @@ ghost use Rattle.simd_cesu8.specs.Pieces.{IsPiece};
 
 use super::joining::{REACH, Room, WINDOW, join};
 use super::{Flavor, contains_changed, is_continuation};
-use simdutf8::compat;
+use simdutf8::basic;
 
 /// How many bytes are no window's worth.
 pub const SHORT: usize = 64;
@@ -41,7 +41,7 @@ pub fn read_window<'a>(
         return None;
     }
     let joined = &room[..written];
-    match compat::from_utf8(joined) {
+    match basic::from_utf8(joined) {
         Ok(text) => Some(Piece { read, text }),
         Err(_) => None,
     }

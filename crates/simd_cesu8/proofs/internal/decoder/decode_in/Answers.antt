@@ -3,7 +3,7 @@ use Rattle.std.specs.Str.{chars}
 use Rattle.std.proofs.lemmas.Result.{IfOk-weaker}
 use Rattle.simd_cesu8.specs.Internal.{flavor_of}
 use Rattle.simd_cesu8.proofs.Pieces.{whole_text, whole_length}
-use Rattle.simd_cesu8.proofs.internal.decoder.decode_window.Goals as goal
+use Rattle.simd_cesu8.proofs.internal.decoder.decode_in.Goals as goal
 
 pub returns-clause-text : goal.returns-clause-text
 returns-clause-text g c =
