@@ -169,8 +169,8 @@ fn read_text<A: Allocator>(
     ensures invalid { OnInvalid result (HasNoStrictReading (flavor_of options.flavor) bytes.now) }
 {
     let mut room = [0; 1088];
-    // The first window is short, so that input which is no text is mostly refused by it.
-    let mut most = SHORT;
+    // A first window that is short refuses most input that is no text.
+    let mut most = if options.lossy { WINDOW } else { SHORT };
     let mut rest = bytes;
     while !rest.is_empty() {
         rest = read_windows(options, rest, most, &mut room, out)?;
@@ -195,13 +195,14 @@ fn read_windows<'b, A: Allocator>(
     ensures invalid { OnInvalid result ((options.lossy ≡ false)
         × HasFault (flavor_of options.flavor) bytes.now) }
 {
-    if bytes.len() > SHORT {
-        if let Some(piece) = read_window(options.flavor, bytes, most, room) {
-            append(piece.text, out)?;
-            return Ok(&bytes[piece.read..]);
-        }
+    if bytes.len() <= SMALL {
+        return append_small(options, bytes, out);
     }
-    if most <= SMALL || bytes.len() <= SMALL {
+    if let Some(piece) = read_window(options.flavor, bytes, most, room) {
+        append(piece.text, out)?;
+        return Ok(&bytes[piece.read..]);
+    }
+    if most <= SMALL {
         return append_small(options, bytes, out);
     }
     append_windows(options, bytes, out)
