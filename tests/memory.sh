@@ -359,7 +359,7 @@ long_rows() {
 
 short_rows
 other_rows
-for border in 0 1 63 64 65 1023 1024 1025 65536; do
+for border in 0 1 63 64 65 256 257 1023 1024 1025 65536; do
     border_rows "$border"
 done
 long_rows
