@@ -17,6 +17,7 @@ ghost use Rattle.simd_cesu8.specs.Fault.{OnInvalid};
 ghost use Rattle.simd_cesu8.specs.Internal.{flavor_of, IsDecodedText};
 ghost use Rattle.simd_cesu8.specs.Pieces.{IsPiece, IsReadSoFar, HasFault};
 
+mod appending;
 mod by_places;
 mod lengths;
 mod packing;
@@ -31,6 +32,7 @@ use super::window::{SHORT, read_window};
 use super::writers::{copy_text, exactly};
 use super::{DecodeOptions, Flavor};
 use crate::error::{DecodeFault, DecodingError};
+use appending::{append, append_small, append_window};
 use by_places::read_by_places;
 use parts::ROOM;
 use std::alloc::{AllocError, Allocator};
@@ -274,82 +276,4 @@ fn append_windows<'b, A: Allocator>(
         windows += 1;
     }
     Ok(rest)
-}
-
-/// The same for one small window.
-fn append_small<'b, A: Allocator>(
-    options: DecodeOptions,
-    bytes: &'b [u8],
-    out: &mut String<A>,
-) -> Result<&'b [u8], DecodeFault>
-    requires { 0 < length bytes.now }
-    ensures less { IfOk result (λ rest. length rest.now < length bytes.now) }
-    ensures ok { IfOk result (λ rest. IsReadSoFar (flavor_of options.flavor) options.lossy
-        bytes.now rest.now (string_bytes out.old) (string_bytes out.new)) }
-    ensures invalid { OnInvalid result ((options.lossy ≡ false)
-        × HasFault (flavor_of options.flavor) bytes.now) }
-{
-    if bytes.len() <= FEW {
-        return append_in::<FEW_ROOM, FEW_WRITTEN_ROOM, A>(options, bytes, out);
-    }
-    append_in::<SMALL_ROOM, SMALL_WRITTEN_ROOM, A>(options, bytes, out)
-}
-
-/// The same for one window in rooms of these lengths, which are made only where it is called.
-#[inline(never)]
-fn append_in<'b, const LEN: usize, const WRITTEN: usize, A: Allocator>(
-    options: DecodeOptions,
-    bytes: &'b [u8],
-    out: &mut String<A>,
-) -> Result<&'b [u8], DecodeFault>
-    requires some { 0 < length bytes.now }
-    requires window { AROUND + 11 ≤ LEN }
-    requires written { (3 * LEN ≤ WRITTEN + ROOM) × (WRITTEN ≤ WRITTEN_ROOM) }
-    ensures less { IfOk result (λ rest. length rest.now < length bytes.now) }
-    ensures ok { IfOk result (λ rest. IsReadSoFar (flavor_of options.flavor) options.lossy
-        bytes.now rest.now (string_bytes out.old) (string_bytes out.new)) }
-    ensures invalid { OnInvalid result ((options.lossy ≡ false)
-        × HasFault (flavor_of options.flavor) bytes.now) }
-{
-    let mut window = [0; LEN];
-    let mut codes = [0; LEN];
-    let mut written = [0; WRITTEN];
-    append_window(options, bytes, &mut window, &mut codes, &mut written, out)
-}
-
-/// Appends the text of a window by places, and gives the bytes that are left.
-#[inline(always)]
-fn append_window<'b, A: Allocator>(
-    options: DecodeOptions,
-    bytes: &'b [u8],
-    window: &mut [u8],
-    codes: &mut [u8],
-    written: &mut [u8],
-    out: &mut String<A>,
-) -> Result<&'b [u8], DecodeFault>
-    requires some { 0 < length bytes.now }
-    requires window { AROUND + 11 ≤ length window.old }
-    requires zeros { window.old ≡ replicate (length window.old) 0 }
-    requires codes { length codes.old ≡ length window.old }
-    requires written { 3 * length window.old ≤ length written.old + ROOM }
-    ensures less { IfOk result (λ rest. length rest.now < length bytes.now) }
-    ensures ok { IfOk result (λ rest. IsReadSoFar (flavor_of options.flavor) options.lossy
-        bytes.now rest.now (string_bytes out.old) (string_bytes out.new)) }
-    ensures invalid { OnInvalid result ((options.lossy ≡ false)
-        × HasFault (flavor_of options.flavor) bytes.now) }
-{
-    let read = read_by_places(options.flavor, bytes, window, codes, written);
-    if read.is_damaged && !options.lossy {
-        return Err(DecodeFault::Invalid(DecodingError(())));
-    }
-    append(read.text, out)?;
-    Ok(&bytes[read.len..])
-}
-
-/// Appends a piece of text.
-fn append<A: Allocator>(text: &str, out: &mut String<A>) -> Result<(), DecodeFault>
-    ensures ok { OnOk result (string_bytes out.new ≡ string_bytes out.old ++ text.now) }
-    ensures invalid { OnInvalid result ⊥ }
-{
-    out.push_str(text).map_err(DecodeFault::Memory)
 }
