@@ -1,4 +1,4 @@
-use Rattle.std.proofs.Common.{◌+◌, ◌-◌, true, take, drop, sym, subst, arith}
+use Rattle.std.proofs.Common.{◌+◌, ◌-◌, take, drop, sym, subst, arith}
 use Rattle.std.specs.Str.{IsUtf8}
 use Rattle.std.proofs.lemmas.List.{length-drop, length-take-le}
 use Rattle.simd_cesu8.proofs.DecodedWindows.{text_and_zeros}
