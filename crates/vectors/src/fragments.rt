@@ -57,12 +57,7 @@ fn after(number: u64) -> u64 {
 
 /// The sequence of a number: `pieces` fragments, each of them damaged or not, or, but for one of so
 /// many, a character.
-fn sequence(
-    alloc: Global,
-    seed: u64,
-    pieces: usize,
-    one_of: u64,
-) -> Result<Vec<u8>, AllocError> {
+fn sequence(alloc: Global, seed: u64, pieces: usize, one_of: u64) -> Result<Vec<u8>, AllocError> {
     let mut bytes = Vec::new(alloc);
     let mut number = after(after(seed.wrapping_mul(0x9E37_79B9_7F4A_7C15) | 1));
     for _ in 0..pieces {

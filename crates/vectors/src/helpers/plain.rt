@@ -31,7 +31,15 @@ fn width(flavor: Flavor, bytes: &[u8]) -> usize
         [0xE1..=0xEC, 0x80..=0xBF, 0x80..=0xBF, ..] => 3,
         [0xED, 0x80..=0x9F, 0x80..=0xBF, ..] => 3,
         [0xEE..=0xEF, 0x80..=0xBF, 0x80..=0xBF, ..] => 3,
-        [0xED, 0xA0..=0xAF, 0x80..=0xBF, 0xED, 0xB0..=0xBF, 0x80..=0xBF, ..] => 6,
+        [
+            0xED,
+            0xA0..=0xAF,
+            0x80..=0xBF,
+            0xED,
+            0xB0..=0xBF,
+            0x80..=0xBF,
+            ..
+        ] => 6,
         _ => 0,
     }
 }
@@ -54,7 +62,8 @@ fn joined(bytes: [u8; 6]) -> [u8; 4] {
 fn push_first(out: &mut Vec<u8>, bytes: &[u8], width: usize) -> Result<(), AllocError> {
     match (width, bytes) {
         (6, [a, b, c, d, e, f, ..]) => {
-            out.extend_from_slice(&joined([*a, *b, *c, *d, *e, *f]))
+            let utf8 = joined([*a, *b, *c, *d, *e, *f]);
+            out.extend_from_slice(&utf8)
         }
         (2, [0xC0, 0x80, ..]) => out.extend_from_slice(b"\0"),
         (1..=3, _) => out.extend_from_slice(bytes.get(..width).unwrap_or(&[])),
