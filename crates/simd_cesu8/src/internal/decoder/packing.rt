@@ -17,9 +17,6 @@ pub struct Parts {
     pub damaged: u8x32,
 }
 
-/// How many bytes are written for a block at most.
-const MOST: usize = 96;
-
 /// Stores what becomes of a block, and gives the end of it.
 #[inline(always)]
 pub fn store(parts: Parts, rows: &Rows, out: &mut [u8], at: usize) -> usize
