@@ -46,9 +46,21 @@ CESU8_STATIC_CALL(mutf8_lossy_len);
 CESU8_STATIC_CALL(contains_utf8_4_byte_char_header);
 CESU8_STATIC_CALL(contains_null_or_utf8_4_byte_char_header);
 
-// Whether the input is UTF-8, in the same way: the test that the encoders make. Another codec need not
-// have it. Where it has the encoders of an input that the caller knows to be UTF-8, these are measured.
-CESU8_STATIC_CALL(is_utf8);
+// The library's call on each of many texts of one length, which stand one behind the other, so many
+// times over: the outcome's length is the sum of the answers' lengths, and nothing is written. All
+// texts together are tested for UTF-8, once, and other input is invalid. Where a text ends within a
+// character there is no answer either.
+#define CESU8_STATIC_EACH_CALL(name)                                                               \
+    struct cesu8_static_outcome cesu8_static_##name##_each(                                        \
+        const uint8_t *texts, size_t texts_length, size_t length, size_t times)
+
+CESU8_STATIC_EACH_CALL(encode);
+CESU8_STATIC_EACH_CALL(mutf8_encode);
+CESU8_STATIC_EACH_CALL(encoded_len);
+CESU8_STATIC_EACH_CALL(mutf8_encoded_len);
+
+// The encoders of an input that the caller knows to be UTF-8. The library has none. Where another
+// codec has them, they are measured in place of the calls on many texts.
 CESU8_STATIC_CALL(encode_text);
 CESU8_STATIC_CALL(mutf8_encode_text);
 

@@ -14,23 +14,24 @@ pub struct Outcome {
 
 pub type Call = unsafe extern "C" fn(*const u8, usize, *mut u8, usize) -> Outcome;
 
+/// Makes the library's call on each of many texts of one length, which stand one behind the other,
+/// so many times over. The outcome's length is the sum of the answers' lengths.
+pub type EachCall = unsafe extern "C" fn(*const u8, usize, usize, usize) -> Outcome;
+
 macro_rules! linked_calls {
-    ($($symbol:ident),* $(,)?) => {
+    ($list:ident: $call:ty, fn $arguments:tt, $($symbol:ident),* $(,)?) => {
         unsafe extern "C" {
-            $(fn $symbol(
-                input: *const u8,
-                length: usize,
-                room: *mut u8,
-                room_length: usize,
-            ) -> Outcome;)*
+            $(fn $symbol $arguments -> Outcome;)*
         }
 
-        /// The calls that are linked, by their names.
-        const LINKED: &[(&str, Call)] = &[$((stringify!($symbol), $symbol)),*];
+        /// The calls of this form that are linked, by their names.
+        const $list: &[(&str, $call)] = &[$((stringify!($symbol), $symbol)),*];
     };
 }
 
 linked_calls! {
+    LINKED: Call,
+    fn(input: *const u8, length: usize, room: *mut u8, room_length: usize),
     cesu8_static_encode,
     cesu8_static_mutf8_encode,
     cesu8_static_encoded_len,
@@ -47,10 +48,19 @@ linked_calls! {
     cesu8_static_mutf8_lossy_len,
     cesu8_static_contains_utf8_4_byte_char_header,
     cesu8_static_contains_null_or_utf8_4_byte_char_header,
-    cesu8_static_is_utf8,
 }
 
-/// Calls that another codec may have beside these, or in their place.
+linked_calls! {
+    LINKED_EACH: EachCall,
+    fn(texts: *const u8, texts_length: usize, length: usize, times: usize),
+    cesu8_static_encode_each,
+    cesu8_static_mutf8_encode_each,
+    cesu8_static_encoded_len_each,
+    cesu8_static_mutf8_encoded_len_each,
+}
+
+/// Calls that another codec may have beside these, or in their place: they take bytes that the
+/// caller knows to be UTF-8.
 const TEXT_CALLS: [&str; 2] = ["cesu8_static_encode_text", "cesu8_static_mutf8_encode_text"];
 
 unsafe extern "C" {
@@ -157,12 +167,11 @@ pub fn path(action: Action, flavor: Flavor) -> String {
     }
 }
 
-/// The calls that tell what encoding a text costs.
-pub struct TextCalls {
-    /// In CESU-8 and in MUTF-8.
-    pub encoders: [Call; 2],
-    /// The test for UTF-8 that the encoders make, if they make one.
-    pub test: Option<Call>,
+/// A codec's call on a text that is known to be UTF-8.
+#[derive(Clone, Copy)]
+pub enum TextCall {
+    One(Call),
+    Each(EachCall),
 }
 
 /// The calls of one codec, by their names. An older build, or another codec, may have some of them
@@ -170,22 +179,33 @@ pub struct TextCalls {
 pub struct Codec {
     pub name: String,
     calls: Vec<(String, Call)>,
+    each_calls: Vec<(String, EachCall)>,
 }
 
-fn found_in(object: *mut c_void, symbol: &str) -> Option<Call> {
+fn found_in(object: *mut c_void, symbol: &str) -> Option<*mut c_void> {
     let symbol_name = CString::new(symbol).ok()?;
     let found = unsafe { dlsym(object, symbol_name.as_ptr()) };
-    (!found.is_null()).then(|| unsafe { mem::transmute::<*mut c_void, Call>(found) })
+    (!found.is_null()).then_some(found)
+}
+
+fn owned<C: Copy>(calls: &[(&str, C)]) -> Vec<(String, C)> {
+    let calls = calls.iter();
+    calls
+        .map(|(name, call)| (name.to_string(), *call))
+        .collect()
+}
+
+fn named<C: Copy>(calls: &[(String, C)], name: &str) -> Option<C> {
+    let found = calls.iter().find(|call| call.0 == name);
+    found.map(|call| call.1)
 }
 
 impl Codec {
     pub fn linked() -> Codec {
-        let calls = LINKED.iter();
         Codec {
             name: "simd_cesu8".to_string(),
-            calls: calls
-                .map(|(name, call)| (name.to_string(), *call))
-                .collect(),
+            calls: owned(LINKED),
+            each_calls: owned(LINKED_EACH),
         }
     }
 
@@ -197,52 +217,43 @@ impl Codec {
                 .to_string_lossy()
                 .into_owned());
         }
-        let names = LINKED.iter().map(|(name, _)| *name).chain(TEXT_CALLS);
-        let names = names.map(str::to_string);
-        let calls: Vec<(String, Call)> = names
-            .filter_map(|name| found_in(object, &name).map(|call| (name, call)))
-            .collect();
-        if calls.is_empty() {
+        let mut codec = Codec {
+            name: name.to_string(),
+            calls: Vec::new(),
+            each_calls: Vec::new(),
+        };
+        for name in LINKED.iter().map(|(name, _)| *name).chain(TEXT_CALLS) {
+            if let Some(found) = found_in(object, name) {
+                let call = unsafe { mem::transmute::<*mut c_void, Call>(found) };
+                codec.calls.push((name.to_string(), call));
+            }
+        }
+        for (name, _) in LINKED_EACH {
+            if let Some(found) = found_in(object, name) {
+                let call = unsafe { mem::transmute::<*mut c_void, EachCall>(found) };
+                codec.each_calls.push((name.to_string(), call));
+            }
+        }
+        if codec.calls.is_empty() {
             return Err(format!("{file} has none of the calls"));
         }
-        Ok(Codec {
-            name: name.to_string(),
-            calls,
-        })
-    }
-
-    fn named(&self, name: &str) -> Option<Call> {
-        let found = self.calls.iter().find(|call| call.0 == name);
-        found.map(|call| call.1)
+        Ok(codec)
     }
 
     pub fn call(&self, action: Action, flavor: Flavor) -> Option<Call> {
-        self.named(&call_name(action, flavor))
+        named(&self.calls, &call_name(action, flavor))
     }
 
-    /// How the encoding of a text is measured: by the encoders of what is known to be UTF-8, or by
-    /// those that test it, and the test alone, whose time is taken away. `decode` of UTF-8 is such a
-    /// test too.
-    pub fn text_calls(&self) -> Option<TextCalls> {
-        let [cesu8, mutf8] = TEXT_CALLS.map(|name| self.named(name));
-        if let Some(encoders) = cesu8.zip(mutf8) {
-            return Some(TextCalls {
-                encoders: encoders.into(),
-                test: None,
-            });
-        }
-        let decode = self.call(Action::Decode, Flavor::Cesu8);
-        Some(TextCalls {
-            encoders: [
-                self.call(Action::Encode, Flavor::Cesu8)?,
-                self.call(Action::Encode, Flavor::Mutf8)?,
-            ],
-            test: Some(self.named("cesu8_static_is_utf8").or(decode)?),
-        })
+    /// The call on a text without a test for UTF-8.
+    pub fn text_call(&self, action: Action, flavor: Flavor) -> Option<TextCall> {
+        let name = call_name(action, flavor);
+        let one = named(&self.calls, &format!("{name}_text"));
+        let each = named(&self.each_calls, &format!("{name}_each"));
+        one.map(TextCall::One).or(each.map(TextCall::Each))
     }
 
     pub fn kernel(&self, kernel: Kernel) -> Option<Call> {
-        self.named(&format!("cesu8_static_{}", kernel.title()))
+        named(&self.calls, &format!("cesu8_static_{}", kernel.title()))
     }
 }
 
@@ -286,17 +297,26 @@ impl Question<'_> {
         }
     }
 
+    /// Whether this call of a codec answers rightly.
+    pub fn check(&self, codec: &Codec, call: Call) -> Result<(), String> {
+        if self.is_answered_by(call) {
+            return Ok(());
+        }
+        Err(format!(
+            "{}: {} answers wrongly on {} bytes of {}",
+            codec.name,
+            call_name(self.action, self.flavor),
+            self.input.len(),
+            self.kind
+        ))
+    }
+
     /// A codec's call, which answers rightly, or none where the codec has no such call.
     pub fn tested(&self, codec: &Codec) -> Result<Option<Call>, String> {
-        match codec.call(self.action, self.flavor) {
-            Some(call) if !self.is_answered_by(call) => Err(format!(
-                "{}: {} answers wrongly on {} bytes of {}",
-                codec.name,
-                call_name(self.action, self.flavor),
-                self.input.len(),
-                self.kind
-            )),
-            call => Ok(call),
+        let call = codec.call(self.action, self.flavor);
+        if let Some(call) = call {
+            self.check(codec, call)?;
         }
+        Ok(call)
     }
 }

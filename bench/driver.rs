@@ -11,10 +11,12 @@ mod codec;
 mod damage;
 mod expected;
 mod hostile;
+mod inputs;
 mod kernels;
 mod lengths;
 mod picture;
 mod sets;
+mod short;
 mod table;
 mod texts;
 mod timing;
@@ -25,6 +27,7 @@ use crate::damage::damage_table;
 use crate::hostile::HostileTable;
 use crate::kernels::kernel_table;
 use crate::picture::{Run, picture};
+use crate::short::ShortTable;
 use crate::table::Table;
 use crate::texts::TextTable;
 use std::{env, fs, process};
@@ -43,9 +46,22 @@ struct Asked {
     codecs: Vec<Codec>,
 }
 
+/// What the picture shows.
+struct Pictured<'a> {
+    table: &'a Table<'a>,
+    texts: &'a TextTable<'a>,
+    short: &'a ShortTable<'a>,
+}
+
 /// Writes the picture of the first codec, beside the second where there is one.
-fn draw(file: &str, asked: &Asked, table: &Table, texts: &TextTable) -> Result<(), String> {
-    let panels = [texts.panel(), table.panel(Action::DecodeStrict)];
+fn draw(file: &str, asked: &Asked, tables: &Pictured) -> Result<(), String> {
+    let Pictured {
+        table,
+        texts,
+        short,
+    } = tables;
+    let mut panels = vec![texts.panel(), table.panel(Action::DecodeStrict)];
+    panels.extend(short.panels());
     let run = Run {
         machine: &asked.machine,
         copy: table.copy(),
@@ -62,20 +78,34 @@ fn run(asked: &Asked) -> Result<(), String> {
     let mut hostile = HostileTable::of(codecs)?;
     let mut kernels = kernel_table(codecs, table.ascii())?;
     let mut texts = TextTable::of(codecs)?;
+    let mut short = ShortTable::of(codecs)?;
     table.measure(asked.rounds);
     texts.measure(asked.rounds);
+    short.measure(asked.rounds);
     built.measure(asked.rounds);
     damage.measure(asked.rounds);
     hostile.measure(asked.rounds);
     kernels.measure(asked.rounds);
     table.print(asked.rounds);
     texts.print();
+    short.print();
     built.print();
     damage.print();
     hostile.print();
     kernels.print();
     match &asked.picture {
-        Some(file) => draw(file, asked, &table, &texts),
+        Some(file) => {
+            let (table, texts, short) = (&table, &texts, &short);
+            draw(
+                file,
+                asked,
+                &Pictured {
+                    table,
+                    texts,
+                    short,
+                },
+            )
+        }
         None => Ok(()),
     }
 }

@@ -78,8 +78,9 @@ pub fn expected(action: Action, flavor: Flavor, input: &[u8]) -> Option<Vec<u8>>
         }
         Action::Decode | Action::DecodeLossy if is_utf8 => Some(input.to_vec()),
         Action::Decode | Action::DecodeStrict => strictly_decoded(flavor, input),
+        // A whole encoding is read as strictly, which takes less time.
         Action::DecodeLossy | Action::DecodeLossyStrict | Action::LossyLength => {
-            Some(lossily_decoded(flavor, input))
+            strictly_decoded(flavor, input).or_else(|| Some(lossily_decoded(flavor, input)))
         }
     }
 }

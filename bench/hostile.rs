@@ -5,6 +5,7 @@ use crate::damage::{ACTIONS, Damage, damaged_bytes};
 use crate::expected::{encoded, expected};
 use crate::lengths::{LengthTable, Unit};
 use crate::sets::{Kind, Random, SEED, at_page_start, encoded_bytes, of_any_length};
+use crate::timing;
 
 const LENGTHS: [usize; 4] = [72, 200, 1_024, 16_380];
 
@@ -233,15 +234,7 @@ impl HostileTable<'_> {
     pub fn measure(&mut self, rounds: u32) {
         let parts = self.parts.iter_mut();
         let tables = parts.flat_map(|part| [&mut part.answered, &mut part.refused]);
-        let mut tables: Vec<_> = tables.collect();
-        for table in &mut tables {
-            table.calibrate();
-        }
-        for round in 0..rounds {
-            for table in &mut tables {
-                table.round(round);
-            }
-        }
+        timing::measure(tables.flat_map(|table| table.measured()), rounds);
     }
 
     pub fn print(&self) {

@@ -2,8 +2,9 @@
 //! each codec, or one for all kinds, with a column for each length.
 
 use crate::codec::{Call, Codec};
-use crate::timing::{Measured, call_run};
+use crate::timing::{self, Measured, call_run};
 use std::collections::BTreeSet;
+use std::slice::IterMut;
 
 /// One call at one length. The calls of the codecs are places in the list of what is measured.
 struct Row {
@@ -56,41 +57,40 @@ impl LengthTable<'_> {
         input: &'static [u8],
         tested: impl Fn(&Codec) -> Result<Option<Call>, String>,
     ) -> Result<(), String> {
+        self.add_measured(title, input.len(), |codec| {
+            let call = tested(codec)?;
+            Ok(call.map(|call| Measured::new(input.len(), call_run(call, input))))
+        })
+    }
+
+    /// Adds a row, with what is measured of each codec, if anything.
+    pub fn add_measured(
+        &mut self,
+        title: &str,
+        length: usize,
+        measured: impl Fn(&Codec) -> Result<Option<Measured>, String>,
+    ) -> Result<(), String> {
         let mut calls = Vec::new();
         for codec in self.codecs {
-            calls.push(tested(codec)?.map(|call| {
-                let run = call_run(call, input);
-                self.measured.push(Measured::new(input.len(), run));
+            calls.push(measured(codec)?.map(|one| {
+                self.measured.push(one);
                 self.measured.len() - 1
             }));
         }
         self.rows.push(Row {
             title: title.to_string(),
-            length: input.len(),
+            length,
             calls,
         });
         Ok(())
     }
 
-    pub fn calibrate(&mut self) {
-        for one in &mut self.measured {
-            one.calibrate();
-        }
-    }
-
-    pub fn round(&mut self, round: u32) {
-        let is_long_round = round % 100 == 0;
-        let measured = self.measured.iter_mut();
-        for one in measured.filter(|one| !one.is_long() || is_long_round) {
-            one.round();
-        }
+    pub fn measured(&mut self) -> IterMut<'_, Measured> {
+        self.measured.iter_mut()
     }
 
     pub fn measure(&mut self, rounds: u32) {
-        self.calibrate();
-        for round in 0..rounds {
-            self.round(round);
-        }
+        timing::measure(self.measured(), rounds);
     }
 
     /// The speed of each codec, and behind that of each but the first how much faster the first is.
@@ -138,17 +138,28 @@ impl LengthTable<'_> {
         println!();
     }
 
-    fn cell(&self, title: &str, column: Column, unit: Unit) -> Option<Cell> {
+    fn found(&self, title: &str, column: Column) -> Option<&Measured> {
         let mut rows = self.rows.iter();
         let row = rows.find(|row| row.title == title && row.length == column.length)?;
-        let first = &self.measured[row.calls[0]?];
+        let place = *row.calls.get(column.codec)?;
+        Some(&self.measured[place?])
+    }
+
+    /// The speed of a codec, if it is there and has the call.
+    pub fn gigabytes(&self, title: &str, length: usize, codec: usize) -> Option<f64> {
+        let found = self.found(title, Column { length, codec })?;
+        Some(found.gigabytes())
+    }
+
+    fn cell(&self, title: &str, column: Column, unit: Unit) -> Option<Cell> {
+        let first = self.found(title, Column { codec: 0, ..column })?;
         let speed = match column.codec {
             0 => first.seconds().recip(),
-            codec => self.measured[row.calls[codec]?].seconds() / first.seconds(),
+            _ => self.found(title, column)?.seconds() / first.seconds(),
         };
         let written = match (column.codec, unit) {
             (0, Unit::Gigabytes) => format!("{:.2}", first.gigabytes()),
-            (0, Unit::Nanoseconds) => format!("{:.0}", first.seconds() * 1e9),
+            (0, Unit::Nanoseconds) => nanoseconds(first.seconds()),
             _ => format!("{speed:.2}"),
         };
         Some(Cell { written, speed })
@@ -204,6 +215,16 @@ impl LengthTable<'_> {
             .iter()
             .map(|column| self.slowest(&titles, *column, unit));
         print_line("slowest", slowest);
+    }
+}
+
+/// Three digits, or those before the point.
+pub fn nanoseconds(seconds: f64) -> String {
+    let number = seconds * 1e9;
+    match number {
+        ..10.0 => format!("{number:.2}"),
+        ..100.0 => format!("{number:.1}"),
+        _ => format!("{number:.0}"),
     }
 }
 

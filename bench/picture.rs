@@ -1,6 +1,7 @@
 //! The speeds of one run as a picture: a bar for each kind of text and encoding, its length the ratio
 //! to a plain copy on a logarithmic scale, and a line across it where another codec's bar would end.
 
+use crate::lengths::nanoseconds;
 use std::fmt::{self, Write};
 
 /// What is drawn of one kind of text: bytes in nanoseconds, in CESU-8 and in MUTF-8, of this codec and
@@ -11,9 +12,10 @@ pub struct Bars {
     pub others: [Option<f64>; 2],
 }
 
-/// The bars of one call.
+/// The bars of one call, on inputs of so many bytes.
 pub struct Panel {
     pub title: String,
+    pub bytes: usize,
     pub rows: Vec<Bars>,
 }
 
@@ -36,7 +38,30 @@ const LEAST: f64 = 0.001;
 const ROW: f64 = 26.0;
 const BAR: f64 = 10.0;
 const TOP: f64 = 96.0;
+/// Inputs of fewer bytes are short.
+const SHORT: usize = 1_024;
 const NAMES: [&str; 2] = ["CESU-8", "MUTF-8"];
+
+/// What the bars of a panel are drawn by: the speed of a plain copy, and the bytes of an input.
+struct Scale {
+    copy: f64,
+    bytes: usize,
+}
+
+impl Scale {
+    fn length(&self, speed: f64) -> f64 {
+        bar_length(speed / self.copy)
+    }
+
+    /// The time of a call on a short input, and elsewhere the speed.
+    fn written(&self, speed: f64) -> String {
+        if self.bytes < SHORT {
+            nanoseconds(self.bytes as f64 / speed / 1e9) + " ns"
+        } else {
+            format!("{speed:.2} GB/s")
+        }
+    }
+}
 
 /// How long the bar of this ratio to a plain copy is.
 fn bar_length(ratio: f64) -> f64 {
@@ -55,7 +80,7 @@ fn legend(svg: &mut String, run: &Run<'_>) -> fmt::Result {
         16.0,
         24.0,
         r#"class="head""#,
-        "simd_cesu8: speed by kind of text, 16,380 bytes",
+        "simd_cesu8: speed by kind of text",
     )?;
     text(svg, 16.0, 42.0, r#"class="note""#, run.machine)?;
     for (at, name) in NAMES.iter().enumerate() {
@@ -79,7 +104,7 @@ fn legend(svg: &mut String, run: &Run<'_>) -> fmt::Result {
 }
 
 /// The scale over the bars of a panel, and its lines through them.
-fn scale(svg: &mut String, y: f64, height: f64) -> fmt::Result {
+fn marks(svg: &mut String, y: f64, height: f64) -> fmt::Result {
     for mark in [0.001, 0.01, 0.1, 1.0] {
         let x = BARS + bar_length(mark);
         let end = y + height;
@@ -94,18 +119,18 @@ fn scale(svg: &mut String, y: f64, height: f64) -> fmt::Result {
     Ok(())
 }
 
-fn bar(svg: &mut String, y: f64, at: usize, bars: &Bars, copy: f64) -> fmt::Result {
+fn bar(svg: &mut String, y: f64, at: usize, bars: &Bars, scale: &Scale) -> fmt::Result {
     let Some(speed) = bars.speeds[at] else {
         return Ok(());
     };
-    let width = bar_length(speed / copy);
+    let width = scale.length(speed);
     writeln!(
         svg,
         r#"<rect x="{BARS}" y="{y:.1}" width="{width:.1}" height="{BAR}" class="bar{at}"/>"#
     )?;
-    let mut words = format!("{speed:.2} GB/s");
+    let mut words = scale.written(speed);
     if let Some(other) = bars.others[at] {
-        let x = BARS + bar_length(other / copy);
+        let x = BARS + scale.length(other);
         let end = y + BAR;
         writeln!(svg, r#"<path d="M{x:.1} {y:.1}V{end:.1}" class="other"/>"#)?;
         write!(words, ", {:.1}×", speed / other)?;
@@ -119,14 +144,25 @@ fn bar(svg: &mut String, y: f64, at: usize, bars: &Bars, copy: f64) -> fmt::Resu
     )
 }
 
+/// A number below a million, with its thousands set apart.
+fn grouped(number: usize) -> String {
+    match number / 1_000 {
+        0 => number.to_string(),
+        thousands => format!("{thousands},{:03}", number % 1_000),
+    }
+}
+
 fn panel(svg: &mut String, y: f64, panel: &Panel, copy: f64) -> fmt::Result {
-    text(svg, 16.0, y - 4.0, r#"class="call""#, &panel.title)?;
-    scale(svg, y, ROW * panel.rows.len() as f64)?;
+    let title = format!("{}, {} bytes", panel.title, grouped(panel.bytes));
+    text(svg, 16.0, y - 4.0, r#"class="call""#, &title)?;
+    marks(svg, y, ROW * panel.rows.len() as f64)?;
+    let bytes = panel.bytes;
+    let scale = Scale { copy, bytes };
     for (at, bars) in panel.rows.iter().enumerate() {
         let top = y + 2.5 + ROW * at as f64;
         text(svg, 16.0, top + 14.0, r#"class="note""#, &bars.title)?;
-        bar(svg, top, 0, bars, copy)?;
-        bar(svg, top + BAR + 1.0, 1, bars, copy)?;
+        bar(svg, top, 0, bars, &scale)?;
+        bar(svg, top + BAR + 1.0, 1, bars, &scale)?;
     }
     Ok(())
 }

@@ -20,7 +20,7 @@ impl Random {
         z ^ z >> 31
     }
 
-    fn character(&mut self, low: u32, high: u32) -> char {
+    pub fn character(&mut self, low: u32, high: u32) -> char {
         loop {
             let number = low + (self.next() % u64::from(high - low + 1)) as u32;
             if let Some(character) = char::from_u32(number) {

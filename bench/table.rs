@@ -3,7 +3,7 @@
 use crate::codec::{ACTIONS, Action, Call, Codec, FLAVORS, Flavor, Question};
 use crate::picture::{Bars, Panel};
 use crate::sets::{INPUT_LENGTH, Set, sets};
-use crate::timing::{Measured, call_run, copy_run, utf8_run};
+use crate::timing::{self, Measured, call_run, copy_run, utf8_run};
 
 /// One line of a table. The calls are places in the list of what is measured.
 struct Row {
@@ -100,14 +100,7 @@ impl Table<'_> {
     }
 
     pub fn measure(&mut self, rounds: u32) {
-        for one in &mut self.measured {
-            one.calibrate();
-        }
-        for _ in 0..rounds {
-            for one in &mut self.measured {
-                one.round();
-            }
-        }
+        timing::measure(self.measured.iter_mut(), rounds);
     }
 
     /// The speed of the plain copy, in GB/s.
@@ -131,6 +124,7 @@ impl Table<'_> {
         });
         Panel {
             title: action.title().to_string(),
+            bytes: INPUT_LENGTH,
             rows: rows.collect(),
         }
     }

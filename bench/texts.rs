@@ -1,55 +1,27 @@
-//! What encoding a text costs alone. An export tests its bytes for UTF-8 first, so the time of that
-//! test is taken away, unless the codec has an export without it.
+//! What encoding a text costs alone, without a test for UTF-8.
 
-use crate::codec::{Action, Call, Codec, FLAVORS, TextCalls, answers, call_name};
-use crate::expected::encoded;
+use crate::codec::{Action, Codec, FLAVORS};
+use crate::inputs::{Case, Inputs};
 use crate::picture::{Bars, Panel};
 use crate::sets::{Kind, text_of};
-use crate::timing::{Measured, call_run};
-use std::str;
+use crate::timing::{self, Measured};
 
 const LENGTHS: [usize; 5] = [24, 200, 1_024, 16_380, 16_777_212];
 
 /// The length whose speeds the picture shows.
 const PICTURED: usize = 16_380;
 
-/// The places of one codec's calls in the list of what is measured.
-struct Places {
-    encoders: [usize; 2],
-    test: Option<usize>,
-}
-
-/// One text, and the calls of each codec.
+/// One text, and each codec's encoders: places in the list of what is measured.
 struct Row {
     kind: Kind,
     length: usize,
-    calls: Vec<Option<Places>>,
+    calls: Vec<[Option<usize>; 2]>,
 }
 
 pub struct TextTable<'a> {
     codecs: &'a [Codec],
     measured: Vec<Measured>,
     rows: Vec<Row>,
-}
-
-/// The calls of a codec, whose encoders answer rightly.
-fn tested(codec: &Codec, row: &Row, input: &[u8]) -> Result<Option<TextCalls>, String> {
-    let text = str::from_utf8(input).map_err(|e| e.to_string())?;
-    let Some(calls) = codec.text_calls() else {
-        return Ok(None);
-    };
-    for (call, flavor) in calls.encoders.into_iter().zip(FLAVORS) {
-        if !answers(call, Action::Encode, input, &encoded(flavor, text)) {
-            return Err(format!(
-                "{}: {} answers wrongly on {} bytes of {}",
-                codec.name,
-                call_name(Action::Encode, flavor),
-                row.length,
-                row.kind.title()
-            ));
-        }
-    }
-    Ok(Some(calls))
 }
 
 impl TextTable<'_> {
@@ -72,49 +44,37 @@ impl TextTable<'_> {
     }
 
     fn add(&mut self, kind: Kind, length: usize) -> Result<(), String> {
-        let input = text_of(kind, length);
-        let mut row = Row {
-            kind,
-            length: input.len(),
-            calls: Vec::new(),
+        let text = text_of(kind, length);
+        let inputs = Inputs {
+            bytes: text,
+            length: text.len(),
         };
-        for codec in self.codecs {
-            let calls = tested(codec, &row, input)?;
-            row.calls.push(calls.map(|calls| Places {
-                encoders: calls.encoders.map(|call| self.place(call, input)),
-                test: calls.test.map(|call| self.place(call, input)),
-            }));
-        }
-        self.rows.push(row);
-        Ok(())
-    }
-
-    /// The place of a call that is to be measured.
-    fn place(&mut self, call: Call, input: &'static [u8]) -> usize {
-        let run = call_run(call, input);
-        self.measured.push(Measured::new(input.len(), run));
-        self.measured.len() - 1
-    }
-
-    pub fn measure(&mut self, rounds: u32) {
-        for one in &mut self.measured {
-            one.calibrate();
-        }
-        for round in 0..rounds {
-            for one in &mut self.measured {
-                if !one.is_long() || round % 100 == 0 {
-                    one.round();
+        let mut calls = vec![[None, None]; self.codecs.len()];
+        for (at, flavor) in FLAVORS.into_iter().enumerate() {
+            let case = Case::new(Action::Encode, flavor, kind.title(), inputs);
+            for (codec, calls) in self.codecs.iter().zip(&mut calls) {
+                if let Some(one) = case.measured(codec)? {
+                    calls[at] = Some(self.measured.len());
+                    self.measured.push(one);
                 }
             }
         }
+        self.rows.push(Row {
+            kind,
+            length: text.len(),
+            calls,
+        });
+        Ok(())
     }
 
-    /// The speed of a codec's `encode` without the test, in GB/s.
+    pub fn measure(&mut self, rounds: u32) {
+        timing::measure(self.measured.iter_mut(), rounds);
+    }
+
+    /// The speed of a codec's `encode`, in GB/s.
     fn speed(&self, row: &Row, codec: usize, flavor: usize) -> Option<f64> {
-        let calls = row.calls[codec].as_ref()?;
-        let seconds = |at: usize| self.measured[at].seconds();
-        let encoding = seconds(calls.encoders[flavor]) - calls.test.map_or(0.0, seconds);
-        Some(row.length as f64 / encoding / 1e9)
+        let place = row.calls[codec][flavor]?;
+        Some(self.measured[place].gigabytes())
     }
 
     /// What a picture shows of `encode`.
@@ -133,6 +93,7 @@ impl TextTable<'_> {
         });
         Panel {
             title: "encode, of a text".to_string(),
+            bytes: PICTURED,
             rows: rows.collect(),
         }
     }

@@ -1,6 +1,7 @@
 //! The best time of a call, of a plain copy and of `str::from_utf8`.
 
-use crate::codec::Call;
+use crate::codec::{Call, EachCall};
+use crate::inputs::Inputs;
 use crate::sets::{INPUT_LENGTH, at_page_start};
 use std::hint::black_box;
 use std::str;
@@ -9,58 +10,123 @@ use std::time::{Duration, Instant};
 /// How long one batch of calls is to take, so that reading the clock costs next to nothing.
 const BATCH: Duration = Duration::from_micros(40);
 
-/// Inputs of this many bytes and more are measured in one round of a hundred.
+/// The same of calls on texts, with one test for UTF-8 in a batch, so that the test costs next to
+/// nothing too.
+const TEXTS_BATCH: Duration = Duration::from_millis(1);
+const LEAST_TEXTS_REPEATS: u32 = 16;
+
+/// Inputs of this many bytes and more are measured in few rounds.
 const LONG: usize = 1 << 20;
 
-/// What is measured, the bytes that one run of it takes, and its best time.
+/// One round in how many measures long inputs, and one in how many long batches.
+const LONG_DISTANCE: u32 = 100;
+const TEXTS_DISTANCE: u32 = 4;
+
+/// What is measured, and its best time.
 pub struct Measured {
-    run: Box<dyn FnMut()>,
+    /// Makes so many runs.
+    run: Box<dyn FnMut(u32)>,
+    /// How many calls one run makes, and how many bytes the input of each has.
+    calls: usize,
     bytes: usize,
+    /// How long a batch is to take, and how many runs it makes.
+    enough: Duration,
     repeats: u32,
+    /// It is measured in one round of so many.
+    distance: u32,
+    /// The least seconds that a run took.
     best: f64,
 }
 
 impl Measured {
-    pub fn new(bytes: usize, run: impl FnMut() + 'static) -> Measured {
+    /// A run is one call, on so many bytes.
+    pub fn new(bytes: usize, mut run: impl FnMut() + 'static) -> Measured {
+        let repeated = move |repeats| {
+            for _ in 0..repeats {
+                run();
+            }
+        };
+        Measured {
+            run: Box::new(repeated),
+            calls: 1,
+            bytes,
+            enough: BATCH,
+            repeats: 1,
+            distance: if bytes < LONG { 1 } else { LONG_DISTANCE },
+            best: f64::INFINITY,
+        }
+    }
+
+    /// A run is a call on each of the inputs.
+    pub fn of_inputs(call: Call, inputs: Inputs) -> Measured {
+        let run = move || {
+            for input in black_box(inputs).iter() {
+                black_box(unsafe { call(input.as_ptr(), input.len(), [].as_mut_ptr(), 0) });
+            }
+        };
+        Measured {
+            calls: inputs.count(),
+            ..Measured::new(inputs.length, run)
+        }
+    }
+
+    /// A run is a call on each of the texts, and one export makes all runs of a batch.
+    pub fn of_texts(call: EachCall, texts: Inputs) -> Measured {
+        let run = move |repeats| {
+            let Inputs { bytes, length } = black_box(texts);
+            black_box(unsafe { call(bytes.as_ptr(), bytes.len(), length, repeats as usize) });
+        };
+        let one = Measured::new(texts.length, || ());
         Measured {
             run: Box::new(run),
-            bytes,
-            repeats: 1,
-            best: f64::INFINITY,
+            calls: texts.count(),
+            enough: TEXTS_BATCH,
+            repeats: LEAST_TEXTS_REPEATS,
+            distance: one.distance.max(TEXTS_DISTANCE),
+            ..one
         }
     }
 
     fn batch(&mut self) -> Duration {
         let start = Instant::now();
-        for _ in 0..self.repeats {
-            (self.run)();
-        }
+        (self.run)(self.repeats);
         start.elapsed()
     }
 
-    pub fn calibrate(&mut self) {
-        while self.batch() < BATCH && self.repeats < 1 << 20 {
+    fn calibrate(&mut self) {
+        while self.bytes < LONG && self.repeats < 1 << 20 && self.batch() < self.enough {
             self.repeats *= 2;
         }
     }
 
-    pub fn round(&mut self) {
-        let seconds = self.batch().as_secs_f64() / f64::from(self.repeats);
-        self.best = self.best.min(seconds);
+    /// Measures one batch, if it is this round's turn.
+    fn round(&mut self, round: u32) {
+        if round % self.distance == 0 {
+            let seconds = self.batch().as_secs_f64() / f64::from(self.repeats);
+            self.best = self.best.min(seconds);
+        }
     }
 
-    /// Whether it takes so long that it is measured in one round of a hundred.
-    pub fn is_long(&self) -> bool {
-        self.bytes >= LONG
-    }
-
-    /// The best time.
+    /// The best time of a call.
     pub fn seconds(&self) -> f64 {
-        self.best
+        self.best / self.calls as f64
     }
 
     pub fn gigabytes(&self) -> f64 {
-        self.bytes as f64 / self.best / 1e9
+        self.bytes as f64 / self.seconds() / 1e9
+    }
+}
+
+/// Measures all in so many rounds, one after the other in each round.
+pub fn measure<'a>(measured: impl Iterator<Item = &'a mut Measured>, rounds: u32) {
+    let mut all: Vec<&mut Measured> = measured.collect();
+    for one in &mut all {
+        one.calibrate();
+    }
+    for round in 0..rounds {
+        for one in &mut all {
+            one.round(round);
+        }
     }
 }
 

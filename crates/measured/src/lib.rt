@@ -16,9 +16,11 @@ ghost use Rattle.simd_cesu8.specs.Reading.{IsLenientReading, HasNoLenientReading
 ghost use Rattle.simd_cesu8.specs.Reading.{reading, lossy_length, IsLenientLossyReading};
 ghost use Rattle.measured.specs.Outcomes.{TellsEncoding, TellsReading, TellsLength, TellsNone};
 
+mod each;
 pub mod mutf8;
 mod outcome;
 
+use crate::each::tell_sum;
 pub use crate::outcome::Outcome;
 use crate::outcome::{
     tell_bytes, tell_length, tell_lossy_text, tell_text, tell_whether, without_answer,
@@ -146,6 +148,43 @@ pub extern "C" fn cesu8_static_decode_lossy(alloc: Global, bytes: &[u8], room: &
     tell_lossy_text(simd_cesu8::decode_lossy(alloc, bytes), room)
 }
 
+/// Encodes each of many texts of `length` bytes, which stand one behind the other, by
+/// `simd_cesu8::encode`, `times` times over: the outcome's length is the sum of the encodings'
+/// lengths. Bytes that are not UTF-8 are invalid. There is no sum where memory is refused, or where
+/// a text ends within a character.
+#[unsafe(no_mangle)]
+pub extern "C" fn cesu8_static_encode_each(
+    alloc: Global,
+    texts: &[u8],
+    length: usize,
+    times: usize,
+) -> Outcome
+    ensures invalid { IsTrue result.is_invalid ↔ ¬ (IsUtf8 texts.now) }
+    ensures none { ¬ (IsTrue result.has_answer) → result.length ≡ 0 }
+{
+    tell_sum(texts, length, times, |text| {
+        Some(simd_cesu8::encode(alloc, text).ok()?.as_bytes().len())
+    })
+}
+
+/// The same sum as that of `cesu8_static_encode_each`, by `simd_cesu8::encoded_len`.
+#[unsafe(no_mangle)]
+pub extern "C" fn cesu8_static_encoded_len_each(
+    texts: &[u8],
+    length: usize,
+    times: usize,
+) -> Outcome
+    ensures invalid { IsTrue result.is_invalid ↔ ¬ (IsUtf8 texts.now) }
+    ensures none { ¬ (IsTrue result.has_answer) → result.length ≡ 0 }
+{
+    tell_sum(
+        texts,
+        length,
+        times,
+        |text| Some(simd_cesu8::encoded_len(text)),
+    )
+}
+
 /// Whether some byte is F0 to F7 (hexadecimal): the answer's length is 1 for yes and 0 for no, and
 /// nothing is written.
 #[unsafe(no_mangle)]
@@ -174,16 +213,4 @@ pub extern "C" fn cesu8_static_contains_null_or_utf8_4_byte_char_header(
 {
     let _ = room;
     tell_whether(active::contains_null_or_utf8_4_byte_char_header(bytes))
-}
-
-/// Whether bytes are UTF-8: the answer's length is 1 for yes and 0 for no, and nothing is written.
-/// It is the test that the encoders' exports make.
-#[unsafe(no_mangle)]
-pub extern "C" fn cesu8_static_is_utf8(bytes: &[u8], room: &mut [u8]) -> Outcome
-    ensures yes { IsUtf8 bytes.now → TellsLength 1 result }
-    ensures no { ¬ (IsUtf8 bytes.now) → TellsLength 0 result }
-    ensures unchanged { room.new ≡ room.old }
-{
-    let _ = room;
-    tell_whether(compat::from_utf8(bytes).is_ok())
 }

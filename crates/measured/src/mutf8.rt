@@ -9,6 +9,7 @@ ghost use Rattle.simd_cesu8.specs.Reading.{IsLenientReading, HasNoLenientReading
 ghost use Rattle.simd_cesu8.specs.Reading.{reading, lossy_length, IsLenientLossyReading};
 ghost use Rattle.measured.specs.Outcomes.{TellsEncoding, TellsReading, TellsLength, TellsNone};
 
+use crate::each::tell_sum;
 use crate::outcome::{
     Outcome, tell_bytes, tell_length, tell_lossy_text, tell_text, without_answer,
 };
@@ -137,4 +138,36 @@ pub extern "C" fn cesu8_static_mutf8_decode_lossy(
     ensures none { ¬ (IsTrue result.has_answer) → TellsNone result room.old room.new }
 {
     tell_lossy_text(mutf8::decode_lossy(alloc, bytes), room)
+}
+
+/// Encodes each of many texts of `length` bytes, which stand one behind the other, by
+/// `simd_cesu8::mutf8::encode`, `times` times over: the outcome's length is the sum of the
+/// encodings' lengths. Bytes that are not UTF-8 are invalid. There is no sum where memory is
+/// refused, or where a text ends within a character.
+#[unsafe(no_mangle)]
+pub extern "C" fn cesu8_static_mutf8_encode_each(
+    alloc: Global,
+    texts: &[u8],
+    length: usize,
+    times: usize,
+) -> Outcome
+    ensures invalid { IsTrue result.is_invalid ↔ ¬ (IsUtf8 texts.now) }
+    ensures none { ¬ (IsTrue result.has_answer) → result.length ≡ 0 }
+{
+    tell_sum(texts, length, times, |text| {
+        Some(mutf8::encode(alloc, text).ok()?.as_bytes().len())
+    })
+}
+
+/// The same sum as that of `cesu8_static_mutf8_encode_each`, by `simd_cesu8::mutf8::encoded_len`.
+#[unsafe(no_mangle)]
+pub extern "C" fn cesu8_static_mutf8_encoded_len_each(
+    texts: &[u8],
+    length: usize,
+    times: usize,
+) -> Outcome
+    ensures invalid { IsTrue result.is_invalid ↔ ¬ (IsUtf8 texts.now) }
+    ensures none { ¬ (IsTrue result.has_answer) → result.length ≡ 0 }
+{
+    tell_sum(texts, length, times, |text| Some(mutf8::encoded_len(text)))
 }

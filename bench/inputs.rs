@@ -1,0 +1,99 @@
+//! Inputs of one length that stand one behind the other, and a codec's call on each of them in turn.
+
+use crate::codec::{Action, Call, Codec, EachCall, Flavor, Question, TextCall, call_name};
+use crate::expected::expected;
+use crate::timing::Measured;
+use std::slice::ChunksExact;
+
+#[derive(Clone, Copy)]
+pub struct Inputs {
+    pub bytes: &'static [u8],
+    /// How many bytes each input has.
+    pub length: usize,
+}
+
+impl Inputs {
+    pub fn iter(self) -> ChunksExact<'static, u8> {
+        self.bytes.chunks_exact(self.length)
+    }
+
+    pub fn count(self) -> usize {
+        self.iter().len()
+    }
+}
+
+/// A call on inputs of a kind, and what it has to return for each of them: none where it has to
+/// refuse the input.
+pub struct Case<'a> {
+    action: Action,
+    flavor: Flavor,
+    kind: &'a str,
+    inputs: Inputs,
+    answers: Vec<Option<Vec<u8>>>,
+}
+
+impl<'a> Case<'a> {
+    pub fn new(action: Action, flavor: Flavor, kind: &'a str, inputs: Inputs) -> Case<'a> {
+        let answers = inputs.iter().map(|input| expected(action, flavor, input));
+        Case {
+            action,
+            flavor,
+            kind,
+            inputs,
+            answers: answers.collect(),
+        }
+    }
+
+    fn check(&self, codec: &Codec, call: Call) -> Result<(), String> {
+        for (input, answer) in self.inputs.iter().zip(&self.answers) {
+            let question = Question {
+                action: self.action,
+                flavor: self.flavor,
+                kind: self.kind,
+                input,
+                answer: answer.as_deref(),
+            };
+            question.check(codec, call)?;
+        }
+        Ok(())
+    }
+
+    fn check_sum(&self, codec: &Codec, call: EachCall) -> Result<(), String> {
+        let answers = self.answers.iter().flatten();
+        let sum: usize = answers.map(|answer| answer.len()).sum();
+        let Inputs { bytes, length } = self.inputs;
+        let outcome = unsafe { call(bytes.as_ptr(), bytes.len(), length, 1) };
+        if outcome.has_answer && outcome.length == sum {
+            return Ok(());
+        }
+        Err(format!(
+            "{}: {}_each adds up wrongly on texts of {length} bytes of {}",
+            codec.name,
+            call_name(self.action, self.flavor),
+            self.kind
+        ))
+    }
+
+    /// What is measured of a codec, which has to be right on each input: none where it has no such
+    /// call. A call on a text is measured without a test for UTF-8.
+    pub fn measured(&self, codec: &Codec) -> Result<Option<Measured>, String> {
+        let call = codec.call(self.action, self.flavor);
+        if let Some(call) = call {
+            self.check(codec, call)?;
+        }
+        if !self.action.takes_text() {
+            return Ok(call.map(|call| Measured::of_inputs(call, self.inputs)));
+        }
+        Ok(match codec.text_call(self.action, self.flavor) {
+            Some(TextCall::One(call)) => {
+                self.check(codec, call)?;
+                Some(Measured::of_inputs(call, self.inputs))
+            }
+            Some(TextCall::Each(call)) => {
+                self.check_sum(codec, call)?;
+                Some(Measured::of_texts(call, self.inputs))
+            }
+            None => None,
+        })
+    }
+}

@@ -1,0 +1,299 @@
+//! Calls on short inputs: many of a kind and length in turn, so that no processor learns them.
+
+use crate::codec::{Action, Codec, FLAVORS, Flavor, path};
+use crate::expected::{encoded, expected};
+use crate::inputs::{Case, Inputs};
+use crate::lengths::{LengthTable, Unit};
+use crate::picture::{Bars, Panel};
+use crate::sets::{Random, SEED, at_page_start, of_any_length};
+use crate::timing;
+
+const LENGTHS: [usize; 10] = [4, 8, 16, 24, 32, 48, 64, 96, 128, 256];
+
+/// How many inputs there are of a kind and length.
+const COUNT: usize = 1_024;
+
+/// The length and the calls whose speeds the picture shows.
+const PICTURED: usize = 24;
+const PICTURED_ACTIONS: [Action; 3] = [
+    Action::Encode,
+    Action::DecodeStrict,
+    Action::DecodeLossyStrict,
+];
+
+const ACTIONS: [Action; 6] = [
+    Action::Encode,
+    Action::EncodedLength,
+    Action::Decode,
+    Action::DecodeStrict,
+    Action::DecodeLossy,
+    Action::DecodeLossyStrict,
+];
+
+/// Bytes one of which takes the place of another in damaged input.
+const DAMAGE: [u8; 5] = [0x80, 0xC2, 0xE1, 0xED, 0xFF];
+
+/// What the bytes of an input are.
+#[derive(Clone, Copy, PartialEq)]
+enum Writing {
+    Utf8,
+    Encoding(Flavor),
+}
+
+const WRITINGS: [Writing; 3] = [
+    Writing::Utf8,
+    Writing::Encoding(Flavor::Cesu8),
+    Writing::Encoding(Flavor::Mutf8),
+];
+
+impl Writing {
+    fn taken_by(action: Action, flavor: Flavor) -> Writing {
+        if action.takes_text() {
+            Writing::Utf8
+        } else {
+            Writing::Encoding(flavor)
+        }
+    }
+
+    fn bytes(self, character: char) -> Vec<u8> {
+        let text = character.to_string();
+        match self {
+            Writing::Utf8 => text.into_bytes(),
+            Writing::Encoding(flavor) => encoded(flavor, &text),
+        }
+    }
+}
+
+#[derive(Clone, Copy, PartialEq)]
+enum Kind {
+    Ascii,
+    Latin,
+    Three,
+    OneEmoji,
+    Pairs,
+    OneNull,
+    AnyWidth,
+    Damaged,
+}
+
+const KINDS: [Kind; 8] = [
+    Kind::Ascii,
+    Kind::Latin,
+    Kind::Three,
+    Kind::OneEmoji,
+    Kind::Pairs,
+    Kind::OneNull,
+    Kind::AnyWidth,
+    Kind::Damaged,
+];
+
+fn ascii(random: &mut Random) -> char {
+    random.character(0x01, 0x7F)
+}
+
+/// A letter of two bytes for one character in so many, and else ASCII.
+fn latin(random: &mut Random, distance: u64) -> char {
+    match random.next() % distance {
+        0 => random.character(0xC0, 0x17F),
+        _ => ascii(random),
+    }
+}
+
+fn emoji(random: &mut Random) -> char {
+    random.character(0x1_F300, 0x1_F64F)
+}
+
+impl Kind {
+    fn title(self) -> &'static str {
+        match self {
+            Kind::Ascii => "ASCII",
+            Kind::Latin => "Latin",
+            Kind::Three => "three-byte characters",
+            Kind::OneEmoji => "ASCII and one emoji",
+            Kind::Pairs => "surrogate pairs",
+            Kind::OneNull => "ASCII and one null",
+            Kind::AnyWidth => "random widths",
+            Kind::Damaged => "Latin, one damaged byte",
+        }
+    }
+
+    /// Whether there are such inputs of this length.
+    fn exists(self, writing: Writing, length: usize) -> bool {
+        match self {
+            Kind::OneEmoji | Kind::Pairs => writing.bytes('\u{1F496}').len() <= length,
+            Kind::Damaged => matches!(writing, Writing::Encoding(_)),
+            _ => true,
+        }
+    }
+
+    fn is_refused_by(self, action: Action) -> bool {
+        self == Kind::Damaged && matches!(action, Action::Decode | Action::DecodeStrict)
+    }
+
+    fn character(self, random: &mut Random) -> char {
+        match self {
+            Kind::Ascii | Kind::OneEmoji | Kind::OneNull => ascii(random),
+            Kind::Latin => latin(random, 5),
+            Kind::Three => random.character(0x800, 0xFFFF),
+            Kind::Pairs => random.character(0x1_0000, 0x10_FFFF),
+            Kind::AnyWidth => of_any_length(random, 4),
+            Kind::Damaged => latin(random, 8),
+        }
+    }
+
+    /// The one character that differs from the others, if any does.
+    fn odd_character(self, random: &mut Random) -> Option<char> {
+        match self {
+            Kind::OneEmoji => Some(emoji(random)),
+            Kind::OneNull => Some('\0'),
+            _ => None,
+        }
+    }
+
+    /// So many bytes, with a letter in place of each character that does not fit, and the odd one at
+    /// a random place.
+    fn whole(self, writing: Writing, random: &mut Random, length: usize) -> Vec<u8> {
+        let odd = self.odd_character(random);
+        let odd = odd.map_or(Vec::new(), |odd| writing.bytes(odd));
+        let others = length - odd.len();
+        let mut bytes = Vec::with_capacity(length);
+        while bytes.len() < others {
+            let next = writing.bytes(self.character(random));
+            let fits = bytes.len() + next.len() <= others;
+            bytes.extend(if fits { next } else { b"z".to_vec() });
+        }
+        if !odd.is_empty() {
+            let place = random.next() as usize % (others + 1);
+            bytes.splice(place..place, odd);
+        }
+        bytes
+    }
+
+    /// The same, with one byte replaced so that no text has this encoding.
+    fn damaged(self, flavor: Flavor, random: &mut Random, length: usize) -> Vec<u8> {
+        loop {
+            let mut bytes = self.whole(Writing::Encoding(flavor), random, length);
+            let place = random.next() as usize % length;
+            bytes[place] = DAMAGE[random.next() as usize % DAMAGE.len()];
+            if expected(Action::DecodeStrict, flavor, &bytes).is_none() {
+                return bytes;
+            }
+        }
+    }
+
+    fn inputs(self, writing: Writing, length: usize) -> Inputs {
+        let mut random = Random(SEED + length as u64);
+        let input = |_| match writing {
+            Writing::Encoding(flavor) if self == Kind::Damaged => {
+                self.damaged(flavor, &mut random, length)
+            }
+            _ => self.whole(writing, &mut random, length),
+        };
+        let bytes: Vec<u8> = (0..COUNT).flat_map(input).collect();
+        Inputs {
+            bytes: at_page_start(&bytes),
+            length,
+        }
+    }
+}
+
+/// One call on all kinds and lengths.
+struct Part<'a> {
+    action: Action,
+    flavor: Flavor,
+    table: LengthTable<'a>,
+}
+
+impl Part<'_> {
+    fn add(&mut self, kind: Kind, inputs: Inputs) -> Result<(), String> {
+        let title = kind.title();
+        let case = Case::new(self.action, self.flavor, title, inputs);
+        self.table
+            .add_measured(title, inputs.length, |codec| case.measured(codec))
+    }
+}
+
+pub struct ShortTable<'a> {
+    parts: Vec<Part<'a>>,
+}
+
+impl ShortTable<'_> {
+    /// Tests each call on each input, and times none yet.
+    pub fn of(codecs: &[Codec]) -> Result<ShortTable<'_>, String> {
+        let mut parts = Vec::new();
+        for flavor in FLAVORS {
+            parts.extend(ACTIONS.map(|action| Part {
+                action,
+                flavor,
+                table: LengthTable::of(codecs),
+            }));
+        }
+        let mut table = ShortTable { parts };
+        for kind in KINDS {
+            for length in LENGTHS {
+                for writing in WRITINGS {
+                    table.add(kind, writing, length)?;
+                }
+            }
+        }
+        Ok(table)
+    }
+
+    /// Adds to the calls that take what is so written.
+    fn add(&mut self, kind: Kind, writing: Writing, length: usize) -> Result<(), String> {
+        if !kind.exists(writing, length) {
+            return Ok(());
+        }
+        let inputs = kind.inputs(writing, length);
+        for part in &mut self.parts {
+            if Writing::taken_by(part.action, part.flavor) == writing {
+                part.add(kind, inputs)?;
+            }
+        }
+        Ok(())
+    }
+
+    pub fn measure(&mut self, rounds: u32) {
+        let parts = self.parts.iter_mut();
+        timing::measure(parts.flat_map(|part| part.table.measured()), rounds);
+    }
+
+    pub fn print(&self) {
+        for part in &self.parts {
+            let call = path(part.action, part.flavor);
+            let heading = format!("`{call}`, short inputs, in ns a call");
+            part.table.print_by_length(&heading, Unit::Nanoseconds);
+        }
+    }
+
+    fn speed(&self, action: Action, flavor: Flavor, kind: Kind, codec: usize) -> Option<f64> {
+        let mut parts = self.parts.iter();
+        let part = parts.find(|part| part.action == action && part.flavor == flavor)?;
+        part.table.gigabytes(kind.title(), PICTURED, codec)
+    }
+
+    fn panel(&self, action: Action) -> Panel {
+        let speeds = |kind, codec| FLAVORS.map(|flavor| self.speed(action, flavor, kind, codec));
+        let kinds = KINDS.into_iter().filter(|kind| !kind.is_refused_by(action));
+        let bars = kinds.map(|kind| Bars {
+            title: kind.title().to_string(),
+            speeds: speeds(kind, 0),
+            others: speeds(kind, 1),
+        });
+        let rows = bars.filter(|bars| bars.speeds != [None, None]);
+        let title = match action {
+            Action::Encode => "encode, of a text",
+            _ => action.title(),
+        };
+        Panel {
+            title: title.to_string(),
+            bytes: PICTURED,
+            rows: rows.collect(),
+        }
+    }
+
+    /// What a picture shows of short inputs.
+    pub fn panels(&self) -> [Panel; 3] {
+        PICTURED_ACTIONS.map(|action| self.panel(action))
+    }
+}

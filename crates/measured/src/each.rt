@@ -1,0 +1,68 @@
+//! A call on each of many texts. C can pass no text, so bytes are tested for UTF-8 first, and here
+//! one test serves many calls.
+
+ghost use Rattle.std.specs.Prelude.{◌≡◌, ◌↔◌, ◌<◌, IsTrue, IsUtf8};
+
+use crate::outcome::{Outcome, tell_length, without_answer};
+use simdutf8::compat;
+
+/// Texts of one length, in bytes, that stand one behind the other.
+#[derive(Clone, Copy)]
+struct Texts<'a> {
+    all: &'a str,
+    length: usize,
+}
+
+/// Adds up what a call returns for each text of `length` bytes, `times` times over.
+///
+/// There is no sum where a call returns none, where the last text is shorter, where a text ends
+/// within a character, or where the sum does not fit `usize`.
+pub fn tell_sum<F: Fn(&str) -> Option<usize>>(
+    texts: &[u8],
+    length: usize,
+    times: usize,
+    call: F,
+) -> Outcome
+    requires { F.IsAlwaysCallable call }
+    ensures invalid { IsTrue result.is_invalid ↔ ¬ (IsUtf8 texts.now) }
+    ensures none { ¬ (IsTrue result.has_answer) → result.length ≡ 0 }
+{
+    let Ok(all) = compat::from_utf8(texts) else {
+        return without_answer(true);
+    };
+    match repeated_sum(Texts { all, length }, times, call) {
+        Some(sum) => tell_length(sum),
+        None => without_answer(false),
+    }
+}
+
+fn repeated_sum<F: Fn(&str) -> Option<usize>>(
+    texts: Texts<'_>,
+    times: usize,
+    call: F,
+) -> Option<usize>
+    requires { F.IsAlwaysCallable call }
+{
+    if texts.length == 0 {
+        return None;
+    }
+    let mut sum = 0_usize;
+    for _ in 0..times {
+        sum = sum.checked_add(sum_of_each(texts, &call)?)?;
+    }
+    Some(sum)
+}
+
+fn sum_of_each<F: Fn(&str) -> Option<usize>>(texts: Texts<'_>, call: &F) -> Option<usize>
+    requires callable { F.IsAlwaysCallable call.now }
+    requires length { 0 < texts.length }
+{
+    let mut sum = 0_usize;
+    let mut rest = texts.all;
+    while !rest.is_empty() {
+        let (text, after) = rest.split_at_checked(texts.length)?;
+        sum = sum.checked_add(call(text)?)?;
+        rest = after;
+    }
+    Some(sum)
+}
