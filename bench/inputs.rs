@@ -78,20 +78,21 @@ impl<'a> Case<'a> {
     /// call. A call on a text is measured without a test for UTF-8.
     pub fn measured(&self, codec: &Codec) -> Result<Option<Measured>, String> {
         let call = codec.call(self.action, self.flavor);
-        if let Some(call) = call {
-            self.check(codec, call)?;
-        }
-        if !self.action.takes_text() {
-            return Ok(call.map(|call| Measured::of_inputs(call, self.inputs)));
-        }
-        Ok(match codec.text_call(self.action, self.flavor) {
+        let measured = if self.action.takes_text() {
+            codec.text_call(self.action, self.flavor)
+        } else {
+            call.map(TextCall::One)
+        };
+        Ok(match measured {
             Some(TextCall::One(call)) => {
                 self.check(codec, call)?;
                 Some(Measured::of_inputs(call, self.inputs))
             }
-            Some(TextCall::Each(call)) => {
-                self.check_sum(codec, call)?;
-                Some(Measured::of_texts(call, self.inputs))
+            // It returns no bytes, so those of the call on one text are looked at.
+            Some(TextCall::Each(each)) => {
+                call.map_or(Ok(()), |call| self.check(codec, call))?;
+                self.check_sum(codec, each)?;
+                Some(Measured::of_texts(each, self.inputs))
             }
             None => None,
         })

@@ -2,7 +2,7 @@
 //! each codec, or one for all kinds, with a column for each length.
 
 use crate::codec::{Call, Codec};
-use crate::timing::{self, Measured, call_run};
+use crate::timing::{self, Measured};
 use std::collections::BTreeSet;
 use std::slice::IterMut;
 
@@ -59,7 +59,7 @@ impl LengthTable<'_> {
     ) -> Result<(), String> {
         self.add_measured(title, input.len(), |codec| {
             let call = tested(codec)?;
-            Ok(call.map(|call| Measured::new(input.len(), call_run(call, input))))
+            Ok(call.map(|call| Measured::of_input(call, input)))
         })
     }
 

@@ -1,12 +1,13 @@
 //! Calls on short inputs: many of a kind and length in turn, so that no processor learns them.
 
-use crate::codec::{Action, Codec, FLAVORS, Flavor, path};
+use crate::codec::{Action, Codec, FLAVORS, Flavor, Outcome, path};
 use crate::expected::{encoded, expected};
 use crate::inputs::{Case, Inputs};
-use crate::lengths::{LengthTable, Unit};
+use crate::lengths::{LengthTable, Unit, nanoseconds};
 use crate::picture::{Bars, Panel};
 use crate::sets::{Random, SEED, at_page_start, of_any_length};
-use crate::timing;
+use crate::timing::{self, Measured};
+use std::iter;
 
 const LENGTHS: [usize; 10] = [4, 8, 16, 24, 32, 48, 64, 96, 128, 256];
 
@@ -213,8 +214,19 @@ impl Part<'_> {
     }
 }
 
+/// What a call costs in itself.
+extern "C" fn nothing(_: *const u8, length: usize, _: *mut u8, _: usize) -> Outcome {
+    Outcome {
+        length,
+        has_answer: true,
+        is_borrowed: true,
+        is_invalid: false,
+    }
+}
+
 pub struct ShortTable<'a> {
     parts: Vec<Part<'a>>,
+    nothing: Measured,
 }
 
 impl ShortTable<'_> {
@@ -228,7 +240,9 @@ impl ShortTable<'_> {
                 table: LengthTable::of(codecs),
             }));
         }
-        let mut table = ShortTable { parts };
+        let inputs = Kind::Ascii.inputs(Writing::Utf8, LENGTHS[0]);
+        let nothing = Measured::of_inputs(nothing, inputs);
+        let mut table = ShortTable { parts, nothing };
         for kind in KINDS {
             for length in LENGTHS {
                 for writing in WRITINGS {
@@ -255,10 +269,13 @@ impl ShortTable<'_> {
 
     pub fn measure(&mut self, rounds: u32) {
         let parts = self.parts.iter_mut();
-        timing::measure(parts.flat_map(|part| part.table.measured()), rounds);
+        let measured = parts.flat_map(|part| part.table.measured());
+        timing::measure(measured.chain(iter::once(&mut self.nothing)), rounds);
     }
 
     pub fn print(&self) {
+        let nothing = nanoseconds(self.nothing.seconds());
+        println!("\nShort inputs: a call by C's convention that does nothing takes {nothing} ns.");
         for part in &self.parts {
             let call = path(part.action, part.flavor);
             let heading = format!("`{call}`, short inputs, in ns a call");

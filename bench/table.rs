@@ -3,7 +3,7 @@
 use crate::codec::{ACTIONS, Action, Call, Codec, FLAVORS, Flavor, Question};
 use crate::picture::{Bars, Panel};
 use crate::sets::{INPUT_LENGTH, Set, sets};
-use crate::timing::{self, Measured, call_run, copy_run, utf8_run};
+use crate::timing::{self, Measured, copy_run, utf8_run};
 
 /// One line of a table. The calls are places in the list of what is measured.
 struct Row {
@@ -84,8 +84,7 @@ impl Table<'_> {
         for (place, flavor) in calls.iter_mut().zip(FLAVORS) {
             if let Some(call) = tested(&self.codecs[codec], action, flavor, input)? {
                 *place = Some(self.measured.len());
-                let run = call_run(call, input.input);
-                self.measured.push(Measured::new(input.input.len(), run));
+                self.measured.push(Measured::of_input(call, input.input));
             }
         }
         if calls != [None, None] {

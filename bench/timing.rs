@@ -18,9 +18,10 @@ const LEAST_TEXTS_REPEATS: u32 = 16;
 /// Inputs of this many bytes and more are measured in few rounds.
 const LONG: usize = 1 << 20;
 
-/// One round in how many measures long inputs, and one in how many long batches.
+/// One round in how many measures long inputs, and one in how many those of which there are many, and
+/// texts.
 const LONG_DISTANCE: u32 = 100;
-const TEXTS_DISTANCE: u32 = 4;
+const MANY_DISTANCE: u32 = 4;
 
 /// What is measured, and its best time.
 pub struct Measured {
@@ -57,32 +58,32 @@ impl Measured {
         }
     }
 
+    /// A run is one call on this input.
+    pub fn of_input(call: Call, input: &'static [u8]) -> Measured {
+        Measured::new(input.len(), call_run(call, input))
+    }
+
     /// A run is a call on each of the inputs.
     pub fn of_inputs(call: Call, inputs: Inputs) -> Measured {
-        let run = move || {
-            for input in black_box(inputs).iter() {
-                black_box(unsafe { call(input.as_ptr(), input.len(), [].as_mut_ptr(), 0) });
-            }
-        };
+        if inputs.count() == 1 {
+            return Measured::of_input(call, inputs.bytes);
+        }
         Measured {
             calls: inputs.count(),
-            ..Measured::new(inputs.length, run)
+            distance: MANY_DISTANCE,
+            ..Measured::new(inputs.length, inputs_run(call, inputs))
         }
     }
 
     /// A run is a call on each of the texts, and one export makes all runs of a batch.
     pub fn of_texts(call: EachCall, texts: Inputs) -> Measured {
-        let run = move |repeats| {
-            let Inputs { bytes, length } = black_box(texts);
-            black_box(unsafe { call(bytes.as_ptr(), bytes.len(), length, repeats as usize) });
-        };
         let one = Measured::new(texts.length, || ());
         Measured {
-            run: Box::new(run),
+            run: Box::new(texts_run(call, texts)),
             calls: texts.count(),
             enough: TEXTS_BATCH,
             repeats: LEAST_TEXTS_REPEATS,
-            distance: one.distance.max(TEXTS_DISTANCE),
+            distance: one.distance.max(MANY_DISTANCE),
             ..one
         }
     }
@@ -130,11 +131,28 @@ pub fn measure<'a>(measured: impl Iterator<Item = &'a mut Measured>, rounds: u32
     }
 }
 
-pub fn call_run(call: Call, input: &'static [u8]) -> impl FnMut() {
+/// Makes a call with no room for its answer.
+fn make(call: Call, input: &[u8]) {
     let mut room = [0u8; 0];
+    black_box(unsafe { call(input.as_ptr(), input.len(), room.as_mut_ptr(), 0) });
+}
+
+fn call_run(call: Call, input: &'static [u8]) -> impl FnMut() {
+    move || make(call, black_box(input))
+}
+
+fn inputs_run(call: Call, inputs: Inputs) -> impl FnMut() {
     move || {
-        let input = black_box(input);
-        black_box(unsafe { call(input.as_ptr(), input.len(), room.as_mut_ptr(), 0) });
+        for input in black_box(inputs).iter() {
+            make(call, input);
+        }
+    }
+}
+
+fn texts_run(call: EachCall, texts: Inputs) -> impl FnMut(u32) {
+    move |times| {
+        let Inputs { bytes, length } = black_box(texts);
+        black_box(unsafe { call(bytes.as_ptr(), bytes.len(), length, times as usize) });
     }
 }
 
