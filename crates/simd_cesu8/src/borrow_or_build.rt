@@ -12,7 +12,8 @@ ghost use Rattle.simd_cesu8.specs.Internal.{flavor_of};
 use crate::cow::{CowBytes, CowText};
 use crate::error::DecodeFault;
 use crate::internal;
-use crate::internal::{Flavor, character_start, contains_changed, is_continuation};
+use crate::internal::{Flavor, ascii_text, character_start, contains_changed, is_continuation};
+use crate::internal::{is_short_ascii, is_short_unchanged_ascii};
 use simdutf8::basic;
 use std::alloc::{AllocError, Global};
 
@@ -74,7 +75,30 @@ fn unchanged_text(flavor: Flavor, bytes: &[u8]) -> Option<&str>
     whole_text(bytes).ok()
 }
 
+#[inline(always)]
 pub fn decode_strict(
+    alloc: Global,
+    flavor: Flavor,
+    bytes: &[u8],
+) -> Result<CowText<'_>, DecodeFault>
+    ensures text { IfText result (IsStrictReading (flavor_of flavor) bytes.now) }
+    ensures invalid { OnInvalid result (HasNoStrictReading (flavor_of flavor) bytes.now) }
+    ensures borrowed { BorrowsTextWhere result (λ text. text ≡ bytes.now) }
+    ensures borrowed_where { BorrowsTextWhere result
+        (λ _. IsUnchangedUtf8 (flavor_of flavor) bytes.now) }
+    ensures succeeds { IsUnchangedUtf8 (flavor_of flavor) bytes.now → IsOk result }
+    ensures capacity { BuildsTextOfCapacity result (length bytes.now) }
+{
+    if is_short_unchanged_ascii(flavor, bytes) {
+        return Ok(CowText::Borrowed(ascii_text(bytes)));
+    }
+    decode_strict_other(alloc, flavor, bytes)
+}
+
+/// The same where the look for short ASCII may have found another byte. It is never inlined, so
+/// the look needs no space of its own on the stack.
+#[inline(never)]
+fn decode_strict_other(
     alloc: Global,
     flavor: Flavor,
     bytes: &[u8],
@@ -100,7 +124,25 @@ pub fn decode_strict(
     }
 }
 
+#[inline(always)]
 pub fn decode(alloc: Global, flavor: Flavor, bytes: &[u8]) -> Result<CowText<'_>, DecodeFault>
+    ensures text { IfText result (IsLenientReading (flavor_of flavor) bytes.now) }
+    ensures invalid { OnInvalid result (HasNoLenientReading (flavor_of flavor) bytes.now) }
+    ensures borrowed { BorrowsTextWhere result (λ text. text ≡ bytes.now) }
+    ensures borrowed_where { BorrowsTextWhere result (λ _. IsUtf8 bytes.now) }
+    ensures succeeds { IsUtf8 bytes.now → IsOk result }
+    ensures capacity { BuildsTextOfCapacity result (length bytes.now) }
+{
+    if is_short_ascii(bytes) {
+        return Ok(CowText::Borrowed(ascii_text(bytes)));
+    }
+    decode_other(alloc, flavor, bytes)
+}
+
+/// The same where the look for short ASCII may have found another byte. It is never inlined, so
+/// the look needs no space of its own on the stack.
+#[inline(never)]
+fn decode_other(alloc: Global, flavor: Flavor, bytes: &[u8]) -> Result<CowText<'_>, DecodeFault>
     ensures text { IfText result (IsLenientReading (flavor_of flavor) bytes.now) }
     ensures invalid { OnInvalid result (HasNoLenientReading (flavor_of flavor) bytes.now) }
     ensures borrowed { BorrowsTextWhere result (λ text. text ≡ bytes.now) }
@@ -114,7 +156,30 @@ pub fn decode(alloc: Global, flavor: Flavor, bytes: &[u8]) -> Result<CowText<'_>
     }
 }
 
+#[inline(always)]
 pub fn decode_lossy_strict(
+    alloc: Global,
+    flavor: Flavor,
+    bytes: &[u8],
+) -> Result<CowText<'_>, AllocError>
+    ensures reading { IfText result (λ text. text ≡ reading (flavor_of flavor) bytes.now) }
+    ensures text_length { AnswersTextOfLength result (lossy_length (flavor_of flavor) bytes.now) }
+    ensures borrowed { BorrowsTextWhere result (λ text. text ≡ bytes.now) }
+    ensures borrowed_where { BorrowsTextWhere result
+        (λ _. IsUnchangedUtf8 (flavor_of flavor) bytes.now) }
+    ensures succeeds { IsUnchangedUtf8 (flavor_of flavor) bytes.now → IsOk result }
+    ensures capacity { BuildsTextOfCapacity result (lossy_length (flavor_of flavor) bytes.now) }
+{
+    if is_short_unchanged_ascii(flavor, bytes) {
+        return Ok(CowText::Borrowed(ascii_text(bytes)));
+    }
+    decode_lossy_strict_other(alloc, flavor, bytes)
+}
+
+/// The same where the look for short ASCII may have found another byte. It is never inlined, so
+/// the look needs no space of its own on the stack.
+#[inline(never)]
+fn decode_lossy_strict_other(
     alloc: Global,
     flavor: Flavor,
     bytes: &[u8],
@@ -133,7 +198,24 @@ pub fn decode_lossy_strict(
     }
 }
 
+#[inline(always)]
 pub fn decode_lossy(alloc: Global, flavor: Flavor, bytes: &[u8]) -> Result<CowText<'_>, AllocError>
+    ensures reading { IfText result (IsLenientLossyReading (flavor_of flavor) bytes.now) }
+    ensures borrowed { BorrowsTextWhere result (λ text. text ≡ bytes.now) }
+    ensures borrowed_where { BorrowsTextWhere result (λ _. IsUtf8 bytes.now) }
+    ensures succeeds { IsUtf8 bytes.now → IsOk result }
+    ensures capacity { BuildsTextOfCapacity result (lossy_length (flavor_of flavor) bytes.now) }
+{
+    if is_short_ascii(bytes) {
+        return Ok(CowText::Borrowed(ascii_text(bytes)));
+    }
+    decode_lossy_other(alloc, flavor, bytes)
+}
+
+/// The same where the look for short ASCII may have found another byte. It is never inlined, so
+/// the look needs no space of its own on the stack.
+#[inline(never)]
+fn decode_lossy_other(alloc: Global, flavor: Flavor, bytes: &[u8]) -> Result<CowText<'_>, AllocError>
     ensures reading { IfText result (IsLenientLossyReading (flavor_of flavor) bytes.now) }
     ensures borrowed { BorrowsTextWhere result (λ text. text ≡ bytes.now) }
     ensures borrowed_where { BorrowsTextWhere result (λ _. IsUtf8 bytes.now) }
