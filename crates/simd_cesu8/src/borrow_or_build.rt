@@ -44,7 +44,8 @@ pub fn encode(alloc: Global, flavor: Flavor, value: &str) -> Result<CowBytes<'_>
 const FRONT: usize = 512;
 
 /// The bytes as a text, where they are UTF-8. Where they are not, their front mostly shows it, and
-/// the others are not tested.
+/// the others are not tested. It is inlined, since its answer would go through memory.
+#[inline(always)]
 fn whole_text(bytes: &[u8]) -> Result<&str, basic::Utf8Error>
     ensures cases { MatchResult result (λ text. (text.now ≡ bytes.now) × IsUtf8 bytes.now)
         (λ _. ¬ (IsUtf8 bytes.now)) }
@@ -64,6 +65,7 @@ fn has_utf8_front(bytes: &[u8], end: usize) -> bool
 }
 
 /// The bytes as a text, where they are UTF-8 without a byte that is written otherwise.
+#[inline(always)]
 fn unchanged_text(flavor: Flavor, bytes: &[u8]) -> Option<&str>
     ensures some { IfSome result (λ text. (text.now ≡ bytes.now)
         × IsUnchangedUtf8 (flavor_of flavor) bytes.now) }
@@ -115,13 +117,11 @@ fn decode_strict_other(
     if contains_changed(flavor, bytes) {
         return Err(internal::refuse(alloc, bytes.len()));
     }
-    match whole_text(bytes) {
-        Ok(text) => Ok(CowText::Borrowed(text)),
-        Err(_) => {
-            let built = internal::decode_strict(alloc, flavor, bytes)?;
-            Ok(CowText::Owned(built))
-        }
+    if let Ok(text) = whole_text(bytes) {
+        return Ok(CowText::Borrowed(text));
     }
+    let built = internal::decode_strict(alloc, flavor, bytes)?;
+    Ok(CowText::Owned(built))
 }
 
 #[inline(always)]
@@ -150,10 +150,11 @@ fn decode_other(alloc: Global, flavor: Flavor, bytes: &[u8]) -> Result<CowText<'
     ensures succeeds { IsUtf8 bytes.now → IsOk result }
     ensures capacity { BuildsTextOfCapacity result (length bytes.now) }
 {
-    match whole_text(bytes) {
-        Ok(whole) => Ok(CowText::Borrowed(whole)),
-        Err(_) => Ok(CowText::Owned(internal::decode_strict(alloc, flavor, bytes)?)),
+    if let Ok(whole) = whole_text(bytes) {
+        return Ok(CowText::Borrowed(whole));
     }
+    let built = internal::decode_strict(alloc, flavor, bytes)?;
+    Ok(CowText::Owned(built))
 }
 
 #[inline(always)]
@@ -192,10 +193,11 @@ fn decode_lossy_strict_other(
     ensures succeeds { IsUnchangedUtf8 (flavor_of flavor) bytes.now → IsOk result }
     ensures capacity { BuildsTextOfCapacity result (lossy_length (flavor_of flavor) bytes.now) }
 {
-    match unchanged_text(flavor, bytes) {
-        Some(text) => Ok(CowText::Borrowed(text)),
-        None => Ok(CowText::Owned(internal::decode_lossy(alloc, flavor, bytes)?)),
+    if let Some(text) = unchanged_text(flavor, bytes) {
+        return Ok(CowText::Borrowed(text));
     }
+    let built = internal::decode_lossy(alloc, flavor, bytes)?;
+    Ok(CowText::Owned(built))
 }
 
 #[inline(always)]
@@ -222,8 +224,9 @@ fn decode_lossy_other(alloc: Global, flavor: Flavor, bytes: &[u8]) -> Result<Cow
     ensures succeeds { IsUtf8 bytes.now → IsOk result }
     ensures capacity { BuildsTextOfCapacity result (lossy_length (flavor_of flavor) bytes.now) }
 {
-    match whole_text(bytes) {
-        Ok(text) => Ok(CowText::Borrowed(text)),
-        Err(_) => Ok(CowText::Owned(internal::decode_lossy(alloc, flavor, bytes)?)),
+    if let Ok(text) = whole_text(bytes) {
+        return Ok(CowText::Borrowed(text));
     }
+    let built = internal::decode_lossy(alloc, flavor, bytes)?;
+    Ok(CowText::Owned(built))
 }

@@ -12,12 +12,12 @@ pub returns-in-Ok-clause-reading : goal.returns-in-Ok-clause-reading
 returns-in-Ok-clause-reading c =
     inl (IsUtf8Of_chars_at c.args.bytes.now c.in-Ok.text.now c.in-Ok.ensures.cases.0 c.in-Ok.ensures.cases.1)
 
-pub returns-in_ok-decode_lossy-in-Err-clause-reading : goal.returns-in_ok-decode_lossy-in-Err-clause-reading
-returns-in_ok-decode_lossy-in-Err-clause-reading c =
-    built_lenient_lossy (flavor_of c.args.flavor) c.args.bytes.now (chars (string_bytes c.in_ok-decode_lossy-in-Err.field-0)) c.in-Err.ensures.cases
-    c.in_ok-decode_lossy-in-Err.ensures.text
+pub returns-clause-reading : goal.returns-clause-reading
+returns-clause-reading c =
+    built_lenient_lossy (flavor_of c.args.flavor) c.args.bytes.now (chars (string_bytes c.in_ok-built.built)) c.in_default.ensures.cases
+    c.in_ok-built.ensures.text
 
-pub returns-in_ok-decode_lossy-in-Err-clause-borrowed : goal.returns-in_ok-decode_lossy-in-Err-clause-borrowed
-returns-in_ok-decode_lossy-in-Err-clause-borrowed c =
-    let built = c.in_ok-decode_lossy-in-Err.field-0 in
-    never_borrowed (not_utf8_differs c.args.bytes.now (string_bytes built) c.in-Err.ensures.cases (IsUtf8-string_bytes built))
+pub returns-clause-borrowed : goal.returns-clause-borrowed
+returns-clause-borrowed c =
+    let built = c.in_ok-built.built in
+    never_borrowed (not_utf8_differs c.args.bytes.now (string_bytes built) c.in_default.ensures.cases (IsUtf8-string_bytes built))

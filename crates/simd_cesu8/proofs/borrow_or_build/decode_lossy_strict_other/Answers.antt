@@ -15,14 +15,14 @@ returns-in-Some-clause-text_length c =
     let unchanged = c.in-Some.ensures.some in
     unchanged_length (flavor_of c.args.flavor) c.args.bytes.now c.in-Some.text.now unchanged.0 unchanged.1
 
-pub returns-in_ok-decode_lossy-in-None-clause-text_length : goal.returns-in_ok-decode_lossy-in-None-clause-text_length
-returns-in_ok-decode_lossy-in-None-clause-text_length c =
-    let built = c.in_ok-decode_lossy-in-None.field-0 in
+pub returns-clause-text_length : goal.returns-clause-text_length
+returns-clause-text_length c =
+    let built = c.in_ok-built.built in
     length_of_reading (flavor_of c.args.flavor) c.args.bytes.now (string_bytes built) (IsUtf8-string_bytes built)
-    c.in_ok-decode_lossy-in-None.ensures.text
+    c.in_ok-built.ensures.text
 
-pub returns-in_ok-decode_lossy-in-None-clause-borrowed : goal.returns-in_ok-decode_lossy-in-None-clause-borrowed
-returns-in_ok-decode_lossy-in-None-clause-borrowed c =
-    let built = c.in_ok-decode_lossy-in-None.field-0 in
-    never_borrowed (changed_reading (flavor_of c.args.flavor) c.args.bytes.now (string_bytes built) c.in-None.ensures.none
-    (IsUtf8-string_bytes built) c.in_ok-decode_lossy-in-None.ensures.text)
+pub returns-clause-borrowed : goal.returns-clause-borrowed
+returns-clause-borrowed c =
+    let built = c.in_ok-built.built in
+    never_borrowed (changed_reading (flavor_of c.args.flavor) c.args.bytes.now (string_bytes built) c.in_default.ensures.none
+    (IsUtf8-string_bytes built) c.in_ok-built.ensures.text)

@@ -11,18 +11,18 @@ pub returns-in-Ok-clause-text : goal.returns-in-Ok-clause-text
 returns-in-Ok-clause-text c =
     inl (IsUtf8Of_chars_at c.args.bytes.now c.in-Ok.whole.now c.in-Ok.ensures.cases.0 c.in-Ok.ensures.cases.1)
 
-pub returns-in_ok-decode_strict-in-Err-clause-text : goal.returns-in_ok-decode_strict-in-Err-clause-text
-returns-in_ok-decode_strict-in-Err-clause-text c =
-    built_lenient (flavor_of c.args.flavor) c.args.bytes.now (chars (string_bytes c.in_ok-decode_strict-in-Err.field-0)) c.in-Err.ensures.cases
-    c.in_ok-decode_strict-in-Err.ensures.text
+pub returns-clause-text : goal.returns-clause-text
+returns-clause-text c =
+    built_lenient (flavor_of c.args.flavor) c.args.bytes.now (chars (string_bytes c.in_ok-built.built)) c.in_default.ensures.cases
+    c.in_ok-built.ensures.text
 
-pub returns-in_ok-decode_strict-in-Err-clause-borrowed : goal.returns-in_ok-decode_strict-in-Err-clause-borrowed
-returns-in_ok-decode_strict-in-Err-clause-borrowed c =
-    let built = c.in_ok-decode_strict-in-Err.field-0 in
-    never_borrowed (not_utf8_differs c.args.bytes.now (string_bytes built) c.in-Err.ensures.cases (IsUtf8-string_bytes built))
+pub returns-clause-borrowed : goal.returns-clause-borrowed
+returns-clause-borrowed c =
+    let built = c.in_ok-built.built in
+    never_borrowed (not_utf8_differs c.args.bytes.now (string_bytes built) c.in_default.ensures.cases (IsUtf8-string_bytes built))
 
-pub returns-in_err-decode_strict-in-Err-clause-invalid : goal.returns-in_err-decode_strict-in-Err-clause-invalid
-returns-in_err-decode_strict-in-Err-clause-invalid c =
-    let refused = refused_lenient (flavor_of c.args.flavor) c.args.bytes.now c.in_err-decode_strict-in-Err.field-0.0 c.in-Err.ensures.cases
-    c.in_err-decode_strict-in-Err.ensures.invalid in
+pub returns-in_err-built-clause-invalid : goal.returns-in_err-built-clause-invalid
+returns-in_err-built-clause-invalid c =
+    let refused = refused_lenient (flavor_of c.args.flavor) c.args.bytes.now c.in_err-built.field-0.0 c.in_default.ensures.cases
+    c.in_err-built.ensures.invalid in
     search (rules, refused)

@@ -21,8 +21,8 @@ returns-in-Ok-clause-text c =
     unchanged_reading (flavor_of c.args.flavor) c.args.bytes.now c.in-Ok.text.now c.in-Ok.ensures.cases.0
     (c.in-Ok.ensures.cases.1, λ found. iff_false c.contains_changed.ensures c.if-contains_changed.false found)
 
-pub returns-in_ok-built-in-Err-clause-borrowed : goal.returns-in_ok-built-in-Err-clause-borrowed
-returns-in_ok-built-in-Err-clause-borrowed c =
-    let built = c.in_ok-built-in-Err.built in
-    never_borrowed (changed_text (flavor_of c.args.flavor) c.args.bytes.now (string_bytes built) (λ unchanged. c.in-Err.ensures.cases unchanged.0)
-    (IsUtf8-string_bytes built) c.in_ok-built-in-Err.ensures.text)
+pub returns-clause-borrowed : goal.returns-clause-borrowed
+returns-clause-borrowed c =
+    let built = c.in_ok-built.built in
+    never_borrowed (changed_text (flavor_of c.args.flavor) c.args.bytes.now (string_bytes built) (λ unchanged. c.in_default.ensures.cases unchanged.0)
+    (IsUtf8-string_bytes built) c.in_ok-built.ensures.text)
