@@ -5,7 +5,7 @@ use Rattle.std.proofs.lemmas.Bool.{agree_below_at, both_ways, cases_lt, eq-eqb, 
 use Rattle.std.proofs.lemmas.List.{length-map}
 use Rattle.std.proofs.lemmas.Simd.{mask_l-mod, tops_compared, zip2_splat_left}
 use lib.Lanes.{zip2, sel_l, mask_l, top, Each1}
-use Rattle.simd_cesu8.specs.Class.{is_four, is_null_four}
+use Rattle.simd_cesu8.specs.Class.{is_four, is_null_four, is_null_high}
 use Rattle.simd_cesu8.specs.EncodedPlaces.{is_lead}
 use Rattle.simd_cesu8.specs.Kernels.{AnyIn}
 use Rattle.simd_cesu8.proofs.Elements.{any_nil, any_here, any_there, any_cons}
@@ -192,3 +192,20 @@ null_four_bits n bytes long fits small =
     subst (λ n. mask_l (map (top 7) (null_four_vector n bytes)) % 2 ^ 64 ≡ mask_l (map is_null_four bytes)) long
     (ap (λ ms. mask_l ms % 2 ^ 64) (null_four_tests bytes fits)
     ∙ mask_l-mod (map is_null_four bytes) 64 (omega (arith, long, small, length-map bytes is_null_four)))
+
+abbrev pub null_high_vector : ℕ → List ℕ → List ℕ
+null_high_vector n bytes = zip2 bit_or (zip2 (λ a b. ones (leb a b)) (replicate n 0x80) bytes) (zip2 equal bytes (replicate n 0))
+
+null_high_tests : (bytes : List ℕ) → Each1 (Fits w8) bytes → map (top 7) (null_high_vector (length bytes) bytes) ≡ map is_null_high bytes
+null_high_tests [] h = refl
+null_high_tests (b ∷ bytes) h =
+    let this = agree_below_at (λ b. top 7 (bit_or (ones (leb 0x80 b)) (equal b 0))) is_null_high 256 b refl h.0.fits in
+    λ i. this i ∷ null_high_tests bytes h.1 i
+
+-- Comparisons with 80 and with 00 tell whether it is 00, or 80 or more.
+pub null_high_bits : (n : ℕ) (bytes : List ℕ) → length bytes ≡ n → Each1 (Fits w8) bytes → n ≤ 64 →
+    mask_l (map (top 7) (null_high_vector n bytes)) % 2 ^ 64 ≡ mask_l (map is_null_high bytes)
+null_high_bits n bytes long fits small =
+    subst (λ n. mask_l (map (top 7) (null_high_vector n bytes)) % 2 ^ 64 ≡ mask_l (map is_null_high bytes)) long
+    (ap (λ ms. mask_l ms % 2 ^ 64) (null_high_tests bytes fits)
+    ∙ mask_l-mod (map is_null_high bytes) 64 (omega (arith, long, small, length-map bytes is_null_high)))

@@ -1,4 +1,6 @@
 pub mod StdUtf8
+pub mod Ends
+pub mod Ascii
 pub mod Borders
 pub mod Shapes
 pub mod Forms

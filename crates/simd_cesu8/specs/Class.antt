@@ -16,6 +16,14 @@ IsFour b = IsTrue (is_four b)
 abbrev pub IsNullFour : ℕ → Type 0
 IsNullFour b = IsTrue (is_null_four b)
 
+-- 80 (hexadecimal) or more: what is not ASCII.
+abbrev pub is_high : ℕ → Bool
+is_high b = nat_le 0x80 b
+
+-- That, or the byte 0.
+abbrev pub is_null_high : ℕ → Bool
+is_null_high b = b == 0 || is_high b
+
 -- The class of a flavor: a byte of UTF-8 that it writes otherwise.
 abbrev pub IsChangedByte : Flavor → ℕ → Type 0
 IsChangedByte Cesu8 = IsFour

@@ -12,6 +12,7 @@ pub mod Cow
 pub mod Counted
 pub mod Fault
 pub mod Internal
+pub mod Short
 pub mod Joining
 pub mod Pieces
 pub mod Order

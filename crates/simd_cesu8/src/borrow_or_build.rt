@@ -12,7 +12,8 @@ ghost use Rattle.simd_cesu8.specs.Internal.{flavor_of};
 use crate::cow::{CowBytes, CowText};
 use crate::error::DecodeFault;
 use crate::internal;
-use crate::internal::{Flavor, character_start, contains_changed, is_continuation};
+use crate::internal::{Flavor, ascii_text, character_start, contains_changed, is_continuation};
+use crate::internal::{is_short_ascii, is_short_unchanged_ascii};
 use simdutf8::basic;
 use std::alloc::{AllocError, Global};
 
@@ -43,7 +44,8 @@ pub fn encode(alloc: Global, flavor: Flavor, value: &str) -> Result<CowBytes<'_>
 const FRONT: usize = 512;
 
 /// The bytes as a text, where they are UTF-8. Where they are not, their front mostly shows it, and
-/// the others are not tested.
+/// the others are not tested. It is inlined, since its answer would go through memory.
+#[inline(always)]
 fn whole_text(bytes: &[u8]) -> Result<&str, basic::Utf8Error>
     ensures cases { MatchResult result (λ text. (text.now ≡ bytes.now) × IsUtf8 bytes.now)
         (λ _. ¬ (IsUtf8 bytes.now)) }
@@ -63,6 +65,7 @@ fn has_utf8_front(bytes: &[u8], end: usize) -> bool
 }
 
 /// The bytes as a text, where they are UTF-8 without a byte that is written otherwise.
+#[inline(always)]
 fn unchanged_text(flavor: Flavor, bytes: &[u8]) -> Option<&str>
     ensures some { IfSome result (λ text. (text.now ≡ bytes.now)
         × IsUnchangedUtf8 (flavor_of flavor) bytes.now) }
@@ -74,7 +77,30 @@ fn unchanged_text(flavor: Flavor, bytes: &[u8]) -> Option<&str>
     whole_text(bytes).ok()
 }
 
+#[inline(always)]
 pub fn decode_strict(
+    alloc: Global,
+    flavor: Flavor,
+    bytes: &[u8],
+) -> Result<CowText<'_>, DecodeFault>
+    ensures text { IfText result (IsStrictReading (flavor_of flavor) bytes.now) }
+    ensures invalid { OnInvalid result (HasNoStrictReading (flavor_of flavor) bytes.now) }
+    ensures borrowed { BorrowsTextWhere result (λ text. text ≡ bytes.now) }
+    ensures borrowed_where { BorrowsTextWhere result
+        (λ _. IsUnchangedUtf8 (flavor_of flavor) bytes.now) }
+    ensures succeeds { IsUnchangedUtf8 (flavor_of flavor) bytes.now → IsOk result }
+    ensures capacity { BuildsTextOfCapacity result (length bytes.now) }
+{
+    if is_short_unchanged_ascii(flavor, bytes) {
+        return Ok(CowText::Borrowed(ascii_text(bytes)));
+    }
+    decode_strict_other(alloc, flavor, bytes)
+}
+
+/// The same where the look for short ASCII may have found another byte. It is never inlined, so
+/// the look needs no space of its own on the stack.
+#[inline(never)]
+fn decode_strict_other(
     alloc: Global,
     flavor: Flavor,
     bytes: &[u8],
@@ -91,15 +117,14 @@ pub fn decode_strict(
     if contains_changed(flavor, bytes) {
         return Err(internal::refuse(alloc, bytes.len()));
     }
-    match whole_text(bytes) {
-        Ok(text) => Ok(CowText::Borrowed(text)),
-        Err(_) => {
-            let built = internal::decode_strict(alloc, flavor, bytes)?;
-            Ok(CowText::Owned(built))
-        }
+    if let Ok(text) = whole_text(bytes) {
+        return Ok(CowText::Borrowed(text));
     }
+    let built = internal::decode_strict(alloc, flavor, bytes)?;
+    Ok(CowText::Owned(built))
 }
 
+#[inline(always)]
 pub fn decode(alloc: Global, flavor: Flavor, bytes: &[u8]) -> Result<CowText<'_>, DecodeFault>
     ensures text { IfText result (IsLenientReading (flavor_of flavor) bytes.now) }
     ensures invalid { OnInvalid result (HasNoLenientReading (flavor_of flavor) bytes.now) }
@@ -108,12 +133,31 @@ pub fn decode(alloc: Global, flavor: Flavor, bytes: &[u8]) -> Result<CowText<'_>
     ensures succeeds { IsUtf8 bytes.now → IsOk result }
     ensures capacity { BuildsTextOfCapacity result (length bytes.now) }
 {
-    match whole_text(bytes) {
-        Ok(whole) => Ok(CowText::Borrowed(whole)),
-        Err(_) => Ok(CowText::Owned(internal::decode_strict(alloc, flavor, bytes)?)),
+    if is_short_ascii(bytes) {
+        return Ok(CowText::Borrowed(ascii_text(bytes)));
     }
+    decode_other(alloc, flavor, bytes)
 }
 
+/// The same where the look for short ASCII may have found another byte. It is never inlined, so
+/// the look needs no space of its own on the stack.
+#[inline(never)]
+fn decode_other(alloc: Global, flavor: Flavor, bytes: &[u8]) -> Result<CowText<'_>, DecodeFault>
+    ensures text { IfText result (IsLenientReading (flavor_of flavor) bytes.now) }
+    ensures invalid { OnInvalid result (HasNoLenientReading (flavor_of flavor) bytes.now) }
+    ensures borrowed { BorrowsTextWhere result (λ text. text ≡ bytes.now) }
+    ensures borrowed_where { BorrowsTextWhere result (λ _. IsUtf8 bytes.now) }
+    ensures succeeds { IsUtf8 bytes.now → IsOk result }
+    ensures capacity { BuildsTextOfCapacity result (length bytes.now) }
+{
+    if let Ok(whole) = whole_text(bytes) {
+        return Ok(CowText::Borrowed(whole));
+    }
+    let built = internal::decode_strict(alloc, flavor, bytes)?;
+    Ok(CowText::Owned(built))
+}
+
+#[inline(always)]
 pub fn decode_lossy_strict(
     alloc: Global,
     flavor: Flavor,
@@ -127,12 +171,36 @@ pub fn decode_lossy_strict(
     ensures succeeds { IsUnchangedUtf8 (flavor_of flavor) bytes.now → IsOk result }
     ensures capacity { BuildsTextOfCapacity result (lossy_length (flavor_of flavor) bytes.now) }
 {
-    match unchanged_text(flavor, bytes) {
-        Some(text) => Ok(CowText::Borrowed(text)),
-        None => Ok(CowText::Owned(internal::decode_lossy(alloc, flavor, bytes)?)),
+    if is_short_unchanged_ascii(flavor, bytes) {
+        return Ok(CowText::Borrowed(ascii_text(bytes)));
     }
+    decode_lossy_strict_other(alloc, flavor, bytes)
 }
 
+/// The same where the look for short ASCII may have found another byte. It is never inlined, so
+/// the look needs no space of its own on the stack.
+#[inline(never)]
+fn decode_lossy_strict_other(
+    alloc: Global,
+    flavor: Flavor,
+    bytes: &[u8],
+) -> Result<CowText<'_>, AllocError>
+    ensures reading { IfText result (λ text. text ≡ reading (flavor_of flavor) bytes.now) }
+    ensures text_length { AnswersTextOfLength result (lossy_length (flavor_of flavor) bytes.now) }
+    ensures borrowed { BorrowsTextWhere result (λ text. text ≡ bytes.now) }
+    ensures borrowed_where { BorrowsTextWhere result
+        (λ _. IsUnchangedUtf8 (flavor_of flavor) bytes.now) }
+    ensures succeeds { IsUnchangedUtf8 (flavor_of flavor) bytes.now → IsOk result }
+    ensures capacity { BuildsTextOfCapacity result (lossy_length (flavor_of flavor) bytes.now) }
+{
+    if let Some(text) = unchanged_text(flavor, bytes) {
+        return Ok(CowText::Borrowed(text));
+    }
+    let built = internal::decode_lossy(alloc, flavor, bytes)?;
+    Ok(CowText::Owned(built))
+}
+
+#[inline(always)]
 pub fn decode_lossy(alloc: Global, flavor: Flavor, bytes: &[u8]) -> Result<CowText<'_>, AllocError>
     ensures reading { IfText result (IsLenientLossyReading (flavor_of flavor) bytes.now) }
     ensures borrowed { BorrowsTextWhere result (λ text. text ≡ bytes.now) }
@@ -140,8 +208,25 @@ pub fn decode_lossy(alloc: Global, flavor: Flavor, bytes: &[u8]) -> Result<CowTe
     ensures succeeds { IsUtf8 bytes.now → IsOk result }
     ensures capacity { BuildsTextOfCapacity result (lossy_length (flavor_of flavor) bytes.now) }
 {
-    match whole_text(bytes) {
-        Ok(text) => Ok(CowText::Borrowed(text)),
-        Err(_) => Ok(CowText::Owned(internal::decode_lossy(alloc, flavor, bytes)?)),
+    if is_short_ascii(bytes) {
+        return Ok(CowText::Borrowed(ascii_text(bytes)));
     }
+    decode_lossy_other(alloc, flavor, bytes)
+}
+
+/// The same where the look for short ASCII may have found another byte. It is never inlined, so
+/// the look needs no space of its own on the stack.
+#[inline(never)]
+fn decode_lossy_other(alloc: Global, flavor: Flavor, bytes: &[u8]) -> Result<CowText<'_>, AllocError>
+    ensures reading { IfText result (IsLenientLossyReading (flavor_of flavor) bytes.now) }
+    ensures borrowed { BorrowsTextWhere result (λ text. text ≡ bytes.now) }
+    ensures borrowed_where { BorrowsTextWhere result (λ _. IsUtf8 bytes.now) }
+    ensures succeeds { IsUtf8 bytes.now → IsOk result }
+    ensures capacity { BuildsTextOfCapacity result (lossy_length (flavor_of flavor) bytes.now) }
+{
+    if let Ok(text) = whole_text(bytes) {
+        return Ok(CowText::Borrowed(text));
+    }
+    let built = internal::decode_lossy(alloc, flavor, bytes)?;
+    Ok(CowText::Owned(built))
 }

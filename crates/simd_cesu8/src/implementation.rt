@@ -2,6 +2,7 @@
 
 pub(crate) mod count;
 pub mod fallback;
+pub(crate) mod short;
 pub mod simd;
 pub mod word;
 

@@ -6,6 +6,7 @@ ghost use Rattle.std.specs.Prelude.{◌↔◌, IsTrue, Any};
 ghost use Rattle.simd_cesu8.specs.Class.{IsChangedByte};
 ghost use Rattle.simd_cesu8.specs.Internal.{flavor_of};
 
+mod ascii;
 mod continuation;
 mod decoder;
 mod encoder;
@@ -16,6 +17,8 @@ mod window;
 mod writers;
 
 use crate::implementation::active;
+use crate::implementation::short::{ByteClass, SHORT, any_in_short};
+pub use ascii::{ascii_text, is_short_ascii, is_short_unchanged_ascii};
 pub use continuation::{character_start, is_continuation};
 pub use decoder::{decode_lossy, decode_strict, lossy_len, refuse};
 pub use encoder::{encode, encode_into};
@@ -42,8 +45,21 @@ pub struct DecodeOptions {
 pub fn contains_changed(flavor: Flavor, bytes: &[u8]) -> bool
     ensures { IsTrue result ↔ Any (IsChangedByte (flavor_of flavor)) bytes.now }
 {
+    if bytes.len() <= SHORT {
+        return short_contains_changed(flavor, bytes);
+    }
     match flavor {
         Flavor::Cesu8 => active::contains_utf8_4_byte_char_header(bytes),
         Flavor::Mutf8 => active::contains_null_or_utf8_4_byte_char_header(bytes),
+    }
+}
+
+#[inline(always)]
+fn short_contains_changed(flavor: Flavor, bytes: &[u8]) -> bool
+    ensures { IsTrue result ↔ Any (IsChangedByte (flavor_of flavor)) bytes.now }
+{
+    match flavor {
+        Flavor::Cesu8 => any_in_short(ByteClass::Four, bytes),
+        Flavor::Mutf8 => any_in_short(ByteClass::NullFour, bytes),
     }
 }

@@ -61,6 +61,7 @@ use std::alloc::{AllocError, Global};
 /// assert!(rt; !simd_cesu8::needs_encoded("\u{20AC}"));
 /// assert!(rt; simd_cesu8::needs_encoded("\u{10400}"));
 /// ```
+#[inline]
 pub fn needs_encoded(value: &str) -> bool
     ensures { IsTrue result ↔ NeedsEncoding Cesu8 (chars value.now) }
 {
@@ -103,6 +104,7 @@ pub fn counted(value: &str) -> CountedText<'_>
 /// let built = simd_cesu8::encode(alloc, "\u{10400}")?;
 /// assert_eq!(rt; built.as_bytes(), b"\xED\xA0\x81\xED\xB0\x80".as_slice());
 /// ```
+#[inline]
 pub fn encode(alloc: Global, value: &str) -> Result<CowBytes<'_>, AllocError>
     ensures encoding { IfBytes result (λ bytes. bytes ≡ encoding Cesu8 (chars value.now)) }
     ensures borrowed { BorrowsBytesWhere result (λ bytes. bytes ≡ value.now) }
@@ -154,6 +156,7 @@ pub fn encode_into(value: &str, buf: &mut Vec<u8>) -> Result<(), AllocError>
 /// assert_eq!(rt; built.as_str(), "\u{1F496}");
 /// assert!(rt; simd_cesu8::decode_strict(alloc, "\u{1F496}".as_bytes()).is_err());
 /// ```
+#[inline]
 pub fn decode_strict(alloc: Global, bytes: &[u8]) -> Result<CowText<'_>, DecodeFault>
     ensures text { IfText result (IsStrictReading Cesu8 bytes.now) }
     ensures invalid { OnInvalid result (HasNoStrictReading Cesu8 bytes.now) }
@@ -181,6 +184,7 @@ pub fn decode_strict(alloc: Global, bytes: &[u8]) -> Result<CowText<'_>, DecodeF
 /// let built = simd_cesu8::decode(alloc, b"\xED\xA0\xBD\xED\xB2\x96")?;
 /// assert_eq!(rt; built.as_str(), "\u{1F496}");
 /// ```
+#[inline]
 pub fn decode(alloc: Global, bytes: &[u8]) -> Result<CowText<'_>, DecodeFault>
     ensures text { IfText result (IsLenientReading Cesu8 bytes.now) }
     ensures invalid { OnInvalid result (HasNoLenientReading Cesu8 bytes.now) }
@@ -205,6 +209,7 @@ pub fn decode(alloc: Global, bytes: &[u8]) -> Result<CowText<'_>, DecodeFault>
 /// let text = simd_cesu8::decode_lossy_strict(alloc, b"\xE2\x82A")?;
 /// assert_eq!(rt; text.as_str(), "\u{FFFD}\u{FFFD}A");
 /// ```
+#[inline]
 pub fn decode_lossy_strict(alloc: Global, bytes: &[u8]) -> Result<CowText<'_>, AllocError>
     ensures reading { IfText result (λ text. text ≡ reading Cesu8 bytes.now) }
     ensures text_length { AnswersTextOfLength result (lossy_length Cesu8 bytes.now) }
@@ -230,6 +235,7 @@ pub fn decode_lossy_strict(alloc: Global, bytes: &[u8]) -> Result<CowText<'_>, A
 /// let text = simd_cesu8::decode_lossy(alloc, b"\xF0\x9F\x92\x96\xFF")?;
 /// assert_eq!(rt; text.as_str(), "\u{FFFD}\u{FFFD}\u{FFFD}\u{FFFD}\u{FFFD}");
 /// ```
+#[inline]
 pub fn decode_lossy(alloc: Global, bytes: &[u8]) -> Result<CowText<'_>, AllocError>
     ensures reading { IfText result (IsLenientLossyReading Cesu8 bytes.now) }
     ensures borrowed { BorrowsTextWhere result (λ text. text ≡ bytes.now) }

@@ -29,6 +29,7 @@ use std::alloc::{AllocError, Global};
 /// assert!(rt; !simd_cesu8::mutf8::needs_encoded("\u{20AC}"));
 /// assert!(rt; simd_cesu8::mutf8::needs_encoded("\0"));
 /// ```
+#[inline]
 pub fn needs_encoded(value: &str) -> bool
     ensures { IsTrue result ↔ NeedsEncoding Mutf8 (chars value.now) }
 {
@@ -72,6 +73,7 @@ pub fn counted(value: &str) -> CountedText<'_>
 /// let built = simd_cesu8::mutf8::encode(alloc, "a\0")?;
 /// assert_eq!(rt; built.as_bytes(), b"a\xC0\x80".as_slice());
 /// ```
+#[inline]
 pub fn encode(alloc: Global, value: &str) -> Result<CowBytes<'_>, AllocError>
     ensures encoding { IfBytes result (λ bytes. bytes ≡ encoding Mutf8 (chars value.now)) }
     ensures borrowed { BorrowsBytesWhere result (λ bytes. bytes ≡ value.now) }
@@ -126,6 +128,7 @@ pub fn encode_into(value: &str, buf: &mut Vec<u8>) -> Result<(), AllocError>
 /// assert_eq!(rt; built.as_str(), "\0");
 /// assert!(rt; simd_cesu8::mutf8::decode_strict(alloc, b"\0").is_err());
 /// ```
+#[inline]
 pub fn decode_strict(alloc: Global, bytes: &[u8]) -> Result<CowText<'_>, DecodeFault>
     ensures text { IfText result (IsStrictReading Mutf8 bytes.now) }
     ensures invalid { OnInvalid result (HasNoStrictReading Mutf8 bytes.now) }
@@ -153,6 +156,7 @@ pub fn decode_strict(alloc: Global, bytes: &[u8]) -> Result<CowText<'_>, DecodeF
 /// let built = simd_cesu8::mutf8::decode(alloc, b"a\xC0\x80")?;
 /// assert_eq!(rt; built.as_str(), "a\0");
 /// ```
+#[inline]
 pub fn decode(alloc: Global, bytes: &[u8]) -> Result<CowText<'_>, DecodeFault>
     ensures text { IfText result (IsLenientReading Mutf8 bytes.now) }
     ensures invalid { OnInvalid result (HasNoLenientReading Mutf8 bytes.now) }
@@ -177,6 +181,7 @@ pub fn decode(alloc: Global, bytes: &[u8]) -> Result<CowText<'_>, DecodeFault>
 /// let text = simd_cesu8::mutf8::decode_lossy_strict(alloc, b"\xC0\xC0\x80")?;
 /// assert_eq!(rt; text.as_str(), "\u{FFFD}\0");
 /// ```
+#[inline]
 pub fn decode_lossy_strict(alloc: Global, bytes: &[u8]) -> Result<CowText<'_>, AllocError>
     ensures reading { IfText result (λ text. text ≡ reading Mutf8 bytes.now) }
     ensures text_length { AnswersTextOfLength result (lossy_length Mutf8 bytes.now) }
@@ -201,6 +206,7 @@ pub fn decode_lossy_strict(alloc: Global, bytes: &[u8]) -> Result<CowText<'_>, A
 /// let text = simd_cesu8::mutf8::decode_lossy(alloc, b"\0\xC0\x80")?;
 /// assert_eq!(rt; text.as_str(), "\u{FFFD}\0");
 /// ```
+#[inline]
 pub fn decode_lossy(alloc: Global, bytes: &[u8]) -> Result<CowText<'_>, AllocError>
     ensures reading { IfText result (IsLenientLossyReading Mutf8 bytes.now) }
     ensures borrowed { BorrowsTextWhere result (λ text. text ≡ bytes.now) }

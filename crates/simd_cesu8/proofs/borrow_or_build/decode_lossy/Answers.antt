@@ -1,23 +1,9 @@
 use Rattle.std.proofs.Common.{inl}
-use Rattle.std.specs.Str.{chars}
-use Rattle.std.specs.String.{string_bytes}
-use Rattle.std.proofs.lemmas.Str.{IsUtf8-string_bytes}
-use Rattle.simd_cesu8.specs.Internal.{flavor_of}
+use Rattle.std.proofs.lemmas.Str.{IsUtf8-from_ascii}
 use Rattle.simd_cesu8.proofs.StdUtf8.{IsUtf8Of_chars_at}
-use Rattle.simd_cesu8.proofs.Borrowing.{not_utf8_differs, never_borrowed}
-use Rattle.simd_cesu8.proofs.LossyBorrowing.{built_lenient_lossy}
 use Rattle.simd_cesu8.proofs.borrow_or_build.decode_lossy.Goals as goal
 
-pub returns-in-Ok-clause-reading : goal.returns-in-Ok-clause-reading
-returns-in-Ok-clause-reading c =
-    inl (IsUtf8Of_chars_at c.args.bytes.now c.in-Ok.text.now c.in-Ok.ensures.cases.0 c.in-Ok.ensures.cases.1)
-
-pub returns-in_ok-decode_lossy-in-Err-clause-reading : goal.returns-in_ok-decode_lossy-in-Err-clause-reading
-returns-in_ok-decode_lossy-in-Err-clause-reading c =
-    built_lenient_lossy (flavor_of c.args.flavor) c.args.bytes.now (chars (string_bytes c.in_ok-decode_lossy-in-Err.field-0)) c.in-Err.ensures.cases
-    c.in_ok-decode_lossy-in-Err.ensures.text
-
-pub returns-in_ok-decode_lossy-in-Err-clause-borrowed : goal.returns-in_ok-decode_lossy-in-Err-clause-borrowed
-returns-in_ok-decode_lossy-in-Err-clause-borrowed c =
-    let built = c.in_ok-decode_lossy-in-Err.field-0 in
-    never_borrowed (not_utf8_differs c.args.bytes.now (string_bytes built) c.in-Err.ensures.cases (IsUtf8-string_bytes built))
+pub returns-then-is_short_ascii-clause-reading : goal.returns-then-is_short_ascii-clause-reading
+returns-then-is_short_ascii-clause-reading c =
+    inl (IsUtf8Of_chars_at c.args.bytes.now c.ascii_text.result.now c.ascii_text.ensures
+    (IsUtf8-from_ascii c.args.bytes.now (c.is_short_ascii.ensures c.if-is_short_ascii.true)))

@@ -1,28 +1,18 @@
-use Rattle.std.specs.String.{string_bytes}
-use Rattle.std.proofs.lemmas.Str.{IsUtf8-string_bytes}
+use Rattle.std.proofs.lemmas.Str.{IsUtf8-from_ascii}
 use Rattle.simd_cesu8.specs.Internal.{flavor_of}
-use Rattle.simd_cesu8.proofs.Borrowing.{never_borrowed}
-use Rattle.simd_cesu8.proofs.LossyBorrowing.{length_of_reading, unchanged_lossy, unchanged_length, changed_reading}
+use Rattle.simd_cesu8.proofs.LossyBorrowing.{unchanged_lossy, unchanged_length}
 use Rattle.simd_cesu8.proofs.borrow_or_build.decode_lossy_strict.Goals as goal
 
-pub returns-in-Some-clause-reading : goal.returns-in-Some-clause-reading
-returns-in-Some-clause-reading c =
-    let unchanged = c.in-Some.ensures.some in
-    unchanged_lossy (flavor_of c.args.flavor) c.args.bytes.now c.in-Some.text.now unchanged.0 unchanged.1
+pub returns-then-is_short_unchanged_ascii-clause-reading : goal.returns-then-is_short_unchanged_ascii-clause-reading
+returns-then-is_short_unchanged_ascii-clause-reading c =
+    let look = c.is_short_unchanged_ascii.ensures in
+    let found = c.if-is_short_unchanged_ascii.true in
+    unchanged_lossy (flavor_of c.args.flavor) c.args.bytes.now c.ascii_text.result.now c.ascii_text.ensures
+    (IsUtf8-from_ascii c.args.bytes.now (look.ascii found), look.unchanged found)
 
-pub returns-in-Some-clause-text_length : goal.returns-in-Some-clause-text_length
-returns-in-Some-clause-text_length c =
-    let unchanged = c.in-Some.ensures.some in
-    unchanged_length (flavor_of c.args.flavor) c.args.bytes.now c.in-Some.text.now unchanged.0 unchanged.1
-
-pub returns-in_ok-decode_lossy-in-None-clause-text_length : goal.returns-in_ok-decode_lossy-in-None-clause-text_length
-returns-in_ok-decode_lossy-in-None-clause-text_length c =
-    let built = c.in_ok-decode_lossy-in-None.field-0 in
-    length_of_reading (flavor_of c.args.flavor) c.args.bytes.now (string_bytes built) (IsUtf8-string_bytes built)
-    c.in_ok-decode_lossy-in-None.ensures.text
-
-pub returns-in_ok-decode_lossy-in-None-clause-borrowed : goal.returns-in_ok-decode_lossy-in-None-clause-borrowed
-returns-in_ok-decode_lossy-in-None-clause-borrowed c =
-    let built = c.in_ok-decode_lossy-in-None.field-0 in
-    never_borrowed (changed_reading (flavor_of c.args.flavor) c.args.bytes.now (string_bytes built) c.in-None.ensures.none
-    (IsUtf8-string_bytes built) c.in_ok-decode_lossy-in-None.ensures.text)
+pub returns-then-is_short_unchanged_ascii-clause-text_length : goal.returns-then-is_short_unchanged_ascii-clause-text_length
+returns-then-is_short_unchanged_ascii-clause-text_length c =
+    let look = c.is_short_unchanged_ascii.ensures in
+    let found = c.if-is_short_unchanged_ascii.true in
+    unchanged_length (flavor_of c.args.flavor) c.args.bytes.now c.ascii_text.result.now c.ascii_text.ensures
+    (IsUtf8-from_ascii c.args.bytes.now (look.ascii found), look.unchanged found)

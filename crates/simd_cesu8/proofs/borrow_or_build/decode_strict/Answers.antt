@@ -1,28 +1,11 @@
-use Rattle.std.proofs.Common.{sym, subst}
-use Rattle.std.specs.Prelude.{Any}
-use Rattle.std.specs.String.{string_bytes}
-use Rattle.std.proofs.lemmas.Bool.{iff_false}
-use Rattle.std.proofs.lemmas.Str.{IsUtf8-string_bytes}
-use Rattle.simd_cesu8.specs.Class.{IsChangedByte}
+use Rattle.std.proofs.lemmas.Str.{IsUtf8-from_ascii}
 use Rattle.simd_cesu8.specs.Internal.{flavor_of}
-use Rattle.simd_cesu8.proofs.Borrowing.{unchanged_reading, changed_text, never_borrowed}
-use Rattle.simd_cesu8.proofs.EncodedBytes.{none_changed}
-use Rattle.simd_cesu8.proofs.Pieces.{refused_by_any}
+use Rattle.simd_cesu8.proofs.Borrowing.{unchanged_reading}
 use Rattle.simd_cesu8.proofs.borrow_or_build.decode_strict.Goals as goal
 
-pub returns-then-contains_changed-clause-invalid : goal.returns-then-contains_changed-clause-invalid
-returns-then-contains_changed-clause-invalid c =
-    refused_by_any c.refuse.result (λ text reads.
-    none_changed (flavor_of c.args.flavor) text reads.0
-    (subst (Any (IsChangedByte (flavor_of c.args.flavor))) (sym reads.1) (c.contains_changed.ensures.0 c.if-contains_changed.true)))
-
-pub returns-in-Ok-clause-text : goal.returns-in-Ok-clause-text
-returns-in-Ok-clause-text c =
-    unchanged_reading (flavor_of c.args.flavor) c.args.bytes.now c.in-Ok.text.now c.in-Ok.ensures.cases.0
-    (c.in-Ok.ensures.cases.1, λ found. iff_false c.contains_changed.ensures c.if-contains_changed.false found)
-
-pub returns-in_ok-built-in-Err-clause-borrowed : goal.returns-in_ok-built-in-Err-clause-borrowed
-returns-in_ok-built-in-Err-clause-borrowed c =
-    let built = c.in_ok-built-in-Err.built in
-    never_borrowed (changed_text (flavor_of c.args.flavor) c.args.bytes.now (string_bytes built) (λ unchanged. c.in-Err.ensures.cases unchanged.0)
-    (IsUtf8-string_bytes built) c.in_ok-built-in-Err.ensures.text)
+pub returns-then-is_short_unchanged_ascii-clause-text : goal.returns-then-is_short_unchanged_ascii-clause-text
+returns-then-is_short_unchanged_ascii-clause-text c =
+    let look = c.is_short_unchanged_ascii.ensures in
+    let found = c.if-is_short_unchanged_ascii.true in
+    unchanged_reading (flavor_of c.args.flavor) c.args.bytes.now c.ascii_text.result.now c.ascii_text.ensures
+    (IsUtf8-from_ascii c.args.bytes.now (look.ascii found), look.unchanged found)

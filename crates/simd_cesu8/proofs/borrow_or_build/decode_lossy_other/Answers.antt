@@ -1,0 +1,23 @@
+use Rattle.std.proofs.Common.{inl}
+use Rattle.std.specs.Str.{chars}
+use Rattle.std.specs.String.{string_bytes}
+use Rattle.std.proofs.lemmas.Str.{IsUtf8-string_bytes}
+use Rattle.simd_cesu8.specs.Internal.{flavor_of}
+use Rattle.simd_cesu8.proofs.StdUtf8.{IsUtf8Of_chars_at}
+use Rattle.simd_cesu8.proofs.Borrowing.{not_utf8_differs, never_borrowed}
+use Rattle.simd_cesu8.proofs.LossyBorrowing.{built_lenient_lossy}
+use Rattle.simd_cesu8.proofs.borrow_or_build.decode_lossy_other.Goals as goal
+
+pub returns-in-Ok-clause-reading : goal.returns-in-Ok-clause-reading
+returns-in-Ok-clause-reading c =
+    inl (IsUtf8Of_chars_at c.args.bytes.now c.in-Ok.text.now c.in-Ok.ensures.cases.0 c.in-Ok.ensures.cases.1)
+
+pub returns-clause-reading : goal.returns-clause-reading
+returns-clause-reading c =
+    built_lenient_lossy (flavor_of c.args.flavor) c.args.bytes.now (chars (string_bytes c.in_ok-built.built)) c.in_default.ensures.cases
+    c.in_ok-built.ensures.text
+
+pub returns-clause-borrowed : goal.returns-clause-borrowed
+returns-clause-borrowed c =
+    let built = c.in_ok-built.built in
+    never_borrowed (not_utf8_differs c.args.bytes.now (string_bytes built) c.in_default.ensures.cases (IsUtf8-string_bytes built))
