@@ -5,7 +5,7 @@ use Rattle.std.proofs.lemmas.Nat.{and_le_l}
 use Rattle.std.proofs.lemmas.List.{take-map}
 use Rattle.std.proofs.lemmas.List.FromFn.{take-map-range_with_len, length-map-range_with_len}
 use Rattle.std.proofs.lemmas.Simd.{map-map, pick_l-range_with_len, tops_compared}
-use lib.Lanes.{zip2, sel_l, top, chunk, Each1}
+use lib.Lanes.{zip2, sel_l, mask_l, top, chunk, Each1}
 use Rattle.simd_cesu8.specs.Encoding.{Flavor}
 use Rattle.simd_cesu8.specs.EncodedPlaces.{is_null, mask}
 use Rattle.simd_cesu8.specs.DecodedPlaces.{is_damaged_at, decoded_at, decoded}
@@ -14,8 +14,8 @@ use Rattle.simd_cesu8.specs.declared.internal.decoder.parts.TheConstants.{FIRST_
 use Rattle.simd_cesu8.proofs.EncodedLanes.{loaded}
 use Rattle.simd_cesu8.proofs.DecodedParts.{decoded_is_written}
 use Rattle.simd_cesu8.proofs.StartCodes.{start_at}
-use Rattle.simd_cesu8.proofs.LaneTests.{gone_lane, lane_goes, covered_lane, damaged_lane, lane_damaged, mask_fits, byte_lane, lane_byte}
-use Rattle.simd_cesu8.proofs.FirstLanes.{behind_lanes, before_lanes, gone_behind, undamaged_behind, written_first}
+use Rattle.simd_cesu8.proofs.LaneTests.{gone_lane, lane_goes, covered_lane, damaged_lane, lane_damaged, mask_fits, byte_lane, lane_byte, joined_lane, byte_stays}
+use Rattle.simd_cesu8.proofs.FirstLanes.{behind_lanes, before_lanes, gone_behind, undamaged_behind, written_first, no_lane, on_range}
 
 -- ---- the lanes of a block, by places
 
@@ -42,13 +42,6 @@ abbrev pub byte_of : List ℕ → List ℕ → ℕ → ℕ
 byte_of window codes i =
     byte_lane (get_or codes (i + 4) 0) (get_or codes (i + 3) 0) (get_or codes (i + 2) 0) (get_or codes (i + 1) 0)
     (get_or window (i + 3) 0) (get_or window (i + 4) 0) (get_or window (i + 5) 0)
-
-on_range : {X : Type 0} (g h : ℕ → X) (a n : ℕ) → ((i : ℕ) → i < a + n → g i ≡ h i) → map g (range_with_len a n) ≡ map h (range_with_len a n)
-on_range g h a zero same = refl
-on_range g h a (suc n) same =
-    let first = same a (omega arith) in
-    let rest = on_range g h (a + 1) n (λ i inside. same i (omega arith)) in
-    λ k. first k ∷ rest k
 
 module _ (codes : List ℕ) (at : ℕ) (codes_room : at + 37 ≤ length codes) where
   code_behind : (d : ℕ) → d ≤ 5 → chunk (at + d) 32 codes ≡ map (λ i. get_or codes (i + d) 0) (range_with_len at 32)
@@ -123,6 +116,16 @@ module _ (codes : List ℕ) (at : ℕ) (codes_room : at + 37 ≤ length codes) w
           byte_behind 3 (omega arith),
         ) refl
 
+    -- Where no pair and no null is near, the bytes stay.
+    pub no_joined : mask_l (map is_high (zip2 bit_or (chunk (at + 4) 32 codes) (zip2 (λ a b. a * 2 ^ b % 2 ^ 8)
+        (zip2 bit_or (zip2 bit_or (chunk (at + 3) 32 codes) (chunk (at + 2) 32 codes)) (chunk (at + 1) 32 codes)) (replicate 32 2)))) ≡ 0 →
+        ((i : ℕ) → Fits w8 (get_or codes i 0)) → chunk (at + 5) 32 window ≡ map (byte_of window codes) (range_with_len at 32)
+    no_joined none fits =
+        byte_behind 5 (omega arith)
+        ∙ on_range _ (byte_of window codes) at 32 (λ i low inside. sym (byte_stays _ _ _ _ _ _ _ (fits (i + 3)).fits (fits (i + 2)).fits (fits (i + 1)).fits
+        (no_lane (λ i. is_high (joined_lane (get_or codes (i + 4) 0) (get_or codes (i + 3) 0) (get_or codes (i + 2) 0) (get_or codes (i + 1) 0)))
+        at 32 (rw (code_behind 4 (omega arith), code_behind 3 (omega arith), code_behind 2 (omega arith), code_behind 1 (omega arith)) at none) i low inside)))
+
   module _ (f : Flavor) (window : List ℕ) (count : ℕ) (small : count ≤ 32) (are_codes : AreStartCodes f window (at + count + 5) codes) where
     -- the code of a place of the first ones, and of five before
     told : (i d : ℕ) → d ≤ 5 → i < at + count → get_or codes (i + d) 0 ≡ start_code f window (i + d)
@@ -131,7 +134,7 @@ module _ (codes : List ℕ) (at : ℕ) (codes_room : at + 37 ≤ length codes) w
     first_lanes : {X : Type 0} (g h : ℕ → X) → ((i : ℕ) → i < at + count → g i ≡ h i) → (lanes : List X) → lanes ≡ map g (range_with_len at 32) →
         take count lanes ≡ map h (range_with_len at count)
     first_lanes g h same lanes are =
-        ap (take count) are ∙ take-map-range_with_len g at 32 count small ∙ on_range g h at count same
+        ap (take count) are ∙ take-map-range_with_len g at 32 count small ∙ on_range g h at count (λ i low inside. same i inside)
 
     -- Of the first ones they say which go,
     pub first_gone : (lanes marks : List ℕ) → lanes ≡ map (gone_of codes) (range_with_len at 32) → marks ≡ behind_lanes count 0 32 →

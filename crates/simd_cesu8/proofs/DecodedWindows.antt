@@ -168,15 +168,15 @@ module _ (f : Flavor) (bytes window : List ℕ) (n : ℕ) (is_read : IsRead f by
 -- ---- the test of a short text
 
 -- Zeros behind a text leave it one.
-pub text_and_zeros : (written zeros : List ℕ) (end k n : ℕ) → end ≤ length written → end < 64 → 64 ≤ n → zeros ≡ replicate n 0 →
-    IsUtf8 (take end written) → IsUtf8 (take 64 (put_mid end k written zeros))
-text_and_zeros written zeros end k n fits small long zeros_are text =
+pub text_and_zeros : (written zeros : List ℕ) (end k n len : ℕ) → end ≤ length written → end ≤ len → len ≤ end + n → zeros ≡ replicate n 0 →
+    IsUtf8 (take end written) → IsUtf8 (take len (put_mid end k written zeros))
+text_and_zeros written zeros end k n len fits small long zeros_are text =
     let front = take end written in
     let rest = zeros ++ post_of end k written in
-    let place : 64 ≡ length front + (64 - end) = omega (arith, length-take-le end written fits) in
-    let tested : take 64 (front ++ rest) ≡ front ++ replicate (64 - end) 0 =
-    ap (λ n. take n (front ++ rest)) place ∙ take-append-add front rest (64 - end)
-    ∙ ap (λ l. front ++ l) (take-append-le (64 - end) zeros (post_of end k written) (omega (arith, ap length zeros_are, length-replicate {A = ℕ} n 0))
-    ∙ ap (take (64 - end)) zeros_are ∙ take-replicate (64 - end) n 0 (omega arith)) in
-    subst IsUtf8 (sym tested) (IsUtf8-append front (replicate (64 - end) 0) text
-    (IsUtf8-from_ascii (replicate (64 - end) 0) (λ i. omega (arith, zeros_at (64 - end) i))))
+    let place : len ≡ length front + (len - end) = omega (arith, length-take-le end written fits) in
+    let tested : take len (front ++ rest) ≡ front ++ replicate (len - end) 0 =
+    ap (λ n. take n (front ++ rest)) place ∙ take-append-add front rest (len - end)
+    ∙ ap (λ l. front ++ l) (take-append-le (len - end) zeros (post_of end k written) (omega (arith, ap length zeros_are, length-replicate {A = ℕ} n 0))
+    ∙ ap (take (len - end)) zeros_are ∙ take-replicate (len - end) n 0 (omega arith)) in
+    subst IsUtf8 (sym tested) (IsUtf8-append front (replicate (len - end) 0) text
+    (IsUtf8-from_ascii (replicate (len - end) 0) (λ i. omega (arith, zeros_at (len - end) i))))

@@ -34,9 +34,8 @@ use super::{DecodeOptions, Flavor};
 use crate::error::{DecodeFault, DecodingError};
 use appending::{append, append_small, append_window};
 use by_places::read_by_places;
-use parts::ROOM;
 use std::alloc::{AllocError, Allocator};
-use windows::AROUND;
+use windows::{AROUND, SPARED};
 
 /// How many bytes are read in one window at most.
 const WINDOW: usize = 1024;
@@ -51,15 +50,15 @@ const FEW: usize = 96;
 // vectors are read and written.
 const WINDOW_ROOM: usize = 1104;
 
-const WRITTEN_ROOM: usize = 3200;
+const WRITTEN_ROOM: usize = 3248;
 
 const SMALL_ROOM: usize = 336;
 
-const SMALL_WRITTEN_ROOM: usize = 896;
+const SMALL_WRITTEN_ROOM: usize = 944;
 
 const FEW_ROOM: usize = 176;
 
-const FEW_WRITTEN_ROOM: usize = 416;
+const FEW_WRITTEN_ROOM: usize = 464;
 
 /// How many windows are read by places before one is joined again.
 const WINDOWS: usize = 4;
@@ -137,7 +136,7 @@ fn decode_in<const LEN: usize, const WRITTEN: usize, A: Allocator>(
     bytes: &[u8],
 ) -> Result<String<A>, AllocError>
     requires window { (length bytes.now + AROUND ≤ LEN) × (AROUND + 11 ≤ LEN) }
-    requires written { (3 * LEN ≤ WRITTEN + ROOM) × (WRITTEN ≤ WRITTEN_ROOM) }
+    requires written { (3 * LEN ≤ WRITTEN + SPARED) × (WRITTEN ≤ WRITTEN_ROOM) }
     ensures text { IfOk result (λ text.
         chars (string_bytes text) ≡ reading (flavor_of flavor) bytes.now) }
     ensures capacity { IfOk result (λ text.

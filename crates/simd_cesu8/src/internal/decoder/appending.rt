@@ -7,8 +7,7 @@ ghost use Rattle.simd_cesu8.specs.Internal.{flavor_of};
 ghost use Rattle.simd_cesu8.specs.Pieces.{IsReadSoFar, HasFault};
 
 use super::by_places::read_by_places;
-use super::parts::ROOM;
-use super::windows::AROUND;
+use super::windows::{AROUND, SPARED};
 use super::{FEW, FEW_ROOM, FEW_WRITTEN_ROOM, SMALL_ROOM, SMALL_WRITTEN_ROOM, WRITTEN_ROOM};
 use crate::error::{DecodeFault, DecodingError};
 use crate::internal::DecodeOptions;
@@ -42,7 +41,7 @@ fn append_in<'b, const LEN: usize, const WRITTEN: usize, A: Allocator>(
 ) -> Result<&'b [u8], DecodeFault>
     requires some { 0 < length bytes.now }
     requires window { AROUND + 11 ≤ LEN }
-    requires written { (3 * LEN ≤ WRITTEN + ROOM) × (WRITTEN ≤ WRITTEN_ROOM) }
+    requires written { (3 * LEN ≤ WRITTEN + SPARED) × (WRITTEN ≤ WRITTEN_ROOM) }
     ensures less { IfOk result (λ rest. length rest.now < length bytes.now) }
     ensures ok { IfOk result (λ rest. IsReadSoFar (flavor_of options.flavor) options.lossy
         bytes.now rest.now (string_bytes out.old) (string_bytes out.new)) }
@@ -69,7 +68,7 @@ pub fn append_window<'b, A: Allocator>(
     requires window { AROUND + 11 ≤ length window.old }
     requires zeros { window.old ≡ replicate (length window.old) 0 }
     requires codes { length codes.old ≡ length window.old }
-    requires written { 3 * length window.old ≤ length written.old + ROOM }
+    requires written { 3 * length window.old ≤ length written.old + SPARED }
     ensures less { IfOk result (λ rest. length rest.now < length bytes.now) }
     ensures ok { IfOk result (λ rest. IsReadSoFar (flavor_of options.flavor) options.lossy
         bytes.now rest.now (string_bytes out.old) (string_bytes out.new)) }

@@ -165,15 +165,22 @@ fn joined(window: &[u8], codes: &[u8], at: usize) -> u8x32
         → AreStartCodes f window.now (at + count + 5) codes.now
         → take count result ≡ map (byte_at f window.now) (range_with_len at count) }
 {
+    let near = u8x32::from_slice(&codes[at + 4..]);
+    let pairs = u8x32::from_slice(&codes[at + 3..])
+        | u8x32::from_slice(&codes[at + 2..])
+        | u8x32::from_slice(&codes[at + 1..]);
+    let byte = u8x32::from_slice(&window[at + 5..]);
+    if highest_bits(near | (pairs << u8x32::splat(2))) == 0 {
+        return byte;
+    }
     let pair = u8x32::splat(PAIR);
     let half = u8x32::splat(0x0F);
-    let byte = u8x32::from_slice(&window[at + 5..]);
     let before = u8x32::from_slice(&window[at + 4..]);
     let two_before = u8x32::from_slice(&window[at + 3..]);
     let first = look_up(FIRST_BY_SECOND, before);
     let second = look_up(SECOND_BY_SECOND, two_before) | ((before >> u8x32::splat(2)) & half);
     let third = look_up(THIRD_BY_THIRD, two_before) | (byte & half);
-    let joined = u8x32::from_slice(&codes[at + 4..])
+    let joined = near
         .simd_ge(u8x32::splat(0x80))
         .select(u8x32::splat(0), byte);
     let joined = chosen(u8x32::from_slice(&codes[at + 1..]) & pair, third, joined);

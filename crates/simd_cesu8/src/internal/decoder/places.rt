@@ -46,13 +46,20 @@ pub const BEHIND: usize = 5;
 /// How many bytes tell what begins at the places of a block.
 pub const REACH: usize = 32 + BEHIND;
 
-/// The codes of the 32 places from `at` on.
+/// The least byte that begins two bytes or more.
+const LEAD: u8 = 0xC0;
+
+/// The codes of the 32 places from `at` on. Most often no character of two bytes or more begins at
+/// any of them, or many do.
 #[inline(always)]
 pub fn starts<N: NullForm>(bytes: &[u8], at: usize) -> u8x32
     requires { at + REACH ≤ length bytes.now }
     ensures { result ≡ map (start_code N.flavor bytes.now) (range_with_len at 32) }
 {
     let first = u8x32::from_slice(&bytes[at..]);
+    if first.simd_ge(u8x32::splat(LEAD)).to_bitmask() == 0 {
+        return u8x32::splat(0);
+    }
     let second = u8x32::from_slice(&bytes[at + 1..]);
     let third = u8x32::from_slice(&bytes[at + 2..]);
     let fourth = u8x32::from_slice(&bytes[at + 3..]);

@@ -21,6 +21,9 @@ const BEFORE: usize = 5;
 /// How many bytes of a window's room stand behind those of the window.
 const BEHIND: usize = AROUND - BEFORE;
 
+/// How many bytes what is written has fewer than three for each of a window's.
+pub const SPARED: usize = 64;
+
 /// How many bytes were read of a window, the end of what is written for them, and whether some of
 /// them are damaged.
 #[derive(Drop)]
@@ -41,11 +44,11 @@ pub fn write_window<N: NullForm>(
     requires window { AROUND + 11 ≤ length window.old }
     requires zeros { window.old ≡ replicate (length window.old) 0 }
     requires codes { length codes.old ≡ length window.old }
-    requires out { 3 * length window.old ≤ length out.old + ROOM }
+    requires out { 3 * length window.old ≤ length out.old + SPARED }
     ensures some { 0 < length bytes.now → 0 < result.read }
     ensures within { result.read ≤ length bytes.now }
     ensures all { length bytes.now + AROUND ≤ length window.old → result.read ≡ length bytes.now }
-    ensures end { result.end ≤ length out.new }
+    ensures end { result.end + 64 ≤ length out.new }
     ensures lossy { IsPiece N.flavor true bytes.now
         (drop result.read bytes.now) (take result.end out.new) }
     ensures strict { result.is_damaged ≡ false → IsPiece N.flavor false bytes.now
@@ -131,7 +134,8 @@ fn write_blocks<N: NullForm>(window: &[u8], codes: &[u8], count: usize, out: &mu
         × (is_damaged_at N.flavor window.now i ≡ true) }
     ensures whole { result.is_damaged ≡ false → (i : ℕ) → i < count
         → is_damaged_at N.flavor window.now i ≡ false }
-    ensures end { result.end ≤ length out.new }
+    ensures end { result.end ≤ 3 * count + 93 }
+    ensures len { length out.new ≡ length out.old }
 {
     let mut at = 0;
     let mut end = 0;

@@ -25,7 +25,7 @@ loop-at-preserved g c =
     record {
       within = elim c.if-left-lt32.branch [ then-left-lt32 w ↦ omega arith | else-left-lt32 w ↦ omega arith ];
       room = λ more. elim c.if-left-lt32.branch [ then-left-lt32 w ↦ omega arith | else-left-lt32 w ↦ omega arith ];
-      end = omega (arith, inv.room, block.end, block.len, inv.len);
+      end = omega (arith, inv.room, block.end);
       len = block.len ∙ inv.len;
       bytes = more_written f window _ _ c.loop-at.at c.if-left-lt32.len inv.bytes block.bytes;
       damaged = more_damaged (is_damaged_at f window) c.loop-at.at c.if-left-lt32.len _ _ inv.damaged block.damaged;

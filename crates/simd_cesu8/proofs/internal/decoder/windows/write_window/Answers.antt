@@ -1,4 +1,4 @@
-use Rattle.std.proofs.Common.{◌≤◌, sym, ◌∙◌, subst, length, arith, rules}
+use Rattle.std.proofs.Common.{◌+◌, ◌≤◌, sym, ◌∙◌, subst, length, arith, rules}
 use Rattle.std.proofs.lemmas.List.{take_all}
 use Rattle.simd_cesu8.specs.DecodedPlaces.{IsPadded}
 use Rattle.simd_cesu8.proofs.DecodedWindows.{IsRead, all_read, part_read, read_lossily, read_strictly, read_fault}
@@ -15,6 +15,10 @@ returns g c =
     let count = c.if-loaded-bytes.read in
     let fits : loaded ≤ length bytes =
     elim c.if-bytes-most.branch [ then-bytes-most w ↦ omega arith | else-bytes-most w ↦ omega arith ] in
+    let inside : loaded + 80 ≤ length c.args.window.now =
+    elim c.if-bytes-most.branch [ then-bytes-most w ↦ omega arith | else-bytes-most w ↦ omega arith ] in
+    let before : count ≤ loaded =
+    elim c.if-loaded-bytes.branch [ then-loaded-bytes w ↦ omega arith | else-loaded-bytes w ↦ omega (arith, w.border-read.ensures.within) ] in
     let is_read : IsRead f bytes window count = elim c.if-loaded-bytes.branch [
       | then-loaded-bytes w ↦
           subst (IsRead f bytes window) (sym (w.read-is ∙ w.if-loaded-bytes.true))
@@ -30,7 +34,7 @@ returns g c =
       some = search rules;
       within = search rules;
       all = search rules;
-      end = blocks.end;
+      end = omega (arith, blocks.end, blocks.len, inside, before);
       lossy = read_lossily f bytes window count is_read _ _ blocks.read blocks.bytes;
       strict = λ fine. read_strictly f bytes window count is_read _ _ blocks.read blocks.bytes (blocks.whole fine);
       damaged = λ damaged. read_fault f bytes window count is_read (blocks.damaged damaged);
