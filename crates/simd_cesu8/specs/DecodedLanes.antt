@@ -72,21 +72,29 @@ written_lanes gone damaged bytes = written (map is_high gone) (map is_high damag
 -- The lanes that packing keeps of four bytes and a replacement character behind them, from byte i on,
 -- for n bytes. Bit i of the first number says whether byte i goes, and of the second whether it is
 -- damaged.
-abbrev pub kept_of_four : ℕ → ℕ → ℕ → ℕ → List ℕ
-kept_of_four gone damaged i zero = []
-kept_of_four gone damaged i (suc n) =
+abbrev pub kept_of : ℕ → ℕ → ℕ → ℕ → List ℕ
+kept_of gone damaged i zero = []
+kept_of gone damaged i (suc n) =
     (if damaged % 2 == 1 then 4 ∷ 5 ∷ 6 ∷ [] else if gone % 2 == 1 then [] else i ∷ [])
-    ++ kept_of_four (gone / 2) (damaged / 2) (i + 1) n
+    ++ kept_of (gone / 2) (damaged / 2) (i + 1) n
 
 -- The same as a shuffle of sixteen lanes, of which the last says how many are kept, and those before it
 -- are of no use.
 abbrev pub shuffle_of_four : ℕ → List ℕ
 shuffle_of_four set =
-    let kept = kept_of_four (set % 0x10) (set / 0x10) 0 4 in kept ++ replicate (15 - length kept) 0 ++ length kept ∷ []
+    let kept = kept_of (set % 0x10) (set / 0x10) 0 4 in kept ++ replicate (15 - length kept) 0 ++ length kept ∷ []
 
 -- The rows of shuffles, one for each number below 100 (hexadecimal).
 abbrev pub AreShufflesOfFour : List (List ℕ) → Type 0
 AreShufflesOfFour rows = (set : ℕ) → set < 0x100 → slice_index_or rows set [] ≡ shuffle_of_four set
+
+-- The same for eight bytes of which none is damaged. Bit i of the number says whether byte i goes.
+abbrev pub shuffle_of_eight : ℕ → List ℕ
+shuffle_of_eight gone =
+    let kept = kept_of gone 0 0 8 in kept ++ replicate (15 - length kept) 0 ++ length kept ∷ []
+
+abbrev pub AreShufflesOfEight : List (List ℕ) → Type 0
+AreShufflesOfEight rows = (gone : ℕ) → gone < 0x100 → slice_index_or rows gone [] ≡ shuffle_of_eight gone
 
 -- What place i of a window saves.
 abbrev pub saved_at : Flavor → List ℕ → ℕ → ℕ

@@ -32,7 +32,7 @@ use super::window::{SHORT, read_window};
 use super::writers::{copy_text, exactly};
 use super::{DecodeOptions, Flavor};
 use crate::error::{DecodeFault, DecodingError};
-use appending::{append, append_small, append_window};
+use appending::{append, append_in, append_small, append_window};
 use by_places::read_by_places;
 use std::alloc::{AllocError, Allocator};
 use windows::{AROUND, SPARED};
@@ -43,8 +43,11 @@ const WINDOW: usize = 1024;
 /// How many bytes are read in rooms that are made faster,
 const SMALL: usize = 256;
 
-/// and in the fastest.
+/// still faster,
 const FEW: usize = 96;
+
+/// and in the fastest.
+const FEWEST: usize = 32;
 
 // The lengths of the rooms for a window and for what is written of it: so much and more, since whole
 // vectors are read and written.
@@ -59,6 +62,10 @@ const SMALL_WRITTEN_ROOM: usize = 944;
 const FEW_ROOM: usize = 176;
 
 const FEW_WRITTEN_ROOM: usize = 464;
+
+const FEWEST_ROOM: usize = 112;
+
+const FEWEST_WRITTEN_ROOM: usize = 272;
 
 /// How many windows are read by places before one is joined again.
 const WINDOWS: usize = 4;
@@ -105,6 +112,9 @@ pub fn decode_lossy<A: Allocator>(
     ensures capacity { IfOk result (λ text.
         string_capacity text ≡ lossy_length (flavor_of flavor) bytes.now) }
 {
+    if bytes.len() <= FEWEST {
+        return decode_in::<FEWEST_ROOM, FEWEST_WRITTEN_ROOM, A>(alloc, flavor, bytes);
+    }
     if bytes.len() <= FEW {
         return decode_in::<FEW_ROOM, FEW_WRITTEN_ROOM, A>(alloc, flavor, bytes);
     }
@@ -245,7 +255,7 @@ fn read_windows<'b, A: Allocator>(
         return Ok(&bytes[piece.read..]);
     }
     if most <= SMALL {
-        return append_small(options, bytes, out);
+        return append_in::<FEW_ROOM, FEW_WRITTEN_ROOM, A>(options, bytes, out);
     }
     append_windows(options, bytes, out)
 }

@@ -8,7 +8,8 @@ ghost use Rattle.simd_cesu8.specs.Pieces.{IsReadSoFar, HasFault};
 
 use super::by_places::read_by_places;
 use super::windows::{AROUND, SPARED};
-use super::{FEW, FEW_ROOM, FEW_WRITTEN_ROOM, SMALL_ROOM, SMALL_WRITTEN_ROOM, WRITTEN_ROOM};
+use super::{FEW, FEW_ROOM, FEW_WRITTEN_ROOM, FEWEST, FEWEST_ROOM, FEWEST_WRITTEN_ROOM};
+use super::{SMALL_ROOM, SMALL_WRITTEN_ROOM, WRITTEN_ROOM};
 use crate::error::{DecodeFault, DecodingError};
 use crate::internal::DecodeOptions;
 use std::alloc::Allocator;
@@ -26,6 +27,9 @@ pub fn append_small<'b, A: Allocator>(
     ensures invalid { OnInvalid result ((options.lossy ≡ false)
         × HasFault (flavor_of options.flavor) bytes.now) }
 {
+    if bytes.len() <= FEWEST {
+        return append_in::<FEWEST_ROOM, FEWEST_WRITTEN_ROOM, A>(options, bytes, out);
+    }
     if bytes.len() <= FEW {
         return append_in::<FEW_ROOM, FEW_WRITTEN_ROOM, A>(options, bytes, out);
     }
@@ -34,7 +38,7 @@ pub fn append_small<'b, A: Allocator>(
 
 /// The same for one window in rooms of these lengths, which are made only where it is called.
 #[inline(never)]
-fn append_in<'b, const LEN: usize, const WRITTEN: usize, A: Allocator>(
+pub fn append_in<'b, const LEN: usize, const WRITTEN: usize, A: Allocator>(
     options: DecodeOptions,
     bytes: &'b [u8],
     out: &mut String<A>,
