@@ -1,5 +1,6 @@
 -- What the vectors of the decoder hold, lane by lane.
 use Rattle.std.specs.Prelude.{◌≡◌, ℕ, zero, suc, ◌+◌, ◌*◌, ◌/◌, ◌%◌, ◌-◌, ◌<◌, ◌&&◌, ◌||◌, ◌==◌, nat_le, nat_lt, if◌then◌else◌, Bool, List, [], ◌∷◌, ◌++◌, map, length, slice_index, slice_index_or, replicate}
+use Rattle.std.specs.List.{range_with_len}
 use Rattle.simd_cesu8.specs.Encoding.{Flavor}
 use Rattle.simd_cesu8.specs.DecodedPlaces.{null_at, two_at, three_at, pair_at, width_at, saved}
 
@@ -23,9 +24,14 @@ start_code f window i =
     let w = slice_index window in
     start_code_by f (w i) (w (i + 1)) (w (i + 2)) (w (i + 3)) (w (i + 4)) (w (i + 5))
 
--- The codes of the first n places of a window.
-abbrev pub AreStartCodes : Flavor → List ℕ → ℕ → List ℕ → Type 0
-AreStartCodes f window n codes = (k : ℕ) → k < n → slice_index codes k ≡ start_code f window k
+-- Five codes, from position p on, are those of a window's places from n on.
+abbrev pub AreFiveCodes : Flavor → List ℕ → ℕ → List ℕ → ℕ → Type 0
+AreFiveCodes f window n codes p = (k : ℕ) → k < 5 → slice_index codes (p + k) ≡ start_code f window (n + k)
+
+-- Vector d of six has the codes of the 32 places from d behind `at` on.
+abbrev pub AreCodesNear : Flavor → List ℕ → ℕ → List (List ℕ) → Type 0
+AreCodesNear f window at codes =
+    (d : ℕ) → d < 6 → slice_index_or codes d [] ≡ map (λ i. start_code f window (i + d)) (range_with_len at 32)
 
 -- Whether a byte goes, and the byte that is written for one that stays, by the widths of what begins at
 -- its place and at the five before it, and by the two bytes before it.

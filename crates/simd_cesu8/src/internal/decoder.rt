@@ -153,9 +153,8 @@ fn decode_in<const LEN: usize, const WRITTEN: usize, A: Allocator>(
         string_capacity text ≡ lossy_length (flavor_of flavor) bytes.now) }
 {
     let mut window = [0; LEN];
-    let mut codes = [0; LEN];
     let mut written = [0; WRITTEN];
-    let read = read_by_places(flavor, bytes, &mut window, &mut codes, &mut written);
+    let read = read_by_places(flavor, bytes, &mut window, &mut written);
     copy_text(alloc, read.text)
 }
 
@@ -275,13 +274,12 @@ fn append_windows<'b, A: Allocator>(
     ensures invalid { OnInvalid result ((options.lossy ≡ false)
         × HasFault (flavor_of options.flavor) bytes.now) }
 {
-    let mut codes = [0; WINDOW_ROOM];
     let mut written = [0; WRITTEN_ROOM];
     let mut rest = bytes;
     let mut windows = 0;
     while windows < WINDOWS && !rest.is_empty() {
         let mut window = [0; WINDOW_ROOM];
-        rest = append_window(options, rest, &mut window, &mut codes, &mut written, out)?;
+        rest = append_window(options, rest, &mut window, &mut written, out)?;
         windows += 1;
     }
     Ok(rest)

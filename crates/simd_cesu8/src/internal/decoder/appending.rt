@@ -53,9 +53,8 @@ pub fn append_in<'b, const LEN: usize, const WRITTEN: usize, A: Allocator>(
         × HasFault (flavor_of options.flavor) bytes.now) }
 {
     let mut window = [0; LEN];
-    let mut codes = [0; LEN];
     let mut written = [0; WRITTEN];
-    append_window(options, bytes, &mut window, &mut codes, &mut written, out)
+    append_window(options, bytes, &mut window, &mut written, out)
 }
 
 /// Appends the text of a window by places, and gives the bytes that are left.
@@ -64,14 +63,12 @@ pub fn append_window<'b, A: Allocator>(
     options: DecodeOptions,
     bytes: &'b [u8],
     window: &mut [u8],
-    codes: &mut [u8],
     written: &mut [u8],
     out: &mut String<A>,
 ) -> Result<&'b [u8], DecodeFault>
     requires some { 0 < length bytes.now }
     requires window { AROUND + 11 ≤ length window.old }
     requires zeros { window.old ≡ replicate (length window.old) 0 }
-    requires codes { length codes.old ≡ length window.old }
     requires written { 3 * length window.old ≤ length written.old + SPARED }
     ensures less { IfOk result (λ rest. length rest.now < length bytes.now) }
     ensures ok { IfOk result (λ rest. IsReadSoFar (flavor_of options.flavor) options.lossy
@@ -79,7 +76,7 @@ pub fn append_window<'b, A: Allocator>(
     ensures invalid { OnInvalid result ((options.lossy ≡ false)
         × HasFault (flavor_of options.flavor) bytes.now) }
 {
-    let read = read_by_places(options.flavor, bytes, window, codes, written);
+    let read = read_by_places(options.flavor, bytes, window, written);
     if read.is_damaged && !options.lossy {
         return Err(DecodeFault::Invalid(DecodingError(())));
     }

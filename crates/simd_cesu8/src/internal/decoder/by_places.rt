@@ -28,12 +28,10 @@ pub fn read_by_places<'a>(
     flavor: Flavor,
     bytes: &[u8],
     window: &mut [u8],
-    codes: &mut [u8],
     written: &'a mut [u8],
 ) -> ReadWindow<'a>
     requires window { AROUND + 11 ≤ length window.old }
     requires zeros { window.old ≡ replicate (length window.old) 0 }
-    requires codes { length codes.old ≡ length window.old }
     requires written { 3 * length window.old ≤ length written.old + SPARED }
     ensures some { 0 < length bytes.now → 0 < result.len }
     ensures within { result.len ≤ length bytes.now }
@@ -44,7 +42,7 @@ pub fn read_by_places<'a>(
         (drop result.len bytes.now) result.text.now }
     ensures damaged { result.is_damaged ≡ true → HasFault (flavor_of flavor) bytes.now }
 {
-    let decoded = write_in_flavor(flavor, bytes, window, codes, written);
+    let decoded = write_in_flavor(flavor, bytes, window, written);
     ReadWindow {
         len: decoded.read,
         text: text_of(written, decoded.end),
@@ -73,12 +71,10 @@ fn write_in_flavor(
     flavor: Flavor,
     bytes: &[u8],
     window: &mut [u8],
-    codes: &mut [u8],
     written: &mut [u8],
 ) -> Decoded
     requires window { AROUND + 11 ≤ length window.old }
     requires zeros { window.old ≡ replicate (length window.old) 0 }
-    requires codes { length codes.old ≡ length window.old }
     requires written { 3 * length window.old ≤ length written.old + SPARED }
     ensures some { 0 < length bytes.now → 0 < result.read }
     ensures within { result.read ≤ length bytes.now }
@@ -91,7 +87,7 @@ fn write_in_flavor(
     ensures damaged { result.is_damaged ≡ true → HasFault (flavor_of flavor) bytes.now }
 {
     match flavor {
-        Flavor::Cesu8 => write_window::<OneByteNull>(bytes, window, codes, written),
-        Flavor::Mutf8 => write_window::<TwoByteNull>(bytes, window, codes, written),
+        Flavor::Cesu8 => write_window::<OneByteNull>(bytes, window, written),
+        Flavor::Mutf8 => write_window::<TwoByteNull>(bytes, window, written),
     }
 }
