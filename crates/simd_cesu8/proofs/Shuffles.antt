@@ -3,7 +3,8 @@ use Rattle.std.proofs.Common.{◌≡◌, ℕ, ◌<◌, Bool, true, false, ◌&&�
 use Rattle.std.proofs.lemmas.Bool.{agree_below, agree_below_at, and_parts}
 use Rattle.simd_cesu8.specs.EncodedPlaces.{shuffle_of}
 use Rattle.simd_cesu8.specs.DecodedLanes.{shuffle_of_four, shuffle_of_eight}
-use Rattle.simd_cesu8.specs.declared.internal.decoder.rows.TheConstants.{ROWS as ROWS_OF_FOUR, ROWS_OF_EIGHT}
+use Rattle.simd_cesu8.specs.declared.internal.decoder.rows.TheConstants.{ROWS as ROWS_OF_FOUR}
+use Rattle.simd_cesu8.specs.declared.internal.decoder.rows_of_eight.TheConstants.{ROWS as ROWS_OF_EIGHT}
 use Rattle.simd_cesu8.specs.declared.internal.encoder.rows.TheConstants.{ROWS}
 
 same_list : List ℕ → List ℕ → Bool

@@ -24,6 +24,7 @@ mod packing;
 mod parts;
 mod places;
 mod rows;
+mod rows_of_eight;
 mod windows;
 
 use super::joining::Room;

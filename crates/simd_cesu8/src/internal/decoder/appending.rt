@@ -8,8 +8,10 @@ ghost use Rattle.simd_cesu8.specs.Pieces.{IsReadSoFar, HasFault};
 
 use super::by_places::read_by_places;
 use super::windows::{AROUND, SPARED};
-use super::{FEW, FEW_ROOM, FEW_WRITTEN_ROOM, FEWEST, FEWEST_ROOM, FEWEST_WRITTEN_ROOM};
-use super::{SMALL_ROOM, SMALL_WRITTEN_ROOM, WRITTEN_ROOM};
+use super::{
+    FEW, FEW_ROOM, FEW_WRITTEN_ROOM, FEWEST, FEWEST_ROOM, FEWEST_WRITTEN_ROOM, SMALL_ROOM,
+    SMALL_WRITTEN_ROOM, WRITTEN_ROOM,
+};
 use crate::error::{DecodeFault, DecodingError};
 use crate::internal::DecodeOptions;
 use std::alloc::Allocator;

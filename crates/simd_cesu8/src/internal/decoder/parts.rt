@@ -133,9 +133,7 @@ fn damaged<N: NullForm>(window: &[u8], codes: &Codes, at: usize, count: usize) -
     let pair = u8x32::splat(PAIR);
     let near = codes[5] | codes[4];
     let of_three = codes[3] & u8x32::splat(PAIR | THREE);
-    let of_pair = (codes[2] & pair)
-        | (codes[1] & pair)
-        | (codes[0] & pair);
+    let of_pair = (codes[2] & pair) | (codes[1] & pair) | (codes[0] & pair);
     let alone = equal(near | of_three | of_pair, 0);
     // A byte below 80 is a character of its own, but 00 is none in MUTF-8.
     let byte = u8x32::from_slice(&window[at + 5..]);

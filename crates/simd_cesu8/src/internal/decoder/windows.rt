@@ -33,11 +33,7 @@ pub struct Decoded {
 
 /// Writes what becomes of the first bytes, up to a place that no encoded character crosses.
 #[inline(always)]
-pub fn write_window<N: NullForm>(
-    bytes: &[u8],
-    window: &mut [u8],
-    out: &mut [u8],
-) -> Decoded
+pub fn write_window<N: NullForm>(bytes: &[u8], window: &mut [u8], out: &mut [u8]) -> Decoded
     requires window { AROUND + 11 ≤ length window.old }
     requires zeros { window.old ≡ replicate (length window.old) 0 }
     requires out { 3 * length window.old ≤ length out.old + SPARED }
