@@ -3,11 +3,11 @@ use Rattle.std.proofs.Common.{◌≡◌, ℕ, zero, suc, ◌+◌, ◌*◌, ◌/�
 use Rattle.std.specs.List.{range_with_len}
 use Rattle.std.proofs.lemmas.Bool.{agree_below_at, and_parts, leb-true}
 use Rattle.std.proofs.lemmas.Bool.Decides.{nat_tests}
-use Rattle.std.proofs.lemmas.List.{length-map, length-drop, map-append, take_at, drop_at, drop_all, drop-drop}
+use Rattle.std.proofs.lemmas.List.{length-map, length-drop, map-append, take_at, drop_at, drop_all, drop-drop, take-map, drop-map, drop-replicate, take-replicate}
 use Rattle.std.proofs.lemmas.Nat.{and_mask, and_le_r, le_or_l, le_or_r}
 use Rattle.std.proofs.lemmas.Simd.{swz_l, SwzOk, SwzOk-from_below, zip2_splat, length-zip2, length-chunk, map-map, pick_l-range_with_len, Each1-all, Each1-zip2, Each2-splat}
 use lib.Lanes.{zip2, mask_l, put_chunk, chunk, pick_l, Each1}
-use Rattle.simd_cesu8.specs.DecodedLanes.{is_high, written_for, written, written_lanes, kept_of_four, shuffle_of_four}
+use Rattle.simd_cesu8.specs.DecodedLanes.{is_high, written_for, written, written_lanes, kept_of, shuffle_of_four, shuffle_of_eight}
 use Rattle.simd_cesu8.proofs.EncodedRows.{lowest, shuffled, stored_front, mask_front, mask_rest, first_mask, row_mask, lanes_of_first, lanes_of_second, four_calls}
 
 -- ---- a shuffle by the lower halves of numbers
@@ -42,7 +42,7 @@ kept_one g r i false false xs ys e = ap (λ l. g i ∷ l) e
 
 -- The lanes that are kept are what is written.
 kept_written : (g : ℕ → ℕ) → map g (4 ∷ 5 ∷ 6 ∷ []) ≡ 0xEF ∷ 0xBF ∷ 0xBD ∷ [] → (gone damaged : List Bool) (i : ℕ) → length damaged ≡ length gone →
-    map g (kept_of_four (mask_l gone) (mask_l damaged) i (length gone)) ≡ written gone damaged (map g (range_with_len i (length gone)))
+    map g (kept_of (mask_l gone) (mask_l damaged) i (length gone)) ≡ written gone damaged (map g (range_with_len i (length gone)))
 kept_written g r [] damaged i e = refl
 kept_written g r (s ∷ gone) [] i e = absurd (omega arith)
 kept_written g r (s ∷ gone) (d ∷ damaged) i e =
@@ -51,7 +51,7 @@ kept_written g r (s ∷ gone) (d ∷ damaged) i e =
     rw (goes.0, goes.1, fails.0, fails.1) (kept_one g r i s d _ _ (kept_written g r gone damaged (i + 1) (omega arith)))
 
 abbrev kept : ℕ → List ℕ
-kept set = kept_of_four (set % 0x10) (set / 0x10) 0 4
+kept set = kept_of (set % 0x10) (set / 0x10) 0 4
 
 is_row : ℕ → Bool
 is_row set = eqb (length (shuffle_of_four set)) 16 && (eqb (get_or (shuffle_of_four set) 15 0) (length (kept set)) && leb (length (kept set)) 12)
@@ -80,7 +80,7 @@ module _ (row : List ℕ) (set : ℕ) (small : set < 0x100) (row_is : row ≡ sh
         let long : 4 ≤ length (gone ++ damaged) = omega (arith, length-append gone damaged) in
         let goes : set % 0x10 ≡ mask_l gone = ap (λ m. m % 0x10) set_is ∙ mask_front 4 (gone ++ damaged) long ∙ ap mask_l (take_at gone damaged 4 g) in
         let fails : set / 0x10 ≡ mask_l damaged = ap (λ m. m / 0x10) set_is ∙ mask_rest 4 (gone ++ damaged) long ∙ ap mask_l (drop_at gone damaged 4 g) in
-        (λ i. map lane (kept_of_four (goes i) (fails i) 0 (sym g i)))
+        (λ i. map lane (kept_of (goes i) (fails i) 0 (sym g i)))
         ∙ kept_written lane (pick_l-range_with_len 0 lanes 4 3 (omega arith) ∙ replacement) gone damaged 0 (omega arith)
         ∙ ap (λ n. written gone damaged (map lane (range_with_len 0 n))) g
         ∙ ap (written gone damaged) (pick_l-range_with_len 0 lanes 0 4 (omega arith))
@@ -97,6 +97,58 @@ module _ (row : List ℕ) (set : ℕ) (small : set < 0x100) (row_is : row ≡ sh
         (omega (arith, facts, ap length row_is, ap length parts, length-append (kept set) padding, length-map (kept set) lane, length-map padding lane))
         (omega (arith, facts, ap (λ r. get_or r 15 0) row_is, length-map (kept set) lane))
         ∙ ap (λ l. take at out ++ l) kept_is
+
+-- ---- what is kept of eight bytes, none of which is damaged
+
+kept_whole : (g : ℕ → ℕ) (gone : List Bool) (i : ℕ) →
+    map g (kept_of (mask_l gone) 0 i (length gone)) ≡ written gone (replicate (length gone) false) (map g (range_with_len i (length gone)))
+kept_whole g [] i = refl
+kept_whole g (s ∷ gone) i =
+    let goes = lowest s (mask_l gone) in
+    rw (goes.0, goes.1) (one s _ _ (kept_whole g gone (i + 1)))
+  where
+    one : (s : Bool) (xs ys : List ℕ) → map g xs ≡ ys → map g (cond s [] (i ∷ []) ++ xs) ≡ written_for s false (g i) ++ ys
+    one true xs ys e = e
+    one false xs ys e = ap (λ l. g i ∷ l) e
+
+abbrev whole : ℕ → List ℕ
+whole gone = kept_of gone 0 0 8
+
+is_whole_row : ℕ → Bool
+is_whole_row gone = eqb (length (shuffle_of_eight gone)) 16 && (eqb (get_or (shuffle_of_eight gone) 15 0) (length (whole gone)) && leb (length (whole gone)) 8)
+
+-- A shuffle has sixteen lanes, of which the last is the number of those that are kept, at most eight.
+whole_row_facts : (gone : ℕ) → gone < 0x100 →
+    (length (shuffle_of_eight gone) ≡ 16) × ((get_or (shuffle_of_eight gone) 15 0 ≡ length (whole gone)) × (length (whole gone) ≤ 8))
+unfolding is_whole_row
+whole_row_facts gone l =
+    let parts = and_parts _ _ (agree_below_at is_whole_row (λ _. true) 0x100 gone refl l) in
+    let ends = and_parts _ _ parts.1 in
+    (eqb-true _ _ parts.0, (eqb-true _ _ ends.0, leb-true _ _ ends.1))
+
+module _ (row : List ℕ) (gone : ℕ) (small : gone < 0x100) (row_is : row ≡ shuffle_of_eight gone) where
+  -- the end of what a row packs
+  pub end_of_eight : get_or row 15 0 ≤ 8
+  end_of_eight = omega (arith, ap (λ r. get_or r 15 0) row_is, whole_row_facts gone small)
+
+  -- After the lanes are stored, what is up to their end is what was there, and what is written.
+  pub stored_eight : (out lanes : List ℕ) (at : ℕ) → length lanes ≡ 16 → at + 16 ≤ length out →
+      (tests : List Bool) → length tests ≡ 8 → gone ≡ mask_l tests →
+      take (at + get_or row 15 0) (put_chunk at out (map (λ j. get_or lanes (j % 0x10) 0) row))
+      ≡ take at out ++ written tests (replicate 8 false) (chunk 0 8 lanes)
+  stored_eight out lanes at lanes_long room tests long gone_is =
+      let lane : ℕ → ℕ = λ j. get_or lanes (j % 0x10) 0 in
+      let facts = whole_row_facts gone small in
+      let zeros : List ℕ = replicate (15 - length (whole gone)) 0 in
+      let padding = zeros ++ length (whole gone) ∷ [] in
+      let parts : row ≡ whole gone ++ padding = row_is ∙ append_assoc (whole gone) zeros (length (whole gone) ∷ []) in
+      ap (λ v. take (at + get_or row 15 0) (put_chunk at out v)) (ap (map lane) parts ∙ map-append lane (whole gone) padding)
+      ∙ stored_front out (map lane (whole gone)) (map lane padding) at (at + get_or row 15 0)
+      (omega (arith, facts, ap length row_is, ap length parts, length-append (whole gone) padding, length-map (whole gone) lane, length-map padding lane))
+      (omega (arith, facts, ap (λ r. get_or r 15 0) row_is, length-map (whole gone) lane))
+      ∙ ap (λ l. take at out ++ l) ((λ i. map lane (kept_of (gone_is i) 0 0 (sym long i))) ∙ kept_whole lane tests 0
+      ∙ ap (λ n. written tests (replicate n false) (map lane (range_with_len 0 n))) long
+      ∙ ap (written tests (replicate 8 false)) (pick_l-range_with_len 0 lanes 0 8 (omega arith)))
 
 -- ---- the lanes of three vectors
 
@@ -115,6 +167,23 @@ lanes_parts (suc n) (g ∷ gone) (d ∷ damaged) (b ∷ bytes) e f =
 -- what stands behind x, with four bytes written
 abbrev pub AddsFour : (x y lanes : List ℕ) → ℕ → Type 0
 AddsFour x y lanes set = (gone damaged : List Bool) → length gone ≡ 4 → length damaged ≡ 4 → set ≡ mask_l (gone ++ damaged) → y ≡ x ++ written gone damaged lanes
+
+-- the same with eight, none of which is damaged
+abbrev pub AddsEight : (x y lanes : List ℕ) → ℕ → Type 0
+AddsEight x y lanes set = (tests : List Bool) → length tests ≡ 8 → set ≡ mask_l tests → y ≡ x ++ written tests (replicate 8 false) lanes
+
+unset : (t : Bool) (m : ℕ) → cond t 1 0 + 2 * m ≡ 0 → (t ≡ false) × (m ≡ 0)
+unset true m e = absurd (omega arith)
+unset false m e = (refl, omega arith)
+
+none_high : (lanes : List ℕ) → mask_l (map is_high lanes) ≡ 0 → map is_high lanes ≡ replicate (length lanes) false
+none_high [] none = refl
+none_high (d ∷ lanes) none =
+    let here = unset (is_high d) (mask_l (map is_high lanes)) none in
+    λ i. here.0 i ∷ none_high lanes here.1 i
+
+chunk-map : (p : ℕ → Bool) (a n : ℕ) (xs : List ℕ) → map p (chunk a n xs) ≡ chunk a n (map p xs)
+chunk-map p a n xs = sym (take-map p n (drop a xs)) ∙ ap (take n) (sym (drop-map p a xs))
 
 module _ (gone damaged bytes : List ℕ) where
   -- what is written for n lanes from a on, and for all from there on
@@ -181,6 +250,37 @@ module _ (gone damaged bytes : List ℕ) where
         ∙ ap (λ l. x0 ++ l) (sym (next 16 g d b 0 4 ∙ ap (λ l. part 0 4 ++ l) (next 16 g d b 4 4
         ∙ ap (λ l. part 4 4 ++ l) (next 16 g d b 8 4 ∙ ap (λ l. part 8 4 ++ l) (last 16 g d b 12 4 refl)))))
 
+  -- ---- four times eight lanes
+
+  module _ (g : length gone ≡ 32) (d : length damaged ≡ 32) (b : length bytes ≡ 32) (none : mask_l (map is_high damaged) ≡ 0) where
+    unharmed : (a : ℕ) → a + 8 ≤ 32 → map is_high (chunk a 8 damaged) ≡ replicate 8 false
+    unharmed a le =
+        chunk-map is_high a 8 damaged ∙ ap (chunk a 8) (none_high damaged none ∙ ap (λ n. replicate n false) d)
+        ∙ ap (take 8) (drop-replicate a 32 false) ∙ take-replicate 8 (32 - a) false (omega arith)
+
+    adds_eight : (x y lanes : List ℕ) (a set : ℕ) → a + 8 ≤ 32 → lanes ≡ chunk a 8 bytes → set ≡ mask_l (chunk a 8 (map is_high gone)) →
+        ((tests : List Bool) → length tests ≡ 8 → set ≡ mask_l tests → y ≡ x ++ written tests (replicate 8 false) lanes) → y ≡ x ++ part a 8
+    adds_eight x y lanes a set le lanes_are set_is add =
+        let tests = map is_high (chunk a 8 gone) in
+        add tests (length-map (chunk a 8 gone) is_high ∙ length-chunk a 8 gone (omega arith)) (set_is ∙ ap mask_l (sym (chunk-map is_high a 8 gone)))
+        ∙ (λ i. x ++ written tests (sym (unharmed a le) i) (lanes_are i))
+
+    pub stored_whole : (x0 x1 x2 x3 x4 v0 v1 v2 v3 : List ℕ) (set : ℕ) → set ≡ mask_l (map is_high gone) →
+        v0 ≡ chunk 0 8 bytes → v1 ≡ chunk 8 8 bytes → v2 ≡ chunk 16 8 bytes → v3 ≡ chunk 24 8 bytes →
+        AddsEight x0 x1 v0 (bit_and set 0xFF) → AddsEight x1 x2 v1 (bit_and (set / 2 ^ 8) 0xFF) →
+        AddsEight x2 x3 v2 (bit_and (set / 2 ^ 16) 0xFF) → AddsEight x3 x4 v3 (bit_and (set / 2 ^ 24) 0xFF) →
+        x4 ≡ x0 ++ written_lanes gone damaged bytes
+    stored_whole x0 x1 x2 x3 x4 v0 v1 v2 v3 set is is0 is1 is2 is3 add0 add1 add2 add3 =
+        let flags = map is_high gone in
+        let row = λ (a : ℕ) (le : a + 8 ≤ 32). row_mask a flags set (omega (arith, length-map gone is_high)) is in
+        four_calls x0 x1 x2 x3 x4 (part 0 8) (part 8 8) (part 16 8) (part 24 8)
+        (adds_eight x0 x1 v0 0 _ (omega arith) is0 (first_mask flags set (omega (arith, length-map gone is_high)) is) add0)
+        (adds_eight x1 x2 v1 8 _ (omega arith) is1 (row 8 (omega arith)) add1)
+        (adds_eight x2 x3 v2 16 _ (omega arith) is2 (row 16 (omega arith)) add2)
+        (adds_eight x3 x4 v3 24 _ (omega arith) is3 (row 24 (omega arith)) add3)
+        ∙ ap (λ l. x0 ++ l) (sym (next 32 g d b 0 8 ∙ ap (λ l. part 0 8 ++ l) (next 32 g d b 8 8
+        ∙ ap (λ l. part 8 8 ++ l) (next 32 g d b 16 8 ∙ ap (λ l. part 16 8 ++ l) (last 32 g d b 24 8 refl)))))
+
   -- ---- two halves
 
   module _ (g : length gone ≡ 32) (d : length damaged ≡ 32) (b : length bytes ≡ 32) where
@@ -205,10 +305,6 @@ module _ (gone damaged bytes : List ℕ) where
         ∙ sym (next 32 g d b 0 16 ∙ ap (λ l. part 0 16 ++ l) (last 32 g d b 16 16 refl)))
 
 -- ---- nothing gone or damaged
-
-unset : (t : Bool) (m : ℕ) → cond t 1 0 + 2 * m ≡ 0 → (t ≡ false) × (m ≡ 0)
-unset true m e = absurd (omega arith)
-unset false m e = (refl, omega arith)
 
 low_both : (g d : ℕ) → is_high (bit_or g d) ≡ false → (is_high g ≡ false) × (is_high d ≡ false)
 low_both g d e = (grind (arith, nat_tests, le_or_l g d), grind (arith, nat_tests, le_or_r g d))

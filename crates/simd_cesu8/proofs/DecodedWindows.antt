@@ -1,14 +1,12 @@
 -- What is read and written by windows.
-use Rattle.std.proofs.Common.{◌≡◌, ℕ, ◌+◌, ◌-◌, ◌*◌, ◌<◌, ◌≤◌, ◌⊎◌, ⊎_elim, Bool, true, false, ◌&&◌, ◌||◌, not, eqb, leb, List, [], ◌∷◌, ◌++◌, refl, sym, ap, subst, ◌∙◌, arith, IsTrue, true≢false, map, get_or, length, take, drop, replicate, zero-add, bit_and, bit_or}
+use Rattle.std.proofs.Common.{◌≡◌, ℕ, ◌+◌, ◌-◌, ◌*◌, ◌<◌, ◌≤◌, ◌⊎◌, ⊎_elim, Bool, true, false, ◌&&◌, ◌||◌, not, eqb, leb, List, [], ◌∷◌, ◌++◌, refl, sym, ap, subst, ◌∙◌, arith, IsTrue, true≢false, map, get_or, length, take, drop, replicate, zero-add, add-zero, bit_and, bit_or}
 use Rattle.std.proofs.lemmas.Bool.{ne_eqb, eq-eqb, le-leb, lt-leb, cases_lt}
 use Rattle.simd_cesu8.specs.Encoding.{Flavor}
 use Rattle.simd_cesu8.specs.DecodedPlaces.{width_at, is_border_at, IsPadded, IsPaddedFor, is_damaged_at, decoded}
 use Rattle.simd_cesu8.specs.Pieces.{IsPiece, HasFault}
-use Rattle.simd_cesu8.specs.DecodedLanes.{start_code, AreStartCodes}
+use Rattle.simd_cesu8.specs.DecodedLanes.{start_code, AreFiveCodes}
 use Rattle.std.specs.List.{range_with_len}
-use Rattle.std.proofs.lemmas.Simd.{get_or-put_chunk_below, get_or-put_chunk_at}
-use Rattle.std.proofs.lemmas.List.FromFn.{length-map-range_with_len, get_or-map-range_with_len}
-use lib.Lanes.{put_chunk}
+use Rattle.std.proofs.lemmas.List.FromFn.{get_or-map-range_with_len}
 use Rattle.simd_cesu8.proofs.WindowPlaces.{decoded_split}
 use borrow.Rule.Slice.PartMut.{put_mid, post_of}
 use Rattle.std.proofs.lemmas.List.{get_or-drop, take-replicate, take-append-le, length-take-le, length-replicate}
@@ -16,7 +14,7 @@ use Rattle.std.proofs.Math.Seq.{take-append-add}
 use Rattle.std.specs.Str.{IsUtf8}
 use Rattle.std.proofs.lemmas.Str.{IsUtf8-append, IsUtf8-from_ascii}
 use Rattle.simd_cesu8.proofs.EncodedWindows.{zeros_at, padded}
-use Rattle.simd_cesu8.proofs.StartCodes.{start_at, over_one, over_two}
+use Rattle.simd_cesu8.proofs.StartCodes.{start_at, no_start, over_one, over_two}
 use Rattle.simd_cesu8.proofs.PlaceBorders.{width_bounds, border_at_end}
 use Rattle.simd_cesu8.proofs.DecodedText.{padded_follows, padded_border}
 use Rattle.simd_cesu8.proofs.DecodedPieces.{padded_for, padded_take, border_behind, fault_at, lossy_piece, strict_piece}
@@ -43,11 +41,11 @@ regroup true true true true false = refl
 regroup true true true true true = refl
 
 -- The codes of five places tell whether there is a border behind them.
-pub border_told : (f : Flavor) (window codes : List ℕ) (at : ℕ) → AreStartCodes f window (at + 5) codes →
+pub border_told : (f : Flavor) (window codes : List ℕ) (n at : ℕ) → AreFiveCodes f window n codes at →
     eqb (bit_or (bit_or (get_or codes (at + 4) 0) (bit_and (get_or codes (at + 3) 0) 0x3C))
     (bit_or (bit_or (bit_and (get_or codes at 0) 0x20) (bit_and (get_or codes (at + 1) 0) 0x20)) (bit_and (get_or codes (at + 2) 0) 0x20))) 0
-    ≡ is_border_at f window at
-border_told f window codes at are_codes =
+    ≡ is_border_at f window n
+border_told f window codes n at told =
     let w = width_at f window in
     let c : ℕ → ℕ = λ k. get_or codes k 0 in
     let s = start_at f window in
@@ -55,17 +53,31 @@ border_told f window codes at are_codes =
     let p0 = bit_and (c at) 0x20 in
     let p1 = bit_and (c (at + 1)) 0x20 in
     let p2 = bit_and (c (at + 2)) 0x20 in
-    let told : (k : ℕ) → k < at + 5 → c k ≡ start_code f window k = are_codes in
-    let reach = λ (k n : ℕ) (near : k < at + 5) (low : 3 ≤ n) (high : n < 6).
-    ap (λ x. eqb (bit_and x 0x20) 0) (told k near) ∙ no_pair _ _ _ (s k) ∙ by_bounds (w k) n (width_bounds f window k) low high in
+    let first : c at ≡ start_code f window n = ap c (sym (add-zero at)) ∙ told 0 (omega arith) ∙ ap (start_code f window) (add-zero n) in
+    let reach = λ (x p k : ℕ) (is : x ≡ start_code f window p) (low : 3 ≤ k) (high : k < 6).
+    ap (λ x. eqb (bit_and x 0x20) 0) is ∙ no_pair _ _ _ (s p) ∙ by_bounds (w p) k (width_bounds f window p) low high in
     no_bit_or (bit_or (c (at + 4)) two) (bit_or (bit_or p0 p1) p2)
     ∙ (λ i. no_bit_or (c (at + 4)) two i && no_bit_or (bit_or p0 p1) p2 i)
     ∙ (λ i. (eqb (c (at + 4)) 0 && eqb two 0) && (no_bit_or p0 p1 i && eqb p2 0))
-    ∙ (λ i. ((ap (λ x. eqb x 0) (told (at + 4) (omega arith)) ∙ over_one _ _ _ (s (at + 4))) i
-    && (ap (λ x. eqb (bit_and x 0x3C) 0) (told (at + 3) (omega arith)) ∙ over_two _ _ _ (s (at + 3))) i)
-    && ((reach at 5 (omega arith) (omega arith) (omega arith) i && reach (at + 1) 4 (omega arith) (omega arith) (omega arith) i)
-    && reach (at + 2) 3 (omega arith) (omega arith) (omega arith) i))
-    ∙ regroup (leb (w (at + 4)) 1) (leb (w (at + 3)) 2) (leb (w (at + 2)) 3) (leb (w (at + 1)) 4) (leb (w at) 5)
+    ∙ (λ i. ((ap (λ x. eqb x 0) (told 4 (omega arith)) ∙ over_one _ _ _ (s (n + 4))) i
+    && (ap (λ x. eqb (bit_and x 0x3C) 0) (told 3 (omega arith)) ∙ over_two _ _ _ (s (n + 3))) i)
+    && ((reach (c at) n 5 first (omega arith) (omega arith) i && reach (c (at + 1)) (n + 1) 4 (told 1 (omega arith)) (omega arith) (omega arith) i)
+    && reach (c (at + 2)) (n + 2) 3 (told 2 (omega arith)) (omega arith) (omega arith) i))
+    ∙ regroup (leb (w (n + 4)) 1) (leb (w (n + 3)) 2) (leb (w (n + 2)) 3) (leb (w (n + 1)) 4) (leb (w n) 5)
+
+-- Five of the codes of a block are those of five places.
+pub five_codes : (f : Flavor) (window codes : List ℕ) (from p n : ℕ) → codes ≡ map (start_code f window) (range_with_len from 32) → p ≤ 27 →
+    from + p ≡ n → AreFiveCodes f window n codes p
+five_codes f window codes from p n are inside place k small =
+    let there : from + (p + k) ≡ n + k = omega arith in
+    ap (λ l. get_or l (p + k) 0) are ∙ get_or-map-range_with_len (start_code f window) from 32 (p + k) (n + k) 0 (omega arith) there
+
+-- Nothing of two bytes or more begins at the zeros before a window.
+pub codes_of_zeros : (f : Flavor) (window codes : List ℕ) → codes ≡ replicate 32 0 → ((k : ℕ) → k < 5 → get_or window k 0 ≡ 0) →
+    AreFiveCodes f window 0 codes 27
+codes_of_zeros f window codes are zeros k small =
+    ap (λ l. get_or l (27 + k) 0) are ∙ zeros_at 32 (27 + k)
+    ∙ sym (no_start f _ _ _ _ _ _ (omega (arith, ap (λ p. get_or window p 0) (zero-add k), zeros k small)))
 
 -- ---- a window between zeros
 
@@ -79,23 +91,6 @@ between_zeros window bytes copied fits zeros copied_is k =
     (λ i. get_or (front i ++ (copied_is i ++ post_of 5 n window)) k 0)
     ∙ padded (0 ∷ 0 ∷ 0 ∷ 0 ∷ 0 ∷ bytes) (post_of 5 n window)
     (λ i. ap (λ w. get_or (drop n (drop 5 w)) i 0) zeros ∙ get_or-drop n (drop 5 all) i 0 ∙ get_or-drop 5 all (n + i) 0 ∙ zeros_at (length window) (5 + (n + i))) k
-
--- ---- codes
-
--- The codes of a block behind those before it.
-pub more_codes : (f : Flavor) (window codes lanes : List ℕ) (block : ℕ) → 32 * block + 32 ≤ length codes → AreStartCodes f window (32 * block) codes →
-    lanes ≡ map (start_code f window) (range_with_len (32 * block) 32) → AreStartCodes f window (32 * (block + 1)) (put_chunk (32 * block) codes lanes)
-more_codes f window codes lanes block room are_codes lanes_are k small =
-    let at = 32 * block in
-    let long = ap length lanes_are ∙ length-map-range_with_len (start_code f window) at 32 in
-    ⊎_elim (λ (early : k < at). get_or-put_chunk_below at codes lanes k 0 early ∙ are_codes k early)
-    (λ (late : at ≤ k).
-    let place : at + (k - at) ≡ k = omega arith in
-    ap (λ p. get_or (put_chunk at codes lanes) p 0) (sym place)
-    ∙ get_or-put_chunk_at at codes lanes (k - at) 0 (omega arith) (omega arith)
-    ∙ ap (λ l. get_or l (k - at) 0) lanes_are
-    ∙ get_or-map-range_with_len (start_code f window) at 32 (k - at) k 0 (omega arith) place)
-    (cases_lt k at)
 
 -- ---- blocks
 
@@ -168,15 +163,15 @@ module _ (f : Flavor) (bytes window : List ℕ) (n : ℕ) (is_read : IsRead f by
 -- ---- the test of a short text
 
 -- Zeros behind a text leave it one.
-pub text_and_zeros : (written zeros : List ℕ) (end k n : ℕ) → end ≤ length written → end < 64 → 64 ≤ n → zeros ≡ replicate n 0 →
-    IsUtf8 (take end written) → IsUtf8 (take 64 (put_mid end k written zeros))
-text_and_zeros written zeros end k n fits small long zeros_are text =
+pub text_and_zeros : (written zeros : List ℕ) (end k n len : ℕ) → end ≤ length written → end ≤ len → len ≤ end + n → zeros ≡ replicate n 0 →
+    IsUtf8 (take end written) → IsUtf8 (take len (put_mid end k written zeros))
+text_and_zeros written zeros end k n len fits small long zeros_are text =
     let front = take end written in
     let rest = zeros ++ post_of end k written in
-    let place : 64 ≡ length front + (64 - end) = omega (arith, length-take-le end written fits) in
-    let tested : take 64 (front ++ rest) ≡ front ++ replicate (64 - end) 0 =
-    ap (λ n. take n (front ++ rest)) place ∙ take-append-add front rest (64 - end)
-    ∙ ap (λ l. front ++ l) (take-append-le (64 - end) zeros (post_of end k written) (omega (arith, ap length zeros_are, length-replicate {A = ℕ} n 0))
-    ∙ ap (take (64 - end)) zeros_are ∙ take-replicate (64 - end) n 0 (omega arith)) in
-    subst IsUtf8 (sym tested) (IsUtf8-append front (replicate (64 - end) 0) text
-    (IsUtf8-from_ascii (replicate (64 - end) 0) (λ i. omega (arith, zeros_at (64 - end) i))))
+    let place : len ≡ length front + (len - end) = omega (arith, length-take-le end written fits) in
+    let tested : take len (front ++ rest) ≡ front ++ replicate (len - end) 0 =
+    ap (λ n. take n (front ++ rest)) place ∙ take-append-add front rest (len - end)
+    ∙ ap (λ l. front ++ l) (take-append-le (len - end) zeros (post_of end k written) (omega (arith, ap length zeros_are, length-replicate {A = ℕ} n 0))
+    ∙ ap (take (len - end)) zeros_are ∙ take-replicate (len - end) n 0 (omega arith)) in
+    subst IsUtf8 (sym tested) (IsUtf8-append front (replicate (len - end) 0) text
+    (IsUtf8-from_ascii (replicate (len - end) 0) (λ i. omega (arith, zeros_at (len - end) i))))

@@ -1,5 +1,5 @@
 -- The first lanes of the decoder's vectors, of which the others go and are not damaged.
-use Rattle.std.proofs.Common.{◌≡◌, ◌≢◌, ℕ, zero, suc, ◌+◌, ◌<◌, ◌≤◌, ⊎_elim, Bool, true, false, ◌||◌, leb, List, [], ◌∷◌, ◌++◌, refl, ap, ◌∙◌, arith, map, take, length, replicate, bit_and, bit_or, bit_xor, zero-add}
+use Rattle.std.proofs.Common.{◌≡◌, ◌≢◌, ℕ, zero, suc, ◌+◌, ◌<◌, ◌≤◌, ⊎_elim, Bool, true, false, ◌||◌, leb, List, [], ◌∷◌, ◌++◌, refl, ap, ◌∙◌, arith, map, take, length, replicate, bit_and, bit_or, bit_xor, zero-add, append-nil}
 use Rattle.std.specs.List.{range_with_len}
 use Rattle.std.proofs.lemmas.Bool.{agree_below_at, cases_Bool, le-leb, lt-leb, cases_eq}
 use Rattle.std.proofs.lemmas.Nat.{le_or_r}
@@ -111,3 +111,15 @@ no_bit p a (suc n) m none i from before =
     (λ (there : i ≢ a). let bits = rw fails at none in no_bit p (a + 1) n m (omega (arith, bits)) i (omega arith) (omega arith))
     (cases_eq i a))
     (cases_Bool (p a))
+
+pub no_lane : (p : ℕ → Bool) (a n : ℕ) → mask_l (map p (range_with_len a n)) ≡ 0 → (i : ℕ) → a ≤ i → i < a + n → p i ≡ false
+no_lane p a n none = no_bit p a n 0 (ap mask_l (append-nil (map p (range_with_len a n))) ∙ none)
+
+-- Maps over a range agree where their lanes do.
+pub on_range : {X : Type 0} (g h : ℕ → X) (a n : ℕ) → ((i : ℕ) → a ≤ i → i < a + n → g i ≡ h i) →
+    map g (range_with_len a n) ≡ map h (range_with_len a n)
+on_range g h a zero same = refl
+on_range g h a (suc n) same =
+    let first = same a (omega arith) (omega arith) in
+    let rest = on_range g h (a + 1) n (λ i low inside. same i (omega arith) (omega arith)) in
+    λ k. first k ∷ rest k

@@ -2,8 +2,9 @@
 use Rattle.std.proofs.Common.{◌≡◌, ℕ, ◌<◌, Bool, true, false, ◌&&◌, List, [], ◌∷◌, refl, eqb, get_or, eqb-true}
 use Rattle.std.proofs.lemmas.Bool.{agree_below, agree_below_at, and_parts}
 use Rattle.simd_cesu8.specs.EncodedPlaces.{shuffle_of}
-use Rattle.simd_cesu8.specs.DecodedLanes.{shuffle_of_four}
+use Rattle.simd_cesu8.specs.DecodedLanes.{shuffle_of_four, shuffle_of_eight}
 use Rattle.simd_cesu8.specs.declared.internal.decoder.rows.TheConstants.{ROWS as ROWS_OF_FOUR}
+use Rattle.simd_cesu8.specs.declared.internal.decoder.rows_of_eight.TheConstants.{ROWS as ROWS_OF_EIGHT}
 use Rattle.simd_cesu8.specs.declared.internal.encoder.rows.TheConstants.{ROWS}
 
 same_list : List ℕ → List ℕ → Bool
@@ -34,7 +35,12 @@ pub rows_are : (d : ℕ) → d < 0x100 → get_or ROWS d [] ≡ shuffle_of d
 unfolding same_list same_rows
 rows_are = rows_by ROWS shuffle_of refl
 
--- and row d of the decoder that for the four bytes that go, and the four that are damaged.
+-- row d of the decoder that for the four bytes that go, and the four that are damaged,
 pub rows_of_four_are : (set : ℕ) → set < 0x100 → get_or ROWS_OF_FOUR set [] ≡ shuffle_of_four set
 unfolding same_list same_rows
 rows_of_four_are = rows_by ROWS_OF_FOUR shuffle_of_four refl
+
+-- and row d of its other table that for the eight bytes that go.
+pub rows_of_eight_are : (gone : ℕ) → gone < 0x100 → get_or ROWS_OF_EIGHT gone [] ≡ shuffle_of_eight gone
+unfolding same_list same_rows
+rows_of_eight_are = rows_by ROWS_OF_EIGHT shuffle_of_eight refl

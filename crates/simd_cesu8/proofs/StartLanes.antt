@@ -1,13 +1,13 @@
 -- The codes of what begins at the places of a block, lane by lane.
 use Rattle.std.proofs.Common.{◌≡◌, ℕ, ◌+◌, ◌*◌, ◌/◌, ◌%◌, ◌^◌, ◌<◌, ◌≤◌, Bool, true, false, cond, ◌&&◌, List, [], ◌∷◌, ◌++◌, map, length, get_or, replicate, eqb, leb, ltb, bit_and, bit_or, refl, sym, ap, ◌∙◌, subst, arith, Fits, w8}
 use Rattle.std.specs.List.{range_with_len}
-use Rattle.std.proofs.lemmas.Bool.{agree_below_at, eqb-true}
+use Rattle.std.proofs.lemmas.Bool.{agree_below_at, eqb-true, leb-false}
 use Rattle.std.specs.Int.Bits.{and_zero_l}
 use Rattle.std.proofs.lemmas.Grind.{same_number_lists}
 use Rattle.std.proofs.lemmas.List.{length-map, get_or-map, get_or_append_left}
 use Rattle.std.proofs.lemmas.Nat.{and_mask}
 use Rattle.std.proofs.lemmas.Simd.{SwzOk, swz_l, SwzOk-from_below, length-swz_l, get_or-swz_l_below, length-zip2, get_or-zip2, zip2_of_maps, pick_l-range_with_len, length-chunk, get_or-replicate, zip2_splat, map-map, Each1-from_get_or, Each1-weaker}
-use lib.Lanes.{zip2, pick_l, Each1, chunk}
+use lib.Lanes.{zip2, mask_l, pick_l, Each1, chunk}
 use Rattle.simd_cesu8.specs.Encoding.{Flavor}
 use Rattle.simd_cesu8.specs.EncodedPlaces.{mask}
 use Rattle.simd_cesu8.specs.DecodedPlaces.{continues, null_at, two_at, fits_three}
@@ -15,6 +15,8 @@ use Rattle.simd_cesu8.specs.DecodedLanes.{start_code_by, code_of_two, start_code
 use Rattle.simd_cesu8.proofs.Lanes.{map_agree}
 use Rattle.simd_cesu8.proofs.EncodedLanes.{loaded}
 use Rattle.simd_cesu8.proofs.EncodedBlocks.{marks_at}
+use Rattle.simd_cesu8.proofs.StartCodes.{no_start}
+use Rattle.simd_cesu8.proofs.FirstLanes.{no_lane, on_range}
 use Rattle.simd_cesu8.proofs.Codes.{cond_same, and_cond, by_high, by_low, by_next, looked_up}
 
 -- ---- a look-up by the lower half of each lane
@@ -184,3 +186,11 @@ module _ (f : Flavor) (window : List ℕ) (fits : (k : ℕ) → Fits w8 (get_or 
           marks_at (λ b. eqb (bit_and b 0xF0) 0xB0) window at 4 fifth (omega arith) fifth_by_mask,
           marks_at continues window at 5 sixth (omega arith) sixth_is,
         ) (codes_of (range_with_len at 32))
+
+  -- Where no byte of a block is C0 or more, the codes are 0.
+  pub none_start : (at : ℕ) → at + 32 ≤ length window → mask_l (map (leb 0xC0) (chunk at 32 window)) ≡ 0 →
+      replicate 32 0 ≡ map (start_code f window) (range_with_len at 32)
+  none_start at room none =
+      let lanes = pick_l-range_with_len 0 window at 32 room in
+      on_range (λ i. 0) (start_code f window) at 32 (λ i low inside. sym (no_start f _ _ _ _ _ _
+      (leb-false 0xC0 (get_or window i 0) (no_lane (λ i. leb 0xC0 (get_or window i 0)) at 32 (ap (λ l. mask_l (map (leb 0xC0) l)) lanes ∙ none) i low inside))))

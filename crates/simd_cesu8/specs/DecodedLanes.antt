@@ -1,5 +1,6 @@
 -- What the vectors of the decoder hold, lane by lane.
 use Rattle.std.specs.Prelude.{◌≡◌, ℕ, zero, suc, ◌+◌, ◌*◌, ◌/◌, ◌%◌, ◌-◌, ◌<◌, ◌&&◌, ◌||◌, ◌==◌, nat_le, nat_lt, if◌then◌else◌, Bool, List, [], ◌∷◌, ◌++◌, map, length, slice_index, slice_index_or, replicate}
+use Rattle.std.specs.List.{range_with_len}
 use Rattle.simd_cesu8.specs.Encoding.{Flavor}
 use Rattle.simd_cesu8.specs.DecodedPlaces.{null_at, two_at, three_at, pair_at, width_at, saved}
 
@@ -23,9 +24,14 @@ start_code f window i =
     let w = slice_index window in
     start_code_by f (w i) (w (i + 1)) (w (i + 2)) (w (i + 3)) (w (i + 4)) (w (i + 5))
 
--- The codes of the first n places of a window.
-abbrev pub AreStartCodes : Flavor → List ℕ → ℕ → List ℕ → Type 0
-AreStartCodes f window n codes = (k : ℕ) → k < n → slice_index codes k ≡ start_code f window k
+-- Five codes, from position p on, are those of a window's places from n on.
+abbrev pub AreFiveCodes : Flavor → List ℕ → ℕ → List ℕ → ℕ → Type 0
+AreFiveCodes f window n codes p = (k : ℕ) → k < 5 → slice_index codes (p + k) ≡ start_code f window (n + k)
+
+-- Vector d of six has the codes of the 32 places from d behind `at` on.
+abbrev pub AreCodesNear : Flavor → List ℕ → ℕ → List (List ℕ) → Type 0
+AreCodesNear f window at codes =
+    (d : ℕ) → d < 6 → slice_index_or codes d [] ≡ map (λ i. start_code f window (i + d)) (range_with_len at 32)
 
 -- Whether a byte goes, and the byte that is written for one that stays, by the widths of what begins at
 -- its place and at the five before it, and by the two bytes before it.
@@ -72,21 +78,29 @@ written_lanes gone damaged bytes = written (map is_high gone) (map is_high damag
 -- The lanes that packing keeps of four bytes and a replacement character behind them, from byte i on,
 -- for n bytes. Bit i of the first number says whether byte i goes, and of the second whether it is
 -- damaged.
-abbrev pub kept_of_four : ℕ → ℕ → ℕ → ℕ → List ℕ
-kept_of_four gone damaged i zero = []
-kept_of_four gone damaged i (suc n) =
+abbrev pub kept_of : ℕ → ℕ → ℕ → ℕ → List ℕ
+kept_of gone damaged i zero = []
+kept_of gone damaged i (suc n) =
     (if damaged % 2 == 1 then 4 ∷ 5 ∷ 6 ∷ [] else if gone % 2 == 1 then [] else i ∷ [])
-    ++ kept_of_four (gone / 2) (damaged / 2) (i + 1) n
+    ++ kept_of (gone / 2) (damaged / 2) (i + 1) n
 
 -- The same as a shuffle of sixteen lanes, of which the last says how many are kept, and those before it
 -- are of no use.
 abbrev pub shuffle_of_four : ℕ → List ℕ
 shuffle_of_four set =
-    let kept = kept_of_four (set % 0x10) (set / 0x10) 0 4 in kept ++ replicate (15 - length kept) 0 ++ length kept ∷ []
+    let kept = kept_of (set % 0x10) (set / 0x10) 0 4 in kept ++ replicate (15 - length kept) 0 ++ length kept ∷ []
 
 -- The rows of shuffles, one for each number below 100 (hexadecimal).
 abbrev pub AreShufflesOfFour : List (List ℕ) → Type 0
 AreShufflesOfFour rows = (set : ℕ) → set < 0x100 → slice_index_or rows set [] ≡ shuffle_of_four set
+
+-- The same for eight bytes of which none is damaged. Bit i of the number says whether byte i goes.
+abbrev pub shuffle_of_eight : ℕ → List ℕ
+shuffle_of_eight gone =
+    let kept = kept_of gone 0 0 8 in kept ++ replicate (15 - length kept) 0 ++ length kept ∷ []
+
+abbrev pub AreShufflesOfEight : List (List ℕ) → Type 0
+AreShufflesOfEight rows = (gone : ℕ) → gone < 0x100 → slice_index_or rows gone [] ≡ shuffle_of_eight gone
 
 -- What place i of a window saves.
 abbrev pub saved_at : Flavor → List ℕ → ℕ → ℕ

@@ -24,6 +24,7 @@ mod packing;
 mod parts;
 mod places;
 mod rows;
+mod rows_of_eight;
 mod windows;
 
 use super::joining::Room;
@@ -32,11 +33,10 @@ use super::window::{SHORT, read_window};
 use super::writers::{copy_text, exactly};
 use super::{DecodeOptions, Flavor};
 use crate::error::{DecodeFault, DecodingError};
-use appending::{append, append_small, append_window};
+use appending::{append, append_in, append_small, append_window};
 use by_places::read_by_places;
-use parts::ROOM;
 use std::alloc::{AllocError, Allocator};
-use windows::AROUND;
+use windows::{AROUND, SPARED};
 
 /// How many bytes are read in one window at most.
 const WINDOW: usize = 1024;
@@ -44,22 +44,29 @@ const WINDOW: usize = 1024;
 /// How many bytes are read in rooms that are made faster,
 const SMALL: usize = 256;
 
-/// and in the fastest.
+/// still faster,
 const FEW: usize = 96;
+
+/// and in the fastest.
+const FEWEST: usize = 32;
 
 // The lengths of the rooms for a window and for what is written of it: so much and more, since whole
 // vectors are read and written.
 const WINDOW_ROOM: usize = 1104;
 
-const WRITTEN_ROOM: usize = 3200;
+const WRITTEN_ROOM: usize = 3248;
 
 const SMALL_ROOM: usize = 336;
 
-const SMALL_WRITTEN_ROOM: usize = 896;
+const SMALL_WRITTEN_ROOM: usize = 944;
 
 const FEW_ROOM: usize = 176;
 
-const FEW_WRITTEN_ROOM: usize = 416;
+const FEW_WRITTEN_ROOM: usize = 464;
+
+const FEWEST_ROOM: usize = 112;
+
+const FEWEST_WRITTEN_ROOM: usize = 272;
 
 /// How many windows are read by places before one is joined again.
 const WINDOWS: usize = 4;
@@ -106,6 +113,9 @@ pub fn decode_lossy<A: Allocator>(
     ensures capacity { IfOk result (λ text.
         string_capacity text ≡ lossy_length (flavor_of flavor) bytes.now) }
 {
+    if bytes.len() <= FEWEST {
+        return decode_in::<FEWEST_ROOM, FEWEST_WRITTEN_ROOM, A>(alloc, flavor, bytes);
+    }
     if bytes.len() <= FEW {
         return decode_in::<FEW_ROOM, FEW_WRITTEN_ROOM, A>(alloc, flavor, bytes);
     }
@@ -137,16 +147,15 @@ fn decode_in<const LEN: usize, const WRITTEN: usize, A: Allocator>(
     bytes: &[u8],
 ) -> Result<String<A>, AllocError>
     requires window { (length bytes.now + AROUND ≤ LEN) × (AROUND + 11 ≤ LEN) }
-    requires written { (3 * LEN ≤ WRITTEN + ROOM) × (WRITTEN ≤ WRITTEN_ROOM) }
+    requires written { (3 * LEN ≤ WRITTEN + SPARED) × (WRITTEN ≤ WRITTEN_ROOM) }
     ensures text { IfOk result (λ text.
         chars (string_bytes text) ≡ reading (flavor_of flavor) bytes.now) }
     ensures capacity { IfOk result (λ text.
         string_capacity text ≡ lossy_length (flavor_of flavor) bytes.now) }
 {
     let mut window = [0; LEN];
-    let mut codes = [0; LEN];
     let mut written = [0; WRITTEN];
-    let read = read_by_places(flavor, bytes, &mut window, &mut codes, &mut written);
+    let read = read_by_places(flavor, bytes, &mut window, &mut written);
     copy_text(alloc, read.text)
 }
 
@@ -246,7 +255,7 @@ fn read_windows<'b, A: Allocator>(
         return Ok(&bytes[piece.read..]);
     }
     if most <= SMALL {
-        return append_small(options, bytes, out);
+        return append_in::<FEW_ROOM, FEW_WRITTEN_ROOM, A>(options, bytes, out);
     }
     append_windows(options, bytes, out)
 }
@@ -266,13 +275,12 @@ fn append_windows<'b, A: Allocator>(
     ensures invalid { OnInvalid result ((options.lossy ≡ false)
         × HasFault (flavor_of options.flavor) bytes.now) }
 {
-    let mut codes = [0; WINDOW_ROOM];
     let mut written = [0; WRITTEN_ROOM];
     let mut rest = bytes;
     let mut windows = 0;
     while windows < WINDOWS && !rest.is_empty() {
         let mut window = [0; WINDOW_ROOM];
-        rest = append_window(options, rest, &mut window, &mut codes, &mut written, out)?;
+        rest = append_window(options, rest, &mut window, &mut written, out)?;
         windows += 1;
     }
     Ok(rest)

@@ -7,9 +7,11 @@ ghost use Rattle.simd_cesu8.specs.Internal.{flavor_of};
 ghost use Rattle.simd_cesu8.specs.Pieces.{IsReadSoFar, HasFault};
 
 use super::by_places::read_by_places;
-use super::parts::ROOM;
-use super::windows::AROUND;
-use super::{FEW, FEW_ROOM, FEW_WRITTEN_ROOM, SMALL_ROOM, SMALL_WRITTEN_ROOM, WRITTEN_ROOM};
+use super::windows::{AROUND, SPARED};
+use super::{
+    FEW, FEW_ROOM, FEW_WRITTEN_ROOM, FEWEST, FEWEST_ROOM, FEWEST_WRITTEN_ROOM, SMALL_ROOM,
+    SMALL_WRITTEN_ROOM, WRITTEN_ROOM,
+};
 use crate::error::{DecodeFault, DecodingError};
 use crate::internal::DecodeOptions;
 use std::alloc::Allocator;
@@ -27,6 +29,9 @@ pub fn append_small<'b, A: Allocator>(
     ensures invalid { OnInvalid result ((options.lossy ≡ false)
         × HasFault (flavor_of options.flavor) bytes.now) }
 {
+    if bytes.len() <= FEWEST {
+        return append_in::<FEWEST_ROOM, FEWEST_WRITTEN_ROOM, A>(options, bytes, out);
+    }
     if bytes.len() <= FEW {
         return append_in::<FEW_ROOM, FEW_WRITTEN_ROOM, A>(options, bytes, out);
     }
@@ -35,14 +40,14 @@ pub fn append_small<'b, A: Allocator>(
 
 /// The same for one window in rooms of these lengths, which are made only where it is called.
 #[inline(never)]
-fn append_in<'b, const LEN: usize, const WRITTEN: usize, A: Allocator>(
+pub fn append_in<'b, const LEN: usize, const WRITTEN: usize, A: Allocator>(
     options: DecodeOptions,
     bytes: &'b [u8],
     out: &mut String<A>,
 ) -> Result<&'b [u8], DecodeFault>
     requires some { 0 < length bytes.now }
     requires window { AROUND + 11 ≤ LEN }
-    requires written { (3 * LEN ≤ WRITTEN + ROOM) × (WRITTEN ≤ WRITTEN_ROOM) }
+    requires written { (3 * LEN ≤ WRITTEN + SPARED) × (WRITTEN ≤ WRITTEN_ROOM) }
     ensures less { IfOk result (λ rest. length rest.now < length bytes.now) }
     ensures ok { IfOk result (λ rest. IsReadSoFar (flavor_of options.flavor) options.lossy
         bytes.now rest.now (string_bytes out.old) (string_bytes out.new)) }
@@ -50,9 +55,8 @@ fn append_in<'b, const LEN: usize, const WRITTEN: usize, A: Allocator>(
         × HasFault (flavor_of options.flavor) bytes.now) }
 {
     let mut window = [0; LEN];
-    let mut codes = [0; LEN];
     let mut written = [0; WRITTEN];
-    append_window(options, bytes, &mut window, &mut codes, &mut written, out)
+    append_window(options, bytes, &mut window, &mut written, out)
 }
 
 /// Appends the text of a window by places, and gives the bytes that are left.
@@ -61,22 +65,20 @@ pub fn append_window<'b, A: Allocator>(
     options: DecodeOptions,
     bytes: &'b [u8],
     window: &mut [u8],
-    codes: &mut [u8],
     written: &mut [u8],
     out: &mut String<A>,
 ) -> Result<&'b [u8], DecodeFault>
     requires some { 0 < length bytes.now }
     requires window { AROUND + 11 ≤ length window.old }
     requires zeros { window.old ≡ replicate (length window.old) 0 }
-    requires codes { length codes.old ≡ length window.old }
-    requires written { 3 * length window.old ≤ length written.old + ROOM }
+    requires written { 3 * length window.old ≤ length written.old + SPARED }
     ensures less { IfOk result (λ rest. length rest.now < length bytes.now) }
     ensures ok { IfOk result (λ rest. IsReadSoFar (flavor_of options.flavor) options.lossy
         bytes.now rest.now (string_bytes out.old) (string_bytes out.new)) }
     ensures invalid { OnInvalid result ((options.lossy ≡ false)
         × HasFault (flavor_of options.flavor) bytes.now) }
 {
-    let read = read_by_places(options.flavor, bytes, window, codes, written);
+    let read = read_by_places(options.flavor, bytes, window, written);
     if read.is_damaged && !options.lossy {
         return Err(DecodeFault::Invalid(DecodingError(())));
     }

@@ -5,13 +5,12 @@ ghost use Rattle.std.specs.Str.{IsUtf8};
 ghost use Rattle.simd_cesu8.specs.Internal.{flavor_of};
 ghost use Rattle.simd_cesu8.specs.Pieces.{IsPiece, HasFault};
 
-use super::parts::ROOM;
-use super::windows::{AROUND, Decoded, write_window};
+use super::windows::{AROUND, Decoded, SPARED, write_window};
 use crate::internal::Flavor;
 use crate::internal::null_form::{OneByteNull, TwoByteNull};
 use simdutf8::basic;
 
-/// How many bytes are tested by vectors at least.
+/// How many bytes are tested at a time.
 const TESTED: usize = 64;
 
 /// What is read by places: how many bytes, their text in lossy reading, and whether some of them are
@@ -29,13 +28,11 @@ pub fn read_by_places<'a>(
     flavor: Flavor,
     bytes: &[u8],
     window: &mut [u8],
-    codes: &mut [u8],
     written: &'a mut [u8],
 ) -> ReadWindow<'a>
     requires window { AROUND + 11 ≤ length window.old }
     requires zeros { window.old ≡ replicate (length window.old) 0 }
-    requires codes { length codes.old ≡ length window.old }
-    requires written { 3 * length window.old ≤ length written.old + ROOM }
+    requires written { 3 * length window.old ≤ length written.old + SPARED }
     ensures some { 0 < length bytes.now → 0 < result.len }
     ensures within { result.len ≤ length bytes.now }
     ensures all { length bytes.now + AROUND ≤ length window.old → result.len ≡ length bytes.now }
@@ -45,7 +42,7 @@ pub fn read_by_places<'a>(
         (drop result.len bytes.now) result.text.now }
     ensures damaged { result.is_damaged ≡ true → HasFault (flavor_of flavor) bytes.now }
 {
-    let decoded = write_in_flavor(flavor, bytes, window, codes, written);
+    let decoded = write_in_flavor(flavor, bytes, window, written);
     ReadWindow {
         len: decoded.read,
         text: text_of(written, decoded.end),
@@ -53,21 +50,16 @@ pub fn read_by_places<'a>(
     }
 }
 
-/// The text that is written up to `end`. If it is short, it is tested with zeros behind it: the test
-/// by vectors needs that many bytes.
+/// The text that is written up to `end`. It is tested with zeros behind it, so that no test is of
+/// fewer bytes than a block.
 #[inline(always)]
 fn text_of(written: &mut [u8], end: usize) -> &str
-    requires room { 2 * TESTED ≤ length written.old }
-    requires end { end ≤ length written.old }
+    requires room { end + TESTED ≤ length written.old }
     requires utf8 { IsUtf8 (take end written.old) }
     ensures { result.now ≡ take end written.old }
 {
-    let mut len = end;
-    if end < TESTED {
-        written[end..end + TESTED].fill(0);
-        len = TESTED;
-    }
-    match basic::from_utf8(&written[..len]) {
+    written[end..end + TESTED].fill(0);
+    match basic::from_utf8(&written[..TESTED * end.div_ceil(TESTED)]) {
         Ok(text) => &text[..end],
         Err(_) => unreachable!(),
     }
@@ -75,21 +67,14 @@ fn text_of(written: &mut [u8], end: usize) -> &str
 
 /// Writes what becomes of the first bytes.
 #[inline(always)]
-fn write_in_flavor(
-    flavor: Flavor,
-    bytes: &[u8],
-    window: &mut [u8],
-    codes: &mut [u8],
-    written: &mut [u8],
-) -> Decoded
+fn write_in_flavor(flavor: Flavor, bytes: &[u8], window: &mut [u8], written: &mut [u8]) -> Decoded
     requires window { AROUND + 11 ≤ length window.old }
     requires zeros { window.old ≡ replicate (length window.old) 0 }
-    requires codes { length codes.old ≡ length window.old }
-    requires written { 3 * length window.old ≤ length written.old + ROOM }
+    requires written { 3 * length window.old ≤ length written.old + SPARED }
     ensures some { 0 < length bytes.now → 0 < result.read }
     ensures within { result.read ≤ length bytes.now }
     ensures all { length bytes.now + AROUND ≤ length window.old → result.read ≡ length bytes.now }
-    ensures end { result.end ≤ length written.new }
+    ensures end { result.end + TESTED ≤ length written.new }
     ensures lossy { IsPiece (flavor_of flavor) true bytes.now
         (drop result.read bytes.now) (take result.end written.new) }
     ensures strict { result.is_damaged ≡ false → IsPiece (flavor_of flavor) false bytes.now
@@ -97,7 +82,7 @@ fn write_in_flavor(
     ensures damaged { result.is_damaged ≡ true → HasFault (flavor_of flavor) bytes.now }
 {
     match flavor {
-        Flavor::Cesu8 => write_window::<OneByteNull>(bytes, window, codes, written),
-        Flavor::Mutf8 => write_window::<TwoByteNull>(bytes, window, codes, written),
+        Flavor::Cesu8 => write_window::<OneByteNull>(bytes, window, written),
+        Flavor::Mutf8 => write_window::<TwoByteNull>(bytes, window, written),
     }
 }

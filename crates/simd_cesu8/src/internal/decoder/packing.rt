@@ -1,10 +1,12 @@
-//! How what becomes of 32 bytes is packed: four bytes at a time, by a shuffle each.
+//! How what becomes of 32 bytes is packed: by a shuffle for each four bytes, or for each eight where
+//! no byte is damaged.
 
-ghost use Rattle.std.specs.Prelude.{◌≡◌, List, Bool, ◌+◌, ◌%◌, ◌<◌, ◌≤◌, ◌∷◌, [], ◌++◌, length, map, take, slice_index};
+ghost use Rattle.std.specs.Prelude.{◌≡◌, List, Bool, ◌+◌, ◌%◌, ◌<◌, ◌≤◌, ◌∷◌, [], ◌++◌, false, length, map, take, replicate, slice_index};
 ghost use Rattle.std.specs.Simd.Lanes.{chunk, mask_l};
 ghost use Rattle.simd_cesu8.specs.DecodedLanes.{is_high, written, written_lanes, AreShufflesOfFour};
 
 use super::rows::Rows;
+use super::rows_of_eight::rows_of_eight;
 use std::simd::prelude::*;
 
 /// What becomes of the bytes of a block. Where a lane of `damaged` has its highest bit, the
@@ -31,6 +33,9 @@ pub fn store(parts: Parts, rows: &Rows, out: &mut [u8], at: usize) -> usize
         parts.bytes.copy_to_slice(&mut out[at..]);
         return at + 32;
     }
+    if highest_bits(parts.damaged) == 0 {
+        return store_whole(parts, out, at);
+    }
     let at = store_half(
         parts.bytes.extract::<0, 16>(),
         parts.gone.extract::<0, 16>(),
@@ -47,6 +52,42 @@ pub fn store(parts: Parts, rows: &Rows, out: &mut [u8], at: usize) -> usize
         out,
         at,
     )
+}
+
+/// Stores what becomes of a block of which no byte is damaged.
+#[inline(always)]
+fn store_whole(parts: Parts, out: &mut [u8], at: usize) -> usize
+    requires whole { mask_l (map is_high parts.damaged) ≡ 0 }
+    requires room { at + 112 ≤ length out.old }
+    ensures bytes { take result out.new
+        ≡ take at out.old ++ written_lanes parts.gone parts.damaged parts.bytes }
+    ensures end { (at ≤ result) × (result ≤ at + 32) }
+    ensures len { length out.new ≡ length out.old }
+{
+    let gone = highest_bits(parts.gone) as usize;
+    let first = parts.bytes.extract::<0, 16>();
+    let third = parts.bytes.extract::<16, 16>();
+    let at = store_eight(first, gone & 0xFF, out, at);
+    let at = store_eight(second_of(first), gone >> 8 & 0xFF, out, at);
+    let at = store_eight(third, gone >> 16 & 0xFF, out, at);
+    store_eight(second_of(third), gone >> 24 & 0xFF, out, at)
+}
+
+/// Stores those of eight bytes that don't go, by the set of those that do, and gives their end.
+#[inline(always)]
+fn store_eight(lanes: u8x16, gone: usize, out: &mut [u8], at: usize) -> usize
+    requires small { gone < 0x100 }
+    requires room { at + 16 ≤ length out.old }
+    ensures bytes { (tests : List Bool) → length tests ≡ 8 → gone ≡ mask_l tests
+        → take result out.new
+        ≡ take at out.old ++ written tests (replicate 8 false) (chunk 0 8 lanes) }
+    ensures end { (at ≤ result) × (result ≤ at + 8) }
+    ensures len { length out.new ≡ length out.old }
+{
+    let row = &rows_of_eight()[gone];
+    let packed = picked(lanes, u8x16::from_array(*row));
+    packed.copy_to_slice(&mut out[at..]);
+    at + row[15] as usize
 }
 
 /// A bit for each lane whose highest bit is set.

@@ -15,10 +15,10 @@ ghost use Rattle.std.specs.Simd.Lanes.{sel_l};
 ghost use Rattle.simd_cesu8.specs.Encoding.{Flavor};
 ghost use Rattle.simd_cesu8.specs.EncodedPlaces.{mask};
 ghost use Rattle.simd_cesu8.specs.DecodedPlaces.{decoded, is_damaged_at};
-ghost use Rattle.simd_cesu8.specs.DecodedLanes.{AreStartCodes, AreShufflesOfFour, is_high, goes_at, byte_at, written_lanes};
+ghost use Rattle.simd_cesu8.specs.DecodedLanes.{AreCodesNear, AreShufflesOfFour, is_high, goes_at, byte_at, written_lanes};
 
 use super::packing::{Parts, highest_bits, store};
-use super::places::{PAIR, REACH, THREE, equal, look_up};
+use super::places::{Codes, PAIR, REACH, THREE, equal, look_up};
 use super::rows::Rows;
 use crate::internal::null_form::NullForm;
 use std::simd::prelude::*;
@@ -58,7 +58,7 @@ pub struct Block {
 #[inline(always)]
 pub fn write_block<N: NullForm>(
     window: &[u8],
-    codes: &[u8],
+    codes: &Codes,
     at: usize,
     count: usize,
     rows: &Rows,
@@ -67,8 +67,7 @@ pub fn write_block<N: NullForm>(
 ) -> Block
     requires count { count ≤ 32 }
     requires window { at + REACH ≤ length window.now }
-    requires codes { at + REACH ≤ length codes.now }
-    requires are_codes { AreStartCodes N.flavor window.now (at + count + 5) codes.now }
+    requires codes { AreCodesNear N.flavor window.now at codes.now }
     requires rows { AreShufflesOfFour rows.now }
     requires room { end + ROOM ≤ length out.old }
     ensures bytes { take result.end out.new
@@ -91,11 +90,10 @@ pub fn write_block<N: NullForm>(
 /// What becomes of the first `count` of the 32 bytes behind `at` bytes of the window and five more.
 /// The others go.
 #[inline(always)]
-fn parts_at<N: NullForm>(window: &[u8], codes: &[u8], at: usize, count: usize) -> Parts
+fn parts_at<N: NullForm>(window: &[u8], codes: &Codes, at: usize, count: usize) -> Parts
     requires count { count ≤ 32 }
     requires window { at + REACH ≤ length window.now }
-    requires codes { at + REACH ≤ length codes.now }
-    requires are_codes { AreStartCodes N.flavor window.now (at + count + 5) codes.now }
+    requires codes { AreCodesNear N.flavor window.now at codes.now }
     ensures written { written_lanes result.gone result.damaged result.bytes
         ≡ decoded N.flavor window.now at count }
     ensures damaged { map is_high result.damaged
@@ -104,42 +102,38 @@ fn parts_at<N: NullForm>(window: &[u8], codes: &[u8], at: usize, count: usize) -
 {
     Parts {
         bytes: joined(window, codes, at),
-        gone: gone(codes, at, count),
+        gone: gone(codes, count),
         damaged: damaged::<N>(window, codes, at, count),
     }
 }
 
 /// Marks, with the highest bit, those of the first `count` bytes that go, and the others.
 #[inline(always)]
-fn gone(codes: &[u8], at: usize, count: usize) -> u8x32
+fn gone(codes: &Codes, count: usize) -> u8x32
     requires count { count ≤ 32 }
-    requires codes { at + REACH ≤ length codes.now }
-    ensures { (f : Flavor) (window : List ℕ) → AreStartCodes f window (at + count + 5) codes.now
+    ensures { (f : Flavor) (window : List ℕ) (at : ℕ) → AreCodesNear f window at codes.now
         → map is_high result
         ≡ map (goes_at f window) (range_with_len at count) ++ replicate (32 - count) true }
 {
-    let here = u8x32::from_slice(&codes[at + 5..]);
-    let near = here | u8x32::from_slice(&codes[at + 4..]);
+    let here = codes[5];
+    let near = here | codes[4];
     (here | (near << u8x32::splat(2))) | behind(count as u8)
 }
 
 /// Marks, with the highest bit, those of the first `count` bytes that no encoded character covers.
 #[inline(always)]
-fn damaged<N: NullForm>(window: &[u8], codes: &[u8], at: usize, count: usize) -> u8x32
+fn damaged<N: NullForm>(window: &[u8], codes: &Codes, at: usize, count: usize) -> u8x32
     requires count { count ≤ 32 }
     requires window { at + REACH ≤ length window.now }
-    requires codes { at + REACH ≤ length codes.now }
-    requires are_codes { AreStartCodes N.flavor window.now (at + count + 5) codes.now }
+    requires codes { AreCodesNear N.flavor window.now at codes.now }
     ensures { map is_high result
         ≡ map (is_damaged_at N.flavor window.now) (range_with_len at count)
         ++ replicate (32 - count) false }
 {
     let pair = u8x32::splat(PAIR);
-    let near = u8x32::from_slice(&codes[at + 5..]) | u8x32::from_slice(&codes[at + 4..]);
-    let of_three = u8x32::from_slice(&codes[at + 3..]) & u8x32::splat(PAIR | THREE);
-    let of_pair = (u8x32::from_slice(&codes[at + 2..]) & pair)
-        | (u8x32::from_slice(&codes[at + 1..]) & pair)
-        | (u8x32::from_slice(&codes[at..]) & pair);
+    let near = codes[5] | codes[4];
+    let of_three = codes[3] & u8x32::splat(PAIR | THREE);
+    let of_pair = (codes[2] & pair) | (codes[1] & pair) | (codes[0] & pair);
     let alone = equal(near | of_three | of_pair, 0);
     // A byte below 80 is a character of its own, but 00 is none in MUTF-8.
     let byte = u8x32::from_slice(&window[at + 5..]);
@@ -158,27 +152,31 @@ fn behind(count: u8) -> u8x32
 
 /// The bytes, and in place of those of surrogate pairs and of C0 80 what they become.
 #[inline(always)]
-fn joined(window: &[u8], codes: &[u8], at: usize) -> u8x32
+fn joined(window: &[u8], codes: &Codes, at: usize) -> u8x32
     requires window { at + REACH ≤ length window.now }
-    requires codes { at + REACH ≤ length codes.now }
     ensures { (f : Flavor) (count : ℕ) → count ≤ 32
-        → AreStartCodes f window.now (at + count + 5) codes.now
+        → AreCodesNear f window.now at codes.now
         → take count result ≡ map (byte_at f window.now) (range_with_len at count) }
 {
+    let near = codes[4];
+    let pairs = codes[3] | codes[2] | codes[1];
+    let byte = u8x32::from_slice(&window[at + 5..]);
+    if highest_bits(near | (pairs << u8x32::splat(2))) == 0 {
+        return byte;
+    }
     let pair = u8x32::splat(PAIR);
     let half = u8x32::splat(0x0F);
-    let byte = u8x32::from_slice(&window[at + 5..]);
     let before = u8x32::from_slice(&window[at + 4..]);
     let two_before = u8x32::from_slice(&window[at + 3..]);
     let first = look_up(FIRST_BY_SECOND, before);
     let second = look_up(SECOND_BY_SECOND, two_before) | ((before >> u8x32::splat(2)) & half);
     let third = look_up(THIRD_BY_THIRD, two_before) | (byte & half);
-    let joined = u8x32::from_slice(&codes[at + 4..])
+    let joined = near
         .simd_ge(u8x32::splat(0x80))
         .select(u8x32::splat(0), byte);
-    let joined = chosen(u8x32::from_slice(&codes[at + 1..]) & pair, third, joined);
-    let joined = chosen(u8x32::from_slice(&codes[at + 2..]) & pair, second, joined);
-    chosen(u8x32::from_slice(&codes[at + 3..]) & pair, first, joined)
+    let joined = chosen(codes[1] & pair, third, joined);
+    let joined = chosen(codes[2] & pair, second, joined);
+    chosen(codes[3] & pair, first, joined)
 }
 
 /// The lanes of `some` where those of a mark are not 0, and else of `other`.

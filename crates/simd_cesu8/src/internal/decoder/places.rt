@@ -2,12 +2,13 @@
 //!
 //! It is told by the six bytes from the place on, and kept as a code of one bit, or none.
 
-ghost use Rattle.std.specs.Prelude.{◌≡◌, ◌==◌, ◌+◌, ◌%◌, ◌≤◌, length, map, slice_index};
+ghost use Rattle.std.specs.Prelude.{◌≡◌, ◌==◌, ◌+◌, ◌%◌, ◌≤◌, ℕ, List, length, map, slice_index};
 ghost use Rattle.std.specs.List.{range_with_len};
 ghost use Rattle.std.specs.Simd.Lanes.{zip2};
+ghost use Rattle.simd_cesu8.specs.Encoding.{Flavor};
 ghost use Rattle.simd_cesu8.specs.EncodedPlaces.{mask};
 ghost use Rattle.simd_cesu8.specs.DecodedPlaces.{continues};
-ghost use Rattle.simd_cesu8.specs.DecodedLanes.{code_of_two, start_code};
+ghost use Rattle.simd_cesu8.specs.DecodedLanes.{code_of_two, start_code, AreFiveCodes, AreCodesNear};
 
 use crate::internal::null_form::NullForm;
 use std::simd::prelude::*;
@@ -40,19 +41,52 @@ const TWICE: [usize; 32] = [
     13, 14, 15,
 ];
 
+// The positions of 32 lanes, from so many on.
+const FROM_27: [usize; 32] = [
+    27, 28, 29, 30, 31, 32, 33, 34, 35, 36, 37, 38, 39, 40, 41, 42, 43, 44, 45, 46, 47, 48, 49, 50,
+    51, 52, 53, 54, 55, 56, 57, 58,
+];
+
+const FROM_28: [usize; 32] = [
+    28, 29, 30, 31, 32, 33, 34, 35, 36, 37, 38, 39, 40, 41, 42, 43, 44, 45, 46, 47, 48, 49, 50, 51,
+    52, 53, 54, 55, 56, 57, 58, 59,
+];
+
+const FROM_29: [usize; 32] = [
+    29, 30, 31, 32, 33, 34, 35, 36, 37, 38, 39, 40, 41, 42, 43, 44, 45, 46, 47, 48, 49, 50, 51, 52,
+    53, 54, 55, 56, 57, 58, 59, 60,
+];
+
+const FROM_30: [usize; 32] = [
+    30, 31, 32, 33, 34, 35, 36, 37, 38, 39, 40, 41, 42, 43, 44, 45, 46, 47, 48, 49, 50, 51, 52, 53,
+    54, 55, 56, 57, 58, 59, 60, 61,
+];
+
+const FROM_31: [usize; 32] = [
+    31, 32, 33, 34, 35, 36, 37, 38, 39, 40, 41, 42, 43, 44, 45, 46, 47, 48, 49, 50, 51, 52, 53, 54,
+    55, 56, 57, 58, 59, 60, 61, 62,
+];
+
 /// How many bytes behind a place tell what begins there.
 pub const BEHIND: usize = 5;
 
 /// How many bytes tell what begins at the places of a block.
 pub const REACH: usize = 32 + BEHIND;
 
-/// The codes of the 32 places from `at` on.
+/// The least byte that begins two bytes or more.
+const LEAD: u8 = 0xC0;
+
+/// The codes of the 32 places from `at` on. Most often no character of two bytes or more begins at
+/// any of them, or many do.
 #[inline(always)]
 pub fn starts<N: NullForm>(bytes: &[u8], at: usize) -> u8x32
     requires { at + REACH ≤ length bytes.now }
     ensures { result ≡ map (start_code N.flavor bytes.now) (range_with_len at 32) }
 {
     let first = u8x32::from_slice(&bytes[at..]);
+    if first.simd_ge(u8x32::splat(LEAD)).to_bitmask() == 0 {
+        return u8x32::splat(0);
+    }
     let second = u8x32::from_slice(&bytes[at + 1..]);
     let third = u8x32::from_slice(&bytes[at + 2..]);
     let fourth = u8x32::from_slice(&bytes[at + 3..]);
@@ -64,6 +98,26 @@ pub fn starts<N: NullForm>(bytes: &[u8], at: usize) -> u8x32
         & u8x32::splat(PAIR);
     let of_three = continuations(third) & (ends_pair | u8x32::splat(THREE));
     by_two::<N>(first, second) & (of_three | u8x32::splat(TWO | NULL))
+}
+
+/// The codes of the places about a block: at index `d` those of the places `5 - d` before its bytes.
+pub type Codes = [u8x32; 6];
+
+/// The same from the codes of the places of its bytes, and of the 32 before.
+#[inline(always)]
+pub fn near(before: u8x32, here: u8x32) -> Codes
+    ensures { (f : Flavor) (window : List ℕ) (at : ℕ) → AreFiveCodes f window at before 27
+        → here ≡ map (start_code f window) (range_with_len (at + 5) 32)
+        → AreCodesNear f window at result }
+{
+    [
+        before.shuffle::<32>(here, FROM_27),
+        before.shuffle::<32>(here, FROM_28),
+        before.shuffle::<32>(here, FROM_29),
+        before.shuffle::<32>(here, FROM_30),
+        before.shuffle::<32>(here, FROM_31),
+        here,
+    ]
 }
 
 /// What two bytes begin, if the others are there.

@@ -1,15 +1,16 @@
 //! Windows by places: some bytes are copied between zeros, and what becomes of each is written.
 
-ghost use Rattle.std.specs.Prelude.{◌≡◌, ℕ, ◌+◌, ◌*◌, ◌<◌, ◌≤◌, List, IsTrue, true, false, length, take, drop, replicate};
+ghost use Rattle.std.specs.Prelude.{◌≡◌, ℕ, ◌+◌, ◌*◌, ◌<◌, ◌≤◌, List, IsTrue, true, false, length, take, drop, replicate, slice_index};
 ghost use Rattle.simd_cesu8.specs.Encoding.{Flavor};
 ghost use Rattle.simd_cesu8.specs.DecodedPlaces.{IsPadded, decoded, is_damaged_at, is_border_at};
-ghost use Rattle.simd_cesu8.specs.DecodedLanes.{AreStartCodes};
+ghost use Rattle.simd_cesu8.specs.DecodedLanes.{AreFiveCodes};
 ghost use Rattle.simd_cesu8.specs.Pieces.{IsPiece, HasFault};
 
 use super::parts::{ROOM, write_block};
-use super::places::{PAIR, THREE, starts};
+use super::places::{PAIR, THREE, near, starts};
 use super::rows::rows;
 use crate::internal::null_form::NullForm;
+use std::simd::prelude::*;
 
 /// How many bytes a window's room has beside those of the window.
 pub const AROUND: usize = 80;
@@ -18,8 +19,8 @@ pub const AROUND: usize = 80;
 /// before a byte.
 const BEFORE: usize = 5;
 
-/// How many bytes of a window's room stand behind those of the window.
-const BEHIND: usize = AROUND - BEFORE;
+/// How many bytes what is written has fewer than three for each of a window's.
+pub const SPARED: usize = 64;
 
 /// How many bytes were read of a window, the end of what is written for them, and whether some of
 /// them are damaged.
@@ -32,20 +33,14 @@ pub struct Decoded {
 
 /// Writes what becomes of the first bytes, up to a place that no encoded character crosses.
 #[inline(always)]
-pub fn write_window<N: NullForm>(
-    bytes: &[u8],
-    window: &mut [u8],
-    codes: &mut [u8],
-    out: &mut [u8],
-) -> Decoded
+pub fn write_window<N: NullForm>(bytes: &[u8], window: &mut [u8], out: &mut [u8]) -> Decoded
     requires window { AROUND + 11 ≤ length window.old }
     requires zeros { window.old ≡ replicate (length window.old) 0 }
-    requires codes { length codes.old ≡ length window.old }
-    requires out { 3 * length window.old ≤ length out.old + ROOM }
+    requires out { 3 * length window.old ≤ length out.old + SPARED }
     ensures some { 0 < length bytes.now → 0 < result.read }
     ensures within { result.read ≤ length bytes.now }
     ensures all { length bytes.now + AROUND ≤ length window.old → result.read ≡ length bytes.now }
-    ensures end { result.end ≤ length out.new }
+    ensures end { result.end + 64 ≤ length out.new }
     ensures lossy { IsPiece N.flavor true bytes.now
         (drop result.read bytes.now) (take result.end out.new) }
     ensures strict { result.is_damaged ≡ false → IsPiece N.flavor false bytes.now
@@ -59,13 +54,12 @@ pub fn write_window<N: NullForm>(
         most
     };
     pad(&bytes[..loaded], window);
-    write_codes::<N>(window, loaded + BEFORE, codes);
     let read = if loaded == bytes.len() {
         loaded
     } else {
-        border(codes, loaded - BEFORE)
+        border::<N>(window, loaded - BEFORE)
     };
-    write_blocks::<N>(window, codes, read, out)
+    write_blocks::<N>(window, read, out)
 }
 
 /// Copies the bytes into zeros, behind five of them.
@@ -78,41 +72,28 @@ fn pad(bytes: &[u8], window: &mut [u8])
     window[BEFORE..BEFORE + bytes.len()].copy_from_slice(bytes);
 }
 
-/// Writes the codes of the first places of a window.
-fn write_codes<N: NullForm>(window: &[u8], count: usize, codes: &mut [u8])
-    requires window { count + BEHIND ≤ length window.now }
-    requires codes { length codes.old ≡ length window.now }
-    ensures codes { AreStartCodes N.flavor window.now count codes.new }
-    ensures len { length codes.new ≡ length codes.old }
+/// The last border at or before a place of a window: no encoded character crosses it. It is one of
+/// the five places before at least.
+fn border<N: NullForm>(window: &[u8], most: usize) -> usize
+    requires { (BEFORE ≤ most) × (most + 32 ≤ length window.now) }
+    ensures within { (result ≤ most) × (most ≤ result + BEFORE) }
+    ensures border { (n : ℕ) → n ≤ most → most ≤ n + BEFORE
+        → is_border_at N.flavor window.now n ≡ true → is_border_at N.flavor window.now result ≡ true }
 {
-    for block in 0..count.div_ceil(32) {
-        let at = 32 * block;
-        starts::<N>(window, at).copy_to_slice(&mut codes[at..]);
-    }
-}
-
-/// The last border at or before a place of a window, by the codes: no encoded character crosses it.
-/// It is one of the five places before at least.
-fn border(codes: &[u8], most: usize) -> usize
-    requires { (5 ≤ most) × (most + 5 ≤ length codes.now) }
-    ensures within { (result ≤ most) × (most ≤ result + 5) }
-    ensures border { (f : Flavor) (window : List ℕ) → AreStartCodes f window (most + 5) codes.now
-        → (n : ℕ) → n ≤ most → most ≤ n + 5 → is_border_at f window n ≡ true
-        → is_border_at f window result ≡ true }
-{
-    for back in 0..5 {
-        if is_border(codes, most - back) {
+    let codes = starts::<N>(window, most - BEFORE).to_array();
+    for back in 0..BEFORE {
+        if is_border(&codes, BEFORE - back) {
             return most - back;
         }
     }
-    most - 5
+    most - BEFORE
 }
 
 /// Whether no character that begins at one of the five places before reaches over a place.
-fn is_border(codes: &[u8], at: usize) -> bool
-    requires { at + 5 ≤ length codes.now }
-    ensures { (f : Flavor) (window : List ℕ) → AreStartCodes f window (at + 5) codes.now
-        → result ≡ is_border_at f window at }
+fn is_border(codes: &[u8; 32], at: usize) -> bool
+    requires { at ≤ BEFORE }
+    ensures { (f : Flavor) (window : List ℕ) (n : ℕ) → AreFiveCodes f window n codes.now at
+        → result ≡ is_border_at f window n }
 {
     let of_pair = codes[at] & PAIR | codes[at + 1] & PAIR | codes[at + 2] & PAIR;
     codes[at + 4] | codes[at + 3] & (PAIR | THREE) | of_pair == 0
@@ -120,10 +101,9 @@ fn is_border(codes: &[u8], at: usize) -> bool
 
 /// Writes what becomes of the first `count` bytes of a window.
 #[inline(always)]
-fn write_blocks<N: NullForm>(window: &[u8], codes: &[u8], count: usize, out: &mut [u8]) -> Decoded
+fn write_blocks<N: NullForm>(window: &[u8], count: usize, out: &mut [u8]) -> Decoded
     requires window { count + AROUND ≤ length window.now }
-    requires codes { length codes.now ≡ length window.now }
-    requires are_codes { AreStartCodes N.flavor window.now (count + BEFORE) codes.now }
+    requires zeros { (k : ℕ) → k < BEFORE → slice_index window.now k ≡ 0 }
     requires out { 3 * count + ROOM ≤ length out.old }
     ensures read { result.read ≡ count }
     ensures bytes { take result.end out.new ≡ decoded N.flavor window.now 0 count }
@@ -131,17 +111,21 @@ fn write_blocks<N: NullForm>(window: &[u8], codes: &[u8], count: usize, out: &mu
         × (is_damaged_at N.flavor window.now i ≡ true) }
     ensures whole { result.is_damaged ≡ false → (i : ℕ) → i < count
         → is_damaged_at N.flavor window.now i ≡ false }
-    ensures end { result.end ≤ length out.new }
+    ensures end { result.end ≤ 3 * count + 93 }
+    ensures len { length out.new ≡ length out.old }
 {
     let mut at = 0;
     let mut end = 0;
     let mut is_damaged = false;
+    let mut before = u8x32::splat(0);
     while at < count {
         let left = count - at;
         let len = if left < 32 { left } else { 32 };
-        let block = write_block::<N>(window, codes, at, len, rows(), out, end);
+        let here = starts::<N>(window, at + BEFORE);
+        let block = write_block::<N>(window, &near(before, here), at, len, rows(), out, end);
         end = block.end;
         is_damaged = is_damaged | block.is_damaged;
+        before = here;
         at += len;
     }
     Decoded {

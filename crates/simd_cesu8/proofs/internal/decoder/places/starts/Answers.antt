@@ -1,5 +1,13 @@
-use Rattle.simd_cesu8.proofs.StartLanes.{starts_are}
+use Rattle.std.proofs.Common.{◌∙◌, sym, arith}
+use Rattle.std.proofs.lemmas.Simd.{length-chunk}
+use Rattle.simd_cesu8.proofs.Lanes.{least_bits}
+use Rattle.simd_cesu8.proofs.StartLanes.{starts_are, none_start}
 use Rattle.simd_cesu8.proofs.internal.decoder.places.starts.Goals as goal
+
+pub returns-then-first-eq0 : goal.returns-then-first-eq0
+returns-then-first-eq0 g c =
+    none_start g.N.NullForm.flavor c.args.bytes.now c.type_inv.bytes c.args.at (omega (arith, c.requires))
+    (sym (least_bits 0xC0 32 _ (length-chunk c.args.at 32 c.args.bytes.now (omega (arith, c.requires))) (omega arith)) ∙ c.if-first-eq0.true)
 
 pub returns : goal.returns
 returns g c =

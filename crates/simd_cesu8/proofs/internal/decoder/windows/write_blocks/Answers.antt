@@ -1,6 +1,6 @@
-use Rattle.std.proofs.Common.{◌∙◌, arith, refl}
+use Rattle.std.proofs.Common.{◌+◌, ◌∙◌, arith, refl}
 use Rattle.simd_cesu8.specs.DecodedPlaces.{decoded, is_damaged_at}
-use Rattle.simd_cesu8.proofs.DecodedWindows.{more_damaged, none_damaged, more_written}
+use Rattle.simd_cesu8.proofs.DecodedWindows.{codes_of_zeros, five_codes, more_damaged, none_damaged, more_written}
 use Rattle.simd_cesu8.proofs.internal.decoder.windows.write_blocks.Goals as goal
 use Rattle.simd_cesu8.proofs.internal.decoder.windows.write_blocks.Goals.{then-left-lt32, else-left-lt32}
 
@@ -10,11 +10,16 @@ loop-at-init g c = record {
   within = omega arith;
   room = λ some. omega arith;
   end = omega arith;
+  before = λ some. codes_of_zeros g.N.NullForm.flavor c.args.window.now _ refl c.requires.zeros;
   len = refl;
   bytes = refl;
   damaged = λ some. cc;
   whole = λ none i before. absurd (omega arith);
 }
+
+pub write_block-block-requires-clause-codes : goal.write_block-block-requires-clause-codes
+write_block-block-requires-clause-codes g c =
+    c.near.ensures g.N.NullForm.flavor c.args.window.now c.loop-at.at (c.loop-at.invariant.before (omega arith)) c.starts-here.ensures
 
 pub loop-at-preserved : goal.loop-at-preserved
 loop-at-preserved g c =
@@ -25,7 +30,11 @@ loop-at-preserved g c =
     record {
       within = elim c.if-left-lt32.branch [ then-left-lt32 w ↦ omega arith | else-left-lt32 w ↦ omega arith ];
       room = λ more. elim c.if-left-lt32.branch [ then-left-lt32 w ↦ omega arith | else-left-lt32 w ↦ omega arith ];
-      end = omega (arith, inv.room, block.end, block.len, inv.len);
+      end = omega (arith, inv.room, block.end);
+      before = λ more. elim c.if-left-lt32.branch [
+        | then-left-lt32 w ↦ absurd (omega arith)
+        | else-left-lt32 w ↦ five_codes f window _ (c.loop-at.at + 5) 27 _ c.starts-here.ensures (omega arith) (omega arith)
+      ];
       len = block.len ∙ inv.len;
       bytes = more_written f window _ _ c.loop-at.at c.if-left-lt32.len inv.bytes block.bytes;
       damaged = more_damaged (is_damaged_at f window) c.loop-at.at c.if-left-lt32.len _ _ inv.damaged block.damaged;

@@ -1,4 +1,5 @@
-use Rattle.std.proofs.Common.{◌≡◌, ◌-◌, ◌*◌, ◌<◌, ◌≤◌, ℕ, true, false, length, take}
+use Rattle.std.proofs.Common.{◌≡◌, ◌+◌, ◌-◌, ◌*◌, ◌<◌, ◌≤◌, ℕ, true, false, length, take}
+use Rattle.simd_cesu8.specs.DecodedLanes.{AreFiveCodes}
 use Rattle.simd_cesu8.specs.DecodedPlaces.{decoded, is_damaged_at}
 use Rattle.simd_cesu8.proofs.internal.decoder.windows.write_blocks.Given as goal
 
@@ -9,7 +10,8 @@ abbrev pub invariant-loop-at : goal.invariant-loop-at
 invariant-loop-at g l = record {
   within : l.at ≤ l.fn.count;
   room : l.at < l.fn.count → l.end ≤ 3 * l.at;
-  end : l.end ≤ length l.out;
+  end : l.end ≤ 3 * l.fn.count + 93;
+  before : l.at < l.fn.count → AreFiveCodes g.N.NullForm.flavor l.fn.window l.at l.before 27;
   len : length l.out ≡ length l.initial.out;
   bytes : take l.end l.out ≡ decoded g.N.NullForm.flavor l.fn.window 0 l.at;
   damaged : l.is_damaged ≡ true → (i : ℕ) × (i < l.at) × (is_damaged_at g.N.NullForm.flavor l.fn.window i ≡ true);

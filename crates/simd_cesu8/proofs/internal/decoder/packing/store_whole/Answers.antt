@@ -1,0 +1,15 @@
+use Rattle.std.proofs.Common.{ℕ, ◌+◌, ◌≤◌, ap, ◌∙◌, arith}
+use lib.Lanes.{chunk}
+use Rattle.simd_cesu8.proofs.EncodedRows.{lanes_of_first}
+use Rattle.simd_cesu8.proofs.DecodedRows.{stored_whole}
+use Rattle.simd_cesu8.proofs.internal.decoder.packing.store_whole.Goals as goal
+
+pub returns-clause-bytes : goal.returns-clause-bytes
+returns-clause-bytes c =
+    let bytes = c.args.parts.bytes in
+    let eight = λ (a : ℕ) (le : a + 8 ≤ 32). lanes_of_first bytes bytes a 8 (omega arith) in
+    stored_whole c.args.parts.gone c.args.parts.damaged bytes (omega arith) (omega arith) (omega arith) c.requires.whole _ _ _ _ _ _ _ _ _ _
+    c.highest_bits-gone.ensures
+    (eight 0 (omega arith)) (ap (chunk 0 8) c.second_of.ensures ∙ eight 8 (omega arith))
+    (eight 16 (omega arith)) (ap (chunk 0 8) c.second_of-2.ensures ∙ eight 24 (omega arith))
+    c.store_eight-at.ensures.bytes c.store_eight-at-2.ensures.bytes c.store_eight-at-3.ensures.bytes c.store_eight.ensures.bytes
