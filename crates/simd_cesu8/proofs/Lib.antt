@@ -1,6 +1,7 @@
 pub mod StdUtf8
 pub mod Borders
 pub mod Shapes
+pub mod Continuations
 pub mod Forms
 pub mod Encodings
 pub mod FrontWidths
