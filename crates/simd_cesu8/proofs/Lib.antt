@@ -3,6 +3,7 @@ pub mod Ends
 pub mod Ascii
 pub mod Borders
 pub mod Shapes
+pub mod Continuations
 pub mod Forms
 pub mod Encodings
 pub mod FrontWidths

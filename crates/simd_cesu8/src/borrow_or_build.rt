@@ -12,7 +12,7 @@ ghost use Rattle.simd_cesu8.specs.Internal.{flavor_of};
 use crate::cow::{CowBytes, CowText};
 use crate::error::DecodeFault;
 use crate::internal;
-use crate::internal::{Flavor, ascii_text, character_start, contains_changed, is_continuation};
+use crate::internal::{Flavor, ascii_text, character_start, contains_changed};
 use crate::internal::{is_short_ascii, is_short_unchanged_ascii};
 use simdutf8::basic;
 use std::alloc::{AllocError, Global};
@@ -50,18 +50,22 @@ fn whole_text(bytes: &[u8]) -> Result<&str, basic::Utf8Error>
     ensures cases { MatchResult result (λ text. (text.now ≡ bytes.now) × IsUtf8 bytes.now)
         (λ _. ¬ (IsUtf8 bytes.now)) }
 {
-    if bytes.len() >= 4 * FRONT && !has_utf8_front(bytes, character_start(bytes, FRONT)) {
+    if bytes.len() >= 4 * FRONT && !has_utf8_front(bytes) {
         return Err(basic::Utf8Error);
     }
     basic::from_utf8(bytes)
 }
 
-/// Whether the bytes before a place are UTF-8, or the place is one within a character.
-fn has_utf8_front(bytes: &[u8], end: usize) -> bool
-    requires { end < length bytes.now }
+/// Whether the front of the bytes is UTF-8, up to the start of a character.
+fn has_utf8_front(bytes: &[u8]) -> bool
+    requires { FRONT < length bytes.now }
     ensures { IsUtf8 bytes.now → IsTrue result }
 {
-    is_continuation(bytes[end]) || simdutf8::is_utf8(&bytes[..end])
+    match character_start(bytes, FRONT) {
+        Some(start) => simdutf8::is_utf8(&bytes[..start]),
+        // UTF-8 has no four continuation bytes in a row.
+        None => false,
+    }
 }
 
 /// The bytes as a text, where they are UTF-8 without a byte that is written otherwise.

@@ -1,6 +1,6 @@
 //! Continuation bytes, by which UTF-8 and both flavors tell where a character begins.
 
-ghost use Rattle.std.specs.Prelude.{◌+◌, ◌<◌, ◌≤◌, length, IsTrue, ◌↔◌};
+ghost use Rattle.std.specs.Prelude.{◌+◌, ◌-◌, ◌<◌, ◌≤◌, length, slice_index, IsTrue, ◌↔◌, IfSome, IfNone, ℕ};
 ghost use Rattle.simd_cesu8.specs.Internal.{IsContinuation};
 
 /// Whether a byte is a continuation byte, as it is in UTF-8 and in both flavors.
@@ -11,15 +11,19 @@ pub fn is_continuation(byte: u8) -> bool
     matches!(byte, 0x80..=0xBF)
 }
 
-/// Where the character begins that a place is in, if it is in one.
-pub fn character_start(bytes: &[u8], place: usize) -> usize
+/// The last of four places up to `place` where a byte stands that is no continuation byte, if there
+/// is one. In UTF-8 there is: the start of the character that the place is in.
+pub fn character_start(bytes: &[u8], place: usize) -> Option<usize>
     requires { (3 ≤ place) × (place < length bytes.now) }
-    ensures { (result ≤ place) × (place ≤ result + 3) }
+    ensures some { IfSome result (λ start. (start ≤ place)
+        × ¬ (IsContinuation (slice_index bytes.now start))) }
+    ensures none { IfNone result ((back : ℕ) → back < 4
+        → IsContinuation (slice_index bytes.now (place - back))) }
 {
-    for back in 0..3 {
+    for back in 0..4 {
         if !is_continuation(bytes[place - back]) {
-            return place - back;
+            return Some(place - back);
         }
     }
-    place - 3
+    None
 }
