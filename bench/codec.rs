@@ -167,9 +167,9 @@ pub fn path(action: Action, flavor: Flavor) -> String {
     }
 }
 
-/// A codec's call on a text that is known to be UTF-8.
+/// A call as it is measured: on one input at a time, or on each of many texts by one export.
 #[derive(Clone, Copy)]
-pub enum TextCall {
+pub enum MeasuredCall {
     One(Call),
     Each(EachCall),
 }
@@ -245,11 +245,11 @@ impl Codec {
     }
 
     /// The call on a text without a test for UTF-8.
-    pub fn text_call(&self, action: Action, flavor: Flavor) -> Option<TextCall> {
+    pub fn text_call(&self, action: Action, flavor: Flavor) -> Option<MeasuredCall> {
         let name = call_name(action, flavor);
         let one = named(&self.calls, &format!("{name}_text"));
         let each = named(&self.each_calls, &format!("{name}_each"));
-        one.map(TextCall::One).or(each.map(TextCall::Each))
+        one.map(MeasuredCall::One).or(each.map(MeasuredCall::Each))
     }
 
     pub fn kernel(&self, kernel: Kernel) -> Option<Call> {

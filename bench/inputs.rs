@@ -1,6 +1,6 @@
 //! Inputs of one length that stand one behind the other, and a codec's call on each of them in turn.
 
-use crate::codec::{Action, Call, Codec, EachCall, Flavor, Question, TextCall, call_name};
+use crate::codec::{Action, Call, Codec, EachCall, Flavor, MeasuredCall, Question, call_name};
 use crate::expected::expected;
 use crate::timing::Measured;
 use std::slice::ChunksExact;
@@ -81,15 +81,15 @@ impl<'a> Case<'a> {
         let measured = if self.action.takes_text() {
             codec.text_call(self.action, self.flavor)
         } else {
-            call.map(TextCall::One)
+            call.map(MeasuredCall::One)
         };
         Ok(match measured {
-            Some(TextCall::One(call)) => {
+            Some(MeasuredCall::One(call)) => {
                 self.check(codec, call)?;
                 Some(Measured::of_inputs(call, self.inputs))
             }
             // It returns no bytes, so those of the call on one text are looked at.
-            Some(TextCall::Each(each)) => {
+            Some(MeasuredCall::Each(each)) => {
                 call.map_or(Ok(()), |call| self.check(codec, call))?;
                 self.check_sum(codec, each)?;
                 Some(Measured::of_texts(each, self.inputs))
