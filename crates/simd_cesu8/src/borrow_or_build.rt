@@ -12,8 +12,10 @@ ghost use Rattle.simd_cesu8.specs.Internal.{flavor_of};
 use crate::cow::{CowBytes, CowText};
 use crate::error::DecodeFault;
 use crate::internal;
-use crate::internal::{Flavor, ascii_text, character_start, contains_changed, is_continuation};
-use crate::internal::{is_short_ascii, is_short_unchanged_ascii};
+use crate::internal::{
+    Flavor, ascii_text, character_start, contains_changed, is_continuation, is_short_ascii,
+    is_short_unchanged_ascii,
+};
 use simdutf8::basic;
 use std::alloc::{AllocError, Global};
 
@@ -78,10 +80,10 @@ fn unchanged_text(flavor: Flavor, bytes: &[u8]) -> &str
     ensures none { ¬ (length result.now ≡ length bytes.now)
         → ¬ (IsUnchangedUtf8 (flavor_of flavor) bytes.now) }
 {
-    if contains_changed(flavor, bytes) {
-        return "";
+    if !contains_changed(flavor, bytes) {
+        return whole_text(bytes);
     }
-    whole_text(bytes)
+    ""
 }
 
 #[inline(always)]
@@ -158,12 +160,12 @@ fn decode_other(alloc: Global, flavor: Flavor, bytes: &[u8]) -> Result<CowText<'
     ensures succeeds { IsUtf8 bytes.now → IsOk result }
     ensures capacity { BuildsTextOfCapacity result (length bytes.now) }
 {
-    let text = whole_text(bytes);
-    if text.len() == bytes.len() {
-        return Ok(CowText::Borrowed(text));
+    let whole = whole_text(bytes);
+    if whole.len() == bytes.len() {
+        return Ok(CowText::Borrowed(whole));
     }
-    let built = internal::decode_strict(alloc, flavor, bytes)?;
-    Ok(CowText::Owned(built))
+    let decoded = internal::decode_strict(alloc, flavor, bytes)?;
+    Ok(CowText::Owned(decoded))
 }
 
 #[inline(always)]
@@ -227,7 +229,11 @@ pub fn decode_lossy(alloc: Global, flavor: Flavor, bytes: &[u8]) -> Result<CowTe
 /// The same for bytes that are not short ASCII. It is never inlined, so that the look for these
 /// stays small.
 #[inline(never)]
-fn decode_lossy_other(alloc: Global, flavor: Flavor, bytes: &[u8]) -> Result<CowText<'_>, AllocError>
+fn decode_lossy_other(
+    alloc: Global,
+    flavor: Flavor,
+    bytes: &[u8],
+) -> Result<CowText<'_>, AllocError>
     ensures reading { IfText result (IsLenientLossyReading (flavor_of flavor) bytes.now) }
     ensures borrowed { BorrowsTextWhere result (λ text. text ≡ bytes.now) }
     ensures borrowed_where { BorrowsTextWhere result (λ _. IsUtf8 bytes.now) }
