@@ -12,8 +12,9 @@ ghost use Rattle.simd_cesu8.specs.Internal.{flavor_of};
 use crate::cow::{CowBytes, CowText};
 use crate::error::DecodeFault;
 use crate::internal;
-use crate::internal::{Flavor, ascii_text, character_start, contains_changed};
-use crate::internal::{is_short_ascii, is_short_unchanged_ascii};
+use crate::internal::{
+    Flavor, ascii_text, character_start, contains_changed, is_short_ascii, is_short_unchanged_ascii,
+};
 use simdutf8::basic;
 use std::alloc::{AllocError, Global};
 
@@ -43,17 +44,23 @@ pub fn encode(alloc: Global, flavor: Flavor, value: &str) -> Result<CowBytes<'_>
 /// How many bytes are tested first, where there are many more.
 const FRONT: usize = 512;
 
-/// The bytes as a text, where they are UTF-8. Where they are not, their front mostly shows it, and
-/// the others are not tested. It is inlined, since its answer would go through memory.
-#[inline(always)]
-fn whole_text(bytes: &[u8]) -> Result<&str, basic::Utf8Error>
-    ensures cases { MatchResult result (λ text. (text.now ≡ bytes.now) × IsUtf8 bytes.now)
-        (λ _. ¬ (IsUtf8 bytes.now)) }
+/// The bytes as a text, where they are UTF-8, and else the empty text, which no such bytes have.
+/// Where they are not, their front mostly shows it, and the others are not tested.
+///
+/// A text comes back in registers, where a `Result` with it would go through memory.
+#[inline(never)]
+fn whole_text(bytes: &[u8]) -> &str
+    ensures whole { length result.now ≡ length bytes.now
+        → (result.now ≡ bytes.now) × IsUtf8 bytes.now }
+    ensures none { ¬ (length result.now ≡ length bytes.now) → ¬ (IsUtf8 bytes.now) }
 {
     if bytes.len() >= 4 * FRONT && !has_utf8_front(bytes) {
-        return Err(basic::Utf8Error);
+        return "";
     }
-    basic::from_utf8(bytes)
+    match basic::from_utf8(bytes) {
+        Ok(text) => text,
+        Err(_) => "",
+    }
 }
 
 /// Whether the front of the bytes is UTF-8, up to the start of a character.
@@ -68,17 +75,18 @@ fn has_utf8_front(bytes: &[u8]) -> bool
     }
 }
 
-/// The bytes as a text, where they are UTF-8 without a byte that is written otherwise.
+/// The same for UTF-8 without a byte that is written otherwise.
 #[inline(always)]
-fn unchanged_text(flavor: Flavor, bytes: &[u8]) -> Option<&str>
-    ensures some { IfSome result (λ text. (text.now ≡ bytes.now)
-        × IsUnchangedUtf8 (flavor_of flavor) bytes.now) }
-    ensures none { IfNone result (¬ (IsUnchangedUtf8 (flavor_of flavor) bytes.now)) }
+fn unchanged_text(flavor: Flavor, bytes: &[u8]) -> &str
+    ensures whole { length result.now ≡ length bytes.now
+        → (result.now ≡ bytes.now) × IsUnchangedUtf8 (flavor_of flavor) bytes.now }
+    ensures none { ¬ (length result.now ≡ length bytes.now)
+        → ¬ (IsUnchangedUtf8 (flavor_of flavor) bytes.now) }
 {
-    if contains_changed(flavor, bytes) {
-        return None;
+    if !contains_changed(flavor, bytes) {
+        return whole_text(bytes);
     }
-    whole_text(bytes).ok()
+    ""
 }
 
 #[inline(always)]
@@ -101,8 +109,8 @@ pub fn decode_strict(
     decode_strict_other(alloc, flavor, bytes)
 }
 
-/// The same where the look for short ASCII may have found another byte. It is never inlined, so
-/// the look needs no space of its own on the stack.
+/// The same for bytes that are not short ASCII. It is never inlined, so that the look for these
+/// stays small.
 #[inline(never)]
 fn decode_strict_other(
     alloc: Global,
@@ -121,7 +129,8 @@ fn decode_strict_other(
     if contains_changed(flavor, bytes) {
         return Err(internal::refuse(alloc, bytes.len()));
     }
-    if let Ok(text) = whole_text(bytes) {
+    let text = whole_text(bytes);
+    if text.len() == bytes.len() {
         return Ok(CowText::Borrowed(text));
     }
     let built = internal::decode_strict(alloc, flavor, bytes)?;
@@ -143,8 +152,8 @@ pub fn decode(alloc: Global, flavor: Flavor, bytes: &[u8]) -> Result<CowText<'_>
     decode_other(alloc, flavor, bytes)
 }
 
-/// The same where the look for short ASCII may have found another byte. It is never inlined, so
-/// the look needs no space of its own on the stack.
+/// The same for bytes that are not short ASCII. It is never inlined, so that the look for these
+/// stays small.
 #[inline(never)]
 fn decode_other(alloc: Global, flavor: Flavor, bytes: &[u8]) -> Result<CowText<'_>, DecodeFault>
     ensures text { IfText result (IsLenientReading (flavor_of flavor) bytes.now) }
@@ -154,11 +163,12 @@ fn decode_other(alloc: Global, flavor: Flavor, bytes: &[u8]) -> Result<CowText<'
     ensures succeeds { IsUtf8 bytes.now → IsOk result }
     ensures capacity { BuildsTextOfCapacity result (length bytes.now) }
 {
-    if let Ok(whole) = whole_text(bytes) {
+    let whole = whole_text(bytes);
+    if whole.len() == bytes.len() {
         return Ok(CowText::Borrowed(whole));
     }
-    let built = internal::decode_strict(alloc, flavor, bytes)?;
-    Ok(CowText::Owned(built))
+    let decoded = internal::decode_strict(alloc, flavor, bytes)?;
+    Ok(CowText::Owned(decoded))
 }
 
 #[inline(always)]
@@ -181,8 +191,8 @@ pub fn decode_lossy_strict(
     decode_lossy_strict_other(alloc, flavor, bytes)
 }
 
-/// The same where the look for short ASCII may have found another byte. It is never inlined, so
-/// the look needs no space of its own on the stack.
+/// The same for bytes that are not short ASCII. It is never inlined, so that the look for these
+/// stays small.
 #[inline(never)]
 fn decode_lossy_strict_other(
     alloc: Global,
@@ -197,7 +207,8 @@ fn decode_lossy_strict_other(
     ensures succeeds { IsUnchangedUtf8 (flavor_of flavor) bytes.now → IsOk result }
     ensures capacity { BuildsTextOfCapacity result (lossy_length (flavor_of flavor) bytes.now) }
 {
-    if let Some(text) = unchanged_text(flavor, bytes) {
+    let text = unchanged_text(flavor, bytes);
+    if text.len() == bytes.len() {
         return Ok(CowText::Borrowed(text));
     }
     let built = internal::decode_lossy(alloc, flavor, bytes)?;
@@ -218,17 +229,22 @@ pub fn decode_lossy(alloc: Global, flavor: Flavor, bytes: &[u8]) -> Result<CowTe
     decode_lossy_other(alloc, flavor, bytes)
 }
 
-/// The same where the look for short ASCII may have found another byte. It is never inlined, so
-/// the look needs no space of its own on the stack.
+/// The same for bytes that are not short ASCII. It is never inlined, so that the look for these
+/// stays small.
 #[inline(never)]
-fn decode_lossy_other(alloc: Global, flavor: Flavor, bytes: &[u8]) -> Result<CowText<'_>, AllocError>
+fn decode_lossy_other(
+    alloc: Global,
+    flavor: Flavor,
+    bytes: &[u8],
+) -> Result<CowText<'_>, AllocError>
     ensures reading { IfText result (IsLenientLossyReading (flavor_of flavor) bytes.now) }
     ensures borrowed { BorrowsTextWhere result (λ text. text ≡ bytes.now) }
     ensures borrowed_where { BorrowsTextWhere result (λ _. IsUtf8 bytes.now) }
     ensures succeeds { IsUtf8 bytes.now → IsOk result }
     ensures capacity { BuildsTextOfCapacity result (lossy_length (flavor_of flavor) bytes.now) }
 {
-    if let Ok(text) = whole_text(bytes) {
+    let text = whole_text(bytes);
+    if text.len() == bytes.len() {
         return Ok(CowText::Borrowed(text));
     }
     let built = internal::decode_lossy(alloc, flavor, bytes)?;

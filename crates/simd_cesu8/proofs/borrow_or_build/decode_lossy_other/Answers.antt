@@ -8,16 +8,16 @@ use Rattle.simd_cesu8.proofs.Borrowing.{not_utf8_differs, never_borrowed}
 use Rattle.simd_cesu8.proofs.LossyBorrowing.{built_lenient_lossy}
 use Rattle.simd_cesu8.proofs.borrow_or_build.decode_lossy_other.Goals as goal
 
-pub returns-in-Ok-clause-reading : goal.returns-in-Ok-clause-reading
-returns-in-Ok-clause-reading c =
-    inl (IsUtf8Of_chars_at c.args.bytes.now c.in-Ok.text.now c.in-Ok.ensures.cases.0 c.in-Ok.ensures.cases.1)
+pub returns-then-text-bytes-clause-reading : goal.returns-then-text-bytes-clause-reading
+returns-then-text-bytes-clause-reading c =
+    inl (IsUtf8Of_chars_at c.args.bytes.now c.whole_text-text.result.now (c.whole_text-text.ensures.whole (c.if-text-bytes.true)).0 (c.whole_text-text.ensures.whole (c.if-text-bytes.true)).1)
 
 pub returns-clause-reading : goal.returns-clause-reading
 returns-clause-reading c =
-    built_lenient_lossy (flavor_of c.args.flavor) c.args.bytes.now (chars (string_bytes c.in_ok-built.built)) c.in_default.ensures.cases
+    built_lenient_lossy (flavor_of c.args.flavor) c.args.bytes.now (chars (string_bytes c.in_ok-built.built)) (c.whole_text-text.ensures.none (c.if-text-bytes.false))
     c.in_ok-built.ensures.text
 
 pub returns-clause-borrowed : goal.returns-clause-borrowed
 returns-clause-borrowed c =
     let built = c.in_ok-built.built in
-    never_borrowed (not_utf8_differs c.args.bytes.now (string_bytes built) c.in_default.ensures.cases (IsUtf8-string_bytes built))
+    never_borrowed (not_utf8_differs c.args.bytes.now (string_bytes built) (c.whole_text-text.ensures.none (c.if-text-bytes.false)) (IsUtf8-string_bytes built))

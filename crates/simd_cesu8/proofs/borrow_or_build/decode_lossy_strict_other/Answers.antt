@@ -5,15 +5,15 @@ use Rattle.simd_cesu8.proofs.Borrowing.{never_borrowed}
 use Rattle.simd_cesu8.proofs.LossyBorrowing.{length_of_reading, unchanged_lossy, unchanged_length, changed_reading}
 use Rattle.simd_cesu8.proofs.borrow_or_build.decode_lossy_strict_other.Goals as goal
 
-pub returns-in-Some-clause-reading : goal.returns-in-Some-clause-reading
-returns-in-Some-clause-reading c =
-    let unchanged = c.in-Some.ensures.some in
-    unchanged_lossy (flavor_of c.args.flavor) c.args.bytes.now c.in-Some.text.now unchanged.0 unchanged.1
+pub returns-then-text-bytes-clause-reading : goal.returns-then-text-bytes-clause-reading
+returns-then-text-bytes-clause-reading c =
+    let unchanged = c.unchanged_text-text.ensures.whole (c.if-text-bytes.true) in
+    unchanged_lossy (flavor_of c.args.flavor) c.args.bytes.now c.unchanged_text-text.result.now unchanged.0 unchanged.1
 
-pub returns-in-Some-clause-text_length : goal.returns-in-Some-clause-text_length
-returns-in-Some-clause-text_length c =
-    let unchanged = c.in-Some.ensures.some in
-    unchanged_length (flavor_of c.args.flavor) c.args.bytes.now c.in-Some.text.now unchanged.0 unchanged.1
+pub returns-then-text-bytes-clause-text_length : goal.returns-then-text-bytes-clause-text_length
+returns-then-text-bytes-clause-text_length c =
+    let unchanged = c.unchanged_text-text.ensures.whole (c.if-text-bytes.true) in
+    unchanged_length (flavor_of c.args.flavor) c.args.bytes.now c.unchanged_text-text.result.now unchanged.0 unchanged.1
 
 pub returns-clause-text_length : goal.returns-clause-text_length
 returns-clause-text_length c =
@@ -24,5 +24,5 @@ returns-clause-text_length c =
 pub returns-clause-borrowed : goal.returns-clause-borrowed
 returns-clause-borrowed c =
     let built = c.in_ok-built.built in
-    never_borrowed (changed_reading (flavor_of c.args.flavor) c.args.bytes.now (string_bytes built) c.in_default.ensures.none
+    never_borrowed (changed_reading (flavor_of c.args.flavor) c.args.bytes.now (string_bytes built) (c.unchanged_text-text.ensures.none (c.if-text-bytes.false))
     (IsUtf8-string_bytes built) c.in_ok-built.ensures.text)

@@ -7,22 +7,22 @@ use Rattle.simd_cesu8.proofs.StdUtf8.{IsUtf8Of_chars_at}
 use Rattle.simd_cesu8.proofs.Borrowing.{built_lenient, refused_lenient, not_utf8_differs, never_borrowed}
 use Rattle.simd_cesu8.proofs.borrow_or_build.decode_other.Goals as goal
 
-pub returns-in-Ok-clause-text : goal.returns-in-Ok-clause-text
-returns-in-Ok-clause-text c =
-    inl (IsUtf8Of_chars_at c.args.bytes.now c.in-Ok.whole.now c.in-Ok.ensures.cases.0 c.in-Ok.ensures.cases.1)
+pub returns-then-whole-bytes-clause-text : goal.returns-then-whole-bytes-clause-text
+returns-then-whole-bytes-clause-text c =
+    inl (IsUtf8Of_chars_at c.args.bytes.now c.whole_text-whole.result.now (c.whole_text-whole.ensures.whole (c.if-whole-bytes.true)).0 (c.whole_text-whole.ensures.whole (c.if-whole-bytes.true)).1)
 
 pub returns-clause-text : goal.returns-clause-text
 returns-clause-text c =
-    built_lenient (flavor_of c.args.flavor) c.args.bytes.now (chars (string_bytes c.in_ok-built.built)) c.in_default.ensures.cases
-    c.in_ok-built.ensures.text
+    built_lenient (flavor_of c.args.flavor) c.args.bytes.now (chars (string_bytes c.in_ok-decoded.decoded)) (c.whole_text-whole.ensures.none (c.if-whole-bytes.false))
+    c.in_ok-decoded.ensures.text
 
 pub returns-clause-borrowed : goal.returns-clause-borrowed
 returns-clause-borrowed c =
-    let built = c.in_ok-built.built in
-    never_borrowed (not_utf8_differs c.args.bytes.now (string_bytes built) c.in_default.ensures.cases (IsUtf8-string_bytes built))
+    let built = c.in_ok-decoded.decoded in
+    never_borrowed (not_utf8_differs c.args.bytes.now (string_bytes built) (c.whole_text-whole.ensures.none (c.if-whole-bytes.false)) (IsUtf8-string_bytes built))
 
-pub returns-in_err-built-clause-invalid : goal.returns-in_err-built-clause-invalid
-returns-in_err-built-clause-invalid c =
-    let refused = refused_lenient (flavor_of c.args.flavor) c.args.bytes.now c.in_err-built.field-0.0 c.in_default.ensures.cases
-    c.in_err-built.ensures.invalid in
+pub returns-in_err-decoded-clause-invalid : goal.returns-in_err-decoded-clause-invalid
+returns-in_err-decoded-clause-invalid c =
+    let refused = refused_lenient (flavor_of c.args.flavor) c.args.bytes.now c.in_err-decoded.field-0.0 (c.whole_text-whole.ensures.none (c.if-whole-bytes.false))
+    c.in_err-decoded.ensures.invalid in
     search (rules, refused)

@@ -16,13 +16,13 @@ returns-then-contains_changed-clause-invalid c =
     none_changed (flavor_of c.args.flavor) text reads.0
     (subst (Any (IsChangedByte (flavor_of c.args.flavor))) (sym reads.1) (c.contains_changed.ensures.0 c.if-contains_changed.true)))
 
-pub returns-in-Ok-clause-text : goal.returns-in-Ok-clause-text
-returns-in-Ok-clause-text c =
-    unchanged_reading (flavor_of c.args.flavor) c.args.bytes.now c.in-Ok.text.now c.in-Ok.ensures.cases.0
-    (c.in-Ok.ensures.cases.1, λ found. iff_false c.contains_changed.ensures c.if-contains_changed.false found)
+pub returns-then-text-bytes-clause-text : goal.returns-then-text-bytes-clause-text
+returns-then-text-bytes-clause-text c =
+    unchanged_reading (flavor_of c.args.flavor) c.args.bytes.now c.whole_text-text.result.now (c.whole_text-text.ensures.whole (c.if-text-bytes.true)).0
+    ((c.whole_text-text.ensures.whole (c.if-text-bytes.true)).1, λ found. iff_false c.contains_changed.ensures c.if-contains_changed.false found)
 
 pub returns-clause-borrowed : goal.returns-clause-borrowed
 returns-clause-borrowed c =
     let built = c.in_ok-built.built in
-    never_borrowed (changed_text (flavor_of c.args.flavor) c.args.bytes.now (string_bytes built) (λ unchanged. c.in_default.ensures.cases unchanged.0)
+    never_borrowed (changed_text (flavor_of c.args.flavor) c.args.bytes.now (string_bytes built) (λ unchanged. (c.whole_text-text.ensures.none (c.if-text-bytes.false)) unchanged.0)
     (IsUtf8-string_bytes built) c.in_ok-built.ensures.text)
