@@ -5,7 +5,7 @@ use Rattle.std.proofs.lemmas.Nat.{and_le_l}
 use Rattle.std.proofs.lemmas.Bool.{cases_lt}
 use Rattle.std.proofs.lemmas.List.{take-map, get_or_append_left, get_or-append_right}
 use Rattle.std.proofs.lemmas.List.FromFn.{take-map-range_with_len, length-map-range_with_len, get_or-map-range_with_len}
-use Rattle.std.proofs.lemmas.Simd.{map-map, pick_l-range_with_len, tops_compared}
+use Rattle.std.proofs.lemmas.Simd.{map-map, tops_compared}
 use lib.Lanes.{zip2, sel_l, pick_l, mask_l, top, chunk, Each1}
 use Rattle.simd_cesu8.specs.Encoding.{Flavor}
 use Rattle.simd_cesu8.specs.EncodedPlaces.{is_null, mask}

@@ -10,8 +10,11 @@ use crate::internal::Flavor;
 use crate::internal::null_form::{OneByteNull, TwoByteNull};
 use simdutf8::basic;
 
-/// How many bytes are tested at a time.
+/// How many bytes are tested at a time by vectors,
 const TESTED: usize = 64;
+
+/// and from how many on that pays.
+const PAYING: usize = 9;
 
 /// What is read by places: how many bytes, their text in lossy reading, and whether some of them are
 /// damaged.
@@ -50,17 +53,29 @@ pub fn read_by_places<'a>(
     }
 }
 
-/// The text that is written up to `end`. It is tested with zeros behind it, so that no test is of
-/// fewer bytes than a block.
+/// The text that is written up to `end`. A longer one is tested with zeros behind it, so that no test
+/// by vectors is of fewer bytes than a block.
 #[inline(always)]
 fn text_of(written: &mut [u8], end: usize) -> &str
     requires room { end + TESTED ≤ length written.old }
     requires utf8 { IsUtf8 (take end written.old) }
     ensures { result.now ≡ take end written.old }
 {
+    if end < PAYING {
+        return tested(&written[..end]);
+    }
     written[end..end + TESTED].fill(0);
-    match basic::from_utf8(&written[..TESTED * end.div_ceil(TESTED)]) {
-        Ok(text) => &text[..end],
+    &tested(&written[..TESTED * end.div_ceil(TESTED)])[..end]
+}
+
+/// Bytes that are UTF-8, tested.
+#[inline(always)]
+fn tested(bytes: &[u8]) -> &str
+    requires { IsUtf8 bytes.now }
+    ensures { result.now ≡ bytes.now }
+{
+    match basic::from_utf8(bytes) {
+        Ok(text) => text,
         Err(_) => unreachable!(),
     }
 }

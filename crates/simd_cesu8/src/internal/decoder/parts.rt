@@ -150,7 +150,8 @@ fn behind(count: u8) -> u8x32
         .select(u8x32::splat(0xFF), u8x32::splat(0))
 }
 
-/// The bytes, and in place of those of surrogate pairs and of C0 80 what they become.
+/// The bytes, and in place of those of surrogate pairs and of C0 80 what they become. Most blocks have
+/// many of these or none.
 #[inline(always)]
 fn joined(window: &[u8], codes: &Codes, at: usize) -> u8x32
     requires window { at + REACH ≤ length window.now }

@@ -76,8 +76,7 @@ pub const REACH: usize = 32 + BEHIND;
 /// The least byte that begins two bytes or more.
 const LEAD: u8 = 0xC0;
 
-/// The codes of the 32 places from `at` on. Most often no character of two bytes or more begins at
-/// any of them, or many do.
+/// The codes of the 32 places from `at` on. Where no byte can lead others, they are zeros.
 #[inline(always)]
 pub fn starts<N: NullForm>(bytes: &[u8], at: usize) -> u8x32
     requires { at + REACH ≤ length bytes.now }

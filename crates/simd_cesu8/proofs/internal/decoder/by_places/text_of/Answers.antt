@@ -4,10 +4,10 @@ use Rattle.simd_cesu8.proofs.DecodedWindows.{text_and_zeros}
 use Rattle.simd_cesu8.proofs.internal.decoder.by_places.text_of.Goals as goal
 
 -- What is tested is the text and zeros.
-pub unreachable-requires : goal.unreachable-requires
-unreachable-requires c =
+pub tested-requires-2 : goal.tested-requires-2
+tested-requires-2 c =
     let written = c.args.written.now in
     let end = c.args.end in
-    c.in-Err.ensures (text_and_zeros written _ end _ _ _ (omega (arith, c.requires.room)) (omega arith)
+    text_and_zeros written _ end _ _ _ (omega (arith, c.requires.room)) (omega arith)
     (omega (arith, length-take-le (end + 64 - end) (drop end written) (omega (arith, c.requires.room, length-drop end written))))
-    (c.fill.ensures.after (λ y e. e)) c.requires.utf8)
+    (c.fill.ensures.after (λ y e. e)) c.requires.utf8
