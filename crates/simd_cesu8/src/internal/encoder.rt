@@ -20,6 +20,7 @@ ghost use Rattle.std.specs.Prelude.{◌≡◌, ◌+◌, ◌≤◌, ◌++◌, ◌
 ghost use Rattle.std.specs.Str.{chars};
 ghost use Rattle.simd_cesu8.specs.Encoding.{encoding};
 ghost use Rattle.simd_cesu8.specs.Internal.{flavor_of};
+ghost use Rattle.simd_cesu8.specs.Slices.{WritesAnswer};
 
 mod blocks;
 mod rows;
@@ -30,7 +31,8 @@ use self::windows::{write_bytes, write_short};
 use super::Flavor;
 use super::lengths::encoded_len;
 use super::null_form::{OneByteNull, TwoByteNull};
-use super::writers::{append, append_zeros, copy, make_room};
+use super::writers::{append, append_zeros, copy, copy_to_slice, make_room};
+use crate::error::TooShort;
 use std::alloc::{AllocError, Allocator};
 
 /// How many bytes a text has at most whose encoding is written before its length is known.
@@ -161,4 +163,45 @@ fn write_block_text(flavor: Flavor, text: &str, out: &mut [u8]) -> usize
         Flavor::Cesu8 => write_short::<OneByteNull>(text.as_bytes(), out),
         Flavor::Mutf8 => write_short::<TwoByteNull>(text.as_bytes(), out),
     }
+}
+
+/// Writes the encoding of a text into a caller's buffer, where it fits. It is not inlined, so that
+/// a text that stays as it is pays for none of its stack.
+#[inline(never)]
+pub fn encode_to_slice(flavor: Flavor, text: &str, buf: &mut [u8]) -> Result<usize, TooShort>
+    ensures { WritesAnswer (encoding (flavor_of flavor) (chars text.now)) result buf.old buf.new }
+{
+    if text.len() <= BLOCK {
+        let mut written = [0; BLOCK_ENCODED];
+        let len = write_block_text(flavor, text, &mut written);
+        return copy_to_slice(&written[..len], buf);
+    }
+    if text.len() <= SHORT / 2 {
+        return write_by_array::<HALF_ENCODED>(flavor, text, buf);
+    }
+    if text.len() <= SHORT {
+        return write_by_array::<SHORT_ENCODED>(flavor, text, buf);
+    }
+    let len = encoded_len(flavor, text);
+    if buf.len() < len {
+        return Err(TooShort::new(len));
+    }
+    write_text(flavor, text, &mut buf[..len]);
+    Ok(len)
+}
+
+/// The same of a text of at most half the length of an array, through that array.
+#[inline(never)]
+fn write_by_array<const LEN: usize>(
+    flavor: Flavor,
+    text: &str,
+    buf: &mut [u8],
+) -> Result<usize, TooShort>
+    requires text { 2 * length text.now ≤ LEN }
+    requires array { LEN ≤ SHORT_ENCODED }
+    ensures { WritesAnswer (encoding (flavor_of flavor) (chars text.now)) result buf.old buf.new }
+{
+    let mut written = [0; LEN];
+    let len = write_text(flavor, text, &mut written);
+    copy_to_slice(&written[..len], buf)
 }

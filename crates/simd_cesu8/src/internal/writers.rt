@@ -2,7 +2,9 @@
 
 ghost use Rattle.std.specs.Prelude.{◌≡◌, ◌+◌, ◌<◌, ◌≤◌, ◌++◌, [], length, take, replicate, OnOk, OnErr, IfOk, IsOk, vec_len, vec_capacity};
 ghost use Rattle.std.specs.String.{string_bytes, string_capacity};
+ghost use Rattle.simd_cesu8.specs.Slices.{WritesAnswer};
 
+use crate::error::TooShort;
 use std::alloc::{AllocError, Allocator};
 use std::mem;
 
@@ -64,6 +66,19 @@ pub fn put(bytes: &[u8], out: &mut [u8], at: usize) -> usize
     let end = at + bytes.len();
     out[at..end].copy_from_slice(bytes);
     end
+}
+
+/// Copies bytes to the front of a caller's buffer, where they fit.
+#[inline(always)]
+pub fn copy_to_slice(bytes: &[u8], buf: &mut [u8]) -> Result<usize, TooShort>
+    ensures { WritesAnswer bytes.now result buf.old buf.new }
+{
+    let len = bytes.len();
+    if buf.len() < len {
+        return Err(TooShort::new(len));
+    }
+    buf[..len].copy_from_slice(bytes);
+    Ok(len)
 }
 
 /// A copy of some bytes, after one request for their length.
