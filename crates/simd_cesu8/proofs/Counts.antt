@@ -1,11 +1,12 @@
 -- How many bytes of a class there are: by parts, and by a mask.
-use Rattle.std.proofs.Common.{◌≡◌, ◌==◌, ℕ, ◌+◌, ◌*◌, ◌<◌, ◌≤◌, Bool, true, false, cond, List, [], ◌∷◌, length, map, take, drop, replicate, refl, sym, ap, ◌∙◌, subst, arith, eqb, bit_and, count_by, Fits, w8, w32}
-use lib.Lanes.{zip2, top, sel_l, sum_l, fold_l, chunk, products, dots, Each1, Each2, Steps}
-use Rattle.std.proofs.lemmas.List.{length-map, drop-drop}
-use Rattle.std.proofs.lemmas.Simd.{length-replicate, zip2_splat, Each1-weaker, Each1-all, Each2-of, Each1-zip2, sum-zip2, length-zip2, length-chunk, sum_bound, map-map, sum_dots, sum_by-ones, sum_fits, fold-sum, bytes_below}
+use Rattle.std.proofs.Common.{◌≡◌, ◌==◌, ℕ, ◌+◌, ◌-◌, ◌*◌, ◌<◌, ◌≤◌, Bool, true, false, cond, List, [], ◌∷◌, length, map, take, drop, replicate, refl, sym, ap, ◌∙◌, subst, arith, eqb, bit_and, count_by, count_ones, ◌/◌, ◌^◌, Fits, w8, w32}
+use lib.Lanes.{zip2, top, sel_l, mask_l, sum_l, fold_l, chunk, products, dots, Each1, Each2, Steps}
+use Rattle.std.proofs.lemmas.List.{length-map, length-drop, drop-drop, drop-map, take_all}
+use Rattle.std.proofs.lemmas.Simd.{length-replicate, zip2_splat, Each1-weaker, Each1-all, Each2-of, Each1-zip2, sum-zip2, length-zip2, length-chunk, sum_bound, map-map, sum_dots, sum_by-ones, sum_fits, fold-sum, bytes_below, ones-mask_l}
 use Rattle.std.proofs.lemmas.Bool.{agree_below_at}
 use Rattle.std.proofs.lemmas.List.Sums.{sum_by-cons, sum_by-take-drop, count_by-le-length}
 use Rattle.simd_cesu8.specs.Class.{is_four}
+use Rattle.simd_cesu8.proofs.EncodedRows.{mask_rest}
 use Rattle.simd_cesu8.proofs.Lanes.{map_agree, chosen_lanes}
 
 -- Tests that agree on each element count alike.
@@ -47,6 +48,41 @@ counted_fits p n whole xs chunk seen here front counted known =
 pub record ArePartlyCounted (null_count four_count : ℕ) (rest whole : List ℕ) : Type 0 where
   pub nulls : null_count + count_by (λ byte. byte == 0) rest ≡ count_by (λ byte. byte == 0) whole
   pub fours : four_count + count_by is_four rest ≡ count_by is_four whole
+
+-- The bits of a mask behind the first n are as many as the elements behind these that pass.
+pub bits_behind : (p : ℕ → Bool) (xs : List ℕ) (n bits : ℕ) → n ≤ length xs → bits ≡ mask_l (map p xs) → count_ones (bits / 2 ^ n) ≡ count_by p (drop n xs)
+bits_behind p xs n bits le is =
+    ap (λ b. count_ones (b / 2 ^ n)) is
+    ∙ ap count_ones (mask_rest n (map p xs) (omega (arith, length-map xs p)) ∙ ap mask_l (drop-map p n xs))
+    ∙ ones-mask_l p (drop n xs)
+
+-- The count of the first n elements and that of the others make up the count of all.
+pub count_by_parts : (p : ℕ → Bool) (xs : List ℕ) (n front back : ℕ) → front ≡ count_by p (take n xs) → back ≡ count_by p (drop n xs) →
+    front + back ≡ count_by p xs
+count_by_parts p xs n front back front_is back_is =
+    omega (arith, front_is, back_is, sum_by-take-drop (λ y. cond (p y) 1 0) xs n)
+
+-- The last n elements without those before the last k.
+pub last_of_last : {X : Type 0} (xs : List X) (n k : ℕ) → k ≤ n → n ≤ length xs → drop (n - k) (chunk (length xs - n) n xs) ≡ drop (length xs - k) xs
+last_of_last xs n k few within =
+    let start : length xs - n + (n - k) ≡ length xs - k = omega (arith, few, within) in
+    ap (drop (n - k)) (take_all n (drop (length xs - n) xs) (omega (arith, length-drop (length xs - n) xs)))
+    ∙ drop-drop (n - k) (length xs - n) xs ∙ ap (λ m. drop m xs) start
+
+-- With n elements more.
+pub count_by_more : (p : ℕ → Bool) (xs : List ℕ) (a n : ℕ) → count_by p (take a xs) + count_by p (chunk a n xs) ≡ count_by p (take (a + n) xs)
+count_by_more p xs a n =
+    omega (
+      arith,
+      sum_by-take-drop (λ y. cond (p y) 1 0) xs a,
+      sum_by-take-drop (λ y. cond (p y) 1 0) (drop a xs) n,
+      sum_by-take-drop (λ y. cond (p y) 1 0) xs (a + n),
+      ap (count_by p) (drop-drop n a xs),
+    )
+
+-- Of the first n elements no more pass than there are elements.
+pub count_by_within : (p : ℕ → Bool) (xs : List ℕ) (n : ℕ) → count_by p (take n xs) ≤ length xs
+count_by_within p xs n = omega (arith, sum_by-take-drop (λ y. cond (p y) 1 0) xs n, count_by-le-length p xs)
 
 -- ---- lanes that count their own bytes
 

@@ -1,5 +1,5 @@
 -- What is written for parts of a text.
-use Rattle.std.proofs.Common.{◌≡◌, ℕ, zero, suc, ◌+◌, ◌-◌, ◌*◌, ◌%◌, ◌^◌, ◌<◌, ◌≤◌, Bool, true, false, cond, List, [], ◌∷◌, ◌++◌, map, refl, sym, ap, ◌∙◌, subst, arith, length, take, drop, get_or, replicate, bit_and, length-append, append_assoc, count_ones}
+use Rattle.std.proofs.Common.{◌≡◌, ℕ, zero, suc, ◌+◌, ◌-◌, ◌*◌, ◌%◌, ◌^◌, ◌<◌, ◌≤◌, Bool, true, false, cond, List, [], ◌∷◌, ◌++◌, map, refl, sym, ap, ◌∙◌, arith, length, take, drop, get_or, replicate, bit_and, length-append, append_assoc, count_ones}
 use Rattle.std.specs.List.{flat_map, range_with_len}
 use Rattle.std.proofs.lemmas.List.{get_or-drop, get_or-take, length-drop, length-take-le, take_all, take_at, take-take}
 use Rattle.std.proofs.lemmas.List.Concat.{flat_map-append}
@@ -10,7 +10,7 @@ use lib.Pow.{pow_mono}
 use Rattle.std.proofs.lemmas.Simd.{ones-mask_l_cons}
 use lib.Lanes.{mask_l}
 use Rattle.simd_cesu8.specs.Encoding.{Flavor}
-use Rattle.simd_cesu8.specs.EncodedPlaces.{place_at, places, recoded, is_doubled_at, inserted_at, changed_at, packed}
+use Rattle.simd_cesu8.specs.EncodedPlaces.{place_at, places, recoded, is_doubled_at, inserted_at, changed_at, packed, IsWritten}
 use Rattle.simd_cesu8.proofs.EncodedLanes.{packed_places}
 use Rattle.simd_cesu8.proofs.EncodedRows.{mask_front}
 
@@ -106,36 +106,40 @@ ones_are n le =
     let fits : 1 * 2 ^ n < 0x10000000000000000 = omega arith in
     ap (λ k. k - 1) (mod-eq_of_lt fits ∙ omega arith)
 
--- The front of what is written for 32 bytes, as long as the mask tells of the first n, is theirs.
-module _ (f : Flavor) (window out : List ℕ) (n doubled end : ℕ) (le : n ≤ 32) (within : end ≤ length out)
-    (out_is : take end out ≡ places f window 0 32)
-    (doubled_is : doubled ≡ mask_l (map (is_doubled_at f window) (range_with_len 0 32))) where
-  front_bits : bit_and doubled (2 ^ n - 1) ≡ mask_l (map (is_doubled_at f window) (range_with_len 0 n))
-  front_bits =
-      and_mask doubled n ∙ ap (λ m. m % 2 ^ n) doubled_is
-      ∙ mask_front n (map (is_doubled_at f window) (range_with_len 0 32)) (omega (arith, length-map-range_with_len (is_doubled_at f window) 0 32))
-      ∙ ap mask_l (take-map-range_with_len (is_doubled_at f window) 0 32 n le)
+-- The bits of the first n bytes of a block tell how long what is written for them is.
+pub front_long : (f : Flavor) (window : List ℕ) (i n doubled : ℕ) → n ≤ 32 →
+    doubled ≡ mask_l (map (is_doubled_at f window) (range_with_len i 32)) →
+    n + count_ones (bit_and doubled (1 * 2 ^ n % 0x10000000000000000 - 1)) ≡ length (places f window i n)
+front_long f window i n doubled le doubled_is =
+    let tests = is_doubled_at f window in
+    let front : bit_and doubled (2 ^ n - 1) ≡ mask_l (map tests (range_with_len i n)) =
+    and_mask doubled n ∙ ap (λ m. m % 2 ^ n) doubled_is
+    ∙ mask_front n (map tests (range_with_len i 32)) (omega (arith, length-map-range_with_len tests i 32))
+    ∙ ap mask_l (take-map-range_with_len tests i 32 n le) in
+    ap (λ k. n + count_ones (bit_and doubled k)) (ones_are n le) ∙ ap (λ b. n + count_ones b) front ∙ sym (length_places f window i n)
 
-  front_long : length (places f window 0 n) ≡ n + count_ones (bit_and doubled (2 ^ n - 1))
-  front_long = length_places f window 0 n ∙ ap (λ b. n + count_ones b) (sym front_bits)
+-- The front of what is stored of a block is what is written for its first n bytes.
+pub front_of_block : (f : Flavor) (window before out : List ℕ) (i n stored end : ℕ) → n ≤ 32 → stored ≤ length out →
+    take stored out ≡ before ++ places f window i 32 → end ≡ length before + length (places f window i n) →
+    take end out ≡ before ++ places f window i n
+front_of_block f window before out i n stored end le within is end_is =
+    let sum : 32 ≡ n + (32 - n) = omega arith in
+    let front = places f window i n in
+    let others = places f window (i + n) (32 - n) in
+    let parts : take stored out ≡ (before ++ front) ++ others =
+    is ∙ ap (λ l. before ++ l) (ap (places f window i) sum ∙ places_append f window i n (32 - n)) ∙ sym (append_assoc before front others) in
+    let whole = length-append before front in
+    let ends : end ≤ stored = omega (arith, end_is, whole, ap length parts, length-append (before ++ front) others, length-take-le stored out within) in
+    sym (take-take end stored out ends) ∙ ap (take end) parts ∙ take_at (before ++ front) others end (whole ∙ sym end_is)
 
-  parts : take end out ≡ places f window 0 n ++ places f window (0 + n) (32 - n)
-  parts =
-      let sum : 32 ≡ n + (32 - n) = omega arith in
-      out_is ∙ ap (places f window 0) sum ∙ places_append f window 0 n (32 - n)
-
-  ends_within : n + count_ones (bit_and doubled (2 ^ n - 1)) ≤ end
-  ends_within = omega (arith, front_long, ap length parts, length-append (places f window 0 n) (places f window (0 + n) (32 - n)), length-take-le end out within)
-
-  pub front_end : n + count_ones (bit_and doubled (1 * 2 ^ n % 0x10000000000000000 - 1)) ≤ end
-  front_end = subst (λ k. n + count_ones (bit_and doubled k) ≤ end) (sym (ones_are n le)) ends_within
-
-  pub front_of_block : take (n + count_ones (bit_and doubled (1 * 2 ^ n % 0x10000000000000000 - 1))) out ≡ places f window 0 n
-  front_of_block =
-      ap (λ k. take (n + count_ones (bit_and doubled k)) out) (ones_are n le)
-      ∙ sym (take-take (n + count_ones (bit_and doubled (2 ^ n - 1))) end out ends_within)
-      ∙ ap (take (n + count_ones (bit_and doubled (2 ^ n - 1)))) parts
-      ∙ take_at (places f window 0 n) (places f window (0 + n) (32 - n)) _ front_long
+-- What is stored of a block, by its lanes.
+pub stored_block : (f : Flavor) (window before out firsts seconds : List ℕ) (i stored : ℕ) →
+    take stored out ≡ before ++ packed (map (is_doubled_at f window) (range_with_len i 32)) firsts seconds →
+    firsts ≡ map (inserted_at f window) (range_with_len i 32) → seconds ≡ map (changed_at f window) (range_with_len i 32) →
+    take stored out ≡ before ++ places f window i 32
+stored_block f window before out firsts seconds i stored is firsts_are seconds_are =
+    is ∙ ap (λ l. before ++ l)
+    ((λ j. packed (map (is_doubled_at f window) (range_with_len i 32)) (firsts_are j) (seconds_are j)) ∙ packed_block f window i 32)
 
 -- ---- a window with zeros around it
 
@@ -188,57 +192,38 @@ room_for_parts f window i n m whole le =
       length-append (places f window (i + n) m) (places f window (i + n + m) rest),
     )
 
--- What is stored of a block, and cut to its first n bytes.
-pub front_written : (f : Flavor) (window out firsts seconds : List ℕ) (n doubled end : ℕ) → n ≤ 32 → end ≤ 64 → length out ≡ 64 →
-    take end out ≡ packed (map (is_doubled_at f window) (range_with_len 0 32)) firsts seconds →
-    firsts ≡ map (inserted_at f window) (range_with_len 0 32) → seconds ≡ map (changed_at f window) (range_with_len 0 32) →
-    doubled ≡ mask_l (map (is_doubled_at f window) (range_with_len 0 32)) →
-    let kept = n + count_ones (bit_and doubled (1 * 2 ^ n % 0x10000000000000000 - 1)) in
-    (kept ≤ 64) × (take kept out ≡ places f window 0 n)
-front_written f window out firsts seconds n doubled end le within long out_is firsts_are seconds_are doubled_is =
-    let whole : take end out ≡ places f window 0 32 =
-    out_is ∙ (λ i. packed (map (is_doubled_at f window) (range_with_len 0 32)) (firsts_are i) (seconds_are i)) ∙ packed_block f window 0 32 in
-    let fits : end ≤ length out = omega (arith, within, long) in (
-      omega (arith, front_end f window out n doubled end le fits whole doubled_is, within),
-      front_of_block f window out n doubled end le fits whole doubled_is,
-    )
-
--- With one block more.
-pub window_step : (f : Flavor) (window : List ℕ) (i : ℕ) (xs ys : List ℕ) → xs ≡ places f window 0 (32 * i) →
-    ys ≡ xs ++ places f window (32 * i) 32 → ys ≡ places f window 0 (32 * (i + 1))
-window_step f window i xs ys xs_are ys_are =
-    let start : 32 * i ≡ 0 + 32 * i = omega arith in
-    let sum : 32 * i + 32 ≡ 32 * (i + 1) = omega arith in
-    ys_are ∙ ap (λ l. l ++ places f window (32 * i) 32) xs_are ∙ ap (λ k. places f window 0 (32 * i) ++ places f window k 32) start
-    ∙ sym (places_append f window 0 (32 * i) 32) ∙ ap (places f window 0) sum
+-- ---- a text by blocks
 
 module _ (f : Flavor) (text : List ℕ) where
   abbrev around : List ℕ
   around = 0 ∷ 0 ∷ text
 
-  -- With n bytes more, from i on.
-  pub text_step : (i n : ℕ) (x0 x1 x2 piece : List ℕ) → 32 ≤ i → x1 ≡ x0 ++ places f around 32 (i - 32) → x2 ≡ x1 ++ piece →
-      piece ≡ places f around i n → x2 ≡ x0 ++ places f around 32 (i + n - 32)
-  text_step i n x0 x1 x2 piece le e1 e2 e3 =
-      let start : i ≡ 32 + (i - 32) = omega arith in
-      let sum : i - 32 + n ≡ i + n - 32 = omega arith in
-      e2 ∙ ap (λ l. l ++ piece) e1 ∙ append_assoc x0 (places f around 32 (i - 32)) piece
-      ∙ ap (λ l. x0 ++ (places f around 32 (i - 32) ++ l)) (e3 ∙ ap (λ k. places f around k n) start)
-      ∙ ap (λ l. x0 ++ l) (sym (places_append f around 32 (i - 32) n) ∙ ap (places f around 32) sum)
+  -- What is written for bytes within a text.
+  pub places_here : (i n : ℕ) → 2 ≤ i → places f text (i - 2) n ≡ places f around i n
+  places_here i n le = places_agree f text around (i - 2) i n (λ k l.
+      let there : suc (suc (i - 2 + k)) ≡ i + k = omega arith in
+      ap (λ m. get_or around m 0) there)
 
-  pub text_room : (i n : ℕ) → 32 ≤ i → i + n ≤ length text →
-      length (places f around 32 (i - 32)) + length (places f around i n) ≤ length (places f around 32 (length text - 32))
-  text_room i n le within =
-      let start : 32 + (i - 32) ≡ i = omega arith in
-      subst (λ k. length (places f around 32 (i - 32)) + length (places f around k n) ≤ length (places f around 32 (length text - 32))) start
-      (room_for_parts f around 32 (i - 32) n (length text - 32) (omega (arith, le, within)))
+  -- There is room for n bytes more, behind what is written for the first i.
+  pub room_behind : (i n end : ℕ) (out : List ℕ) → i + n ≤ length text → IsWritten f text i out end →
+      length (recoded f text) ≤ length out → end + length (places f around i n) ≤ length out
+  room_behind i n end out le written room =
+      let start : 0 + i ≡ i = omega arith in
+      omega (
+        arith,
+        ap length written.0,
+        length-take-le end out written.1,
+        ap (λ k. length (places f around k n)) start,
+        room_for_parts f around 0 i n (length text) le,
+        room,
+      )
 
-  -- A text of more than 32 bytes, in three parts.
-  pub three_parts : (i : ℕ) → 32 ≤ i → i ≤ length text →
-      recoded f text ≡ places f around 0 32 ++ (places f around 32 (i - 32) ++ places f around i (length text - i))
-  three_parts i le within =
-      let sum : length text ≡ 32 + (i - 32 + (length text - i)) = omega (arith, le, within) in
-      let start : 32 + (i - 32) ≡ i = omega arith in
-      ap (places f around 0) sum ∙ places_append f around 0 32 (i - 32 + (length text - i))
-      ∙ ap (λ l. places f around 0 32 ++ l) (places_append f around 32 (i - 32) (length text - i)
-      ∙ ap (λ k. places f around 32 (i - 32) ++ places f around k (length text - i)) start)
+  -- With n bytes more.
+  pub written_behind : (i n end after : ℕ) (old out piece : List ℕ) → IsWritten f text i old end →
+      take after out ≡ take end old ++ piece → piece ≡ places f around i n → after ≤ length out → IsWritten f text (i + n) out after
+  written_behind i n end after old out piece written is piece_is within =
+      let start : i ≡ 0 + i = omega arith in (
+        is ∙ ap (λ l. l ++ piece) written.0 ∙ ap (λ l. places f around 0 i ++ l) (piece_is ∙ ap (λ k. places f around k n) start)
+            ∙ sym (places_append f around 0 i n),
+        within,
+      )

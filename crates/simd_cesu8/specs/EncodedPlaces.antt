@@ -1,7 +1,8 @@
 -- What encoding makes of each byte of UTF-8, from the byte and its neighbours alone: the two before it
 -- and the one after it. Every list of bytes is taken, with zeros around it.
-use Rattle.std.specs.Prelude.{ℕ, zero, suc, ◌+◌, ◌-◌, ◌*◌, ◌/◌, ◌%◌, Bool, false, ◌||◌, ◌==◌, nat_le, if◌then◌else◌, ◌≡◌, ◌<◌, List, [], ◌∷◌, ◌++◌, length, slice_index, slice_index_or, replicate, bit_and, bit_or}
+use Rattle.std.specs.Prelude.{ℕ, zero, suc, ◌+◌, ◌-◌, ◌*◌, ◌/◌, ◌%◌, Bool, false, ◌||◌, ◌==◌, nat_le, if◌then◌else◌, ◌≡◌, ◌<◌, ◌≤◌, List, [], ◌∷◌, ◌++◌, length, take, slice_index, slice_index_or, map, replicate, bit_and, bit_or}
 use Rattle.std.specs.List.{flat_map, range_with_len}
+use Rattle.std.specs.Simd.Lanes.{mask_l}
 use Rattle.simd_cesu8.specs.Encoding.{Flavor, Cesu8, Mutf8}
 
 -- The lead byte of four bytes.
@@ -68,6 +69,10 @@ places f window i n = flat_map (place_at f window) (range_with_len i n)
 abbrev pub recoded : Flavor → List ℕ → List ℕ
 recoded f bytes = places f (0 ∷ 0 ∷ bytes) 0 (length bytes)
 
+-- What is written for the first n bytes of a text stands in a slice, up to an end.
+abbrev pub IsWritten : Flavor → List ℕ → ℕ → List ℕ → ℕ → Type 0
+IsWritten f bytes n out end = (take end out ≡ places f (0 ∷ 0 ∷ bytes) 0 n) × (end ≤ length out)
+
 -- What is written for bytes in a row: for each the second byte, and the first before that where its
 -- test holds.
 abbrev pub packed : List Bool → List ℕ → List ℕ → List ℕ
@@ -92,3 +97,10 @@ shuffle_of doubled =
 -- The rows of shuffles, one for each number below 100 (hexadecimal).
 abbrev pub AreShuffles : List (List ℕ) → Type 0
 AreShuffles rows = (doubled : ℕ) → doubled < 0x100 → slice_index_or rows doubled [] ≡ shuffle_of doubled
+
+-- The lanes of the block behind the first i bytes of a window, and two more: what is written last for
+-- each byte, what is written before that where the byte becomes two, and a bit for each that does.
+pub record AreLanes (f : Flavor) (window : List ℕ) (i : ℕ) (seconds firsts : List ℕ) (doubled : ℕ) : Type 0 where
+  pub seconds_are : seconds ≡ map (changed_at f window) (range_with_len i 32)
+  pub firsts_are : firsts ≡ map (inserted_at f window) (range_with_len i 32)
+  pub doubled_is : doubled ≡ mask_l (map (is_doubled_at f window) (range_with_len i 32))

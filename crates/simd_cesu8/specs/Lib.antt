@@ -11,6 +11,7 @@ pub mod Cutting
 pub mod Cow
 pub mod Counted
 pub mod Fault
+pub mod Slices
 pub mod Internal
 pub mod Short
 pub mod Joining

@@ -8,9 +8,10 @@ ghost use Rattle.simd_cesu8.specs.Reading.{IsStrictReading, HasNoStrictReading, 
 ghost use Rattle.simd_cesu8.specs.Cow.{IfBytes, BorrowsBytesWhere, BuildsBytesOfCapacity, IfText, BorrowsTextWhere, BuildsTextOfCapacity, AnswersTextOfLength};
 ghost use Rattle.simd_cesu8.specs.Fault.{OnInvalid};
 ghost use Rattle.simd_cesu8.specs.Internal.{flavor_of};
+ghost use Rattle.simd_cesu8.specs.Slices.{WritesAnswer};
 
 use crate::cow::{CowBytes, CowText};
-use crate::error::DecodeFault;
+use crate::error::{DecodeFault, TooShort};
 use crate::internal;
 use crate::internal::{
     Flavor, ascii_text, character_start, contains_changed, is_short_ascii, is_short_unchanged_ascii,
@@ -249,4 +250,14 @@ fn decode_lossy_other(
     }
     let built = internal::decode_lossy(alloc, flavor, bytes)?;
     Ok(CowText::Owned(built))
+}
+
+#[inline(always)]
+pub fn encode_to_slice(flavor: Flavor, value: &str, buf: &mut [u8]) -> Result<usize, TooShort>
+    ensures { WritesAnswer (encoding (flavor_of flavor) (chars value.now)) result buf.old buf.new }
+{
+    if !needs_encoded(flavor, value) {
+        return internal::copy_to_slice(value.as_bytes(), buf);
+    }
+    internal::encode_to_slice(flavor, value, buf)
 }

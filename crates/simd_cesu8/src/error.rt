@@ -91,3 +91,47 @@ impl Display for DecodeFault {
 }
 
 impl Error for DecodeFault {}
+
+/// The caller's buffer is shorter than the answer. It tells how long the answer is.
+///
+/// It shows itself as `buffer too short`, whatever width is asked for.
+///
+/// ```rust
+/// let mut buf = [0; 5];
+/// let fault = simd_cesu8::encode_to_slice("\u{10400}", &mut buf).unwrap_err();
+/// assert_eq!(rt; fault.needed(), 6);
+/// ```
+#[derive(Clone, Copy, Debug, PartialEq, Eq)]
+pub struct TooShort {
+    needed: usize,
+}
+
+impl TooShort {
+    ghost use Rattle.std.specs.Prelude.{◌≡◌};
+
+    #[inline(always)]
+    pub(crate) fn new(needed: usize) -> TooShort
+        ensures { result.needed ≡ needed }
+    {
+        TooShort { needed }
+    }
+
+    /// The length of the answer, in bytes.
+    pub fn needed(&self) -> usize
+        ensures { result ≡ self.now.needed }
+    {
+        self.needed
+    }
+}
+
+impl Display for TooShort {
+    ghost output = { λ _. Some (codes "buffer too short") };
+
+    ghost styled_output = { λ _ _. Some (codes "buffer too short") };
+
+    fn fmt<W: fmt::Write>(&self, f: &mut Formatter<W>) -> fmt::Result {
+        f.write_str("buffer too short")
+    }
+}
+
+impl Error for TooShort {}

@@ -10,6 +10,7 @@
 //! | you have | you want | call |
 //! |---|---|---|
 //! | text | its encoding | [`encode`]; [`encode_into`] to append it to a buffer of your own |
+//! | text, and a buffer for its encoding | its encoding there, with no allocator | [`encode_to_slice`] |
 //! | text | to know whether that differs from its UTF-8 | [`needs_encoded`] |
 //! | text | the length of its encoding | [`encoded_len`] |
 //! | text | its encoding behind its length, counted once | [`counted`] |
@@ -38,6 +39,7 @@ ghost use Rattle.simd_cesu8.specs.Reading.{IsStrictReading, HasNoStrictReading, 
 ghost use Rattle.simd_cesu8.specs.Cow.{IfBytes, BorrowsBytesWhere, BuildsBytesOfCapacity, IfText, BorrowsTextWhere, BuildsTextOfCapacity, AnswersTextOfLength};
 ghost use Rattle.simd_cesu8.specs.Counted.{counted_encoding};
 ghost use Rattle.simd_cesu8.specs.Fault.{OnInvalid};
+ghost use Rattle.simd_cesu8.specs.Slices.{WritesAnswer};
 
 mod borrow_or_build;
 mod counted_text;
@@ -50,7 +52,7 @@ pub mod mutf8;
 
 pub use crate::counted_text::CountedText;
 pub use crate::cow::{CowBytes, CowText};
-pub use crate::error::{DecodeFault, DecodingError};
+pub use crate::error::{DecodeFault, DecodingError, TooShort};
 use crate::internal::Flavor;
 use std::alloc::{AllocError, Global};
 
@@ -261,4 +263,21 @@ pub fn lossy_len(bytes: &[u8]) -> Option<usize>
     ensures none { IfNone result (usize.MAX < lossy_length Cesu8 bytes.now) }
 {
     internal::lossy_len(Flavor::Cesu8, bytes)
+}
+
+/// Encodes a text to CESU-8 (Unicode Technical Report 26), into a buffer of the caller's.
+///
+/// It gives how many bytes it wrote at the front of the buffer, and what follows them stays as it
+/// was. Where the buffer is too short, [`TooShort`] tells how many bytes are needed, and the whole
+/// buffer stays as it was. So a call with an empty buffer asks for the length. It takes no memory.
+///
+/// ```rust
+/// let mut buf = [0xEE; 8];
+/// assert_eq!(rt; simd_cesu8::encode_to_slice("\u{10400}", &mut buf)?, 6);
+/// assert_eq!(rt; buf.as_slice(), b"\xED\xA0\x81\xED\xB0\x80\xEE\xEE".as_slice());
+/// ```
+pub fn encode_to_slice(value: &str, buf: &mut [u8]) -> Result<usize, TooShort>
+    ensures { WritesAnswer (encoding Cesu8 (chars value.now)) result buf.old buf.new }
+{
+    borrow_or_build::encode_to_slice(Flavor::Cesu8, value, buf)
 }

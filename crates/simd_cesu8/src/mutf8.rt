@@ -14,10 +14,11 @@ ghost use Rattle.simd_cesu8.specs.Reading.{IsStrictReading, HasNoStrictReading, 
 ghost use Rattle.simd_cesu8.specs.Cow.{IfBytes, BorrowsBytesWhere, BuildsBytesOfCapacity, IfText, BorrowsTextWhere, BuildsTextOfCapacity, AnswersTextOfLength};
 ghost use Rattle.simd_cesu8.specs.Counted.{counted_encoding};
 ghost use Rattle.simd_cesu8.specs.Fault.{OnInvalid};
+ghost use Rattle.simd_cesu8.specs.Slices.{WritesAnswer};
 
 use crate::counted_text::CountedText;
 use crate::cow::{CowBytes, CowText};
-use crate::error::DecodeFault;
+use crate::error::{DecodeFault, TooShort};
 use crate::internal::Flavor;
 use crate::{borrow_or_build, internal};
 use std::alloc::{AllocError, Global};
@@ -232,4 +233,22 @@ pub fn lossy_len(bytes: &[u8]) -> Option<usize>
     ensures none { IfNone result (usize.MAX < lossy_length Mutf8 bytes.now) }
 {
     internal::lossy_len(Flavor::Mutf8, bytes)
+}
+
+/// Encodes a text to MUTF-8 (Java's `DataOutput`, without a length in front), into a buffer of the
+/// caller's.
+///
+/// It gives how many bytes it wrote at the front of the buffer, and what follows them stays as it
+/// was. Where the buffer is too short, [`TooShort`] tells how many bytes are needed, and the whole
+/// buffer stays as it was. So a call with an empty buffer asks for the length. It takes no memory.
+///
+/// ```rust
+/// let mut buf = [0xEE; 4];
+/// assert_eq!(rt; simd_cesu8::mutf8::encode_to_slice("a\0", &mut buf)?, 3);
+/// assert_eq!(rt; buf.as_slice(), b"a\xC0\x80\xEE".as_slice());
+/// ```
+pub fn encode_to_slice(value: &str, buf: &mut [u8]) -> Result<usize, TooShort>
+    ensures { WritesAnswer (encoding Mutf8 (chars value.now)) result buf.old buf.new }
+{
+    borrow_or_build::encode_to_slice(Flavor::Mutf8, value, buf)
 }

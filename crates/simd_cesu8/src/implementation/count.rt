@@ -1,10 +1,11 @@
 //! How many bytes of a class there are, 64 at a time.
 //!
 //! Of 1,024 bytes each lane of a vector counts its own, and the lanes are summed once. Of the bytes
-//! after these the bits of a mask are counted, 64 at a time.
+//! after these the bits of a mask are counted, 64 at a time. The last vector overlaps the one
+//! before it, and the bits that were counted there are shifted out.
 
-ghost use Rattle.std.specs.Prelude.{◌≡◌, ◌==◌, ◌≤◌, ◌-◌, ◌++◌, if◌then◌else◌, length, replicate, map, count_by};
-ghost use Rattle.std.specs.Simd.Lanes.{sum_l};
+ghost use Rattle.std.specs.Prelude.{◌≡◌, ◌==◌, ◌<◌, ◌≤◌, ◌+◌, ◌-◌, ◌*◌, if◌then◌else◌, length, drop, map, count_by};
+ghost use Rattle.std.specs.Simd.Lanes.{mask_l, sum_l};
 ghost use Rattle.simd_cesu8.specs.Class.{is_four};
 
 use std::simd::prelude::*;
@@ -75,55 +76,125 @@ fn count_rest(value: &[u8]) -> Counts
     ensures nulls { result.nulls ≡ count_by (λ byte. byte == 0) value.now }
     ensures fours { result.fours ≡ count_by is_four value.now }
 {
-    let mut rest = value;
+    if value.len() < 64 {
+        return count_short(value);
+    }
+    let whole = value.len() / 64;
     let mut nulls = 0;
     let mut fours = 0;
-    while let Some((chunk, after)) = rest.split_first_chunk::<64>() {
-        let lanes = u8x64::from_array(*chunk);
-        nulls += null_lanes(lanes);
-        fours += four_lanes(lanes);
-        rest = after;
+    for i in 0..whole {
+        let counts = count_lanes(u8x64::from_slice(&value[64 * i..]), 0);
+        nulls += counts.nulls;
+        fours += counts.fours;
     }
-    let lanes = padded(rest);
+    let left = value.len() - 64 * whole;
+    if left == 0 {
+        return Counts { nulls, fours };
+    }
+    let counts = count_end::<64>(value, left);
     Counts {
-        nulls: nulls + null_lanes(lanes),
-        fours: fours + four_lanes(lanes),
+        nulls: nulls + counts.nulls,
+        fours: fours + counts.fours,
     }
 }
 
-/// At most 64 bytes as lanes. The lanes after them are of neither class.
+/// Counts fewer than 64 bytes: by two vectors of the widest that fit, which may overlap.
 #[inline(always)]
-fn padded(bytes: &[u8]) -> u8x64
-    requires { length bytes.now ≤ 64 }
-    ensures { result ≡ bytes.now ++ replicate (64 - length bytes.now) 0x80 }
+fn count_short(value: &[u8]) -> Counts
+    requires { length value.now < 64 }
+    ensures nulls { result.nulls ≡ count_by (λ byte. byte == 0) value.now }
+    ensures fours { result.fours ≡ count_by is_four value.now }
 {
-    let mut lanes = [0x80; 64];
-    lanes[..bytes.len()].copy_from_slice(bytes);
-    u8x64::from_array(lanes)
+    if value.len() >= 32 {
+        return count_pair::<32>(value);
+    }
+    if value.len() >= 16 {
+        return count_pair::<16>(value);
+    }
+    if value.len() >= 8 {
+        return count_pair::<8>(value);
+    }
+    if value.len() >= 4 {
+        return count_pair::<4>(value);
+    }
+    count_each(value)
 }
 
-/// How many lanes are 00.
+/// Counts byte by byte.
 #[inline(always)]
-fn null_lanes(lanes: u8x64) -> usize
-    ensures { result ≡ count_by (λ byte. byte == 0) lanes }
+fn count_each(value: &[u8]) -> Counts
+    ensures nulls { result.nulls ≡ count_by (λ byte. byte == 0) value.now }
+    ensures fours { result.fours ≡ count_by is_four value.now }
 {
-    count_ones(null_ones(lanes))
+    let mut nulls = 0;
+    let mut fours = 0;
+    for byte in value {
+        nulls += usize::from(*byte == 0);
+        fours += usize::from(*byte & 0xF8 == 0xF0);
+    }
+    Counts { nulls, fours }
 }
 
-/// How many lanes are F0 to F7 (hexadecimal).
+/// Counts by the first `N` bytes, and then the others by the last `N`.
 #[inline(always)]
-fn four_lanes(lanes: u8x64) -> usize
-    ensures { result ≡ count_by is_four lanes }
+fn count_pair<const N: usize>(value: &[u8]) -> Counts
+    requires lanes { (0 < N) × (N ≤ 32) }
+    requires long { (N ≤ length value.now) × (length value.now ≤ 2 * N) }
+    ensures nulls { result.nulls ≡ count_by (λ byte. byte == 0) value.now }
+    ensures fours { result.fours ≡ count_by is_four value.now }
 {
-    count_ones(four_ones(lanes))
+    let first = count_lanes(Simd::<u8, N>::from_slice(value), 0);
+    let others = count_end::<N>(value, value.len() - N);
+    Counts {
+        nulls: first.nulls + others.nulls,
+        fours: first.fours + others.fours,
+    }
 }
 
-/// How many lanes are one.
+/// Counts the last `len` bytes, by a vector of the last `N`.
 #[inline(always)]
-fn count_ones(lanes: u8x64) -> usize
-    ensures { result ≡ count_by (λ lane. lane == 1) lanes }
+fn count_end<const N: usize>(value: &[u8], len: usize) -> Counts
+    requires lanes { N ≤ 64 }
+    requires long { (len ≤ N) × (N ≤ length value.now) × (N < 64 + len) }
+    ensures nulls { result.nulls
+        ≡ count_by (λ byte. byte == 0) (drop (length value.now - len) value.now) }
+    ensures fours { result.fours ≡ count_by is_four (drop (length value.now - len) value.now) }
 {
-    lanes.simd_eq(u8x64::splat(1)).to_bitmask().count_ones() as usize
+    let lanes = Simd::<u8, N>::from_slice(&value[value.len() - N..]);
+    count_lanes(lanes, N - len)
+}
+
+/// Counts the lanes behind the first `skipped`.
+#[inline(always)]
+fn count_lanes<const N: usize>(lanes: Simd<u8, N>, skipped: usize) -> Counts
+    requires { (N ≤ 64) × (skipped ≤ N) × (skipped < 64) }
+    ensures nulls { result.nulls ≡ count_by (λ byte. byte == 0) (drop skipped lanes.entry) }
+    ensures fours { result.fours ≡ count_by is_four (drop skipped lanes.entry) }
+{
+    Counts {
+        nulls: (null_bits(lanes) >> skipped).count_ones() as usize,
+        fours: (four_bits(lanes) >> skipped).count_ones() as usize,
+    }
+}
+
+/// A bit for each lane that is 00.
+#[inline(always)]
+fn null_bits<const N: usize>(lanes: Simd<u8, N>) -> u64
+    requires { N ≤ 64 }
+    ensures { result ≡ mask_l (map (λ byte. byte == 0) lanes.entry) }
+{
+    lanes.simd_eq(Simd::splat(0)).to_bitmask()
+}
+
+/// A bit for each lane that is F0 to F7 (hexadecimal).
+#[inline(always)]
+fn four_bits<const N: usize>(lanes: Simd<u8, N>) -> u64
+    requires { N ≤ 64 }
+    ensures { result ≡ mask_l (map is_four lanes.entry) }
+{
+    (lanes & Simd::splat(0xF8))
+        .simd_eq(Simd::splat(0xF0))
+        .to_bitmask()
 }
 
 /// A one for each lane that is 00.

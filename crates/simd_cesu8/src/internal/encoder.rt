@@ -11,22 +11,39 @@
 //! In MUTF-8 the byte 00 becomes C0 80, and every other byte stays as it is. So a row of eight
 //! bytes becomes sixteen lanes, and one shuffle packs those that are written: `blocks` makes the
 //! lanes, `rows` has the shuffles, and `windows` has the loop over the text.
+//!
+//! All is written into slices. A text of up to 128 bytes goes into an array on the stack and is
+//! copied from there, since that costs less than a count before. A longer one is counted, and
+//! written where it has to stand.
 
 ghost use Rattle.std.specs.Prelude.{◌≡◌, ◌+◌, ◌≤◌, ◌++◌, ◌*◌, [], length, take, OnOk, OnErr, IfOk, IsOk, vec_len, vec_capacity};
 ghost use Rattle.std.specs.Str.{chars};
 ghost use Rattle.simd_cesu8.specs.Encoding.{encoding};
 ghost use Rattle.simd_cesu8.specs.Internal.{flavor_of};
+ghost use Rattle.simd_cesu8.specs.Slices.{WritesAnswer};
 
 mod blocks;
 mod rows;
 mod windows;
 
-use self::windows::{SHORT, write_bytes, write_short};
+use self::blocks::BLOCK;
+use self::windows::{write_bytes, write_short};
 use super::Flavor;
 use super::lengths::encoded_len;
 use super::null_form::{OneByteNull, TwoByteNull};
-use super::writers::{append, copy, make_room};
+use super::writers::{append, append_zeros, copy, copy_to_slice, make_room};
+use crate::error::TooShort;
 use std::alloc::{AllocError, Allocator};
+
+/// How many bytes a text has at most whose encoding is written before its length is known.
+const SHORT: usize = 128;
+
+/// The most that the encoding of a short text has, of one of half that length, and of a block.
+const SHORT_ENCODED: usize = 2 * SHORT;
+
+const HALF_ENCODED: usize = SHORT;
+
+const BLOCK_ENCODED: usize = 2 * BLOCK;
 
 /// The encoding of a text, after one request for exactly its length. It is not inlined, so that a
 /// text that is borrowed pays for none of its stack.
@@ -41,14 +58,41 @@ pub fn encode<A: Allocator + Copy>(
     ensures capacity { IfOk result (λ encoded.
         vec_capacity encoded ≡ length (encoding (flavor_of flavor) (chars text.now))) }
 {
-    if text.len() <= SHORT {
-        let mut written = [0; 2 * SHORT];
-        let len = encode_short(flavor, text, &mut written);
+    if text.len() <= BLOCK {
+        let mut written = [0; BLOCK_ENCODED];
+        let len = write_block_text(flavor, text, &mut written);
         return copy(alloc, &written[..len]);
     }
-    let mut encoded = Vec::with_capacity(alloc, encoded_len(flavor, text))?;
-    write_text(flavor, text, &mut encoded);
+    if text.len() <= SHORT / 2 {
+        return encode_by_array::<A, HALF_ENCODED>(alloc, flavor, text);
+    }
+    if text.len() <= SHORT {
+        return encode_by_array::<A, SHORT_ENCODED>(alloc, flavor, text);
+    }
+    let len = encoded_len(flavor, text);
+    let mut encoded = Vec::with_capacity(alloc, len)?;
+    append_changed(flavor, text, len, &mut encoded);
     Ok(encoded)
+}
+
+/// The encoding of a text of at most half the length of an array, through that array. It is not
+/// inlined, so that no other text pays for the array.
+#[inline(never)]
+fn encode_by_array<A: Allocator + Copy, const LEN: usize>(
+    alloc: A,
+    flavor: Flavor,
+    text: &str,
+) -> Result<Vec<u8, A>, AllocError>
+    requires text { 2 * length text.now ≤ LEN }
+    requires array { LEN ≤ SHORT_ENCODED }
+    ensures bytes { IfOk result (λ encoded.
+        encoded.items ≡ encoding (flavor_of flavor) (chars text.now)) }
+    ensures capacity { IfOk result (λ encoded.
+        vec_capacity encoded ≡ length (encoding (flavor_of flavor) (chars text.now))) }
+{
+    let mut written = [0; LEN];
+    let len = write_text(flavor, text, &mut written);
+    copy(alloc, &written[..len])
 }
 
 /// Appends the encoding of a text, which has this length, after one request, where there is no
@@ -74,17 +118,46 @@ pub fn encode_into<A: Allocator + Copy>(
         // An encoding that differs from the UTF-8 is longer.
         append(text.as_bytes(), out);
     } else {
-        append_changed(flavor, text, out);
+        append_changed(flavor, text, len, out);
     }
     Ok(())
 }
 
-/// Writes the encoding of a short text, and gives its length. No pass counts that before.
-#[inline(always)]
-fn encode_short(flavor: Flavor, text: &str, out: &mut [u8; 2 * SHORT]) -> usize
-    requires { length text.now ≤ SHORT }
+/// Appends the encoding of a text, which has this length, and for which there is room.
+fn append_changed<A: Allocator + Copy>(flavor: Flavor, text: &str, len: usize, out: &mut Vec<u8, A>)
+    requires len { len ≡ length (encoding (flavor_of flavor) (chars text.now)) }
+    requires room { vec_len out.old + len ≤ vec_capacity out.old }
+    ensures bytes { out.new.items ≡ out.old.items ++ encoding (flavor_of flavor) (chars text.now) }
+    ensures capacity { vec_capacity out.new ≡ vec_capacity out.old }
+{
+    let start = out.len();
+    append_zeros(len, out);
+    write_text(flavor, text, &mut out[start..]);
+}
+
+/// Writes the encoding of a text at the front of a slice that has room for it, and gives its
+/// length. It is not inlined, so that a text that stays as it is pays for none of its stack.
+#[inline(never)]
+fn write_text(flavor: Flavor, text: &str, out: &mut [u8]) -> usize
+    requires { length (encoding (flavor_of flavor) (chars text.now)) ≤ length out.old }
     ensures bytes { take result out.new ≡ encoding (flavor_of flavor) (chars text.now) }
-    ensures len { result ≤ 2 * SHORT }
+    ensures end { result ≤ length out.new }
+    ensures len { length out.new ≡ length out.old }
+{
+    match flavor {
+        Flavor::Cesu8 => write_bytes::<OneByteNull>(text.as_bytes(), out),
+        Flavor::Mutf8 => write_bytes::<TwoByteNull>(text.as_bytes(), out),
+    }
+}
+
+/// The same of a text of at most a block, inlined.
+#[inline(always)]
+fn write_block_text(flavor: Flavor, text: &str, out: &mut [u8]) -> usize
+    requires short { length text.now ≤ BLOCK }
+    requires room { length (encoding (flavor_of flavor) (chars text.now)) ≤ length out.old }
+    ensures bytes { take result out.new ≡ encoding (flavor_of flavor) (chars text.now) }
+    ensures end { result ≤ length out.new }
+    ensures len { length out.new ≡ length out.old }
 {
     match flavor {
         Flavor::Cesu8 => write_short::<OneByteNull>(text.as_bytes(), out),
@@ -92,28 +165,43 @@ fn encode_short(flavor: Flavor, text: &str, out: &mut [u8; 2 * SHORT]) -> usize
     }
 }
 
-/// Appends the encoding of a text, for which there is room. It is not inlined, so that a text that
-/// stays as it is pays for none of its stack.
+/// Writes the encoding of a text into a caller's buffer, where it fits. It is not inlined, so that
+/// a text that stays as it is pays for none of its stack.
 #[inline(never)]
-fn append_changed<A: Allocator + Copy>(flavor: Flavor, text: &str, out: &mut Vec<u8, A>)
-    requires { vec_len out.old + length (encoding (flavor_of flavor) (chars text.now))
-        ≤ vec_capacity out.old }
-    ensures bytes { out.new.items ≡ out.old.items ++ encoding (flavor_of flavor) (chars text.now) }
-    ensures capacity { vec_capacity out.new ≡ vec_capacity out.old }
+pub fn encode_to_slice(flavor: Flavor, text: &str, buf: &mut [u8]) -> Result<usize, TooShort>
+    ensures { WritesAnswer (encoding (flavor_of flavor) (chars text.now)) result buf.old buf.new }
 {
-    write_text(flavor, text, out);
+    if text.len() <= BLOCK {
+        let mut written = [0; BLOCK_ENCODED];
+        let len = write_block_text(flavor, text, &mut written);
+        return copy_to_slice(&written[..len], buf);
+    }
+    if text.len() <= SHORT / 2 {
+        return write_by_array::<HALF_ENCODED>(flavor, text, buf);
+    }
+    if text.len() <= SHORT {
+        return write_by_array::<SHORT_ENCODED>(flavor, text, buf);
+    }
+    let len = encoded_len(flavor, text);
+    if buf.len() < len {
+        return Err(TooShort::new(len));
+    }
+    write_text(flavor, text, &mut buf[..len]);
+    Ok(len)
 }
 
-/// Appends the encoding of a text, for which there is room.
-#[inline(always)]
-fn write_text<A: Allocator + Copy>(flavor: Flavor, text: &str, out: &mut Vec<u8, A>)
-    requires { vec_len out.old + length (encoding (flavor_of flavor) (chars text.now))
-        ≤ vec_capacity out.old }
-    ensures bytes { out.new.items ≡ out.old.items ++ encoding (flavor_of flavor) (chars text.now) }
-    ensures capacity { vec_capacity out.new ≡ vec_capacity out.old }
+/// The same of a text of at most half the length of an array, through that array.
+#[inline(never)]
+fn write_by_array<const LEN: usize>(
+    flavor: Flavor,
+    text: &str,
+    buf: &mut [u8],
+) -> Result<usize, TooShort>
+    requires text { 2 * length text.now ≤ LEN }
+    requires array { LEN ≤ SHORT_ENCODED }
+    ensures { WritesAnswer (encoding (flavor_of flavor) (chars text.now)) result buf.old buf.new }
 {
-    match flavor {
-        Flavor::Cesu8 => write_bytes::<OneByteNull, A>(text.as_bytes(), out),
-        Flavor::Mutf8 => write_bytes::<TwoByteNull, A>(text.as_bytes(), out),
-    }
+    let mut written = [0; LEN];
+    let len = write_text(flavor, text, &mut written);
+    copy_to_slice(&written[..len], buf)
 }

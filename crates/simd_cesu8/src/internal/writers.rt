@@ -1,8 +1,10 @@
 //! Writers into room that is there, which can't fail, and copies, each with its one request.
 
-ghost use Rattle.std.specs.Prelude.{◌≡◌, ◌+◌, ◌<◌, ◌≤◌, ◌++◌, [], length, OnOk, OnErr, IfOk, IsOk, vec_len, vec_capacity};
+ghost use Rattle.std.specs.Prelude.{◌≡◌, ◌+◌, ◌<◌, ◌≤◌, ◌++◌, [], length, take, replicate, OnOk, OnErr, IfOk, IsOk, vec_len, vec_capacity};
 ghost use Rattle.std.specs.String.{string_bytes, string_capacity};
+ghost use Rattle.simd_cesu8.specs.Slices.{WritesAnswer};
 
+use crate::error::TooShort;
 use std::alloc::{AllocError, Allocator};
 use std::mem;
 
@@ -36,6 +38,47 @@ pub fn append<A: Allocator + Copy>(bytes: &[u8], out: &mut Vec<u8, A>)
         taken.push_reserved(*byte);
     }
     *out = taken;
+}
+
+/// Appends so many zeros, for which there is room.
+#[inline(always)]
+pub fn append_zeros<A: Allocator + Copy>(count: usize, out: &mut Vec<u8, A>)
+    requires { vec_len out.old + count ≤ vec_capacity out.old }
+    ensures bytes { out.new.items ≡ out.old.items ++ replicate count 0 }
+    ensures capacity { vec_capacity out.new ≡ vec_capacity out.old }
+{
+    // A vector of its own, as in `append`.
+    let mut taken = mem::replace(out, Vec::new(*out.allocator()));
+    for _ in 0..count {
+        taken.push_reserved(0);
+    }
+    *out = taken;
+}
+
+/// Copies bytes to a place of a slice, and gives the end of them.
+#[inline(always)]
+pub fn put(bytes: &[u8], out: &mut [u8], at: usize) -> usize
+    requires { at + length bytes.now ≤ length out.old }
+    ensures bytes { take result out.new ≡ take at out.old ++ bytes.now }
+    ensures end { result ≡ at + length bytes.now }
+    ensures len { length out.new ≡ length out.old }
+{
+    let end = at + bytes.len();
+    out[at..end].copy_from_slice(bytes);
+    end
+}
+
+/// Copies bytes to the front of a caller's buffer, where they fit.
+#[inline(always)]
+pub fn copy_to_slice(bytes: &[u8], buf: &mut [u8]) -> Result<usize, TooShort>
+    ensures { WritesAnswer bytes.now result buf.old buf.new }
+{
+    let len = bytes.len();
+    if buf.len() < len {
+        return Err(TooShort::new(len));
+    }
+    buf[..len].copy_from_slice(bytes);
+    Ok(len)
 }
 
 /// A copy of some bytes, after one request for their length.

@@ -1,51 +1,47 @@
 //! What encoding makes of 32 bytes, by vectors.
 
-ghost use Rattle.std.specs.Prelude.{◌≡◌, List, Bool, ◌+◌, ◌*◌, ◌%◌, ◌/◌, ◌^◌, ◌<◌, ◌≤◌, ◌==◌, ◌++◌, map, length, take, IsTrue};
-ghost use Rattle.std.specs.List.{range_with_len};
+ghost use Rattle.std.specs.Prelude.{◌≡◌, ℕ, List, Bool, ◌+◌, ◌*◌, ◌%◌, ◌/◌, ◌^◌, ◌<◌, ◌≤◌, ◌==◌, ◌++◌, map, length, take, IsTrue};
 ghost use Rattle.std.specs.Simd.Lanes.{chunk, zip2, mask_l};
 ghost use Rattle.simd_cesu8.specs.Encoding.{Flavor, Cesu8, Mutf8};
-ghost use Rattle.simd_cesu8.specs.EncodedPlaces.{is_lead, is_null, mask, six_bits, changed_at, inserted_at, is_doubled_at, packed, places, AreShuffles};
+ghost use Rattle.simd_cesu8.specs.EncodedPlaces.{is_lead, is_null, mask, six_bits, packed, places, AreShuffles, AreLanes};
 
-use super::rows::Rows;
+use super::rows::{Rows, rows};
 use crate::internal::null_form::NullForm;
+use crate::internal::writers::put;
 use std::simd::prelude::*;
 
-/// Writes a block, and gives the end of what is written for it.
+/// How many bytes of a text make a block.
+pub const BLOCK: usize = 32;
+
+/// How many bytes the rows of a block take, when they are stored.
+const STORED: usize = 2 * BLOCK;
+
+/// Writes what the first `count` bytes of the block at a place become, and gives the end of it.
+///
+/// The rows are stored whole where they fit, and what they hold too much is written over by the
+/// next block.
 #[inline(always)]
 pub fn write_block<N: NullForm>(
     window: &[u8],
     at: usize,
-    rows: &Rows,
+    count: usize,
     out: &mut [u8],
     end: usize,
 ) -> usize
-    requires rows { AreShuffles rows.now }
     requires window { at + 35 ≤ length window.now }
-    requires room { end + 64 ≤ length out.old }
-    ensures bytes { take result out.new ≡ take end out.old ++ places N.flavor window.now at 32 }
-    ensures end { (end ≤ result) × (result ≤ end + 64) }
+    requires count { count ≤ BLOCK }
+    requires room { end + length (places N.flavor window.now at count) ≤ length out.old }
+    ensures bytes { take result out.new ≡ take end out.old ++ places N.flavor window.now at count }
+    ensures end { result ≡ end + length (places N.flavor window.now at count) }
     ensures len { length out.new ≡ length out.old }
 {
     let block = encode_block::<N>(window, at);
-    store_rows(block.seconds, block.firsts, block.doubled, rows, out, end)
-}
-
-/// Writes the first `count` bytes of a window of one block, and gives the end of what is written.
-#[inline(always)]
-pub fn write_front<N: NullForm>(
-    window: &[u8; 35],
-    count: usize,
-    rows: &Rows,
-    out: &mut [u8; 64],
-) -> usize
-    requires rows { AreShuffles rows.now }
-    requires count { count ≤ 32 }
-    ensures bytes { take result out.new ≡ places N.flavor window.now 0 count }
-    ensures end { result ≤ 64 }
-{
-    let block = encode_block::<N>(window, 0);
-    store_rows(block.seconds, block.firsts, block.doubled, rows, out, 0);
-    count + (block.doubled & ((1 << count) - 1)).count_ones() as usize
+    if STORED <= out.len() - end {
+        return store_block(&block, count, out, end);
+    }
+    let mut stored = [0; STORED];
+    let len = store_block(&block, count, &mut stored, 0);
+    put(&stored[..len], out, end)
 }
 
 /// What encoding makes of the bytes of a block. A byte becomes its lane of `seconds`, and where its
@@ -61,10 +57,7 @@ struct EncodedBlock {
 #[inline(always)]
 fn encode_block<N: NullForm>(window: &[u8], at: usize) -> EncodedBlock
     requires { at + 35 ≤ length window.now }
-    ensures seconds { result.seconds ≡ map (changed_at N.flavor window.now) (range_with_len at 32) }
-    ensures firsts { result.firsts ≡ map (inserted_at N.flavor window.now) (range_with_len at 32) }
-    ensures doubled { result.doubled
-        ≡ mask_l (map (is_doubled_at N.flavor window.now) (range_with_len at 32)) }
+    ensures { AreLanes N.flavor window.now at result.seconds result.firsts result.doubled }
 {
     let bytes = u8x32::from_slice(&window[at + 2..]);
     let lead = leads(bytes);
@@ -131,6 +124,23 @@ fn store_row(lanes: u8x16, doubled: usize, rows: &Rows, out: &mut [u8], at: usiz
     at + 8 + doubled.count_ones() as usize
 }
 
+/// Stores a block, and gives the end of what it holds for its first `count` bytes.
+#[inline(always)]
+fn store_block(block: &EncodedBlock, count: usize, out: &mut [u8], end: usize) -> usize
+    requires count { count ≤ BLOCK }
+    requires room { end + STORED ≤ length out.old }
+    ensures bytes { (f : Flavor) → (window : List ℕ) → (at : ℕ)
+        → AreLanes f window at block.now.seconds block.now.firsts block.now.doubled
+        → take result out.new ≡ take end out.old ++ places f window at count }
+    ensures end { (f : Flavor) → (window : List ℕ) → (at : ℕ)
+        → AreLanes f window at block.now.seconds block.now.firsts block.now.doubled
+        → result ≡ end + length (places f window at count) }
+    ensures len { length out.new ≡ length out.old }
+{
+    store_rows(block.seconds, block.firsts, block.doubled, rows(), out, end);
+    end + count + (block.doubled & ((1 << count) - 1)).count_ones() as usize
+}
+
 /// Stores the four rows of a block, and gives the end of what they hold.
 #[inline(always)]
 fn store_rows(
@@ -142,10 +152,10 @@ fn store_rows(
     at: usize,
 ) -> usize
     requires rows { AreShuffles rows.now }
-    requires room { at + 64 ≤ length out.old }
-    ensures bytes { (ts : List Bool) → length ts ≡ 32 → doubled ≡ mask_l ts
+    requires room { at + STORED ≤ length out.old }
+    ensures bytes { (ts : List Bool) → length ts ≡ BLOCK → doubled ≡ mask_l ts
         → take result out.new ≡ take at out.old ++ packed ts firsts seconds }
-    ensures end { (at ≤ result) × (result ≤ at + 64) }
+    ensures end { (at ≤ result) × (result ≤ at + STORED) }
     ensures len { length out.new ≡ length out.old }
 {
     let row = seconds.shuffle::<16>(

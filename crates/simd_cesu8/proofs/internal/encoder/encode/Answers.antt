@@ -1,6 +1,8 @@
 use Rattle.std.proofs.Common.{arith}
+use Rattle.simd_cesu8.specs.Internal.{flavor_of}
+use Rattle.simd_cesu8.proofs.Lengths.{length_encoding_chars}
 use Rattle.simd_cesu8.proofs.internal.encoder.encode.Goals as goal
 
-pub write_text-requires : goal.write_text-requires
-write_text-requires g c =
-    omega (arith, c.encoded_len.ensures, c.in_ok-encoded.ensures.exact, c.in_ok-encoded.ensures.len)
+pub write_block_text-len-requires-clause-room : goal.write_block_text-len-requires-clause-room
+write_block_text-len-requires-clause-room g c =
+    omega (arith, length_encoding_chars (flavor_of c.args.flavor) c.args.text.now c.utf8.text, c.if-text-le-BLOCK.true)

@@ -13,11 +13,9 @@ marks g c = record {
   six_is = c.six_bits-six_bits.ensures;
 }
 
-pub returns-clause-seconds : goal.returns-clause-seconds
-returns-clause-seconds g c = seconds_are _ _ _ _ _ _ _ _ (marks g c)
-
-pub returns-clause-firsts : goal.returns-clause-firsts
-returns-clause-firsts g c = firsts_are _ _ _ _ _ _ _ _ (marks g c)
-
-pub returns-clause-doubled : goal.returns-clause-doubled
-returns-clause-doubled g c = doubled_are _ _ _ _ _ _ _ _ (marks g c) _ c.bits.ensures
+pub returns : goal.returns
+returns g c = record {
+  seconds_are = seconds_are _ _ _ _ _ _ _ _ (marks g c);
+  firsts_are = firsts_are _ _ _ _ _ _ _ _ (marks g c);
+  doubled_is = doubled_are _ _ _ _ _ _ _ _ (marks g c) _ c.bits.ensures;
+}

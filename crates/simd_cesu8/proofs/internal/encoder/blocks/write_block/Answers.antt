@@ -1,14 +1,37 @@
-use Rattle.std.proofs.Common.{◌∙◌, ◌++◌, ap, take, map}
-use Rattle.std.proofs.lemmas.List.FromFn.{length-map-range_with_len}
-use Rattle.std.specs.List.{range_with_len}
-use Rattle.simd_cesu8.specs.EncodedPlaces.{is_doubled_at, packed}
-use Rattle.simd_cesu8.proofs.EncodedWindows.{packed_block}
+use Rattle.std.proofs.Common.{◌++◌, ap, ◌∙◌, arith, length, take}
 use Rattle.simd_cesu8.proofs.internal.encoder.blocks.write_block.Goals as goal
+
+pub returns-then-out-end-ge-STORED-clause-bytes : goal.returns-then-out-end-ge-STORED-clause-bytes
+returns-then-out-end-ge-STORED-clause-bytes g c =
+    c.store_block.ensures.bytes g.N.NullForm.flavor c.args.window.now c.args.at c.encode_block-block.ensures
+
+pub slice_bounds-put-end : goal.slice_bounds-put-end
+slice_bounds-put-end g c =
+    let f = g.N.NullForm.flavor in
+    omega (
+      arith,
+      c.store_block-len.ensures.end f c.args.window.now c.args.at c.encode_block-block.ensures,
+      ap length (c.store_block-len.ensures.bytes f c.args.window.now c.args.at c.encode_block-block.ensures),
+    )
+
+pub put-requires : goal.put-requires
+put-requires g c =
+    omega (
+      arith,
+      ap length (c.store_block-len.ensures.bytes g.N.NullForm.flavor c.args.window.now c.args.at c.encode_block-block.ensures),
+      c.requires.room,
+    )
 
 pub returns-clause-bytes : goal.returns-clause-bytes
 returns-clause-bytes g c =
-    let ts = map (is_doubled_at g.N.NullForm.flavor c.args.window.now) (range_with_len c.args.at 32) in
-    let block = c.encode_block-block.ensures in
-    c.store_rows.ensures.bytes ts (length-map-range_with_len (is_doubled_at g.N.NullForm.flavor c.args.window.now) c.args.at 32) block.doubled
+    c.put.ensures.bytes
     ∙ ap (λ l. take c.args.end c.args.out.now ++ l)
-    ((λ i. packed ts (block.firsts i) (block.seconds i)) ∙ packed_block g.N.NullForm.flavor c.args.window.now c.args.at 32)
+    (c.store_block-len.ensures.bytes g.N.NullForm.flavor c.args.window.now c.args.at c.encode_block-block.ensures)
+
+pub returns-clause-end : goal.returns-clause-end
+returns-clause-end g c =
+    omega (
+      arith,
+      c.put.ensures.end,
+      ap length (c.store_block-len.ensures.bytes g.N.NullForm.flavor c.args.window.now c.args.at c.encode_block-block.ensures),
+    )

@@ -1,0 +1,32 @@
+use Rattle.std.proofs.Common.{◌≡◌, ◌+◌, ◌*◌, ap, subst, ◌∙◌, arith, length}
+use Rattle.simd_cesu8.specs.EncodedPlaces.{IsWritten}
+use Rattle.simd_cesu8.proofs.EncodedWindows.{places_here, room_behind, written_behind}
+use Rattle.simd_cesu8.proofs.internal.encoder.windows.write_middle.Goals as goal
+
+pub write_block-end-requires-clause-room : goal.write_block-end-requires-clause-room
+write_block-end-requires-clause-room g c =
+    let f = g.N.NullForm.flavor in
+    let text = c.args.text.now in
+    let inv = c.loop-i.invariant in
+    omega (
+      arith,
+      ap length (places_here f text (32 * c.loop-i.i) 32 (omega arith)),
+      room_behind f text (32 * c.loop-i.i) 32 c.loop-i.end c.loop-i.out (omega (arith, c.requires.blocks)) inv.written
+          (omega (arith, inv.len, c.requires.room)),
+    )
+
+pub loop-i-preserved : goal.loop-i-preserved
+loop-i-preserved g c =
+    let f = g.N.NullForm.flavor in
+    let text = c.args.text.now in
+    let inv = c.loop-i.invariant in
+    let sum : 32 * c.loop-i.i + 32 ≡ 32 * (c.loop-i.i + 1) = omega arith in
+    let same = places_here f text (32 * c.loop-i.i) 32 (omega arith) in
+    let room = room_behind f text (32 * c.loop-i.i) 32 c.loop-i.end c.loop-i.out (omega (arith, c.requires.blocks)) inv.written
+    (omega (arith, inv.len, c.requires.room)) in
+    record {
+      written = subst (λ n. IsWritten f text n c.write_block-end.new.out c.write_block-end.result) sum
+          (written_behind f text (32 * c.loop-i.i) 32 _ _ _ _ _ inv.written c.write_block-end.ensures.bytes same
+          (omega (arith, c.write_block-end.ensures.end, c.write_block-end.ensures.len, ap length same, room)));
+      len = c.write_block-end.ensures.len ∙ inv.len;
+    }
