@@ -90,8 +90,9 @@ copy() {
 prove() {
     local library
     for library in simd_cesu8 java_text; do
-        [[ ! -d $top/crates/$library/out ]] ||
-            cp -R "$top/crates/$library/out" "$new/crates/$library" || exit 2
+        [[ -d $top/crates/$library/out/rlib ]] || continue
+        mkdir "$new/crates/$library/out" || exit 2
+        cp -R "$top/crates/$library/out/rlib" "$new/crates/$library/out" || exit 2
     done
     if ! (cd "$new/crates/keys" && rt run) </dev/null >"$scratch/said" 2>&1; then
         cat "$scratch/said"
