@@ -20,20 +20,8 @@ kit=$(dirname "$(dirname "$(readlink -f "$(command -v rt)")")")
 scratch=$(mktemp -d) || exit 2
 trap 'rm -rf "$scratch"' EXIT
 
-wrong=0
-
-# Notes that something is wrong: `wrong WHAT`.
-wrong() {
-    echo "wrong: $1"
-    wrong=1
-}
-
-# Runs a command, and prints what it said where it fails: `quietly COMMAND..`.
-quietly() {
-    "$@" </dev/null >"$scratch/said" 2>&1 && return
-    cat "$scratch/said"
-    return 1
-}
+# shellcheck source=tests/compilers.sh
+source "$top/tests/compilers.sh" || exit 2
 
 # In a clean clone this proves the crate and the library below it first.
 build_library() {
@@ -43,36 +31,6 @@ build_library() {
         exit 2
     fi
     cp "$crate/out/libcesu8_static.a" "$scratch/" || exit 2
-}
-
-# Whether a compiler builds the program that stands in a file: `can_build WHAT COMPILER ARGUMENT..`.
-# Where it does not, WHAT is not run.
-can_build() {
-    local what=$1
-    shift
-    if ! command -v "$1" >/dev/null; then
-        echo "$1 is not here: $what not run"
-        return 1
-    fi
-    if ! quietly "$@"; then
-        echo "$1 is here and cannot be run: $what not run"
-        return 1
-    fi
-}
-
-can_build_c() {
-    printf '#include <stdio.h>\nint main(void) { return puts("") < 0; }\n' >"$scratch/probe.c"
-    can_build "$1" cc -o "$scratch/probe" "$scratch/probe.c"
-}
-
-can_build_rust() {
-    echo 'fn main() {}' >"$scratch/probe.rs"
-    can_build "$1" rustc --edition 2024 -o "$scratch/probe" "$scratch/probe.rs"
-}
-
-# The functions that the crate exports.
-exports() {
-    sed -n 's/^pub extern "C" fn cesu8_\([a-z0-9_]*\).*/\1/p' "$crate"/src/*.rt
 }
 
 # That the table of tests/exports.c, the header and the chooser have each of them.

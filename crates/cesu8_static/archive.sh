@@ -38,4 +38,4 @@ done
 cc -std=c11 -O2 -fPIC -Wall -Wextra -Werror -I "$crate/include" -c -o "$scratch/chooser.o" \
     "$crate/chooser.c"
 (cd "$scratch" && ar x "$kit/c/liblibc_c.a")
-ar rcs "$archive" "$scratch"/*.o
+ar rcsD "$archive" "$scratch"/*.o

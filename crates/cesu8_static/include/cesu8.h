@@ -7,6 +7,10 @@
 #include <stddef.h>
 #include <stdint.h>
 
+// The version, as a number, 10000 * first + 100 * second + third, and as a string.
+#define CESU8_VERSION 10000
+#define CESU8_VERSION_STRING "1.0.0"
+
 #ifdef __cplusplus
 extern "C" {
 #endif

@@ -1,0 +1,140 @@
+#!/usr/bin/env bash
+# Makes a new repository with a copy of the libraries by vendor.sh and one crate, whose proof cites
+# a clause and a law, and proves and runs that. It looks that the copy has what it needs and no
+# more, that git takes nothing that `rt` made, and that a second copy changes nothing. The status is
+# 0 where nothing is wrong.
+#
+# What is kept of the proof of the same sources here is taken over, so that they are not proved
+# twice. In a clean clone there is none, and the proof takes minutes.
+#
+# It needs the kit's `rt`, bash, grep, sed and the core utilities, and for the look at git, git.
+set -u
+unset CDPATH
+export LC_ALL=C
+
+top=$(cd "$(dirname "${BASH_SOURCE[0]}")/.." && pwd) || exit 2
+scratch=$(mktemp -d) || exit 2
+trap 'rm -rf "$scratch"' EXIT
+
+wrong=0
+
+# Notes that something is wrong: `wrong WHAT`.
+wrong() {
+    echo "wrong: $1"
+    wrong=1
+}
+
+# The crate of the new repository: the program that docs/CALLING.md shows, and a module whose proof
+# cites a clause and a law.
+write_crate() {
+    mkdir -p "$1/src" "$1/proofs/round_trip/encode_and_decode" || exit 2
+    cat >"$1/src/main.rt" <<'PROGRAM'
+//! Prints how many bytes the key of a text has, and whether it is borrowed.
+#![tactic(auto)]
+
+use std::io;
+
+fn main(rt: HostRuntime) -> io::Result<()> {
+    let key = simd_cesu8::encode(rt.alloc(), "\u{1F496}")?;
+    println!(rt; "{} bytes, borrowed: {}", key.as_bytes().len(), key.is_borrowed())
+}
+PROGRAM
+    printf '\npub mod round_trip;\n' >>"$1/src/main.rt"
+    cat >"$1/src/round_trip.rt" <<'MODULE'
+ghost use Rattle.std.specs.Prelude.{◌≡◌, IfOk};
+ghost use Rattle.std.specs.String.{string_bytes};
+
+use simd_cesu8::{DecodeFault, laws};
+use std::alloc::{AllocError, Global};
+
+pub fn encode_and_decode(alloc: Global, text: &str) -> Result<String, AllocError>
+    ensures { IfOk result (λ back. string_bytes back ≡ text.now) }
+{
+    laws::inverse();
+    let encoded = simd_cesu8::encode(alloc, text)?;
+    match simd_cesu8::decode_strict(alloc, encoded.as_bytes()) {
+        Ok(decoded) => decoded.into_string(alloc),
+        Err(DecodeFault::Memory(error)) => Err(error),
+        // An encoding is never refused.
+        Err(DecodeFault::Invalid(_)) => unreachable!(),
+    }
+}
+MODULE
+    sed 's/Rattle\.uses\.proofs\./Rattle.keys.proofs./' \
+        "$top/crates/uses/proofs/round_trip/encode_and_decode/Answers.antt" \
+        >"$1/proofs/round_trip/encode_and_decode/Answers.antt" || exit 2
+}
+
+# What a copy has to have: the files of three folders, and four more.
+wanted_files() {
+    local library
+    for library in simd_cesu8 java_text; do
+        (cd "$top/crates" && find "$library/src" "$library/specs" "$library/proofs" -type f)
+        printf "$library/%s\n" .gitignore LICENSE-APACHE LICENSE-MIT VERSION
+    done | sort
+}
+
+# What it has, but for what `rt` made.
+copied_files() {
+    (cd "$new/crates" && find simd_cesu8 java_text -type f ! -path '*/out/*' | sort)
+}
+
+# Copies the libraries, after which crates.txt has these lines: `copy LINES`.
+copy() {
+    "$top/vendor.sh" "$new" >>"$new/crates.txt" || wrong 'vendor.sh fails'
+    [[ $(<"$new/crates.txt") == "$1" ]] || wrong "crates.txt has other lines than $1"
+    diff <(wanted_files) <(copied_files) || wrong 'the copy has other files'
+}
+
+# Proves and runs the crate, over what was proved of these sources before.
+prove() {
+    local library
+    for library in simd_cesu8 java_text; do
+        [[ -d $top/crates/$library/out/rlib ]] || continue
+        mkdir "$new/crates/$library/out" || exit 2
+        cp -R "$top/crates/$library/out/rlib" "$new/crates/$library/out" || exit 2
+    done
+    if ! (cd "$new/crates/keys" && rt run) </dev/null >"$scratch/said" 2>&1; then
+        cat "$scratch/said"
+        wrong 'the crate is not proved'
+    elif ! grep -qx '6 bytes, borrowed: false' "$scratch/said"; then
+        cat "$scratch/said"
+        wrong 'the crate prints something else'
+    fi
+}
+
+# That git takes nothing which `rt` made in the copy.
+look_at_git() {
+    if ! command -v git >/dev/null; then
+        echo 'git is not here: what it would take is not looked at'
+        return
+    fi
+    (cd "$new" && git init -q . && git add crates/simd_cesu8 crates/java_text) ||
+        wrong 'git takes no copy'
+    if (cd "$new" && git ls-files) | grep '/out/'; then
+        wrong 'git takes what rt made'
+    fi
+}
+
+lines=$'simd_cesu8: simdutf8\njava_text: simd_cesu8'
+new=$scratch/new
+mkdir "$new" || exit 2
+copy "$lines"
+write_crate "$new/crates/keys"
+echo 'keys: simd_cesu8' >>"$new/crates.txt"
+prove
+look_at_git
+echo 'old' >"$new/crates/simd_cesu8/src/old.rt"
+copy "$lines"$'\nkeys: simd_cesu8'
+
+# A repository with no folder crates, and one with a library of this name that is its own.
+mkdir -p "$scratch/flat" "$scratch/other/crates/simd_cesu8/src" || exit 2
+echo 'keys: simd_cesu8' >"$scratch/flat/crates.txt"
+"$top/vendor.sh" "$scratch/flat" >/dev/null || wrong 'vendor.sh fails beside crates.txt'
+[[ -f $scratch/flat/java_text/src/lib.rt ]] || wrong 'the copy does not stand beside crates.txt'
+"$top/vendor.sh" "$scratch/other" >/dev/null 2>&1 && wrong 'vendor.sh replaces what it did not copy'
+
+if ((wrong == 0)); then
+    echo 'a new repository with a copy of the libraries is proved'
+fi
+((wrong == 0))
