@@ -32,6 +32,12 @@ kit=$(dirname "$(dirname "$(readlink -f "$(command -v rt)")")")
 version=$(<"$top/VERSION")
 major=${version%%.*}
 name=cesu8-$version-x86_64-linux
+commit=$(git -C "$top" rev-parse HEAD)
+seconds=$(git -C "$top" log -1 --format=%ct)
+changed=$(git --no-optional-locks -C "$top" status --porcelain --untracked-files=no)
+changes=${changed:+, with changes that are not committed}
+identity=$(rt version)
+compiler=$(cc --version | sed -n 1p)
 scratch=$(mktemp -d)
 trap 'rm -rf "$scratch"' EXIT
 release=$scratch/$name
@@ -64,26 +70,9 @@ page() {
     sed 's/\[\([^]]*\)\]([^)]*)/\1/g' "$top/$1" >"$release/${1##*/}"
 }
 
-# The commit, and whether files differ from it.
-commit() {
-    local changed changes=''
-    changed=$(git --no-optional-locks -C "$top" status --porcelain --untracked-files=no)
-    [[ -z $changed ]] || changes=', with changes that are not committed'
-    echo "$(git -C "$top" rev-parse HEAD)$changes"
-}
-
 # The newest version of the C library whose symbols these files name: `c_library FILE..`.
 c_library() {
     objdump -T "$@" | grep -o 'GLIBC_[0-9.]*' | sed 's/^GLIBC_//' | sort -Vu | tail -n 1
-}
-
-built_from() {
-    echo "cesu8 $version"
-    echo "commit $(commit)"
-    echo "kit $(rt version)"
-    echo "compiler $(cc --version | head -n 1)"
-    echo "needs Linux on x86-64-v2, and of the GNU C library version" \
-        "$(c_library "$release/bin/cesu8_cli" "$release/lib/libcesu8.so.$major")"
 }
 
 mkdir -p "$release/bin" "$release/include" "$release/lib" "$release/examples"
@@ -103,12 +92,19 @@ done
 cp "$top/LICENSE-APACHE" "$top/LICENSE-MIT" "$release"
 # The kit's test of UTF-8 is in the library too.
 cp "$kit/rattle/simdutf8/LICENSE" "$release/LICENSE-simdutf8"
-built_from >"$release/BUILT-FROM"
+needed=$(c_library "$release/bin/cesu8_cli" "$release/lib/libcesu8.so.$major")
+cat >"$release/BUILT-FROM" <<BUILT
+cesu8 $version
+commit $commit$changes
+kit $identity
+compiler $compiler
+needs Linux on x86-64-v2, and the GNU C library $needed
+BUILT
 
 find "$release" -type f -exec chmod 644 {} +
 chmod 755 "$release/bin/cesu8_cli" "$release/install.sh"
 tar --create --format=ustar --sort=name --owner=0 --group=0 --numeric-owner \
-    --mtime="@$(git -C "$top" log -1 --format=%ct)" -C "$scratch" "$name" |
+    --mtime="@$seconds" -C "$scratch" "$name" |
     gzip -n -9 >"$folder/$name.tar.gz"
 (cd "$folder" && sha256sum "$name.tar.gz" >SHA256SUMS)
 echo "$folder/$name.tar.gz"
