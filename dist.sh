@@ -90,8 +90,9 @@ for file in docs/C.md docs/PROGRAM.md CHANGELOG.md; do
     page "$file"
 done
 cp "$top/LICENSE-APACHE" "$top/LICENSE-MIT" "$release"
-# The kit's test of UTF-8 is in the library too.
+# What the library uses of the kit is in it too.
 cp "$kit/rattle/simdutf8/LICENSE" "$release/LICENSE-simdutf8"
+cp "$kit/rattle/percent_encoding/LICENSE-MIT" "$release/LICENSE-percent_encoding"
 needed=$(c_library "$release/bin/cesu8_cli" "$release/lib/libcesu8.so.$major")
 cat >"$release/BUILT-FROM" <<BUILT
 cesu8 $version

@@ -116,7 +116,7 @@ look_at_git() {
     fi
 }
 
-lines=$'simd_cesu8: simdutf8\njava_text: simd_cesu8'
+lines=$'simd_cesu8: simdutf8 percent_encoding\njava_text: simd_cesu8'
 new=$scratch/new
 mkdir "$new" || exit 2
 copy "$lines"
