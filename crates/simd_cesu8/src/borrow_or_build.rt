@@ -49,7 +49,7 @@ const FRONT: usize = 512;
 /// Where they are not, their front mostly shows it, and the others are not tested.
 ///
 /// A text comes back in registers, where a `Result` with it would go through memory.
-#[inline(never)]
+#[inline(always)]
 fn whole_text(bytes: &[u8]) -> &str
     ensures whole { length result.now ≡ length bytes.now
         → (result.now ≡ bytes.now) × IsUtf8 bytes.now }

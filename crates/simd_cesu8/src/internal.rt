@@ -45,7 +45,8 @@ pub struct DecodeOptions {
 pub fn contains_changed(flavor: Flavor, bytes: &[u8]) -> bool
     ensures { IsTrue result ↔ Any (IsChangedByte (flavor_of flavor)) bytes.now }
 {
-    if bytes.len() <= SHORT {
+    // From here on the kernels test four vectors at once.
+    if bytes.len() < SHORT {
         return short_contains_changed(flavor, bytes);
     }
     match flavor {

@@ -47,6 +47,8 @@ mod order;
 #[cfg(test)]
 mod pattern;
 #[cfg(test)]
+mod short_looks;
+#[cfg(test)]
 mod splits;
 #[cfg(test)]
 mod windows;
