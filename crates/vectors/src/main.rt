@@ -47,6 +47,8 @@ mod order;
 #[cfg(test)]
 mod pattern;
 #[cfg(test)]
+mod slices;
+#[cfg(test)]
 mod splits;
 #[cfg(test)]
 mod windows;
