@@ -76,3 +76,17 @@ fn both_are_errors(rt: HostRuntime) -> Result<(), Fail> {
     assert_eq!(rt; shown.as_str(), "out of memory");
     Ok(())
 }
+
+#[test]
+fn too_short_is_shown(rt: HostRuntime) -> Result<(), Fail> {
+    let fault = simd_cesu8::encode_to_slice("\u{10400}", &mut [])
+        .err()
+        .ok_or("nothing is enough")?;
+    let plain = format!(in rt.alloc(); "{fault}")?;
+    assert_eq!(rt; plain.as_str(), "buffer too short");
+    let wide = format!(in rt.alloc(); "{fault:>20}")?;
+    assert_eq!(rt; wide.as_str(), "buffer too short");
+    let debug = format!(in rt.alloc(); "{fault:?}")?;
+    assert_eq!(rt; debug.as_str(), "TooShort { needed: 6 }");
+    Ok(())
+}

@@ -48,6 +48,7 @@ mod order;
 mod pattern;
 #[cfg(test)]
 mod short_looks;
+mod slices;
 #[cfg(test)]
 mod splits;
 #[cfg(test)]

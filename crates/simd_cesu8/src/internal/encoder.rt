@@ -45,9 +45,10 @@ const HALF_ENCODED: usize = SHORT;
 
 const BLOCK_ENCODED: usize = 2 * BLOCK;
 
-/// The encoding of a text, after one request for exactly its length. It is not inlined, so that a
-/// text that is borrowed pays for none of its stack.
-#[inline(never)]
+/// The encoding of a text, after one request for exactly its length. It is inlined, so that no
+/// answer is handed on twice; what it calls is not, so that a text that is borrowed pays for no
+/// stack, and a text of a block for none but its own.
+#[inline(always)]
 pub fn encode<A: Allocator + Copy>(
     alloc: A,
     flavor: Flavor,
@@ -59,40 +60,51 @@ pub fn encode<A: Allocator + Copy>(
         vec_capacity encoded ≡ length (encoding (flavor_of flavor) (chars text.now))) }
 {
     if text.len() <= BLOCK {
-        let mut written = [0; BLOCK_ENCODED];
-        let len = write_block_text(flavor, text, &mut written);
-        return copy(alloc, &written[..len]);
+        encode_block_text(alloc, flavor, text)
+    } else {
+        encode_longer(alloc, flavor, text)
     }
-    if text.len() <= SHORT / 2 {
-        return encode_by_array::<A, HALF_ENCODED>(alloc, flavor, text);
-    }
-    if text.len() <= SHORT {
-        return encode_by_array::<A, SHORT_ENCODED>(alloc, flavor, text);
-    }
-    let len = encoded_len(flavor, text);
-    let mut encoded = Vec::with_capacity(alloc, len)?;
-    append_changed(flavor, text, len, &mut encoded);
-    Ok(encoded)
 }
 
-/// The encoding of a text of at most half the length of an array, through that array. It is not
-/// inlined, so that no other text pays for the array.
+/// The encoding of a text of at most a block.
 #[inline(never)]
-fn encode_by_array<A: Allocator + Copy, const LEN: usize>(
+fn encode_block_text<A: Allocator + Copy>(
     alloc: A,
     flavor: Flavor,
     text: &str,
 ) -> Result<Vec<u8, A>, AllocError>
-    requires text { 2 * length text.now ≤ LEN }
-    requires array { LEN ≤ SHORT_ENCODED }
+    requires { length text.now ≤ BLOCK }
     ensures bytes { IfOk result (λ encoded.
         encoded.items ≡ encoding (flavor_of flavor) (chars text.now)) }
     ensures capacity { IfOk result (λ encoded.
         vec_capacity encoded ≡ length (encoding (flavor_of flavor) (chars text.now))) }
 {
-    let mut written = [0; LEN];
-    let len = write_text(flavor, text, &mut written);
+    let mut written = [0; BLOCK_ENCODED];
+    let len = write_block_text(flavor, text, &mut written);
     copy(alloc, &written[..len])
+}
+
+/// The encoding of a longer text.
+#[inline(never)]
+fn encode_longer<A: Allocator + Copy>(
+    alloc: A,
+    flavor: Flavor,
+    text: &str,
+) -> Result<Vec<u8, A>, AllocError>
+    ensures bytes { IfOk result (λ encoded.
+        encoded.items ≡ encoding (flavor_of flavor) (chars text.now)) }
+    ensures capacity { IfOk result (λ encoded.
+        vec_capacity encoded ≡ length (encoding (flavor_of flavor) (chars text.now))) }
+{
+    if text.len() <= SHORT {
+        let mut written = [0; SHORT_ENCODED];
+        let len = write_text(flavor, text, &mut written);
+        return copy(alloc, &written[..len]);
+    }
+    let len = encoded_len(flavor, text);
+    let mut encoded = Vec::with_capacity(alloc, len)?;
+    append_changed(flavor, text, len, &mut encoded);
+    Ok(encoded)
 }
 
 /// Appends the encoding of a text, which has this length, after one request, where there is no
@@ -176,11 +188,8 @@ pub fn encode_to_slice(flavor: Flavor, text: &str, buf: &mut [u8]) -> Result<usi
         let len = write_block_text(flavor, text, &mut written);
         return copy_to_slice(&written[..len], buf);
     }
-    if text.len() <= SHORT / 2 {
-        return write_by_array::<HALF_ENCODED>(flavor, text, buf);
-    }
     if text.len() <= SHORT {
-        return write_by_array::<SHORT_ENCODED>(flavor, text, buf);
+        return encode_short_to_slice(flavor, text, buf);
     }
     let len = encoded_len(flavor, text);
     if buf.len() < len {
@@ -190,18 +199,13 @@ pub fn encode_to_slice(flavor: Flavor, text: &str, buf: &mut [u8]) -> Result<usi
     Ok(len)
 }
 
-/// The same of a text of at most half the length of an array, through that array.
+/// The same of a short text, through an array on the stack.
 #[inline(never)]
-fn write_by_array<const LEN: usize>(
-    flavor: Flavor,
-    text: &str,
-    buf: &mut [u8],
-) -> Result<usize, TooShort>
-    requires text { 2 * length text.now ≤ LEN }
-    requires array { LEN ≤ SHORT_ENCODED }
+fn encode_short_to_slice(flavor: Flavor, text: &str, buf: &mut [u8]) -> Result<usize, TooShort>
+    requires { length text.now ≤ SHORT }
     ensures { WritesAnswer (encoding (flavor_of flavor) (chars text.now)) result buf.old buf.new }
 {
-    let mut written = [0; LEN];
+    let mut written = [0; SHORT_ENCODED];
     let len = write_text(flavor, text, &mut written);
     copy_to_slice(&written[..len], buf)
 }

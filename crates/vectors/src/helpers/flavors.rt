@@ -1,6 +1,6 @@
 //! The calls that encode and decode, by the name of the encoding.
 
-use simd_cesu8::{CountedText, CowBytes, CowText, DecodeFault, mutf8};
+use simd_cesu8::{CountedText, CowBytes, CowText, DecodeFault, TooShort, mutf8};
 use std::alloc::{AllocError, Global};
 
 /// One of the two encodings.
@@ -34,6 +34,14 @@ pub fn encode_into(flavor: Flavor, text: &str, buf: &mut Vec<u8>) -> Result<(), 
     match flavor {
         Flavor::Cesu8 => simd_cesu8::encode_into(text, buf),
         Flavor::Mutf8 => mutf8::encode_into(text, buf),
+    }
+}
+
+/// The call that encodes into a buffer of the caller's.
+pub fn encode_to_slice(flavor: Flavor, text: &str, buf: &mut [u8]) -> Result<usize, TooShort> {
+    match flavor {
+        Flavor::Cesu8 => simd_cesu8::encode_to_slice(text, buf),
+        Flavor::Mutf8 => mutf8::encode_to_slice(text, buf),
     }
 }
 
