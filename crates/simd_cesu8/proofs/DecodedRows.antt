@@ -306,17 +306,14 @@ module _ (gone damaged bytes : List ℕ) where
 
 -- ---- nothing gone or damaged
 
-low_both : (g d : ℕ) → is_high (bit_or g d) ≡ false → (is_high g ≡ false) × (is_high d ≡ false)
-low_both g d e = (grind (arith, nat_tests, le_or_l g d), grind (arith, nat_tests, le_or_r g d))
-
 -- Where no lane is gone or damaged, the bytes are written as they are.
 pub nothing_changes : (gone damaged bytes : List ℕ) → length gone ≡ length damaged → length gone ≡ length bytes →
-    mask_l (map is_high (zip2 bit_or gone damaged)) ≡ 0 → written_lanes gone damaged bytes ≡ bytes
-nothing_changes [] damaged [] e f none = refl
-nothing_changes [] damaged (b ∷ bytes) e f none = absurd (omega arith)
-nothing_changes (g ∷ gone) [] bytes e f none = absurd (omega arith)
-nothing_changes (g ∷ gone) (d ∷ damaged) [] e f none = absurd (omega arith)
-nothing_changes (g ∷ gone) (d ∷ damaged) (b ∷ bytes) e f none =
-    let here = unset (is_high (bit_or g d)) (mask_l (map is_high (zip2 bit_or gone damaged))) none in
-    let low = low_both g d here.0 in
-    rw (low.0, low.1) (ap (λ l. b ∷ l) (nothing_changes gone damaged bytes (omega arith) (omega arith) here.1))
+    mask_l (map is_high gone) ≡ 0 → mask_l (map is_high damaged) ≡ 0 → written_lanes gone damaged bytes ≡ bytes
+nothing_changes [] damaged [] e f none whole = refl
+nothing_changes [] damaged (b ∷ bytes) e f none whole = absurd (omega arith)
+nothing_changes (g ∷ gone) [] bytes e f none whole = absurd (omega arith)
+nothing_changes (g ∷ gone) (d ∷ damaged) [] e f none whole = absurd (omega arith)
+nothing_changes (g ∷ gone) (d ∷ damaged) (b ∷ bytes) e f none whole =
+    let stays = unset (is_high g) (mask_l (map is_high gone)) none in
+    let unharmed = unset (is_high d) (mask_l (map is_high damaged)) whole in
+    rw (stays.0, unharmed.0) (ap (λ l. b ∷ l) (nothing_changes gone damaged bytes (omega arith) (omega arith) stays.1 unharmed.1))

@@ -48,6 +48,7 @@ mod order;
 mod pattern;
 #[cfg(test)]
 mod short_looks;
+#[cfg(test)]
 mod slices;
 #[cfg(test)]
 mod splits;

@@ -21,14 +21,30 @@ fn check_buffer(rt: &impl Abort, flavor: Flavor, text: &str, encoded: &[u8], buf
     match encode_to_slice(flavor, text, buf) {
         Ok(written) => {
             assert_eq!(rt; written, encoded.len(), "{flavor:?} of {text:?} in {room}");
-            assert!(rt; buf.starts_with(encoded), "{flavor:?} of {text:?} in {room}");
+            assert!(rt;
+                buf.starts_with(encoded),
+                "{flavor:?} of {text:?} in {room}"
+            );
             let behind = buf.get(written..).unwrap_or(&[]);
-            assert!(rt; is_untouched(behind), "behind {flavor:?} of {text:?} in {room}");
+            assert!(rt;
+                is_untouched(behind),
+                "behind {flavor:?} of {text:?} in {room}"
+            );
         }
         Err(fault) => {
-            assert!(rt; room < encoded.len(), "{flavor:?} of {text:?} fits in {room}");
-            assert_eq!(rt; fault.needed(), encoded.len(), "{flavor:?} of {text:?} in {room}");
-            assert!(rt; is_untouched(buf), "{flavor:?} of {text:?} after a fault in {room}");
+            assert!(rt;
+                room < encoded.len(),
+                "{flavor:?} of {text:?} fits in {room}"
+            );
+            assert_eq!(rt;
+                fault.needed(),
+                encoded.len(),
+                "{flavor:?} of {text:?} in {room}"
+            );
+            assert!(rt;
+                is_untouched(buf),
+                "{flavor:?} of {text:?} after a fault in {room}"
+            );
         }
     }
 }

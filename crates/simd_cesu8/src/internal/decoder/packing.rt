@@ -29,10 +29,6 @@ pub fn store(parts: Parts, rows: &Rows, out: &mut [u8], at: usize) -> usize
     ensures end { (at ≤ result) × (result ≤ at + 96) }
     ensures len { length out.new ≡ length out.old }
 {
-    if highest_bits(parts.gone | parts.damaged) == 0 {
-        parts.bytes.copy_to_slice(&mut out[at..]);
-        return at + 32;
-    }
     if highest_bits(parts.damaged) == 0 {
         return store_whole(parts, out, at);
     }
@@ -65,6 +61,10 @@ fn store_whole(parts: Parts, out: &mut [u8], at: usize) -> usize
     ensures len { length out.new ≡ length out.old }
 {
     let gone = highest_bits(parts.gone) as usize;
+    if gone == 0 {
+        parts.bytes.copy_to_slice(&mut out[at..]);
+        return at + 32;
+    }
     let first = parts.bytes.extract::<0, 16>();
     let third = parts.bytes.extract::<16, 16>();
     let at = store_eight(first, gone & 0xFF, out, at);

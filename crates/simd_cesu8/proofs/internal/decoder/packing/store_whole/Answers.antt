@@ -1,8 +1,15 @@
-use Rattle.std.proofs.Common.{ℕ, ◌+◌, ◌≤◌, ap, ◌∙◌, arith}
+use Rattle.std.proofs.Common.{ℕ, ◌+◌, ◌≤◌, ◌++◌, take, sym, ap, ◌∙◌, arith}
+use Rattle.std.proofs.lemmas.Simd.{take_more_put_chunk}
 use lib.Lanes.{chunk}
 use Rattle.simd_cesu8.proofs.EncodedRows.{lanes_of_first}
-use Rattle.simd_cesu8.proofs.DecodedRows.{stored_whole}
+use Rattle.simd_cesu8.proofs.DecodedRows.{stored_whole, nothing_changes}
 use Rattle.simd_cesu8.proofs.internal.decoder.packing.store_whole.Goals as goal
+
+pub returns-then-gone-eq0-clause-bytes : goal.returns-then-gone-eq0-clause-bytes
+returns-then-gone-eq0-clause-bytes c =
+    take_more_put_chunk c.args.at c.args.out.now c.args.parts.bytes _ (omega arith) (omega (arith, c.requires.room))
+    ∙ ap (λ l. take c.args.at c.args.out.now ++ l) (sym (nothing_changes c.args.parts.gone c.args.parts.damaged c.args.parts.bytes
+    (omega arith) (omega arith) (sym c.highest_bits-gone.ensures ∙ c.if-gone-eq0.true) c.requires.whole))
 
 pub returns-clause-bytes : goal.returns-clause-bytes
 returns-clause-bytes c =
