@@ -2,8 +2,8 @@
 //!
 //! An encoded character is told by its own six bytes at most, and no two overlap. So what becomes of
 //! a byte in the lossy reading is told by the bytes about it, and `places` and `parts` find it for 32
-//! bytes at a time, with no branch on what a byte is: it stays, changes, goes, or is damaged and
-//! replaced. In strict reading nothing may be damaged. `lengths` adds up how long that is.
+//! bytes at a time, with no branch on what a single byte is: it stays, changes, goes, or is damaged
+//! and replaced. In strict reading nothing may be damaged. `lengths` adds up how long that is.
 //!
 //! Longer input goes by windows. Where the text is whole, a window is joined as it stands, which is
 //! faster; where that gives no text, this window and a few after it are read by places.
