@@ -1,10 +1,9 @@
 -- How what becomes of four bytes is packed by a shuffle, and what that is for the lanes of three vectors.
-use Rattle.std.proofs.Common.{◌≡◌, ℕ, zero, suc, ◌+◌, ◌*◌, ◌/◌, ◌%◌, ◌-◌, ◌^◌, ◌<◌, ◌≤◌, Bool, true, false, cond, ◌&&◌, List, [], ◌∷◌, ◌++◌, map, length, take, drop, get_or, replicate, eqb, leb, refl, sym, ap, ◌∙◌, arith, w8, eqb-true, length-append, append-nil, append_assoc, bit_and, bit_or}
+use Rattle.std.proofs.Common.{◌≡◌, ℕ, zero, suc, ◌+◌, ◌*◌, ◌/◌, ◌%◌, ◌-◌, ◌^◌, ◌<◌, ◌≤◌, Bool, true, false, cond, ◌&&◌, List, [], ◌∷◌, ◌++◌, map, length, take, drop, get_or, replicate, eqb, leb, refl, sym, ap, ◌∙◌, arith, w8, eqb-true, length-append, append-nil, append_assoc, bit_and}
 use Rattle.std.specs.List.{range_with_len}
 use Rattle.std.proofs.lemmas.Bool.{agree_below_at, and_parts, leb-true}
-use Rattle.std.proofs.lemmas.Bool.Decides.{nat_tests}
 use Rattle.std.proofs.lemmas.List.{length-map, length-drop, map-append, take_at, drop_at, drop_all, drop-drop, take-map, drop-map, drop-replicate, take-replicate}
-use Rattle.std.proofs.lemmas.Nat.{and_mask, and_le_r, le_or_l, le_or_r}
+use Rattle.std.proofs.lemmas.Nat.{and_mask, and_le_r}
 use Rattle.std.proofs.lemmas.Simd.{swz_l, SwzOk, SwzOk-from_below, zip2_splat, length-zip2, length-chunk, map-map, pick_l-range_with_len, Each1-all, Each1-zip2, Each2-splat}
 use lib.Lanes.{zip2, mask_l, put_chunk, chunk, pick_l, Each1}
 use Rattle.simd_cesu8.specs.DecodedLanes.{is_high, written_for, written, written_lanes, kept_of, shuffle_of_four, shuffle_of_eight}
