@@ -71,7 +71,7 @@ unsafe extern "C" {
 
 const RTLD_NOW: c_int = 2;
 
-#[derive(Clone, Copy, PartialEq)]
+#[derive(Clone, Copy, PartialEq, Eq, PartialOrd, Ord)]
 pub enum Flavor {
     Cesu8,
     Mutf8,
@@ -159,6 +159,14 @@ pub fn call_name(action: Action, flavor: Flavor) -> String {
     format!("{prefix}{}", action.title())
 }
 
+/// An encoding as the head of a column.
+pub fn encoding_title(flavor: Flavor) -> &'static str {
+    match flavor {
+        Flavor::Cesu8 => "CESU-8",
+        Flavor::Mutf8 => "MUTF-8",
+    }
+}
+
 /// A call as the library's pages name it.
 pub fn path(action: Action, flavor: Flavor) -> String {
     match flavor {
@@ -178,6 +186,8 @@ pub enum MeasuredCall {
 /// alone.
 pub struct Codec {
     pub name: String,
+    /// The processor level that this library is built for; none of another codec.
+    pub level: Option<String>,
     calls: Vec<(String, Call)>,
     each_calls: Vec<(String, EachCall)>,
 }
@@ -201,14 +211,25 @@ fn named<C: Copy>(calls: &[(String, C)], name: &str) -> Option<C> {
 }
 
 impl Codec {
-    pub fn linked() -> Codec {
+    pub fn linked(level: &str) -> Codec {
         Codec {
             name: "simd_cesu8".to_string(),
+            level: Some(level.to_string()),
             calls: owned(LINKED),
             each_calls: owned(LINKED_EACH),
         }
     }
 
+    /// This library's build for another level.
+    pub fn built_for(level: &str, file: &str) -> Result<Codec, String> {
+        let codec = Codec::opened("simd_cesu8", file)?;
+        Ok(Codec {
+            level: Some(level.to_string()),
+            ..codec
+        })
+    }
+
+    /// Another codec.
     pub fn opened(name: &str, file: &str) -> Result<Codec, String> {
         let path = CString::new(file).map_err(|e| e.to_string())?;
         let object = unsafe { dlopen(path.as_ptr(), RTLD_NOW) };
@@ -219,6 +240,7 @@ impl Codec {
         }
         let mut codec = Codec {
             name: name.to_string(),
+            level: None,
             calls: Vec::new(),
             each_calls: Vec::new(),
         };
@@ -309,14 +331,5 @@ impl Question<'_> {
             self.input.len(),
             self.kind
         ))
-    }
-
-    /// A codec's call, which answers rightly, or none where the codec has no such call.
-    pub fn tested(&self, codec: &Codec) -> Result<Option<Call>, String> {
-        let call = codec.call(self.action, self.flavor);
-        if let Some(call) = call {
-            self.check(codec, call)?;
-        }
-        Ok(call)
     }
 }

@@ -1,44 +1,42 @@
 //! Measures the library's calls, through the static library `measured`, beside a plain copy and
 //! `str::from_utf8`, in one run on one machine. README.md says how to run it and what it prints.
 //!
-//! Usage: driver [--rounds N] [--machine WORDS] [--picture FILE] [NAME=FILE ..]
+//! Usage: driver --level LEVEL [--rounds N] [--runs N] [--machine WORDS] [--picture FILE]
+//!     [--against LEVEL=FILE].. [NAME=FILE ..]
 //!
-//! Each FILE is a shared object with the calls that `bench/cesu8_static.h`
-//! declares, or some of them, which is measured in the same rounds.
+//! Each FILE behind `=` is a shared object with the calls that `bench/cesu8_static.h` declares, or
+//! some of them: this library's build for another level, or another codec. All are measured in the
+//! same rounds.
 
-mod built;
+mod calls;
 mod codec;
-mod damage;
 mod expected;
+mod grid;
 mod hostile;
 mod inputs;
 mod kernels;
-mod lengths;
 mod picture;
 mod sets;
 mod short;
-mod table;
 mod texts;
 mod timing;
 
-use crate::built::built_table;
-use crate::codec::{Action, Codec};
-use crate::damage::damage_table;
-use crate::hostile::HostileTable;
-use crate::kernels::kernel_table;
+use crate::codec::Codec;
+use crate::grid::Grid;
 use crate::picture::{Run, picture};
-use crate::short::ShortTable;
-use crate::table::Table;
-use crate::texts::TextTable;
+use crate::short::Nothing;
+use crate::timing::Measured;
 use std::{env, fs, process};
 
-const DEFAULT_ROUNDS: u32 = 4_000;
+const DEFAULT_ROUNDS: u32 = 400;
 
-const USAGE: &str = "usage: driver [--rounds N] [--machine WORDS] [--picture FILE] [NAME=FILE ..]";
+const USAGE: &str = "usage: driver --level LEVEL [--rounds N] [--runs N] [--machine WORDS] \
+    [--picture FILE] [--against LEVEL=FILE].. [NAME=FILE ..]";
 
 /// What the words after the driver's name ask for.
 struct Asked {
     rounds: u32,
+    runs: u32,
     /// The date and the machine, as the picture names them.
     machine: String,
     /// Where the picture is written.
@@ -46,93 +44,137 @@ struct Asked {
     codecs: Vec<Codec>,
 }
 
-/// What the picture shows.
-struct Pictured<'a> {
-    table: &'a Table<'a>,
-    texts: &'a TextTable<'a>,
-    short: &'a ShortTable<'a>,
+/// Tables that belong together.
+struct Group<'a> {
+    title: &'static str,
+    grids: Vec<Grid<'a>>,
 }
 
-/// Writes the picture of the first codec, beside the second where there is one.
-fn draw(file: &str, asked: &Asked, tables: &Pictured) -> Result<(), String> {
-    let Pictured {
-        table,
-        texts,
-        short,
-    } = tables;
-    let mut panels = vec![texts.panel(), table.panel(Action::DecodeStrict)];
-    panels.extend(short.panels());
-    let run = Run {
-        machine: &asked.machine,
-        copy: table.copy(),
-        other: asked.codecs.get(1).map(|codec| codec.name.as_str()),
-    };
-    fs::write(file, picture(&run, &panels)?).map_err(|error| format!("{file}: {error}"))
+/// All that is measured. Each call is compared with the plain codec here, and timed later.
+fn groups(codecs: &[Codec]) -> Result<Vec<Group<'_>>, String> {
+    let group = |title, grids| Group { title, grids };
+    Ok(vec![
+        group("Encoding a text", texts::grids(codecs)?),
+        group("Short strings", short::grids(codecs)?),
+        group("16,380 bytes", calls::grids(codecs)?),
+        group("Hostile input", hostile::grids(codecs)?),
+        group("Kernels", kernels::grids(codecs)?),
+    ])
+}
+
+/// What is measured beside the calls.
+struct Beside {
+    copy: Measured,
+    nothing: Nothing,
+    utf8: Vec<(&'static str, Measured)>,
+}
+
+impl Beside {
+    fn measured(&mut self) -> impl Iterator<Item = &mut Measured> {
+        let utf8 = self.utf8.iter_mut().map(|(_, measured)| measured);
+        utf8.chain([&mut self.copy, &mut self.nothing.0])
+    }
+
+    fn print(&self) {
+        println!(
+            "A plain copy of 16,380 bytes: {:.1} GB/s.",
+            self.copy.gigabytes()
+        );
+        println!(
+            "A call by C's convention that does nothing: {} ns.",
+            grid::nanoseconds(self.nothing.0.seconds())
+        );
+        println!("`str::from_utf8` on 16,380 bytes, in GB/s:");
+        for (name, measured) in &self.utf8 {
+            println!("- {name}: {:.2}", measured.gigabytes());
+        }
+    }
+}
+
+/// How far the times of this library lie apart from run to run.
+fn print_scatter(groups: &[Group], runs: u32) {
+    let grids = groups.iter().flat_map(|group| &group.grids);
+    let mut scatters: Vec<f64> = grids.flat_map(Grid::scatters).collect();
+    scatters.sort_by(f64::total_cmp);
+    let percent = |part: usize| (scatters[(scatters.len() - 1) * part / 100] - 1.0) * 100.0;
+    println!(
+        "Each time is the least of {runs} runs. The slowest of these takes {:.0}% more than the \
+         fastest in half of the cells or fewer, and {:.0}% in nine of ten.",
+        percent(50),
+        percent(90)
+    );
 }
 
 fn run(asked: &Asked) -> Result<(), String> {
-    let codecs = &asked.codecs;
-    let mut table = Table::of(codecs)?;
-    let mut built = built_table(codecs)?;
-    let mut damage = damage_table(codecs)?;
-    let mut hostile = HostileTable::of(codecs)?;
-    let mut kernels = kernel_table(codecs, table.ascii())?;
-    let mut texts = TextTable::of(codecs)?;
-    let mut short = ShortTable::of(codecs)?;
-    table.measure(asked.rounds);
-    texts.measure(asked.rounds);
-    short.measure(asked.rounds);
-    built.measure(asked.rounds);
-    damage.measure(asked.rounds);
-    hostile.measure(asked.rounds);
-    kernels.measure(asked.rounds);
-    table.print(asked.rounds);
-    texts.print();
-    short.print();
-    built.print();
-    damage.print();
-    hostile.print();
-    kernels.print();
+    let mut groups = groups(&asked.codecs)?;
+    let mut beside = calls::beside();
+    for _ in 0..asked.runs {
+        timing::measure(beside.measured(), asked.rounds);
+        for group in &mut groups {
+            let measured = group.grids.iter_mut().flat_map(Grid::measured);
+            timing::measure(measured, asked.rounds);
+        }
+    }
+    if asked.runs > 1 {
+        print_scatter(&groups, asked.runs);
+    }
+    beside.print();
+    for group in &groups {
+        println!("\n## {}", group.title);
+        group.grids.iter().for_each(Grid::print);
+    }
     match &asked.picture {
         Some(file) => {
-            let (table, texts, short) = (&table, &texts, &short);
-            draw(
-                file,
-                asked,
-                &Pictured {
-                    table,
-                    texts,
-                    short,
-                },
-            )
+            let grids = groups.iter().flat_map(|group| &group.grids).collect();
+            let run = Run {
+                machine: &asked.machine,
+                codecs: &asked.codecs,
+                grids,
+            };
+            fs::write(file, picture(&run)?).map_err(|error| format!("{file}: {error}"))
         }
         None => Ok(()),
     }
 }
 
+fn number(word: &str) -> Result<u32, String> {
+    let number = word.parse();
+    number.map_err(|_| format!("{word} is no number"))
+}
+
 fn asked() -> Result<Asked, String> {
     let mut asked = Asked {
         rounds: DEFAULT_ROUNDS,
+        runs: 1,
         machine: String::new(),
         picture: None,
-        codecs: vec![Codec::linked()],
+        codecs: Vec::new(),
     };
     let mut words = env::args().skip(1);
     while let Some(word) = words.next() {
         let mut value = || words.next().ok_or(format!("{word} needs a value"));
+        let parted = |word: &str| {
+            let parts = word.split_once('=');
+            parts.map(|(name, file)| (name.to_string(), file.to_string()))
+        };
         match word.as_str() {
-            "--rounds" => {
-                let number = value()?;
-                let rounds = number.parse();
-                asked.rounds = rounds.map_err(|_| format!("{number} is no number of rounds"))?;
+            "--level" => asked.codecs.push(Codec::linked(&value()?)),
+            "--against" => {
+                let (level, file) = parted(&value()?).ok_or(USAGE)?;
+                asked.codecs.push(Codec::built_for(&level, &file)?);
             }
+            "--rounds" => asked.rounds = number(&value()?)?,
+            "--runs" => asked.runs = number(&value()?)?,
             "--machine" => asked.machine = value()?,
             "--picture" => asked.picture = Some(value()?),
-            _ => match word.split_once('=') {
-                Some((name, file)) => asked.codecs.push(Codec::opened(name, file)?),
-                None => return Err(USAGE.to_string()),
-            },
+            other => {
+                let (name, file) = parted(other).ok_or(USAGE)?;
+                asked.codecs.push(Codec::opened(&name, &file)?);
+            }
         }
+    }
+    if asked.codecs.is_empty() {
+        return Err(USAGE.to_string());
     }
     Ok(asked)
 }

@@ -1,23 +1,42 @@
-//! Decoding of hostile bytes: each call on each kind of them at four lengths, and the slowest kind.
+//! Decoding of bytes that are bad to read: each call on each kind of them, many different inputs in
+//! turn, and the worst kind of each length.
 
-use crate::codec::{Action, Codec, FLAVORS, Flavor, Question, path};
-use crate::damage::{ACTIONS, Damage, damaged_bytes};
+use crate::codec::{Action, Codec, FLAVORS, Flavor, path};
 use crate::expected::{encoded, expected};
-use crate::lengths::{LengthTable, Unit};
+use crate::grid::{Column, Grid, Unit};
+use crate::inputs::{Case, Inputs};
 use crate::sets::{Kind, Random, SEED, at_page_start, encoded_bytes, of_any_length};
-use crate::timing;
 
 const LENGTHS: [usize; 4] = [72, 200, 1_024, 16_380];
+
+/// The inputs of one kind and length have so many bytes together, or it is one input.
+const BYTES: usize = 1 << 15;
+
+/// The length at which text and random damage are measured too, by a part that is repeated.
+const LONG: usize = 16_777_212;
+const LONG_PART: usize = 16_380;
+
+/// The calls that read an encoding, each by itself.
+const ACTIONS: [Action; 4] = [
+    Action::DecodeStrict,
+    Action::DecodeLossy,
+    Action::DecodeLossyStrict,
+    Action::LossyLength,
+];
 
 /// How the bytes of one kind are made.
 #[derive(Clone, Copy)]
 enum Made {
-    Damaged(Damage),
-    /// Characters of a kind of text, with one byte in so many, if any, replaced by chance.
+    /// The same as the first of `Characters`, in the other encoding.
+    OtherFlavor,
+    /// Characters of one to three bytes, with one pair in 97.
+    OnePairIn97,
+    Noise,
+    /// Characters of a kind of text, with one byte in so many, if any, replaced by a random one.
     Characters(Kind, Option<u64>),
     /// Characters, and after some of them the front of another one.
     CutCharacters,
-    /// These pieces by chance.
+    /// These pieces, in random order.
     Pieces(&'static [&'static [u8]]),
     Repeated(&'static [u8]),
     /// Three-byte characters, with FF for one byte in so many.
@@ -62,8 +81,22 @@ const FRAGMENTS: [&[u8]; 20] = [
     b"\xFF",
 ];
 
-/// The kinds beside those of `Damage`.
-const KINDS: [(&str, Made); 26] = [
+const KINDS: [(&str, Made); 32] = [
+    (
+        "random widths and null",
+        Made::Characters(Kind::RandomWithNull, None),
+    ),
+    ("one to three bytes, one pair in 97", Made::OnePairIn97),
+    (
+        "one damaged byte in 500",
+        Made::Characters(Kind::RandomWithNull, Some(500)),
+    ),
+    (
+        "one damaged byte in 50",
+        Made::Characters(Kind::RandomWithNull, Some(50)),
+    ),
+    ("the other encoding", Made::OtherFlavor),
+    ("noise", Made::Noise),
     (
         "ASCII, one pair in 97",
         Made::Characters(Kind::SparseAscii, None),
@@ -89,7 +122,7 @@ const KINDS: [(&str, Made); 26] = [
         Made::Repeated("\u{10400}\u{1F496}\u{24F62}".as_bytes()),
     ),
     ("null alone", Made::Repeated(b"\0")),
-    ("null and a letter by chance", Made::Pieces(&[b"\0", b"a"])),
+    ("null and a letter at random", Made::Pieces(&[b"\0", b"a"])),
     ("C0 80 alone", Made::Repeated(b"\xC0\x80")),
     (
         "C0 80 three times and C0 in turn",
@@ -102,7 +135,7 @@ const KINDS: [(&str, Made); 26] = [
         Made::Repeated(b"\xED\xB2\x96\xED\xA0\xBD\xED"),
     ),
     (
-        "surrogates by chance",
+        "surrogates at random",
         Made::Pieces(&[HIGH_SURROGATE, LOW_SURROGATE]),
     ),
     ("80 alone", Made::Repeated(b"\x80")),
@@ -116,18 +149,11 @@ const KINDS: [(&str, Made); 26] = [
     ("FF for one byte in 128", Made::WithFf(128)),
 ];
 
-/// Each kind with its title.
-fn kinds(flavor: Flavor) -> impl Iterator<Item = (&'static str, Made)> {
-    let damaged = Damage::ALL.map(|damage| (damage.title(flavor), Made::Damaged(damage)));
-    damaged.into_iter().chain(KINDS)
-}
-
-/// At least so many bytes of pieces, each of which is made by chance.
-fn joined<P: AsRef<[u8]>>(length: usize, piece: impl Fn(&mut Random) -> P) -> Vec<u8> {
-    let mut random = Random(SEED);
+/// At least so many bytes of pieces.
+fn joined<P: AsRef<[u8]>>(length: usize, mut piece: impl FnMut() -> P) -> Vec<u8> {
     let mut bytes = Vec::new();
     while bytes.len() < length {
-        bytes.extend_from_slice(piece(&mut random).as_ref());
+        bytes.extend_from_slice(piece().as_ref());
     }
     bytes
 }
@@ -154,96 +180,152 @@ fn ending_in_ff(length: usize) -> Vec<u8> {
 }
 
 impl Made {
+    /// Whether two inputs of a kind differ.
+    fn is_random(self) -> bool {
+        !matches!(
+            self,
+            Made::Repeated(_) | Made::WithFf(_) | Made::Characters(Kind::Pattern, _)
+        )
+    }
+
+    /// Whether it is measured at the greatest length.
+    fn is_long(self) -> bool {
+        matches!(
+            self,
+            Made::Characters(Kind::RandomWithNull, _)
+                | Made::OtherFlavor
+                | Made::OnePairIn97
+                | Made::Noise
+        )
+    }
+
     /// So many bytes, the last a letter, which may cut a character.
-    fn bytes(self, flavor: Flavor, length: usize) -> Vec<u8> {
+    fn bytes(self, flavor: Flavor, length: usize, random: &mut Random) -> Vec<u8> {
         let mut bytes = match self {
-            Made::Damaged(damage) => damaged_bytes(damage, flavor, length),
             Made::Characters(kind, distance) => {
-                encoded_bytes(flavor, length, distance, |random, place| {
+                encoded_bytes(flavor, length, distance, random, |random, place| {
                     kind.character(random, place)
                 })
             }
-            Made::CutCharacters => joined(length, |random| cut_piece(flavor, random)),
-            Made::Pieces(pieces) => joined(length, |random| one_of(pieces, random)),
-            Made::Repeated(part) => joined(length, |_| part),
-            Made::WithFf(distance) => joined(length, |_| ending_in_ff(distance)),
-            Made::HighNoise => joined(length, |random| [random.next() as u8 | 0x80]),
+            Made::OtherFlavor => {
+                encoded_bytes(flavor.other(), length, None, random, |random, _| {
+                    of_any_length(random, 5)
+                })
+            }
+            // The first pair stands within the shortest input.
+            Made::OnePairIn97 => encoded_bytes(flavor, length, None, random, |random, place| {
+                match place % 97 {
+                    3 => '\u{1F496}',
+                    _ => of_any_length(random, 3),
+                }
+            }),
+            Made::CutCharacters => joined(length, || cut_piece(flavor, random)),
+            Made::Pieces(pieces) => joined(length, || one_of(pieces, random)),
+            Made::Repeated(part) => joined(length, || part),
+            Made::WithFf(distance) => joined(length, || ending_in_ff(distance)),
+            Made::Noise => joined(length, || [random.next() as u8]),
+            Made::HighNoise => joined(length, || [random.next() as u8 | 0x80]),
         };
         bytes.resize(length - 1, 0);
         bytes.push(b'z');
         bytes
     }
+
+    /// Inputs of this kind. Where there are some that strict reading refuses, it refuses all.
+    fn inputs(self, flavor: Flavor, length: usize) -> Inputs {
+        let count = if self.is_random() { BYTES / length } else { 1 };
+        let mut random = Random(SEED);
+        let (mut whole, mut refused) = (Vec::new(), Vec::new());
+        while refused.len() < count && (whole.len() < count || !refused.is_empty()) {
+            let bytes = self.bytes(flavor, length, &mut random);
+            match expected(Action::DecodeStrict, flavor, &bytes) {
+                Some(_) => whole.push(bytes),
+                None => refused.push(bytes),
+            }
+        }
+        let inputs = if refused.is_empty() { whole } else { refused };
+        Inputs {
+            bytes: at_page_start(&inputs.concat()),
+            length,
+        }
+    }
+}
+
+pub fn heading(action: Action, flavor: Flavor) -> String {
+    format!("`{}` on hostile input, in GB/s", path(action, flavor))
 }
 
 /// One call on all kinds: where it builds an answer or tells its length, and where it refuses them.
 struct Part<'a> {
     action: Action,
     flavor: Flavor,
-    answered: LengthTable<'a>,
-    refused: LengthTable<'a>,
+    answered: Grid<'a>,
+    refused: Grid<'a>,
 }
 
 impl Part<'_> {
+    fn of(codecs: &[Codec], action: Action, flavor: Flavor) -> Part<'_> {
+        let refused = format!("`{}` that refuses, in ns a call", path(action, flavor));
+        Part {
+            action,
+            flavor,
+            answered: Grid::of(codecs, heading(action, flavor), Unit::Gigabytes),
+            refused: Grid::of(codecs, refused, Unit::Nanoseconds),
+        }
+    }
+
     /// Tests the call, which is left out where its answer is the input itself.
-    fn add(&mut self, kind: &str, input: &'static [u8]) -> Result<(), String> {
-        let answer = expected(self.action, self.flavor, input);
-        let table = match &answer {
-            None => &mut self.refused,
-            Some(answer) if answer == input && !self.action.tells_length() => return Ok(()),
-            Some(_) => &mut self.answered,
+    fn add(&mut self, case: &Case, kind: &str, length: usize) -> Result<(), String> {
+        if case.is_borrowed() {
+            return Ok(());
+        }
+        let grid = if case.is_answered() {
+            &mut self.answered
+        } else {
+            &mut self.refused
         };
-        let question = Question {
-            action: self.action,
-            flavor: self.flavor,
-            kind,
-            input,
-            answer: answer.as_deref(),
-        };
-        table.add(kind, input, |codec| question.tested(codec))
+        grid.add(kind, Column::Length(length), |codec| {
+            case.measured_bytes(codec)
+        })
+    }
+
+    fn add_kind(&mut self, kind: &str, inputs: Inputs) -> Result<(), String> {
+        let case = Case::new(self.action, self.flavor, kind, inputs);
+        self.add(&case, kind, inputs.length)
+    }
+
+    fn add_long(&mut self, kind: &str, part: &[u8]) -> Result<(), String> {
+        let times = LONG / LONG_PART;
+        let case = Case::repeated(self.action, self.flavor, kind, part, times);
+        self.add(&case, kind, LONG)
     }
 }
 
-pub struct HostileTable<'a> {
-    parts: Vec<Part<'a>>,
-}
-
-impl HostileTable<'_> {
-    /// Tests each call on each input, and times none yet.
-    pub fn of(codecs: &[Codec]) -> Result<HostileTable<'_>, String> {
-        let mut table = HostileTable { parts: Vec::new() };
-        for flavor in FLAVORS {
-            let mut parts = ACTIONS.map(|action| Part {
-                action,
-                flavor,
-                answered: LengthTable::of(codecs),
-                refused: LengthTable::of(codecs),
-            });
-            for (kind, made) in kinds(flavor) {
-                for length in LENGTHS {
-                    let input: &'static [u8] = at_page_start(&made.bytes(flavor, length));
-                    for part in &mut parts {
-                        part.add(kind, input)?;
-                    }
-                }
+fn parts(codecs: &[Codec], flavor: Flavor) -> Result<[Part<'_>; 4], String> {
+    let mut parts = ACTIONS.map(|action| Part::of(codecs, action, flavor));
+    for (kind, made) in KINDS {
+        for length in LENGTHS {
+            let inputs = made.inputs(flavor, length);
+            for part in &mut parts {
+                part.add_kind(kind, inputs)?;
             }
-            table.parts.extend(parts);
         }
-        Ok(table)
-    }
-
-    pub fn measure(&mut self, rounds: u32) {
-        let parts = self.parts.iter_mut();
-        let tables = parts.flat_map(|part| [&mut part.answered, &mut part.refused]);
-        timing::measure(tables.flat_map(|table| table.measured()), rounds);
-    }
-
-    pub fn print(&self) {
-        for part in &self.parts {
-            let call = path(part.action, part.flavor);
-            let answered = format!("`{call}`, hostile input, in GB/s");
-            part.answered.print_by_length(&answered, Unit::Gigabytes);
-            let refused = format!("`{call}`, hostile input that it refuses, in ns a call");
-            part.refused.print_by_length(&refused, Unit::Nanoseconds);
+        if made.is_long() {
+            let bytes = made.bytes(flavor, LONG_PART, &mut Random(SEED));
+            for part in &mut parts {
+                part.add_long(kind, &bytes)?;
+            }
         }
     }
+    Ok(parts)
+}
+
+pub fn grids(codecs: &[Codec]) -> Result<Vec<Grid<'_>>, String> {
+    let mut grids = Vec::new();
+    for flavor in FLAVORS {
+        for part in parts(codecs, flavor)? {
+            grids.extend([part.answered, part.refused]);
+        }
+    }
+    Ok(grids)
 }

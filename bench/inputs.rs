@@ -2,6 +2,7 @@
 
 use crate::codec::{Action, Call, Codec, EachCall, Flavor, MeasuredCall, Question, call_name};
 use crate::expected::expected;
+use crate::sets::at_page_start;
 use crate::timing::Measured;
 use std::slice::ChunksExact;
 
@@ -13,6 +14,13 @@ pub struct Inputs {
 }
 
 impl Inputs {
+    pub fn one(bytes: &'static [u8]) -> Inputs {
+        Inputs {
+            bytes,
+            length: bytes.len(),
+        }
+    }
+
     pub fn iter(self) -> ChunksExact<'static, u8> {
         self.bytes.chunks_exact(self.length)
     }
@@ -42,6 +50,35 @@ impl<'a> Case<'a> {
             inputs,
             answers: answers.collect(),
         }
+    }
+
+    /// A call on an input that repeats a part. Each part ends where a character ends.
+    pub fn repeated(
+        action: Action,
+        flavor: Flavor,
+        kind: &'a str,
+        part: &[u8],
+        times: usize,
+    ) -> Case<'a> {
+        let answer = expected(action, flavor, part);
+        Case {
+            action,
+            flavor,
+            kind,
+            inputs: Inputs::one(at_page_start(&part.repeat(times))),
+            answers: vec![answer.map(|answer| answer.repeat(times))],
+        }
+    }
+
+    /// Whether the call answers one of the inputs at least.
+    pub fn is_answered(&self) -> bool {
+        self.answers.iter().any(Option::is_some)
+    }
+
+    /// Whether each answer is the input itself.
+    pub fn is_borrowed(&self) -> bool {
+        let mut pairs = self.inputs.iter().zip(&self.answers);
+        !self.action.tells_length() && pairs.all(|(input, answer)| answer.as_deref() == Some(input))
     }
 
     fn check(&self, codec: &Codec, call: Call) -> Result<(), String> {
@@ -74,27 +111,36 @@ impl<'a> Case<'a> {
         ))
     }
 
-    /// What is measured of a codec, which has to be right on each input: none where it has no such
-    /// call. A call on a text is measured without a test for UTF-8.
-    pub fn measured(&self, codec: &Codec) -> Result<Option<Measured>, String> {
-        let call = codec.call(self.action, self.flavor);
-        let measured = if self.action.takes_text() {
-            codec.text_call(self.action, self.flavor)
-        } else {
-            call.map(MeasuredCall::One)
+    /// What is measured of a codec's call on bytes, which has to be right on each input: none where
+    /// it has no such call.
+    pub fn measured_bytes(&self, codec: &Codec) -> Result<Option<Measured>, String> {
+        let Some(call) = codec.call(self.action, self.flavor) else {
+            return Ok(None);
         };
-        Ok(match measured {
-            Some(MeasuredCall::One(call)) => {
+        self.check(codec, call)?;
+        Ok(Some(Measured::of_inputs(call, self.inputs)))
+    }
+
+    /// The same, but a call on a text is measured without a test for UTF-8.
+    pub fn measured(&self, codec: &Codec) -> Result<Option<Measured>, String> {
+        if !self.action.takes_text() {
+            return self.measured_bytes(codec);
+        }
+        let Some(measured) = codec.text_call(self.action, self.flavor) else {
+            return Ok(None);
+        };
+        Ok(Some(match measured {
+            MeasuredCall::One(call) => {
                 self.check(codec, call)?;
-                Some(Measured::of_inputs(call, self.inputs))
+                Measured::of_inputs(call, self.inputs)
             }
             // It returns no bytes, so those of the call on one text are looked at.
-            Some(MeasuredCall::Each(each)) => {
+            MeasuredCall::Each(each) => {
+                let call = codec.call(self.action, self.flavor);
                 call.map_or(Ok(()), |call| self.check(codec, call))?;
                 self.check_sum(codec, each)?;
-                Some(Measured::of_texts(each, self.inputs))
+                Measured::of_texts(each, self.inputs)
             }
-            None => None,
-        })
+        }))
     }
 }

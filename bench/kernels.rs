@@ -1,8 +1,9 @@
 //! The kernels, on ASCII without null of four lengths.
 
 use crate::codec::{Call, Codec, KERNELS, Kernel, outcome};
-use crate::lengths::LengthTable;
-use crate::sets::at_page_start;
+use crate::grid::{Column, Grid, Unit};
+use crate::sets::{Kind, at_page_start, text_of};
+use crate::timing::Measured;
 
 const LENGTHS: [usize; 4] = [16, 24, 1_024, 16_384];
 
@@ -22,7 +23,11 @@ fn is_right(call: Call, kernel: Kernel, ascii: &[u8]) -> bool {
     cases.all(|(input, length)| outcome(call, input, &mut [0; 1]).length == *length)
 }
 
-fn tested(codec: &Codec, kernel: Kernel, ascii: &[u8]) -> Result<Option<Call>, String> {
+fn measured(
+    codec: &Codec,
+    kernel: Kernel,
+    ascii: &'static [u8],
+) -> Result<Option<Measured>, String> {
     match codec.kernel(kernel) {
         Some(call) if !is_right(call, kernel, ascii) => Err(format!(
             "{}: {} answers wrongly on {} bytes",
@@ -30,20 +35,21 @@ fn tested(codec: &Codec, kernel: Kernel, ascii: &[u8]) -> Result<Option<Call>, S
             kernel.title(),
             ascii.len()
         )),
-        call => Ok(call),
+        call => Ok(call.map(|call| Measured::of_input(call, ascii))),
     }
 }
 
-/// Tests each kernel at each length, and times none yet.
-pub fn kernel_table<'a>(codecs: &'a [Codec], ascii: &[u8]) -> Result<LengthTable<'a>, String> {
-    let mut table = LengthTable::of(codecs);
+pub fn grids(codecs: &[Codec]) -> Result<Vec<Grid<'_>>, String> {
+    let heading = "The kernels on ASCII without null, in GB/s".to_string();
+    let mut grid = Grid::of(codecs, heading, Unit::Gigabytes);
     for kernel in KERNELS {
-        let title = format!("`{}`, ASCII without null", kernel.title());
+        let title = format!("`{}`", kernel.title());
         for length in LENGTHS {
-            let bytes: Vec<u8> = ascii.iter().copied().cycle().take(length).collect();
-            let input: &'static [u8] = at_page_start(&bytes);
-            table.add(&title, input, |codec| tested(codec, kernel, input))?;
+            let ascii: &'static [u8] = at_page_start(text_of(Kind::Ascii, length));
+            grid.add(&title, Column::Length(length), |codec| {
+                measured(codec, kernel, ascii)
+            })?;
         }
     }
-    Ok(table)
+    Ok(vec![grid])
 }

@@ -1,210 +1,323 @@
-//! The speeds of one run as a picture: a bar for each kind of text and encoding, its length the ratio
-//! to a plain copy on a logarithmic scale, and a line across it where another codec's bar would end.
+//! Some rows of the tables as a picture: for each build of this library a bar from 1 to how many
+//! times as fast it is as the fastest other codec of the run, to the left where it is slower.
 
-use crate::lengths::nanoseconds;
+use crate::codec::{Action, Codec, FLAVORS, Flavor, encoding_title};
+use crate::grid::{Column, Entry, Grid, grouped, nanoseconds, two_digits};
+use crate::{calls, hostile, short, texts};
 use std::fmt::{self, Write};
 
-/// What is drawn of one kind of text: bytes in nanoseconds, in CESU-8 and in MUTF-8, of this codec and
-/// of the other one.
-pub struct Bars {
-    pub title: String,
-    pub speeds: [Option<f64>; 2],
-    pub others: [Option<f64>; 2],
-}
-
-/// The bars of one call, on inputs of so many bytes.
-pub struct Panel {
-    pub title: String,
-    pub bytes: usize,
-    pub rows: Vec<Bars>,
-}
-
-/// What the picture says of its run.
+/// What is drawn.
 pub struct Run<'a> {
-    /// The date, the machine, and what the library was built for.
+    /// The date and the machine.
     pub machine: &'a str,
-    /// The speed of a plain copy.
-    pub copy: f64,
-    /// The name of the codec beside this one, where there is one.
-    pub other: Option<&'a str>,
+    pub codecs: &'a [Codec],
+    pub grids: Vec<&'a Grid<'a>>,
 }
 
-const WIDTH: f64 = 880.0;
-/// Where the bars begin, and how long that of a plain copy is.
-const BARS: f64 = 250.0;
-const COPY_LENGTH: f64 = 380.0;
-/// The ratio to a plain copy at which a bar has no length.
-const LEAST: f64 = 0.001;
-const ROW: f64 = 26.0;
-const BAR: f64 = 10.0;
-const TOP: f64 = 96.0;
+/// Where the times of a panel stand.
+enum Source {
+    Texts,
+    Calls(Action),
+    Short(Action),
+    Hostile(Action),
+}
+
+/// Some rows of one call at one length.
+struct Panel {
+    title: &'static str,
+    bytes: usize,
+    source: Source,
+    rows: &'static [&'static str],
+}
+
+const SHORT_TEXTS: &[&str] = &[
+    "ASCII",
+    "Latin",
+    "three-byte characters",
+    "ASCII and one emoji",
+    "surrogate pairs",
+    "random widths",
+];
+
+const SHORT_ENCODINGS: &[&str] = &[
+    "ASCII",
+    "Latin",
+    "three-byte characters",
+    "ASCII and one emoji",
+    "ASCII and one null",
+    "surrogate pairs",
+    "random widths",
+];
+
+const HOSTILE: &[&str] = &[
+    "one damaged byte in 500",
+    "one damaged byte in 50",
+    "the other encoding",
+    "fragments of characters",
+    "FF for one byte in 16",
+    "FF alone",
+    "noise",
+];
+
+const PANELS: [Panel; 8] = [
+    Panel {
+        title: "encode",
+        bytes: 24,
+        source: Source::Short(Action::Encode),
+        rows: SHORT_TEXTS,
+    },
+    Panel {
+        title: "encode",
+        bytes: 16_380,
+        source: Source::Texts,
+        rows: &[
+            "ASCII without null",
+            "two-byte characters",
+            "mixed UTF-8",
+            "ASCII, one emoji in 97",
+            "random widths and null",
+        ],
+    },
+    Panel {
+        title: "decode_strict",
+        bytes: 24,
+        source: Source::Short(Action::DecodeStrict),
+        rows: SHORT_ENCODINGS,
+    },
+    Panel {
+        title: "decode_strict",
+        bytes: 16_380,
+        source: Source::Calls(Action::DecodeStrict),
+        rows: &[
+            "ASCII without null",
+            "two-byte characters",
+            "three-byte characters",
+            "mixed CESU-8",
+            "mixed MUTF-8",
+            "surrogate pairs alone",
+        ],
+    },
+    Panel {
+        title: "decode (also of UTF-8)",
+        bytes: 24,
+        source: Source::Short(Action::Decode),
+        rows: SHORT_ENCODINGS,
+    },
+    Panel {
+        title: "decode (also of UTF-8)",
+        bytes: 16_380,
+        source: Source::Calls(Action::Decode),
+        rows: &[
+            "ASCII without null",
+            "two-byte characters",
+            "four-byte characters",
+            "mixed CESU-8",
+            "mixed MUTF-8",
+            "surrogate pairs alone",
+        ],
+    },
+    Panel {
+        title: "decode_lossy_strict of hostile input",
+        bytes: 72,
+        source: Source::Hostile(Action::DecodeLossyStrict),
+        rows: HOSTILE,
+    },
+    Panel {
+        title: "decode_lossy_strict of hostile input",
+        bytes: 16_380,
+        source: Source::Hostile(Action::DecodeLossyStrict),
+        rows: HOSTILE,
+    },
+];
+
 /// Inputs of fewer bytes are short.
 const SHORT: usize = 1_024;
-const NAMES: [&str; 2] = ["CESU-8", "MUTF-8"];
 
-/// What the bars of a panel are drawn by: the speed of a plain copy, and the bytes of an input.
-struct Scale {
-    copy: f64,
-    bytes: usize,
+const WIDTH: f64 = 900.0;
+/// Where the plots of the two encodings begin, and how wide each is.
+const PLOTS: [f64; 2] = [230.0, 570.0];
+const PLOT: f64 = 200.0;
+/// The logarithms of the ratios, by 2, at which a plot begins and ends.
+const LEAST: f64 = -2.0;
+const MOST: f64 = 4.0;
+const MARKS: [f64; 4] = [0.25, 1.0, 4.0, 16.0];
+const BAR: f64 = 9.0;
+const ROW: f64 = 26.0;
+const TOP: f64 = 84.0;
+
+/// Where a ratio stands in a plot.
+fn place(ratio: f64) -> f64 {
+    PLOT * (ratio.log2().clamp(LEAST, MOST) - LEAST) / (MOST - LEAST)
 }
 
-impl Scale {
-    fn length(&self, speed: f64) -> f64 {
-        bar_length(speed / self.copy)
-    }
-
-    /// The time of a call on a short input, and elsewhere the speed.
-    fn written(&self, speed: f64) -> String {
-        if self.bytes < SHORT {
-            nanoseconds(self.bytes as f64 / speed / 1e9) + " ns"
-        } else {
-            format!("{speed:.2} GB/s")
-        }
-    }
-}
-
-/// How long the bar of this ratio to a plain copy is.
-fn bar_length(ratio: f64) -> f64 {
-    let part = (ratio / LEAST).log10() / LEAST.recip().log10();
-    (COPY_LENGTH * part).max(0.0)
-}
-
-fn text(svg: &mut String, x: f64, y: f64, style: &str, words: &str) -> fmt::Result {
+fn text(svg: &mut String, x: f64, y: f64, class: &str, words: &str) -> fmt::Result {
     let words = words.replace('&', "&amp;").replace('<', "&lt;");
-    writeln!(svg, r#"<text x="{x:.0}" y="{y:.1}" {style}>{words}</text>"#)
-}
-
-fn legend(svg: &mut String, run: &Run<'_>) -> fmt::Result {
-    text(
-        svg,
-        16.0,
-        24.0,
-        r#"class="head""#,
-        "simd_cesu8: speed by kind of text",
-    )?;
-    text(svg, 16.0, 42.0, r#"class="note""#, run.machine)?;
-    for (at, name) in NAMES.iter().enumerate() {
-        let x = 16.0 + 90.0 * at as f64;
-        writeln!(
-            svg,
-            r#"<rect x="{x}" y="54" width="11" height="11" class="bar{at}"/>"#
-        )?;
-        text(svg, x + 16.0, 63.5, "", name)?;
-    }
-    let copy = format!(
-        "a bar ends at its ratio to a plain copy ({:.0} GB/s); no bar: refused in that encoding",
-        run.copy
-    );
-    text(svg, 196.0, 63.5, r#"class="note""#, &copy)?;
-    if let Some(other) = run.other {
-        let line = format!("black line: {other}, in the same run; ×: our speed over its");
-        text(svg, 196.0, 78.5, r#"class="note""#, &line)?;
-    }
-    Ok(())
-}
-
-/// The scale over the bars of a panel, and its lines through them.
-fn marks(svg: &mut String, y: f64, height: f64) -> fmt::Result {
-    for mark in [0.001, 0.01, 0.1, 1.0] {
-        let x = BARS + bar_length(mark);
-        let end = y + height;
-        writeln!(svg, r#"<path d="M{x:.1} {y:.1}V{end:.1}" class="scale"/>"#)?;
-        let words = if mark == 1.0 {
-            "1 = a copy".to_string()
-        } else {
-            mark.to_string()
-        };
-        text(svg, x, y - 4.0, r#"class="mark""#, &words)?;
-    }
-    Ok(())
-}
-
-fn bar(svg: &mut String, y: f64, at: usize, bars: &Bars, scale: &Scale) -> fmt::Result {
-    let Some(speed) = bars.speeds[at] else {
-        return Ok(());
-    };
-    let width = scale.length(speed);
     writeln!(
         svg,
-        r#"<rect x="{BARS}" y="{y:.1}" width="{width:.1}" height="{BAR}" class="bar{at}"/>"#
-    )?;
-    let mut words = scale.written(speed);
-    if let Some(other) = bars.others[at] {
-        let x = BARS + scale.length(other);
-        let end = y + BAR;
-        writeln!(svg, r#"<path d="M{x:.1} {y:.1}V{end:.1}" class="other"/>"#)?;
-        write!(words, ", {:.1}×", speed / other)?;
-    }
-    text(
-        svg,
-        BARS + COPY_LENGTH + 16.0,
-        y + 9.5,
-        r#"class="note""#,
-        &words,
+        r#"<text x="{x:.0}" y="{y:.1}" class="{class}">{words}</text>"#
     )
 }
 
-/// A number below a million, with its thousands set apart.
-fn grouped(number: usize) -> String {
-    match number / 1_000 {
-        0 => number.to_string(),
-        thousands => format!("{thousands},{:03}", number % 1_000),
+/// A rectangle in the colour of a build.
+fn rect(
+    svg: &mut String,
+    (x, y): (f64, f64),
+    (width, height): (f64, f64),
+    build: usize,
+) -> fmt::Result {
+    write!(
+        svg,
+        r#"<rect x="{x:.1}" y="{y:.1}" width="{width:.1}" height="{height}""#
+    )?;
+    writeln!(svg, r#" class="bar{build}"/>"#)
+}
+
+impl Panel {
+    /// What was measured of a build of this library in a row.
+    fn entry(&self, run: &Run, row: &str, flavor: Flavor, codec: usize) -> Option<Entry> {
+        let length = Column::Length(self.bytes);
+        let (heading, column) = match self.source {
+            Source::Texts => (texts::heading(flavor), length),
+            Source::Calls(action) => (calls::heading(action), Column::Encoding(flavor)),
+            Source::Short(action) => (short::heading(action, flavor), length),
+            Source::Hostile(action) => (hostile::heading(action, flavor), length),
+        };
+        let mut grids = run.grids.iter();
+        let grid = grids.find(|grid| grid.heading == heading)?;
+        grid.entry(row, column, codec)
+    }
+
+    fn written(&self, entry: Entry, ratio: f64) -> String {
+        let ratio = two_digits(ratio);
+        if self.bytes < SHORT {
+            format!("{} ns, {ratio}×", nanoseconds(entry.seconds))
+        } else {
+            format!("{:.2} GB/s, {ratio}×", entry.gigabytes)
+        }
+    }
+
+    /// The bars of the builds in one row and encoding.
+    fn draw_bars(&self, svg: &mut String, run: &Run, row: &str, at: usize, y: f64) -> fmt::Result {
+        for (number, codec) in own(run).enumerate() {
+            let Some(entry) = self.entry(run, row, FLAVORS[at], codec) else {
+                continue;
+            };
+            let Some(ratio) = entry.ratio else {
+                continue;
+            };
+            let y = y + (BAR + 1.0) * number as f64;
+            let (from, to) = (place(ratio.min(1.0)), place(ratio.max(1.0)));
+            let (x, width) = (PLOTS[at] + from, (to - from).max(1.0));
+            rect(svg, (x, y), (width, BAR), number)?;
+            let words = self.written(entry, ratio);
+            text(svg, PLOTS[at] + PLOT + 6.0, y + 8.0, "number", &words)?;
+        }
+        Ok(())
+    }
+
+    fn draw(&self, svg: &mut String, run: &Run, y: f64) -> fmt::Result {
+        let title = format!("{}, {} bytes", self.title, grouped(self.bytes));
+        text(svg, 12.0, y - 18.0, "call", &title)?;
+        for x in PLOTS {
+            draw_marks(svg, x, y, ROW * self.rows.len() as f64)?;
+        }
+        for (number, row) in self.rows.iter().enumerate() {
+            let top = y + 3.0 + ROW * number as f64;
+            text(svg, 12.0, top + 13.0, "row", row)?;
+            for at in 0..PLOTS.len() {
+                self.draw_bars(svg, run, row, at, top)?;
+            }
+        }
+        Ok(())
     }
 }
 
-fn panel(svg: &mut String, y: f64, panel: &Panel, copy: f64) -> fmt::Result {
-    let title = format!("{}, {} bytes", panel.title, grouped(panel.bytes));
-    text(svg, 16.0, y - 4.0, r#"class="call""#, &title)?;
-    marks(svg, y, ROW * panel.rows.len() as f64)?;
-    let bytes = panel.bytes;
-    let scale = Scale { copy, bytes };
-    for (at, bars) in panel.rows.iter().enumerate() {
-        let top = y + 2.5 + ROW * at as f64;
-        text(svg, 16.0, top + 14.0, r#"class="note""#, &bars.title)?;
-        bar(svg, top, 0, bars, &scale)?;
-        bar(svg, top + BAR + 1.0, 1, bars, &scale)?;
+/// The places of this library's builds among the codecs.
+fn own<'a>(run: &'a Run) -> impl Iterator<Item = usize> + 'a {
+    let codecs = run.codecs.iter().enumerate();
+    let own = codecs.filter(|(_, codec)| codec.level.is_some());
+    own.map(|(at, _)| at)
+}
+
+/// The scale over a plot, and its lines through it.
+fn draw_marks(svg: &mut String, x: f64, y: f64, height: f64) -> fmt::Result {
+    for mark in MARKS {
+        let x = x + place(mark);
+        let end = y + height;
+        let class = if mark == 1.0 { "one" } else { "scale" };
+        writeln!(
+            svg,
+            r#"<path d="M{x:.1} {y:.1}V{end:.1}" class="{class}"/>"#
+        )?;
+        text(svg, x, y - 4.0, "mark", &format!("{mark}×"))?;
     }
     Ok(())
 }
 
-fn drawn(run: &Run<'_>, panels: &[Panel]) -> Result<String, fmt::Error> {
-    let mut svg = String::new();
-    let mut y = TOP + 20.0;
-    for one in panels {
-        panel(&mut svg, y, one, run.copy)?;
-        y += ROW * one.rows.len() as f64 + 44.0;
+fn draw_legend(svg: &mut String, run: &Run) -> fmt::Result {
+    let others = run.codecs.iter().filter(|codec| codec.level.is_none());
+    let others: Vec<&str> = others.map(|codec| codec.name.as_str()).collect();
+    let title = format!(
+        "simd_cesu8: how many times as fast as {}",
+        others.join(" and ")
+    );
+    text(svg, 12.0, 22.0, "head", &title)?;
+    let line = format!(
+        "{}; the faster of these counts; to the left of 1× simd_cesu8 is slower",
+        run.machine
+    );
+    text(svg, 12.0, 40.0, "row", &line)?;
+    for (number, codec) in own(run).enumerate() {
+        let x = 12.0 + 110.0 * number as f64;
+        rect(svg, (x, 48.0), (10.0, 10.0), number)?;
+        let level = run.codecs[codec].level.as_deref().unwrap_or_default();
+        text(svg, x + 15.0, 57.0, "row", level)?;
     }
-    let height = y - 20.0;
+    for (flavor, x) in FLAVORS.into_iter().zip(PLOTS) {
+        text(svg, x, 57.0, "call", encoding_title(flavor))?;
+    }
+    Ok(())
+}
+
+fn drawn(run: &Run) -> Result<String, fmt::Error> {
+    let mut svg = String::new();
+    draw_legend(&mut svg, run)?;
+    let mut y = TOP + 18.0;
+    for panel in &PANELS {
+        panel.draw(&mut svg, run, y)?;
+        y += ROW * panel.rows.len() as f64 + 50.0;
+    }
+    let height = y - 34.0;
     let mut whole = String::new();
     writeln!(
         whole,
         r#"<svg xmlns="http://www.w3.org/2000/svg" viewBox="0 0 {WIDTH} {height}" width="{WIDTH}">"#
     )?;
     whole.push_str(STYLE);
-    writeln!(
-        whole,
-        r#"<rect width="{WIDTH}" height="{height}" fill="white"/>"#
-    )?;
-    legend(&mut whole, run)?;
     whole.push_str(&svg);
     whole.push_str("</svg>\n");
     Ok(whole)
 }
 
+/// The ground is clear, and the colours hold on white and on black.
 const STYLE: &str = "<style>
-text { font: 12px sans-serif; fill: #222 }
-.bar0 { fill: #2f6f9f }
-.bar1 { fill: #c1762a }
+text { font: 12px sans-serif; fill: #7a828c }
+.bar0 { fill: #4c8fd6 }
+.bar1 { fill: #d9822b }
 .head { font-size: 16px; font-weight: bold }
 .call { font-weight: bold }
-.note { font-size: 11px; fill: #444 }
-.other { stroke: black; stroke-width: 2 }
-.scale { stroke: #ccc }
-.mark { font-size: 10px; fill: #666; text-anchor: middle }
+.row { font-size: 11px }
+.number { font-size: 9.5px }
+.one { stroke: #7a828c; stroke-width: 1.5 }
+.scale { stroke: #7a828c; stroke-width: 0.5; stroke-dasharray: 2 3 }
+.mark { font-size: 9px; text-anchor: middle }
 </style>
 ";
 
 /// The picture, as SVG.
-pub fn picture(run: &Run<'_>, panels: &[Panel]) -> Result<String, String> {
-    drawn(run, panels).map_err(|error| error.to_string())
+pub fn picture(run: &Run) -> Result<String, String> {
+    if run.codecs.iter().all(|codec| codec.level.is_some()) {
+        return Err("a picture needs another codec beside the library".to_string());
+    }
+    drawn(run).map_err(|error| error.to_string())
 }

@@ -1,6 +1,6 @@
 #!/bin/sh
 # Proves and builds the static library, builds the driver, and runs it:
-#   bench/run.sh [--cpu LEVEL] [--against LEVEL].. [the driver's arguments]
+#   bench/run.sh [--cpu LEVEL] [--against LEVEL].. [--tables FILE] [the driver's arguments]
 # README.md says more. It needs the kit's rt, rustc and, for --against, cc.
 set -eu
 
@@ -11,10 +11,12 @@ kit=$(dirname "$(dirname "$(readlink -f "$(command -v rt)")")")
 
 cpu=x86-64-v2
 against=
+tables=
 while [ $# -ge 2 ]; do
     case $1 in
         --cpu) cpu=$2 ;;
         --against) against="$against $2" ;;
+        --tables) tables=$2 ;;
         *) break ;;
     esac
     shift 2
@@ -35,13 +37,24 @@ for level in $against; do
     build "$level"
     cc -shared -o "$out/$level/measured.so" -Wl,--whole-archive "$out/$level/libmeasured.a" \
         -Wl,--no-whole-archive "$kit/c/liblibc_c.a"
-    set -- "$@" "simd_cesu8 at $level=$out/$level/measured.so"
+    set -- "$@" --against "$level=$out/$level/measured.so"
 done
 
 build "$cpu"
 rustc --edition 2024 -O -o "$out/driver" "$bench/driver.rs" \
     -L "native=$out/$cpu" -l static=measured -L "native=$kit/c" -l static=libc_c
 
-machine="$(date +%F), $(grep -m 1 'model name' /proc/cpuinfo | sed 's/.*: //'), library built for $cpu"
-echo "$machine"
-"$out/driver" --machine "$machine" "$@"
+machine="$(date +%F), $(grep -m 1 'model name' /proc/cpuinfo | sed 's/.*: //')"
+commit=$(git -C "$bench" describe --always --dirty 2>/dev/null || echo 'an unknown commit')
+
+measure() {
+    printf '# What was measured\n\n%s, at %s. [README.md](README.md) says how.\n\n' "$machine" "$commit"
+    "$out/driver" --level "$cpu" --machine "$machine" "$@"
+}
+
+if [ -n "$tables" ]; then
+    measure "$@" >"$out/tables.md"
+    cp "$out/tables.md" "$tables"
+else
+    measure "$@"
+fi

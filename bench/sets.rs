@@ -1,7 +1,7 @@
 //! The inputs, made from a fixed seed.
 
-use crate::codec::{Action, Flavor};
-use crate::expected::{encoded, expected};
+use crate::codec::Flavor;
+use crate::expected::encoded;
 use std::alloc::{Layout, alloc};
 use std::{ptr, slice};
 
@@ -34,7 +34,7 @@ impl Random {
     }
 }
 
-/// One input, and how each call answers it. `text` is the UTF-8 of the text that the input spells.
+/// One input. `text` is the UTF-8 of the text that the input spells.
 pub struct Set {
     pub name: &'static str,
     pub input: &'static [u8],
@@ -71,8 +71,8 @@ impl Set {
         }
     }
 
-    pub fn answer(&self, action: Action, flavor: Flavor) -> Option<Vec<u8>> {
-        expected(action, flavor, self.input)
+    pub fn is_utf8(&self) -> bool {
+        self.input == self.text
     }
 }
 
@@ -160,8 +160,8 @@ impl Kind {
             Kind::Four => "four-byte characters",
             Kind::Null => "null alone",
             Kind::NullInTurn => "ASCII and null in turn",
-            Kind::Random => "all lengths by chance",
-            Kind::RandomWithNull => "all lengths and null by chance",
+            Kind::Random => "random widths",
+            Kind::RandomWithNull => "random widths and null",
             Kind::SparseAscii => "ASCII, one emoji in 97",
             Kind::Sparse => "one to three bytes, one emoji in 97",
         }
@@ -232,18 +232,18 @@ pub fn text_of(kind: Kind, length: usize) -> &'static [u8] {
 }
 
 /// So many bytes, of which the last is ASCII: the encoding of characters, with one byte in so many, if
-/// any, replaced by chance.
+/// any, replaced by a random one.
 pub fn encoded_bytes(
     flavor: Flavor,
     length: usize,
     damaged_in: Option<u64>,
+    random: &mut Random,
     character: impl Fn(&mut Random, usize) -> char,
 ) -> Vec<u8> {
-    let mut random = Random(SEED);
     let mut bytes = Vec::with_capacity(length);
     let mut place = 0;
     while length - bytes.len() > 6 {
-        let next = character(&mut random, place);
+        let next = character(random, place);
         bytes.extend(encoded(flavor, &next.to_string()));
         place += 1;
     }

@@ -2,25 +2,15 @@
 
 use crate::codec::{Action, Codec, FLAVORS, Flavor, Outcome, path};
 use crate::expected::{encoded, expected};
+use crate::grid::{Column, Grid, Unit};
 use crate::inputs::{Case, Inputs};
-use crate::lengths::{LengthTable, Unit, nanoseconds};
-use crate::picture::{Bars, Panel};
 use crate::sets::{Random, SEED, at_page_start, of_any_length};
-use crate::timing::{self, Measured};
-use std::iter;
+use crate::timing::Measured;
 
 const LENGTHS: [usize; 10] = [4, 8, 16, 24, 32, 48, 64, 96, 128, 256];
 
 /// How many inputs there are of a kind and length.
 const COUNT: usize = 1_024;
-
-/// The length and the calls whose speeds the picture shows.
-const PICTURED: usize = 24;
-const PICTURED_ACTIONS: [Action; 3] = [
-    Action::Encode,
-    Action::DecodeStrict,
-    Action::DecodeLossyStrict,
-];
 
 const ACTIONS: [Action; 6] = [
     Action::Encode,
@@ -127,10 +117,6 @@ impl Kind {
         }
     }
 
-    fn is_refused_by(self, action: Action) -> bool {
-        self == Kind::Damaged && matches!(action, Action::Decode | Action::DecodeStrict)
-    }
-
     fn character(self, random: &mut Random) -> char {
         match self {
             Kind::Ascii | Kind::OneEmoji | Kind::OneNull => ascii(random),
@@ -202,19 +188,20 @@ impl Kind {
 struct Part<'a> {
     action: Action,
     flavor: Flavor,
-    table: LengthTable<'a>,
+    grid: Grid<'a>,
 }
 
 impl Part<'_> {
     fn add(&mut self, kind: Kind, inputs: Inputs) -> Result<(), String> {
         let title = kind.title();
         let case = Case::new(self.action, self.flavor, title, inputs);
-        self.table
-            .add_measured(title, inputs.length, |codec| case.measured(codec))
+        self.grid
+            .add(title, Column::Length(inputs.length), |codec| {
+                case.measured(codec)
+            })
     }
 }
 
-/// What a call costs in itself.
 extern "C" fn nothing(_: *const u8, length: usize, _: *mut u8, _: usize) -> Outcome {
     Outcome {
         length,
@@ -224,93 +211,54 @@ extern "C" fn nothing(_: *const u8, length: usize, _: *mut u8, _: usize) -> Outc
     }
 }
 
-pub struct ShortTable<'a> {
-    parts: Vec<Part<'a>>,
-    nothing: Measured,
+/// What a call costs in itself.
+pub struct Nothing(pub Measured);
+
+impl Nothing {
+    pub fn new() -> Nothing {
+        let inputs = Kind::Ascii.inputs(Writing::Utf8, LENGTHS[0]);
+        Nothing(Measured::of_inputs(nothing, inputs))
+    }
 }
 
-impl ShortTable<'_> {
-    /// Tests each call on each input, and times none yet.
-    pub fn of(codecs: &[Codec]) -> Result<ShortTable<'_>, String> {
-        let mut parts = Vec::new();
-        for flavor in FLAVORS {
-            parts.extend(ACTIONS.map(|action| Part {
-                action,
-                flavor,
-                table: LengthTable::of(codecs),
-            }));
-        }
-        let inputs = Kind::Ascii.inputs(Writing::Utf8, LENGTHS[0]);
-        let nothing = Measured::of_inputs(nothing, inputs);
-        let mut table = ShortTable { parts, nothing };
-        for kind in KINDS {
-            for length in LENGTHS {
-                for writing in WRITINGS {
-                    table.add(kind, writing, length)?;
-                }
+pub fn heading(action: Action, flavor: Flavor) -> String {
+    format!("`{}` on short strings, in ns", path(action, flavor))
+}
+
+fn parts(codecs: &[Codec]) -> Vec<Part<'_>> {
+    let mut parts = Vec::new();
+    for flavor in FLAVORS {
+        parts.extend(ACTIONS.map(|action| Part {
+            action,
+            flavor,
+            grid: Grid::of(codecs, heading(action, flavor), Unit::Nanoseconds),
+        }));
+    }
+    parts
+}
+
+pub fn grids(codecs: &[Codec]) -> Result<Vec<Grid<'_>>, String> {
+    let mut parts = parts(codecs);
+    for kind in KINDS {
+        for length in LENGTHS {
+            for writing in WRITINGS {
+                add(&mut parts, kind, writing, length)?;
             }
         }
-        Ok(table)
     }
+    Ok(parts.into_iter().map(|part| part.grid).collect())
+}
 
-    /// Adds to the calls that take what is so written.
-    fn add(&mut self, kind: Kind, writing: Writing, length: usize) -> Result<(), String> {
-        if !kind.exists(writing, length) {
-            return Ok(());
-        }
-        let inputs = kind.inputs(writing, length);
-        for part in &mut self.parts {
-            if Writing::taken_by(part.action, part.flavor) == writing {
-                part.add(kind, inputs)?;
-            }
-        }
-        Ok(())
+/// Adds to the calls that take what is so written.
+fn add(parts: &mut [Part], kind: Kind, writing: Writing, length: usize) -> Result<(), String> {
+    if !kind.exists(writing, length) {
+        return Ok(());
     }
-
-    pub fn measure(&mut self, rounds: u32) {
-        let parts = self.parts.iter_mut();
-        let measured = parts.flat_map(|part| part.table.measured());
-        timing::measure(measured.chain(iter::once(&mut self.nothing)), rounds);
-    }
-
-    pub fn print(&self) {
-        let nothing = nanoseconds(self.nothing.seconds());
-        println!("\nShort inputs: a call by C's convention that does nothing takes {nothing} ns.");
-        for part in &self.parts {
-            let call = path(part.action, part.flavor);
-            let heading = format!("`{call}`, short inputs, in ns a call");
-            part.table.print_by_length(&heading, Unit::Nanoseconds);
+    let inputs = kind.inputs(writing, length);
+    for part in parts {
+        if Writing::taken_by(part.action, part.flavor) == writing {
+            part.add(kind, inputs)?;
         }
     }
-
-    fn speed(&self, action: Action, flavor: Flavor, kind: Kind, codec: usize) -> Option<f64> {
-        let mut parts = self.parts.iter();
-        let part = parts.find(|part| part.action == action && part.flavor == flavor)?;
-        part.table.gigabytes(kind.title(), PICTURED, codec)
-    }
-
-    fn panel(&self, action: Action) -> Panel {
-        let speeds = |kind, codec| FLAVORS.map(|flavor| self.speed(action, flavor, kind, codec));
-        let kinds = KINDS.into_iter().filter(|kind| !kind.is_refused_by(action));
-        let bars = kinds.map(|kind| Bars {
-            title: kind.title().to_string(),
-            speeds: speeds(kind, 0),
-            others: speeds(kind, 1),
-        });
-        let rows = bars.filter(|bars| bars.speeds != [None, None]);
-        let title = match action {
-            Action::Encode => "encode, of a text",
-            _ => action.title(),
-        };
-        Panel {
-            title: title.to_string(),
-            bytes: PICTURED,
-            rows: rows.collect(),
-        }
-    }
-
-    /// What a picture shows of short inputs.
-    pub fn panels(&self) -> [Panel; 3] {
-        PICTURED_ACTIONS.map(|action| self.panel(action))
-    }
+    Ok(())
 }

@@ -35,8 +35,8 @@ pub struct Measured {
     repeats: u32,
     /// It is measured in one round of so many.
     distance: u32,
-    /// The least seconds that a run took.
-    best: f64,
+    /// The least seconds that a run took, in each measurement.
+    bests: Vec<f64>,
 }
 
 impl Measured {
@@ -54,7 +54,7 @@ impl Measured {
             enough: BATCH,
             repeats: 1,
             distance: if bytes < LONG { 1 } else { LONG_DISTANCE },
-            best: f64::INFINITY,
+            bests: Vec::new(),
         }
     }
 
@@ -94,23 +94,37 @@ impl Measured {
         start.elapsed()
     }
 
-    fn calibrate(&mut self) {
+    /// Begins a measurement.
+    fn begin(&mut self) {
         while self.bytes < LONG && self.repeats < 1 << 20 && self.batch() < self.enough {
             self.repeats *= 2;
         }
+        self.bests.push(f64::INFINITY);
     }
 
     /// Measures one batch, if it is this round's turn.
     fn round(&mut self, round: u32) {
         if round % self.distance == 0 {
             let seconds = self.batch().as_secs_f64() / f64::from(self.repeats);
-            self.best = self.best.min(seconds);
+            if let Some(best) = self.bests.last_mut() {
+                *best = best.min(seconds);
+            }
         }
+    }
+
+    /// The least time of a measurement, in seconds a run.
+    fn least(&self) -> f64 {
+        self.bests.iter().copied().fold(f64::INFINITY, f64::min)
     }
 
     /// The best time of a call.
     pub fn seconds(&self) -> f64 {
-        self.best / self.calls as f64
+        self.least() / self.calls as f64
+    }
+
+    /// The slowest measurement's time over the fastest one's.
+    pub fn scatter(&self) -> f64 {
+        self.bests.iter().copied().fold(0.0, f64::max) / self.least()
     }
 
     pub fn gigabytes(&self) -> f64 {
@@ -118,11 +132,11 @@ impl Measured {
     }
 }
 
-/// Measures all in so many rounds, one after the other in each round.
+/// Measures all once more in so many rounds, one after the other in each round.
 pub fn measure<'a>(measured: impl Iterator<Item = &'a mut Measured>, rounds: u32) {
     let mut all: Vec<&mut Measured> = measured.collect();
     for one in &mut all {
-        one.calibrate();
+        one.begin();
     }
     for round in 0..rounds {
         for one in &mut all {
