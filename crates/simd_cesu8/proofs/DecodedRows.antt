@@ -70,8 +70,8 @@ pub at_most : (kept : ℕ → List ℕ) (most : ℕ) → agree_below (is_short k
 unfolding is_short
 at_most kept most e set l = leb-true _ _ (agree_below_at (is_short kept most) (λ _. true) 0x100 set e l)
 
-module _ (n gone_set damaged_set : ℕ) (row : List ℕ) (row_is : row ≡ shuffle_keeping (kept_of gone_set damaged_set 0 n))
-    (few : length (kept_of gone_set damaged_set 0 n) ≤ 15) where
+module _ (n gone_set damaged_set most : ℕ) (row : List ℕ) (row_is : row ≡ shuffle_keeping (kept_of gone_set damaged_set 0 n))
+    (few : length (kept_of gone_set damaged_set 0 n) ≤ most) (fits : most ≤ 15) where
   abbrev kept : List ℕ
   kept = kept_of gone_set damaged_set 0 n
 
@@ -79,11 +79,14 @@ module _ (n gone_set damaged_set : ℕ) (row : List ℕ) (row_is : row ≡ shuff
   zeros = replicate (15 - length kept) 0
 
   front_long : length (kept ++ zeros) ≡ 15
-  front_long = omega (arith, length-append kept zeros, length-replicate {A = ℕ} (15 - length kept) 0, few)
+  front_long = omega (arith, length-append kept zeros, length-replicate {A = ℕ} (15 - length kept) 0, few, fits)
 
   -- The last number of a row is how many lanes are kept.
-  pub end_of_row : get_or row 15 0 ≡ length kept
-  end_of_row = ap (λ r. get_or r 15 0) row_is ∙ get_or_at (kept ++ zeros) (length kept) [] 0 15 front_long
+  last_is : get_or row 15 0 ≡ length kept
+  last_is = ap (λ r. get_or r 15 0) row_is ∙ get_or_at (kept ++ zeros) (length kept) [] 0 15 front_long
+
+  pub end_of_row : get_or row 15 0 ≤ most
+  end_of_row = omega (arith, last_is, few)
 
   module _ (out lanes : List ℕ) (at : ℕ) (lanes_long : length lanes ≡ 16) (room : at + 16 ≤ length out) where
     abbrev lane : ℕ → ℕ
@@ -104,7 +107,7 @@ module _ (n gone_set damaged_set : ℕ) (row : List ℕ) (row_is : row ≡ shuff
         ∙ ap (written gone damaged) front in
         ap (λ v. take (at + get_or row 15 0) (put_chunk at out v)) (ap (map lane) parts ∙ map-append lane kept padding)
         ∙ stored_front out (map lane kept) (map lane padding) at (at + get_or row 15 0)
-        (omega (arith, long, length-map kept lane, length-map padding lane)) (omega (arith, end_of_row, length-map kept lane))
+        (omega (arith, long, length-map kept lane, length-map padding lane)) (omega (arith, last_is, length-map kept lane))
         ∙ ap (λ l. take at out ++ l) kept_is
 
 -- ---- four bytes
@@ -117,19 +120,16 @@ unfolding is_short
 few_of_four = at_most kept_of_four 12 refl
 
 module _ (row : List ℕ) (set : ℕ) (small : set < 0x100) (row_is : row ≡ shuffle_of_four set) where
-  few : length (kept_of_four set) ≤ 15
-  few = omega (arith, few_of_four set small)
-
   -- the end of what a row packs
   pub end_of_four : get_or row 15 0 ≤ 12
-  end_of_four = omega (arith, end_of_row 4 (set % 0x10) (set / 0x10) row row_is few, few_of_four set small)
+  end_of_four = end_of_row 4 (set % 0x10) (set / 0x10) 12 row row_is (few_of_four set small) (omega arith)
 
   pub stored_four : (out lanes : List ℕ) (at : ℕ) → length lanes ≡ 16 → at + 16 ≤ length out → chunk 4 3 lanes ≡ 0xEF ∷ 0xBF ∷ 0xBD ∷ [] →
       (gone damaged : List Bool) → length gone ≡ 4 → length damaged ≡ 4 → set ≡ mask_l (gone ++ damaged) →
       take (at + get_or row 15 0) (put_chunk at out (map (λ j. get_or lanes (j % 0x10) 0) row)) ≡ take at out ++ written gone damaged (chunk 0 4 lanes)
   stored_four out lanes at lanes_long room replacement gone damaged g d set_is =
       let long : 4 ≤ length (gone ++ damaged) = omega (arith, length-append gone damaged) in
-      stored_row 4 (set % 0x10) (set / 0x10) row row_is few out lanes at lanes_long room gone damaged g d
+      stored_row 4 (set % 0x10) (set / 0x10) 12 row row_is (few_of_four set small) (omega arith) out lanes at lanes_long room gone damaged g d
       (ap (λ m. m % 0x10) set_is ∙ mask_front 4 (gone ++ damaged) long ∙ ap mask_l (take_at gone damaged 4 g))
       (ap (λ m. m / 0x10) set_is ∙ mask_rest 4 (gone ++ damaged) long ∙ ap mask_l (drop_at gone damaged 4 g))
       (pick_l-range_with_len 0 lanes 0 4 (omega arith)) (λ _. pick_l-range_with_len 0 lanes 4 3 (omega arith) ∙ replacement)

@@ -17,18 +17,15 @@ unfolding is_short
 few_of_eight = at_most kept_of_eight 8 refl
 
 module _ (row : List ℕ) (gone : ℕ) (small : gone < 0x100) (row_is : row ≡ shuffle_of_eight gone) where
-  few : length (kept_of_eight gone) ≤ 15
-  few = omega (arith, few_of_eight gone small)
-
   -- the end of what a row packs
   pub end_of_eight : get_or row 15 0 ≤ 8
-  end_of_eight = omega (arith, end_of_row 8 gone 0 row row_is few, few_of_eight gone small)
+  end_of_eight = end_of_row 8 gone 0 8 row row_is (few_of_eight gone small) (omega arith)
 
   pub stored_eight : (out lanes : List ℕ) (at : ℕ) → length lanes ≡ 16 → at + 16 ≤ length out → (tests : List Bool) → length tests ≡ 8 → gone ≡ mask_l tests →
       take (at + get_or row 15 0) (put_chunk at out (map (λ j. get_or lanes (j % 0x10) 0) row))
       ≡ take at out ++ written tests (replicate 8 false) (chunk 0 8 lanes)
   stored_eight out lanes at lanes_long room tests long gone_is =
-      stored_row 8 gone 0 row row_is few out lanes at lanes_long room tests (replicate 8 false) long refl gone_is refl
+      stored_row 8 gone 0 8 row row_is (few_of_eight gone small) (omega arith) out lanes at lanes_long room tests (replicate 8 false) long refl gone_is refl
       (pick_l-range_with_len 0 lanes 0 8 (omega arith)) (λ some. absurd (omega (arith, some)))
 
 -- ---- 32 bytes
