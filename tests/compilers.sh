@@ -1,5 +1,5 @@
-# What the scripts that compile share. They source this file, and set `scratch` before, a folder for
-# what a compiler says and makes, and `crate`, the folder of the exports.
+# What the scripts that build share. They source this file, and set `scratch` before, a folder for
+# what a build says and makes, and for `exports` also `crate`, the folder of the exports.
 # shellcheck shell=bash disable=SC2034,SC2154
 
 wrong=0

@@ -16,13 +16,8 @@ top=$(cd "$(dirname "${BASH_SOURCE[0]}")/.." && pwd) || exit 2
 scratch=$(mktemp -d) || exit 2
 trap 'rm -rf "$scratch"' EXIT
 
-wrong=0
-
-# Notes that something is wrong: `wrong WHAT`.
-wrong() {
-    echo "wrong: $1"
-    wrong=1
-}
+# shellcheck source=tests/compilers.sh
+source "$top/tests/compilers.sh" || exit 2
 
 # The crate of the new repository: the program that docs/CALLING.md shows, and a module whose proof
 # cites a clause and a law.
@@ -94,8 +89,7 @@ prove() {
         mkdir "$new/crates/$library/out" || exit 2
         cp -R "$top/crates/$library/out/rlib" "$new/crates/$library/out" || exit 2
     done
-    if ! (cd "$new/crates/keys" && rt run) </dev/null >"$scratch/said" 2>&1; then
-        cat "$scratch/said"
+    if ! (cd "$new/crates/keys" && quietly rt run); then
         wrong 'the crate is not proved'
     elif ! grep -qx '6 bytes, borrowed: false' "$scratch/said"; then
         cat "$scratch/said"

@@ -66,6 +66,7 @@ pub mod FirstLanes
 pub mod DecodedBlocks
 pub mod StartLanes
 pub mod DecodedRows
+pub mod DecodedRowsOfEight
 pub mod SavedLanes
 pub mod SavedRest
 pub mod DecodedWindows

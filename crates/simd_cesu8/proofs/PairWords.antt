@@ -1,7 +1,7 @@
 -- The words by which a surrogate pair is found and joined: its six bytes and two more.
 use Rattle.std.proofs.Common.{◌≡◌, ℕ, true, ◌&&◌, ◌+◌, ◌*◌, ◌/◌, ◌%◌, ◌^◌, ◌<◌, ◌≤◌, [], ◌∷◌, refl, sym, ap, ◌∙◌, arith, bit_and, eqb, leb, ltb, w32}
 use Rattle.std.specs.Int.{to_le_bytes}
-use Rattle.std.proofs.lemmas.Bool.{agree_below_at, eq-eqb, and_parts, leb-true, ltb-true}
+use Rattle.std.proofs.lemmas.Bool.{agree_below_at, eq-eqb, eqb-true, and_parts, and_from, le-leb, lt-ltb, leb-true, ltb-true}
 use Rattle.std.proofs.lemmas.Nat.{and_mask, and_block, and_le_r}
 use Rattle.simd_cesu8.specs.Text.{utf8_of}
 use Rattle.simd_cesu8.specs.Internal.{EndsPair}
@@ -75,6 +75,19 @@ word_is_pair a b d e g h more a_byte b_byte d_byte e_byte g_byte h_byte passes =
         between 0x80 0xC0 h (sym (continuation_test h h_byte) ∙ eq-eqb _ _ h_top),
       );
     }
+
+within : (low high x : ℕ) → (low ≤ x) × (x < high) → (leb low x && ltb x high) ≡ true
+within low high x inside = and_from (leb low x) (ltb x high) (le-leb low x inside.0) (lt-ltb x high inside.1)
+
+-- The word of these bytes passes.
+pub pair_is_word : (a b d e g h more : ℕ) → a < 0x100 → b < 0x100 → d < 0x100 → e < 0x100 → g < 0x100 → h < 0x100 →
+    IsPairBytes a b d e g h → bit_and (word_of a b d e g h more) 0xC0F0FFC0F0FF ≡ 0x80B0ED80A0ED
+pair_is_word a b d e g h more a_byte b_byte d_byte e_byte g_byte h_byte pair =
+    let b_top : bit_and b 0xF0 ≡ 0xA0 = eqb-true _ _ (high_surrogate_test b b_byte ∙ within 0xA0 0xB0 b pair.high) in
+    let d_top : bit_and d 0xC0 ≡ 0x80 = eqb-true _ _ (continuation_test d d_byte ∙ within 0x80 0xC0 d pair.ends.0) in
+    let g_top : bit_and g 0xF0 ≡ 0xB0 = eqb-true _ _ (low_surrogate_test g g_byte ∙ within 0xB0 0xC0 g pair.ends.2) in
+    let h_top : bit_and h 0xC0 ≡ 0x80 = eqb-true _ _ (continuation_test h h_byte ∙ within 0x80 0xC0 h pair.ends.3) in
+    masked a b d e g h more a_byte b_byte d_byte e_byte g_byte h_byte ∙ rw (b_top, d_top, g_top, h_top) (omega (arith, pair.lead, pair.ends.1))
 
 -- The word of the UTF-8 that the word of a surrogate pair is joined to.
 abbrev pub joined_word : ℕ → ℕ

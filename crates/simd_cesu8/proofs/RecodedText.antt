@@ -7,6 +7,8 @@ use Rattle.std.proofs.lemmas.Nat.{and_mask, or_shifted}
 use lib.Bits.{or_add_and, and_zero_r}
 use Rattle.simd_cesu8.specs.Text.{IsText, utf8_of, utf8}
 use Rattle.simd_cesu8.specs.Encoding.{Flavor, Cesu8, Mutf8, encoding, short_form}
+use Rattle.simd_cesu8.specs.Internal.{flavor_of}
+use Rattle.simd_cesu8.specs.declared.internal.Flavor.{Flavor as FlavorOption}
 use Rattle.simd_cesu8.specs.EncodedPlaces.{is_null, six_bits, place, place_at, places, recoded}
 use Rattle.simd_cesu8.proofs.StdUtf8.{IsUtf8Of_chars}
 use Rattle.simd_cesu8.proofs.Shapes.{Shape, IsPair, one, two, three, pair, shape, utf8_of_one, utf8_of_two, utf8_of_three, utf8_of_pair}
@@ -165,7 +167,13 @@ unfolding places
 recoded_utf8 f text is_text = by_places f 0 0 (utf8 text) ∙ text_written f text is_text 0 0 (omega arith) (omega arith)
 
 -- The same of the text that std's UTF-8 has.
-pub recoded_chars : (f : Flavor) (bytes text : List ℕ) → text ≡ bytes → IsUtf8 bytes → recoded f text ≡ encoding f (chars bytes)
+recoded_chars : (f : Flavor) (bytes text : List ℕ) → text ≡ bytes → IsUtf8 bytes → recoded f text ≡ encoding f (chars bytes)
 recoded_chars f bytes text same_bytes is_utf8 =
     let of_chars = IsUtf8Of_chars bytes is_utf8 in
     ap (recoded f) (same_bytes ∙ sym of_chars.1) ∙ recoded_utf8 f (chars bytes) of_chars.0
+
+-- The same in the flavor that the code's value names.
+pub recoded_named : (option flavor : FlavorOption) (bytes text : List ℕ) → flavor ≡ option → text ≡ bytes → IsUtf8 bytes →
+    recoded (flavor_of option) text ≡ encoding (flavor_of flavor) (chars bytes)
+recoded_named option flavor bytes text is same_bytes is_utf8 =
+    recoded_chars (flavor_of option) bytes text same_bytes is_utf8 ∙ ap (λ o. encoding (flavor_of o) (chars bytes)) (sym is)

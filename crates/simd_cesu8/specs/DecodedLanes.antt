@@ -84,11 +84,14 @@ kept_of gone damaged i (suc n) =
     (if damaged % 2 == 1 then 4 ∷ 5 ∷ 6 ∷ [] else if gone % 2 == 1 then [] else i ∷ [])
     ++ kept_of (gone / 2) (damaged / 2) (i + 1) n
 
--- The same as a shuffle of sixteen lanes, of which the last says how many are kept, and those before it
--- are of no use.
+-- A shuffle of sixteen lanes that keeps these. The last number says how many they are, and those
+-- before it are of no use.
+abbrev pub shuffle_keeping : List ℕ → List ℕ
+shuffle_keeping kept = kept ++ replicate (15 - length kept) 0 ++ length kept ∷ []
+
+-- The lower four bits of the set say which of four bytes go, and the upper four which are damaged.
 abbrev pub shuffle_of_four : ℕ → List ℕ
-shuffle_of_four set =
-    let kept = kept_of (set % 0x10) (set / 0x10) 0 4 in kept ++ replicate (15 - length kept) 0 ++ length kept ∷ []
+shuffle_of_four set = shuffle_keeping (kept_of (set % 0x10) (set / 0x10) 0 4)
 
 -- The rows of shuffles, one for each number below 100 (hexadecimal).
 abbrev pub AreShufflesOfFour : List (List ℕ) → Type 0
@@ -96,8 +99,7 @@ AreShufflesOfFour rows = (set : ℕ) → set < 0x100 → slice_index_or rows set
 
 -- The same for eight bytes of which none is damaged. Bit i of the number says whether byte i goes.
 abbrev pub shuffle_of_eight : ℕ → List ℕ
-shuffle_of_eight gone =
-    let kept = kept_of gone 0 0 8 in kept ++ replicate (15 - length kept) 0 ++ length kept ∷ []
+shuffle_of_eight gone = shuffle_keeping (kept_of gone 0 0 8)
 
 abbrev pub AreShufflesOfEight : List (List ℕ) → Type 0
 AreShufflesOfEight rows = (gone : ℕ) → gone < 0x100 → slice_index_or rows gone [] ≡ shuffle_of_eight gone

@@ -25,6 +25,9 @@ pub use encoder::{encode, encode_into, encode_to_slice};
 pub use lengths::encoded_len;
 pub use writers::{copy, copy_text, copy_to_slice};
 
+/// A shuffle for each of 256 sets.
+type Rows = [[u8; 16]; 256];
+
 /// Which of the two encodings.
 #[derive(Clone, Copy)]
 pub enum Flavor {

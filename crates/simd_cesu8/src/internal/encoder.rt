@@ -38,10 +38,8 @@ use std::alloc::{AllocError, Allocator};
 /// How many bytes a text has at most whose encoding is written before its length is known.
 const SHORT: usize = 128;
 
-/// The most that the encoding of a short text has, of one of half that length, and of a block.
+/// The most that the encoding of a short text has, and that of a block.
 const SHORT_ENCODED: usize = 2 * SHORT;
-
-const HALF_ENCODED: usize = SHORT;
 
 const BLOCK_ENCODED: usize = 2 * BLOCK;
 

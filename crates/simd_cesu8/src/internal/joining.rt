@@ -4,7 +4,7 @@
 //! change. Whether what comes out is UTF-8 is not looked at here, so it does not matter which bytes
 //! the mask marks: where it leaves one out that has to change, no UTF-8 comes out.
 
-ghost use Rattle.std.specs.Prelude.{◌≡◌, ◌+◌, ◌<◌, ◌≤◌, length, take, drop, IsTrue, IfSome, IfNone};
+ghost use Rattle.std.specs.Prelude.{◌≡◌, ◌+◌, ◌<◌, ◌≤◌, ◌↔◌, length, take, drop, IsTrue, IfSome, IfNone};
 ghost use Rattle.simd_cesu8.specs.Encoding.{Flavor as AnyFlavor, Mutf8};
 ghost use Rattle.simd_cesu8.specs.Internal.{flavor_of};
 ghost use Rattle.simd_cesu8.specs.Joining.{IsJoined, IsJoinedAfter, KeepsJoined, nulls, HasNull};
@@ -217,7 +217,7 @@ fn join_changed(
 #[inline(always)]
 fn is_null(flavor: Flavor, bytes: &[u8]) -> bool
     requires { 2 ≤ length bytes.now }
-    ensures { IsTrue result → HasNull (flavor_of flavor) bytes.now }
+    ensures { IsTrue result ↔ HasNull (flavor_of flavor) bytes.now }
 {
     match flavor {
         Flavor::Cesu8 => false,
@@ -238,7 +238,7 @@ const NULL_MARKS: u32 = 0x5555_5555;
 #[inline(always)]
 fn is_nulls(bytes: &[u8]) -> bool
     requires { 32 ≤ length bytes.now }
-    ensures { IsTrue result → take 32 bytes.now ≡ nulls }
+    ensures { IsTrue result ↔ take 32 bytes.now ≡ nulls }
 {
     let front = &bytes[..32];
     front == NULLS.as_slice()

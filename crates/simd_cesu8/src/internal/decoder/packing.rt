@@ -5,8 +5,8 @@ ghost use Rattle.std.specs.Prelude.{◌≡◌, List, Bool, ◌+◌, ◌%◌, ◌
 ghost use Rattle.std.specs.Simd.Lanes.{chunk, mask_l};
 ghost use Rattle.simd_cesu8.specs.DecodedLanes.{is_high, written, written_lanes, AreShufflesOfFour};
 
-use super::rows::Rows;
 use super::rows_of_eight::rows_of_eight;
+use crate::internal::Rows;
 use std::simd::prelude::*;
 
 /// What becomes of the bytes of a block. Where a lane of `damaged` has its highest bit, the

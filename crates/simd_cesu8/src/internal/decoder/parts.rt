@@ -19,7 +19,7 @@ ghost use Rattle.simd_cesu8.specs.DecodedLanes.{AreCodesNear, AreShufflesOfFour,
 
 use super::packing::{Parts, highest_bits, store};
 use super::places::{Codes, PAIR, REACH, THREE, equal, look_up};
-use super::rows::Rows;
+use crate::internal::Rows;
 use crate::internal::null_form::NullForm;
 use std::simd::prelude::*;
 

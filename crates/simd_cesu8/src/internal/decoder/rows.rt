@@ -2,11 +2,11 @@
 
 ghost use Rattle.simd_cesu8.specs.DecodedLanes.{AreShufflesOfFour};
 
-/// A shuffle for each set. Lanes 0 to 3 of what is shuffled have the bytes, and lanes 4 to 6 the
-/// replacement character. The last number of a row is not shuffled: it is how many bytes are written.
-pub type Rows = [[u8; 16]; 256];
+use crate::internal::Rows;
 
-/// In row `d` byte `i` is replaced where bit `4 + i` of `d` is set, and else goes where bit `i` is.
+/// Lanes 0 to 3 of what is shuffled have the bytes, and lanes 4 to 6 the replacement character. In
+/// row `d` byte `i` is replaced where bit `4 + i` of `d` is set, and else goes where bit `i` is.
+/// The last number of a row is not shuffled: it is how many bytes are written.
 const ROWS: Rows = [
     [0, 1, 2, 3, 0, 0, 0, 0, 0, 0, 0, 0, 0, 0, 0, 4],
     [1, 2, 3, 0, 0, 0, 0, 0, 0, 0, 0, 0, 0, 0, 0, 3],

@@ -2,7 +2,7 @@
 
 ghost use Rattle.simd_cesu8.specs.DecodedLanes.{AreShufflesOfEight};
 
-use super::rows::Rows;
+use crate::internal::Rows;
 
 /// In row `gone` byte `i` goes where bit `i` of `gone` is set. The last number of a row is how many
 /// bytes are written.

@@ -5,7 +5,8 @@ ghost use Rattle.std.specs.Simd.Lanes.{chunk, zip2, mask_l};
 ghost use Rattle.simd_cesu8.specs.Encoding.{Flavor, Cesu8, Mutf8};
 ghost use Rattle.simd_cesu8.specs.EncodedPlaces.{is_lead, is_null, mask, six_bits, packed, places, AreShuffles, AreLanes};
 
-use super::rows::{Rows, rows};
+use super::rows::rows;
+use crate::internal::Rows;
 use crate::internal::null_form::NullForm;
 use crate::internal::writers::put;
 use std::simd::prelude::*;

@@ -2,11 +2,11 @@
 
 ghost use Rattle.simd_cesu8.specs.EncodedPlaces.{AreShuffles};
 
-/// A shuffle for each set of eight bytes. Lane `i` of what is shuffled has what is written last for
-/// byte `i`, and lane `8 + i` what comes before that where the byte becomes two.
-pub type Rows = [[u8; 16]; 256];
+use crate::internal::Rows;
 
-/// Row `doubled` keeps the upper lane `8 + i` where bit `i` of `doubled` is set.
+/// A row for each set of eight bytes. Lane `i` of what is shuffled has what is written last for
+/// byte `i`, and lane `8 + i` what comes before that where the byte becomes two. Row `doubled`
+/// keeps the upper lane `8 + i` where bit `i` of `doubled` is set.
 const ROWS: Rows = [
     [0, 1, 2, 3, 4, 5, 6, 7, 0, 0, 0, 0, 0, 0, 0, 0],
     [8, 0, 1, 2, 3, 4, 5, 6, 7, 0, 0, 0, 0, 0, 0, 0],

@@ -1,6 +1,6 @@
 //! Surrogate pairs, found and joined by words of eight bytes.
 
-ghost use Rattle.std.specs.Prelude.{◌≡◌, ◌+◌, ◌*◌, ◌<◌, ◌≤◌, length, take, drop, slice_index, IsTrue};
+ghost use Rattle.std.specs.Prelude.{◌≡◌, ◌+◌, ◌*◌, ◌<◌, ◌≤◌, ◌↔◌, length, take, drop, slice_index, IsTrue};
 ghost use Rattle.simd_cesu8.specs.Encoding.{Flavor as AnyFlavor};
 ghost use Rattle.simd_cesu8.specs.Joining.{IsJoinedAfter, KeepsJoined, HasPair, Joins, second_third_fifth_sixth, word_of};
 
@@ -53,7 +53,7 @@ fn join_pair(bytes: &[u8], written: usize, room: &mut Room)
 #[inline(always)]
 pub fn is_pair(bytes: &[u8]) -> bool
     requires { 8 ≤ length bytes.now }
-    ensures { IsTrue result → HasPair bytes.now }
+    ensures { IsTrue result ↔ HasPair bytes.now }
 {
     front_word(bytes) & 0x0000_C0F0_FFC0_F0FF == 0x0000_80B0_ED80_A0ED
 }
