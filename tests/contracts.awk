@@ -138,9 +138,6 @@ function item(    taken) {
         open_impl()
     else if (text ~ /^(pub(\([a-z: ]*\))? )?mod [A-Za-z0-9_]+ *[{]/)
         open_module()
-    else if (text ~ /^macro_rules! /)
-        # A macro has no clause, and the items that it writes have none.
-        take(end_of("{", "}"))
     else if (text ~ /^ghost [a-z_]+ *=/)
         ghost_member()
     else if (text ~ /^(pub|ghost|mod|use|type|const|static|extern|struct|enum|trait)[ (]/)

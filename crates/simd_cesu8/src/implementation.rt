@@ -1,17 +1,5 @@
 //! The kernels: whether bytes hold one that encoding changes. Their names are no promise to users.
 
-/// Returns what a function gives by the widest of these vectors that the bytes fill, if they fill
-/// one.
-macro_rules! return_by_width {
-    ($bytes:ident, [$($width:literal),+], $function:ident $arguments:tt) => {
-        $(
-            if $bytes.len() >= $width {
-                return $function::<$width> $arguments;
-            }
-        )+
-    };
-}
-
 pub(crate) mod count;
 pub mod fallback;
 pub(crate) mod short;

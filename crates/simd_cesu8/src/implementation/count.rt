@@ -105,7 +105,18 @@ fn count_short(value: &[u8]) -> Counts
     ensures nulls { result.nulls ≡ count_by (λ byte. byte == 0) value.now }
     ensures fours { result.fours ≡ count_by is_four value.now }
 {
-    return_by_width!(value, [32, 16, 8, 4], count_pair(value));
+    if value.len() >= 32 {
+        return count_pair::<32>(value);
+    }
+    if value.len() >= 16 {
+        return count_pair::<16>(value);
+    }
+    if value.len() >= 8 {
+        return count_pair::<8>(value);
+    }
+    if value.len() >= 4 {
+        return count_pair::<4>(value);
+    }
     count_each(value)
 }
 

@@ -36,7 +36,21 @@ pub fn any_in_short(class: ByteClass, bytes: &[u8]) -> bool
     if bytes.len() > BLOCK {
         return any_in_blocks(class, bytes);
     }
-    return_by_width!(bytes, [32, 16, 8, 4, 2], any_in_ends(class, bytes));
+    if bytes.len() >= 32 {
+        return any_in_ends::<32>(class, bytes);
+    }
+    if bytes.len() >= 16 {
+        return any_in_ends::<16>(class, bytes);
+    }
+    if bytes.len() >= 8 {
+        return any_in_ends::<8>(class, bytes);
+    }
+    if bytes.len() >= 4 {
+        return any_in_ends::<4>(class, bytes);
+    }
+    if bytes.len() >= 2 {
+        return any_in_ends::<2>(class, bytes);
+    }
     !bytes.is_empty() && any_in_ends::<1>(class, bytes)
 }
 
