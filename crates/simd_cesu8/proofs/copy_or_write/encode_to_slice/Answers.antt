@@ -3,7 +3,7 @@ use Rattle.std.proofs.lemmas.Bool.{iff_false}
 use Rattle.simd_cesu8.specs.Internal.{flavor_of}
 use Rattle.simd_cesu8.specs.Slices.{WritesAnswer}
 use Rattle.simd_cesu8.proofs.Needs.{encoding_is_bytes}
-use Rattle.simd_cesu8.proofs.borrow_or_build.encode_to_slice.Goals as goal
+use Rattle.simd_cesu8.proofs.copy_or_write.encode_to_slice.Goals as goal
 
 pub returns-then-not-needs_encoded : goal.returns-then-not-needs_encoded
 returns-then-not-needs_encoded c =
