@@ -37,6 +37,11 @@ can_build_c() {
     can_build "$1" cc -o "$scratch/probe" "$scratch/probe.c"
 }
 
+can_build_cpp() {
+    echo 'int main() {}' >"$scratch/probe.cpp"
+    can_build "$1" c++ -o "$scratch/probe" "$scratch/probe.cpp"
+}
+
 can_build_rust() {
     echo 'fn main() {}' >"$scratch/probe.rs"
     can_build "$1" rustc --edition 2024 -o "$scratch/probe" "$scratch/probe.rs"

@@ -1,9 +1,14 @@
 -- What a call returns to C, and what it leaves in the caller's buffer.
-use Rattle.std.specs.Prelude.{◌≡◌, ◌≢◌, ◌↔◌, ◌⊎◌, ◌^◌, ℕ, ◌+◌, ◌<◌, ◌≤◌, List, [], ◌∷◌, length, IsUtf8, IsTrue, false}
+use Rattle.std.specs.Prelude.{◌≡◌, ◌≢◌, ◌↔◌, ◌⊎◌, ◌^◌, ℕ, ◌+◌, ◌<◌, ◌≤◌, List, [], ◌∷◌, length, IsUtf8, IsTrue, Result, Ok, Err}
 use Rattle.std.specs.Str.{chars}
 use Rattle.simd_cesu8.specs.Encoding.{Flavor, Mutf8, encoding, NeedsEncoding}
 use Rattle.simd_cesu8.specs.Reading.{reading, lossy_length}
 use Rattle.simd_cesu8.specs.Slices.{StandsAtFront, ReadsAtLength, ReadingAtFront}
+use Rattle.simd_cesu8.specs.declared.error.TooShort.{TooShort}
+use Rattle.simd_cesu8.specs.declared.error.DecodeSliceFault.{DecodeSliceFault}
+use Rattle.simd_cesu8.specs.declared.error.DecodeSliceFault.TheVariants as strict
+use Rattle.simd_cesu8.specs.declared.error.LossySliceFault.{LossySliceFault}
+use Rattle.simd_cesu8.specs.declared.error.LossySliceFault.TheVariants as lossy
 use Rattle.java_text.specs.Form.{HasForm, java_form, BeginsWithForm, count_in, counted, rest_in, IsTruncated}
 use Rattle.cesu8_static.specs.declared.answer.Answer.{Answer}
 use Rattle.cesu8_static.specs.declared.answer.Decision.{Decision}
@@ -13,6 +18,23 @@ use Rattle.cesu8_static.specs.declared.answer.TheConstants.{OK, NOT_UTF8, INVALI
 -- What is read is told as any answer, beside what it takes of the input.
 abbrev pub answer_of : Reading → Answer
 answer_of read = record { status = read.status; length = read.length }
+
+-- What C is told of what a call on a slice returned that writes bytes,
+abbrev pub told_of_bytes : Result ℕ TooShort → Answer
+told_of_bytes (Ok len) = record { status = OK; length = len }
+told_of_bytes (Err fault) = record { status = TOO_SMALL; length = fault.needed }
+
+-- a text,
+abbrev pub told_of_text : Result ℕ DecodeSliceFault → Answer
+told_of_text (Ok len) = record { status = OK; length = len }
+told_of_text (Err (strict.Invalid error)) = record { status = INVALID; length = 0 }
+told_of_text (Err (strict.TooShort fault)) = record { status = TOO_SMALL; length = fault.needed }
+
+-- or one that is read with damage.
+abbrev pub told_of_lossy_text : Result ℕ LossySliceFault → Answer
+told_of_lossy_text (Ok len) = record { status = OK; length = len }
+told_of_lossy_text (Err lossy.TooLong) = record { status = TOO_LONG; length = 0 }
+told_of_lossy_text (Err (lossy.TooShort fault)) = record { status = TOO_SMALL; length = fault.needed }
 
 -- The status is one of these.
 abbrev pub IsAmong : List ℕ → ℕ → Type 0

@@ -1,8 +1,7 @@
 //! What an export returns, and what it says of the caller's buffer.
 
-ghost use Rattle.std.specs.Prelude.{◌≡◌, ℕ, List};
-ghost use Rattle.simd_cesu8.specs.Slices.{WritesAnswer, WritesReading, WritesLossyReading};
-ghost use Rattle.cesu8_static.specs.Answers.{answer_of, Places, Decodes, DecodesLossily};
+ghost use Rattle.std.specs.Prelude.{◌≡◌, false};
+ghost use Rattle.cesu8_static.specs.Answers.{answer_of, told_of_bytes, told_of_text, told_of_lossy_text};
 
 use simd_cesu8::{DecodeSliceFault, LossySliceFault, TooShort};
 
@@ -59,8 +58,7 @@ impl Answer {
 
     /// What is returned where bytes were to be written.
     pub(crate) fn of_bytes(outcome: Result<usize, TooShort>) -> Answer
-        ensures { (bytes old new : List ℕ) → WritesAnswer bytes outcome old new
-            → Places bytes result old new }
+        ensures { result ≡ told_of_bytes outcome }
     {
         match outcome {
             Ok(length) => Answer::of_length(length),
@@ -70,8 +68,7 @@ impl Answer {
 
     /// What is returned where a text was to be written.
     pub(crate) fn of_text(outcome: Result<usize, DecodeSliceFault>) -> Answer
-        ensures { (IsReading : List ℕ → Type 0) (old new : List ℕ)
-            → WritesReading IsReading outcome old new → Decodes IsReading result old new }
+        ensures { result ≡ told_of_text outcome }
     {
         match outcome {
             Ok(length) => Answer::of_length(length),
@@ -82,9 +79,7 @@ impl Answer {
 
     /// What is returned where a text was to be written that no input is refused.
     pub(crate) fn of_lossy_text(outcome: Result<usize, LossySliceFault>) -> Answer
-        ensures { (IsReading : List ℕ → Type 0) (old new : List ℕ)
-            → WritesLossyReading IsReading outcome old new
-            → DecodesLossily IsReading result old new }
+        ensures { result ≡ told_of_lossy_text outcome }
     {
         match outcome {
             Ok(length) => Answer::of_length(length),

@@ -22,7 +22,7 @@ pub extern "C" fn cesu8_java_write(text: &[u8], buf: &mut [u8]) -> Answer
     match write_utf_to_slice(text, buf) {
         Ok(length) => Answer::of_length(length),
         Err(WriteSliceFault::TooLong(_)) => Answer::without(TOO_LONG),
-        Err(WriteSliceFault::TooShort(fault)) => Answer::too_small(fault.needed()),
+        Err(WriteSliceFault::TooShort(needed)) => Answer::too_small(needed),
     }
 }
 
