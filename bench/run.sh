@@ -5,6 +5,8 @@
 set -eu
 
 bench=$(cd "$(dirname "$0")" && pwd)
+# shellcheck source=tests/kit.sh
+. "$bench/../tests/kit.sh"
 crate=$bench/../crates/measured
 out=$bench/out
 kit=$(dirname "$(dirname "$(readlink -f "$(command -v rt)")")")

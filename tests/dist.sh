@@ -17,6 +17,8 @@ unset CDPATH "${!GIT_@}"
 export LC_ALL=C
 
 top=$(cd "$(dirname "${BASH_SOURCE[0]}")/.." && pwd) || exit 2
+# shellcheck source=tests/kit.sh
+source "$top/tests/kit.sh" || exit 2
 crate=$top/crates/cesu8_static
 kit=$(dirname "$(dirname "$(readlink -f "$(command -v rt)")")")
 identity=$(rt version) || exit 2

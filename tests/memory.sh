@@ -30,6 +30,8 @@ unset CDPATH
 export LC_ALL=C
 
 top=$(cd "$(dirname "${BASH_SOURCE[0]}")/.." && pwd) || exit 2
+# shellcheck source=tests/kit.sh
+source "$top/tests/kit.sh" || exit 2
 scratch=$(mktemp -d) || exit 2
 trap 'rm -rf "$scratch"' EXIT
 mkdir "$scratch"/{1,2,3} || exit 2
