@@ -1,15 +1,16 @@
 #!/usr/bin/env bash
-# Runs the exports of crates/cesu8_static: builds the static library, links tests/exports.c with
-# it, which calls each export, and runs that. The same with the archive that archive.sh builds, for
-# this processor's own level of x86-64. Then it builds and runs the examples in C and in Rust. Then
-# bench/run.sh builds its driver and runs it for one round, before which the driver compares what
-# each measured call answers to inputs of many bytes. Where there is no C compiler, no objcopy or no
-# rustc, it says what was not run; what is at hand and does not build counts as wrong. The status is
-# 0 where nothing is wrong.
+# Tests the exports of crates/cesu8_static, in these steps:
+# 1. It builds the static library, and links and runs tests/exports.c, which calls each export.
+# 2. It does the same with the archive of archive.sh, for this processor's own level of x86-64.
+# 3. It builds and runs the examples in C and in Rust.
+# 4. bench/run.sh builds its driver and runs it for one round. Before that, the driver compares what
+#    each measured call returns for inputs of many bytes.
+# If there is no C compiler, objcopy or rustc, it says what it skipped. What is installed and does
+# not build counts as wrong. The status is 0 if nothing is wrong.
 #
 # It needs the kit's `rt`, bash, grep, sed and the core utilities; for C a compiler `cc` whose
-# linker knows --wrap; for the archive `ar`, `nm`, `awk` and `objcopy` too; and for the last a rustc
-# that knows the edition 2024.
+# linker knows --wrap; for the archive also `ar`, `nm`, `awk` and `objcopy`; and for the last steps
+# a rustc that knows the edition 2024.
 set -u
 unset CDPATH
 export LC_ALL=C
@@ -92,7 +93,7 @@ example_in_rust() {
 run_archive() {
     local name
     if ! command -v objcopy >/dev/null; then
-        echo 'objcopy is not here: the archive not built'
+        echo 'objcopy is missing: the archive skipped'
         return
     fi
     if ! quietly sh "$crate/archive.sh" "$scratch/libcesu8.a"; then

@@ -1,5 +1,5 @@
-# The built program, for the scripts that run it. They source this file, and set `top` before, the
-# repository's folder, and `scratch`, a folder for what the build prints.
+# The built program, for the scripts that run it. A script sources this file, and sets `top` before,
+# the repository's folder, and `scratch`, a folder for what the build prints.
 # shellcheck shell=bash disable=SC2154
 
 # The gate names the program that it has proved and linked, so it is not proved again.
