@@ -1,5 +1,5 @@
 #!/bin/sh
-# Proves and builds the static library, builds the driver, and runs it:
+# Proves and builds the static library, builds the driver and runs it:
 #   bench/run.sh [--cpu LEVEL] [--against LEVEL].. [the driver's arguments]
 # README.md says more. It needs the kit's rt, rustc and, for --against, cc.
 set -eu
