@@ -1,21 +1,26 @@
 #!/usr/bin/env bash
-# Looks at the library for C, crates/cesu8_static: the header in each standard of C and C++, the
-# symbols of the archive that archive.sh builds, and the chooser with stubs behind it. Links
-# tests/exports.c, which calls each export, with that archive and with the library for one level, and
-# runs it. Then it builds and runs a caller in C++ and the examples in C and in Rust. Then bench/run.sh
-# builds its driver and runs it for one round, before which the driver compares what each measured
-# call answers to inputs of many bytes. Where there is no compiler, no objcopy or no rustc, it says
-# what was not run; what is at hand and does not build counts as wrong. The status is 0 where nothing
-# is wrong.
+# Tests the library for C, crates/cesu8_static, in these steps:
+# 1. It compiles the header in each standard of C and C++, and tests the chooser with stubs behind it.
+# 2. It builds the static library for one level, and links and runs tests/exports.c, which calls each
+#    export.
+# 3. It does the same with the archive of archive.sh, looks at the archive's symbols, and builds and
+#    runs a caller in C++.
+# 4. It builds and runs the examples in C and in Rust.
+# 5. bench/run.sh builds its driver and runs it for one round. Before that, the driver compares what
+#    each measured call returns for many inputs.
+# If there is no C or C++ compiler, objcopy or rustc, it says what it skipped. What is installed and
+# does not build counts as wrong. The status is 0 if nothing is wrong.
 #
 # It needs the kit's `rt`, bash, grep, sed and the core utilities; for C and C++ the compilers `cc`
-# and `c++`; for the archive `ar`, `nm`, `awk` and `objcopy` too; and for the last a rustc that knows
-# the edition 2024.
+# and `c++`; for the archive also `ar`, `nm`, `awk` and `objcopy`; and for the last steps a rustc that
+# knows the edition 2024.
 set -u
 unset CDPATH
 export LC_ALL=C
 
 top=$(cd "$(dirname "${BASH_SOURCE[0]}")/.." && pwd) || exit 2
+# shellcheck source=tests/kit.sh
+source "$top/tests/kit.sh" || exit 2
 crate=$top/crates/cesu8_static
 scratch=$(mktemp -d) || exit 2
 trap 'rm -rf "$scratch"' EXIT
@@ -137,7 +142,7 @@ look_at_symbols() {
 run_archive() {
     local name
     if ! command -v objcopy >/dev/null; then
-        echo 'objcopy is not here: the archive not built'
+        echo 'objcopy is missing: the archive skipped'
         return
     fi
     if ! quietly sh "$crate/archive.sh" "$scratch/libcesu8.a"; then
