@@ -12,8 +12,8 @@ use Rattle.cesu8_static.specs.Answers.{IsFormText, Decodes}
 pub form_text : FormIsCut → PartsAreForm → (bytes part text : List ℕ) → ((i : ℕ) → get_or bytes i 0 < 256) →
     (IsTruncated bytes → ⊥) → part ≡ counted bytes → (IsFormText bytes text ↔ IsStrictReading Mutf8 part text)
 form_text cut joined bytes part text small whole same = (
-    (λ form. subst (λ bs. IsStrictReading Mutf8 bs text) (sym same) (cut bytes text (rest_in bytes) form).2),
-    (λ reads. joined bytes text small whole (subst (λ bs. IsStrictReading Mutf8 bs text) same reads)),
+  (λ form. subst (λ bs. IsStrictReading Mutf8 bs text) (sym same) (cut bytes text (rest_in bytes) form).2),
+  (λ reads. joined bytes text small whole (subst (λ bs. IsStrictReading Mutf8 bs text) same reads)),
 )
 
 -- So what is placed of the one is placed of the other.

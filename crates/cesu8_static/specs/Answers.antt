@@ -87,7 +87,7 @@ pub record Decodes (IsReading : List ℕ → Type 0) (answer : Answer) (old new 
   pub invalid : answer.status ≡ INVALID ↔ ((text : List ℕ) → ¬ (IsReading text))
   -- A buffer that is too small is shorter than the text's UTF-8, whose length is told.
   pub needed : answer.status ≡ TOO_SMALL
-    → ReadsAtLength IsReading (λ len. (length old < len) × (answer.length ≡ len))
+      → ReadsAtLength IsReading (λ len. (length old < len) × (answer.length ≡ len))
   pub statuses : IsAmong (OK ∷ INVALID ∷ TOO_SMALL ∷ []) answer.status
   pub none : answer.status ≡ INVALID → answer.length ≡ 0
   -- Without an answer the whole buffer is as before.
@@ -100,7 +100,7 @@ pub record DecodesLossily (IsReading : List ℕ → Type 0) (answer : Answer) (o
   pub too_long : answer.status ≡ TOO_LONG ↔ ReadsAtLength IsReading (λ len. 2 ^ 64 ≤ len)
   -- A buffer that is too small is shorter than the text's UTF-8, whose length is told.
   pub needed : answer.status ≡ TOO_SMALL
-    → ReadsAtLength IsReading (λ len. (length old < len) × (answer.length ≡ len))
+      → ReadsAtLength IsReading (λ len. (length old < len) × (answer.length ≡ len))
   pub statuses : IsAmong (OK ∷ TOO_LONG ∷ TOO_SMALL ∷ []) answer.status
   pub none : answer.status ≡ TOO_LONG → answer.length ≡ 0
   -- Without an answer the whole buffer is as before.
@@ -135,5 +135,5 @@ pub record ReadsForm (bytes : List ℕ) (read : Reading) (old new : List ℕ) : 
 pub record ReadsFormLossily (bytes : List ℕ) (read : Reading) (old new : List ℕ) : Type 0 where
   pub form : TakesForm bytes read
   pub text : ¬ (IsTruncated bytes)
-    → DecodesLossily (λ text. text ≡ reading Mutf8 (counted bytes)) (answer_of read) old new
+      → DecodesLossily (λ text. text ≡ reading Mutf8 (counted bytes)) (answer_of read) old new
   pub unchanged : IsTruncated bytes → new ≡ old
