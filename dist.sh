@@ -1,10 +1,10 @@
 #!/usr/bin/env bash
-# Builds the release, for who has no kit:
+# Builds the release, for users without the kit:
 #   dist.sh FOLDER
 # FOLDER gets cesu8-VERSION-x86_64-linux.tar.gz, with the library for C and the program, and
-# SHA256SUMS. What is built is proved first, where that is not done. Two runs on one commit give the
-# same bytes, with the same kit and C compiler: names are sorted, times are the commit's, and owners
-# are 0. BUILT-FROM in the archive says what it was built from and what it needs.
+# SHA256SUMS. It first proves what is not yet proved. Two runs on one commit give the same bytes,
+# with the same kit and C compiler: names are sorted, times are the commit's, and owners are 0.
+# BUILT-FROM in the archive says what it was built from and what it needs.
 #
 # It needs the kit's `rt`, git, a C compiler `cc`, ar, nm, objcopy, objdump, GNU tar, gzip, bash,
 # awk, grep, sed and the core utilities.

@@ -2,10 +2,10 @@
 # Copies the libraries into another Rattle repository, for its crates to use, and prints the lines
 # that its crates.txt lacks:
 #   vendor.sh FOLDER >>FOLDER/crates.txt
-# FOLDER is the top of that repository. Of `simd_cesu8` and of `java_text` it gets the code, the
-# definitions and the proofs, with the licences and the version, and a .gitignore for what `rt`
-# makes there. Tests of other crates and wrong bodies are not copied. An earlier copy is replaced,
-# but for its folder out. It needs bash, sed, grep and the core utilities.
+# FOLDER is the top of that repository. It gets the code, the definitions and the proofs of
+# `simd_cesu8` and `java_text`, with the licences, the version, and a .gitignore for what `rt` makes
+# there. Tests of other crates and wrong bodies are not copied. An earlier copy is replaced, except
+# its folder out. It needs bash, sed, grep and the core utilities, but no `rt`.
 set -euo pipefail
 unset CDPATH
 export LC_ALL=C

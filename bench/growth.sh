@@ -1,10 +1,9 @@
 #!/usr/bin/env bash
-# Measures the built program on hostile bytes of 1, 10 and 100 MB: the processor's time that its
-# process takes, in milliseconds, with its reading and writing, and how many times as much 100 MB
-# take as 10 MB:
+# Measures the built program on hostile bytes of 1, 10 and 100 MB. It prints the processor time of
+# the process in milliseconds, with reading and writing, and the ratio of 100 MB to 10 MB:
 #   bench/growth.sh [ROUNDS]
-# The best of the rounds counts, 3 if they are left out. README.md says more. It needs the kit's rt,
-# bash, awk and the core utilities.
+# It takes the best of ROUNDS, 3 by default. README.md says more. It needs the kit's rt, bash, awk
+# and the core utilities.
 set -eu
 export LC_ALL=C
 

@@ -1,10 +1,12 @@
 #!/bin/sh
-# Proves and builds the static library, builds the driver, and runs it:
+# Proves and builds the static library, builds the driver and runs it:
 #   bench/run.sh [--cpu LEVEL] [--against LEVEL].. [--tables FILE] [the driver's arguments]
 # README.md says more. It needs the kit's rt, rustc and, for --against, cc.
 set -eu
 
 bench=$(cd "$(dirname "$0")" && pwd)
+# shellcheck source=tests/kit.sh
+. "$bench/../tests/kit.sh"
 crate=$bench/../crates/measured
 out=$bench/out
 kit=$(dirname "$(dirname "$(readlink -f "$(command -v rt)")")")

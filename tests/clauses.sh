@@ -1,14 +1,15 @@
 #!/usr/bin/env bash
 # Compares the public contracts with docs/PROVED.md, with README.md and with tests/clauses.txt:
 #   tests/clauses.sh            compares, and prints what is wrong and then the counts
-#   tests/clauses.sh --write    writes tests/clauses.txt anew from the sources
-# Each clause that docs/PROVED.md names has to stand in the sources, and each public clause has to
-# be named there; each name in the README's table of clauses has to be there too. A public function
-# has to promise something, and may ask nothing of its caller. What stands twice, once for each
-# encoding or kernel, has to say the same. tests/clauses.txt has each public clause, signature and
-# type, and the definitions that these cite, so that whatever of them changes is a changed line
-# there. The status is 0 where nothing is wrong. It needs bash, awk, sed, grep and the core
-# utilities.
+#   tests/clauses.sh --write    writes tests/clauses.txt again from the sources
+# These have to hold:
+# - docs/PROVED.md names each public clause, and none that is not in the sources;
+# - each name in the README's table of clauses is in the sources;
+# - a public function has an `ensures` and no `requires`;
+# - what is there twice, for each encoding or kernel, is the same;
+# - tests/clauses.txt has each public clause, signature and type, and the definitions that they
+#   cite, so that a change of these is a changed line there.
+# The status is 0 if nothing is wrong. It needs bash, awk, sed, grep and the core utilities.
 set -u
 unset CDPATH
 export LC_ALL=C

@@ -1,7 +1,7 @@
 #!/usr/bin/env bash
 # Runs the program as a person would: each case of tests/cli_cases.txt, and below it those that need
-# more than words and bytes. It compares the status, standard output and standard error, prints each
-# case that is wrong, and ends with the counts. The status is 0 where no case is wrong.
+# more than arguments and bytes. It compares the status, standard output and standard error, prints
+# each case that is wrong, and the counts at the end. The status is 0 if no case is wrong.
 #
 # It needs the kit's `rt`, bash and the core utilities.
 set -u

@@ -1,5 +1,5 @@
-# What the scripts that build share. They source this file, and set `scratch` before, a folder for
-# what a build says and makes, and for `exports` also `crate`, the folder of the exports.
+# What the scripts that build share. A script sources this file, and sets `scratch` before, a folder
+# for what a build prints and makes, and for `exports` also `crate`, the folder of the exports.
 # shellcheck shell=bash disable=SC2034,SC2154
 
 wrong=0
@@ -18,16 +18,16 @@ quietly() {
 }
 
 # Whether a compiler builds the program that stands in a file: `can_build WHAT COMPILER ARGUMENT..`.
-# Where it does not, WHAT is not run.
+# If it does not, WHAT is skipped.
 can_build() {
     local what=$1
     shift
     if ! command -v "$1" >/dev/null; then
-        echo "$1 is not here: $what not run"
+        echo "$1 is missing: $what skipped"
         return 1
     fi
     if ! quietly "$@"; then
-        echo "$1 is here and cannot be run: $what not run"
+        echo "$1 cannot run: $what skipped"
         return 1
     fi
 }
@@ -35,6 +35,11 @@ can_build() {
 can_build_c() {
     printf '#include <stdio.h>\nint main(void) { return puts("") < 0; }\n' >"$scratch/probe.c"
     can_build "$1" cc -o "$scratch/probe" "$scratch/probe.c"
+}
+
+can_build_cpp() {
+    echo 'int main() {}' >"$scratch/probe.cpp"
+    can_build "$1" c++ -o "$scratch/probe" "$scratch/probe.cpp"
 }
 
 can_build_rust() {

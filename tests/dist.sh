@@ -1,22 +1,24 @@
 #!/usr/bin/env bash
-# Builds the release by dist.sh, unpacks it in an empty folder, and uses it there as who has no kit:
-# the path has no kit from then on. What is compiled is the example in C, by pkg-config and by CMake,
-# a file of C++ and the example in Rust; the shared object is called from Python; the program is run;
-# and install.sh copies all to another folder, from which the example is compiled again.
+# Builds the release by dist.sh, unpacks it in an empty folder, and uses it there without the kit on
+# the PATH. It compiles the example in C by pkg-config and by CMake, a file of C++, and the example
+# in Rust. It calls the shared object from Python, runs the program, installs by install.sh, and
+# compiles the example again from there.
 #
-# It also looks that two builds, in folders of different names, give the same bytes; that the sums
-# fit; which files there are; that the shared object shows the calls of the header and nothing else;
-# and that no file names a folder of this machine. The builds are of a commit that it makes of a copy
-# of the tree, over what is proved here; in a clean clone that takes minutes.
+# It also checks that two builds, in folders of different names, give the same bytes; that the sums
+# are right; which files there are; that the shared object exports only the calls of the header; and
+# that no file names a folder of this machine. It builds from a commit of a copy of the tree, over
+# what is proved here. In a clean clone that takes minutes.
 #
-# Where one of pkg-config, CMake, c++, rustc and python3 is missing, it says what was not run. The
-# same of all where a tool that dist.sh needs is missing. The status is 0 where nothing is wrong. It
-# needs the kit's `rt`, bash, awk, grep, sed and the core utilities.
+# If pkg-config, CMake, c++, rustc or python3 is missing, it says what it skipped. If a tool that
+# dist.sh needs is missing, it skips everything. The status is 0 if nothing is wrong. It needs the
+# kit's `rt`, bash, awk, grep, sed and the core utilities.
 set -u
 unset CDPATH "${!GIT_@}"
 export LC_ALL=C
 
 top=$(cd "$(dirname "${BASH_SOURCE[0]}")/.." && pwd) || exit 2
+# shellcheck source=tests/kit.sh
+source "$top/tests/kit.sh" || exit 2
 crate=$top/crates/cesu8_static
 kit=$(dirname "$(dirname "$(readlink -f "$(command -v rt)")")")
 identity=$(rt version) || exit 2
@@ -241,7 +243,7 @@ install_elsewhere() {
 
 for tool in git cc ar nm objcopy objdump tar gzip; do
     if ! command -v "$tool" >/dev/null; then
-        echo "$tool is not here: the release not built"
+        echo "$tool is missing: the release skipped"
         exit 0
     fi
 done

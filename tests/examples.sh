@@ -1,21 +1,23 @@
 #!/usr/bin/env bash
-# Runs the examples of the pages and of the doc comments, and looks for what the pages quote.
+# Runs the examples of the pages and of the doc comments, and checks what the pages quote.
 #
 # It reads README.md, docs/*.md and the doc comments of crates/*/src. A block that begins with three
-# backquotes and `rust` is an example. It runs as the body of a test with `rt`, the runtime, `alloc`,
-# its allocator, and `bytes`, four letters, and with the imports below; `?` takes any error. The test
-# is named after the file and the line. A block that begins with three backquotes, a language and the
-# path of a file is a quotation: its lines have to stand in that file, one after the other. Other
-# blocks are left alone.
+# backquotes and `rust` is an example. It runs as the body of a test with `rt`, the runtime,
+# `alloc`, its allocator, `bytes`, four letters, and the imports below; `?` takes any error. The
+# test is named after the file and the line. A block that begins with three backquotes, a language
+# and the path of a file is a quotation: its lines have to be in that file, one after the other.
+# Other blocks are skipped.
 #
-# The examples are built in a repository of their own beside copies of the libraries, without proof.
-# It prints what is wrong, and ends with the counts. The status is 0 where nothing is wrong. It needs
+# The examples are built without proof, in a repository of their own beside copies of the libraries.
+# It prints what is wrong, and the counts at the end. The status is 0 if nothing is wrong. It needs
 # the kit's `rt`, bash, awk, grep, sed, find and the core utilities.
 set -u
 unset CDPATH
 export LC_ALL=C
 
 top=$(cd "$(dirname "${BASH_SOURCE[0]}")/.." && pwd) || exit 2
+# shellcheck source=tests/kit.sh
+source "$top/tests/kit.sh" || exit 2
 scratch=$(mktemp -d) || exit 2
 trap 'rm -rf "$scratch"' EXIT
 mkdir -p "$scratch/blocks" "$scratch/crates/examples/src" || exit 2

@@ -1,25 +1,24 @@
 #!/usr/bin/env bash
-# Runs the built program for every pair of words on 64 MB of each kind of hostile bytes. The table
-# below says what has to come. The answers are written here, from the table of the encoded
+# Runs the built program with every command on 64 MB of each kind of hostile bytes. The table below
+# has the expected results. The expected output is computed here, from the table of the encoded
 # characters, and compared byte for byte.
 #
-# Each run has a limit on memory: what the vector of the input has grown to, which is the next power
-# of two, and the one request for the answer, with a fifth to spare. What becomes of a run that lacks
-# memory is for tests/requests.sh.
+# Each run has a memory limit: the vector that has grown to hold the input (the next power of two),
+# the one request for the output, and a fifth more. tests/requests.sh tests runs that lack memory.
 #
-# The readings of noise are computed here, for bytes that nobody chose. No other test has such, but for
-# the driver of bench, and that needs a rustc.
+# The readings of noise are computed here, for bytes that nobody chose. Only the driver of bench has
+# such inputs too, and that needs a rustc.
 #
-# | command | the request for the answer |
+# | command | the request for the output |
 # |---|---|
-# | `encode`, `lossy`, `lossy-strict` | none where the answer is the input, else its length |
-# | `decode`, `decode-strict` | none where the answer is the input, else that of the input |
+# | `encode`, `lossy`, `lossy-strict` | none if the output is the input, else its length |
+# | `decode`, `decode-strict` | none if the output is the input, else the input's length |
 # | `needs` | none |
 # | `java-write` | none, since the text is too long |
 # | `java-read` | the bytes that the first two count, 65,535 at most |
 #
-# It prints what is wrong, and ends with the counts. The status is 0 where nothing is wrong. It
-# needs the kit's `rt`, bash, awk and the core utilities, and half a gigabyte for its files.
+# It prints what is wrong, and the counts at the end. The status is 0 if nothing is wrong. It needs
+# the kit's `rt`, bash, awk and the core utilities, and half a gigabyte for its files.
 set -u
 unset CDPATH
 export LC_ALL=C

@@ -1,5 +1,5 @@
-# Bytes that are bad to read, for the scripts that hand them to the program. They source this file,
-# and set `scratch` before, a folder for its files.
+# Bytes that are bad to read, for scripts that pass them to the program. A script sources this file,
+# and sets `scratch` before, a folder for its files.
 # shellcheck shell=bash disable=SC2154
 
 # The first so many bytes of these ones again and again: `repeated LENGTH BYTES`, the bytes as

@@ -1,9 +1,9 @@
 #!/usr/bin/env bash
-# Looks that no crate of this repository rests on the inside of another: its code, definitions and
-# proofs name no module of another crate's `proofs` but simd_cesu8.proofs.StdUtf8, which is public;
-# and no contract or definition takes a word from a proof. The proofs of std are public. It prints
-# what is wrong, and then the counts. The status is 0 where nothing is wrong. It needs bash, awk,
-# sed and the core utilities.
+# Checks that no crate of this repository depends on the inside of another. Its code, definitions
+# and proofs name no module of another crate's `proofs`, except simd_cesu8.proofs.StdUtf8, which is
+# public. No contract or definition takes a word from a proof. The proofs of std are public. It
+# prints what is wrong, and then the counts. The status is 0 if nothing is wrong. It needs bash,
+# awk, sed and the core utilities.
 set -u
 unset CDPATH
 export LC_ALL=C

@@ -1,35 +1,35 @@
 #!/usr/bin/env bash
 # Counts and refuses requests for memory, by each public call of `simd_cesu8` and `java_text`.
-# tests/requests.sh does so of the built program.
+# tests/requests.sh does so for the built program.
 #
-# The program of crates/vectors makes one call, which its standard input names, and tells what came of
-# it, how many of three further requests are granted before one is refused, and the answer. The rows
-# below are every public call, on inputs that borrow, that build, that are refused and that are empty,
-# and at the lengths about which blocks of bytes begin and end. A row says what has to come with memory
-# there, and how many requests the call makes. Each of its requests is refused in turn, until a run
-# meets none: there the first further request is refused, so that a call is seen to make as many
-# requests as its row says, and to answer as with memory there whatever becomes of a later one. Where a
-# request is refused, want of memory has to come, whatever the input is, and a caller's buffer holds
-# what it held. A call whose row has no request succeeds so with every request refused. One that asks
-# once more, or gives back what it asked for, is seen by the count.
+# The program of crates/vectors makes one call, which its standard input names. It reports the
+# result, and how many of three further requests are granted before one is refused. The rows below
+# are every public call, on inputs that borrow, build, are refused and are empty, and at the lengths
+# where blocks begin and end. A row has the expected result and the number of requests.
 #
-# The requests of a row and its answers come from the standards' table of encoded characters, which
-# stands below, and from these rules: an answer borrows, and takes no request, exactly where its bytes
-# are the input's; what is built, copied or refused takes one, and what is appended one where the
-# buffer has too little room; an empty copy and a length take none, and neither do a Java string that
-# is too long, and one that is cut short.
+# Each request of a row is refused in turn, until a run meets none: there the first further request
+# is refused. So a call has to make exactly as many requests as its row says. Where a request is
+# refused, the call has to return out of memory for any input, and a caller's buffer keeps its
+# content. A call with no request succeeds with every request refused.
 #
-# `rt try` refuses one request of a process, and builds for 15 seconds. It builds once for each place
-# of the request that is refused, and runs all rows that have so many requests on that, most of them in
-# less than a tenth of a second, and the longest inputs in half of one. The three runs are side by side.
+# Results and requests come from the standards' table of encoded characters, below, and these rules:
+# - a result borrows, without a request, exactly where its bytes are the input's;
+# - what is built, copied or refused takes one, and so does what is appended if the buffer is full;
+# - an empty copy, a length, and a Java string that is too long or cut short take none.
 #
-# It prints what is wrong, and ends with the counts. The status is 0 where nothing is wrong. It
-# needs the kit's `rt` (which builds here without proof), bash, sed and the core utilities.
+# `rt try` refuses one request of a process, and builds for 15 seconds. So there is one build for
+# each place of the refused request, and each runs all rows with as many requests. The three builds
+# run side by side. A row takes less than a tenth of a second, and the longest inputs half of one.
+#
+# It prints what is wrong, and the counts at the end. The status is 0 if nothing is wrong. It needs
+# the kit's `rt` (which builds here without proof), bash, sed and the core utilities.
 set -u
 unset CDPATH
 export LC_ALL=C
 
 top=$(cd "$(dirname "${BASH_SOURCE[0]}")/.." && pwd) || exit 2
+# shellcheck source=tests/kit.sh
+source "$top/tests/kit.sh" || exit 2
 scratch=$(mktemp -d) || exit 2
 trap 'rm -rf "$scratch"' EXIT
 mkdir "$scratch"/{1,2,3} || exit 2

@@ -1,14 +1,13 @@
 #!/usr/bin/env bash
-# Compares the program with other implementations, where they are at hand: with the JDK's `writeUTF`
-# and `readUTF` for Java strings, and without their count for MUTF-8, with its charset CESU-8, and with
-# ICU's `uconv` for CESU-8. Of each text what the program writes has to be what they write, byte for
-# byte, and each of the two has to read the text in what the other wrote. The program has to read a
-# constant out of a class file of `javac` too. It prints each text that is wrong, says which
-# implementation was not run and how many texts were compared with each, and ends with the counts of
-# these comparisons. The status is 0 where none is wrong.
+# Compares the program with other implementations, where they are installed:
+# - for Java strings and MUTF-8 with the JDK's `writeUTF` and `readUTF`;
+# - for CESU-8 with the JDK's charset CESU-8, and with ICU's `uconv`.
+# What the program writes of each text has to be what they write, byte for byte, and each has to
+# read what the other wrote. The program also has to read a constant from a class file of `javac`.
+# It prints each text that is wrong, which implementation was skipped, and the counts at the end.
+# The status is 0 if nothing is wrong.
 #
-# It needs the kit's `rt`, bash, awk and the core utilities; and to compare with the JDK, one of version
-# 11 or later.
+# It needs the kit's `rt`, bash, awk and the core utilities, and for the JDK version 11 or later.
 set -u
 unset CDPATH
 export LC_ALL=C
@@ -138,7 +137,7 @@ compare_constant() {
 # Keeps for the end that a peer was not run, and why: `not_run PEER WHY [FILE]`. The file has the
 # peer's own words.
 not_run() {
-    summary+="$1 $2: not run"$'\n'
+    summary+="$1 $2: skipped"$'\n'
     [[ -z ${3-} ]] || head -n 5 "$3" >&2
 }
 
@@ -146,7 +145,7 @@ not_run() {
 run_java() {
     local word version status
     if ! command -v java >/dev/null; then
-        not_run java 'is not here'
+        not_run java 'is missing'
         return
     fi
     # A program that only tells its version shows whether this is a JDK that runs.
@@ -187,7 +186,7 @@ JAVA
 run_uconv() {
     local name
     if ! command -v uconv >/dev/null; then
-        not_run uconv 'is not here'
+        not_run uconv 'is missing'
         return
     fi
     if ! uconv -f UTF-8 -t CESU-8 </dev/null >/dev/null 2>"$scratch/uconv.error"; then

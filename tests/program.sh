@@ -1,5 +1,5 @@
-# The built program, for the scripts that run it. They source this file, and set `top` before, the
-# repository's folder, and `scratch`, a folder for what the build prints.
+# The built program, for the scripts that run it. A script sources this file, and sets `top` before,
+# the repository's folder, and `scratch`, a folder for what the build prints.
 # shellcheck shell=bash disable=SC2154
 
 # The gate names the program that it has proved and linked, so it is not proved again.
@@ -11,6 +11,8 @@ program=${PROVED_PROGRAM:-$top/crates/cesu8_cli/out/cesu8_cli}
 # the last run it only runs the program.
 build() {
     [[ -z ${PROVED_PROGRAM-} ]] || return 0
+    # shellcheck source=tests/kit.sh
+    source "$top/tests/kit.sh" || exit 2
     echo "building the program"
     if ! (cd "$top/crates/cesu8_cli" && rt run -- encode cesu8) </dev/null >"$scratch/build" 2>&1; then
         cat "$scratch/build" >&2

@@ -1,21 +1,21 @@
 #!/usr/bin/env bash
-# Refuses memory to the built program, for every pair of words.
+# Refuses memory to the built program, for every command.
 #
-# First each of its requests is refused in turn, until a run meets none. Where a request for the
-# arguments is refused, the program has to end as for failed input or output, and where a later one
-# is, as for want of memory, and either time nothing is written. The run that meets none has to answer.
-# On short inputs its requests are counted too: beside those for the arguments one for the input, and
-# one more where the answer is built. On a longer input the reading makes as many as it likes.
+# First each of its requests is refused in turn, until a run meets none. If a request for the
+# arguments is refused, the program has to report failed input or output, and if a later one is, out
+# of memory. Both times it writes nothing. The run without a refusal has to write its output. On
+# short inputs the requests are counted too: beside those for the arguments one for the input, and
+# one more if the output is built. On longer input, reading may make any number.
 #
-# Then its whole memory is limited, as a person would do it, from what is too little for 10 MB of input
-# to what is enough, for each pair of words: the whole answer has to come, or want of memory and
-# nothing written, and both have to be seen. This needs no compiler.
+# Then its whole memory is limited, from too little for 10 MB of input to enough, for each command.
+# The program has to write the whole output, or report out of memory and write nothing. Both have to
+# occur. This needs no compiler.
 #
-# It prints what is wrong, and ends with the counts. The status is 0 where nothing is wrong. It takes
+# It prints what is wrong, and the counts at the end. The status is 0 if nothing is wrong. It takes
 # less than a minute once the program is built.
 #
-# It needs the kit's `rt`, bash and the core utilities; and `cc` for tests/requests.c, which stands
-# between the program and the C library. Where there is none it says so, and refuses no single request.
+# It needs the kit's `rt`, bash and the core utilities, and `cc` for tests/requests.c, which stands
+# between the program and the C library. If there is none, it skips the refusal of single requests.
 set -u
 unset CDPATH
 export LC_ALL=C
@@ -240,7 +240,7 @@ long_row() {
 
 refuse_requests() {
     if ! command -v cc >/dev/null; then
-        echo 'cc is not here: no single request is refused'
+        echo 'cc is missing: the refusal of single requests skipped'
         return
     fi
     if ! cc -Wall -Wextra -Werror -shared -fPIC -o "$scratch/requests.so" \

@@ -1,18 +1,20 @@
 #!/usr/bin/env bash
 # Makes a new repository with a copy of the libraries by vendor.sh and one crate, whose proof cites
-# a clause and a law, and proves and runs that. It looks that the copy has what it needs and no
+# a clause and a law, and proves and runs that. It checks that the copy has what it needs and no
 # more, that git takes nothing that `rt` made, and that a second copy changes nothing. The status is
-# 0 where nothing is wrong.
+# 0 if nothing is wrong.
 #
-# What is kept of the proof of the same sources here is taken over, so that they are not proved
-# twice. In a clean clone there is none, and the proof takes minutes.
+# It copies the proofs of the same sources from here. In a clean clone there are none, and proving
+# takes minutes.
 #
-# It needs the kit's `rt`, bash, grep, sed and the core utilities, and for the look at git, git.
+# It needs the kit's `rt`, bash, grep, sed and the core utilities, and for the check of git, git.
 set -u
 unset CDPATH
 export LC_ALL=C
 
 top=$(cd "$(dirname "${BASH_SOURCE[0]}")/.." && pwd) || exit 2
+# shellcheck source=tests/kit.sh
+source "$top/tests/kit.sh" || exit 2
 scratch=$(mktemp -d) || exit 2
 trap 'rm -rf "$scratch"' EXIT
 
@@ -100,7 +102,7 @@ prove() {
 # That git takes nothing which `rt` made in the copy.
 look_at_git() {
     if ! command -v git >/dev/null; then
-        echo 'git is not here: what it would take is not looked at'
+        echo 'git is missing: the check of what it would take skipped'
         return
     fi
     (cd "$new" && git init -q . && git add crates/simd_cesu8 crates/java_text) ||

@@ -1,7 +1,7 @@
 #!/usr/bin/env bash
 # Compares the file VERSION with what names the version: the macros of the header for C, the first
-# heading of CHANGELOG.md with a version, and the names of archives on the pages. It prints what
-# differs. The status is 0 where nothing does. It needs bash, grep, sed and the core utilities.
+# heading of CHANGELOG.md with a version, and the names of archives on the pages. It prints each
+# difference. The status is 0 if there is none. It needs bash, grep, sed and the core utilities.
 set -u
 unset CDPATH
 export LC_ALL=C

@@ -1,13 +1,12 @@
 #!/bin/sh
 # Builds one archive with the code for x86-64-v2 and for x86-64-v3, and chooser.c, which picks one
-# of them as the program runs, and the kit's code that calls malloc:
+# of them as the program runs:
 #   archive.sh FILE.a
 # It proves the crate and the library below it where that is not done. It needs the kit's rt, cc,
 # ar, objcopy and nm.
 set -eu
 
 crate=$(cd "$(dirname "$0")" && pwd)
-kit=$(dirname "$(dirname "$(readlink -f "$(command -v rt)")")")
 scratch=$(mktemp -d)
 trap 'rm -rf "$scratch"' EXIT
 
@@ -37,5 +36,4 @@ done
 
 cc -std=c11 -O2 -fPIC -Wall -Wextra -Werror -I "$crate/include" -c -o "$scratch/chooser.o" \
     "$crate/chooser.c"
-(cd "$scratch" && ar x "$kit/c/liblibc_c.a")
 ar rcsD "$archive" "$scratch"/*.o

@@ -4,8 +4,12 @@
 //
 // What the processor has is asked once, by the compiler's runtime, before main begins; a call reads
 // what was found. A call that comes before that takes the code for x86-64-v2.
+//
+// The code of a level takes no null pointer, so a byte of this file stands for one of length 0.
 
 #include "cesu8.h"
+
+static uint8_t nothing;
 
 #define CHOOSE(result, name, parameters, arguments)                                                \
     result name##_v2 parameters;                                                                   \
@@ -16,11 +20,11 @@
     }
 
 #define CHOOSE_TOLD(result, name)                                                                  \
-    CHOOSE(result, name, (const uint8_t *input, size_t length), (input, length))
+    CHOOSE(result, name, (const uint8_t *input, size_t length), (input ? input : &nothing, length))
 #define CHOOSE_PLACED(result, name)                                                                \
     CHOOSE(result, name,                                                                           \
-           (const uint8_t *input, size_t length, uint8_t *room, size_t room_length),               \
-           (input, length, room, room_length))
+           (const uint8_t *input, size_t length, uint8_t *buffer, size_t buffer_length),           \
+           (input ? input : &nothing, length, buffer ? buffer : &nothing, buffer_length))
 
 CHOOSE_TOLD(struct cesu8_decision, cesu8_needs_encoded)
 CHOOSE_TOLD(struct cesu8_decision, cesu8_mutf8_needs_encoded)

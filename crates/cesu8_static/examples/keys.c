@@ -22,7 +22,7 @@ static uint8_t *key_of(const uint8_t *text, size_t text_length, size_t *key_leng
 {
     // The length is asked first, which takes no memory. What was read is UTF-8.
     *key_length = cesu8_encoded_len(text, text_length).length;
-    uint8_t *key = malloc(*key_length + 1); // The room's pointer may not be null.
+    uint8_t *key = malloc(*key_length + 1); // malloc may refuse a block of length 0.
     if (key != NULL && cesu8_encode(text, text_length, key, *key_length).status != CESU8_OK) {
         free(key);
         return NULL;

@@ -18,12 +18,12 @@ struct Reading {
 
 unsafe extern "C" {
     fn cesu8_encoded_len(text: *const u8, length: usize) -> Answer;
-    fn cesu8_encode(text: *const u8, length: usize, room: *mut u8, room_length: usize) -> Answer;
+    fn cesu8_encode(text: *const u8, length: usize, buffer: *mut u8, buffer_length: usize) -> Answer;
     fn cesu8_java_read(
         bytes: *const u8,
         length: usize,
-        room: *mut u8,
-        room_length: usize,
+        buffer: *mut u8,
+        buffer_length: usize,
     ) -> Reading;
 }
 
@@ -31,8 +31,8 @@ unsafe extern "C" {
 fn key_of(text: &str) -> Result<Vec<u8>, u32> {
     // A slice's pointer is never null, and a new vector shares no byte with the text.
     let mut key = vec![0; unsafe { cesu8_encoded_len(text.as_ptr(), text.len()) }.length];
-    let room = key.as_mut_ptr();
-    match unsafe { cesu8_encode(text.as_ptr(), text.len(), room, key.len()) }.status {
+    let buffer = key.as_mut_ptr();
+    match unsafe { cesu8_encode(text.as_ptr(), text.len(), buffer, key.len()) }.status {
         OK => Ok(key),
         status => Err(status),
     }
@@ -42,8 +42,8 @@ fn key_of(text: &str) -> Result<Vec<u8>, u32> {
 fn read(bytes: &[u8]) -> Result<(String, usize), u32> {
     // No string is longer in UTF-8 than it is there.
     let mut text = vec![0; bytes.len()];
-    let room = text.as_mut_ptr();
-    let read = unsafe { cesu8_java_read(bytes.as_ptr(), bytes.len(), room, text.len()) };
+    let buffer = text.as_mut_ptr();
+    let read = unsafe { cesu8_java_read(bytes.as_ptr(), bytes.len(), buffer, text.len()) };
     if read.status != OK {
         return Err(read.status);
     }

@@ -3,7 +3,9 @@
 #ifndef CESU8_H
 #define CESU8_H
 
+#ifndef __cplusplus
 #include <stdbool.h>
+#endif
 #include <stddef.h>
 #include <stdint.h>
 
@@ -17,13 +19,15 @@ extern "C" {
 
 enum cesu8_status {
     CESU8_OK = 0,
-    CESU8_NOT_UTF8 = 1,      // The input has to be UTF-8, and is not.
-    CESU8_INVALID = 2,       // The input is the encoding of no text.
-    CESU8_TRUNCATED = 3,     // Fewer than two bytes, or fewer after them than they count.
-    CESU8_TOO_LONG = 4,      // More bytes than a Java string or a size_t can count.
-    CESU8_TOO_SMALL = 5,     // The room is shorter than the answer.
-    CESU8_OUT_OF_MEMORY = 6, // malloc refused.
+    CESU8_NOT_UTF8 = 1,  // The input has to be UTF-8, and is not.
+    CESU8_INVALID = 2,   // The input is the encoding of no text.
+    CESU8_TRUNCATED = 3, // Fewer than two bytes, or fewer after them than they count.
+    CESU8_TOO_LONG = 4,  // More bytes than a Java string or a size_t can count.
+    CESU8_TOO_SMALL = 5  // The buffer is shorter than the answer.
 };
+
+// The library returns a status in 32 bits.
+typedef char cesu8_status_has_32_bits[sizeof(enum cesu8_status) == sizeof(uint32_t) ? 1 : -1];
 
 struct cesu8_answer {
     enum cesu8_status status;
@@ -41,92 +45,91 @@ struct cesu8_reading {
     size_t taken;  // The bytes of the input that the string takes. With CESU8_TRUNCATED it is 0.
 };
 
-// Every input and every room is a pointer and a length in bytes. No pointer may be null, not even
-// with the length 0, and a room shares no byte with the input.
+// Every input and every buffer is a pointer and a length in bytes. A pointer may be null where the
+// length is 0. A buffer shares no byte with the input.
 //
-// With CESU8_OK the answer stands at the front of the room. The bytes behind it, and with any other
-// status the whole room, are as before. Nothing is ended by a zero.
+// With CESU8_OK the answer stands at the front of the buffer. The bytes behind it, and with any
+// other status the whole buffer, are as before. Nothing is ended by a zero.
 //
-// With CESU8_TOO_SMALL no memory was taken, and a room of the length that is told is enough for the
-// answer, if there is one. So a call with a room of the length 0 asks how much is needed.
+// CESU8_TOO_SMALL comes exactly where there is an answer and it is longer than the buffer. A buffer
+// of the length that comes with it is enough, so a call with a buffer of length 0 asks how much is
+// needed.
 //
-// A call takes memory only to build bytes that do not stand in its input: one block from malloc, as
-// noted below, which it frees before it returns. A call that decodes may take it and then say
-// CESU8_INVALID. No call keeps anything, so calls may run at once in many threads.
+// No call takes memory or keeps anything, so calls may run at once in many threads.
+
+// Lengths of buffers that are always enough, for an input of n bytes.
+#define CESU8_MAX_ENCODED(n) (2 * (size_t)(n))
+#define CESU8_MAX_DECODED(n) ((size_t)(n))
+#define CESU8_MAX_DECODED_LOSSY(n) (3 * (size_t)(n))
+#define CESU8_MAX_JAVA_WRITTEN(n) (2 + 2 * (size_t)(n))
+#define CESU8_MAX_JAVA_READ ((size_t)65535)
+#define CESU8_MAX_JAVA_READ_LOSSY (3 * (size_t)65535)
 
 // Whether the encoding of UTF-8 is other than it. If not, the text can be used as it is.
-// CESU8_OK, CESU8_NOT_UTF8. No memory.
+// CESU8_OK, CESU8_NOT_UTF8.
 struct cesu8_decision cesu8_needs_encoded(const uint8_t *text, size_t text_length);
 struct cesu8_decision cesu8_mutf8_needs_encoded(const uint8_t *text, size_t text_length);
 
 // The length of the encoding of UTF-8: at most twice the text's. CESU8_OK, CESU8_NOT_UTF8.
-// No memory.
 struct cesu8_answer cesu8_encoded_len(const uint8_t *text, size_t text_length);
 struct cesu8_answer cesu8_mutf8_encoded_len(const uint8_t *text, size_t text_length);
 
 // Encodes UTF-8 to CESU-8 (Unicode Technical Report 26) or to MUTF-8 (Java's DataOutput, without a
-// length in front). CESU8_OK, CESU8_NOT_UTF8, CESU8_TOO_SMALL, CESU8_OUT_OF_MEMORY.
-// Memory: the encoding's length.
+// length in front). CESU8_OK, CESU8_NOT_UTF8, CESU8_TOO_SMALL.
 struct cesu8_answer cesu8_encode(
-    const uint8_t *text, size_t text_length, uint8_t *room, size_t room_length);
+    const uint8_t *text, size_t text_length, uint8_t *buffer, size_t buffer_length);
 struct cesu8_answer cesu8_mutf8_encode(
-    const uint8_t *text, size_t text_length, uint8_t *room, size_t room_length);
+    const uint8_t *text, size_t text_length, uint8_t *buffer, size_t buffer_length);
 
 // Decodes the encoding to UTF-8. What is no encoding of a text is refused, so UTF-8 with a
-// character of four bytes is too, and a zero byte in MUTF-8. A room of the input's length is
-// always enough. CESU8_OK, CESU8_INVALID, CESU8_TOO_SMALL, CESU8_OUT_OF_MEMORY.
-// Memory: the input's length.
+// character of four bytes is too, and a zero byte in MUTF-8. CESU8_OK, CESU8_INVALID,
+// CESU8_TOO_SMALL.
 struct cesu8_answer cesu8_decode_strict(
-    const uint8_t *bytes, size_t bytes_length, uint8_t *room, size_t room_length);
+    const uint8_t *bytes, size_t bytes_length, uint8_t *buffer, size_t buffer_length);
 struct cesu8_answer cesu8_mutf8_decode_strict(
-    const uint8_t *bytes, size_t bytes_length, uint8_t *room, size_t room_length);
+    const uint8_t *bytes, size_t bytes_length, uint8_t *buffer, size_t buffer_length);
 
 // Decodes what is UTF-8 as a whole, which stays as it is, or else the encoding, as the calls above.
 struct cesu8_answer cesu8_decode(
-    const uint8_t *bytes, size_t bytes_length, uint8_t *room, size_t room_length);
+    const uint8_t *bytes, size_t bytes_length, uint8_t *buffer, size_t buffer_length);
 struct cesu8_answer cesu8_mutf8_decode(
-    const uint8_t *bytes, size_t bytes_length, uint8_t *room, size_t room_length);
+    const uint8_t *bytes, size_t bytes_length, uint8_t *buffer, size_t buffer_length);
 
 // Decodes the encoding with damage to UTF-8: each encoded character that stands in the bytes, and
-// U+FFFD for each byte that is in none. A room of three times the input's length is always enough.
-// CESU8_OK, CESU8_TOO_LONG, CESU8_TOO_SMALL, CESU8_OUT_OF_MEMORY. Memory: the answer's length.
+// U+FFFD for each byte that is in none. CESU8_OK, CESU8_TOO_LONG, CESU8_TOO_SMALL.
 struct cesu8_answer cesu8_decode_lossy_strict(
-    const uint8_t *bytes, size_t bytes_length, uint8_t *room, size_t room_length);
+    const uint8_t *bytes, size_t bytes_length, uint8_t *buffer, size_t buffer_length);
 struct cesu8_answer cesu8_mutf8_decode_lossy_strict(
-    const uint8_t *bytes, size_t bytes_length, uint8_t *room, size_t room_length);
+    const uint8_t *bytes, size_t bytes_length, uint8_t *buffer, size_t buffer_length);
 
 // Decodes what is UTF-8 as a whole, which stays as it is, or else the encoding with damage, as the
 // calls above.
 struct cesu8_answer cesu8_decode_lossy(
-    const uint8_t *bytes, size_t bytes_length, uint8_t *room, size_t room_length);
+    const uint8_t *bytes, size_t bytes_length, uint8_t *buffer, size_t buffer_length);
 struct cesu8_answer cesu8_mutf8_decode_lossy(
-    const uint8_t *bytes, size_t bytes_length, uint8_t *room, size_t room_length);
+    const uint8_t *bytes, size_t bytes_length, uint8_t *buffer, size_t buffer_length);
 
-// The length of what cesu8_decode_lossy_strict gives. CESU8_OK, CESU8_TOO_LONG. No memory.
+// The length of what cesu8_decode_lossy_strict writes. CESU8_OK, CESU8_TOO_LONG.
 struct cesu8_answer cesu8_lossy_len(const uint8_t *bytes, size_t bytes_length);
 struct cesu8_answer cesu8_mutf8_lossy_len(const uint8_t *bytes, size_t bytes_length);
 
 // Writes UTF-8 as Java's DataOutput.writeUTF does: the count of its bytes of MUTF-8 in two bytes,
 // the high byte first, and then these, of which there may be 65,535. CESU8_OK, CESU8_NOT_UTF8,
-// CESU8_TOO_LONG, CESU8_TOO_SMALL, CESU8_OUT_OF_MEMORY. Memory: the MUTF-8's length.
+// CESU8_TOO_LONG, CESU8_TOO_SMALL.
 struct cesu8_answer cesu8_java_write(
-    const uint8_t *text, size_t text_length, uint8_t *room, size_t room_length);
+    const uint8_t *text, size_t text_length, uint8_t *buffer, size_t buffer_length);
 
 // Reads such a string from the front of the input, to UTF-8, and tells how many bytes it takes,
-// also where it is refused or the room is too small. The one refuses what is no MUTF-8, and the
+// also where it is refused or the buffer is too small. The one refuses what is no MUTF-8, and the
 // other reads it with damage, as cesu8_mutf8_decode_lossy_strict does. CESU8_OK, CESU8_TRUNCATED,
-// CESU8_INVALID (not in the other), CESU8_TOO_SMALL, CESU8_OUT_OF_MEMORY.
-// Memory: the counted bytes' length, and in the other the answer's.
+// CESU8_INVALID (not in the other), CESU8_TOO_SMALL.
 struct cesu8_reading cesu8_java_read(
-    const uint8_t *bytes, size_t bytes_length, uint8_t *room, size_t room_length);
+    const uint8_t *bytes, size_t bytes_length, uint8_t *buffer, size_t buffer_length);
 struct cesu8_reading cesu8_java_read_lossy(
-    const uint8_t *bytes, size_t bytes_length, uint8_t *room, size_t room_length);
+    const uint8_t *bytes, size_t bytes_length, uint8_t *buffer, size_t buffer_length);
 
 #ifdef __cplusplus
 }
-static_assert(sizeof(enum cesu8_status) == sizeof(uint32_t), "the library returns 32 bits");
-#else
-_Static_assert(sizeof(enum cesu8_status) == sizeof(uint32_t), "the library returns 32 bits");
 #endif
 
 #endif

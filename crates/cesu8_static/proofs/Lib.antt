@@ -1,3 +1,2 @@
-mod Strict
-mod Lenient
+mod Outcomes
 mod Forms

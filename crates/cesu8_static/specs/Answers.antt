@@ -1,60 +1,139 @@
--- What a call answers, and what it leaves in the caller's room.
-use Rattle.std.specs.Prelude.{◌≡◌, ◌≢◌, ◌↔◌, ◌⊎◌, ℕ, ◌<◌, ◌≤◌, List, [], ◌∷◌, ◌++◌, length, drop}
-use Rattle.simd_cesu8.specs.Text.{utf8}
-use Rattle.simd_cesu8.specs.Encoding.{Flavor, Cesu8, Mutf8}
-use Rattle.cesu8_static.specs.declared.flavor.Flavor.{Flavor as FlavorOption}
-use Rattle.cesu8_static.specs.declared.flavor.Flavor.TheVariants as options
+-- What a call returns to C, and what it leaves in the caller's buffer.
+use Rattle.std.specs.Prelude.{◌≡◌, ◌≢◌, ◌↔◌, ◌⊎◌, ◌^◌, ℕ, ◌+◌, ◌<◌, ◌≤◌, List, [], ◌∷◌, length, IsUtf8, IsTrue, Result, Ok, Err}
+use Rattle.std.specs.Str.{chars}
+use Rattle.simd_cesu8.specs.Encoding.{Flavor, Mutf8, encoding, NeedsEncoding}
+use Rattle.simd_cesu8.specs.Reading.{reading, lossy_length}
+use Rattle.simd_cesu8.specs.Slices.{StandsAtFront, ReadsAtLength, ReadingAtFront}
+use Rattle.simd_cesu8.specs.declared.error.TooShort.{TooShort}
+use Rattle.simd_cesu8.specs.declared.error.DecodeSliceFault.{DecodeSliceFault}
+use Rattle.simd_cesu8.specs.declared.error.DecodeSliceFault.TheVariants as strict
+use Rattle.simd_cesu8.specs.declared.error.LossySliceFault.{LossySliceFault}
+use Rattle.simd_cesu8.specs.declared.error.LossySliceFault.TheVariants as lossy
+use Rattle.java_text.specs.Form.{HasForm, java_form, BeginsWithForm, count_in, counted, rest_in, IsTruncated}
 use Rattle.cesu8_static.specs.declared.answer.Answer.{Answer}
+use Rattle.cesu8_static.specs.declared.answer.Decision.{Decision}
 use Rattle.cesu8_static.specs.declared.answer.Reading.{Reading}
-use Rattle.cesu8_static.specs.declared.answer.TheConstants.{OK, TOO_SMALL}
-
--- The flavor that the code's value names.
-abbrev pub flavor_of : FlavorOption → Flavor
-flavor_of options.Cesu8 = Cesu8
-flavor_of options.Mutf8 = Mutf8
+use Rattle.cesu8_static.specs.declared.answer.TheConstants.{OK, NOT_UTF8, INVALID, TRUNCATED, TOO_LONG, TOO_SMALL}
 
 -- What is read is told as any answer, beside what it takes of the input.
 abbrev pub answer_of : Reading → Answer
 answer_of read = record { status = read.status; length = read.length }
 
--- These bytes stand at the front of the room, what follows them is as it was, and their length is told.
-abbrev pub Places : List ℕ → Answer → List ℕ → List ℕ → Type 0
-Places bytes answer old new = (answer.length ≡ length bytes) × (new ≡ bytes ++ drop (length bytes) old)
+-- What C is told of what a call on a slice returned that writes bytes,
+abbrev pub told_of_bytes : Result ℕ TooShort → Answer
+told_of_bytes (Ok len) = record { status = OK; length = len }
+told_of_bytes (Err fault) = record { status = TOO_SMALL; length = fault.needed }
 
--- The UTF-8 of a text that is a reading of the input is placed so.
-abbrev pub PlacesReading : (List ℕ → Type 0) → Answer → List ℕ → List ℕ → Type 0
-PlacesReading IsReading answer old new = (text : List ℕ) × IsReading text × Places (utf8 text) answer old new
+-- a text,
+abbrev pub told_of_text : Result ℕ DecodeSliceFault → Answer
+told_of_text (Ok len) = record { status = OK; length = len }
+told_of_text (Err (strict.Invalid error)) = record { status = INVALID; length = 0 }
+told_of_text (Err (strict.TooShort fault)) = record { status = TOO_SMALL; length = fault.needed }
 
--- Without an answer the room is as it was, and the length is 0, but where it is the one that is needed.
-abbrev pub Leaves : Answer → List ℕ → List ℕ → Type 0
-Leaves answer old new =
-    (answer.status ≢ OK → new ≡ old) × (answer.status ≢ OK → answer.status ≢ TOO_SMALL → answer.length ≡ 0)
-
--- The call says that the room is too small exactly where it is shorter than this, and tells this length.
-abbrev pub AsksRoomOf : ℕ → Answer → List ℕ → Type 0
-AsksRoomOf n answer old =
-    (answer.status ≡ TOO_SMALL ↔ length old < n) × (answer.status ≡ TOO_SMALL → answer.length ≡ n)
-
--- It does so for the UTF-8 of each reading of the input.
-abbrev pub AsksRoomFor : (List ℕ → Type 0) → Answer → List ℕ → Type 0
-AsksRoomFor IsReading answer old =
-    (text : List ℕ) → IsReading text → AsksRoomOf (length (utf8 text)) answer old
-
--- What is found to be needed is enough for this length, and is it where there is less room.
-abbrev pub IsRoomFor : ℕ → ℕ → ℕ → Type 0
-IsRoomFor n room needed = (n ≤ needed) × (room < needed → needed ≡ n)
-
--- The same for the UTF-8 of each reading of the input.
-abbrev pub IsRoomForReadings : (List ℕ → Type 0) → ℕ → ℕ → Type 0
-IsRoomForReadings IsReading room needed =
-    (text : List ℕ) → IsReading text → IsRoomFor (length (utf8 text)) room needed
-
--- Where the call says that the room is too small, it tells a length that is greater, and at most this.
-abbrev pub AsksAtMost : ℕ → Answer → List ℕ → Type 0
-AsksAtMost n answer old =
-    answer.status ≡ TOO_SMALL → (length old < answer.length) × (answer.length ≤ n)
+-- or one that is read with damage.
+abbrev pub told_of_lossy_text : Result ℕ LossySliceFault → Answer
+told_of_lossy_text (Ok len) = record { status = OK; length = len }
+told_of_lossy_text (Err lossy.TooLong) = record { status = TOO_LONG; length = 0 }
+told_of_lossy_text (Err (lossy.TooShort fault)) = record { status = TOO_SMALL; length = fault.needed }
 
 -- The status is one of these.
 abbrev pub IsAmong : List ℕ → ℕ → Type 0
 IsAmong [] status = ⊥
 IsAmong (one ∷ others) status = (status ≡ one) ⊎ IsAmong others status
+
+-- Whether the encoding of UTF-8 is other than it.
+pub record DecidesNeed (f : Flavor) (text : List ℕ) (decision : Decision) : Type 0 where
+  pub ok : decision.status ≡ OK ↔ IsUtf8 text
+  pub not_utf8 : decision.status ≡ NOT_UTF8 ↔ ¬ (IsUtf8 text)
+  pub needed : IsUtf8 text → (IsTrue decision.is_needed ↔ NeedsEncoding f (chars text))
+  pub undecided : ¬ (IsUtf8 text) → ¬ (IsTrue decision.is_needed)
+
+-- The length of the encoding of UTF-8.
+pub record TellsEncodedLength (f : Flavor) (text : List ℕ) (answer : Answer) : Type 0 where
+  pub ok : answer.status ≡ OK ↔ IsUtf8 text
+  pub not_utf8 : answer.status ≡ NOT_UTF8 ↔ ¬ (IsUtf8 text)
+  pub encoded : IsUtf8 text → answer.length ≡ length (encoding f (chars text))
+  pub none : ¬ (IsUtf8 text) → answer.length ≡ 0
+
+-- The length of the lossy reading.
+pub record TellsLossyLength (f : Flavor) (bytes : List ℕ) (answer : Answer) : Type 0 where
+  pub read : answer.status ≡ OK → answer.length ≡ lossy_length f bytes
+  pub too_long : answer.status ≡ TOO_LONG ↔ 2 ^ 64 ≤ lossy_length f bytes
+  pub statuses : IsAmong (OK ∷ TOO_LONG ∷ []) answer.status
+  pub none : answer.status ≡ TOO_LONG → answer.length ≡ 0
+
+-- These bytes stand at the front of the buffer, or it is too small for them.
+pub record Places (bytes : List ℕ) (answer : Answer) (old new : List ℕ) : Type 0 where
+  pub placed : answer.status ≡ OK → StandsAtFront bytes answer.length old new
+  pub fits : answer.status ≡ OK ↔ length bytes ≤ length old
+  -- Elsewhere the length is told that is needed,
+  pub too_small : answer.status ≡ TOO_SMALL ↔ length old < length bytes
+  pub needed : answer.status ≡ TOO_SMALL → answer.length ≡ length bytes
+  -- and the whole buffer is as before.
+  pub unchanged : answer.status ≢ OK → new ≡ old
+
+-- The encoding of UTF-8 is placed; what is not UTF-8 is refused.
+pub record Encodes (f : Flavor) (text : List ℕ) (answer : Answer) (old new : List ℕ) : Type 0 where
+  pub encoded : IsUtf8 text → Places (encoding f (chars text)) answer old new
+  pub not_utf8 : answer.status ≡ NOT_UTF8 ↔ ¬ (IsUtf8 text)
+  pub none : answer.status ≡ NOT_UTF8 → answer.length ≡ 0
+  pub unchanged : answer.status ≢ OK → new ≡ old
+
+-- The UTF-8 of a text that the input is read as stands at the front of the buffer, or that is too
+-- small; what is read as no text is refused.
+pub record Decodes (IsReading : List ℕ → Type 0) (answer : Answer) (old new : List ℕ) : Type 0 where
+  pub placed : answer.status ≡ OK → ReadingAtFront IsReading answer.length old new
+  pub fits : answer.status ≡ OK ↔ ReadsAtLength IsReading (λ len. len ≤ length old)
+  pub invalid : answer.status ≡ INVALID ↔ ((text : List ℕ) → ¬ (IsReading text))
+  -- A buffer that is too small is shorter than the text's UTF-8, whose length is told.
+  pub needed : answer.status ≡ TOO_SMALL
+      → ReadsAtLength IsReading (λ len. (length old < len) × (answer.length ≡ len))
+  pub statuses : IsAmong (OK ∷ INVALID ∷ TOO_SMALL ∷ []) answer.status
+  pub none : answer.status ≡ INVALID → answer.length ≡ 0
+  -- Without an answer the whole buffer is as before.
+  pub unchanged : answer.status ≢ OK → new ≡ old
+
+-- The same for a reading that refuses nothing, but may have more bytes than can be told.
+pub record DecodesLossily (IsReading : List ℕ → Type 0) (answer : Answer) (old new : List ℕ) : Type 0 where
+  pub placed : answer.status ≡ OK → ReadingAtFront IsReading answer.length old new
+  pub fits : answer.status ≡ OK ↔ ReadsAtLength IsReading (λ len. len ≤ length old)
+  pub too_long : answer.status ≡ TOO_LONG ↔ ReadsAtLength IsReading (λ len. 2 ^ 64 ≤ len)
+  -- A buffer that is too small is shorter than the text's UTF-8, whose length is told.
+  pub needed : answer.status ≡ TOO_SMALL
+      → ReadsAtLength IsReading (λ len. (length old < len) × (answer.length ≡ len))
+  pub statuses : IsAmong (OK ∷ TOO_LONG ∷ TOO_SMALL ∷ []) answer.status
+  pub none : answer.status ≡ TOO_LONG → answer.length ≡ 0
+  -- Without an answer the whole buffer is as before.
+  pub unchanged : answer.status ≢ OK → new ≡ old
+
+-- The form of a text is placed; what is not UTF-8 is refused, and so is a text that has none.
+pub record WritesForm (text : List ℕ) (answer : Answer) (old new : List ℕ) : Type 0 where
+  pub form : IsUtf8 text → HasForm (chars text) → Places (java_form (chars text)) answer old new
+  pub not_utf8 : answer.status ≡ NOT_UTF8 ↔ ¬ (IsUtf8 text)
+  pub too_long : answer.status ≡ TOO_LONG ↔ IsUtf8 text × (¬ (HasForm (chars text)))
+  pub none : answer.status ≢ OK → answer.status ≢ TOO_SMALL → answer.length ≡ 0
+  pub unchanged : answer.status ≢ OK → new ≡ old
+
+-- What a call takes of the input that reads the form which begins it.
+pub record TakesForm (bytes : List ℕ) (read : Reading) : Type 0 where
+  pub truncated : read.status ≡ TRUNCATED ↔ IsTruncated bytes
+  pub taken : ¬ (IsTruncated bytes) → read.taken ≡ 2 + count_in bytes
+  pub not_taken : IsTruncated bytes → read.taken ≡ 0
+  pub none : IsTruncated bytes → read.length ≡ 0
+
+-- The text of the form that begins the input.
+abbrev pub IsFormText : List ℕ → List ℕ → Type 0
+IsFormText bytes text = BeginsWithForm bytes text (rest_in bytes)
+
+-- The text of the form that begins the input is placed.
+pub record ReadsForm (bytes : List ℕ) (read : Reading) (old new : List ℕ) : Type 0 where
+  pub form : TakesForm bytes read
+  pub text : ¬ (IsTruncated bytes) → Decodes (IsFormText bytes) (answer_of read) old new
+  pub unchanged : IsTruncated bytes → new ≡ old
+
+-- The same with damage in the counted bytes.
+pub record ReadsFormLossily (bytes : List ℕ) (read : Reading) (old new : List ℕ) : Type 0 where
+  pub form : TakesForm bytes read
+  pub text : ¬ (IsTruncated bytes)
+      → DecodesLossily (λ text. text ≡ reading Mutf8 (counted bytes)) (answer_of read) old new
+  pub unchanged : IsTruncated bytes → new ≡ old

@@ -1,7 +1,9 @@
-//! What an export answers, and what it leaves in the caller's room.
+//! What an export returns, and what it says of the caller's buffer.
 
-ghost use Rattle.std.specs.Prelude.{◌≡◌, ◌≤◌, length, IsTrue};
-ghost use Rattle.cesu8_static.specs.Answers.{Places, answer_of};
+ghost use Rattle.std.specs.Prelude.{◌≡◌, false};
+ghost use Rattle.cesu8_static.specs.Answers.{answer_of, told_of_bytes, told_of_text, told_of_lossy_text};
+
+use simd_cesu8::{DecodeSliceFault, LossySliceFault, TooShort};
 
 /// There is an answer.
 pub const OK: u32 = 0;
@@ -13,12 +15,10 @@ pub const INVALID: u32 = 2;
 pub const TRUNCATED: u32 = 3;
 /// The answer is longer than can be told.
 pub const TOO_LONG: u32 = 4;
-/// The answer is longer than the room.
+/// The answer is longer than the buffer.
 pub const TOO_SMALL: u32 = 5;
-/// A request for memory was refused.
-pub const OUT_OF_MEMORY: u32 = 6;
 
-/// What a call answers.
+/// What a call returns.
 #[repr(C)]
 #[derive(Drop)]
 pub struct Answer {
@@ -30,15 +30,15 @@ pub struct Answer {
 
 impl Answer {
     /// There is an answer of this length.
-    pub fn of_length(length: usize) -> Answer
+    pub(crate) fn of_length(length: usize) -> Answer
         ensures status { result.status ≡ OK }
         ensures length { result.length ≡ length }
     {
         Answer { status: OK, length }
     }
 
-    /// The room is too small for an answer of this length.
-    pub fn too_small(length: usize) -> Answer
+    /// The buffer is too small for an answer of this length.
+    pub(crate) fn too_small(length: usize) -> Answer
         ensures status { result.status ≡ TOO_SMALL }
         ensures length { result.length ≡ length }
     {
@@ -49,25 +49,47 @@ impl Answer {
     }
 
     /// There is no answer, for this reason.
-    pub fn without(status: u32) -> Answer
+    pub(crate) fn without(status: u32) -> Answer
         ensures status { result.status ≡ status }
         ensures length { result.length ≡ 0 }
     {
         Answer { status, length: 0 }
     }
 
-    /// An answer that fits the room, copied to its front.
-    pub(crate) fn placed(answer: &[u8], room: &mut [u8]) -> Answer
-        requires { length answer.now ≤ length room.old }
-        ensures status { result.status ≡ OK }
-        ensures placed { Places answer.now result room.old room.new }
+    /// What is returned where bytes were to be written.
+    pub(crate) fn of_bytes(outcome: Result<usize, TooShort>) -> Answer
+        ensures { result ≡ told_of_bytes outcome }
     {
-        room[..answer.len()].copy_from_slice(answer);
-        Answer::of_length(answer.len())
+        match outcome {
+            Ok(length) => Answer::of_length(length),
+            Err(fault) => Answer::too_small(fault.needed()),
+        }
+    }
+
+    /// What is returned where a text was to be written.
+    pub(crate) fn of_text(outcome: Result<usize, DecodeSliceFault>) -> Answer
+        ensures { result ≡ told_of_text outcome }
+    {
+        match outcome {
+            Ok(length) => Answer::of_length(length),
+            Err(DecodeSliceFault::Invalid(_)) => Answer::without(INVALID),
+            Err(DecodeSliceFault::TooShort(fault)) => Answer::too_small(fault.needed()),
+        }
+    }
+
+    /// What is returned where a text was to be written that no input is refused.
+    pub(crate) fn of_lossy_text(outcome: Result<usize, LossySliceFault>) -> Answer
+        ensures { result ≡ told_of_lossy_text outcome }
+    {
+        match outcome {
+            Ok(length) => Answer::of_length(length),
+            Err(LossySliceFault::TooLong) => Answer::without(TOO_LONG),
+            Err(LossySliceFault::TooShort(fault)) => Answer::too_small(fault.needed()),
+        }
     }
 }
 
-/// What a call that decides answers.
+/// What a call that decides returns.
 #[repr(C)]
 #[derive(Drop)]
 pub struct Decision {
@@ -77,7 +99,31 @@ pub struct Decision {
     pub is_needed: bool,
 }
 
-/// What a call that reads a string with its length in front answers.
+impl Decision {
+    /// What is decided of a text.
+    pub(crate) fn of(is_needed: bool) -> Decision
+        ensures status { result.status ≡ OK }
+        ensures decided { result.is_needed ≡ is_needed }
+    {
+        Decision {
+            status: OK,
+            is_needed,
+        }
+    }
+
+    /// The input is no text.
+    pub(crate) fn without() -> Decision
+        ensures status { result.status ≡ NOT_UTF8 }
+        ensures undecided { result.is_needed ≡ false }
+    {
+        Decision {
+            status: NOT_UTF8,
+            is_needed: false,
+        }
+    }
+}
+
+/// What a call that reads a string with its length in front returns.
 #[repr(C)]
 #[derive(Drop)]
 pub struct Reading {
@@ -91,7 +137,7 @@ pub struct Reading {
 
 impl Reading {
     /// An answer, and what it takes of the input.
-    pub fn of(answer: Answer, taken: usize) -> Reading
+    pub(crate) fn of(answer: Answer, taken: usize) -> Reading
         ensures answer { answer_of result ≡ answer }
         ensures taken { result.taken ≡ taken }
     {

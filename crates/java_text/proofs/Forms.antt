@@ -24,7 +24,7 @@ counted_in_form bytes text rest h =
     ∙ ap (λ bs. take (mutf8_len text) (drop 2 bs)) h.bytes_are ∙ take-append_seam (encoding Mutf8 text) rest
 
 -- What follows a number of bytes follows as many after the first two.
-drop_after_two : (a b n : ℕ) (bytes : List ℕ) → drop (2 + n) (a ∷ b ∷ bytes) ≡ drop n bytes
+pub drop_after_two : (a b n : ℕ) (bytes : List ℕ) → drop (2 + n) (a ∷ b ∷ bytes) ≡ drop n bytes
 drop_after_two a b n bytes = drop-append-add (a ∷ b ∷ []) bytes n
 
 -- So what follows those bytes is what follows the form.

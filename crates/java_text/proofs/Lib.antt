@@ -1,2 +1,3 @@
 pub mod Forms
 pub mod Lawful
+pub mod FormSlices

@@ -4,6 +4,12 @@ use Rattle.simd_cesu8.specs.declared.error.DecodeFault.{DecodeFault}
 use Rattle.simd_cesu8.specs.declared.error.DecodeFault.TheVariants as decoding
 use Rattle.java_text.specs.declared.fault.WriteFault.{WriteFault}
 use Rattle.java_text.specs.declared.fault.WriteFault.TheVariants as writing
+use Rattle.java_text.specs.declared.fault.WriteSliceFault.{WriteSliceFault}
+use Rattle.java_text.specs.declared.fault.WriteSliceFault.TheVariants as slice_writing
+use Rattle.java_text.specs.declared.fault.ReadSliceFault.{ReadSliceFault}
+use Rattle.java_text.specs.declared.fault.ReadSliceFault.TheVariants as slice_reading
+use Rattle.simd_cesu8.specs.declared.error.DecodeSliceFault.{DecodeSliceFault}
+use Rattle.simd_cesu8.specs.declared.error.DecodeSliceFault.TheVariants as slice_decoding
 use Rattle.java_text.specs.declared.fault.ReadFault.{ReadFault}
 use Rattle.java_text.specs.declared.fault.ReadFault.TheVariants.{Truncated, Invalid, Memory}
 
@@ -17,10 +23,23 @@ read_message_of Truncated = codes "input is truncated"
 read_message_of (Invalid error) = codes "invalid input"
 read_message_of Memory = codes "out of memory"
 
+abbrev pub write_slice_message_of : WriteSliceFault → List ℕ
+write_slice_message_of (slice_writing.TooLong count) = codes "text is too long"
+write_slice_message_of (slice_writing.TooShort count) = codes "buffer too short"
+
+abbrev pub read_slice_message_of : ReadSliceFault → List ℕ
+read_slice_message_of slice_reading.Truncated = codes "input is truncated"
+read_slice_message_of (slice_reading.Invalid error) = codes "invalid input"
+read_slice_message_of (slice_reading.TooShort count) = codes "buffer too short"
+
 -- What a fault of the decoder is told as.
 abbrev pub read_fault_of : DecodeFault → ReadFault
 read_fault_of (decoding.Invalid error) = Invalid error
 read_fault_of (decoding.Memory error) = Memory
+
+abbrev pub read_slice_fault_of : DecodeSliceFault → ReadSliceFault
+read_slice_fault_of (slice_decoding.Invalid error) = slice_reading.Invalid error
+read_slice_fault_of (slice_decoding.TooShort fault) = slice_reading.TooShort fault.needed
 
 -- A fact that holds where the counted bytes are refused.
 abbrev pub IfInvalid : ReadFault → Type 0 → Type 0

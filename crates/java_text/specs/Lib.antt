@@ -1,4 +1,5 @@
 pub mod Form
 pub mod Fault
 pub mod Read
+pub mod Slices
 pub mod Laws

@@ -1,11 +1,11 @@
 //! Why a text could not be written, or none be read.
 
 ghost use Rattle.std.specs.Prelude.{◌≡◌, Some};
-ghost use Rattle.java_text.specs.Fault.{write_message_of, read_message_of, read_fault_of};
+ghost use Rattle.java_text.specs.Fault.{write_message_of, read_message_of, write_slice_message_of, read_slice_message_of, read_fault_of, read_slice_fault_of};
 ghost use Rattle.java_text.specs.declared.fault.WriteFault.TheVariants as writing;
 ghost use Rattle.java_text.specs.declared.fault.ReadFault.TheVariants as reading;
 
-use simd_cesu8::{DecodeFault, DecodingError};
+use simd_cesu8::{DecodeFault, DecodeSliceFault, DecodingError};
 use std::alloc::AllocError;
 use std::error::Error;
 use std::fmt;
@@ -93,3 +93,70 @@ impl Display for ReadFault {
 }
 
 impl Error for ReadFault {}
+
+/// Why `write_utf_to_slice` writes nothing.
+///
+/// It shows itself as `text is too long` or `buffer too short`, whatever width is asked for.
+#[derive(Clone, Copy, Debug, PartialEq, Eq)]
+pub enum WriteSliceFault {
+    /// The text has this many bytes of MUTF-8, and two bytes count no more than 65,535.
+    TooLong(usize),
+    /// The buffer is shorter than the form, which has this many bytes.
+    TooShort(usize),
+}
+
+impl Display for WriteSliceFault {
+    ghost output = { λ fault. Some (write_slice_message_of fault) };
+
+    ghost styled_output = { λ fault _. Some (write_slice_message_of fault) };
+
+    fn fmt<W: fmt::Write>(&self, f: &mut Formatter<W>) -> fmt::Result {
+        match self {
+            WriteSliceFault::TooLong(_) => f.write_str("text is too long"),
+            WriteSliceFault::TooShort(_) => f.write_str("buffer too short"),
+        }
+    }
+}
+
+impl Error for WriteSliceFault {}
+
+/// Why a call that reads writes no text into the caller's buffer.
+///
+/// It shows itself as `input is truncated`, `invalid input` or `buffer too short`, whatever width is
+/// asked for.
+#[derive(Clone, Copy, Debug, PartialEq, Eq)]
+pub enum ReadSliceFault {
+    /// There are fewer than two bytes, or fewer after them than they count.
+    Truncated,
+    /// The counted bytes are no encoding of a text.
+    Invalid(DecodingError),
+    /// The buffer is shorter than the text, whose UTF-8 has this many bytes.
+    TooShort(usize),
+}
+
+impl From<DecodeSliceFault> for ReadSliceFault {
+    ghost from_gives = { λ fault told. told ≡ read_slice_fault_of fault };
+
+    fn from(fault: DecodeSliceFault) -> ReadSliceFault {
+        match fault {
+            DecodeSliceFault::Invalid(error) => ReadSliceFault::Invalid(error),
+            DecodeSliceFault::TooShort(short) => ReadSliceFault::TooShort(short.needed()),
+        }
+    }
+}
+
+impl Display for ReadSliceFault {
+    ghost output = { λ fault. Some (read_slice_message_of fault) };
+
+    ghost styled_output = { λ fault _. Some (read_slice_message_of fault) };
+
+    fn fmt<W: fmt::Write>(&self, f: &mut Formatter<W>) -> fmt::Result {
+        match self {
+            ReadSliceFault::Truncated => f.write_str("input is truncated"),
+            ReadSliceFault::Invalid(_) => f.write_str("invalid input"),
+            ReadSliceFault::TooShort(_) => f.write_str("buffer too short"),
+        }
+    }
+}
+
+impl Error for ReadSliceFault {}

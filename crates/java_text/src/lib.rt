@@ -11,6 +11,7 @@
 //! | text | its form at the end of a buffer | [`write_utf`] |
 //! | bytes that begin with a form | its text and the bytes after it, or a refusal | [`read_utf`] |
 //! | the same, perhaps damaged | a text, but where bytes are missing | [`read_utf_lossy`] |
+//! | either, and a buffer for what is wanted | the form or the text there, with no allocator | [`write_utf_to_slice`], [`read_utf_to_slice`], [`read_utf_lossy_to_slice`] |
 //!
 //! ```rust
 //! let mut buf = Vec::new(alloc);
@@ -25,21 +26,22 @@
 //! ```
 #![tactic(auto)]
 
-ghost use Rattle.std.specs.Prelude.{◌≡◌, ◌↔◌, ◌≤◌, ◌+◌, ◌++◌, Err, length, IfOk, IfErr, OnOk, OnErr, IsOk, IsOkUnless, vec_len, vec_capacity};
+ghost use Rattle.std.specs.Prelude.{◌≡◌, ◌↔◌, ◌<◌, ◌≤◌, ◌+◌, ◌++◌, Err, length, IfOk, IfErr, OnOk, OnErr, IsOk, IsOkUnless, vec_len, vec_capacity};
 ghost use Rattle.std.specs.Str.{chars};
 ghost use Rattle.simd_cesu8.specs.Encoding.{Mutf8};
 ghost use Rattle.simd_cesu8.specs.Class.{IsUnchangedUtf8};
-ghost use Rattle.simd_cesu8.specs.Reading.{HasNoStrictReading, reading, lossy_length};
+ghost use Rattle.simd_cesu8.specs.Reading.{IsStrictReading, HasNoStrictReading, reading, lossy_length};
 ghost use Rattle.simd_cesu8.specs.Cow.{BorrowsTextWhere, BuildsTextOfCapacity};
 ghost use Rattle.java_text.specs.Form.{mutf8_len, HasForm, java_form, BeginsWithForm, BeginsOnlyWithForm, NoFormBegins, count_in, counted, rest_in, IsTruncated};
 ghost use Rattle.java_text.specs.Read.{IfRead, text_of};
 ghost use Rattle.java_text.specs.Fault.{OnInvalid, OnRefused};
+ghost use Rattle.java_text.specs.Slices.{WritesForm, WritesCounted};
 
 mod fault;
 pub mod laws;
 
-pub use crate::fault::{ReadFault, WriteFault};
-use simd_cesu8::{CowText, mutf8};
+pub use crate::fault::{ReadFault, ReadSliceFault, WriteFault, WriteSliceFault};
+use simd_cesu8::{CowText, LossySliceFault, mutf8};
 use std::alloc::Global;
 
 /// Appends the form of a text (Java's `DataOutput.writeUTF`) to what stands in the buffer.
@@ -157,6 +159,110 @@ pub fn read_utf_lossy(alloc: Global, bytes: &[u8]) -> Result<(CowText<'_>, &[u8]
 {
     let (counted, rest) = split_counted(bytes)?;
     Ok((mutf8::decode_lossy_strict(alloc, counted)?, rest))
+}
+
+/// How many bytes two bytes count at most.
+const MOST_COUNTED: usize = 65_535;
+
+/// Writes the form of a text (Java's `DataOutput.writeUTF`) into a buffer of the caller's.
+///
+/// It gives how many bytes it wrote at the front of the buffer, and what follows them stays as it
+/// was. `TooLong` comes exactly where the text's MUTF-8 has more than 65,535 bytes, and says how
+/// many, and `TooShort` where there is a form and the buffer is shorter, and says how long the form
+/// is. After either the whole buffer stays as it was. It takes no memory.
+///
+/// ```rust
+/// let mut buf = [0xEE; 6];
+/// assert_eq!(rt; java_text::write_utf_to_slice("a\0", &mut buf)?, 5);
+/// assert_eq!(rt; buf.as_slice(), b"\0\x03a\xC0\x80\xEE".as_slice());
+/// ```
+pub fn write_utf_to_slice(text: &str, buf: &mut [u8]) -> Result<usize, WriteSliceFault>
+    ensures { WritesForm (chars text.now) result buf.old buf.new }
+{
+    if buf.len() < 2 {
+        return Err(misfit(mutf8::encoded_len(text)));
+    }
+    // No room is offered that two bytes can't count.
+    let end = buf.len().min(2 + MOST_COUNTED);
+    match mutf8::encode_to_slice(text, &mut buf[2..end]) {
+        Ok(length) => {
+            buf[..2].copy_from_slice(&(length as u16).to_be_bytes());
+            Ok(2 + length)
+        }
+        Err(fault) => Err(misfit(fault.needed())),
+    }
+}
+
+/// Why the form of a text with so many bytes of MUTF-8 does not fit.
+fn misfit(length: usize) -> WriteSliceFault
+    ensures too_long { MOST_COUNTED < length → result ≡ WriteSliceFault.TooLong length }
+    ensures too_short { length ≤ MOST_COUNTED → result ≡ WriteSliceFault.TooShort (2 + length) }
+{
+    if length > MOST_COUNTED {
+        return WriteSliceFault::TooLong(length);
+    }
+    WriteSliceFault::TooShort(2 + length)
+}
+
+/// Reads the form that begins the bytes (Java's `DataInput.readUTF`), strictly, and writes the
+/// text's UTF-8 into a buffer of the caller's: how many bytes it wrote at its front, and the bytes
+/// after the form.
+///
+/// What follows in the buffer stays as it was. `Truncated` and `Invalid` come exactly where
+/// [`read_utf`] would tell them, and `TooShort`, which says how many bytes are needed, where the
+/// text is longer than the buffer. After a fault the whole buffer stays as it was. It takes no
+/// memory.
+///
+/// ```rust
+/// let mut buf = [0xEE; 3];
+/// let (len, rest) = java_text::read_utf_to_slice(b"\0\x02\xC0\x80B", &mut buf)?;
+/// assert_eq!(rt; (len, rest), (1, b"B".as_slice()));
+/// assert_eq!(rt; buf.as_slice(), b"\0\xEE\xEE".as_slice());
+/// ```
+pub fn read_utf_to_slice<'b>(
+    bytes: &'b [u8],
+    buf: &mut [u8],
+) -> Result<(usize, &'b [u8]), ReadSliceFault>
+    ensures { WritesCounted bytes.now (IsStrictReading Mutf8 (counted bytes.now))
+        result buf.old buf.new }
+{
+    let Ok((counted, rest)) = split_counted(bytes) else {
+        return Err(ReadSliceFault::Truncated);
+    };
+    Ok((mutf8::decode_strict_to_slice(counted, buf)?, rest))
+}
+
+/// Reads the count that begins the bytes (Java's `DataInput.readUTF`), and as many bytes after it,
+/// with damage, as [`read_utf_lossy`] does, and writes the text's UTF-8 into a buffer of the
+/// caller's: how many bytes it wrote at its front, and the bytes after the counted ones.
+///
+/// What follows in the buffer stays as it was. `Truncated` comes as in [`read_utf`], `TooShort`,
+/// which says how many bytes are needed, where the text is longer than the buffer, and `Invalid`
+/// never. After a fault the whole buffer stays as it was. It takes no memory.
+///
+/// ```rust
+/// let mut buf = [0xEE; 4];
+/// let (len, rest) = java_text::read_utf_lossy_to_slice(b"\0\x01\xC2AB", &mut buf)?;
+/// assert_eq!(rt; (len, rest), (3, b"AB".as_slice()));
+/// assert_eq!(rt; buf.as_slice(), b"\xEF\xBF\xBD\xEE".as_slice());
+/// ```
+pub fn read_utf_lossy_to_slice<'b>(
+    bytes: &'b [u8],
+    buf: &mut [u8],
+) -> Result<(usize, &'b [u8]), ReadSliceFault>
+    ensures { WritesCounted bytes.now (λ text. text ≡ reading Mutf8 (counted bytes.now))
+        result buf.old buf.new }
+{
+    simd_cesu8::laws::bounds();
+    let Ok((counted, rest)) = split_counted(bytes) else {
+        return Err(ReadSliceFault::Truncated);
+    };
+    match mutf8::decode_lossy_strict_to_slice(counted, buf) {
+        Ok(len) => Ok((len, rest)),
+        Err(LossySliceFault::TooShort(fault)) => Err(ReadSliceFault::TooShort(fault.needed())),
+        // Two bytes count no more bytes than a `usize` counts of their text.
+        Err(LossySliceFault::TooLong) => unreachable!(),
+    }
 }
 
 /// The bytes that the first two count, and those after them.

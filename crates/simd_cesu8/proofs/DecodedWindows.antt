@@ -2,7 +2,8 @@
 use Rattle.std.proofs.Common.{◌≡◌, ℕ, ◌+◌, ◌-◌, ◌<◌, ◌≤◌, ◌⊎◌, ⊎_elim, Bool, true, false, ◌&&◌, ◌||◌, not, eqb, leb, List, [], ◌∷◌, ◌++◌, refl, sym, ap, subst, ◌∙◌, arith, IsTrue, true≢false, map, get_or, length, take, drop, replicate, zero-add, add-zero, bit_and, bit_or}
 use Rattle.std.proofs.lemmas.Bool.{ne_eqb, eq-eqb, le-leb, lt-leb, cases_lt}
 use Rattle.simd_cesu8.specs.Encoding.{Flavor}
-use Rattle.simd_cesu8.specs.DecodedPlaces.{width_at, is_border_at, IsPadded, IsPaddedFor, is_damaged_at, decoded}
+use Rattle.simd_cesu8.specs.DecodedPlaces.{width_at, is_border_at, IsPadded, is_damaged_at, decoded}
+use Rattle.simd_cesu8.specs.DecodedWindows.{IsRead}
 use Rattle.simd_cesu8.specs.Pieces.{IsPiece, HasFault}
 use Rattle.simd_cesu8.specs.DecodedLanes.{start_code, AreFiveCodes}
 use Rattle.std.specs.List.{range_with_len}
@@ -116,12 +117,6 @@ more_written f window old new at len old_is new_is =
     ∙ ap (λ i. decoded f window 0 at ++ decoded f window i len) (sym (zero-add at)) ∙ sym (decoded_split f window 0 at len)
 
 -- ---- windows
-
--- The first n bytes are read by a window, up to a border.
-pub record IsRead (f : Flavor) (bytes window : List ℕ) (n : ℕ) : Type 0 where
-  pub padded : IsPaddedFor n bytes window
-  pub fits : n ≤ length bytes
-  pub border : is_border_at f window n ≡ true
 
 -- A window on all bytes reads them all,
 pub all_read : (f : Flavor) (bytes window : List ℕ) → IsPadded bytes window → IsRead f bytes window (length bytes)

@@ -35,6 +35,8 @@ pub mod Joining
 pub mod PairWords
 pub mod JoinedText
 pub mod Pieces
+pub mod WrittenPieces
+pub mod SliceReadings
 pub mod Borrowing
 pub mod Lawful
 pub mod EncodedBytes

@@ -2,11 +2,23 @@
 use Rattle.std.specs.Prelude.{ℕ, ⊤, List, codes, Result, IfErr}
 use Rattle.simd_cesu8.specs.declared.error.DecodeFault.{DecodeFault}
 use Rattle.simd_cesu8.specs.declared.error.DecodeFault.TheVariants.{Invalid, Memory}
+use Rattle.simd_cesu8.specs.declared.error.DecodeSliceFault.{DecodeSliceFault}
+use Rattle.simd_cesu8.specs.declared.error.DecodeSliceFault.TheVariants as strict
+use Rattle.simd_cesu8.specs.declared.error.LossySliceFault.{LossySliceFault}
+use Rattle.simd_cesu8.specs.declared.error.LossySliceFault.TheVariants as lossy
 
 -- What a fault is shown as.
 abbrev pub message_of : DecodeFault → List ℕ
 message_of (Invalid error) = codes "invalid input"
 message_of (Memory error) = codes "out of memory"
+
+abbrev pub slice_message_of : DecodeSliceFault → List ℕ
+slice_message_of (strict.Invalid error) = codes "invalid input"
+slice_message_of (strict.TooShort fault) = codes "buffer too short"
+
+abbrev pub lossy_message_of : LossySliceFault → List ℕ
+lossy_message_of lossy.TooLong = codes "text is too long"
+lossy_message_of (lossy.TooShort fault) = codes "buffer too short"
 
 -- A fact that holds where the input is refused.
 abbrev pub IfInvalid : DecodeFault → Type 0 → Type 0

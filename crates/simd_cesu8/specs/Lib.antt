@@ -7,6 +7,7 @@ pub mod Kernels
 pub mod Reading
 pub mod DecodedPlaces
 pub mod DecodedLanes
+pub mod DecodedWindows
 pub mod Cutting
 pub mod Cow
 pub mod Counted

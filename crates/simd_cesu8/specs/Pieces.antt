@@ -1,8 +1,8 @@
 -- Text that is read a piece at a time.
-use Rattle.std.specs.Prelude.{◌≡◌, ℕ, ◌<◌, Bool, false, List, [], ◌++◌, length}
+use Rattle.std.specs.Prelude.{◌≡◌, ℕ, ◌+◌, ◌<◌, ◌≤◌, Bool, true, false, List, [], ◌++◌, length, take, drop}
 use Rattle.simd_cesu8.specs.Text.{IsText, utf8}
 use Rattle.simd_cesu8.specs.Encoding.{Flavor, encoding}
-use Rattle.simd_cesu8.specs.Reading.{NoneBegins, reading}
+use Rattle.simd_cesu8.specs.Reading.{NoneBegins, reading, lossy_length}
 
 -- The text so far, whose UTF-8 was written after old, and the bytes that are left.
 pub record IsReadSoFar (f : Flavor) (lossy : Bool) (bytes rest old new : List ℕ) : Type 0 where
@@ -15,6 +15,15 @@ pub record IsReadSoFar (f : Flavor) (lossy : Bool) (bytes rest old new : List �
 -- A piece of text, in UTF-8, is read before the rest.
 abbrev pub IsPiece : Flavor → Bool → List ℕ → List ℕ → List ℕ → Type 0
 IsPiece f lossy bytes rest piece = IsReadSoFar f lossy bytes rest [] piece
+
+-- The same where it is written into a slice, up to end behind what stands before start. What follows
+-- stays as it was.
+pub record IsWrittenSoFar (f : Flavor) (bytes rest : List ℕ) (start end : ℕ) (old new : List ℕ) : Type 0 where
+  pub so_far : IsReadSoFar f true bytes rest (take start old) (take end new)
+  pub forward : start ≤ end
+  pub room : end + lossy_length f rest ≡ start + lossy_length f bytes
+  pub behind : drop end new ≡ drop end old
+  pub len : length new ≡ length old
 
 -- After some text no encoded character begins what is left.
 pub record HasFault (f : Flavor) (bytes : List ℕ) : Type 0 where

@@ -8,10 +8,9 @@ ghost use Rattle.simd_cesu8.specs.Reading.{IsStrictReading, HasNoStrictReading, 
 ghost use Rattle.simd_cesu8.specs.Cow.{IfBytes, BorrowsBytesWhere, BuildsBytesOfCapacity, IfText, BorrowsTextWhere, BuildsTextOfCapacity, AnswersTextOfLength};
 ghost use Rattle.simd_cesu8.specs.Fault.{OnInvalid};
 ghost use Rattle.simd_cesu8.specs.Internal.{flavor_of};
-ghost use Rattle.simd_cesu8.specs.Slices.{WritesAnswer};
 
 use crate::cow::{CowBytes, CowText};
-use crate::error::{DecodeFault, TooShort};
+use crate::error::DecodeFault;
 use crate::internal;
 use crate::internal::{
     Flavor, ascii_text, character_start, contains_changed, is_short_ascii, is_short_unchanged_ascii,
@@ -50,7 +49,7 @@ const FRONT: usize = 512;
 ///
 /// A text comes back in registers, where a `Result` with it would go through memory.
 #[inline(always)]
-fn whole_text(bytes: &[u8]) -> &str
+pub fn whole_text(bytes: &[u8]) -> &str
     ensures whole { length result.now ≡ length bytes.now
         → (result.now ≡ bytes.now) × IsUtf8 bytes.now }
     ensures none { ¬ (length result.now ≡ length bytes.now) → ¬ (IsUtf8 bytes.now) }
@@ -78,7 +77,7 @@ fn has_utf8_front(bytes: &[u8]) -> bool
 
 /// The same for UTF-8 without a byte that is written otherwise.
 #[inline(always)]
-fn unchanged_text(flavor: Flavor, bytes: &[u8]) -> &str
+pub fn unchanged_text(flavor: Flavor, bytes: &[u8]) -> &str
     ensures whole { length result.now ≡ length bytes.now
         → (result.now ≡ bytes.now) × IsUnchangedUtf8 (flavor_of flavor) bytes.now }
     ensures none { ¬ (length result.now ≡ length bytes.now)
@@ -250,14 +249,4 @@ fn decode_lossy_other(
     }
     let built = internal::decode_lossy(alloc, flavor, bytes)?;
     Ok(CowText::Owned(built))
-}
-
-#[inline(always)]
-pub fn encode_to_slice(flavor: Flavor, value: &str, buf: &mut [u8]) -> Result<usize, TooShort>
-    ensures { WritesAnswer (encoding (flavor_of flavor) (chars value.now)) result buf.old buf.new }
-{
-    if !needs_encoded(flavor, value) {
-        return internal::copy_to_slice(value.as_bytes(), buf);
-    }
-    internal::encode_to_slice(flavor, value, buf)
 }

@@ -2,7 +2,7 @@
 
 ghost use Rattle.std.specs.Prelude.{Some, codes, true};
 ghost use Rattle.std.proofs.Common.{rules};
-ghost use Rattle.simd_cesu8.specs.Fault.{message_of};
+ghost use Rattle.simd_cesu8.specs.Fault.{message_of, slice_message_of, lossy_message_of};
 
 use std::alloc::AllocError;
 use std::error::Error;
@@ -135,3 +135,75 @@ impl Display for TooShort {
 }
 
 impl Error for TooShort {}
+
+/// Why a call that decodes writes no text into the caller's buffer.
+///
+/// It shows itself as `invalid input` or `buffer too short`, whatever width is asked for.
+///
+/// ```rust
+/// use simd_cesu8::DecodeSliceFault;
+///
+/// match simd_cesu8::decode_strict_to_slice(bytes, &mut buf) {
+///     Ok(len) => rt.println(str::from_utf8(&buf[..len])?)?,
+///     Err(DecodeSliceFault::Invalid(_)) => rt.println("no CESU-8")?,
+///     Err(DecodeSliceFault::TooShort(fault)) => println!(rt; "{} bytes needed", fault.needed())?,
+/// }
+/// ```
+#[derive(Clone, Copy, Debug, PartialEq, Eq)]
+pub enum DecodeSliceFault {
+    /// The input is refused.
+    Invalid(DecodingError),
+    /// The buffer is shorter than the text.
+    TooShort(TooShort),
+}
+
+impl Display for DecodeSliceFault {
+    ghost output = { λ fault. Some (slice_message_of fault) };
+
+    ghost styled_output = { λ fault _. Some (slice_message_of fault) };
+
+    fn fmt<W: fmt::Write>(&self, f: &mut Formatter<W>) -> fmt::Result {
+        match self {
+            DecodeSliceFault::Invalid(_) => f.write_str("invalid input"),
+            DecodeSliceFault::TooShort(_) => f.write_str("buffer too short"),
+        }
+    }
+}
+
+impl Error for DecodeSliceFault {}
+
+/// Why a call that decodes and refuses nothing writes no text into the caller's buffer.
+///
+/// It shows itself as `text is too long` or `buffer too short`, whatever width is asked for.
+///
+/// ```rust
+/// use simd_cesu8::LossySliceFault;
+///
+/// let mut buf = [0; 2];
+/// match simd_cesu8::decode_lossy_to_slice(b"\xFF", &mut buf).unwrap_err() {
+///     LossySliceFault::TooShort(fault) => assert_eq!(rt; fault.needed(), 3),
+///     LossySliceFault::TooLong => rt.println("no buffer is long enough")?,
+/// }
+/// ```
+#[derive(Clone, Copy, Debug, PartialEq, Eq)]
+pub enum LossySliceFault {
+    /// The text has more bytes than a `usize` counts.
+    TooLong,
+    /// The buffer is shorter than the text.
+    TooShort(TooShort),
+}
+
+impl Display for LossySliceFault {
+    ghost output = { λ fault. Some (lossy_message_of fault) };
+
+    ghost styled_output = { λ fault _. Some (lossy_message_of fault) };
+
+    fn fmt<W: fmt::Write>(&self, f: &mut Formatter<W>) -> fmt::Result {
+        match self {
+            LossySliceFault::TooLong => f.write_str("text is too long"),
+            LossySliceFault::TooShort(_) => f.write_str("buffer too short"),
+        }
+    }
+}
+
+impl Error for LossySliceFault {}

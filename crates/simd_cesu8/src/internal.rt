@@ -20,7 +20,9 @@ use crate::implementation::active;
 use crate::implementation::short::{ByteClass, SHORT, any_in_short};
 pub use ascii::{ascii_text, is_short_ascii, is_short_unchanged_ascii};
 pub use continuation::{character_start, is_continuation};
-pub use decoder::{decode_lossy, decode_strict, lossy_len, refuse};
+pub use decoder::{
+    decode_lossy, decode_lossy_to_slice, decode_strict, decode_strict_to_slice, lossy_len, refuse,
+};
 pub use encoder::{encode, encode_into, encode_to_slice};
 pub use lengths::encoded_len;
 pub use writers::{copy, copy_text, copy_to_slice};

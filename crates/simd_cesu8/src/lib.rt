@@ -19,6 +19,7 @@
 //! | bytes of the encoding, perhaps damaged | the length of that text | [`lossy_len`] |
 //! | bytes that are UTF-8, or else the encoding | their text, or a refusal | [`decode`] |
 //! | bytes that are UTF-8, or else the encoding, perhaps damaged | a text in any case | [`decode_lossy`] |
+//! | any of these bytes, and a buffer for the text | its UTF-8 there, with no allocator | [`decode_strict_to_slice`], [`decode_lossy_strict_to_slice`], [`decode_to_slice`], [`decode_lossy_to_slice`] |
 //!
 //! The root's calls are for CESU-8, and those of [`mutf8`] for MUTF-8. Take a strict call where the
 //! bytes can only be the encoding: a lenient one lets raw UTF-8 pass, as a character of four bytes.
@@ -39,9 +40,10 @@ ghost use Rattle.simd_cesu8.specs.Reading.{IsStrictReading, HasNoStrictReading, 
 ghost use Rattle.simd_cesu8.specs.Cow.{IfBytes, BorrowsBytesWhere, BuildsBytesOfCapacity, IfText, BorrowsTextWhere, BuildsTextOfCapacity, AnswersTextOfLength};
 ghost use Rattle.simd_cesu8.specs.Counted.{counted_encoding};
 ghost use Rattle.simd_cesu8.specs.Fault.{OnInvalid};
-ghost use Rattle.simd_cesu8.specs.Slices.{WritesAnswer};
+ghost use Rattle.simd_cesu8.specs.Slices.{WritesAnswer, WritesReading, WritesLossyReading};
 
 mod borrow_or_build;
+mod copy_or_write;
 mod counted_text;
 mod cow;
 mod error;
@@ -52,7 +54,7 @@ pub mod mutf8;
 
 pub use crate::counted_text::CountedText;
 pub use crate::cow::{CowBytes, CowText};
-pub use crate::error::{DecodeFault, DecodingError, TooShort};
+pub use crate::error::{DecodeFault, DecodeSliceFault, DecodingError, LossySliceFault, TooShort};
 use crate::internal::Flavor;
 use std::alloc::{AllocError, Global};
 
@@ -279,5 +281,87 @@ pub fn lossy_len(bytes: &[u8]) -> Option<usize>
 pub fn encode_to_slice(value: &str, buf: &mut [u8]) -> Result<usize, TooShort>
     ensures { WritesAnswer (encoding Cesu8 (chars value.now)) result buf.old buf.new }
 {
-    borrow_or_build::encode_to_slice(Flavor::Cesu8, value, buf)
+    copy_or_write::encode_to_slice(Flavor::Cesu8, value, buf)
+}
+
+/// Decodes CESU-8 (Unicode Technical Report 26), strictly, into a buffer of the caller's: the UTF-8 of the text whose
+/// encoding the bytes are.
+///
+/// It gives how many bytes it wrote at the front of the buffer, and what follows them stays as it
+/// was. `Invalid` comes exactly where [`decode_strict`] would refuse the bytes, and `TooShort`, which
+/// tells how many bytes are needed, exactly where the text is longer than the buffer. After either
+/// the whole buffer stays as it was. A text is never longer than the bytes. It takes no memory.
+///
+/// ```rust
+/// let mut buf = [0xEE; 6];
+/// assert_eq!(rt; simd_cesu8::decode_strict_to_slice(b"\xED\xA0\xBD\xED\xB2\x96", &mut buf)?, 4);
+/// assert_eq!(rt; buf.as_slice(), b"\xF0\x9F\x92\x96\xEE\xEE".as_slice());
+/// ```
+#[inline]
+pub fn decode_strict_to_slice(bytes: &[u8], buf: &mut [u8]) -> Result<usize, DecodeSliceFault>
+    ensures { WritesReading (IsStrictReading Cesu8 bytes.now) result buf.old buf.new }
+{
+    copy_or_write::decode_strict_to_slice(Flavor::Cesu8, bytes, buf)
+}
+
+/// Decodes bytes that are UTF-8 as a whole, or else CESU-8 (Unicode Technical Report 26), into a buffer of the caller's.
+///
+/// It gives how many bytes it wrote at the front of the buffer, and what follows them stays as it
+/// was. `Invalid` comes exactly where [`decode`] would refuse the bytes, and `TooShort`, which tells
+/// how many bytes are needed, exactly where the text is longer than the buffer. After either the
+/// whole buffer stays as it was. A text is never longer than the bytes. It takes no memory.
+///
+/// ```rust
+/// let mut buf = [0xEE; 6];
+/// assert_eq!(rt; simd_cesu8::decode_to_slice(b"\xF0\x9F\x92\x96", &mut buf)?, 4);
+/// assert_eq!(rt; buf.as_slice(), b"\xF0\x9F\x92\x96\xEE\xEE".as_slice());
+/// ```
+#[inline]
+pub fn decode_to_slice(bytes: &[u8], buf: &mut [u8]) -> Result<usize, DecodeSliceFault>
+    ensures { WritesReading (IsLenientReading Cesu8 bytes.now) result buf.old buf.new }
+{
+    copy_or_write::decode_to_slice(Flavor::Cesu8, bytes, buf)
+}
+
+/// Decodes CESU-8 (Unicode Technical Report 26) with damage, into a buffer of the caller's: the UTF-8 of each encoded
+/// character that stands in the bytes, and U+FFFD for each byte that is in none.
+///
+/// It gives how many bytes it wrote at the front of the buffer, and what follows them stays as it
+/// was. `TooShort`, which tells how many bytes are needed, comes exactly where the text is longer
+/// than the buffer, and `TooLong` where its length, [`lossy_len`], does not fit `usize`. After either
+/// the whole buffer stays as it was. A text has three times as many bytes as the input at most. It
+/// takes no memory.
+///
+/// ```rust
+/// let mut buf = [0xEE; 6];
+/// assert_eq!(rt; simd_cesu8::decode_lossy_strict_to_slice(b"a\xFF", &mut buf)?, 4);
+/// assert_eq!(rt; buf.as_slice(), b"a\xEF\xBF\xBD\xEE\xEE".as_slice());
+/// ```
+#[inline]
+pub fn decode_lossy_strict_to_slice(bytes: &[u8], buf: &mut [u8]) -> Result<usize, LossySliceFault>
+    ensures { WritesLossyReading (λ text. text ≡ reading Cesu8 bytes.now)
+        result buf.old buf.new }
+{
+    copy_or_write::decode_lossy_strict_to_slice(Flavor::Cesu8, bytes, buf)
+}
+
+/// Decodes bytes that are UTF-8 as a whole, or else CESU-8 (Unicode Technical Report 26) with damage, into a buffer of the
+/// caller's: the UTF-8 of each encoded character that stands in them, and U+FFFD for each byte that
+/// is in none.
+///
+/// It gives how many bytes it wrote at the front of the buffer, and what follows them stays as it
+/// was. `TooShort`, which tells how many bytes are needed, comes exactly where the text is longer
+/// than the buffer, and `TooLong` where its length does not fit `usize`, which it does where the
+/// bytes are UTF-8. After either the whole buffer stays as it was. It takes no memory.
+///
+/// ```rust
+/// let mut buf = [0xEE; 4];
+/// assert_eq!(rt; simd_cesu8::decode_lossy_to_slice(b"\xF0\x9F\x92\x96", &mut buf)?, 4);
+/// assert_eq!(rt; buf.as_slice(), b"\xF0\x9F\x92\x96".as_slice());
+/// ```
+#[inline]
+pub fn decode_lossy_to_slice(bytes: &[u8], buf: &mut [u8]) -> Result<usize, LossySliceFault>
+    ensures { WritesLossyReading (IsLenientLossyReading Cesu8 bytes.now) result buf.old buf.new }
+{
+    copy_or_write::decode_lossy_to_slice(Flavor::Cesu8, bytes, buf)
 }

@@ -14,13 +14,13 @@ ghost use Rattle.simd_cesu8.specs.Reading.{IsStrictReading, HasNoStrictReading, 
 ghost use Rattle.simd_cesu8.specs.Cow.{IfBytes, BorrowsBytesWhere, BuildsBytesOfCapacity, IfText, BorrowsTextWhere, BuildsTextOfCapacity, AnswersTextOfLength};
 ghost use Rattle.simd_cesu8.specs.Counted.{counted_encoding};
 ghost use Rattle.simd_cesu8.specs.Fault.{OnInvalid};
-ghost use Rattle.simd_cesu8.specs.Slices.{WritesAnswer};
+ghost use Rattle.simd_cesu8.specs.Slices.{WritesAnswer, WritesReading, WritesLossyReading};
 
 use crate::counted_text::CountedText;
 use crate::cow::{CowBytes, CowText};
-use crate::error::{DecodeFault, TooShort};
+use crate::error::{DecodeFault, DecodeSliceFault, LossySliceFault, TooShort};
 use crate::internal::Flavor;
-use crate::{borrow_or_build, internal};
+use crate::{borrow_or_build, copy_or_write, internal};
 use std::alloc::{AllocError, Global};
 
 /// Whether the MUTF-8 of a text is other than its UTF-8: whether some scalar value is U+0000, or
@@ -250,5 +250,87 @@ pub fn lossy_len(bytes: &[u8]) -> Option<usize>
 pub fn encode_to_slice(value: &str, buf: &mut [u8]) -> Result<usize, TooShort>
     ensures { WritesAnswer (encoding Mutf8 (chars value.now)) result buf.old buf.new }
 {
-    borrow_or_build::encode_to_slice(Flavor::Mutf8, value, buf)
+    copy_or_write::encode_to_slice(Flavor::Mutf8, value, buf)
+}
+
+/// Decodes MUTF-8 (Java's `DataInput`), strictly, into a buffer of the caller's: the UTF-8 of the text whose
+/// encoding the bytes are.
+///
+/// It gives how many bytes it wrote at the front of the buffer, and what follows them stays as it
+/// was. `Invalid` comes exactly where [`decode_strict`] would refuse the bytes, and `TooShort`, which
+/// tells how many bytes are needed, exactly where the text is longer than the buffer. After either
+/// the whole buffer stays as it was. A text is never longer than the bytes. It takes no memory.
+///
+/// ```rust
+/// let mut buf = [0xEE; 4];
+/// assert_eq!(rt; simd_cesu8::mutf8::decode_strict_to_slice(b"a\xC0\x80", &mut buf)?, 2);
+/// assert_eq!(rt; buf.as_slice(), b"a\0\xEE\xEE".as_slice());
+/// ```
+#[inline]
+pub fn decode_strict_to_slice(bytes: &[u8], buf: &mut [u8]) -> Result<usize, DecodeSliceFault>
+    ensures { WritesReading (IsStrictReading Mutf8 bytes.now) result buf.old buf.new }
+{
+    copy_or_write::decode_strict_to_slice(Flavor::Mutf8, bytes, buf)
+}
+
+/// Decodes bytes that are UTF-8 as a whole, or else MUTF-8 (Java's `DataInput`), into a buffer of the caller's.
+///
+/// It gives how many bytes it wrote at the front of the buffer, and what follows them stays as it
+/// was. `Invalid` comes exactly where [`decode`] would refuse the bytes, and `TooShort`, which tells
+/// how many bytes are needed, exactly where the text is longer than the buffer. After either the
+/// whole buffer stays as it was. A text is never longer than the bytes. It takes no memory.
+///
+/// ```rust
+/// let mut buf = [0xEE; 4];
+/// assert_eq!(rt; simd_cesu8::mutf8::decode_to_slice(b"a\0", &mut buf)?, 2);
+/// assert_eq!(rt; buf.as_slice(), b"a\0\xEE\xEE".as_slice());
+/// ```
+#[inline]
+pub fn decode_to_slice(bytes: &[u8], buf: &mut [u8]) -> Result<usize, DecodeSliceFault>
+    ensures { WritesReading (IsLenientReading Mutf8 bytes.now) result buf.old buf.new }
+{
+    copy_or_write::decode_to_slice(Flavor::Mutf8, bytes, buf)
+}
+
+/// Decodes MUTF-8 (Java's `DataInput`) with damage, into a buffer of the caller's: the UTF-8 of each encoded
+/// character that stands in the bytes, and U+FFFD for each byte that is in none.
+///
+/// It gives how many bytes it wrote at the front of the buffer, and what follows them stays as it
+/// was. `TooShort`, which tells how many bytes are needed, comes exactly where the text is longer
+/// than the buffer, and `TooLong` where its length, [`lossy_len`], does not fit `usize`. After either
+/// the whole buffer stays as it was. A text has three times as many bytes as the input at most. It
+/// takes no memory.
+///
+/// ```rust
+/// let mut buf = [0xEE; 6];
+/// assert_eq!(rt; simd_cesu8::mutf8::decode_lossy_strict_to_slice(b"\xC0\xC0\x80", &mut buf)?, 4);
+/// assert_eq!(rt; buf.as_slice(), b"\xEF\xBF\xBD\0\xEE\xEE".as_slice());
+/// ```
+#[inline]
+pub fn decode_lossy_strict_to_slice(bytes: &[u8], buf: &mut [u8]) -> Result<usize, LossySliceFault>
+    ensures { WritesLossyReading (λ text. text ≡ reading Mutf8 bytes.now)
+        result buf.old buf.new }
+{
+    copy_or_write::decode_lossy_strict_to_slice(Flavor::Mutf8, bytes, buf)
+}
+
+/// Decodes bytes that are UTF-8 as a whole, or else MUTF-8 (Java's `DataInput`) with damage, into a buffer of the
+/// caller's: the UTF-8 of each encoded character that stands in them, and U+FFFD for each byte that
+/// is in none.
+///
+/// It gives how many bytes it wrote at the front of the buffer, and what follows them stays as it
+/// was. `TooShort`, which tells how many bytes are needed, comes exactly where the text is longer
+/// than the buffer, and `TooLong` where its length does not fit `usize`, which it does where the
+/// bytes are UTF-8. After either the whole buffer stays as it was. It takes no memory.
+///
+/// ```rust
+/// let mut buf = [0xEE; 4];
+/// assert_eq!(rt; simd_cesu8::mutf8::decode_lossy_to_slice(b"\0\xC0\x80", &mut buf)?, 4);
+/// assert_eq!(rt; buf.as_slice(), b"\xEF\xBF\xBD\0".as_slice());
+/// ```
+#[inline]
+pub fn decode_lossy_to_slice(bytes: &[u8], buf: &mut [u8]) -> Result<usize, LossySliceFault>
+    ensures { WritesLossyReading (IsLenientLossyReading Mutf8 bytes.now) result buf.old buf.new }
+{
+    copy_or_write::decode_lossy_to_slice(Flavor::Mutf8, bytes, buf)
 }

@@ -19,12 +19,14 @@ ghost use Rattle.simd_cesu8.specs.Pieces.{IsPiece, IsReadSoFar, HasFault};
 
 mod appending;
 mod by_places;
+mod damage;
 mod lengths;
 mod packing;
 mod parts;
 mod places;
 mod rows;
 mod rows_of_eight;
+mod slices;
 mod windows;
 
 use super::joining::Room;
@@ -35,6 +37,7 @@ use super::{DecodeOptions, Flavor};
 use crate::error::{DecodeFault, DecodingError};
 use appending::{append, append_in, append_small, append_window};
 use by_places::read_by_places;
+pub use slices::{decode_lossy_to_slice, decode_strict_to_slice};
 use std::alloc::{AllocError, Allocator};
 use windows::{AROUND, SPARED};
 

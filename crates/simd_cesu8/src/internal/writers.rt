@@ -1,6 +1,6 @@
 //! Writers into room that is there, which can't fail, and copies, each with its one request.
 
-ghost use Rattle.std.specs.Prelude.{◌≡◌, ◌+◌, ◌<◌, ◌≤◌, ◌++◌, [], length, take, replicate, OnOk, OnErr, IfOk, IsOk, vec_len, vec_capacity};
+ghost use Rattle.std.specs.Prelude.{◌≡◌, ◌+◌, ◌<◌, ◌≤◌, ◌++◌, [], length, take, drop, replicate, OnOk, OnErr, IfOk, IsOk, vec_len, vec_capacity};
 ghost use Rattle.std.specs.String.{string_bytes, string_capacity};
 ghost use Rattle.simd_cesu8.specs.Slices.{WritesAnswer};
 
@@ -61,6 +61,7 @@ pub fn put(bytes: &[u8], out: &mut [u8], at: usize) -> usize
     requires { at + length bytes.now ≤ length out.old }
     ensures bytes { take result out.new ≡ take at out.old ++ bytes.now }
     ensures end { result ≡ at + length bytes.now }
+    ensures behind { drop result out.new ≡ drop result out.old }
     ensures len { length out.new ≡ length out.old }
 {
     let end = at + bytes.len();

@@ -82,7 +82,12 @@ fn tested(bytes: &[u8]) -> &str
 
 /// Writes what becomes of the first bytes.
 #[inline(always)]
-fn write_in_flavor(flavor: Flavor, bytes: &[u8], window: &mut [u8], written: &mut [u8]) -> Decoded
+pub fn write_in_flavor(
+    flavor: Flavor,
+    bytes: &[u8],
+    window: &mut [u8],
+    written: &mut [u8],
+) -> Decoded
     requires window { AROUND + 11 ≤ length window.old }
     requires zeros { window.old ≡ replicate (length window.old) 0 }
     requires written { 3 * length window.old ≤ length written.old + SPARED }

@@ -4,6 +4,7 @@ ghost use Rattle.std.specs.Prelude.{◌≡◌, ℕ, ◌+◌, ◌*◌, ◌<◌, �
 ghost use Rattle.simd_cesu8.specs.Encoding.{Flavor};
 ghost use Rattle.simd_cesu8.specs.DecodedPlaces.{IsPadded, decoded, is_damaged_at, is_border_at};
 ghost use Rattle.simd_cesu8.specs.DecodedLanes.{AreFiveCodes};
+ghost use Rattle.simd_cesu8.specs.DecodedWindows.{IsRead};
 ghost use Rattle.simd_cesu8.specs.Pieces.{IsPiece, HasFault};
 
 use super::parts::{ROOM, write_block};
@@ -17,7 +18,7 @@ pub const AROUND: usize = 80;
 
 /// How many bytes of a block are told by what stands before it: what begins at the five places
 /// before a byte.
-const BEFORE: usize = 5;
+pub const BEFORE: usize = 5;
 
 /// How many bytes what is written has fewer than three for each of a window's.
 pub const SPARED: usize = 64;
@@ -47,6 +48,23 @@ pub fn write_window<N: NullForm>(bytes: &[u8], window: &mut [u8], out: &mut [u8]
         (drop result.read bytes.now) (take result.end out.new) }
     ensures damaged { result.is_damaged ≡ true → HasFault N.flavor bytes.now }
 {
+    let read = load::<N>(bytes, window);
+    write_blocks::<N>(window, read, out)
+}
+
+/// Copies the first bytes into a window, and gives how many of them are read: up to a place that no
+/// encoded character crosses.
+#[inline(always)]
+pub fn load<N: NullForm>(bytes: &[u8], window: &mut [u8]) -> usize
+    requires room { AROUND + 11 ≤ length window.old }
+    requires zeros { window.old ≡ replicate (length window.old) 0 }
+    ensures some { 0 < length bytes.now → 0 < result }
+    ensures all { length bytes.now + AROUND ≤ length window.old → result ≡ length bytes.now }
+    ensures read { IsRead N.flavor bytes.now window.new result }
+    ensures inside { result + AROUND ≤ length window.new }
+    ensures before { (k : ℕ) → k < BEFORE → slice_index window.new k ≡ 0 }
+    ensures len { length window.new ≡ length window.old }
+{
     let most = window.len() - AROUND;
     let loaded = if bytes.len() < most {
         bytes.len()
@@ -54,12 +72,11 @@ pub fn write_window<N: NullForm>(bytes: &[u8], window: &mut [u8], out: &mut [u8]
         most
     };
     pad(&bytes[..loaded], window);
-    let read = if loaded == bytes.len() {
+    if loaded == bytes.len() {
         loaded
     } else {
         border::<N>(window, loaded - BEFORE)
-    };
-    write_blocks::<N>(window, read, out)
+    }
 }
 
 /// Copies the bytes into zeros, behind five of them.

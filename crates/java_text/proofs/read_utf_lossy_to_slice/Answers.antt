@@ -1,0 +1,10 @@
+use Rattle.std.proofs.Common.{length, ap, arith}
+use Rattle.java_text.proofs.FormSlices.{never_too_long, few_counted}
+use Rattle.java_text.proofs.read_utf_lossy_to_slice.Goals as goal
+
+-- The counted bytes are too few for a text that no `usize` counts.
+pub unreachable-requires : goal.unreachable-requires
+unreachable-requires c =
+    let few = few_counted c.args.bytes.now (λ i. omega (arith, c.type_inv.bytes i)) in
+    never_too_long c.bounds.ensures.3 c.in-Ok.counted.now _ _ c.in-Err-TooLong.field-0
+    (omega (arith, few, ap length c.in-Ok.ensures.counted)) c.in-Err-TooLong.field-0-is c.in-Err-TooLong.ensures

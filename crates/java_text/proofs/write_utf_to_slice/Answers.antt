@@ -1,0 +1,41 @@
+use Rattle.std.proofs.Common.{◌∙◌, ◌-◌, ◌+◌, ◌≤◌, length, arith, refl}
+use Rattle.std.specs.Str.{chars}
+use Rattle.std.proofs.lemmas.Bool.{false≢true}
+use Rattle.simd_cesu8.specs.Encoding.{Mutf8, encoding}
+use borrow.Rule.Slice.PartMut.{mid_of}
+use Rattle.java_text.specs.Form.{mutf8_len, HasForm}
+use Rattle.java_text.proofs.FormSlices.{length_of_form, length_of_room, count_of, form_at_front, put_back, form_written, form_misfits}
+use Rattle.java_text.proofs.write_utf_to_slice.Goals as goal
+
+pub returns-then-buf-lt2 : goal.returns-then-buf-lt2
+returns-then-buf-lt2 c =
+    let text = chars c.args.text.now in
+    form_misfits text c.args.buf.now c.args.buf.now c.encoded_len.result c.misfit.result c.encoded_len.ensures
+    (λ _. omega (arith, length_of_form text)) c.misfit.ensures.too_long c.misfit.ensures.too_short refl
+
+pub returns-in-Ok : goal.returns-in-Ok
+returns-in-Ok c =
+    let text = chars c.args.text.now in
+    let room = c.min-end.result - 2 in
+    let written = c.in-Ok.ensures in
+    let inside = written.fits.0 refl in
+    let loaded = length_of_room c.args.buf.now room (omega (arith, c.min-end.ensures)) in
+    form_written text c.args.buf.now _ (2 + c.in-Ok.length) (omega (arith, loaded, inside, c.min-end.ensures))
+    (omega (arith, length_of_form text, loaded, inside, c.min-end.ensures))
+    (form_at_front text c.args.buf.now c.encode_to_slice.new.buf c.copy_from_slice.new.self c.in-Ok.length room
+    (omega arith) (omega (arith, inside, written.written.0)) written.written.0 written.written.1
+    (c.copy_from_slice.ensures.after ∙ c.to_be_bytes.ensures
+    ∙ count_of c.in-Ok.length (mutf8_len text) written.written.0 (omega (arith, loaded, inside, c.min-end.ensures))))
+
+pub returns-in-Err : goal.returns-in-Err
+returns-in-Err c =
+    let text = chars c.args.text.now in
+    let room = c.min-end.result - 2 in
+    let told = c.in-Err.ensures in
+    let loaded = length_of_room c.args.buf.now room (omega (arith, c.min-end.ensures)) in
+    let longer : length (encoding Mutf8 text) ≤ length (mid_of 2 room c.args.buf.now) → ⊥ =
+    λ fits. absurd (false≢true (told.fits.1 fits)) in
+    form_misfits text c.args.buf.now _ c.needed.result c.misfit-in-Err.result (c.needed.ensures ∙ told.needed)
+    (λ (has : HasForm text). omega (arith, has, longer, loaded, c.min-end.ensures, length_of_form text))
+    c.misfit-in-Err.ensures.too_long c.misfit-in-Err.ensures.too_short
+    (put_back c.args.buf.now c.encode_to_slice.new.buf room told.unchanged)

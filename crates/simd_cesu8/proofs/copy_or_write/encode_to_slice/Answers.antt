@@ -1,0 +1,13 @@
+use Rattle.std.proofs.Common.{sym, ◌∙◌, subst}
+use Rattle.std.proofs.lemmas.Bool.{iff_false}
+use Rattle.simd_cesu8.specs.Internal.{flavor_of}
+use Rattle.simd_cesu8.specs.Slices.{WritesAnswer}
+use Rattle.simd_cesu8.proofs.Needs.{encoding_is_bytes}
+use Rattle.simd_cesu8.proofs.copy_or_write.encode_to_slice.Goals as goal
+
+pub returns-then-not-needs_encoded : goal.returns-then-not-needs_encoded
+returns-then-not-needs_encoded c =
+    let same = encoding_is_bytes (flavor_of c.args.flavor) c.args.value.now c.utf8.value
+    (iff_false c.needs_encoded.ensures c.if-not-needs_encoded.true) in
+    subst (λ answer. WritesAnswer answer c.copy_to_slice.result c.args.buf.now c.copy_to_slice.new.buf)
+    (c.as_bytes.ensures.value ∙ sym same) c.copy_to_slice.ensures

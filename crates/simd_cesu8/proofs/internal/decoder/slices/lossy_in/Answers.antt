@@ -1,0 +1,14 @@
+use Rattle.std.proofs.Common.{◌≡◌, arith}
+use Rattle.simd_cesu8.specs.Reading.{reading}
+use Rattle.simd_cesu8.specs.Internal.{flavor_of}
+use Rattle.simd_cesu8.proofs.SliceReadings.{only_lossy_piece, lossy_written}
+use Rattle.simd_cesu8.proofs.internal.decoder.slices.lossy_in.Goals as goal
+
+pub returns : goal.returns
+returns g c =
+    let f = flavor_of c.args.flavor in
+    let decoded = c.write_in_flavor-decoded.ensures in
+    lossy_written (λ text. text ≡ reading f c.args.bytes.now) _ _ c.copy_to_slice.result c.map_err.result c.args.buf.now c.copy_to_slice.new.buf
+    (only_lossy_piece f c.args.bytes.now _ _ decoded.lossy (decoded.all (omega arith)))
+    (omega arith)
+    c.map_err.ensures.cases c.copy_to_slice.ensures

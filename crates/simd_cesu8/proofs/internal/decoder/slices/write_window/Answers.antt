@@ -1,0 +1,19 @@
+use Rattle.std.proofs.Common.{arith}
+use Rattle.std.proofs.lemmas.List.{take_rest}
+use Rattle.simd_cesu8.specs.Internal.{flavor_of}
+use Rattle.simd_cesu8.proofs.Pieces.{piece_length}
+use Rattle.simd_cesu8.proofs.WrittenPieces.{piece_put}
+use Rattle.simd_cesu8.proofs.internal.decoder.slices.write_window.Goals as goal
+
+pub put-end-requires : goal.put-end-requires
+put-end-requires c =
+    omega (
+      arith,
+      c.requires.room,
+      piece_length (flavor_of c.args.flavor) c.args.bytes.now _ _ c.write_in_flavor-decoded.ensures.lossy,
+    )
+
+pub returns-clause-written : goal.returns-clause-written
+returns-clause-written c =
+    rw take_rest (piece_put (flavor_of c.args.flavor) c.args.bytes.now _ _ c.args.start c.put-end.result c.args.out.now c.put-end.new.out
+    c.write_in_flavor-decoded.ensures.lossy c.put-end.ensures.bytes c.put-end.ensures.end c.put-end.ensures.behind c.put-end.ensures.len)

@@ -1,0 +1,240 @@
+//! Decodes into a caller's buffer, with no request and no test of what is written: a slice of bytes
+//! promises no UTF-8.
+//!
+//! Few bytes are read into an array on the stack and copied from there. Of more it is told first
+//! whether they are damaged and, where that matters, how long their text is. Then they are written
+//! by windows where they have to stand, as a `String` is.
+
+ghost use Rattle.std.specs.Prelude.{◌≡◌, ◌+◌, ◌*◌, ◌<◌, ◌≤◌, length, drop};
+ghost use Rattle.simd_cesu8.specs.Text.{utf8};
+ghost use Rattle.simd_cesu8.specs.Reading.{IsStrictReading, reading, lossy_length};
+ghost use Rattle.simd_cesu8.specs.Internal.{flavor_of};
+ghost use Rattle.simd_cesu8.specs.Pieces.{IsWrittenSoFar};
+ghost use Rattle.simd_cesu8.specs.Slices.{StandsAtFront, WritesAnswer, WritesReading, WritesLossyReading};
+
+use super::by_places::write_in_flavor;
+use super::damage::is_damaged;
+use super::windows::{AROUND, SPARED};
+use super::{
+    FEW, FEW_ROOM, FEW_WRITTEN_ROOM, FEWEST, FEWEST_ROOM, FEWEST_WRITTEN_ROOM, SMALL, SMALL_ROOM,
+    SMALL_WRITTEN_ROOM, WINDOW, WINDOW_ROOM, WINDOWS, WRITTEN_ROOM, lossy_len,
+};
+use crate::error::{DecodeSliceFault, DecodingError, LossySliceFault, TooShort};
+use crate::internal::Flavor;
+use crate::internal::joining::Room;
+use crate::internal::window::{SHORT, read_window};
+use crate::internal::writers::{copy_to_slice, put};
+
+/// Writes the strict reading of the bytes into a caller's buffer, where it fits.
+#[inline(never)]
+pub fn decode_strict_to_slice(
+    flavor: Flavor,
+    bytes: &[u8],
+    buf: &mut [u8],
+) -> Result<usize, DecodeSliceFault>
+    ensures { WritesReading (IsStrictReading (flavor_of flavor) bytes.now)
+        result buf.old buf.new }
+{
+    if bytes.len() <= FEWEST {
+        return strict_in::<FEWEST_ROOM, FEWEST_WRITTEN_ROOM>(flavor, bytes, buf);
+    }
+    if bytes.len() <= FEW {
+        return strict_in::<FEW_ROOM, FEW_WRITTEN_ROOM>(flavor, bytes, buf);
+    }
+    if bytes.len() <= SMALL {
+        return strict_in::<SMALL_ROOM, SMALL_WRITTEN_ROOM>(flavor, bytes, buf);
+    }
+    if is_damaged(flavor, bytes) {
+        return Err(DecodeSliceFault::Invalid(DecodingError(())));
+    }
+    write_whole(flavor, bytes, buf).map_err(DecodeSliceFault::TooShort)
+}
+
+/// The same for the bytes of one window, in rooms of these lengths. It is not inlined, so that they
+/// are made only where it is called.
+#[inline(never)]
+fn strict_in<const LEN: usize, const WRITTEN: usize>(
+    flavor: Flavor,
+    bytes: &[u8],
+    buf: &mut [u8],
+) -> Result<usize, DecodeSliceFault>
+    requires window { (length bytes.now + AROUND ≤ LEN) × (AROUND + 11 ≤ LEN) }
+    requires written { (3 * LEN ≤ WRITTEN + SPARED) × (WRITTEN ≤ WRITTEN_ROOM) }
+    ensures { WritesReading (IsStrictReading (flavor_of flavor) bytes.now)
+        result buf.old buf.new }
+{
+    let mut window = [0; LEN];
+    let mut written = [0; WRITTEN];
+    let decoded = write_in_flavor(flavor, bytes, &mut window, &mut written);
+    if decoded.is_damaged {
+        return Err(DecodeSliceFault::Invalid(DecodingError(())));
+    }
+    copy_to_slice(&written[..decoded.end], buf).map_err(DecodeSliceFault::TooShort)
+}
+
+/// Writes the lossy reading of the bytes into a caller's buffer, where it fits.
+#[inline(never)]
+pub fn decode_lossy_to_slice(
+    flavor: Flavor,
+    bytes: &[u8],
+    buf: &mut [u8],
+) -> Result<usize, LossySliceFault>
+    ensures { WritesLossyReading (λ text. text ≡ reading (flavor_of flavor) bytes.now)
+        result buf.old buf.new }
+{
+    if bytes.len() <= FEWEST {
+        return lossy_in::<FEWEST_ROOM, FEWEST_WRITTEN_ROOM>(flavor, bytes, buf);
+    }
+    if bytes.len() <= FEW {
+        return lossy_in::<FEW_ROOM, FEW_WRITTEN_ROOM>(flavor, bytes, buf);
+    }
+    if bytes.len() <= SMALL {
+        return lossy_in::<SMALL_ROOM, SMALL_WRITTEN_ROOM>(flavor, bytes, buf);
+    }
+    let Some(len) = lossy_len(flavor, bytes) else {
+        return Err(LossySliceFault::TooLong);
+    };
+    write_of_length(flavor, bytes, len, buf).map_err(LossySliceFault::TooShort)
+}
+
+/// The same for the bytes of one window, in rooms of these lengths. It is not inlined, so that they
+/// are made only where it is called.
+#[inline(never)]
+fn lossy_in<const LEN: usize, const WRITTEN: usize>(
+    flavor: Flavor,
+    bytes: &[u8],
+    buf: &mut [u8],
+) -> Result<usize, LossySliceFault>
+    requires window { (length bytes.now + AROUND ≤ LEN) × (AROUND + 11 ≤ LEN) }
+    requires written { (3 * LEN ≤ WRITTEN + SPARED) × (WRITTEN ≤ WRITTEN_ROOM) }
+    ensures { WritesLossyReading (λ text. text ≡ reading (flavor_of flavor) bytes.now)
+        result buf.old buf.new }
+{
+    let mut window = [0; LEN];
+    let mut written = [0; WRITTEN];
+    let decoded = write_in_flavor(flavor, bytes, &mut window, &mut written);
+    copy_to_slice(&written[..decoded.end], buf).map_err(LossySliceFault::TooShort)
+}
+
+/// Writes the reading of bytes that are not damaged, where it fits. It is no longer than they are.
+fn write_whole(flavor: Flavor, bytes: &[u8], buf: &mut [u8]) -> Result<usize, TooShort>
+    requires { lossy_length (flavor_of flavor) bytes.now ≤ length bytes.now }
+    ensures { WritesAnswer (utf8 (reading (flavor_of flavor) bytes.now)) result buf.old buf.new }
+{
+    if bytes.len() <= buf.len() {
+        return Ok(write_reading(flavor, bytes, buf));
+    }
+    let len = lossy_len(flavor, bytes).unwrap();
+    write_of_length(flavor, bytes, len, buf)
+}
+
+/// Writes the lossy reading of the bytes, which has this length, where it fits.
+#[tactic(auto, unfolding(crate::specs::Reading::lossy_length))]
+fn write_of_length(
+    flavor: Flavor,
+    bytes: &[u8],
+    len: usize,
+    buf: &mut [u8],
+) -> Result<usize, TooShort>
+    requires { len ≡ lossy_length (flavor_of flavor) bytes.now }
+    ensures { WritesAnswer (utf8 (reading (flavor_of flavor) bytes.now)) result buf.old buf.new }
+{
+    if buf.len() < len {
+        return Err(TooShort::new(len));
+    }
+    Ok(write_reading(flavor, bytes, buf))
+}
+
+/// Writes the lossy reading of the bytes at the front of a slice that has room for it, and gives its
+/// length.
+#[inline(never)]
+fn write_reading(flavor: Flavor, bytes: &[u8], out: &mut [u8]) -> usize
+    requires { lossy_length (flavor_of flavor) bytes.now ≤ length out.old }
+    ensures { StandsAtFront (utf8 (reading (flavor_of flavor) bytes.now))
+        result out.old out.new }
+{
+    let mut room = [0; 1088];
+    let mut rest = bytes;
+    let mut end = 0;
+    while !rest.is_empty() {
+        let (behind, written_end) = write_next(flavor, rest, &mut room, out, end);
+        rest = behind;
+        end = written_end;
+    }
+    end
+}
+
+/// Writes the next piece of text at a place, a window that is joined or some by places, and gives the
+/// bytes that are left and the end of the piece.
+#[inline(always)]
+fn write_next<'b>(
+    flavor: Flavor,
+    bytes: &'b [u8],
+    room: &mut Room,
+    out: &mut [u8],
+    start: usize,
+) -> (&'b [u8], usize)
+    requires some { 0 < length bytes.now }
+    requires room { start + lossy_length (flavor_of flavor) bytes.now ≤ length out.old }
+    ensures less { length result.0.now < length bytes.now }
+    ensures written { IsWrittenSoFar (flavor_of flavor) bytes.now result.0.now
+        start result.1 out.old out.new }
+{
+    if bytes.len() > SHORT {
+        if let Some(piece) = read_window(flavor, bytes, WINDOW, room) {
+            let end = put(piece.text.as_bytes(), out, start);
+            return (&bytes[piece.read..], end);
+        }
+    }
+    write_windows(flavor, bytes, out, start)
+}
+
+/// Writes the text of some windows by places, and gives the bytes that are left and the end of the
+/// text. Its rooms are made only where it is called.
+#[inline(never)]
+fn write_windows<'b>(
+    flavor: Flavor,
+    bytes: &'b [u8],
+    out: &mut [u8],
+    start: usize,
+) -> (&'b [u8], usize)
+    requires some { 0 < length bytes.now }
+    requires room { start + lossy_length (flavor_of flavor) bytes.now ≤ length out.old }
+    ensures less { length result.0.now < length bytes.now }
+    ensures written { IsWrittenSoFar (flavor_of flavor) bytes.now result.0.now
+        start result.1 out.old out.new }
+{
+    let mut written = [0; WRITTEN_ROOM];
+    let mut rest = bytes;
+    let mut end = start;
+    let mut windows = 0;
+    while windows < WINDOWS && !rest.is_empty() {
+        let (behind, written_end) = write_window(flavor, rest, &mut written, out, end);
+        rest = behind;
+        end = written_end;
+        windows += 1;
+    }
+    (rest, end)
+}
+
+/// The same of one window.
+#[inline(always)]
+fn write_window<'b>(
+    flavor: Flavor,
+    bytes: &'b [u8],
+    written: &mut [u8],
+    out: &mut [u8],
+    start: usize,
+) -> (&'b [u8], usize)
+    requires some { 0 < length bytes.now }
+    requires written { 3 * WINDOW_ROOM ≤ length written.old + SPARED }
+    requires room { start + lossy_length (flavor_of flavor) bytes.now ≤ length out.old }
+    ensures less { length result.0.now < length bytes.now }
+    ensures written { IsWrittenSoFar (flavor_of flavor) bytes.now result.0.now
+        start result.1 out.old out.new }
+{
+    let mut window = [0; WINDOW_ROOM];
+    let decoded = write_in_flavor(flavor, bytes, &mut window, written);
+    let end = put(&written[..decoded.end], out, start);
+    (&bytes[decoded.read..], end)
+}
