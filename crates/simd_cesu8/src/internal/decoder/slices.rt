@@ -91,6 +91,9 @@ pub fn decode_lossy_to_slice(
     if bytes.len() <= SMALL {
         return lossy_in::<SMALL_ROOM, SMALL_WRITTEN_ROOM>(flavor, bytes, buf);
     }
+    if bytes.len() <= WINDOW {
+        return lossy_in::<WINDOW_ROOM, WRITTEN_ROOM>(flavor, bytes, buf);
+    }
     let Some(len) = lossy_len(flavor, bytes) else {
         return Err(LossySliceFault::TooLong);
     };
