@@ -22,6 +22,8 @@ mod calls;
 #[cfg(test)]
 mod damage;
 #[cfg(test)]
+mod decoded_slices;
+#[cfg(test)]
 mod errors;
 #[cfg(test)]
 mod every_place;

@@ -1,6 +1,8 @@
 //! The calls that encode and decode, by the name of the encoding.
 
-use simd_cesu8::{CountedText, CowBytes, CowText, DecodeFault, TooShort, mutf8};
+use simd_cesu8::{
+    CountedText, CowBytes, CowText, DecodeFault, DecodeSliceFault, LossySliceFault, TooShort, mutf8,
+};
 use std::alloc::{AllocError, Global};
 
 /// One of the two encodings.
@@ -110,5 +112,53 @@ pub fn lossy_len(flavor: Flavor, bytes: &[u8]) -> Option<usize> {
     match flavor {
         Flavor::Cesu8 => simd_cesu8::lossy_len(bytes),
         Flavor::Mutf8 => mutf8::lossy_len(bytes),
+    }
+}
+
+/// The strict call into a buffer of the caller's.
+pub fn decode_strict_to_slice(
+    flavor: Flavor,
+    bytes: &[u8],
+    buf: &mut [u8],
+) -> Result<usize, DecodeSliceFault> {
+    match flavor {
+        Flavor::Cesu8 => simd_cesu8::decode_strict_to_slice(bytes, buf),
+        Flavor::Mutf8 => mutf8::decode_strict_to_slice(bytes, buf),
+    }
+}
+
+/// The lenient call into a buffer of the caller's.
+pub fn decode_to_slice(
+    flavor: Flavor,
+    bytes: &[u8],
+    buf: &mut [u8],
+) -> Result<usize, DecodeSliceFault> {
+    match flavor {
+        Flavor::Cesu8 => simd_cesu8::decode_to_slice(bytes, buf),
+        Flavor::Mutf8 => mutf8::decode_to_slice(bytes, buf),
+    }
+}
+
+/// The strict call that puts U+FFFD for damage, into a buffer of the caller's.
+pub fn decode_lossy_strict_to_slice(
+    flavor: Flavor,
+    bytes: &[u8],
+    buf: &mut [u8],
+) -> Result<usize, LossySliceFault> {
+    match flavor {
+        Flavor::Cesu8 => simd_cesu8::decode_lossy_strict_to_slice(bytes, buf),
+        Flavor::Mutf8 => mutf8::decode_lossy_strict_to_slice(bytes, buf),
+    }
+}
+
+/// The lenient call that puts U+FFFD for damage, into a buffer of the caller's.
+pub fn decode_lossy_to_slice(
+    flavor: Flavor,
+    bytes: &[u8],
+    buf: &mut [u8],
+) -> Result<usize, LossySliceFault> {
+    match flavor {
+        Flavor::Cesu8 => simd_cesu8::decode_lossy_to_slice(bytes, buf),
+        Flavor::Mutf8 => mutf8::decode_lossy_to_slice(bytes, buf),
     }
 }
