@@ -14,14 +14,25 @@ kit=$(dirname "$(dirname "$(readlink -f "$(command -v rt)")")")
 cpu=x86-64-v2
 against=
 tables=
-while [ $# -ge 2 ]; do
-    case $1 in
-        --cpu) cpu=$2 ;;
-        --against) against="$against $2" ;;
-        --tables) tables=$2 ;;
-        *) break ;;
+# What is not for this script goes to the driver.
+left=$#
+while [ "$left" -gt 0 ]; do
+    word=$1
+    shift
+    left=$((left - 1))
+    case $word in
+        --cpu | --against | --tables)
+            [ "$left" -gt 0 ] || { echo "$word needs a value" >&2; exit 2; }
+            case $word in
+                --cpu) cpu=$1 ;;
+                --against) against="$against $1" ;;
+                --tables) tables=$1 ;;
+            esac
+            shift
+            left=$((left - 1))
+            ;;
+        *) set -- "$@" "$word" ;;
     esac
-    shift 2
 done
 
 # The archive for one processor level, proved and built.
