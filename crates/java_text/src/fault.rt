@@ -122,8 +122,8 @@ impl Error for WriteSliceFault {}
 
 /// Why a call that reads writes no text into the caller's buffer.
 ///
-/// It shows itself as `input is truncated`, `invalid input` or `buffer too short`, whatever width is
-/// asked for.
+/// It shows itself as `input is truncated`, `invalid input` or `buffer too short`, whatever width
+/// is asked for.
 #[derive(Clone, Copy, Debug, PartialEq, Eq)]
 pub enum ReadSliceFault {
     /// There are fewer than two bytes, or fewer after them than they count.

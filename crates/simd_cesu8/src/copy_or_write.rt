@@ -1,5 +1,5 @@
-//! The calls over either flavor into a caller's buffer: each copies where no byte changes, and writes
-//! elsewhere.
+//! The calls over either flavor into a caller's buffer: each copies where no byte changes, and
+//! writes elsewhere.
 
 ghost use Rattle.std.specs.Prelude.{◌≡◌};
 ghost use Rattle.std.specs.Str.{chars};

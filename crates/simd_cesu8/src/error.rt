@@ -143,10 +143,11 @@ impl Error for TooShort {}
 /// ```rust
 /// use simd_cesu8::DecodeSliceFault;
 ///
+/// let mut buf = [0; 3];
 /// match simd_cesu8::decode_strict_to_slice(bytes, &mut buf) {
-///     Ok(len) => rt.println(str::from_utf8(&buf[..len])?)?,
+///     Ok(len) => assert!(rt; len <= 3),
 ///     Err(DecodeSliceFault::Invalid(_)) => rt.println("no CESU-8")?,
-///     Err(DecodeSliceFault::TooShort(fault)) => println!(rt; "{} bytes needed", fault.needed())?,
+///     Err(DecodeSliceFault::TooShort(fault)) => assert_eq!(rt; fault.needed(), 4),
 /// }
 /// ```
 #[derive(Clone, Copy, Debug, PartialEq, Eq)]
@@ -180,9 +181,10 @@ impl Error for DecodeSliceFault {}
 /// use simd_cesu8::LossySliceFault;
 ///
 /// let mut buf = [0; 2];
-/// match simd_cesu8::decode_lossy_to_slice(b"\xFF", &mut buf).unwrap_err() {
-///     LossySliceFault::TooShort(fault) => assert_eq!(rt; fault.needed(), 3),
-///     LossySliceFault::TooLong => rt.println("no buffer is long enough")?,
+/// match simd_cesu8::decode_lossy_to_slice(b"\xFF", &mut buf) {
+///     Ok(len) => assert!(rt; len <= 2),
+///     Err(LossySliceFault::TooShort(fault)) => assert_eq!(rt; fault.needed(), 3),
+///     Err(LossySliceFault::TooLong) => rt.println("no buffer is long enough")?,
 /// }
 /// ```
 #[derive(Clone, Copy, Debug, PartialEq, Eq)]

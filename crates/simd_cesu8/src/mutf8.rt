@@ -253,13 +253,14 @@ pub fn encode_to_slice(value: &str, buf: &mut [u8]) -> Result<usize, TooShort>
     copy_or_write::encode_to_slice(Flavor::Mutf8, value, buf)
 }
 
-/// Decodes MUTF-8 (Java's `DataInput`), strictly, into a buffer of the caller's: the UTF-8 of the text whose
-/// encoding the bytes are.
+/// Decodes MUTF-8 (Java's `DataInput`), strictly, into a buffer of the caller's: the UTF-8 of the
+/// text whose encoding the bytes are.
 ///
 /// It gives how many bytes it wrote at the front of the buffer, and what follows them stays as it
-/// was. `Invalid` comes exactly where [`decode_strict`] would refuse the bytes, and `TooShort`, which
-/// tells how many bytes are needed, exactly where the text is longer than the buffer. After either
-/// the whole buffer stays as it was. A text is never longer than the bytes. It takes no memory.
+/// was. `Invalid` comes exactly where [`decode_strict`] would refuse the bytes, and `TooShort`,
+/// which tells how many bytes are needed, exactly where the text is longer than the buffer. After
+/// either the whole buffer stays as it was. A text is never longer than the bytes. It takes no
+/// memory.
 ///
 /// ```rust
 /// let mut buf = [0xEE; 4];
@@ -273,12 +274,13 @@ pub fn decode_strict_to_slice(bytes: &[u8], buf: &mut [u8]) -> Result<usize, Dec
     copy_or_write::decode_strict_to_slice(Flavor::Mutf8, bytes, buf)
 }
 
-/// Decodes bytes that are UTF-8 as a whole, or else MUTF-8 (Java's `DataInput`), into a buffer of the caller's.
+/// Decodes bytes that are UTF-8 as a whole, or else MUTF-8 (Java's `DataInput`), into a buffer of
+/// the caller's.
 ///
 /// It gives how many bytes it wrote at the front of the buffer, and what follows them stays as it
-/// was. `Invalid` comes exactly where [`decode`] would refuse the bytes, and `TooShort`, which tells
-/// how many bytes are needed, exactly where the text is longer than the buffer. After either the
-/// whole buffer stays as it was. A text is never longer than the bytes. It takes no memory.
+/// was. `Invalid` comes exactly where [`decode`] would refuse the bytes, and `TooShort`, which
+/// tells how many bytes are needed, exactly where the text is longer than the buffer. After either
+/// the whole buffer stays as it was. A text is never longer than the bytes. It takes no memory.
 ///
 /// ```rust
 /// let mut buf = [0xEE; 4];
@@ -292,14 +294,14 @@ pub fn decode_to_slice(bytes: &[u8], buf: &mut [u8]) -> Result<usize, DecodeSlic
     copy_or_write::decode_to_slice(Flavor::Mutf8, bytes, buf)
 }
 
-/// Decodes MUTF-8 (Java's `DataInput`) with damage, into a buffer of the caller's: the UTF-8 of each encoded
-/// character that stands in the bytes, and U+FFFD for each byte that is in none.
+/// Decodes MUTF-8 (Java's `DataInput`) with damage, into a buffer of the caller's: the UTF-8 of
+/// each encoded character that stands in the bytes, and U+FFFD for each byte that is in none.
 ///
 /// It gives how many bytes it wrote at the front of the buffer, and what follows them stays as it
 /// was. `TooShort`, which tells how many bytes are needed, comes exactly where the text is longer
-/// than the buffer, and `TooLong` where its length, [`lossy_len`], does not fit `usize`. After either
-/// the whole buffer stays as it was. A text has three times as many bytes as the input at most. It
-/// takes no memory.
+/// than the buffer, and `TooLong` where its length, [`lossy_len`], does not fit `usize`. After
+/// either the whole buffer stays as it was. A text has three times as many bytes as the input at
+/// most. It takes no memory.
 ///
 /// ```rust
 /// let mut buf = [0xEE; 6];
@@ -314,9 +316,9 @@ pub fn decode_lossy_strict_to_slice(bytes: &[u8], buf: &mut [u8]) -> Result<usiz
     copy_or_write::decode_lossy_strict_to_slice(Flavor::Mutf8, bytes, buf)
 }
 
-/// Decodes bytes that are UTF-8 as a whole, or else MUTF-8 (Java's `DataInput`) with damage, into a buffer of the
-/// caller's: the UTF-8 of each encoded character that stands in them, and U+FFFD for each byte that
-/// is in none.
+/// Decodes bytes that are UTF-8 as a whole, or else MUTF-8 (Java's `DataInput`) with damage, into a
+/// buffer of the caller's: the UTF-8 of each encoded character that stands in them, and U+FFFD for
+/// each byte that is in none.
 ///
 /// It gives how many bytes it wrote at the front of the buffer, and what follows them stays as it
 /// was. `TooShort`, which tells how many bytes are needed, comes exactly where the text is longer

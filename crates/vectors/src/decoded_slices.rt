@@ -1,5 +1,5 @@
-//! Decoding into a buffer of the caller's, of each length up to one byte more than is needed, beside
-//! the plain decoder of the tests.
+//! Decoding into a buffer of the caller's, of each length up to one byte more than is needed,
+//! beside the plain decoder of the tests.
 
 use crate::helpers::flavors::{
     FLAVORS, Flavor, decode_lossy_strict_to_slice, decode_lossy_to_slice, decode_strict_to_slice,
@@ -132,8 +132,8 @@ fn check_buffer(
     Ok(())
 }
 
-/// Calls each decoder with buffers about the length that is needed, and for a short answer with each
-/// shorter one.
+/// Calls each decoder with buffers about the length that is needed, and for a short answer with
+/// each shorter one.
 fn check(rt: &impl Abort, alloc: Global, bytes: &[u8]) -> Result<(), AllocError> {
     for flavor in FLAVORS {
         let reading = read(alloc, flavor, bytes)?;

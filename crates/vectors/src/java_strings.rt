@@ -30,7 +30,7 @@ pub fn outcome_of<'a>(answer: &'a Result<(CowText<'_>, &[u8]), ReadFault>) -> Ou
 }
 
 /// Some texts, and their forms.
-const FORMS: [(&str, &[u8]); 5] = [
+pub const FORMS: [(&str, &[u8]); 5] = [
     ("", b"\x00\x00"),
     ("A", b"\x00\x01A"),
     ("\0", b"\x00\x02\xC0\x80"),
@@ -122,7 +122,7 @@ fn reads_worked_examples(rt: HostRuntime) {
 }
 
 /// Characters of one, two, three and six bytes of MUTF-8: their UTF-8, and their MUTF-8.
-const CHARACTERS: [(&[u8], &[u8]); 5] = [
+pub const CHARACTERS: [(&[u8], &[u8]); 5] = [
     (b"A", b"A"),
     (b"\x00", b"\xC0\x80"),
     (b"\xC2\x80", b"\xC2\x80"),
@@ -132,7 +132,7 @@ const CHARACTERS: [(&[u8], &[u8]); 5] = [
 
 /// The UTF-8 and the MUTF-8 of a text whose MUTF-8 has this length: of the character as many times
 /// as fit, and then of `a`.
-fn filled(
+pub fn filled(
     alloc: Global,
     character: (&[u8], &[u8]),
     length: usize,

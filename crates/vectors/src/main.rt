@@ -33,6 +33,8 @@ mod examples;
 mod fragments;
 mod helpers;
 #[cfg(test)]
+mod java_slices;
+#[cfg(test)]
 mod java_strings;
 #[cfg(test)]
 mod kernels;

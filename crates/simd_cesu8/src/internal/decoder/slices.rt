@@ -148,8 +148,8 @@ fn write_of_length(
     Ok(write_reading(flavor, bytes, buf))
 }
 
-/// Writes the lossy reading of the bytes at the front of a slice that has room for it, and gives its
-/// length.
+/// Writes the lossy reading of the bytes at the front of a slice that has room for it, and gives
+/// its length.
 #[inline(never)]
 fn write_reading(flavor: Flavor, bytes: &[u8], out: &mut [u8]) -> usize
     requires { lossy_length (flavor_of flavor) bytes.now ≤ length out.old }
@@ -167,8 +167,8 @@ fn write_reading(flavor: Flavor, bytes: &[u8], out: &mut [u8]) -> usize
     end
 }
 
-/// Writes the next piece of text at a place, a window that is joined or some by places, and gives the
-/// bytes that are left and the end of the piece.
+/// Writes the next piece of text at a place, a window that is joined or some by places, and gives
+/// the bytes that are left and the end of the piece.
 #[inline(always)]
 fn write_next<'b>(
     flavor: Flavor,
