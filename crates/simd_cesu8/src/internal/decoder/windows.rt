@@ -20,7 +20,8 @@ pub const AROUND: usize = 80;
 /// How many positions before a byte are read to decide what becomes of it.
 pub const BEFORE: usize = 5;
 
-/// A buffer for the text of a window has three bytes for each of the window's buffer, less these.
+/// A buffer for the text of a window may be this much shorter than three bytes for each byte of the
+/// window's buffer.
 pub const SPARED: usize = 64;
 
 /// How many bytes of a window were read, the end of what is written for them, and whether some of
