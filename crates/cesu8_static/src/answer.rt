@@ -1,21 +1,21 @@
-//! What an export returns, and what it says of the caller's buffer.
+//! What an export returns.
 
 ghost use Rattle.std.specs.Prelude.{◌≡◌, false};
 ghost use Rattle.cesu8_static.specs.Answers.{answer_of, told_of_bytes, told_of_text, told_of_lossy_text};
 
 use simd_cesu8::{DecodeSliceFault, LossySliceFault, TooShort};
 
-/// There is an answer.
+/// The call succeeded.
 pub const OK: u32 = 0;
-/// The input is to be UTF-8, and is not.
+/// The input must be UTF-8, and is not.
 pub const NOT_UTF8: u32 = 1;
-/// The input has no reading.
+/// The input has no text.
 pub const INVALID: u32 = 2;
 /// The input ends before the bytes that its first two count.
 pub const TRUNCATED: u32 = 3;
-/// The answer is longer than can be told.
+/// The length of the result does not fit its count.
 pub const TOO_LONG: u32 = 4;
-/// The answer is longer than the buffer.
+/// The result is longer than the buffer.
 pub const TOO_SMALL: u32 = 5;
 
 /// What a call returns.
@@ -24,12 +24,12 @@ pub const TOO_SMALL: u32 = 5;
 pub struct Answer {
     /// One of the statuses above.
     pub status: u32,
-    /// The answer's length, in bytes; with `TOO_SMALL` the one that is needed, and else 0.
+    /// With `OK` the result's length in bytes, with `TOO_SMALL` the needed length, otherwise 0.
     pub length: usize,
 }
 
 impl Answer {
-    /// There is an answer of this length.
+    /// Reports a result of this length.
     pub(crate) fn of_length(length: usize) -> Answer
         ensures status { result.status ≡ OK }
         ensures length { result.length ≡ length }
@@ -37,7 +37,7 @@ impl Answer {
         Answer { status: OK, length }
     }
 
-    /// The buffer is too small for an answer of this length.
+    /// Reports that the buffer is too small for a result of this length.
     pub(crate) fn too_small(length: usize) -> Answer
         ensures status { result.status ≡ TOO_SMALL }
         ensures length { result.length ≡ length }
@@ -48,7 +48,7 @@ impl Answer {
         }
     }
 
-    /// There is no answer, for this reason.
+    /// Reports that there is no result, with this status.
     pub(crate) fn without(status: u32) -> Answer
         ensures status { result.status ≡ status }
         ensures length { result.length ≡ 0 }
@@ -56,7 +56,7 @@ impl Answer {
         Answer { status, length: 0 }
     }
 
-    /// What is returned where bytes were to be written.
+    /// Reports the result of a call that encodes.
     pub(crate) fn of_bytes(outcome: Result<usize, TooShort>) -> Answer
         ensures { result ≡ told_of_bytes outcome }
     {
@@ -66,7 +66,7 @@ impl Answer {
         }
     }
 
-    /// What is returned where a text was to be written.
+    /// Reports the result of a call that decodes.
     pub(crate) fn of_text(outcome: Result<usize, DecodeSliceFault>) -> Answer
         ensures { result ≡ told_of_text outcome }
     {
@@ -77,7 +77,7 @@ impl Answer {
         }
     }
 
-    /// What is returned where a text was to be written that no input is refused.
+    /// Reports the result of a call that decodes damaged bytes.
     pub(crate) fn of_lossy_text(outcome: Result<usize, LossySliceFault>) -> Answer
         ensures { result ≡ told_of_lossy_text outcome }
     {
@@ -95,12 +95,12 @@ impl Answer {
 pub struct Decision {
     /// `OK` or `NOT_UTF8`.
     pub status: u32,
-    /// What was decided, and false where nothing was.
+    /// What was decided; false with `NOT_UTF8`.
     pub is_needed: bool,
 }
 
 impl Decision {
-    /// What is decided of a text.
+    /// Reports what was decided of a text.
     pub(crate) fn of(is_needed: bool) -> Decision
         ensures status { result.status ≡ OK }
         ensures decided { result.is_needed ≡ is_needed }
@@ -111,7 +111,7 @@ impl Decision {
         }
     }
 
-    /// The input is no text.
+    /// Reports that the input is not UTF-8.
     pub(crate) fn without() -> Decision
         ensures status { result.status ≡ NOT_UTF8 }
         ensures undecided { result.is_needed ≡ false }
@@ -129,14 +129,14 @@ impl Decision {
 pub struct Reading {
     /// One of the statuses above.
     pub status: u32,
-    /// The answer's length, in bytes; with `TOO_SMALL` the one that is needed, and else 0.
+    /// With `OK` the result's length in bytes, with `TOO_SMALL` the needed length, otherwise 0.
     pub length: usize,
     /// How many bytes of the input the string takes; 0 with `TRUNCATED`.
     pub taken: usize,
 }
 
 impl Reading {
-    /// An answer, and what it takes of the input.
+    /// Adds to a result how many bytes of the input it takes.
     pub(crate) fn of(answer: Answer, taken: usize) -> Reading
         ensures answer { answer_of result ≡ answer }
         ensures taken { result.taken ≡ taken }

@@ -9,9 +9,9 @@ use java_text::{WriteSliceFault, write_utf_to_slice};
 use simd_cesu8::mutf8;
 use simdutf8::basic;
 
-/// Writes UTF-8 as `java_text::write_utf_to_slice` does (Java's `DataOutput.writeUTF`): the count of
-/// its bytes of MUTF-8 in two bytes, the high byte first, and then these. `TOO_LONG` comes where
-/// there are more than 65,535.
+/// Writes UTF-8 as `java_text::write_utf_to_slice` does (Java's `DataOutput.writeUTF`): the length
+/// of its MUTF-8 in two bytes, the high byte first, and then the MUTF-8. `TOO_LONG` means that this
+/// has more than 65,535 bytes, and `NOT_UTF8` that the input is not UTF-8.
 #[unsafe(no_mangle)]
 pub extern "C" fn cesu8_java_write(text: &[u8], buf: &mut [u8]) -> Answer
     ensures { WritesForm text.now result buf.old buf.new }
@@ -26,9 +26,9 @@ pub extern "C" fn cesu8_java_write(text: &[u8], buf: &mut [u8]) -> Answer
     }
 }
 
-/// Reads the string that begins the bytes as `java_text::read_utf_to_slice` does (Java's
-/// `DataInput.readUTF`), strictly: the count in the first two bytes, and as many bytes of MUTF-8.
-/// `taken` is how many bytes of the input it takes, whatever the status but `TRUNCATED`.
+/// Reads the string that begins the bytes, strictly, as `java_text::read_utf_to_slice` does (Java's
+/// `DataInput.readUTF`): the count in the first two bytes, and as many bytes of MUTF-8. `taken` is
+/// how many bytes of the input the string takes, with every status but `TRUNCATED`.
 #[unsafe(no_mangle)]
 pub extern "C" fn cesu8_java_read(bytes: &[u8], buf: &mut [u8]) -> Reading
     ensures { ReadsForm bytes.now result buf.old buf.new }
@@ -43,9 +43,9 @@ pub extern "C" fn cesu8_java_read(bytes: &[u8], buf: &mut [u8]) -> Reading
     }
 }
 
-/// Reads the string that begins the bytes as `java_text::read_utf_lossy_to_slice` does, with damage:
-/// each encoded character of MUTF-8 that stands in the counted bytes, and U+FFFD for each byte that
-/// is in none. `taken` is as in `cesu8_java_read`.
+/// Reads the string that begins the bytes, which may be damaged, as
+/// `java_text::read_utf_lossy_to_slice` does. It writes each encoded character of MUTF-8 in the
+/// counted bytes, and U+FFFD for each byte in none. `taken` is as in `cesu8_java_read`.
 #[unsafe(no_mangle)]
 pub extern "C" fn cesu8_java_read_lossy(bytes: &[u8], buf: &mut [u8]) -> Reading
     ensures { ReadsFormLossily bytes.now result buf.old buf.new }
@@ -59,7 +59,7 @@ pub extern "C" fn cesu8_java_read_lossy(bytes: &[u8], buf: &mut [u8]) -> Reading
     }
 }
 
-/// The bytes that the first two count, where they are there.
+/// Returns the bytes that the first two count, if the input has them.
 fn counted_bytes(bytes: &[u8]) -> Option<&[u8]>
     ensures some { IfSome result (λ part. part.now ≡ counted bytes.now) }
     ensures length { IfSome result (λ part. length part.now ≡ count_in bytes.now) }

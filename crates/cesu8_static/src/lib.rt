@@ -1,8 +1,8 @@
 //! The library for C: the calls of `simd_cesu8` and `java_text` over byte slices.
 //!
-//! Each slice is passed as a pointer and a length, as `include/cesu8.h` declares it. A call returns a
-//! status and the length of its answer, and writes the answer at the front of the caller's buffer.
-//! Where the buffer is shorter, it says so and returns the length that is needed. No call takes
+//! C passes each slice as a pointer and a length, as `include/cesu8.h` declares it. A call returns
+//! a status and the length of its result, and writes the result at the front of the caller's
+//! buffer. If the buffer is too short, it returns `TOO_SMALL` and the needed length. No call takes
 //! memory. The calls here are for CESU-8, those of [`mutf8`] for MUTF-8, and those of [`java`] for
 //! Java strings with their length in front.
 #![tactic(auto)]
@@ -20,7 +20,8 @@ pub use crate::answer::{Answer, Decision, Reading};
 use crate::answer::{NOT_UTF8, TOO_LONG};
 use simdutf8::basic;
 
-/// Whether the CESU-8 of UTF-8 is other than it, as `simd_cesu8::needs_encoded` tells.
+/// Returns whether the CESU-8 of a text in UTF-8 differs from the UTF-8, as
+/// `simd_cesu8::needs_encoded` does. `NOT_UTF8` means that the input is not UTF-8.
 #[unsafe(no_mangle)]
 pub extern "C" fn cesu8_needs_encoded(text: &[u8]) -> Decision
     ensures { DecidesNeed Cesu8 text.now result }
@@ -31,7 +32,8 @@ pub extern "C" fn cesu8_needs_encoded(text: &[u8]) -> Decision
     }
 }
 
-/// The length of the CESU-8 of UTF-8, in bytes, as `simd_cesu8::encoded_len` tells.
+/// Returns the length in bytes of the CESU-8 of a text in UTF-8, as `simd_cesu8::encoded_len` does.
+/// `NOT_UTF8` means that the input is not UTF-8.
 #[unsafe(no_mangle)]
 pub extern "C" fn cesu8_encoded_len(text: &[u8]) -> Answer
     ensures { TellsEncodedLength Cesu8 text.now result }
@@ -43,7 +45,7 @@ pub extern "C" fn cesu8_encoded_len(text: &[u8]) -> Answer
 }
 
 /// Encodes UTF-8 to CESU-8 (Unicode Technical Report 26), as `simd_cesu8::encode_to_slice` does.
-/// `NOT_UTF8` comes where the input is not UTF-8.
+/// `NOT_UTF8` means that the input is not UTF-8.
 #[unsafe(no_mangle)]
 pub extern "C" fn cesu8_encode(text: &[u8], buf: &mut [u8]) -> Answer
     ensures { Encodes Cesu8 text.now result buf.old buf.new }
@@ -54,8 +56,8 @@ pub extern "C" fn cesu8_encode(text: &[u8], buf: &mut [u8]) -> Answer
     }
 }
 
-/// Decodes CESU-8 to UTF-8, as `simd_cesu8::decode_strict_to_slice` does. `INVALID` comes where
-/// the input is the encoding of no text.
+/// Decodes CESU-8 to UTF-8, as `simd_cesu8::decode_strict_to_slice` does. `INVALID` means that the
+/// input is the encoding of no text.
 #[unsafe(no_mangle)]
 pub extern "C" fn cesu8_decode_strict(bytes: &[u8], buf: &mut [u8]) -> Answer
     ensures { Decodes (IsStrictReading Cesu8 bytes.now) result buf.old buf.new }
@@ -64,7 +66,7 @@ pub extern "C" fn cesu8_decode_strict(bytes: &[u8], buf: &mut [u8]) -> Answer
 }
 
 /// Decodes bytes that are UTF-8 as a whole, or else CESU-8, to UTF-8, as
-/// `simd_cesu8::decode_to_slice` does. `INVALID` comes where the input is neither.
+/// `simd_cesu8::decode_to_slice` does. `INVALID` means that the input is neither.
 #[unsafe(no_mangle)]
 pub extern "C" fn cesu8_decode(bytes: &[u8], buf: &mut [u8]) -> Answer
     ensures { Decodes (IsLenientReading Cesu8 bytes.now) result buf.old buf.new }
@@ -72,9 +74,9 @@ pub extern "C" fn cesu8_decode(bytes: &[u8], buf: &mut [u8]) -> Answer
     Answer::of_text(simd_cesu8::decode_to_slice(bytes, buf))
 }
 
-/// Decodes CESU-8 with damage to UTF-8, as `simd_cesu8::decode_lossy_strict_to_slice` does: each
-/// encoded character that stands in the bytes, and U+FFFD for each byte that is in none. `TOO_LONG`
-/// comes where that has more bytes than a `size_t` counts.
+/// Decodes CESU-8 that may be damaged to UTF-8, as `simd_cesu8::decode_lossy_strict_to_slice` does:
+/// each encoded character in the bytes, and U+FFFD for each byte in none. `TOO_LONG` means that the
+/// length of the text does not fit `size_t`.
 #[unsafe(no_mangle)]
 pub extern "C" fn cesu8_decode_lossy_strict(bytes: &[u8], buf: &mut [u8]) -> Answer
     ensures { DecodesLossily (λ text. text ≡ reading Cesu8 bytes.now) result buf.old buf.new }
@@ -82,8 +84,9 @@ pub extern "C" fn cesu8_decode_lossy_strict(bytes: &[u8], buf: &mut [u8]) -> Ans
     Answer::of_lossy_text(simd_cesu8::decode_lossy_strict_to_slice(bytes, buf))
 }
 
-/// Decodes bytes that are UTF-8 as a whole, or else CESU-8 with damage, to UTF-8, as
-/// `simd_cesu8::decode_lossy_to_slice` does. `TOO_LONG` comes as in `cesu8_decode_lossy_strict`.
+/// Decodes bytes that are UTF-8 as a whole, or else CESU-8 that may be damaged, to UTF-8, as
+/// `simd_cesu8::decode_lossy_to_slice` does. `TOO_LONG` means the same as from
+/// `cesu8_decode_lossy_strict`.
 #[unsafe(no_mangle)]
 pub extern "C" fn cesu8_decode_lossy(bytes: &[u8], buf: &mut [u8]) -> Answer
     ensures { DecodesLossily (IsLenientLossyReading Cesu8 bytes.now) result buf.old buf.new }
@@ -91,8 +94,8 @@ pub extern "C" fn cesu8_decode_lossy(bytes: &[u8], buf: &mut [u8]) -> Answer
     Answer::of_lossy_text(simd_cesu8::decode_lossy_to_slice(bytes, buf))
 }
 
-/// The length of the text that `cesu8_decode_lossy_strict` writes, in bytes, as
-/// `simd_cesu8::lossy_len` tells. `TOO_LONG` comes where a `size_t` does not count as many.
+/// Returns the length in bytes of the text that `cesu8_decode_lossy_strict` writes, as
+/// `simd_cesu8::lossy_len` does. `TOO_LONG` means that the length does not fit `size_t`.
 #[unsafe(no_mangle)]
 pub extern "C" fn cesu8_lossy_len(bytes: &[u8]) -> Answer
     ensures { TellsLossyLength Cesu8 bytes.now result }

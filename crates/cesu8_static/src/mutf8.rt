@@ -9,7 +9,8 @@ use crate::answer::{Answer, Decision, NOT_UTF8, TOO_LONG};
 use simd_cesu8::mutf8;
 use simdutf8::basic;
 
-/// Whether the MUTF-8 of UTF-8 is other than it, as `mutf8::needs_encoded` tells.
+/// Returns whether the MUTF-8 of a text in UTF-8 differs from the UTF-8, as `mutf8::needs_encoded`
+/// does. `NOT_UTF8` means that the input is not UTF-8.
 #[unsafe(no_mangle)]
 pub extern "C" fn cesu8_mutf8_needs_encoded(text: &[u8]) -> Decision
     ensures { DecidesNeed Mutf8 text.now result }
@@ -20,7 +21,8 @@ pub extern "C" fn cesu8_mutf8_needs_encoded(text: &[u8]) -> Decision
     }
 }
 
-/// The length of the MUTF-8 of UTF-8, in bytes, as `mutf8::encoded_len` tells.
+/// Returns the length in bytes of the MUTF-8 of a text in UTF-8, as `mutf8::encoded_len` does.
+/// `NOT_UTF8` means that the input is not UTF-8.
 #[unsafe(no_mangle)]
 pub extern "C" fn cesu8_mutf8_encoded_len(text: &[u8]) -> Answer
     ensures { TellsEncodedLength Mutf8 text.now result }
@@ -31,8 +33,8 @@ pub extern "C" fn cesu8_mutf8_encoded_len(text: &[u8]) -> Answer
     }
 }
 
-/// Encodes UTF-8 to MUTF-8 (Java's `DataOutput`, without a length in front), as `mutf8::encode_to_slice` does.
-/// `NOT_UTF8` comes where the input is not UTF-8.
+/// Encodes UTF-8 to MUTF-8 (Java's `DataOutput`, without a length in front), as
+/// `mutf8::encode_to_slice` does. `NOT_UTF8` means that the input is not UTF-8.
 #[unsafe(no_mangle)]
 pub extern "C" fn cesu8_mutf8_encode(text: &[u8], buf: &mut [u8]) -> Answer
     ensures { Encodes Mutf8 text.now result buf.old buf.new }
@@ -43,8 +45,8 @@ pub extern "C" fn cesu8_mutf8_encode(text: &[u8], buf: &mut [u8]) -> Answer
     }
 }
 
-/// Decodes MUTF-8 to UTF-8, as `mutf8::decode_strict_to_slice` does. `INVALID` comes where
-/// the input is the encoding of no text.
+/// Decodes MUTF-8 to UTF-8, as `mutf8::decode_strict_to_slice` does. `INVALID` means that the input
+/// is the encoding of no text.
 #[unsafe(no_mangle)]
 pub extern "C" fn cesu8_mutf8_decode_strict(bytes: &[u8], buf: &mut [u8]) -> Answer
     ensures { Decodes (IsStrictReading Mutf8 bytes.now) result buf.old buf.new }
@@ -52,8 +54,8 @@ pub extern "C" fn cesu8_mutf8_decode_strict(bytes: &[u8], buf: &mut [u8]) -> Ans
     Answer::of_text(mutf8::decode_strict_to_slice(bytes, buf))
 }
 
-/// Decodes bytes that are UTF-8 as a whole, or else MUTF-8, to UTF-8, as
-/// `mutf8::decode_to_slice` does. `INVALID` comes where the input is neither.
+/// Decodes bytes that are UTF-8 as a whole, or else MUTF-8, to UTF-8, as `mutf8::decode_to_slice`
+/// does. `INVALID` means that the input is neither.
 #[unsafe(no_mangle)]
 pub extern "C" fn cesu8_mutf8_decode(bytes: &[u8], buf: &mut [u8]) -> Answer
     ensures { Decodes (IsLenientReading Mutf8 bytes.now) result buf.old buf.new }
@@ -61,9 +63,9 @@ pub extern "C" fn cesu8_mutf8_decode(bytes: &[u8], buf: &mut [u8]) -> Answer
     Answer::of_text(mutf8::decode_to_slice(bytes, buf))
 }
 
-/// Decodes MUTF-8 with damage to UTF-8, as `mutf8::decode_lossy_strict_to_slice` does: each
-/// encoded character that stands in the bytes, and U+FFFD for each byte that is in none. `TOO_LONG`
-/// comes where that has more bytes than a `size_t` counts.
+/// Decodes MUTF-8 that may be damaged to UTF-8, as `mutf8::decode_lossy_strict_to_slice` does: each
+/// encoded character in the bytes, and U+FFFD for each byte in none. `TOO_LONG` means that the
+/// length of the text does not fit `size_t`.
 #[unsafe(no_mangle)]
 pub extern "C" fn cesu8_mutf8_decode_lossy_strict(bytes: &[u8], buf: &mut [u8]) -> Answer
     ensures { DecodesLossily (λ text. text ≡ reading Mutf8 bytes.now) result buf.old buf.new }
@@ -71,8 +73,9 @@ pub extern "C" fn cesu8_mutf8_decode_lossy_strict(bytes: &[u8], buf: &mut [u8]) 
     Answer::of_lossy_text(mutf8::decode_lossy_strict_to_slice(bytes, buf))
 }
 
-/// Decodes bytes that are UTF-8 as a whole, or else MUTF-8 with damage, to UTF-8, as
-/// `mutf8::decode_lossy_to_slice` does. `TOO_LONG` comes as in `cesu8_mutf8_decode_lossy_strict`.
+/// Decodes bytes that are UTF-8 as a whole, or else MUTF-8 that may be damaged, to UTF-8, as
+/// `mutf8::decode_lossy_to_slice` does. `TOO_LONG` means the same as from
+/// `cesu8_mutf8_decode_lossy_strict`.
 #[unsafe(no_mangle)]
 pub extern "C" fn cesu8_mutf8_decode_lossy(bytes: &[u8], buf: &mut [u8]) -> Answer
     ensures { DecodesLossily (IsLenientLossyReading Mutf8 bytes.now) result buf.old buf.new }
@@ -80,8 +83,8 @@ pub extern "C" fn cesu8_mutf8_decode_lossy(bytes: &[u8], buf: &mut [u8]) -> Answ
     Answer::of_lossy_text(mutf8::decode_lossy_to_slice(bytes, buf))
 }
 
-/// The length of the text that `cesu8_mutf8_decode_lossy_strict` writes, in bytes, as
-/// `mutf8::lossy_len` tells. `TOO_LONG` comes where a `size_t` does not count as many.
+/// Returns the length in bytes of the text that `cesu8_mutf8_decode_lossy_strict` writes, as
+/// `mutf8::lossy_len` does. `TOO_LONG` means that the length does not fit `size_t`.
 #[unsafe(no_mangle)]
 pub extern "C" fn cesu8_mutf8_lossy_len(bytes: &[u8]) -> Answer
     ensures { TellsLossyLength Mutf8 bytes.now result }

@@ -1,4 +1,4 @@
-//! Why a text could not be written, or none be read.
+//! The errors of this crate's calls.
 
 ghost use Rattle.std.specs.Prelude.{◌≡◌, Some};
 ghost use Rattle.java_text.specs.Fault.{write_message_of, read_message_of, write_slice_message_of, read_slice_message_of, read_fault_of, read_slice_fault_of};
@@ -13,10 +13,10 @@ use std::fmt::{Display, Formatter};
 
 /// Why `write_utf` writes nothing.
 ///
-/// It shows itself as `text is too long` or `out of memory`, whatever width is asked for.
+/// It displays as `text is too long` or `out of memory`, whatever width is given.
 #[derive(Debug, Drop)]
 pub enum WriteFault {
-    /// The text has this many bytes of MUTF-8, and two bytes count no more than 65,535.
+    /// The text has this many bytes of MUTF-8, and two bytes count at most 65,535.
     TooLong(usize),
     /// A request for memory was refused.
     Memory,
@@ -45,15 +45,15 @@ impl Display for WriteFault {
 
 impl Error for WriteFault {}
 
-/// Why a call that reads gives no text.
+/// Why a call that reads returns no text.
 ///
-/// It shows itself as `input is truncated`, `invalid input` or `out of memory`, whatever width is
-/// asked for.
+/// It displays as `input is truncated`, `invalid input` or `out of memory`, whatever width is
+/// given.
 #[derive(Debug, Drop)]
 pub enum ReadFault {
     /// There are fewer than two bytes, or fewer after them than they count.
     Truncated,
-    /// The counted bytes are no encoding of a text.
+    /// The counted bytes are the encoding of no text.
     Invalid(DecodingError),
     /// A request for memory was refused.
     Memory,
@@ -96,10 +96,10 @@ impl Error for ReadFault {}
 
 /// Why `write_utf_to_slice` writes nothing.
 ///
-/// It shows itself as `text is too long` or `buffer too short`, whatever width is asked for.
+/// It displays as `text is too long` or `buffer too short`, whatever width is given.
 #[derive(Clone, Copy, Debug, PartialEq, Eq)]
 pub enum WriteSliceFault {
-    /// The text has this many bytes of MUTF-8, and two bytes count no more than 65,535.
+    /// The text has this many bytes of MUTF-8, and two bytes count at most 65,535.
     TooLong(usize),
     /// The buffer is shorter than the form, which has this many bytes.
     TooShort(usize),
@@ -120,15 +120,15 @@ impl Display for WriteSliceFault {
 
 impl Error for WriteSliceFault {}
 
-/// Why a call that reads writes no text into the caller's buffer.
+/// Why a call that reads writes no text to the caller's buffer.
 ///
-/// It shows itself as `input is truncated`, `invalid input` or `buffer too short`, whatever width
-/// is asked for.
+/// It displays as `input is truncated`, `invalid input` or `buffer too short`, whatever width is
+/// given.
 #[derive(Clone, Copy, Debug, PartialEq, Eq)]
 pub enum ReadSliceFault {
     /// There are fewer than two bytes, or fewer after them than they count.
     Truncated,
-    /// The counted bytes are no encoding of a text.
+    /// The counted bytes are the encoding of no text.
     Invalid(DecodingError),
     /// The buffer is shorter than the text, whose UTF-8 has this many bytes.
     TooShort(usize),

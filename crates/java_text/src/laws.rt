@@ -1,5 +1,5 @@
 //! The laws of the form. Each function does nothing: its contract is the law, for every text and
-//! every list of bytes, and its proof is the evidence. One that calls another law rests on it.
+//! every list of bytes. A function that calls another law uses it in its proof.
 
 ghost use Rattle.java_text.specs.Laws.{
   FormIsCut,
@@ -10,15 +10,15 @@ ghost use Rattle.java_text.specs.Laws.{
   Bounds,
 };
 
-/// A form that begins bytes is two bytes that count, and as many after them, which are the MUTF-8
-/// of its text; what follows these is the rest. And where bytes have these parts, the form begins
-/// them. So a reader may cut a form by hand.
+/// If bytes begin with a form, they are two bytes that count, as many bytes that are the MUTF-8 of
+/// its text, and the rest. Conversely, bytes with these parts begin with the form. So a reader may
+/// split a form by hand.
 pub fn parts()
     ensures cut { FormIsCut }
     ensures joined { PartsAreForm }
 {}
 
-/// Bytes begin with the form of one text at most, and with one rest.
+/// Bytes begin with the form of at most one text, and have one rest.
 pub fn one_form()
     ensures { OneForm }
 {
@@ -32,7 +32,7 @@ pub fn no_form_begins_another()
     one_form();
 }
 
-/// Forms in a row read back, one after the other, as their texts and as no others.
+/// Forms in a row read back, one after another, as their texts and no others.
 pub fn sequence()
     ensures { Sequence }
 {

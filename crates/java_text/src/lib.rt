@@ -1,17 +1,20 @@
 //! Java strings with their length in front, as `DataOutput.writeUTF` writes them and
-//! `DataInput.readUTF` reads them: the count of the text's bytes of Modified UTF-8 (MUTF-8) in two
-//! bytes, the high byte first, and then these bytes. Here that is the form of the text.
+//! `DataInput.readUTF` reads them. Here such a string is called the form of the text. It begins
+//! with the count in two bytes, the high byte first: the length in bytes of the text's Modified
+//! UTF-8 (MUTF-8). This MUTF-8 follows.
 //!
-//! A form ends where its count says, so forms can stand one after the other: what [`read_utf`]
-//! gives beside the text is the input after the form, where the next one begins. A form has 65,535
-//! bytes of MUTF-8 at most, and a text with more has none.
+//! A form ends where its count says, so forms can follow one another. [`read_utf`] returns the text
+//! and the input after the form, where the next one begins. A text with more than 65,535 bytes of
+//! MUTF-8 has no form.
 //!
 //! | you have | you want | call |
 //! |---|---|---|
-//! | text | its form at the end of a buffer | [`write_utf`] |
-//! | bytes that begin with a form | its text and the bytes after it, or a refusal | [`read_utf`] |
-//! | the same, perhaps damaged | a text, but where bytes are missing | [`read_utf_lossy`] |
-//! | either, and a buffer for what is wanted | the form or the text there, with no allocator | [`write_utf_to_slice`], [`read_utf_to_slice`], [`read_utf_lossy_to_slice`] |
+//! | text | its form, appended to your `Vec` | [`write_utf`] |
+//! | bytes that begin with a form | its text and the bytes after it, or an error | [`read_utf`] |
+//! | the same, perhaps damaged | a text, unless bytes are missing | [`read_utf_lossy`] |
+//!
+//! Three calls write the form or the text to your buffer, without an allocator:
+//! [`write_utf_to_slice`], [`read_utf_to_slice`] and [`read_utf_lossy_to_slice`].
 //!
 //! ```rust
 //! let mut buf = Vec::new(alloc);
@@ -44,13 +47,13 @@ pub use crate::fault::{ReadFault, ReadSliceFault, WriteFault, WriteSliceFault};
 use simd_cesu8::{CowText, LossySliceFault, mutf8};
 use std::alloc::Global;
 
-/// Appends the form of a text (Java's `DataOutput.writeUTF`) to what stands in the buffer.
+/// Appends the form of a text (Java's `DataOutput.writeUTF`) to the buffer.
 ///
-/// `TooLong` comes exactly where the text's MUTF-8 has more than 65,535 bytes, and says how many.
-/// It is tested first, and takes no memory. Where the buffer has no room for the form, one request
-/// is made, before anything is written; the buffer grows by a factor then, as `Vec::push` lets it
-/// grow, so that many short texts are appended with few requests. `Memory` comes where it is
-/// refused. After either fault the buffer is as before.
+/// It returns `TooLong`, with the length in bytes, exactly where the text's MUTF-8 has more than
+/// 65,535 bytes. It tests this first, and this takes no memory. If the capacity is too small, it
+/// makes one request before it writes, and returns `Memory` if that is refused. The buffer then
+/// grows by a factor, as with `Vec::push`, so that many short texts need few requests. After an
+/// error the buffer is as before.
 ///
 /// ```rust
 /// let mut buf = Vec::new(alloc);
@@ -66,7 +69,7 @@ pub fn write_utf(text: &str, buf: &mut Vec<u8>) -> Result<(), WriteFault>
     ensures err { OnErr result (buf.new.items ≡ buf.old.items) }
     ensures err_capacity { OnErr result (vec_capacity buf.new ≡ vec_capacity buf.old) }
 
-    // Where there is room for the form, nothing is refused, and nothing is asked for.
+    // With enough capacity it makes no request, and a text with a form is written.
     ensures room { HasForm (chars text.now)
         → vec_len buf.old + length (java_form (chars text.now)) ≤ vec_capacity buf.old
         → IsOk result }
@@ -86,20 +89,22 @@ pub fn write_utf(text: &str, buf: &mut Vec<u8>) -> Result<(), WriteFault>
     let [high, low] = count.to_be_bytes();
     buf.push_reserved(high);
     buf.push_reserved(low);
-    // There is room for these bytes, so this can't fail.
+    // The buffer has capacity for these bytes, so this can't fail.
     counted.encode_into(buf).unwrap();
     Ok(())
 }
 
-/// Reads the form that begins the bytes (Java's `DataInput.readUTF`), strictly: its text, and the
-/// bytes after the form.
+/// Reads the form that begins the bytes (Java's `DataInput.readUTF`), strictly: returns its text,
+/// and the bytes after the form, which are always a part of the input.
 ///
-/// `Truncated` comes exactly where there are fewer than two bytes, or fewer after them than they
-/// count. It is tested first, and takes no memory. The counted bytes are then read by
-/// [`mutf8::decode_strict`]: `Invalid` comes where no text has them as its encoding, and Java's own
-/// reader takes some of these. The text borrows them where they are its UTF-8, which takes no
-/// memory. Elsewhere it is built after one request for as many bytes as are counted, and `Memory`
-/// comes where that is refused. The rest is always a part of the input.
+/// It returns `Truncated` exactly where there are fewer than two bytes, or fewer after them than
+/// they count. It tests this first, and this takes no memory. Then it reads the counted bytes as
+/// [`mutf8::decode_strict`] does. It returns `Invalid` if they are the encoding of no text; Java's
+/// own reader accepts some of these.
+///
+/// The text borrows the counted bytes where they are its UTF-8, and then takes no memory. Otherwise
+/// the call makes one request for as many bytes as are counted, and returns `Memory` if it is
+/// refused.
 ///
 /// ```rust
 /// let (text, rest) = java_text::read_utf(alloc, b"\0\x01AB")?;
@@ -115,7 +120,7 @@ pub fn read_utf(alloc: Global, bytes: &[u8]) -> Result<(CowText<'_>, &[u8]), Rea
     ensures invalid { OnInvalid result (HasNoStrictReading Mutf8 (counted bytes.now)) }
     ensures refused { OnRefused result (NoFormBegins bytes.now) }
 
-    // The text's own bytes decide whether it borrows.
+    // The counted bytes alone decide whether the text borrows.
     ensures borrowed { BorrowsTextWhere (text_of result) (λ text. text ≡ counted bytes.now) }
     ensures borrowed_where { BorrowsTextWhere (text_of result)
         (λ _. IsUnchangedUtf8 Mutf8 (counted bytes.now)) }
@@ -128,14 +133,14 @@ pub fn read_utf(alloc: Global, bytes: &[u8]) -> Result<(CowText<'_>, &[u8]), Rea
     Ok((mutf8::decode_strict(alloc, counted)?, rest))
 }
 
-/// Reads the count that begins the bytes (Java's `DataInput.readUTF`), and as many bytes after it,
-/// with damage: each encoded character of MUTF-8 that stands in them, and one U+FFFD for each byte
-/// that is in none. It gives that text, and the bytes after the counted ones.
+/// Reads the count that begins the bytes (Java's `DataInput.readUTF`), and as many bytes of MUTF-8,
+/// which may be damaged. It returns each encoded character in them, with one U+FFFD for each byte
+/// in none, and the bytes after the counted ones.
 ///
-/// `Truncated` comes as in [`read_utf`], since no text can stand for bytes that are not there.
-/// `Invalid` never comes. The text borrows as [`mutf8::decode_lossy_strict`] does, which takes no
-/// memory. Elsewhere it is built after one request for exactly its length, and `Memory` comes where
-/// that is refused.
+/// It returns `Truncated` as [`read_utf`] does, since no text can replace missing bytes. It never
+/// returns `Invalid`. The text borrows as [`mutf8::decode_lossy_strict`] does, and then takes no
+/// memory. Otherwise the call makes one request for exactly the text's length in bytes, and returns
+/// `Memory` if it is refused.
 ///
 /// ```rust
 /// let (text, rest) = java_text::read_utf_lossy(alloc, b"\0\x02\xC2AB")?;
@@ -148,7 +153,7 @@ pub fn read_utf_lossy(alloc: Global, bytes: &[u8]) -> Result<(CowText<'_>, &[u8]
     ensures truncated { result ≡ Err ReadFault.Truncated ↔ IsTruncated bytes.now }
     ensures whole { ¬ (IsTruncated bytes.now) → IsOkUnless result ReadFault.Memory }
 
-    // The text's own bytes decide whether it borrows.
+    // The counted bytes alone decide whether the text borrows.
     ensures borrowed { BorrowsTextWhere (text_of result) (λ text. text ≡ counted bytes.now) }
     ensures borrowed_where { BorrowsTextWhere (text_of result)
         (λ _. IsUnchangedUtf8 Mutf8 (counted bytes.now)) }
@@ -161,15 +166,16 @@ pub fn read_utf_lossy(alloc: Global, bytes: &[u8]) -> Result<(CowText<'_>, &[u8]
     Ok((mutf8::decode_lossy_strict(alloc, counted)?, rest))
 }
 
-/// How many bytes two bytes count at most.
+/// The most bytes that two bytes can count.
 const MOST_COUNTED: usize = 65_535;
 
-/// Writes the form of a text (Java's `DataOutput.writeUTF`) into a buffer of the caller's.
+/// Writes the form of a text (Java's `DataOutput.writeUTF`) to the caller's buffer.
 ///
-/// It gives how many bytes it wrote at the front of the buffer, and what follows them stays as it
-/// was. `TooLong` comes exactly where the text's MUTF-8 has more than 65,535 bytes, and says how
-/// many, and `TooShort` where there is a form and the buffer is shorter, and says how long the form
-/// is. After either the whole buffer stays as it was. It takes no memory.
+/// It returns how many bytes it wrote at the front of the buffer; the rest stays as it was. It
+/// returns `TooLong`, with the length in bytes, exactly where the text's MUTF-8 has more than
+/// 65,535 bytes. It returns `TooShort`, with the length of the form in bytes, exactly where there
+/// is a form and it is longer than the buffer. After an error the whole buffer stays as it was. It
+/// requests no memory.
 ///
 /// ```rust
 /// let mut buf = [0xEE; 6];
@@ -182,7 +188,7 @@ pub fn write_utf_to_slice(text: &str, buf: &mut [u8]) -> Result<usize, WriteSlic
     if buf.len() < 2 {
         return Err(misfit(mutf8::encoded_len(text)));
     }
-    // No room is offered that two bytes can't count.
+    // Offer no more of the buffer than two bytes can count.
     let end = buf.len().min(2 + MOST_COUNTED);
     match mutf8::encode_to_slice(text, &mut buf[2..end]) {
         Ok(length) => {
@@ -193,7 +199,7 @@ pub fn write_utf_to_slice(text: &str, buf: &mut [u8]) -> Result<usize, WriteSlic
     }
 }
 
-/// Why the form of a text with so many bytes of MUTF-8 does not fit.
+/// Returns why the form of a text with so many bytes of MUTF-8 does not fit.
 fn misfit(length: usize) -> WriteSliceFault
     ensures too_long { MOST_COUNTED < length → result ≡ WriteSliceFault.TooLong length }
     ensures too_short { length ≤ MOST_COUNTED → result ≡ WriteSliceFault.TooShort (2 + length) }
@@ -205,13 +211,12 @@ fn misfit(length: usize) -> WriteSliceFault
 }
 
 /// Reads the form that begins the bytes (Java's `DataInput.readUTF`), strictly, and writes the
-/// text's UTF-8 into a buffer of the caller's: how many bytes it wrote at its front, and the bytes
-/// after the form.
+/// UTF-8 of its text to the caller's buffer.
 ///
-/// What follows in the buffer stays as it was. `Truncated` and `Invalid` come exactly where
-/// [`read_utf`] would tell them, and `TooShort`, which says how many bytes are needed, where the
-/// text is longer than the buffer. After a fault the whole buffer stays as it was. It takes no
-/// memory.
+/// It returns how many bytes it wrote at the front of the buffer, and the bytes after the form. The
+/// rest of the buffer stays as it was. It returns `Truncated` and `Invalid` exactly where
+/// [`read_utf`] does, and `TooShort`, with the needed length in bytes, where the text is longer
+/// than the buffer. After an error the whole buffer stays as it was. It requests no memory.
 ///
 /// ```rust
 /// let mut buf = [0xEE; 3];
@@ -232,13 +237,14 @@ pub fn read_utf_to_slice<'b>(
     Ok((mutf8::decode_strict_to_slice(counted, buf)?, rest))
 }
 
-/// Reads the count that begins the bytes (Java's `DataInput.readUTF`), and as many bytes after it,
-/// with damage, as [`read_utf_lossy`] does, and writes the text's UTF-8 into a buffer of the
-/// caller's: how many bytes it wrote at its front, and the bytes after the counted ones.
+/// Reads the count that begins the bytes (Java's `DataInput.readUTF`), and as many bytes of MUTF-8,
+/// which may be damaged. It writes the UTF-8 of the text that [`read_utf_lossy`] returns to the
+/// caller's buffer.
 ///
-/// What follows in the buffer stays as it was. `Truncated` comes as in [`read_utf`], `TooShort`,
-/// which says how many bytes are needed, where the text is longer than the buffer, and `Invalid`
-/// never. After a fault the whole buffer stays as it was. It takes no memory.
+/// It returns how many bytes it wrote at the front of the buffer, and the bytes after the counted
+/// ones. The rest of the buffer stays as it was. It returns `Truncated` as [`read_utf`] does, and
+/// `TooShort`, with the needed length in bytes, where the text is longer than the buffer. It never
+/// returns `Invalid`. After an error the whole buffer stays as it was. It requests no memory.
 ///
 /// ```rust
 /// let mut buf = [0xEE; 4];
@@ -260,12 +266,12 @@ pub fn read_utf_lossy_to_slice<'b>(
     match mutf8::decode_lossy_strict_to_slice(counted, buf) {
         Ok(len) => Ok((len, rest)),
         Err(LossySliceFault::TooShort(fault)) => Err(ReadSliceFault::TooShort(fault.needed())),
-        // Two bytes count no more bytes than a `usize` counts of their text.
+        // The text of at most 65,535 bytes has a length that fits `usize`.
         Err(LossySliceFault::TooLong) => unreachable!(),
     }
 }
 
-/// The bytes that the first two count, and those after them.
+/// Returns the bytes that the first two count, and those after them.
 fn split_counted(bytes: &[u8]) -> Result<(&[u8], &[u8]), ReadFault>
     ensures counted { IfOk result (λ parts. parts.0.now ≡ counted bytes.now) }
     ensures rest { IfOk result (λ parts. parts.1.now ≡ rest_in bytes.now) }

@@ -1,4 +1,4 @@
--- The classes of bytes that tell whether UTF-8 has to change.
+-- The classes of bytes that decide whether UTF-8 has to change.
 use Rattle.std.specs.Prelude.{ℕ, Bool, IsTrue, nat_le, ◌&&◌, ◌||◌, ◌==◌, List, Any, IsUtf8}
 use Rattle.simd_cesu8.specs.Encoding.{Flavor, Cesu8, Mutf8}
 
@@ -24,7 +24,7 @@ is_high b = nat_le 0x80 b
 abbrev pub is_null_high : ℕ → Bool
 is_null_high b = b == 0 || is_high b
 
--- The class of a flavor: a byte of UTF-8 that it writes otherwise.
+-- The class of a flavor: the bytes of UTF-8 that change in it.
 abbrev pub IsChangedByte : Flavor → ℕ → Type 0
 IsChangedByte Cesu8 = IsFour
 IsChangedByte Mutf8 = IsNullFour

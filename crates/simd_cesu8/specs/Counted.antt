@@ -1,10 +1,10 @@
--- What a `CountedText` stands for.
+-- The content of a `CountedText`.
 use Rattle.std.specs.Prelude.{ℕ, List}
 use Rattle.std.specs.Str.{chars}
 use Rattle.simd_cesu8.specs.Encoding.{encoding}
 use Rattle.simd_cesu8.specs.Internal.{flavor_of}
 use Rattle.simd_cesu8.specs.declared.counted_text.CountedText.{CountedText}
 
--- The encoding of the text that was counted.
+-- The encoding of the counted text.
 abbrev pub counted_encoding : CountedText → List ℕ
 counted_encoding counted = encoding (flavor_of counted.flavor) (chars counted.text.now)

@@ -33,11 +33,11 @@ abbrev pub ArePieces : List Piece → Type 0
 ArePieces [] = ⊤
 ArePieces (piece ∷ pieces) = IsPiece piece × ArePieces pieces
 
--- The pieces' bytes, joined, are the bytes.
+-- The bytes of the pieces, joined, are these bytes.
 abbrev pub IsCutting : Flavor → List ℕ → List Piece → Type 0
 IsCutting f bytes pieces = ArePieces pieces × (bytes_of f pieces ≡ bytes)
 
--- At the place of no replaced byte a character stands: none begins the bytes from there on.
+-- No encoded character begins at the position of a replaced byte.
 abbrev pub IsGreedy : Flavor → List Piece → Type 0
 IsGreedy f [] = ⊤
 IsGreedy f (Character c ∷ pieces) = IsGreedy f pieces

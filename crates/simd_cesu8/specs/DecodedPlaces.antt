@@ -1,11 +1,11 @@
--- What the lossy reading makes of each byte, from the byte and its neighbours alone: the two before it,
--- and how wide the characters are that begin at its place and at the five before it.
+-- What the lossy reading makes of each byte, from its neighbours alone: the two bytes before it,
+-- and the widths of the characters that begin at its position and at the five before it.
 use Rattle.std.specs.Prelude.{◌≡◌, ℕ, zero, suc, ◌+◌, ◌*◌, ◌/◌, ◌%◌, ◌<◌, ◌&&◌, ◌||◌, ◌==◌, nat_le, nat_lt, if◌then◌else◌, not, Bool, true, false, List, [], ◌∷◌, slice_index}
 use Rattle.std.specs.List.{flat_map, range_with_len}
 use Rattle.simd_cesu8.specs.Encoding.{Flavor, Cesu8, Mutf8}
 use Rattle.simd_cesu8.specs.Reading.{standing, width_of}
 
--- How many bytes the encoded character takes that begins the bytes, or 0.
+-- How many bytes the encoded character has that begins the bytes, or 0.
 abbrev pub front_width : Flavor → List ℕ → ℕ
 front_width f bytes = width_of f (standing f bytes)
 
@@ -49,20 +49,20 @@ front_width_by f a b d e g h =
     else if pair_at a b d e g h then 6
     else 0
 
--- How wide the character is that begins at place i of a window, by six bytes of it. Behind the window
--- there are zeros.
+-- The width of the character that begins at position i of a window, by six bytes of it. Zeros
+-- follow the window.
 abbrev pub width_at : Flavor → List ℕ → ℕ → ℕ
 width_at f window i =
     let w = slice_index window in
     front_width_by f (w i) (w (i + 1)) (w (i + 2)) (w (i + 3)) (w (i + 4)) (w (i + 5))
 
--- What a byte becomes that is neither of a surrogate pair nor of the null of MUTF-8: it stays in a
--- character, and else it is replaced.
+-- What a byte becomes that is neither of a surrogate pair nor of the null of MUTF-8: in a character
+-- it stays, and otherwise it is replaced.
 abbrev pub kept : ℕ → ℕ → ℕ → ℕ → List ℕ
 kept w0 w1 w2 b = if nat_le 1 w0 || (nat_le 2 w1 || nat_le 3 w2) then b ∷ [] else 0xEF ∷ 0xBF ∷ 0xBD ∷ []
 
--- What a byte becomes, by the widths at its place and at the five before it, and by the two bytes
--- before it. The six bytes of a surrogate pair become four, and C0 80 in MUTF-8 becomes 00.
+-- What a byte becomes, by the widths at its position and at the five before it, and by the two
+-- bytes before it. The six bytes of a surrogate pair become four, and C0 80 in MUTF-8 becomes 00.
 unfoldable pub decoded_byte : (w0 w1 w2 w3 w4 w5 two_before before b : ℕ) → List ℕ
 decoded_byte w0 w1 w2 w3 w4 w5 two_before before b =
     if w0 == 6 then []
@@ -75,7 +75,7 @@ decoded_byte w0 w1 w2 w3 w4 w5 two_before before b =
     else if w1 == 2 && before == 0xC0 then 0 ∷ []
     else kept w0 w1 w2 b
 
--- What the byte of a window becomes that stands behind i bytes and five more.
+-- What the byte of a window becomes that follows the first i bytes and five more.
 abbrev pub decoded_at : Flavor → List ℕ → ℕ → List ℕ
 decoded_at f window i =
     decoded_byte (width_at f window (i + 5)) (width_at f window (i + 4)) (width_at f window (i + 3)) (width_at f window (i + 2))
@@ -85,37 +85,37 @@ decoded_at f window i =
 unfoldable pub decoded : Flavor → List ℕ → ℕ → ℕ → List ℕ
 decoded f window i n = flat_map (decoded_at f window) (range_with_len i n)
 
--- A window on all of the bytes: five zeros, the bytes, and zeros behind them.
+-- A window on all of the bytes: five zeros, the bytes, and zeros.
 abbrev pub IsPadded : List ℕ → List ℕ → Type 0
 IsPadded bytes window = (k : ℕ) → slice_index window k ≡ slice_index (0 ∷ 0 ∷ 0 ∷ 0 ∷ 0 ∷ bytes) k
 
--- One on the first n of them and five more: what begins before n is told by these.
+-- A window on the first n of them and five more, which decide what begins before n.
 abbrev pub IsPaddedFor : ℕ → List ℕ → List ℕ → Type 0
 IsPaddedFor n bytes window =
     (k : ℕ) → k < n + 10 → slice_index window k ≡ slice_index (0 ∷ 0 ∷ 0 ∷ 0 ∷ 0 ∷ bytes) k
 
--- No encoded character covers a byte, by the widths at its place and at the five before it.
+-- No encoded character covers a byte, by the widths at its position and at the five before it.
 abbrev pub damaged_by : (w0 w1 w2 w3 w4 w5 : ℕ) → Bool
 damaged_by w0 w1 w2 w3 w4 w5 =
     not (nat_le 1 w0 || (nat_le 2 w1 || (nat_le 3 w2 || (w3 == 6 || (w4 == 6 || w5 == 6)))))
 
--- The same for the byte of a window that stands behind i bytes and five more.
+-- The same for the byte of a window that follows the first i bytes and five more.
 abbrev pub is_damaged_at : Flavor → List ℕ → ℕ → Bool
 is_damaged_at f window i =
     damaged_by (width_at f window (i + 5)) (width_at f window (i + 4)) (width_at f window (i + 3)) (width_at f window (i + 2))
     (width_at f window (i + 1)) (width_at f window i)
 
--- No encoded character reaches over a border from the five places before it, by their widths.
+-- No encoded character crosses a border from the five positions before it, by their widths.
 abbrev pub border_by : (w1 w2 w3 w4 w5 : ℕ) → Bool
 border_by w1 w2 w3 w4 w5 = nat_le w1 1 && (nat_le w2 2 && (nat_le w3 3 && (nat_le w4 4 && nat_le w5 5)))
 
--- The border before the byte of a window that stands behind i bytes and five more.
+-- The border before the byte of a window that follows the first i bytes and five more.
 abbrev pub is_border_at : Flavor → List ℕ → ℕ → Bool
 is_border_at f window i =
     border_by (width_at f window (i + 4)) (width_at f window (i + 3)) (width_at f window (i + 2)) (width_at f window (i + 1)) (width_at f window i)
 
--- How many bytes a place saves: three times the bytes of the character that begins there, less those of
--- its UTF-8. A damaged byte saves none.
+-- How many bytes a position saves: three times the bytes of the character that begins there, less
+-- those of its UTF-8. A damaged byte saves none.
 abbrev pub saved : ℕ → ℕ → ℕ
 saved w b =
     if w == 1 then 2
@@ -124,12 +124,12 @@ saved w b =
     else if w == 6 then 14
     else 0
 
--- What all places save,
+-- What all positions save,
 unfoldable pub all_saved : Flavor → List ℕ → ℕ
 all_saved f [] = 0
 all_saved f (b ∷ bytes) = saved (front_width f (b ∷ bytes)) b + all_saved f bytes
 
--- and what n places save, from place i of a window on.
+-- and what n positions save, from position i of a window on.
 unfoldable pub saved_between : Flavor → List ℕ → ℕ → ℕ → ℕ
 saved_between f window i zero = 0
 saved_between f window i (suc n) = saved (width_at f window i) (slice_index window i) + saved_between f window (i + 1) n

@@ -1,5 +1,5 @@
--- What encoding makes of each byte of UTF-8, from the byte and its neighbours alone: the two before it
--- and the one after it. Every list of bytes is taken, with zeros around it.
+-- What encoding makes of each byte of UTF-8, from the byte and its neighbours alone: the two before
+-- it and the one after it. This is defined for every list of bytes, with zeros around it.
 use Rattle.std.specs.Prelude.{ℕ, zero, suc, ◌+◌, ◌-◌, ◌*◌, ◌/◌, ◌%◌, Bool, false, ◌||◌, ◌==◌, nat_le, if◌then◌else◌, ◌≡◌, ◌<◌, ◌≤◌, List, [], ◌∷◌, ◌++◌, length, take, slice_index, slice_index_or, map, replicate, bit_and, bit_or}
 use Rattle.std.specs.List.{flat_map, range_with_len}
 use Rattle.std.specs.Simd.Lanes.{mask_l}
@@ -14,8 +14,8 @@ abbrev pub is_null : Flavor → ℕ → Bool
 is_null Cesu8 b = false
 is_null Mutf8 b = b == 0
 
--- Two bytes are written for the first byte of four, the third, and the null of MUTF-8, and for every
--- other byte one.
+-- The first byte of four, the third, and the null of MUTF-8 become two bytes, and every other byte
+-- becomes one.
 abbrev pub is_doubled : Flavor → ℕ → ℕ → Bool
 is_doubled f two_before b = (is_lead b || is_lead two_before) || is_null f b
 
@@ -35,7 +35,7 @@ changed f two_before before b next =
     then (six_bits b next + (if is_lead b then 0x9F else 0x80)) % 0x100
     else bit_or (bit_or b (if is_lead two_before then 0x30 else 0)) (if is_null f b then 0x80 else 0)
 
--- a lane of all ones where a test holds, and else of zeros
+-- A lane of all ones if a test holds, and otherwise zeros.
 abbrev pub mask : Bool → ℕ
 mask t = if t then 0xFF else 0
 
@@ -46,7 +46,7 @@ place f two_before before b next =
     then inserted f b ∷ changed f two_before before b next ∷ []
     else changed f two_before before b next ∷ []
 
--- The same for the byte of a window that stands behind i bytes and two more.
+-- The same for the byte of a window that follows the first i bytes and two more.
 abbrev pub inserted_at : Flavor → List ℕ → ℕ → ℕ
 inserted_at f window i = inserted f (slice_index window (i + 2))
 
@@ -69,11 +69,11 @@ places f window i n = flat_map (place_at f window) (range_with_len i n)
 abbrev pub recoded : Flavor → List ℕ → List ℕ
 recoded f bytes = places f (0 ∷ 0 ∷ bytes) 0 (length bytes)
 
--- What is written for the first n bytes of a text stands in a slice, up to an end.
+-- A slice has, up to an end, what is written for the first n bytes of a text.
 abbrev pub IsWritten : Flavor → List ℕ → ℕ → List ℕ → ℕ → Type 0
 IsWritten f bytes n out end = (take end out ≡ places f (0 ∷ 0 ∷ bytes) 0 n) × (end ≤ length out)
 
--- What is written for bytes in a row: for each the second byte, and the first before that where its
+-- What is written for bytes in a row: for each the second byte, and the first before that if its
 -- test holds.
 abbrev pub packed : List Bool → List ℕ → List ℕ → List ℕ
 packed [] firsts seconds = []
@@ -81,15 +81,15 @@ packed (t ∷ ts) [] seconds = []
 packed (t ∷ ts) (a ∷ firsts) [] = []
 packed (t ∷ ts) (a ∷ firsts) (b ∷ seconds) = if t then a ∷ b ∷ packed ts firsts seconds else b ∷ packed ts firsts seconds
 
--- The lanes that packing keeps of a vector of eight seconds and eight firsts, from second i on, for n
--- bytes. Bit i of the number says whether the test of byte i holds.
+-- The lanes that packing keeps of a vector of eight seconds and eight firsts, from second i on, for
+-- n bytes. Bit i of the number is set if the test of byte i holds.
 abbrev pub kept_lanes : ℕ → ℕ → ℕ → List ℕ
 kept_lanes doubled i zero = []
 kept_lanes doubled i (suc n) =
     if doubled % 2 == 1 then (8 + i) ∷ i ∷ kept_lanes (doubled / 2) (i + 1) n
     else i ∷ kept_lanes (doubled / 2) (i + 1) n
 
--- The same as a shuffle of sixteen lanes, of which the last are of no use.
+-- The same as a shuffle of sixteen lanes, of which the last are not used.
 abbrev pub shuffle_of : ℕ → List ℕ
 shuffle_of doubled =
     let kept = kept_lanes doubled 0 8 in kept ++ replicate (16 - length kept) 0
@@ -98,8 +98,9 @@ shuffle_of doubled =
 abbrev pub AreShuffles : List (List ℕ) → Type 0
 AreShuffles rows = (doubled : ℕ) → doubled < 0x100 → slice_index_or rows doubled [] ≡ shuffle_of doubled
 
--- The lanes of the block behind the first i bytes of a window, and two more: what is written last for
--- each byte, what is written before that where the byte becomes two, and a bit for each that does.
+-- The lanes of the block that follows the first i bytes of a window, and two more. They are: the
+-- last byte that is written for each, the one before that if the byte becomes two, and a bit for
+-- each that does.
 pub record AreLanes (f : Flavor) (window : List ℕ) (i : ℕ) (seconds firsts : List ℕ) (doubled : ℕ) : Type 0 where
   pub seconds_are : seconds ≡ map (changed_at f window) (range_with_len i 32)
   pub firsts_are : firsts ≡ map (inserted_at f window) (range_with_len i 32)

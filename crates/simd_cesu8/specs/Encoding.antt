@@ -1,9 +1,10 @@
--- CESU-8 and Modified UTF-8 (MUTF-8): each UTF-16 code unit by itself, as UTF-8 would write a number.
+-- CESU-8 and Modified UTF-8 (MUTF-8): each UTF-16 code unit separately, as UTF-8 would write a
+-- number.
 use Rattle.std.specs.Prelude.{◌≡◌, ℕ, ◌+◌, ◌/◌, ◌%◌, ◌≤◌, ◌⊎◌, nat_lt, ◌==◌, if◌then◌else◌, List, [], ◌∷◌, Any}
 use Rattle.std.specs.List.{flat_map}
 use Rattle.simd_cesu8.specs.Utf16.{units}
 
--- CESU-8 is that of Unicode Technical Report 26, MUTF-8 that of Java's DataInput.
+-- CESU-8 is the one of Unicode Technical Report 26, MUTF-8 the one of Java's DataInput.
 pub data Flavor : Type 0 where
   Cesu8 : Flavor
   Mutf8 : Flavor
@@ -25,7 +26,7 @@ form f u =
 unfoldable pub encoding : Flavor → List ℕ → List ℕ
 encoding f text = flat_map (form f) (units text)
 
--- A scalar value that is encoded otherwise than in UTF-8: one from 10000 (hexadecimal) on, and in
+-- A scalar value that is encoded otherwise than in UTF-8: 10000 (hexadecimal) or more, and in
 -- MUTF-8 also 0.
 abbrev pub IsEncodedOtherwise : Flavor → ℕ → Type 0
 IsEncodedOtherwise Cesu8 c = 0x10000 ≤ c

@@ -1,4 +1,4 @@
--- What the contracts of the crate's inner functions cite.
+-- Definitions for the contracts of the crate's inner functions.
 use Rattle.std.specs.Prelude.{◌≡◌, ℕ, ◌+◌, ◌*◌, ◌<◌, ◌≤◌, Bool, false, List}
 use Rattle.simd_cesu8.specs.Text.{IsText}
 use Rattle.simd_cesu8.specs.Reading.{reading}
@@ -6,12 +6,12 @@ use Rattle.simd_cesu8.specs.Encoding.{Flavor, Cesu8, Mutf8, encoding}
 use Rattle.simd_cesu8.specs.declared.internal.Flavor.{Flavor as FlavorOption}
 use Rattle.simd_cesu8.specs.declared.internal.Flavor.TheVariants as options
 
--- The flavor that the code's value names.
+-- The flavor of the code's value.
 abbrev pub flavor_of : FlavorOption → Flavor
 flavor_of options.Cesu8 = Cesu8
 flavor_of options.Mutf8 = Mutf8
 
--- The text of the bytes: it is the lossy reading, and in strict reading they are its encoding.
+-- The text of the bytes: it is the lossy reading, and in strict reading the bytes are its encoding.
 abbrev pub IsDecodedText : Flavor → Bool → List ℕ → List ℕ → Type 0
 IsDecodedText f lossy bytes text =
     IsText text × (text ≡ reading f bytes) × (lossy ≡ false → encoding f text ≡ bytes)

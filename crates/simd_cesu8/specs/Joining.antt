@@ -1,4 +1,5 @@
--- Bytes that are joined: their surrogate pairs, and C0 80 in MUTF-8, become UTF-8, and the others stay.
+-- Bytes that are joined: their surrogate pairs, and C0 80 in MUTF-8, become UTF-8, and the others
+-- stay.
 use Rattle.std.specs.Prelude.{◌≡◌, ℕ, ◌+◌, ◌*◌, ◌<◌, ◌≤◌, List, [], ◌∷◌, ◌++◌, length, slice_index, replicate}
 use Rattle.std.specs.List.{flat_map}
 use Rattle.simd_cesu8.specs.Text.{IsScalarValue, utf8_of}
@@ -19,7 +20,7 @@ abbrev pub AreParts : Flavor → List Part → Type 0
 AreParts f [] = Unit {0}
 AreParts f (part ∷ parts) = IsPart f part × AreParts f parts
 
--- What it is before it is joined, and after.
+-- The part before it is joined, and after.
 abbrev pub encoded_part : Flavor → Part → List ℕ
 encoded_part f (Stays b) = b ∷ []
 encoded_part f (Changes c) = encoding f (c ∷ [])
@@ -35,19 +36,19 @@ pub record IsJoined (f : Flavor) (bytes out : List ℕ) : Type 0 where
   pub bytes_are : bytes ≡ flat_map (encoded_part f) parts
   pub out_is : out ≡ flat_map utf8_part parts
 
--- Of the bytes those before rest are joined to out.
+-- The bytes before rest are joined to out.
 pub record IsJoinedSoFar (f : Flavor) (bytes rest out : List ℕ) : Type 0 where
   pub front : List ℕ
   pub bytes_are : bytes ≡ front ++ rest
   pub joined : IsJoined f front out
 
--- What is joined to out before the one rest is joined to new before the other.
+-- If the bytes before `rest` are joined to `out`, those before `after` are joined to `new`.
 abbrev pub KeepsJoined : Flavor → List ℕ → List ℕ → List ℕ → List ℕ → Type 0
 KeepsJoined f rest out after new =
     (bytes : List ℕ) → IsJoinedSoFar f bytes rest out → IsJoinedSoFar f bytes after new
 
--- How far a step of joining goes: never back, past stop by the end of a pair at most, and what is
--- written is no longer than what was read.
+-- The bounds of a step of joining. It never goes back, and beyond stop only to the end of a pair.
+-- It never writes more than it reads.
 pub record IsJoinedAfter (rest after : List ℕ) (written new stop : ℕ) : Type 0 where
   pub shorter : length after ≤ length rest
   pub past : stop ≤ length after + 6

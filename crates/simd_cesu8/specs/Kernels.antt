@@ -1,4 +1,4 @@
--- What the kernels' parts ask and promise, for every class of bytes at once.
+-- What the parts of the kernels require and promise, for every class of bytes.
 use Rattle.std.specs.Prelude.{ℕ, Bool, IsTrue, ◌<◌, ◌^◌, ◌↔◌, List, length, Any}
 use Rattle.std.specs.Int.{to_le_bytes, w64}
 use Rattle.std.specs.Borrow.{Bor}
@@ -14,7 +14,7 @@ abbrev pub MayTest : (ℕ → Type 0) → {F : Type 0} → Shared F (Bor (List �
 MayTest lengths g test =
     (bytes : Bor (List ℕ)) → lengths (length bytes.now) → g.pre test (bytes, tt)
 
--- What it answers there is whether some byte is in the class.
+-- It returns whether some byte is in the class.
 abbrev pub Finds : (ℕ → Type 0) → {F : Type 0} → Shared F (Bor (List ℕ) × Unit {0}) Bool → F →
     (ℕ → Bool) → Type 0
 Finds lengths g test class = (bytes : Bor (List ℕ)) (result : Bool) → lengths (length bytes.now)
@@ -24,7 +24,7 @@ Finds lengths g test class = (bytes : Bor (List ℕ)) (result : Bool) → length
 abbrev pub MayTestWords : {T : Type 0} → Shared T (ℕ × Unit {0}) Bool → T → Type 0
 MayTestWords g test = (word : ℕ) → word < 2 ^ 64 → g.pre test (word, tt)
 
--- What it answers there is whether some byte of the word is in the class.
+-- It returns whether some byte of the word is in the class.
 abbrev pub FindsInWords : {T : Type 0} → Shared T (ℕ × Unit {0}) Bool → T → (ℕ → Bool) → Type 0
 FindsInWords g test class = (word : ℕ) (result : Bool) → word < 2 ^ 64
     → g.post test (word, tt) result → IsTrue result ↔ AnyIn class (to_le_bytes w64 word)

@@ -11,7 +11,8 @@ use Rattle.simd_cesu8.specs.Reading.{IsStrictReading, HasNoStrictReading, Stands
 use Rattle.simd_cesu8.specs.Cutting.{Piece, IsCutting, IsGreedy, text_of, cost}
 use Rattle.simd_cesu8.specs.Order.{IsBelow, ExactlyOne, ComparesAs}
 
--- The strict reading of an encoding is the text, and no other; texts with equal encodings are equal.
+-- The strict reading of an encoding is the text, and no other. Texts with equal encodings are
+-- equal.
 abbrev pub RoundTrip : Type 0
 RoundTrip = (f : Flavor) (text : List ℕ) → IsText text →
     IsStrictReading f (encoding f text) text
@@ -30,17 +31,17 @@ CharsInUtf8 = (string : List ℕ) → IsUtf8 string → utf8 (chars string) ≡ 
 abbrev pub SameBytes : Type 0
 SameBytes = (string other : List ℕ) → IsUtf8 string → IsUtf8 other → chars string ≡ chars other → string ≡ other
 
--- Strictly decoded, the encoding of a string gives back the string,
+-- The strict reading of the encoding of a string is the string,
 abbrev pub DecodedBack : Type 0
 DecodedBack = (f : Flavor) (string bytes back : List ℕ) → IsUtf8 string → IsUtf8 back →
     bytes ≡ encoding f (chars string) → IsStrictReading f bytes (chars back) → back ≡ string
 
--- and is never refused.
+-- and there always is one.
 abbrev pub NotRefused : Type 0
 NotRefused = (f : Flavor) (string bytes : List ℕ) → IsUtf8 string →
     bytes ≡ encoding f (chars string) → ¬ (HasNoStrictReading f bytes)
 
--- Encoded, what was strictly decoded gives back the bytes.
+-- The encoding of a strict reading is the original bytes.
 abbrev pub EncodedBack : Type 0
 EncodedBack = (f : Flavor) (bytes string back : List ℕ) →
     IsStrictReading f bytes (chars string) → back ≡ encoding f (chars string) → back ≡ bytes
@@ -53,16 +54,16 @@ Concat = (f : Flavor) (s t : List ℕ) → encoding f (s ++ t) ≡ encoding f s 
 abbrev pub SameText : Type 0
 SameText = (f : Flavor) (bytes text other : List ℕ) → IsUtf8Of text bytes → IsStrictReading f bytes other → text ≡ other
 
--- Nothing needs encoding exactly where the encoding is the UTF-8.
+-- A text needs no encoding exactly where its encoding is its UTF-8.
 abbrev pub Needs : Type 0
 Needs = (f : Flavor) (text : List ℕ) → IsText text → (¬ (NeedsEncoding f text)) ↔ (encoding f text ≡ utf8 text)
 
--- And exactly where the encoding is UTF-8 without a byte of the class.
+-- And exactly where its encoding is UTF-8 without a byte of the class.
 abbrev pub UnchangedEncoding : Type 0
 UnchangedEncoding = (f : Flavor) (text : List ℕ) → IsText text →
     (¬ (NeedsEncoding f text)) ↔ IsUnchangedUtf8 f (encoding f text)
 
--- So it is told from the bytes of a string.
+-- So the bytes of a string decide it.
 abbrev pub UnchangedString : Type 0
 UnchangedString = (f : Flavor) (string : List ℕ) → IsUtf8 string →
     (¬ (NeedsEncoding f (chars string))) ↔ IsUnchangedUtf8 f string
@@ -93,12 +94,12 @@ LossyBound = (f : Flavor) (bytes : List ℕ) → length (utf8 (reading f bytes))
 abbrev pub Bounds : Type 0
 Bounds = EncodingBound × StrictBound × CuttingBound × LossyBound
 
--- The stretches of the characters at any two places, the same place included, are equal or disjoint.
+-- The stretches of the characters at any two positions, which may be equal, are equal or disjoint.
 abbrev pub NoOverlap : Type 0
 NoOverlap = (f : Flavor) (bytes : List ℕ) (i j c d : ℕ) → StandsAt f bytes i c → StandsAt f bytes j d →
     ((i ≡ j) × (c ≡ d)) ⊎ ((i + width f c ≤ j) ⊎ (j + width f d ≤ i))
 
--- A place has one mark, and the function `mark` computes it.
+-- A position has one mark, and the function `mark` computes it.
 abbrev pub OneMark : Type 0
 OneMark = (f : Flavor) (bytes : List ℕ) (i : ℕ) →
     IsMark f bytes i (mark f bytes i) × ((other : List ℕ) → IsMark f bytes i other → other ≡ mark f bytes i)
@@ -113,8 +114,8 @@ abbrev pub HasGreedyCutting : Type 0
 HasGreedyCutting = (f : Flavor) (bytes : List ℕ) →
     (pieces : List Piece) × IsCutting f bytes pieces × IsGreedy f pieces
 
--- Bytes have a cutting that is greedy, whose text is the lossy reading, and every other cutting of
--- them is it or costs more.
+-- Bytes have a greedy cutting, whose text is the lossy reading. Every other cutting of them costs
+-- more.
 abbrev pub Fewest : Type 0
 Fewest = (f : Flavor) (bytes : List ℕ) → (pieces : List Piece) ×
     IsCutting f bytes pieces × IsGreedy f pieces × (text_of pieces ≡ reading f bytes)
@@ -124,19 +125,19 @@ Fewest = (f : Flavor) (bytes : List ℕ) → (pieces : List Piece) ×
 abbrev pub ReadingIsText : Type 0
 ReadingIsText = (f : Flavor) (bytes : List ℕ) → IsText (reading f bytes)
 
--- that of an encoding is the text that was encoded,
+-- that of an encoding is the encoded text,
 abbrev pub ReadingOfEncoding : Type 0
 ReadingOfEncoding = (f : Flavor) (text : List ℕ) → IsText text → reading f (encoding f text) ≡ text
 
--- so what was read is, encoded, read as itself.
+-- so a lossy reading that is encoded and read again stays the same.
 abbrev pub ReadAgain : Type 0
 ReadAgain = (f : Flavor) (bytes : List ℕ) → reading f (encoding f (reading f bytes)) ≡ reading f bytes
 
--- Where bytes have a strict reading, the lossy reading is it.
+-- If bytes have a strict reading, it is the lossy reading.
 abbrev pub LossyIsStrict : Type 0
 LossyIsStrict = (f : Flavor) (bytes text : List ℕ) → IsStrictReading f bytes text → reading f bytes ≡ text
 
--- They have one where the lossy reading holds no U+FFFD. (One that it holds may also be encoded in the bytes.)
+-- They have one if the lossy reading has no U+FFFD. (A U+FFFD may also be encoded in the bytes.)
 abbrev pub NothingReplaced : Type 0
 NothingReplaced = (f : Flavor) (bytes : List ℕ) → All (λ c. c ≢ 0xFFFD) (reading f bytes) →
     IsStrictReading f bytes (reading f bytes)
@@ -146,14 +147,14 @@ abbrev pub NoneCrosses : Flavor → List ℕ → List ℕ → Type 0
 NoneCrosses f front back =
     (i c : ℕ) → StandsAt f (front ++ back) i c → i < length front → i + width f c ≤ length front
 
--- The lossy reading of a and then b is that of a and then that of b exactly where no encoded character
--- begins in a and ends in b.
+-- The lossy reading of a ++ b is that of a ++ that of b exactly where no encoded character begins
+-- in a and ends in b.
 abbrev pub Split : Type 0
 Split = (f : Flavor) (a b : List ℕ) →
     (reading f (a ++ b) ≡ reading f a ++ reading f b) ↔ NoneCrosses f a b
 
--- The condition is needed: the two halves of a surrogate pair are damage by themselves, and joined they
--- are U+1F496.
+-- The condition is needed: the two halves of a surrogate pair are damage when apart, and U+1F496
+-- when joined.
 abbrev pub HalvesJoin : Type 0
 HalvesJoin = (f : Flavor) →
     let high = 0xED ∷ 0xA0 ∷ 0xBD ∷ [] in
@@ -166,21 +167,21 @@ abbrev pub Around : Type 0
 Around = (f : Flavor) (s w t : List ℕ) → IsText s → IsText t →
     reading f (encoding f s ++ w ++ encoding f t) ≡ s ++ reading f w ++ t
 
--- The lossy reading of bytes a, an encoded text t that is not empty and bytes b is that of a, t, and
--- that of b.
+-- The lossy reading of bytes a, a nonempty encoded text t and bytes b is that of a, t, and that of
+-- b.
 abbrev pub Middle : Type 0
 Middle = (f : Flavor) (a t b : List ℕ) → IsText t → t ≢ [] →
     reading f (a ++ encoding f t ++ b) ≡ reading f a ++ t ++ reading f b
 
--- Of two lists the first is below, or they are equal, or the first is above, and only one of these.
+-- Of two lists exactly one holds: the first is below, they are equal, or the first is above.
 abbrev pub Trichotomy : Type 0
 Trichotomy = (xs ys : List ℕ) → ExactlyOne (IsBelow xs ys) (xs ≡ ys) (IsBelow ys xs)
 
--- What is below something is below all that this is below.
+-- If one list is below a second, and this below a third, the first is below the third.
 abbrev pub Transitivity : Type 0
 Transitivity = (xs ys zs : List ℕ) → IsBelow xs ys → IsBelow ys zs → IsBelow xs zs
 
--- What std answers to `cmp` of two slices of numbers is their dictionary order.
+-- In std, `cmp` of two slices of numbers returns their dictionary order.
 abbrev pub SliceOrder : Type 0
 SliceOrder = (xs ys : List ℕ) →
     MatchOrdering (slice_cmp nat_cmp xs ys) (IsBelow xs ys) (xs ≡ ys) (IsBelow ys xs)
@@ -190,12 +191,12 @@ abbrev pub OrderInCesu8 : Type 0
 OrderInCesu8 = (s t : List ℕ) → IsText s → IsText t →
     ComparesAs (encoding Cesu8 s) (encoding Cesu8 t) (units s) (units t)
 
--- In MUTF-8 they do where neither text holds U+0000.
+-- In MUTF-8 they do if neither text has U+0000.
 abbrev pub OrderInMutf8 : Type 0
 OrderInMutf8 = (s t : List ℕ) → IsText s → IsText t → All (λ c. c ≢ 0) s → All (λ c. c ≢ 0) t →
     ComparesAs (encoding Mutf8 s) (encoding Mutf8 t) (units s) (units t)
 
--- And not for all texts: U+0000 has the code unit below that of "A", and the encoding above.
+-- But not for all texts: U+0000 has the code unit below that of "A", and the encoding above.
 abbrev pub NullOutOfOrder : Type 0
 NullOutOfOrder =
     IsBelow (units (0x0 ∷ [])) (units (0x41 ∷ []))

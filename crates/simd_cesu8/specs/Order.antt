@@ -1,8 +1,8 @@
 -- Dictionary order of lists of numbers.
 use Rattle.std.specs.Prelude.{◌≡◌, ℕ, ◌<◌, ◌⊎◌, ◌↔◌, List, [], ◌∷◌, ⊤}
 
--- One list is below another where it is a proper beginning of it, or where at the first place at which
--- they differ its number is the smaller. (UTR 26, "binary collation")
+-- One list is below another if it is a proper prefix of it, or if its number is smaller at the
+-- first position where they differ. (UTR 26, "binary collation")
 abbrev pub IsBelow : List ℕ → List ℕ → Type 0
 IsBelow [] [] = ⊥
 IsBelow [] (y ∷ ys) = ⊤

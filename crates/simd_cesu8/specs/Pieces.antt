@@ -16,8 +16,7 @@ pub record IsReadSoFar (f : Flavor) (lossy : Bool) (bytes rest old new : List �
 abbrev pub IsPiece : Flavor → Bool → List ℕ → List ℕ → List ℕ → Type 0
 IsPiece f lossy bytes rest piece = IsReadSoFar f lossy bytes rest [] piece
 
--- The same where it is written into a slice, up to end behind what stands before start. What follows
--- stays as it was.
+-- The same for a slice: the piece is written from start to end, and the bytes after it stay.
 pub record IsWrittenSoFar (f : Flavor) (bytes rest : List ℕ) (start end : ℕ) (old new : List ℕ) : Type 0 where
   pub so_far : IsReadSoFar f true bytes rest (take start old) (take end new)
   pub forward : start ≤ end
@@ -25,7 +24,7 @@ pub record IsWrittenSoFar (f : Flavor) (bytes rest : List ℕ) (start end : ℕ)
   pub behind : drop end new ≡ drop end old
   pub len : length new ≡ length old
 
--- After some text no encoded character begins what is left.
+-- After some text no encoded character begins the bytes that are left.
 pub record HasFault (f : Flavor) (bytes : List ℕ) : Type 0 where
   pub rest : List ℕ
   pub piece : List ℕ

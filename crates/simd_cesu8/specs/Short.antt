@@ -1,10 +1,10 @@
--- The classes of bytes that short values are looked through for.
+-- The classes of bytes that are searched for in short values.
 use Rattle.std.specs.Prelude.{ℕ, Bool}
 use Rattle.simd_cesu8.specs.Class.{is_four, is_null_four, is_high, is_null_high}
 use Rattle.simd_cesu8.specs.declared.implementation.short.ByteClass.{ByteClass}
 use Rattle.simd_cesu8.specs.declared.implementation.short.ByteClass.TheVariants as options
 
--- The class that the code's value names.
+-- The class of the code's value.
 abbrev pub class_of : ByteClass → ℕ → Bool
 class_of options.Four = is_four
 class_of options.NullFour = is_null_four

@@ -1,4 +1,4 @@
-//! The calls over either flavor: each borrows where no byte changes, and builds elsewhere.
+//! The calls for both flavors: each borrows if no byte changes, and builds otherwise.
 
 ghost use Rattle.std.specs.Prelude.{◌≡◌, ◌≤◌, ◌+◌, ◌*◌, ◌++◌, [], ◌↔◌, length, IfSome, IfNone, IsTrue, IsUtf8, Any, MatchResult, ◌<◌, OnOk, OnErr, IsOk, vec_len, vec_capacity};
 ghost use Rattle.std.specs.Str.{chars};
@@ -41,13 +41,13 @@ pub fn encode(alloc: Global, flavor: Flavor, value: &str) -> Result<CowBytes<'_>
     Ok(CowBytes::Owned(encoded))
 }
 
-/// How many bytes are tested first, where there are many more.
+/// How many bytes of a longer input are tested first.
 const FRONT: usize = 512;
 
-/// The bytes as a text, where they are UTF-8, and else the empty text, which no such bytes have.
-/// Where they are not, their front mostly shows it, and the others are not tested.
+/// Returns the bytes as a text if they are UTF-8, and otherwise the empty text, which no such bytes
+/// have. If they are not UTF-8, the front mostly shows it, and the rest is not tested.
 ///
-/// A text comes back in registers, where a `Result` with it would go through memory.
+/// A text is returned in registers; a `Result` with it would be returned through memory.
 #[inline(always)]
 pub fn whole_text(bytes: &[u8]) -> &str
     ensures whole { length result.now ≡ length bytes.now
@@ -63,7 +63,7 @@ pub fn whole_text(bytes: &[u8]) -> &str
     }
 }
 
-/// Whether the front of the bytes is UTF-8, up to the start of a character.
+/// Returns whether the front of the bytes is UTF-8, up to the start of a character.
 fn has_utf8_front(bytes: &[u8]) -> bool
     requires { FRONT < length bytes.now }
     ensures { IsUtf8 bytes.now → IsTrue result }
@@ -75,7 +75,7 @@ fn has_utf8_front(bytes: &[u8]) -> bool
     }
 }
 
-/// The same for UTF-8 without a byte that is written otherwise.
+/// The same for UTF-8 without a byte that changes.
 #[inline(always)]
 pub fn unchanged_text(flavor: Flavor, bytes: &[u8]) -> &str
     ensures whole { length result.now ≡ length bytes.now
@@ -109,8 +109,8 @@ pub fn decode_strict(
     decode_strict_other(alloc, flavor, bytes)
 }
 
-/// The same for bytes that are not short ASCII. It is never inlined, so that the look for these
-/// stays small.
+/// The same for bytes that are not short ASCII. It is never inlined, so that the test for short
+/// ASCII stays small.
 #[inline(never)]
 fn decode_strict_other(
     alloc: Global,
@@ -152,8 +152,8 @@ pub fn decode(alloc: Global, flavor: Flavor, bytes: &[u8]) -> Result<CowText<'_>
     decode_other(alloc, flavor, bytes)
 }
 
-/// The same for bytes that are not short ASCII. It is never inlined, so that the look for these
-/// stays small.
+/// The same for bytes that are not short ASCII. It is never inlined, so that the test for short
+/// ASCII stays small.
 #[inline(never)]
 fn decode_other(alloc: Global, flavor: Flavor, bytes: &[u8]) -> Result<CowText<'_>, DecodeFault>
     ensures text { IfText result (IsLenientReading (flavor_of flavor) bytes.now) }
@@ -191,8 +191,8 @@ pub fn decode_lossy_strict(
     decode_lossy_strict_other(alloc, flavor, bytes)
 }
 
-/// The same for bytes that are not short ASCII. It is never inlined, so that the look for these
-/// stays small.
+/// The same for bytes that are not short ASCII. It is never inlined, so that the test for short
+/// ASCII stays small.
 #[inline(never)]
 fn decode_lossy_strict_other(
     alloc: Global,
@@ -229,8 +229,8 @@ pub fn decode_lossy(alloc: Global, flavor: Flavor, bytes: &[u8]) -> Result<CowTe
     decode_lossy_other(alloc, flavor, bytes)
 }
 
-/// The same for bytes that are not short ASCII. It is never inlined, so that the look for these
-/// stays small.
+/// The same for bytes that are not short ASCII. It is never inlined, so that the test for short
+/// ASCII stays small.
 #[inline(never)]
 fn decode_lossy_other(
     alloc: Global,

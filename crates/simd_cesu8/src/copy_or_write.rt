@@ -1,5 +1,5 @@
-//! The calls over either flavor into a caller's buffer: each copies where no byte changes, and
-//! writes elsewhere.
+//! The calls for both flavors into a caller's buffer: each copies if no byte changes, and writes
+//! otherwise.
 
 ghost use Rattle.std.specs.Prelude.{◌≡◌};
 ghost use Rattle.std.specs.Str.{chars};
@@ -40,8 +40,8 @@ pub fn decode_strict_to_slice(
     decode_strict_to_slice_other(flavor, bytes, buf)
 }
 
-/// The same for bytes that are not short ASCII. It is never inlined, so that the look for these
-/// stays small.
+/// The same for bytes that are not short ASCII. It is never inlined, so that the test for short
+/// ASCII stays small.
 #[inline(never)]
 fn decode_strict_to_slice_other(
     flavor: Flavor,
@@ -76,8 +76,8 @@ pub fn decode_to_slice(
     decode_to_slice_other(flavor, bytes, buf)
 }
 
-/// The same for bytes that are not short ASCII. It is never inlined, so that the look for these
-/// stays small.
+/// The same for bytes that are not short ASCII. It is never inlined, so that the test for short
+/// ASCII stays small.
 #[inline(never)]
 fn decode_to_slice_other(
     flavor: Flavor,
@@ -108,8 +108,8 @@ pub fn decode_lossy_strict_to_slice(
     decode_lossy_strict_to_slice_other(flavor, bytes, buf)
 }
 
-/// The same for bytes that are not short ASCII. It is never inlined, so that the look for these
-/// stays small.
+/// The same for bytes that are not short ASCII. It is never inlined, so that the test for short
+/// ASCII stays small.
 #[inline(never)]
 fn decode_lossy_strict_to_slice_other(
     flavor: Flavor,
@@ -140,8 +140,8 @@ pub fn decode_lossy_to_slice(
     decode_lossy_to_slice_other(flavor, bytes, buf)
 }
 
-/// The same for bytes that are not short ASCII. It is never inlined, so that the look for these
-/// stays small.
+/// The same for bytes that are not short ASCII. It is never inlined, so that the test for short
+/// ASCII stays small.
 #[inline(never)]
 fn decode_lossy_to_slice_other(
     flavor: Flavor,

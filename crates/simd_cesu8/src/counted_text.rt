@@ -1,4 +1,4 @@
-//! A text whose encoding was counted, for formats that write the length in front.
+//! A text with the length of its encoding, for formats that write the length in front.
 
 ghost use Rattle.std.specs.Prelude.{◌≡◌, length};
 ghost use Rattle.std.specs.Str.{chars};
@@ -10,8 +10,8 @@ use crate::internal;
 use crate::internal::Flavor;
 use std::alloc::AllocError;
 
-/// A text, and how long its encoding is. Who writes that length in front of the encoding has it
-/// counted once: [`encoded_len`](CountedText::encoded_len) tells it, and
+/// A text with the length of its encoding, for formats that write the length in front. The text is
+/// counted once: [`encoded_len`](CountedText::encoded_len) returns the length, and
 /// [`encode_into`](CountedText::encode_into) does not count again.
 ///
 /// ```rust
@@ -40,7 +40,7 @@ impl<'a> CountedText<'a> {
     pub(crate) fn new(flavor: Flavor, text: &'a str) -> CountedText<'a>
         ensures { counted_encoding result ≡ encoding (flavor_of flavor) (chars text.now) }
     {
-        // Whether a character changes is seen sooner than how many do.
+        // It is faster to test whether a character changes than to count how many do.
         if !needs_encoded(flavor, text) {
             let len = text.len();
             return CountedText { flavor, text, len };
@@ -49,7 +49,7 @@ impl<'a> CountedText<'a> {
         CountedText { flavor, text, len }
     }
 
-    /// The length of the encoding, in bytes.
+    /// Returns the length of the encoding, in bytes.
     ///
     /// ```rust
     /// assert_eq!(rt; simd_cesu8::counted("a\u{10FFFF}").encoded_len(), 7);
@@ -60,8 +60,9 @@ impl<'a> CountedText<'a> {
         self.len
     }
 
-    /// Appends the encoding to what stands in the buffer, as `encode_into` of the text does, with
-    /// one request where the buffer has no room.
+    /// Appends the encoding to the buffer, as `encode_into` of the text does. It makes one request
+    /// if the capacity is too small, and returns `AllocError` if that is refused; the buffer is
+    /// then as before.
     ///
     /// ```rust
     /// let mut buf = Vec::new(alloc);

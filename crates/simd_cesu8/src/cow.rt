@@ -1,14 +1,14 @@
-//! Answers that borrow where they can.
+//! Results that borrow from the input where they can.
 
 use crate::internal;
 use std::alloc::{AllocError, Global};
 
-/// Bytes that are borrowed from the input where none of them changes, and owned elsewhere.
+/// Bytes that are borrowed from the input if none of them changes, and owned otherwise.
 #[derive(Drop)]
 pub enum CowBytes<'a> {
     /// The input's own bytes.
     Borrowed(&'a [u8]),
-    /// Bytes that were built.
+    /// The bytes that were built.
     Owned(Vec<u8>),
 }
 
@@ -16,7 +16,7 @@ impl<'a> CowBytes<'a> {
     ghost use Rattle.std.specs.Prelude.{◌≡◌, [], length, IsTrue, IfOk, IsOk, OnErr, Ok, vec_capacity};
     ghost use Rattle.simd_cesu8.specs.Cow.{answer_bytes, borrows_bytes, IfOwned};
 
-    /// The bytes, in either case.
+    /// Returns the bytes, in either case.
     ///
     /// ```rust
     /// let answer = simd_cesu8::encode(alloc, "a\u{10FFFF}")?;
@@ -31,7 +31,7 @@ impl<'a> CowBytes<'a> {
         }
     }
 
-    /// Whether it is the case `Borrowed`.
+    /// Returns whether this is the case `Borrowed`.
     ///
     /// ```rust
     /// assert!(rt; simd_cesu8::encode(alloc, "a")?.is_borrowed());
@@ -42,12 +42,11 @@ impl<'a> CowBytes<'a> {
         matches!(self, CowBytes::Borrowed(_))
     }
 
-    /// The bytes as a vector of the caller's own: the one that was built, or a copy of what was
-    /// borrowed.
+    /// Returns the bytes as a `Vec`: the one that was built, or a copy of what was borrowed.
     ///
-    /// Only a copy takes memory: one request for the answer's length, in bytes, and none where that
-    /// is 0. `AllocError` comes where that request is refused. Nothing is lost then, since the
-    /// caller still has what was borrowed.
+    /// A copy makes one request for the result's length in bytes, and none if that is 0. Otherwise
+    /// the call takes no memory. If the request is refused, it returns `AllocError`; the caller
+    /// still has the input that was borrowed.
     ///
     /// ```rust
     /// let bytes = simd_cesu8::encode(alloc, "\u{205}")?.into_vec(alloc)?;
@@ -68,12 +67,12 @@ impl<'a> CowBytes<'a> {
     }
 }
 
-/// A text that is borrowed from the input where none of its bytes changes, and owned elsewhere.
+/// A text that is borrowed from the input if none of its bytes changes, and owned otherwise.
 #[derive(Drop)]
 pub enum CowText<'a> {
     /// The input's own bytes, which are UTF-8.
     Borrowed(&'a str),
-    /// A text that was built.
+    /// The text that was built.
     Owned(String),
 }
 
@@ -82,7 +81,7 @@ impl<'a> CowText<'a> {
     ghost use Rattle.std.specs.String.{string_bytes, string_capacity};
     ghost use Rattle.simd_cesu8.specs.Cow.{answer_text, borrows_text, IfOwnedText};
 
-    /// The text, in either case.
+    /// Returns the text, in either case.
     ///
     /// ```rust
     /// let answer = simd_cesu8::decode_strict(alloc, b"\xED\xA0\xBD\xED\xB2\x96")?;
@@ -97,7 +96,7 @@ impl<'a> CowText<'a> {
         }
     }
 
-    /// Whether it is the case `Borrowed`.
+    /// Returns whether this is the case `Borrowed`.
     ///
     /// ```rust
     /// assert!(rt; simd_cesu8::decode_strict(alloc, b"a")?.is_borrowed());
@@ -108,12 +107,11 @@ impl<'a> CowText<'a> {
         matches!(self, CowText::Borrowed(_))
     }
 
-    /// The text as a string of the caller's own: the one that was built, or a copy of what was
-    /// borrowed.
+    /// Returns the text as a `String`: the one that was built, or a copy of what was borrowed.
     ///
-    /// Only a copy takes memory: one request for the text's length, in bytes, and none where that
-    /// is 0. `AllocError` comes where that request is refused. Nothing is lost then, since the
-    /// caller still has what was borrowed.
+    /// A copy makes one request for the text's length in bytes, and none if that is 0. Otherwise
+    /// the call takes no memory. If the request is refused, it returns `AllocError`; the caller
+    /// still has the input that was borrowed.
     ///
     /// ```rust
     /// let text = simd_cesu8::decode_strict(alloc, b"a")?.into_string(alloc)?;

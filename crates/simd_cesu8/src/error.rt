@@ -1,4 +1,4 @@
-//! Why bytes could not be decoded.
+//! The errors of this crate's calls.
 
 ghost use Rattle.std.specs.Prelude.{Some, codes, true};
 ghost use Rattle.std.proofs.Common.{rules};
@@ -9,10 +9,9 @@ use std::error::Error;
 use std::fmt;
 use std::fmt::{Debug, Display, Formatter};
 
-/// The input is no encoding of a text. It says neither where nor why.
+/// The input is the encoding of no text. The error has neither a position nor a reason.
 ///
-/// It shows itself as `invalid input`, and as `DecodingError` with `{:?}`, whatever width is asked
-/// for.
+/// It displays as `invalid input`, and as `DecodingError` with `{:?}`, whatever width is given.
 ///
 /// ```rust
 /// use simd_cesu8::DecodeFault;
@@ -25,7 +24,7 @@ use std::fmt::{Debug, Display, Formatter};
 #[derive(Clone, Copy, Eq)]
 pub struct DecodingError(pub(crate) ());
 
-/// It holds nothing, so any two are equal.
+/// It has no content, so any two are equal.
 impl PartialEq for DecodingError {
     ghost eq = { λ _ _. true };
 
@@ -56,9 +55,9 @@ impl Display for DecodingError {
 
 impl Error for DecodingError {}
 
-/// Why a call that decodes gives no text.
+/// Why a call that decodes returns no text.
 ///
-/// It shows itself as `invalid input` or `out of memory`, whatever width is asked for.
+/// It displays as `invalid input` or `out of memory`, whatever width is given.
 ///
 /// ```rust
 /// use simd_cesu8::DecodeFault;
@@ -71,7 +70,7 @@ impl Error for DecodingError {}
 /// ```
 #[derive(Debug, Drop)]
 pub enum DecodeFault {
-    /// The input is refused.
+    /// The input has no text.
     Invalid(DecodingError),
     /// A request for memory was refused.
     Memory(AllocError),
@@ -92,9 +91,9 @@ impl Display for DecodeFault {
 
 impl Error for DecodeFault {}
 
-/// The caller's buffer is shorter than the answer. It tells how long the answer is.
+/// The caller's buffer is shorter than the result. It has the length of the result.
 ///
-/// It shows itself as `buffer too short`, whatever width is asked for.
+/// It displays as `buffer too short`, whatever width is given.
 ///
 /// ```rust
 /// let mut buf = [0; 5];
@@ -116,7 +115,7 @@ impl TooShort {
         TooShort { needed }
     }
 
-    /// The length of the answer, in bytes.
+    /// Returns the length of the result, in bytes.
     pub fn needed(&self) -> usize
         ensures { result ≡ self.now.needed }
     {
@@ -136,9 +135,9 @@ impl Display for TooShort {
 
 impl Error for TooShort {}
 
-/// Why a call that decodes writes no text into the caller's buffer.
+/// Why a call that decodes writes no text to the caller's buffer.
 ///
-/// It shows itself as `invalid input` or `buffer too short`, whatever width is asked for.
+/// It displays as `invalid input` or `buffer too short`, whatever width is given.
 ///
 /// ```rust
 /// use simd_cesu8::DecodeSliceFault;
@@ -152,7 +151,7 @@ impl Error for TooShort {}
 /// ```
 #[derive(Clone, Copy, Debug, PartialEq, Eq)]
 pub enum DecodeSliceFault {
-    /// The input is refused.
+    /// The input has no text.
     Invalid(DecodingError),
     /// The buffer is shorter than the text.
     TooShort(TooShort),
@@ -173,9 +172,9 @@ impl Display for DecodeSliceFault {
 
 impl Error for DecodeSliceFault {}
 
-/// Why a call that decodes and refuses nothing writes no text into the caller's buffer.
+/// Why a call that decodes damaged bytes writes no text to the caller's buffer.
 ///
-/// It shows itself as `text is too long` or `buffer too short`, whatever width is asked for.
+/// It displays as `text is too long` or `buffer too short`, whatever width is given.
 ///
 /// ```rust
 /// use simd_cesu8::LossySliceFault;
@@ -189,7 +188,7 @@ impl Error for DecodeSliceFault {}
 /// ```
 #[derive(Clone, Copy, Debug, PartialEq, Eq)]
 pub enum LossySliceFault {
-    /// The text has more bytes than a `usize` counts.
+    /// The length of the text in bytes does not fit `usize`.
     TooLong,
     /// The buffer is shorter than the text.
     TooShort(TooShort),

@@ -1,4 +1,4 @@
-//! The kernels: whether bytes hold one that encoding changes. Their names are no promise to users.
+//! The kernels: whether bytes have one that encoding changes. Their names may change.
 
 pub(crate) mod count;
 pub mod fallback;

@@ -1,6 +1,6 @@
-//! The codec under the public calls, one for both flavors.
+//! The codec below the public calls, one for both flavors.
 //!
-//! A call that builds makes its one request here, and the writers below it can't fail.
+//! A call that builds makes its one request here, so the writers below can't run out of memory.
 
 ghost use Rattle.std.specs.Prelude.{◌↔◌, IsTrue, Any};
 ghost use Rattle.simd_cesu8.specs.Class.{IsChangedByte};
@@ -41,16 +41,16 @@ pub enum Flavor {
 #[derive(Clone, Copy)]
 pub struct DecodeOptions {
     pub flavor: Flavor,
-    /// Whether a byte that is in no encoded character is replaced, and not refused.
+    /// Whether a byte in no encoded character is replaced, instead of an error.
     pub lossy: bool,
 }
 
-/// Whether some byte of UTF-8 is written otherwise in the flavor.
+/// Returns whether some byte of the UTF-8 changes in the flavor.
 #[inline(always)]
 pub fn contains_changed(flavor: Flavor, bytes: &[u8]) -> bool
     ensures { IsTrue result ↔ Any (IsChangedByte (flavor_of flavor)) bytes.now }
 {
-    // From here on the kernels test four vectors at once.
+    // From this length on the kernels test four vectors at once.
     if bytes.len() < SHORT {
         return short_contains_changed(flavor, bytes);
     }

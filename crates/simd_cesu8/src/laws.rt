@@ -1,6 +1,6 @@
 //! The laws of both encodings. Each function does nothing: its contract is the law, for every text
-//! and every list of bytes, in both flavors, and its proof is the evidence. docs/DEFINITIONS.md
-//! says what a stretch, a mark, a cutting and its cost are, and draws an example.
+//! and every list of bytes, in both flavors. docs/DEFINITIONS.md defines stretch, mark, cutting and
+//! cost, with an example.
 
 ghost use Rattle.simd_cesu8.specs.Laws.{
   RoundTrip,
@@ -45,16 +45,16 @@ pub fn round_trip()
     ensures { RoundTrip }
 {}
 
-/// The characters of a `&str` are a text, its bytes are their UTF-8, and two strings with equal
-/// characters have equal bytes.
+/// The characters of a `&str` are a text, and its bytes are the UTF-8 of them. Two strings with
+/// equal characters have equal bytes.
 pub fn chars()
     ensures text { CharsAreText }
     ensures utf8 { CharsInUtf8 }
     ensures same_bytes { SameBytes }
 {}
 
-/// `decode_strict` after `encode` gives back the string that went in, and never refuses it, and
-/// `encode` after `decode_strict` gives back the bytes that went in.
+/// `decode_strict` after `encode` returns the original string, and never an `Invalid`. `encode`
+/// after `decode_strict` returns the original bytes.
 pub fn inverse()
     ensures decoded { DecodedBack }
     ensures not_refused { NotRefused }
@@ -71,25 +71,26 @@ pub fn same_text()
     ensures { SameText }
 {}
 
-/// Nothing needs encoding exactly where the encoding is the text's UTF-8.
+/// A text needs no encoding exactly where its encoding is its UTF-8.
 pub fn needs()
     ensures { Needs }
 {}
 
-/// Nothing needs encoding exactly where the encoding is UTF-8 without a byte of the class: of a
-/// text, and of a `&str`, whose own bytes tell it.
+/// A text needs no encoding exactly where its encoding is UTF-8 without a byte of the class. For a
+/// `&str` its own bytes decide it.
 pub fn unchanged()
     ensures encoding { UnchangedEncoding }
     ensures string { UnchangedString }
 {}
 
-/// A MUTF-8 encoding holds no byte 00, and no encoding holds a byte of F0 (hexadecimal) or more.
+/// A MUTF-8 encoding has no byte 00, and no encoding has a byte of F0 (hexadecimal) or more.
 pub fn no_zero()
     ensures { NoZero }
 {}
 
 /// An encoding has at most twice the bytes of the text, and a strict reading at most the bytes of
-/// the input. The text of every cutting and the lossy reading have at most three times as many.
+/// the input. The lossy reading and the text of every cutting have at most three times the bytes of
+/// the input.
 pub fn bounds()
     ensures { Bounds }
 {}
@@ -99,27 +100,28 @@ pub fn no_overlap()
     ensures { NoOverlap }
 {}
 
-/// What the lossy reading has for a place is one thing, and the definitions' function computes it.
+/// Each position has exactly one mark in the lossy reading, and the function of the definitions
+/// computes it.
 pub fn one_mark()
     ensures { OneMark }
 {}
 
-/// Bytes have a greedy cutting into encoded characters and replaced bytes, and the text of each one
-/// is the lossy reading.
+/// Bytes have a greedy cutting into encoded characters and replaced bytes. The text of each greedy
+/// cutting is the lossy reading.
 pub fn places()
     ensures text { Places }
     ensures exists { HasGreedyCutting }
 {}
 
-/// Of all cuttings of bytes the greedy one, whose text is the lossy reading, is the only one that
-/// replaces the fewest bytes.
+/// Of all cuttings of bytes, only the greedy one replaces the fewest bytes. Its text is the lossy
+/// reading.
 pub fn fewest()
     ensures { Fewest }
 {}
 
-/// The lossy reading of any bytes is a text, that of an encoding is the text that was encoded, and
-/// so it is itself when it is encoded and read again. Where bytes have a strict reading, the lossy
-/// reading is it, and where that holds no U+FFFD they have one.
+/// The lossy reading of any bytes is a text, and that of an encoding is the encoded text. So a
+/// lossy reading that is encoded and read again stays the same. If bytes have a strict reading, it
+/// is the lossy reading. If the lossy reading has no U+FFFD, the bytes have a strict reading.
 pub fn lossy()
     ensures text { ReadingIsText }
     ensures encoding { ReadingOfEncoding }
@@ -128,39 +130,40 @@ pub fn lossy()
     ensures undamaged { NothingReplaced }
 {}
 
-/// The lossy reading of bytes a and then b is that of a and then that of b exactly where no encoded
-/// character begins in a and ends in b. The halves of a surrogate pair are damage apart, and one
-/// character when joined.
+/// The lossy reading of a ++ b is that of a ++ that of b exactly where no encoded character begins
+/// in a and ends in b. The halves of a surrogate pair are damage when apart, and one character when
+/// joined.
 pub fn split()
     ensures parts { Split }
     ensures halves_join { HalvesJoin }
 {}
 
-/// The lossy reading of an encoded text, bytes and another encoded text is the one text, the
-/// reading of the bytes, and the other text. Each of the texts may be empty.
+/// The lossy reading of an encoded text, bytes and another encoded text is the first text, the
+/// reading of the bytes, and the other text. Each text may be empty.
 pub fn around()
     ensures { Around }
 {}
 
-/// The lossy reading of bytes, an encoded text that is not empty and more bytes is the reading of
-/// the first bytes, the text, and the reading of the others.
+/// The lossy reading of bytes, a nonempty encoded text and more bytes is the reading of the first
+/// bytes, the text, and the reading of the others.
 pub fn middle()
     ensures { Middle }
 {}
 
-/// Dictionary order is an order: of two lists the first is below, or they are equal, or the first
-/// is above, and only one of these; what is below something is below all that this is below. It is
-/// what std answers to `cmp` of two slices.
+/// Dictionary order is a total order: of two lists exactly one holds, that the first is less, equal
+/// or greater; and it is transitive. `cmp` of two slices in std returns it.
 pub fn dictionary_order()
     ensures one_of_three { Trichotomy }
     ensures transitive { Transitivity }
     ensures slices { SliceOrder }
 {}
 
-/// Two encodings compare, in dictionary order, as the UTF-16 code units of their texts do: in
-/// CESU-8 always, and in MUTF-8 where neither text holds U+0000, whose encoding is above that of
-/// "A". It is not the order of the scalar values, nor of UTF-8: the encodings of U+FFFF are above
-/// those of U+10000.
+/// Two encodings compare, in dictionary order, as the UTF-16 code units of their texts do. In
+/// CESU-8 this holds always. In MUTF-8 it holds if neither text has U+0000, whose encoding is
+/// greater than that of "A".
+///
+/// It is not the order of scalar values, nor of UTF-8: the encoding of U+FFFF is greater than that
+/// of U+10000.
 pub fn order()
     ensures cesu8 { OrderInCesu8 }
     ensures mutf8 { OrderInMutf8 }

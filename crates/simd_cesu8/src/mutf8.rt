@@ -1,4 +1,4 @@
-//! Modified UTF-8 (MUTF-8), as Java's `DataInput` and `DataOutput` have it: CESU-8, but U+0000 is
+//! Modified UTF-8 (MUTF-8), as Java's `DataInput` and `DataOutput` define it: CESU-8, but U+0000 is
 //! C0 80. So no byte of an encoding is 00.
 //!
 //! ```rust
@@ -23,8 +23,8 @@ use crate::internal::Flavor;
 use crate::{borrow_or_build, copy_or_write, internal};
 use std::alloc::{AllocError, Global};
 
-/// Whether the MUTF-8 of a text is other than its UTF-8: whether some scalar value is U+0000, or
-/// U+10000 or more. It takes no memory.
+/// Returns whether the MUTF-8 of a text differs from its UTF-8: whether some scalar value is
+/// U+0000, or U+10000 or more. It requests no memory.
 ///
 /// ```rust
 /// assert!(rt; !simd_cesu8::mutf8::needs_encoded("\u{20AC}"));
@@ -37,8 +37,8 @@ pub fn needs_encoded(value: &str) -> bool
     borrow_or_build::needs_encoded(Flavor::Mutf8, value)
 }
 
-/// The length of the MUTF-8 (Java's `DataOutput`, without a length in front) of a text, in bytes.
-/// It takes no memory.
+/// Returns the length in bytes of the MUTF-8 (Java's `DataOutput`, without a length in front) of a
+/// text. It requests no memory.
 ///
 /// ```rust
 /// assert_eq!(rt; simd_cesu8::mutf8::encoded_len("a\0"), 3);
@@ -49,8 +49,8 @@ pub fn encoded_len(value: &str) -> usize
     internal::encoded_len(Flavor::Mutf8, value)
 }
 
-/// A text with the length of its MUTF-8 (Java's `DataOutput`, without a length in front), for who
-/// writes that length in front of the encoding: it is counted once. It takes no memory.
+/// Returns the text with the length of its MUTF-8 (Java's `DataOutput`, without a length in front),
+/// for formats that write that length in front. The text is counted once. It requests no memory.
 ///
 /// ```rust
 /// assert_eq!(rt; simd_cesu8::mutf8::counted("a\0").encoded_len(), 3);
@@ -63,9 +63,9 @@ pub fn counted(value: &str) -> CountedText<'_>
 
 /// Encodes a text to MUTF-8 (Java's `DataOutput`, without a length in front).
 ///
-/// The answer borrows the text's bytes where they are the encoding, which takes no memory.
-/// Elsewhere it is built after one request for exactly its length, and `AllocError` comes where
-/// that is refused.
+/// The result borrows the text's bytes where they are the encoding, and then takes no memory.
+/// Otherwise the call makes one request for exactly the encoding's length in bytes, and returns
+/// `AllocError` if it is refused.
 ///
 /// ```rust
 /// let borrowed = simd_cesu8::mutf8::encode(alloc, "\u{205}")?;
@@ -84,13 +84,12 @@ pub fn encode(alloc: Global, value: &str) -> Result<CowBytes<'_>, AllocError>
     borrow_or_build::encode(alloc, Flavor::Mutf8, value)
 }
 
-/// Appends the MUTF-8 (Java's `DataOutput`, without a length in front) of a text to what stands in
-/// the buffer.
+/// Appends the MUTF-8 (Java's `DataOutput`, without a length in front) of a text to the buffer.
 ///
-/// Where the buffer has no room for the encoding, it makes one request, before it writes. So it
-/// makes none for the empty text. The buffer grows by a factor then, as `Vec::push` lets it grow,
-/// so that many short texts are appended with few requests. `AllocError` comes where the request is
-/// refused, and then the buffer is as before.
+/// If the capacity is too small, the call makes one request before it writes. The buffer then grows
+/// by a factor, as with `Vec::push`, so that many short texts need few requests. Otherwise, and for
+/// the empty text, it makes none. It returns `AllocError` if the request is refused, and the buffer
+/// is then as before.
 ///
 /// ```rust
 /// let mut buf = simd_cesu8::mutf8::encode(alloc, "id=")?.into_vec(alloc)?;
@@ -102,7 +101,7 @@ pub fn encode_into(value: &str, buf: &mut Vec<u8>) -> Result<(), AllocError>
     ensures err { OnErr result (buf.new.items ≡ buf.old.items) }
     ensures err_capacity { OnErr result (vec_capacity buf.new ≡ vec_capacity buf.old) }
 
-    // Where there is room for the encoding, nothing is refused, and nothing is asked for.
+    // With enough capacity it makes no request, and returns no error.
     ensures room { vec_len buf.old + length (encoding Mutf8 (chars value.now))
         ≤ vec_capacity buf.old → IsOk result }
     ensures stays { vec_len buf.old + length (encoding Mutf8 (chars value.now))
@@ -113,16 +112,18 @@ pub fn encode_into(value: &str, buf: &mut Vec<u8>) -> Result<(), AllocError>
     counted(value).encode_into(buf)
 }
 
-/// Decodes MUTF-8 (Java's `DataInput`, without a length in front), strictly: the text whose
+/// Decodes MUTF-8 (Java's `DataInput`, without a length in front) strictly: returns the text whose
 /// encoding the bytes are.
 ///
-/// The answer borrows the bytes where they are the text's UTF-8, which takes no memory. Elsewhere
-/// it is built after one request for the input's length, in bytes, and `Memory` comes where that is
-/// refused. `Invalid` comes where no text has the bytes as its encoding: damage, an unpaired
-/// surrogate, an overlong form, a raw byte 00, or a UTF-8 form of four bytes. Java's own reader
-/// takes some of these.
+/// The result borrows the bytes where they are the text's UTF-8, and then takes no memory.
+/// Otherwise the call makes one request for the input's length in bytes, and returns `Memory` if it
+/// is refused. It makes the request before it decodes, so `Memory` may come in place of `Invalid`.
 ///
-/// [`decode`] takes UTF-8 too, and [`decode_lossy_strict`] refuses nothing.
+/// The call returns `Invalid` if the bytes are the encoding of no text: they are damaged, or have
+/// an unpaired surrogate, an overlong form, a raw byte 00, or a UTF-8 form of four bytes. Java's
+/// own reader accepts some of these.
+///
+/// [`decode`] accepts UTF-8 too, and [`decode_lossy_strict`] accepts any bytes.
 ///
 /// ```rust
 /// let built = simd_cesu8::mutf8::decode_strict(alloc, b"\xC0\x80")?;
@@ -141,14 +142,16 @@ pub fn decode_strict(alloc: Global, bytes: &[u8]) -> Result<CowText<'_>, DecodeF
     borrow_or_build::decode_strict(alloc, Flavor::Mutf8, bytes)
 }
 
-/// Decodes bytes that are UTF-8 as a whole, or else MUTF-8 (Java's `DataInput`).
-///
-/// The answer borrows bytes that are UTF-8, which takes no memory. Elsewhere it is built after one
-/// request for the input's length, in bytes, and `Memory` comes where that is refused. `Invalid`
-/// comes where the bytes are neither UTF-8 as a whole nor the encoding of a text: no input is read
+/// Decodes bytes that are UTF-8 as a whole, or else MUTF-8 (Java's `DataInput`). It reads no input
 /// partly as one and partly as the other.
 ///
-/// [`decode_strict`] takes the encoding alone, and [`decode_lossy`] refuses nothing.
+/// The result borrows bytes that are UTF-8, and then takes no memory. Otherwise the call makes one
+/// request for the input's length in bytes, and returns `Memory` if it is refused. It makes the
+/// request before it decodes, so `Memory` may come in place of `Invalid`.
+///
+/// The call returns `Invalid` if the bytes are neither UTF-8 as a whole nor the encoding of a text.
+///
+/// [`decode_strict`] accepts the encoding alone, and [`decode_lossy`] accepts any bytes.
 ///
 /// ```rust
 /// let borrowed = simd_cesu8::mutf8::decode(alloc, b"a\0")?;
@@ -169,14 +172,14 @@ pub fn decode(alloc: Global, bytes: &[u8]) -> Result<CowText<'_>, DecodeFault>
     borrow_or_build::decode(alloc, Flavor::Mutf8, bytes)
 }
 
-/// Decodes MUTF-8 (Java's `DataInput`) with damage: each encoded character that stands in the
-/// bytes, and one U+FFFD for each byte that is in none.
+/// Decodes MUTF-8 (Java's `DataInput`) that may be damaged: returns each encoded character in the
+/// bytes, and one U+FFFD for each byte in none.
 ///
-/// The answer borrows the bytes where they are the text's UTF-8, which takes no memory. Elsewhere
-/// it is built after one request for exactly its length, [`lossy_len`], and `AllocError` comes
-/// where that is refused or does not fit `usize`.
+/// The result borrows the bytes where they are the text's UTF-8, and then takes no memory.
+/// Otherwise the call makes one request for exactly the text's length in bytes, [`lossy_len`]. It
+/// returns `AllocError` if that is refused or does not fit `usize`.
 ///
-/// [`decode_strict`] refuses such input, and [`decode_lossy`] takes UTF-8 too.
+/// [`decode_strict`] returns an error for damaged bytes, and [`decode_lossy`] accepts UTF-8 too.
 ///
 /// ```rust
 /// let text = simd_cesu8::mutf8::decode_lossy_strict(alloc, b"\xC0\xC0\x80")?;
@@ -194,14 +197,16 @@ pub fn decode_lossy_strict(alloc: Global, bytes: &[u8]) -> Result<CowText<'_>, A
     borrow_or_build::decode_lossy_strict(alloc, Flavor::Mutf8, bytes)
 }
 
-/// Decodes bytes that are UTF-8 as a whole, or else MUTF-8 (Java's `DataInput`) with damage: each
-/// encoded character that stands in them, and one U+FFFD for each byte that is in none.
+/// Decodes bytes that are UTF-8 as a whole, or else MUTF-8 (Java's `DataInput`) that may be
+/// damaged. For the latter it returns each encoded character, and one U+FFFD for each byte in none.
+/// It reads no input partly as UTF-8 and partly as the encoding.
 ///
-/// The answer borrows bytes that are UTF-8, which takes no memory. Elsewhere it is built after one
-/// request for exactly its length, [`lossy_len`], and `AllocError` comes where that is refused or
-/// does not fit `usize`. No input is read partly as UTF-8 and partly as the encoding.
+/// The result borrows bytes that are UTF-8, and then takes no memory. Otherwise the call makes one
+/// request for exactly the text's length in bytes, [`lossy_len`]. It returns `AllocError` if that
+/// is refused or does not fit `usize`.
 ///
-/// [`decode`] refuses such input, and [`decode_lossy_strict`] takes the encoding alone.
+/// [`decode`] returns an error for damaged bytes, and [`decode_lossy_strict`] accepts the encoding
+/// alone.
 ///
 /// ```rust
 /// let text = simd_cesu8::mutf8::decode_lossy(alloc, b"\0\xC0\x80")?;
@@ -218,11 +223,13 @@ pub fn decode_lossy(alloc: Global, bytes: &[u8]) -> Result<CowText<'_>, AllocErr
     borrow_or_build::decode_lossy(alloc, Flavor::Mutf8, bytes)
 }
 
-/// The number of bytes of the text that [`decode_lossy_strict`] gives, which reads MUTF-8 (Java's
-/// `DataInput`) with damage: each byte that is in no encoded character counts as the three of
-/// U+FFFD. `None` comes where the number does not fit `usize`. It takes no memory.
+/// Returns the length in bytes of the text that [`decode_lossy_strict`] returns, which decodes
+/// MUTF-8 (Java's `DataInput`) that may be damaged. Each byte in no encoded character counts as the
+/// three bytes of U+FFFD. It returns `None` if the length does not fit `usize`. It requests no
+/// memory.
 ///
-/// [`decode_lossy`] borrows what is UTF-8 as a whole, and its text is then as long as its input.
+/// [`decode_lossy`] borrows bytes that are UTF-8 as a whole, so its text is then as long as the
+/// input.
 ///
 /// ```rust
 /// assert_eq!(rt; simd_cesu8::mutf8::lossy_len(b"\xC0\x80"), Some(1));
@@ -235,12 +242,13 @@ pub fn lossy_len(bytes: &[u8]) -> Option<usize>
     internal::lossy_len(Flavor::Mutf8, bytes)
 }
 
-/// Encodes a text to MUTF-8 (Java's `DataOutput`, without a length in front), into a buffer of the
-/// caller's.
+/// Encodes a text to MUTF-8 (Java's `DataOutput`, without a length in front), in the caller's
+/// buffer.
 ///
-/// It gives how many bytes it wrote at the front of the buffer, and what follows them stays as it
-/// was. Where the buffer is too short, [`TooShort`] tells how many bytes are needed, and the whole
-/// buffer stays as it was. So a call with an empty buffer asks for the length. It takes no memory.
+/// It returns how many bytes it wrote at the front of the buffer; the rest stays as it was. If the
+/// buffer is too short, it returns [`TooShort`] with the needed length in bytes, and the whole
+/// buffer stays as it was. So a call with an empty buffer reports the length. It requests no
+/// memory.
 ///
 /// ```rust
 /// let mut buf = [0xEE; 4];
@@ -253,14 +261,13 @@ pub fn encode_to_slice(value: &str, buf: &mut [u8]) -> Result<usize, TooShort>
     copy_or_write::encode_to_slice(Flavor::Mutf8, value, buf)
 }
 
-/// Decodes MUTF-8 (Java's `DataInput`), strictly, into a buffer of the caller's: the UTF-8 of the
-/// text whose encoding the bytes are.
+/// Decodes MUTF-8 (Java's `DataInput`, without a length in front) strictly, and writes the UTF-8 of
+/// the text to the caller's buffer.
 ///
-/// It gives how many bytes it wrote at the front of the buffer, and what follows them stays as it
-/// was. `Invalid` comes exactly where [`decode_strict`] would refuse the bytes, and `TooShort`,
-/// which tells how many bytes are needed, exactly where the text is longer than the buffer. After
-/// either the whole buffer stays as it was. A text is never longer than the bytes. It takes no
-/// memory.
+/// It returns how many bytes it wrote at the front of the buffer; the rest stays as it was. It
+/// returns `Invalid` exactly where [`decode_strict`] does. It returns `TooShort`, with the needed
+/// length in bytes, exactly where the text is longer than the buffer. After an error the whole
+/// buffer stays as it was. A text is never longer than its encoding. It requests no memory.
 ///
 /// ```rust
 /// let mut buf = [0xEE; 4];
@@ -274,13 +281,13 @@ pub fn decode_strict_to_slice(bytes: &[u8], buf: &mut [u8]) -> Result<usize, Dec
     copy_or_write::decode_strict_to_slice(Flavor::Mutf8, bytes, buf)
 }
 
-/// Decodes bytes that are UTF-8 as a whole, or else MUTF-8 (Java's `DataInput`), into a buffer of
-/// the caller's.
+/// Decodes bytes that are UTF-8 as a whole, or else MUTF-8 (Java's `DataInput`), and writes the
+/// UTF-8 of the text to the caller's buffer.
 ///
-/// It gives how many bytes it wrote at the front of the buffer, and what follows them stays as it
-/// was. `Invalid` comes exactly where [`decode`] would refuse the bytes, and `TooShort`, which
-/// tells how many bytes are needed, exactly where the text is longer than the buffer. After either
-/// the whole buffer stays as it was. A text is never longer than the bytes. It takes no memory.
+/// It returns how many bytes it wrote at the front of the buffer; the rest stays as it was. It
+/// returns `Invalid` exactly where [`decode`] does. It returns `TooShort`, with the needed length
+/// in bytes, exactly where the text is longer than the buffer. After an error the whole buffer
+/// stays as it was. A text is never longer than the input. It requests no memory.
 ///
 /// ```rust
 /// let mut buf = [0xEE; 4];
@@ -294,14 +301,14 @@ pub fn decode_to_slice(bytes: &[u8], buf: &mut [u8]) -> Result<usize, DecodeSlic
     copy_or_write::decode_to_slice(Flavor::Mutf8, bytes, buf)
 }
 
-/// Decodes MUTF-8 (Java's `DataInput`) with damage, into a buffer of the caller's: the UTF-8 of
-/// each encoded character that stands in the bytes, and U+FFFD for each byte that is in none.
+/// Decodes MUTF-8 (Java's `DataInput`) that may be damaged, and writes to the caller's buffer: the
+/// UTF-8 of each encoded character in the bytes, and U+FFFD for each byte in none.
 ///
-/// It gives how many bytes it wrote at the front of the buffer, and what follows them stays as it
-/// was. `TooShort`, which tells how many bytes are needed, comes exactly where the text is longer
-/// than the buffer, and `TooLong` where its length, [`lossy_len`], does not fit `usize`. After
-/// either the whole buffer stays as it was. A text has three times as many bytes as the input at
-/// most. It takes no memory.
+/// It returns how many bytes it wrote at the front of the buffer; the rest stays as it was. It
+/// returns `TooShort`, with the needed length in bytes, exactly where the text is longer than the
+/// buffer. It returns `TooLong` where that length, [`lossy_len`], does not fit `usize`. After an
+/// error the whole buffer stays as it was. A text has at most three times as many bytes as the
+/// input. It requests no memory.
 ///
 /// ```rust
 /// let mut buf = [0xEE; 6];
@@ -316,14 +323,14 @@ pub fn decode_lossy_strict_to_slice(bytes: &[u8], buf: &mut [u8]) -> Result<usiz
     copy_or_write::decode_lossy_strict_to_slice(Flavor::Mutf8, bytes, buf)
 }
 
-/// Decodes bytes that are UTF-8 as a whole, or else MUTF-8 (Java's `DataInput`) with damage, into a
-/// buffer of the caller's: the UTF-8 of each encoded character that stands in them, and U+FFFD for
-/// each byte that is in none.
+/// Decodes bytes that are UTF-8 as a whole, or else MUTF-8 (Java's `DataInput`) that may be
+/// damaged, and writes the UTF-8 of the text to the caller's buffer. For the latter it writes each
+/// encoded character, and U+FFFD for each byte in none.
 ///
-/// It gives how many bytes it wrote at the front of the buffer, and what follows them stays as it
-/// was. `TooShort`, which tells how many bytes are needed, comes exactly where the text is longer
-/// than the buffer, and `TooLong` where its length does not fit `usize`, which it does where the
-/// bytes are UTF-8. After either the whole buffer stays as it was. It takes no memory.
+/// It returns how many bytes it wrote at the front of the buffer; the rest stays as it was. It
+/// returns `TooShort`, with the needed length in bytes, exactly where the text is longer than the
+/// buffer. It returns `TooLong` where that length does not fit `usize`; for UTF-8 it always fits.
+/// After an error the whole buffer stays as it was. It requests no memory.
 ///
 /// ```rust
 /// let mut buf = [0xEE; 4];

@@ -1,8 +1,8 @@
-//! How many bytes of a class there are, 64 at a time.
+//! Counts the bytes of a class, 64 at a time.
 //!
-//! Of 1,024 bytes each lane of a vector counts its own, and the lanes are summed once. Of the bytes
-//! after these the bits of a mask are counted, 64 at a time. The last vector overlaps the one
-//! before it, and the bits that were counted there are shifted out.
+//! In 1,024 bytes each lane of a vector counts its own, and the lanes are summed once. In the bytes
+//! after these, 64 at a time, the bits of a mask are counted. The last vector overlaps the one
+//! before it, and bits that were counted there are shifted out.
 
 ghost use Rattle.std.specs.Prelude.{◌≡◌, ◌==◌, ◌<◌, ◌≤◌, ◌+◌, ◌-◌, ◌*◌, if◌then◌else◌, length, drop, map, count_by};
 ghost use Rattle.std.specs.Simd.Lanes.{mask_l, sum_l};
@@ -17,7 +17,7 @@ pub struct Counts {
     pub fours: usize,
 }
 
-/// Counts in one pass. Where it is inlined, a count that is not used is not made.
+/// Counts in one pass. If it is inlined, the compiler removes a count that is not used.
 #[inline(always)]
 pub fn count(value: &[u8]) -> Counts
     ensures nulls { result.nulls ≡ count_by (λ byte. byte == 0) value.now }
@@ -39,7 +39,7 @@ pub fn count(value: &[u8]) -> Counts
     }
 }
 
-/// How many bytes are counted lane by lane: 16 vectors.
+/// How many bytes are counted in lanes: 16 vectors.
 const BLOCK: usize = 1024;
 
 /// Each lane counts its own bytes.
@@ -62,7 +62,7 @@ fn count_block(block: &[u8]) -> Counts
     }
 }
 
-/// The sum of the lanes.
+/// Returns the sum of the lanes.
 #[inline(always)]
 fn lane_sum(lanes: u8x64) -> usize
     ensures { result ≡ sum_l lanes }
@@ -98,7 +98,7 @@ fn count_rest(value: &[u8]) -> Counts
     }
 }
 
-/// Counts fewer than 64 bytes: by two vectors of the widest that fit, which may overlap.
+/// Counts fewer than 64 bytes: by two vectors of the greatest width that fits, which may overlap.
 #[inline(always)]
 fn count_short(value: &[u8]) -> Counts
     requires { length value.now < 64 }
@@ -135,7 +135,7 @@ fn count_each(value: &[u8]) -> Counts
     Counts { nulls, fours }
 }
 
-/// Counts by the first `N` bytes, and then the others by the last `N`.
+/// Counts in the first `N` bytes, and the others in the last `N`.
 #[inline(always)]
 fn count_pair<const N: usize>(value: &[u8]) -> Counts
     requires lanes { (0 < N) × (N ≤ 32) }
@@ -151,7 +151,7 @@ fn count_pair<const N: usize>(value: &[u8]) -> Counts
     }
 }
 
-/// Counts the last `len` bytes, by a vector of the last `N`.
+/// Counts in the last `len` bytes, by a vector of the last `N`.
 #[inline(always)]
 fn count_end<const N: usize>(value: &[u8], len: usize) -> Counts
     requires lanes { N ≤ 64 }
@@ -164,7 +164,7 @@ fn count_end<const N: usize>(value: &[u8], len: usize) -> Counts
     count_lanes(lanes, N - len)
 }
 
-/// Counts the lanes behind the first `skipped`.
+/// Counts the lanes after the first `skipped`.
 #[inline(always)]
 fn count_lanes<const N: usize>(lanes: Simd<u8, N>, skipped: usize) -> Counts
     requires { (N ≤ 64) × (skipped ≤ N) × (skipped < 64) }

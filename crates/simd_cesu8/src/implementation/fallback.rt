@@ -1,10 +1,10 @@
-//! One byte after the other.
+//! One byte at a time.
 
 ghost use Rattle.std.specs.Prelude.{IsTrue, ◌↔◌, Any};
 ghost use Rattle.simd_cesu8.specs.Class.{IsFour, IsNullFour};
 
-/// Whether some byte is F0 to F7 (hexadecimal). In UTF-8 the lead byte of every character of four
-/// bytes is among these.
+/// Returns whether some byte is F0 to F7 (hexadecimal). In UTF-8 these are the lead bytes of
+/// characters of four bytes.
 ///
 /// ```rust
 /// use simd_cesu8::implementation::fallback;
@@ -17,7 +17,7 @@ pub fn contains_utf8_4_byte_char_header(value: &[u8]) -> bool
     value.iter().any(|byte| (0xF0..=0xF7).contains(byte))
 }
 
-/// Whether some byte is 00, or F0 to F7 (hexadecimal).
+/// Returns whether some byte is 00, or F0 to F7 (hexadecimal).
 ///
 /// ```rust
 /// use simd_cesu8::implementation::fallback;

@@ -1,7 +1,7 @@
-//! Short values, where the walk through one width after the other costs more than its tests.
+//! Short values, for which a loop for each vector width would cost more than the tests.
 //!
-//! Two vectors of one width, one from the front and one up to the end, hold all bytes of a value
-//! between that width and twice that. They overlap where they have to, so no byte is left.
+//! Two vectors of one width, one at the front and one at the end, cover a value between that width
+//! and twice that. They overlap where needed, so no byte is left out.
 
 ghost use Rattle.std.specs.Prelude.{◌≡◌, ◌≤◌, ◌<◌, ◌*◌, ◌↔◌, IsTrue, Any, length};
 ghost use Rattle.simd_cesu8.specs.Kernels.{AnyIn};
@@ -9,13 +9,13 @@ ghost use Rattle.simd_cesu8.specs.Short.{class_of};
 
 use std::simd::prelude::*;
 
-/// How many bytes a block has, as the widest vector.
+/// How many bytes a block has: as many as the widest vector.
 const BLOCK: usize = 64;
 
-/// How many bytes a short value has at most.
+/// The most bytes that a short value has.
 pub const SHORT: usize = 4 * BLOCK;
 
-/// Which bytes are looked for.
+/// The class of bytes to find.
 #[derive(Clone, Copy)]
 pub enum ByteClass {
     /// F0 to F7 (hexadecimal).
@@ -28,7 +28,8 @@ pub enum ByteClass {
     NullHigh,
 }
 
-/// Whether some byte is in the class. All lengths are right, and short ones fast.
+/// Returns whether some byte is in the class. It is correct for every length, and fast for short
+/// ones.
 #[inline(always)]
 pub fn any_in_short(class: ByteClass, bytes: &[u8]) -> bool
     ensures { IsTrue result ↔ AnyIn (class_of class) bytes.now }
@@ -54,8 +55,8 @@ pub fn any_in_short(class: ByteClass, bytes: &[u8]) -> bool
     !bytes.is_empty() && any_in_ends::<1>(class, bytes)
 }
 
-/// Whether some byte of the vector at the front or of that at the end, which hold all, is in the
-/// class.
+/// Returns whether some byte is in the class, by a vector at the front and one at the end, which
+/// together cover all.
 #[inline(always)]
 fn any_in_ends<const N: usize>(class: ByteClass, bytes: &[u8]) -> bool
     requires { (N ≤ 64) × (N ≤ length bytes.now) × (length bytes.now ≤ 2 * N) }
@@ -66,8 +67,8 @@ fn any_in_ends<const N: usize>(class: ByteClass, bytes: &[u8]) -> bool
     has(class, front) | has(class, end)
 }
 
-/// Whether some byte of a block, or of the last 64 bytes, which overlap the last block, is in the
-/// class.
+/// Returns whether some byte of a block is in the class, or of the last 64 bytes, which overlap the
+/// last block.
 #[inline(always)]
 fn any_in_blocks(class: ByteClass, bytes: &[u8]) -> bool
     requires { BLOCK ≤ length bytes.now }
@@ -90,7 +91,7 @@ fn any_in_each(class: ByteClass, blocks: &[[u8; BLOCK]]) -> bool
     false
 }
 
-/// Whether some byte of a vector is in the class.
+/// Returns whether some byte of a vector is in the class.
 #[inline(always)]
 fn has<const N: usize>(class: ByteClass, bytes: Simd<u8, N>) -> bool
     requires { N ≤ 64 }

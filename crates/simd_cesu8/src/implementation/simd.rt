@@ -1,12 +1,11 @@
 //! Up to 64 bytes at a time, as the lanes of a vector.
 //!
-//! The bytes F0 to F7 (hexadecimal) are those whose upper five bits are those of F0. Before vectors
-//! are tested for these, four at once are tested for what needs no work on each: the greatest and
-//! the least byte of each lane. Where the one is below F0, and the other above 00, no byte is in a
-//! class. Elsewhere each vector is tested by itself, since it may have bytes above F7. UTF-8 has
-//! none, so there that happens once.
+//! The bytes F0 to F7 (hexadecimal) are those whose upper five bits are those of F0. A cheaper test
+//! comes first: the greatest and the least byte of each lane, for four vectors at once. If the
+//! greatest are below F0 and the least above 00, no byte is in a class. Otherwise each vector is
+//! tested, since it may have bytes above F7. UTF-8 has none, so there that happens once.
 //!
-//! All is inlined: a call would pass vectors through memory, and most values are short.
+//! Everything is inlined: a call would pass vectors through memory, and most values are short.
 
 ghost use Rattle.std.specs.Prelude.{◌≡◌, ◌==◌, ◌≤◌, ◌<◌, ◌↔◌, ◌⊎◌, ℕ, Bool, IsTrue, Any};
 ghost use Rattle.simd_cesu8.specs.Class.{is_four, is_null_four, IsFour, IsNullFour};
@@ -16,8 +15,8 @@ ghost use Rattle.simd_cesu8.specs.Kernels.{AnyIn, MayTest, Finds};
 use super::fallback;
 use std::simd::prelude::*;
 
-/// Whether some byte is F0 to F7 (hexadecimal). In UTF-8 the lead byte of every character of four
-/// bytes is among these.
+/// Returns whether some byte is F0 to F7 (hexadecimal). In UTF-8 these are the lead bytes of
+/// characters of four bytes.
 ///
 /// ```rust
 /// use simd_cesu8::implementation::simd;
@@ -31,7 +30,7 @@ pub fn contains_utf8_4_byte_char_header(value: &[u8]) -> bool
     lanes_four(value, fallback::contains_utf8_4_byte_char_header)
 }
 
-/// Whether some byte is 00, or F0 to F7 (hexadecimal).
+/// Returns whether some byte is 00, or F0 to F7 (hexadecimal).
 ///
 /// ```rust
 /// use simd_cesu8::implementation::simd;
@@ -45,8 +44,8 @@ pub fn contains_null_or_utf8_4_byte_char_header(value: &[u8]) -> bool
     lanes_null_four(value, fallback::contains_null_or_utf8_4_byte_char_header)
 }
 
-/// Whether some byte is F0 to F7 (hexadecimal). The vectors of each width take what the wider ones
-/// left, and one byte that is left goes to the fallback.
+/// Returns whether some byte is F0 to F7 (hexadecimal). The vectors of each width test what the
+/// wider ones left, and the fallback tests a single byte that is left.
 #[inline(always)]
 fn lanes_four<F>(value: &[u8], fallback: F) -> bool
 where
@@ -101,12 +100,12 @@ where
 trait Class<const N: usize> {
     ghost class: { ℕ → Bool };
 
-    /// Whether some byte of the chunks may be in the class: where one is, the answer is yes.
+    /// Returns whether some byte of the chunks may be in the class, and true if one is.
     fn may_have(group: &[[u8; N]; 4]) -> bool
         requires { N ≤ 64 }
         ensures { Any (AnyIn class) group.now → IsTrue result };
 
-    /// Whether some byte is in the class.
+    /// Returns whether some byte is in the class.
     fn has(bytes: Simd<u8, N>) -> bool
         requires { N ≤ 64 }
         ensures { IsTrue result ↔ AnyIn class bytes.entry };
@@ -160,7 +159,8 @@ impl<const N: usize> Class<N> for NullFour {
     }
 }
 
-/// Whether some byte of the chunks is in the class. A short value has none of most widths.
+/// Returns whether some byte of the chunks is in the class. A short value has no chunk of most
+/// widths.
 #[inline(always)]
 fn any_in_chunks<C: Class<N>, const N: usize>(chunks: &[[u8; N]]) -> bool
     requires { (0 < N) × (N ≤ 64) }
@@ -186,7 +186,7 @@ fn any_in_groups<C: Class<N>, const N: usize>(groups: &[[[u8; N]; 4]]) -> bool
     false
 }
 
-/// Most groups have no byte that may be in the class, and the others are looked at again.
+/// Most groups have no byte that may be in the class; the others are tested again.
 #[inline(always)]
 fn any_in_group<C: Class<N>, const N: usize>(group: &[[u8; N]; 4]) -> bool
     requires { N ≤ 64 }
@@ -267,7 +267,7 @@ fn has_null<const N: usize>(bytes: Simd<u8, N>) -> bool
 mod tests {
     use super::{lanes_four, lanes_null_four};
 
-    /// The fallback is asked where one byte is left, and nowhere else.
+    /// The fallback is called if one byte is left, and only then.
     #[test]
     fn asks_the_fallback_of_a_last_byte(rt: HostRuntime) {
         let cases = [

@@ -1,9 +1,9 @@
 //! Eight bytes at a time, as one word.
 //!
-//! A word holds a byte 00 exactly where taking 1 from each of its bytes sets the high bit of some
-//! byte that did not have it. By the borrow a byte 01 above a 00 may get its high bit too: so this
-//! tells whether some byte is 00, and not which. A byte is F0 to F7 (hexadecimal) where its upper
-//! five bits are those of F0, which flipping those of F0 makes 00.
+//! A word has a byte 00 exactly where subtracting 1 from each byte sets the high bit of some byte
+//! that did not have it. Through the borrow, a byte 01 above a 00 may get its high bit too. So the
+//! test finds whether some byte is 00, but not which. A byte is F0 to F7 (hexadecimal) if its upper
+//! five bits are those of F0; flipping the bits of F0 makes them 00.
 
 ghost use Rattle.std.specs.Prelude.{◌≡◌, ◌<◌, ◌≤◌, ◌+◌, ◌↔◌, ℕ, Bool, IsTrue, Any};
 ghost use Rattle.std.specs.Prelude.{length, slice_range};
@@ -13,8 +13,8 @@ ghost use Rattle.simd_cesu8.specs.Kernels.{AnyIn, MayTest, MayTestWords, Finds, 
 
 use super::fallback;
 
-/// Whether some byte is F0 to F7 (hexadecimal). In UTF-8 the lead byte of every character of four
-/// bytes is among these.
+/// Returns whether some byte is F0 to F7 (hexadecimal). In UTF-8 these are the lead bytes of
+/// characters of four bytes.
 ///
 /// ```rust
 /// use simd_cesu8::implementation::word;
@@ -31,7 +31,7 @@ pub fn contains_utf8_4_byte_char_header(value: &[u8]) -> bool
     )
 }
 
-/// Whether some byte is 00, or F0 to F7 (hexadecimal).
+/// Returns whether some byte is 00, or F0 to F7 (hexadecimal).
 ///
 /// ```rust
 /// use simd_cesu8::implementation::word;
@@ -48,8 +48,9 @@ pub fn contains_null_or_utf8_4_byte_char_header(value: &[u8]) -> bool
     )
 }
 
-/// Whether a word passes the test, among those of the first eight bytes, of each eight that follow,
-/// and of the last eight, which may overlap those before. Less than a word goes to the fallback.
+/// Returns whether a word passes the test: that of the first eight bytes, of each eight that
+/// follow, or of the last eight, which may overlap. For fewer than eight bytes it calls the
+/// fallback.
 fn test_word_any<F, T>(value: &[u8], fallback: F, test: T) -> bool
 where
     F: Fn(&[u8]) -> bool,
@@ -76,7 +77,7 @@ where
     test(word_at(value, last))
 }
 
-/// The eight bytes at a place, the first one lowest.
+/// Returns the eight bytes at a position as a word, the first one lowest.
 fn word_at(value: &[u8], place: usize) -> u64
     requires { place + 8 ≤ length value.now }
     ensures { to_le_bytes w64 result ≡ slice_range value.now place (place + 8) }
@@ -135,7 +136,7 @@ mod tests {
         const AT_16: u64 = 0x1716_1514_1312_1110;
         const AT_17: u64 = 0x1817_1615_1413_1211;
 
-        // How many bytes there are, and the words that are tested, with zeros behind them.
+        // The number of bytes, and the words that are tested, followed by zeros.
         let cases = [
             (7, 0, [0, 0, 0, 0]),
             (8, 2, [AT_0, AT_0, 0, 0]),

@@ -1,6 +1,7 @@
-//! Short values of ASCII, the most frequent ones. ASCII is UTF-8 by itself, so these owe no test.
+//! Short values of ASCII, the most frequent ones. ASCII is always UTF-8, so they need no UTF-8
+//! test.
 //!
-//! This module alone names `percent_encoding`, whose call hands out ASCII as a text.
+//! Only this module uses `percent_encoding`, which returns ASCII as a text.
 
 ghost use Rattle.std.specs.Prelude.{◌≡◌, IsTrue, Any};
 ghost use Rattle.std.specs.Str.{IsAscii};
@@ -10,7 +11,7 @@ ghost use Rattle.simd_cesu8.specs.Internal.{flavor_of};
 use super::Flavor;
 use crate::implementation::short::{ByteClass, SHORT, any_in_short};
 
-/// Whether the bytes are few, and all are ASCII.
+/// Returns whether the bytes are few and all ASCII.
 #[inline(always)]
 pub fn is_short_ascii(bytes: &[u8]) -> bool
     ensures { IsTrue result → IsAscii bytes.now }
@@ -18,7 +19,7 @@ pub fn is_short_ascii(bytes: &[u8]) -> bool
     bytes.len() <= SHORT && !any_in_short(ByteClass::High, bytes)
 }
 
-/// Whether the bytes are few, and all are ASCII that is written as it is.
+/// Returns whether the bytes are few and all ASCII that does not change.
 #[inline(always)]
 pub fn is_short_unchanged_ascii(flavor: Flavor, bytes: &[u8]) -> bool
     ensures ascii { IsTrue result → IsAscii bytes.now }
@@ -30,7 +31,7 @@ pub fn is_short_unchanged_ascii(flavor: Flavor, bytes: &[u8]) -> bool
     }
 }
 
-/// ASCII as a text.
+/// Returns ASCII as a text.
 #[inline(always)]
 pub fn ascii_text(bytes: &[u8]) -> &str
     requires { IsAscii bytes.now }

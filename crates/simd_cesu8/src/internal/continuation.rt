@@ -1,9 +1,9 @@
-//! Continuation bytes, by which UTF-8 and both flavors tell where a character begins.
+//! Continuation bytes, which in UTF-8 and in both flavors show where a character begins.
 
 ghost use Rattle.std.specs.Prelude.{◌+◌, ◌-◌, ◌<◌, ◌≤◌, length, slice_index, IsTrue, ◌↔◌, IfSome, IfNone, ℕ};
 ghost use Rattle.simd_cesu8.specs.Internal.{IsContinuation};
 
-/// Whether a byte is a continuation byte, as it is in UTF-8 and in both flavors.
+/// Returns whether a byte is a continuation byte, in UTF-8 and in both flavors.
 #[inline(always)]
 pub fn is_continuation(byte: u8) -> bool
     ensures { IsTrue result ↔ IsContinuation byte }
@@ -11,8 +11,8 @@ pub fn is_continuation(byte: u8) -> bool
     matches!(byte, 0x80..=0xBF)
 }
 
-/// The last of four places up to `place` where a byte stands that is no continuation byte, if there
-/// is one. In UTF-8 there is: the start of the character that the place is in.
+/// Returns the last of the four positions up to `place` without a continuation byte, if there is
+/// one. In UTF-8 there is: the start of the character that contains `place`.
 pub fn character_start(bytes: &[u8], place: usize) -> Option<usize>
     requires { (3 ≤ place) × (place < length bytes.now) }
     ensures some { IfSome result (λ start. (start ≤ place)

@@ -1,12 +1,13 @@
 //! The decoder.
 //!
-//! An encoded character is told by its own six bytes at most, and no two overlap. So what becomes of
-//! a byte in the lossy reading is told by the bytes about it, and `places` and `parts` find it for 32
-//! bytes at a time, with no branch on what a single byte is: it stays, changes, goes, or is damaged
-//! and replaced. In strict reading nothing may be damaged. `lengths` adds up how long that is.
+//! At most six bytes decide whether an encoded character begins at a position, and no two overlap.
+//! So the nearby bytes decide what becomes of a byte in the lossy reading: it stays, changes, goes,
+//! or is damaged and replaced. `places` and `parts` find this for 32 bytes at a time, with no
+//! branch on a single byte. In strict reading no byte may be damaged. `lengths` adds up the length
+//! of the text.
 //!
-//! Longer input goes by windows. Where the text is whole, a window is joined as it stands, which is
-//! faster; where that gives no text, this window and a few after it are read by places.
+//! Longer input is decoded in windows. If the text is whole, joining a window is faster. If joining
+//! yields no text, this window and a few after it are decoded by places.
 
 ghost use Rattle.std.specs.Prelude.{◌≡◌, ◌+◌, ◌*◌, ◌<◌, ◌≤◌, ◌++◌, ℕ, length, drop, replicate, List, false, true, OnOk, OnErr, IfOk, IfSome, IfNone};
 ghost use Rattle.std.specs.String.{string_bytes, string_capacity};
@@ -41,10 +42,10 @@ pub use slices::{decode_lossy_to_slice, decode_strict_to_slice};
 use std::alloc::{AllocError, Allocator};
 use windows::{AROUND, SPARED};
 
-/// How many bytes are read in one window at most.
+/// The most bytes that are read in one window.
 const WINDOW: usize = 1024;
 
-/// How many bytes are read in rooms that are made faster,
+/// The most bytes that are read in smaller buffers, which are faster to make,
 const SMALL: usize = 256;
 
 /// still faster,
@@ -53,7 +54,7 @@ const FEW: usize = 96;
 /// and in the fastest.
 const FEWEST: usize = 32;
 
-// The lengths of the rooms for a window and for what is written of it: so much and more, since whole
+// The lengths of the buffers for a window and for its text. They are longer than these, since whole
 // vectors are read and written.
 const WINDOW_ROOM: usize = 1104;
 
@@ -71,10 +72,10 @@ const FEWEST_ROOM: usize = 112;
 
 const FEWEST_WRITTEN_ROOM: usize = 272;
 
-/// How many windows are read by places before one is joined again.
+/// How many windows are decoded by places before one is joined again.
 const WINDOWS: usize = 4;
 
-/// The strict reading of the bytes, after one request for their length.
+/// Returns the strict reading of the bytes, after one request for their length.
 pub fn decode_strict<A: Allocator>(
     alloc: A,
     flavor: Flavor,
@@ -94,8 +95,8 @@ pub fn decode_strict<A: Allocator>(
     exactly(text, bytes.len()).map_err(DecodeFault::Memory)
 }
 
-/// The fault of bytes that are known to have no strict reading. Memory for so many is asked for first,
-/// as it is of others.
+/// Returns the error of bytes that are known to have no strict reading. It first requests memory
+/// for their length, as for other bytes.
 pub fn refuse<A: Allocator>(alloc: A, len: usize) -> DecodeFault {
     match String::with_capacity(alloc, len) {
         Ok(_) => DecodeFault::Invalid(DecodingError(())),
@@ -103,8 +104,9 @@ pub fn refuse<A: Allocator>(alloc: A, len: usize) -> DecodeFault {
     }
 }
 
-/// The lossy reading of the bytes, after one request for its length. A length that does not fit
-/// counts as refused. Up to a window is read before memory is asked for, so that no pass measures it.
+/// Returns the lossy reading of the bytes, after one request for its length. A length that does not
+/// fit counts as refused. Up to a window is decoded before memory is requested, so that it needs no
+/// pass for the length.
 #[inline(never)]
 pub fn decode_lossy<A: Allocator>(
     alloc: A,
@@ -134,15 +136,15 @@ pub fn decode_lossy<A: Allocator>(
     };
     let len = lossy_len(flavor, bytes).ok_or(AllocError)?;
     let mut text = String::with_capacity(alloc, len)?;
-    // Lossy reading refuses nothing, so only memory can be missing.
+    // Lossy reading accepts all bytes, so the only error is out of memory.
     if let Err(_) = read_text(options, bytes, &mut text) {
         return Err(AllocError);
     }
     exactly(text, len)
 }
 
-/// The lossy reading of the bytes of one window, in rooms of these lengths. It is not inlined, so that
-/// they are made only where it is called.
+/// Returns the lossy reading of the bytes of one window, in buffers of these lengths. It is not
+/// inlined, so that the buffers are made only when it is called.
 #[inline(never)]
 fn decode_in<const LEN: usize, const WRITTEN: usize, A: Allocator>(
     alloc: A,
@@ -162,7 +164,7 @@ fn decode_in<const LEN: usize, const WRITTEN: usize, A: Allocator>(
     copy_text(alloc, read.text)
 }
 
-/// The length of the lossy reading, in bytes of UTF-8, if it fits.
+/// Returns the length of the lossy reading, in bytes of UTF-8, if it fits.
 pub fn lossy_len(flavor: Flavor, bytes: &[u8]) -> Option<usize>
     ensures some { IfSome result (λ len. len ≡ lossy_length (flavor_of flavor) bytes.now) }
     ensures none { IfNone result (usize.MAX < lossy_length (flavor_of flavor) bytes.now) }
@@ -192,7 +194,7 @@ fn read_text<A: Allocator>(
     Ok(())
 }
 
-/// Appends the text of the next bytes, all but a few of them, and gives those that are left.
+/// Appends the text of the next bytes, all but a few of them, and returns the bytes that are left.
 #[inline(always)]
 fn append_next<'b, A: Allocator>(
     options: DecodeOptions,
@@ -212,7 +214,7 @@ fn append_next<'b, A: Allocator>(
     append_long(options, bytes, out)
 }
 
-/// The same for more bytes than are read in a small window. Its room is made only where it is called.
+/// The same for more bytes than a small window has. Its buffer is made only when it is called.
 #[inline(never)]
 fn append_long<'b, A: Allocator>(
     options: DecodeOptions,
@@ -227,7 +229,7 @@ fn append_long<'b, A: Allocator>(
         × HasFault (flavor_of options.flavor) bytes.now) }
 {
     let mut room = [0; 1088];
-    // A first window that is short refuses most input that is no text.
+    // A short first window rejects most input that has no text.
     let mut most = if options.lossy { WINDOW } else { SHORT };
     let mut rest = bytes;
     while rest.len() > SMALL {
@@ -237,8 +239,8 @@ fn append_long<'b, A: Allocator>(
     Ok(rest)
 }
 
-/// Appends the next piece of text, a window that is joined or some by places, and gives the bytes that
-/// are left.
+/// Appends the next piece of text, from one joined window or some windows by places, and returns
+/// the bytes that are left.
 fn read_windows<'b, A: Allocator>(
     options: DecodeOptions,
     bytes: &'b [u8],
@@ -263,8 +265,8 @@ fn read_windows<'b, A: Allocator>(
     append_windows(options, bytes, out)
 }
 
-/// Appends the text of some windows by places, and gives the bytes that are left. Its rooms are made
-/// only where it is called.
+/// Appends the text of some windows by places, and returns the bytes that are left. Its buffers are
+/// made only when it is called.
 #[inline(never)]
 fn append_windows<'b, A: Allocator>(
     options: DecodeOptions,

@@ -1,6 +1,6 @@
 //! The encoder: 32 bytes at a time, by vectors, with no branch on what a byte is.
 //!
-//! What is written for a byte of UTF-8 is told by the two bytes before it and the one after it. The
+//! The two bytes before a byte of UTF-8 and the one after it decide what is written for it. The
 //! four bytes `a b c d` of one character become a surrogate pair, ED and two bytes each:
 //!
 //! ```text
@@ -8,13 +8,13 @@
 //! b ──► four bits of b and two of c          d ──► d
 //! ```
 //!
-//! In MUTF-8 the byte 00 becomes C0 80, and every other byte stays as it is. So a row of eight
-//! bytes becomes sixteen lanes, and one shuffle packs those that are written: `blocks` makes the
-//! lanes, `rows` has the shuffles, and `windows` has the loop over the text.
+//! In MUTF-8 the byte 00 becomes C0 80, and every other byte stays. So a row of eight bytes becomes
+//! sixteen lanes, and one shuffle packs those that are written. `blocks` makes the lanes, `rows`
+//! has the shuffles, and `windows` has the loop over the text.
 //!
-//! All is written into slices. A text of up to 128 bytes goes into an array on the stack and is
-//! copied from there, since that costs less than a count before. A longer one is counted, and
-//! written where it has to stand.
+//! Everything is written to slices. A text of up to 128 bytes is encoded to an array on the stack
+//! and copied from there, which costs less than counting first. A longer one is counted, and
+//! written in its final position.
 
 ghost use Rattle.std.specs.Prelude.{◌≡◌, ◌+◌, ◌≤◌, ◌++◌, ◌*◌, [], length, take, OnOk, OnErr, IfOk, IsOk, vec_len, vec_capacity};
 ghost use Rattle.std.specs.Str.{chars};
@@ -35,17 +35,17 @@ use super::writers::{append, append_zeros, copy, copy_to_slice, make_room};
 use crate::error::TooShort;
 use std::alloc::{AllocError, Allocator};
 
-/// How many bytes a text has at most whose encoding is written before its length is known.
+/// The most bytes of a text that is encoded before its length is known.
 const SHORT: usize = 128;
 
-/// The most that the encoding of a short text has, and that of a block.
+/// The most bytes that the encoding of a short text has, and that of a block.
 const SHORT_ENCODED: usize = 2 * SHORT;
 
 const BLOCK_ENCODED: usize = 2 * BLOCK;
 
-/// The encoding of a text, after one request for exactly its length. It is inlined, so that no
-/// answer is handed on twice; what it calls is not, so that a text that is borrowed pays for no
-/// stack, and a text of a block for none but its own.
+/// Returns the encoding of a text, after one request for exactly its length. It is inlined, so that
+/// the result is moved only once. What it calls is not inlined: a text that is borrowed then uses
+/// no stack, and a text of a block only its own.
 #[inline(always)]
 pub fn encode<A: Allocator + Copy>(
     alloc: A,
@@ -64,7 +64,7 @@ pub fn encode<A: Allocator + Copy>(
     }
 }
 
-/// The encoding of a text of at most a block.
+/// Returns the encoding of a text of at most a block.
 #[inline(never)]
 fn encode_block_text<A: Allocator + Copy>(
     alloc: A,
@@ -82,7 +82,7 @@ fn encode_block_text<A: Allocator + Copy>(
     copy(alloc, &written[..len])
 }
 
-/// The encoding of a longer text.
+/// Returns the encoding of a longer text.
 #[inline(never)]
 fn encode_longer<A: Allocator + Copy>(
     alloc: A,
@@ -105,8 +105,8 @@ fn encode_longer<A: Allocator + Copy>(
     Ok(encoded)
 }
 
-/// Appends the encoding of a text, which has this length, after one request, where there is no
-/// room.
+/// Appends the encoding of a text, which has this length. It makes one request if the capacity is
+/// too small.
 pub fn encode_into<A: Allocator + Copy>(
     flavor: Flavor,
     text: &str,
@@ -133,7 +133,7 @@ pub fn encode_into<A: Allocator + Copy>(
     Ok(())
 }
 
-/// Appends the encoding of a text, which has this length, and for which there is room.
+/// Appends the encoding of a text, which has this length, to a buffer with enough capacity.
 fn append_changed<A: Allocator + Copy>(flavor: Flavor, text: &str, len: usize, out: &mut Vec<u8, A>)
     requires len { len ≡ length (encoding (flavor_of flavor) (chars text.now)) }
     requires room { vec_len out.old + len ≤ vec_capacity out.old }
@@ -145,8 +145,8 @@ fn append_changed<A: Allocator + Copy>(flavor: Flavor, text: &str, len: usize, o
     write_text(flavor, text, &mut out[start..]);
 }
 
-/// Writes the encoding of a text at the front of a slice that has room for it, and gives its
-/// length. It is not inlined, so that a text that stays as it is pays for none of its stack.
+/// Writes the encoding of a text at the front of a slice that is long enough, and returns its
+/// length. It is not inlined, so that a text that stays as it is uses none of its stack.
 #[inline(never)]
 fn write_text(flavor: Flavor, text: &str, out: &mut [u8]) -> usize
     requires { length (encoding (flavor_of flavor) (chars text.now)) ≤ length out.old }
@@ -160,7 +160,7 @@ fn write_text(flavor: Flavor, text: &str, out: &mut [u8]) -> usize
     }
 }
 
-/// The same of a text of at most a block, inlined.
+/// The same for a text of at most a block, inlined.
 #[inline(always)]
 fn write_block_text(flavor: Flavor, text: &str, out: &mut [u8]) -> usize
     requires short { length text.now ≤ BLOCK }
@@ -175,8 +175,8 @@ fn write_block_text(flavor: Flavor, text: &str, out: &mut [u8]) -> usize
     }
 }
 
-/// Writes the encoding of a text into a caller's buffer, where it fits. It is not inlined, so that
-/// a text that stays as it is pays for none of its stack.
+/// Writes the encoding of a text to a caller's buffer, if it fits. It is not inlined, so that a
+/// text that stays as it is uses none of its stack.
 #[inline(never)]
 pub fn encode_to_slice(flavor: Flavor, text: &str, buf: &mut [u8]) -> Result<usize, TooShort>
     ensures { WritesAnswer (encoding (flavor_of flavor) (chars text.now)) result buf.old buf.new }
@@ -197,7 +197,7 @@ pub fn encode_to_slice(flavor: Flavor, text: &str, buf: &mut [u8]) -> Result<usi
     Ok(len)
 }
 
-/// The same of a short text, through an array on the stack.
+/// The same for a short text, through an array on the stack.
 #[inline(never)]
 fn encode_short_to_slice(flavor: Flavor, text: &str, buf: &mut [u8]) -> Result<usize, TooShort>
     requires { length text.now ≤ SHORT }

@@ -1,8 +1,8 @@
 //! Joins what is encoded otherwise than in UTF-8: surrogate pairs, and C0 80 in MUTF-8.
 //!
-//! A block of bytes is copied whole, and a mask says where the next byte stands that may have to
-//! change. Whether what comes out is UTF-8 is not looked at here, so it does not matter which bytes
-//! the mask marks: where it leaves one out that has to change, no UTF-8 comes out.
+//! A block of bytes is copied whole, and a mask marks the bytes that may have to change. The caller
+//! tests whether the result is UTF-8, so the mask may mark any bytes: if it omits one that has to
+//! change, the result is not UTF-8.
 
 ghost use Rattle.std.specs.Prelude.{◌≡◌, ◌+◌, ◌<◌, ◌≤◌, ◌↔◌, length, take, drop, IsTrue, IfSome, IfNone};
 ghost use Rattle.simd_cesu8.specs.Encoding.{Flavor as AnyFlavor, Mutf8};
@@ -16,32 +16,32 @@ pub use pairs::joined;
 use pairs::{PAIR_MARKS, is_pair, join_pairs};
 use std::simd::prelude::*;
 
-/// How many bytes are joined at most, beside the end of a pair.
+/// The most bytes that are joined, besides the end of a pair.
 pub const WINDOW: usize = 1024;
 
-/// How many bytes have to stand after those that are joined. Of these, a block that is copied from
-/// their end takes 32, one that is marked from their last byte as many, and a pair across it, 8.
+/// How many bytes must follow those that are joined. A block that is copied from their end needs
+/// 32, a block that is marked from their last byte as many, and a pair across it 8.
 pub const REACH: usize = 48;
 
-/// Room for what a window is joined to, and for the last block that is copied.
+/// A buffer for a joined window, and for the last block that is copied.
 pub type Room = [u8; 1088];
 
-/// What is left to join, and how many bytes of the room are written.
+/// What is left to join, and how many bytes of the buffer are written.
 #[derive(Clone, Copy)]
 pub struct Place<'a> {
     pub rest: &'a [u8],
     pub written: usize,
 }
 
-/// Joins the first `end` bytes, and what stands across their end, or fewer where something stands
-/// that can't be joined. Gives how many bytes it read, and how many it wrote.
+/// Joins the first `end` bytes and a pair across their end, or fewer if some can't be joined.
+/// Returns how many bytes it read, and how many it wrote.
 pub fn join(flavor: Flavor, bytes: &[u8], end: usize, room: &mut Room) -> (usize, usize)
     requires { (end + 48 ≤ length bytes.now) × (end ≤ 1024) }
     ensures within { (result.0 ≤ end + 6) × (result.1 ≤ 1030) }
     ensures joined { IsJoined (flavor_of flavor) (take result.0 bytes.now)
         (take result.1 room.new) }
 {
-    // Inlined for each flavor, the loops below do not ask for it again.
+    // Inlined for each flavor, the loops below do not test it again.
     match flavor {
         Flavor::Cesu8 => join_blocks(Flavor::Cesu8, bytes, end, room),
         Flavor::Mutf8 => join_blocks(Flavor::Mutf8, bytes, end, room),
@@ -120,7 +120,7 @@ fn marks(flavor: Flavor, bytes: &[u8]) -> u32
     (bits & 0xFFFF_FFFF) as u32
 }
 
-/// Joins what is marked, and copies what stands before it, up to a mark of what can't be joined.
+/// Joins what is marked, and copies what precedes it, up to a mark that can't be joined.
 #[inline(always)]
 fn join_marked<'a>(
     flavor: Flavor,
@@ -142,7 +142,7 @@ fn join_marked<'a>(
     let mut written = start.written;
     let mut marks = marks;
     while marks != 0 {
-        // The place follows from the marks alone, so the processor need not wait for what was read.
+        // Only the marks decide the position, so the processor need not wait for what was read.
         let place = marks.trailing_zeros() as usize;
         if place < read || place > bytes.len() - stop {
             break;
@@ -165,7 +165,7 @@ fn join_marked<'a>(
     }
 }
 
-/// Copies a run of bytes, with the others of their block behind them.
+/// Copies a run of bytes, with the others of their block after them.
 #[inline(always)]
 fn copy_run(bytes: &[u8], run: usize, written: usize, room: &mut Room)
     requires run { run ≤ 32 }
@@ -186,9 +186,9 @@ fn store(block: u8x32, out: &mut [u8])
     block.copy_to_slice(out);
 }
 
-/// Joins the surrogate pair that begins the bytes, or in MUTF-8 the null character, and gives how
-/// many bytes it read, and how many it wrote. No branch asks which of them it is, since no
-/// processor can foretell it.
+/// Joins the surrogate pair that begins the bytes, or in MUTF-8 the null character. Returns how
+/// many bytes it read, and how many it wrote. No branch distinguishes them, since no processor can
+/// predict it.
 #[inline(always)]
 fn join_changed(
     flavor: Flavor,
@@ -213,7 +213,7 @@ fn join_changed(
     Some((width, len))
 }
 
-/// Whether the null character of MUTF-8 begins the bytes.
+/// Returns whether the null character of MUTF-8 begins the bytes.
 #[inline(always)]
 fn is_null(flavor: Flavor, bytes: &[u8]) -> bool
     requires { 2 ≤ length bytes.now }
@@ -234,7 +234,7 @@ const NULLS: [u8; 32] = [
 /// The marks of 16 null characters of MUTF-8.
 const NULL_MARKS: u32 = 0x5555_5555;
 
-/// Whether 16 null characters of MUTF-8 begin the bytes.
+/// Returns whether 16 null characters of MUTF-8 begin the bytes.
 #[inline(always)]
 fn is_nulls(bytes: &[u8]) -> bool
     requires { 32 ≤ length bytes.now }

@@ -1,4 +1,4 @@
-//! How long an encoding is, without making it.
+//! The length of an encoding, without encoding.
 
 ghost use Rattle.std.specs.Prelude.{◌≡◌, length};
 ghost use Rattle.std.specs.Str.{chars};
@@ -8,8 +8,8 @@ ghost use Rattle.simd_cesu8.specs.Internal.{flavor_of};
 use super::Flavor;
 use crate::implementation::count::count;
 
-/// The length of a text's encoding, in bytes. A character of four bytes becomes six, and in MUTF-8
-/// U+0000 becomes two.
+/// Returns the length of a text's encoding, in bytes. A character of four bytes becomes six, and in
+/// MUTF-8 U+0000 becomes two.
 pub fn encoded_len(flavor: Flavor, text: &str) -> usize
     ensures { result ≡ length (encoding (flavor_of flavor) (chars text.now)) }
 {

@@ -1,4 +1,4 @@
-//! The two forms of U+0000, in which alone the encodings differ.
+//! The two forms of U+0000, the only difference between the encodings.
 
 ghost use Rattle.std.specs.Prelude.{◌≡◌, map, if◌then◌else◌};
 ghost use Rattle.simd_cesu8.specs.Encoding.{Flavor, Cesu8, Mutf8};
@@ -15,7 +15,7 @@ pub trait NullForm {
     fn nulls(bytes: u8x32) -> u8x32
         ensures { result ≡ map (λ b. mask (is_null flavor b)) bytes };
 
-    /// Marks, with the highest bit, the bytes that are second in C0 80. The other bits are set.
+    /// Marks, with the highest bit, the second bytes of C0 80. The other bits are set.
     fn second_of_null(bytes: u8x32) -> u8x32
         ensures { result ≡ map (λ b. if null_at flavor 0xC0 b then 0xFF else 0x7F) bytes };
 }

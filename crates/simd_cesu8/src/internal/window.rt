@@ -1,4 +1,4 @@
-//! Windows: a stretch of bytes is joined into a room, and read where UTF-8 comes out.
+//! Windows: some bytes are joined into a buffer, and returned as a text if the result is UTF-8.
 
 ghost use Rattle.std.specs.Prelude.{◌+◌, ◌<◌, ◌≤◌, length, take, drop, Bool, IfSome};
 ghost use Rattle.simd_cesu8.specs.Encoding.{Flavor as AnyFlavor};
@@ -10,18 +10,18 @@ use super::joining::{REACH, Room, WINDOW, join};
 use super::{Flavor, contains_changed, is_continuation};
 use simdutf8::basic;
 
-/// How many bytes are no window's worth.
+/// Fewer bytes than these are not read by windows.
 pub const SHORT: usize = 64;
 
-/// The text of the first bytes, and how many they are.
+/// The text of the first bytes, and their number.
 #[derive(Drop)]
 pub struct Piece<'a> {
     pub read: usize,
     pub text: &'a str,
 }
 
-/// Reads a window of at most so many bytes and a character, or what stands in it before a fault.
-/// Where it gives none, nothing is said of the bytes.
+/// Reads a window of at most so many bytes and a character, or the part of it before an error. If
+/// it returns none, nothing is known of the bytes.
 pub fn read_window<'a>(
     flavor: Flavor,
     bytes: &[u8],
@@ -47,7 +47,7 @@ pub fn read_window<'a>(
     }
 }
 
-/// Joins the first bytes, up to the end of a character. Gives how many it read, and how many it
+/// Joins the first bytes, up to the end of a character. Returns how many it read, and how many it
 /// wrote.
 fn join_window(flavor: Flavor, bytes: &[u8], len: usize, room: &mut Room) -> (usize, usize)
     requires { 64 < length bytes.now }
@@ -60,7 +60,7 @@ fn join_window(flavor: Flavor, bytes: &[u8], len: usize, room: &mut Room) -> (us
     copy_end(bytes, read, written, room)
 }
 
-/// Copies the continuation bytes that stand at a place.
+/// Copies the continuation bytes at a position.
 fn copy_end(bytes: &[u8], start: usize, filled: usize, room: &mut Room) -> (usize, usize)
     requires { (start ≤ length bytes.now) × (filled ≤ 1030) }
     ensures within { (result.0 ≤ length bytes.now) × (result.1 ≤ 1036) }

@@ -1,4 +1,4 @@
-//! Writers into room that is there, which can't fail, and copies, each with its one request.
+//! Writers to a buffer with enough capacity, which can't fail, and copies, with one request each.
 
 ghost use Rattle.std.specs.Prelude.{◌≡◌, ◌+◌, ◌<◌, ◌≤◌, ◌++◌, [], length, take, drop, replicate, OnOk, OnErr, IfOk, IsOk, vec_len, vec_capacity};
 ghost use Rattle.std.specs.String.{string_bytes, string_capacity};
@@ -8,7 +8,7 @@ use crate::error::TooShort;
 use std::alloc::{AllocError, Allocator};
 use std::mem;
 
-/// Makes room for so many bytes more, by one request where there is none.
+/// Reserves capacity for so many bytes more, by one request if the buffer has too little.
 pub fn make_room<A: Allocator>(len: usize, out: &mut Vec<u8, A>) -> Result<(), AllocError>
     ensures items { out.new.items ≡ out.old.items }
     ensures ok { OnOk result (vec_len out.new + len ≤ vec_capacity out.new) }
@@ -24,14 +24,14 @@ pub fn make_room<A: Allocator>(len: usize, out: &mut Vec<u8, A>) -> Result<(), A
     out.reserve(len)
 }
 
-/// Appends bytes for which there is room.
+/// Appends bytes to a buffer with enough capacity.
 #[inline(always)]
 pub fn append<A: Allocator + Copy>(bytes: &[u8], out: &mut Vec<u8, A>)
     requires { vec_len out.old + length bytes.now ≤ vec_capacity out.old }
     ensures bytes { out.new.items ≡ out.old.items ++ bytes.now }
     ensures capacity { vec_capacity out.new ≡ vec_capacity out.old }
 {
-    // The length of a vector of its own stays in a register; behind a reference, each byte that is
+    // The length of a local vector stays in a register; behind a reference, each byte that is
     // written would store it.
     let mut taken = mem::replace(out, Vec::new(*out.allocator()));
     for byte in bytes {
@@ -40,14 +40,14 @@ pub fn append<A: Allocator + Copy>(bytes: &[u8], out: &mut Vec<u8, A>)
     *out = taken;
 }
 
-/// Appends so many zeros, for which there is room.
+/// Appends so many zeros to a buffer with enough capacity.
 #[inline(always)]
 pub fn append_zeros<A: Allocator + Copy>(count: usize, out: &mut Vec<u8, A>)
     requires { vec_len out.old + count ≤ vec_capacity out.old }
     ensures bytes { out.new.items ≡ out.old.items ++ replicate count 0 }
     ensures capacity { vec_capacity out.new ≡ vec_capacity out.old }
 {
-    // A vector of its own, as in `append`.
+    // A local vector, as in `append`.
     let mut taken = mem::replace(out, Vec::new(*out.allocator()));
     for _ in 0..count {
         taken.push_reserved(0);
@@ -55,7 +55,7 @@ pub fn append_zeros<A: Allocator + Copy>(count: usize, out: &mut Vec<u8, A>)
     *out = taken;
 }
 
-/// Copies bytes to a place of a slice, and gives the end of them.
+/// Copies bytes to a position of a slice, and returns where they end.
 #[inline(always)]
 pub fn put(bytes: &[u8], out: &mut [u8], at: usize) -> usize
     requires { at + length bytes.now ≤ length out.old }
@@ -69,7 +69,7 @@ pub fn put(bytes: &[u8], out: &mut [u8], at: usize) -> usize
     end
 }
 
-/// Copies bytes to the front of a caller's buffer, where they fit.
+/// Copies bytes to the front of a caller's buffer, if they fit.
 #[inline(always)]
 pub fn copy_to_slice(bytes: &[u8], buf: &mut [u8]) -> Result<usize, TooShort>
     ensures { WritesAnswer bytes.now result buf.old buf.new }
@@ -82,7 +82,7 @@ pub fn copy_to_slice(bytes: &[u8], buf: &mut [u8]) -> Result<usize, TooShort>
     Ok(len)
 }
 
-/// A copy of some bytes, after one request for their length.
+/// Returns a copy of some bytes, after one request for their length.
 pub fn copy<A: Allocator + Copy>(alloc: A, bytes: &[u8]) -> Result<Vec<u8, A>, AllocError>
     ensures bytes { IfOk result (λ copied. copied.items ≡ bytes.now) }
     ensures capacity { IfOk result (λ copied. vec_capacity copied ≡ length bytes.now) }
@@ -93,14 +93,14 @@ pub fn copy<A: Allocator + Copy>(alloc: A, bytes: &[u8]) -> Result<Vec<u8, A>, A
     Ok(copied)
 }
 
-/// A copy of a text, after one request for its length.
+/// Returns a copy of a text, after one request for its length.
 pub fn copy_text<A: Allocator>(alloc: A, text: &str) -> Result<String<A>, AllocError>
     ensures text { IfOk result (λ copied. string_bytes copied ≡ text.now) }
     ensures capacity { IfOk result (λ copied. string_capacity copied ≡ length text.now) }
     ensures empty { text.now ≡ [] → IsOk result }
 {
     if text.is_empty() {
-        // Nothing is asked for, so nothing is refused.
+        // No request is made, so none is refused.
         return String::with_capacity(alloc, 0);
     }
     let mut copied = String::with_capacity(alloc, text.len())?;
@@ -108,8 +108,8 @@ pub fn copy_text<A: Allocator>(alloc: A, text: &str) -> Result<String<A>, AllocE
     exactly(copied, text.len())
 }
 
-/// The text, whose capacity has to be what was asked for. There was room for all of it, so nothing
-/// has grown: std's words leave that open, and the contract does not.
+/// Returns the text, whose capacity must be what was requested. All of it fitted, so the capacity
+/// has not grown; std's contracts leave that open, and this one does not.
 pub fn exactly<A: Allocator>(text: String<A>, capacity: usize) -> Result<String<A>, AllocError>
     ensures text { IfOk result (λ exact. string_bytes exact ≡ string_bytes text) }
     ensures capacity { IfOk result (λ exact. string_capacity exact ≡ capacity) }

@@ -1,4 +1,4 @@
-//! Appends the text of a window by places, in rooms of its size.
+//! Appends the text of a window by places, in buffers of its size.
 
 ghost use Rattle.std.specs.Prelude.{◌≡◌, ◌+◌, ◌*◌, ◌<◌, ◌≤◌, ◌++◌, length, replicate, false, OnOk, IfOk};
 ghost use Rattle.std.specs.String.{string_bytes};
@@ -16,7 +16,7 @@ use crate::error::{DecodeFault, DecodingError};
 use crate::internal::DecodeOptions;
 use std::alloc::Allocator;
 
-/// Appends the text of one small window, and gives the bytes that are left.
+/// Appends the text of one small window, and returns the bytes that are left.
 pub fn append_small<'b, A: Allocator>(
     options: DecodeOptions,
     bytes: &'b [u8],
@@ -38,7 +38,7 @@ pub fn append_small<'b, A: Allocator>(
     append_in::<SMALL_ROOM, SMALL_WRITTEN_ROOM, A>(options, bytes, out)
 }
 
-/// The same for one window in rooms of these lengths, which are made only where it is called.
+/// The same for one window in buffers of these lengths, which are made only when it is called.
 #[inline(never)]
 pub fn append_in<'b, const LEN: usize, const WRITTEN: usize, A: Allocator>(
     options: DecodeOptions,
@@ -59,7 +59,7 @@ pub fn append_in<'b, const LEN: usize, const WRITTEN: usize, A: Allocator>(
     append_window(options, bytes, &mut window, &mut written, out)
 }
 
-/// Appends the text of a window by places, and gives the bytes that are left.
+/// Appends the text of a window by places, and returns the bytes that are left.
 #[inline(always)]
 pub fn append_window<'b, A: Allocator>(
     options: DecodeOptions,

@@ -1,4 +1,4 @@
-//! Reads bytes by places in one flavor or the other, and tests that what is written is a text.
+//! Decodes bytes by places in either flavor, and tests that the result is a text.
 
 ghost use Rattle.std.specs.Prelude.{◌≡◌, ◌+◌, ◌*◌, ◌<◌, ◌≤◌, length, take, drop, replicate, false, true};
 ghost use Rattle.std.specs.Str.{IsUtf8};
@@ -13,11 +13,11 @@ use simdutf8::basic;
 /// How many bytes are tested at a time by vectors,
 const TESTED: usize = 64;
 
-/// and from how many on that pays.
+/// and the least length for which that is faster.
 const PAYING: usize = 9;
 
-/// What is read by places: how many bytes, their text in lossy reading, and whether some of them are
-/// damaged.
+/// What is decoded by places: how many bytes, their text in lossy reading, and whether some of them
+/// are damaged.
 #[derive(Drop)]
 pub struct ReadWindow<'a> {
     pub len: usize,
@@ -25,7 +25,7 @@ pub struct ReadWindow<'a> {
     pub is_damaged: bool,
 }
 
-/// Reads the first bytes by places.
+/// Decodes the first bytes by places.
 #[inline(always)]
 pub fn read_by_places<'a>(
     flavor: Flavor,
@@ -53,8 +53,8 @@ pub fn read_by_places<'a>(
     }
 }
 
-/// The text that is written up to `end`. A longer one is tested with zeros behind it, so that no test
-/// by vectors is of fewer bytes than a block.
+/// Returns the text that is written up to `end`. A longer one is tested with zeros after it, so
+/// that vectors test no fewer bytes than a block.
 #[inline(always)]
 fn text_of(written: &mut [u8], end: usize) -> &str
     requires room { end + TESTED ≤ length written.old }
@@ -68,7 +68,7 @@ fn text_of(written: &mut [u8], end: usize) -> &str
     &tested(&written[..TESTED * end.div_ceil(TESTED)])[..end]
 }
 
-/// Bytes that are UTF-8, tested.
+/// Returns bytes that are UTF-8 as a text, after a test.
 #[inline(always)]
 fn tested(bytes: &[u8]) -> &str
     requires { IsUtf8 bytes.now }

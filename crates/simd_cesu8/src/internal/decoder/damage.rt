@@ -1,4 +1,4 @@
-//! Looks for damage before anything is written, by places and with no branch on what a byte is.
+//! Finds damage before anything is written, by places and with no branch on a single byte.
 
 ghost use Rattle.std.specs.Prelude.{◌≡◌, ℕ, ◌+◌, ◌<◌, ◌≤◌, List, IsTrue, true, false, length, drop, replicate, slice_index, IfSome, IfNone};
 ghost use Rattle.simd_cesu8.specs.Reading.{IsStrictReading, HasNoStrictReading, reading};
@@ -14,7 +14,7 @@ use crate::internal::Flavor;
 use crate::internal::null_form::{NullForm, OneByteNull, TwoByteNull};
 use std::simd::prelude::*;
 
-/// Whether some byte is in no encoded character.
+/// Returns whether some byte is in no encoded character.
 pub fn is_damaged(flavor: Flavor, bytes: &[u8]) -> bool
     ensures damaged { IsTrue result → HasNoStrictReading (flavor_of flavor) bytes.now }
     ensures whole { result ≡ false → IsStrictReading (flavor_of flavor) bytes.now
@@ -30,7 +30,7 @@ pub fn is_damaged(flavor: Flavor, bytes: &[u8]) -> bool
     false
 }
 
-/// The bytes behind those of a window, where none of these is damaged.
+/// Returns the bytes after those of a window, if none of these is damaged.
 fn behind_whole(flavor: Flavor, bytes: &[u8]) -> Option<&[u8]>
     requires { 0 < length bytes.now }
     ensures less { IfSome result (λ rest. length rest.now < length bytes.now) }
@@ -63,7 +63,7 @@ fn behind_whole_window<'b, N: NullForm>(bytes: &'b [u8], window: &mut [u8]) -> O
     Some(&bytes[read..])
 }
 
-/// Whether some of the first `count` bytes of a window are damaged.
+/// Returns whether some of the first `count` bytes of a window are damaged.
 #[inline(always)]
 fn has_damage<N: NullForm>(window: &[u8], count: usize) -> bool
     requires window { count + AROUND ≤ length window.now }

@@ -1,4 +1,4 @@
-//! How long the lossy reading is, by what each place saves of three bytes for each byte.
+//! The length of the lossy reading: three bytes for each byte, less what each position saves.
 
 ghost use Rattle.std.specs.Prelude.{◌≡◌, ◌+◌, ◌*◌, ◌<◌, ◌≤◌, length, map, IfSome, IfNone};
 ghost use Rattle.std.specs.List.{range_with_len};
@@ -11,15 +11,16 @@ use super::places::{BEHIND, REACH, look_up, starts};
 use crate::internal::null_form::NullForm;
 use std::simd::prelude::*;
 
-/// What a character saves of two bytes or more, by the lower half of its code and by the upper half.
+/// What a character of two or more bytes saves, by the lower half of its code and by the upper
+/// half.
 const BY_LOW: [u8; 16] = [0, 4, 4, 0, 6, 0, 0, 0, 6, 0, 0, 0, 0, 0, 0, 0];
 
 const BY_HIGH: [u8; 16] = [0, 6, 14, 0, 0, 0, 0, 0, 5, 0, 0, 0, 0, 0, 0, 0];
 
-/// How many blocks of 32 places each lane sums up at most: a place saves no more than 14.
+/// The most blocks of 32 positions that each lane sums up: a position saves at most 14.
 const BLOCKS: usize = 16;
 
-/// The length of the lossy reading, if it is a `usize`.
+/// Returns the length of the lossy reading, if it fits `usize`.
 pub fn lossy_len<N: NullForm>(bytes: &[u8]) -> Option<usize>
     ensures some { IfSome result (λ len. len ≡ lossy_length N.flavor bytes.now) }
     ensures none { IfNone result (usize.MAX < lossy_length N.flavor bytes.now) }
@@ -28,7 +29,7 @@ pub fn lossy_len<N: NullForm>(bytes: &[u8]) -> Option<usize>
     usize::try_from(most - saved::<N>(bytes)).ok()
 }
 
-/// What all places save.
+/// Returns what all positions save.
 fn saved<N: NullForm>(bytes: &[u8]) -> u128
     ensures { result ≡ all_saved N.flavor bytes.now }
 {
@@ -42,7 +43,7 @@ fn saved<N: NullForm>(bytes: &[u8]) -> u128
     saved + saved_by_rest::<N>(rest) as u128
 }
 
-/// What the places of the first blocks save.
+/// Returns what the positions of the first blocks save.
 #[inline(always)]
 fn saved_by_blocks<N: NullForm>(bytes: &[u8], count: usize) -> usize
     requires count { count ≤ BLOCKS }
@@ -56,7 +57,8 @@ fn saved_by_blocks<N: NullForm>(bytes: &[u8], count: usize) -> usize
     lane_sum(lanes)
 }
 
-/// What the places of a few bytes save. FF behind them begins nothing and is in no character.
+/// Returns what the positions of a few bytes save. They are followed by FF, which begins nothing
+/// and is in no character.
 #[inline(always)]
 fn saved_by_rest<N: NullForm>(bytes: &[u8]) -> usize
     requires { length bytes.now < REACH }
@@ -67,7 +69,7 @@ fn saved_by_rest<N: NullForm>(bytes: &[u8]) -> usize
     saved_by_blocks::<N>(&padded, 2)
 }
 
-/// The sum of the lanes.
+/// Returns the sum of the lanes.
 #[inline(always)]
 fn lane_sum(lanes: u8x32) -> usize
     ensures { result ≡ sum_l lanes }
@@ -75,7 +77,7 @@ fn lane_sum(lanes: u8x32) -> usize
     lanes.dot4(u8x32::splat(1)).strict_reduce_sum() as usize
 }
 
-/// What the 32 places from `at` on save.
+/// Returns what the 32 positions from `at` on save.
 #[inline(always)]
 fn saved_lanes<N: NullForm>(bytes: &[u8], at: usize) -> u8x32
     requires { at + REACH ≤ length bytes.now }

@@ -1,5 +1,5 @@
-//! How what becomes of 32 bytes is packed: by a shuffle for each four bytes, or for each eight where
-//! no byte is damaged.
+//! Packs what becomes of 32 bytes: by a shuffle for each four bytes, or for each eight if no byte
+//! is damaged.
 
 ghost use Rattle.std.specs.Prelude.{◌≡◌, List, Bool, ◌+◌, ◌%◌, ◌<◌, ◌≤◌, ◌∷◌, [], ◌++◌, false, length, map, take, replicate, slice_index};
 ghost use Rattle.std.specs.Simd.Lanes.{chunk, mask_l};
@@ -9,9 +9,9 @@ use super::rows_of_eight::rows_of_eight;
 use crate::internal::Rows;
 use std::simd::prelude::*;
 
-/// What becomes of the bytes of a block. Where a lane of `damaged` has its highest bit, the
-/// replacement character is written, else where one of `gone` has it, nothing is, and else the lane
-/// of `bytes`.
+/// What becomes of the bytes of a block. If a lane of `damaged` has its highest bit set, the
+/// replacement character is written; else if one of `gone` has it set, nothing is; else the lane of
+/// `bytes`.
 #[derive(Drop)]
 pub struct Parts {
     pub bytes: u8x32,
@@ -19,7 +19,7 @@ pub struct Parts {
     pub damaged: u8x32,
 }
 
-/// Stores what becomes of a block, and gives the end of it.
+/// Stores what becomes of a block, and returns its end.
 #[inline(always)]
 pub fn store(parts: Parts, rows: &Rows, out: &mut [u8], at: usize) -> usize
     requires rows { AreShufflesOfFour rows.now }
@@ -50,7 +50,7 @@ pub fn store(parts: Parts, rows: &Rows, out: &mut [u8], at: usize) -> usize
     )
 }
 
-/// Stores what becomes of a block of which no byte is damaged.
+/// Stores what becomes of a block without a damaged byte.
 #[inline(always)]
 fn store_whole(parts: Parts, out: &mut [u8], at: usize) -> usize
     requires whole { mask_l (map is_high parts.damaged) ≡ 0 }
@@ -73,7 +73,7 @@ fn store_whole(parts: Parts, out: &mut [u8], at: usize) -> usize
     store_eight(second_of(third), gone >> 24 & 0xFF, out, at)
 }
 
-/// Stores those of eight bytes that don't go, by the set of those that do, and gives their end.
+/// Stores those of eight bytes that don't go, by the set of those that do, and returns their end.
 #[inline(always)]
 fn store_eight(lanes: u8x16, gone: usize, out: &mut [u8], at: usize) -> usize
     requires small { gone < 0x100 }
@@ -90,7 +90,7 @@ fn store_eight(lanes: u8x16, gone: usize, out: &mut [u8], at: usize) -> usize
     at + row[15] as usize
 }
 
-/// A bit for each lane whose highest bit is set.
+/// Returns a bit for each lane whose highest bit is set.
 #[inline(always)]
 pub fn highest_bits(lanes: u8x32) -> u64
     ensures { result ≡ mask_l (map is_high lanes) }
@@ -142,7 +142,7 @@ fn store_half(
     store_four(second_of(third), back >> 8 & 0xFF, rows, out, at)
 }
 
-/// The upper half of some lanes, twice.
+/// Returns the upper half of some lanes, twice.
 #[inline(always)]
 fn second_of(lanes: u8x16) -> u8x16
     ensures { result ≡ chunk 8 8 lanes ++ chunk 8 8 lanes }
@@ -150,7 +150,7 @@ fn second_of(lanes: u8x16) -> u8x16
     lanes.swizzle::<16>([8, 9, 10, 11, 12, 13, 14, 15, 8, 9, 10, 11, 12, 13, 14, 15])
 }
 
-/// A bit for each lane whose highest bit is set.
+/// Returns a bit for each lane whose highest bit is set.
 #[inline(always)]
 fn sets(lanes: u8x16) -> usize
     ensures { result ≡ mask_l (map is_high lanes) }
@@ -158,8 +158,9 @@ fn sets(lanes: u8x16) -> usize
     lanes.simd_ge(u8x16::splat(0x80)).to_bitmask() as usize
 }
 
-/// Stores what becomes of four bytes, behind which the replacement character stands, and gives the
-/// end of it. The lower four bits of the set say which go, and the others which are damaged.
+/// Stores what becomes of four bytes, which the replacement character follows in the lanes, and
+/// returns its end. The lower four bits of the set mark those that go, and the others those that
+/// are damaged.
 #[inline(always)]
 fn store_four(lanes: u8x16, set: usize, rows: &Rows, out: &mut [u8], at: usize) -> usize
     requires rows { AreShufflesOfFour rows.now }
@@ -178,7 +179,7 @@ fn store_four(lanes: u8x16, set: usize, rows: &Rows, out: &mut [u8], at: usize) 
     at + row[15] as usize
 }
 
-/// The lanes at the positions that the lower halves of a row's numbers are.
+/// Returns the lanes at the positions in the lower halves of a row's numbers.
 #[inline(always)]
 fn picked(lanes: u8x16, row: u8x16) -> u8x16
     ensures { result ≡ map (λ j. slice_index lanes (j % 0x10)) row }

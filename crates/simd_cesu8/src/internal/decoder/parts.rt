@@ -1,7 +1,7 @@
 //! What becomes of 32 bytes, by vectors: each stays, changes, goes or is replaced.
 //!
-//! It is told by what begins at the byte's place and at the five before it. The six bytes of a
-//! surrogate pair, ED and two, and again, become four:
+//! The characters that begin at the byte's position and at the five before it decide this. The six
+//! bytes of a surrogate pair, ED and two, twice, become four:
 //!
 //! ```text
 //! first, second ──► nothing                       fifth ──► two bits of the third, four of its own
@@ -23,8 +23,9 @@ use crate::internal::Rows;
 use crate::internal::null_form::NullForm;
 use std::simd::prelude::*;
 
-/// The first byte of the UTF-8 of a surrogate pair, by the lower half of the pair's second byte, the
-/// two upper bits of the second, and, by the lower half of the pair's third byte, those of the third.
+/// The first byte of the UTF-8 of a surrogate pair, by the lower half of the pair's second byte.
+/// The next two tables have the upper bits of the UTF-8's second byte, by the same half, and of its
+/// third byte, by the lower half of the pair's third byte.
 const FIRST_BY_SECOND: [u8; 16] = [
     0xF0, 0xF0, 0xF0, 0xF1, 0xF1, 0xF1, 0xF1, 0xF2, 0xF2, 0xF2, 0xF2, 0xF3, 0xF3, 0xF3, 0xF3, 0xF4,
 ];
@@ -43,7 +44,7 @@ const NUMBERS: [u8; 32] = [
     26, 27, 28, 29, 30, 31,
 ];
 
-/// How many bytes of room a block needs. What is written last may be of no use.
+/// How long the buffer for a block must be. The last bytes that are written may not be used.
 pub const ROOM: usize = 112;
 
 /// The end of what is written for a block, and whether some of its bytes are damaged.
@@ -53,8 +54,8 @@ pub struct Block {
     pub is_damaged: bool,
 }
 
-/// Writes what becomes of the first `count` bytes of a block, which stand behind `at` bytes of the
-/// window and five more.
+/// Writes what becomes of the first `count` bytes of a block, which follow `at` bytes of the window
+/// and five more.
 #[inline(always)]
 pub fn write_block<N: NullForm>(
     window: &[u8],
@@ -87,7 +88,7 @@ pub fn write_block<N: NullForm>(
     }
 }
 
-/// Whether some of the first `count` bytes of such a block are damaged.
+/// Returns whether some of the first `count` bytes of such a block are damaged.
 #[inline(always)]
 pub fn is_block_damaged<N: NullForm>(window: &[u8], codes: &Codes, at: usize, count: usize) -> bool
     requires count { count ≤ 32 }
@@ -101,8 +102,8 @@ pub fn is_block_damaged<N: NullForm>(window: &[u8], codes: &Codes, at: usize, co
     highest_bits(damaged::<N>(window, codes, at, count)) != 0
 }
 
-/// What becomes of the first `count` of the 32 bytes behind `at` bytes of the window and five more.
-/// The others go.
+/// Returns what becomes of the first `count` of the 32 bytes that follow `at` bytes of the window
+/// and five more. The others go.
 #[inline(always)]
 fn parts_at<N: NullForm>(window: &[u8], codes: &Codes, at: usize, count: usize) -> Parts
     requires count { count ≤ 32 }
@@ -121,7 +122,7 @@ fn parts_at<N: NullForm>(window: &[u8], codes: &Codes, at: usize, count: usize) 
     }
 }
 
-/// Marks, with the highest bit, those of the first `count` bytes that go, and the others.
+/// Marks, with the highest bit, those of the first `count` bytes that go, and all later bytes.
 #[inline(always)]
 fn gone(codes: &Codes, count: usize) -> u8x32
     requires count { count ≤ 32 }
@@ -154,7 +155,7 @@ fn damaged<N: NullForm>(window: &[u8], codes: &Codes, at: usize, count: usize) -
     alone & (byte | N::nulls(byte)) & (behind(count as u8) ^ u8x32::splat(0xFF))
 }
 
-/// All ones in the lanes from `count` on, and else zeros.
+/// Returns all ones in the lanes from `count` on, and otherwise zeros.
 #[inline(always)]
 fn behind(count: u8) -> u8x32
     ensures { result ≡ map (λ lane. mask (nat_le count lane)) (range_with_len 0 32) }
@@ -164,8 +165,8 @@ fn behind(count: u8) -> u8x32
         .select(u8x32::splat(0xFF), u8x32::splat(0))
 }
 
-/// The bytes, and in place of those of surrogate pairs and of C0 80 what they become. Most blocks have
-/// many of these or none.
+/// Returns the bytes, with those of surrogate pairs and of C0 80 replaced by what they become. Most
+/// blocks have many of these or none.
 #[inline(always)]
 fn joined(window: &[u8], codes: &Codes, at: usize) -> u8x32
     requires window { at + REACH ≤ length window.now }
@@ -194,7 +195,7 @@ fn joined(window: &[u8], codes: &Codes, at: usize) -> u8x32
     chosen(codes[3] & pair, first, joined)
 }
 
-/// The lanes of `some` where those of a mark are not 0, and else of `other`.
+/// Returns the lanes of `some` where those of a mark are not 0, and otherwise those of `other`.
 #[inline(always)]
 fn chosen(mark: u8x32, some: u8x32, other: u8x32) -> u8x32
     ensures { result ≡ sel_l (map (λ lane. not (lane == 0)) mark) some other }

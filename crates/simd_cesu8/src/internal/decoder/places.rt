@@ -1,6 +1,6 @@
-//! What begins at each place of some bytes, by vectors.
+//! What begins at each position of some bytes, by vectors.
 //!
-//! It is told by the six bytes from the place on, and kept as a code of one bit, or none.
+//! The six bytes from the position on decide this. The result is a code of one bit, or none.
 
 ghost use Rattle.std.specs.Prelude.{◌≡◌, ◌==◌, ◌+◌, ◌%◌, ◌≤◌, ℕ, List, length, map, slice_index};
 ghost use Rattle.std.specs.List.{range_with_len};
@@ -25,8 +25,9 @@ pub const PAIR: u8 = 0x20;
 /// That of C0 80 in MUTF-8.
 pub const NULL: u8 = 0x80;
 
-/// The codes of what two bytes begin are in all of three tables: by the upper half of the first byte,
-/// by its lower half, and by the upper half of the second. There `NULL` is that of C0 80 to C0 8F.
+/// The codes of what two bytes begin are the common bits of three tables: by the upper half of the
+/// first byte, by its lower half, and by the upper half of the second. There `NULL` is the code of
+/// C0 80 to C0 8F.
 const BY_HIGH: [u8; 16] = [0, 0, 0, 0, 0, 0, 0, 0, 0, 0, 0, 0, 0x81, 0x02, 0x3C, 0];
 
 const BY_LOW: [u8; 16] = [
@@ -41,7 +42,7 @@ const TWICE: [usize; 32] = [
     13, 14, 15,
 ];
 
-// The positions of 32 lanes, from so many on.
+// The positions of 32 lanes, from the number in the name on.
 const FROM_27: [usize; 32] = [
     27, 28, 29, 30, 31, 32, 33, 34, 35, 36, 37, 38, 39, 40, 41, 42, 43, 44, 45, 46, 47, 48, 49, 50,
     51, 52, 53, 54, 55, 56, 57, 58,
@@ -67,16 +68,16 @@ const FROM_31: [usize; 32] = [
     55, 56, 57, 58, 59, 60, 61, 62,
 ];
 
-/// How many bytes behind a place tell what begins there.
+/// How many bytes after a position decide what begins there.
 pub const BEHIND: usize = 5;
 
-/// How many bytes tell what begins at the places of a block.
+/// How many bytes decide what begins at the positions of a block.
 pub const REACH: usize = 32 + BEHIND;
 
 /// The least byte that begins two bytes or more.
 const LEAD: u8 = 0xC0;
 
-/// The codes of the 32 places from `at` on. Where no byte can lead others, they are zeros.
+/// Returns the codes of the 32 positions from `at` on. If no byte can lead others, they are zeros.
 #[inline(always)]
 pub fn starts<N: NullForm>(bytes: &[u8], at: usize) -> u8x32
     requires { at + REACH ≤ length bytes.now }
@@ -99,10 +100,11 @@ pub fn starts<N: NullForm>(bytes: &[u8], at: usize) -> u8x32
     by_two::<N>(first, second) & (of_three | u8x32::splat(TWO | NULL))
 }
 
-/// The codes of the places about a block: at index `d` those of the places `5 - d` before its bytes.
+/// The codes of the positions around a block: at index `d` those of the positions `5 - d` before
+/// its bytes.
 pub type Codes = [u8x32; 6];
 
-/// The same from the codes of the places of its bytes, and of the 32 before.
+/// Returns these, from the codes of the positions of its bytes and of the 32 before.
 #[inline(always)]
 pub fn near(before: u8x32, here: u8x32) -> Codes
     ensures { (f : Flavor) (window : List ℕ) (at : ℕ) → AreFiveCodes f window at before 27
@@ -119,7 +121,7 @@ pub fn near(before: u8x32, here: u8x32) -> Codes
     ]
 }
 
-/// What two bytes begin, if the others are there.
+/// Returns what two bytes begin, if the others follow.
 #[inline(always)]
 fn by_two<N: NullForm>(first: u8x32, second: u8x32) -> u8x32
     ensures { result ≡ zip2 (code_of_two N.flavor) first second }
@@ -131,7 +133,7 @@ fn by_two<N: NullForm>(first: u8x32, second: u8x32) -> u8x32
         & N::second_of_null(second)
 }
 
-/// What a table has for the lower half of each lane.
+/// Returns the entry of a table for the lower half of each lane.
 #[inline(always)]
 pub fn look_up(table: [u8; 16], lanes: u8x32) -> u8x32
     ensures { result ≡ map (λ lane. slice_index table (lane % 16)) lanes }
@@ -141,7 +143,7 @@ pub fn look_up(table: [u8; 16], lanes: u8x32) -> u8x32
         .swizzle_dyn_within::<16>(lanes & u8x32::splat(15))
 }
 
-/// All ones where a lane is equal to a byte, and else zeros.
+/// Returns all ones where a lane is equal to a byte, and otherwise zeros.
 #[inline(always)]
 pub fn equal(lanes: u8x32, byte: u8) -> u8x32
     ensures { result ≡ map (λ lane. mask (lane == byte)) lanes }
@@ -151,7 +153,7 @@ pub fn equal(lanes: u8x32, byte: u8) -> u8x32
         .select(u8x32::splat(0xFF), u8x32::splat(0))
 }
 
-/// All ones where a byte is a continuation byte.
+/// Returns all ones where a byte is a continuation byte, and otherwise zeros.
 #[inline(always)]
 fn continuations(bytes: u8x32) -> u8x32
     ensures { result ≡ map (λ b. mask (continues b)) bytes }

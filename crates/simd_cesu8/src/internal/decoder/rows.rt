@@ -1,12 +1,12 @@
-//! How four bytes are packed, by a shuffle for each set of those that go and those that are damaged.
+//! The shuffles that pack four bytes, one for each set of those that go and those that are damaged.
 
 ghost use Rattle.simd_cesu8.specs.DecodedLanes.{AreShufflesOfFour};
 
 use crate::internal::Rows;
 
-/// Lanes 0 to 3 of what is shuffled have the bytes, and lanes 4 to 6 the replacement character. In
-/// row `d` byte `i` is replaced where bit `4 + i` of `d` is set, and else goes where bit `i` is.
-/// The last number of a row is not shuffled: it is how many bytes are written.
+/// Lanes 0 to 3 have the bytes, and lanes 4 to 6 the replacement character. In row `d` byte `i` is
+/// replaced if bit `4 + i` of `d` is set, and else goes if bit `i` is. The last number of a row is
+/// not for the shuffle: it is how many bytes are written.
 const ROWS: Rows = [
     [0, 1, 2, 3, 0, 0, 0, 0, 0, 0, 0, 0, 0, 0, 0, 4],
     [1, 2, 3, 0, 0, 0, 0, 0, 0, 0, 0, 0, 0, 0, 0, 3],
@@ -266,7 +266,7 @@ const ROWS: Rows = [
     [4, 5, 6, 4, 5, 6, 4, 5, 6, 4, 5, 6, 0, 0, 0, 12],
 ];
 
-/// The rows, where they are.
+/// Returns a reference to the rows.
 pub fn rows() -> &'static Rows
     ensures { AreShufflesOfFour result.now }
 {

@@ -1,10 +1,10 @@
-//! How eight bytes are packed of which none is damaged, by a shuffle for each set of those that go.
+//! The shuffles that pack eight bytes of which none is damaged, one for each set of those that go.
 
 ghost use Rattle.simd_cesu8.specs.DecodedLanes.{AreShufflesOfEight};
 
 use crate::internal::Rows;
 
-/// In row `gone` byte `i` goes where bit `i` of `gone` is set. The last number of a row is how many
+/// In row `gone` byte `i` goes if bit `i` of `gone` is set. The last number of a row is how many
 /// bytes are written.
 const ROWS: Rows = [
     [0, 1, 2, 3, 4, 5, 6, 7, 0, 0, 0, 0, 0, 0, 0, 8],
@@ -265,7 +265,7 @@ const ROWS: Rows = [
     [0, 0, 0, 0, 0, 0, 0, 0, 0, 0, 0, 0, 0, 0, 0, 0],
 ];
 
-/// The rows of eight, where they are.
+/// Returns a reference to the rows of eight.
 pub fn rows_of_eight() -> &'static Rows
     ensures { AreShufflesOfEight result.now }
 {

@@ -1,9 +1,9 @@
-//! Decodes into a caller's buffer, with no request and no test of what is written: a slice of bytes
-//! promises no UTF-8.
+//! Decodes to a caller's buffer, with no request and no test of the result, since a slice of bytes
+//! need not be UTF-8.
 //!
-//! Few bytes are read into an array on the stack and copied from there. Of more it is told first
-//! whether they are damaged and, where that matters, how long their text is. Then they are written
-//! by windows where they have to stand, as a `String` is.
+//! Few bytes are decoded to an array on the stack and copied from there. For more bytes, the first
+//! passes find whether they are damaged and, if needed, how long their text is. Then the text is
+//! written by windows in its final position, as for a `String`.
 
 ghost use Rattle.std.specs.Prelude.{◌≡◌, ◌+◌, ◌*◌, ◌<◌, ◌≤◌, length, drop};
 ghost use Rattle.simd_cesu8.specs.Text.{utf8};
@@ -25,7 +25,7 @@ use crate::internal::joining::Room;
 use crate::internal::window::{SHORT, read_window};
 use crate::internal::writers::{copy_to_slice, put};
 
-/// Writes the strict reading of the bytes into a caller's buffer, where it fits.
+/// Writes the strict reading of the bytes to a caller's buffer, if it fits.
 #[inline(never)]
 pub fn decode_strict_to_slice(
     flavor: Flavor,
@@ -50,8 +50,8 @@ pub fn decode_strict_to_slice(
     write_whole(flavor, bytes, buf).map_err(DecodeSliceFault::TooShort)
 }
 
-/// The same for the bytes of one window, in rooms of these lengths. It is not inlined, so that they
-/// are made only where it is called.
+/// The same for the bytes of one window, in buffers of these lengths. It is not inlined, so that
+/// they are made only when it is called.
 #[inline(never)]
 fn strict_in<const LEN: usize, const WRITTEN: usize>(
     flavor: Flavor,
@@ -72,7 +72,7 @@ fn strict_in<const LEN: usize, const WRITTEN: usize>(
     copy_to_slice(&written[..decoded.end], buf).map_err(DecodeSliceFault::TooShort)
 }
 
-/// Writes the lossy reading of the bytes into a caller's buffer, where it fits.
+/// Writes the lossy reading of the bytes to a caller's buffer, if it fits.
 #[inline(never)]
 pub fn decode_lossy_to_slice(
     flavor: Flavor,
@@ -100,8 +100,8 @@ pub fn decode_lossy_to_slice(
     write_of_length(flavor, bytes, len, buf).map_err(LossySliceFault::TooShort)
 }
 
-/// The same for the bytes of one window, in rooms of these lengths. It is not inlined, so that they
-/// are made only where it is called.
+/// The same for the bytes of one window, in buffers of these lengths. It is not inlined, so that
+/// they are made only when it is called.
 #[inline(never)]
 fn lossy_in<const LEN: usize, const WRITTEN: usize>(
     flavor: Flavor,
@@ -119,7 +119,7 @@ fn lossy_in<const LEN: usize, const WRITTEN: usize>(
     copy_to_slice(&written[..decoded.end], buf).map_err(LossySliceFault::TooShort)
 }
 
-/// Writes the reading of bytes that are not damaged, where it fits. It is no longer than they are.
+/// Writes the reading of bytes that are not damaged, if it fits. It is never longer than they are.
 fn write_whole(flavor: Flavor, bytes: &[u8], buf: &mut [u8]) -> Result<usize, TooShort>
     requires { lossy_length (flavor_of flavor) bytes.now ≤ length bytes.now }
     ensures { WritesAnswer (utf8 (reading (flavor_of flavor) bytes.now)) result buf.old buf.new }
@@ -131,7 +131,7 @@ fn write_whole(flavor: Flavor, bytes: &[u8], buf: &mut [u8]) -> Result<usize, To
     write_of_length(flavor, bytes, len, buf)
 }
 
-/// Writes the lossy reading of the bytes, which has this length, where it fits.
+/// Writes the lossy reading of the bytes, which has this length, if it fits.
 #[tactic(auto, unfolding(crate::specs::Reading::lossy_length))]
 fn write_of_length(
     flavor: Flavor,
@@ -148,7 +148,7 @@ fn write_of_length(
     Ok(write_reading(flavor, bytes, buf))
 }
 
-/// Writes the lossy reading of the bytes at the front of a slice that has room for it, and gives
+/// Writes the lossy reading of the bytes at the front of a slice that is long enough, and returns
 /// its length.
 #[inline(never)]
 fn write_reading(flavor: Flavor, bytes: &[u8], out: &mut [u8]) -> usize
@@ -167,8 +167,8 @@ fn write_reading(flavor: Flavor, bytes: &[u8], out: &mut [u8]) -> usize
     end
 }
 
-/// Writes the next piece of text at a place, a window that is joined or some by places, and gives
-/// the bytes that are left and the end of the piece.
+/// Writes the next piece of text at a position, from one joined window or some windows by places.
+/// Returns the bytes that are left and the end of the piece.
 #[inline(always)]
 fn write_next<'b>(
     flavor: Flavor,
@@ -192,8 +192,8 @@ fn write_next<'b>(
     write_windows(flavor, bytes, out, start)
 }
 
-/// Writes the text of some windows by places, and gives the bytes that are left and the end of the
-/// text. Its rooms are made only where it is called.
+/// Writes the text of some windows by places, and returns the bytes that are left and the end of
+/// the text. Its buffers are made only when it is called.
 #[inline(never)]
 fn write_windows<'b>(
     flavor: Flavor,
@@ -220,7 +220,7 @@ fn write_windows<'b>(
     (rest, end)
 }
 
-/// The same of one window.
+/// The same for one window.
 #[inline(always)]
 fn write_window<'b>(
     flavor: Flavor,

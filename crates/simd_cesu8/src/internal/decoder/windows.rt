@@ -1,4 +1,5 @@
-//! Windows by places: some bytes are copied between zeros, and what becomes of each is written.
+//! Windows by places: some bytes are copied between zeros, and what becomes of each byte is
+//! written.
 
 ghost use Rattle.std.specs.Prelude.{◌≡◌, ℕ, ◌+◌, ◌*◌, ◌<◌, ◌≤◌, List, IsTrue, true, false, length, take, drop, replicate, slice_index};
 ghost use Rattle.simd_cesu8.specs.Encoding.{Flavor};
@@ -13,17 +14,17 @@ use super::rows::rows;
 use crate::internal::null_form::NullForm;
 use std::simd::prelude::*;
 
-/// How many bytes a window's room has beside those of the window.
+/// How many bytes a window's buffer has besides those of the window.
 pub const AROUND: usize = 80;
 
-/// How many bytes of a block are told by what stands before it: what begins at the five places
-/// before a byte.
+/// How many positions before a byte are read to decide what becomes of it.
 pub const BEFORE: usize = 5;
 
-/// How many bytes what is written has fewer than three for each of a window's.
+/// A buffer for the text of a window may be this much shorter than three bytes for each byte of the
+/// window's buffer.
 pub const SPARED: usize = 64;
 
-/// How many bytes were read of a window, the end of what is written for them, and whether some of
+/// How many bytes of a window were read, the end of what is written for them, and whether some of
 /// them are damaged.
 #[derive(Drop)]
 pub struct Decoded {
@@ -32,7 +33,7 @@ pub struct Decoded {
     pub is_damaged: bool,
 }
 
-/// Writes what becomes of the first bytes, up to a place that no encoded character crosses.
+/// Writes what becomes of the first bytes, up to a position that no encoded character crosses.
 #[inline(always)]
 pub fn write_window<N: NullForm>(bytes: &[u8], window: &mut [u8], out: &mut [u8]) -> Decoded
     requires window { AROUND + 11 ≤ length window.old }
@@ -52,8 +53,8 @@ pub fn write_window<N: NullForm>(bytes: &[u8], window: &mut [u8], out: &mut [u8]
     write_blocks::<N>(window, read, out)
 }
 
-/// Copies the first bytes into a window, and gives how many of them are read: up to a place that no
-/// encoded character crosses.
+/// Copies the first bytes into a window, and returns how many of them are read: up to a position
+/// that no encoded character crosses.
 #[inline(always)]
 pub fn load<N: NullForm>(bytes: &[u8], window: &mut [u8]) -> usize
     requires room { AROUND + 11 ≤ length window.old }
@@ -79,7 +80,7 @@ pub fn load<N: NullForm>(bytes: &[u8], window: &mut [u8]) -> usize
     }
 }
 
-/// Copies the bytes into zeros, behind five of them.
+/// Copies the bytes into zeros, after five of them.
 fn pad(bytes: &[u8], window: &mut [u8])
     requires room { length bytes.now + AROUND ≤ length window.old }
     requires zeros { window.old ≡ replicate (length window.old) 0 }
@@ -89,8 +90,8 @@ fn pad(bytes: &[u8], window: &mut [u8])
     window[BEFORE..BEFORE + bytes.len()].copy_from_slice(bytes);
 }
 
-/// The last border at or before a place of a window: no encoded character crosses it. It is one of
-/// the five places before at least.
+/// Returns the last border at or before a position of a window: no encoded character crosses it. It
+/// is at most five positions before.
 fn border<N: NullForm>(window: &[u8], most: usize) -> usize
     requires { (BEFORE ≤ most) × (most + 32 ≤ length window.now) }
     ensures within { (result ≤ most) × (most ≤ result + BEFORE) }
@@ -106,7 +107,8 @@ fn border<N: NullForm>(window: &[u8], most: usize) -> usize
     most - BEFORE
 }
 
-/// Whether no character that begins at one of the five places before reaches over a place.
+/// Returns whether no character that begins at one of the five positions before reaches beyond this
+/// position.
 fn is_border(codes: &[u8; 32], at: usize) -> bool
     requires { at ≤ BEFORE }
     ensures { (f : Flavor) (window : List ℕ) (n : ℕ) → AreFiveCodes f window n codes.now at

@@ -1,4 +1,4 @@
-//! What encoding makes of 32 bytes, by vectors.
+//! Encodes 32 bytes, by vectors.
 
 ghost use Rattle.std.specs.Prelude.{◌≡◌, ℕ, List, Bool, ◌+◌, ◌*◌, ◌%◌, ◌/◌, ◌^◌, ◌<◌, ◌≤◌, ◌==◌, ◌++◌, map, length, take, IsTrue};
 ghost use Rattle.std.specs.Simd.Lanes.{chunk, zip2, mask_l};
@@ -11,16 +11,15 @@ use crate::internal::null_form::NullForm;
 use crate::internal::writers::put;
 use std::simd::prelude::*;
 
-/// How many bytes of a text make a block.
+/// How many bytes of a text form a block.
 pub const BLOCK: usize = 32;
 
-/// How many bytes the rows of a block take, when they are stored.
+/// How many bytes the rows of a block need when they are stored.
 const STORED: usize = 2 * BLOCK;
 
-/// Writes what the first `count` bytes of the block at a place become, and gives the end of it.
+/// Writes what the first `count` bytes of the block at a position become, and returns its end.
 ///
-/// The rows are stored whole where they fit, and what they hold too much is written over by the
-/// next block.
+/// The rows are stored whole if they fit, and the next block overwrites the bytes beyond the end.
 #[inline(always)]
 pub fn write_block<N: NullForm>(
     window: &[u8],
@@ -45,8 +44,8 @@ pub fn write_block<N: NullForm>(
     put(&stored[..len], out, end)
 }
 
-/// What encoding makes of the bytes of a block. A byte becomes its lane of `seconds`, and where its
-/// bit of `doubled` is set, its lane of `firsts` before that.
+/// What the bytes of a block become. A byte becomes its lane of `seconds`, and if its bit of
+/// `doubled` is set, its lane of `firsts` before that.
 #[derive(Drop)]
 struct EncodedBlock {
     seconds: u8x32,
@@ -54,7 +53,7 @@ struct EncodedBlock {
     doubled: u64,
 }
 
-/// The lanes of the block behind the first `at` bytes of a window, and two more.
+/// Returns the lanes of the block that follows the first `at` bytes of a window, and two more.
 #[inline(always)]
 fn encode_block<N: NullForm>(window: &[u8], at: usize) -> EncodedBlock
     requires { at + 35 ≤ length window.now }
@@ -81,7 +80,7 @@ fn encode_block<N: NullForm>(window: &[u8], at: usize) -> EncodedBlock
     }
 }
 
-/// Which bytes lead four.
+/// Marks the bytes that lead four.
 #[inline(always)]
 fn leads(bytes: u8x32) -> u8x32
     ensures { result ≡ map (λ b. mask (is_lead b)) bytes }
@@ -91,7 +90,7 @@ fn leads(bytes: u8x32) -> u8x32
         .select(u8x32::splat(0xFF), u8x32::splat(0))
 }
 
-/// The last four bits of each byte and two of the next.
+/// Returns the last four bits of each byte and two of the next.
 #[inline(always)]
 fn six_bits(bytes: u8x32, next: u8x32) -> u8x32
     ensures { result ≡ zip2 six_bits bytes next }
@@ -101,7 +100,7 @@ fn six_bits(bytes: u8x32, next: u8x32) -> u8x32
     high | low
 }
 
-/// A bit for each lane that is all ones.
+/// Returns a bit for each lane that is all ones.
 #[inline(always)]
 fn bits(lanes: u8x32) -> u64
     ensures { result ≡ mask_l (map (λ b. b == 0xFF) lanes) }
@@ -109,7 +108,7 @@ fn bits(lanes: u8x32) -> u64
     lanes.simd_eq(u8x32::splat(0xFF)).to_bitmask()
 }
 
-/// Stores a row, packed, and gives the end of what it holds.
+/// Stores a row, packed, and returns the end of its content.
 #[inline(always)]
 fn store_row(lanes: u8x16, doubled: usize, rows: &Rows, out: &mut [u8], at: usize) -> usize
     requires rows { AreShuffles rows.now }
@@ -125,7 +124,7 @@ fn store_row(lanes: u8x16, doubled: usize, rows: &Rows, out: &mut [u8], at: usiz
     at + 8 + doubled.count_ones() as usize
 }
 
-/// Stores a block, and gives the end of what it holds for its first `count` bytes.
+/// Stores a block, and returns the end of its content for its first `count` bytes.
 #[inline(always)]
 fn store_block(block: &EncodedBlock, count: usize, out: &mut [u8], end: usize) -> usize
     requires count { count ≤ BLOCK }
@@ -142,7 +141,7 @@ fn store_block(block: &EncodedBlock, count: usize, out: &mut [u8], end: usize) -
     end + count + (block.doubled & ((1 << count) - 1)).count_ones() as usize
 }
 
-/// Stores the four rows of a block, and gives the end of what they hold.
+/// Stores the four rows of a block, and returns the end of their content.
 #[inline(always)]
 fn store_rows(
     seconds: u8x32,

@@ -1,12 +1,12 @@
-//! How a row of eight bytes is packed, by a shuffle for each set of bytes that become two.
+//! The shuffles that pack a row of eight bytes, one for each set of bytes that become two.
 
 ghost use Rattle.simd_cesu8.specs.EncodedPlaces.{AreShuffles};
 
 use crate::internal::Rows;
 
-/// A row for each set of eight bytes. Lane `i` of what is shuffled has what is written last for
-/// byte `i`, and lane `8 + i` what comes before that where the byte becomes two. Row `doubled`
-/// keeps the upper lane `8 + i` where bit `i` of `doubled` is set.
+/// A row for each set of eight bytes. Lane `i` has the last byte that is written for byte `i`, and
+/// lane `8 + i` the one before it, if the byte becomes two. Row `doubled` keeps the upper lane `8 +
+/// i` if bit `i` of `doubled` is set.
 const ROWS: Rows = [
     [0, 1, 2, 3, 4, 5, 6, 7, 0, 0, 0, 0, 0, 0, 0, 0],
     [8, 0, 1, 2, 3, 4, 5, 6, 7, 0, 0, 0, 0, 0, 0, 0],
@@ -266,7 +266,7 @@ const ROWS: Rows = [
     [8, 0, 9, 1, 10, 2, 11, 3, 12, 4, 13, 5, 14, 6, 15, 7],
 ];
 
-/// The rows, where they are.
+/// Returns a reference to the rows.
 pub fn rows() -> &'static Rows
     ensures { AreShuffles result.now }
 {

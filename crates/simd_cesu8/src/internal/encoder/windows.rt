@@ -1,8 +1,7 @@
-//! A text a block at a time, into a slice that has room for what it becomes.
+//! Encodes a text, a block at a time, to a slice that is long enough.
 //!
 //! The bytes around a block are read with it, since what is written for a byte depends on its
-//! neighbours. At the ends of the text, where there are none, a small array of zeros stands for
-//! them.
+//! neighbours. At the ends of the text, where there are none, a small array of zeros replaces them.
 
 ghost use Rattle.std.specs.Prelude.{◌≡◌, ℕ, ◌+◌, ◌*◌, ◌<◌, ◌≤◌, ◌∷◌, length, replicate, slice_index};
 ghost use Rattle.simd_cesu8.specs.EncodedPlaces.{recoded, IsWritten};
@@ -10,10 +9,10 @@ ghost use Rattle.simd_cesu8.specs.EncodedPlaces.{recoded, IsWritten};
 use super::blocks::{BLOCK, write_block};
 use crate::internal::null_form::NullForm;
 
-/// A block, the two bytes before it and the one behind it.
+/// The length of a block, the two bytes before it and the one after it.
 const WINDOW: usize = BLOCK + 3;
 
-/// Writes what the bytes of a text become, and gives the end of it.
+/// Writes what the bytes of a text become, and returns its end.
 pub fn write_bytes<N: NullForm>(text: &[u8], out: &mut [u8]) -> usize
     requires { length (recoded N.flavor text.now) ≤ length out.old }
     ensures written { IsWritten N.flavor text.now (length text.now) out.new result }
@@ -28,7 +27,7 @@ pub fn write_bytes<N: NullForm>(text: &[u8], out: &mut [u8]) -> usize
     write_last::<N>(text, BLOCK * blocks, out, end)
 }
 
-/// Writes what the bytes of a text of at most a block become, and gives the end of it.
+/// Writes what the bytes of a text of at most a block become, and returns its end.
 #[inline(always)]
 pub fn write_short<N: NullForm>(text: &[u8], out: &mut [u8]) -> usize
     requires short { length text.now ≤ BLOCK }
@@ -41,7 +40,7 @@ pub fn write_short<N: NullForm>(text: &[u8], out: &mut [u8]) -> usize
     write_block::<N>(&window, 0, text.len(), out, 0)
 }
 
-/// Writes what the first block of a longer text becomes, and gives the end of it.
+/// Writes what the first block of a longer text becomes, and returns its end.
 #[inline(always)]
 fn write_first<N: NullForm>(text: &[u8], out: &mut [u8]) -> usize
     requires long { BLOCK < length text.now }
@@ -54,7 +53,7 @@ fn write_first<N: NullForm>(text: &[u8], out: &mut [u8]) -> usize
     write_block::<N>(&window, 0, BLOCK, out, 0)
 }
 
-/// Writes what the blocks between the first and the last become, and gives the end of it.
+/// Writes what the blocks between the first and the last become, and returns its end.
 #[inline(always)]
 fn write_middle<N: NullForm>(text: &[u8], blocks: usize, out: &mut [u8], start: usize) -> usize
     requires blocks { (0 < blocks) × (BLOCK * blocks < length text.now) }
@@ -70,7 +69,7 @@ fn write_middle<N: NullForm>(text: &[u8], blocks: usize, out: &mut [u8], start: 
     end
 }
 
-/// Writes what the last block of a longer text becomes, and gives the end of it.
+/// Writes what the last block of a longer text becomes, and returns its end.
 #[inline(always)]
 fn write_last<N: NullForm>(text: &[u8], at: usize, out: &mut [u8], end: usize) -> usize
     requires place { (BLOCK ≤ at) × (at < length text.now) × (length text.now ≤ at + BLOCK) }
@@ -84,7 +83,7 @@ fn write_last<N: NullForm>(text: &[u8], at: usize, out: &mut [u8], end: usize) -
     write_block::<N>(&window, 0, text.len() - at, out, end)
 }
 
-/// Makes a window of zeros one of bytes before which there is nothing.
+/// Copies bytes into a window of zeros, after two of these: nothing precedes the bytes.
 #[inline(always)]
 fn put_behind_zeros(near: &[u8], window: &mut [u8; WINDOW])
     requires short { length near.now ≤ 33 }
@@ -94,7 +93,7 @@ fn put_behind_zeros(near: &[u8], window: &mut [u8; WINDOW])
     window[2..2 + near.len()].copy_from_slice(near);
 }
 
-/// Makes a window of zeros one of bytes behind which there is nothing.
+/// Copies bytes to the front of a window of zeros: nothing follows them.
 #[inline(always)]
 fn put_before_zeros(near: &[u8], window: &mut [u8; WINDOW])
     requires short { length near.now ≤ 35 }

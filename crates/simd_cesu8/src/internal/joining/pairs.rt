@@ -7,11 +7,11 @@ ghost use Rattle.simd_cesu8.specs.Joining.{IsJoinedAfter, KeepsJoined, HasPair, 
 use super::{Place, Room};
 use std::simd::prelude::*;
 
-/// The marks of three surrogate pairs, one behind the other.
+/// The marks of three surrogate pairs in a row.
 pub const PAIR_MARKS: u32 = 0x0000_1041;
 
-/// Joins surrogate pairs that stand one behind the other. There is nothing to copy between them,
-/// and where the next one begins does not wait for what was read.
+/// Joins surrogate pairs in a row. Nothing is copied between them, and the position of the next one
+/// does not depend on what was read.
 #[inline(always)]
 pub fn join_pairs<'a>(start: Place<'a>, stop: usize, room: &mut Room) -> Place<'a>
     requires stop { (stop < length start.rest.now) × (48 ≤ stop) }
@@ -49,7 +49,7 @@ fn join_pair(bytes: &[u8], written: usize, room: &mut Room)
     room[written..written + 4].copy_from_slice(&four);
 }
 
-/// Whether a surrogate pair begins the bytes.
+/// Returns whether a surrogate pair begins the bytes.
 #[inline(always)]
 pub fn is_pair(bytes: &[u8]) -> bool
     requires { 8 ≤ length bytes.now }
@@ -58,7 +58,7 @@ pub fn is_pair(bytes: &[u8]) -> bool
     front_word(bytes) & 0x0000_C0F0_FFC0_F0FF == 0x0000_80B0_ED80_A0ED
 }
 
-/// The UTF-8 of the character whose surrogate pair begins the bytes.
+/// Returns the UTF-8 of the character whose surrogate pair begins the bytes.
 #[inline(always)]
 pub fn joined(bytes: &[u8]) -> [u8; 4]
     requires { 8 ≤ length bytes.now }
@@ -66,7 +66,7 @@ pub fn joined(bytes: &[u8]) -> [u8; 4]
 {
     // The plane offset: one more than the last four bits of the second byte.
     let word = front_word(bytes).wrapping_add(0x100);
-    // Digits that move by the same number of bits are moved together.
+    // Digits that move by the same number of bits move together.
     let utf8 = 0x8080_80F0
         + (word >> 10 & 0x0000_0F07)
         + ((word & 0x0003_0300) << 4)
@@ -74,7 +74,7 @@ pub fn joined(bytes: &[u8]) -> [u8; 4]
     (utf8 as u32).to_le_bytes()
 }
 
-/// The first eight bytes as one word, the first in its lowest byte.
+/// Returns the first eight bytes as one word, the first in its lowest byte.
 #[inline(always)]
 fn front_word(bytes: &[u8]) -> u64
     requires { 8 ≤ length bytes.now }
