@@ -23,7 +23,7 @@ pub record BeginsWithForm (bytes text rest : List ℕ) : Type 0 where
   pub fits : HasForm text
   pub bytes_are : bytes ≡ java_form text ++ rest
 
--- They are so in no other way.
+-- The bytes are so in no other way.
 abbrev pub BeginsOnlyWithForm : List ℕ → List ℕ → List ℕ → Type 0
 BeginsOnlyWithForm bytes text rest =
     (other more : List ℕ) → BeginsWithForm bytes other more → (other ≡ text) × (more ≡ rest)
@@ -31,8 +31,8 @@ BeginsOnlyWithForm bytes text rest =
 abbrev pub NoFormBegins : List ℕ → Type 0
 NoFormBegins bytes = (text rest : List ℕ) → ¬ (BeginsWithForm bytes text rest)
 
--- What bytes say, whether or not a form begins them: the number in the first two, as many bytes after
--- those, and what follows.
+-- What the bytes claim, whether or not a form begins them: the number in the first two, as many
+-- bytes after those, and the rest.
 abbrev pub count_in : List ℕ → ℕ
 count_in bytes = 0x100 * slice_index bytes 0 + slice_index bytes 1
 
