@@ -28,7 +28,7 @@ pub fn run<R: Read, W: Write>(
         (W.contents output.old) (W.contents output.new)) }
     ensures end { OnOk result (IsAtEnd (R.remaining input.new)) }
 
-    // On the empty input no call runs out of memory, but for the count of a Java string.
+    // On the empty input only writing a Java string can run out of memory.
     ensures empty { R.remaining input.old ≡ Some [] → result ≡ Err RunFault.Memory
         → AreWordsOf JavaWrite words.now }
 

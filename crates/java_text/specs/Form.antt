@@ -1,19 +1,21 @@
--- The form of a text that Java's `DataOutput.writeUTF` writes: a count, and as many bytes of MUTF-8.
+-- The form of a text, as Java's `DataOutput.writeUTF` writes it: a count, and as many bytes of
+-- MUTF-8.
 use Rattle.std.specs.Prelude.{◌≡◌, ◌⊎◌, ℕ, ◌+◌, ◌*◌, ◌/◌, ◌%◌, ◌<◌, ◌≤◌, List, ◌∷◌, ◌++◌, length, take, drop, slice_index}
 use Rattle.simd_cesu8.specs.Text.{IsText}
 use Rattle.simd_cesu8.specs.Encoding.{Mutf8, encoding}
 
--- How many bytes of MUTF-8 a text has.
+-- The length of a text's MUTF-8, in bytes.
 abbrev pub mutf8_len : List ℕ → ℕ
 mutf8_len text = length (encoding Mutf8 text)
 
--- Two bytes count up to 65,535, so a text with more bytes of MUTF-8 has no form.
--- (Java, DataOutput.writeUTF: "If this number is larger than 65535, then a UTFDataFormatException is thrown")
+-- Two bytes count up to 65,535, so a text with more bytes of MUTF-8 has no form. (Java,
+-- DataOutput.writeUTF: "If this number is larger than 65535, then a UTFDataFormatException is
+-- thrown")
 abbrev pub HasForm : List ℕ → Type 0
 HasForm text = mutf8_len text ≤ 65535
 
--- The form: the count of the bytes of MUTF-8 in two bytes, the high byte first, and then those bytes.
--- (Java, DataOutput.writeUTF: "in exactly the manner of the writeShort method")
+-- The form: the length of the MUTF-8 in two bytes, the high byte first, and then the MUTF-8. (Java,
+-- DataOutput.writeUTF: "in exactly the manner of the writeShort method")
 unfoldable pub java_form : List ℕ → List ℕ
 java_form text = (mutf8_len text / 0x100) ∷ (mutf8_len text % 0x100) ∷ encoding Mutf8 text
 

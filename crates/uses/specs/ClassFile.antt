@@ -28,7 +28,7 @@ NoConstantBegins bytes = (text rest : List ℕ) → ¬ (BeginsWithConstant bytes
 abbrev pub HasOtherTag : List ℕ → Type 0
 HasOtherTag bytes = (bytes ≢ []) × (slice_index bytes 0 ≢ 1)
 
--- There are fewer bytes than the tag and the two bytes after it announce.
+-- There is no tag, or there are too few bytes after the tag 1.
 abbrev pub IsCutShort : List ℕ → Type 0
 IsCutShort bytes = (bytes ≡ []) ⊎ ((slice_index bytes 0 ≡ 1) × IsTruncated (drop 1 bytes))
 
@@ -37,7 +37,7 @@ abbrev pub IsPlainConstant : List ℕ → Type 0
 IsPlainConstant bytes = (slice_index bytes 0 ≡ 1) × ¬ (IsTruncated (drop 1 bytes))
     × IsUnchangedUtf8 Mutf8 (counted (drop 1 bytes))
 
--- If a call returns an error of its input, the fact holds.
+-- If the fault is one of the input, the fact holds.
 abbrev pub IfRefused : ConstantFault → Type 0 → Type 0
 IfRefused (OtherTag tag) P = P
 IfRefused (Text fault) P = java.IfRefused fault P
