@@ -1,4 +1,4 @@
-//! The whole answer to a command, from the whole input.
+//! The whole output of a command, from the whole input.
 
 ghost use Rattle.std.specs.Prelude.{◌≡◌, ◌≢◌, ◌⊎◌, [], IfOk, IfErr, Ok, Err};
 ghost use Rattle.std.specs.Str.{chars};
@@ -16,7 +16,7 @@ use simd_cesu8::{CowBytes, CowText, laws, mutf8};
 use std::alloc::Global;
 use std::str;
 
-/// The bytes that answer the command, or the fault.
+/// Returns the output of the command, or the fault.
 #[tactic(auto, unfolding(crate::specs::Answer::IsAnswer))]
 pub fn answer(alloc: Global, command: Command, input: &[u8]) -> Result<CowBytes<'_>, RunFault>
     ensures ok { IfBytes result (λ bytes. IsAnswer command input.now (Ok bytes)) }
@@ -53,7 +53,7 @@ fn encode(alloc: Global, flavor: FlavorWord, input: &[u8]) -> Result<CowBytes<'_
     }
 }
 
-/// `yes` or `no`, as a line. Both are constants, so this takes no memory.
+/// Returns `yes` or `no`, as a line. Both are constants, so this takes no memory.
 fn needs(flavor: FlavorWord, input: &[u8]) -> Result<CowBytes<'_>, RunFault>
     ensures ok { IfBytes result (λ bytes. IsNeedsAnswer (flavor_of flavor) input.now (Ok bytes)) }
     ensures err { IfErr result (λ fault. IsUtf8Fault input.now fault) }
@@ -70,7 +70,7 @@ fn needs(flavor: FlavorWord, input: &[u8]) -> Result<CowBytes<'_>, RunFault>
     }
 }
 
-/// The input as a text, for the commands that take UTF-8.
+/// Returns the input as a text, for the commands that take UTF-8.
 fn input_text(input: &[u8]) -> Result<&str, RunFault>
     ensures ok { IfOk result (λ text. IsUtf8Of (chars text.now) input.now) }
     ensures err { IfErr result (λ fault. IsUtf8Fault input.now fault) }
@@ -164,7 +164,7 @@ fn java_read(alloc: Global, input: &[u8]) -> Result<CowBytes<'_>, RunFault>
     Ok(into_bytes(text))
 }
 
-/// A text's bytes, with no copy. They are its UTF-8.
+/// Returns a text's bytes, which are its UTF-8, without a copy.
 fn into_bytes(text: CowText<'_>) -> CowBytes<'_>
     ensures { answer_bytes result ≡ utf8 (chars (answer_text text.entry)) }
 {

@@ -1,22 +1,22 @@
-//! The words that say what to do.
+//! The words of a command.
 
 ghost use Rattle.std.specs.Prelude.{MatchOption};
 ghost use Rattle.cesu8_cli.specs.Command.{AreWordsOf, AreNoCommand};
 
-/// What the program can be asked to do.
+/// The commands of the program.
 #[derive(Clone, Copy, Debug)]
 pub enum Command {
     /// Encodes UTF-8.
     Encode(FlavorWord),
-    /// Tells whether UTF-8 needs encoding.
+    /// Reports whether UTF-8 needs encoding.
     Needs(FlavorWord),
     /// Decodes UTF-8 as a whole, or else the encoding.
     Decode(FlavorWord),
     /// Decodes the encoding alone.
     DecodeStrict(FlavorWord),
-    /// Decodes UTF-8 as a whole, or else the encoding with damage.
+    /// Decodes UTF-8 as a whole, or else the encoding, which may be damaged.
     Lossy(FlavorWord),
-    /// Decodes the encoding alone, with damage.
+    /// Decodes the encoding alone, which may be damaged.
     LossyStrict(FlavorWord),
     /// Writes UTF-8 as a Java string, which is MUTF-8 with its length in front.
     JavaWrite,
@@ -31,7 +31,7 @@ pub enum FlavorWord {
     Mutf8,
 }
 
-/// The command that has exactly these words.
+/// Returns the command with exactly these words.
 pub fn parse(words: &[&str]) -> Option<Command>
     ensures { MatchOption result (AreNoCommand words.now)
         (λ command. AreWordsOf command words.now) }

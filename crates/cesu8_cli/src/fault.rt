@@ -1,4 +1,4 @@
-//! Why a run ends without an answer.
+//! Why a run fails.
 
 ghost use Rattle.std.specs.Prelude.{◌≡◌};
 ghost use Rattle.cesu8_cli.specs.declared.fault.RunFault.TheVariants.{Memory};
@@ -8,14 +8,14 @@ use java_text::{ReadFault, WriteFault};
 use simd_cesu8::{DecodeFault, DecodingError};
 use std::alloc::AllocError;
 
-/// Why a run ends without an answer, or without the whole of it.
+/// Why a run writes no output, or only a part of it.
 #[derive(Debug, Drop)]
 pub enum RunFault {
-    /// The words are no command with its flavor. Nothing was read.
+    /// The words are no command and flavor. Nothing was read.
     Usage,
-    /// The input is not UTF-8.
+    /// The input is the encoding of no text, or the Java string in it is.
     NotUtf8,
-    /// The input is no encoding of a text, or the Java string in it is none.
+    /// The input is the encoding of no text, or the Java string in it is.
     Invalid(DecodingError),
     /// The input ends before the Java string does.
     Truncated,
@@ -25,7 +25,7 @@ pub enum RunFault {
     Trailing,
     /// A request for memory was refused.
     Memory,
-    /// A read, a write or a flush failed, or a write took nothing.
+    /// A read, a write or a flush failed, or a write accepted no byte.
     Io,
 }
 
@@ -71,7 +71,7 @@ impl From<ReadFault> for RunFault {
     }
 }
 
-/// What to write on standard error, without the line's end.
+/// Returns the line for standard error, without the line end.
 pub fn fault_line(fault: &RunFault) -> &'static str
     ensures { result.now ≡ line_of fault.now }
 {
@@ -87,7 +87,7 @@ pub fn fault_line(fault: &RunFault) -> &'static str
     }
 }
 
-/// The status to end with.
+/// Returns the exit status.
 pub fn fault_status(fault: &RunFault) -> u8
     ensures { result ≡ status_of fault.now }
 {

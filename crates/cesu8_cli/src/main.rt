@@ -22,7 +22,7 @@ fn main(rt: HostRuntime) -> ExitCode {
     }
 }
 
-/// Hands the arguments to `run`.
+/// Passes the arguments to `run`.
 fn run_words(rt: &HostRuntime) -> Result<(), RunFault> {
     let arguments = arguments(rt)?;
     let mut words = Vec::new(rt.alloc());
@@ -39,7 +39,8 @@ fn run_words(rt: &HostRuntime) -> Result<(), RunFault> {
     )
 }
 
-/// The arguments after the program's name. Where they can't be had, it is as for a failed read.
+/// Returns the arguments after the program's name. If they are not available, this counts as a
+/// failed read.
 fn arguments(rt: &HostRuntime) -> Result<Vec<String>, RunFault> {
     let Ok(all) = env::args(rt) else {
         return Err(RunFault::Io);

@@ -1,4 +1,4 @@
-//! One run of the program, over any reader and any writer.
+//! One run of the program, with any reader and any writer.
 
 ghost use Rattle.std.specs.Prelude.{◌≡◌, ◌≢◌, ◌++◌, ◌⊎◌, ◌↔◌, ℕ, List, [], OnOk, OnErr, IfOk, IfErr, IfSome, Some, Err};
 ghost use Rattle.std.specs.Io.KnownBytes.{Appends, Consumes, IsAtEnd};
@@ -13,22 +13,22 @@ use crate::fault::RunFault;
 use std::alloc::Global;
 use std::io::{Read, Write};
 
-/// How many bytes one read may give.
+/// The most bytes of one read.
 const CHUNK: usize = 16384;
 
-/// Reads the whole input, makes the whole answer, and then writes it and flushes once.
+/// Reads the whole input, makes the whole output, and then writes it and flushes once.
 pub fn run<R: Read, W: Write>(
     alloc: Global,
     words: &[&str],
     input: &mut R,
     output: &mut W,
 ) -> Result<(), RunFault>
-    // What was written is the answer to what was read, which is the whole input.
+    // The output belongs to what was read, which is the whole input.
     ensures ok { OnOk result (AppendsAnswer words.now (R.remaining input.old)
         (W.contents output.old) (W.contents output.new)) }
     ensures end { OnOk result (IsAtEnd (R.remaining input.new)) }
 
-    // On the empty input want of memory is no fault, but for the count of a Java string.
+    // On the empty input only writing a Java string can run out of memory.
     ensures empty { R.remaining input.old ≡ Some [] → result ≡ Err RunFault.Memory
         → AreWordsOf JavaWrite words.now }
 
@@ -36,13 +36,13 @@ pub fn run<R: Read, W: Write>(
     ensures usage { (result ≡ Err RunFault.Usage) ↔ AreNoCommand words.now }
     ensures unread { result ≡ Err RunFault.Usage → input.new ≡ input.old }
 
-    // Only the whole input is refused.
+    // A fault of the input needs the whole input.
     ensures refused { IfErr result (λ fault. IsRefusal fault → IfSome (R.remaining input.old)
         (λ bytes. IsAnswerTo words.now bytes (Err fault))) }
     ensures refused_end { IfErr result (λ fault.
         IsRefusal fault → IsAtEnd (R.remaining input.new)) }
 
-    // Nothing is written before the whole answer is there.
+    // Nothing is written before the whole output is made.
     ensures unwritten { IfErr result (λ fault. fault ≢ RunFault.Io → output.new ≡ output.old) }
     ensures io { result ≡ Err RunFault.Io → (output.new ≡ output.old)
         ⊎ (IsAtEnd (R.remaining input.new) × AppendsBeginning words.now (R.remaining input.old)
@@ -56,7 +56,7 @@ pub fn run<R: Read, W: Write>(
     write_whole(answer.as_bytes(), output)
 }
 
-/// The bytes of a reader, up to its end.
+/// Returns the bytes of a reader, up to its end.
 fn read_whole<R: Read>(alloc: Global, input: &mut R) -> Result<Vec<u8>, RunFault>
     ensures bytes { IfOk result (λ bytes.
         Consumes (R.remaining input.old) (R.remaining input.new) bytes.items) }
@@ -73,7 +73,7 @@ fn read_whole<R: Read>(alloc: Global, input: &mut R) -> Result<Vec<u8>, RunFault
         if count == 0 {
             return Ok(bytes);
         }
-        // No vector holds more, so this counts as a refused request.
+        // No vector has more, so this counts as a refused request.
         if count > usize::MAX / 2 - bytes.len() {
             return Err(RunFault::Memory);
         }

@@ -15,22 +15,22 @@ use Rattle.cesu8_static.specs.declared.answer.Decision.{Decision}
 use Rattle.cesu8_static.specs.declared.answer.Reading.{Reading}
 use Rattle.cesu8_static.specs.declared.answer.TheConstants.{OK, NOT_UTF8, INVALID, TRUNCATED, TOO_LONG, TOO_SMALL}
 
--- What is read is told as any answer, beside what it takes of the input.
+-- The status and the length of a result, without what it takes of the input.
 abbrev pub answer_of : Reading → Answer
 answer_of read = record { status = read.status; length = read.length }
 
--- What C is told of what a call on a slice returned that writes bytes,
+-- What C gets for the result of a call that writes bytes to a slice,
 abbrev pub told_of_bytes : Result ℕ TooShort → Answer
 told_of_bytes (Ok len) = record { status = OK; length = len }
 told_of_bytes (Err fault) = record { status = TOO_SMALL; length = fault.needed }
 
--- a text,
+-- of one that writes a text,
 abbrev pub told_of_text : Result ℕ DecodeSliceFault → Answer
 told_of_text (Ok len) = record { status = OK; length = len }
 told_of_text (Err (strict.Invalid error)) = record { status = INVALID; length = 0 }
 told_of_text (Err (strict.TooShort fault)) = record { status = TOO_SMALL; length = fault.needed }
 
--- or one that is read with damage.
+-- and of one that writes the text of damaged bytes.
 abbrev pub told_of_lossy_text : Result ℕ LossySliceFault → Answer
 told_of_lossy_text (Ok len) = record { status = OK; length = len }
 told_of_lossy_text (Err lossy.TooLong) = record { status = TOO_LONG; length = 0 }
@@ -41,14 +41,14 @@ abbrev pub IsAmong : List ℕ → ℕ → Type 0
 IsAmong [] status = ⊥
 IsAmong (one ∷ others) status = (status ≡ one) ⊎ IsAmong others status
 
--- Whether the encoding of UTF-8 is other than it.
+-- Whether the encoding of a text in UTF-8 differs from the UTF-8.
 pub record DecidesNeed (f : Flavor) (text : List ℕ) (decision : Decision) : Type 0 where
   pub ok : decision.status ≡ OK ↔ IsUtf8 text
   pub not_utf8 : decision.status ≡ NOT_UTF8 ↔ ¬ (IsUtf8 text)
   pub needed : IsUtf8 text → (IsTrue decision.is_needed ↔ NeedsEncoding f (chars text))
   pub undecided : ¬ (IsUtf8 text) → ¬ (IsTrue decision.is_needed)
 
--- The length of the encoding of UTF-8.
+-- The length of the encoding of a text in UTF-8.
 pub record TellsEncodedLength (f : Flavor) (text : List ℕ) (answer : Answer) : Type 0 where
   pub ok : answer.status ≡ OK ↔ IsUtf8 text
   pub not_utf8 : answer.status ≡ NOT_UTF8 ↔ ¬ (IsUtf8 text)
@@ -62,51 +62,51 @@ pub record TellsLossyLength (f : Flavor) (bytes : List ℕ) (answer : Answer) : 
   pub statuses : IsAmong (OK ∷ TOO_LONG ∷ []) answer.status
   pub none : answer.status ≡ TOO_LONG → answer.length ≡ 0
 
--- These bytes stand at the front of the buffer, or it is too small for them.
+-- These bytes are at the front of the buffer, or it is too small for them.
 pub record Places (bytes : List ℕ) (answer : Answer) (old new : List ℕ) : Type 0 where
   pub placed : answer.status ≡ OK → StandsAtFront bytes answer.length old new
   pub fits : answer.status ≡ OK ↔ length bytes ≤ length old
-  -- Elsewhere the length is told that is needed,
+  -- Otherwise the call returns the needed length,
   pub too_small : answer.status ≡ TOO_SMALL ↔ length old < length bytes
   pub needed : answer.status ≡ TOO_SMALL → answer.length ≡ length bytes
-  -- and the whole buffer is as before.
+  -- and the whole buffer stays.
   pub unchanged : answer.status ≢ OK → new ≡ old
 
--- The encoding of UTF-8 is placed; what is not UTF-8 is refused.
+-- The encoding of UTF-8 is placed; other input is `NOT_UTF8`.
 pub record Encodes (f : Flavor) (text : List ℕ) (answer : Answer) (old new : List ℕ) : Type 0 where
   pub encoded : IsUtf8 text → Places (encoding f (chars text)) answer old new
   pub not_utf8 : answer.status ≡ NOT_UTF8 ↔ ¬ (IsUtf8 text)
   pub none : answer.status ≡ NOT_UTF8 → answer.length ≡ 0
   pub unchanged : answer.status ≢ OK → new ≡ old
 
--- The UTF-8 of a text that the input is read as stands at the front of the buffer, or that is too
--- small; what is read as no text is refused.
+-- The UTF-8 of a text that is a reading of the input is at the front of the buffer, or the buffer
+-- is too small. Input without a reading is `INVALID`.
 pub record Decodes (IsReading : List ℕ → Type 0) (answer : Answer) (old new : List ℕ) : Type 0 where
   pub placed : answer.status ≡ OK → ReadingAtFront IsReading answer.length old new
   pub fits : answer.status ≡ OK ↔ ReadsAtLength IsReading (λ len. len ≤ length old)
   pub invalid : answer.status ≡ INVALID ↔ ((text : List ℕ) → ¬ (IsReading text))
-  -- A buffer that is too small is shorter than the text's UTF-8, whose length is told.
+  -- With `TOO_SMALL` the buffer is shorter than the text's UTF-8, and the call returns its length.
   pub needed : answer.status ≡ TOO_SMALL
       → ReadsAtLength IsReading (λ len. (length old < len) × (answer.length ≡ len))
   pub statuses : IsAmong (OK ∷ INVALID ∷ TOO_SMALL ∷ []) answer.status
   pub none : answer.status ≡ INVALID → answer.length ≡ 0
-  -- Without an answer the whole buffer is as before.
+  -- Without a result the whole buffer stays.
   pub unchanged : answer.status ≢ OK → new ≡ old
 
--- The same for a reading that refuses nothing, but may have more bytes than can be told.
+-- The same for a lossy reading, which every input has, but whose length may not fit `size_t`.
 pub record DecodesLossily (IsReading : List ℕ → Type 0) (answer : Answer) (old new : List ℕ) : Type 0 where
   pub placed : answer.status ≡ OK → ReadingAtFront IsReading answer.length old new
   pub fits : answer.status ≡ OK ↔ ReadsAtLength IsReading (λ len. len ≤ length old)
   pub too_long : answer.status ≡ TOO_LONG ↔ ReadsAtLength IsReading (λ len. 2 ^ 64 ≤ len)
-  -- A buffer that is too small is shorter than the text's UTF-8, whose length is told.
+  -- With `TOO_SMALL` the buffer is shorter than the text's UTF-8, and the call returns its length.
   pub needed : answer.status ≡ TOO_SMALL
       → ReadsAtLength IsReading (λ len. (length old < len) × (answer.length ≡ len))
   pub statuses : IsAmong (OK ∷ TOO_LONG ∷ TOO_SMALL ∷ []) answer.status
   pub none : answer.status ≡ TOO_LONG → answer.length ≡ 0
-  -- Without an answer the whole buffer is as before.
+  -- Without a result the whole buffer stays.
   pub unchanged : answer.status ≢ OK → new ≡ old
 
--- The form of a text is placed; what is not UTF-8 is refused, and so is a text that has none.
+-- The form of a text is placed; other input is `NOT_UTF8`, and a text that has none is `TOO_LONG`.
 pub record WritesForm (text : List ℕ) (answer : Answer) (old new : List ℕ) : Type 0 where
   pub form : IsUtf8 text → HasForm (chars text) → Places (java_form (chars text)) answer old new
   pub not_utf8 : answer.status ≡ NOT_UTF8 ↔ ¬ (IsUtf8 text)
@@ -114,7 +114,7 @@ pub record WritesForm (text : List ℕ) (answer : Answer) (old new : List ℕ) :
   pub none : answer.status ≢ OK → answer.status ≢ TOO_SMALL → answer.length ≡ 0
   pub unchanged : answer.status ≢ OK → new ≡ old
 
--- What a call takes of the input that reads the form which begins it.
+-- How many bytes of the input a call takes that reads the form at its front.
 pub record TakesForm (bytes : List ℕ) (read : Reading) : Type 0 where
   pub truncated : read.status ≡ TRUNCATED ↔ IsTruncated bytes
   pub taken : ¬ (IsTruncated bytes) → read.taken ≡ 2 + count_in bytes
@@ -131,7 +131,7 @@ pub record ReadsForm (bytes : List ℕ) (read : Reading) (old new : List ℕ) : 
   pub text : ¬ (IsTruncated bytes) → Decodes (IsFormText bytes) (answer_of read) old new
   pub unchanged : IsTruncated bytes → new ≡ old
 
--- The same with damage in the counted bytes.
+-- The same if the counted bytes may be damaged.
 pub record ReadsFormLossily (bytes : List ℕ) (read : Reading) (old new : List ℕ) : Type 0 where
   pub form : TakesForm bytes read
   pub text : ¬ (IsTruncated bytes)

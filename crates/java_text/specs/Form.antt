@@ -1,19 +1,21 @@
--- The form of a text that Java's `DataOutput.writeUTF` writes: a count, and as many bytes of MUTF-8.
+-- The form of a text, as Java's `DataOutput.writeUTF` writes it: a count, and as many bytes of
+-- MUTF-8.
 use Rattle.std.specs.Prelude.{◌≡◌, ◌⊎◌, ℕ, ◌+◌, ◌*◌, ◌/◌, ◌%◌, ◌<◌, ◌≤◌, List, ◌∷◌, ◌++◌, length, take, drop, slice_index}
 use Rattle.simd_cesu8.specs.Text.{IsText}
 use Rattle.simd_cesu8.specs.Encoding.{Mutf8, encoding}
 
--- How many bytes of MUTF-8 a text has.
+-- The length of a text's MUTF-8, in bytes.
 abbrev pub mutf8_len : List ℕ → ℕ
 mutf8_len text = length (encoding Mutf8 text)
 
--- Two bytes count up to 65,535, so a text with more bytes of MUTF-8 has no form.
--- (Java, DataOutput.writeUTF: "If this number is larger than 65535, then a UTFDataFormatException is thrown")
+-- Two bytes count up to 65,535, so a text with more bytes of MUTF-8 has no form. (Java,
+-- DataOutput.writeUTF: "If this number is larger than 65535, then a UTFDataFormatException is
+-- thrown")
 abbrev pub HasForm : List ℕ → Type 0
 HasForm text = mutf8_len text ≤ 65535
 
--- The form: the count of the bytes of MUTF-8 in two bytes, the high byte first, and then those bytes.
--- (Java, DataOutput.writeUTF: "in exactly the manner of the writeShort method")
+-- The form: the length of the MUTF-8 in two bytes, the high byte first, and then the MUTF-8. (Java,
+-- DataOutput.writeUTF: "in exactly the manner of the writeShort method")
 unfoldable pub java_form : List ℕ → List ℕ
 java_form text = (mutf8_len text / 0x100) ∷ (mutf8_len text % 0x100) ∷ encoding Mutf8 text
 
@@ -23,7 +25,7 @@ pub record BeginsWithForm (bytes text rest : List ℕ) : Type 0 where
   pub fits : HasForm text
   pub bytes_are : bytes ≡ java_form text ++ rest
 
--- They are so in no other way.
+-- The bytes are so in no other way.
 abbrev pub BeginsOnlyWithForm : List ℕ → List ℕ → List ℕ → Type 0
 BeginsOnlyWithForm bytes text rest =
     (other more : List ℕ) → BeginsWithForm bytes other more → (other ≡ text) × (more ≡ rest)
@@ -31,8 +33,8 @@ BeginsOnlyWithForm bytes text rest =
 abbrev pub NoFormBegins : List ℕ → Type 0
 NoFormBegins bytes = (text rest : List ℕ) → ¬ (BeginsWithForm bytes text rest)
 
--- What bytes say, whether or not a form begins them: the number in the first two, as many bytes after
--- those, and what follows.
+-- What the bytes claim, whether or not a form begins them: the number in the first two, as many
+-- bytes after those, and the rest.
 abbrev pub count_in : List ℕ → ℕ
 count_in bytes = 0x100 * slice_index bytes 0 + slice_index bytes 1
 

@@ -1,22 +1,22 @@
-//! A call on each of many texts. C can pass no text, so bytes are tested for UTF-8 first, and here
-//! one test serves many calls.
+//! A call on each of many texts. C can pass no text, so bytes are tested for UTF-8 first; here one
+//! test serves many calls.
 
 ghost use Rattle.std.specs.Prelude.{◌≡◌, ◌↔◌, ◌<◌, IsTrue, IsUtf8};
 
 use crate::outcome::{Outcome, tell_length, without_answer};
 use simdutf8::compat;
 
-/// Texts of one length, in bytes, that stand one behind the other.
+/// Texts of one length, in bytes, one after another.
 #[derive(Clone, Copy)]
 struct Texts<'a> {
     all: &'a str,
     length: usize,
 }
 
-/// Adds up what a call returns for each text of `length` bytes, `times` times over.
+/// Adds up the results of a call for each text of `length` bytes, `times` times.
 ///
-/// There is no sum where a call returns none, where the last text is shorter, where a text ends
-/// within a character, or where the sum does not fit `usize`.
+/// It returns no sum if a call returns none, if the last text is shorter, if a text ends within a
+/// character, or if the sum does not fit `usize`.
 pub fn tell_sum<F: Fn(&str) -> Option<usize>>(
     texts: &[u8],
     length: usize,

@@ -1,10 +1,9 @@
 //! The calls of `simd_cesu8` as bench measures them, over byte slices.
 //!
-//! Each slice is passed as a pointer and a length, as `bench/cesu8_static.h` declares it. The
-//! answer is made as the library makes it, and then copied to the front of `room` where it fits
-//! there. So a call with an empty room costs what the library's call costs, and tells how much
-//! room its answer needs. Before an encoder's call, or one that tells of an encoding, its input
-//! is tested for UTF-8.
+//! C passes each slice as a pointer and a length, as `bench/cesu8_static.h` declares it. The result
+//! is made as the library makes it, and then copied to the front of `room` if it fits. So a call
+//! with an empty `room` costs as much as the library's call, and returns the length of its result.
+//! Calls that take a text first test the input for UTF-8.
 #![tactic(auto, using(crate::proofs::Told::tells_reading))]
 
 ghost use Rattle.std.specs.Prelude.{◌≡◌, ◌↔◌, ◌<◌, length, IsTrue, IsUtf8, Any};
@@ -29,9 +28,9 @@ use simd_cesu8::implementation::active;
 use simdutf8::compat;
 use std::alloc::Global;
 
-/// Encodes UTF-8 to CESU-8 (Unicode Technical Report 26), as `simd_cesu8::encode` does:
-/// it borrows where the encoding is the input, and elsewhere requests the encoding's length, in
-/// bytes. Other input is invalid.
+/// Encodes UTF-8 to CESU-8 (Unicode Technical Report 26), as `simd_cesu8::encode` does. It borrows
+/// where the encoding is the input, and otherwise requests the encoding's length, in bytes. Other
+/// input is invalid.
 #[unsafe(no_mangle)]
 pub extern "C" fn cesu8_static_encode(alloc: Global, text: &[u8], room: &mut [u8]) -> Outcome
     ensures encoding { IsTrue result.has_answer →
@@ -47,9 +46,9 @@ pub extern "C" fn cesu8_static_encode(alloc: Global, text: &[u8], room: &mut [u8
     }
 }
 
-/// Decodes bytes that are UTF-8 as a whole, or else CESU-8, to UTF-8, as `simd_cesu8::decode` does:
-/// it borrows what is UTF-8, and elsewhere requests the input's length, in bytes. Input that is
-/// neither is invalid.
+/// Decodes bytes that are UTF-8 as a whole, or else CESU-8, to UTF-8, as `simd_cesu8::decode` does.
+/// It borrows UTF-8, and otherwise requests the input's length, in bytes. Input that is neither is
+/// invalid.
 #[unsafe(no_mangle)]
 pub extern "C" fn cesu8_static_decode(alloc: Global, bytes: &[u8], room: &mut [u8]) -> Outcome
     ensures text { IsTrue result.has_answer →
@@ -61,9 +60,9 @@ pub extern "C" fn cesu8_static_decode(alloc: Global, bytes: &[u8], room: &mut [u
     tell_text(simd_cesu8::decode(alloc, bytes), room)
 }
 
-/// Decodes CESU-8 to UTF-8, as `simd_cesu8::decode_strict` does: it borrows where the text's
-/// UTF-8 is the input, and elsewhere requests the input's length, in bytes. Input that is the
-/// encoding of no text is invalid.
+/// Decodes CESU-8 to UTF-8, as `simd_cesu8::decode_strict` does. It borrows where the text's UTF-8
+/// is the input, and otherwise requests the input's length, in bytes. Input that is the encoding of
+/// no text is invalid.
 #[unsafe(no_mangle)]
 pub extern "C" fn cesu8_static_decode_strict(
     alloc: Global,
@@ -79,9 +78,9 @@ pub extern "C" fn cesu8_static_decode_strict(
     tell_text(simd_cesu8::decode_strict(alloc, bytes), room)
 }
 
-/// The length of the CESU-8 (Unicode Technical Report 26) of UTF-8, in bytes,
-/// as `simd_cesu8::encoded_len` tells it: the answer has that length, and nothing is written.
-/// Other input is invalid.
+/// Returns the length in bytes of the CESU-8 (Unicode Technical Report 26) of a text in UTF-8, as
+/// `simd_cesu8::encoded_len` does. The outcome has that length, and nothing is written. Other input
+/// is invalid.
 #[unsafe(no_mangle)]
 pub extern "C" fn cesu8_static_encoded_len(text: &[u8], room: &mut [u8]) -> Outcome
     ensures length { IsUtf8 text.now →
@@ -97,9 +96,9 @@ pub extern "C" fn cesu8_static_encoded_len(text: &[u8], room: &mut [u8]) -> Outc
     }
 }
 
-/// The length of the text that `cesu8_static_decode_lossy_strict` gives, in bytes, as
-/// `simd_cesu8::lossy_len` tells it: the answer has that length, and nothing is written. There
-/// is no answer where the length does not fit `usize`.
+/// Returns the length in bytes of the text that `cesu8_static_decode_lossy_strict` returns, as
+/// `simd_cesu8::lossy_len` does. The outcome has that length, and nothing is written. It is without
+/// a result if the length does not fit `usize`.
 #[unsafe(no_mangle)]
 pub extern "C" fn cesu8_static_lossy_len(bytes: &[u8], room: &mut [u8]) -> Outcome
     ensures length { IsTrue result.has_answer → TellsLength (lossy_length Cesu8 bytes.now) result }
@@ -115,10 +114,10 @@ pub extern "C" fn cesu8_static_lossy_len(bytes: &[u8], room: &mut [u8]) -> Outco
     }
 }
 
-/// Decodes CESU-8 with damage to UTF-8, as `simd_cesu8::decode_lossy_strict` does: each encoded
-/// character that stands in the bytes, and U+FFFD for each byte that is in none. It borrows where
-/// the text's UTF-8 is the input, and elsewhere requests exactly the text's length, in bytes.
-/// There is no answer where that is refused or does not fit `usize`.
+/// Decodes CESU-8 that may be damaged to UTF-8, as `simd_cesu8::decode_lossy_strict` does: each
+/// encoded character in the bytes, and U+FFFD for each byte in none. It borrows where the text's
+/// UTF-8 is the input, and otherwise requests exactly the text's length, in bytes. The outcome is
+/// without a result if that is refused or does not fit `usize`.
 #[unsafe(no_mangle)]
 pub extern "C" fn cesu8_static_decode_lossy_strict(
     alloc: Global,
@@ -134,9 +133,9 @@ pub extern "C" fn cesu8_static_decode_lossy_strict(
     tell_lossy_text(simd_cesu8::decode_lossy_strict(alloc, bytes), room)
 }
 
-/// Decodes bytes that are UTF-8 as a whole, or else CESU-8 with damage, to UTF-8, as
-/// `simd_cesu8::decode_lossy` does: it borrows what is UTF-8, and elsewhere does as
-/// `cesu8_static_decode_lossy_strict`.
+/// Decodes bytes that are UTF-8 as a whole, or else CESU-8 that may be damaged, to UTF-8, as
+/// `simd_cesu8::decode_lossy` does. It borrows UTF-8, and otherwise returns what
+/// `cesu8_static_decode_lossy_strict` does.
 #[unsafe(no_mangle)]
 pub extern "C" fn cesu8_static_decode_lossy(alloc: Global, bytes: &[u8], room: &mut [u8]) -> Outcome
     ensures text { IsTrue result.has_answer →
@@ -148,10 +147,9 @@ pub extern "C" fn cesu8_static_decode_lossy(alloc: Global, bytes: &[u8], room: &
     tell_lossy_text(simd_cesu8::decode_lossy(alloc, bytes), room)
 }
 
-/// Encodes each of many texts of `length` bytes, which stand one behind the other, by
-/// `simd_cesu8::encode`, `times` times over: the outcome's length is the sum of the encodings'
-/// lengths. Bytes that are not UTF-8 are invalid. There is no sum where memory is refused, or where
-/// a text ends within a character.
+/// Encodes each of many texts of `length` bytes, one after another, by `simd_cesu8::encode`,
+/// `times` times. The outcome's length is the sum of the encodings' lengths. Bytes that are not
+/// UTF-8 are invalid. There is no sum if memory is refused, or if a text ends within a character.
 #[unsafe(no_mangle)]
 pub extern "C" fn cesu8_static_encode_each(
     alloc: Global,
@@ -167,7 +165,7 @@ pub extern "C" fn cesu8_static_encode_each(
     })
 }
 
-/// The same sum as that of `cesu8_static_encode_each`, by `simd_cesu8::encoded_len`.
+/// Returns the same sum as `cesu8_static_encode_each`, by `simd_cesu8::encoded_len`.
 #[unsafe(no_mangle)]
 pub extern "C" fn cesu8_static_encoded_len_each(
     texts: &[u8],
@@ -185,8 +183,8 @@ pub extern "C" fn cesu8_static_encoded_len_each(
     )
 }
 
-/// Whether some byte is F0 to F7 (hexadecimal): the answer's length is 1 for yes and 0 for no, and
-/// nothing is written.
+/// Returns whether some byte is F0 to F7 (hexadecimal): the outcome's length is 1 for yes and 0 for
+/// no, and nothing is written.
 #[unsafe(no_mangle)]
 pub extern "C" fn cesu8_static_contains_utf8_4_byte_char_header(
     bytes: &[u8],
@@ -200,8 +198,8 @@ pub extern "C" fn cesu8_static_contains_utf8_4_byte_char_header(
     tell_whether(active::contains_utf8_4_byte_char_header(bytes))
 }
 
-/// Whether some byte is 00, or F0 to F7 (hexadecimal): the answer's length is 1 for yes and 0 for
-/// no, and nothing is written.
+/// Returns whether some byte is 00, or F0 to F7 (hexadecimal): the outcome's length is 1 for yes
+/// and 0 for no, and nothing is written.
 #[unsafe(no_mangle)]
 pub extern "C" fn cesu8_static_contains_null_or_utf8_4_byte_char_header(
     bytes: &[u8],

@@ -18,7 +18,7 @@ use simdutf8::compat;
 use std::alloc::Global;
 
 /// Encodes UTF-8 to MUTF-8 (Java's `DataOutput`, without a length in front), as
-/// `simd_cesu8::mutf8::encode` does: it borrows where the encoding is the input, and elsewhere
+/// `simd_cesu8::mutf8::encode` does. It borrows where the encoding is the input, and otherwise
 /// requests the encoding's length, in bytes. Other input is invalid.
 #[unsafe(no_mangle)]
 pub extern "C" fn cesu8_static_mutf8_encode(alloc: Global, text: &[u8], room: &mut [u8]) -> Outcome
@@ -36,8 +36,8 @@ pub extern "C" fn cesu8_static_mutf8_encode(alloc: Global, text: &[u8], room: &m
 }
 
 /// Decodes bytes that are UTF-8 as a whole, or else MUTF-8, to UTF-8, as
-/// `simd_cesu8::mutf8::decode` does: it borrows what is UTF-8, and elsewhere requests the input's
-/// length, in bytes. Input that is neither is invalid.
+/// `simd_cesu8::mutf8::decode` does. It borrows UTF-8, and otherwise requests the input's length,
+/// in bytes. Input that is neither is invalid.
 #[unsafe(no_mangle)]
 pub extern "C" fn cesu8_static_mutf8_decode(alloc: Global, bytes: &[u8], room: &mut [u8]) -> Outcome
     ensures text { IsTrue result.has_answer →
@@ -49,8 +49,8 @@ pub extern "C" fn cesu8_static_mutf8_decode(alloc: Global, bytes: &[u8], room: &
     tell_text(mutf8::decode(alloc, bytes), room)
 }
 
-/// Decodes MUTF-8 to UTF-8, as `simd_cesu8::mutf8::decode_strict` does: it borrows where the text's
-/// UTF-8 is the input, and elsewhere requests the input's length, in bytes. Input that is the
+/// Decodes MUTF-8 to UTF-8, as `simd_cesu8::mutf8::decode_strict` does. It borrows where the text's
+/// UTF-8 is the input, and otherwise requests the input's length, in bytes. Input that is the
 /// encoding of no text is invalid.
 #[unsafe(no_mangle)]
 pub extern "C" fn cesu8_static_mutf8_decode_strict(
@@ -67,9 +67,9 @@ pub extern "C" fn cesu8_static_mutf8_decode_strict(
     tell_text(mutf8::decode_strict(alloc, bytes), room)
 }
 
-/// The length of the MUTF-8 (Java's `DataOutput`, without a length in front) of UTF-8, in bytes,
-/// as `simd_cesu8::mutf8::encoded_len` tells it: the answer has that length, and nothing is
-/// written. Other input is invalid.
+/// Returns the length in bytes of the MUTF-8 (Java's `DataOutput`, without a length in front) of a
+/// text in UTF-8, as `simd_cesu8::mutf8::encoded_len` does. The outcome has that length, and
+/// nothing is written. Other input is invalid.
 #[unsafe(no_mangle)]
 pub extern "C" fn cesu8_static_mutf8_encoded_len(text: &[u8], room: &mut [u8]) -> Outcome
     ensures length { IsUtf8 text.now →
@@ -85,9 +85,9 @@ pub extern "C" fn cesu8_static_mutf8_encoded_len(text: &[u8], room: &mut [u8]) -
     }
 }
 
-/// The length of the text that `cesu8_static_mutf8_decode_lossy_strict` gives, in bytes, as
-/// `simd_cesu8::mutf8::lossy_len` tells it: the answer has that length, and nothing is written.
-/// There is no answer where the length does not fit `usize`.
+/// Returns the length in bytes of the text that `cesu8_static_mutf8_decode_lossy_strict` returns,
+/// as `simd_cesu8::mutf8::lossy_len` does. The outcome has that length, and nothing is written. It
+/// is without a result if the length does not fit `usize`.
 #[unsafe(no_mangle)]
 pub extern "C" fn cesu8_static_mutf8_lossy_len(bytes: &[u8], room: &mut [u8]) -> Outcome
     ensures length { IsTrue result.has_answer → TellsLength (lossy_length Mutf8 bytes.now) result }
@@ -103,10 +103,10 @@ pub extern "C" fn cesu8_static_mutf8_lossy_len(bytes: &[u8], room: &mut [u8]) ->
     }
 }
 
-/// Decodes MUTF-8 with damage to UTF-8, as `simd_cesu8::mutf8::decode_lossy_strict` does: each
-/// encoded character that stands in the bytes, and U+FFFD for each byte that is in none. It
-/// borrows where the text's UTF-8 is the input, and elsewhere requests exactly the text's length,
-/// in bytes. There is no answer where that is refused or does not fit `usize`.
+/// Decodes MUTF-8 that may be damaged to UTF-8, as `simd_cesu8::mutf8::decode_lossy_strict` does:
+/// each encoded character in the bytes, and U+FFFD for each byte in none. It borrows where the
+/// text's UTF-8 is the input, and otherwise requests exactly the text's length, in bytes. The
+/// outcome is without a result if that is refused or does not fit `usize`.
 #[unsafe(no_mangle)]
 pub extern "C" fn cesu8_static_mutf8_decode_lossy_strict(
     alloc: Global,
@@ -122,9 +122,9 @@ pub extern "C" fn cesu8_static_mutf8_decode_lossy_strict(
     tell_lossy_text(mutf8::decode_lossy_strict(alloc, bytes), room)
 }
 
-/// Decodes bytes that are UTF-8 as a whole, or else MUTF-8 with damage, to UTF-8, as
-/// `simd_cesu8::mutf8::decode_lossy` does: it borrows what is UTF-8, and elsewhere does as
-/// `cesu8_static_mutf8_decode_lossy_strict`.
+/// Decodes bytes that are UTF-8 as a whole, or else MUTF-8 that may be damaged, to UTF-8, as
+/// `simd_cesu8::mutf8::decode_lossy` does. It borrows UTF-8, and otherwise returns what
+/// `cesu8_static_mutf8_decode_lossy_strict` does.
 #[unsafe(no_mangle)]
 pub extern "C" fn cesu8_static_mutf8_decode_lossy(
     alloc: Global,
@@ -140,10 +140,9 @@ pub extern "C" fn cesu8_static_mutf8_decode_lossy(
     tell_lossy_text(mutf8::decode_lossy(alloc, bytes), room)
 }
 
-/// Encodes each of many texts of `length` bytes, which stand one behind the other, by
-/// `simd_cesu8::mutf8::encode`, `times` times over: the outcome's length is the sum of the
-/// encodings' lengths. Bytes that are not UTF-8 are invalid. There is no sum where memory is
-/// refused, or where a text ends within a character.
+/// Encodes each of many texts of `length` bytes, one after another, by `simd_cesu8::mutf8::encode`,
+/// `times` times. The outcome's length is the sum of the encodings' lengths. Bytes that are not
+/// UTF-8 are invalid. There is no sum if memory is refused, or if a text ends within a character.
 #[unsafe(no_mangle)]
 pub extern "C" fn cesu8_static_mutf8_encode_each(
     alloc: Global,
@@ -159,7 +158,7 @@ pub extern "C" fn cesu8_static_mutf8_encode_each(
     })
 }
 
-/// The same sum as that of `cesu8_static_mutf8_encode_each`, by `simd_cesu8::mutf8::encoded_len`.
+/// Returns the same sum as `cesu8_static_mutf8_encode_each`, by `simd_cesu8::mutf8::encoded_len`.
 #[unsafe(no_mangle)]
 pub extern "C" fn cesu8_static_mutf8_encoded_len_each(
     texts: &[u8],

@@ -1,4 +1,4 @@
-//! What an export tells of the library's answer, and what it leaves in the caller's room.
+//! What an export returns for the library's result, and what it writes to the caller's buffer.
 
 ghost use Rattle.std.specs.Prelude.{◌≡◌, ◌↔◌, IsTrue, IfOk, IfErr};
 ghost use Rattle.std.specs.Str.{chars};
@@ -9,22 +9,22 @@ ghost use Rattle.measured.specs.Outcomes.{Tells, TellsLength, TellsNone, IsInval
 use simd_cesu8::{CowBytes, CowText, DecodeFault};
 use std::alloc::AllocError;
 
-/// What a call answered. With neither an answer nor an invalid input, a request for memory was
+/// What a call returned. With neither a result nor an invalid input, a request for memory was
 /// refused, or the length of a lossy reading does not fit `usize`.
 #[repr(C)]
 #[derive(Drop)]
 pub struct Outcome {
-    /// The answer's bytes, and 0 where there is none.
+    /// The length of the result in bytes, and 0 without one.
     pub length: usize,
-    /// Whether there is an answer.
+    /// Whether there is a result.
     pub has_answer: bool,
-    /// Whether the answer borrowed the input's bytes; false where there is none.
+    /// Whether the result borrowed from the input; false without one.
     pub is_borrowed: bool,
-    /// Whether the input is refused.
+    /// Whether the input has no text.
     pub is_invalid: bool,
 }
 
-/// Tells of what a kernel answered.
+/// Returns the outcome of a kernel.
 pub fn tell_whether(answer: bool) -> Outcome
     ensures yes { IsTrue answer → TellsLength 1 result }
     ensures no { ¬ (IsTrue answer) → TellsLength 0 result }
@@ -32,7 +32,7 @@ pub fn tell_whether(answer: bool) -> Outcome
     tell_length(usize::from(answer))
 }
 
-/// Tells of a length.
+/// Returns the outcome of a call that returns a length.
 pub fn tell_length(length: usize) -> Outcome
     ensures { TellsLength length result }
 {
@@ -44,7 +44,7 @@ pub fn tell_length(length: usize) -> Outcome
     }
 }
 
-/// Tells of what an encoder answered.
+/// Returns the outcome of an encoder.
 pub fn tell_bytes(answer: Result<CowBytes<'_>, AllocError>, room: &mut [u8]) -> Outcome
     ensures ok { IfOk answer.entry (λ answer.
         Tells result (answer_bytes answer) (borrows_bytes answer) room.old room.new) }
@@ -58,7 +58,7 @@ pub fn tell_bytes(answer: Result<CowBytes<'_>, AllocError>, room: &mut [u8]) -> 
     }
 }
 
-/// Tells of what a decoder answered.
+/// Returns the outcome of a decoder.
 pub fn tell_text(answer: Result<CowText<'_>, DecodeFault>, room: &mut [u8]) -> Outcome
     ensures ok { IfOk answer.entry (λ answer.
         Tells result (answer_text answer) (borrows_text answer) room.old room.new) }
@@ -75,7 +75,7 @@ pub fn tell_text(answer: Result<CowText<'_>, DecodeFault>, room: &mut [u8]) -> O
     }
 }
 
-/// Tells of what a lossy decoder answered.
+/// Returns the outcome of a lossy decoder.
 pub fn tell_lossy_text(answer: Result<CowText<'_>, AllocError>, room: &mut [u8]) -> Outcome
     ensures ok { IfOk answer.entry (λ answer.
         Tells result (answer_text answer) (borrows_text answer) room.old room.new) }
@@ -88,7 +88,7 @@ pub fn tell_lossy_text(answer: Result<CowText<'_>, AllocError>, room: &mut [u8])
     tell_text(answer.map_err(DecodeFault::Memory), room)
 }
 
-/// Copies an answer to the front of the room where it fits there, and tells of it.
+/// Copies a result to the front of the buffer if it fits there, and returns the outcome.
 fn tell(answer: &[u8], is_borrowed: bool, room: &mut [u8]) -> Outcome
     ensures { Tells result answer.now is_borrowed room.old room.new }
 {
@@ -103,7 +103,7 @@ fn tell(answer: &[u8], is_borrowed: bool, room: &mut [u8]) -> Outcome
     }
 }
 
-/// There is no answer.
+/// Returns the outcome without a result.
 pub fn without_answer(is_invalid: bool) -> Outcome
     ensures answer { ¬ (IsTrue result.has_answer) }
     ensures length { result.length ≡ 0 }

@@ -162,7 +162,8 @@ HalvesJoin = (f : Flavor) →
     (reading f high ≡ 0xFFFD ∷ 0xFFFD ∷ 0xFFFD ∷ []) × (reading f low ≡ 0xFFFD ∷ 0xFFFD ∷ 0xFFFD ∷ [])
     × (reading f (high ++ low) ≡ 0x1F496 ∷ [])
 
--- The lossy reading of an encoded text s, bytes w and an encoded text t is s, the reading of w, and t.
+-- The lossy reading of an encoded text s, bytes w and an encoded text t is s, the reading of w, and
+-- t.
 abbrev pub Around : Type 0
 Around = (f : Flavor) (s w t : List ℕ) → IsText s → IsText t →
     reading f (encoding f s ++ w ++ encoding f t) ≡ s ++ reading f w ++ t

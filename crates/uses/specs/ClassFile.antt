@@ -1,4 +1,4 @@
--- The constants of a Java class file that are texts.
+-- The text constants of a Java class file.
 use Rattle.std.specs.Prelude.{◌≡◌, ◌≢◌, ◌⊎◌, ℕ, ◌∷◌, ◌++◌, [], List, Result, IfErr, drop, slice_index}
 use Rattle.simd_cesu8.specs.Text.{IsText}
 use Rattle.simd_cesu8.specs.Class.{IsUnchangedUtf8}
@@ -16,7 +16,7 @@ pub record BeginsWithConstant (bytes text rest : List ℕ) : Type 0 where
   pub fits : HasForm text
   pub bytes_are : bytes ≡ 1 ∷ java_form text ++ rest
 
--- They are so in no other way.
+-- The bytes are so in no other way.
 abbrev pub BeginsOnlyWithConstant : List ℕ → List ℕ → List ℕ → Type 0
 BeginsOnlyWithConstant bytes text rest =
     (other more : List ℕ) → BeginsWithConstant bytes other more → (other ≡ text) × (more ≡ rest)
@@ -28,16 +28,16 @@ NoConstantBegins bytes = (text rest : List ℕ) → ¬ (BeginsWithConstant bytes
 abbrev pub HasOtherTag : List ℕ → Type 0
 HasOtherTag bytes = (bytes ≢ []) × (slice_index bytes 0 ≢ 1)
 
--- There are fewer bytes than the tag, or than the two bytes after it, say.
+-- There is no tag, or there are too few bytes after the tag 1.
 abbrev pub IsCutShort : List ℕ → Type 0
 IsCutShort bytes = (bytes ≡ []) ⊎ ((slice_index bytes 0 ≡ 1) × IsTruncated (drop 1 bytes))
 
--- The bytes of a constant are there, and those of its text are the same in UTF-8.
+-- No byte of a constant is missing, and its text has the same bytes in UTF-8.
 abbrev pub IsPlainConstant : List ℕ → Type 0
 IsPlainConstant bytes = (slice_index bytes 0 ≡ 1) × ¬ (IsTruncated (drop 1 bytes))
     × IsUnchangedUtf8 Mutf8 (counted (drop 1 bytes))
 
--- A fact that holds where a call refuses its input.
+-- If the fault is one of the input, the fact holds.
 abbrev pub IfRefused : ConstantFault → Type 0 → Type 0
 IfRefused (OtherTag tag) P = P
 IfRefused (Text fault) P = java.IfRefused fault P

@@ -9,11 +9,11 @@ use Rattle.simd_cesu8.specs.Order.{IsBelow}
 use Rattle.simd_cesu8.specs.Reading.{IsStrictReading}
 use Rattle.simd_cesu8.specs.Utf16.{units}
 
--- The value at the key of a text.
+-- The value of the key of a text.
 abbrev pub value_at : BTreeMap (Vec ℕ) ℕ → List ℕ → Option ℕ
 value_at store text = get_by (λ key. slice_cmp nat_cmp (encoding Cesu8 text) key.items) store
 
--- Where two keys are those of texts, the first text's code units are below the other's.
+-- If two keys are those of texts, the first text's code units are below the other's.
 abbrev pub IsBelowInUtf16 : Vec ℕ → Vec ℕ → Type 0
 IsBelowInUtf16 key other = (s t : List ℕ) →
     IsStrictReading Cesu8 key.items s → IsStrictReading Cesu8 other.items t →

@@ -5,7 +5,8 @@ use Rattle.simd_cesu8.specs.Encoding.{Cesu8, encoding}
 use Rattle.simd_cesu8.specs.Reading.{reading}
 use Rattle.simd_cesu8.specs.Cutting.{Piece, IsCutting, text_of, cost}
 
--- Each whole record of the log stands in the text, between what is read before it and after it.
+-- Each whole record of the log is in the text, between the readings of what precedes and follows
+-- it.
 abbrev pub KeepsRecords : List ℕ → List ℕ → Type 0
 KeepsRecords log text = (before whole after : List ℕ) → IsText whole → whole ≢ [] →
     log ≡ before ++ encoding Cesu8 whole ++ after →

@@ -1,8 +1,8 @@
--- Files of Java strings, one after the other.
+-- Files of Java strings, one after another.
 use Rattle.std.specs.Prelude.{◌≡◌, ◌++◌, ℕ, List, length}
 use Rattle.java_text.specs.Laws.{AreReadInTurn}
 
--- The source is the forms of this many texts, and the target has gained these forms.
+-- The source is the forms of this many texts, and the target had these forms appended.
 pub record CopiesStrings (count : ℕ) (source before after : List ℕ) : Type 0 where
   pub texts : List (List ℕ)
   pub are_read : AreReadInTurn source texts

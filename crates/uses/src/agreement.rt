@@ -1,4 +1,5 @@
-//! Calls that tell what other calls answer. Each function asks both, and its answer is always yes.
+//! Calls that predict the results of others. Each function compares two calls, and is proved to
+//! return true.
 
 ghost use Rattle.std.specs.Prelude.{◌≡◌, ◌++◌, IfOk, IsOk, IsTrue};
 ghost use Rattle.std.specs.Str.{chars};
@@ -7,7 +8,7 @@ ghost use Rattle.simd_cesu8.specs.Encoding.{Cesu8, NeedsEncoding};
 use simd_cesu8::{DecodeFault, laws};
 use std::alloc::{AllocError, Global};
 
-/// Whether `encode` borrows exactly where `needs_encoded` says no.
+/// Returns whether `encode` borrows exactly where `needs_encoded` is false.
 pub fn needs_or_borrows(alloc: Global, text: &str) -> Result<bool, AllocError>
     ensures { IfOk result (λ agree. IsTrue agree) }
 {
@@ -17,7 +18,7 @@ pub fn needs_or_borrows(alloc: Global, text: &str) -> Result<bool, AllocError>
     Ok(is_borrowed != simd_cesu8::needs_encoded(text))
 }
 
-/// Whether `encoded_len` is the length of what `encode` answers.
+/// Returns whether `encoded_len` is the length of the result of `encode`.
 pub fn tells_encoded_length(alloc: Global, text: &str) -> Result<bool, AllocError>
     ensures { IfOk result (λ agree. IsTrue agree) }
 {
@@ -25,7 +26,7 @@ pub fn tells_encoded_length(alloc: Global, text: &str) -> Result<bool, AllocErro
     Ok(simd_cesu8::encode(alloc, text)?.as_bytes().len() == length)
 }
 
-/// Whether `lossy_len` is the length of what `decode_lossy_strict` answers.
+/// Returns whether `lossy_len` is the length of the result of `decode_lossy_strict`.
 pub fn tells_lossy_length(alloc: Global, bytes: &[u8]) -> Result<bool, AllocError>
     ensures { IfOk result (λ agree. IsTrue agree) }
 {
@@ -47,8 +48,8 @@ pub fn append_and_encode(
     simd_cesu8::encode(alloc, text)?.into_vec(alloc)
 }
 
-/// Whether `decode_strict` gives back the text that `encode` was given. Where nothing needs
-/// encoding, both borrow, and no memory is asked for.
+/// Returns whether `decode_strict` restores the text that was encoded. If it needs no encoding,
+/// both calls borrow, and request no memory.
 pub fn decodes_to_same(alloc: Global, text: &str) -> Result<bool, AllocError>
     ensures same { IfOk result (λ agree. IsTrue agree) }
     ensures succeeds { ¬ (NeedsEncoding Cesu8 (chars text.now)) → IsOk result }
@@ -60,7 +61,7 @@ pub fn decodes_to_same(alloc: Global, text: &str) -> Result<bool, AllocError>
     match simd_cesu8::decode_strict(alloc, encoded.as_bytes()) {
         Ok(decoded) => Ok(decoded.as_str() == text),
         Err(DecodeFault::Memory(error)) => Err(error),
-        // An encoding is never refused.
+        // `decode_strict` accepts every encoding.
         Err(DecodeFault::Invalid(_)) => unreachable!(),
     }
 }

@@ -1,4 +1,4 @@
-//! The constants of a Java class file that are texts.
+//! The text constants of a Java class file.
 
 ghost use Rattle.std.specs.Prelude.{◌≡◌, ◌↔◌, slice_index, IsOk};
 ghost use Rattle.java_text.specs.Read.{IfRead};
@@ -9,10 +9,10 @@ use java_text::ReadFault;
 use simd_cesu8::CowText;
 use std::alloc::Global;
 
-/// The tag of a constant that is a text.
+/// The tag of a text constant.
 const UTF8_TAG: u8 = 1;
 
-/// Why bytes give no text constant.
+/// Why bytes have no text constant.
 #[derive(Debug, Drop)]
 pub enum ConstantFault {
     /// A constant of another kind begins the bytes, with this tag.
@@ -30,11 +30,11 @@ impl From<ReadFault> for ConstantFault {
 }
 
 /// Reads the text constant that begins the bytes of a constant pool (`CONSTANT_Utf8` of the Java
-/// Virtual Machine Specification): its text, and the bytes after it, where the next constant
-/// begins.
+/// Virtual Machine Specification). It returns its text, and the bytes after it, where the next
+/// constant begins.
 ///
-/// The text borrows where its bytes are its UTF-8, which takes no memory. A class file may hold
-/// unpaired surrogates in such a constant. These are no text, and refused.
+/// The text borrows the bytes where they are its UTF-8, and then takes no memory. A class file may
+/// have unpaired surrogates in such a constant. These are no text, so the call returns an error.
 ///
 /// ```rust
 /// let (name, rest) = uses::read_utf8_constant(alloc, b"\x01\0\x03a\xC0\x80\x07\0\x02")?;

@@ -10,13 +10,13 @@ use simd_cesu8::laws;
 use std::alloc::{AllocError, Global};
 use std::collections::BTreeMap;
 
-/// Values at texts. A key is the CESU-8 of its text, so the keys stand in the order of the texts'
-/// UTF-16 code units, as Java's `compareTo` has it.
+/// Values by text. A key is the CESU-8 of its text, so the keys have the order of the texts' UTF-16
+/// code units, as in Java's `compareTo`.
 pub type Store = BTreeMap<Vec<u8>, u64>;
 
-/// Puts a value at a text, in the place of the one that it had.
+/// Stores a value for a text, in place of the old one.
 ///
-/// `AllocError` comes where a request for memory is refused, and the store is as before then.
+/// It returns `AllocError` if a request for memory is refused, and the store is then as before.
 ///
 /// ```rust
 /// let mut store = BTreeMap::new(alloc);
@@ -41,10 +41,10 @@ pub fn put_value(alloc: Global, store: &mut Store, key: &str, value: u64) -> Res
     Ok(())
 }
 
-/// The value at a text, if it has one.
+/// Returns the value of a text, if it has one.
 ///
-/// `AllocError` comes where a request for memory is refused, which is made for a key that is other
-/// than the text's UTF-8.
+/// It requests memory if the key differs from the text's UTF-8, and returns `AllocError` if that is
+/// refused.
 ///
 /// ```rust
 /// let mut store = BTreeMap::new(alloc);

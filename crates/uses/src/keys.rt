@@ -11,7 +11,7 @@ use simd_cesu8::{laws, mutf8};
 use std::alloc::{AllocError, Global};
 use std::cmp::Ordering;
 
-/// The MUTF-8 of a text, in which no byte is 0: so it may stand where a zero byte ends a string.
+/// Returns the MUTF-8 of a text. None of its bytes is 0, so a zero byte may end it.
 ///
 /// ```rust
 /// let key = uses::key_without_zero(alloc, "a\0")?;
@@ -26,8 +26,8 @@ pub fn key_without_zero(alloc: Global, text: &str) -> Result<Vec<u8>, AllocError
     mutf8::encode(alloc, text)?.into_vec(alloc)
 }
 
-/// How two texts compare by their UTF-16 code units, as Java's `compareTo` has it: as their CESU-8
-/// does.
+/// Compares two texts by their UTF-16 code units, as Java's `compareTo` does, by comparing their
+/// CESU-8.
 ///
 /// ```rust
 /// let ordering = uses::compare_as_utf16(alloc, "\u{FFFF}", "\u{10000}")?;

@@ -1,8 +1,8 @@
 //! Callers of `simd_cesu8` and `java_text`, as users write them.
 //!
 //! Each has a contract of its own, which is proved from the public clauses and laws of the two
-//! crates: what an encoding is made of stands in no proof here. A law is used where it is called,
-//! as `laws::concat()`, a call that does nothing. docs/CALLING.md explains them.
+//! crates. No proof here uses how an encoding is built. A law is used by a call, such as
+//! `laws::concat()`, which does nothing. docs/CALLING.md explains them.
 #![tactic(auto)]
 
 mod agreement;

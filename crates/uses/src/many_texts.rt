@@ -7,11 +7,11 @@ ghost use Rattle.uses.specs.Texts.{joined};
 use simd_cesu8::laws;
 use std::alloc::AllocError;
 
-/// Appends the CESU-8 of each text to what stands in the buffer: of all of them, or of none.
+/// Appends the CESU-8 of each text to the buffer: of all of them, or of none.
 ///
-/// Where the buffer has no room for all, it makes one request, for exactly what they take.
-/// `AllocError` comes where that is refused, or where the length does not fit `usize`. The buffer
-/// is as before then.
+/// If the capacity is too small, it makes one request, for exactly what they need. It returns
+/// `AllocError` if that is refused, or if the length does not fit `usize`. The buffer is then as
+/// before.
 ///
 /// ```rust
 /// let mut buf = Vec::new(alloc);
@@ -36,7 +36,7 @@ pub fn append_all(texts: &[&str], buf: &mut Vec<u8>) -> Result<(), AllocError>
     Ok(())
 }
 
-/// The length of the CESU-8 of all texts, in bytes, if it fits `usize`.
+/// Returns the length of the CESU-8 of all texts, in bytes, if it fits `usize`.
 fn encoded_len(texts: &[&str]) -> Option<usize>
     ensures some { IfSome result (λ len. len ≡ length (encoding Cesu8 (joined texts.now))) }
     ensures none { IfNone result (usize.MAX < length (encoding Cesu8 (joined texts.now))) }

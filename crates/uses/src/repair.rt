@@ -14,17 +14,17 @@ use std::alloc::{AllocError, Global};
 /// The text of a log, and whether the log is damaged.
 #[derive(Drop)]
 pub struct Repaired<'a> {
-    /// What could be read, with one U+FFFD for each byte that could not.
+    /// The text, with one U+FFFD for each damaged byte.
     pub text: CowText<'a>,
-    /// Whether some byte had to be replaced: whether the log is the CESU-8 of no text.
+    /// Whether some byte was replaced: whether the log is the CESU-8 of no text.
     pub is_damaged: bool,
 }
 
 /// Reads a log in CESU-8 that may be damaged.
 ///
-/// Each whole record stays what it is, wherever the damage lies, and no other way to cut the log
-/// into characters and replaced bytes replaces fewer bytes. `AllocError` comes where a request for
-/// memory is refused; a log without damage and without surrogate pairs makes none.
+/// Each whole record stays, wherever the damage is. No other way to cut the log into characters and
+/// replaced bytes replaces fewer bytes. The call returns `AllocError` if a request for memory is
+/// refused. A log without damage and without surrogate pairs needs none.
 ///
 /// ```rust
 /// let repaired = uses::repair_log(alloc, b"one\n\xED\xA0\xBDtwo\n")?;
@@ -61,10 +61,10 @@ pub fn repair_log(alloc: Global, log: &[u8]) -> Result<Repaired<'_>, AllocError>
     }
 }
 
-/// A log again, in which every byte that could not be read is an encoded U+FFFD.
+/// Returns a log again, with an encoded U+FFFD for each damaged byte.
 ///
-/// It is the CESU-8 of the log's reading, so it is not damaged, and its own reading is the same. A
-/// log that was not damaged stays as it was, and so does one in whose reading no U+FFFD stands.
+/// It is the CESU-8 of the log's reading, so it is not damaged, and has the same reading. A log
+/// that was not damaged stays, and so does one whose reading has no U+FFFD.
 ///
 /// ```rust
 /// let rewritten = uses::rewrite_log(alloc, b"one\n\xEDtwo\n")?;

@@ -1,4 +1,4 @@
-//! What goes in comes out again.
+//! Round trips: the result is the input.
 
 ghost use Rattle.std.specs.Prelude.{◌≡◌, IfOk, IsOkUnless};
 ghost use Rattle.std.specs.Str.{chars};
@@ -12,7 +12,7 @@ use java_text::{ReadFault, WriteFault};
 use simd_cesu8::{DecodeFault, laws};
 use std::alloc::{AllocError, Global};
 
-/// Encodes a text, and decodes that: the text again.
+/// Encodes a text and decodes the result: returns the text.
 ///
 /// ```rust
 /// let back = uses::encode_and_decode(alloc, "a\u{1F496}")?;
@@ -26,12 +26,12 @@ pub fn encode_and_decode(alloc: Global, text: &str) -> Result<String, AllocError
     match simd_cesu8::decode_strict(alloc, encoded.as_bytes()) {
         Ok(decoded) => decoded.into_string(alloc),
         Err(DecodeFault::Memory(error)) => Err(error),
-        // An encoding is never refused.
+        // `decode_strict` accepts every encoding.
         Err(DecodeFault::Invalid(_)) => unreachable!(),
     }
 }
 
-/// Decodes bytes strictly, and encodes that: the bytes again.
+/// Decodes bytes strictly and encodes the result: returns the bytes.
 ///
 /// ```rust
 /// let back = uses::decode_and_encode(alloc, b"a\xED\xA0\xBD\xED\xB2\x96")?;
@@ -49,7 +49,7 @@ pub fn decode_and_encode(alloc: Global, bytes: &[u8]) -> Result<Vec<u8>, DecodeF
     }
 }
 
-/// Encodes a text, and reads that as if it were damaged: the text again.
+/// Encodes a text and decodes the result lossily: returns the text.
 ///
 /// ```rust
 /// let back = uses::encode_and_read(alloc, "a\u{1F496}")?;
@@ -64,9 +64,9 @@ pub fn encode_and_read(alloc: Global, text: &str) -> Result<String, AllocError>
     simd_cesu8::decode_lossy_strict(alloc, encoded.as_bytes())?.into_string(alloc)
 }
 
-/// Writes a text as a Java string with other bytes after it, and reads that: the text again.
+/// Writes a text as a Java string with other bytes after it, and reads it: returns the text.
 ///
-/// `TooLong` comes only where the text has no form.
+/// It returns `TooLong` only if the text has no form.
 ///
 /// ```rust
 /// let back = uses::write_and_read(alloc, "a\0", b"\xFF")?;
@@ -83,7 +83,7 @@ pub fn write_and_read(alloc: Global, text: &str, rest: &[u8]) -> Result<String, 
     match java_text::read_utf(alloc, buf.as_slice()) {
         Ok((back, _)) => Ok(back.into_string(alloc)?),
         Err(ReadFault::Memory) => Err(WriteFault::Memory),
-        // A form begins what was written.
+        // The bytes begin with a form.
         Err(ReadFault::Truncated | ReadFault::Invalid(_)) => unreachable!(),
     }
 }

@@ -7,8 +7,8 @@ ghost use Rattle.uses.specs.StringFile.{CopiesStrings, NoneAreRead};
 use java_text::{ReadFault, WriteFault, laws};
 use std::alloc::Global;
 
-/// Copies the strings of one file, each with its length in front, to the end of another, and
-/// answers how many: all of them, or none.
+/// Appends the strings of one file, each with its length in front, to another: all of them, or
+/// none. Returns how many.
 ///
 /// ```rust
 /// let mut target = Vec::new(alloc);
@@ -32,7 +32,7 @@ pub fn copy_strings(alloc: Global, source: &[u8], target: &mut Vec<u8>) -> Resul
     copied
 }
 
-/// The same, but that on a fault the first strings stay.
+/// The same, but after an error the first strings stay.
 fn append_strings(alloc: Global, source: &[u8], target: &mut Vec<u8>) -> Result<usize, ReadFault>
     ensures copied { IfOk result (λ count.
         CopiesStrings count source.now target.old.items target.new.items) }
