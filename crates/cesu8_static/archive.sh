@@ -7,6 +7,8 @@
 set -eu
 
 crate=$(cd "$(dirname "$0")" && pwd)
+# shellcheck source=tests/kit.sh
+. "$crate/../../tests/kit.sh"
 scratch=$(mktemp -d)
 trap 'rm -rf "$scratch"' EXIT
 
