@@ -7,6 +7,9 @@
 //!
 //! Longer input goes by windows. Where the text is whole, a window is joined as it stands, which is
 //! faster; where that gives no text, this window and a few after it are read by places.
+//!
+//! `slices` decodes into a caller's buffer. That stays as it was where the bytes are refused, so
+//! `damage` looks at all of them before the first byte is written.
 
 ghost use Rattle.std.specs.Prelude.{◌≡◌, ◌+◌, ◌*◌, ◌<◌, ◌≤◌, ◌++◌, ℕ, length, drop, replicate, List, false, true, OnOk, OnErr, IfOk, IfSome, IfNone};
 ghost use Rattle.std.specs.String.{string_bytes, string_capacity};

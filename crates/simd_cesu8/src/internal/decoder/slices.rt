@@ -1,5 +1,5 @@
-//! Decodes into a caller's buffer, with no request and no test of what is written: a slice of bytes
-//! promises no UTF-8.
+//! Decodes into a caller's buffer, with no request. What is read by places is not tested for UTF-8
+//! here, since a slice of bytes promises none.
 //!
 //! Few bytes are read into an array on the stack and copied from there. Of more it is told first
 //! whether they are damaged and, where that matters, how long their text is. Then they are written
