@@ -214,9 +214,10 @@ fn misfit(length: usize) -> WriteSliceFault
 /// UTF-8 of its text to the caller's buffer.
 ///
 /// It returns how many bytes it wrote at the front of the buffer, and the bytes after the form. The
-/// rest of the buffer stays as it was. It returns `Truncated` and `Invalid` exactly where
-/// [`read_utf`] does, and `TooShort`, with the needed length in bytes, where the text is longer
-/// than the buffer. After an error the whole buffer stays as it was. It requests no memory.
+/// rest of the buffer stays as it was. It returns `Truncated` as [`read_utf`] does. Otherwise it
+/// returns `Invalid` exactly where the counted bytes are the encoding of no text. It returns
+/// `TooShort`, with the needed length in bytes, where the text is longer than the buffer. After an
+/// error the whole buffer stays as it was. It requests no memory.
 ///
 /// ```rust
 /// let mut buf = [0xEE; 3];

@@ -70,12 +70,12 @@ pub record HasNull (f : Flavor) (bytes : List ℕ) : Type 0 where
   pub lead : slice_index bytes 0 ≡ 0xC0
   pub continuation : slice_index bytes 1 ≡ 0x80
 
--- What joins the digits of a surrogate pair, wherever they stand, to the UTF-8 of the character.
+-- The digits of a surrogate pair, wherever they are, are joined to the UTF-8 of the character.
 abbrev pub Joins : List ℕ → List ℕ → Type 0
 Joins four written = (c w x y z : ℕ) → IsPair c w x y z → four ≡ (0xA0 + w) ∷ (0x80 + x) ∷ (0xB0 + y) ∷ (0x80 + z) ∷ [] →
     written ≡ utf8_of c
 
--- Where they stand in a surrogate pair.
+-- Their positions in a surrogate pair.
 abbrev pub second_third_fifth_sixth : List ℕ → List ℕ
 second_third_fifth_sixth bytes = slice_index bytes 1 ∷ slice_index bytes 2 ∷ slice_index bytes 4 ∷ slice_index bytes 5 ∷ []
 

@@ -53,8 +53,8 @@ pub fn chars()
     ensures same_bytes { SameBytes }
 {}
 
-/// `decode_strict` after `encode` returns the original string, and never an `Invalid`. `encode`
-/// after `decode_strict` returns the original bytes.
+/// `decode_strict` after `encode` returns the original string, and never `Invalid`. `encode` after
+/// `decode_strict` returns the original bytes.
 pub fn inverse()
     ensures decoded { DecodedBack }
     ensures not_refused { NotRefused }
@@ -95,7 +95,7 @@ pub fn bounds()
     ensures { Bounds }
 {}
 
-/// The stretches of the encoded characters at any two places are equal or disjoint.
+/// The stretches of the encoded characters at any two positions are equal or disjoint.
 pub fn no_overlap()
     ensures { NoOverlap }
 {}

@@ -303,9 +303,10 @@ pub fn encode_to_slice(value: &str, buf: &mut [u8]) -> Result<usize, TooShort>
 /// caller's buffer.
 ///
 /// It returns how many bytes it wrote at the front of the buffer; the rest stays as it was. It
-/// returns `Invalid` exactly where [`decode_strict`] does. It returns `TooShort`, with the needed
-/// length in bytes, exactly where the text is longer than the buffer. After an error the whole
-/// buffer stays as it was. A text is never longer than its encoding. It requests no memory.
+/// returns `Invalid` exactly where the bytes are the encoding of no text. It returns `TooShort`,
+/// with the needed length in bytes, exactly where the text is longer than the buffer. After an
+/// error the whole buffer stays as it was. A text is never longer than its encoding. It requests no
+/// memory.
 ///
 /// ```rust
 /// let mut buf = [0xEE; 6];
@@ -323,9 +324,10 @@ pub fn decode_strict_to_slice(bytes: &[u8], buf: &mut [u8]) -> Result<usize, Dec
 /// writes the UTF-8 of the text to the caller's buffer.
 ///
 /// It returns how many bytes it wrote at the front of the buffer; the rest stays as it was. It
-/// returns `Invalid` exactly where [`decode`] does. It returns `TooShort`, with the needed length
-/// in bytes, exactly where the text is longer than the buffer. After an error the whole buffer
-/// stays as it was. A text is never longer than the input. It requests no memory.
+/// returns `Invalid` exactly where the bytes are neither UTF-8 as a whole nor the encoding of a
+/// text. It returns `TooShort`, with the needed length in bytes, exactly where the text is longer
+/// than the buffer. After an error the whole buffer stays as it was. A text is never longer than
+/// the input. It requests no memory.
 ///
 /// ```rust
 /// let mut buf = [0xEE; 6];
@@ -344,8 +346,8 @@ pub fn decode_to_slice(bytes: &[u8], buf: &mut [u8]) -> Result<usize, DecodeSlic
 ///
 /// It returns how many bytes it wrote at the front of the buffer; the rest stays as it was. It
 /// returns `TooShort`, with the needed length in bytes, exactly where the text is longer than the
-/// buffer. It returns `TooLong` where that length, [`lossy_len`], does not fit `usize`. After an
-/// error the whole buffer stays as it was. A text has at most three times as many bytes as the
+/// buffer. It returns `TooLong` instead if that length, [`lossy_len`], does not fit `usize`. After
+/// an error the whole buffer stays as it was. A text has at most three times as many bytes as the
 /// input. It requests no memory.
 ///
 /// ```rust
@@ -367,8 +369,8 @@ pub fn decode_lossy_strict_to_slice(bytes: &[u8], buf: &mut [u8]) -> Result<usiz
 ///
 /// It returns how many bytes it wrote at the front of the buffer; the rest stays as it was. It
 /// returns `TooShort`, with the needed length in bytes, exactly where the text is longer than the
-/// buffer. It returns `TooLong` where that length does not fit `usize`; for UTF-8 it always fits.
-/// After an error the whole buffer stays as it was. It requests no memory.
+/// buffer. It returns `TooLong` instead if that length does not fit `usize`; for UTF-8 it always
+/// fits. After an error the whole buffer stays as it was. It requests no memory.
 ///
 /// ```rust
 /// let mut buf = [0xEE; 4];

@@ -36,7 +36,7 @@ pub fn tells_lossy_length(alloc: Global, bytes: &[u8]) -> Result<bool, AllocErro
     Ok(simd_cesu8::lossy_len(bytes) == Some(length))
 }
 
-/// Appends by `encode_into` what `encode` answers, which is given too.
+/// Appends by `encode_into` the result of `encode`, and returns this result.
 pub fn append_and_encode(
     alloc: Global,
     text: &str,

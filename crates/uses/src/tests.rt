@@ -85,7 +85,7 @@ fn orders_keys_as_utf16(rt: HostRuntime) -> Result<(), Fail> {
 fn appends_all_texts(rt: HostRuntime) -> Result<(), Fail> {
     let mut buf = Vec::new(rt.alloc());
     append_all(&["id", "=", "", "\u{1F496}\0"], &mut buf)?;
-    // No clause says it: the buffer has room for these and no more.
+    // No clause says it: the capacity is exact.
     assert_eq!(rt; (buf.len(), buf.capacity()), (10, 10));
     append_all(&[], &mut buf)?;
     append_all(&["\u{20AC}"], &mut buf)?;
@@ -103,7 +103,7 @@ fn repairs_logs(rt: HostRuntime) -> Result<(), Fail> {
         (b"", "", false),
         (b"one\ntwo\n", "one\ntwo\n", false),
         (b"\xED\xA0\xBD\xED\xB2\x96\n", "\u{1F496}\n", false),
-        // What stood for a damaged byte before is a character, and no damage.
+        // What replaced a damaged byte before is now a character, and no damage.
         (b"\xEF\xBF\xBD\n", "\u{FFFD}\n", false),
         (
             b"one\n\xED\xA0\xBDtwo\n",
@@ -121,7 +121,7 @@ fn repairs_logs(rt: HostRuntime) -> Result<(), Fail> {
 
 #[test]
 fn rewrites_logs(rt: HostRuntime) -> Result<(), Fail> {
-    // A log, and the log again.
+    // A log, and the rewritten log.
     let rows: [(&[u8], &[u8]); 4] = [
         (b"one\ntwo\n", b"one\ntwo\n"),
         (b"\xED\xA0\xBD\xED\xB2\x96", b"\xED\xA0\xBD\xED\xB2\x96"),
@@ -141,7 +141,7 @@ fn rewrites_logs(rt: HostRuntime) -> Result<(), Fail> {
 
 #[test]
 fn copies_all_strings_or_none(rt: HostRuntime) -> Result<(), Fail> {
-    // A source, and how many strings it holds.
+    // A source, and how many strings it has.
     let rows: [(&[u8], usize); 4] = [
         (b"", 0),
         (b"\x00\x00", 1),

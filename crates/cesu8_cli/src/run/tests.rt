@@ -8,7 +8,7 @@ use self::devices::Reader;
 use super::*;
 use crate::fault::{fault_line, fault_status};
 
-/// What a user sees of an end: the status, and the line on standard error.
+/// What a user sees of a run's end: the status, and the line on standard error.
 fn shown(outcome: Result<(), RunFault>) -> (u8, &'static str) {
     match outcome {
         Ok(()) => (0, ""),
@@ -34,7 +34,7 @@ const OUT_OF_MEMORY: (u8, &str) = (3, "cesu8: out of memory");
 
 const FAILED: (u8, &str) = (4, "cesu8: input or output failed");
 
-/// Every pair of words, an input of it, and what it writes.
+/// Every pair of words, an input for it, and its output.
 const PAIRS: [(&[&str], &[u8], &[u8]); 14] = [
     (
         &["encode", "cesu8"],

@@ -124,7 +124,7 @@ mod tests {
     /// The words are those of the first eight bytes, of each eight that follow, and of the last.
     #[test]
     fn tests_each_word(rt: HostRuntime) {
-        // Each byte is its own place.
+        // Each byte is its own position.
         let bytes: [u8; 25] = [
             0, 1, 2, 3, 4, 5, 6, 7, 8, 9, 10, 11, 12, 13, 14, 15, 16, 17, 18, 19, 20, 21, 22, 23,
             24,

@@ -1,4 +1,4 @@
-//! Readers and writers that fail, are slow, or watch. They take no memory.
+//! Readers and writers that fail, are slow, or observe. They take no memory.
 
 use std::cell::Cell;
 use std::io::{Error, ErrorKind, Read, Result, Write};
@@ -6,7 +6,7 @@ use std::io::{Error, ErrorKind, Read, Result, Write};
 /// How many bytes a `Writer` can keep.
 const SIZE: usize = 16;
 
-/// Gives its bytes, and then at each read its end, or an error.
+/// Returns its bytes, and then at each read its end, or an error.
 #[derive(Drop)]
 pub struct Reader<'a> {
     rest: &'a [u8],
@@ -25,7 +25,7 @@ impl<'a> Reader<'a> {
         }
     }
 
-    /// Gives at most this many bytes a read.
+    /// Returns at most this many bytes a read.
     pub fn at_most(mut self, most: usize) -> Reader<'a> {
         self.most = most;
         self
@@ -37,7 +37,7 @@ impl<'a> Reader<'a> {
         self
     }
 
-    /// How many reads it was asked for.
+    /// How many reads were called.
     pub fn reads(&self) -> usize {
         self.reads
     }
@@ -59,7 +59,8 @@ impl<'a> Read for Reader<'a> {
     }
 }
 
-/// Tells once that it gave so many bytes, or as many as were asked for, and writes none of them.
+/// Reports once that it returned so many bytes, or as many as were requested, and writes none of
+/// them.
 #[derive(Drop)]
 pub struct ClaimingReader {
     claimed: usize,
@@ -79,7 +80,7 @@ impl Read for ClaimingReader {
     }
 }
 
-/// Keeps what it takes. Where it has no more room, it fails or takes nothing.
+/// Keeps what it accepts. When it is full, it fails or accepts nothing.
 #[derive(Drop)]
 pub struct Writer {
     bytes: [u8; SIZE],
@@ -108,19 +109,19 @@ impl Writer {
         }
     }
 
-    /// Takes at most this many bytes a call.
+    /// Accepts at most this many bytes a call.
     pub fn at_most(mut self, most: usize) -> Writer {
         self.most = most;
         self
     }
 
-    /// Takes this many bytes in all.
+    /// Accepts this many bytes in all.
     pub fn room(mut self, room: usize) -> Writer {
         self.room = room;
         self
     }
 
-    /// Fails where it has no more room.
+    /// Fails when it is full.
     pub fn fails(mut self, kind: ErrorKind) -> Writer {
         self.full = Some(kind);
         self
@@ -132,22 +133,22 @@ impl Writer {
         self
     }
 
-    /// The bytes that it took.
+    /// The bytes that it accepted.
     pub fn kept(&self) -> &[u8] {
         self.bytes.get(..self.len).unwrap_or(&[])
     }
 
-    /// The bytes that it had taken at its last flush.
+    /// The bytes that it had accepted at its last flush.
     pub fn flushed(&self) -> &[u8] {
         self.bytes.get(..self.flushed).unwrap_or(&[])
     }
 
-    /// How many writes it was asked for.
+    /// How many writes were called.
     pub fn writes(&self) -> usize {
         self.writes
     }
 
-    /// How many flushes it was asked for.
+    /// How many flushes were called.
     pub fn flushes(&self) -> usize {
         self.flushes
     }
@@ -184,8 +185,7 @@ impl Write for Writer {
     }
 }
 
-/// Gives one byte a read, and then its end. It fails once the writer beside it was asked for
-/// something.
+/// Returns one byte a read, and then its end. It fails once the writer beside it was called.
 #[derive(Drop)]
 pub struct WatchingReader<'a> {
     rest: &'a [u8],
@@ -202,7 +202,7 @@ impl<'a> WatchingReader<'a> {
         }
     }
 
-    /// How many reads it was asked for.
+    /// How many reads were called.
     pub fn reads(&self) -> usize {
         self.reads
     }
@@ -221,7 +221,7 @@ impl<'a> Read for WatchingReader<'a> {
     }
 }
 
-/// A `Writer` that tells in a cell that it was asked for something.
+/// A `Writer` that reports in a cell that it was called.
 #[derive(Drop)]
 pub struct WatchedWriter<'a> {
     writer: Writer,
@@ -236,7 +236,7 @@ impl<'a> WatchedWriter<'a> {
         }
     }
 
-    /// The bytes that it took.
+    /// The bytes that it accepted.
     pub fn kept(&self) -> &[u8] {
         self.writer.kept()
     }

@@ -1,4 +1,4 @@
-//! Readers that are slow, that fail, and that give less than they say.
+//! Readers that are slow, that fail, and that return less than they report.
 
 use super::devices::{ClaimingReader, Reader, WatchedWriter, WatchingReader, Writer};
 use super::error_kinds::KINDS;
@@ -6,7 +6,7 @@ use super::{DONE, FAILED, INVALID, PAIRS, TRUNCATED, shown};
 use crate::run::run;
 use std::cell::Cell;
 
-/// How many bytes one read may give.
+/// The most bytes of one read.
 const BLOCK: usize = 16384;
 
 #[test]
@@ -18,7 +18,7 @@ fn reads_to_the_end_before_it_writes(rt: HostRuntime) {
         let ended = run(rt.alloc(), words, &mut input, &mut output);
         assert_eq!(rt; shown(ended), DONE, "at {words:?}");
         assert_eq!(rt; output.kept(), written, "at {words:?}");
-        // One for each byte, and one that tells the end.
+        // One for each byte, and one that reports the end.
         assert_eq!(rt;
             Some(input.reads()),
             bytes.len().checked_add(1),
@@ -40,7 +40,7 @@ fn reads_pieces_of_any_length(rt: HostRuntime) {
     }
 }
 
-/// About the lengths where a read ends, and whole blocks.
+/// Near the lengths at which a read ends, and whole blocks.
 #[test]
 fn reads_whole_blocks(rt: HostRuntime) {
     let text = [b'a'; 32769];
@@ -76,7 +76,7 @@ fn reads_an_end_at_once(rt: HostRuntime) {
 }
 
 /// At once, after each byte and after the last, with each kind of error: the first failed read is
-/// the last, and no writer is asked for anything.
+/// the last, and no writer is called.
 #[test]
 fn stops_at_a_failed_read(rt: HostRuntime) {
     for (words, bytes, _) in PAIRS {
@@ -103,7 +103,7 @@ fn stops_at_a_failed_read(rt: HostRuntime) {
     }
 }
 
-/// The input is given in one read, and the next one fails.
+/// One read returns the input, and the next one fails.
 #[test]
 fn stops_at_a_failed_read_after_a_block(rt: HostRuntime) {
     for (words, bytes, _) in PAIRS {
@@ -122,7 +122,7 @@ fn stops_at_a_failed_read_after_a_block(rt: HostRuntime) {
     }
 }
 
-/// No byte is written to the buffer that the reader is handed, so what was read is nulls.
+/// The reader writes no byte to its buffer, so what was read is nulls.
 #[test]
 fn reads_nulls_where_a_reader_only_says_that_it_gave_bytes(rt: HostRuntime) {
     for (words, _, _) in PAIRS {
@@ -144,7 +144,7 @@ fn reads_nulls_where_a_reader_only_says_that_it_gave_bytes(rt: HostRuntime) {
     }
 }
 
-/// A reader can say that it filled the buffer, and no more.
+/// A reader can report that it filled the buffer, and no more.
 #[test]
 fn reads_no_more_than_a_block(rt: HostRuntime) {
     let nulls = [0; BLOCK];

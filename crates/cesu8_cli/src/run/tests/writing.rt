@@ -1,4 +1,4 @@
-//! Writers that are slow, that take nothing, and that fail.
+//! Writers that are slow, that accept nothing, and that fail.
 
 use super::devices::Writer;
 use super::error_kinds::KINDS;
@@ -53,7 +53,7 @@ fn flushes_an_empty_answer(rt: HostRuntime) {
     }
 }
 
-/// At each place of the answer, with each kind of error: the first failed write is the last, and
+/// At each position of the output, with each kind of error: the first failed write is the last, and
 /// there is no flush.
 #[test]
 fn stops_at_a_failed_write(rt: HostRuntime) {
@@ -80,7 +80,7 @@ fn stops_at_a_failed_write(rt: HostRuntime) {
     }
 }
 
-/// Of one write a part is taken, and of the next nothing, by an error or without one.
+/// One write accepts a part, and the next nothing, with an error or without one.
 #[test]
 fn stops_where_a_writer_has_no_more_room(rt: HostRuntime) {
     for (words, bytes, written) in PAIRS {
