@@ -3,3 +3,4 @@ pub mod Texts
 pub mod KeyStore
 pub mod Repair
 pub mod StringFile
+pub mod Entry

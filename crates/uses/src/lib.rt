@@ -7,6 +7,7 @@
 
 mod agreement;
 mod class_file;
+mod entry;
 mod key_store;
 mod keys;
 mod many_texts;
@@ -18,6 +19,7 @@ pub use crate::agreement::{
     append_and_encode, decodes_to_same, needs_or_borrows, tells_encoded_length, tells_lossy_length,
 };
 pub use crate::class_file::{ConstantFault, read_utf8_constant};
+pub use crate::entry::Entry;
 pub use crate::key_store::{Store, get_value, put_value};
 pub use crate::keys::{compare_as_utf16, key_without_zero};
 pub use crate::many_texts::append_all;

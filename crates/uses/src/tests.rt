@@ -3,7 +3,7 @@
 //! 26.
 
 use crate::{
-    ConstantFault, append_all, append_and_encode, compare_as_utf16, copy_strings,
+    ConstantFault, Entry, append_all, append_and_encode, compare_as_utf16, copy_strings,
     decode_and_encode, decodes_to_same, encode_and_decode, encode_and_read, get_value,
     key_without_zero, needs_or_borrows, put_value, read_utf8_constant, repair_log, rewrite_log,
     tells_encoded_length, tells_lossy_length, write_and_read,
@@ -236,5 +236,29 @@ fn tells_what_other_calls_answer(rt: HostRuntime) -> Result<(), Fail> {
     let encoded = append_and_encode(rt.alloc(), "\u{10400}", &mut buf)?;
     assert_eq!(rt; encoded.as_slice(), b"\xED\xA0\x81\xED\xB0\x80".as_slice());
     assert_eq!(rt; buf.as_slice(), b"=\xED\xA0\x81\xED\xB0\x80".as_slice());
+    Ok(())
+}
+
+#[test]
+fn keeps_names_in_entries(rt: HostRuntime) -> Result<(), Fail> {
+    let mut entry = Entry::new(7);
+    let mut buf = [0xEE; 32];
+    assert_eq!(rt; entry.name(&mut buf)?, 0);
+    // Five surrogate pairs and U+0000 take 32 bytes.
+    let long = "\u{1F496}\u{1F496}\u{1F496}\u{1F496}\u{1F496}\0";
+    entry.set_name(long)?;
+    assert_eq!(rt; entry.name(&mut buf)?, 21);
+    assert_eq!(rt; &buf[..21], long.as_bytes());
+    assert_eq!(rt; &buf[21..], [0xEE; 11].as_slice());
+    // A name that is too long leaves the entry as it was, as does a buffer that is too short.
+    let refused = entry.set_name("\u{1F496}\u{1F496}\u{1F496}\u{1F496}\u{1F496}\0a");
+    assert!(rt; matches!(refused, Err(fault) if fault.needed() == 33));
+    let refused = entry.name(&mut buf[..20]);
+    assert!(rt; matches!(refused, Err(fault) if fault.needed() == 21));
+    assert_eq!(rt; entry.name(&mut buf)?, 21);
+    assert_eq!(rt; &buf[..21], long.as_bytes());
+    entry.set_name("a")?;
+    assert_eq!(rt; entry.name(&mut buf)?, 1);
+    assert_eq!(rt; (entry.id, buf[0]), (7, b'a'));
     Ok(())
 }
