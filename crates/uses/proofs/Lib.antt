@@ -2,3 +2,4 @@ pub mod JoinedTexts
 pub mod LostBytes
 pub mod OrderedKeys
 pub mod CopiedStrings
+pub mod FilledArena

@@ -4,3 +4,4 @@ pub mod KeyStore
 pub mod Repair
 pub mod StringFile
 pub mod Entry
+pub mod Arena

@@ -6,6 +6,7 @@
 #![tactic(auto)]
 
 mod agreement;
+mod arena;
 mod class_file;
 mod entry;
 mod key_store;
@@ -18,6 +19,7 @@ mod string_file;
 pub use crate::agreement::{
     append_and_encode, decodes_to_same, needs_or_borrows, tells_encoded_length, tells_lossy_length,
 };
+pub use crate::arena::{ArenaFull, fill_arena};
 pub use crate::class_file::{ConstantFault, read_utf8_constant};
 pub use crate::entry::Entry;
 pub use crate::key_store::{Store, get_value, put_value};

@@ -4,7 +4,7 @@
 
 use crate::{
     ConstantFault, Entry, append_all, append_and_encode, compare_as_utf16, copy_strings,
-    decode_and_encode, decodes_to_same, encode_and_decode, encode_and_read, get_value,
+    decode_and_encode, decodes_to_same, encode_and_decode, encode_and_read, fill_arena, get_value,
     key_without_zero, needs_or_borrows, put_value, read_utf8_constant, repair_log, rewrite_log,
     tells_encoded_length, tells_lossy_length, write_and_read,
 };
@@ -260,5 +260,28 @@ fn keeps_names_in_entries(rt: HostRuntime) -> Result<(), Fail> {
     entry.set_name("a")?;
     assert_eq!(rt; entry.name(&mut buf)?, 1);
     assert_eq!(rt; (entry.id, buf[0]), (7, b'a'));
+    Ok(())
+}
+
+#[test]
+fn fills_an_arena(rt: HostRuntime) -> Result<(), Fail> {
+    let texts = ["id", "", "\u{1F496}", "\0"];
+    let mut arena = [0xEE; 10];
+    let mut ends = [0; 4];
+    let used = fill_arena(&texts, &mut arena, &mut ends).or(Err("is full"))?;
+    assert_eq!(rt; used, 9);
+    assert_eq!(rt;
+        arena.as_slice(),
+        b"id\xED\xA0\xBD\xED\xB2\x96\x00\xEE".as_slice()
+    );
+    assert_eq!(rt; ends.as_slice(), [2, 2, 8, 9].as_slice());
+    let mut arena = [0xEE; 5];
+    let mut ends = [0; 4];
+    let full = fill_arena(&texts, &mut arena, &mut ends)
+        .err()
+        .ok_or("has room")?;
+    assert_eq!(rt; (full.count, full.used, full.missing), (2, 2, 3));
+    assert_eq!(rt; arena.as_slice(), b"id\xEE\xEE\xEE".as_slice());
+    assert_eq!(rt; &ends[..2], [2, 2].as_slice());
     Ok(())
 }

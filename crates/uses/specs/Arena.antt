@@ -1,0 +1,16 @@
+-- Texts in an arena.
+use Rattle.std.specs.Prelude.{◌≡◌, ℕ, ◌+◌, ◌<◌, List, length, take, slice_index}
+use Rattle.std.specs.Borrow.{Bor}
+use Rattle.simd_cesu8.specs.Encoding.{Cesu8, encoding}
+use Rattle.simd_cesu8.specs.Slices.{StandsAtFront}
+use Rattle.uses.specs.Texts.{joined}
+
+-- The encodings of the first texts, one after the other.
+abbrev pub first_encoded : List (Bor (List ℕ)) → ℕ → List ℕ
+first_encoded texts count = encoding Cesu8 (joined (take count texts))
+
+-- They stand at the front of the arena, the end of each is told, and the rest is as before.
+pub record HoldsFirst (texts : List (Bor (List ℕ))) (count used : ℕ)
+    (old new ends : List ℕ) : Type 0 where
+  pub front : StandsAtFront (first_encoded texts count) used old new
+  pub ends_are : (i : ℕ) → i < count → slice_index ends i ≡ length (first_encoded texts (i + 1))
