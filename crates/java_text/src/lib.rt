@@ -121,7 +121,7 @@ pub fn read_utf(alloc: Global, bytes: &[u8]) -> Result<(CowText<'_>, &[u8]), Rea
     ensures refused { OnRefused result (NoFormBegins bytes.now) }
 
     // The counted bytes alone decide whether the text borrows.
-    ensures borrowed { BorrowsTextWhere (text_of result) (λ text. text ≡ counted bytes.now) }
+    ensures borrowed { BorrowsTextWhere (text_of result) (λ utf8. utf8 ≡ counted bytes.now) }
     ensures borrowed_where { BorrowsTextWhere (text_of result)
         (λ _. IsUnchangedUtf8 Mutf8 (counted bytes.now)) }
     ensures succeeds { ¬ (IsTruncated bytes.now) → IsUnchangedUtf8 Mutf8 (counted bytes.now)
@@ -154,7 +154,7 @@ pub fn read_utf_lossy(alloc: Global, bytes: &[u8]) -> Result<(CowText<'_>, &[u8]
     ensures whole { ¬ (IsTruncated bytes.now) → IsOkUnless result ReadFault.Memory }
 
     // The counted bytes alone decide whether the text borrows.
-    ensures borrowed { BorrowsTextWhere (text_of result) (λ text. text ≡ counted bytes.now) }
+    ensures borrowed { BorrowsTextWhere (text_of result) (λ utf8. utf8 ≡ counted bytes.now) }
     ensures borrowed_where { BorrowsTextWhere (text_of result)
         (λ _. IsUnchangedUtf8 Mutf8 (counted bytes.now)) }
     ensures succeeds { ¬ (IsTruncated bytes.now) → IsUnchangedUtf8 Mutf8 (counted bytes.now)

@@ -95,9 +95,9 @@ pub fn decode_strict(
     flavor: Flavor,
     bytes: &[u8],
 ) -> Result<CowText<'_>, DecodeFault>
-    ensures text { IfText result (IsStrictReading (flavor_of flavor) bytes.now) }
+    ensures text { IfText result (λ text. IsStrictReading (flavor_of flavor) bytes.now text) }
     ensures invalid { OnInvalid result (HasNoStrictReading (flavor_of flavor) bytes.now) }
-    ensures borrowed { BorrowsTextWhere result (λ text. text ≡ bytes.now) }
+    ensures borrowed { BorrowsTextWhere result (λ utf8. utf8 ≡ bytes.now) }
     ensures borrowed_where { BorrowsTextWhere result
         (λ _. IsUnchangedUtf8 (flavor_of flavor) bytes.now) }
     ensures succeeds { IsUnchangedUtf8 (flavor_of flavor) bytes.now → IsOk result }
@@ -117,9 +117,9 @@ fn decode_strict_other(
     flavor: Flavor,
     bytes: &[u8],
 ) -> Result<CowText<'_>, DecodeFault>
-    ensures text { IfText result (IsStrictReading (flavor_of flavor) bytes.now) }
+    ensures text { IfText result (λ text. IsStrictReading (flavor_of flavor) bytes.now text) }
     ensures invalid { OnInvalid result (HasNoStrictReading (flavor_of flavor) bytes.now) }
-    ensures borrowed { BorrowsTextWhere result (λ text. text ≡ bytes.now) }
+    ensures borrowed { BorrowsTextWhere result (λ utf8. utf8 ≡ bytes.now) }
     ensures borrowed_where { BorrowsTextWhere result
         (λ _. IsUnchangedUtf8 (flavor_of flavor) bytes.now) }
     ensures succeeds { IsUnchangedUtf8 (flavor_of flavor) bytes.now → IsOk result }
@@ -139,9 +139,9 @@ fn decode_strict_other(
 
 #[inline(always)]
 pub fn decode(alloc: Global, flavor: Flavor, bytes: &[u8]) -> Result<CowText<'_>, DecodeFault>
-    ensures text { IfText result (IsLenientReading (flavor_of flavor) bytes.now) }
+    ensures text { IfText result (λ text. IsLenientReading (flavor_of flavor) bytes.now text) }
     ensures invalid { OnInvalid result (HasNoLenientReading (flavor_of flavor) bytes.now) }
-    ensures borrowed { BorrowsTextWhere result (λ text. text ≡ bytes.now) }
+    ensures borrowed { BorrowsTextWhere result (λ utf8. utf8 ≡ bytes.now) }
     ensures borrowed_where { BorrowsTextWhere result (λ _. IsUtf8 bytes.now) }
     ensures succeeds { IsUtf8 bytes.now → IsOk result }
     ensures capacity { BuildsTextOfCapacity result (length bytes.now) }
@@ -156,9 +156,9 @@ pub fn decode(alloc: Global, flavor: Flavor, bytes: &[u8]) -> Result<CowText<'_>
 /// ASCII stays small.
 #[inline(never)]
 fn decode_other(alloc: Global, flavor: Flavor, bytes: &[u8]) -> Result<CowText<'_>, DecodeFault>
-    ensures text { IfText result (IsLenientReading (flavor_of flavor) bytes.now) }
+    ensures text { IfText result (λ text. IsLenientReading (flavor_of flavor) bytes.now text) }
     ensures invalid { OnInvalid result (HasNoLenientReading (flavor_of flavor) bytes.now) }
-    ensures borrowed { BorrowsTextWhere result (λ text. text ≡ bytes.now) }
+    ensures borrowed { BorrowsTextWhere result (λ utf8. utf8 ≡ bytes.now) }
     ensures borrowed_where { BorrowsTextWhere result (λ _. IsUtf8 bytes.now) }
     ensures succeeds { IsUtf8 bytes.now → IsOk result }
     ensures capacity { BuildsTextOfCapacity result (length bytes.now) }
@@ -179,7 +179,7 @@ pub fn decode_lossy_strict(
 ) -> Result<CowText<'_>, AllocError>
     ensures reading { IfText result (λ text. text ≡ reading (flavor_of flavor) bytes.now) }
     ensures text_length { AnswersTextOfLength result (lossy_length (flavor_of flavor) bytes.now) }
-    ensures borrowed { BorrowsTextWhere result (λ text. text ≡ bytes.now) }
+    ensures borrowed { BorrowsTextWhere result (λ utf8. utf8 ≡ bytes.now) }
     ensures borrowed_where { BorrowsTextWhere result
         (λ _. IsUnchangedUtf8 (flavor_of flavor) bytes.now) }
     ensures succeeds { IsUnchangedUtf8 (flavor_of flavor) bytes.now → IsOk result }
@@ -201,7 +201,7 @@ fn decode_lossy_strict_other(
 ) -> Result<CowText<'_>, AllocError>
     ensures reading { IfText result (λ text. text ≡ reading (flavor_of flavor) bytes.now) }
     ensures text_length { AnswersTextOfLength result (lossy_length (flavor_of flavor) bytes.now) }
-    ensures borrowed { BorrowsTextWhere result (λ text. text ≡ bytes.now) }
+    ensures borrowed { BorrowsTextWhere result (λ utf8. utf8 ≡ bytes.now) }
     ensures borrowed_where { BorrowsTextWhere result
         (λ _. IsUnchangedUtf8 (flavor_of flavor) bytes.now) }
     ensures succeeds { IsUnchangedUtf8 (flavor_of flavor) bytes.now → IsOk result }
@@ -217,8 +217,9 @@ fn decode_lossy_strict_other(
 
 #[inline(always)]
 pub fn decode_lossy(alloc: Global, flavor: Flavor, bytes: &[u8]) -> Result<CowText<'_>, AllocError>
-    ensures reading { IfText result (IsLenientLossyReading (flavor_of flavor) bytes.now) }
-    ensures borrowed { BorrowsTextWhere result (λ text. text ≡ bytes.now) }
+    ensures reading { IfText result
+        (λ text. IsLenientLossyReading (flavor_of flavor) bytes.now text) }
+    ensures borrowed { BorrowsTextWhere result (λ utf8. utf8 ≡ bytes.now) }
     ensures borrowed_where { BorrowsTextWhere result (λ _. IsUtf8 bytes.now) }
     ensures succeeds { IsUtf8 bytes.now → IsOk result }
     ensures capacity { BuildsTextOfCapacity result (lossy_length (flavor_of flavor) bytes.now) }
@@ -237,8 +238,9 @@ fn decode_lossy_other(
     flavor: Flavor,
     bytes: &[u8],
 ) -> Result<CowText<'_>, AllocError>
-    ensures reading { IfText result (IsLenientLossyReading (flavor_of flavor) bytes.now) }
-    ensures borrowed { BorrowsTextWhere result (λ text. text ≡ bytes.now) }
+    ensures reading { IfText result
+        (λ text. IsLenientLossyReading (flavor_of flavor) bytes.now text) }
+    ensures borrowed { BorrowsTextWhere result (λ utf8. utf8 ≡ bytes.now) }
     ensures borrowed_where { BorrowsTextWhere result (λ _. IsUtf8 bytes.now) }
     ensures succeeds { IsUtf8 bytes.now → IsOk result }
     ensures capacity { BuildsTextOfCapacity result (lossy_length (flavor_of flavor) bytes.now) }

@@ -31,7 +31,7 @@ pub fn decode_strict_to_slice(
     bytes: &[u8],
     buf: &mut [u8],
 ) -> Result<usize, DecodeSliceFault>
-    ensures { WritesReading (IsStrictReading (flavor_of flavor) bytes.now)
+    ensures { WritesReading (λ text. IsStrictReading (flavor_of flavor) bytes.now text)
         result buf.old buf.new }
 {
     if is_short_unchanged_ascii(flavor, bytes) {
@@ -48,7 +48,7 @@ fn decode_strict_to_slice_other(
     bytes: &[u8],
     buf: &mut [u8],
 ) -> Result<usize, DecodeSliceFault>
-    ensures { WritesReading (IsStrictReading (flavor_of flavor) bytes.now)
+    ensures { WritesReading (λ text. IsStrictReading (flavor_of flavor) bytes.now text)
         result buf.old buf.new }
 {
     // No encoding has a byte that changes, so there is nothing to decode.
@@ -67,7 +67,7 @@ pub fn decode_to_slice(
     bytes: &[u8],
     buf: &mut [u8],
 ) -> Result<usize, DecodeSliceFault>
-    ensures { WritesReading (IsLenientReading (flavor_of flavor) bytes.now)
+    ensures { WritesReading (λ text. IsLenientReading (flavor_of flavor) bytes.now text)
         result buf.old buf.new }
 {
     if is_short_ascii(bytes) {
@@ -84,7 +84,7 @@ fn decode_to_slice_other(
     bytes: &[u8],
     buf: &mut [u8],
 ) -> Result<usize, DecodeSliceFault>
-    ensures { WritesReading (IsLenientReading (flavor_of flavor) bytes.now)
+    ensures { WritesReading (λ text. IsLenientReading (flavor_of flavor) bytes.now text)
         result buf.old buf.new }
 {
     if whole_text(bytes).len() == bytes.len() {
@@ -131,7 +131,7 @@ pub fn decode_lossy_to_slice(
     bytes: &[u8],
     buf: &mut [u8],
 ) -> Result<usize, LossySliceFault>
-    ensures { WritesLossyReading (IsLenientLossyReading (flavor_of flavor) bytes.now)
+    ensures { WritesLossyReading (λ text. IsLenientLossyReading (flavor_of flavor) bytes.now text)
         result buf.old buf.new }
 {
     if is_short_ascii(bytes) {
@@ -148,7 +148,7 @@ fn decode_lossy_to_slice_other(
     bytes: &[u8],
     buf: &mut [u8],
 ) -> Result<usize, LossySliceFault>
-    ensures { WritesLossyReading (IsLenientLossyReading (flavor_of flavor) bytes.now)
+    ensures { WritesLossyReading (λ text. IsLenientLossyReading (flavor_of flavor) bytes.now text)
         result buf.old buf.new }
 {
     if whole_text(bytes).len() == bytes.len() {

@@ -171,9 +171,9 @@ pub fn encode_into(value: &str, buf: &mut Vec<u8>) -> Result<(), AllocError>
 /// ```
 #[inline]
 pub fn decode_strict(alloc: Global, bytes: &[u8]) -> Result<CowText<'_>, DecodeFault>
-    ensures text { IfText result (IsStrictReading Cesu8 bytes.now) }
+    ensures text { IfText result (λ text. IsStrictReading Cesu8 bytes.now text) }
     ensures invalid { OnInvalid result (HasNoStrictReading Cesu8 bytes.now) }
-    ensures borrowed { BorrowsTextWhere result (λ text. text ≡ bytes.now) }
+    ensures borrowed { BorrowsTextWhere result (λ utf8. utf8 ≡ bytes.now) }
     ensures borrowed_where { BorrowsTextWhere result (λ _. IsUnchangedUtf8 Cesu8 bytes.now) }
     ensures succeeds { IsUnchangedUtf8 Cesu8 bytes.now → IsOk result }
     ensures capacity { BuildsTextOfCapacity result (length bytes.now) }
@@ -201,9 +201,9 @@ pub fn decode_strict(alloc: Global, bytes: &[u8]) -> Result<CowText<'_>, DecodeF
 /// ```
 #[inline]
 pub fn decode(alloc: Global, bytes: &[u8]) -> Result<CowText<'_>, DecodeFault>
-    ensures text { IfText result (IsLenientReading Cesu8 bytes.now) }
+    ensures text { IfText result (λ text. IsLenientReading Cesu8 bytes.now text) }
     ensures invalid { OnInvalid result (HasNoLenientReading Cesu8 bytes.now) }
-    ensures borrowed { BorrowsTextWhere result (λ text. text ≡ bytes.now) }
+    ensures borrowed { BorrowsTextWhere result (λ utf8. utf8 ≡ bytes.now) }
     ensures borrowed_where { BorrowsTextWhere result (λ _. IsUtf8 bytes.now) }
     ensures succeeds { IsUtf8 bytes.now → IsOk result }
     ensures capacity { BuildsTextOfCapacity result (length bytes.now) }
@@ -228,7 +228,7 @@ pub fn decode(alloc: Global, bytes: &[u8]) -> Result<CowText<'_>, DecodeFault>
 pub fn decode_lossy_strict(alloc: Global, bytes: &[u8]) -> Result<CowText<'_>, AllocError>
     ensures reading { IfText result (λ text. text ≡ reading Cesu8 bytes.now) }
     ensures text_length { AnswersTextOfLength result (lossy_length Cesu8 bytes.now) }
-    ensures borrowed { BorrowsTextWhere result (λ text. text ≡ bytes.now) }
+    ensures borrowed { BorrowsTextWhere result (λ utf8. utf8 ≡ bytes.now) }
     ensures borrowed_where { BorrowsTextWhere result (λ _. IsUnchangedUtf8 Cesu8 bytes.now) }
     ensures succeeds { IsUnchangedUtf8 Cesu8 bytes.now → IsOk result }
     ensures capacity { BuildsTextOfCapacity result (lossy_length Cesu8 bytes.now) }
@@ -253,8 +253,8 @@ pub fn decode_lossy_strict(alloc: Global, bytes: &[u8]) -> Result<CowText<'_>, A
 /// ```
 #[inline]
 pub fn decode_lossy(alloc: Global, bytes: &[u8]) -> Result<CowText<'_>, AllocError>
-    ensures reading { IfText result (IsLenientLossyReading Cesu8 bytes.now) }
-    ensures borrowed { BorrowsTextWhere result (λ text. text ≡ bytes.now) }
+    ensures reading { IfText result (λ text. IsLenientLossyReading Cesu8 bytes.now text) }
+    ensures borrowed { BorrowsTextWhere result (λ utf8. utf8 ≡ bytes.now) }
     ensures borrowed_where { BorrowsTextWhere result (λ _. IsUtf8 bytes.now) }
     ensures succeeds { IsUtf8 bytes.now → IsOk result }
     ensures capacity { BuildsTextOfCapacity result (lossy_length Cesu8 bytes.now) }
@@ -315,7 +315,7 @@ pub fn encode_to_slice(value: &str, buf: &mut [u8]) -> Result<usize, TooShort>
 /// ```
 #[inline]
 pub fn decode_strict_to_slice(bytes: &[u8], buf: &mut [u8]) -> Result<usize, DecodeSliceFault>
-    ensures { WritesReading (IsStrictReading Cesu8 bytes.now) result buf.old buf.new }
+    ensures { WritesReading (λ text. IsStrictReading Cesu8 bytes.now text) result buf.old buf.new }
 {
     copy_or_write::decode_strict_to_slice(Flavor::Cesu8, bytes, buf)
 }
@@ -336,7 +336,7 @@ pub fn decode_strict_to_slice(bytes: &[u8], buf: &mut [u8]) -> Result<usize, Dec
 /// ```
 #[inline]
 pub fn decode_to_slice(bytes: &[u8], buf: &mut [u8]) -> Result<usize, DecodeSliceFault>
-    ensures { WritesReading (IsLenientReading Cesu8 bytes.now) result buf.old buf.new }
+    ensures { WritesReading (λ text. IsLenientReading Cesu8 bytes.now text) result buf.old buf.new }
 {
     copy_or_write::decode_to_slice(Flavor::Cesu8, bytes, buf)
 }
@@ -379,7 +379,8 @@ pub fn decode_lossy_strict_to_slice(bytes: &[u8], buf: &mut [u8]) -> Result<usiz
 /// ```
 #[inline]
 pub fn decode_lossy_to_slice(bytes: &[u8], buf: &mut [u8]) -> Result<usize, LossySliceFault>
-    ensures { WritesLossyReading (IsLenientLossyReading Cesu8 bytes.now) result buf.old buf.new }
+    ensures { WritesLossyReading (λ text. IsLenientLossyReading Cesu8 bytes.now text)
+        result buf.old buf.new }
 {
     copy_or_write::decode_lossy_to_slice(Flavor::Cesu8, bytes, buf)
 }

@@ -32,7 +32,7 @@ pub fn decode_strict_to_slice(
     bytes: &[u8],
     buf: &mut [u8],
 ) -> Result<usize, DecodeSliceFault>
-    ensures { WritesReading (IsStrictReading (flavor_of flavor) bytes.now)
+    ensures { WritesReading (λ text. IsStrictReading (flavor_of flavor) bytes.now text)
         result buf.old buf.new }
 {
     if bytes.len() <= FEWEST {
@@ -60,7 +60,7 @@ fn strict_in<const LEN: usize, const WRITTEN: usize>(
 ) -> Result<usize, DecodeSliceFault>
     requires window { (length bytes.now + AROUND ≤ LEN) × (AROUND + 11 ≤ LEN) }
     requires written { (3 * LEN ≤ WRITTEN + SPARED) × (WRITTEN ≤ WRITTEN_ROOM) }
-    ensures { WritesReading (IsStrictReading (flavor_of flavor) bytes.now)
+    ensures { WritesReading (λ text. IsStrictReading (flavor_of flavor) bytes.now text)
         result buf.old buf.new }
 {
     let mut window = [0; LEN];
