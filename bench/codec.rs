@@ -31,37 +31,37 @@ macro_rules! linked_calls {
 
 linked_calls! {
     LINKED: Call,
-    fn(input: *const u8, length: usize, room: *mut u8, room_length: usize),
-    cesu8_static_encode,
-    cesu8_static_mutf8_encode,
-    cesu8_static_encoded_len,
-    cesu8_static_mutf8_encoded_len,
-    cesu8_static_decode,
-    cesu8_static_mutf8_decode,
-    cesu8_static_decode_strict,
-    cesu8_static_mutf8_decode_strict,
-    cesu8_static_decode_lossy,
-    cesu8_static_mutf8_decode_lossy,
-    cesu8_static_decode_lossy_strict,
-    cesu8_static_mutf8_decode_lossy_strict,
-    cesu8_static_lossy_len,
-    cesu8_static_mutf8_lossy_len,
-    cesu8_static_contains_utf8_4_byte_char_header,
-    cesu8_static_contains_null_or_utf8_4_byte_char_header,
+    fn(input: *const u8, length: usize, buf: *mut u8, buf_length: usize),
+    measured_encode,
+    measured_mutf8_encode,
+    measured_encoded_len,
+    measured_mutf8_encoded_len,
+    measured_decode,
+    measured_mutf8_decode,
+    measured_decode_strict,
+    measured_mutf8_decode_strict,
+    measured_decode_lossy,
+    measured_mutf8_decode_lossy,
+    measured_decode_lossy_strict,
+    measured_mutf8_decode_lossy_strict,
+    measured_lossy_len,
+    measured_mutf8_lossy_len,
+    measured_contains_utf8_4_byte_char_header,
+    measured_contains_null_or_utf8_4_byte_char_header,
 }
 
 linked_calls! {
     LINKED_EACH: EachCall,
     fn(texts: *const u8, texts_length: usize, length: usize, times: usize),
-    cesu8_static_encode_each,
-    cesu8_static_mutf8_encode_each,
-    cesu8_static_encoded_len_each,
-    cesu8_static_mutf8_encoded_len_each,
+    measured_encode_each,
+    measured_mutf8_encode_each,
+    measured_encoded_len_each,
+    measured_mutf8_encoded_len_each,
 }
 
 /// Calls that another codec may have beside these, or in their place: they take bytes that the
 /// caller knows to be UTF-8.
-const TEXT_CALLS: [&str; 2] = ["cesu8_static_encode_text", "cesu8_static_mutf8_encode_text"];
+const TEXT_CALLS: [&str; 2] = ["measured_encode_text", "measured_mutf8_encode_text"];
 
 unsafe extern "C" {
     fn dlopen(file: *const c_char, flags: c_int) -> *mut c_void;
@@ -153,8 +153,8 @@ impl Kernel {
 
 pub fn call_name(action: Action, flavor: Flavor) -> String {
     let prefix = match flavor {
-        Flavor::Cesu8 => "cesu8_static_",
-        Flavor::Mutf8 => "cesu8_static_mutf8_",
+        Flavor::Cesu8 => "measured_",
+        Flavor::Mutf8 => "measured_mutf8_",
     };
     format!("{prefix}{}", action.title())
 }
@@ -192,10 +192,15 @@ pub struct Codec {
     each_calls: Vec<(String, EachCall)>,
 }
 
-fn found_in(object: *mut c_void, symbol: &str) -> Option<*mut c_void> {
-    let symbol_name = CString::new(symbol).ok()?;
-    let found = unsafe { dlsym(object, symbol_name.as_ptr()) };
-    (!found.is_null()).then_some(found)
+/// A call of a shared object by its name. In other codecs and in older builds of this library the
+/// name begins with `cesu8_static_`.
+fn found_in(object: *mut c_void, call: &str) -> Option<*mut c_void> {
+    let other_name = call.replacen("measured_", "cesu8_static_", 1);
+    [call, &other_name].into_iter().find_map(|symbol| {
+        let symbol = CString::new(symbol).ok()?;
+        let found = unsafe { dlsym(object, symbol.as_ptr()) };
+        (!found.is_null()).then_some(found)
+    })
 }
 
 fn owned<C: Copy>(calls: &[(&str, C)]) -> Vec<(String, C)> {
@@ -275,25 +280,25 @@ impl Codec {
     }
 
     pub fn kernel(&self, kernel: Kernel) -> Option<Call> {
-        named(&self.calls, &format!("cesu8_static_{}", kernel.title()))
+        named(&self.calls, &format!("measured_{}", kernel.title()))
     }
 }
 
-/// Makes a call with this room.
-pub fn outcome(call: Call, input: &[u8], room: &mut [u8]) -> Outcome {
-    unsafe { call(input.as_ptr(), input.len(), room.as_mut_ptr(), room.len()) }
+/// Makes a call with this buffer.
+pub fn outcome(call: Call, input: &[u8], buf: &mut [u8]) -> Outcome {
+    unsafe { call(input.as_ptr(), input.len(), buf.as_mut_ptr(), buf.len()) }
 }
 
 /// Whether a call answers as it has to. The answer of one that tells a length is taken as that many
 /// bytes.
 pub fn answers(call: Call, action: Action, input: &[u8], answer: &[u8]) -> bool {
-    let mut room = vec![0; answer.len()];
-    let outcome = outcome(call, input, &mut room);
+    let mut buf = vec![0; answer.len()];
+    let outcome = outcome(call, input, &mut buf);
     outcome.has_answer
         && !outcome.is_invalid
         && outcome.length == answer.len()
         && outcome.is_borrowed == (answer == input && !action.tells_length())
-        && (room == answer || action.tells_length())
+        && (buf == answer || action.tells_length())
 }
 
 /// Whether a call refuses an input.

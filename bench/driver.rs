@@ -4,7 +4,7 @@
 //! Usage: driver --level LEVEL [--rounds N] [--runs N] [--machine WORDS] [--picture FILE]
 //!     [--against LEVEL=FILE].. [NAME=FILE ..]
 //!
-//! Each FILE behind `=` is a shared object with the calls that `bench/cesu8_static.h` declares, or
+//! Each FILE behind `=` is a shared object with the calls that `bench/measured.h` declares, or
 //! some of them: this library's build for another level, or another codec. All are measured in the
 //! same rounds.
 

@@ -149,10 +149,10 @@ pub fn measure<'a>(measured: impl Iterator<Item = &'a mut Measured>, rounds: u32
     }
 }
 
-/// Makes a call with no room for its answer.
+/// Makes a call with an empty buffer.
 fn make(call: Call, input: &[u8]) {
-    let mut room = [0u8; 0];
-    black_box(unsafe { call(input.as_ptr(), input.len(), room.as_mut_ptr(), 0) });
+    let mut buf = [0u8; 0];
+    black_box(unsafe { call(input.as_ptr(), input.len(), buf.as_mut_ptr(), 0) });
 }
 
 fn call_run(call: Call, input: &'static [u8]) -> impl FnMut() {

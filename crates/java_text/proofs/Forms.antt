@@ -42,7 +42,7 @@ none_begins_truncated bytes t text rest h =
     omega (arith, t, count_in_form bytes text rest h, ap length h.bytes_are, length-append (encoding Mutf8 text) rest)
 
 -- No form begins bytes of which the counted ones are no encoding.
-pub none_begins_invalid : (bytes : List ℕ) → HasNoStrictReading Mutf8 (counted bytes) → NoFormBegins bytes
+none_begins_invalid : (bytes : List ℕ) → HasNoStrictReading Mutf8 (counted bytes) → NoFormBegins bytes
 none_begins_invalid bytes n text rest h = n text (h.scalars, sym (counted_in_form bytes text rest h))
 
 -- Bytes begin with the form of one text at most, and with one rest, since texts with equal encodings are equal.

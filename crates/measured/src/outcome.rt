@@ -1,11 +1,5 @@
 //! What an export returns for the library's result, and what it writes to the caller's buffer.
 
-ghost use Rattle.std.specs.Prelude.{◌≡◌, ◌↔◌, IsTrue, IfOk, IfErr};
-ghost use Rattle.std.specs.Str.{chars};
-ghost use Rattle.simd_cesu8.specs.Text.{utf8};
-ghost use Rattle.simd_cesu8.specs.Cow.{answer_bytes, borrows_bytes, answer_text, borrows_text};
-ghost use Rattle.measured.specs.Outcomes.{Tells, TellsLength, TellsNone, IsInvalid};
-
 use simd_cesu8::{CowBytes, CowText, DecodeFault};
 use std::alloc::AllocError;
 
@@ -24,18 +18,8 @@ pub struct Outcome {
     pub is_invalid: bool,
 }
 
-/// Returns the outcome of a kernel.
-pub fn tell_whether(answer: bool) -> Outcome
-    ensures yes { IsTrue answer → TellsLength 1 result }
-    ensures no { ¬ (IsTrue answer) → TellsLength 0 result }
-{
-    tell_length(usize::from(answer))
-}
-
 /// Returns the outcome of a call that returns a length.
-pub fn tell_length(length: usize) -> Outcome
-    ensures { TellsLength length result }
-{
+pub fn tell_length(length: usize) -> Outcome {
     Outcome {
         length,
         has_answer: true,
@@ -45,55 +29,31 @@ pub fn tell_length(length: usize) -> Outcome
 }
 
 /// Returns the outcome of an encoder.
-pub fn tell_bytes(answer: Result<CowBytes<'_>, AllocError>, room: &mut [u8]) -> Outcome
-    ensures ok { IfOk answer.entry (λ answer.
-        Tells result (answer_bytes answer) (borrows_bytes answer) room.old room.new) }
-    ensures err { IfErr answer.entry (λ _. ¬ (IsTrue result.has_answer)) }
-    ensures none { IfErr answer.entry (λ _. TellsNone result room.old room.new) }
-    ensures invalid { ¬ (IsTrue result.is_invalid) }
-{
+pub fn tell_bytes(answer: Result<CowBytes<'_>, AllocError>, buf: &mut [u8]) -> Outcome {
     match answer {
-        Ok(answer) => tell(answer.as_bytes(), answer.is_borrowed(), room),
+        Ok(answer) => tell(answer.as_bytes(), answer.is_borrowed(), buf),
         Err(_) => without_answer(false),
     }
 }
 
 /// Returns the outcome of a decoder.
-pub fn tell_text(answer: Result<CowText<'_>, DecodeFault>, room: &mut [u8]) -> Outcome
-    ensures ok { IfOk answer.entry (λ answer.
-        Tells result (answer_text answer) (borrows_text answer) room.old room.new) }
-    ensures utf8 { IfOk answer.entry (λ answer.
-        utf8 (chars (answer_text answer)) ≡ answer_text answer) }
-    ensures err { IfErr answer.entry (λ _. ¬ (IsTrue result.has_answer)) }
-    ensures none { IfErr answer.entry (λ _. TellsNone result room.old room.new) }
-    ensures invalid { IfErr answer.entry (λ fault. IsTrue result.is_invalid ↔ IsInvalid fault) }
-{
+pub fn tell_text(answer: Result<CowText<'_>, DecodeFault>, buf: &mut [u8]) -> Outcome {
     match answer {
-        Ok(answer) => tell(answer.as_str().as_bytes(), answer.is_borrowed(), room),
+        Ok(answer) => tell(answer.as_str().as_bytes(), answer.is_borrowed(), buf),
         Err(DecodeFault::Invalid(_)) => without_answer(true),
         Err(DecodeFault::Memory(_)) => without_answer(false),
     }
 }
 
 /// Returns the outcome of a lossy decoder.
-pub fn tell_lossy_text(answer: Result<CowText<'_>, AllocError>, room: &mut [u8]) -> Outcome
-    ensures ok { IfOk answer.entry (λ answer.
-        Tells result (answer_text answer) (borrows_text answer) room.old room.new) }
-    ensures utf8 { IfOk answer.entry (λ answer.
-        utf8 (chars (answer_text answer)) ≡ answer_text answer) }
-    ensures err { IfErr answer.entry (λ _. ¬ (IsTrue result.has_answer)) }
-    ensures none { IfErr answer.entry (λ _. TellsNone result room.old room.new) }
-    ensures invalid { ¬ (IsTrue result.is_invalid) }
-{
-    tell_text(answer.map_err(DecodeFault::Memory), room)
+pub fn tell_lossy_text(answer: Result<CowText<'_>, AllocError>, buf: &mut [u8]) -> Outcome {
+    tell_text(answer.map_err(DecodeFault::Memory), buf)
 }
 
 /// Copies a result to the front of the buffer if it fits there, and returns the outcome.
-fn tell(answer: &[u8], is_borrowed: bool, room: &mut [u8]) -> Outcome
-    ensures { Tells result answer.now is_borrowed room.old room.new }
-{
-    if answer.len() <= room.len() {
-        room[..answer.len()].copy_from_slice(answer);
+fn tell(answer: &[u8], is_borrowed: bool, buf: &mut [u8]) -> Outcome {
+    if answer.len() <= buf.len() {
+        buf[..answer.len()].copy_from_slice(answer);
     }
     Outcome {
         length: answer.len(),
@@ -104,12 +64,7 @@ fn tell(answer: &[u8], is_borrowed: bool, room: &mut [u8]) -> Outcome
 }
 
 /// Returns the outcome without a result.
-pub fn without_answer(is_invalid: bool) -> Outcome
-    ensures answer { ¬ (IsTrue result.has_answer) }
-    ensures length { result.length ≡ 0 }
-    ensures borrowed { ¬ (IsTrue result.is_borrowed) }
-    ensures invalid { result.is_invalid ≡ is_invalid }
-{
+pub fn without_answer(is_invalid: bool) -> Outcome {
     Outcome {
         length: 0,
         has_answer: false,

@@ -8,7 +8,7 @@ use Rattle.simd_cesu8.specs.Order.{IsBelow, ExactlyOne, ComparesAs}
 use Rattle.simd_cesu8.specs.Laws.{Trichotomy, Transitivity, SliceOrder}
 
 -- No list is below itself.
-pub not_below_itself : (xs : List ℕ) → IsBelow xs xs → ⊥
+not_below_itself : (xs : List ℕ) → IsBelow xs xs → ⊥
 not_below_itself [] below = below
 not_below_itself (x ∷ xs) (inl less) = omega arith
 not_below_itself (x ∷ xs) (inr below) = not_below_itself xs below.1

@@ -31,7 +31,7 @@ cut P n (suc k) m xs e =
     )
 
 -- P holds of an element of a list where it holds of one in its chunks or of one that they leave.
-pub chunked : {X : Type 0} (P : X → Type 0) (n : ℕ) (xs : List X) (chunks : List (List X)) (rest : List X) →
+chunked : {X : Type 0} (P : X → Type 0) (n : ℕ) (xs : List X) (chunks : List (List X)) (rest : List X) →
     chunks ≡ first_chunks n (length xs / n) xs → rest ≡ drop (length xs / n * n) xs → Any P xs ↔ (Any (Any P) chunks ⊎ Any P rest)
 chunked P n xs chunks rest e f =
     subst (λ cs. Any P xs ↔ (Any (Any P) cs ⊎ Any P rest)) (sym e)

@@ -65,7 +65,7 @@ character_replaced f c b (d ∷ front) rest pieces scalar encoded cuts some =
     record { left = more.left; cuts = more.cuts; costs = omega (arith, more.costs) }
 
 -- Every cutting of the bytes of a greedy one is it, or costs more.
-pub least : (f : Flavor) (greedy other : List Piece) → ArePieces greedy → IsGreedy f greedy → IsCutting f (bytes_of f greedy) other →
+least : (f : Flavor) (greedy other : List Piece) → ArePieces greedy → IsGreedy f greedy → IsCutting f (bytes_of f greedy) other →
     (other ≡ greedy) ⊎ (cost greedy < cost other)
 least f [] other are_pieces is_greedy cuts = inl (no_pieces f other cuts.0 (ap length cuts.1))
 least f (piece ∷ greedy) [] are_pieces is_greedy cuts =
@@ -118,7 +118,7 @@ width_of_replacement f =
     (record { value = refl; low = omega arith; high = omega arith; middle = omega arith; last = omega arith }))
 
 -- What a cutting costs follows from its bytes and its text: each replaced byte is encoded in two more.
-pub cost_by_text : (f : Flavor) (pieces : List Piece) → length (bytes_of f pieces) + 2 * cost pieces ≡ length (encoding f (text_of pieces))
+cost_by_text : (f : Flavor) (pieces : List Piece) → length (bytes_of f pieces) + 2 * cost pieces ≡ length (encoding f (text_of pieces))
 cost_by_text f [] = omega (arith, ap length (encoding_nil f))
 cost_by_text f (Character c ∷ pieces) =
     omega (

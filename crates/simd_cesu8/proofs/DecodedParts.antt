@@ -18,7 +18,7 @@ pair_or_less false false false false true six = refl
 pair_or_less false false false false false six = absurd (omega arith)
 
 -- Where a pair stands, its last four bytes are no C0.
-pub pair_bytes : (f : Flavor) (window : List ℕ) (j : ℕ) → width_at f window j ≡ 6 →
+pair_bytes : (f : Flavor) (window : List ℕ) (j : ℕ) → width_at f window j ≡ 6 →
     (get_or window (j + 2) 0 < 0xC0) × (get_or window (j + 3) 0 ≡ 0xED) × (get_or window (j + 4) 0 < 0xC0) × (get_or window (j + 5) 0 < 0xC0)
 unfolding front_width_by
 pair_bytes f window j six =

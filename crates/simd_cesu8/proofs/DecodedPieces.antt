@@ -24,13 +24,13 @@ scalar_pieces (Character c ∷ pieces) are_pieces = (are_pieces.0, scalar_pieces
 scalar_pieces (Replaced b ∷ pieces) are_pieces = (inr (omega arith, omega arith), scalar_pieces pieces are_pieces.1)
 
 -- The lossy reading is a text.
-pub reading_is_text : (f : Flavor) (bytes : List ℕ) → IsText (reading f bytes)
+reading_is_text : (f : Flavor) (bytes : List ℕ) → IsText (reading f bytes)
 reading_is_text f bytes =
     let cutting = greedy_cutting f bytes in
     subst IsText (places f bytes cutting.pieces cutting.cuts cutting.greedy) (scalar_pieces cutting.pieces cutting.cuts.0)
 
 -- Before a place that no character crosses, the lossy reading is a piece in lossy reading,
-pub front_piece : (f : Flavor) (bytes : List ℕ) (n : ℕ) → NoneCrosses f (take n bytes) (drop n bytes) →
+front_piece : (f : Flavor) (bytes : List ℕ) (n : ℕ) → NoneCrosses f (take n bytes) (drop n bytes) →
     IsPiece f true bytes (drop n bytes) (utf8 (reading f (take n bytes)))
 front_piece f bytes n crosses = record {
   text = reading f (take n bytes);
@@ -41,7 +41,7 @@ front_piece f bytes n crosses = record {
 }
 
 -- and in both where it is the strict reading.
-pub strict_front_piece : (f : Flavor) (lossy : Bool) (bytes : List ℕ) (n : ℕ) → IsStrictReading f (take n bytes) (reading f (take n bytes)) →
+strict_front_piece : (f : Flavor) (lossy : Bool) (bytes : List ℕ) (n : ℕ) → IsStrictReading f (take n bytes) (reading f (take n bytes)) →
     IsPiece f lossy bytes (drop n bytes) (utf8 (reading f (take n bytes)))
 strict_front_piece f lossy bytes n reads =
     piece_of_text f lossy bytes (reading f (take n bytes)) (drop n bytes) reads.0
@@ -84,17 +84,17 @@ module _ (f : Flavor) (bytes window : List ℕ) (n : ℕ) (padded : IsPaddedFor 
       all_border = sym (border_agrees f window all n n (agrees n 10 (omega arith))) ∙ border
 
       -- No character crosses the border behind them.
-      pub none_crosses_window : NoneCrosses f (take n bytes) (drop n bytes)
+      none_crosses_window : NoneCrosses f (take n bytes) (drop n bytes)
       none_crosses_window = none_crosses_border f all bytes n (follows_zeros bytes) fits all_border
 
       -- They become the UTF-8 of their lossy reading.
-      pub decoded_window : decoded f window 0 n ≡ utf8 (reading f (take n bytes))
+      decoded_window : decoded f window 0 n ≡ utf8 (reading f (take n bytes))
       decoded_window =
           decoded_agrees f window all 0 0 n (agrees 0 (n + 10) (omega arith))
           ∙ decoded_between f all bytes n (follows_zeros bytes) fits (border_of_zeros f bytes) all_border
 
       -- Where none of their places is damaged, that is their strict reading.
-      pub strict_window : ((i : ℕ) → i < n → is_damaged_at f window i ≡ false) → IsStrictReading f (take n bytes) (reading f (take n bytes))
+      strict_window : ((i : ℕ) → i < n → is_damaged_at f window i ≡ false) → IsStrictReading f (take n bytes) (reading f (take n bytes))
       strict_window fine =
           let long = length-take-le n bytes fits in
           covered_read f (take n bytes) (λ i inside.

@@ -33,7 +33,7 @@ by_index f window (b ∷ bytes) i follows =
     (get_or window (e3 k) 0) ((ap (λ p. get_or window p 0) e4 ∙ first) k) bytes)) k)
 
 -- From a border on, all bytes become the UTF-8 of their lossy reading.
-pub decoded_from_border : (f : Flavor) (window bytes : List ℕ) (i : ℕ) → Follows window bytes (i + 5) → is_border_at f window i ≡ true →
+decoded_from_border : (f : Flavor) (window bytes : List ℕ) (i : ℕ) → Follows window bytes (i + 5) → is_border_at f window i ≡ true →
     decoded f window i (length bytes) ≡ utf8 (reading f bytes)
 decoded_from_border f window bytes i follows border =
     let ends = border_ends f window i border in

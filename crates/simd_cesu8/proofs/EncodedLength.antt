@@ -106,7 +106,7 @@ grows_by f c (pair w x y z digits) =
     ))
 
 -- So is that of a text.
-pub length_encoding : (f : Flavor) (text : List ℕ) → IsText text →
+length_encoding : (f : Flavor) (text : List ℕ) → IsText text →
     length (encoding f text) ≡ length (utf8 text) + growth f (utf8 text)
 length_encoding f [] is_text = omega (arith, ap length (encoding_nil f), growth_nil f)
 length_encoding f (c ∷ text) is_text =

@@ -26,7 +26,7 @@ kept_one g i true xs ys e = ap (λ l. g (8 + i) ∷ g i ∷ l) e
 kept_one g i false xs ys e = ap (λ l. g i ∷ l) e
 
 -- The lanes that are kept are those that are packed.
-pub kept_packed : (g : ℕ → ℕ) (ts : List Bool) (i : ℕ) →
+kept_packed : (g : ℕ → ℕ) (ts : List Bool) (i : ℕ) →
     map g (kept_lanes (mask_l ts) i (length ts)) ≡ packed ts (map g (range_with_len (8 + i) (length ts))) (map g (range_with_len i (length ts)))
 kept_packed g [] i = refl
 kept_packed g (t ∷ ts) i =
@@ -40,7 +40,7 @@ length_one i true xs n m k e f = omega (arith, e, f)
 length_one i false xs n m k e f = omega (arith, e, f)
 
 -- They are as many as bytes and set bits.
-pub length_kept : (ts : List Bool) (i : ℕ) → length (kept_lanes (mask_l ts) i (length ts)) ≡ length ts + count_ones (mask_l ts)
+length_kept : (ts : List Bool) (i : ℕ) → length (kept_lanes (mask_l ts) i (length ts)) ≡ length ts + count_ones (mask_l ts)
 unfolding lib.Count.ones
 length_kept [] i = refl
 length_kept (t ∷ ts) i =
@@ -123,7 +123,7 @@ module _ (out lanes row : List ℕ) (at d : ℕ) (ts : List Bool)
 -- ---- four rows
 
 -- What is written for a list of bytes is what is written for its front and for the rest.
-pub packed_parts : (n : ℕ) (ts : List Bool) (firsts seconds : List ℕ) → length ts ≡ length firsts → length ts ≡ length seconds →
+packed_parts : (n : ℕ) (ts : List Bool) (firsts seconds : List ℕ) → length ts ≡ length firsts → length ts ≡ length seconds →
     packed ts firsts seconds ≡ packed (take n ts) (take n firsts) (take n seconds) ++ packed (drop n ts) (drop n firsts) (drop n seconds)
 packed_parts zero ts firsts seconds e f = refl
 packed_parts (suc n) [] firsts seconds e f = refl

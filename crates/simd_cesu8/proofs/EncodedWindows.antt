@@ -25,14 +25,10 @@ range_parts i (suc n) m =
     rw (e, e') (ap (λ l. i ∷ l) (range_parts (i + 1) n m))
 
 -- What is written for n bytes and m more is what is written for each.
-pub places_append : (f : Flavor) (window : List ℕ) (i n m : ℕ) → places f window i (n + m) ≡ places f window i n ++ places f window (i + n) m
+places_append : (f : Flavor) (window : List ℕ) (i n m : ℕ) → places f window i (n + m) ≡ places f window i n ++ places f window (i + n) m
 unfolding places
 places_append f window i n m =
     ap (flat_map (place_at f window)) (range_parts i n m) ∙ flat_map-append (place_at f window) (range_with_len i n) (range_with_len (i + n) m)
-
-pub places_none : (f : Flavor) (window : List ℕ) (i : ℕ) → places f window i 0 ≡ []
-unfolding places
-places_none f window i = refl
 
 -- Two windows with the same bytes have the same written for them.
 agree : (f : Flavor) (v w : List ℕ) (i j n : ℕ) → ((k : ℕ) → k < n + 3 → get_or v (i + k) 0 ≡ get_or w (j + k) 0) →
@@ -48,7 +44,7 @@ agree f v w i j (suc n) h =
     ap (λ m. get_or v m 0) ik ∙ h (k + 1) (omega arith) ∙ ap (λ m. get_or w m 0) jk) in
     rw (first, h 1 (omega arith), h 2 (omega arith), h 3 (omega arith), agree f v w (i + 1) (j + 1) n rest) refl
 
-pub places_agree : (f : Flavor) (v w : List ℕ) (i j n : ℕ) → ((k : ℕ) → k < n + 3 → get_or v (i + k) 0 ≡ get_or w (j + k) 0) →
+places_agree : (f : Flavor) (v w : List ℕ) (i j n : ℕ) → ((k : ℕ) → k < n + 3 → get_or v (i + k) 0 ≡ get_or w (j + k) 0) →
     places f v i n ≡ places f w j n
 unfolding places
 places_agree f v w i j n h = agree f v w i j n h
@@ -67,7 +63,7 @@ part_from i text = take (length text - i) (drop i text)
 whole_part : (i : ℕ) (text : List ℕ) → part_from i text ≡ drop i text
 whole_part i text = take_all (length text - i) (drop i text) (omega (arith, length-drop i text))
 
-pub places_drop : (f : Flavor) (text : List ℕ) (i n : ℕ) → 2 ≤ i → places f (part_from (i - 2) text) 0 n ≡ places f (0 ∷ 0 ∷ text) i n
+places_drop : (f : Flavor) (text : List ℕ) (i n : ℕ) → 2 ≤ i → places f (part_from (i - 2) text) 0 n ≡ places f (0 ∷ 0 ∷ text) i n
 places_drop f text i n le = ap (λ window. places f window 0 n) (whole_part (i - 2) text) ∙ from_drop f text i n le
 
 -- ---- a block of which fewer bytes count
@@ -85,7 +81,7 @@ length_written t g h (v ∷ vs) =
     length_one false a b xs n m k e f = omega (arith, e, f)
 
 -- What is written for n bytes has as many bytes as they and the bits of those that become two.
-pub length_places : (f : Flavor) (window : List ℕ) (i n : ℕ) →
+length_places : (f : Flavor) (window : List ℕ) (i n : ℕ) →
     length (places f window i n) ≡ n + count_ones (mask_l (map (is_doubled_at f window) (range_with_len i n)))
 unfolding places
 length_places f window i n =
@@ -93,7 +89,7 @@ length_places f window i n =
     ∙ ap (λ k. k + count_ones (mask_l (map (is_doubled_at f window) (range_with_len i n)))) (length-range_with_len i n)
 
 -- What packing the lanes of a block writes is what is written for its places.
-pub packed_block : (f : Flavor) (window : List ℕ) (i n : ℕ) →
+packed_block : (f : Flavor) (window : List ℕ) (i n : ℕ) →
     packed (map (is_doubled_at f window) (range_with_len i n)) (map (inserted_at f window) (range_with_len i n)) (map (changed_at f window) (range_with_len i n))
     ≡ places f window i n
 unfolding places

@@ -211,7 +211,7 @@ spells_text f more (c ∷ text) is_text parts are_parts out_is none =
 
 -- Where bytes without one of the class are joined to a text's UTF-8 and more, they begin with its
 -- encoding.
-pub joined_front : (f : Flavor) (bytes out text more : List ℕ) → IsJoined f bytes out → (Any (IsChangedByte f) bytes → ⊥) →
+joined_front : (f : Flavor) (bytes out text more : List ℕ) → IsJoined f bytes out → (Any (IsChangedByte f) bytes → ⊥) →
     IsText text → utf8 text ++ more ≡ out → (rest : List ℕ) × IsJoined f rest more × (bytes ≡ encoding f text ++ rest)
 joined_front f bytes out text more joined none is_text out_is =
     let begins = spells_text f more text is_text joined.parts joined.are_parts (out_is ∙ joined.out_is)

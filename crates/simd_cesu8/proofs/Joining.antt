@@ -75,7 +75,7 @@ keeps_copied f rest out after new n after_is new_is =
     (sym (take-append-drop n rest) ∙ ap (λ bs. take n rest ++ bs) (sym after_is)) new_is (joined_same f (take n rest))
 
 -- A character that changes is joined to its UTF-8.
-pub keeps_changed : (f : Flavor) (rest out after written new : List ℕ) (m n : ℕ) → n < m →
+keeps_changed : (f : Flavor) (rest out after written new : List ℕ) (m n : ℕ) → n < m →
     (found : BeginsInLengths f rest m n) → written ≡ utf8_of found.character → after ≡ drop m rest →
     new ≡ out ++ written → KeepsJoined f rest out after new
 keeps_changed f rest out after written new m n fewer found written_is after_is new_is =

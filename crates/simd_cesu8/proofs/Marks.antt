@@ -28,7 +28,7 @@ reaches_stands f bytes i j (Some c) found before reaches =
     (j, c, (drop (width f c) (drop j bytes), standing_begins f (drop j bytes) c found), before, reaches)
 
 -- A place that passes the test lies within a stretch.
-pub within_from_test : (f : Flavor) (bytes : List ℕ) (i : ℕ) → lies_within f bytes i ≡ true → LiesWithin f bytes i
+within_from_test : (f : Flavor) (bytes : List ℕ) (i : ℕ) → lies_within f bytes i ≡ true → LiesWithin f bytes i
 unfolding lies_within
 within_from_test f bytes i passes =
     let found =
@@ -39,7 +39,7 @@ within_from_test f bytes i passes =
     (ltb-true i (found.1 + width_of f (standing f (drop found.1 bytes))) found.4)
 
 -- A place that lies within a stretch passes the test.
-pub test_from_within : (f : Flavor) (bytes : List ℕ) (i : ℕ) → LiesWithin f bytes i → lies_within f bytes i ≡ true
+test_from_within : (f : Flavor) (bytes : List ℕ) (i : ℕ) → LiesWithin f bytes i → lies_within f bytes i ≡ true
 unfolding lies_within
 test_from_within f bytes i within =
     let j = within.0 in
@@ -68,7 +68,7 @@ unfolding mark
 mark_is f bytes i = mark_by_is f bytes i (standing f (drop i bytes)) (lies_within f bytes i) refl refl
 
 -- A place has one mark.
-pub one_mark : (f : Flavor) (bytes : List ℕ) (i : ℕ) (m n : List ℕ) → IsMark f bytes i m → IsMark f bytes i n → m ≡ n
+one_mark : (f : Flavor) (bytes : List ℕ) (i : ℕ) (m n : List ℕ) → IsMark f bytes i m → IsMark f bytes i n → m ≡ n
 one_mark f bytes i m n (Stands c stands) (Stands d other) =
     rw ((same_character f (drop i bytes) c d stands.0 other.0 stands.1 other.1).0) refl
 one_mark f bytes i m n (Stands c stands) (Within none_begins _) = absurd (none_begins c stands.0 stands.1)

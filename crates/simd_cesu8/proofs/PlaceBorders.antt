@@ -59,7 +59,7 @@ border_ends f window i border s small =
     five (suc (suc (suc (suc (suc s))))) small h1 h2 h3 h4 h5 = absurd (omega arith)
 
 -- Where each does, there is a border.
-pub border_where : (f : Flavor) (window : List ℕ) (i : ℕ) → ((s : ℕ) → s < 5 → width_at f window (i + s) + s ≤ 5) →
+border_where : (f : Flavor) (window : List ℕ) (i : ℕ) → ((s : ℕ) → s < 5 → width_at f window (i + s) + s ≤ 5) →
     is_border_at f window i ≡ true
 border_where f window i ends =
     let w = width_at f window in
@@ -121,7 +121,7 @@ ends_before f window bytes p i follows before inside some =
     (cases_lt 0 (front_width f (drop p bytes)))
 
 -- Where a character begins is a border.
-pub border_at_character : (f : Flavor) (window bytes : List ℕ) (i : ℕ) → Follows window bytes 5 → is_border_at f window 0 ≡ true →
+border_at_character : (f : Flavor) (window bytes : List ℕ) (i : ℕ) → Follows window bytes 5 → is_border_at f window 0 ≡ true →
     i < length bytes → 0 < width_at f window (i + 5) → is_border_at f window i ≡ true
 border_at_character f window bytes i follows first inside some =
     border_where f window i (λ s small. ⊎_elim

@@ -162,7 +162,7 @@ text_written f (c ∷ text) is_text p q hp hq =
     ∙ sym (encoding_cons f c text)
 
 -- What is written for the UTF-8 of a text is its encoding.
-pub recoded_utf8 : (f : Flavor) (text : List ℕ) → IsText text → recoded f (utf8 text) ≡ encoding f text
+recoded_utf8 : (f : Flavor) (text : List ℕ) → IsText text → recoded f (utf8 text) ≡ encoding f text
 unfolding places
 recoded_utf8 f text is_text = by_places f 0 0 (utf8 text) ∙ text_written f text is_text 0 0 (omega arith) (omega arith)
 

@@ -31,7 +31,7 @@ below_top c (inl h) = omega arith
 below_top c (inr h) = h.1
 
 -- A scalar value from 10000 (hexadecimal) on has the digits of a surrogate pair.
-pub pair_digits : (c : ℕ) → 0x10000 ≤ c → c < 0x110000 →
+pair_digits : (c : ℕ) → 0x10000 ≤ c → c < 0x110000 →
     IsPair c ((c - 0x10000) / 0x10000) ((c - 0x10000) / 0x400 % 0x40) ((c - 0x10000) / 0x40 % 0x10) ((c - 0x10000) % 0x40)
 pair_digits c low high = record {
   value = omega arith;

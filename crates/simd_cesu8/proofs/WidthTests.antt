@@ -129,12 +129,12 @@ pair_test a b d e g h lead b_low b_high d_low d_high second g_low g_high h_low h
     (and_from (ltb g 0xC0) (continues h) (lt-ltb g 0xC0 g_high) (is_continuation h h_low h_high)))))))
 
 -- where all tests fail, none begins the bytes
-pub record AllFail (f : Flavor) (a b d e g h : ℕ) : Type 0 where
-  pub one : one_at f a ≡ false
-  pub null : null_at f a b ≡ false
-  pub two : two_at a b ≡ false
-  pub three : three_at a b d ≡ false
-  pub pair : pair_at a b d e g h ≡ false
+record AllFail (f : Flavor) (a b d e g h : ℕ) : Type 0 where
+  one : one_at f a ≡ false
+  null : null_at f a b ≡ false
+  two : two_at a b ≡ false
+  three : three_at a b d ≡ false
+  pair : pair_at a b d e g h ≡ false
 
 no_pattern : (f : Flavor) (bytes : List ℕ) (c : ℕ) →
     AllFail f (get_or bytes 0 0) (get_or bytes 1 0) (get_or bytes 2 0) (get_or bytes 3 0) (get_or bytes 4 0) (get_or bytes 5 0) →

@@ -11,30 +11,30 @@ use Rattle.std.proofs.lemmas.Nat.{and_block, xor_block, xor_of_8, le_bytes_8}
 use Rattle.simd_cesu8.proofs.Elements.{any_nil, any_here, any_there, any_cons}
 
 -- Each member is a byte.
-abbrev pub AreBytes : List ℕ → Type 0
+abbrev AreBytes : List ℕ → Type 0
 AreBytes [] = Unit {0}
 AreBytes (b ∷ bytes) = (b < 0x100) × AreBytes bytes
 
 -- The word of bytes.
-abbrev pub word_of : List ℕ → ℕ
+abbrev word_of : List ℕ → ℕ
 word_of [] = 0
 word_of (b ∷ bytes) = word_of bytes * 2 ^ 8 + b
 
 -- The word that has m for each byte.
-abbrev pub each : ℕ → List ℕ → ℕ
+abbrev each : ℕ → List ℕ → ℕ
 each m bytes = word_of (map (λ _. m) bytes)
 
 -- The word with each bit the other way round.
-abbrev pub inverted : List ℕ → ℕ
+abbrev inverted : List ℕ → ℕ
 inverted bytes = word_of (map (λ b. 0xFF - b) bytes)
 
 -- k at the place above the bytes: what is borrowed from there.
-abbrev pub above : ℕ → List ℕ → ℕ
+abbrev above : ℕ → List ℕ → ℕ
 above k [] = k
 above k (b ∷ bytes) = above k bytes * 2 ^ 8
 
 -- What the test leaves of the difference d: the high bits that d has and the word has not.
-abbrev pub marked : ℕ → List ℕ → ℕ
+abbrev marked : ℕ → List ℕ → ℕ
 marked d bytes = bit_and (bit_and d (inverted bytes)) (each 0x80 bytes)
 
 -- one step of it: d is its lowest byte r and the rest q
@@ -53,7 +53,7 @@ unmarked_byte b l n =
     ⊎_elim (λ e. absurd (n (eqb-true _ _ e))) (λ e. eqb-true _ _ e) (or_cases _ _ all)
 
 -- That some byte is 0 is told by marks, where the difference d is to 1 in each byte.
-abbrev pub IsMarked : List ℕ → Type 0
+abbrev IsMarked : List ℕ → Type 0
 IsMarked bytes = (d k : ℕ) → word_of bytes + above k bytes ≡ each 1 bytes + d →
     (marked d bytes ≡ 0 → ⊥) ↔ Any (λ b. b ≡ 0) bytes
 
@@ -79,22 +79,22 @@ marks_later b bytes l n h d k e =
     )
 
 -- Some byte is 0 exactly where the difference has a mark.
-pub zero_marks : (bytes : List ℕ) → AreBytes bytes → IsMarked bytes
+zero_marks : (bytes : List ℕ) → AreBytes bytes → IsMarked bytes
 zero_marks [] h = λ d k e. ((λ n. absurd (n (and_zero_r _))), (λ p. absurd (any_nil (λ b. b ≡ 0) p)))
 zero_marks (b ∷ bytes) h =
     ⊎_elim (λ z. marks_zero b bytes h.0 z) (λ n. marks_later b bytes h.0 n (zero_marks bytes h.1)) (cases_eq b 0)
 
 -- A word is that of its bytes.
-pub word_of_bytes : (w : ℕ) → w < 2 ^ 64 → word_of (to_le_bytes w64 w) ≡ w
+word_of_bytes : (w : ℕ) → w < 2 ^ 64 → word_of (to_le_bytes w64 w) ≡ w
 word_of_bytes w l = omega arith
 
 -- The bytes of a word are bytes.
-pub are_bytes : (w : ℕ) → AreBytes (to_le_bytes w64 w)
+are_bytes : (w : ℕ) → AreBytes (to_le_bytes w64 w)
 are_bytes w =
     (omega arith, (omega arith, (omega arith, (omega arith, (omega arith, (omega arith, (omega arith, (omega arith, tt))))))))
 
 -- A word and its inverse have every bit.
-pub inverse : (bytes : List ℕ) → AreBytes bytes → word_of bytes + inverted bytes ≡ each 0xFF bytes
+inverse : (bytes : List ℕ) → AreBytes bytes → word_of bytes + inverted bytes ≡ each 0xFF bytes
 inverse [] h = refl
 inverse (b ∷ bytes) h = omega (arith, inverse bytes h.1)
 
@@ -115,7 +115,7 @@ zero_test w l =
     )
 
 -- What is left of a byte: 0 where its upper five bits are those of F0.
-abbrev pub masked : ℕ → ℕ
+abbrev masked : ℕ → ℕ
 masked b = bit_xor (bit_and b 0xF8) 0xF0
 
 masked_byte : (b : ℕ) → b < 0x100 → masked b < 0x100

@@ -7,8 +7,8 @@ use Rattle.java_text.specs.declared.fault.ReadFault.{ReadFault}
 use Rattle.java_text.specs.declared.fault.ReadFault.TheVariants.{Truncated, Invalid, Memory}
 use Rattle.java_text.specs.Fault.{IfRefused}
 use Rattle.java_text.specs.Form.{HasForm, java_form, BeginsWithForm, BeginsOnlyWithForm, NoFormBegins}
-use Rattle.java_text.specs.Laws.{HaveForms, AreReadInTurn, Sequence, Bounds}
-use Rattle.uses.specs.StringFile.{CopiesStrings, NoneAreRead}
+use Rattle.java_text.specs.Laws.{HaveForms, AreReadInTurn, Bounds}
+use Rattle.uses.specs.StringFile.{NoneAreRead}
 
 -- The forms of some texts were read from the source, and the rest is left. They stand in the target.
 pub record CopiedSoFar (source rest before now : List ℕ) (count : ℕ) : Type 0 where
@@ -69,20 +69,6 @@ one_copied bounds {source} {rest} {after} {before} {now} {new} {text} so_far beg
       );
       others_left = λ others read. let more = so_far.others_left others read in
           after_first bounds rest text after more.0 begins only more.1;
-    }
-
--- Where nothing is left, all was copied.
-pub all_copied : Sequence → {source rest before now : List ℕ} {count : ℕ} →
-    CopiedSoFar source rest before now count → rest ≡ [] → CopiesStrings count source before now
-all_copied sequence {before} so_far none_left =
-    let texts = so_far.texts in
-    let forms = so_far.source_is ∙ rw none_left (append-nil (flat_map java_form texts)) in
-    record {
-      texts = texts;
-      are_read = subst (λ bytes. AreReadInTurn bytes texts) (sym forms)
-          (sequence texts so_far.have_forms).0;
-      counted = so_far.counted;
-      gained = so_far.gained ∙ ap (λ bytes. before ++ bytes) (sym forms);
     }
 
 -- Where something is left that begins with no form, the source is the forms of no texts.

@@ -21,7 +21,7 @@ none_yet texts arena ends = record {
 }
 
 -- One text more.
-pub first_more : Concat → (texts : List (Bor (List ℕ))) (count : ℕ) (d : Bor (List ℕ)) →
+first_more : Concat → (texts : List (Bor (List ℕ))) (count : ℕ) (d : Bor (List ℕ)) →
     count < length texts →
     first_encoded texts (count + 1) ≡ first_encoded texts count ++ encoded (get_or texts count d)
 first_more concat texts count d inside =
