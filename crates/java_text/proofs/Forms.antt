@@ -100,3 +100,6 @@ pub refused_as : (fault : DecodeFault) (bytes : List ℕ) → decoding.IfInvalid
     IfRefused (read_fault_of fault) (NoFormBegins bytes)
 refused_as (Invalid error) bytes h = none_begins_invalid bytes h
 refused_as (Memory error) bytes h = tt
+
+-- That no form begins bytes which are refused.
+pub ruleset refused_forms = (none_begins_truncated, refused_as)

@@ -113,7 +113,7 @@ pub fn write_utf(text: &str, buf: &mut Vec<u8>) -> Result<(), WriteFault>
 /// assert_eq!(rt; rest, b"B".as_slice());
 /// assert!(rt; java_text::read_utf(alloc, b"\0\x02A").is_err());
 /// ```
-#[tactic(auto, using(crate::proofs::Forms::none_begins_truncated, crate::proofs::Forms::refused_as))]
+#[tactic(auto, using(crate::proofs::Forms::refused_forms))]
 pub fn read_utf(alloc: Global, bytes: &[u8]) -> Result<(CowText<'_>, &[u8]), ReadFault>
     ensures text { IfRead result (BeginsWithForm bytes.now) }
     ensures only { IfRead result (BeginsOnlyWithForm bytes.now) }
