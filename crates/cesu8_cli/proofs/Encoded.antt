@@ -4,7 +4,7 @@ use Rattle.std.specs.Str.{chars, IsUtf8}
 use Rattle.simd_cesu8.specs.Text.{utf8, IsUtf8Of}
 use Rattle.simd_cesu8.specs.Encoding.{Flavor, encoding, NeedsEncoding}
 use Rattle.simd_cesu8.specs.Laws.{UnchangedString}
-use Rattle.simd_cesu8.proofs.StdUtf8.{IsUtf8Of_chars, IsUtf8_utf8, chars_utf8}
+use Rattle.simd_cesu8.proofs.StdUtf8.{IsUtf8Of_chars, IsUtf8Of_chars_at, IsUtf8_utf8, chars_utf8}
 use Rattle.cesu8_cli.specs.Command.{flavor_of}
 use Rattle.cesu8_cli.specs.Answer.{IsEncodingAnswer, TakesNoMemory}
 use Rattle.cesu8_cli.specs.declared.command.FlavorWord.{FlavorWord}
@@ -27,3 +27,6 @@ needs_none unchanged flavor g input text is u none need =
 -- The bytes of a text are its UTF-8.
 pub text_bytes : (text bytes : List ℕ) → IsUtf8 text → bytes ≡ text → bytes ≡ utf8 (chars text)
 text_bytes text bytes h e = e ∙ sym (IsUtf8Of_chars text h).1
+
+-- Whether the input is the UTF-8 of a text.
+pub ruleset whether_utf8 = (IsUtf8Of_chars_at, IsUtf8_utf8)

@@ -71,6 +71,7 @@ fn needs(flavor: FlavorWord, input: &[u8]) -> Result<CowBytes<'_>, RunFault>
 }
 
 /// Returns the input as a text, for the commands that take UTF-8.
+#[tactic(auto, using(crate::proofs::Encoded::whether_utf8))]
 fn input_text(input: &[u8]) -> Result<&str, RunFault>
     ensures ok { IfOk result (λ text. IsUtf8Of (chars text.now) input.now) }
     ensures err { IfErr result (λ fault. IsUtf8Fault input.now fault) }

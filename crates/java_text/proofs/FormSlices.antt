@@ -32,13 +32,13 @@ count_of len n same small =
     let high : len / 0x100 % 0x100 ≡ n / 0x100 = omega arith in λ i. high i ∷ (same i % 0x100) ∷ []
 
 -- A count, and the MUTF-8 at the front of what follows it, are the form at the front.
-pub form_at_front : (text old mid count : List ℕ) (len room : ℕ) → 2 ≤ length old → len ≤ length (mid_of 2 room old) → len ≡ mutf8_len text →
+form_behind_count : (text old mid count : List ℕ) (len room : ℕ) → 2 ≤ length old → len ≤ length (mid_of 2 room old) → len ≡ mutf8_len text →
     mid ≡ encoding Mutf8 text ++ drop len (mid_of 2 room old) → count ≡ (mutf8_len text / 0x100) ∷ (mutf8_len text % 0x100) ∷ [] →
     StandsAtFront (java_form text) (2 + len) old (count ++ drop 2 (put_mid 2 room old mid))
 unfolding java_form
-form_at_front text [] mid count len room fits inside len_is mid_is count_is = absurd (omega arith)
-form_at_front text (a ∷ []) mid count len room fits inside len_is mid_is count_is = absurd (omega arith)
-form_at_front text (a ∷ b ∷ old) mid count len room fits inside len_is mid_is count_is =
+form_behind_count text [] mid count len room fits inside len_is mid_is count_is = absurd (omega arith)
+form_behind_count text (a ∷ []) mid count len room fits inside len_is mid_is count_is = absurd (omega arith)
+form_behind_count text (a ∷ b ∷ old) mid count len room fits inside len_is mid_is count_is =
     let mutf8 = encoding Mutf8 text in
     let behind : drop len (take room old) ++ drop room old ≡ drop len old =
     sym (drop-append-le len (take room old) (drop room old) inside) ∙ ap (drop len) (take-append-drop room old) in (
@@ -48,6 +48,15 @@ form_at_front text (a ∷ b ∷ old) mid count len room fits inside len_is mid_i
           ∙ ap (λ bs. (mutf8_len text / 0x100) ∷ (mutf8_len text % 0x100) ∷ bs)
           (append_assoc mutf8 (drop len (take room old)) (drop room old) ∙ ap (λ bs. mutf8 ++ bs) (behind ∙ sym (drop_after_two a b len old))),
     )
+
+-- The same with another name for its end.
+pub form_at_front : (text old mid count : List ℕ) (len room end : ℕ) → end ≡ 2 + len → 2 ≤ length old → len ≤ length (mid_of 2 room old) →
+    len ≡ mutf8_len text → mid ≡ encoding Mutf8 text ++ drop len (mid_of 2 room old) →
+    count ≡ (mutf8_len text / 0x100) ∷ (mutf8_len text % 0x100) ∷ [] →
+    StandsAtFront (java_form text) end old (count ++ drop 2 (put_mid 2 room old mid))
+form_at_front text old mid count len room end end_is fits inside len_is mid_is count_is =
+    subst (λ n. StandsAtFront (java_form text) n old (count ++ drop 2 (put_mid 2 room old mid))) (sym end_is)
+    (form_behind_count text old mid count len room fits inside len_is mid_is count_is)
 
 -- A part that is put back leaves the buffer as it was.
 pub put_back : (old mid : List ℕ) (room : ℕ) → mid ≡ mid_of 2 room old → put_mid 2 room old mid ≡ old

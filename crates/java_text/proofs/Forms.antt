@@ -1,5 +1,5 @@
 -- What the first two bytes of a form count, and that bytes begin with one form at most.
-use Rattle.std.proofs.Common.{◌≡◌, ℕ, ◌+◌, ◌*◌, ◌/◌, ◌%◌, ◌<◌, ◌≤◌, List, [], ◌∷◌, ◌++◌, sym, ap, ◌∙◌, inl, inr, length, get_or, take, drop, arith, lit<, length-append}
+use Rattle.std.proofs.Common.{◌≡◌, ℕ, ◌+◌, ◌*◌, ◌/◌, ◌%◌, ◌<◌, ◌≤◌, List, [], ◌∷◌, ◌++◌, Result, Ok, Err, IfOk, OnOk, Bor, sym, ap, subst, ◌∙◌, inl, inr, length, get_or, take, drop, arith, lit<, length-append}
 use Rattle.std.proofs.Math.Seq.{take-append_seam, drop-append_seam, drop-append-add}
 use Rattle.std.proofs.lemmas.List.{take-append-drop, length-take-le}
 use Rattle.simd_cesu8.specs.Encoding.{Mutf8, encoding}
@@ -9,6 +9,7 @@ use Rattle.simd_cesu8.specs.Fault as decoding
 use Rattle.simd_cesu8.specs.declared.error.DecodeFault.{DecodeFault}
 use Rattle.simd_cesu8.specs.declared.error.DecodeFault.TheVariants.{Invalid, Memory}
 use Rattle.java_text.specs.Fault.{IfRefused, read_fault_of}
+use Rattle.java_text.specs.declared.fault.ReadFault.{ReadFault}
 use Rattle.java_text.specs.Form.{mutf8_len, java_form, BeginsWithForm, NoFormBegins, BeginsOnlyWithForm, count_in, counted, rest_in, IsTruncated}
 
 -- The first two bytes of a form count the others.
@@ -73,8 +74,32 @@ begins_with_form (a ∷ b ∷ bytes) text small n h =
     ∙ take-append-drop (0x100 * a + b) bytes) in
     record { scalars = h.0; fits = omega arith; bytes_are = cc }
 
+-- So the parts into which a call splits such bytes are those of a form, if the first is the encoding of a text.
+pub form_of_parts : (bytes : List ℕ) (result : Result (Bor (List ℕ) × Bor (List ℕ)) ReadFault) →
+    ((i : ℕ) → get_or bytes i 0 < 256) → IfOk result (λ parts. parts.0.now ≡ counted bytes) →
+    IfOk result (λ parts. parts.1.now ≡ rest_in bytes) → OnOk result (IsTruncated bytes → ⊥) →
+    IfOk result (λ parts. (text : List ℕ) → IsStrictReading Mutf8 parts.0.now text → BeginsWithForm bytes text parts.1.now)
+form_of_parts bytes (Ok parts) small first second whole = λ text read.
+    subst (BeginsWithForm bytes text) (sym second)
+    (begins_with_form bytes text small whole (subst (λ bs. IsStrictReading Mutf8 bs text) first read))
+form_of_parts bytes (Err fault) small first second whole = tt
+
+-- They are so in no other way.
+pub only_form_of_parts : (bytes : List ℕ) (result : Result (Bor (List ℕ) × Bor (List ℕ)) ReadFault) →
+    ((bytes text rest : List ℕ) → BeginsWithForm bytes text rest → BeginsOnlyWithForm bytes text rest) →
+    ((i : ℕ) → get_or bytes i 0 < 256) → IfOk result (λ parts. parts.0.now ≡ counted bytes) →
+    IfOk result (λ parts. parts.1.now ≡ rest_in bytes) → OnOk result (IsTruncated bytes → ⊥) →
+    IfOk result (λ parts. (text : List ℕ) → IsStrictReading Mutf8 parts.0.now text →
+    BeginsOnlyWithForm bytes text parts.1.now)
+only_form_of_parts bytes (Ok parts) one small first second whole = λ text read.
+    one _ _ _ (form_of_parts bytes (Ok parts) small first second whole text read)
+only_form_of_parts bytes (Err fault) one small first second whole = tt
+
 -- What the decoder refuses begins with no form.
 pub refused_as : (fault : DecodeFault) (bytes : List ℕ) → decoding.IfInvalid fault (HasNoStrictReading Mutf8 (counted bytes)) →
     IfRefused (read_fault_of fault) (NoFormBegins bytes)
 refused_as (Invalid error) bytes h = none_begins_invalid bytes h
 refused_as (Memory error) bytes h = tt
+
+-- That no form begins bytes which are refused.
+pub ruleset refused_forms = (none_begins_truncated, refused_as)

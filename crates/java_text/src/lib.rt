@@ -29,7 +29,7 @@
 //! ```
 #![tactic(auto)]
 
-ghost use Rattle.std.specs.Prelude.{◌≡◌, ◌↔◌, ◌<◌, ◌≤◌, ◌+◌, ◌++◌, Err, length, IfOk, IfErr, OnOk, OnErr, IsOk, IsOkUnless, vec_len, vec_capacity};
+ghost use Rattle.std.specs.Prelude.{◌≡◌, ℕ, List, ◌↔◌, ◌<◌, ◌≤◌, ◌+◌, ◌++◌, Err, length, IfOk, IfErr, OnOk, OnErr, IsOk, IsOkUnless, vec_len, vec_capacity};
 ghost use Rattle.std.specs.Str.{chars};
 ghost use Rattle.simd_cesu8.specs.Encoding.{Mutf8};
 ghost use Rattle.simd_cesu8.specs.Class.{IsUnchangedUtf8};
@@ -113,6 +113,7 @@ pub fn write_utf(text: &str, buf: &mut Vec<u8>) -> Result<(), WriteFault>
 /// assert_eq!(rt; rest, b"B".as_slice());
 /// assert!(rt; java_text::read_utf(alloc, b"\0\x02A").is_err());
 /// ```
+#[tactic(auto, using(crate::proofs::Forms::refused_forms))]
 pub fn read_utf(alloc: Global, bytes: &[u8]) -> Result<(CowText<'_>, &[u8]), ReadFault>
     ensures text { IfRead result (BeginsWithForm bytes.now) }
     ensures only { IfRead result (BeginsOnlyWithForm bytes.now) }
@@ -128,7 +129,6 @@ pub fn read_utf(alloc: Global, bytes: &[u8]) -> Result<(CowText<'_>, &[u8]), Rea
         → IsOk result }
     ensures capacity { BuildsTextOfCapacity (text_of result) (count_in bytes.now) }
 {
-    laws::one_form();
     let (counted, rest) = split_counted(bytes)?;
     Ok((mutf8::decode_strict(alloc, counted)?, rest))
 }
@@ -277,9 +277,14 @@ fn split_counted(bytes: &[u8]) -> Result<(&[u8], &[u8]), ReadFault>
     ensures counted { IfOk result (λ parts. parts.0.now ≡ counted bytes.now) }
     ensures rest { IfOk result (λ parts. parts.1.now ≡ rest_in bytes.now) }
     ensures whole { OnOk result (¬ (IsTruncated bytes.now)) }
+    ensures form { IfOk result (λ parts. (text : List ℕ) → IsStrictReading Mutf8 parts.0.now text
+        → BeginsWithForm bytes.now text parts.1.now) }
+    ensures only { IfOk result (λ parts. (text : List ℕ) → IsStrictReading Mutf8 parts.0.now text
+        → BeginsOnlyWithForm bytes.now text parts.1.now) }
     ensures truncated { IfErr result (λ fault. fault ≡ ReadFault.Truncated) }
     ensures short { OnErr result (IsTruncated bytes.now) }
 {
+    laws::one_form();
     let [high, low, after @ ..] = bytes else {
         return Err(ReadFault::Truncated);
     };

@@ -109,11 +109,12 @@ module _ (out lanes row : List ℕ) (at d : ℕ) (ts : List Bool)
   kept_long = ap length (sym (eight (length ts) ts_long (sym d_is))) ∙ length_kept ts 0 ∙ rw (ts_long, sym d_is) refl
 
   -- After a row is stored, what is up to its end is what was there, and the row packed.
-  pub stored_row : take (at + 8 + count_ones d) (put_chunk at out (swz_l w8 16 lanes 0 row))
-      ≡ take at out ++ packed ts (chunk 8 8 lanes) (chunk 0 8 lanes)
-  stored_row =
+  pub stored_row : (end : ℕ) → end ≡ at + 8 + count_ones d →
+      take end (put_chunk at out (swz_l w8 16 lanes 0 row)) ≡ take at out ++ packed ts (chunk 8 8 lanes) (chunk 0 8 lanes)
+  stored_row end end_is =
       let padding : List ℕ = replicate (16 - length kept) 0 in
-      ap (λ v. take (at + 8 + count_ones d) (put_chunk at out v))
+      ap (λ n. take n (put_chunk at out (swz_l w8 16 lanes 0 row))) end_is
+      ∙ ap (λ v. take (at + 8 + count_ones d) (put_chunk at out v))
       (ap (swz_l w8 16 lanes 0) row_is ∙ shuffled lanes (shuffle_of d) (shuffle_long d small) (shuffle_below d small) ∙ map-append lane kept padding)
       ∙ stored_front out (map lane kept) (map lane padding) at (at + 8 + count_ones d)
       (omega (arith, shuffle_long d small, length-append kept padding, length-map kept lane, length-map padding lane))

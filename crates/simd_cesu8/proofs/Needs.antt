@@ -143,3 +143,6 @@ module _ (f : Flavor) (bytes : List ℕ) (is_utf8 : IsUtf8 bytes) where
       let of_chars = IsUtf8Of_chars bytes is_utf8 in
       encoding_is_bytes
       (λ needs. omega (arith, encoding_longer f (chars bytes) of_chars.0 needs, as_long, ap length of_chars.1))
+
+-- Whether the encoding is the bytes, by whether the text needs it.
+pub ruleset encoding_by_need = (encoding_is_bytes, encoding_is_not_bytes)

@@ -1,7 +1,7 @@
 -- Text that is read a piece at a time.
-use Rattle.std.proofs.Common.{◌≡◌, ℕ, ◌+◌, Bool, true, false, List, [], ◌++◌, Result, Ok, Err, IfOk, MatchResult, is_ok, true≢false, refl, sym, ap, ◌∙◌, subst, arith, length, take, drop, append_assoc, length-append, length-drop}
+use Rattle.std.proofs.Common.{◌≡◌, ℕ, ◌+◌, ◌-◌, Bool, true, false, List, [], ◌++◌, Result, Ok, Err, IfOk, MatchResult, is_ok, true≢false, refl, sym, ap, ◌∙◌, subst, arith, length, take, drop, append_assoc, length-append, length-drop}
 use Rattle.std.specs.Str.{chars, IsUtf8}
-use Rattle.std.proofs.lemmas.List.{take-append-drop}
+use Rattle.std.proofs.lemmas.List.{take-append-drop, take_rest}
 use Rattle.simd_cesu8.specs.Text.{utf8}
 use Rattle.simd_cesu8.specs.Encoding.{Flavor, encoding}
 use Rattle.simd_cesu8.specs.Reading.{IsStrictReading, HasNoStrictReading, reading, lossy_length}
@@ -43,6 +43,13 @@ piece_appended f lossy bytes rest piece old new is_piece new_is = record {
   strict_reading = is_piece.strict_reading;
   written = new_is ∙ ap (λ bs. old ++ bs) is_piece.written;
 }
+
+-- The same where the piece serves both readings, and the rest is the slice behind it.
+pub piece_read : (f : Flavor) (lossy : Bool) (bytes piece old new : List ℕ) (n : ℕ) →
+    ((lossy : Bool) → IsPiece f lossy bytes (drop n bytes) piece) → new ≡ old ++ piece →
+    IsReadSoFar f lossy bytes (take (length bytes - n) (drop n bytes)) old new
+piece_read f lossy bytes piece old new n is_piece new_is =
+    rw take_rest (piece_appended f lossy bytes (drop n bytes) piece old new (is_piece lossy) new_is)
 
 -- Bytes that are the encoding of a text are a piece.
 pub piece_of_encoding : (f : Flavor) (lossy : Bool) (bytes text : List ℕ) (n : ℕ) → IsUtf8 text →

@@ -20,10 +20,10 @@ returns-in-Ok c =
     let written = c.in-Ok.ensures in
     let inside = written.fits.0 refl in
     let loaded = length_of_room c.args.buf.now room (omega (arith, c.min-end.ensures)) in
-    form_written text c.args.buf.now _ (2 + c.in-Ok.length) (omega (arith, loaded, inside, c.min-end.ensures))
+    form_written text c.args.buf.now _ _ (omega (arith, loaded, inside, c.min-end.ensures))
     (omega (arith, length_of_form text, loaded, inside, c.min-end.ensures))
-    (form_at_front text c.args.buf.now c.encode_to_slice.new.buf c.copy_from_slice.new.self c.in-Ok.length room
-    (omega arith) (omega (arith, inside, written.written.0)) written.written.0 written.written.1
+    (form_at_front text c.args.buf.now c.encode_to_slice.new.buf c.copy_from_slice.new.self c.in-Ok.length room _
+    (omega arith) (omega arith) (omega (arith, inside, written.written.0)) written.written.0 written.written.1
     (c.copy_from_slice.ensures.after ∙ c.to_be_bytes.ensures
     ∙ count_of c.in-Ok.length (mutf8_len text) written.written.0 (omega (arith, loaded, inside, c.min-end.ensures))))
 

@@ -1,19 +1,7 @@
-use Rattle.std.proofs.Common.{arith, refl}
+use Rattle.std.proofs.Common.{arith}
 use Rattle.simd_cesu8.specs.Internal.{flavor_of}
-use Rattle.simd_cesu8.proofs.WrittenPieces.{nothing_written, more_written}
+use Rattle.simd_cesu8.proofs.WrittenPieces.{more_written}
 use Rattle.simd_cesu8.proofs.internal.decoder.slices.write_windows.Goals as goal
-
-pub loop-windows-init : goal.loop-windows-init
-loop-windows-init c = record {
-  written = nothing_written (flavor_of c.args.flavor) c.args.bytes.now c.args.start c.args.out.now;
-  within = omega arith;
-  first = λ _. refl;
-  less = λ some. absurd (omega arith);
-}
-
-pub write_window-written_end-requires-clause-room : goal.write_window-written_end-requires-clause-room
-write_window-written_end-requires-clause-room c =
-    omega (arith, c.requires.room, c.loop-windows.invariant.written.room, c.loop-windows.invariant.written.len)
 
 pub loop-windows-preserved : goal.loop-windows-preserved
 loop-windows-preserved c =

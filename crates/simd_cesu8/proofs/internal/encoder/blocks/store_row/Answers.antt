@@ -1,3 +1,4 @@
+use Rattle.std.proofs.Common.{arith}
 use Rattle.simd_cesu8.proofs.EncodedRows.{shuffle_ok, stored_row}
 use Rattle.simd_cesu8.proofs.internal.encoder.blocks.store_row.Goals as goal
 
@@ -7,4 +8,4 @@ swizzle-packed c = shuffle_ok c.args.doubled _ c.requires.small (c.requires.rows
 pub returns-clause-bytes : goal.returns-clause-bytes
 returns-clause-bytes c ts long is =
     stored_row c.args.out.now c.args.lanes _ c.args.at c.args.doubled ts c.fits-lanes.0 c.requires.small
-    (c.requires.rows c.args.doubled c.requires.small) c.requires.room long is
+    (c.requires.rows c.args.doubled c.requires.small) c.requires.room long is _ (omega arith)

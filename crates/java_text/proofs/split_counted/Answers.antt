@@ -1,0 +1,13 @@
+use Rattle.std.proofs.Common.{arith}
+use Rattle.std.proofs.lemmas.Grind.{common_steps}
+use Rattle.java_text.proofs.Forms.{form_of_parts, only_form_of_parts}
+use Rattle.java_text.proofs.split_counted.Goals as goal
+
+pub returns-clause-form : goal.returns-clause-form
+returns-clause-form c =
+    form_of_parts c.args.bytes.now c.ok_or.result (λ i. omega (arith, c.type_inv.bytes i)) (grind (arith, common_steps)) (grind (arith, common_steps)) (grind (arith, common_steps))
+
+pub returns-clause-only : goal.returns-clause-only
+returns-clause-only c =
+    only_form_of_parts c.args.bytes.now c.ok_or.result c.one_form.ensures (λ i. omega (arith, c.type_inv.bytes i))
+    (grind (arith, common_steps)) (grind (arith, common_steps)) (grind (arith, common_steps))
