@@ -1,4 +1,4 @@
-use Rattle.std.proofs.Common.{◌∙◌, ◌-◌, ◌+◌, ◌≤◌, length, arith, refl}
+use Rattle.std.proofs.Common.{◌∙◌, ◌-◌, ◌≤◌, length, arith, refl}
 use Rattle.std.specs.Str.{chars}
 use Rattle.std.proofs.lemmas.Bool.{false≢true}
 use Rattle.simd_cesu8.specs.Encoding.{Mutf8, encoding}
