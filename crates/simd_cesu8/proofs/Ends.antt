@@ -3,9 +3,6 @@ use Rattle.std.proofs.Common.{◌≡◌, ℕ, Bool, true, false, IsTrue, ◌||�
 use Rattle.std.specs.List.{Any}
 use Rattle.std.proofs.lemmas.Bool.{false≢true}
 use Rattle.std.proofs.lemmas.List.{take-append-drop, drop-drop, take_all}
-use Rattle.simd_cesu8.specs.Kernels.{AnyIn}
-use Rattle.simd_cesu8.specs.Short.{class_of}
-use Rattle.simd_cesu8.specs.declared.implementation.short.ByteClass.{ByteClass}
 use Rattle.simd_cesu8.proofs.Elements.{any_left, any_right, any_append}
 
 -- P holds of an element where it holds of one from a place on.
@@ -53,8 +50,3 @@ ends_tell P n xs front end fits covers f e = (
       (λ p. inr (e.1 (any_in_last P n n xs fits (omega (arith, covers)) p)))
       (any_append P (take n xs) (drop n xs) (subst (Any P) (sym (take-append-drop n xs)) any)))),
 )
-
--- What tells of a class tells of the one that the code names.
-pub tells_named : {told : Bool} (named class : ByteClass) (bytes : List ℕ) → class ≡ named →
-    (IsTrue told ↔ AnyIn (class_of named) bytes) → IsTrue told ↔ AnyIn (class_of class) bytes
-tells_named {told} named class bytes is tells = subst (λ k. IsTrue told ↔ AnyIn (class_of k) bytes) (sym is) tells

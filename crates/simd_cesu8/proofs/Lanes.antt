@@ -1,11 +1,11 @@
 -- Vectors of bytes, lane by lane.
-use Rattle.std.proofs.Common.{◌≡◌, ℕ, Bool, not, cond, ◌&&◌, ◌||◌, IsTrue, ◌%◌, ◌^◌, ◌≤◌, ◌↔◌, ◌⊎◌, List, [], ◌∷◌, map, length, replicate, true, false, ◌+◌, ◌*◌, eqb, ltb, leb, refl, sym, ap, ◌∙◌, subst, inl, inr, ⊎_elim, arith, bit_and, bit_or, w8, Fits}
+use Rattle.std.proofs.Common.{◌≡◌, ℕ, Bool, not, cond, ◌&&◌, ◌||◌, IsTrue, ◌%◌, ◌^◌, ◌≤◌, ◌↔◌, ◌⊎◌, List, [], ◌∷◌, map, length, replicate, true, false, ◌+◌, ◌*◌, eqb, ltb, leb, refl, sym, ap, ◌∙◌, subst, inl, inr, ⊎_elim, arith, w8}
 use Rattle.std.specs.List.{Any}
-use Rattle.std.proofs.lemmas.Bool.{agree_below, agree_below_at, both_ways, cases_lt, eq-eqb, eqb-false, eqb-true, le-leb, le-ltb, leb-true, lt-ltb, ne_eqb, not-true}
+use Rattle.std.proofs.lemmas.Bool.{both_ways, cases_lt, eq-eqb, eqb-false, eqb-true, le-leb, le-ltb, leb-true, lt-ltb, ne_eqb, not-true}
 use Rattle.std.proofs.lemmas.List.{length-map}
 use Rattle.std.proofs.lemmas.Simd.{mask_l-mod, tops_compared, zip2_splat_left}
 use lib.Lanes.{zip2, sel_l, mask_l, top, Each1}
-use Rattle.simd_cesu8.specs.Class.{is_four, is_null_four, is_null_high}
+use Rattle.simd_cesu8.specs.Class.{is_four, is_null_four}
 use Rattle.simd_cesu8.specs.EncodedPlaces.{is_lead}
 use Rattle.simd_cesu8.specs.Kernels.{AnyIn}
 use Rattle.simd_cesu8.proofs.Elements.{any_nil, any_here, any_there, any_cons}
@@ -158,47 +158,3 @@ pub least_bits : (least n : ℕ) (lanes : List ℕ) → length lanes ≡ n → n
 least_bits least n lanes long small =
     ap (λ ms. mask_l ms % 2 ^ 64) (tops_compared w8 leb (replicate n least) lanes ∙ zip2_splat_left leb least n lanes long)
     ∙ mask_l-mod (map (leb least) lanes) 64 (omega (arith, long, small, length-map lanes (leb least)))
-
--- ---- tests of bytes by vectors
-
--- What a vector makes of bytes one by one, where the highest bit of what it makes is a test of each byte.
-module _ (vector : ℕ → List ℕ → List ℕ) (lane : ℕ → ℕ) (test : ℕ → Bool) (none : vector 0 [] ≡ [])
-    (next : (b : ℕ) (bytes : List ℕ) → vector (length (b ∷ bytes)) (b ∷ bytes) ≡ lane b ∷ vector (length bytes) bytes)
-    (right : agree_below (λ b. top 7 (lane b)) test 256 ≡ true) where
-  tops_are : (bytes : List ℕ) → Each1 (Fits w8) bytes → map (top 7) (vector (length bytes) bytes) ≡ map test bytes
-  tops_are [] h = ap (map (top 7)) none
-  tops_are (b ∷ bytes) h =
-      let this = agree_below_at (λ b. top 7 (lane b)) test 256 b right h.0.fits in
-      ap (map (top 7)) (next b bytes) ∙ (λ i. this i ∷ tops_are bytes h.1 i)
-
-  -- The bits are those of the bytes that pass.
-  bits_are : (n : ℕ) (bytes : List ℕ) → length bytes ≡ n → Each1 (Fits w8) bytes → n ≤ 64 →
-      mask_l (map (top 7) (vector n bytes)) % 2 ^ 64 ≡ mask_l (map test bytes)
-  bits_are n bytes long fits small =
-      subst (λ n. mask_l (map (top 7) (vector n bytes)) % 2 ^ 64 ≡ mask_l (map test bytes)) long
-      (ap (λ ms. mask_l ms % 2 ^ 64) (tops_are bytes fits)
-      ∙ mask_l-mod (map test bytes) 64 (omega (arith, long, small, length-map bytes test)))
-
-abbrev pub four_vector : ℕ → List ℕ → List ℕ
-four_vector n bytes = zip2 equal (zip2 bit_and bytes (replicate n 0xF8)) (replicate n 0xF0)
-
--- A comparison of the upper five bits with those of F0 tells whether it is F0 to F7.
-pub four_bits : (n : ℕ) (bytes : List ℕ) → length bytes ≡ n → Each1 (Fits w8) bytes → n ≤ 64 →
-    mask_l (map (top 7) (four_vector n bytes)) % 2 ^ 64 ≡ mask_l (map is_four bytes)
-four_bits = bits_are four_vector (λ b. equal (bit_and b 0xF8) 0xF0) is_four refl (λ b bytes. refl) refl
-
-abbrev pub null_four_vector : ℕ → List ℕ → List ℕ
-null_four_vector n bytes = zip2 bit_or (four_vector n bytes) (zip2 equal bytes (replicate n 0))
-
--- That and one with 00 tell whether it is 00, or F0 to F7.
-pub null_four_bits : (n : ℕ) (bytes : List ℕ) → length bytes ≡ n → Each1 (Fits w8) bytes → n ≤ 64 →
-    mask_l (map (top 7) (null_four_vector n bytes)) % 2 ^ 64 ≡ mask_l (map is_null_four bytes)
-null_four_bits = bits_are null_four_vector (λ b. bit_or (equal (bit_and b 0xF8) 0xF0) (equal b 0)) is_null_four refl (λ b bytes. refl) refl
-
-abbrev pub null_high_vector : ℕ → List ℕ → List ℕ
-null_high_vector n bytes = zip2 bit_or (zip2 (λ a b. ones (leb a b)) (replicate n 0x80) bytes) (zip2 equal bytes (replicate n 0))
-
--- Comparisons with 80 and with 00 tell whether it is 00, or 80 or more.
-pub null_high_bits : (n : ℕ) (bytes : List ℕ) → length bytes ≡ n → Each1 (Fits w8) bytes → n ≤ 64 →
-    mask_l (map (top 7) (null_high_vector n bytes)) % 2 ^ 64 ≡ mask_l (map is_null_high bytes)
-null_high_bits = bits_are null_high_vector (λ b. bit_or (ones (leb 0x80 b)) (equal b 0)) is_null_high refl (λ b bytes. refl) refl

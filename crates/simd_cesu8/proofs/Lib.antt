@@ -29,6 +29,7 @@ pub mod Words
 pub mod Walks
 pub mod Windows
 pub mod Lanes
+pub mod Classes
 pub mod Chunks
 pub mod Decoding
 pub mod Joining

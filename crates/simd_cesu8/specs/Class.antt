@@ -1,6 +1,7 @@
 -- The classes of bytes that decide whether UTF-8 has to change.
-use Rattle.std.specs.Prelude.{ℕ, Bool, IsTrue, nat_le, ◌&&◌, ◌||◌, ◌==◌, List, Any, IsUtf8}
+use Rattle.std.specs.Prelude.{ℕ, ◌+◌, Bool, IsTrue, nat_le, ◌&&◌, ◌||◌, ◌==◌, if◌then◌else◌, List, Any, IsUtf8}
 use Rattle.simd_cesu8.specs.Encoding.{Flavor, Cesu8, Mutf8}
+use Rattle.simd_cesu8.specs.EncodedPlaces.{is_null}
 
 -- F0 to F7 (hexadecimal). In UTF-8, F0 to F4 lead four bytes, and F5 to F7 lead nothing.
 abbrev pub is_four : ℕ → Bool
@@ -32,3 +33,8 @@ IsChangedByte Mutf8 = IsNullFour
 -- UTF-8 without a byte of the flavor's class.
 abbrev pub IsUnchangedUtf8 : Flavor → List ℕ → Type 0
 IsUnchangedUtf8 f bytes = IsUtf8 bytes × (¬ (Any (IsChangedByte f) bytes))
+
+-- How many bytes an encoding has more than the UTF-8, for one byte of this: two for F0 to F7, which
+-- leads four bytes that become six, and in MUTF-8 one for 00.
+abbrev pub growth_of : Flavor → ℕ → ℕ
+growth_of f b = (if is_null f b then 1 else 0) + (if is_four b then 2 else 0)

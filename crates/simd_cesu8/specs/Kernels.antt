@@ -1,5 +1,5 @@
 -- What the parts of the kernels require and promise, for every class of bytes.
-use Rattle.std.specs.Prelude.{ℕ, Bool, IsTrue, ◌<◌, ◌^◌, ◌↔◌, List, length, Any}
+use Rattle.std.specs.Prelude.{ℕ, ℤ, pos, negsuc, Bool, IsTrue, if◌then◌else◌, ◌<◌, ◌^◌, ◌↔◌, List, length, Any}
 use Rattle.std.specs.Int.{to_le_bytes, w64}
 use Rattle.std.specs.Borrow.{Bor}
 use Rattle.std.specs.Fn.{Shared}
@@ -7,6 +7,10 @@ use Rattle.std.specs.Fn.{Shared}
 -- Some byte is in a class.
 abbrev pub AnyIn : (ℕ → Bool) → List ℕ → Type 0
 AnyIn class bytes = Any (λ b. IsTrue (class b)) bytes
+
+-- A lane of a mask: all ones if a test holds, and otherwise zeros.
+abbrev pub lane : Bool → ℤ
+lane t = if t then negsuc 0 else pos 0
 
 -- A test may be called on every slice of these lengths.
 abbrev pub MayTest : (ℕ → Type 0) → {F : Type 0} → Shared F (Bor (List ℕ) × Unit {0}) Bool → F →

@@ -14,7 +14,6 @@ pub mod Counted
 pub mod Fault
 pub mod Slices
 pub mod Internal
-pub mod Short
 pub mod Joining
 pub mod Pieces
 pub mod Order

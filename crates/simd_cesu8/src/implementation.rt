@@ -1,7 +1,9 @@
 //! The kernels: whether bytes have one that encoding changes. Their names may change.
 
+pub(crate) mod class;
 pub(crate) mod count;
 pub mod fallback;
+pub(crate) mod groups;
 pub(crate) mod short;
 pub mod simd;
 pub mod word;

@@ -19,7 +19,8 @@ mod window;
 mod writers;
 
 use crate::implementation::active;
-use crate::implementation::short::{ByteClass, SHORT, any_in_short};
+use crate::implementation::class::{Four, NullFour};
+use crate::implementation::short::{SHORT, any_in_short};
 pub use ascii::{ascii_text, is_short_ascii, is_short_unchanged_ascii};
 pub use continuation::{character_start, is_continuation};
 pub use decoder::{
@@ -67,7 +68,7 @@ fn short_contains_changed(flavor: Flavor, bytes: &[u8]) -> bool
     ensures { IsTrue result ↔ Any (IsChangedByte (flavor_of flavor)) bytes.now }
 {
     match flavor {
-        Flavor::Cesu8 => any_in_short(ByteClass::Four, bytes),
-        Flavor::Mutf8 => any_in_short(ByteClass::NullFour, bytes),
+        Flavor::Cesu8 => any_in_short::<Four>(bytes),
+        Flavor::Mutf8 => any_in_short::<NullFour>(bytes),
     }
 }

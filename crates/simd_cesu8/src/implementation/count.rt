@@ -1,65 +1,74 @@
-//! Counts the bytes of a class, 64 at a time.
+//! By how much an encoding is longer than its UTF-8: counts bytes of two classes, 64 at a time.
 //!
 //! In 1,024 bytes each lane of a vector counts its own, and the lanes are summed once. In the bytes
 //! after these, 64 at a time, the bits of a mask are counted. The last vector overlaps the one
 //! before it, and bits that were counted there are shifted out.
 
-ghost use Rattle.std.specs.Prelude.{◌≡◌, ◌==◌, ◌<◌, ◌≤◌, ◌+◌, ◌-◌, ◌*◌, if◌then◌else◌, length, drop, map, count_by};
-ghost use Rattle.std.specs.Simd.Lanes.{mask_l, sum_l};
-ghost use Rattle.simd_cesu8.specs.Class.{is_four};
+ghost use Rattle.std.specs.Prelude.{◌≡◌, ◌<◌, ◌≤◌, ◌+◌, ◌-◌, ◌*◌, refl, length, drop, count_by, sum_by};
+ghost use Rattle.std.specs.Simd.Lanes.{sum_l};
+ghost use Rattle.simd_cesu8.specs.Encoding.{Flavor, Cesu8, Mutf8};
+ghost use Rattle.simd_cesu8.specs.EncodedPlaces.{is_null};
+ghost use Rattle.simd_cesu8.specs.Class.{is_four, growth_of};
 
+use super::class::{Four, InAllVectors, InVectors, NoByte, Null, bits};
 use std::simd::prelude::*;
 
-/// How many bytes are 00, and how many are F0 to F7 (hexadecimal).
-#[derive(Drop)]
-pub struct Counts {
-    pub nulls: usize,
-    pub fours: usize,
+/// The bytes 00 that an encoding writes as two: all in MUTF-8, and none in CESU-8.
+pub trait DoubledNulls: InAllVectors {
+    ghost flavor: { Flavor };
+
+    ghost are_nulls: { Self.class ≡ is_null flavor };
 }
 
-/// Counts in one pass. If it is inlined, the compiler removes a count that is not used.
+impl DoubledNulls for NoByte {
+    ghost flavor = { Cesu8 };
+
+    ghost are_nulls = { refl };
+}
+
+impl DoubledNulls for Null {
+    ghost flavor = { Mutf8 };
+
+    ghost are_nulls = { refl };
+}
+
+/// Returns how many bytes more than the UTF-8 an encoding has.
 #[inline(always)]
-pub fn count(value: &[u8]) -> Counts
-    ensures nulls { result.nulls ≡ count_by (λ byte. byte == 0) value.now }
-    ensures fours { result.fours ≡ count_by is_four value.now }
+pub fn growth<C: DoubledNulls>(value: &[u8]) -> usize
+    ensures { result ≡ sum_by (growth_of C.flavor) value.now }
 {
     let mut rest = value;
-    let mut nulls = 0;
-    let mut fours = 0;
+    let mut growth = 0;
     while let Some((block, after)) = rest.split_first_chunk::<BLOCK>() {
-        let counts = count_block(block);
-        nulls += counts.nulls;
-        fours += counts.fours;
+        growth += block_growth::<C>(block);
         rest = after;
     }
-    let counts = count_rest(rest);
-    Counts {
-        nulls: nulls + counts.nulls,
-        fours: fours + counts.fours,
-    }
+    growth + rest_growth::<C>(rest)
 }
 
-/// How many bytes are counted in lanes: 16 vectors.
-const BLOCK: usize = 1024;
+/// How many bytes have the lanes of a vector,
+const LANES: usize = 64;
 
-/// Each lane counts its own bytes.
+/// how many vectors are counted in lanes,
+const VECTORS: usize = 16;
+
+/// and how many bytes these have.
+const BLOCK: usize = VECTORS * LANES;
+
+/// The same for the bytes of a block. Each lane counts its own.
 #[inline(always)]
-fn count_block(block: &[u8]) -> Counts
+fn block_growth<C: DoubledNulls>(block: &[u8]) -> usize
     requires { length block.now ≡ BLOCK }
-    ensures nulls { result.nulls ≡ count_by (λ byte. byte == 0) block.now }
-    ensures fours { result.fours ≡ count_by is_four block.now }
+    ensures { result ≡ sum_by (growth_of C.flavor) block.now }
 {
     let mut nulls = u8x64::splat(0);
     let mut fours = u8x64::splat(0);
-    for i in 0..16 {
-        let lanes = u8x64::from_slice(&block[64 * i..]);
-        nulls = nulls.strict_add(null_ones(lanes));
-        fours = fours.strict_add(four_ones(lanes));
+    for i in 0..VECTORS {
+        let lanes = u8x64::from_slice(&block[LANES * i..]);
+        nulls = nulls.strict_add(C::marks(lanes).select(u8x64::splat(1), u8x64::splat(0)));
+        fours = fours.strict_add(Four::marks(lanes).select(u8x64::splat(1), u8x64::splat(0)));
     }
-    Counts {
-        nulls: lane_sum(nulls),
-        fours: lane_sum(fours),
-    }
+    lane_sum(nulls) + 2 * lane_sum(fours)
 }
 
 /// Returns the sum of the lanes.
@@ -70,148 +79,92 @@ fn lane_sum(lanes: u8x64) -> usize
     lanes.dot4(u8x64::splat(1)).strict_reduce_sum() as usize
 }
 
-/// Counts the bits of masks.
 #[inline(always)]
-fn count_rest(value: &[u8]) -> Counts
-    ensures nulls { result.nulls ≡ count_by (λ byte. byte == 0) value.now }
-    ensures fours { result.fours ≡ count_by is_four value.now }
+fn rest_growth<C: DoubledNulls>(value: &[u8]) -> usize
+    ensures { result ≡ sum_by (growth_of C.flavor) value.now }
 {
-    if value.len() < 64 {
-        return count_short(value);
+    if value.len() < LANES {
+        return short_growth::<C>(value);
     }
-    let whole = value.len() / 64;
-    let mut nulls = 0;
-    let mut fours = 0;
+    let whole = value.len() / LANES;
+    let mut growth = 0;
     for i in 0..whole {
-        let counts = count_lanes(u8x64::from_slice(&value[64 * i..]), 0);
-        nulls += counts.nulls;
-        fours += counts.fours;
+        growth += lanes_growth::<C, LANES>(u8x64::from_slice(&value[LANES * i..]), 0);
     }
-    let left = value.len() - 64 * whole;
+    let left = value.len() - LANES * whole;
     if left == 0 {
-        return Counts { nulls, fours };
+        return growth;
     }
-    let counts = count_end::<64>(value, left);
-    Counts {
-        nulls: nulls + counts.nulls,
-        fours: fours + counts.fours,
-    }
+    growth + end_growth::<C, LANES>(value, left)
 }
 
-/// Counts fewer than 64 bytes: by two vectors of the greatest width that fits, which may overlap.
+/// The same for fewer than 64 bytes: by two vectors of the greatest width that fits, which may
+/// overlap.
 #[inline(always)]
-fn count_short(value: &[u8]) -> Counts
-    requires { length value.now < 64 }
-    ensures nulls { result.nulls ≡ count_by (λ byte. byte == 0) value.now }
-    ensures fours { result.fours ≡ count_by is_four value.now }
+fn short_growth<C: DoubledNulls>(value: &[u8]) -> usize
+    requires { length value.now < LANES }
+    ensures { result ≡ sum_by (growth_of C.flavor) value.now }
 {
     if value.len() >= 32 {
-        return count_pair::<32>(value);
+        return pair_growth::<C, 32>(value);
     }
     if value.len() >= 16 {
-        return count_pair::<16>(value);
+        return pair_growth::<C, 16>(value);
     }
     if value.len() >= 8 {
-        return count_pair::<8>(value);
+        return pair_growth::<C, 8>(value);
     }
     if value.len() >= 4 {
-        return count_pair::<4>(value);
+        return pair_growth::<C, 4>(value);
     }
-    count_each(value)
-}
-
-/// Counts byte by byte.
-#[inline(always)]
-fn count_each(value: &[u8]) -> Counts
-    ensures nulls { result.nulls ≡ count_by (λ byte. byte == 0) value.now }
-    ensures fours { result.fours ≡ count_by is_four value.now }
-{
-    let mut nulls = 0;
-    let mut fours = 0;
-    for byte in value {
-        nulls += usize::from(*byte == 0);
-        fours += usize::from(*byte & 0xF8 == 0xF0);
+    if value.len() >= 2 {
+        return pair_growth::<C, 2>(value);
     }
-    Counts { nulls, fours }
+    if value.is_empty() {
+        return 0;
+    }
+    pair_growth::<C, 1>(value)
 }
 
 /// Counts in the first `N` bytes, and the others in the last `N`.
 #[inline(always)]
-fn count_pair<const N: usize>(value: &[u8]) -> Counts
+fn pair_growth<C: DoubledNulls + InVectors<N>, const N: usize>(value: &[u8]) -> usize
     requires lanes { (0 < N) × (N ≤ 32) }
     requires long { (N ≤ length value.now) × (length value.now ≤ 2 * N) }
-    ensures nulls { result.nulls ≡ count_by (λ byte. byte == 0) value.now }
-    ensures fours { result.fours ≡ count_by is_four value.now }
+    ensures { result ≡ sum_by (growth_of C.flavor) value.now }
 {
-    let first = count_lanes(Simd::<u8, N>::from_slice(value), 0);
-    let others = count_end::<N>(value, value.len() - N);
-    Counts {
-        nulls: first.nulls + others.nulls,
-        fours: first.fours + others.fours,
-    }
+    let first = lanes_growth::<C, N>(Simd::from_slice(value), 0);
+    first + end_growth::<C, N>(value, value.len() - N)
 }
 
 /// Counts in the last `len` bytes, by a vector of the last `N`.
 #[inline(always)]
-fn count_end<const N: usize>(value: &[u8], len: usize) -> Counts
-    requires lanes { N ≤ 64 }
-    requires long { (len ≤ N) × (N ≤ length value.now) × (N < 64 + len) }
-    ensures nulls { result.nulls
-        ≡ count_by (λ byte. byte == 0) (drop (length value.now - len) value.now) }
-    ensures fours { result.fours ≡ count_by is_four (drop (length value.now - len) value.now) }
+fn end_growth<C: DoubledNulls + InVectors<N>, const N: usize>(value: &[u8], len: usize) -> usize
+    requires lanes { N ≤ LANES }
+    requires long { (len ≤ N) × (N ≤ length value.now) × (N < LANES + len) }
+    ensures { result ≡ sum_by (growth_of C.flavor) (drop (length value.now - len) value.now) }
 {
-    let lanes = Simd::<u8, N>::from_slice(&value[value.len() - N..]);
-    count_lanes(lanes, N - len)
+    let lanes = Simd::from_slice(&value[value.len() - N..]);
+    lanes_growth::<C, N>(lanes, N - len)
 }
 
-/// Counts the lanes after the first `skipped`.
+/// Counts in the lanes after the first `skipped`.
 #[inline(always)]
-fn count_lanes<const N: usize>(lanes: Simd<u8, N>, skipped: usize) -> Counts
-    requires { (N ≤ 64) × (skipped ≤ N) × (skipped < 64) }
-    ensures nulls { result.nulls ≡ count_by (λ byte. byte == 0) (drop skipped lanes.entry) }
-    ensures fours { result.fours ≡ count_by is_four (drop skipped lanes.entry) }
+fn lanes_growth<C: DoubledNulls + InVectors<N>, const N: usize>(
+    lanes: Simd<u8, N>,
+    skipped: usize,
+) -> usize
+    requires { (N ≤ LANES) × (skipped ≤ N) × (skipped < LANES) }
+    ensures { result ≡ sum_by (growth_of C.flavor) (drop skipped lanes.entry) }
 {
-    Counts {
-        nulls: (null_bits(lanes) >> skipped).count_ones() as usize,
-        fours: (four_bits(lanes) >> skipped).count_ones() as usize,
-    }
+    count_lanes::<C, N>(lanes, skipped) + 2 * count_lanes::<Four, N>(lanes, skipped)
 }
 
-/// A bit for each lane that is 00.
+/// Counts the lanes of a class after the first `skipped`.
 #[inline(always)]
-fn null_bits<const N: usize>(lanes: Simd<u8, N>) -> u64
-    requires { N ≤ 64 }
-    ensures { result ≡ mask_l (map (λ byte. byte == 0) lanes.entry) }
+fn count_lanes<C: InVectors<N>, const N: usize>(lanes: Simd<u8, N>, skipped: usize) -> usize
+    requires { (N ≤ LANES) × (skipped ≤ N) × (skipped < LANES) }
+    ensures { result ≡ count_by C.class (drop skipped lanes.entry) }
 {
-    lanes.simd_eq(Simd::splat(0)).to_bitmask()
-}
-
-/// A bit for each lane that is F0 to F7 (hexadecimal).
-#[inline(always)]
-fn four_bits<const N: usize>(lanes: Simd<u8, N>) -> u64
-    requires { N ≤ 64 }
-    ensures { result ≡ mask_l (map is_four lanes.entry) }
-{
-    (lanes & Simd::splat(0xF8))
-        .simd_eq(Simd::splat(0xF0))
-        .to_bitmask()
-}
-
-/// A one for each lane that is 00.
-#[inline(always)]
-fn null_ones(lanes: u8x64) -> u8x64
-    ensures { result ≡ map (λ byte. if byte == 0 then 1 else 0) lanes }
-{
-    let null = lanes.simd_eq(u8x64::splat(0));
-    null.select(u8x64::splat(1), u8x64::splat(0))
-}
-
-/// A one for each lane that is F0 to F7 (hexadecimal): those whose upper five bits are those of F0.
-#[inline(always)]
-fn four_ones(lanes: u8x64) -> u8x64
-    ensures { result ≡ map (λ byte. if is_four byte then 1 else 0) lanes }
-{
-    let upper = lanes & u8x64::splat(0xF8);
-    let four = upper.simd_eq(u8x64::splat(0xF0));
-    four.select(u8x64::splat(1), u8x64::splat(0))
+    (bits::<C, N>(lanes) >> skipped).count_ones() as usize
 }

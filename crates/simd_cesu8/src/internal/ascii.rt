@@ -9,14 +9,15 @@ ghost use Rattle.simd_cesu8.specs.Class.{IsChangedByte};
 ghost use Rattle.simd_cesu8.specs.Internal.{flavor_of};
 
 use super::Flavor;
-use crate::implementation::short::{ByteClass, SHORT, any_in_short};
+use crate::implementation::class::{High, NullHigh};
+use crate::implementation::short::{SHORT, any_in_short};
 
 /// Returns whether the bytes are few and all ASCII.
 #[inline(always)]
 pub fn is_short_ascii(bytes: &[u8]) -> bool
     ensures { IsTrue result → IsAscii bytes.now }
 {
-    bytes.len() <= SHORT && !any_in_short(ByteClass::High, bytes)
+    bytes.len() <= SHORT && !any_in_short::<High>(bytes)
 }
 
 /// Returns whether the bytes are few and all ASCII that does not change.
@@ -27,7 +28,7 @@ pub fn is_short_unchanged_ascii(flavor: Flavor, bytes: &[u8]) -> bool
 {
     match flavor {
         Flavor::Cesu8 => is_short_ascii(bytes),
-        Flavor::Mutf8 => bytes.len() <= SHORT && !any_in_short(ByteClass::NullHigh, bytes),
+        Flavor::Mutf8 => bytes.len() <= SHORT && !any_in_short::<NullHigh>(bytes),
     }
 }
 

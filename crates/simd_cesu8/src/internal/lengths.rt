@@ -6,7 +6,8 @@ ghost use Rattle.simd_cesu8.specs.Encoding.{encoding};
 ghost use Rattle.simd_cesu8.specs.Internal.{flavor_of};
 
 use super::Flavor;
-use crate::implementation::count::count;
+use crate::implementation::class::{NoByte, Null};
+use crate::implementation::count::growth;
 
 /// Returns the length of a text's encoding, in bytes. A character of four bytes becomes six, and in
 /// MUTF-8 U+0000 becomes two.
@@ -15,10 +16,7 @@ pub fn encoded_len(flavor: Flavor, text: &str) -> usize
 {
     let bytes = text.as_bytes();
     match flavor {
-        Flavor::Cesu8 => bytes.len() + 2 * count(bytes).fours,
-        Flavor::Mutf8 => {
-            let counts = count(bytes);
-            bytes.len() + counts.nulls + 2 * counts.fours
-        }
+        Flavor::Cesu8 => bytes.len() + growth::<NoByte>(bytes),
+        Flavor::Mutf8 => bytes.len() + growth::<Null>(bytes),
     }
 }

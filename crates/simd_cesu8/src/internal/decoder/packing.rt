@@ -92,10 +92,11 @@ fn store_eight(lanes: u8x16, gone: usize, out: &mut [u8], at: usize) -> usize
 
 /// Returns a bit for each lane whose highest bit is set.
 #[inline(always)]
-pub fn highest_bits(lanes: u8x32) -> u64
-    ensures { result ≡ mask_l (map is_high lanes) }
+pub fn highest_bits<const N: usize>(lanes: Simd<u8, N>) -> u64
+    requires { N ≤ 64 }
+    ensures { result ≡ mask_l (map is_high lanes.entry) }
 {
-    lanes.simd_ge(u8x32::splat(0x80)).to_bitmask()
+    lanes.simd_ge(Simd::splat(0x80)).to_bitmask()
 }
 
 /// The replacement character, U+FFFD, twice, each in four lanes.
@@ -128,14 +129,14 @@ fn store_half(
         replacements,
         [8, 9, 10, 11, 16, 17, 18, 19, 12, 13, 14, 15, 20, 21, 22, 23],
     );
-    let front = sets(gone.shuffle::<16>(
+    let front = highest_bits(gone.shuffle::<16>(
         damaged,
         [0, 1, 2, 3, 16, 17, 18, 19, 4, 5, 6, 7, 20, 21, 22, 23],
-    ));
-    let back = sets(gone.shuffle::<16>(
+    )) as usize;
+    let back = highest_bits(gone.shuffle::<16>(
         damaged,
         [8, 9, 10, 11, 24, 25, 26, 27, 12, 13, 14, 15, 28, 29, 30, 31],
-    ));
+    )) as usize;
     let at = store_four(first, front & 0xFF, rows, out, at);
     let at = store_four(second_of(first), front >> 8 & 0xFF, rows, out, at);
     let at = store_four(third, back & 0xFF, rows, out, at);
@@ -148,14 +149,6 @@ fn second_of(lanes: u8x16) -> u8x16
     ensures { result ≡ chunk 8 8 lanes ++ chunk 8 8 lanes }
 {
     lanes.swizzle::<16>([8, 9, 10, 11, 12, 13, 14, 15, 8, 9, 10, 11, 12, 13, 14, 15])
-}
-
-/// Returns a bit for each lane whose highest bit is set.
-#[inline(always)]
-fn sets(lanes: u8x16) -> usize
-    ensures { result ≡ mask_l (map is_high lanes) }
-{
-    lanes.simd_ge(u8x16::splat(0x80)).to_bitmask() as usize
 }
 
 /// Stores what becomes of four bytes, which the replacement character follows in the lanes, and

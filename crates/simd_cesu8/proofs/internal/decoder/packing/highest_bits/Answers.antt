@@ -1,6 +1,5 @@
-use Rattle.std.proofs.Common.{arith}
 use Rattle.simd_cesu8.proofs.Lanes.{least_bits}
 use Rattle.simd_cesu8.proofs.internal.decoder.packing.highest_bits.Goals as goal
 
 pub returns : goal.returns
-returns c = least_bits 0x80 32 c.args.lanes c.fits-lanes.0 (omega arith)
+returns g c = least_bits 0x80 g.row.N c.args.lanes c.fits-lanes.0 c.requires
