@@ -12,6 +12,7 @@ pub mod DecodedBytes
 pub mod WindowPlaces
 pub mod PlaceBorders
 pub mod DecodedText
+pub mod Weights
 pub mod Savings
 pub mod Damage
 pub mod DecodedPieces
@@ -70,6 +71,6 @@ pub mod DecodedBlocks
 pub mod StartLanes
 pub mod DecodedRows
 pub mod DecodedRowsOfEight
-pub mod SavedLanes
-pub mod SavedRest
+pub mod WeightLanes
+pub mod WeightRest
 pub mod DecodedWindows

@@ -1,41 +1,24 @@
 -- The length of the lossy reading, by what each place saves of three bytes.
-use Rattle.std.proofs.Common.{◌≡◌, ℕ, ◌+◌, ◌*◌, ◌<◌, ◌⊎◌, List, [], ◌∷◌, ◌++◌, refl, sym, ap, ◌∙◌, inl, inr, arith, length, length-append, zero-add, add-zero, subst, get_or, drop, suc}
-use Rattle.std.proofs.lemmas.Bool.{ne_eqb, cases_eq}
+use Rattle.std.proofs.Common.{◌≡◌, ℕ, ◌+◌, ◌*◌, ◌^◌, ◌-◌, ◌<◌, ◌≤◌, ◌⊎◌, ⊎_elim, List, [], ◌∷◌, ◌++◌, refl, ap, ◌∙◌, inl, inr, arith, length, length-append, Result, Ok, Err}
+use Rattle.std.specs.Option.{IfSome, IfNone}
+use Rattle.std.specs.Result.{OkIff, result_ok}
+use Rattle.std.proofs.lemmas.Bool.{ne_eqb, cases_eq, cases_lt}
 use Rattle.simd_cesu8.specs.Text.{IsScalarValue, utf8_of, utf8}
 use Rattle.simd_cesu8.specs.Encoding.{Flavor, Cesu8, Mutf8, encoding}
-use Rattle.simd_cesu8.specs.Reading.{NoneBegins, width, reading}
+use Rattle.simd_cesu8.specs.Reading.{width, reading, lossy_length}
 use Rattle.simd_cesu8.specs.Cutting.{Piece, Character, Replaced, ArePieces, bytes_of, text_of, IsGreedy}
-use Rattle.simd_cesu8.specs.DecodedPlaces.{front_width, saved, saved_between, all_saved}
+use Rattle.simd_cesu8.specs.DecodedPlaces.{saved, total_weight}
 use Rattle.simd_cesu8.proofs.Shapes.{Shape, one, two, three, pair, shape, utf8_of_one, utf8_of_two, utf8_of_three, utf8_of_pair}
 use Rattle.simd_cesu8.proofs.Forms.{encoding_one, encoding_two, encoding_three, encoding_pair, short_form_null, short_form_other}
 use Rattle.simd_cesu8.proofs.Decoding.{length_utf8_replaced}
-use Rattle.simd_cesu8.proofs.FrontWidths.{begins_encoded, width_of_front, width_of_none, width_inside}
-use Rattle.simd_cesu8.proofs.WindowPlaces.{Follows, follows_later, width_following}
+use Rattle.simd_cesu8.proofs.Weights.{first_weighs, replaced_weighs}
 use Rattle.simd_cesu8.proofs.Cuttings.{greedy_cutting}
 use Rattle.simd_cesu8.proofs.Greedy.{places}
-
--- places where none begins save nothing
-free : (f : Flavor) (front rest : List ℕ) → ((j : ℕ) → j < length front → front_width f (drop j (front ++ rest)) ≡ 0) →
-    all_saved f (front ++ rest) ≡ all_saved f rest
-unfolding all_saved
-free f [] rest none = refl
-free f (b ∷ front) rest none =
-    rw (none 0 (omega arith)) (zero-add (all_saved f (front ++ rest)) ∙ free f front rest (λ j small. none (suc j) (omega arith)))
-
--- so a character saves what its first place does
-first_saves : (f : Flavor) (c b : ℕ) (front rest : List ℕ) → IsScalarValue c → encoding f (c ∷ []) ≡ b ∷ front →
-    all_saved f (encoding f (c ∷ []) ++ rest) ≡ saved (length (b ∷ front)) b + all_saved f rest
-unfolding all_saved
-first_saves f c b front rest scalar same =
-    let bytes = b ∷ front ++ rest in
-    let begins = begins_encoded f c (b ∷ front) rest scalar same in
-    let inside = free f front rest (λ j small. width_inside f bytes c (suc j) rest begins (omega arith) (omega (arith, ap length same))) in
-    rw (same, width_of_front f bytes c rest begins, ap length same) (ap (λ n. saved (length (b ∷ front)) b + n) inside)
 
 -- what a character saves, and its UTF-8 and three times its bytes
 record Saves (f : Flavor) (c : ℕ) (rest : List ℕ) : Type 0 where
   pub some : ℕ
-  pub saves : all_saved f (encoding f (c ∷ []) ++ rest) ≡ some + all_saved f rest
+  pub saves : total_weight saved f (encoding f (c ∷ []) ++ rest) ≡ some + total_weight saved f rest
   pub fits : length (utf8_of c) + some ≡ 3 * width f c
 
 -- one whose UTF-8 has n bytes
@@ -43,7 +26,7 @@ by_lengths : (f : Flavor) (c b n : ℕ) (front rest : List ℕ) → IsScalarValu
     length (utf8_of c) ≡ n → n + saved (length (b ∷ front)) b ≡ 3 * length (b ∷ front) → Saves f c rest
 by_lengths f c b n front rest scalar same in_utf8 fits = record {
   some = saved (length (b ∷ front)) b;
-  saves = first_saves f c b front rest scalar same;
+  saves = first_weighs saved (λ b. refl) f c b front rest scalar same;
   fits = rw (in_utf8, ap length same) fits;
 }
 
@@ -66,13 +49,9 @@ character_saves f c rest scalar (pair w x y z digits) =
     by_lengths f c 0xED 4 ((0xA0 + w) ∷ (0x80 + x) ∷ 0xED ∷ (0xB0 + y) ∷ (0x80 + z) ∷ []) rest scalar
     (encoding_pair f c w x y z digits) (ap length (utf8_of_pair c w x y z digits)) refl
 
-replaced_saves : (f : Flavor) (b : ℕ) (rest : List ℕ) → NoneBegins f (b ∷ rest) → all_saved f (b ∷ rest) ≡ all_saved f rest
-unfolding all_saved
-replaced_saves f b rest none_begins = rw (width_of_none f (b ∷ rest) none_begins) (zero-add (all_saved f rest))
-
 pieces_save : (f : Flavor) (pieces : List Piece) → ArePieces pieces → IsGreedy f pieces →
-    length (utf8 (text_of pieces)) + all_saved f (bytes_of f pieces) ≡ 3 * length (bytes_of f pieces)
-unfolding all_saved
+    length (utf8 (text_of pieces)) + total_weight saved f (bytes_of f pieces) ≡ 3 * length (bytes_of f pieces)
+unfolding total_weight
 pieces_save f [] are_pieces is_greedy = refl
 pieces_save f (Character c ∷ pieces) are_pieces is_greedy =
     let first = character_saves f c (bytes_of f pieces) are_pieces.0 (shape c are_pieces.0) in
@@ -87,30 +66,26 @@ pieces_save f (Character c ∷ pieces) are_pieces is_greedy =
 pieces_save f (Replaced b ∷ pieces) are_pieces is_greedy =
     omega (
       arith,
-      replaced_saves f b (bytes_of f pieces) is_greedy.0,
+      replaced_weighs saved (λ b. refl) f b (bytes_of f pieces) is_greedy.0,
       pieces_save f pieces are_pieces.1 is_greedy.1,
       length_utf8_replaced (text_of pieces),
     )
 
--- The length of the lossy reading is three times the bytes, less what the places save.
-pub length_by_savings : (f : Flavor) (bytes : List ℕ) → length (utf8 (reading f bytes)) + all_saved f bytes ≡ 3 * length bytes
-length_by_savings f bytes =
+-- The lossy length is three times the bytes, less what all places save,
+pub lossy_length_by_savings : (f : Flavor) (bytes : List ℕ) → lossy_length f bytes + total_weight saved f bytes ≡ 3 * length bytes
+unfolding lossy_length
+lossy_length_by_savings f bytes =
     let cutting = greedy_cutting f bytes in
     omega (
       arith,
       pieces_save f cutting.pieces cutting.cuts.0 cutting.greedy,
       ap length cutting.cuts.1,
-      ap (all_saved f) cutting.cuts.1,
+      ap (total_weight saved f) cutting.cuts.1,
       ap (λ text. length (utf8 text)) (places f bytes cutting.pieces cutting.cuts cutting.greedy),
     )
 
--- What all places of bytes save is what they save in a window.
-pub all_between : (f : Flavor) (window bytes : List ℕ) (i : ℕ) → Follows window bytes i → saved_between f window i (length bytes) ≡ all_saved f bytes
-unfolding saved_between all_saved
-all_between f window [] i follows = refl
-all_between f window (b ∷ bytes) i follows =
-    let width = width_following f window (b ∷ bytes) i follows (omega arith) in
-    let first : get_or window i 0 ≡ b = ap (λ p. get_or window p 0) (sym (add-zero i)) ∙ follows 0 in
-    let place : 1 + i ≡ i + 1 = omega arith in
-    let rest = all_between f window bytes (i + 1) (subst (Follows window bytes) place (follows_later window (b ∷ bytes) i 1 follows)) in
-    (λ k. saved (width k) (first k) + rest k)
+-- and is given where it fits.
+pub length_given : {E : Type 0} (r : Result ℕ E) (n len : ℕ) → OkIff r (n < 2 ^ 64) n → n ≡ len →
+    IfSome (result_ok r) (λ m. m ≡ len) × IfNone (result_ok r) (2 ^ 64 - 1 < len)
+length_given (Ok m) n len given same = (given.1 ∙ same, tt)
+length_given (Err e) n len given same = (tt, ⊎_elim (λ fits. absurd (given fits)) (λ (past : 2 ^ 64 ≤ n). omega arith) (cases_lt n (2 ^ 64)))

@@ -1,8 +1,8 @@
 -- The lanes of the decoder's vectors.
-use Rattle.std.specs.Prelude.{◌≡◌, ℕ, zero, suc, ◌+◌, ◌*◌, ◌/◌, ◌%◌, ◌-◌, ◌<◌, ◌&&◌, ◌||◌, ◌==◌, nat_le, nat_lt, if◌then◌else◌, Bool, List, [], ◌∷◌, ◌++◌, map, length, slice_index, slice_index_or, replicate}
+use Rattle.std.specs.Prelude.{◌≡◌, ℕ, zero, suc, ◌+◌, ◌*◌, ◌/◌, ◌%◌, ◌-◌, ◌<◌, ◌&&◌, ◌||◌, ◌==◌, nat_le, nat_lt, if◌then◌else◌, Bool, List, [], ◌∷◌, ◌++◌, map, length, slice_index, slice_index_or, replicate, bit_or}
 use Rattle.std.specs.List.{range_with_len}
 use Rattle.simd_cesu8.specs.Encoding.{Flavor}
-use Rattle.simd_cesu8.specs.DecodedPlaces.{null_at, two_at, three_at, pair_at, width_at, saved}
+use Rattle.simd_cesu8.specs.DecodedPlaces.{null_at, two_at, three_at, pair_at, front_width_by, width_at}
 
 -- The code of the character that begins at a position, by the six bytes there: a bit, or 0 if none
 -- begins or one of one byte.
@@ -105,6 +105,18 @@ shuffle_of_eight gone = shuffle_keeping (kept_of gone 0 0 8)
 abbrev pub AreShufflesOfEight : List (List ℕ) → Type 0
 AreShufflesOfEight rows = (gone : ℕ) → gone < 0x100 → slice_index_or rows gone [] ≡ shuffle_of_eight gone
 
--- What position i of a window saves.
-abbrev pub saved_at : Flavor → List ℕ → ℕ → ℕ
-saved_at f window i = saved (width_at f window i) (slice_index window i)
+-- The weight of position i of a window.
+abbrev pub weight_at : (ℕ → ℕ → ℕ) → Flavor → List ℕ → ℕ → ℕ
+weight_at weight f window i = weight (width_at f window i) (slice_index window i)
+
+-- A number tells the weight of a character of one byte. Two tables tell that of others, by the lower
+-- half of their code and by its upper half.
+abbrev pub weight_told : (one : ℕ) → (low high : List ℕ) → (width code : ℕ) → ℕ
+weight_told one low high width code =
+    bit_or (bit_or (if width == 1 then one else 0) (slice_index low (code % 0x10))) (slice_index high (code / 0x10 % 0x10))
+
+-- They do so at each position, by the six bytes there.
+abbrev pub TellWeights : (ℕ → ℕ → ℕ) → ℕ → List ℕ → List ℕ → Type 0
+TellWeights weight one low high =
+    (f : Flavor) (a b d e g h : ℕ) →
+    weight_told one low high (front_width_by f a b d e g h) (start_code_by f a b d e g h) ≡ weight (front_width_by f a b d e g h) a

@@ -124,12 +124,18 @@ saved w b =
     else if w == 6 then 14
     else 0
 
--- What all positions save,
-unfoldable pub all_saved : Flavor → List ℕ → ℕ
-all_saved f [] = 0
-all_saved f (b ∷ bytes) = saved (front_width f (b ∷ bytes)) b + all_saved f bytes
+-- How many bytes the character has that begins at a position.
+abbrev pub covered : ℕ → ℕ → ℕ
+covered w b = w
 
--- and what n positions save, from position i of a window on.
-unfoldable pub saved_between : Flavor → List ℕ → ℕ → ℕ → ℕ
-saved_between f window i zero = 0
-saved_between f window i (suc n) = saved (width_at f window i) (slice_index window i) + saved_between f window (i + 1) n
+-- The weight of a position follows from the width of the character that begins there, or 0, and
+-- from the byte there. The weight of all positions,
+unfoldable pub total_weight : (ℕ → ℕ → ℕ) → Flavor → List ℕ → ℕ
+total_weight weight f [] = 0
+total_weight weight f (b ∷ bytes) = weight (front_width f (b ∷ bytes)) b + total_weight weight f bytes
+
+-- and of n positions, from position i of a window on.
+unfoldable pub weight_between : (ℕ → ℕ → ℕ) → Flavor → List ℕ → ℕ → ℕ → ℕ
+weight_between weight f window i zero = 0
+weight_between weight f window i (suc n) =
+    weight (width_at f window i) (slice_index window i) + weight_between weight f window (i + 1) n

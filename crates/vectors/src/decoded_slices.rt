@@ -244,3 +244,59 @@ fn long_input_into_buffers(rt: HostRuntime) -> Result<(), Fail> {
     check_lengths(&rt, rt.alloc(), &[200, 256, 257, 1025, 2050])?;
     Ok(())
 }
+
+/// What fills whole text.
+const WHOLE: [&[u8]; 4] = [
+    b"a",
+    b"\xC0\x80",
+    b"\xE2\x82\xAC",
+    b"\xED\xA0\xBD\xED\xB2\x96",
+];
+
+/// Damages each byte in turn: the strict calls refuse what is left.
+fn check_each_damaged(rt: &impl Abort, alloc: Global, whole: &[u8]) -> Result<(), AllocError> {
+    let mut bytes = Vec::new(alloc);
+    for place in 0..whole.len() {
+        bytes.clear();
+        bytes.extend_from_slice(&whole[..place])?;
+        bytes.push(0xFF)?;
+        bytes.extend_from_slice(&whole[place + 1..])?;
+        for flavor in FLAVORS {
+            for decoder in [Decoder::Strict, Decoder::Lenient] {
+                let row = Row {
+                    decoder,
+                    flavor,
+                    bytes: bytes.as_slice(),
+                    text: None,
+                };
+                check_buffer(rt, alloc, &row, whole.len())?;
+            }
+        }
+    }
+    Ok(())
+}
+
+/// Whole text that leaves each number of bytes behind its last block.
+#[test]
+fn one_damaged_byte_at_each_offset(rt: HostRuntime) -> Result<(), Fail> {
+    for fill in WHOLE {
+        for len in 257..=400 {
+            let bytes = filled(rt.alloc(), fill, len, b"", 0)?;
+            check(&rt, rt.alloc(), bytes.as_slice())?;
+            check_each_damaged(&rt, rt.alloc(), bytes.as_slice())?;
+        }
+    }
+    Ok(())
+}
+
+/// Characters that cross each border of what is summed up at once.
+#[test]
+fn whole_text_across_borders(rt: HostRuntime) -> Result<(), Fail> {
+    for fill in WHOLE {
+        for ahead in 0..6 {
+            let bytes = filled(rt.alloc(), fill, 1700, &b"aaaaaa"[..ahead], 0)?;
+            check(&rt, rt.alloc(), bytes.as_slice())?;
+        }
+    }
+    Ok(())
+}

@@ -28,6 +28,7 @@ mod places;
 mod rows;
 mod rows_of_eight;
 mod slices;
+mod sums;
 mod windows;
 
 use super::joining::Room;

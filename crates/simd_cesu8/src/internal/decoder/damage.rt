@@ -1,18 +1,16 @@
-//! Finds damage before anything is written, by places and with no branch on a single byte.
+//! Finds damage before anything is written. No two encoded characters overlap, so they cover all
+//! bytes exactly if their widths sum up to the length of these.
 
-ghost use Rattle.std.specs.Prelude.{◌≡◌, ℕ, ◌+◌, ◌<◌, ◌≤◌, List, IsTrue, true, false, length, drop, replicate, slice_index, IfSome, IfNone};
+ghost use Rattle.std.specs.Prelude.{◌≡◌, refl, IsTrue, true, false};
+ghost use Rattle.std.proofs.Common.{arith};
 ghost use Rattle.simd_cesu8.specs.Reading.{IsStrictReading, HasNoStrictReading, reading};
-ghost use Rattle.simd_cesu8.specs.DecodedPlaces.{is_damaged_at};
+ghost use Rattle.simd_cesu8.specs.DecodedPlaces.{covered};
 ghost use Rattle.simd_cesu8.specs.Internal.{flavor_of};
-ghost use Rattle.simd_cesu8.specs.Pieces.{IsPiece, HasFault};
 
-use super::WINDOW_ROOM;
-use super::parts::is_block_damaged;
-use super::places::{near, starts};
-use super::windows::{AROUND, BEFORE, load};
+use super::places::REACH;
+use super::sums::{Weight, Weights, sum_first, sum_of_few};
 use crate::internal::Flavor;
 use crate::internal::null_form::{NullForm, OneByteNull, TwoByteNull};
-use std::simd::prelude::*;
 
 /// Returns whether some byte is in no encoded character.
 pub fn is_damaged(flavor: Flavor, bytes: &[u8]) -> bool
@@ -20,69 +18,52 @@ pub fn is_damaged(flavor: Flavor, bytes: &[u8]) -> bool
     ensures whole { result ≡ false → IsStrictReading (flavor_of flavor) bytes.now
         (reading (flavor_of flavor) bytes.now) }
 {
+    match flavor {
+        Flavor::Cesu8 => has_damage::<OneByteNull>(bytes),
+        Flavor::Mutf8 => has_damage::<TwoByteNull>(bytes),
+    }
+}
+
+/// The same for a form of U+0000. It stops soon after the first damage.
+#[inline(never)]
+fn has_damage<N: NullForm>(bytes: &[u8]) -> bool
+    ensures damaged { IsTrue result → HasNoStrictReading N.flavor bytes.now }
+    ensures whole { result ≡ false → IsStrictReading N.flavor bytes.now
+        (reading N.flavor bytes.now) }
+{
+    let mut covered = 0;
     let mut rest = bytes;
-    while !rest.is_empty() {
-        let Some(behind) = behind_whole(flavor, rest) else {
+    while rest.len() >= REACH {
+        let (sum, behind) = sum_first::<N, Widths>(rest);
+        covered += sum;
+        if covered < bytes.len() - behind.len() {
             return true;
-        };
+        }
         rest = behind;
     }
-    false
+    covered + sum_of_few::<N, Widths>(rest) < bytes.len()
 }
 
-/// Returns the bytes after those of a window, if none of these is damaged.
-fn behind_whole(flavor: Flavor, bytes: &[u8]) -> Option<&[u8]>
-    requires { 0 < length bytes.now }
-    ensures less { IfSome result (λ rest. length rest.now < length bytes.now) }
-    ensures whole { IfSome result (λ rest. (piece : List ℕ)
-        × IsPiece (flavor_of flavor) false bytes.now rest.now piece) }
-    ensures damaged { IfNone result (HasFault (flavor_of flavor) bytes.now) }
-{
-    let mut window = [0; WINDOW_ROOM];
-    match flavor {
-        Flavor::Cesu8 => behind_whole_window::<OneByteNull>(bytes, &mut window),
-        Flavor::Mutf8 => behind_whole_window::<TwoByteNull>(bytes, &mut window),
+/// How many bytes the character has that begins at a position.
+struct Widths;
+
+impl Weight for Widths {
+    ghost weight = { covered };
+
+    #[inline(always)]
+    fn weights() -> Weights {
+        Weights {
+            of_one: 1,
+            by_low: BY_LOW,
+            by_high: BY_HIGH,
+        }
     }
+
+    ghost nothing = { λ b. refl };
+
+    ghost light = { λ w b few. Prim.omega arith };
 }
 
-/// The same in a window of zeros.
-#[inline(always)]
-fn behind_whole_window<'b, N: NullForm>(bytes: &'b [u8], window: &mut [u8]) -> Option<&'b [u8]>
-    requires some { 0 < length bytes.now }
-    requires window { AROUND + 11 ≤ length window.old }
-    requires zeros { window.old ≡ replicate (length window.old) 0 }
-    ensures less { IfSome result (λ rest. length rest.now < length bytes.now) }
-    ensures whole { IfSome result (λ rest. (piece : List ℕ)
-        × IsPiece N.flavor false bytes.now rest.now piece) }
-    ensures damaged { IfNone result (HasFault N.flavor bytes.now) }
-{
-    let read = load::<N>(bytes, window);
-    if has_damage::<N>(window, read) {
-        return None;
-    }
-    Some(&bytes[read..])
-}
+const BY_LOW: [u8; 16] = [0, 2, 2, 0, 3, 0, 0, 0, 3, 0, 0, 0, 0, 0, 0, 0];
 
-/// Returns whether some of the first `count` bytes of a window are damaged.
-#[inline(always)]
-fn has_damage<N: NullForm>(window: &[u8], count: usize) -> bool
-    requires window { count + AROUND ≤ length window.now }
-    requires zeros { (k : ℕ) → k < BEFORE → slice_index window.now k ≡ 0 }
-    ensures damaged { result ≡ true → (i : ℕ) × (i < count)
-        × (is_damaged_at N.flavor window.now i ≡ true) }
-    ensures whole { result ≡ false → (i : ℕ) → i < count
-        → is_damaged_at N.flavor window.now i ≡ false }
-{
-    let mut at = 0;
-    let mut is_damaged = false;
-    let mut before = u8x32::splat(0);
-    while at < count {
-        let len = (count - at).min(32);
-        let here = starts::<N>(window, at + BEFORE);
-        let block = is_block_damaged::<N>(window, &near(before, here), at, len);
-        is_damaged = is_damaged | block;
-        before = here;
-        at += len;
-    }
-    is_damaged
-}
+const BY_HIGH: [u8; 16] = [0, 3, 6, 0, 0, 0, 0, 0, 2, 0, 0, 0, 0, 0, 0, 0];

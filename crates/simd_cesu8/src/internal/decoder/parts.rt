@@ -88,20 +88,6 @@ pub fn write_block<N: NullForm>(
     }
 }
 
-/// Returns whether some of the first `count` bytes of such a block are damaged.
-#[inline(always)]
-pub fn is_block_damaged<N: NullForm>(window: &[u8], codes: &Codes, at: usize, count: usize) -> bool
-    requires count { count ≤ 32 }
-    requires window { at + REACH ≤ length window.now }
-    requires codes { AreCodesNear N.flavor window.now at codes.now }
-    ensures damaged { IsTrue result → (i : ℕ) × (at ≤ i) × (i < at + count)
-        × (is_damaged_at N.flavor window.now i ≡ true) }
-    ensures whole { result ≡ false → (i : ℕ) → at ≤ i → i < at + count
-        → is_damaged_at N.flavor window.now i ≡ false }
-{
-    highest_bits(damaged::<N>(window, codes, at, count)) != 0
-}
-
 /// Returns what becomes of the first `count` of the 32 bytes that follow `at` bytes of the window
 /// and five more. The others go.
 #[inline(always)]

@@ -1,29 +1,26 @@
-use Rattle.std.proofs.Common.{◌+◌, arith, refl}
-use Rattle.simd_cesu8.specs.DecodedPlaces.{is_damaged_at}
-use Rattle.simd_cesu8.proofs.DecodedWindows.{codes_of_zeros, five_codes, more_damaged, none_damaged}
+use Rattle.std.proofs.Common.{◌+◌, length, arith}
+use Rattle.std.proofs.lemmas.Bool.{ltb-true, ltb-false}
+use Rattle.simd_cesu8.proofs.Damage.{covered_fits, all_covered, fewer_covered}
 use Rattle.simd_cesu8.proofs.internal.decoder.damage.has_damage.Goals as goal
 
-pub loop-at-init : goal.loop-at-init
-loop-at-init g c = record {
-  within = omega arith;
-  before = λ some. codes_of_zeros g.N.NullForm.flavor c.args.window.now _ refl c.requires.zeros;
-  damaged = λ some. cc;
-  whole = λ none i before. absurd (omega arith);
-}
+pub overflow_add-covered : goal.overflow_add-covered
+overflow_add-covered g c = record { fits = omega (arith, covered_fits g.N.NullForm.flavor c.args.bytes.now) }
 
-pub is_block_damaged-block-requires-clause-codes : goal.is_block_damaged-block-requires-clause-codes
-is_block_damaged-block-requires-clause-codes g c =
-    c.near.ensures g.N.NullForm.flavor c.args.window.now (c.loop-at.at) (c.loop-at.invariant.before (omega arith)) c.starts-here.ensures
-
-pub loop-at-preserved : goal.loop-at-preserved
-loop-at-preserved g c =
+-- No more bytes are covered from here on than there are.
+pub returns-then-covered-bytes-clause-damaged : goal.returns-then-covered-bytes-clause-damaged
+returns-then-covered-bytes-clause-damaged g c _ =
     let f = g.N.NullForm.flavor in
-    let window = c.args.window.now in
-    let inv = c.loop-at.invariant in
-    let block = c.is_block_damaged-block.ensures in
-    record {
-      within = omega (arith, c.min-len.ensures);
-      before = λ more. five_codes f window _ (c.loop-at.at + 5) 27 _ c.starts-here.ensures (omega (arith, c.min-len.ensures)) (omega arith);
-      damaged = more_damaged (is_damaged_at f window) c.loop-at.at c.min-len.result _ _ inv.damaged block.damaged;
-      whole = none_damaged (is_damaged_at f window) c.loop-at.at c.min-len.result _ _ inv.whole block.whole;
-    }
+    fewer_covered f c.args.bytes.now (omega (arith, c.sum_first-sum.ensures.sum, covered_fits f c.sum_first-sum.result.1.now))
+
+pub overflow_add-result : goal.overflow_add-result
+overflow_add-result g c = record { fits = omega (arith, c.sum_of_few.ensures, covered_fits g.N.NullForm.flavor c.args.bytes.now) }
+
+pub returns-clause-damaged : goal.returns-clause-damaged
+returns-clause-damaged g c fewer =
+    fewer_covered g.N.NullForm.flavor c.args.bytes.now
+    (omega (arith, c.sum_of_few.ensures, ltb-true (c.loop-rest.covered + c.sum_of_few.result) (length c.args.bytes.now) fewer))
+
+pub returns-clause-whole : goal.returns-clause-whole
+returns-clause-whole g c all =
+    all_covered g.N.NullForm.flavor c.args.bytes.now
+    (omega (arith, c.sum_of_few.ensures, ltb-false (c.loop-rest.covered + c.sum_of_few.result) (length c.args.bytes.now) all))

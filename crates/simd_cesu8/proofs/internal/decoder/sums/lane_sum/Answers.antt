@@ -1,7 +1,7 @@
 use Rattle.std.proofs.Common.{arith}
 use Rattle.std.proofs.lemmas.Simd.{dot4_Fits}
 use Rattle.simd_cesu8.proofs.Counts.{dots_sum_fits, dots_sum}
-use Rattle.simd_cesu8.proofs.internal.decoder.lengths.lane_sum.Goals as goal
+use Rattle.simd_cesu8.proofs.internal.decoder.sums.lane_sum.Goals as goal
 
 pub dot4 : goal.dot4
 dot4 c = (dot4_Fits c.args.lanes _ c.fits-lanes.1 tt, tt)

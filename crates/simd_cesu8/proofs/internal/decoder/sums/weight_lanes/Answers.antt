@@ -3,8 +3,8 @@ use Rattle.std.specs.List.{range_with_len}
 use Rattle.std.proofs.lemmas.Simd.{pick_l-range_with_len}
 use Rattle.simd_cesu8.specs.EncodedPlaces.{is_null}
 use Rattle.simd_cesu8.proofs.EncodedBlocks.{marks_here}
-use Rattle.simd_cesu8.proofs.SavedLanes.{saved_lanes_are}
-use Rattle.simd_cesu8.proofs.internal.decoder.lengths.saved_lanes.Goals as goal
+use Rattle.simd_cesu8.proofs.WeightLanes.{weight_lanes_are}
+use Rattle.simd_cesu8.proofs.internal.decoder.sums.weight_lanes.Goals as goal
 
 pub returns : goal.returns
 returns g c =
@@ -17,4 +17,4 @@ returns g c =
       c.look_up.ensures,
       c.look_up-2.ensures,
       c.starts-codes.ensures,
-    ) (saved_lanes_are f bytes (range_with_len c.args.at 32))
+    ) (weight_lanes_are g.W.Weight.weight _ _ _ c.weights-weights.ensures f bytes (range_with_len c.args.at 32))
