@@ -7,7 +7,7 @@ use Rattle.simd_cesu8.specs.Text.{utf8_of}
 use Rattle.simd_cesu8.specs.Utf16.{units_of}
 use Rattle.simd_cesu8.specs.Encoding.{Flavor, Cesu8, Mutf8, encoding, form, IsEncodedOtherwise}
 use Rattle.simd_cesu8.specs.Reading.{width}
-use Rattle.simd_cesu8.specs.Joining.{Part, Stays, Changes, AreParts, encoded_part, utf8_part, IsJoined, IsJoinedSoFar, KeepsJoined, nulls, HasPair, HasNull, Joins, second_third_fifth_sixth}
+use Rattle.simd_cesu8.specs.Joining.{Part, Stays, Changes, AreParts, encoded_part, utf8_part, IsJoined, IsJoinedSoFar, KeepsJoined, nulls, HasPair, HasNull, AreJoinedDigits, second_third_fifth_sixth}
 use Rattle.simd_cesu8.proofs.Lengths.{Change, same, longer, change}
 use Rattle.simd_cesu8.proofs.Found.{BeginsInLengths, rest_is, found_null, found_pair}
 use Rattle.simd_cesu8.proofs.Shapes.{Shape, one, two, three, pair, shape, utf8_of_one, utf8_of_two, utf8_of_three, utf8_of_pair}
@@ -112,7 +112,7 @@ written_whole room written behind i n fits long =
 
 -- A character of six bytes with four of UTF-8 is what joins its digits.
 pair_is : (f : Flavor) (bytes written : List ℕ) → (found : BeginsInLengths f bytes 6 4) →
-    Shape found.character → Joins (second_third_fifth_sixth bytes) written → written ≡ utf8_of found.character
+    Shape found.character → AreJoinedDigits (second_third_fifth_sixth bytes) written → written ≡ utf8_of found.character
 pair_is f bytes written found (one ascii) joins =
     absurd (omega (arith, found.in_utf8, ap length (utf8_of_one _ ascii)))
 pair_is f bytes written found (two x y digits) joins =
@@ -126,7 +126,7 @@ pair_is f bytes written found (pair w x y z digits) joins =
 
 -- A surrogate pair that was joined.
 pub keeps_pair : (f : Flavor) (rest out after four new : List ℕ) → 6 ≤ length rest → HasPair rest →
-    Joins (second_third_fifth_sixth rest) four → after ≡ drop 6 rest → new ≡ out ++ four → KeepsJoined f rest out after new
+    AreJoinedDigits (second_third_fifth_sixth rest) four → after ≡ drop 6 rest → new ≡ out ++ four → KeepsJoined f rest out after new
 keeps_pair f rest out after four new long has_pair joins after_is new_is =
     let found = found_pair f rest long has_pair.lead has_pair.high.0 has_pair.high.1 has_pair.ends in
     keeps_changed f rest out after four new 6 4 (omega arith) found

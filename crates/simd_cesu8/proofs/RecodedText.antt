@@ -9,7 +9,7 @@ use Rattle.simd_cesu8.specs.Text.{IsText, utf8_of, utf8}
 use Rattle.simd_cesu8.specs.Encoding.{Flavor, Cesu8, Mutf8, encoding, short_form}
 use Rattle.simd_cesu8.specs.Internal.{flavor_of}
 use Rattle.simd_cesu8.specs.declared.internal.Flavor.{Flavor as FlavorOption}
-use Rattle.simd_cesu8.specs.EncodedPlaces.{is_null, six_bits, place, place_at, places, recoded}
+use Rattle.simd_cesu8.specs.EncodedPlaces.{is_null, six_bits, encoded_byte, encoded_byte_at, encoded_bytes, recoded}
 use Rattle.simd_cesu8.proofs.StdUtf8.{IsUtf8Of_chars}
 use Rattle.simd_cesu8.proofs.Shapes.{Shape, IsPair, one, two, three, pair, shape, utf8_of_one, utf8_of_two, utf8_of_three, utf8_of_pair}
 use Rattle.simd_cesu8.proofs.Forms.{encoding_one, encoding_two, encoding_three, encoding_pair, short_form_other}
@@ -18,28 +18,28 @@ use Rattle.simd_cesu8.proofs.Encodings.{encoding_nil, encoding_cons}
 -- What is written for a list of bytes, behind two others.
 written : Flavor → ℕ → ℕ → List ℕ → List ℕ
 written f x y [] = []
-written f x y (b ∷ bytes) = place f x y b (get_or bytes 0 0) ++ written f y b bytes
+written f x y (b ∷ bytes) = encoded_byte f x y b (get_or bytes 0 0) ++ written f y b bytes
 
--- ---- by places, and down the list
+-- ---- by encoded_bytes, and down the list
 
-later : (f : Flavor) (x : ℕ) (window : List ℕ) (i : ℕ) → place_at f (x ∷ window) (i + 1) ≡ place_at f window i
+later : (f : Flavor) (x : ℕ) (window : List ℕ) (i : ℕ) → encoded_byte_at f (x ∷ window) (i + 1) ≡ encoded_byte_at f window i
 later f x window i =
     let e0 : i + 1 ≡ suc i = omega arith in
     let e1 : i + 1 + 1 ≡ suc (i + 1) = omega arith in
     let e2 : i + 1 + 2 ≡ suc (i + 2) = omega arith in
     let e3 : i + 1 + 3 ≡ suc (i + 3) = omega arith in
-    (λ k. place f (get_or (x ∷ window) (e0 k) 0) (get_or (x ∷ window) (e1 k) 0) (get_or (x ∷ window) (e2 k) 0) (get_or (x ∷ window) (e3 k) 0))
+    (λ k. encoded_byte f (get_or (x ∷ window) (e0 k) 0) (get_or (x ∷ window) (e1 k) 0) (get_or (x ∷ window) (e2 k) 0) (get_or (x ∷ window) (e3 k) 0))
 
 all_later : (f : Flavor) (x : ℕ) (window : List ℕ) (i n : ℕ) →
-    flat_map (place_at f (x ∷ window)) (range_with_len (i + 1) n) ≡ flat_map (place_at f window) (range_with_len i n)
+    flat_map (encoded_byte_at f (x ∷ window)) (range_with_len (i + 1) n) ≡ flat_map (encoded_byte_at f window) (range_with_len i n)
 all_later f x window i zero = refl
 all_later f x window i (suc n) = rw (later f x window i, all_later f x window (i + 1) n) refl
 
-by_places : (f : Flavor) (x y : ℕ) (bytes : List ℕ) → flat_map (place_at f (x ∷ y ∷ bytes)) (range_with_len 0 (length bytes)) ≡ written f x y bytes
+by_places : (f : Flavor) (x y : ℕ) (bytes : List ℕ) → flat_map (encoded_byte_at f (x ∷ y ∷ bytes)) (range_with_len 0 (length bytes)) ≡ written f x y bytes
 unfolding written
 by_places f x y [] = refl
 by_places f x y (b ∷ bytes) =
-    ap (λ l. place f x y b (get_or bytes 0 0) ++ l) (all_later f x (y ∷ b ∷ bytes) 0 (length bytes) ∙ by_places f y b bytes)
+    ap (λ l. encoded_byte f x y b (get_or bytes 0 0) ++ l) (all_later f x (y ∷ b ∷ bytes) 0 (length bytes) ∙ by_places f y b bytes)
 
 -- ---- what is written for one byte
 
@@ -47,7 +47,7 @@ or_zero : (a : ℕ) → bit_or a 0 ≡ a
 or_zero a = omega (arith, or_add_and a 0, and_zero_r a)
 
 -- A byte with no lead byte of four near it is written as its short form.
-plain : (f : Flavor) (x y b n : ℕ) → x < 0xF0 → y < 0xF0 → b < 0xF0 → place f x y b n ≡ short_form f b
+plain : (f : Flavor) (x y b n : ℕ) → x < 0xF0 → y < 0xF0 → b < 0xF0 → encoded_byte f x y b n ≡ short_form f b
 plain Cesu8 x y b n hx hy hb = rw (lt-leb 0xF0 x hx, lt-leb 0xF0 y hy, lt-leb 0xF0 b hb, or_zero b, or_zero b) refl
 plain Mutf8 x y b n hx hy hb = rw (lt-leb 0xF0 x hx, lt-leb 0xF0 y hy, lt-leb 0xF0 b hb) (⊎_elim
     (λ null. rw null refl)
@@ -55,7 +55,7 @@ plain Mutf8 x y b n hx hy hb = rw (lt-leb 0xF0 x hx, lt-leb 0xF0 y hy, lt-leb 0x
     (cases_eq b 0))
 
 -- Any other than 0 stays.
-same : (f : Flavor) (x y b n : ℕ) → x < 0xF0 → y < 0xF0 → b < 0xF0 → 0 < b → place f x y b n ≡ b ∷ []
+same : (f : Flavor) (x y b n : ℕ) → x < 0xF0 → y < 0xF0 → b < 0xF0 → 0 < b → encoded_byte f x y b n ≡ b ∷ []
 same f x y b n hx hy hb some = plain f x y b n hx hy hb ∙ short_form_other f b (λ null. omega (arith, null, some))
 
 not_null : (f : Flavor) (b : ℕ) → 0 < b → is_null f b ≡ false
@@ -73,13 +73,13 @@ low_surrogate : (c : ℕ) → c < 0x40 → bit_or (0x80 + c) 0x30 ≡ 0xB0 + c %
 low_surrogate c h = eqb-true _ _ (agree_below_at (λ c. eqb (bit_or (0x80 + c) 0x30) (0xB0 + c % 0x10)) (λ _. true) 0x40 c refl h)
 
 -- The first byte of four, the second and the third.
-lead_place : (f : Flavor) (x y a b : ℕ) → 0xF0 ≤ a → place f x y a b ≡ 0xED ∷ ((six_bits a b + 0x9F) % 0x100) ∷ []
+lead_place : (f : Flavor) (x y a b : ℕ) → 0xF0 ≤ a → encoded_byte f x y a b ≡ 0xED ∷ ((six_bits a b + 0x9F) % 0x100) ∷ []
 lead_place f x y a b h = rw (le-leb 0xF0 a h, not_null f a (omega arith)) refl
 
-second_place : (f : Flavor) (x a b c : ℕ) → x < 0xF0 → 0xF0 ≤ a → b < 0xF0 → 0 < b → place f x a b c ≡ ((six_bits b c + 0x80) % 0x100) ∷ []
+second_place : (f : Flavor) (x a b c : ℕ) → x < 0xF0 → 0xF0 ≤ a → b < 0xF0 → 0 < b → encoded_byte f x a b c ≡ ((six_bits b c + 0x80) % 0x100) ∷ []
 second_place f x a b c hx ha hb some = rw (lt-leb 0xF0 x hx, le-leb 0xF0 a ha, lt-leb 0xF0 b hb, not_null f b some) refl
 
-third_place : (f : Flavor) (a b c d : ℕ) → 0xF0 ≤ a → b < 0xF0 → c < 0xF0 → 0 < c → place f a b c d ≡ 0xED ∷ bit_or c 0x30 ∷ []
+third_place : (f : Flavor) (a b c d : ℕ) → 0xF0 ≤ a → b < 0xF0 → c < 0xF0 → 0 < c → encoded_byte f a b c d ≡ 0xED ∷ bit_or c 0x30 ∷ []
 third_place f a b c d ha hb hc some =
     rw (le-leb 0xF0 a ha, lt-leb 0xF0 b hb, lt-leb 0xF0 c hc, not_null f c some, or_zero (bit_or c 0x30)) refl
 
@@ -163,7 +163,7 @@ text_written f (c ∷ text) is_text p q hp hq =
 
 -- What is written for the UTF-8 of a text is its encoding.
 recoded_utf8 : (f : Flavor) (text : List ℕ) → IsText text → recoded f (utf8 text) ≡ encoding f text
-unfolding places
+unfolding encoded_bytes
 recoded_utf8 f text is_text = by_places f 0 0 (utf8 text) ∙ text_written f text is_text 0 0 (omega arith) (omega arith)
 
 -- The same of the text that std's UTF-8 has.

@@ -40,8 +40,8 @@ abbrev pub mask : Bool → ℕ
 mask t = if t then 0xFF else 0
 
 -- What is written for a byte.
-abbrev pub place : Flavor → ℕ → ℕ → ℕ → ℕ → List ℕ
-place f two_before before b next =
+abbrev pub encoded_byte : Flavor → ℕ → ℕ → ℕ → ℕ → List ℕ
+encoded_byte f two_before before b next =
     if is_doubled f two_before b
     then inserted f b ∷ changed f two_before before b next ∷ []
     else changed f two_before before b next ∷ []
@@ -57,21 +57,21 @@ changed_at f window i =
 abbrev pub is_doubled_at : Flavor → List ℕ → ℕ → Bool
 is_doubled_at f window i = is_doubled f (slice_index window i) (slice_index window (i + 2))
 
-abbrev pub place_at : Flavor → List ℕ → ℕ → List ℕ
-place_at f window i =
-    place f (slice_index window i) (slice_index window (i + 1)) (slice_index window (i + 2)) (slice_index window (i + 3))
+abbrev pub encoded_byte_at : Flavor → List ℕ → ℕ → List ℕ
+encoded_byte_at f window i =
+    encoded_byte f (slice_index window i) (slice_index window (i + 1)) (slice_index window (i + 2)) (slice_index window (i + 3))
 
 -- What is written for n bytes from there on.
-unfoldable pub places : Flavor → List ℕ → ℕ → ℕ → List ℕ
-places f window i n = flat_map (place_at f window) (range_with_len i n)
+unfoldable pub encoded_bytes : Flavor → List ℕ → ℕ → ℕ → List ℕ
+encoded_bytes f window i n = flat_map (encoded_byte_at f window) (range_with_len i n)
 
 -- What is written for a whole text.
 abbrev pub recoded : Flavor → List ℕ → List ℕ
-recoded f bytes = places f (0 ∷ 0 ∷ bytes) 0 (length bytes)
+recoded f bytes = encoded_bytes f (0 ∷ 0 ∷ bytes) 0 (length bytes)
 
 -- A slice has, up to an end, what is written for the first n bytes of a text.
 abbrev pub IsWritten : Flavor → List ℕ → ℕ → List ℕ → ℕ → Type 0
-IsWritten f bytes n out end = (take end out ≡ places f (0 ∷ 0 ∷ bytes) 0 n) × (end ≤ length out)
+IsWritten f bytes n out end = (take end out ≡ encoded_bytes f (0 ∷ 0 ∷ bytes) 0 n) × (end ≤ length out)
 
 -- What is written for bytes in a row: for each the second byte, and the first before that if its
 -- test holds.

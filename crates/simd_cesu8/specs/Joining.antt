@@ -71,8 +71,8 @@ pub record HasNull (f : Flavor) (bytes : List ℕ) : Type 0 where
   pub continuation : slice_index bytes 1 ≡ 0x80
 
 -- The digits of a surrogate pair, wherever they are, are joined to the UTF-8 of the character.
-abbrev pub Joins : List ℕ → List ℕ → Type 0
-Joins four written = (c w x y z : ℕ) → IsPair c w x y z → four ≡ (0xA0 + w) ∷ (0x80 + x) ∷ (0xB0 + y) ∷ (0x80 + z) ∷ [] →
+abbrev pub AreJoinedDigits : List ℕ → List ℕ → Type 0
+AreJoinedDigits four written = (c w x y z : ℕ) → IsPair c w x y z → four ≡ (0xA0 + w) ∷ (0x80 + x) ∷ (0xB0 + y) ∷ (0x80 + z) ∷ [] →
     written ≡ utf8_of c
 
 -- Their positions in a surrogate pair.

@@ -67,30 +67,30 @@ where
         return true;
     }
     let last = value.len() - 8;
-    let mut place = 8;
-    while place < last {
-        if test(word_at(value, place)) {
+    let mut position = 8;
+    while position < last {
+        if test(word_at(value, position)) {
             return true;
         }
-        place += 8;
+        position += 8;
     }
     test(word_at(value, last))
 }
 
 /// Returns the eight bytes at a position as a word, the first one lowest.
-fn word_at(value: &[u8], place: usize) -> u64
-    requires { place + 8 ≤ length value.now }
-    ensures { to_le_bytes w64 result ≡ slice_range value.now place (place + 8) }
+fn word_at(value: &[u8], position: usize) -> u64
+    requires { position + 8 ≤ length value.now }
+    ensures { to_le_bytes w64 result ≡ slice_range value.now position (position + 8) }
 {
     u64::from_le_bytes([
-        value[place],
-        value[place + 1],
-        value[place + 2],
-        value[place + 3],
-        value[place + 4],
-        value[place + 5],
-        value[place + 6],
-        value[place + 7],
+        value[position],
+        value[position + 1],
+        value[position + 2],
+        value[position + 3],
+        value[position + 4],
+        value[position + 5],
+        value[position + 6],
+        value[position + 7],
     ])
 }
 
@@ -154,8 +154,8 @@ mod tests {
                 fallback::contains_utf8_4_byte_char_header,
                 |word| {
                     let mut words = seen.get();
-                    if let Some(place) = words.get_mut(tested.get()) {
-                        *place = word;
+                    if let Some(slot) = words.get_mut(tested.get()) {
+                        *slot = word;
                     }
                     seen.set(words);
                     tested.set(tested.get().wrapping_add(1));

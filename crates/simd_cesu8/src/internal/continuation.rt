@@ -11,18 +11,18 @@ pub fn is_continuation(byte: u8) -> bool
     matches!(byte, 0x80..=0xBF)
 }
 
-/// Returns the last of the four positions up to `place` without a continuation byte, if there is
-/// one. In UTF-8 there is: the start of the character that contains `place`.
-pub fn character_start(bytes: &[u8], place: usize) -> Option<usize>
-    requires { (3 ≤ place) × (place < length bytes.now) }
-    ensures some { IfSome result (λ start. (start ≤ place)
+/// Returns the last of the four positions up to `position` without a continuation byte, if there is
+/// one. In UTF-8 there is: the start of the character that contains `position`.
+pub fn character_start(bytes: &[u8], position: usize) -> Option<usize>
+    requires { (3 ≤ position) × (position < length bytes.now) }
+    ensures some { IfSome result (λ start. (start ≤ position)
         × ¬ (IsContinuation (slice_index bytes.now start))) }
     ensures none { IfNone result ((back : ℕ) → back < 4
-        → IsContinuation (slice_index bytes.now (place - back))) }
+        → IsContinuation (slice_index bytes.now (position - back))) }
 {
     for back in 0..4 {
-        if !is_continuation(bytes[place - back]) {
-            return Some(place - back);
+        if !is_continuation(bytes[position - back]) {
+            return Some(position - back);
         }
     }
     None

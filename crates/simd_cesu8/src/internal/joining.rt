@@ -12,7 +12,7 @@ ghost use Rattle.simd_cesu8.specs.Joining.{IsJoined, IsJoinedAfter, KeepsJoined,
 mod pairs;
 
 use super::Flavor;
-pub use pairs::joined;
+pub use pairs::utf8_of_pair;
 use pairs::{PAIR_MARKS, is_pair, join_pairs};
 use std::simd::prelude::*;
 
@@ -28,7 +28,7 @@ pub type Room = [u8; 1088];
 
 /// What is left to join, and how many bytes of the buffer are written.
 #[derive(Clone, Copy)]
-pub struct Place<'a> {
+pub struct Progress<'a> {
     pub rest: &'a [u8],
     pub written: usize,
 }
@@ -57,7 +57,7 @@ fn join_blocks(flavor: Flavor, bytes: &[u8], end: usize, room: &mut Room) -> (us
         (take result.1 room.new) }
 {
     let stop = bytes.len() - end;
-    let mut at = Place {
+    let mut at = Progress {
         rest: bytes,
         written: 0,
     };
@@ -73,7 +73,7 @@ fn join_blocks(flavor: Flavor, bytes: &[u8], end: usize, room: &mut Room) -> (us
 
 /// Copies a block without marks before its end, or joins one with marks.
 #[inline(always)]
-fn join_block<'a>(flavor: Flavor, at: Place<'a>, stop: usize, room: &mut Room) -> Place<'a>
+fn join_block<'a>(flavor: Flavor, at: Progress<'a>, stop: usize, room: &mut Room) -> Progress<'a>
     requires stop { (stop < length at.rest.now) × (48 ≤ stop) }
     requires room { at.written + length at.rest.now ≤ 1024 + stop }
     ensures after { IsJoinedAfter at.entry.rest.now result.rest.now
@@ -87,7 +87,7 @@ fn join_block<'a>(flavor: Flavor, at: Place<'a>, stop: usize, room: &mut Room) -
     let run = left.min(32);
     if marks.trailing_zeros() as usize >= run {
         copy_run(at.rest, run, at.written, room);
-        return Place {
+        return Progress {
             rest: &at.rest[run..],
             written: at.written + run,
         };
@@ -124,11 +124,11 @@ fn marks(flavor: Flavor, bytes: &[u8]) -> u32
 #[inline(always)]
 fn join_marked<'a>(
     flavor: Flavor,
-    start: Place<'a>,
+    start: Progress<'a>,
     marks: u32,
     stop: usize,
     room: &mut Room,
-) -> Place<'a>
+) -> Progress<'a>
     requires stop { (stop < length start.rest.now) × (48 ≤ stop) }
     requires room { start.written + length start.rest.now ≤ 1024 + stop }
     ensures after { IsJoinedAfter start.entry.rest.now result.rest.now
@@ -143,15 +143,15 @@ fn join_marked<'a>(
     let mut marks = marks;
     while marks != 0 {
         // Only the marks decide the position, so the processor need not wait for what was read.
-        let place = marks.trailing_zeros() as usize;
-        if place < read || place > bytes.len() - stop {
+        let position = marks.trailing_zeros() as usize;
+        if position < read || position > bytes.len() - stop {
             break;
         }
         marks &= marks - 1;
-        copy_run(&bytes[read..], place - read, written, room);
-        written += place - read;
-        read = place;
-        match join_changed(flavor, &bytes[place..], written, room) {
+        copy_run(&bytes[read..], position - read, written, room);
+        written += position - read;
+        read = position;
+        match join_changed(flavor, &bytes[position..], written, room) {
             Some((width, len)) => {
                 read += width;
                 written += len;
@@ -159,7 +159,7 @@ fn join_marked<'a>(
             None => break,
         }
     }
-    Place {
+    Progress {
         rest: &bytes[read..],
         written,
     }
@@ -207,7 +207,7 @@ fn join_changed(
     if !(pair | is_null(flavor, bytes)) {
         return None;
     }
-    let four = joined(bytes);
+    let four = utf8_of_pair(bytes);
     let (width, utf8, len) = if pair { (6, four, 4) } else { (2, [0; 4], 1) };
     room[written..written + 4].copy_from_slice(&utf8);
     Some((width, len))
@@ -246,7 +246,7 @@ fn is_nulls(bytes: &[u8]) -> bool
 
 /// Joins 16 null characters of MUTF-8.
 #[inline(always)]
-fn join_nulls<'a>(at: Place<'a>, room: &mut Room) -> Place<'a>
+fn join_nulls<'a>(at: Progress<'a>, room: &mut Room) -> Progress<'a>
     requires nulls { take 32 at.rest.now ≡ nulls }
     requires long { 32 ≤ length at.rest.now }
     requires room { at.written + 16 ≤ 1088 }
@@ -256,7 +256,7 @@ fn join_nulls<'a>(at: Place<'a>, room: &mut Room) -> Place<'a>
         result.rest.now (take result.written room.new) }
 {
     room[at.written..at.written + 16].copy_from_slice(&[0; 16]);
-    Place {
+    Progress {
         rest: &at.rest[32..],
         written: at.written + 16,
     }

@@ -102,7 +102,7 @@ fn parts_at<N: NullForm>(window: &[u8], codes: &Codes, at: usize, count: usize) 
         ++ replicate (32 - count) false }
 {
     Parts {
-        bytes: joined(window, codes, at),
+        bytes: changed_bytes(window, codes, at),
         gone: gone(codes, count),
         damaged: damaged::<N>(window, codes, at, count),
     }
@@ -154,7 +154,7 @@ fn behind(count: u8) -> u8x32
 /// Returns the bytes, with those of surrogate pairs and of C0 80 replaced by what they become. Most
 /// blocks have many of these or none.
 #[inline(always)]
-fn joined(window: &[u8], codes: &Codes, at: usize) -> u8x32
+fn changed_bytes(window: &[u8], codes: &Codes, at: usize) -> u8x32
     requires window { at + REACH ≤ length window.now }
     ensures { (f : Flavor) (count : ℕ) → count ≤ 32
         → AreCodesNear f window.now at codes.now
@@ -173,12 +173,12 @@ fn joined(window: &[u8], codes: &Codes, at: usize) -> u8x32
     let first = look_up(FIRST_BY_SECOND, before);
     let second = look_up(SECOND_BY_SECOND, two_before) | ((before >> u8x32::splat(2)) & half);
     let third = look_up(THIRD_BY_THIRD, two_before) | (byte & half);
-    let joined = near
+    let changed = near
         .simd_ge(u8x32::splat(0x80))
         .select(u8x32::splat(0), byte);
-    let joined = chosen(codes[1] & pair, third, joined);
-    let joined = chosen(codes[2] & pair, second, joined);
-    chosen(codes[3] & pair, first, joined)
+    let changed = chosen(codes[1] & pair, third, changed);
+    let changed = chosen(codes[2] & pair, second, changed);
+    chosen(codes[3] & pair, first, changed)
 }
 
 /// Returns the lanes of `some` where those of a mark are not 0, and otherwise those of `other`.

@@ -3,7 +3,7 @@
 ghost use Rattle.std.specs.Prelude.{◌≡◌, ℕ, List, Bool, ◌+◌, ◌*◌, ◌%◌, ◌/◌, ◌^◌, ◌<◌, ◌≤◌, ◌==◌, ◌++◌, map, length, take, IsTrue};
 ghost use Rattle.std.specs.Simd.Lanes.{chunk, zip2, mask_l};
 ghost use Rattle.simd_cesu8.specs.Encoding.{Flavor, Cesu8, Mutf8};
-ghost use Rattle.simd_cesu8.specs.EncodedPlaces.{is_lead, is_null, mask, six_bits, packed, places, AreShuffles, AreLanes};
+ghost use Rattle.simd_cesu8.specs.EncodedPlaces.{is_lead, is_null, mask, six_bits, packed, encoded_bytes, AreShuffles, AreLanes};
 
 use super::rows::rows;
 use crate::internal::Rows;
@@ -30,9 +30,9 @@ pub fn write_block<N: NullForm>(
 ) -> usize
     requires window { at + 35 ≤ length window.now }
     requires count { count ≤ BLOCK }
-    requires room { end + length (places N.flavor window.now at count) ≤ length out.old }
-    ensures bytes { take result out.new ≡ take end out.old ++ places N.flavor window.now at count }
-    ensures end { result ≡ end + length (places N.flavor window.now at count) }
+    requires room { end + length (encoded_bytes N.flavor window.now at count) ≤ length out.old }
+    ensures bytes { take result out.new ≡ take end out.old ++ encoded_bytes N.flavor window.now at count }
+    ensures end { result ≡ end + length (encoded_bytes N.flavor window.now at count) }
     ensures len { length out.new ≡ length out.old }
 {
     let block = encode_block::<N>(window, at);
@@ -131,10 +131,10 @@ fn store_block(block: &EncodedBlock, count: usize, out: &mut [u8], end: usize) -
     requires room { end + STORED ≤ length out.old }
     ensures bytes { (f : Flavor) → (window : List ℕ) → (at : ℕ)
         → AreLanes f window at block.now.seconds block.now.firsts block.now.doubled
-        → take result out.new ≡ take end out.old ++ places f window at count }
+        → take result out.new ≡ take end out.old ++ encoded_bytes f window at count }
     ensures end { (f : Flavor) → (window : List ℕ) → (at : ℕ)
         → AreLanes f window at block.now.seconds block.now.firsts block.now.doubled
-        → result ≡ end + length (places f window at count) }
+        → result ≡ end + length (encoded_bytes f window at count) }
     ensures len { length out.new ≡ length out.old }
 {
     store_rows(block.seconds, block.firsts, block.doubled, rows(), out, end);

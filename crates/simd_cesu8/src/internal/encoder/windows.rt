@@ -72,7 +72,7 @@ fn write_middle<N: NullForm>(text: &[u8], blocks: usize, out: &mut [u8], start: 
 /// Writes what the last block of a longer text becomes, and returns its end.
 #[inline(always)]
 fn write_last<N: NullForm>(text: &[u8], at: usize, out: &mut [u8], end: usize) -> usize
-    requires place { (BLOCK ≤ at) × (at < length text.now) × (length text.now ≤ at + BLOCK) }
+    requires position { (BLOCK ≤ at) × (at < length text.now) × (length text.now ≤ at + BLOCK) }
     requires room { length (recoded N.flavor text.now) ≤ length out.old }
     requires before { IsWritten N.flavor text.now at out.old end }
     ensures written { IsWritten N.flavor text.now (length text.now) out.new result }

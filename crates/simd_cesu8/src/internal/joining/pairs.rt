@@ -2,9 +2,9 @@
 
 ghost use Rattle.std.specs.Prelude.{◌≡◌, ◌+◌, ◌*◌, ◌<◌, ◌≤◌, ◌↔◌, length, take, drop, slice_index, IsTrue};
 ghost use Rattle.simd_cesu8.specs.Encoding.{Flavor as AnyFlavor};
-ghost use Rattle.simd_cesu8.specs.Joining.{IsJoinedAfter, KeepsJoined, HasPair, Joins, second_third_fifth_sixth, word_of};
+ghost use Rattle.simd_cesu8.specs.Joining.{IsJoinedAfter, KeepsJoined, HasPair, AreJoinedDigits, second_third_fifth_sixth, word_of};
 
-use super::{Place, Room};
+use super::{Progress, Room};
 use std::simd::prelude::*;
 
 /// The marks of three surrogate pairs in a row.
@@ -13,7 +13,7 @@ pub const PAIR_MARKS: u32 = 0x0000_1041;
 /// Joins surrogate pairs in a row. Nothing is copied between them, and the position of the next one
 /// does not depend on what was read.
 #[inline(always)]
-pub fn join_pairs<'a>(start: Place<'a>, stop: usize, room: &mut Room) -> Place<'a>
+pub fn join_pairs<'a>(start: Progress<'a>, stop: usize, room: &mut Room) -> Progress<'a>
     requires stop { (stop < length start.rest.now) × (48 ≤ stop) }
     requires room { start.written + length start.rest.now ≤ 1024 + stop }
     ensures after { IsJoinedAfter start.entry.rest.now result.rest.now
@@ -30,7 +30,7 @@ pub fn join_pairs<'a>(start: Place<'a>, stop: usize, room: &mut Room) -> Place<'
         read += 6;
         written += 4;
     }
-    Place {
+    Progress {
         rest: &bytes[read..],
         written,
     }
@@ -45,7 +45,7 @@ fn join_pair(bytes: &[u8], written: usize, room: &mut Room)
     ensures { (f : AnyFlavor) → KeepsJoined f bytes.now (take written room.old)
         (drop 6 bytes.now) (take (written + 4) room.new) }
 {
-    let four = joined(bytes);
+    let four = utf8_of_pair(bytes);
     room[written..written + 4].copy_from_slice(&four);
 }
 
@@ -60,9 +60,9 @@ pub fn is_pair(bytes: &[u8]) -> bool
 
 /// Returns the UTF-8 of the character whose surrogate pair begins the bytes.
 #[inline(always)]
-pub fn joined(bytes: &[u8]) -> [u8; 4]
+pub fn utf8_of_pair(bytes: &[u8]) -> [u8; 4]
     requires { 8 ≤ length bytes.now }
-    ensures { Joins (second_third_fifth_sixth bytes.now) result }
+    ensures { AreJoinedDigits (second_third_fifth_sixth bytes.now) result }
 {
     // The plane offset: one more than the last four bits of the second byte.
     let word = front_word(bytes).wrapping_add(0x100);

@@ -6,4 +6,4 @@ returns-clause-written g c =
     let f = g.N.NullForm.flavor in
     let window = c.args.window.now in
     block_written f window c.args.at c.args.count _ _ _ _ _ (c.gone.ensures f window c.args.at c.requires.codes) c.damaged.ensures
-    (c.joined.ensures f c.args.count c.requires.count c.requires.codes)
+    (c.changed_bytes.ensures f c.args.count c.requires.count c.requires.codes)

@@ -1,5 +1,5 @@
 use Rattle.std.proofs.Common.{◌-◌, ◌∷◌, ap, ◌∙◌, arith, length}
-use Rattle.simd_cesu8.proofs.EncodedWindows.{places_first, room_for_parts}
+use Rattle.simd_cesu8.proofs.EncodedWindows.{encoded_bytes_first, room_for_parts}
 use Rattle.simd_cesu8.proofs.internal.encoder.windows.write_first.Goals as goal
 
 pub write_block-requires-clause-room : goal.write_block-requires-clause-room
@@ -8,7 +8,7 @@ write_block-requires-clause-room g c =
     let text = c.args.text.now in
     omega (
       arith,
-      ap length (places_first f text c.put_behind_zeros.new.window 32 (omega arith) c.put_behind_zeros.ensures),
+      ap length (encoded_bytes_first f text c.put_behind_zeros.new.window 32 (omega arith) c.put_behind_zeros.ensures),
       room_for_parts f (0 ∷ 0 ∷ text) 0 32 (length text - 32) (length text) (omega (arith, c.requires.long)),
       c.requires.room,
     )
@@ -17,6 +17,6 @@ pub returns-clause-written : goal.returns-clause-written
 returns-clause-written g c =
     let f = g.N.NullForm.flavor in
     let text = c.args.text.now in
-    let same = places_first f text c.put_behind_zeros.new.window 32 (omega arith) c.put_behind_zeros.ensures in
+    let same = encoded_bytes_first f text c.put_behind_zeros.new.window 32 (omega arith) c.put_behind_zeros.ensures in
     let room = room_for_parts f (0 ∷ 0 ∷ text) 0 32 (length text - 32) (length text) (omega (arith, c.requires.long)) in
     (c.write_block.ensures.bytes ∙ same, omega (arith, c.write_block.ensures.end, c.write_block.ensures.len, ap length same, room, c.requires.room))

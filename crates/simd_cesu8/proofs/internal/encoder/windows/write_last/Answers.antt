@@ -1,6 +1,6 @@
 use Rattle.std.proofs.Common.{◌≡◌, ◌+◌, ◌-◌, ap, subst, arith, length}
 use Rattle.simd_cesu8.specs.EncodedPlaces.{IsWritten}
-use Rattle.simd_cesu8.proofs.EncodedWindows.{places_last, room_behind, written_behind}
+use Rattle.simd_cesu8.proofs.EncodedWindows.{encoded_bytes_last, room_behind, written_behind}
 use Rattle.simd_cesu8.proofs.internal.encoder.windows.write_last.Goals as goal
 
 pub write_block-requires-clause-room : goal.write_block-requires-clause-room
@@ -10,8 +10,8 @@ write_block-requires-clause-room g c =
     let at = c.args.at in
     omega (
       arith,
-      ap length (places_last f text c.put_before_zeros.new.window at (length text - at) (omega (arith, c.requires.place)) c.put_before_zeros.ensures),
-      room_behind f text at (length text - at) c.args.end c.args.out.now (omega (arith, c.requires.place)) c.requires.before c.requires.room,
+      ap length (encoded_bytes_last f text c.put_before_zeros.new.window at (length text - at) (omega (arith, c.requires.position)) c.put_before_zeros.ensures),
+      room_behind f text at (length text - at) c.args.end c.args.out.now (omega (arith, c.requires.position)) c.requires.before c.requires.room,
     )
 
 pub returns-clause-written : goal.returns-clause-written
@@ -19,9 +19,9 @@ returns-clause-written g c =
     let f = g.N.NullForm.flavor in
     let text = c.args.text.now in
     let at = c.args.at in
-    let same = places_last f text c.put_before_zeros.new.window at (length text - at) (omega (arith, c.requires.place)) c.put_before_zeros.ensures in
-    let room = room_behind f text at (length text - at) c.args.end c.args.out.now (omega (arith, c.requires.place)) c.requires.before c.requires.room in
-    let sum : at + (length text - at) ≡ length text = omega (arith, c.requires.place) in
+    let same = encoded_bytes_last f text c.put_before_zeros.new.window at (length text - at) (omega (arith, c.requires.position)) c.put_before_zeros.ensures in
+    let room = room_behind f text at (length text - at) c.args.end c.args.out.now (omega (arith, c.requires.position)) c.requires.before c.requires.room in
+    let sum : at + (length text - at) ≡ length text = omega (arith, c.requires.position) in
     subst (λ n. IsWritten f text n c.write_block.new.out c.write_block.result) sum
     (written_behind f text at (length text - at) _ _ _ _ _ c.requires.before c.write_block.ensures.bytes same
     (omega (arith, c.write_block.ensures.end, c.write_block.ensures.len, ap length same, room)))

@@ -1,6 +1,6 @@
 use Rattle.std.proofs.Common.{◌≡◌, ◌+◌, ◌*◌, ap, subst, ◌∙◌, arith, length}
 use Rattle.simd_cesu8.specs.EncodedPlaces.{IsWritten}
-use Rattle.simd_cesu8.proofs.EncodedWindows.{places_here, room_behind, written_behind}
+use Rattle.simd_cesu8.proofs.EncodedWindows.{encoded_bytes_here, room_behind, written_behind}
 use Rattle.simd_cesu8.proofs.internal.encoder.windows.write_middle.Goals as goal
 
 pub write_block-end-requires-clause-room : goal.write_block-end-requires-clause-room
@@ -10,7 +10,7 @@ write_block-end-requires-clause-room g c =
     let inv = c.loop-i.invariant in
     omega (
       arith,
-      ap length (places_here f text (32 * c.loop-i.i) 32 (omega arith)),
+      ap length (encoded_bytes_here f text (32 * c.loop-i.i) 32 (omega arith)),
       room_behind f text (32 * c.loop-i.i) 32 c.loop-i.end c.loop-i.out (omega (arith, c.requires.blocks)) inv.written
           (omega (arith, inv.len, c.requires.room)),
     )
@@ -21,7 +21,7 @@ loop-i-preserved g c =
     let text = c.args.text.now in
     let inv = c.loop-i.invariant in
     let sum : 32 * c.loop-i.i + 32 ≡ 32 * (c.loop-i.i + 1) = omega arith in
-    let same = places_here f text (32 * c.loop-i.i) 32 (omega arith) in
+    let same = encoded_bytes_here f text (32 * c.loop-i.i) 32 (omega arith) in
     let room = room_behind f text (32 * c.loop-i.i) 32 c.loop-i.end c.loop-i.out (omega (arith, c.requires.blocks)) inv.written
     (omega (arith, inv.len, c.requires.room)) in
     record {

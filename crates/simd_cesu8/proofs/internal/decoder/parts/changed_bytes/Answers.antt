@@ -1,6 +1,6 @@
 use Rattle.std.proofs.Common.{◌∙◌, sym}
 use Rattle.simd_cesu8.proofs.DecodedBlocks.{first_kept, first_bytes}
-use Rattle.simd_cesu8.proofs.internal.decoder.parts.joined.Goals as goal
+use Rattle.simd_cesu8.proofs.internal.decoder.parts.changed_bytes.Goals as goal
 
 pub returns-then-highest_bits-eq0 : goal.returns-then-highest_bits-eq0
 returns-then-highest_bits-eq0 c f count small near =
@@ -9,4 +9,4 @@ returns-then-highest_bits-eq0 c f count small near =
 pub returns : goal.returns
 returns c f count small near =
     first_bytes f c.args.window.now c.args.codes.now c.args.at near c.requires.window _ _ _ _ _ _
-    c.look_up-first.ensures c.look_up.ensures c.look_up-2.ensures c.chosen-joined.ensures c.chosen-joined-2.ensures c.chosen.ensures count small
+    c.look_up-first.ensures c.look_up.ensures c.look_up-2.ensures c.chosen-changed.ensures c.chosen-changed-2.ensures c.chosen.ensures count small

@@ -1,6 +1,6 @@
 use Rattle.std.proofs.Common.{◌≡◌, ◌∙◌, ◌+◌, ◌*◌, ◌<◌, ℕ, refl, get_or, arith}
 use Rattle.simd_cesu8.proofs.PairWords.{joined_word_is}
-use Rattle.simd_cesu8.proofs.internal.joining.pairs.joined.Goals as goal
+use Rattle.simd_cesu8.proofs.internal.joining.pairs.utf8_of_pair.Goals as goal
 
 pub returns : goal.returns
 returns c scalar w x y z digits four_is =
