@@ -26,7 +26,7 @@ pub fn needs_encoded(flavor: Flavor, value: &str) -> bool
 }
 
 #[inline(always)]
-#[tactic(auto, using(crate::proofs::Needs::encoding_by_need))]
+#[tactic(auto, using(crate::proofs::encoding::NeedsEncoding::encoding_by_need))]
 pub fn encode(alloc: Global, flavor: Flavor, value: &str) -> Result<CowBytes<'_>, AllocError>
     ensures encoding { IfBytes result
         (λ bytes. bytes ≡ encoding (flavor_of flavor) (chars value.now)) }

@@ -8,9 +8,9 @@ ghost use Rattle.simd_cesu8.specs.Internal.{flavor_of};
 
 mod ascii;
 mod continuation;
-#[tactic(auto, using(crate::proofs::Pieces::piece_read))]
+#[tactic(auto, using(crate::proofs::reading::Pieces::piece_read))]
 mod decoder;
-#[tactic(auto, using(crate::proofs::Needs::encoding_as_long))]
+#[tactic(auto, using(crate::proofs::encoding::NeedsEncoding::encoding_as_long))]
 mod encoder;
 mod joining;
 mod lengths;

@@ -1,7 +1,7 @@
 use Rattle.std.proofs.Common.{◌<◌, ◌≤◌, get_or, ⊎_elim, arith}
 use Rattle.std.proofs.lemmas.Bool.{cases_lt}
 use Rattle.std.proofs.lemmas.Str.{IsUtf8-take}
-use Rattle.simd_cesu8.proofs.Continuations.{no_four_continue}
+use Rattle.simd_cesu8.proofs.text.Continuations.{no_four_continue}
 use Rattle.simd_cesu8.proofs.borrow_or_build.has_utf8_front.Goals as goal
 
 pub returns-in-Some : goal.returns-in-Some

@@ -2,7 +2,7 @@ use Rattle.std.proofs.Common.{◌↔◌, IsTrue, subst}
 use Rattle.std.specs.List.{Any}
 use Rattle.simd_cesu8.specs.Class.{IsChangedByte}
 use Rattle.simd_cesu8.specs.Internal.{flavor_of}
-use Rattle.simd_cesu8.proofs.Needs.{needs_by_test}
+use Rattle.simd_cesu8.proofs.encoding.NeedsEncoding.{needs_by_test}
 use Rattle.simd_cesu8.proofs.borrow_or_build.needs_encoded.Goals as goal
 
 pub returns : goal.returns

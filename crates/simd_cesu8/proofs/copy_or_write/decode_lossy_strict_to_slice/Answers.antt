@@ -2,7 +2,7 @@ use Rattle.std.proofs.Common.{◌≡◌, arith}
 use Rattle.std.proofs.lemmas.Str.{IsUtf8-from_ascii}
 use Rattle.simd_cesu8.specs.Reading.{reading}
 use Rattle.simd_cesu8.specs.Internal.{flavor_of}
-use Rattle.simd_cesu8.proofs.SliceReadings.{only_unchanged_lossy, lossy_written}
+use Rattle.simd_cesu8.proofs.pieces.SliceReadings.{only_unchanged_lossy, lossy_written}
 use Rattle.simd_cesu8.proofs.copy_or_write.decode_lossy_strict_to_slice.Goals as goal
 
 pub returns-then-is_short_unchanged_ascii : goal.returns-then-is_short_unchanged_ascii

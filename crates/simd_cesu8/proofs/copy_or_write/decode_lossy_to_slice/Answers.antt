@@ -2,7 +2,7 @@ use Rattle.std.proofs.Common.{arith}
 use Rattle.std.proofs.lemmas.Str.{IsUtf8-from_ascii}
 use Rattle.simd_cesu8.specs.Reading.{IsLenientLossyReading}
 use Rattle.simd_cesu8.specs.Internal.{flavor_of}
-use Rattle.simd_cesu8.proofs.SliceReadings.{only_utf8_lossy, lossy_written}
+use Rattle.simd_cesu8.proofs.pieces.SliceReadings.{only_utf8_lossy, lossy_written}
 use Rattle.simd_cesu8.proofs.copy_or_write.decode_lossy_to_slice.Goals as goal
 
 pub returns-then-is_short_ascii : goal.returns-then-is_short_ascii

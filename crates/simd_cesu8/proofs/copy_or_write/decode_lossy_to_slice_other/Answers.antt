@@ -1,7 +1,7 @@
 use Rattle.std.proofs.Common.{◌≡◌, arith}
 use Rattle.simd_cesu8.specs.Reading.{reading, IsLenientLossyReading}
 use Rattle.simd_cesu8.specs.Internal.{flavor_of}
-use Rattle.simd_cesu8.proofs.SliceReadings.{only_utf8_lossy, lossy_written, same_lossy_reading, lenient_is_lossy}
+use Rattle.simd_cesu8.proofs.pieces.SliceReadings.{only_utf8_lossy, lossy_written, same_lossy_reading, lenient_is_lossy}
 use Rattle.simd_cesu8.proofs.copy_or_write.decode_lossy_to_slice_other.Goals as goal
 
 pub returns-then-whole_text-bytes : goal.returns-then-whole_text-bytes

@@ -1,7 +1,7 @@
 use Rattle.std.proofs.lemmas.Str.{IsUtf8-from_ascii}
 use Rattle.simd_cesu8.specs.Reading.{IsStrictReading}
 use Rattle.simd_cesu8.specs.Internal.{flavor_of}
-use Rattle.simd_cesu8.proofs.SliceReadings.{only_unchanged, text_written}
+use Rattle.simd_cesu8.proofs.pieces.SliceReadings.{only_unchanged, text_written}
 use Rattle.simd_cesu8.proofs.copy_or_write.decode_strict_to_slice.Goals as goal
 
 pub returns-then-is_short_unchanged_ascii : goal.returns-then-is_short_unchanged_ascii

@@ -4,8 +4,8 @@ use Rattle.std.proofs.lemmas.Bool.{iff_false}
 use Rattle.simd_cesu8.specs.Class.{IsChangedByte}
 use Rattle.simd_cesu8.specs.Reading.{IsStrictReading}
 use Rattle.simd_cesu8.specs.Internal.{flavor_of}
-use Rattle.simd_cesu8.proofs.EncodedBytes.{none_changed}
-use Rattle.simd_cesu8.proofs.SliceReadings.{only_unchanged, refused, text_written}
+use Rattle.simd_cesu8.proofs.encoding.EncodedBytes.{none_changed}
+use Rattle.simd_cesu8.proofs.pieces.SliceReadings.{only_unchanged, refused, text_written}
 use Rattle.simd_cesu8.proofs.copy_or_write.decode_strict_to_slice_other.Goals as goal
 
 -- No encoding has a byte that changes.

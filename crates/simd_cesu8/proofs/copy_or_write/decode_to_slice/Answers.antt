@@ -1,7 +1,7 @@
 use Rattle.std.proofs.lemmas.Str.{IsUtf8-from_ascii}
 use Rattle.simd_cesu8.specs.Reading.{IsLenientReading}
 use Rattle.simd_cesu8.specs.Internal.{flavor_of}
-use Rattle.simd_cesu8.proofs.SliceReadings.{only_utf8, text_written}
+use Rattle.simd_cesu8.proofs.pieces.SliceReadings.{only_utf8, text_written}
 use Rattle.simd_cesu8.proofs.copy_or_write.decode_to_slice.Goals as goal
 
 pub returns-then-is_short_ascii : goal.returns-then-is_short_ascii

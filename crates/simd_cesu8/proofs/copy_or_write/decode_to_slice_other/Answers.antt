@@ -1,6 +1,6 @@
 use Rattle.simd_cesu8.specs.Reading.{IsStrictReading, IsLenientReading}
 use Rattle.simd_cesu8.specs.Internal.{flavor_of}
-use Rattle.simd_cesu8.proofs.SliceReadings.{only_utf8, text_written, same_reading, lenient_is_strict}
+use Rattle.simd_cesu8.proofs.pieces.SliceReadings.{only_utf8, text_written, same_reading, lenient_is_strict}
 use Rattle.simd_cesu8.proofs.copy_or_write.decode_to_slice_other.Goals as goal
 
 pub returns-then-whole_text-bytes : goal.returns-then-whole_text-bytes

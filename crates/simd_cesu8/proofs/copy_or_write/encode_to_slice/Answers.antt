@@ -2,7 +2,7 @@ use Rattle.std.proofs.Common.{sym, ◌∙◌, subst}
 use Rattle.std.proofs.lemmas.Bool.{iff_false}
 use Rattle.simd_cesu8.specs.Internal.{flavor_of}
 use Rattle.simd_cesu8.specs.Slices.{WritesAnswer}
-use Rattle.simd_cesu8.proofs.Needs.{encoding_is_bytes}
+use Rattle.simd_cesu8.proofs.encoding.NeedsEncoding.{encoding_is_bytes}
 use Rattle.simd_cesu8.proofs.copy_or_write.encode_to_slice.Goals as goal
 
 pub returns-then-not-needs_encoded : goal.returns-then-not-needs_encoded

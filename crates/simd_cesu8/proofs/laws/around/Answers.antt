@@ -1,4 +1,4 @@
-use Rattle.simd_cesu8.proofs.EncodedTexts.{around}
+use Rattle.simd_cesu8.proofs.reading.EncodedTexts.{around}
 use Rattle.simd_cesu8.proofs.laws.around.Goals as goal
 
 pub returns : goal.returns

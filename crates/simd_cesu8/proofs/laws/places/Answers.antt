@@ -1,5 +1,5 @@
-use Rattle.simd_cesu8.proofs.Greedy.{places}
-use Rattle.simd_cesu8.proofs.Lawful.{has_greedy_cutting_law}
+use Rattle.simd_cesu8.proofs.reading.Greedy.{places}
+use Rattle.simd_cesu8.proofs.order.Lawful.{has_greedy_cutting_law}
 use Rattle.simd_cesu8.proofs.laws.places.Goals as goal
 
 pub returns : goal.returns

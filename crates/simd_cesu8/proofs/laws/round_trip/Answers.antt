@@ -1,4 +1,4 @@
-use Rattle.simd_cesu8.proofs.Lawful.{round_trip_law}
+use Rattle.simd_cesu8.proofs.order.Lawful.{round_trip_law}
 use Rattle.simd_cesu8.proofs.laws.round_trip.Goals as goal
 
 pub returns : goal.returns

@@ -1,7 +1,7 @@
 use Rattle.std.proofs.Common.{refl}
 use Rattle.std.proofs.lemmas.Bool.{iff_false}
 use Rattle.simd_cesu8.specs.Kernels.{AnyIn}
-use Rattle.simd_cesu8.proofs.Walks.{none_before_start, none_with_next, none_at_end, any_at}
+use Rattle.simd_cesu8.proofs.lists.Walks.{none_before_start, none_with_next, none_at_end, any_at}
 use Rattle.simd_cesu8.proofs.implementation.class.any_in_each.Goals as goal
 
 pub loop-chunk-init : goal.loop-chunk-init

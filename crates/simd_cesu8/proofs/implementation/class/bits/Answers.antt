@@ -1,4 +1,4 @@
-use Rattle.simd_cesu8.proofs.Classes.{bits_of_marks}
+use Rattle.simd_cesu8.proofs.lists.Classes.{bits_of_marks}
 use Rattle.simd_cesu8.proofs.implementation.class.bits.Goals as goal
 
 pub returns : goal.returns

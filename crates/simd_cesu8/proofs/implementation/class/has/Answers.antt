@@ -1,5 +1,5 @@
-use Rattle.simd_cesu8.proofs.Lanes.{any_passes}
-use Rattle.simd_cesu8.proofs.Classes.{bits_of_marks}
+use Rattle.simd_cesu8.proofs.lists.Lanes.{any_passes}
+use Rattle.simd_cesu8.proofs.lists.Classes.{bits_of_marks}
 use Rattle.simd_cesu8.proofs.implementation.class.has.Goals as goal
 
 pub returns : goal.returns

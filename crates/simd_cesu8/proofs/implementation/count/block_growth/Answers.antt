@@ -1,6 +1,6 @@
 use Rattle.std.proofs.Common.{arith}
 use Rattle.simd_cesu8.specs.Class.{is_four}
-use Rattle.simd_cesu8.proofs.Counts.{block_counted, growth_bound, one_more_fits, counted_more}
+use Rattle.simd_cesu8.proofs.encoder.Counts.{block_counted, growth_bound, one_more_fits, counted_more}
 use Rattle.simd_cesu8.proofs.implementation.count.block_growth.Goals as goal
 
 pub overflow_add-nulls : goal.overflow_add-nulls

@@ -1,5 +1,5 @@
 use Rattle.simd_cesu8.specs.Class.{is_four}
-use Rattle.simd_cesu8.proofs.Counts.{HaveCounted}
+use Rattle.simd_cesu8.proofs.encoder.Counts.{HaveCounted}
 use Rattle.simd_cesu8.proofs.implementation.count.block_growth.Given as goal
 
 abbrev pub invariant-loop-i : goal.invariant-loop-i

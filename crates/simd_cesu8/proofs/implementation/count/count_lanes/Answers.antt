@@ -1,5 +1,5 @@
 use Rattle.std.proofs.Common.{arith}
-use Rattle.simd_cesu8.proofs.Counts.{bits_behind}
+use Rattle.simd_cesu8.proofs.encoder.Counts.{bits_behind}
 use Rattle.simd_cesu8.proofs.implementation.count.count_lanes.Goals as goal
 
 pub returns : goal.returns

@@ -1,6 +1,6 @@
 use Rattle.std.proofs.Common.{ap, ◌∙◌, arith, sum_by}
 use Rattle.simd_cesu8.specs.Class.{growth_of}
-use Rattle.simd_cesu8.proofs.Counts.{last_of_last}
+use Rattle.simd_cesu8.proofs.encoder.Counts.{last_of_last}
 use Rattle.simd_cesu8.proofs.implementation.count.end_growth.Goals as goal
 
 pub returns : goal.returns

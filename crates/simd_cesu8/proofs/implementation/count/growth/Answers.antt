@@ -1,6 +1,6 @@
 use Rattle.std.proofs.Common.{arith}
 use Rattle.simd_cesu8.specs.Class.{growth_of}
-use Rattle.simd_cesu8.proofs.Counts.{growth_bound, sum_by_chunk}
+use Rattle.simd_cesu8.proofs.encoder.Counts.{growth_bound, sum_by_chunk}
 use Rattle.simd_cesu8.proofs.implementation.count.growth.Goals as goal
 
 pub overflow_add-growth : goal.overflow_add-growth

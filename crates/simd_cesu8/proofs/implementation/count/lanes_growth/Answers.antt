@@ -1,5 +1,5 @@
 use Rattle.std.proofs.Common.{drop, arith}
-use Rattle.simd_cesu8.proofs.Counts.{growth_by_counts}
+use Rattle.simd_cesu8.proofs.encoder.Counts.{growth_by_counts}
 use Rattle.simd_cesu8.proofs.implementation.count.lanes_growth.Goals as goal
 
 pub returns : goal.returns

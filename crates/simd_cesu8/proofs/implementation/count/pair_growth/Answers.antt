@@ -1,6 +1,6 @@
 use Rattle.std.proofs.Common.{◌≡◌, ◌-◌, ap, ◌∙◌, arith, length, drop, sum_by}
 use Rattle.simd_cesu8.specs.Class.{growth_of}
-use Rattle.simd_cesu8.proofs.Counts.{growth_bound, sum_by_parts}
+use Rattle.simd_cesu8.proofs.encoder.Counts.{growth_bound, sum_by_parts}
 use Rattle.simd_cesu8.proofs.implementation.count.pair_growth.Goals as goal
 
 pub overflow_add-result : goal.overflow_add-result

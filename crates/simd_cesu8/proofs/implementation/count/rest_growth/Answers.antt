@@ -1,7 +1,7 @@
 use Rattle.std.proofs.Common.{◌≡◌, ◌+◌, ◌*◌, ◌/◌, ◌-◌, ◌∙◌, ap, arith, length, take, drop, sum_by}
 use Rattle.std.proofs.lemmas.List.Sums.{sum_by-take-le}
 use Rattle.simd_cesu8.specs.Class.{growth_of}
-use Rattle.simd_cesu8.proofs.Counts.{growth_bound, sum_by_next, sum_by_parts}
+use Rattle.simd_cesu8.proofs.encoder.Counts.{growth_bound, sum_by_next, sum_by_parts}
 use Rattle.simd_cesu8.proofs.implementation.count.rest_growth.Goals as goal
 
 pub overflow_add-growth : goal.overflow_add-growth

@@ -1,6 +1,6 @@
 use Rattle.std.proofs.Common.{refl, sym, ◌∙◌, eqb-true}
 use Rattle.simd_cesu8.specs.Kernels.{AnyIn}
-use Rattle.simd_cesu8.proofs.Chunks.{all_left, found_in_chunks, left_by_chunks, nothing_left}
+use Rattle.simd_cesu8.proofs.lists.Chunks.{all_left, found_in_chunks, left_by_chunks, nothing_left}
 use Rattle.simd_cesu8.proofs.implementation.groups.any_in_chunks.Goals as goal
 
 pub returns-then-is_empty : goal.returns-then-is_empty

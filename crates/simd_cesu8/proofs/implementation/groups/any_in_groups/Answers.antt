@@ -2,7 +2,7 @@ use Rattle.std.proofs.Common.{refl}
 use Rattle.std.specs.List.{Any}
 use Rattle.std.proofs.lemmas.Bool.{iff_false}
 use Rattle.simd_cesu8.specs.Kernels.{AnyIn}
-use Rattle.simd_cesu8.proofs.Walks.{none_before_start, none_with_next, none_at_end, any_at}
+use Rattle.simd_cesu8.proofs.lists.Walks.{none_before_start, none_with_next, none_at_end, any_at}
 use Rattle.simd_cesu8.proofs.implementation.groups.any_in_groups.Goals as goal
 
 pub loop-group-init : goal.loop-group-init

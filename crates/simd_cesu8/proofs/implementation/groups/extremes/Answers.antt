@@ -1,6 +1,6 @@
 use Rattle.std.proofs.Common.{[], ⊎_elim, inl, inr}
 use Rattle.simd_cesu8.specs.Kernels.{AnyIn}
-use Rattle.simd_cesu8.proofs.Chunks.{any_of_group}
+use Rattle.simd_cesu8.proofs.lists.Chunks.{any_of_group}
 use Rattle.simd_cesu8.proofs.implementation.groups.extremes.Goals as goal
 
 pub returns : goal.returns

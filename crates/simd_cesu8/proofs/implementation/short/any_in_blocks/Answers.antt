@@ -1,7 +1,7 @@
 use Rattle.std.proofs.Common.{refl, subst, IsTrue, ◌*◌, ◌/◌, length, arith}
 use Rattle.std.specs.List.{Any}
-use Rattle.simd_cesu8.proofs.Chunks.{all_left, found_in_chunks, left_by_chunks}
-use Rattle.simd_cesu8.proofs.Ends.{any_in_last, any_of_last}
+use Rattle.simd_cesu8.proofs.lists.Chunks.{all_left, found_in_chunks, left_by_chunks}
+use Rattle.simd_cesu8.proofs.lists.Ends.{any_in_last, any_of_last}
 use Rattle.simd_cesu8.proofs.implementation.short.any_in_blocks.Goals as goal
 
 pub returns-then-any_in_each : goal.returns-then-any_in_each

@@ -1,5 +1,5 @@
 use Rattle.std.proofs.Common.{IsTrue}
-use Rattle.simd_cesu8.proofs.Ends.{ends_tell}
+use Rattle.simd_cesu8.proofs.lists.Ends.{ends_tell}
 use Rattle.simd_cesu8.proofs.implementation.short.any_in_ends.Goals as goal
 
 pub returns : goal.returns

@@ -1,7 +1,7 @@
 use Rattle.std.proofs.Common.{◌≡◌, not, length, refl, sym, ap, ◌∙◌, arith, eqb-true, IsTrue}
 use Rattle.std.proofs.lemmas.Bool.{eqb-false}
 use mathlib.Core.Logic.Iff.{trans}
-use Rattle.simd_cesu8.proofs.Chunks.{nothing_left}
+use Rattle.simd_cesu8.proofs.lists.Chunks.{nothing_left}
 use Rattle.simd_cesu8.proofs.implementation.simd.any_in.Goals as goal
 use Rattle.simd_cesu8.proofs.implementation.simd.any_in.Goals.{then-not-is_empty, else-not-is_empty}
 

@@ -1,5 +1,5 @@
 use Rattle.std.proofs.Common.{IsTrue, refl, arith}
-use Rattle.simd_cesu8.proofs.Chunks.{all_left, found_in_chunks, left_by_chunks}
+use Rattle.simd_cesu8.proofs.lists.Chunks.{all_left, found_in_chunks, left_by_chunks}
 use Rattle.simd_cesu8.proofs.implementation.simd.left_by.Goals as goal
 
 pub returns-then-any_in_chunks-clause-found : goal.returns-then-any_in_chunks-clause-found

@@ -1,4 +1,4 @@
-use Rattle.simd_cesu8.proofs.Words.{four_test}
+use Rattle.simd_cesu8.proofs.lists.Words.{four_test}
 use Rattle.simd_cesu8.proofs.implementation.word.contains_four.Goals as goal
 
 pub returns : goal.returns

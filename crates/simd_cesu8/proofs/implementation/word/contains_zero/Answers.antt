@@ -1,4 +1,4 @@
-use Rattle.simd_cesu8.proofs.Words.{zero_test}
+use Rattle.simd_cesu8.proofs.lists.Words.{zero_test}
 use Rattle.simd_cesu8.proofs.implementation.word.contains_zero.Goals as goal
 
 pub returns : goal.returns

@@ -1,7 +1,7 @@
 use Rattle.std.proofs.Common.{IsTrue, arith, refl}
 use Rattle.std.proofs.lemmas.Bool.{iff_false}
-use Rattle.simd_cesu8.proofs.Words.{tested}
-use Rattle.simd_cesu8.proofs.Windows.{of_eight, none_further, in_last_eight}
+use Rattle.simd_cesu8.proofs.lists.Words.{tested}
+use Rattle.simd_cesu8.proofs.lists.EightElements.{of_eight, none_further, in_last_eight}
 use Rattle.simd_cesu8.proofs.implementation.word.test_word_any.Goals as goal
 
 pub loop-position-init : goal.loop-position-init

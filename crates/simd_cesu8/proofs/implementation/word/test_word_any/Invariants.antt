@@ -1,6 +1,6 @@
 use Rattle.std.proofs.Common.{ℕ, Bool, ◌-◌, IsTrue}
 use Rattle.simd_cesu8.specs.Kernels.{FindsInWords}
-use Rattle.simd_cesu8.proofs.Walks.{NoneBefore}
+use Rattle.simd_cesu8.proofs.lists.Walks.{NoneBefore}
 use Rattle.simd_cesu8.proofs.implementation.word.test_word_any.Given as goal
 
 abbrev pub invariant-loop-position : goal.invariant-loop-position

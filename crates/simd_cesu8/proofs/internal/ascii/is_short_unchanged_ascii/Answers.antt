@@ -1,5 +1,5 @@
 use Rattle.std.proofs.lemmas.Bool.{iff_false, not-true}
-use Rattle.simd_cesu8.proofs.Ascii.{ascii_of_none_null}
+use Rattle.simd_cesu8.proofs.text.Ascii.{ascii_of_none_null}
 use Rattle.simd_cesu8.proofs.internal.ascii.is_short_unchanged_ascii.Goals as goal
 
 pub returns-then-bytes-le-SHORT-clause-ascii : goal.returns-then-bytes-le-SHORT-clause-ascii

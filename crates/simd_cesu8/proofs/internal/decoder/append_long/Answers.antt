@@ -1,8 +1,8 @@
 use Rattle.std.proofs.Common.{rules}
 use Rattle.std.specs.String.{string_bytes}
 use Rattle.simd_cesu8.specs.Internal.{flavor_of}
-use Rattle.simd_cesu8.proofs.Decoding.{nothing_read}
-use Rattle.simd_cesu8.proofs.Pieces.{more_read, refused_after}
+use Rattle.simd_cesu8.proofs.reading.Decoding.{nothing_read}
+use Rattle.simd_cesu8.proofs.reading.Pieces.{more_read, refused_after}
 use Rattle.simd_cesu8.proofs.internal.decoder.append_long.Goals as goal
 
 pub loop-rest-init : goal.loop-rest-init

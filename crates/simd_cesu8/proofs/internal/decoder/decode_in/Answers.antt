@@ -2,7 +2,7 @@ use Rattle.std.proofs.Common.{true, ap, ◌∙◌, sym, arith}
 use Rattle.std.specs.Str.{chars}
 use Rattle.std.proofs.lemmas.Result.{IfOk-weaker}
 use Rattle.simd_cesu8.specs.Internal.{flavor_of}
-use Rattle.simd_cesu8.proofs.Pieces.{whole_text, whole_length}
+use Rattle.simd_cesu8.proofs.reading.Pieces.{whole_text, whole_length}
 use Rattle.simd_cesu8.proofs.internal.decoder.decode_in.Goals as goal
 
 pub returns-clause-text : goal.returns-clause-text

@@ -3,7 +3,7 @@ use Rattle.std.specs.Str.{chars}
 use Rattle.std.specs.String.{string_bytes}
 use Rattle.std.proofs.lemmas.Result.{IfOk-weaker}
 use Rattle.simd_cesu8.specs.Internal.{flavor_of}
-use Rattle.simd_cesu8.proofs.Pieces.{decoded_text}
+use Rattle.simd_cesu8.proofs.reading.Pieces.{decoded_text}
 use Rattle.simd_cesu8.proofs.internal.decoder.decode_lossy.Goals as goal
 
 pub returns-clause-text : goal.returns-clause-text

@@ -2,8 +2,8 @@ use Rattle.std.proofs.Common.{◌∙◌, sym, rules}
 use Rattle.std.specs.String.{string_bytes}
 use Rattle.std.proofs.lemmas.Bool.{eqb-true}
 use Rattle.simd_cesu8.specs.Internal.{flavor_of}
-use Rattle.simd_cesu8.proofs.Decoding.{nothing_read, all_read}
-use Rattle.simd_cesu8.proofs.Pieces.{more_read, refused_after, refused_whole}
+use Rattle.simd_cesu8.proofs.reading.Decoding.{nothing_read, all_read}
+use Rattle.simd_cesu8.proofs.reading.Pieces.{more_read, refused_after, refused_whole}
 use Rattle.simd_cesu8.proofs.internal.decoder.read_text.Goals as goal
 
 pub loop-rest-init : goal.loop-rest-init

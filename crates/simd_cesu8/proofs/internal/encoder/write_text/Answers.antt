@@ -1,6 +1,6 @@
 use Rattle.std.proofs.Common.{ap, ◌∙◌, arith, length}
 use Rattle.simd_cesu8.specs.declared.internal.Flavor.TheVariants as options
-use Rattle.simd_cesu8.proofs.RecodedText.{recoded_named}
+use Rattle.simd_cesu8.proofs.encoder.RecodedText.{recoded_named}
 use Rattle.simd_cesu8.proofs.internal.encoder.write_text.Goals as goal
 
 pub write_bytes-requires : goal.write_bytes-requires

@@ -1,6 +1,6 @@
 use Rattle.std.proofs.Common.{◌≡◌, ◌++◌, ◌∙◌, refl, ap, take, length, arith}
 use Rattle.std.proofs.lemmas.List.{length-take-le, take-take}
-use Rattle.simd_cesu8.proofs.Joining.{keeps_copied, written_at}
+use Rattle.simd_cesu8.proofs.pieces.Joining.{keeps_copied, written_at}
 use Rattle.simd_cesu8.proofs.internal.joining.copy_run.Goals as goal
 
 pub returns : goal.returns

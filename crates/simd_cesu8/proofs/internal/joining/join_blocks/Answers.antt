@@ -1,5 +1,5 @@
 use Rattle.simd_cesu8.specs.Internal.{flavor_of}
-use Rattle.simd_cesu8.proofs.Joining.{joined_so_far}
+use Rattle.simd_cesu8.proofs.pieces.Joining.{joined_so_far}
 use Rattle.simd_cesu8.proofs.internal.joining.join_blocks.Goals.{else-loop-at-test, then-loop-at-test+then-at-len}
 use Rattle.simd_cesu8.proofs.internal.joining.join_blocks.Goals as goal
 

@@ -1,6 +1,6 @@
 use Rattle.std.proofs.Common.{◌++◌, ◌∙◌, ap, refl, arith, length, take}
 use Rattle.simd_cesu8.specs.Internal.{flavor_of}
-use Rattle.simd_cesu8.proofs.Joining.{keeps_pair, keeps_null, written_at, written_whole}
+use Rattle.simd_cesu8.proofs.pieces.Joining.{keeps_pair, keeps_null, written_at, written_whole}
 use Rattle.simd_cesu8.proofs.internal.joining.join_changed.Goals.{then-pair, else-pair}
 use Rattle.simd_cesu8.proofs.internal.joining.join_changed.Goals as goal
 

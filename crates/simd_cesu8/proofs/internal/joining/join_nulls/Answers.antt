@@ -1,6 +1,6 @@
 use Rattle.std.proofs.Common.{◌++◌, ◌∙◌, ap, refl, arith, length, take}
 use Rattle.std.proofs.lemmas.List.{take_rest}
-use Rattle.simd_cesu8.proofs.Joining.{keeps_nulls, written_whole}
+use Rattle.simd_cesu8.proofs.pieces.Joining.{keeps_nulls, written_whole}
 use Rattle.simd_cesu8.proofs.internal.joining.join_nulls.Goals as goal
 
 pub returns-clause-joined : goal.returns-clause-joined

@@ -1,6 +1,6 @@
 use Rattle.std.proofs.Common.{arith}
 use Rattle.simd_cesu8.specs.Encoding.{Cesu8, Mutf8}
-use Rattle.simd_cesu8.proofs.EncodedLength.{length_by_bytes}
+use Rattle.simd_cesu8.proofs.encoding.EncodedLength.{length_by_bytes}
 use Rattle.simd_cesu8.proofs.internal.lengths.encoded_len.Goals as goal
 
 pub overflow_add-result : goal.overflow_add-result

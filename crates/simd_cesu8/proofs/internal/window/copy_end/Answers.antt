@@ -1,6 +1,6 @@
 use Rattle.std.proofs.Common.{get_or, arith}
 use Rattle.std.proofs.lemmas.List.{take_more, take_more_set}
-use Rattle.simd_cesu8.proofs.Joining.{joined_byte}
+use Rattle.simd_cesu8.proofs.pieces.Joining.{joined_byte}
 use Rattle.simd_cesu8.proofs.internal.window.copy_end.Goals as goal
 
 pub loop-read-preserved : goal.loop-read-preserved

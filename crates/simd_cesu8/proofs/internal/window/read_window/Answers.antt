@@ -3,8 +3,8 @@ use Rattle.std.specs.Str.{chars, IsUtf8}
 use Rattle.std.proofs.lemmas.Bool.{iff_false}
 use Rattle.simd_cesu8.specs.Internal.{flavor_of}
 use Rattle.simd_cesu8.proofs.StdUtf8.{IsUtf8Of_chars_at}
-use Rattle.simd_cesu8.proofs.JoinedText.{joined_text}
-use Rattle.simd_cesu8.proofs.Pieces.{piece_of_encoding}
+use Rattle.simd_cesu8.proofs.pieces.JoinedText.{joined_text}
+use Rattle.simd_cesu8.proofs.reading.Pieces.{piece_of_encoding}
 use Rattle.simd_cesu8.proofs.internal.window.read_window.Goals as goal
 
 pub returns-in-Ok-clause-text : goal.returns-in-Ok-clause-text

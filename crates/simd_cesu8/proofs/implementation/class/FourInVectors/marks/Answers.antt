@@ -1,4 +1,4 @@
-use Rattle.simd_cesu8.proofs.Classes.{four_marks}
+use Rattle.simd_cesu8.proofs.lists.Classes.{four_marks}
 use Rattle.simd_cesu8.proofs.implementation.class.FourInVectors.marks.Goals as goal
 
 pub returns : goal.returns

@@ -1,4 +1,4 @@
-use Rattle.simd_cesu8.proofs.Classes.{least_marks}
+use Rattle.simd_cesu8.proofs.lists.Classes.{least_marks}
 use Rattle.simd_cesu8.proofs.implementation.class.HighInVectors.marks.Goals as goal
 
 pub returns : goal.returns

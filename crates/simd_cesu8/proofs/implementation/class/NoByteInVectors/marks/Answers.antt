@@ -1,4 +1,4 @@
-use Rattle.simd_cesu8.proofs.Classes.{no_marks}
+use Rattle.simd_cesu8.proofs.lists.Classes.{no_marks}
 use Rattle.simd_cesu8.proofs.implementation.class.NoByteInVectors.marks.Goals as goal
 
 pub returns : goal.returns

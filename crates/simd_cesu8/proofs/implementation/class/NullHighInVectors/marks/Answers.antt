@@ -1,6 +1,6 @@
 use Rattle.std.proofs.Common.{eqb}
 use Rattle.simd_cesu8.specs.Class.{is_high}
-use Rattle.simd_cesu8.proofs.Classes.{either_marks}
+use Rattle.simd_cesu8.proofs.lists.Classes.{either_marks}
 use Rattle.simd_cesu8.proofs.implementation.class.NullHighInVectors.marks.Goals as goal
 
 pub returns : goal.returns

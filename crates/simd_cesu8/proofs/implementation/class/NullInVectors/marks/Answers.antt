@@ -1,4 +1,4 @@
-use Rattle.simd_cesu8.proofs.Classes.{equal_marks}
+use Rattle.simd_cesu8.proofs.lists.Classes.{equal_marks}
 use Rattle.simd_cesu8.proofs.implementation.class.NullInVectors.marks.Goals as goal
 
 pub returns : goal.returns

@@ -1,4 +1,4 @@
-use Rattle.simd_cesu8.proofs.Lanes.{lead_of_four}
+use Rattle.simd_cesu8.proofs.lists.Lanes.{lead_of_four}
 use Rattle.simd_cesu8.proofs.implementation.groups.FourInGroups.may_have.Goals as goal
 
 pub returns : goal.returns

@@ -1,5 +1,5 @@
 use Rattle.std.proofs.Common.{sym, ◌∙◌}
-use Rattle.simd_cesu8.proofs.Lanes.{lead_in_greater}
+use Rattle.simd_cesu8.proofs.lists.Lanes.{lead_in_greater}
 use Rattle.simd_cesu8.proofs.implementation.groups.LeadExtreme.extreme.Goals as goal
 
 pub returns : goal.returns

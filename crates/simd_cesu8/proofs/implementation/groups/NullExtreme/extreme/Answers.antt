@@ -1,5 +1,5 @@
 use Rattle.std.proofs.Common.{sym, ◌∙◌}
-use Rattle.simd_cesu8.proofs.Lanes.{null_in_lesser}
+use Rattle.simd_cesu8.proofs.lists.Lanes.{null_in_lesser}
 use Rattle.simd_cesu8.proofs.implementation.groups.NullExtreme.extreme.Goals as goal
 
 pub returns : goal.returns

@@ -1,6 +1,6 @@
 use Rattle.std.proofs.Common.{⊎_elim}
 use Rattle.std.proofs.lemmas.Bool.{both_ways}
-use Rattle.simd_cesu8.proofs.Lanes.{lead_or_null}
+use Rattle.simd_cesu8.proofs.lists.Lanes.{lead_or_null}
 use Rattle.simd_cesu8.proofs.implementation.groups.NullFourInGroups.may_have.Goals as goal
 
 pub returns-then-has : goal.returns-then-has

@@ -1,6 +1,6 @@
 use Rattle.std.proofs.Common.{true}
 use Rattle.simd_cesu8.specs.Internal.{flavor_of}
-use Rattle.simd_cesu8.proofs.Pieces.{piece_utf8}
+use Rattle.simd_cesu8.proofs.reading.Pieces.{piece_utf8}
 use Rattle.simd_cesu8.proofs.internal.decoder.by_places.read_by_places.Goals as goal
 
 -- What is written is the UTF-8 of a text.

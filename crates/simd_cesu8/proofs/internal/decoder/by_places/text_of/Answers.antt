@@ -1,6 +1,6 @@
 use Rattle.std.proofs.Common.{◌+◌, ◌-◌, drop, arith}
 use Rattle.std.proofs.lemmas.List.{length-drop, length-take-le}
-use Rattle.simd_cesu8.proofs.DecodedWindows.{text_and_zeros}
+use Rattle.simd_cesu8.proofs.decoder.DecodedWindows.{text_and_zeros}
 use Rattle.simd_cesu8.proofs.internal.decoder.by_places.text_of.Goals as goal
 
 -- What is tested is the text and zeros.

@@ -1,6 +1,6 @@
 use Rattle.std.proofs.Common.{◌+◌, length, arith}
 use Rattle.std.proofs.lemmas.Bool.{ltb-true, ltb-false}
-use Rattle.simd_cesu8.proofs.Damage.{covered_fits, all_covered, fewer_covered}
+use Rattle.simd_cesu8.proofs.places.Damage.{covered_fits, all_covered, fewer_covered}
 use Rattle.simd_cesu8.proofs.internal.decoder.damage.has_damage.Goals as goal
 
 pub overflow_add-covered : goal.overflow_add-covered

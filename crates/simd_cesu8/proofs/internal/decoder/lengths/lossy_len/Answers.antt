@@ -1,5 +1,5 @@
 use Rattle.std.proofs.Common.{arith}
-use Rattle.simd_cesu8.proofs.Savings.{lossy_length_by_savings, length_given}
+use Rattle.simd_cesu8.proofs.places.Savings.{lossy_length_by_savings, length_given}
 use Rattle.simd_cesu8.proofs.internal.decoder.lengths.lossy_len.Goals as goal
 
 pub overflow_sub-most : goal.overflow_sub-most

@@ -1,5 +1,5 @@
 use Rattle.std.proofs.Common.{arith}
-use Rattle.simd_cesu8.proofs.Savings.{lossy_length_by_savings}
+use Rattle.simd_cesu8.proofs.places.Savings.{lossy_length_by_savings}
 use Rattle.simd_cesu8.proofs.internal.decoder.lengths.saved.Goals as goal
 
 pub overflow_add-saved : goal.overflow_add-saved

@@ -1,4 +1,4 @@
-use Rattle.simd_cesu8.proofs.Lanes.{least_bits}
+use Rattle.simd_cesu8.proofs.lists.Lanes.{least_bits}
 use Rattle.simd_cesu8.proofs.internal.decoder.packing.highest_bits.Goals as goal
 
 pub returns : goal.returns

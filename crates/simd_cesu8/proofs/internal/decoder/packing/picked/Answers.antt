@@ -1,4 +1,4 @@
-use Rattle.simd_cesu8.proofs.DecodedRows.{low_ok, low_picked}
+use Rattle.simd_cesu8.proofs.decoder.DecodedRows.{low_ok, low_picked}
 use Rattle.simd_cesu8.proofs.internal.decoder.packing.picked.Goals as goal
 
 pub swizzle : goal.swizzle

@@ -1,5 +1,5 @@
 use Rattle.std.proofs.Common.{arith, ◌++◌}
-use Rattle.simd_cesu8.proofs.EncodedRows.{lanes_of_first}
+use Rattle.simd_cesu8.proofs.encoder.EncodedRows.{lanes_of_first}
 use Rattle.simd_cesu8.proofs.internal.decoder.packing.second_of.Goals as goal
 
 pub returns : goal.returns

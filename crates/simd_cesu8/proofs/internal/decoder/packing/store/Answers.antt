@@ -1,5 +1,5 @@
 use Rattle.std.proofs.Common.{arith}
-use Rattle.simd_cesu8.proofs.DecodedRows.{stored_halves}
+use Rattle.simd_cesu8.proofs.decoder.DecodedRows.{stored_halves}
 use Rattle.simd_cesu8.proofs.internal.decoder.packing.store.Goals as goal
 
 pub returns-clause-bytes : goal.returns-clause-bytes

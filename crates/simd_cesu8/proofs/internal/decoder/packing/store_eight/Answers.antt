@@ -1,6 +1,6 @@
 use Rattle.std.proofs.Common.{◌+◌, ap, ◌∙◌, arith, take, get_or, []}
 use lib.Lanes.{put_chunk}
-use Rattle.simd_cesu8.proofs.DecodedRowsOfEight.{end_of_eight, stored_eight}
+use Rattle.simd_cesu8.proofs.decoder.DecodedRowsOfEight.{end_of_eight, stored_eight}
 use Rattle.simd_cesu8.proofs.internal.decoder.packing.store_eight.Goals as goal
 
 pub returns-clause-bytes : goal.returns-clause-bytes

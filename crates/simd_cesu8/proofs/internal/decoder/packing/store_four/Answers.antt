@@ -1,6 +1,6 @@
 use Rattle.std.proofs.Common.{◌+◌, ap, ◌∙◌, arith, take, get_or, []}
 use lib.Lanes.{put_chunk}
-use Rattle.simd_cesu8.proofs.DecodedRows.{end_of_four, stored_four}
+use Rattle.simd_cesu8.proofs.decoder.DecodedRows.{end_of_four, stored_four}
 use Rattle.simd_cesu8.proofs.internal.decoder.packing.store_four.Goals as goal
 
 pub returns-clause-bytes : goal.returns-clause-bytes

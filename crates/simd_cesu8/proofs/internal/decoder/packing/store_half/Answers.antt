@@ -1,7 +1,7 @@
 use Rattle.std.proofs.Common.{ℕ, ◌+◌, ◌≤◌, ap, ◌∙◌, arith}
 use lib.Lanes.{chunk}
-use Rattle.simd_cesu8.proofs.EncodedRows.{lanes_of_first}
-use Rattle.simd_cesu8.proofs.DecodedRows.{stored_half}
+use Rattle.simd_cesu8.proofs.encoder.EncodedRows.{lanes_of_first}
+use Rattle.simd_cesu8.proofs.decoder.DecodedRows.{stored_half}
 use Rattle.simd_cesu8.specs.declared.internal.decoder.packing.TheConstants.{REPLACEMENTS}
 use Rattle.simd_cesu8.proofs.internal.decoder.packing.store_half.Goals as goal
 

@@ -1,8 +1,8 @@
 use Rattle.std.proofs.Common.{ℕ, ◌+◌, ◌≤◌, ◌++◌, take, sym, ap, ◌∙◌, arith}
 use Rattle.std.proofs.lemmas.Simd.{take_more_put_chunk}
 use lib.Lanes.{chunk}
-use Rattle.simd_cesu8.proofs.EncodedRows.{lanes_of_first}
-use Rattle.simd_cesu8.proofs.DecodedRowsOfEight.{stored_whole, nothing_changes}
+use Rattle.simd_cesu8.proofs.encoder.EncodedRows.{lanes_of_first}
+use Rattle.simd_cesu8.proofs.decoder.DecodedRowsOfEight.{stored_whole, nothing_changes}
 use Rattle.simd_cesu8.proofs.internal.decoder.packing.store_whole.Goals as goal
 
 pub returns-then-gone-eq0-clause-bytes : goal.returns-then-gone-eq0-clause-bytes

@@ -1,6 +1,6 @@
 use Rattle.std.proofs.Common.{leb, refl}
 use Rattle.std.specs.List.{range_with_len}
-use Rattle.simd_cesu8.proofs.Lanes.{chosen_lanes}
+use Rattle.simd_cesu8.proofs.lists.Lanes.{chosen_lanes}
 use Rattle.simd_cesu8.proofs.internal.decoder.parts.behind.Goals as goal
 
 pub returns : goal.returns

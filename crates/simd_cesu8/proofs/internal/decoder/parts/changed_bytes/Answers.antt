@@ -1,5 +1,5 @@
 use Rattle.std.proofs.Common.{◌∙◌, sym}
-use Rattle.simd_cesu8.proofs.DecodedBlocks.{first_kept, first_bytes}
+use Rattle.simd_cesu8.proofs.decoder.DecodedBlocks.{first_kept, first_bytes}
 use Rattle.simd_cesu8.proofs.internal.decoder.parts.changed_bytes.Goals as goal
 
 pub returns-then-highest_bits-eq0 : goal.returns-then-highest_bits-eq0

@@ -1,4 +1,4 @@
-use Rattle.simd_cesu8.proofs.DecodedBlocks.{first_damaged}
+use Rattle.simd_cesu8.proofs.decoder.DecodedBlocks.{first_damaged}
 use Rattle.simd_cesu8.proofs.internal.decoder.parts.damaged.Goals as goal
 
 pub returns : goal.returns

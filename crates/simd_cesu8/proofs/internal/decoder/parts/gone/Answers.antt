@@ -1,4 +1,4 @@
-use Rattle.simd_cesu8.proofs.DecodedBlocks.{first_gone}
+use Rattle.simd_cesu8.proofs.decoder.DecodedBlocks.{first_gone}
 use Rattle.simd_cesu8.proofs.internal.decoder.parts.gone.Goals as goal
 
 pub returns : goal.returns

@@ -1,4 +1,4 @@
-use Rattle.simd_cesu8.proofs.DecodedBlocks.{block_written}
+use Rattle.simd_cesu8.proofs.decoder.DecodedBlocks.{block_written}
 use Rattle.simd_cesu8.proofs.internal.decoder.parts.parts_at.Goals as goal
 
 pub returns-clause-written : goal.returns-clause-written

@@ -2,7 +2,7 @@ use Rattle.std.proofs.Common.{◌-◌, ap, ◌∙◌, sym}
 use Rattle.std.proofs.lemmas.Bool.{not-true, not-false, eqb-true, eqb-false}
 use lib.Lanes.{mask_l}
 use Rattle.simd_cesu8.specs.DecodedPlaces.{is_damaged_at}
-use Rattle.simd_cesu8.proofs.FirstLanes.{some_bit, no_bit}
+use Rattle.simd_cesu8.proofs.decoder.FirstLanes.{some_bit, no_bit}
 use Rattle.simd_cesu8.proofs.internal.decoder.parts.write_block.Goals as goal
 
 pub returns-clause-damaged : goal.returns-clause-damaged

@@ -1,4 +1,4 @@
-use Rattle.simd_cesu8.proofs.StartLanes.{two_are}
+use Rattle.simd_cesu8.proofs.decoder.StartLanes.{two_are}
 use Rattle.simd_cesu8.proofs.internal.decoder.places.by_two.Goals as goal
 
 pub returns : goal.returns

@@ -1,5 +1,5 @@
 use Rattle.std.proofs.Common.{◌∙◌}
-use Rattle.simd_cesu8.proofs.StartLanes.{continuation_lanes}
+use Rattle.simd_cesu8.proofs.decoder.StartLanes.{continuation_lanes}
 use Rattle.simd_cesu8.proofs.internal.decoder.places.continuations.Goals as goal
 
 pub returns : goal.returns

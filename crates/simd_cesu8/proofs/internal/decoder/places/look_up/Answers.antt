@@ -1,5 +1,5 @@
 use Rattle.std.proofs.Common.{arith}
-use Rattle.simd_cesu8.proofs.StartLanes.{halves_ok, entries}
+use Rattle.simd_cesu8.proofs.decoder.StartLanes.{halves_ok, entries}
 use Rattle.simd_cesu8.proofs.internal.decoder.places.look_up.Goals as goal
 
 pub swizzle : goal.swizzle

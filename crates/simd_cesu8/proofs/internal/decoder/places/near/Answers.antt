@@ -1,4 +1,4 @@
-use Rattle.simd_cesu8.proofs.DecodedBlocks.{near_are}
+use Rattle.simd_cesu8.proofs.decoder.DecodedBlocks.{near_are}
 use Rattle.simd_cesu8.proofs.internal.decoder.places.near.Goals as goal
 
 pub returns : goal.returns

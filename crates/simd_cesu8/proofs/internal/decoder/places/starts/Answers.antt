@@ -1,7 +1,7 @@
 use Rattle.std.proofs.Common.{◌∙◌, sym, arith}
 use Rattle.std.proofs.lemmas.Simd.{length-chunk}
-use Rattle.simd_cesu8.proofs.Lanes.{least_bits}
-use Rattle.simd_cesu8.proofs.StartLanes.{starts_are, none_start}
+use Rattle.simd_cesu8.proofs.lists.Lanes.{least_bits}
+use Rattle.simd_cesu8.proofs.decoder.StartLanes.{starts_are, none_start}
 use Rattle.simd_cesu8.proofs.internal.decoder.places.starts.Goals as goal
 
 pub returns-then-first-eq0 : goal.returns-then-first-eq0

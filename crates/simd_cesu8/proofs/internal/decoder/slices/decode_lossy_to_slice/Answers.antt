@@ -1,7 +1,7 @@
 use Rattle.std.proofs.Common.{◌≡◌, arith}
 use Rattle.simd_cesu8.specs.Reading.{reading, lossy_length}
 use Rattle.simd_cesu8.specs.Internal.{flavor_of}
-use Rattle.simd_cesu8.proofs.SliceReadings.{only_lossy, lossy_written, lossy_too_long}
+use Rattle.simd_cesu8.proofs.pieces.SliceReadings.{only_lossy, lossy_written, lossy_too_long}
 use Rattle.simd_cesu8.proofs.internal.decoder.slices.decode_lossy_to_slice.Goals as goal
 
 pub returns-in_default : goal.returns-in_default

@@ -1,6 +1,6 @@
 use Rattle.simd_cesu8.specs.Reading.{IsStrictReading, reading}
 use Rattle.simd_cesu8.specs.Internal.{flavor_of}
-use Rattle.simd_cesu8.proofs.SliceReadings.{only_strict, strict_no_longer, refused, text_written}
+use Rattle.simd_cesu8.proofs.pieces.SliceReadings.{only_strict, strict_no_longer, refused, text_written}
 use Rattle.simd_cesu8.proofs.internal.decoder.slices.decode_strict_to_slice.Goals as goal
 
 pub returns-then-is_damaged : goal.returns-then-is_damaged

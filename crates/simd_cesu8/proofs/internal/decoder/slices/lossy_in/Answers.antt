@@ -1,7 +1,7 @@
 use Rattle.std.proofs.Common.{◌≡◌, arith}
 use Rattle.simd_cesu8.specs.Reading.{reading}
 use Rattle.simd_cesu8.specs.Internal.{flavor_of}
-use Rattle.simd_cesu8.proofs.SliceReadings.{only_lossy_piece, lossy_written}
+use Rattle.simd_cesu8.proofs.pieces.SliceReadings.{only_lossy_piece, lossy_written}
 use Rattle.simd_cesu8.proofs.internal.decoder.slices.lossy_in.Goals as goal
 
 pub returns : goal.returns

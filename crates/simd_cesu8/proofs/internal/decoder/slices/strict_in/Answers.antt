@@ -1,8 +1,8 @@
 use Rattle.std.proofs.Common.{arith}
 use Rattle.simd_cesu8.specs.Reading.{IsStrictReading}
 use Rattle.simd_cesu8.specs.Internal.{flavor_of}
-use Rattle.simd_cesu8.proofs.Pieces.{fault_of_whole}
-use Rattle.simd_cesu8.proofs.SliceReadings.{only_strict_piece, refused, text_written}
+use Rattle.simd_cesu8.proofs.reading.Pieces.{fault_of_whole}
+use Rattle.simd_cesu8.proofs.pieces.SliceReadings.{only_strict_piece, refused, text_written}
 use Rattle.simd_cesu8.proofs.internal.decoder.slices.strict_in.Goals as goal
 
 pub returns-then-decoded : goal.returns-then-decoded

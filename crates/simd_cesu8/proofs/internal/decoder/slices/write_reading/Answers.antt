@@ -1,7 +1,7 @@
 use Rattle.std.proofs.Common.{sym, ◌∙◌, arith}
 use Rattle.std.proofs.lemmas.Bool.{eqb-true}
 use Rattle.simd_cesu8.specs.Internal.{flavor_of}
-use Rattle.simd_cesu8.proofs.WrittenPieces.{nothing_written, more_written, all_written}
+use Rattle.simd_cesu8.proofs.pieces.WrittenPieces.{nothing_written, more_written, all_written}
 use Rattle.simd_cesu8.proofs.internal.decoder.slices.write_reading.Goals as goal
 
 pub loop-rest-init : goal.loop-rest-init

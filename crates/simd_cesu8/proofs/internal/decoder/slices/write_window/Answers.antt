@@ -1,8 +1,8 @@
 use Rattle.std.proofs.Common.{arith}
 use Rattle.std.proofs.lemmas.List.{take_rest}
 use Rattle.simd_cesu8.specs.Internal.{flavor_of}
-use Rattle.simd_cesu8.proofs.Pieces.{piece_length}
-use Rattle.simd_cesu8.proofs.WrittenPieces.{piece_put}
+use Rattle.simd_cesu8.proofs.reading.Pieces.{piece_length}
+use Rattle.simd_cesu8.proofs.pieces.WrittenPieces.{piece_put}
 use Rattle.simd_cesu8.proofs.internal.decoder.slices.write_window.Goals as goal
 
 pub put-end-requires : goal.put-end-requires

@@ -1,6 +1,6 @@
 use Rattle.std.proofs.Common.{arith}
 use Rattle.simd_cesu8.specs.Internal.{flavor_of}
-use Rattle.simd_cesu8.proofs.WrittenPieces.{more_written}
+use Rattle.simd_cesu8.proofs.pieces.WrittenPieces.{more_written}
 use Rattle.simd_cesu8.proofs.internal.decoder.slices.write_windows.Goals as goal
 
 pub loop-windows-preserved : goal.loop-windows-preserved

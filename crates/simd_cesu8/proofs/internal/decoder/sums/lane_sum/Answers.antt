@@ -1,6 +1,6 @@
 use Rattle.std.proofs.Common.{arith}
 use Rattle.std.proofs.lemmas.Simd.{dot4_Fits}
-use Rattle.simd_cesu8.proofs.Counts.{dots_sum_fits, dots_sum}
+use Rattle.simd_cesu8.proofs.encoder.Counts.{dots_sum_fits, dots_sum}
 use Rattle.simd_cesu8.proofs.internal.decoder.sums.lane_sum.Goals as goal
 
 pub dot4 : goal.dot4

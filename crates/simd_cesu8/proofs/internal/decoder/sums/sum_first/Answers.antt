@@ -1,7 +1,7 @@
 use Rattle.std.proofs.Common.{◌*◌, ap, arith}
 use Rattle.std.proofs.lemmas.List.{take_rest}
 use Rattle.simd_cesu8.specs.DecodedPlaces.{total_weight}
-use Rattle.simd_cesu8.proofs.Weights.{weight_by_parts}
+use Rattle.simd_cesu8.proofs.places.Weights.{weight_by_parts}
 use Rattle.simd_cesu8.proofs.internal.decoder.sums.sum_first.Goals as goal
 
 pub returns-clause-sum : goal.returns-clause-sum

@@ -1,5 +1,5 @@
 use Rattle.std.proofs.Common.{arith}
-use Rattle.simd_cesu8.proofs.WeightLanes.{block_fits, block_summed, no_sum}
+use Rattle.simd_cesu8.proofs.decoder.WeightLanes.{block_fits, block_summed, no_sum}
 use Rattle.simd_cesu8.proofs.internal.decoder.sums.sum_of_blocks.Goals as goal
 
 pub overflow_add-lanes : goal.overflow_add-lanes

@@ -1,4 +1,4 @@
-use Rattle.simd_cesu8.proofs.WeightLanes.{HaveSum}
+use Rattle.simd_cesu8.proofs.decoder.WeightLanes.{HaveSum}
 use Rattle.simd_cesu8.proofs.internal.decoder.sums.sum_of_blocks.Given as goal
 
 abbrev pub invariant-loop-i : goal.invariant-loop-i

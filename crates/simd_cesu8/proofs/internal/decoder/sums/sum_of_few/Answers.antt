@@ -1,6 +1,6 @@
 use Rattle.std.proofs.Common.{◌∙◌, refl}
 use Rattle.std.proofs.lemmas.List.{drop-replicate}
-use Rattle.simd_cesu8.proofs.WeightRest.{weight_filled}
+use Rattle.simd_cesu8.proofs.decoder.WeightRest.{weight_filled}
 use Rattle.simd_cesu8.proofs.internal.decoder.sums.sum_of_few.Goals as goal
 
 pub returns : goal.returns

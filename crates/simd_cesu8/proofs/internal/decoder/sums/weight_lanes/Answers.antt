@@ -2,8 +2,8 @@ use Rattle.std.proofs.Common.{◌+◌, ◌≤◌, length, sym, arith}
 use Rattle.std.specs.List.{range_with_len}
 use Rattle.std.proofs.lemmas.Simd.{pick_l-range_with_len}
 use Rattle.simd_cesu8.specs.EncodedPlaces.{is_null}
-use Rattle.simd_cesu8.proofs.EncodedBlocks.{marks_here}
-use Rattle.simd_cesu8.proofs.WeightLanes.{weight_lanes_are}
+use Rattle.simd_cesu8.proofs.encoder.EncodedBlocks.{marks_here}
+use Rattle.simd_cesu8.proofs.decoder.WeightLanes.{weight_lanes_are}
 use Rattle.simd_cesu8.proofs.internal.decoder.sums.weight_lanes.Goals as goal
 
 pub returns : goal.returns

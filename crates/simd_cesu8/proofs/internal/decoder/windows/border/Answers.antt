@@ -1,7 +1,7 @@
 use Rattle.std.proofs.Common.{◌≡◌, ◌+◌, ◌-◌, ◌≤◌, ◌<◌, ℕ, false, ap, sym, ◌∙◌, arith, below_more, ⊎_elim}
 use Rattle.std.proofs.lemmas.Bool.{cases_lt, false≢true}
 use Rattle.simd_cesu8.specs.DecodedPlaces.{is_border_at}
-use Rattle.simd_cesu8.proofs.DecodedWindows.{five_codes}
+use Rattle.simd_cesu8.proofs.decoder.DecodedWindows.{five_codes}
 use Rattle.simd_cesu8.proofs.internal.decoder.windows.border.Goals as goal
 
 pub returns-then-is_border-clause-border : goal.returns-then-is_border-clause-border

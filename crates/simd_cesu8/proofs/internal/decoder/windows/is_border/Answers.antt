@@ -1,4 +1,4 @@
-use Rattle.simd_cesu8.proofs.DecodedWindows.{border_told}
+use Rattle.simd_cesu8.proofs.decoder.DecodedWindows.{border_told}
 use Rattle.simd_cesu8.proofs.internal.decoder.windows.is_border.Goals as goal
 
 pub returns : goal.returns

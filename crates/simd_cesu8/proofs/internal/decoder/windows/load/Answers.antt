@@ -2,7 +2,7 @@ use Rattle.std.proofs.Common.{◌≤◌, length, subst, sym, arith}
 use Rattle.std.proofs.lemmas.List.{take_all}
 use Rattle.simd_cesu8.specs.DecodedPlaces.{IsPadded}
 use Rattle.simd_cesu8.specs.DecodedWindows.{IsRead}
-use Rattle.simd_cesu8.proofs.DecodedWindows.{all_read, part_read}
+use Rattle.simd_cesu8.proofs.decoder.DecodedWindows.{all_read, part_read}
 use Rattle.simd_cesu8.proofs.internal.decoder.windows.load.Goals as goal
 use Rattle.simd_cesu8.proofs.internal.decoder.windows.load.Goals.{then-bytes-most, else-bytes-most}
 

@@ -1,5 +1,5 @@
 use Rattle.std.proofs.Common.{arith}
-use Rattle.simd_cesu8.proofs.DecodedWindows.{between_zeros}
+use Rattle.simd_cesu8.proofs.decoder.DecodedWindows.{between_zeros}
 use Rattle.simd_cesu8.proofs.internal.decoder.windows.pad.Goals as goal
 
 pub returns-clause-padded : goal.returns-clause-padded

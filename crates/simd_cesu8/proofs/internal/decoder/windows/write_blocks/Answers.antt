@@ -1,6 +1,6 @@
 use Rattle.std.proofs.Common.{◌+◌, ◌∙◌, arith, refl}
 use Rattle.simd_cesu8.specs.DecodedPlaces.{decoded, is_damaged_at}
-use Rattle.simd_cesu8.proofs.DecodedWindows.{codes_of_zeros, five_codes, more_damaged, none_damaged, more_written}
+use Rattle.simd_cesu8.proofs.decoder.DecodedWindows.{codes_of_zeros, five_codes, more_damaged, none_damaged, more_written}
 use Rattle.simd_cesu8.proofs.internal.decoder.windows.write_blocks.Goals as goal
 use Rattle.simd_cesu8.proofs.internal.decoder.windows.write_blocks.Goals.{then-left-lt32, else-left-lt32}
 

@@ -1,5 +1,5 @@
 use Rattle.std.proofs.Common.{arith, rules}
-use Rattle.simd_cesu8.proofs.DecodedWindows.{read_lossily, read_strictly, read_fault}
+use Rattle.simd_cesu8.proofs.decoder.DecodedWindows.{read_lossily, read_strictly, read_fault}
 use Rattle.simd_cesu8.proofs.internal.decoder.windows.write_window.Goals as goal
 
 pub returns : goal.returns

@@ -1,4 +1,4 @@
-use Rattle.simd_cesu8.proofs.EncodedLanes.{bits_are}
+use Rattle.simd_cesu8.proofs.encoder.EncodedLanes.{bits_are}
 use Rattle.simd_cesu8.proofs.internal.encoder.blocks.bits.Goals as goal
 
 pub returns : goal.returns

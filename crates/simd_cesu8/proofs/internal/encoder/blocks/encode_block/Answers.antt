@@ -1,4 +1,4 @@
-use Rattle.simd_cesu8.proofs.EncodedBlocks.{AreMarks, seconds_are, firsts_are, doubled_are}
+use Rattle.simd_cesu8.proofs.encoder.EncodedBlocks.{AreMarks, seconds_are, firsts_are, doubled_are}
 use Rattle.simd_cesu8.proofs.internal.encoder.blocks.encode_block.Given.{Over}
 use Rattle.simd_cesu8.proofs.internal.encoder.blocks.encode_block.Goals as goal
 

@@ -1,4 +1,4 @@
-use Rattle.simd_cesu8.proofs.EncodedLanes.{lead_lanes}
+use Rattle.simd_cesu8.proofs.encoder.EncodedLanes.{lead_lanes}
 use Rattle.simd_cesu8.proofs.internal.encoder.blocks.leads.Goals as goal
 
 pub returns : goal.returns

@@ -1,4 +1,4 @@
-use Rattle.simd_cesu8.proofs.EncodedLanes.{six_bits_are}
+use Rattle.simd_cesu8.proofs.encoder.EncodedLanes.{six_bits_are}
 use Rattle.simd_cesu8.proofs.internal.encoder.blocks.six_bits.Goals as goal
 
 pub returns : goal.returns

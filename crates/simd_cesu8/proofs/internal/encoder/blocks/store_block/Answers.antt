@@ -3,7 +3,7 @@ use Rattle.std.specs.List.{range_with_len}
 use Rattle.std.proofs.lemmas.List.{length-take-le}
 use Rattle.std.proofs.lemmas.List.FromFn.{length-map-range_with_len}
 use Rattle.simd_cesu8.specs.EncodedPlaces.{is_doubled_at}
-use Rattle.simd_cesu8.proofs.EncodedWindows.{front_long, front_of_block, stored_block}
+use Rattle.simd_cesu8.proofs.encoder.EncodedWindows.{front_long, front_of_block, stored_block}
 use Rattle.simd_cesu8.proofs.internal.encoder.blocks.store_block.Goals as goal
 
 pub returns-clause-bytes : goal.returns-clause-bytes

@@ -1,5 +1,5 @@
 use Rattle.std.proofs.Common.{arith}
-use Rattle.simd_cesu8.proofs.EncodedRows.{shuffle_ok, stored_row}
+use Rattle.simd_cesu8.proofs.encoder.EncodedRows.{shuffle_ok, stored_row}
 use Rattle.simd_cesu8.proofs.internal.encoder.blocks.store_row.Goals as goal
 
 pub swizzle-packed : goal.swizzle-packed

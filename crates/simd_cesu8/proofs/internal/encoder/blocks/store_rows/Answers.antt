@@ -1,6 +1,6 @@
 use Rattle.std.proofs.Common.{arith}
 use Rattle.std.proofs.lemmas.Simd.{length-chunk}
-use Rattle.simd_cesu8.proofs.EncodedRows.{row_mask, first_mask, four_rows}
+use Rattle.simd_cesu8.proofs.encoder.EncodedRows.{row_mask, first_mask, four_rows}
 use Rattle.simd_cesu8.proofs.internal.encoder.blocks.store_rows.Goals as goal
 
 pub returns-clause-bytes : goal.returns-clause-bytes

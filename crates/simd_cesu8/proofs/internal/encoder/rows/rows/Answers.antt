@@ -1,4 +1,4 @@
-use Rattle.simd_cesu8.proofs.Shuffles.{rows_are}
+use Rattle.simd_cesu8.proofs.decoder.Shuffles.{rows_are}
 use Rattle.simd_cesu8.proofs.internal.encoder.rows.rows.Goals as goal
 
 pub returns : goal.returns

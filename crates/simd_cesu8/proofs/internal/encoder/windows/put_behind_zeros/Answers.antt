@@ -1,5 +1,5 @@
 use Rattle.std.proofs.Common.{◌+◌, ◌-◌, length}
-use Rattle.simd_cesu8.proofs.EncodedWindows.{behind_two}
+use Rattle.simd_cesu8.proofs.encoder.EncodedWindows.{behind_two}
 use Rattle.simd_cesu8.proofs.internal.encoder.windows.put_behind_zeros.Goals as goal
 
 pub returns : goal.returns

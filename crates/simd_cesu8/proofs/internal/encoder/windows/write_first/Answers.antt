@@ -1,5 +1,5 @@
 use Rattle.std.proofs.Common.{◌-◌, ◌∷◌, ap, ◌∙◌, arith, length}
-use Rattle.simd_cesu8.proofs.EncodedWindows.{encoded_bytes_first, room_for_parts}
+use Rattle.simd_cesu8.proofs.encoder.EncodedWindows.{encoded_bytes_first, room_for_parts}
 use Rattle.simd_cesu8.proofs.internal.encoder.windows.write_first.Goals as goal
 
 pub write_block-requires-clause-room : goal.write_block-requires-clause-room

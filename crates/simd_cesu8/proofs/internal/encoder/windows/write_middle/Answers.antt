@@ -1,6 +1,6 @@
 use Rattle.std.proofs.Common.{◌≡◌, ◌+◌, ◌*◌, ap, subst, ◌∙◌, arith, length}
 use Rattle.simd_cesu8.specs.EncodedPlaces.{IsWritten}
-use Rattle.simd_cesu8.proofs.EncodedWindows.{encoded_bytes_here, room_behind, written_behind}
+use Rattle.simd_cesu8.proofs.encoder.EncodedWindows.{encoded_bytes_here, room_behind, written_behind}
 use Rattle.simd_cesu8.proofs.internal.encoder.windows.write_middle.Goals as goal
 
 pub write_block-end-requires-clause-room : goal.write_block-end-requires-clause-room

@@ -1,6 +1,6 @@
 use Rattle.std.proofs.Common.{ℕ, ◌∷◌, sym, ap, ◌∙◌, arith, length, get_or}
 use Rattle.std.proofs.lemmas.List.{take_all}
-use Rattle.simd_cesu8.proofs.EncodedWindows.{encoded_bytes_first}
+use Rattle.simd_cesu8.proofs.encoder.EncodedWindows.{encoded_bytes_first}
 use Rattle.simd_cesu8.proofs.internal.encoder.windows.write_short.Goals as goal
 
 pub write_block-requires-clause-room : goal.write_block-requires-clause-room

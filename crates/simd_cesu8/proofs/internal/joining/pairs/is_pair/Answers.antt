@@ -1,6 +1,6 @@
 use Rattle.std.proofs.Common.{◌∙◌, ◌+◌, ◌*◌, ◌<◌, ℕ, ap, sym, get_or, bit_and, arith}
 use Rattle.std.proofs.lemmas.Bool.{eqb-true, eq-eqb}
-use Rattle.simd_cesu8.proofs.PairWords.{word_is_pair, pair_is_word}
+use Rattle.simd_cesu8.proofs.pieces.PairWords.{word_is_pair, pair_is_word}
 use Rattle.simd_cesu8.proofs.internal.joining.pairs.is_pair.Goals as goal
 
 pub returns : goal.returns

@@ -1,5 +1,5 @@
 use Rattle.std.proofs.Common.{◌++◌, ◌∙◌, ap, refl, arith, length, take}
-use Rattle.simd_cesu8.proofs.Joining.{keeps_pair, written_whole}
+use Rattle.simd_cesu8.proofs.pieces.Joining.{keeps_pair, written_whole}
 use Rattle.simd_cesu8.proofs.internal.joining.pairs.join_pair.Goals as goal
 
 pub returns : goal.returns

@@ -1,5 +1,5 @@
 use Rattle.std.proofs.Common.{◌≡◌, ◌∙◌, ◌+◌, ◌*◌, ◌<◌, ℕ, refl, get_or, arith}
-use Rattle.simd_cesu8.proofs.PairWords.{joined_word_is}
+use Rattle.simd_cesu8.proofs.pieces.PairWords.{joined_word_is}
 use Rattle.simd_cesu8.proofs.internal.joining.pairs.utf8_of_pair.Goals as goal
 
 pub returns : goal.returns

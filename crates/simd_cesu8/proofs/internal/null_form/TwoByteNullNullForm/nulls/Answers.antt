@@ -1,5 +1,5 @@
 use Rattle.std.proofs.Common.{eqb}
-use Rattle.simd_cesu8.proofs.Lanes.{chosen_lanes}
+use Rattle.simd_cesu8.proofs.lists.Lanes.{chosen_lanes}
 use Rattle.simd_cesu8.proofs.internal.null_form.TwoByteNullNullForm.nulls.Goals as goal
 
 pub returns : goal.returns

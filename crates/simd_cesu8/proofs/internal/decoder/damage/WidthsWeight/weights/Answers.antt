@@ -2,7 +2,7 @@ use Rattle.std.proofs.Common.{◌≡◌, ℕ, refl}
 use Rattle.simd_cesu8.specs.DecodedPlaces.{covered}
 use Rattle.simd_cesu8.specs.DecodedLanes.{weight_told}
 use Rattle.simd_cesu8.specs.declared.internal.decoder.damage.TheConstants.{BY_LOW, BY_HIGH}
-use Rattle.simd_cesu8.proofs.StartCodes.{Start, nothing, one, null, two_low, two_high, three_low, three_high, three_last, pair, start}
+use Rattle.simd_cesu8.proofs.decoder.StartCodes.{Start, nothing, one, null, two_low, two_high, three_low, three_high, three_last, pair, start}
 use Rattle.simd_cesu8.proofs.internal.decoder.damage.WidthsWeight.weights.Goals as goal
 
 -- what begins at a place tells how wide it is

@@ -2,7 +2,7 @@ use Rattle.std.proofs.Common.{◌≡◌, ℕ, refl}
 use Rattle.simd_cesu8.specs.DecodedPlaces.{saved}
 use Rattle.simd_cesu8.specs.DecodedLanes.{weight_told}
 use Rattle.simd_cesu8.specs.declared.internal.decoder.lengths.TheConstants.{BY_LOW, BY_HIGH}
-use Rattle.simd_cesu8.proofs.StartCodes.{Start, nothing, one, null, two_low, two_high, three_low, three_high, three_last, pair, start}
+use Rattle.simd_cesu8.proofs.decoder.StartCodes.{Start, nothing, one, null, two_low, two_high, three_low, three_high, three_last, pair, start}
 use Rattle.simd_cesu8.proofs.internal.decoder.lengths.SavingsWeight.weights.Goals as goal
 
 -- what begins at a place tells what it saves

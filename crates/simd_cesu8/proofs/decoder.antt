@@ -1,0 +1,14 @@
+-- The decoder by vectors.
+pub mod Codes
+pub mod StartCodes
+pub mod LaneTests
+pub mod FirstLanes
+pub mod StartLanes
+pub mod DecodedParts
+pub mod DecodedBlocks
+pub mod DecodedRows
+pub mod DecodedRowsOfEight
+pub mod Shuffles
+pub mod WeightLanes
+pub mod WeightRest
+pub mod DecodedWindows

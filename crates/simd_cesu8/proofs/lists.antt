@@ -1,0 +1,9 @@
+-- Lists of bytes, vectors and words, with nothing of an encoding.
+pub mod Elements
+pub mod Walks
+pub mod EightElements
+pub mod Ends
+pub mod Chunks
+pub mod Lanes
+pub mod Classes
+pub mod Words
