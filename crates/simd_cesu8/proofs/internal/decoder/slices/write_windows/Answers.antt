@@ -11,14 +11,14 @@ loop-windows-init c = record {
   less = λ some. absurd (omega arith);
 }
 
-pub write_window-written_end-requires-clause-room : goal.write_window-written_end-requires-clause-room
-write_window-written_end-requires-clause-room c =
+pub write_window-piece-requires-clause-room : goal.write_window-piece-requires-clause-room
+write_window-piece-requires-clause-room c =
     omega (arith, c.requires.room, c.loop-windows.invariant.written.room, c.loop-windows.invariant.written.len)
 
 pub loop-windows-preserved : goal.loop-windows-preserved
 loop-windows-preserved c =
     let inv = c.loop-windows.invariant in
-    let next = c.write_window-written_end.ensures in
+    let next = c.write_window-piece.ensures in
     record {
       written = more_written (flavor_of c.args.flavor) c.args.bytes.now c.loop-windows.rest.now _ c.args.start c.loop-windows.end _ _ _ _
           inv.written next.written;
