@@ -5,6 +5,7 @@ use Rattle.std.specs.List.{flat_map}
 use Rattle.simd_cesu8.specs.Text.{IsScalarValue, utf8_of}
 use Rattle.simd_cesu8.specs.Encoding.{Flavor, Mutf8, encoding, IsEncodedOtherwise}
 use Rattle.simd_cesu8.specs.Internal.{EndsPair, IsPair}
+use Rattle.simd_cesu8.specs.declared.internal.joining.pairs.TheConstants.{PAIR}
 
 -- A part of what is joined: a byte that stays, or a scalar value that is encoded otherwise than in
 -- UTF-8.
@@ -51,7 +52,7 @@ KeepsJoined f rest out after new =
 -- It never writes more than it reads.
 pub record IsJoinedAfter (rest after : List ℕ) (written new stop : ℕ) : Type 0 where
   pub shorter : length after ≤ length rest
-  pub past : stop ≤ length after + 6
+  pub past : stop ≤ length after + PAIR
   pub room : new + length after ≤ written + length rest
 
 -- Sixteen null characters of MUTF-8.

@@ -31,9 +31,9 @@ mod slices;
 mod sums;
 mod windows;
 
-use super::joining::Room;
+use super::joining::{ROOM_LEN, Room};
 use super::null_form::{OneByteNull, TwoByteNull};
-use super::window::{SHORT, read_window};
+use super::window::read_window;
 use super::writers::{copy_text, exactly};
 use super::{DecodeOptions, Flavor};
 use crate::error::{DecodeFault, DecodingError};
@@ -41,10 +41,14 @@ use appending::{append, append_in, append_small, append_window};
 use by_places::read_by_places;
 pub use slices::{decode_lossy_to_slice, decode_strict_to_slice};
 use std::alloc::{AllocError, Allocator};
-use windows::{AROUND, SPARED};
+use windows::{AROUND, LEAST, SPARED};
 
 /// The most bytes that are read in one window.
 const WINDOW: usize = 1024;
+
+/// The most that are read in the first one, in strict reading. A short window rejects most input
+/// that has no text.
+const FIRST: usize = 64;
 
 /// The most bytes that are read in smaller buffers, which are faster to make,
 const SMALL: usize = 256;
@@ -57,21 +61,21 @@ const FEWEST: usize = 32;
 
 // The lengths of the buffers for a window and for its text. They are longer than these, since whole
 // vectors are read and written.
-const WINDOW_ROOM: usize = 1104;
+const WINDOW_ROOM: usize = WINDOW + AROUND;
 
-const WRITTEN_ROOM: usize = 3248;
+const WRITTEN_ROOM: usize = 3 * WINDOW_ROOM - SPARED;
 
-const SMALL_ROOM: usize = 336;
+const SMALL_ROOM: usize = SMALL + AROUND;
 
-const SMALL_WRITTEN_ROOM: usize = 944;
+const SMALL_WRITTEN_ROOM: usize = 3 * SMALL_ROOM - SPARED;
 
-const FEW_ROOM: usize = 176;
+const FEW_ROOM: usize = FEW + AROUND;
 
-const FEW_WRITTEN_ROOM: usize = 464;
+const FEW_WRITTEN_ROOM: usize = 3 * FEW_ROOM - SPARED;
 
-const FEWEST_ROOM: usize = 112;
+const FEWEST_ROOM: usize = FEWEST + AROUND;
 
-const FEWEST_WRITTEN_ROOM: usize = 272;
+const FEWEST_WRITTEN_ROOM: usize = 3 * FEWEST_ROOM - SPARED;
 
 /// How many windows are decoded by places before one is joined again.
 const WINDOWS: usize = 4;
@@ -152,7 +156,7 @@ fn decode_in<const LEN: usize, const WRITTEN: usize, A: Allocator>(
     flavor: Flavor,
     bytes: &[u8],
 ) -> Result<String<A>, AllocError>
-    requires window { (length bytes.now + AROUND ≤ LEN) × (AROUND + 11 ≤ LEN) }
+    requires window { (length bytes.now + AROUND ≤ LEN) × (LEAST ≤ LEN) }
     requires written { (3 * LEN ≤ WRITTEN + SPARED) × (WRITTEN ≤ WRITTEN_ROOM) }
     ensures text { IfOk result (λ text.
         chars (string_bytes text) ≡ reading (flavor_of flavor) bytes.now) }
@@ -229,9 +233,8 @@ fn append_long<'b, A: Allocator>(
     ensures invalid { OnInvalid result ((options.lossy ≡ false)
         × HasFault (flavor_of options.flavor) bytes.now) }
 {
-    let mut room = [0; 1088];
-    // A short first window rejects most input that has no text.
-    let mut most = if options.lossy { WINDOW } else { SHORT };
+    let mut room = [0; ROOM_LEN];
+    let mut most = if options.lossy { WINDOW } else { FIRST };
     let mut rest = bytes;
     while rest.len() > SMALL {
         rest = read_windows(options, rest, most, &mut room, out)?;

@@ -35,11 +35,11 @@ use super::writers::{append, append_zeros, copy, copy_to_slice, make_room};
 use crate::error::TooShort;
 use std::alloc::{AllocError, Allocator};
 
-/// The most bytes of a text that is encoded before its length is known.
-const SHORT: usize = 128;
+/// The most bytes of a text that is encoded on the stack, before its length is known.
+const ON_STACK: usize = 128;
 
-/// The most bytes that the encoding of a short text has, and that of a block.
-const SHORT_ENCODED: usize = 2 * SHORT;
+/// The most bytes that the encoding of such a text has, and that of a block.
+const ON_STACK_ENCODED: usize = 2 * ON_STACK;
 
 const BLOCK_ENCODED: usize = 2 * BLOCK;
 
@@ -94,8 +94,8 @@ fn encode_longer<A: Allocator + Copy>(
     ensures capacity { IfOk result (λ encoded.
         vec_capacity encoded ≡ length (encoding (flavor_of flavor) (chars text.now))) }
 {
-    if text.len() <= SHORT {
-        let mut written = [0; SHORT_ENCODED];
+    if text.len() <= ON_STACK {
+        let mut written = [0; ON_STACK_ENCODED];
         let len = write_text(flavor, text, &mut written);
         return copy(alloc, &written[..len]);
     }
@@ -186,7 +186,7 @@ pub fn encode_to_slice(flavor: Flavor, text: &str, buf: &mut [u8]) -> Result<usi
         let len = write_block_text(flavor, text, &mut written);
         return copy_to_slice(&written[..len], buf);
     }
-    if text.len() <= SHORT {
+    if text.len() <= ON_STACK {
         return encode_short_to_slice(flavor, text, buf);
     }
     let len = encoded_len(flavor, text);
@@ -200,10 +200,10 @@ pub fn encode_to_slice(flavor: Flavor, text: &str, buf: &mut [u8]) -> Result<usi
 /// The same for a short text, through an array on the stack.
 #[inline(never)]
 fn encode_short_to_slice(flavor: Flavor, text: &str, buf: &mut [u8]) -> Result<usize, TooShort>
-    requires { length text.now ≤ SHORT }
+    requires { length text.now ≤ ON_STACK }
     ensures { WritesAnswer (encoding (flavor_of flavor) (chars text.now)) result buf.old buf.new }
 {
-    let mut written = [0; SHORT_ENCODED];
+    let mut written = [0; ON_STACK_ENCODED];
     let len = write_text(flavor, text, &mut written);
     copy_to_slice(&written[..len], buf)
 }

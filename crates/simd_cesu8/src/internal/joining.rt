@@ -12,19 +12,34 @@ ghost use Rattle.simd_cesu8.specs.Joining.{IsJoined, IsJoinedAfter, KeepsJoined,
 mod pairs;
 
 use super::Flavor;
-pub use pairs::utf8_of_pair;
-use pairs::{PAIR_MARKS, is_pair, join_pairs};
+pub use pairs::PAIR;
+use pairs::{PAIR_MARKS, PAIR_READ, PAIR_UTF8, is_pair, join_pairs, utf8_of_pair};
 use std::simd::prelude::*;
+
+/// How many bytes are copied and marked at once.
+const BLOCK: usize = 32;
 
 /// The most bytes that are joined, besides the end of a pair.
 pub const WINDOW: usize = 1024;
+
+/// The most bytes that are read or written with that.
+pub const MOST: usize = WINDOW + PAIR;
 
 /// How many bytes must follow those that are joined. A block that is copied from their end needs
 /// 32, a block that is marked from their last byte as many, and a pair across it 8.
 pub const REACH: usize = 48;
 
-/// A buffer for a joined window, and for the last block that is copied.
-pub type Room = [u8; 1088];
+/// The length of a buffer for a joined window, and for the last block that is copied.
+pub const ROOM_LEN: usize = WINDOW + 2 * BLOCK;
+
+pub type Room = [u8; ROOM_LEN];
+
+/// How many bytes were read, and how many were written for them.
+#[derive(Clone, Copy)]
+pub struct Step {
+    pub read: usize,
+    pub written: usize,
+}
 
 /// What is left to join, and how many bytes of the buffer are written.
 #[derive(Clone, Copy)]
@@ -34,12 +49,11 @@ pub struct Progress<'a> {
 }
 
 /// Joins the first `end` bytes and a pair across their end, or fewer if some can't be joined.
-/// Returns how many bytes it read, and how many it wrote.
-pub fn join(flavor: Flavor, bytes: &[u8], end: usize, room: &mut Room) -> (usize, usize)
-    requires { (end + 48 ≤ length bytes.now) × (end ≤ 1024) }
-    ensures within { (result.0 ≤ end + 6) × (result.1 ≤ 1030) }
-    ensures joined { IsJoined (flavor_of flavor) (take result.0 bytes.now)
-        (take result.1 room.new) }
+pub fn join(flavor: Flavor, bytes: &[u8], end: usize, room: &mut Room) -> Step
+    requires { (end + REACH ≤ length bytes.now) × (end ≤ WINDOW) }
+    ensures within { (result.read ≤ end + PAIR) × (result.written ≤ MOST) }
+    ensures joined { IsJoined (flavor_of flavor) (take result.read bytes.now)
+        (take result.written room.new) }
 {
     // Inlined for each flavor, the loops below do not test it again.
     match flavor {
@@ -50,11 +64,11 @@ pub fn join(flavor: Flavor, bytes: &[u8], end: usize, room: &mut Room) -> (usize
 
 /// The same, for a flavor that the compiler knows.
 #[inline(always)]
-fn join_blocks(flavor: Flavor, bytes: &[u8], end: usize, room: &mut Room) -> (usize, usize)
-    requires { (end + 48 ≤ length bytes.now) × (end ≤ 1024) }
-    ensures within { (result.0 ≤ end + 6) × (result.1 ≤ 1030) }
-    ensures joined { IsJoined (flavor_of flavor) (take result.0 bytes.now)
-        (take result.1 room.new) }
+fn join_blocks(flavor: Flavor, bytes: &[u8], end: usize, room: &mut Room) -> Step
+    requires { (end + REACH ≤ length bytes.now) × (end ≤ WINDOW) }
+    ensures within { (result.read ≤ end + PAIR) × (result.written ≤ MOST) }
+    ensures joined { IsJoined (flavor_of flavor) (take result.read bytes.now)
+        (take result.written room.new) }
 {
     let stop = bytes.len() - end;
     let mut at = Progress {
@@ -68,14 +82,17 @@ fn join_blocks(flavor: Flavor, bytes: &[u8], end: usize, room: &mut Room) -> (us
             break;
         }
     }
-    (bytes.len() - at.rest.len(), at.written)
+    Step {
+        read: bytes.len() - at.rest.len(),
+        written: at.written,
+    }
 }
 
 /// Copies a block without marks before its end, or joins one with marks.
 #[inline(always)]
 fn join_block<'a>(flavor: Flavor, at: Progress<'a>, stop: usize, room: &mut Room) -> Progress<'a>
-    requires stop { (stop < length at.rest.now) × (48 ≤ stop) }
-    requires room { at.written + length at.rest.now ≤ 1024 + stop }
+    requires stop { (stop < length at.rest.now) × (REACH ≤ stop) }
+    requires room { at.written + length at.rest.now ≤ WINDOW + stop }
     ensures after { IsJoinedAfter at.entry.rest.now result.rest.now
         at.entry.written result.written stop }
     ensures joined { KeepsJoined (flavor_of flavor)
@@ -84,7 +101,7 @@ fn join_block<'a>(flavor: Flavor, at: Progress<'a>, stop: usize, room: &mut Room
 {
     let marks = marks(flavor, at.rest);
     let left = at.rest.len() - stop;
-    let run = left.min(32);
+    let run = left.min(BLOCK);
     if marks.trailing_zeros() as usize >= run {
         copy_run(at.rest, run, at.written, room);
         return Progress {
@@ -93,7 +110,7 @@ fn join_block<'a>(flavor: Flavor, at: Progress<'a>, stop: usize, room: &mut Room
         };
     }
     match flavor {
-        Flavor::Mutf8 if left >= 32 && marks & NULL_MARKS == NULL_MARKS && is_nulls(at.rest) => {
+        Flavor::Mutf8 if left >= BLOCK && marks & NULL_MARKS == NULL_MARKS && is_nulls(at.rest) => {
             join_nulls(at, room)
         }
         _ if marks & PAIR_MARKS == PAIR_MARKS && is_pair(at.rest) => join_pairs(at, stop, room),
@@ -105,7 +122,7 @@ fn join_block<'a>(flavor: Flavor, at: Progress<'a>, stop: usize, room: &mut Room
 /// lead a surrogate pair or a null character, and those that no window may have.
 #[inline(always)]
 fn marks(flavor: Flavor, bytes: &[u8]) -> u32
-    requires { 33 ≤ length bytes.now }
+    requires { BLOCK < length bytes.now }
 {
     let block = u8x32::from_slice(bytes);
     let next = u8x32::from_slice(&bytes[1..]);
@@ -129,8 +146,8 @@ fn join_marked<'a>(
     stop: usize,
     room: &mut Room,
 ) -> Progress<'a>
-    requires stop { (stop < length start.rest.now) × (48 ≤ stop) }
-    requires room { start.written + length start.rest.now ≤ 1024 + stop }
+    requires stop { (stop < length start.rest.now) × (REACH ≤ stop) }
+    requires room { start.written + length start.rest.now ≤ WINDOW + stop }
     ensures after { IsJoinedAfter start.entry.rest.now result.rest.now
         start.entry.written result.written stop }
     ensures joined { KeepsJoined (flavor_of flavor)
@@ -152,9 +169,9 @@ fn join_marked<'a>(
         written += position - read;
         read = position;
         match join_changed(flavor, &bytes[position..], written, room) {
-            Some((width, len)) => {
-                read += width;
-                written += len;
+            Some(step) => {
+                read += step.read;
+                written += step.written;
             }
             None => break,
         }
@@ -168,39 +185,38 @@ fn join_marked<'a>(
 /// Copies a run of bytes, with the others of their block after them.
 #[inline(always)]
 fn copy_run(bytes: &[u8], run: usize, written: usize, room: &mut Room)
-    requires run { run ≤ 32 }
-    requires long { 32 ≤ length bytes.now }
-    requires room { written + 32 ≤ 1088 }
+    requires run { run ≤ BLOCK }
+    requires long { BLOCK ≤ length bytes.now }
+    requires room { written + BLOCK ≤ ROOM_LEN }
     ensures { (f : AnyFlavor) → KeepsJoined f bytes.now (take written room.old)
         (drop run bytes.now) (take (written + run) room.new) }
 {
-    store(u8x32::from_slice(bytes), &mut room[written..written + 32]);
+    store(
+        u8x32::from_slice(bytes),
+        &mut room[written..written + BLOCK],
+    );
 }
 
 /// Stores a block.
 #[inline(always)]
 fn store(block: u8x32, out: &mut [u8])
-    requires { length out.old ≡ 32 }
+    requires { length out.old ≡ BLOCK }
     ensures { out.new ≡ block }
 {
     block.copy_to_slice(out);
 }
 
-/// Joins the surrogate pair that begins the bytes, or in MUTF-8 the null character. Returns how
-/// many bytes it read, and how many it wrote. No branch distinguishes them, since no processor can
-/// predict it.
+/// Joins the surrogate pair that begins the bytes, or in MUTF-8 the null character. No branch
+/// distinguishes them, since no processor can predict it.
 #[inline(always)]
-fn join_changed(
-    flavor: Flavor,
-    bytes: &[u8],
-    written: usize,
-    room: &mut Room,
-) -> Option<(usize, usize)>
-    requires long { 8 ≤ length bytes.now }
-    requires room { written + 4 ≤ 1088 }
-    ensures few { IfSome result (λ step. (0 < step.1) × (step.1 ≤ step.0) × (step.0 ≤ 6)) }
-    ensures joined { IfSome result (λ step. KeepsJoined (flavor_of flavor) bytes.now
-        (take written room.old) (drop step.0 bytes.now) (take (written + step.1) room.new)) }
+fn join_changed(flavor: Flavor, bytes: &[u8], written: usize, room: &mut Room) -> Option<Step>
+    requires long { PAIR_READ ≤ length bytes.now }
+    requires room { written + PAIR_UTF8 ≤ ROOM_LEN }
+    ensures few { IfSome result (λ step.
+        (0 < step.written) × (step.written ≤ step.read) × (step.read ≤ PAIR)) }
+    ensures joined { IfSome result (λ step. KeepsJoined (flavor_of flavor)
+        bytes.now (take written room.old)
+        (drop step.read bytes.now) (take (written + step.written) room.new)) }
     ensures none { IfNone result (room.new ≡ room.old) }
 {
     let pair = is_pair(bytes);
@@ -208,15 +224,19 @@ fn join_changed(
         return None;
     }
     let four = utf8_of_pair(bytes);
-    let (width, utf8, len) = if pair { (6, four, 4) } else { (2, [0; 4], 1) };
-    room[written..written + 4].copy_from_slice(&utf8);
-    Some((width, len))
+    let (read, utf8, len) = if pair {
+        (PAIR, four, PAIR_UTF8)
+    } else {
+        (NULL, [0; PAIR_UTF8], NULL_UTF8)
+    };
+    room[written..written + PAIR_UTF8].copy_from_slice(&utf8);
+    Some(Step { read, written: len })
 }
 
 /// Returns whether the null character of MUTF-8 begins the bytes.
 #[inline(always)]
 fn is_null(flavor: Flavor, bytes: &[u8]) -> bool
-    requires { 2 ≤ length bytes.now }
+    requires { NULL ≤ length bytes.now }
     ensures { IsTrue result ↔ HasNull (flavor_of flavor) bytes.now }
 {
     match flavor {
@@ -225,39 +245,48 @@ fn is_null(flavor: Flavor, bytes: &[u8]) -> bool
     }
 }
 
-/// The bytes of 16 null characters of MUTF-8.
-const NULLS: [u8; 32] = [
+/// How many bytes the null character of MUTF-8 has,
+const NULL: usize = 2;
+
+/// how many its UTF-8 has,
+const NULL_UTF8: usize = 1;
+
+/// and how many null characters a block has.
+const NULLS_IN_BLOCK: usize = BLOCK / NULL;
+
+/// The bytes of a block of null characters.
+const NULLS: [u8; BLOCK] = [
     0xC0, 0x80, 0xC0, 0x80, 0xC0, 0x80, 0xC0, 0x80, 0xC0, 0x80, 0xC0, 0x80, 0xC0, 0x80, 0xC0, 0x80,
     0xC0, 0x80, 0xC0, 0x80, 0xC0, 0x80, 0xC0, 0x80, 0xC0, 0x80, 0xC0, 0x80, 0xC0, 0x80, 0xC0, 0x80,
 ];
 
-/// The marks of 16 null characters of MUTF-8.
+/// Their marks.
 const NULL_MARKS: u32 = 0x5555_5555;
 
-/// Returns whether 16 null characters of MUTF-8 begin the bytes.
+/// Returns whether a block of null characters of MUTF-8 begins the bytes.
 #[inline(always)]
 fn is_nulls(bytes: &[u8]) -> bool
-    requires { 32 ≤ length bytes.now }
-    ensures { IsTrue result ↔ take 32 bytes.now ≡ nulls }
+    requires { BLOCK ≤ length bytes.now }
+    ensures { IsTrue result ↔ take BLOCK bytes.now ≡ nulls }
 {
-    let front = &bytes[..32];
+    let front = &bytes[..BLOCK];
     front == NULLS.as_slice()
 }
 
-/// Joins 16 null characters of MUTF-8.
+/// Joins a block of null characters of MUTF-8.
 #[inline(always)]
 fn join_nulls<'a>(at: Progress<'a>, room: &mut Room) -> Progress<'a>
-    requires nulls { take 32 at.rest.now ≡ nulls }
-    requires long { 32 ≤ length at.rest.now }
-    requires room { at.written + 16 ≤ 1088 }
-    ensures rest { length result.rest.now + 32 ≡ length at.entry.rest.now }
-    ensures written { result.written ≡ at.entry.written + 16 }
+    requires nulls { take BLOCK at.rest.now ≡ nulls }
+    requires long { BLOCK ≤ length at.rest.now }
+    requires room { at.written + NULLS_IN_BLOCK ≤ ROOM_LEN }
+    ensures rest { length result.rest.now + BLOCK ≡ length at.entry.rest.now }
+    ensures written { result.written ≡ at.entry.written + NULLS_IN_BLOCK }
     ensures joined { KeepsJoined Mutf8 at.entry.rest.now (take at.entry.written room.old)
         result.rest.now (take result.written room.new) }
 {
-    room[at.written..at.written + 16].copy_from_slice(&[0; 16]);
+    room[at.written..at.written + NULLS_IN_BLOCK].copy_from_slice(&[0; NULLS_IN_BLOCK]);
     Progress {
-        rest: &at.rest[32..],
-        written: at.written + 16,
+        rest: &at.rest[BLOCK..],
+        written: at.written + NULLS_IN_BLOCK,
     }
 }

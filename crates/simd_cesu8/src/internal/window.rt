@@ -6,12 +6,16 @@ ghost use Rattle.simd_cesu8.specs.Internal.{flavor_of};
 ghost use Rattle.simd_cesu8.specs.Joining.{IsJoined};
 ghost use Rattle.simd_cesu8.specs.Pieces.{IsPiece};
 
-use super::joining::{REACH, Room, WINDOW, join};
+use super::joining::{MOST, PAIR, REACH, Room, Step, WINDOW, join};
 use super::{Flavor, contains_changed, is_continuation};
 use simdutf8::basic;
 
-/// Fewer bytes than these are not read by windows.
-pub const SHORT: usize = 64;
+/// So few bytes, or fewer, are not read by windows.
+pub const TOO_FEW: usize = 64;
+
+/// The most bytes that are written for a window: those that are joined, and the continuation bytes
+/// after them.
+const FILLED: usize = MOST + PAIR;
 
 /// The text of the first bytes, and their number.
 #[derive(Drop)]
@@ -28,12 +32,12 @@ pub fn read_window<'a>(
     len: usize,
     room: &'a mut Room,
 ) -> Option<Piece<'a>>
-    requires { 64 < length bytes.now }
+    requires { TOO_FEW < length bytes.now }
     ensures within { IfSome result (λ piece. (0 < piece.read) × (piece.read ≤ length bytes.now)) }
     ensures text { IfSome result (λ piece. (lossy : Bool) → IsPiece (flavor_of flavor) lossy
         bytes.now (drop piece.read bytes.now) piece.text.now) }
 {
-    let (read, written) = join_window(flavor, bytes, len, room);
+    let Step { read, written } = join_window(flavor, bytes, len, room);
     if read == 0 {
         return None;
     }
@@ -47,32 +51,32 @@ pub fn read_window<'a>(
     }
 }
 
-/// Joins the first bytes, up to the end of a character. Returns how many it read, and how many it
-/// wrote.
-fn join_window(flavor: Flavor, bytes: &[u8], len: usize, room: &mut Room) -> (usize, usize)
-    requires { 64 < length bytes.now }
-    ensures within { (result.0 ≤ length bytes.now) × (result.1 ≤ 1036) }
-    ensures joined { IsJoined (flavor_of flavor) (take result.0 bytes.now)
-        (take result.1 room.new) }
+/// Joins the first bytes, up to the end of a character.
+fn join_window(flavor: Flavor, bytes: &[u8], len: usize, room: &mut Room) -> Step
+    requires { TOO_FEW < length bytes.now }
+    ensures within { (result.read ≤ length bytes.now) × (result.written ≤ FILLED) }
+    ensures joined { IsJoined (flavor_of flavor) (take result.read bytes.now)
+        (take result.written room.new) }
 {
     let end = len.min(WINDOW).min(bytes.len() - REACH);
-    let (read, written) = join(flavor, bytes, end, room);
-    copy_end(bytes, read, written, room)
+    let step = join(flavor, bytes, end, room);
+    copy_end(bytes, step, room)
 }
 
-/// Copies the continuation bytes at a position.
-fn copy_end(bytes: &[u8], start: usize, filled: usize, room: &mut Room) -> (usize, usize)
-    requires { (start ≤ length bytes.now) × (filled ≤ 1030) }
-    ensures within { (result.0 ≤ length bytes.now) × (result.1 ≤ 1036) }
-    ensures joined { (f : AnyFlavor) → IsJoined f (take start bytes.now) (take filled room.old)
-        → IsJoined f (take result.0 bytes.now) (take result.1 room.new) }
+/// Copies the continuation bytes that follow a step.
+fn copy_end(bytes: &[u8], step: Step, room: &mut Room) -> Step
+    requires { (step.read ≤ length bytes.now) × (step.written ≤ MOST) }
+    ensures within { (result.read ≤ length bytes.now) × (result.written ≤ FILLED) }
+    ensures joined { (f : AnyFlavor)
+        → IsJoined f (take step.read bytes.now) (take step.written room.old)
+        → IsJoined f (take result.read bytes.now) (take result.written room.new) }
 {
-    let mut read = start;
-    let mut written = filled;
-    while read < bytes.len() && is_continuation(bytes[read]) && written < 1036 {
+    let mut read = step.read;
+    let mut written = step.written;
+    while read < bytes.len() && is_continuation(bytes[read]) && written < FILLED {
         room[written] = bytes[read];
         read += 1;
         written += 1;
     }
-    (read, written)
+    Step { read, written }
 }

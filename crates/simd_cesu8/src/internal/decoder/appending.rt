@@ -7,7 +7,7 @@ ghost use Rattle.simd_cesu8.specs.Internal.{flavor_of};
 ghost use Rattle.simd_cesu8.specs.Pieces.{IsReadSoFar, HasFault};
 
 use super::by_places::read_by_places;
-use super::windows::{AROUND, SPARED};
+use super::windows::{AROUND, LEAST, SPARED};
 use super::{
     FEW, FEW_ROOM, FEW_WRITTEN_ROOM, FEWEST, FEWEST_ROOM, FEWEST_WRITTEN_ROOM, SMALL_ROOM,
     SMALL_WRITTEN_ROOM, WRITTEN_ROOM,
@@ -46,7 +46,7 @@ pub fn append_in<'b, const LEN: usize, const WRITTEN: usize, A: Allocator>(
     out: &mut String<A>,
 ) -> Result<&'b [u8], DecodeFault>
     requires some { 0 < length bytes.now }
-    requires window { AROUND + 11 ≤ LEN }
+    requires window { LEAST ≤ LEN }
     requires written { (3 * LEN ≤ WRITTEN + SPARED) × (WRITTEN ≤ WRITTEN_ROOM) }
     ensures less { IfOk result (λ rest. length rest.now < length bytes.now) }
     ensures ok { IfOk result (λ rest. IsReadSoFar (flavor_of options.flavor) options.lossy
@@ -69,7 +69,7 @@ pub fn append_window<'b, A: Allocator>(
     out: &mut String<A>,
 ) -> Result<&'b [u8], DecodeFault>
     requires some { 0 < length bytes.now }
-    requires window { AROUND + 11 ≤ length window.old }
+    requires window { LEAST ≤ length window.old }
     requires zeros { window.old ≡ replicate (length window.old) 0 }
     requires written { 3 * length window.old ≤ length written.old + SPARED }
     ensures less { IfOk result (λ rest. length rest.now < length bytes.now) }

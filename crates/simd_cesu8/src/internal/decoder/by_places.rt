@@ -5,7 +5,7 @@ ghost use Rattle.std.specs.Str.{IsUtf8};
 ghost use Rattle.simd_cesu8.specs.Internal.{flavor_of};
 ghost use Rattle.simd_cesu8.specs.Pieces.{IsPiece, HasFault};
 
-use super::windows::{AROUND, Decoded, SPARED, write_window};
+use super::windows::{AROUND, Decoded, LEAST, SPARED, write_window};
 use crate::internal::Flavor;
 use crate::internal::null_form::{OneByteNull, TwoByteNull};
 use simdutf8::basic;
@@ -33,7 +33,7 @@ pub fn read_by_places<'a>(
     window: &mut [u8],
     written: &'a mut [u8],
 ) -> ReadWindow<'a>
-    requires window { AROUND + 11 ≤ length window.old }
+    requires window { LEAST ≤ length window.old }
     requires zeros { window.old ≡ replicate (length window.old) 0 }
     requires written { 3 * length window.old ≤ length written.old + SPARED }
     ensures some { 0 < length bytes.now → 0 < result.len }
@@ -88,7 +88,7 @@ pub fn write_in_flavor(
     window: &mut [u8],
     written: &mut [u8],
 ) -> Decoded
-    requires window { AROUND + 11 ≤ length window.old }
+    requires window { LEAST ≤ length window.old }
     requires zeros { window.old ≡ replicate (length window.old) 0 }
     requires written { 3 * length window.old ≤ length written.old + SPARED }
     ensures some { 0 < length bytes.now → 0 < result.read }

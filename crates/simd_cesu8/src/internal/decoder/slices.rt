@@ -14,15 +14,15 @@ ghost use Rattle.simd_cesu8.specs.Slices.{StandsAtFront, WritesAnswer, WritesRea
 
 use super::by_places::write_in_flavor;
 use super::damage::is_damaged;
-use super::windows::{AROUND, SPARED};
+use super::windows::{AROUND, LEAST, SPARED};
 use super::{
     FEW, FEW_ROOM, FEW_WRITTEN_ROOM, FEWEST, FEWEST_ROOM, FEWEST_WRITTEN_ROOM, SMALL, SMALL_ROOM,
     SMALL_WRITTEN_ROOM, WINDOW, WINDOW_ROOM, WINDOWS, WRITTEN_ROOM, lossy_len,
 };
 use crate::error::{DecodeSliceFault, DecodingError, LossySliceFault, TooShort};
 use crate::internal::Flavor;
-use crate::internal::joining::Room;
-use crate::internal::window::{SHORT, read_window};
+use crate::internal::joining::{ROOM_LEN, Room};
+use crate::internal::window::{TOO_FEW, read_window};
 use crate::internal::writers::{copy_to_slice, put};
 
 /// Writes the strict reading of the bytes to a caller's buffer, if it fits.
@@ -58,7 +58,7 @@ fn strict_in<const LEN: usize, const WRITTEN: usize>(
     bytes: &[u8],
     buf: &mut [u8],
 ) -> Result<usize, DecodeSliceFault>
-    requires window { (length bytes.now + AROUND ≤ LEN) × (AROUND + 11 ≤ LEN) }
+    requires window { (length bytes.now + AROUND ≤ LEN) × (LEAST ≤ LEN) }
     requires written { (3 * LEN ≤ WRITTEN + SPARED) × (WRITTEN ≤ WRITTEN_ROOM) }
     ensures { WritesReading (λ text. IsStrictReading (flavor_of flavor) bytes.now text)
         result buf.old buf.new }
@@ -108,7 +108,7 @@ fn lossy_in<const LEN: usize, const WRITTEN: usize>(
     bytes: &[u8],
     buf: &mut [u8],
 ) -> Result<usize, LossySliceFault>
-    requires window { (length bytes.now + AROUND ≤ LEN) × (AROUND + 11 ≤ LEN) }
+    requires window { (length bytes.now + AROUND ≤ LEN) × (LEAST ≤ LEN) }
     requires written { (3 * LEN ≤ WRITTEN + SPARED) × (WRITTEN ≤ WRITTEN_ROOM) }
     ensures { WritesLossyReading (λ text. text ≡ reading (flavor_of flavor) bytes.now)
         result buf.old buf.new }
@@ -156,19 +156,25 @@ fn write_reading(flavor: Flavor, bytes: &[u8], out: &mut [u8]) -> usize
     ensures { StandsAtFront (utf8 (reading (flavor_of flavor) bytes.now))
         result out.old out.new }
 {
-    let mut room = [0; 1088];
+    let mut room = [0; ROOM_LEN];
     let mut rest = bytes;
     let mut end = 0;
     while !rest.is_empty() {
-        let (behind, written_end) = write_next(flavor, rest, &mut room, out, end);
-        rest = behind;
-        end = written_end;
+        let piece = write_next(flavor, rest, &mut room, out, end);
+        rest = piece.rest;
+        end = piece.end;
     }
     end
 }
 
+/// The bytes that are left after a piece of text is written, and the end of the piece.
+#[derive(Drop)]
+struct WrittenPiece<'b> {
+    rest: &'b [u8],
+    end: usize,
+}
+
 /// Writes the next piece of text at a position, from one joined window or some windows by places.
-/// Returns the bytes that are left and the end of the piece.
 #[inline(always)]
 fn write_next<'b>(
     flavor: Flavor,
@@ -176,48 +182,50 @@ fn write_next<'b>(
     room: &mut Room,
     out: &mut [u8],
     start: usize,
-) -> (&'b [u8], usize)
+) -> WrittenPiece<'b>
     requires some { 0 < length bytes.now }
     requires room { start + lossy_length (flavor_of flavor) bytes.now ≤ length out.old }
-    ensures less { length result.0.now < length bytes.now }
-    ensures written { IsWrittenSoFar (flavor_of flavor) bytes.now result.0.now
-        start result.1 out.old out.new }
+    ensures less { length result.rest.now < length bytes.now }
+    ensures written { IsWrittenSoFar (flavor_of flavor) bytes.now result.rest.now
+        start result.end out.old out.new }
 {
-    if bytes.len() > SHORT {
+    if bytes.len() > TOO_FEW {
         if let Some(piece) = read_window(flavor, bytes, WINDOW, room) {
             let end = put(piece.text.as_bytes(), out, start);
-            return (&bytes[piece.read..], end);
+            return WrittenPiece {
+                rest: &bytes[piece.read..],
+                end,
+            };
         }
     }
     write_windows(flavor, bytes, out, start)
 }
 
-/// Writes the text of some windows by places, and returns the bytes that are left and the end of
-/// the text. Its buffers are made only when it is called.
+/// Writes the text of some windows by places. Its buffers are made only when it is called.
 #[inline(never)]
 fn write_windows<'b>(
     flavor: Flavor,
     bytes: &'b [u8],
     out: &mut [u8],
     start: usize,
-) -> (&'b [u8], usize)
+) -> WrittenPiece<'b>
     requires some { 0 < length bytes.now }
     requires room { start + lossy_length (flavor_of flavor) bytes.now ≤ length out.old }
-    ensures less { length result.0.now < length bytes.now }
-    ensures written { IsWrittenSoFar (flavor_of flavor) bytes.now result.0.now
-        start result.1 out.old out.new }
+    ensures less { length result.rest.now < length bytes.now }
+    ensures written { IsWrittenSoFar (flavor_of flavor) bytes.now result.rest.now
+        start result.end out.old out.new }
 {
     let mut written = [0; WRITTEN_ROOM];
     let mut rest = bytes;
     let mut end = start;
     let mut windows = 0;
     while windows < WINDOWS && !rest.is_empty() {
-        let (behind, written_end) = write_window(flavor, rest, &mut written, out, end);
-        rest = behind;
-        end = written_end;
+        let piece = write_window(flavor, rest, &mut written, out, end);
+        rest = piece.rest;
+        end = piece.end;
         windows += 1;
     }
-    (rest, end)
+    WrittenPiece { rest, end }
 }
 
 /// The same for one window.
@@ -228,16 +236,19 @@ fn write_window<'b>(
     written: &mut [u8],
     out: &mut [u8],
     start: usize,
-) -> (&'b [u8], usize)
+) -> WrittenPiece<'b>
     requires some { 0 < length bytes.now }
     requires written { 3 * WINDOW_ROOM ≤ length written.old + SPARED }
     requires room { start + lossy_length (flavor_of flavor) bytes.now ≤ length out.old }
-    ensures less { length result.0.now < length bytes.now }
-    ensures written { IsWrittenSoFar (flavor_of flavor) bytes.now result.0.now
-        start result.1 out.old out.new }
+    ensures less { length result.rest.now < length bytes.now }
+    ensures written { IsWrittenSoFar (flavor_of flavor) bytes.now result.rest.now
+        start result.end out.old out.new }
 {
     let mut window = [0; WINDOW_ROOM];
     let decoded = write_in_flavor(flavor, bytes, &mut window, written);
     let end = put(&written[..decoded.end], out, start);
-    (&bytes[decoded.read..], end)
+    WrittenPiece {
+        rest: &bytes[decoded.read..],
+        end,
+    }
 }

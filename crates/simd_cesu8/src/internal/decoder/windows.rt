@@ -20,9 +20,15 @@ pub const AROUND: usize = 80;
 /// How many positions before a byte are read to decide what becomes of it.
 pub const BEFORE: usize = 5;
 
+/// The least length of a window's buffer, for which some bytes are read.
+pub const LEAST: usize = AROUND + 2 * BEFORE + 1;
+
 /// A buffer for the text of a window may be this much shorter than three bytes for each byte of the
 /// window's buffer.
 pub const SPARED: usize = 64;
+
+/// At least so many bytes of it follow the text.
+pub const LEFT: usize = 64;
 
 /// How many bytes of a window were read, the end of what is written for them, and whether some of
 /// them are damaged.
@@ -36,13 +42,13 @@ pub struct Decoded {
 /// Writes what becomes of the first bytes, up to a position that no encoded character crosses.
 #[inline(always)]
 pub fn write_window<N: NullForm>(bytes: &[u8], window: &mut [u8], out: &mut [u8]) -> Decoded
-    requires window { AROUND + 11 ≤ length window.old }
+    requires window { LEAST ≤ length window.old }
     requires zeros { window.old ≡ replicate (length window.old) 0 }
     requires out { 3 * length window.old ≤ length out.old + SPARED }
     ensures some { 0 < length bytes.now → 0 < result.read }
     ensures within { result.read ≤ length bytes.now }
     ensures all { length bytes.now + AROUND ≤ length window.old → result.read ≡ length bytes.now }
-    ensures end { result.end + 64 ≤ length out.new }
+    ensures end { result.end + LEFT ≤ length out.new }
     ensures lossy { IsPiece N.flavor true bytes.now
         (drop result.read bytes.now) (take result.end out.new) }
     ensures strict { result.is_damaged ≡ false → IsPiece N.flavor false bytes.now
@@ -57,7 +63,7 @@ pub fn write_window<N: NullForm>(bytes: &[u8], window: &mut [u8], out: &mut [u8]
 /// that no encoded character crosses.
 #[inline(always)]
 pub fn load<N: NullForm>(bytes: &[u8], window: &mut [u8]) -> usize
-    requires room { AROUND + 11 ≤ length window.old }
+    requires room { LEAST ≤ length window.old }
     requires zeros { window.old ≡ replicate (length window.old) 0 }
     ensures some { 0 < length bytes.now → 0 < result }
     ensures all { length bytes.now + AROUND ≤ length window.old → result ≡ length bytes.now }

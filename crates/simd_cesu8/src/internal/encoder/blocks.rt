@@ -14,7 +14,21 @@ use std::simd::prelude::*;
 /// How many bytes of a text form a block.
 pub const BLOCK: usize = 32;
 
-/// How many bytes the rows of a block need when they are stored.
+/// How many bytes before a block are read with it, since they decide what its bytes become,
+pub const BEFORE: usize = 2;
+
+/// how many after it,
+pub const AFTER: usize = 1;
+
+/// and the length of a block with these.
+pub const WINDOW: usize = BEFORE + BLOCK + AFTER;
+
+/// How many bytes of a block form a row.
+const ROW: usize = 8;
+
+/// How many bytes a row needs when it is stored, and the rows of a block.
+const STORED_ROW: usize = 2 * ROW;
+
 const STORED: usize = 2 * BLOCK;
 
 /// Writes what the first `count` bytes of the block at a position become, and returns its end.
@@ -28,7 +42,7 @@ pub fn write_block<N: NullForm>(
     out: &mut [u8],
     end: usize,
 ) -> usize
-    requires window { at + 35 ≤ length window.now }
+    requires window { at + WINDOW ≤ length window.now }
     requires count { count ≤ BLOCK }
     requires room { end + length (encoded_bytes N.flavor window.now at count) ≤ length out.old }
     ensures bytes { take result out.new ≡ take end out.old ++ encoded_bytes N.flavor window.now at count }
@@ -56,7 +70,7 @@ struct EncodedBlock {
 /// Returns the lanes of the block that follows the first `at` bytes of a window, and two more.
 #[inline(always)]
 fn encode_block<N: NullForm>(window: &[u8], at: usize) -> EncodedBlock
-    requires { at + 35 ≤ length window.now }
+    requires { at + WINDOW ≤ length window.now }
     ensures { AreLanes N.flavor window.now at result.seconds result.firsts result.doubled }
 {
     let bytes = u8x32::from_slice(&window[at + 2..]);
@@ -113,15 +127,16 @@ fn bits(lanes: u8x32) -> u64
 fn store_row(lanes: u8x16, doubled: usize, rows: &Rows, out: &mut [u8], at: usize) -> usize
     requires rows { AreShuffles rows.now }
     requires small { doubled < 0x100 }
-    requires room { at + 16 ≤ length out.old }
-    ensures bytes { (ts : List Bool) → length ts ≡ 8 → doubled ≡ mask_l ts
-        → take result out.new ≡ take at out.old ++ packed ts (chunk 8 8 lanes) (chunk 0 8 lanes) }
-    ensures end { (at ≤ result) × (result ≤ at + 16) }
+    requires room { at + STORED_ROW ≤ length out.old }
+    ensures bytes { (ts : List Bool) → length ts ≡ ROW → doubled ≡ mask_l ts
+        → take result out.new
+        ≡ take at out.old ++ packed ts (chunk ROW ROW lanes) (chunk 0 ROW lanes) }
+    ensures end { (at ≤ result) × (result ≤ at + STORED_ROW) }
     ensures len { length out.new ≡ length out.old }
 {
     let packed = lanes.swizzle_dyn(u8x16::from_array(rows[doubled]));
     packed.copy_to_slice(&mut out[at..]);
-    at + 8 + doubled.count_ones() as usize
+    at + ROW + doubled.count_ones() as usize
 }
 
 /// Stores a block, and returns the end of its content for its first `count` bytes.

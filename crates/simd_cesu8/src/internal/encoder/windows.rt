@@ -6,11 +6,8 @@
 ghost use Rattle.std.specs.Prelude.{◌≡◌, ℕ, ◌+◌, ◌*◌, ◌<◌, ◌≤◌, ◌∷◌, length, replicate, slice_index};
 ghost use Rattle.simd_cesu8.specs.EncodedPlaces.{recoded, IsWritten};
 
-use super::blocks::{BLOCK, write_block};
+use super::blocks::{AFTER, BEFORE, BLOCK, WINDOW, write_block};
 use crate::internal::null_form::NullForm;
-
-/// The length of a block, the two bytes before it and the one after it.
-const WINDOW: usize = BLOCK + 3;
 
 /// Writes what the bytes of a text become, and returns its end.
 pub fn write_bytes<N: NullForm>(text: &[u8], out: &mut [u8]) -> usize
@@ -49,7 +46,7 @@ fn write_first<N: NullForm>(text: &[u8], out: &mut [u8]) -> usize
     ensures len { length out.new ≡ length out.old }
 {
     let mut window = [0; WINDOW];
-    put_behind_zeros(&text[..BLOCK + 1], &mut window);
+    put_behind_zeros(&text[..BLOCK + AFTER], &mut window);
     write_block::<N>(&window, 0, BLOCK, out, 0)
 }
 
@@ -64,7 +61,7 @@ fn write_middle<N: NullForm>(text: &[u8], blocks: usize, out: &mut [u8], start: 
 {
     let mut end = start;
     for i in 1..blocks {
-        end = write_block::<N>(text, BLOCK * i - 2, BLOCK, out, end);
+        end = write_block::<N>(text, BLOCK * i - BEFORE, BLOCK, out, end);
     }
     end
 }
@@ -79,25 +76,25 @@ fn write_last<N: NullForm>(text: &[u8], at: usize, out: &mut [u8], end: usize) -
     ensures len { length out.new ≡ length out.old }
 {
     let mut window = [0; WINDOW];
-    put_before_zeros(&text[at - 2..], &mut window);
+    put_before_zeros(&text[at - BEFORE..], &mut window);
     write_block::<N>(&window, 0, text.len() - at, out, end)
 }
 
 /// Copies bytes into a window of zeros, after two of these: nothing precedes the bytes.
 #[inline(always)]
 fn put_behind_zeros(near: &[u8], window: &mut [u8; WINDOW])
-    requires short { length near.now ≤ 33 }
-    requires zeros { window.old ≡ replicate 35 0 }
+    requires short { length near.now ≤ BLOCK + AFTER }
+    requires zeros { window.old ≡ replicate WINDOW 0 }
     ensures { (k : ℕ) → slice_index window.new k ≡ slice_index (0 ∷ 0 ∷ near.now) k }
 {
-    window[2..2 + near.len()].copy_from_slice(near);
+    window[BEFORE..BEFORE + near.len()].copy_from_slice(near);
 }
 
 /// Copies bytes to the front of a window of zeros: nothing follows them.
 #[inline(always)]
 fn put_before_zeros(near: &[u8], window: &mut [u8; WINDOW])
-    requires short { length near.now ≤ 35 }
-    requires zeros { window.old ≡ replicate 35 0 }
+    requires short { length near.now ≤ WINDOW }
+    requires zeros { window.old ≡ replicate WINDOW 0 }
     ensures { (k : ℕ) → slice_index window.new k ≡ slice_index near.now k }
 {
     window[..near.len()].copy_from_slice(near);

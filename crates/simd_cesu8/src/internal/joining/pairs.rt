@@ -4,8 +4,17 @@ ghost use Rattle.std.specs.Prelude.{◌≡◌, ◌+◌, ◌*◌, ◌<◌, ◌≤
 ghost use Rattle.simd_cesu8.specs.Encoding.{Flavor as AnyFlavor};
 ghost use Rattle.simd_cesu8.specs.Joining.{IsJoinedAfter, KeepsJoined, HasPair, AreJoinedDigits, second_third_fifth_sixth, word_of};
 
-use super::{Progress, Room};
+use super::{Progress, REACH, ROOM_LEN, Room, WINDOW};
 use std::simd::prelude::*;
+
+/// How many bytes a surrogate pair has,
+pub const PAIR: usize = 6;
+
+/// how many the UTF-8 of its character has,
+pub const PAIR_UTF8: usize = 4;
+
+/// and how many are read with it.
+pub const PAIR_READ: usize = 8;
 
 /// The marks of three surrogate pairs in a row.
 pub const PAIR_MARKS: u32 = 0x0000_1041;
@@ -14,8 +23,8 @@ pub const PAIR_MARKS: u32 = 0x0000_1041;
 /// does not depend on what was read.
 #[inline(always)]
 pub fn join_pairs<'a>(start: Progress<'a>, stop: usize, room: &mut Room) -> Progress<'a>
-    requires stop { (stop < length start.rest.now) × (48 ≤ stop) }
-    requires room { start.written + length start.rest.now ≤ 1024 + stop }
+    requires stop { (stop < length start.rest.now) × (REACH ≤ stop) }
+    requires room { start.written + length start.rest.now ≤ WINDOW + stop }
     ensures after { IsJoinedAfter start.entry.rest.now result.rest.now
         start.entry.written result.written stop }
     ensures joined { (f : AnyFlavor) → KeepsJoined f
@@ -27,8 +36,8 @@ pub fn join_pairs<'a>(start: Progress<'a>, stop: usize, room: &mut Room) -> Prog
     let mut written = start.written;
     while bytes.len() - read > stop && is_pair(&bytes[read..]) {
         join_pair(&bytes[read..], written, room);
-        read += 6;
-        written += 4;
+        read += PAIR;
+        written += PAIR_UTF8;
     }
     Progress {
         rest: &bytes[read..],
@@ -40,19 +49,19 @@ pub fn join_pairs<'a>(start: Progress<'a>, stop: usize, room: &mut Room) -> Prog
 #[inline(always)]
 fn join_pair(bytes: &[u8], written: usize, room: &mut Room)
     requires pair { HasPair bytes.now }
-    requires long { 8 ≤ length bytes.now }
-    requires room { written + 4 ≤ 1088 }
+    requires long { PAIR_READ ≤ length bytes.now }
+    requires room { written + PAIR_UTF8 ≤ ROOM_LEN }
     ensures { (f : AnyFlavor) → KeepsJoined f bytes.now (take written room.old)
-        (drop 6 bytes.now) (take (written + 4) room.new) }
+        (drop PAIR bytes.now) (take (written + PAIR_UTF8) room.new) }
 {
     let four = utf8_of_pair(bytes);
-    room[written..written + 4].copy_from_slice(&four);
+    room[written..written + PAIR_UTF8].copy_from_slice(&four);
 }
 
 /// Returns whether a surrogate pair begins the bytes.
 #[inline(always)]
 pub fn is_pair(bytes: &[u8]) -> bool
-    requires { 8 ≤ length bytes.now }
+    requires { PAIR_READ ≤ length bytes.now }
     ensures { IsTrue result ↔ HasPair bytes.now }
 {
     front_word(bytes) & 0x0000_C0F0_FFC0_F0FF == 0x0000_80B0_ED80_A0ED
@@ -60,8 +69,8 @@ pub fn is_pair(bytes: &[u8]) -> bool
 
 /// Returns the UTF-8 of the character whose surrogate pair begins the bytes.
 #[inline(always)]
-pub fn utf8_of_pair(bytes: &[u8]) -> [u8; 4]
-    requires { 8 ≤ length bytes.now }
+pub fn utf8_of_pair(bytes: &[u8]) -> [u8; PAIR_UTF8]
+    requires { PAIR_READ ≤ length bytes.now }
     ensures { AreJoinedDigits (second_third_fifth_sixth bytes.now) result }
 {
     // The plane offset: one more than the last four bits of the second byte.
@@ -77,7 +86,7 @@ pub fn utf8_of_pair(bytes: &[u8]) -> [u8; 4]
 /// Returns the first eight bytes as one word, the first in its lowest byte.
 #[inline(always)]
 fn front_word(bytes: &[u8]) -> u64
-    requires { 8 ≤ length bytes.now }
+    requires { PAIR_READ ≤ length bytes.now }
     ensures { result ≡ word_of (slice_index bytes.now 0) (slice_index bytes.now 1)
         (slice_index bytes.now 2) (slice_index bytes.now 3) (slice_index bytes.now 4)
         (slice_index bytes.now 5) (slice_index bytes.now 6 + slice_index bytes.now 7 * 0x100) }

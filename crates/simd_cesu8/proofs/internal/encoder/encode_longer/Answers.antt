@@ -5,4 +5,4 @@ use Rattle.simd_cesu8.proofs.internal.encoder.encode_longer.Goals as goal
 
 pub write_text-len-requires : goal.write_text-len-requires
 write_text-len-requires g c =
-    omega (arith, length_encoding_chars (flavor_of c.args.flavor) c.args.text.now c.utf8.text, c.if-text-le-SHORT.true)
+    omega (arith, length_encoding_chars (flavor_of c.args.flavor) c.args.text.now c.utf8.text, c.if-text-le-ON_STACK.true)

@@ -1,6 +1,7 @@
 use Rattle.std.proofs.Common.{◌≡◌, ◌+◌, ◌≤◌, length, take}
 use Rattle.simd_cesu8.specs.Internal.{flavor_of}
 use Rattle.simd_cesu8.specs.Joining.{IsJoinedSoFar}
+use Rattle.simd_cesu8.specs.declared.internal.joining.pairs.TheConstants.{PAIR}
 use Rattle.simd_cesu8.proofs.internal.joining.join_blocks.Given as goal
 
 abbrev pub decreases-loop-at : goal.decreases-loop-at
@@ -10,7 +11,7 @@ abbrev pub invariant-loop-at : goal.invariant-loop-at
 invariant-loop-at l = record {
   shorter : length l.at.rest.now ≤ length l.fn.bytes;
   stop : l.stop + l.fn.end ≡ length l.fn.bytes;
-  past : l.stop ≤ length l.at.rest.now + 6;
+  past : l.stop ≤ length l.at.rest.now + PAIR;
   room : l.at.written + length l.at.rest.now ≤ length l.fn.bytes;
   joined : IsJoinedSoFar (flavor_of l.flavor) l.fn.bytes l.at.rest.now (take l.at.written l.room);
 }

@@ -1,6 +1,7 @@
 use Rattle.std.proofs.Common.{◌+◌, ◌-◌, ◌≤◌, length, take, drop}
 use Rattle.simd_cesu8.specs.Internal.{flavor_of}
 use Rattle.simd_cesu8.specs.Joining.{KeepsJoined}
+use Rattle.simd_cesu8.specs.declared.internal.joining.pairs.TheConstants.{PAIR}
 use Rattle.simd_cesu8.proofs.internal.joining.join_marked.Given as goal
 
 abbrev pub decreases-loop-marks : goal.decreases-loop-marks
@@ -8,7 +9,7 @@ decreases-loop-marks l = length l.bytes - l.read
 
 abbrev pub invariant-loop-marks : goal.invariant-loop-marks
 invariant-loop-marks l = record {
-  past : l.stop + l.read ≤ length l.bytes + 6;
+  past : l.stop + l.read ≤ length l.bytes + PAIR;
   room : l.written ≤ l.fn.start.written + l.read;
   joined : KeepsJoined (flavor_of l.flavor) l.bytes (take l.fn.start.written l.fn.room) (drop l.read l.bytes) (take l.written l.room);
 }

@@ -7,14 +7,14 @@ use Rattle.simd_cesu8.proofs.internal.decoder.slices.write_reading.Goals as goal
 pub loop-rest-init : goal.loop-rest-init
 loop-rest-init c = nothing_written (flavor_of c.args.flavor) c.args.bytes.now 0 c.args.out.now
 
-pub write_next-written_end-requires-clause-room : goal.write_next-written_end-requires-clause-room
-write_next-written_end-requires-clause-room c =
+pub write_next-piece-requires-clause-room : goal.write_next-piece-requires-clause-room
+write_next-piece-requires-clause-room c =
     omega (arith, c.requires, c.loop-rest.invariant.room, c.loop-rest.invariant.len)
 
 pub loop-rest-preserved : goal.loop-rest-preserved
 loop-rest-preserved c =
     more_written (flavor_of c.args.flavor) c.args.bytes.now c.loop-rest.rest.now _ 0 c.loop-rest.end _ _ _ _
-    c.loop-rest.invariant c.write_next-written_end.ensures.written
+    c.loop-rest.invariant c.write_next-piece.ensures.written
 
 pub returns : goal.returns
 returns c =

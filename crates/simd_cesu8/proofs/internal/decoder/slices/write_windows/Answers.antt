@@ -6,7 +6,7 @@ use Rattle.simd_cesu8.proofs.internal.decoder.slices.write_windows.Goals as goal
 pub loop-windows-preserved : goal.loop-windows-preserved
 loop-windows-preserved c =
     let inv = c.loop-windows.invariant in
-    let next = c.write_window-written_end.ensures in
+    let next = c.write_window-piece.ensures in
     record {
       written = more_written (flavor_of c.args.flavor) c.args.bytes.now c.loop-windows.rest.now _ c.args.start c.loop-windows.end _ _ _ _
           inv.written next.written;

@@ -1,6 +1,7 @@
 use Rattle.std.proofs.Common.{◌+◌, ◌-◌, ◌≤◌, length, take, drop}
 use Rattle.simd_cesu8.specs.Encoding.{Flavor}
 use Rattle.simd_cesu8.specs.Joining.{KeepsJoined}
+use Rattle.simd_cesu8.specs.declared.internal.joining.pairs.TheConstants.{PAIR}
 use Rattle.simd_cesu8.proofs.internal.joining.pairs.join_pairs.Given as goal
 
 abbrev pub decreases-loop-read : goal.decreases-loop-read
@@ -8,7 +9,7 @@ decreases-loop-read l = length l.bytes - l.read
 
 abbrev pub invariant-loop-read : goal.invariant-loop-read
 invariant-loop-read l = record {
-  past : l.stop + l.read ≤ length l.bytes + 6;
+  past : l.stop + l.read ≤ length l.bytes + PAIR;
   room : l.written ≤ l.fn.start.written + l.read;
   joined : (f : Flavor) → KeepsJoined f l.bytes (take l.fn.start.written l.fn.room) (drop l.read l.bytes) (take l.written l.room);
 }
