@@ -5,7 +5,7 @@ use Rattle.std.specs.Result.{OkIff, result_ok}
 use Rattle.std.proofs.lemmas.Bool.{ne_eqb, cases_eq, cases_lt}
 use Rattle.simd_cesu8.specs.Text.{IsScalarValue, utf8_of, utf8}
 use Rattle.simd_cesu8.specs.Encoding.{Flavor, Cesu8, Mutf8, encoding}
-use Rattle.simd_cesu8.specs.Reading.{width, reading, lossy_length}
+use Rattle.simd_cesu8.specs.Reading.{width, lossy_length}
 use Rattle.simd_cesu8.specs.Cutting.{Piece, Character, Replaced, ArePieces, bytes_of, text_of, IsGreedy}
 use Rattle.simd_cesu8.specs.DecodedPlaces.{saved, total_weight}
 use Rattle.simd_cesu8.proofs.text.Shapes.{Shape, one, two, three, pair, shape, utf8_of_one, utf8_of_two, utf8_of_three, utf8_of_pair}
