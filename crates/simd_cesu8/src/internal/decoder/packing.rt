@@ -106,7 +106,7 @@ fn store_eight(lanes: u8x16, gone: usize, out: &mut [u8], at: usize) -> usize
 /// Returns a bit for each lane whose highest bit is set.
 #[inline(always)]
 pub fn highest_bits<const N: usize>(lanes: Simd<u8, N>) -> u64
-    requires { N ≤ 64 }
+    requires { N ≤ u64.BITS }
     ensures { result ≡ mask_l (map is_high lanes.entry) }
 {
     lanes.simd_ge(Simd::splat(0x80)).to_bitmask()
