@@ -9,6 +9,9 @@ ghost use Rattle.simd_cesu8.specs.Kernels.{AnyIn, lane};
 use std::simd::Mask;
 use std::simd::prelude::*;
 
+/// The most bytes that a vector has.
+pub const LANES: usize = 64;
+
 /// A class of bytes.
 pub trait Class {
     ghost class: { ℕ → Bool };
@@ -22,7 +25,7 @@ pub trait InVectors<const N: usize>: Class {
 }
 
 /// A class that is found by vectors of each width.
-pub trait InAllVectors: InVectors<64>
+pub trait InAllVectors: InVectors<LANES>
     + InVectors<32>
     + InVectors<16>
     + InVectors<8>
@@ -33,7 +36,7 @@ pub trait InAllVectors: InVectors<64>
 /// Returns whether some byte is in the class.
 #[inline(always)]
 pub fn has<C: InVectors<N>, const N: usize>(bytes: Simd<u8, N>) -> bool
-    requires { N ≤ 64 }
+    requires { N ≤ LANES }
     ensures { IsTrue result ↔ AnyIn C.class bytes.entry }
 {
     C::marks(bytes).any()
@@ -42,7 +45,7 @@ pub fn has<C: InVectors<N>, const N: usize>(bytes: Simd<u8, N>) -> bool
 /// Returns whether some byte of the chunks is in the class, by a test of each chunk.
 #[inline(always)]
 pub fn any_in_each<C: InVectors<N>, const N: usize>(chunks: &[[u8; N]]) -> bool
-    requires { N ≤ 64 }
+    requires { N ≤ LANES }
     ensures { IsTrue result ↔ Any (AnyIn C.class) chunks.now }
 {
     for chunk in chunks {
@@ -56,7 +59,7 @@ pub fn any_in_each<C: InVectors<N>, const N: usize>(chunks: &[[u8; N]]) -> bool
 /// Returns a bit for each byte of the class.
 #[inline(always)]
 pub fn bits<C: InVectors<N>, const N: usize>(bytes: Simd<u8, N>) -> u64
-    requires { N ≤ 64 }
+    requires { N ≤ LANES }
     ensures { result ≡ mask_l (map C.class bytes.entry) }
 {
     C::marks(bytes).to_bitmask()

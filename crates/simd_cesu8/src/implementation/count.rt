@@ -10,7 +10,7 @@ ghost use Rattle.simd_cesu8.specs.Encoding.{Flavor, Cesu8, Mutf8};
 ghost use Rattle.simd_cesu8.specs.EncodedPlaces.{is_null};
 ghost use Rattle.simd_cesu8.specs.Class.{is_four, growth_of};
 
-use super::class::{Four, InAllVectors, InVectors, NoByte, Null, bits};
+use super::class::{Four, InAllVectors, InVectors, LANES, NoByte, Null, bits};
 use std::simd::prelude::*;
 
 /// The bytes 00 that an encoding writes as two: all in MUTF-8, and none in CESU-8.
@@ -46,10 +46,7 @@ pub fn growth<C: DoubledNulls>(value: &[u8]) -> usize
     growth + rest_growth::<C>(rest)
 }
 
-/// How many bytes have the lanes of a vector,
-const LANES: usize = 64;
-
-/// how many vectors are counted in lanes,
+/// How many vectors are counted in lanes,
 const VECTORS: usize = 16;
 
 /// and how many bytes these have.

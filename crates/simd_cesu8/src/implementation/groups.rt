@@ -10,19 +10,19 @@ ghost use Rattle.simd_cesu8.specs.Class.{is_four, is_null_four};
 ghost use Rattle.simd_cesu8.specs.EncodedPlaces.{is_lead};
 ghost use Rattle.simd_cesu8.specs.Kernels.{AnyIn};
 
-use super::class::{Four, InVectors, Lead, Null, NullFour, any_in_each, has};
+use super::class::{Four, InVectors, LANES, Lead, Null, NullFour, any_in_each, has};
 use std::simd::prelude::*;
 
 /// A class that four vectors at once may be tested for.
 pub trait InGroups<const N: usize>: InVectors<N> {
     /// Returns whether some byte of the chunks may be in the class, and true if one is.
     fn may_have(group: &[[u8; N]; 4]) -> bool
-        requires { N ≤ 64 }
+        requires { N ≤ LANES }
         ensures { Any (AnyIn Self.class) group.now → IsTrue result };
 }
 
 /// A class that four vectors of each width may be tested for.
-pub trait InAllGroups: InGroups<64>
+pub trait InAllGroups: InGroups<LANES>
     + InGroups<32>
     + InGroups<16>
     + InGroups<8>
@@ -32,7 +32,7 @@ pub trait InAllGroups: InGroups<64>
 impl<const N: usize> InGroups<N> for Four {
     #[inline(always)]
     fn may_have(group: &[[u8; N]; 4]) -> bool
-        requires { N ≤ 64 }
+        requires { N ≤ LANES }
         ensures { Any (AnyIn is_four) group.now → IsTrue result }
     {
         has::<Lead, N>(extremes::<Lead, N>(group))
@@ -42,7 +42,7 @@ impl<const N: usize> InGroups<N> for Four {
 impl<const N: usize> InGroups<N> for NullFour {
     #[inline(always)]
     fn may_have(group: &[[u8; N]; 4]) -> bool
-        requires { N ≤ 64 }
+        requires { N ≤ LANES }
         ensures { Any (AnyIn is_null_four) group.now → IsTrue result }
     {
         has::<Lead, N>(extremes::<Lead, N>(group)) || has::<Null, N>(extremes::<Null, N>(group))
@@ -57,7 +57,7 @@ impl InAllGroups for NullFour {}
 /// widths.
 #[inline(always)]
 pub fn any_in_chunks<C: InGroups<N>, const N: usize>(chunks: &[[u8; N]]) -> bool
-    requires { (0 < N) × (N ≤ 64) }
+    requires { (0 < N) × (N ≤ LANES) }
     ensures { IsTrue result ↔ Any (AnyIn C.class) chunks.now }
 {
     if chunks.is_empty() {
@@ -69,7 +69,7 @@ pub fn any_in_chunks<C: InGroups<N>, const N: usize>(chunks: &[[u8; N]]) -> bool
 
 #[inline(always)]
 fn any_in_groups<C: InGroups<N>, const N: usize>(groups: &[[[u8; N]; 4]]) -> bool
-    requires { N ≤ 64 }
+    requires { N ≤ LANES }
     ensures { IsTrue result ↔ Any (Any (AnyIn C.class)) groups.now }
 {
     for group in groups {
@@ -83,7 +83,7 @@ fn any_in_groups<C: InGroups<N>, const N: usize>(groups: &[[[u8; N]; 4]]) -> boo
 /// Most groups have no byte that may be in the class; the others are tested again.
 #[inline(always)]
 fn any_in_group<C: InGroups<N>, const N: usize>(group: &[[u8; N]; 4]) -> bool
-    requires { N ≤ 64 }
+    requires { N ≤ LANES }
     ensures { IsTrue result ↔ Any (AnyIn C.class) group.now }
 {
     C::may_have(group) && any_in_each::<C, N>(group)

@@ -6,14 +6,11 @@
 ghost use Rattle.std.specs.Prelude.{◌≡◌, ◌≤◌, ◌<◌, ◌*◌, ◌↔◌, IsTrue, length};
 ghost use Rattle.simd_cesu8.specs.Kernels.{AnyIn};
 
-use super::class::{InAllVectors, InVectors, any_in_each, has};
+use super::class::{InAllVectors, InVectors, LANES, any_in_each, has};
 use std::simd::prelude::*;
 
-/// How many bytes a block has: as many as the widest vector.
-const BLOCK: usize = 64;
-
 /// The most bytes that a short value has.
-pub const SHORT: usize = 4 * BLOCK;
+pub const SHORT: usize = 4 * LANES;
 
 /// Returns whether some byte is in the class. It is correct for every length, and fast for short
 /// ones.
@@ -21,7 +18,7 @@ pub const SHORT: usize = 4 * BLOCK;
 pub fn any_in_short<C: InAllVectors>(bytes: &[u8]) -> bool
     ensures { IsTrue result ↔ AnyIn C.class bytes.now }
 {
-    if bytes.len() > BLOCK {
+    if bytes.len() > LANES {
         return any_in_blocks::<C>(bytes);
     }
     if bytes.len() >= 32 {
@@ -46,7 +43,7 @@ pub fn any_in_short<C: InAllVectors>(bytes: &[u8]) -> bool
 /// together cover all.
 #[inline(always)]
 fn any_in_ends<C: InVectors<N>, const N: usize>(bytes: &[u8]) -> bool
-    requires { (N ≤ 64) × (N ≤ length bytes.now) × (length bytes.now ≤ 2 * N) }
+    requires { (N ≤ LANES) × (N ≤ length bytes.now) × (length bytes.now ≤ 2 * N) }
     ensures { IsTrue result ↔ AnyIn C.class bytes.now }
 {
     let front: Simd<u8, N> = Simd::from_slice(bytes);
@@ -57,11 +54,11 @@ fn any_in_ends<C: InVectors<N>, const N: usize>(bytes: &[u8]) -> bool
 /// Returns whether some byte of a block is in the class, or of the last 64 bytes, which overlap the
 /// last block.
 #[inline(always)]
-fn any_in_blocks<C: InVectors<BLOCK>>(bytes: &[u8]) -> bool
-    requires { BLOCK ≤ length bytes.now }
+fn any_in_blocks<C: InVectors<LANES>>(bytes: &[u8]) -> bool
+    requires { LANES ≤ length bytes.now }
     ensures { IsTrue result ↔ AnyIn C.class bytes.now }
 {
-    let (blocks, _) = bytes.as_chunks::<BLOCK>();
-    let end: Simd<u8, BLOCK> = Simd::from_slice(&bytes[bytes.len() - BLOCK..]);
-    any_in_each::<C, BLOCK>(blocks) || has::<C, BLOCK>(end)
+    let (blocks, _) = bytes.as_chunks::<LANES>();
+    let end: Simd<u8, LANES> = Simd::from_slice(&bytes[bytes.len() - LANES..]);
+    any_in_each::<C, LANES>(blocks) || has::<C, LANES>(end)
 }

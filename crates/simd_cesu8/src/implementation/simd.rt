@@ -6,7 +6,7 @@ ghost use Rattle.std.specs.Prelude.{◌≡◌, ◌≤◌, ◌<◌, ◌↔◌, Is
 ghost use Rattle.simd_cesu8.specs.Class.{IsFour, IsNullFour};
 ghost use Rattle.simd_cesu8.specs.Kernels.{AnyIn, MayTest, Finds};
 
-use super::class::{Four, NullFour};
+use super::class::{Four, LANES, NullFour};
 use super::fallback;
 use super::groups::{InAllGroups, InGroups, any_in_chunks};
 
@@ -47,7 +47,7 @@ fn any_in<C: InAllGroups, F: Fn(&[u8]) -> bool>(value: &[u8], fallback: F) -> bo
     ensures { Finds (λ len. len ≡ 1) F.Fn fallback C.class
         → IsTrue result ↔ AnyIn C.class value.now }
 {
-    let Some(rest) = left_by::<C, 64>(value) else {
+    let Some(rest) = left_by::<C, LANES>(value) else {
         return true;
     };
     let Some(rest) = left_by::<C, 32>(rest) else {
@@ -71,7 +71,7 @@ fn any_in<C: InAllGroups, F: Fn(&[u8]) -> bool>(value: &[u8], fallback: F) -> bo
 /// Returns what the vectors of one width leave, or none if they find the class.
 #[inline(always)]
 fn left_by<C: InGroups<N>, const N: usize>(bytes: &[u8]) -> Option<&[u8]>
-    requires { (0 < N) × (N ≤ 64) }
+    requires { (0 < N) × (N ≤ LANES) }
     ensures left { IfSome result (λ rest. (length rest.now < N)
         × (AnyIn C.class rest.now ↔ AnyIn C.class bytes.now)) }
     ensures found { IfNone result (AnyIn C.class bytes.now) }

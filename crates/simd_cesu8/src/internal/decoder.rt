@@ -39,6 +39,7 @@ use super::{DecodeOptions, Flavor};
 use crate::error::{DecodeFault, DecodingError};
 use appending::{append, append_in, append_small, append_window};
 use by_places::read_by_places;
+use packing::WIDEST;
 pub use slices::{decode_lossy_to_slice, decode_strict_to_slice};
 use std::alloc::{AllocError, Allocator};
 use windows::{AROUND, LEAST, SPARED};
@@ -63,19 +64,19 @@ const FEWEST: usize = 32;
 // vectors are read and written.
 const WINDOW_ROOM: usize = WINDOW + AROUND;
 
-const WRITTEN_ROOM: usize = 3 * WINDOW_ROOM - SPARED;
+const WRITTEN_ROOM: usize = WIDEST * WINDOW_ROOM - SPARED;
 
 const SMALL_ROOM: usize = SMALL + AROUND;
 
-const SMALL_WRITTEN_ROOM: usize = 3 * SMALL_ROOM - SPARED;
+const SMALL_WRITTEN_ROOM: usize = WIDEST * SMALL_ROOM - SPARED;
 
 const FEW_ROOM: usize = FEW + AROUND;
 
-const FEW_WRITTEN_ROOM: usize = 3 * FEW_ROOM - SPARED;
+const FEW_WRITTEN_ROOM: usize = WIDEST * FEW_ROOM - SPARED;
 
 const FEWEST_ROOM: usize = FEWEST + AROUND;
 
-const FEWEST_WRITTEN_ROOM: usize = 3 * FEWEST_ROOM - SPARED;
+const FEWEST_WRITTEN_ROOM: usize = WIDEST * FEWEST_ROOM - SPARED;
 
 /// How many windows are decoded by places before one is joined again.
 const WINDOWS: usize = 4;
@@ -157,7 +158,7 @@ fn decode_in<const LEN: usize, const WRITTEN: usize, A: Allocator>(
     bytes: &[u8],
 ) -> Result<String<A>, AllocError>
     requires window { (length bytes.now + AROUND ≤ LEN) × (LEAST ≤ LEN) }
-    requires written { (3 * LEN ≤ WRITTEN + SPARED) × (WRITTEN ≤ WRITTEN_ROOM) }
+    requires written { (WIDEST * LEN ≤ WRITTEN + SPARED) × (WRITTEN ≤ WRITTEN_ROOM) }
     ensures text { IfOk result (λ text.
         chars (string_bytes text) ≡ reading (flavor_of flavor) bytes.now) }
     ensures capacity { IfOk result (λ text.

@@ -7,6 +7,7 @@ ghost use Rattle.simd_cesu8.specs.Internal.{flavor_of};
 ghost use Rattle.simd_cesu8.specs.Pieces.{IsReadSoFar, HasFault};
 
 use super::by_places::read_by_places;
+use super::packing::WIDEST;
 use super::windows::{AROUND, LEAST, SPARED};
 use super::{
     FEW, FEW_ROOM, FEW_WRITTEN_ROOM, FEWEST, FEWEST_ROOM, FEWEST_WRITTEN_ROOM, SMALL_ROOM,
@@ -47,7 +48,7 @@ pub fn append_in<'b, const LEN: usize, const WRITTEN: usize, A: Allocator>(
 ) -> Result<&'b [u8], DecodeFault>
     requires some { 0 < length bytes.now }
     requires window { LEAST ≤ LEN }
-    requires written { (3 * LEN ≤ WRITTEN + SPARED) × (WRITTEN ≤ WRITTEN_ROOM) }
+    requires written { (WIDEST * LEN ≤ WRITTEN + SPARED) × (WRITTEN ≤ WRITTEN_ROOM) }
     ensures less { IfOk result (λ rest. length rest.now < length bytes.now) }
     ensures ok { IfOk result (λ rest. IsReadSoFar (flavor_of options.flavor) options.lossy
         bytes.now rest.now (string_bytes out.old) (string_bytes out.new)) }
@@ -71,7 +72,7 @@ pub fn append_window<'b, A: Allocator>(
     requires some { 0 < length bytes.now }
     requires window { LEAST ≤ length window.old }
     requires zeros { window.old ≡ replicate (length window.old) 0 }
-    requires written { 3 * length window.old ≤ length written.old + SPARED }
+    requires written { WIDEST * length window.old ≤ length written.old + SPARED }
     ensures less { IfOk result (λ rest. length rest.now < length bytes.now) }
     ensures ok { IfOk result (λ rest. IsReadSoFar (flavor_of options.flavor) options.lossy
         bytes.now rest.now (string_bytes out.old) (string_bytes out.new)) }

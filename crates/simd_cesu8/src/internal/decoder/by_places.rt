@@ -5,6 +5,7 @@ ghost use Rattle.std.specs.Str.{IsUtf8};
 ghost use Rattle.simd_cesu8.specs.Internal.{flavor_of};
 ghost use Rattle.simd_cesu8.specs.Pieces.{IsPiece, HasFault};
 
+use super::packing::WIDEST;
 use super::windows::{AROUND, Decoded, LEAST, SPARED, write_window};
 use crate::internal::Flavor;
 use crate::internal::null_form::{OneByteNull, TwoByteNull};
@@ -35,7 +36,7 @@ pub fn read_by_places<'a>(
 ) -> ReadWindow<'a>
     requires window { LEAST ≤ length window.old }
     requires zeros { window.old ≡ replicate (length window.old) 0 }
-    requires written { 3 * length window.old ≤ length written.old + SPARED }
+    requires written { WIDEST * length window.old ≤ length written.old + SPARED }
     ensures some { 0 < length bytes.now → 0 < result.len }
     ensures within { result.len ≤ length bytes.now }
     ensures all { length bytes.now + AROUND ≤ length window.old → result.len ≡ length bytes.now }
@@ -90,7 +91,7 @@ pub fn write_in_flavor(
 ) -> Decoded
     requires window { LEAST ≤ length window.old }
     requires zeros { window.old ≡ replicate (length window.old) 0 }
-    requires written { 3 * length window.old ≤ length written.old + SPARED }
+    requires written { WIDEST * length window.old ≤ length written.old + SPARED }
     ensures some { 0 < length bytes.now → 0 < result.read }
     ensures within { result.read ≤ length bytes.now }
     ensures all { length bytes.now + AROUND ≤ length window.old → result.read ≡ length bytes.now }

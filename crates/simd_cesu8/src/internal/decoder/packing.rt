@@ -1,13 +1,26 @@
 //! Packs what becomes of 32 bytes: by a shuffle for each four bytes, or for each eight if no byte
 //! is damaged.
 
-ghost use Rattle.std.specs.Prelude.{◌≡◌, List, Bool, ◌+◌, ◌%◌, ◌<◌, ◌≤◌, ◌∷◌, [], ◌++◌, false, length, map, take, replicate, slice_index};
+ghost use Rattle.std.specs.Prelude.{◌≡◌, List, Bool, ◌+◌, ◌*◌, ◌%◌, ◌<◌, ◌≤◌, ◌∷◌, [], ◌++◌, false, length, map, take, replicate, slice_index};
 ghost use Rattle.std.specs.Simd.Lanes.{chunk, mask_l};
 ghost use Rattle.simd_cesu8.specs.DecodedLanes.{is_high, written, written_lanes, AreShufflesOfFour};
 
+use super::places::BLOCK;
 use super::rows_of_eight::rows_of_eight;
 use crate::internal::Rows;
 use std::simd::prelude::*;
+
+/// The most bytes that are written for one byte: those of the replacement character.
+pub const WIDEST: usize = 3;
+
+/// How many bytes are stored at once. The last of them may not be used.
+const STORED: usize = 16;
+
+/// How long the buffer for a block must be.
+pub const ROOM: usize = WIDEST * BLOCK + STORED;
+
+/// How many bytes are half a block.
+const HALF: usize = BLOCK / 2;
 
 /// What becomes of the bytes of a block. If a lane of `damaged` has its highest bit set, the
 /// replacement character is written; else if one of `gone` has it set, nothing is; else the lane of
@@ -23,27 +36,27 @@ pub struct Parts {
 #[inline(always)]
 pub fn store(parts: Parts, rows: &Rows, out: &mut [u8], at: usize) -> usize
     requires rows { AreShufflesOfFour rows.now }
-    requires room { at + 112 ≤ length out.old }
+    requires room { at + ROOM ≤ length out.old }
     ensures bytes { take result out.new
         ≡ take at out.old ++ written_lanes parts.gone parts.damaged parts.bytes }
-    ensures end { (at ≤ result) × (result ≤ at + 96) }
+    ensures end { (at ≤ result) × (result ≤ at + WIDEST * BLOCK) }
     ensures len { length out.new ≡ length out.old }
 {
     if highest_bits(parts.damaged) == 0 {
         return store_whole(parts, out, at);
     }
     let at = store_half(
-        parts.bytes.extract::<0, 16>(),
-        parts.gone.extract::<0, 16>(),
-        parts.damaged.extract::<0, 16>(),
+        parts.bytes.extract::<0, HALF>(),
+        parts.gone.extract::<0, HALF>(),
+        parts.damaged.extract::<0, HALF>(),
         rows,
         out,
         at,
     );
     store_half(
-        parts.bytes.extract::<16, 16>(),
-        parts.gone.extract::<16, 16>(),
-        parts.damaged.extract::<16, 16>(),
+        parts.bytes.extract::<HALF, HALF>(),
+        parts.gone.extract::<HALF, HALF>(),
+        parts.damaged.extract::<HALF, HALF>(),
         rows,
         out,
         at,
@@ -54,19 +67,19 @@ pub fn store(parts: Parts, rows: &Rows, out: &mut [u8], at: usize) -> usize
 #[inline(always)]
 fn store_whole(parts: Parts, out: &mut [u8], at: usize) -> usize
     requires whole { mask_l (map is_high parts.damaged) ≡ 0 }
-    requires room { at + 112 ≤ length out.old }
+    requires room { at + ROOM ≤ length out.old }
     ensures bytes { take result out.new
         ≡ take at out.old ++ written_lanes parts.gone parts.damaged parts.bytes }
-    ensures end { (at ≤ result) × (result ≤ at + 32) }
+    ensures end { (at ≤ result) × (result ≤ at + BLOCK) }
     ensures len { length out.new ≡ length out.old }
 {
     let gone = highest_bits(parts.gone) as usize;
     if gone == 0 {
         parts.bytes.copy_to_slice(&mut out[at..]);
-        return at + 32;
+        return at + BLOCK;
     }
-    let first = parts.bytes.extract::<0, 16>();
-    let third = parts.bytes.extract::<16, 16>();
+    let first = parts.bytes.extract::<0, HALF>();
+    let third = parts.bytes.extract::<HALF, HALF>();
     let at = store_eight(first, gone & 0xFF, out, at);
     let at = store_eight(second_of(first), gone >> 8 & 0xFF, out, at);
     let at = store_eight(third, gone >> 16 & 0xFF, out, at);
@@ -77,7 +90,7 @@ fn store_whole(parts: Parts, out: &mut [u8], at: usize) -> usize
 #[inline(always)]
 fn store_eight(lanes: u8x16, gone: usize, out: &mut [u8], at: usize) -> usize
     requires small { gone < 0x100 }
-    requires room { at + 16 ≤ length out.old }
+    requires room { at + STORED ≤ length out.old }
     ensures bytes { (tests : List Bool) → length tests ≡ 8 → gone ≡ mask_l tests
         → take result out.new
         ≡ take at out.old ++ written tests (replicate 8 false) (chunk 0 8 lanes) }
@@ -93,7 +106,7 @@ fn store_eight(lanes: u8x16, gone: usize, out: &mut [u8], at: usize) -> usize
 /// Returns a bit for each lane whose highest bit is set.
 #[inline(always)]
 pub fn highest_bits<const N: usize>(lanes: Simd<u8, N>) -> u64
-    requires { N ≤ 64 }
+    requires { N ≤ u64.BITS }
     ensures { result ≡ mask_l (map is_high lanes.entry) }
 {
     lanes.simd_ge(Simd::splat(0x80)).to_bitmask()
@@ -115,9 +128,9 @@ fn store_half(
     at: usize,
 ) -> usize
     requires rows { AreShufflesOfFour rows.now }
-    requires room { at + 64 ≤ length out.old }
+    requires room { at + WIDEST * HALF + STORED ≤ length out.old }
     ensures bytes { take result out.new ≡ take at out.old ++ written_lanes gone damaged bytes }
-    ensures end { (at ≤ result) × (result ≤ at + 48) }
+    ensures end { (at ≤ result) × (result ≤ at + WIDEST * HALF) }
     ensures len { length out.new ≡ length out.old }
 {
     let replacements = u8x16::from_array(REPLACEMENTS);
@@ -159,11 +172,11 @@ fn store_four(lanes: u8x16, set: usize, rows: &Rows, out: &mut [u8], at: usize) 
     requires rows { AreShufflesOfFour rows.now }
     requires small { set < 0x100 }
     requires replacement { chunk 4 3 lanes ≡ 0xEF ∷ 0xBF ∷ 0xBD ∷ [] }
-    requires room { at + 16 ≤ length out.old }
+    requires room { at + STORED ≤ length out.old }
     ensures bytes { (gone damaged : List Bool) → length gone ≡ 4 → length damaged ≡ 4
         → set ≡ mask_l (gone ++ damaged)
         → take result out.new ≡ take at out.old ++ written gone damaged (chunk 0 4 lanes) }
-    ensures end { (at ≤ result) × (result ≤ at + 12) }
+    ensures end { (at ≤ result) × (result ≤ at + WIDEST * 4) }
     ensures len { length out.new ≡ length out.old }
 {
     let row = &rows[set];

@@ -9,7 +9,7 @@
 //! fourth ──► two bits of the second, four of the third
 //! ```
 
-ghost use Rattle.std.specs.Prelude.{◌≡◌, ℕ, List, ◌+◌, ◌-◌, ◌<◌, ◌≤◌, ◌++◌, ◌==◌, not, nat_le, IsTrue, true, false, length, take, map, replicate};
+ghost use Rattle.std.specs.Prelude.{◌≡◌, ℕ, List, ◌+◌, ◌-◌, ◌*◌, ◌<◌, ◌≤◌, ◌++◌, ◌==◌, not, nat_le, IsTrue, true, false, length, take, map, replicate};
 ghost use Rattle.std.specs.List.{range_with_len};
 ghost use Rattle.std.specs.Simd.Lanes.{sel_l};
 ghost use Rattle.simd_cesu8.specs.Encoding.{Flavor};
@@ -17,8 +17,8 @@ ghost use Rattle.simd_cesu8.specs.EncodedPlaces.{mask};
 ghost use Rattle.simd_cesu8.specs.DecodedPlaces.{decoded, is_damaged_at};
 ghost use Rattle.simd_cesu8.specs.DecodedLanes.{AreCodesNear, AreShufflesOfFour, is_high, goes_at, byte_at, written_lanes};
 
-use super::packing::{Parts, highest_bits, store};
-use super::places::{Codes, PAIR, REACH, THREE, equal, look_up};
+use super::packing::{Parts, ROOM, WIDEST, highest_bits, store};
+use super::places::{BLOCK, Codes, PAIR, REACH, THREE, equal, look_up};
 use crate::internal::Rows;
 use crate::internal::null_form::NullForm;
 use std::simd::prelude::*;
@@ -39,13 +39,10 @@ const THIRD_BY_THIRD: [u8; 16] = [
 ];
 
 /// The numbers of the lanes.
-const NUMBERS: [u8; 32] = [
+const NUMBERS: [u8; BLOCK] = [
     0, 1, 2, 3, 4, 5, 6, 7, 8, 9, 10, 11, 12, 13, 14, 15, 16, 17, 18, 19, 20, 21, 22, 23, 24, 25,
     26, 27, 28, 29, 30, 31,
 ];
-
-/// How long the buffer for a block must be. The last bytes that are written may not be used.
-pub const ROOM: usize = 112;
 
 /// The end of what is written for a block, and whether some of its bytes are damaged.
 #[derive(Drop)]
@@ -66,7 +63,7 @@ pub fn write_block<N: NullForm>(
     out: &mut [u8],
     end: usize,
 ) -> Block
-    requires count { count ≤ 32 }
+    requires count { count ≤ BLOCK }
     requires window { at + REACH ≤ length window.now }
     requires codes { AreCodesNear N.flavor window.now at codes.now }
     requires rows { AreShufflesOfFour rows.now }
@@ -77,7 +74,7 @@ pub fn write_block<N: NullForm>(
         × (is_damaged_at N.flavor window.now i ≡ true) }
     ensures whole { result.is_damaged ≡ false → (i : ℕ) → at ≤ i → i < at + count
         → is_damaged_at N.flavor window.now i ≡ false }
-    ensures end { (end ≤ result.end) × (result.end ≤ end + 96) }
+    ensures end { (end ≤ result.end) × (result.end ≤ end + WIDEST * BLOCK) }
     ensures len { length out.new ≡ length out.old }
 {
     let parts = parts_at::<N>(window, codes, at, count);
@@ -92,14 +89,14 @@ pub fn write_block<N: NullForm>(
 /// and five more. The others go.
 #[inline(always)]
 fn parts_at<N: NullForm>(window: &[u8], codes: &Codes, at: usize, count: usize) -> Parts
-    requires count { count ≤ 32 }
+    requires count { count ≤ BLOCK }
     requires window { at + REACH ≤ length window.now }
     requires codes { AreCodesNear N.flavor window.now at codes.now }
     ensures written { written_lanes result.gone result.damaged result.bytes
         ≡ decoded N.flavor window.now at count }
     ensures damaged { map is_high result.damaged
         ≡ map (is_damaged_at N.flavor window.now) (range_with_len at count)
-        ++ replicate (32 - count) false }
+        ++ replicate (BLOCK - count) false }
 {
     Parts {
         bytes: changed_bytes(window, codes, at),
@@ -111,10 +108,10 @@ fn parts_at<N: NullForm>(window: &[u8], codes: &Codes, at: usize, count: usize) 
 /// Marks, with the highest bit, those of the first `count` bytes that go, and all later bytes.
 #[inline(always)]
 fn gone(codes: &Codes, count: usize) -> u8x32
-    requires count { count ≤ 32 }
+    requires count { count ≤ BLOCK }
     ensures { (f : Flavor) (window : List ℕ) (at : ℕ) → AreCodesNear f window at codes.now
         → map is_high result
-        ≡ map (goes_at f window) (range_with_len at count) ++ replicate (32 - count) true }
+        ≡ map (goes_at f window) (range_with_len at count) ++ replicate (BLOCK - count) true }
 {
     let here = codes[5];
     let near = here | codes[4];
@@ -124,12 +121,12 @@ fn gone(codes: &Codes, count: usize) -> u8x32
 /// Marks, with the highest bit, those of the first `count` bytes that no encoded character covers.
 #[inline(always)]
 fn damaged<N: NullForm>(window: &[u8], codes: &Codes, at: usize, count: usize) -> u8x32
-    requires count { count ≤ 32 }
+    requires count { count ≤ BLOCK }
     requires window { at + REACH ≤ length window.now }
     requires codes { AreCodesNear N.flavor window.now at codes.now }
     ensures { map is_high result
         ≡ map (is_damaged_at N.flavor window.now) (range_with_len at count)
-        ++ replicate (32 - count) false }
+        ++ replicate (BLOCK - count) false }
 {
     let pair = u8x32::splat(PAIR);
     let near = codes[5] | codes[4];
@@ -144,7 +141,7 @@ fn damaged<N: NullForm>(window: &[u8], codes: &Codes, at: usize, count: usize) -
 /// Returns all ones in the lanes from `count` on, and otherwise zeros.
 #[inline(always)]
 fn behind(count: u8) -> u8x32
-    ensures { result ≡ map (λ lane. mask (nat_le count lane)) (range_with_len 0 32) }
+    ensures { result ≡ map (λ lane. mask (nat_le count lane)) (range_with_len 0 BLOCK) }
 {
     u8x32::from_array(NUMBERS)
         .simd_ge(u8x32::splat(count))
@@ -156,7 +153,7 @@ fn behind(count: u8) -> u8x32
 #[inline(always)]
 fn changed_bytes(window: &[u8], codes: &Codes, at: usize) -> u8x32
     requires window { at + REACH ≤ length window.now }
-    ensures { (f : Flavor) (count : ℕ) → count ≤ 32
+    ensures { (f : Flavor) (count : ℕ) → count ≤ BLOCK
         → AreCodesNear f window.now at codes.now
         → take count result ≡ map (byte_at f window.now) (range_with_len at count) }
 {

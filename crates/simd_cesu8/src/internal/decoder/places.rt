@@ -2,7 +2,7 @@
 //!
 //! The six bytes from the position on decide this. The result is a code of one bit, or none.
 
-ghost use Rattle.std.specs.Prelude.{◌≡◌, ◌==◌, ◌+◌, ◌%◌, ◌≤◌, ℕ, List, length, map, slice_index};
+ghost use Rattle.std.specs.Prelude.{◌≡◌, ◌==◌, ◌+◌, ◌-◌, ◌%◌, ◌≤◌, ℕ, List, length, map, slice_index};
 ghost use Rattle.std.specs.List.{range_with_len};
 ghost use Rattle.std.specs.Simd.Lanes.{zip2};
 ghost use Rattle.simd_cesu8.specs.Encoding.{Flavor};
@@ -37,42 +37,45 @@ const BY_LOW: [u8; 16] = [
 const BY_NEXT: [u8; 16] = [0, 0, 0, 0, 0, 0, 0, 0, 0x9B, 0x1B, 0x2F, 0x0F, 0, 0, 0, 0];
 
 /// The positions of sixteen lanes, twice.
-const TWICE: [usize; 32] = [
+const TWICE: [usize; BLOCK] = [
     0, 1, 2, 3, 4, 5, 6, 7, 8, 9, 10, 11, 12, 13, 14, 15, 0, 1, 2, 3, 4, 5, 6, 7, 8, 9, 10, 11, 12,
     13, 14, 15,
 ];
 
 // The positions of 32 lanes, from the number in the name on.
-const FROM_27: [usize; 32] = [
+const FROM_27: [usize; BLOCK] = [
     27, 28, 29, 30, 31, 32, 33, 34, 35, 36, 37, 38, 39, 40, 41, 42, 43, 44, 45, 46, 47, 48, 49, 50,
     51, 52, 53, 54, 55, 56, 57, 58,
 ];
 
-const FROM_28: [usize; 32] = [
+const FROM_28: [usize; BLOCK] = [
     28, 29, 30, 31, 32, 33, 34, 35, 36, 37, 38, 39, 40, 41, 42, 43, 44, 45, 46, 47, 48, 49, 50, 51,
     52, 53, 54, 55, 56, 57, 58, 59,
 ];
 
-const FROM_29: [usize; 32] = [
+const FROM_29: [usize; BLOCK] = [
     29, 30, 31, 32, 33, 34, 35, 36, 37, 38, 39, 40, 41, 42, 43, 44, 45, 46, 47, 48, 49, 50, 51, 52,
     53, 54, 55, 56, 57, 58, 59, 60,
 ];
 
-const FROM_30: [usize; 32] = [
+const FROM_30: [usize; BLOCK] = [
     30, 31, 32, 33, 34, 35, 36, 37, 38, 39, 40, 41, 42, 43, 44, 45, 46, 47, 48, 49, 50, 51, 52, 53,
     54, 55, 56, 57, 58, 59, 60, 61,
 ];
 
-const FROM_31: [usize; 32] = [
+const FROM_31: [usize; BLOCK] = [
     31, 32, 33, 34, 35, 36, 37, 38, 39, 40, 41, 42, 43, 44, 45, 46, 47, 48, 49, 50, 51, 52, 53, 54,
     55, 56, 57, 58, 59, 60, 61, 62,
 ];
+
+/// How many positions form a block: as many as a vector has lanes.
+pub const BLOCK: usize = 32;
 
 /// How many bytes after a position decide what begins there.
 pub const BEHIND: usize = 5;
 
 /// How many bytes decide what begins at the positions of a block.
-pub const REACH: usize = 32 + BEHIND;
+pub const REACH: usize = BLOCK + BEHIND;
 
 /// The least byte that begins two bytes or more.
 const LEAD: u8 = 0xC0;
@@ -81,7 +84,7 @@ const LEAD: u8 = 0xC0;
 #[inline(always)]
 pub fn starts<N: NullForm>(bytes: &[u8], at: usize) -> u8x32
     requires { at + REACH ≤ length bytes.now }
-    ensures { result ≡ map (start_code N.flavor bytes.now) (range_with_len at 32) }
+    ensures { result ≡ map (start_code N.flavor bytes.now) (range_with_len at BLOCK) }
 {
     let first = u8x32::from_slice(&bytes[at..]);
     if first.simd_ge(u8x32::splat(LEAD)).to_bitmask() == 0 {
@@ -107,8 +110,8 @@ pub type Codes = [u8x32; 6];
 /// Returns these, from the codes of the positions of its bytes and of the 32 before.
 #[inline(always)]
 pub fn near(before: u8x32, here: u8x32) -> Codes
-    ensures { (f : Flavor) (window : List ℕ) (at : ℕ) → AreFiveCodes f window at before 27
-        → here ≡ map (start_code f window) (range_with_len (at + 5) 32)
+    ensures { (f : Flavor) (window : List ℕ) (at : ℕ) → AreFiveCodes f window at before (BLOCK - BEHIND)
+        → here ≡ map (start_code f window) (range_with_len (at + BEHIND) BLOCK)
         → AreCodesNear f window at result }
 {
     [

@@ -14,6 +14,7 @@ ghost use Rattle.simd_cesu8.specs.Slices.{StandsAtFront, WritesAnswer, WritesRea
 
 use super::by_places::write_in_flavor;
 use super::damage::is_damaged;
+use super::packing::WIDEST;
 use super::windows::{AROUND, LEAST, SPARED};
 use super::{
     FEW, FEW_ROOM, FEW_WRITTEN_ROOM, FEWEST, FEWEST_ROOM, FEWEST_WRITTEN_ROOM, SMALL, SMALL_ROOM,
@@ -59,7 +60,7 @@ fn strict_in<const LEN: usize, const WRITTEN: usize>(
     buf: &mut [u8],
 ) -> Result<usize, DecodeSliceFault>
     requires window { (length bytes.now + AROUND ≤ LEN) × (LEAST ≤ LEN) }
-    requires written { (3 * LEN ≤ WRITTEN + SPARED) × (WRITTEN ≤ WRITTEN_ROOM) }
+    requires written { (WIDEST * LEN ≤ WRITTEN + SPARED) × (WRITTEN ≤ WRITTEN_ROOM) }
     ensures { WritesReading (λ text. IsStrictReading (flavor_of flavor) bytes.now text)
         result buf.old buf.new }
 {
@@ -109,7 +110,7 @@ fn lossy_in<const LEN: usize, const WRITTEN: usize>(
     buf: &mut [u8],
 ) -> Result<usize, LossySliceFault>
     requires window { (length bytes.now + AROUND ≤ LEN) × (LEAST ≤ LEN) }
-    requires written { (3 * LEN ≤ WRITTEN + SPARED) × (WRITTEN ≤ WRITTEN_ROOM) }
+    requires written { (WIDEST * LEN ≤ WRITTEN + SPARED) × (WRITTEN ≤ WRITTEN_ROOM) }
     ensures { WritesLossyReading (λ text. text ≡ reading (flavor_of flavor) bytes.now)
         result buf.old buf.new }
 {
@@ -238,7 +239,7 @@ fn write_window<'b>(
     start: usize,
 ) -> WrittenPiece<'b>
     requires some { 0 < length bytes.now }
-    requires written { 3 * WINDOW_ROOM ≤ length written.old + SPARED }
+    requires written { WIDEST * WINDOW_ROOM ≤ length written.old + SPARED }
     requires room { start + lossy_length (flavor_of flavor) bytes.now ≤ length out.old }
     ensures less { length result.rest.now < length bytes.now }
     ensures written { IsWrittenSoFar (flavor_of flavor) bytes.now result.rest.now

@@ -1,15 +1,16 @@
 //! Windows by places: some bytes are copied between zeros, and what becomes of each byte is
 //! written.
 
-ghost use Rattle.std.specs.Prelude.{◌≡◌, ℕ, ◌+◌, ◌*◌, ◌<◌, ◌≤◌, List, IsTrue, true, false, length, take, drop, replicate, slice_index};
+ghost use Rattle.std.specs.Prelude.{◌≡◌, ℕ, ◌+◌, ◌-◌, ◌*◌, ◌<◌, ◌≤◌, List, IsTrue, true, false, length, take, drop, replicate, slice_index};
 ghost use Rattle.simd_cesu8.specs.Encoding.{Flavor};
 ghost use Rattle.simd_cesu8.specs.DecodedPlaces.{IsPadded, decoded, is_damaged_at, is_border_at};
 ghost use Rattle.simd_cesu8.specs.DecodedLanes.{AreFiveCodes};
 ghost use Rattle.simd_cesu8.specs.DecodedWindows.{IsRead};
 ghost use Rattle.simd_cesu8.specs.Pieces.{IsPiece, HasFault};
 
-use super::parts::{ROOM, write_block};
-use super::places::{PAIR, THREE, near, starts};
+use super::packing::{ROOM, WIDEST};
+use super::parts::write_block;
+use super::places::{BLOCK, PAIR, THREE, near, starts};
 use super::rows::rows;
 use crate::internal::null_form::NullForm;
 use std::simd::prelude::*;
@@ -44,7 +45,7 @@ pub struct Decoded {
 pub fn write_window<N: NullForm>(bytes: &[u8], window: &mut [u8], out: &mut [u8]) -> Decoded
     requires window { LEAST ≤ length window.old }
     requires zeros { window.old ≡ replicate (length window.old) 0 }
-    requires out { 3 * length window.old ≤ length out.old + SPARED }
+    requires out { WIDEST * length window.old ≤ length out.old + SPARED }
     ensures some { 0 < length bytes.now → 0 < result.read }
     ensures within { result.read ≤ length bytes.now }
     ensures all { length bytes.now + AROUND ≤ length window.old → result.read ≡ length bytes.now }
@@ -99,7 +100,7 @@ fn pad(bytes: &[u8], window: &mut [u8])
 /// Returns the last border at or before a position of a window: no encoded character crosses it. It
 /// is at most five positions before.
 fn border<N: NullForm>(window: &[u8], most: usize) -> usize
-    requires { (BEFORE ≤ most) × (most + 32 ≤ length window.now) }
+    requires { (BEFORE ≤ most) × (most + BLOCK ≤ length window.now) }
     ensures within { (result ≤ most) × (most ≤ result + BEFORE) }
     ensures border { (n : ℕ) → n ≤ most → most ≤ n + BEFORE
         → is_border_at N.flavor window.now n ≡ true → is_border_at N.flavor window.now result ≡ true }
@@ -115,7 +116,7 @@ fn border<N: NullForm>(window: &[u8], most: usize) -> usize
 
 /// Returns whether no character that begins at one of the five positions before reaches beyond this
 /// position.
-fn is_border(codes: &[u8; 32], at: usize) -> bool
+fn is_border(codes: &[u8; BLOCK], at: usize) -> bool
     requires { at ≤ BEFORE }
     ensures { (f : Flavor) (window : List ℕ) (n : ℕ) → AreFiveCodes f window n codes.now at
         → result ≡ is_border_at f window n }
@@ -129,14 +130,14 @@ fn is_border(codes: &[u8; 32], at: usize) -> bool
 fn write_blocks<N: NullForm>(window: &[u8], count: usize, out: &mut [u8]) -> Decoded
     requires window { count + AROUND ≤ length window.now }
     requires zeros { (k : ℕ) → k < BEFORE → slice_index window.now k ≡ 0 }
-    requires out { 3 * count + ROOM ≤ length out.old }
+    requires out { WIDEST * count + ROOM ≤ length out.old }
     ensures read { result.read ≡ count }
     ensures bytes { take result.end out.new ≡ decoded N.flavor window.now 0 count }
     ensures damaged { IsTrue result.is_damaged → (i : ℕ) × (i < count)
         × (is_damaged_at N.flavor window.now i ≡ true) }
     ensures whole { result.is_damaged ≡ false → (i : ℕ) → i < count
         → is_damaged_at N.flavor window.now i ≡ false }
-    ensures end { result.end ≤ 3 * count + 93 }
+    ensures end { result.end ≤ WIDEST * (count + BLOCK - 1) }
     ensures len { length out.new ≡ length out.old }
 {
     let mut at = 0;
@@ -145,7 +146,7 @@ fn write_blocks<N: NullForm>(window: &[u8], count: usize, out: &mut [u8]) -> Dec
     let mut before = u8x32::splat(0);
     while at < count {
         let left = count - at;
-        let len = if left < 32 { left } else { 32 };
+        let len = if left < BLOCK { left } else { BLOCK };
         let here = starts::<N>(window, at + BEFORE);
         let block = write_block::<N>(window, &near(before, here), at, len, rows(), out, end);
         end = block.end;

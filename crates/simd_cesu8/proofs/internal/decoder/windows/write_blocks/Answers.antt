@@ -2,7 +2,7 @@ use Rattle.std.proofs.Common.{◌+◌, ◌∙◌, arith, refl}
 use Rattle.simd_cesu8.specs.DecodedPlaces.{decoded, is_damaged_at}
 use Rattle.simd_cesu8.proofs.decoder.DecodedWindows.{codes_of_zeros, five_codes, more_damaged, none_damaged, more_written}
 use Rattle.simd_cesu8.proofs.internal.decoder.windows.write_blocks.Goals as goal
-use Rattle.simd_cesu8.proofs.internal.decoder.windows.write_blocks.Goals.{then-left-lt32, else-left-lt32}
+use Rattle.simd_cesu8.proofs.internal.decoder.windows.write_blocks.Goals.{then-left-lt-BLOCK, else-left-lt-BLOCK}
 
 pub loop-at-init : goal.loop-at-init
 unfolding decoded
@@ -28,15 +28,15 @@ loop-at-preserved g c =
     let inv = c.loop-at.invariant in
     let block = c.write_block-block.ensures in
     record {
-      within = elim c.if-left-lt32.branch [ then-left-lt32 w ↦ omega arith | else-left-lt32 w ↦ omega arith ];
-      room = λ more. elim c.if-left-lt32.branch [ then-left-lt32 w ↦ omega arith | else-left-lt32 w ↦ omega arith ];
+      within = elim c.if-left-lt-BLOCK.branch [ then-left-lt-BLOCK w ↦ omega arith | else-left-lt-BLOCK w ↦ omega arith ];
+      room = λ more. elim c.if-left-lt-BLOCK.branch [ then-left-lt-BLOCK w ↦ omega arith | else-left-lt-BLOCK w ↦ omega arith ];
       end = omega (arith, inv.room, block.end);
-      before = λ more. elim c.if-left-lt32.branch [
-        | then-left-lt32 w ↦ absurd (omega arith)
-        | else-left-lt32 w ↦ five_codes f window _ (c.loop-at.at + 5) 27 _ c.starts-here.ensures (omega arith) (omega arith)
+      before = λ more. elim c.if-left-lt-BLOCK.branch [
+        | then-left-lt-BLOCK w ↦ absurd (omega arith)
+        | else-left-lt-BLOCK w ↦ five_codes f window _ (c.loop-at.at + 5) 27 _ c.starts-here.ensures (omega arith) (omega arith)
       ];
       len = block.len ∙ inv.len;
-      bytes = more_written f window _ _ c.loop-at.at c.if-left-lt32.len inv.bytes block.bytes;
-      damaged = more_damaged (is_damaged_at f window) c.loop-at.at c.if-left-lt32.len _ _ inv.damaged block.damaged;
-      whole = none_damaged (is_damaged_at f window) c.loop-at.at c.if-left-lt32.len _ _ inv.whole block.whole;
+      bytes = more_written f window _ _ c.loop-at.at c.if-left-lt-BLOCK.len inv.bytes block.bytes;
+      damaged = more_damaged (is_damaged_at f window) c.loop-at.at c.if-left-lt-BLOCK.len _ _ inv.damaged block.damaged;
+      whole = none_damaged (is_damaged_at f window) c.loop-at.at c.if-left-lt-BLOCK.len _ _ inv.whole block.whole;
     }
