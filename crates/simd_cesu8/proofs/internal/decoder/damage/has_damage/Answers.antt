@@ -1,4 +1,4 @@
-use Rattle.std.proofs.Common.{◌+◌, length, arith}
+use Rattle.std.proofs.Common.{arith}
 use Rattle.std.proofs.lemmas.Bool.{ltb-true, ltb-false}
 use Rattle.simd_cesu8.proofs.places.Damage.{covered_fits, all_covered, fewer_covered}
 use Rattle.simd_cesu8.proofs.internal.decoder.damage.has_damage.Goals as goal
@@ -18,9 +18,9 @@ overflow_add-result g c = record { fits = omega (arith, c.sum_of_few.ensures, co
 pub returns-clause-damaged : goal.returns-clause-damaged
 returns-clause-damaged g c fewer =
     fewer_covered g.N.NullForm.flavor c.args.bytes.now
-    (omega (arith, c.sum_of_few.ensures, ltb-true (c.loop-rest.covered + c.sum_of_few.result) (length c.args.bytes.now) fewer))
+    (omega (arith, c.sum_of_few.ensures, ltb-true _ _ fewer))
 
 pub returns-clause-whole : goal.returns-clause-whole
 returns-clause-whole g c all =
     all_covered g.N.NullForm.flavor c.args.bytes.now
-    (omega (arith, c.sum_of_few.ensures, ltb-false (c.loop-rest.covered + c.sum_of_few.result) (length c.args.bytes.now) all))
+    (omega (arith, c.sum_of_few.ensures, ltb-false _ _ all))
