@@ -13,7 +13,10 @@ mod pairs;
 
 use super::Flavor;
 pub use pairs::PAIR;
-use pairs::{PAIR_MARKS, PAIR_READ, PAIR_UTF8, is_pair, join_pairs, utf8_of_pair};
+use pairs::{
+    PAIR_BITS, PAIR_LEAD, PAIR_MARKS, PAIR_READ, PAIR_UTF8, is_pair, join_pairs, pair_bits,
+    utf8_of_pair,
+};
 use std::simd::prelude::*;
 
 /// How many bytes are copied and marked at once.
@@ -207,7 +210,7 @@ fn store(block: u8x32, out: &mut [u8])
 }
 
 /// Joins the surrogate pair that begins the bytes, or in MUTF-8 the null character. No branch
-/// distinguishes them, since no processor can predict it.
+/// distinguishes them, since no processor can predict it: one comparison serves both.
 #[inline(always)]
 fn join_changed(flavor: Flavor, bytes: &[u8], written: usize, room: &mut Room) -> Option<Step>
     requires long { PAIR_READ ≤ length bytes.now }
@@ -219,12 +222,19 @@ fn join_changed(flavor: Flavor, bytes: &[u8], written: usize, room: &mut Room) -
         (drop step.read bytes.now) (take (written + step.written) room.new)) }
     ensures none { IfNone result (room.new ≡ room.old) }
 {
-    let pair = is_pair(bytes);
-    if !(pair | is_null(flavor, bytes)) {
+    let pair = pair_bits(bytes);
+    let null = null_bits(flavor, bytes);
+    let leads_pair = bytes[0] == PAIR_LEAD;
+    let (bits, expected) = if leads_pair {
+        (pair, PAIR_BITS)
+    } else {
+        (null, NULL_BITS)
+    };
+    if bits != expected {
         return None;
     }
     let four = utf8_of_pair(bytes);
-    let (read, utf8, len) = if pair {
+    let (read, utf8, len) = if leads_pair {
         (PAIR, four, PAIR_UTF8)
     } else {
         (NULL, [0; PAIR_UTF8], NULL_UTF8)
@@ -233,17 +243,21 @@ fn join_changed(flavor: Flavor, bytes: &[u8], written: usize, room: &mut Room) -
     Some(Step { read, written: len })
 }
 
-/// Returns whether the null character of MUTF-8 begins the bytes.
+/// Returns the bits that show whether the null character of MUTF-8 begins the bytes. If it does,
+/// they are `NULL_BITS`.
 #[inline(always)]
-fn is_null(flavor: Flavor, bytes: &[u8]) -> bool
+fn null_bits(flavor: Flavor, bytes: &[u8]) -> u64
     requires { NULL ≤ length bytes.now }
-    ensures { IsTrue result ↔ HasNull (flavor_of flavor) bytes.now }
+    ensures { result ≡ NULL_BITS ↔ HasNull (flavor_of flavor) bytes.now }
 {
     match flavor {
-        Flavor::Cesu8 => false,
-        Flavor::Mutf8 => u16::from_le_bytes([bytes[0], bytes[1]]) == 0x80C0,
+        Flavor::Cesu8 => 0,
+        Flavor::Mutf8 => u16::from_le_bytes([bytes[0], bytes[1]]) as u64,
     }
 }
+
+/// The bits of the null character.
+const NULL_BITS: u64 = 0x80C0;
 
 /// How many bytes the null character of MUTF-8 has,
 const NULL: usize = 2;

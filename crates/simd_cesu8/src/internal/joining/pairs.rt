@@ -16,6 +16,12 @@ pub const PAIR_UTF8: usize = 4;
 /// and how many are read with it.
 pub const PAIR_READ: usize = 8;
 
+/// The first byte of a surrogate pair.
+pub const PAIR_LEAD: u8 = 0xED;
+
+/// The bits that all surrogate pairs share.
+pub const PAIR_BITS: u64 = 0x0000_80B0_ED80_A0ED;
+
 /// The marks of three surrogate pairs in a row.
 pub const PAIR_MARKS: u32 = 0x0000_1041;
 
@@ -64,7 +70,17 @@ pub fn is_pair(bytes: &[u8]) -> bool
     requires { PAIR_READ ≤ length bytes.now }
     ensures { IsTrue result ↔ HasPair bytes.now }
 {
-    front_word(bytes) & 0x0000_C0F0_FFC0_F0FF == 0x0000_80B0_ED80_A0ED
+    pair_bits(bytes) == PAIR_BITS
+}
+
+/// Returns the bits that show whether a surrogate pair begins the bytes. If it does, they are
+/// `PAIR_BITS`.
+#[inline(always)]
+pub fn pair_bits(bytes: &[u8]) -> u64
+    requires { PAIR_READ ≤ length bytes.now }
+    ensures { result ≡ PAIR_BITS ↔ HasPair bytes.now }
+{
+    front_word(bytes) & 0x0000_C0F0_FFC0_F0FF
 }
 
 /// Returns the UTF-8 of the character whose surrogate pair begins the bytes.
