@@ -15,6 +15,18 @@ use crate::internal::{
     Flavor, contains_changed, copy_to_slice, is_short_ascii, is_short_unchanged_ascii,
 };
 
+/// The test for UTF-8 goes byte by byte below this length. Decoding then takes less time,
+const TESTED_BY_VECTORS: usize = 64;
+
+/// but for this length and less.
+const SOON_TESTED: usize = 24;
+
+/// Returns whether bytes that are not all ASCII are decoded sooner than they are tested for UTF-8.
+#[inline(always)]
+fn is_sooner_decoded(bytes: &[u8]) -> bool {
+    bytes.len() > SOON_TESTED && bytes.len() < TESTED_BY_VECTORS
+}
+
 #[inline(always)]
 pub fn encode_to_slice(flavor: Flavor, value: &str, buf: &mut [u8]) -> Result<usize, TooShort>
     ensures { WritesAnswer (encoding (flavor_of flavor) (chars value.now)) result buf.old buf.new }
@@ -51,6 +63,9 @@ fn decode_strict_to_slice_other(
     ensures { WritesReading (λ text. IsStrictReading (flavor_of flavor) bytes.now text)
         result buf.old buf.new }
 {
+    if is_sooner_decoded(bytes) {
+        return internal::decode_strict_to_slice(flavor, bytes, buf);
+    }
     // No encoding has a byte that changes, so there is nothing to decode.
     if contains_changed(flavor, bytes) {
         return Err(DecodeSliceFault::Invalid(DecodingError(())));
@@ -119,6 +134,9 @@ fn decode_lossy_strict_to_slice_other(
     ensures { WritesLossyReading (λ text. text ≡ reading (flavor_of flavor) bytes.now)
         result buf.old buf.new }
 {
+    if is_sooner_decoded(bytes) {
+        return internal::decode_lossy_to_slice(flavor, bytes, buf);
+    }
     if unchanged_text(flavor, bytes).len() == bytes.len() {
         return copy_to_slice(bytes, buf).map_err(LossySliceFault::TooShort);
     }
