@@ -9,6 +9,7 @@ pub mod DecodedBlocks
 pub mod DecodedRows
 pub mod DecodedRowsOfEight
 pub mod Shuffles
+pub mod UnjoinedLanes
 pub mod WeightLanes
 pub mod WeightRest
 pub mod DecodedWindows

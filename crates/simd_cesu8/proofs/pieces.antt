@@ -5,3 +5,4 @@ pub mod SliceReadings
 pub mod Joining
 pub mod PairWords
 pub mod JoinedText
+pub mod WholeJoined

@@ -54,17 +54,17 @@ same_character f bytes c d r q begins other_begins =
     )
 
 -- What follows a text in an encoding is the encoding of another.
-record Rest (f : Flavor) (rest : List ℕ) : Type 0 where
-  text : List ℕ
-  reading : IsStrictReading f rest text
+pub record Rest (f : Flavor) (rest : List ℕ) : Type 0 where
+  pub text : List ℕ
+  pub reading : IsStrictReading f rest text
 
-nothing_before : (f : Flavor) (c : ℕ) (more : List ℕ) → IsScalarValue c → encoding f [] ≡ encoding f (c ∷ []) ++ more → ⊥
+pub nothing_before : (f : Flavor) (c : ℕ) (more : List ℕ) → IsScalarValue c → encoding f [] ≡ encoding f (c ∷ []) ++ more → ⊥
 nothing_before f c more scalar same =
     let long = length_of_character f c scalar in
     omega (arith, long.some, long.fits, ap length (sym (encoding_nil f) ∙ same), length-append (encoding f (c ∷ [])) more)
 
 -- an encoding that begins as that of c ∷ text does
-after_text : (f : Flavor) (text whole rest : List ℕ) → IsText text → IsText whole →
+pub after_text : (f : Flavor) (text whole rest : List ℕ) → IsText text → IsText whole →
     encoding f whole ≡ encoding f text ++ rest → Rest f rest
 after_text f [] whole rest is_text whole_is_text same =
     record { text = whole; reading = (whole_is_text, rw (encoding_nil f) at same) }

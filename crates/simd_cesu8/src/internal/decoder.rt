@@ -29,6 +29,7 @@ mod rows;
 mod rows_of_eight;
 mod slices;
 mod sums;
+mod whole;
 mod windows;
 
 use super::joining::{ROOM_LEN, Room};

@@ -52,7 +52,7 @@ pub fn read_window<'a>(
 }
 
 /// Joins the first bytes, up to the end of a character.
-fn join_window(flavor: Flavor, bytes: &[u8], len: usize, room: &mut Room) -> Step
+pub fn join_window(flavor: Flavor, bytes: &[u8], len: usize, room: &mut Room) -> Step
     requires { TOO_FEW < length bytes.now }
     ensures within { (result.read ≤ length bytes.now) × (result.written ≤ FILLED) }
     ensures joined { IsJoined (flavor_of flavor) (take result.read bytes.now)

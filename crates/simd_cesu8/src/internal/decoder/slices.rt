@@ -5,7 +5,7 @@
 //! passes find whether they are damaged and, if needed, how long their text is. Then the text is
 //! written by windows in its final position, as for a `String`.
 
-ghost use Rattle.std.specs.Prelude.{◌≡◌, ◌+◌, ◌*◌, ◌<◌, ◌≤◌, length, drop};
+ghost use Rattle.std.specs.Prelude.{◌≡◌, ◌+◌, ◌*◌, ◌<◌, ◌≤◌, [], length, drop, replicate};
 ghost use Rattle.simd_cesu8.specs.Text.{utf8};
 ghost use Rattle.simd_cesu8.specs.Reading.{IsStrictReading, reading, lossy_length};
 ghost use Rattle.simd_cesu8.specs.Internal.{flavor_of};
@@ -15,6 +15,7 @@ ghost use Rattle.simd_cesu8.specs.Slices.{StandsAtFront, WritesAnswer, WritesRea
 use super::by_places::write_in_flavor;
 use super::damage::is_damaged;
 use super::packing::WIDEST;
+use super::whole::write_joined;
 use super::windows::{AROUND, LEAST, SPARED};
 use super::{
     FEW, FEW_ROOM, FEW_WRITTEN_ROOM, FEWEST, FEWEST_ROOM, FEWEST_WRITTEN_ROOM, SMALL, SMALL_ROOM,
@@ -121,15 +122,35 @@ fn lossy_in<const LEN: usize, const WRITTEN: usize>(
 }
 
 /// Writes the reading of bytes that are not damaged, if it fits. It is never longer than they are.
+#[tactic(auto, unfolding(crate::specs::Reading::lossy_length))]
 fn write_whole(flavor: Flavor, bytes: &[u8], buf: &mut [u8]) -> Result<usize, TooShort>
-    requires { lossy_length (flavor_of flavor) bytes.now ≤ length bytes.now }
+    requires whole { IsStrictReading (flavor_of flavor) bytes.now
+        (reading (flavor_of flavor) bytes.now) }
+    requires shorter { lossy_length (flavor_of flavor) bytes.now ≤ length bytes.now }
     ensures { WritesAnswer (utf8 (reading (flavor_of flavor) bytes.now)) result buf.old buf.new }
 {
     if bytes.len() <= buf.len() {
-        return Ok(write_reading(flavor, bytes, buf));
+        return Ok(write_text(flavor, bytes, buf));
     }
     let len = lossy_len(flavor, bytes).unwrap();
-    write_of_length(flavor, bytes, len, buf)
+    if len > buf.len() {
+        return Err(TooShort::new(len));
+    }
+    Ok(write_text(flavor, bytes, buf))
+}
+
+/// Writes the reading of bytes that are not damaged at the front of a slice that is long enough,
+/// and returns its length.
+fn write_text(flavor: Flavor, bytes: &[u8], out: &mut [u8]) -> usize
+    requires whole { IsStrictReading (flavor_of flavor) bytes.now
+        (reading (flavor_of flavor) bytes.now) }
+    requires room { lossy_length (flavor_of flavor) bytes.now ≤ length out.old }
+    ensures { StandsAtFront (utf8 (reading (flavor_of flavor) bytes.now))
+        result out.old out.new }
+{
+    let mut room = [0; ROOM_LEN];
+    let piece = write_joined(flavor, bytes, &mut room, out);
+    write_rest(flavor, piece.rest, &mut room, out, piece.end)
 }
 
 /// Writes the lossy reading of the bytes, which has this length, if it fits.
@@ -158,10 +179,18 @@ fn write_reading(flavor: Flavor, bytes: &[u8], out: &mut [u8]) -> usize
         result out.old out.new }
 {
     let mut room = [0; ROOM_LEN];
+    write_rest(flavor, bytes, &mut room, out, 0)
+}
+
+/// Writes the lossy reading of the bytes at a position, and returns where it ends.
+fn write_rest(flavor: Flavor, bytes: &[u8], room: &mut Room, out: &mut [u8], start: usize) -> usize
+    requires { start + lossy_length (flavor_of flavor) bytes.now ≤ length out.old }
+    ensures { IsWrittenSoFar (flavor_of flavor) bytes.now [] start result out.old out.new }
+{
     let mut rest = bytes;
-    let mut end = 0;
+    let mut end = start;
     while !rest.is_empty() {
-        let piece = write_next(flavor, rest, &mut room, out, end);
+        let piece = write_next(flavor, rest, room, out, end);
         rest = piece.rest;
         end = piece.end;
     }
@@ -170,9 +199,9 @@ fn write_reading(flavor: Flavor, bytes: &[u8], out: &mut [u8]) -> usize
 
 /// The bytes that are left after a piece of text is written, and the end of the piece.
 #[derive(Drop)]
-struct WrittenPiece<'b> {
-    rest: &'b [u8],
-    end: usize,
+pub struct WrittenPiece<'b> {
+    pub rest: &'b [u8],
+    pub end: usize,
 }
 
 /// Writes the next piece of text at a position, from one joined window or some windows by places.
@@ -190,16 +219,31 @@ fn write_next<'b>(
     ensures written { IsWrittenSoFar (flavor_of flavor) bytes.now result.rest.now
         start result.end out.old out.new }
 {
-    if bytes.len() > TOO_FEW {
-        if let Some(piece) = read_window(flavor, bytes, WINDOW, room) {
-            let end = put(piece.text.as_bytes(), out, start);
-            return WrittenPiece {
-                rest: &bytes[piece.read..],
-                end,
-            };
-        }
+    if bytes.len() <= TOO_FEW {
+        return write_few(flavor, bytes, out, start);
+    }
+    if let Some(piece) = read_window(flavor, bytes, WINDOW, room) {
+        let end = put(piece.text.as_bytes(), out, start);
+        return WrittenPiece {
+            rest: &bytes[piece.read..],
+            end,
+        };
     }
     write_windows(flavor, bytes, out, start)
+}
+
+/// Writes the text of a few bytes by places. Its buffers are made only when it is called.
+#[inline(never)]
+fn write_few<'b>(flavor: Flavor, bytes: &'b [u8], out: &mut [u8], start: usize) -> WrittenPiece<'b>
+    requires some { 0 < length bytes.now }
+    requires room { start + lossy_length (flavor_of flavor) bytes.now ≤ length out.old }
+    ensures less { length result.rest.now < length bytes.now }
+    ensures written { IsWrittenSoFar (flavor_of flavor) bytes.now result.rest.now
+        start result.end out.old out.new }
+{
+    let mut window = [0; FEW_ROOM];
+    let mut written = [0; FEW_WRITTEN_ROOM];
+    write_window(flavor, bytes, &mut window, &mut written, out, start)
 }
 
 /// Writes the text of some windows by places. Its buffers are made only when it is called.
@@ -221,7 +265,8 @@ fn write_windows<'b>(
     let mut end = start;
     let mut windows = 0;
     while windows < WINDOWS && !rest.is_empty() {
-        let piece = write_window(flavor, rest, &mut written, out, end);
+        let mut window = [0; WINDOW_ROOM];
+        let piece = write_window(flavor, rest, &mut window, &mut written, out, end);
         rest = piece.rest;
         end = piece.end;
         windows += 1;
@@ -234,19 +279,21 @@ fn write_windows<'b>(
 fn write_window<'b>(
     flavor: Flavor,
     bytes: &'b [u8],
+    window: &mut [u8],
     written: &mut [u8],
     out: &mut [u8],
     start: usize,
 ) -> WrittenPiece<'b>
     requires some { 0 < length bytes.now }
-    requires written { WIDEST * WINDOW_ROOM ≤ length written.old + SPARED }
+    requires window { LEAST ≤ length window.old }
+    requires zeros { window.old ≡ replicate (length window.old) 0 }
+    requires written { WIDEST * length window.old ≤ length written.old + SPARED }
     requires room { start + lossy_length (flavor_of flavor) bytes.now ≤ length out.old }
     ensures less { length result.rest.now < length bytes.now }
     ensures written { IsWrittenSoFar (flavor_of flavor) bytes.now result.rest.now
         start result.end out.old out.new }
 {
-    let mut window = [0; WINDOW_ROOM];
-    let decoded = write_in_flavor(flavor, bytes, &mut window, written);
+    let decoded = write_in_flavor(flavor, bytes, window, written);
     let end = put(&written[..decoded.end], out, start);
     WrittenPiece {
         rest: &bytes[decoded.read..],

@@ -8,8 +8,8 @@ returns-then-is_damaged c =
     refused (IsStrictReading (flavor_of c.args.flavor) c.args.bytes.now) _ c.args.buf.now
     (c.is_damaged.ensures.damaged c.if-is_damaged.true)
 
-pub write_whole-requires : goal.write_whole-requires
-write_whole-requires c =
+pub write_whole-requires-clause-shorter : goal.write_whole-requires-clause-shorter
+write_whole-requires-clause-shorter c =
     strict_no_longer (flavor_of c.args.flavor) c.args.bytes.now (c.is_damaged.ensures.whole c.if-is_damaged.false)
 
 pub returns : goal.returns

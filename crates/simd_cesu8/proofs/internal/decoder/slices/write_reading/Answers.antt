@@ -1,22 +1,7 @@
-use Rattle.std.proofs.Common.{sym, ◌∙◌, arith}
-use Rattle.std.proofs.lemmas.Bool.{eqb-true}
+use Rattle.std.proofs.Common.{[], refl}
 use Rattle.simd_cesu8.specs.Internal.{flavor_of}
-use Rattle.simd_cesu8.proofs.pieces.WrittenPieces.{nothing_written, more_written, all_written}
+use Rattle.simd_cesu8.proofs.pieces.WrittenPieces.{all_written}
 use Rattle.simd_cesu8.proofs.internal.decoder.slices.write_reading.Goals as goal
 
-pub loop-rest-init : goal.loop-rest-init
-loop-rest-init c = nothing_written (flavor_of c.args.flavor) c.args.bytes.now 0 c.args.out.now
-
-pub write_next-piece-requires-clause-room : goal.write_next-piece-requires-clause-room
-write_next-piece-requires-clause-room c =
-    omega (arith, c.requires, c.loop-rest.invariant.room, c.loop-rest.invariant.len)
-
-pub loop-rest-preserved : goal.loop-rest-preserved
-loop-rest-preserved c =
-    more_written (flavor_of c.args.flavor) c.args.bytes.now c.loop-rest.rest.now _ 0 c.loop-rest.end _ _ _ _
-    c.loop-rest.invariant c.write_next-piece.ensures.written
-
 pub returns : goal.returns
-returns c =
-    all_written (flavor_of c.args.flavor) c.args.bytes.now c.loop-rest.rest.now c.loop-rest.end _ _ c.loop-rest.invariant
-    (eqb-true _ _ (sym c.is_empty.ensures ∙ c.loop-rest-test.false))
+returns c = all_written (flavor_of c.args.flavor) c.args.bytes.now [] c.write_rest.result _ _ c.write_rest.ensures refl

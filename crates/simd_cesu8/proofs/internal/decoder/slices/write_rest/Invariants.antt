@@ -1,10 +1,10 @@
 use Rattle.std.proofs.Common.{length}
 use Rattle.simd_cesu8.specs.Internal.{flavor_of}
 use Rattle.simd_cesu8.specs.Pieces.{IsWrittenSoFar}
-use Rattle.simd_cesu8.proofs.internal.decoder.slices.write_reading.Given as goal
+use Rattle.simd_cesu8.proofs.internal.decoder.slices.write_rest.Given as goal
 
 abbrev pub decreases-loop-rest : goal.decreases-loop-rest
 decreases-loop-rest l = length l.rest
 
 abbrev pub invariant-loop-rest : goal.invariant-loop-rest
-invariant-loop-rest l = IsWrittenSoFar (flavor_of l.flavor) l.fn.bytes l.rest 0 l.end l.initial.out l.out
+invariant-loop-rest l = IsWrittenSoFar (flavor_of l.flavor) l.fn.bytes l.rest l.fn.start l.end l.initial.out l.out
