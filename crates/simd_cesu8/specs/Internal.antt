@@ -1,10 +1,12 @@
 -- Definitions for the contracts of the crate's inner functions.
-use Rattle.std.specs.Prelude.{◌≡◌, ℕ, ◌+◌, ◌*◌, ◌<◌, ◌≤◌, Bool, false, List}
+use Rattle.std.specs.Prelude.{◌≡◌, ℕ, ◌+◌, ◌*◌, ◌<◌, ◌≤◌, List}
 use Rattle.simd_cesu8.specs.Text.{IsText}
 use Rattle.simd_cesu8.specs.Reading.{reading}
 use Rattle.simd_cesu8.specs.Encoding.{Flavor, Cesu8, Mutf8, encoding}
 use Rattle.simd_cesu8.specs.declared.internal.Flavor.{Flavor as FlavorOption}
 use Rattle.simd_cesu8.specs.declared.internal.Flavor.TheVariants as options
+use Rattle.simd_cesu8.specs.declared.internal.Strictness.{Strictness}
+use Rattle.simd_cesu8.specs.declared.internal.Strictness.TheVariants.{Strict}
 
 -- The flavor of the code's value.
 abbrev pub flavor_of : FlavorOption → Flavor
@@ -12,9 +14,9 @@ flavor_of options.Cesu8 = Cesu8
 flavor_of options.Mutf8 = Mutf8
 
 -- The text of the bytes: it is the lossy reading, and in strict reading the bytes are its encoding.
-abbrev pub IsDecodedText : Flavor → Bool → List ℕ → List ℕ → Type 0
-IsDecodedText f lossy bytes text =
-    IsText text × (text ≡ reading f bytes) × (lossy ≡ false → encoding f text ≡ bytes)
+abbrev pub IsDecodedText : Flavor → Strictness → List ℕ → List ℕ → Type 0
+IsDecodedText f which bytes text =
+    IsText text × (text ≡ reading f bytes) × (which ≡ Strict → encoding f text ≡ bytes)
 
 -- A byte that follows a lead byte: 80 to BF (hexadecimal).
 abbrev pub IsContinuation : ℕ → Type 0

@@ -40,12 +40,18 @@ pub enum Flavor {
     Mutf8,
 }
 
+/// Whether a byte in no encoded character is an error, or is replaced.
+#[derive(Clone, Copy)]
+pub enum Strictness {
+    Strict,
+    Lossy,
+}
+
 /// How bytes are decoded.
 #[derive(Clone, Copy)]
 pub struct DecodeOptions {
     pub flavor: Flavor,
-    /// Whether a byte in no encoded character is replaced, instead of an error.
-    pub lossy: bool,
+    pub strictness: Strictness,
 }
 
 /// Returns whether some byte of the UTF-8 changes in the flavor.

@@ -5,6 +5,7 @@ use Rattle.simd_cesu8.specs.Encoding.{Flavor}
 use Rattle.simd_cesu8.specs.DecodedPlaces.{width_at, is_border_at, IsPadded, is_damaged_at, decoded}
 use Rattle.simd_cesu8.specs.DecodedWindows.{IsRead}
 use Rattle.simd_cesu8.specs.Pieces.{IsPiece, HasFault}
+use Rattle.simd_cesu8.specs.declared.internal.Strictness.TheVariants.{Strict, Lossy}
 use Rattle.simd_cesu8.specs.DecodedLanes.{start_code, AreFiveCodes}
 use Rattle.std.specs.List.{range_with_len}
 use Rattle.std.proofs.lemmas.List.FromFn.{get_or-map-range_with_len}
@@ -141,15 +142,15 @@ part_read f bytes window loaded read padded fits some inside last =
 
 module _ (f : Flavor) (bytes window : List ℕ) (n : ℕ) (is_read : IsRead f bytes window n) where
   -- What they become is a piece in lossy reading,
-  pub read_lossily : (read : ℕ) (piece : List ℕ) → read ≡ n → piece ≡ decoded f window 0 n → IsPiece f true bytes (drop read bytes) piece
+  pub read_lossily : (read : ℕ) (piece : List ℕ) → read ≡ n → piece ≡ decoded f window 0 n → IsPiece f Lossy bytes (drop read bytes) piece
   read_lossily read piece read_is piece_is =
       rw (read_is, piece_is) (lossy_piece f bytes window n is_read.padded is_read.fits is_read.border)
 
   -- in strict reading where none of them is damaged,
   pub read_strictly : (read : ℕ) (piece : List ℕ) → read ≡ n → piece ≡ decoded f window 0 n →
-      ((i : ℕ) → i < n → is_damaged_at f window i ≡ false) → IsPiece f false bytes (drop read bytes) piece
+      ((i : ℕ) → i < n → is_damaged_at f window i ≡ false) → IsPiece f Strict bytes (drop read bytes) piece
   read_strictly read piece read_is piece_is fine =
-      rw (read_is, piece_is) (strict_piece f bytes window n is_read.padded is_read.fits is_read.border false fine)
+      rw (read_is, piece_is) (strict_piece f bytes window n is_read.padded is_read.fits is_read.border Strict fine)
 
   -- and one that is damaged is a fault.
   pub read_fault : (i : ℕ) × (i < n) × (is_damaged_at f window i ≡ true) → HasFault f bytes

@@ -1,5 +1,5 @@
 -- What a window of bytes becomes is a piece of their text, or a damaged place in it is their fault.
-use Rattle.std.proofs.Common.{◌≡◌, ℕ, zero, suc, ◌+◌, ◌<◌, ◌≤◌, Bool, true, false, true≢false, List, [], ◌∷◌, ◌++◌, refl, sym, ap, ◌∙◌, subst, inr, arith, length, take, drop, get_or}
+use Rattle.std.proofs.Common.{◌≡◌, ℕ, zero, suc, ◌+◌, ◌<◌, ◌≤◌, true, false, List, [], ◌∷◌, ◌++◌, refl, sym, ap, ◌∙◌, subst, inr, arith, length, take, drop, get_or}
 use Rattle.std.proofs.lemmas.List.{take-append-drop, length-take-le, get_or-take}
 use Rattle.simd_cesu8.specs.Text.{IsText, utf8}
 use Rattle.simd_cesu8.specs.Encoding.{Flavor}
@@ -7,6 +7,8 @@ use Rattle.simd_cesu8.specs.Reading.{reading, IsStrictReading}
 use Rattle.simd_cesu8.specs.Cutting.{Piece, Character, Replaced, ArePieces, text_of}
 use Rattle.simd_cesu8.specs.Laws.{NoneCrosses}
 use Rattle.simd_cesu8.specs.Pieces.{IsPiece, HasFault}
+use Rattle.simd_cesu8.specs.declared.internal.Strictness.{Strictness}
+use Rattle.simd_cesu8.specs.declared.internal.Strictness.TheVariants.{Strict, Lossy}
 use Rattle.simd_cesu8.specs.DecodedPlaces.{decoded, is_damaged_at, is_border_at, IsPadded, IsPaddedFor}
 use Rattle.simd_cesu8.proofs.reading.Cuttings.{greedy_cutting}
 use Rattle.simd_cesu8.proofs.reading.Greedy.{places}
@@ -31,20 +33,20 @@ reading_is_text f bytes =
 
 -- Before a place that no character crosses, the lossy reading is a piece in lossy reading,
 front_piece : (f : Flavor) (bytes : List ℕ) (n : ℕ) → NoneCrosses f (take n bytes) (drop n bytes) →
-    IsPiece f true bytes (drop n bytes) (utf8 (reading f (take n bytes)))
+    IsPiece f Lossy bytes (drop n bytes) (utf8 (reading f (take n bytes)))
 front_piece f bytes n crosses = record {
   text = reading f (take n bytes);
   scalars = reading_is_text f (take n bytes);
   lossy_reading = ap (reading f) (sym (take-append-drop n bytes)) ∙ (split f (take n bytes) (drop n bytes)).1 crosses;
-  strict_reading = λ strict. absurd (true≢false strict);
+  strict_reading = λ (strict : Lossy ≡ Strict). absurd (cc);
   written = refl;
 }
 
 -- and in both where it is the strict reading.
-strict_front_piece : (f : Flavor) (lossy : Bool) (bytes : List ℕ) (n : ℕ) → IsStrictReading f (take n bytes) (reading f (take n bytes)) →
-    IsPiece f lossy bytes (drop n bytes) (utf8 (reading f (take n bytes)))
-strict_front_piece f lossy bytes n reads =
-    piece_of_text f lossy bytes (reading f (take n bytes)) (drop n bytes) reads.0
+strict_front_piece : (f : Flavor) (which : Strictness) (bytes : List ℕ) (n : ℕ) → IsStrictReading f (take n bytes) (reading f (take n bytes)) →
+    IsPiece f which bytes (drop n bytes) (utf8 (reading f (take n bytes)))
+strict_front_piece f which bytes n reads =
+    piece_of_text f which bytes (reading f (take n bytes)) (drop n bytes) reads.0
     (sym (take-append-drop n bytes) ∙ ap (λ bs. bs ++ drop n bytes) (sym reads.1))
 
 -- ---- pieces by windows
@@ -104,13 +106,13 @@ module _ (f : Flavor) (bytes window : List ℕ) (n : ℕ) (padded : IsPaddedFor 
           (sym (damage_agrees f window all i i (agrees i 11 (omega arith))) ∙ fine i (omega arith)))))
 
       -- So what they become is a piece,
-      pub lossy_piece : IsPiece f true bytes (drop n bytes) (decoded f window 0 n)
-      lossy_piece = subst (IsPiece f true bytes (drop n bytes)) (sym decoded_window) (front_piece f bytes n none_crosses_window)
+      pub lossy_piece : IsPiece f Lossy bytes (drop n bytes) (decoded f window 0 n)
+      lossy_piece = subst (IsPiece f Lossy bytes (drop n bytes)) (sym decoded_window) (front_piece f bytes n none_crosses_window)
 
       -- and in strict reading too where none is damaged.
-      pub strict_piece : (lossy : Bool) → ((i : ℕ) → i < n → is_damaged_at f window i ≡ false) → IsPiece f lossy bytes (drop n bytes) (decoded f window 0 n)
-      strict_piece lossy fine =
-          subst (IsPiece f lossy bytes (drop n bytes)) (sym decoded_window) (strict_front_piece f lossy bytes n (strict_window fine))
+      pub strict_piece : (which : Strictness) → ((i : ℕ) → i < n → is_damaged_at f window i ≡ false) → IsPiece f which bytes (drop n bytes) (decoded f window 0 n)
+      strict_piece which fine =
+          subst (IsPiece f which bytes (drop n bytes)) (sym decoded_window) (strict_front_piece f which bytes n (strict_window fine))
 
 -- A window on the first m bytes is one on the first n of all, where five more are among the m.
 pub padded_take : (bytes window : List ℕ) (m n : ℕ) → n + 5 ≤ m → IsPadded (take m bytes) window → IsPaddedFor n bytes window

@@ -1,5 +1,5 @@
 -- What a call may say of a text that it writes into a caller's buffer.
-use Rattle.std.proofs.Common.{◌≡◌, ℕ, ◌^◌, ◌<◌, ◌≤◌, ◌↔◌, inl, inr, ⊎_elim, true, false, List, refl, sym, ap, ◌∙◌, subst, arith, length, drop, Result, Ok, Err, MatchResult, IsErrAnd}
+use Rattle.std.proofs.Common.{◌≡◌, ℕ, ◌^◌, ◌<◌, ◌≤◌, ◌↔◌, inl, inr, ⊎_elim, List, refl, sym, ap, ◌∙◌, subst, arith, length, drop, Result, Ok, Err, MatchResult, IsErrAnd}
 use Rattle.std.proofs.lemmas.Bool.{false≢true}
 use Rattle.std.specs.Str.{chars, IsUtf8}
 use Rattle.simd_cesu8.specs.Text.{utf8}
@@ -7,6 +7,7 @@ use Rattle.simd_cesu8.specs.Encoding.{Flavor}
 use Rattle.simd_cesu8.specs.Class.{IsUnchangedUtf8}
 use Rattle.simd_cesu8.specs.Reading.{IsStrictReading, IsLenientReading, reading, lossy_length, IsLenientLossyReading}
 use Rattle.simd_cesu8.specs.Pieces.{IsPiece}
+use Rattle.simd_cesu8.specs.declared.internal.Strictness.TheVariants.{Strict, Lossy}
 use Rattle.simd_cesu8.specs.Slices.{StandsAtFront, WritesAnswer, ReadsAtLength, WritesReading, WritesLossyReading}
 use Rattle.simd_cesu8.specs.declared.error.TooShort.{TooShort}
 use Rattle.simd_cesu8.specs.declared.error.DecodingError.{DecodingError}
@@ -44,26 +45,26 @@ strict_only f bytes text other reads also =
     sym (reading_encoding f other also.0) ∙ ap (reading f) (also.1 ∙ sym reads.1) ∙ reading_encoding f text reads.0
 
 -- That of bytes which are a piece, in strict reading,
-pub only_strict_piece : (f : Flavor) (bytes piece : List ℕ) (n : ℕ) → IsPiece f false bytes (drop n bytes) piece → n ≡ length bytes →
+pub only_strict_piece : (f : Flavor) (bytes piece : List ℕ) (n : ℕ) → IsPiece f Strict bytes (drop n bytes) piece → n ≡ length bytes →
     IsOnlyText (IsStrictReading f bytes) (chars piece) piece
 only_strict_piece f bytes piece n is_piece all =
-    let read = whole_text f false bytes piece n is_piece all in
+    let read = whole_text f Strict bytes piece n is_piece all in
     let reads : IsStrictReading f bytes (chars piece) = (read.0, read.2 refl) in
     record {
       reads = reads;
       only = λ other also. strict_only f bytes (chars piece) other reads also;
-      utf8_is = (IsUtf8Of_chars piece (piece_utf8 f false bytes (drop n bytes) piece is_piece)).1;
+      utf8_is = (IsUtf8Of_chars piece (piece_utf8 f Strict bytes (drop n bytes) piece is_piece)).1;
     }
 
 -- and in lossy reading;
-pub only_lossy_piece : (f : Flavor) (bytes piece : List ℕ) (n : ℕ) → IsPiece f true bytes (drop n bytes) piece → n ≡ length bytes →
+pub only_lossy_piece : (f : Flavor) (bytes piece : List ℕ) (n : ℕ) → IsPiece f Lossy bytes (drop n bytes) piece → n ≡ length bytes →
     IsOnlyText (λ text. text ≡ reading f bytes) (chars piece) piece
 only_lossy_piece f bytes piece n is_piece all =
-    let read = whole_text f true bytes piece n is_piece all in
+    let read = whole_text f Lossy bytes piece n is_piece all in
     record {
       reads = read.1;
       only = λ other same. same ∙ sym read.1;
-      utf8_is = (IsUtf8Of_chars piece (piece_utf8 f true bytes (drop n bytes) piece is_piece)).1;
+      utf8_is = (IsUtf8Of_chars piece (piece_utf8 f Lossy bytes (drop n bytes) piece is_piece)).1;
     }
 
 -- that of bytes that are not damaged, which is no longer than they are,

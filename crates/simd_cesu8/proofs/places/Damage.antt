@@ -1,5 +1,5 @@
 -- Bytes have a strict reading exactly where encoded characters cover them all.
-use Rattle.std.proofs.Common.{◌≡◌, ℕ, ◌+◌, ◌-◌, ◌<◌, ◌≤◌, ◌⊎◌, ⊎_elim, Bool, true, false, eqb, leb, zero, suc, List, [], ◌∷◌, ◌++◌, refl, sym, ap, ◌∙◌, subst, inl, inr, arith, length, drop, length-append, append_assoc, add-zero, zero-add, length-drop}
+use Rattle.std.proofs.Common.{◌≡◌, ℕ, ◌+◌, ◌-◌, ◌<◌, ◌≤◌, ◌⊎◌, ⊎_elim, true, false, eqb, leb, zero, suc, List, [], ◌∷◌, ◌++◌, refl, sym, ap, ◌∙◌, subst, inl, inr, arith, length, drop, length-append, append_assoc, add-zero, zero-add, length-drop}
 use Rattle.std.proofs.lemmas.Bool.{cases_lt, leb-true, leb-false, eqb-true, eqb-false, or_cases, or_parts, not-true, not-false}
 use Rattle.std.proofs.lemmas.List.{drop-append-le}
 use Rattle.simd_cesu8.specs.Text.{IsScalarValue, IsText, utf8}
@@ -9,6 +9,8 @@ use Rattle.simd_cesu8.specs.Cutting.{Piece, Character, Replaced, ArePieces, byte
 use Rattle.simd_cesu8.specs.Laws.{NoneCrosses}
 use Rattle.simd_cesu8.specs.DecodedPlaces.{width_at, is_damaged_at, is_border_at, covered, total_weight}
 use Rattle.simd_cesu8.specs.Pieces.{IsPiece, HasFault}
+use Rattle.simd_cesu8.specs.declared.internal.Strictness.{Strictness}
+use Rattle.simd_cesu8.specs.declared.internal.Strictness.TheVariants.{Strict}
 use Rattle.simd_cesu8.proofs.encoding.Encodings.{encoding_nil, encoding_cons}
 use Rattle.simd_cesu8.proofs.reading.EncodedTexts.{reading_text}
 use Rattle.simd_cesu8.proofs.encoding.Lengths.{length_of_character}
@@ -33,9 +35,9 @@ pub record IsCovered (f : Flavor) (bytes : List ℕ) (i : ℕ) : Type 0 where
 -- ---- up to the first byte that is replaced
 
 -- A text whose encoding begins bytes is a piece of them.
-pub piece_of_text : (f : Flavor) (lossy : Bool) (bytes text rest : List ℕ) → IsText text → bytes ≡ encoding f text ++ rest →
-    IsPiece f lossy bytes rest (utf8 text)
-piece_of_text f lossy bytes text rest is_text bytes_are = record {
+pub piece_of_text : (f : Flavor) (which : Strictness) (bytes text rest : List ℕ) → IsText text → bytes ≡ encoding f text ++ rest →
+    IsPiece f which bytes rest (utf8 text)
+piece_of_text f which bytes text rest is_text bytes_are = record {
   text = text;
   scalars = is_text;
   lossy_reading = ap (reading f) bytes_are ∙ reading_text f text rest is_text;
@@ -53,7 +55,7 @@ fault_later f c bytes scalar fault =
     ∙ ap (λ bs. bs ++ fault.rest) (sym (encoding_cons f c fault.before.text)) in record {
       rest = fault.rest;
       piece = utf8 text;
-      before = piece_of_text f false (encoding f (c ∷ []) ++ bytes) text fault.rest (scalar, fault.before.scalars) bytes_are;
+      before = piece_of_text f Strict (encoding f (c ∷ []) ++ bytes) text fault.rest (scalar, fault.before.scalars) bytes_are;
       some = fault.some;
       none_begins = fault.none_begins;
     }
@@ -98,7 +100,7 @@ by_pieces f (Replaced b ∷ pieces) are_pieces is_greedy =
       record {
         rest = bytes;
         piece = [];
-        before = piece_of_text f false bytes [] bytes tt (ap (λ bs. bs ++ bytes) (sym (encoding_nil f)));
+        before = piece_of_text f Strict bytes [] bytes tt (ap (λ bs. bs ++ bytes) (sym (encoding_nil f)));
         some = omega arith;
         none_begins = is_greedy.0;
       },

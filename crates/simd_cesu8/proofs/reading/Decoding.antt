@@ -1,11 +1,12 @@
 -- What reading adds: to the text that was read, and to the length of the lossy reading.
-use Rattle.std.proofs.Common.{◌≡◌, ℕ, ◌+◌, ◌<◌, Bool, List, [], ◌∷◌, ◌++◌, refl, sym, ap, ◌∙◌, arith, length, append-nil, length-append}
+use Rattle.std.proofs.Common.{◌≡◌, ℕ, ◌+◌, ◌<◌, List, [], ◌∷◌, ◌++◌, refl, sym, ap, ◌∙◌, arith, length, append-nil, length-append}
 use Rattle.std.proofs.lemmas.List.Concat.{flat_map-append}
 use Rattle.simd_cesu8.specs.Text.{IsText, utf8_of, utf8}
 use Rattle.simd_cesu8.specs.Encoding.{Flavor, encoding}
 use Rattle.simd_cesu8.specs.Reading.{BeginsWith, NoneBegins, reading, lossy_length}
 use Rattle.simd_cesu8.specs.Internal.{IsDecodedText}
 use Rattle.simd_cesu8.specs.Pieces.{IsReadSoFar}
+use Rattle.simd_cesu8.specs.declared.internal.Strictness.{Strictness}
 use Rattle.simd_cesu8.proofs.encoding.Encodings.{encoding_nil}
 use Rattle.simd_cesu8.proofs.encoding.Lengths.{length_of_character}
 use Rattle.simd_cesu8.proofs.reading.Steps.{reading_nil, reading_character, reading_replaced}
@@ -54,8 +55,8 @@ lossy_length_nil f [] empty = ap (λ text. length (utf8 text)) (reading_nil f)
 lossy_length_nil f (b ∷ bytes) empty = absurd (omega arith)
 
 -- Before the first piece nothing is read, and all bytes are left.
-pub nothing_read : (f : Flavor) (lossy : Bool) (bytes old : List ℕ) → IsReadSoFar f lossy bytes bytes old old
-nothing_read f lossy bytes old = record {
+pub nothing_read : (f : Flavor) (which : Strictness) (bytes old : List ℕ) → IsReadSoFar f which bytes bytes old old
+nothing_read f which bytes old = record {
   text = [];
   scalars = tt;
   lossy_reading = refl;
@@ -64,9 +65,9 @@ nothing_read f lossy bytes old = record {
 }
 
 -- Where no bytes are left, the text so far is the decoded text.
-pub all_read : (f : Flavor) (lossy : Bool) (bytes rest old new : List ℕ) → IsReadSoFar f lossy bytes rest old new →
-    length rest ≡ 0 → (text : List ℕ) × IsDecodedText f lossy bytes text × (new ≡ old ++ utf8 text)
-all_read f lossy bytes [] old new so_far empty = (
+pub all_read : (f : Flavor) (which : Strictness) (bytes rest old new : List ℕ) → IsReadSoFar f which bytes rest old new →
+    length rest ≡ 0 → (text : List ℕ) × IsDecodedText f which bytes text × (new ≡ old ++ utf8 text)
+all_read f which bytes [] old new so_far empty = (
   so_far.text,
   (
     so_far.scalars,
@@ -75,4 +76,4 @@ all_read f lossy bytes [] old new so_far empty = (
   ),
   so_far.written,
 )
-all_read f lossy bytes (b ∷ rest) old new so_far empty = absurd (omega arith)
+all_read f which bytes (b ∷ rest) old new so_far empty = absurd (omega arith)

@@ -1,5 +1,5 @@
 -- Text that is read a piece at a time.
-use Rattle.std.proofs.Common.{◌≡◌, ℕ, ◌+◌, ◌-◌, Bool, true, false, List, [], ◌++◌, Result, Ok, Err, IfOk, MatchResult, is_ok, true≢false, refl, sym, ap, ◌∙◌, subst, arith, length, take, drop, append_assoc, length-append, length-drop}
+use Rattle.std.proofs.Common.{◌≡◌, ℕ, ◌+◌, ◌-◌, List, [], ◌++◌, Result, Ok, Err, IfOk, MatchResult, is_ok, true≢false, refl, sym, ap, ◌∙◌, subst, arith, length, take, drop, append_assoc, length-append, length-drop}
 use Rattle.std.specs.Str.{chars, IsUtf8}
 use Rattle.std.proofs.lemmas.List.{take-append-drop, take_rest}
 use Rattle.simd_cesu8.specs.Text.{utf8}
@@ -10,6 +10,8 @@ use Rattle.simd_cesu8.specs.declared.error.DecodeFault.{DecodeFault}
 use Rattle.simd_cesu8.specs.declared.error.DecodeFault.TheVariants.{Invalid, Memory}
 use Rattle.simd_cesu8.specs.Internal.{IsDecodedText}
 use Rattle.simd_cesu8.specs.Pieces.{IsReadSoFar, IsPiece, HasFault}
+use Rattle.simd_cesu8.specs.declared.internal.Strictness.{Strictness}
+use Rattle.simd_cesu8.specs.declared.internal.Strictness.TheVariants.{Strict, Lossy}
 use Rattle.simd_cesu8.proofs.StdUtf8.{IsUtf8Of_chars, IsUtf8_utf8, chars_utf8}
 use Rattle.simd_cesu8.proofs.encoding.Encodings.{encoding_append}
 use Rattle.simd_cesu8.proofs.reading.EncodedTexts.{reading_text}
@@ -17,9 +19,9 @@ use Rattle.simd_cesu8.proofs.encoding.Unique.{no_reading}
 use Rattle.simd_cesu8.proofs.reading.Decoding.{IsText_append, utf8_append, all_read, lossy_length_nil}
 
 -- What is read after what was read so far adds its text.
-pub more_read : (f : Flavor) (lossy : Bool) (bytes rest after old out new : List ℕ) →
-    IsReadSoFar f lossy bytes rest old out → IsReadSoFar f lossy rest after out new → IsReadSoFar f lossy bytes after old new
-more_read f lossy bytes rest after old out new so_far next = record {
+pub more_read : (f : Flavor) (which : Strictness) (bytes rest after old out new : List ℕ) →
+    IsReadSoFar f which bytes rest old out → IsReadSoFar f which rest after out new → IsReadSoFar f which bytes after old new
+more_read f which bytes rest after old out new so_far next = record {
   text = so_far.text ++ next.text;
   scalars = IsText_append so_far.text next.text so_far.scalars next.scalars;
   lossy_reading = so_far.lossy_reading ∙ ap (λ cs. so_far.text ++ cs) next.lossy_reading
@@ -34,9 +36,9 @@ more_read f lossy bytes rest after old out new so_far next = record {
 }
 
 -- A piece that is appended is read after what was there.
-pub piece_appended : (f : Flavor) (lossy : Bool) (bytes rest piece old new : List ℕ) → IsPiece f lossy bytes rest piece →
-    new ≡ old ++ piece → IsReadSoFar f lossy bytes rest old new
-piece_appended f lossy bytes rest piece old new is_piece new_is = record {
+pub piece_appended : (f : Flavor) (which : Strictness) (bytes rest piece old new : List ℕ) → IsPiece f which bytes rest piece →
+    new ≡ old ++ piece → IsReadSoFar f which bytes rest old new
+piece_appended f which bytes rest piece old new is_piece new_is = record {
   text = is_piece.text;
   scalars = is_piece.scalars;
   lossy_reading = is_piece.lossy_reading;
@@ -45,16 +47,16 @@ piece_appended f lossy bytes rest piece old new is_piece new_is = record {
 }
 
 -- The same where the piece serves both readings, and the rest is the slice behind it.
-pub piece_read : (f : Flavor) (lossy : Bool) (bytes piece old new : List ℕ) (n : ℕ) →
-    ((lossy : Bool) → IsPiece f lossy bytes (drop n bytes) piece) → new ≡ old ++ piece →
-    IsReadSoFar f lossy bytes (take (length bytes - n) (drop n bytes)) old new
-piece_read f lossy bytes piece old new n is_piece new_is =
-    rw take_rest (piece_appended f lossy bytes (drop n bytes) piece old new (is_piece lossy) new_is)
+pub piece_read : (f : Flavor) (which : Strictness) (bytes piece old new : List ℕ) (n : ℕ) →
+    ((which : Strictness) → IsPiece f which bytes (drop n bytes) piece) → new ≡ old ++ piece →
+    IsReadSoFar f which bytes (take (length bytes - n) (drop n bytes)) old new
+piece_read f which bytes piece old new n is_piece new_is =
+    rw take_rest (piece_appended f which bytes (drop n bytes) piece old new (is_piece which) new_is)
 
 -- Bytes that are the encoding of a text are a piece.
-pub piece_of_encoding : (f : Flavor) (lossy : Bool) (bytes text : List ℕ) (n : ℕ) → IsUtf8 text →
-    IsStrictReading f (take n bytes) (chars text) → IsPiece f lossy bytes (drop n bytes) text
-piece_of_encoding f lossy bytes text n is_utf8 reads =
+pub piece_of_encoding : (f : Flavor) (which : Strictness) (bytes text : List ℕ) (n : ℕ) → IsUtf8 text →
+    IsStrictReading f (take n bytes) (chars text) → IsPiece f which bytes (drop n bytes) text
+piece_of_encoding f which bytes text n is_utf8 reads =
     let bytes_are : bytes ≡ encoding f (chars text) ++ drop n bytes =
     sym (take-append-drop n bytes) ∙ ap (λ bs. bs ++ drop n bytes) (sym reads.1) in
     record {
@@ -66,13 +68,13 @@ piece_of_encoding f lossy bytes text n is_utf8 reads =
     }
 
 -- What is read is UTF-8.
-pub piece_utf8 : (f : Flavor) (lossy : Bool) (bytes rest piece : List ℕ) → IsPiece f lossy bytes rest piece → IsUtf8 piece
-piece_utf8 f lossy bytes rest piece read = subst IsUtf8 (sym read.written) (IsUtf8_utf8 read.text read.scalars)
+pub piece_utf8 : (f : Flavor) (which : Strictness) (bytes rest piece : List ℕ) → IsPiece f which bytes rest piece → IsUtf8 piece
+piece_utf8 f which bytes rest piece read = subst IsUtf8 (sym read.written) (IsUtf8_utf8 read.text read.scalars)
 
 -- A fault after a piece is one of the whole,
-pub fault_after : (f : Flavor) (lossy : Bool) (bytes rest old out : List ℕ) → IsReadSoFar f lossy bytes rest old out →
-    lossy ≡ false → HasFault f rest → HasFault f bytes
-fault_after f lossy bytes rest old out so_far strict fault = record {
+pub fault_after : (f : Flavor) (which : Strictness) (bytes rest old out : List ℕ) → IsReadSoFar f which bytes rest old out →
+    which ≡ Strict → HasFault f rest → HasFault f bytes
+fault_after f which bytes rest old out so_far strict fault = record {
   rest = fault.rest;
   piece = utf8 (so_far.text ++ fault.before.text);
   before = record {
@@ -95,17 +97,17 @@ fault_of_whole f bytes fault =
     no_reading f bytes fault.before.text fault.rest fault.before.scalars (fault.before.strict_reading refl) fault.some fault.none_begins
 
 -- So it is where the next piece is refused.
-pub refused_after : (f : Flavor) (lossy : Bool) (bytes rest old out : List ℕ) (fault : DecodeFault) →
-    IsReadSoFar f lossy bytes rest old out → IfInvalid fault ((lossy ≡ false) × HasFault f rest) →
-    IfInvalid fault ((lossy ≡ false) × HasFault f bytes)
-refused_after f lossy bytes rest old out (Invalid error) so_far refused =
-    (refused.0, fault_after f lossy bytes rest old out so_far refused.0 refused.1)
-refused_after f lossy bytes rest old out (Memory error) so_far memory = memory
+pub refused_after : (f : Flavor) (which : Strictness) (bytes rest old out : List ℕ) (fault : DecodeFault) →
+    IsReadSoFar f which bytes rest old out → IfInvalid fault ((which ≡ Strict) × HasFault f rest) →
+    IfInvalid fault ((which ≡ Strict) × HasFault f bytes)
+refused_after f which bytes rest old out (Invalid error) so_far refused =
+    (refused.0, fault_after f which bytes rest old out so_far refused.0 refused.1)
+refused_after f which bytes rest old out (Memory error) so_far memory = memory
 
-pub refused_whole : (f : Flavor) (lossy : Bool) (bytes : List ℕ) (fault : DecodeFault) →
-    IfInvalid fault ((lossy ≡ false) × HasFault f bytes) → IfInvalid fault (HasNoStrictReading f bytes)
-refused_whole f lossy bytes (Invalid error) refused = fault_of_whole f bytes refused.1
-refused_whole f lossy bytes (Memory error) memory = memory
+pub refused_whole : (f : Flavor) (which : Strictness) (bytes : List ℕ) (fault : DecodeFault) →
+    IfInvalid fault ((which ≡ Strict) × HasFault f bytes) → IfInvalid fault (HasNoStrictReading f bytes)
+refused_whole f which bytes (Invalid error) refused = fault_of_whole f bytes refused.1
+refused_whole f which bytes (Memory error) memory = memory
 
 -- Whatever the fault is, it is right of bytes that have no strict reading.
 pub refused_by_any : {P : Type 0} (fault : DecodeFault) → P → IfInvalid fault P
@@ -113,14 +115,14 @@ refused_by_any (Invalid error) holds = holds
 refused_by_any (Memory error) holds = tt
 
 -- The text of what was decoded into nothing.
-pub decoded_text : (f : Flavor) (lossy : Bool) (bytes old out : List ℕ) → old ≡ [] →
-    ((text : List ℕ) × IsDecodedText f lossy bytes text × (out ≡ old ++ utf8 text)) → IsDecodedText f lossy bytes (chars out)
-decoded_text f lossy bytes old out nothing read =
-    subst (IsDecodedText f lossy bytes)
+pub decoded_text : (f : Flavor) (which : Strictness) (bytes old out : List ℕ) → old ≡ [] →
+    ((text : List ℕ) × IsDecodedText f which bytes text × (out ≡ old ++ utf8 text)) → IsDecodedText f which bytes (chars out)
+decoded_text f which bytes old out nothing read =
+    subst (IsDecodedText f which bytes)
     (sym (ap chars (read.2 ∙ ap (λ bs. bs ++ utf8 read.0) nothing) ∙ chars_utf8 read.0 read.1.0)) read.1
 
 -- A piece adds its length to that of the lossy reading.
-pub piece_length : (f : Flavor) (bytes rest piece : List ℕ) → IsPiece f true bytes rest piece →
+pub piece_length : (f : Flavor) (bytes rest piece : List ℕ) → IsPiece f Lossy bytes rest piece →
     lossy_length f bytes ≡ length piece + lossy_length f rest
 unfolding lossy_length
 piece_length f bytes rest piece read =
@@ -128,13 +130,13 @@ piece_length f bytes rest piece read =
     ∙ length-append (utf8 read.text) (utf8 (reading f rest)) ∙ ap (λ bs. length bs + length (utf8 (reading f rest))) (sym read.written)
 
 -- A piece that leaves nothing is the text of the whole, and has the length of its reading.
-pub whole_text : (f : Flavor) (lossy : Bool) (bytes piece : List ℕ) (n : ℕ) → IsPiece f lossy bytes (drop n bytes) piece →
-    n ≡ length bytes → IsDecodedText f lossy bytes (chars piece)
-whole_text f lossy bytes piece n read all =
-    decoded_text f lossy bytes [] piece refl
-    (all_read f lossy bytes (drop n bytes) [] piece read (omega (arith, length-drop n bytes, all)))
+pub whole_text : (f : Flavor) (which : Strictness) (bytes piece : List ℕ) (n : ℕ) → IsPiece f which bytes (drop n bytes) piece →
+    n ≡ length bytes → IsDecodedText f which bytes (chars piece)
+whole_text f which bytes piece n read all =
+    decoded_text f which bytes [] piece refl
+    (all_read f which bytes (drop n bytes) [] piece read (omega (arith, length-drop n bytes, all)))
 
-pub whole_length : (f : Flavor) (bytes piece : List ℕ) (n : ℕ) → IsPiece f true bytes (drop n bytes) piece →
+pub whole_length : (f : Flavor) (bytes piece : List ℕ) (n : ℕ) → IsPiece f Lossy bytes (drop n bytes) piece →
     n ≡ length bytes → lossy_length f bytes ≡ length piece
 whole_length f bytes piece n read all =
     omega (

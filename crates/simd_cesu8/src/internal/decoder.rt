@@ -9,7 +9,7 @@
 //! Longer input is decoded in windows. If the text is whole, joining a window is faster. If joining
 //! yields no text, this window and a few after it are decoded by places.
 
-ghost use Rattle.std.specs.Prelude.{◌≡◌, ◌+◌, ◌*◌, ◌<◌, ◌≤◌, ◌++◌, ℕ, length, drop, replicate, List, false, true, OnOk, OnErr, IfOk, IfSome, IfNone};
+ghost use Rattle.std.specs.Prelude.{◌≡◌, ◌+◌, ◌*◌, ◌<◌, ◌≤◌, ◌++◌, ℕ, length, drop, replicate, List, OnOk, IfOk, IfSome, IfNone};
 ghost use Rattle.std.specs.String.{string_bytes, string_capacity};
 ghost use Rattle.std.specs.Str.{chars};
 ghost use Rattle.simd_cesu8.specs.Text.{utf8};
@@ -17,6 +17,7 @@ ghost use Rattle.simd_cesu8.specs.Reading.{IsStrictReading, HasNoStrictReading, 
 ghost use Rattle.simd_cesu8.specs.Fault.{OnInvalid};
 ghost use Rattle.simd_cesu8.specs.Internal.{flavor_of, IsDecodedText};
 ghost use Rattle.simd_cesu8.specs.Pieces.{IsPiece, IsReadSoFar, HasFault};
+ghost use Rattle.simd_cesu8.specs.declared.internal.Strictness.TheVariants.{Strict};
 
 mod appending;
 mod by_places;
@@ -36,7 +37,7 @@ use super::joining::{ROOM_LEN, Room};
 use super::null_form::{OneByteNull, TwoByteNull};
 use super::window::read_window;
 use super::writers::{copy_text, exactly};
-use super::{DecodeOptions, Flavor};
+use super::{DecodeOptions, Flavor, Strictness};
 use crate::error::{DecodeFault, DecodingError};
 use appending::{append, append_in, append_small, append_window};
 use by_places::read_by_places;
@@ -95,7 +96,7 @@ pub fn decode_strict<A: Allocator>(
 {
     let options = DecodeOptions {
         flavor,
-        lossy: false,
+        strictness: Strictness::Strict,
     };
     let mut text = String::with_capacity(alloc, bytes.len()).map_err(DecodeFault::Memory)?;
     read_text(options, bytes, &mut text)?;
@@ -139,7 +140,7 @@ pub fn decode_lossy<A: Allocator>(
     }
     let options = DecodeOptions {
         flavor,
-        lossy: true,
+        strictness: Strictness::Lossy,
     };
     let len = lossy_len(flavor, bytes).ok_or(AllocError)?;
     let mut text = String::with_capacity(alloc, len)?;
@@ -190,7 +191,7 @@ fn read_text<A: Allocator>(
     out: &mut String<A>,
 ) -> Result<(), DecodeFault>
     ensures ok { OnOk result ((text : List ℕ)
-        × IsDecodedText (flavor_of options.flavor) options.lossy bytes.now text
+        × IsDecodedText (flavor_of options.flavor) options.strictness bytes.now text
         × (string_bytes out.new ≡ string_bytes out.old ++ utf8 text)) }
     ensures invalid { OnInvalid result (HasNoStrictReading (flavor_of options.flavor) bytes.now) }
 {
@@ -210,9 +211,9 @@ fn append_next<'b, A: Allocator>(
 ) -> Result<&'b [u8], DecodeFault>
     requires { 0 < length bytes.now }
     ensures less { IfOk result (λ rest. length rest.now < length bytes.now) }
-    ensures ok { IfOk result (λ rest. IsReadSoFar (flavor_of options.flavor) options.lossy
+    ensures ok { IfOk result (λ rest. IsReadSoFar (flavor_of options.flavor) options.strictness
         bytes.now rest.now (string_bytes out.old) (string_bytes out.new)) }
-    ensures invalid { OnInvalid result ((options.lossy ≡ false)
+    ensures invalid { OnInvalid result ((options.strictness ≡ Strict)
         × HasFault (flavor_of options.flavor) bytes.now) }
 {
     if bytes.len() <= SMALL {
@@ -230,13 +231,16 @@ fn append_long<'b, A: Allocator>(
 ) -> Result<&'b [u8], DecodeFault>
     requires { SMALL < length bytes.now }
     ensures less { IfOk result (λ rest. length rest.now < length bytes.now) }
-    ensures ok { IfOk result (λ rest. IsReadSoFar (flavor_of options.flavor) options.lossy
+    ensures ok { IfOk result (λ rest. IsReadSoFar (flavor_of options.flavor) options.strictness
         bytes.now rest.now (string_bytes out.old) (string_bytes out.new)) }
-    ensures invalid { OnInvalid result ((options.lossy ≡ false)
+    ensures invalid { OnInvalid result ((options.strictness ≡ Strict)
         × HasFault (flavor_of options.flavor) bytes.now) }
 {
     let mut room = [0; ROOM_LEN];
-    let mut most = if options.lossy { WINDOW } else { FIRST };
+    let mut most = match options.strictness {
+        Strictness::Strict => FIRST,
+        Strictness::Lossy => WINDOW,
+    };
     let mut rest = bytes;
     while rest.len() > SMALL {
         rest = read_windows(options, rest, most, &mut room, out)?;
@@ -256,9 +260,9 @@ fn read_windows<'b, A: Allocator>(
 ) -> Result<&'b [u8], DecodeFault>
     requires { SMALL < length bytes.now }
     ensures less { IfOk result (λ rest. length rest.now < length bytes.now) }
-    ensures ok { IfOk result (λ rest. IsReadSoFar (flavor_of options.flavor) options.lossy
+    ensures ok { IfOk result (λ rest. IsReadSoFar (flavor_of options.flavor) options.strictness
         bytes.now rest.now (string_bytes out.old) (string_bytes out.new)) }
-    ensures invalid { OnInvalid result ((options.lossy ≡ false)
+    ensures invalid { OnInvalid result ((options.strictness ≡ Strict)
         × HasFault (flavor_of options.flavor) bytes.now) }
 {
     if let Some(piece) = read_window(options.flavor, bytes, most, room) {
@@ -281,9 +285,9 @@ fn append_windows<'b, A: Allocator>(
 ) -> Result<&'b [u8], DecodeFault>
     requires { 0 < length bytes.now }
     ensures less { IfOk result (λ rest. length rest.now < length bytes.now) }
-    ensures ok { IfOk result (λ rest. IsReadSoFar (flavor_of options.flavor) options.lossy
+    ensures ok { IfOk result (λ rest. IsReadSoFar (flavor_of options.flavor) options.strictness
         bytes.now rest.now (string_bytes out.old) (string_bytes out.new)) }
-    ensures invalid { OnInvalid result ((options.lossy ≡ false)
+    ensures invalid { OnInvalid result ((options.strictness ≡ Strict)
         × HasFault (flavor_of options.flavor) bytes.now) }
 {
     let mut written = [0; WRITTEN_ROOM];

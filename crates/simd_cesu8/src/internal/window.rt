@@ -1,10 +1,11 @@
 //! Windows: some bytes are joined into a buffer, and returned as a text if the result is UTF-8.
 
-ghost use Rattle.std.specs.Prelude.{◌+◌, ◌<◌, ◌≤◌, length, take, drop, Bool, IfSome};
+ghost use Rattle.std.specs.Prelude.{◌+◌, ◌<◌, ◌≤◌, length, take, drop, IfSome};
 ghost use Rattle.simd_cesu8.specs.Encoding.{Flavor as AnyFlavor};
 ghost use Rattle.simd_cesu8.specs.Internal.{flavor_of};
 ghost use Rattle.simd_cesu8.specs.Joining.{IsJoined};
 ghost use Rattle.simd_cesu8.specs.Pieces.{IsPiece};
+ghost use Rattle.simd_cesu8.specs.declared.internal.Strictness.{Strictness};
 
 use super::joining::{MOST, PAIR, REACH, Room, Step, WINDOW, join};
 use super::{Flavor, contains_changed, is_continuation};
@@ -34,7 +35,7 @@ pub fn read_window<'a>(
 ) -> Option<Piece<'a>>
     requires { TOO_FEW < length bytes.now }
     ensures within { IfSome result (λ piece. (0 < piece.read) × (piece.read ≤ length bytes.now)) }
-    ensures text { IfSome result (λ piece. (lossy : Bool) → IsPiece (flavor_of flavor) lossy
+    ensures text { IfSome result (λ piece. (which : Strictness) → IsPiece (flavor_of flavor) which
         bytes.now (drop piece.read bytes.now) piece.text.now) }
 {
     let Step { read, written } = join_window(flavor, bytes, len, room);

@@ -1,10 +1,11 @@
 //! Appends the text of a window by places, in buffers of its size.
 
-ghost use Rattle.std.specs.Prelude.{◌≡◌, ◌+◌, ◌*◌, ◌<◌, ◌≤◌, ◌++◌, length, replicate, false, OnOk, IfOk};
+ghost use Rattle.std.specs.Prelude.{◌≡◌, ◌+◌, ◌*◌, ◌<◌, ◌≤◌, ◌++◌, length, replicate, OnOk, IfOk};
 ghost use Rattle.std.specs.String.{string_bytes};
 ghost use Rattle.simd_cesu8.specs.Fault.{OnInvalid};
 ghost use Rattle.simd_cesu8.specs.Internal.{flavor_of};
 ghost use Rattle.simd_cesu8.specs.Pieces.{IsReadSoFar, HasFault};
+ghost use Rattle.simd_cesu8.specs.declared.internal.Strictness.TheVariants.{Strict};
 
 use super::by_places::read_by_places;
 use super::packing::WIDEST;
@@ -14,7 +15,7 @@ use super::{
     SMALL_WRITTEN_ROOM, WRITTEN_ROOM,
 };
 use crate::error::{DecodeFault, DecodingError};
-use crate::internal::DecodeOptions;
+use crate::internal::{DecodeOptions, Strictness};
 use std::alloc::Allocator;
 
 /// Appends the text of one small window, and returns the bytes that are left.
@@ -25,9 +26,9 @@ pub fn append_small<'b, A: Allocator>(
 ) -> Result<&'b [u8], DecodeFault>
     requires { 0 < length bytes.now }
     ensures less { IfOk result (λ rest. length rest.now < length bytes.now) }
-    ensures ok { IfOk result (λ rest. IsReadSoFar (flavor_of options.flavor) options.lossy
+    ensures ok { IfOk result (λ rest. IsReadSoFar (flavor_of options.flavor) options.strictness
         bytes.now rest.now (string_bytes out.old) (string_bytes out.new)) }
-    ensures invalid { OnInvalid result ((options.lossy ≡ false)
+    ensures invalid { OnInvalid result ((options.strictness ≡ Strict)
         × HasFault (flavor_of options.flavor) bytes.now) }
 {
     if bytes.len() <= FEWEST {
@@ -50,9 +51,9 @@ pub fn append_in<'b, const LEN: usize, const WRITTEN: usize, A: Allocator>(
     requires window { LEAST ≤ LEN }
     requires written { (WIDEST * LEN ≤ WRITTEN + SPARED) × (WRITTEN ≤ WRITTEN_ROOM) }
     ensures less { IfOk result (λ rest. length rest.now < length bytes.now) }
-    ensures ok { IfOk result (λ rest. IsReadSoFar (flavor_of options.flavor) options.lossy
+    ensures ok { IfOk result (λ rest. IsReadSoFar (flavor_of options.flavor) options.strictness
         bytes.now rest.now (string_bytes out.old) (string_bytes out.new)) }
-    ensures invalid { OnInvalid result ((options.lossy ≡ false)
+    ensures invalid { OnInvalid result ((options.strictness ≡ Strict)
         × HasFault (flavor_of options.flavor) bytes.now) }
 {
     let mut window = [0; LEN];
@@ -74,13 +75,13 @@ pub fn append_window<'b, A: Allocator>(
     requires zeros { window.old ≡ replicate (length window.old) 0 }
     requires written { WIDEST * length window.old ≤ length written.old + SPARED }
     ensures less { IfOk result (λ rest. length rest.now < length bytes.now) }
-    ensures ok { IfOk result (λ rest. IsReadSoFar (flavor_of options.flavor) options.lossy
+    ensures ok { IfOk result (λ rest. IsReadSoFar (flavor_of options.flavor) options.strictness
         bytes.now rest.now (string_bytes out.old) (string_bytes out.new)) }
-    ensures invalid { OnInvalid result ((options.lossy ≡ false)
+    ensures invalid { OnInvalid result ((options.strictness ≡ Strict)
         × HasFault (flavor_of options.flavor) bytes.now) }
 {
     let read = read_by_places(options.flavor, bytes, window, written);
-    if read.is_damaged && !options.lossy {
+    if read.is_damaged && matches!(options.strictness, Strictness::Strict) {
         return Err(DecodeFault::Invalid(DecodingError(())));
     }
     append(read.text, out)?;

@@ -4,6 +4,7 @@ ghost use Rattle.std.specs.Prelude.{◌≡◌, ◌+◌, ◌*◌, ◌<◌, ◌≤
 ghost use Rattle.std.specs.Str.{IsUtf8};
 ghost use Rattle.simd_cesu8.specs.Internal.{flavor_of};
 ghost use Rattle.simd_cesu8.specs.Pieces.{IsPiece, HasFault};
+ghost use Rattle.simd_cesu8.specs.declared.internal.Strictness.TheVariants.{Strict, Lossy};
 
 use super::packing::WIDEST;
 use super::windows::{AROUND, Decoded, LEAST, SPARED, write_window};
@@ -40,9 +41,9 @@ pub fn read_by_places<'a>(
     ensures some { 0 < length bytes.now → 0 < result.len }
     ensures within { result.len ≤ length bytes.now }
     ensures all { length bytes.now + AROUND ≤ length window.old → result.len ≡ length bytes.now }
-    ensures lossy { IsPiece (flavor_of flavor) true bytes.now
+    ensures lossy { IsPiece (flavor_of flavor) Lossy bytes.now
         (drop result.len bytes.now) result.text.now }
-    ensures strict { result.is_damaged ≡ false → IsPiece (flavor_of flavor) false bytes.now
+    ensures strict { result.is_damaged ≡ false → IsPiece (flavor_of flavor) Strict bytes.now
         (drop result.len bytes.now) result.text.now }
     ensures damaged { result.is_damaged ≡ true → HasFault (flavor_of flavor) bytes.now }
 {
@@ -96,9 +97,9 @@ pub fn write_in_flavor(
     ensures within { result.read ≤ length bytes.now }
     ensures all { length bytes.now + AROUND ≤ length window.old → result.read ≡ length bytes.now }
     ensures end { result.end + TESTED ≤ length written.new }
-    ensures lossy { IsPiece (flavor_of flavor) true bytes.now
+    ensures lossy { IsPiece (flavor_of flavor) Lossy bytes.now
         (drop result.read bytes.now) (take result.end written.new) }
-    ensures strict { result.is_damaged ≡ false → IsPiece (flavor_of flavor) false bytes.now
+    ensures strict { result.is_damaged ≡ false → IsPiece (flavor_of flavor) Strict bytes.now
         (drop result.read bytes.now) (take result.end written.new) }
     ensures damaged { result.is_damaged ≡ true → HasFault (flavor_of flavor) bytes.now }
 {

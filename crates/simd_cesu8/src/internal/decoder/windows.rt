@@ -7,6 +7,7 @@ ghost use Rattle.simd_cesu8.specs.DecodedPlaces.{IsPadded, decoded, is_damaged_a
 ghost use Rattle.simd_cesu8.specs.DecodedLanes.{AreFiveCodes};
 ghost use Rattle.simd_cesu8.specs.DecodedWindows.{IsRead};
 ghost use Rattle.simd_cesu8.specs.Pieces.{IsPiece, HasFault};
+ghost use Rattle.simd_cesu8.specs.declared.internal.Strictness.TheVariants.{Strict, Lossy};
 
 use super::packing::{ROOM, WIDEST};
 use super::parts::write_block;
@@ -50,9 +51,9 @@ pub fn write_window<N: NullForm>(bytes: &[u8], window: &mut [u8], out: &mut [u8]
     ensures within { result.read ≤ length bytes.now }
     ensures all { length bytes.now + AROUND ≤ length window.old → result.read ≡ length bytes.now }
     ensures end { result.end + LEFT ≤ length out.new }
-    ensures lossy { IsPiece N.flavor true bytes.now
+    ensures lossy { IsPiece N.flavor Lossy bytes.now
         (drop result.read bytes.now) (take result.end out.new) }
-    ensures strict { result.is_damaged ≡ false → IsPiece N.flavor false bytes.now
+    ensures strict { result.is_damaged ≡ false → IsPiece N.flavor Strict bytes.now
         (drop result.read bytes.now) (take result.end out.new) }
     ensures damaged { result.is_damaged ≡ true → HasFault N.flavor bytes.now }
 {

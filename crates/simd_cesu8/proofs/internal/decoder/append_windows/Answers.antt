@@ -7,7 +7,7 @@ use Rattle.simd_cesu8.proofs.internal.decoder.append_windows.Goals as goal
 
 pub loop-windows-init : goal.loop-windows-init
 loop-windows-init g c = record {
-  so_far = nothing_read (flavor_of c.args.options.flavor) c.args.options.lossy c.args.bytes.now (string_bytes c.args.out.now);
+  so_far = nothing_read (flavor_of c.args.options.flavor) c.args.options.strictness c.args.bytes.now (string_bytes c.args.out.now);
   within = omega arith;
   first = λ _. refl;
   less = λ some. omega arith;
@@ -15,7 +15,7 @@ loop-windows-init g c = record {
 
 pub loop-windows-preserved : goal.loop-windows-preserved
 loop-windows-preserved g c = record {
-  so_far = more_read (flavor_of c.args.options.flavor) c.args.options.lossy c.args.bytes.now c.loop-windows.rest.now _ _ _ _
+  so_far = more_read (flavor_of c.args.options.flavor) c.args.options.strictness c.args.bytes.now c.loop-windows.rest.now _ _ _ _
       c.loop-windows.invariant.so_far c.in_ok-rest.ensures.ok;
   within = omega (arith, c.in_ok-rest.ensures.less);
   first = λ none. absurd (omega arith);
@@ -24,6 +24,6 @@ loop-windows-preserved g c = record {
 
 pub returns-in_err-rest-clause-invalid : goal.returns-in_err-rest-clause-invalid
 returns-in_err-rest-clause-invalid g c =
-    let refused = refused_after (flavor_of c.args.options.flavor) c.args.options.lossy c.args.bytes.now c.loop-windows.rest.now _ _
+    let refused = refused_after (flavor_of c.args.options.flavor) c.args.options.strictness c.args.bytes.now c.loop-windows.rest.now _ _
     c.in_err-rest.field-0.0 c.loop-windows.invariant.so_far c.in_err-rest.ensures.invalid in
     search (rules, refused)

@@ -9,7 +9,7 @@ decreases-loop-windows g l = 4 - l.windows
 
 abbrev pub invariant-loop-windows : goal.invariant-loop-windows
 invariant-loop-windows g l = record {
-  so_far : IsReadSoFar (flavor_of l.options.flavor) l.options.lossy l.fn.bytes l.rest (string_bytes l.initial.out) (string_bytes l.out);
+  so_far : IsReadSoFar (flavor_of l.options.flavor) l.options.strictness l.fn.bytes l.rest (string_bytes l.initial.out) (string_bytes l.out);
   within : length l.rest ≤ length l.fn.bytes;
   first : l.windows ≡ 0 → length l.rest ≡ length l.fn.bytes;
   less : 0 < l.windows → length l.rest < length l.fn.bytes;
