@@ -1,5 +1,5 @@
 -- Where joining left nothing of whole bytes, what is joined is the UTF-8 of their text.
-use Rattle.std.proofs.Common.{◌≡◌, ℕ, suc, ◌+◌, ◌<◌, ◌≤◌, ◌⊎◌, Bool, true, false, eqb, bit_and, List, [], ◌∷◌, ◌++◌, refl, sym, ap, ◌∙◌, subst, inl, inr, arith, length, get_or, take, drop, append_assoc, get_or-drop, add-zero}
+use Rattle.std.proofs.Common.{◌≡◌, ℕ, suc, ◌+◌, ◌<◌, ◌≤◌, ◌⊎◌, true, false, eqb, bit_and, List, [], ◌∷◌, ◌++◌, refl, sym, ap, ◌∙◌, subst, inl, inr, arith, length, get_or, take, drop, append_assoc, get_or-drop, add-zero}
 use Rattle.std.specs.List.{flat_map}
 use Rattle.std.proofs.lemmas.Bool.{agree_below_at, cases_eq, false≢true}
 use Rattle.std.proofs.lemmas.List.{take-append-drop, drop_all}
@@ -9,6 +9,8 @@ use Rattle.simd_cesu8.specs.Reading.{IsStrictReading, reading}
 use Rattle.simd_cesu8.specs.Internal.{IsContinuation}
 use Rattle.simd_cesu8.specs.Joining.{Part, Stays, Changes, AreParts, encoded_part, utf8_part, IsJoined, begins_other, NoneUnjoined}
 use Rattle.simd_cesu8.specs.Pieces.{IsPiece}
+use Rattle.simd_cesu8.specs.declared.internal.Strictness.{Strictness}
+use Rattle.simd_cesu8.specs.declared.internal.Strictness.TheVariants.{Strict}
 use Rattle.simd_cesu8.proofs.text.Shapes.{Shape, one, two, three, pair, shape, IsTwo, IsThree, IsPair, utf8_of_one, utf8_of_two, utf8_of_three}
 use Rattle.simd_cesu8.proofs.encoding.Forms.{encoding_one, encoding_two, encoding_three, encoding_pair, short_form_null, short_form_other}
 use Rattle.simd_cesu8.proofs.encoding.Encodings.{encoding_nil, encoding_cons}
@@ -226,9 +228,9 @@ module _ (f : Flavor) (rest : List ℕ) (start : IsAtStart rest) where
 
 -- A window of whole bytes is read as what it is joined to, if joining left nothing and no
 -- continuation byte follows it,
-pub joined_whole : (f : Flavor) (lossy : Bool) (bytes out : List ℕ) (n : ℕ) → IsStrictReading f bytes (reading f bytes) →
-    IsJoined f (take n bytes) out → IsAtStart (drop n bytes) → NoneUnjoined out → IsPiece f lossy bytes (drop n bytes) out
-joined_whole f lossy bytes out n reads is_joined start none =
+pub joined_whole : (f : Flavor) (which : Strictness) (bytes out : List ℕ) (n : ℕ) → IsStrictReading f bytes (reading f bytes) →
+    IsJoined f (take n bytes) out → IsAtStart (drop n bytes) → NoneUnjoined out → IsPiece f which bytes (drop n bytes) out
+joined_whole f which bytes out n reads is_joined start none =
     let spell = spells_text f (drop n bytes) start (reading f bytes) reads.0 is_joined.parts is_joined.are_parts
     (reads.1 ∙ sym (take-append-drop n bytes) ∙ ap (λ bs. bs ++ drop n bytes) is_joined.bytes_are)
     (subst NoneUnjoined is_joined.out_is none) in
@@ -243,7 +245,7 @@ joined_whole f lossy bytes out n reads is_joined start none =
     }
 
 -- and what follows a piece of whole bytes is whole.
-pub rest_whole : (f : Flavor) (bytes rest piece : List ℕ) → IsStrictReading f bytes (reading f bytes) → IsPiece f false bytes rest piece →
+pub rest_whole : (f : Flavor) (bytes rest piece : List ℕ) → IsStrictReading f bytes (reading f bytes) → IsPiece f Strict bytes rest piece →
     IsStrictReading f rest (reading f rest)
 rest_whole f bytes rest piece reads is_piece =
     let found = after_text f is_piece.text (reading f bytes) rest is_piece.scalars reads.0 (reads.1 ∙ is_piece.strict_reading refl) in

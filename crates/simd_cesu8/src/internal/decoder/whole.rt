@@ -3,11 +3,12 @@
 //! A slice of bytes need not be UTF-8, so none is tested for that. In a window of whole characters,
 //! joining can only leave a surrogate pair or C0 80 as it was, and what begins these shows it.
 
-ghost use Rattle.std.specs.Prelude.{◌≡◌, ◌+◌, ◌<◌, ◌≤◌, length, take, drop, Bool, false, IfSome};
+ghost use Rattle.std.specs.Prelude.{◌≡◌, ◌+◌, ◌<◌, ◌≤◌, length, take, drop, false, IfSome};
 ghost use Rattle.simd_cesu8.specs.Reading.{IsStrictReading, reading, lossy_length};
 ghost use Rattle.simd_cesu8.specs.Internal.{flavor_of};
 ghost use Rattle.simd_cesu8.specs.Joining.{NoneUnjoined, NoneUnjoinedFrom};
 ghost use Rattle.simd_cesu8.specs.Pieces.{IsPiece, IsWrittenSoFar};
+ghost use Rattle.simd_cesu8.specs.declared.internal.Strictness.{Strictness};
 
 use super::WINDOW;
 use super::places::{BLOCK, equal};
@@ -55,8 +56,8 @@ fn join_whole(flavor: Flavor, bytes: &[u8], room: &mut Room) -> Option<Step>
         (reading (flavor_of flavor) bytes.now) }
     ensures within { IfSome result (λ step. (0 < step.read) × (step.read ≤ length bytes.now)
         × (step.written ≤ ROOM_LEN)) }
-    ensures text { IfSome result (λ step. (lossy : Bool) → IsPiece (flavor_of flavor) lossy
-        bytes.now (drop step.read bytes.now) (take step.written room.new)) }
+    ensures text { IfSome result (λ step. (which : Strictness) → IsPiece (flavor_of flavor)
+        which bytes.now (drop step.read bytes.now) (take step.written room.new)) }
 {
     let step = join_window(flavor, bytes, WINDOW, room);
     if step.read == 0 || step.written < TESTED {

@@ -1,6 +1,7 @@
-use Rattle.std.proofs.Common.{false, true, arith}
+use Rattle.std.proofs.Common.{arith}
 use Rattle.std.proofs.lemmas.List.{take_rest}
 use Rattle.simd_cesu8.specs.Internal.{flavor_of}
+use Rattle.simd_cesu8.specs.declared.internal.Strictness.TheVariants.{Strict, Lossy}
 use Rattle.simd_cesu8.proofs.reading.Pieces.{piece_length}
 use Rattle.simd_cesu8.proofs.pieces.WrittenPieces.{nothing_written, piece_put, more_written}
 use Rattle.simd_cesu8.proofs.pieces.WholeJoined.{rest_whole}
@@ -19,7 +20,7 @@ put-end-requires c =
       c.requires.room,
       c.loop-rest.invariant.written.room,
       c.loop-rest.invariant.written.len,
-      piece_length (flavor_of c.args.flavor) c.loop-rest.rest.now _ _ (c.in-Some.ensures.text true),
+      piece_length (flavor_of c.args.flavor) c.loop-rest.rest.now _ _ (c.in-Some.ensures.text Lossy),
     )
 
 pub loop-rest-preserved : goal.loop-rest-preserved
@@ -28,7 +29,7 @@ loop-rest-preserved c =
     rw take_rest (record {
       written = more_written f c.args.bytes.now c.loop-rest.rest.now _ 0 c.loop-rest.end c.put-end.result _ _ _
           c.loop-rest.invariant.written
-          (piece_put f c.loop-rest.rest.now _ _ c.loop-rest.end c.put-end.result _ _ (c.in-Some.ensures.text true)
+          (piece_put f c.loop-rest.rest.now _ _ c.loop-rest.end c.put-end.result _ _ (c.in-Some.ensures.text Lossy)
           c.put-end.ensures.bytes c.put-end.ensures.end c.put-end.ensures.behind c.put-end.ensures.len);
-      whole = rest_whole f c.loop-rest.rest.now _ _ c.loop-rest.invariant.whole (c.in-Some.ensures.text false);
+      whole = rest_whole f c.loop-rest.rest.now _ _ c.loop-rest.invariant.whole (c.in-Some.ensures.text Strict);
     })
