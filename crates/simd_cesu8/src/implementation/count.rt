@@ -95,11 +95,11 @@ fn rest_growth<C: DoubledNulls>(value: &[u8]) -> usize
     growth + end_growth::<C, LANES>(value, left)
 }
 
-/// The same for fewer than 64 bytes: by two vectors of the greatest width that fits, which may
+/// The same for at most 64 bytes: by two vectors of the greatest width that fits, which may
 /// overlap.
 #[inline(always)]
-fn short_growth<C: DoubledNulls>(value: &[u8]) -> usize
-    requires { length value.now < LANES }
+pub fn short_growth<C: DoubledNulls>(value: &[u8]) -> usize
+    requires { length value.now ≤ LANES }
     ensures { result ≡ sum_by (growth_of C.flavor) value.now }
 {
     if value.len() >= 32 {
