@@ -70,7 +70,7 @@ pub piece_utf8 : (f : Flavor) (lossy : Bool) (bytes rest piece : List ℕ) → I
 piece_utf8 f lossy bytes rest piece read = subst IsUtf8 (sym read.written) (IsUtf8_utf8 read.text read.scalars)
 
 -- A fault after a piece is one of the whole,
-pub fault_after : (f : Flavor) (lossy : Bool) (bytes rest old out : List ℕ) → IsReadSoFar f lossy bytes rest old out →
+fault_after : (f : Flavor) (lossy : Bool) (bytes rest old out : List ℕ) → IsReadSoFar f lossy bytes rest old out →
     lossy ≡ false → HasFault f rest → HasFault f bytes
 fault_after f lossy bytes rest old out so_far strict fault = record {
   rest = fault.rest;
