@@ -65,7 +65,7 @@ link_shared() {
         -Wl,--whole-archive "$release/lib/libcesu8.a" -Wl,--no-whole-archive
 }
 
-# A page. What it links to is not in the release, so a link becomes its text: `page FILE`.
+# A page. Most of what it links to is not in the release, so a link becomes its text: `page FILE`.
 page() {
     sed 's/\[\([^]]*\)\]([^)]*)/\1/g' "$top/$1" >"$release/${1##*/}"
 }
@@ -86,7 +86,7 @@ fill cesu8.pc lib/pkgconfig/cesu8.pc
 fill cesu8-config.cmake lib/cmake/cesu8/cesu8-config.cmake
 fill cesu8-config-version.cmake lib/cmake/cesu8/cesu8-config-version.cmake
 fill install.sh install.sh
-for file in docs/C.md docs/PROGRAM.md CHANGELOG.md; do
+for file in docs/C.md docs/PROGRAM.md CHANGELOG.md SECURITY.md; do
     page "$file"
 done
 cp "$top/LICENSE-APACHE" "$top/LICENSE-MIT" "$release"
@@ -100,6 +100,7 @@ commit $commit$changes
 kit $identity
 compiler $compiler
 needs Linux on x86-64-v2, and the GNU C library $needed
+Other pages that these name are in the repository, at this commit.
 BUILT
 
 find "$release" -type f -exec chmod 644 {} +

@@ -263,7 +263,8 @@ fn draw_legend(svg: &mut String, run: &Run) -> fmt::Result {
     );
     text(svg, 12.0, 22.0, "head", &title)?;
     let line = format!(
-        "{}; the faster of these counts; to the left of 1× simd_cesu8 is slower",
+        "{}; the faster of these counts; to the left of 1× simd_cesu8 is slower; \
+         the scale is logarithmic and ends at 16×",
         run.machine
     );
     text(svg, 12.0, 40.0, "row", &line)?;

@@ -78,7 +78,7 @@ path_without_kit() {
 
 look_at_files() {
     local wanted=(BUILT-FROM C.md CHANGELOG.md LICENSE-APACHE LICENSE-MIT
-        LICENSE-percent_encoding LICENSE-simdutf8 PROGRAM.md bin/cesu8_cli
+        LICENSE-percent_encoding LICENSE-simdutf8 PROGRAM.md SECURITY.md bin/cesu8_cli
         examples/keys.c examples/keys.rs include/cesu8.h install.sh
         lib/cmake/cesu8/cesu8-config-version.cmake lib/cmake/cesu8/cesu8-config.cmake
         lib/libcesu8.a "lib/libcesu8.so.$major" lib/pkgconfig/cesu8.pc)

@@ -1,8 +1,9 @@
 // Calls each export of crates/cesu8_static as C does. What comes back it compares with the
 // encodings as the standards give them (UTF-8 by the Unicode Standard, CESU-8 by Unicode Technical
 // Report 26, MUTF-8 by Java's DataInput). The input and the buffer stand once before and once behind
-// a page that no call may touch, and a buffer has each length from 0 to one more than is needed. It
-// prints each call that is wrong, and ends with the counts. The status is 0 where none is wrong.
+// a page that no call may touch. A buffer has each length from 0 to one more than is needed, and for
+// the longest results the first and the last hundred of these. It prints each call that is wrong,
+// and ends with the counts. The status is 0 where none is wrong.
 //
 // With -DNULL_POINTERS an input and a buffer of length 0 are null pointers too.
 

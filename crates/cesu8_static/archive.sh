@@ -5,6 +5,7 @@
 # It proves the crate and the library below it where that is not done. It needs the kit's rt, cc,
 # ar, objcopy and nm.
 set -eu
+unset CDPATH
 
 crate=$(cd "$(dirname "$0")" && pwd)
 # shellcheck source=tests/kit.sh

@@ -13,7 +13,7 @@ use std::alloc::AllocError;
 pub enum RunFault {
     /// The words are no command and flavor. Nothing was read.
     Usage,
-    /// The input is the encoding of no text, or the Java string in it is.
+    /// The input of a command that takes UTF-8 is not UTF-8.
     NotUtf8,
     /// The input is the encoding of no text, or the Java string in it is.
     Invalid(DecodingError),

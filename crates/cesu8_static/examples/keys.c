@@ -17,10 +17,10 @@ static void print(const char *name, const uint8_t *bytes, size_t length)
     printf("\n");
 }
 
-// The key of a text. It has to be freed, and there is none where memory is refused.
+// The key of a text, to be freed, or NULL where memory is refused.
 static uint8_t *key_of(const uint8_t *text, size_t text_length, size_t *key_length)
 {
-    // The length is asked first, which takes no memory. What was read is UTF-8.
+    // The length is asked first. What was read is UTF-8, and there is room, so nothing is refused.
     *key_length = cesu8_encoded_len(text, text_length).length;
     uint8_t *key = malloc(*key_length + 1); // malloc may refuse a block of length 0.
     if (key != NULL && cesu8_encode(text, text_length, key, *key_length).status != CESU8_OK) {
@@ -36,7 +36,7 @@ int main(void)
     size_t left = sizeof file - 1;
     while (left > 0) {
         // No string is longer than this in UTF-8.
-        static uint8_t text[65535];
+        static uint8_t text[CESU8_MAX_JAVA_READ];
         struct cesu8_reading read = cesu8_java_read(rest, left, text, sizeof text);
         if (read.status != CESU8_OK) {
             fprintf(stderr, "status %d at byte %zu\n", read.status, sizeof file - 1 - left);

@@ -1,5 +1,5 @@
-// CESU-8, Modified UTF-8 (MUTF-8) and Java strings with their length in front. docs/C.md tells how
-// to build and link the library, what is proved of it and what is not.
+// CESU-8, Modified UTF-8 (MUTF-8) and Java strings with their length in front. C.md tells how to
+// build and link the library, and what is proved of it.
 #ifndef CESU8_H
 #define CESU8_H
 
@@ -23,7 +23,7 @@ enum cesu8_status {
     CESU8_INVALID = 2,   // The input is the encoding of no text.
     CESU8_TRUNCATED = 3, // Fewer than two bytes, or fewer after them than they count.
     CESU8_TOO_LONG = 4,  // More bytes than a Java string or a size_t can count.
-    CESU8_TOO_SMALL = 5  // The buffer is shorter than the answer.
+    CESU8_TOO_SMALL = 5  // The buffer is shorter than the result.
 };
 
 // The library returns a status in 32 bits.
@@ -31,7 +31,7 @@ typedef char cesu8_status_has_32_bits[sizeof(enum cesu8_status) == sizeof(uint32
 
 struct cesu8_answer {
     enum cesu8_status status;
-    size_t length; // The answer's, in bytes. With CESU8_TOO_SMALL the one it needs, and else 0.
+    size_t length; // The result's, in bytes. With CESU8_TOO_SMALL the one it needs, and else 0.
 };
 
 struct cesu8_decision {
@@ -46,16 +46,17 @@ struct cesu8_reading {
 };
 
 // Every input and every buffer is a pointer and a length in bytes. A pointer may be null where the
-// length is 0. A buffer shares no byte with the input.
+// length is 0, but for the library of one level that `rt lib` builds. A buffer shares no byte with
+// the input.
 //
-// With CESU8_OK the answer stands at the front of the buffer. The bytes behind it, and with any
-// other status the whole buffer, are as before. Nothing is ended by a zero.
+// With CESU8_OK a result of bytes stands at the front of the buffer. The bytes behind it, and with
+// any other status the whole buffer, are as before. No terminating NUL is written.
 //
-// CESU8_TOO_SMALL comes exactly where there is an answer and it is longer than the buffer. A buffer
+// CESU8_TOO_SMALL comes exactly where there is a result and it is longer than the buffer. A buffer
 // of the length that comes with it is enough, so a call with a buffer of length 0 asks how much is
-// needed.
+// needed. It returns CESU8_OK and the length 0 where the result is empty.
 //
-// No call takes memory or keeps anything, so calls may run at once in many threads.
+// No call allocates or keeps anything, so calls may run at once in many threads.
 
 // Lengths of buffers that are always enough, for an input of n bytes.
 #define CESU8_MAX_ENCODED(n) (2 * (size_t)(n))
@@ -89,7 +90,8 @@ struct cesu8_answer cesu8_decode_strict(
 struct cesu8_answer cesu8_mutf8_decode_strict(
     const uint8_t *bytes, size_t bytes_length, uint8_t *buffer, size_t buffer_length);
 
-// Decodes what is UTF-8 as a whole, which stays as it is, or else the encoding, as the calls above.
+// The lenient call: decodes what is UTF-8 as a whole, which stays as it is, or else the encoding,
+// as the calls above.
 struct cesu8_answer cesu8_decode(
     const uint8_t *bytes, size_t bytes_length, uint8_t *buffer, size_t buffer_length);
 struct cesu8_answer cesu8_mutf8_decode(
@@ -102,8 +104,8 @@ struct cesu8_answer cesu8_decode_lossy_strict(
 struct cesu8_answer cesu8_mutf8_decode_lossy_strict(
     const uint8_t *bytes, size_t bytes_length, uint8_t *buffer, size_t buffer_length);
 
-// Decodes what is UTF-8 as a whole, which stays as it is, or else the encoding with damage, as the
-// calls above.
+// The lenient call for damage: decodes what is UTF-8 as a whole, which stays as it is, or else the
+// encoding with damage, as the calls above.
 struct cesu8_answer cesu8_decode_lossy(
     const uint8_t *bytes, size_t bytes_length, uint8_t *buffer, size_t buffer_length);
 struct cesu8_answer cesu8_mutf8_decode_lossy(
@@ -120,8 +122,8 @@ struct cesu8_answer cesu8_java_write(
     const uint8_t *text, size_t text_length, uint8_t *buffer, size_t buffer_length);
 
 // Reads such a string from the front of the input, to UTF-8, and tells how many bytes it takes,
-// also where it is refused or the buffer is too small. The one refuses what is no MUTF-8, and the
-// other reads it with damage, as cesu8_mutf8_decode_lossy_strict does. CESU8_OK, CESU8_TRUNCATED,
+// also with CESU8_INVALID and CESU8_TOO_SMALL. The one refuses what is no MUTF-8, and the other
+// reads it with damage, as cesu8_mutf8_decode_lossy_strict does. CESU8_OK, CESU8_TRUNCATED,
 // CESU8_INVALID (not in the other), CESU8_TOO_SMALL.
 struct cesu8_reading cesu8_java_read(
     const uint8_t *bytes, size_t bytes_length, uint8_t *buffer, size_t buffer_length);

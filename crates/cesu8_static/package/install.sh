@@ -3,6 +3,7 @@
 #   install.sh PREFIX
 # After that, nothing there refers to this folder, and PREFIX can be moved.
 set -eu
+unset CDPATH
 
 if [ $# -ne 1 ]; then
     echo 'usage: install.sh PREFIX' >&2

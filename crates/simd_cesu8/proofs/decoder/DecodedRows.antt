@@ -149,7 +149,7 @@ lanes_parts (suc n) (g ∷ gone) (d ∷ damaged) (b ∷ bytes) e f =
     ∙ sym (append_assoc this (written_lanes (take n gone) (take n damaged) (take n bytes)) (written_lanes (drop n gone) (drop n damaged) (drop n bytes)))
 
 -- what stands behind x, with four bytes written
-abbrev pub AddsFour : (x y lanes : List ℕ) → ℕ → Type 0
+abbrev AddsFour : (x y lanes : List ℕ) → ℕ → Type 0
 AddsFour x y lanes set = (gone damaged : List Bool) → length gone ≡ 4 → length damaged ≡ 4 → set ≡ mask_l (gone ++ damaged) → y ≡ x ++ written gone damaged lanes
 
 module _ (gone damaged bytes : List ℕ) where

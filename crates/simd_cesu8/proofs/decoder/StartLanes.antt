@@ -86,7 +86,7 @@ continuation_lanes bytes long fits =
 abbrev shr : ℕ → ℕ → ℕ
 shr a b = a / 2 ^ b
 
-abbrev pub two_lanes : Flavor → ℕ → List ℕ → List ℕ → List ℕ
+abbrev two_lanes : Flavor → ℕ → List ℕ → List ℕ → List ℕ
 two_lanes f n first second =
     zip2 bit_and (zip2 bit_and (zip2 bit_and (map (λ lane. get_or by_high (lane % 16) 0) (zip2 shr first (replicate n 4)))
     (map (λ lane. get_or by_low (lane % 16) 0) first))
@@ -145,7 +145,7 @@ six f a b d e g h small =
     (with_others (null_at f a b) (two_at a b) (ltb a 0xD0) (eqb a 0xE0) (eqb a 0xED) (leb 0xE0 a) (ltb a 0xF0) (continues b) (fits_three a b)
     (eqb a 0xED) (leb 0xA0 b) (ltb b 0xB0) (continues d) (eqb e 0xED) (leb 0xB0 g) (ltb g 0xC0) (continues h))
 
-abbrev pub start_lanes : ℕ → (two third fourth fifth sixth : List ℕ) → List ℕ
+abbrev start_lanes : ℕ → (two third fourth fifth sixth : List ℕ) → List ℕ
 start_lanes n two third fourth fifth sixth =
     zip2 bit_and two (zip2 bit_or (zip2 bit_and third
     (zip2 bit_or (zip2 bit_and (zip2 bit_and (zip2 bit_and fourth fifth) sixth) (replicate n 0x20)) (replicate n 0x1C))) (replicate n 0x83))

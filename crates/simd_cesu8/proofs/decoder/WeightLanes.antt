@@ -34,7 +34,7 @@ entry table lane = get_or table (lane % 16) 0
 abbrev shr : ℕ → ℕ → ℕ
 shr a b = a / 2 ^ b
 
-abbrev pub weight_vector : (n one : ℕ) (table_low table_high bytes nulls codes : List ℕ) → List ℕ
+abbrev weight_vector : (n one : ℕ) (table_low table_high bytes nulls codes : List ℕ) → List ℕ
 weight_vector n one table_low table_high bytes nulls codes =
     zip2 bit_or (zip2 bit_or
     (sel_l (map (top 7) (zip2 (λ a b. cond (ltb a b) 255 0) (zip2 bit_or bytes nulls) (replicate n 0x80))) (replicate n one) (replicate n 0))

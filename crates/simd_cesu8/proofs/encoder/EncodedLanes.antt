@@ -36,7 +36,7 @@ shl a b = a * 2 ^ b % 2 ^ 8
 abbrev shr : ℕ → ℕ → ℕ
 shr a b = a / 2 ^ b
 
-abbrev pub six_bit_lanes : ℕ → List ℕ → List ℕ → List ℕ
+abbrev six_bit_lanes : ℕ → List ℕ → List ℕ → List ℕ
 six_bit_lanes n bytes next =
     zip2 bit_or (zip2 bit_and (zip2 shl bytes (replicate n 2)) (replicate n 0x3C)) (zip2 bit_and (zip2 shr next (replicate n 4)) (replicate n 3))
 

@@ -57,7 +57,7 @@ from_drop f text i n le = encoded_bytes_agree f (drop (i - 2) text) (0 ∷ 0 ∷
     ap (λ m. get_or (drop (i - 2) text) m 0) here ∙ get_or-drop (i - 2) text k 0 ∙ ap (λ m. get_or (0 ∷ 0 ∷ text) m 0) there)
 
 -- a part up to the end, as the code takes it
-abbrev pub part_from : ℕ → List ℕ → List ℕ
+abbrev part_from : ℕ → List ℕ → List ℕ
 part_from i text = take (length text - i) (drop i text)
 
 whole_part : (i : ℕ) (text : List ℕ) → part_from i text ≡ drop i text

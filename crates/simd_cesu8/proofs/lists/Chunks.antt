@@ -58,11 +58,6 @@ module _ {X : Type 0} (P : X → Type 0) (value : List X) (n : ℕ) (xs : List X
 pub all_left : {X : Type 0} (P : X → Type 0) (value : List X) → Any P value ↔ Any P value
 all_left P value = ((λ p. p), (λ p. p))
 
--- What is answered of what is left is the answer of all.
-pub answer_left : {X : Type 0} (P : X → Type 0) (value rest : List X) (answer : Bool) →
-    IsTrue answer ↔ Any P rest → Any P rest ↔ Any P value → IsTrue answer ↔ Any P value
-answer_left P value rest answer tells same = ((λ t. same.0 (tells.0 t)), (λ p. tells.1 (same.1 p)))
-
 -- Where nothing is left, the answer is no.
 pub nothing_left : {X : Type 0} (P : X → Type 0) (rest : List X) → length rest ≡ 0 → IsTrue false ↔ Any P rest
 nothing_left P rest none = ((λ t. absurd (false≢true t)), (λ h. absurd (omega (arith, none, h.2))))

@@ -6,15 +6,15 @@ use Rattle.std.proofs.lemmas.List.{take-append-drop, drop-drop, take_all}
 use Rattle.simd_cesu8.proofs.lists.Elements.{any_left, any_right, any_append}
 
 -- P holds of an element where it holds of one from a place on.
-pub any_drop : (P : ℕ → Type 0) (n : ℕ) (xs : List ℕ) → Any P (drop n xs) → Any P xs
+any_drop : (P : ℕ → Type 0) (n : ℕ) (xs : List ℕ) → Any P (drop n xs) → Any P xs
 any_drop P n xs any = subst (Any P) (take-append-drop n xs) (any_right P (take n xs) (drop n xs) any)
 
 -- P holds of an element where it holds of one before a place.
-pub any_take : (P : ℕ → Type 0) (n : ℕ) (xs : List ℕ) → Any P (take n xs) → Any P xs
+any_take : (P : ℕ → Type 0) (n : ℕ) (xs : List ℕ) → Any P (take n xs) → Any P xs
 any_take P n xs any = subst (Any P) (take-append-drop n xs) (any_left P (take n xs) (drop n xs) any)
 
 -- P holds of an element from a place on where it holds of one from a later place on.
-pub any_later : (P : ℕ → Type 0) (a b : ℕ) (xs : List ℕ) → a ≤ b → Any P (drop b xs) → Any P (drop a xs)
+any_later : (P : ℕ → Type 0) (a b : ℕ) (xs : List ℕ) → a ≤ b → Any P (drop b xs) → Any P (drop a xs)
 any_later P a b xs order any =
     let place : a + (b - a) ≡ b = omega (arith, order) in
     any_drop P (b - a) (drop a xs) (subst (Any P) (sym (drop-drop (b - a) a xs ∙ ap (λ i. drop i xs) place)) any)

@@ -61,7 +61,7 @@ kept P f keeps (x ∷ xs) (y ∷ ys) e s = ⊎_elim
 abbrev greater : ℕ → ℕ → ℕ
 greater a b = cond (top 7 (below a b)) b a
 
-abbrev pub greater_lanes : List ℕ → List ℕ → List ℕ
+abbrev greater_lanes : List ℕ → List ℕ → List ℕ
 greater_lanes xs ys = sel_l (map (top 7) (zip2 below xs ys)) ys xs
 
 greater_each : (xs ys : List ℕ) → greater_lanes xs ys ≡ zip2 greater xs ys
@@ -85,7 +85,7 @@ lead_in_greater xs ys e s =
 abbrev lesser : ℕ → ℕ → ℕ
 lesser a b = cond (top 7 (below a b)) a b
 
-abbrev pub lesser_lanes : List ℕ → List ℕ → List ℕ
+abbrev lesser_lanes : List ℕ → List ℕ → List ℕ
 lesser_lanes xs ys = sel_l (map (top 7) (zip2 below xs ys)) xs ys
 
 lesser_each : (xs ys : List ℕ) → lesser_lanes xs ys ≡ zip2 lesser xs ys

@@ -90,7 +90,7 @@ pair_is_word a b d e g h more a_byte b_byte d_byte e_byte g_byte h_byte pair =
     masked a b d e g h more a_byte b_byte d_byte e_byte g_byte h_byte ∙ rw (b_top, d_top, g_top, h_top) (omega (arith, pair.lead, pair.ends.1))
 
 -- The word of the UTF-8 that the word of a surrogate pair is joined to.
-abbrev pub joined_word : ℕ → ℕ
+abbrev joined_word : ℕ → ℕ
 joined_word word =
     0x808080F0 + bit_and ((word + 0x100) % 2 ^ 64 / 2 ^ 10) 0x0F07
     + bit_and ((word + 0x100) % 2 ^ 64) 0x30300 * 2 ^ 4 % 2 ^ 64

@@ -133,7 +133,7 @@ fewer_covered f bytes fewer =
 -- ---- what is covered
 
 -- Each place of an encoding is covered.
-pub encoding_covered : (f : Flavor) (text : List ℕ) (i : ℕ) → IsText text → i < length (encoding f text) → IsCovered f (encoding f text) i
+encoding_covered : (f : Flavor) (text : List ℕ) (i : ℕ) → IsText text → i < length (encoding f text) → IsCovered f (encoding f text) i
 encoding_covered f [] i is_text inside = absurd (omega (arith, ap length (encoding_nil f)))
 encoding_covered f (c ∷ text) i is_text inside =
     subst (λ bs. IsCovered f bs i) (sym (encoding_cons f c text))

@@ -9,7 +9,7 @@ abbrev pub Agree : (a b : List ℕ) (i j n : ℕ) → Type 0
 Agree a b i j n = (k : ℕ) → k < n → get_or a (i + k) 0 ≡ get_or b (j + k) 0
 
 -- So they have from later places on.
-pub agree_later : (a b : List ℕ) (i j n s m : ℕ) → s + m ≤ n → Agree a b i j n → Agree a b (i + s) (j + s) m
+agree_later : (a b : List ℕ) (i j n s m : ℕ) → s + m ≤ n → Agree a b i j n → Agree a b (i + s) (j + s) m
 agree_later a b i j n s m fits agree k small =
     let here : i + s + k ≡ i + (s + k) = omega arith in
     let there : j + s + k ≡ j + (s + k) = omega arith in
@@ -19,7 +19,7 @@ first_agrees : (a b : List ℕ) (i j n : ℕ) → 0 < n → Agree a b i j n → 
 first_agrees a b i j n some agree = ap (λ p. get_or a p 0) (sym (add-zero i)) ∙ agree 0 some ∙ ap (λ p. get_or b p 0) (add-zero j)
 
 -- The width at a place rests on six bytes,
-pub width_agrees : (f : Flavor) (a b : List ℕ) (i j : ℕ) → Agree a b i j 6 → width_at f a i ≡ width_at f b j
+width_agrees : (f : Flavor) (a b : List ℕ) (i j : ℕ) → Agree a b i j 6 → width_at f a i ≡ width_at f b j
 width_agrees f a b i j agree =
     (λ k. front_width_by f (first_agrees a b i j 6 (omega arith) agree k) (agree 1 (omega arith) k) (agree 2 (omega arith) k)
     (agree 3 (omega arith) k) (agree 4 (omega arith) k) (agree 5 (omega arith) k))

@@ -7,7 +7,7 @@ use Rattle.simd_cesu8.proofs.text.Shapes.{Shape, one, two, three, pair, shape, u
 use Rattle.simd_cesu8.proofs.StdUtf8.{IsUtf8Of_chars}
 
 -- four continuation bytes in a row
-abbrev pub FourContinue : List ℕ → ℕ → Type 0
+abbrev FourContinue : List ℕ → ℕ → Type 0
 FourContinue bytes i =
     IsContinuation (get_or bytes i 0) × IsContinuation (get_or bytes (suc i) 0)
     × IsContinuation (get_or bytes (suc (suc i)) 0) × IsContinuation (get_or bytes (suc (suc (suc i))) 0)
