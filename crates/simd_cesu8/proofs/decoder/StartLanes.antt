@@ -15,7 +15,7 @@ use Rattle.simd_cesu8.specs.DecodedLanes.{start_code_by, code_of_two, start_code
 use Rattle.simd_cesu8.proofs.lists.Lanes.{map_agree}
 use Rattle.simd_cesu8.proofs.encoder.EncodedLanes.{loaded}
 use Rattle.simd_cesu8.proofs.encoder.EncodedBlocks.{marks_at}
-use Rattle.simd_cesu8.proofs.decoder.StartCodes.{no_start}
+use Rattle.simd_cesu8.proofs.decoder.StartCodes.{no_start, two_decide}
 use Rattle.simd_cesu8.proofs.decoder.FirstLanes.{no_lane, on_range}
 use Rattle.simd_cesu8.proofs.decoder.Codes.{cond_same, and_cond, by_high, by_low, by_next, looked_up}
 
@@ -151,6 +151,13 @@ start_lanes n two third fourth fifth sixth =
     (zip2 bit_or (zip2 bit_and (zip2 bit_and (zip2 bit_and fourth fifth) sixth) (replicate n 0x20)) (replicate n 0x1C))) (replicate n 0x83))
 
 module _ (f : Flavor) (window : List ℕ) (fits : (k : ℕ) → Fits w8 (get_or window k 0)) where
+  all_below : (least at : ℕ) → at + 32 ≤ length window → mask_l (map (leb least) (chunk at 32 window)) ≡ 0 →
+      (i : ℕ) → at ≤ i → i < at + 32 → get_or window i 0 < least
+  all_below least at room none i low inside =
+      let lanes = pick_l-range_with_len 0 window at 32 room in
+      leb-false least (get_or window i 0)
+      (no_lane (λ i. leb least (get_or window i 0)) at 32 (ap (λ l. mask_l (map (leb least) l)) lanes ∙ none) i low inside)
+
   codes_of : (vs : List ℕ) →
       start_lanes (length vs) (map (λ i. code_of_two f (get_or window i 0) (get_or window (i + 1) 0)) vs)
       (map (λ i. mask (continues (get_or window (i + 2) 0))) vs) (map (λ i. mask (eqb (get_or window (i + 3) 0) 0xED)) vs)
@@ -161,36 +168,42 @@ module _ (f : Flavor) (window : List ℕ) (fits : (k : ℕ) → Fits w8 (get_or 
       λ i. six f (get_or window v 0) (get_or window (v + 1) 0) (get_or window (v + 2) 0) (get_or window (v + 3) 0) (get_or window (v + 4) 0)
       (get_or window (v + 5) 0) (fits (v + 4)).fits i ∷ codes_of vs i
 
-  -- The vectors of a block give the codes of its places.
-  module _ (at : ℕ) (room : at + 37 ≤ length window) (two third fourth fifth sixth : List ℕ)
-      (two_is : two ≡ zip2 (code_of_two f) (chunk at 32 window) (chunk (at + 1) 32 window))
-      (third_is : third ≡ map (λ b. mask (continues b)) (chunk (at + 2) 32 window))
-      (fourth_is : fourth ≡ map (λ b. mask (eqb b 0xED)) (chunk (at + 3) 32 window))
-      (fifth_is : fifth ≡ map (λ b. mask (eqb b 0xB0)) (zip2 bit_and (chunk (at + 4) 32 window) (replicate 32 0xF0)))
-      (sixth_is : sixth ≡ map (λ b. mask (continues b)) (chunk (at + 5) 32 window)) where
+  module _ (at : ℕ) (room : at + 37 ≤ length window) (two : List ℕ)
+      (two_is : two ≡ zip2 (code_of_two f) (chunk at 32 window) (chunk (at + 1) 32 window)) where
     two_at_places : two ≡ map (λ i. code_of_two f (get_or window i 0) (get_or window (i + 1) 0)) (range_with_len at 32)
     two_at_places = two_is ∙ zip2_of_maps (code_of_two f) (λ i. get_or window i 0) (λ i. get_or window (i + 1) 0) (range_with_len at 32)
         (sym (pick_l-range_with_len 0 window at 32 (omega arith))) (loaded window at 1 32 (omega arith))
 
-    fifth_by_mask : fifth ≡ map (λ b. mask (eqb (bit_and b 0xF0) 0xB0)) (chunk (at + 4) 32 window)
-    fifth_by_mask = fifth_is
-        ∙ ap (map (λ b. mask (eqb b 0xB0))) (zip2_splat bit_and (chunk (at + 4) 32 window) 32 0xF0 (length-chunk (at + 4) 32 window (omega arith)))
-        ∙ map-map (λ b. mask (eqb b 0xB0)) (λ b. bit_and b 0xF0) (chunk (at + 4) 32 window)
+    -- The vectors of a block give the codes of its places.
+    module _ (third fourth fifth sixth : List ℕ)
+        (third_is : third ≡ map (λ b. mask (continues b)) (chunk (at + 2) 32 window))
+        (fourth_is : fourth ≡ map (λ b. mask (eqb b 0xED)) (chunk (at + 3) 32 window))
+        (fifth_is : fifth ≡ map (λ b. mask (eqb b 0xB0)) (zip2 bit_and (chunk (at + 4) 32 window) (replicate 32 0xF0)))
+        (sixth_is : sixth ≡ map (λ b. mask (continues b)) (chunk (at + 5) 32 window)) where
+      fifth_by_mask : fifth ≡ map (λ b. mask (eqb (bit_and b 0xF0) 0xB0)) (chunk (at + 4) 32 window)
+      fifth_by_mask = fifth_is
+          ∙ ap (map (λ b. mask (eqb b 0xB0))) (zip2_splat bit_and (chunk (at + 4) 32 window) 32 0xF0 (length-chunk (at + 4) 32 window (omega arith)))
+          ∙ map-map (λ b. mask (eqb b 0xB0)) (λ b. bit_and b 0xF0) (chunk (at + 4) 32 window)
 
-    pub starts_are : start_lanes 32 two third fourth fifth sixth ≡ map (start_code f window) (range_with_len at 32)
-    starts_are =
-        rw (
-          two_at_places,
-          marks_at continues window at 2 third (omega arith) third_is,
-          marks_at (λ b. eqb b 0xED) window at 3 fourth (omega arith) fourth_is,
-          marks_at (λ b. eqb (bit_and b 0xF0) 0xB0) window at 4 fifth (omega arith) fifth_by_mask,
-          marks_at continues window at 5 sixth (omega arith) sixth_is,
-        ) (codes_of (range_with_len at 32))
+      pub starts_are : start_lanes 32 two third fourth fifth sixth ≡ map (start_code f window) (range_with_len at 32)
+      starts_are =
+          rw (
+            two_at_places,
+            marks_at continues window at 2 third (omega arith) third_is,
+            marks_at (λ b. eqb b 0xED) window at 3 fourth (omega arith) fourth_is,
+            marks_at (λ b. eqb (bit_and b 0xF0) 0xB0) window at 4 fifth (omega arith) fifth_by_mask,
+            marks_at continues window at 5 sixth (omega arith) sixth_is,
+          ) (codes_of (range_with_len at 32))
 
-  -- Where no byte of a block is C0 or more, the codes are 0.
+    -- Where none of its bytes is E0 or more, the first two of them do.
+    pub two_are_starts : mask_l (map (leb 0xE0) (chunk at 32 window)) ≡ 0 → two ≡ map (start_code f window) (range_with_len at 32)
+    two_are_starts none =
+        two_at_places ∙ on_range _ (start_code f window) at 32
+        (λ i low inside. two_decide f _ _ _ _ _ _ (all_below 0xE0 at (omega arith) none i low inside))
+
+  -- Where none is C0 or more, the codes are 0.
   pub none_start : (at : ℕ) → at + 32 ≤ length window → mask_l (map (leb 0xC0) (chunk at 32 window)) ≡ 0 →
       replicate 32 0 ≡ map (start_code f window) (range_with_len at 32)
   none_start at room none =
-      let lanes = pick_l-range_with_len 0 window at 32 room in
-      on_range (λ i. 0) (start_code f window) at 32 (λ i low inside. sym (no_start f _ _ _ _ _ _
-      (leb-false 0xC0 (get_or window i 0) (no_lane (λ i. leb 0xC0 (get_or window i 0)) at 32 (ap (λ l. mask_l (map (leb 0xC0) l)) lanes ∙ none) i low inside))))
+      on_range (λ i. 0) (start_code f window) at 32
+      (λ i low inside. sym (no_start f _ _ _ _ _ _ (all_below 0xC0 at room none i low inside)))

@@ -77,10 +77,14 @@ pub const BEHIND: usize = 5;
 /// How many bytes decide what begins at the positions of a block.
 pub const REACH: usize = BLOCK + BEHIND;
 
-/// The least byte that begins two bytes or more.
+/// The least byte that begins two bytes or more,
 const LEAD: u8 = 0xC0;
 
-/// Returns the codes of the 32 positions from `at` on. If no byte can lead others, they are zeros.
+/// and three or more.
+const LEAD_OF_THREE: u8 = 0xE0;
+
+/// Returns the codes of the 32 positions from `at` on. If no byte can lead others, they are zeros. If
+/// none can lead two others, two bytes decide.
 #[inline(always)]
 pub fn starts<N: NullForm>(bytes: &[u8], at: usize) -> u8x32
     requires { at + REACH ≤ length bytes.now }
@@ -91,6 +95,10 @@ pub fn starts<N: NullForm>(bytes: &[u8], at: usize) -> u8x32
         return u8x32::splat(0);
     }
     let second = u8x32::from_slice(&bytes[at + 1..]);
+    let two = by_two::<N>(first, second);
+    if first.simd_ge(u8x32::splat(LEAD_OF_THREE)).to_bitmask() == 0 {
+        return two;
+    }
     let third = u8x32::from_slice(&bytes[at + 2..]);
     let fourth = u8x32::from_slice(&bytes[at + 3..]);
     let fifth = u8x32::from_slice(&bytes[at + 4..]);
@@ -100,7 +108,7 @@ pub fn starts<N: NullForm>(bytes: &[u8], at: usize) -> u8x32
         & continuations(sixth)
         & u8x32::splat(PAIR);
     let of_three = continuations(third) & (ends_pair | u8x32::splat(THREE));
-    by_two::<N>(first, second) & (of_three | u8x32::splat(TWO | NULL))
+    two & (of_three | u8x32::splat(TWO | NULL))
 }
 
 /// The codes of the positions around a block: at index `d` those of the positions `5 - d` before
