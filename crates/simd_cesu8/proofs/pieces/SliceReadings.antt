@@ -1,6 +1,7 @@
 -- What a call may say of a text that it writes into a caller's buffer.
-use Rattle.std.proofs.Common.{◌≡◌, ℕ, ◌^◌, ◌<◌, ◌≤◌, ◌↔◌, inl, inr, ⊎_elim, List, refl, sym, ap, ◌∙◌, subst, arith, length, drop, Result, Ok, Err, MatchResult, IsErrAnd}
+use Rattle.std.proofs.Common.{◌≡◌, ℕ, ◌+◌, ◌^◌, ◌<◌, ◌≤◌, ◌↔◌, inl, inr, ⊎_elim, List, [], ◌++◌, refl, sym, ap, ◌∙◌, subst, arith, length, drop, length-drop, Result, Ok, Err, MatchResult, IsErrAnd}
 use Rattle.std.proofs.lemmas.Bool.{false≢true}
+use Rattle.std.proofs.lemmas.List.{drop-drop}
 use Rattle.std.specs.Str.{chars, IsUtf8}
 use Rattle.simd_cesu8.specs.Text.{utf8}
 use Rattle.simd_cesu8.specs.Encoding.{Flavor}
@@ -20,7 +21,7 @@ use Rattle.simd_cesu8.proofs.encoding.Lengths.{length_bounds}
 use Rattle.simd_cesu8.proofs.reading.EncodedTexts.{reading_encoding}
 use Rattle.simd_cesu8.proofs.reading.Borrowing.{unchanged_reading}
 use Rattle.simd_cesu8.proofs.reading.LossyBorrowing.{unchanged_lossy}
-use Rattle.simd_cesu8.proofs.reading.Pieces.{piece_utf8, whole_text}
+use Rattle.simd_cesu8.proofs.reading.Pieces.{more_read, piece_appended, piece_utf8, whole_text}
 
 -- ---- the only text
 
@@ -56,7 +57,18 @@ only_strict_piece f bytes piece n is_piece all =
       utf8_is = (IsUtf8Of_chars piece (piece_utf8 f Strict bytes (drop n bytes) piece is_piece)).1;
     }
 
--- and in lossy reading;
+-- and of those which are two pieces;
+pub only_two_pieces : (f : Flavor) (bytes first second : List ℕ) (n m : ℕ) → IsPiece f Strict bytes (drop n bytes) first →
+    IsPiece f Strict (drop n bytes) (drop m (drop n bytes)) second → n ≤ length bytes → m ≡ length (drop n bytes) →
+    IsOnlyText (IsStrictReading f bytes) (chars (first ++ second)) (first ++ second)
+only_two_pieces f bytes first second n m front back within all =
+    only_strict_piece f bytes (first ++ second) (n + m)
+    (subst (λ rest. IsPiece f Strict bytes rest (first ++ second)) (drop-drop m n bytes)
+    (more_read f Strict bytes (drop n bytes) _ [] first (first ++ second) front
+    (piece_appended f Strict (drop n bytes) _ second first (first ++ second) back refl)))
+    (omega (arith, length-drop n bytes))
+
+-- and in lossy reading that of a piece;
 pub only_lossy_piece : (f : Flavor) (bytes piece : List ℕ) (n : ℕ) → IsPiece f Lossy bytes (drop n bytes) piece → n ≡ length bytes →
     IsOnlyText (λ text. text ≡ reading f bytes) (chars piece) piece
 only_lossy_piece f bytes piece n is_piece all =

@@ -1,5 +1,5 @@
 -- Text that is written into a slice a piece at a time.
-use Rattle.std.proofs.Common.{◌≡◌, ℕ, ◌+◌, ◌-◌, ◌≤◌, List, ◌++◌, refl, sym, ap, ◌∙◌, arith, length, take, drop}
+use Rattle.std.proofs.Common.{◌≡◌, ℕ, ◌+◌, ◌-◌, ◌≤◌, List, ◌++◌, refl, sym, ap, ◌∙◌, arith, length, take, drop, length-append}
 use Rattle.std.proofs.lemmas.List.{take-append-drop, drop-drop}
 use Rattle.simd_cesu8.specs.Text.{utf8}
 use Rattle.simd_cesu8.specs.Encoding.{Flavor}
@@ -38,6 +38,17 @@ stays_behind old new at end later same =
     let place : at + (end - at) ≡ end = omega arith in
     ap (λ n. drop n new) (sym place) ∙ sym (drop-drop (end - at) at new) ∙ ap (drop (end - at)) same
     ∙ drop-drop (end - at) at old ∙ ap (λ n. drop n old) place
+
+-- Two parts that are put one behind the other stand at the front.
+pub two_put : (first second : List ℕ) (at end : ℕ) (old between new : List ℕ) →
+    take at between ≡ first → at ≡ length first → drop at between ≡ drop at old →
+    take end new ≡ take at between ++ second → end ≡ at + length second → drop end new ≡ drop end between →
+    StandsAtFront (first ++ second) end old new
+two_put first second at end old between new put_first at_is behind_first put_second end_is behind_second = (
+  omega (arith, length-append first second),
+  sym (take-append-drop end new) ∙ ap (λ bs. bs ++ drop end new) (put_second ∙ ap (λ bs. bs ++ second) put_first)
+  ∙ ap (λ bs. (first ++ second) ++ bs) (behind_second ∙ stays_behind old between at end (omega arith) behind_first),
+)
 
 -- What is written after what was written so far adds to it.
 pub more_written : (f : Flavor) (bytes rest after : List ℕ) (start at end : ℕ) (old between new : List ℕ) →

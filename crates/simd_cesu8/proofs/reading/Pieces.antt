@@ -72,7 +72,7 @@ pub piece_utf8 : (f : Flavor) (which : Strictness) (bytes rest piece : List ℕ)
 piece_utf8 f which bytes rest piece read = subst IsUtf8 (sym read.written) (IsUtf8_utf8 read.text read.scalars)
 
 -- A fault after a piece is one of the whole,
-fault_after : (f : Flavor) (which : Strictness) (bytes rest old out : List ℕ) → IsReadSoFar f which bytes rest old out →
+pub fault_after : (f : Flavor) (which : Strictness) (bytes rest old out : List ℕ) → IsReadSoFar f which bytes rest old out →
     which ≡ Strict → HasFault f rest → HasFault f bytes
 fault_after f which bytes rest old out so_far strict fault = record {
   rest = fault.rest;

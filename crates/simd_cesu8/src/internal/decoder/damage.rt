@@ -1,16 +1,19 @@
 //! Finds damage before anything is written. No two encoded characters overlap, so they cover all
 //! bytes exactly if their widths sum up to the length of these.
 
-ghost use Rattle.std.specs.Prelude.{◌≡◌, refl, IsTrue, true, false};
+ghost use Rattle.std.specs.Prelude.{◌≡◌, ◌≤◌, length, refl, IsTrue, true, false};
 ghost use Rattle.std.proofs.Common.{arith};
 ghost use Rattle.simd_cesu8.specs.Reading.{IsStrictReading, HasNoStrictReading, reading};
 ghost use Rattle.simd_cesu8.specs.DecodedPlaces.{covered};
 ghost use Rattle.simd_cesu8.specs.Internal.{flavor_of};
 
 use super::places::REACH;
-use super::sums::{Weight, Weights, sum_first, sum_of_few};
+use super::sums::{BLOCKS, Weight, Weights, sum_first, sum_of_few};
 use crate::internal::Flavor;
 use crate::internal::null_form::{NullForm, OneByteNull, TwoByteNull};
+
+/// How many blocks are looked at first, since most input that is no encoding is damaged early.
+const FRONT: usize = 2;
 
 /// Returns whether some byte is in no encoded character.
 pub fn is_damaged(flavor: Flavor, bytes: &[u8]) -> bool
@@ -34,7 +37,7 @@ fn has_damage<N: NullForm>(bytes: &[u8]) -> bool
     let mut covered = 0;
     let mut rest = bytes;
     while rest.len() >= REACH {
-        let (sum, behind) = sum_first::<N, Widths>(rest);
+        let (sum, behind) = sum_first::<N, Widths>(rest, BLOCKS);
         covered += sum;
         if covered < bytes.len() - behind.len() {
             return true;
@@ -42,6 +45,27 @@ fn has_damage<N: NullForm>(bytes: &[u8]) -> bool
         rest = behind;
     }
     covered + sum_of_few::<N, Widths>(rest) < bytes.len()
+}
+
+/// Returns whether a byte among the first ones is in no encoded character.
+pub fn is_damaged_in_front(flavor: Flavor, bytes: &[u8]) -> bool
+    requires { REACH ≤ length bytes.now }
+    ensures { IsTrue result → HasNoStrictReading (flavor_of flavor) bytes.now }
+{
+    match flavor {
+        Flavor::Cesu8 => has_damage_in_front::<OneByteNull>(bytes),
+        Flavor::Mutf8 => has_damage_in_front::<TwoByteNull>(bytes),
+    }
+}
+
+/// The same for a form of U+0000.
+#[inline(never)]
+fn has_damage_in_front<N: NullForm>(bytes: &[u8]) -> bool
+    requires { REACH ≤ length bytes.now }
+    ensures { IsTrue result → HasNoStrictReading N.flavor bytes.now }
+{
+    let (covered, behind) = sum_first::<N, Widths>(bytes, FRONT);
+    covered < bytes.len() - behind.len()
 }
 
 /// How many bytes the character has that begins at a position.

@@ -7,7 +7,7 @@ ghost use Rattle.simd_cesu8.specs.Reading.{lossy_length};
 ghost use Rattle.simd_cesu8.specs.DecodedPlaces.{saved, total_weight};
 
 use super::places::REACH;
-use super::sums::{Weight, Weights, sum_first, sum_of_few};
+use super::sums::{BLOCKS, Weight, Weights, sum_first, sum_of_few};
 use crate::internal::null_form::NullForm;
 
 /// Returns the length of the lossy reading, if it fits `usize`.
@@ -26,7 +26,7 @@ fn saved<N: NullForm>(bytes: &[u8]) -> u128
     let mut saved = 0;
     let mut rest = bytes;
     while rest.len() >= REACH {
-        let (sum, behind) = sum_first::<N, Savings>(rest);
+        let (sum, behind) = sum_first::<N, Savings>(rest, BLOCKS);
         saved += sum as u128;
         rest = behind;
     }

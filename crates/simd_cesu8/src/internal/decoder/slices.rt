@@ -13,7 +13,7 @@ ghost use Rattle.simd_cesu8.specs.Pieces.{IsWrittenSoFar};
 ghost use Rattle.simd_cesu8.specs.Slices.{StandsAtFront, WritesAnswer, WritesReading, WritesLossyReading};
 
 use super::by_places::write_in_flavor;
-use super::damage::is_damaged;
+use super::damage::{is_damaged, is_damaged_in_front};
 use super::packing::WIDEST;
 use super::whole::write_joined;
 use super::windows::{AROUND, LEAST, SPARED};
@@ -25,7 +25,7 @@ use crate::error::{DecodeSliceFault, DecodingError, LossySliceFault, TooShort};
 use crate::internal::Flavor;
 use crate::internal::joining::{ROOM_LEN, Room};
 use crate::internal::window::{TOO_FEW, read_window};
-use crate::internal::writers::{copy_to_slice, put};
+use crate::internal::writers::{copy_to_slice, copy_two_to_slice, put};
 
 /// Writes the strict reading of the bytes to a caller's buffer, if it fits.
 #[inline(never)]
@@ -46,6 +46,54 @@ pub fn decode_strict_to_slice(
     if bytes.len() <= SMALL {
         return strict_in::<SMALL_ROOM, SMALL_WRITTEN_ROOM>(flavor, bytes, buf);
     }
+    if is_damaged_in_front(flavor, bytes) {
+        return Err(DecodeSliceFault::Invalid(DecodingError(())));
+    }
+    if bytes.len() <= WINDOW {
+        return strict_by_window(flavor, bytes, buf);
+    }
+    strict_by_sums(flavor, bytes, buf)
+}
+
+/// The same for bytes of which one window joins all but a few. It is joined and tested on the stack,
+/// so no pass looks for damage first.
+#[inline(never)]
+fn strict_by_window(
+    flavor: Flavor,
+    bytes: &[u8],
+    buf: &mut [u8],
+) -> Result<usize, DecodeSliceFault>
+    requires { TOO_FEW < length bytes.now }
+    ensures { WritesReading (λ text. IsStrictReading (flavor_of flavor) bytes.now text)
+        result buf.old buf.new }
+{
+    let mut room = [0; ROOM_LEN];
+    let Some(piece) = read_window(flavor, bytes, WINDOW, &mut room) else {
+        return strict_by_sums(flavor, bytes, buf);
+    };
+    let rest = &bytes[piece.read..];
+    if rest.len() > FEW {
+        return strict_by_sums(flavor, bytes, buf);
+    }
+    let mut window = [0; FEW_ROOM];
+    let mut written = [0; FEW_WRITTEN_ROOM];
+    let decoded = write_in_flavor(flavor, rest, &mut window, &mut written);
+    if decoded.is_damaged {
+        return Err(DecodeSliceFault::Invalid(DecodingError(())));
+    }
+    copy_two_to_slice(piece.text.as_bytes(), &written[..decoded.end], buf)
+        .map_err(DecodeSliceFault::TooShort)
+}
+
+/// The same for any bytes: a first pass finds whether they are damaged.
+fn strict_by_sums(
+    flavor: Flavor,
+    bytes: &[u8],
+    buf: &mut [u8],
+) -> Result<usize, DecodeSliceFault>
+    ensures { WritesReading (λ text. IsStrictReading (flavor_of flavor) bytes.now text)
+        result buf.old buf.new }
+{
     if is_damaged(flavor, bytes) {
         return Err(DecodeSliceFault::Invalid(DecodingError(())));
     }

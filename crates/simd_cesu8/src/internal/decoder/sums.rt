@@ -35,17 +35,19 @@ pub struct Weights {
 }
 
 /// The most blocks of 32 positions that each lane sums up: a position weighs at most 14.
-const BLOCKS: usize = 16;
+pub const BLOCKS: usize = 16;
 
-/// Returns the weight of the first positions, and the bytes from the next position on.
+/// Returns the weight of the first positions, of at most so many blocks, and the bytes from the next
+/// position on.
 #[inline(always)]
-pub fn sum_first<N: NullForm, W: Weight>(bytes: &[u8]) -> (usize, &[u8])
-    requires { REACH ≤ length bytes.now }
+pub fn sum_first<N: NullForm, W: Weight>(bytes: &[u8], most: usize) -> (usize, &[u8])
+    requires bytes { REACH ≤ length bytes.now }
+    requires blocks { (0 < most) × (most ≤ BLOCKS) }
     ensures less { length result.1.now < length bytes.now }
     ensures sum { result.0 + total_weight W.weight N.flavor result.1.now
         ≡ total_weight W.weight N.flavor bytes.now }
 {
-    let count = ((bytes.len() - BEHIND) / 32).min(BLOCKS);
+    let count = ((bytes.len() - BEHIND) / 32).min(most);
     (sum_of_blocks::<N, W>(bytes, count), &bytes[32 * count..])
 }
 

@@ -1,20 +1,9 @@
-use Rattle.simd_cesu8.specs.Reading.{IsStrictReading, reading}
+use Rattle.simd_cesu8.specs.Reading.{IsStrictReading}
 use Rattle.simd_cesu8.specs.Internal.{flavor_of}
-use Rattle.simd_cesu8.proofs.pieces.SliceReadings.{only_strict, strict_no_longer, refused, text_written}
+use Rattle.simd_cesu8.proofs.pieces.SliceReadings.{refused}
 use Rattle.simd_cesu8.proofs.internal.decoder.slices.decode_strict_to_slice.Goals as goal
 
-pub returns-then-is_damaged : goal.returns-then-is_damaged
-returns-then-is_damaged c =
+pub returns-then-is_damaged_in_front : goal.returns-then-is_damaged_in_front
+returns-then-is_damaged_in_front c =
     refused (IsStrictReading (flavor_of c.args.flavor) c.args.bytes.now) _ c.args.buf.now
-    (c.is_damaged.ensures.damaged c.if-is_damaged.true)
-
-pub write_whole-requires-clause-shorter : goal.write_whole-requires-clause-shorter
-write_whole-requires-clause-shorter c =
-    strict_no_longer (flavor_of c.args.flavor) c.args.bytes.now (c.is_damaged.ensures.whole c.if-is_damaged.false)
-
-pub returns : goal.returns
-returns c =
-    let f = flavor_of c.args.flavor in
-    text_written (IsStrictReading f c.args.bytes.now) _ _ c.write_whole.result c.map_err.result c.args.buf.now c.write_whole.new.buf
-    (only_strict f c.args.bytes.now (reading f c.args.bytes.now) (c.is_damaged.ensures.whole c.if-is_damaged.false))
-    c.map_err.ensures.cases c.write_whole.ensures
+    (c.is_damaged_in_front.ensures c.if-is_damaged_in_front.true)
