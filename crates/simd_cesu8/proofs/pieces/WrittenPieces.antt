@@ -47,7 +47,7 @@ pub two_put : (first second : List ℕ) (at end : ℕ) (old between new : List �
 two_put first second at end old between new put_first at_is behind_first put_second end_is behind_second = (
   omega (arith, length-append first second),
   sym (take-append-drop end new) ∙ ap (λ bs. bs ++ drop end new) (put_second ∙ ap (λ bs. bs ++ second) put_first)
-  ∙ ap (λ bs. (first ++ second) ++ bs) (behind_second ∙ stays_behind old between at end (omega arith) behind_first),
+      ∙ ap (λ bs. (first ++ second) ++ bs) (behind_second ∙ stays_behind old between at end (omega arith) behind_first),
 )
 
 -- What is written after what was written so far adds to it.

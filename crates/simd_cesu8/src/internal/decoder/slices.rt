@@ -58,11 +58,7 @@ pub fn decode_strict_to_slice(
 /// The same for bytes of which one window joins all but a few. It is joined and tested on the stack,
 /// so no pass looks for damage first.
 #[inline(never)]
-fn strict_by_window(
-    flavor: Flavor,
-    bytes: &[u8],
-    buf: &mut [u8],
-) -> Result<usize, DecodeSliceFault>
+fn strict_by_window(flavor: Flavor, bytes: &[u8], buf: &mut [u8]) -> Result<usize, DecodeSliceFault>
     requires { TOO_FEW < length bytes.now }
     ensures { WritesReading (λ text. IsStrictReading (flavor_of flavor) bytes.now text)
         result buf.old buf.new }
@@ -81,16 +77,13 @@ fn strict_by_window(
     if decoded.is_damaged {
         return Err(DecodeSliceFault::Invalid(DecodingError(())));
     }
-    copy_two_to_slice(piece.text.as_bytes(), &written[..decoded.end], buf)
-        .map_err(DecodeSliceFault::TooShort)
+    copy_two_to_slice(piece.text.as_bytes(), &written[..decoded.end], buf).map_err(
+        DecodeSliceFault::TooShort,
+    )
 }
 
 /// The same for any bytes: a first pass finds whether they are damaged.
-fn strict_by_sums(
-    flavor: Flavor,
-    bytes: &[u8],
-    buf: &mut [u8],
-) -> Result<usize, DecodeSliceFault>
+fn strict_by_sums(flavor: Flavor, bytes: &[u8], buf: &mut [u8]) -> Result<usize, DecodeSliceFault>
     ensures { WritesReading (λ text. IsStrictReading (flavor_of flavor) bytes.now text)
         result buf.old buf.new }
 {
