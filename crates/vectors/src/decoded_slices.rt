@@ -241,7 +241,7 @@ fn short_input_into_each_buffer(rt: HostRuntime) -> Result<(), Fail> {
 /// Where windows begin and end.
 #[test]
 fn long_input_into_buffers(rt: HostRuntime) -> Result<(), Fail> {
-    check_lengths(&rt, rt.alloc(), &[200, 256, 257, 1025, 2050])?;
+    check_lengths(&rt, rt.alloc(), &[200, 256, 257, 1024, 1025, 2050])?;
     Ok(())
 }
 
@@ -289,12 +289,13 @@ fn one_damaged_byte_at_each_offset(rt: HostRuntime) -> Result<(), Fail> {
     Ok(())
 }
 
-/// Characters that cross each border of what is summed up at once.
+/// Characters that cross each border of what is summed up at once, and each number of bytes behind
+/// the last block.
 #[test]
 fn whole_text_across_borders(rt: HostRuntime) -> Result<(), Fail> {
     for fill in WHOLE {
-        for ahead in 0..6 {
-            let bytes = filled(rt.alloc(), fill, 1700, &b"aaaaaa"[..ahead], 0)?;
+        for len in 1700..1732 {
+            let bytes = filled(rt.alloc(), fill, len, &b"aaaaaa"[..len % 6], 0)?;
             check(&rt, rt.alloc(), bytes.as_slice())?;
         }
     }

@@ -1,9 +1,10 @@
 //! Decodes to a caller's buffer, with no request and no test of the result, since a slice of bytes
 //! need not be UTF-8.
 //!
-//! Few bytes are decoded to an array on the stack and copied from there. For more bytes, the first
-//! passes find whether they are damaged and, if needed, how long their text is. Then the text is
-//! written by windows in its final position, as for a `String`.
+//! Few bytes are decoded to an array on the stack and copied from there. In strict reading a window
+//! is joined there. For more bytes, the first passes find whether they are damaged and, if needed,
+//! how long their text is. Then the text is written by windows in its final position, as for a
+//! `String`.
 
 ghost use Rattle.std.specs.Prelude.{◌≡◌, ◌+◌, ◌*◌, ◌<◌, ◌≤◌, [], length, drop, replicate};
 ghost use Rattle.simd_cesu8.specs.Text.{utf8};
