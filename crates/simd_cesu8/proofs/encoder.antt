@@ -1,4 +1,7 @@
--- The encoder by vectors, and counting by vectors.
+-- The encoder of a few bytes, the one by vectors, and counting by vectors.
+pub mod Runs
+pub mod BytesInTurn
+pub mod ComputedPairs
 pub mod RecodedText
 pub mod EncodedLanes
 pub mod EncodedBlocks

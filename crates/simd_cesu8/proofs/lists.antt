@@ -3,6 +3,7 @@ pub mod Elements
 pub mod Walks
 pub mod EightElements
 pub mod Ends
+pub mod Stored
 pub mod Chunks
 pub mod Lanes
 pub mod Classes

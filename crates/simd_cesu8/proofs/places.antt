@@ -8,3 +8,4 @@ pub mod DecodedText
 pub mod Weights
 pub mod Savings
 pub mod Damage
+pub mod CoveredNulls

@@ -1,7 +1,7 @@
 -- The classes of bytes that decide whether UTF-8 has to change.
 use Rattle.std.specs.Prelude.{ℕ, ◌+◌, Bool, IsTrue, nat_le, ◌&&◌, ◌||◌, ◌==◌, if◌then◌else◌, List, Any, IsUtf8}
 use Rattle.simd_cesu8.specs.Encoding.{Flavor, Cesu8, Mutf8}
-use Rattle.simd_cesu8.specs.EncodedPlaces.{is_null}
+use Rattle.simd_cesu8.specs.EncodedPlaces.{is_lead, is_null}
 
 -- F0 to F7 (hexadecimal). In UTF-8, F0 to F4 lead four bytes, and F5 to F7 lead nothing.
 abbrev pub is_four : ℕ → Bool
@@ -24,6 +24,10 @@ is_high b = nat_le 0x80 b
 -- That, or the byte 0.
 abbrev pub is_null_high : ℕ → Bool
 is_null_high b = b == 0 || is_high b
+
+-- F0 (hexadecimal) or more, or the byte 0: of UTF-8, what changes in some flavor.
+abbrev pub is_null_lead : ℕ → Bool
+is_null_lead b = b == 0 || is_lead b
 
 -- The class of a flavor: the bytes of UTF-8 that change in it.
 abbrev pub IsChangedByte : Flavor → ℕ → Type 0

@@ -31,6 +31,12 @@ fn is_sooner_decoded(bytes: &[u8]) -> bool {
 pub fn encode_to_slice(flavor: Flavor, value: &str, buf: &mut [u8]) -> Result<usize, TooShort>
     ensures { WritesAnswer (encoding (flavor_of flavor) (chars value.now)) result buf.old buf.new }
 {
+    if internal::is_few_unchanged(value) {
+        return copy_to_slice(value.as_bytes(), buf);
+    }
+    if internal::is_sooner_by_runs(value) {
+        return internal::encode_few_to_slice(flavor, value, buf);
+    }
     if !needs_encoded(flavor, value) {
         return copy_to_slice(value.as_bytes(), buf);
     }
@@ -48,6 +54,9 @@ pub fn decode_strict_to_slice(
 {
     if is_short_unchanged_ascii(flavor, bytes) {
         return copy_to_slice(bytes, buf).map_err(DecodeSliceFault::TooShort);
+    }
+    if bytes.len() < TESTED_BY_VECTORS && internal::is_sooner_by_characters(bytes) {
+        return internal::decode_few_strict_to_slice(flavor, bytes, buf);
     }
     decode_strict_to_slice_other(flavor, bytes, buf)
 }
@@ -119,6 +128,9 @@ pub fn decode_lossy_strict_to_slice(
 {
     if is_short_unchanged_ascii(flavor, bytes) {
         return copy_to_slice(bytes, buf).map_err(LossySliceFault::TooShort);
+    }
+    if bytes.len() < TESTED_BY_VECTORS && internal::is_sooner_by_characters(bytes) {
+        return internal::decode_few_lossy_to_slice(flavor, bytes, buf);
     }
     decode_lossy_strict_to_slice_other(flavor, bytes, buf)
 }

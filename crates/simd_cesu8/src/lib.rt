@@ -293,6 +293,7 @@ pub fn lossy_len(bytes: &[u8]) -> Option<usize>
 /// assert_eq!(rt; simd_cesu8::encode_to_slice("\u{10400}", &mut buf)?, 6);
 /// assert_eq!(rt; buf.as_slice(), b"\xED\xA0\x81\xED\xB0\x80\xEE\xEE".as_slice());
 /// ```
+#[inline]
 pub fn encode_to_slice(value: &str, buf: &mut [u8]) -> Result<usize, TooShort>
     ensures { WritesAnswer (encoding Cesu8 (chars value.now)) result buf.old buf.new }
 {

@@ -255,6 +255,7 @@ pub fn lossy_len(bytes: &[u8]) -> Option<usize>
 /// assert_eq!(rt; simd_cesu8::mutf8::encode_to_slice("a\0", &mut buf)?, 3);
 /// assert_eq!(rt; buf.as_slice(), b"a\xC0\x80\xEE".as_slice());
 /// ```
+#[inline]
 pub fn encode_to_slice(value: &str, buf: &mut [u8]) -> Result<usize, TooShort>
     ensures { WritesAnswer (encoding Mutf8 (chars value.now)) result buf.old buf.new }
 {

@@ -1,4 +1,4 @@
--- Vectors at the front and at the end of a list, which overlap.
+-- The ends of lists: vectors at the front and at the end, which overlap, and what stays behind a place.
 use Rattle.std.proofs.Common.{◌≡◌, ℕ, Bool, true, false, IsTrue, ◌||◌, ◌+◌, ◌-◌, ◌*◌, ◌≤◌, ◌↔◌, ◌⊎◌, List, length, take, drop, refl, sym, ap, ◌∙◌, subst, inl, inr, ⊎_elim, arith, length-drop}
 use Rattle.std.specs.List.{Any}
 use Rattle.std.proofs.lemmas.Bool.{false≢true}
@@ -50,3 +50,10 @@ ends_tell P n xs front end fits covers f e = (
       (λ p. inr (e.1 (any_in_last P n n xs fits (omega (arith, covers)) p)))
       (any_append P (take n xs) (drop n xs) (subst (Any P) (sym (take-append-drop n xs)) any)))),
 )
+
+-- What stays as it was behind a place does so behind a later one.
+pub stays_behind : (old new : List ℕ) (at end : ℕ) → at ≤ end → drop at new ≡ drop at old → drop end new ≡ drop end old
+stays_behind old new at end later same =
+    let place : at + (end - at) ≡ end = omega arith in
+    ap (λ n. drop n new) (sym place) ∙ sym (drop-drop (end - at) at new) ∙ ap (drop (end - at)) same
+    ∙ drop-drop (end - at) at old ∙ ap (λ n. drop n old) place

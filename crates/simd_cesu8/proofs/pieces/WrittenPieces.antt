@@ -1,12 +1,13 @@
 -- Text that is written into a slice a piece at a time.
-use Rattle.std.proofs.Common.{◌≡◌, ℕ, ◌+◌, ◌-◌, ◌≤◌, List, ◌++◌, refl, sym, ap, ◌∙◌, arith, length, take, drop, length-append}
-use Rattle.std.proofs.lemmas.List.{take-append-drop, drop-drop}
+use Rattle.std.proofs.Common.{◌≡◌, ℕ, ◌+◌, List, ◌++◌, refl, sym, ap, ◌∙◌, arith, length, take, drop, length-append}
+use Rattle.std.proofs.lemmas.List.{take-append-drop}
 use Rattle.simd_cesu8.specs.Text.{utf8}
 use Rattle.simd_cesu8.specs.Encoding.{Flavor}
 use Rattle.simd_cesu8.specs.Reading.{reading, lossy_length}
 use Rattle.simd_cesu8.specs.Pieces.{IsPiece, IsWrittenSoFar}
 use Rattle.simd_cesu8.specs.declared.internal.Strictness.TheVariants.{Lossy}
 use Rattle.simd_cesu8.specs.Slices.{StandsAtFront}
+use Rattle.simd_cesu8.proofs.lists.Ends.{stays_behind}
 use Rattle.simd_cesu8.proofs.reading.Decoding.{nothing_read, all_read, lossy_length_nil}
 use Rattle.simd_cesu8.proofs.reading.Pieces.{more_read, piece_appended, piece_length}
 
@@ -31,13 +32,6 @@ piece_put f bytes rest piece start end old new is_piece put end_is behind len = 
   behind = behind;
   len = len;
 }
-
--- What stays as it was behind a place does so behind a later one.
-stays_behind : (old new : List ℕ) (at end : ℕ) → at ≤ end → drop at new ≡ drop at old → drop end new ≡ drop end old
-stays_behind old new at end later same =
-    let place : at + (end - at) ≡ end = omega arith in
-    ap (λ n. drop n new) (sym place) ∙ sym (drop-drop (end - at) at new) ∙ ap (drop (end - at)) same
-    ∙ drop-drop (end - at) at old ∙ ap (λ n. drop n old) place
 
 -- Two parts that are put one behind the other stand at the front.
 pub two_put : (first second : List ℕ) (at end : ℕ) (old between new : List ℕ) →

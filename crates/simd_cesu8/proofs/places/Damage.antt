@@ -60,8 +60,8 @@ fault_later f c bytes scalar fault =
       none_begins = fault.none_begins;
     }
 
--- a character covers its bytes
-character_covers : (f : Flavor) (c : ℕ) (front rest : List ℕ) → IsScalarValue c → encoding f (c ∷ []) ≡ front →
+-- A character covers its bytes,
+pub character_covers : (f : Flavor) (c : ℕ) (front rest : List ℕ) → IsScalarValue c → encoding f (c ∷ []) ≡ front →
     total_weight covered f (encoding f (c ∷ []) ++ rest) ≡ length front + total_weight covered f rest
 character_covers f c [] rest scalar same =
     let long = length_of_character f c scalar in absurd (omega (arith, long.some, long.fits, ap length same))

@@ -8,7 +8,7 @@ use Rattle.simd_cesu8.specs.DecodedPlaces.{front_width, continues, one_at, null_
 use Rattle.simd_cesu8.proofs.encoding.Patterns.{Pattern, of_one, of_null, of_two, of_three, of_pair, pattern}
 use Rattle.simd_cesu8.proofs.encoding.Found.{BeginsInLengths, found_one, found_null, found_two, found_three, found_pair}
 use Rattle.simd_cesu8.proofs.encoding.Forms.{short_form_other}
-use Rattle.simd_cesu8.proofs.places.FrontWidths.{width_of_front, width_of_none}
+use Rattle.simd_cesu8.proofs.places.FrontWidths.{width_of_front, width_of_none, width_fits}
 
 -- bytes are as long as their last byte that is not 0
 long_by : (bytes : List ℕ) (i : ℕ) → 0 < get_or bytes i 0 → i < length bytes
@@ -25,7 +25,7 @@ by_found f bytes m n found = width_of_front f bytes found.character found.rest f
 
 -- ---- each test tells a character
 
-one_found : (f : Flavor) (bytes : List ℕ) → 0 < length bytes → one_at f (get_or bytes 0 0) ≡ true → front_width f bytes ≡ 1
+pub one_found : (f : Flavor) (bytes : List ℕ) → 0 < length bytes → one_at f (get_or bytes 0 0) ≡ true → front_width f bytes ≡ 1
 one_found Cesu8 bytes some t =
     by_found Cesu8 bytes 1 1 (found_one Cesu8 bytes some (ltb-true (get_or bytes 0 0) 0x80 t) refl)
 one_found Mutf8 bytes some t =
@@ -33,7 +33,7 @@ one_found Mutf8 bytes some t =
     by_found Mutf8 bytes 1 1 (found_one Mutf8 bytes some (ltb-true (get_or bytes 0 0) 0x80 h.1)
     (short_form_other Mutf8 (get_or bytes 0 0) (λ null. omega (arith, leb-true 1 (get_or bytes 0 0) h.0))))
 
-null_found : (f : Flavor) (bytes : List ℕ) → null_at f (get_or bytes 0 0) (get_or bytes 1 0) ≡ true → front_width f bytes ≡ 2
+pub null_found : (f : Flavor) (bytes : List ℕ) → null_at f (get_or bytes 0 0) (get_or bytes 1 0) ≡ true → front_width f bytes ≡ 2
 null_found Cesu8 bytes t = absurd (cc)
 null_found Mutf8 bytes t =
     let h = and_parts (eqb (get_or bytes 0 0) 0xC0) (eqb (get_or bytes 1 0) 0x80) t in
@@ -41,7 +41,7 @@ null_found Mutf8 bytes t =
     let long = long_by bytes 1 (omega arith) in
     by_found Mutf8 bytes 2 1 (found_null Mutf8 bytes refl (omega arith) (eqb-true (get_or bytes 0 0) 0xC0 h.0) second)
 
-two_found : (f : Flavor) (bytes : List ℕ) → two_at (get_or bytes 0 0) (get_or bytes 1 0) ≡ true → front_width f bytes ≡ 2
+pub two_found : (f : Flavor) (bytes : List ℕ) → two_at (get_or bytes 0 0) (get_or bytes 1 0) ≡ true → front_width f bytes ≡ 2
 two_found f bytes t =
     let a = get_or bytes 0 0 in
     let b = get_or bytes 1 0 in
@@ -57,7 +57,7 @@ fits_low a b t e = leb-true 0xA0 b (rw e at t)
 fits_high : (a b : ℕ) → fits_three a b ≡ true → a ≡ 0xED → b < 0xA0
 fits_high a b t e = ltb-true b 0xA0 (rw e at t)
 
-three_found : (f : Flavor) (bytes : List ℕ) → three_at (get_or bytes 0 0) (get_or bytes 1 0) (get_or bytes 2 0) ≡ true → front_width f bytes ≡ 3
+pub three_found : (f : Flavor) (bytes : List ℕ) → three_at (get_or bytes 0 0) (get_or bytes 1 0) (get_or bytes 2 0) ≡ true → front_width f bytes ≡ 3
 three_found f bytes t =
     let a = get_or bytes 0 0 in
     let b = get_or bytes 1 0 in
@@ -71,7 +71,7 @@ three_found f bytes t =
     by_found f bytes 3 3 (found_three f bytes (omega arith) (leb-true 0xE0 a h.0) (ltb-true a 0xF0 h2.0)
     (continuation b h3.0) last (fits_low a b h4.1) (fits_high a b h4.1))
 
-pair_found : (f : Flavor) (bytes : List ℕ) →
+pub pair_found : (f : Flavor) (bytes : List ℕ) →
     pair_at (get_or bytes 0 0) (get_or bytes 1 0) (get_or bytes 2 0) (get_or bytes 3 0) (get_or bytes 4 0) (get_or bytes 5 0) ≡ true →
     front_width f bytes ≡ 6
 pair_found f bytes t =
@@ -129,12 +129,12 @@ pair_test a b d e g h lead b_low b_high d_low d_high second g_low g_high h_low h
     (and_from (ltb g 0xC0) (continues h) (lt-ltb g 0xC0 g_high) (is_continuation h h_low h_high)))))))
 
 -- where all tests fail, none begins the bytes
-record AllFail (f : Flavor) (a b d e g h : ℕ) : Type 0 where
-  one : one_at f a ≡ false
-  null : null_at f a b ≡ false
-  two : two_at a b ≡ false
-  three : three_at a b d ≡ false
-  pair : pair_at a b d e g h ≡ false
+pub record AllFail (f : Flavor) (a b d e g h : ℕ) : Type 0 where
+  pub one : one_at f a ≡ false
+  pub null : null_at f a b ≡ false
+  pub two : two_at a b ≡ false
+  pub three : three_at a b d ≡ false
+  pub pair : pair_at a b d e g h ≡ false
 
 no_pattern : (f : Flavor) (bytes : List ℕ) (c : ℕ) →
     AllFail f (get_or bytes 0 0) (get_or bytes 1 0) (get_or bytes 2 0) (get_or bytes 3 0) (get_or bytes 4 0) (get_or bytes 5 0) →
@@ -165,6 +165,36 @@ no_pattern f bytes c fail (of_pair w x y z digits first second third fourth fift
     both_ways _ fail.pair (pair_test (get_or bytes 0 0) (get_or bytes 1 0) (get_or bytes 2 0) (get_or bytes 3 0) (get_or bytes 4 0) (get_or bytes 5 0)
     first (omega arith) (omega arith) (omega arith) (omega arith) fourth (omega arith) (omega arith) (omega arith) (omega arith))
 
+pub none_found : (f : Flavor) (bytes : List ℕ) →
+    AllFail f (get_or bytes 0 0) (get_or bytes 1 0) (get_or bytes 2 0) (get_or bytes 3 0) (get_or bytes 4 0) (get_or bytes 5 0) →
+    front_width f bytes ≡ 0
+none_found f bytes fail = width_of_none f bytes (λ c rest begins. no_pattern f bytes c fail (pattern f bytes c rest begins))
+
+-- ---- too few bytes
+
+-- One byte is null in no flavor,
+pub no_null : (f : Flavor) (bytes : List ℕ) → length bytes ≤ 1 → null_at f (get_or bytes 0 0) (get_or bytes 1 0) ≡ false
+no_null f bytes few =
+    ⊎_elim (λ t. absurd (omega (arith, null_found f bytes t, width_fits f bytes))) (λ none. none) (cases_Bool (null_at f (get_or bytes 0 0) (get_or bytes 1 0)))
+
+-- nor another character of two bytes,
+pub no_two : (f : Flavor) (bytes : List ℕ) → length bytes ≤ 1 → two_at (get_or bytes 0 0) (get_or bytes 1 0) ≡ false
+no_two f bytes few =
+    ⊎_elim (λ t. absurd (omega (arith, two_found f bytes t, width_fits f bytes))) (λ none. none) (cases_Bool (two_at (get_or bytes 0 0) (get_or bytes 1 0)))
+
+-- two bytes are none of three,
+pub no_three : (f : Flavor) (bytes : List ℕ) → length bytes ≤ 2 → three_at (get_or bytes 0 0) (get_or bytes 1 0) (get_or bytes 2 0) ≡ false
+no_three f bytes few =
+    ⊎_elim (λ t. absurd (omega (arith, three_found f bytes t, width_fits f bytes))) (λ none. none)
+    (cases_Bool (three_at (get_or bytes 0 0) (get_or bytes 1 0) (get_or bytes 2 0)))
+
+-- and five are no surrogate pair.
+pub no_pair : (f : Flavor) (bytes : List ℕ) → length bytes ≤ 5 →
+    pair_at (get_or bytes 0 0) (get_or bytes 1 0) (get_or bytes 2 0) (get_or bytes 3 0) (get_or bytes 4 0) (get_or bytes 5 0) ≡ false
+no_pair f bytes few =
+    ⊎_elim (λ t. absurd (omega (arith, pair_found f bytes t, width_fits f bytes))) (λ none. none)
+    (cases_Bool (pair_at (get_or bytes 0 0) (get_or bytes 1 0) (get_or bytes 2 0) (get_or bytes 3 0) (get_or bytes 4 0) (get_or bytes 5 0)))
+
 -- the first test that passes
 by_tests : (f : Flavor) (a b d e g h n : ℕ) → (one_at f a ≡ true → n ≡ 1) → (null_at f a b ≡ true → n ≡ 2) →
     (two_at a b ≡ true → n ≡ 2) → (three_at a b d ≡ true → n ≡ 3) → (pair_at a b d e g h ≡ true → n ≡ 6) →
@@ -189,4 +219,4 @@ pub width_by_six : (f : Flavor) (bytes : List ℕ) → 0 < length bytes → fron
 width_by_six f bytes some =
     by_tests f (get_or bytes 0 0) (get_or bytes 1 0) (get_or bytes 2 0) (get_or bytes 3 0) (get_or bytes 4 0) (get_or bytes 5 0) (front_width f bytes)
     (one_found f bytes some) (null_found f bytes) (two_found f bytes) (three_found f bytes) (pair_found f bytes)
-    (λ fail. width_of_none f bytes (λ c rest begins. no_pattern f bytes c fail (pattern f bytes c rest begins)))
+    (none_found f bytes)

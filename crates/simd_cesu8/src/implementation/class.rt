@@ -2,7 +2,7 @@
 
 ghost use Rattle.std.specs.Prelude.{◌≡◌, ◌==◌, ◌≤◌, ◌↔◌, ℕ, Bool, false, IsTrue, Any, map};
 ghost use Rattle.std.specs.Simd.Lanes.{mask_l};
-ghost use Rattle.simd_cesu8.specs.Class.{is_four, is_null_four, is_high, is_null_high};
+ghost use Rattle.simd_cesu8.specs.Class.{is_four, is_null_four, is_high, is_null_high, is_null_lead};
 ghost use Rattle.simd_cesu8.specs.EncodedPlaces.{is_lead};
 ghost use Rattle.simd_cesu8.specs.Kernels.{AnyIn, lane};
 
@@ -80,6 +80,9 @@ pub struct NullFour;
 /// F0 (hexadecimal) or more.
 pub struct Lead;
 
+/// 00, or F0 (hexadecimal) or more.
+pub struct NullLead;
+
 /// 80 (hexadecimal) or more: what is not ASCII.
 pub struct High;
 
@@ -152,6 +155,19 @@ impl<const N: usize> InVectors<N> for Lead {
     }
 }
 
+impl Class for NullLead {
+    ghost class = { is_null_lead };
+}
+
+impl<const N: usize> InVectors<N> for NullLead {
+    #[inline(always)]
+    fn marks(bytes: Simd<u8, N>) -> Mask<i8, N>
+        ensures { result ≡ map (λ b. lane (is_null_lead b)) bytes.entry }
+    {
+        Null::marks(bytes) | Lead::marks(bytes)
+    }
+}
+
 impl Class for High {
     ghost class = { is_high };
 }
@@ -189,3 +205,5 @@ impl InAllVectors for NullFour {}
 impl InAllVectors for High {}
 
 impl InAllVectors for NullHigh {}
+
+impl InAllVectors for NullLead {}

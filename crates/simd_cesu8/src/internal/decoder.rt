@@ -6,6 +6,9 @@
 //! branch on a single byte. In strict reading no byte may be damaged. `lengths` adds up the length
 //! of the text.
 //!
+//! A few bytes, or some more that are mostly ASCII, are read one character after another by
+//! `characters`, which takes less time. The rest of this module is for others.
+//!
 //! Longer input is decoded in windows. If the text is whole, joining a window is faster. If joining
 //! yields no text, this window and a few after it are decoded by places.
 
@@ -21,7 +24,9 @@ ghost use Rattle.simd_cesu8.specs.declared.internal.Strictness.TheVariants.{Stri
 
 mod appending;
 mod by_places;
+mod characters;
 mod damage;
+mod few;
 mod lengths;
 mod packing;
 mod parts;
@@ -31,6 +36,7 @@ mod rows_of_eight;
 mod slices;
 mod sums;
 mod whole;
+mod widths;
 mod windows;
 
 use super::joining::{ROOM_LEN, Room};
@@ -40,7 +46,8 @@ use super::writers::{copy_text, exactly};
 use super::{DecodeOptions, Flavor, Strictness};
 use crate::error::{DecodeFault, DecodingError};
 use appending::{append, append_in, append_small, append_window};
-use by_places::read_by_places;
+use by_places::{TESTED, read_by_characters, read_by_places};
+pub use few::{decode_few_lossy_to_slice, decode_few_strict_to_slice, is_sooner_by_characters};
 use packing::WIDEST;
 pub use slices::{decode_lossy_to_slice, decode_strict_to_slice};
 use std::alloc::{AllocError, Allocator};
@@ -75,6 +82,10 @@ const SMALL_WRITTEN_ROOM: usize = WIDEST * SMALL_ROOM - SPARED;
 const FEW_ROOM: usize = FEW + AROUND;
 
 const FEW_WRITTEN_ROOM: usize = WIDEST * FEW_ROOM - SPARED;
+
+const FEW_WRITTEN: usize = WIDEST * FEW;
+
+const FEWEST_WRITTEN: usize = WIDEST * FEWEST;
 
 const FEWEST_ROOM: usize = FEWEST + AROUND;
 
@@ -126,6 +137,9 @@ pub fn decode_lossy<A: Allocator>(
     ensures capacity { IfOk result (λ text.
         string_capacity text ≡ lossy_length (flavor_of flavor) bytes.now) }
 {
+    if is_sooner_by_characters(bytes) {
+        return decode_few(alloc, flavor, bytes);
+    }
     if bytes.len() <= FEWEST {
         return decode_in::<FEWEST_ROOM, FEWEST_WRITTEN_ROOM, A>(alloc, flavor, bytes);
     }
@@ -149,6 +163,20 @@ pub fn decode_lossy<A: Allocator>(
         return Err(AllocError);
     }
     exactly(text, len)
+}
+
+/// Returns the lossy reading of a few bytes, one character after another.
+#[inline(never)]
+fn decode_few<A: Allocator>(alloc: A, flavor: Flavor, bytes: &[u8]) -> Result<String<A>, AllocError>
+    requires { length bytes.now ≤ FEW }
+    ensures text { IfOk result (λ text.
+        chars (string_bytes text) ≡ reading (flavor_of flavor) bytes.now) }
+    ensures capacity { IfOk result (λ text.
+        string_capacity text ≡ lossy_length (flavor_of flavor) bytes.now) }
+{
+    let mut written = [0; FEW_WRITTEN + TESTED];
+    let read = read_by_characters(flavor, bytes, &mut written);
+    copy_text(alloc, read.text)
 }
 
 /// Returns the lossy reading of the bytes of one window, in buffers of these lengths. It is not

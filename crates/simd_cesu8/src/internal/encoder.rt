@@ -1,4 +1,5 @@
-//! The encoder: 32 bytes at a time, by vectors, with no branch on what a byte is.
+//! The encoder: 32 bytes at a time, by vectors, with no branch on what a byte is. `few` encodes up
+//! to 24 bytes, one change after another.
 //!
 //! The two bytes before a byte of UTF-8 and the one after it decide what is written for it. The
 //! four bytes `a b c d` of one character become a surrogate pair, ED and two bytes each:
@@ -14,7 +15,8 @@
 //!
 //! Everything is written to slices. A text of up to 128 bytes is encoded to an array on the stack
 //! and copied from there, which costs less than counting first. A longer one is counted, and
-//! written in its final position.
+//! written in its final position. So are a few bytes, uncounted, in a caller's slice of twice their
+//! length.
 
 ghost use Rattle.std.specs.Prelude.{◌≡◌, ◌+◌, ◌≤◌, ◌++◌, ◌*◌, [], length, take, OnOk, OnErr, IfOk, IsOk, vec_len, vec_capacity};
 ghost use Rattle.std.specs.Str.{chars};
@@ -23,10 +25,13 @@ ghost use Rattle.simd_cesu8.specs.Internal.{flavor_of};
 ghost use Rattle.simd_cesu8.specs.Slices.{WritesAnswer};
 
 mod blocks;
+mod few;
 mod rows;
 mod windows;
 
 use self::blocks::BLOCK;
+pub use self::few::{is_few_unchanged, is_sooner_by_runs};
+use self::few::{FEW, write_few};
 use self::windows::{write_bytes, write_short};
 use super::Flavor;
 use super::lengths::encoded_len;
@@ -42,6 +47,8 @@ const ON_STACK: usize = 128;
 const ON_STACK_ENCODED: usize = 2 * ON_STACK;
 
 const BLOCK_ENCODED: usize = 2 * BLOCK;
+
+const FEW_ENCODED: usize = 2 * FEW;
 
 /// Returns the encoding of a text, after one request for exactly its length. It is inlined, so that
 /// the result is moved only once. What it calls is not inlined: a text that is borrowed then uses
@@ -164,15 +171,33 @@ fn write_text(flavor: Flavor, text: &str, out: &mut [u8]) -> usize
 #[inline(always)]
 fn write_block_text(flavor: Flavor, text: &str, out: &mut [u8]) -> usize
     requires short { length text.now ≤ BLOCK }
-    requires room { length (encoding (flavor_of flavor) (chars text.now)) ≤ length out.old }
+    requires room { 2 * length text.now ≤ length out.old }
     ensures bytes { take result out.new ≡ encoding (flavor_of flavor) (chars text.now) }
     ensures end { result ≤ length out.new }
     ensures len { length out.new ≡ length out.old }
 {
+    if is_sooner_by_runs(text) {
+        return write_few(flavor, text, out);
+    }
     match flavor {
         Flavor::Cesu8 => write_short::<OneByteNull>(text.as_bytes(), out),
         Flavor::Mutf8 => write_short::<TwoByteNull>(text.as_bytes(), out),
     }
+}
+
+/// Writes the encoding of a text of a few bytes to a caller's buffer, if it fits.
+#[inline(always)]
+pub fn encode_few_to_slice(flavor: Flavor, text: &str, buf: &mut [u8]) -> Result<usize, TooShort>
+    requires { length text.now ≤ FEW }
+    ensures { WritesAnswer (encoding (flavor_of flavor) (chars text.now)) result buf.old buf.new }
+{
+    if 2 * text.len() <= buf.len() {
+        // It fits in any case, and what is behind it stays.
+        return Ok(write_few(flavor, text, buf));
+    }
+    let mut written = [0; FEW_ENCODED];
+    let len = write_few(flavor, text, &mut written);
+    copy_to_slice(&written[..len], buf)
 }
 
 /// Writes the encoding of a text to a caller's buffer, if it fits. It is not inlined, so that a

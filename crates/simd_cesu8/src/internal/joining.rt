@@ -12,15 +12,12 @@ ghost use Rattle.simd_cesu8.specs.Joining.{IsJoined, IsJoinedAfter, KeepsJoined,
 mod pairs;
 
 use super::Flavor;
-pub use pairs::PAIR;
-use pairs::{
-    PAIR_BITS, PAIR_LEAD, PAIR_MARKS, PAIR_READ, PAIR_UTF8, is_pair, join_pairs, pair_bits,
-    utf8_of_pair,
-};
+pub use pairs::{PAIR, PAIR_READ, is_pair, utf8_of_pair};
+use pairs::{PAIR_BITS, PAIR_LEAD, PAIR_MARKS, PAIR_UTF8, join_pairs, pair_bits};
 use std::simd::prelude::*;
 
 /// How many bytes are copied and marked at once.
-const BLOCK: usize = 32;
+pub const BLOCK: usize = 32;
 
 /// The most bytes that are joined, besides the end of a pair.
 pub const WINDOW: usize = 1024;
@@ -279,7 +276,7 @@ const NULL_MARKS: u32 = 0x5555_5555;
 
 /// Returns whether a block of null characters of MUTF-8 begins the bytes.
 #[inline(always)]
-fn is_nulls(bytes: &[u8]) -> bool
+pub fn is_nulls(bytes: &[u8]) -> bool
     requires { BLOCK ≤ length bytes.now }
     ensures { IsTrue result ↔ take BLOCK bytes.now ≡ nulls }
 {

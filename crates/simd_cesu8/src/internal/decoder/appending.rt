@@ -1,18 +1,19 @@
 //! Appends the text of a window by places, in buffers of its size.
 
-ghost use Rattle.std.specs.Prelude.{◌≡◌, ◌+◌, ◌*◌, ◌<◌, ◌≤◌, ◌++◌, length, replicate, OnOk, IfOk};
+ghost use Rattle.std.specs.Prelude.{◌≡◌, ◌+◌, ◌*◌, ◌<◌, ◌≤◌, ◌++◌, length, drop, replicate, false, true, OnOk, IfOk};
 ghost use Rattle.std.specs.String.{string_bytes};
 ghost use Rattle.simd_cesu8.specs.Fault.{OnInvalid};
 ghost use Rattle.simd_cesu8.specs.Internal.{flavor_of};
-ghost use Rattle.simd_cesu8.specs.Pieces.{IsReadSoFar, HasFault};
-ghost use Rattle.simd_cesu8.specs.declared.internal.Strictness.TheVariants.{Strict};
+ghost use Rattle.simd_cesu8.specs.Pieces.{IsReadSoFar, IsPiece, HasFault};
+ghost use Rattle.simd_cesu8.specs.declared.internal.Strictness.TheVariants.{Strict, Lossy};
 
-use super::by_places::read_by_places;
+use super::by_places::{ReadWindow, TESTED, read_by_characters, read_by_places};
+use super::few::is_sooner_by_characters;
 use super::packing::WIDEST;
 use super::windows::{AROUND, LEAST, SPARED};
 use super::{
-    FEW, FEW_ROOM, FEW_WRITTEN_ROOM, FEWEST, FEWEST_ROOM, FEWEST_WRITTEN_ROOM, SMALL_ROOM,
-    SMALL_WRITTEN_ROOM, WRITTEN_ROOM,
+    FEW, FEW_ROOM, FEW_WRITTEN, FEW_WRITTEN_ROOM, FEWEST, FEWEST_ROOM, FEWEST_WRITTEN_ROOM,
+    SMALL_ROOM, SMALL_WRITTEN_ROOM, WRITTEN_ROOM,
 };
 use crate::error::{DecodeFault, DecodingError};
 use crate::internal::{DecodeOptions, Strictness};
@@ -31,6 +32,9 @@ pub fn append_small<'b, A: Allocator>(
     ensures invalid { OnInvalid result ((options.strictness ≡ Strict)
         × HasFault (flavor_of options.flavor) bytes.now) }
 {
+    if is_sooner_by_characters(bytes) {
+        return append_few(options, bytes, out);
+    }
     if bytes.len() <= FEWEST {
         return append_in::<FEWEST_ROOM, FEWEST_WRITTEN_ROOM, A>(options, bytes, out);
     }
@@ -38,6 +42,25 @@ pub fn append_small<'b, A: Allocator>(
         return append_in::<FEW_ROOM, FEW_WRITTEN_ROOM, A>(options, bytes, out);
     }
     append_in::<SMALL_ROOM, SMALL_WRITTEN_ROOM, A>(options, bytes, out)
+}
+
+/// The same for a few bytes, one character after another.
+#[inline(never)]
+fn append_few<'b, A: Allocator>(
+    options: DecodeOptions,
+    bytes: &'b [u8],
+    out: &mut String<A>,
+) -> Result<&'b [u8], DecodeFault>
+    requires { (0 < length bytes.now) × (length bytes.now ≤ FEW) }
+    ensures less { IfOk result (λ rest. length rest.now < length bytes.now) }
+    ensures ok { IfOk result (λ rest. IsReadSoFar (flavor_of options.flavor) options.strictness
+        bytes.now rest.now (string_bytes out.old) (string_bytes out.new)) }
+    ensures invalid { OnInvalid result ((options.strictness ≡ Strict)
+        × HasFault (flavor_of options.flavor) bytes.now) }
+{
+    let mut written = [0; FEW_WRITTEN + TESTED];
+    let read = read_by_characters(options.flavor, bytes, &mut written);
+    append_read(options, bytes, read, out)
 }
 
 /// The same for one window in buffers of these lengths, which are made only when it is called.
@@ -81,6 +104,29 @@ pub fn append_window<'b, A: Allocator>(
         × HasFault (flavor_of options.flavor) bytes.now) }
 {
     let read = read_by_places(options.flavor, bytes, window, written);
+    append_read(options, bytes, read, out)
+}
+
+/// Appends the text that was read from the first bytes, and returns the bytes that are left.
+#[inline(always)]
+fn append_read<'b, A: Allocator>(
+    options: DecodeOptions,
+    bytes: &'b [u8],
+    read: ReadWindow<'_>,
+    out: &mut String<A>,
+) -> Result<&'b [u8], DecodeFault>
+    requires some { (0 < read.len) × (read.len ≤ length bytes.now) }
+    requires lossy { IsPiece (flavor_of options.flavor) Lossy bytes.now
+        (drop read.len bytes.now) read.text.now }
+    requires strict { read.is_damaged ≡ false → IsPiece (flavor_of options.flavor) Strict bytes.now
+        (drop read.len bytes.now) read.text.now }
+    requires damaged { read.is_damaged ≡ true → HasFault (flavor_of options.flavor) bytes.now }
+    ensures less { IfOk result (λ rest. length rest.now < length bytes.now) }
+    ensures ok { IfOk result (λ rest. IsReadSoFar (flavor_of options.flavor) options.strictness
+        bytes.now rest.now (string_bytes out.old) (string_bytes out.new)) }
+    ensures invalid { OnInvalid result ((options.strictness ≡ Strict)
+        × HasFault (flavor_of options.flavor) bytes.now) }
+{
     if read.is_damaged && matches!(options.strictness, Strictness::Strict) {
         return Err(DecodeFault::Invalid(DecodingError(())));
     }

@@ -1,4 +1,4 @@
-//! Decodes bytes by places in either flavor, and tests that the result is a text.
+//! Decodes bytes by places in either flavor, or by characters, and tests that the result is a text.
 
 ghost use Rattle.std.specs.Prelude.{◌≡◌, ◌+◌, ◌*◌, ◌<◌, ◌≤◌, length, take, drop, replicate, false, true};
 ghost use Rattle.std.specs.Str.{IsUtf8};
@@ -6,6 +6,7 @@ ghost use Rattle.simd_cesu8.specs.Internal.{flavor_of};
 ghost use Rattle.simd_cesu8.specs.Pieces.{IsPiece, HasFault};
 ghost use Rattle.simd_cesu8.specs.declared.internal.Strictness.TheVariants.{Strict, Lossy};
 
+use super::characters::write_characters;
 use super::packing::WIDEST;
 use super::windows::{AROUND, Decoded, LEAST, SPARED, write_window};
 use crate::internal::Flavor;
@@ -13,7 +14,7 @@ use crate::internal::null_form::{OneByteNull, TwoByteNull};
 use simdutf8::basic;
 
 /// How many bytes are tested at a time by vectors,
-const TESTED: usize = 64;
+pub const TESTED: usize = 64;
 
 /// and the least length for which that is faster.
 const PAYING: usize = 9;
@@ -48,6 +49,25 @@ pub fn read_by_places<'a>(
     ensures damaged { result.is_damaged ≡ true → HasFault (flavor_of flavor) bytes.now }
 {
     let decoded = write_in_flavor(flavor, bytes, window, written);
+    ReadWindow {
+        len: decoded.read,
+        text: text_of(written, decoded.end),
+        is_damaged: decoded.is_damaged,
+    }
+}
+
+/// The same for a few bytes, one character after another.
+#[inline(always)]
+pub fn read_by_characters<'a>(flavor: Flavor, bytes: &[u8], written: &'a mut [u8]) -> ReadWindow<'a>
+    requires { WIDEST * length bytes.now + TESTED ≤ length written.old }
+    ensures len { result.len ≡ length bytes.now }
+    ensures lossy { IsPiece (flavor_of flavor) Lossy bytes.now
+        (drop result.len bytes.now) result.text.now }
+    ensures strict { result.is_damaged ≡ false → IsPiece (flavor_of flavor) Strict bytes.now
+        (drop result.len bytes.now) result.text.now }
+    ensures damaged { result.is_damaged ≡ true → HasFault (flavor_of flavor) bytes.now }
+{
+    let decoded = write_characters(flavor, bytes, written);
     ReadWindow {
         len: decoded.read,
         text: text_of(written, decoded.end),

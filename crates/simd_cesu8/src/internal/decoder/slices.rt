@@ -1,10 +1,10 @@
-//! Decodes to a caller's buffer, with no request and no test of the result, since a slice of bytes
-//! need not be UTF-8.
+//! Decodes to a caller's buffer, with no request. A slice of bytes need not be UTF-8, so the result
+//! is tested for that only where a joined window may be damaged.
 //!
-//! Few bytes are decoded to an array on the stack and copied from there. In strict reading a window
-//! is joined there. For more bytes, the first passes find whether they are damaged and, if needed,
-//! how long their text is. Then the text is written by windows in its final position, as for a
-//! `String`.
+//! Some bytes are decoded to an array on the stack and copied from there. In strict reading a window
+//! is joined there, and the test finds its damage. For more bytes, the first passes find whether
+//! they are damaged and, if needed, how long their text is. Then the text is written by windows in
+//! its final position, as for a `String`.
 
 ghost use Rattle.std.specs.Prelude.{◌≡◌, ◌+◌, ◌*◌, ◌<◌, ◌≤◌, [], length, drop, replicate};
 ghost use Rattle.simd_cesu8.specs.Text.{utf8};
@@ -15,6 +15,7 @@ ghost use Rattle.simd_cesu8.specs.Slices.{StandsAtFront, WritesAnswer, WritesRea
 
 use super::by_places::write_in_flavor;
 use super::damage::{is_damaged, is_damaged_in_front};
+use super::few::{decode_few_lossy_to_slice, decode_few_strict_to_slice, is_sooner_by_characters};
 use super::packing::WIDEST;
 use super::whole::write_joined;
 use super::windows::{AROUND, LEAST, SPARED};
@@ -38,6 +39,9 @@ pub fn decode_strict_to_slice(
     ensures { WritesReading (λ text. IsStrictReading (flavor_of flavor) bytes.now text)
         result buf.old buf.new }
 {
+    if is_sooner_by_characters(bytes) {
+        return decode_few_strict_to_slice(flavor, bytes, buf);
+    }
     if bytes.len() <= FEWEST {
         return strict_in::<FEWEST_ROOM, FEWEST_WRITTEN_ROOM>(flavor, bytes, buf);
     }
@@ -126,6 +130,9 @@ pub fn decode_lossy_to_slice(
     ensures { WritesLossyReading (λ text. text ≡ reading (flavor_of flavor) bytes.now)
         result buf.old buf.new }
 {
+    if is_sooner_by_characters(bytes) {
+        return decode_few_lossy_to_slice(flavor, bytes, buf);
+    }
     if bytes.len() <= FEWEST {
         return lossy_in::<FEWEST_ROOM, FEWEST_WRITTEN_ROOM>(flavor, bytes, buf);
     }

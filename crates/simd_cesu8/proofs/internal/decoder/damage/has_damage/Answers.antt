@@ -10,7 +10,7 @@ overflow_add-covered g c = record { fits = omega (arith, covered_fits g.N.NullFo
 pub returns-then-covered-bytes-clause-damaged : goal.returns-then-covered-bytes-clause-damaged
 returns-then-covered-bytes-clause-damaged g c _ =
     let f = g.N.NullForm.flavor in
-    fewer_covered f c.args.bytes.now (omega (arith, c.sum_first-sum.ensures.sum, covered_fits f c.sum_first-sum.result.1.now))
+    fewer_covered f c.args.bytes.now (omega (arith, c.cover_first-sum.ensures.sum, covered_fits f c.cover_first-sum.result.1.now))
 
 pub overflow_add-result : goal.overflow_add-result
 overflow_add-result g c = record { fits = omega (arith, c.sum_of_few.ensures, covered_fits g.N.NullForm.flavor c.args.bytes.now) }

@@ -1,0 +1,27 @@
+-- The null characters of MUTF-8 cover their bytes.
+use Rattle.std.proofs.Common.{◌≡◌, ℕ, zero, suc, ◌+◌, ◌*◌, [], ◌∷◌, ◌++◌, List, sym, ap, ◌∙◌, subst, inl, arith, take, drop, replicate, zero-add}
+use Rattle.std.specs.List.{flat_map}
+use Rattle.std.proofs.lemmas.List.{take-append-drop}
+use Rattle.simd_cesu8.specs.Encoding.{Flavor, Mutf8, encoding}
+use Rattle.simd_cesu8.specs.DecodedPlaces.{covered, total_weight}
+use Rattle.simd_cesu8.specs.Joining.{Stays, nulls}
+use Rattle.simd_cesu8.proofs.encoding.Forms.{encoding_one}
+use Rattle.simd_cesu8.proofs.places.Damage.{character_covers}
+
+-- C0 80 in a row cover their bytes.
+nulls_cover : (n : ℕ) (rest : List ℕ) →
+    total_weight covered Mutf8 (flat_map (λ part. 0xC0 ∷ 0x80 ∷ []) (replicate n (Stays 0)) ++ rest) ≡ 2 * n + total_weight covered Mutf8 rest
+nulls_cover zero rest = sym (zero-add (total_weight covered Mutf8 rest))
+nulls_cover (suc n) rest =
+    let more = flat_map (λ part. 0xC0 ∷ 0x80 ∷ []) (replicate n (Stays 0)) ++ rest in
+    let same : encoding Mutf8 (0 ∷ []) ≡ 0xC0 ∷ 0x80 ∷ [] = encoding_one Mutf8 0 (omega arith) in
+    let first : total_weight covered Mutf8 (0xC0 ∷ 0x80 ∷ more) ≡ 2 + total_weight covered Mutf8 more =
+    ap (λ bs. total_weight covered Mutf8 (bs ++ more)) (sym same) ∙ character_covers Mutf8 0 (0xC0 ∷ 0x80 ∷ []) more (inl (omega arith)) same in
+    omega (arith, first, nulls_cover n rest)
+
+-- So do those of a block.
+pub nulls_covered : (f : Flavor) (bytes : List ℕ) → f ≡ Mutf8 → take 32 bytes ≡ nulls →
+    32 + total_weight covered f (drop 32 bytes) ≡ total_weight covered f bytes
+nulls_covered f bytes mutf8 begins =
+    subst (λ g. 32 + total_weight covered g (drop 32 bytes) ≡ total_weight covered g bytes) (sym mutf8)
+    (sym (ap (total_weight covered Mutf8) (sym (take-append-drop 32 bytes) ∙ ap (λ bs. bs ++ drop 32 bytes) begins) ∙ nulls_cover 16 (drop 32 bytes)))

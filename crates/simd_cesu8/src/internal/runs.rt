@@ -1,0 +1,60 @@
+//! Copies runs of bytes without one of a class, by vectors.
+
+ghost use Rattle.std.specs.Prelude.{◌≡◌, ℕ, ◌+◌, ◌<◌, ◌≤◌, ◌++◌, not, false, length, take, drop, slice_index};
+ghost use Rattle.std.specs.List.{prefix_len};
+
+use crate::implementation::class::{InAllVectors, InVectors, LANES, bits};
+use std::simd::prelude::*;
+
+/// Copies the first bytes, up to one of the class or to the end of a vector, and returns how many.
+/// So few bytes as no vector has are left.
+#[inline(always)]
+pub fn copy_run<C: InAllVectors>(bytes: &[u8], out: &mut [u8], at: usize) -> usize
+    requires { at + length bytes.now ≤ length out.old }
+    ensures within { result ≤ length bytes.now }
+    ensures run { (i : ℕ) → i < result → C.class (slice_index bytes.now i) ≡ false }
+    ensures bytes { take (at + result) out.new ≡ take at out.old ++ take result bytes.now }
+    ensures behind { drop (at + length bytes.now) out.new ≡ drop (at + length bytes.now) out.old }
+    ensures len { length out.new ≡ length out.old }
+{
+    if bytes.len() >= 16 {
+        return copy_lanes::<C, 16>(bytes, out, at);
+    }
+    if bytes.len() >= 8 {
+        return copy_lanes::<C, 8>(bytes, out, at);
+    }
+    if bytes.len() >= 4 {
+        return copy_lanes::<C, 4>(bytes, out, at);
+    }
+    0
+}
+
+/// The same for the first bytes, as many as a vector has.
+#[inline(always)]
+fn copy_lanes<C: InVectors<N>, const N: usize>(bytes: &[u8], out: &mut [u8], at: usize) -> usize
+    requires lanes { (N ≤ LANES) × (N ≤ length bytes.now) }
+    requires room { at + N ≤ length out.old }
+    ensures within { result ≤ N }
+    ensures run { (i : ℕ) → i < result → C.class (slice_index bytes.now i) ≡ false }
+    ensures bytes { take (at + result) out.new ≡ take at out.old ++ take result bytes.now }
+    ensures behind { (m : ℕ) → at + N ≤ m → drop m out.new ≡ drop m out.old }
+    ensures len { length out.new ≡ length out.old }
+{
+    let lanes: Simd<u8, N> = Simd::from_slice(bytes);
+    lanes.copy_to_slice(&mut out[at..]);
+    lanes_before::<C, N>(lanes)
+}
+
+/// Returns how many lanes precede the first one of the class.
+#[inline(always)]
+fn lanes_before<C: InVectors<N>, const N: usize>(lanes: Simd<u8, N>) -> usize
+    requires { N ≤ LANES }
+    ensures { result ≡ prefix_len (λ b. not (C.class b)) lanes.entry }
+{
+    let marks = bits::<C, N>(lanes);
+    if marks == 0 {
+        N
+    } else {
+        marks.trailing_zeros() as usize
+    }
+}
