@@ -1,6 +1,6 @@
-//! Few bytes, which are decoded sooner one character after another than by places: their number or
-//! that of their lead bytes decides. They are decoded to an array on the stack, and copied from there
-//! to a caller's buffer.
+//! Few bytes, of which hardly any are other than 01 to 7F (hexadecimal): they are decoded sooner one
+//! character after another than by places, to an array on the stack, and copied from there to a
+//! caller's buffer.
 
 ghost use Rattle.std.specs.Prelude.{◌≡◌, ◌+◌, ◌*◌, ◌<◌, ◌≤◌, length, IsTrue};
 ghost use Rattle.simd_cesu8.specs.Reading.{IsStrictReading, reading};
@@ -11,61 +11,56 @@ use super::characters::write_characters;
 use super::packing::WIDEST;
 use super::{FEW, FEW_WRITTEN, FEWEST, FEWEST_WRITTEN, WRITTEN_ROOM};
 use crate::error::{DecodeSliceFault, DecodingError, LossySliceFault};
+use crate::implementation::class::{LANES, NullHigh, bits};
 use crate::internal::Flavor;
 use crate::internal::writers::copy_to_slice;
 use std::simd::prelude::*;
 
-/// So few bytes are read sooner one character after another than by vectors,
-const ALWAYS: usize = 16;
+/// Of so few bytes,
+const SHORT: usize = 24;
 
-/// so few if at most a third of them lead others,
-const MOSTLY: usize = 24;
+/// so many may be other than 01 to 7F (hexadecimal). Each may be damaged, and then it is a step.
+const OTHERS: usize = 12;
 
-const THIRD: u32 = 8;
+/// Of more bytes so many may be, as many as a surrogate pair has.
+const FEWER_OTHERS: usize = 6;
 
-/// and others if so few do.
-const LEADS: u32 = 4;
-
-/// Returns whether the bytes are so few, or so few of them lead others, that they are read sooner one
-/// character after another than by vectors.
+/// Returns whether so few of the bytes are other than 01 to 7F that they are read sooner one character
+/// after another than by vectors, whatever they are.
 #[inline(always)]
 pub fn is_sooner_by_characters(bytes: &[u8]) -> bool
     ensures { IsTrue result → length bytes.now ≤ FEW }
 {
     let len = bytes.len();
-    if len <= ALWAYS {
+    if len <= OTHERS {
         return true;
     }
-    if len <= MOSTLY {
-        return leads_in_ends::<16>(bytes) <= THIRD;
+    if len <= 16 {
+        return others_in_ends::<8>(bytes) <= OTHERS;
+    }
+    if len <= SHORT {
+        return others_in_ends::<16>(bytes) <= OTHERS;
     }
     if len <= 32 {
-        return leads_in_ends::<16>(bytes) <= LEADS;
+        return others_in_ends::<16>(bytes) <= FEWER_OTHERS;
     }
     if len <= 64 {
-        return leads_in_ends::<32>(bytes) <= LEADS;
+        return others_in_ends::<32>(bytes) <= FEWER_OTHERS;
     }
-    len <= FEW && leads_in_ends::<64>(bytes) <= LEADS
+    len <= FEW && others_in_ends::<64>(bytes) <= FEWER_OTHERS
 }
 
-/// Counts the lead bytes, by a vector at the front and one at the end, which together cover all.
+/// Counts the bytes other than 01 to 7F, by a vector at the front and one at the end, which together
+/// cover all.
 #[inline(always)]
-fn leads_in_ends<const N: usize>(bytes: &[u8]) -> u32
-    requires { (N ≤ 64) × (N < length bytes.now) × (length bytes.now ≤ 2 * N) }
+fn others_in_ends<const N: usize>(bytes: &[u8]) -> usize
+    requires { (N ≤ LANES) × (N < length bytes.now) × (length bytes.now ≤ 2 * N) }
 {
     let front: Simd<u8, N> = Simd::from_slice(bytes);
     let end: Simd<u8, N> = Simd::from_slice(&bytes[bytes.len() - N..]);
     // Some bytes are in both.
-    let behind = leads(end) >> (2 * N - bytes.len());
-    leads(front).count_ones() + behind.count_ones()
-}
-
-/// Returns a bit for each lead byte.
-#[inline(always)]
-fn leads<const N: usize>(bytes: Simd<u8, N>) -> u64
-    requires { N ≤ 64 }
-{
-    bytes.simd_ge(Simd::splat(0xC0)).to_bitmask()
+    let behind = bits::<NullHigh, N>(end) >> (2 * N - bytes.len());
+    (bits::<NullHigh, N>(front).count_ones() + behind.count_ones()) as usize
 }
 
 /// Writes the strict reading of a few bytes to a caller's buffer, if it fits, one character after
