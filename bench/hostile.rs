@@ -7,7 +7,7 @@ use crate::grid::{Column, Grid, Unit};
 use crate::inputs::{Case, Inputs};
 use crate::sets::{Kind, Random, SEED, at_page_start, encoded_bytes, of_any_length};
 
-const LENGTHS: [usize; 4] = [72, 200, 1_024, 16_380];
+const LENGTHS: [usize; 5] = [24, 72, 200, 1_024, 16_380];
 
 /// The inputs of one kind and length have so many bytes together, or it is one input.
 const BYTES: usize = 1 << 15;
