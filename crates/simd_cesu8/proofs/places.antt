@@ -8,4 +8,4 @@ pub mod DecodedText
 pub mod Weights
 pub mod Savings
 pub mod Damage
-pub mod CoveredNulls
+pub mod CoveredFronts

@@ -1,8 +1,9 @@
 //! Finds damage before anything is written. No two encoded characters overlap, so they cover all
 //! bytes exactly if their widths sum up to the length of these.
 
-ghost use Rattle.std.specs.Prelude.{◌≡◌, ◌+◌, ◌<◌, ◌≤◌, length, refl, IsTrue, true, false};
+ghost use Rattle.std.specs.Prelude.{◌≡◌, ◌+◌, ◌<◌, ◌≤◌, length, drop, refl, IsTrue, true, false};
 ghost use Rattle.std.proofs.Common.{arith};
+ghost use Rattle.simd_cesu8.specs.Encoding.{Flavor as AnyFlavor};
 ghost use Rattle.simd_cesu8.specs.Reading.{IsStrictReading, HasNoStrictReading, reading};
 ghost use Rattle.simd_cesu8.specs.DecodedPlaces.{covered, total_weight};
 ghost use Rattle.simd_cesu8.specs.Internal.{flavor_of};
@@ -10,6 +11,7 @@ ghost use Rattle.simd_cesu8.specs.Internal.{flavor_of};
 use super::places::{BLOCK, REACH};
 use super::sums::{BLOCKS, Weight, Weights, sum_first, sum_of_few};
 use crate::internal::Flavor;
+use crate::internal::joining::{PAIR, PAIR_READ, is_pair};
 use crate::internal::null_form::{NullForm, OneByteNull, TwoByteNull};
 
 /// How many blocks are looked at first, since most input that is no encoding is damaged early.
@@ -48,7 +50,7 @@ fn has_damage<N: NullForm>(bytes: &[u8]) -> bool
 }
 
 /// Returns how many of the first bytes are in characters, and the other bytes. Text that is only
-/// C0 80 would take as long as any other, but is joined in much less time.
+/// C0 80 or surrogate pairs would take as long as any other, but is joined in less time.
 #[inline(always)]
 fn cover_first<N: NullForm>(bytes: &[u8]) -> (usize, &[u8])
     requires { REACH ≤ length bytes.now }
@@ -59,7 +61,25 @@ fn cover_first<N: NullForm>(bytes: &[u8]) -> (usize, &[u8])
     if N::begins_with_nulls(bytes) {
         return (BLOCK, &bytes[BLOCK..]);
     }
+    let pairs = pairs_in_front(bytes);
+    if pairs > 0 {
+        return (pairs, &bytes[pairs..]);
+    }
     sum_first::<N, Widths>(bytes, BLOCKS)
+}
+
+/// Returns how many bytes the surrogate pairs have that begin the bytes.
+#[inline(always)]
+fn pairs_in_front(bytes: &[u8]) -> usize
+    ensures within { result ≤ length bytes.now }
+    ensures sum { (f : AnyFlavor) → result + total_weight covered f (drop result bytes.now)
+        ≡ total_weight covered f bytes.now }
+{
+    let mut read = 0;
+    while bytes.len() - read >= PAIR_READ && is_pair(&bytes[read..]) {
+        read += PAIR;
+    }
+    read
 }
 
 /// Returns whether a byte among the first ones is in no encoded character.

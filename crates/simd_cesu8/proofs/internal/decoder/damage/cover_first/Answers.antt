@@ -1,5 +1,5 @@
 use Rattle.std.proofs.lemmas.List.{take_rest}
-use Rattle.simd_cesu8.proofs.places.CoveredNulls.{nulls_covered}
+use Rattle.simd_cesu8.proofs.places.CoveredFronts.{nulls_covered}
 use Rattle.simd_cesu8.proofs.internal.decoder.damage.cover_first.Goals as goal
 
 pub returns-then-begins_with_nulls-clause-sum : goal.returns-then-begins_with_nulls-clause-sum

@@ -1,11 +1,12 @@
--- The null characters of MUTF-8 cover their bytes.
-use Rattle.std.proofs.Common.{◌≡◌, ℕ, zero, suc, ◌+◌, ◌*◌, [], ◌∷◌, ◌++◌, List, sym, ap, ◌∙◌, subst, inl, arith, take, drop, replicate, zero-add}
+-- Null characters of MUTF-8 and surrogate pairs cover their bytes.
+use Rattle.std.proofs.Common.{◌≡◌, ℕ, zero, suc, ◌+◌, ◌*◌, ◌≤◌, [], ◌∷◌, ◌++◌, List, refl, sym, ap, ◌∙◌, subst, inl, arith, length, take, drop, replicate, zero-add}
 use Rattle.std.specs.List.{flat_map}
 use Rattle.std.proofs.lemmas.List.{take-append-drop}
 use Rattle.simd_cesu8.specs.Encoding.{Flavor, Mutf8, encoding}
 use Rattle.simd_cesu8.specs.DecodedPlaces.{covered, total_weight}
-use Rattle.simd_cesu8.specs.Joining.{Stays, nulls}
+use Rattle.simd_cesu8.specs.Joining.{Stays, nulls, HasPair}
 use Rattle.simd_cesu8.proofs.encoding.Forms.{encoding_one}
+use Rattle.simd_cesu8.proofs.encoding.Found.{found_pair, rest_is}
 use Rattle.simd_cesu8.proofs.places.Damage.{character_covers}
 
 -- C0 80 in a row cover their bytes.
@@ -25,3 +26,13 @@ pub nulls_covered : (f : Flavor) (bytes : List ℕ) → f ≡ Mutf8 → take 32 
 nulls_covered f bytes mutf8 begins =
     subst (λ g. 32 + total_weight covered g (drop 32 bytes) ≡ total_weight covered g bytes) (sym mutf8)
     (sym (ap (total_weight covered Mutf8) (sym (take-append-drop 32 bytes) ∙ ap (λ bs. bs ++ drop 32 bytes) begins) ∙ nulls_cover 16 (drop 32 bytes)))
+
+-- A surrogate pair covers its six bytes.
+pub pair_covers : (f : Flavor) (bytes : List ℕ) → 6 ≤ length bytes → HasPair bytes →
+    6 + total_weight covered f (drop 6 bytes) ≡ total_weight covered f bytes
+pair_covers f bytes long has_pair =
+    let found = found_pair f bytes long has_pair.lead has_pair.high.0 has_pair.high.1 has_pair.ends in
+    let front = encoding f (found.character ∷ []) in
+    let covers = character_covers f found.character front found.rest found.begins.scalar refl in
+    rw (rest_is f bytes 6 4 found)
+    (omega (arith, covers, found.encoded, ap (total_weight covered f) found.begins.bytes_are))
