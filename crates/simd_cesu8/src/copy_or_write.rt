@@ -13,25 +13,29 @@ use crate::error::{DecodeSliceFault, DecodingError, LossySliceFault, TooShort};
 use crate::internal;
 use crate::internal::{
     Flavor, contains_changed, copy_to_slice, is_short_ascii, is_short_unchanged_ascii,
+    may_be_joined,
 };
 
 /// The test for UTF-8 goes byte by byte below this length. Decoding then takes less time,
 const TESTED_BY_VECTORS: usize = 64;
 
-/// but for this length and less.
+/// but for text of this length and less that stays as it is.
 const SOON_TESTED: usize = 24;
 
 /// Returns whether bytes that are not all ASCII are decoded sooner than they are tested for UTF-8.
 #[inline(always)]
 fn is_sooner_decoded(bytes: &[u8]) -> bool {
-    bytes.len() > SOON_TESTED && bytes.len() < TESTED_BY_VECTORS
+    if bytes.len() <= SOON_TESTED {
+        return may_be_joined(bytes);
+    }
+    bytes.len() < TESTED_BY_VECTORS
 }
 
 #[inline(always)]
 pub fn encode_to_slice(flavor: Flavor, value: &str, buf: &mut [u8]) -> Result<usize, TooShort>
     ensures { WritesAnswer (encoding (flavor_of flavor) (chars value.now)) result buf.old buf.new }
 {
-    if internal::is_few_unchanged(value) {
+    if internal::is_few_unchanged(flavor, value) {
         return copy_to_slice(value.as_bytes(), buf);
     }
     if internal::is_sooner_by_runs(value) {
@@ -55,9 +59,6 @@ pub fn decode_strict_to_slice(
     if is_short_unchanged_ascii(flavor, bytes) {
         return copy_to_slice(bytes, buf).map_err(DecodeSliceFault::TooShort);
     }
-    if bytes.len() < TESTED_BY_VECTORS && internal::is_sooner_by_characters(bytes) {
-        return internal::decode_few_strict_to_slice(flavor, bytes, buf);
-    }
     decode_strict_to_slice_other(flavor, bytes, buf)
 }
 
@@ -72,12 +73,12 @@ fn decode_strict_to_slice_other(
     ensures { WritesReading (λ text. IsStrictReading (flavor_of flavor) bytes.now text)
         result buf.old buf.new }
 {
-    if is_sooner_decoded(bytes) {
-        return internal::decode_strict_to_slice(flavor, bytes, buf);
-    }
     // No encoding has a byte that changes, so there is nothing to decode.
     if contains_changed(flavor, bytes) {
         return Err(DecodeSliceFault::Invalid(DecodingError(())));
+    }
+    if is_sooner_decoded(bytes) {
+        return internal::decode_strict_to_slice(flavor, bytes, buf);
     }
     if whole_text(bytes).len() == bytes.len() {
         return copy_to_slice(bytes, buf).map_err(DecodeSliceFault::TooShort);
@@ -128,9 +129,6 @@ pub fn decode_lossy_strict_to_slice(
 {
     if is_short_unchanged_ascii(flavor, bytes) {
         return copy_to_slice(bytes, buf).map_err(LossySliceFault::TooShort);
-    }
-    if bytes.len() < TESTED_BY_VECTORS && internal::is_sooner_by_characters(bytes) {
-        return internal::decode_few_lossy_to_slice(flavor, bytes, buf);
     }
     decode_lossy_strict_to_slice_other(flavor, bytes, buf)
 }

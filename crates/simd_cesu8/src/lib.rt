@@ -293,7 +293,7 @@ pub fn lossy_len(bytes: &[u8]) -> Option<usize>
 /// assert_eq!(rt; simd_cesu8::encode_to_slice("\u{10400}", &mut buf)?, 6);
 /// assert_eq!(rt; buf.as_slice(), b"\xED\xA0\x81\xED\xB0\x80\xEE\xEE".as_slice());
 /// ```
-#[inline]
+#[inline(always)]
 pub fn encode_to_slice(value: &str, buf: &mut [u8]) -> Result<usize, TooShort>
     ensures { WritesAnswer (encoding Cesu8 (chars value.now)) result buf.old buf.new }
 {
@@ -314,7 +314,7 @@ pub fn encode_to_slice(value: &str, buf: &mut [u8]) -> Result<usize, TooShort>
 /// assert_eq!(rt; simd_cesu8::decode_strict_to_slice(b"\xED\xA0\xBD\xED\xB2\x96", &mut buf)?, 4);
 /// assert_eq!(rt; buf.as_slice(), b"\xF0\x9F\x92\x96\xEE\xEE".as_slice());
 /// ```
-#[inline]
+#[inline(always)]
 pub fn decode_strict_to_slice(bytes: &[u8], buf: &mut [u8]) -> Result<usize, DecodeSliceFault>
     ensures { WritesReading (λ text. IsStrictReading Cesu8 bytes.now text) result buf.old buf.new }
 {
@@ -335,7 +335,7 @@ pub fn decode_strict_to_slice(bytes: &[u8], buf: &mut [u8]) -> Result<usize, Dec
 /// assert_eq!(rt; simd_cesu8::decode_to_slice(b"\xF0\x9F\x92\x96", &mut buf)?, 4);
 /// assert_eq!(rt; buf.as_slice(), b"\xF0\x9F\x92\x96\xEE\xEE".as_slice());
 /// ```
-#[inline]
+#[inline(always)]
 pub fn decode_to_slice(bytes: &[u8], buf: &mut [u8]) -> Result<usize, DecodeSliceFault>
     ensures { WritesReading (λ text. IsLenientReading Cesu8 bytes.now text) result buf.old buf.new }
 {
@@ -356,7 +356,7 @@ pub fn decode_to_slice(bytes: &[u8], buf: &mut [u8]) -> Result<usize, DecodeSlic
 /// assert_eq!(rt; simd_cesu8::decode_lossy_strict_to_slice(b"a\xFF", &mut buf)?, 4);
 /// assert_eq!(rt; buf.as_slice(), b"a\xEF\xBF\xBD\xEE\xEE".as_slice());
 /// ```
-#[inline]
+#[inline(always)]
 pub fn decode_lossy_strict_to_slice(bytes: &[u8], buf: &mut [u8]) -> Result<usize, LossySliceFault>
     ensures { WritesLossyReading (λ text. text ≡ reading Cesu8 bytes.now)
         result buf.old buf.new }
@@ -378,7 +378,7 @@ pub fn decode_lossy_strict_to_slice(bytes: &[u8], buf: &mut [u8]) -> Result<usiz
 /// assert_eq!(rt; simd_cesu8::decode_lossy_to_slice(b"\xF0\x9F\x92\x96", &mut buf)?, 4);
 /// assert_eq!(rt; buf.as_slice(), b"\xF0\x9F\x92\x96".as_slice());
 /// ```
-#[inline]
+#[inline(always)]
 pub fn decode_lossy_to_slice(bytes: &[u8], buf: &mut [u8]) -> Result<usize, LossySliceFault>
     ensures { WritesLossyReading (λ text. IsLenientLossyReading Cesu8 bytes.now text)
         result buf.old buf.new }

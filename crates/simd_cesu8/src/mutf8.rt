@@ -255,7 +255,7 @@ pub fn lossy_len(bytes: &[u8]) -> Option<usize>
 /// assert_eq!(rt; simd_cesu8::mutf8::encode_to_slice("a\0", &mut buf)?, 3);
 /// assert_eq!(rt; buf.as_slice(), b"a\xC0\x80\xEE".as_slice());
 /// ```
-#[inline]
+#[inline(always)]
 pub fn encode_to_slice(value: &str, buf: &mut [u8]) -> Result<usize, TooShort>
     ensures { WritesAnswer (encoding Mutf8 (chars value.now)) result buf.old buf.new }
 {
@@ -276,7 +276,7 @@ pub fn encode_to_slice(value: &str, buf: &mut [u8]) -> Result<usize, TooShort>
 /// assert_eq!(rt; simd_cesu8::mutf8::decode_strict_to_slice(b"a\xC0\x80", &mut buf)?, 2);
 /// assert_eq!(rt; buf.as_slice(), b"a\0\xEE\xEE".as_slice());
 /// ```
-#[inline]
+#[inline(always)]
 pub fn decode_strict_to_slice(bytes: &[u8], buf: &mut [u8]) -> Result<usize, DecodeSliceFault>
     ensures { WritesReading (λ text. IsStrictReading Mutf8 bytes.now text) result buf.old buf.new }
 {
@@ -297,7 +297,7 @@ pub fn decode_strict_to_slice(bytes: &[u8], buf: &mut [u8]) -> Result<usize, Dec
 /// assert_eq!(rt; simd_cesu8::mutf8::decode_to_slice(b"a\0", &mut buf)?, 2);
 /// assert_eq!(rt; buf.as_slice(), b"a\0\xEE\xEE".as_slice());
 /// ```
-#[inline]
+#[inline(always)]
 pub fn decode_to_slice(bytes: &[u8], buf: &mut [u8]) -> Result<usize, DecodeSliceFault>
     ensures { WritesReading (λ text. IsLenientReading Mutf8 bytes.now text) result buf.old buf.new }
 {
@@ -318,7 +318,7 @@ pub fn decode_to_slice(bytes: &[u8], buf: &mut [u8]) -> Result<usize, DecodeSlic
 /// assert_eq!(rt; simd_cesu8::mutf8::decode_lossy_strict_to_slice(b"\xC0\xC0\x80", &mut buf)?, 4);
 /// assert_eq!(rt; buf.as_slice(), b"\xEF\xBF\xBD\0\xEE\xEE".as_slice());
 /// ```
-#[inline]
+#[inline(always)]
 pub fn decode_lossy_strict_to_slice(bytes: &[u8], buf: &mut [u8]) -> Result<usize, LossySliceFault>
     ensures { WritesLossyReading (λ text. text ≡ reading Mutf8 bytes.now)
         result buf.old buf.new }
@@ -340,7 +340,7 @@ pub fn decode_lossy_strict_to_slice(bytes: &[u8], buf: &mut [u8]) -> Result<usiz
 /// assert_eq!(rt; simd_cesu8::mutf8::decode_lossy_to_slice(b"\0\xC0\x80", &mut buf)?, 4);
 /// assert_eq!(rt; buf.as_slice(), b"\xEF\xBF\xBD\0".as_slice());
 /// ```
-#[inline]
+#[inline(always)]
 pub fn decode_lossy_to_slice(bytes: &[u8], buf: &mut [u8]) -> Result<usize, LossySliceFault>
     ensures { WritesLossyReading (λ text. IsLenientLossyReading Mutf8 bytes.now text)
         result buf.old buf.new }

@@ -80,6 +80,22 @@ either_marks p q bytes ps qs of_p of_q =
     ∙ map_agree _ _ bytes (Each1-all (λ b. bit_or (of_z w8 (lane (p b))) (of_z w8 (lane (q b))) ≡ ones (p b || q b)) (λ b. either_ones (p b) (q b)) bytes)
     )
 
+or_ones : (s t : Bool) → bit_or (ones s) (ones t) ≡ ones (s || t)
+or_ones true true = refl
+or_ones true false = refl
+or_ones false true = refl
+or_ones false false = refl
+
+-- Two comparisons mark the bytes that are equal to one of two numbers.
+pub two_marks : (x y n : ℕ) (bytes : List ℕ) → length bytes ≡ n →
+    map (to_z w8) (zip2 bit_or (zip2 equal bytes (replicate n x)) (zip2 equal bytes (replicate n y)))
+    ≡ marks_of (λ b. eqb b x || eqb b y) bytes
+two_marks x y n bytes long =
+    marked (λ b. eqb b x || eqb b y) bytes _ (
+    zip2_of_maps bit_or (λ b. equal b x) (λ b. equal b y) bytes (zip2_splat equal bytes n x long) (zip2_splat equal bytes n y long)
+    ∙ map_agree _ _ bytes (Each1-all (λ b. bit_or (equal b x) (equal b y) ≡ ones (eqb b x || eqb b y)) (λ b. or_ones (eqb b x) (eqb b y)) bytes)
+    )
+
 top_of_lane : (t : Bool) → top 7 (of_z w8 (lane t)) ≡ t
 top_of_lane true = refl
 top_of_lane false = refl

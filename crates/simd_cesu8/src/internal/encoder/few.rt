@@ -10,7 +10,7 @@ ghost use Rattle.simd_cesu8.specs.Encoding.{Flavor as AnyFlavor, encoding, short
 ghost use Rattle.simd_cesu8.specs.EncodedPlaces.{IsRun};
 ghost use Rattle.simd_cesu8.specs.Internal.{flavor_of};
 
-use crate::implementation::class::{LANES, NullLead, bits};
+use crate::implementation::class::{LANES, Lead, NullLead, bits};
 use crate::implementation::short::any_in_short;
 use crate::internal::Flavor;
 use crate::internal::runs::copy_run;
@@ -32,12 +32,19 @@ const FOUR: usize = 4;
 /// and as a surrogate pair.
 const PAIR: usize = 6;
 
-/// Returns whether a text has few bytes, and none of them changes in any flavor.
+/// Returns whether a text has few bytes, and none of them changes.
 #[inline(always)]
-pub fn is_few_unchanged(text: &str) -> bool
-    ensures { IsTrue result → (f : AnyFlavor) → encoding f (chars text.now) ≡ text.now }
+pub fn is_few_unchanged(flavor: Flavor, text: &str) -> bool
+    ensures { IsTrue result → encoding (flavor_of flavor) (chars text.now) ≡ text.now }
 {
-    text.len() <= FEW && !any_in_short::<NullLead>(text.as_bytes())
+    let bytes = text.as_bytes();
+    if bytes.len() > FEW {
+        return false;
+    }
+    match flavor {
+        Flavor::Cesu8 => !any_in_short::<Lead>(bytes),
+        Flavor::Mutf8 => !any_in_short::<NullLead>(bytes),
+    }
 }
 
 /// Returns whether a text has few bytes, and few of them change.
