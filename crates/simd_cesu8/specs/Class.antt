@@ -29,10 +29,6 @@ is_null_high b = b == 0 || is_high b
 abbrev pub is_null_lead : ℕ → Bool
 is_null_lead b = b == 0 || is_lead b
 
--- C0 or ED (hexadecimal): what begins C0 80 or a surrogate pair, and some other characters.
-abbrev pub is_joined_lead : ℕ → Bool
-is_joined_lead b = b == 0xC0 || b == 0xED
-
 -- The class of a flavor: the bytes of UTF-8 that change in it.
 abbrev pub IsChangedByte : Flavor → ℕ → Type 0
 IsChangedByte Cesu8 = IsFour

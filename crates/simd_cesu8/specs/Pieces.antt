@@ -1,8 +1,11 @@
 -- Text that is read a piece at a time.
-use Rattle.std.specs.Prelude.{◌≡◌, ℕ, ◌+◌, ◌<◌, ◌≤◌, List, [], ◌++◌, length, take, drop}
+use Rattle.std.specs.Prelude.{◌≡◌, ℕ, ◌+◌, ◌<◌, ◌≤◌, List, [], ◌++◌, length, take, drop, Result, IfOk}
+use Rattle.std.specs.Borrow.{Bor}
 use Rattle.simd_cesu8.specs.Text.{IsText, utf8}
 use Rattle.simd_cesu8.specs.Encoding.{Flavor, encoding}
 use Rattle.simd_cesu8.specs.Reading.{NoneBegins, reading, lossy_length}
+use Rattle.simd_cesu8.specs.Fault.{OnInvalid}
+use Rattle.simd_cesu8.specs.declared.error.DecodeFault.{DecodeFault}
 use Rattle.simd_cesu8.specs.declared.internal.Strictness.{Strictness}
 use Rattle.simd_cesu8.specs.declared.internal.Strictness.TheVariants.{Strict, Lossy}
 
@@ -33,3 +36,10 @@ pub record HasFault (f : Flavor) (bytes : List ℕ) : Type 0 where
   pub before : IsPiece f Strict bytes rest piece
   pub some : 0 < length rest
   pub none_begins : NoneBegins f rest
+
+-- A piece of text is appended, and the bytes that are left are returned, fewer than before. `Invalid`
+-- comes only in strict reading, and only of bytes with a fault.
+pub record AppendsPiece (f : Flavor) (which : Strictness) (bytes : List ℕ) (result : Result (Bor (List ℕ)) DecodeFault) (old new : List ℕ) : Type 0 where
+  pub less : IfOk result (λ rest. length rest.now < length bytes)
+  pub ok : IfOk result (λ rest. IsReadSoFar f which bytes rest.now old new)
+  pub invalid : OnInvalid result ((which ≡ Strict) × HasFault f bytes)

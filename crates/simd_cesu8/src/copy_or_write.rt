@@ -13,7 +13,6 @@ use crate::error::{DecodeSliceFault, DecodingError, LossySliceFault, TooShort};
 use crate::internal;
 use crate::internal::{
     Flavor, contains_changed, copy_to_slice, is_short_ascii, is_short_unchanged_ascii,
-    may_be_joined,
 };
 
 /// The test for UTF-8 goes byte by byte below this length. Decoding then takes less time,
@@ -25,10 +24,7 @@ const SOON_TESTED: usize = 24;
 /// Returns whether bytes that are not all ASCII are decoded sooner than they are tested for UTF-8.
 #[inline(always)]
 fn is_sooner_decoded(bytes: &[u8]) -> bool {
-    if bytes.len() <= SOON_TESTED {
-        return may_be_joined(bytes);
-    }
-    bytes.len() < TESTED_BY_VECTORS
+    SOON_TESTED < bytes.len() && bytes.len() < TESTED_BY_VECTORS
 }
 
 #[inline(always)]

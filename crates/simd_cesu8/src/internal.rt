@@ -20,7 +20,7 @@ mod window;
 mod writers;
 
 use crate::implementation::active;
-use crate::implementation::class::{Four, JoinedLead, NullFour};
+use crate::implementation::class::{Four, NullFour};
 use crate::implementation::short::{SHORT, any_in_short};
 pub use ascii::{ascii_text, is_short_ascii, is_short_unchanged_ascii};
 pub use continuation::{character_start, is_continuation};
@@ -80,10 +80,4 @@ fn short_contains_changed(flavor: Flavor, bytes: &[u8]) -> bool
         Flavor::Cesu8 => any_in_short::<Four>(bytes),
         Flavor::Mutf8 => any_in_short::<NullFour>(bytes),
     }
-}
-
-/// Returns whether one of a few bytes may begin a surrogate pair or C0 80.
-#[inline(always)]
-pub fn may_be_joined(bytes: &[u8]) -> bool {
-    any_in_short::<JoinedLead>(bytes)
 }

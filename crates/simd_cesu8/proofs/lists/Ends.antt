@@ -1,12 +1,12 @@
 -- The ends of lists: vectors at the front and at the end, which overlap, and what stays behind a place.
-use Rattle.std.proofs.Common.{◌≡◌, ℕ, Bool, true, false, IsTrue, ◌||◌, ◌+◌, ◌-◌, ◌*◌, ◌≤◌, ◌↔◌, ◌⊎◌, List, length, take, drop, refl, sym, ap, ◌∙◌, subst, inl, inr, ⊎_elim, arith, length-drop}
+use Rattle.std.proofs.Common.{◌≡◌, ℕ, Bool, true, false, IsTrue, ◌||◌, ◌+◌, ◌-◌, ◌*◌, ◌≤◌, ◌↔◌, ◌⊎◌, List, length, take, drop, refl, sym, ap, ◌∙◌, subst, inl, inr, ⊎_elim, arith}
 use Rattle.std.specs.List.{Any}
 use Rattle.std.proofs.lemmas.Bool.{false≢true}
-use Rattle.std.proofs.lemmas.List.{take-append-drop, drop-drop, take_all}
+use Rattle.std.proofs.lemmas.List.{take-append-drop, drop-drop}
 use Rattle.simd_cesu8.proofs.lists.Elements.{any_left, any_right, any_append}
 
 -- P holds of an element where it holds of one from a place on.
-any_drop : (P : ℕ → Type 0) (n : ℕ) (xs : List ℕ) → Any P (drop n xs) → Any P xs
+pub any_drop : (P : ℕ → Type 0) (n : ℕ) (xs : List ℕ) → Any P (drop n xs) → Any P xs
 any_drop P n xs any = subst (Any P) (take-append-drop n xs) (any_right P (take n xs) (drop n xs) any)
 
 -- P holds of an element where it holds of one before a place.
@@ -14,23 +14,10 @@ any_take : (P : ℕ → Type 0) (n : ℕ) (xs : List ℕ) → Any P (take n xs) 
 any_take P n xs any = subst (Any P) (take-append-drop n xs) (any_left P (take n xs) (drop n xs) any)
 
 -- P holds of an element from a place on where it holds of one from a later place on.
-any_later : (P : ℕ → Type 0) (a b : ℕ) (xs : List ℕ) → a ≤ b → Any P (drop b xs) → Any P (drop a xs)
+pub any_later : (P : ℕ → Type 0) (a b : ℕ) (xs : List ℕ) → a ≤ b → Any P (drop b xs) → Any P (drop a xs)
 any_later P a b xs order any =
     let place : a + (b - a) ≡ b = omega (arith, order) in
     any_drop P (b - a) (drop a xs) (subst (Any P) (sym (drop-drop (b - a) a xs ∙ ap (λ i. drop i xs) place)) any)
-
--- The last n elements are those of a list from the place on that is n before its end.
-last : (n : ℕ) (xs : List ℕ) → n ≤ length xs → take n (drop (length xs - n) xs) ≡ drop (length xs - n) xs
-last n xs fits = take_all n (drop (length xs - n) xs) (omega (arith, fits, length-drop (length xs - n) xs))
-
--- P holds of one of the last n elements where it holds of one from a place among these on.
-pub any_in_last : (P : ℕ → Type 0) (n b : ℕ) (xs : List ℕ) → n ≤ length xs → length xs ≤ n + b → Any P (drop b xs) →
-    Any P (take n (drop (length xs - n) xs))
-any_in_last P n b xs fits near any = subst (Any P) (sym (last n xs fits)) (any_later P (length xs - n) b xs (omega (arith, fits, near)) any)
-
--- P holds of an element where it holds of one of the last n.
-pub any_of_last : (P : ℕ → Type 0) (n : ℕ) (xs : List ℕ) → Any P (take n (drop (length xs - n) xs)) → Any P xs
-any_of_last P n xs any = any_drop P (length xs - n) xs (any_take P n (drop (length xs - n) xs) any)
 
 either : (s t : Bool) → IsTrue (s || t) → IsTrue s ⊎ IsTrue t
 either true t e = inl refl
@@ -42,12 +29,11 @@ either_of false t e = ⊎_elim (λ p. absurd (false≢true p)) (λ q. q) e
 
 -- Tests of the first n elements and of the last n, which are all, tell whether P holds of one.
 pub ends_tell : (P : ℕ → Type 0) (n : ℕ) (xs : List ℕ) (front end : Bool) → n ≤ length xs → length xs ≤ 2 * n →
-    (IsTrue front ↔ Any P (take n xs)) → (IsTrue end ↔ Any P (take n (drop (length xs - n) xs))) →
-    IsTrue (front || end) ↔ Any P xs
+    (IsTrue front ↔ Any P (take n xs)) → (IsTrue end ↔ Any P (drop (length xs - n) xs)) → IsTrue (front || end) ↔ Any P xs
 ends_tell P n xs front end fits covers f e = (
-  (λ t. ⊎_elim (λ p. any_take P n xs (f.0 p)) (λ p. any_of_last P n xs (e.0 p)) (either front end t)),
+  (λ t. ⊎_elim (λ p. any_take P n xs (f.0 p)) (λ p. any_drop P (length xs - n) xs (e.0 p)) (either front end t)),
   (λ any. either_of front end (⊎_elim (λ p. inl (f.1 p))
-      (λ p. inr (e.1 (any_in_last P n n xs fits (omega (arith, covers)) p)))
+      (λ p. inr (e.1 (any_later P (length xs - n) n xs (omega (arith, covers)) p)))
       (any_append P (take n xs) (drop n xs) (subst (Any P) (sym (take-append-drop n xs)) any)))),
 )
 

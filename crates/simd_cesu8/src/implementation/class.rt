@@ -2,7 +2,7 @@
 
 ghost use Rattle.std.specs.Prelude.{◌≡◌, ◌==◌, ◌≤◌, ◌↔◌, ℕ, Bool, false, IsTrue, Any, map};
 ghost use Rattle.std.specs.Simd.Lanes.{mask_l};
-ghost use Rattle.simd_cesu8.specs.Class.{is_four, is_null_four, is_high, is_null_high, is_null_lead, is_joined_lead};
+ghost use Rattle.simd_cesu8.specs.Class.{is_four, is_null_four, is_high, is_null_high, is_null_lead};
 ghost use Rattle.simd_cesu8.specs.EncodedPlaces.{is_lead};
 ghost use Rattle.simd_cesu8.specs.Kernels.{AnyIn, lane};
 
@@ -88,9 +88,6 @@ pub struct High;
 
 /// 00, or 80 (hexadecimal) or more.
 pub struct NullHigh;
-
-/// C0 or ED (hexadecimal): what begins C0 80 or a surrogate pair, and some other characters.
-pub struct JoinedLead;
 
 impl Class for NoByte {
     ghost class = { λ _. false };
@@ -197,19 +194,6 @@ impl<const N: usize> InVectors<N> for NullHigh {
     }
 }
 
-impl Class for JoinedLead {
-    ghost class = { is_joined_lead };
-}
-
-impl<const N: usize> InVectors<N> for JoinedLead {
-    #[inline(always)]
-    fn marks(bytes: Simd<u8, N>) -> Mask<i8, N>
-        ensures { result ≡ map (λ b. lane (is_joined_lead b)) bytes.entry }
-    {
-        bytes.simd_eq(Simd::splat(0xC0)) | bytes.simd_eq(Simd::splat(0xED))
-    }
-}
-
 impl InAllVectors for NoByte {}
 
 impl InAllVectors for Null {}
@@ -223,7 +207,5 @@ impl InAllVectors for High {}
 impl InAllVectors for NullHigh {}
 
 impl InAllVectors for Lead {}
-
-impl InAllVectors for JoinedLead {}
 
 impl InAllVectors for NullLead {}

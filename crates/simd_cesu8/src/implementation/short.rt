@@ -3,10 +3,10 @@
 //! Two vectors of one width, one at the front and one at the end, cover a value between that width
 //! and twice that. They overlap where needed, so no byte is left out.
 
-ghost use Rattle.std.specs.Prelude.{◌≡◌, ◌≤◌, ◌<◌, ◌*◌, ◌↔◌, IsTrue, length};
+ghost use Rattle.std.specs.Prelude.{◌≡◌, ◌≤◌, ◌<◌, ◌*◌, ◌-◌, ◌↔◌, IsTrue, length, drop};
 ghost use Rattle.simd_cesu8.specs.Kernels.{AnyIn};
 
-use super::class::{InAllVectors, InVectors, LANES, any_in_each, has};
+use super::class::{InAllVectors, InVectors, LANES, any_in_each, bits, has};
 use std::simd::prelude::*;
 
 /// The most bytes that a short value has.
@@ -47,8 +47,17 @@ fn any_in_ends<C: InVectors<N>, const N: usize>(bytes: &[u8]) -> bool
     ensures { IsTrue result ↔ AnyIn C.class bytes.now }
 {
     let front: Simd<u8, N> = Simd::from_slice(bytes);
-    let end: Simd<u8, N> = Simd::from_slice(&bytes[bytes.len() - N..]);
+    let end = end_vector::<N>(bytes);
     has::<C, N>(front) | has::<C, N>(end)
+}
+
+/// Returns the vector that ends where the bytes do.
+#[inline(always)]
+fn end_vector<const N: usize>(bytes: &[u8]) -> Simd<u8, N>
+    requires { (N ≤ LANES) × (N ≤ length bytes.now) }
+    ensures { result ≡ drop (length bytes.now - N) bytes.now }
+{
+    Simd::from_slice(&bytes[bytes.len() - N..])
 }
 
 /// Returns whether some byte of a block is in the class, or of the last 64 bytes, which overlap the
@@ -59,6 +68,18 @@ fn any_in_blocks<C: InVectors<LANES>>(bytes: &[u8]) -> bool
     ensures { IsTrue result ↔ AnyIn C.class bytes.now }
 {
     let (blocks, _) = bytes.as_chunks::<LANES>();
-    let end: Simd<u8, LANES> = Simd::from_slice(&bytes[bytes.len() - LANES..]);
+    let end = end_vector::<LANES>(bytes);
     any_in_each::<C, LANES>(blocks) || has::<C, LANES>(end)
+}
+
+/// Counts the bytes in the class, in a vector at the front and one at the end. Bytes in both count
+/// once.
+#[inline(always)]
+pub fn count_in_ends<C: InVectors<N>, const N: usize>(bytes: &[u8]) -> usize
+    requires { (N ≤ LANES) × (N < length bytes.now) × (length bytes.now ≤ 2 * N) }
+{
+    let front: Simd<u8, N> = Simd::from_slice(bytes);
+    let end = end_vector::<N>(bytes);
+    let behind = bits::<C, N>(end) >> (2 * N - bytes.len());
+    (bits::<C, N>(front).count_ones() + behind.count_ones()) as usize
 }

@@ -19,8 +19,7 @@ ghost use Rattle.simd_cesu8.specs.Text.{utf8};
 ghost use Rattle.simd_cesu8.specs.Reading.{IsStrictReading, HasNoStrictReading, reading, lossy_length};
 ghost use Rattle.simd_cesu8.specs.Fault.{OnInvalid};
 ghost use Rattle.simd_cesu8.specs.Internal.{flavor_of, IsDecodedText};
-ghost use Rattle.simd_cesu8.specs.Pieces.{IsPiece, IsReadSoFar, HasFault};
-ghost use Rattle.simd_cesu8.specs.declared.internal.Strictness.TheVariants.{Strict};
+ghost use Rattle.simd_cesu8.specs.Pieces.{AppendsPiece};
 
 mod appending;
 mod by_places;
@@ -238,11 +237,8 @@ fn append_next<'b, A: Allocator>(
     out: &mut String<A>,
 ) -> Result<&'b [u8], DecodeFault>
     requires { 0 < length bytes.now }
-    ensures less { IfOk result (λ rest. length rest.now < length bytes.now) }
-    ensures ok { IfOk result (λ rest. IsReadSoFar (flavor_of options.flavor) options.strictness
-        bytes.now rest.now (string_bytes out.old) (string_bytes out.new)) }
-    ensures invalid { OnInvalid result ((options.strictness ≡ Strict)
-        × HasFault (flavor_of options.flavor) bytes.now) }
+    ensures { AppendsPiece (flavor_of options.flavor) options.strictness bytes.now
+        result (string_bytes out.old) (string_bytes out.new) }
 {
     if bytes.len() <= SMALL {
         return append_small(options, bytes, out);
@@ -258,11 +254,8 @@ fn append_long<'b, A: Allocator>(
     out: &mut String<A>,
 ) -> Result<&'b [u8], DecodeFault>
     requires { SMALL < length bytes.now }
-    ensures less { IfOk result (λ rest. length rest.now < length bytes.now) }
-    ensures ok { IfOk result (λ rest. IsReadSoFar (flavor_of options.flavor) options.strictness
-        bytes.now rest.now (string_bytes out.old) (string_bytes out.new)) }
-    ensures invalid { OnInvalid result ((options.strictness ≡ Strict)
-        × HasFault (flavor_of options.flavor) bytes.now) }
+    ensures { AppendsPiece (flavor_of options.flavor) options.strictness bytes.now
+        result (string_bytes out.old) (string_bytes out.new) }
 {
     let mut room = [0; ROOM_LEN];
     let mut most = match options.strictness {
@@ -287,11 +280,8 @@ fn read_windows<'b, A: Allocator>(
     out: &mut String<A>,
 ) -> Result<&'b [u8], DecodeFault>
     requires { SMALL < length bytes.now }
-    ensures less { IfOk result (λ rest. length rest.now < length bytes.now) }
-    ensures ok { IfOk result (λ rest. IsReadSoFar (flavor_of options.flavor) options.strictness
-        bytes.now rest.now (string_bytes out.old) (string_bytes out.new)) }
-    ensures invalid { OnInvalid result ((options.strictness ≡ Strict)
-        × HasFault (flavor_of options.flavor) bytes.now) }
+    ensures { AppendsPiece (flavor_of options.flavor) options.strictness bytes.now
+        result (string_bytes out.old) (string_bytes out.new) }
 {
     if let Some(piece) = read_window(options.flavor, bytes, most, room) {
         append(piece.text, out)?;
@@ -312,11 +302,8 @@ fn append_windows<'b, A: Allocator>(
     out: &mut String<A>,
 ) -> Result<&'b [u8], DecodeFault>
     requires { 0 < length bytes.now }
-    ensures less { IfOk result (λ rest. length rest.now < length bytes.now) }
-    ensures ok { IfOk result (λ rest. IsReadSoFar (flavor_of options.flavor) options.strictness
-        bytes.now rest.now (string_bytes out.old) (string_bytes out.new)) }
-    ensures invalid { OnInvalid result ((options.strictness ≡ Strict)
-        × HasFault (flavor_of options.flavor) bytes.now) }
+    ensures { AppendsPiece (flavor_of options.flavor) options.strictness bytes.now
+        result (string_bytes out.old) (string_bytes out.new) }
 {
     let mut written = [0; WRITTEN_ROOM];
     let mut rest = bytes;

@@ -4,7 +4,7 @@ ghost use Rattle.std.specs.Prelude.{◌≡◌, ◌+◌, ◌*◌, ◌<◌, ◌≤
 ghost use Rattle.std.specs.String.{string_bytes};
 ghost use Rattle.simd_cesu8.specs.Fault.{OnInvalid};
 ghost use Rattle.simd_cesu8.specs.Internal.{flavor_of};
-ghost use Rattle.simd_cesu8.specs.Pieces.{IsReadSoFar, IsPiece, HasFault};
+ghost use Rattle.simd_cesu8.specs.Pieces.{AppendsPiece, IsPiece, HasFault};
 ghost use Rattle.simd_cesu8.specs.declared.internal.Strictness.TheVariants.{Strict, Lossy};
 
 use super::by_places::{ReadWindow, TESTED, read_by_characters, read_by_places};
@@ -26,11 +26,8 @@ pub fn append_small<'b, A: Allocator>(
     out: &mut String<A>,
 ) -> Result<&'b [u8], DecodeFault>
     requires { 0 < length bytes.now }
-    ensures less { IfOk result (λ rest. length rest.now < length bytes.now) }
-    ensures ok { IfOk result (λ rest. IsReadSoFar (flavor_of options.flavor) options.strictness
-        bytes.now rest.now (string_bytes out.old) (string_bytes out.new)) }
-    ensures invalid { OnInvalid result ((options.strictness ≡ Strict)
-        × HasFault (flavor_of options.flavor) bytes.now) }
+    ensures { AppendsPiece (flavor_of options.flavor) options.strictness bytes.now
+        result (string_bytes out.old) (string_bytes out.new) }
 {
     if is_sooner_by_characters(bytes) {
         return append_few(options, bytes, out);
@@ -52,11 +49,8 @@ fn append_few<'b, A: Allocator>(
     out: &mut String<A>,
 ) -> Result<&'b [u8], DecodeFault>
     requires { (0 < length bytes.now) × (length bytes.now ≤ FEW) }
-    ensures less { IfOk result (λ rest. length rest.now < length bytes.now) }
-    ensures ok { IfOk result (λ rest. IsReadSoFar (flavor_of options.flavor) options.strictness
-        bytes.now rest.now (string_bytes out.old) (string_bytes out.new)) }
-    ensures invalid { OnInvalid result ((options.strictness ≡ Strict)
-        × HasFault (flavor_of options.flavor) bytes.now) }
+    ensures { AppendsPiece (flavor_of options.flavor) options.strictness bytes.now
+        result (string_bytes out.old) (string_bytes out.new) }
 {
     let mut written = [0; FEW_WRITTEN + TESTED];
     let read = read_by_characters(options.flavor, bytes, &mut written);
@@ -73,11 +67,8 @@ pub fn append_in<'b, const LEN: usize, const WRITTEN: usize, A: Allocator>(
     requires some { 0 < length bytes.now }
     requires window { LEAST ≤ LEN }
     requires written { (WIDEST * LEN ≤ WRITTEN + SPARED) × (WRITTEN ≤ WRITTEN_ROOM) }
-    ensures less { IfOk result (λ rest. length rest.now < length bytes.now) }
-    ensures ok { IfOk result (λ rest. IsReadSoFar (flavor_of options.flavor) options.strictness
-        bytes.now rest.now (string_bytes out.old) (string_bytes out.new)) }
-    ensures invalid { OnInvalid result ((options.strictness ≡ Strict)
-        × HasFault (flavor_of options.flavor) bytes.now) }
+    ensures { AppendsPiece (flavor_of options.flavor) options.strictness bytes.now
+        result (string_bytes out.old) (string_bytes out.new) }
 {
     let mut window = [0; LEN];
     let mut written = [0; WRITTEN];
@@ -97,11 +88,8 @@ pub fn append_window<'b, A: Allocator>(
     requires window { LEAST ≤ length window.old }
     requires zeros { window.old ≡ replicate (length window.old) 0 }
     requires written { WIDEST * length window.old ≤ length written.old + SPARED }
-    ensures less { IfOk result (λ rest. length rest.now < length bytes.now) }
-    ensures ok { IfOk result (λ rest. IsReadSoFar (flavor_of options.flavor) options.strictness
-        bytes.now rest.now (string_bytes out.old) (string_bytes out.new)) }
-    ensures invalid { OnInvalid result ((options.strictness ≡ Strict)
-        × HasFault (flavor_of options.flavor) bytes.now) }
+    ensures { AppendsPiece (flavor_of options.flavor) options.strictness bytes.now
+        result (string_bytes out.old) (string_bytes out.new) }
 {
     let read = read_by_places(options.flavor, bytes, window, written);
     append_read(options, bytes, read, out)
@@ -121,11 +109,8 @@ fn append_read<'b, A: Allocator>(
     requires strict { read.is_damaged ≡ false → IsPiece (flavor_of options.flavor) Strict bytes.now
         (drop read.len bytes.now) read.text.now }
     requires damaged { read.is_damaged ≡ true → HasFault (flavor_of options.flavor) bytes.now }
-    ensures less { IfOk result (λ rest. length rest.now < length bytes.now) }
-    ensures ok { IfOk result (λ rest. IsReadSoFar (flavor_of options.flavor) options.strictness
-        bytes.now rest.now (string_bytes out.old) (string_bytes out.new)) }
-    ensures invalid { OnInvalid result ((options.strictness ≡ Strict)
-        × HasFault (flavor_of options.flavor) bytes.now) }
+    ensures { AppendsPiece (flavor_of options.flavor) options.strictness bytes.now
+        result (string_bytes out.old) (string_bytes out.new) }
 {
     if read.is_damaged && matches!(options.strictness, Strictness::Strict) {
         return Err(DecodeFault::Invalid(DecodingError(())));

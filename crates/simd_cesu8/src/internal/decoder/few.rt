@@ -11,10 +11,10 @@ use super::characters::write_characters;
 use super::packing::WIDEST;
 use super::{FEW, FEW_WRITTEN, FEWEST, FEWEST_WRITTEN, WRITTEN_ROOM};
 use crate::error::{DecodeSliceFault, DecodingError, LossySliceFault};
-use crate::implementation::class::{LANES, NullHigh, bits};
+use crate::implementation::class::NullHigh;
+use crate::implementation::short::count_in_ends;
 use crate::internal::Flavor;
 use crate::internal::writers::copy_to_slice;
-use std::simd::prelude::*;
 
 /// Of so few bytes,
 const SHORT: usize = 24;
@@ -36,31 +36,18 @@ pub fn is_sooner_by_characters(bytes: &[u8]) -> bool
         return true;
     }
     if len <= 16 {
-        return others_in_ends::<8>(bytes) <= OTHERS;
+        return count_in_ends::<NullHigh, 8>(bytes) <= OTHERS;
     }
     if len <= SHORT {
-        return others_in_ends::<16>(bytes) <= OTHERS;
+        return count_in_ends::<NullHigh, 16>(bytes) <= OTHERS;
     }
     if len <= 32 {
-        return others_in_ends::<16>(bytes) <= FEWER_OTHERS;
+        return count_in_ends::<NullHigh, 16>(bytes) <= FEWER_OTHERS;
     }
     if len <= 64 {
-        return others_in_ends::<32>(bytes) <= FEWER_OTHERS;
+        return count_in_ends::<NullHigh, 32>(bytes) <= FEWER_OTHERS;
     }
-    len <= FEW && others_in_ends::<64>(bytes) <= FEWER_OTHERS
-}
-
-/// Counts the bytes other than 01 to 7F, by a vector at the front and one at the end, which together
-/// cover all.
-#[inline(always)]
-fn others_in_ends<const N: usize>(bytes: &[u8]) -> usize
-    requires { (N ≤ LANES) × (N < length bytes.now) × (length bytes.now ≤ 2 * N) }
-{
-    let front: Simd<u8, N> = Simd::from_slice(bytes);
-    let end: Simd<u8, N> = Simd::from_slice(&bytes[bytes.len() - N..]);
-    // Some bytes are in both.
-    let behind = bits::<NullHigh, N>(end) >> (2 * N - bytes.len());
-    (bits::<NullHigh, N>(front).count_ones() + behind.count_ones()) as usize
+    len <= FEW && count_in_ends::<NullHigh, 64>(bytes) <= FEWER_OTHERS
 }
 
 /// Writes the strict reading of a few bytes to a caller's buffer, if it fits, one character after

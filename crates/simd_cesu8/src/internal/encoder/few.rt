@@ -10,18 +10,17 @@ ghost use Rattle.simd_cesu8.specs.Encoding.{Flavor as AnyFlavor, encoding, short
 ghost use Rattle.simd_cesu8.specs.EncodedPlaces.{IsRun};
 ghost use Rattle.simd_cesu8.specs.Internal.{flavor_of};
 
-use crate::implementation::class::{LANES, Lead, NullLead, bits};
-use crate::implementation::short::any_in_short;
+use crate::implementation::class::{Lead, NullLead};
+use crate::implementation::short::{any_in_short, count_in_ends};
 use crate::internal::Flavor;
 use crate::internal::runs::copy_run;
 use crate::internal::writers::put;
-use std::simd::prelude::*;
 
 /// The most bytes that are few.
 pub const FEW: usize = 24;
 
 /// So many changes are few. More of them are written sooner by a block.
-const CHANGES: u32 = 2;
+const CHANGES: usize = 2;
 
 /// The least lead byte of a character of four bytes.
 const FOUR_LEAD: u8 = 0xF0;
@@ -57,19 +56,9 @@ pub fn is_sooner_by_runs(text: &str) -> bool
         return true;
     }
     if bytes.len() <= 16 {
-        return changed_in_ends::<8>(bytes) <= CHANGES;
+        return count_in_ends::<NullLead, 8>(bytes) <= CHANGES;
     }
-    bytes.len() <= FEW && changed_in_ends::<16>(bytes) <= CHANGES
-}
-
-/// Counts the bytes that change, in a vector at the front and in one at the end.
-#[inline(always)]
-fn changed_in_ends<const N: usize>(bytes: &[u8]) -> u32
-    requires { (N ≤ LANES) × (N ≤ length bytes.now) }
-{
-    let front: Simd<u8, N> = Simd::from_slice(bytes);
-    let end: Simd<u8, N> = Simd::from_slice(&bytes[bytes.len() - N..]);
-    bits::<NullLead, N>(front).count_ones() + bits::<NullLead, N>(end).count_ones()
+    bytes.len() <= FEW && count_in_ends::<NullLead, 16>(bytes) <= CHANGES
 }
 
 /// Writes the encoding of a text at the front of a slice, and returns its length.

@@ -13,8 +13,8 @@ loop-rest-preserved g c =
     more_read (flavor_of c.args.options.flavor) c.args.options.strictness c.args.bytes.now c.loop-rest.rest.now _ _ _ _
     c.loop-rest.invariant c.in_ok-rest.ensures.ok
 
-pub returns-in_err-rest-clause-invalid : goal.returns-in_err-rest-clause-invalid
-returns-in_err-rest-clause-invalid g c =
+pub returns-in_err-rest : goal.returns-in_err-rest
+returns-in_err-rest g c =
     let refused = refused_after (flavor_of c.args.options.flavor) c.args.options.strictness c.args.bytes.now c.loop-rest.rest.now _ _
     c.in_err-rest.field-0.0 c.loop-rest.invariant c.in_err-rest.ensures.invalid in
     search (rules, refused)

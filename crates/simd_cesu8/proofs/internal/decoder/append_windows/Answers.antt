@@ -22,8 +22,8 @@ loop-windows-preserved g c = record {
   less = λ some. omega (arith, c.in_ok-rest.ensures.less);
 }
 
-pub returns-in_err-rest-clause-invalid : goal.returns-in_err-rest-clause-invalid
-returns-in_err-rest-clause-invalid g c =
+pub returns-in_err-rest : goal.returns-in_err-rest
+returns-in_err-rest g c =
     let refused = refused_after (flavor_of c.args.options.flavor) c.args.options.strictness c.args.bytes.now c.loop-windows.rest.now _ _
     c.in_err-rest.field-0.0 c.loop-windows.invariant.so_far c.in_err-rest.ensures.invalid in
     search (rules, refused)
