@@ -1,7 +1,7 @@
 //! The calls for both flavors into a caller's buffer: each copies if no byte changes, and writes
 //! otherwise.
 
-ghost use Rattle.std.specs.Prelude.{◌≡◌};
+ghost use Rattle.std.specs.Prelude.{◌≡◌, ◌<◌, length, IsTrue};
 ghost use Rattle.std.specs.Str.{chars};
 ghost use Rattle.simd_cesu8.specs.Encoding.{encoding};
 ghost use Rattle.simd_cesu8.specs.Reading.{IsStrictReading, IsLenientReading, reading, IsLenientLossyReading};
@@ -15,13 +15,21 @@ use crate::internal::{
     Flavor, contains_changed, copy_to_slice, is_short_ascii, is_short_unchanged_ascii,
 };
 
-/// The test for UTF-8 goes byte by byte below this length. Decoding then takes less time,
+/// The test for UTF-8 goes byte by byte below this length. Decoding takes less time,
 const TESTED_BY_VECTORS: usize = 64;
 
-/// but for text of this length and less that stays as it is.
+/// but of so few bytes only if most of them are ASCII.
 const SOON_TESTED: usize = 24;
 
-/// Returns whether bytes that are not all ASCII are decoded sooner than they are tested for UTF-8.
+/// Returns whether so few bytes, of which hardly any are not ASCII, are decoded before any test.
+#[inline(always)]
+fn is_sooner_by_characters(bytes: &[u8]) -> bool
+    ensures { IsTrue result → length bytes.now < TESTED_BY_VECTORS }
+{
+    bytes.len() < TESTED_BY_VECTORS && internal::is_sooner_by_characters(bytes)
+}
+
+/// Returns whether other bytes are decoded sooner than they are tested for UTF-8.
 #[inline(always)]
 fn is_sooner_decoded(bytes: &[u8]) -> bool {
     SOON_TESTED < bytes.len() && bytes.len() < TESTED_BY_VECTORS
@@ -34,7 +42,7 @@ pub fn encode_to_slice(flavor: Flavor, value: &str, buf: &mut [u8]) -> Result<us
     if internal::is_few_unchanged(flavor, value) {
         return copy_to_slice(value.as_bytes(), buf);
     }
-    if internal::is_sooner_by_runs(value) {
+    if internal::is_few(value) {
         return internal::encode_few_to_slice(flavor, value, buf);
     }
     if !needs_encoded(flavor, value) {
@@ -69,6 +77,9 @@ fn decode_strict_to_slice_other(
     ensures { WritesReading (λ text. IsStrictReading (flavor_of flavor) bytes.now text)
         result buf.old buf.new }
 {
+    if is_sooner_by_characters(bytes) {
+        return internal::decode_few_strict_to_slice(flavor, bytes, buf);
+    }
     // No encoding has a byte that changes, so there is nothing to decode.
     if contains_changed(flavor, bytes) {
         return Err(DecodeSliceFault::Invalid(DecodingError(())));
@@ -140,6 +151,9 @@ fn decode_lossy_strict_to_slice_other(
     ensures { WritesLossyReading (λ text. text ≡ reading (flavor_of flavor) bytes.now)
         result buf.old buf.new }
 {
+    if is_sooner_by_characters(bytes) {
+        return internal::decode_few_lossy_to_slice(flavor, bytes, buf);
+    }
     if is_sooner_decoded(bytes) {
         return internal::decode_lossy_to_slice(flavor, bytes, buf);
     }

@@ -25,10 +25,11 @@ use crate::implementation::short::{SHORT, any_in_short};
 pub use ascii::{ascii_text, is_short_ascii, is_short_unchanged_ascii};
 pub use continuation::{character_start, is_continuation};
 pub use decoder::{
-    decode_lossy, decode_lossy_to_slice, decode_strict, decode_strict_to_slice, lossy_len, refuse,
+    decode_few_lossy_to_slice, decode_few_strict_to_slice, decode_lossy, decode_lossy_to_slice,
+    decode_strict, decode_strict_to_slice, is_sooner_by_characters, lossy_len, refuse,
 };
 pub use encoder::{
-    encode, encode_few_to_slice, encode_into, encode_to_slice, is_few_unchanged, is_sooner_by_runs,
+    encode, encode_few_to_slice, encode_into, encode_to_slice, is_few, is_few_unchanged,
 };
 pub use lengths::encoded_len;
 pub use writers::{copy, copy_text, copy_to_slice};

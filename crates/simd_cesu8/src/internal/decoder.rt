@@ -46,7 +46,7 @@ use super::{DecodeOptions, Flavor, Strictness};
 use crate::error::{DecodeFault, DecodingError};
 use appending::{append, append_in, append_small, append_window};
 use by_places::{TESTED, read_by_characters, read_by_places};
-use few::is_sooner_by_characters;
+pub use few::{decode_few_lossy_to_slice, decode_few_strict_to_slice, is_sooner_by_characters};
 use packing::WIDEST;
 pub use slices::{decode_lossy_to_slice, decode_strict_to_slice};
 use std::alloc::{AllocError, Allocator};

@@ -30,7 +30,7 @@ mod rows;
 mod windows;
 
 use self::blocks::BLOCK;
-pub use self::few::{is_few_unchanged, is_sooner_by_runs};
+pub use self::few::{is_few, is_few_unchanged};
 use self::few::{FEW, write_few};
 use self::windows::{write_bytes, write_short};
 use super::Flavor;
@@ -176,7 +176,7 @@ fn write_block_text(flavor: Flavor, text: &str, out: &mut [u8]) -> usize
     ensures end { result ≤ length out.new }
     ensures len { length out.new ≡ length out.old }
 {
-    if is_sooner_by_runs(text) {
+    if is_few(text) {
         return write_few(flavor, text, out);
     }
     match flavor {

@@ -1,6 +1,6 @@
 //! Decodes bytes one character after another. Runs of ASCII are copied by vectors.
 
-ghost use Rattle.std.specs.Prelude.{◌≡◌, ◌+◌, ◌*◌, ◌<◌, ℕ, ◌≤◌, ◌++◌, length, take, drop, slice_index, false, true};
+ghost use Rattle.std.specs.Prelude.{◌≡◌, ◌+◌, ◌*◌, ◌<◌, ℕ, ◌≤◌, ◌++◌, [], length, take, drop, slice_index, false, true, IfSome, IfNone};
 ghost use Rattle.simd_cesu8.specs.Reading.{NoneBegins};
 ghost use Rattle.simd_cesu8.specs.DecodedPlaces.{one_at};
 ghost use Rattle.simd_cesu8.specs.Internal.{flavor_of};
@@ -30,7 +30,7 @@ struct Step {
     is_damaged: bool,
 }
 
-/// Writes what becomes of the bytes.
+/// Writes the characters of the bytes, and U+FFFD for each damaged byte.
 #[inline(always)]
 pub fn write_characters(flavor: Flavor, bytes: &[u8], out: &mut [u8]) -> Decoded
     requires { WIDEST * length bytes.now ≤ length out.old }
@@ -57,6 +57,29 @@ pub fn write_characters(flavor: Flavor, bytes: &[u8], out: &mut [u8]) -> Decoded
         end,
         is_damaged,
     }
+}
+
+/// Writes the characters of the bytes up to the first damaged one, and returns where they end, if
+/// there is none.
+#[inline(always)]
+pub fn write_undamaged(flavor: Flavor, bytes: &[u8], out: &mut [u8]) -> Option<usize>
+    requires { WIDEST * length bytes.now ≤ length out.old }
+    ensures end { IfSome result (λ end. end ≤ length out.new) }
+    ensures whole { IfSome result (λ end.
+        IsPiece (flavor_of flavor) Strict bytes.now [] (take end out.new)) }
+    ensures damaged { IfNone result (HasFault (flavor_of flavor) bytes.now) }
+{
+    let mut rest = bytes;
+    let mut end = 0;
+    while !rest.is_empty() {
+        let step = write_next(flavor, rest, out, end);
+        if step.is_damaged {
+            return None;
+        }
+        rest = &rest[step.read..];
+        end = step.end;
+    }
+    Some(end)
 }
 
 /// Writes some characters of one byte, or else the character that begins the bytes, or U+FFFD for a

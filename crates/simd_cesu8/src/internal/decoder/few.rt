@@ -7,7 +7,7 @@ ghost use Rattle.simd_cesu8.specs.Reading.{IsStrictReading, reading};
 ghost use Rattle.simd_cesu8.specs.Internal.{flavor_of};
 ghost use Rattle.simd_cesu8.specs.Slices.{WritesReading, WritesLossyReading};
 
-use super::characters::write_characters;
+use super::characters::{write_characters, write_undamaged};
 use super::packing::WIDEST;
 use super::{FEW, FEW_WRITTEN, FEWEST, FEWEST_WRITTEN, WRITTEN_ROOM};
 use crate::error::{DecodeSliceFault, DecodingError, LossySliceFault};
@@ -16,10 +16,11 @@ use crate::implementation::short::count_in_ends;
 use crate::internal::Flavor;
 use crate::internal::writers::copy_to_slice;
 
-/// Of so few bytes,
-const SHORT: usize = 24;
+/// So few bytes are read one after another in strict reading, which stops at the first damage.
+pub const SHORT: usize = 24;
 
-/// so many may be other than 01 to 7F (hexadecimal). Each may be damaged, and then it is a step.
+/// In lossy reading so many of them may be other than 01 to 7F (hexadecimal). Each may be damaged, and
+/// then it is a step.
 const OTHERS: usize = 12;
 
 /// Of more bytes so many may be, as many as a surrogate pair has.
@@ -80,11 +81,10 @@ fn strict_by_characters<const WRITTEN: usize>(
         result buf.old buf.new }
 {
     let mut written = [0; WRITTEN];
-    let characters = write_characters(flavor, bytes, &mut written);
-    if characters.is_damaged {
+    let Some(end) = write_undamaged(flavor, bytes, &mut written) else {
         return Err(DecodeSliceFault::Invalid(DecodingError(())));
-    }
-    copy_to_slice(&written[..characters.end], buf).map_err(DecodeSliceFault::TooShort)
+    };
+    copy_to_slice(&written[..end], buf).map_err(DecodeSliceFault::TooShort)
 }
 
 /// Writes the lossy reading of a few bytes to a caller's buffer, if it fits, one character after

@@ -15,7 +15,9 @@ ghost use Rattle.simd_cesu8.specs.Slices.{StandsAtFront, WritesAnswer, WritesRea
 
 use super::by_places::write_in_flavor;
 use super::damage::{is_damaged, is_damaged_in_front};
-use super::few::{decode_few_lossy_to_slice, decode_few_strict_to_slice, is_sooner_by_characters};
+use super::few::{
+    SHORT, decode_few_lossy_to_slice, decode_few_strict_to_slice, is_sooner_by_characters,
+};
 use super::packing::WIDEST;
 use super::whole::write_joined;
 use super::windows::{AROUND, LEAST, SPARED};
@@ -39,7 +41,7 @@ pub fn decode_strict_to_slice(
     ensures { WritesReading (λ text. IsStrictReading (flavor_of flavor) bytes.now text)
         result buf.old buf.new }
 {
-    if is_sooner_by_characters(bytes) {
+    if bytes.len() <= SHORT || is_sooner_by_characters(bytes) {
         return decode_few_strict_to_slice(flavor, bytes, buf);
     }
     if bytes.len() <= FEWEST {

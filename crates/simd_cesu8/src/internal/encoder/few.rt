@@ -11,16 +11,13 @@ ghost use Rattle.simd_cesu8.specs.EncodedPlaces.{IsRun};
 ghost use Rattle.simd_cesu8.specs.Internal.{flavor_of};
 
 use crate::implementation::class::{Lead, NullLead};
-use crate::implementation::short::{any_in_short, count_in_ends};
+use crate::implementation::short::any_in_short;
 use crate::internal::Flavor;
 use crate::internal::runs::copy_run;
 use crate::internal::writers::put;
 
 /// The most bytes that are few.
 pub const FEW: usize = 24;
-
-/// So many changes are few. More of them are written sooner by a block.
-const CHANGES: usize = 2;
 
 /// The least lead byte of a character of four bytes.
 const FOUR_LEAD: u8 = 0xF0;
@@ -46,19 +43,12 @@ pub fn is_few_unchanged(flavor: Flavor, text: &str) -> bool
     }
 }
 
-/// Returns whether a text has few bytes, and few of them change.
+/// Returns whether a text has few bytes.
 #[inline(always)]
-pub fn is_sooner_by_runs(text: &str) -> bool
+pub fn is_few(text: &str) -> bool
     ensures { IsTrue result → length text.now ≤ FEW }
 {
-    let bytes = text.as_bytes();
-    if bytes.len() <= 8 {
-        return true;
-    }
-    if bytes.len() <= 16 {
-        return count_in_ends::<NullLead, 8>(bytes) <= CHANGES;
-    }
-    bytes.len() <= FEW && count_in_ends::<NullLead, 16>(bytes) <= CHANGES
+    text.len() <= FEW
 }
 
 /// Writes the encoding of a text at the front of a slice, and returns its length.
