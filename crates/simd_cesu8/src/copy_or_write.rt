@@ -15,11 +15,8 @@ use crate::internal::{
     Flavor, contains_changed, copy_to_slice, is_short_ascii, is_short_unchanged_ascii,
 };
 
-/// The test for UTF-8 goes byte by byte below this length. Decoding takes less time,
+/// The test for UTF-8 goes byte by byte below this length.
 const TESTED_BY_VECTORS: usize = 64;
-
-/// but of so few bytes only if most of them are ASCII.
-const SOON_TESTED: usize = 24;
 
 /// Returns whether so few bytes, of which hardly any are not ASCII, are decoded before any test.
 #[inline(always)]
@@ -27,12 +24,6 @@ fn is_sooner_by_characters(bytes: &[u8]) -> bool
     ensures { IsTrue result → length bytes.now < TESTED_BY_VECTORS }
 {
     bytes.len() < TESTED_BY_VECTORS && internal::is_sooner_by_characters(bytes)
-}
-
-/// Returns whether other bytes are decoded sooner than they are tested for UTF-8.
-#[inline(always)]
-fn is_sooner_decoded(bytes: &[u8]) -> bool {
-    SOON_TESTED < bytes.len() && bytes.len() < TESTED_BY_VECTORS
 }
 
 #[inline(always)]
@@ -83,9 +74,6 @@ fn decode_strict_to_slice_other(
     // No encoding has a byte that changes, so there is nothing to decode.
     if contains_changed(flavor, bytes) {
         return Err(DecodeSliceFault::Invalid(DecodingError(())));
-    }
-    if is_sooner_decoded(bytes) {
-        return internal::decode_strict_to_slice(flavor, bytes, buf);
     }
     if whole_text(bytes).len() == bytes.len() {
         return copy_to_slice(bytes, buf).map_err(DecodeSliceFault::TooShort);
@@ -153,9 +141,6 @@ fn decode_lossy_strict_to_slice_other(
 {
     if is_sooner_by_characters(bytes) {
         return internal::decode_few_lossy_to_slice(flavor, bytes, buf);
-    }
-    if is_sooner_decoded(bytes) {
-        return internal::decode_lossy_to_slice(flavor, bytes, buf);
     }
     if unchanged_text(flavor, bytes).len() == bytes.len() {
         return copy_to_slice(bytes, buf).map_err(LossySliceFault::TooShort);
