@@ -1,9 +1,9 @@
 -- Vectors that are stored into a list of bytes.
-use Rattle.std.proofs.Common.{◌≡◌, ℕ, zero, suc, ◌+◌, ◌≤◌, List, [], ◌∷◌, ◌++◌, refl, sym, ap, ◌∙◌, arith, length, take, drop}
+use Rattle.std.proofs.Common.{◌≡◌, ℕ, zero, suc, ◌+◌, ◌*◌, ◌-◌, ◌≤◌, List, [], ◌∷◌, ◌++◌, refl, sym, subst, ap, ◌∙◌, arith, length, take, drop}
 use lib.Lanes.{put_chunk}
-use Rattle.std.proofs.lemmas.List.{length-take-le, take-append-le, take-take}
+use Rattle.std.proofs.lemmas.List.{length-drop, length-take-le, take-append-drop, take-append-le, take-take}
 use Rattle.std.proofs.Math.Seq.{take-append-add}
-use Rattle.std.proofs.lemmas.Simd.{put_chunk_is}
+use Rattle.std.proofs.lemmas.Simd.{length-put_chunk, put_chunk_is, take_more_put_chunk}
 
 -- What is stored of a run stands behind what was written,
 pub run_stored : (at n run : ℕ) (bytes out : List ℕ) → at + n ≤ length out → n ≤ length bytes → run ≤ n →
@@ -24,3 +24,25 @@ behind_stored zero zero (x ∷ out) (y ∷ lanes) le = absurd (omega arith)
 behind_stored zero (suc m) (x ∷ out) (y ∷ lanes) le = behind_stored zero m out lanes (omega arith)
 behind_stored (suc at) zero (x ∷ out) lanes le = absurd (omega arith)
 behind_stored (suc at) (suc m) (x ∷ out) lanes le = behind_stored at m out lanes (omega arith)
+
+-- Vectors at both ends of some bytes, which together cover them, store all of them.
+pub ends_stored : (n : ℕ) (bytes out : List ℕ) → n ≤ length bytes → length bytes ≤ 2 * n → length bytes ≤ length out →
+    put_chunk (length bytes - n) (put_chunk 0 out (take n bytes)) (drop (length bytes - n) bytes) ≡ bytes ++ drop (length bytes) out
+ends_stored n bytes out many few room =
+    let len = length bytes in
+    let at = len - n in
+    let end = drop at bytes in
+    let first = put_chunk 0 out (take n bytes) in
+    let second = put_chunk at first end in
+    let end_len = length-drop at bytes in
+    let before : take at first ≡ take at bytes =
+        subst (λ i. take i first ≡ take at bytes) (let none : 0 + at ≡ at = omega arith in none)
+        (run_stored 0 n at bytes out (omega arith) many (omega arith)) in
+    let front : take len second ≡ bytes =
+        take_more_put_chunk at first end len (omega (arith, end_len)) (omega (arith, room, length-put_chunk 0 out (take n bytes)))
+        ∙ ap (λ bs. bs ++ end) before
+        ∙ take-append-drop at bytes in
+    let behind : drop len second ≡ drop len out =
+        behind_stored at len first end (omega (arith, end_len))
+        ∙ behind_stored 0 len out (take n bytes) (omega (arith, length-take-le n bytes many)) in
+    sym (take-append-drop len second) ∙ ap (λ bs. bs ++ drop len second) front ∙ ap (λ bs. bytes ++ bs) behind

@@ -3,7 +3,7 @@
 //! Two vectors of one width, one at the front and one at the end, cover a value between that width
 //! and twice that. They overlap where needed, so no byte is left out.
 
-ghost use Rattle.std.specs.Prelude.{◌≡◌, ◌≤◌, ◌<◌, ◌*◌, ◌-◌, ◌↔◌, IsTrue, length, drop};
+ghost use Rattle.std.specs.Prelude.{◌≡◌, ◌≤◌, ◌<◌, ◌*◌, ◌-◌, ◌↔◌, ◌++◌, IsTrue, length, drop};
 ghost use Rattle.simd_cesu8.specs.Kernels.{AnyIn};
 
 use super::class::{InAllVectors, InVectors, LANES, any_in_each, bits, has};
@@ -82,4 +82,41 @@ pub fn count_in_ends<C: InVectors<N>, const N: usize>(bytes: &[u8]) -> usize
     let end = end_vector::<N>(bytes);
     let behind = bits::<C, N>(end) >> (2 * N - bytes.len());
     (bits::<C, N>(front).count_ones() + behind.count_ones()) as usize
+}
+
+/// Copies bytes to the front of a buffer. It is correct for every length, and for short ones it takes
+/// less time than a call of `memmove`.
+#[inline(always)]
+pub fn copy_short(bytes: &[u8], buf: &mut [u8])
+    requires { length bytes.now ≤ length buf.old }
+    ensures { buf.new ≡ bytes.now ++ drop (length bytes.now) buf.old }
+{
+    if bytes.len() > LANES {
+        buf[..bytes.len()].copy_from_slice(bytes);
+    } else if bytes.len() >= 32 {
+        copy_ends::<32>(bytes, buf);
+    } else if bytes.len() >= 16 {
+        copy_ends::<16>(bytes, buf);
+    } else if bytes.len() >= 8 {
+        copy_ends::<8>(bytes, buf);
+    } else if bytes.len() >= 4 {
+        copy_ends::<4>(bytes, buf);
+    } else if bytes.len() >= 2 {
+        copy_ends::<2>(bytes, buf);
+    } else if !bytes.is_empty() {
+        copy_ends::<1>(bytes, buf);
+    }
+}
+
+/// The same by a vector at the front and one at the end.
+#[inline(always)]
+fn copy_ends<const N: usize>(bytes: &[u8], buf: &mut [u8])
+    requires lanes { (N ≤ LANES) × (N ≤ length bytes.now) × (length bytes.now ≤ 2 * N) }
+    requires room { length bytes.now ≤ length buf.old }
+    ensures { buf.new ≡ bytes.now ++ drop (length bytes.now) buf.old }
+{
+    let front: Simd<u8, N> = Simd::from_slice(bytes);
+    let end = end_vector::<N>(bytes);
+    front.copy_to_slice(buf);
+    end.copy_to_slice(&mut buf[bytes.len() - N..]);
 }

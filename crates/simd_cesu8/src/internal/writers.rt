@@ -5,6 +5,7 @@ ghost use Rattle.std.specs.String.{string_bytes, string_capacity};
 ghost use Rattle.simd_cesu8.specs.Slices.{WritesAnswer};
 
 use crate::error::TooShort;
+use crate::implementation::short::copy_short;
 use std::alloc::{AllocError, Allocator};
 use std::mem;
 
@@ -78,7 +79,7 @@ pub fn copy_to_slice(bytes: &[u8], buf: &mut [u8]) -> Result<usize, TooShort>
     if buf.len() < len {
         return Err(TooShort::new(len));
     }
-    buf[..len].copy_from_slice(bytes);
+    copy_short(bytes, buf);
     Ok(len)
 }
 
