@@ -18,7 +18,7 @@ pub mod mutf8;
 
 pub use crate::answer::{Answer, Decision, Reading};
 use crate::answer::{NOT_UTF8, TOO_LONG};
-use simdutf8::basic;
+use simdutf8::compat;
 
 /// Returns whether the CESU-8 of a text in UTF-8 differs from the UTF-8, as
 /// `simd_cesu8::needs_encoded` does. `NOT_UTF8` means that the input is not UTF-8.
@@ -26,7 +26,7 @@ use simdutf8::basic;
 pub extern "C" fn cesu8_needs_encoded(text: &[u8]) -> Decision
     ensures { DecidesNeed Cesu8 text.now result }
 {
-    match basic::from_utf8(text) {
+    match compat::from_utf8(text) {
         Ok(text) => Decision::of(simd_cesu8::needs_encoded(text)),
         Err(_) => Decision::without(),
     }
@@ -38,7 +38,7 @@ pub extern "C" fn cesu8_needs_encoded(text: &[u8]) -> Decision
 pub extern "C" fn cesu8_encoded_len(text: &[u8]) -> Answer
     ensures { TellsEncodedLength Cesu8 text.now result }
 {
-    match basic::from_utf8(text) {
+    match compat::from_utf8(text) {
         Ok(text) => Answer::of_length(simd_cesu8::encoded_len(text)),
         Err(_) => Answer::without(NOT_UTF8),
     }
@@ -50,7 +50,7 @@ pub extern "C" fn cesu8_encoded_len(text: &[u8]) -> Answer
 pub extern "C" fn cesu8_encode(text: &[u8], buf: &mut [u8]) -> Answer
     ensures { Encodes Cesu8 text.now result buf.old buf.new }
 {
-    match basic::from_utf8(text) {
+    match compat::from_utf8(text) {
         Ok(text) => Answer::of_bytes(simd_cesu8::encode_to_slice(text, buf)),
         Err(_) => Answer::without(NOT_UTF8),
     }

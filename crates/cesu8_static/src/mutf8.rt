@@ -7,7 +7,7 @@ ghost use Rattle.cesu8_static.specs.Answers.{DecidesNeed, TellsEncodedLength, Te
 
 use crate::answer::{Answer, Decision, NOT_UTF8, TOO_LONG};
 use simd_cesu8::mutf8;
-use simdutf8::basic;
+use simdutf8::compat;
 
 /// Returns whether the MUTF-8 of a text in UTF-8 differs from the UTF-8, as `mutf8::needs_encoded`
 /// does. `NOT_UTF8` means that the input is not UTF-8.
@@ -15,7 +15,7 @@ use simdutf8::basic;
 pub extern "C" fn cesu8_mutf8_needs_encoded(text: &[u8]) -> Decision
     ensures { DecidesNeed Mutf8 text.now result }
 {
-    match basic::from_utf8(text) {
+    match compat::from_utf8(text) {
         Ok(text) => Decision::of(mutf8::needs_encoded(text)),
         Err(_) => Decision::without(),
     }
@@ -27,7 +27,7 @@ pub extern "C" fn cesu8_mutf8_needs_encoded(text: &[u8]) -> Decision
 pub extern "C" fn cesu8_mutf8_encoded_len(text: &[u8]) -> Answer
     ensures { TellsEncodedLength Mutf8 text.now result }
 {
-    match basic::from_utf8(text) {
+    match compat::from_utf8(text) {
         Ok(text) => Answer::of_length(mutf8::encoded_len(text)),
         Err(_) => Answer::without(NOT_UTF8),
     }
@@ -39,7 +39,7 @@ pub extern "C" fn cesu8_mutf8_encoded_len(text: &[u8]) -> Answer
 pub extern "C" fn cesu8_mutf8_encode(text: &[u8], buf: &mut [u8]) -> Answer
     ensures { Encodes Mutf8 text.now result buf.old buf.new }
 {
-    match basic::from_utf8(text) {
+    match compat::from_utf8(text) {
         Ok(text) => Answer::of_bytes(mutf8::encode_to_slice(text, buf)),
         Err(_) => Answer::without(NOT_UTF8),
     }

@@ -15,7 +15,7 @@ use crate::internal;
 use crate::internal::{
     Flavor, ascii_text, character_start, contains_changed, is_short_ascii, is_short_unchanged_ascii,
 };
-use simdutf8::basic;
+use simdutf8::compat;
 use std::alloc::{AllocError, Global};
 
 #[inline(always)]
@@ -58,7 +58,7 @@ pub fn whole_text(bytes: &[u8]) -> &str
     if bytes.len() >= 4 * FRONT && !has_utf8_front(bytes) {
         return "";
     }
-    match basic::from_utf8(bytes) {
+    match compat::from_utf8(bytes) {
         Ok(text) => text,
         Err(_) => "",
     }
