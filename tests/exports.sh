@@ -1,10 +1,9 @@
 #!/usr/bin/env bash
 # Tests the library for C, crates/cesu8_static, in these steps:
 # 1. It compiles the header in each standard of C and C++, and tests the chooser with stubs behind it.
-# 2. It builds the static library for one level, and links and runs tests/exports.c, which calls each
-#    export.
-# 3. It does the same with the archive of archive.sh, looks at the archive's symbols, and builds and
-#    runs a caller in C++.
+# 2. It builds the archive of archive.sh, and the static library for one level with it. It links and runs
+#    tests/exports.c, which calls each export, with that library.
+# 3. It does the same with the archive, looks at its symbols, and builds and runs a caller in C++.
 # 4. It builds and runs the examples in C and in Rust.
 # 5. bench/run.sh builds its driver and runs it for one round. Before that, the driver compares what
 #    each measured call returns for many inputs.
@@ -28,14 +27,19 @@ trap 'rm -rf "$scratch"' EXIT
 # shellcheck source=tests/compilers.sh
 source "$top/tests/compilers.sh" || exit 2
 
-# In a clean clone this proves the crate and the library below it first.
+# In a clean clone this proves the crate and the libraries below it first. archive.sh leaves the library
+# for the lower level in out/, so that it is not built once more.
 build_library() {
     echo "building the static library"
-    if ! (cd "$crate" && quietly rt lib); then
+    if command -v objcopy >/dev/null; then
+        quietly sh "$crate/archive.sh" "$scratch/libcesu8.a"
+    else
+        (cd "$crate" && quietly rt lib)
+    fi
+    if ! cp "$crate/out/libcesu8_static.a" "$scratch/"; then
         echo "the static library was not built" >&2
         exit 2
     fi
-    cp "$crate/out/libcesu8_static.a" "$scratch/" || exit 2
 }
 
 # That the table of tests/exports.c, the header and the chooser have each of them.
@@ -145,7 +149,7 @@ run_archive() {
         echo 'objcopy is missing: the archive skipped'
         return
     fi
-    if ! quietly sh "$crate/archive.sh" "$scratch/libcesu8.a"; then
+    if [[ ! -f $scratch/libcesu8.a ]]; then
         wrong 'the archive does not build'
         return
     fi

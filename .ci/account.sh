@@ -1,0 +1,96 @@
+# What the gate says of its own time. .ci/run sources this file, and sets `scratch` before, a folder
+# for what it notes.
+# shellcheck shell=bash disable=SC2154
+
+# Notes every two seconds how much of the processors' time each check of `rt ci` has taken, until it
+# is ended. What a check takes after the last look at it is missed: `note_checks TREE ROOM`, the
+# folder where `rt ci` runs, and the one where it makes the copies for edits.
+note_checks() {
+    local stat pid line fields
+    local -A part=() ticks=()
+    while sleep 2; do
+        for stat in /proc/[0-9]*/stat; do
+            pid=${stat//[!0-9]/}
+            { read -r line <"$stat"; } 2>/dev/null || continue
+            [[ -n ${part[$pid]-} ]] || part[$pid]=$(part_of "$pid" "$1" "$2")
+            [[ -n ${part[$pid]} ]] || part[$pid]=none
+            [[ ${part[$pid]} != none ]] || continue
+            # The name of a process stands in brackets, and may have spaces.
+            read -r -a fields <<<"${line##*) }"
+            ticks[$pid]=$((fields[11] + fields[12]))
+        done
+        for pid in "${!ticks[@]}"; do
+            echo "${ticks[$pid]} ${part[$pid]}"
+        done >"$scratch/checks.new"
+        mv "$scratch/checks.new" "$scratch/checks"
+    done
+}
+
+# The crate that a process works for, and at what: `part_of PID TREE ROOM`.
+part_of() {
+    local at words
+    {
+        at=$(readlink "/proc/$1/cwd")
+        words=$(tr '\0' ' ' <"/proc/$1/cmdline")
+    } 2>/dev/null
+    case $at/ in
+        "$3"/rt-edit*) [[ $words =~ --crate-name\ ([a-z0-9_]+) ]] && echo "${BASH_REMATCH[1]}: edits" ;;
+        "$2"/crates/* | "$3"/rt-copy*/crates/*)
+            at=${at##*/crates/}
+            if [[ $words == *' --test '* ]]; then
+                echo "${at%%/*}: tests"
+            else
+                echo "${at%%/*}: proof"
+            fi
+            ;;
+    esac
+}
+
+# Keeps in `seconds` the processor time of all children that have ended, and in `user` and `system` its
+# parts.
+count_seconds() {
+    local minutes
+    times >"$scratch/times"
+    {
+        read -r _
+        read -r user system
+    } <"$scratch/times"
+    minutes=${user%m*} user=${user#*m} user=${user%.*}
+    user=$((minutes * 60 + user))
+    minutes=${system%m*} system=${system#*m} system=${system%.*}
+    system=$((minutes * 60 + system))
+    seconds=$((user + system))
+}
+
+# How many ticks the processors had, and how many of them other machines took, since this machine began.
+processor_ticks() {
+    awk '/^cpu / { for (i = 2; i <= 9; i++) all += $i; print all, $9 }' /proc/stat
+}
+
+# Keeps where the account begins.
+begin_account() {
+    read -r first_ticks first_stolen < <(processor_ticks)
+    : >"$scratch/checks"
+    : >"$scratch/script_seconds"
+}
+
+# Prints the minutes of processor time by part, and then of all.
+show_account() {
+    local ticks stolen
+    count_seconds
+    read -r ticks stolen < <(processor_ticks)
+    echo '== processor minutes by part'
+    {
+        awk -v hertz="$(getconf CLK_TCK)" '
+            { spent = $1; sub(/^[0-9]+ /, ""); sum[$0] += spent }
+            END { for (part in sum) printf "%6.1f  %s\n", sum[part] / hertz / 60, part }
+        ' "$scratch/checks"
+        awk '{ printf "%6.1f  %s\n", $1 / 60, $2 }' "$scratch/script_seconds"
+    } | sort -rn
+    awk -v by_user="$user" -v by_system="$system" -v wall="$SECONDS" -v processors="$(nproc)" \
+        -v ticks="$((ticks - first_ticks))" -v stolen="$((stolen - first_stolen))" 'BEGIN {
+            printf "%6.1f  all: %.1f user, %.1f system; in %.1f minutes on %d processors, of whose time\n",
+                (by_user + by_system) / 60, by_user / 60, by_system / 60, wall / 60, processors
+            printf "        other machines took %.1f percent\n", ticks ? 100 * stolen / ticks : 0
+        }'
+}
