@@ -14,3 +14,4 @@ pub mod fragments;
 pub mod full;
 pub mod pattern;
 pub mod plain;
+pub mod slices;
