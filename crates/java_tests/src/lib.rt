@@ -1,0 +1,9 @@
+//! Tests of `java_text` by its public calls, on values that it did not compute.
+#![tactic(auto)]
+
+#[cfg(test)]
+mod forms;
+#[cfg(test)]
+mod reading;
+#[cfg(test)]
+mod writing;

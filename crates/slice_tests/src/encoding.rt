@@ -1,0 +1,87 @@
+//! Encoding into buffers of each length up to one byte more than is needed.
+
+use std::alloc::Global;
+use std::str;
+use std::test::Fail;
+use test_cases::borders::BORDERS;
+use test_cases::comparisons::Difference;
+use test_cases::fills::{Input, repeated};
+use test_cases::flavors::{FLAVORS, Flavor};
+use test_cases::pattern::{PATTERN, encoded_pattern};
+use test_cases::plain::encoded;
+use test_cases::slices::{SliceCall, expect_in_rooms};
+
+/// Compares the call in each buffer.
+fn expect_in_each_room(
+    alloc: Global,
+    flavor: Flavor,
+    text: &str,
+    bytes: &[u8],
+) -> Result<(), Difference> {
+    let rooms = 0..bytes.len().saturating_add(2);
+    expect_in_rooms(alloc, flavor, SliceCall::Encode(text), Some(bytes), rooms)
+}
+
+#[test]
+fn encodes_the_borders(rt: HostRuntime) -> Result<(), Fail> {
+    for flavor in FLAVORS {
+        for row in &BORDERS {
+            let text = str::from_utf8(row.utf8)?;
+            let compared = expect_in_each_room(rt.alloc(), flavor, text, row.encoded(flavor));
+            assert!(rt; compared.is_ok(), "{}: {compared:?}", row.name);
+        }
+    }
+    Ok(())
+}
+
+/// About the lengths at which the encoder goes another way.
+const LENGTHS: [usize; 23] = [
+    0, 1, 3, 15, 28, 29, 31, 32, 33, 59, 60, 61, 63, 64, 65, 96, 123, 125, 127, 128, 129, 160, 200,
+];
+
+/// ASCII of so many bytes, alone, and with a character that changes before it, within it and behind
+/// it.
+fn expect_among_ascii(alloc: Global, len: usize, character: &str) -> Result<(), Difference> {
+    for place in [0, len / 2, len] {
+        let put = character.as_bytes();
+        let input = Input {
+            fill: b"a",
+            len,
+            put,
+            place,
+        };
+        let utf8 = input.inserted(alloc)?;
+        let text = str::from_utf8(utf8.as_slice()).unwrap_or("");
+        for flavor in FLAVORS {
+            let bytes = encoded(alloc, flavor, text)?;
+            expect_in_each_room(alloc, flavor, text, bytes.as_slice())?;
+        }
+    }
+    Ok(())
+}
+
+#[test]
+fn encodes_characters_among_ascii(rt: HostRuntime) -> Result<(), Fail> {
+    for len in LENGTHS {
+        for character in ["", "\0", "\u{1F496}"] {
+            let compared = expect_among_ascii(rt.alloc(), len, character);
+            assert!(rt; compared.is_ok(), "{character:?} in {len}: {compared:?}");
+        }
+    }
+    Ok(())
+}
+
+#[test]
+fn encodes_the_pattern(rt: HostRuntime) -> Result<(), Fail> {
+    let utf8 = repeated(rt.alloc(), PATTERN, 819)?;
+    let text = str::from_utf8(utf8.as_slice())?;
+    for (flavor, len) in [(Flavor::Cesu8, 19_656), (Flavor::Mutf8, 20_475)] {
+        let bytes = repeated(rt.alloc(), encoded_pattern(flavor), 819)?;
+        let (call, result) = (SliceCall::Encode(text), Some(bytes.as_slice()));
+        for rooms in [0..1, len - 1..len + 2] {
+            let compared = expect_in_rooms(rt.alloc(), flavor, call, result, rooms);
+            assert!(rt; compared.is_ok(), "{compared:?}");
+        }
+    }
+    Ok(())
+}

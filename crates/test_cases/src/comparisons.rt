@@ -1,0 +1,136 @@
+//! Comparisons of the calls with what is expected, which return the first difference.
+
+use crate::decoders::{DECODERS, Decoder, Outcome, outcome_of};
+use crate::flavors::{
+    FLAVORS, Flavor, counted, encode, encode_into, encoded_len, lossy_len, needs_encoded,
+};
+use crate::plain::read;
+use std::alloc::{AllocError, Global};
+use std::fmt::Debug;
+
+/// Why a comparison fails: a call with another result than is expected, or out of memory.
+#[derive(Debug, Drop)]
+pub enum Difference {
+    Result {
+        call: &'static str,
+        flavor: Flavor,
+        got: String,
+    },
+    Memory,
+}
+
+impl From<AllocError> for Difference {
+    fn from(_: AllocError) -> Difference {
+        Difference::Memory
+    }
+}
+
+/// Compares what a call for an encoding returned with what is expected.
+pub fn expect<T: PartialEq + Debug + Drop>(
+    alloc: Global,
+    flavor: Flavor,
+    call: &'static str,
+    got: T,
+    expected: T,
+) -> Result<(), Difference> {
+    if got == expected {
+        return Ok(());
+    }
+    let got = format!(in alloc; "{got:?}")?;
+    Err(Difference::Result { call, flavor, got })
+}
+
+/// Compares each call that builds, measures or appends an encoding with the text's bytes.
+pub fn expect_encoding(
+    alloc: Global,
+    flavor: Flavor,
+    text: &str,
+    bytes: &[u8],
+) -> Result<(), Difference> {
+    let is_same = bytes == text.as_bytes();
+    let len = bytes.len();
+    expect(
+        alloc,
+        flavor,
+        "needs_encoded",
+        needs_encoded(flavor, text),
+        !is_same,
+    )?;
+    expect(alloc, flavor, "encoded_len", encoded_len(flavor, text), len)?;
+    let encoding = encode(alloc, flavor, text)?;
+    expect(alloc, flavor, "encode", encoding.as_bytes(), bytes)?;
+    expect(
+        alloc,
+        flavor,
+        "is_borrowed",
+        encoding.is_borrowed(),
+        is_same,
+    )?;
+    let owned = encoding.into_vec(alloc)?;
+    expect(alloc, flavor, "into_vec", owned.as_slice(), bytes)
+}
+
+/// Compares what the calls that append an encoding leave in a buffer that holds these bytes.
+pub fn expect_appended(
+    alloc: Global,
+    flavor: Flavor,
+    held: &[u8],
+    text: &str,
+    bytes: &[u8],
+) -> Result<(), Difference> {
+    let mut expected = Vec::from_slice(alloc, held)?;
+    expected.extend_from_slice(bytes)?;
+    let mut buf = Vec::from_slice(alloc, held)?;
+    encode_into(flavor, text, &mut buf)?;
+    expect(
+        alloc,
+        flavor,
+        "encode_into",
+        buf.as_slice(),
+        expected.as_slice(),
+    )?;
+
+    let counted = counted(flavor, text);
+    expect(alloc, flavor, "counted", counted.encoded_len(), bytes.len())?;
+    let mut buf = Vec::from_slice(alloc, held)?;
+    counted.encode_into(&mut buf)?;
+    expect(
+        alloc,
+        flavor,
+        "counted, appended",
+        buf.as_slice(),
+        expected.as_slice(),
+    )
+}
+
+/// Compares one call that decodes with the expected outcome.
+pub fn expect_outcome(
+    alloc: Global,
+    decoder: Decoder,
+    flavor: Flavor,
+    bytes: &[u8],
+    expected: Outcome<'_>,
+) -> Result<(), Difference> {
+    let returned = decoder.call(alloc, flavor, bytes);
+    expect(
+        alloc,
+        flavor,
+        decoder.name(),
+        outcome_of(&returned),
+        expected,
+    )
+}
+
+/// Compares each call that decodes, in both encodings, with what the plain decoder reads.
+pub fn expect_readings(alloc: Global, bytes: &[u8]) -> Result<(), Difference> {
+    for flavor in FLAVORS {
+        let reading = read(alloc, flavor, bytes)?;
+        let len = Some(reading.text.len());
+        expect(alloc, flavor, "lossy_len", lossy_len(flavor, bytes), len)?;
+        for decoder in DECODERS {
+            let expected = reading.expected(decoder, bytes);
+            expect_outcome(alloc, decoder, flavor, bytes, expected)?;
+        }
+    }
+    Ok(())
+}

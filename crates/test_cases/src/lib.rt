@@ -1,0 +1,17 @@
+//! What the crates of tests share: the calls by the name of the encoding, inputs, the bytes and texts
+//! that the standards' tables give for them, and comparisons that return what differs.
+//!
+//! A library may not assert. So a comparison returns the first difference, and a test asserts that
+//! there is none.
+#![tactic(auto)]
+
+pub mod borders;
+pub mod comparisons;
+pub mod decoders;
+pub mod fills;
+pub mod flavors;
+pub mod fragments;
+pub mod full;
+pub mod pattern;
+pub mod plain;
+pub mod slices;

@@ -1,0 +1,140 @@
+//! A plain codec, one character after another, by the standards' tables of byte patterns. It shares
+//! no code with the library.
+
+ghost use Rattle.std.specs.Prelude.{◌≤◌};
+
+use crate::decoders::{Decoder, Outcome};
+use crate::flavors::Flavor;
+use std::alloc::{AllocError, Global};
+use std::str;
+
+/// Appends the bytes of one code unit.
+fn push_unit(bytes: &mut Vec<u8>, flavor: Flavor, unit: u16) -> Result<(), AllocError> {
+    match (flavor, unit) {
+        (Flavor::Mutf8, 0) => bytes.extend_from_slice(&[0xC0, 0x80]),
+        (_, ..0x80) => bytes.extend_from_slice(&[unit as u8]),
+        (_, ..0x800) => {
+            bytes.extend_from_slice(&[(0xC0 + unit / 0x40) as u8, (0x80 + unit % 0x40) as u8])
+        }
+        _ => bytes.extend_from_slice(&[
+            (0xE0 + unit / 0x1000) as u8,
+            (0x80 + unit / 0x40 % 0x40) as u8,
+            (0x80 + unit % 0x40) as u8,
+        ]),
+    }
+}
+
+/// Appends the bytes of a character's one or two code units.
+pub fn push_character(
+    bytes: &mut Vec<u8>,
+    flavor: Flavor,
+    character: char,
+) -> Result<(), AllocError> {
+    let scalar = u32::from(character);
+    if scalar < 0x10000 {
+        push_unit(bytes, flavor, scalar as u16)
+    } else {
+        let offset = scalar - 0x10000;
+        push_unit(bytes, flavor, (0xD800 + offset / 0x400) as u16)?;
+        push_unit(bytes, flavor, (0xDC00 + offset % 0x400) as u16)
+    }
+}
+
+/// The encoding of a text.
+pub fn encoded(alloc: Global, flavor: Flavor, text: &str) -> Result<Vec<u8>, AllocError> {
+    let mut bytes = Vec::new(alloc);
+    for character in text.chars() {
+        push_character(&mut bytes, flavor, character)?;
+    }
+    Ok(bytes)
+}
+
+/// How many bytes the encoded character takes that begins the bytes, or 0 where none does.
+fn width(flavor: Flavor, bytes: &[u8]) -> usize
+    ensures { result ≤ 6 }
+{
+    let mutf8 = flavor == Flavor::Mutf8;
+    match bytes {
+        [0x00, ..] if mutf8 => 0,
+        [0x00..=0x7F, ..] => 1,
+        [0xC0, 0x80, ..] if mutf8 => 2,
+        [0xC2..=0xDF, 0x80..=0xBF, ..] => 2,
+        [0xE0, 0xA0..=0xBF, 0x80..=0xBF, ..] => 3,
+        [0xE1..=0xEC, 0x80..=0xBF, 0x80..=0xBF, ..] => 3,
+        [0xED, 0x80..=0x9F, 0x80..=0xBF, ..] => 3,
+        [0xEE..=0xEF, 0x80..=0xBF, 0x80..=0xBF, ..] => 3,
+        [
+            0xED,
+            0xA0..=0xAF,
+            0x80..=0xBF,
+            0xED,
+            0xB0..=0xBF,
+            0x80..=0xBF,
+            ..
+        ] => 6,
+        _ => 0,
+    }
+}
+
+/// The character that these bytes encode, by the bits that each has in it, or U+FFFD for damage.
+fn character(bytes: &[u8]) -> char {
+    let scalar = match bytes {
+        [a] => u32::from(*a),
+        [a, b] => u32::from(*a % 0x20) * 0x40 + u32::from(*b % 0x40),
+        [a, b, c] => {
+            u32::from(*a % 0x10) * 0x1000 + u32::from(*b % 0x40) * 0x40 + u32::from(*c % 0x40)
+        }
+        [_, b, c, _, e, f] => {
+            let high = u32::from(*b % 0x10) * 0x40 + u32::from(*c % 0x40);
+            let low = u32::from(*e % 0x10) * 0x40 + u32::from(*f % 0x40);
+            0x10000 + high * 0x400 + low
+        }
+        _ => 0xFFFD,
+    };
+    char::from_u32(scalar).unwrap_or('\u{FFFD}')
+}
+
+/// A lossy reading: its text, and how many bytes are in no character.
+#[derive(Drop)]
+pub struct Reading {
+    pub text: String,
+    pub damaged: usize,
+}
+
+/// The lossy reading of the bytes.
+pub fn read(alloc: Global, flavor: Flavor, bytes: &[u8]) -> Result<Reading, AllocError> {
+    let mut text = String::new(alloc);
+    let mut damaged = 0usize;
+    let mut inside = 0usize;
+    for place in 0..bytes.len() {
+        if inside > 0 {
+            inside -= 1;
+            continue;
+        }
+        let rest = &bytes[place..];
+        let width = width(flavor, rest);
+        text.push(character(rest.get(..width).unwrap_or(&[])))?;
+        damaged = damaged.wrapping_add(usize::from(width == 0));
+        inside = width.saturating_sub(1);
+    }
+    Ok(Reading { text, damaged })
+}
+
+impl Reading {
+    /// The outcome that a call has to have for the bytes that were read.
+    pub fn expected<'a>(&'a self, decoder: Decoder, bytes: &'a [u8]) -> Outcome<'a> {
+        if decoder.is_lenient() {
+            if let Ok(text) = str::from_utf8(bytes) {
+                return Outcome::Borrowed(text);
+            }
+        }
+        let text = self.text.as_str();
+        if self.damaged > 0 && !decoder.is_lossy() {
+            Outcome::Invalid
+        } else if text.as_bytes() == bytes {
+            Outcome::Borrowed(text)
+        } else {
+            Outcome::Owned(text)
+        }
+    }
+}
