@@ -2,7 +2,7 @@
 #![tactic(auto)]
 
 #[cfg(test)]
-mod forms;
+mod counted;
 #[cfg(test)]
 mod reading;
 #[cfg(test)]

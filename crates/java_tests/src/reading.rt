@@ -1,7 +1,7 @@
 //! What is read to a text and to a buffer of the caller's, of each length about the one that is
 //! needed.
 
-use crate::forms::{CHARACTERS, COUNTS, FORMS, repeated};
+use crate::counted::{CHARACTERS, COUNTS, counted};
 use crate::reading::Due::{Borrowed, Invalid, Owned, Truncated};
 use java_text::{
     ReadFault, ReadSliceFault, read_utf, read_utf_lossy, read_utf_lossy_to_slice, read_utf_to_slice,
@@ -134,30 +134,13 @@ fn reads_rows(rt: HostRuntime) -> Result<(), Fail> {
     Ok(())
 }
 
-/// Each front of a form.
-#[test]
-fn reads_no_front_of_a_form(rt: HostRuntime) -> Result<(), Fail> {
-    for (text, form) in FORMS {
-        for end in 0..form.len() {
-            for reader in [Reader::Strict, Reader::Lossy] {
-                let front = &form[..end];
-                let is_truncated = reader.returns(rt.alloc(), front, Truncated);
-                assert!(rt; is_truncated, "{end} bytes of {text:?}");
-                let wrong = reader.wrong_room(rt.alloc(), front, Truncated, 8..9)?;
-                assert_eq!(rt; wrong, None, "{end} bytes of {text:?}");
-            }
-        }
-    }
-    Ok(())
-}
-
 /// Each length, with a byte behind the form.
 #[test]
 fn reads_as_much_as_two_bytes_count(rt: HostRuntime) -> Result<(), Fail> {
     for character in CHARACTERS {
-        for (length, count) in COUNTS {
-            let (text, mut bytes) = repeated(rt.alloc(), character, length, count)?;
-            let is_borrowed = text.as_bytes() == &bytes[2..];
+        for (length, count) in &COUNTS[..8] {
+            let (text, mut bytes) = counted(rt.alloc(), character, *length, count)?;
+            let is_borrowed = bytes.ends_with(text.as_bytes());
             bytes.push(7)?;
             let due = if is_borrowed {
                 Borrowed(text.as_str(), b"\x07")

@@ -1,8 +1,8 @@
 //! What is written to a vector and to a buffer of the caller's, of each length about the one that
 //! is needed.
 
-use crate::forms::{CHARACTERS, COUNTS, FORMS, repeated};
-use java_text::{WriteFault, WriteSliceFault, read_utf, write_utf, write_utf_to_slice};
+use crate::counted::{CHARACTERS, COUNTS, counted};
+use java_text::{WriteFault, WriteSliceFault, write_utf, write_utf_to_slice};
 use std::alloc::{AllocError, Global};
 use std::ops::Range;
 use std::test::Fail;
@@ -50,6 +50,15 @@ fn wrong_room(
     Ok(None)
 }
 
+/// Some texts, and their forms.
+const FORMS: [(&str, &[u8]); 5] = [
+    ("", b"\x00\x00"),
+    ("A", b"\x00\x01A"),
+    ("\0", b"\x00\x02\xC0\x80"),
+    ("a\0", b"\x00\x03a\xC0\x80"),
+    ("\u{1F496}", b"\x00\x06\xED\xA0\xBD\xED\xB2\x96"),
+];
+
 #[test]
 fn writes_forms(rt: HostRuntime) -> Result<(), Fail> {
     for (text, form) in FORMS {
@@ -60,57 +69,26 @@ fn writes_forms(rt: HostRuntime) -> Result<(), Fail> {
     Ok(())
 }
 
-/// Lengths of a buffer about the one that is needed for a text of so many bytes of MUTF-8.
-fn rooms_about(length: usize) -> Range<usize> {
-    length.saturating_add(1)..length.saturating_add(4)
-}
-
 #[test]
 fn counts_in_two_bytes(rt: HostRuntime) -> Result<(), Fail> {
     for character in CHARACTERS {
         for (length, count) in COUNTS {
-            let (text, form) = repeated(rt.alloc(), character, length, count)?;
-            let (text, due) = (text.as_str(), Ok(form.as_slice()));
+            let (text, form) = counted(rt.alloc(), character, length, count)?;
+            let text = text.as_str();
+            let due = if count.is_empty() {
+                Err(length)
+            } else {
+                Ok(form.as_slice())
+            };
             assert!(rt;
                 is_appended(rt.alloc(), text, due)?,
                 "{length}: {character:?}"
             );
-            for rooms in [0..3, rooms_about(length)] {
+            for rooms in [0..3, length.saturating_add(1)..length.saturating_add(4)] {
                 let wrong = wrong_room(rt.alloc(), text, due, rooms)?;
                 assert_eq!(rt; wrong, None, "{length}: {character:?}");
             }
         }
     }
-    Ok(())
-}
-
-#[test]
-fn refuses_a_count_of_more(rt: HostRuntime) -> Result<(), Fail> {
-    for character in CHARACTERS {
-        let (text, _) = repeated(rt.alloc(), character, 65536, b"")?;
-        let (text, due) = (text.as_str(), Err(65536));
-        assert!(rt; is_appended(rt.alloc(), text, due)?, "{character:?}");
-        for rooms in [0..3, rooms_about(65536)] {
-            let wrong = wrong_room(rt.alloc(), text, due, rooms)?;
-            assert_eq!(rt; wrong, None, "{character:?}");
-        }
-    }
-    Ok(())
-}
-
-#[test]
-fn writes_and_reads_forms_in_a_row(rt: HostRuntime) -> Result<(), Fail> {
-    let mut all = Vec::new(rt.alloc());
-    for (text, _) in FORMS {
-        write_utf(text, &mut all)?;
-    }
-    let mut rest = all.as_slice();
-    for (text, form) in FORMS {
-        assert!(rt; rest.starts_with(form), "{text:?}");
-        let (read, after) = read_utf(rt.alloc(), rest)?;
-        assert_eq!(rt; read.as_str(), text);
-        rest = after;
-    }
-    assert!(rt; rest.is_empty());
     Ok(())
 }

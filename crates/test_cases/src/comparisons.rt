@@ -4,7 +4,7 @@ use crate::decoders::{DECODERS, Decoder, Outcome, outcome_of};
 use crate::flavors::{
     FLAVORS, Flavor, counted, encode, encode_into, encoded_len, lossy_len, needs_encoded,
 };
-use crate::plain::read;
+use crate::plain::{Reading, read};
 use std::alloc::{AllocError, Global};
 use std::fmt::Debug;
 
@@ -14,7 +14,7 @@ pub enum Difference {
     Result {
         call: &'static str,
         flavor: Flavor,
-        got: String,
+        result: String,
     },
     Memory,
 }
@@ -36,8 +36,12 @@ pub fn expect<T: PartialEq + Debug + Drop>(
     if got == expected {
         return Ok(());
     }
-    let got = format!(in alloc; "{got:?}")?;
-    Err(Difference::Result { call, flavor, got })
+    let result = format!(in alloc; "{got:?}, and not {expected:?}")?;
+    Err(Difference::Result {
+        call,
+        flavor,
+        result,
+    })
 }
 
 /// Compares each call that builds, measures or appends an encoding with the text's bytes.
@@ -121,16 +125,26 @@ pub fn expect_outcome(
     )
 }
 
-/// Compares each call that decodes, in both encodings, with what the plain decoder reads.
+/// Compares each call that decodes or measures what is read with the reading of the bytes.
+pub fn expect_reading(
+    alloc: Global,
+    flavor: Flavor,
+    bytes: &[u8],
+    reading: &Reading,
+) -> Result<(), Difference> {
+    let len = Some(reading.text.len());
+    expect(alloc, flavor, "lossy_len", lossy_len(flavor, bytes), len)?;
+    for decoder in DECODERS {
+        let expected = reading.expected(decoder, bytes);
+        expect_outcome(alloc, decoder, flavor, bytes, expected)?;
+    }
+    Ok(())
+}
+
+/// The same in both encodings, with what the plain decoder reads.
 pub fn expect_readings(alloc: Global, bytes: &[u8]) -> Result<(), Difference> {
     for flavor in FLAVORS {
-        let reading = read(alloc, flavor, bytes)?;
-        let len = Some(reading.text.len());
-        expect(alloc, flavor, "lossy_len", lossy_len(flavor, bytes), len)?;
-        for decoder in DECODERS {
-            let expected = reading.expected(decoder, bytes);
-            expect_outcome(alloc, decoder, flavor, bytes, expected)?;
-        }
+        expect_reading(alloc, flavor, bytes, &read(alloc, flavor, bytes)?)?;
     }
     Ok(())
 }

@@ -1,7 +1,7 @@
 //! The calls that decode, to go over in a loop, and their outcomes, to compare.
 
-use crate::flavors::{Flavor, decode, decode_lossy, decode_lossy_strict, decode_strict};
-use simd_cesu8::{CowText, DecodeFault};
+use crate::flavors::{Decoded, Flavor, decode, decode_lossy, decode_lossy_strict, decode_strict};
+use simd_cesu8::DecodeFault;
 use std::alloc::Global;
 
 /// A call that decodes.
@@ -42,12 +42,7 @@ impl Decoder {
         }
     }
 
-    pub fn call(
-        self,
-        alloc: Global,
-        flavor: Flavor,
-        bytes: &[u8],
-    ) -> Result<CowText<'_>, DecodeFault> {
+    pub fn call(self, alloc: Global, flavor: Flavor, bytes: &[u8]) -> Decoded<'_> {
         match self {
             Decoder::Strict => decode_strict(alloc, flavor, bytes),
             Decoder::Lenient => decode(alloc, flavor, bytes),
@@ -71,7 +66,7 @@ pub enum Outcome<'a> {
 }
 
 /// The outcome of the call that returned this.
-pub fn outcome_of<'a>(returned: &'a Result<CowText<'_>, DecodeFault>) -> Outcome<'a> {
+pub fn outcome_of<'a>(returned: &'a Decoded<'_>) -> Outcome<'a> {
     match returned {
         Ok(text) if text.is_borrowed() => Outcome::Borrowed(text.as_str()),
         Ok(text) => Outcome::Owned(text.as_str()),

@@ -16,6 +16,15 @@ pub const FILLS: [&[u8]; 6] = [
 /// Whole UTF-8 that is no encoding, or of one alone, and damage.
 pub const OTHER_FILLS: [&[u8]; 3] = [b"\0a", b"\xF0\x9F\x92\x96", b"\xFFa\x80"];
 
+/// These bytes, one after another.
+pub fn joined(alloc: Global, parts: &[&[u8]]) -> Result<Vec<u8>, AllocError> {
+    let mut bytes = Vec::new(alloc);
+    for part in parts {
+        bytes.extend_from_slice(part)?;
+    }
+    Ok(bytes)
+}
+
 /// The bytes, again and again.
 pub fn repeated(alloc: Global, bytes: &[u8], times: usize) -> Result<Vec<u8>, AllocError> {
     let mut all = Vec::new(alloc);
@@ -27,10 +36,8 @@ pub fn repeated(alloc: Global, bytes: &[u8], times: usize) -> Result<Vec<u8>, Al
 
 /// So many bytes of a fill.
 pub fn filled(alloc: Global, fill: &[u8], len: usize) -> Result<Vec<u8>, AllocError> {
-    let mut bytes = Vec::with_capacity(alloc, len)?;
-    for place in 0..len {
-        bytes.push(fill.get(place % fill.len().max(1)).copied().unwrap_or(0))?;
-    }
+    let mut bytes = repeated(alloc, fill, len.div_ceil(fill.len().max(1)))?;
+    bytes.truncate(len);
     Ok(bytes)
 }
 
@@ -48,20 +55,15 @@ impl Input<'_> {
     /// The fill, with what is put between its bytes.
     pub fn inserted(&self, alloc: Global) -> Result<Vec<u8>, AllocError> {
         let filled = filled(alloc, self.fill, self.len)?;
-        let place = self.place.min(self.len);
-        let mut bytes = Vec::new(alloc);
-        bytes.extend_from_slice(filled.get(..place).unwrap_or(&[]))?;
-        bytes.extend_from_slice(self.put)?;
-        bytes.extend_from_slice(filled.get(place..).unwrap_or(&[]))?;
-        Ok(bytes)
+        let (front, back) = filled.as_slice().split_at(self.place.min(filled.len()));
+        joined(alloc, &[front, self.put, back])
     }
 
-    /// The fill, with what is put over its bytes, as far as it has room.
+    /// The fill, with what is put over its bytes.
     pub fn replaced(&self, alloc: Global) -> Result<Vec<u8>, AllocError> {
-        let mut bytes = filled(alloc, self.fill, self.len)?;
-        for (slot, byte) in bytes.iter_mut().skip(self.place).zip(self.put) {
-            *slot = *byte;
-        }
-        Ok(bytes)
+        let filled = filled(alloc, self.fill, self.len)?;
+        let (front, over) = filled.as_slice().split_at(self.place.min(filled.len()));
+        let back = over.get(self.put.len()..).unwrap_or(&[]);
+        joined(alloc, &[front, self.put, back])
     }
 }

@@ -25,6 +25,12 @@ impl Flavor {
     }
 }
 
+/// What a call that decodes returns.
+pub type Decoded<'a> = Result<CowText<'a>, DecodeFault>;
+
+/// What a call that puts U+FFFD for damage returns.
+pub type LossilyDecoded<'a> = Result<CowText<'a>, AllocError>;
+
 /// The call of this name for an encoding.
 macro_rules! call {
     ($flavor:ident, $name:ident($($argument:expr),*)) => {
@@ -66,34 +72,22 @@ pub fn encoded_len(flavor: Flavor, text: &str) -> usize {
 }
 
 /// The strict reading.
-pub fn decode_strict(
-    alloc: Global,
-    flavor: Flavor,
-    bytes: &[u8],
-) -> Result<CowText<'_>, DecodeFault> {
+pub fn decode_strict(alloc: Global, flavor: Flavor, bytes: &[u8]) -> Decoded<'_> {
     call!(flavor, decode_strict(alloc, bytes))
 }
 
 /// The lenient reading.
-pub fn decode(alloc: Global, flavor: Flavor, bytes: &[u8]) -> Result<CowText<'_>, DecodeFault> {
+pub fn decode(alloc: Global, flavor: Flavor, bytes: &[u8]) -> Decoded<'_> {
     call!(flavor, decode(alloc, bytes))
 }
 
 /// The strict reading, with U+FFFD for damage.
-pub fn decode_lossy_strict(
-    alloc: Global,
-    flavor: Flavor,
-    bytes: &[u8],
-) -> Result<CowText<'_>, AllocError> {
+pub fn decode_lossy_strict(alloc: Global, flavor: Flavor, bytes: &[u8]) -> LossilyDecoded<'_> {
     call!(flavor, decode_lossy_strict(alloc, bytes))
 }
 
 /// The lenient reading, with U+FFFD for damage.
-pub fn decode_lossy(
-    alloc: Global,
-    flavor: Flavor,
-    bytes: &[u8],
-) -> Result<CowText<'_>, AllocError> {
+pub fn decode_lossy(alloc: Global, flavor: Flavor, bytes: &[u8]) -> LossilyDecoded<'_> {
     call!(flavor, decode_lossy(alloc, bytes))
 }
 

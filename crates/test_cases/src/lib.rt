@@ -10,8 +10,6 @@ pub mod comparisons;
 pub mod decoders;
 pub mod fills;
 pub mod flavors;
-pub mod fragments;
-pub mod full;
 pub mod pattern;
 pub mod plain;
 pub mod slices;

@@ -25,11 +25,7 @@ fn push_unit(bytes: &mut Vec<u8>, flavor: Flavor, unit: u16) -> Result<(), Alloc
 }
 
 /// Appends the bytes of a character's one or two code units.
-pub fn push_character(
-    bytes: &mut Vec<u8>,
-    flavor: Flavor,
-    character: char,
-) -> Result<(), AllocError> {
+fn push_character(bytes: &mut Vec<u8>, flavor: Flavor, character: char) -> Result<(), AllocError> {
     let scalar = u32::from(character);
     if scalar < 0x10000 {
         push_unit(bytes, flavor, scalar as u16)

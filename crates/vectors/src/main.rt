@@ -22,8 +22,6 @@ mod calls;
 #[cfg(test)]
 mod damage;
 #[cfg(test)]
-mod decoded_slices;
-#[cfg(test)]
 mod errors;
 #[cfg(test)]
 mod every_place;
@@ -32,10 +30,6 @@ mod examples;
 #[cfg(test)]
 mod fragments;
 mod helpers;
-#[cfg(test)]
-mod java_slices;
-#[cfg(test)]
-mod java_strings;
 #[cfg(test)]
 mod kernels;
 #[cfg(test)]
@@ -50,10 +44,6 @@ mod mixed_texts;
 mod order;
 #[cfg(test)]
 mod pattern;
-#[cfg(test)]
-mod short_looks;
-#[cfg(test)]
-mod slices;
 #[cfg(test)]
 mod splits;
 #[cfg(test)]

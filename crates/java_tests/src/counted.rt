@@ -1,15 +1,6 @@
-//! Texts and their forms.
+//! Texts of many lengths, and the bytes that count them.
 
 use std::alloc::{AllocError, Global};
-
-/// Some texts, and their forms.
-pub const FORMS: [(&str, &[u8]); 5] = [
-    ("", b"\x00\x00"),
-    ("A", b"\x00\x01A"),
-    ("\0", b"\x00\x02\xC0\x80"),
-    ("a\0", b"\x00\x03a\xC0\x80"),
-    ("\u{1F496}", b"\x00\x06\xED\xA0\xBD\xED\xB2\x96"),
-];
 
 /// Characters of one, two, three and six bytes of MUTF-8: themselves, and their MUTF-8.
 pub const CHARACTERS: [(&str, &[u8]); 5] = [
@@ -20,8 +11,8 @@ pub const CHARACTERS: [(&str, &[u8]); 5] = [
     ("\u{1F496}", b"\xED\xA0\xBD\xED\xB2\x96"),
 ];
 
-/// Lengths of MUTF-8, and the two bytes that count them.
-pub const COUNTS: [(usize, &[u8]); 8] = [
+/// Lengths of MUTF-8, and the two bytes that count them. None count the last.
+pub const COUNTS: [(usize, &[u8]); 9] = [
     (0, b"\x00\x00"),
     (1, b"\x00\x01"),
     (127, b"\x00\x7F"),
@@ -30,11 +21,12 @@ pub const COUNTS: [(usize, &[u8]); 8] = [
     (256, b"\x01\x00"),
     (65534, b"\xFF\xFE"),
     (65535, b"\xFF\xFF"),
+    (65536, b""),
 ];
 
-/// A text whose MUTF-8 has this length, and the MUTF-8 behind the bytes that count it: the
-/// character as many times as it fits, and then `a`.
-pub fn repeated(
+/// A text whose MUTF-8 has this length, and its MUTF-8 behind the bytes that count it: the character
+/// as many times as it fits, and then `a`.
+pub fn counted(
     alloc: Global,
     (character, mutf8): (&str, &[u8]),
     length: usize,
@@ -42,8 +34,7 @@ pub fn repeated(
 ) -> Result<(String, Vec<u8>), AllocError> {
     let mut text = String::new(alloc);
     let mut form = Vec::from_slice(alloc, count)?;
-    let times = length.checked_div(mutf8.len()).unwrap_or(0);
-    for _ in 0..times {
+    for _ in 0..length.checked_div(mutf8.len()).unwrap_or(0) {
         text.push_str(character)?;
         form.extend_from_slice(mutf8)?;
     }
