@@ -1,113 +1,220 @@
-mod commands;
 mod devices;
 mod error_kinds;
-mod reading;
-mod writing;
+mod rows;
 
-use self::devices::Reader;
+use self::devices::{Reader, Writer};
+use self::error_kinds::KINDS;
+use self::rows::*;
 use super::*;
 use crate::fault::{fault_line, fault_status};
+use std::io::ErrorKind;
 
-/// What a user sees of a run's end: the status, and the line on standard error.
-fn shown(outcome: Result<(), RunFault>) -> (u8, &'static str) {
-    match outcome {
-        Ok(()) => (0, ""),
+/// No limit on the bytes of one call.
+const WHOLE: usize = usize::MAX;
+
+/// The status and the line, and how many reads, writes and flushes were called.
+type Seen = (Shown, [usize; 3]);
+
+/// The words and the error of a run, a number that tells its devices, and what was seen of it.
+type Difference = (Words, Option<ErrorKind>, usize, Seen);
+
+/// Runs, and returns what is seen of it if that, or what the writer kept, is not what was wanted.
+fn difference(
+    alloc: Global,
+    words: &[&str],
+    mut input: Reader<'_>,
+    mut output: Writer,
+    wanted: (Seen, &[u8]),
+) -> Option<Seen> {
+    let shown = shown(run(alloc, words, &mut input, &mut output));
+    let seen = (shown, [input.reads, output.writes, output.flushes]);
+    if (seen, output.kept()) == wanted {
+        None
+    } else {
+        Some(seen)
+    }
+}
+
+fn shown(ended: Result<(), RunFault>) -> Shown {
+    match ended {
+        Ok(()) => DONE,
         Err(fault) => (fault_status(&fault), fault_line(&fault)),
     }
 }
 
-const DONE: (u8, &str) = (0, "");
+/// What is wanted where each call reads or writes at most so many bytes and no read or write fails.
+/// After the output the flush ends the run.
+fn wanted(bytes: &[u8], end: End, most: usize, flushed: Shown) -> (Seen, &'static [u8]) {
+    let reads = calls_to_end(bytes.len(), most);
+    match end {
+        Ok(written) => ((flushed, [reads, calls(written.len(), most), 1]), written),
+        Err(fault) if is_usage(end) => ((fault, [0, 0, 0]), b""),
+        Err(fault) => ((fault, [reads, 0, 0]), b""),
+    }
+}
 
-const INVALID: (u8, &str) = (1, "cesu8: invalid input");
+/// Whether the words are no command, so that nothing is read.
+fn is_usage(end: End) -> bool {
+    matches!(end, Err((2, _)))
+}
 
-const NOT_UTF8: (u8, &str) = (1, "cesu8: input is not UTF-8");
+/// How many calls so many bytes take.
+fn calls(len: usize, most: usize) -> usize {
+    if most == 0 { 0 } else { len.div_ceil(most) }
+}
 
-const TRUNCATED: (u8, &str) = (1, "cesu8: input is truncated");
+/// The same with one more call, which reports the end or fails.
+fn calls_to_end(len: usize, most: usize) -> usize {
+    calls(len, most).saturating_add(1)
+}
 
-const TOO_LONG: (u8, &str) = (1, "cesu8: text is too long");
+/// The first bytes of a list.
+fn front(bytes: &[u8], len: usize) -> &[u8] {
+    bytes.get(..len).unwrap_or(&[])
+}
 
-const TRAILING: (u8, &str) = (1, "cesu8: bytes after the string");
-
-const USAGE: (u8, &str) = (2, "usage: cesu8_cli COMMAND FLAVOR");
-
-const OUT_OF_MEMORY: (u8, &str) = (3, "cesu8: out of memory");
-
-const FAILED: (u8, &str) = (4, "cesu8: input or output failed");
-
-/// Every pair of words, an input for it, and its output.
-const PAIRS: [(&[&str], &[u8], &[u8]); 14] = [
-    (
-        &["encode", "cesu8"],
-        b"a\xF4\x8F\xBF\xBF",
-        b"a\xED\xAF\xBF\xED\xBF\xBF",
-    ),
-    (&["encode", "mutf8"], b"a\x00\xC8\x85", b"a\xC0\x80\xC8\x85"),
-    (&["needs", "cesu8"], b"a\xC8\x85", b"no\n"),
-    (&["needs", "mutf8"], b"a\x00", b"yes\n"),
-    (
-        &["decode", "cesu8"],
-        b"a\xED\xA0\xBD\xED\xB2\x96",
-        b"a\xF0\x9F\x92\x96",
-    ),
-    (
-        &["decode", "mutf8"],
-        b"\x00\xF0\x9F\x92\x96",
-        b"\x00\xF0\x9F\x92\x96",
-    ),
-    (&["decode-strict", "cesu8"], b"a\xC8\x85", b"a\xC8\x85"),
-    (&["decode-strict", "mutf8"], b"a\xC0\x80", b"a\x00"),
-    (
-        &["lossy", "cesu8"],
-        b"\xF0\x9F\x92\x96",
-        b"\xF0\x9F\x92\x96",
-    ),
-    (&["lossy", "mutf8"], b"\xC0\x80\xFF", b"\x00\xEF\xBF\xBD"),
-    (
-        &["lossy-strict", "cesu8"],
-        b"\xE2\x82A",
-        b"\xEF\xBF\xBD\xEF\xBF\xBDA",
-    ),
-    (&["lossy-strict", "mutf8"], b"a\x00", b"a\xEF\xBF\xBD"),
-    (&["java-write", "mutf8"], b"a\x00", b"\x00\x03a\xC0\x80"),
-    (&["java-read", "mutf8"], b"\x00\x03a\xC0\x80", b"a\x00"),
-];
-
-#[test]
-fn shows_each_fault(rt: HostRuntime) {
-    assert_eq!(rt; shown(Err(RunFault::NotUtf8)), NOT_UTF8);
-    assert_eq!(rt; shown(Err(RunFault::Truncated)), TRUNCATED);
-    assert_eq!(rt; shown(Err(RunFault::TooLong(65536))), TOO_LONG);
-    assert_eq!(rt; shown(Err(RunFault::Trailing)), TRAILING);
-    assert_eq!(rt; shown(Err(RunFault::Usage)), USAGE);
-    assert_eq!(rt; shown(Err(RunFault::Memory)), OUT_OF_MEMORY);
-    assert_eq!(rt; shown(Err(RunFault::Io)), FAILED);
+/// In calls of so many bytes, with a flush that fails with the error if there is one.
+fn difference_at_rows(alloc: Global, most: usize, error: Option<ErrorKind>) -> Option<Difference> {
+    let flushed = if error.is_some() { FAILED } else { DONE };
+    for (words, bytes, end) in &ROWS {
+        let mut output = Writer::new(most);
+        output.flush_error = error;
+        let wanted = wanted(bytes, *end, most, flushed);
+        if let Some(seen) = difference(alloc, words, Reader::new(bytes, most), output, wanted) {
+            return Some((words, error, most, seen));
+        }
+    }
+    None
 }
 
 #[test]
-fn tests_words_first(rt: HostRuntime) {
-    let cases: [&[&str]; 15] = [
-        &[],
-        &["encode"],
-        &["encode", "cesu8", "cesu8"],
-        &["recode", "cesu8"],
-        &["encode", "utf9"],
-        &["encode", ""],
-        &["", "cesu8"],
-        &["cesu8", "encode"],
-        &["decode", "utf8"],
-        &["decode_strict", "cesu8"],
-        &["decode-strict", "mutf8", "mutf8"],
-        &["need", "cesu8"],
-        &["needs", "utf8"],
-        &["java-write", "cesu8"],
-        &["java-read", "cesu8"],
-    ];
-    for words in cases {
-        let mut input = Reader::new(b"");
-        let mut output = Vec::new(rt.alloc());
-        let result = run(rt.alloc(), words, &mut input, &mut output);
-        assert_eq!(rt; shown(result), USAGE, "at {words:?}");
-        assert_eq!(rt; input.reads(), 0, "at {words:?}");
-        assert!(rt; output.is_empty(), "at {words:?}");
+fn ends_as_each_row_says(rt: HostRuntime) {
+    for most in [1, 2, 3, WHOLE] {
+        assert_eq!(rt; difference_at_rows(rt.alloc(), most, None), None);
+    }
+}
+
+#[test]
+fn stops_at_a_failed_flush(rt: HostRuntime) {
+    for kind in KINDS {
+        assert_eq!(rt; difference_at_rows(rt.alloc(), WHOLE, Some(kind)), None);
+    }
+}
+
+/// Each byte of a part of a surrogate pair is replaced by U+FFFD, or the part is refused.
+fn difference_at_part(alloc: Global, part: &[u8]) -> Option<Seen> {
+    let marks = front(MARKS, part.len().saturating_mul(3));
+    for (words, is_lossy) in &STRICT {
+        let wanted = if *is_lossy {
+            ((DONE, [2, 1, 1]), marks)
+        } else {
+            wanted(part, INVALID, WHOLE, DONE)
+        };
+        let input = Reader::new(part, WHOLE);
+        let difference = difference(alloc, words, input, Writer::new(WHOLE), wanted);
+        if difference.is_some() {
+            return difference;
+        }
+    }
+    None
+}
+
+/// Each front and each back of a surrogate pair.
+#[test]
+fn decodes_no_part_of_a_pair(rt: HostRuntime) {
+    for at in 1..PAIR.len() {
+        let (front, back) = PAIR.split_at(at);
+        let difference = difference_at_part(rt.alloc(), front);
+        assert_eq!(rt; difference.or(difference_at_part(rt.alloc(), back)), None);
+    }
+}
+
+/// The MUTF-8 of these nulls has one byte more than a Java string can.
+#[test]
+fn says_how_long_a_text_is(rt: HostRuntime) {
+    let nulls = [0; 32768];
+    let mut input = nulls.as_slice();
+    let mut output = Writer::new(WHOLE);
+    let ended = run(
+        rt.alloc(),
+        &["java-write", "mutf8"],
+        &mut input,
+        &mut output,
+    );
+    let len = match ended {
+        Err(RunFault::TooLong(len)) => len,
+        _ => 0,
+    };
+    assert_eq!(rt; (len, output.writes), (65536, 0));
+}
+
+#[test]
+fn shows_faults_of_no_row(rt: HostRuntime) {
+    let shown = (
+        shown(Err(RunFault::Memory)),
+        shown(Err(RunFault::TooLong(65536))),
+    );
+    assert_eq!(rt; shown, (OUT_OF_MEMORY, TOO_LONG));
+}
+
+/// At once, after each byte and after the last: the read that fails is the last, and no writer is
+/// called.
+fn difference_at_reads(alloc: Global, error: Option<ErrorKind>) -> Option<Difference> {
+    for (words, bytes, end) in &ROWS {
+        if is_usage(*end) {
+            continue;
+        }
+        for at in 0..=bytes.len() {
+            for most in [1, WHOLE] {
+                let mut input = Reader::new(front(bytes, at), most);
+                input.error = error;
+                let wanted = ((FAILED, [calls_to_end(at, most), 0, 0]), b"".as_slice());
+                if let Some(seen) = difference(alloc, words, input, Writer::new(most), wanted) {
+                    return Some((words, error, at, seen));
+                }
+            }
+        }
+    }
+    None
+}
+
+#[test]
+fn stops_at_a_failed_read(rt: HostRuntime) {
+    for kind in KINDS {
+        assert_eq!(rt; difference_at_reads(rt.alloc(), Some(kind)), None);
+    }
+}
+
+/// At each position of the output: the write that fails, or accepts nothing, is the last, and there
+/// is no flush.
+fn difference_at_writes(alloc: Global, error: Option<ErrorKind>) -> Option<Difference> {
+    for (words, bytes, end) in &ROWS {
+        let written = end.unwrap_or(&[]);
+        for at in 0..written.len() {
+            for most in [1, WHOLE] {
+                let input = Reader::new(bytes, WHOLE);
+                let mut output = Writer::new(most);
+                output.room = at;
+                output.error = error;
+                let calls = [calls_to_end(bytes.len(), WHOLE), calls_to_end(at, most), 0];
+                let wanted = ((FAILED, calls), front(written, at));
+                if let Some(seen) = difference(alloc, words, input, output, wanted) {
+                    return Some((words, error, at, seen));
+                }
+            }
+        }
+    }
+    None
+}
+
+#[test]
+fn stops_where_nothing_is_accepted(rt: HostRuntime) {
+    assert_eq!(rt; difference_at_writes(rt.alloc(), None), None);
+}
+
+#[test]
+fn stops_at_a_failed_write(rt: HostRuntime) {
+    for kind in KINDS {
+        assert_eq!(rt; difference_at_writes(rt.alloc(), Some(kind)), None);
     }
 }
