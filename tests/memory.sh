@@ -2,27 +2,29 @@
 # Counts and refuses requests for memory, by each public call of `simd_cesu8` and `java_text`.
 # tests/requests.sh does so for the built program.
 #
-# The program of crates/vectors makes one call, which its standard input names. It reports the
-# result, and how many of three further requests are granted before one is refused. The rows below
-# are every public call, on inputs that borrow, build, are refused and are empty, and at the lengths
-# where blocks begin and end. A row has the expected result and the number of requests.
-#
-# Each request of a row is refused in turn, until a run meets none: there the first further request
-# is refused. So a call has to make exactly as many requests as its row says. Where a request is
-# refused, the call has to return out of memory for any input, and a caller's buffer keeps its
-# content. A call with no request succeeds with every request refused.
-#
-# Results and requests come from the standards' table of encoded characters, below, and these rules:
+# The rows below are every public call, on inputs that borrow, build, are refused and are empty, and
+# at the lengths where blocks begin and end. A row has the expected result and the number of requests.
+# Both come from the standards' table of encoded characters, below, and these rules:
 # - a result borrows, without a request, exactly where its bytes are the input's;
 # - what is built, copied or refused takes one, and so does what is appended if the buffer is full;
 # - an empty copy, a length, and a Java string that is too long or cut short take none.
 #
-# `rt try` refuses one request of a process, and builds for 15 seconds. So there is one build for
-# each place of the refused request, and each runs all rows with as many requests. The three builds
-# run side by side. A row takes less than a tenth of a second, and the longest inputs half of one.
+# The program of crates/memory_calls makes the calls that its standard input names, on one input. It
+# prints each result, and how many of three further requests are granted before one is refused.
+# `rt try` refuses one request of a process: here always the third, before which the program makes
+# some itself.
 #
-# It prints what is wrong, and the counts at the end. The status is 0 if nothing is wrong. It needs
-# the kit's `rt` (which builds here without proof), bash, sed and the core utilities.
+# Each request of a call is refused in turn. Then the call has to return out of memory for any input,
+# and a caller's buffer keeps its content. Each call is also made where the first request after its
+# own is refused, and has to succeed. So it makes exactly as many requests as its row says. One
+# process asks both, of two calls on an input: the first makes all of its requests, and the next is
+# refused its own. Calls without a request come between. What several rows ask is asked once.
+#
+# Requests are counted. In which order a call makes them, how large they are, and what it has read or
+# written before, is not seen.
+#
+# It prints what is wrong, and counts the processes at the end. The status is 0 if nothing is wrong.
+# It needs the kit's `rt` (which builds here without proof), bash, sed and the core utilities.
 set -u
 unset CDPATH
 export LC_ALL=C
@@ -32,23 +34,31 @@ top=$(cd "$(dirname "${BASH_SOURCE[0]}")/.." && pwd) || exit 2
 source "$top/tests/kit.sh" || exit 2
 scratch=$(mktemp -d) || exit 2
 trap 'rm -rf "$scratch"' EXIT
-mkdir "$scratch"/{1,2,3} || exit 2
+mkdir "$scratch/cases" || exit 2
 
-passed=0
-failed=0
-rows=0
-runs=(0 0 0 0)
+# The inputs, and of each the calls that make no request, and those that do, in lines.
+inputs=()
+silent=()
+asking=()
 
-# The bytes of a list of crates/vectors/src/pattern.rt, as `printf %b` takes them: `pattern NAME`.
+# The number of each input; and by the number and the call, what it prints and how many requests it
+# makes.
+declare -A numbers=() printed_by=() made_by=()
+
+# The bytes of a list of test_cases, as `printf %b` takes them: `pattern NAME`.
 pattern() {
-    sed -n "/^const $1:/,/;\$/s/.*b\"\\(.*\\)\".*/\\1/p" "$top/crates/vectors/src/pattern.rt"
+    sed -n "/^const $1:/,/;\$/s/.*b\"\\(.*\\)\".*/\\1/p" "$top/crates/test_cases/src/pattern.rt"
 }
 
-# `repeated TIMES BYTES`, where no or fewer times is none.
-repeated() {
-    local bytes=''
-    (($1 > 0)) && printf -v bytes '%*s' "$1" ''
-    printf '%s' "${bytes// /$2}"
+# Keeps in bytes these so many times, where no or fewer times is none: `repeat TIMES BYTES`.
+repeat() {
+    local times=$1 piece=$2
+    bytes=''
+    while ((times > 0)); do
+        ((times % 2 == 1)) && bytes+=$piece
+        piece+=$piece
+        times=$((times / 2))
+    done
 }
 
 # Keeps in length how many bytes `printf %b` makes of these: `measure BYTES`.
@@ -56,33 +66,25 @@ measure() {
     printf '%b%n' "$1" length >/dev/null
 }
 
-# What is printed with this request refused: `expect REFUSED OUTCOME MORE BYTES`.
-expect() {
-    local file=$scratch/$1/$name
-    runs[$1]=$((runs[$1] + 1))
-    printf '%s\n%b' "$call" "$input" >"$file"
-    printf '%s, %s more\n%b' "$2" "$3" "$4" >"$file.stdout"
-}
-
-# A row: `row CALL INPUT OUTCOME REQUESTS ANSWER`, the call with its encoding. The first request of a
-# call on a full buffer is the buffer's own.
+# A row: `row CALL INPUT OUTCOME REQUESTS BYTES`, the call with its encoding.
 row() {
-    local call=$1 input=$2 outcome=$3 requests=$4 answer=$5 name refused
-    rows=$((rows + 1))
-    printf -v name '%04d_%s' "$rows" "${call/ /_}"
-    for ((refused = 1; refused <= requests; refused++)); do
-        if [[ $call == *_full* ]] && ((refused == 2)); then
-            expect "$refused" memory 3 '\x01\x02'
-        else
-            expect "$refused" "${shown_refused}memory" 3 ''
-        fi
-    done
-    expect "$refused" "${shown}$outcome" 0 "$answer"
+    local number=${numbers[:$2]-} call=$1 printed=$3$'\n'$5$'\n'
+    if [[ -z $number ]]; then
+        number=${#inputs[@]}
+        numbers[:$2]=$number
+        inputs+=("$2")
+        silent+=('')
+        asking+=('')
+    fi
+    if [[ -z ${made_by[$number $call]-} ]]; then
+        made_by[$number $call]=$4
+        printed_by[$number $call]=$printed
+        if (($4 == 0)); then silent[number]+=$call$'\n'; else asking[number]+=$call$'\n'; fi
+    elif [[ "${made_by[$number $call]} ${printed_by[$number $call]}" != "$4 $printed" ]]; then
+        echo "two rows for $call on one input differ" >&2
+        exit 2
+    fi
 }
-
-# What a row prints before the outcome, with memory there and without.
-shown=''
-shown_refused=''
 
 # The encoded characters that are told apart here, in UTF-8, CESU-8 and MUTF-8: U+0061, U+20AC, U+0000
 # and U+1F496. And the reading of their UTF-8 as each encoding, with damage: U+FFFD for each byte that
@@ -96,13 +98,14 @@ declare -A damaged_mutf8=([a]=a [euro]='\xE2\x82\xAC' [null]="$mark" [heart]="$m
 
 # Keeps the text of these characters in each form, each as many times: `text TIMES CHARACTER..`.
 text() {
+    local bytes
     utf8='' cesu8='' mutf8='' read_as_cesu8='' read_as_mutf8=''
     while (($# > 0)); do
-        utf8+=$(repeated "$1" "${in_utf8[$2]}")
-        cesu8+=$(repeated "$1" "${in_cesu8[$2]}")
-        mutf8+=$(repeated "$1" "${in_mutf8[$2]}")
-        read_as_cesu8+=$(repeated "$1" "${damaged_cesu8[$2]}")
-        read_as_mutf8+=$(repeated "$1" "${damaged_mutf8[$2]}")
+        repeat "$1" "${in_utf8[$2]}" && utf8+=$bytes
+        repeat "$1" "${in_cesu8[$2]}" && cesu8+=$bytes
+        repeat "$1" "${in_mutf8[$2]}" && mutf8+=$bytes
+        repeat "$1" "${damaged_cesu8[$2]}" && read_as_cesu8+=$bytes
+        repeat "$1" "${damaged_mutf8[$2]}" && read_as_mutf8+=$bytes
         shift 2
     done
 }
@@ -183,8 +186,9 @@ utf8_rows() {
 # encoded character. One request comes before the first byte is read, so its refusal hides the damage:
 # `damage_rows COUNT BYTES`.
 damage_rows() {
-    local encoding damaged reading length call
-    reading=$utf8$(repeated "$1" "$mark")
+    local encoding damaged reading length call bytes
+    repeat "$1" "$mark"
+    reading=$utf8$bytes
     measure "$reading"
     for encoding in cesu8 mutf8; do
         damaged=${!encoding}$2
@@ -196,9 +200,9 @@ damage_rows() {
     done
 }
 
-# Bytes of MUTF-8 and before them the two that count them: `form BYTES COUNT`.
+# Keeps in written these bytes of MUTF-8, after the two that count them: `form BYTES COUNT`.
 form() {
-    printf '\\x%02X\\x%02X%s' "$(($2 / 256))" "$(($2 % 256))" "$1"
+    printf -v written '\\x%02X\\x%02X%s' "$(($2 / 256))" "$(($2 % 256))" "$1"
 }
 
 # Writing a Java string, of the text that is kept. One that is too long is told before any request.
@@ -210,7 +214,7 @@ write_rows() {
         row 'write_utf_full mutf8' "$utf8" too_long 1 '\x01\x02'
         return
     fi
-    written=$(form "$mutf8" "$length")
+    form "$mutf8" "$length"
     row 'write_utf mutf8' "$utf8" written 1 "$written"
     row 'write_utf_room mutf8' "$utf8" written 1 "$written"
     row 'write_utf_less mutf8' "$utf8" written 2 "$written"
@@ -222,12 +226,13 @@ read_rows() {
     local length written call outcome=owned requests=1
     measure "$mutf8"
     ((length > 65535)) && return
-    written=$(form "$mutf8" "$length")
     [[ $mutf8 == "$utf8" ]] && outcome=borrowed requests=0
     for call in read_utf read_utf_lossy; do
-        row "$call mutf8" "${written}rest" "$outcome" "$requests" "${utf8}rest"
+        form "$mutf8" "$length"
+        row "$call mutf8" "${written}rest" "$outcome" "$requests" "$utf8\\nrest"
         ((length < 65535)) || continue
-        row "$call mutf8" "$(form "$mutf8" "$((length + 1))")" truncated 0 ''
+        form "$mutf8" "$((length + 1))"
+        row "$call mutf8" "$written" truncated 0 ''
     done
 }
 
@@ -237,25 +242,26 @@ damaged_read_rows() {
     local length written
     measure "$mutf8"
     ((length > 65534)) && return
-    written=$(form "$mutf8\\xED" "$((length + 1))")
+    form "$mutf8\\xED" "$((length + 1))"
     row 'read_utf mutf8' "${written}rest" invalid 1 ''
-    row 'read_utf_lossy mutf8' "${written}rest" owned 1 "$utf8${mark}rest"
+    row 'read_utf_lossy mutf8' "${written}rest" owned 1 "$utf8$mark\\nrest"
 }
 
 # A text that stays as it is in both encodings, and one that is other bytes in each.
 keep_pattern() {
+    local bytes
     text 0 a
     if [[ $1 == stays ]]; then
         utf8='Gr\xC3\xBC\xC3\x9Fe aus \xE6\x9D\xB1\xE4\xBA\xAC, \xE2\x82\xAC 205, \xEF\xBF\xBD\xEF\xBF\xBF'
         cesu8=$utf8
         mutf8=$utf8
     else
-        utf8=$(repeated 3 "$(pattern UTF8)")
-        cesu8=$(repeated 3 "$(pattern CESU8)")
-        mutf8=$(repeated 3 "$(pattern MUTF8)")
+        repeat 3 "$(pattern UTF8)" && utf8=$bytes
+        repeat 3 "$(pattern CESU8)" && cesu8=$bytes
+        repeat 3 "$(pattern MUTF8)" && mutf8=$bytes
     fi
     if ((${#utf8} == 0 || ${#cesu8} < ${#utf8} || ${#mutf8} < ${#cesu8})); then
-        echo 'the pattern was not read from crates/vectors/src/pattern.rt' >&2
+        echo 'the pattern was not read from crates/test_cases/src/pattern.rt' >&2
         exit 2
     fi
 }
@@ -284,18 +290,15 @@ short_rows() {
     row 'read_utf_lossy mutf8' '\x00' truncated 0 ''
 }
 
-# Calls that have no input, or show what they refuse.
+# Calls that have no input, or show what they refuse, which comes before the outcome.
 other_rows() {
     row 'laws cesu8' '' true 0 ''
-    shown_refused=$'out of memory, out of memory\ntext is too long, out of memory\n'
-    shown=${shown_refused/#out of memory/invalid input}
-    shown+=$'input is truncated, out of memory\n'
-    shown_refused+=$'input is truncated, out of memory\n'
-    shown+=$'invalid input, DecodingError, invalid input\n'
-    row 'faults cesu8' '\xED\xA0\xBD' yes 1 ''
-    row 'faults mutf8' '\x00' yes 1 ''
-    shown=''
-    shown_refused=''
+    local all
+    faults=$'text is too long, out of memory\ninput is truncated, out of memory\n'
+    all=$'invalid input, out of memory\n'$faults
+    all+=$'invalid input, DecodingError, invalid input\nyes'
+    row 'faults cesu8' '\xED\xA0\xBD' "$all" 1 ''
+    row 'faults mutf8' '\x00' "$all" 1 ''
 }
 
 # At a length: letters alone; of so many bytes with a character at their end that is other bytes in an
@@ -335,6 +338,7 @@ border_rows() {
 # Where nothing stays as it is, and each block ends in another part of a character: the longest
 # inputs, and the longest Java string.
 long_rows() {
+    local bytes
     text 16384 heart
     text_rows cesu8 mutf8
     text 10922 heart 4 a
@@ -354,7 +358,8 @@ long_rows() {
     write_rows
     read_rows
     text 0 a
-    damage_rows 65536 "$(repeated 65536 '\xFF')"
+    repeat 65536 '\xFF'
+    damage_rows 65536 "$bytes"
 }
 
 short_rows
@@ -364,32 +369,67 @@ for border in 0 1 63 64 65 256 257 1023 1024 1025 65536; do
 done
 long_rows
 
-# The runs are side by side. One refuses the request of this place in every row.
-run_rows() {
-    (cd "$top/crates/vectors" && rt try --fail-alloc "$1" --cases "$scratch/$1") \
-        </dev/null >"$scratch/rows.$1" 2>&1 &
+# Keeps in refusal what a call prints if its request of this place is refused: `refuse CALL PLACE`.
+# The first of a call on a full buffer is the buffer's own.
+refuse() {
+    refusal=$'memory\n\n'
+    case $1:$2 in
+    *_full*:2) refusal=$'memory\n\\x01\\x02\n' ;;
+    faults*) refusal=$'out of memory, out of memory\n'$faults$refusal ;;
+    esac
 }
 
-# Counts the rows of a run that ended well and printed what they have to. What a wrong row printed
-# stands in a line of its own, and where no row ran, the output says why.
-compare_rows() {
-    local output=$scratch/rows.$1 right due=${runs[$1]}
-    right=$(grep -a -c '^case=[^ ]* run=ended status=0 .*output=expected' "$output")
-    passed=$((passed + right))
-    ((right == due)) && return
-    failed=$((failed + due - right))
-    echo "wrong, with request $1 refused:"
-    grep -a -v -e 'output=expected' -e '^allocations: ' "$output" | cut -c 1-400
+# A process that makes these calls, given in lines, on an input. So many of their requests come
+# before the refused one: `process NAME CALLS INPUT BEFORE PRINTED MORE`.
+process() {
+    local calls=${2%$'\n'} file
+    processes=$((processes + 1))
+    printf -v file '%s/cases/%04d_%s' "$scratch" "$processes" "${1// /_}"
+    printf '%s %s\n%b' "$((2 - $4))" "${calls//$'\n'/, }" "$3" >"$file"
+    printf '%b%s more\n' "$5" "$6" >"$file.stdout"
 }
 
-run_rows 1
-run_rows 2
-run_rows 3
-wait
+# The processes for all calls on the input of this number: `processes_on NUMBER`. Before a call that
+# is refused its first request comes the one that was refused before, and in the first process the
+# last, with all calls that make no request.
+processes_on() {
+    local number=$1 input=${inputs[$1]} between=${silent[$1]}
+    local printed='' calls=() call previous place
+    while read -r call; do
+        [[ -n $call ]] && printed+=${printed_by[$number $call]}
+    done <<<"$between"
+    if [[ -z ${asking[number]} ]]; then
+        process none "$between" "$input" 0 "$printed" 0
+        return
+    fi
+    mapfile -t calls <<<"${asking[number]%$'\n'}"
+    previous=${calls[-1]}
+    for call in "${calls[@]}"; do
+        refuse "$call" 1
+        process "$call 1" "$previous"$'\n'"$between$call" "$input" "${made_by[$number $previous]}" \
+            "${printed_by[$number $previous]}$printed$refusal" 3
+        for ((place = 2; place <= ${made_by[$number $call]}; place++)); do
+            refuse "$call" "$place"
+            process "$call $place" "$call" "$input" "$((place - 1))" "$refusal" 3
+        done
+        between='' printed='' previous=$call
+    done
+}
 
-compare_rows 1
-compare_rows 2
-compare_rows 3
+processes=0
+for number in "${!inputs[@]}"; do
+    processes_on "$number"
+done
 
+(cd "$top/crates/memory_calls" && rt try --fail-alloc 3 --cases "$scratch/cases") \
+    </dev/null >"$scratch/output" 2>&1
+
+# What a wrong process printed stands in a line of its own, and where none ran, the output says why.
+passed=$(grep -a -c '^case=[^ ]* run=ended status=0 .*output=expected' "$scratch/output")
+failed=$((processes - passed))
+if ((failed > 0)); then
+    echo 'wrong:'
+    grep -a -v -e 'output=expected' -e '^allocations: ' "$scratch/output" | cut -c 1-400
+fi
 echo "$passed passed, $failed failed"
 ((failed == 0))

@@ -1,17 +1,38 @@
-//! One call, by its name, and what came of it.
+//! The calls, by their names, and what came of each.
 
-use crate::helpers::flavors;
-use crate::helpers::flavors::Flavor;
 use java_text::{ReadFault, WriteFault, read_utf, read_utf_lossy, write_utf};
 use simd_cesu8::implementation::{active, fallback, simd, word};
 use simd_cesu8::{CountedText, CowBytes, CowText, DecodeFault, DecodingError, laws};
 use std::alloc::{AllocError, Global};
 use std::io::{ErrorKind, Write};
 use std::{io, str};
+use test_cases::flavors;
+use test_cases::flavors::Flavor;
 
-/// Makes the call that the line names on the bytes, and prints what came of it.
-pub fn make(rt: &HostRuntime, line: &[u8], bytes: &[u8]) -> io::Result<()> {
-    let Some((call, flavor)) = parse(line) else {
+/// Makes the requests and the calls that the line names, and prints what came of each call. Then it
+/// prints how many further requests are granted.
+pub fn make_all(rt: &HostRuntime, line: &[u8], bytes: &[u8]) -> io::Result<()> {
+    let Some((requests, calls)) = parse_line(line) else {
+        return Err(ErrorKind::InvalidInput.into());
+    };
+    for _ in 0..requests {
+        let _request = Vec::<u8>::with_capacity(rt.alloc(), 1);
+    }
+    for call in calls.split(", ") {
+        make(rt, call, bytes)?;
+    }
+    println!(rt; "{} more", granted(rt.alloc()))
+}
+
+/// How many requests come first, and the calls.
+fn parse_line(line: &[u8]) -> Option<(u8, &str)> {
+    let (requests, calls) = str::from_utf8(line).ok()?.split_once(' ')?;
+    Some((requests.parse().ok()?, calls))
+}
+
+/// Makes a call on the bytes, and prints what came of it.
+fn make(rt: &HostRuntime, call: &str, bytes: &[u8]) -> io::Result<()> {
+    let Some((call, flavor)) = parse(call) else {
         return Err(ErrorKind::InvalidInput.into());
     };
     match call {
@@ -39,8 +60,8 @@ pub fn make(rt: &HostRuntime, line: &[u8], bytes: &[u8]) -> io::Result<()> {
 }
 
 /// The call and the encoding.
-fn parse(line: &[u8]) -> Option<(&str, Flavor)> {
-    let (call, flavor) = str::from_utf8(line).ok()?.split_once(' ')?;
+fn parse(call: &str) -> Option<(&str, Flavor)> {
+    let (call, flavor) = call.split_once(' ')?;
     match flavor {
         "cesu8" => Some((call, Flavor::Cesu8)),
         "mutf8" => Some((call, Flavor::Mutf8)),
@@ -53,7 +74,7 @@ fn make_of_text(rt: &HostRuntime, call: &str, flavor: Flavor, text: &str) -> io:
     match call {
         "needs_encoded" => tell(rt, yes_or_no(flavors::needs_encoded(flavor, text)), &[]),
         "encoded_len" => tell_length(rt, Some(flavors::encoded_len(flavor, text))),
-        "encode" => tell_bytes(rt, flavors::encode(rt.alloc(), flavor, text)),
+        "encode" => tell_encoded(rt, flavors::encode(rt.alloc(), flavor, text)),
         "into_vec" => make_into_vec(rt, flavor, text),
         "counted" => append_counted(rt, Vec::new(rt.alloc()), flavors::counted(flavor, text)),
         "encode_into" => append(rt, Ok(Vec::new(rt.alloc())), flavor, text),
@@ -101,9 +122,9 @@ fn ask_kernel(rt: &HostRuntime, module: &str, flavor: Flavor, bytes: &[u8]) -> i
     tell(rt, yes_or_no(found), &[])
 }
 
-/// Prints each fault, that of the answer first, and whether the error equals itself.
-fn show_faults(rt: &HostRuntime, answer: Result<CowText<'_>, DecodeFault>) -> io::Result<()> {
-    let Err(fault) = answer else {
+/// Prints each fault, that of the result first, and whether the error equals itself.
+fn show_faults(rt: &HostRuntime, decoded: Result<CowText<'_>, DecodeFault>) -> io::Result<()> {
+    let Err(fault) = decoded else {
         return Err(ErrorKind::InvalidInput.into());
     };
     println!(rt; "{fault}, {}", DecodeFault::Memory(AllocError))?;
@@ -179,10 +200,10 @@ fn write(rt: &HostRuntime, buf: Result<Vec<u8>, AllocError>, text: &str) -> io::
     tell(rt, outcome, buf.as_slice())
 }
 
-/// Makes a vector of an encoder's answer.
+/// Makes a vector of an encoder's result.
 fn make_into_vec(rt: &HostRuntime, flavor: Flavor, text: &str) -> io::Result<()> {
     let copied = match flavors::encode(rt.alloc(), flavor, text) {
-        Ok(answer) => answer.into_vec(rt.alloc()),
+        Ok(encoded) => encoded.into_vec(rt.alloc()),
         Err(error) => Err(error),
     };
     match copied {
@@ -191,10 +212,10 @@ fn make_into_vec(rt: &HostRuntime, flavor: Flavor, text: &str) -> io::Result<()>
     }
 }
 
-/// Makes a string of the answer of lenient decoding.
+/// Makes a string of the result of lenient decoding.
 fn make_into_string(rt: &HostRuntime, flavor: Flavor, bytes: &[u8]) -> io::Result<()> {
     match flavors::decode(rt.alloc(), flavor, bytes) {
-        Ok(answer) => match answer.into_string(rt.alloc()) {
+        Ok(decoded) => match decoded.into_string(rt.alloc()) {
             Ok(text) => tell(rt, "owned", text.as_bytes()),
             Err(_) => tell(rt, "memory", &[]),
         },
@@ -202,19 +223,19 @@ fn make_into_string(rt: &HostRuntime, flavor: Flavor, bytes: &[u8]) -> io::Resul
     }
 }
 
-fn tell_bytes(rt: &HostRuntime, answer: Result<CowBytes<'_>, AllocError>) -> io::Result<()> {
-    match answer {
-        Ok(answer) => tell(rt, case_of(answer.is_borrowed()), answer.as_bytes()),
+fn tell_encoded(rt: &HostRuntime, encoded: Result<CowBytes<'_>, AllocError>) -> io::Result<()> {
+    match encoded {
+        Ok(encoded) => tell(rt, case_of(encoded.is_borrowed()), encoded.as_bytes()),
         Err(_) => tell(rt, "memory", &[]),
     }
 }
 
-fn tell_text(rt: &HostRuntime, answer: Result<CowText<'_>, DecodeFault>) -> io::Result<()> {
-    match answer {
-        Ok(answer) => tell(
+fn tell_text(rt: &HostRuntime, decoded: Result<CowText<'_>, DecodeFault>) -> io::Result<()> {
+    match decoded {
+        Ok(decoded) => tell(
             rt,
-            case_of(answer.is_borrowed()),
-            answer.as_str().as_bytes(),
+            case_of(decoded.is_borrowed()),
+            decoded.as_str().as_bytes(),
         ),
         Err(DecodeFault::Invalid(_)) => tell(rt, "invalid", &[]),
         Err(DecodeFault::Memory(_)) => tell(rt, "memory", &[]),
@@ -223,10 +244,10 @@ fn tell_text(rt: &HostRuntime, answer: Result<CowText<'_>, DecodeFault>) -> io::
 
 fn tell_appended(
     rt: &HostRuntime,
-    answer: Result<(), AllocError>,
+    appended: Result<(), AllocError>,
     buf: &Vec<u8>,
 ) -> io::Result<()> {
-    match answer {
+    match appended {
         Ok(()) => tell(rt, "appended", buf.as_slice()),
         Err(_) => tell(rt, "memory", buf.as_slice()),
     }
@@ -236,28 +257,31 @@ fn case_of(is_borrowed: bool) -> &'static str {
     if is_borrowed { "borrowed" } else { "owned" }
 }
 
-fn yes_or_no(answer: bool) -> &'static str {
-    if answer { "yes" } else { "no" }
+fn yes_or_no(fact: bool) -> &'static str {
+    if fact { "yes" } else { "no" }
 }
 
 /// Prints a length as the outcome.
 fn tell_length(rt: &HostRuntime, len: Option<usize>) -> io::Result<()> {
     match len {
-        Some(len) => println!(rt; "{len}, {} more", granted(rt.alloc())),
+        Some(len) => {
+            println!(rt; "{len}")?;
+            tell_bytes(rt, &[])
+        }
         None => tell(rt, "none", &[]),
     }
 }
 
-fn tell_lossy(rt: &HostRuntime, answer: Result<CowText<'_>, AllocError>) -> io::Result<()> {
-    tell_text(rt, answer.map_err(DecodeFault::Memory))
+fn tell_lossy(rt: &HostRuntime, decoded: Result<CowText<'_>, AllocError>) -> io::Result<()> {
+    tell_text(rt, decoded.map_err(DecodeFault::Memory))
 }
 
-/// Prints the text, and then the bytes after it.
-fn tell_read(rt: &HostRuntime, answer: Result<(CowText<'_>, &[u8]), ReadFault>) -> io::Result<()> {
-    match answer {
+/// Prints the text, and then the bytes after it as a line of their own.
+fn tell_read(rt: &HostRuntime, read: Result<(CowText<'_>, &[u8]), ReadFault>) -> io::Result<()> {
+    match read {
         Ok((text, rest)) => {
             tell_text(rt, Ok(text))?;
-            io::writer(rt).write_all(rest)
+            tell_bytes(rt, rest)
         }
         Err(ReadFault::Truncated) => tell(rt, "truncated", &[]),
         Err(ReadFault::Invalid(_)) => tell(rt, "invalid", &[]),
@@ -265,10 +289,17 @@ fn tell_read(rt: &HostRuntime, answer: Result<(CowText<'_>, &[u8]), ReadFault>) 
     }
 }
 
-/// Prints what came of a call, and what further requests come to.
+/// Prints what came of a call, and its bytes as a line of their own.
 fn tell(rt: &HostRuntime, outcome: &str, bytes: &[u8]) -> io::Result<()> {
-    println!(rt; "{outcome}, {} more", granted(rt.alloc()))?;
-    io::writer(rt).write_all(bytes)
+    println!(rt; "{outcome}")?;
+    tell_bytes(rt, bytes)
+}
+
+/// Prints bytes as a line.
+fn tell_bytes(rt: &HostRuntime, bytes: &[u8]) -> io::Result<()> {
+    let mut stdout = io::writer(rt);
+    stdout.write_all(bytes)?;
+    stdout.write_all(b"\n")
 }
 
 /// How many of three requests are granted before one is refused.
