@@ -12,6 +12,8 @@ returns-in_err-text-clause-err c = search rules
 
 pub returns-clause-ok : goal.returns-clause-ok
 returns-clause-ok c =
-    let none : c.in_ok-text.rest.now ≡ [] = nil_from_length _ (search rules) in
-    (chars (answer_text c.in_ok-text.text), subst (BeginsWithForm c.args.input.now _) none c.in_ok-text.ensures.text,
-    c.into_bytes.ensures)
+    let none : c.in_ok-text.rest.now ≡ [] = nil_from_length _ (search rules) in (
+      chars (answer_text c.in_ok-text.text),
+      subst (BeginsWithForm c.args.input.now _) none c.in_ok-text.ensures.text,
+      c.into_bytes.ensures,
+    )
