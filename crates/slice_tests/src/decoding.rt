@@ -12,7 +12,7 @@ use test_cases::slices::expect_slices;
 /// Asserts that each call does with these bytes what it has to.
 fn assert_read(rt: &impl Abort, alloc: Global, bytes: &[u8]) {
     let compared = expect_slices(alloc, bytes);
-    assert!(rt; compared.is_ok(), "{bytes:?}: {compared:?}");
+    assert!(rt; compared.is_ok(), "{compared:?} of {bytes:?}");
 }
 
 #[test]
