@@ -26,10 +26,10 @@ declare -A reads=([cesu8]='decode-strict cesu8' [mutf8]='decode-strict mutf8' [s
 passed=0
 failed=0
 
-# The scalar values at the borders of the forms, which crates/vectors has.
+# The scalar values at the borders of the forms, which crates/test_cases has.
 read_borders() {
     mapfile -t borders < <(
-        grep -o '"U+[0-9A-F]*"' "$top/crates/vectors/src/borders.rt" | sed 's/"U+/0x/; s/"//'
+        grep -o '"U+[0-9A-F]*"' "$top/crates/test_cases/src/borders.rt" | sed 's/"U+/0x/; s/"//'
     )
 }
 

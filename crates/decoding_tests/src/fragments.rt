@@ -1,0 +1,43 @@
+//! Fragments of characters in any order, drawn by a generator that gives the same in each run, beside
+//! the plain decoder.
+
+use crate::rows::ROWS;
+use std::alloc::{AllocError, Global};
+use std::test::Fail;
+use test_cases::comparisons::expect_readings;
+use test_cases::fills::FILLS;
+
+/// The number after another, by shifts as in Marsaglia's "Xorshift RNGs".
+fn after(number: u64) -> u64 {
+    let number = number ^ (number << 13);
+    let number = number ^ (number >> 7);
+    number ^ (number << 17)
+}
+
+/// The sequence of a number: so many rows or, but for one of so many, characters.
+fn sequence(alloc: Global, seed: u64, pieces: u64, one_of: u64) -> Result<Vec<u8>, AllocError> {
+    let mut bytes = Vec::new(alloc);
+    let mut number = after(after(seed.wrapping_mul(0x9E37_79B9_7F4A_7C15) | 1));
+    for _ in 0..pieces {
+        number = after(number);
+        let drawn = (number >> 32) as usize;
+        if number.checked_rem(one_of).unwrap_or(0) == 0 {
+            bytes.extend_from_slice(ROWS[drawn % ROWS.len()].0)?;
+        } else {
+            bytes.extend_from_slice(FILLS[drawn % FILLS.len()])?;
+        }
+    }
+    Ok(bytes)
+}
+
+/// Rows alone, and characters with rows among them.
+#[test]
+fn reads_fragments(rt: HostRuntime) -> Result<(), Fail> {
+    for one_of in [1, 3, 50, 400] {
+        for seed in 0..400 {
+            let bytes = sequence(rt.alloc(), seed, seed % 25 * (seed % 11), one_of)?;
+            expect_readings(rt.alloc(), bytes.as_slice())?;
+        }
+    }
+    Ok(())
+}

@@ -1,0 +1,13 @@
+//! Tests of the calls of `simd_cesu8` that decode, on values that were not computed by them.
+#![tactic(auto)]
+
+#[cfg(test)]
+mod errors;
+#[cfg(test)]
+mod fragments;
+#[cfg(test)]
+mod pairs;
+#[cfg(test)]
+mod places;
+#[cfg(test)]
+mod rows;

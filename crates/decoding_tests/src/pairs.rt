@@ -1,0 +1,95 @@
+//! All 65,536 inputs of two bytes, beside the plain decoder.
+
+use std::alloc::Global;
+use std::test::Fail;
+use test_cases::comparisons::{Difference, expect, expect_outcome};
+use test_cases::decoders::{Decoder, Outcome};
+use test_cases::flavors::{FLAVORS, Flavor, lossy_len};
+use test_cases::plain::read;
+
+/// How many inputs are read, how many of these are borrowed, and how many U+FFFD are written.
+type Counts = (u32, u32, usize);
+
+/// Compares one call on each input.
+fn count(alloc: Global, decoder: Decoder, flavor: Flavor) -> Result<Counts, Difference> {
+    let (mut read_inputs, mut borrowed, mut damaged) = (0u32, 0u32, 0usize);
+    for pair in 0..=u16::MAX {
+        let bytes = pair.to_be_bytes();
+        let reading = read(alloc, flavor, &bytes)?;
+        let expected = reading.expected(decoder, &bytes);
+        expect_outcome(alloc, decoder, flavor, &bytes, expected)?;
+        match expected {
+            Outcome::Borrowed(_) => {
+                read_inputs = read_inputs.wrapping_add(1);
+                borrowed = borrowed.wrapping_add(1);
+            }
+            Outcome::Owned(_) => {
+                read_inputs = read_inputs.wrapping_add(1);
+                damaged = damaged.wrapping_add(reading.damaged);
+            }
+            _ => {}
+        }
+    }
+    Ok((read_inputs, borrowed, damaged))
+}
+
+/// Compares the counts in CESU-8 and in MUTF-8.
+fn expect_counts(alloc: Global, decoder: Decoder, both: [Counts; 2]) -> Result<(), Difference> {
+    for flavor in FLAVORS {
+        let counts = count(alloc, decoder, flavor)?;
+        expect(alloc, flavor, decoder.name(), counts, flavor.of(both))?;
+    }
+    Ok(())
+}
+
+#[test]
+fn reads_pairs_strictly(rt: HostRuntime) -> Result<(), Fail> {
+    let both = [(18_304, 18_304, 0), (18_050, 18_049, 0)];
+    Ok(expect_counts(rt.alloc(), Decoder::Strict, both)?)
+}
+
+#[test]
+fn reads_pairs_leniently(rt: HostRuntime) -> Result<(), Fail> {
+    let both = [(18_304, 18_304, 0), (18_305, 18_304, 0)];
+    Ok(expect_counts(rt.alloc(), Decoder::Lenient, both)?)
+}
+
+#[test]
+fn reads_pairs_lossily_and_strictly(rt: HostRuntime) -> Result<(), Fail> {
+    let both = [(65_536, 18_304, 61_696), (65_536, 18_049, 62_206)];
+    Ok(expect_counts(rt.alloc(), Decoder::LossyStrict, both)?)
+}
+
+#[test]
+fn reads_pairs_lossily(rt: HostRuntime) -> Result<(), Fail> {
+    let both = [(65_536, 18_304, 61_696), (65_536, 18_304, 61_950)];
+    Ok(expect_counts(rt.alloc(), Decoder::LossyLenient, both)?)
+}
+
+/// How many of the inputs are read lossily as so many bytes of UTF-8, from none to six.
+#[test]
+fn measures_pairs(rt: HostRuntime) -> Result<(), Fail> {
+    for flavor in FLAVORS {
+        let mut counts = [0u32; 7];
+        for pair in 0..=u16::MAX {
+            let bytes = pair.to_be_bytes();
+            let len = read(rt.alloc(), flavor, &bytes)?.text.len();
+            expect(
+                rt.alloc(),
+                flavor,
+                "lossy_len",
+                lossy_len(flavor, &bytes),
+                Some(len),
+            )?;
+            if let Some(count) = counts.get_mut(len) {
+                *count = count.wrapping_add(1);
+            }
+        }
+        let both = [
+            [0, 0, 18_304, 0, 32_768, 0, 14_464],
+            [0, 1, 18_049, 0, 32_766, 0, 14_720],
+        ];
+        assert_eq!(rt; counts, flavor.of(both), "in {flavor:?}");
+    }
+    Ok(())
+}

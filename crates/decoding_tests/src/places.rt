@@ -1,0 +1,116 @@
+//! What changes, and damage, at the places where blocks and windows begin and end, beside the plain
+//! decoder.
+
+use crate::rows::ROWS;
+use std::alloc::Global;
+use std::ops::Range;
+use std::test::Fail;
+use test_cases::comparisons::{Difference, expect_readings};
+use test_cases::fills::{FILLS, Input};
+
+/// A surrogate pair and one that is cut, U+0000 in both forms, four bytes of UTF-8, a lead byte, and
+/// bytes that begin nothing.
+const PIECES: [&[u8]; 11] = [
+    b"\xED\xA0\xBD\xED\xB2\x96",
+    b"\xED\xA0\xBD\xED\xB2",
+    b"\xC0\x80",
+    b"\0",
+    b"\xF0\x9F\x92\x96",
+    b"\x7F",
+    b"\x80",
+    b"\xBF",
+    b"\xC3",
+    b"\xF0",
+    b"\xFF",
+];
+
+/// Compares what is read where something is put at each of some places.
+fn expect_at(
+    alloc: Global,
+    fill: &[u8],
+    len: usize,
+    places: Range<usize>,
+    put: &[u8],
+) -> Result<(), Difference> {
+    for place in places {
+        let input = Input {
+            fill,
+            len,
+            put,
+            place,
+        };
+        expect_readings(alloc, input.inserted(alloc)?.as_slice())?;
+    }
+    Ok(())
+}
+
+/// Each piece at each place of ASCII of some lengths.
+fn expect_pieces(alloc: Global, lengths: Range<usize>) -> Result<(), Difference> {
+    for len in lengths {
+        for put in PIECES {
+            expect_at(alloc, FILLS[0], len, 0..len.saturating_add(1), put)?;
+        }
+    }
+    Ok(())
+}
+
+#[test]
+fn reads_pieces_in_short_input(rt: HostRuntime) -> Result<(), Fail> {
+    Ok(expect_pieces(rt.alloc(), 0..40)?)
+}
+
+#[test]
+fn reads_pieces_about_blocks(rt: HostRuntime) -> Result<(), Fail> {
+    expect_pieces(rt.alloc(), 60..66)?;
+    Ok(expect_pieces(rt.alloc(), 127..129)?)
+}
+
+/// Each piece about the ends of windows, of which the first is shorter.
+#[test]
+fn reads_pieces_about_the_ends_of_windows(rt: HostRuntime) -> Result<(), Fail> {
+    for end in [256, 1_024, 1_088, 1_280, 2_048] {
+        for put in PIECES {
+            for fill in [FILLS[0], FILLS[5]] {
+                expect_at(rt.alloc(), fill, end + 20, end - 6..end + 2, put)?;
+            }
+        }
+    }
+    Ok(())
+}
+
+/// Each byte about the end of a block, in some fills.
+fn expect_bytes(alloc: Global, fills: &[&[u8]]) -> Result<(), Difference> {
+    for fill in fills {
+        for byte in 0..=u8::MAX {
+            expect_at(alloc, fill, 72, 58..70, &[byte])?;
+        }
+    }
+    Ok(())
+}
+
+#[test]
+fn reads_each_byte_among_one_and_two_bytes(rt: HostRuntime) -> Result<(), Fail> {
+    Ok(expect_bytes(rt.alloc(), &FILLS[..2])?)
+}
+
+#[test]
+fn reads_each_byte_among_three_and_six_bytes(rt: HostRuntime) -> Result<(), Fail> {
+    Ok(expect_bytes(rt.alloc(), &FILLS[2..4])?)
+}
+
+#[test]
+fn reads_each_byte_among_nulls_and_two_widths(rt: HostRuntime) -> Result<(), Fail> {
+    Ok(expect_bytes(rt.alloc(), &FILLS[4..])?)
+}
+
+/// Each row at each offset in a block of 64, at the end of the input and before more of it.
+#[test]
+fn reads_rows_at_each_offset(rt: HostRuntime) -> Result<(), Fail> {
+    for (put, ..) in ROWS {
+        for place in 0..64 {
+            expect_at(rt.alloc(), FILLS[5], place, place..place + 1, put)?;
+        }
+        expect_at(rt.alloc(), FILLS[5], 100, 0..64, put)?;
+    }
+    Ok(())
+}
