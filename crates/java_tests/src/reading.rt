@@ -152,10 +152,10 @@ fn reads_as_much_as_two_bytes_count(rt: HostRuntime) -> Result<(), Fail> {
                 let bytes = bytes.as_slice();
                 assert!(rt;
                     reader.returns(rt.alloc(), bytes, due),
-                    "{length}: {character:?}"
+                    "{reader:?}, {length}: {character:?}"
                 );
                 let wrong = reader.wrong_room(rt.alloc(), bytes, due, rooms.clone()?)?;
-                assert_eq!(rt; wrong, None, "{length}: {character:?}");
+                assert_eq!(rt; wrong, None, "{reader:?}, {length}: {character:?}");
             }
         }
     }
