@@ -6,21 +6,23 @@
 # is ended. What a check takes after the last look at it is missed: `note_checks TREE ROOM`, the
 # folder where `rt ci` runs, and the one where it makes the copies for edits.
 note_checks() {
-    local stat pid line fields
+    local stat pid line fields process
     local -A part=() ticks=()
     while sleep 2; do
         for stat in /proc/[0-9]*/stat; do
-            pid=${stat//[!0-9]/}
             { read -r line <"$stat"; } 2>/dev/null || continue
-            [[ -n ${part[$pid]-} ]] || part[$pid]=$(part_of "$pid" "$1" "$2")
-            [[ -n ${part[$pid]} ]] || part[$pid]=none
-            [[ ${part[$pid]} != none ]] || continue
-            # The name of a process stands in brackets, and may have spaces.
+            pid=${stat//[!0-9]/}
+            # The name of a process is in brackets, and may have spaces. The system reuses numbers, so the
+            # time at which a process started is compared too.
             read -r -a fields <<<"${line##*) }"
-            ticks[$pid]=$((fields[11] + fields[12]))
+            process=$pid.${fields[19]}
+            [[ -n ${part[$process]-} ]] || part[$process]=$(part_of "$pid" "$1" "$2")
+            [[ -n ${part[$process]} ]] || part[$process]=none
+            [[ ${part[$process]} != none ]] || continue
+            ticks[$process]=$((fields[11] + fields[12]))
         done
-        for pid in "${!ticks[@]}"; do
-            echo "${ticks[$pid]} ${part[$pid]}"
+        for process in "${!ticks[@]}"; do
+            echo "${ticks[$process]} ${part[$process]}"
         done >"$scratch/checks.new"
         mv "$scratch/checks.new" "$scratch/checks"
     done
