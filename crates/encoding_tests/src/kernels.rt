@@ -1,0 +1,217 @@
+//! Which lists of bytes the kernels return true for.
+
+ghost use Rattle.std.specs.Prelude.{◌≤◌};
+
+use simd_cesu8::implementation::{active, fallback, simd, word};
+use std::ops::RangeInclusive;
+
+/// A module, and what its two kernels return: whether some byte is F0 to F7, and whether some is 00 or
+/// one of these.
+macro_rules! results {
+    ($bytes:ident: $($module:ident),*) => {
+        [$((
+            stringify!($module),
+            $module::contains_utf8_4_byte_char_header($bytes),
+            $module::contains_null_or_utf8_4_byte_char_header($bytes),
+        )),*]
+    };
+}
+
+/// The first module whose kernels return other than these on a list.
+fn first_wrong(bytes: &[u8], four: bool, null_four: bool) -> Option<&'static str> {
+    for (module, has_four, has_null_four) in results!(bytes: fallback, word, simd, active) {
+        if has_four != four || has_null_four != null_four {
+            return Some(module);
+        }
+    }
+    None
+}
+
+/// Bytes at the borders of the classes, and whether each is F0 to F7, and 00 or one of these.
+const BYTES: [(u8, bool, bool); 14] = [
+    (0x00, false, true),
+    (0x01, false, false),
+    (0x08, false, false),
+    (0x61, false, false),
+    (0x7F, false, false),
+    (0x80, false, false),
+    (0x81, false, false),
+    (0xEF, false, false),
+    (0xF0, true, true),
+    (0xF4, true, true),
+    (0xF5, true, true),
+    (0xF7, true, true),
+    (0xF8, false, false),
+    (0xFF, false, false),
+];
+
+/// Lists that an inexact test of a word, or a walk that leaves out a word, gets wrong.
+#[test]
+fn finds_bytes_in_short_lists(rt: HostRuntime) {
+    let rows: [(&[u8], bool, bool); 7] = [
+        (b"", false, false),
+        (&[0x81; 8], false, false),
+        (&[0x08; 8], false, false),
+        (b"\x00\x01\x01\x01\x01\x01\x01\x01", false, true),
+        (b"\x01\x01\x01\x01\x01\x01\x01\x00", false, true),
+        (&[0x01; 8], false, false),
+        (b"aaaaaaaa\xF0", true, true),
+    ];
+    for (bytes, four, null_four) in rows {
+        assert_eq!(rt; first_wrong(bytes, four, null_four), None, "of {bytes:?}");
+    }
+}
+
+/// One byte that is sought, at the borders of the vectors' widths.
+#[test]
+fn finds_a_byte_in_a_long_list(rt: HostRuntime) {
+    let mut bytes = [0x61; 128];
+    bytes[127] = 0xF7;
+    assert_eq!(rt; first_wrong(&bytes[..127], false, false), None);
+    assert_eq!(rt; first_wrong(&bytes, true, true), None);
+    for place in [0, 63, 64, 95, 96, 111, 112, 119, 120, 123, 124, 125, 126] {
+        let mut bytes = [0x61; 127];
+        bytes[place] = 0xF7;
+        assert_eq!(rt; first_wrong(&bytes, true, true), None, "at {place}");
+    }
+}
+
+/// The first length, place and byte at which a kernel is wrong, where each byte of the table stands at
+/// each place of a list of each length, filled with a byte that neither kernel seeks.
+fn first_wrong_place(fill: u8, lengths: RangeInclusive<usize>) -> Option<(usize, usize, u8)> {
+    let mut bytes = [fill; 200];
+    for len in lengths {
+        let list = bytes.get_mut(..len)?;
+        for place in 0..len {
+            for (byte, four, null_four) in BYTES {
+                *list.get_mut(place)? = byte;
+                if first_wrong(list, four, null_four).is_some() {
+                    return Some((len, place, byte));
+                }
+            }
+            *list.get_mut(place)? = fill;
+        }
+    }
+    None
+}
+
+#[test]
+fn finds_a_byte_among_01_up_to_117(rt: HostRuntime) {
+    assert_eq!(rt; first_wrong_place(0x01, 1..=117), None);
+}
+
+#[test]
+fn finds_a_byte_among_01_up_to_147(rt: HostRuntime) {
+    assert_eq!(rt; first_wrong_place(0x01, 118..=147), None);
+}
+
+#[test]
+fn finds_a_byte_among_01_up_to_169(rt: HostRuntime) {
+    assert_eq!(rt; first_wrong_place(0x01, 148..=169), None);
+}
+
+#[test]
+fn finds_a_byte_among_01_up_to_186(rt: HostRuntime) {
+    assert_eq!(rt; first_wrong_place(0x01, 170..=186), None);
+}
+
+#[test]
+fn finds_a_byte_among_01_up_to_200(rt: HostRuntime) {
+    assert_eq!(rt; first_wrong_place(0x01, 187..=200), None);
+}
+
+#[test]
+fn finds_a_byte_among_61_up_to_117(rt: HostRuntime) {
+    assert_eq!(rt; first_wrong_place(0x61, 1..=117), None);
+}
+
+#[test]
+fn finds_a_byte_among_61_up_to_147(rt: HostRuntime) {
+    assert_eq!(rt; first_wrong_place(0x61, 118..=147), None);
+}
+
+#[test]
+fn finds_a_byte_among_61_up_to_169(rt: HostRuntime) {
+    assert_eq!(rt; first_wrong_place(0x61, 148..=169), None);
+}
+
+#[test]
+fn finds_a_byte_among_61_up_to_186(rt: HostRuntime) {
+    assert_eq!(rt; first_wrong_place(0x61, 170..=186), None);
+}
+
+#[test]
+fn finds_a_byte_among_61_up_to_200(rt: HostRuntime) {
+    assert_eq!(rt; first_wrong_place(0x61, 187..=200), None);
+}
+
+#[test]
+fn finds_a_byte_among_81_up_to_117(rt: HostRuntime) {
+    assert_eq!(rt; first_wrong_place(0x81, 1..=117), None);
+}
+
+#[test]
+fn finds_a_byte_among_81_up_to_147(rt: HostRuntime) {
+    assert_eq!(rt; first_wrong_place(0x81, 118..=147), None);
+}
+
+#[test]
+fn finds_a_byte_among_81_up_to_169(rt: HostRuntime) {
+    assert_eq!(rt; first_wrong_place(0x81, 148..=169), None);
+}
+
+#[test]
+fn finds_a_byte_among_81_up_to_186(rt: HostRuntime) {
+    assert_eq!(rt; first_wrong_place(0x81, 170..=186), None);
+}
+
+#[test]
+fn finds_a_byte_among_81_up_to_200(rt: HostRuntime) {
+    assert_eq!(rt; first_wrong_place(0x81, 187..=200), None);
+}
+
+#[test]
+fn finds_a_byte_among_ff_up_to_117(rt: HostRuntime) {
+    assert_eq!(rt; first_wrong_place(0xFF, 1..=117), None);
+}
+
+#[test]
+fn finds_a_byte_among_ff_up_to_147(rt: HostRuntime) {
+    assert_eq!(rt; first_wrong_place(0xFF, 118..=147), None);
+}
+
+#[test]
+fn finds_a_byte_among_ff_up_to_169(rt: HostRuntime) {
+    assert_eq!(rt; first_wrong_place(0xFF, 148..=169), None);
+}
+
+#[test]
+fn finds_a_byte_among_ff_up_to_186(rt: HostRuntime) {
+    assert_eq!(rt; first_wrong_place(0xFF, 170..=186), None);
+}
+
+#[test]
+fn finds_a_byte_among_ff_up_to_200(rt: HostRuntime) {
+    assert_eq!(rt; first_wrong_place(0xFF, 187..=200), None);
+}
+
+/// A list of one byte that is sought or is not, of each length.
+#[test]
+fn finds_a_byte_that_fills_a_list(rt: HostRuntime) {
+    let rows = [
+        (0x01, false, false),
+        (0x61, false, false),
+        (0x81, false, false),
+        (0xFF, false, false),
+        (0x00, false, true),
+        (0xF4, true, true),
+    ];
+    for (fill, four, null_four) in rows {
+        let bytes = [fill; 200];
+        assert_eq!(rt; first_wrong(&[], false, false), None);
+        for len in 1..201 {
+            let wrong = first_wrong(&bytes[..len], four, null_four);
+            assert_eq!(rt; wrong, None, "{len} of {fill}");
+        }
+    }
+}

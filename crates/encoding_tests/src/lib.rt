@@ -1,0 +1,12 @@
+//! Tests of the calls of `simd_cesu8` that encode, on values that were not computed by them, and of
+//! its kernels.
+#![tactic(auto)]
+
+#[cfg(test)]
+mod kernels;
+#[cfg(test)]
+mod long_texts;
+#[cfg(test)]
+mod order;
+#[cfg(test)]
+mod texts;

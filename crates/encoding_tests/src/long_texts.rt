@@ -1,0 +1,196 @@
+//! Long texts: characters that an encoding changes at each place of ASCII, the pattern many times
+//! over, and a hundred texts of the pattern's widths: characters of one, two, three and four bytes of
+//! UTF-8, then U+0000, then characters of two, three and four, again and again.
+
+use std::alloc::{AllocError, Global};
+use std::ops::Range;
+use std::str;
+use std::test::Fail;
+use test_cases::comparisons::{Difference, expect, expect_encoding, expect_outcome};
+use test_cases::decoders::{Decoder, Outcome};
+use test_cases::fills::{Input, repeated};
+use test_cases::flavors::{FLAVORS, Flavor, encode, encoded_len, lossy_len};
+use test_cases::pattern::{PATTERN, encoded_pattern};
+use test_cases::plain::encoded;
+
+/// So many kinds of bytes, 91, that bytes that are lost, doubled or moved are seen: no loop goes by a
+/// divisor of it.
+const ASCII: &[u8] =
+    b"!#$%&'()*+,-./0123456789:;<=>?@ABCDEFGHIJKLMNOPQRSTUVWXYZ[]^_`abcdefghijklmnopqrstuvwxyz{|}";
+
+/// So much ASCII, with bytes put before one of its places.
+fn among_ascii(alloc: Global, len: usize, put: &[u8], place: usize) -> Result<Vec<u8>, AllocError> {
+    let input = Input {
+        fill: ASCII,
+        len,
+        put,
+        place,
+    };
+    input.inserted(alloc)
+}
+
+/// Compares the encodings of so much ASCII with a character at each of its places.
+fn expect_changed(
+    alloc: Global,
+    flavor: Flavor,
+    character: &str,
+    len: usize,
+) -> Result<(), Difference> {
+    let changed = encoded(alloc, flavor, character)?;
+    for place in 0..=len {
+        let utf8 = among_ascii(alloc, len, character.as_bytes(), place)?;
+        let bytes = among_ascii(alloc, len, changed.as_slice(), place)?;
+        let text = str::from_utf8(utf8.as_slice()).unwrap_or("");
+        expect_encoding(alloc, flavor, text, bytes.as_slice())?;
+    }
+    Ok(())
+}
+
+/// U+0000 and characters of four bytes.
+#[test]
+fn encodes_a_changed_byte_at_every_place(rt: HostRuntime) -> Result<(), Fail> {
+    for flavor in FLAVORS {
+        for character in ["\0", "\u{10000}", "\u{1F496}", "\u{10FFFF}"] {
+            for len in 0..=100 {
+                expect_changed(rt.alloc(), flavor, character, len)?;
+            }
+        }
+    }
+    Ok(())
+}
+
+/// Compares what a long text becomes, and what is read of that.
+fn expect_both_ways(
+    alloc: Global,
+    flavor: Flavor,
+    text: &str,
+    bytes: &[u8],
+) -> Result<(), Difference> {
+    expect(
+        alloc,
+        flavor,
+        "encoded_len",
+        encoded_len(flavor, text),
+        bytes.len(),
+    )?;
+    expect(
+        alloc,
+        flavor,
+        "lossy_len",
+        lossy_len(flavor, bytes),
+        Some(text.len()),
+    )?;
+    let encoding = encode(alloc, flavor, text)?;
+    expect(alloc, flavor, "encode", encoding.as_bytes(), bytes)?;
+    for decoder in [Decoder::Strict, Decoder::Lenient] {
+        expect_outcome(alloc, decoder, flavor, bytes, Outcome::Owned(text))?;
+    }
+    Ok(())
+}
+
+#[test]
+fn encodes_and_decodes_the_pattern(rt: HostRuntime) -> Result<(), Fail> {
+    let rows = [
+        (Flavor::Cesu8, 1, 24),
+        (Flavor::Cesu8, 819, 19_656),
+        (Flavor::Mutf8, 1, 25),
+        (Flavor::Mutf8, 819, 20_475),
+    ];
+    for (flavor, times, len) in rows {
+        let utf8 = repeated(rt.alloc(), PATTERN, times)?;
+        let bytes = repeated(rt.alloc(), encoded_pattern(flavor), times)?;
+        assert_eq!(rt; (utf8.len(), bytes.len()), (20 * times, len));
+        let text = str::from_utf8(utf8.as_slice())?;
+        expect_both_ways(rt.alloc(), flavor, text, bytes.as_slice())?;
+    }
+    Ok(())
+}
+
+// The characters of each width, drawn in turn. The lists' lengths have no divisor in common with
+// one another, or with the draws for a text, 819 from `ONE` and 1,638 from each other list, so no
+// two texts are the same.
+const ONE: [u32; 8] = [0x1, 0x9, 0xA, 0x20, 0x30, 0x41, 0x7A, 0x7F];
+
+const TWO: [u32; 11] = [
+    0x80, 0xA0, 0xE9, 0xFF, 0x100, 0x205, 0x3A9, 0x416, 0x5D0, 0x627, 0x7FF,
+];
+
+const THREE: [u32; 17] = [
+    0x800, 0x905, 0xFFF, 0x1000, 0x1E9E, 0x20AC, 0x3042, 0x4E2D, 0xAC00, 0xCFFF, 0xD000, 0xD7FF,
+    0xE000, 0xF8FF, 0xFEFF, 0xFFFD, 0xFFFF,
+];
+
+const FOUR: [u32; 19] = [
+    0x10000, 0x103FF, 0x10400, 0x107FF, 0x1D11E, 0x1F496, 0x1F600, 0x1FFFF, 0x20000, 0x2A6DF,
+    0x30000, 0x3FFFF, 0x40000, 0x7FFFF, 0x80000, 0xE0001, 0xFFFFF, 0x100000, 0x10FFFF,
+];
+
+/// How many characters a text has: 819 groups of eight.
+const CHARACTERS: u32 = 8 * 819;
+
+/// The scalar value of this number among those of all texts.
+fn scalar_at(number: u32) -> u32 {
+    let group = number as usize / 8;
+    let first = 2 * group;
+    let second = first + 1;
+    match number % 8 {
+        0 => ONE[group % ONE.len()],
+        1 => TWO[first % TWO.len()],
+        2 => THREE[first % THREE.len()],
+        3 => FOUR[first % FOUR.len()],
+        4 => 0,
+        5 => TWO[second % TWO.len()],
+        6 => THREE[second % THREE.len()],
+        _ => FOUR[second % FOUR.len()],
+    }
+}
+
+/// A text and the bytes that it is in the encoding.
+fn text_and_bytes(
+    alloc: Global,
+    flavor: Flavor,
+    number: u32,
+) -> Result<(String, Vec<u8>), AllocError> {
+    let mut text = String::new(alloc);
+    let start = number.wrapping_mul(CHARACTERS);
+    for place in 0..CHARACTERS {
+        let scalar = scalar_at(start.wrapping_add(place));
+        text.push(char::from_u32(scalar).unwrap_or('\0'))?;
+    }
+    let bytes = encoded(alloc, flavor, text.as_str())?;
+    Ok((text, bytes))
+}
+
+/// Encodes and decodes some of the texts.
+fn expect_texts(alloc: Global, numbers: Range<u32>) -> Result<(), Difference> {
+    for number in numbers {
+        for flavor in FLAVORS {
+            let (text, bytes) = text_and_bytes(alloc, flavor, number)?;
+            expect(alloc, flavor, "the text", text.len(), 16_380)?;
+            let len = flavor.of([19_656, 20_475]);
+            expect(alloc, flavor, "the encoding", bytes.len(), len)?;
+            expect_both_ways(alloc, flavor, text.as_str(), bytes.as_slice())?;
+        }
+    }
+    Ok(())
+}
+
+#[test]
+fn encodes_and_decodes_texts_0_to_25(rt: HostRuntime) -> Result<(), Fail> {
+    Ok(expect_texts(rt.alloc(), 0..25)?)
+}
+
+#[test]
+fn encodes_and_decodes_texts_25_to_50(rt: HostRuntime) -> Result<(), Fail> {
+    Ok(expect_texts(rt.alloc(), 25..50)?)
+}
+
+#[test]
+fn encodes_and_decodes_texts_50_to_75(rt: HostRuntime) -> Result<(), Fail> {
+    Ok(expect_texts(rt.alloc(), 50..75)?)
+}
+
+#[test]
+fn encodes_and_decodes_texts_75_to_100(rt: HostRuntime) -> Result<(), Fail> {
+    Ok(expect_texts(rt.alloc(), 75..100)?)
+}
