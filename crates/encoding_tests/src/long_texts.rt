@@ -18,7 +18,18 @@ use test_cases::plain::encoded;
 const ASCII: &[u8] =
     b"!#$%&'()*+,-./0123456789:;<=>?@ABCDEFGHIJKLMNOPQRSTUVWXYZ[]^_`abcdefghijklmnopqrstuvwxyz{|}";
 
-/// Compares the encodings of so much ASCII with a character before each of its places.
+/// So much ASCII, with bytes put before one of its places.
+fn among_ascii(alloc: Global, len: usize, put: &[u8], place: usize) -> Result<Vec<u8>, AllocError> {
+    let input = Input {
+        fill: ASCII,
+        len,
+        put,
+        place,
+    };
+    input.inserted(alloc)
+}
+
+/// Compares the encodings of so much ASCII with a character at each of its places.
 fn expect_changed(
     alloc: Global,
     flavor: Flavor,
@@ -27,15 +38,8 @@ fn expect_changed(
 ) -> Result<(), Difference> {
     let changed = encoded(alloc, flavor, character)?;
     for place in 0..=len {
-        let mut input = Input {
-            fill: ASCII,
-            len,
-            put: character.as_bytes(),
-            place,
-        };
-        let utf8 = input.inserted(alloc)?;
-        input.put = changed.as_slice();
-        let bytes = input.inserted(alloc)?;
+        let utf8 = among_ascii(alloc, len, character.as_bytes(), place)?;
+        let bytes = among_ascii(alloc, len, changed.as_slice(), place)?;
         let text = str::from_utf8(utf8.as_slice()).unwrap_or("");
         expect_encoding(alloc, flavor, text, bytes.as_slice())?;
     }
