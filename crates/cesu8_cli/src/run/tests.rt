@@ -15,8 +15,9 @@ const WHOLE: usize = usize::MAX;
 /// The status and the line, and how many reads, writes and flushes were called.
 type Seen = (Shown, [usize; 3]);
 
-/// The words and the error of a run, a number that tells its devices, and what was seen of it.
-type Difference = (Words, Option<ErrorKind>, usize, Seen);
+/// The words and the input of a row, the error and the number of bytes that tell its devices, and
+/// what was seen of the run.
+type Difference = (Words, &'static [u8], Option<ErrorKind>, usize, Seen);
 
 /// Runs, and returns what is seen of it if that, or what the writer kept, is not what was wanted.
 fn difference(
@@ -81,7 +82,7 @@ fn difference_at_rows(alloc: Global, most: usize, error: Option<ErrorKind>) -> O
         output.flush_error = error;
         let wanted = wanted(bytes, *end, most, flushed);
         if let Some(seen) = difference(alloc, words, Reader::new(bytes, most), output, wanted) {
-            return Some((words, error, most, seen));
+            return Some((words, bytes, error, most, seen));
         }
     }
     None
@@ -129,11 +130,11 @@ fn decodes_no_part_of_a_pair(rt: HostRuntime) {
     }
 }
 
-/// The MUTF-8 of these nulls has one byte more than a Java string can.
+/// The MUTF-8 of these nulls, which are two whole blocks, has one byte more than a Java string can.
 #[test]
 fn says_how_long_a_text_is(rt: HostRuntime) {
     let nulls = [0; 32768];
-    let mut input = nulls.as_slice();
+    let mut input = Reader::new(&nulls, WHOLE);
     let mut output = Writer::new(WHOLE);
     let ended = run(
         rt.alloc(),
@@ -145,7 +146,7 @@ fn says_how_long_a_text_is(rt: HostRuntime) {
         Err(RunFault::TooLong(len)) => len,
         _ => 0,
     };
-    assert_eq!(rt; (len, output.writes), (65536, 0));
+    assert_eq!(rt; (len, input.reads, output.writes), (65536, 3, 0));
 }
 
 #[test]
@@ -170,7 +171,7 @@ fn difference_at_reads(alloc: Global, error: Option<ErrorKind>) -> Option<Differ
                 input.error = error;
                 let wanted = ((FAILED, [calls_to_end(at, most), 0, 0]), b"".as_slice());
                 if let Some(seen) = difference(alloc, words, input, Writer::new(most), wanted) {
-                    return Some((words, error, at, seen));
+                    return Some((words, bytes, error, at, seen));
                 }
             }
         }
@@ -199,7 +200,7 @@ fn difference_at_writes(alloc: Global, error: Option<ErrorKind>) -> Option<Diffe
                 let calls = [calls_to_end(bytes.len(), WHOLE), calls_to_end(at, most), 0];
                 let wanted = ((FAILED, calls), front(written, at));
                 if let Some(seen) = difference(alloc, words, input, output, wanted) {
-                    return Some((words, error, at, seen));
+                    return Some((words, bytes, error, at, seen));
                 }
             }
         }

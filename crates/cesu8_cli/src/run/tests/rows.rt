@@ -3,7 +3,7 @@
 /// The arguments.
 pub type Words = &'static [&'static str];
 
-/// The status and the line on standard error of a fault.
+/// The status and the line on standard error.
 pub type Shown = (u8, &'static str);
 
 /// What is written, or the fault, after which nothing is.
@@ -35,8 +35,8 @@ pub const HEART: &[u8] = b"\xF0\x9F\x92\x96";
 /// U+FFFD in UTF-8, five times.
 pub const MARKS: &[u8] = b"\xEF\xBF\xBD\xEF\xBF\xBD\xEF\xBF\xBD\xEF\xBF\xBD\xEF\xBF\xBD";
 
-/// The arguments, the input, and how the run ends. As a constant this would be a part of each function
-/// that names it, and take a minute more of each proof.
+/// The arguments, the input, and how the run ends. It is no constant, since that would be a part of
+/// each function that names it, and each proof would take far longer.
 pub static ROWS: [(Words, &[u8], End); 34] = [
     (&["encode", "cesu8"], b"", Ok(b"")),
     (
