@@ -1,14 +1,10 @@
-//! What is read to a text and to a buffer of the caller's, of each length about the one that is
-//! needed.
+//! What is read to a text, and to a buffer of the caller's of each length up to more than is needed.
 
-use crate::counted::{CHARACTERS, COUNTS, counted};
 use crate::reading::Due::{Borrowed, Invalid, Owned, Truncated};
 use java_text::{
     ReadFault, ReadSliceFault, read_utf, read_utf_lossy, read_utf_lossy_to_slice, read_utf_to_slice,
 };
 use simd_cesu8::CowText;
-use std::alloc::{AllocError, Global};
-use std::ops::Range;
 use std::test::Fail;
 use test_cases::slices::{buffer, holds};
 
@@ -53,52 +49,16 @@ impl Due<'_> {
     }
 }
 
-/// The calls that read.
-#[derive(Clone, Copy, Debug)]
-enum Reader {
-    Strict,
-    Lossy,
-}
-
-impl Reader {
-    /// Whether it returns what is due.
-    fn returns(self, alloc: Global, bytes: &[u8], due: Due<'_>) -> bool {
-        due.is_returned(&match self {
-            Reader::Strict => read_utf(alloc, bytes),
-            Reader::Lossy => read_utf_lossy(alloc, bytes),
-        })
-    }
-
-    /// The first of these lengths of a buffer in which something else is done than what is due.
-    fn wrong_room(
-        self,
-        alloc: Global,
-        bytes: &[u8],
-        due: Due<'_>,
-        rooms: Range<usize>,
-    ) -> Result<Option<usize>, AllocError> {
-        for room in rooms {
-            let mut buf = buffer(alloc, room)?;
-            let read = match self {
-                Reader::Strict => read_utf_to_slice(bytes, &mut buf[..]),
-                Reader::Lossy => read_utf_lossy_to_slice(bytes, &mut buf[..]),
-            };
-            if !due.is_left(read, buf.as_slice()) {
-                return Ok(Some(room));
-            }
-        }
-        Ok(None)
-    }
-}
-
 const ONE: &str = "\u{FFFD}";
 
 const THREE: &str = "\u{FFFD}\u{FFFD}\u{FFFD}";
 
 const FOUR: &str = "\u{FFFD}\u{FFFD}\u{FFFD}\u{FFFD}";
 
+const PAIR: &[u8] = b"\x00\x06\xED\xA0\xBD\xED\xB2\x96\xFF";
+
 /// Bytes, and what is due strictly and lossily.
-const ROWS: [(&[u8], Due<'_>, Due<'_>); 14] = [
+const ROWS: [(&[u8], Due<'_>, Due<'_>); 15] = [
     (b"", Truncated, Truncated),
     (b"\x00", Truncated, Truncated),
     (b"\x00\x01", Truncated, Truncated),
@@ -111,6 +71,11 @@ const ROWS: [(&[u8], Due<'_>, Due<'_>); 14] = [
     ),
     (b"\x00\x01AB", Borrowed("A", b"B"), Borrowed("A", b"B")),
     (b"\x00\x02\xC0\x80", Owned("\0", b""), Owned("\0", b"")),
+    (
+        PAIR,
+        Owned("\u{1F496}", b"\xFF"),
+        Owned("\u{1F496}", b"\xFF"),
+    ),
     (b"\x00\x01\x00", Invalid, Owned(ONE, b"")),
     (b"\x00\x01\x00A", Invalid, Owned(ONE, b"A")),
     (b"\x00\x02\xC2AB", Invalid, Owned("\u{FFFD}A", b"B")),
@@ -122,41 +87,20 @@ const ROWS: [(&[u8], Due<'_>, Due<'_>); 14] = [
 #[test]
 fn reads_rows(rt: HostRuntime) -> Result<(), Fail> {
     for (bytes, strict, lossy) in ROWS {
-        for (reader, due) in [(Reader::Strict, strict), (Reader::Lossy, lossy)] {
+        let read = read_utf(rt.alloc(), bytes);
+        assert!(rt; strict.is_returned(&read), "{bytes:?}");
+        let read = read_utf_lossy(rt.alloc(), bytes);
+        assert!(rt; lossy.is_returned(&read), "{bytes:?}, lossily");
+        for room in 0..14 {
+            let mut buf = buffer(rt.alloc(), room)?;
+            let read = read_utf_to_slice(bytes, &mut buf[..]);
+            assert!(rt; strict.is_left(read, buf.as_slice()), "{bytes:?} in {room}");
+            let mut buf = buffer(rt.alloc(), room)?;
+            let read = read_utf_lossy_to_slice(bytes, &mut buf[..]);
             assert!(rt;
-                reader.returns(rt.alloc(), bytes, due),
-                "{reader:?} of {bytes:?}"
+                lossy.is_left(read, buf.as_slice()),
+                "{bytes:?} in {room}, lossily"
             );
-            let wrong = reader.wrong_room(rt.alloc(), bytes, due, 0..14)?;
-            assert_eq!(rt; wrong, None, "{reader:?} of {bytes:?}");
-        }
-    }
-    Ok(())
-}
-
-/// Each length, with a byte behind the form.
-#[test]
-fn reads_as_much_as_two_bytes_count(rt: HostRuntime) -> Result<(), Fail> {
-    for character in CHARACTERS {
-        for (length, count) in &COUNTS[..8] {
-            let (text, mut bytes) = counted(rt.alloc(), character, *length, count)?;
-            let is_borrowed = bytes.ends_with(text.as_bytes());
-            bytes.push(7)?;
-            let due = if is_borrowed {
-                Borrowed(text.as_str(), b"\x07")
-            } else {
-                Owned(text.as_str(), b"\x07")
-            };
-            let rooms = text.len().saturating_sub(1)..text.len().saturating_add(2);
-            for reader in [Reader::Strict, Reader::Lossy] {
-                let bytes = bytes.as_slice();
-                assert!(rt;
-                    reader.returns(rt.alloc(), bytes, due),
-                    "{reader:?}, {length}: {character:?}"
-                );
-                let wrong = reader.wrong_room(rt.alloc(), bytes, due, rooms.clone()?)?;
-                assert_eq!(rt; wrong, None, "{reader:?}, {length}: {character:?}");
-            }
         }
     }
     Ok(())
