@@ -30,6 +30,3 @@ pub use crate::round_trip::{
     decode_and_encode, encode_and_decode, encode_and_read, write_and_read,
 };
 pub use crate::string_file::copy_strings;
-
-#[cfg(test)]
-mod tests;

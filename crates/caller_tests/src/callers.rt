@@ -2,16 +2,16 @@
 //! CONSTANT_Utf8_info Structure"), Java's `DataOutput` and `String`, and Unicode Technical Report
 //! 26.
 
-use crate::{
+use java_text::{ReadFault, WriteFault};
+use std::cmp::Ordering;
+use std::collections::BTreeMap;
+use std::test::Fail;
+use uses::{
     ConstantFault, Entry, append_all, append_and_encode, compare_as_utf16, copy_strings,
     decode_and_encode, decodes_to_same, encode_and_decode, encode_and_read, fill_arena, get_value,
     key_without_zero, needs_or_borrows, put_value, read_utf8_constant, repair_log, rewrite_log,
     tells_encoded_length, tells_lossy_length, write_and_read,
 };
-use java_text::{ReadFault, WriteFault};
-use std::cmp::Ordering;
-use std::collections::BTreeMap;
-use std::test::Fail;
 
 #[test]
 fn reads_the_text_constants_of_a_class_file(rt: HostRuntime) -> Result<(), Fail> {
