@@ -1,10 +1,3 @@
-pub mod StdUtf8
-pub mod lists
-pub mod text
-pub mod encoding
-pub mod reading
-pub mod order
-pub mod encoder
-pub mod places
-pub mod pieces
-pub mod decoder
+pub use Rattle.cesu8_text.proofs.StdUtf8
+pub mod Faults
+pub mod Outcomes

@@ -1,15 +1,11 @@
 -- What a call that writes to a caller's buffer promises.
-use Rattle.std.specs.Prelude.{◌≡◌, ℕ, ◌^◌, ◌≤◌, ◌↔◌, ⊤, List, ◌++◌, length, drop, Result, Err, IfOk, IfErr, IsOk, OnErr}
-use Rattle.simd_cesu8.specs.Text.{utf8}
+pub use Rattle.cesu8_text.specs.Slices.{StandsAtFront, ReadsAtLength, ReadingAtFront}
+use Rattle.std.specs.Prelude.{◌≡◌, ℕ, ◌^◌, ◌≤◌, ◌↔◌, ⊤, List, length, Result, Err, IfOk, IfErr, IsOk, OnErr}
 use Rattle.simd_cesu8.specs.declared.error.TooShort.{TooShort}
 use Rattle.simd_cesu8.specs.declared.error.DecodeSliceFault.{DecodeSliceFault}
 use Rattle.simd_cesu8.specs.declared.error.DecodeSliceFault.TheVariants as strict
 use Rattle.simd_cesu8.specs.declared.error.LossySliceFault.{LossySliceFault}
 use Rattle.simd_cesu8.specs.declared.error.LossySliceFault.TheVariants as lossy
-
--- The call returns the length of the result, which is at the front of the buffer; the rest stays.
-abbrev pub StandsAtFront : List ℕ → ℕ → List ℕ → List ℕ → Type 0
-StandsAtFront answer len old new = (len ≡ length answer) × (new ≡ answer ++ drop len old)
 
 -- The result is written to the buffer, or the buffer is too short.
 pub record WritesAnswer (answer : List ℕ) (result : Result ℕ TooShort) (old new : List ℕ) : Type 0 where
@@ -20,14 +16,6 @@ pub record WritesAnswer (answer : List ℕ) (result : Result ℕ TooShort) (old 
   pub needed : IfErr result (λ fault. fault.needed ≡ length answer)
   -- and the whole buffer stays.
   pub unchanged : OnErr result (new ≡ old)
-
--- Some text is a reading, and the length of its UTF-8 has the property.
-abbrev pub ReadsAtLength : (List ℕ → Type 0) → (ℕ → Type 0) → Type 0
-ReadsAtLength IsReading IsLength = (text : List ℕ) × IsReading text × IsLength (length (utf8 text))
-
--- The UTF-8 of a text that is a reading is at the front of the buffer.
-abbrev pub ReadingAtFront : (List ℕ → Type 0) → ℕ → List ℕ → List ℕ → Type 0
-ReadingAtFront IsReading len old new = (text : List ℕ) × IsReading text × StandsAtFront (utf8 text) len old new
 
 -- The call returns `Invalid`.
 abbrev pub IsInvalid : Result ℕ DecodeSliceFault → Type 0

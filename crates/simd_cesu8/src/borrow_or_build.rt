@@ -1,9 +1,9 @@
 //! The calls for both flavors: each borrows if no byte changes, and builds otherwise.
 
-ghost use Rattle.std.specs.Prelude.{◌≡◌, ◌≤◌, ◌+◌, ◌*◌, ◌++◌, [], ◌↔◌, length, IfSome, IfNone, IsTrue, IsUtf8, Any, MatchResult, ◌<◌, OnOk, OnErr, IsOk, vec_len, vec_capacity};
+ghost use Rattle.std.specs.Prelude.{◌≡◌, length, IsUtf8, IsOk};
 ghost use Rattle.std.specs.Str.{chars};
 ghost use Rattle.simd_cesu8.specs.Encoding.{encoding, NeedsEncoding};
-ghost use Rattle.simd_cesu8.specs.Class.{IsChangedByte, IsUnchangedUtf8};
+ghost use Rattle.simd_cesu8.specs.Class.{IsUnchangedUtf8};
 ghost use Rattle.simd_cesu8.specs.Reading.{IsStrictReading, HasNoStrictReading, IsLenientReading, HasNoLenientReading, reading, lossy_length, IsLenientLossyReading};
 ghost use Rattle.simd_cesu8.specs.Cow.{IfBytes, BorrowsBytesWhere, BuildsBytesOfCapacity, IfText, BorrowsTextWhere, BuildsTextOfCapacity, AnswersTextOfLength};
 ghost use Rattle.simd_cesu8.specs.Fault.{OnInvalid};
@@ -13,20 +13,13 @@ use crate::cow::{CowBytes, CowText};
 use crate::error::DecodeFault;
 use crate::internal;
 use crate::internal::{
-    Flavor, ascii_text, character_start, contains_changed, is_short_ascii, is_short_unchanged_ascii,
+    Flavor, ascii_text, contains_changed, is_short_ascii, is_short_unchanged_ascii, needs_encoded,
+    unchanged_text, whole_text,
 };
-use simdutf8::compat;
 use std::alloc::{AllocError, Global};
 
 #[inline(always)]
-pub fn needs_encoded(flavor: Flavor, value: &str) -> bool
-    ensures { IsTrue result ↔ NeedsEncoding (flavor_of flavor) (chars value.now) }
-{
-    contains_changed(flavor, value.as_bytes())
-}
-
-#[inline(always)]
-#[tactic(auto, using(crate::proofs::encoding::NeedsEncoding::encoding_by_need))]
+#[tactic(auto, using(cesu8_text::proofs::encoding::NeedsEncoding::encoding_by_need))]
 pub fn encode(alloc: Global, flavor: Flavor, value: &str) -> Result<CowBytes<'_>, AllocError>
     ensures encoding { IfBytes result
         (λ bytes. bytes ≡ encoding (flavor_of flavor) (chars value.now)) }
@@ -40,54 +33,6 @@ pub fn encode(alloc: Global, flavor: Flavor, value: &str) -> Result<CowBytes<'_>
     }
     let encoded = internal::encode(alloc, flavor, value)?;
     Ok(CowBytes::Owned(encoded))
-}
-
-/// How many bytes of a longer input are tested first.
-const FRONT: usize = 512;
-
-/// Returns the bytes as a text if they are UTF-8, and otherwise the empty text, which no such bytes
-/// have. If they are not UTF-8, the front mostly shows it, and the rest is not tested.
-///
-/// A text is returned in registers; a `Result` with it would be returned through memory.
-#[inline(always)]
-pub fn whole_text(bytes: &[u8]) -> &str
-    ensures whole { length result.now ≡ length bytes.now
-        → (result.now ≡ bytes.now) × IsUtf8 bytes.now }
-    ensures none { ¬ (length result.now ≡ length bytes.now) → ¬ (IsUtf8 bytes.now) }
-{
-    if bytes.len() >= 4 * FRONT && !has_utf8_front(bytes) {
-        return "";
-    }
-    match compat::from_utf8(bytes) {
-        Ok(text) => text,
-        Err(_) => "",
-    }
-}
-
-/// Returns whether the front of the bytes is UTF-8, up to the start of a character.
-fn has_utf8_front(bytes: &[u8]) -> bool
-    requires { FRONT < length bytes.now }
-    ensures { IsUtf8 bytes.now → IsTrue result }
-{
-    match character_start(bytes, FRONT) {
-        Some(start) => simdutf8::is_utf8(&bytes[..start]),
-        // UTF-8 has no four continuation bytes in a row.
-        None => false,
-    }
-}
-
-/// The same for UTF-8 without a byte that changes.
-#[inline(always)]
-pub fn unchanged_text(flavor: Flavor, bytes: &[u8]) -> &str
-    ensures whole { length result.now ≡ length bytes.now
-        → (result.now ≡ bytes.now) × IsUnchangedUtf8 (flavor_of flavor) bytes.now }
-    ensures none { ¬ (length result.now ≡ length bytes.now)
-        → ¬ (IsUnchangedUtf8 (flavor_of flavor) bytes.now) }
-{
-    if !contains_changed(flavor, bytes) {
-        return whole_text(bytes);
-    }
-    ""
 }
 
 #[inline(always)]

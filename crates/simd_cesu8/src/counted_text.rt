@@ -5,9 +5,8 @@ ghost use Rattle.std.specs.Str.{chars};
 ghost use Rattle.simd_cesu8.specs.Encoding.{encoding};
 ghost use Rattle.simd_cesu8.specs.Internal.{flavor_of};
 
-use crate::borrow_or_build::needs_encoded;
 use crate::internal;
-use crate::internal::Flavor;
+use crate::internal::{Flavor, needs_encoded};
 use std::alloc::AllocError;
 
 /// A text with the length of its encoding, for formats that write the length in front. The text is

@@ -1,84 +1,160 @@
-//! The codec below the public calls, one for both flavors.
-//!
-//! A call that builds makes its one request here, so the writers below can't run out of memory.
+//! The one door to the codec, for both flavors: its options and its functions. What they return
+//! where there is no result becomes a fault of this crate here, and nowhere else.
 
-ghost use Rattle.std.specs.Prelude.{◌↔◌, IsTrue, Any};
-ghost use Rattle.simd_cesu8.specs.Class.{IsChangedByte};
+ghost use Rattle.std.specs.Prelude.{◌≡◌, length, IfOk};
+ghost use Rattle.std.specs.Str.{chars};
+ghost use Rattle.std.specs.String.{string_bytes, string_capacity};
+ghost use Rattle.simd_cesu8.specs.Encoding.{encoding};
+ghost use Rattle.simd_cesu8.specs.Reading.{IsStrictReading, HasNoStrictReading, IsLenientReading, reading, IsLenientLossyReading};
+ghost use Rattle.simd_cesu8.specs.Fault.{OnInvalid};
+ghost use Rattle.simd_cesu8.specs.Slices.{WritesAnswer, WritesReading, WritesLossyReading};
 ghost use Rattle.simd_cesu8.specs.Internal.{flavor_of};
+ghost use Rattle.simd_cesu8.specs.Outcomes.{IsFaultOf, IsAnswerOf, IsReadingOf, IsLossyReadingOf};
 
-mod ascii;
-mod continuation;
-#[tactic(auto, using(crate::proofs::reading::Pieces::piece_read))]
-mod decoder;
-#[tactic(auto, using(crate::proofs::encoding::NeedsEncoding::encoding_as_long))]
-mod encoder;
-mod joining;
-mod lengths;
-mod null_form;
-mod runs;
-mod window;
-mod writers;
+use crate::error::{DecodeFault, DecodeSliceFault, DecodingError, LossySliceFault, TooShort};
+pub use cesu8_bytes::ascii::{ascii_text, is_short_ascii, is_short_unchanged_ascii};
+pub use cesu8_bytes::first_looks::{contains_changed, needs_encoded, unchanged_text, whole_text};
+pub use cesu8_bytes::lengths::encoded_len;
+pub use cesu8_bytes::options::{DecodeOptions, Flavor};
+use cesu8_bytes::writers::NoRoom;
+pub use cesu8_bytes::writers::{copy, copy_text};
+use cesu8_decode::refusal::{LossyRefusal, Refusal, SliceRefusal};
+pub use cesu8_decode::{decode_lossy, lossy_len};
+pub use cesu8_encode::{encode, encode_into};
+use std::alloc::Global;
 
-use crate::implementation::active;
-use crate::implementation::class::{Four, NullFour};
-use crate::implementation::short::{SHORT, any_in_short};
-pub use ascii::{ascii_text, is_short_ascii, is_short_unchanged_ascii};
-pub use continuation::{character_start, is_continuation};
-pub use decoder::{
-    decode_few_lossy_to_slice, decode_few_strict_to_slice, decode_lossy, decode_lossy_to_slice,
-    decode_strict, decode_strict_to_slice, is_sooner_by_characters, lossy_len, refuse,
-};
-pub use encoder::{
-    encode, encode_few_to_slice, encode_into, encode_to_slice, is_few, is_few_unchanged,
-};
-pub use lengths::encoded_len;
-pub use writers::{copy, copy_text, copy_to_slice};
-
-/// A shuffle for each of 256 sets.
-type Rows = [[u8; 16]; 256];
-
-/// Which of the two encodings.
-#[derive(Clone, Copy)]
-pub enum Flavor {
-    Cesu8,
-    Mutf8,
-}
-
-/// Whether a byte in no encoded character is an error, or is replaced.
-#[derive(Clone, Copy)]
-pub enum Strictness {
-    Strict,
-    Lossy,
-}
-
-/// How bytes are decoded.
-#[derive(Clone, Copy)]
-pub struct DecodeOptions {
-    pub flavor: Flavor,
-    pub strictness: Strictness,
-}
-
-/// Returns whether some byte of the UTF-8 changes in the flavor.
+/// Returns the strict reading of the bytes, after one request for their length.
 #[inline(always)]
-pub fn contains_changed(flavor: Flavor, bytes: &[u8]) -> bool
-    ensures { IsTrue result ↔ Any (IsChangedByte (flavor_of flavor)) bytes.now }
+pub fn decode_strict(alloc: Global, flavor: Flavor, bytes: &[u8]) -> Result<String, DecodeFault>
+    ensures text { IfOk result (λ text.
+        IsStrictReading (flavor_of flavor) bytes.now (chars (string_bytes text))) }
+    ensures capacity { IfOk result (λ text. string_capacity text ≡ length bytes.now) }
+    ensures invalid { OnInvalid result (HasNoStrictReading (flavor_of flavor) bytes.now) }
 {
-    // From this length on the kernels test four vectors at once.
-    if bytes.len() < SHORT {
-        return short_contains_changed(flavor, bytes);
-    }
-    match flavor {
-        Flavor::Cesu8 => active::contains_utf8_4_byte_char_header(bytes),
-        Flavor::Mutf8 => active::contains_null_or_utf8_4_byte_char_header(bytes),
+    match cesu8_decode::decode_strict(alloc, flavor, bytes) {
+        Ok(text) => Ok(text),
+        Err(refusal) => Err(fault(refusal)),
     }
 }
 
+/// Returns the fault of bytes that are known to have no strict reading. It first requests memory
+/// for their length, as for other bytes.
 #[inline(always)]
-fn short_contains_changed(flavor: Flavor, bytes: &[u8]) -> bool
-    ensures { IsTrue result ↔ Any (IsChangedByte (flavor_of flavor)) bytes.now }
+pub fn refuse(alloc: Global, len: usize) -> DecodeFault {
+    fault(cesu8_decode::refuse(alloc, len))
+}
+
+/// Writes the encoding of a text to a caller's buffer, if it fits.
+#[inline(always)]
+#[tactic(auto, using(crate::proofs::Outcomes::answer_told))]
+pub fn encode_to_slice(flavor: Flavor, value: &str, buf: &mut [u8]) -> Result<usize, TooShort>
+    ensures { WritesAnswer (encoding (flavor_of flavor) (chars value.now)) result buf.old buf.new }
 {
-    match flavor {
-        Flavor::Cesu8 => any_in_short::<Four>(bytes),
-        Flavor::Mutf8 => any_in_short::<NullFour>(bytes),
+    answer(cesu8_encode::copy_or_write::encode_to_slice(flavor, value, buf))
+}
+
+/// Writes the strict reading of the bytes to a caller's buffer, if it fits.
+#[inline(always)]
+#[tactic(auto, using(crate::proofs::Outcomes::reading_told))]
+pub fn decode_strict_to_slice(
+    flavor: Flavor,
+    bytes: &[u8],
+    buf: &mut [u8],
+) -> Result<usize, DecodeSliceFault>
+    ensures { WritesReading (λ text. IsStrictReading (flavor_of flavor) bytes.now text)
+        result buf.old buf.new }
+{
+    strict(cesu8_decode::copy_or_write::decode_strict_to_slice(flavor, bytes, buf))
+}
+
+/// The same of bytes that are UTF-8 as a whole, or else the encoding.
+#[inline(always)]
+#[tactic(auto, using(crate::proofs::Outcomes::reading_told))]
+pub fn decode_to_slice(
+    flavor: Flavor,
+    bytes: &[u8],
+    buf: &mut [u8],
+) -> Result<usize, DecodeSliceFault>
+    ensures { WritesReading (λ text. IsLenientReading (flavor_of flavor) bytes.now text)
+        result buf.old buf.new }
+{
+    strict(cesu8_decode::copy_or_write::decode_to_slice(flavor, bytes, buf))
+}
+
+/// Writes the lossy reading of the bytes to a caller's buffer, if it fits.
+#[inline(always)]
+#[tactic(auto, using(crate::proofs::Outcomes::lossy_reading_told))]
+pub fn decode_lossy_strict_to_slice(
+    flavor: Flavor,
+    bytes: &[u8],
+    buf: &mut [u8],
+) -> Result<usize, LossySliceFault>
+    ensures { WritesLossyReading (λ text. text ≡ reading (flavor_of flavor) bytes.now)
+        result buf.old buf.new }
+{
+    lossy(cesu8_decode::copy_or_write::decode_lossy_strict_to_slice(flavor, bytes, buf))
+}
+
+/// The same of bytes that are UTF-8 as a whole, or else the encoding.
+#[inline(always)]
+#[tactic(auto, using(crate::proofs::Outcomes::lossy_reading_told))]
+pub fn decode_lossy_to_slice(
+    flavor: Flavor,
+    bytes: &[u8],
+    buf: &mut [u8],
+) -> Result<usize, LossySliceFault>
+    ensures { WritesLossyReading (λ text. IsLenientLossyReading (flavor_of flavor) bytes.now text)
+        result buf.old buf.new }
+{
+    lossy(cesu8_decode::copy_or_write::decode_lossy_to_slice(flavor, bytes, buf))
+}
+
+/// Returns a refusal of the decoder as a fault.
+#[inline(always)]
+fn fault(refusal: Refusal) -> DecodeFault
+    ensures { IsFaultOf refusal result }
+{
+    match refusal {
+        Refusal::NoText => DecodeFault::Invalid(DecodingError(())),
+        Refusal::Memory(error) => DecodeFault::Memory(error),
+    }
+}
+
+/// Returns how many bytes were written, or the fault.
+#[inline(always)]
+fn answer(outcome: Result<usize, NoRoom>) -> Result<usize, TooShort>
+    ensures { IsAnswerOf outcome result }
+{
+    match outcome {
+        Ok(len) => Ok(len),
+        Err(no_room) => Err(TooShort::new(no_room.needed)),
+    }
+}
+
+/// The same in strict reading.
+#[inline(always)]
+fn strict(outcome: Result<usize, SliceRefusal>) -> Result<usize, DecodeSliceFault>
+    ensures { IsReadingOf outcome result }
+{
+    match outcome {
+        Ok(len) => Ok(len),
+        Err(SliceRefusal::NoText) => Err(DecodeSliceFault::Invalid(DecodingError(()))),
+        Err(SliceRefusal::NoRoom(no_room)) => {
+            Err(DecodeSliceFault::TooShort(TooShort::new(no_room.needed)))
+        }
+    }
+}
+
+/// The same in lossy reading.
+#[inline(always)]
+fn lossy(outcome: Result<usize, LossyRefusal>) -> Result<usize, LossySliceFault>
+    ensures { IsLossyReadingOf outcome result }
+{
+    match outcome {
+        Ok(len) => Ok(len),
+        Err(LossyRefusal::TooLong) => Err(LossySliceFault::TooLong),
+        Err(LossyRefusal::NoRoom(no_room)) => {
+            Err(LossySliceFault::TooShort(TooShort::new(no_room.needed)))
+        }
     }
 }

@@ -48,7 +48,6 @@ ghost use Rattle.simd_cesu8.specs.Fault.{OnInvalid};
 ghost use Rattle.simd_cesu8.specs.Slices.{WritesAnswer, WritesReading, WritesLossyReading};
 
 mod borrow_or_build;
-mod copy_or_write;
 mod counted_text;
 mod cow;
 mod error;
@@ -74,7 +73,7 @@ use std::alloc::{AllocError, Global};
 pub fn needs_encoded(value: &str) -> bool
     ensures { IsTrue result ↔ NeedsEncoding Cesu8 (chars value.now) }
 {
-    borrow_or_build::needs_encoded(Flavor::Cesu8, value)
+    internal::needs_encoded(Flavor::Cesu8, value)
 }
 
 /// Returns the length in bytes of the CESU-8 (Unicode Technical Report 26) of a text. It requests
@@ -297,7 +296,7 @@ pub fn lossy_len(bytes: &[u8]) -> Option<usize>
 pub fn encode_to_slice(value: &str, buf: &mut [u8]) -> Result<usize, TooShort>
     ensures { WritesAnswer (encoding Cesu8 (chars value.now)) result buf.old buf.new }
 {
-    copy_or_write::encode_to_slice(Flavor::Cesu8, value, buf)
+    internal::encode_to_slice(Flavor::Cesu8, value, buf)
 }
 
 /// Decodes CESU-8 (Unicode Technical Report 26) strictly, and writes the UTF-8 of the text to the
@@ -318,7 +317,7 @@ pub fn encode_to_slice(value: &str, buf: &mut [u8]) -> Result<usize, TooShort>
 pub fn decode_strict_to_slice(bytes: &[u8], buf: &mut [u8]) -> Result<usize, DecodeSliceFault>
     ensures { WritesReading (λ text. IsStrictReading Cesu8 bytes.now text) result buf.old buf.new }
 {
-    copy_or_write::decode_strict_to_slice(Flavor::Cesu8, bytes, buf)
+    internal::decode_strict_to_slice(Flavor::Cesu8, bytes, buf)
 }
 
 /// Decodes bytes that are UTF-8 as a whole, or else CESU-8 (Unicode Technical Report 26), and
@@ -339,7 +338,7 @@ pub fn decode_strict_to_slice(bytes: &[u8], buf: &mut [u8]) -> Result<usize, Dec
 pub fn decode_to_slice(bytes: &[u8], buf: &mut [u8]) -> Result<usize, DecodeSliceFault>
     ensures { WritesReading (λ text. IsLenientReading Cesu8 bytes.now text) result buf.old buf.new }
 {
-    copy_or_write::decode_to_slice(Flavor::Cesu8, bytes, buf)
+    internal::decode_to_slice(Flavor::Cesu8, bytes, buf)
 }
 
 /// Decodes CESU-8 (Unicode Technical Report 26) that may be damaged, and writes to the caller's
@@ -361,7 +360,7 @@ pub fn decode_lossy_strict_to_slice(bytes: &[u8], buf: &mut [u8]) -> Result<usiz
     ensures { WritesLossyReading (λ text. text ≡ reading Cesu8 bytes.now)
         result buf.old buf.new }
 {
-    copy_or_write::decode_lossy_strict_to_slice(Flavor::Cesu8, bytes, buf)
+    internal::decode_lossy_strict_to_slice(Flavor::Cesu8, bytes, buf)
 }
 
 /// Decodes bytes that are UTF-8 as a whole, or else CESU-8 (Unicode Technical Report 26) that may
@@ -383,5 +382,5 @@ pub fn decode_lossy_to_slice(bytes: &[u8], buf: &mut [u8]) -> Result<usize, Loss
     ensures { WritesLossyReading (λ text. IsLenientLossyReading Cesu8 bytes.now text)
         result buf.old buf.new }
 {
-    copy_or_write::decode_lossy_to_slice(Flavor::Cesu8, bytes, buf)
+    internal::decode_lossy_to_slice(Flavor::Cesu8, bytes, buf)
 }

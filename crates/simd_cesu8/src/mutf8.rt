@@ -20,7 +20,7 @@ use crate::counted_text::CountedText;
 use crate::cow::{CowBytes, CowText};
 use crate::error::{DecodeFault, DecodeSliceFault, LossySliceFault, TooShort};
 use crate::internal::Flavor;
-use crate::{borrow_or_build, copy_or_write, internal};
+use crate::{borrow_or_build, internal};
 use std::alloc::{AllocError, Global};
 
 /// Returns whether the MUTF-8 of a text differs from its UTF-8: whether some scalar value is
@@ -34,7 +34,7 @@ use std::alloc::{AllocError, Global};
 pub fn needs_encoded(value: &str) -> bool
     ensures { IsTrue result ↔ NeedsEncoding Mutf8 (chars value.now) }
 {
-    borrow_or_build::needs_encoded(Flavor::Mutf8, value)
+    internal::needs_encoded(Flavor::Mutf8, value)
 }
 
 /// Returns the length in bytes of the MUTF-8 (Java's `DataOutput`, without a length in front) of a
@@ -259,7 +259,7 @@ pub fn lossy_len(bytes: &[u8]) -> Option<usize>
 pub fn encode_to_slice(value: &str, buf: &mut [u8]) -> Result<usize, TooShort>
     ensures { WritesAnswer (encoding Mutf8 (chars value.now)) result buf.old buf.new }
 {
-    copy_or_write::encode_to_slice(Flavor::Mutf8, value, buf)
+    internal::encode_to_slice(Flavor::Mutf8, value, buf)
 }
 
 /// Decodes MUTF-8 (Java's `DataInput`, without a length in front) strictly, and writes the UTF-8 of
@@ -280,7 +280,7 @@ pub fn encode_to_slice(value: &str, buf: &mut [u8]) -> Result<usize, TooShort>
 pub fn decode_strict_to_slice(bytes: &[u8], buf: &mut [u8]) -> Result<usize, DecodeSliceFault>
     ensures { WritesReading (λ text. IsStrictReading Mutf8 bytes.now text) result buf.old buf.new }
 {
-    copy_or_write::decode_strict_to_slice(Flavor::Mutf8, bytes, buf)
+    internal::decode_strict_to_slice(Flavor::Mutf8, bytes, buf)
 }
 
 /// Decodes bytes that are UTF-8 as a whole, or else MUTF-8 (Java's `DataInput`), and writes the
@@ -301,7 +301,7 @@ pub fn decode_strict_to_slice(bytes: &[u8], buf: &mut [u8]) -> Result<usize, Dec
 pub fn decode_to_slice(bytes: &[u8], buf: &mut [u8]) -> Result<usize, DecodeSliceFault>
     ensures { WritesReading (λ text. IsLenientReading Mutf8 bytes.now text) result buf.old buf.new }
 {
-    copy_or_write::decode_to_slice(Flavor::Mutf8, bytes, buf)
+    internal::decode_to_slice(Flavor::Mutf8, bytes, buf)
 }
 
 /// Decodes MUTF-8 (Java's `DataInput`) that may be damaged, and writes to the caller's buffer: the
@@ -323,7 +323,7 @@ pub fn decode_lossy_strict_to_slice(bytes: &[u8], buf: &mut [u8]) -> Result<usiz
     ensures { WritesLossyReading (λ text. text ≡ reading Mutf8 bytes.now)
         result buf.old buf.new }
 {
-    copy_or_write::decode_lossy_strict_to_slice(Flavor::Mutf8, bytes, buf)
+    internal::decode_lossy_strict_to_slice(Flavor::Mutf8, bytes, buf)
 }
 
 /// Decodes bytes that are UTF-8 as a whole, or else MUTF-8 (Java's `DataInput`) that may be
@@ -345,5 +345,5 @@ pub fn decode_lossy_to_slice(bytes: &[u8], buf: &mut [u8]) -> Result<usize, Loss
     ensures { WritesLossyReading (λ text. IsLenientLossyReading Mutf8 bytes.now text)
         result buf.old buf.new }
 {
-    copy_or_write::decode_lossy_to_slice(Flavor::Mutf8, bytes, buf)
+    internal::decode_lossy_to_slice(Flavor::Mutf8, bytes, buf)
 }

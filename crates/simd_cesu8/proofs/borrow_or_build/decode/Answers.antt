@@ -1,6 +1,6 @@
 use Rattle.std.proofs.Common.{inl}
 use Rattle.std.proofs.lemmas.Str.{IsUtf8-from_ascii}
-use Rattle.simd_cesu8.proofs.StdUtf8.{IsUtf8Of_chars_at}
+use Rattle.cesu8_text.proofs.StdUtf8.{IsUtf8Of_chars_at}
 use Rattle.simd_cesu8.proofs.borrow_or_build.decode.Goals as goal
 
 pub returns-then-is_short_ascii-clause-text : goal.returns-then-is_short_ascii-clause-text

@@ -3,9 +3,9 @@ use Rattle.std.specs.Str.{chars}
 use Rattle.std.specs.String.{string_bytes}
 use Rattle.std.proofs.lemmas.Str.{IsUtf8-string_bytes}
 use Rattle.simd_cesu8.specs.Internal.{flavor_of}
-use Rattle.simd_cesu8.proofs.StdUtf8.{IsUtf8Of_chars_at}
-use Rattle.simd_cesu8.proofs.reading.Borrowing.{not_utf8_differs, never_borrowed}
-use Rattle.simd_cesu8.proofs.reading.LossyBorrowing.{built_lenient_lossy}
+use Rattle.cesu8_text.proofs.StdUtf8.{IsUtf8Of_chars_at}
+use Rattle.cesu8_text.proofs.reading.Borrowing.{not_utf8_differs, never_borrowed}
+use Rattle.cesu8_text.proofs.reading.LossyBorrowing.{built_lenient_lossy}
 use Rattle.simd_cesu8.proofs.borrow_or_build.decode_lossy_other.Goals as goal
 
 pub returns-then-text-bytes-clause-reading : goal.returns-then-text-bytes-clause-reading

@@ -1,8 +1,8 @@
 use Rattle.std.specs.String.{string_bytes}
 use Rattle.std.proofs.lemmas.Str.{IsUtf8-string_bytes}
 use Rattle.simd_cesu8.specs.Internal.{flavor_of}
-use Rattle.simd_cesu8.proofs.reading.Borrowing.{never_borrowed}
-use Rattle.simd_cesu8.proofs.reading.LossyBorrowing.{length_of_reading, unchanged_lossy, unchanged_length, changed_reading}
+use Rattle.cesu8_text.proofs.reading.Borrowing.{never_borrowed}
+use Rattle.cesu8_text.proofs.reading.LossyBorrowing.{length_of_reading, unchanged_lossy, unchanged_length, changed_reading}
 use Rattle.simd_cesu8.proofs.borrow_or_build.decode_lossy_strict_other.Goals as goal
 
 pub returns-then-text-bytes-clause-reading : goal.returns-then-text-bytes-clause-reading

@@ -1,6 +1,6 @@
 use Rattle.std.proofs.lemmas.Str.{IsUtf8-from_ascii}
 use Rattle.simd_cesu8.specs.Internal.{flavor_of}
-use Rattle.simd_cesu8.proofs.reading.Borrowing.{unchanged_reading}
+use Rattle.cesu8_text.proofs.reading.Borrowing.{unchanged_reading}
 use Rattle.simd_cesu8.proofs.borrow_or_build.decode_strict.Goals as goal
 
 pub returns-then-is_short_unchanged_ascii-clause-text : goal.returns-then-is_short_unchanged_ascii-clause-text

@@ -5,9 +5,9 @@ use Rattle.std.proofs.lemmas.Bool.{iff_false}
 use Rattle.std.proofs.lemmas.Str.{IsUtf8-string_bytes}
 use Rattle.simd_cesu8.specs.Class.{IsChangedByte}
 use Rattle.simd_cesu8.specs.Internal.{flavor_of}
-use Rattle.simd_cesu8.proofs.reading.Borrowing.{unchanged_reading, changed_text, never_borrowed}
-use Rattle.simd_cesu8.proofs.encoding.EncodedBytes.{none_changed}
-use Rattle.simd_cesu8.proofs.reading.Pieces.{refused_by_any}
+use Rattle.cesu8_text.proofs.reading.Borrowing.{unchanged_reading, changed_text, never_borrowed}
+use Rattle.cesu8_text.proofs.encoding.EncodedBytes.{none_changed}
+use Rattle.simd_cesu8.proofs.Faults.{refused_by_any}
 use Rattle.simd_cesu8.proofs.borrow_or_build.decode_strict_other.Goals as goal
 
 pub returns-then-contains_changed-clause-invalid : goal.returns-then-contains_changed-clause-invalid

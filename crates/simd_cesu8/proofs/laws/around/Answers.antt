@@ -1,4 +1,4 @@
-use Rattle.simd_cesu8.proofs.reading.EncodedTexts.{around}
+use Rattle.cesu8_text.proofs.reading.EncodedTexts.{around}
 use Rattle.simd_cesu8.proofs.laws.around.Goals as goal
 
 pub returns : goal.returns

@@ -1,4 +1,4 @@
-use Rattle.simd_cesu8.proofs.order.Lawful.{bounds_law}
+use Rattle.cesu8_text.proofs.order.Lawful.{bounds_law}
 use Rattle.simd_cesu8.proofs.laws.bounds.Goals as goal
 
 pub returns : goal.returns

@@ -1,4 +1,4 @@
-use Rattle.simd_cesu8.proofs.order.Lawful.{chars_are_text_law, chars_in_utf8_law, same_bytes_law}
+use Rattle.cesu8_text.proofs.order.Lawful.{chars_are_text_law, chars_in_utf8_law, same_bytes_law}
 use Rattle.simd_cesu8.proofs.laws.chars.Goals as goal
 
 pub returns : goal.returns

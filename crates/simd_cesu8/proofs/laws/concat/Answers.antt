@@ -1,4 +1,4 @@
-use Rattle.simd_cesu8.proofs.encoding.Encodings.{encoding_append}
+use Rattle.cesu8_text.proofs.encoding.Encodings.{encoding_append}
 use Rattle.simd_cesu8.proofs.laws.concat.Goals as goal
 
 pub returns : goal.returns

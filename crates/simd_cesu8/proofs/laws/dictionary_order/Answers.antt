@@ -1,4 +1,4 @@
-use Rattle.simd_cesu8.proofs.order.Below.{trichotomy, transitive, slice_order}
+use Rattle.cesu8_text.proofs.order.Below.{trichotomy, transitive, slice_order}
 use Rattle.simd_cesu8.proofs.laws.dictionary_order.Goals as goal
 
 pub returns : goal.returns

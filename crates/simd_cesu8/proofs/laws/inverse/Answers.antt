@@ -1,4 +1,4 @@
-use Rattle.simd_cesu8.proofs.order.Lawful.{decoded_back_law, not_refused_law, encoded_back_law}
+use Rattle.cesu8_text.proofs.order.Lawful.{decoded_back_law, not_refused_law, encoded_back_law}
 use Rattle.simd_cesu8.proofs.laws.inverse.Goals as goal
 
 pub returns : goal.returns

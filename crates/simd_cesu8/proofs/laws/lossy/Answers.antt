@@ -1,6 +1,6 @@
-use Rattle.simd_cesu8.proofs.reading.EncodedTexts.{reading_encoding}
-use Rattle.simd_cesu8.proofs.order.Lawful.{read_again_law, lossy_is_strict_law}
-use Rattle.simd_cesu8.proofs.reading.LossyTexts.{reading_is_text, nothing_replaced}
+use Rattle.cesu8_text.proofs.reading.EncodedTexts.{reading_encoding}
+use Rattle.cesu8_text.proofs.order.Lawful.{read_again_law, lossy_is_strict_law}
+use Rattle.cesu8_text.proofs.reading.LossyTexts.{reading_is_text, nothing_replaced}
 use Rattle.simd_cesu8.proofs.laws.lossy.Goals as goal
 
 pub returns : goal.returns

@@ -1,4 +1,4 @@
-use Rattle.simd_cesu8.proofs.reading.EncodedTexts.{middle}
+use Rattle.cesu8_text.proofs.reading.EncodedTexts.{middle}
 use Rattle.simd_cesu8.proofs.laws.middle.Goals as goal
 
 pub returns : goal.returns

@@ -1,4 +1,4 @@
-use Rattle.simd_cesu8.proofs.reading.Stretches.{no_overlap}
+use Rattle.cesu8_text.proofs.reading.Stretches.{no_overlap}
 use Rattle.simd_cesu8.proofs.laws.no_overlap.Goals as goal
 
 pub returns : goal.returns

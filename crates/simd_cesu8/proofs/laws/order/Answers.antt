@@ -1,4 +1,4 @@
-use Rattle.simd_cesu8.proofs.order.UnitOrder.{order_in_cesu8, order_in_mutf8, null_out_of_order, scalars_out_of_order}
+use Rattle.cesu8_text.proofs.order.UnitOrder.{order_in_cesu8, order_in_mutf8, null_out_of_order, scalars_out_of_order}
 use Rattle.simd_cesu8.proofs.laws.order.Goals as goal
 
 pub returns : goal.returns

@@ -1,5 +1,5 @@
-use Rattle.simd_cesu8.proofs.reading.Greedy.{places}
-use Rattle.simd_cesu8.proofs.order.Lawful.{has_greedy_cutting_law}
+use Rattle.cesu8_text.proofs.reading.Greedy.{places}
+use Rattle.cesu8_text.proofs.order.Lawful.{has_greedy_cutting_law}
 use Rattle.simd_cesu8.proofs.laws.places.Goals as goal
 
 pub returns : goal.returns

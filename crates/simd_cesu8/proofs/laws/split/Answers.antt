@@ -1,5 +1,5 @@
-use Rattle.simd_cesu8.proofs.reading.Splits.{split}
-use Rattle.simd_cesu8.proofs.reading.Worked.{halves_join}
+use Rattle.cesu8_text.proofs.reading.Splits.{split}
+use Rattle.cesu8_text.proofs.reading.Worked.{halves_join}
 use Rattle.simd_cesu8.proofs.laws.split.Goals as goal
 
 pub returns : goal.returns

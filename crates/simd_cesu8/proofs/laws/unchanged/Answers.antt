@@ -1,4 +1,4 @@
-use Rattle.simd_cesu8.proofs.order.Lawful.{unchanged_encoding_law, unchanged_string_law}
+use Rattle.cesu8_text.proofs.order.Lawful.{unchanged_encoding_law, unchanged_string_law}
 use Rattle.simd_cesu8.proofs.laws.unchanged.Goals as goal
 
 pub returns : goal.returns

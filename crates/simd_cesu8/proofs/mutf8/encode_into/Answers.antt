@@ -1,6 +1,6 @@
 use Rattle.std.proofs.Common.{◌∙◌}
 use Rattle.simd_cesu8.specs.Encoding.{Mutf8}
-use Rattle.simd_cesu8.proofs.encoding.Encodings.{encoding_of_empty}
+use Rattle.cesu8_text.proofs.encoding.Encodings.{encoding_of_empty}
 use Rattle.simd_cesu8.proofs.mutf8.encode_into.Goals as goal
 
 pub returns-clause-empty : goal.returns-clause-empty

@@ -1,7 +1,7 @@
 use Rattle.std.proofs.Common.{ap, sym, length}
 use Rattle.std.proofs.lemmas.Bool.{iff_false}
 use Rattle.simd_cesu8.specs.Internal.{flavor_of}
-use Rattle.simd_cesu8.proofs.encoding.NeedsEncoding.{encoding_is_bytes}
+use Rattle.cesu8_text.proofs.encoding.NeedsEncoding.{encoding_is_bytes}
 use Rattle.simd_cesu8.proofs.counted_text.CountedText.new.Goals as goal
 
 pub invariant_of-result : goal.invariant_of-result

@@ -1,0 +1,3 @@
+pub mod lists
+pub mod vectors
+pub mod pieces

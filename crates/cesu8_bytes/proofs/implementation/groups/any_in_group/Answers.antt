@@ -1,0 +1,8 @@
+use Rattle.std.proofs.lemmas.Bool.{both_ways}
+use Rattle.cesu8_bytes.proofs.implementation.groups.any_in_group.Goals as goal
+
+pub returns-then-may_have : goal.returns-then-may_have
+returns-then-may_have g c = c.any_in_each.ensures
+
+pub returns-else-may_have : goal.returns-else-may_have
+returns-else-may_have g c = ((λ t. absurd (both_ways c.may_have.result c.if-may_have.false t)), c.may_have.ensures)

@@ -1,0 +1,130 @@
+-- Vectors that mark the bytes of a class.
+use Rattle.std.proofs.Common.{◌≡◌, ℕ, Bool, true, false, not, cond, ◌||◌, ◌%◌, ◌^◌, ◌≤◌, ◌<◌, List, [], ◌∷◌, map, length, replicate, eqb, leb, refl, ap, ◌∙◌, subst, arith, bit_and, bit_or, w8, Fits}
+use Rattle.std.specs.Prelude.{ℤ}
+use Rattle.std.proofs.lemmas.Bool.{agree_below_at}
+use Rattle.std.proofs.lemmas.List.{length-map}
+use Rattle.std.proofs.lemmas.Simd.{length-replicate, map-map, mask_l-mod, splat_is_map, zip2_of_maps, zip2_splat, zip2_splat_left, Each1-all, Each1-weaker}
+use lib.Lanes.{zip2, sel_l, mask_l, top, Each1}
+use mir.Val.{to_z, of_z}
+use Rattle.cesu8_text.specs.Class.{is_four}
+use Rattle.cesu8_bytes.specs.Kernels.{lane}
+use Rattle.cesu8_bytes.proofs.lists.Lanes.{ones, equal, map_agree}
+
+-- the lanes of the mask that marks the bytes of a class
+abbrev pub marks_of : (ℕ → Bool) → List ℕ → List ℤ
+marks_of class bytes = map (λ b. lane (class b)) bytes
+
+lane_of_ones : (t : Bool) → to_z w8 (ones t) ≡ lane t
+lane_of_ones true = refl
+lane_of_ones false = refl
+
+-- Lanes that are all ones where the byte is of a class are its mask.
+pub marked : (class : ℕ → Bool) (bytes lanes : List ℕ) → lanes ≡ map (λ b. ones (class b)) bytes → map (to_z w8) lanes ≡ marks_of class bytes
+marked class bytes lanes are =
+    ap (map (to_z w8)) are ∙ map-map (to_z w8) (λ b. ones (class b)) bytes
+    ∙ map_agree _ _ bytes (Each1-all (λ b. to_z w8 (ones (class b)) ≡ lane (class b)) (λ b. lane_of_ones (class b)) bytes)
+
+-- A mask with no lane set marks none.
+pub no_marks : (n : ℕ) (bytes : List ℕ) → length bytes ≡ n →
+    map (to_z w8) (zip2 (λ a b. ones (not (eqb a b))) (replicate n 0) (replicate n 0)) ≡ marks_of (λ _. false) bytes
+no_marks n bytes long =
+    marked (λ _. false) bytes _ (zip2_splat (λ a b. ones (not (eqb a b))) (replicate n 0) n 0 (length-replicate n 0)
+    ∙ ap (map (λ a. ones (not (eqb a 0)))) (splat_is_map bytes n 0 long)
+    ∙ map-map (λ a. ones (not (eqb a 0))) (λ _. 0) bytes)
+
+-- A comparison with a number marks the bytes that are equal to it.
+pub equal_marks : (byte n : ℕ) (bytes : List ℕ) → length bytes ≡ n →
+    map (to_z w8) (zip2 equal bytes (replicate n byte)) ≡ marks_of (λ b. eqb b byte) bytes
+equal_marks byte n bytes long = marked (λ b. eqb b byte) bytes _ (zip2_splat equal bytes n byte long)
+
+-- Another marks those that are that or more.
+pub least_marks : (least n : ℕ) (bytes : List ℕ) → length bytes ≡ n →
+    map (to_z w8) (zip2 (λ a b. ones (leb a b)) (replicate n least) bytes) ≡ marks_of (leb least) bytes
+least_marks least n bytes long = marked (leb least) bytes _ (zip2_splat_left (λ a b. ones (leb a b)) least n bytes long)
+
+-- A byte is F0 to F7 (hexadecimal) where its upper five bits are those of F0.
+four_by_mask : (b : ℕ) → b < 0x100 → eqb (bit_and b 0xF8) 0xF0 ≡ is_four b
+four_by_mask b h = agree_below_at (λ b. eqb (bit_and b 0xF8) 0xF0) is_four 0x100 b refl h
+
+-- So a comparison of these marks them.
+pub four_marks : (n : ℕ) (bytes : List ℕ) → length bytes ≡ n → Each1 (Fits w8) bytes →
+    map (to_z w8) (zip2 equal (zip2 bit_and bytes (replicate n 0xF8)) (replicate n 0xF0)) ≡ marks_of is_four bytes
+four_marks n bytes long fits =
+    let upper = zip2_splat bit_and bytes n 0xF8 long in
+    marked is_four bytes _ (
+    zip2_splat equal _ n 0xF0 (ap length upper ∙ length-map bytes (λ b. bit_and b 0xF8) ∙ long)
+    ∙ ap (map (λ b. equal b 0xF0)) upper
+    ∙ map-map (λ b. equal b 0xF0) (λ b. bit_and b 0xF8) bytes
+    ∙ map_agree _ _ bytes (Each1-weaker (Fits w8) _ (λ b h. ap ones (four_by_mask b h.fits)) bytes fits)
+    )
+
+-- A lane as bits: all ones where a test holds.
+bits_of_lane : (t : Bool) → of_z w8 (lane t) ≡ ones t
+bits_of_lane true = refl
+bits_of_lane false = refl
+
+either_ones : (s t : Bool) → bit_or (of_z w8 (lane s)) (of_z w8 (lane t)) ≡ ones (s || t)
+either_ones true true = refl
+either_ones true false = refl
+either_ones false true = refl
+either_ones false false = refl
+
+-- The marks of two classes, joined, are those of both.
+pub either_marks : (p q : ℕ → Bool) (bytes : List ℕ) (ps qs : List ℤ) → ps ≡ marks_of p bytes → qs ≡ marks_of q bytes →
+    map (to_z w8) (zip2 bit_or (map (of_z w8) ps) (map (of_z w8) qs)) ≡ marks_of (λ b. p b || q b) bytes
+either_marks p q bytes ps qs of_p of_q =
+    marked (λ b. p b || q b) bytes _ (
+    zip2_of_maps bit_or (λ b. of_z w8 (lane (p b))) (λ b. of_z w8 (lane (q b))) bytes
+    (ap (map (of_z w8)) of_p ∙ map-map (of_z w8) (λ b. lane (p b)) bytes)
+    (ap (map (of_z w8)) of_q ∙ map-map (of_z w8) (λ b. lane (q b)) bytes)
+    ∙ map_agree _ _ bytes (Each1-all (λ b. bit_or (of_z w8 (lane (p b))) (of_z w8 (lane (q b))) ≡ ones (p b || q b)) (λ b. either_ones (p b) (q b)) bytes)
+    )
+
+or_ones : (s t : Bool) → bit_or (ones s) (ones t) ≡ ones (s || t)
+or_ones true true = refl
+or_ones true false = refl
+or_ones false true = refl
+or_ones false false = refl
+
+-- Two comparisons mark the bytes that are equal to one of two numbers.
+pub two_marks : (x y n : ℕ) (bytes : List ℕ) → length bytes ≡ n →
+    map (to_z w8) (zip2 bit_or (zip2 equal bytes (replicate n x)) (zip2 equal bytes (replicate n y)))
+    ≡ marks_of (λ b. eqb b x || eqb b y) bytes
+two_marks x y n bytes long =
+    marked (λ b. eqb b x || eqb b y) bytes _ (
+    zip2_of_maps bit_or (λ b. equal b x) (λ b. equal b y) bytes (zip2_splat equal bytes n x long) (zip2_splat equal bytes n y long)
+    ∙ map_agree _ _ bytes (Each1-all (λ b. bit_or (equal b x) (equal b y) ≡ ones (eqb b x || eqb b y)) (λ b. or_ones (eqb b x) (eqb b y)) bytes)
+    )
+
+top_of_lane : (t : Bool) → top 7 (of_z w8 (lane t)) ≡ t
+top_of_lane true = refl
+top_of_lane false = refl
+
+-- The highest bits of the marks tell of each byte whether it is of the class.
+tops_of_marks : (p : ℕ → Bool) (bytes : List ℕ) (marks : List ℤ) → marks ≡ marks_of p bytes →
+    map (top 7) (map (of_z w8) marks) ≡ map p bytes
+tops_of_marks p bytes marks are =
+    ap (λ ms. map (top 7) (map (of_z w8) ms)) are
+    ∙ ap (map (top 7)) (map-map (of_z w8) (λ b. lane (p b)) bytes)
+    ∙ map-map (top 7) (λ b. of_z w8 (lane (p b))) bytes
+    ∙ map_agree _ _ bytes (Each1-all (λ b. top 7 (of_z w8 (lane (p b))) ≡ p b) (λ b. top_of_lane (p b)) bytes)
+
+-- So do the bits.
+pub bits_of_marks : (p : ℕ → Bool) (n : ℕ) (bytes : List ℕ) (marks : List ℤ) → marks ≡ marks_of p bytes → length bytes ≡ n → n ≤ 64 →
+    mask_l (map (top 7) (map (of_z w8) marks)) % 2 ^ 64 ≡ mask_l (map p bytes)
+bits_of_marks p n bytes marks are long small =
+    ap (λ ts. mask_l ts % 2 ^ 64) (tops_of_marks p bytes marks are)
+    ∙ mask_l-mod (map p bytes) 64 (omega (arith, long, small, length-map bytes p))
+
+chosen_of : (p : ℕ → Bool) (some other : ℕ) (bytes : List ℕ) →
+    sel_l (map p bytes) (replicate (length bytes) some) (replicate (length bytes) other) ≡ map (λ b. cond (p b) some other) bytes
+chosen_of p some other [] = refl
+chosen_of p some other (b ∷ bytes) = ap (λ l. cond (p b) some other ∷ l) (chosen_of p some other bytes)
+
+-- Marks choose between two numbers.
+pub chosen_by_marks : (p : ℕ → Bool) (n some other : ℕ) (bytes : List ℕ) (marks : List ℤ) → marks ≡ marks_of p bytes → length bytes ≡ n →
+    sel_l (map (top 7) (map (of_z w8) marks)) (replicate n some) (replicate n other) ≡ map (λ b. cond (p b) some other) bytes
+chosen_by_marks p n some other bytes marks are long =
+    ap (λ ts. sel_l ts (replicate n some) (replicate n other)) (tops_of_marks p bytes marks are)
+    ∙ subst (λ k. sel_l (map p bytes) (replicate k some) (replicate k other) ≡ map (λ b. cond (p b) some other) bytes) long
+    (chosen_of p some other bytes)

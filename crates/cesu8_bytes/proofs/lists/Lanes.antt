@@ -1,0 +1,159 @@
+-- Vectors of bytes, lane by lane.
+use Rattle.std.proofs.Common.{◌≡◌, ℕ, Bool, not, cond, ◌&&◌, ◌||◌, IsTrue, ◌%◌, ◌^◌, ◌≤◌, ◌↔◌, ◌⊎◌, List, [], ◌∷◌, map, length, replicate, true, false, ◌+◌, ◌*◌, eqb, ltb, leb, refl, sym, ap, ◌∙◌, subst, inl, inr, ⊎_elim, arith, w8}
+use Rattle.std.specs.List.{Any}
+use Rattle.std.proofs.lemmas.Bool.{both_ways, cases_lt, eq-eqb, eqb-false, eqb-true, le-leb, le-ltb, leb-true, lt-ltb, ne_eqb, not-true}
+use Rattle.std.proofs.lemmas.List.{length-map}
+use Rattle.std.proofs.lemmas.Simd.{mask_l-mod, tops_compared, zip2_splat_left}
+use lib.Lanes.{zip2, sel_l, mask_l, top, Each1}
+use Rattle.cesu8_text.specs.Class.{is_four, is_null_four, is_lead}
+use Rattle.cesu8_bytes.specs.Kernels.{AnyIn}
+use Rattle.cesu8_text.proofs.lists.Elements.{any_nil, any_here, any_there, any_cons}
+
+-- all ones where a test holds, and else 0
+abbrev pub ones : Bool → ℕ
+ones t = cond t 255 0
+
+abbrev pub equal : ℕ → ℕ → ℕ
+equal a b = ones (eqb a b)
+
+abbrev pub below : ℕ → ℕ → ℕ
+below a b = ones (ltb a b)
+
+-- Maps that agree on each element are equal.
+pub map_agree : {X Y : Type 0} (f g : X → Y) (xs : List X) → Each1 (λ x. f x ≡ g x) xs → map f xs ≡ map g xs
+map_agree f g [] h = refl
+map_agree f g (x ∷ xs) h = λ i. h.0 i ∷ map_agree f g xs h.1 i
+
+-- ---- a choice by a comparison
+
+pub chosen : (t : Bool) (m n : ℕ) → cond (top 7 (ones t)) m n ≡ cond t m n
+chosen true m n = refl
+chosen false m n = refl
+
+chosen_of : (t : ℕ → ℕ → Bool) (y m n : ℕ) (xs : List ℕ) →
+    sel_l (map (top 7) (zip2 (λ a b. ones (t a b)) xs (replicate (length xs) y))) (replicate (length xs) m) (replicate (length xs) n)
+    ≡ map (λ x. cond (t x y) m n) xs
+chosen_of t y m n [] = refl
+chosen_of t y m n (x ∷ xs) = λ i. chosen (t x y) m n i ∷ chosen_of t y m n xs i
+
+-- Choosing one of two numbers by a comparison with one byte.
+pub chosen_lanes : (size : ℕ) (t : ℕ → ℕ → Bool) (y m n : ℕ) (xs : List ℕ) → length xs ≡ size →
+    sel_l (map (top 7) (zip2 (λ a b. ones (t a b)) xs (replicate size y))) (replicate size m) (replicate size n) ≡ map (λ x. cond (t x y) m n) xs
+chosen_lanes size t y m n xs long =
+    subst (λ k. sel_l (map (top 7) (zip2 (λ a b. ones (t a b)) xs (replicate k y))) (replicate k m) (replicate k n) ≡ map (λ x. cond (t x y) m n) xs)
+    long (chosen_of t y m n xs)
+
+-- ---- the greater and the lesser of two lanes
+
+-- Where P holds of a lane of one of two vectors, it holds of one of the vector that f makes of them.
+kept : (P : ℕ → Type 0) (f : ℕ → ℕ → ℕ) → ((a b : ℕ) → P a ⊎ P b → P (f a b)) → (xs ys : List ℕ) → length xs ≡ length ys →
+    Any P xs ⊎ Any P ys → Any P (zip2 f xs ys)
+kept P f keeps [] [] e s = ⊎_elim (λ p. p) (λ p. p) s
+kept P f keeps [] (y ∷ ys) e s = absurd (omega arith)
+kept P f keeps (x ∷ xs) [] e s = absurd (omega arith)
+kept P f keeps (x ∷ xs) (y ∷ ys) e s = ⊎_elim
+    (λ p. ⊎_elim (λ m. any_here P (f x y) (zip2 f xs ys) (keeps x y (inl m)))
+    (λ q. any_there P (f x y) (zip2 f xs ys) (kept P f keeps xs ys (omega arith) (inl q))) (any_cons P x xs p))
+    (λ p. ⊎_elim (λ m. any_here P (f x y) (zip2 f xs ys) (keeps x y (inr m)))
+    (λ q. any_there P (f x y) (zip2 f xs ys) (kept P f keeps xs ys (omega arith) (inr q))) (any_cons P y ys p)) s
+
+abbrev greater : ℕ → ℕ → ℕ
+greater a b = cond (top 7 (below a b)) b a
+
+abbrev greater_lanes : List ℕ → List ℕ → List ℕ
+greater_lanes xs ys = sel_l (map (top 7) (zip2 below xs ys)) ys xs
+
+greater_each : (xs ys : List ℕ) → greater_lanes xs ys ≡ zip2 greater xs ys
+greater_each [] ys = refl
+greater_each (x ∷ xs) [] = refl
+greater_each (x ∷ xs) (y ∷ ys) = ap (λ l. greater x y ∷ l) (greater_each xs ys)
+
+greater_keeps : (a b : ℕ) → IsTrue (is_lead a) ⊎ IsTrue (is_lead b) → IsTrue (is_lead (greater a b))
+greater_keeps a b s = ⊎_elim
+    (λ l. (let is : greater a b ≡ b = ap (λ t. cond (top 7 (ones t)) b a) (lt-ltb a b l) in
+    subst (λ x. IsTrue (is_lead x)) (sym is) (⊎_elim (λ m. le-leb 0xF0 b (omega (arith, leb-true 0xF0 a m, l))) (λ m. m) s)))
+    (λ l. (let is : greater a b ≡ a = ap (λ t. cond (top 7 (ones t)) b a) (le-ltb a b l) in
+    subst (λ x. IsTrue (is_lead x)) (sym is) (⊎_elim (λ m. m) (λ m. le-leb 0xF0 a (omega (arith, leb-true 0xF0 b m, l))) s)))
+    (cases_lt a b)
+
+-- The greater of two lanes is F0 or more where one of them is.
+pub lead_in_greater : (xs ys : List ℕ) → length xs ≡ length ys → AnyIn is_lead xs ⊎ AnyIn is_lead ys → AnyIn is_lead (greater_lanes xs ys)
+lead_in_greater xs ys e s =
+    subst (AnyIn is_lead) (sym (greater_each xs ys)) (kept (λ b. IsTrue (is_lead b)) greater greater_keeps xs ys e s)
+
+abbrev lesser : ℕ → ℕ → ℕ
+lesser a b = cond (top 7 (below a b)) a b
+
+abbrev lesser_lanes : List ℕ → List ℕ → List ℕ
+lesser_lanes xs ys = sel_l (map (top 7) (zip2 below xs ys)) xs ys
+
+lesser_each : (xs ys : List ℕ) → lesser_lanes xs ys ≡ zip2 lesser xs ys
+lesser_each [] ys = refl
+lesser_each (x ∷ xs) [] = refl
+lesser_each (x ∷ xs) (y ∷ ys) = ap (λ l. lesser x y ∷ l) (lesser_each xs ys)
+
+lesser_keeps : (a b : ℕ) → IsTrue (eqb a 0) ⊎ IsTrue (eqb b 0) → IsTrue (eqb (lesser a b) 0)
+lesser_keeps a b s = ⊎_elim
+    (λ l. (let is : lesser a b ≡ a = ap (λ t. cond (top 7 (ones t)) a b) (lt-ltb a b l) in
+    subst (λ x. IsTrue (eqb x 0)) (sym is) (⊎_elim (λ m. m) (λ m. eq-eqb a 0 (omega (arith, eqb-true b 0 m, l))) s)))
+    (λ l. (let is : lesser a b ≡ b = ap (λ t. cond (top 7 (ones t)) a b) (le-ltb a b l) in
+    subst (λ x. IsTrue (eqb x 0)) (sym is) (⊎_elim (λ m. eq-eqb b 0 (omega (arith, eqb-true a 0 m, l))) (λ m. m) s)))
+    (cases_lt a b)
+
+-- The lesser of two lanes is 00 where one of them is.
+pub null_in_lesser : (xs ys : List ℕ) → length xs ≡ length ys → AnyIn (λ b. eqb b 0) xs ⊎ AnyIn (λ b. eqb b 0) ys →
+    AnyIn (λ b. eqb b 0) (lesser_lanes xs ys)
+null_in_lesser xs ys e s =
+    subst (AnyIn (λ b. eqb b 0)) (sym (lesser_each xs ys)) (kept (λ b. IsTrue (eqb b 0)) lesser lesser_keeps xs ys e s)
+
+-- ---- a class by the greatest and the least
+
+first_holds : (s t : Bool) → (s && t) ≡ true → s ≡ true
+first_holds true t e = refl
+first_holds false t e = e
+
+either_holds : (s t : Bool) → (s || t) ≡ true → (s ≡ true) ⊎ (t ≡ true)
+either_holds true t e = inl refl
+either_holds false t e = inr e
+
+-- F0 to F7 is F0 or more.
+pub lead_of_four : (chunks : List (List ℕ)) → Any (AnyIn is_four) chunks → Any (AnyIn is_lead) chunks
+lead_of_four chunks h = (h.0, h.1, h.2, h.3, (h.4.0, h.4.1, h.4.2, h.4.3, first_holds (leb 0xF0 h.4.1) (leb h.4.1 0xF7) h.4.4))
+
+-- So a byte of the other class is F0 or more, or it is 00.
+pub lead_or_null : (chunks : List (List ℕ)) → Any (AnyIn is_null_four) chunks →
+    Any (AnyIn is_lead) chunks ⊎ Any (AnyIn (λ b. eqb b 0)) chunks
+lead_or_null chunks h = ⊎_elim
+    (λ null. inr (h.0, h.1, h.2, h.3, (h.4.0, h.4.1, h.4.2, h.4.3, null)))
+    (λ four. inl (h.0, h.1, h.2, h.3, (h.4.0, h.4.1, h.4.2, h.4.3, first_holds (leb 0xF0 h.4.1) (leb h.4.1 0xF7) four)))
+    (either_holds (eqb h.4.1 0) (is_four h.4.1) h.4.4)
+
+-- ---- the test for a lane
+
+-- by whether the first lane passes
+some_passes_by : (p : ℕ → Bool) (x : ℕ) (lanes : List ℕ) (t : Bool) → p x ≡ t → (mask_l (map p lanes) ≡ 0 → ⊥) ↔ AnyIn p lanes →
+    (cond t 1 0 + 2 * mask_l (map p lanes) ≡ 0 → ⊥) ↔ AnyIn p (x ∷ lanes)
+some_passes_by p x lanes true is rest = ((λ n. any_here (λ b. IsTrue (p b)) x lanes is), (λ q e. omega (arith, e)))
+some_passes_by p x lanes false is rest = (
+  (λ n. any_there (λ b. IsTrue (p b)) x lanes (rest.0 (λ e. n (omega (arith, e))))),
+  (λ q e. ⊎_elim (λ m. both_ways (p x) is m) (λ r. rest.1 r (omega (arith, e))) (any_cons (λ b. IsTrue (p b)) x lanes q)),
+)
+
+some_passes : (p : ℕ → Bool) (lanes : List ℕ) → (mask_l (map p lanes) ≡ 0 → ⊥) ↔ AnyIn p lanes
+some_passes p [] = ((λ n. absurd (n refl)), (λ q. absurd (any_nil (λ b. IsTrue (p b)) q)))
+some_passes p (x ∷ lanes) = some_passes_by p x lanes (p x) refl (some_passes p lanes)
+
+-- Bits that tell of each lane whether it passes a test tell whether some lane does.
+pub any_passes : (p : ℕ → Bool) (lanes : List ℕ) (bits : ℕ) → bits ≡ mask_l (map p lanes) → IsTrue (not (eqb bits 0)) ↔ AnyIn p lanes
+any_passes p lanes bits is =
+    let tells = some_passes p lanes in (
+      (λ t. tells.0 (λ e. eqb-false _ _ (not-true _ t) (is ∙ e))),
+      (λ q. ap not (ne_eqb _ _ (λ e. tells.1 q (sym is ∙ e)))),
+    )
+
+-- A comparison with a number tells of each lane whether it is that or more.
+pub least_bits : (least n : ℕ) (lanes : List ℕ) → length lanes ≡ n → n ≤ 64 →
+    mask_l (map (top 7) (zip2 (λ a b. ones (leb a b)) (replicate n least) lanes)) % 2 ^ 64 ≡ mask_l (map (leb least) lanes)
+least_bits least n lanes long small =
+    ap (λ ms. mask_l ms % 2 ^ 64) (tops_compared w8 leb (replicate n least) lanes ∙ zip2_splat_left leb least n lanes long)
+    ∙ mask_l-mod (map (leb least) lanes) 64 (omega (arith, long, small, length-map lanes (leb least)))

@@ -1,0 +1,182 @@
+-- Words as their bytes, the lowest first: a mask acts on each byte, and taking 1 from each byte tells
+-- whether one is 0.
+use Rattle.std.proofs.Common.{◌≡◌, ℕ, Bool, true, not, IsTrue, ◌+◌, ◌-◌, ◌*◌, ◌/◌, ◌%◌, ◌^◌, ◌<◌, ◌↔◌, ◌||◌, List, [], ◌∷◌, refl, sym, ap, ◌∙◌, subst, zero, suc, get_or, ⊎_elim, arith, bit_and, eqb, map}
+use Rattle.std.specs.List.{Any}
+use Rattle.std.specs.Int.{to_le_bytes, w64}
+use Rattle.std.specs.Int.Bits.{bit_xor, and_lt, and_zero_r}
+use Rattle.cesu8_text.specs.Class.{is_four, IsFour}
+use Rattle.cesu8_bytes.specs.Kernels.{AnyIn}
+use Rattle.std.proofs.lemmas.Bool.{agree_below_at, cases_eq, eqb-true, eqb-false, eq-eqb, ne_eqb, not-true, or_cases}
+use Rattle.std.proofs.lemmas.Nat.{and_block, xor_block, xor_of_8, le_bytes_8}
+use Rattle.cesu8_text.proofs.lists.Elements.{any_nil, any_here, any_there, any_cons}
+
+-- Each member is a byte.
+abbrev AreBytes : List ℕ → Type 0
+AreBytes [] = Unit {0}
+AreBytes (b ∷ bytes) = (b < 0x100) × AreBytes bytes
+
+-- The word of bytes.
+abbrev word_of : List ℕ → ℕ
+word_of [] = 0
+word_of (b ∷ bytes) = word_of bytes * 2 ^ 8 + b
+
+-- The word that has m for each byte.
+abbrev each : ℕ → List ℕ → ℕ
+each m bytes = word_of (map (λ _. m) bytes)
+
+-- The word with each bit the other way round.
+abbrev inverted : List ℕ → ℕ
+inverted bytes = word_of (map (λ b. 0xFF - b) bytes)
+
+-- k at the place above the bytes: what is borrowed from there.
+abbrev above : ℕ → List ℕ → ℕ
+above k [] = k
+above k (b ∷ bytes) = above k bytes * 2 ^ 8
+
+-- What the test leaves of the difference d: the high bits that d has and the word has not.
+abbrev marked : ℕ → List ℕ → ℕ
+marked d bytes = bit_and (bit_and d (inverted bytes)) (each 0x80 bytes)
+
+-- one step of it: d is its lowest byte r and the rest q
+marked_cons : (d q r b : ℕ) (bytes : List ℕ) → d ≡ q * 2 ^ 8 + r → r < 2 ^ 8 →
+    marked d (b ∷ bytes) ≡ marked q bytes * 2 ^ 8 + bit_and (bit_and r (0xFF - b)) 0x80
+marked_cons d q r b bytes e l =
+    ap (λ x. bit_and (bit_and x (inverted (b ∷ bytes))) (each 0x80 (b ∷ bytes))) e
+    ∙ ap (λ x. bit_and x (each 0x80 (b ∷ bytes))) (and_block 8 q (inverted bytes) r (0xFF - b) l (omega arith))
+    ∙ and_block 8 (bit_and q (inverted bytes)) (each 0x80 bytes) (bit_and r (0xFF - b)) 0x80
+    (and_lt 8 r (0xFF - b) l (omega arith)) (omega arith)
+
+-- a byte other than 0, less 1, has no high bit that the byte has not
+unmarked_byte : (b : ℕ) → b < 0x100 → (b ≡ 0 → ⊥) → bit_and (bit_and (b - 1) (0xFF - b)) 0x80 ≡ 0
+unmarked_byte b l n =
+    let all = agree_below_at (λ b. eqb b 0 || eqb (bit_and (bit_and (b - 1) (0xFF - b)) 0x80) 0) (λ _. true) 0x100 b refl l in
+    ⊎_elim (λ e. absurd (n (eqb-true _ _ e))) (λ e. eqb-true _ _ e) (or_cases _ _ all)
+
+-- That some byte is 0 is told by marks, where the difference d is to 1 in each byte.
+abbrev IsMarked : List ℕ → Type 0
+IsMarked bytes = (d k : ℕ) → word_of bytes + above k bytes ≡ each 1 bytes + d →
+    (marked d bytes ≡ 0 → ⊥) ↔ Any (λ b. b ≡ 0) bytes
+
+-- with a byte 0 in front, which is marked
+marks_zero : (b : ℕ) (bytes : List ℕ) → b < 0x100 → b ≡ 0 → IsMarked (b ∷ bytes)
+marks_zero b bytes l z d k e =
+    let step = marked_cons d (d / 0x100) (d % 0x100) b bytes (omega arith) (omega arith) in
+    let r : d % 0x100 ≡ 0xFF = omega (arith, e) in
+    let i : 0xFF - b ≡ 0xFF = omega (arith, z) in
+    let low : bit_and (bit_and (d % 0x100) (0xFF - b)) 0x80 ≡ 0x80 =
+    ap (λ x. bit_and (bit_and x (0xFF - b)) 0x80) r ∙ ap (λ x. bit_and (bit_and 0xFF x) 0x80) i in
+    ((λ _. any_here (λ b. b ≡ 0) b bytes z), (λ _ none. omega (arith, step, low, none)))
+
+-- with another byte in front, which is not
+marks_later : (b : ℕ) (bytes : List ℕ) → b < 0x100 → (b ≡ 0 → ⊥) → IsMarked bytes → IsMarked (b ∷ bytes)
+marks_later b bytes l n h d k e =
+    let step = marked_cons d (d / 0x100) (d % 0x100) b bytes (omega arith) (omega arith) in
+    let r : d % 0x100 ≡ b - 1 = omega (arith, e) in
+    let low = ap (λ x. bit_and (bit_and x (0xFF - b)) 0x80) r ∙ unmarked_byte b l n in
+    let later = h (d / 0x100) k (omega (arith, e)) in (
+      (λ some. any_there (λ b. b ≡ 0) b bytes (later.0 (λ none. some (omega (arith, step, low, none))))),
+      (λ p none. ⊎_elim n (λ q. later.1 q (omega (arith, step, low, none))) (any_cons (λ b. b ≡ 0) b bytes p)),
+    )
+
+-- Some byte is 0 exactly where the difference has a mark.
+zero_marks : (bytes : List ℕ) → AreBytes bytes → IsMarked bytes
+zero_marks [] h = λ d k e. ((λ n. absurd (n (and_zero_r _))), (λ p. absurd (any_nil (λ b. b ≡ 0) p)))
+zero_marks (b ∷ bytes) h =
+    ⊎_elim (λ z. marks_zero b bytes h.0 z) (λ n. marks_later b bytes h.0 n (zero_marks bytes h.1)) (cases_eq b 0)
+
+-- A word is that of its bytes.
+word_of_bytes : (w : ℕ) → w < 2 ^ 64 → word_of (to_le_bytes w64 w) ≡ w
+word_of_bytes w l = omega arith
+
+-- The bytes of a word are bytes.
+are_bytes : (w : ℕ) → AreBytes (to_le_bytes w64 w)
+are_bytes w =
+    (omega arith, (omega arith, (omega arith, (omega arith, (omega arith, (omega arith, (omega arith, (omega arith, tt))))))))
+
+-- A word and its inverse have every bit.
+inverse : (bytes : List ℕ) → AreBytes bytes → word_of bytes + inverted bytes ≡ each 0xFF bytes
+inverse [] h = refl
+inverse (b ∷ bytes) h = omega (arith, inverse bytes h.1)
+
+-- The test of a word tells whether one of its bytes is 0.
+pub zero_test : (w : ℕ) → w < 2 ^ 64 →
+    IsTrue (not (eqb (bit_and (bit_and ((w + 0xFEFEFEFEFEFEFEFF) % 2 ^ 64) (0xFFFFFFFFFFFFFFFF - w)) 0x8080808080808080) 0))
+    ↔ Any (λ b. b ≡ 0) (to_le_bytes w64 w)
+zero_test w l =
+    let d = (w + 0xFEFEFEFEFEFEFEFF) % 2 ^ 64 in
+    let bytes = to_le_bytes w64 w in
+    let word = word_of_bytes w l in
+    let flipped : inverted bytes ≡ 0xFFFFFFFFFFFFFFFF - w = omega (arith, inverse bytes (are_bytes w), word) in
+    let tells = zero_marks bytes (are_bytes w) d (1 - (w + 0xFEFEFEFEFEFEFEFF) / 2 ^ 64) (omega (arith, word)) in
+    let same : marked d bytes ≡ bit_and (bit_and d (0xFFFFFFFFFFFFFFFF - w)) 0x8080808080808080 =
+    ap (λ x. bit_and (bit_and d x) 0x8080808080808080) flipped in (
+      (λ t. tells.0 (λ none. eqb-false _ _ (not-true _ t) (sym same ∙ none))),
+      (λ p. ap not (ne_eqb _ _ (λ none. tells.1 p (same ∙ none)))),
+    )
+
+-- What is left of a byte: 0 where its upper five bits are those of F0.
+abbrev masked : ℕ → ℕ
+masked b = bit_xor (bit_and b 0xF8) 0xF0
+
+masked_byte : (b : ℕ) → b < 0x100 → masked b < 0x100
+masked_byte b l = xor_of_8 (bit_and b 0xF8) 0xF0 (and_lt 8 b 0xF8 l (omega arith)) (omega arith)
+
+masked_bytes : (bytes : List ℕ) → AreBytes bytes → AreBytes (map masked bytes)
+masked_bytes [] h = tt
+masked_bytes (b ∷ bytes) h = (masked_byte b h.0, masked_bytes bytes h.1)
+
+-- a word's masks are those of its bytes
+masked_word : (bytes : List ℕ) → AreBytes bytes →
+    bit_xor (bit_and (word_of bytes) (each 0xF8 bytes)) (each 0xF0 bytes) ≡ word_of (map masked bytes)
+masked_word [] h = refl
+masked_word (b ∷ bytes) h =
+    ap (λ x. bit_xor x (each 0xF0 (b ∷ bytes))) (and_block 8 (word_of bytes) (each 0xF8 bytes) b 0xF8 h.0 (omega arith))
+    ∙ xor_block 8 (bit_and (word_of bytes) (each 0xF8 bytes)) (each 0xF0 bytes) (bit_and b 0xF8) 0xF0
+    (and_lt 8 b 0xF8 h.0 (omega arith)) (omega arith)
+    ∙ ap (λ x. x * 2 ^ 8 + masked b) (masked_word bytes h.1)
+
+-- the byte at a place
+byte_at : (bytes : List ℕ) → AreBytes bytes → (i : ℕ) → get_or bytes i 0 < 0x100
+byte_at [] h i = omega arith
+byte_at (b ∷ bytes) h zero = h.0
+byte_at (b ∷ bytes) h (suc i) = byte_at bytes h.1 i
+
+-- the masked bytes of a word are those of the masked word
+bytes_masked : (w : ℕ) → w < 2 ^ 64 →
+    to_le_bytes w64 (bit_xor (bit_and w 0xF8F8F8F8F8F8F8F8) 0xF0F0F0F0F0F0F0F0) ≡ map masked (to_le_bytes w64 w)
+bytes_masked w l =
+    let bytes = to_le_bytes w64 w in
+    let word = ap (λ x. bit_xor (bit_and x 0xF8F8F8F8F8F8F8F8) 0xF0F0F0F0F0F0F0F0) (sym (word_of_bytes w l))
+    ∙ masked_word bytes (are_bytes w) in
+    le_bytes_8 (map masked bytes) _ refl (byte_at (map masked bytes) (masked_bytes bytes (are_bytes w))) (word ∙ omega arith)
+
+-- a masked byte is 0 where the byte is F0 to F7
+four_masked : (b : ℕ) → b < 0x100 → (masked b ≡ 0) ↔ IsFour b
+four_masked b l =
+    let same = agree_below_at (λ b. eqb (masked b) 0) is_four 0x100 b refl l in
+    ((λ e. sym same ∙ eq-eqb _ _ e), (λ t. eqb-true _ _ (same ∙ t)))
+
+fours_masked : (bytes : List ℕ) → AreBytes bytes → Any (λ b. b ≡ 0) (map masked bytes) ↔ Any IsFour bytes
+fours_masked [] h = ((λ p. absurd (any_nil (λ b. b ≡ 0) p)), (λ p. absurd (any_nil IsFour p)))
+fours_masked (b ∷ bytes) h =
+    let here = four_masked b h.0 in
+    let there = fours_masked bytes h.1 in (
+      (λ p. ⊎_elim (λ z. any_here IsFour b bytes (here.0 z)) (λ q. any_there IsFour b bytes (there.0 q))
+          (any_cons (λ b. b ≡ 0) (masked b) (map masked bytes) p)),
+      (λ p. ⊎_elim (λ f. any_here (λ b. b ≡ 0) (masked b) (map masked bytes) (here.1 f))
+          (λ q. any_there (λ b. b ≡ 0) (masked b) (map masked bytes) (there.1 q)) (any_cons IsFour b bytes p)),
+    )
+
+-- Some byte of a word is F0 to F7 where one of the masked word is 0.
+pub four_test : (w : ℕ) → w < 2 ^ 64 →
+    Any (λ b. b ≡ 0) (to_le_bytes w64 (bit_xor (bit_and w 0xF8F8F8F8F8F8F8F8) 0xF0F0F0F0F0F0F0F0))
+    ↔ Any IsFour (to_le_bytes w64 w)
+four_test w l =
+    subst (λ bytes. Any (λ b. b ≡ 0) bytes ↔ Any IsFour (to_le_bytes w64 w)) (sym (bytes_masked w l))
+    (fours_masked (to_le_bytes w64 w) (are_bytes w))
+
+-- What a test says of a word it says of the bytes that the word was made of.
+pub tested : (class : ℕ → Bool) (word : ℕ) (bytes : List ℕ) (result : Bool) →
+    IsTrue result ↔ AnyIn class (to_le_bytes w64 word) → to_le_bytes w64 word ≡ bytes →
+    IsTrue result ↔ AnyIn class bytes
+tested class word bytes result h e = subst (λ bs. IsTrue result ↔ AnyIn class bs) e h

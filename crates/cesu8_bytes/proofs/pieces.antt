@@ -1,0 +1,6 @@
+-- Text that is joined a piece at a time.
+pub mod TwoParts
+pub mod EncodedPiece
+pub mod Joining
+pub mod PairWords
+pub mod JoinedText

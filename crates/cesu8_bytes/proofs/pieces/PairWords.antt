@@ -1,0 +1,177 @@
+-- The words by which a surrogate pair is found and joined: its six bytes and two more.
+use Rattle.std.proofs.Common.{◌≡◌, ℕ, true, ◌&&◌, ◌+◌, ◌*◌, ◌/◌, ◌%◌, ◌^◌, ◌<◌, ◌≤◌, [], ◌∷◌, refl, sym, ap, ◌∙◌, arith, bit_and, eqb, leb, ltb, w32}
+use Rattle.std.specs.Int.{to_le_bytes}
+use Rattle.std.proofs.lemmas.Bool.{agree_below_at, eq-eqb, eqb-true, and_parts, and_from, le-leb, lt-ltb, leb-true, ltb-true}
+use Rattle.std.proofs.lemmas.Nat.{and_mask, and_block, and_le_r}
+use Rattle.cesu8_text.specs.Text.{utf8_of}
+use Rattle.cesu8_text.specs.Patterns.{EndsPair}
+use Rattle.cesu8_bytes.specs.Joining.{word_of}
+use Rattle.cesu8_text.proofs.text.Shapes.{IsPair, utf8_of_pair}
+
+-- a word's mask is that of each of its bytes
+masked : (a b d e g h more : ℕ) → a < 0x100 → b < 0x100 → d < 0x100 → e < 0x100 → g < 0x100 → h < 0x100 →
+    bit_and (word_of a b d e g h more) 0xC0F0FFC0F0FF
+    ≡ a + bit_and b 0xF0 * 0x100 + bit_and d 0xC0 * 0x10000 + e * 0x1000000 + bit_and g 0xF0 * 0x100000000 + bit_and h 0xC0 * 0x10000000000
+masked a b d e g h more a_byte b_byte d_byte e_byte g_byte h_byte =
+    let whole : word_of a b d e g h more
+    ≡ more * 2 ^ 48 + (h * 2 ^ 40 + (g * 2 ^ 32 + (e * 2 ^ 24 + (d * 2 ^ 16 + (b * 2 ^ 8 + a))))) = omega arith in
+    let all_a : bit_and a 0xFF ≡ a = omega (arith, and_mask a 8) in
+    let all_e : bit_and e 0xFF ≡ e = omega (arith, and_mask e 8) in
+    let none : bit_and more 0 ≡ 0 = omega (arith, and_le_r more 0) in
+    rw (
+      whole,
+      and_block 48 more 0 (h * 2 ^ 40 + (g * 2 ^ 32 + (e * 2 ^ 24 + (d * 2 ^ 16 + (b * 2 ^ 8 + a))))) 0xC0F0FFC0F0FF (omega arith) (omega arith),
+      and_block 40 h 0xC0 (g * 2 ^ 32 + (e * 2 ^ 24 + (d * 2 ^ 16 + (b * 2 ^ 8 + a)))) 0xF0FFC0F0FF (omega arith) (omega arith),
+      and_block 32 g 0xF0 (e * 2 ^ 24 + (d * 2 ^ 16 + (b * 2 ^ 8 + a))) 0xFFC0F0FF (omega arith) (omega arith),
+      and_block 24 e 0xFF (d * 2 ^ 16 + (b * 2 ^ 8 + a)) 0xC0F0FF (omega arith) (omega arith),
+      and_block 16 d 0xC0 (b * 2 ^ 8 + a) 0xF0FF (omega arith) (omega arith),
+      and_block 8 b 0xF0 a 0xFF (omega arith) (omega arith),
+      all_a,
+      all_e,
+      none,
+    ) (omega arith)
+
+-- a mask tests a range
+continuation_test : (x : ℕ) → x < 0x100 → eqb (bit_and x 0xC0) 0x80 ≡ (leb 0x80 x && ltb x 0xC0)
+continuation_test x h = agree_below_at (λ x. eqb (bit_and x 0xC0) 0x80) (λ x. leb 0x80 x && ltb x 0xC0) 0x100 x refl h
+
+low_surrogate_test : (x : ℕ) → x < 0x100 → eqb (bit_and x 0xF0) 0xB0 ≡ (leb 0xB0 x && ltb x 0xC0)
+low_surrogate_test x h = agree_below_at (λ x. eqb (bit_and x 0xF0) 0xB0) (λ x. leb 0xB0 x && ltb x 0xC0) 0x100 x refl h
+
+high_surrogate_test : (x : ℕ) → x < 0x100 → eqb (bit_and x 0xF0) 0xA0 ≡ (leb 0xA0 x && ltb x 0xB0)
+high_surrogate_test x h = agree_below_at (λ x. eqb (bit_and x 0xF0) 0xA0) (λ x. leb 0xA0 x && ltb x 0xB0) 0x100 x refl h
+
+between : (low high x : ℕ) → (leb low x && ltb x high) ≡ true → (low ≤ x) × (x < high)
+between low high x passes =
+    let parts = and_parts (leb low x) (ltb x high) passes in
+    (leb-true low x parts.0, ltb-true x high parts.1)
+
+-- The six bytes of a surrogate pair, if their word passes the test.
+pub record IsPairBytes (a b d e g h : ℕ) : Type 0 where
+  pub lead : a ≡ 0xED
+  pub high : (0xA0 ≤ b) × (b < 0xB0)
+  pub ends : EndsPair d e g h
+
+pub word_is_pair : (a b d e g h more : ℕ) → a < 0x100 → b < 0x100 → d < 0x100 → e < 0x100 → g < 0x100 → h < 0x100 →
+    bit_and (word_of a b d e g h more) 0xC0F0FFC0F0FF
+    ≡ 0x80B0ED80A0ED → IsPairBytes a b d e g h
+word_is_pair a b d e g h more a_byte b_byte d_byte e_byte g_byte h_byte passes =
+    let sum = sym (masked a b d e g h more a_byte b_byte d_byte e_byte g_byte h_byte) ∙ passes in
+    let b_low : bit_and b 0xF0 ≤ 0xF0 = and_le_r b 0xF0 in
+    let d_low : bit_and d 0xC0 ≤ 0xC0 = and_le_r d 0xC0 in
+    let g_low : bit_and g 0xF0 ≤ 0xF0 = and_le_r g 0xF0 in
+    let h_low : bit_and h 0xC0 ≤ 0xC0 = and_le_r h 0xC0 in
+    let b_top : bit_and b 0xF0 ≡ 0xA0 = omega arith in
+    let d_top : bit_and d 0xC0 ≡ 0x80 = omega arith in
+    let g_top : bit_and g 0xF0 ≡ 0xB0 = omega arith in
+    let h_top : bit_and h 0xC0 ≡ 0x80 = omega arith in
+    record {
+      lead = omega arith;
+      high = between 0xA0 0xB0 b (sym (high_surrogate_test b b_byte) ∙ eq-eqb _ _ b_top);
+      ends = (
+        between 0x80 0xC0 d (sym (continuation_test d d_byte) ∙ eq-eqb _ _ d_top),
+        omega arith,
+        between 0xB0 0xC0 g (sym (low_surrogate_test g g_byte) ∙ eq-eqb _ _ g_top),
+        between 0x80 0xC0 h (sym (continuation_test h h_byte) ∙ eq-eqb _ _ h_top),
+      );
+    }
+
+within : (low high x : ℕ) → (low ≤ x) × (x < high) → (leb low x && ltb x high) ≡ true
+within low high x inside = and_from (leb low x) (ltb x high) (le-leb low x inside.0) (lt-ltb x high inside.1)
+
+-- The word of these bytes passes.
+pub pair_is_word : (a b d e g h more : ℕ) → a < 0x100 → b < 0x100 → d < 0x100 → e < 0x100 → g < 0x100 → h < 0x100 →
+    IsPairBytes a b d e g h → bit_and (word_of a b d e g h more) 0xC0F0FFC0F0FF ≡ 0x80B0ED80A0ED
+pair_is_word a b d e g h more a_byte b_byte d_byte e_byte g_byte h_byte pair =
+    let b_top : bit_and b 0xF0 ≡ 0xA0 = eqb-true _ _ (high_surrogate_test b b_byte ∙ within 0xA0 0xB0 b pair.high) in
+    let d_top : bit_and d 0xC0 ≡ 0x80 = eqb-true _ _ (continuation_test d d_byte ∙ within 0x80 0xC0 d pair.ends.0) in
+    let g_top : bit_and g 0xF0 ≡ 0xB0 = eqb-true _ _ (low_surrogate_test g g_byte ∙ within 0xB0 0xC0 g pair.ends.2) in
+    let h_top : bit_and h 0xC0 ≡ 0x80 = eqb-true _ _ (continuation_test h h_byte ∙ within 0x80 0xC0 h pair.ends.3) in
+    masked a b d e g h more a_byte b_byte d_byte e_byte g_byte h_byte ∙ rw (b_top, d_top, g_top, h_top) (omega (arith, pair.lead, pair.ends.1))
+
+-- The word of the UTF-8 that the word of a surrogate pair is joined to.
+abbrev joined_word : ℕ → ℕ
+joined_word word =
+    0x808080F0 + bit_and ((word + 0x100) % 2 ^ 64 / 2 ^ 10) 0x0F07
+    + bit_and ((word + 0x100) % 2 ^ 64) 0x30300 * 2 ^ 4 % 2 ^ 64
+    + bit_and ((word + 0x100) % 2 ^ 64 / 2 ^ 16) 0x3F0F0000
+
+-- A word has its bytes.
+bytes_of_word : (p q r s : ℕ) → p < 0x100 → q < 0x100 → r < 0x100 → s < 0x100 →
+    to_le_bytes w32 (p + q * 0x100 + r * 0x10000 + s * 0x1000000) ≡ p ∷ q ∷ r ∷ s ∷ []
+bytes_of_word p q r s p_byte q_byte r_byte s_byte =
+    let p_is : (p + q * 0x100 + r * 0x10000 + s * 0x1000000) % 0x100 ≡ p = omega arith in
+    let q_is : (p + q * 0x100 + r * 0x10000 + s * 0x1000000) / 0x100 % 0x100 ≡ q = omega arith in
+    let r_is : (p + q * 0x100 + r * 0x10000 + s * 0x1000000) / 0x10000 % 0x100 ≡ r = omega arith in
+    let s_is : (p + q * 0x100 + r * 0x10000 + s * 0x1000000) / 0x1000000 % 0x100 ≡ s = omega arith in
+    rw (p_is, q_is, r_is, s_is) refl
+
+-- The digits that move by ten bits, by four the other way, and by sixteen.
+module _ (a w x e y z more : ℕ) (a_byte : a < 0x100) (w_low : w < 0x10) (x_low : x < 0x40)
+    (e_byte : e < 0x100) (y_low : y < 0x10) (z_low : z < 0x40) where
+  abbrev word : ℕ
+  word = word_of a (0xA1 + w) (0x80 + x) e (0xB0 + y) (0x80 + z) more
+
+  by_ten : bit_and (word / 2 ^ 10) 0x0F07 ≡ (w + 1) / 4 + x / 4 * 0x100
+  by_ten =
+      let high = (0x80 + x) / 4 + e * 0x40 + (0xB0 + y) * 0x4000 + (0x80 + z) * 0x400000 + more * 0x40000000 in
+      let low = (0xA1 + w) / 4 + x % 4 * 0x40 in
+      let parts : word / 2 ^ 10 ≡ high * 2 ^ 8 + low = omega arith in
+      let x_is : bit_and high 0x0F ≡ x / 4 = omega (arith, and_mask high 4) in
+      let w_is : bit_and low 7 ≡ (w + 1) / 4 = omega (arith, and_mask low 3) in
+      rw (parts, and_block 8 high 0x0F low 7 (omega arith) (omega arith), x_is, w_is) (omega arith)
+
+  by_four : bit_and word 0x30300 ≡ (w + 1) % 4 * 0x100 + x % 4 * 0x10000
+  by_four =
+      let high = (0x80 + x) + e * 0x100 + (0xB0 + y) * 0x10000 + (0x80 + z) * 0x1000000 + more * 0x100000000 in
+      let parts : word ≡ high * 2 ^ 16 + ((0xA1 + w) * 2 ^ 8 + a) = omega arith in
+      let x_is : bit_and high 3 ≡ x % 4 = omega (arith, and_mask high 2) in
+      let w_is : bit_and (0xA1 + w) 3 ≡ (w + 1) % 4 = omega (arith, and_mask (0xA1 + w) 2) in
+      let none : bit_and a 0 ≡ 0 = omega (arith, and_le_r a 0) in
+      rw (
+        parts,
+        and_block 16 high 3 ((0xA1 + w) * 2 ^ 8 + a) 0x300 (omega arith) (omega arith),
+        and_block 8 (0xA1 + w) 3 a 0 (omega arith) (omega arith),
+        x_is,
+        w_is,
+        none,
+      ) (omega arith)
+
+  by_sixteen : bit_and (word / 2 ^ 16) 0x3F0F0000 ≡ y * 0x10000 + z * 0x1000000
+  by_sixteen =
+      let high = (0x80 + z) + more * 0x100 in
+      let low = (0x80 + x) + e * 0x100 in
+      let parts : word / 2 ^ 16 ≡ high * 2 ^ 24 + ((0xB0 + y) * 2 ^ 16 + low) = omega arith in
+      let z_is : bit_and high 0x3F ≡ z = omega (arith, and_mask high 6) in
+      let y_is : bit_and (0xB0 + y) 0x0F ≡ y = omega (arith, and_mask (0xB0 + y) 4) in
+      let none : bit_and low 0 ≡ 0 = omega (arith, and_le_r low 0) in
+      rw (
+        parts,
+        and_block 24 high 0x3F ((0xB0 + y) * 2 ^ 16 + low) 0x0F0000 (omega arith) (omega arith),
+        and_block 16 (0xB0 + y) 0x0F low 0 (omega arith) (omega arith),
+        z_is,
+        y_is,
+        none,
+      ) (omega arith)
+
+-- Its bytes are the UTF-8 of the character.
+pub joined_word_is : (c w x y z a e more word : ℕ) → IsPair c w x y z → a < 0x100 → e < 0x100 → more < 0x10000 →
+    word ≡ word_of a (0xA0 + w) (0x80 + x) e (0xB0 + y) (0x80 + z) more → to_le_bytes w32 (joined_word word) ≡ utf8_of c
+joined_word_is c w x y z a e more word digits a_byte e_byte more_low word_is =
+    let w_low = digits.first in
+    let x_low = digits.second in
+    let y_low = digits.third in
+    let z_low = digits.last in
+    let next : (word + 0x100) % 2 ^ 64 ≡ word_of a (0xA1 + w) (0x80 + x) e (0xB0 + y) (0x80 + z) more = omega arith in
+    let moved : ((w + 1) % 4 * 0x100 + x % 4 * 0x10000) * 2 ^ 4 % 2 ^ 64 ≡ (w + 1) % 4 * 0x1000 + x % 4 * 0x100000 = omega arith in
+    let flat : 0x808080F0 + ((w + 1) / 4 + x / 4 * 0x100) + ((w + 1) % 4 * 0x1000 + x % 4 * 0x100000) + (y * 0x10000 + z * 0x1000000)
+    ≡ 0xF0 + (w + 1) / 4 + (0x80 + ((w + 1) % 4 * 0x10 + x / 4)) * 0x100 + (0x80 + (x % 4 * 0x10 + y)) * 0x10000 + (0x80 + z) * 0x1000000 =
+    omega arith in
+    rw (
+      next,
+      by_ten a w x e y z more a_byte w_low x_low e_byte y_low z_low,
+      by_four a w x e y z more a_byte w_low x_low e_byte y_low z_low,
+      by_sixteen a w x e y z more a_byte w_low x_low e_byte y_low z_low,
+      moved,
+      utf8_of_pair c w x y z digits,
+    ) (ap (to_le_bytes w32) flat ∙ bytes_of_word _ _ _ _ (omega arith) (omega arith) (omega arith) (omega arith))

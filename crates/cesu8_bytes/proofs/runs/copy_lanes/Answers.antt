@@ -1,0 +1,36 @@
+use Rattle.std.proofs.Common.{◌≡◌, ℕ, Bool, List, ◌<◌, ◌≤◌, not, length, take, get_or, arith, ◌∙◌, sym, ap}
+use Rattle.std.specs.List.{prefix_len}
+use Rattle.std.proofs.lemmas.Bool.{not-true}
+use Rattle.std.proofs.lemmas.List.{length-take-le, get_or-take}
+use Rattle.std.proofs.lemmas.List.Sums.{prefix_len-le-length, prefix_len_passes}
+use Rattle.cesu8_bytes.proofs.lists.Stored.{run_stored, behind_stored}
+use Rattle.cesu8_bytes.proofs.runs.copy_lanes.Goals as goal
+
+-- No more lanes precede one than there are.
+few : (class : ℕ → Bool) (bytes : List ℕ) (n run : ℕ) → n ≤ length bytes → run ≡ prefix_len (λ b. not (class b)) (take n bytes) → run ≤ n
+few class bytes n run long is =
+    omega (arith, prefix_len-le-length (λ b. not (class b)) (take n bytes), length-take-le n bytes long)
+
+pub returns-clause-within : goal.returns-clause-within
+returns-clause-within g c =
+    few g.C.Class.class c.args.bytes.now g.row.N c.lanes_before.result c.requires.lanes.1 c.lanes_before.ensures
+
+pub returns-clause-run : goal.returns-clause-run
+returns-clause-run g c i before =
+    let class = g.C.Class.class in
+    let bytes = c.args.bytes.now in
+    let within : i < g.row.N = omega (arith, few class bytes g.row.N c.lanes_before.result c.requires.lanes.1 c.lanes_before.ensures) in
+    not-true (class (get_or bytes i 0))
+    (ap (λ b. not (class b)) (sym (get_or-take g.row.N bytes i 0 within))
+    ∙ prefix_len_passes (λ b. not (class b)) (take g.row.N bytes) i 0 (omega (arith, c.lanes_before.ensures)))
+
+pub returns-clause-bytes : goal.returns-clause-bytes
+returns-clause-bytes g c =
+    let bytes = c.args.bytes.now in
+    run_stored c.args.at g.row.N c.lanes_before.result bytes c.args.out.now c.requires.room c.requires.lanes.1
+    (few g.C.Class.class bytes g.row.N c.lanes_before.result c.requires.lanes.1 c.lanes_before.ensures)
+
+pub returns-clause-behind : goal.returns-clause-behind
+returns-clause-behind g c m later =
+    behind_stored c.args.at m c.args.out.now (take g.row.N c.args.bytes.now)
+    (omega (arith, later, length-take-le g.row.N c.args.bytes.now c.requires.lanes.1))

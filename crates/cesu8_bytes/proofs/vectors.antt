@@ -1,0 +1,5 @@
+-- Vectors that both directions use: loads, rows of eight lanes, tables of shuffles, and counts.
+pub mod Loads
+pub mod Rows
+pub mod Tables
+pub mod Counts

@@ -1,0 +1,183 @@
+-- By how much an encoding is longer than its UTF-8: by parts, and by marks.
+use Rattle.std.proofs.Common.{◌≡◌, ℕ, ◌+◌, ◌-◌, ◌*◌, ◌<◌, ◌≤◌, Bool, true, false, cond, List, [], ◌∷◌, length, map, take, drop, replicate, refl, sym, ap, ◌∙◌, subst, arith, count_by, sum_by, count_ones, ◌/◌, ◌^◌, Fits, w8, w32}
+use lib.Lanes.{zip2, sel_l, top, mask_l, sum_l, fold_l, chunk, products, dots, Each1, Each2, Steps}
+use mir.Val.{of_z}
+use Rattle.std.specs.Prelude.{ℤ}
+use Rattle.std.proofs.lemmas.List.{length-map, length-drop, drop-drop, drop-map, take_all}
+use Rattle.std.proofs.lemmas.Simd.{length-replicate, Each2-of, Each1-zip2, sum-zip2, length-zip2, length-chunk, sum_bound, sum_dots, sum_by-ones, sum_fits, fold-sum, bytes_below, ones-mask_l}
+use Rattle.std.proofs.lemmas.Bool.Decides.{nat_tests}
+use Rattle.std.proofs.lemmas.List.Sums.{sum_by-cons, sum_by-take-drop}
+use Rattle.cesu8_text.specs.Class.{is_four, growth_of, is_null}
+use Rattle.cesu8_text.specs.Encoding.{Flavor, Cesu8, Mutf8}
+use Rattle.cesu8_bytes.proofs.vectors.Rows.{mask_rest}
+use Rattle.cesu8_bytes.proofs.lists.Classes.{marks_of, chosen_by_marks}
+
+-- ---- what bytes add
+
+doubled_one : (t : Bool) → 2 * cond t 1 0 ≡ cond t 2 0
+doubled_one true = refl
+doubled_one false = refl
+
+-- Those of the class of nulls add one each, and those that lead four add two.
+pub growth_by_counts : (f : Flavor) (nulls : ℕ → Bool) → nulls ≡ is_null f → (bytes : List ℕ) →
+    count_by nulls bytes + 2 * count_by is_four bytes ≡ sum_by (growth_of f) bytes
+growth_by_counts f nulls are [] = refl
+growth_by_counts f nulls are (b ∷ bytes) =
+    omega (
+      arith,
+      sum_by-cons (λ b. cond (nulls b) 1 0) b bytes,
+      sum_by-cons (λ b. cond (is_four b) 1 0) b bytes,
+      sum_by-cons (growth_of f) b bytes,
+      ap {B = ℕ} (λ p. cond (p b) 1 0) are,
+      doubled_one (is_four b),
+      growth_by_counts f nulls are bytes,
+    )
+
+two_at_most : (f : Flavor) (b : ℕ) → growth_of f b ≤ 2
+two_at_most Cesu8 b = grind (arith, nat_tests)
+two_at_most Mutf8 b = grind (arith, nat_tests)
+
+-- No byte adds more than two.
+pub growth_bound : (f : Flavor) (bytes : List ℕ) → sum_by (growth_of f) bytes ≤ 2 * length bytes
+growth_bound f [] = omega arith
+growth_bound f (b ∷ bytes) = omega (arith, sum_by-cons (growth_of f) b bytes, two_at_most f b, growth_bound f bytes)
+
+-- ---- sums by parts
+
+-- A chunk's sum and that of the elements after it make up the sum of both.
+pub sum_by_chunk : (f : ℕ → ℕ) (n : ℕ) (xs chunk after : List ℕ) (so_far here whole : ℕ) →
+    chunk ≡ take n xs → after ≡ drop n xs → here ≡ sum_by f chunk → so_far + sum_by f xs ≡ whole →
+    so_far + here + sum_by f after ≡ whole
+sum_by_chunk f n xs chunk after so_far here whole front back summed known =
+    omega (arith, sum_by-take-drop f xs n, summed ∙ ap (sum_by f) front, ap (sum_by f) back)
+
+-- The sum of the first n elements and that of the others make up the sum of all.
+pub sum_by_parts : (f : ℕ → ℕ) (xs : List ℕ) (n front back : ℕ) → front ≡ sum_by f (take n xs) → back ≡ sum_by f (drop n xs) →
+    front + back ≡ sum_by f xs
+sum_by_parts f xs n front back front_is back_is = omega (arith, front_is, back_is, sum_by-take-drop f xs n)
+
+-- With n elements more.
+pub sum_by_next : (f : ℕ → ℕ) (xs : List ℕ) (a n : ℕ) → sum_by f (take a xs) + sum_by f (chunk a n xs) ≡ sum_by f (take (a + n) xs)
+sum_by_next f xs a n =
+    omega (
+      arith,
+      sum_by-take-drop f xs a,
+      sum_by-take-drop f (drop a xs) n,
+      sum_by-take-drop f xs (a + n),
+      ap (sum_by f) (drop-drop n a xs),
+    )
+
+-- The last n elements without those before the last k.
+pub last_of_last : {X : Type 0} (xs : List X) (n k : ℕ) → k ≤ n → n ≤ length xs → drop (n - k) (chunk (length xs - n) n xs) ≡ drop (length xs - k) xs
+last_of_last xs n k few within =
+    let start : length xs - n + (n - k) ≡ length xs - k = omega (arith, few, within) in
+    ap (drop (n - k)) (take_all n (drop (length xs - n) xs) (omega (arith, length-drop (length xs - n) xs)))
+    ∙ drop-drop (n - k) (length xs - n) xs ∙ ap (λ m. drop m xs) start
+
+-- ---- bits of marks
+
+-- The bits of a mask behind the first n are as many as the elements behind these that pass.
+pub bits_behind : (p : ℕ → Bool) (xs : List ℕ) (n bits : ℕ) → n ≤ length xs → bits ≡ mask_l (map p xs) → count_ones (bits / 2 ^ n) ≡ count_by p (drop n xs)
+bits_behind p xs n bits le is =
+    ap (λ b. count_ones (b / 2 ^ n)) is
+    ∙ ap count_ones (mask_rest n (map p xs) (omega (arith, length-map xs p)) ∙ ap mask_l (drop-map p n xs))
+    ∙ ones-mask_l p (drop n xs)
+
+-- ---- lanes that count their own bytes
+
+-- A one for each element that passes.
+abbrev pub ones : (ℕ → Bool) → List ℕ → List ℕ
+ones p xs = map (λ x. cond (p x) 1 0) xs
+
+one_low : (t : Bool) → cond t 1 0 ≤ 1
+one_low true = omega arith
+one_low false = omega arith
+
+ones_low : (p : ℕ → Bool) (xs : List ℕ) → Each1 (λ a. a ≤ 1) (ones p xs)
+ones_low p [] = tt
+ones_low p (x ∷ xs) = (one_low (p x), ones_low p xs)
+
+ones_total : (p : ℕ → Bool) (xs : List ℕ) → sum_l (ones p xs) ≡ count_by p xs
+ones_total p [] = refl
+ones_total p (x ∷ xs) = ap (λ n. cond (p x) 1 0 + n) (ones_total p xs) ∙ sym (sum_by-cons (λ y. cond (p y) 1 0) x xs)
+
+-- After n vectors of a block each lane has counted at most n bytes, and all lanes those of the class.
+pub record HaveCounted (p : ℕ → Bool) (block : List ℕ) (n : ℕ) (lanes : List ℕ) : Type 0 where
+  pub long : length lanes ≡ 64
+  pub low : Each1 (λ a. a ≤ n) lanes
+  pub total : sum_l lanes ≡ count_by p (take (64 * n) block)
+
+module _ (p : ℕ → Bool) (block : List ℕ) (n : ℕ) (lanes : List ℕ) (marks : List ℤ) (have : HaveCounted p block n lanes)
+    (marked : marks ≡ marks_of p (chunk (64 * n) 64 block)) (room : 64 * n + 64 ≤ length block) where
+  abbrev more : List ℕ
+  more = sel_l (map (top 7) (map (of_z w8) marks)) (replicate 64 1) (replicate 64 0)
+
+  ones_of_next : more ≡ ones p (chunk (64 * n) 64 block)
+  ones_of_next = chosen_by_marks p 64 1 0 (chunk (64 * n) 64 block) marks marked (length-chunk (64 * n) 64 block room)
+
+  more_long : length more ≡ 64
+  more_long = ap length ones_of_next ∙ length-map (chunk (64 * n) 64 block) (λ x. cond (p x) 1 0) ∙ length-chunk (64 * n) 64 block room
+
+  more_low : Each1 (λ a. a ≤ 1) more
+  more_low = subst (Each1 (λ a. a ≤ 1)) (sym ones_of_next) (ones_low p (chunk (64 * n) 64 block))
+
+  -- A lane has room for one more.
+  pub one_more_fits : n < 255 → Each2 (λ a b. Fits w8 (a + b)) lanes more
+  one_more_fits few =
+      Each2-of (λ a. a ≤ n) (λ b. b ≤ 1) (λ a b. Fits w8 (a + b)) (λ a b h k. record { fits = omega (arith, h, k, few) }) lanes more have.low more_low
+
+  total_more : sum_l (zip2 (λ a b. a + b) lanes more) ≡ count_by p (take (64 * n + 64) block)
+  total_more =
+      let here = sum_by-take-drop (λ y. cond (p y) 1 0) block (64 * n) in
+      let next = sum_by-take-drop (λ y. cond (p y) 1 0) (drop (64 * n) block) 64 in
+      let past = sum_by-take-drop (λ y. cond (p y) 1 0) block (64 * n + 64) in
+      let more_total : sum_l more ≡ count_by p (chunk (64 * n) 64 block) = ap sum_l ones_of_next ∙ ones_total p (chunk (64 * n) 64 block) in
+      omega (
+        arith,
+        sum-zip2 lanes more (have.long ∙ sym more_long),
+        have.total,
+        more_total,
+        here,
+        next,
+        past,
+        ap (count_by p) (drop-drop 64 (64 * n) block),
+      )
+
+  -- One vector more is counted.
+  pub counted_more : HaveCounted p block (n + 1) (zip2 (λ a b. a + b) lanes more)
+  counted_more =
+      let next : 64 * n + 64 ≡ 64 * (n + 1) = omega arith in
+      record {
+        long = length-zip2 (λ a b. a + b) lanes more (have.long ∙ sym more_long) ∙ have.long;
+        low = Each1-zip2 (λ a b. a + b) (λ a. a ≤ n + 1) lanes more
+            (Each2-of (λ a. a ≤ n) (λ b. b ≤ 1) (λ a b. a + b ≤ n + 1) (λ a b h k. omega (arith, h, k)) lanes more have.low more_low);
+        total = total_more ∙ ap (λ m. count_by p (take m block)) next;
+      }
+
+-- All vectors of a block have counted all that its bytes add.
+pub block_counted : (f : Flavor) (class : ℕ → Bool) → class ≡ is_null f → (block : List ℕ) (n : ℕ) (nulls fours : List ℕ) →
+    length block ≤ 64 * n → HaveCounted class block n nulls → HaveCounted is_four block n fours →
+    sum_l nulls + 2 * sum_l fours ≡ sum_by (growth_of f) block
+block_counted f class are block n nulls fours whole of_class of_four =
+    let all = take_all (64 * n) block whole in
+    omega (
+      arith,
+      of_class.total ∙ ap (count_by class) all,
+      of_four.total ∙ ap (count_by is_four) all,
+      growth_by_counts f class are block,
+    )
+
+-- The sum of dot products with ones is the sum of the lanes, which fits.
+module _ (n : ℕ) (few : n ≤ 16) (lanes : List ℕ) (long : length lanes ≡ 4 * n) (fits : Each1 (Fits w8) lanes) where
+  dots_total : sum_l (dots lanes (replicate (4 * n) 1)) ≡ sum_l lanes
+  dots_total =
+      (sum_dots n lanes (replicate (4 * n) 1) long (length-replicate (4 * n) 1)).0
+      ∙ subst (λ k. sum_l (products lanes (replicate k 1)) ≡ sum_l lanes) long (sum_by-ones lanes)
+
+  pub dots_sum_fits : Steps (λ s x. Fits w32 (s + x)) (λ s x. s + x) 0 (dots lanes (replicate (4 * n) 1))
+  dots_sum_fits =
+      let low = sum_bound 255 lanes (bytes_below lanes fits) in
+      sum_fits w32 0 (dots lanes (replicate (4 * n) 1)) (omega (arith, dots_total, low, long))
+
+  pub dots_sum : fold_l (λ s x. s + x) 0 (dots lanes (replicate (4 * n) 1)) ≡ sum_l lanes
+  dots_sum = omega (arith, fold-sum 0 (dots lanes (replicate (4 * n) 1)), dots_total)

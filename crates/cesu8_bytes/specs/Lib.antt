@@ -1,0 +1,5 @@
+pub mod Internal
+pub mod Kernels
+pub mod Joining
+pub mod Pieces
+pub mod Puts

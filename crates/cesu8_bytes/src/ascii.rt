@@ -1,0 +1,42 @@
+//! Short values of ASCII, the most frequent ones. ASCII is always UTF-8, so they need no UTF-8
+//! test.
+//!
+//! Only this module uses `percent_encoding`, which returns ASCII as a text.
+
+ghost use Rattle.std.specs.Prelude.{◌≡◌, IsTrue, Any};
+ghost use Rattle.std.specs.Str.{IsAscii};
+ghost use Rattle.cesu8_text.specs.Class.{IsChangedByte};
+ghost use Rattle.cesu8_bytes.specs.Internal.{flavor_of};
+
+use crate::implementation::class::{High, NullHigh};
+use crate::implementation::short::{SHORT, any_in_short};
+use crate::options::Flavor;
+
+/// Returns whether the bytes are few and all ASCII.
+#[inline(always)]
+pub fn is_short_ascii(bytes: &[u8]) -> bool
+    ensures { IsTrue result → IsAscii bytes.now }
+{
+    bytes.len() <= SHORT && !any_in_short::<High>(bytes)
+}
+
+/// Returns whether the bytes are few and all ASCII that does not change.
+#[inline(always)]
+pub fn is_short_unchanged_ascii(flavor: Flavor, bytes: &[u8]) -> bool
+    ensures ascii { IsTrue result → IsAscii bytes.now }
+    ensures unchanged { IsTrue result → ¬ (Any (IsChangedByte (flavor_of flavor)) bytes.now) }
+{
+    match flavor {
+        Flavor::Cesu8 => is_short_ascii(bytes),
+        Flavor::Mutf8 => bytes.len() <= SHORT && !any_in_short::<NullHigh>(bytes),
+    }
+}
+
+/// Returns ASCII as a text.
+#[inline(always)]
+pub fn ascii_text(bytes: &[u8]) -> &str
+    requires { IsAscii bytes.now }
+    ensures { result.now ≡ bytes.now }
+{
+    percent_encoding::ascii_str(bytes)
+}

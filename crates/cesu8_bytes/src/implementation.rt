@@ -1,0 +1,16 @@
+//! The kernels, which find whether bytes have one that encoding changes, and the classes of bytes.
+
+pub mod class;
+pub mod count;
+pub mod fallback;
+pub mod groups;
+pub mod short;
+pub mod simd;
+pub mod word;
+
+/// The kernels that the calls of the crate use.
+pub mod active {
+    pub use super::simd::{
+        contains_null_or_utf8_4_byte_char_header, contains_utf8_4_byte_char_header,
+    };
+}

@@ -1,0 +1,210 @@
+//! Classes of bytes, which vectors of each width mark.
+
+ghost use Rattle.std.specs.Prelude.{◌≡◌, ◌==◌, ◌≤◌, ◌↔◌, ℕ, Bool, false, IsTrue, Any, map};
+ghost use Rattle.std.specs.Simd.Lanes.{mask_l};
+ghost use Rattle.cesu8_text.specs.Class.{is_four, is_null_four, is_high, is_null_high, is_null_lead, is_lead};
+ghost use Rattle.cesu8_bytes.specs.Kernels.{AnyIn, lane};
+
+use std::simd::Mask;
+use std::simd::prelude::*;
+
+/// The most bytes that a vector has.
+pub const LANES: usize = 64;
+
+/// A class of bytes.
+pub trait Class {
+    ghost class: { ℕ → Bool };
+}
+
+/// A class that is found by vectors of `N` bytes.
+pub trait InVectors<const N: usize>: Class {
+    /// Marks the bytes of the class.
+    fn marks(bytes: Simd<u8, N>) -> Mask<i8, N>
+        ensures { result ≡ map (λ b. lane (Self.class b)) bytes.entry };
+}
+
+/// A class that is found by vectors of each width.
+pub trait InAllVectors: InVectors<LANES>
+    + InVectors<32>
+    + InVectors<16>
+    + InVectors<8>
+    + InVectors<4>
+    + InVectors<2>
+    + InVectors<1> {}
+
+/// Returns whether some byte is in the class.
+#[inline(always)]
+pub fn has<C: InVectors<N>, const N: usize>(bytes: Simd<u8, N>) -> bool
+    requires { N ≤ LANES }
+    ensures { IsTrue result ↔ AnyIn C.class bytes.entry }
+{
+    C::marks(bytes).any()
+}
+
+/// Returns whether some byte of the chunks is in the class, by a test of each chunk.
+#[inline(always)]
+pub fn any_in_each<C: InVectors<N>, const N: usize>(chunks: &[[u8; N]]) -> bool
+    requires { N ≤ LANES }
+    ensures { IsTrue result ↔ Any (AnyIn C.class) chunks.now }
+{
+    for chunk in chunks {
+        if has::<C, N>(Simd::from_array(*chunk)) {
+            return true;
+        }
+    }
+    false
+}
+
+/// Returns a bit for each byte of the class.
+#[inline(always)]
+pub fn bits<C: InVectors<N>, const N: usize>(bytes: Simd<u8, N>) -> u64
+    requires { N ≤ LANES }
+    ensures { result ≡ mask_l (map C.class bytes.entry) }
+{
+    C::marks(bytes).to_bitmask()
+}
+
+/// No byte.
+pub struct NoByte;
+
+/// 00.
+pub struct Null;
+
+/// F0 to F7 (hexadecimal): those whose upper five bits are those of F0.
+pub struct Four;
+
+/// 00, or F0 to F7 (hexadecimal).
+pub struct NullFour;
+
+/// F0 (hexadecimal) or more.
+pub struct Lead;
+
+/// 00, or F0 (hexadecimal) or more.
+pub struct NullLead;
+
+/// 80 (hexadecimal) or more: what is not ASCII.
+pub struct High;
+
+/// 00, or 80 (hexadecimal) or more.
+pub struct NullHigh;
+
+impl Class for NoByte {
+    ghost class = { λ _. false };
+}
+
+impl<const N: usize> InVectors<N> for NoByte {
+    #[inline(always)]
+    fn marks(bytes: Simd<u8, N>) -> Mask<i8, N>
+        ensures { result ≡ map (λ b. lane false) bytes.entry }
+    {
+        let _ = bytes;
+        Mask::splat(false)
+    }
+}
+
+impl Class for Null {
+    ghost class = { λ b. b == 0 };
+}
+
+impl<const N: usize> InVectors<N> for Null {
+    #[inline(always)]
+    fn marks(bytes: Simd<u8, N>) -> Mask<i8, N>
+        ensures { result ≡ map (λ b. lane (b == 0)) bytes.entry }
+    {
+        bytes.simd_eq(Simd::splat(0))
+    }
+}
+
+impl Class for Four {
+    ghost class = { is_four };
+}
+
+impl<const N: usize> InVectors<N> for Four {
+    #[inline(always)]
+    fn marks(bytes: Simd<u8, N>) -> Mask<i8, N>
+        ensures { result ≡ map (λ b. lane (is_four b)) bytes.entry }
+    {
+        (bytes & Simd::splat(0xF8)).simd_eq(Simd::splat(0xF0))
+    }
+}
+
+impl Class for NullFour {
+    ghost class = { is_null_four };
+}
+
+impl<const N: usize> InVectors<N> for NullFour {
+    #[inline(always)]
+    fn marks(bytes: Simd<u8, N>) -> Mask<i8, N>
+        ensures { result ≡ map (λ b. lane (is_null_four b)) bytes.entry }
+    {
+        Null::marks(bytes) | Four::marks(bytes)
+    }
+}
+
+impl Class for Lead {
+    ghost class = { is_lead };
+}
+
+impl<const N: usize> InVectors<N> for Lead {
+    #[inline(always)]
+    fn marks(bytes: Simd<u8, N>) -> Mask<i8, N>
+        ensures { result ≡ map (λ b. lane (is_lead b)) bytes.entry }
+    {
+        bytes.simd_ge(Simd::splat(0xF0))
+    }
+}
+
+impl Class for NullLead {
+    ghost class = { is_null_lead };
+}
+
+impl<const N: usize> InVectors<N> for NullLead {
+    #[inline(always)]
+    fn marks(bytes: Simd<u8, N>) -> Mask<i8, N>
+        ensures { result ≡ map (λ b. lane (is_null_lead b)) bytes.entry }
+    {
+        Null::marks(bytes) | Lead::marks(bytes)
+    }
+}
+
+impl Class for High {
+    ghost class = { is_high };
+}
+
+impl<const N: usize> InVectors<N> for High {
+    #[inline(always)]
+    fn marks(bytes: Simd<u8, N>) -> Mask<i8, N>
+        ensures { result ≡ map (λ b. lane (is_high b)) bytes.entry }
+    {
+        bytes.simd_ge(Simd::splat(0x80))
+    }
+}
+
+impl Class for NullHigh {
+    ghost class = { is_null_high };
+}
+
+impl<const N: usize> InVectors<N> for NullHigh {
+    #[inline(always)]
+    fn marks(bytes: Simd<u8, N>) -> Mask<i8, N>
+        ensures { result ≡ map (λ b. lane (is_null_high b)) bytes.entry }
+    {
+        Null::marks(bytes) | High::marks(bytes)
+    }
+}
+
+impl InAllVectors for NoByte {}
+
+impl InAllVectors for Null {}
+
+impl InAllVectors for Four {}
+
+impl InAllVectors for NullFour {}
+
+impl InAllVectors for High {}
+
+impl InAllVectors for NullHigh {}
+
+impl InAllVectors for Lead {}
+
+impl InAllVectors for NullLead {}

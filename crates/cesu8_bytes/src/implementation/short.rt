@@ -1,0 +1,122 @@
+//! Short values, for which a loop for each vector width would cost more than the tests.
+//!
+//! Two vectors of one width, one at the front and one at the end, cover a value between that width
+//! and twice that. They overlap where needed, so no byte is left out.
+
+ghost use Rattle.std.specs.Prelude.{◌≡◌, ◌≤◌, ◌<◌, ◌*◌, ◌-◌, ◌↔◌, ◌++◌, IsTrue, length, drop};
+ghost use Rattle.cesu8_bytes.specs.Kernels.{AnyIn};
+
+use super::class::{InAllVectors, InVectors, LANES, any_in_each, bits, has};
+use std::simd::prelude::*;
+
+/// The most bytes that a short value has.
+pub const SHORT: usize = 4 * LANES;
+
+/// Returns whether some byte is in the class. It is correct for every length, and fast for short
+/// ones.
+#[inline(always)]
+pub fn any_in_short<C: InAllVectors>(bytes: &[u8]) -> bool
+    ensures { IsTrue result ↔ AnyIn C.class bytes.now }
+{
+    if bytes.len() > LANES {
+        return any_in_blocks::<C>(bytes);
+    }
+    if bytes.len() >= 32 {
+        return any_in_ends::<C, 32>(bytes);
+    }
+    if bytes.len() >= 16 {
+        return any_in_ends::<C, 16>(bytes);
+    }
+    if bytes.len() >= 8 {
+        return any_in_ends::<C, 8>(bytes);
+    }
+    if bytes.len() >= 4 {
+        return any_in_ends::<C, 4>(bytes);
+    }
+    if bytes.len() >= 2 {
+        return any_in_ends::<C, 2>(bytes);
+    }
+    !bytes.is_empty() && any_in_ends::<C, 1>(bytes)
+}
+
+/// Returns whether some byte is in the class, by a vector at the front and one at the end, which
+/// together cover all.
+#[inline(always)]
+fn any_in_ends<C: InVectors<N>, const N: usize>(bytes: &[u8]) -> bool
+    requires { (N ≤ LANES) × (N ≤ length bytes.now) × (length bytes.now ≤ 2 * N) }
+    ensures { IsTrue result ↔ AnyIn C.class bytes.now }
+{
+    let front: Simd<u8, N> = Simd::from_slice(bytes);
+    let end = end_vector::<N>(bytes);
+    has::<C, N>(front) | has::<C, N>(end)
+}
+
+/// Returns the vector that ends where the bytes do.
+#[inline(always)]
+fn end_vector<const N: usize>(bytes: &[u8]) -> Simd<u8, N>
+    requires { (N ≤ LANES) × (N ≤ length bytes.now) }
+    ensures { result ≡ drop (length bytes.now - N) bytes.now }
+{
+    Simd::from_slice(&bytes[bytes.len() - N..])
+}
+
+/// Returns whether some byte of a block is in the class, or of the last 64 bytes, which overlap the
+/// last block.
+#[inline(always)]
+fn any_in_blocks<C: InVectors<LANES>>(bytes: &[u8]) -> bool
+    requires { LANES ≤ length bytes.now }
+    ensures { IsTrue result ↔ AnyIn C.class bytes.now }
+{
+    let (blocks, _) = bytes.as_chunks::<LANES>();
+    let end = end_vector::<LANES>(bytes);
+    any_in_each::<C, LANES>(blocks) || has::<C, LANES>(end)
+}
+
+/// Counts the bytes in the class, in a vector at the front and one at the end. Bytes in both count
+/// once.
+#[inline(always)]
+pub fn count_in_ends<C: InVectors<N>, const N: usize>(bytes: &[u8]) -> usize
+    requires { (N ≤ LANES) × (N < length bytes.now) × (length bytes.now ≤ 2 * N) }
+{
+    let front: Simd<u8, N> = Simd::from_slice(bytes);
+    let end = end_vector::<N>(bytes);
+    let behind = bits::<C, N>(end) >> (2 * N - bytes.len());
+    (bits::<C, N>(front).count_ones() + behind.count_ones()) as usize
+}
+
+/// Copies bytes to the front of a buffer. It is correct for every length, and for short ones it takes
+/// less time than a call of `memmove`.
+#[inline(always)]
+pub fn copy_short(bytes: &[u8], buf: &mut [u8])
+    requires { length bytes.now ≤ length buf.old }
+    ensures { buf.new ≡ bytes.now ++ drop (length bytes.now) buf.old }
+{
+    if bytes.len() > LANES {
+        buf[..bytes.len()].copy_from_slice(bytes);
+    } else if bytes.len() >= 32 {
+        copy_ends::<32>(bytes, buf);
+    } else if bytes.len() >= 16 {
+        copy_ends::<16>(bytes, buf);
+    } else if bytes.len() >= 8 {
+        copy_ends::<8>(bytes, buf);
+    } else if bytes.len() >= 4 {
+        copy_ends::<4>(bytes, buf);
+    } else if bytes.len() >= 2 {
+        copy_ends::<2>(bytes, buf);
+    } else if !bytes.is_empty() {
+        copy_ends::<1>(bytes, buf);
+    }
+}
+
+/// The same by a vector at the front and one at the end.
+#[inline(always)]
+fn copy_ends<const N: usize>(bytes: &[u8], buf: &mut [u8])
+    requires lanes { (N ≤ LANES) × (N ≤ length bytes.now) × (length bytes.now ≤ 2 * N) }
+    requires room { length bytes.now ≤ length buf.old }
+    ensures { buf.new ≡ bytes.now ++ drop (length bytes.now) buf.old }
+{
+    let front: Simd<u8, N> = Simd::from_slice(bytes);
+    let end = end_vector::<N>(bytes);
+    front.copy_to_slice(buf);
+    end.copy_to_slice(&mut buf[bytes.len() - N..]);
+}

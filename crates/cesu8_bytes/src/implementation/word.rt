@@ -1,0 +1,169 @@
+//! Eight bytes at a time, as one word.
+//!
+//! A word has a byte 00 exactly where subtracting 1 from each byte sets the high bit of some byte
+//! that did not have it. Through the borrow, a byte 01 above a 00 may get its high bit too. So the
+//! test finds whether some byte is 00, but not which. A byte is F0 to F7 (hexadecimal) if its upper
+//! five bits are those of F0; flipping the bits of F0 makes them 00.
+
+ghost use Rattle.std.specs.Prelude.{◌≡◌, ◌<◌, ◌≤◌, ◌+◌, ◌↔◌, ℕ, Bool, IsTrue, Any, length, slice_range};
+ghost use Rattle.std.specs.Int.{to_le_bytes, w64};
+ghost use Rattle.cesu8_text.specs.Class.{IsFour, IsNullFour};
+ghost use Rattle.cesu8_bytes.specs.Kernels.{AnyIn, MayTest, MayTestWords, Finds, FindsInWords};
+
+use super::fallback;
+
+/// Returns whether some byte is F0 to F7 (hexadecimal). In UTF-8 these are the lead bytes of
+/// characters of four bytes.
+///
+/// ```rust
+/// use simd_cesu8::implementation::word;
+///
+/// assert!(rt; word::contains_utf8_4_byte_char_header("caf\u{E9} \u{1F496}".as_bytes()));
+/// ```
+pub fn contains_utf8_4_byte_char_header(value: &[u8]) -> bool
+    ensures { IsTrue result ↔ Any IsFour value.now }
+{
+    test_word_any(
+        value,
+        fallback::contains_utf8_4_byte_char_header,
+        contains_four,
+    )
+}
+
+/// Returns whether some byte is 00, or F0 to F7 (hexadecimal).
+///
+/// ```rust
+/// use simd_cesu8::implementation::word;
+///
+/// assert!(rt; word::contains_null_or_utf8_4_byte_char_header(b"caf\xC3\xA9\0"));
+/// ```
+pub fn contains_null_or_utf8_4_byte_char_header(value: &[u8]) -> bool
+    ensures { IsTrue result ↔ Any IsNullFour value.now }
+{
+    test_word_any(
+        value,
+        fallback::contains_null_or_utf8_4_byte_char_header,
+        contains_null_or_four,
+    )
+}
+
+/// Returns whether a word passes the test: that of the first eight bytes, of each eight that
+/// follow, or of the last eight, which may overlap. For fewer than eight bytes it calls the
+/// fallback.
+fn test_word_any<F, T>(value: &[u8], fallback: F, test: T) -> bool
+where
+    F: Fn(&[u8]) -> bool,
+    T: Fn(u64) -> bool,
+    requires short { MayTest (λ len. len < 8) F.Fn fallback }
+    requires words { MayTestWords T.Fn test }
+    ensures { (class : ℕ → Bool) → Finds (λ len. len < 8) F.Fn fallback class
+        → FindsInWords T.Fn test class → IsTrue result ↔ AnyIn class value.now }
+{
+    if value.len() < 8 {
+        return fallback(value);
+    }
+    if test(word_at(value, 0)) {
+        return true;
+    }
+    let last = value.len() - 8;
+    let mut position = 8;
+    while position < last {
+        if test(word_at(value, position)) {
+            return true;
+        }
+        position += 8;
+    }
+    test(word_at(value, last))
+}
+
+/// Returns the eight bytes at a position as a word, the first one lowest.
+fn word_at(value: &[u8], position: usize) -> u64
+    requires { position + 8 ≤ length value.now }
+    ensures { to_le_bytes w64 result ≡ slice_range value.now position (position + 8) }
+{
+    u64::from_le_bytes([
+        value[position],
+        value[position + 1],
+        value[position + 2],
+        value[position + 3],
+        value[position + 4],
+        value[position + 5],
+        value[position + 6],
+        value[position + 7],
+    ])
+}
+
+/// Whether some byte of the word is F0 to F7 (hexadecimal).
+fn contains_four(word: u64) -> bool
+    ensures { IsTrue result ↔ Any IsFour (to_le_bytes w64 word) }
+{
+    contains_zero((word & 0xF8F8_F8F8_F8F8_F8F8) ^ 0xF0F0_F0F0_F0F0_F0F0)
+}
+
+/// Whether some byte of the word is 00, or F0 to F7 (hexadecimal).
+fn contains_null_or_four(word: u64) -> bool
+    ensures { IsTrue result ↔ Any IsNullFour (to_le_bytes w64 word) }
+{
+    contains_zero(word) || contains_four(word)
+}
+
+/// Whether some byte of the word is 00.
+fn contains_zero(word: u64) -> bool
+    ensures { IsTrue result ↔ Any (λ byte. byte ≡ 0) (to_le_bytes w64 word) }
+{
+    word.wrapping_sub(0x0101_0101_0101_0101) & !word & 0x8080_8080_8080_8080 != 0
+}
+
+#[cfg(test)]
+mod tests {
+    use super::{contains_four, test_word_any};
+    use crate::implementation::fallback;
+    use std::cell::Cell;
+
+    /// The words are those of the first eight bytes, of each eight that follow, and of the last.
+    #[test]
+    fn tests_each_word(rt: HostRuntime) {
+        // Each byte is its own position.
+        let bytes: [u8; 25] = [
+            0, 1, 2, 3, 4, 5, 6, 7, 8, 9, 10, 11, 12, 13, 14, 15, 16, 17, 18, 19, 20, 21, 22, 23,
+            24,
+        ];
+        const AT_0: u64 = 0x0706_0504_0302_0100;
+        const AT_1: u64 = 0x0807_0605_0403_0201;
+        const AT_8: u64 = 0x0F0E_0D0C_0B0A_0908;
+        const AT_9: u64 = 0x100F_0E0D_0C0B_0A09;
+        const AT_16: u64 = 0x1716_1514_1312_1110;
+        const AT_17: u64 = 0x1817_1615_1413_1211;
+
+        // The number of bytes, and the words that are tested, followed by zeros.
+        let cases = [
+            (7, 0, [0, 0, 0, 0]),
+            (8, 2, [AT_0, AT_0, 0, 0]),
+            (9, 2, [AT_0, AT_1, 0, 0]),
+            (16, 2, [AT_0, AT_8, 0, 0]),
+            (17, 3, [AT_0, AT_8, AT_9, 0]),
+            (24, 3, [AT_0, AT_8, AT_16, 0]),
+            (25, 4, [AT_0, AT_8, AT_16, AT_17]),
+        ];
+        for (len, count, words) in cases {
+            let tested = Cell::new(0usize);
+            let seen = Cell::new([0u64; 4]);
+            let found = test_word_any(
+                &bytes[..len],
+                fallback::contains_utf8_4_byte_char_header,
+                |word| {
+                    let mut words = seen.get();
+                    if let Some(slot) = words.get_mut(tested.get()) {
+                        *slot = word;
+                    }
+                    seen.set(words);
+                    tested.set(tested.get().wrapping_add(1));
+                    contains_four(word)
+                },
+            );
+            assert!(rt; !found, "{len} bytes");
+            assert_eq!(rt; tested.get(), count, "{len} bytes");
+            assert_eq!(rt; seen.get(), words, "{len} bytes");
+        }
+    }
+}

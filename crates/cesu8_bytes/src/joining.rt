@@ -1,0 +1,303 @@
+//! Joins what is encoded otherwise than in UTF-8: surrogate pairs, and C0 80 in MUTF-8.
+//!
+//! A block of bytes is copied whole, and a mask marks the bytes that may have to change. The caller
+//! tests whether the result is UTF-8, so the mask may mark any bytes: if it omits one that has to
+//! change, the result is not UTF-8.
+
+ghost use Rattle.std.specs.Prelude.{◌≡◌, ◌+◌, ◌<◌, ◌≤◌, ◌↔◌, length, take, drop, IsTrue, IfSome, IfNone};
+ghost use Rattle.cesu8_text.specs.Encoding.{Flavor as AnyFlavor, Mutf8};
+ghost use Rattle.cesu8_bytes.specs.Internal.{flavor_of};
+ghost use Rattle.cesu8_bytes.specs.Joining.{IsJoined, IsJoinedAfter, KeepsJoined, nulls, HasNull};
+
+pub mod pairs;
+
+use crate::options::Flavor;
+pub use pairs::{PAIR, PAIR_READ, is_pair, utf8_of_pair};
+use pairs::{PAIR_BITS, PAIR_LEAD, PAIR_MARKS, PAIR_UTF8, join_pairs, pair_bits};
+use std::simd::prelude::*;
+
+/// How many bytes are copied and marked at once.
+pub const BLOCK: usize = 32;
+
+/// The most bytes that are joined, besides the end of a pair.
+pub const WINDOW: usize = 1024;
+
+/// The most bytes that are read or written with that.
+pub const MOST: usize = WINDOW + PAIR;
+
+/// How many bytes must follow those that are joined. A block that is copied from their end needs
+/// 32, a block that is marked from their last byte as many, and a pair across it 8.
+pub const REACH: usize = 48;
+
+/// The length of a buffer for a joined window, and for the last block that is copied.
+pub const ROOM_LEN: usize = WINDOW + 2 * BLOCK;
+
+pub type Room = [u8; ROOM_LEN];
+
+/// How many bytes were read, and how many were written for them.
+#[derive(Clone, Copy)]
+pub struct Step {
+    pub read: usize,
+    pub written: usize,
+}
+
+/// What is left to join, and how many bytes of the buffer are written.
+#[derive(Clone, Copy)]
+pub struct Progress<'a> {
+    pub rest: &'a [u8],
+    pub written: usize,
+}
+
+/// Joins the first `end` bytes and a pair across their end, or fewer if some can't be joined.
+pub fn join(flavor: Flavor, bytes: &[u8], end: usize, room: &mut Room) -> Step
+    requires { (end + REACH ≤ length bytes.now) × (end ≤ WINDOW) }
+    ensures within { (result.read ≤ end + PAIR) × (result.written ≤ MOST) }
+    ensures joined { IsJoined (flavor_of flavor) (take result.read bytes.now)
+        (take result.written room.new) }
+{
+    // Inlined for each flavor, the loops below do not test it again.
+    match flavor {
+        Flavor::Cesu8 => join_blocks(Flavor::Cesu8, bytes, end, room),
+        Flavor::Mutf8 => join_blocks(Flavor::Mutf8, bytes, end, room),
+    }
+}
+
+/// The same, for a flavor that the compiler knows.
+#[inline(always)]
+fn join_blocks(flavor: Flavor, bytes: &[u8], end: usize, room: &mut Room) -> Step
+    requires { (end + REACH ≤ length bytes.now) × (end ≤ WINDOW) }
+    ensures within { (result.read ≤ end + PAIR) × (result.written ≤ MOST) }
+    ensures joined { IsJoined (flavor_of flavor) (take result.read bytes.now)
+        (take result.written room.new) }
+{
+    let stop = bytes.len() - end;
+    let mut at = Progress {
+        rest: bytes,
+        written: 0,
+    };
+    while at.rest.len() > stop {
+        let len = at.rest.len();
+        at = join_block(flavor, at, stop, room);
+        if at.rest.len() == len {
+            break;
+        }
+    }
+    Step {
+        read: bytes.len() - at.rest.len(),
+        written: at.written,
+    }
+}
+
+/// Copies a block without marks before its end, or joins one with marks.
+#[inline(always)]
+fn join_block<'a>(flavor: Flavor, at: Progress<'a>, stop: usize, room: &mut Room) -> Progress<'a>
+    requires stop { (stop < length at.rest.now) × (REACH ≤ stop) }
+    requires room { at.written + length at.rest.now ≤ WINDOW + stop }
+    ensures after { IsJoinedAfter at.entry.rest.now result.rest.now
+        at.entry.written result.written stop }
+    ensures joined { KeepsJoined (flavor_of flavor)
+        at.entry.rest.now (take at.entry.written room.old)
+        result.rest.now (take result.written room.new) }
+{
+    let marks = marks(flavor, at.rest);
+    let left = at.rest.len() - stop;
+    let run = left.min(BLOCK);
+    if marks.trailing_zeros() as usize >= run {
+        copy_run(at.rest, run, at.written, room);
+        return Progress {
+            rest: &at.rest[run..],
+            written: at.written + run,
+        };
+    }
+    match flavor {
+        Flavor::Mutf8 if left >= BLOCK && marks & NULL_MARKS == NULL_MARKS && is_nulls(at.rest) => {
+            join_nulls(at, room)
+        }
+        _ if marks & PAIR_MARKS == PAIR_MARKS && is_pair(at.rest) => join_pairs(at, stop, room),
+        _ => join_marked(flavor, at, marks, stop, room),
+    }
+}
+
+/// Marks the bytes of a block that may have to change, the first byte in the lowest bit: those that
+/// lead a surrogate pair or a null character, and those that no window may have.
+#[inline(always)]
+fn marks(flavor: Flavor, bytes: &[u8]) -> u32
+    requires { BLOCK < length bytes.now }
+{
+    let block = u8x32::from_slice(bytes);
+    let next = u8x32::from_slice(&bytes[1..]);
+    let high = next & u8x32::splat(0xF0);
+    let pair = block.simd_eq(u8x32::splat(0xED)) & high.simd_eq(u8x32::splat(0xA0));
+    let other = block.simd_eq(u8x32::splat(0xC0)) | block.simd_ge(u8x32::splat(0xF0));
+    let marks = pair | other;
+    let bits = match flavor {
+        Flavor::Cesu8 => marks.to_bitmask(),
+        Flavor::Mutf8 => (marks | block.simd_eq(u8x32::splat(0x00))).to_bitmask(),
+    };
+    (bits & 0xFFFF_FFFF) as u32
+}
+
+/// Joins what is marked, and copies what precedes it, up to a mark that can't be joined.
+#[inline(always)]
+fn join_marked<'a>(
+    flavor: Flavor,
+    start: Progress<'a>,
+    marks: u32,
+    stop: usize,
+    room: &mut Room,
+) -> Progress<'a>
+    requires stop { (stop < length start.rest.now) × (REACH ≤ stop) }
+    requires room { start.written + length start.rest.now ≤ WINDOW + stop }
+    ensures after { IsJoinedAfter start.entry.rest.now result.rest.now
+        start.entry.written result.written stop }
+    ensures joined { KeepsJoined (flavor_of flavor)
+        start.entry.rest.now (take start.entry.written room.old)
+        result.rest.now (take result.written room.new) }
+{
+    let bytes = start.rest;
+    let mut read = 0;
+    let mut written = start.written;
+    let mut marks = marks;
+    while marks != 0 {
+        // Only the marks decide the position, so the processor need not wait for what was read.
+        let position = marks.trailing_zeros() as usize;
+        if position < read || position > bytes.len() - stop {
+            break;
+        }
+        marks &= marks - 1;
+        copy_run(&bytes[read..], position - read, written, room);
+        written += position - read;
+        read = position;
+        match join_changed(flavor, &bytes[position..], written, room) {
+            Some(step) => {
+                read += step.read;
+                written += step.written;
+            }
+            None => break,
+        }
+    }
+    Progress {
+        rest: &bytes[read..],
+        written,
+    }
+}
+
+/// Copies a run of bytes, with the others of their block after them.
+#[inline(always)]
+fn copy_run(bytes: &[u8], run: usize, written: usize, room: &mut Room)
+    requires run { run ≤ BLOCK }
+    requires long { BLOCK ≤ length bytes.now }
+    requires room { written + BLOCK ≤ ROOM_LEN }
+    ensures { (f : AnyFlavor) → KeepsJoined f bytes.now (take written room.old)
+        (drop run bytes.now) (take (written + run) room.new) }
+{
+    store(
+        u8x32::from_slice(bytes),
+        &mut room[written..written + BLOCK],
+    );
+}
+
+/// Stores a block.
+#[inline(always)]
+fn store(block: u8x32, out: &mut [u8])
+    requires { length out.old ≡ BLOCK }
+    ensures { out.new ≡ block }
+{
+    block.copy_to_slice(out);
+}
+
+/// Joins the surrogate pair that begins the bytes, or in MUTF-8 the null character. No branch
+/// distinguishes them, since no processor can predict it: one comparison serves both.
+#[inline(always)]
+fn join_changed(flavor: Flavor, bytes: &[u8], written: usize, room: &mut Room) -> Option<Step>
+    requires long { PAIR_READ ≤ length bytes.now }
+    requires room { written + PAIR_UTF8 ≤ ROOM_LEN }
+    ensures few { IfSome result (λ step.
+        (0 < step.written) × (step.written ≤ step.read) × (step.read ≤ PAIR)) }
+    ensures joined { IfSome result (λ step. KeepsJoined (flavor_of flavor)
+        bytes.now (take written room.old)
+        (drop step.read bytes.now) (take (written + step.written) room.new)) }
+    ensures none { IfNone result (room.new ≡ room.old) }
+{
+    let pair = pair_bits(bytes);
+    let null = null_bits(flavor, bytes);
+    let leads_pair = bytes[0] == PAIR_LEAD;
+    let (bits, expected) = if leads_pair {
+        (pair, PAIR_BITS)
+    } else {
+        (null, NULL_BITS)
+    };
+    if bits != expected {
+        return None;
+    }
+    let four = utf8_of_pair(bytes);
+    let (read, utf8, len) = if leads_pair {
+        (PAIR, four, PAIR_UTF8)
+    } else {
+        (NULL, [0; PAIR_UTF8], NULL_UTF8)
+    };
+    room[written..written + PAIR_UTF8].copy_from_slice(&utf8);
+    Some(Step { read, written: len })
+}
+
+/// Returns the bits that show whether the null character of MUTF-8 begins the bytes. If it does,
+/// they are `NULL_BITS`.
+#[inline(always)]
+fn null_bits(flavor: Flavor, bytes: &[u8]) -> u64
+    requires { NULL ≤ length bytes.now }
+    ensures { result ≡ NULL_BITS ↔ HasNull (flavor_of flavor) bytes.now }
+{
+    match flavor {
+        Flavor::Cesu8 => 0,
+        Flavor::Mutf8 => u16::from_le_bytes([bytes[0], bytes[1]]) as u64,
+    }
+}
+
+/// The bits of the null character.
+const NULL_BITS: u64 = 0x80C0;
+
+/// How many bytes the null character of MUTF-8 has,
+const NULL: usize = 2;
+
+/// how many its UTF-8 has,
+const NULL_UTF8: usize = 1;
+
+/// and how many null characters a block has.
+const NULLS_IN_BLOCK: usize = BLOCK / NULL;
+
+/// The bytes of a block of null characters.
+const NULLS: [u8; BLOCK] = [
+    0xC0, 0x80, 0xC0, 0x80, 0xC0, 0x80, 0xC0, 0x80, 0xC0, 0x80, 0xC0, 0x80, 0xC0, 0x80, 0xC0, 0x80,
+    0xC0, 0x80, 0xC0, 0x80, 0xC0, 0x80, 0xC0, 0x80, 0xC0, 0x80, 0xC0, 0x80, 0xC0, 0x80, 0xC0, 0x80,
+];
+
+/// Their marks.
+const NULL_MARKS: u32 = 0x5555_5555;
+
+/// Returns whether a block of null characters of MUTF-8 begins the bytes.
+#[inline(always)]
+pub fn is_nulls(bytes: &[u8]) -> bool
+    requires { BLOCK ≤ length bytes.now }
+    ensures { IsTrue result ↔ take BLOCK bytes.now ≡ nulls }
+{
+    let front = &bytes[..BLOCK];
+    front == NULLS.as_slice()
+}
+
+/// Joins a block of null characters of MUTF-8.
+#[inline(always)]
+fn join_nulls<'a>(at: Progress<'a>, room: &mut Room) -> Progress<'a>
+    requires nulls { take BLOCK at.rest.now ≡ nulls }
+    requires long { BLOCK ≤ length at.rest.now }
+    requires room { at.written + NULLS_IN_BLOCK ≤ ROOM_LEN }
+    ensures rest { length result.rest.now + BLOCK ≡ length at.entry.rest.now }
+    ensures written { result.written ≡ at.entry.written + NULLS_IN_BLOCK }
+    ensures joined { KeepsJoined Mutf8 at.entry.rest.now (take at.entry.written room.old)
+        result.rest.now (take result.written room.new) }
+{
+    room[at.written..at.written + NULLS_IN_BLOCK].copy_from_slice(&[0; NULLS_IN_BLOCK]);
+    Progress {
+        rest: &at.rest[BLOCK..],
+        written: at.written + NULLS_IN_BLOCK,
+    }
+}

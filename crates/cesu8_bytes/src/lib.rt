@@ -1,0 +1,20 @@
+//! What the encoder and the decoder share: classes of bytes and the kernels that find them, the
+//! first looks at an input, runs, windows, and copies.
+//!
+//! The names of this crate are no promise to users. `simd_cesu8` has the public calls.
+#![tactic(auto)]
+
+pub mod ascii;
+pub mod continuation;
+pub mod first_looks;
+pub mod implementation;
+pub mod joining;
+pub mod lengths;
+pub mod null_form;
+pub mod options;
+pub mod runs;
+pub mod window;
+pub mod writers;
+
+/// A shuffle for each of 256 sets.
+pub type Rows = [[u8; 16]; 256];

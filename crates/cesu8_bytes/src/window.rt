@@ -1,0 +1,85 @@
+//! Windows: some bytes are joined into a buffer, and returned as a text if the result is UTF-8.
+
+ghost use Rattle.std.specs.Prelude.{◌+◌, ◌<◌, ◌≤◌, length, take, drop, IfSome};
+ghost use Rattle.cesu8_text.specs.Encoding.{Flavor as AnyFlavor};
+ghost use Rattle.cesu8_bytes.specs.Internal.{flavor_of};
+ghost use Rattle.cesu8_bytes.specs.Joining.{IsJoined};
+ghost use Rattle.cesu8_bytes.specs.Pieces.{IsPiece};
+ghost use Rattle.cesu8_bytes.specs.declared.options.Strictness.{Strictness};
+
+use super::joining::{MOST, PAIR, REACH, Room, Step, WINDOW, join};
+use crate::continuation::is_continuation;
+use crate::first_looks::contains_changed;
+use crate::options::Flavor;
+use simdutf8::basic;
+
+/// So few bytes, or fewer, are not read by windows.
+pub const TOO_FEW: usize = 64;
+
+/// The most bytes that are written for a window: those that are joined, and the continuation bytes
+/// after them.
+const FILLED: usize = MOST + PAIR;
+
+/// The text of the first bytes, and their number.
+#[derive(Drop)]
+pub struct Piece<'a> {
+    pub read: usize,
+    pub text: &'a str,
+}
+
+/// Reads a window of at most so many bytes and a character, or the part of it before an error. If
+/// it returns none, nothing is known of the bytes.
+pub fn read_window<'a>(
+    flavor: Flavor,
+    bytes: &[u8],
+    len: usize,
+    room: &'a mut Room,
+) -> Option<Piece<'a>>
+    requires { TOO_FEW < length bytes.now }
+    ensures within { IfSome result (λ piece. (0 < piece.read) × (piece.read ≤ length bytes.now)) }
+    ensures text { IfSome result (λ piece. (which : Strictness) → IsPiece (flavor_of flavor) which
+        bytes.now (drop piece.read bytes.now) piece.text.now) }
+{
+    let Step { read, written } = join_window(flavor, bytes, len, room);
+    if read == 0 {
+        return None;
+    }
+    if contains_changed(flavor, &bytes[..read]) {
+        return None;
+    }
+    let joined = &room[..written];
+    match basic::from_utf8(joined) {
+        Ok(text) => Some(Piece { read, text }),
+        Err(_) => None,
+    }
+}
+
+/// Joins the first bytes, up to the end of a character.
+pub fn join_window(flavor: Flavor, bytes: &[u8], len: usize, room: &mut Room) -> Step
+    requires { TOO_FEW < length bytes.now }
+    ensures within { (result.read ≤ length bytes.now) × (result.written ≤ FILLED) }
+    ensures joined { IsJoined (flavor_of flavor) (take result.read bytes.now)
+        (take result.written room.new) }
+{
+    let end = len.min(WINDOW).min(bytes.len() - REACH);
+    let step = join(flavor, bytes, end, room);
+    copy_end(bytes, step, room)
+}
+
+/// Copies the continuation bytes that follow a step.
+fn copy_end(bytes: &[u8], step: Step, room: &mut Room) -> Step
+    requires { (step.read ≤ length bytes.now) × (step.written ≤ MOST) }
+    ensures within { (result.read ≤ length bytes.now) × (result.written ≤ FILLED) }
+    ensures joined { (f : AnyFlavor)
+        → IsJoined f (take step.read bytes.now) (take step.written room.old)
+        → IsJoined f (take result.read bytes.now) (take result.written room.new) }
+{
+    let mut read = step.read;
+    let mut written = step.written;
+    while read < bytes.len() && is_continuation(bytes[read]) && written < FILLED {
+        room[written] = bytes[read];
+        read += 1;
+        written += 1;
+    }
+    Step { read, written }
+}

@@ -1,0 +1,140 @@
+//! Writers to a buffer with enough capacity, which can't fail, and copies, with one request each.
+
+ghost use Rattle.std.specs.Prelude.{◌≡◌, ◌+◌, ◌<◌, ◌≤◌, ◌++◌, [], length, take, drop, replicate, OnOk, OnErr, IfOk, IsOk, vec_len, vec_capacity};
+ghost use Rattle.std.specs.String.{string_bytes, string_capacity};
+ghost use Rattle.cesu8_bytes.specs.Puts.{PutsAnswer};
+
+use crate::implementation::short::copy_short;
+use std::alloc::{AllocError, Allocator};
+use std::mem;
+
+/// The buffer is shorter than what is to be written: so many bytes are needed.
+#[derive(Clone, Copy)]
+pub struct NoRoom {
+    pub needed: usize,
+}
+
+/// Reserves capacity for so many bytes more, by one request if the buffer has too little.
+pub fn make_room<A: Allocator>(len: usize, out: &mut Vec<u8, A>) -> Result<(), AllocError>
+    ensures items { out.new.items ≡ out.old.items }
+    ensures ok { OnOk result (vec_len out.new + len ≤ vec_capacity out.new) }
+    ensures err { OnErr result (vec_capacity out.new ≡ vec_capacity out.old) }
+    ensures full { OnErr result (vec_capacity out.old < vec_len out.old + len) }
+    ensures stays { vec_len out.old + len ≤ vec_capacity out.old
+        → vec_capacity out.new ≡ vec_capacity out.old }
+    ensures grows { vec_capacity out.old ≤ vec_capacity out.new }
+{
+    if len <= out.capacity() - out.len() {
+        return Ok(());
+    }
+    out.reserve(len)
+}
+
+/// Appends bytes to a buffer with enough capacity.
+#[inline(always)]
+pub fn append<A: Allocator + Copy>(bytes: &[u8], out: &mut Vec<u8, A>)
+    requires { vec_len out.old + length bytes.now ≤ vec_capacity out.old }
+    ensures bytes { out.new.items ≡ out.old.items ++ bytes.now }
+    ensures capacity { vec_capacity out.new ≡ vec_capacity out.old }
+{
+    // The length of a local vector stays in a register; behind a reference, each byte that is
+    // written would store it.
+    let mut taken = mem::replace(out, Vec::new(*out.allocator()));
+    for byte in bytes {
+        taken.push_reserved(*byte);
+    }
+    *out = taken;
+}
+
+/// Appends so many zeros to a buffer with enough capacity.
+#[inline(always)]
+pub fn append_zeros<A: Allocator + Copy>(count: usize, out: &mut Vec<u8, A>)
+    requires { vec_len out.old + count ≤ vec_capacity out.old }
+    ensures bytes { out.new.items ≡ out.old.items ++ replicate count 0 }
+    ensures capacity { vec_capacity out.new ≡ vec_capacity out.old }
+{
+    // A local vector, as in `append`.
+    let mut taken = mem::replace(out, Vec::new(*out.allocator()));
+    for _ in 0..count {
+        taken.push_reserved(0);
+    }
+    *out = taken;
+}
+
+/// Copies bytes to a position of a slice, and returns where they end.
+#[inline(always)]
+pub fn put(bytes: &[u8], out: &mut [u8], at: usize) -> usize
+    requires { at + length bytes.now ≤ length out.old }
+    ensures bytes { take result out.new ≡ take at out.old ++ bytes.now }
+    ensures end { result ≡ at + length bytes.now }
+    ensures behind { drop result out.new ≡ drop result out.old }
+    ensures len { length out.new ≡ length out.old }
+{
+    let end = at + bytes.len();
+    out[at..end].copy_from_slice(bytes);
+    end
+}
+
+/// Copies bytes to the front of a caller's buffer, if they fit.
+#[inline(always)]
+pub fn copy_to_slice(bytes: &[u8], buf: &mut [u8]) -> Result<usize, NoRoom>
+    ensures { PutsAnswer bytes.now result buf.old buf.new }
+{
+    let len = bytes.len();
+    if buf.len() < len {
+        return Err(NoRoom { needed: len });
+    }
+    copy_short(bytes, buf);
+    Ok(len)
+}
+
+/// Copies two parts to the front of a caller's buffer, one after the other, if both fit.
+#[inline(always)]
+pub fn copy_two_to_slice(first: &[u8], second: &[u8], buf: &mut [u8]) -> Result<usize, NoRoom>
+    ensures { PutsAnswer (first.now ++ second.now) result buf.old buf.new }
+{
+    let both = first.len() + second.len();
+    if both > buf.len() {
+        return Err(NoRoom { needed: both });
+    }
+    let end = put(first, buf, 0);
+    Ok(put(second, buf, end))
+}
+
+/// Returns a copy of some bytes, after one request for their length.
+pub fn copy<A: Allocator + Copy>(alloc: A, bytes: &[u8]) -> Result<Vec<u8, A>, AllocError>
+    ensures bytes { IfOk result (λ copied. copied.items ≡ bytes.now) }
+    ensures capacity { IfOk result (λ copied. vec_capacity copied ≡ length bytes.now) }
+    ensures empty { bytes.now ≡ [] → IsOk result }
+{
+    let mut copied = Vec::with_capacity(alloc, bytes.len())?;
+    append(bytes, &mut copied);
+    Ok(copied)
+}
+
+/// Returns a copy of a text, after one request for its length.
+pub fn copy_text<A: Allocator>(alloc: A, text: &str) -> Result<String<A>, AllocError>
+    ensures text { IfOk result (λ copied. string_bytes copied ≡ text.now) }
+    ensures capacity { IfOk result (λ copied. string_capacity copied ≡ length text.now) }
+    ensures empty { text.now ≡ [] → IsOk result }
+{
+    if text.is_empty() {
+        // No request is made, so none is refused.
+        return String::with_capacity(alloc, 0);
+    }
+    let mut copied = String::with_capacity(alloc, text.len())?;
+    copied.push_str(text)?;
+    exactly(copied, text.len())
+}
+
+/// Returns the text, whose capacity must be what was requested. All of it fitted, so the capacity
+/// has not grown; std's contracts leave that open, and this one does not.
+pub fn exactly<A: Allocator>(text: String<A>, capacity: usize) -> Result<String<A>, AllocError>
+    ensures text { IfOk result (λ exact. string_bytes exact ≡ string_bytes text) }
+    ensures capacity { IfOk result (λ exact. string_capacity exact ≡ capacity) }
+{
+    if text.capacity() != capacity {
+        return Err(AllocError);
+    }
+    Ok(text)
+}

@@ -1,0 +1,3 @@
+pub mod positions
+pub mod pieces
+pub mod decoder

@@ -1,0 +1,11 @@
+use Rattle.std.proofs.lemmas.Str.{IsUtf8-from_ascii}
+use Rattle.cesu8_text.specs.Reading.{IsLenientReading}
+use Rattle.cesu8_bytes.specs.Internal.{flavor_of}
+use Rattle.cesu8_decode.proofs.pieces.SliceReadings.{only_utf8, text_written}
+use Rattle.cesu8_decode.proofs.copy_or_write.decode_to_slice.Goals as goal
+
+pub returns-then-is_short_ascii : goal.returns-then-is_short_ascii
+returns-then-is_short_ascii c =
+    text_written (IsLenientReading (flavor_of c.args.flavor) c.args.bytes.now) _ _ c.copy_to_slice.result c.map_err.result c.args.buf.now c.copy_to_slice.new.buf
+    (only_utf8 (flavor_of c.args.flavor) c.args.bytes.now (IsUtf8-from_ascii c.args.bytes.now (c.is_short_ascii.ensures c.if-is_short_ascii.true)))
+    c.map_err.ensures.cases c.copy_to_slice.ensures

@@ -1,0 +1,281 @@
+-- What the decoder's vectors say of one byte, by the codes of what begins at its place and before.
+use Rattle.std.proofs.Common.{◌≡◌, ℕ, ◌+◌, ◌*◌, ◌/◌, ◌%◌, ◌^◌, ◌<◌, ◌≤◌, ⊎_elim, Bool, true, false, ◌&&◌, ◌||◌, not, eqb, leb, ltb, List, refl, sym, ap, ◌∙◌, arith, cond, get_or, bit_and, bit_or, add-zero, true≢false}
+use Rattle.std.proofs.lemmas.Bool.{agree_below_at, cases_lt, eqb-true, le-leb, lt-leb, eq-eqb, ne_eqb, cases_eq}
+use Rattle.std.proofs.lemmas.Bool.Decides.{nat_tests}
+use Rattle.std.proofs.lemmas.Nat.{and_mask, le_or_l, le_or_r, or_lt, or_mod, or_block, or_shifted}
+use Rattle.cesu8_text.specs.Encoding.{Flavor, Cesu8, Mutf8}
+use Rattle.cesu8_text.specs.Class.{is_null}
+use Rattle.cesu8_bytes.specs.Kernels.{mask}
+use Rattle.cesu8_decode.specs.DecodedPlaces.{one_at, two_at, three_at, pair_at, front_width_by, width_at, is_damaged_at}
+use Rattle.cesu8_bytes.specs.Joining.{null_at}
+use Rattle.cesu8_decode.specs.DecodedLanes.{start_code, is_high, byte_at}
+use Rattle.cesu8_decode.specs.declared.parts.TheConstants.{FIRST_BY_SECOND, SECOND_BY_SECOND, THIRD_BY_THIRD}
+use Rattle.cesu8_decode.proofs.decoder.StartCodes.{Start, nothing, one, null, two_low, two_high, three_low, three_high, three_last, pair, start_at, pair_bit, over_two, over_one, null_bit}
+
+-- ---- bits of two numbers
+
+-- The highest bit is set where one of two has it,
+pub high_or : (a b : ℕ) → leb 0x80 (bit_or a b) ≡ (leb 0x80 a || leb 0x80 b)
+high_or a b =
+    ⊎_elim (λ (low : a < 0x80). ⊎_elim
+    (λ (low' : b < 0x80). lt-leb 0x80 (bit_or a b) (or_lt 7 a b low low')
+    ∙ sym ((λ i. lt-leb 0x80 a low i || lt-leb 0x80 b low' i)))
+    (λ (high : 0x80 ≤ b). le-leb 0x80 (bit_or a b) (omega (arith, le_or_r a b))
+    ∙ sym ((λ i. lt-leb 0x80 a low i || le-leb 0x80 b high i)))
+    (cases_lt b 0x80))
+    (λ (high : 0x80 ≤ a). le-leb 0x80 (bit_or a b) (omega (arith, le_or_l a b)) ∙ sym (ap (λ t. t || leb 0x80 b) (le-leb 0x80 a high)))
+    (cases_lt a 0x80)
+
+zero_or_less : (a b : ℕ) → a ≡ 0 → b ≡ 0 → bit_or a b ≡ 0
+zero_or_less a b e e' = rw (e, e') refl
+
+-- and no bit where none of them has one.
+pub no_bit_or : (a b : ℕ) → eqb (bit_or a b) 0 ≡ (eqb a 0 && eqb b 0)
+no_bit_or a b =
+    ⊎_elim (λ (none : a ≡ 0). ⊎_elim
+    (λ (none' : b ≡ 0). eq-eqb (bit_or a b) 0 (zero_or_less a b none none') ∙ sym ((λ i. eq-eqb a 0 none i && eq-eqb b 0 none' i)))
+    (λ some. ne_eqb (bit_or a b) 0 (λ e. some (omega (arith, le_or_r a b))) ∙ sym ((λ i. eq-eqb a 0 none i && ne_eqb b 0 some i)))
+    (cases_eq b 0))
+    (λ some. ne_eqb (bit_or a b) 0 (λ e. some (omega (arith, le_or_l a b))) ∙ sym (ap (λ t. t && eqb b 0) (ne_eqb a 0 some)))
+    (cases_eq a 0)
+
+-- A shift shifts both.
+shifted_or : (a b : ℕ) → bit_or a b * 2 ^ 2 % 2 ^ 8 ≡ bit_or (a * 2 ^ 2 % 2 ^ 8) (b * 2 ^ 2 % 2 ^ 8)
+shifted_or a b =
+    let shifted = or_block 2 a b 0 0 (omega arith) (omega arith) in
+    let plain : bit_or (a * 2 ^ 2) (b * 2 ^ 2) ≡ bit_or a b * 2 ^ 2 =
+    sym (λ i. bit_or (add-zero (a * 2 ^ 2) i) (add-zero (b * 2 ^ 2) i)) ∙ shifted ∙ add-zero (bit_or a b * 2 ^ 2) in
+    ap (λ n. n % 2 ^ 8) (sym plain) ∙ or_mod (a * 2 ^ 2) (b * 2 ^ 2) 8
+
+-- ---- one lane, by the codes of what begins at its place and before
+
+abbrev pub gone_lane : (here before : ℕ) → ℕ
+gone_lane here before = bit_or here (bit_or here before * 2 ^ 2 % 2 ^ 8)
+
+shifted_pair : (a w c : ℕ) → Start a w c → leb 0x80 (c * 2 ^ 2 % 2 ^ 8) ≡ eqb w 6
+shifted_pair a w c nothing = refl
+shifted_pair a w c (one low) = refl
+shifted_pair a w c (null first) = refl
+shifted_pair a w c (two_low other) = refl
+shifted_pair a w c (two_high other) = refl
+shifted_pair a w c three_low = refl
+shifted_pair a w c three_high = refl
+shifted_pair a w c three_last = refl
+shifted_pair a w c pair = refl
+
+last_first : (n p q : Bool) → (n || (p || q)) ≡ (p || (q || n))
+last_first true true q = refl
+last_first true false true = refl
+last_first true false false = refl
+last_first false true q = refl
+last_first false false true = refl
+last_first false false false = refl
+
+-- It says whether the byte goes.
+pub lane_goes : (a w c a' w' c' : ℕ) → Start a w c → Start a' w' c' →
+    is_high (gone_lane c c') ≡ (eqb w 6 || (eqb w' 6 || (eqb w 2 && eqb a 0xC0)))
+lane_goes a w c a' w' c' here before =
+    high_or c (bit_or c c' * 2 ^ 2 % 2 ^ 8)
+    ∙ ap (λ (n : ℕ). leb 0x80 c || leb 0x80 n) (shifted_or c c')
+    ∙ ap (λ (t : Bool). leb 0x80 c || t) (high_or (c * 2 ^ 2 % 2 ^ 8) (c' * 2 ^ 2 % 2 ^ 8))
+    ∙ (λ i. null_bit a w c here i || (shifted_pair a w c here i || shifted_pair a' w' c' before i))
+    ∙ last_first (eqb w 2 && eqb a 0xC0) (eqb w 6) (eqb w' 6)
+
+abbrev pub covered_lane : (c0 c1 c2 c3 c4 c5 : ℕ) → ℕ
+covered_lane c0 c1 c2 c3 c4 c5 =
+    bit_or (bit_or (bit_or c0 c1) (bit_and c2 0x3C)) (bit_or (bit_or (bit_and c3 0x20) (bit_and c4 0x20)) (bit_and c5 0x20))
+
+pub no_pair : (a w c : ℕ) → Start a w c → eqb (bit_and c 0x20) 0 ≡ not (eqb w 6)
+no_pair a w c what = ap (λ n. eqb n 0) (pair_bit a w c what) ∙ by_test (eqb w 6)
+  where
+    by_test : (t : Bool) → eqb (cond t 0x20 0) 0 ≡ not t
+    by_test true = refl
+    by_test false = refl
+
+-- It has no bit where nothing of two bytes or more covers the byte.
+covered_is : (f : Flavor) (window : List ℕ) (i : ℕ) →
+    let c = start_code f window in
+    let w = width_at f window in
+    eqb (covered_lane (c (i + 5)) (c (i + 4)) (c (i + 3)) (c (i + 2)) (c (i + 1)) (c i)) 0
+    ≡ (((leb (w (i + 5)) 1 && leb (w (i + 4)) 1) && leb (w (i + 3)) 2)
+    && ((not (eqb (w (i + 2)) 6) && not (eqb (w (i + 1)) 6)) && not (eqb (w i) 6)))
+covered_is f window i =
+    let c = start_code f window in
+    let s = start_at f window in
+    let near = bit_or (c (i + 5)) (c (i + 4)) in
+    let three = bit_and (c (i + 3)) 0x3C in
+    let p3 = bit_and (c (i + 2)) 0x20 in
+    let p4 = bit_and (c (i + 1)) 0x20 in
+    let p5 = bit_and (c i) 0x20 in
+    no_bit_or (bit_or near three) (bit_or (bit_or p3 p4) p5)
+    ∙ (λ k. no_bit_or near three k && no_bit_or (bit_or p3 p4) p5 k)
+    ∙ (λ k. (no_bit_or (c (i + 5)) (c (i + 4)) k && eqb three 0) && (no_bit_or p3 p4 k && eqb p5 0))
+    ∙ (λ k. ((over_one _ _ _ (s (i + 5)) k && over_one _ _ _ (s (i + 4)) k) && over_two _ _ _ (s (i + 3)) k)
+    && ((no_pair _ _ _ (s (i + 2)) k && no_pair _ _ _ (s (i + 1)) k) && no_pair _ _ _ (s i) k))
+
+one_or_more : (is_one is_null is_two is_three is_pair : Bool) →
+    let w : ℕ = cond is_one 1 (cond is_null 2 (cond is_two 2 (cond is_three 3 (cond is_pair 6 0)))) in leb 1 w ≡ cond (leb w 1) is_one true
+one_or_more true is_null is_two is_three is_pair = refl
+one_or_more false true is_two is_three is_pair = refl
+one_or_more false false true is_three is_pair = refl
+one_or_more false false false true is_pair = refl
+one_or_more false false false false true = refl
+one_or_more false false false false false = refl
+
+-- What begins at a place and has no two bytes is one byte.
+begins_one : (f : Flavor) (window : List ℕ) (i : ℕ) →
+    leb 1 (width_at f window i) ≡ cond (leb (width_at f window i) 1) (one_at f (get_or window i 0)) true
+unfolding front_width_by
+begins_one f window i =
+    let w : ℕ → ℕ = λ k. get_or window k 0 in
+    one_or_more (one_at f (w i)) (null_at f (w i) (w (i + 1))) (two_at (w i) (w (i + 1))) (three_at (w i) (w (i + 1)) (w (i + 2)))
+    (pair_at (w i) (w (i + 1)) (w (i + 2)) (w (i + 3)) (w (i + 4)) (w (i + 5)))
+
+-- A byte is marked that is no character.
+no_one : (f : Flavor) (b : ℕ) → leb 0x80 (bit_or b (mask (is_null f b))) ≡ not (one_at f b)
+no_one Cesu8 b = high_or b 0 ∙ low b
+  where
+    low : (b : ℕ) → (leb 0x80 b || false) ≡ not (ltb b 0x80)
+    low b = grind (arith, nat_tests)
+no_one Mutf8 b = high_or b (mask (eqb b 0)) ∙ ap (λ (t : Bool). leb 0x80 b || t) (marks (eqb b 0)) ∙ some b
+  where
+    marks : (t : Bool) → leb 0x80 (mask t) ≡ t
+    marks true = refl
+    marks false = refl
+
+    some : (b : ℕ) → (leb 0x80 b || eqb b 0) ≡ not (leb 1 b && ltb b 0x80)
+    some b = grind (arith, nat_tests)
+
+masked : (t : Bool) (x : ℕ) → x < 0x100 → leb 0x80 (bit_and (mask t) x) ≡ (t && leb 0x80 x)
+masked false x small = refl
+masked true x small = agree_below_at (λ x. leb 0x80 (bit_and 0xFF x)) (λ x. leb 0x80 x) 0x100 x refl small
+
+damage_by : (t s0 s1 s2 p3 p4 p5 : Bool) →
+    ((((s0 && s1) && s2) && ((not p3 && not p4) && not p5)) && not t)
+    ≡ not (cond s0 t true || (not s1 || (not s2 || (p3 || (p4 || p5)))))
+damage_by t false s1 s2 p3 p4 p5 = refl
+damage_by true true false s2 p3 p4 p5 = refl
+damage_by false true false s2 p3 p4 p5 = refl
+damage_by true true true false p3 p4 p5 = refl
+damage_by false true true false p3 p4 p5 = refl
+damage_by true true true true true p4 p5 = refl
+damage_by false true true true true p4 p5 = refl
+damage_by true true true true false true p5 = refl
+damage_by false true true true false true p5 = refl
+damage_by true true true true false false true = refl
+damage_by false true true true false false true = refl
+damage_by true true true true false false false = refl
+damage_by false true true true false false false = refl
+
+over : (n w : ℕ) → not (leb w n) ≡ leb (n + 1) w
+over n w = grind (arith, nat_tests)
+
+abbrev pub damaged_lane : Flavor → (covered b : ℕ) → ℕ
+damaged_lane f covered b = bit_and (mask (eqb covered 0)) (bit_or b (mask (is_null f b)))
+
+pub mask_fits : (t : Bool) → mask t < 0x100
+mask_fits true = omega arith
+mask_fits false = omega arith
+
+-- It says whether the byte is damaged.
+pub lane_damaged : (f : Flavor) (window : List ℕ) (i : ℕ) → get_or window (i + 5) 0 < 0x100 →
+    let c = start_code f window in
+    is_high (damaged_lane f (covered_lane (c (i + 5)) (c (i + 4)) (c (i + 3)) (c (i + 2)) (c (i + 1)) (c i)) (get_or window (i + 5) 0))
+    ≡ is_damaged_at f window i
+lane_damaged f window i small =
+    let c = start_code f window in
+    let w = width_at f window in
+    let b = get_or window (i + 5) 0 in
+    let covered = covered_lane (c (i + 5)) (c (i + 4)) (c (i + 3)) (c (i + 2)) (c (i + 1)) (c i) in
+    masked (eqb covered 0) (bit_or b (mask (is_null f b))) (or_lt 8 b (mask (is_null f b)) small (mask_fits (is_null f b)))
+    ∙ (λ k. covered_is f window i k && no_one f b k)
+    ∙ damage_by (one_at f b) (leb (w (i + 5)) 1) (leb (w (i + 4)) 1) (leb (w (i + 3)) 2) (eqb (w (i + 2)) 6) (eqb (w (i + 1)) 6) (eqb (w i) 6)
+    ∙ (λ k. not (sym (begins_one f window (i + 5)) k || (over 1 (w (i + 4)) k || (over 2 (w (i + 3)) k || (eqb (w (i + 2)) 6 || (eqb (w (i + 1)) 6 || eqb (w i) 6))))))
+
+abbrev first_byte : ℕ → ℕ
+first_byte before = get_or FIRST_BY_SECOND (before % 16) 0
+
+abbrev second_byte : ℕ → ℕ → ℕ
+second_byte two_before before = bit_or (get_or SECOND_BY_SECOND (two_before % 16) 0) (bit_and (before / 2 ^ 2) 0x0F)
+
+abbrev third_byte : ℕ → ℕ → ℕ
+third_byte two_before b = bit_or (get_or THIRD_BY_THIRD (two_before % 16) 0) (bit_and b 0x0F)
+
+-- The tables have the bytes of a pair.
+first_is : (before : ℕ) → first_byte before ≡ 0xF0 + (before % 0x10 + 1) / 4
+first_is before =
+    eqb-true _ _ (agree_below_at (λ x. eqb (get_or FIRST_BY_SECOND x 0) (0xF0 + (x + 1) / 4)) (λ x. true) 16 (before % 16) refl (omega arith))
+
+second_is : (two_before before : ℕ) → second_byte two_before before ≡ 0x80 + ((two_before % 0x10 + 1) % 4 * 0x10 + before / 4 % 0x10)
+second_is two_before before =
+    let x = two_before % 16 in
+    let table = eqb-true (get_or SECOND_BY_SECOND x 0) ((8 + (x + 1) % 4) * 2 ^ 4)
+    (agree_below_at (λ x. eqb (get_or SECOND_BY_SECOND x 0) ((8 + (x + 1) % 4) * 2 ^ 4)) (λ x. true) 16 x refl (omega arith)) in
+    (λ k. bit_or (table k) (and_mask (before / 4) 4 k)) ∙ or_shifted (8 + (x + 1) % 4) 4 (before / 4 % 16) (omega arith) ∙ omega arith
+
+third_is : (two_before b : ℕ) → third_byte two_before b ≡ 0x80 + (two_before % 4 * 0x10 + b % 0x10)
+third_is two_before b =
+    let x = two_before % 16 in
+    let table = eqb-true (get_or THIRD_BY_THIRD x 0) ((8 + x % 4) * 2 ^ 4)
+    (agree_below_at (λ x. eqb (get_or THIRD_BY_THIRD x 0) ((8 + x % 4) * 2 ^ 4)) (λ x. true) 16 x refl (omega arith)) in
+    (λ k. bit_or (table k) (and_mask b 4 k)) ∙ or_shifted (8 + x % 4) 4 (b % 16) (omega arith) ∙ omega arith
+
+abbrev pub byte_lane : (c1 c2 c3 c4 two_before before b : ℕ) → ℕ
+byte_lane c1 c2 c3 c4 two_before before b =
+    cond (not (eqb (bit_and c2 0x20) 0)) (first_byte before)
+    (cond (not (eqb (bit_and c3 0x20) 0)) (second_byte two_before before)
+    (cond (not (eqb (bit_and c4 0x20) 0)) (third_byte two_before b) (cond (leb 0x80 c1) 0 b)))
+
+-- It is high where a pair or a null changes the byte,
+abbrev pub joined_lane : (c1 c2 c3 c4 : ℕ) → ℕ
+joined_lane c1 c2 c3 c4 = bit_or c1 (bit_or (bit_or c2 c3) c4 * 2 ^ 2 % 2 ^ 8)
+
+none_of : (n p q r : Bool) → (n || ((p || q) || r)) ≡ false → (n ≡ false) × (p ≡ false) × (q ≡ false) × (r ≡ false)
+none_of false false false false e = (refl, refl, refl, refl)
+none_of false false false true e = absurd (true≢false e)
+none_of false false true r e = absurd (true≢false e)
+none_of false true q r e = absurd (true≢false e)
+none_of true p q r e = absurd (true≢false e)
+
+-- and else the byte stays.
+pub byte_stays : (f : Flavor) (window : List ℕ) (i : ℕ) →
+    let c = start_code f window in
+    is_high (joined_lane (c (i + 4)) (c (i + 3)) (c (i + 2)) (c (i + 1))) ≡ false → byte_at f window i ≡ get_or window (i + 5) 0
+byte_stays f window i low =
+    let c = start_code f window in
+    let s = start_at f window in
+    let shifted : ℕ → ℕ = λ c. c * 2 ^ 2 % 2 ^ 8 in
+    let c1 = c (i + 4) in
+    let c2 = c (i + 3) in
+    let c3 = c (i + 2) in
+    let c4 = c (i + 1) in
+    let w = width_at f window in
+    let all = none_of (eqb (w (i + 4)) 2 && eqb (get_or window (i + 4) 0) 0xC0) (eqb (w (i + 3)) 6) (eqb (w (i + 2)) 6) (eqb (w (i + 1)) 6)
+    (sym (high_or c1 (shifted (bit_or (bit_or c2 c3) c4))
+    ∙ ap (λ (n : ℕ). leb 0x80 c1 || leb 0x80 n) (shifted_or (bit_or c2 c3) c4 ∙ ap (λ (n : ℕ). bit_or n (shifted c4)) (shifted_or c2 c3))
+    ∙ ap (λ (t : Bool). leb 0x80 c1 || t) (high_or (bit_or (shifted c2) (shifted c3)) (shifted c4)
+    ∙ ap (λ (t : Bool). t || leb 0x80 (shifted c4)) (high_or (shifted c2) (shifted c3)))
+    ∙ (λ k. null_bit _ _ _ (s (i + 4)) k || ((shifted_pair _ _ _ (s (i + 3)) k || shifted_pair _ _ _ (s (i + 2)) k) || shifted_pair _ _ _ (s (i + 1)) k)))
+    ∙ low) in
+    rw (all.1, all.2, all.3, all.0) refl
+
+not_not : (t : Bool) → not (not t) ≡ t
+not_not true = refl
+not_not false = refl
+
+some_pair : (a w c : ℕ) → Start a w c → not (eqb (bit_and c 0x20) 0) ≡ eqb w 6
+some_pair a w c what = ap not (no_pair a w c what) ∙ not_not (eqb w 6)
+
+-- It is the byte that is written.
+pub lane_byte : (f : Flavor) (window : List ℕ) (i : ℕ) →
+    let c = start_code f window in
+    byte_lane (c (i + 4)) (c (i + 3)) (c (i + 2)) (c (i + 1)) (get_or window (i + 3) 0) (get_or window (i + 4) 0) (get_or window (i + 5) 0)
+    ≡ byte_at f window i
+lane_byte f window i =
+    let s = start_at f window in
+    let b = get_or window (i + 5) 0 in
+    let before = get_or window (i + 4) 0 in
+    let two_before = get_or window (i + 3) 0 in
+    λ k. cond (some_pair _ _ _ (s (i + 3)) k) (first_is before k)
+    (cond (some_pair _ _ _ (s (i + 2)) k) (second_is two_before before k)
+    (cond (some_pair _ _ _ (s (i + 1)) k) (third_is two_before b k) (cond (null_bit _ _ _ (s (i + 4)) k) 0 b)))

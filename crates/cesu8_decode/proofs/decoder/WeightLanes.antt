@@ -1,0 +1,116 @@
+-- What the places of a block weigh, lane by lane.
+use Rattle.std.proofs.Common.{◌≡◌, ℕ, zero, suc, ◌+◌, ◌*◌, ◌/◌, ◌%◌, ◌^◌, ◌<◌, ◌≤◌, ◌⊎◌, ⊎_elim, true, false, cond, List, [], ◌∷◌, map, length, get_or, replicate, eqb, ltb, bit_or, refl, sym, ap, ◌∙◌, subst, inl, inr, arith, Fits, w8, zero-add}
+use Rattle.std.specs.Int.Bits.{or_zero_r}
+use Rattle.std.specs.List.{range_with_len}
+use Rattle.std.proofs.lemmas.Bool.{cases_Bool, eqb-true, eqb-false, le-leb}
+use Rattle.std.proofs.lemmas.List.FromFn.{length-map-range_with_len}
+use Rattle.std.proofs.lemmas.Simd.{Each1-replicate, length-zip2, sum-zip2, Each1-zip2, Each2-of}
+use lib.Lanes.{zip2, sel_l, top, sum_l, Each1, Each2}
+use Rattle.cesu8_text.specs.Encoding.{Flavor, Cesu8, Mutf8}
+use Rattle.cesu8_text.specs.Class.{is_null}
+use Rattle.cesu8_bytes.specs.Kernels.{mask}
+use Rattle.cesu8_decode.specs.DecodedPlaces.{one_at, width_at, weight_between}
+use Rattle.cesu8_decode.specs.DecodedLanes.{start_code, weight_at, TellWeights}
+use Rattle.cesu8_decode.proofs.decoder.StartCodes.{one_by_first}
+use Rattle.cesu8_bytes.proofs.lists.Lanes.{chosen}
+use Rattle.cesu8_decode.proofs.positions.PlaceBorders.{width_bounds}
+use Rattle.cesu8_decode.proofs.positions.WindowPlaces.{weight_split}
+
+-- ---- one lane
+
+one_of_mutf8 : (b : ℕ) → (eqb b 0 ≡ true) ⊎ (eqb b 0 ≡ false) → ltb (bit_or b (mask (eqb b 0))) 0x80 ≡ one_at Mutf8 b
+one_of_mutf8 b (inl zero_byte) = rw (eqb-true b 0 zero_byte) refl
+one_of_mutf8 b (inr some) =
+    let low : 1 ≤ b = omega (arith, eqb-false b 0 some) in
+    rw (some, le-leb 1 b low) (ap (λ n. ltb n 0x80) (or_zero_r b))
+
+-- a byte below 80 that is not null is a character
+one_by_byte : (f : Flavor) (b : ℕ) → ltb (bit_or b (mask (is_null f b))) 0x80 ≡ one_at f b
+one_by_byte Cesu8 b = ap (λ n. ltb n 0x80) (or_zero_r b)
+one_by_byte Mutf8 b = one_of_mutf8 b (cases_Bool (eqb b 0))
+
+abbrev entry : List ℕ → ℕ → ℕ
+entry table lane = get_or table (lane % 16) 0
+
+abbrev shr : ℕ → ℕ → ℕ
+shr a b = a / 2 ^ b
+
+abbrev weight_vector : (n one : ℕ) (table_low table_high bytes nulls codes : List ℕ) → List ℕ
+weight_vector n one table_low table_high bytes nulls codes =
+    zip2 bit_or (zip2 bit_or
+    (sel_l (map (top 7) (zip2 (λ a b. cond (ltb a b) 255 0) (zip2 bit_or bytes nulls) (replicate n 0x80))) (replicate n one) (replicate n 0))
+    (map (entry table_low) codes)) (map (entry table_high) (zip2 shr codes (replicate n 4)))
+
+module _ (weight : ℕ → ℕ → ℕ) (one : ℕ) (table_low table_high : List ℕ) (told : TellWeights weight one table_low table_high)
+    (f : Flavor) (window : List ℕ) where
+  weight_lane : (i : ℕ) →
+      let b = get_or window i 0 in let c = start_code f window i in
+      bit_or (bit_or (cond (top 7 (cond (ltb (bit_or b (mask (is_null f b))) 0x80) 255 0)) one 0) (entry table_low c)) (entry table_high (c / 2 ^ 4))
+      ≡ weight_at weight f window i
+  weight_lane i =
+      let w = λ (k : ℕ). get_or window k 0 in
+      let test = one_by_byte f (w i) ∙ sym (one_by_first f (w i) (w (i + 1)) (w (i + 2)) (w (i + 3)) (w (i + 4)) (w (i + 5))) in
+      let c = start_code f window i in
+      ap (λ n. bit_or (bit_or n (entry table_low c)) (entry table_high (c / 16)))
+      (chosen (ltb (bit_or (w i) (mask (is_null f (w i)))) 0x80) one 0 ∙ ap (λ t. cond t one 0) test)
+      ∙ told f (w i) (w (i + 1)) (w (i + 2)) (w (i + 3)) (w (i + 4)) (w (i + 5))
+
+  -- The vectors of a block give what its places weigh.
+  pub weight_lanes_are : (vs : List ℕ) →
+      weight_vector (length vs) one table_low table_high (map (λ i. get_or window i 0) vs) (map (λ i. mask (is_null f (get_or window i 0))) vs)
+      (map (start_code f window) vs)
+      ≡ map (weight_at weight f window) vs
+  weight_lanes_are [] = refl
+  weight_lanes_are (v ∷ vs) = λ i. weight_lane v i ∷ weight_lanes_are vs i
+
+-- ---- sums of lanes
+
+-- After n blocks each lane has 14 times n at most, and all lanes what their places weigh.
+pub record HaveSum (weight : ℕ → ℕ → ℕ) (f : Flavor) (bytes : List ℕ) (n : ℕ) (lanes : List ℕ) : Type 0 where
+  pub long : length lanes ≡ 32
+  pub low : Each1 (λ a. a ≤ 14 * n) lanes
+  pub total : sum_l lanes ≡ weight_between weight f bytes 0 (32 * n)
+
+module _ (weight : ℕ → ℕ → ℕ) (f : Flavor) (bytes : List ℕ) where
+  lanes_total : (i n : ℕ) → sum_l (map (weight_at weight f bytes) (range_with_len i n)) ≡ weight_between weight f bytes i n
+  unfolding weight_between
+  lanes_total i zero = refl
+  lanes_total i (suc n) = ap (λ k. weight_at weight f bytes i + k) (lanes_total (i + 1) n)
+
+  -- Before the first block nothing is.
+  pub no_sum : HaveSum weight f bytes 0 (replicate 32 0)
+  unfolding weight_between
+  no_sum = record { long = refl; low = Each1-replicate (λ a. a ≤ 0) 32 0 (omega arith); total = refl }
+
+module _ (weight : ℕ → ℕ → ℕ) (light : (w b : ℕ) → w ≤ 6 → weight w b ≤ 14) (f : Flavor) (bytes : List ℕ) where
+  each_light : (vs : List ℕ) → Each1 (λ a. a ≤ 14) (map (weight_at weight f bytes) vs)
+  each_light [] = tt
+  each_light (v ∷ vs) =
+      let few : width_at f bytes v ≤ 6 = ⊎_elim (λ small. omega arith) (λ six. omega arith) (width_bounds f bytes v) in
+      (light (width_at f bytes v) (get_or bytes v 0) few, each_light vs)
+
+  module _ (n : ℕ) (lanes more : List ℕ) (have : HaveSum weight f bytes n lanes)
+      (next : more ≡ map (weight_at weight f bytes) (range_with_len (32 * n) 32)) where
+    more_long : length more ≡ 32
+    more_long = ap length next ∙ length-map-range_with_len (weight_at weight f bytes) (32 * n) 32
+
+    more_light : Each1 (λ a. a ≤ 14) more
+    more_light = subst (Each1 (λ a. a ≤ 14)) (sym next) (each_light (range_with_len (32 * n) 32))
+
+    -- A lane has room for one block more,
+    pub block_fits : n < 16 → Each2 (λ a b. Fits w8 (a + b)) lanes more
+    block_fits few =
+        Each2-of (λ a. a ≤ 14 * n) (λ b. b ≤ 14) (λ a b. Fits w8 (a + b)) (λ a b h k. record { fits = omega (arith, h, k, few) }) lanes more have.low more_light
+
+    -- which is summed up.
+    pub block_summed : HaveSum weight f bytes (n + 1) (zip2 (λ a b. a + b) lanes more)
+    block_summed = record {
+      long = length-zip2 (λ a b. a + b) lanes more (have.long ∙ sym more_long) ∙ have.long;
+      low = Each1-zip2 (λ a b. a + b) (λ a. a ≤ 14 * (n + 1)) lanes more
+          (Each2-of (λ a. a ≤ 14 * n) (λ b. b ≤ 14) (λ a b. a + b ≤ 14 * (n + 1)) (λ a b h k. omega (arith, h, k)) lanes more have.low more_light);
+      total =
+          let parts : 32 * (n + 1) ≡ 32 * n + 32 = omega arith in
+          let split = ap (weight_between weight f bytes 0) parts ∙ weight_split weight f bytes 0 (32 * n) 32 in
+          let place = ap (λ i. weight_between weight f bytes i 32) (zero-add (32 * n)) in
+          omega (arith, sum-zip2 lanes more (have.long ∙ sym more_long), have.total, ap sum_l next, lanes_total weight f bytes (32 * n) 32, split, place);
+    }

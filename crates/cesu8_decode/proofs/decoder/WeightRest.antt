@@ -1,0 +1,104 @@
+-- What the last places of bytes weigh, where FF stands behind them.
+use Rattle.std.proofs.Common.{◌≡◌, ℕ, zero, suc, ◌+◌, ◌-◌, ◌<◌, ◌≤◌, ◌⊎◌, ⊎_elim, List, ◌++◌, length, get_or, replicate, refl, sym, ap, ◌∙◌, inl, inr, arith}
+use Rattle.std.proofs.lemmas.Bool.{cases_lt}
+use Rattle.std.proofs.lemmas.List.{get_or_past, get_or_append_left, get_or-append_right, get_or-replicate}
+use Rattle.cesu8_text.specs.Encoding.{Flavor, Cesu8, Mutf8}
+use Rattle.cesu8_decode.specs.DecodedPlaces.{front_width_by, weight_between, total_weight}
+use Rattle.cesu8_decode.specs.DecodedLanes.{weight_at}
+use Rattle.cesu8_decode.proofs.positions.WindowPlaces.{weight_split}
+use Rattle.cesu8_decode.proofs.positions.Weights.{all_places}
+
+-- ---- FF instead of 00 changes no width, but at the first place
+
+abbrev Filled : ℕ → ℕ → Type 0
+Filled x y = (x ≡ y) ⊎ ((x ≡ 0xFF) × (y ≡ 0))
+
+alike : (g : ℕ → ℕ) (x y : ℕ) → g 0xFF ≡ g 0 → Filled x y → g x ≡ g y
+alike g x y same (inl here) = ap g here
+alike g x y same (inr end) = ap g end.0 ∙ same ∙ sym (ap g end.1)
+
+second_alike : (f : Flavor) (a d e g h : ℕ) → front_width_by f a 0xFF d e g h ≡ front_width_by f a 0 d e g h
+unfolding front_width_by
+second_alike Cesu8 a d e g h = refl
+second_alike Mutf8 a d e g h = refl
+
+-- FF begins nothing.
+none_begins : (f : Flavor) (b d e g h : ℕ) → front_width_by f 0xFF b d e g h ≡ 0
+unfolding front_width_by
+none_begins Cesu8 b d e g h = refl
+none_begins Mutf8 b d e g h = refl
+
+-- ---- sums over places that weigh alike
+
+weigh_alike : (weight : ℕ → ℕ → ℕ) (f : Flavor) (a b : List ℕ) (i n : ℕ) → ((k : ℕ) → k < i + n → weight_at weight f a k ≡ weight_at weight f b k) →
+    weight_between weight f a i n ≡ weight_between weight f b i n
+unfolding weight_between
+weigh_alike weight f a b i zero same = refl
+weigh_alike weight f a b i (suc n) same =
+    let rest = weigh_alike weight f a b (i + 1) n (λ k small. same k (omega arith)) in
+    (λ j. same i (omega arith) j + rest j)
+
+weigh_nothing : (weight : ℕ → ℕ → ℕ) (f : Flavor) (a : List ℕ) (i n : ℕ) → ((k : ℕ) → i ≤ k → k < i + n → weight_at weight f a k ≡ 0) →
+    weight_between weight f a i n ≡ 0
+unfolding weight_between
+weigh_nothing weight f a i zero none = refl
+weigh_nothing weight f a i (suc n) none =
+    let rest = weigh_nothing weight f a (i + 1) n (λ k low small. none k (omega arith) (omega arith)) in
+    (λ j. none i (omega arith) (omega arith) j + rest j)
+
+-- ---- bytes with FF behind them
+
+module _ (weight : ℕ → ℕ → ℕ) (nothing : (b : ℕ) → weight 0 b ≡ 0) (f : Flavor) (bytes : List ℕ) (n : ℕ) where
+  abbrev padded : List ℕ
+  padded = bytes ++ replicate n 0xFF
+
+  here : (k : ℕ) → k < length bytes → get_or padded k 0 ≡ get_or bytes k 0
+  here k inside = get_or_append_left bytes (replicate n 0xFF) 0 k inside
+
+  behind : (k : ℕ) → length bytes ≤ k → k < length bytes + n → get_or padded k 0 ≡ 0xFF
+  behind k past small =
+      get_or-append_right bytes (replicate n 0xFF) (length bytes) k 0 refl past
+      ∙ get_or-replicate n (k - length bytes) 0xFF 0 (omega arith)
+
+  filled : (k : ℕ) → k < length bytes + n → Filled (get_or padded k 0) (get_or bytes k 0)
+  filled k small =
+      ⊎_elim (λ (inside : k < length bytes). inl (here k inside))
+      (λ (past : length bytes ≤ k). inr (behind k past small, get_or_past bytes k 0 past)) (cases_lt k (length bytes))
+
+  weight_here : (k : ℕ) → k < length bytes → 5 ≤ n → weight_at weight f padded k ≡ weight_at weight f bytes k
+  unfolding front_width_by
+  weight_here k inside room =
+      let p = λ (j : ℕ). get_or padded j 0 in
+      let b = λ (j : ℕ). get_or bytes j 0 in
+      let width =
+      alike (λ n. front_width_by f (p k) n (p (k + 2)) (p (k + 3)) (p (k + 4)) (p (k + 5))) (p (k + 1)) (b (k + 1))
+      (second_alike f (p k) (p (k + 2)) (p (k + 3)) (p (k + 4)) (p (k + 5))) (filled (k + 1) (omega arith))
+      ∙ alike (λ n. front_width_by f (p k) (b (k + 1)) n (p (k + 3)) (p (k + 4)) (p (k + 5))) (p (k + 2)) (b (k + 2)) refl (filled (k + 2) (omega arith))
+      ∙ alike (λ n. front_width_by f (p k) (b (k + 1)) (b (k + 2)) n (p (k + 4)) (p (k + 5))) (p (k + 3)) (b (k + 3)) refl (filled (k + 3) (omega arith))
+      ∙ alike (λ n. front_width_by f (p k) (b (k + 1)) (b (k + 2)) (b (k + 3)) n (p (k + 5))) (p (k + 4)) (b (k + 4)) refl (filled (k + 4) (omega arith))
+      ∙ alike (λ n. front_width_by f (p k) (b (k + 1)) (b (k + 2)) (b (k + 3)) (b (k + 4)) n) (p (k + 5)) (b (k + 5)) refl (filled (k + 5) (omega arith))
+      ∙ ap (λ a. front_width_by f a (b (k + 1)) (b (k + 2)) (b (k + 3)) (b (k + 4)) (b (k + 5))) (here k inside) in
+      (λ j. weight (width j) (here k inside j))
+
+  weight_behind : (k : ℕ) → length bytes ≤ k → k < length bytes + n → weight_at weight f padded k ≡ 0
+  weight_behind k past small =
+      let p = λ (j : ℕ). get_or padded j 0 in
+      let width =
+      ap (λ a. front_width_by f a (p (k + 1)) (p (k + 2)) (p (k + 3)) (p (k + 4)) (p (k + 5))) (behind k past small)
+      ∙ none_begins f (p (k + 1)) (p (k + 2)) (p (k + 3)) (p (k + 4)) (p (k + 5)) in
+      ap (λ w. weight w (p k)) width ∙ nothing (p k)
+
+  -- They weigh what the bytes weigh.
+  pub weight_with_end : (m : ℕ) → length bytes ≤ m → m + 5 ≤ length bytes + n → weight_between weight f padded 0 m ≡ total_weight weight f bytes
+  weight_with_end m some room =
+      let parts : m ≡ length bytes + (m - length bytes) = omega arith in
+      let split = ap (weight_between weight f padded 0) parts ∙ weight_split weight f padded 0 (length bytes) (m - length bytes) in
+      let front = weigh_alike weight f padded bytes 0 (length bytes) (λ k small. weight_here k (omega arith) (omega arith)) in
+      let back = weigh_nothing weight f padded (0 + length bytes) (m - length bytes) (λ k low small. weight_behind k (omega arith) (omega arith)) in
+      omega (arith, split, front, back, all_places weight f bytes)
+
+-- Two blocks of a few bytes and FF weigh what the bytes weigh.
+pub weight_filled : (weight : ℕ → ℕ → ℕ) → ((b : ℕ) → weight 0 b ≡ 0) → (f : Flavor) (bytes padded : List ℕ) → length bytes < 37 →
+    padded ≡ bytes ++ replicate (69 - length bytes) 0xFF → weight_between weight f padded 0 64 ≡ total_weight weight f bytes
+weight_filled weight nothing f bytes padded few is =
+    ap (λ p. weight_between weight f p 0 64) is ∙ weight_with_end weight nothing f bytes (69 - length bytes) 64 (omega arith) (omega arith)

@@ -1,0 +1,158 @@
+-- Text that is read a piece at a time.
+use Rattle.std.proofs.Common.{◌≡◌, ℕ, ◌+◌, List, [], ◌∷◌, ◌++◌, refl, sym, ap, ◌∙◌, arith, length, append-nil, length-append, ◌-◌, Result, Ok, Err, IfOk, MatchResult, is_ok, true≢false, subst, take, drop, append_assoc, length-drop}
+use Rattle.cesu8_text.specs.Text.{utf8}
+use Rattle.cesu8_text.specs.Encoding.{Flavor, encoding}
+use Rattle.cesu8_text.specs.Reading.{reading, lossy_length, HasNoStrictReading}
+use Rattle.cesu8_decode.specs.Decoding.{IsDecodedText, HasFault}
+use Rattle.cesu8_bytes.specs.Pieces.{IsReadSoFar, IsPiece}
+use Rattle.cesu8_bytes.specs.declared.options.Strictness.{Strictness}
+use Rattle.cesu8_text.proofs.encoding.Encodings.{encoding_nil, encoding_append}
+use Rattle.cesu8_text.proofs.reading.Steps.{reading_nil}
+use Rattle.std.specs.Str.{chars, IsUtf8}
+use Rattle.std.proofs.lemmas.List.{take_rest}
+use Rattle.cesu8_decode.specs.Refusals.{IfNoText}
+use Rattle.cesu8_decode.specs.declared.refusal.Refusal.{Refusal}
+use Rattle.cesu8_decode.specs.declared.refusal.Refusal.TheVariants.{NoText, Memory}
+use Rattle.cesu8_bytes.specs.declared.options.Strictness.TheVariants.{Strict, Lossy}
+use Rattle.cesu8_text.proofs.StdUtf8.{IsUtf8_utf8, chars_utf8}
+use Rattle.cesu8_text.proofs.encoding.Unique.{no_reading}
+use Rattle.cesu8_text.proofs.reading.Decoding.{IsText_append, utf8_append, lossy_length_nil}
+
+-- Before the first piece nothing is read, and all bytes are left.
+pub nothing_read : (f : Flavor) (which : Strictness) (bytes old : List ℕ) → IsReadSoFar f which bytes bytes old old
+nothing_read f which bytes old = record {
+  text = [];
+  scalars = tt;
+  lossy_reading = refl;
+  strict_reading = λ _. rw (encoding_nil f) refl;
+  written = sym (append-nil old);
+}
+
+-- Where no bytes are left, the text so far is the decoded text.
+pub all_read : (f : Flavor) (which : Strictness) (bytes rest old new : List ℕ) → IsReadSoFar f which bytes rest old new →
+    length rest ≡ 0 → (text : List ℕ) × IsDecodedText f which bytes text × (new ≡ old ++ utf8 text)
+all_read f which bytes [] old new so_far empty = (
+  so_far.text,
+  (
+    so_far.scalars,
+    sym (so_far.lossy_reading ∙ ap (λ cs. so_far.text ++ cs) (reading_nil f) ∙ append-nil so_far.text),
+    λ strict. sym (so_far.strict_reading strict ∙ append-nil (encoding f so_far.text)),
+  ),
+  so_far.written,
+)
+all_read f which bytes (b ∷ rest) old new so_far empty = absurd (omega arith)
+
+-- What is read after what was read so far adds its text.
+pub more_read : (f : Flavor) (which : Strictness) (bytes rest after old out new : List ℕ) →
+    IsReadSoFar f which bytes rest old out → IsReadSoFar f which rest after out new → IsReadSoFar f which bytes after old new
+more_read f which bytes rest after old out new so_far next = record {
+  text = so_far.text ++ next.text;
+  scalars = IsText_append so_far.text next.text so_far.scalars next.scalars;
+  lossy_reading = so_far.lossy_reading ∙ ap (λ cs. so_far.text ++ cs) next.lossy_reading
+      ∙ sym (append_assoc so_far.text next.text (reading f after));
+  strict_reading = λ strict. so_far.strict_reading strict
+      ∙ ap (λ bs. encoding f so_far.text ++ bs) (next.strict_reading strict)
+      ∙ rw (encoding_append f so_far.text next.text)
+      (sym (append_assoc (encoding f so_far.text) (encoding f next.text) after));
+  written = next.written ∙ ap (λ bs. bs ++ utf8 next.text) so_far.written
+      ∙ append_assoc old (utf8 so_far.text) (utf8 next.text)
+      ∙ ap (λ bs. old ++ bs) (sym (utf8_append so_far.text next.text));
+}
+
+-- A piece that is appended is read after what was there.
+pub piece_appended : (f : Flavor) (which : Strictness) (bytes rest piece old new : List ℕ) → IsPiece f which bytes rest piece →
+    new ≡ old ++ piece → IsReadSoFar f which bytes rest old new
+piece_appended f which bytes rest piece old new is_piece new_is = record {
+  text = is_piece.text;
+  scalars = is_piece.scalars;
+  lossy_reading = is_piece.lossy_reading;
+  strict_reading = is_piece.strict_reading;
+  written = new_is ∙ ap (λ bs. old ++ bs) is_piece.written;
+}
+
+-- The same where the piece serves both readings, and the rest is the slice behind it.
+pub piece_read : (f : Flavor) (which : Strictness) (bytes piece old new : List ℕ) (n : ℕ) →
+    ((which : Strictness) → IsPiece f which bytes (drop n bytes) piece) → new ≡ old ++ piece →
+    IsReadSoFar f which bytes (take (length bytes - n) (drop n bytes)) old new
+piece_read f which bytes piece old new n is_piece new_is =
+    rw take_rest (piece_appended f which bytes (drop n bytes) piece old new (is_piece which) new_is)
+
+-- What is read is UTF-8.
+pub piece_utf8 : (f : Flavor) (which : Strictness) (bytes rest piece : List ℕ) → IsPiece f which bytes rest piece → IsUtf8 piece
+piece_utf8 f which bytes rest piece read = subst IsUtf8 (sym read.written) (IsUtf8_utf8 read.text read.scalars)
+
+-- A fault after a piece is one of the whole,
+pub fault_after : (f : Flavor) (which : Strictness) (bytes rest old out : List ℕ) → IsReadSoFar f which bytes rest old out →
+    which ≡ Strict → HasFault f rest → HasFault f bytes
+fault_after f which bytes rest old out so_far strict fault = record {
+  rest = fault.rest;
+  piece = utf8 (so_far.text ++ fault.before.text);
+  before = record {
+    text = so_far.text ++ fault.before.text;
+    scalars = IsText_append so_far.text fault.before.text so_far.scalars fault.before.scalars;
+    lossy_reading = so_far.lossy_reading ∙ ap (λ text. so_far.text ++ text) fault.before.lossy_reading
+        ∙ sym (append_assoc so_far.text fault.before.text (reading f fault.rest));
+    strict_reading = λ _. so_far.strict_reading strict ∙ ap (λ bs. encoding f so_far.text ++ bs) (fault.before.strict_reading refl)
+        ∙ sym (append_assoc (encoding f so_far.text) (encoding f fault.before.text) fault.rest)
+        ∙ ap (λ bs. bs ++ fault.rest) (sym (encoding_append f so_far.text fault.before.text));
+    written = refl;
+  };
+  some = fault.some;
+  none_begins = fault.none_begins;
+}
+
+-- and leaves it no strict reading.
+pub fault_of_whole : (f : Flavor) (bytes : List ℕ) → HasFault f bytes → HasNoStrictReading f bytes
+fault_of_whole f bytes fault =
+    no_reading f bytes fault.before.text fault.rest fault.before.scalars (fault.before.strict_reading refl) fault.some fault.none_begins
+
+-- So it is where the next piece is refused.
+pub refused_after : (f : Flavor) (which : Strictness) (bytes rest old out : List ℕ) (fault : Refusal) →
+    IsReadSoFar f which bytes rest old out → IfNoText fault ((which ≡ Strict) × HasFault f rest) →
+    IfNoText fault ((which ≡ Strict) × HasFault f bytes)
+refused_after f which bytes rest old out NoText so_far refused =
+    (refused.0, fault_after f which bytes rest old out so_far refused.0 refused.1)
+refused_after f which bytes rest old out (Memory error) so_far memory = memory
+
+pub refused_whole : (f : Flavor) (which : Strictness) (bytes : List ℕ) (fault : Refusal) →
+    IfNoText fault ((which ≡ Strict) × HasFault f bytes) → IfNoText fault (HasNoStrictReading f bytes)
+refused_whole f which bytes NoText refused = fault_of_whole f bytes refused.1
+refused_whole f which bytes (Memory error) memory = memory
+
+-- The text of what was decoded into nothing.
+pub decoded_text : (f : Flavor) (which : Strictness) (bytes old out : List ℕ) → old ≡ [] →
+    ((text : List ℕ) × IsDecodedText f which bytes text × (out ≡ old ++ utf8 text)) → IsDecodedText f which bytes (chars out)
+decoded_text f which bytes old out nothing read =
+    subst (IsDecodedText f which bytes)
+    (sym (ap chars (read.2 ∙ ap (λ bs. bs ++ utf8 read.0) nothing) ∙ chars_utf8 read.0 read.1.0)) read.1
+
+-- A piece adds its length to that of the lossy reading.
+pub piece_length : (f : Flavor) (bytes rest piece : List ℕ) → IsPiece f Lossy bytes rest piece →
+    lossy_length f bytes ≡ length piece + lossy_length f rest
+unfolding lossy_length
+piece_length f bytes rest piece read =
+    ap (λ text. length (utf8 text)) read.lossy_reading ∙ ap length (utf8_append read.text (reading f rest))
+    ∙ length-append (utf8 read.text) (utf8 (reading f rest)) ∙ ap (λ bs. length bs + length (utf8 (reading f rest))) (sym read.written)
+
+-- A piece that leaves nothing is the text of the whole, and has the length of its reading.
+pub whole_text : (f : Flavor) (which : Strictness) (bytes piece : List ℕ) (n : ℕ) → IsPiece f which bytes (drop n bytes) piece →
+    n ≡ length bytes → IsDecodedText f which bytes (chars piece)
+whole_text f which bytes piece n read all =
+    decoded_text f which bytes [] piece refl
+    (all_read f which bytes (drop n bytes) [] piece read (omega (arith, length-drop n bytes, all)))
+
+pub whole_length : (f : Flavor) (bytes piece : List ℕ) (n : ℕ) → IsPiece f Lossy bytes (drop n bytes) piece →
+    n ≡ length bytes → lossy_length f bytes ≡ length piece
+whole_length f bytes piece n read all =
+    omega (
+      arith,
+      piece_length f bytes (drop n bytes) piece read,
+      lossy_length_nil f (drop n bytes) (omega (arith, length-drop n bytes, all)),
+    )
+
+-- What holds of a value that is there holds of it where the error is mapped.
+pub where_mapped : {T E D : Type 0} (r : Result T E) (mapped : Result T D) (P Q : T → Type 0) (R : E → Type 0) →
+    MatchResult r (λ x. mapped ≡ Ok x) R → is_ok mapped ≡ is_ok r → ((x : T) → P x → Q x) → IfOk r P → IfOk mapped Q
+where_mapped (Ok x) mapped P Q R is same weaker holds = subst (λ m. IfOk m Q) (sym is) (weaker x holds)
+where_mapped (Err e) (Ok y) P Q R is same weaker holds = absurd (true≢false same)
+where_mapped (Err e) (Err d) P Q R is same weaker holds = tt

@@ -1,0 +1,63 @@
+-- The weight of bytes, which is that of the characters that begin in them.
+use Rattle.std.proofs.Common.{◌≡◌, ℕ, ◌+◌, ◌<◌, ◌≤◌, List, [], ◌∷◌, ◌++◌, refl, sym, ap, ◌∙◌, arith, length, zero-add, add-zero, subst, get_or, drop, suc, length-drop, get_or-drop}
+use Rattle.cesu8_text.specs.Text.{IsScalarValue}
+use Rattle.cesu8_text.specs.Encoding.{Flavor, encoding}
+use Rattle.cesu8_text.specs.Reading.{NoneBegins}
+use Rattle.cesu8_decode.specs.DecodedPlaces.{front_width, total_weight, weight_between}
+use Rattle.cesu8_decode.proofs.positions.FrontWidths.{begins_encoded, width_of_front, width_of_none, width_inside}
+use Rattle.cesu8_decode.proofs.positions.WindowPlaces.{Follows, follows_later, width_following, weight_split}
+
+-- ---- by characters
+
+module _ (weight : ℕ → ℕ → ℕ) (nothing : (b : ℕ) → weight 0 b ≡ 0) (f : Flavor) where
+  -- places where none begins weigh nothing
+  free : (front rest : List ℕ) → ((j : ℕ) → j < length front → front_width f (drop j (front ++ rest)) ≡ 0) →
+      total_weight weight f (front ++ rest) ≡ total_weight weight f rest
+  unfolding total_weight
+  free [] rest none = refl
+  free (b ∷ front) rest none =
+      rw (none 0 (omega arith), nothing b) (zero-add (total_weight weight f (front ++ rest)) ∙ free front rest (λ j small. none (suc j) (omega arith)))
+
+  -- A character weighs what its first place does,
+  pub first_weighs : (c b : ℕ) (front rest : List ℕ) → IsScalarValue c → encoding f (c ∷ []) ≡ b ∷ front →
+      total_weight weight f (encoding f (c ∷ []) ++ rest) ≡ weight (length (b ∷ front)) b + total_weight weight f rest
+  unfolding total_weight
+  first_weighs c b front rest scalar same =
+      let bytes = b ∷ front ++ rest in
+      let begins = begins_encoded f c (b ∷ front) rest scalar same in
+      let inside = free front rest (λ j small. width_inside f bytes c (suc j) rest begins (omega arith) (omega (arith, ap length same))) in
+      rw (same, width_of_front f bytes c rest begins, ap length same) (ap (λ n. weight (length (b ∷ front)) b + n) inside)
+
+  -- and a byte that is replaced nothing.
+  pub replaced_weighs : (b : ℕ) (rest : List ℕ) → NoneBegins f (b ∷ rest) → total_weight weight f (b ∷ rest) ≡ total_weight weight f rest
+  unfolding total_weight
+  replaced_weighs b rest none_begins = rw (width_of_none f (b ∷ rest) none_begins, nothing b) (zero-add (total_weight weight f rest))
+
+-- ---- by places
+
+module _ (weight : ℕ → ℕ → ℕ) (f : Flavor) where
+  -- What all bytes weigh is what their places weigh in a window,
+  pub all_between : (window bytes : List ℕ) (i : ℕ) → Follows window bytes i →
+      weight_between weight f window i (length bytes) ≡ total_weight weight f bytes
+  unfolding weight_between total_weight
+  all_between window [] i follows = refl
+  all_between window (b ∷ bytes) i follows =
+      let width = width_following f window (b ∷ bytes) i follows (omega arith) in
+      let first : get_or window i 0 ≡ b = ap (λ p. get_or window p 0) (sym (add-zero i)) ∙ follows 0 in
+      let place : 1 + i ≡ i + 1 = omega arith in
+      let rest = all_between window bytes (i + 1) (subst (Follows window bytes) place (follows_later window (b ∷ bytes) i 1 follows)) in
+      (λ k. weight (width k) (first k) + rest k)
+
+  -- and in themselves;
+  pub all_places : (bytes : List ℕ) → weight_between weight f bytes 0 (length bytes) ≡ total_weight weight f bytes
+  all_places bytes = all_between bytes bytes 0 (λ k. ap (λ p. get_or bytes p 0) (zero-add k))
+
+  -- it is what the first n weigh, and what is left.
+  pub weight_by_parts : (bytes : List ℕ) (n : ℕ) → n ≤ length bytes →
+      weight_between weight f bytes 0 n + total_weight weight f (drop n bytes) ≡ total_weight weight f bytes
+  weight_by_parts bytes n fits =
+      let count : length bytes ≡ n + length (drop n bytes) = omega (arith, length-drop n bytes) in
+      let rest = all_between bytes (drop n bytes) n (λ k. sym (get_or-drop n bytes k 0)) in
+      let split = ap (weight_between weight f bytes 0) count ∙ weight_split weight f bytes 0 n (length (drop n bytes)) in
+      let place = ap (λ i. weight_between weight f bytes i (length (drop n bytes))) (zero-add n) in
+      omega (arith, rest, all_places bytes, split, place)

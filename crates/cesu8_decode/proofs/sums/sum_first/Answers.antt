@@ -1,0 +1,14 @@
+use Rattle.std.proofs.Common.{◌*◌, ap, arith}
+use Rattle.std.proofs.lemmas.List.{take_rest}
+use Rattle.cesu8_decode.specs.DecodedPlaces.{total_weight}
+use Rattle.cesu8_decode.proofs.positions.Weights.{weight_by_parts}
+use Rattle.cesu8_decode.proofs.sums.sum_first.Goals as goal
+
+pub returns-clause-sum : goal.returns-clause-sum
+returns-clause-sum g c =
+    let weight = g.W.Weight.weight in
+    let f = g.N.NullForm.flavor in
+    let n = 32 * c.min-count.result in
+    let parts = weight_by_parts weight f c.args.bytes.now n (omega arith) in
+    let rest = ap (total_weight weight f) (take_rest c.args.bytes.now n) in
+    omega (arith, parts, rest, c.sum_of_blocks.ensures)

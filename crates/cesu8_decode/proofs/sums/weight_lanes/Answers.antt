@@ -1,0 +1,20 @@
+use Rattle.std.proofs.Common.{◌+◌, ◌≤◌, length, sym, arith}
+use Rattle.std.specs.List.{range_with_len}
+use Rattle.std.proofs.lemmas.Simd.{pick_l-range_with_len}
+use Rattle.cesu8_text.specs.Class.{is_null}
+use Rattle.cesu8_bytes.proofs.vectors.Loads.{marks_here}
+use Rattle.cesu8_decode.proofs.decoder.WeightLanes.{weight_lanes_are}
+use Rattle.cesu8_decode.proofs.sums.weight_lanes.Goals as goal
+
+pub returns : goal.returns
+returns g c =
+    let f = g.N.NullForm.flavor in
+    let bytes = c.args.bytes.now in
+    let room : c.args.at + 32 ≤ length bytes = omega arith in
+    rw (
+      marks_here (is_null f) bytes c.args.at c.nulls.result room c.nulls.ensures,
+      sym (pick_l-range_with_len 0 bytes c.args.at 32 room),
+      c.look_up.ensures,
+      c.look_up-2.ensures,
+      c.starts-codes.ensures,
+    ) (weight_lanes_are g.W.Weight.weight _ _ _ c.weights-weights.ensures f bytes (range_with_len c.args.at 32))

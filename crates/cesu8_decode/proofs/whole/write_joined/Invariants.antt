@@ -1,0 +1,14 @@
+use Rattle.std.proofs.Common.{length}
+use Rattle.cesu8_bytes.specs.Internal.{flavor_of}
+use Rattle.cesu8_text.specs.Reading.{IsStrictReading, reading}
+use Rattle.cesu8_decode.specs.Decoding.{IsWrittenSoFar}
+use Rattle.cesu8_decode.proofs.whole.write_joined.Given as goal
+
+abbrev pub decreases-loop-rest : goal.decreases-loop-rest
+decreases-loop-rest l = length l.rest
+
+abbrev pub invariant-loop-rest : goal.invariant-loop-rest
+invariant-loop-rest l = record {
+  written : IsWrittenSoFar (flavor_of l.flavor) l.fn.bytes l.rest 0 l.end l.initial.out l.out;
+  whole : IsStrictReading (flavor_of l.flavor) l.rest (reading (flavor_of l.flavor) l.rest);
+}

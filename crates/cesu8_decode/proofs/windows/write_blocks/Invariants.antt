@@ -1,0 +1,19 @@
+use Rattle.std.proofs.Common.{◌≡◌, ◌+◌, ◌-◌, ◌*◌, ◌<◌, ◌≤◌, ℕ, true, false, length, take}
+use Rattle.cesu8_decode.specs.DecodedLanes.{AreFiveCodes}
+use Rattle.cesu8_decode.specs.DecodedPlaces.{decoded, is_damaged_at}
+use Rattle.cesu8_decode.proofs.windows.write_blocks.Given as goal
+
+abbrev pub decreases-loop-at : goal.decreases-loop-at
+decreases-loop-at g l = l.fn.count - l.at
+
+abbrev pub invariant-loop-at : goal.invariant-loop-at
+invariant-loop-at g l = record {
+  within : l.at ≤ l.fn.count;
+  room : l.at < l.fn.count → l.end ≤ 3 * l.at;
+  end : l.end ≤ 3 * l.fn.count + 93;
+  before : l.at < l.fn.count → AreFiveCodes g.N.NullForm.flavor l.fn.window l.at l.before 27;
+  len : length l.out ≡ length l.initial.out;
+  bytes : take l.end l.out ≡ decoded g.N.NullForm.flavor l.fn.window 0 l.at;
+  damaged : l.is_damaged ≡ true → (i : ℕ) × (i < l.at) × (is_damaged_at g.N.NullForm.flavor l.fn.window i ≡ true);
+  whole : l.is_damaged ≡ false → (i : ℕ) → i < l.at → is_damaged_at g.N.NullForm.flavor l.fn.window i ≡ false;
+}

@@ -1,0 +1,6 @@
+pub mod DecodedPlaces
+pub mod DecodedLanes
+pub mod DecodedWindows
+pub mod Refusals
+pub mod Decoding
+pub mod PutReadings

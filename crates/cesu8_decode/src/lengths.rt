@@ -1,0 +1,58 @@
+//! The length of the lossy reading: three bytes for each byte, less what each position saves.
+
+ghost use Rattle.std.specs.Prelude.{◌≡◌, ◌<◌, refl, IfSome, IfNone};
+ghost use Rattle.std.proofs.Common.{arith};
+ghost use Rattle.std.proofs.lemmas.Bool.Decides.{nat_tests};
+ghost use Rattle.cesu8_text.specs.Reading.{lossy_length};
+ghost use Rattle.cesu8_decode.specs.DecodedPlaces.{saved, total_weight};
+
+use super::places::REACH;
+use super::sums::{BLOCKS, Weight, Weights, sum_first, sum_of_few};
+use cesu8_bytes::null_form::NullForm;
+
+/// Returns the length of the lossy reading, if it fits `usize`.
+pub fn lossy_len<N: NullForm>(bytes: &[u8]) -> Option<usize>
+    ensures some { IfSome result (λ len. len ≡ lossy_length N.flavor bytes.now) }
+    ensures none { IfNone result (usize.MAX < lossy_length N.flavor bytes.now) }
+{
+    let most = 3 * bytes.len() as u128;
+    usize::try_from(most - saved::<N>(bytes)).ok()
+}
+
+/// Returns what all positions save.
+fn saved<N: NullForm>(bytes: &[u8]) -> u128
+    ensures { result ≡ total_weight saved N.flavor bytes.now }
+{
+    let mut saved = 0;
+    let mut rest = bytes;
+    while rest.len() >= REACH {
+        let (sum, behind) = sum_first::<N, Savings>(rest, BLOCKS);
+        saved += sum as u128;
+        rest = behind;
+    }
+    saved + sum_of_few::<N, Savings>(rest) as u128
+}
+
+/// What a position saves.
+struct Savings;
+
+impl Weight for Savings {
+    ghost weight = { saved };
+
+    #[inline(always)]
+    fn weights() -> Weights {
+        Weights {
+            of_one: 2,
+            by_low: BY_LOW,
+            by_high: BY_HIGH,
+        }
+    }
+
+    ghost nothing = { λ b. refl };
+
+    ghost light = { λ w b few. Prim.grind (arith, nat_tests) };
+}
+
+const BY_LOW: [u8; 16] = [0, 4, 4, 0, 6, 0, 0, 0, 6, 0, 0, 0, 0, 0, 0, 0];
+
+const BY_HIGH: [u8; 16] = [0, 6, 14, 0, 0, 0, 0, 0, 5, 0, 0, 0, 0, 0, 0, 0];

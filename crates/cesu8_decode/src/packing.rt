@@ -1,0 +1,194 @@
+//! Packs what becomes of 32 bytes: by a shuffle for each four bytes, or for each eight if no byte
+//! is damaged.
+
+ghost use Rattle.std.specs.Prelude.{◌≡◌, List, Bool, ◌+◌, ◌*◌, ◌%◌, ◌<◌, ◌≤◌, ◌∷◌, [], ◌++◌, false, length, map, take, replicate, slice_index};
+ghost use Rattle.std.specs.Simd.Lanes.{chunk, mask_l};
+ghost use Rattle.cesu8_decode.specs.DecodedLanes.{is_high, written, written_lanes, AreShufflesOfFour};
+
+use super::places::BLOCK;
+use super::rows_of_eight::rows_of_eight;
+use cesu8_bytes::Rows;
+use std::simd::prelude::*;
+
+/// The most bytes that are written for one byte: those of the replacement character.
+pub const WIDEST: usize = 3;
+
+/// How many bytes are stored at once. The last of them may not be used.
+const STORED: usize = 16;
+
+/// How long the buffer for a block must be.
+pub const ROOM: usize = WIDEST * BLOCK + STORED;
+
+/// How many bytes are half a block.
+const HALF: usize = BLOCK / 2;
+
+/// What becomes of the bytes of a block. If a lane of `damaged` has its highest bit set, the
+/// replacement character is written; else if one of `gone` has it set, nothing is; else the lane of
+/// `bytes`.
+#[derive(Drop)]
+pub struct Parts {
+    pub bytes: u8x32,
+    pub gone: u8x32,
+    pub damaged: u8x32,
+}
+
+/// Stores what becomes of a block, and returns its end.
+#[inline(always)]
+pub fn store(parts: Parts, rows: &Rows, out: &mut [u8], at: usize) -> usize
+    requires rows { AreShufflesOfFour rows.now }
+    requires room { at + ROOM ≤ length out.old }
+    ensures bytes { take result out.new
+        ≡ take at out.old ++ written_lanes parts.gone parts.damaged parts.bytes }
+    ensures end { (at ≤ result) × (result ≤ at + WIDEST * BLOCK) }
+    ensures len { length out.new ≡ length out.old }
+{
+    if highest_bits(parts.damaged) == 0 {
+        return store_whole(parts, out, at);
+    }
+    let at = store_half(
+        parts.bytes.extract::<0, HALF>(),
+        parts.gone.extract::<0, HALF>(),
+        parts.damaged.extract::<0, HALF>(),
+        rows,
+        out,
+        at,
+    );
+    store_half(
+        parts.bytes.extract::<HALF, HALF>(),
+        parts.gone.extract::<HALF, HALF>(),
+        parts.damaged.extract::<HALF, HALF>(),
+        rows,
+        out,
+        at,
+    )
+}
+
+/// Stores what becomes of a block without a damaged byte.
+#[inline(always)]
+fn store_whole(parts: Parts, out: &mut [u8], at: usize) -> usize
+    requires whole { mask_l (map is_high parts.damaged) ≡ 0 }
+    requires room { at + ROOM ≤ length out.old }
+    ensures bytes { take result out.new
+        ≡ take at out.old ++ written_lanes parts.gone parts.damaged parts.bytes }
+    ensures end { (at ≤ result) × (result ≤ at + BLOCK) }
+    ensures len { length out.new ≡ length out.old }
+{
+    let gone = highest_bits(parts.gone) as usize;
+    if gone == 0 {
+        parts.bytes.copy_to_slice(&mut out[at..]);
+        return at + BLOCK;
+    }
+    let first = parts.bytes.extract::<0, HALF>();
+    let third = parts.bytes.extract::<HALF, HALF>();
+    let at = store_eight(first, gone & 0xFF, out, at);
+    let at = store_eight(second_of(first), gone >> 8 & 0xFF, out, at);
+    let at = store_eight(third, gone >> 16 & 0xFF, out, at);
+    store_eight(second_of(third), gone >> 24 & 0xFF, out, at)
+}
+
+/// Stores those of eight bytes that don't go, by the set of those that do, and returns their end.
+#[inline(always)]
+fn store_eight(lanes: u8x16, gone: usize, out: &mut [u8], at: usize) -> usize
+    requires small { gone < 0x100 }
+    requires room { at + STORED ≤ length out.old }
+    ensures bytes { (tests : List Bool) → length tests ≡ 8 → gone ≡ mask_l tests
+        → take result out.new
+        ≡ take at out.old ++ written tests (replicate 8 false) (chunk 0 8 lanes) }
+    ensures end { (at ≤ result) × (result ≤ at + 8) }
+    ensures len { length out.new ≡ length out.old }
+{
+    let row = &rows_of_eight()[gone];
+    let packed = picked(lanes, u8x16::from_array(*row));
+    packed.copy_to_slice(&mut out[at..]);
+    at + row[15] as usize
+}
+
+/// Returns a bit for each lane whose highest bit is set.
+#[inline(always)]
+pub fn highest_bits<const N: usize>(lanes: Simd<u8, N>) -> u64
+    requires { N ≤ u64.BITS }
+    ensures { result ≡ mask_l (map is_high lanes.entry) }
+{
+    lanes.simd_ge(Simd::splat(0x80)).to_bitmask()
+}
+
+/// The replacement character, U+FFFD, twice, each in four lanes.
+const REPLACEMENTS: [u8; 16] = [
+    0xEF, 0xBF, 0xBD, 0, 0xEF, 0xBF, 0xBD, 0, 0xEF, 0xBF, 0xBD, 0, 0xEF, 0xBF, 0xBD, 0,
+];
+
+/// Stores what becomes of sixteen bytes.
+#[inline(always)]
+fn store_half(
+    bytes: u8x16,
+    gone: u8x16,
+    damaged: u8x16,
+    rows: &Rows,
+    out: &mut [u8],
+    at: usize,
+) -> usize
+    requires rows { AreShufflesOfFour rows.now }
+    requires room { at + WIDEST * HALF + STORED ≤ length out.old }
+    ensures bytes { take result out.new ≡ take at out.old ++ written_lanes gone damaged bytes }
+    ensures end { (at ≤ result) × (result ≤ at + WIDEST * HALF) }
+    ensures len { length out.new ≡ length out.old }
+{
+    let replacements = u8x16::from_array(REPLACEMENTS);
+    let first = bytes.shuffle::<16>(
+        replacements,
+        [0, 1, 2, 3, 16, 17, 18, 19, 4, 5, 6, 7, 20, 21, 22, 23],
+    );
+    let third = bytes.shuffle::<16>(
+        replacements,
+        [8, 9, 10, 11, 16, 17, 18, 19, 12, 13, 14, 15, 20, 21, 22, 23],
+    );
+    let front = highest_bits(gone.shuffle::<16>(
+        damaged,
+        [0, 1, 2, 3, 16, 17, 18, 19, 4, 5, 6, 7, 20, 21, 22, 23],
+    )) as usize;
+    let back = highest_bits(gone.shuffle::<16>(
+        damaged,
+        [8, 9, 10, 11, 24, 25, 26, 27, 12, 13, 14, 15, 28, 29, 30, 31],
+    )) as usize;
+    let at = store_four(first, front & 0xFF, rows, out, at);
+    let at = store_four(second_of(first), front >> 8 & 0xFF, rows, out, at);
+    let at = store_four(third, back & 0xFF, rows, out, at);
+    store_four(second_of(third), back >> 8 & 0xFF, rows, out, at)
+}
+
+/// Returns the upper half of some lanes, twice.
+#[inline(always)]
+fn second_of(lanes: u8x16) -> u8x16
+    ensures { result ≡ chunk 8 8 lanes ++ chunk 8 8 lanes }
+{
+    lanes.swizzle::<16>([8, 9, 10, 11, 12, 13, 14, 15, 8, 9, 10, 11, 12, 13, 14, 15])
+}
+
+/// Stores what becomes of four bytes, which the replacement character follows in the lanes, and
+/// returns its end. The lower four bits of the set mark those that go, and the others those that
+/// are damaged.
+#[inline(always)]
+fn store_four(lanes: u8x16, set: usize, rows: &Rows, out: &mut [u8], at: usize) -> usize
+    requires rows { AreShufflesOfFour rows.now }
+    requires small { set < 0x100 }
+    requires replacement { chunk 4 3 lanes ≡ 0xEF ∷ 0xBF ∷ 0xBD ∷ [] }
+    requires room { at + STORED ≤ length out.old }
+    ensures bytes { (gone damaged : List Bool) → length gone ≡ 4 → length damaged ≡ 4
+        → set ≡ mask_l (gone ++ damaged)
+        → take result out.new ≡ take at out.old ++ written gone damaged (chunk 0 4 lanes) }
+    ensures end { (at ≤ result) × (result ≤ at + WIDEST * 4) }
+    ensures len { length out.new ≡ length out.old }
+{
+    let row = &rows[set];
+    let packed = picked(lanes, u8x16::from_array(*row));
+    packed.copy_to_slice(&mut out[at..]);
+    at + row[15] as usize
+}
+
+/// Returns the lanes at the positions in the lower halves of a row's numbers.
+#[inline(always)]
+fn picked(lanes: u8x16, row: u8x16) -> u8x16
+    ensures { result ≡ map (λ j. slice_index lanes (j % 0x10)) row }
+{
+    lanes.swizzle_dyn_within::<16>(row & u8x16::splat(0x0F))
+}

@@ -1,0 +1,102 @@
+//! Sums over the positions of some bytes, by vectors, where they stand and with no branch on a
+//! byte. The character that begins at a position decides its weight.
+
+ghost use Rattle.std.specs.Prelude.{◌≡◌, ℕ, ◌+◌, ◌*◌, ◌<◌, ◌≤◌, length, map};
+ghost use Rattle.std.specs.List.{range_with_len};
+ghost use Rattle.std.specs.Simd.Lanes.{sum_l};
+ghost use Rattle.cesu8_decode.specs.DecodedPlaces.{total_weight, weight_between};
+ghost use Rattle.cesu8_decode.specs.DecodedLanes.{weight_at, TellWeights};
+
+use super::places::{BEHIND, REACH, look_up, starts};
+use cesu8_bytes::null_form::NullForm;
+use std::simd::prelude::*;
+
+/// The weight of a position.
+pub trait Weight {
+    /// By the width of the character that begins there, or 0, and by its first byte.
+    ghost weight: { ℕ → ℕ → ℕ };
+
+    /// Returns the weights in tables.
+    fn weights() -> Weights
+        ensures { TellWeights weight result.of_one result.by_low result.by_high };
+
+    ghost nothing: { (b : ℕ) → weight 0 b ≡ 0 };
+
+    ghost light: { (w b : ℕ) → w ≤ 6 → weight w b ≤ 14 };
+}
+
+/// The weights of characters: of one byte, and of others by the lower half of their code or by its
+/// upper half.
+#[derive(Drop)]
+pub struct Weights {
+    pub of_one: u8,
+    pub by_low: [u8; 16],
+    pub by_high: [u8; 16],
+}
+
+/// The most blocks of 32 positions that each lane sums up: a position weighs at most 14.
+pub const BLOCKS: usize = 16;
+
+/// Returns the weight of the first positions, of at most so many blocks, and the bytes from the next
+/// position on.
+#[inline(always)]
+pub fn sum_first<N: NullForm, W: Weight>(bytes: &[u8], most: usize) -> (usize, &[u8])
+    requires bytes { REACH ≤ length bytes.now }
+    requires blocks { (0 < most) × (most ≤ BLOCKS) }
+    ensures less { length result.1.now < length bytes.now }
+    ensures sum { result.0 + total_weight W.weight N.flavor result.1.now
+        ≡ total_weight W.weight N.flavor bytes.now }
+{
+    let count = ((bytes.len() - BEHIND) / 32).min(most);
+    (sum_of_blocks::<N, W>(bytes, count), &bytes[32 * count..])
+}
+
+/// Returns the weight of the positions of the first blocks.
+#[inline(always)]
+fn sum_of_blocks<N: NullForm, W: Weight>(bytes: &[u8], count: usize) -> usize
+    requires count { count ≤ BLOCKS }
+    requires bytes { 32 * count + BEHIND ≤ length bytes.now }
+    ensures { result ≡ weight_between W.weight N.flavor bytes.now 0 (32 * count) }
+{
+    let mut lanes = u8x32::splat(0);
+    for i in 0..count {
+        lanes = lanes.strict_add(weight_lanes::<N, W>(bytes, 32 * i));
+    }
+    lane_sum(lanes)
+}
+
+/// Returns the weight of the positions of a few bytes. They are followed by FF, which begins
+/// nothing and is in no character.
+#[inline(always)]
+pub fn sum_of_few<N: NullForm, W: Weight>(bytes: &[u8]) -> usize
+    requires { length bytes.now < REACH }
+    ensures { result ≡ total_weight W.weight N.flavor bytes.now }
+{
+    let mut padded = [0xFF; 32 + REACH];
+    padded[..bytes.len()].copy_from_slice(bytes);
+    sum_of_blocks::<N, W>(&padded, 2)
+}
+
+/// Returns the sum of the lanes.
+#[inline(always)]
+fn lane_sum(lanes: u8x32) -> usize
+    ensures { result ≡ sum_l lanes }
+{
+    lanes.dot4(u8x32::splat(1)).strict_reduce_sum() as usize
+}
+
+/// Returns the weights of the 32 positions from `at` on.
+#[inline(always)]
+fn weight_lanes<N: NullForm, W: Weight>(bytes: &[u8], at: usize) -> u8x32
+    requires { at + REACH ≤ length bytes.now }
+    ensures { result ≡ map (weight_at W.weight N.flavor bytes.now) (range_with_len at 32) }
+{
+    let weights = W::weights();
+    let codes = starts::<N>(bytes, at);
+    let byte = u8x32::from_slice(&bytes[at..]);
+    // A byte below 80 is a character of its own, but 00 is none in MUTF-8.
+    let of_one = (byte | N::nulls(byte))
+        .simd_lt(u8x32::splat(0x80))
+        .select(u8x32::splat(weights.of_one), u8x32::splat(0));
+    of_one | look_up(weights.by_low, codes) | look_up(weights.by_high, codes >> u8x32::splat(4))
+}

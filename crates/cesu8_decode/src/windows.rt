@@ -1,0 +1,164 @@
+//! Windows by places: some bytes are copied between zeros, and what becomes of each byte is
+//! written.
+
+ghost use Rattle.std.specs.Prelude.{◌≡◌, ℕ, ◌+◌, ◌-◌, ◌*◌, ◌<◌, ◌≤◌, List, IsTrue, true, false, length, take, drop, replicate, slice_index};
+ghost use Rattle.cesu8_text.specs.Encoding.{Flavor};
+ghost use Rattle.cesu8_decode.specs.DecodedPlaces.{IsPadded, decoded, is_damaged_at, is_border_at};
+ghost use Rattle.cesu8_decode.specs.DecodedLanes.{AreFiveCodes};
+ghost use Rattle.cesu8_decode.specs.DecodedWindows.{IsRead};
+ghost use Rattle.cesu8_bytes.specs.Pieces.{IsPiece};
+ghost use Rattle.cesu8_decode.specs.Decoding.{HasFault};
+ghost use Rattle.cesu8_bytes.specs.declared.options.Strictness.TheVariants.{Strict, Lossy};
+
+use super::packing::{ROOM, WIDEST};
+use super::parts::write_block;
+use super::places::{BLOCK, PAIR, THREE, near, starts};
+use super::rows::rows;
+use cesu8_bytes::null_form::NullForm;
+use std::simd::prelude::*;
+
+/// How many bytes a window's buffer has besides those of the window.
+pub const AROUND: usize = 80;
+
+/// How many positions before a byte are read to decide what becomes of it.
+pub const BEFORE: usize = 5;
+
+/// The least length of a window's buffer, for which some bytes are read.
+pub const LEAST: usize = AROUND + 2 * BEFORE + 1;
+
+/// A buffer for the text of a window may be this much shorter than three bytes for each byte of the
+/// window's buffer.
+pub const SPARED: usize = 64;
+
+/// At least so many bytes of it follow the text.
+pub const LEFT: usize = 64;
+
+/// How many bytes of a window were read, the end of what is written for them, and whether some of
+/// them are damaged.
+#[derive(Drop)]
+pub struct Decoded {
+    pub read: usize,
+    pub end: usize,
+    pub is_damaged: bool,
+}
+
+/// Writes what becomes of the first bytes, up to a position that no encoded character crosses.
+#[inline(always)]
+pub fn write_window<N: NullForm>(bytes: &[u8], window: &mut [u8], out: &mut [u8]) -> Decoded
+    requires window { LEAST ≤ length window.old }
+    requires zeros { window.old ≡ replicate (length window.old) 0 }
+    requires out { WIDEST * length window.old ≤ length out.old + SPARED }
+    ensures some { 0 < length bytes.now → 0 < result.read }
+    ensures within { result.read ≤ length bytes.now }
+    ensures all { length bytes.now + AROUND ≤ length window.old → result.read ≡ length bytes.now }
+    ensures end { result.end + LEFT ≤ length out.new }
+    ensures lossy { IsPiece N.flavor Lossy bytes.now
+        (drop result.read bytes.now) (take result.end out.new) }
+    ensures strict { result.is_damaged ≡ false → IsPiece N.flavor Strict bytes.now
+        (drop result.read bytes.now) (take result.end out.new) }
+    ensures damaged { result.is_damaged ≡ true → HasFault N.flavor bytes.now }
+{
+    let read = load::<N>(bytes, window);
+    write_blocks::<N>(window, read, out)
+}
+
+/// Copies the first bytes into a window, and returns how many of them are read: up to a position
+/// that no encoded character crosses.
+#[inline(always)]
+pub fn load<N: NullForm>(bytes: &[u8], window: &mut [u8]) -> usize
+    requires room { LEAST ≤ length window.old }
+    requires zeros { window.old ≡ replicate (length window.old) 0 }
+    ensures some { 0 < length bytes.now → 0 < result }
+    ensures all { length bytes.now + AROUND ≤ length window.old → result ≡ length bytes.now }
+    ensures read { IsRead N.flavor bytes.now window.new result }
+    ensures inside { result + AROUND ≤ length window.new }
+    ensures before { (k : ℕ) → k < BEFORE → slice_index window.new k ≡ 0 }
+    ensures len { length window.new ≡ length window.old }
+{
+    let most = window.len() - AROUND;
+    let loaded = if bytes.len() < most {
+        bytes.len()
+    } else {
+        most
+    };
+    pad(&bytes[..loaded], window);
+    if loaded == bytes.len() {
+        loaded
+    } else {
+        border::<N>(window, loaded - BEFORE)
+    }
+}
+
+/// Copies the bytes into zeros, after five of them.
+fn pad(bytes: &[u8], window: &mut [u8])
+    requires room { length bytes.now + AROUND ≤ length window.old }
+    requires zeros { window.old ≡ replicate (length window.old) 0 }
+    ensures padded { IsPadded bytes.now window.new }
+    ensures len { length window.new ≡ length window.old }
+{
+    window[BEFORE..BEFORE + bytes.len()].copy_from_slice(bytes);
+}
+
+/// Returns the last border at or before a position of a window: no encoded character crosses it. It
+/// is at most five positions before.
+fn border<N: NullForm>(window: &[u8], most: usize) -> usize
+    requires { (BEFORE ≤ most) × (most + BLOCK ≤ length window.now) }
+    ensures within { (result ≤ most) × (most ≤ result + BEFORE) }
+    ensures border { (n : ℕ) → n ≤ most → most ≤ n + BEFORE
+        → is_border_at N.flavor window.now n ≡ true → is_border_at N.flavor window.now result ≡ true }
+{
+    let codes = starts::<N>(window, most - BEFORE).to_array();
+    for back in 0..BEFORE {
+        if is_border(&codes, BEFORE - back) {
+            return most - back;
+        }
+    }
+    most - BEFORE
+}
+
+/// Returns whether no character that begins at one of the five positions before reaches beyond this
+/// position.
+fn is_border(codes: &[u8; BLOCK], at: usize) -> bool
+    requires { at ≤ BEFORE }
+    ensures { (f : Flavor) (window : List ℕ) (n : ℕ) → AreFiveCodes f window n codes.now at
+        → result ≡ is_border_at f window n }
+{
+    let of_pair = codes[at] & PAIR | codes[at + 1] & PAIR | codes[at + 2] & PAIR;
+    codes[at + 4] | codes[at + 3] & (PAIR | THREE) | of_pair == 0
+}
+
+/// Writes what becomes of the first `count` bytes of a window.
+#[inline(always)]
+fn write_blocks<N: NullForm>(window: &[u8], count: usize, out: &mut [u8]) -> Decoded
+    requires window { count + AROUND ≤ length window.now }
+    requires zeros { (k : ℕ) → k < BEFORE → slice_index window.now k ≡ 0 }
+    requires out { WIDEST * count + ROOM ≤ length out.old }
+    ensures read { result.read ≡ count }
+    ensures bytes { take result.end out.new ≡ decoded N.flavor window.now 0 count }
+    ensures damaged { IsTrue result.is_damaged → (i : ℕ) × (i < count)
+        × (is_damaged_at N.flavor window.now i ≡ true) }
+    ensures whole { result.is_damaged ≡ false → (i : ℕ) → i < count
+        → is_damaged_at N.flavor window.now i ≡ false }
+    ensures end { result.end ≤ WIDEST * (count + BLOCK - 1) }
+    ensures len { length out.new ≡ length out.old }
+{
+    let mut at = 0;
+    let mut end = 0;
+    let mut is_damaged = false;
+    let mut before = u8x32::splat(0);
+    while at < count {
+        let left = count - at;
+        let len = if left < BLOCK { left } else { BLOCK };
+        let here = starts::<N>(window, at + BEFORE);
+        let block = write_block::<N>(window, &near(before, here), at, len, rows(), out, end);
+        end = block.end;
+        is_damaged = is_damaged | block.is_damaged;
+        before = here;
+        at += len;
+    }
+    Decoded {
+        read: count,
+        end,
+        is_damaged,
+    }
+}

@@ -1,0 +1,10 @@
+-- The encoder of a few bytes, and the one by vectors.
+pub mod Runs
+pub mod BytesInTurn
+pub mod ComputedPairs
+pub mod RecodedText
+pub mod EncodedLanes
+pub mod EncodedBlocks
+pub mod EncodedRows
+pub mod EncodedWindows
+pub mod Shuffles

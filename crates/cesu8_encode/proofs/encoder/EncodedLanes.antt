@@ -1,0 +1,146 @@
+-- What the vectors of the encoder hold, lane by lane.
+use Rattle.std.proofs.Common.{◌≡◌, ℕ, ◌+◌, ◌*◌, ◌/◌, ◌%◌, ◌^◌, Bool, true, false, cond, ◌||◌, ◌&&◌, List, [], ◌∷◌, ◌++◌, map, length, replicate, eqb, leb, bit_and, bit_or, refl, sym, ap, ◌∙◌, subst, arith, w8}
+use Rattle.std.specs.List.{flat_map}
+use Rattle.std.proofs.lemmas.Bool.{false≢true}
+use Rattle.std.proofs.lemmas.Bool.Decides.{nat_tests}
+use Rattle.std.proofs.lemmas.Simd.{bitmask_splat}
+use lib.Lanes.{zip2, sel_l, mask_l, top}
+use Rattle.cesu8_text.specs.Encoding.{Flavor, Cesu8, Mutf8}
+use Rattle.cesu8_text.specs.Class.{is_lead, is_null}
+use Rattle.cesu8_bytes.specs.Kernels.{mask}
+use Rattle.cesu8_encode.specs.EncodedPlaces.{six_bits, packed}
+use Rattle.cesu8_bytes.proofs.lists.Lanes.{equal}
+
+abbrev pub at_most : ℕ → ℕ → ℕ
+at_most a b = cond (leb a b) 255 0
+
+-- all ones where a comparison holds
+chosen : (t : Bool) → cond (top 7 (cond t 255 0)) 255 0 ≡ mask t
+chosen true = refl
+chosen false = refl
+
+leads_of : (bytes : List ℕ) →
+    sel_l (map (top 7) (zip2 at_most (replicate (length bytes) 0xF0) bytes)) (replicate (length bytes) 0xFF) (replicate (length bytes) 0)
+    ≡ map (λ b. mask (is_lead b)) bytes
+leads_of [] = refl
+leads_of (b ∷ bytes) = λ i. chosen (leb 0xF0 b) i ∷ leads_of bytes i
+
+-- A comparison with F0 marks the lead bytes of four.
+pub lead_lanes : (bytes : List ℕ) → length bytes ≡ 32 →
+    sel_l (map (top 7) (zip2 at_most (replicate 32 0xF0) bytes)) (replicate 32 0xFF) (replicate 32 0) ≡ map (λ b. mask (is_lead b)) bytes
+lead_lanes bytes long =
+    subst (λ n. sel_l (map (top 7) (zip2 at_most (replicate n 0xF0) bytes)) (replicate n 0xFF) (replicate n 0) ≡ map (λ b. mask (is_lead b)) bytes)
+    long (leads_of bytes)
+
+abbrev shl : ℕ → ℕ → ℕ
+shl a b = a * 2 ^ b % 2 ^ 8
+
+abbrev shr : ℕ → ℕ → ℕ
+shr a b = a / 2 ^ b
+
+abbrev six_bit_lanes : ℕ → List ℕ → List ℕ → List ℕ
+six_bit_lanes n bytes next =
+    zip2 bit_or (zip2 bit_and (zip2 shl bytes (replicate n 2)) (replicate n 0x3C)) (zip2 bit_and (zip2 shr next (replicate n 4)) (replicate n 3))
+
+six_bits_of : (bytes next : List ℕ) → length next ≡ length bytes → six_bit_lanes (length bytes) bytes next ≡ zip2 six_bits bytes next
+six_bits_of [] [] e = refl
+six_bits_of [] (n ∷ next) e = absurd (omega arith)
+six_bits_of (b ∷ bytes) [] e = absurd (omega arith)
+six_bits_of (b ∷ bytes) (n ∷ next) e = ap (λ l. six_bits b n ∷ l) (six_bits_of bytes next (omega arith))
+
+-- Shifts and masks make the six bits.
+pub six_bits_are : (bytes next : List ℕ) → length bytes ≡ 32 → length next ≡ 32 → six_bit_lanes 32 bytes next ≡ zip2 six_bits bytes next
+six_bits_are bytes next long long_next =
+    subst (λ n. six_bit_lanes n bytes next ≡ zip2 six_bits bytes next) long (six_bits_of bytes next (long_next ∙ sym long))
+
+-- The bits of the lanes that are all ones.
+pub bits_are : (lanes : List ℕ) → length lanes ≡ 32 →
+    mask_l (map (top 7) (zip2 equal lanes (replicate 32 255))) % 2 ^ 64 ≡ mask_l (map (λ b. eqb b 0xFF) lanes)
+bits_are lanes long = bitmask_splat w8 eqb lanes 32 255 long (omega arith)
+
+-- ---- what becomes of the bytes, at places vs
+
+abbrev pub second_vector : ℕ → List ℕ → List ℕ → List ℕ → List ℕ → List ℕ → List ℕ → List ℕ
+second_vector n lead before two_before null bytes six =
+    sel_l (map (top 7) (zip2 equal (zip2 bit_or lead before) (replicate n 0)))
+    (zip2 bit_or (zip2 bit_or bytes (zip2 bit_and two_before (replicate n 0x30))) (zip2 bit_and null (replicate n 0x80)))
+    (zip2 (λ a b. (a + b) % 2 ^ 8) six (zip2 (λ a b. (a + b) % 2 ^ 8) (replicate n 0x80) (zip2 bit_and lead (replicate n 0x1F))))
+
+-- the second byte, from four tests, the byte and the six bits
+abbrev second : Bool → Bool → Bool → Bool → ℕ → ℕ → ℕ
+second lead before two_before null b six =
+    cond (lead || before) ((six + cond lead 0x9F 0x80) % 0x100) (bit_or (bit_or b (cond two_before 0x30 0)) (cond null 0x80 0))
+
+second_lane : (lead before two_before null : Bool) (b six : ℕ) →
+    cond (top 7 (equal (bit_or (mask lead) (mask before)) 0))
+    (bit_or (bit_or b (bit_and (mask two_before) 0x30)) (bit_and (mask null) 0x80))
+    ((six + (0x80 + bit_and (mask lead) 0x1F) % 2 ^ 8) % 2 ^ 8)
+    ≡ second lead before two_before null b six
+second_lane true true two_before null b six = refl
+second_lane true false two_before null b six = refl
+second_lane false true two_before null b six = refl
+second_lane false false true true b six = refl
+second_lane false false true false b six = refl
+second_lane false false false true b six = refl
+second_lane false false false false b six = refl
+
+module _ (lead before two_before null : ℕ → Bool) (byte six : ℕ → ℕ) where
+  -- The lanes of the seconds are the second bytes.
+  pub second_lanes : (vs : List ℕ) →
+      second_vector (length vs) (map (λ v. mask (lead v)) vs) (map (λ v. mask (before v)) vs) (map (λ v. mask (two_before v)) vs)
+      (map (λ v. mask (null v)) vs) (map byte vs) (map six vs)
+      ≡ map (λ v. second (lead v) (before v) (two_before v) (null v) (byte v) (six v)) vs
+  second_lanes [] = refl
+  second_lanes (v ∷ vs) = λ i. second_lane (lead v) (before v) (two_before v) (null v) (byte v) (six v) i ∷ second_lanes vs i
+
+abbrev pub first_vector : ℕ → List ℕ → List ℕ
+first_vector n null = sel_l (map (top 7) (zip2 equal null (replicate n 0))) (replicate n 0xED) (replicate n 0xC0)
+
+first_lane : (null : Bool) → ◌≡◌ {A = ℕ} (cond (top 7 (equal (mask null) 0)) 0xED 0xC0) (cond null 0xC0 0xED)
+first_lane true = refl
+first_lane false = refl
+
+-- Those of the firsts are the first bytes.
+pub first_lanes : (null : ℕ → Bool) (vs : List ℕ) →
+    first_vector (length vs) (map (λ v. mask (null v)) vs) ≡ map (λ v. cond (null v) 0xC0 0xED) vs
+first_lanes null [] = refl
+first_lanes null (v ∷ vs) = λ i. first_lane (null v) i ∷ first_lanes null vs i
+
+doubled_lane : (a b c : Bool) → (a && c) ≡ false → eqb (bit_or ((mask a + mask c) % 2 ^ 8) (mask b)) 0xFF ≡ ((a || b) || c)
+doubled_lane true b true h = absurd (false≢true (sym h))
+doubled_lane true true false h = refl
+doubled_lane true false false h = refl
+doubled_lane false true true h = refl
+doubled_lane false true false h = refl
+doubled_lane false false true h = refl
+doubled_lane false false false h = refl
+
+-- The lanes of three tests, joined, tell which hold. The first and the last never hold together.
+pub doubled_lanes : (a b c : ℕ → Bool) → ((v : ℕ) → (a v && c v) ≡ false) → (vs : List ℕ) →
+    map (λ x. eqb x 0xFF) (zip2 bit_or (zip2 (λ a b. (a + b) % 2 ^ 8) (map (λ v. mask (a v)) vs) (map (λ v. mask (c v)) vs)) (map (λ v. mask (b v)) vs))
+    ≡ map (λ v. (a v || b v) || c v) vs
+doubled_lanes a b c apart [] = refl
+doubled_lanes a b c apart (v ∷ vs) = λ i. doubled_lane (a v) (b v) (c v) (apart v) i ∷ doubled_lanes a b c apart vs i
+
+lead_is_not_null : (b : ℕ) → (is_lead b && is_null Mutf8 b) ≡ false
+lead_is_not_null b = grind (arith, nat_tests)
+
+neither : (t : Bool) → (t && false) ≡ false
+neither true = refl
+neither false = refl
+
+-- No lead byte is null.
+pub lead_or_null : (f : Flavor) (b : ℕ) → (is_lead b && is_null f b) ≡ false
+lead_or_null Cesu8 b = neither (is_lead b)
+lead_or_null Mutf8 b = lead_is_not_null b
+
+packed_one : (t : Bool) (a b : ℕ) (ts : List Bool) (firsts seconds rest : List ℕ) → packed ts firsts seconds ≡ rest →
+    packed (t ∷ ts) (a ∷ firsts) (b ∷ seconds) ≡ cond t (a ∷ b ∷ []) (b ∷ []) ++ rest
+packed_one true a b ts firsts seconds rest e = ap (λ l. a ∷ b ∷ l) e
+packed_one false a b ts firsts seconds rest e = ap (λ l. b ∷ l) e
+
+-- Packing the lanes writes what is written for each place.
+pub packed_places : (t : ℕ → Bool) (g h : ℕ → ℕ) (vs : List ℕ) →
+    packed (map t vs) (map g vs) (map h vs) ≡ flat_map (λ v. cond (t v) (g v ∷ h v ∷ []) (h v ∷ [])) vs
+packed_places t g h [] = refl
+packed_places t g h (v ∷ vs) = packed_one (t v) (g v) (h v) _ _ _ _ (packed_places t g h vs)

@@ -1,0 +1,131 @@
+-- How a row of eight bytes is packed by a shuffle.
+use Rattle.std.proofs.Common.{◌≡◌, ℕ, zero, suc, ◌+◌, ◌-◌, ◌<◌, ◌≤◌, Bool, true, false, cond, List, [], ◌∷◌, ◌++◌, map, length, take, drop, get_or, replicate, eqb, refl, sym, ap, ◌∙◌, subst, arith, w8, T, count_ones, eqb-true, length-append, append-nil}
+use Rattle.std.specs.List.{range_with_len}
+use Rattle.std.proofs.lemmas.Bool.{agree_below_at}
+use Rattle.std.proofs.lemmas.List.{length-map, length-drop, map-append, drop_all, drop-drop}
+use Rattle.std.proofs.lemmas.Simd.{swz_l, SwzOk, SwzOk-from_below, pick_l-range_with_len, ones-mask_l_cons, Each1-from_get_or}
+use lib.Dec.{ltb→lt}
+use mir.ValLaws.{and_both}
+use lib.Lanes.{mask_l, put_chunk, chunk, pick_l, all_below, Each1}
+use Rattle.cesu8_encode.specs.EncodedPlaces.{packed, kept_lanes, shuffle_of}
+use Rattle.cesu8_bytes.proofs.vectors.Rows.{lowest, shuffled, stored_front, lanes_of_first, lanes_of_second, four_calls}
+
+kept_one : (g : ℕ → ℕ) (i : ℕ) (t : Bool) (xs ys : List ℕ) → map g xs ≡ ys →
+    map g (cond t ((8 + i) ∷ i ∷ xs) (i ∷ xs)) ≡ cond t (g (8 + i) ∷ g i ∷ ys) (g i ∷ ys)
+kept_one g i true xs ys e = ap (λ l. g (8 + i) ∷ g i ∷ l) e
+kept_one g i false xs ys e = ap (λ l. g i ∷ l) e
+
+-- The lanes that are kept are those that are packed.
+kept_packed : (g : ℕ → ℕ) (ts : List Bool) (i : ℕ) →
+    map g (kept_lanes (mask_l ts) i (length ts)) ≡ packed ts (map g (range_with_len (8 + i) (length ts))) (map g (range_with_len i (length ts)))
+kept_packed g [] i = refl
+kept_packed g (t ∷ ts) i =
+    let low = lowest t (mask_l ts) in
+    let next : 8 + i + 1 ≡ 8 + (i + 1) = omega arith in
+    rw (low.0, low.1, next) (kept_one g i t _ _ (kept_packed g ts (i + 1)))
+
+length_one : (i : ℕ) (t : Bool) (xs : List ℕ) (n m k : ℕ) → length xs ≡ n + m → k ≡ cond t 1 0 + m →
+    length (cond t ((8 + i) ∷ i ∷ xs) (i ∷ xs)) ≡ suc n + k
+length_one i true xs n m k e f = omega (arith, e, f)
+length_one i false xs n m k e f = omega (arith, e, f)
+
+-- They are as many as bytes and set bits.
+length_kept : (ts : List Bool) (i : ℕ) → length (kept_lanes (mask_l ts) i (length ts)) ≡ length ts + count_ones (mask_l ts)
+unfolding lib.Count.ones
+length_kept [] i = refl
+length_kept (t ∷ ts) i =
+    let low = lowest t (mask_l ts) in
+    rw (low.0, low.1) (length_one i t _ (length ts) _ _ (length_kept ts (i + 1)) (ones-mask_l_cons t ts))
+
+-- ---- shuffles
+
+below_at : (n : ℕ) (js : List ℕ) → T (all_below n js) → (m : ℕ) → m < length js → get_or js m 0 < n
+below_at n [] h m l = absurd (omega arith)
+below_at n (j ∷ js) h zero l = ltb→lt j n (and_both _ _ h).0
+below_at n (j ∷ js) h (suc m) l = below_at n js (and_both _ _ h).1 m (omega arith)
+
+-- Each lane of a shuffle is below 16, and they are sixteen.
+shuffle_below : (d : ℕ) → d < 0x100 → Each1 (λ j. j < 16) (shuffle_of d)
+shuffle_below d l =
+    Each1-from_get_or (λ j. j < 16) (shuffle_of d) 0 (below_at 16 (shuffle_of d)
+    (subst T (sym (agree_below_at (λ d. all_below 16 (shuffle_of d)) (λ d. true) 0x100 d refl l)) tt))
+
+shuffle_long : (d : ℕ) → d < 0x100 → length (shuffle_of d) ≡ 16
+shuffle_long d l = eqb-true _ _ (agree_below_at (λ d. eqb (length (shuffle_of d)) 16) (λ d. true) 0x100 d refl l)
+
+pub shuffle_ok : (d : ℕ) (row : List ℕ) → d < 0x100 → row ≡ shuffle_of d → SwzOk w8 16 16 0 row
+shuffle_ok d row l is = subst (SwzOk w8 16 16 0) (sym is) (SwzOk-from_below w8 16 1 16 0 (shuffle_of d) refl (omega (arith, shuffle_long d l)) (shuffle_below d l))
+
+-- ---- a row that is stored
+
+module _ (out lanes row : List ℕ) (at d : ℕ) (ts : List Bool)
+    (lanes_long : length lanes ≡ 16) (small : d < 0x100) (row_is : row ≡ shuffle_of d)
+    (room : at + 16 ≤ length out) (ts_long : length ts ≡ 8) (d_is : d ≡ mask_l ts) where
+  abbrev lane : ℕ → ℕ
+  lane j = get_or lanes j 0
+
+  abbrev kept : List ℕ
+  kept = kept_lanes d 0 8
+
+  eight : (n : ℕ) → n ≡ 8 → mask_l ts ≡ d → kept_lanes (mask_l ts) 0 n ≡ kept
+  eight n e m = rw (e, m) refl
+
+  kept_is : map lane kept ≡ packed ts (chunk 8 8 lanes) (chunk 0 8 lanes)
+  kept_is =
+      ap (map lane) (sym (eight (length ts) ts_long (sym d_is)))
+      ∙ kept_packed lane ts 0
+      ∙ rw ts_long (rw (pick_l-range_with_len 0 lanes 8 8 (omega arith), pick_l-range_with_len 0 lanes 0 8 (omega arith)) refl)
+
+  kept_long : length kept ≡ 8 + count_ones d
+  kept_long = ap length (sym (eight (length ts) ts_long (sym d_is))) ∙ length_kept ts 0 ∙ rw (ts_long, sym d_is) refl
+
+  -- After a row is stored, what is up to its end is what was there, and the row packed.
+  pub stored_row : (end : ℕ) → end ≡ at + 8 + count_ones d →
+      take end (put_chunk at out (swz_l w8 16 lanes 0 row)) ≡ take at out ++ packed ts (chunk 8 8 lanes) (chunk 0 8 lanes)
+  stored_row end end_is =
+      let padding : List ℕ = replicate (16 - length kept) 0 in
+      ap (λ n. take n (put_chunk at out (swz_l w8 16 lanes 0 row))) end_is
+      ∙ ap (λ v. take (at + 8 + count_ones d) (put_chunk at out v))
+      (ap (swz_l w8 16 lanes 0) row_is ∙ shuffled lanes (shuffle_of d) (shuffle_long d small) (shuffle_below d small) ∙ map-append lane kept padding)
+      ∙ stored_front out (map lane kept) (map lane padding) at (at + 8 + count_ones d)
+      (omega (arith, shuffle_long d small, length-append kept padding, length-map kept lane, length-map padding lane))
+      (omega (arith, length-map kept lane, kept_long))
+      ∙ ap (λ l. take at out ++ l) kept_is
+
+-- ---- four rows
+
+-- What is written for a list of bytes is what is written for its front and for the rest.
+packed_parts : (n : ℕ) (ts : List Bool) (firsts seconds : List ℕ) → length ts ≡ length firsts → length ts ≡ length seconds →
+    packed ts firsts seconds ≡ packed (take n ts) (take n firsts) (take n seconds) ++ packed (drop n ts) (drop n firsts) (drop n seconds)
+packed_parts zero ts firsts seconds e f = refl
+packed_parts (suc n) [] firsts seconds e f = refl
+packed_parts (suc n) (t ∷ ts) [] seconds e f = absurd (omega arith)
+packed_parts (suc n) (t ∷ ts) (a ∷ firsts) [] e f = absurd (omega arith)
+packed_parts (suc n) (true ∷ ts) (a ∷ firsts) (b ∷ seconds) e f = ap (λ l. a ∷ b ∷ l) (packed_parts n ts firsts seconds (omega arith) (omega arith))
+packed_parts (suc n) (false ∷ ts) (a ∷ firsts) (b ∷ seconds) e f = ap (λ l. b ∷ l) (packed_parts n ts firsts seconds (omega arith) (omega arith))
+
+module _ (firsts seconds : List ℕ) (ts : List Bool) (f : length firsts ≡ 32) (s : length seconds ≡ 32) (t : length ts ≡ 32) where
+  -- the vector of a row
+  abbrev halves : ℕ → List ℕ
+  halves a = pick_l 0 (seconds ++ firsts) (range_with_len a 8 ++ range_with_len (32 + a) 8)
+
+  abbrev row : ℕ → List ℕ
+  row a = packed (chunk a 8 ts) (chunk 8 8 (halves a)) (chunk 0 8 (halves a))
+
+  part : (a : ℕ) → a + 8 ≤ 32 → packed (drop a ts) (drop a firsts) (drop a seconds) ≡ row a ++ packed (drop (a + 8) ts) (drop (a + 8) firsts) (drop (a + 8) seconds)
+  part a le =
+      packed_parts 8 (drop a ts) (drop a firsts) (drop a seconds)
+      (omega (arith, length-drop a ts, length-drop a firsts, f, t)) (omega (arith, length-drop a ts, length-drop a seconds, s, t))
+      ∙ rw (drop-drop 8 a ts, drop-drop 8 a firsts, drop-drop 8 a seconds, lanes_of_first seconds firsts a 8 (omega (arith, s)), lanes_of_second seconds firsts 32 a 8 s (omega (arith, f))) refl
+
+  last : packed (drop 32 ts) (drop 32 firsts) (drop 32 seconds) ≡ []
+  last = rw (drop_all 32 ts (omega (arith, t))) refl
+
+  -- The four rows, one behind the other, are the block.
+  pub four_rows : (x0 x1 x2 x3 x4 : List ℕ) → x1 ≡ x0 ++ row 0 → x2 ≡ x1 ++ row 8 → x3 ≡ x2 ++ row 16 → x4 ≡ x3 ++ row 24 →
+      x4 ≡ x0 ++ packed ts firsts seconds
+  four_rows x0 x1 x2 x3 x4 e1 e2 e3 e4 =
+      four_calls x0 x1 x2 x3 x4 (row 0) (row 8) (row 16) (row 24) e1 e2 e3 e4
+      ∙ ap (λ l. x0 ++ l) (sym (part 0 (omega arith) ∙ ap (λ l. row 0 ++ l) (part 8 (omega arith)
+      ∙ ap (λ l. row 8 ++ l) (part 16 (omega arith)
+      ∙ ap (λ l. row 16 ++ l) (part 24 (omega arith) ∙ ap (λ l. row 24 ++ l) last ∙ append-nil (row 24))))))

@@ -1,0 +1,213 @@
+-- What is written for parts of a text.
+use Rattle.std.proofs.Common.{◌≡◌, ℕ, zero, suc, ◌+◌, ◌-◌, ◌*◌, ◌%◌, ◌^◌, ◌<◌, ◌≤◌, Bool, true, false, cond, List, [], ◌∷◌, ◌++◌, map, refl, sym, ap, ◌∙◌, arith, length, take, drop, get_or, replicate, bit_and, length-append, append_assoc, count_ones}
+use Rattle.std.specs.List.{flat_map, range_with_len}
+use Rattle.std.proofs.lemmas.List.{get_or-drop, get_or-take, length-drop, length-take-le, take_all, take_at, take-take}
+use Rattle.std.proofs.lemmas.List.Concat.{flat_map-append}
+use Rattle.std.proofs.lemmas.List.FromFn.{length-range_with_len, length-map-range_with_len, take-map-range_with_len}
+use Rattle.std.proofs.lemmas.Nat.{and_mask}
+use Rattle.std.proofs.Math.Nat.{mod-eq_of_lt}
+use lib.Pow.{pow_mono}
+use Rattle.std.proofs.lemmas.Simd.{ones-mask_l_cons}
+use lib.Lanes.{mask_l}
+use Rattle.cesu8_text.specs.Encoding.{Flavor}
+use Rattle.cesu8_encode.specs.EncodedPlaces.{encoded_byte_at, encoded_bytes, recoded, is_doubled_at, inserted_at, changed_at, packed, IsWritten}
+use Rattle.cesu8_encode.proofs.encoder.EncodedLanes.{packed_places}
+use Rattle.cesu8_bytes.proofs.vectors.Rows.{mask_front}
+use Rattle.cesu8_bytes.proofs.vectors.Loads.{zeros_at, padded}
+
+range_parts : (i n m : ℕ) → range_with_len i (n + m) ≡ range_with_len i n ++ range_with_len (i + n) m
+range_parts i zero m =
+    let e : 0 + m ≡ m = omega arith in
+    let e' : i + 0 ≡ i = omega arith in
+    rw (e, e') refl
+range_parts i (suc n) m =
+    let e : suc n + m ≡ suc (n + m) = omega arith in
+    let e' : i + suc n ≡ i + 1 + n = omega arith in
+    rw (e, e') (ap (λ l. i ∷ l) (range_parts (i + 1) n m))
+
+-- What is written for n bytes and m more is what is written for each.
+encoded_bytes_append : (f : Flavor) (window : List ℕ) (i n m : ℕ) → encoded_bytes f window i (n + m) ≡ encoded_bytes f window i n ++ encoded_bytes f window (i + n) m
+unfolding encoded_bytes
+encoded_bytes_append f window i n m =
+    ap (flat_map (encoded_byte_at f window)) (range_parts i n m) ∙ flat_map-append (encoded_byte_at f window) (range_with_len i n) (range_with_len (i + n) m)
+
+-- Two windows with the same bytes have the same written for them.
+agree : (f : Flavor) (v w : List ℕ) (i j n : ℕ) → ((k : ℕ) → k < n + 3 → get_or v (i + k) 0 ≡ get_or w (j + k) 0) →
+    flat_map (encoded_byte_at f v) (range_with_len i n) ≡ flat_map (encoded_byte_at f w) (range_with_len j n)
+agree f v w i j zero h = refl
+agree f v w i j (suc n) h =
+    let i0 : i ≡ i + 0 = omega arith in
+    let j0 : j + 0 ≡ j = omega arith in
+    let first : get_or v i 0 ≡ get_or w j 0 = ap (λ k. get_or v k 0) i0 ∙ h 0 (omega arith) ∙ ap (λ k. get_or w k 0) j0 in
+    let rest : (k : ℕ) → k < n + 3 → get_or v (i + 1 + k) 0 ≡ get_or w (j + 1 + k) 0 = λ k l.
+    (let ik : i + 1 + k ≡ i + (k + 1) = omega arith in
+    let jk : j + (k + 1) ≡ j + 1 + k = omega arith in
+    ap (λ m. get_or v m 0) ik ∙ h (k + 1) (omega arith) ∙ ap (λ m. get_or w m 0) jk) in
+    rw (first, h 1 (omega arith), h 2 (omega arith), h 3 (omega arith), agree f v w (i + 1) (j + 1) n rest) refl
+
+encoded_bytes_agree : (f : Flavor) (v w : List ℕ) (i j n : ℕ) → ((k : ℕ) → k < n + 3 → get_or v (i + k) 0 ≡ get_or w (j + k) 0) →
+    encoded_bytes f v i n ≡ encoded_bytes f w j n
+unfolding encoded_bytes
+encoded_bytes_agree f v w i j n h = agree f v w i j n h
+
+-- A window from i on in the text, i being its byte behind two, has the text's bytes.
+from_drop : (f : Flavor) (text : List ℕ) (i n : ℕ) → 2 ≤ i → encoded_bytes f (drop (i - 2) text) 0 n ≡ encoded_bytes f (0 ∷ 0 ∷ text) i n
+from_drop f text i n le = encoded_bytes_agree f (drop (i - 2) text) (0 ∷ 0 ∷ text) 0 i n (λ k l.
+    let here : 0 + k ≡ k = omega arith in
+    let there : suc (suc (i - 2 + k)) ≡ i + k = omega arith in
+    ap (λ m. get_or (drop (i - 2) text) m 0) here ∙ get_or-drop (i - 2) text k 0 ∙ ap (λ m. get_or (0 ∷ 0 ∷ text) m 0) there)
+
+-- a part up to the end, as the code takes it
+abbrev part_from : ℕ → List ℕ → List ℕ
+part_from i text = take (length text - i) (drop i text)
+
+whole_part : (i : ℕ) (text : List ℕ) → part_from i text ≡ drop i text
+whole_part i text = take_all (length text - i) (drop i text) (omega (arith, length-drop i text))
+
+encoded_bytes_drop : (f : Flavor) (text : List ℕ) (i n : ℕ) → 2 ≤ i → encoded_bytes f (part_from (i - 2) text) 0 n ≡ encoded_bytes f (0 ∷ 0 ∷ text) i n
+encoded_bytes_drop f text i n le = ap (λ window. encoded_bytes f window 0 n) (whole_part (i - 2) text) ∙ from_drop f text i n le
+
+-- ---- a block of which fewer bytes count
+
+length_written : (t : ℕ → Bool) (g h : ℕ → ℕ) (vs : List ℕ) →
+    length (flat_map (λ v. cond (t v) (g v ∷ h v ∷ []) (h v ∷ [])) vs) ≡ length vs + count_ones (mask_l (map t vs))
+unfolding lib.Count.ones
+length_written t g h [] = refl
+length_written t g h (v ∷ vs) =
+    length_one (t v) (g v) (h v) _ (length vs) _ _ (length_written t g h vs) (ones-mask_l_cons (t v) (map t vs))
+  where
+    length_one : (s : Bool) (a b : ℕ) (xs : List ℕ) (n m k : ℕ) → length xs ≡ n + m → k ≡ cond s 1 0 + m →
+        length (cond s (a ∷ b ∷ []) (b ∷ []) ++ xs) ≡ suc n + k
+    length_one true a b xs n m k e f = omega (arith, e, f)
+    length_one false a b xs n m k e f = omega (arith, e, f)
+
+-- What is written for n bytes has as many bytes as they and the bits of those that become two.
+length_places : (f : Flavor) (window : List ℕ) (i n : ℕ) →
+    length (encoded_bytes f window i n) ≡ n + count_ones (mask_l (map (is_doubled_at f window) (range_with_len i n)))
+unfolding encoded_bytes
+length_places f window i n =
+    length_written (is_doubled_at f window) (inserted_at f window) (changed_at f window) (range_with_len i n)
+    ∙ ap (λ k. k + count_ones (mask_l (map (is_doubled_at f window) (range_with_len i n)))) (length-range_with_len i n)
+
+-- What packing the lanes of a block writes is what is written for its places.
+packed_block : (f : Flavor) (window : List ℕ) (i n : ℕ) →
+    packed (map (is_doubled_at f window) (range_with_len i n)) (map (inserted_at f window) (range_with_len i n)) (map (changed_at f window) (range_with_len i n))
+    ≡ encoded_bytes f window i n
+unfolding encoded_bytes
+packed_block f window i n = packed_places (is_doubled_at f window) (inserted_at f window) (changed_at f window) (range_with_len i n)
+
+-- The number of n set bits, as the code makes it.
+ones_are : (n : ℕ) → n ≤ 32 → 1 * 2 ^ n % 0x10000000000000000 - 1 ≡ 2 ^ n - 1
+ones_are n le =
+    let small : 2 ^ n ≤ 2 ^ 32 = pow_mono le in
+    let fits : 1 * 2 ^ n < 0x10000000000000000 = omega arith in
+    ap (λ k. k - 1) (mod-eq_of_lt fits ∙ omega arith)
+
+-- The bits of the first n bytes of a block tell how long what is written for them is.
+pub front_long : (f : Flavor) (window : List ℕ) (i n doubled : ℕ) → n ≤ 32 →
+    doubled ≡ mask_l (map (is_doubled_at f window) (range_with_len i 32)) →
+    n + count_ones (bit_and doubled (1 * 2 ^ n % 0x10000000000000000 - 1)) ≡ length (encoded_bytes f window i n)
+front_long f window i n doubled le doubled_is =
+    let tests = is_doubled_at f window in
+    let front : bit_and doubled (2 ^ n - 1) ≡ mask_l (map tests (range_with_len i n)) =
+    and_mask doubled n ∙ ap (λ m. m % 2 ^ n) doubled_is
+    ∙ mask_front n (map tests (range_with_len i 32)) (omega (arith, length-map-range_with_len tests i 32))
+    ∙ ap mask_l (take-map-range_with_len tests i 32 n le) in
+    ap (λ k. n + count_ones (bit_and doubled k)) (ones_are n le) ∙ ap (λ b. n + count_ones b) front ∙ sym (length_places f window i n)
+
+-- The front of what is stored of a block is what is written for its first n bytes.
+pub front_of_block : (f : Flavor) (window before out : List ℕ) (i n stored end : ℕ) → n ≤ 32 → stored ≤ length out →
+    take stored out ≡ before ++ encoded_bytes f window i 32 → end ≡ length before + length (encoded_bytes f window i n) →
+    take end out ≡ before ++ encoded_bytes f window i n
+front_of_block f window before out i n stored end le within is end_is =
+    let sum : 32 ≡ n + (32 - n) = omega arith in
+    let front = encoded_bytes f window i n in
+    let others = encoded_bytes f window (i + n) (32 - n) in
+    let parts : take stored out ≡ (before ++ front) ++ others =
+    is ∙ ap (λ l. before ++ l) (ap (encoded_bytes f window i) sum ∙ encoded_bytes_append f window i n (32 - n)) ∙ sym (append_assoc before front others) in
+    let whole = length-append before front in
+    let ends : end ≤ stored = omega (arith, end_is, whole, ap length parts, length-append (before ++ front) others, length-take-le stored out within) in
+    sym (take-take end stored out ends) ∙ ap (take end) parts ∙ take_at (before ++ front) others end (whole ∙ sym end_is)
+
+-- What is stored of a block, by its lanes.
+pub stored_block : (f : Flavor) (window before out firsts seconds : List ℕ) (i stored : ℕ) →
+    take stored out ≡ before ++ packed (map (is_doubled_at f window) (range_with_len i 32)) firsts seconds →
+    firsts ≡ map (inserted_at f window) (range_with_len i 32) → seconds ≡ map (changed_at f window) (range_with_len i 32) →
+    take stored out ≡ before ++ encoded_bytes f window i 32
+stored_block f window before out firsts seconds i stored is firsts_are seconds_are =
+    is ∙ ap (λ l. before ++ l)
+    ((λ j. packed (map (is_doubled_at f window) (range_with_len i 32)) (firsts_are j) (seconds_are j)) ∙ packed_block f window i 32)
+
+-- Bytes that are copied into zeros, behind the first two, or at the front.
+pub behind_two : (near : List ℕ) (n k : ℕ) → get_or (0 ∷ 0 ∷ (near ++ drop n (drop 2 (replicate 35 0)))) k 0 ≡ get_or (0 ∷ 0 ∷ near) k 0
+behind_two near n = padded (0 ∷ 0 ∷ near) (drop n (drop 2 (replicate 35 0))) (λ i.
+    get_or-drop n (drop 2 (replicate 35 0)) i 0 ∙ get_or-drop 2 (replicate 35 0) (n + i) 0 ∙ zeros_at 35 (2 + (n + i)))
+
+pub in_front : (near : List ℕ) (n k : ℕ) → get_or (near ++ drop n (replicate 35 0)) k 0 ≡ get_or near k 0
+in_front near n = padded near (drop n (replicate 35 0)) (λ i. get_or-drop n (replicate 35 0) i 0 ∙ zeros_at 35 (n + i))
+
+-- So what is written for the first bytes of a text, and for those from i on.
+pub encoded_bytes_first : (f : Flavor) (text window : List ℕ) (n : ℕ) → n ≤ 32 →
+    ((k : ℕ) → get_or window k 0 ≡ get_or (0 ∷ 0 ∷ take 33 text) k 0) → encoded_bytes f window 0 n ≡ encoded_bytes f (0 ∷ 0 ∷ text) 0 n
+encoded_bytes_first f text window n le is = encoded_bytes_agree f window (0 ∷ 0 ∷ text) 0 0 n (λ k l. is (0 + k) ∙ first (0 + k) (omega arith))
+  where
+    first : (k : ℕ) → k < 35 → get_or (0 ∷ 0 ∷ take 33 text) k 0 ≡ get_or (0 ∷ 0 ∷ text) k 0
+    first zero l = refl
+    first (suc zero) l = refl
+    first (suc (suc k)) l = get_or-take 33 text k 0 (omega arith)
+
+pub encoded_bytes_last : (f : Flavor) (text window : List ℕ) (i n : ℕ) → 2 ≤ i →
+    ((k : ℕ) → get_or window k 0 ≡ get_or (part_from (i - 2) text) k 0) → encoded_bytes f window 0 n ≡ encoded_bytes f (0 ∷ 0 ∷ text) i n
+encoded_bytes_last f text window i n le is =
+    encoded_bytes_agree f window (part_from (i - 2) text) 0 0 n (λ k l. is (0 + k)) ∙ encoded_bytes_drop f text i n le
+
+-- What is written for n bytes and then m is no longer than what is written for as many and more.
+pub room_for_parts : (f : Flavor) (window : List ℕ) (i n m whole : ℕ) → n + m ≤ whole →
+    length (encoded_bytes f window i n) + length (encoded_bytes f window (i + n) m) ≤ length (encoded_bytes f window i whole)
+room_for_parts f window i n m whole le =
+    let sum : whole ≡ n + (m + (whole - (n + m))) = omega arith in
+    let rest = whole - (n + m) in
+    omega (
+      arith,
+      ap (λ k. length (encoded_bytes f window i k)) sum,
+      ap length (encoded_bytes_append f window i n (m + rest)),
+      length-append (encoded_bytes f window i n) (encoded_bytes f window (i + n) (m + rest)),
+      ap length (encoded_bytes_append f window (i + n) m rest),
+      length-append (encoded_bytes f window (i + n) m) (encoded_bytes f window (i + n + m) rest),
+    )
+
+-- ---- a text by blocks
+
+module _ (f : Flavor) (text : List ℕ) where
+  abbrev around : List ℕ
+  around = 0 ∷ 0 ∷ text
+
+  -- What is written for bytes within a text.
+  pub encoded_bytes_here : (i n : ℕ) → 2 ≤ i → encoded_bytes f text (i - 2) n ≡ encoded_bytes f around i n
+  encoded_bytes_here i n le = encoded_bytes_agree f text around (i - 2) i n (λ k l.
+      let there : suc (suc (i - 2 + k)) ≡ i + k = omega arith in
+      ap (λ m. get_or around m 0) there)
+
+  -- There is room for n bytes more, behind what is written for the first i.
+  pub room_behind : (i n end : ℕ) (out : List ℕ) → i + n ≤ length text → IsWritten f text i out end →
+      length (recoded f text) ≤ length out → end + length (encoded_bytes f around i n) ≤ length out
+  room_behind i n end out le written room =
+      let start : 0 + i ≡ i = omega arith in
+      omega (
+        arith,
+        ap length written.0,
+        length-take-le end out written.1,
+        ap (λ k. length (encoded_bytes f around k n)) start,
+        room_for_parts f around 0 i n (length text) le,
+        room,
+      )
+
+  -- With n bytes more.
+  pub written_behind : (i n end after : ℕ) (old out piece : List ℕ) → IsWritten f text i old end →
+      take after out ≡ take end old ++ piece → piece ≡ encoded_bytes f around i n → after ≤ length out → IsWritten f text (i + n) out after
+  written_behind i n end after old out piece written is piece_is within =
+      let start : i ≡ 0 + i = omega arith in (
+        is ∙ ap (λ l. l ++ piece) written.0 ∙ ap (λ l. encoded_bytes f around 0 i ++ l) (piece_is ∙ ap (λ k. encoded_bytes f around k n) start)
+            ∙ sym (encoded_bytes_append f around 0 i n),
+        within,
+      )

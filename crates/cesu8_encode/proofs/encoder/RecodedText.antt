@@ -1,0 +1,180 @@
+-- What is written for the bytes of UTF-8, each by its neighbours, is the encoding.
+use Rattle.std.proofs.Common.{◌≡◌, ℕ, zero, suc, ◌+◌, ◌*◌, ◌/◌, ◌%◌, ◌<◌, ◌≤◌, true, false, List, [], ◌∷◌, ◌++◌, refl, sym, ap, ◌∙◌, ⊎_elim, arith, length, get_or, eqb, bit_and, bit_or, eqb-true}
+use Rattle.std.specs.Str.{chars, IsUtf8}
+use Rattle.std.specs.List.{flat_map, range_with_len}
+use Rattle.std.proofs.lemmas.Bool.{agree_below_at, lt-leb, le-leb, ne_eqb, cases_eq}
+use Rattle.std.proofs.lemmas.Nat.{and_mask, or_shifted}
+use lib.Bits.{or_add_and, and_zero_r}
+use Rattle.cesu8_text.specs.Text.{IsText, utf8_of, utf8}
+use Rattle.cesu8_text.specs.Encoding.{Flavor, Cesu8, Mutf8, encoding, short_form}
+use Rattle.cesu8_bytes.specs.Internal.{flavor_of}
+use Rattle.cesu8_bytes.specs.declared.options.Flavor.{Flavor as FlavorOption}
+use Rattle.cesu8_text.specs.Class.{is_null}
+use Rattle.cesu8_encode.specs.EncodedPlaces.{six_bits, encoded_byte, encoded_byte_at, encoded_bytes, recoded}
+use Rattle.cesu8_text.proofs.StdUtf8.{IsUtf8Of_chars}
+use Rattle.cesu8_text.proofs.text.Shapes.{Shape, IsPair, one, two, three, pair, shape, utf8_of_one, utf8_of_two, utf8_of_three, utf8_of_pair}
+use Rattle.cesu8_text.proofs.encoding.Forms.{encoding_one, encoding_two, encoding_three, encoding_pair, short_form_other}
+use Rattle.cesu8_text.proofs.encoding.Encodings.{encoding_nil, encoding_cons}
+
+-- What is written for a list of bytes, behind two others.
+written : Flavor → ℕ → ℕ → List ℕ → List ℕ
+written f x y [] = []
+written f x y (b ∷ bytes) = encoded_byte f x y b (get_or bytes 0 0) ++ written f y b bytes
+
+-- ---- by encoded_bytes, and down the list
+
+later : (f : Flavor) (x : ℕ) (window : List ℕ) (i : ℕ) → encoded_byte_at f (x ∷ window) (i + 1) ≡ encoded_byte_at f window i
+later f x window i =
+    let e0 : i + 1 ≡ suc i = omega arith in
+    let e1 : i + 1 + 1 ≡ suc (i + 1) = omega arith in
+    let e2 : i + 1 + 2 ≡ suc (i + 2) = omega arith in
+    let e3 : i + 1 + 3 ≡ suc (i + 3) = omega arith in
+    (λ k. encoded_byte f (get_or (x ∷ window) (e0 k) 0) (get_or (x ∷ window) (e1 k) 0) (get_or (x ∷ window) (e2 k) 0) (get_or (x ∷ window) (e3 k) 0))
+
+all_later : (f : Flavor) (x : ℕ) (window : List ℕ) (i n : ℕ) →
+    flat_map (encoded_byte_at f (x ∷ window)) (range_with_len (i + 1) n) ≡ flat_map (encoded_byte_at f window) (range_with_len i n)
+all_later f x window i zero = refl
+all_later f x window i (suc n) = rw (later f x window i, all_later f x window (i + 1) n) refl
+
+by_places : (f : Flavor) (x y : ℕ) (bytes : List ℕ) → flat_map (encoded_byte_at f (x ∷ y ∷ bytes)) (range_with_len 0 (length bytes)) ≡ written f x y bytes
+unfolding written
+by_places f x y [] = refl
+by_places f x y (b ∷ bytes) =
+    ap (λ l. encoded_byte f x y b (get_or bytes 0 0) ++ l) (all_later f x (y ∷ b ∷ bytes) 0 (length bytes) ∙ by_places f y b bytes)
+
+-- ---- what is written for one byte
+
+or_zero : (a : ℕ) → bit_or a 0 ≡ a
+or_zero a = omega (arith, or_add_and a 0, and_zero_r a)
+
+-- A byte with no lead byte of four near it is written as its short form.
+plain : (f : Flavor) (x y b n : ℕ) → x < 0xF0 → y < 0xF0 → b < 0xF0 → encoded_byte f x y b n ≡ short_form f b
+plain Cesu8 x y b n hx hy hb = rw (lt-leb 0xF0 x hx, lt-leb 0xF0 y hy, lt-leb 0xF0 b hb, or_zero b, or_zero b) refl
+plain Mutf8 x y b n hx hy hb = rw (lt-leb 0xF0 x hx, lt-leb 0xF0 y hy, lt-leb 0xF0 b hb) (⊎_elim
+    (λ null. rw null refl)
+    (λ some. rw (ne_eqb b 0 some, or_zero b, or_zero b) refl)
+    (cases_eq b 0))
+
+-- Any other than 0 stays.
+same : (f : Flavor) (x y b n : ℕ) → x < 0xF0 → y < 0xF0 → b < 0xF0 → 0 < b → encoded_byte f x y b n ≡ b ∷ []
+same f x y b n hx hy hb some = plain f x y b n hx hy hb ∙ short_form_other f b (λ null. omega (arith, null, some))
+
+not_null : (f : Flavor) (b : ℕ) → 0 < b → is_null f b ≡ false
+not_null Cesu8 b some = refl
+not_null Mutf8 b some = ne_eqb b 0 (λ null. omega (arith, null, some))
+
+six_bits_by_digits : (b n : ℕ) → b < 0x100 → six_bits b n ≡ b % 0x10 * 4 + n / 0x10 % 4
+six_bits_by_digits b n h =
+    let high : bit_and (b * 4 % 0x100) 0x3C ≡ b % 0x10 * 4 =
+    eqb-true _ _ (agree_below_at (λ b. eqb (bit_and (b * 4 % 0x100) 0x3C) (b % 0x10 * 4)) (λ _. true) 0x100 b refl h) in
+    let low : bit_and (n / 0x10) 3 ≡ n / 0x10 % 4 = and_mask (n / 0x10) 2 in
+    rw (high, low) (or_shifted (b % 0x10) 2 (n / 0x10 % 4) (omega arith))
+
+low_surrogate : (c : ℕ) → c < 0x40 → bit_or (0x80 + c) 0x30 ≡ 0xB0 + c % 0x10
+low_surrogate c h = eqb-true _ _ (agree_below_at (λ c. eqb (bit_or (0x80 + c) 0x30) (0xB0 + c % 0x10)) (λ _. true) 0x40 c refl h)
+
+-- The first byte of four, the second and the third.
+lead_place : (f : Flavor) (x y a b : ℕ) → 0xF0 ≤ a → encoded_byte f x y a b ≡ 0xED ∷ ((six_bits a b + 0x9F) % 0x100) ∷ []
+lead_place f x y a b h = rw (le-leb 0xF0 a h, not_null f a (omega arith)) refl
+
+second_place : (f : Flavor) (x a b c : ℕ) → x < 0xF0 → 0xF0 ≤ a → b < 0xF0 → 0 < b → encoded_byte f x a b c ≡ ((six_bits b c + 0x80) % 0x100) ∷ []
+second_place f x a b c hx ha hb some = rw (lt-leb 0xF0 x hx, le-leb 0xF0 a ha, lt-leb 0xF0 b hb, not_null f b some) refl
+
+third_place : (f : Flavor) (a b c d : ℕ) → 0xF0 ≤ a → b < 0xF0 → c < 0xF0 → 0 < c → encoded_byte f a b c d ≡ 0xED ∷ bit_or c 0x30 ∷ []
+third_place f a b c d ha hb hc some =
+    rw (le-leb 0xF0 a ha, lt-leb 0xF0 b hb, lt-leb 0xF0 c hc, not_null f c some, or_zero (bit_or c 0x30)) refl
+
+-- ---- what is written for one character
+
+pair_written : (f : Flavor) (c w x y z p q : ℕ) (rest encoded : List ℕ) → IsPair c w x y z → p < 0xF0 → q < 0xF0 →
+    ((p q : ℕ) → p < 0xF0 → q < 0xF0 → written f p q rest ≡ encoded) →
+    written f p q ((0xF0 + (w + 1) / 4) ∷ (0x80 + ((w + 1) % 4 * 0x10 + x / 4)) ∷ (0x80 + (x % 4 * 0x10 + y)) ∷ (0x80 + z) ∷ rest)
+    ≡ 0xED ∷ (0xA0 + w) ∷ (0x80 + x) ∷ 0xED ∷ (0xB0 + y) ∷ (0x80 + z) ∷ encoded
+unfolding written
+pair_written f c w x y z p q rest encoded digits hp hq continues =
+    let a = 0xF0 + (w + 1) / 4 in
+    let b = 0x80 + ((w + 1) % 4 * 0x10 + x / 4) in
+    let d = 0x80 + (x % 4 * 0x10 + y) in
+    let h_w = digits.first in
+    let h_x = digits.second in
+    let h_y = digits.third in
+    let h_z = digits.last in
+    let high : (six_bits a b + 0x9F) % 0x100 ≡ 0xA0 + w = omega (arith, six_bits_by_digits a b (omega arith)) in
+    let middle : (six_bits b d + 0x80) % 0x100 ≡ 0x80 + x = omega (arith, six_bits_by_digits b d (omega arith)) in
+    let low : bit_or d 0x30 ≡ 0xB0 + y = omega (arith, low_surrogate (x % 4 * 0x10 + y) (omega arith)) in
+    rw (
+      lead_place f p q a b (omega arith),
+      second_place f q a b d hq (omega arith) (omega arith) (omega arith),
+      third_place f a b d (0x80 + z) (omega arith) (omega arith) (omega arith) (omega arith),
+      same f b d (0x80 + z) (get_or rest 0 0) (omega arith) (omega arith) (omega arith) (omega arith),
+      continues d (0x80 + z) (omega arith) (omega arith),
+      high,
+      middle,
+      low,
+    ) refl
+
+character_written : (f : Flavor) (c p q : ℕ) (rest encoded : List ℕ) → Shape c → p < 0xF0 → q < 0xF0 →
+    ((p q : ℕ) → p < 0xF0 → q < 0xF0 → written f p q rest ≡ encoded) →
+    written f p q (utf8_of c ++ rest) ≡ encoding f (c ∷ []) ++ encoded
+unfolding written
+character_written f c p q rest encoded (one ascii) hp hq continues =
+    rw (
+      utf8_of_one c ascii,
+      encoding_one f c ascii,
+      plain f p q c (get_or rest 0 0) hp hq (omega arith),
+      continues q c hq (omega arith),
+    ) refl
+character_written f c p q rest encoded (two x y digits) hp hq continues =
+    let a = 0xC0 + x in
+    let b = 0x80 + y in
+    let h_x = digits.high in
+    let h_y = digits.last in
+    rw (
+      utf8_of_two c x y digits,
+      encoding_two f c x y digits,
+      same f p q a b hp hq (omega arith) (omega arith),
+      same f q a b (get_or rest 0 0) hq (omega arith) (omega arith) (omega arith),
+      continues a b (omega arith) (omega arith),
+    ) refl
+character_written f c p q rest encoded (three x y z digits) hp hq continues =
+    let a = 0xE0 + x in
+    let b = 0x80 + y in
+    let d = 0x80 + z in
+    let h_x = digits.high in
+    let h_y = digits.middle in
+    let h_z = digits.last in
+    rw (
+      utf8_of_three c x y z digits,
+      encoding_three f c x y z digits,
+      same f p q a b hp hq (omega arith) (omega arith),
+      same f q a b d hq (omega arith) (omega arith) (omega arith),
+      same f a b d (get_or rest 0 0) (omega arith) (omega arith) (omega arith) (omega arith),
+      continues b d (omega arith) (omega arith),
+    ) refl
+character_written f c p q rest encoded (pair w x y z digits) hp hq continues =
+    rw (utf8_of_pair c w x y z digits, encoding_pair f c w x y z digits)
+    (pair_written f c w x y z p q rest encoded digits hp hq continues)
+
+text_written : (f : Flavor) (text : List ℕ) → IsText text → (p q : ℕ) → p < 0xF0 → q < 0xF0 → written f p q (utf8 text) ≡ encoding f text
+unfolding written
+text_written f [] is_text p q hp hq = sym (encoding_nil f)
+text_written f (c ∷ text) is_text p q hp hq =
+    character_written f c p q (utf8 text) (encoding f text) (shape c is_text.0) hp hq (text_written f text is_text.1)
+    ∙ sym (encoding_cons f c text)
+
+-- What is written for the UTF-8 of a text is its encoding.
+recoded_utf8 : (f : Flavor) (text : List ℕ) → IsText text → recoded f (utf8 text) ≡ encoding f text
+unfolding encoded_bytes
+recoded_utf8 f text is_text = by_places f 0 0 (utf8 text) ∙ text_written f text is_text 0 0 (omega arith) (omega arith)
+
+-- The same of the text that std's UTF-8 has.
+recoded_chars : (f : Flavor) (bytes text : List ℕ) → text ≡ bytes → IsUtf8 bytes → recoded f text ≡ encoding f (chars bytes)
+recoded_chars f bytes text same_bytes is_utf8 =
+    let of_chars = IsUtf8Of_chars bytes is_utf8 in
+    ap (recoded f) (same_bytes ∙ sym of_chars.1) ∙ recoded_utf8 f (chars bytes) of_chars.0
+
+-- The same in the flavor that the code's value names.
+pub recoded_named : (option flavor : FlavorOption) (bytes text : List ℕ) → flavor ≡ option → text ≡ bytes → IsUtf8 bytes →
+    recoded (flavor_of option) text ≡ encoding (flavor_of flavor) (chars bytes)
+recoded_named option flavor bytes text is same_bytes is_utf8 =
+    recoded_chars (flavor_of option) bytes text same_bytes is_utf8 ∙ ap (λ o. encoding (flavor_of o) (chars bytes)) (sym is)

@@ -1,0 +1,22 @@
+use Rattle.std.proofs.Common.{◌-◌, ◌∷◌, ap, ◌∙◌, arith, length}
+use Rattle.cesu8_encode.proofs.encoder.EncodedWindows.{encoded_bytes_first, room_for_parts}
+use Rattle.cesu8_encode.proofs.windows.write_first.Goals as goal
+
+pub write_block-requires-clause-room : goal.write_block-requires-clause-room
+write_block-requires-clause-room g c =
+    let f = g.N.NullForm.flavor in
+    let text = c.args.text.now in
+    omega (
+      arith,
+      ap length (encoded_bytes_first f text c.put_behind_zeros.new.window 32 (omega arith) c.put_behind_zeros.ensures),
+      room_for_parts f (0 ∷ 0 ∷ text) 0 32 (length text - 32) (length text) (omega (arith, c.requires.long)),
+      c.requires.room,
+    )
+
+pub returns-clause-written : goal.returns-clause-written
+returns-clause-written g c =
+    let f = g.N.NullForm.flavor in
+    let text = c.args.text.now in
+    let same = encoded_bytes_first f text c.put_behind_zeros.new.window 32 (omega arith) c.put_behind_zeros.ensures in
+    let room = room_for_parts f (0 ∷ 0 ∷ text) 0 32 (length text - 32) (length text) (omega (arith, c.requires.long)) in
+    (c.write_block.ensures.bytes ∙ same, omega (arith, c.write_block.ensures.end, c.write_block.ensures.len, ap length same, room, c.requires.room))

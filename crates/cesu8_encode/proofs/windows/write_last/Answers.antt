@@ -1,0 +1,27 @@
+use Rattle.std.proofs.Common.{◌≡◌, ◌+◌, ◌-◌, ap, subst, arith, length}
+use Rattle.cesu8_encode.specs.EncodedPlaces.{IsWritten}
+use Rattle.cesu8_encode.proofs.encoder.EncodedWindows.{encoded_bytes_last, room_behind, written_behind}
+use Rattle.cesu8_encode.proofs.windows.write_last.Goals as goal
+
+pub write_block-requires-clause-room : goal.write_block-requires-clause-room
+write_block-requires-clause-room g c =
+    let f = g.N.NullForm.flavor in
+    let text = c.args.text.now in
+    let at = c.args.at in
+    omega (
+      arith,
+      ap length (encoded_bytes_last f text c.put_before_zeros.new.window at (length text - at) (omega (arith, c.requires.position)) c.put_before_zeros.ensures),
+      room_behind f text at (length text - at) c.args.end c.args.out.now (omega (arith, c.requires.position)) c.requires.before c.requires.room,
+    )
+
+pub returns-clause-written : goal.returns-clause-written
+returns-clause-written g c =
+    let f = g.N.NullForm.flavor in
+    let text = c.args.text.now in
+    let at = c.args.at in
+    let same = encoded_bytes_last f text c.put_before_zeros.new.window at (length text - at) (omega (arith, c.requires.position)) c.put_before_zeros.ensures in
+    let room = room_behind f text at (length text - at) c.args.end c.args.out.now (omega (arith, c.requires.position)) c.requires.before c.requires.room in
+    let sum : at + (length text - at) ≡ length text = omega (arith, c.requires.position) in
+    subst (λ n. IsWritten f text n c.write_block.new.out c.write_block.result) sum
+    (written_behind f text at (length text - at) _ _ _ _ _ c.requires.before c.write_block.ensures.bytes same
+    (omega (arith, c.write_block.ensures.end, c.write_block.ensures.len, ap length same, room)))

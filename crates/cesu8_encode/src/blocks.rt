@@ -1,0 +1,202 @@
+//! Encodes 32 bytes, by vectors.
+
+ghost use Rattle.std.specs.Prelude.{◌≡◌, ℕ, List, Bool, ◌+◌, ◌*◌, ◌%◌, ◌/◌, ◌^◌, ◌<◌, ◌≤◌, ◌==◌, ◌++◌, map, length, take, IsTrue};
+ghost use Rattle.std.specs.Simd.Lanes.{chunk, zip2, mask_l};
+ghost use Rattle.cesu8_text.specs.Encoding.{Flavor, Cesu8, Mutf8};
+ghost use Rattle.cesu8_text.specs.Class.{is_lead, is_null};
+ghost use Rattle.cesu8_bytes.specs.Kernels.{mask};
+ghost use Rattle.cesu8_encode.specs.EncodedPlaces.{six_bits, packed, encoded_bytes, AreShuffles, AreLanes};
+
+use super::rows::rows;
+use cesu8_bytes::Rows;
+use cesu8_bytes::null_form::NullForm;
+use cesu8_bytes::writers::put;
+use std::simd::prelude::*;
+
+/// How many bytes of a text form a block.
+pub const BLOCK: usize = 32;
+
+/// How many bytes before a block are read with it, since they decide what its bytes become,
+pub const BEFORE: usize = 2;
+
+/// how many after it,
+pub const AFTER: usize = 1;
+
+/// and the length of a block with these.
+pub const WINDOW: usize = BEFORE + BLOCK + AFTER;
+
+/// How many bytes of a block form a row.
+const ROW: usize = 8;
+
+/// How many bytes a row needs when it is stored, and the rows of a block.
+const STORED_ROW: usize = 2 * ROW;
+
+const STORED: usize = 2 * BLOCK;
+
+/// Writes what the first `count` bytes of the block at a position become, and returns its end.
+///
+/// The rows are stored whole if they fit, and the next block overwrites the bytes beyond the end.
+#[inline(always)]
+pub fn write_block<N: NullForm>(
+    window: &[u8],
+    at: usize,
+    count: usize,
+    out: &mut [u8],
+    end: usize,
+) -> usize
+    requires window { at + WINDOW ≤ length window.now }
+    requires count { count ≤ BLOCK }
+    requires room { end + length (encoded_bytes N.flavor window.now at count) ≤ length out.old }
+    ensures bytes { take result out.new ≡ take end out.old ++ encoded_bytes N.flavor window.now at count }
+    ensures end { result ≡ end + length (encoded_bytes N.flavor window.now at count) }
+    ensures len { length out.new ≡ length out.old }
+{
+    let block = encode_block::<N>(window, at);
+    if STORED <= out.len() - end {
+        return store_block(&block, count, out, end);
+    }
+    let mut stored = [0; STORED];
+    let len = store_block(&block, count, &mut stored, 0);
+    put(&stored[..len], out, end)
+}
+
+/// What the bytes of a block become. A byte becomes its lane of `seconds`, and if its bit of
+/// `doubled` is set, its lane of `firsts` before that.
+#[derive(Drop)]
+struct EncodedBlock {
+    seconds: u8x32,
+    firsts: u8x32,
+    doubled: u64,
+}
+
+/// Returns the lanes of the block that follows the first `at` bytes of a window, and two more.
+#[inline(always)]
+fn encode_block<N: NullForm>(window: &[u8], at: usize) -> EncodedBlock
+    requires { at + WINDOW ≤ length window.now }
+    ensures { AreLanes N.flavor window.now at result.seconds result.firsts result.doubled }
+{
+    let bytes = u8x32::from_slice(&window[at + 2..]);
+    let lead = leads(bytes);
+    let lead_before = leads(u8x32::from_slice(&window[at + 1..]));
+    let lead_two_before = leads(u8x32::from_slice(&window[at..]));
+    let null = N::nulls(bytes);
+
+    let six_bits = six_bits(bytes, u8x32::from_slice(&window[at + 3..]));
+    let of_high = six_bits + (u8x32::splat(0x80) + (lead & u8x32::splat(0x1F)));
+    let other = bytes | (lead_two_before & u8x32::splat(0x30)) | (null & u8x32::splat(0x80));
+    let is_of_high = lead | lead_before;
+    // No byte is both a lead byte and null. Joined by `|`, the two tests would become a third.
+    let doubled = (lead + null) | lead_two_before;
+    EncodedBlock {
+        seconds: is_of_high.simd_eq(u8x32::splat(0)).select(other, of_high),
+        firsts: null
+            .simd_eq(u8x32::splat(0))
+            .select(u8x32::splat(0xED), u8x32::splat(0xC0)),
+        doubled: bits(doubled),
+    }
+}
+
+/// Marks the bytes that lead four.
+#[inline(always)]
+fn leads(bytes: u8x32) -> u8x32
+    ensures { result ≡ map (λ b. mask (is_lead b)) bytes }
+{
+    bytes
+        .simd_ge(u8x32::splat(0xF0))
+        .select(u8x32::splat(0xFF), u8x32::splat(0))
+}
+
+/// Returns the last four bits of each byte and two of the next.
+#[inline(always)]
+fn six_bits(bytes: u8x32, next: u8x32) -> u8x32
+    ensures { result ≡ zip2 six_bits bytes next }
+{
+    let high = (bytes << u8x32::splat(2)) & u8x32::splat(0x3C);
+    let low = (next >> u8x32::splat(4)) & u8x32::splat(0x03);
+    high | low
+}
+
+/// Returns a bit for each lane that is all ones.
+#[inline(always)]
+fn bits(lanes: u8x32) -> u64
+    ensures { result ≡ mask_l (map (λ b. b == 0xFF) lanes) }
+{
+    lanes.simd_eq(u8x32::splat(0xFF)).to_bitmask()
+}
+
+/// Stores a row, packed, and returns the end of its content.
+#[inline(always)]
+fn store_row(lanes: u8x16, doubled: usize, rows: &Rows, out: &mut [u8], at: usize) -> usize
+    requires rows { AreShuffles rows.now }
+    requires small { doubled < 0x100 }
+    requires room { at + STORED_ROW ≤ length out.old }
+    ensures bytes { (ts : List Bool) → length ts ≡ ROW → doubled ≡ mask_l ts
+        → take result out.new
+        ≡ take at out.old ++ packed ts (chunk ROW ROW lanes) (chunk 0 ROW lanes) }
+    ensures end { (at ≤ result) × (result ≤ at + STORED_ROW) }
+    ensures len { length out.new ≡ length out.old }
+{
+    let packed = lanes.swizzle_dyn(u8x16::from_array(rows[doubled]));
+    packed.copy_to_slice(&mut out[at..]);
+    at + ROW + doubled.count_ones() as usize
+}
+
+/// Stores a block, and returns the end of its content for its first `count` bytes.
+#[inline(always)]
+fn store_block(block: &EncodedBlock, count: usize, out: &mut [u8], end: usize) -> usize
+    requires count { count ≤ BLOCK }
+    requires room { end + STORED ≤ length out.old }
+    ensures bytes { (f : Flavor) → (window : List ℕ) → (at : ℕ)
+        → AreLanes f window at block.now.seconds block.now.firsts block.now.doubled
+        → take result out.new ≡ take end out.old ++ encoded_bytes f window at count }
+    ensures end { (f : Flavor) → (window : List ℕ) → (at : ℕ)
+        → AreLanes f window at block.now.seconds block.now.firsts block.now.doubled
+        → result ≡ end + length (encoded_bytes f window at count) }
+    ensures len { length out.new ≡ length out.old }
+{
+    store_rows(block.seconds, block.firsts, block.doubled, rows(), out, end);
+    end + count + (block.doubled & ((1 << count) - 1)).count_ones() as usize
+}
+
+/// Stores the four rows of a block, and returns the end of their content.
+#[inline(always)]
+fn store_rows(
+    seconds: u8x32,
+    firsts: u8x32,
+    doubled: u64,
+    rows: &Rows,
+    out: &mut [u8],
+    at: usize,
+) -> usize
+    requires rows { AreShuffles rows.now }
+    requires room { at + STORED ≤ length out.old }
+    ensures bytes { (ts : List Bool) → length ts ≡ BLOCK → doubled ≡ mask_l ts
+        → take result out.new ≡ take at out.old ++ packed ts firsts seconds }
+    ensures end { (at ≤ result) × (result ≤ at + STORED) }
+    ensures len { length out.new ≡ length out.old }
+{
+    let row = seconds.shuffle::<16>(
+        firsts,
+        [0, 1, 2, 3, 4, 5, 6, 7, 32, 33, 34, 35, 36, 37, 38, 39],
+    );
+    let at = store_row(row, (doubled & 0xFF) as usize, rows, out, at);
+    let row = seconds.shuffle::<16>(
+        firsts,
+        [8, 9, 10, 11, 12, 13, 14, 15, 40, 41, 42, 43, 44, 45, 46, 47],
+    );
+    let at = store_row(row, (doubled >> 8 & 0xFF) as usize, rows, out, at);
+    let row = seconds.shuffle::<16>(
+        firsts,
+        [
+            16, 17, 18, 19, 20, 21, 22, 23, 48, 49, 50, 51, 52, 53, 54, 55,
+        ],
+    );
+    let at = store_row(row, (doubled >> 16 & 0xFF) as usize, rows, out, at);
+    let row = seconds.shuffle::<16>(
+        firsts,
+        [
+            24, 25, 26, 27, 28, 29, 30, 31, 56, 57, 58, 59, 60, 61, 62, 63,
+        ],
+    );
+    store_row(row, (doubled >> 24 & 0xFF) as usize, rows, out, at)
+}

@@ -1,0 +1,136 @@
+//! Encodes a few bytes, a run or a change at a time, which takes less time than a block does.
+//!
+//! A vector copies a run of bytes that stay. Continuation bytes stay too, so the width of a
+//! character decides nothing unless it is four.
+
+ghost use Rattle.std.specs.Prelude.{◌≡◌, ℕ, ◌+◌, ◌*◌, ◌≤◌, ◌<◌, [], ◌∷◌, ◌++◌, length, take, drop, slice_index, IsTrue};
+ghost use Rattle.std.specs.Str.{chars};
+ghost use Rattle.cesu8_text.specs.Text.{IsScalarValue, utf8_of};
+ghost use Rattle.cesu8_text.specs.Encoding.{Flavor as AnyFlavor, encoding, short_form};
+ghost use Rattle.cesu8_encode.specs.EncodedPlaces.{IsRun};
+ghost use Rattle.cesu8_bytes.specs.Internal.{flavor_of};
+
+use cesu8_bytes::implementation::class::{Lead, NullLead};
+use cesu8_bytes::implementation::short::any_in_short;
+use cesu8_bytes::options::Flavor;
+use cesu8_bytes::runs::copy_run;
+use cesu8_bytes::writers::put;
+
+/// The most bytes that are few.
+pub const FEW: usize = 24;
+
+/// The least lead byte of a character of four bytes.
+const FOUR_LEAD: u8 = 0xF0;
+
+/// How many bytes such a character has in UTF-8,
+const FOUR: usize = 4;
+
+/// and as a surrogate pair.
+const PAIR: usize = 6;
+
+/// Returns whether a text has few bytes, and none of them changes.
+#[inline(always)]
+pub fn is_few_unchanged(flavor: Flavor, text: &str) -> bool
+    ensures { IsTrue result → encoding (flavor_of flavor) (chars text.now) ≡ text.now }
+{
+    let bytes = text.as_bytes();
+    if bytes.len() > FEW {
+        return false;
+    }
+    match flavor {
+        Flavor::Cesu8 => !any_in_short::<Lead>(bytes),
+        Flavor::Mutf8 => !any_in_short::<NullLead>(bytes),
+    }
+}
+
+/// Returns whether a text has few bytes.
+#[inline(always)]
+pub fn is_few(text: &str) -> bool
+    ensures { IsTrue result → length text.now ≤ FEW }
+{
+    text.len() <= FEW
+}
+
+/// Writes the encoding of a text at the front of a slice, and returns its length.
+#[inline(never)]
+pub fn write_few(flavor: Flavor, text: &str, out: &mut [u8]) -> usize
+    requires { 2 * length text.now ≤ length out.old }
+    ensures bytes { take result out.new ≡ encoding (flavor_of flavor) (chars text.now) }
+    ensures end { result ≤ length out.new }
+    ensures behind { drop result out.new ≡ drop result out.old }
+    ensures len { length out.new ≡ length out.old }
+{
+    let bytes = text.as_bytes();
+    let mut read = 0;
+    let mut end = 0;
+    while read < bytes.len() {
+        let byte = bytes[read];
+        if byte >= 1 && byte < FOUR_LEAD {
+            let run = copy_some(&bytes[read..], out, end);
+            read += run;
+            end += run;
+        } else if byte == 0 {
+            end = write_null(flavor, out, end);
+            read += 1;
+        } else {
+            end = put(&pair_of(&bytes[read..]), out, end);
+            read += FOUR;
+        }
+    }
+    end
+}
+
+/// Copies the first byte, which stays, to a position, and the next ones up to one that changes, as
+/// far as a vector reaches, and returns how many. The rest of the vector is stored too, but ends
+/// within the encoding, which is at least as long as the bytes.
+#[inline(always)]
+fn copy_some(bytes: &[u8], out: &mut [u8], at: usize) -> usize
+    requires some { 0 < length bytes.now }
+    requires first { (0 < slice_index bytes.now 0) × (slice_index bytes.now 0 < FOUR_LEAD) }
+    requires room { at + length bytes.now ≤ length out.old }
+    ensures run { IsRun bytes.now result }
+    ensures bytes { take (at + result) out.new ≡ take at out.old ++ take result bytes.now }
+    ensures behind { drop (at + length bytes.now) out.new ≡ drop (at + length bytes.now) out.old }
+    ensures len { length out.new ≡ length out.old }
+{
+    let run = copy_run::<NullLead>(bytes, out, at);
+    if run > 0 {
+        return run;
+    }
+    put(&bytes[..1], out, at);
+    1
+}
+
+/// Writes the encoding of U+0000 to a position, and returns its end.
+#[inline(always)]
+fn write_null(flavor: Flavor, out: &mut [u8], at: usize) -> usize
+    requires { at + 2 ≤ length out.old }
+    ensures bytes { take result out.new ≡ take at out.old ++ short_form (flavor_of flavor) 0 }
+    ensures end { result ≡ at + length (short_form (flavor_of flavor) 0) }
+    ensures behind { drop result out.new ≡ drop result out.old }
+    ensures len { length out.new ≡ length out.old }
+{
+    match flavor {
+        Flavor::Cesu8 => put(&[0x00], out, at),
+        Flavor::Mutf8 => put(&[0xC0, 0x80], out, at),
+    }
+}
+
+/// Returns the surrogate pair of the character of four bytes that begins the bytes.
+#[inline(always)]
+fn pair_of(bytes: &[u8]) -> [u8; PAIR]
+    requires { FOUR ≤ length bytes.now }
+    ensures { (f : AnyFlavor) → (c : ℕ) → IsScalarValue c → 0x10000 ≤ c
+        → take FOUR bytes.now ≡ utf8_of c → result ≡ encoding f (c ∷ []) }
+{
+    let (a, b, c, d) = (bytes[0], bytes[1], bytes[2], bytes[3]);
+    [
+        0xED,
+        // A0, less the plane offset.
+        0x9F + ((a & 0x07) << 2) + (b >> 4 & 0x03),
+        0x80 + ((b & 0x0F) << 2) + (c >> 4 & 0x03),
+        0xED,
+        0xB0 + (c & 0x0F),
+        d,
+    ]
+}

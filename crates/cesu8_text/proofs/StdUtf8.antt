@@ -1,0 +1,66 @@
+-- The UTF-8 of std is the UTF-8 of this crate's definitions.
+use Rattle.std.proofs.Common.{◌≡◌, ℕ, true, List, [], ◌∷◌, ◌↔◌, refl, sym, ◌∙◌, subst, inl, inr, arith}
+use Rattle.std.specs.Str.{chars, IsUtf8}
+use Rattle.std.proofs.Math.Utf8.{encode, encodes, scalar, scalars, scalar_cases, low_scalar}
+use Rattle.std.proofs.lemmas.Bool.{and_parts, and_from, le-leb, lt-ltb, le-ltb}
+use Rattle.std.proofs.lemmas.Str.{encodes-chars, scalars-chars, chars-encodes}
+use Rattle.cesu8_text.specs.Text.{IsScalarValue, IsText, utf8_of, utf8, IsUtf8Of}
+
+-- Both write a scalar value by the same formulas.
+pub utf8_of_encode : (c : ℕ) → utf8_of c ≡ encode c
+unfolding utf8_of encode
+utf8_of_encode c = refl
+
+-- So they write a text alike.
+pub utf8_encodes : (text : List ℕ) → utf8 text ≡ encodes text
+utf8_encodes [] = refl
+utf8_encodes (c ∷ text) = rw (utf8_of_encode c, utf8_encodes text) refl
+
+-- Both have the same scalar values.
+pub scalar_from_IsScalarValue : (c : ℕ) → IsScalarValue c → scalar c ≡ true
+scalar_from_IsScalarValue c (inl low) = low_scalar c low
+scalar_from_IsScalarValue c (inr high) =
+    rw (le-ltb c 0xD800 (omega arith), le-leb 0xE000 c high.0, lt-ltb c 0x110000 high.1) refl
+
+-- So what std takes for scalar values is a text.
+pub IsText_from_scalars : (text : List ℕ) → scalars text ≡ true → IsText text
+IsText_from_scalars [] e = tt
+IsText_from_scalars (c ∷ text) e =
+    let parts = and_parts (scalar c) (scalars text) e in
+    (scalar_cases c parts.0, IsText_from_scalars text parts.1)
+
+-- A text is what std takes for scalar values.
+pub scalars_from_IsText : (text : List ℕ) → IsText text → scalars text ≡ true
+scalars_from_IsText [] h = refl
+scalars_from_IsText (c ∷ text) h =
+    and_from (scalar c) (scalars text) (scalar_from_IsScalarValue c h.0) (scalars_from_IsText text h.1)
+
+-- The characters of UTF-8 are the text of which it is the UTF-8.
+pub IsUtf8Of_chars : (bytes : List ℕ) → IsUtf8 bytes → IsUtf8Of (chars bytes) bytes
+IsUtf8Of_chars bytes h =
+    (IsText_from_scalars (chars bytes) (scalars-chars bytes h), utf8_encodes (chars bytes) ∙ encodes-chars bytes h)
+
+-- The same, where the bytes have another name.
+pub IsUtf8Of_chars_at : (bytes text : List ℕ) → text ≡ bytes → IsUtf8 bytes → IsUtf8Of (chars text) bytes
+IsUtf8Of_chars_at bytes text same is_utf8 =
+    subst (λ bs. IsUtf8Of (chars bs) bytes) (sym same) (IsUtf8Of_chars bytes is_utf8)
+
+-- The UTF-8 of a text is UTF-8.
+pub IsUtf8_utf8 : (text : List ℕ) → IsText text → IsUtf8 (utf8 text)
+IsUtf8_utf8 text h = (text, (scalars_from_IsText text h, sym (utf8_encodes text)))
+
+-- Its characters are the text.
+pub chars_utf8 : (text : List ℕ) → IsText text → chars (utf8 text) ≡ text
+chars_utf8 text h = rw (utf8_encodes text) (chars-encodes text (scalars_from_IsText text h))
+
+-- The whole of it: bytes are std's UTF-8 exactly where they are the UTF-8 of some text.
+pub std_utf8 : (bytes : List ℕ) → IsUtf8 bytes ↔ ((text : List ℕ) × IsUtf8Of text bytes)
+std_utf8 bytes = (
+  (λ (is_utf8 : IsUtf8 bytes). (chars bytes, IsUtf8Of_chars bytes is_utf8)),
+  (λ (of_text : (text : List ℕ) × IsUtf8Of text bytes).
+      subst IsUtf8 of_text.1.1 (IsUtf8_utf8 of_text.0 of_text.1.0)),
+)
+
+-- So what std takes for no UTF-8 is the UTF-8 of no text.
+pub not_utf8_of : (bytes : List ℕ) → (IsUtf8 bytes → ⊥) → (text : List ℕ) → IsUtf8Of text bytes → ⊥
+not_utf8_of bytes not_utf8 text is_utf8_of = not_utf8 ((std_utf8 bytes).1 (text, is_utf8_of))

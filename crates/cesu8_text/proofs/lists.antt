@@ -1,0 +1,2 @@
+-- Lists of bytes, with nothing of an encoding.
+pub mod Elements

@@ -1,0 +1,16 @@
+-- The lossy and the strict reading: greedy cuttings, and what stands where.
+pub mod Standing
+pub mod Inside
+pub mod Stretches
+pub mod Marks
+pub mod Steps
+pub mod Greedy
+pub mod Decoding
+pub mod Cuttings
+pub mod Costs
+pub mod Splits
+pub mod EncodedTexts
+pub mod LossyTexts
+pub mod Borrowing
+pub mod LossyBorrowing
+pub mod Worked

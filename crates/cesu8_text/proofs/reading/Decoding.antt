@@ -1,0 +1,51 @@
+-- What reading adds: to the text that was read, and to the length of the lossy reading.
+use Rattle.std.proofs.Common.{◌≡◌, ℕ, ◌+◌, ◌<◌, List, [], ◌∷◌, ◌++◌, refl, ap, arith, length, length-append}
+use Rattle.std.proofs.lemmas.List.Concat.{flat_map-append}
+use Rattle.cesu8_text.specs.Text.{IsText, utf8_of, utf8}
+use Rattle.cesu8_text.specs.Encoding.{Flavor, encoding}
+use Rattle.cesu8_text.specs.Reading.{BeginsWith, NoneBegins, reading, lossy_length}
+use Rattle.cesu8_text.proofs.encoding.Lengths.{length_of_character}
+use Rattle.cesu8_text.proofs.reading.Steps.{reading_nil, reading_character, reading_replaced}
+
+pub IsText_append : (s t : List ℕ) → IsText s → IsText t → IsText (s ++ t)
+IsText_append [] t is_text other_is_text = other_is_text
+IsText_append (c ∷ s) t is_text other_is_text = (is_text.0, IsText_append s t is_text.1 other_is_text)
+
+-- The UTF-8 of a concatenation is the concatenation of the UTF-8.
+pub utf8_append : (s t : List ℕ) → utf8 (s ++ t) ≡ utf8 s ++ utf8 t
+utf8_append s t = flat_map-append utf8_of s t
+
+-- A character takes some of the bytes.
+pub shorter : (f : Flavor) (bytes rest : List ℕ) (c : ℕ) → BeginsWith f bytes c rest → length rest < length bytes
+shorter f bytes rest c begins =
+    let long = length_of_character f c begins.scalar in
+    omega (arith, long.some, long.fits, ap length begins.bytes_are, length-append (encoding f (c ∷ [])) rest)
+
+-- The replacement character takes three bytes of UTF-8.
+length_of_replacement : length (utf8_of 0xFFFD) ≡ 3
+unfolding utf8_of
+length_of_replacement = refl
+
+-- So it does at the front of a text.
+pub length_utf8_replaced : (text : List ℕ) → length (utf8 (0xFFFD ∷ text)) ≡ 3 + length (utf8 text)
+length_utf8_replaced text = omega (arith, length-append (utf8_of 0xFFFD) (utf8 text), length_of_replacement)
+
+-- The character that begins the bytes adds its UTF-8 to the length of the lossy reading,
+pub lossy_length_character : (f : Flavor) (bytes rest : List ℕ) (c : ℕ) → BeginsWith f bytes c rest →
+    lossy_length f bytes ≡ length (utf8_of c) + lossy_length f rest
+unfolding lossy_length
+lossy_length_character f bytes rest c begins =
+    rw (reading_character f bytes c rest begins) (length-append (utf8_of c) (utf8 (reading f rest)))
+
+-- a byte that begins none adds three,
+pub lossy_length_replaced : (f : Flavor) (b : ℕ) (bytes : List ℕ) → NoneBegins f (b ∷ bytes) →
+    lossy_length f (b ∷ bytes) ≡ 3 + lossy_length f bytes
+unfolding lossy_length
+lossy_length_replaced f b bytes none_begins =
+    rw (reading_replaced f b bytes none_begins) (length_utf8_replaced (reading f bytes))
+
+-- and no bytes add nothing.
+pub lossy_length_nil : (f : Flavor) (bytes : List ℕ) → length bytes ≡ 0 → lossy_length f bytes ≡ 0
+unfolding lossy_length
+lossy_length_nil f [] empty = ap (λ text. length (utf8 text)) (reading_nil f)
+lossy_length_nil f (b ∷ bytes) empty = absurd (omega arith)

@@ -1,0 +1,90 @@
+-- How one scalar value is written, with the digits as variables.
+use Rattle.std.proofs.Common.{◌≡◌, ℕ, ◌+◌, ◌-◌, ◌*◌, ◌/◌, ◌%◌, ◌<◌, ◌≤◌, ◌⊎◌, [], ◌∷◌, refl, inl, inr, arith}
+use Rattle.std.proofs.lemmas.Bool.{lt-ltb, le-ltb, cases_lt}
+use Rattle.cesu8_text.specs.Text.{IsScalarValue, utf8_of}
+pub use Rattle.cesu8_text.specs.Patterns.{IsPair}
+
+-- The digits of a scalar value of two bytes.
+pub record IsTwo (c x y : ℕ) : Type 0 where
+  pub value : c ≡ x * 0x40 + y
+  pub low : 2 ≤ x
+  pub high : x < 0x20
+  pub last : y < 0x40
+
+-- The digits of a scalar value of three bytes.
+pub record IsThree (c x y z : ℕ) : Type 0 where
+  pub value : c ≡ x * 0x1000 + y * 0x40 + z
+  pub low : 0x800 ≤ c
+  pub high : x < 0x10
+  pub middle : y < 0x40
+  pub last : z < 0x40
+
+-- A scalar value by the number of its bytes.
+pub data Shape (c : ℕ) : Type 0 where
+  one : c < 0x80 → Shape c
+  two : (x y : ℕ) → IsTwo c x y → Shape c
+  three : (x y z : ℕ) → IsThree c x y z → Shape c
+  pair : (w x y z : ℕ) → IsPair c w x y z → Shape c
+
+below_top : (c : ℕ) → IsScalarValue c → c < 0x110000
+below_top c (inl h) = omega arith
+below_top c (inr h) = h.1
+
+-- A scalar value from 10000 (hexadecimal) on has the digits of a surrogate pair.
+pair_digits : (c : ℕ) → 0x10000 ≤ c → c < 0x110000 →
+    IsPair c ((c - 0x10000) / 0x10000) ((c - 0x10000) / 0x400 % 0x40) ((c - 0x10000) / 0x40 % 0x10) ((c - 0x10000) % 0x40)
+pair_digits c low high = record {
+  value = omega arith;
+  first = omega arith;
+  second = omega arith;
+  third = omega arith;
+  last = omega arith;
+}
+
+-- Each scalar value has a shape.
+pub shape : (c : ℕ) → IsScalarValue c → Shape c
+shape c scalar = by (cases_lt c 0x80) (cases_lt c 0x800) (cases_lt c 0x10000)
+  where
+    by : (c < 0x80) ⊎ (0x80 ≤ c) → (c < 0x800) ⊎ (0x800 ≤ c) → (c < 0x10000) ⊎ (0x10000 ≤ c) → Shape c
+    by (inl ascii) _ _ = one ascii
+    by (inr low) (inl high) _ =
+        two (c / 0x40) (c % 0x40) (record { value = omega arith; low = omega arith; high = omega arith; last = omega arith })
+    by (inr _) (inr low) (inl high) =
+        three (c / 0x1000) (c / 0x40 % 0x40) (c % 0x40) (record {
+          value = omega arith;
+          low = low;
+          high = omega arith;
+          middle = omega arith;
+          last = omega arith;
+        })
+    by (inr _) (inr _) (inr low) = pair _ _ _ _ (pair_digits c low (below_top c scalar))
+
+-- The UTF-8 of a scalar value, by its digits: one byte, two, three, and four.
+pub utf8_of_one : (c : ℕ) → c < 0x80 → utf8_of c ≡ c ∷ []
+unfolding utf8_of
+utf8_of_one c h = rw (lt-ltb c 0x80 h) refl
+
+pub utf8_of_two : (c x y : ℕ) → IsTwo c x y → utf8_of c ≡ (0xC0 + x) ∷ (0x80 + y) ∷ []
+unfolding utf8_of
+utf8_of_two c x y digits =
+    let e0 : c / 0x40 ≡ x = omega arith in
+    let e1 : c % 0x40 ≡ y = omega arith in
+    rw (le-ltb c 0x80 (omega arith), lt-ltb c 0x800 (omega arith), e0, e1) refl
+
+pub utf8_of_three : (c x y z : ℕ) → IsThree c x y z → utf8_of c ≡ (0xE0 + x) ∷ (0x80 + y) ∷ (0x80 + z) ∷ []
+unfolding utf8_of
+utf8_of_three c x y z digits =
+    let e0 : c / 0x1000 ≡ x = omega arith in
+    let e1 : c / 0x40 % 0x40 ≡ y = omega arith in
+    let e2 : c % 0x40 ≡ z = omega arith in
+    rw (le-ltb c 0x80 (omega arith), le-ltb c 0x800 (omega arith), lt-ltb c 0x10000 (omega arith), e0, e1, e2) refl
+
+pub utf8_of_pair : (c w x y z : ℕ) → IsPair c w x y z →
+    utf8_of c ≡ (0xF0 + (w + 1) / 4) ∷ (0x80 + ((w + 1) % 4 * 0x10 + x / 4)) ∷ (0x80 + (x % 4 * 0x10 + y)) ∷ (0x80 + z) ∷ []
+unfolding utf8_of
+utf8_of_pair c w x y z digits =
+    let e0 : c / 0x40000 ≡ (w + 1) / 4 = omega arith in
+    let e1 : c / 0x1000 % 0x40 ≡ (w + 1) % 4 * 0x10 + x / 4 = omega arith in
+    let e2 : c / 0x40 % 0x40 ≡ x % 4 * 0x10 + y = omega arith in
+    let e3 : c % 0x40 ≡ z = omega arith in
+    rw (le-ltb c 0x80 (omega arith), le-ltb c 0x800 (omega arith), le-ltb c 0x10000 (omega arith), e0, e1, e2, e3) refl

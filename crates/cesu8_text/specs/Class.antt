@@ -1,0 +1,52 @@
+-- The classes of bytes that decide whether UTF-8 has to change.
+use Rattle.std.specs.Prelude.{ℕ, ◌+◌, Bool, IsTrue, nat_le, ◌&&◌, ◌||◌, ◌==◌, if◌then◌else◌, List, Any, IsUtf8, false}
+use Rattle.cesu8_text.specs.Encoding.{Flavor, Cesu8, Mutf8}
+
+-- The lead byte of four bytes.
+abbrev pub is_lead : ℕ → Bool
+is_lead b = nat_le 0xF0 b
+
+-- A byte 00 that is written as C0 80.
+abbrev pub is_null : Flavor → ℕ → Bool
+is_null Cesu8 b = false
+is_null Mutf8 b = b == 0
+
+-- F0 to F7 (hexadecimal). In UTF-8, F0 to F4 lead four bytes, and F5 to F7 lead nothing.
+abbrev pub is_four : ℕ → Bool
+is_four b = nat_le 0xF0 b && nat_le b 0xF7
+
+-- That, or the byte 0.
+abbrev pub is_null_four : ℕ → Bool
+is_null_four b = b == 0 || is_four b
+
+abbrev pub IsFour : ℕ → Type 0
+IsFour b = IsTrue (is_four b)
+
+abbrev pub IsNullFour : ℕ → Type 0
+IsNullFour b = IsTrue (is_null_four b)
+
+-- 80 (hexadecimal) or more: what is not ASCII.
+abbrev pub is_high : ℕ → Bool
+is_high b = nat_le 0x80 b
+
+-- That, or the byte 0.
+abbrev pub is_null_high : ℕ → Bool
+is_null_high b = b == 0 || is_high b
+
+-- F0 (hexadecimal) or more, or the byte 0: of UTF-8, what changes in some flavor.
+abbrev pub is_null_lead : ℕ → Bool
+is_null_lead b = b == 0 || is_lead b
+
+-- The class of a flavor: the bytes of UTF-8 that change in it.
+abbrev pub IsChangedByte : Flavor → ℕ → Type 0
+IsChangedByte Cesu8 = IsFour
+IsChangedByte Mutf8 = IsNullFour
+
+-- UTF-8 without a byte of the flavor's class.
+abbrev pub IsUnchangedUtf8 : Flavor → List ℕ → Type 0
+IsUnchangedUtf8 f bytes = IsUtf8 bytes × (¬ (Any (IsChangedByte f) bytes))
+
+-- How many bytes an encoding has more than the UTF-8, for one byte of this: two for F0 to F7, which
+-- leads four bytes that become six, and in MUTF-8 one for 00.
+abbrev pub growth_of : Flavor → ℕ → ℕ
+growth_of f b = (if is_null f b then 1 else 0) + (if is_four b then 2 else 0)

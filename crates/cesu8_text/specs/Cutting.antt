@@ -1,0 +1,50 @@
+-- Bytes cut into encoded characters and replaced bytes.
+use Rattle.std.specs.Prelude.{◌≡◌, ℕ, ◌+◌, List, [], ◌∷◌, map, ⊤}
+use Rattle.std.specs.List.{flat_map}
+use Rattle.cesu8_text.specs.Text.{IsScalarValue}
+use Rattle.cesu8_text.specs.Encoding.{Flavor, encoding}
+use Rattle.cesu8_text.specs.Reading.{NoneBegins}
+
+-- A character, with the bytes of its encoding, or a single byte that is replaced.
+pub data Piece : Type 0 where
+  Character : (c : ℕ) → Piece
+  Replaced : (byte : ℕ) → Piece
+
+abbrev pub bytes_of_piece : Flavor → Piece → List ℕ
+bytes_of_piece f (Character c) = encoding f (c ∷ [])
+bytes_of_piece f (Replaced byte) = byte ∷ []
+
+abbrev pub bytes_of : Flavor → List Piece → List ℕ
+bytes_of f pieces = flat_map (bytes_of_piece f) pieces
+
+abbrev pub character_of : Piece → ℕ
+character_of (Character c) = c
+character_of (Replaced byte) = 0xFFFD
+
+-- The text of a cutting has the replacement character for each replaced byte.
+abbrev pub text_of : List Piece → List ℕ
+text_of pieces = map character_of pieces
+
+abbrev pub IsPiece : Piece → Type 0
+IsPiece (Character c) = IsScalarValue c
+IsPiece (Replaced byte) = ⊤
+
+abbrev pub ArePieces : List Piece → Type 0
+ArePieces [] = ⊤
+ArePieces (piece ∷ pieces) = IsPiece piece × ArePieces pieces
+
+-- The bytes of the pieces, joined, are these bytes.
+abbrev pub IsCutting : Flavor → List ℕ → List Piece → Type 0
+IsCutting f bytes pieces = ArePieces pieces × (bytes_of f pieces ≡ bytes)
+
+-- No encoded character begins at the position of a replaced byte.
+abbrev pub IsGreedy : Flavor → List Piece → Type 0
+IsGreedy f [] = ⊤
+IsGreedy f (Character c ∷ pieces) = IsGreedy f pieces
+IsGreedy f (Replaced byte ∷ pieces) = NoneBegins f (byte ∷ bytes_of f pieces) × IsGreedy f pieces
+
+-- The cost of a cutting: how many bytes it replaces.
+abbrev pub cost : List Piece → ℕ
+cost [] = 0
+cost (Character c ∷ pieces) = cost pieces
+cost (Replaced byte ∷ pieces) = 1 + cost pieces

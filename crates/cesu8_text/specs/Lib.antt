@@ -1,0 +1,10 @@
+pub mod Text
+pub mod Utf16
+pub mod Encoding
+pub mod Class
+pub mod Patterns
+pub mod Reading
+pub mod Cutting
+pub mod Slices
+pub mod Order
+pub mod Laws

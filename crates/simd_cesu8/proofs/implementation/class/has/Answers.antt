@@ -1,7 +1,0 @@
-use Rattle.simd_cesu8.proofs.lists.Lanes.{any_passes}
-use Rattle.simd_cesu8.proofs.lists.Classes.{bits_of_marks}
-use Rattle.simd_cesu8.proofs.implementation.class.has.Goals as goal
-
-pub returns : goal.returns
-returns g c =
-    any_passes g.C.Class.class c.args.bytes _ (bits_of_marks g.C.Class.class g.row.N c.args.bytes _ c.marks.ensures c.fits-bytes.0 c.requires)

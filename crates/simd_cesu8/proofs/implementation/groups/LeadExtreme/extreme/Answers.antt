@@ -1,6 +1,0 @@
-use Rattle.std.proofs.Common.{sym, ◌∙◌}
-use Rattle.simd_cesu8.proofs.lists.Lanes.{lead_in_greater}
-use Rattle.simd_cesu8.proofs.implementation.groups.LeadExtreme.extreme.Goals as goal
-
-pub returns : goal.returns
-returns g c = lead_in_greater c.args.a c.args.b (c.fits-a.0 ∙ sym c.fits-b.0)

@@ -1,7 +1,0 @@
-use Rattle.simd_cesu8.proofs.lists.Words.{four_test}
-use Rattle.simd_cesu8.proofs.implementation.word.contains_four.Goals as goal
-
-pub returns : goal.returns
-returns c =
-    let test = four_test c.args.word c.ranges.word.fits in
-    ((λ t. test.0 (c.contains_zero.ensures.0 t)), (λ p. c.contains_zero.ensures.1 (test.1 p)))

@@ -1,7 +1,0 @@
-use Rattle.std.proofs.lemmas.Bool.{iff_false, not-true}
-use Rattle.simd_cesu8.proofs.text.Ascii.{ascii_of_none}
-use Rattle.simd_cesu8.proofs.internal.ascii.is_short_ascii.Goals as goal
-
-pub returns-then-bytes-le-SHORT : goal.returns-then-bytes-le-SHORT
-returns-then-bytes-le-SHORT c none =
-    ascii_of_none c.args.bytes.now (λ any. iff_false c.any_in_short.ensures (not-true _ none) any)

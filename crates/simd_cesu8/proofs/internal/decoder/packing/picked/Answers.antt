@@ -1,8 +1,0 @@
-use Rattle.simd_cesu8.proofs.decoder.DecodedRows.{low_ok, low_picked}
-use Rattle.simd_cesu8.proofs.internal.decoder.packing.picked.Goals as goal
-
-pub swizzle : goal.swizzle
-swizzle c = low_ok c.args.row c.fits-row.0
-
-pub returns : goal.returns
-returns c = low_picked c.args.lanes c.args.row c.fits-row.0

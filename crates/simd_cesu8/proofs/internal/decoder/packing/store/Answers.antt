@@ -1,7 +1,0 @@
-use Rattle.std.proofs.Common.{arith}
-use Rattle.simd_cesu8.proofs.decoder.DecodedRows.{stored_halves}
-use Rattle.simd_cesu8.proofs.internal.decoder.packing.store.Goals as goal
-
-pub returns-clause-bytes : goal.returns-clause-bytes
-returns-clause-bytes c =
-    stored_halves c.args.parts.gone c.args.parts.damaged c.args.parts.bytes (omega arith) (omega arith) (omega arith) _ _ _ c.store_half-at.ensures.bytes c.store_half.ensures.bytes

@@ -1,5 +1,0 @@
-use Rattle.simd_cesu8.proofs.decoder.DecodedBlocks.{first_gone}
-use Rattle.simd_cesu8.proofs.internal.decoder.parts.gone.Goals as goal
-
-pub returns : goal.returns
-returns c f window at near = first_gone f window c.args.codes.now at near c.args.count c.requires.count _ c.behind.ensures

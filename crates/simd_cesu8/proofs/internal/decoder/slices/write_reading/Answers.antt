@@ -1,7 +1,0 @@
-use Rattle.std.proofs.Common.{[], refl}
-use Rattle.simd_cesu8.specs.Internal.{flavor_of}
-use Rattle.simd_cesu8.proofs.pieces.WrittenPieces.{all_written}
-use Rattle.simd_cesu8.proofs.internal.decoder.slices.write_reading.Goals as goal
-
-pub returns : goal.returns
-returns c = all_written (flavor_of c.args.flavor) c.args.bytes.now [] c.write_rest.result _ _ c.write_rest.ensures refl

@@ -1,6 +1,0 @@
-use Rattle.std.proofs.Common.{◌≡◌, ◌-◌, ◌<◌, ℕ, false}
-use Rattle.simd_cesu8.specs.DecodedPlaces.{is_border_at}
-use Rattle.simd_cesu8.proofs.internal.decoder.windows.border.Given as goal
-
-abbrev pub invariant-loop-back : goal.invariant-loop-back
-invariant-loop-back g l = (k : ℕ) → k < l.back → is_border_at g.N.NullForm.flavor l.fn.window (l.fn.most - k) ≡ false

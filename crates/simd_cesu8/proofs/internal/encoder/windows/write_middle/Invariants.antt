@@ -1,9 +1,0 @@
-use Rattle.std.proofs.Common.{◌≡◌, ◌*◌, length}
-use Rattle.simd_cesu8.specs.EncodedPlaces.{IsWritten}
-use Rattle.simd_cesu8.proofs.internal.encoder.windows.write_middle.Given as goal
-
-abbrev pub invariant-loop-i : goal.invariant-loop-i
-invariant-loop-i g l = record {
-  written : IsWritten g.N.NullForm.flavor l.fn.text (32 * l.i) l.out l.end;
-  len : length l.out ≡ length l.initial.out;
-}
