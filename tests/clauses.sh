@@ -9,6 +9,7 @@
 # - what is there twice, for each encoding or kernel, is the same;
 # - tests/clauses.txt has each public clause, signature and type, and the definitions that they
 #   cite, so that a change of these is a changed line there.
+# What a crate hands on from one below it is told as its own.
 # The status is 0 if nothing is wrong. It needs bash, awk, sed, grep and the core utilities.
 set -u
 unset CDPATH
@@ -36,19 +37,42 @@ items() {
     awk -v crate="$1" -v prefix="$2" -f tests/contracts.awk "crates/$1/src/$3"
 }
 
-# Those of a file, of the public modules below it, and of the private ones whose types it hands on:
-# `public_items CRATE PREFIX FILE`.
+# Those of a file, of the public modules below it, of the private ones whose types it hands on, and
+# of the modules that it hands on from a crate below: `public_items CRATE PREFIX FILE`.
 public_items() {
-    local crate=$1 prefix=$2 file=$3 told folder module
+    local crate=$1 prefix=$2 file=$3 told below path names
     told=$(items "$crate" "$prefix" "$file")
-    echo "$told"
-    folder=${file%.rt}/
+    grep -v $'\tpub use cesu8_' <<<"$told"
+    items_below "$crate" "$prefix" "$file" "$told"
+    while read -r below path names; do
+        handed_on "$crate" "$prefix" "$below" "$path" "$names"
+    done < <(sed -n 's/.*\tpub use \(cesu8_[a-z]*\)::\([a-z_]*\)::{\(.*\)};$/\1 \2 \3/p' \
+        <<<"$told")
+}
+
+# Those of the modules that a file names, in what is told of it:
+# `items_below CRATE PREFIX FILE TOLD`.
+items_below() {
+    local crate=$1 prefix=$2 folder=${3%.rt}/ told=$4 module
     for module in $(sed -n 's/.*\tpub mod \([a-z0-9_]*\);$/\1/p' <<<"$told"); do
         public_items "$crate" "$prefix$module::" "${folder#lib/}$module.rt"
     done
     for module in $(sed -n 's/.*\tpub use crate::\([a-z0-9_]*\)::.*/\1/p' <<<"$told" | sort -u); do
         public_items "$crate" "$prefix" "$module.rt"
     done
+}
+
+# Those of modules of another crate, as if the crate itself had them, so that the crate's name alone
+# is another: `handed_on CRATE PREFIX BELOW PATH NAMES`, the names with commas between.
+handed_on() {
+    local crate=$1 prefix=$2 below=$3 file=$4.rt names="^(${5//, /|})(::|$)" told
+    told=$(items "$below" "$prefix" "$file" | awk -F '\t' -v prefix="$prefix" -v names="$names" '
+        index($2, prefix) == 1 && substr($2, length(prefix) + 1) ~ names
+    ')
+    {
+        echo "$told"
+        items_below "$below" "$prefix" "$file" "$told"
+    } | sed "s/^$below\t/$crate\t/"
 }
 
 # What users can name: of the program, which hands nothing on, all but `main` and the tests.
@@ -133,7 +157,7 @@ texts() {
     awk -F '\t' '$3 !~ /^!(fn|item)$/ { print $4 }' "$scratch/items" >"$scratch/cited"
     mapfile -t files < <(sort -u "$scratch/files")
     awk -f tests/definitions.awk "$scratch/cited" "${files[@]}" \
-        crates/{simd_cesu8,java_text,cesu8_cli,cesu8_static}/specs/*.antt |
+        crates/{cesu8_text,cesu8_bytes,simd_cesu8,java_text,cesu8_cli,cesu8_static}/specs/*.antt |
         sed 's,^crates/\([a-z0-9_]*\)/\([^\t]*\)\t,\1 \2: ,'
 }
 

@@ -2,15 +2,25 @@
 # text, with ` | ` where a line of its own begins:
 #   awk -f definitions.awk TEXTS FILE.rt... FILE.antt...
 # TEXTS has the clauses; the names in them are those that the .rt files import. Each .antt file is a
-# module of definitions.
+# module of definitions, and specs/Lib.antt of a crate says which modules of others it hands on.
 
 FILENAME == ARGV[1] {
     cite($0)
     next
 }
 
+# A module of another crate that a crate hands on under its own name.
+/^pub use [^{]*$/ && FILENAME ~ /\/Lib\.antt$/ {
+    name = $3
+    sub(/.*\./, "", name)
+    module = module_of(FILENAME)
+    sub(/Lib$/, name, module)
+    handed_on[module] = $3
+    next
+}
+
 # Imports, which may take several lines in a .rt file.
-/^ *ghost use / || /^use / && FILENAME ~ /\.antt$/ {
+/^ *ghost use / || /^(pub )?use / && FILENAME ~ /\.antt$/ {
     importing = ""
     is_import = 1
 }
@@ -54,8 +64,9 @@ function module_of(path) {
 }
 
 # Notes what an import names: each item, or the module itself.
-function import(line,    module, names, total, i, parts, name) {
-    sub(/^ *(ghost )?use +/, "", line)
+function import(line,    is_passed, module, names, total, i, parts, name) {
+    is_passed = line ~ /^ *pub /
+    sub(/^ *((ghost|pub) )?use +/, "", line)
     gsub(/[;}]/, "", line)
     module = line
     if (index(line, "{") == 0) {
@@ -76,6 +87,7 @@ function import(line,    module, names, total, i, parts, name) {
         split(names[i], parts, " as ")
         name = parts[2] == "" ? parts[1] : parts[2]
         item_of[FILENAME, name] = module SUBSEP parts[1]
+        if (is_passed) passed_on[module_of(FILENAME), name] = module SUBSEP parts[1]
         if (FILENAME ~ /\.rt$/) importer[name, ++importers] = FILENAME
     }
 }
@@ -86,19 +98,24 @@ function cite(line,    names, total, i) {
     for (i = 1; i <= total; i++) is_cited[names[i]]
 }
 
+# The module and the name of an item where it is defined, and not only handed on.
+function origin(key,    parts) {
+    split(key, parts, SUBSEP)
+    if (parts[1] in handed_on) return origin(handed_on[parts[1]] SUBSEP parts[2])
+    if (!(key in definition) && key in passed_on) return origin(passed_on[key])
+    return key
+}
+
 # The definition that a name means in a file, or 0.
 function meant(path, name,    key, parts) {
     key = module_of(path) SUBSEP name
-    if (key in definition) return definition[key]
-    if ((path, name) in item_of) {
-        key = item_of[path, name]
-        return key in definition ? definition[key] : 0
+    if (!(key in definition)) {
+        if ((path, name) in item_of) key = item_of[path, name]
+        else if (split(name, parts, ".") == 2 && (path, parts[1]) in module_named)
+            key = module_named[path, parts[1]] SUBSEP parts[2]
     }
-    if (split(name, parts, ".") == 2 && (path, parts[1]) in module_named) {
-        key = module_named[path, parts[1]] SUBSEP parts[2]
-        return key in definition ? definition[key] : 0
-    }
-    return 0
+    key = origin(key)
+    return key in definition ? definition[key] : 0
 }
 
 # Reaches a definition, and all that it cites.
@@ -127,7 +144,7 @@ END {
 function tell_meanings(    key, parts, item) {
     for (key in item_of) {
         split(key, parts, SUBSEP)
-        if (is_told(parts[1], parts[2])) means(parts[2], item_of[key])
+        if (is_told(parts[1], parts[2])) means(parts[2], origin(item_of[key]))
     }
     for (key in item_of) {
         split(key, parts, SUBSEP)
