@@ -1,9 +1,14 @@
 #!/usr/bin/env bash
-# Checks that no crate of this repository depends on the inside of another. Its code, definitions
-# and proofs name no module of another crate's `proofs`, except simd_cesu8.proofs.StdUtf8, which is
-# public. No contract or definition takes a word from a proof. The proofs of std are public. It
-# prints what is wrong, and then the counts. The status is 0 if nothing is wrong. It needs bash,
-# awk, sed and the core utilities.
+# Checks that no crate of this repository depends on the inside of another, and prints what is wrong
+# and then the counts. These have to hold:
+# - crates.txt lists each crate after those that it uses;
+# - the crates above the library name nothing of the crates that simd_cesu8 stands on;
+# - code, definitions and proofs name no module of another crate's `proofs`, except
+#   simd_cesu8.proofs.StdUtf8, which is public. Within the library they may name those of the crates
+#   below. The proofs of std are public;
+# - no contract or definition takes a word from a proof;
+# - only the modules below import one another. That list is to become shorter.
+# The status is 0 if nothing is wrong. It needs bash, awk, sed and the core utilities.
 set -u
 unset CDPATH
 export LC_ALL=C
@@ -12,23 +17,71 @@ cd "$(dirname "${BASH_SOURCE[0]}")/.." || exit 2
 scratch=$(mktemp -d) || exit 2
 trap 'rm -rf "$scratch"' EXIT
 
-# What the files on standard input name of proofs and may not, a line each.
+# The modules that import one another, of each crate.
+known_cycles() {
+    cat <<'MODULES'
+cesu8_bytes crate::joining
+cesu8_bytes crate::joining::pairs
+cesu8_decode crate
+cesu8_decode crate::appending
+cesu8_decode crate::few
+cesu8_decode crate::slices
+cesu8_decode crate::whole
+MODULES
+}
+
+# The crates of crates.txt, each with those below it that are here, by way of others or not.
+sed 's/#.*//; s/ staticlib:/:/' crates.txt | awk -F ':' '
+    NF == 2 {
+        count = split($2, name, " ")
+        below = " "
+        for (i = 1; i <= count; i++) {
+            if (!(name[i] in under)) {
+                if ((getline line <("crates/" name[i] "/src/lib.rt")) >= 0)
+                    print "crates.txt lists " $1 " before " name[i] | "cat 1>&2"
+                continue
+            }
+            if (index(below, " " name[i] " ") == 0) below = below name[i] " "
+            split(under[name[i]], lower, " ")
+            for (j in lower) if (index(below, " " lower[j] " ") == 0) below = below lower[j] " "
+        }
+        under[$1] = below
+        print $1 below
+    }
+' >"$scratch/crates" 2>"$scratch/wrong"
+read -r library < <(sed -n 's/^simd_cesu8 //p' "$scratch/crates")
+
+# What the files on standard input name of other crates and may not, a line each.
 wrong() {
     local file crate
     while read -r file; do
         crate=${file#crates/}
-        awk -v file="$file" -v crate="${crate%%/*}" '
+        crate=${crate%%/*}
+        awk -v file="$file" -v crate="$crate" -v library=" $library simd_cesu8 " \
+            -v below="$(sed -n "s/^$crate / /p" "$scratch/crates")" '
+            BEGIN { is_in_library = index(library, " " crate " ") > 0 }
             { sub(/(--|\/\/).*/, "") }
             {
                 is_word = file ~ /\/specs\// || /^ *ghost use /
                 gsub(/::/, ".")
                 gsub(/crate\.proofs/, crate ".proofs")
+                line = $0
+                while (match(line, /(^|[^A-Za-z0-9_])cesu8_[a-z]+\./)) {
+                    name = substr(line, RSTART, RLENGTH - 1)
+                    line = substr(line, RSTART + RLENGTH)
+                    sub(/^[^A-Za-z0-9_]/, "", name)
+                    if (!is_in_library && index(library, " " name " "))
+                        print "a crate that simd_cesu8 stands on: " file ": " name
+                }
                 while (match($0, /[A-Za-z0-9_]+\.proofs(\.[A-Za-z0-9_]+)?/)) {
                     module = substr($0, RSTART, RLENGTH)
                     $0 = substr($0, RSTART + RLENGTH)
-                    if (module ~ /^std\./) continue
+                    owner = module
+                    sub(/\..*/, "", owner)
+                    if (owner == "std") continue
                     if (is_word) print "a contract or definition names a proof: " file ": " module
-                    else if (index(module, crate ".") != 1 && module != "simd_cesu8.proofs.StdUtf8")
+                    else if (owner == crate || module == "simd_cesu8.proofs.StdUtf8") continue
+                    else if (!is_in_library || index(below, " " owner " ") == 0)
                         print "the proofs of another crate: " file ": " module
                 }
             }
@@ -36,10 +89,26 @@ wrong() {
     done
 }
 
+# The modules of each crate that import one another.
+cycles() {
+    local crate files
+    while read -r crate _; do
+        mapfile -t files < <(find "crates/$crate/src" -name '*.rt' | sort)
+        awk -f tests/cycles.awk "${files[@]}" | sed "s/^/$crate /"
+    done <"$scratch/crates"
+}
+
 find crates -name out -prune -o \( -path '*/src/*.rt' -o -path '*/specs/*.antt' \
     -o -path '*/proofs/*.antt' \) -print | sort >"$scratch/files"
-wrong <"$scratch/files" | sort -u >"$scratch/wrong"
+wrong <"$scratch/files" | sort -u >>"$scratch/wrong"
+known_cycles | sort >"$scratch/known"
+cycles | sort >"$scratch/cycles"
+comm -13 "$scratch/known" "$scratch/cycles" |
+    sed 's/^/a module that imports itself by way of others: /' >>"$scratch/wrong"
+comm -23 "$scratch/known" "$scratch/cycles" |
+    sed 's/^/no longer in a cycle, and still in the list of tests\/layers.sh: /' >>"$scratch/wrong"
 
 sed 's/^/wrong: /' "$scratch/wrong"
-echo "$(wc -l <"$scratch/files") files, $(wc -l <"$scratch/wrong") wrong"
-[[ -s $scratch/files && ! -s $scratch/wrong ]]
+echo "$(wc -l <"$scratch/files") files, $(wc -l <"$scratch/cycles") modules in a cycle," \
+    "$(wc -l <"$scratch/wrong") wrong"
+[[ -s $scratch/files && -n $library && ! -s $scratch/wrong ]]
