@@ -1,8 +1,8 @@
 #!/usr/bin/env bash
 # Makes a new repository with a copy of the libraries by vendor.sh and one crate, whose proof cites
 # a clause and a law, and proves and runs that. It checks that the copy has what it needs and no
-# more, that git takes nothing that `rt` made, and that a second copy changes nothing. The status is
-# 0 if nothing is wrong.
+# more, and of that no tests, that git takes nothing that `rt` made, and that a second copy changes
+# nothing. The status is 0 if nothing is wrong.
 #
 # It copies the proofs of the same sources from here. In a clean clone there are none, and proving
 # takes minutes.
@@ -65,7 +65,7 @@ MODULE
 # What a copy has to have: the files of three folders, and four more.
 wanted_files() {
     local library
-    for library in simd_cesu8 java_text; do
+    for library in "${libraries[@]}"; do
         (cd "$top/crates" && find "$library/src" "$library/specs" "$library/proofs" -type f)
         printf "$library/%s\n" .gitignore LICENSE-APACHE LICENSE-MIT VERSION
     done | sort
@@ -73,7 +73,7 @@ wanted_files() {
 
 # What it has, but for what `rt` made.
 copied_files() {
-    (cd "$new/crates" && find simd_cesu8 java_text -type f ! -path '*/out/*' | sort)
+    (cd "$new/crates" && find . -type f ! -path '*/out/*' ! -path './keys/*' -printf '%P\n' | sort)
 }
 
 # Copies the libraries, after which crates.txt has these lines: `copy LINES`.
@@ -81,12 +81,23 @@ copy() {
     "$top/vendor.sh" "$new" >>"$new/crates.txt" || wrong 'vendor.sh fails'
     [[ $(<"$new/crates.txt") == "$1" ]] || wrong "crates.txt has other lines than $1"
     diff <(wanted_files) <(copied_files) || wrong 'the copy has other files'
+    compare_code
+}
+
+# The code is the same but for its tests, each of which ends its file.
+compare_code() {
+    local file
+    while read -r file; do
+        sed '/^#\[cfg(test)\]$/,$d' "$top/crates/$file" | sed '${/^$/d}' |
+            diff - "$new/crates/$file" || wrong "the code of $file is other"
+    done < <(cd "$top/crates" && find "${libraries[@]}" -path '*/src/*.rt' ! -path '*/out/*')
+    grep -r --include='*.rt' '#\[test\]' "$new/crates" && wrong 'a test is copied'
 }
 
 # Proves and runs the crate, over what was proved of these sources before.
 prove() {
     local library
-    for library in simd_cesu8 java_text; do
+    for library in "${libraries[@]}"; do
         [[ -d $top/crates/$library/out/rlib ]] || continue
         mkdir "$new/crates/$library/out" || exit 2
         cp -R "$top/crates/$library/out/rlib" "$new/crates/$library/out" || exit 2
@@ -105,14 +116,20 @@ look_at_git() {
         echo 'git is missing: the check of what it would take skipped'
         return
     fi
-    (cd "$new" && git init -q . && git add crates/simd_cesu8 crates/java_text) ||
+    (cd "$new" && git init -q . && git add "${libraries[@]/#/crates/}") ||
         wrong 'git takes no copy'
     if (cd "$new" && git ls-files) | grep '/out/'; then
         wrong 'git takes what rt made'
     fi
 }
 
-lines=$'simd_cesu8: simdutf8 percent_encoding\njava_text: simd_cesu8'
+libraries=(cesu8_text cesu8_bytes cesu8_encode cesu8_decode simd_cesu8 java_text)
+lines='cesu8_text:
+cesu8_bytes: cesu8_text percent_encoding simdutf8
+cesu8_encode: cesu8_bytes cesu8_text
+cesu8_decode: cesu8_bytes cesu8_text simdutf8
+simd_cesu8: cesu8_encode cesu8_decode cesu8_bytes cesu8_text
+java_text: simd_cesu8'
 new=$scratch/new
 mkdir "$new" || exit 2
 copy "$lines"
