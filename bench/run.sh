@@ -38,7 +38,7 @@ done
 # The archive for one processor level, proved and built.
 build() {
     mkdir -p "$out/$1"
-    if ! (cd "$crate" && rt lib --cpu "$1") >"$out/$1/rt.log" 2>&1; then
+    if ! (cd "$crate" && rt lib --cpu "$1" ${PROOF_JOBS:+--jobs "$PROOF_JOBS"}) >"$out/$1/rt.log" 2>&1; then
         cat "$out/$1/rt.log" >&2
         exit 1
     fi

@@ -39,7 +39,7 @@ source "$top/tests/program.sh" || exit 2
 copy_tree() {
     local library
     if [[ ! -f $crate/out/libcesu8_static.a ]]; then
-        (cd "$crate" && quietly rt lib) || exit 2
+        (cd "$crate" && quietly rt lib ${PROOF_JOBS:+--jobs "$PROOF_JOBS"}) || exit 2
     fi
     mkdir "$1" || exit 2
     tar c -C "$top" --exclude=./.git --exclude=./dist --exclude=out . | tar x -C "$1" || exit 2

@@ -34,7 +34,7 @@ build_library() {
     if command -v objcopy >/dev/null; then
         quietly sh "$crate/archive.sh" "$scratch/libcesu8.a"
     else
-        (cd "$crate" && quietly rt lib)
+        (cd "$crate" && quietly rt lib ${PROOF_JOBS:+--jobs "$PROOF_JOBS"})
     fi
     if ! cp "$crate/out/libcesu8_static.a" "$scratch/"; then
         echo "the static library was not built" >&2

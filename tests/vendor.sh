@@ -102,7 +102,7 @@ prove() {
         mkdir "$new/crates/$library/out" || exit 2
         cp -R "$top/crates/$library/out/rlib" "$new/crates/$library/out" || exit 2
     done
-    if ! (cd "$new/crates/keys" && quietly rt run); then
+    if ! (cd "$new/crates/keys" && quietly rt run ${PROOF_JOBS:+--jobs "$PROOF_JOBS"}); then
         wrong 'the crate is not proved'
     elif ! grep -qx '6 bytes, borrowed: false' "$scratch/said"; then
         cat "$scratch/said"

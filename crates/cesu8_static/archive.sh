@@ -2,8 +2,8 @@
 # Builds one archive with the code for x86-64-v2 and for x86-64-v3, and chooser.c, which picks one
 # of them as the program runs:
 #   archive.sh FILE.a
-# It proves the crate and the library below it where that is not done. It needs the kit's rt, cc,
-# ar, objcopy and nm.
+# It proves the crate and the libraries below it where that is not done, by as many jobs as PROOF_JOBS
+# says, or else as rt chooses. It needs the kit's rt, cc, ar, objcopy and nm.
 set -eu
 unset CDPATH
 
@@ -22,7 +22,8 @@ rm -f "$archive"
 
 # The code for x86-64-v2 comes last, and stays in out/, since it is what rt builds by default.
 for level in v3 v2; do
-    if ! (cd "$crate" && rt lib --cpu "x86-64-$level") >"$scratch/rt.log" 2>&1; then
+    if ! (cd "$crate" && rt lib --cpu "x86-64-$level" ${PROOF_JOBS:+--jobs "$PROOF_JOBS"}) \
+        >"$scratch/rt.log" 2>&1; then
         cat "$scratch/rt.log" >&2
         exit 1
     fi
