@@ -2,8 +2,8 @@
 # for what it notes.
 # shellcheck shell=bash disable=SC2154
 
-# Notes every two seconds how much of the processors' time each check of `rt ci` has taken, until it
-# is ended. What a check takes after the last look at it is missed: `note_checks TREE ROOM`, the
+# Notes every two seconds how much of the processors' time each check of `rt ci` and of an edit has taken,
+# until it is ended. What a check takes after the last look at it is missed: `note_checks TREE ROOM`, the
 # folder where `rt ci` runs, and the one where it makes the copies for edits.
 note_checks() {
     local stat pid line fields process
