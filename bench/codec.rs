@@ -1,5 +1,6 @@
 //! The calls of one codec: the one that is linked, and those of shared objects.
 
+pub use crate::actions::{ACTIONS, Action, Flavor};
 use std::ffi::{CStr, CString, c_char, c_int, c_void};
 use std::mem;
 
@@ -71,12 +72,6 @@ unsafe extern "C" {
 
 const RTLD_NOW: c_int = 2;
 
-#[derive(Clone, Copy, PartialEq, Eq, PartialOrd, Ord)]
-pub enum Flavor {
-    Cesu8,
-    Mutf8,
-}
-
 pub const FLAVORS: [Flavor; 2] = [Flavor::Cesu8, Flavor::Mutf8];
 
 impl Flavor {
@@ -88,40 +83,7 @@ impl Flavor {
     }
 }
 
-#[derive(Clone, Copy, PartialEq)]
-pub enum Action {
-    Encode,
-    EncodedLength,
-    Decode,
-    DecodeStrict,
-    DecodeLossy,
-    DecodeLossyStrict,
-    LossyLength,
-}
-
-pub const ACTIONS: [Action; 7] = [
-    Action::Encode,
-    Action::EncodedLength,
-    Action::Decode,
-    Action::DecodeStrict,
-    Action::DecodeLossy,
-    Action::DecodeLossyStrict,
-    Action::LossyLength,
-];
-
 impl Action {
-    pub fn title(self) -> &'static str {
-        match self {
-            Action::Encode => "encode",
-            Action::EncodedLength => "encoded_len",
-            Action::Decode => "decode",
-            Action::DecodeStrict => "decode_strict",
-            Action::DecodeLossy => "decode_lossy",
-            Action::DecodeLossyStrict => "decode_lossy_strict",
-            Action::LossyLength => "lossy_len",
-        }
-    }
-
     /// Whether the call takes a text, as its UTF-8.
     pub fn takes_text(self) -> bool {
         matches!(self, Action::Encode | Action::EncodedLength)

@@ -8,6 +8,7 @@
 //! some of them: this library's build for another level, or another codec. All are measured in the
 //! same rounds.
 
+mod actions;
 mod calls;
 mod codec;
 mod expected;

@@ -1,6 +1,6 @@
-//! What a call has to answer, by std's UTF-16 and one code unit at a time.
+//! The plain codec: what a call has to answer, by std's UTF-16 and one code unit at a time.
 
-use crate::codec::{Action, Flavor};
+use crate::actions::{Action, Flavor};
 use std::str;
 
 fn unit_bytes(flavor: Flavor, unit: u16, out: &mut Vec<u8>) {

@@ -5,13 +5,8 @@
 # It takes the best of ROUNDS, 3 by default. README.md says more. It needs the kit's rt, bash, awk
 # and the core utilities.
 set -eu
-export LC_ALL=C
-
-top=$(cd "$(dirname "${BASH_SOURCE[0]}")/.." && pwd)
-scratch=$(mktemp -d)
-trap 'rm -rf "$scratch"' EXIT
-# shellcheck source=tests/program.sh
-source "$top/tests/program.sh"
+# shellcheck source=tests/lib.sh
+source "$(dirname "${BASH_SOURCE[0]}")/../tests/lib.sh"
 # shellcheck source=tests/hostile_bytes.sh
 source "$top/tests/hostile_bytes.sh"
 

@@ -4,59 +4,31 @@
 # each case that is wrong, and the counts at the end. The status is 0 if no case is wrong.
 #
 # It needs the kit's `rt`, bash and the core utilities.
-set -u
-unset CDPATH
-export LC_ALL=C
+# shellcheck source=tests/lib.sh
+source "$(dirname "${BASH_SOURCE[0]}")/lib.sh" || exit 2
 
-top=$(cd "$(dirname "${BASH_SOURCE[0]}")/.." && pwd) || exit 2
 cases=$top/tests/cli_cases.txt
-scratch=$(mktemp -d) || exit 2
-trap 'rm -rf "$scratch"' EXIT
-# shellcheck source=tests/program.sh
-source "$top/tests/program.sh" || exit 2
 
-passed=0
-failed=0
-
-# The text without the blanks around it.
+# Takes the blanks around the text of a variable off: `trim NAME`.
 trim() {
-    local text=$1
-    text=${text#"${text%%[![:blank:]]*}"}
-    printf '%s' "${text%"${text##*[![:blank:]]}"}"
+    local -n text_of=$1
+    text_of=${text_of#"${text_of%%[![:blank:]]*}"}
+    text_of=${text_of%"${text_of##*[![:blank:]]}"}
 }
 
-# The bytes of a list such as '61 C8 85'.
-bytes() {
-    local byte
-    for byte in $1; do
-        # shellcheck disable=SC2059
-        printf "\\x$byte"
-    done
+# Prints the bytes of a list such as '61 C8 85'.
+bytes_of() {
+    local byte escapes=''
+    for byte in $1; do escapes+=\\x$byte; done
+    printf '%b' "$escapes"
 }
 
-# The list of a file's bytes, on one line.
-hex() {
-    local list
-    list=$(od -An -v -tx1 "$1" | tr '\n' ' ' | tr -s ' ')
-    trim "${list^^}"
-}
-
-# Compares the run that just ended, whose output lies in $scratch/output and whose standard error
-# lies in $scratch/error: `expect NAME GOT-STATUS STATUS OUTPUT LINE`.
-expect() {
-    local name=$1 got_status=$2 status=$3 output=$4 line=$5 wrong='' got
-    [[ $got_status == "$status" ]] || wrong+="  status: $got_status, and not $status"$'\n'
-    got=$(hex "$scratch/output")
-    [[ $got == "$output" ]] || wrong+="  output: $got, and not $output"$'\n'
-    printf '%s' "${line:+$line$'\n'}" >"$scratch/line"
-    [[ $(hex "$scratch/error") == "$(hex "$scratch/line")" ]] ||
-        wrong+="  standard error: $(cat "$scratch/error"), and not $line"$'\n'
-    if [[ -z $wrong ]]; then
-        passed=$((passed + 1))
-    else
-        failed=$((failed + 1))
-        printf 'wrong: %s\n%s' "$name" "$wrong"
-    fi
+# Compares the run that just ended with its status, the list of the bytes that it has to write, and its
+# line: `expect_bytes WHAT GOT-STATUS STATUS OUTPUT LINE`.
+expect_bytes() {
+    status=$2
+    bytes_of "$4" >"$scratch/bytes"
+    expect_run "$1" "$3" "$5" "$scratch/bytes"
 }
 
 # Keeps in word_list the words of a list such as 'encode cesu8'. A word in double quotes can be empty
@@ -80,31 +52,25 @@ split_words() {
 
 # Runs the cases of the file.
 run_cases() {
-    local number=0 ran=0 text bars words input status output line word_list got
+    local number=0 ran=0 text bars words input wanted output line word_list field
     while IFS= read -r text || [[ -n $text ]]; do
         number=$((number + 1))
-        case $(trim "$text") in '' | '#'*) continue ;; esac
+        trim text
+        case $text in '' | '#'*) continue ;; esac
         bars=${text//[^|]/}
-        IFS='|' read -r words input status output line <<<"$text"
-        status=$(trim "$status")
-        if [[ ${#bars} != 4 || ! $status =~ ^[0-9]+$ ]]; then
-            failed=$((failed + 1))
-            echo "wrong: line $number of $cases has other fields than five"
+        IFS='|' read -r words input wanted output line <<<"$text"
+        for field in words input wanted output line; do trim "$field"; done
+        if [[ ${#bars} != 4 || ! $wanted =~ ^[0-9]+$ ]]; then
+            wrong "line $number of $cases has other fields than five"
             continue
         fi
         split_words "$words"
-        bytes "$input" >"$scratch/input"
-        "$program" ${word_list[@]+"${word_list[@]}"} \
-            <"$scratch/input" >"$scratch/output" 2>"$scratch/error"
-        got=$?
-        expect "line $number: $(trim "$words") | $(trim "$input")" \
-            "$got" "$status" "$(trim "$output")" "$(trim "$line")"
+        bytes_of "$input" >"$scratch/input"
+        run ${word_list[@]+"${word_list[@]}"}
+        expect_bytes "line $number: $words | $input" "$status" "$wanted" "$output" "$line"
         ran=$((ran + 1))
     done <"$cases"
-    if ((ran == 0)); then
-        failed=$((failed + 1))
-        echo "wrong: no case in $cases"
-    fi
+    ((ran > 0)) || wrong "no case in $cases"
 }
 
 device_failed='cesu8: input or output failed'
@@ -125,42 +91,42 @@ every_pair() {
 
 full_output() {
     if [[ $1 == java-read ]]; then
-        bytes '00 01 61' >"$scratch/input"
+        printf '\x00\x01a' >"$scratch/input"
     else
-        bytes '61' >"$scratch/input"
+        printf a >"$scratch/input"
     fi
     : >"$scratch/output"
     "$program" "$1" "$2" <"$scratch/input" >/dev/full 2>"$scratch/error"
-    expect "output of $1 $2 to a full device" $? 4 '' "$device_failed"
+    expect_bytes "output of $1 $2 to a full device" $? 4 '' "$device_failed"
 }
 
 # The only reader of the pipe at 4 is gone.
 closed_pipe() {
-    bytes '61' >"$scratch/input"
+    printf a >"$scratch/input"
     : >"$scratch/output"
     mkfifo "$scratch/pipe" && exec 3<>"$scratch/pipe" 4>"$scratch/pipe" 3>&-
     "$program" encode cesu8 <"$scratch/input" >&4 2>"$scratch/error"
-    expect 'output to a closed pipe' $? 4 '' "$device_failed"
+    expect_bytes 'output to a closed pipe' $? 4 '' "$device_failed"
     exec 4>&-
     rm "$scratch/pipe"
 }
 
 closed_streams() {
-    bytes '61' >"$scratch/input"
+    printf a >"$scratch/input"
     "$program" encode cesu8 <&- >"$scratch/output" 2>"$scratch/error"
-    expect 'closed standard input' $? 4 '' "$device_failed"
+    expect_bytes 'closed standard input' $? 4 '' "$device_failed"
     : >"$scratch/output"
     "$program" encode cesu8 <"$scratch/input" >&- 2>"$scratch/error"
-    expect 'closed standard output' $? 4 '' "$device_failed"
+    expect_bytes 'closed standard output' $? 4 '' "$device_failed"
     "$program" encode cesu8 </dev/null >&- 2>"$scratch/error"
-    expect 'closed standard output, and nothing to write' $? 0 '' ''
+    expect_bytes 'closed standard output, and nothing to write' $? 0 '' ''
     : >"$scratch/error"
     "$program" encode cesu8 <"$scratch/input" >"$scratch/output" 2>&-
-    expect 'closed standard error' $? 0 '61' ''
+    expect_bytes 'closed standard error' $? 0 '61' ''
     "$program" encode utf9 <"$scratch/input" >"$scratch/output" 2>&-
-    expect 'closed standard error, and a line for it' $? 2 '' ''
+    expect_bytes 'closed standard error, and a line for it' $? 2 '' ''
     "$program" encode cesu8 <&- >&- 2>&-
-    expect 'all three closed' $? 4 '' ''
+    expect_bytes 'all three closed' $? 4 '' ''
 }
 
 # A pipe at 3 with nothing in it, whose reads and writes do not wait. `dd` sets that of the pipe
@@ -174,48 +140,48 @@ open_pipe() {
 nothing_in_a_pipe() {
     open_pipe
     "$program" encode cesu8 <&3 >"$scratch/output" 2>"$scratch/error"
-    expect 'a pipe that does not wait, with nothing in it' $? 4 '' "$device_failed"
-    bytes '61 C8' >&3
+    expect_bytes 'a pipe that does not wait, with nothing in it' $? 4 '' "$device_failed"
+    printf 'a\xC8' >&3
     "$program" encode cesu8 <&3 >"$scratch/output" 2>"$scratch/error"
-    expect 'a pipe that does not wait, with two bytes in it' $? 4 '' "$device_failed"
+    expect_bytes 'a pipe that does not wait, with two bytes in it' $? 4 '' "$device_failed"
     exec 3>&-
 }
 
-# After a failed write a beginning of the answer in $scratch/wanted stands in $scratch/long:
-# `expect_begun NAME GOT-STATUS`.
+# After a failed write a beginning of the answer in $scratch/wanted stands in $scratch/begun:
+# `expect_begun WHAT GOT-STATUS`.
 expect_begun() {
     local len
-    len=$(stat -c %s "$scratch/long")
+    len=$(stat -c %s "$scratch/begun")
     : >"$scratch/output"
-    expect "$1, its status" "$2" 4 '' "$device_failed"
-    if ((len > 0 && len < $(stat -c %s "$scratch/wanted"))) &&
-        cmp -s -n "$len" "$scratch/long" "$scratch/wanted"; then
-        passed=$((passed + 1))
-    else
-        failed=$((failed + 1))
-        echo "wrong: $1, its bytes: $len of them"
-    fi
+    expect_bytes "$1, its status" "$2" 4 '' "$device_failed"
+    expect "$1, its bytes: $len of them" is_begun "$len"
+}
+
+# Whether so many bytes, and not all, are those of the answer: `is_begun LENGTH`.
+is_begun() {
+    (($1 > 0 && $1 < $(stat -c %s "$scratch/wanted"))) &&
+        cmp -s -n "$1" "$scratch/begun" "$scratch/wanted"
 }
 
 # Writes that fail after a part of the answer: to a pipe that does not wait and is full, and to a
 # file that may have no more than eight blocks.
 begun_output() {
-    million 'F0 9F 92 96' >"$scratch/input"
-    million 'ED A0 BD ED B2 96' >"$scratch/wanted"
+    repeated $((1 << 20)) '\xF0\x9F\x92\x96' >"$scratch/input"
+    repeated $((1 << 20)) '\xED\xA0\xBD\xED\xB2\x96' >"$scratch/wanted"
     open_pipe
     "$program" encode cesu8 <"$scratch/input" >&3 2>"$scratch/error"
     status=$?
-    cat <&3 >"$scratch/long" 2>/dev/null
+    cat <&3 >"$scratch/begun" 2>/dev/null
     exec 3>&-
     expect_begun 'output to a pipe that takes no more' "$status"
     (trap '' XFSZ && ulimit -f 8 && exec "$program" encode cesu8) \
-        <"$scratch/input" >"$scratch/long" 2>"$scratch/error"
+        <"$scratch/input" >"$scratch/begun" 2>"$scratch/error"
     expect_begun 'output to a file that may not grow' $?
 }
 
 folder_as_input() {
     "$program" encode cesu8 <"$scratch" >"$scratch/output" 2>"$scratch/error"
-    expect 'a folder as standard input' $? 4 '' "$device_failed"
+    expect_bytes 'a folder as standard input' $? 4 '' "$device_failed"
 }
 
 # Wherever it stands, and however many words there are.
@@ -224,7 +190,7 @@ argument_not_utf8() {
     for words in "encode $bad_word" "$bad_word cesu8" "$bad_word" "encode cesu8 $bad_word"; do
         # shellcheck disable=SC2086
         "$program" $words </dev/null >"$scratch/output" 2>"$scratch/error"
-        expect "an argument that is not UTF-8: ${words/$bad_word/FF}" $? 4 '' "$device_failed"
+        expect_bytes "an argument that is not UTF-8: ${words/$bad_word/FF}" $? 4 '' "$device_failed"
     done
 }
 
@@ -232,74 +198,57 @@ argument_not_utf8() {
 many_words() {
     local words
     read -r -a words < <(yes encode cesu8 | head -n 500 | tr '\n' ' ')
-    bytes '61 C8 85' >"$scratch/input"
+    printf 'a\xC8\x85' >"$scratch/input"
     {
         "$program" "${words[@]}" 2>"$scratch/error"
         status=$?
         cat
     } <"$scratch/input" >"$scratch/output"
-    expect 'a thousand words' "$status" 2 '61 C8 85' 'usage: cesu8_cli COMMAND FLAVOR'
-    "$program" encode "$(repeated 100000 '61')" <"$scratch/input" >"$scratch/output" \
+    expect_bytes 'a thousand words' "$status" 2 '61 C8 85' 'usage: cesu8_cli COMMAND FLAVOR'
+    "$program" encode "$(repeated 100000 a)" <"$scratch/input" >"$scratch/output" \
         2>"$scratch/error"
-    expect 'a long word' $? 2 '' 'usage: cesu8_cli COMMAND FLAVOR'
+    expect_bytes 'a long word' $? 2 '' 'usage: cesu8_cli COMMAND FLAVOR'
 }
 
 full_error() {
     : >"$scratch/error"
     "$program" encode utf9 </dev/null >"$scratch/output" 2>/dev/full
-    expect 'standard error to a full device' $? 2 '' ''
+    expect_bytes 'standard error to a full device' $? 2 '' ''
 }
 
 # What the program leaves of its input goes to the output.
 unread_input() {
-    bytes '61 C8 85' >"$scratch/input"
+    printf 'a\xC8\x85' >"$scratch/input"
     {
         "$program" encode utf9 2>"$scratch/error"
         status=$?
         cat
     } <"$scratch/input" >"$scratch/output"
-    expect 'input that is not read' "$status" 2 '61 C8 85' 'usage: cesu8_cli COMMAND FLAVOR'
+    expect_bytes 'input that is not read' "$status" 2 '61 C8 85' 'usage: cesu8_cli COMMAND FLAVOR'
 }
 
 # The pieces are cut inside characters.
 input_in_pieces() {
     {
-        bytes '61 F0 90'
+        printf 'a\xF0\x90'
         sleep 0.2
-        bytes '90'
+        printf '\x90'
         sleep 0.2
-        bytes '80 C8'
+        printf '\x80\xC8'
         sleep 0.2
-        bytes '85'
+        printf '\x85'
     } | "$program" encode cesu8 >"$scratch/output" 2>"$scratch/error"
-    expect 'input in pieces' $? 0 '61 ED A0 81 ED B0 80 C8 85' ''
+    expect_bytes 'input in pieces' $? 0 '61 ED A0 81 ED B0 80 C8 85' ''
 }
 
-# Repeats a list of bytes: `repeated TIMES BYTES`.
-repeated() {
-    local format="\\x${2// /\\x}"
-    # shellcheck disable=SC2046,SC2059
-    printf "$format%.0s" $(seq "$1")
-}
-
-# Runs on the input in $scratch/input, and compares with $scratch/wanted what came: `expect_long NAME
-# COMMAND FLAVOR`. The bytes are too many to print.
+# Runs on $scratch/input, and compares with $scratch/wanted what comes: `expect_long WHAT COMMAND FLAVOR`.
 expect_long() {
-    local name=$1
-    "$program" "$2" "$3" <"$scratch/input" >"$scratch/long" 2>"$scratch/error"
-    local status=$?
-    : >"$scratch/output"
-    expect "$name, its status" "$status" 0 '' ''
-    if cmp -s "$scratch/long" "$scratch/wanted"; then
-        passed=$((passed + 1))
-    else
-        failed=$((failed + 1))
-        printf 'wrong: %s, its bytes: %s of them\n' "$name" "$(stat -c %s "$scratch/long")"
-    fi
+    run "$2" "$3"
+    expect_run "$1" 0 '' "$scratch/wanted"
 }
 
-# One list of 20 to 25 bytes again and again, to just above 1 MiB of UTF-8: `long_text NAME COMMAND
-# FLAVOR INPUT OUTPUT`.
+# A text of 20 to 25 bytes again and again, to just above 1 MiB of UTF-8: `long_text WHAT COMMAND FLAVOR
+# INPUT OUTPUT`.
 long_text() {
     repeated 52429 "$4" >"$scratch/input"
     repeated 52429 "$5" >"$scratch/wanted"
@@ -308,36 +257,39 @@ long_text() {
 
 # The characters U+0061, U+0205, U+20AC, U+10400, U+0000, U+07FF, U+FFFF and U+1F496, again and again.
 long_texts() {
-    local utf8='61 C8 85 E2 82 AC F0 90 90 80 00 DF BF EF BF BF F0 9F 92 96'
-    local cesu8='61 C8 85 E2 82 AC ED A0 81 ED B0 80 00 DF BF EF BF BF ED A0 BD ED B2 96'
-    local mutf8='61 C8 85 E2 82 AC ED A0 81 ED B0 80 C0 80 DF BF EF BF BF ED A0 BD ED B2 96'
+    local front='a\xC8\x85\xE2\x82\xAC' back='\xDF\xBF\xEF\xBF\xBF' pair='\xED\xA0\x81\xED\xB0\x80'
+    local utf8="$front\\xF0\\x90\\x90\\x80\\x00$back\\xF0\\x9F\\x92\\x96"
+    local cesu8="$front$pair\\x00$back\\xED\\xA0\\xBD\\xED\\xB2\\x96"
+    local mutf8="$front$pair\\xC0\\x80$back\\xED\\xA0\\xBD\\xED\\xB2\\x96"
     long_text '1 MiB of mixed text' encode cesu8 "$utf8" "$cesu8"
     long_text '1 MiB of mixed text to MUTF-8' encode mutf8 "$utf8" "$mutf8"
     long_text '1 MiB of mixed text from CESU-8' decode-strict cesu8 "$cesu8" "$utf8"
     long_text '1 MiB of mixed text from MUTF-8' decode mutf8 "$mutf8" "$utf8"
 }
 
+mark='\xEF\xBF\xBD'
+
 # No byte is in a character, so U+FFFD comes for each.
 long_damage() {
-    repeated 65536 'FF' >"$scratch/input"
-    repeated 65536 'EF BF BD' >"$scratch/wanted"
+    repeated 65536 '\xFF' >"$scratch/input"
+    repeated 65536 "$mark" >"$scratch/wanted"
     expect_long '64 KiB of damage' lossy-strict cesu8
 }
 
-# Repeats the first list of bytes, with the second in place of each 167th: 174763 lists, which is just
-# above 1 MiB where they have 6 bytes.
+# Repeats the first bytes, with the second in place of each 167th: 174763 times, which is just above
+# 1 MiB where they are six: `mostly BYTES BYTES`.
 mostly() {
-    local stretch
-    stretch="$(printf "$1 %.0s" {1..166})$2"
-    repeated 1046 "$stretch"
+    local bytes
+    repeat 166 "$1"
+    repeated 1046 "$bytes$2"
     repeated 81 "$1"
 }
 
 # Of the pairs of U+1F496 some have FF as the first byte, and then U+FFFD comes for all six bytes.
 long_pairs() {
     local command
-    mostly 'ED A0 BD ED B2 96' 'FF A0 BD ED B2 96' >"$scratch/input"
-    mostly 'F0 9F 92 96' 'EF BF BD EF BF BD EF BF BD EF BF BD EF BF BD EF BF BD' >"$scratch/wanted"
+    mostly '\xED\xA0\xBD\xED\xB2\x96' '\xFF\xA0\xBD\xED\xB2\x96' >"$scratch/input"
+    mostly '\xF0\x9F\x92\x96' "$mark$mark$mark$mark$mark$mark" >"$scratch/wanted"
     for command in lossy lossy-strict; do
         expect_long "1 MiB of pairs, $command" "$command" cesu8
     done
@@ -347,16 +299,20 @@ long_pairs() {
 file_lengths() {
     local len
     for len in 1 16383 16384 16385 32767 32768 32769 65536 65537; do
-        { bytes '61' && repeated 40000 'C8 85'; } | head -c $((len / 2 * 2 + 1)) >"$scratch/input"
-        cp "$scratch/input" "$scratch/wanted"
-        expect_long "a file of $((len / 2 * 2 + 1)) bytes" lossy-strict mutf8
+        { printf a && repeated $((len / 2)) '\xC8\x85'; } >"$scratch/input"
+        expect_same "a file of $((len / 2 * 2 + 1)) bytes" lossy-strict mutf8
         head -c "$len" /dev/zero >"$scratch/input"
-        cp "$scratch/input" "$scratch/wanted"
-        expect_long "a file of $len nulls" decode-strict cesu8
+        expect_same "a file of $len nulls" decode-strict cesu8
     done
-    { repeated 16383 '61' && bytes 'F0 9F'; } >"$scratch/input"
-    "$program" encode cesu8 <"$scratch/input" >"$scratch/output" 2>"$scratch/error"
-    expect 'a file that ends within a character' $? 1 '' 'cesu8: input is not UTF-8'
+    { repeated 16383 a && printf '\xF0\x9F'; } >"$scratch/input"
+    run encode cesu8
+    expect_bytes 'a file that ends within a character' "$status" 1 '' 'cesu8: input is not UTF-8'
+}
+
+# Runs on $scratch/input, which has to come back as it is: `expect_same WHAT COMMAND FLAVOR`.
+expect_same() {
+    run "$2" "$3"
+    expect_run "$1" 0 '' "$scratch/input"
 }
 
 # Passes so many pieces of a megabyte on, with a pause after each: `slowly PIECES`.
@@ -370,46 +326,32 @@ slowly() {
 
 # Both ends wait for the program, and let it wait.
 slow_pipes() {
-    yes "$(bytes 'F0 9F 92 96')" | tr -d '\n' | head -c 64000000 >"$scratch/input"
-    yes "$(bytes 'ED A0 BD ED B2 96')" | tr -d '\n' | head -c 96000000 >"$scratch/wanted"
+    repeated 16000000 '\xF0\x9F\x92\x96' >"$scratch/input"
+    repeated 16000000 '\xED\xA0\xBD\xED\xB2\x96' >"$scratch/wanted"
     slowly 64 <"$scratch/input" | "$program" encode cesu8 2>"$scratch/error" |
-        slowly 96 >"$scratch/long"
+        slowly 96 >"$scratch/output"
     status=${PIPESTATUS[1]}
-    : >"$scratch/output"
-    expect '64 MB through slow pipes, its status' "$status" 0 '' ''
-    if cmp -s "$scratch/long" "$scratch/wanted"; then
-        passed=$((passed + 1))
-    else
-        failed=$((failed + 1))
-        echo "wrong: 64 MB through slow pipes, its bytes"
-    fi
+    expect_run '64 MB through slow pipes' 0 '' "$scratch/wanted"
 }
 
 # The longest Java string, 65,535 bytes after their count, and a text that has one byte more.
 java_strings() {
-    { repeated 32767 '00' && bytes '61'; } >"$scratch/input"
-    { bytes 'FF FF' && repeated 32767 'C0 80' && bytes '61'; } >"$scratch/wanted"
+    { repeated 32767 '\x00' && printf a; } >"$scratch/input"
+    { printf '\xFF\xFF' && repeated 32767 '\xC0\x80' && printf a; } >"$scratch/wanted"
     expect_long 'the longest Java string' java-write mutf8
     mv "$scratch/wanted" "$scratch/string"
     mv "$scratch/input" "$scratch/wanted"
     mv "$scratch/string" "$scratch/input"
     expect_long 'the longest Java string, read' java-read mutf8
-    repeated 32768 '00' >"$scratch/input"
-    "$program" java-write mutf8 <"$scratch/input" >"$scratch/output" 2>"$scratch/error"
-    expect 'a text too long for a Java string' $? 1 '' 'cesu8: text is too long'
-}
-
-# Repeats a list of bytes a million times and more: `million BYTES`.
-million() {
-    head -c $((1 << 20)) /dev/zero | sed "s/\\x00/\\x${1// /\\x}/g"
+    repeated 32768 '\x00' >"$scratch/input"
+    run java-write mutf8
+    expect_bytes 'a text too long for a Java string' "$status" 1 '' 'cesu8: text is too long'
 }
 
 # No length as such is want of memory.
 very_long_text() {
-    million 'C8 85 E2 82 AC 20 61 0A C8 85 E2 82 AC 20 61 0A C8 85 E2 82 AC 20 61 0A C8 85 E2 82 AC 20 61 0A' \
-        >"$scratch/input"
-    cp "$scratch/input" "$scratch/wanted"
-    expect_long '32 MiB of text that stays' encode cesu8
+    repeated $((4 << 20)) '\xC8\x85\xE2\x82\xAC a\n' >"$scratch/input"
+    expect_same '32 MiB of text that stays' encode cesu8
 }
 
 build
@@ -433,5 +375,4 @@ long_pairs
 java_strings
 very_long_text
 
-echo "$passed passed, $failed failed"
-((failed == 0))
+finish

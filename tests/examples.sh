@@ -11,21 +11,15 @@
 # The examples are built without proof, in a repository of their own beside copies of the libraries.
 # It prints what is wrong, and the counts at the end. The status is 0 if nothing is wrong. It needs
 # the kit's `rt`, bash, awk, grep, sed, find and the core utilities.
-set -u
-unset CDPATH
-export LC_ALL=C
-
-top=$(cd "$(dirname "${BASH_SOURCE[0]}")/.." && pwd) || exit 2
+# shellcheck source=tests/lib.sh
+source "$(dirname "${BASH_SOURCE[0]}")/lib.sh" || exit 2
 # shellcheck source=tests/kit.sh
 source "$top/tests/kit.sh" || exit 2
-scratch=$(mktemp -d) || exit 2
-trap 'rm -rf "$scratch"' EXIT
 mkdir -p "$scratch/blocks" "$scratch/crates/examples/src" || exit 2
 cd "$top" || exit 2
 
 examples=0
 quotations=0
-wrong=0
 
 # Writes each block of a file to a file of its own, and prints that file's name, the line before the
 # block and what stands there after the backquotes. In Rattle's files only doc comments are read.
@@ -65,15 +59,13 @@ quotation() {
     local quoted=$'\n'$4 block
     quotations=$((quotations + 1))
     if [[ ! -f $4 ]]; then
-        wrong=$((wrong + 1))
-        echo "wrong: $1:$2 quotes $4, and there is no such file"
+        wrong "$1:$2 quotes $4, and there is no such file"
         return
     fi
     quoted=$'\n'$(<"$4")$'\n'
     block=$'\n'$(<"$3")$'\n'
     if [[ $quoted != *"$block"* ]]; then
-        wrong=$((wrong + 1))
-        echo "wrong: $1:$2 quotes what does not stand in $4"
+        wrong "$1:$2 quotes what does not stand in $4"
     fi
 }
 
@@ -83,8 +75,7 @@ read_file() {
     found=$(find "$scratch/blocks" -type f | wc -l)
     while read -r block line language path; do
         if [[ $block == unclosed ]]; then
-            wrong=$((wrong + 1))
-            echo "wrong: $1 ends within a block"
+            wrong "$1 ends within a block"
         elif [[ -n $path ]]; then
             quotation "$1" "$line" "$block" "$path"
         elif [[ $language == rust ]]; then
@@ -125,9 +116,9 @@ printf 'examples:%s\n' "$libraries" >>"$scratch/crates.txt"
 } >"$scratch/crates/examples/src/main.rt"
 
 if ! (cd "$scratch/crates/examples" && rt try --test) </dev/null >"$scratch/run" 2>&1; then
-    wrong=$((wrong + 1))
+    wrong 'an example fails'
     grep -v '^test .* ok$' "$scratch/run"
 fi
 ran=$(grep -c '^test .* ok$' "$scratch/run")
-echo "$ran of $examples examples ran, $quotations quotations, $wrong wrong"
-((wrong == 0 && ran == examples))
+echo "$ran of $examples examples ran, $quotations quotations, $failed wrong"
+((failed == 0 && ran == examples))

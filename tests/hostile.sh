@@ -1,13 +1,12 @@
 #!/usr/bin/env bash
 # Runs the built program with every command on 64 MB of each kind of hostile bytes. The table below
-# has the expected results. The expected output is computed here, from the table of the encoded
-# characters, and compared byte for byte.
+# has the expected results. Output is compared byte for byte.
 #
 # Each run has a memory limit: the vector that has grown to hold the input (the next power of two),
 # the one request for the output, and a fifth more. tests/requests.sh tests runs that lack memory.
 #
-# The readings of noise are computed here, for bytes that nobody chose. Only the driver of bench has
-# such inputs too, and that needs a rustc.
+# The readings of noise, bytes that nobody chose, come from the plain codec of bench, which needs a
+# rustc. Where there is none, it says that these were skipped.
 #
 # | command | the request for the output |
 # |---|---|
@@ -19,20 +18,10 @@
 #
 # It prints what is wrong, and the counts at the end. The status is 0 if nothing is wrong. It needs
 # the kit's `rt`, bash, awk and the core utilities, and half a gigabyte for its files.
-set -u
-unset CDPATH
-export LC_ALL=C
-
-top=$(cd "$(dirname "${BASH_SOURCE[0]}")/.." && pwd) || exit 2
-scratch=$(mktemp -d) || exit 2
-trap 'rm -rf "$scratch"' EXIT
-# shellcheck source=tests/program.sh
-source "$top/tests/program.sh" || exit 2
+# shellcheck source=tests/lib.sh
+source "$(dirname "${BASH_SOURCE[0]}")/lib.sh" || exit 2
 # shellcheck source=tests/hostile_bytes.sh
 source "$top/tests/hostile_bytes.sh" || exit 2
-
-passed=0
-failed=0
 
 # The length of each input, and what a vector has grown to that holds it.
 length=64000000
@@ -56,57 +45,10 @@ noise cesu8  not_utf8 not_utf8 invalid invalid       cesu8    cesu8        -    
 noise mutf8  not_utf8 not_utf8 invalid invalid       mutf8    mutf8        not_utf8   invalid
 '
 
-# The lossy reading of the bytes that come as numbers, a line each: `reading FLAVOR`.
-reading() {
-    awk_bytes -v flavor="$1" '
-        function is_in(at, low, high) { return bytes[at] >= low && bytes[at] <= high }
-        function follows(at) { return is_in(at, 128, 191) }
-        function is_pair(at) {
-            return is_in(at + 1, 160, 175) && follows(at + 2) &&
-                bytes[at + 3] == 237 && is_in(at + 4, 176, 191) && follows(at + 5)
-        }
-
-        # How many bytes the encoded character has that begins here, or 0.
-        function character(at) {
-            if (bytes[at] == 0) return flavor == "cesu8" ? 1 : 0
-            if (bytes[at] <= 127) return 1
-            if (bytes[at] == 192) return flavor == "mutf8" && bytes[at + 1] == 128 ? 2 : 0
-            if (is_in(at, 194, 223)) return follows(at + 1) ? 2 : 0
-            if (bytes[at] == 224) return is_in(at + 1, 160, 191) && follows(at + 2) ? 3 : 0
-            if (bytes[at] == 237 && is_pair(at)) return 6
-            if (bytes[at] == 237) return is_in(at + 1, 128, 159) && follows(at + 2) ? 3 : 0
-            if (is_in(at, 225, 239)) return follows(at + 1) && follows(at + 2) ? 3 : 0
-            return 0
-        }
-
-        function write(byte) { printf "\\0%03o", byte }
-
-        # The UTF-8 of the scalar value that a surrogate pair is.
-        function write_pair(at, scalar) {
-            scalar = 65536 + (bytes[at + 1] - 160) * 65536 + (bytes[at + 2] - 128) * 1024
-            scalar += (bytes[at + 4] - 176) * 64 + bytes[at + 5] - 128
-            write(240 + int(scalar / 262144))
-            write(128 + int(scalar / 4096) % 64)
-            write(128 + int(scalar / 64) % 64)
-            write(128 + scalar % 64)
-        }
-
-        { bytes[NR] = $1 + 0 }
-        END {
-            for (at = 1; at <= NR; at += taken ? taken : 1) {
-                taken = character(at)
-                if (taken == 0) printf "\\0357\\0277\\0275"
-                else if (taken == 6) write_pair(at)
-                else if (bytes[at] == 192) write(0)
-                else for (place = at; place < at + taken; place++) write(bytes[place])
-            }
-        }'
-}
-
 write_answers() {
     echo yes >"$scratch/yes"
     echo no >"$scratch/no"
-    repeated $((length * 3)) '\xEF\xBF\xBD' >"$scratch/replaced"
+    repeated "$length" '\xEF\xBF\xBD' >"$scratch/replaced"
 }
 
 # The input, and the answers that it alone has: `write_input NAME`.
@@ -114,8 +56,8 @@ write_input() {
     rm -f "$scratch"/{pairs,nulls,cesu8,mutf8}
     hostile_bytes "$1" "$length" >"$scratch/input"
     case $1 in
-        four) repeated $((length / 4 * 6)) '\xED\xAF\xBF\xED\xBF\xBF' >"$scratch/pairs" ;;
-        null) repeated $((length * 2)) '\xC0\x80' >"$scratch/nulls" ;;
+        four) repeated $((length / 4)) '\xED\xAF\xBF\xED\xBF\xBF' >"$scratch/pairs" ;;
+        null) repeated "$length" '\xC0\x80' >"$scratch/nulls" ;;
         noise) write_readings ;;
     esac
 }
@@ -123,8 +65,10 @@ write_input() {
 # Of noise, the readings of one million, as often as it stands in the input.
 write_readings() {
     local flavor
+    [[ -n $codec ]] || return
     for flavor in cesu8 mutf8; do
-        od -An -v -tu1 -w1 "$scratch/million" | reading "$flavor" >"$scratch/read"
+        "$codec" decode_lossy_strict "$flavor" <"$scratch/million" >"$scratch/read" ||
+            wrong "the plain codec reads no $flavor"
         copies $((length / 1000000)) "$scratch/read" >"$scratch/$flavor"
     done
 }
@@ -135,18 +79,19 @@ run_within() {
     (ulimit -v $(($1 / 1024)) && exec "$program" "$2" "$3") <"$scratch/input" 2>"$scratch/error" |
         cmp -s - "$6"
     statuses=${PIPESTATUS[*]}
-    if [[ $statuses == "$4 0" && $(cat "$scratch/error") == "$5" ]]; then
-        passed=$((passed + 1))
+    if [[ $statuses == "$4 0" && $(<"$scratch/error") == "$5" ]]; then
+        pass
     else
-        failed=$((failed + 1))
-        echo "wrong: $2 $3 of $input within $1 bytes: status and comparison $statuses, and not" \
-            "$4 0; $(cat "$scratch/error")"
+        wrong "$2 $3 of $input within $1 bytes: status and comparison $statuses, and not $4 0;\
+ $(<"$scratch/error")"
     fi
 }
 
-# One field of the table: `expect COMMAND FLAVOR OUTCOME`.
-expect() {
+# One field of the table: `run_field COMMAND FLAVOR OUTCOME`. Where there is no plain codec, no reading
+# of noise is compared.
+run_field() {
     local status=0 line='' answer=/dev/null request=0
+    [[ -z $codec && ($3 == cesu8 || $3 == mutf8) ]] && return
     case $3 in
         not_utf8) status=1 line='cesu8: input is not UTF-8' ;;
         too_long) status=1 line='cesu8: text is too long' ;;
@@ -173,7 +118,7 @@ run_row() {
     fi
     shift 2
     for command in "${commands[@]}"; do
-        [[ $1 == - ]] || expect "$command" "$flavor" "$1"
+        [[ $1 == - ]] || run_field "$command" "$flavor" "$1"
         shift
     done
 }
@@ -187,9 +132,17 @@ run_table() {
     done < <(tail -n +3 <<<"$table")
 }
 
+# The plain codec of bench, which shares no code with the library, or none where no rustc is.
+build_codec() {
+    codec=''
+    can_build_rust 'the readings of noise' || return
+    codec=$scratch/plain
+    quietly rustc --edition 2024 -O -D warnings -o "$codec" "$top/bench/plain.rs" ||
+        wrong 'bench/plain.rs does not build'
+}
+
 build
+build_codec
 write_answers
 run_table
-
-echo "$passed passed, $failed failed"
-((failed == 0))
+finish

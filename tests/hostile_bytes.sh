@@ -1,13 +1,6 @@
-# Bytes that are bad to read, for scripts that pass them to the program. A script sources this file,
-# and sets `scratch` before, a folder for its files.
+# Bytes that are bad to read, for scripts that pass them to the program. A script sources this file
+# after tests/lib.sh.
 # shellcheck shell=bash disable=SC2154
-
-# The first so many bytes of these ones again and again: `repeated LENGTH BYTES`, the bytes as
-# printf takes them.
-repeated() {
-    # shellcheck disable=SC2059
-    yes "$(printf "$2")" | tr -d '\n' | head -c "$1"
-}
 
 # A file's bytes so many times: `copies TIMES FILE`.
 copies() {
@@ -17,15 +10,10 @@ copies() {
     done
 }
 
-# The bytes that a program of awk prints, as \0 and three octal digits each.
-awk_bytes() {
-    printf '%b' "$(awk "$@")"
-}
-
 # A million bytes, the same in each run: any ones at first, and then those of which characters are
 # cut and pairs are made. The last is a letter, so no character goes from one million into the next.
 noise() {
-    awk_bytes 'BEGIN {
+    printf '%b' "$(awk 'BEGIN {
         many = split("0 65 128 150 160 178 189 191 192 194 223 224 237 239 240 244", some)
         random = 1
         for (at = 1; at < 1000000; at++) {
@@ -34,7 +22,7 @@ noise() {
             printf "\\0%03o", at <= 500000 ? byte : some[byte % many + 1]
         }
         printf "\\0%03o", 97
-    }'
+    }')"
 }
 
 # So many bytes of one kind: first halves of pairs, the last character, a lead byte of no character
@@ -42,10 +30,10 @@ noise() {
 # leaves one in $scratch/million: `hostile_bytes KIND LENGTH`.
 hostile_bytes() {
     case $1 in
-        half) repeated "$2" '\xED\xA0\xBD' ;;
-        four) repeated "$2" '\xF4\x8F\xBF\xBF' ;;
-        lead) repeated "$2" '\xC0' ;;
-        cut) repeated "$2" '\xED\xA0' ;;
+        half) filled "$2" '\xED\xA0\xBD' ;;
+        four) filled "$2" '\xF4\x8F\xBF\xBF' ;;
+        lead) filled "$2" '\xC0' ;;
+        cut) filled "$2" '\xED\xA0' ;;
         null) head -c "$2" /dev/zero ;;
         noise)
             noise >"$scratch/million"

@@ -4,7 +4,7 @@
 #
 # The rows below are every public call, on inputs that borrow, build, are refused and are empty, and
 # at the lengths where blocks begin and end. A row has the expected result and the number of requests.
-# Both come from the standards' table of encoded characters, below, and these rules:
+# Both come from the standards' table of encoded characters in crates/test_cases, and these rules:
 # - a result borrows, without a request, exactly where its bytes are the input's;
 # - what is built, copied or refused takes one, and so does what is appended if the buffer is full;
 # - an empty copy, a length, and a Java string that is too long or cut short take none.
@@ -25,15 +25,10 @@
 #
 # It prints what is wrong, and counts the processes at the end. The status is 0 if nothing is wrong.
 # It needs the kit's `rt` (which builds here without proof), bash, sed and the core utilities.
-set -u
-unset CDPATH
-export LC_ALL=C
-
-top=$(cd "$(dirname "${BASH_SOURCE[0]}")/.." && pwd) || exit 2
+# shellcheck source=tests/lib.sh
+source "$(dirname "${BASH_SOURCE[0]}")/lib.sh" || exit 2
 # shellcheck source=tests/kit.sh
 source "$top/tests/kit.sh" || exit 2
-scratch=$(mktemp -d) || exit 2
-trap 'rm -rf "$scratch"' EXIT
 mkdir "$scratch/cases" || exit 2
 
 # The inputs, and of each the calls that make no request, and those that do, in lines.
@@ -48,22 +43,6 @@ declare -A numbers=() printed_by=() made_by=()
 # The bytes of a list of test_cases, as `printf %b` takes them: `pattern NAME`.
 pattern() {
     sed -n "/^const $1:/,/;\$/s/.*b\"\\(.*\\)\".*/\\1/p" "$top/crates/test_cases/src/pattern.rt"
-}
-
-# Keeps in bytes these so many times, where no or fewer times is none: `repeat TIMES BYTES`.
-repeat() {
-    local times=$1 piece=$2
-    bytes=''
-    while ((times > 0)); do
-        ((times % 2 == 1)) && bytes+=$piece
-        piece+=$piece
-        times=$((times / 2))
-    done
-}
-
-# Keeps in length how many bytes `printf %b` makes of these: `measure BYTES`.
-measure() {
-    printf '%b%n' "$1" length >/dev/null
 }
 
 # A row: `row CALL INPUT OUTCOME REQUESTS BYTES`, the call with its encoding.
@@ -86,15 +65,33 @@ row() {
     fi
 }
 
-# The encoded characters that are told apart here, in UTF-8, CESU-8 and MUTF-8: U+0061, U+20AC, U+0000
-# and U+1F496. And the reading of their UTF-8 as each encoding, with damage: U+FFFD for each byte that
-# is in no encoded character.
+# The characters that are told apart here, in UTF-8, CESU-8 and MUTF-8: a letter, and two of the table
+# of test_cases. And the reading of their UTF-8 as each encoding: where it is none, U+FFFD for each byte.
 mark='\xEF\xBF\xBD'
-declare -A in_utf8=([a]=a [euro]='\xE2\x82\xAC' [null]='\x00' [heart]='\xF0\x9F\x92\x96')
-declare -A in_cesu8=([a]=a [euro]='\xE2\x82\xAC' [null]='\x00' [heart]='\xED\xA0\xBD\xED\xB2\x96')
-declare -A in_mutf8=([a]=a [euro]='\xE2\x82\xAC' [null]='\xC0\x80' [heart]='\xED\xA0\xBD\xED\xB2\x96')
-declare -A damaged_cesu8=([a]=a [euro]='\xE2\x82\xAC' [null]='\x00' [heart]="$mark$mark$mark$mark")
-declare -A damaged_mutf8=([a]=a [euro]='\xE2\x82\xAC' [null]="$mark" [heart]="$mark$mark$mark$mark")
+declare -A in_utf8=([a]=a) in_cesu8=([a]=a) in_mutf8=([a]=a) damaged_cesu8=([a]=a) damaged_mutf8=([a]=a)
+
+# Adds a character of that table, whose rows leave out what is as before: `add_character WORD NAME`.
+add_character() {
+    local forms bytes
+    read -r -a forms < <(
+        sed -n "s/.*border!(\"$2\", \(.*\)),\$/\1/p" "$top/crates/test_cases/src/borders.rt" |
+            sed 's/b"\([^"]*\)",*/\1/g'
+    )
+    if ((${#forms[@]} == 0)); then
+        echo "$2 was not read from crates/test_cases/src/borders.rt" >&2
+        exit 2
+    fi
+    in_utf8[$1]=${forms[0]}
+    in_cesu8[$1]=${forms[1]-${forms[0]}}
+    in_mutf8[$1]=${forms[2]-${in_cesu8[$1]}}
+    repeat $((${#forms[0]} / 4)) "$mark"
+    damaged_cesu8[$1]=$bytes damaged_mutf8[$1]=$bytes
+    [[ ${in_cesu8[$1]} == "${forms[0]}" ]] && damaged_cesu8[$1]=${forms[0]}
+    [[ ${in_mutf8[$1]} == "${forms[0]}" ]] && damaged_mutf8[$1]=${forms[0]}
+}
+
+add_character null U+0000
+add_character heart U+1F496
 
 # Keeps the text of these characters in each form, each as many times: `text TIMES CHARACTER..`.
 text() {
@@ -431,5 +428,4 @@ if ((failed > 0)); then
     echo 'wrong:'
     grep -a -v -e 'output=expected' -e '^allocations: ' "$scratch/output" | cut -c 1-400
 fi
-echo "$passed passed, $failed failed"
-((failed == 0))
+finish

@@ -8,23 +8,13 @@
 # The status is 0 if nothing is wrong.
 #
 # It needs the kit's `rt`, bash, awk and the core utilities, and for the JDK version 11 or later.
-set -u
-unset CDPATH
-export LC_ALL=C
-
-top=$(cd "$(dirname "${BASH_SOURCE[0]}")/.." && pwd) || exit 2
-scratch=$(mktemp -d) || exit 2
-trap 'rm -rf "$scratch"' EXIT
-# shellcheck source=tests/program.sh
-source "$top/tests/program.sh" || exit 2
+# shellcheck source=tests/lib.sh
+source "$(dirname "${BASH_SOURCE[0]}")/lib.sh" || exit 2
 mkdir "$scratch"/{texts,ours,java,uconv} || exit 2
 
 # The words that write and read what is compared: the two encodings, and Java strings.
 declare -A writes=([cesu8]='encode cesu8' [mutf8]='encode mutf8' [string]='java-write mutf8')
 declare -A reads=([cesu8]='decode-strict cesu8' [mutf8]='decode-strict mutf8' [string]='java-read mutf8')
-
-passed=0
-failed=0
 
 # The scalar values at the borders of the forms, which crates/test_cases has.
 read_borders() {
@@ -97,18 +87,13 @@ encode_texts() {
 # Compares what a peer wrote and read with what the program does: `compare PEER FORM NAME`.
 # shellcheck disable=SC2086
 compare() {
-    local text=$scratch/texts/$3 ours=$scratch/ours/$3.$2 theirs=$scratch/$1/$3.$2 wrong=''
-    cmp -s "$ours" "$theirs" || wrong+='  what is written differs'$'\n'
-    cmp -s "$text" "$theirs.utf8" || wrong+="  $1 reads another text, or none"$'\n'
+    local text=$scratch/texts/$3 ours=$scratch/ours/$3.$2 theirs=$scratch/$1/$3.$2 differs=''
+    cmp -s "$ours" "$theirs" || differs+=$'\n''  what is written differs'
+    cmp -s "$text" "$theirs.utf8" || differs+=$'\n'"  $1 reads another text, or none"
     rm -f "$scratch/read"
     [[ -e $theirs ]] && convert "$theirs" "$scratch/read" "$program" ${reads[$2]}
-    cmp -s "$text" "$scratch/read" || wrong+='  the program reads another text, or none'$'\n'
-    if [[ -z $wrong ]]; then
-        passed=$((passed + 1))
-    else
-        failed=$((failed + 1))
-        printf 'wrong: %s and %s of %s\n%s' "$1" "$2" "$3" "$wrong"
-    fi
+    cmp -s "$text" "$scratch/read" || differs+=$'\n''  the program reads another text, or none'
+    if [[ -z $differs ]]; then pass; else wrong "$1 and $2 of $3$differs"; fi
 }
 
 # Compares all texts: `compare_all PEER FORM`.
@@ -126,11 +111,10 @@ compare_constant() {
     rm -f "$scratch/read"
     convert "$scratch/java/constant" "$scratch/read" "$program" java-read mutf8
     if cmp -s "$scratch/constant" "$scratch/read"; then
-        passed=$((passed + 1))
+        pass
         summary+="javac: the program reads the constant of a class file"$'\n'
     else
-        failed=$((failed + 1))
-        echo 'wrong: the program reads another constant of a class file, or none'
+        wrong 'the program reads another constant of a class file, or none'
     fi
 }
 
@@ -172,8 +156,7 @@ JAVA
     summary+="java is version $version"$'\n'
     head -n 20 "$scratch/java.error" >&2
     if ((status != 0)); then
-        failed=$((failed + 1))
-        echo "wrong: tests/peers/Peer.java ended with status $status"
+        wrong "tests/peers/Peer.java ended with status $status"
         return
     fi
     compare_all java string
@@ -212,5 +195,4 @@ run_java
 run_uconv
 
 printf '%s' "$summary"
-echo "$passed passed, $failed failed"
-((failed == 0))
+finish

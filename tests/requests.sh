@@ -16,42 +16,12 @@
 #
 # It needs the kit's `rt`, bash and the core utilities, and `cc` for tests/requests.c, which stands
 # between the program and the C library. If there is none, it skips the refusal of single requests.
-set -u
-unset CDPATH
-export LC_ALL=C
+# shellcheck source=tests/lib.sh
+source "$(dirname "${BASH_SOURCE[0]}")/lib.sh" || exit 2
 
-top=$(cd "$(dirname "${BASH_SOURCE[0]}")/.." && pwd) || exit 2
-scratch=$(mktemp -d) || exit 2
-trap 'rm -rf "$scratch"' EXIT
-# shellcheck source=tests/program.sh
-source "$top/tests/program.sh" || exit 2
-
-passed=0
-failed=0
 io='cesu8: input or output failed'
 memory='cesu8: out of memory'
 : >"$scratch/nothing"
-
-# Counts what has to hold: `hold NAME TEST..`.
-hold() {
-    local name=$1
-    shift
-    if "$@"; then
-        passed=$((passed + 1))
-    else
-        failed=$((failed + 1))
-        echo "wrong: $name: status $status, $requests requests," \
-            "$(stat -c %s "$scratch/output") bytes written, $(cat "$scratch/error")"
-    fi
-}
-
-# Whether the last run ended with this status and line, and wrote what stands in this file, and no
-# more: `ended STATUS LINE FILE`.
-ended() {
-    printf '%s' "${2:+$2$'\n'}" >"$scratch/line"
-    [[ $status == "$1" ]] && cmp -s "$scratch/line" "$scratch/error" &&
-        cmp -s "$3" "$scratch/output"
-}
 
 # Writes the input, and what has to be written of it; a line stands for the answer where there is
 # none. Both are as `printf %b` takes them: `keep INPUT ANSWER`.
@@ -61,14 +31,15 @@ keep() {
 }
 
 # Runs the program on $scratch/input with the request of this number refused, or none at 0. The count
-# of the requests is kept in requests: `run REFUSED WORD..`.
-run() {
-    local refused=$1
+# of the requests is kept in requests: `run_refusing REFUSED WORD..`.
+run_refusing() {
+    local refused=$1 made
     shift
     REFUSED=$refused LD_PRELOAD=$scratch/requests.so "$program" "$@" \
         <"$scratch/input" >"$scratch/output" 2>"$scratch/error" 9>"$scratch/requests"
     status=$?
-    requests=$(stat -c %s "$scratch/requests")
+    IFS= read -r -d '' made <"$scratch/requests"
+    requests=${#made}
 }
 
 # Refuses each request in turn, until a run meets none, which has to end with this status and line:
@@ -76,17 +47,24 @@ run() {
 refuse_in_turn() {
     local refused
     for ((refused = 1; refused <= 1000; refused++)); do
-        run "$refused" "$2" "$3"
+        run_refusing "$refused" "$2" "$3"
         if ((requests < refused)); then
-            hold "$1" ended "$4" "$5" "$scratch/wanted"
+            expect_run "$1" "$4" "$5" "$scratch/wanted"
             return
         elif ((refused <= arguments)); then
-            hold "$1, request $refused refused" ended 4 "$io" "$scratch/nothing"
+            expect_run "$1, request $refused refused" 4 "$io" "$scratch/nothing"
         else
-            hold "$1, request $refused refused" ended 3 "$memory" "$scratch/nothing"
+            expect_run "$1, request $refused refused" 3 "$memory" "$scratch/nothing"
         fi
     done
-    hold "$1, its requests, which do not end" false
+    wrong "$1, its requests, which do not end"
+}
+
+# Counts whether the last run made so many requests after those for the arguments: `expect_requests WHAT
+# COUNT`.
+expect_requests() {
+    expect "$1, its requests: $requests, and $arguments for the arguments" \
+        [ "$requests" -eq $((arguments + $2)) ]
 }
 
 # A short input and its answer: `row COMMAND FLAVOR REQUESTS INPUT ANSWER`, with the requests after
@@ -94,7 +72,7 @@ refuse_in_turn() {
 row() {
     keep "$4" "$5"
     refuse_in_turn "$1 $2 on $4" "$1" "$2" 0 ''
-    hold "$1 $2 on $4, its requests" [ "$requests" -eq $((arguments + $3)) ]
+    expect_requests "$1 $2 on $4" "$3"
 }
 
 # A short input that is refused, and the line that says so: `refused_row COMMAND FLAVOR REQUESTS INPUT
@@ -102,7 +80,7 @@ row() {
 refused_row() {
     keep "$4" ''
     refuse_in_turn "$1 $2 on $4" "$1" "$2" 1 "$5"
-    hold "$1 $2 on $4, its requests" [ "$requests" -eq $((arguments + $3)) ]
+    expect_requests "$1 $2 on $4" "$3"
 }
 
 rows() {
@@ -170,57 +148,49 @@ rows() {
     refused_row java-read mutf8 2 '\x00\x03a\xC0\x80b' 'cesu8: bytes after the string'
 }
 
-# So many bytes of these again and again, or of 00 where they are none: `filled COUNT BYTES`.
-filled() {
-    if [[ -z $2 ]]; then
-        head -c "$1" /dev/zero
-    else
-        yes "$2" | tr -d '\n' | head -c "$1"
-    fi
-}
-
 # Writes an input of so many bytes, of one part again and again and then of letters, and the answer to
-# it, which has another part for each: `keep_long COUNT PART PART-LENGTH ANSWER ANSWER-LENGTH`.
+# it, which has another part for each: `keep_long COUNT PART ANSWER`.
 keep_long() {
-    local times=$(($1 / $3)) letters=$(($1 % $3))
-    { filled $((times * $3)) "$2" && filled "$letters" a; } >"$scratch/input"
-    { filled $((times * $5)) "$4" && filled "$letters" a; } >"$scratch/wanted"
+    local length
+    measure "$2"
+    { repeated $(($1 / length)) "$2" && repeated $(($1 % length)) a; } >"$scratch/input"
+    { repeated $(($1 / length)) "$3" && repeated $(($1 % length)) a; } >"$scratch/wanted"
 }
 
 # Writes an input of so many bytes for each pair of words but those of Java strings, with an answer
 # that is built where one can be, and hands it on: `on_each COUNT WHAT`, as `WHAT COMMAND FLAVOR`.
 on_each() {
-    local heart=$'\xF0\x9F\x92\x96' pair=$'\xED\xA0\xBD\xED\xB2\x96' mark=$'\xEF\xBF\xBD' command
-    keep_long "$1" "$heart" 4 "$pair" 6
+    local heart='\xF0\x9F\x92\x96' pair='\xED\xA0\xBD\xED\xB2\x96' mark='\xEF\xBF\xBD' command
+    keep_long "$1" "$heart" "$pair"
     "$2" encode cesu8
-    keep_long "$1" '' 1 $'\xC0\x80' 2
+    keep_long "$1" '\x00' '\xC0\x80'
     "$2" encode mutf8
     printf 'yes\n' >"$scratch/wanted"
     "$2" needs mutf8
     printf 'no\n' >"$scratch/wanted"
     "$2" needs cesu8
-    keep_long "$1" "$pair" 6 "$heart" 4
+    keep_long "$1" "$pair" "$heart"
     for command in decode decode-strict; do
         "$2" "$command" cesu8
     done
-    keep_long "$1" $'\xC0\x80' 2 '' 1
+    keep_long "$1" '\xC0\x80' '\x00'
     for command in decode decode-strict; do
         "$2" "$command" mutf8
     done
-    keep_long "$1" $'\xFF' 1 "$mark" 3
+    keep_long "$1" '\xFF' "$mark"
     "$2" lossy cesu8
     "$2" lossy mutf8
-    keep_long "$1" "$heart" 4 "$mark" 12
+    keep_long "$1" "$heart" "$mark$mark$mark$mark"
     "$2" lossy-strict cesu8
-    keep_long "$1" '' 1 "$mark" 3
+    keep_long "$1" '\x00' "$mark"
     "$2" lossy-strict mutf8
 }
 
 # Writes a Java string of so many bytes of MUTF-8, an even number below 65,536, and its text.
 keep_java_string() {
     printf '%b' "$(printf '\\x%02X\\x%02X' $(($1 / 256)) $(($1 % 256)))" >"$scratch/form"
-    filled "$1" $'\xC0\x80' >>"$scratch/form"
-    filled $(($1 / 2)) '' >"$scratch/text"
+    repeated $(($1 / 2)) '\xC0\x80' >>"$scratch/form"
+    repeated $(($1 / 2)) '\x00' >"$scratch/text"
 }
 
 # The two commands of Java strings, on the longest string and its text: `on_java_strings WHAT`.
@@ -245,14 +215,14 @@ refuse_requests() {
     fi
     if ! cc -Wall -Wextra -Werror -shared -fPIC -o "$scratch/requests.so" \
         "$top/tests/requests.c" -ldl; then
-        failed=$((failed + 1))
+        wrong 'tests/requests.c does not build'
         return
     fi
     # Words that ask for nothing are told after the requests for the arguments, and before any other.
     : >"$scratch/input"
-    run 0 encode utf9
+    run_refusing 0 encode utf9
     arguments=$requests
-    hold 'the arguments' [ "$arguments" -gt 0 ]
+    expect 'the arguments take no request' [ "$arguments" -gt 0 ]
     keep '' ''
     refuse_in_turn 'words that ask for nothing' encode utf9 2 'usage: cesu8_cli COMMAND FLAVOR'
     rows
@@ -279,7 +249,7 @@ find_least() {
         run_within "$least" decode-strict utf-16
         ((status == 2)) && return
     done
-    hold 'the words, in 64 MiB of memory' false
+    wrong 'the words are not seen in 64 MiB of memory'
 }
 
 # Runs with more and more memory, until it was enough twice: `grow STEP COMMAND FLAVOR STATUS LINE`,
@@ -290,14 +260,14 @@ grow() {
         run_within "$kib" "$2" "$3"
         if ((status == 3)); then
             refused=$((refused + 1))
-            hold "$2 $3 within $kib KiB" ended 3 "$memory" "$scratch/nothing"
+            expect_run "$2 $3 within $kib KiB" 3 "$memory" "$scratch/nothing"
         else
             answered=$((answered + 1))
-            hold "$2 $3 within $kib KiB" ended "$4" "$5" "$scratch/wanted"
+            expect_run "$2 $3 within $kib KiB" "$4" "$5" "$scratch/wanted"
         fi
     done
-    hold "$2 $3, too little memory" [ "$refused" -gt 0 ]
-    hold "$2 $3, enough memory" [ "$answered" -eq 2 ]
+    expect "$2 $3 never has too little memory" [ "$refused" -gt 0 ]
+    expect "$2 $3 never has enough memory" [ "$answered" -eq 2 ]
 }
 
 grow_by_mebibytes() {
@@ -313,14 +283,13 @@ grow_by_pages() {
 limit_java_strings() {
     on_java_strings grow_by_pages
     cp "$scratch/nothing" "$scratch/wanted"
-    filled 10000000 a >"$scratch/input"
+    repeated 10000000 a >"$scratch/input"
     grow 1024 java-write mutf8 1 'cesu8: text is too long'
-    { cat "$scratch/form" && filled 10000000 a; } >"$scratch/input"
+    { cat "$scratch/form" && repeated 10000000 a; } >"$scratch/input"
     grow 1024 java-read mutf8 1 'cesu8: bytes after the string'
 }
 
 limit_memory() {
-    requests=uncounted
     find_least
     on_each 10000000 grow_by_mebibytes
     limit_java_strings
@@ -330,5 +299,4 @@ build
 refuse_requests
 limit_memory
 
-echo "$passed passed, $failed failed"
-((failed == 0))
+finish

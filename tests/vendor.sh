@@ -8,18 +8,10 @@
 # takes minutes.
 #
 # It needs the kit's `rt`, bash, grep, sed and the core utilities, and for the check of git, git.
-set -u
-unset CDPATH
-export LC_ALL=C
-
-top=$(cd "$(dirname "${BASH_SOURCE[0]}")/.." && pwd) || exit 2
+# shellcheck source=tests/lib.sh
+source "$(dirname "${BASH_SOURCE[0]}")/lib.sh" || exit 2
 # shellcheck source=tests/kit.sh
 source "$top/tests/kit.sh" || exit 2
-scratch=$(mktemp -d) || exit 2
-trap 'rm -rf "$scratch"' EXIT
-
-# shellcheck source=tests/compilers.sh
-source "$top/tests/compilers.sh" || exit 2
 
 # The crate of the new repository: the program that docs/CALLING.md shows, and a module whose proof
 # cites a clause and a law.
@@ -147,7 +139,5 @@ echo 'keys: simd_cesu8' >"$scratch/flat/crates.txt"
 [[ -f $scratch/flat/java_text/src/lib.rt ]] || wrong 'the copy does not stand beside crates.txt'
 "$top/vendor.sh" "$scratch/other" >/dev/null 2>&1 && wrong 'vendor.sh replaces what it did not copy'
 
-if ((wrong == 0)); then
-    echo 'a new repository with a copy of the libraries is proved'
-fi
-((wrong == 0))
+((failed == 0)) || exit 1
+echo 'a new repository with a copy of the libraries is proved'
