@@ -157,6 +157,31 @@ look_at_shared() {
     done
 }
 
+# That the loader reads the mark: a copy that is marked as code for what no processor has is refused
+# with a sentence, and with no signal.
+look_at_mark() {
+    local copy=$scratch/marked/libcesu8.so.$major place status=0
+    if [[ $(printf 'glibc 2.33\n%s\n' "$(getconf GNU_LIBC_VERSION)" | sort -V | head -n 1) != 'glibc 2.33' ]]; then
+        echo 'the C library is older than 2.33: the refusal of the shared object skipped'
+        return
+    fi
+    place=$(readelf -SW "$unpacked/$shared" |
+        sed -n 's/.* \.note\.gnu\.property *NOTE *[0-9a-f]* *\([0-9a-f]*\) .*/\1/p')
+    mkdir "$scratch/marked" && cp "$unpacked/$shared" "$copy" || exit 2
+    # In the section are the head of a note, of 16 bytes, the type and length of what is needed, of 8, and
+    # its 32 bits, of which this sets the highest.
+    printf '\200' | dd of="$copy" bs=1 seek=$((0x$place + 27)) conv=notrunc 2>"$scratch/said"
+    quietly cc -o "$scratch/example" -I "$unpacked/include" "$unpacked/examples/keys.c" "$unpacked/$shared" ||
+        wrong 'keys.c does not build'
+    LD_LIBRARY_PATH=$scratch/marked "$scratch/example" >"$scratch/said" 2>&1 || status=$?
+    if ((status < 128)) && grep -q 'CPU ISA level is lower than required' "$scratch/said"; then
+        echo 'the loader refused what is marked for another processor'
+    else
+        cat "$scratch/said"
+        wrong "the loader does not refuse what is marked for another processor: status $status"
+    fi
+}
+
 # Runs a built example, and compares what it prints: `example FILE WHAT`.
 example() {
     if "$1" 2>&1 | diff - "$crate/examples/keys.stdout"; then
@@ -256,6 +281,7 @@ look_at_files
 look_at_pages
 look_at_archive
 look_at_shared
+look_at_mark
 call_exports -DARCHIVE "$unpacked/lib/libcesu8.a"
 call_exports -DARCHIVE "$unpacked/$shared" -Wl,-rpath,"$unpacked/lib"
 has_pkg_config='' has_cmake=''

@@ -90,7 +90,7 @@ look_at_words() {
     diff "$scratch/commands" <(complete_words 1 cesu8_cli '' | sort) || wrong 'the completion has other commands'
     [[ $(complete_words 1 cesu8_cli dec | xargs) == 'decode decode-strict' ]] || wrong 'the completion of dec is another'
     while read -r words; do
-        [[ $(complete_words 2 cesu8_cli "$words" '' | xargs) == $(flavors_of "$words") ]] ||
+        [[ $(complete_words 2 cesu8_cli "$words" '' | xargs) == "$(flavors_of "$words")" ]] ||
             wrong "the completion has other flavors for $words"
     done <"$scratch/commands"
     [[ -z $(complete_words 3 cesu8_cli encode cesu8 '') ]] || wrong 'the completion has a third word'
