@@ -2,12 +2,12 @@
 # Builds the release, for users without the kit:
 #   dist.sh FOLDER
 # FOLDER gets cesu8-VERSION-x86_64-linux.tar.gz, with the library for C and the program, and
-# SHA256SUMS. It first proves what is not yet proved. Two runs on one commit give the same bytes,
-# with the same kit and C compiler: names are sorted, times are the commit's, and owners are 0.
-# BUILT-FROM in the archive says what it was built from and what it needs.
+# SHA256SUMS, with the sum of each file that is made. It first proves what is not yet proved. Two runs
+# on one commit give the same bytes, with the same kit and C compiler: names are sorted, times are the
+# commit's, and owners are 0. BUILT-FROM in the archive says what it was built from and what it needs.
 #
-# It needs the kit's `rt`, git, a C compiler `cc`, ar, nm, objcopy, objdump, GNU tar, gzip, bash,
-# awk, grep, sed and the core utilities.
+# It needs the kit's `rt`, git, a C compiler `cc` with GNU ld 2.36 or later, ar, nm, objcopy, objdump,
+# strip, GNU tar, gzip, bash, awk, grep, sed and the core utilities.
 set -euo pipefail
 unset CDPATH
 export LC_ALL=C
@@ -17,7 +17,7 @@ if (($# != 1)); then
     echo 'usage: dist.sh FOLDER' >&2
     exit 2
 fi
-for tool in rt git cc ar nm objcopy objdump tar gzip; do
+for tool in rt git cc ar nm objcopy objdump strip tar gzip; do
     if ! command -v "$tool" >/dev/null; then
         echo "dist.sh needs $tool on the PATH" >&2
         exit 2
@@ -34,40 +34,81 @@ major=${version%%.*}
 name=cesu8-$version-x86_64-linux
 commit=$(git -C "$top" rev-parse HEAD)
 seconds=$(git -C "$top" log -1 --format=%ct)
-changed=$(git --no-optional-locks -C "$top" status --porcelain --untracked-files=no)
+day=$(date -u -d "@$seconds" +%F)
+# A source that git does not know is built in too.
+changed=$(git --no-optional-locks -C "$top" status --porcelain --untracked-files=no
+    git --no-optional-locks -C "$top" status --porcelain --untracked-files=normal -- crates)
 changes=${changed:+, with changes that are not committed}
 identity=$(rt version)
 compiler=$(cc --version | sed -n 1p)
 scratch=$(mktemp -d)
 trap 'rm -rf "$scratch"' EXIT
 release=$scratch/$name
+# The files that FOLDER gets, by name.
+made=("$name.tar.gz")
 
 # shellcheck source=tests/program.sh
 source "$top/tests/program.sh"
 
-# Puts a file into the release, with the version in place of its name: `fill FILE TO`.
+# Puts a file into the release, with the version and the commit's day in place of their names:
+# `fill FILE TO`.
 fill() {
     mkdir -p "$(dirname "$release/$2")"
-    sed "s/@VERSION@/$version/g; s/@MAJOR@/$major/g" "$crate/package/$1" >"$release/$2"
+    sed "s/@VERSION@/$version/g; s/@MAJOR@/$major/g; s/@DATE@/$day/g" "$crate/package/$1" >"$release/$2"
 }
 
 # The shared object shows the calls of the header alone: not the code for each level, which the
-# calls choose from, nor what the code calls.
+# calls choose from, nor what the code calls. The loader refuses it on a processor before x86-64-v2.
 link_shared() {
-    {
-        echo '{ global:'
-        nm -g --defined-only "$release/lib/libcesu8.a" |
-            awk '$2 == "T" && $3 ~ /^cesu8_/ && $3 !~ /_v[0-9]$/ { print $3 ";" }'
-        echo 'local: *; };'
-    } >"$scratch/exports"
     cc -shared -o "$release/lib/libcesu8.so.$major" -Wl,-soname,"libcesu8.so.$major" \
-        -Wl,--version-script="$scratch/exports" -Wl,-z,defs,-z,relro,-z,now \
+        -Xlinker --version-script="$crate/package/cesu8.map" -Wl,--no-undefined-version,--fatal-warnings \
+        -Wl,-z,defs,-z,relro,-z,now,-z,noexecstack,-z,x86-64-v2 \
         -Wl,--whole-archive "$release/lib/libcesu8.a" -Wl,--no-whole-archive
+    ln -s "libcesu8.so.$major" "$release/lib/libcesu8.so"
 }
 
-# A page. Most of what it links to is not in the release, so a link becomes its text: `page FILE`.
+# The pages of the repository that the release has, and what is in it of the names that they link to.
+pages=(docs/C.md docs/PROGRAM.md CHANGELOG.md SECURITY.md)
+there=" README.md cesu8.h ${pages[*]##*/} "
+
+# A page, without what is for the repository alone: the section `From the repository`, and each sentence
+# with a link to what is not in the release. Another link becomes its text: `page FILE`.
 page() {
-    sed 's/\[\([^]]*\)\]([^)]*)/\1/g' "$top/$1" >"$release/${1##*/}"
+    awk -v there="$there" '
+        # A sentence with the text of its links, or nothing.
+        function without_links(sentence,    link, target, text) {
+            while (match(sentence, /\[[^]]*\]\([^)]*\)/)) {
+                link = substr(sentence, RSTART + 1, RLENGTH - 2)
+                text = target = link
+                sub(/\]\(.*/, "", text)
+                sub(/.*\]\(/, "", target)
+                sub(/#.*/, "", target)
+                sub(/.*\//, "", target)
+                if (target != "" && !index(there, " " target " ")) return ""
+                sentence = substr(sentence, 1, RSTART - 1) text substr(sentence, RSTART + RLENGTH)
+            }
+            return sentence
+        }
+        /^## / { is_left_out = $0 == "## From the repository" }
+        is_left_out { next }
+        /^```/ { is_code = !is_code }
+        is_code || /^(    .*)?$/ { print; next }
+        {
+            rest = $0
+            line = mark = ""
+            if (match(rest, /^ *- /)) {
+                mark = substr(rest, 1, RLENGTH)
+                rest = substr(rest, RLENGTH + 1)
+            }
+            while (end = index(rest, ". ")) {
+                line = line without_links(substr(rest, 1, end + 1))
+                rest = substr(rest, end + 2)
+            }
+            line = line without_links(rest)
+            sub(/ $/, "", line)
+            if (line != "") print mark line
+        }
+    ' "$top/$1" | cat -s >"$release/${1##*/}"
 }
 
 # The newest version of the C library whose symbols these files name: `c_library FILE..`.
@@ -79,14 +120,19 @@ mkdir -p "$release/bin" "$release/include" "$release/lib" "$release/examples"
 build
 cp "$program" "$release/bin/cesu8_cli"
 sh "$crate/archive.sh" "$release/lib/libcesu8.a"
+strip -D --strip-debug "$release/lib/libcesu8.a"
 link_shared
+strip -D --strip-unneeded "$release/bin/cesu8_cli" "$release/lib/libcesu8.so.$major"
 cp "$crate/include/cesu8.h" "$release/include"
-cp "$crate/examples/keys.c" "$crate/examples/keys.rs" "$release/examples"
+cp "$crate/examples/"*.c "$crate/examples/"*.rs "$crate/examples/"*.sh "$release/examples"
 fill cesu8.pc lib/pkgconfig/cesu8.pc
 fill cesu8-config.cmake lib/cmake/cesu8/cesu8-config.cmake
 fill cesu8-config-version.cmake lib/cmake/cesu8/cesu8-config-version.cmake
+fill cesu8_cli.1 share/man/man1/cesu8_cli.1
+fill cesu8_cli.bash share/bash-completion/completions/cesu8_cli
 fill install.sh install.sh
-for file in docs/C.md docs/PROGRAM.md CHANGELOG.md SECURITY.md; do
+fill README.md README.md
+for file in "${pages[@]}"; do
     page "$file"
 done
 cp "$top/LICENSE-APACHE" "$top/LICENSE-MIT" "$release"
@@ -100,13 +146,13 @@ commit $commit$changes
 kit $identity
 compiler $compiler
 needs Linux on x86-64-v2, and the GNU C library $needed
-Other pages that these name are in the repository, at this commit.
 BUILT
 
 find "$release" -type f -exec chmod 644 {} +
-chmod 755 "$release/bin/cesu8_cli" "$release/install.sh"
+chmod 755 "$release/bin/cesu8_cli" "$release/install.sh" "$release/examples/"*.sh
 tar --create --format=ustar --sort=name --owner=0 --group=0 --numeric-owner \
     --mtime="@$seconds" -C "$scratch" "$name" |
     gzip -n -9 >"$folder/$name.tar.gz"
-(cd "$folder" && sha256sum "$name.tar.gz" >SHA256SUMS)
-echo "$folder/$name.tar.gz"
+
+(cd "$folder" && sha256sum "${made[@]}" >SHA256SUMS)
+printf "$folder/%s\n" "${made[@]}"

@@ -1,5 +1,5 @@
 # What the scripts that build share. A script sources this file, and sets `scratch` before, a folder
-# for what a build prints and makes, and for `exports` also `crate`, the folder of the exports.
+# for what a build prints and makes, and for the library for C also `crate`, its folder.
 # shellcheck shell=bash disable=SC2034,SC2154
 
 wrong=0
@@ -50,4 +50,25 @@ can_build_rust() {
 # The functions that the crate exports.
 exports() {
     sed -n 's/^pub extern "C" fn cesu8_\([a-z0-9_]*\).*/\1/p' "$crate"/src/*.rt
+}
+
+# The calls of the archive that are plain C.
+plain_calls() {
+    sed -n 's/^[a-z].*cesu8_\([a-z0-9_]*\)(.*)$/\1/p' "$crate/plain.c"
+}
+
+# The names of the version map, each with its node: NAME@@NODE.
+mapped() {
+    awk '/^CESU8_[0-9.]+ \{$/ { node = $1 } /^    cesu8_[a-z0-9_]+;$/ { print substr($1, 1, length($1) - 1) "@@" node }' \
+        "$crate/package/cesu8.map"
+}
+
+# Builds tests/exports.c with a library, and runs it: `call_exports FLAG..`, the library among them.
+call_exports() {
+    if ! quietly cc -std=c11 -O1 -Wall -Wextra -Werror -I "$crate/include" \
+        -o "$scratch/exports" "$top/tests/exports.c" "$@"; then
+        wrong 'tests/exports.c does not build'
+        return
+    fi
+    "$scratch/exports" || wrong=1
 }

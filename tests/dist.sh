@@ -1,17 +1,21 @@
 #!/usr/bin/env bash
 # Builds the release by dist.sh, unpacks it in an empty folder, and uses it there without the kit on
-# the PATH. It compiles the example in C by pkg-config and by CMake, a file of C++, and the example
-# in Rust. It calls the shared object from Python, runs the program, installs by install.sh, and
-# compiles the example again from there.
+# the PATH:
+# - tests/exports.c calls each export of the archive and of the shared object;
+# - keys.c is built by pkg-config and by CMake, with the archive and with the shared object, where the
+#   release is unpacked, and where install.sh put it in lib, lib64 and lib/x86_64-linux-gnu and below
+#   DESTDIR;
+# - the other examples, what the README shows, a file of C++ and a call from Python are run.
 #
-# It also checks that two builds, in folders of different names, give the same bytes; that the sums
-# are right; which files there are; that the shared object exports only the calls of the header; and
-# that no file names a folder of this machine. It builds from a commit of a copy of the tree, over
-# what is proved here. In a clean clone that takes minutes.
+# It also checks that two builds, in folders of different names, give the same bytes of every file;
+# that the sums are right; which files there are, and that the pages name no other; what the archive
+# and the shared object show and how this is marked; what install.sh refuses; that the man page and the
+# completion know the commands; and that no file names a folder of this machine. It builds from a
+# commit of a copy of the tree, over what is proved here. In a clean clone that takes minutes.
 #
-# If pkg-config, CMake, c++, rustc or python3 is missing, it says what it skipped. If a tool that
+# If pkg-config, CMake, c++, rustc, python3 or man is missing, it says what it skipped. If a tool that
 # dist.sh needs is missing, it skips everything. The status is 0 if nothing is wrong. It needs the
-# kit's `rt`, bash, awk, grep, sed and the core utilities.
+# kit's `rt`, bash, awk, grep, sed, readelf and the core utilities.
 set -u
 unset CDPATH "${!GIT_@}"
 export LC_ALL=C
@@ -29,11 +33,16 @@ version=$(<"$top/VERSION")
 major=${version%%.*}
 name=cesu8-$version-x86_64-linux
 unpacked=$scratch/empty/$name
+shared=lib/libcesu8.so.$major
 
 # shellcheck source=tests/compilers.sh
 source "$top/tests/compilers.sh" || exit 2
 # shellcheck source=tests/program.sh
 source "$top/tests/program.sh" || exit 2
+# shellcheck source=tests/installed.sh
+source "$top/tests/installed.sh" || exit 2
+# shellcheck source=tests/shown.sh
+source "$top/tests/shown.sh" || exit 2
 
 # The tree with what is proved here, as a repository with one commit: `copy_tree FOLDER`.
 copy_tree() {
@@ -61,10 +70,11 @@ build_twice() {
     quietly bash "$scratch/tree/dist.sh" "$scratch/first" || exit 1
     mv "$scratch/tree" "$scratch/a_tree_of_another_name" || exit 2
     quietly bash "$scratch/a_tree_of_another_name/dist.sh" "$scratch/second" || exit 1
-    for file in "$name.tar.gz" SHA256SUMS; do
-        cmp "$scratch/first/$file" "$scratch/second/$file" || wrong "two builds of $file differ"
-    done
+    diff -r "$scratch/first" "$scratch/second" || wrong 'two builds differ'
     (cd "$scratch/first" && quietly sha256sum -c SHA256SUMS) || wrong 'the sums do not fit'
+    diff <(cd "$scratch/first" && find . -type f ! -name SHA256SUMS -printf '%P\n' | sort) \
+        <(sed 's/^[0-9a-f]*  //' "$scratch/first/SHA256SUMS" | sort) ||
+        wrong 'SHA256SUMS has other files than there are'
 }
 
 # The path without the folders in which the kit is.
@@ -78,26 +88,98 @@ path_without_kit() {
 
 look_at_files() {
     local wanted=(BUILT-FROM C.md CHANGELOG.md LICENSE-APACHE LICENSE-MIT
-        LICENSE-percent_encoding LICENSE-simdutf8 PROGRAM.md SECURITY.md bin/cesu8_cli
-        examples/keys.c examples/keys.rs include/cesu8.h install.sh
+        LICENSE-percent_encoding LICENSE-simdutf8 PROGRAM.md README.md SECURITY.md bin/cesu8_cli
+        examples/class_constants.c examples/java_strings.sh examples/keys.c examples/keys.rs
+        include/cesu8.h install.sh
         lib/cmake/cesu8/cesu8-config-version.cmake lib/cmake/cesu8/cesu8-config.cmake
-        lib/libcesu8.a "lib/libcesu8.so.$major" lib/pkgconfig/cesu8.pc)
-    diff <(printf '%s\n' "${wanted[@]}") <(cd "$unpacked" && find . -type f -printf '%P\n' | sort) ||
-        wrong 'the release has other files'
+        lib/libcesu8.a lib/libcesu8.so "$shared" lib/pkgconfig/cesu8.pc
+        share/bash-completion/completions/cesu8_cli share/man/man1/cesu8_cli.1)
+    (cd "$unpacked" && find . ! -type d -printf '%P\n' | sort) >"$scratch/files"
+    diff <(printf '%s\n' "${wanted[@]}") "$scratch/files" || wrong 'the release has other files'
+    [[ $(readlink "$unpacked/lib/libcesu8.so") == "libcesu8.so.$major" ]] || wrong 'the link has another aim'
     grep -qx "commit $commit" "$unpacked/BUILT-FROM" || wrong 'BUILT-FROM has another commit'
     grep -qx "kit $identity" "$unpacked/BUILT-FROM" || wrong 'BUILT-FROM has another kit'
     grep -rlF -e "$scratch/" -e "$top/" -e "${program%/*}/" -e "$kit/" "$unpacked" &&
         wrong 'these name a folder of this machine'
-    grep -rl '@[A-Z]*@' "$unpacked/lib/pkgconfig" "$unpacked/lib/cmake" && wrong 'these are not filled in'
+    grep -rlI '@[A-Z][A-Z]*@' "$unpacked" && wrong 'these are not filled in'
+}
+
+# The README names each file, and no page names a file or a page that is not there.
+look_at_pages() {
+    local file page
+    while read -r file; do
+        grep -qF "\`$file\`" "$unpacked/README.md" || wrong "the README does not name $file"
+    done < <(grep -v '^README.md$' "$scratch/files")
+    # The last is an example of a folder, and the others are of the repository, as the change log says.
+    # shellcheck disable=SC2016
+    while read -r file; do
+        grep -qx "$file" "$scratch/files" || wrong "a page names $file, which is not there"
+    done < <(cd "$unpacked" && grep -ohE '`[^` ]*`' ./*.md | tr -d '`' |
+        grep -E '^(bin|examples|include|lib|share)/|\.(md|sh)$' |
+        grep -vxE 'dist.sh|vendor.sh|lib/x86_64-linux-gnu' | sort -u)
+    for page in "$top"/*.md "$top"/docs/*.md; do
+        page=${page##*/}
+        [[ -f $unpacked/$page ]] || ! grep -rnIw "${page%.md}" "$unpacked" ||
+            wrong "these name the page $page, which is not there"
+    done
+    grep -n ']([^)]*)' "$unpacked"/*.md && wrong 'these are links'
+    awk '/^#/ && after { print FILENAME ": " $0; found = 1 } NF { after = /^## / } END { exit !found }' \
+        "$unpacked"/*.md && wrong 'nothing stands before these headings'
+}
+
+# What the archive shows and what it asks for: the names of its calls, and functions that copy and
+# compare bytes. The chooser asks the compiler's runtime what the processor has. That the code for each
+# level is there is seen in the names, since this processor runs one of them.
+look_at_archive() {
+    local archive=$unpacked/lib/libcesu8.a asked
+    diff <({ exports | sed 's/.*/&\n&_v2\n&_v3/'; plain_calls; } | sed 's/^/T cesu8_/' | sort) \
+        <(nm -g --defined-only "$archive" 2>/dev/null | awk 'NF == 3 { print $2, $3 }' | sort) ||
+        wrong 'the archive shows other names'
+    asked=$(nm -u "$archive" 2>/dev/null | awk 'NF == 2 { print $2 }' | sort -u |
+        grep -vxE 'mem(cpy|move|set|cmp)|__cpu_(model|features2)|_GLOBAL_OFFSET_TABLE_|cesu8_.*_v[23]')
+    [[ -z $asked ]] || wrong "the archive asks for other names: $asked"
+    readelf -SW "$archive" 2>/dev/null | grep -F ' .debug' && wrong 'the archive is not stripped'
 }
 
 look_at_shared() {
-    local shared=$unpacked/lib/libcesu8.so.$major
-    diff <(exports | sed 's/^/cesu8_/' | sort) \
-        <(nm -D --defined-only "$shared" | awk '{ print $3 }' | sort) ||
-        wrong 'the shared object shows other names'
-    objdump -p "$shared" | grep -q "SONAME *libcesu8.so.$major\$" ||
+    local file=$unpacked/$shared
+    diff <(mapped | sed 's/^/T /' | sort) \
+        <(nm -D --defined-only "$file" | awk '$2 != "A" { print $2, $3 }' | sort) ||
+        wrong 'the shared object shows other names than the version map'
+    objdump -p "$file" | grep -q "SONAME *libcesu8.so.$major\$" ||
         wrong 'the shared object has another name'
+    readelf -nW "$file" | grep -q 'x86 ISA needed: x86-64-v2$' ||
+        wrong 'the shared object is not marked as x86-64-v2'
+    readelf -lW "$file" | grep -q 'GNU_STACK .* RW ' || wrong 'the shared object wants a stack that can be run'
+    readelf -dW "$file" | grep -q 'FLAGS.*BIND_NOW' || wrong 'the shared object binds its names late'
+    for file in "$file" "$unpacked/bin/cesu8_cli"; do
+        readelf -SW "$file" | grep -E ' \.(symtab|debug)' && wrong "$file is not stripped"
+    done
+}
+
+# That the loader reads the mark: a copy that is marked as code for what no processor has is refused
+# with a sentence, and with no signal.
+look_at_mark() {
+    local copy=$scratch/marked/libcesu8.so.$major place status=0
+    if [[ $(printf 'glibc 2.33\n%s\n' "$(getconf GNU_LIBC_VERSION)" | sort -V | head -n 1) != 'glibc 2.33' ]]; then
+        echo 'the C library is older than 2.33: the refusal of the shared object skipped'
+        return
+    fi
+    place=$(readelf -SW "$unpacked/$shared" |
+        sed -n 's/.* \.note\.gnu\.property *NOTE *[0-9a-f]* *\([0-9a-f]*\) .*/\1/p')
+    mkdir "$scratch/marked" && cp "$unpacked/$shared" "$copy" || exit 2
+    # In the section are the head of a note, of 16 bytes, the type and length of what is needed, of 8, and
+    # its 32 bits, of which this sets the highest.
+    printf '\200' | dd of="$copy" bs=1 seek=$((0x$place + 27)) conv=notrunc 2>"$scratch/said"
+    quietly cc -o "$scratch/example" -I "$unpacked/include" "$unpacked/examples/keys.c" "$unpacked/$shared" ||
+        wrong 'keys.c does not build'
+    LD_LIBRARY_PATH=$scratch/marked "$scratch/example" >"$scratch/said" 2>&1 || status=$?
+    if ((status < 128)) && grep -q 'CPU ISA level is lower than required' "$scratch/said"; then
+        echo 'the loader refused what is marked for another processor'
+    else
+        cat "$scratch/said"
+        wrong "the loader does not refuse what is marked for another processor: status $status"
+    fi
 }
 
 # Runs a built example, and compares what it prints: `example FILE WHAT`.
@@ -107,47 +189,6 @@ example() {
     else
         wrong "$2 prints other than examples/keys.stdout"
     fi
-}
-
-# keys.c by the flags of pkg-config: `by_pkg_config FOLDER WHAT`.
-by_pkg_config() {
-    local flags
-    export PKG_CONFIG_PATH=$1/lib/pkgconfig
-    [[ $(pkg-config --modversion cesu8) == "$version" ]] || wrong "pkg-config has another version"
-    read -r -a flags < <(pkg-config --cflags --libs cesu8)
-    if quietly cc -std=c11 -Wall -Wextra -Werror -o "$scratch/example" "$crate/examples/keys.c" \
-        "${flags[@]}"; then
-        example "$scratch/example" "$2"
-    else
-        wrong "$2 does not build"
-    fi
-}
-
-by_cmake() {
-    local folder=$scratch/cmake
-    mkdir "$folder" && cp "$crate/examples/keys.c" "$folder" || exit 2
-    cat >"$folder/CMakeLists.txt" <<CMAKE
-cmake_minimum_required(VERSION 3.13)
-project(keys C)
-find_package(cesu8 $((major + 1)) QUIET)
-if(cesu8_FOUND)
-    message(FATAL_ERROR "a version that is not there was found")
-endif()
-find_package(cesu8 $version REQUIRED)
-add_executable(by_archive keys.c)
-target_link_libraries(by_archive PRIVATE cesu8::cesu8)
-add_executable(by_shared keys.c)
-target_link_libraries(by_shared PRIVATE cesu8::shared)
-CMAKE
-    if ! quietly cmake -S "$folder" -B "$folder/build" -DCMAKE_PREFIX_PATH="$unpacked" ||
-        ! quietly cmake --build "$folder/build"; then
-        wrong 'keys.c does not build by CMake'
-        return
-    fi
-    example "$folder/build/by_archive" 'keys.c by CMake'
-    example "$folder/build/by_shared" 'keys.c by CMake, with the shared object,'
-    objdump -p "$folder/build/by_shared" | grep -q "NEEDED *libcesu8.so.$major\$" ||
-        wrong 'CMake does not link the shared object'
 }
 
 in_cpp() {
@@ -181,7 +222,7 @@ CPP
 }
 
 in_rust() {
-    if quietly rustc --edition 2024 -D warnings -o "$scratch/example" "$crate/examples/keys.rs" \
+    if quietly rustc --edition 2024 -D warnings -o "$scratch/example" "$unpacked/examples/keys.rs" \
         -L "native=$unpacked/lib" -l static=cesu8; then
         example "$scratch/example" keys.rs
     else
@@ -208,7 +249,7 @@ buffer = ctypes.create_string_buffer(2 * len(text))
 answer = encode(text, len(text), buffer, len(buffer))
 print(answer.status, buffer.raw[:answer.length].hex())
 PYTHON
-    if [[ $(python3 "$scratch/encode.py" "$unpacked/lib/libcesu8.so.$major") == '0 61eda0bdedb296' ]]; then
+    if [[ $(python3 "$scratch/encode.py" "$unpacked/$shared") == '0 61eda0bdedb296' ]]; then
         echo 'the shared object was called from Python'
     else
         wrong 'Python gets something else'
@@ -224,24 +265,7 @@ run_program() {
     fi
 }
 
-# Installs, and uses that once the unpacked folder is gone.
-install_elsewhere() {
-    quietly sh "$unpacked/install.sh" "$scratch/prefix" || wrong 'install.sh fails'
-    for file in include lib bin; do
-        diff -r "$unpacked/$file" "$scratch/prefix/$file" || wrong "install.sh leaves something of $file out"
-    done
-    [[ -f $scratch/prefix/share/doc/cesu8/C.md ]] || wrong 'install.sh leaves the pages out'
-    rm -rf "$scratch/empty"
-    run_program "$scratch/prefix"
-    if quietly cc -std=c11 -o "$scratch/example" -I "$scratch/prefix/include" \
-        "$crate/examples/keys.c" -L "$scratch/prefix/lib" -lcesu8; then
-        example "$scratch/example" 'keys.c with what was installed'
-    else
-        wrong 'keys.c does not build with what was installed'
-    fi
-}
-
-for tool in git cc ar nm objcopy objdump tar gzip; do
+for tool in git cc ar nm objcopy objdump readelf strip tar gzip; do
     if ! command -v "$tool" >/dev/null; then
         echo "$tool is missing: the release skipped"
         exit 0
@@ -252,18 +276,26 @@ build_twice
 
 PATH=$(path_without_kit)
 command -v rt rattle && wrong 'the kit is on the path'
-mkdir "$scratch/empty" && tar xzf "$scratch/first/$name.tar.gz" -C "$scratch/empty" || exit 1
+mkdir "$scratch/empty" "$scratch/shown" && tar xzf "$scratch/first/$name.tar.gz" -C "$scratch/empty" || exit 1
 look_at_files
+look_at_pages
+look_at_archive
 look_at_shared
+look_at_mark
+call_exports -DARCHIVE "$unpacked/lib/libcesu8.a"
+call_exports -DARCHIVE "$unpacked/$shared" -Wl,-rpath,"$unpacked/lib"
+has_pkg_config='' has_cmake=''
 if can_build 'keys.c by pkg-config' pkg-config --version; then
-    by_pkg_config "$unpacked" 'keys.c by pkg-config'
+    has_pkg_config=yes
+    by_pkg_config "$unpacked/lib" 'keys.c by pkg-config'
 fi
 mkdir "$scratch/probe_cmake" && echo 'project(probe C)' >"$scratch/probe_cmake/CMakeLists.txt" || exit 2
 if can_build 'keys.c by CMake' cmake -S "$scratch/probe_cmake" -B "$scratch/probe_cmake/build"; then
-    by_cmake
+    has_cmake=yes
+    by_cmake 'keys.c by CMake' "-DCMAKE_PREFIX_PATH=$unpacked"
+    look_at_versions
 fi
-echo 'int main() {}' >"$scratch/probe.cpp"
-if can_build 'the file of C++' c++ -o "$scratch/probe" "$scratch/probe.cpp"; then
+if can_build_cpp 'the file of C++'; then
     in_cpp
 fi
 if can_build_rust keys.rs; then
@@ -273,5 +305,14 @@ if can_build 'the call from Python' python3 -c 'import ctypes'; then
     in_python
 fi
 run_program "$unpacked"
-install_elsewhere
+shown_lines "$unpacked/README.md"
+shown_c
+in_class_file
+in_java_file
+look_at_words
+look_at_refusals
+install_to lib ''
+install_to lib64 lib64/
+install_to lib/x86_64-linux-gnu PREFIX/lib/x86_64-linux-gnu
+install_below
 ((wrong == 0))

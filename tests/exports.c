@@ -2,20 +2,44 @@
 // encodings as the standards give them (UTF-8 by the Unicode Standard, CESU-8 by Unicode Technical
 // Report 26, MUTF-8 by Java's DataInput). The input and the buffer stand once before and once behind
 // a page that no call may touch. A buffer has each length from 0 to one more than is needed, and for
-// the longest results the first and the last hundred of these. It prints each call that is wrong,
+// the longest results the first and the last hundred of these. No result may be longer than the
+// header's macro for it says, and for each macro one is as long. It prints each call that is wrong,
 // and ends with the counts. The status is 0 where none is wrong.
 //
-// With -DNULL_POINTERS an input and a buffer of length 0 are null pointers too.
+// With -DARCHIVE it is for the archive of archive.sh and for the shared object: an input and a buffer
+// of length 0 are null pointers too, and the calls that are plain C are called.
 
 #define _DEFAULT_SOURCE
 
 #include "cesu8.h"
 
+#include <limits.h>
 #include <stdio.h>
 #include <stdlib.h>
 #include <string.h>
 #include <sys/mman.h>
 #include <unistd.h>
+
+// The members have the types that the exports have: u32, usize and bool. A call leaves the bytes
+// beside a bool as they are, so an int there could be read with them.
+#define HAS(record, member, type)                                                                  \
+    _Static_assert(_Generic(((struct record *)NULL)->member, type: 1, default: 0),                 \
+                   #record " has a " #member " of another type than " #type)
+HAS(cesu8_answer, status, enum cesu8_status);
+HAS(cesu8_answer, length, size_t);
+HAS(cesu8_decision, status, enum cesu8_status);
+HAS(cesu8_decision, is_needed, bool);
+HAS(cesu8_reading, status, enum cesu8_status);
+HAS(cesu8_reading, length, size_t);
+HAS(cesu8_reading, taken, size_t);
+
+// The macros take an expression of any type, and multiply it as a size_t.
+_Static_assert(CESU8_MAX_ENCODED(INT_MAX - 1 + 1) == 2 * (size_t)INT_MAX, "CESU8_MAX_ENCODED");
+_Static_assert(CESU8_MAX_DECODED(INT_MAX - 1 + 1) == (size_t)INT_MAX, "CESU8_MAX_DECODED");
+_Static_assert(CESU8_MAX_DECODED_LOSSY(INT_MAX - 1 + 1) == 3 * (size_t)INT_MAX,
+               "CESU8_MAX_DECODED_LOSSY");
+_Static_assert(CESU8_MAX_JAVA_WRITTEN(INT_MAX - 1 + 1) == 2 + 2 * (size_t)INT_MAX,
+               "CESU8_MAX_JAVA_WRITTEN");
 
 // What a call tells, in one form for all. What is decided is a length here, 1 for yes.
 struct told {
@@ -104,9 +128,12 @@ struct row {
 
 #define REPLACEMENT "\xEF\xBF\xBD"              // U+FFFD in UTF-8
 
-// As many as two bytes can count, and one more; and the form of the former.
+// As many as two bytes can count, and one more; and the form of the former. As many that are damaged,
+// after their count, which is damaged bytes too; and their reading.
 static char long_text[65536];
 static char long_form[65537];
+static char damaged_form[65537];
+static char damaged_text[3 * 65535];
 
 #define TIMES_5(part) part part part part part
 #define TIMES_20(part) TIMES_5(part) TIMES_5(part) TIMES_5(part) TIMES_5(part)
@@ -137,6 +164,7 @@ static const struct row rows[] = {
     {CALL(encode), BYTES(""), OK, BYTES(""), 0},
     {CALL(mutf8_encode), BYTES(ALIKE), OK, BYTES(ALIKE), 0},
     {CALL(mutf8_encode), BYTES(ALIKE ZERO FOUR_BYTES), OK, BYTES(ALIKE C0_80 SURROGATES), 0},
+    {CALL(mutf8_encode), BYTES(ZERO ZERO ZERO), OK, BYTES(C0_80 C0_80 C0_80), 0},
     {CALL(mutf8_encode), BYTES(ALIKE C0_80), NOT_UTF8, NOTHING, 0},
     {CALL(mutf8_encode), BYTES(""), OK, BYTES(""), 0},
     {CALL(decode_strict), BYTES(ALIKE ZERO), OK, BYTES(ALIKE ZERO), 0},
@@ -184,6 +212,7 @@ static const struct row rows[] = {
     {CALL(mutf8_lossy_len), BYTES(""), OK, LENGTH(0), 0},
     {CALL(java_write), BYTES(ALIKE), OK, BYTES("\0\x06" ALIKE), 0},
     {CALL(java_write), BYTES(ALIKE ZERO FOUR_BYTES), OK, BYTES("\0\x0E" ALIKE C0_80 SURROGATES), 0},
+    {CALL(java_write), BYTES(ZERO ZERO), OK, BYTES("\0\x04" C0_80 C0_80), 0},
     {CALL(java_write), BYTES(ALIKE SURROGATES), NOT_UTF8, NOTHING, 0},
     {CALL(java_write), {long_text, 65535}, OK, {long_form, 65537}, 0},
     {CALL(java_write), {long_text, 65536}, TOO_LONG, NOTHING, 0},
@@ -198,6 +227,7 @@ static const struct row rows[] = {
     {CALL(java_read_lossy), BYTES("\0\x06" ALIKE "\0\0"), OK, BYTES(ALIKE), 8},
     {CALL(java_read_lossy), BYTES("\0\x09" C0_80 SURROGATES "\xFF\0"), OK,
      BYTES(ZERO FOUR_BYTES REPLACEMENT), 11},
+    {CALL(java_read_lossy), {damaged_form, 65537}, OK, {damaged_text, 3 * 65535}, 65537},
     {CALL(java_read_lossy), BYTES("\0\x03" C0_80), TRUNCATED, NOTHING, 0},
     {CALL(java_read_lossy), BYTES("\0\0\0\0"), OK, BYTES(""), 2},
     // Long enough for the ways that are taken from 33, 65, 129, 257 and 1,025 bytes on.
@@ -256,7 +286,7 @@ static const struct row rows[] = {
 };
 
 // Each block has so many bytes, between two pages that no call may touch.
-enum { SPACE = 81920, FILLING = '~' };
+enum { SPACE = 204800, FILLING = '~' };
 
 // A call's bytes, at the front of their block or at its end.
 struct block {
@@ -342,13 +372,94 @@ static bool agrees(const struct row *row, size_t buffer_length, enum side side, 
     return false;
 }
 
-#ifdef NULL_POINTERS
-enum { MOST_NULLS = 1 };
-#else
-enum { MOST_NULLS = 0 };
-#endif
-
 static int passed, failed;
+
+static void hold(bool holds, const char *name, const char *what)
+{
+    if (holds) {
+        passed++;
+        return;
+    }
+    failed++;
+    printf("wrong: %s: %s\n", name, what);
+}
+
+// The macros for a length that is always enough: each is for some of the calls.
+static const struct {
+    const char *name;
+    call *calls[8];
+} macros[] = {
+    {"CESU8_MAX_ENCODED", {encode, mutf8_encode}},
+    {"CESU8_MAX_DECODED", {decode_strict, mutf8_decode_strict, decode, mutf8_decode}},
+    {"CESU8_MAX_DECODED_LOSSY",
+     {decode_lossy_strict, mutf8_decode_lossy_strict, decode_lossy, mutf8_decode_lossy}},
+    {"CESU8_MAX_JAVA_WRITTEN", {java_write}},
+    {"CESU8_MAX_JAVA_READ", {java_read}},
+    {"CESU8_MAX_JAVA_READ_LOSSY", {java_read_lossy}},
+};
+
+// What each macro says of an input of this length.
+static size_t always_enough(size_t macro, size_t n)
+{
+    const size_t lengths[] = {
+        CESU8_MAX_ENCODED(n),      CESU8_MAX_DECODED(n), CESU8_MAX_DECODED_LOSSY(n),
+        CESU8_MAX_JAVA_WRITTEN(n), CESU8_MAX_JAVA_READ,  CESU8_MAX_JAVA_READ_LOSSY,
+    };
+    return lengths[macro];
+}
+
+static bool is_for(size_t macro, const struct row *row)
+{
+    for (call *const *one = macros[macro].calls; *one != NULL; one++)
+        if (*one == row->call)
+            return row->status == OK;
+    return false;
+}
+
+// That no result is longer than a macro says, and that one is as long.
+static void look_at_macro(size_t macro)
+{
+    bool is_enough = true, is_needed = false;
+    for (const struct row *row = rows; row < rows + sizeof rows / sizeof *rows; row++)
+        if (is_for(macro, row)) {
+            size_t length = always_enough(macro, row->input.length);
+            is_enough &= row->answer.length <= length;
+            is_needed |= row->answer.length == length;
+        }
+    hold(is_enough, macros[macro].name, "a result is longer");
+    hold(is_needed, macros[macro].name, "each result is shorter");
+}
+
+#ifdef ARCHIVE
+
+enum { MOST_NULLS = 1 };
+
+static void look_at_plain_calls(void)
+{
+    static const char *const texts[] = {"ok",
+                                        "input is not UTF-8",
+                                        "invalid input",
+                                        "input is truncated",
+                                        "text is too long",
+                                        "buffer too short",
+                                        "unknown status",
+                                        "unknown status"};
+    static const uint32_t statuses[] = {
+        OK, NOT_UTF8, INVALID, TRUNCATED, TOO_LONG, CESU8_TOO_SMALL, CESU8_TOO_SMALL + 1, UINT32_MAX};
+    for (size_t i = 0; i < sizeof statuses / sizeof *statuses; i++)
+        hold(strcmp(cesu8_status_text(statuses[i]), texts[i]) == 0, "cesu8_status_text", texts[i]);
+    hold(cesu8_version() == CESU8_VERSION, "cesu8_version", "another version than the header's");
+}
+
+#else
+
+enum { MOST_NULLS = 0 };
+
+static void look_at_plain_calls(void)
+{
+}
+
+#endif
 
 static void call_row(const struct row *row, size_t buffer_length)
 {
@@ -365,6 +476,12 @@ int main(void)
     memset(long_text, 'a', sizeof long_text);
     memset(long_form, 'a', sizeof long_form);
     memset(long_form, 0xFF, 2);
+    memset(damaged_form, 0xFF, sizeof damaged_form);
+    for (size_t i = 0; i < sizeof damaged_text; i++)
+        damaged_text[i] = REPLACEMENT[i % 3];
+    for (size_t macro = 0; macro < sizeof macros / sizeof *macros; macro++)
+        look_at_macro(macro);
+    look_at_plain_calls();
     for (const struct row *row = rows; row < rows + sizeof rows / sizeof *rows; row++) {
         size_t needed = row->status == OK ? row->answer.length : row->input.length;
         // Each length up to one more than is needed; of the longest ones the first and the last.

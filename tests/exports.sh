@@ -1,18 +1,21 @@
 #!/usr/bin/env bash
 # Tests the library for C, crates/cesu8_static, in these steps:
-# 1. It compiles the header in each standard of C and C++, and tests the chooser with stubs behind it.
-# 2. It builds the archive of archive.sh, and the static library for one level with it. It links and runs
-#    tests/exports.c, which calls each export, with that library.
-# 3. It does the same with the archive, looks at its symbols, and builds and runs a caller in C++.
-# 4. It builds and runs the examples in C and in Rust.
-# 5. bench/run.sh builds its driver and runs it for one round. Before that, the driver compares what
-#    each measured call returns for many inputs.
-# If there is no C or C++ compiler, objcopy or rustc, it says what it skipped. What is installed and
-# does not build counts as wrong. The status is 0 if nothing is wrong.
+# 1. It compares the names of the exports with those of the header, the chooser, the version map and
+#    the rows of tests/exports.c.
+# 2. It compiles tests/header.c, which uses all that the header declares, in each standard of C and of
+#    C++ and with most warnings of each compiler, and sees that the header's attributes warn.
+# 3. It tests the chooser with stubs behind it.
+# 4. It builds the static library for one level, and links and runs tests/exports.c with it, which
+#    calls each export.
+# tests/dist.sh does the last step with the archive and the shared object of the release, which it
+# builds, and builds and runs all callers.
 #
-# It needs the kit's `rt`, bash, grep, sed and the core utilities; for C and C++ the compilers `cc`
-# and `c++`; for the archive also `ar`, `nm`, `awk` and `objcopy`; and for the last steps a rustc that
-# knows the edition 2024.
+# If there is no C or C++ compiler or no clang, it says what it skipped. The status is 0 if nothing is
+# wrong. In a clean clone it proves the libraries first, by one job, since more take more of the
+# processors' time.
+#
+# It needs the kit's `rt`, bash, awk, grep, sed and the core utilities, and the compilers `cc`, `c++`,
+# `clang` and `clang++` for what they compile.
 set -u
 unset CDPATH
 export LC_ALL=C
@@ -21,46 +24,57 @@ top=$(cd "$(dirname "${BASH_SOURCE[0]}")/.." && pwd) || exit 2
 # shellcheck source=tests/kit.sh
 source "$top/tests/kit.sh" || exit 2
 crate=$top/crates/cesu8_static
+header=$crate/include/cesu8.h
 scratch=$(mktemp -d) || exit 2
 trap 'rm -rf "$scratch"' EXIT
 
 # shellcheck source=tests/compilers.sh
 source "$top/tests/compilers.sh" || exit 2
 
-# In a clean clone this proves the crate and the libraries below it first. archive.sh leaves the library
-# for the lower level in out/, so that it is not built once more.
-build_library() {
-    echo "building the static library"
-    if command -v objcopy >/dev/null; then
-        quietly sh "$crate/archive.sh" "$scratch/libcesu8.a"
-    else
-        (cd "$crate" && quietly rt lib ${PROOF_JOBS:+--jobs "$PROOF_JOBS"})
-    fi
-    if ! cp "$crate/out/libcesu8_static.a" "$scratch/"; then
-        echo "the static library was not built" >&2
-        exit 2
-    fi
+# Compares two lists of names: `same_names WHAT`, with the wanted ones first.
+same_names() {
+    diff "$scratch/wanted" "$scratch/found" || wrong "$1 has other names"
 }
 
-# That the table of tests/exports.c, the header and the chooser have each of them.
+# That the rows of tests/exports.c, the header, the chooser and the version map have each call.
 all_are_named() {
-    local name
-    while read -r name; do
-        grep -q "CALL($name)" "$top/tests/exports.c" ||
-            wrong "no row of tests/exports.c calls cesu8_$name"
-        grep -q " cesu8_$name(" "$crate/include/cesu8.h" || wrong "cesu8.h lacks cesu8_$name"
-        grep -q " cesu8_$name)" "$crate/chooser.c" || wrong "chooser.c lacks cesu8_$name"
-    done < <(exports)
+    exports | sort >"$scratch/wanted"
+    sed -n 's/^    {CALL(\([a-z0-9_]*\)).*/\1/p' "$top/tests/exports.c" | sort -u >"$scratch/found"
+    same_names 'the table of tests/exports.c'
+    sed -n 's/^CHOOSE_.*, cesu8_\([a-z0-9_]*\))$/\1/p' "$crate/chooser.c" | sort >"$scratch/found"
+    same_names chooser.c
+    { exports; plain_calls; } | sort >"$scratch/wanted"
+    sed 's/ *\/\/.*//' "$header" | grep -o 'cesu8_[a-z0-9_]*(' | sed 's/^cesu8_//; s/($//' | sort >"$scratch/found"
+    same_names cesu8.h
+    mapped | sed 's/^cesu8_//; s/@@.*//' | sort >"$scratch/found"
+    same_names 'the version map'
 }
 
-# Builds the header alone, as a C or C++ file: `build_header COMPILER LANGUAGE STANDARD..`.
-build_header() {
-    local compiler=$1 language=$2 standard
-    shift 2
-    echo '#include "cesu8.h"' >"$scratch/header.$language"
-    for standard in "$@"; do
-        quietly "$compiler" "-std=$standard" -Wall -Wextra -pedantic -Werror -fsyntax-only \
-            -I "$crate/include" "$scratch/header.$language" || wrong "cesu8.h does not build as $standard"
+# Compiles tests/header.c in these standards: `compile_header COMPILER LANGUAGE STANDARDS FLAG..`.
+compile_header() {
+    local compiler=$1 language=$2 standards=$3 standard
+    shift 3
+    for standard in $standards; do
+        quietly "$compiler" -x "$language" "-std=$standard" -O2 -pedantic -Werror "$@" \
+            -I "$crate/include" -S -o /dev/null "$top/tests/header.c" ||
+            wrong "$compiler warns of tests/header.c as $standard"
+    done
+}
+
+# That `cc` warns of these faults in tests/header.c, if it knows the attribute that is for them:
+# `warns_by ATTRIBUTE FAULT..`.
+warns_by() {
+    local attribute=$1 fault
+    shift
+    printf '#if !__has_attribute(%s)\n#error unknown\n#endif\nint none;\n' "$attribute" >"$scratch/known.c"
+    if ! cc -fsyntax-only "$scratch/known.c" 2>"$scratch/said"; then
+        echo "cc does not know the attribute $attribute: its warnings skipped"
+        return
+    fi
+    for fault in "$@"; do
+        cc -std=c11 -O2 -Wall -Wextra -Werror "-DWRONG=$fault" -I "$crate/include" \
+            -S -o /dev/null "$top/tests/header.c" 2>"$scratch/said" &&
+            wrong "cc does not warn of fault $fault of tests/header.c"
     done
 }
 
@@ -79,114 +93,33 @@ run_chooser() {
     fi
 }
 
-# Builds tests/exports.c with a library, and runs it: `call_exports LIBRARY FLAG..`.
-call_exports() {
-    local library=$1
-    shift
-    if ! quietly cc -std=c11 -O1 -Wall -Wextra -Werror -I "$crate/include" "$@" \
-        -o "$scratch/exports" "$top/tests/exports.c" "$library"; then
-        wrong 'tests/exports.c does not build'
-        return
-    fi
-    "$scratch/exports" || wrong=1
-}
-
-caller_in_cpp() {
-    if quietly c++ -std=c++11 -Wall -Wextra -pedantic -Werror -I "$crate/include" \
-        -o "$scratch/caller" "$top/tests/exports.cpp" "$scratch/libcesu8.a"; then
-        "$scratch/caller" || wrong=1
-    else
-        wrong 'tests/exports.cpp does not build'
+# The library for the lower level, which stays in out/ for tests/dist.sh.
+build_library() {
+    echo 'building the static library'
+    if ! (cd "$crate" && quietly rt lib --jobs 1); then
+        echo 'the static library was not built' >&2
+        exit 2
     fi
 }
 
-# Runs an example, and compares what it prints: `example NAME`.
-example() {
-    "$scratch/example" >"$scratch/printed" 2>&1 || wrong "$1 fails"
-    if cmp -s "$scratch/printed" "$crate/examples/keys.stdout"; then
-        echo "$1 was built and run"
-    else
-        cat "$scratch/printed"
-        wrong "$1 prints other than examples/keys.stdout"
-    fi
-}
-
-# The page of C, with this library: `example_in_c LIBRARY`.
-example_in_c() {
-    if quietly cc -std=c11 -O1 -Wall -Wextra -Werror -I "$crate/include" \
-        -o "$scratch/example" "$crate/examples/keys.c" "$1"; then
-        example keys.c
-    else
-        wrong 'keys.c does not build'
-    fi
-}
-
-example_in_rust() {
-    if quietly rustc --edition 2024 -D warnings -o "$scratch/example" "$crate/examples/keys.rs" \
-        -L "native=$scratch" -l static=cesu8_static; then
-        example keys.rs
-    else
-        wrong 'keys.rs does not build'
-    fi
-}
-
-# What the archive shows and what it asks for: the names of its calls, and functions that copy and
-# compare bytes. The chooser asks the compiler's runtime what the processor has.
-look_at_symbols() {
-    local asked
-    nm -g --defined-only "$1" 2>/dev/null | awk 'NF == 3 && $3 !~ /^cesu8_/ { print $3 }' >"$scratch/shown"
-    [[ ! -s $scratch/shown ]] || wrong "the archive shows other names: $(tr '\n' ' ' <"$scratch/shown")"
-    asked=$(nm -u "$1" 2>/dev/null | awk 'NF == 2 { print $2 }' | sort -u |
-        grep -vxE 'mem(cpy|move|set|cmp)|__cpu_(model|features2)|_GLOBAL_OFFSET_TABLE_|cesu8_.*_v[23]')
-    [[ -z $asked ]] || wrong "the archive asks for other names: $asked"
-}
-
-# The archive for both levels. That its code for each level is there is seen in its symbols, since
-# this processor runs one of them.
-run_archive() {
-    local name
-    if ! command -v objcopy >/dev/null; then
-        echo 'objcopy is missing: the archive skipped'
-        return
-    fi
-    if [[ ! -f $scratch/libcesu8.a ]]; then
-        wrong 'the archive does not build'
-        return
-    fi
-    nm -g --defined-only "$scratch/libcesu8.a" >"$scratch/symbols" 2>/dev/null
-    while read -r name; do
-        for symbol in "cesu8_$name" "cesu8_${name}_v2" "cesu8_${name}_v3"; do
-            grep -q " T $symbol\$" "$scratch/symbols" || wrong "the archive lacks $symbol"
-        done
-    done < <(exports)
-    look_at_symbols "$scratch/libcesu8.a"
-    call_exports "$scratch/libcesu8.a" -DNULL_POINTERS
-    example_in_c "$scratch/libcesu8.a"
-    ! can_build_cpp 'the caller in C++' || caller_in_cpp
-}
-
-run_driver() {
-    if quietly "$top/bench/run.sh" --rounds 1; then
-        echo "bench's driver was built and run"
-    else
-        wrong "bench's driver does not build, or does not run"
-    fi
-}
-
-build_library
 all_are_named
-if can_build_c 'the calls from C'; then
-    build_header cc c c99 c11 c17 c2x
+if can_build_c 'the header in C, the chooser and the calls from C'; then
+    compile_header cc c 'c99 c11 c17 c2x' -Wall -Wextra -Wconversion
+    warns_by warn_unused_result 1 2
+    warns_by access 3 4 5 6
     run_chooser
-    call_exports "$scratch/libcesu8_static.a"
-    example_in_c "$scratch/libcesu8_static.a"
-    run_archive
 fi
 if can_build_cpp 'the header in C++'; then
-    build_header c++ cpp c++11 c++14 c++17 c++20
+    compile_header c++ c++ 'c++11 c++14 c++17 c++20' -Wall -Wextra -Wconversion -Wold-style-cast
 fi
-if can_build_rust "the example in Rust and bench's driver"; then
-    example_in_rust
-    run_driver
+if can_build 'the header in C by clang' clang -fsyntax-only "$scratch/probe.c"; then
+    compile_header clang c 'c99 c11 c17 c2x' -Weverything -Wno-padded
+fi
+if can_build 'the header in C++ by clang' clang++ -fsyntax-only "$scratch/probe.cpp"; then
+    compile_header clang++ c++ 'c++11 c++14 c++17 c++20' -Weverything -Wno-padded
+fi
+build_library
+if can_build_c 'the calls from C'; then
+    call_exports "$crate/out/libcesu8_static.a"
 fi
 ((wrong == 0))

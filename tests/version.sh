@@ -1,13 +1,17 @@
 #!/usr/bin/env bash
-# Compares the file VERSION with what names the version: the macros of the header for C, the first
-# heading of CHANGELOG.md with a version, and the names of archives on the pages. It prints each
-# difference. The status is 0 if there is none. It needs bash, grep, sed and the core utilities.
+# Compares the file VERSION with what names the version: the macros of the header for C, the nodes of
+# the version map, the first heading of CHANGELOG.md with a version, and on the pages the names of
+# archives and of the shared object, and what CMake is asked for. The files of crates/cesu8_static/package
+# get the version from dist.sh, so they name none, and the man page, the archive's README and the files
+# for pkg-config and CMake have its place. It prints each difference. The status is 0 if there is none.
+# It needs bash, grep, sed and the core utilities.
 set -u
 unset CDPATH
 export LC_ALL=C
 
 cd "$(dirname "${BASH_SOURCE[0]}")/.." || exit 2
 header=crates/cesu8_static/include/cesu8.h
+package=crates/cesu8_static/package
 wrong=0
 
 # Compares what a file names with what it has to name: `expect FILE WHAT WANTED FOUND`.
@@ -23,6 +27,8 @@ if [[ ! $version =~ ^([1-9][0-9]?)\.(0|[1-9][0-9]?)\.(0|[1-9][0-9]?)$ ]]; then
     exit 1
 fi
 number=$((10000 * BASH_REMATCH[1] + 100 * BASH_REMATCH[2] + BASH_REMATCH[3]))
+major=${BASH_REMATCH[1]}
+minor=$major.${BASH_REMATCH[2]}
 
 expect "$header" string "$version" "$(sed -n 's/^#define CESU8_VERSION_STRING "\(.*\)"$/\1/p' "$header")"
 expect "$header" number "$number" "$(sed -n 's/^#define CESU8_VERSION \(.*\)$/\1/p' "$header")"
@@ -31,5 +37,40 @@ for page in *.md docs/*.md; do
     while read -r named; do
         expect "$page" archive "$version" "$named"
     done < <(grep -o 'cesu8-[0-9][0-9.]*-x86_64' "$page" | sed 's/^cesu8-//; s/-x86_64$//' | sort -u)
+    while read -r named; do
+        expect "$page" 'shared object' "$major" "$named"
+    done < <(grep -o 'libcesu8\.so\.[0-9][0-9.]*[0-9]*' "$page" | sed 's/^libcesu8\.so\.//; s/\.$//' | sort -u)
+    while read -r named; do
+        expect "$page" 'version for CMake' "$minor" "$named"
+    done < <(sed -n 's/.*find_package(cesu8 \([0-9.]*\).*/\1/p' "$page" | sort -u)
 done
+
+# The first node is that of the first version with this first number. A later one is of a version up to
+# VERSION, which has a new node only if a name came with it.
+nodes=$(sed -n 's/^CESU8_\([0-9.]*\) {$/\1/p' "$package/cesu8.map")
+expect "$package/cesu8.map" 'first node' "$major.0" "${nodes%%$'\n'*}"
+expect "$package/cesu8.map" 'newest node' "$minor" \
+    "$(printf '%s\n' "$minor" "$nodes" | sort -V | tail -n 1)"
+expect "$package/cesu8.map" 'first number of nodes' "$major" "$(cut -d . -f 1 <<<"$nodes" | sort -u)"
+
+while IFS=: read -r page named; do
+    grep -qxF "${named#CESU8_}" <<<"$nodes" && continue
+    echo "wrong: $page names the node $named, which is not in the version map"
+    wrong=1
+done < <(grep -oE 'CESU8_[0-9]+(\.[0-9]+)*' ./*.md docs/*.md)
+
+# That a file of package/ has a place for the version: `place FILE LINE`.
+place() {
+    grep -qxF -- "$2" "$package/$1" && return
+    echo "wrong: $package/$1 lacks the line '$2'"
+    wrong=1
+}
+place cesu8.pc 'Version: @VERSION@'
+place cesu8-config-version.cmake 'set(PACKAGE_VERSION @VERSION@)'
+place README.md '# cesu8 @VERSION@'
+place cesu8_cli.1 '.TH CESU8_CLI 1 @DATE@ "cesu8 @VERSION@" "User Commands"'
+if grep -rnE '(^|[^0-9.])[0-9]+\.[0-9]+\.[0-9]+' "$package"; then
+    echo 'wrong: these name a version, and dist.sh gives it'
+    wrong=1
+fi
 ((wrong == 0))

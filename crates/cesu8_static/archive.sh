@@ -1,11 +1,13 @@
 #!/bin/sh
-# Builds one archive with the code for x86-64-v2 and for x86-64-v3, and chooser.c, which picks one
-# of them as the program runs:
+# Builds one archive with the code for x86-64-v2 and for x86-64-v3, with chooser.c, which picks one
+# of them as the program runs, and with plain.c:
 #   archive.sh FILE.a
 # It proves the crate and the libraries below it where that is not done, by as many jobs as PROOF_JOBS
 # says, or else as rt chooses. It needs the kit's rt, cc, ar, objcopy and nm.
 set -eu
 unset CDPATH
+# The members of the archive have the same order everywhere.
+export LC_ALL=C
 
 crate=$(cd "$(dirname "$0")" && pwd)
 # shellcheck source=tests/kit.sh
@@ -38,6 +40,8 @@ for level in v3 v2; do
     done
 done
 
-cc -std=c11 -O2 -fPIC -Wall -Wextra -Werror -I "$crate/include" -c -o "$scratch/chooser.o" \
-    "$crate/chooser.c"
+for file in chooser plain; do
+    cc -std=c11 -O2 -fPIC -Wall -Wextra -Werror -I "$crate/include" -c -o "$scratch/$file.o" \
+        "$crate/$file.c"
+done
 ar rcsD "$archive" "$scratch"/*.o

@@ -39,7 +39,8 @@ int main(void)
         static uint8_t text[CESU8_MAX_JAVA_READ];
         struct cesu8_reading read = cesu8_java_read(rest, left, text, sizeof text);
         if (read.status != CESU8_OK) {
-            fprintf(stderr, "status %d at byte %zu\n", read.status, sizeof file - 1 - left);
+            fprintf(stderr, "%s at byte %zu\n", cesu8_status_text(read.status),
+                    sizeof file - 1 - left);
             return 1;
         }
         size_t key_length;

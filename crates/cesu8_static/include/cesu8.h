@@ -9,9 +9,38 @@
 #include <stddef.h>
 #include <stdint.h>
 
-// The version, as a number, 10000 * first + 100 * second + third, and as a string.
+// The version of this header, as a number, 10000 * first + 100 * second + third, and as a string.
 #define CESU8_VERSION 10000
 #define CESU8_VERSION_STRING "1.0.0"
+
+// With these attributes, where it knows them, a compiler warns of a result that is not used, and of
+// an input or a buffer that is null or shorter than its length. None is `nonnull`, since a pointer
+// may be null where its length is 0.
+#ifdef __has_attribute
+#if __has_attribute(warn_unused_result)
+#define CESU8_RESULT __attribute__((warn_unused_result))
+#endif
+#if __has_attribute(access)
+#define CESU8_INPUT __attribute__((access(read_only, 1, 2)))
+#define CESU8_BUFFER __attribute__((access(write_only, 3, 4)))
+#endif
+#if __has_attribute(returns_nonnull)
+#define CESU8_NEVER_NULL __attribute__((returns_nonnull))
+#endif
+#endif
+#ifndef CESU8_RESULT
+#define CESU8_RESULT
+#endif
+#ifndef CESU8_INPUT
+#define CESU8_INPUT
+#define CESU8_BUFFER
+#endif
+#ifndef CESU8_NEVER_NULL
+#define CESU8_NEVER_NULL
+#endif
+// A call that returns all that it tells, and one that also writes to a buffer.
+#define CESU8_TELLS CESU8_RESULT CESU8_INPUT
+#define CESU8_WRITES CESU8_RESULT CESU8_INPUT CESU8_BUFFER
 
 #ifdef __cplusplus
 extern "C" {
@@ -49,6 +78,9 @@ struct cesu8_reading {
 // length is 0, but for the library of one level that `rt lib` builds. A buffer shares no byte with
 // the input.
 //
+// There have to be as many bytes as the length says. If there are fewer, no call sees it, and no
+// sanitizer does, since the library is built without one. GCC warns if it knows how many there are.
+//
 // With CESU8_OK a result of bytes stands at the front of the buffer. The bytes behind it, and with
 // any other status the whole buffer, are as before. No terminating NUL is written.
 //
@@ -58,77 +90,97 @@ struct cesu8_reading {
 //
 // No call allocates or keeps anything, so calls may run at once in many threads.
 
+// A number as a size_t, by the cast that the language's compilers do not warn of.
+#ifdef __cplusplus
+#define CESU8_SIZE(n) static_cast<size_t>(n)
+#else
+#define CESU8_SIZE(n) ((size_t)(n))
+#endif
+
 // Lengths of buffers that are always enough, for an input of n bytes.
-#define CESU8_MAX_ENCODED(n) (2 * (size_t)(n))
-#define CESU8_MAX_DECODED(n) ((size_t)(n))
-#define CESU8_MAX_DECODED_LOSSY(n) (3 * (size_t)(n))
-#define CESU8_MAX_JAVA_WRITTEN(n) (2 + 2 * (size_t)(n))
-#define CESU8_MAX_JAVA_READ ((size_t)65535)
-#define CESU8_MAX_JAVA_READ_LOSSY (3 * (size_t)65535)
+#define CESU8_MAX_ENCODED(n) (2 * CESU8_SIZE(n))
+#define CESU8_MAX_DECODED(n) CESU8_SIZE(n)
+#define CESU8_MAX_DECODED_LOSSY(n) (3 * CESU8_SIZE(n))
+#define CESU8_MAX_JAVA_WRITTEN(n) (2 + 2 * CESU8_SIZE(n))
+#define CESU8_MAX_JAVA_READ CESU8_SIZE(65535)
+#define CESU8_MAX_JAVA_READ_LOSSY (3 * CESU8_SIZE(65535))
 
 // Whether the encoding of UTF-8 is other than it. If not, the text can be used as it is.
 // CESU8_OK, CESU8_NOT_UTF8.
-struct cesu8_decision cesu8_needs_encoded(const uint8_t *text, size_t text_length);
-struct cesu8_decision cesu8_mutf8_needs_encoded(const uint8_t *text, size_t text_length);
+CESU8_TELLS struct cesu8_decision cesu8_needs_encoded(const uint8_t *text, size_t text_length);
+CESU8_TELLS struct cesu8_decision cesu8_mutf8_needs_encoded(const uint8_t *text, size_t text_length);
 
 // The length of the encoding of UTF-8: at most twice the text's. CESU8_OK, CESU8_NOT_UTF8.
-struct cesu8_answer cesu8_encoded_len(const uint8_t *text, size_t text_length);
-struct cesu8_answer cesu8_mutf8_encoded_len(const uint8_t *text, size_t text_length);
+CESU8_TELLS struct cesu8_answer cesu8_encoded_len(const uint8_t *text, size_t text_length);
+CESU8_TELLS struct cesu8_answer cesu8_mutf8_encoded_len(const uint8_t *text, size_t text_length);
 
 // Encodes UTF-8 to CESU-8 (Unicode Technical Report 26) or to MUTF-8 (Java's DataOutput, without a
 // length in front). CESU8_OK, CESU8_NOT_UTF8, CESU8_TOO_SMALL.
-struct cesu8_answer cesu8_encode(
+CESU8_WRITES struct cesu8_answer cesu8_encode(
     const uint8_t *text, size_t text_length, uint8_t *buffer, size_t buffer_length);
-struct cesu8_answer cesu8_mutf8_encode(
+CESU8_WRITES struct cesu8_answer cesu8_mutf8_encode(
     const uint8_t *text, size_t text_length, uint8_t *buffer, size_t buffer_length);
 
 // Decodes the encoding to UTF-8. What is no encoding of a text is refused, so UTF-8 with a
 // character of four bytes is too, and a zero byte in MUTF-8. CESU8_OK, CESU8_INVALID,
 // CESU8_TOO_SMALL.
-struct cesu8_answer cesu8_decode_strict(
+CESU8_WRITES struct cesu8_answer cesu8_decode_strict(
     const uint8_t *bytes, size_t bytes_length, uint8_t *buffer, size_t buffer_length);
-struct cesu8_answer cesu8_mutf8_decode_strict(
+CESU8_WRITES struct cesu8_answer cesu8_mutf8_decode_strict(
     const uint8_t *bytes, size_t bytes_length, uint8_t *buffer, size_t buffer_length);
 
 // The lenient call: decodes what is UTF-8 as a whole, which stays as it is, or else the encoding,
 // as the calls above.
-struct cesu8_answer cesu8_decode(
+CESU8_WRITES struct cesu8_answer cesu8_decode(
     const uint8_t *bytes, size_t bytes_length, uint8_t *buffer, size_t buffer_length);
-struct cesu8_answer cesu8_mutf8_decode(
+CESU8_WRITES struct cesu8_answer cesu8_mutf8_decode(
     const uint8_t *bytes, size_t bytes_length, uint8_t *buffer, size_t buffer_length);
 
 // Decodes the encoding with damage to UTF-8: each encoded character that stands in the bytes, and
 // U+FFFD for each byte that is in none. CESU8_OK, CESU8_TOO_LONG, CESU8_TOO_SMALL.
-struct cesu8_answer cesu8_decode_lossy_strict(
+CESU8_WRITES struct cesu8_answer cesu8_decode_lossy_strict(
     const uint8_t *bytes, size_t bytes_length, uint8_t *buffer, size_t buffer_length);
-struct cesu8_answer cesu8_mutf8_decode_lossy_strict(
+CESU8_WRITES struct cesu8_answer cesu8_mutf8_decode_lossy_strict(
     const uint8_t *bytes, size_t bytes_length, uint8_t *buffer, size_t buffer_length);
 
 // The lenient call for damage: decodes what is UTF-8 as a whole, which stays as it is, or else the
 // encoding with damage, as the calls above.
-struct cesu8_answer cesu8_decode_lossy(
+CESU8_WRITES struct cesu8_answer cesu8_decode_lossy(
     const uint8_t *bytes, size_t bytes_length, uint8_t *buffer, size_t buffer_length);
-struct cesu8_answer cesu8_mutf8_decode_lossy(
+CESU8_WRITES struct cesu8_answer cesu8_mutf8_decode_lossy(
     const uint8_t *bytes, size_t bytes_length, uint8_t *buffer, size_t buffer_length);
 
 // The length of what cesu8_decode_lossy_strict writes. CESU8_OK, CESU8_TOO_LONG.
-struct cesu8_answer cesu8_lossy_len(const uint8_t *bytes, size_t bytes_length);
-struct cesu8_answer cesu8_mutf8_lossy_len(const uint8_t *bytes, size_t bytes_length);
+CESU8_TELLS struct cesu8_answer cesu8_lossy_len(const uint8_t *bytes, size_t bytes_length);
+CESU8_TELLS struct cesu8_answer cesu8_mutf8_lossy_len(const uint8_t *bytes, size_t bytes_length);
 
 // Writes UTF-8 as Java's DataOutput.writeUTF does: the count of its bytes of MUTF-8 in two bytes,
 // the high byte first, and then these, of which there may be 65,535. CESU8_OK, CESU8_NOT_UTF8,
 // CESU8_TOO_LONG, CESU8_TOO_SMALL.
-struct cesu8_answer cesu8_java_write(
+CESU8_WRITES struct cesu8_answer cesu8_java_write(
     const uint8_t *text, size_t text_length, uint8_t *buffer, size_t buffer_length);
 
-// Reads such a string from the front of the input, to UTF-8, and tells how many bytes it takes,
-// also with CESU8_INVALID and CESU8_TOO_SMALL. The one refuses what is no MUTF-8, and the other
-// reads it with damage, as cesu8_mutf8_decode_lossy_strict does. CESU8_OK, CESU8_TRUNCATED,
-// CESU8_INVALID (not in the other), CESU8_TOO_SMALL.
-struct cesu8_reading cesu8_java_read(
+// Reads the string with which the input begins: a count in two bytes, as cesu8_java_write writes
+// it, and as many bytes of MUTF-8, which are decoded to UTF-8. What comes after them is not read.
+// `taken` is 2 and the count together, whether or not the counted bytes could be decoded; only
+// with CESU8_TRUNCATED it is 0. The next string begins after so many bytes of the input.
+//
+// cesu8_java_read decodes as cesu8_mutf8_decode_strict does: CESU8_OK, CESU8_TRUNCATED,
+// CESU8_INVALID, CESU8_TOO_SMALL. cesu8_java_read_lossy decodes as
+// cesu8_mutf8_decode_lossy_strict does: CESU8_OK, CESU8_TRUNCATED, CESU8_TOO_SMALL.
+CESU8_WRITES struct cesu8_reading cesu8_java_read(
     const uint8_t *bytes, size_t bytes_length, uint8_t *buffer, size_t buffer_length);
-struct cesu8_reading cesu8_java_read_lossy(
+CESU8_WRITES struct cesu8_reading cesu8_java_read_lossy(
     const uint8_t *bytes, size_t bytes_length, uint8_t *buffer, size_t buffer_length);
+
+// The two calls that the library of one level, which `rt lib` builds, does not have.
+//
+// What a status means, in English and with no line end, such as "ok" and "invalid input". For a
+// number that is no status it is "unknown status". The text is never null, and never freed.
+CESU8_NEVER_NULL const char *cesu8_status_text(uint32_t status);
+
+// CESU8_VERSION of the library that runs, which can be another than that of this header.
+uint32_t cesu8_version(void);
 
 #ifdef __cplusplus
 }

@@ -1,15 +1,24 @@
-# The targets cesu8::cesu8, the static library, and cesu8::shared, the shared object.
+# The targets cesu8::cesu8, the static library, and cesu8::shared, the shared object. They are found
+# from where this file is, so all can be moved together. A symbolic link on the way is resolved first:
+# where /lib is one to /usr/lib, the way up from it ends in / and not in /usr.
 if(NOT TARGET cesu8::cesu8)
-    get_filename_component(_cesu8_prefix "${CMAKE_CURRENT_LIST_DIR}/../../.." ABSOLUTE)
+    # The way up from the folder of the libraries.
+    set(_cesu8_up ..)
+    get_filename_component(_cesu8_folder "${CMAKE_CURRENT_LIST_DIR}" REALPATH)
+    get_filename_component(_cesu8_libdir "${_cesu8_folder}/../.." ABSOLUTE)
+    get_filename_component(_cesu8_prefix "${_cesu8_libdir}/${_cesu8_up}" ABSOLUTE)
     add_library(cesu8::cesu8 STATIC IMPORTED)
     set_target_properties(cesu8::cesu8 PROPERTIES
-        IMPORTED_LOCATION "${_cesu8_prefix}/lib/libcesu8.a"
+        IMPORTED_LOCATION "${_cesu8_libdir}/libcesu8.a"
         IMPORTED_LINK_INTERFACE_LANGUAGES C
         INTERFACE_INCLUDE_DIRECTORIES "${_cesu8_prefix}/include")
     add_library(cesu8::shared SHARED IMPORTED)
     set_target_properties(cesu8::shared PROPERTIES
-        IMPORTED_LOCATION "${_cesu8_prefix}/lib/libcesu8.so.@MAJOR@"
+        IMPORTED_LOCATION "${_cesu8_libdir}/libcesu8.so.@MAJOR@"
         IMPORTED_SONAME libcesu8.so.@MAJOR@
         INTERFACE_INCLUDE_DIRECTORIES "${_cesu8_prefix}/include")
+    unset(_cesu8_up)
+    unset(_cesu8_folder)
+    unset(_cesu8_libdir)
     unset(_cesu8_prefix)
 endif()

@@ -1,22 +1,106 @@
 #!/bin/sh
-# Copies the library, the program and the pages from this folder to another:
-#   install.sh PREFIX
-# After that, nothing there refers to this folder, and PREFIX can be moved.
+# Installs the library, the program and the pages from this folder:
+#   [DESTDIR=ROOT] ./install.sh PREFIX [LIBDIR]
+# LIBDIR is the folder for the libraries below PREFIX: lib, if it is left out, or for instance lib64 or
+# lib/x86_64-linux-gnu. It can also begin with PREFIX. What is installed names no other place, so
+# PREFIX can be moved afterwards.
+#
+# With DESTDIR, all goes below that folder instead, as for a package, and the file for pkg-config names
+# PREFIX, which is absolute then.
+#
+# The status is 2, and nothing is written, where the arguments are none of these.
 set -eu
 unset CDPATH
+umask 022
 
-if [ $# -ne 1 ]; then
-    echo 'usage: install.sh PREFIX' >&2
+refuse() {
+    printf 'install.sh: %s\nusage: [DESTDIR=ROOT] ./install.sh PREFIX [LIBDIR]\n' "$1" >&2
     exit 2
-fi
-mkdir -p "$1"
-prefix=$(cd "$1" && pwd)
-cd "$(dirname "$0")"
+}
 
-for file in include/* lib/*.a lib/*.so.* lib/pkgconfig/* lib/cmake/cesu8/*; do
-    install -D -m 644 "$file" "$prefix/$file"
+# A folder's path from the root, with no slash at its end: `absolute FOLDER`.
+absolute() {
+    case $1 in
+        /*) path=$1 ;;
+        *) path=$PWD/$1 ;;
+    esac
+    while [ "${path%/}" != "$path" ]; do
+        path=${path%/}
+    done
+}
+
+if [ $# -lt 1 ] || [ $# -gt 2 ] || [ -z "$1" ]; then
+    refuse 'one or two folders are wanted'
+fi
+root=${DESTDIR-}
+[ -z "$root" ] || case $1 in
+    /*) ;;
+    *) refuse 'with DESTDIR, PREFIX has to be absolute' ;;
+esac
+absolute "$1"
+prefix=$path
+if [ -n "$root" ]; then
+    absolute "$root"
+    root=$path
+fi
+
+libdir=${2-lib}
+case $libdir in
+    "$prefix"/*) libdir=${libdir#"$prefix"/} ;;
+    /*) refuse 'LIBDIR is not below PREFIX' ;;
+esac
+libdir=${libdir%/}
+case /$libdir/ in
+    *//* | */./* | */../*) refuse 'LIBDIR has a part that is empty, . or ..' ;;
+esac
+# The way up from LIBDIR to PREFIX.
+up=..
+rest=$libdir
+while [ "$rest" != "${rest#*/}" ]; do
+    rest=${rest#*/}
+    up=../$up
 done
-install -D -m 755 bin/cesu8_cli "$prefix/bin/cesu8_cli"
-for file in BUILT-FROM LICENSE-* *.md examples/*; do
-    install -D -m 644 "$file" "$prefix/share/doc/cesu8/$file"
+
+to=$root$prefix
+here=$(cd "$(dirname "$0")" && pwd -P)
+if [ -d "$to/" ] && [ "$(cd "$to/" && pwd -P)" = "$here" ]; then
+    refuse 'PREFIX is the folder to install from'
+fi
+cd "$here"
+
+# Copies files to a folder: `put MODE FOLDER FILE..`.
+put() {
+    mode=$1
+    folder=$2
+    shift 2
+    for file in "$@"; do
+        install -D -m "$mode" "$file" "$to/$folder/${file##*/}"
+    done
+}
+
+put 644 include include/*
+put 755 bin bin/*
+put 644 "$libdir" lib/*.a lib/*.so.*
+for link in lib/*.so; do
+    ln -sf "$(readlink "$link")" "$to/$libdir/${link##*/}"
+done
+put 644 share/man/man1 share/man/man1/*
+put 644 share/bash-completion/completions share/bash-completion/completions/*
+put 644 share/doc/cesu8 BUILT-FROM LICENSE-* ./*.md
+put 644 share/doc/cesu8/examples examples/*
+
+mkdir -p "$to/$libdir/pkgconfig" "$to/$libdir/cmake/cesu8"
+# The names in these are pkg-config's.
+# shellcheck disable=SC2016
+{
+    if [ -n "$root" ]; then
+        printf 'prefix=%s\n' "$prefix"
+    else
+        printf 'prefix=${pcfiledir}/../%s\n' "$up"
+    fi
+    printf 'libdir=${prefix}/%s\n' "$libdir"
+    grep -v -e '^prefix=' -e '^libdir=' lib/pkgconfig/cesu8.pc
+} >"$to/$libdir/pkgconfig/cesu8.pc"
+for file in lib/cmake/cesu8/*; do
+    sed "s|set(_cesu8_up .*|set(_cesu8_up $up)|" "$file" >"$to/$libdir/cmake/cesu8/${file##*/}"
 done

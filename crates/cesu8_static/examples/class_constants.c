@@ -1,0 +1,126 @@
+// Prints the strings of a class file's constant pool, as the Java Virtual Machine Specification (4.4)
+// lays it out, each with its index:
+//   class_constants FILE.class
+// These are Modified UTF-8 with their length in front, after the byte 1. A string with an unpaired
+// surrogate, which Java allows, is no text: it is printed with U+FFFD, and told.
+
+#include "cesu8.h"
+
+#include <stdio.h>
+#include <stdlib.h>
+
+// How many bytes a constant of this tag has after it, or 0 for a tag that there is not.
+static size_t length_of(uint8_t tag)
+{
+    switch (tag) {
+    case 7: // Class
+    case 8: // String
+    case 16: // MethodType
+    case 19: // Module
+    case 20: // Package
+        return 2;
+    case 15: // MethodHandle
+        return 3;
+    case 3: // Integer
+    case 4: // Float
+    case 9: // Fieldref
+    case 10: // Methodref
+    case 11: // InterfaceMethodref
+    case 12: // NameAndType
+    case 17: // Dynamic
+    case 18: // InvokeDynamic
+        return 4;
+    case 5: // Long
+    case 6: // Double
+        return 8;
+    default:
+        return 0;
+    }
+}
+
+// Prints the string with which the bytes begin, and returns how many of them it takes, or 0.
+static size_t print_string(unsigned index, const uint8_t *bytes, size_t length)
+{
+    static uint8_t text[CESU8_MAX_JAVA_READ_LOSSY]; // Enough for both calls.
+    struct cesu8_reading read = cesu8_java_read(bytes, length, text, sizeof text);
+    if (read.status == CESU8_INVALID) {
+        fprintf(stderr, "constant %u: %s\n", index, cesu8_status_text(read.status));
+        read = cesu8_java_read_lossy(bytes, length, text, sizeof text);
+    }
+    if (read.status != CESU8_OK)
+        return 0;
+    printf("%u ", index);
+    fwrite(text, 1, read.length, stdout);
+    printf("\n");
+    return read.taken;
+}
+
+// Prints the strings of a class file, and returns whether it has a whole pool of constants.
+static bool print_strings(const uint8_t *bytes, size_t length)
+{
+    // Before it are four bytes CA FE BA BE, two of the minor version and two of the major one. Its
+    // own first two are one more than the last index.
+    if (length < 10 || bytes[0] != 0xCA || bytes[1] != 0xFE || bytes[2] != 0xBA || bytes[3] != 0xBE)
+        return false;
+    unsigned end = 256u * bytes[8] + bytes[9];
+    size_t at = 10;
+    for (unsigned index = 1; index < end; index++) {
+        if (at == length)
+            return false;
+        uint8_t tag = bytes[at++];
+        size_t taken = tag == 1 ? print_string(index, bytes + at, length - at) : length_of(tag);
+        if (taken == 0 || taken > length - at)
+            return false;
+        at += taken;
+        if (tag == 5 || tag == 6) // The index after a Long or a Double is not used.
+            index++;
+    }
+    return true;
+}
+
+// The bytes of a file, to be freed, or NULL.
+static uint8_t *read_file(const char *name, size_t *length)
+{
+    FILE *file = fopen(name, "rb");
+    if (file == NULL)
+        return NULL;
+    uint8_t *bytes = NULL;
+    size_t room = 0;
+    *length = 0;
+    do {
+        room = 2 * room + 4096;
+        uint8_t *more = realloc(bytes, room);
+        if (more == NULL) {
+            free(bytes);
+            bytes = NULL;
+            break;
+        }
+        bytes = more;
+        *length += fread(bytes + *length, 1, room - *length, file);
+    } while (*length == room);
+    if (bytes != NULL && ferror(file)) {
+        free(bytes);
+        bytes = NULL;
+    }
+    fclose(file);
+    return bytes;
+}
+
+int main(int count, char **words)
+{
+    if (count != 2) {
+        fprintf(stderr, "usage: class_constants FILE.class\n");
+        return 2;
+    }
+    size_t length;
+    uint8_t *bytes = read_file(words[1], &length);
+    if (bytes == NULL) {
+        perror(words[1]);
+        return 1;
+    }
+    bool is_whole = print_strings(bytes, length);
+    free(bytes);
+    if (!is_whole)
+        fprintf(stderr, "%s: no class file\n", words[1]);
+    return is_whole ? 0 : 1;
+}

@@ -1,0 +1,30 @@
+// The two calls of the archive that archive.sh builds which are no calls of Rattle's: they return a
+// text and the version of the library itself. This file is plain C, and nothing of it is proved.
+
+#include "cesu8.h"
+
+const char *cesu8_status_text(uint32_t status)
+{
+    // Each is what the fault of that status prints in Rattle, or what the program prints.
+    switch (status) {
+    case CESU8_OK:
+        return "ok";
+    case CESU8_NOT_UTF8:
+        return "input is not UTF-8";
+    case CESU8_INVALID:
+        return "invalid input";
+    case CESU8_TRUNCATED:
+        return "input is truncated";
+    case CESU8_TOO_LONG:
+        return "text is too long";
+    case CESU8_TOO_SMALL:
+        return "buffer too short";
+    default:
+        return "unknown status";
+    }
+}
+
+uint32_t cesu8_version(void)
+{
+    return CESU8_VERSION;
+}

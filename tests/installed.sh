@@ -1,0 +1,186 @@
+# For tests/dist.sh: builds keys.c by pkg-config and by CMake, with the shared object and without it,
+# and installs by install.sh. It uses what that script sets, and `has_pkg_config` and `has_cmake`, which
+# are empty where there is none.
+# shellcheck shell=bash disable=SC2154
+
+# Whether a program asks for the shared object: `wants_shared PROGRAM`.
+wants_shared() {
+    objdump -p "$1" | grep -q "NEEDED *libcesu8.so.$major\$"
+}
+
+# Builds keys.c by a compiler with these flags, once with the shared object and once without it, and
+# runs it: `both WHAT SHARED.. -- STATIC..`.
+both() {
+    local what=$1 flags=()
+    shift
+    while [[ $1 != -- ]]; do
+        flags+=("$1")
+        shift
+    done
+    shift
+    if quietly cc -std=c11 -Wall -Wextra -Werror -o "$scratch/example" "$crate/examples/keys.c" "${flags[@]}"; then
+        wants_shared "$scratch/example" || wrong "$what: the shared object is not linked"
+        example "$scratch/example" "$what"
+    else
+        wrong "$what does not build"
+    fi
+    if quietly cc -std=c11 -Wall -Wextra -Werror -o "$scratch/example" "$crate/examples/keys.c" "$@"; then
+        ! wants_shared "$scratch/example" || wrong "$what: the static library is not linked"
+        example "$scratch/example" "$what, static,"
+    else
+        wrong "$what, static, does not build"
+    fi
+}
+
+# keys.c by the flags of pkg-config, as C.md has them: `by_pkg_config LIBDIR WHAT`, the folder of the
+# libraries.
+by_pkg_config() {
+    local cflags libs folders
+    export PKG_CONFIG_PATH=$1/pkgconfig
+    [[ $(pkg-config --modversion cesu8) == "$version" ]] || wrong "$2 has another version"
+    [[ $(pkg-config --variable=libdir cesu8) -ef $1 ]] || wrong "$2 has another libdir"
+    # It puts a backslash before some characters of a path.
+    eval "cflags=($(pkg-config --cflags cesu8)) libs=($(pkg-config --libs cesu8)) folders=($(pkg-config --libs-only-L cesu8))"
+    both "$2" "${cflags[@]}" "${libs[@]}" -Wl,-rpath,"$(pkg-config --variable=libdir cesu8)" -- \
+        "${cflags[@]}" "${folders[@]}" -l:libcesu8.a
+    unset PKG_CONFIG_PATH
+}
+
+# keys.c by CMake: `by_cmake WHAT FLAG..`, with which CMake finds the library.
+by_cmake() {
+    local folder=$scratch/cmake what=$1
+    shift
+    rm -rf "$folder"
+    mkdir "$folder" && cp "$crate/examples/keys.c" "$folder" || exit 2
+    cat >"$folder/CMakeLists.txt" <<CMAKE
+cmake_minimum_required(VERSION 3.13)
+project(keys C)
+find_package(cesu8 $version REQUIRED)
+add_executable(by_archive keys.c)
+target_link_libraries(by_archive PRIVATE cesu8::cesu8)
+add_executable(by_shared keys.c)
+target_link_libraries(by_shared PRIVATE cesu8::shared)
+CMAKE
+    if ! quietly cmake -S "$folder" -B "$folder/build" "$@" || ! quietly cmake --build "$folder/build"; then
+        wrong "$what does not build"
+        return
+    fi
+    ! wants_shared "$folder/build/by_archive" || wrong "$what: the static library is not linked"
+    wants_shared "$folder/build/by_shared" || wrong "$what: the shared object is not linked"
+    example "$folder/build/by_archive" "$what, static,"
+    example "$folder/build/by_shared" "$what"
+}
+
+# Which versions CMake takes, and that it takes no library of 64 bits for another processor.
+look_at_versions() {
+    local folder=$scratch/versions first=$major.0 next=$((major + 1))
+    mkdir "$folder" || exit 2
+    cat >"$folder/CMakeLists.txt" <<CMAKE
+cmake_minimum_required(VERSION 3.19)
+project(versions NONE)
+function(look wanted)
+    unset(cesu8_DIR CACHE)
+    find_package(cesu8 \${ARGN} QUIET)
+    if(NOT cesu8_FOUND EQUAL wanted)
+        message(SEND_ERROR "version \${ARGN}: \${cesu8_FOUND}, and not \${wanted}")
+    endif()
+endfunction()
+look(1)
+look(1 $version)
+look(1 $version EXACT)
+look(1 $first)
+look(0 $next)
+look(0 $major.99)
+look(0 $first.99 EXACT)
+look(1 0.5...$version)
+look(0 0.5...<$version)
+look(1 $version...$next)
+look(0 $next...$next.5)
+set(CMAKE_SIZEOF_VOID_P 4)
+look(0)
+look(0 $version)
+set(CMAKE_SIZEOF_VOID_P 8)
+look(1 $version)
+CMAKE
+    quietly cmake -S "$folder" -B "$folder/build" -DCMAKE_PREFIX_PATH="$unpacked" ||
+        wrong 'CMake takes other versions'
+}
+
+# Installs to a folder that is moved then, and builds there: `install_to LIBDIR GIVEN`, the folder of
+# the libraries and how install.sh is told it.
+install_to() {
+    local prefix="$scratch/pre & fix|$1" moved=$scratch/moved/$1 flag
+    quietly sh "$unpacked/install.sh" "$prefix" ${2:+"${2//PREFIX/"$prefix"}"} || wrong "install.sh fails for $1"
+    mkdir -p "$scratch/moved" && mkdir -p "${moved%/*}" && rm -rf "$moved" && mv "$prefix" "$moved" || exit 2
+    diff -r "$unpacked/include" "$moved/include" || wrong "install.sh leaves something of the header out, for $1"
+    diff -r "$unpacked/bin" "$moved/bin" || wrong "install.sh leaves something of the program out, for $1"
+    run_program "$moved"
+    if [[ -n $has_pkg_config ]]; then
+        by_pkg_config "$moved/$1" "keys.c by pkg-config from $1"
+    fi
+    if [[ -n $has_cmake ]]; then
+        # CMake looks in lib64 on some systems alone, and in the last on Debian and its like.
+        flag=-DCMAKE_PREFIX_PATH=$moved
+        case $1 in
+            lib64) flag=-Dcesu8_DIR=$moved/$1/cmake/cesu8 ;;
+            lib/*) [[ $(cc -print-multiarch) == "${1#lib/}" ]] || flag=-Dcesu8_DIR=$moved/$1/cmake/cesu8 ;;
+        esac
+        by_cmake "keys.c by CMake from $1" "$flag"
+    fi
+}
+
+# Installs below DESTDIR, as for a package, with a /lib that is a link to /usr/lib.
+install_below() {
+    local root=$scratch/root libdir=lib/x86_64-linux-gnu files cflags libs folders
+    (cd "$unpacked" && DESTDIR=$root quietly ./install.sh /usr "$libdir") || wrong 'install.sh fails with DESTDIR'
+    ln -s usr/lib "$root/lib" || exit 2
+    grep -qx 'prefix=/usr' "$root/usr/$libdir/pkgconfig/cesu8.pc" || wrong 'the file for pkg-config has another prefix'
+    grep -rlF "$scratch" "$root" && wrong 'these name DESTDIR'
+    # All of the release is there but the script itself.
+    files=$(sed -E -e '/^install.sh$/d' -e "s,^lib/,usr/$libdir/," -e 's,^(bin|include|share)/,usr/&,' \
+        -e 's,^(examples/.*|[^/]*)$,usr/share/doc/cesu8/&,' "$scratch/files" | sort)
+    diff <(echo "$files") <(cd "$root" && find usr ! -type d | sort) || wrong 'install.sh installs other files'
+    if [[ -n $has_pkg_config ]]; then
+        export PKG_CONFIG_SYSROOT_DIR=$root PKG_CONFIG_ALLOW_SYSTEM_CFLAGS=1 PKG_CONFIG_ALLOW_SYSTEM_LIBS=1
+        export PKG_CONFIG_PATH=$root/usr/$libdir/pkgconfig
+        eval "cflags=($(pkg-config --cflags cesu8)) libs=($(pkg-config --libs cesu8)) folders=($(pkg-config --libs-only-L cesu8))"
+        LD_LIBRARY_PATH=$root/usr/$libdir both 'keys.c by pkg-config from DESTDIR' "${cflags[@]}" "${libs[@]}" -- \
+            "${cflags[@]}" "${folders[@]}" -l:libcesu8.a
+        unset "${!PKG_CONFIG_@}"
+    fi
+    if [[ -n $has_cmake ]]; then
+        by_cmake 'keys.c by CMake from DESTDIR' "-Dcesu8_DIR=$root/lib/x86_64-linux-gnu/cmake/cesu8"
+    fi
+}
+
+# That install.sh refuses these arguments with status 2, and writes nothing: `refuses ARGUMENT..`.
+refuses() {
+    local status=0
+    (cd "$scratch/nowhere" && sh "$unpacked/install.sh" "$@") >"$scratch/said" 2>&1 || status=$?
+    ((status == 2)) || wrong "install.sh ends with status $status for: $*"
+    grep -q '^usage: ' "$scratch/said" || wrong "install.sh does not say how it is called for: $*"
+    [[ -z $(find "$scratch/nowhere" -mindepth 1 ! -type l) ]] || wrong "install.sh writes something for: $*"
+    diff -r "$unpacked" "$scratch/unpacked_before" || wrong "install.sh writes to the release for: $*"
+}
+
+look_at_refusals() {
+    local prefix=$scratch/nowhere/prefix libdir
+    mkdir "$scratch/nowhere" && cp -a "$unpacked" "$scratch/unpacked_before" || exit 2
+    ln -s "$unpacked" "$scratch/nowhere/link" || exit 2
+    refuses
+    refuses ''
+    refuses "$prefix" lib more
+    for libdir in '' . .. ./lib lib/. ../lib lib/../lib lib//x /lib "$scratch/nowhere/pre" "$prefix/../lib"; do
+        refuses "$prefix" "$libdir"
+    done
+    refuses "$unpacked"
+    refuses "$unpacked/"
+    refuses "$scratch/nowhere/link"
+    export DESTDIR=$scratch/nowhere/root
+    refuses prefix
+    refuses ./prefix lib
+    refuses "$prefix" ../lib
+    DESTDIR=$scratch/empty
+    refuses "/$name"
+    unset DESTDIR
+}
