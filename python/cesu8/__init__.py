@@ -63,7 +63,7 @@ def write_utf(text: str) -> bytes:
     Raises OverflowError if there are more than 65,535, and UnicodeEncodeError for surrogates.
     """
     utf8 = utf8_of(text)
-    status, written = _library.result(_java_write, utf8, 2 + len(utf8))
+    status, written = _library.result(_java_write, utf8, len(utf8), 2 + len(utf8))
     if status == _library.TOO_LONG:
         raise OverflowError("the text has more than 65,535 bytes of MUTF-8")
     if status != _library.OK:
@@ -93,12 +93,12 @@ def read_utf(data: Data, start: int = 0, errors: str = "strict") -> tuple[str, i
         end = start + 2 + count
         string = view[start:end].tobytes()
     function = _java_read_lossy if errors == "replace" else _java_read
-    status, utf8 = _library.result(function, string, count)
+    status, utf8 = _library.result(function, string, len(string), count)
     if status == _library.OK:
         return str(utf8, "utf-8"), end
     if status == _library.TRUNCATED:
         raise EOFError(f"the string at {start} is cut: {there - start} bytes are there")
-    return MUTF8.decode_by_handler(_bytes(data), start + 2, end, errors), end
+    return MUTF8.decode_by_handler(_bytes(data), start + 2, end, end, errors)[0], end
 
 
 def _encoding(name: str) -> Encoding:

@@ -62,7 +62,7 @@ class Encoding:
 
     def _encoded(self, text: str) -> tuple[int, memoryview]:
         utf8 = utf8_of(text)
-        return _library.result(self._encode, utf8, len(utf8))
+        return _library.result(self._encode, utf8, len(utf8), len(utf8))
 
     def encode_by_handler(self, text: str, errors: str) -> bytes:
         """The encoding of a text with surrogates, for which an error handler speaks."""
@@ -95,42 +95,51 @@ class Encoding:
             function = self._decode_lossy if lenient else self._decode_lossy_strict
         else:
             function = self._decode if lenient else self._decode_strict
-        status, utf8 = _library.result(function, data, len(data))
+        status, utf8 = _library.result(function, data, len(data), len(data))
         if status == _library.OK:
             return str(utf8, "utf-8")
-        return self.decode_by_handler(data, 0, len(data), errors)
-
-    def decode_by_handler(self, data: bytes, start: int, end: int, errors: str) -> str:
-        """The text of the bytes from `start` to `end`, with an error handler called for each
-        byte in no encoded character."""
-        handler = codecs.lookup_error(errors)
-        parts = []
-        place = start
-        while True:
-            damaged = self._damaged(data, place, end)
-            if damaged > place:
-                parts.append(self._text(data[place:damaged]))
-            if damaged == end:
-                return "".join(parts)
-            error = UnicodeDecodeError(
-                self.name, data, damaged, damaged + 1, self._reason(data, damaged, end)
-            )
-            replacement, place = _handled(handler(error), str, error)
-            parts.append(replacement)
-            if error.object is not data:
-                # A handler may put other input in place of this, as with Python's own decoders.
-                data, start, end = error.object, 0, len(error.object)
-            place = _within(place, start, end)
+        return self.decode_by_handler(data, 0, len(data), len(data), errors)[0]
 
     def decode_front(self, data: bytes, errors: str, final: bool) -> tuple[str, int]:
         """The text of the input without a cut character at its end, and how many bytes that
         takes. With `final` nothing follows, so a cut character is damage."""
         cut = None if final else self._cut.search(data, max(len(data) - _LONGEST_CUT, 0))
-        taken = len(data) if cut is None else cut.start()
-        return self.decode(data[:taken], errors), taken
+        if cut is None:
+            return self.decode(data, errors), len(data)
+        function = self._decode_lossy_strict if errors == "replace" else self._decode_strict
+        status, utf8 = _library.result(function, data, cut.start(), cut.start())
+        if status == _library.OK:
+            return str(utf8, "utf-8"), cut.start()
+        return self.decode_by_handler(data, 0, cut.start(), len(data), errors)
+
+    def decode_by_handler(
+        self, data: bytes, start: int, stop: int, end: int, errors: str
+    ) -> tuple[str, int]:
+        """The text of the bytes from `start` to `stop`, with an error handler called for each
+        byte in no encoded character, and where it ends. A handler may go on up to `end`."""
+        handler = codecs.lookup_error(errors)
+        parts = []
+        place = start
+        while place < stop:
+            damaged = self._damaged(data, place, stop)
+            if damaged > place:
+                parts.append(self._text(data[place:damaged]))
+            place = damaged
+            if damaged == stop:
+                break
+            reason = self._reason(data, damaged, end)
+            error = UnicodeDecodeError(self.name, data, damaged, damaged + 1, reason)
+            replacement, place = _handled(handler(error), str, error)
+            parts.append(replacement)
+            if error.object is not data:
+                # A handler may put other input in place of this, as with Python's own decoders.
+                data, start, stop = error.object, 0, len(error.object)
+                end = stop
+            place = _within(place, start, end)
+        return "".join(parts), place
 
     def _text(self, data: bytes) -> str:
-        status, utf8 = _library.result(self._decode_strict, data, len(data))
+        status, utf8 = _library.result(self._decode_strict, data, len(data), len(data))
         assert status == _library.OK
         return str(utf8, "utf-8")
 

@@ -54,13 +54,14 @@ def call(name: str, returns: type[ctypes.Structure] = Answer) -> Call:
     return function
 
 
-def result(function: Call, data: bytes, room: int) -> tuple[int, memoryview]:
-    """The status of a call, and what it writes. `room` is the length of the first buffer."""
+def result(function: Call, data: bytes, length: int, room: int) -> tuple[int, memoryview]:
+    """The status of a call on the first bytes of some data, and what it writes. `room` is the
+    length of the first buffer that it gets."""
     while True:
         # ctypes takes the address of no empty buffer.
         buffer = bytearray(max(room, 1))
         front = ctypes.byref(ctypes.c_char.from_buffer(buffer))
-        answer = function(data, len(data), front, room)
+        answer = function(data, length, front, room)
         if answer.status != TOO_SMALL:
             return answer.status, memoryview(buffer)[: answer.length]
         room = answer.length
