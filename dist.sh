@@ -6,6 +6,9 @@
 # with the same kit and C compiler: names are sorted, times are the commit's, and owners are 0.
 # BUILT-FROM in the archive says what it was built from and what it needs.
 #
+# Where dpkg-deb is there, FOLDER gets the Debian packages too, by packages.sh, and where python3 is
+# there the wheel, by python/wheel.py.
+#
 # It needs the kit's `rt`, git, a C compiler `cc`, ar, nm, objcopy, objdump, GNU tar, gzip, bash,
 # awk, grep, sed and the core utilities.
 set -euo pipefail
@@ -41,6 +44,8 @@ compiler=$(cc --version | sed -n 1p)
 scratch=$(mktemp -d)
 trap 'rm -rf "$scratch"' EXIT
 release=$scratch/$name
+# The files that FOLDER gets, by name.
+made=("$name.tar.gz")
 
 # shellcheck source=tests/program.sh
 source "$top/tests/program.sh"
@@ -108,5 +113,20 @@ chmod 755 "$release/bin/cesu8_cli" "$release/install.sh"
 tar --create --format=ustar --sort=name --owner=0 --group=0 --numeric-owner \
     --mtime="@$seconds" -C "$scratch" "$name" |
     gzip -n -9 >"$folder/$name.tar.gz"
-(cd "$folder" && sha256sum "$name.tar.gz" >SHA256SUMS)
-echo "$folder/$name.tar.gz"
+
+# Makes more of the release, where the tool for it is there, by a script that prints what it has made:
+# `make_more TOOL WHAT SCRIPT`.
+make_more() {
+    local names
+    if ! command -v "$1" >/dev/null; then
+        echo "$1 is missing: $2 not built" >&2
+        return
+    fi
+    names=$(SOURCE_DATE_EPOCH=$seconds "$3" "$release" "$folder")
+    mapfile -t -O "${#made[@]}" made <<<"$names"
+}
+make_more dpkg-deb 'the Debian packages' "$top/packages.sh"
+make_more python3 'the wheel' "$top/python/wheel.py"
+
+(cd "$folder" && sha256sum "${made[@]}" >SHA256SUMS)
+printf "$folder/%s\n" "${made[@]}"

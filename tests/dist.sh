@@ -48,7 +48,7 @@ copy_tree() {
         cp -R "$top/crates/$library/out/rlib" "$1/crates/$library/out" || exit 2
     done
     cp -R "$crate/out" "$1/crates/cesu8_static" || exit 2
-    (cd "$1" && git init -q . && git add . && git -c user.name=test -c user.email=test \
+    (cd "$1" && git init -q . && git add . && git -c user.name=test -c user.email=test@example.org \
         -c commit.gpgsign=false -c core.hooksPath=/dev/null commit -q -m 'Release') || exit 2
 }
 
@@ -65,6 +65,8 @@ build_twice() {
         cmp "$scratch/first/$file" "$scratch/second/$file" || wrong "two builds of $file differ"
     done
     (cd "$scratch/first" && quietly sha256sum -c SHA256SUMS) || wrong 'the sums do not fit'
+    # The scripts that use more of the release take it from there.
+    [[ -z ${RELEASE-} ]] || cp -R "$scratch/first" "$RELEASE" || exit 2
 }
 
 # The path without the folders in which the kit is.
