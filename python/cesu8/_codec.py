@@ -165,7 +165,7 @@ def utf8_of(text: str) -> bytes:
     """The UTF-8 of a text. Surrogates have three bytes each there, which the library refuses."""
     if not isinstance(text, str):
         raise TypeError(f"text must be str, not {type(text).__name__}")
-    return text.encode("utf-8", "surrogatepass")
+    return str.encode(text, "utf-8", "surrogatepass")
 
 
 def _handled(answer: object, replaces: object, error: UnicodeError) -> tuple:
