@@ -65,8 +65,6 @@ build_twice() {
         cmp "$scratch/first/$file" "$scratch/second/$file" || wrong "two builds of $file differ"
     done
     (cd "$scratch/first" && quietly sha256sum -c SHA256SUMS) || wrong 'the sums do not fit'
-    # The scripts that use more of the release take it from there.
-    [[ -z ${RELEASE-} ]] || cp -R "$scratch/first" "$RELEASE" || exit 2
 }
 
 # The path without the folders in which the kit is.
@@ -251,6 +249,8 @@ for tool in git cc ar nm objcopy objdump tar gzip; do
 done
 can_build_c 'the release' || exit 0
 build_twice
+# The scripts that use more of the release take it from there.
+[[ -z ${RELEASE-} ]] || cp -R "$scratch/first" "$RELEASE" || exit 2
 
 PATH=$(path_without_kit)
 command -v rt rattle && wrong 'the kit is on the path'
