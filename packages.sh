@@ -138,8 +138,6 @@ pack() {
     (cd "$tree" && find . -path ./DEBIAN -prune -o -type f -printf '%P\n' | sort |
         xargs -d '\n' md5sum) >"$control/md5sums"
     find "$tree" -exec touch -h -d "@$SOURCE_DATE_EPOCH" {} +
-    # A folder of mktemp would give the package's root its mode.
-    find "$tree" -type d -exec chmod 755 {} +
     dpkg-deb --root-owner-group -Zgzip --build "$tree" "$folder/$2_${debian}_amd64.deb" >/dev/null
     echo "$2_${debian}_amd64.deb"
 }
