@@ -6,6 +6,9 @@
 # on one commit give the same bytes, with the same kit and C compiler: names are sorted, times are the
 # commit's, and owners are 0. BUILT-FROM in the archive says what it was built from and what it needs.
 #
+# Where dpkg-deb is there, FOLDER gets the Debian packages too, by packages.sh, and where python3 is
+# there the wheel, by python/wheel.py.
+#
 # It needs the kit's `rt`, git, a C compiler `cc` with GNU ld 2.36 or later, ar, nm, objcopy, objdump,
 # strip, GNU tar, gzip, bash, awk, grep, sed and the core utilities.
 set -euo pipefail
@@ -153,6 +156,20 @@ chmod 755 "$release/bin/cesu8_cli" "$release/install.sh" "$release/examples/"*.s
 tar --create --format=ustar --sort=name --owner=0 --group=0 --numeric-owner \
     --mtime="@$seconds" -C "$scratch" "$name" |
     gzip -n -9 >"$folder/$name.tar.gz"
+
+# Makes more of the release, where the tool for it is there, by a script that prints what it has made:
+# `make_more TOOL WHAT SCRIPT`.
+make_more() {
+    local names
+    if ! command -v "$1" >/dev/null; then
+        echo "$1 is missing: $2 not built" >&2
+        return
+    fi
+    names=$(SOURCE_DATE_EPOCH=$seconds "$3" "$release" "$folder")
+    mapfile -t -O "${#made[@]}" made <<<"$names"
+}
+make_more dpkg-deb 'the Debian packages' "$top/packages.sh"
+make_more python3 'the wheel' "$top/python/wheel.py"
 
 (cd "$folder" && sha256sum "${made[@]}" >SHA256SUMS)
 printf "$folder/%s\n" "${made[@]}"

@@ -57,7 +57,7 @@ copy_tree() {
         cp -R "$top/crates/$library/out/rlib" "$1/crates/$library/out" || exit 2
     done
     cp -R "$crate/out" "$1/crates/cesu8_static" || exit 2
-    (cd "$1" && git init -q . && git add . && git -c user.name=test -c user.email=test \
+    (cd "$1" && git init -q . && git add . && git -c user.name=test -c user.email=test@example.org \
         -c commit.gpgsign=false -c core.hooksPath=/dev/null commit -q -m 'Release') || exit 2
 }
 
@@ -273,6 +273,8 @@ for tool in git cc ar nm objcopy objdump readelf strip tar gzip; do
 done
 can_build_c 'the release' || exit 0
 build_twice
+# The scripts that use more of the release take it from there.
+[[ -z ${RELEASE-} ]] || cp -R "$scratch/first" "$RELEASE" || exit 2
 
 PATH=$(path_without_kit)
 command -v rt rattle && wrong 'the kit is on the path'

@@ -73,4 +73,27 @@ if grep -rnE '(^|[^0-9.])[0-9]+\.[0-9]+\.[0-9]+' "$package"; then
     echo 'wrong: these name a version, and dist.sh gives it'
     wrong=1
 fi
+
+# The Python package, the fields of the Debian packages, and on the pages the names of these and of the
+# wheel.
+package_version=$(sed -n 's/^__version__ = "\(.*\)"$/\1/p' python/cesu8/__init__.py)
+expect python/cesu8/__init__.py version "$version" "$package_version"
+for control in crates/cesu8_static/package/debian/*.control; do
+    expect "$control" version '@VERSION@-1' "$(sed -n 's/^Version: //p' "$control")"
+    while read -r named; do
+        expect "$control" 'name of the library' 'libcesu8-@MAJOR@' "$named"
+    done < <(grep -oE 'libcesu8-[@A-Z0-9]+' "$control" | sort -u)
+done
+for page in *.md docs/*.md python/*.md; do
+    while read -r named; do
+        expect "$page" wheel "$version" "$named"
+    done < <(grep -o 'cesu8-[0-9][0-9.]*-py3' "$page" | sed 's/^cesu8-//; s/-py3$//' | sort -u)
+    while read -r named; do
+        expect "$page" package "$version-1" "$named"
+    done < <(grep -oE '(libcesu8-[a-z0-9]+|cesu8-tools)_[^_ ]+_amd64' "$page" |
+        sed 's/^[^_]*_//; s/_amd64$//' | sort -u)
+    while read -r named; do
+        expect "$page" 'package of the library' "libcesu8-${version%%.*}" "$named"
+    done < <(grep -oE 'libcesu8-[0-9]+' "$page" | sort -u)
+done
 ((wrong == 0))

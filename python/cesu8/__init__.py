@@ -1,0 +1,165 @@
+r"""CESU-8 and Modified UTF-8 (MUTF-8), as codecs, and Java strings with their length in front.
+
+Importing this package registers the codecs `cesu-8` and `mutf-8`:
+
+    >>> import cesu8
+    >>> "a\0".encode("mutf-8")
+    b'a\xc0\x80'
+    >>> b"\xED\xA0\xBD\xED\xB2\x96".decode("cesu-8")
+    '💖'
+
+`open(path, encoding="mutf-8")` and the incremental and stream classes of `codecs` know them too.
+They are strict: UTF-8 with a character of four bytes is damage, and in MUTF-8 a zero byte.
+
+Every error handler works. A decoder calls it for each byte in no encoded character, so `replace`
+gives one U+FFFD for each. An encoder calls it for each run of surrogates.
+"""
+
+from __future__ import annotations
+
+import codecs
+import operator
+from typing import Optional
+
+from . import _library
+from ._codec import CESU8, MUTF8, Data, Encoding, utf8_of
+
+__version__ = "1.0.0"
+__all__ = ["decode", "encode", "read_utf", "write_utf"]
+
+# By names as Python hands them to a search function: 'MUTF-8' comes as 'mutf_8'.
+_ENCODINGS = {"cesu_8": CESU8, "cesu8": CESU8, "mutf_8": MUTF8, "mutf8": MUTF8}
+
+_java_write = _library.call("java_write")
+_java_read = _library.call("java_read", _library.Reading)
+_java_read_lossy = _library.call("java_read_lossy", _library.Reading)
+
+
+def encode(text: str, encoding: str, errors: str = "strict") -> bytes:
+    """Encode a text to `cesu-8` or `mutf-8`, as `text.encode(encoding, errors)` does.
+
+    Raises UnicodeEncodeError for surrogates, which are in no text, and LookupError for another
+    encoding.
+    """
+    return _encoding(encoding).encode(text, errors)
+
+
+def decode(data: Data, encoding: str, errors: str = "strict", lenient: bool = False) -> str:
+    """Decode bytes of `cesu-8` or `mutf-8`, as `data.decode(encoding, errors)` does.
+
+    With `lenient`, data that is UTF-8 as a whole is decoded as UTF-8. Only other data has to be
+    of the encoding.
+
+    Raises UnicodeDecodeError for damage. Its `start` is the first byte in no encoded character.
+    Raises LookupError for another encoding.
+    """
+    return _encoding(encoding).decode(_bytes(data), errors, lenient)
+
+
+def write_utf(text: str) -> bytes:
+    """Write a text as Java's `DataOutput.writeUTF` does: the count of its bytes of MUTF-8, in two
+    bytes, and then these.
+
+    Raises OverflowError if there are more than 65,535, and UnicodeEncodeError for surrogates.
+    """
+    utf8 = utf8_of(text)
+    status, written = _library.result(_java_write, utf8, len(utf8), 2 + len(utf8))
+    if status == _library.TOO_LONG:
+        raise OverflowError("the text has more than 65,535 bytes of MUTF-8")
+    if status != _library.OK:
+        return MUTF8.encode_by_handler(text, "strict")
+    return written.tobytes()
+
+
+def read_utf(data: Data, start: int = 0, errors: str = "strict") -> tuple[str, int]:
+    """Read the string at `start` that Java's `DataOutput.writeUTF` wrote, and return its text and
+    the place behind it:
+
+        texts, place = [], 0
+        while place < len(data):
+            text, place = cesu8.read_utf(data, place)
+            texts.append(text)
+
+    Raises EOFError if the data ends within the string, UnicodeDecodeError for damage, with its
+    place in the whole data, and ValueError if `start` is not in the data.
+    """
+    start = operator.index(start)
+    # A view that an exception kept alive would forbid the caller to append to a bytearray.
+    with memoryview(data) as given, given.cast("B") as view:
+        there = len(view)
+        if not 0 <= start <= there:
+            raise ValueError(f"start is {start}, and the data has {there} bytes")
+        count = int.from_bytes(view[start : start + 2], "big")
+        end = start + 2 + count
+        string = view[start:end].tobytes()
+    function = _java_read_lossy if errors == "replace" else _java_read
+    status, utf8 = _library.result(function, string, len(string), count)
+    if status == _library.OK:
+        return str(utf8, "utf-8"), end
+    if status == _library.TRUNCATED:
+        raise EOFError(f"the string at {start} is cut: {there - start} bytes are there")
+    return MUTF8.decode_by_handler(_bytes(data), start + 2, end, end, errors)[0], end
+
+
+def _encoding(name: str) -> Encoding:
+    found = _ENCODINGS.get(name.lower().replace("-", "_").replace(" ", "_"))
+    if found is None:
+        raise LookupError(f"cesu8 has no encoding {name!r}")
+    return found
+
+
+def _bytes(data: Data) -> bytes:
+    # ctypes takes bytes alone, which nobody changes while the library reads them. A number would
+    # give as many zeros by bytes().
+    return data if isinstance(data, bytes) else memoryview(data).tobytes()
+
+
+def _codec(encoding: Encoding) -> codecs.CodecInfo:
+    """What Python's codecs registry wants to know of an encoding."""
+
+    class Codec(codecs.Codec):
+        def encode(self, input: str, errors: str = "strict") -> tuple[bytes, int]:
+            return encoding.encode(input, errors), len(input)
+
+        def decode(self, input: Data, errors: str = "strict") -> tuple[str, int]:
+            data = _bytes(input)
+            return encoding.decode(data, errors), len(data)
+
+    class IncrementalEncoder(codecs.IncrementalEncoder):
+        def encode(self, input: str, final: bool = False) -> bytes:
+            return encoding.encode(input, self.errors)
+
+    class IncrementalDecoder(codecs.BufferedIncrementalDecoder):
+        def _buffer_decode(self, input: bytes, errors: str, final: bool) -> tuple[str, int]:
+            return encoding.decode_front(input, errors, final)
+
+    class StreamWriter(Codec, codecs.StreamWriter):
+        pass
+
+    class StreamReader(Codec, codecs.StreamReader):
+        def decode(self, input: bytes, errors: str = "strict") -> tuple[str, int]:
+            # If a read brings nothing new, the stream is at its end, where a cut character is
+            # damage. Python's own readers drop it.
+            return encoding.decode_front(input, errors, final=input == self.bytebuffer)
+
+    codec = Codec()
+    return codecs.CodecInfo(
+        name=encoding.name,
+        encode=codec.encode,
+        decode=codec.decode,
+        incrementalencoder=IncrementalEncoder,
+        incrementaldecoder=IncrementalDecoder,
+        streamreader=StreamReader,
+        streamwriter=StreamWriter,
+    )
+
+
+_CODECS = {encoding.name: _codec(encoding) for encoding in (CESU8, MUTF8)}
+
+
+def _search(name: str) -> Optional[codecs.CodecInfo]:
+    encoding = _ENCODINGS.get(name)
+    return None if encoding is None else _CODECS[encoding.name]
+
+
+codecs.register(_search)

@@ -1,0 +1,110 @@
+#!/usr/bin/env python3
+"""Writes the wheel of the Python package, with the shared object of a release in it:
+
+    SOURCE_DATE_EPOCH=SECONDS wheel.py RELEASE FOLDER
+
+RELEASE is the folder that the archive of dist.sh holds. FOLDER gets the wheel, and its name is
+printed. Two runs give the same bytes, with the same Python: names are sorted, and times are
+SOURCE_DATE_EPOCH. It needs Python 3.9 or later, and nothing beside.
+"""
+
+import base64
+import hashlib
+import os
+import re
+import sys
+import time
+import zipfile
+from pathlib import Path
+
+SOURCES = Path(__file__).resolve().parent
+# The tag has no manylinux, which promises that any x86-64 will do.
+TAG = "py3-none-linux_x86_64"
+
+WHEEL = f"""\
+Wheel-Version: 1.0
+Generator: wheel.py
+Root-Is-Purelib: false
+Tag: {TAG}
+"""
+
+METADATA = """\
+Metadata-Version: 2.4
+Name: cesu8
+Version: {version}
+Summary: CESU-8 and Modified UTF-8 (MUTF-8), as codecs, and Java strings
+License-Expression: (Apache-2.0 OR MIT) AND MIT
+{licences}
+Classifier: Private :: Do Not Upload
+Classifier: Operating System :: POSIX :: Linux
+Classifier: Programming Language :: Python :: 3
+Classifier: Typing :: Typed
+Requires-Python: >=3.9
+Description-Content-Type: text/markdown
+
+{description}"""
+
+
+def licences(release: Path) -> dict[str, bytes]:
+    return {path.name: path.read_bytes() for path in release.glob("LICENSE-*")}
+
+
+def package(release: Path) -> dict[str, bytes]:
+    """The files of the package, by their names in the wheel."""
+    (shared,) = (release / "lib").glob("libcesu8.so.*")
+    files = {"cesu8/libcesu8.so": shared.read_bytes()}
+    files["cesu8/BUILT-FROM"] = (release / "BUILT-FROM").read_bytes()
+    for path in (SOURCES / "cesu8").iterdir():
+        if path.suffix == ".py" or path.name == "py.typed":
+            files[f"cesu8/{path.name}"] = path.read_bytes()
+    return files
+
+
+def metadata(version: str, names: list[str]) -> bytes:
+    return METADATA.format(
+        version=version,
+        licences="\n".join(f"License-File: {name}" for name in names),
+        description=(SOURCES / "README.md").read_text(encoding="utf-8"),
+    ).encode()
+
+
+def record(files: dict[str, bytes], name: str) -> bytes:
+    """The list of all files with their sums. It has none of its own."""
+    lines = []
+    for path, content in sorted(files.items()):
+        digest = base64.urlsafe_b64encode(hashlib.sha256(content).digest()).rstrip(b"=")
+        lines.append(f"{path},sha256={digest.decode()},{len(content)}\n")
+    return "".join([*lines, f"{name},,\n"]).encode()
+
+
+def write(path: Path, files: dict[str, bytes], seconds: int) -> None:
+    date = time.gmtime(seconds)[:6]
+    with zipfile.ZipFile(path, "w") as wheel:
+        for name, content in sorted(files.items()):
+            entry = zipfile.ZipInfo(name, date)
+            entry.create_system = 3  # Unix
+            entry.external_attr = 0o100644 << 16
+            entry.compress_type = zipfile.ZIP_DEFLATED
+            wheel.writestr(entry, content)
+
+
+def main() -> None:
+    if len(sys.argv) != 3 or not os.environ.get("SOURCE_DATE_EPOCH"):
+        sys.exit("usage: SOURCE_DATE_EPOCH=SECONDS wheel.py RELEASE FOLDER")
+    release, folder = Path(sys.argv[1]), Path(sys.argv[2])
+    built_from = (release / "BUILT-FROM").read_text(encoding="utf-8")
+    version = re.match(r"cesu8 (\S+)\n", built_from)[1]
+    information = f"cesu8-{version}.dist-info"
+    files = package(release)
+    given = licences(release)
+    for name, content in given.items():
+        files[f"{information}/licenses/{name}"] = content
+    files[f"{information}/METADATA"] = metadata(version, sorted(given))
+    files[f"{information}/WHEEL"] = WHEEL.encode()
+    files[f"{information}/RECORD"] = record(files, f"{information}/RECORD")
+    path = folder / f"cesu8-{version}-{TAG}.whl"
+    write(path, files, int(os.environ["SOURCE_DATE_EPOCH"]))
+    print(path.name)
+
+
+main()

@@ -1,0 +1,335 @@
+#!/usr/bin/env bash
+# Looks at the Debian packages of the release by dpkg-deb, installs them in an empty root by dpkg, and
+# uses them there: it links the example in C with the static library and with the shared object, by the
+# compiler, by pkg-config and by CMake, and runs the program. Then it removes them.
+#
+# It also checks that packages.sh builds the same bytes again; that no file is in two packages; the
+# sums, owners, modes and times; and the symbols and the C library that are needed, against the files
+# themselves and what dpkg-gensymbols and dpkg-shlibdeps find. `lintian` may name no error.
+#
+# RELEASE names the folder that dist.sh has filled; where it is not set, dist.sh is run. Without
+# dpkg-deb it says that it skipped everything, and which other tool is missing. The status is 0 if
+# nothing is wrong. It needs what tests/release.sh does.
+set -u
+unset CDPATH
+export LC_ALL=C
+umask 022
+
+top=$(cd "$(dirname "${BASH_SOURCE[0]}")/.." && pwd) || exit 2
+crate=$top/crates/cesu8_static
+scratch=$(mktemp -d) || exit 2
+trap 'rm -rf "$scratch"' EXIT
+# shellcheck source=tests/compilers.sh
+source "$top/tests/compilers.sh" || exit 2
+# shellcheck source=tests/release.sh
+source "$top/tests/release.sh" || exit 2
+
+debian=$version-1
+names=("libcesu8-$major" libcesu8-dev cesu8-tools)
+root=$scratch/root
+libdir=usr/lib/x86_64-linux-gnu
+shared=$libdir/libcesu8.so.$major
+
+# The file of a package: `file_of NAME`.
+file_of() {
+    echo "$release/$1_${debian}_amd64.deb"
+}
+
+# Compares a field with what it has to be: `expect_field NAME FIELD WANTED`.
+expect_field() {
+    local found
+    found=$(dpkg-deb --field "$(file_of "$1")" "$2")
+    [[ $found == "$3" ]] || wrong "$1 has $2 '$found', and not '$3'"
+}
+
+# The newest version of the C library that a file names: `c_library FILE`.
+c_library() {
+    readelf --dyn-syms --wide "$1" | grep -o '@GLIBC_[0-9.]*' | sort -Vu | tail -n 1 |
+        sed 's/^@GLIBC_//'
+}
+
+look_at_fields() {
+    local name library=${names[0]} unpacked_name
+    for name in "${names[@]}"; do
+        expect_field "$name" Package "$name"
+        expect_field "$name" Source cesu8
+        expect_field "$name" Version "$debian"
+        expect_field "$name" Architecture amd64
+        [[ $(dpkg-deb --field "$(file_of "$name")" Maintainer) =~ ^[^\<\>]+\ \<[^\<\>\ ]+@[^\<\>\ ]+\>$ ]] ||
+            wrong "$name has no maintainer with an address"
+        [[ $(dpkg-deb --field "$(file_of "$name")" Description | wc -l) -gt 3 ]] ||
+            wrong "$name has a short description alone"
+        dpkg-deb --field "$(file_of "$name")" Description | grep -q x86-64-v2 ||
+            wrong "the description of $name does not name the level of the processor"
+        unpacked_name=$scratch/$name
+        dpkg-deb --raw-extract "$(file_of "$name")" "$unpacked_name" || wrong "$name can't be unpacked"
+    done
+    expect_field "$library" Multi-Arch same
+    expect_field libcesu8-dev Multi-Arch same
+    expect_field cesu8-tools Multi-Arch foreign
+    expect_field "$library" Section libs
+    expect_field libcesu8-dev Section libdevel
+    expect_field libcesu8-dev Depends "$library (= $debian)"
+    expect_field "$library" Depends "libc6 (>= $(c_library "$scratch/$library/$shared"))"
+    expect_field cesu8-tools Depends "libc6 (>= $(c_library "$scratch/cesu8-tools/usr/bin/cesu8_cli"))"
+}
+
+# The files and links of a package: `files_of NAME`.
+files_of() {
+    (cd "$scratch/$1" && find . -path ./DEBIAN -prune -o -not -type d -printf '%P\n' | sort)
+}
+
+# The wanted files of a package, beside those of the release that are read from it: `wanted_files NAME`.
+wanted_files() {
+    local doc=usr/share/doc/$1 file
+    printf '%s\n' "$doc"/{BUILT-FROM,SECURITY.md,changelog.Debian.gz,changelog.gz,copyright}
+    case $1 in
+        libcesu8-dev)
+            printf '%s\n' usr/include/cesu8.h "$libdir"/libcesu8.{a,so} "$libdir/pkgconfig/cesu8.pc" \
+                "$libdir"/cmake/cesu8/cesu8-config{,-version}.cmake "$doc/C.md"
+            for file in "$unpacked"/examples/*; do echo "$doc/examples/${file##*/}"; done
+            ;;
+        cesu8-tools)
+            printf '%s\n' usr/bin/cesu8_cli usr/share/man/man1/cesu8_cli.1.gz \
+                usr/share/bash-completion/completions/cesu8_cli "$doc/PROGRAM.md"
+            ;;
+        *) echo "$shared" ;;
+    esac | sort
+}
+
+look_at_files() {
+    local name
+    for name in "${names[@]}"; do
+        diff <(wanted_files "$name" | sort) <(files_of "$name") || wrong "$name has other files"
+        (cd "$scratch/$name" && quietly md5sum --strict --check DEBIAN/md5sums) ||
+            wrong "the sums of $name do not fit"
+        diff <(cd "$scratch/$name" && find . -path ./DEBIAN -prune -o -type f -printf '%P\n' | sort) \
+            <(sed 's/^[^ ]*  //' "$scratch/$name/DEBIAN/md5sums") || wrong "$name has other sums"
+        # The owner, the mode and the time of each.
+        dpkg-deb --contents "$(file_of "$name")" |
+            awk -v time="$(date -u -d "@$seconds" '+%F %R')" '
+                { mode = $1 == "drwxr-xr-x" || $1 == "-rw-r--r--" || $1 == "lrwxrwxrwx" }
+                $6 == "./usr/bin/cesu8_cli" { mode = $1 == "-rwxr-xr-x" }
+                !mode || $2 != "root/root" || $4 " " $5 != time { print; found = 1 }
+                END { exit found }' || wrong "$name has another owner, mode or time"
+        gzip -dc "$scratch/$name/usr/share/doc/$name/changelog.Debian.gz" |
+            sed -n 1p | grep -qxF "cesu8 ($debian) unstable; urgency=medium" ||
+            wrong "the changes of $name begin with another version"
+        cmp <(gzip -dc "$scratch/$name/usr/share/doc/$name/changelog.gz") "$unpacked/CHANGELOG.md" ||
+            wrong "$name has other changes"
+        grep -q 'Permission is hereby granted' "$scratch/$name/usr/share/doc/$name/copyright" ||
+            wrong "$name has no licence"
+        grep -rIlF -e "$top/" -e "$scratch/" "$scratch/$name" && wrong 'these name a folder of this machine'
+    done
+    [[ $(readlink "$scratch/libcesu8-dev/$libdir/libcesu8.so") == "libcesu8.so.$major" ]] ||
+        wrong 'the link for development leads elsewhere'
+    grep -qx 'prefix=/usr' "$scratch/libcesu8-dev/$libdir/pkgconfig/cesu8.pc" ||
+        wrong 'the prefix for pkg-config is not /usr'
+    for name in "bin/cesu8_cli cesu8-tools/usr/bin/cesu8_cli" "lib/libcesu8.a libcesu8-dev/$libdir/libcesu8.a" \
+        "lib/libcesu8.so.$major ${names[0]}/$shared" "include/cesu8.h libcesu8-dev/usr/include/cesu8.h"; do
+        cmp "$unpacked/${name% *}" "$scratch/${name#* }" || wrong "${name% *} is another file in its package"
+    done
+}
+
+look_at_library() {
+    local library=${names[0]} control=$scratch/${names[0]}/DEBIAN dynamic
+    diff <(printf '%s\n' control md5sums shlibs symbols triggers) <(cd "$control" && printf '%s\n' *) ||
+        wrong "$library has other control files"
+    [[ $(<"$control/shlibs") == "libcesu8 $major $library (>= $version)" ]] ||
+        wrong 'shlibs says something else'
+    [[ $(<"$control/triggers") == 'activate-noawait ldconfig' ]] || wrong 'triggers says something else'
+    # The version map is where the nodes come from.
+    awk '
+        $2 == "{" { node = $1; print " " node "@" node, substr(node, 7) ".0" }
+        /^ +cesu8_[a-z0-9_]+;$/ {
+            gsub(/[ ;]/, "")
+            print " " $0 "@" node, substr(node, 7) ".0"
+        }' "$crate/package/cesu8.map" | sort |
+        diff <(printf '%s\n' "libcesu8.so.$major $library" '* Build-Depends-Package: libcesu8-dev' &&
+            cat) "$control/symbols" || wrong 'the symbols differ from the version map'
+    dynamic=$(readelf --dynamic --wide "$scratch/$library/$shared")
+    grep -q "SONAME.*\[libcesu8.so.$major\]" <<<"$dynamic" || wrong 'the shared object has another name'
+    grep -q 'BIND_NOW' <<<"$dynamic" || wrong 'the shared object is not bound at once'
+    grep NEEDED <<<"$dynamic" | grep -v '\[libc.so.6\]' && wrong 'the shared object needs more than libc'
+    readelf --sections --wide "$scratch/$library/$shared" | grep -qE '\.(symtab|debug_)' &&
+        wrong 'the shared object is not stripped'
+}
+
+build_again() {
+    local again=$scratch/again name maintainer
+    mkdir "$again" && cp -R "$unpacked" "$scratch/moved" || exit 2
+    maintainer=$(dpkg-deb --field "$(file_of cesu8-tools)" Maintainer)
+    maintainer=${maintainer%>}
+    (
+        umask 077
+        DEBFULLNAME=${maintainer% <*} DEBEMAIL=${maintainer##*<} SOURCE_DATE_EPOCH=$seconds \
+            quietly bash "$top/packages.sh" "$scratch/moved" "$again"
+    ) || wrong 'packages.sh fails'
+    for name in "${names[@]}"; do
+        cmp "$(file_of "$name")" "$again/${name}_${debian}_amd64.deb" ||
+            wrong "packages.sh builds another $name in a second run"
+    done
+}
+
+# What Debian's own tools find, in a folder with the little of a source package that they read.
+compare_with_tools() {
+    local folder=$scratch/source library=${names[0]}
+    mkdir -p "$folder/debian" || exit 2
+    printf 'Source: cesu8\n\nPackage: %s\nArchitecture: amd64\n' "$library" >"$folder/debian/control"
+    if command -v dpkg-gensymbols >/dev/null; then
+        (cd "$folder" && dpkg-gensymbols -q -p"$library" -P"$scratch/$library" -v"$version" \
+            -e"$scratch/$library/$shared" -O 2>/dev/null) |
+            sed "s/^\(.*\) #MINVER#$/\1/" |
+            diff - <(grep -v '^\*' "$scratch/$library/DEBIAN/symbols") ||
+            wrong 'dpkg-gensymbols finds other symbols'
+    else
+        echo 'dpkg-gensymbols is missing: its symbols skipped'
+    fi
+    if command -v dpkg-shlibdeps >/dev/null && dpkg-query --search libc.so.6 >/dev/null 2>&1; then
+        for name in "$library $shared" "cesu8-tools usr/bin/cesu8_cli"; do
+            (cd "$folder" && dpkg-shlibdeps -O "$scratch/${name/ //}" 2>/dev/null) |
+                grep -qx "shlibs:Depends=$(dpkg-deb --field "$(file_of "${name% *}")" Depends)" ||
+                wrong "dpkg-shlibdeps finds that ${name% *} depends on others"
+        done
+    else
+        echo 'dpkg-shlibdeps is missing: what it finds skipped'
+    fi
+}
+
+# Runs dpkg on a root of its own, where only the C library of this machine is known: `on_root ARGUMENT..`.
+on_root() {
+    PATH=$PATH:/usr/sbin:/sbin quietly dpkg --root="$root" --force-not-root --log=/dev/null "$@"
+}
+
+install_packages() {
+    mkdir -p "$root"/var/lib/dpkg/{info,updates,triggers} || exit 2
+    cat >"$root/var/lib/dpkg/status" <<STATUS
+Package: libc6
+Status: install ok installed
+Maintainer: nobody
+Architecture: amd64
+Multi-Arch: same
+Version: $(getconf GNU_LIBC_VERSION | sed 's/.* //')
+Description: the C library of this machine
+
+STATUS
+    on_root --install "$(file_of libcesu8-dev)" "$(file_of cesu8-tools)" "$(file_of "${names[0]}")" ||
+        wrong 'dpkg does not install the packages'
+}
+
+remove_packages() {
+    on_root --purge "${names[@]}" || wrong 'dpkg does not remove the packages'
+    find "$root" -path '*cesu8*' -not -path '*/dpkg/*' | grep . && wrong 'these are left'
+}
+
+# Runs a built example, and compares what it prints: `example FILE WHAT`.
+example() {
+    if LD_LIBRARY_PATH=$root/$libdir "$1" 2>&1 | diff - "$crate/examples/keys.stdout"; then
+        echo "$2 was built and run"
+    else
+        wrong "$2 prints other than examples/keys.stdout"
+    fi
+}
+
+# Builds keys.c with these arguments: `in_c WHAT ARGUMENT..`.
+in_c() {
+    local what=$1
+    shift
+    if quietly cc -std=c11 -Wall -Wextra -Werror -o "$scratch/example" "$crate/examples/keys.c" "$@"; then
+        example "$scratch/example" "$what"
+    else
+        wrong "$what does not build"
+    fi
+}
+
+# Whether the built example needs the shared object.
+is_shared() {
+    readelf --dynamic --wide "$scratch/example" | grep -q "NEEDED.*\[libcesu8.so.$major\]"
+}
+
+by_pkg_config() {
+    local flags
+    export PKG_CONFIG_SYSROOT_DIR=$root PKG_CONFIG_LIBDIR=$root/$libdir/pkgconfig
+    [[ $(pkg-config --modversion cesu8) == "$version" ]] || wrong 'pkg-config has another version'
+    # The compiler knows the folders of the system, so pkg-config leaves them out.
+    export PKG_CONFIG_ALLOW_SYSTEM_CFLAGS=1 PKG_CONFIG_ALLOW_SYSTEM_LIBS=1
+    read -r -a flags < <(pkg-config --cflags --libs cesu8)
+    in_c 'keys.c by pkg-config' "${flags[@]}"
+    is_shared || wrong 'pkg-config does not link the shared object'
+}
+
+by_cmake() {
+    local folder=$scratch/cmake
+    mkdir "$folder" && cp "$crate/examples/keys.c" "$folder" || exit 2
+    cat >"$folder/CMakeLists.txt" <<CMAKE
+cmake_minimum_required(VERSION 3.13)
+project(keys C)
+find_package(cesu8 $version REQUIRED)
+add_executable(by_archive keys.c)
+target_link_libraries(by_archive PRIVATE cesu8::cesu8)
+add_executable(by_shared keys.c)
+target_link_libraries(by_shared PRIVATE cesu8::shared)
+CMAKE
+    if ! quietly cmake -S "$folder" -B "$folder/build" -DCMAKE_PREFIX_PATH="$root/usr" ||
+        ! quietly cmake --build "$folder/build"; then
+        wrong 'keys.c does not build by CMake'
+        return
+    fi
+    example "$folder/build/by_archive" 'keys.c by CMake'
+    example "$folder/build/by_shared" 'keys.c by CMake, with the shared object,'
+}
+
+run_program() {
+    if [[ $(printf 'a\0' | "$root/usr/bin/cesu8_cli" encode mutf8 | od -An -tx1) == ' 61 c0 80' ]]; then
+        echo 'the program was run'
+    else
+        wrong 'the program writes something else'
+    fi
+}
+
+use_packages() {
+    in_c 'keys.c with the static library' -I "$root/usr/include" "$root/$libdir/libcesu8.a"
+    is_shared && wrong 'the static library is not linked'
+    in_c 'keys.c with the shared object' -I "$root/usr/include" -L "$root/$libdir" -lcesu8
+    is_shared || wrong 'the shared object is not linked'
+    if can_build 'keys.c by pkg-config' pkg-config --version; then
+        by_pkg_config
+    fi
+    mkdir "$scratch/probe_cmake" && echo 'project(probe C)' >"$scratch/probe_cmake/CMakeLists.txt" || exit 2
+    if can_build 'keys.c by CMake' cmake -S "$scratch/probe_cmake" -B "$scratch/probe_cmake/build"; then
+        by_cmake
+    fi
+    run_program
+}
+
+look_by_lintian() {
+    local name files=()
+    if ! command -v lintian >/dev/null; then
+        echo 'lintian is missing: its look at the packages skipped'
+        return
+    fi
+    for name in "${names[@]}"; do files+=("$(file_of "$name")"); done
+    quietly lintian --allow-root --fail-on error "${files[@]}" || wrong 'lintian finds errors'
+}
+
+for tool in dpkg-deb dpkg readelf; do
+    if ! command -v "$tool" >/dev/null; then
+        echo "$tool is missing: the Debian packages skipped"
+        exit 0
+    fi
+done
+find_release 'the Debian packages' || exit 0
+for name in "${names[@]}"; do
+    [[ -f $(file_of "$name") ]] || wrong "the release has no package $name"
+done
+((wrong == 0)) || exit 1
+look_at_fields
+look_at_files
+look_at_library
+build_again
+compare_with_tools
+install_packages
+use_packages
+remove_packages
+look_by_lintian
+((wrong == 0))

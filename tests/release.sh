@@ -1,0 +1,31 @@
+# The release, for the scripts that use what dist.sh makes. A script sources this file after
+# tests/compilers.sh, and sets `top` before, the repository's folder, and `scratch`.
+# shellcheck shell=bash disable=SC2034,SC2154
+
+version=$(<"$top/VERSION")
+major=${version%%.*}
+name=cesu8-$version-x86_64-linux
+
+# Sets `release`, the folder that dist.sh has filled, `unpacked`, the folder that its archive holds,
+# and `seconds`, when its commit was made. Where RELEASE names no such folder it runs dist.sh. If a
+# tool that this needs is missing, WHAT is skipped: `find_release WHAT`.
+find_release() {
+    local tool
+    release=${RELEASE-}
+    if [[ -z $release ]]; then
+        for tool in git cc ar nm objcopy objdump tar gzip; do
+            if ! command -v "$tool" >/dev/null; then
+                echo "$tool is missing: $1 skipped"
+                return 1
+            fi
+        done
+        can_build_c "$1" || return 1
+        # shellcheck source=tests/kit.sh
+        source "$top/tests/kit.sh"
+        release=$scratch/release
+        quietly bash "$top/dist.sh" "$release" || exit 1
+    fi
+    mkdir "$scratch/unpacked" && tar xzf "$release/$name.tar.gz" -C "$scratch/unpacked" || exit 2
+    unpacked=$scratch/unpacked/$name
+    seconds=$(stat -c %Y "$unpacked/BUILT-FROM") || exit 2
+}

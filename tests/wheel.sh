@@ -1,0 +1,119 @@
+#!/usr/bin/env bash
+# Installs the wheel of the release into a fresh environment, and tests it there by the files of
+# tests/wheel: on the standards' tables, all inputs of two bytes and all scalar values beside a plain
+# model, every error handler, every split of damaged bytes, files and streams, and Java's own bytes.
+# It also checks what the wheel holds, and that wheel.py writes the same bytes again.
+#
+# RELEASE names the folder that dist.sh has filled; where it is not set, dist.sh is run. Without
+# python3 with ctypes and venv, it says that it skipped everything, without Java what it skipped. The
+# status is 0 if nothing is wrong. It needs what tests/release.sh does.
+set -u
+unset CDPATH "${!PYTHON@}"
+export LC_ALL=C
+
+top=$(cd "$(dirname "${BASH_SOURCE[0]}")/.." && pwd) || exit 2
+scratch=$(mktemp -d) || exit 2
+trap 'rm -rf "$scratch"' EXIT
+# shellcheck source=tests/compilers.sh
+source "$top/tests/compilers.sh" || exit 2
+# shellcheck source=tests/release.sh
+source "$top/tests/release.sh" || exit 2
+
+# What the wheel holds, and a second run of wheel.py, with another folder and umask.
+look_at_wheel() {
+    local again=$scratch/again
+    python3 - "$wheel" <<'PYTHON' || wrong 'the wheel holds something else'
+import base64
+import csv
+import hashlib
+import io
+import re
+import sys
+import zipfile
+
+with zipfile.ZipFile(sys.argv[1]) as wheel:
+    entries = wheel.infolist()
+    names = [entry.filename for entry in entries]
+    contents = {name: wheel.read(name) for name in names}
+folder = re.match(r"(cesu8-[0-9.]+\.dist-info)/", names[0])[1]
+licences = ["APACHE", "MIT", "percent_encoding", "simdutf8"]
+wanted = [f"{folder}/{name}" for name in ("METADATA", "RECORD", "WHEEL")]
+wanted += [f"{folder}/licenses/LICENSE-{name}" for name in licences]
+package = ["BUILT-FROM", "__init__.py", "_codec.py", "_library.py", "libcesu8.so", "py.typed"]
+wanted += [f"cesu8/{name}" for name in package]
+assert names == wanted, names
+assert len({entry.date_time for entry in entries}) == 1
+assert all(entry.external_attr >> 16 == 0o100644 for entry in entries)
+for name, digest, length in csv.reader(io.StringIO(contents[f"{folder}/RECORD"].decode())):
+    if not name.endswith("/RECORD"):
+        content = contents.pop(name)
+        found = base64.urlsafe_b64encode(hashlib.sha256(content).digest()).decode().rstrip("=")
+        assert (digest, length) == (f"sha256={found}", str(len(content))), name
+assert list(contents) == [f"{folder}/RECORD"]
+PYTHON
+    mkdir "$again" || exit 2
+    (
+        umask 077
+        cp -R "$unpacked" "$scratch/moved" &&
+            SOURCE_DATE_EPOCH=$seconds quietly python3 "$top/python/wheel.py" "$scratch/moved" "$again"
+    ) || wrong 'wheel.py fails'
+    cmp "$wheel" "$again/${wheel##*/}" || wrong 'wheel.py writes other bytes in a second run'
+}
+
+# A fresh environment with the wheel, without a network.
+install_wheel() {
+    python=$scratch/environment/bin/python
+    if python3 -c 'import ensurepip' 2>/dev/null; then
+        quietly python3 -m venv "$scratch/environment" &&
+            quietly "$python" -m pip install --no-index --no-deps --no-cache-dir "$wheel"
+    else
+        echo 'ensurepip is missing: the wheel is unpacked by zipfile'
+        quietly python3 -m venv --without-pip "$scratch/environment" &&
+            quietly python3 -m zipfile -e "$wheel" \
+                "$("$python" -c 'import sysconfig; print(sysconfig.get_path("purelib"))')"
+    fi || { wrong 'the wheel is not installed'; exit 1; }
+}
+
+run_java() {
+    if ! command -v java >/dev/null || ! command -v javac >/dev/null; then
+        echo "java or javac is missing: Java's own bytes skipped"
+        return
+    fi
+    if ! quietly java -version; then
+        echo "java cannot run: Java's own bytes skipped"
+        return
+    fi
+    mkdir "$scratch/java" || exit 2
+    if quietly javac -d "$scratch/classes" "$top/tests/wheel/Strings.java" &&
+        quietly java -cp "$scratch/classes" Strings "$scratch/java"; then
+        export JAVA_STRINGS=$scratch/java
+    else
+        wrong 'Strings.java does not run'
+    fi
+}
+
+if ! python3 -c 'import ctypes, venv, sys; sys.exit(sys.version_info < (3, 9))' 2>/dev/null; then
+    echo 'python3 3.9 with ctypes and venv is missing: the wheel skipped'
+    exit 0
+fi
+find_release 'the wheel' || exit 0
+wheel=$release/cesu8-$version-py3-none-linux_x86_64.whl
+if [[ ! -f $wheel ]]; then
+    wrong "the release has no ${wheel##*/}"
+    exit 1
+fi
+look_at_wheel
+install_wheel
+run_java
+# Isolated, python sees the folders of the tests alone by what they say.
+if ! (cd "$scratch" && CESU8_VERSION=$version "$python" -I -B -W error - "$top/tests/wheel" <<'PYTHON'); then
+import sys
+import unittest
+
+suite = unittest.defaultTestLoader.discover(sys.argv[1])
+result = unittest.TextTestRunner(stream=sys.stdout, verbosity=1).run(suite)
+sys.exit(not result.wasSuccessful() or result.testsRun < 50)
+PYTHON
+    wrong 'the tests of the wheel'
+fi
+((wrong == 0))

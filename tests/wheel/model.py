@@ -1,0 +1,93 @@
+"""A plain encoder and decoder, from the words of the standards, to compare the package with.
+
+Unicode Technical Report 26 encodes each UTF-16 code unit by itself, and Java's DataInput does so
+too, but for U+0000. The decoder asks at each place whether the encoding of a scalar value stands
+there, and takes one byte as damage where none does.
+"""
+
+from __future__ import annotations
+
+import functools
+
+ENCODINGS = ("cesu-8", "mutf-8")
+REPLACEMENT = "\ufffd"
+
+
+def units(scalar: int) -> list[int]:
+    if scalar < 0x10000:
+        return [scalar]
+    return [0xD800 + (scalar - 0x10000) // 0x400, 0xDC00 + (scalar - 0x10000) % 0x400]
+
+
+def unit_bytes(unit: int, encoding: str) -> list[int]:
+    if encoding == "mutf-8" and unit == 0:
+        return [0xC0, 0x80]
+    if unit < 0x80:
+        return [unit]
+    if unit < 0x800:
+        return [0xC0 + unit // 0x40, 0x80 + unit % 0x40]
+    return [0xE0 + unit // 0x1000, 0x80 + unit // 0x40 % 0x40, 0x80 + unit % 0x40]
+
+
+def encoded(text: str, encoding: str) -> bytes:
+    return bytes(
+        byte
+        for character in text
+        for unit in units(ord(character))
+        for byte in unit_bytes(unit, encoding)
+    )
+
+
+def candidates(data: bytes, place: int) -> list[int]:
+    """The numbers that one, two, three and six bytes can stand for, by their lower bits."""
+    bits = [byte % 0x40 for byte in data[place : place + 6]]
+    found = [data[place]]
+    if len(bits) >= 2:
+        found.append(data[place] % 0x20 * 0x40 + bits[1])
+    if len(bits) >= 3:
+        found.append(data[place] % 0x10 * 0x1000 + bits[1] * 0x40 + bits[2])
+    if len(bits) == 6:
+        high = bits[1] % 0x10 * 0x40 + bits[2]
+        found.append(0x10000 + high * 0x400 + bits[4] % 0x10 * 0x40 + bits[5])
+    return found
+
+
+def character_at(data: bytes, place: int, encoding: str) -> str | None:
+    for number in candidates(data, place):
+        if number < 0xD800 or 0xE000 <= number <= 0x10FFFF:
+            if data.startswith(encoded(chr(number), encoding), place):
+                return chr(number)
+    return None
+
+
+@functools.lru_cache(maxsize=None)
+def parts(data: bytes, encoding: str) -> tuple[tuple[str | None, int], ...]:
+    """What stands in the bytes, in turn, with its place: a character, or None for a damaged
+    byte."""
+    found = []
+    place = 0
+    while place < len(data):
+        character = character_at(data, place, encoding)
+        found.append((character, place))
+        place += 1 if character is None else len(encoded(character, encoding))
+    return tuple(found)
+
+
+def lossy(data: bytes, encoding: str) -> str:
+    return "".join(character or REPLACEMENT for character, _ in parts(data, encoding))
+
+
+def damaged(data: bytes, encoding: str) -> list[int]:
+    """The places of all damaged bytes."""
+    return [place for character, place in parts(data, encoding) if character is None]
+
+
+def fronts(encoding: str) -> set[bytes]:
+    """The encoded characters without their last byte, or more."""
+    # The last byte of two and more has 64 values in turn, so each 64th character has all fronts.
+    found = set()
+    for scalar in range(0, 0x110000, 64):
+        if not 0xD800 <= scalar < 0xE000:
+            character = encoded(chr(scalar), encoding)
+            found.update(character[:count] for count in range(1, len(character)))
+    return found

@@ -1,0 +1,235 @@
+"""The functions of the package."""
+
+from __future__ import annotations
+
+import array
+import mmap
+import threading
+import unittest
+
+import cesu8
+import model
+import tables
+
+PAIR = bytes.fromhex(tables.PAIR)
+
+
+class Tables(unittest.TestCase):
+    def test_borders(self) -> None:
+        for scalar, utf8, *encodings in tables.BORDERS:
+            text = chr(scalar)
+            self.assertEqual(text.encode(), bytes.fromhex(utf8))
+            for encoding, encoded in zip(model.ENCODINGS, map(bytes.fromhex, encodings)):
+                with self.subTest(scalar=hex(scalar), encoding=encoding):
+                    self.assertEqual(cesu8.encode(text, encoding), encoded)
+                    self.assertEqual(cesu8.decode(encoded, encoding), text)
+                    self.assertEqual(model.encoded(text, encoding), encoded)
+
+    def test_pattern(self) -> None:
+        text, _, *encodings = tables.PATTERN
+        for encoding, encoded in zip(model.ENCODINGS, map(bytes.fromhex, encodings)):
+            for count in (0, 1, 819):
+                self.assertEqual(cesu8.encode(count * text, encoding), count * encoded)
+                self.assertEqual(cesu8.decode(count * encoded, encoding), count * text)
+
+    def test_damage(self) -> None:
+        for row, *readings in tables.DAMAGE:
+            data = bytes.fromhex(row)
+            for encoding, reading in zip(model.ENCODINGS, readings):
+                with self.subTest(row=row, encoding=encoding):
+                    self.assertEqual(model.lossy(data, encoding), reading)
+                    self.assertEqual(cesu8.decode(data, encoding, "replace"), reading)
+                    self.assert_strict(data, encoding)
+
+    def test_cut_pairs(self) -> None:
+        for encoding in model.ENCODINGS:
+            for count in range(1, 6):
+                for cut in (PAIR[:count], PAIR[-count:]):
+                    lossy = count * tables.R
+                    self.assertEqual(cesu8.decode(cut, encoding, "replace"), lossy)
+                    self.assertEqual(cesu8.decode(cut, encoding, "replace", True), lossy)
+                    self.assert_strict(cut, encoding)
+                    with self.assertRaises(UnicodeDecodeError):
+                        cesu8.decode(cut, encoding, lenient=True)
+
+    def test_lenient(self) -> None:
+        for row, *readings in tables.LENIENT:
+            data = bytes.fromhex(row)
+            for encoding, strict, lossy in zip(model.ENCODINGS, readings[::2], readings[1::2]):
+                with self.subTest(row=row, encoding=encoding):
+                    found = cesu8.decode(data, encoding, "replace", lenient=True)
+                    self.assertEqual(found, lossy)
+                    if strict is None:
+                        with self.assertRaises(UnicodeDecodeError):
+                            cesu8.decode(data, encoding, lenient=True)
+                    else:
+                        self.assertEqual(cesu8.decode(data, encoding, lenient=True), strict)
+
+    def test_all_of_two_bytes(self) -> None:
+        accepted = dict.fromkeys(model.ENCODINGS, 0)
+        for encoding in model.ENCODINGS:
+            for number in range(0x10000):
+                data = number.to_bytes(2, "big")
+                reading = model.lossy(data, encoding)
+                if cesu8.decode(data, encoding, "replace") != reading:
+                    self.fail(f"{encoding} of {data.hex()} is {reading!r}")
+                accepted[encoding] += self.assert_strict(data, encoding)
+        # 128 or 127 of one byte, twice, 30 * 64 of two bytes, and the two bytes of U+0000.
+        self.assertEqual(accepted, {"cesu-8": 18304, "mutf-8": 18050})
+
+    def test_all_scalar_values(self) -> None:
+        for encoding in model.ENCODINGS:
+            for first in range(0, 0x110000, 0x800):
+                if first == 0xD800:
+                    continue
+                text = "".join(map(chr, range(first, first + 0x800)))
+                encoded = cesu8.encode(text, encoding)
+                self.assertEqual(encoded, model.encoded(text, encoding))
+                self.assertEqual(cesu8.decode(encoded, encoding), text)
+
+    def assert_strict(self, data: bytes, encoding: str) -> bool:
+        """Compares strict decoding with the model, and returns whether it accepts."""
+        places = model.damaged(data, encoding)
+        if not places:
+            self.assertEqual(cesu8.decode(data, encoding), model.lossy(data, encoding))
+            return True
+        with self.assertRaises(UnicodeDecodeError) as caught:
+            cesu8.decode(data, encoding)
+        error = caught.exception
+        self.assertEqual((error.encoding, error.object), (encoding, data))
+        self.assertEqual((error.start, error.end), (places[0], places[0] + 1))
+        return False
+
+
+class JavaStrings(unittest.TestCase):
+    def test_table(self) -> None:
+        for text, row in tables.JAVA:
+            written = bytes.fromhex(row)
+            self.assertEqual(cesu8.write_utf(text), written)
+            self.assertEqual(cesu8.read_utf(written), (text, len(written)))
+            around = b"\0\x01\xff" + written + b"rest"
+            self.assertEqual(cesu8.read_utf(around, 3), (text, 3 + len(written)))
+
+    def test_longest(self) -> None:
+        longest = 32767 * "\0" + "a"
+        written = cesu8.write_utf(longest)
+        self.assertEqual(written, b"\xff\xff" + 32767 * b"\xc0\x80" + b"a")
+        self.assertEqual(cesu8.read_utf(written), (longest, 65537))
+        for text in (32768 * "\0", 65536 * "a", 10923 * "\U00010000"):
+            with self.assertRaises(OverflowError):
+                cesu8.write_utf(text)
+
+    def test_surrogates(self) -> None:
+        with self.assertRaises(UnicodeEncodeError) as caught:
+            cesu8.write_utf("ab\ud83d\udc96c")
+        error = caught.exception
+        self.assertEqual((error.encoding, error.start, error.end), ("mutf-8", 2, 4))
+
+    def test_cut(self) -> None:
+        for row in ("", "00", "00 01", "00 03 61 C0", "FF FF 61"):
+            data = bytes.fromhex(row)
+            for front in (b"", b"front"):
+                with self.assertRaises(EOFError):
+                    cesu8.read_utf(front + data, len(front))
+
+    def test_damage(self) -> None:
+        for row, damaged in (
+            ("00 01 00", 2),
+            ("00 03 ED A0 BD", 2),
+            ("00 04 F0 9F 92 96", 2),
+            ("00 04 41 C0 80 FF 80", 5),
+            # What follows the string makes no character with its end.
+            ("00 03 ED A0 BD ED B2 96", 2),
+            ("00 01 C0 80", 2),
+        ):
+            data = b"front" + bytes.fromhex(row) + b"rest"
+            with self.assertRaises(UnicodeDecodeError) as caught:
+                cesu8.read_utf(data, 5)
+            error = caught.exception
+            self.assertEqual((error.start, error.end), (5 + damaged, 6 + damaged))
+            self.assertEqual(error.object, data)
+
+    def test_handlers(self) -> None:
+        data = bytes.fromhex("00 03 ED A0 BD 41")
+        self.assertEqual(cesu8.read_utf(data, 0, "replace"), (3 * tables.R, 5))
+        self.assertEqual(cesu8.read_utf(data, 0, "ignore"), ("", 5))
+        self.assertEqual(cesu8.read_utf(data, 0, "surrogateescape"), ("\udced\udca0\udcbd", 5))
+        self.assertEqual(cesu8.read_utf(b"x" + data, 1, "backslashreplace")[1], 6)
+
+    def test_places(self) -> None:
+        self.assertEqual(cesu8.read_utf(bytes.fromhex("00 00 07")), ("", 2))
+        for start in (-1, 4, 1 << 70):
+            with self.assertRaises(ValueError):
+                cesu8.read_utf(b"\0\0\0", start)
+        with self.assertRaises(TypeError):
+            cesu8.read_utf(b"\0\0", 0.0)  # type: ignore[arg-type]
+
+    def test_many(self) -> None:
+        texts = [chr(0x100 + count) * (count % 9) for count in range(20000)]
+        data = bytearray().join(map(cesu8.write_utf, texts))
+        place, found = 0, []
+        while place < len(data):
+            text, place = cesu8.read_utf(data, place)
+            found.append(text)
+        self.assertEqual(found, texts)
+
+    def test_data_may_grow_after_a_cut_string(self) -> None:
+        data = bytearray(b"\0\x02a")
+        try:
+            cesu8.read_utf(data)
+        except EOFError:
+            data += b"b"
+        self.assertEqual(cesu8.read_utf(data), ("ab", 4))
+
+
+class Arguments(unittest.TestCase):
+    def test_kinds_of_data(self) -> None:
+        with mmap.mmap(-1, 6) as mapped:
+            mapped[:] = PAIR
+            kinds = [PAIR, bytearray(PAIR), memoryview(PAIR), array.array("B", PAIR), mapped]
+            kinds.append(memoryview(PAIR[::-1])[::-1])
+            for data in kinds:
+                self.assertEqual(cesu8.decode(data, "cesu-8"), "\U0001f496")
+            for data in kinds[:-1]:
+                self.assertEqual(str(data, "cesu-8"), "\U0001f496")
+                with self.assertRaises(EOFError):
+                    cesu8.read_utf(data)
+
+    def test_wrong_types(self) -> None:
+        for data in (5, "text", None, [65]):
+            with self.assertRaises(TypeError):
+                cesu8.decode(data, "cesu-8")  # type: ignore[arg-type]
+            with self.assertRaises(TypeError):
+                cesu8.read_utf(data)  # type: ignore[arg-type]
+        for text in (5, b"bytes", None):
+            with self.assertRaises(TypeError):
+                cesu8.encode(text, "cesu-8")  # type: ignore[arg-type]
+            with self.assertRaises(TypeError):
+                cesu8.write_utf(text)  # type: ignore[arg-type]
+
+    def test_encodings(self) -> None:
+        for name in ("mutf-8", "MUTF-8", "mutf_8", "mutf 8", "MUTF8"):
+            self.assertEqual(cesu8.encode("\0", name), b"\xc0\x80")
+            self.assertEqual(cesu8.decode(b"\xc0\x80", name), "\0")
+        for name in ("utf-8", "mutf", ""):
+            with self.assertRaises(LookupError):
+                cesu8.encode("", name)
+            with self.assertRaises(LookupError):
+                cesu8.decode(b"", name)
+
+    def test_threads(self) -> None:
+        text = tables.PATTERN[0] * 5000
+        encoded = model.encoded(tables.PATTERN[0], "mutf-8") * 5000
+        agreed = []
+
+        def convert() -> None:
+            for _ in range(20):
+                agreed.append(cesu8.encode(text, "mutf-8") == encoded)
+                agreed.append(cesu8.decode(encoded, "mutf-8") == text)
+
+        threads = [threading.Thread(target=convert) for _ in range(4)]
+        for thread in threads:
+            thread.start()
+        for thread in threads:
+            thread.join()
+        self.assertEqual(agreed, 160 * [True])

@@ -1,0 +1,234 @@
+"""The codecs by Python's own calls, with every error handler."""
+
+from __future__ import annotations
+
+import codecs
+import unittest
+
+import cesu8
+import model
+import tables
+
+HANDLERS = ("strict", "ignore", "replace", "backslashreplace", "surrogateescape", "surrogatepass")
+ENCODE_HANDLERS = (*HANDLERS, "xmlcharrefreplace", "namereplace")
+
+
+def replaced(byte: int, errors: str) -> str | None:
+    """What a handler of Python's gives for a damaged byte, or None where it raises."""
+    if errors == "surrogateescape":
+        return chr(0xDC00 + byte) if byte >= 0x80 else None
+    return {"ignore": "", "replace": "\ufffd", "backslashreplace": f"\\x{byte:02x}"}.get(errors)
+
+
+def expected(data: bytes, encoding: str, errors: str) -> str | int:
+    """The text, or the place of the byte that is refused."""
+    text = ""
+    for character, place in model.parts(data, encoding):
+        if character is None:
+            character = replaced(data[place], errors)
+            if character is None:
+                return place
+        text += character
+    return text
+
+
+class Names(unittest.TestCase):
+    def test_lookup(self) -> None:
+        for name in ("cesu-8", "CESU-8", "cesu_8", "cesu 8", "cesu8", "CESU8"):
+            self.assertEqual(codecs.lookup(name).name, "cesu-8")
+        for name in ("mutf-8", "MUTF-8", "mutf_8", "mutf 8", "mutf8", "MUTF8"):
+            self.assertEqual(codecs.lookup(name).name, "mutf-8")
+        with self.assertRaises(LookupError):
+            codecs.lookup("mutf-88")
+
+    def test_calls(self) -> None:
+        for encoding in model.ENCODINGS:
+            info = codecs.lookup(encoding)
+            encoded = model.encoded(tables.PATTERN[0], encoding)
+            self.assertEqual(info.encode(tables.PATTERN[0]), (encoded, 8))
+            self.assertEqual(info.decode(encoded), (tables.PATTERN[0], len(encoded)))
+            self.assertEqual(tables.PATTERN[0].encode(encoding), encoded)
+            for data in (encoded, bytearray(encoded)):
+                self.assertEqual(data.decode(encoding), tables.PATTERN[0])
+
+
+class Decoding(unittest.TestCase):
+    def test_handlers(self) -> None:
+        rows = [bytes.fromhex(row) for row, *_ in tables.DAMAGE]
+        rows += [b"start" + row + b"end" for row in rows] + [row + row for row in rows]
+        # Damage at the borders of the pieces in which it is searched for.
+        rows += [b"a" * count + row for count in (4090, 4095, 4096, 4097) for row in rows[:12]]
+        for encoding in model.ENCODINGS:
+            for errors in HANDLERS:
+                for data in rows:
+                    self.compare(data, encoding, errors)
+
+    def test_all_of_two_bytes(self) -> None:
+        codecs.register_error("cesu8.one_mark", lambda error: ("\ufffd", error.end))
+        for encoding in model.ENCODINGS:
+            for number in range(0x10000):
+                data = number.to_bytes(2, "big")
+                # The handler's answers come one by one, those of 'replace' from the library.
+                found = data.decode(encoding, "cesu8.one_mark")
+                if found != model.lossy(data, encoding):
+                    self.fail(f"{encoding} of {data.hex()} is {found!r}")
+
+    def test_escaped_bytes_come_back(self) -> None:
+        for encoding in model.ENCODINGS:
+            for first in range(0x80, 0x100):
+                for second in range(1, 0x100):
+                    data = bytes([first, second])
+                    escaped = data.decode(encoding, "surrogateescape")
+                    self.assertEqual(escaped.encode(encoding, "surrogateescape"), data)
+
+    def compare(self, data: bytes, encoding: str, errors: str) -> None:
+        wanted = expected(data, encoding, errors)
+        with self.subTest(data=data[-20:].hex(), encoding=encoding, errors=errors):
+            if isinstance(wanted, str):
+                self.assertEqual(data.decode(encoding, errors), wanted)
+                return
+            with self.assertRaises(UnicodeDecodeError) as caught:
+                data.decode(encoding, errors)
+            error = caught.exception
+            self.assertEqual((error.start, error.end), (wanted, wanted + 1))
+            self.assertEqual((error.encoding, error.object), (encoding, data))
+
+    def test_handlers_of_encoders(self) -> None:
+        for errors in ("xmlcharrefreplace", "namereplace"):
+            self.assertEqual(b"A".decode("cesu-8", errors), "A")
+            with self.assertRaises(TypeError):
+                b"\xff".decode("cesu-8", errors)
+
+    def test_unknown_handler(self) -> None:
+        with self.assertRaises(LookupError):
+            b"\xff".decode("cesu-8", "cesu8.unknown")
+        with self.assertRaises(LookupError):
+            "\ud800".encode("cesu-8", "cesu8.unknown")
+
+    def test_reasons(self) -> None:
+        for row, encoding, reason in (
+            ("80", "cesu-8", "invalid start byte"),
+            ("00", "mutf-8", "invalid start byte"),
+            ("C0 80", "cesu-8", "invalid start byte"),
+            ("C1 80", "mutf-8", "invalid start byte"),
+            ("F0 9F 92 96", "cesu-8", "invalid start byte"),
+            ("C0 41", "mutf-8", "invalid continuation byte"),
+            ("E0 80 80", "cesu-8", "invalid continuation byte"),
+            ("ED A0 BD 41", "cesu-8", "invalid continuation byte"),
+            ("ED B2 96", "cesu-8", "invalid continuation byte"),
+            ("C0", "mutf-8", "unexpected end of data"),
+            ("E2 82", "cesu-8", "unexpected end of data"),
+            ("ED A0 BD ED B2", "cesu-8", "unexpected end of data"),
+        ):
+            with self.assertRaises(UnicodeDecodeError) as caught:
+                bytes.fromhex(row).decode(encoding)
+            self.assertEqual((caught.exception.reason, caught.exception.start), (reason, 0))
+
+    def test_own_handlers(self) -> None:
+        data = bytes.fromhex("41 FF 42 43 FF 44")
+        for answer, wanted in (
+            (lambda error: ("!", error.end), "A!BC!D"),
+            (lambda error: ("!", error.end + 1), "A!C!"),
+            (lambda error: ("!", -1 if error.start > 1 else error.end), "A!BC!D"),
+            (lambda error: ("!", len(error.object)), "A!"),
+            (lambda error: ("\ud800\U0001f496", error.end), "A\ud800\U0001f496BC\ud800\U0001f496D"),
+            (lambda error: ("!", 1 << 70), IndexError),
+            (lambda error: ("!", 7), IndexError),
+            (lambda error: ("!", -7), IndexError),
+            (lambda error: (b"!", error.end), TypeError),
+            (lambda error: ["!", error.end], TypeError),
+            (lambda error: ("!", None), TypeError),
+            (lambda error: None, TypeError),
+            (lambda error: 1 // 0, ZeroDivisionError),
+        ):
+            codecs.register_error("cesu8.own", answer)
+            if isinstance(wanted, str):
+                self.assertEqual(data.decode("mutf-8", "cesu8.own"), wanted)
+            else:
+                with self.assertRaises((wanted, RuntimeError)) as caught:
+                    data.decode("mutf-8", "cesu8.own")
+                self.assertIsInstance(caught.exception, wanted)
+
+    def test_handler_with_other_input(self) -> None:
+        def mend(error: UnicodeError) -> tuple[str, int]:
+            error.object = b"mended"
+            return "!", 0
+
+        codecs.register_error("cesu8.mend", mend)
+        for encoding in (*model.ENCODINGS, "utf-8"):
+            self.assertEqual(b"A\xffB".decode(encoding, "cesu8.mend"), "A!mended")
+
+    def test_lenient(self) -> None:
+        data = bytes.fromhex("F0 9F 92 96 FF")
+        for errors in HANDLERS[1:5]:
+            wanted = expected(data, "mutf-8", errors)
+            self.assertEqual(cesu8.decode(data, "mutf-8", errors, lenient=True), wanted)
+
+    def test_much_damage_is_linear(self) -> None:
+        data = bytes.fromhex("41 FF ED A0 BD 42") * 20000
+        self.assertEqual(data.decode("cesu-8", "ignore"), "AB" * 20000)
+
+
+class Encoding(unittest.TestCase):
+    """Surrogates are refused and handled as by Python's UTF-8, which encodes the rest of these
+    texts alike."""
+
+    TEXTS = (
+        "\ud800",
+        "a\udfffb",
+        "\ud83d\udc96",
+        "a\ud800\ud800b\udc80c",
+        "\udc80\udcff\ud800\udc80z",
+        "\udc7f\udc80",
+        "\u20ac\udcff\udcfe\uffff",
+    )
+
+    def test_handlers(self) -> None:
+        for text in self.TEXTS:
+            for encoding in model.ENCODINGS:
+                for errors in ENCODE_HANDLERS:
+                    with self.subTest(text=ascii(text), encoding=encoding, errors=errors):
+                        self.compare(text, encoding, errors)
+
+    def compare(self, text: str, encoding: str, errors: str) -> None:
+        # Python's UTF-8 knows what 'surrogatepass' means for itself.
+        peer_errors = "strict" if errors == "surrogatepass" else errors
+        try:
+            wanted = text.encode("utf-8", peer_errors)
+        except UnicodeEncodeError as peer:
+            with self.assertRaises(UnicodeEncodeError) as caught:
+                text.encode(encoding, errors)
+            error = caught.exception
+            self.assertEqual(
+                (error.encoding, error.object, error.start, error.end, error.reason),
+                (encoding, text, peer.start, peer.end, peer.reason),
+            )
+        else:
+            self.assertEqual(text.encode(encoding, errors), wanted)
+
+    def test_what_stands_around(self) -> None:
+        for encoding in model.ENCODINGS:
+            around = model.encoded("\0\U0001f496", encoding)
+            found = "\0\U0001f496\ud800\0\U0001f496".encode(encoding, "replace")
+            self.assertEqual(found, around + b"?" + around)
+
+    def test_own_handlers(self) -> None:
+        for answer, wanted in (
+            (lambda error: ("!", error.end), b"a!b!c"),
+            (lambda error: (b"\xff", error.end), b"a\xffb\xffc"),
+            (lambda error: ("\0\U0001f496", error.end), "a\0\U0001f496b\0\U0001f496c"),
+            (lambda error: ("!", error.end + 1), b"a!!"),
+            (lambda error: ("!", -1), b"a!c"),
+            (lambda error: ("!", 6), IndexError),
+            (lambda error: ("\ud800", error.end), UnicodeEncodeError),
+            (lambda error: (5, error.end), TypeError),
+            (lambda error: "!", TypeError),
+        ):
+            codecs.register_error("cesu8.own", answer)
+            if isinstance(wanted, str):
+                wanted = model.encoded(wanted, "mutf-8")
+            if isinstance(wanted, bytes):
+                self.assertEqual("a\ud800b\ud801c".encode("mutf-8", "cesu8.own"), wanted)
+            else:
+                with self.assertRaises(wanted):
+                    "a\ud800b\ud801c".encode("mutf-8", "cesu8.own")
