@@ -31,6 +31,14 @@ CharsInUtf8 = (string : List ℕ) → IsUtf8 string → utf8 (chars string) ≡ 
 abbrev pub SameBytes : Type 0
 SameBytes = (string other : List ℕ) → IsUtf8 string → IsUtf8 other → chars string ≡ chars other → string ≡ other
 
+-- The UTF-8 of a text is that of a string,
+abbrev pub TextIsString : Type 0
+TextIsString = (text : List ℕ) → IsText text → IsUtf8 (utf8 text)
+
+-- whose characters are the text.
+abbrev pub CharsOfUtf8 : Type 0
+CharsOfUtf8 = (text : List ℕ) → IsText text → chars (utf8 text) ≡ text
+
 -- The strict reading of the encoding of a string is the string,
 abbrev pub DecodedBack : Type 0
 DecodedBack = (f : Flavor) (string bytes back : List ℕ) → IsUtf8 string → IsUtf8 back →
@@ -191,6 +199,11 @@ SliceOrder = (xs ys : List ℕ) →
 abbrev pub OrderInCesu8 : Type 0
 OrderInCesu8 = (s t : List ℕ) → IsText s → IsText t →
     ComparesAs (encoding Cesu8 s) (encoding Cesu8 t) (units s) (units t)
+
+-- So in std, `cmp` of two encodings in CESU-8 returns what `cmp` of the code units does.
+abbrev pub KeyOrder : Type 0
+KeyOrder = (s t : List ℕ) → IsText s → IsText t →
+    slice_cmp nat_cmp (encoding Cesu8 s) (encoding Cesu8 t) ≡ slice_cmp nat_cmp (units s) (units t)
 
 -- In MUTF-8 they do if neither text has U+0000.
 abbrev pub OrderInMutf8 : Type 0

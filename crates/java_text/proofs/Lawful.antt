@@ -1,8 +1,10 @@
 -- The laws of the form.
-use Rattle.std.proofs.Common.{◌≡◌, ℕ, List, [], ◌∷◌, refl, sym, subst, arith, append-nil}
+use Rattle.std.proofs.Common.{◌≡◌, ℕ, List, [], ◌∷◌, ◌++◌, refl, sym, ap, ◌∙◌, subst, arith, append-nil, append_assoc}
 use Rattle.std.specs.List.{flat_map}
-use Rattle.java_text.specs.Form.{java_form}
-use Rattle.java_text.specs.Laws.{FormIsCut, OneForm, NoFormBeginsAnother, HaveForms, AreReadInTurn, Sequence, Bounds}
+use Rattle.std.proofs.lemmas.Grind.{flat_map-append}
+use Rattle.simd_cesu8.specs.Text.{IsText}
+use Rattle.java_text.specs.Form.{HasForm, java_form, BeginsWithForm}
+use Rattle.java_text.specs.Laws.{FormIsCut, OneForm, NoFormBeginsAnother, HaveForms, AreReadInTurn, Sequence, EmptyHasNone, OneMore, RestIsRead, NoneFollows, Bounds}
 use Rattle.java_text.proofs.Forms.{count_in_form, counted_in_form, rest_in_form, none_begins_truncated}
 
 -- bytes that a form begins have its parts
@@ -26,26 +28,79 @@ pub bounds_law : Bounds
 unfolding java_form
 bounds_law text f = (omega arith, omega arith, omega arith)
 
--- forms in a row are read as their texts
-in_turn : (texts : List (List ℕ)) → HaveForms texts →
-    AreReadInTurn (flat_map java_form texts) texts
-in_turn [] h = refl
-in_turn (text ∷ texts) h =
-    (flat_map java_form texts, record { scalars = h.0; fits = h.1; bytes_are = refl }, in_turn texts h.2)
+-- no form begins the empty input
+pub empty_has_none_law : EmptyHasNone
+unfolding java_form
+empty_has_none_law text rest form = absurd (let e = form.bytes_are in cc)
+
+-- a text after texts that have forms
+have_forms_more : (texts : List (List ℕ)) (text : List ℕ) → HaveForms texts → IsText text → HasForm text →
+    HaveForms (texts ++ text ∷ [])
+have_forms_more [] text have is_text fits = (is_text, fits, tt)
+have_forms_more (first ∷ texts) text have is_text fits =
+    (have.0, have.1, have_forms_more texts text have.2 is_text fits)
+
+-- a form that begins the rest is one more
+pub one_more_law : OneMore
+one_more_law bytes texts rest text after so_far form =
+    let done = flat_map java_form texts in
+    let forms : flat_map java_form (texts ++ text ∷ []) ≡ done ++ java_form text =
+    simp (flat_map-append, append-nil) in
+    record {
+      have_forms = have_forms_more texts text so_far.have_forms form.scalars form.fits;
+      bytes_are = so_far.bytes_are ∙ rw (forms, form.bytes_are) (sym (append_assoc done (java_form text) after));
+    }
+
+-- the first of some forms begins the bytes
+first_begins : (text : List ℕ) (texts : List (List ℕ)) (rest : List ℕ) → HaveForms (text ∷ texts) →
+    BeginsWithForm (flat_map java_form (text ∷ texts) ++ rest) text (flat_map java_form texts ++ rest)
+first_begins text texts rest have = record {
+  scalars = have.0;
+  fits = have.1;
+  bytes_are = append_assoc (java_form text) (flat_map java_form texts) rest;
+}
+
+-- forms are read as their texts, and then what follows them
+read_on : (texts more : List (List ℕ)) (rest : List ℕ) → HaveForms texts → AreReadInTurn rest more →
+    AreReadInTurn (flat_map java_form texts ++ rest) (texts ++ more)
+read_on [] more rest have read = read
+read_on (text ∷ texts) more rest have read =
+    (flat_map java_form texts ++ rest, first_begins text texts rest have, read_on texts more rest have.2 read)
 
 -- and as no others
-only_in_turn : OneForm → (texts others : List (List ℕ)) → HaveForms texts →
-    AreReadInTurn (flat_map java_form texts) others → others ≡ texts
-unfolding java_form
-only_in_turn one_form [] [] h k = refl
-only_in_turn one_form [] (other ∷ others) h k = absurd (let e = k.1.bytes_are in cc)
-only_in_turn one_form (text ∷ texts) [] h k = absurd (cc)
-only_in_turn one_form (text ∷ texts) (other ∷ others) h k =
-    let same = one_form (flat_map java_form (text ∷ texts)) text (flat_map java_form texts)
-    (record { scalars = h.0; fits = h.1; bytes_are = refl }) other k.0 k.1 in
-    let more : others ≡ texts = only_in_turn one_form texts others h.2 (subst (λ bs. AreReadInTurn bs others) same.1 k.2) in
-    rw (same.0, more) refl
+only_so : OneForm → (texts all : List (List ℕ)) (rest : List ℕ) → HaveForms texts →
+    AreReadInTurn (flat_map java_form texts ++ rest) all →
+    (more : List (List ℕ)) × (all ≡ texts ++ more) × AreReadInTurn rest more
+only_so one_form [] all rest have read = (all, refl, read)
+only_so one_form (text ∷ texts) [] rest have read =
+    absurd (empty_has_none_law _ _ (subst (λ bs. BeginsWithForm bs text (flat_map java_form texts ++ rest)) read
+    (first_begins text texts rest have)))
+only_so one_form (text ∷ texts) (other ∷ others) rest have read =
+    let same = one_form _ _ _ (first_begins text texts rest have) other read.0 read.1 in
+    let found = only_so one_form texts others rest have.2 (subst (λ bs. AreReadInTurn bs others) same.1 read.2) in
+    (found.0, ap (λ t. t ∷ others) same.0 ∙ ap (λ ts. text ∷ ts) found.1, found.2)
 
--- so they are read back as their texts and as no others
+-- bytes are read as their forms, and then as the rest is
+pub rest_is_read_law : OneForm → RestIsRead
+rest_is_read_law one_form bytes texts rest so_far all = (
+  (λ read. only_so one_form texts all rest so_far.have_forms (subst (λ bs. AreReadInTurn bs all) so_far.bytes_are read)),
+  (λ found. rw (so_far.bytes_are, found.1) (read_on texts found.0 rest so_far.have_forms found.2)),
+)
+
+-- so where no form begins the rest, nothing follows
+pub none_follows_law : OneForm → NoneFollows
+none_follows_law one_form bytes texts rest so_far none all =
+    let read_so = rest_is_read_law one_form bytes texts rest so_far all in
+    ((λ read. let found = read_so.0 read in by found.0 found.1 found.2),
+    (λ ends. read_so.1 ([], ends.0 ∙ sym (append-nil texts), ends.1)))
+  where
+    by : (more : List (List ℕ)) → all ≡ texts ++ more → AreReadInTurn rest more → (all ≡ texts) × (rest ≡ [])
+    by [] same read = (same ∙ append-nil texts, read)
+    by (first ∷ more) same read = absurd (none first read.0 read.1)
+
+-- so forms in a row are read back as their texts and as no others
 pub sequence_law : OneForm → Sequence
-sequence_law one_form texts h = (in_turn texts h, (λ others k. only_in_turn one_form texts others h k))
+sequence_law one_form texts have =
+    let ends = none_follows_law one_form (flat_map java_form texts) texts []
+    (record { have_forms = have; bytes_are = sym (append-nil (flat_map java_form texts)) }) empty_has_none_law in
+    ((ends texts).1 (refl, refl), (λ others read. ((ends others).0 read).0))

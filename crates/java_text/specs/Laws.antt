@@ -1,10 +1,10 @@
 -- The laws of the form, over the definitions alone.
-use Rattle.std.specs.Prelude.{◌≡◌, ℕ, ◌+◌, ◌<◌, ◌≤◌, List, [], ◌∷◌, ◌++◌, length, slice_index}
+use Rattle.std.specs.Prelude.{◌≡◌, ℕ, ◌+◌, ◌<◌, ◌≤◌, ◌↔◌, List, [], ◌∷◌, ◌++◌, length, slice_index}
 use Rattle.std.specs.List.{flat_map}
 use Rattle.simd_cesu8.specs.Text.{IsText}
 use Rattle.simd_cesu8.specs.Encoding.{Mutf8}
 use Rattle.simd_cesu8.specs.Reading.{IsStrictReading}
-use Rattle.java_text.specs.Form.{HasForm, java_form, mutf8_len, BeginsWithForm, BeginsOnlyWithForm, count_in, counted, rest_in, IsTruncated}
+use Rattle.java_text.specs.Form.{HasForm, java_form, mutf8_len, BeginsWithForm, BeginsOnlyWithForm, NoFormBegins, count_in, counted, rest_in, IsTruncated}
 
 -- Bytes that a form begins are not truncated, they count the bytes of the text's MUTF-8, the counted
 -- bytes are that, and the rest follows these.
@@ -42,6 +42,32 @@ abbrev pub Sequence : Type 0
 Sequence = (texts : List (List ℕ)) → HaveForms texts →
     AreReadInTurn (flat_map java_form texts) texts
     × ((others : List (List ℕ)) → AreReadInTurn (flat_map java_form texts) others → others ≡ texts)
+
+-- The bytes are the forms of these texts, one after another, and then rest.
+pub record BeginsWithForms (bytes : List ℕ) (texts : List (List ℕ)) (rest : List ℕ) : Type 0 where
+  pub have_forms : HaveForms texts
+  pub bytes_are : bytes ≡ flat_map java_form texts ++ rest
+
+-- No form begins the empty input.
+abbrev pub EmptyHasNone : Type 0
+EmptyHasNone = NoFormBegins []
+
+-- If a form begins what is left of bytes, they begin with one form more.
+abbrev pub OneMore : Type 0
+OneMore = (bytes : List ℕ) (texts : List (List ℕ)) (rest text after : List ℕ) →
+    BeginsWithForms bytes texts rest → BeginsWithForm rest text after →
+    BeginsWithForms bytes (texts ++ text ∷ []) after
+
+-- Such bytes are read as these texts and then as what the rest is read as,
+abbrev pub RestIsRead : Type 0
+RestIsRead = (bytes : List ℕ) (texts : List (List ℕ)) (rest : List ℕ) → BeginsWithForms bytes texts rest →
+    (all : List (List ℕ)) →
+    AreReadInTurn bytes all ↔ ((more : List (List ℕ)) × (all ≡ texts ++ more) × AreReadInTurn rest more)
+
+-- so, where no form begins the rest, as these texts alone, and only if nothing is left.
+abbrev pub NoneFollows : Type 0
+NoneFollows = (bytes : List ℕ) (texts : List (List ℕ)) (rest : List ℕ) → BeginsWithForms bytes texts rest →
+    NoFormBegins rest → (all : List (List ℕ)) → AreReadInTurn bytes all ↔ ((all ≡ texts) × (rest ≡ []))
 
 -- A form has two bytes more than the MUTF-8 of its text, so 2 to 65,537.
 abbrev pub Bounds : Type 0

@@ -7,6 +7,10 @@ ghost use Rattle.java_text.specs.Laws.{
   OneForm,
   NoFormBeginsAnother,
   Sequence,
+  EmptyHasNone,
+  OneMore,
+  RestIsRead,
+  NoneFollows,
   Bounds,
 };
 
@@ -35,6 +39,19 @@ pub fn no_form_begins_another()
 /// Forms in a row read back, one after another, as their texts and no others.
 pub fn sequence()
     ensures { Sequence }
+{
+    one_form();
+}
+
+/// For a reader that reads one form after another. If a form begins what is left of the bytes, they
+/// begin with one form more. Bytes that begin with some forms are read as their texts, and then as
+/// what is left is read. So if no form begins what is left, they are read as these texts alone, and
+/// only if it is empty. No form begins the empty input.
+pub fn in_turn()
+    ensures one_more { OneMore }
+    ensures rest { RestIsRead }
+    ensures none_follows { NoneFollows }
+    ensures empty { EmptyHasNone }
 {
     one_form();
 }

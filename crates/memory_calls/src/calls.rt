@@ -145,6 +145,7 @@ fn show_error(rt: &HostRuntime, error: DecodingError) -> io::Result<()> {
 fn use_laws() {
     laws::round_trip();
     laws::chars();
+    laws::utf8_of_text();
     laws::inverse();
     laws::concat();
     laws::same_text();
@@ -162,10 +163,12 @@ fn use_laws() {
     laws::middle();
     laws::dictionary_order();
     laws::order();
+    laws::key_order();
     java_text::laws::parts();
     java_text::laws::one_form();
     java_text::laws::no_form_begins_another();
     java_text::laws::sequence();
+    java_text::laws::in_turn();
     java_text::laws::bounds();
 }
 

@@ -7,6 +7,8 @@ ghost use Rattle.simd_cesu8.specs.Laws.{
   CharsAreText,
   CharsInUtf8,
   SameBytes,
+  TextIsString,
+  CharsOfUtf8,
   DecodedBack,
   NotRefused,
   EncodedBack,
@@ -35,6 +37,7 @@ ghost use Rattle.simd_cesu8.specs.Laws.{
   Transitivity,
   SliceOrder,
   OrderInCesu8,
+  KeyOrder,
   OrderInMutf8,
   NullOutOfOrder,
   ScalarsOutOfOrder,
@@ -51,6 +54,12 @@ pub fn chars()
     ensures text { CharsAreText }
     ensures utf8 { CharsInUtf8 }
     ensures same_bytes { SameBytes }
+{}
+
+/// The UTF-8 of a text is that of a `&str`, whose characters are the text.
+pub fn utf8_of_text()
+    ensures string { TextIsString }
+    ensures chars { CharsOfUtf8 }
 {}
 
 /// `decode_strict` after `encode` returns the original string, and never `Invalid`. `encode` after
@@ -169,4 +178,10 @@ pub fn order()
     ensures mutf8 { OrderInMutf8 }
     ensures null_differs { NullOutOfOrder }
     ensures scalars_differ { ScalarsOutOfOrder }
+{}
+
+/// In std, `cmp` of two encodings in CESU-8 returns what `cmp` of the UTF-16 code units of their
+/// texts does. So a caller that compares or sorts keys needs no other law of order.
+pub fn key_order()
+    ensures { KeyOrder }
 {}

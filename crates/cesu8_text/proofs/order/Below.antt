@@ -1,7 +1,7 @@
 -- Dictionary order is an order, and it is the one that std answers by.
 use Rattle.std.proofs.Common.{◌≡◌, ℕ, ◌<◌, ◌⊎◌, List, [], ◌∷◌, ◌++◌, refl, sym, ◌∙◌, subst, inl, inr, arith, Ordering, Less, Equal, Greater}
 use Rattle.std.specs.Ordering.{MatchOrdering, ordering_then, nat_cmp}
-use Rattle.std.specs.Cmp.{nat_cmp_is}
+use Rattle.std.specs.Cmp.{nat_cmp_is, one_rank}
 use Rattle.std.specs.Cmp.Lexicographic.{slice_cmp}
 use Rattle.std.proofs.lemmas.Bool.{cases_order}
 use Rattle.cesu8_text.specs.Order.{IsBelow, ExactlyOne, ComparesAs}
@@ -113,3 +113,15 @@ slice_order (x ∷ xs) (y ∷ ys) = by (cases_order x y) (slice_order xs ys)
         rw (sym (nat_cmp_is x y Equal equal)) (same_first x y xs ys (slice_cmp nat_cmp xs ys) equal more)
     by (inr (inl less)) _ = rw (sym (nat_cmp_is x y Less less)) (inl less)
     by (inr (inr greater)) _ = rw (sym (nat_cmp_is x y Greater greater)) (inl greater)
+
+-- So to lists that compare as two others do, std answers as to those.
+pub same_answer : (xs ys us vs : List ℕ) → ComparesAs xs ys us vs → slice_cmp nat_cmp xs ys ≡ slice_cmp nat_cmp us vs
+same_answer xs ys us vs alike =
+    one_rank IsBelow not_below_itself transitive xs ys (slice_cmp nat_cmp xs ys) (slice_cmp nat_cmp us vs)
+    (slice_order xs ys) (by (slice_cmp nat_cmp us vs) (slice_order us vs))
+  where
+    by : (o : Ordering) → MatchOrdering o (IsBelow us vs) (us ≡ vs) (IsBelow vs us) →
+        MatchOrdering o (IsBelow xs ys) (xs ≡ ys) (IsBelow ys xs)
+    by Less below = alike.0.1 below
+    by Equal same = alike.1.1 same
+    by Greater above = alike.2.1 above

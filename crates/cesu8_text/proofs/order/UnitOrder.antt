@@ -7,10 +7,10 @@ use Rattle.cesu8_text.specs.Text.{IsText}
 use Rattle.cesu8_text.specs.Utf16.{units_of, units}
 use Rattle.cesu8_text.specs.Encoding.{Flavor, Cesu8, Mutf8, form, encoding}
 use Rattle.cesu8_text.specs.Order.{IsBelow, ComparesAs}
-use Rattle.cesu8_text.specs.Laws.{OrderInCesu8, OrderInMutf8, NullOutOfOrder, ScalarsOutOfOrder}
+use Rattle.cesu8_text.specs.Laws.{OrderInCesu8, KeyOrder, OrderInMutf8, NullOutOfOrder, ScalarsOutOfOrder}
 use Rattle.cesu8_text.proofs.text.Shapes.{IsTwo, IsThree, Shape, one, two, three, pair, shape}
 use Rattle.cesu8_text.proofs.encoding.Forms.{form_short, form_two, form_three, short_form_other, units_of_low, units_of_pair}
-use Rattle.cesu8_text.proofs.order.Below.{below_after, compares_as}
+use Rattle.cesu8_text.proofs.order.Below.{below_after, compares_as, same_answer}
 
 -- A code unit whose form keeps the order: in MUTF-8 it is not 0.
 record IsOrdered (f : Flavor) (u : ℕ) : Type 0 where
@@ -134,6 +134,11 @@ encodings_compare f s t is_text other_is_text no_null other_no_null =
 pub order_in_cesu8 : OrderInCesu8
 order_in_cesu8 s t is_text other_is_text =
     encodings_compare Cesu8 s t is_text other_is_text (λ mutf8. absurd (cc)) (λ mutf8. absurd (cc))
+
+-- So std compares keys as the code units.
+pub key_order : KeyOrder
+key_order s t is_text other_is_text =
+    same_answer (encoding Cesu8 s) (encoding Cesu8 t) (units s) (units t) (order_in_cesu8 s t is_text other_is_text)
 
 -- In MUTF-8 for texts without U+0000.
 pub order_in_mutf8 : OrderInMutf8

@@ -1,0 +1,5 @@
+use Rattle.cesu8_text.proofs.StdUtf8.{IsUtf8_utf8, chars_utf8}
+use Rattle.simd_cesu8.proofs.laws.utf8_of_text.Goals as goal
+
+pub returns : goal.returns
+returns c = record { string = IsUtf8_utf8; chars = chars_utf8 }
