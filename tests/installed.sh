@@ -18,13 +18,13 @@ both() {
         shift
     done
     shift
-    if quietly cc -std=c11 -Wall -Wextra -Werror -o "$scratch/example" "$crate/examples/keys.c" "${flags[@]}"; then
+    if quietly cc -std=c11 -Wall -Wextra -Wconversion -Werror -o "$scratch/example" "$crate/examples/keys.c" "${flags[@]}"; then
         wants_shared "$scratch/example" || wrong "$what: the shared object is not linked"
         example "$scratch/example" "$what"
     else
         wrong "$what does not build"
     fi
-    if quietly cc -std=c11 -Wall -Wextra -Werror -o "$scratch/example" "$crate/examples/keys.c" "$@"; then
+    if quietly cc -std=c11 -Wall -Wextra -Wconversion -Werror -o "$scratch/example" "$crate/examples/keys.c" "$@"; then
         ! wants_shared "$scratch/example" || wrong "$what: the static library is not linked"
         example "$scratch/example" "$what, static,"
     else
@@ -137,9 +137,11 @@ install_below() {
     grep -qx 'prefix=/usr' "$root/usr/$libdir/pkgconfig/cesu8.pc" || wrong 'the file for pkg-config has another prefix'
     grep -rlF "$scratch" "$root" && wrong 'these name DESTDIR'
     # All of the release is there but the script itself.
-    files=$(sed -E -e '/^install.sh$/d' -e "s,^lib/,usr/$libdir/," -e 's,^(bin|include|share)/,usr/&,' \
-        -e 's,^(examples/.*|[^/]*)$,usr/share/doc/cesu8/&,' "$scratch/files" | sort)
-    diff <(echo "$files") <(cd "$root" && find usr ! -type d | sort) || wrong 'install.sh installs other files'
+    files=$(cd "$unpacked" && find . ! -type d ! -name install.sh -printf '%P %M\n' |
+        sed -E -e "s,^lib/,usr/$libdir/," -e 's,^(bin|include|share)/,usr/&,' \
+            -e 's,^(examples/.*|[^/]*)$,usr/share/doc/cesu8/&,' | sort)
+    diff <(echo "$files") <(cd "$root" && find usr ! -type d -printf '%p %M\n' | sort) ||
+        wrong 'install.sh installs other files'
     if [[ -n $has_pkg_config ]]; then
         export PKG_CONFIG_SYSROOT_DIR=$root PKG_CONFIG_ALLOW_SYSTEM_CFLAGS=1 PKG_CONFIG_ALLOW_SYSTEM_LIBS=1
         export PKG_CONFIG_PATH=$root/usr/$libdir/pkgconfig
