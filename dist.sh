@@ -57,14 +57,16 @@ source "$top/tests/program.sh"
 # `fill FILE TO`.
 fill() {
     mkdir -p "$(dirname "$release/$2")"
-    sed "s/@VERSION@/$version/g; s/@MAJOR@/$major/g; s/@DATE@/$day/g" "$crate/package/$1" >"$release/$2"
+    sed "s/@VERSION@/$version/g; s/@MAJOR@/$major/g; s/@DATE@/$day/g" "$crate/package/$1" \
+        >"$release/$2"
 }
 
 # The shared object shows the calls of the header alone: not the code for each level, which the
 # calls choose from, nor what the code calls. The loader refuses it on a processor before x86-64-v2.
 link_shared() {
     cc -shared -o "$release/lib/libcesu8.so.$major" -Wl,-soname,"libcesu8.so.$major" \
-        -Xlinker --version-script="$crate/package/cesu8.map" -Wl,--no-undefined-version,--fatal-warnings \
+        -Xlinker --version-script="$crate/package/cesu8.map" \
+        -Wl,--no-undefined-version,--fatal-warnings \
         -Wl,-z,defs,-z,relro,-z,now,-z,noexecstack,-z,x86-64-v2 \
         -Wl,--whole-archive "$release/lib/libcesu8.a" -Wl,--no-whole-archive
     ln -s "libcesu8.so.$major" "$release/lib/libcesu8.so"

@@ -59,8 +59,10 @@ plain_calls() {
 
 # The names of the version map, each with its node: NAME@@NODE.
 mapped() {
-    awk '/^CESU8_[0-9.]+ \{$/ { node = $1 } /^    cesu8_[a-z0-9_]+;$/ { print substr($1, 1, length($1) - 1) "@@" node }' \
-        "$crate/package/cesu8.map"
+    awk '
+        /^CESU8_[0-9.]+ \{$/ { node = $1 }
+        /^    cesu8_[a-z0-9_]+;$/ { print substr($1, 1, length($1) - 1) "@@" node }
+    ' "$crate/package/cesu8.map"
 }
 
 # Builds tests/exports.c with a library, and runs it: `call_exports FLAG..`, the library among them.

@@ -96,7 +96,8 @@ look_at_files() {
         share/bash-completion/completions/cesu8_cli share/man/man1/cesu8_cli.1)
     (cd "$unpacked" && find . ! -type d -printf '%P\n' | sort) >"$scratch/files"
     diff <(printf '%s\n' "${wanted[@]}") "$scratch/files" || wrong 'the release has other files'
-    [[ $(readlink "$unpacked/lib/libcesu8.so") == "libcesu8.so.$major" ]] || wrong 'the link has another aim'
+    [[ $(readlink "$unpacked/lib/libcesu8.so") == "libcesu8.so.$major" ]] ||
+        wrong 'the link has another aim'
     grep -qx "commit $commit" "$unpacked/BUILT-FROM" || wrong 'BUILT-FROM has another commit'
     grep -qx "kit $identity" "$unpacked/BUILT-FROM" || wrong 'BUILT-FROM has another kit'
     grep -rlF -e "$scratch/" -e "$top/" -e "${program%/*}/" -e "$kit/" "$unpacked" &&
@@ -123,8 +124,11 @@ look_at_pages() {
             wrong "these name the page $page, which is not there"
     done
     grep -n ']([^)]*)' "$unpacked"/*.md && wrong 'these are links'
-    awk '/^#/ && after { print FILENAME ": " $0; found = 1 } NF { after = /^## / } END { exit !found }' \
-        "$unpacked"/*.md && wrong 'nothing stands before these headings'
+    awk '
+        /^#/ && after { print FILENAME ": " $0; found = 1 }
+        NF { after = /^## / }
+        END { exit !found }
+    ' "$unpacked"/*.md && wrong 'nothing stands before these headings'
 }
 
 # What the archive shows and what it asks for: the names of its calls, and functions that copy and
@@ -150,8 +154,10 @@ look_at_shared() {
         wrong 'the shared object has another name'
     readelf -nW "$file" | grep -q 'x86 ISA needed: x86-64-v2$' ||
         wrong 'the shared object is not marked as x86-64-v2'
-    readelf -lW "$file" | grep -q 'GNU_STACK .* RW ' || wrong 'the shared object wants a stack that can be run'
-    readelf -dW "$file" | grep -q 'FLAGS.*BIND_NOW' || wrong 'the shared object binds its names late'
+    readelf -lW "$file" | grep -q 'GNU_STACK .* RW ' ||
+        wrong 'the shared object wants a stack that can be run'
+    readelf -dW "$file" | grep -q 'FLAGS.*BIND_NOW' ||
+        wrong 'the shared object binds its names late'
     for file in "$file" "$unpacked/bin/cesu8_cli"; do
         readelf -SW "$file" | grep -E ' \.(symtab|debug)' && wrong "$file is not stripped"
     done
@@ -161,18 +167,18 @@ look_at_shared() {
 # with a sentence, and with no signal.
 look_at_mark() {
     local copy=$scratch/marked/libcesu8.so.$major place status=0
-    if [[ $(printf 'glibc 2.33\n%s\n' "$(getconf GNU_LIBC_VERSION)" | sort -V | head -n 1) != 'glibc 2.33' ]]; then
+    if ! printf 'glibc 2.33\n%s\n' "$(getconf GNU_LIBC_VERSION)" | sort -CV; then
         echo 'the C library is older than 2.33: the refusal of the shared object skipped'
         return
     fi
     place=$(readelf -SW "$unpacked/$shared" |
         sed -n 's/.* \.note\.gnu\.property *NOTE *[0-9a-f]* *\([0-9a-f]*\) .*/\1/p')
     mkdir "$scratch/marked" && cp "$unpacked/$shared" "$copy" || exit 2
-    # In the section are the head of a note, of 16 bytes, the type and length of what is needed, of 8, and
-    # its 32 bits, of which this sets the highest.
+    # In the section are the head of a note, of 16 bytes, the type and length of what is needed, of 8,
+    # and its 32 bits, of which this sets the highest.
     printf '\200' | dd of="$copy" bs=1 seek=$((0x$place + 27)) conv=notrunc 2>"$scratch/said"
-    quietly cc -o "$scratch/example" -I "$unpacked/include" "$unpacked/examples/keys.c" "$unpacked/$shared" ||
-        wrong 'keys.c does not build'
+    quietly cc -o "$scratch/example" -I "$unpacked/include" "$unpacked/examples/keys.c" \
+        "$unpacked/$shared" || wrong 'keys.c does not build'
     LD_LIBRARY_PATH=$scratch/marked "$scratch/example" >"$scratch/said" 2>&1 || status=$?
     if ((status < 128)) && grep -q 'CPU ISA level is lower than required' "$scratch/said"; then
         echo 'the loader refused what is marked for another processor'
@@ -278,7 +284,8 @@ build_twice
 
 PATH=$(path_without_kit)
 command -v rt rattle && wrong 'the kit is on the path'
-mkdir "$scratch/empty" "$scratch/shown" && tar xzf "$scratch/first/$name.tar.gz" -C "$scratch/empty" || exit 1
+mkdir "$scratch/empty" "$scratch/shown" || exit 2
+tar xzf "$scratch/first/$name.tar.gz" -C "$scratch/empty" || exit 1
 look_at_files
 look_at_pages
 look_at_archive

@@ -44,7 +44,8 @@ all_are_named() {
     sed -n 's/^CHOOSE_.*, cesu8_\([a-z0-9_]*\))$/\1/p' "$crate/chooser.c" | sort >"$scratch/found"
     same_names chooser.c
     { exports; plain_calls; } | sort >"$scratch/wanted"
-    sed 's/ *\/\/.*//' "$header" | grep -o 'cesu8_[a-z0-9_]*(' | sed 's/^cesu8_//; s/($//' | sort >"$scratch/found"
+    sed 's/ *\/\/.*//' "$header" | grep -o 'cesu8_[a-z0-9_]*(' | sed 's/^cesu8_//; s/($//' |
+        sort >"$scratch/found"
     same_names cesu8.h
     mapped | sed 's/^cesu8_//; s/@@.*//' | sort >"$scratch/found"
     same_names 'the version map'
@@ -66,7 +67,8 @@ compile_header() {
 warns_by() {
     local attribute=$1 fault
     shift
-    printf '#if !__has_attribute(%s)\n#error unknown\n#endif\nint none;\n' "$attribute" >"$scratch/known.c"
+    printf '#if !__has_attribute(%s)\n#error unknown\n#endif\nint none;\n' "$attribute" \
+        >"$scratch/known.c"
     if ! cc -fsyntax-only "$scratch/known.c" 2>"$scratch/said"; then
         echo "cc does not know the attribute $attribute: its warnings skipped"
         return

@@ -8,41 +8,40 @@ wants_shared() {
     objdump -p "$1" | grep -q "NEEDED *libcesu8.so.$major\$"
 }
 
-# Builds keys.c by a compiler with these flags, once with the shared object and once without it, and
-# runs it: `both WHAT SHARED.. -- STATIC..`.
-both() {
-    local what=$1 flags=()
+# Builds keys.c by the compiler with these flags, and runs it: `by_flags WHAT FLAG..`.
+by_flags() {
+    local what=$1
     shift
-    while [[ $1 != -- ]]; do
-        flags+=("$1")
-        shift
-    done
-    shift
-    if quietly cc -std=c11 -Wall -Wextra -Werror -o "$scratch/example" "$crate/examples/keys.c" "${flags[@]}"; then
-        wants_shared "$scratch/example" || wrong "$what: the shared object is not linked"
+    rm -f "$scratch/example"
+    if quietly cc -std=c11 -Wall -Wextra -Wconversion -Werror -o "$scratch/example" \
+        "$crate/examples/keys.c" "$@"; then
         example "$scratch/example" "$what"
     else
         wrong "$what does not build"
     fi
-    if quietly cc -std=c11 -Wall -Wextra -Werror -o "$scratch/example" "$crate/examples/keys.c" "$@"; then
-        ! wants_shared "$scratch/example" || wrong "$what: the static library is not linked"
-        example "$scratch/example" "$what, static,"
-    else
-        wrong "$what, static, does not build"
-    fi
 }
 
-# keys.c by the flags of pkg-config, as C.md has them: `by_pkg_config LIBDIR WHAT`, the folder of the
-# libraries.
+# keys.c by the flags of pkg-config, as C.md has them, with the shared object and without it:
+# `by_both WHAT FLAG..`, the flags with which the loader finds the shared object.
+by_both() {
+    local what=$1 cflags libs folders
+    shift
+    # It puts a backslash before some characters of a path.
+    eval "cflags=($(pkg-config --cflags cesu8))"
+    eval "libs=($(pkg-config --libs cesu8))"
+    eval "folders=($(pkg-config --libs-only-L cesu8))"
+    by_flags "$what" "${cflags[@]}" "${libs[@]}" "$@"
+    wants_shared "$scratch/example" || wrong "$what: the shared object is not linked"
+    by_flags "$what, static," "${cflags[@]}" "${folders[@]}" -l:libcesu8.a
+    ! wants_shared "$scratch/example" || wrong "$what: the static library is not linked"
+}
+
+# keys.c by pkg-config: `by_pkg_config LIBDIR WHAT`, the folder of the libraries.
 by_pkg_config() {
-    local cflags libs folders
     export PKG_CONFIG_PATH=$1/pkgconfig
     [[ $(pkg-config --modversion cesu8) == "$version" ]] || wrong "$2 has another version"
     [[ $(pkg-config --variable=libdir cesu8) -ef $1 ]] || wrong "$2 has another libdir"
-    # It puts a backslash before some characters of a path.
-    eval "cflags=($(pkg-config --cflags cesu8)) libs=($(pkg-config --libs cesu8)) folders=($(pkg-config --libs-only-L cesu8))"
-    both "$2" "${cflags[@]}" "${libs[@]}" -Wl,-rpath,"$(pkg-config --variable=libdir cesu8)" -- \
-        "${cflags[@]}" "${folders[@]}" -l:libcesu8.a
+    by_both "$2" -Wl,-rpath,"$(pkg-config --variable=libdir cesu8)"
     unset PKG_CONFIG_PATH
 }
 
@@ -61,7 +60,8 @@ target_link_libraries(by_archive PRIVATE cesu8::cesu8)
 add_executable(by_shared keys.c)
 target_link_libraries(by_shared PRIVATE cesu8::shared)
 CMAKE
-    if ! quietly cmake -S "$folder" -B "$folder/build" "$@" || ! quietly cmake --build "$folder/build"; then
+    if ! quietly cmake -S "$folder" -B "$folder/build" "$@" ||
+        ! quietly cmake --build "$folder/build"; then
         wrong "$what does not build"
         return
     fi
@@ -109,11 +109,12 @@ CMAKE
 # Installs to a folder that is moved then, and builds there: `install_to LIBDIR GIVEN`, the folder of
 # the libraries and how install.sh is told it.
 install_to() {
-    local prefix="$scratch/pre & fix|$1" moved=$scratch/moved/$1 flag
-    quietly sh "$unpacked/install.sh" "$prefix" ${2:+"${2//PREFIX/"$prefix"}"} || wrong "install.sh fails for $1"
-    mkdir -p "$scratch/moved" && mkdir -p "${moved%/*}" && rm -rf "$moved" && mv "$prefix" "$moved" || exit 2
-    diff -r "$unpacked/include" "$moved/include" || wrong "install.sh leaves something of the header out, for $1"
-    diff -r "$unpacked/bin" "$moved/bin" || wrong "install.sh leaves something of the program out, for $1"
+    local prefix="$scratch/pre & fix|" moved=$scratch/moved_${1//\//_} flag
+    quietly sh "$unpacked/install.sh" "$prefix" ${2:+"${2//PREFIX/"$prefix"}"} ||
+        wrong "install.sh fails for $1"
+    mkdir -p "${moved%/*}" && mv "$prefix" "$moved" || exit 2
+    diff -r "$unpacked/include" "$moved/include" || wrong "install.sh changes the header for $1"
+    diff -r "$unpacked/bin" "$moved/bin" || wrong "install.sh changes the program for $1"
     run_program "$moved"
     if [[ -n $has_pkg_config ]]; then
         by_pkg_config "$moved/$1" "keys.c by pkg-config from $1"
@@ -122,8 +123,8 @@ install_to() {
         # CMake looks in lib64 on some systems alone, and in the last on Debian and its like.
         flag=-DCMAKE_PREFIX_PATH=$moved
         case $1 in
-            lib64) flag=-Dcesu8_DIR=$moved/$1/cmake/cesu8 ;;
-            lib/*) [[ $(cc -print-multiarch) == "${1#lib/}" ]] || flag=-Dcesu8_DIR=$moved/$1/cmake/cesu8 ;;
+            lib | "lib/$(cc -print-multiarch)") ;;
+            *) flag=-Dcesu8_DIR=$moved/$1/cmake/cesu8 ;;
         esac
         by_cmake "keys.c by CMake from $1" "$flag"
     fi
@@ -131,25 +132,27 @@ install_to() {
 
 # Installs below DESTDIR, as for a package, with a /lib that is a link to /usr/lib.
 install_below() {
-    local root=$scratch/root libdir=lib/x86_64-linux-gnu files cflags libs folders
-    (cd "$unpacked" && DESTDIR=$root quietly ./install.sh /usr "$libdir") || wrong 'install.sh fails with DESTDIR'
+    local root=$scratch/root libdir=lib/x86_64-linux-gnu files
+    (cd "$unpacked" && DESTDIR=$root quietly ./install.sh /usr "$libdir") ||
+        wrong 'install.sh fails with DESTDIR'
     ln -s usr/lib "$root/lib" || exit 2
-    grep -qx 'prefix=/usr' "$root/usr/$libdir/pkgconfig/cesu8.pc" || wrong 'the file for pkg-config has another prefix'
+    grep -qx 'prefix=/usr' "$root/usr/$libdir/pkgconfig/cesu8.pc" ||
+        wrong 'the file for pkg-config has another prefix'
     grep -rlF "$scratch" "$root" && wrong 'these name DESTDIR'
     # All of the release is there but the script itself.
-    files=$(sed -E -e '/^install.sh$/d' -e "s,^lib/,usr/$libdir/," -e 's,^(bin|include|share)/,usr/&,' \
-        -e 's,^(examples/.*|[^/]*)$,usr/share/doc/cesu8/&,' "$scratch/files" | sort)
-    diff <(echo "$files") <(cd "$root" && find usr ! -type d | sort) || wrong 'install.sh installs other files'
+    files=$(cd "$unpacked" && find . ! -type d ! -name install.sh -printf '%P %M\n' |
+        sed -E -e "s,^lib/,usr/$libdir/," -e 's,^(bin|include|share)/,usr/&,' \
+            -e 's,^(examples/.*|[^/]*)$,usr/share/doc/cesu8/&,' | sort)
+    diff <(echo "$files") <(cd "$root" && find usr ! -type d -printf '%p %M\n' | sort) ||
+        wrong 'install.sh installs other files'
     if [[ -n $has_pkg_config ]]; then
-        export PKG_CONFIG_SYSROOT_DIR=$root PKG_CONFIG_ALLOW_SYSTEM_CFLAGS=1 PKG_CONFIG_ALLOW_SYSTEM_LIBS=1
-        export PKG_CONFIG_PATH=$root/usr/$libdir/pkgconfig
-        eval "cflags=($(pkg-config --cflags cesu8)) libs=($(pkg-config --libs cesu8)) folders=($(pkg-config --libs-only-L cesu8))"
-        LD_LIBRARY_PATH=$root/usr/$libdir both 'keys.c by pkg-config from DESTDIR' "${cflags[@]}" "${libs[@]}" -- \
-            "${cflags[@]}" "${folders[@]}" -l:libcesu8.a
+        export PKG_CONFIG_SYSROOT_DIR=$root PKG_CONFIG_PATH=$root/usr/$libdir/pkgconfig
+        export PKG_CONFIG_ALLOW_SYSTEM_CFLAGS=1 PKG_CONFIG_ALLOW_SYSTEM_LIBS=1
+        by_both 'keys.c by pkg-config from DESTDIR' -Wl,-rpath,"$root/usr/$libdir"
         unset "${!PKG_CONFIG_@}"
     fi
     if [[ -n $has_cmake ]]; then
-        by_cmake 'keys.c by CMake from DESTDIR' "-Dcesu8_DIR=$root/lib/x86_64-linux-gnu/cmake/cesu8"
+        by_cmake 'keys.c by CMake from DESTDIR' "-Dcesu8_DIR=$root/$libdir/cmake/cesu8"
     fi
 }
 
@@ -159,7 +162,8 @@ refuses() {
     (cd "$scratch/nowhere" && sh "$unpacked/install.sh" "$@") >"$scratch/said" 2>&1 || status=$?
     ((status == 2)) || wrong "install.sh ends with status $status for: $*"
     grep -q '^usage: ' "$scratch/said" || wrong "install.sh does not say how it is called for: $*"
-    [[ -z $(find "$scratch/nowhere" -mindepth 1 ! -type l) ]] || wrong "install.sh writes something for: $*"
+    [[ -z $(find "$scratch/nowhere" -mindepth 1 ! -type l) ]] ||
+        wrong "install.sh writes something for: $*"
     diff -r "$unpacked" "$scratch/unpacked_before" || wrong "install.sh writes to the release for: $*"
 }
 
@@ -170,7 +174,8 @@ look_at_refusals() {
     refuses
     refuses ''
     refuses "$prefix" lib more
-    for libdir in '' . .. ./lib lib/. ../lib lib/../lib lib//x /lib "$scratch/nowhere/pre" "$prefix/../lib"; do
+    for libdir in '' . .. ./lib lib/. ../lib lib/../lib lib//x /lib "$scratch/nowhere/pre" \
+        "$prefix/../lib"; do
         refuses "$prefix" "$libdir"
     done
     refuses "$unpacked"

@@ -46,13 +46,18 @@ in_class_file() {
     class_file >"$scratch/constants.class"
     "$program" "$scratch/constants.class" >"$scratch/printed" 2>"$scratch/said" ||
         wrong 'class_constants.c fails'
-    diff <(printf '1 caf\303\251\n20 \n21 \0\360\237\222\226\n22 a\357\277\275\357\277\275\357\277\275\n') \
-        "$scratch/printed" || wrong 'class_constants.c prints other constants'
-    diff <(echo 'constant 22: invalid input') "$scratch/said" || wrong 'class_constants.c does not tell a fault'
+    {
+        printf '1 caf\303\251\n20 \n21 \0\360\237\222\226\n'
+        printf '22 a\357\277\275\357\277\275\357\277\275\n'
+    } | cmp - "$scratch/printed" || wrong 'class_constants.c prints other constants'
+    diff <(echo 'constant 22: invalid input') "$scratch/said" ||
+        wrong 'class_constants.c does not tell a fault'
     head -c -1 "$scratch/constants.class" >"$scratch/cut.class"
-    "$program" "$scratch/cut.class" >"$scratch/printed" 2>&1 && wrong 'class_constants.c takes what is cut off'
+    "$program" "$scratch/cut.class" >"$scratch/printed" 2>&1 &&
+        wrong 'class_constants.c takes what is cut off'
     tail -c +2 "$scratch/constants.class" >"$scratch/cut.class"
-    "$program" "$scratch/cut.class" >"$scratch/printed" 2>&1 && wrong 'class_constants.c takes another file'
+    "$program" "$scratch/cut.class" >"$scratch/printed" 2>&1 &&
+        wrong 'class_constants.c takes another file'
     echo 'class_constants.c was built and run'
 }
 
@@ -62,7 +67,10 @@ in_java_file() {
     local script=$unpacked/examples/java_strings.sh strings=$scratch/strings long
     export CESU8_CLI=$unpacked/bin/cesu8_cli
     long=$(printf '%65535s' '')
-    printf '\0\5caf\303\251\0\0\0\10\300\200\355\240\275\355\262\226\377\377%s\0\2\n\n' "$long" >"$strings"
+    {
+        printf '\0\5caf\303\251\0\0\0\10\300\200\355\240\275\355\262\226'
+        printf '\377\377%s\0\2\n\n' "$long"
+    } >"$strings"
     "$script" "$strings" >"$scratch/printed" || wrong 'java_strings.sh fails'
     printf 'caf\303\251\n\n\0\360\237\222\226\n%s\n\n\n\n' "$long" | cmp - "$scratch/printed" ||
         wrong 'java_strings.sh prints other strings'
@@ -72,7 +80,8 @@ in_java_file() {
         { cat "$strings"; printf '%b' "${damage//\\/\\0}"; } >"$scratch/damaged"
         "$script" "$scratch/damaged" >"$scratch/seen" 2>"$scratch/said"
         [[ $? == 1 && -s $scratch/said ]] || wrong "java_strings.sh takes $damage"
-        cmp "$scratch/printed" "$scratch/seen" || wrong "java_strings.sh prints other strings before $damage"
+        cmp "$scratch/printed" "$scratch/seen" ||
+            wrong "java_strings.sh prints other strings before $damage"
     done
     unset CESU8_CLI
     echo 'java_strings.sh was run'
@@ -86,9 +95,12 @@ look_at_words() {
     (($(wc -l <"$scratch/commands") >= 8)) || wrong 'PROGRAM.md has few commands'
     diff "$scratch/commands" <(sed -n '/^\.SH COMMANDS/,/^\.SH EXIT/s/^\.B \([a-z].*\)/\1/p' "$page" |
         sed 's/\\-/-/g' | grep -vx yes | sort) || wrong 'the man page has other commands'
-    grep -q "^\.TH CESU8_CLI 1 [0-9-]* \"cesu8 ${version//./\\.}\"" "$page" || wrong 'the man page has another version'
-    diff "$scratch/commands" <(complete_words 1 cesu8_cli '' | sort) || wrong 'the completion has other commands'
-    [[ $(complete_words 1 cesu8_cli dec | xargs) == 'decode decode-strict' ]] || wrong 'the completion of dec is another'
+    grep -q "^\.TH CESU8_CLI 1 [0-9-]* \"cesu8 ${version//./\\.}\"" "$page" ||
+        wrong 'the man page has another version'
+    diff "$scratch/commands" <(complete_words 1 cesu8_cli '' | sort) ||
+        wrong 'the completion has other commands'
+    [[ $(complete_words 1 cesu8_cli dec | xargs) == 'decode decode-strict' ]] ||
+        wrong 'the completion of dec is another'
     while read -r words; do
         [[ $(complete_words 2 cesu8_cli "$words" '' | xargs) == "$(flavors_of "$words")" ]] ||
             wrong "the completion has other flavors for $words"
@@ -105,8 +117,10 @@ look_at_words() {
 
 # What bash offers for a word: `complete_words PLACE WORD..`.
 complete_words() {
-    bash -c 'source "$1" && COMP_CWORD=$2 && COMP_WORDS=("${@:3}") && _cesu8_cli && printf "%s\n" "${COMPREPLY[@]}"' \
-        - "$unpacked/share/bash-completion/completions/cesu8_cli" "$@"
+    bash -c '
+        source "$1" && COMP_CWORD=$2 && COMP_WORDS=("${@:3}") && _cesu8_cli &&
+            printf "%s\n" "${COMPREPLY[@]}"
+    ' - "$unpacked/share/bash-completion/completions/cesu8_cli" "$@"
 }
 
 # The flavors that the program takes for a command.

@@ -3,7 +3,7 @@
 # the version map, the first heading of CHANGELOG.md with a version, and on the pages the names of
 # archives and of the shared object, and what CMake is asked for. The files of crates/cesu8_static/package
 # get the version from dist.sh, so they name none, and the man page, the archive's README and the files
-# for pkg-config and CMake have its place. It prints each difference. The status is 0 if there is none.
+# for pkg-config and CMake have a place for it. It prints each difference. The status is 0 if there is none.
 # It needs bash, grep, sed and the core utilities.
 set -u
 unset CDPATH

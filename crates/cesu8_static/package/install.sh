@@ -87,7 +87,8 @@ done
 put 644 share/man/man1 share/man/man1/*
 put 644 share/bash-completion/completions share/bash-completion/completions/*
 put 644 share/doc/cesu8 BUILT-FROM LICENSE-* ./*.md
-put 644 share/doc/cesu8/examples examples/*
+put 644 share/doc/cesu8/examples examples/*.c examples/*.rs
+put 755 share/doc/cesu8/examples examples/*.sh
 
 mkdir -p "$to/$libdir/pkgconfig" "$to/$libdir/cmake/cesu8"
 # The names in these are pkg-config's.
