@@ -21,8 +21,9 @@ source "$top/tests/release.sh" || exit 2
 
 # What the wheel holds, and a second run of wheel.py, with another folder and umask.
 look_at_wheel() {
-    local again=$scratch/again
-    python3 - "$wheel" <<'PYTHON' || wrong 'the wheel holds something else'
+    local again=$scratch/again needed
+    needed=$(objdump -p "$unpacked/lib/libcesu8.so.$major" | grep -o 'GLIBC_[0-9.]*' | sort -V | tail -n 1)
+    python3 - "$wheel" "${needed#GLIBC_}" <<'PYTHON' || wrong 'the wheel holds something else'
 import base64
 import csv
 import hashlib
@@ -35,6 +36,7 @@ with zipfile.ZipFile(sys.argv[1]) as wheel:
     entries = wheel.infolist()
     names = [entry.filename for entry in entries]
     contents = {name: wheel.read(name) for name in names}
+metadata = next(contents[name] for name in names if name.endswith("/METADATA"))
 folder = re.match(r"(cesu8-[0-9.]+\.dist-info)/", names[0])[1]
 licences = ["APACHE", "MIT", "percent_encoding", "simdutf8"]
 wanted = [f"{folder}/{name}" for name in ("METADATA", "RECORD", "WHEEL")]
@@ -50,6 +52,7 @@ for name, digest, length in csv.reader(io.StringIO(contents[f"{folder}/RECORD"].
         found = base64.urlsafe_b64encode(hashlib.sha256(content).digest()).decode().rstrip("=")
         assert (digest, length) == (f"sha256={found}", str(len(content))), name
 assert list(contents) == [f"{folder}/RECORD"]
+assert f"\nRequires-External: glibc (>={sys.argv[2]})\n".encode() in metadata
 PYTHON
     mkdir "$again" || exit 2
     (
