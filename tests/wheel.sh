@@ -71,7 +71,7 @@ install_wheel() {
     python=$scratch/environment/bin/python
     if python3 -c 'import ensurepip' 2>/dev/null; then
         quietly python3 -m venv "$scratch/environment" &&
-            quietly "$python" -m pip install --no-index --no-deps --no-cache-dir "$wheel"
+            quietly "$python" -m pip --isolated install --no-index --no-deps --no-cache-dir "$wheel"
     else
         echo 'ensurepip is missing: the wheel is unpacked by zipfile'
         quietly python3 -m venv --without-pip "$scratch/environment" &&
