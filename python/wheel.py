@@ -8,6 +8,8 @@ printed. Two runs give the same bytes, with the same Python: names are sorted, a
 SOURCE_DATE_EPOCH. It needs Python 3.9 or later, and nothing beside.
 """
 
+from __future__ import annotations
+
 import base64
 import hashlib
 import os
@@ -40,9 +42,16 @@ Classifier: Operating System :: POSIX :: Linux
 Classifier: Programming Language :: Python :: 3
 Classifier: Typing :: Typed
 Requires-Python: >=3.9
+Requires-External: glibc (>={c_library})
 Description-Content-Type: text/markdown
 
 {description}"""
+
+
+def c_library(shared: bytes) -> str:
+    """The newest version of the GNU C library that the shared object names."""
+    versions = re.findall(rb"GLIBC_([0-9.]+)\0", shared)
+    return max(versions, key=lambda version: [int(part) for part in version.split(b".")]).decode()
 
 
 def licences(release: Path) -> dict[str, bytes]:
@@ -60,9 +69,10 @@ def package(release: Path) -> dict[str, bytes]:
     return files
 
 
-def metadata(version: str, names: list[str]) -> bytes:
+def metadata(version: str, needed: str, names: list[str]) -> bytes:
     return METADATA.format(
         version=version,
+        c_library=needed,
         licences="\n".join(f"License-File: {name}" for name in names),
         description=(SOURCES / "README.md").read_text(encoding="utf-8"),
     ).encode()
@@ -99,7 +109,8 @@ def main() -> None:
     given = licences(release)
     for name, content in given.items():
         files[f"{information}/licenses/{name}"] = content
-    files[f"{information}/METADATA"] = metadata(version, sorted(given))
+    needed = c_library(files["cesu8/libcesu8.so"])
+    files[f"{information}/METADATA"] = metadata(version, needed, sorted(given))
     files[f"{information}/WHEEL"] = WHEEL.encode()
     files[f"{information}/RECORD"] = record(files, f"{information}/RECORD")
     path = folder / f"cesu8-{version}-{TAG}.whl"

@@ -21,20 +21,23 @@ source "$top/tests/release.sh" || exit 2
 
 # What the wheel holds, and a second run of wheel.py, with another folder and umask.
 look_at_wheel() {
-    local again=$scratch/again
-    python3 - "$wheel" <<'PYTHON' || wrong 'the wheel holds something else'
+    local again=$scratch/again needed
+    needed=$(objdump -p "$unpacked/lib/libcesu8.so.$major" | grep -o 'GLIBC_[0-9.]*' | sort -V | tail -n 1)
+    python3 - "$wheel" "${needed#GLIBC_}" "$seconds" <<'PYTHON' || wrong 'the wheel holds something else'
 import base64
 import csv
 import hashlib
 import io
 import re
 import sys
+import time
 import zipfile
 
 with zipfile.ZipFile(sys.argv[1]) as wheel:
     entries = wheel.infolist()
     names = [entry.filename for entry in entries]
     contents = {name: wheel.read(name) for name in names}
+metadata = next(contents[name] for name in names if name.endswith("/METADATA"))
 folder = re.match(r"(cesu8-[0-9.]+\.dist-info)/", names[0])[1]
 licences = ["APACHE", "MIT", "percent_encoding", "simdutf8"]
 wanted = [f"{folder}/{name}" for name in ("METADATA", "RECORD", "WHEEL")]
@@ -42,7 +45,9 @@ wanted += [f"{folder}/licenses/LICENSE-{name}" for name in licences]
 package = ["BUILT-FROM", "__init__.py", "_codec.py", "_library.py", "libcesu8.so", "py.typed"]
 wanted += [f"cesu8/{name}" for name in package]
 assert names == wanted, names
-assert len({entry.date_time for entry in entries}) == 1
+# An archive has even seconds alone.
+date = time.gmtime(int(sys.argv[3]) // 2 * 2)[:6]
+assert all(entry.date_time == date for entry in entries)
 assert all(entry.external_attr >> 16 == 0o100644 for entry in entries)
 for name, digest, length in csv.reader(io.StringIO(contents[f"{folder}/RECORD"].decode())):
     if not name.endswith("/RECORD"):
@@ -50,6 +55,7 @@ for name, digest, length in csv.reader(io.StringIO(contents[f"{folder}/RECORD"].
         found = base64.urlsafe_b64encode(hashlib.sha256(content).digest()).decode().rstrip("=")
         assert (digest, length) == (f"sha256={found}", str(len(content))), name
 assert list(contents) == [f"{folder}/RECORD"]
+assert f"\nRequires-External: glibc (>={sys.argv[2]})\n".encode() in metadata
 PYTHON
     mkdir "$again" || exit 2
     (
@@ -65,7 +71,7 @@ install_wheel() {
     python=$scratch/environment/bin/python
     if python3 -c 'import ensurepip' 2>/dev/null; then
         quietly python3 -m venv "$scratch/environment" &&
-            quietly "$python" -m pip install --no-index --no-deps --no-cache-dir "$wheel"
+            quietly "$python" -m pip --isolated install --no-index --no-deps --no-cache-dir "$wheel"
     else
         echo 'ensurepip is missing: the wheel is unpacked by zipfile'
         quietly python3 -m venv --without-pip "$scratch/environment" &&

@@ -36,8 +36,7 @@ def _load() -> ctypes.CDLL:
         return ctypes.CDLL(path)
     except OSError as error:
         raise ImportError(
-            "cesu8 needs Linux on x86-64-v2 or later, and the GNU C library of the machine "
-            f"that built it, or a later one: {error}",
+            f"cesu8 needs Linux on x86-64-v2 or later, and the GNU C library: {error}",
             name="cesu8",
             path=path,
         ) from error
