@@ -20,8 +20,8 @@
 # process asks both, of two calls on an input: the first makes all of its requests, and the next is
 # refused its own. Calls without a request come between. What several rows ask is asked once.
 #
-# Requests are counted. In which order a call makes them, how large they are, and what it has read or
-# written before, is not seen.
+# Requests are counted. In which order a call makes them, and what it has read or written before, is not
+# seen, nor how large they are, which tests/requests.sh sees.
 #
 # It prints what is wrong, and counts the processes at the end. The status is 0 if nothing is wrong.
 # It needs the kit's `rt` (which builds here without proof), bash, sed and the core utilities.

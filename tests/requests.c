@@ -1,6 +1,7 @@
-/* Counts a program's requests for memory, and refuses one. `cc -shared` makes a library of it, which
-   LD_PRELOAD puts in front of the C library. Each request writes one byte to descriptor 9. REFUSED is
-   the number of the request that is refused, counted from 1; with no such variable none is. */
+/* Tells a program's requests for memory, and refuses one. `cc -shared` makes a library of it, which
+   LD_PRELOAD puts in front of the C library. Each request writes its size to descriptor 9, as a line.
+   REFUSED is the number of the request that is refused, counted from 1; with no such variable none
+   is. */
 
 #define _GNU_SOURCE
 #include <dlfcn.h>
@@ -11,13 +12,26 @@
 
 static long requests;
 
-/* Whether this request is granted. */
-static int is_granted(void)
+/* Writes the size as a line. No function of the C library may do it, since it may request memory. */
+static void tell(size_t size)
+{
+    char line[21];
+    size_t start = sizeof line;
+    line[--start] = '\n';
+    do {
+        line[--start] = (char)('0' + size % 10);
+        size /= 10;
+    } while (size != 0);
+    if (write(9, line + start, sizeof line - start) != (ssize_t)(sizeof line - start))
+        abort();
+}
+
+/* Whether a request of this size is granted. */
+static int is_granted(size_t size)
 {
     const char *refused = getenv("REFUSED");
     requests += 1;
-    if (write(9, ".", 1) != 1)
-        abort();
+    tell(size);
     if (refused == NULL || atol(refused) != requests)
         return 1;
     errno = ENOMEM;
@@ -27,11 +41,11 @@ static int is_granted(void)
 void *malloc(size_t size)
 {
     void *(*next)(size_t) = (void *(*)(size_t))dlsym(RTLD_NEXT, "malloc");
-    return is_granted() ? next(size) : NULL;
+    return is_granted(size) ? next(size) : NULL;
 }
 
 void *realloc(void *block, size_t size)
 {
     void *(*next)(void *, size_t) = (void *(*)(void *, size_t))dlsym(RTLD_NEXT, "realloc");
-    return is_granted() ? next(block, size) : NULL;
+    return is_granted(size) ? next(block, size) : NULL;
 }

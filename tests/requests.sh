@@ -5,7 +5,9 @@
 # arguments is refused, the program has to report failed input or output, and if a later one is, out
 # of memory. Both times it writes nothing. The run without a refusal has to write its output. On
 # short inputs the requests are counted too: beside those for the arguments one for the input, and
-# one more if the output is built. On longer input, reading may make any number.
+# one more if the output is built. On longer input, reading may make any number. Where the decoder
+# refuses bytes after its request, that has to ask for as many bytes as there are. (Of what is built
+# a clause states the capacity.)
 #
 # Then its whole memory is limited, from too little for 10 MB of input to enough, for each command.
 # The program has to write the whole output, or report out of memory and write nothing. Both have to
@@ -30,16 +32,16 @@ keep() {
     printf '%b' "$2" >"$scratch/wanted"
 }
 
-# Runs the program on $scratch/input with the request of this number refused, or none at 0. The count
-# of the requests is kept in requests: `run_refusing REFUSED WORD..`.
+# Runs the program on $scratch/input with the request of this number refused, or none at 0. The sizes
+# of the requests are kept in sizes, and their count in requests: `run_refusing REFUSED WORD..`.
 run_refusing() {
-    local refused=$1 made
+    local refused=$1
     shift
     REFUSED=$refused LD_PRELOAD=$scratch/requests.so "$program" "$@" \
         <"$scratch/input" >"$scratch/output" 2>"$scratch/error" 9>"$scratch/requests"
     status=$?
-    IFS= read -r -d '' made <"$scratch/requests"
-    requests=${#made}
+    mapfile -t sizes <"$scratch/requests"
+    requests=${#sizes[@]}
 }
 
 # Refuses each request in turn, until a run meets none, which has to end with this status and line:
@@ -75,12 +77,13 @@ row() {
     expect_requests "$1 $2 on $4" "$3"
 }
 
-# A short input that is refused, and the line that says so: `refused_row COMMAND FLAVOR REQUESTS INPUT
-# LINE`.
+# A short input that is refused, and the line that says so, where the decoder requests memory also how
+# many bytes: `refused_row COMMAND FLAVOR REQUESTS INPUT LINE [SIZE]`.
 refused_row() {
     keep "$4" ''
     refuse_in_turn "$1 $2 on $4" "$1" "$2" 1 "$5"
     expect_requests "$1 $2 on $4" "$3"
+    [[ -z ${6-} ]] || hold "$1 $2 on $4, ${sizes[-1]} bytes requested" [ "${sizes[-1]}" -eq "$6" ]
 }
 
 rows() {
@@ -138,14 +141,17 @@ rows() {
     for flavor in cesu8 mutf8; do
         refused_row encode "$flavor" 1 'a\xFF' 'cesu8: input is not UTF-8'
         refused_row needs "$flavor" 1 'a\xFF' 'cesu8: input is not UTF-8'
-        refused_row decode "$flavor" 2 'a\xFF' "$invalid"
-        refused_row decode-strict "$flavor" 2 'a\xED\xA0\xBD' "$invalid"
+        refused_row decode "$flavor" 2 'a\xFF' "$invalid" 2
+        refused_row decode-strict "$flavor" 2 'a\xED\xA0\xBD' "$invalid" 4
+        refused_row decode-strict "$flavor" 2 "a$heart" "$invalid" 5
     done
+    refused_row decode-strict mutf8 2 'a\x00' "$invalid" 2
     refused_row java-write mutf8 1 'a\xFF' 'cesu8: input is not UTF-8'
     refused_row java-read mutf8 1 '\x00\x03a\xC0' 'cesu8: input is truncated'
     refused_row java-read mutf8 1 '\x00\x01ab' 'cesu8: bytes after the string'
-    refused_row java-read mutf8 2 '\x00\x03\xED\xA0\xBD' "$invalid"
-    refused_row java-read mutf8 2 '\x00\x03a\xC0\x80b' 'cesu8: bytes after the string'
+    refused_row java-read mutf8 2 '\x00\x03\xED\xA0\xBD' "$invalid" 3
+    refused_row java-read mutf8 2 '\x00\x02a\x00' "$invalid" 2
+    refused_row java-read mutf8 2 '\x00\x03a\xC0\x80b' 'cesu8: bytes after the string' 3
 }
 
 # Writes an input of so many bytes, of one part again and again and then of letters, and the answer to
@@ -208,6 +214,18 @@ long_row() {
     refuse_in_turn "$1 $2 on a long input" "$1" "$2" 0 ''
 }
 
+# Strict decoding of long input that is refused: UTF-8 that no encoding has, and halves of pairs.
+refused_long_rows() {
+    local part
+    for part in $'\xF0\x9F\x92\x96' $'\xED\xA0\xBDa'; do
+        keep_long 100000 "$part" 4 '' 0
+        refuse_in_turn 'decode-strict cesu8 on a long refused input' decode-strict cesu8 1 \
+            'cesu8: invalid input'
+        hold "decode-strict on a long refused input, ${sizes[-1]} bytes requested" \
+            [ "${sizes[-1]}" -eq 100000 ]
+    done
+}
+
 refuse_requests() {
     if ! command -v cc >/dev/null; then
         echo 'cc is missing: the refusal of single requests skipped'
@@ -227,6 +245,7 @@ refuse_requests() {
     refuse_in_turn 'words that ask for nothing' encode utf9 2 'usage: cesu8_cli COMMAND FLAVOR'
     rows
     on_each 100000 long_row
+    refused_long_rows
     on_java_strings long_row
 }
 

@@ -1,11 +1,11 @@
 -- A store whose keys are the CESU-8 of texts.
-use Rattle.std.specs.Prelude.{ℕ, List, Option, AllPairs}
+use Rattle.std.specs.Prelude.{◌≡◌, ℕ, List, Option, AllPairs}
 use Rattle.std.specs.Global.{Vec}
 use Rattle.std.specs.BTreeMap.{BTreeMap, get_by, keys}
 use Rattle.std.specs.Ordering.{nat_cmp}
+use Rattle.std.specs.declared.cmp.Ordering.TheVariants.{Less}
 use Rattle.std.specs.Cmp.Lexicographic.{slice_cmp}
 use Rattle.simd_cesu8.specs.Encoding.{Cesu8, encoding}
-use Rattle.simd_cesu8.specs.Order.{IsBelow}
 use Rattle.simd_cesu8.specs.Reading.{IsStrictReading}
 use Rattle.simd_cesu8.specs.Utf16.{units}
 
@@ -17,7 +17,7 @@ value_at store text = get_by (λ key. slice_cmp nat_cmp (encoding Cesu8 text) ke
 abbrev pub IsBelowInUtf16 : Vec ℕ → Vec ℕ → Type 0
 IsBelowInUtf16 key other = (s t : List ℕ) →
     IsStrictReading Cesu8 key.items s → IsStrictReading Cesu8 other.items t →
-    IsBelow (units s) (units t)
+    slice_cmp nat_cmp (units s) (units t) ≡ Less
 
 -- The store has its keys in the order of UTF-16: each is below those after it.
 abbrev pub IsInUtf16Order : BTreeMap (Vec ℕ) ℕ → Type 0

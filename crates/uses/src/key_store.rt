@@ -34,8 +34,7 @@ pub fn put_value(alloc: Global, store: &mut Store, key: &str, value: u64) -> Res
 {
     laws::chars();
     laws::round_trip();
-    laws::order();
-    laws::dictionary_order();
+    laws::key_order();
     let encoded = simd_cesu8::encode(alloc, key)?.into_vec(alloc)?;
     store.insert(encoded, value)?;
     Ok(())

@@ -1,10 +1,10 @@
 //! Keys by themselves.
 
 ghost use Rattle.std.specs.Prelude.{◌≡◌, ◌≢◌, All, IfOk};
-ghost use Rattle.std.specs.Ordering.{MatchOrdering};
+ghost use Rattle.std.specs.Cmp.Lexicographic.{slice_cmp};
+ghost use Rattle.std.specs.Ordering.{nat_cmp};
 ghost use Rattle.std.specs.Str.{chars};
 ghost use Rattle.simd_cesu8.specs.Encoding.{Mutf8, encoding};
-ghost use Rattle.simd_cesu8.specs.Order.{IsBelow};
 ghost use Rattle.simd_cesu8.specs.Utf16.{units};
 
 use simd_cesu8::{laws, mutf8};
@@ -34,14 +34,11 @@ pub fn key_without_zero(alloc: Global, text: &str) -> Result<Vec<u8>, AllocError
 /// assert_eq!(rt; ordering, Ordering::Greater);
 /// ```
 pub fn compare_as_utf16(alloc: Global, text: &str, other: &str) -> Result<Ordering, AllocError>
-    ensures { IfOk result (λ ordering. MatchOrdering ordering
-        (IsBelow (units (chars text.now)) (units (chars other.now)))
-        (units (chars text.now) ≡ units (chars other.now))
-        (IsBelow (units (chars other.now)) (units (chars text.now)))) }
+    ensures { IfOk result (λ ordering.
+        ordering ≡ slice_cmp nat_cmp (units (chars text.now)) (units (chars other.now))) }
 {
     laws::chars();
-    laws::order();
-    laws::dictionary_order();
+    laws::key_order();
     let key = simd_cesu8::encode(alloc, text)?;
     let other_key = simd_cesu8::encode(alloc, other)?;
     Ok(key.as_bytes().cmp(other_key.as_bytes()))

@@ -40,7 +40,7 @@ fn append_strings(alloc: Global, source: &[u8], target: &mut Vec<u8>) -> Result<
     ensures grown { (more : List ℕ) × (target.new.items ≡ target.old.items ++ more) }
 {
     laws::bounds();
-    laws::sequence();
+    laws::in_turn();
     let mut rest = source;
     let mut count: usize = 0;
     while !rest.is_empty() {

@@ -7,16 +7,16 @@ pub returns-in_err-text-clause-refused : goal.returns-in_err-text-clause-refused
 returns-in_err-text-clause-refused c =
     let some_left : c.loop-rest.rest.now ≡ [] → ⊥ =
     λ none. let len = ap length none in grind (arith, common_steps) in
-    let refused = refused_whole c.in_err-text.field-0.0 c.loop-rest.invariant some_left
+    let refused = refused_whole c.in_turn.ensures.none_follows c.in_err-text.field-0.0 c.loop-rest.invariant some_left
     c.in_err-text.ensures.refused in
     search (rules, refused)
 
 pub loop-rest-preserved-in-Ok : goal.loop-rest-preserved-in-Ok
 loop-rest-preserved-in-Ok c =
-    one_copied c.bounds.ensures c.loop-rest.invariant c.in_ok-text.ensures.text
-    c.in_ok-text.ensures.only (rw c.as_str.ensures at c.in-Ok.ensures.ok)
+    one_copied c.bounds.ensures c.in_turn.ensures.one_more c.loop-rest.invariant c.in_ok-text.ensures.text
+    (rw c.as_str.ensures at c.in-Ok.ensures.ok)
 
 pub loop-rest-preserved : goal.loop-rest-preserved
 loop-rest-preserved c =
-    one_copied c.bounds.ensures c.loop-rest.invariant c.in_ok-text.ensures.text
-    c.in_ok-text.ensures.only (rw c.as_str.ensures at c.in-Ok.ensures.ok)
+    one_copied c.bounds.ensures c.in_turn.ensures.one_more c.loop-rest.invariant c.in_ok-text.ensures.text
+    (rw c.as_str.ensures at c.in-Ok.ensures.ok)
