@@ -83,7 +83,7 @@ refused_row() {
     keep "$4" ''
     refuse_in_turn "$1 $2 on $4" "$1" "$2" 1 "$5"
     expect_requests "$1 $2 on $4" "$3"
-    [[ -z ${6-} ]] || hold "$1 $2 on $4, ${sizes[-1]} bytes requested" [ "${sizes[-1]}" -eq "$6" ]
+    [[ -z ${6-} ]] || expect "$1 $2 on $4, ${sizes[-1]} bytes requested" [ "${sizes[-1]}" -eq "$6" ]
 }
 
 rows() {
