@@ -218,10 +218,11 @@ long_row() {
 refused_long_rows() {
     local part
     for part in $'\xF0\x9F\x92\x96' $'\xED\xA0\xBDa'; do
-        keep_long 100000 "$part" 4 '' 0
+        keep_long 100000 "$part" ''
+        : >"$scratch/wanted"
         refuse_in_turn 'decode-strict cesu8 on a long refused input' decode-strict cesu8 1 \
             'cesu8: invalid input'
-        hold "decode-strict on a long refused input, ${sizes[-1]} bytes requested" \
+        expect "decode-strict on a long refused input, ${sizes[-1]} bytes requested" \
             [ "${sizes[-1]}" -eq 100000 ]
     done
 }
