@@ -145,12 +145,12 @@ rows() {
         refused_row decode-strict "$flavor" 2 'a\xED\xA0\xBD' "$invalid" 4
         refused_row decode-strict "$flavor" 2 "a$heart" "$invalid" 5
     done
-    refused_row decode-strict mutf8 2 'a\x00' "$invalid" 2
+    refused_row decode-strict mutf8 2 'abc\x00' "$invalid" 4
     refused_row java-write mutf8 1 'a\xFF' 'cesu8: input is not UTF-8'
     refused_row java-read mutf8 1 '\x00\x03a\xC0' 'cesu8: input is truncated'
     refused_row java-read mutf8 1 '\x00\x01ab' 'cesu8: bytes after the string'
     refused_row java-read mutf8 2 '\x00\x03\xED\xA0\xBD' "$invalid" 3
-    refused_row java-read mutf8 2 '\x00\x02a\x00' "$invalid" 2
+    refused_row java-read mutf8 2 '\x00\x04abc\x00' "$invalid" 4
     refused_row java-read mutf8 2 '\x00\x03a\xC0\x80b' 'cesu8: bytes after the string' 3
 }
 
