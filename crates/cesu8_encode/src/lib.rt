@@ -47,7 +47,7 @@ const FEW_ENCODED: usize = 2 * FEW;
 /// The most bytes that the encoding of a block has.
 const BLOCK_ENCODED: usize = 2 * BLOCK;
 
-/// The most bytes that are encoded on the stack.
+/// The most bytes that an encoding on the stack has.
 const ON_STACK_ENCODED: usize = 2 * ON_STACK;
 
 /// Returns the encoding of a text, after one request for exactly its length. It is inlined, so that
