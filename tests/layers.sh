@@ -20,8 +20,6 @@ trap 'rm -rf "$scratch"' EXIT
 # The modules that import one another, of each crate.
 known_cycles() {
     cat <<'MODULES'
-cesu8_bytes crate::joining
-cesu8_bytes crate::joining::pairs
 cesu8_decode crate
 cesu8_decode crate::appending
 cesu8_decode crate::few

@@ -9,7 +9,7 @@ ghost use Rattle.cesu8_text.specs.Class.{IsChangedByte};
 ghost use Rattle.cesu8_bytes.specs.Internal.{flavor_of};
 
 use crate::implementation::class::{High, NullHigh};
-use crate::implementation::short::{SHORT, any_in_short};
+use crate::implementation::short::{SHORT_VALUE, any_in_short};
 use crate::options::Flavor;
 
 /// Returns whether the bytes are few and all ASCII.
@@ -17,7 +17,7 @@ use crate::options::Flavor;
 pub fn is_short_ascii(bytes: &[u8]) -> bool
     ensures { IsTrue result → IsAscii bytes.now }
 {
-    bytes.len() <= SHORT && !any_in_short::<High>(bytes)
+    bytes.len() <= SHORT_VALUE && !any_in_short::<High>(bytes)
 }
 
 /// Returns whether the bytes are few and all ASCII that does not change.
@@ -28,7 +28,7 @@ pub fn is_short_unchanged_ascii(flavor: Flavor, bytes: &[u8]) -> bool
 {
     match flavor {
         Flavor::Cesu8 => is_short_ascii(bytes),
-        Flavor::Mutf8 => bytes.len() <= SHORT && !any_in_short::<NullHigh>(bytes),
+        Flavor::Mutf8 => bytes.len() <= SHORT_VALUE && !any_in_short::<NullHigh>(bytes),
     }
 }
 

@@ -1,4 +1,7 @@
 //! The first looks at an input: whether a byte of it changes, and whether it is UTF-8.
+//!
+//! Both choose by a length, for speed alone. A short value is tested by vectors of one width, and
+//! the front of long input before the rest.
 
 ghost use Rattle.std.specs.Prelude.{◌↔◌, IsTrue, Any, ◌≡◌, ◌*◌, length, IsUtf8, ◌<◌};
 ghost use Rattle.cesu8_text.specs.Class.{IsChangedByte, IsUnchangedUtf8};
@@ -9,7 +12,7 @@ ghost use Rattle.cesu8_text.specs.Encoding.{NeedsEncoding};
 use crate::continuation::character_start;
 use crate::implementation::active;
 use crate::implementation::class::{Four, NullFour};
-use crate::implementation::short::{SHORT, any_in_short};
+use crate::implementation::short::{SHORT_VALUE, any_in_short};
 use crate::options::Flavor;
 use simdutf8::compat;
 
@@ -19,7 +22,7 @@ pub fn contains_changed(flavor: Flavor, bytes: &[u8]) -> bool
     ensures { IsTrue result ↔ Any (IsChangedByte (flavor_of flavor)) bytes.now }
 {
     // From this length on the kernels test four vectors at once.
-    if bytes.len() < SHORT {
+    if bytes.len() < SHORT_VALUE {
         return short_contains_changed(flavor, bytes);
     }
     match flavor {
@@ -45,11 +48,14 @@ pub fn needs_encoded(flavor: Flavor, value: &str) -> bool
     contains_changed(flavor, value.as_bytes())
 }
 
-/// How many bytes of a longer input are tested first.
-const FRONT: usize = 512;
+/// How many bytes of long input are tested for UTF-8 first.
+const TESTED_FIRST: usize = 512;
+
+/// The least bytes of long input.
+const LONG: usize = 4 * TESTED_FIRST;
 
 /// Returns the bytes as a text if they are UTF-8, and otherwise the empty text, which no such bytes
-/// have. If they are not UTF-8, the front mostly shows it, and the rest is not tested.
+/// have. If long input is not UTF-8, its front mostly shows it, and the rest is not tested.
 ///
 /// A text is returned in registers; a `Result` with it would be returned through memory.
 #[inline(always)]
@@ -58,7 +64,7 @@ pub fn whole_text(bytes: &[u8]) -> &str
         → (result.now ≡ bytes.now) × IsUtf8 bytes.now }
     ensures none { ¬ (length result.now ≡ length bytes.now) → ¬ (IsUtf8 bytes.now) }
 {
-    if bytes.len() >= 4 * FRONT && !has_utf8_front(bytes) {
+    if bytes.len() >= LONG && !has_utf8_front(bytes) {
         return "";
     }
     match compat::from_utf8(bytes) {
@@ -69,17 +75,18 @@ pub fn whole_text(bytes: &[u8]) -> &str
 
 /// Returns whether the front of the bytes is UTF-8, up to the start of a character.
 fn has_utf8_front(bytes: &[u8]) -> bool
-    requires { FRONT < length bytes.now }
+    requires { TESTED_FIRST < length bytes.now }
     ensures { IsUtf8 bytes.now → IsTrue result }
 {
-    match character_start(bytes, FRONT) {
+    match character_start(bytes, TESTED_FIRST) {
         Some(start) => simdutf8::is_utf8(&bytes[..start]),
         // UTF-8 has no four continuation bytes in a row.
         None => false,
     }
 }
 
-/// The same for UTF-8 without a byte that changes.
+/// Returns the bytes as a text if they are UTF-8 without a byte that changes, and otherwise the
+/// empty text, as `whole_text` does.
 #[inline(always)]
 pub fn unchanged_text(flavor: Flavor, bytes: &[u8]) -> &str
     ensures whole { length result.now ≡ length bytes.now

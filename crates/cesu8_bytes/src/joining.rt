@@ -9,49 +9,24 @@ ghost use Rattle.cesu8_text.specs.Encoding.{Flavor as AnyFlavor, Mutf8};
 ghost use Rattle.cesu8_bytes.specs.Internal.{flavor_of};
 ghost use Rattle.cesu8_bytes.specs.Joining.{IsJoined, IsJoinedAfter, KeepsJoined, nulls, HasNull};
 
+mod buffer;
 pub mod pairs;
 
+use crate::BLOCK;
 use crate::options::Flavor;
-pub use pairs::{PAIR, PAIR_READ, is_pair, utf8_of_pair};
-use pairs::{PAIR_BITS, PAIR_LEAD, PAIR_MARKS, PAIR_UTF8, join_pairs, pair_bits};
+use buffer::Progress;
+pub use buffer::{MOST_JOINED, MUST_FOLLOW, ROOM_LEN, Room, Step};
+pub use pairs::{PAIR, PAIR_READ, PAIR_UTF8, is_pair, utf8_of_pair};
+use pairs::{PAIR_BITS, PAIR_LEAD, PAIR_MARKS, join_pairs, pair_bits};
 use std::simd::prelude::*;
 
-/// How many bytes are copied and marked at once.
-pub const BLOCK: usize = 32;
-
-/// The most bytes that are joined, besides the end of a pair.
-pub const WINDOW: usize = 1024;
-
-/// The most bytes that are read or written with that.
-pub const MOST: usize = WINDOW + PAIR;
-
-/// How many bytes must follow those that are joined. A block that is copied from their end needs
-/// 32, a block that is marked from their last byte as many, and a pair across it 8.
-pub const REACH: usize = 48;
-
-/// The length of a buffer for a joined window, and for the last block that is copied.
-pub const ROOM_LEN: usize = WINDOW + 2 * BLOCK;
-
-pub type Room = [u8; ROOM_LEN];
-
-/// How many bytes were read, and how many were written for them.
-#[derive(Clone, Copy)]
-pub struct Step {
-    pub read: usize,
-    pub written: usize,
-}
-
-/// What is left to join, and how many bytes of the buffer are written.
-#[derive(Clone, Copy)]
-pub struct Progress<'a> {
-    pub rest: &'a [u8],
-    pub written: usize,
-}
+/// The most bytes that are read, or written, with the end of a pair.
+pub const MOST_WITH_PAIR: usize = MOST_JOINED + PAIR;
 
 /// Joins the first `end` bytes and a pair across their end, or fewer if some can't be joined.
 pub fn join(flavor: Flavor, bytes: &[u8], end: usize, room: &mut Room) -> Step
-    requires { (end + REACH ≤ length bytes.now) × (end ≤ WINDOW) }
-    ensures within { (result.read ≤ end + PAIR) × (result.written ≤ MOST) }
+    requires { (end + MUST_FOLLOW ≤ length bytes.now) × (end ≤ MOST_JOINED) }
+    ensures within { (result.read ≤ end + PAIR) × (result.written ≤ MOST_WITH_PAIR) }
     ensures joined { IsJoined (flavor_of flavor) (take result.read bytes.now)
         (take result.written room.new) }
 {
@@ -62,11 +37,11 @@ pub fn join(flavor: Flavor, bytes: &[u8], end: usize, room: &mut Room) -> Step
     }
 }
 
-/// The same, for a flavor that the compiler knows.
+/// Joins as `join` does, for a flavor that the compiler knows.
 #[inline(always)]
 fn join_blocks(flavor: Flavor, bytes: &[u8], end: usize, room: &mut Room) -> Step
-    requires { (end + REACH ≤ length bytes.now) × (end ≤ WINDOW) }
-    ensures within { (result.read ≤ end + PAIR) × (result.written ≤ MOST) }
+    requires { (end + MUST_FOLLOW ≤ length bytes.now) × (end ≤ MOST_JOINED) }
+    ensures within { (result.read ≤ end + PAIR) × (result.written ≤ MOST_WITH_PAIR) }
     ensures joined { IsJoined (flavor_of flavor) (take result.read bytes.now)
         (take result.written room.new) }
 {
@@ -91,8 +66,8 @@ fn join_blocks(flavor: Flavor, bytes: &[u8], end: usize, room: &mut Room) -> Ste
 /// Copies a block without marks before its end, or joins one with marks.
 #[inline(always)]
 fn join_block<'a>(flavor: Flavor, at: Progress<'a>, stop: usize, room: &mut Room) -> Progress<'a>
-    requires stop { (stop < length at.rest.now) × (REACH ≤ stop) }
-    requires room { at.written + length at.rest.now ≤ WINDOW + stop }
+    requires stop { (stop < length at.rest.now) × (MUST_FOLLOW ≤ stop) }
+    requires room { at.written + length at.rest.now ≤ MOST_JOINED + stop }
     ensures after { IsJoinedAfter at.entry.rest.now result.rest.now
         at.entry.written result.written stop }
     ensures joined { KeepsJoined (flavor_of flavor)
@@ -146,8 +121,8 @@ fn join_marked<'a>(
     stop: usize,
     room: &mut Room,
 ) -> Progress<'a>
-    requires stop { (stop < length start.rest.now) × (REACH ≤ stop) }
-    requires room { start.written + length start.rest.now ≤ WINDOW + stop }
+    requires stop { (stop < length start.rest.now) × (MUST_FOLLOW ≤ stop) }
+    requires room { start.written + length start.rest.now ≤ MOST_JOINED + stop }
     ensures after { IsJoinedAfter start.entry.rest.now result.rest.now
         start.entry.written result.written stop }
     ensures joined { KeepsJoined (flavor_of flavor)
@@ -253,16 +228,16 @@ fn null_bits(flavor: Flavor, bytes: &[u8]) -> u64
     }
 }
 
-/// The bits of the null character.
+/// The bits of the null character of MUTF-8.
 const NULL_BITS: u64 = 0x80C0;
 
-/// How many bytes the null character of MUTF-8 has,
+/// How many bytes the null character of MUTF-8 has.
 const NULL: usize = 2;
 
-/// how many its UTF-8 has,
+/// How many bytes the null character has in UTF-8.
 const NULL_UTF8: usize = 1;
 
-/// and how many null characters a block has.
+/// How many null characters of MUTF-8 a block has.
 const NULLS_IN_BLOCK: usize = BLOCK / NULL;
 
 /// The bytes of a block of null characters.
@@ -271,7 +246,7 @@ const NULLS: [u8; BLOCK] = [
     0xC0, 0x80, 0xC0, 0x80, 0xC0, 0x80, 0xC0, 0x80, 0xC0, 0x80, 0xC0, 0x80, 0xC0, 0x80, 0xC0, 0x80,
 ];
 
-/// Their marks.
+/// The marks of a block of null characters.
 const NULL_MARKS: u32 = 0x5555_5555;
 
 /// Returns whether a block of null characters of MUTF-8 begins the bytes.

@@ -5,8 +5,8 @@ ghost use Rattle.std.specs.Str.{chars};
 ghost use Rattle.cesu8_text.specs.Encoding.{encoding};
 ghost use Rattle.cesu8_bytes.specs.Internal.{flavor_of};
 
-use crate::implementation::class::{LANES, NoByte, Null};
-use crate::implementation::count::{DoubledNulls, growth, short_growth};
+use crate::implementation::class::{NoByte, Null};
+use crate::implementation::count::growth;
 use crate::options::Flavor;
 
 /// Returns the length of a text's encoding, in bytes. A character of four bytes becomes six, and in
@@ -15,29 +15,9 @@ use crate::options::Flavor;
 pub fn encoded_len(flavor: Flavor, text: &str) -> usize
     ensures { result ≡ length (encoding (flavor_of flavor) (chars text.now)) }
 {
+    let bytes = text.as_bytes();
     match flavor {
-        Flavor::Cesu8 => len_in_flavor::<NoByte>(text),
-        Flavor::Mutf8 => len_in_flavor::<Null>(text),
+        Flavor::Cesu8 => bytes.len() + growth::<NoByte>(bytes),
+        Flavor::Mutf8 => bytes.len() + growth::<Null>(bytes),
     }
-}
-
-/// A short text is counted where it is needed, without a call.
-#[inline(always)]
-fn len_in_flavor<C: DoubledNulls>(text: &str) -> usize
-    ensures { result ≡ length (encoding C.flavor (chars text.now)) }
-{
-    let bytes = text.as_bytes();
-    if bytes.len() <= LANES {
-        return bytes.len() + short_growth::<C>(bytes);
-    }
-    long_len::<C>(text)
-}
-
-/// The same, fast for more than 64 bytes.
-#[inline(never)]
-fn long_len<C: DoubledNulls>(text: &str) -> usize
-    ensures { result ≡ length (encoding C.flavor (chars text.now)) }
-{
-    let bytes = text.as_bytes();
-    bytes.len() + growth::<C>(bytes)
 }

@@ -16,5 +16,8 @@ pub mod runs;
 pub mod window;
 pub mod writers;
 
+/// How many bytes form a block, which one vector holds.
+pub const BLOCK: usize = 32;
+
 /// A shuffle for each of 256 sets.
 pub type Rows = [[u8; 16]; 256];

@@ -6,7 +6,8 @@ ghost use Rattle.cesu8_text.specs.Class.{is_null};
 ghost use Rattle.cesu8_bytes.specs.Kernels.{mask};
 ghost use Rattle.cesu8_bytes.specs.Joining.{null_at, nulls};
 
-use super::joining::{BLOCK, is_nulls};
+use super::joining::is_nulls;
+use crate::BLOCK;
 use std::simd::prelude::*;
 
 /// The form of U+0000.

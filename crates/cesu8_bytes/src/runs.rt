@@ -29,7 +29,7 @@ pub fn copy_run<C: InAllVectors>(bytes: &[u8], out: &mut [u8], at: usize) -> usi
     0
 }
 
-/// The same for the first bytes, as many as a vector has.
+/// Copies a vector of bytes, and returns how many of them precede one of the class.
 #[inline(always)]
 fn copy_lanes<C: InVectors<N>, const N: usize>(bytes: &[u8], out: &mut [u8], at: usize) -> usize
     requires lanes { (N ≤ LANES) × (N ≤ length bytes.now) }

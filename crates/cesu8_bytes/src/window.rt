@@ -7,18 +7,18 @@ ghost use Rattle.cesu8_bytes.specs.Joining.{IsJoined};
 ghost use Rattle.cesu8_bytes.specs.Pieces.{IsPiece};
 ghost use Rattle.cesu8_bytes.specs.declared.options.Strictness.{Strictness};
 
-use super::joining::{MOST, PAIR, REACH, Room, Step, WINDOW, join};
+use super::joining::{MOST_JOINED, MOST_WITH_PAIR, MUST_FOLLOW, PAIR, Room, Step, join};
 use crate::continuation::is_continuation;
 use crate::first_looks::contains_changed;
 use crate::options::Flavor;
 use simdutf8::basic;
 
-/// So few bytes, or fewer, are not read by windows.
+/// The most bytes that are too few for a window. `MUST_FOLLOW` bounds them from below.
 pub const TOO_FEW: usize = 64;
 
 /// The most bytes that are written for a window: those that are joined, and the continuation bytes
 /// after them.
-const FILLED: usize = MOST + PAIR;
+const FILLED: usize = MOST_WITH_PAIR + PAIR;
 
 /// The text of the first bytes, and their number.
 #[derive(Drop)]
@@ -61,14 +61,14 @@ pub fn join_window(flavor: Flavor, bytes: &[u8], len: usize, room: &mut Room) ->
     ensures joined { IsJoined (flavor_of flavor) (take result.read bytes.now)
         (take result.written room.new) }
 {
-    let end = len.min(WINDOW).min(bytes.len() - REACH);
+    let end = len.min(MOST_JOINED).min(bytes.len() - MUST_FOLLOW);
     let step = join(flavor, bytes, end, room);
     copy_end(bytes, step, room)
 }
 
 /// Copies the continuation bytes that follow a step.
 fn copy_end(bytes: &[u8], step: Step, room: &mut Room) -> Step
-    requires { (step.read ≤ length bytes.now) × (step.written ≤ MOST) }
+    requires { (step.read ≤ length bytes.now) × (step.written ≤ MOST_WITH_PAIR) }
     ensures within { (result.read ≤ length bytes.now) × (result.written ≤ FILLED) }
     ensures joined { (f : AnyFlavor)
         → IsJoined f (take step.read bytes.now) (take step.written room.old)

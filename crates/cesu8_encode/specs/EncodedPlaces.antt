@@ -40,7 +40,7 @@ encoded_byte f two_before before b next =
     then inserted f b ∷ changed f two_before before b next ∷ []
     else changed f two_before before b next ∷ []
 
--- The same for the byte of a window that follows the first i bytes and two more.
+-- The first and the second of the bytes that are written for the byte of a window that follows the first i bytes and two more.
 abbrev pub inserted_at : Flavor → List ℕ → ℕ → ℕ
 inserted_at f window i = inserted f (slice_index window (i + 2))
 
@@ -67,6 +67,11 @@ recoded f bytes = encoded_bytes f (0 ∷ 0 ∷ bytes) 0 (length bytes)
 abbrev pub IsWritten : Flavor → List ℕ → ℕ → List ℕ → ℕ → Type 0
 IsWritten f bytes n out end = (take end out ≡ encoded_bytes f (0 ∷ 0 ∷ bytes) 0 n) × (end ≤ length out)
 
+-- It has that after a call, and its length stays.
+pub record Writes (f : Flavor) (bytes : List ℕ) (n : ℕ) (old new : List ℕ) (end : ℕ) : Type 0 where
+  pub written : IsWritten f bytes n new end
+  pub len : length new ≡ length old
+
 -- What is written for bytes in a row: for each the second byte, and the first before that if its
 -- test holds.
 abbrev pub packed : List Bool → List ℕ → List ℕ → List ℕ
@@ -83,7 +88,7 @@ kept_lanes doubled i (suc n) =
     if doubled % 2 == 1 then (8 + i) ∷ i ∷ kept_lanes (doubled / 2) (i + 1) n
     else i ∷ kept_lanes (doubled / 2) (i + 1) n
 
--- The same as a shuffle of sixteen lanes, of which the last are not used.
+-- The kept lanes as a shuffle of sixteen, of which the last are not used.
 abbrev pub shuffle_of : ℕ → List ℕ
 shuffle_of doubled =
     let kept = kept_lanes doubled 0 8 in kept ++ replicate (16 - length kept) 0

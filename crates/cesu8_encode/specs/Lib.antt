@@ -1,1 +1,3 @@
 pub mod EncodedPlaces
+pub mod Encoded
+pub mod Ways

@@ -1,4 +1,8 @@
 //! Encodes 32 bytes, by vectors.
+//!
+//! A byte becomes one byte or two, as the two before it, itself and the next decide. Loads that
+//! begin a byte apart have these four in one lane each. Of a row of eight bytes, sixteen lanes are
+//! packed by one shuffle and stored, and the next row overwrites those that it does not need.
 
 ghost use Rattle.std.specs.Prelude.{◌≡◌, ℕ, List, Bool, ◌+◌, ◌*◌, ◌%◌, ◌/◌, ◌^◌, ◌<◌, ◌≤◌, ◌==◌, ◌++◌, map, length, take, IsTrue};
 ghost use Rattle.std.specs.Simd.Lanes.{chunk, zip2, mask_l};
@@ -8,30 +12,28 @@ ghost use Rattle.cesu8_bytes.specs.Kernels.{mask};
 ghost use Rattle.cesu8_encode.specs.EncodedPlaces.{six_bits, packed, encoded_bytes, AreShuffles, AreLanes};
 
 use super::rows::rows;
-use cesu8_bytes::Rows;
 use cesu8_bytes::null_form::NullForm;
 use cesu8_bytes::writers::put;
+use cesu8_bytes::{BLOCK, Rows};
 use std::simd::prelude::*;
 
-/// How many bytes of a text form a block.
-pub const BLOCK: usize = 32;
+/// How many bytes before a block are read with it, since they decide what its bytes become.
+pub const READ_BEFORE: usize = 2;
 
-/// How many bytes before a block are read with it, since they decide what its bytes become,
-pub const BEFORE: usize = 2;
+/// How many bytes after a block are read with it.
+pub const READ_AFTER: usize = 1;
 
-/// how many after it,
-pub const AFTER: usize = 1;
-
-/// and the length of a block with these.
-pub const WINDOW: usize = BEFORE + BLOCK + AFTER;
+/// How many bytes are read to encode a block.
+pub const BLOCK_READ: usize = READ_BEFORE + BLOCK + READ_AFTER;
 
 /// How many bytes of a block form a row.
 const ROW: usize = 8;
 
-/// How many bytes a row needs when it is stored, and the rows of a block.
-const STORED_ROW: usize = 2 * ROW;
+/// How many bytes are stored for a row, whatever it becomes.
+const ROW_STORED: usize = 2 * ROW;
 
-const STORED: usize = 2 * BLOCK;
+/// How many bytes are stored for the rows of a block.
+const BLOCK_STORED: usize = 2 * BLOCK;
 
 /// Writes what the first `count` bytes of the block at a position become, and returns its end.
 ///
@@ -44,7 +46,7 @@ pub fn write_block<N: NullForm>(
     out: &mut [u8],
     end: usize,
 ) -> usize
-    requires window { at + WINDOW ≤ length window.now }
+    requires window { at + BLOCK_READ ≤ length window.now }
     requires count { count ≤ BLOCK }
     requires room { end + length (encoded_bytes N.flavor window.now at count) ≤ length out.old }
     ensures bytes { take result out.new ≡ take end out.old ++ encoded_bytes N.flavor window.now at count }
@@ -52,10 +54,10 @@ pub fn write_block<N: NullForm>(
     ensures len { length out.new ≡ length out.old }
 {
     let block = encode_block::<N>(window, at);
-    if STORED <= out.len() - end {
+    if BLOCK_STORED <= out.len() - end {
         return store_block(&block, count, out, end);
     }
-    let mut stored = [0; STORED];
+    let mut stored = [0; BLOCK_STORED];
     let len = store_block(&block, count, &mut stored, 0);
     put(&stored[..len], out, end)
 }
@@ -72,7 +74,7 @@ struct EncodedBlock {
 /// Returns the lanes of the block that follows the first `at` bytes of a window, and two more.
 #[inline(always)]
 fn encode_block<N: NullForm>(window: &[u8], at: usize) -> EncodedBlock
-    requires { at + WINDOW ≤ length window.now }
+    requires { at + BLOCK_READ ≤ length window.now }
     ensures { AreLanes N.flavor window.now at result.seconds result.firsts result.doubled }
 {
     let bytes = u8x32::from_slice(&window[at + 2..]);
@@ -129,11 +131,11 @@ fn bits(lanes: u8x32) -> u64
 fn store_row(lanes: u8x16, doubled: usize, rows: &Rows, out: &mut [u8], at: usize) -> usize
     requires rows { AreShuffles rows.now }
     requires small { doubled < 0x100 }
-    requires room { at + STORED_ROW ≤ length out.old }
+    requires room { at + ROW_STORED ≤ length out.old }
     ensures bytes { (ts : List Bool) → length ts ≡ ROW → doubled ≡ mask_l ts
         → take result out.new
         ≡ take at out.old ++ packed ts (chunk ROW ROW lanes) (chunk 0 ROW lanes) }
-    ensures end { (at ≤ result) × (result ≤ at + STORED_ROW) }
+    ensures end { (at ≤ result) × (result ≤ at + ROW_STORED) }
     ensures len { length out.new ≡ length out.old }
 {
     let packed = lanes.swizzle_dyn(u8x16::from_array(rows[doubled]));
@@ -145,7 +147,7 @@ fn store_row(lanes: u8x16, doubled: usize, rows: &Rows, out: &mut [u8], at: usiz
 #[inline(always)]
 fn store_block(block: &EncodedBlock, count: usize, out: &mut [u8], end: usize) -> usize
     requires count { count ≤ BLOCK }
-    requires room { end + STORED ≤ length out.old }
+    requires room { end + BLOCK_STORED ≤ length out.old }
     ensures bytes { (f : Flavor) → (window : List ℕ) → (at : ℕ)
         → AreLanes f window at block.now.seconds block.now.firsts block.now.doubled
         → take result out.new ≡ take end out.old ++ encoded_bytes f window at count }
@@ -169,10 +171,10 @@ fn store_rows(
     at: usize,
 ) -> usize
     requires rows { AreShuffles rows.now }
-    requires room { at + STORED ≤ length out.old }
+    requires room { at + BLOCK_STORED ≤ length out.old }
     ensures bytes { (ts : List Bool) → length ts ≡ BLOCK → doubled ≡ mask_l ts
         → take result out.new ≡ take at out.old ++ packed ts firsts seconds }
-    ensures end { (at ≤ result) × (result ≤ at + STORED) }
+    ensures end { (at ≤ result) × (result ≤ at + BLOCK_STORED) }
     ensures len { length out.new ≡ length out.old }
 {
     let row = seconds.shuffle::<16>(

@@ -3,62 +3,43 @@
 //! A vector copies a run of bytes that stay. Continuation bytes stay too, so the width of a
 //! character decides nothing unless it is four.
 
-ghost use Rattle.std.specs.Prelude.{◌≡◌, ℕ, ◌+◌, ◌*◌, ◌≤◌, ◌<◌, [], ◌∷◌, ◌++◌, length, take, drop, slice_index, IsTrue};
+ghost use Rattle.std.specs.Prelude.{◌≡◌, ℕ, ◌+◌, ◌≤◌, ◌<◌, [], ◌∷◌, ◌++◌, length, take, drop, slice_index, IsTrue};
 ghost use Rattle.std.specs.Str.{chars};
 ghost use Rattle.cesu8_text.specs.Text.{IsScalarValue, utf8_of};
 ghost use Rattle.cesu8_text.specs.Encoding.{Flavor as AnyFlavor, encoding, short_form};
+ghost use Rattle.cesu8_encode.specs.Encoded.{WritesEncoding};
 ghost use Rattle.cesu8_encode.specs.EncodedPlaces.{IsRun};
 ghost use Rattle.cesu8_bytes.specs.Internal.{flavor_of};
 
 use cesu8_bytes::implementation::class::{Lead, NullLead};
 use cesu8_bytes::implementation::short::any_in_short;
+use cesu8_bytes::joining::{PAIR, PAIR_UTF8};
 use cesu8_bytes::options::Flavor;
 use cesu8_bytes::runs::copy_run;
 use cesu8_bytes::writers::put;
 
-/// The most bytes that are few.
-pub const FEW: usize = 24;
-
 /// The least lead byte of a character of four bytes.
 const FOUR_LEAD: u8 = 0xF0;
 
-/// How many bytes such a character has in UTF-8,
-const FOUR: usize = 4;
-
-/// and as a surrogate pair.
-const PAIR: usize = 6;
-
-/// Returns whether a text has few bytes, and none of them changes.
+/// Returns whether no byte of a text changes. It is correct for every length, and fast for a few
+/// bytes.
 #[inline(always)]
-pub fn is_few_unchanged(flavor: Flavor, text: &str) -> bool
+pub fn is_unchanged(flavor: Flavor, text: &str) -> bool
     ensures { IsTrue result → encoding (flavor_of flavor) (chars text.now) ≡ text.now }
 {
-    let bytes = text.as_bytes();
-    if bytes.len() > FEW {
-        return false;
-    }
     match flavor {
-        Flavor::Cesu8 => !any_in_short::<Lead>(bytes),
-        Flavor::Mutf8 => !any_in_short::<NullLead>(bytes),
+        Flavor::Cesu8 => !any_in_short::<Lead>(text.as_bytes()),
+        Flavor::Mutf8 => !any_in_short::<NullLead>(text.as_bytes()),
     }
 }
 
-/// Returns whether a text has few bytes.
-#[inline(always)]
-pub fn is_few(text: &str) -> bool
-    ensures { IsTrue result → length text.now ≤ FEW }
-{
-    text.len() <= FEW
-}
-
-/// Writes the encoding of a text at the front of a slice, and returns its length.
+/// Writes the encoding of a text at the front of a slice that is long enough, and returns its
+/// length. What is behind it stays.
 #[inline(never)]
 pub fn write_few(flavor: Flavor, text: &str, out: &mut [u8]) -> usize
-    requires { 2 * length text.now ≤ length out.old }
-    ensures bytes { take result out.new ≡ encoding (flavor_of flavor) (chars text.now) }
-    ensures end { result ≤ length out.new }
+    requires { length (encoding (flavor_of flavor) (chars text.now)) ≤ length out.old }
+    ensures written { WritesEncoding (flavor_of flavor) text.now out.old out.new result }
     ensures behind { drop result out.new ≡ drop result out.old }
-    ensures len { length out.new ≡ length out.old }
 {
     let bytes = text.as_bytes();
     let mut read = 0;
@@ -74,7 +55,7 @@ pub fn write_few(flavor: Flavor, text: &str, out: &mut [u8]) -> usize
             read += 1;
         } else {
             end = put(&pair_of(&bytes[read..]), out, end);
-            read += FOUR;
+            read += PAIR_UTF8;
         }
     }
     end
@@ -104,7 +85,7 @@ fn copy_some(bytes: &[u8], out: &mut [u8], at: usize) -> usize
 /// Writes the encoding of U+0000 to a position, and returns its end.
 #[inline(always)]
 fn write_null(flavor: Flavor, out: &mut [u8], at: usize) -> usize
-    requires { at + 2 ≤ length out.old }
+    requires { at + length (short_form (flavor_of flavor) 0) ≤ length out.old }
     ensures bytes { take result out.new ≡ take at out.old ++ short_form (flavor_of flavor) 0 }
     ensures end { result ≡ at + length (short_form (flavor_of flavor) 0) }
     ensures behind { drop result out.new ≡ drop result out.old }
@@ -119,9 +100,9 @@ fn write_null(flavor: Flavor, out: &mut [u8], at: usize) -> usize
 /// Returns the surrogate pair of the character of four bytes that begins the bytes.
 #[inline(always)]
 fn pair_of(bytes: &[u8]) -> [u8; PAIR]
-    requires { FOUR ≤ length bytes.now }
+    requires { PAIR_UTF8 ≤ length bytes.now }
     ensures { (f : AnyFlavor) → (c : ℕ) → IsScalarValue c → 0x10000 ≤ c
-        → take FOUR bytes.now ≡ utf8_of c → result ≡ encoding f (c ∷ []) }
+        → take PAIR_UTF8 bytes.now ≡ utf8_of c → result ≡ encoding f (c ∷ []) }
 {
     let (a, b, c, d) = (bytes[0], bytes[1], bytes[2], bytes[3]);
     [

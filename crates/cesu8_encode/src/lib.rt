@@ -1,8 +1,8 @@
-//! The encoder: 32 bytes at a time, by vectors, with no branch on what a byte is. `few` encodes up
-//! to 24 bytes, one change after another.
+//! The encoder: from the UTF-8 of a text to its encoding.
 //!
-//! The two bytes before a byte of UTF-8 and the one after it decide what is written for it. The
-//! four bytes `a b c d` of one character become a surrogate pair, ED and two bytes each:
+//! The two bytes before a byte of UTF-8 and the one after it decide what is written for it. So
+//! vectors encode 32 bytes at a time, with no branch on what a byte is. The four bytes `a b c d` of
+//! one character become a surrogate pair, ED and two bytes each:
 //!
 //! ```text
 //! a ──► ED, four bits of a and two of b      c ──► ED, four bits of c
@@ -11,104 +11,117 @@
 //!
 //! In MUTF-8 the byte 00 becomes C0 80, and every other byte stays. So a row of eight bytes becomes
 //! sixteen lanes, and one shuffle packs those that are written. `blocks` makes the lanes, `rows`
-//! has the shuffles, and `windows` has the loop over the text.
+//! has the shuffles, and `windows` has the loop over the text. `few` encodes a few bytes without
+//! blocks, and `way` says which texts go which way.
 //!
-//! Everything is written to slices. A text of up to 128 bytes is encoded to an array on the stack
-//! and copied from there, which costs less than counting first. A longer one is counted, and
-//! written in its final position. So are a few bytes, uncounted, in a caller's slice of twice their
-//! length.
-//!
-//! The names of this crate are no promise to users: `simd_cesu8` has the public calls.
+//! This file has what builds or appends an encoding, and `copy_or_write` what writes it to a
+//! caller's buffer. The names of this crate are no promise to users: `simd_cesu8` has the public
+//! calls.
 #![tactic(auto)]
 
-ghost use Rattle.std.specs.Prelude.{◌≡◌, ◌+◌, ◌≤◌, ◌++◌, ◌*◌, [], length, take, OnOk, OnErr, IfOk, IsOk, vec_len, vec_capacity};
+ghost use Rattle.std.specs.Prelude.{◌≡◌, ◌+◌, ◌≤◌, ◌++◌, length, vec_len, vec_capacity};
 ghost use Rattle.std.specs.Str.{chars};
 ghost use Rattle.cesu8_text.specs.Encoding.{encoding};
 ghost use Rattle.cesu8_bytes.specs.Internal.{flavor_of};
-ghost use Rattle.cesu8_bytes.specs.Puts.{PutsAnswer};
+ghost use Rattle.cesu8_encode.specs.Encoded.{BuildsEncoding, AppendsEncoding};
 
 mod blocks;
 pub mod copy_or_write;
 mod few;
 mod rows;
+mod way;
 mod windows;
 
-use self::blocks::BLOCK;
-pub use self::few::{is_few, is_few_unchanged};
-use self::few::{FEW, write_few};
-use self::windows::{write_bytes, write_short};
+use self::few::write_few;
+use self::way::{FEW, ON_STACK, Way, way_of, write};
+use self::windows::write_block_text;
+use cesu8_bytes::BLOCK;
 use cesu8_bytes::lengths::encoded_len;
-use cesu8_bytes::null_form::{OneByteNull, TwoByteNull};
 use cesu8_bytes::options::Flavor;
-use cesu8_bytes::writers::{NoRoom, append, append_zeros, copy, copy_to_slice, make_room};
+use cesu8_bytes::writers::{append, append_zeros, copy, make_room};
 use std::alloc::{AllocError, Allocator};
 
-/// The most bytes of a text that is encoded on the stack, before its length is known.
-const ON_STACK: usize = 128;
+/// The most bytes that the encoding of a few bytes has.
+const FEW_ENCODED: usize = 2 * FEW;
 
-/// The most bytes that the encoding of such a text has, and that of a block.
-const ON_STACK_ENCODED: usize = 2 * ON_STACK;
-
+/// The most bytes that the encoding of a block has.
 const BLOCK_ENCODED: usize = 2 * BLOCK;
 
-const FEW_ENCODED: usize = 2 * FEW;
+/// The most bytes that an encoding on the stack has.
+const ON_STACK_ENCODED: usize = 2 * ON_STACK;
 
 /// Returns the encoding of a text, after one request for exactly its length. It is inlined, so that
 /// the result is moved only once. What it calls is not inlined: a text that is borrowed then uses
-/// no stack, and a text of a block only its own.
+/// no stack, and every other text only that of its way.
 #[inline(always)]
 pub fn encode<A: Allocator + Copy>(
     alloc: A,
     flavor: Flavor,
     text: &str,
 ) -> Result<Vec<u8, A>, AllocError>
-    ensures bytes { IfOk result (λ encoded.
-        encoded.items ≡ encoding (flavor_of flavor) (chars text.now)) }
-    ensures capacity { IfOk result (λ encoded.
-        vec_capacity encoded ≡ length (encoding (flavor_of flavor) (chars text.now))) }
+    ensures { BuildsEncoding (flavor_of flavor) text.now result }
 {
-    if text.len() <= BLOCK {
-        encode_block_text(alloc, flavor, text)
-    } else {
-        encode_longer(alloc, flavor, text)
+    match way_of(text) {
+        Way::Few => encode_few(alloc, flavor, text),
+        Way::Block => encode_block(alloc, flavor, text),
+        Way::OnStack => encode_on_stack(alloc, flavor, text),
+        Way::InPlace => encode_in_place(alloc, flavor, text),
     }
 }
 
-/// Returns the encoding of a text of at most a block.
 #[inline(never)]
-fn encode_block_text<A: Allocator + Copy>(
+#[tactic(auto, using(cesu8_text::proofs::encoding::Lengths::length_encoding_chars))]
+fn encode_few<A: Allocator + Copy>(
+    alloc: A,
+    flavor: Flavor,
+    text: &str,
+) -> Result<Vec<u8, A>, AllocError>
+    requires { length text.now ≤ FEW }
+    ensures { BuildsEncoding (flavor_of flavor) text.now result }
+{
+    let mut written = [0; FEW_ENCODED];
+    let len = write_few(flavor, text, &mut written);
+    copy(alloc, &written[..len])
+}
+
+#[inline(never)]
+#[tactic(auto, using(cesu8_text::proofs::encoding::Lengths::length_encoding_chars))]
+fn encode_block<A: Allocator + Copy>(
     alloc: A,
     flavor: Flavor,
     text: &str,
 ) -> Result<Vec<u8, A>, AllocError>
     requires { length text.now ≤ BLOCK }
-    ensures bytes { IfOk result (λ encoded.
-        encoded.items ≡ encoding (flavor_of flavor) (chars text.now)) }
-    ensures capacity { IfOk result (λ encoded.
-        vec_capacity encoded ≡ length (encoding (flavor_of flavor) (chars text.now))) }
+    ensures { BuildsEncoding (flavor_of flavor) text.now result }
 {
     let mut written = [0; BLOCK_ENCODED];
     let len = write_block_text(flavor, text, &mut written);
     copy(alloc, &written[..len])
 }
 
-/// Returns the encoding of a longer text.
 #[inline(never)]
-fn encode_longer<A: Allocator + Copy>(
+#[tactic(auto, using(cesu8_text::proofs::encoding::Lengths::length_encoding_chars))]
+fn encode_on_stack<A: Allocator + Copy>(
     alloc: A,
     flavor: Flavor,
     text: &str,
 ) -> Result<Vec<u8, A>, AllocError>
-    ensures bytes { IfOk result (λ encoded.
-        encoded.items ≡ encoding (flavor_of flavor) (chars text.now)) }
-    ensures capacity { IfOk result (λ encoded.
-        vec_capacity encoded ≡ length (encoding (flavor_of flavor) (chars text.now))) }
+    requires { length text.now ≤ ON_STACK }
+    ensures { BuildsEncoding (flavor_of flavor) text.now result }
 {
-    if text.len() <= ON_STACK {
-        let mut written = [0; ON_STACK_ENCODED];
-        let len = write_text(flavor, text, &mut written);
-        return copy(alloc, &written[..len]);
-    }
+    let mut written = [0; ON_STACK_ENCODED];
+    let len = write(flavor, text, &mut written);
+    copy(alloc, &written[..len])
+}
+
+#[inline(never)]
+fn encode_in_place<A: Allocator + Copy>(
+    alloc: A,
+    flavor: Flavor,
+    text: &str,
+) -> Result<Vec<u8, A>, AllocError>
+    ensures { BuildsEncoding (flavor_of flavor) text.now result }
+{
     let len = encoded_len(flavor, text);
     let mut encoded = Vec::with_capacity(alloc, len)?;
     append_changed(flavor, text, len, &mut encoded);
@@ -125,14 +138,7 @@ pub fn encode_into<A: Allocator + Copy>(
     out: &mut Vec<u8, A>,
 ) -> Result<(), AllocError>
     requires { len ≡ length (encoding (flavor_of flavor) (chars text.now)) }
-    ensures ok { OnOk result
-        (out.new.items ≡ out.old.items ++ encoding (flavor_of flavor) (chars text.now)) }
-    ensures err { OnErr result (out.new.items ≡ out.old.items) }
-    ensures err_capacity { OnErr result (vec_capacity out.new ≡ vec_capacity out.old) }
-    ensures room { vec_len out.old + len ≤ vec_capacity out.old → IsOk result }
-    ensures stays { vec_len out.old + len ≤ vec_capacity out.old
-        → vec_capacity out.new ≡ vec_capacity out.old }
-    ensures grows { vec_capacity out.old ≤ vec_capacity out.new }
+    ensures { AppendsEncoding (flavor_of flavor) text.now result out.old out.new }
 {
     make_room(len, out)?;
     if len == text.len() {
@@ -153,86 +159,5 @@ fn append_changed<A: Allocator + Copy>(flavor: Flavor, text: &str, len: usize, o
 {
     let start = out.len();
     append_zeros(len, out);
-    write_text(flavor, text, &mut out[start..]);
-}
-
-/// Writes the encoding of a text at the front of a slice that is long enough, and returns its
-/// length. It is not inlined, so that a text that stays as it is uses none of its stack.
-#[inline(never)]
-fn write_text(flavor: Flavor, text: &str, out: &mut [u8]) -> usize
-    requires { length (encoding (flavor_of flavor) (chars text.now)) ≤ length out.old }
-    ensures bytes { take result out.new ≡ encoding (flavor_of flavor) (chars text.now) }
-    ensures end { result ≤ length out.new }
-    ensures len { length out.new ≡ length out.old }
-{
-    match flavor {
-        Flavor::Cesu8 => write_bytes::<OneByteNull>(text.as_bytes(), out),
-        Flavor::Mutf8 => write_bytes::<TwoByteNull>(text.as_bytes(), out),
-    }
-}
-
-/// The same for a text of at most a block, inlined.
-#[inline(always)]
-fn write_block_text(flavor: Flavor, text: &str, out: &mut [u8]) -> usize
-    requires short { length text.now ≤ BLOCK }
-    requires room { 2 * length text.now ≤ length out.old }
-    ensures bytes { take result out.new ≡ encoding (flavor_of flavor) (chars text.now) }
-    ensures end { result ≤ length out.new }
-    ensures len { length out.new ≡ length out.old }
-{
-    if is_few(text) {
-        return write_few(flavor, text, out);
-    }
-    match flavor {
-        Flavor::Cesu8 => write_short::<OneByteNull>(text.as_bytes(), out),
-        Flavor::Mutf8 => write_short::<TwoByteNull>(text.as_bytes(), out),
-    }
-}
-
-/// Writes the encoding of a text of a few bytes to a caller's buffer, if it fits.
-#[inline(always)]
-pub fn encode_few_to_slice(flavor: Flavor, text: &str, buf: &mut [u8]) -> Result<usize, NoRoom>
-    requires { length text.now ≤ FEW }
-    ensures { PutsAnswer (encoding (flavor_of flavor) (chars text.now)) result buf.old buf.new }
-{
-    if 2 * text.len() <= buf.len() {
-        // It fits in any case, and what is behind it stays.
-        return Ok(write_few(flavor, text, buf));
-    }
-    let mut written = [0; FEW_ENCODED];
-    let len = write_few(flavor, text, &mut written);
-    copy_to_slice(&written[..len], buf)
-}
-
-/// Writes the encoding of a text to a caller's buffer, if it fits. It is not inlined, so that a
-/// text that stays as it is uses none of its stack.
-#[inline(never)]
-pub fn encode_to_slice(flavor: Flavor, text: &str, buf: &mut [u8]) -> Result<usize, NoRoom>
-    ensures { PutsAnswer (encoding (flavor_of flavor) (chars text.now)) result buf.old buf.new }
-{
-    if text.len() <= BLOCK {
-        let mut written = [0; BLOCK_ENCODED];
-        let len = write_block_text(flavor, text, &mut written);
-        return copy_to_slice(&written[..len], buf);
-    }
-    if text.len() <= ON_STACK {
-        return encode_short_to_slice(flavor, text, buf);
-    }
-    let len = encoded_len(flavor, text);
-    if buf.len() < len {
-        return Err(NoRoom { needed: len });
-    }
-    write_text(flavor, text, &mut buf[..len]);
-    Ok(len)
-}
-
-/// The same for a short text, through an array on the stack.
-#[inline(never)]
-fn encode_short_to_slice(flavor: Flavor, text: &str, buf: &mut [u8]) -> Result<usize, NoRoom>
-    requires { length text.now ≤ ON_STACK }
-    ensures { PutsAnswer (encoding (flavor_of flavor) (chars text.now)) result buf.old buf.new }
-{
-    let mut written = [0; ON_STACK_ENCODED];
-    let len = write_text(flavor, text, &mut written);
-    copy_to_slice(&written[..len], buf)
+    write(flavor, text, &mut out[start..]);
 }

@@ -4,37 +4,66 @@
 //! neighbours. At the ends of the text, where there are none, a small array of zeros replaces them.
 
 ghost use Rattle.std.specs.Prelude.{◌≡◌, ℕ, ◌+◌, ◌*◌, ◌<◌, ◌≤◌, ◌∷◌, length, replicate, slice_index};
-ghost use Rattle.cesu8_encode.specs.EncodedPlaces.{recoded, IsWritten};
+ghost use Rattle.std.specs.Str.{chars};
+ghost use Rattle.cesu8_text.specs.Encoding.{encoding};
+ghost use Rattle.cesu8_bytes.specs.Internal.{flavor_of};
+ghost use Rattle.cesu8_encode.specs.Encoded.{WritesEncoding};
+ghost use Rattle.cesu8_encode.specs.EncodedPlaces.{recoded, IsWritten, Writes};
 
-use super::blocks::{AFTER, BEFORE, BLOCK, WINDOW, write_block};
-use cesu8_bytes::null_form::NullForm;
+use super::blocks::{BLOCK_READ, READ_AFTER, READ_BEFORE, write_block};
+use cesu8_bytes::BLOCK;
+use cesu8_bytes::null_form::{NullForm, OneByteNull, TwoByteNull};
+use cesu8_bytes::options::Flavor;
 
-/// Writes what the bytes of a text become, and returns its end.
-pub fn write_bytes<N: NullForm>(text: &[u8], out: &mut [u8]) -> usize
-    requires { length (recoded N.flavor text.now) ≤ length out.old }
-    ensures written { IsWritten N.flavor text.now (length text.now) out.new result }
-    ensures len { length out.new ≡ length out.old }
+/// Writes the encoding of a text of at most a block, and returns its end. It is inlined, so that a
+/// text of a block costs one call.
+#[inline(always)]
+pub fn write_block_text(flavor: Flavor, text: &str, out: &mut [u8]) -> usize
+    requires short { length text.now ≤ BLOCK }
+    requires room { length (encoding (flavor_of flavor) (chars text.now)) ≤ length out.old }
+    ensures { WritesEncoding (flavor_of flavor) text.now out.old out.new result }
 {
-    if text.len() <= BLOCK {
-        return write_short::<N>(text, out);
+    match flavor {
+        Flavor::Cesu8 => write_short::<OneByteNull>(text.as_bytes(), out),
+        Flavor::Mutf8 => write_short::<TwoByteNull>(text.as_bytes(), out),
     }
-    let blocks = (text.len() - 1) / BLOCK;
-    let end = write_first::<N>(text, out);
-    let end = write_middle::<N>(text, blocks, out, end);
-    write_last::<N>(text, BLOCK * blocks, out, end)
+}
+
+/// Writes the encoding of a longer text, and returns its end.
+#[inline(always)]
+pub fn write_blocks(flavor: Flavor, text: &str, out: &mut [u8]) -> usize
+    requires long { BLOCK < length text.now }
+    requires room { length (encoding (flavor_of flavor) (chars text.now)) ≤ length out.old }
+    ensures { WritesEncoding (flavor_of flavor) text.now out.old out.new result }
+{
+    match flavor {
+        Flavor::Cesu8 => write_long::<OneByteNull>(text.as_bytes(), out),
+        Flavor::Mutf8 => write_long::<TwoByteNull>(text.as_bytes(), out),
+    }
 }
 
 /// Writes what the bytes of a text of at most a block become, and returns its end.
 #[inline(always)]
-pub fn write_short<N: NullForm>(text: &[u8], out: &mut [u8]) -> usize
+fn write_short<N: NullForm>(text: &[u8], out: &mut [u8]) -> usize
     requires short { length text.now ≤ BLOCK }
     requires room { length (recoded N.flavor text.now) ≤ length out.old }
-    ensures written { IsWritten N.flavor text.now (length text.now) out.new result }
-    ensures len { length out.new ≡ length out.old }
+    ensures { Writes N.flavor text.now (length text.now) out.old out.new result }
 {
-    let mut window = [0; WINDOW];
+    let mut window = [0; BLOCK_READ];
     put_behind_zeros(text, &mut window);
     write_block::<N>(&window, 0, text.len(), out, 0)
+}
+
+/// Writes what the bytes of a longer text become, and returns its end.
+fn write_long<N: NullForm>(text: &[u8], out: &mut [u8]) -> usize
+    requires long { BLOCK < length text.now }
+    requires room { length (recoded N.flavor text.now) ≤ length out.old }
+    ensures { Writes N.flavor text.now (length text.now) out.old out.new result }
+{
+    let blocks = (text.len() - 1) / BLOCK;
+    let end = write_first::<N>(text, out);
+    let end = write_middle::<N>(text, blocks, out, end);
+    write_last::<N>(text, BLOCK * blocks, out, end)
 }
 
 /// Writes what the first block of a longer text becomes, and returns its end.
@@ -42,11 +71,10 @@ pub fn write_short<N: NullForm>(text: &[u8], out: &mut [u8]) -> usize
 fn write_first<N: NullForm>(text: &[u8], out: &mut [u8]) -> usize
     requires long { BLOCK < length text.now }
     requires room { length (recoded N.flavor text.now) ≤ length out.old }
-    ensures written { IsWritten N.flavor text.now BLOCK out.new result }
-    ensures len { length out.new ≡ length out.old }
+    ensures { Writes N.flavor text.now BLOCK out.old out.new result }
 {
-    let mut window = [0; WINDOW];
-    put_behind_zeros(&text[..BLOCK + AFTER], &mut window);
+    let mut window = [0; BLOCK_READ];
+    put_behind_zeros(&text[..BLOCK + READ_AFTER], &mut window);
     write_block::<N>(&window, 0, BLOCK, out, 0)
 }
 
@@ -56,12 +84,11 @@ fn write_middle<N: NullForm>(text: &[u8], blocks: usize, out: &mut [u8], start: 
     requires blocks { (0 < blocks) × (BLOCK * blocks < length text.now) }
     requires room { length (recoded N.flavor text.now) ≤ length out.old }
     requires first { IsWritten N.flavor text.now BLOCK out.old start }
-    ensures written { IsWritten N.flavor text.now (BLOCK * blocks) out.new result }
-    ensures len { length out.new ≡ length out.old }
+    ensures { Writes N.flavor text.now (BLOCK * blocks) out.old out.new result }
 {
     let mut end = start;
     for i in 1..blocks {
-        end = write_block::<N>(text, BLOCK * i - BEFORE, BLOCK, out, end);
+        end = write_block::<N>(text, BLOCK * i - READ_BEFORE, BLOCK, out, end);
     }
     end
 }
@@ -72,29 +99,28 @@ fn write_last<N: NullForm>(text: &[u8], at: usize, out: &mut [u8], end: usize) -
     requires position { (BLOCK ≤ at) × (at < length text.now) × (length text.now ≤ at + BLOCK) }
     requires room { length (recoded N.flavor text.now) ≤ length out.old }
     requires before { IsWritten N.flavor text.now at out.old end }
-    ensures written { IsWritten N.flavor text.now (length text.now) out.new result }
-    ensures len { length out.new ≡ length out.old }
+    ensures { Writes N.flavor text.now (length text.now) out.old out.new result }
 {
-    let mut window = [0; WINDOW];
-    put_before_zeros(&text[at - BEFORE..], &mut window);
+    let mut window = [0; BLOCK_READ];
+    put_before_zeros(&text[at - READ_BEFORE..], &mut window);
     write_block::<N>(&window, 0, text.len() - at, out, end)
 }
 
 /// Copies bytes into a window of zeros, after two of these: nothing precedes the bytes.
 #[inline(always)]
-fn put_behind_zeros(near: &[u8], window: &mut [u8; WINDOW])
-    requires short { length near.now ≤ BLOCK + AFTER }
-    requires zeros { window.old ≡ replicate WINDOW 0 }
+fn put_behind_zeros(near: &[u8], window: &mut [u8; BLOCK_READ])
+    requires short { length near.now ≤ BLOCK + READ_AFTER }
+    requires zeros { window.old ≡ replicate BLOCK_READ 0 }
     ensures { (k : ℕ) → slice_index window.new k ≡ slice_index (0 ∷ 0 ∷ near.now) k }
 {
-    window[BEFORE..BEFORE + near.len()].copy_from_slice(near);
+    window[READ_BEFORE..READ_BEFORE + near.len()].copy_from_slice(near);
 }
 
 /// Copies bytes to the front of a window of zeros: nothing follows them.
 #[inline(always)]
-fn put_before_zeros(near: &[u8], window: &mut [u8; WINDOW])
-    requires short { length near.now ≤ WINDOW }
-    requires zeros { window.old ≡ replicate WINDOW 0 }
+fn put_before_zeros(near: &[u8], window: &mut [u8; BLOCK_READ])
+    requires short { length near.now ≤ BLOCK_READ }
+    requires zeros { window.old ≡ replicate BLOCK_READ 0 }
     ensures { (k : ℕ) → slice_index window.new k ≡ slice_index near.now k }
 {
     window[..near.len()].copy_from_slice(near);

@@ -19,3 +19,4 @@ pub use Rattle.cesu8_bytes.specs.Joining
 pub use Rattle.cesu8_bytes.specs.Pieces
 pub use Rattle.cesu8_text.specs.Order
 pub use Rattle.cesu8_text.specs.Laws
+pub mod Calls

@@ -1,12 +1,9 @@
 //! The calls for both flavors: each borrows if no byte changes, and builds otherwise.
+//!
+//! Decoding returns short ASCII first, in a function that is inlined into the public call. The rest
+//! of it, in a function whose name ends in `other`, is never inlined, so that this test stays small.
 
-ghost use Rattle.std.specs.Prelude.{◌≡◌, length, IsUtf8, IsOk};
-ghost use Rattle.std.specs.Str.{chars};
-ghost use Rattle.simd_cesu8.specs.Encoding.{encoding, NeedsEncoding};
-ghost use Rattle.simd_cesu8.specs.Class.{IsUnchangedUtf8};
-ghost use Rattle.simd_cesu8.specs.Reading.{IsStrictReading, HasNoStrictReading, IsLenientReading, HasNoLenientReading, reading, lossy_length, IsLenientLossyReading};
-ghost use Rattle.simd_cesu8.specs.Cow.{IfBytes, BorrowsBytesWhere, BuildsBytesOfCapacity, IfText, BorrowsTextWhere, BuildsTextOfCapacity, AnswersTextOfLength};
-ghost use Rattle.simd_cesu8.specs.Fault.{OnInvalid};
+ghost use Rattle.simd_cesu8.specs.Calls.{Encodes, DecodesStrictly, DecodesLeniently, DecodesLossily, DecodesLenientlyLossily};
 ghost use Rattle.simd_cesu8.specs.Internal.{flavor_of};
 
 use crate::cow::{CowBytes, CowText};
@@ -21,12 +18,7 @@ use std::alloc::{AllocError, Global};
 #[inline(always)]
 #[tactic(auto, using(cesu8_text::proofs::encoding::NeedsEncoding::encoding_by_need))]
 pub fn encode(alloc: Global, flavor: Flavor, value: &str) -> Result<CowBytes<'_>, AllocError>
-    ensures encoding { IfBytes result
-        (λ bytes. bytes ≡ encoding (flavor_of flavor) (chars value.now)) }
-    ensures borrowed { BorrowsBytesWhere result (λ bytes. bytes ≡ value.now) }
-    ensures succeeds { ¬ (NeedsEncoding (flavor_of flavor) (chars value.now)) → IsOk result }
-    ensures capacity { BuildsBytesOfCapacity result
-        (length (encoding (flavor_of flavor) (chars value.now))) }
+    ensures { Encodes (flavor_of flavor) value.now result }
 {
     if !needs_encoded(flavor, value) {
         return Ok(CowBytes::Borrowed(value.as_bytes()));
@@ -41,13 +33,7 @@ pub fn decode_strict(
     flavor: Flavor,
     bytes: &[u8],
 ) -> Result<CowText<'_>, DecodeFault>
-    ensures text { IfText result (λ text. IsStrictReading (flavor_of flavor) bytes.now text) }
-    ensures invalid { OnInvalid result (HasNoStrictReading (flavor_of flavor) bytes.now) }
-    ensures borrowed { BorrowsTextWhere result (λ utf8. utf8 ≡ bytes.now) }
-    ensures borrowed_where { BorrowsTextWhere result
-        (λ _. IsUnchangedUtf8 (flavor_of flavor) bytes.now) }
-    ensures succeeds { IsUnchangedUtf8 (flavor_of flavor) bytes.now → IsOk result }
-    ensures capacity { BuildsTextOfCapacity result (length bytes.now) }
+    ensures { DecodesStrictly (flavor_of flavor) bytes.now result }
 {
     if is_short_unchanged_ascii(flavor, bytes) {
         return Ok(CowText::Borrowed(ascii_text(bytes)));
@@ -55,21 +41,13 @@ pub fn decode_strict(
     decode_strict_other(alloc, flavor, bytes)
 }
 
-/// The same for bytes that are not short ASCII. It is never inlined, so that the test for short
-/// ASCII stays small.
 #[inline(never)]
 fn decode_strict_other(
     alloc: Global,
     flavor: Flavor,
     bytes: &[u8],
 ) -> Result<CowText<'_>, DecodeFault>
-    ensures text { IfText result (λ text. IsStrictReading (flavor_of flavor) bytes.now text) }
-    ensures invalid { OnInvalid result (HasNoStrictReading (flavor_of flavor) bytes.now) }
-    ensures borrowed { BorrowsTextWhere result (λ utf8. utf8 ≡ bytes.now) }
-    ensures borrowed_where { BorrowsTextWhere result
-        (λ _. IsUnchangedUtf8 (flavor_of flavor) bytes.now) }
-    ensures succeeds { IsUnchangedUtf8 (flavor_of flavor) bytes.now → IsOk result }
-    ensures capacity { BuildsTextOfCapacity result (length bytes.now) }
+    ensures { DecodesStrictly (flavor_of flavor) bytes.now result }
 {
     // No encoding has a byte that changes, so there is nothing to decode.
     if contains_changed(flavor, bytes) {
@@ -85,12 +63,7 @@ fn decode_strict_other(
 
 #[inline(always)]
 pub fn decode(alloc: Global, flavor: Flavor, bytes: &[u8]) -> Result<CowText<'_>, DecodeFault>
-    ensures text { IfText result (λ text. IsLenientReading (flavor_of flavor) bytes.now text) }
-    ensures invalid { OnInvalid result (HasNoLenientReading (flavor_of flavor) bytes.now) }
-    ensures borrowed { BorrowsTextWhere result (λ utf8. utf8 ≡ bytes.now) }
-    ensures borrowed_where { BorrowsTextWhere result (λ _. IsUtf8 bytes.now) }
-    ensures succeeds { IsUtf8 bytes.now → IsOk result }
-    ensures capacity { BuildsTextOfCapacity result (length bytes.now) }
+    ensures { DecodesLeniently (flavor_of flavor) bytes.now result }
 {
     if is_short_ascii(bytes) {
         return Ok(CowText::Borrowed(ascii_text(bytes)));
@@ -98,16 +71,9 @@ pub fn decode(alloc: Global, flavor: Flavor, bytes: &[u8]) -> Result<CowText<'_>
     decode_other(alloc, flavor, bytes)
 }
 
-/// The same for bytes that are not short ASCII. It is never inlined, so that the test for short
-/// ASCII stays small.
 #[inline(never)]
 fn decode_other(alloc: Global, flavor: Flavor, bytes: &[u8]) -> Result<CowText<'_>, DecodeFault>
-    ensures text { IfText result (λ text. IsLenientReading (flavor_of flavor) bytes.now text) }
-    ensures invalid { OnInvalid result (HasNoLenientReading (flavor_of flavor) bytes.now) }
-    ensures borrowed { BorrowsTextWhere result (λ utf8. utf8 ≡ bytes.now) }
-    ensures borrowed_where { BorrowsTextWhere result (λ _. IsUtf8 bytes.now) }
-    ensures succeeds { IsUtf8 bytes.now → IsOk result }
-    ensures capacity { BuildsTextOfCapacity result (length bytes.now) }
+    ensures { DecodesLeniently (flavor_of flavor) bytes.now result }
 {
     let whole = whole_text(bytes);
     if whole.len() == bytes.len() {
@@ -123,13 +89,7 @@ pub fn decode_lossy_strict(
     flavor: Flavor,
     bytes: &[u8],
 ) -> Result<CowText<'_>, AllocError>
-    ensures reading { IfText result (λ text. text ≡ reading (flavor_of flavor) bytes.now) }
-    ensures text_length { AnswersTextOfLength result (lossy_length (flavor_of flavor) bytes.now) }
-    ensures borrowed { BorrowsTextWhere result (λ utf8. utf8 ≡ bytes.now) }
-    ensures borrowed_where { BorrowsTextWhere result
-        (λ _. IsUnchangedUtf8 (flavor_of flavor) bytes.now) }
-    ensures succeeds { IsUnchangedUtf8 (flavor_of flavor) bytes.now → IsOk result }
-    ensures capacity { BuildsTextOfCapacity result (lossy_length (flavor_of flavor) bytes.now) }
+    ensures { DecodesLossily (flavor_of flavor) bytes.now result }
 {
     if is_short_unchanged_ascii(flavor, bytes) {
         return Ok(CowText::Borrowed(ascii_text(bytes)));
@@ -137,21 +97,13 @@ pub fn decode_lossy_strict(
     decode_lossy_strict_other(alloc, flavor, bytes)
 }
 
-/// The same for bytes that are not short ASCII. It is never inlined, so that the test for short
-/// ASCII stays small.
 #[inline(never)]
 fn decode_lossy_strict_other(
     alloc: Global,
     flavor: Flavor,
     bytes: &[u8],
 ) -> Result<CowText<'_>, AllocError>
-    ensures reading { IfText result (λ text. text ≡ reading (flavor_of flavor) bytes.now) }
-    ensures text_length { AnswersTextOfLength result (lossy_length (flavor_of flavor) bytes.now) }
-    ensures borrowed { BorrowsTextWhere result (λ utf8. utf8 ≡ bytes.now) }
-    ensures borrowed_where { BorrowsTextWhere result
-        (λ _. IsUnchangedUtf8 (flavor_of flavor) bytes.now) }
-    ensures succeeds { IsUnchangedUtf8 (flavor_of flavor) bytes.now → IsOk result }
-    ensures capacity { BuildsTextOfCapacity result (lossy_length (flavor_of flavor) bytes.now) }
+    ensures { DecodesLossily (flavor_of flavor) bytes.now result }
 {
     let text = unchanged_text(flavor, bytes);
     if text.len() == bytes.len() {
@@ -163,12 +115,7 @@ fn decode_lossy_strict_other(
 
 #[inline(always)]
 pub fn decode_lossy(alloc: Global, flavor: Flavor, bytes: &[u8]) -> Result<CowText<'_>, AllocError>
-    ensures reading { IfText result
-        (λ text. IsLenientLossyReading (flavor_of flavor) bytes.now text) }
-    ensures borrowed { BorrowsTextWhere result (λ utf8. utf8 ≡ bytes.now) }
-    ensures borrowed_where { BorrowsTextWhere result (λ _. IsUtf8 bytes.now) }
-    ensures succeeds { IsUtf8 bytes.now → IsOk result }
-    ensures capacity { BuildsTextOfCapacity result (lossy_length (flavor_of flavor) bytes.now) }
+    ensures { DecodesLenientlyLossily (flavor_of flavor) bytes.now result }
 {
     if is_short_ascii(bytes) {
         return Ok(CowText::Borrowed(ascii_text(bytes)));
@@ -176,20 +123,13 @@ pub fn decode_lossy(alloc: Global, flavor: Flavor, bytes: &[u8]) -> Result<CowTe
     decode_lossy_other(alloc, flavor, bytes)
 }
 
-/// The same for bytes that are not short ASCII. It is never inlined, so that the test for short
-/// ASCII stays small.
 #[inline(never)]
 fn decode_lossy_other(
     alloc: Global,
     flavor: Flavor,
     bytes: &[u8],
 ) -> Result<CowText<'_>, AllocError>
-    ensures reading { IfText result
-        (λ text. IsLenientLossyReading (flavor_of flavor) bytes.now text) }
-    ensures borrowed { BorrowsTextWhere result (λ utf8. utf8 ≡ bytes.now) }
-    ensures borrowed_where { BorrowsTextWhere result (λ _. IsUtf8 bytes.now) }
-    ensures succeeds { IsUtf8 bytes.now → IsOk result }
-    ensures capacity { BuildsTextOfCapacity result (lossy_length (flavor_of flavor) bytes.now) }
+    ensures { DecodesLenientlyLossily (flavor_of flavor) bytes.now result }
 {
     let text = whole_text(bytes);
     if text.len() == bytes.len() {

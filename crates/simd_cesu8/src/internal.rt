@@ -67,7 +67,7 @@ pub fn decode_strict_to_slice(
     strict(cesu8_decode::copy_or_write::decode_strict_to_slice(flavor, bytes, buf))
 }
 
-/// The same of bytes that are UTF-8 as a whole, or else the encoding.
+/// Writes the lenient reading of the bytes to a caller's buffer, if it fits.
 #[inline(always)]
 #[tactic(auto, using(crate::proofs::Outcomes::reading_told))]
 pub fn decode_to_slice(
@@ -95,7 +95,7 @@ pub fn decode_lossy_strict_to_slice(
     lossy(cesu8_decode::copy_or_write::decode_lossy_strict_to_slice(flavor, bytes, buf))
 }
 
-/// The same of bytes that are UTF-8 as a whole, or else the encoding.
+/// Writes the lenient lossy reading of the bytes to a caller's buffer, if it fits.
 #[inline(always)]
 #[tactic(auto, using(crate::proofs::Outcomes::lossy_reading_told))]
 pub fn decode_lossy_to_slice(
@@ -120,7 +120,7 @@ fn fault(refusal: Refusal) -> DecodeFault
     }
 }
 
-/// Returns how many bytes were written, or the fault.
+/// Returns how many bytes of an encoding were written, or the fault.
 #[inline(always)]
 fn answer(outcome: Result<usize, NoRoom>) -> Result<usize, TooShort>
     ensures { IsAnswerOf outcome result }
@@ -131,7 +131,7 @@ fn answer(outcome: Result<usize, NoRoom>) -> Result<usize, TooShort>
     }
 }
 
-/// The same in strict reading.
+/// Returns how many bytes of a strict reading were written, or the fault.
 #[inline(always)]
 fn strict(outcome: Result<usize, SliceRefusal>) -> Result<usize, DecodeSliceFault>
     ensures { IsReadingOf outcome result }
@@ -145,7 +145,7 @@ fn strict(outcome: Result<usize, SliceRefusal>) -> Result<usize, DecodeSliceFaul
     }
 }
 
-/// The same in lossy reading.
+/// Returns how many bytes of a lossy reading were written, or the fault.
 #[inline(always)]
 fn lossy(outcome: Result<usize, LossyRefusal>) -> Result<usize, LossySliceFault>
     ensures { IsLossyReadingOf outcome result }

@@ -1,8 +1,8 @@
 //! By how much an encoding is longer than its UTF-8: counts bytes of two classes, 64 at a time.
 //!
-//! In 1,024 bytes each lane of a vector counts its own, and the lanes are summed once. In the bytes
-//! after these, 64 at a time, the bits of a mask are counted. The last vector overlaps the one
-//! before it, and bits that were counted there are shifted out.
+//! In 1,024 bytes each lane of a vector counts its own, at most 16 where 255 would fit, and the
+//! lanes are summed once. In the bytes after these, 64 at a time, the bits of a mask are counted.
+//! The last vector overlaps the one before it, and bits that were counted there are shifted out.
 
 ghost use Rattle.std.specs.Prelude.{◌≡◌, ◌<◌, ◌≤◌, ◌+◌, ◌-◌, ◌*◌, refl, length, drop, count_by, sum_by};
 ghost use Rattle.std.specs.Simd.Lanes.{sum_l};
@@ -10,6 +10,7 @@ ghost use Rattle.cesu8_text.specs.Encoding.{Flavor, Cesu8, Mutf8};
 ghost use Rattle.cesu8_text.specs.Class.{is_null, is_four, growth_of};
 
 use super::class::{Four, InAllVectors, InVectors, LANES, NoByte, Null, bits};
+use super::short::by_two_vectors;
 use std::simd::prelude::*;
 
 /// The bytes 00 that an encoding writes as two: all in MUTF-8, and none in CESU-8.
@@ -31,35 +32,46 @@ impl DoubledNulls for Null {
     ghost are_nulls = { refl };
 }
 
-/// Returns how many bytes more than the UTF-8 an encoding has.
+/// How many vectors are counted in lanes.
+const VECTORS_IN_LANES: usize = 16;
+
+/// How many bytes are counted in lanes.
+const BYTES_IN_LANES: usize = VECTORS_IN_LANES * LANES;
+
+/// Returns how many bytes more than the UTF-8 an encoding has. A short text is counted where that
+/// is needed, without a call.
 #[inline(always)]
 pub fn growth<C: DoubledNulls>(value: &[u8]) -> usize
     ensures { result ≡ sum_by (growth_of C.flavor) value.now }
 {
+    if value.len() <= LANES {
+        return short_growth::<C>(value);
+    }
+    long_growth::<C>(value)
+}
+
+#[inline(never)]
+fn long_growth<C: DoubledNulls>(value: &[u8]) -> usize
+    ensures { result ≡ sum_by (growth_of C.flavor) value.now }
+{
     let mut rest = value;
     let mut growth = 0;
-    while let Some((block, after)) = rest.split_first_chunk::<BLOCK>() {
+    while let Some((block, after)) = rest.split_first_chunk::<BYTES_IN_LANES>() {
         growth += block_growth::<C>(block);
         rest = after;
     }
     growth + rest_growth::<C>(rest)
 }
 
-/// How many vectors are counted in lanes,
-const VECTORS: usize = 16;
-
-/// and how many bytes these have.
-const BLOCK: usize = VECTORS * LANES;
-
-/// The same for the bytes of a block. Each lane counts its own.
+/// Counts in a block of vectors, of which each lane counts its own bytes.
 #[inline(always)]
 fn block_growth<C: DoubledNulls>(block: &[u8]) -> usize
-    requires { length block.now ≡ BLOCK }
+    requires { length block.now ≡ BYTES_IN_LANES }
     ensures { result ≡ sum_by (growth_of C.flavor) block.now }
 {
     let mut nulls = u8x64::splat(0);
     let mut fours = u8x64::splat(0);
-    for i in 0..VECTORS {
+    for i in 0..VECTORS_IN_LANES {
         let lanes = u8x64::from_slice(&block[LANES * i..]);
         nulls = nulls.strict_add(C::marks(lanes).select(u8x64::splat(1), u8x64::splat(0)));
         fours = fours.strict_add(Four::marks(lanes).select(u8x64::splat(1), u8x64::splat(0)));
@@ -94,32 +106,13 @@ fn rest_growth<C: DoubledNulls>(value: &[u8]) -> usize
     growth + end_growth::<C, LANES>(value, left)
 }
 
-/// The same for at most 64 bytes: by two vectors of the greatest width that fits, which may
-/// overlap.
+/// Counts in at most 64 bytes.
 #[inline(always)]
-pub fn short_growth<C: DoubledNulls>(value: &[u8]) -> usize
+fn short_growth<C: DoubledNulls>(value: &[u8]) -> usize
     requires { length value.now ≤ LANES }
     ensures { result ≡ sum_by (growth_of C.flavor) value.now }
 {
-    if value.len() >= 32 {
-        return pair_growth::<C, 32>(value);
-    }
-    if value.len() >= 16 {
-        return pair_growth::<C, 16>(value);
-    }
-    if value.len() >= 8 {
-        return pair_growth::<C, 8>(value);
-    }
-    if value.len() >= 4 {
-        return pair_growth::<C, 4>(value);
-    }
-    if value.len() >= 2 {
-        return pair_growth::<C, 2>(value);
-    }
-    if value.is_empty() {
-        return 0;
-    }
-    pair_growth::<C, 1>(value)
+    by_two_vectors!(value, pair_growth[C](value), 0)
 }
 
 /// Counts in the first `N` bytes, and the others in the last `N`.

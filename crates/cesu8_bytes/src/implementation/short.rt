@@ -10,7 +10,31 @@ use super::class::{InAllVectors, InVectors, LANES, any_in_each, bits, has};
 use std::simd::prelude::*;
 
 /// The most bytes that a short value has.
-pub const SHORT: usize = 4 * LANES;
+pub const SHORT_VALUE: usize = 4 * LANES;
+
+/// Calls a function at the greatest width of which two vectors cover at most 64 bytes, or returns
+/// what is right of none: `by_two_vectors!(value, function[Class](value), of_none)`.
+macro_rules! by_two_vectors {
+    ($value:expr, $function:ident[$($class:ty),*]($($argument:expr),*), $of_none:expr) => {
+        if $value.len() >= 32 {
+            $function::<$($class,)* 32>($($argument),*)
+        } else if $value.len() >= 16 {
+            $function::<$($class,)* 16>($($argument),*)
+        } else if $value.len() >= 8 {
+            $function::<$($class,)* 8>($($argument),*)
+        } else if $value.len() >= 4 {
+            $function::<$($class,)* 4>($($argument),*)
+        } else if $value.len() >= 2 {
+            $function::<$($class,)* 2>($($argument),*)
+        } else if $value.is_empty() {
+            $of_none
+        } else {
+            $function::<$($class,)* 1>($($argument),*)
+        }
+    };
+}
+
+pub(crate) use by_two_vectors;
 
 /// Returns whether some byte is in the class. It is correct for every length, and fast for short
 /// ones.
@@ -21,22 +45,7 @@ pub fn any_in_short<C: InAllVectors>(bytes: &[u8]) -> bool
     if bytes.len() > LANES {
         return any_in_blocks::<C>(bytes);
     }
-    if bytes.len() >= 32 {
-        return any_in_ends::<C, 32>(bytes);
-    }
-    if bytes.len() >= 16 {
-        return any_in_ends::<C, 16>(bytes);
-    }
-    if bytes.len() >= 8 {
-        return any_in_ends::<C, 8>(bytes);
-    }
-    if bytes.len() >= 4 {
-        return any_in_ends::<C, 4>(bytes);
-    }
-    if bytes.len() >= 2 {
-        return any_in_ends::<C, 2>(bytes);
-    }
-    !bytes.is_empty() && any_in_ends::<C, 1>(bytes)
+    by_two_vectors!(bytes, any_in_ends[C](bytes), false)
 }
 
 /// Returns whether some byte is in the class, by a vector at the front and one at the end, which
@@ -93,22 +102,12 @@ pub fn copy_short(bytes: &[u8], buf: &mut [u8])
 {
     if bytes.len() > LANES {
         buf[..bytes.len()].copy_from_slice(bytes);
-    } else if bytes.len() >= 32 {
-        copy_ends::<32>(bytes, buf);
-    } else if bytes.len() >= 16 {
-        copy_ends::<16>(bytes, buf);
-    } else if bytes.len() >= 8 {
-        copy_ends::<8>(bytes, buf);
-    } else if bytes.len() >= 4 {
-        copy_ends::<4>(bytes, buf);
-    } else if bytes.len() >= 2 {
-        copy_ends::<2>(bytes, buf);
-    } else if !bytes.is_empty() {
-        copy_ends::<1>(bytes, buf);
+    } else {
+        by_two_vectors!(bytes, copy_ends[](bytes, buf), ());
     }
 }
 
-/// The same by a vector at the front and one at the end.
+/// Copies by a vector at the front and one at the end, which together cover all.
 #[inline(always)]
 fn copy_ends<const N: usize>(bytes: &[u8], buf: &mut [u8])
     requires lanes { (N ≤ LANES) × (N ≤ length bytes.now) × (length bytes.now ≤ 2 * N) }

@@ -50,7 +50,8 @@ fn lanes_four<F: Fn(&[u8]) -> bool>(value: &[u8], fallback: F) -> bool
     any_in::<Four, F>(value, fallback)
 }
 
-/// The same for 00, or F0 to F7 (hexadecimal).
+/// Returns whether some byte is 00, or F0 to F7 (hexadecimal), where the fallback tests a single byte
+/// that is left.
 #[inline(always)]
 fn lanes_null_four<F: Fn(&[u8]) -> bool>(value: &[u8], fallback: F) -> bool
     requires { MayTest (λ len. len ≡ 1) F.Fn fallback }

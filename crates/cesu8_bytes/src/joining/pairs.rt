@@ -4,16 +4,16 @@ ghost use Rattle.std.specs.Prelude.{◌≡◌, ◌+◌, ◌*◌, ◌<◌, ◌≤
 ghost use Rattle.cesu8_text.specs.Encoding.{Flavor as AnyFlavor};
 ghost use Rattle.cesu8_bytes.specs.Joining.{IsJoinedAfter, KeepsJoined, HasPair, AreJoinedDigits, second_third_fifth_sixth, word_of};
 
-use super::{Progress, REACH, ROOM_LEN, Room, WINDOW};
+use super::buffer::{MOST_JOINED, MUST_FOLLOW, Progress, ROOM_LEN, Room};
 use std::simd::prelude::*;
 
-/// How many bytes a surrogate pair has,
+/// How many bytes a surrogate pair has.
 pub const PAIR: usize = 6;
 
-/// how many the UTF-8 of its character has,
+/// How many bytes the UTF-8 of its character has.
 pub const PAIR_UTF8: usize = 4;
 
-/// and how many are read with it.
+/// How many bytes are read to find a surrogate pair: those of a word.
 pub const PAIR_READ: usize = 8;
 
 /// The first byte of a surrogate pair.
@@ -29,8 +29,8 @@ pub const PAIR_MARKS: u32 = 0x0000_1041;
 /// does not depend on what was read.
 #[inline(always)]
 pub fn join_pairs<'a>(start: Progress<'a>, stop: usize, room: &mut Room) -> Progress<'a>
-    requires stop { (stop < length start.rest.now) × (REACH ≤ stop) }
-    requires room { start.written + length start.rest.now ≤ WINDOW + stop }
+    requires stop { (stop < length start.rest.now) × (MUST_FOLLOW ≤ stop) }
+    requires room { start.written + length start.rest.now ≤ MOST_JOINED + stop }
     ensures after { IsJoinedAfter start.entry.rest.now result.rest.now
         start.entry.written result.written stop }
     ensures joined { (f : AnyFlavor) → KeepsJoined f

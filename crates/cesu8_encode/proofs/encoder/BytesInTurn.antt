@@ -1,5 +1,5 @@
 -- Bytes of UTF-8 that are encoded one after another.
-use Rattle.std.proofs.Common.{◌≡◌, ℕ, ◌+◌, ◌/◌, ◌<◌, ◌≤◌, List, [], ◌∷◌, ◌++◌, refl, sym, ap, ◌∙◌, arith, length, get_or, take, drop, append_assoc, append-nil, subst, zero, suc}
+use Rattle.std.proofs.Common.{◌≡◌, ℕ, ◌+◌, ◌-◌, ◌/◌, ◌<◌, ◌≤◌, List, [], ◌∷◌, ◌++◌, refl, sym, ap, ◌∙◌, arith, length, length-append, length-drop, get_or, take, drop, append_assoc, append-nil, subst, zero, suc}
 use Rattle.std.specs.Str.{chars, IsUtf8}
 use Rattle.std.proofs.lemmas.List.{drop_more, drop-drop, get_or-drop}
 use Rattle.cesu8_text.specs.Text.{IsScalarValue, IsText, utf8_of, utf8}
@@ -11,6 +11,7 @@ use Rattle.cesu8_text.proofs.StdUtf8.{IsUtf8Of_chars}
 use Rattle.cesu8_text.proofs.text.Shapes.{Shape, one, two, three, pair, shape, utf8_of_one, utf8_of_two, utf8_of_three, utf8_of_pair}
 use Rattle.cesu8_text.proofs.encoding.Forms.{encoding_one, encoding_two, encoding_three, short_form_other}
 use Rattle.cesu8_text.proofs.encoding.Encodings.{encoding_nil, encoding_cons}
+use Rattle.cesu8_text.proofs.encoding.Lengths.{length_bounds}
 
 -- Each byte is a continuation byte.
 abbrev AllContinue : List ℕ → Type 0
@@ -52,6 +53,21 @@ pub all_encoded : (f : Flavor) (bytes rest out : List ℕ) → rest ≡ [] → I
     out ≡ encoding f (chars bytes)
 all_encoded f bytes rest out none so_far =
     encoded_at_end f so_far.inside so_far.text out _ so_far.scalars (sym none ∙ so_far.rest_is) so_far.out_is
+
+-- What is written and what is left have no more bytes than the encoding.
+pub fits_with_rest : (f : Flavor) (bytes rest out : List ℕ) → IsEncodedSoFar f bytes rest out →
+    length out + length rest ≤ length (encoding f (chars bytes))
+fits_with_rest f bytes rest out so_far =
+    let encoded = encoding f so_far.text in
+    omega (
+      arith,
+      (length_bounds f so_far.text so_far.scalars).low,
+      ap length so_far.rest_is,
+      length-append so_far.inside (utf8 so_far.text),
+      ap length so_far.out_is,
+      length-append out (so_far.inside ++ encoded),
+      length-append so_far.inside encoded,
+    )
 
 -- ---- a byte that stays
 
@@ -193,12 +209,27 @@ null_changes f bytes rest more out begins so_far =
     null_by f bytes more so_far.inside so_far.text out so_far.continue so_far.scalars
     (sym begins ∙ so_far.rest_is) so_far.out_is
 
--- The same at a position of the bytes.
+-- The byte 00 at a position of the bytes, and what is written of it.
 pub stored_null : (f : Flavor) (bytes out new : List ℕ) (read : ℕ) → read < length bytes → get_or bytes read 0 ≡ 0 →
     new ≡ out ++ short_form f 0 → IsEncodedSoFar f bytes (drop read bytes) out → IsEncodedSoFar f bytes (drop (read + 1) bytes) new
 stored_null f bytes out new read left null new_is so_far =
     subst (IsEncodedSoFar f bytes (drop (read + 1) bytes)) (sym new_is)
     (null_changes f bytes _ _ out (drop_more bytes read 0 left ∙ ap (λ b. b ∷ drop (read + 1) bytes) null) so_far)
+
+-- There is room for what is written, where there is for the whole encoding.
+pub room_for_null : (f : Flavor) (bytes out : List ℕ) (read end room : ℕ) → read < length bytes → get_or bytes read 0 ≡ 0 →
+    length out ≡ end → length (encoding f (chars bytes)) ≤ room → IsEncodedSoFar f bytes (drop read bytes) out →
+    end + length (short_form f 0) + (length bytes - (read + 1)) ≤ room
+room_for_null f bytes out read end room left null end_is fits so_far =
+    let new = out ++ short_form f 0 in
+    omega (
+      arith,
+      end_is,
+      fits,
+      fits_with_rest f bytes (drop (read + 1) bytes) new (stored_null f bytes out new read left null refl so_far),
+      length-append out (short_form f 0),
+      length-drop (read + 1) bytes,
+    )
 
 -- The rest begins with a character of four bytes, which is encoded next.
 pub record IsPairNext (f : Flavor) (bytes rest out : List ℕ) : Type 0 where
@@ -261,6 +292,21 @@ pub stored_pair : (f : Flavor) (bytes out six new : List ℕ) (read : ℕ) → (
 stored_pair f bytes out six new read next six_is new_is =
     subst (λ rest. IsEncodedSoFar f bytes rest new) (drop-drop 4 read bytes)
     (subst (IsEncodedSoFar f bytes (drop 4 (drop read bytes))) (sym (new_is ∙ ap (λ bs. out ++ bs) six_is)) next.goes_on)
+
+-- There is room for it too.
+pub room_for_pair : (f : Flavor) (bytes out six : List ℕ) (read end room : ℕ) → (next : IsPairNext f bytes (drop read bytes) out) →
+    six ≡ encoding f (next.character ∷ []) → length out ≡ end → length (encoding f (chars bytes)) ≤ room →
+    end + length six + (length bytes - (read + 4)) ≤ room
+room_for_pair f bytes out six read end room next six_is end_is fits =
+    let new = out ++ six in
+    omega (
+      arith,
+      end_is,
+      fits,
+      fits_with_rest f bytes (drop (read + 4) bytes) new (stored_pair f bytes out six new read next six_is refl),
+      length-append out six,
+      length-drop (read + 4) bytes,
+    )
 
 -- U+0000 becomes one byte or two.
 pub length_of_null : (f : Flavor) → (1 ≤ length (short_form f 0)) × (length (short_form f 0) ≤ 2)

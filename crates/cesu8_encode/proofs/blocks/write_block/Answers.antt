@@ -1,8 +1,8 @@
 use Rattle.std.proofs.Common.{◌++◌, ap, ◌∙◌, arith, length, take}
 use Rattle.cesu8_encode.proofs.blocks.write_block.Goals as goal
 
-pub returns-then-out-end-ge-STORED-clause-bytes : goal.returns-then-out-end-ge-STORED-clause-bytes
-returns-then-out-end-ge-STORED-clause-bytes g c =
+pub returns-then-out-end-ge-BLOCK_STORED-clause-bytes : goal.returns-then-out-end-ge-BLOCK_STORED-clause-bytes
+returns-then-out-end-ge-BLOCK_STORED-clause-bytes g c =
     c.store_block.ensures.bytes g.N.NullForm.flavor c.args.window.now c.args.at c.encode_block-block.ensures
 
 pub slice_bounds-put-end : goal.slice_bounds-put-end

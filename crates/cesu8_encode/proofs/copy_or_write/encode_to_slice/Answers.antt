@@ -5,9 +5,9 @@ use Rattle.cesu8_bytes.specs.Puts.{PutsAnswer}
 use Rattle.cesu8_text.proofs.encoding.NeedsEncoding.{encoding_is_bytes}
 use Rattle.cesu8_encode.proofs.copy_or_write.encode_to_slice.Goals as goal
 
-pub returns-then-not-needs_encoded : goal.returns-then-not-needs_encoded
-returns-then-not-needs_encoded c =
-    let same = encoding_is_bytes (flavor_of c.args.flavor) c.args.value.now c.utf8.value
+pub returns-in_default : goal.returns-in_default
+returns-in_default c =
+    let same = encoding_is_bytes (flavor_of c.args.flavor) c.args.text.now c.utf8.text
     (iff_false c.needs_encoded.ensures c.if-not-needs_encoded.true) in
-    subst (λ answer. PutsAnswer answer c.copy_to_slice-then-not-needs_encoded.result c.args.buf.now c.copy_to_slice-then-not-needs_encoded.new.buf)
-    (c.as_bytes-then-not-needs_encoded.ensures.value ∙ sym same) c.copy_to_slice-then-not-needs_encoded.ensures
+    subst (λ answer. PutsAnswer answer c.copy_to_slice.result c.args.buf.now c.copy_to_slice.new.buf)
+    (c.as_bytes.ensures.value ∙ sym same) c.copy_to_slice.ensures

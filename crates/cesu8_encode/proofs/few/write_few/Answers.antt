@@ -1,18 +1,24 @@
 use Rattle.std.proofs.Common.{◌∙◌, ap, refl, arith, length, take, length-drop}
-use Rattle.std.proofs.lemmas.List.{drop_all, take_rest}
+use Rattle.std.proofs.lemmas.List.{drop_all, take_rest, length-take-le}
 use Rattle.std.specs.Str.{chars}
 use Rattle.cesu8_text.specs.Encoding.{encoding}
 use Rattle.cesu8_bytes.specs.Internal.{flavor_of}
-use Rattle.cesu8_encode.proofs.encoder.BytesInTurn.{none_encoded, all_encoded, first_is, stored_run, stored_null, pair_at, stored_pair, still_behind, length_of_null}
+use Rattle.cesu8_encode.proofs.encoder.BytesInTurn.{none_encoded, all_encoded, fits_with_rest, first_is, stored_run, stored_null, room_for_null, pair_at, stored_pair, room_for_pair, still_behind, length_of_null}
 use Rattle.cesu8_encode.proofs.few.write_few.Goals as goal
 
 pub loop-read-init : goal.loop-read-init
-loop-read-init c = record {
-  so_far = none_encoded (flavor_of c.args.flavor) c.as_bytes-bytes.result.now c.as_bytes-bytes.ensures.utf8;
-  within = omega arith;
-  room = omega arith;
-  behind = refl;
-}
+loop-read-init c =
+    let f = flavor_of c.args.flavor in
+    let bytes = c.as_bytes-bytes.result.now in
+    let none = none_encoded f bytes c.as_bytes-bytes.ensures.utf8 in
+    let whole = ap (λ bytes. length (encoding f (chars bytes))) c.as_bytes-bytes.ensures.value in
+    record {
+      so_far = none;
+      within = omega arith;
+      room = omega (arith, fits_with_rest f bytes bytes _ none, whole, c.requires);
+      len = refl;
+      behind = refl;
+    }
 
 pub copy_some-run-requires-clause-first : goal.copy_some-run-requires-clause-first
 copy_some-run-requires-clause-first c =
@@ -27,10 +33,23 @@ loop-read-preserved-then-byte-lt-FOUR_LEAD c =
       so_far = stored_run (flavor_of c.args.flavor) c.as_bytes-bytes.result.now _ (take c.loop-read.end c.loop-read.out) _ c.loop-read.read c.copy_some-run.result
           rest_is c.copy_some-run.ensures.run c.copy_some-run.ensures.bytes c.loop-read.invariant.so_far;
       within = omega (arith, left, ap length rest_is, c.copy_some-run.ensures.run.within);
-      room = omega (arith, left, ap length rest_is, c.copy_some-run.ensures.run.within);
+      room = omega (arith, left, ap length rest_is, c.copy_some-run.ensures.run.within, c.copy_some-run.ensures.len);
+      len = c.copy_some-run.ensures.len ∙ c.loop-read.invariant.len;
       behind = still_behind _ _ _ _ c.loop-read.out _ (omega (arith, left, ap length rest_is)) (omega arith)
           c.copy_some-run.ensures.behind c.loop-read.invariant.behind;
     }
+
+pub write_null-end-requires : goal.write_null-end-requires
+write_null-end-requires c =
+    let f = flavor_of c.args.flavor in
+    let bytes = c.as_bytes-bytes.result.now in
+    let whole = ap (λ bytes. length (encoding f (chars bytes))) c.as_bytes-bytes.ensures.value in
+    omega (
+      arith,
+      room_for_null f bytes (take c.loop-read.end c.loop-read.out) c.loop-read.read c.loop-read.end (length c.loop-read.out) (omega arith)
+          c.if-byte-eq0.true (length-take-le c.loop-read.end c.loop-read.out (omega (arith, c.loop-read.invariant.room)))
+          (omega (arith, whole, c.requires, c.loop-read.invariant.len)) c.loop-read.invariant.so_far,
+    )
 
 pub pair_of-requires : goal.pair_of-requires
 pair_of-requires c =
@@ -39,36 +58,63 @@ pair_of-requires c =
 
 pub put-end-requires : goal.put-end-requires
 put-end-requires c =
-    let next = pair_at (flavor_of c.args.flavor) c.as_bytes-bytes.result.now _ c.loop-read.read (omega arith) c.loop-read.invariant.so_far in
-    omega (arith, next.long, length-drop c.loop-read.read c.as_bytes-bytes.result.now)
+    let f = flavor_of c.args.flavor in
+    let bytes = c.as_bytes-bytes.result.now in
+    let next = pair_at f bytes (take c.loop-read.end c.loop-read.out) c.loop-read.read (omega arith) c.loop-read.invariant.so_far in
+    let whole = ap (λ bytes. length (encoding f (chars bytes))) c.as_bytes-bytes.ensures.value in
+    omega (
+      arith,
+      room_for_pair f bytes (take c.loop-read.end c.loop-read.out) c.pair_of.result c.loop-read.read c.loop-read.end (length c.loop-read.out) next
+          (c.pair_of.ensures f next.character next.scalar next.high (ap (take 4) (take_rest bytes c.loop-read.read) ∙ next.begins))
+          (length-take-le c.loop-read.end c.loop-read.out (omega (arith, c.loop-read.invariant.room)))
+          (omega (arith, whole, c.requires, c.loop-read.invariant.len)),
+    )
 
 pub loop-read-preserved-then-byte-eq0 : goal.loop-read-preserved-then-byte-eq0
 loop-read-preserved-then-byte-eq0 c =
+    let f = flavor_of c.args.flavor in
+    let bytes = c.as_bytes-bytes.result.now in
+    let whole = ap (λ bytes. length (encoding f (chars bytes))) c.as_bytes-bytes.ensures.value in
+    let room = room_for_null f bytes (take c.loop-read.end c.loop-read.out) c.loop-read.read c.loop-read.end (length c.loop-read.out) (omega arith)
+    c.if-byte-eq0.true (length-take-le c.loop-read.end c.loop-read.out (omega (arith, c.loop-read.invariant.room)))
+    (omega (arith, whole, c.requires, c.loop-read.invariant.len)) c.loop-read.invariant.so_far in
     record {
-      so_far = stored_null (flavor_of c.args.flavor) c.as_bytes-bytes.result.now (take c.loop-read.end c.loop-read.out) _ c.loop-read.read
+      so_far = stored_null f bytes (take c.loop-read.end c.loop-read.out) _ c.loop-read.read
           (omega arith) c.if-byte-eq0.true c.write_null-end.ensures.bytes c.loop-read.invariant.so_far;
       within = omega arith;
-      room = omega (arith, length_of_null (flavor_of c.args.flavor));
-      behind = still_behind _ _ _ _ c.loop-read.out _ (omega arith) (omega (arith, length_of_null (flavor_of c.args.flavor)))
+      room = omega (arith, room, c.write_null-end.ensures.end, c.write_null-end.ensures.len);
+      len = c.write_null-end.ensures.len ∙ c.loop-read.invariant.len;
+      behind = still_behind _ _ _ _ c.loop-read.out _ (omega (arith, c.write_null-end.ensures.end)) (omega (arith, c.write_null-end.ensures.end, length_of_null f))
           c.write_null-end.ensures.behind c.loop-read.invariant.behind;
     }
 
 pub loop-read-preserved : goal.loop-read-preserved
 loop-read-preserved c =
-    let next = pair_at (flavor_of c.args.flavor) c.as_bytes-bytes.result.now _ c.loop-read.read (omega arith) c.loop-read.invariant.so_far in
-    let left = length-drop c.loop-read.read c.as_bytes-bytes.result.now in
+    let f = flavor_of c.args.flavor in
+    let bytes = c.as_bytes-bytes.result.now in
+    let next = pair_at f bytes (take c.loop-read.end c.loop-read.out) c.loop-read.read (omega arith) c.loop-read.invariant.so_far in
+    let whole = ap (λ bytes. length (encoding f (chars bytes))) c.as_bytes-bytes.ensures.value in
+    let pair = c.pair_of.ensures f next.character next.scalar next.high (ap (take 4) (take_rest bytes c.loop-read.read) ∙ next.begins) in
+    let room = room_for_pair f bytes (take c.loop-read.end c.loop-read.out) c.pair_of.result c.loop-read.read c.loop-read.end (length c.loop-read.out) next pair
+    (length-take-le c.loop-read.end c.loop-read.out (omega (arith, c.loop-read.invariant.room)))
+    (omega (arith, whole, c.requires, c.loop-read.invariant.len)) in
+    let left = length-drop c.loop-read.read bytes in
     record {
-      so_far = stored_pair (flavor_of c.args.flavor) c.as_bytes-bytes.result.now (take c.loop-read.end c.loop-read.out) c.pair_of.result _ c.loop-read.read next
-          (c.pair_of.ensures (flavor_of c.args.flavor) next.character next.scalar next.high
-          (ap (take 4) (take_rest c.as_bytes-bytes.result.now c.loop-read.read) ∙ next.begins))
-          c.put-end.ensures.bytes;
-      within = omega (arith, next.long);
-      room = omega (arith, next.long);
-      behind = still_behind _ _ _ _ c.loop-read.out _ (omega arith) (omega (arith, next.long)) c.put-end.ensures.behind c.loop-read.invariant.behind;
+      so_far = stored_pair f bytes (take c.loop-read.end c.loop-read.out) c.pair_of.result _ c.loop-read.read next pair c.put-end.ensures.bytes;
+      within = omega (arith, next.long, left);
+      room = omega (arith, room, c.put-end.ensures.end, c.put-end.ensures.len);
+      len = c.put-end.ensures.len ∙ c.loop-read.invariant.len;
+      behind = still_behind _ _ _ _ c.loop-read.out _ (omega (arith, c.put-end.ensures.end)) (omega (arith, next.long, left, c.put-end.ensures.end))
+          c.put-end.ensures.behind c.loop-read.invariant.behind;
     }
 
-pub returns-clause-bytes : goal.returns-clause-bytes
-returns-clause-bytes c =
-    all_encoded (flavor_of c.args.flavor) c.as_bytes-bytes.result.now _ _ (drop_all c.loop-read.read c.as_bytes-bytes.result.now (omega arith))
-    c.loop-read.invariant.so_far
-    ∙ ap (λ bytes. encoding (flavor_of c.args.flavor) (chars bytes)) c.as_bytes-bytes.ensures.value
+pub returns-clause-written : goal.returns-clause-written
+returns-clause-written c =
+    let f = flavor_of c.args.flavor in
+    record {
+      bytes = all_encoded f c.as_bytes-bytes.result.now _ _ (drop_all c.loop-read.read c.as_bytes-bytes.result.now (omega arith))
+          c.loop-read.invariant.so_far
+          ∙ ap (λ bytes. encoding f (chars bytes)) c.as_bytes-bytes.ensures.value;
+      end = omega (arith, c.loop-read.invariant.room);
+      len = c.loop-read.invariant.len;
+    }

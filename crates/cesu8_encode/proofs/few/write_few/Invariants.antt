@@ -1,4 +1,4 @@
-use Rattle.std.proofs.Common.{◌≡◌, ◌+◌, ◌-◌, ◌*◌, ◌≤◌, length, take, drop}
+use Rattle.std.proofs.Common.{◌≡◌, ◌+◌, ◌-◌, ◌≤◌, length, take, drop}
 use Rattle.cesu8_bytes.specs.Internal.{flavor_of}
 use Rattle.cesu8_encode.proofs.encoder.BytesInTurn.{IsEncodedSoFar}
 use Rattle.cesu8_encode.proofs.few.write_few.Given as goal
@@ -10,6 +10,7 @@ abbrev pub invariant-loop-read : goal.invariant-loop-read
 invariant-loop-read l = record {
   so_far : IsEncodedSoFar (flavor_of l.flavor) l.bytes (drop l.read l.bytes) (take l.end l.out);
   within : l.read ≤ length l.bytes;
-  room : l.end + 2 * (length l.bytes - l.read) ≤ length l.out;
+  room : l.end + (length l.bytes - l.read) ≤ length l.out;
+  len : length l.out ≡ length l.fn.out;
   behind : drop (l.end + (length l.bytes - l.read)) l.out ≡ drop (l.end + (length l.bytes - l.read)) l.fn.out;
 }

@@ -13,10 +13,13 @@ write_block-requires-clause-room g c =
       c.requires.room,
     )
 
-pub returns-clause-written : goal.returns-clause-written
-returns-clause-written g c =
+pub returns : goal.returns
+returns g c =
     let f = g.N.NullForm.flavor in
     let text = c.args.text.now in
     let same = encoded_bytes_first f text c.put_behind_zeros.new.window 32 (omega arith) c.put_behind_zeros.ensures in
     let room = room_for_parts f (0 ∷ 0 ∷ text) 0 32 (length text - 32) (length text) (omega (arith, c.requires.long)) in
-    (c.write_block.ensures.bytes ∙ same, omega (arith, c.write_block.ensures.end, c.write_block.ensures.len, ap length same, room, c.requires.room))
+    record {
+      written = (c.write_block.ensures.bytes ∙ same, omega (arith, c.write_block.ensures.end, c.write_block.ensures.len, ap length same, room, c.requires.room));
+      len = c.write_block.ensures.len;
+    }

@@ -14,14 +14,17 @@ write_block-requires-clause-room g c =
       room_behind f text at (length text - at) c.args.end c.args.out.now (omega (arith, c.requires.position)) c.requires.before c.requires.room,
     )
 
-pub returns-clause-written : goal.returns-clause-written
-returns-clause-written g c =
+pub returns : goal.returns
+returns g c =
     let f = g.N.NullForm.flavor in
     let text = c.args.text.now in
     let at = c.args.at in
     let same = encoded_bytes_last f text c.put_before_zeros.new.window at (length text - at) (omega (arith, c.requires.position)) c.put_before_zeros.ensures in
     let room = room_behind f text at (length text - at) c.args.end c.args.out.now (omega (arith, c.requires.position)) c.requires.before c.requires.room in
     let sum : at + (length text - at) ≡ length text = omega (arith, c.requires.position) in
-    subst (λ n. IsWritten f text n c.write_block.new.out c.write_block.result) sum
-    (written_behind f text at (length text - at) _ _ _ _ _ c.requires.before c.write_block.ensures.bytes same
-    (omega (arith, c.write_block.ensures.end, c.write_block.ensures.len, ap length same, room)))
+    record {
+      written = subst (λ n. IsWritten f text n c.write_block.new.out c.write_block.result) sum
+          (written_behind f text at (length text - at) _ _ _ _ _ c.requires.before c.write_block.ensures.bytes same
+          (omega (arith, c.write_block.ensures.end, c.write_block.ensures.len, ap length same, room)));
+      len = c.write_block.ensures.len;
+    }

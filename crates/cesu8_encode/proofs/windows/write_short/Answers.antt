@@ -9,9 +9,12 @@ write_block-requires-clause-room g c =
     let window = λ (k : ℕ). c.put_behind_zeros.ensures k ∙ ap (λ l. get_or (0 ∷ 0 ∷ l) k 0) (sym (take_all 33 text (omega (arith, c.requires.short)))) in
     omega (arith, ap length (encoded_bytes_first g.N.NullForm.flavor text c.put_behind_zeros.new.window (length text) c.requires.short window), c.requires.room)
 
-pub returns-clause-written : goal.returns-clause-written
-returns-clause-written g c =
+pub returns : goal.returns
+returns g c =
     let text = c.args.text.now in
     let window = λ (k : ℕ). c.put_behind_zeros.ensures k ∙ ap (λ l. get_or (0 ∷ 0 ∷ l) k 0) (sym (take_all 33 text (omega (arith, c.requires.short)))) in
     let same = encoded_bytes_first g.N.NullForm.flavor text c.put_behind_zeros.new.window (length text) c.requires.short window in
-    (c.write_block.ensures.bytes ∙ same, omega (arith, c.write_block.ensures.end, c.write_block.ensures.len, ap length same, c.requires.room))
+    record {
+      written = (c.write_block.ensures.bytes ∙ same, omega (arith, c.write_block.ensures.end, c.write_block.ensures.len, ap length same, c.requires.room));
+      len = c.write_block.ensures.len;
+    }

@@ -1,3 +1,4 @@
+use Rattle.std.proofs.Common.{rules}
 use Rattle.std.specs.String.{string_bytes}
 use Rattle.std.proofs.lemmas.Str.{IsUtf8-string_bytes}
 use Rattle.simd_cesu8.specs.Internal.{flavor_of}
@@ -5,24 +6,28 @@ use Rattle.cesu8_text.proofs.reading.Borrowing.{never_borrowed}
 use Rattle.cesu8_text.proofs.reading.LossyBorrowing.{length_of_reading, unchanged_lossy, unchanged_length, changed_reading}
 use Rattle.simd_cesu8.proofs.borrow_or_build.decode_lossy_strict_other.Goals as goal
 
-pub returns-then-text-bytes-clause-reading : goal.returns-then-text-bytes-clause-reading
-returns-then-text-bytes-clause-reading c =
-    let unchanged = c.unchanged_text-text.ensures.whole (c.if-text-bytes.true) in
-    unchanged_lossy (flavor_of c.args.flavor) c.args.bytes.now c.unchanged_text-text.result.now unchanged.0 unchanged.1
+pub returns-then-text-bytes : goal.returns-then-text-bytes
+returns-then-text-bytes c = record {
+  reading = let unchanged = c.unchanged_text-text.ensures.whole (c.if-text-bytes.true) in
+      unchanged_lossy (flavor_of c.args.flavor) c.args.bytes.now c.unchanged_text-text.result.now unchanged.0 unchanged.1;
+  text_length = let unchanged = c.unchanged_text-text.ensures.whole (c.if-text-bytes.true) in
+      unchanged_length (flavor_of c.args.flavor) c.args.bytes.now c.unchanged_text-text.result.now unchanged.0 unchanged.1;
+  borrowed = search rules;
+  borrowed_where = search rules;
+  succeeds = search rules;
+  capacity = search rules;
+}
 
-pub returns-then-text-bytes-clause-text_length : goal.returns-then-text-bytes-clause-text_length
-returns-then-text-bytes-clause-text_length c =
-    let unchanged = c.unchanged_text-text.ensures.whole (c.if-text-bytes.true) in
-    unchanged_length (flavor_of c.args.flavor) c.args.bytes.now c.unchanged_text-text.result.now unchanged.0 unchanged.1
-
-pub returns-clause-text_length : goal.returns-clause-text_length
-returns-clause-text_length c =
-    let built = c.in_ok-built.built in
-    length_of_reading (flavor_of c.args.flavor) c.args.bytes.now (string_bytes built) (IsUtf8-string_bytes built)
-    c.in_ok-built.ensures.text
-
-pub returns-clause-borrowed : goal.returns-clause-borrowed
-returns-clause-borrowed c =
-    let built = c.in_ok-built.built in
-    never_borrowed (changed_reading (flavor_of c.args.flavor) c.args.bytes.now (string_bytes built) (c.unchanged_text-text.ensures.none (c.if-text-bytes.false))
-    (IsUtf8-string_bytes built) c.in_ok-built.ensures.text)
+pub returns : goal.returns
+returns c = record {
+  reading = search rules;
+  text_length = let built = c.in_ok-built.built in
+      length_of_reading (flavor_of c.args.flavor) c.args.bytes.now (string_bytes built) (IsUtf8-string_bytes built)
+      c.in_ok-built.ensures.text;
+  borrowed = let built = c.in_ok-built.built in
+      never_borrowed (changed_reading (flavor_of c.args.flavor) c.args.bytes.now (string_bytes built) (c.unchanged_text-text.ensures.none (c.if-text-bytes.false))
+      (IsUtf8-string_bytes built) c.in_ok-built.ensures.text);
+  borrowed_where = search rules;
+  succeeds = search rules;
+  capacity = search rules;
+}

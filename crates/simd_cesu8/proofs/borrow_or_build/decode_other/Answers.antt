@@ -8,22 +8,36 @@ use Rattle.cesu8_text.proofs.reading.Borrowing.{built_lenient, not_utf8_differs,
 use Rattle.simd_cesu8.proofs.Faults.{refused_lenient}
 use Rattle.simd_cesu8.proofs.borrow_or_build.decode_other.Goals as goal
 
-pub returns-then-whole-bytes-clause-text : goal.returns-then-whole-bytes-clause-text
-returns-then-whole-bytes-clause-text c =
-    inl (IsUtf8Of_chars_at c.args.bytes.now c.whole_text-whole.result.now (c.whole_text-whole.ensures.whole (c.if-whole-bytes.true)).0 (c.whole_text-whole.ensures.whole (c.if-whole-bytes.true)).1)
+pub returns-then-whole-bytes : goal.returns-then-whole-bytes
+returns-then-whole-bytes c = record {
+  text = inl (IsUtf8Of_chars_at c.args.bytes.now c.whole_text-whole.result.now (c.whole_text-whole.ensures.whole (c.if-whole-bytes.true)).0 (c.whole_text-whole.ensures.whole (c.if-whole-bytes.true)).1);
+  invalid = search rules;
+  borrowed = search rules;
+  borrowed_where = search rules;
+  succeeds = search rules;
+  capacity = search rules;
+}
 
-pub returns-clause-text : goal.returns-clause-text
-returns-clause-text c =
-    built_lenient (flavor_of c.args.flavor) c.args.bytes.now (chars (string_bytes c.in_ok-decoded.decoded)) (c.whole_text-whole.ensures.none (c.if-whole-bytes.false))
-    c.in_ok-decoded.ensures.text
+pub returns : goal.returns
+returns c = record {
+  text = built_lenient (flavor_of c.args.flavor) c.args.bytes.now (chars (string_bytes c.in_ok-decoded.decoded)) (c.whole_text-whole.ensures.none (c.if-whole-bytes.false))
+      c.in_ok-decoded.ensures.text;
+  invalid = search rules;
+  borrowed = let built = c.in_ok-decoded.decoded in
+      never_borrowed (not_utf8_differs c.args.bytes.now (string_bytes built) (c.whole_text-whole.ensures.none (c.if-whole-bytes.false)) (IsUtf8-string_bytes built));
+  borrowed_where = search rules;
+  succeeds = search rules;
+  capacity = search rules;
+}
 
-pub returns-clause-borrowed : goal.returns-clause-borrowed
-returns-clause-borrowed c =
-    let built = c.in_ok-decoded.decoded in
-    never_borrowed (not_utf8_differs c.args.bytes.now (string_bytes built) (c.whole_text-whole.ensures.none (c.if-whole-bytes.false)) (IsUtf8-string_bytes built))
-
-pub returns-in_err-decoded-clause-invalid : goal.returns-in_err-decoded-clause-invalid
-returns-in_err-decoded-clause-invalid c =
-    let refused = refused_lenient (flavor_of c.args.flavor) c.args.bytes.now c.in_err-decoded.field-0.0 (c.whole_text-whole.ensures.none (c.if-whole-bytes.false))
-    c.in_err-decoded.ensures.invalid in
-    search (rules, refused)
+pub returns-in_err-decoded : goal.returns-in_err-decoded
+returns-in_err-decoded c = record {
+  text = search rules;
+  invalid = let refused = refused_lenient (flavor_of c.args.flavor) c.args.bytes.now c.in_err-decoded.field-0.0 (c.whole_text-whole.ensures.none (c.if-whole-bytes.false))
+      c.in_err-decoded.ensures.invalid in
+      search (rules, refused);
+  borrowed = search rules;
+  borrowed_where = search rules;
+  succeeds = search rules;
+  capacity = search rules;
+}

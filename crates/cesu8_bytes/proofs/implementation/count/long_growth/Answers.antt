@@ -1,7 +1,7 @@
 use Rattle.std.proofs.Common.{arith}
 use Rattle.cesu8_text.specs.Class.{growth_of}
 use Rattle.cesu8_bytes.proofs.vectors.Counts.{growth_bound, sum_by_chunk}
-use Rattle.cesu8_bytes.proofs.implementation.count.growth.Goals as goal
+use Rattle.cesu8_bytes.proofs.implementation.count.long_growth.Goals as goal
 
 pub overflow_add-growth : goal.overflow_add-growth
 overflow_add-growth g c =
