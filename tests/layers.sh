@@ -22,11 +22,6 @@ known_cycles() {
     cat <<'MODULES'
 cesu8_bytes crate::joining
 cesu8_bytes crate::joining::pairs
-cesu8_decode crate
-cesu8_decode crate::appending
-cesu8_decode crate::few
-cesu8_decode crate::slices
-cesu8_decode crate::whole
 MODULES
 }
 
