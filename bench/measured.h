@@ -8,7 +8,7 @@
 #include <stdint.h>
 
 // What a call answered. With neither an answer nor an invalid input, a request for memory was
-// refused, or the length of a lossy reading does not fit size_t.
+// refused, the buffer is too short, or the length of a lossy reading does not fit size_t.
 struct measured_outcome {
     size_t length;    // The answer's bytes, and 0 where there is none.
     bool has_answer;
@@ -34,6 +34,19 @@ MEASURED_CALL(decode_lossy);
 MEASURED_CALL(mutf8_decode_lossy);
 MEASURED_CALL(decode_lossy_strict);
 MEASURED_CALL(mutf8_decode_lossy_strict);
+
+// The calls on slices, which write their answer to the buffer and make no other copy. In a buffer
+// that is too short they write nothing.
+MEASURED_CALL(encode_to_slice);
+MEASURED_CALL(mutf8_encode_to_slice);
+MEASURED_CALL(decode_to_slice);
+MEASURED_CALL(mutf8_decode_to_slice);
+MEASURED_CALL(decode_strict_to_slice);
+MEASURED_CALL(mutf8_decode_strict_to_slice);
+MEASURED_CALL(decode_lossy_to_slice);
+MEASURED_CALL(mutf8_decode_lossy_to_slice);
+MEASURED_CALL(decode_lossy_strict_to_slice);
+MEASURED_CALL(mutf8_decode_lossy_strict_to_slice);
 
 // The length of the answer of encode, and of decode_lossy_strict: the answer has that length, and
 // nothing is written.

@@ -20,11 +20,6 @@ trap 'rm -rf "$scratch"' EXIT
 # The modules that import one another, of each crate.
 known_cycles() {
     cat <<'MODULES'
-cesu8_decode crate
-cesu8_decode crate::appending
-cesu8_decode crate::few
-cesu8_decode crate::slices
-cesu8_decode crate::whole
 MODULES
 }
 

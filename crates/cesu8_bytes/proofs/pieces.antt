@@ -1,5 +1,4 @@
 -- Text that is joined a piece at a time.
-pub mod TwoParts
 pub mod EncodedPiece
 pub mod Joining
 pub mod PairWords

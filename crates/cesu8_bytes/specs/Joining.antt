@@ -85,18 +85,6 @@ abbrev pub word_of : ℕ → ℕ → ℕ → ℕ → ℕ → ℕ → ℕ → ℕ
 word_of a b d e g h more =
     a + b * 0x100 + d * 0x10000 + e * 0x1000000 + g * 0x100000000 + h * 0x10000000000 + more * 0x1000000000000
 
--- With the next byte, a byte begins what is encoded otherwise than in UTF-8.
-abbrev pub begins_other : ℕ → ℕ → Bool
-begins_other a b = a == 0xC0 || (a == 0xED && bit_and b 0xE0 == 0xA0)
-
--- No byte does so.
-abbrev pub NoneUnjoined : List ℕ → Type 0
-NoneUnjoined bytes = (i : ℕ) → i + 1 < length bytes → begins_other (slice_index bytes i) (slice_index bytes (i + 1)) ≡ false
-
--- No byte at 32 positions from here on does so.
-abbrev pub NoneUnjoinedFrom : ℕ → List ℕ → Type 0
-NoneUnjoinedFrom at bytes = (i : ℕ) → at ≤ i → i < at + 32 → begins_other (slice_index bytes i) (slice_index bytes (i + 1)) ≡ false
-
 -- Two bytes are the null character of MUTF-8.
 abbrev pub null_at : Flavor → ℕ → ℕ → Bool
 null_at Cesu8 a b = false

@@ -251,7 +251,7 @@ const NULL_MARKS: u32 = 0x5555_5555;
 
 /// Returns whether a block of null characters of MUTF-8 begins the bytes.
 #[inline(always)]
-pub fn is_nulls(bytes: &[u8]) -> bool
+fn is_nulls(bytes: &[u8]) -> bool
     requires { BLOCK ≤ length bytes.now }
     ensures { IsTrue result ↔ take BLOCK bytes.now ≡ nulls }
 {

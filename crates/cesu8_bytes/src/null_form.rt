@@ -1,13 +1,11 @@
 //! The two forms of U+0000, the only difference between the encodings.
 
-ghost use Rattle.std.specs.Prelude.{◌≡◌, ◌≤◌, map, if◌then◌else◌, IsTrue, length, take};
+ghost use Rattle.std.specs.Prelude.{◌≡◌, map, if◌then◌else◌};
 ghost use Rattle.cesu8_text.specs.Encoding.{Flavor, Cesu8, Mutf8};
 ghost use Rattle.cesu8_text.specs.Class.{is_null};
 ghost use Rattle.cesu8_bytes.specs.Kernels.{mask};
-ghost use Rattle.cesu8_bytes.specs.Joining.{null_at, nulls};
+ghost use Rattle.cesu8_bytes.specs.Joining.{null_at};
 
-use super::joining::is_nulls;
-use crate::BLOCK;
 use std::simd::prelude::*;
 
 /// The form of U+0000.
@@ -21,11 +19,6 @@ pub trait NullForm {
     /// Marks, with the highest bit, the second bytes of C0 80. The other bits are set.
     fn second_of_null(bytes: u8x32) -> u8x32
         ensures { result ≡ map (λ b. if null_at flavor 0xC0 b then 0xFF else 0x7F) bytes };
-
-    /// Returns whether a block of C0 80 begins the bytes, each of which is a character.
-    fn begins_with_nulls(bytes: &[u8]) -> bool
-        requires { BLOCK ≤ length bytes.now }
-        ensures { IsTrue result → (flavor ≡ Mutf8) × (take BLOCK bytes.now ≡ nulls) };
 }
 
 /// One byte, 00, as in CESU-8.
@@ -48,14 +41,6 @@ impl NullForm for OneByteNull {
     {
         let _ = bytes;
         u8x32::splat(0x7F)
-    }
-
-    #[inline(always)]
-    fn begins_with_nulls(bytes: &[u8]) -> bool
-        ensures { IsTrue result → (Cesu8 ≡ Mutf8) × (take BLOCK bytes.now ≡ nulls) }
-    {
-        let _ = bytes;
-        false
     }
 }
 
@@ -81,13 +66,5 @@ impl NullForm for TwoByteNull {
         bytes
             .simd_eq(u8x32::splat(0x80))
             .select(u8x32::splat(0xFF), u8x32::splat(0x7F))
-    }
-
-    #[inline(always)]
-    fn begins_with_nulls(bytes: &[u8]) -> bool
-        requires { BLOCK ≤ length bytes.now }
-        ensures { IsTrue result → (Mutf8 ≡ Mutf8) × (take BLOCK bytes.now ≡ nulls) }
-    {
-        is_nulls(bytes)
     }
 }

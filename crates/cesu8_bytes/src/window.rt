@@ -22,25 +22,22 @@ const FILLED: usize = MOST_WITH_PAIR + PAIR;
 
 /// The text of the first bytes, and their number.
 #[derive(Drop)]
-pub struct Piece<'a> {
+pub struct Joined<'a> {
     pub read: usize,
     pub text: &'a str,
 }
 
-/// Reads a window of at most so many bytes and a character, or the part of it before an error. If
-/// it returns none, nothing is known of the bytes.
-pub fn read_window<'a>(
-    flavor: Flavor,
-    bytes: &[u8],
-    len: usize,
-    room: &'a mut Room,
-) -> Option<Piece<'a>>
+/// Joins a window, or the part of it before an error, up to the end of a character. If it returns
+/// none, nothing is known of the bytes.
+pub fn read_window<'a>(flavor: Flavor, bytes: &[u8], room: &'a mut Room) -> Option<Joined<'a>>
     requires { TOO_FEW < length bytes.now }
-    ensures within { IfSome result (λ piece. (0 < piece.read) × (piece.read ≤ length bytes.now)) }
-    ensures text { IfSome result (λ piece. (which : Strictness) → IsPiece (flavor_of flavor) which
-        bytes.now (drop piece.read bytes.now) piece.text.now) }
+    ensures within { IfSome result (λ joined.
+        (0 < joined.read) × (joined.read ≤ length bytes.now)) }
+    ensures text { IfSome result (λ joined. (which : Strictness) → IsPiece (flavor_of flavor) which
+        bytes.now (drop joined.read bytes.now) joined.text.now) }
 {
-    let Step { read, written } = join_window(flavor, bytes, len, room);
+    let step = join(flavor, bytes, MOST_JOINED.min(bytes.len() - MUST_FOLLOW), room);
+    let Step { read, written } = copy_end(bytes, step, room);
     if read == 0 {
         return None;
     }
@@ -49,21 +46,9 @@ pub fn read_window<'a>(
     }
     let joined = &room[..written];
     match basic::from_utf8(joined) {
-        Ok(text) => Some(Piece { read, text }),
+        Ok(text) => Some(Joined { read, text }),
         Err(_) => None,
     }
-}
-
-/// Joins the first bytes, up to the end of a character.
-pub fn join_window(flavor: Flavor, bytes: &[u8], len: usize, room: &mut Room) -> Step
-    requires { TOO_FEW < length bytes.now }
-    ensures within { (result.read ≤ length bytes.now) × (result.written ≤ FILLED) }
-    ensures joined { IsJoined (flavor_of flavor) (take result.read bytes.now)
-        (take result.written room.new) }
-{
-    let end = len.min(MOST_JOINED).min(bytes.len() - MUST_FOLLOW);
-    let step = join(flavor, bytes, end, room);
-    copy_end(bytes, step, room)
 }
 
 /// Copies the continuation bytes that follow a step.

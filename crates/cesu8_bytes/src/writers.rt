@@ -88,19 +88,6 @@ pub fn copy_to_slice(bytes: &[u8], buf: &mut [u8]) -> Result<usize, NoRoom>
     Ok(len)
 }
 
-/// Copies two parts to the front of a caller's buffer, one after the other, if both fit.
-#[inline(always)]
-pub fn copy_two_to_slice(first: &[u8], second: &[u8], buf: &mut [u8]) -> Result<usize, NoRoom>
-    ensures { PutsAnswer (first.now ++ second.now) result buf.old buf.new }
-{
-    let both = first.len() + second.len();
-    if both > buf.len() {
-        return Err(NoRoom { needed: both });
-    }
-    let end = put(first, buf, 0);
-    Ok(put(second, buf, end))
-}
-
 /// Returns a copy of some bytes, after one request for their length.
 pub fn copy<A: Allocator + Copy>(alloc: A, bytes: &[u8]) -> Result<Vec<u8, A>, AllocError>
     ensures bytes { IfOk result (λ copied. copied.items ≡ bytes.now) }

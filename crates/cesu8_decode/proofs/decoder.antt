@@ -9,7 +9,6 @@ pub mod DecodedBlocks
 pub mod DecodedRows
 pub mod DecodedRowsOfEight
 pub mod Shuffles
-pub mod UnjoinedLanes
 pub mod WeightLanes
 pub mod WeightRest
 pub mod DecodedWindows

@@ -4,4 +4,3 @@ pub mod DecodedPieces
 pub mod WrittenPieces
 pub mod Characters
 pub mod SliceReadings
-pub mod WholeJoined

@@ -8,4 +8,3 @@ pub mod DecodedText
 pub mod Weights
 pub mod Savings
 pub mod Damage
-pub mod CoveredFronts

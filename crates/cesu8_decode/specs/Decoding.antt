@@ -1,11 +1,10 @@
 -- What decoding a piece at a time promises.
-use Rattle.std.specs.Prelude.{◌≡◌, ℕ, ◌+◌, ◌<◌, ◌≤◌, List, length, take, drop, Result, IfOk}
-use Rattle.cesu8_text.specs.Text.{IsText}
-use Rattle.cesu8_text.specs.Reading.{reading, NoneBegins, lossy_length}
+use Rattle.std.specs.Prelude.{◌≡◌, ℕ, ◌+◌, ◌<◌, ◌≤◌, Bool, true, false, List, ◌++◌, length, take, drop, Result, OnOk}
+use Rattle.cesu8_text.specs.Text.{IsText, utf8}
+use Rattle.cesu8_text.specs.Reading.{reading, NoneBegins, lossy_length, HasNoStrictReading}
 use Rattle.cesu8_text.specs.Encoding.{Flavor, encoding}
 use Rattle.cesu8_bytes.specs.declared.options.Strictness.{Strictness}
 use Rattle.cesu8_bytes.specs.declared.options.Strictness.TheVariants.{Strict, Lossy}
-use Rattle.std.specs.Borrow.{Bor}
 use Rattle.cesu8_decode.specs.Refusals.{OnNoText}
 use Rattle.cesu8_decode.specs.declared.refusal.Refusal.{Refusal}
 use Rattle.cesu8_bytes.specs.Pieces.{IsReadSoFar, IsPiece}
@@ -15,13 +14,10 @@ abbrev pub IsDecodedText : Flavor → Strictness → List ℕ → List ℕ → T
 IsDecodedText f which bytes text =
     IsText text × (text ≡ reading f bytes) × (which ≡ Strict → encoding f text ≡ bytes)
 
--- A piece of text is written to a slice from start to end, and the bytes after it stay.
-pub record IsWrittenSoFar (f : Flavor) (bytes rest : List ℕ) (start end : ℕ) (old new : List ℕ) : Type 0 where
-  pub so_far : IsReadSoFar f Lossy bytes rest (take start old) (take end new)
-  pub forward : start ≤ end
-  pub room : end + lossy_length f rest ≡ start + lossy_length f bytes
-  pub behind : drop end new ≡ drop end old
-  pub len : length new ≡ length old
+-- Only strict reading refuses damage.
+abbrev pub refuses : Strictness → Bool → Bool
+refuses Strict is_damaged = is_damaged
+refuses Lossy is_damaged = false
 
 -- After some text no encoded character begins the bytes that are left.
 pub record HasFault (f : Flavor) (bytes : List ℕ) : Type 0 where
@@ -31,9 +27,29 @@ pub record HasFault (f : Flavor) (bytes : List ℕ) : Type 0 where
   pub some : 0 < length rest
   pub none_begins : NoneBegins f rest
 
--- A piece of text is appended, and the bytes that are left are returned, fewer than before. `NoText`
--- comes only in strict reading, and only of bytes with a fault.
-pub record AppendsPiece (f : Flavor) (which : Strictness) (bytes : List ℕ) (result : Result (Bor (List ℕ)) Refusal) (old new : List ℕ) : Type 0 where
-  pub less : IfOk result (λ rest. length rest.now < length bytes)
-  pub ok : IfOk result (λ rest. IsReadSoFar f which bytes rest.now old new)
-  pub invalid : OnNoText result ((which ≡ Strict) × HasFault f bytes)
+-- The first bytes are a piece of text in lossy reading, and in strict reading too if none of them is
+-- damaged.
+pub record ReadsFirst (f : Flavor) (bytes : List ℕ) (read : ℕ) (text : List ℕ) (is_damaged : Bool) : Type 0 where
+  pub some : 0 < length bytes → 0 < read
+  pub within : read ≤ length bytes
+  pub lossy : IsPiece f Lossy bytes (drop read bytes) text
+  pub strict : is_damaged ≡ false → IsPiece f Strict bytes (drop read bytes) text
+  pub damaged : is_damaged ≡ true → HasFault f bytes
+
+-- All of the bytes are, but behind damage that is refused.
+pub record ReadsAll (f : Flavor) (which : Strictness) (bytes : List ℕ) (read : ℕ) (text : List ℕ) (is_damaged : Bool) : Type 0 where
+  pub first : ReadsFirst f bytes read text is_damaged
+  pub all : refuses which is_damaged ≡ false → read ≡ length bytes
+
+-- The text of the bytes is appended. `NoText` is returned only where there is none.
+pub record AppendsText {T : Type 0} (f : Flavor) (which : Strictness) (bytes : List ℕ) (result : Result T Refusal) (old new : List ℕ) : Type 0 where
+  pub ok : OnOk result ((text : List ℕ) × IsDecodedText f which bytes text × (new ≡ old ++ utf8 text))
+  pub invalid : OnNoText result (HasNoStrictReading f bytes)
+
+-- A piece of text is written to a slice from start to end, and the bytes after it stay.
+pub record IsWrittenSoFar (f : Flavor) (bytes rest : List ℕ) (start end : ℕ) (old new : List ℕ) : Type 0 where
+  pub so_far : IsReadSoFar f Lossy bytes rest (take start old) (take end new)
+  pub forward : start ≤ end
+  pub room : end + lossy_length f rest ≡ start + lossy_length f bytes
+  pub behind : drop end new ≡ drop end old
+  pub len : length new ≡ length old

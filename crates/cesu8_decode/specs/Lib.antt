@@ -4,3 +4,4 @@ pub mod DecodedWindows
 pub mod Refusals
 pub mod Decoding
 pub mod PutReadings
+pub mod Ways

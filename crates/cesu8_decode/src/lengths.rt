@@ -4,14 +4,25 @@ ghost use Rattle.std.specs.Prelude.{◌≡◌, ◌<◌, refl, IfSome, IfNone};
 ghost use Rattle.std.proofs.Common.{arith};
 ghost use Rattle.std.proofs.lemmas.Bool.Decides.{nat_tests};
 ghost use Rattle.cesu8_text.specs.Reading.{lossy_length};
+ghost use Rattle.cesu8_bytes.specs.Internal.{flavor_of};
 ghost use Rattle.cesu8_decode.specs.DecodedPlaces.{saved, total_weight};
 
-use super::places::REACH;
-use super::sums::{BLOCKS, Weight, Weights, sum_first, sum_of_few};
-use cesu8_bytes::null_form::NullForm;
+use super::sums::{BLOCKS, Weight, Weights, sum_first};
+use cesu8_bytes::null_form::{NullForm, OneByteNull, TwoByteNull};
+use cesu8_bytes::options::Flavor;
 
-/// Returns the length of the lossy reading, if it fits `usize`.
-pub fn lossy_len<N: NullForm>(bytes: &[u8]) -> Option<usize>
+/// Returns the length of the lossy reading, in bytes of UTF-8, if it fits.
+pub fn lossy_len(flavor: Flavor, bytes: &[u8]) -> Option<usize>
+    ensures some { IfSome result (λ len. len ≡ lossy_length (flavor_of flavor) bytes.now) }
+    ensures none { IfNone result (usize.MAX < lossy_length (flavor_of flavor) bytes.now) }
+{
+    match flavor {
+        Flavor::Cesu8 => len_by_savings::<OneByteNull>(bytes),
+        Flavor::Mutf8 => len_by_savings::<TwoByteNull>(bytes),
+    }
+}
+
+fn len_by_savings<N: NullForm>(bytes: &[u8]) -> Option<usize>
     ensures some { IfSome result (λ len. len ≡ lossy_length N.flavor bytes.now) }
     ensures none { IfNone result (usize.MAX < lossy_length N.flavor bytes.now) }
 {
@@ -25,12 +36,12 @@ fn saved<N: NullForm>(bytes: &[u8]) -> u128
 {
     let mut saved = 0;
     let mut rest = bytes;
-    while rest.len() >= REACH {
+    while !rest.is_empty() {
         let (sum, behind) = sum_first::<N, Savings>(rest, BLOCKS);
         saved += sum as u128;
         rest = behind;
     }
-    saved + sum_of_few::<N, Savings>(rest) as u128
+    saved
 }
 
 /// What a position saves.

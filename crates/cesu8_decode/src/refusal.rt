@@ -1,5 +1,9 @@
 //! Why the decoder returns or writes no text. `simd_cesu8` turns these into the faults of its calls.
 
+ghost use Rattle.std.specs.Prelude.{◌≡◌};
+ghost use Rattle.cesu8_decode.specs.Decoding.{refuses};
+
+use cesu8_bytes::options::Strictness;
 use cesu8_bytes::writers::NoRoom;
 use std::alloc::AllocError;
 
@@ -28,4 +32,26 @@ pub enum LossyRefusal {
     TooLong,
     /// The buffer is shorter than the text.
     NoRoom(NoRoom),
+}
+
+/// Why neither is.
+#[derive(Clone, Copy)]
+pub enum Unwritten {
+    /// The bytes have no text, in strict reading.
+    NoText,
+    /// The length of the text does not fit `usize`, in lossy reading.
+    TooLong,
+    /// The buffer is shorter than the text.
+    NoRoom(NoRoom),
+}
+
+/// Returns whether damage leaves bytes without a text.
+#[inline(always)]
+pub fn is_refused(strictness: Strictness, is_damaged: bool) -> bool
+    ensures { result ≡ refuses strictness is_damaged }
+{
+    match strictness {
+        Strictness::Strict => is_damaged,
+        Strictness::Lossy => false,
+    }
 }

@@ -1,219 +1,169 @@
-//! Decodes to a caller's buffer, with no request. A slice of bytes need not be UTF-8, so the result
-//! is tested for that only where a joined window may be damaged.
+//! Decodes to a caller's buffer, with no request.
 //!
-//! Some bytes are decoded to an array on the stack and copied from there. In strict reading a window
-//! is joined there, and the test finds its damage. For more bytes, the first passes find whether
-//! they are damaged and, if needed, how long their text is. Then the text is written by windows in
-//! its final position, as for a `String`.
+//! Up to a window is decoded to an array on the stack and copied from there. Of more bytes, first
+//! passes find whether they are damaged and, if needed, how long their text is. Then it is written
+//! piece by piece in its final position.
 
-ghost use Rattle.std.specs.Prelude.{◌≡◌, ◌+◌, ◌*◌, ◌<◌, ◌≤◌, [], length, drop, replicate};
-ghost use Rattle.cesu8_text.specs.Text.{utf8};
-ghost use Rattle.cesu8_text.specs.Reading.{IsStrictReading, reading, lossy_length};
-ghost use Rattle.cesu8_bytes.specs.Internal.{flavor_of};
-ghost use Rattle.cesu8_decode.specs.Decoding.{IsWrittenSoFar};
+ghost use Rattle.std.specs.Prelude.{◌≡◌, ◌+◌, ◌*◌, ◌≤◌, List, ℕ, length, take};
+ghost use Rattle.cesu8_text.specs.Encoding.{Flavor as AnyFlavor};
+ghost use Rattle.cesu8_text.specs.Reading.{reading, lossy_length};
 ghost use Rattle.cesu8_text.specs.Slices.{StandsAtFront};
+ghost use Rattle.cesu8_text.specs.Text.{utf8};
+ghost use Rattle.cesu8_bytes.specs.Internal.{flavor_of};
 ghost use Rattle.cesu8_bytes.specs.Puts.{PutsAnswer};
-ghost use Rattle.cesu8_decode.specs.PutReadings.{PutsReading, PutsLossyReading};
+ghost use Rattle.cesu8_decode.specs.Decoding.{ReadsAll};
+ghost use Rattle.cesu8_decode.specs.PutReadings.{PutsText, IsReadingOf};
 
-use super::by_places::write_in_flavor;
-use super::damage::{is_damaged, is_damaged_in_front};
-use super::few::{
-    SHORT, decode_few_lossy_to_slice, decode_few_strict_to_slice, is_sooner_by_characters,
+use crate::characters::write_characters;
+use crate::damage::is_damaged;
+use crate::lengths::lossy_len;
+use crate::packing::WIDEST;
+use crate::piece::{next_piece, write_by_places};
+use crate::refusal::{Unwritten, is_refused};
+use crate::way::{FEWEST, SHORT_WINDOW, Way, way_of};
+use crate::windows::{
+    AROUND, Decoded, LEAST, LONG_ROOM, LONG_TEXT, MEDIUM_ROOM, MEDIUM_TEXT, SHORT_ROOM, SHORT_TEXT,
+    SPARED,
 };
-use super::packing::WIDEST;
-use super::whole::write_joined;
-use super::windows::{AROUND, LEAST, SPARED};
-use super::{
-    FEW, FEW_ROOM, FEW_WRITTEN_ROOM, FEWEST, FEWEST_ROOM, FEWEST_WRITTEN_ROOM, SMALL, SMALL_ROOM,
-    SMALL_WRITTEN_ROOM, WINDOW, WINDOW_ROOM, WINDOWS, WRITTEN_ROOM, lossy_len,
-};
-use crate::refusal::{LossyRefusal, SliceRefusal};
-use cesu8_bytes::joining::{ROOM_LEN, Room};
-use cesu8_bytes::options::Flavor;
-use cesu8_bytes::window::{TOO_FEW, read_window};
-use cesu8_bytes::writers::{NoRoom, copy_to_slice, copy_two_to_slice, put};
+use cesu8_bytes::joining::ROOM_LEN;
+use cesu8_bytes::options::{DecodeOptions, Flavor, Strictness};
+use cesu8_bytes::writers::{NoRoom, copy_to_slice, put};
 
-/// Writes the strict reading of the bytes to a caller's buffer, if it fits.
+// The lengths of buffers for the text of bytes that are read one character after another.
+const FEWEST_TEXT: usize = WIDEST * FEWEST;
+
+const CHARACTERS_TEXT: usize = WIDEST * SHORT_WINDOW;
+
+/// Writes the text of the bytes to a caller's buffer, if it fits.
 #[inline(never)]
-pub fn decode_strict_to_slice(
-    flavor: Flavor,
-    bytes: &[u8],
-    buf: &mut [u8],
-) -> Result<usize, SliceRefusal>
-    ensures { PutsReading (λ text. IsStrictReading (flavor_of flavor) bytes.now text)
+pub fn put_text(options: DecodeOptions, bytes: &[u8], buf: &mut [u8]) -> Result<usize, Unwritten>
+    ensures { PutsText options.strictness
+        (IsReadingOf (flavor_of options.flavor) options.strictness bytes.now)
         result buf.old buf.new }
 {
-    if bytes.len() <= SHORT || is_sooner_by_characters(bytes) {
-        return decode_few_strict_to_slice(flavor, bytes, buf);
+    match way_of(options, bytes) {
+        Way::Characters => put_characters(options, bytes, buf),
+        Way::ShortWindow => put_window::<SHORT_ROOM, SHORT_TEXT>(options, bytes, buf),
+        Way::MediumWindow => put_window::<MEDIUM_ROOM, MEDIUM_TEXT>(options, bytes, buf),
+        Way::LongWindow => put_window::<LONG_ROOM, LONG_TEXT>(options, bytes, buf),
+        Way::Pieces => put_pieces(options, bytes, buf),
+        Way::Refused => Err(Unwritten::NoText),
     }
+}
+
+/// Writes the text of a few bytes, one character after another.
+#[inline(never)]
+pub fn put_characters(
+    options: DecodeOptions,
+    bytes: &[u8],
+    buf: &mut [u8],
+) -> Result<usize, Unwritten>
+    requires { length bytes.now ≤ SHORT_WINDOW }
+    ensures { PutsText options.strictness
+        (IsReadingOf (flavor_of options.flavor) options.strictness bytes.now)
+        result buf.old buf.new }
+{
     if bytes.len() <= FEWEST {
-        return strict_in::<FEWEST_ROOM, FEWEST_WRITTEN_ROOM>(flavor, bytes, buf);
+        return put_characters_in::<FEWEST_TEXT>(options, bytes, buf);
     }
-    if bytes.len() <= FEW {
-        return strict_in::<FEW_ROOM, FEW_WRITTEN_ROOM>(flavor, bytes, buf);
-    }
-    if bytes.len() <= SMALL {
-        return strict_in::<SMALL_ROOM, SMALL_WRITTEN_ROOM>(flavor, bytes, buf);
-    }
-    if is_damaged_in_front(flavor, bytes) {
-        return Err(SliceRefusal::NoText);
-    }
-    if bytes.len() <= WINDOW {
-        return strict_by_window(flavor, bytes, buf);
-    }
-    strict_by_sums(flavor, bytes, buf)
+    put_characters_in::<CHARACTERS_TEXT>(options, bytes, buf)
 }
 
-/// The same for bytes of which one window joins all but a few. It is joined and tested on the stack,
-/// so no pass looks for damage first.
-#[inline(never)]
-fn strict_by_window(flavor: Flavor, bytes: &[u8], buf: &mut [u8]) -> Result<usize, SliceRefusal>
-    requires { TOO_FEW < length bytes.now }
-    ensures { PutsReading (λ text. IsStrictReading (flavor_of flavor) bytes.now text)
-        result buf.old buf.new }
-{
-    let mut room = [0; ROOM_LEN];
-    let Some(piece) = read_window(flavor, bytes, WINDOW, &mut room) else {
-        return strict_by_sums(flavor, bytes, buf);
-    };
-    let rest = &bytes[piece.read..];
-    if rest.len() > FEW {
-        return strict_by_sums(flavor, bytes, buf);
-    }
-    let mut window = [0; FEW_ROOM];
-    let mut written = [0; FEW_WRITTEN_ROOM];
-    let decoded = write_in_flavor(flavor, rest, &mut window, &mut written);
-    if decoded.is_damaged {
-        return Err(SliceRefusal::NoText);
-    }
-    copy_two_to_slice(piece.text.as_bytes(), &written[..decoded.end], buf).map_err(
-        SliceRefusal::NoRoom,
-    )
-}
-
-/// The same for any bytes: a first pass finds whether they are damaged.
-fn strict_by_sums(flavor: Flavor, bytes: &[u8], buf: &mut [u8]) -> Result<usize, SliceRefusal>
-    ensures { PutsReading (λ text. IsStrictReading (flavor_of flavor) bytes.now text)
-        result buf.old buf.new }
-{
-    if is_damaged(flavor, bytes) {
-        return Err(SliceRefusal::NoText);
-    }
-    write_whole(flavor, bytes, buf).map_err(SliceRefusal::NoRoom)
-}
-
-/// The same for the bytes of one window, in buffers of these lengths. It is not inlined, so that
-/// they are made only when it is called.
-#[inline(never)]
-fn strict_in<const LEN: usize, const WRITTEN: usize>(
-    flavor: Flavor,
+#[inline(always)]
+fn put_characters_in<const WRITTEN: usize>(
+    options: DecodeOptions,
     bytes: &[u8],
     buf: &mut [u8],
-) -> Result<usize, SliceRefusal>
+) -> Result<usize, Unwritten>
+    requires { (WIDEST * length bytes.now ≤ WRITTEN) × (WRITTEN ≤ CHARACTERS_TEXT) }
+    ensures { PutsText options.strictness
+        (IsReadingOf (flavor_of options.flavor) options.strictness bytes.now)
+        result buf.old buf.new }
+{
+    let mut written = [0; WRITTEN];
+    let decoded = write_characters(options, bytes, &mut written);
+    put_decoded(options, decoded, &written, buf)
+}
+
+/// Writes the text of the bytes of one window, in buffers of these lengths. It is not inlined, so
+/// that they are made only when it is called.
+#[inline(never)]
+fn put_window<const LEN: usize, const WRITTEN: usize>(
+    options: DecodeOptions,
+    bytes: &[u8],
+    buf: &mut [u8],
+) -> Result<usize, Unwritten>
     requires window { (length bytes.now + AROUND ≤ LEN) × (LEAST ≤ LEN) }
-    requires written { (WIDEST * LEN ≤ WRITTEN + SPARED) × (WRITTEN ≤ WRITTEN_ROOM) }
-    ensures { PutsReading (λ text. IsStrictReading (flavor_of flavor) bytes.now text)
+    requires written { (WIDEST * LEN ≤ WRITTEN + SPARED) × (WRITTEN ≤ LONG_TEXT) }
+    ensures { PutsText options.strictness
+        (IsReadingOf (flavor_of options.flavor) options.strictness bytes.now)
         result buf.old buf.new }
 {
     let mut window = [0; LEN];
     let mut written = [0; WRITTEN];
-    let decoded = write_in_flavor(flavor, bytes, &mut window, &mut written);
-    if decoded.is_damaged {
-        return Err(SliceRefusal::NoText);
-    }
-    copy_to_slice(&written[..decoded.end], buf).map_err(SliceRefusal::NoRoom)
+    let decoded = write_by_places(options.flavor, bytes, &mut window, &mut written);
+    put_decoded(options, decoded, &written, buf)
 }
 
-/// Writes the lossy reading of the bytes to a caller's buffer, if it fits.
-#[inline(never)]
-pub fn decode_lossy_to_slice(
-    flavor: Flavor,
-    bytes: &[u8],
+/// Copies the text that was decoded of all bytes, unless damage in them is refused.
+#[inline(always)]
+fn put_decoded(
+    options: DecodeOptions,
+    decoded: Decoded,
+    written: &[u8],
     buf: &mut [u8],
-) -> Result<usize, LossyRefusal>
-    ensures { PutsLossyReading (λ text. text ≡ reading (flavor_of flavor) bytes.now)
+) -> Result<usize, Unwritten>
+    requires { decoded.end ≤ length written.now }
+    ensures { (f : AnyFlavor) (bytes : List ℕ)
+        → ReadsAll f options.strictness bytes decoded.read
+        (take decoded.end written.now) decoded.is_damaged
+        → PutsText options.strictness (IsReadingOf f options.strictness bytes)
         result buf.old buf.new }
 {
-    if is_sooner_by_characters(bytes) {
-        return decode_few_lossy_to_slice(flavor, bytes, buf);
+    if is_refused(options.strictness, decoded.is_damaged) {
+        return Err(Unwritten::NoText);
     }
-    if bytes.len() <= FEWEST {
-        return lossy_in::<FEWEST_ROOM, FEWEST_WRITTEN_ROOM>(flavor, bytes, buf);
-    }
-    if bytes.len() <= FEW {
-        return lossy_in::<FEW_ROOM, FEW_WRITTEN_ROOM>(flavor, bytes, buf);
-    }
-    if bytes.len() <= SMALL {
-        return lossy_in::<SMALL_ROOM, SMALL_WRITTEN_ROOM>(flavor, bytes, buf);
-    }
-    if bytes.len() <= WINDOW {
-        return lossy_in::<WINDOW_ROOM, WRITTEN_ROOM>(flavor, bytes, buf);
-    }
-    let Some(len) = lossy_len(flavor, bytes) else {
-        return Err(LossyRefusal::TooLong);
-    };
-    write_of_length(flavor, bytes, len, buf).map_err(LossyRefusal::NoRoom)
+    copy_to_slice(&written[..decoded.end], buf).map_err(Unwritten::NoRoom)
 }
 
-/// The same for the bytes of one window, in buffers of these lengths. It is not inlined, so that
-/// they are made only when it is called.
+/// Writes the text of more bytes, piece by piece. First passes find whether there is one, and how
+/// long it is. In strict reading it is never longer than the bytes.
 #[inline(never)]
-fn lossy_in<const LEN: usize, const WRITTEN: usize>(
-    flavor: Flavor,
-    bytes: &[u8],
-    buf: &mut [u8],
-) -> Result<usize, LossyRefusal>
-    requires window { (length bytes.now + AROUND ≤ LEN) × (LEAST ≤ LEN) }
-    requires written { (WIDEST * LEN ≤ WRITTEN + SPARED) × (WRITTEN ≤ WRITTEN_ROOM) }
-    ensures { PutsLossyReading (λ text. text ≡ reading (flavor_of flavor) bytes.now)
+fn put_pieces(options: DecodeOptions, bytes: &[u8], buf: &mut [u8]) -> Result<usize, Unwritten>
+    ensures { PutsText options.strictness
+        (IsReadingOf (flavor_of options.flavor) options.strictness bytes.now)
         result buf.old buf.new }
 {
-    let mut window = [0; LEN];
-    let mut written = [0; WRITTEN];
-    let decoded = write_in_flavor(flavor, bytes, &mut window, &mut written);
-    copy_to_slice(&written[..decoded.end], buf).map_err(LossyRefusal::NoRoom)
+    match options.strictness {
+        Strictness::Strict => {
+            if is_damaged(options.flavor, bytes) {
+                return Err(Unwritten::NoText);
+            }
+            put_undamaged(options.flavor, bytes, buf).map_err(Unwritten::NoRoom)
+        }
+        Strictness::Lossy => match lossy_len(options.flavor, bytes) {
+            Some(len) => put_of_length(options.flavor, bytes, len, buf).map_err(Unwritten::NoRoom),
+            None => Err(Unwritten::TooLong),
+        },
+    }
 }
 
-/// Writes the reading of bytes that are not damaged, if it fits. It is never longer than they are.
+/// Writes the reading of bytes that are not damaged, if it fits.
 #[tactic(auto, unfolding(cesu8_text::specs::Reading::lossy_length))]
-fn write_whole(flavor: Flavor, bytes: &[u8], buf: &mut [u8]) -> Result<usize, NoRoom>
-    requires whole { IsStrictReading (flavor_of flavor) bytes.now
-        (reading (flavor_of flavor) bytes.now) }
-    requires shorter { lossy_length (flavor_of flavor) bytes.now ≤ length bytes.now }
+fn put_undamaged(flavor: Flavor, bytes: &[u8], buf: &mut [u8]) -> Result<usize, NoRoom>
+    requires { lossy_length (flavor_of flavor) bytes.now ≤ length bytes.now }
     ensures { PutsAnswer (utf8 (reading (flavor_of flavor) bytes.now)) result buf.old buf.new }
 {
     if bytes.len() <= buf.len() {
-        return Ok(write_text(flavor, bytes, buf));
+        return Ok(write_reading(flavor, bytes, buf));
     }
     let len = lossy_len(flavor, bytes).unwrap();
-    if len > buf.len() {
-        return Err(NoRoom { needed: len });
-    }
-    Ok(write_text(flavor, bytes, buf))
-}
-
-/// Writes the reading of bytes that are not damaged at the front of a slice that is long enough,
-/// and returns its length.
-fn write_text(flavor: Flavor, bytes: &[u8], out: &mut [u8]) -> usize
-    requires whole { IsStrictReading (flavor_of flavor) bytes.now
-        (reading (flavor_of flavor) bytes.now) }
-    requires room { lossy_length (flavor_of flavor) bytes.now ≤ length out.old }
-    ensures { StandsAtFront (utf8 (reading (flavor_of flavor) bytes.now))
-        result out.old out.new }
-{
-    let mut room = [0; ROOM_LEN];
-    let piece = write_joined(flavor, bytes, &mut room, out);
-    write_rest(flavor, piece.rest, &mut room, out, piece.end)
+    put_of_length(flavor, bytes, len, buf)
 }
 
 /// Writes the lossy reading of the bytes, which has this length, if it fits.
 #[tactic(auto, unfolding(cesu8_text::specs::Reading::lossy_length))]
-fn write_of_length(
-    flavor: Flavor,
-    bytes: &[u8],
-    len: usize,
-    buf: &mut [u8],
-) -> Result<usize, NoRoom>
+fn put_of_length(flavor: Flavor, bytes: &[u8], len: usize, buf: &mut [u8]) -> Result<usize, NoRoom>
     requires { len ≡ lossy_length (flavor_of flavor) bytes.now }
     ensures { PutsAnswer (utf8 (reading (flavor_of flavor) bytes.now)) result buf.old buf.new }
 {
@@ -232,124 +182,15 @@ fn write_reading(flavor: Flavor, bytes: &[u8], out: &mut [u8]) -> usize
         result out.old out.new }
 {
     let mut room = [0; ROOM_LEN];
-    write_rest(flavor, bytes, &mut room, out, 0)
-}
-
-/// Writes the lossy reading of the bytes at a position, and returns where it ends.
-fn write_rest(flavor: Flavor, bytes: &[u8], room: &mut Room, out: &mut [u8], start: usize) -> usize
-    requires { start + lossy_length (flavor_of flavor) bytes.now ≤ length out.old }
-    ensures { IsWrittenSoFar (flavor_of flavor) bytes.now [] start result out.old out.new }
-{
+    let mut written = [0; LONG_TEXT];
     let mut rest = bytes;
-    let mut end = start;
+    let mut end = 0;
+    let mut joins = true;
     while !rest.is_empty() {
-        let piece = write_next(flavor, rest, room, out, end);
-        rest = piece.rest;
-        end = piece.end;
+        let piece = next_piece(flavor, rest, joins, &mut room, &mut written);
+        joins = !piece.is_damaged;
+        end = put(piece.text.as_bytes(), out, end);
+        rest = &rest[piece.read..];
     }
     end
-}
-
-/// The bytes that are left after a piece of text is written, and the end of the piece.
-#[derive(Drop)]
-pub struct WrittenPiece<'b> {
-    pub rest: &'b [u8],
-    pub end: usize,
-}
-
-/// Writes the next piece of text at a position, from one joined window or some windows by places.
-#[inline(always)]
-fn write_next<'b>(
-    flavor: Flavor,
-    bytes: &'b [u8],
-    room: &mut Room,
-    out: &mut [u8],
-    start: usize,
-) -> WrittenPiece<'b>
-    requires some { 0 < length bytes.now }
-    requires room { start + lossy_length (flavor_of flavor) bytes.now ≤ length out.old }
-    ensures less { length result.rest.now < length bytes.now }
-    ensures written { IsWrittenSoFar (flavor_of flavor) bytes.now result.rest.now
-        start result.end out.old out.new }
-{
-    if bytes.len() <= TOO_FEW {
-        return write_few(flavor, bytes, out, start);
-    }
-    if let Some(piece) = read_window(flavor, bytes, WINDOW, room) {
-        let end = put(piece.text.as_bytes(), out, start);
-        return WrittenPiece {
-            rest: &bytes[piece.read..],
-            end,
-        };
-    }
-    write_windows(flavor, bytes, out, start)
-}
-
-/// Writes the text of a few bytes by places. Its buffers are made only when it is called.
-#[inline(never)]
-fn write_few<'b>(flavor: Flavor, bytes: &'b [u8], out: &mut [u8], start: usize) -> WrittenPiece<'b>
-    requires some { 0 < length bytes.now }
-    requires room { start + lossy_length (flavor_of flavor) bytes.now ≤ length out.old }
-    ensures less { length result.rest.now < length bytes.now }
-    ensures written { IsWrittenSoFar (flavor_of flavor) bytes.now result.rest.now
-        start result.end out.old out.new }
-{
-    let mut window = [0; FEW_ROOM];
-    let mut written = [0; FEW_WRITTEN_ROOM];
-    write_window(flavor, bytes, &mut window, &mut written, out, start)
-}
-
-/// Writes the text of some windows by places. Its buffers are made only when it is called.
-#[inline(never)]
-fn write_windows<'b>(
-    flavor: Flavor,
-    bytes: &'b [u8],
-    out: &mut [u8],
-    start: usize,
-) -> WrittenPiece<'b>
-    requires some { 0 < length bytes.now }
-    requires room { start + lossy_length (flavor_of flavor) bytes.now ≤ length out.old }
-    ensures less { length result.rest.now < length bytes.now }
-    ensures written { IsWrittenSoFar (flavor_of flavor) bytes.now result.rest.now
-        start result.end out.old out.new }
-{
-    let mut written = [0; WRITTEN_ROOM];
-    let mut rest = bytes;
-    let mut end = start;
-    let mut windows = 0;
-    while windows < WINDOWS && !rest.is_empty() {
-        let mut window = [0; WINDOW_ROOM];
-        let piece = write_window(flavor, rest, &mut window, &mut written, out, end);
-        rest = piece.rest;
-        end = piece.end;
-        windows += 1;
-    }
-    WrittenPiece { rest, end }
-}
-
-/// The same for one window.
-#[inline(always)]
-fn write_window<'b>(
-    flavor: Flavor,
-    bytes: &'b [u8],
-    window: &mut [u8],
-    written: &mut [u8],
-    out: &mut [u8],
-    start: usize,
-) -> WrittenPiece<'b>
-    requires some { 0 < length bytes.now }
-    requires window { LEAST ≤ length window.old }
-    requires zeros { window.old ≡ replicate (length window.old) 0 }
-    requires written { WIDEST * length window.old ≤ length written.old + SPARED }
-    requires room { start + lossy_length (flavor_of flavor) bytes.now ≤ length out.old }
-    ensures less { length result.rest.now < length bytes.now }
-    ensures written { IsWrittenSoFar (flavor_of flavor) bytes.now result.rest.now
-        start result.end out.old out.new }
-{
-    let decoded = write_in_flavor(flavor, bytes, window, written);
-    let end = put(&written[..decoded.end], out, start);
-    WrittenPiece {
-        rest: &bytes[decoded.read..],
-        end,
-    }
 }

@@ -37,16 +37,19 @@ pub struct Weights {
 /// The most blocks of 32 positions that each lane sums up: a position weighs at most 14.
 pub const BLOCKS: usize = 16;
 
-/// Returns the weight of the first positions, of at most so many blocks, and the bytes from the next
-/// position on.
+/// Returns the weight of the first positions, of at most so many blocks or of all if they are few,
+/// and the bytes from the next position on.
 #[inline(always)]
 pub fn sum_first<N: NullForm, W: Weight>(bytes: &[u8], most: usize) -> (usize, &[u8])
-    requires bytes { REACH ≤ length bytes.now }
+    requires some { 0 < length bytes.now }
     requires blocks { (0 < most) × (most ≤ BLOCKS) }
     ensures less { length result.1.now < length bytes.now }
     ensures sum { result.0 + total_weight W.weight N.flavor result.1.now
         ≡ total_weight W.weight N.flavor bytes.now }
 {
+    if bytes.len() < REACH {
+        return (sum_of_few::<N, W>(bytes), &[]);
+    }
     let count = ((bytes.len() - BEHIND) / 32).min(most);
     (sum_of_blocks::<N, W>(bytes, count), &bytes[32 * count..])
 }
@@ -68,7 +71,7 @@ fn sum_of_blocks<N: NullForm, W: Weight>(bytes: &[u8], count: usize) -> usize
 /// Returns the weight of the positions of a few bytes. They are followed by FF, which begins
 /// nothing and is in no character.
 #[inline(always)]
-pub fn sum_of_few<N: NullForm, W: Weight>(bytes: &[u8]) -> usize
+fn sum_of_few<N: NullForm, W: Weight>(bytes: &[u8]) -> usize
     requires { length bytes.now < REACH }
     ensures { result ≡ total_weight W.weight N.flavor bytes.now }
 {

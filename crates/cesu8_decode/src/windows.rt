@@ -1,19 +1,18 @@
 //! Windows by places: some bytes are copied between zeros, and what becomes of each byte is
 //! written.
 
-ghost use Rattle.std.specs.Prelude.{◌≡◌, ℕ, ◌+◌, ◌-◌, ◌*◌, ◌<◌, ◌≤◌, List, IsTrue, true, false, length, take, drop, replicate, slice_index};
+ghost use Rattle.std.specs.Prelude.{◌≡◌, ℕ, ◌+◌, ◌-◌, ◌*◌, ◌<◌, ◌≤◌, List, IsTrue, true, false, length, take, replicate, slice_index};
 ghost use Rattle.cesu8_text.specs.Encoding.{Flavor};
 ghost use Rattle.cesu8_decode.specs.DecodedPlaces.{IsPadded, decoded, is_damaged_at, is_border_at};
 ghost use Rattle.cesu8_decode.specs.DecodedLanes.{AreFiveCodes};
 ghost use Rattle.cesu8_decode.specs.DecodedWindows.{IsRead};
-ghost use Rattle.cesu8_bytes.specs.Pieces.{IsPiece};
-ghost use Rattle.cesu8_decode.specs.Decoding.{HasFault};
-ghost use Rattle.cesu8_bytes.specs.declared.options.Strictness.TheVariants.{Strict, Lossy};
+ghost use Rattle.cesu8_decode.specs.Decoding.{ReadsFirst};
 
 use super::packing::{ROOM, WIDEST};
 use super::parts::write_block;
 use super::places::{BLOCK, PAIR, THREE, near, starts};
 use super::rows::rows;
+use super::way::{LONG_WINDOW, MEDIUM_WINDOW, SHORT_WINDOW};
 use cesu8_bytes::null_form::NullForm;
 use std::simd::prelude::*;
 
@@ -33,8 +32,21 @@ pub const SPARED: usize = 64;
 /// At least so many bytes of it follow the text.
 pub const LEFT: usize = 64;
 
-/// How many bytes of a window were read, the end of what is written for them, and whether some of
-/// them are damaged.
+// The lengths of the buffers for each window and for its text.
+pub const SHORT_ROOM: usize = SHORT_WINDOW + AROUND;
+
+pub const SHORT_TEXT: usize = WIDEST * SHORT_ROOM - SPARED;
+
+pub const MEDIUM_ROOM: usize = MEDIUM_WINDOW + AROUND;
+
+pub const MEDIUM_TEXT: usize = WIDEST * MEDIUM_ROOM - SPARED;
+
+pub const LONG_ROOM: usize = LONG_WINDOW + AROUND;
+
+pub const LONG_TEXT: usize = WIDEST * LONG_ROOM - SPARED;
+
+/// How many bytes were read, the end of what is written for them, and whether some of them are
+/// damaged.
 #[derive(Drop)]
 pub struct Decoded {
     pub read: usize,
@@ -48,15 +60,10 @@ pub fn write_window<N: NullForm>(bytes: &[u8], window: &mut [u8], out: &mut [u8]
     requires window { LEAST ≤ length window.old }
     requires zeros { window.old ≡ replicate (length window.old) 0 }
     requires out { WIDEST * length window.old ≤ length out.old + SPARED }
-    ensures some { 0 < length bytes.now → 0 < result.read }
-    ensures within { result.read ≤ length bytes.now }
+    ensures first { ReadsFirst N.flavor bytes.now
+        result.read (take result.end out.new) result.is_damaged }
     ensures all { length bytes.now + AROUND ≤ length window.old → result.read ≡ length bytes.now }
     ensures end { result.end + LEFT ≤ length out.new }
-    ensures lossy { IsPiece N.flavor Lossy bytes.now
-        (drop result.read bytes.now) (take result.end out.new) }
-    ensures strict { result.is_damaged ≡ false → IsPiece N.flavor Strict bytes.now
-        (drop result.read bytes.now) (take result.end out.new) }
-    ensures damaged { result.is_damaged ≡ true → HasFault N.flavor bytes.now }
 {
     let read = load::<N>(bytes, window);
     write_blocks::<N>(window, read, out)

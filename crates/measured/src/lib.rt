@@ -2,8 +2,8 @@
 //!
 //! C passes each slice as a pointer and a length, as `bench/measured.h` declares it. The result is
 //! made as the library makes it, and then copied to the front of `buf` if it fits. So a call with
-//! an empty `buf` costs as much as the library's call, and returns the length of its result. Calls
-//! that take a text first test the input for UTF-8.
+//! an empty `buf` costs as much as the library's call, and returns the length of its result. A call
+//! on a slice writes to `buf` itself. Calls that take a text first test the input for UTF-8.
 //!
 //! The exports have no contracts: they are proved to be safe and to return. What they return bench's
 //! driver compares before it measures.
@@ -15,7 +15,10 @@ mod outcome;
 
 use crate::each::tell_sum;
 pub use crate::outcome::Outcome;
-use crate::outcome::{tell_bytes, tell_length, tell_lossy_text, tell_text, without_answer};
+use crate::outcome::{
+    tell_bytes, tell_bytes_written, tell_length, tell_lossy_text, tell_lossy_written, tell_text,
+    tell_written, without_answer,
+};
 use simd_cesu8::implementation::active;
 use simdutf8::compat;
 use std::alloc::Global;
@@ -119,4 +122,37 @@ pub extern "C" fn measured_contains_null_or_utf8_4_byte_char_header(
 ) -> Outcome {
     let _ = buf;
     tell_length(usize::from(active::contains_null_or_utf8_4_byte_char_header(bytes)))
+}
+
+/// Calls `simd_cesu8::decode_to_slice`.
+#[unsafe(no_mangle)]
+pub extern "C" fn measured_decode_to_slice(bytes: &[u8], buf: &mut [u8]) -> Outcome {
+    tell_written(simd_cesu8::decode_to_slice(bytes, buf))
+}
+
+/// Calls `simd_cesu8::decode_strict_to_slice`.
+#[unsafe(no_mangle)]
+pub extern "C" fn measured_decode_strict_to_slice(bytes: &[u8], buf: &mut [u8]) -> Outcome {
+    tell_written(simd_cesu8::decode_strict_to_slice(bytes, buf))
+}
+
+/// Calls `simd_cesu8::decode_lossy_to_slice`.
+#[unsafe(no_mangle)]
+pub extern "C" fn measured_decode_lossy_to_slice(bytes: &[u8], buf: &mut [u8]) -> Outcome {
+    tell_lossy_written(simd_cesu8::decode_lossy_to_slice(bytes, buf))
+}
+
+/// Calls `simd_cesu8::decode_lossy_strict_to_slice`.
+#[unsafe(no_mangle)]
+pub extern "C" fn measured_decode_lossy_strict_to_slice(bytes: &[u8], buf: &mut [u8]) -> Outcome {
+    tell_lossy_written(simd_cesu8::decode_lossy_strict_to_slice(bytes, buf))
+}
+
+/// Calls `simd_cesu8::encode_to_slice`.
+#[unsafe(no_mangle)]
+pub extern "C" fn measured_encode_to_slice(text: &[u8], buf: &mut [u8]) -> Outcome {
+    match compat::from_utf8(text) {
+        Ok(text) => tell_bytes_written(simd_cesu8::encode_to_slice(text, buf)),
+        Err(_) => without_answer(true),
+    }
 }

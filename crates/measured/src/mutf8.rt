@@ -2,7 +2,8 @@
 
 use crate::each::tell_sum;
 use crate::outcome::{
-    Outcome, tell_bytes, tell_length, tell_lossy_text, tell_text, without_answer,
+    Outcome, tell_bytes, tell_bytes_written, tell_length, tell_lossy_text, tell_lossy_written,
+    tell_text, tell_written, without_answer,
 };
 use simd_cesu8::mutf8;
 use simdutf8::compat;
@@ -94,4 +95,40 @@ pub extern "C" fn measured_mutf8_encoded_len_each(
     times: usize,
 ) -> Outcome {
     tell_sum(texts, length, times, |text| Some(mutf8::encoded_len(text)))
+}
+
+/// Calls `mutf8::decode_to_slice`.
+#[unsafe(no_mangle)]
+pub extern "C" fn measured_mutf8_decode_to_slice(bytes: &[u8], buf: &mut [u8]) -> Outcome {
+    tell_written(mutf8::decode_to_slice(bytes, buf))
+}
+
+/// Calls `mutf8::decode_strict_to_slice`.
+#[unsafe(no_mangle)]
+pub extern "C" fn measured_mutf8_decode_strict_to_slice(bytes: &[u8], buf: &mut [u8]) -> Outcome {
+    tell_written(mutf8::decode_strict_to_slice(bytes, buf))
+}
+
+/// Calls `mutf8::decode_lossy_to_slice`.
+#[unsafe(no_mangle)]
+pub extern "C" fn measured_mutf8_decode_lossy_to_slice(bytes: &[u8], buf: &mut [u8]) -> Outcome {
+    tell_lossy_written(mutf8::decode_lossy_to_slice(bytes, buf))
+}
+
+/// Calls `mutf8::decode_lossy_strict_to_slice`.
+#[unsafe(no_mangle)]
+pub extern "C" fn measured_mutf8_decode_lossy_strict_to_slice(
+    bytes: &[u8],
+    buf: &mut [u8],
+) -> Outcome {
+    tell_lossy_written(mutf8::decode_lossy_strict_to_slice(bytes, buf))
+}
+
+/// Calls `mutf8::encode_to_slice`.
+#[unsafe(no_mangle)]
+pub extern "C" fn measured_mutf8_encode_to_slice(text: &[u8], buf: &mut [u8]) -> Outcome {
+    match compat::from_utf8(text) {
+        Ok(text) => tell_bytes_written(mutf8::encode_to_slice(text, buf)),
+        Err(_) => without_answer(true),
+    }
 }

@@ -1,10 +1,10 @@
 //! What an export returns for the library's result, and what it writes to the caller's buffer.
 
-use simd_cesu8::{CowBytes, CowText, DecodeFault};
+use simd_cesu8::{CowBytes, CowText, DecodeFault, DecodeSliceFault, LossySliceFault, TooShort};
 use std::alloc::AllocError;
 
 /// What a call returned. With neither a result nor an invalid input, a request for memory was
-/// refused, or the length of a lossy reading does not fit `usize`.
+/// refused, the buffer is too short, or the length of a lossy reading does not fit `usize`.
 #[repr(C)]
 #[derive(Drop)]
 pub struct Outcome {
@@ -48,6 +48,31 @@ pub fn tell_text(answer: Result<CowText<'_>, DecodeFault>, buf: &mut [u8]) -> Ou
 /// Returns the outcome of a lossy decoder.
 pub fn tell_lossy_text(answer: Result<CowText<'_>, AllocError>, buf: &mut [u8]) -> Outcome {
     tell_text(answer.map_err(DecodeFault::Memory), buf)
+}
+
+/// Returns the outcome of a decoder that writes to the buffer.
+pub fn tell_written(answer: Result<usize, DecodeSliceFault>) -> Outcome {
+    match answer {
+        Ok(length) => tell_length(length),
+        Err(DecodeSliceFault::Invalid(_)) => without_answer(true),
+        Err(DecodeSliceFault::TooShort(_)) => without_answer(false),
+    }
+}
+
+/// Returns the outcome of a lossy decoder that writes to the buffer.
+pub fn tell_lossy_written(answer: Result<usize, LossySliceFault>) -> Outcome {
+    match answer {
+        Ok(length) => tell_length(length),
+        Err(_) => without_answer(false),
+    }
+}
+
+/// Returns the outcome of an encoder that writes to the buffer.
+pub fn tell_bytes_written(answer: Result<usize, TooShort>) -> Outcome {
+    match answer {
+        Ok(length) => tell_length(length),
+        Err(_) => without_answer(false),
+    }
 }
 
 /// Copies a result to the front of the buffer if it fits there, and returns the outcome.

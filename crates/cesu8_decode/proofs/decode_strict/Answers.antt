@@ -9,8 +9,8 @@ use Rattle.cesu8_decode.proofs.decode_strict.Goals as goal
 
 pub returns-clause-text : goal.returns-clause-text
 returns-clause-text g c =
-    let read = decoded_text (flavor_of c.args.flavor) Strict c.args.bytes.now _ (string_bytes c.read_text.new.out)
-    (search rules) c.in_ok-read_text.ensures.ok in
+    let read = decoded_text (flavor_of c.args.flavor) Strict c.args.bytes.now _ (string_bytes c.append_text.new.out)
+    (search rules) c.in_ok-append_text.ensures.ok in
     where_mapped c.exactly.result c.map_err-2.result _ _ _ c.map_err-2.ensures.cases c.map_err-2.ensures.variant
     (λ exact same. subst (λ bytes. IsStrictReading (flavor_of c.args.flavor) c.args.bytes.now (chars bytes)) (sym same)
     (read.0, read.2 refl))

@@ -1,6 +1,6 @@
 -- Text that is read a character at a time.
-use Rattle.std.proofs.Common.{◌≡◌, ℕ, zero, suc, ◌<◌, ◌≤◌, ◌⊎◌, List, [], ◌∷◌, ◌++◌, refl, sym, ap, ◌∙◌, inl, inr, ⊎_elim, Bool, true, false, ◌||◌, true≢false, arith, length, take, drop, get_or, append-nil, append_assoc, subst}
-use Rattle.std.proofs.lemmas.Bool.{cases_eq}
+use Rattle.std.proofs.Common.{◌≡◌, ℕ, zero, suc, ◌<◌, ◌≤◌, ◌⊎◌, List, [], ◌∷◌, ◌++◌, refl, sym, ap, ◌∙◌, inl, inr, ⊎_elim, Bool, true, false, not, ◌&&◌, ◌||◌, ltb, true≢false, arith, length, take, drop, get_or, append-nil, append_assoc, subst}
+use Rattle.std.proofs.lemmas.Bool.{cases_eq, cases_Bool, ltb-false}
 use Rattle.std.proofs.Math.Seq.{take-append_seam, drop-append_seam}
 use Rattle.cesu8_text.specs.Text.{utf8_of}
 use Rattle.cesu8_text.specs.Encoding.{Flavor, Cesu8, Mutf8, encoding}
@@ -8,7 +8,7 @@ use Rattle.cesu8_text.specs.Reading.{NoneBegins, width, reading}
 use Rattle.cesu8_decode.specs.DecodedPlaces.{front_width, one_at}
 use Rattle.cesu8_bytes.specs.Joining.{AreJoinedDigits, second_third_fifth_sixth, HasPair}
 use Rattle.cesu8_bytes.specs.Pieces.{IsReadSoFar, IsPiece}
-use Rattle.cesu8_decode.specs.Decoding.{HasFault}
+use Rattle.cesu8_decode.specs.Decoding.{HasFault, refuses}
 use Rattle.cesu8_bytes.specs.declared.options.Strictness.{Strictness}
 use Rattle.cesu8_bytes.specs.declared.options.Strictness.TheVariants.{Strict, Lossy}
 use Rattle.cesu8_text.proofs.text.Shapes.{Shape, one, two, three, pair, shape, utf8_of_one, utf8_of_two, utf8_of_three}
@@ -199,3 +199,22 @@ first_fault f bytes rest piece false here so_far fault some none_begins damaged 
   some = some;
   none_begins = none_begins damaged;
 }
+
+-- Reading stops at the end, or behind damage that is refused: then something was read,
+pub read_some : (which : Strictness) (n len : ℕ) (is_damaged : Bool) → (ltb n len && not (refuses which is_damaged)) ≡ false →
+    0 < len → (is_damaged ≡ true → 0 < n) → 0 < n
+read_some Strict n len true stopped nonempty some = some refl
+read_some Strict n len false stopped nonempty some =
+    omega (arith, ltb-false n len (⊎_elim (λ (less : ltb n len ≡ true). absurd (true≢false (sym (ap (λ t. t && true) less) ∙ stopped))) (λ past. past) (cases_Bool (ltb n len))))
+read_some Lossy n len is_damaged stopped nonempty some =
+    omega (arith, ltb-false n len (⊎_elim (λ (less : ltb n len ≡ true). absurd (true≢false (sym (ap (λ t. t && true) less) ∙ stopped))) (λ past. past) (cases_Bool (ltb n len))))
+
+-- and otherwise all.
+pub read_all : (which : Strictness) (n len : ℕ) (is_damaged : Bool) → (ltb n len && not (refuses which is_damaged)) ≡ false →
+    refuses which is_damaged ≡ false → n ≤ len → n ≡ len
+read_all which n len is_damaged stopped fine inside =
+    omega (
+      arith,
+      ltb-false n len (⊎_elim (λ (less : ltb n len ≡ true).
+          absurd (true≢false (sym ((λ i. less i && not (fine i))) ∙ stopped))) (λ past. past) (cases_Bool (ltb n len))),
+    )

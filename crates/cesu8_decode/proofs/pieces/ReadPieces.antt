@@ -1,22 +1,22 @@
 -- Text that is read a piece at a time.
-use Rattle.std.proofs.Common.{◌≡◌, ℕ, ◌+◌, List, [], ◌∷◌, ◌++◌, refl, sym, ap, ◌∙◌, arith, length, append-nil, length-append, ◌-◌, Result, Ok, Err, IfOk, MatchResult, is_ok, true≢false, subst, take, drop, append_assoc, length-drop}
+use Rattle.std.proofs.Common.{◌≡◌, ℕ, ◌+◌, List, [], ◌∷◌, ◌++◌, refl, sym, ap, ◌∙◌, arith, length, append-nil, length-append, ◌-◌, Result, Ok, Err, IfOk, OnOk, MatchResult, is_ok, true≢false, true, false, Bool, subst, drop, append_assoc, length-drop}
 use Rattle.cesu8_text.specs.Text.{utf8}
 use Rattle.cesu8_text.specs.Encoding.{Flavor, encoding}
 use Rattle.cesu8_text.specs.Reading.{reading, lossy_length, HasNoStrictReading}
-use Rattle.cesu8_decode.specs.Decoding.{IsDecodedText, HasFault}
+use Rattle.cesu8_decode.specs.Decoding.{IsDecodedText, HasFault, refuses, ReadsFirst, ReadsAll, AppendsText}
 use Rattle.cesu8_bytes.specs.Pieces.{IsReadSoFar, IsPiece}
 use Rattle.cesu8_bytes.specs.declared.options.Strictness.{Strictness}
 use Rattle.cesu8_text.proofs.encoding.Encodings.{encoding_nil, encoding_append}
 use Rattle.cesu8_text.proofs.reading.Steps.{reading_nil}
 use Rattle.std.specs.Str.{chars, IsUtf8}
-use Rattle.std.proofs.lemmas.List.{take_rest}
-use Rattle.cesu8_decode.specs.Refusals.{IfNoText}
+use Rattle.std.proofs.lemmas.Bool.{false≢true}
+use Rattle.cesu8_decode.specs.Refusals.{IfNoText, OnNoText}
 use Rattle.cesu8_decode.specs.declared.refusal.Refusal.{Refusal}
 use Rattle.cesu8_decode.specs.declared.refusal.Refusal.TheVariants.{NoText, Memory}
 use Rattle.cesu8_bytes.specs.declared.options.Strictness.TheVariants.{Strict, Lossy}
 use Rattle.cesu8_text.proofs.StdUtf8.{IsUtf8_utf8, chars_utf8}
 use Rattle.cesu8_text.proofs.encoding.Unique.{no_reading}
-use Rattle.cesu8_text.proofs.reading.Decoding.{IsText_append, utf8_append, lossy_length_nil}
+use Rattle.cesu8_text.proofs.reading.Decoding.{IsText_append, utf8_append}
 
 -- Before the first piece nothing is read, and all bytes are left.
 pub nothing_read : (f : Flavor) (which : Strictness) (bytes old : List ℕ) → IsReadSoFar f which bytes bytes old old
@@ -70,13 +70,6 @@ piece_appended f which bytes rest piece old new is_piece new_is = record {
   written = new_is ∙ ap (λ bs. old ++ bs) is_piece.written;
 }
 
--- The same where the piece serves both readings, and the rest is the slice behind it.
-pub piece_read : (f : Flavor) (which : Strictness) (bytes piece old new : List ℕ) (n : ℕ) →
-    ((which : Strictness) → IsPiece f which bytes (drop n bytes) piece) → new ≡ old ++ piece →
-    IsReadSoFar f which bytes (take (length bytes - n) (drop n bytes)) old new
-piece_read f which bytes piece old new n is_piece new_is =
-    rw take_rest (piece_appended f which bytes (drop n bytes) piece old new (is_piece which) new_is)
-
 -- What is read is UTF-8.
 pub piece_utf8 : (f : Flavor) (which : Strictness) (bytes rest piece : List ℕ) → IsPiece f which bytes rest piece → IsUtf8 piece
 piece_utf8 f which bytes rest piece read = subst IsUtf8 (sym read.written) (IsUtf8_utf8 read.text read.scalars)
@@ -106,25 +99,35 @@ pub fault_of_whole : (f : Flavor) (bytes : List ℕ) → HasFault f bytes → Ha
 fault_of_whole f bytes fault =
     no_reading f bytes fault.before.text fault.rest fault.before.scalars (fault.before.strict_reading refl) fault.some fault.none_begins
 
--- So it is where the next piece is refused.
-pub refused_after : (f : Flavor) (which : Strictness) (bytes rest old out : List ℕ) (fault : Refusal) →
-    IsReadSoFar f which bytes rest old out → IfNoText fault ((which ≡ Strict) × HasFault f rest) →
-    IfNoText fault ((which ≡ Strict) × HasFault f bytes)
-refused_after f which bytes rest old out NoText so_far refused =
-    (refused.0, fault_after f which bytes rest old out so_far refused.0 refused.1)
-refused_after f which bytes rest old out (Memory error) so_far memory = memory
+-- What was read first is a piece, or a fault where its damage is refused.
+pub piece_unless_refused : (f : Flavor) (which : Strictness) (bytes text : List ℕ) (read : ℕ) (is_damaged : Bool) →
+    ReadsFirst f bytes read text is_damaged → refuses which is_damaged ≡ false → IsPiece f which bytes (drop read bytes) text
+piece_unless_refused f Strict bytes text read is_damaged first fine = first.strict fine
+piece_unless_refused f Lossy bytes text read is_damaged first fine = first.lossy
 
-pub refused_whole : (f : Flavor) (which : Strictness) (bytes : List ℕ) (fault : Refusal) →
-    IfNoText fault ((which ≡ Strict) × HasFault f bytes) → IfNoText fault (HasNoStrictReading f bytes)
-refused_whole f which bytes NoText refused = fault_of_whole f bytes refused.1
-refused_whole f which bytes (Memory error) memory = memory
+fault_if_refused : (f : Flavor) (which : Strictness) (bytes text : List ℕ) (read : ℕ) (is_damaged : Bool) →
+    ReadsFirst f bytes read text is_damaged → refuses which is_damaged ≡ true → (which ≡ Strict) × HasFault f bytes
+fault_if_refused f Strict bytes text read is_damaged first refused = (refl, first.damaged refused)
+fault_if_refused f Lossy bytes text read is_damaged first refused = absurd (false≢true refused)
 
--- The text of what was decoded into nothing.
+-- So bytes of which all were read have no text where it is refused.
+pub none_if_refused : (f : Flavor) (which : Strictness) (bytes text : List ℕ) (read : ℕ) (is_damaged : Bool) →
+    ReadsFirst f bytes read text is_damaged → refuses which is_damaged ≡ true → (which ≡ Strict) × HasNoStrictReading f bytes
+none_if_refused f which bytes text read is_damaged first refused =
+    let found = fault_if_refused f which bytes text read is_damaged first refused in (found.0, fault_of_whole f bytes found.1)
+
+-- The text of what was decoded into nothing, and its length.
 pub decoded_text : (f : Flavor) (which : Strictness) (bytes old out : List ℕ) → old ≡ [] →
     ((text : List ℕ) × IsDecodedText f which bytes text × (out ≡ old ++ utf8 text)) → IsDecodedText f which bytes (chars out)
 decoded_text f which bytes old out nothing read =
     subst (IsDecodedText f which bytes)
     (sym (ap chars (read.2 ∙ ap (λ bs. bs ++ utf8 read.0) nothing) ∙ chars_utf8 read.0 read.1.0)) read.1
+
+pub decoded_length : (f : Flavor) (bytes old out : List ℕ) → old ≡ [] →
+    ((text : List ℕ) × IsDecodedText f Lossy bytes text × (out ≡ old ++ utf8 text)) → length out ≡ lossy_length f bytes
+unfolding lossy_length
+decoded_length f bytes old out nothing read =
+    ap length (read.2 ∙ ap (λ bs. bs ++ utf8 read.0) nothing) ∙ ap (λ text. length (utf8 text)) read.1.1
 
 -- A piece adds its length to that of the lossy reading.
 pub piece_length : (f : Flavor) (bytes rest piece : List ℕ) → IsPiece f Lossy bytes rest piece →
@@ -134,21 +137,12 @@ piece_length f bytes rest piece read =
     ap (λ text. length (utf8 text)) read.lossy_reading ∙ ap length (utf8_append read.text (reading f rest))
     ∙ length-append (utf8 read.text) (utf8 (reading f rest)) ∙ ap (λ bs. length bs + length (utf8 (reading f rest))) (sym read.written)
 
--- A piece that leaves nothing is the text of the whole, and has the length of its reading.
+-- A piece that leaves nothing is the text of the whole.
 pub whole_text : (f : Flavor) (which : Strictness) (bytes piece : List ℕ) (n : ℕ) → IsPiece f which bytes (drop n bytes) piece →
     n ≡ length bytes → IsDecodedText f which bytes (chars piece)
 whole_text f which bytes piece n read all =
     decoded_text f which bytes [] piece refl
     (all_read f which bytes (drop n bytes) [] piece read (omega (arith, length-drop n bytes, all)))
-
-pub whole_length : (f : Flavor) (bytes piece : List ℕ) (n : ℕ) → IsPiece f Lossy bytes (drop n bytes) piece →
-    n ≡ length bytes → lossy_length f bytes ≡ length piece
-whole_length f bytes piece n read all =
-    omega (
-      arith,
-      piece_length f bytes (drop n bytes) piece read,
-      lossy_length_nil f (drop n bytes) (omega (arith, length-drop n bytes, all)),
-    )
 
 -- What holds of a value that is there holds of it where the error is mapped.
 pub where_mapped : {T E D : Type 0} (r : Result T E) (mapped : Result T D) (P Q : T → Type 0) (R : E → Type 0) →
@@ -156,3 +150,27 @@ pub where_mapped : {T E D : Type 0} (r : Result T E) (mapped : Result T D) (P Q 
 where_mapped (Ok x) mapped P Q R is same weaker holds = subst (λ m. IfOk m Q) (sym is) (weaker x holds)
 where_mapped (Err e) (Ok y) P Q R is same weaker holds = absurd (true≢false same)
 where_mapped (Err e) (Err d) P Q R is same weaker holds = tt
+
+-- What was read of all bytes is appended as their text,
+pub all_appended : {T : Type 0} (f : Flavor) (which : Strictness) (bytes text : List ℕ) (read : ℕ) (is_damaged : Bool) (result : Result T Refusal) (old new : List ℕ) →
+    ReadsAll f which bytes read text is_damaged → OnOk result ((refuses which is_damaged ≡ false) × (new ≡ old ++ text)) →
+    OnNoText result (refuses which is_damaged ≡ true) → AppendsText f which bytes result old new
+all_appended f which bytes text read is_damaged (Ok done) old new reads appended refused = record {
+  ok = all_read f which bytes (drop read bytes) old new
+      (piece_appended f which bytes (drop read bytes) text old new
+      (piece_unless_refused f which bytes text read is_damaged reads.first appended.0) appended.1)
+      (omega (arith, length-drop read bytes, reads.all appended.0));
+  invalid = tt;
+}
+all_appended f which bytes text read is_damaged (Err NoText) old new reads appended refused =
+    record { ok = tt; invalid = (none_if_refused f which bytes text read is_damaged reads.first refused).1 }
+all_appended f which bytes text read is_damaged (Err (Memory error)) old new reads appended refused = record { ok = tt; invalid = tt }
+
+-- and where a piece of them is refused, they have none.
+pub piece_refused : (f : Flavor) (which : Strictness) (bytes rest text old out : List ℕ) (read : ℕ) (is_damaged : Bool) (refusal : Refusal) →
+    IsReadSoFar f which bytes rest old out → ReadsFirst f rest read text is_damaged → IfNoText refusal (refuses which is_damaged ≡ true) →
+    IfNoText refusal (HasNoStrictReading f bytes)
+piece_refused f which bytes rest text old out read is_damaged NoText so_far first refused =
+    let found = fault_if_refused f which rest text read is_damaged first refused in
+    fault_of_whole f bytes (fault_after f which bytes rest old out so_far found.0 found.1)
+piece_refused f which bytes rest text old out read is_damaged (Memory error) so_far first refused = tt

@@ -1,17 +1,20 @@
 -- What a call may say of a text that it writes into a caller's buffer.
-use Rattle.std.proofs.Common.{◌≡◌, ℕ, ◌+◌, ◌^◌, ◌<◌, ◌≤◌, ◌↔◌, inl, inr, ⊎_elim, List, [], ◌++◌, refl, sym, ap, ◌∙◌, subst, arith, length, drop, length-drop, Result, Ok, Err, MatchResult, IsErrAnd}
+use Rattle.std.proofs.Common.{◌≡◌, ℕ, ◌^◌, ◌<◌, ◌≤◌, ◌↔◌, inl, inr, ⊎_elim, List, refl, sym, ap, ◌∙◌, subst, arith, length, drop, Bool, false, Result, Ok, Err, MatchResult, IsErrAnd}
 use Rattle.std.proofs.lemmas.Bool.{false≢true}
-use Rattle.std.proofs.lemmas.List.{drop-drop}
 use Rattle.std.specs.Str.{chars, IsUtf8}
 use Rattle.cesu8_text.specs.Text.{utf8}
 use Rattle.cesu8_text.specs.Encoding.{Flavor}
 use Rattle.cesu8_text.specs.Class.{IsUnchangedUtf8}
-use Rattle.cesu8_text.specs.Reading.{IsStrictReading, IsLenientReading, reading, lossy_length, IsLenientLossyReading}
+use Rattle.cesu8_text.specs.Reading.{IsStrictReading, HasNoStrictReading, reading, lossy_length}
 use Rattle.cesu8_bytes.specs.Pieces.{IsPiece}
+use Rattle.cesu8_bytes.specs.declared.options.Strictness.{Strictness}
 use Rattle.cesu8_bytes.specs.declared.options.Strictness.TheVariants.{Strict, Lossy}
-use Rattle.cesu8_text.specs.Slices.{StandsAtFront, ReadsAtLength}
+use Rattle.cesu8_text.specs.Slices.{StandsAtFront, ReadsAtLength, ReadingAtFront}
 use Rattle.cesu8_bytes.specs.Puts.{PutsAnswer}
-use Rattle.cesu8_decode.specs.PutReadings.{PutsReading, PutsLossyReading}
+use Rattle.cesu8_decode.specs.Decoding.{ReadsAll, refuses}
+use Rattle.cesu8_decode.specs.PutReadings.{PutsReading, PutsLossyReading, PutsText, IsReadingOf, IsLenientReadingOf, IsStrictOutcome, IsLossyOutcome}
+use Rattle.cesu8_decode.specs.declared.refusal.Unwritten.{Unwritten}
+use Rattle.cesu8_decode.specs.declared.refusal.Unwritten.TheVariants as either
 use Rattle.cesu8_bytes.specs.declared.writers.NoRoom.{NoRoom}
 use Rattle.cesu8_decode.specs.declared.refusal.SliceRefusal.{SliceRefusal}
 use Rattle.cesu8_decode.specs.declared.refusal.SliceRefusal.TheVariants as strict
@@ -22,7 +25,7 @@ use Rattle.cesu8_text.proofs.encoding.Lengths.{length_bounds}
 use Rattle.cesu8_text.proofs.reading.EncodedTexts.{reading_encoding}
 use Rattle.cesu8_text.proofs.reading.Borrowing.{unchanged_reading}
 use Rattle.cesu8_text.proofs.reading.LossyBorrowing.{unchanged_lossy}
-use Rattle.cesu8_decode.proofs.pieces.ReadPieces.{more_read, piece_appended, piece_utf8, whole_text}
+use Rattle.cesu8_decode.proofs.pieces.ReadPieces.{piece_utf8, whole_text, piece_unless_refused, none_if_refused}
 
 -- ---- the only text
 
@@ -46,10 +49,10 @@ strict_only : (f : Flavor) (bytes text other : List ℕ) → IsStrictReading f b
 strict_only f bytes text other reads also =
     sym (reading_encoding f other also.0) ∙ ap (reading f) (also.1 ∙ sym reads.1) ∙ reading_encoding f text reads.0
 
--- That of bytes which are a piece, in strict reading,
-pub only_strict_piece : (f : Flavor) (bytes piece : List ℕ) (n : ℕ) → IsPiece f Strict bytes (drop n bytes) piece → n ≡ length bytes →
-    IsOnlyText (IsStrictReading f bytes) (chars piece) piece
-only_strict_piece f bytes piece n is_piece all =
+-- That of bytes which are a piece;
+only_piece : (f : Flavor) (which : Strictness) (bytes piece : List ℕ) (n : ℕ) → IsPiece f which bytes (drop n bytes) piece → n ≡ length bytes →
+    IsOnlyText (IsReadingOf f which bytes) (chars piece) piece
+only_piece f Strict bytes piece n is_piece all =
     let read = whole_text f Strict bytes piece n is_piece all in
     let reads : IsStrictReading f bytes (chars piece) = (read.0, read.2 refl) in
     record {
@@ -57,22 +60,7 @@ only_strict_piece f bytes piece n is_piece all =
       only = λ other also. strict_only f bytes (chars piece) other reads also;
       utf8_is = (IsUtf8Of_chars piece (piece_utf8 f Strict bytes (drop n bytes) piece is_piece)).1;
     }
-
--- and of those which are two pieces;
-pub only_two_pieces : (f : Flavor) (bytes first second : List ℕ) (n m : ℕ) → IsPiece f Strict bytes (drop n bytes) first →
-    IsPiece f Strict (drop n bytes) (drop m (drop n bytes)) second → n ≤ length bytes → m ≡ length (drop n bytes) →
-    IsOnlyText (IsStrictReading f bytes) (chars (first ++ second)) (first ++ second)
-only_two_pieces f bytes first second n m front back within all =
-    only_strict_piece f bytes (first ++ second) (n + m)
-    (subst (λ rest. IsPiece f Strict bytes rest (first ++ second)) (drop-drop m n bytes)
-    (more_read f Strict bytes (drop n bytes) _ [] first (first ++ second) front
-    (piece_appended f Strict (drop n bytes) _ second first (first ++ second) back refl)))
-    (omega (arith, length-drop n bytes))
-
--- and in lossy reading that of a piece;
-pub only_lossy_piece : (f : Flavor) (bytes piece : List ℕ) (n : ℕ) → IsPiece f Lossy bytes (drop n bytes) piece → n ≡ length bytes →
-    IsOnlyText (λ text. text ≡ reading f bytes) (chars piece) piece
-only_lossy_piece f bytes piece n is_piece all =
+only_piece f Lossy bytes piece n is_piece all =
     let read = whole_text f Lossy bytes piece n is_piece all in
     record {
       reads = read.1;
@@ -97,18 +85,16 @@ pub only_lossy : (f : Flavor) (bytes : List ℕ) → IsOnlyText (λ text. text �
 only_lossy f bytes = record { reads = refl; only = λ other same. same; utf8_is = refl }
 
 -- that of UTF-8 in which nothing changes,
-pub only_unchanged : (f : Flavor) (bytes : List ℕ) → IsUnchangedUtf8 f bytes → IsOnlyText (IsStrictReading f bytes) (chars bytes) bytes
-only_unchanged f bytes unchanged =
+pub only_unchanged : (f : Flavor) (which : Strictness) (bytes : List ℕ) → IsUnchangedUtf8 f bytes →
+    IsOnlyText (IsReadingOf f which bytes) (chars bytes) bytes
+only_unchanged f Strict bytes unchanged =
     let reads = unchanged_reading f bytes bytes refl unchanged in
     record {
       reads = reads;
       only = λ other also. strict_only f bytes (chars bytes) other reads also;
       utf8_is = (IsUtf8Of_chars bytes unchanged.0).1;
     }
-
-pub only_unchanged_lossy : (f : Flavor) (bytes : List ℕ) → IsUnchangedUtf8 f bytes →
-    IsOnlyText (λ text. text ≡ reading f bytes) (chars bytes) bytes
-only_unchanged_lossy f bytes unchanged =
+only_unchanged f Lossy bytes unchanged =
     let reads = unchanged_lossy f bytes bytes refl unchanged in
     record {
       reads = reads;
@@ -117,8 +103,8 @@ only_unchanged_lossy f bytes unchanged =
     }
 
 -- and in lenient reading that of any UTF-8.
-pub only_utf8 : (f : Flavor) (bytes : List ℕ) → IsUtf8 bytes → IsOnlyText (IsLenientReading f bytes) (chars bytes) bytes
-only_utf8 f bytes is_utf8 =
+pub only_utf8 : (f : Flavor) (which : Strictness) (bytes : List ℕ) → IsUtf8 bytes → IsOnlyText (IsLenientReadingOf f which bytes) (chars bytes) bytes
+only_utf8 f Strict bytes is_utf8 =
     let of_chars = IsUtf8Of_chars bytes is_utf8 in
     record {
       reads = inl of_chars;
@@ -126,9 +112,7 @@ only_utf8 f bytes is_utf8 =
           (λ reads. absurd (reads.0 (chars bytes) of_chars)) also;
       utf8_is = of_chars.1;
     }
-
-pub only_utf8_lossy : (f : Flavor) (bytes : List ℕ) → IsUtf8 bytes → IsOnlyText (IsLenientLossyReading f bytes) (chars bytes) bytes
-only_utf8_lossy f bytes is_utf8 =
+only_utf8 f Lossy bytes is_utf8 =
     let of_chars = IsUtf8Of_chars bytes is_utf8 in
     record {
       reads = inl of_chars;
@@ -139,87 +123,88 @@ only_utf8_lossy f bytes is_utf8 =
 
 -- ---- where it is written or not
 
--- The input has no text.
-pub refused : (IsReading : List ℕ → Type 0) (buf : List ℕ) → ((text : List ℕ) → ¬ (IsReading text)) →
-    PutsReading IsReading (Err strict.NoText) buf buf
-refused IsReading buf none = record {
+-- In strict reading the input has no text.
+pub text_lacks : (which : Strictness) (IsReading : List ℕ → Type 0) (buf : List ℕ) → which ≡ Strict →
+    ((text : List ℕ) → ¬ (IsReading text)) → PutsText which IsReading (Err either.NoText) buf buf
+text_lacks which IsReading buf strictly none = record {
   written = tt;
   fits = ((λ ok. absurd (false≢true ok)), (λ found. absurd (none found.0 found.1)));
   invalid = ((λ _. none), (λ _. tt));
+  too_long = ((λ never. absurd never), (λ found. absurd (none found.0 found.1)));
   needed = tt;
   unchanged = refl;
+  strict = λ _. strictly;
+  lossy = λ never. absurd never;
 }
 
+pub no_strict_text : (f : Flavor) (which : Strictness) (bytes buf : List ℕ) → (which ≡ Strict) × HasNoStrictReading f bytes →
+    PutsText which (IsReadingOf f which bytes) (Err either.NoText) buf buf
+no_strict_text f Strict bytes buf refused = text_lacks Strict (IsReadingOf f Strict bytes) buf refl refused.1
+no_strict_text f Lossy bytes buf refused = absurd (let no : Lossy ≡ Strict = refused.0 in cc)
+
 -- The answer is written, or the buffer is too short for it.
-pub text_written : (IsReading : List ℕ → Type 0) (text answer : List ℕ) (r : Result ℕ NoRoom) (told : Result ℕ SliceRefusal) (old new : List ℕ) →
-    IsOnlyText IsReading text answer →
-    MatchResult r (λ len. told ≡ Ok len) (λ fault. IsErrAnd told (λ d. d ≡ strict.NoRoom fault)) →
-    PutsAnswer answer r old new → PutsReading IsReading told old new
-text_written IsReading text answer (Ok len) told old new is told_is writes =
-    subst (λ t. PutsReading IsReading t old new) (sym told_is) (record {
-      written = (text, is.reads, subst (λ a. StandsAtFront a len old new) (sym is.utf8_is) writes.written);
-      fits = ((λ _. of_length IsReading (λ len. len ≤ length old) text answer is (writes.fits.0 refl)), (λ _. refl));
+pub text_put : (which : Strictness) (IsReading : List ℕ → Type 0) (text answer : List ℕ) (r : Result ℕ NoRoom) (told : Result ℕ Unwritten) (old new : List ℕ) →
+    IsOnlyText IsReading text answer → length answer < 2 ^ 64 →
+    MatchResult r (λ len. told ≡ Ok len) (λ fault. IsErrAnd told (λ d. d ≡ either.NoRoom fault)) →
+    PutsAnswer answer r old new → PutsText which IsReading told old new
+text_put which IsReading text answer (Ok len) told old new is small told_is puts =
+    subst (λ t. PutsText which IsReading t old new) (sym told_is) (record {
+      written = (text, is.reads, subst (λ a. StandsAtFront a len old new) (sym is.utf8_is) puts.written);
+      fits = ((λ _. of_length IsReading (λ len. len ≤ length old) text answer is (puts.fits.0 refl)), (λ _. refl));
       invalid = ((λ never. absurd never), (λ none. absurd (none text is.reads)));
+      too_long = (
+        (λ never. absurd never),
+        (λ found. absurd (omega (arith, small, at_length IsReading (λ len. 2 ^ 64 ≤ len) text answer is found))),
+      );
       needed = tt;
       unchanged = tt;
+      strict = λ never. absurd never;
+      lossy = λ never. absurd never;
     })
-text_written IsReading text answer (Err fault) (Ok len) old new is told_is writes = absurd told_is
-text_written IsReading text answer (Err fault) (Err other) old new is told_is writes =
-    subst (λ d. PutsReading IsReading (Err d) old new) (sym told_is) (record {
+text_put which IsReading text answer (Err fault) (Ok len) old new is small told_is puts = absurd told_is
+text_put which IsReading text answer (Err fault) (Err other) old new is small told_is puts =
+    subst (λ d. PutsText which IsReading (Err d) old new) (sym told_is) (record {
       written = tt;
       fits = (
         (λ ok. absurd (false≢true ok)),
-        (λ found. absurd (false≢true (writes.fits.1 (at_length IsReading (λ len. len ≤ length old) text answer is found)))),
+        (λ found. absurd (false≢true (puts.fits.1 (at_length IsReading (λ len. len ≤ length old) text answer is found)))),
       );
       invalid = ((λ never. absurd never), (λ none. absurd (none text is.reads)));
-      needed = of_length IsReading (λ len. fault.needed ≡ len) text answer is writes.needed;
-      unchanged = writes.unchanged;
+      too_long = (
+        (λ never. absurd never),
+        (λ found. absurd (omega (arith, small, at_length IsReading (λ len. 2 ^ 64 ≤ len) text answer is found))),
+      );
+      needed = of_length IsReading (λ len. fault.needed ≡ len) text answer is puts.needed;
+      unchanged = puts.unchanged;
+      strict = λ never. absurd never;
+      lossy = λ never. absurd never;
     })
 
--- The same in lossy reading, of an answer whose length fits.
-pub lossy_written : (IsReading : List ℕ → Type 0) (text answer : List ℕ) (r : Result ℕ NoRoom) (told : Result ℕ LossyRefusal) (old new : List ℕ) →
-    IsOnlyText IsReading text answer → length answer < 2 ^ 64 →
-    MatchResult r (λ len. told ≡ Ok len) (λ fault. IsErrAnd told (λ d. d ≡ lossy.NoRoom fault)) →
-    PutsAnswer answer r old new → PutsLossyReading IsReading told old new
-lossy_written IsReading text answer (Ok len) told old new is small told_is writes =
-    subst (λ t. PutsLossyReading IsReading t old new) (sym told_is) (record {
-      written = (text, is.reads, subst (λ a. StandsAtFront a len old new) (sym is.utf8_is) writes.written);
-      fits = ((λ _. of_length IsReading (λ len. len ≤ length old) text answer is (writes.fits.0 refl)), (λ _. refl));
-      too_long = (
-        (λ never. absurd never),
-        (λ found. absurd (omega (arith, small, at_length IsReading (λ len. 2 ^ 64 ≤ len) text answer is found))),
-      );
-      needed = tt;
-      unchanged = tt;
-    })
-lossy_written IsReading text answer (Err fault) (Ok len) old new is small told_is writes = absurd told_is
-lossy_written IsReading text answer (Err fault) (Err other) old new is small told_is writes =
-    subst (λ d. PutsLossyReading IsReading (Err d) old new) (sym told_is) (record {
-      written = tt;
-      fits = (
-        (λ ok. absurd (false≢true ok)),
-        (λ found. absurd (false≢true (writes.fits.1 (at_length IsReading (λ len. len ≤ length old) text answer is found)))),
-      );
-      too_long = (
-        (λ never. absurd never),
-        (λ found. absurd (omega (arith, small, at_length IsReading (λ len. 2 ^ 64 ≤ len) text answer is found))),
-      );
-      needed = of_length IsReading (λ len. fault.needed ≡ len) text answer is writes.needed;
-      unchanged = writes.unchanged;
-    })
+-- So are bytes of which all were decoded.
+pub decoded_put : (f : Flavor) (which : Strictness) (bytes answer : List ℕ) (read : ℕ) (is_damaged : Bool) (r : Result ℕ NoRoom) (told : Result ℕ Unwritten) (old new : List ℕ) →
+    ReadsAll f which bytes read answer is_damaged → refuses which is_damaged ≡ false → length answer < 2 ^ 64 →
+    MatchResult r (λ len. told ≡ Ok len) (λ fault. IsErrAnd told (λ d. d ≡ either.NoRoom fault)) →
+    PutsAnswer answer r old new → PutsText which (IsReadingOf f which bytes) told old new
+decoded_put f which bytes answer read is_damaged r told old new reads fine small told_is puts =
+    text_put which (IsReadingOf f which bytes) (chars answer) answer r told old new
+    (only_piece f which bytes answer read (piece_unless_refused f which bytes answer read is_damaged reads.first fine) (reads.all fine))
+    small told_is puts
 
 -- No `usize` is the answer's length, so that it fits into no buffer.
-pub lossy_too_long : (IsReading : List ℕ → Type 0) (text answer buf : List ℕ) → IsOnlyText IsReading text answer →
-    2 ^ 64 ≤ length answer → length buf < 2 ^ 64 → PutsLossyReading IsReading (Err lossy.TooLong) buf buf
-lossy_too_long IsReading text answer buf is long small = record {
+pub length_lacks : (IsReading : List ℕ → Type 0) (text answer buf : List ℕ) → IsOnlyText IsReading text answer →
+    2 ^ 64 ≤ length answer → length buf < 2 ^ 64 → PutsText Lossy IsReading (Err either.TooLong) buf buf
+length_lacks IsReading text answer buf is long small = record {
   written = tt;
   fits = (
     (λ ok. absurd (false≢true ok)),
     (λ found. absurd (omega (arith, long, small, at_length IsReading (λ len. len ≤ length buf) text answer is found))),
   );
+  invalid = ((λ never. absurd never), (λ none. absurd (none text is.reads)));
   too_long = ((λ _. of_length IsReading (λ len. 2 ^ 64 ≤ len) text answer is long), (λ _. tt));
   needed = tt;
   unchanged = refl;
+  strict = λ never. absurd never;
+  lossy = λ _. refl;
 }
 
 -- ---- other words for the reading
@@ -231,64 +216,119 @@ module _ (P Q : List ℕ → Type 0) (same : (text : List ℕ) → P text ↔ Q 
   back : (F : ℕ → Type 0) → ReadsAtLength Q F → ReadsAtLength P F
   back F found = (found.0, (same found.0).1 found.1, found.2)
 
-  -- What is said by one reading is said by another that has the same texts,
-  pub same_reading : (r : Result ℕ SliceRefusal) (old new : List ℕ) → PutsReading P r old new → PutsReading Q r old new
-  same_reading (Ok len) old new writes = record {
-    written = (writes.written.0, (same writes.written.0).0 writes.written.1, writes.written.2);
-    fits = ((λ ok. there (λ len. len ≤ length old) (writes.fits.0 ok)), (λ _. refl));
-    invalid = ((λ never. absurd never), (λ none. absurd (none writes.written.0 ((same writes.written.0).0 writes.written.1))));
+  -- What is said by one reading is said by another that has the same texts.
+  pub same_reading : (which : Strictness) (r : Result ℕ Unwritten) (old new : List ℕ) → PutsText which P r old new → PutsText which Q r old new
+  same_reading which (Ok len) old new puts = record {
+    written = (puts.written.0, (same puts.written.0).0 puts.written.1, puts.written.2);
+    fits = ((λ ok. there (λ len. len ≤ length old) (puts.fits.0 ok)), (λ _. refl));
+    invalid = ((λ never. absurd never), (λ none. absurd (none puts.written.0 ((same puts.written.0).0 puts.written.1))));
+    too_long = ((λ never. absurd never), (λ found. puts.too_long.1 (back (λ len. 2 ^ 64 ≤ len) found)));
     needed = tt;
     unchanged = tt;
+    strict = puts.strict;
+    lossy = puts.lossy;
   }
-  same_reading (Err strict.NoText) old new writes = record {
+  same_reading which (Err either.NoText) old new puts = record {
     written = tt;
-    fits = ((λ ok. absurd (false≢true ok)), (λ found. writes.fits.1 (back (λ len. len ≤ length old) found)));
-    invalid = ((λ _ text reads. writes.invalid.0 tt text ((same text).1 reads)), (λ _. tt));
+    fits = ((λ ok. absurd (false≢true ok)), (λ found. puts.fits.1 (back (λ len. len ≤ length old) found)));
+    invalid = ((λ _ text reads. puts.invalid.0 tt text ((same text).1 reads)), (λ _. tt));
+    too_long = ((λ never. absurd never), (λ found. puts.too_long.1 (back (λ len. 2 ^ 64 ≤ len) found)));
     needed = tt;
-    unchanged = writes.unchanged;
+    unchanged = puts.unchanged;
+    strict = puts.strict;
+    lossy = puts.lossy;
   }
-  same_reading (Err (strict.NoRoom fault)) old new writes = record {
+  same_reading which (Err either.TooLong) old new puts = record {
     written = tt;
-    fits = ((λ ok. absurd (false≢true ok)), (λ found. writes.fits.1 (back (λ len. len ≤ length old) found)));
-    invalid = ((λ never. absurd never), (λ none. writes.invalid.1 (λ text reads. none text ((same text).0 reads))));
-    needed = there (λ len. fault.needed ≡ len) writes.needed;
-    unchanged = writes.unchanged;
+    fits = ((λ ok. absurd (false≢true ok)), (λ found. puts.fits.1 (back (λ len. len ≤ length old) found)));
+    invalid = ((λ never. absurd never), (λ none. puts.invalid.1 (λ text reads. none text ((same text).0 reads))));
+    too_long = ((λ _. there (λ len. 2 ^ 64 ≤ len) (puts.too_long.0 tt)), (λ _. tt));
+    needed = tt;
+    unchanged = puts.unchanged;
+    strict = puts.strict;
+    lossy = puts.lossy;
+  }
+  same_reading which (Err (either.NoRoom fault)) old new puts = record {
+    written = tt;
+    fits = ((λ ok. absurd (false≢true ok)), (λ found. puts.fits.1 (back (λ len. len ≤ length old) found)));
+    invalid = ((λ never. absurd never), (λ none. puts.invalid.1 (λ text reads. none text ((same text).0 reads))));
+    too_long = ((λ never. absurd never), (λ found. puts.too_long.1 (back (λ len. 2 ^ 64 ≤ len) found)));
+    needed = there (λ len. fault.needed ≡ len) puts.needed;
+    unchanged = puts.unchanged;
+    strict = puts.strict;
+    lossy = puts.lossy;
   }
 
-  -- and so is what is said in lossy reading.
-  pub same_lossy_reading : (r : Result ℕ LossyRefusal) (old new : List ℕ) → PutsLossyReading P r old new → PutsLossyReading Q r old new
-  same_lossy_reading (Ok len) old new writes = record {
-    written = (writes.written.0, (same writes.written.0).0 writes.written.1, writes.written.2);
-    fits = ((λ ok. there (λ len. len ≤ length old) (writes.fits.0 ok)), (λ _. refl));
-    too_long = ((λ never. absurd never), (λ found. writes.too_long.1 (back (λ len. 2 ^ 64 ≤ len) found)));
-    needed = tt;
-    unchanged = tt;
-  }
-  same_lossy_reading (Err lossy.TooLong) old new writes = record {
-    written = tt;
-    fits = ((λ ok. absurd (false≢true ok)), (λ found. writes.fits.1 (back (λ len. len ≤ length old) found)));
-    too_long = ((λ _. there (λ len. 2 ^ 64 ≤ len) (writes.too_long.0 tt)), (λ _. tt));
-    needed = tt;
-    unchanged = writes.unchanged;
-  }
-  same_lossy_reading (Err (lossy.NoRoom fault)) old new writes = record {
-    written = tt;
-    fits = ((λ ok. absurd (false≢true ok)), (λ found. writes.fits.1 (back (λ len. len ≤ length old) found)));
-    too_long = ((λ never. absurd never), (λ found. writes.too_long.1 (back (λ len. 2 ^ 64 ≤ len) found)));
-    needed = there (λ len. fault.needed ≡ len) writes.needed;
-    unchanged = writes.unchanged;
-  }
-
--- Where bytes are no UTF-8, lenient reading is strict reading,
-pub lenient_is_strict : (f : Flavor) (bytes text : List ℕ) → ¬ (IsUtf8 bytes) → IsStrictReading f bytes text ↔ IsLenientReading f bytes text
-lenient_is_strict f bytes text not_utf8 = (
+-- Where bytes are no UTF-8, lenient reading is the other.
+pub lenient_is_other : (f : Flavor) (which : Strictness) (bytes text : List ℕ) → ¬ (IsUtf8 bytes) →
+    IsReadingOf f which bytes text ↔ IsLenientReadingOf f which bytes text
+lenient_is_other f Strict bytes text not_utf8 = (
   (λ reads. inr (not_utf8_of bytes not_utf8, reads)),
   (λ reads. ⊎_elim (λ of. absurd (not_utf8_of bytes not_utf8 text of)) (λ strictly. strictly.1) reads),
 )
-
--- and lenient lossy reading is lossy reading.
-pub lenient_is_lossy : (f : Flavor) (bytes text : List ℕ) → ¬ (IsUtf8 bytes) → (text ≡ reading f bytes) ↔ IsLenientLossyReading f bytes text
-lenient_is_lossy f bytes text not_utf8 = (
+lenient_is_other f Lossy bytes text not_utf8 = (
   (λ same. inr (not_utf8_of bytes not_utf8, same)),
   (λ reads. ⊎_elim (λ of. absurd (not_utf8_of bytes not_utf8 text of)) (λ lossily. lossily.1) reads),
 )
+
+-- ---- what the calls say of either
+
+pub strict_put : (IsReading : List ℕ → Type 0) (outcome : Result ℕ Unwritten) (told : Result ℕ SliceRefusal) (old new : List ℕ) →
+    IsStrictOutcome outcome told → PutsText Strict IsReading outcome old new → PutsReading IsReading told old new
+strict_put IsReading (Ok len) (Ok n) old new is puts = record {
+  written = subst (λ k. ReadingAtFront IsReading k old new) (sym is) puts.written;
+  fits = puts.fits;
+  invalid = puts.invalid;
+  needed = tt;
+  unchanged = tt;
+}
+strict_put IsReading (Ok len) (Err other) old new is puts = absurd is
+strict_put IsReading (Err either.NoText) (Ok n) old new is puts = absurd is
+strict_put IsReading (Err either.NoText) (Err strict.NoText) old new is puts = record {
+  written = tt;
+  fits = puts.fits;
+  invalid = puts.invalid;
+  needed = tt;
+  unchanged = puts.unchanged;
+}
+strict_put IsReading (Err either.NoText) (Err (strict.NoRoom fault)) old new is puts = absurd is
+strict_put IsReading (Err either.TooLong) told old new is puts = absurd (let no : Strict ≡ Lossy = puts.lossy tt in cc)
+strict_put IsReading (Err (either.NoRoom fault)) (Ok n) old new is puts = absurd is
+strict_put IsReading (Err (either.NoRoom fault)) (Err strict.NoText) old new is puts = absurd is
+strict_put IsReading (Err (either.NoRoom fault)) (Err (strict.NoRoom told)) old new is puts = record {
+  written = tt;
+  fits = puts.fits;
+  invalid = puts.invalid;
+  needed = subst (λ no_room. ReadsAtLength IsReading (λ len. no_room.needed ≡ len)) (sym is) puts.needed;
+  unchanged = puts.unchanged;
+}
+
+pub lossy_put : (IsReading : List ℕ → Type 0) (outcome : Result ℕ Unwritten) (told : Result ℕ LossyRefusal) (old new : List ℕ) →
+    IsLossyOutcome outcome told → PutsText Lossy IsReading outcome old new → PutsLossyReading IsReading told old new
+lossy_put IsReading (Ok len) (Ok n) old new is puts = record {
+  written = subst (λ k. ReadingAtFront IsReading k old new) (sym is) puts.written;
+  fits = puts.fits;
+  too_long = puts.too_long;
+  needed = tt;
+  unchanged = tt;
+}
+lossy_put IsReading (Ok len) (Err other) old new is puts = absurd is
+lossy_put IsReading (Err either.NoText) told old new is puts = absurd (let no : Lossy ≡ Strict = puts.strict tt in cc)
+lossy_put IsReading (Err either.TooLong) (Ok n) old new is puts = absurd is
+lossy_put IsReading (Err either.TooLong) (Err lossy.TooLong) old new is puts = record {
+  written = tt;
+  fits = puts.fits;
+  too_long = puts.too_long;
+  needed = tt;
+  unchanged = puts.unchanged;
+}
+lossy_put IsReading (Err either.TooLong) (Err (lossy.NoRoom fault)) old new is puts = absurd is
+lossy_put IsReading (Err (either.NoRoom fault)) (Ok n) old new is puts = absurd is
+lossy_put IsReading (Err (either.NoRoom fault)) (Err lossy.TooLong) old new is puts = absurd is
+lossy_put IsReading (Err (either.NoRoom fault)) (Err (lossy.NoRoom told)) old new is puts = record {
+  written = tt;
+  fits = puts.fits;
+  too_long = puts.too_long;
+  needed = subst (λ no_room. ReadsAtLength IsReading (λ len. no_room.needed ≡ len)) (sym is) puts.needed;
+  unchanged = puts.unchanged;
+}

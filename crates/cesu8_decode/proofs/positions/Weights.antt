@@ -7,6 +7,12 @@ use Rattle.cesu8_decode.specs.DecodedPlaces.{front_width, total_weight, weight_b
 use Rattle.cesu8_decode.proofs.positions.FrontWidths.{begins_encoded, width_of_front, width_of_none, width_inside}
 use Rattle.cesu8_decode.proofs.positions.WindowPlaces.{Follows, follows_later, width_following, weight_split}
 
+-- No bytes weigh nothing.
+pub no_weight : (weight : ℕ → ℕ → ℕ) (f : Flavor) (bytes : List ℕ) → length bytes ≡ 0 → total_weight weight f bytes ≡ 0
+unfolding total_weight
+no_weight weight f [] none = refl
+no_weight weight f (b ∷ bytes) none = absurd (omega arith)
+
 -- ---- by characters
 
 module _ (weight : ℕ → ℕ → ℕ) (nothing : (b : ℕ) → weight 0 b ≡ 0) (f : Flavor) where

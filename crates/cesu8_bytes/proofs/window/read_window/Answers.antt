@@ -10,10 +10,10 @@ use Rattle.cesu8_bytes.proofs.window.read_window.Goals as goal
 pub returns-in-Ok-clause-text : goal.returns-in-Ok-clause-text
 returns-in-Ok-clause-text c which =
     let f = flavor_of c.args.flavor in
-    let of_chars = IsUtf8Of_chars_at (take c.join_window-read.result.written c.join_window-read.new.room) c.in-Ok.text.now c.in-Ok.ensures.0 c.in-Ok.ensures.1 in
-    piece_of_encoding f which c.args.bytes.now c.in-Ok.text.now c.join_window-read.result.read
+    let of_chars = IsUtf8Of_chars_at (take c.copy_end-read.result.written c.copy_end-read.new.room) c.in-Ok.text.now c.in-Ok.ensures.0 c.in-Ok.ensures.1 in
+    piece_of_encoding f which c.args.bytes.now c.in-Ok.text.now c.copy_end-read.result.read
     (subst IsUtf8 (sym c.in-Ok.ensures.0) c.in-Ok.ensures.1) (
       of_chars.0,
-      joined_text f _ _ (chars c.in-Ok.text.now) c.join_window-read.ensures.joined
+      joined_text f _ _ (chars c.in-Ok.text.now) (c.copy_end-read.ensures.joined f c.join-step.ensures.joined)
           (λ found. iff_false c.contains_changed.ensures c.if-contains_changed.false found) of_chars.0 of_chars.1,
     )

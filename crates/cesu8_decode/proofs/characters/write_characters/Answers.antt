@@ -1,34 +1,57 @@
-use Rattle.std.proofs.Common.{[], arith, ◌∙◌, refl}
-use Rattle.std.proofs.lemmas.List.{take_rest, length-drop}
+use Rattle.std.proofs.Common.{[], arith, ◌∙◌, sym, refl, length, length-drop, drop}
+use Rattle.std.proofs.lemmas.List.{take_rest, drop-drop}
 use Rattle.cesu8_bytes.specs.Internal.{flavor_of}
+use Rattle.cesu8_bytes.specs.Pieces.{IsPiece}
 use Rattle.cesu8_bytes.specs.declared.options.Strictness.TheVariants.{Strict, Lossy}
 use Rattle.cesu8_decode.proofs.pieces.ReadPieces.{nothing_read}
-use Rattle.cesu8_decode.proofs.pieces.Characters.{more_lossy, more_strict, first_fault}
+use Rattle.cesu8_decode.proofs.pieces.Characters.{more_lossy, more_strict, first_fault, read_some, read_all}
 use Rattle.cesu8_decode.proofs.characters.write_characters.Goals as goal
 
-pub loop-rest-init : goal.loop-rest-init
-loop-rest-init c =
-    let f = flavor_of c.args.flavor in
+pub loop-read-init : goal.loop-read-init
+loop-read-init c =
+    let f = flavor_of c.args.options.flavor in
     record {
+      inside = omega arith;
       room = omega arith;
+      some = λ damaged. cc;
       lossy = nothing_read f Lossy c.args.bytes.now [];
       strict = λ _. nothing_read f Strict c.args.bytes.now [];
       damaged = λ damaged. cc;
       len = refl;
     }
 
-pub loop-rest-preserved : goal.loop-rest-preserved
-loop-rest-preserved c =
-    let f = flavor_of c.args.flavor in
+pub loop-read-preserved : goal.loop-read-preserved
+loop-read-preserved c =
+    let f = flavor_of c.args.options.flavor in
     let bytes = c.args.bytes.now in
-    let rest = c.loop-rest.rest.now in
-    let inv = c.loop-rest.invariant in
-    let step = c.write_next-step.ensures in
-    rw take_rest (record {
-      room = omega (arith, inv.room, step.within.1, step.within.2, length-drop c.write_next-step.result.read rest);
+    let n = c.loop-read.read in
+    let m = c.write_next-step.result.read in
+    let rest = drop n bytes in
+    let inv = c.loop-read.invariant in
+    let step = rw take_rest at c.write_next-step.ensures in
+    rw (sym (drop-drop m n bytes)) (record {
+      inside = omega (arith, step.within.1, length-drop n bytes);
+      room = omega (arith, inv.room, step.within.2);
+      some = λ _. omega (arith, step.within.0);
       lossy = more_lossy f bytes rest _ [] _ _ c.write_next-step.result.is_damaged inv.lossy step.character step.replaced;
-      strict = more_strict f bytes rest _ [] _ _ c.loop-rest.is_damaged c.write_next-step.result.is_damaged inv.strict step.character;
-      damaged = first_fault f bytes rest _ c.loop-rest.is_damaged c.write_next-step.result.is_damaged inv.strict inv.damaged
+      strict = more_strict f bytes rest _ [] _ _ c.loop-read.is_damaged c.write_next-step.result.is_damaged inv.strict step.character;
+      damaged = first_fault f bytes rest _ c.loop-read.is_damaged c.write_next-step.result.is_damaged inv.strict inv.damaged
           (omega (arith, step.within.0, step.within.1)) step.damaged;
       len = step.len ∙ inv.len;
     })
+
+pub returns-clause-read : goal.returns-clause-read
+returns-clause-read c =
+    let which = c.args.options.strictness in
+    let inv = c.loop-read.invariant in
+    let stopped = c.loop-read-test.false in
+    record {
+      first = record {
+        some = λ nonempty. read_some which c.loop-read.read _ c.loop-read.is_damaged (rw c.is_refused.ensures at stopped) nonempty inv.some;
+        within = inv.inside;
+        lossy = inv.lossy;
+        strict = inv.strict;
+        damaged = inv.damaged;
+      };
+      all = λ fine. read_all which c.loop-read.read _ c.loop-read.is_damaged (rw c.is_refused.ensures at stopped) fine inv.inside;
+    }

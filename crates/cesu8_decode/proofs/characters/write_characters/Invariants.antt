@@ -1,18 +1,20 @@
-use Rattle.std.proofs.Common.{◌≡◌, ◌+◌, ◌*◌, ◌≤◌, length, take, true, false}
+use Rattle.std.proofs.Common.{◌≡◌, ◌*◌, ◌-◌, ◌<◌, ◌≤◌, length, take, drop, true, false}
 use Rattle.cesu8_bytes.specs.Internal.{flavor_of}
 use Rattle.cesu8_bytes.specs.Pieces.{IsPiece}
 use Rattle.cesu8_decode.specs.Decoding.{HasFault}
 use Rattle.cesu8_bytes.specs.declared.options.Strictness.TheVariants.{Strict, Lossy}
 use Rattle.cesu8_decode.proofs.characters.write_characters.Given as goal
 
-abbrev pub decreases-loop-rest : goal.decreases-loop-rest
-decreases-loop-rest l = length l.rest
+abbrev pub decreases-loop-read : goal.decreases-loop-read
+decreases-loop-read l = length l.fn.bytes - l.read
 
-abbrev pub invariant-loop-rest : goal.invariant-loop-rest
-invariant-loop-rest l = record {
-  room : l.end + 3 * length l.rest ≤ 3 * length l.fn.bytes;
-  lossy : IsPiece (flavor_of l.fn.flavor) Lossy l.fn.bytes l.rest (take l.end l.out);
-  strict : l.is_damaged ≡ false → IsPiece (flavor_of l.fn.flavor) Strict l.fn.bytes l.rest (take l.end l.out);
-  damaged : l.is_damaged ≡ true → HasFault (flavor_of l.fn.flavor) l.fn.bytes;
+abbrev pub invariant-loop-read : goal.invariant-loop-read
+invariant-loop-read l = record {
+  inside : l.read ≤ length l.fn.bytes;
+  room : l.end ≤ 3 * l.read;
+  some : l.is_damaged ≡ true → 0 < l.read;
+  lossy : IsPiece (flavor_of l.fn.options.flavor) Lossy l.fn.bytes (drop l.read l.fn.bytes) (take l.end l.out);
+  strict : l.is_damaged ≡ false → IsPiece (flavor_of l.fn.options.flavor) Strict l.fn.bytes (drop l.read l.fn.bytes) (take l.end l.out);
+  damaged : l.is_damaged ≡ true → HasFault (flavor_of l.fn.options.flavor) l.fn.bytes;
   len : length l.out ≡ length l.initial.out;
 }

@@ -9,4 +9,5 @@ abbrev pub invariant-loop-rest : goal.invariant-loop-rest
 invariant-loop-rest g l = record {
   sum : l.covered + total_weight covered g.N.NullForm.flavor l.rest ≡ total_weight covered g.N.NullForm.flavor l.fn.bytes;
   within : length l.rest ≤ length l.fn.bytes;
+  fine : length l.fn.bytes ≤ l.covered + length l.rest;
 }

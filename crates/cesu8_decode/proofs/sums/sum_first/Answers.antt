@@ -1,8 +1,12 @@
-use Rattle.std.proofs.Common.{◌*◌, ap, arith}
+use Rattle.std.proofs.Common.{◌*◌, [], refl, ap, arith}
 use Rattle.std.proofs.lemmas.List.{take_rest}
 use Rattle.cesu8_decode.specs.DecodedPlaces.{total_weight}
-use Rattle.cesu8_decode.proofs.positions.Weights.{weight_by_parts}
+use Rattle.cesu8_decode.proofs.positions.Weights.{no_weight, weight_by_parts}
 use Rattle.cesu8_decode.proofs.sums.sum_first.Goals as goal
+
+pub returns-then-bytes-lt-REACH-clause-sum : goal.returns-then-bytes-lt-REACH-clause-sum
+returns-then-bytes-lt-REACH-clause-sum g c =
+    omega (arith, no_weight g.W.Weight.weight g.N.NullForm.flavor [] refl, c.sum_of_few.ensures)
 
 pub returns-clause-sum : goal.returns-clause-sum
 returns-clause-sum g c =

@@ -6,14 +6,17 @@ pub returns : goal.returns
 returns g c =
     let f = g.N.NullForm.flavor in
     let bytes = c.args.bytes.now in
+    let window = c.load-read.new.window in
     let loaded = c.load-read.ensures in
     let blocks = c.write_blocks.ensures in
     record {
-      some = search rules;
-      within = search rules;
+      first = record {
+        some = search rules;
+        within = search rules;
+        lossy = read_lossily f bytes window c.load-read.result loaded.read _ _ blocks.read blocks.bytes;
+        strict = λ fine. read_strictly f bytes window c.load-read.result loaded.read _ _ blocks.read blocks.bytes (blocks.whole fine);
+        damaged = λ damaged. read_fault f bytes window c.load-read.result loaded.read (blocks.damaged damaged);
+      };
       all = search rules;
       end = omega (arith, blocks.end, blocks.len, loaded.inside, loaded.len);
-      lossy = read_lossily f bytes c.load-read.new.window c.load-read.result loaded.read _ _ blocks.read blocks.bytes;
-      strict = λ fine. read_strictly f bytes c.load-read.new.window c.load-read.result loaded.read _ _ blocks.read blocks.bytes (blocks.whole fine);
-      damaged = λ damaged. read_fault f bytes c.load-read.new.window c.load-read.result loaded.read (blocks.damaged damaged);
     }

@@ -1,0 +1,23 @@
+use Rattle.std.proofs.Common.{arith}
+use Rattle.cesu8_bytes.specs.Internal.{flavor_of}
+use Rattle.cesu8_decode.specs.PutReadings.{IsReadingOf, IsLenientReadingOf}
+use Rattle.cesu8_decode.proofs.pieces.SliceReadings.{only_utf8, text_put, same_reading, lenient_is_other}
+use Rattle.cesu8_decode.proofs.copy_or_write.put_other_leniently.Goals as goal
+
+pub returns-then-whole_text-bytes : goal.returns-then-whole_text-bytes
+returns-then-whole_text-bytes c =
+    let f = flavor_of c.args.options.flavor in
+    let which = c.args.options.strictness in
+    let bytes = c.args.bytes.now in
+    text_put which (IsLenientReadingOf f which bytes) _ _ c.copy_to_slice.result c.map_err.result c.args.buf.now c.copy_to_slice.new.buf
+    (only_utf8 f which bytes (c.whole_text.ensures.whole c.if-whole_text-bytes.true).1)
+    (omega arith) c.map_err.ensures.cases c.copy_to_slice.ensures
+
+pub returns : goal.returns
+returns c =
+    let f = flavor_of c.args.options.flavor in
+    let which = c.args.options.strictness in
+    let bytes = c.args.bytes.now in
+    same_reading (IsReadingOf f which bytes) (IsLenientReadingOf f which bytes)
+    (λ text. lenient_is_other f which bytes text (c.whole_text.ensures.none c.if-whole_text-bytes.false))
+    which c.put_text.result c.args.buf.now c.put_text.new.buf c.put_text.ensures

@@ -1,0 +1,12 @@
+use Rattle.std.proofs.Common.{true≢false, sym}
+use Rattle.cesu8_bytes.specs.declared.options.Strictness.TheVariants.{Strict, Lossy}
+use Rattle.cesu8_decode.proofs.piece.next_piece.Goals as goal
+
+pub returns-in-Some : goal.returns-in-Some
+returns-in-Some c = record {
+  some = λ _. c.in-Some.ensures.within.0;
+  within = c.in-Some.ensures.within.1;
+  lossy = c.in-Some.ensures.text Lossy;
+  strict = λ _. c.in-Some.ensures.text Strict;
+  damaged = λ damaged. absurd (true≢false (sym damaged));
+}

@@ -1,0 +1,126 @@
+//! Which way bytes are decoded, to a `String` and to a slice alike.
+//!
+//! | bytes | of them other than 01 to 7F | in strict reading | in lossy reading |
+//! |---|---|---|---|
+//! | at most 12 | any | `Characters` | `Characters` |
+//! | at most 24 | at most 12 | `Characters` | `Characters` |
+//! | at most 24 | more | `Characters` | `ShortWindow` |
+//! | at most 96 | at most 6 | `Characters` | `Characters` |
+//! | at most 96 | more | `ShortWindow` | `ShortWindow` |
+//! | at most 256 | any | `MediumWindow` | `MediumWindow` |
+//! | more, with damage among the first 64 | any | `Refused` | as without |
+//! | at most 1,024 | any | `LongWindow` | `LongWindow` |
+//! | more | any | `Pieces` | `Pieces` |
+//!
+//! - `Characters`: one character after another. A branch on a byte costs little while few bytes are
+//!   not ASCII. Strict reading stops at the first damage, so a few bytes more are worth it.
+//! - The windows: 32 bytes at a time with no branch on a byte, in buffers on the stack. Smaller ones
+//!   are made in less time.
+//! - `Pieces`: joined windows of text that is not damaged, and windows by places after damage.
+//! - `Refused`: most input that is no encoding is damaged early.
+//!
+//! Other lengths in this crate decide no way: `piece` joins no window of few bytes and lengthens a
+//! short text before its test for UTF-8, `characters` tests the last bytes for a pair one by one, and
+//! `sums` pads the last block. Before the decoder, `cesu8_bytes` takes the first looks.
+
+ghost use Rattle.std.specs.Prelude.{◌<◌, ◌≤◌, length, IsTrue};
+ghost use Rattle.cesu8_bytes.specs.Internal.{flavor_of};
+ghost use Rattle.cesu8_decode.specs.Ways.{IsWayOf};
+
+use super::damage::is_damaged_in_front;
+use cesu8_bytes::implementation::class::NullHigh;
+use cesu8_bytes::implementation::short::count_in_ends;
+use cesu8_bytes::options::{DecodeOptions, Strictness};
+
+/// Which way bytes are decoded.
+#[derive(Clone, Copy)]
+pub enum Way {
+    Characters,
+    ShortWindow,
+    MediumWindow,
+    LongWindow,
+    Pieces,
+    Refused,
+}
+
+/// The most bytes that are read one character after another, and the most in a short window.
+pub const SHORT_WINDOW: usize = 96;
+
+/// The most bytes that are read in a window of medium length.
+pub const MEDIUM_WINDOW: usize = 256;
+
+/// The most bytes that are read in any window.
+pub const LONG_WINDOW: usize = 1024;
+
+/// So few bytes, read one character after another, have a smaller buffer.
+pub const FEWEST: usize = 32;
+
+/// So few bytes are read one character after another in strict reading, whatever they are.
+const FEW_STRICT: usize = 24;
+
+/// So many of 24 bytes may be other than 01 to 7F. In lossy reading each may be damaged, and then it
+/// is a step.
+const OTHERS: usize = 12;
+
+/// Of more bytes so many may be, as many as a surrogate pair has.
+const FEWER_OTHERS: usize = 6;
+
+/// Below this length the test for UTF-8 goes byte by byte.
+const TESTED_BY_VECTORS: usize = 64;
+
+/// Returns which way the bytes go.
+#[inline(always)]
+pub fn way_of(options: DecodeOptions, bytes: &[u8]) -> Way
+    ensures { IsWayOf (flavor_of options.flavor) options.strictness bytes.now result }
+{
+    let is_strict = matches!(options.strictness, Strictness::Strict);
+    if is_strict && bytes.len() <= FEW_STRICT || has_few_others(bytes) {
+        return Way::Characters;
+    }
+    if bytes.len() <= SHORT_WINDOW {
+        return Way::ShortWindow;
+    }
+    if bytes.len() <= MEDIUM_WINDOW {
+        return Way::MediumWindow;
+    }
+    if is_strict && is_damaged_in_front(options.flavor, bytes) {
+        return Way::Refused;
+    }
+    if bytes.len() <= LONG_WINDOW {
+        return Way::LongWindow;
+    }
+    Way::Pieces
+}
+
+/// Returns whether so few bytes, of which hardly any are not ASCII, are decoded before they are tested
+/// for UTF-8.
+#[inline(always)]
+pub fn comes_before_tests(bytes: &[u8]) -> bool
+    ensures { IsTrue result → length bytes.now < TESTED_BY_VECTORS }
+{
+    bytes.len() < TESTED_BY_VECTORS && has_few_others(bytes)
+}
+
+/// Returns whether few enough of few bytes are other than 01 to 7F.
+#[inline(always)]
+fn has_few_others(bytes: &[u8]) -> bool
+    ensures { IsTrue result → length bytes.now ≤ SHORT_WINDOW }
+{
+    let len = bytes.len();
+    if len <= OTHERS {
+        return true;
+    }
+    if len <= 16 {
+        return count_in_ends::<NullHigh, 8>(bytes) <= OTHERS;
+    }
+    if len <= FEW_STRICT {
+        return count_in_ends::<NullHigh, 16>(bytes) <= OTHERS;
+    }
+    if len <= 32 {
+        return count_in_ends::<NullHigh, 16>(bytes) <= FEWER_OTHERS;
+    }
+    if len <= 64 {
+        return count_in_ends::<NullHigh, 32>(bytes) <= FEWER_OTHERS;
+    }
+    len <= SHORT_WINDOW && count_in_ends::<NullHigh, 64>(bytes) <= FEWER_OTHERS
+}
