@@ -61,6 +61,17 @@ copy_tree() {
         -c commit.gpgsign=false -c core.hooksPath=/dev/null commit -q -m 'Release') || exit 2
 }
 
+# Names the files of the archive that differ.
+name_differences() {
+    local build
+    for build in first second; do
+        mkdir "$scratch/files_of_$build"
+        tar xzf "$scratch/$build/$name.tar.gz" -C "$scratch/files_of_$build"
+    done
+    diff -r "$scratch/files_of_first" "$scratch/files_of_second"
+    diff <(tar tvzf "$scratch/first/$name.tar.gz") <(tar tvzf "$scratch/second/$name.tar.gz")
+}
+
 # Builds twice, in folders of two names. The program is the same.
 build_twice() {
     build
@@ -70,7 +81,10 @@ build_twice() {
     quietly bash "$scratch/tree/dist.sh" "$scratch/first" || exit 1
     mv "$scratch/tree" "$scratch/a_tree_of_another_name" || exit 2
     quietly bash "$scratch/a_tree_of_another_name/dist.sh" "$scratch/second" || exit 1
-    diff -r "$scratch/first" "$scratch/second" || wrong 'two builds differ'
+    if ! diff -r "$scratch/first" "$scratch/second"; then
+        wrong 'two builds differ'
+        name_differences
+    fi
     (cd "$scratch/first" && quietly sha256sum -c SHA256SUMS) || wrong 'the sums do not fit'
     diff <(cd "$scratch/first" && find . -type f ! -name SHA256SUMS -printf '%P\n' | sort) \
         <(sed 's/^[0-9a-f]*  //' "$scratch/first/SHA256SUMS" | sort) ||
