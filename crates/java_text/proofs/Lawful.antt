@@ -90,9 +90,10 @@ rest_is_read_law one_form bytes texts rest so_far all = (
 -- so where no form begins the rest, nothing follows
 pub none_follows_law : OneForm → NoneFollows
 none_follows_law one_form bytes texts rest so_far none all =
-    let read_so = rest_is_read_law one_form bytes texts rest so_far all in
-    ((λ read. let found = read_so.0 read in by found.0 found.1 found.2),
-    (λ ends. read_so.1 ([], ends.0 ∙ sym (append-nil texts), ends.1)))
+    let read_so = rest_is_read_law one_form bytes texts rest so_far all in (
+      (λ read. let found = read_so.0 read in by found.0 found.1 found.2),
+      (λ ends. read_so.1 ([], ends.0 ∙ sym (append-nil texts), ends.1)),
+    )
   where
     by : (more : List (List ℕ)) → all ≡ texts ++ more → AreReadInTurn rest more → (all ≡ texts) × (rest ≡ [])
     by [] same read = (same ∙ append-nil texts, read)
