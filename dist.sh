@@ -174,4 +174,4 @@ make_more dpkg-deb 'the Debian packages' "$top/packages.sh"
 make_more python3 'the wheel' "$top/python/wheel.py"
 
 (cd "$folder" && sha256sum "${made[@]}" >SHA256SUMS)
-printf "$folder/%s\n" "${made[@]}"
+printf '%s\n' "${made[@]/#/$folder/}"

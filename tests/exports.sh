@@ -98,7 +98,7 @@ run_chooser() {
 # The library for the lower level, which stays in out/ for tests/dist.sh.
 build_library() {
     echo 'building the static library'
-    if ! (cd "$crate" && quietly rt lib --jobs 1); then
+    if ! (cd "$crate" && quietly rt lib ${PROOF_JOBS:+--jobs "$PROOF_JOBS"}); then
         echo 'the static library was not built' >&2
         exit 2
     fi
