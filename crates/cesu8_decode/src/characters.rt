@@ -23,8 +23,8 @@ use cesu8_bytes::writers::put;
 /// U+FFFD, which replaces a damaged byte.
 const REPLACEMENT: [u8; WIDEST] = [0xEF, 0xBF, 0xBD];
 
-/// Writes the characters of the bytes, and U+FFFD for each damaged byte. Strict reading stops behind
-/// the first of these.
+/// Writes the characters of the bytes, and U+FFFD for each damaged byte. Strict reading stops
+/// behind the first of these.
 #[inline(always)]
 pub fn write_characters(options: DecodeOptions, bytes: &[u8], out: &mut [u8]) -> Decoded
     requires { WIDEST * length bytes.now ≤ length out.old }
