@@ -23,8 +23,8 @@
 //! the test for UTF-8 goes byte by byte.
 //!
 //! Other lengths in this crate decide no way: `piece` joins no window of few bytes and lengthens a
-//! short text before its test for UTF-8, `characters` tests the last bytes for a pair one by one,
-//! and `sums` pads the last block. Before the decoder, `cesu8_bytes` takes the first looks.
+//! short text before its test for UTF-8, `characters` pads the last bytes, and `sums` the last
+//! block. Before the decoder, `cesu8_bytes` takes the first looks.
 
 ghost use Rattle.std.specs.Prelude.{◌<◌, ◌≤◌, length, IsTrue};
 ghost use Rattle.cesu8_bytes.specs.Internal.{flavor_of};
@@ -93,6 +93,14 @@ pub fn way_of(options: DecodeOptions, bytes: &[u8]) -> Way
         return Way::LongWindow;
     }
     Way::Pieces
+}
+
+/// Returns whether the smaller buffer is enough for the bytes.
+#[inline(always)]
+pub fn are_fewest(bytes: &[u8]) -> bool
+    ensures { IsTrue result → length bytes.now ≤ FEWEST }
+{
+    bytes.len() <= FEWEST
 }
 
 /// Returns whether so few bytes, of which hardly any are not ASCII, are decoded before they are
