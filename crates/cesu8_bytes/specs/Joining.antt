@@ -1,6 +1,6 @@
 -- Bytes that are joined: their surrogate pairs, and C0 80 in MUTF-8, become UTF-8, and the others
 -- stay.
-use Rattle.std.specs.Prelude.{◌≡◌, ℕ, ◌+◌, ◌*◌, ◌<◌, ◌&&◌, ◌||◌, ◌==◌, Bool, false, List, [], ◌∷◌, slice_index, ◌≤◌, bit_and, ◌++◌, length, replicate}
+use Rattle.std.specs.Prelude.{◌≡◌, ℕ, ◌+◌, ◌*◌, ◌<◌, ◌&&◌, ◌==◌, Bool, false, List, [], ◌∷◌, slice_index, ◌≤◌, ◌++◌, length, replicate}
 use Rattle.std.specs.List.{flat_map}
 use Rattle.cesu8_text.specs.Encoding.{Flavor, Cesu8, Mutf8, encoding, IsEncodedOtherwise}
 use Rattle.cesu8_text.specs.Text.{IsScalarValue, utf8_of}

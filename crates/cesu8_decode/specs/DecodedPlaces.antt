@@ -10,6 +10,10 @@ use Rattle.cesu8_bytes.specs.Joining.{null_at}
 abbrev pub front_width : Flavor → List ℕ → ℕ
 front_width f bytes = width_of f (standing f bytes)
 
+-- The first eight bytes. Zeros follow the last.
+abbrev pub IsFrontOf : List ℕ → List ℕ → Type 0
+IsFrontOf bytes front = (i : ℕ) → i < 8 → slice_index front i ≡ slice_index bytes i
+
 -- Tests of the first six bytes. A continuation byte:
 abbrev pub continues : ℕ → Bool
 continues b = nat_le 0x80 b && nat_lt b 0xC0

@@ -2,9 +2,8 @@
 
 ghost use Rattle.std.specs.Prelude.{◌≡◌, ◌+◌, ◌*◌, ◌<◌, ℕ, ◌≤◌, ◌++◌, length, take, drop, slice_index, false, true};
 ghost use Rattle.cesu8_text.specs.Reading.{NoneBegins};
-ghost use Rattle.cesu8_decode.specs.DecodedPlaces.{one_at};
+ghost use Rattle.cesu8_decode.specs.DecodedPlaces.{one_at, IsFrontOf};
 ghost use Rattle.cesu8_bytes.specs.Internal.{flavor_of};
-ghost use Rattle.cesu8_bytes.specs.Joining.{AreJoinedDigits, second_third_fifth_sixth};
 ghost use Rattle.cesu8_bytes.specs.Pieces.{IsReadSoFar};
 ghost use Rattle.cesu8_decode.specs.Decoding.{ReadsAll};
 ghost use Rattle.cesu8_bytes.specs.declared.options.Strictness.{Strictness};
@@ -15,16 +14,18 @@ use super::refusal::is_refused;
 use super::widths::width;
 use super::windows::Decoded;
 use cesu8_bytes::implementation::class::{High, NullHigh};
+use cesu8_bytes::implementation::short::copy_short;
 use cesu8_bytes::joining::{PAIR, PAIR_READ, is_pair, utf8_of_pair};
 use cesu8_bytes::options::{DecodeOptions, Flavor};
 use cesu8_bytes::runs::copy_run;
 use cesu8_bytes::writers::put;
+use std::simd::prelude::*;
 
 /// U+FFFD, which replaces a damaged byte.
 const REPLACEMENT: [u8; WIDEST] = [0xEF, 0xBF, 0xBD];
 
-/// Writes the characters of the bytes, and U+FFFD for each damaged byte. Strict reading stops behind
-/// the first of these.
+/// Writes the characters of the bytes, and U+FFFD for each damaged byte. Strict reading stops
+/// behind the first of these.
 #[inline(always)]
 pub fn write_characters(options: DecodeOptions, bytes: &[u8], out: &mut [u8]) -> Decoded
     requires { WIDEST * length bytes.now ≤ length out.old }
@@ -111,14 +112,15 @@ fn write_character(flavor: Flavor, bytes: &[u8], out: &mut [u8], end: usize) -> 
         (drop result.read bytes.now) (take end out.old) (take result.end out.new) }
     ensures len { length out.new ≡ length out.old }
 {
-    if bytes.len() >= PAIR_READ && is_pair(bytes) {
+    let front = front_of(bytes);
+    if is_pair(&front) {
         return Decoded {
             read: PAIR,
-            end: put(&utf8_of_pair(bytes), out, end),
+            end: put(&utf8_of_pair(&front), out, end),
             is_damaged: false,
         };
     }
-    let read = width(flavor, bytes);
+    let read = width(flavor, bytes, &front);
     if read == 0 {
         return Decoded {
             read: 1,
@@ -130,8 +132,7 @@ fn write_character(flavor: Flavor, bytes: &[u8], out: &mut [u8], end: usize) -> 
         1 => put(&bytes[..1], out, end),
         2 if bytes[0] == 0xC0 => put(&[0], out, end),
         2 => put(&bytes[..2], out, end),
-        3 => put(&bytes[..3], out, end),
-        _ => put(&utf8_of_last_pair(bytes), out, end),
+        _ => put(&bytes[..3], out, end),
     };
     Decoded {
         read,
@@ -140,17 +141,15 @@ fn write_character(flavor: Flavor, bytes: &[u8], out: &mut [u8], end: usize) -> 
     }
 }
 
-/// Returns the UTF-8 of the surrogate pair that begins the bytes.
+/// Returns the first eight bytes, with zeros after the last.
 #[inline(always)]
-fn utf8_of_last_pair(bytes: &[u8]) -> [u8; 4]
-    requires { 6 ≤ length bytes.now }
-    ensures { AreJoinedDigits (second_third_fifth_sixth bytes.now) result }
+fn front_of(bytes: &[u8]) -> [u8; PAIR_READ]
+    ensures { IsFrontOf bytes.now result }
 {
-    let plane = bytes[1] % 0x10 + 1;
-    [
-        0xF0 + plane / 4,
-        0x80 + plane % 4 * 0x10 + bytes[2] / 4 % 0x10,
-        0x80 + bytes[2] % 4 * 0x10 + bytes[4] % 0x10,
-        bytes[5],
-    ]
+    if bytes.len() >= 8 {
+        return u8x8::from_slice(bytes).to_array();
+    }
+    let mut front = [0; PAIR_READ];
+    copy_short(bytes, &mut front);
+    front
 }

@@ -20,7 +20,7 @@ use crate::lengths::lossy_len;
 use crate::packing::WIDEST;
 use crate::piece::{next_piece, write_by_places};
 use crate::refusal::{Unwritten, is_refused};
-use crate::way::{FEWEST, SHORT_WINDOW, Way, way_of};
+use crate::way::{FEWEST, SHORT_WINDOW, Way, are_fewest, way_of};
 use crate::windows::{
     AROUND, Decoded, LEAST, LONG_ROOM, LONG_TEXT, MEDIUM_ROOM, MEDIUM_TEXT, SHORT_ROOM, SHORT_TEXT,
     SPARED,
@@ -63,7 +63,7 @@ pub fn put_characters(
         (IsReadingOf (flavor_of options.flavor) options.strictness bytes.now)
         result buf.old buf.new }
 {
-    if bytes.len() <= FEWEST {
+    if are_fewest(bytes) {
         return put_characters_in::<FEWEST_TEXT>(options, bytes, buf);
     }
     put_characters_in::<CHARACTERS_TEXT>(options, bytes, buf)

@@ -98,8 +98,8 @@ fn append_pieces<A: Allocator>(
     Ok(())
 }
 
-/// Requests memory for the text of all pieces, if the caller has not done so. A length that does not
-/// fit counts as refused.
+/// Requests memory for the text of all pieces, if the caller has not done so. A length that does
+/// not fit counts as refused.
 fn request<A: Allocator>(
     options: DecodeOptions,
     bytes: &[u8],
@@ -117,8 +117,8 @@ fn request<A: Allocator>(
     }
 }
 
-/// Appends a piece of text, unless damage in it is refused. It requests memory for exactly this piece,
-/// if there is none yet.
+/// Appends a piece of text, unless damage in it is refused. It requests memory for exactly this
+/// piece, if there is none yet.
 #[inline(always)]
 fn append_piece<A: Allocator>(
     options: DecodeOptions,

@@ -14,14 +14,17 @@
 //!
 //! - `Characters`: one character after another. A branch on a byte costs little while few bytes are
 //!   not ASCII. Strict reading stops at the first damage, so a few bytes more are worth it.
-//! - The windows: 32 bytes at a time with no branch on a byte, in buffers on the stack. Smaller ones
-//!   are made in less time.
+//! - The windows: 32 bytes at a time with no branch on a byte, in buffers on the stack. Smaller
+//!   ones are made in less time.
 //! - `Pieces`: joined windows of text that is not damaged, and windows by places after damage.
 //! - `Refused`: most input that is no encoding is damaged early.
 //!
+//! A call on a slice takes `Characters` before it tests the bytes at all, below 64 of them, where
+//! the test for UTF-8 goes byte by byte.
+//!
 //! Other lengths in this crate decide no way: `piece` joins no window of few bytes and lengthens a
-//! short text before its test for UTF-8, `characters` tests the last bytes for a pair one by one, and
-//! `sums` pads the last block. Before the decoder, `cesu8_bytes` takes the first looks.
+//! short text before its test for UTF-8, `characters` pads the last bytes, and `sums` the last
+//! block. Before the decoder, `cesu8_bytes` takes the first looks.
 
 ghost use Rattle.std.specs.Prelude.{◌<◌, ◌≤◌, length, IsTrue};
 ghost use Rattle.cesu8_bytes.specs.Internal.{flavor_of};
@@ -58,8 +61,8 @@ pub const FEWEST: usize = 32;
 /// So few bytes are read one character after another in strict reading, whatever they are.
 const FEW_STRICT: usize = 24;
 
-/// So many of 24 bytes may be other than 01 to 7F. In lossy reading each may be damaged, and then it
-/// is a step.
+/// So many of 24 bytes may be other than 01 to 7F. In lossy reading each may be damaged, and then
+/// it is a step.
 const OTHERS: usize = 12;
 
 /// Of more bytes so many may be, as many as a surrogate pair has.
@@ -92,8 +95,16 @@ pub fn way_of(options: DecodeOptions, bytes: &[u8]) -> Way
     Way::Pieces
 }
 
-/// Returns whether so few bytes, of which hardly any are not ASCII, are decoded before they are tested
-/// for UTF-8.
+/// Returns whether the smaller buffer is enough for the bytes.
+#[inline(always)]
+pub fn are_fewest(bytes: &[u8]) -> bool
+    ensures { IsTrue result → length bytes.now ≤ FEWEST }
+{
+    bytes.len() <= FEWEST
+}
+
+/// Returns whether so few bytes, of which hardly any are not ASCII, are decoded before they are
+/// tested for UTF-8.
 #[inline(always)]
 pub fn comes_before_tests(bytes: &[u8]) -> bool
     ensures { IsTrue result → length bytes.now < TESTED_BY_VECTORS }

@@ -1,46 +1,37 @@
-//! How many bytes the character has that begins some bytes, by tests of the first six.
+//! How many bytes the character has that begins some bytes, by tests of the first three.
 
-ghost use Rattle.std.specs.Prelude.{◌≡◌, ◌<◌, ◌≤◌, ◌⊎◌, length, slice_index};
-ghost use Rattle.cesu8_decode.specs.DecodedPlaces.{front_width, continues, one_at, two_at, fits_three, three_at, pair_at};
-ghost use Rattle.cesu8_bytes.specs.Joining.{null_at};
+ghost use Rattle.std.specs.Prelude.{◌≡◌, ◌<◌, ◌≤◌, length};
+ghost use Rattle.cesu8_decode.specs.DecodedPlaces.{front_width, IsFrontOf, continues, one_at, two_at, fits_three, three_at};
+ghost use Rattle.cesu8_bytes.specs.Joining.{null_at, HasPair};
 ghost use Rattle.cesu8_bytes.specs.Internal.{flavor_of};
 
+use cesu8_bytes::joining::PAIR_READ;
 use cesu8_bytes::options::Flavor;
 
-/// Returns how many bytes the character has that begins the bytes, or 0.
+/// Returns how many bytes the character has that begins the bytes, or 0. It is no surrogate pair. The
+/// front has the first bytes, with zeros after the last, so no length is tested.
 #[inline(always)]
-pub fn width(flavor: Flavor, bytes: &[u8]) -> usize
-    requires { 0 < length bytes.now }
+pub fn width(flavor: Flavor, bytes: &[u8], front: &[u8; PAIR_READ]) -> usize
+    requires some { 0 < length bytes.now }
+    requires front { IsFrontOf bytes.now front.now }
+    requires no_pair { ¬ (HasPair front.now) }
     ensures width { result ≡ front_width (flavor_of flavor) bytes.now }
     ensures within { result ≤ length bytes.now }
-    ensures known { (result ≤ 3) ⊎ (result ≡ 6) }
+    ensures small { result ≤ 3 }
 {
     let first = bytes[0];
+    let second = front[1];
+    let third = front[2];
     if is_one(flavor, first) {
         return 1;
     }
-    if bytes.len() < 2 {
-        return 0;
-    }
-    let second = bytes[1];
     if is_null(flavor, first, second) || is_two(first, second) {
         return 2;
     }
-    if bytes.len() < 3 {
-        return 0;
-    }
-    let third = bytes[2];
     if is_three(first, second, third) {
         return 3;
     }
-    if bytes.len() < 6 {
-        return 0;
-    }
-    if is_last_pair(first, second, third, [bytes[3], bytes[4], bytes[5]]) {
-        6
-    } else {
-        0
-    }
+    0
 }
 
 /// Returns whether a byte is a character of one byte.
@@ -95,23 +86,6 @@ fn fits_three(first: u8, second: u8) -> bool
         0xED => second < 0xA0,
         _ => true,
     }
-}
-
-/// Returns whether six bytes are a surrogate pair.
-#[inline(always)]
-fn is_last_pair(first: u8, second: u8, third: u8, low: [u8; 3]) -> bool
-    ensures { result ≡ pair_at first second third
-        (slice_index low 0) (slice_index low 1) (slice_index low 2) }
-{
-    let [fourth, fifth, sixth] = low;
-    first == 0xED
-        && 0xA0 <= second
-        && second < 0xB0
-        && continues(third)
-        && fourth == 0xED
-        && 0xB0 <= fifth
-        && fifth < 0xC0
-        && continues(sixth)
 }
 
 /// Returns whether a byte is a continuation byte.

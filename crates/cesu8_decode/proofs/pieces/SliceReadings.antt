@@ -25,7 +25,7 @@ use Rattle.cesu8_text.proofs.encoding.Lengths.{length_bounds}
 use Rattle.cesu8_text.proofs.reading.EncodedTexts.{reading_encoding}
 use Rattle.cesu8_text.proofs.reading.Borrowing.{unchanged_reading}
 use Rattle.cesu8_text.proofs.reading.LossyBorrowing.{unchanged_lossy}
-use Rattle.cesu8_decode.proofs.pieces.ReadPieces.{piece_utf8, whole_text, piece_unless_refused, none_if_refused}
+use Rattle.cesu8_decode.proofs.pieces.ReadPieces.{piece_utf8, whole_text, piece_unless_refused}
 
 -- ---- the only text
 

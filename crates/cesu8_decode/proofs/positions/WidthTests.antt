@@ -1,15 +1,15 @@
 -- How wide the character is that begins bytes, by tests of the first six of them.
-use Rattle.std.proofs.Common.{◌≡◌, ℕ, ◌<◌, ◌≤◌, ⊎_elim, true, false, ◌&&◌, eqb, leb, ltb, List, refl, ◌∙◌, arith, length, get_or}
+use Rattle.std.proofs.Common.{◌≡◌, ℕ, ◌<◌, ◌≤◌, ⊎_elim, true, false, ◌&&◌, eqb, leb, ltb, List, [], ◌∷◌, refl, sym, ◌∙◌, arith, length, get_or}
 use Rattle.std.proofs.lemmas.Bool.{and_parts, and_from, eqb-true, leb-true, ltb-true, eq-eqb, le-leb, lt-ltb, ne_eqb, cases_eq, cases_lt, cases_Bool, both_ways}
 use Rattle.std.proofs.lemmas.List.{get_or_past}
 use Rattle.cesu8_text.specs.Encoding.{Flavor, Cesu8, Mutf8}
 use Rattle.cesu8_text.specs.Patterns.{IsContinuation}
-use Rattle.cesu8_decode.specs.DecodedPlaces.{front_width, continues, one_at, two_at, fits_three, three_at, pair_at, front_width_by, width_at}
-use Rattle.cesu8_bytes.specs.Joining.{null_at}
+use Rattle.cesu8_decode.specs.DecodedPlaces.{front_width, continues, one_at, two_at, fits_three, three_at, pair_at, front_width_by, width_at, IsFrontOf}
+use Rattle.cesu8_bytes.specs.Joining.{null_at, HasPair, second_third_fifth_sixth}
 use Rattle.cesu8_text.proofs.encoding.Patterns.{Pattern, of_one, of_null, of_two, of_three, of_pair, pattern}
 use Rattle.cesu8_text.proofs.encoding.Found.{BeginsInLengths, found_one, found_null, found_two, found_three, found_pair}
 use Rattle.cesu8_text.proofs.encoding.Forms.{short_form_other}
-use Rattle.cesu8_decode.proofs.positions.FrontWidths.{width_of_front, width_of_none, width_fits}
+use Rattle.cesu8_decode.proofs.positions.FrontWidths.{width_of_front, width_of_none}
 
 -- bytes are as long as their last byte that is not 0
 long_by : (bytes : List ℕ) (i : ℕ) → 0 < get_or bytes i 0 → i < length bytes
@@ -72,27 +72,35 @@ three_found f bytes t =
     by_found f bytes 3 3 (found_three f bytes (omega arith) (leb-true 0xE0 a h.0) (ltb-true a 0xF0 h2.0)
     (continuation b h3.0) last (fits_low a b h4.1) (fits_high a b h4.1))
 
+-- bytes that pass the test of a pair begin with one
+pair_of_test : (bytes : List ℕ) →
+    pair_at (get_or bytes 0 0) (get_or bytes 1 0) (get_or bytes 2 0) (get_or bytes 3 0) (get_or bytes 4 0) (get_or bytes 5 0) ≡ true → HasPair bytes
+pair_of_test bytes t =
+    let h0 = and_parts (eqb (get_or bytes 0 0) 0xED) _ t in
+    let h1 = and_parts (leb 0xA0 (get_or bytes 1 0)) _ h0.1 in
+    let h2 = and_parts (ltb (get_or bytes 1 0) 0xB0) _ h1.1 in
+    let h3 = and_parts (continues (get_or bytes 2 0)) _ h2.1 in
+    let h4 = and_parts (eqb (get_or bytes 3 0) 0xED) _ h3.1 in
+    let h5 = and_parts (leb 0xB0 (get_or bytes 4 0)) _ h4.1 in
+    let h6 = and_parts (ltb (get_or bytes 4 0) 0xC0) (continues (get_or bytes 5 0)) h5.1 in
+    record {
+      lead = eqb-true (get_or bytes 0 0) 0xED h0.0;
+      high = (leb-true 0xA0 (get_or bytes 1 0) h1.0, ltb-true (get_or bytes 1 0) 0xB0 h2.0);
+      ends = (
+        continuation (get_or bytes 2 0) h3.0,
+        eqb-true (get_or bytes 3 0) 0xED h4.0,
+        (leb-true 0xB0 (get_or bytes 4 0) h5.0, ltb-true (get_or bytes 4 0) 0xC0 h6.0),
+        continuation (get_or bytes 5 0) h6.1,
+      );
+    }
+
 pub pair_found : (f : Flavor) (bytes : List ℕ) →
     pair_at (get_or bytes 0 0) (get_or bytes 1 0) (get_or bytes 2 0) (get_or bytes 3 0) (get_or bytes 4 0) (get_or bytes 5 0) ≡ true →
     front_width f bytes ≡ 6
 pair_found f bytes t =
-    let a = get_or bytes 0 0 in
-    let b = get_or bytes 1 0 in
-    let d = get_or bytes 2 0 in
-    let e = get_or bytes 3 0 in
-    let g = get_or bytes 4 0 in
-    let h = get_or bytes 5 0 in
-    let h0 = and_parts (eqb a 0xED) _ t in
-    let h1 = and_parts (leb 0xA0 b) _ h0.1 in
-    let h2 = and_parts (ltb b 0xB0) _ h1.1 in
-    let h3 = and_parts (continues d) _ h2.1 in
-    let h4 = and_parts (eqb e 0xED) _ h3.1 in
-    let h5 = and_parts (leb 0xB0 g) _ h4.1 in
-    let h6 = and_parts (ltb g 0xC0) (continues h) h5.1 in
-    let last = continuation h h6.1 in
-    let long = long_by bytes 5 (omega (arith, last.0)) in
-    by_found f bytes 6 4 (found_pair f bytes (omega arith) (eqb-true a 0xED h0.0) (leb-true 0xA0 b h1.0) (ltb-true b 0xB0 h2.0)
-    (continuation d h3.0, eqb-true e 0xED h4.0, (leb-true 0xB0 g h5.0, ltb-true g 0xC0 h6.0), last))
+    let pair = pair_of_test bytes t in
+    let long = long_by bytes 5 (omega (arith, pair.ends.3.0)) in
+    by_found f bytes 6 4 (found_pair f bytes (omega arith) pair.lead pair.high.0 pair.high.1 pair.ends)
 
 -- ---- each character passes a test
 
@@ -171,29 +179,13 @@ pub none_found : (f : Flavor) (bytes : List ℕ) →
     front_width f bytes ≡ 0
 none_found f bytes fail = width_of_none f bytes (λ c rest begins. no_pattern f bytes c fail (pattern f bytes c rest begins))
 
--- ---- too few bytes
+-- ---- fronts
 
--- One byte is null in no flavor,
-pub no_null : (f : Flavor) (bytes : List ℕ) → length bytes ≤ 1 → null_at f (get_or bytes 0 0) (get_or bytes 1 0) ≡ false
-no_null f bytes few =
-    ⊎_elim (λ t. absurd (omega (arith, null_found f bytes t, width_fits f bytes))) (λ none. none) (cases_Bool (null_at f (get_or bytes 0 0) (get_or bytes 1 0)))
-
--- nor another character of two bytes,
-pub no_two : (f : Flavor) (bytes : List ℕ) → length bytes ≤ 1 → two_at (get_or bytes 0 0) (get_or bytes 1 0) ≡ false
-no_two f bytes few =
-    ⊎_elim (λ t. absurd (omega (arith, two_found f bytes t, width_fits f bytes))) (λ none. none) (cases_Bool (two_at (get_or bytes 0 0) (get_or bytes 1 0)))
-
--- two bytes are none of three,
-pub no_three : (f : Flavor) (bytes : List ℕ) → length bytes ≤ 2 → three_at (get_or bytes 0 0) (get_or bytes 1 0) (get_or bytes 2 0) ≡ false
-no_three f bytes few =
-    ⊎_elim (λ t. absurd (omega (arith, three_found f bytes t, width_fits f bytes))) (λ none. none)
-    (cases_Bool (three_at (get_or bytes 0 0) (get_or bytes 1 0) (get_or bytes 2 0)))
-
--- and five are no surrogate pair.
-pub no_pair : (f : Flavor) (bytes : List ℕ) → length bytes ≤ 5 →
+-- Bytes without a pair fail its test.
+pub no_pair : (bytes : List ℕ) → ¬ (HasPair bytes) →
     pair_at (get_or bytes 0 0) (get_or bytes 1 0) (get_or bytes 2 0) (get_or bytes 3 0) (get_or bytes 4 0) (get_or bytes 5 0) ≡ false
-no_pair f bytes few =
-    ⊎_elim (λ t. absurd (omega (arith, pair_found f bytes t, width_fits f bytes))) (λ none. none)
+no_pair bytes none =
+    ⊎_elim (λ t. absurd (none (pair_of_test bytes t))) (λ fails. fails)
     (cases_Bool (pair_at (get_or bytes 0 0) (get_or bytes 1 0) (get_or bytes 2 0) (get_or bytes 3 0) (get_or bytes 4 0) (get_or bytes 5 0)))
 
 -- the first test that passes
@@ -221,3 +213,19 @@ width_by_six f bytes some =
     by_tests f (get_or bytes 0 0) (get_or bytes 1 0) (get_or bytes 2 0) (get_or bytes 3 0) (get_or bytes 4 0) (get_or bytes 5 0) (front_width f bytes)
     (one_found f bytes some) (null_found f bytes) (two_found f bytes) (three_found f bytes) (pair_found f bytes)
     (none_found f bytes)
+
+-- A pair in the front of bytes is one of theirs,
+module _ (bytes front : List ℕ) (same : IsFrontOf bytes front) where
+  pub pair_by_front : HasPair front → (6 ≤ length bytes) × HasPair bytes
+  pair_by_front pair =
+      let theirs : HasPair bytes = record {
+        lead = sym (same 0 (omega arith)) ∙ pair.lead;
+        high = rw (sym (same 1 (omega arith))) pair.high;
+        ends = rw (sym (same 2 (omega arith)), sym (same 3 (omega arith)), sym (same 4 (omega arith)), sym (same 5 (omega arith))) pair.ends;
+      } in
+      (omega (arith, long_by bytes 5 (omega (arith, theirs.ends.3.0))), theirs)
+
+  -- and has their digits.
+  pub same_digits : second_third_fifth_sixth front ≡ second_third_fifth_sixth bytes
+  same_digits i =
+      same 1 (omega arith) i ∷ same 2 (omega arith) i ∷ same 4 (omega arith) i ∷ same 5 (omega arith) i ∷ []

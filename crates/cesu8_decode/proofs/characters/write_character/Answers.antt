@@ -1,6 +1,7 @@
-use Rattle.std.proofs.Common.{◌≡◌, ◌≤◌, ⊎_elim, arith, sym, ◌∙◌}
+use Rattle.std.proofs.Common.{◌≡◌, arith, sym, ◌∙◌}
 use Rattle.cesu8_bytes.specs.Internal.{flavor_of}
 use Rattle.cesu8_decode.proofs.pieces.Characters.{kept_read, null_read, pair_read, pair_width, none_of_width, replaced_read}
+use Rattle.cesu8_decode.proofs.positions.WidthTests.{pair_by_front, same_digits}
 use Rattle.cesu8_decode.proofs.characters.write_character.Goals as goal
 
 pub returns-then-read-eq0-clause-damaged : goal.returns-then-read-eq0-clause-damaged
@@ -28,20 +29,22 @@ returns-in-2-2-clause-character c whole which =
     rw c.in-2.is (kept_read (flavor_of c.args.flavor) which c.args.bytes.now _ _ 2 (sym c.width-read.ensures.width ∙ c.in-2.is) (omega arith) (omega arith)
     (λ two. c.if-bytes.false) c.put-end-in-2-2.ensures.bytes)
 
-pub returns-in-3-clause-character : goal.returns-in-3-clause-character
-returns-in-3-clause-character c whole which =
-    rw c.in-3.is (kept_read (flavor_of c.args.flavor) which c.args.bytes.now _ _ 3 (sym c.width-read.ensures.width ∙ c.in-3.is) (omega arith) (omega arith)
-    (λ two lead. omega arith) c.put-end-in-3.ensures.bytes)
-
 pub returns-in_default-clause-character : goal.returns-in_default-clause-character
 returns-in_default-clause-character c whole which =
-    let six : c.width-read.result ≡ 6 = ⊎_elim (λ (small : c.width-read.result ≤ 3). absurd (omega arith)) (λ e. e) c.width-read.ensures.known in
-    rw six (pair_read (flavor_of c.args.flavor) which c.args.bytes.now _ _ _ (sym c.width-read.ensures.width ∙ six)
-    c.utf8_of_last_pair.ensures c.put-end-in_default.ensures.bytes)
+    let three : c.width-read.result ≡ 3 = omega (arith, c.width-read.ensures.small) in
+    rw three (kept_read (flavor_of c.args.flavor) which c.args.bytes.now _ _ 3 (sym c.width-read.ensures.width ∙ three) (omega arith) (omega arith)
+    (λ two lead. omega arith) c.put-end-in_default.ensures.bytes)
+
+pub returns-then-is_pair-clause-within : goal.returns-then-is_pair-clause-within
+returns-then-is_pair-clause-within c =
+    let pair = pair_by_front c.args.bytes.now c.front_of-front.result c.front_of-front.ensures (c.is_pair.ensures.0 c.if-is_pair.true) in
+    (omega arith, pair.0, omega (arith, c.put.ensures.end))
 
 pub returns-then-is_pair-clause-character : goal.returns-then-is_pair-clause-character
 returns-then-is_pair-clause-character c whole which =
     let f = flavor_of c.args.flavor in
     let bytes = c.args.bytes.now in
-    pair_read f which bytes _ _ _ (pair_width f bytes (omega arith) (c.is_pair.ensures.0 c.if-is_pair.true))
-    c.utf8_of_pair.ensures c.put.ensures.bytes
+    let front = c.front_of-front.result in
+    let pair = pair_by_front bytes front c.front_of-front.ensures (c.is_pair.ensures.0 c.if-is_pair.true) in
+    pair_read f which bytes _ _ _ (pair_width f bytes pair.0 pair.1)
+    (rw (sym (same_digits bytes front c.front_of-front.ensures)) c.utf8_of_pair.ensures) c.put.ensures.bytes

@@ -1,7 +1,6 @@
-use Rattle.std.proofs.Common.{[], arith, ◌∙◌, sym, refl, length, length-drop, drop}
+use Rattle.std.proofs.Common.{[], arith, ◌∙◌, sym, refl, length-drop, drop}
 use Rattle.std.proofs.lemmas.List.{take_rest, drop-drop}
 use Rattle.cesu8_bytes.specs.Internal.{flavor_of}
-use Rattle.cesu8_bytes.specs.Pieces.{IsPiece}
 use Rattle.cesu8_bytes.specs.declared.options.Strictness.TheVariants.{Strict, Lossy}
 use Rattle.cesu8_decode.proofs.pieces.ReadPieces.{nothing_read}
 use Rattle.cesu8_decode.proofs.pieces.Characters.{more_lossy, more_strict, first_fault, read_some, read_all}

@@ -1,4 +1,4 @@
-use Rattle.std.proofs.Common.{◌∙◌, [], sym, ap, arith, length, ◌++◌, take, ◌+◌}
+use Rattle.std.proofs.Common.{◌∙◌, sym, ap, arith, length, ◌++◌, take, ◌+◌}
 use Rattle.std.proofs.lemmas.Bool.{eqb-true}
 use Rattle.std.proofs.lemmas.List.{take_rest}
 use Rattle.cesu8_bytes.specs.Internal.{flavor_of}

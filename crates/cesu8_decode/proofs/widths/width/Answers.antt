@@ -1,60 +1,67 @@
-use Rattle.std.proofs.Common.{arith, sym, ◌∙◌}
+use Rattle.std.proofs.Common.{ap, get_or, sym, ◌∙◌, arith}
 use Rattle.cesu8_bytes.specs.Internal.{flavor_of}
-use Rattle.cesu8_decode.proofs.positions.WidthTests.{one_found, null_found, two_found, three_found, pair_found, none_found, no_null, no_two, no_three, no_pair}
+use Rattle.cesu8_bytes.specs.Joining.{null_at}
+use Rattle.cesu8_decode.specs.DecodedPlaces.{two_at}
+use Rattle.cesu8_decode.proofs.positions.FrontWidths.{width_fits}
+use Rattle.cesu8_decode.proofs.positions.WidthTests.{one_found, null_found, two_found, three_found, none_found, no_pair}
 use Rattle.cesu8_decode.proofs.widths.width.Goals as goal
 use Rattle.cesu8_decode.proofs.widths.width.Goals.{then-is_null-via-then-is_null, then-is_null-via-else-is_null+then-is_two}
 
 pub returns-then-is_one-clause-width : goal.returns-then-is_one-clause-width
 returns-then-is_one-clause-width c =
-    sym (one_found (flavor_of c.args.flavor) c.args.bytes.now c.requires (sym c.is_one.ensures ∙ c.if-is_one.true))
+    sym (one_found (flavor_of c.args.flavor) c.args.bytes.now c.requires.some (sym c.is_one.ensures ∙ c.if-is_one.true))
 
 pub returns-then-is_null-clause-width : goal.returns-then-is_null-clause-width
 returns-then-is_null-clause-width c =
     let f = flavor_of c.args.flavor in
     let bytes = c.args.bytes.now in
+    let second = c.requires.front 1 (omega arith) in
     elim c.then-is_null.branch [
-      | then-is_null-via-then-is_null w ↦ sym (null_found f bytes (cc))
-      | then-is_null-via-else-is_null+then-is_two w ↦ sym (two_found f bytes (cc))
+      | then-is_null-via-then-is_null w ↦
+          sym (null_found f bytes (sym (ap (λ b. null_at f (get_or bytes 0 0) b) second) ∙ sym c.is_null.ensures ∙ w.if-is_null.true))
+      | then-is_null-via-else-is_null+then-is_two w ↦
+          sym (two_found f bytes (sym (ap (λ b. two_at (get_or bytes 0 0) b) second) ∙ sym w.is_two.ensures ∙ w.if-is_two.true))
+    ]
+
+pub returns-then-is_null-clause-within : goal.returns-then-is_null-clause-within
+returns-then-is_null-clause-within c =
+    let f = flavor_of c.args.flavor in
+    let bytes = c.args.bytes.now in
+    let second = c.requires.front 1 (omega arith) in
+    elim c.then-is_null.branch [
+      | then-is_null-via-then-is_null w ↦
+          omega (arith, width_fits f bytes, null_found f bytes (sym (ap (λ b. null_at f (get_or bytes 0 0) b) second) ∙ sym c.is_null.ensures ∙ w.if-is_null.true))
+      | then-is_null-via-else-is_null+then-is_two w ↦
+          omega (arith, width_fits f bytes, two_found f bytes (sym (ap (λ b. two_at (get_or bytes 0 0) b) second) ∙ sym w.is_two.ensures ∙ w.if-is_two.true))
     ]
 
 pub returns-then-is_three-clause-width : goal.returns-then-is_three-clause-width
 returns-then-is_three-clause-width c =
-    sym (three_found (flavor_of c.args.flavor) c.args.bytes.now (cc))
+    let bytes = c.args.bytes.now in
+    sym (three_found (flavor_of c.args.flavor) bytes
+    (rw (sym (c.requires.front 1 (omega arith)), sym (c.requires.front 2 (omega arith))) (sym c.is_three.ensures ∙ c.if-is_three.true)))
 
-pub returns-then-is_last_pair-clause-width : goal.returns-then-is_last_pair-clause-width
-returns-then-is_last_pair-clause-width c =
-    sym (pair_found (flavor_of c.args.flavor) c.args.bytes.now (cc))
-
-pub returns-else-is_last_pair-clause-width : goal.returns-else-is_last_pair-clause-width
-returns-else-is_last_pair-clause-width c =
-    sym (none_found (flavor_of c.args.flavor) c.args.bytes.now (record { one = cc; null = cc; two = cc; three = cc; pair = cc }))
-
-pub returns-then-bytes-lt2-clause-width : goal.returns-then-bytes-lt2-clause-width
-returns-then-bytes-lt2-clause-width c =
+pub returns-then-is_three-clause-within : goal.returns-then-is_three-clause-within
+returns-then-is_three-clause-within c =
     let f = flavor_of c.args.flavor in
     let bytes = c.args.bytes.now in
-    sym (none_found f bytes (record {
-      one = cc;
-      null = no_null f bytes (omega arith);
-      two = no_two f bytes (omega arith);
-      three = no_three f bytes (omega arith);
-      pair = no_pair f bytes (omega arith);
-    }))
+    omega (
+      arith,
+      width_fits f bytes,
+      three_found f bytes
+          (rw (sym (c.requires.front 1 (omega arith)), sym (c.requires.front 2 (omega arith))) (sym c.is_three.ensures ∙ c.if-is_three.true)),
+    )
 
-pub returns-then-bytes-lt3-clause-width : goal.returns-then-bytes-lt3-clause-width
-returns-then-bytes-lt3-clause-width c =
-    let f = flavor_of c.args.flavor in
+pub returns-clause-width : goal.returns-clause-width
+returns-clause-width c =
     let bytes = c.args.bytes.now in
-    sym (none_found f bytes (record {
-      one = cc;
-      null = cc;
-      two = cc;
-      three = no_three f bytes (omega arith);
-      pair = no_pair f bytes (omega arith);
-    }))
-
-pub returns-then-bytes-lt6-clause-width : goal.returns-then-bytes-lt6-clause-width
-returns-then-bytes-lt6-clause-width c =
-    let f = flavor_of c.args.flavor in
-    let bytes = c.args.bytes.now in
-    sym (none_found f bytes (record { one = cc; null = cc; two = cc; three = cc; pair = no_pair f bytes (omega arith) }))
+    let same = c.requires.front in
+    sym (none_found (flavor_of c.args.flavor) bytes
+    (rw (sym (same 1 (omega arith)), sym (same 2 (omega arith)), sym (same 3 (omega arith)), sym (same 4 (omega arith)), sym (same 5 (omega arith)))
+    (record {
+      one = sym c.is_one.ensures ∙ c.if-is_one.false;
+      null = sym c.is_null.ensures ∙ c.if-is_null.false;
+      two = sym c.is_two.ensures ∙ c.if-is_two.false;
+      three = sym c.is_three.ensures ∙ c.if-is_three.false;
+      pair = rw (sym (same 0 (omega arith))) (no_pair c.args.front.now c.requires.no_pair);
+    })))
