@@ -36,7 +36,12 @@ pub fn read_window<'a>(flavor: Flavor, bytes: &[u8], room: &'a mut Room) -> Opti
     ensures text { IfSome result (λ joined. (which : Strictness) → IsPiece (flavor_of flavor) which
         bytes.now (drop joined.read bytes.now) joined.text.now) }
 {
-    let step = join(flavor, bytes, MOST_JOINED.min(bytes.len() - MUST_FOLLOW), room);
+    let step = join(
+        flavor,
+        bytes,
+        MOST_JOINED.min(bytes.len() - MUST_FOLLOW),
+        room,
+    );
     let Step { read, written } = copy_end(bytes, step, room);
     if read == 0 {
         return None;
