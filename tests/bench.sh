@@ -5,18 +5,10 @@
 # In a clean clone it proves the libraries first. If there is no rustc that knows the edition 2024, it
 # says that it skipped all. The status is 0 if nothing is wrong. It needs the kit's `rt`, rustc, bash,
 # sed and the core utilities.
-set -u
-unset CDPATH
-export LC_ALL=C
-
-top=$(cd "$(dirname "${BASH_SOURCE[0]}")/.." && pwd) || exit 2
+# shellcheck source=tests/lib.sh
+source "$(dirname "${BASH_SOURCE[0]}")/lib.sh" || exit 2
 # shellcheck source=tests/kit.sh
 source "$top/tests/kit.sh" || exit 2
-scratch=$(mktemp -d) || exit 2
-trap 'rm -rf "$scratch"' EXIT
-
-# shellcheck source=tests/compilers.sh
-source "$top/tests/compilers.sh" || exit 2
 
 can_build_rust "bench's driver" || exit 0
 if quietly "$top/bench/run.sh" --rounds 1; then
@@ -24,4 +16,4 @@ if quietly "$top/bench/run.sh" --rounds 1; then
 else
     wrong "bench's driver does not build, or does not run"
 fi
-((wrong == 0))
+((failed == 0))

@@ -16,18 +16,14 @@
 # If pkg-config, CMake, c++, rustc, python3 or man is missing, it says what it skipped. If a tool that
 # dist.sh needs is missing, it skips everything. The status is 0 if nothing is wrong. It needs the
 # kit's `rt`, bash, awk, grep, sed, readelf and the core utilities.
-set -u
-unset CDPATH "${!GIT_@}"
-export LC_ALL=C
-
-top=$(cd "$(dirname "${BASH_SOURCE[0]}")/.." && pwd) || exit 2
+unset "${!GIT_@}"
+# shellcheck source=tests/lib.sh
+source "$(dirname "${BASH_SOURCE[0]}")/lib.sh" || exit 2
 # shellcheck source=tests/kit.sh
 source "$top/tests/kit.sh" || exit 2
 crate=$top/crates/cesu8_static
 kit=$(dirname "$(dirname "$(readlink -f "$(command -v rt)")")")
 identity=$(rt version) || exit 2
-scratch=$(mktemp -d) || exit 2
-trap 'rm -rf "$scratch"' EXIT
 
 version=$(<"$top/VERSION")
 major=${version%%.*}
@@ -35,10 +31,8 @@ name=cesu8-$version-x86_64-linux
 unpacked=$scratch/empty/$name
 shared=lib/libcesu8.so.$major
 
-# shellcheck source=tests/compilers.sh
-source "$top/tests/compilers.sh" || exit 2
-# shellcheck source=tests/program.sh
-source "$top/tests/program.sh" || exit 2
+# shellcheck source=tests/c_library.sh
+source "$top/tests/c_library.sh" || exit 2
 # shellcheck source=tests/installed.sh
 source "$top/tests/installed.sh" || exit 2
 # shellcheck source=tests/shown.sh
@@ -338,4 +332,4 @@ install_to lib ''
 install_to lib64 lib64/
 install_to lib/x86_64-linux-gnu PREFIX/lib/x86_64-linux-gnu
 install_below
-((wrong == 0))
+((failed == 0))

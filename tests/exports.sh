@@ -16,20 +16,14 @@
 #
 # It needs the kit's `rt`, bash, awk, grep, sed and the core utilities, and the compilers `cc`, `c++`,
 # `clang` and `clang++` for what they compile.
-set -u
-unset CDPATH
-export LC_ALL=C
-
-top=$(cd "$(dirname "${BASH_SOURCE[0]}")/.." && pwd) || exit 2
+# shellcheck source=tests/lib.sh
+source "$(dirname "${BASH_SOURCE[0]}")/lib.sh" || exit 2
 # shellcheck source=tests/kit.sh
 source "$top/tests/kit.sh" || exit 2
 crate=$top/crates/cesu8_static
 header=$crate/include/cesu8.h
-scratch=$(mktemp -d) || exit 2
-trap 'rm -rf "$scratch"' EXIT
-
-# shellcheck source=tests/compilers.sh
-source "$top/tests/compilers.sh" || exit 2
+# shellcheck source=tests/c_library.sh
+source "$top/tests/c_library.sh" || exit 2
 
 # Compares two lists of names: `same_names WHAT`, with the wanted ones first.
 same_names() {
@@ -88,8 +82,8 @@ run_chooser() {
         -o "$scratch/chooser" "$scratch/made_up.c" "$top/tests/chooser.c" &&
         quietly cc "${flags[@]}" -DBEFORE_MAIN \
             -o "$scratch/before_main" "$crate/chooser.c" "$top/tests/chooser.c"; then
-        "$scratch/chooser" || wrong=1
-        "$scratch/before_main" || wrong=1
+        "$scratch/chooser" || wrong 'tests/chooser.c ends so'
+        "$scratch/before_main" || wrong 'tests/chooser.c ends so before main'
     else
         wrong 'tests/chooser.c does not build'
     fi
@@ -124,4 +118,4 @@ build_library
 if can_build_c 'the calls from C'; then
     call_exports "$crate/out/libcesu8_static.a"
 fi
-((wrong == 0))
+((failed == 0))

@@ -10,17 +10,10 @@
 # RELEASE names the folder that dist.sh has filled; where it is not set, dist.sh is run. Without
 # dpkg-deb it says that it skipped everything, and which other tool is missing. The status is 0 if
 # nothing is wrong. It needs what tests/release.sh does.
-set -u
-unset CDPATH
-export LC_ALL=C
+# shellcheck source=tests/lib.sh
+source "$(dirname "${BASH_SOURCE[0]}")/lib.sh" || exit 2
 umask 022
-
-top=$(cd "$(dirname "${BASH_SOURCE[0]}")/.." && pwd) || exit 2
 crate=$top/crates/cesu8_static
-scratch=$(mktemp -d) || exit 2
-trap 'rm -rf "$scratch"' EXIT
-# shellcheck source=tests/compilers.sh
-source "$top/tests/compilers.sh" || exit 2
 # shellcheck source=tests/release.sh
 source "$top/tests/release.sh" || exit 2
 
@@ -322,7 +315,7 @@ find_release 'the Debian packages' || exit 0
 for name in "${names[@]}"; do
     [[ -f $(file_of "$name") ]] || wrong "the release has no package $name"
 done
-((wrong == 0)) || exit 1
+((failed == 0)) || exit 1
 look_at_fields
 look_at_files
 look_at_library
@@ -332,4 +325,4 @@ install_packages
 use_packages
 remove_packages
 look_by_lintian
-((wrong == 0))
+((failed == 0))

@@ -1,5 +1,5 @@
 # The release, for the scripts that use what dist.sh makes. A script sources this file after
-# tests/compilers.sh, and sets `top` before, the repository's folder, and `scratch`.
+# tests/lib.sh.
 # shellcheck shell=bash disable=SC2034,SC2154
 
 version=$(<"$top/VERSION")

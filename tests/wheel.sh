@@ -7,15 +7,9 @@
 # RELEASE names the folder that dist.sh has filled; where it is not set, dist.sh is run. Without
 # python3 with ctypes and venv, it says that it skipped everything, without Java what it skipped. The
 # status is 0 if nothing is wrong. It needs what tests/release.sh does.
-set -u
-unset CDPATH "${!PYTHON@}"
-export LC_ALL=C
-
-top=$(cd "$(dirname "${BASH_SOURCE[0]}")/.." && pwd) || exit 2
-scratch=$(mktemp -d) || exit 2
-trap 'rm -rf "$scratch"' EXIT
-# shellcheck source=tests/compilers.sh
-source "$top/tests/compilers.sh" || exit 2
+unset "${!PYTHON@}"
+# shellcheck source=tests/lib.sh
+source "$(dirname "${BASH_SOURCE[0]}")/lib.sh" || exit 2
 # shellcheck source=tests/release.sh
 source "$top/tests/release.sh" || exit 2
 
@@ -122,4 +116,4 @@ sys.exit(not result.wasSuccessful() or result.testsRun < 50)
 PYTHON
     wrong 'the tests of the wheel'
 fi
-((wrong == 0))
+((failed == 0))

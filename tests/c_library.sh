@@ -1,0 +1,31 @@
+# The names of the library for C, and the calls of all. A script sources this file after tests/lib.sh,
+# and sets `crate` before, the folder of the library.
+# shellcheck shell=bash disable=SC2154
+
+# The functions that the crate exports.
+exports() {
+    sed -n 's/^pub extern "C" fn cesu8_\([a-z0-9_]*\).*/\1/p' "$crate"/src/*.rt
+}
+
+# The calls of the archive that are plain C.
+plain_calls() {
+    sed -n 's/^[a-z].*cesu8_\([a-z0-9_]*\)(.*)$/\1/p' "$crate/plain.c"
+}
+
+# The names of the version map, each with its node: NAME@@NODE.
+mapped() {
+    awk '
+        /^CESU8_[0-9.]+ \{$/ { node = $1 }
+        /^    cesu8_[a-z0-9_]+;$/ { print substr($1, 1, length($1) - 1) "@@" node }
+    ' "$crate/package/cesu8.map"
+}
+
+# Builds tests/exports.c with a library, and runs it: `call_exports FLAG..`, the library among them.
+call_exports() {
+    if ! quietly cc -std=c11 -O1 -Wall -Wextra -Werror -I "$crate/include" \
+        -o "$scratch/exports" "$top/tests/exports.c" "$@"; then
+        wrong 'tests/exports.c does not build'
+        return
+    fi
+    "$scratch/exports" || wrong 'tests/exports.c finds what it tells above'
+}
