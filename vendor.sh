@@ -75,6 +75,8 @@ for library in "${libraries[@]}"; do
         fail "$copy is there, and is no copy that vendor.sh made"
     fi
 done
+# A last line without an end gets one.
+[[ ! -s $target/crates.txt || -z $(tail -c 1 "$target/crates.txt") ]] || echo
 for library in "${libraries[@]}"; do
     copy=$crates/$library
     mkdir -p "$copy"

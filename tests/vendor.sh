@@ -134,8 +134,10 @@ copy "$lines"$'\nkeys: simd_cesu8'
 
 # A repository with no folder crates, and one with a library of this name that is its own.
 mkdir -p "$scratch/flat" "$scratch/other/crates/simd_cesu8/src" || exit 2
-echo 'keys: simd_cesu8' >"$scratch/flat/crates.txt"
-"$top/vendor.sh" "$scratch/flat" >/dev/null || wrong 'vendor.sh fails beside crates.txt'
+printf 'keys: simd_cesu8' >"$scratch/flat/crates.txt"
+"$top/vendor.sh" "$scratch/flat" >>"$scratch/flat/crates.txt" || wrong 'vendor.sh fails beside crates.txt'
+[[ $(head -n 2 "$scratch/flat/crates.txt") == $'keys: simd_cesu8\ncesu8_text:' ]] ||
+    wrong 'a line of crates.txt without an end is lengthened'
 [[ -f $scratch/flat/java_text/src/lib.rt ]] || wrong 'the copy does not stand beside crates.txt'
 "$top/vendor.sh" "$scratch/other" >/dev/null 2>&1 && wrong 'vendor.sh replaces what it did not copy'
 
