@@ -48,15 +48,14 @@ part_of() {
     esac
 }
 
-# Keeps in `seconds` the processor time of all children that have ended, and in `user` and `system` its
-# parts.
-count_seconds() {
+# Keeps in `seconds` the processor time of children that `times` has written to a file, and in `user` and
+# `system` its parts: `read_seconds FILE`.
+read_seconds() {
     local minutes
-    times >"$scratch/times"
     {
         read -r _
         read -r user system
-    } <"$scratch/times"
+    } <"$1"
     minutes=${user%m*} user=${user#*m} user=${user%.*}
     user=$((minutes * 60 + user))
     minutes=${system%m*} system=${system#*m} system=${system%.*}
@@ -79,7 +78,8 @@ begin_account() {
 # Prints the minutes of processor time by part, and then of all.
 show_account() {
     local ticks stolen
-    count_seconds
+    times >"$scratch/times"
+    read_seconds "$scratch/times"
     read -r ticks stolen < <(processor_ticks)
     echo '== processor minutes by part'
     {
