@@ -33,6 +33,8 @@ shared=lib/libcesu8.so.$major
 
 # shellcheck source=tests/c_library.sh
 source "$top/tests/c_library.sh" || exit 2
+# shellcheck source=tests/callers.sh
+source "$top/tests/callers.sh" || exit 2
 # shellcheck source=tests/installed.sh
 source "$top/tests/installed.sh" || exit 2
 # shellcheck source=tests/shown.sh
@@ -196,15 +198,6 @@ look_at_mark() {
     fi
 }
 
-# Runs a built example, and compares what it prints: `example FILE WHAT`.
-example() {
-    if "$1" 2>&1 | diff - "$crate/examples/keys.stdout"; then
-        echo "$2 was built and run"
-    else
-        wrong "$2 prints other than examples/keys.stdout"
-    fi
-}
-
 in_cpp() {
     cat >"$scratch/encode.cpp" <<'CPP'
 #include "cesu8.h"
@@ -270,15 +263,6 @@ PYTHON
     fi
 }
 
-# Runs the program: `run_program FOLDER`.
-run_program() {
-    if [[ $(printf 'a\0' | "$1/bin/cesu8_cli" encode mutf8 | od -An -tx1) == ' 61 c0 80' ]]; then
-        echo 'the program was run'
-    else
-        wrong 'the program writes something else'
-    fi
-}
-
 for tool in git cc ar nm objcopy objdump readelf strip tar gzip; do
     if ! command -v "$tool" >/dev/null; then
         echo "$tool is missing: the release skipped"
@@ -306,8 +290,7 @@ if can_build 'keys.c by pkg-config' pkg-config --version; then
     has_pkg_config=yes
     by_pkg_config "$unpacked/lib" 'keys.c by pkg-config'
 fi
-mkdir "$scratch/probe_cmake" && echo 'project(probe C)' >"$scratch/probe_cmake/CMakeLists.txt" || exit 2
-if can_build 'keys.c by CMake' cmake -S "$scratch/probe_cmake" -B "$scratch/probe_cmake/build"; then
+if can_build_by_cmake 'keys.c by CMake'; then
     has_cmake=yes
     by_cmake 'keys.c by CMake' "-DCMAKE_PREFIX_PATH=$unpacked"
     look_at_versions

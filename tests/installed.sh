@@ -1,40 +1,6 @@
-# For tests/dist.sh: builds keys.c by pkg-config and by CMake, with the shared object and without it,
-# and installs by install.sh. It uses what that script sets, and `has_pkg_config` and `has_cmake`, which
-# are empty where there is none.
+# For tests/dist.sh: installs by install.sh, and builds callers where that is. It uses what that script
+# and tests/callers.sh set, and `has_pkg_config` and `has_cmake`, which are empty where there is none.
 # shellcheck shell=bash disable=SC2154
-
-# Whether a program asks for the shared object: `wants_shared PROGRAM`.
-wants_shared() {
-    objdump -p "$1" | grep -q "NEEDED *libcesu8.so.$major\$"
-}
-
-# Builds keys.c by the compiler with these flags, and runs it: `by_flags WHAT FLAG..`.
-by_flags() {
-    local what=$1
-    shift
-    rm -f "$scratch/example"
-    if quietly cc -std=c11 -Wall -Wextra -Wconversion -Werror -o "$scratch/example" \
-        "$crate/examples/keys.c" "$@"; then
-        example "$scratch/example" "$what"
-    else
-        wrong "$what does not build"
-    fi
-}
-
-# keys.c by the flags of pkg-config, as C.md has them, with the shared object and without it:
-# `by_both WHAT FLAG..`, the flags with which the loader finds the shared object.
-by_both() {
-    local what=$1 cflags libs folders
-    shift
-    # It puts a backslash before some characters of a path.
-    eval "cflags=($(pkg-config --cflags cesu8))"
-    eval "libs=($(pkg-config --libs cesu8))"
-    eval "folders=($(pkg-config --libs-only-L cesu8))"
-    by_flags "$what" "${cflags[@]}" "${libs[@]}" "$@"
-    wants_shared "$scratch/example" || wrong "$what: the shared object is not linked"
-    by_flags "$what, static," "${cflags[@]}" "${folders[@]}" -l:libcesu8.a
-    ! wants_shared "$scratch/example" || wrong "$what: the static library is not linked"
-}
 
 # keys.c by pkg-config: `by_pkg_config LIBDIR WHAT`, the folder of the libraries.
 by_pkg_config() {
@@ -43,32 +9,6 @@ by_pkg_config() {
     [[ $(pkg-config --variable=libdir cesu8) -ef $1 ]] || wrong "$2 has another libdir"
     by_both "$2" -Wl,-rpath,"$(pkg-config --variable=libdir cesu8)"
     unset PKG_CONFIG_PATH
-}
-
-# keys.c by CMake: `by_cmake WHAT FLAG..`, with which CMake finds the library.
-by_cmake() {
-    local folder=$scratch/cmake what=$1
-    shift
-    rm -rf "$folder"
-    mkdir "$folder" && cp "$crate/examples/keys.c" "$folder" || exit 2
-    cat >"$folder/CMakeLists.txt" <<CMAKE
-cmake_minimum_required(VERSION 3.13)
-project(keys C)
-find_package(cesu8 $version REQUIRED)
-add_executable(by_archive keys.c)
-target_link_libraries(by_archive PRIVATE cesu8::cesu8)
-add_executable(by_shared keys.c)
-target_link_libraries(by_shared PRIVATE cesu8::shared)
-CMAKE
-    if ! quietly cmake -S "$folder" -B "$folder/build" "$@" ||
-        ! quietly cmake --build "$folder/build"; then
-        wrong "$what does not build"
-        return
-    fi
-    ! wants_shared "$folder/build/by_archive" || wrong "$what: the static library is not linked"
-    wants_shared "$folder/build/by_shared" || wrong "$what: the shared object is not linked"
-    example "$folder/build/by_archive" "$what, static,"
-    example "$folder/build/by_shared" "$what"
 }
 
 # Which versions CMake takes, and that it takes no library of 64 bits for another processor.

@@ -16,6 +16,8 @@ umask 022
 crate=$top/crates/cesu8_static
 # shellcheck source=tests/release.sh
 source "$top/tests/release.sh" || exit 2
+# shellcheck source=tests/callers.sh
+source "$top/tests/callers.sh" || exit 2
 
 debian=$version-1
 names=("libcesu8-$major" libcesu8-dev cesu8-tools)
@@ -215,84 +217,24 @@ remove_packages() {
     find "$root" -path '*cesu8*' -not -path '*/dpkg/*' | grep . && wrong 'these are left'
 }
 
-# Runs a built example, and compares what it prints: `example FILE WHAT`.
-example() {
-    if LD_LIBRARY_PATH=$root/$libdir "$1" 2>&1 | diff - "$crate/examples/keys.stdout"; then
-        echo "$2 was built and run"
-    else
-        wrong "$2 prints other than examples/keys.stdout"
-    fi
-}
-
-# Builds keys.c with these arguments: `in_c WHAT ARGUMENT..`.
-in_c() {
-    local what=$1
-    shift
-    if quietly cc -std=c11 -Wall -Wextra -Werror -o "$scratch/example" "$crate/examples/keys.c" "$@"; then
-        example "$scratch/example" "$what"
-    else
-        wrong "$what does not build"
-    fi
-}
-
-# Whether the built example needs the shared object.
-is_shared() {
-    readelf --dynamic --wide "$scratch/example" | grep -q "NEEDED.*\[libcesu8.so.$major\]"
-}
-
-by_pkg_config() {
-    local flags
-    export PKG_CONFIG_SYSROOT_DIR=$root PKG_CONFIG_LIBDIR=$root/$libdir/pkgconfig
-    [[ $(pkg-config --modversion cesu8) == "$version" ]] || wrong 'pkg-config has another version'
-    # The compiler knows the folders of the system, so pkg-config leaves them out.
-    export PKG_CONFIG_ALLOW_SYSTEM_CFLAGS=1 PKG_CONFIG_ALLOW_SYSTEM_LIBS=1
-    read -r -a flags < <(pkg-config --cflags --libs cesu8)
-    in_c 'keys.c by pkg-config' "${flags[@]}"
-    is_shared || wrong 'pkg-config does not link the shared object'
-}
-
-by_cmake() {
-    local folder=$scratch/cmake
-    mkdir "$folder" && cp "$crate/examples/keys.c" "$folder" || exit 2
-    cat >"$folder/CMakeLists.txt" <<CMAKE
-cmake_minimum_required(VERSION 3.13)
-project(keys C)
-find_package(cesu8 $version REQUIRED)
-add_executable(by_archive keys.c)
-target_link_libraries(by_archive PRIVATE cesu8::cesu8)
-add_executable(by_shared keys.c)
-target_link_libraries(by_shared PRIVATE cesu8::shared)
-CMAKE
-    if ! quietly cmake -S "$folder" -B "$folder/build" -DCMAKE_PREFIX_PATH="$root/usr" ||
-        ! quietly cmake --build "$folder/build"; then
-        wrong 'keys.c does not build by CMake'
-        return
-    fi
-    example "$folder/build/by_archive" 'keys.c by CMake'
-    example "$folder/build/by_shared" 'keys.c by CMake, with the shared object,'
-}
-
-run_program() {
-    if [[ $(printf 'a\0' | "$root/usr/bin/cesu8_cli" encode mutf8 | od -An -tx1) == ' 61 c0 80' ]]; then
-        echo 'the program was run'
-    else
-        wrong 'the program writes something else'
-    fi
-}
-
 use_packages() {
-    in_c 'keys.c with the static library' -I "$root/usr/include" "$root/$libdir/libcesu8.a"
-    is_shared && wrong 'the static library is not linked'
-    in_c 'keys.c with the shared object' -I "$root/usr/include" -L "$root/$libdir" -lcesu8
-    is_shared || wrong 'the shared object is not linked'
+    # Where the loader finds the shared object.
+    export LD_LIBRARY_PATH=$root/$libdir
+    by_flags 'keys.c with the static library' -I "$root/usr/include" "$root/$libdir/libcesu8.a"
+    wants_shared "$scratch/example" && wrong 'the static library is not linked'
+    by_flags 'keys.c with the shared object' -I "$root/usr/include" -L "$root/$libdir" -lcesu8
+    wants_shared "$scratch/example" || wrong 'the shared object is not linked'
     if can_build 'keys.c by pkg-config' pkg-config --version; then
-        by_pkg_config
+        export PKG_CONFIG_SYSROOT_DIR=$root PKG_CONFIG_LIBDIR=$root/$libdir/pkgconfig
+        # The compiler knows the folders of the system, so pkg-config leaves them out.
+        export PKG_CONFIG_ALLOW_SYSTEM_CFLAGS=1 PKG_CONFIG_ALLOW_SYSTEM_LIBS=1
+        [[ $(pkg-config --modversion cesu8) == "$version" ]] || wrong 'pkg-config has another version'
+        by_both 'keys.c by pkg-config'
     fi
-    mkdir "$scratch/probe_cmake" && echo 'project(probe C)' >"$scratch/probe_cmake/CMakeLists.txt" || exit 2
-    if can_build 'keys.c by CMake' cmake -S "$scratch/probe_cmake" -B "$scratch/probe_cmake/build"; then
-        by_cmake
+    if can_build_by_cmake 'keys.c by CMake'; then
+        by_cmake 'keys.c by CMake' "-DCMAKE_PREFIX_PATH=$root/usr"
     fi
-    run_program
+    run_program "$root/usr"
 }
 
 look_by_lintian() {
@@ -305,7 +247,7 @@ look_by_lintian() {
     quietly lintian --allow-root --fail-on error "${files[@]}" || wrong 'lintian finds errors'
 }
 
-for tool in dpkg-deb dpkg readelf; do
+for tool in dpkg-deb dpkg readelf objdump; do
     if ! command -v "$tool" >/dev/null; then
         echo "$tool is missing: the Debian packages skipped"
         exit 0

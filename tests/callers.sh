@@ -1,0 +1,87 @@
+# Callers of the library for C and of the program, for the scripts that use a release. A script sources
+# this file after tests/lib.sh, and sets `crate` before, the folder of the library, `version` and `major`.
+# shellcheck shell=bash disable=SC2154
+
+# Runs a built example, and compares what it prints: `example FILE WHAT`.
+example() {
+    if "$1" 2>&1 | diff - "$crate/examples/keys.stdout"; then
+        echo "$2 was built and run"
+    else
+        wrong "$2 prints other than examples/keys.stdout"
+    fi
+}
+
+# Whether a program asks for the shared object: `wants_shared PROGRAM`.
+wants_shared() {
+    objdump -p "$1" | grep -q "NEEDED *libcesu8.so.$major\$"
+}
+
+# Builds keys.c by the compiler with these flags, and runs it: `by_flags WHAT FLAG..`.
+by_flags() {
+    local what=$1
+    shift
+    rm -f "$scratch/example"
+    if quietly cc -std=c11 -Wall -Wextra -Wconversion -Werror -o "$scratch/example" \
+        "$crate/examples/keys.c" "$@"; then
+        example "$scratch/example" "$what"
+    else
+        wrong "$what does not build"
+    fi
+}
+
+# keys.c by the flags of pkg-config, as C.md has them, with the shared object and without it:
+# `by_both WHAT FLAG..`, the flags with which the loader finds the shared object.
+by_both() {
+    local what=$1 cflags libs folders
+    shift
+    # It puts a backslash before some characters of a path.
+    eval "cflags=($(pkg-config --cflags cesu8))"
+    eval "libs=($(pkg-config --libs cesu8))"
+    eval "folders=($(pkg-config --libs-only-L cesu8))"
+    by_flags "$what" "${cflags[@]}" "${libs[@]}" "$@"
+    wants_shared "$scratch/example" || wrong "$what: the shared object is not linked"
+    by_flags "$what, static," "${cflags[@]}" "${folders[@]}" -l:libcesu8.a
+    ! wants_shared "$scratch/example" || wrong "$what: the static library is not linked"
+}
+
+# Whether CMake builds for C, or else WHAT is skipped: `can_build_by_cmake WHAT`.
+can_build_by_cmake() {
+    mkdir "$scratch/probe_cmake" && echo 'project(probe C)' >"$scratch/probe_cmake/CMakeLists.txt" ||
+        exit 2
+    can_build "$1" cmake -S "$scratch/probe_cmake" -B "$scratch/probe_cmake/build"
+}
+
+# keys.c by CMake: `by_cmake WHAT FLAG..`, with which CMake finds the library.
+by_cmake() {
+    local folder=$scratch/cmake what=$1
+    shift
+    rm -rf "$folder"
+    mkdir "$folder" && cp "$crate/examples/keys.c" "$folder" || exit 2
+    cat >"$folder/CMakeLists.txt" <<CMAKE
+cmake_minimum_required(VERSION 3.13)
+project(keys C)
+find_package(cesu8 $version REQUIRED)
+add_executable(by_archive keys.c)
+target_link_libraries(by_archive PRIVATE cesu8::cesu8)
+add_executable(by_shared keys.c)
+target_link_libraries(by_shared PRIVATE cesu8::shared)
+CMAKE
+    if ! quietly cmake -S "$folder" -B "$folder/build" "$@" ||
+        ! quietly cmake --build "$folder/build"; then
+        wrong "$what does not build"
+        return
+    fi
+    ! wants_shared "$folder/build/by_archive" || wrong "$what: the static library is not linked"
+    wants_shared "$folder/build/by_shared" || wrong "$what: the shared object is not linked"
+    example "$folder/build/by_archive" "$what, static,"
+    example "$folder/build/by_shared" "$what"
+}
+
+# Runs the program: `run_program FOLDER`.
+run_program() {
+    if [[ $(printf 'a\0' | "$1/bin/cesu8_cli" encode mutf8 | od -An -tx1) == ' 61 c0 80' ]]; then
+        echo 'the program was run'
+    else
+        wrong 'the program writes something else'
+    fi
+}
