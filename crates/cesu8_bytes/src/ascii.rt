@@ -1,5 +1,4 @@
-//! Short values of ASCII, the most frequent ones. ASCII is always UTF-8, so they need no UTF-8
-//! test.
+//! Values of ASCII, the most frequent ones. ASCII is always UTF-8, so they need no UTF-8 test.
 //!
 //! Only this module uses `percent_encoding`, which returns ASCII as a text.
 
@@ -8,8 +7,9 @@ ghost use Rattle.std.specs.Str.{IsAscii};
 ghost use Rattle.cesu8_text.specs.Class.{IsChangedByte};
 ghost use Rattle.cesu8_bytes.specs.Internal.{flavor_of};
 
-use crate::implementation::class::{High, NullHigh};
+use crate::implementation::class::{High, LANES, NullHigh};
 use crate::implementation::short::{SHORT_VALUE, any_in_short};
+use crate::implementation::simd::left_by;
 use crate::options::Flavor;
 
 /// Returns whether the bytes are few and all ASCII.
@@ -29,6 +29,17 @@ pub fn is_short_unchanged_ascii(flavor: Flavor, bytes: &[u8]) -> bool
     match flavor {
         Flavor::Cesu8 => is_short_ascii(bytes),
         Flavor::Mutf8 => bytes.len() <= SHORT_VALUE && !any_in_short::<NullHigh>(bytes),
+    }
+}
+
+/// Returns whether the bytes are all ASCII. It is not inlined, so that the calls stay small.
+#[inline(never)]
+pub fn is_ascii(bytes: &[u8]) -> bool
+    ensures { IsTrue result → IsAscii bytes.now }
+{
+    match left_by::<High, LANES>(bytes) {
+        Some(rest) => !any_in_short::<High>(rest),
+        None => false,
     }
 }
 

@@ -1,7 +1,7 @@
 //! The first looks at an input: whether a byte of it changes, and whether it is UTF-8.
 //!
-//! Both choose by a length, for speed alone. A short value is tested by vectors of one width, and
-//! the front of long input before the rest.
+//! Both choose by a length, for speed alone. A short value is tested by vectors of one width. A longer
+//! one is UTF-8 if it is ASCII; otherwise the front of long input is tested before the rest.
 
 ghost use Rattle.std.specs.Prelude.{◌↔◌, IsTrue, Any, ◌≡◌, ◌*◌, length, IsUtf8, ◌<◌};
 ghost use Rattle.cesu8_text.specs.Class.{IsChangedByte, IsUnchangedUtf8};
@@ -9,6 +9,7 @@ ghost use Rattle.cesu8_bytes.specs.Internal.{flavor_of};
 ghost use Rattle.std.specs.Str.{chars};
 ghost use Rattle.cesu8_text.specs.Encoding.{NeedsEncoding};
 
+use crate::ascii::{ascii_text, is_ascii};
 use crate::continuation::character_start;
 use crate::implementation::active;
 use crate::implementation::class::{Four, NullFour};
@@ -64,6 +65,10 @@ pub fn whole_text(bytes: &[u8]) -> &str
         → (result.now ≡ bytes.now) × IsUtf8 bytes.now }
     ensures none { ¬ (length result.now ≡ length bytes.now) → ¬ (IsUtf8 bytes.now) }
 {
+    // Short ASCII was found before.
+    if bytes.len() > SHORT_VALUE && is_ascii(bytes) {
+        return ascii_text(bytes);
+    }
     if bytes.len() >= LONG && !has_utf8_front(bytes) {
         return "";
     }

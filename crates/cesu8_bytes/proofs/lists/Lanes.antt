@@ -68,18 +68,19 @@ greater_each [] ys = refl
 greater_each (x ∷ xs) [] = refl
 greater_each (x ∷ xs) (y ∷ ys) = ap (λ l. greater x y ∷ l) (greater_each xs ys)
 
-greater_keeps : (a b : ℕ) → IsTrue (is_lead a) ⊎ IsTrue (is_lead b) → IsTrue (is_lead (greater a b))
-greater_keeps a b s = ⊎_elim
+greater_keeps : (least a b : ℕ) → IsTrue (leb least a) ⊎ IsTrue (leb least b) → IsTrue (leb least (greater a b))
+greater_keeps least a b s = ⊎_elim
     (λ l. (let is : greater a b ≡ b = ap (λ t. cond (top 7 (ones t)) b a) (lt-ltb a b l) in
-    subst (λ x. IsTrue (is_lead x)) (sym is) (⊎_elim (λ m. le-leb 0xF0 b (omega (arith, leb-true 0xF0 a m, l))) (λ m. m) s)))
+    subst (λ x. IsTrue (leb least x)) (sym is) (⊎_elim (λ m. le-leb least b (omega (arith, leb-true least a m, l))) (λ m. m) s)))
     (λ l. (let is : greater a b ≡ a = ap (λ t. cond (top 7 (ones t)) b a) (le-ltb a b l) in
-    subst (λ x. IsTrue (is_lead x)) (sym is) (⊎_elim (λ m. m) (λ m. le-leb 0xF0 a (omega (arith, leb-true 0xF0 b m, l))) s)))
+    subst (λ x. IsTrue (leb least x)) (sym is) (⊎_elim (λ m. m) (λ m. le-leb least a (omega (arith, leb-true least b m, l))) s)))
     (cases_lt a b)
 
--- The greater of two lanes is F0 or more where one of them is.
-pub lead_in_greater : (xs ys : List ℕ) → length xs ≡ length ys → AnyIn is_lead xs ⊎ AnyIn is_lead ys → AnyIn is_lead (greater_lanes xs ys)
-lead_in_greater xs ys e s =
-    subst (AnyIn is_lead) (sym (greater_each xs ys)) (kept (λ b. IsTrue (is_lead b)) greater greater_keeps xs ys e s)
+-- The greater of two lanes is at least what one of them is at least.
+pub least_in_greater : (least : ℕ) (xs ys : List ℕ) → length xs ≡ length ys → AnyIn (leb least) xs ⊎ AnyIn (leb least) ys →
+    AnyIn (leb least) (greater_lanes xs ys)
+least_in_greater least xs ys e s =
+    subst (AnyIn (leb least)) (sym (greater_each xs ys)) (kept (λ b. IsTrue (leb least b)) greater (greater_keeps least) xs ys e s)
 
 abbrev lesser : ℕ → ℕ → ℕ
 lesser a b = cond (top 7 (below a b)) a b

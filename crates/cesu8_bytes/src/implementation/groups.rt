@@ -6,10 +6,10 @@
 //! happens once.
 
 ghost use Rattle.std.specs.Prelude.{◌≡◌, ◌==◌, ◌≤◌, ◌<◌, ◌↔◌, ◌⊎◌, IsTrue, Any};
-ghost use Rattle.cesu8_text.specs.Class.{is_four, is_null_four, is_lead};
+ghost use Rattle.cesu8_text.specs.Class.{is_four, is_null_four, is_lead, is_high};
 ghost use Rattle.cesu8_bytes.specs.Kernels.{AnyIn};
 
-use super::class::{Four, InVectors, LANES, Lead, Null, NullFour, any_in_each, has};
+use super::class::{Four, High, InVectors, LANES, Lead, Null, NullFour, any_in_each, has};
 use std::simd::prelude::*;
 
 /// A class that four vectors at once may be tested for.
@@ -45,6 +45,16 @@ impl<const N: usize> InGroups<N> for NullFour {
         ensures { Any (AnyIn is_null_four) group.now → IsTrue result }
     {
         has::<Lead, N>(extremes::<Lead, N>(group)) || has::<Null, N>(extremes::<Null, N>(group))
+    }
+}
+
+impl<const N: usize> InGroups<N> for High {
+    #[inline(always)]
+    fn may_have(group: &[[u8; N]; 4]) -> bool
+        requires { N ≤ LANES }
+        ensures { Any (AnyIn is_high) group.now → IsTrue result }
+    {
+        has::<High, N>(extremes::<High, N>(group))
     }
 }
 
@@ -100,6 +110,15 @@ impl<const N: usize> Extreme<N> for Lead {
     #[inline(always)]
     fn extreme(a: Simd<u8, N>, b: Simd<u8, N>) -> Simd<u8, N>
         ensures { (AnyIn is_lead a.entry ⊎ AnyIn is_lead b.entry) → AnyIn is_lead result }
+    {
+        a.simd_max(b)
+    }
+}
+
+impl<const N: usize> Extreme<N> for High {
+    #[inline(always)]
+    fn extreme(a: Simd<u8, N>, b: Simd<u8, N>) -> Simd<u8, N>
+        ensures { (AnyIn is_high a.entry ⊎ AnyIn is_high b.entry) → AnyIn is_high result }
     {
         a.simd_max(b)
     }

@@ -92,7 +92,7 @@ fn any_in<C: InAllGroups, F: Fn(&[u8]) -> bool>(value: &[u8], fallback: F) -> bo
 
 /// Returns what the vectors of one width leave, or none if they find the class.
 #[inline(always)]
-fn left_by<C: InGroups<N>, const N: usize>(bytes: &[u8]) -> Option<&[u8]>
+pub(crate) fn left_by<C: InGroups<N>, const N: usize>(bytes: &[u8]) -> Option<&[u8]>
     requires { (0 < N) × (N ≤ LANES) }
     ensures left { IfSome result (λ rest. (length rest.now < N)
         × (AnyIn C.class rest.now ↔ AnyIn C.class bytes.now)) }
