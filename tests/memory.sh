@@ -107,9 +107,12 @@ text() {
     done
 }
 
-# The calls that take a text, of the text that is kept: `text_rows ENCODING..`.
+# The calls that take a text, of the text that is kept: `text_rows ENCODING..`. In CESU-8 each of its
+# code units has one byte that is not 80 to BF.
 text_rows() {
     local encoding encoded length any less
+    measure "${cesu8//\\x[89AB]?/}"
+    row 'utf16_len cesu8' "$utf8" "$length" 0 ''
     for encoding in "$@"; do
         encoded=${!encoding}
         measure "$encoded"

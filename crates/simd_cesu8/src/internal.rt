@@ -14,7 +14,7 @@ ghost use Rattle.simd_cesu8.specs.Outcomes.{IsFaultOf, IsAnswerOf, IsReadingOf, 
 use crate::error::{DecodeFault, DecodeSliceFault, DecodingError, LossySliceFault, TooShort};
 pub use cesu8_bytes::ascii::{ascii_text, is_short_ascii, is_short_unchanged_ascii};
 pub use cesu8_bytes::first_looks::{contains_changed, needs_encoded, unchanged_text, whole_text};
-pub use cesu8_bytes::lengths::encoded_len;
+pub use cesu8_bytes::lengths::{encoded_len, utf16_len};
 pub use cesu8_bytes::options::{DecodeOptions, Flavor};
 use cesu8_bytes::writers::NoRoom;
 pub use cesu8_bytes::writers::{copy, copy_text};

@@ -16,6 +16,7 @@
 //! | text | whether its encoding differs from its UTF-8 | [`needs_encoded`] |
 //! | text | the length of its encoding | [`encoded_len`] |
 //! | text | its encoding with the length in front, counted once | [`counted`] |
+//! | text | how many UTF-16 code units it has | [`utf16_len`] |
 //! | bytes of the encoding | their text, or an error | [`decode_strict`] |
 //! | bytes of the encoding, perhaps damaged | a text in any case | [`decode_lossy_strict`] |
 //! | bytes of the encoding, perhaps damaged | the length of that text | [`lossy_len`] |
@@ -26,8 +27,11 @@
 //! [`decode_strict_to_slice`], [`decode_lossy_strict_to_slice`], [`decode_to_slice`] and
 //! [`decode_lossy_to_slice`].
 //!
-//! The root's calls are for CESU-8, and those of [`mutf8`] for MUTF-8. Use a strict call if the
-//! bytes must be the encoding: a lenient one accepts raw UTF-8, with characters of four bytes.
+//! The root's calls are for CESU-8, and those of [`mutf8`] for MUTF-8. Code units are the same in
+//! both, so the root alone has [`utf16_len`].
+//!
+//! Use a strict call if the bytes must be the encoding: a lenient one accepts raw UTF-8, with
+//! characters of four bytes.
 //!
 //! ```rust
 //! assert!(rt; simd_cesu8::encode(alloc, "caf\u{E9}")?.is_borrowed());
@@ -39,6 +43,7 @@
 
 ghost use Rattle.std.specs.Prelude.{◌≡◌, ◌<◌, ◌≤◌, ◌+◌, ◌*◌, ◌++◌, [], ◌↔◌, length, IsTrue, IsUtf8, OnOk, OnErr, IsOk, vec_len, vec_capacity, IfSome, IfNone};
 ghost use Rattle.std.specs.Str.{chars};
+ghost use Rattle.simd_cesu8.specs.Utf16.{units};
 ghost use Rattle.simd_cesu8.specs.Encoding.{Cesu8, encoding, NeedsEncoding};
 ghost use Rattle.simd_cesu8.specs.Class.{IsUnchangedUtf8};
 ghost use Rattle.simd_cesu8.specs.Reading.{IsStrictReading, HasNoStrictReading, IsLenientReading, HasNoLenientReading, reading, lossy_length, IsLenientLossyReading};
@@ -98,6 +103,18 @@ pub fn counted(value: &str) -> CountedText<'_>
     ensures { counted_encoding result ≡ encoding Cesu8 (chars value.now) }
 {
     CountedText::new(Flavor::Cesu8, value)
+}
+
+/// Returns how many UTF-16 code units a text has, as Java's and JavaScript's strings count their
+/// length, JNI, dex files and many editors. A surrogate pair counts as two. It requests no memory.
+///
+/// ```rust
+/// assert_eq!(rt; simd_cesu8::utf16_len("a\u{10FFFF}"), 3);
+/// ```
+pub fn utf16_len(text: &str) -> usize
+    ensures { result ≡ length (units (chars text.now)) }
+{
+    internal::utf16_len(text)
 }
 
 /// Encodes a text to CESU-8 (Unicode Technical Report 26).
