@@ -160,6 +160,7 @@ encoding_rows() {
         for call in decode decode_strict decode_lossy decode_lossy_strict; do
             row "$call $encoding" "$encoded" "$outcome" "$requests" "$utf8"
         done
+        row "decoded_len $encoding" "$encoded" "$length" 0 ''
         row "lossy_len $encoding" "$encoded" "$length" 0 ''
         row "into_string $encoding" "$encoded" owned "$((length > 0))" "$utf8"
     done
@@ -178,6 +179,7 @@ utf8_rows() {
         row "decode_strict $encoding" "$utf8" invalid 1 ''
         row "decode_lossy_strict $encoding" "$utf8" owned 1 "$reading"
         measure "$reading"
+        row "decoded_len $encoding" "$utf8" none 0 ''
         row "lossy_len $encoding" "$utf8" "$length" 0 ''
     done
 }
@@ -196,6 +198,7 @@ damage_rows() {
             row "$call $encoding" "$damaged" invalid 1 ''
             row "${call/decode/decode_lossy} $encoding" "$damaged" owned 1 "$reading"
         done
+        row "decoded_len $encoding" "$damaged" none 0 ''
         row "lossy_len $encoding" "$damaged" "$length" 0 ''
     done
 }

@@ -10,7 +10,7 @@ use uses::{
     ConstantFault, Entry, append_all, append_and_encode, compare_as_utf16, copy_strings,
     decode_and_encode, decodes_to_same, encode_and_decode, encode_and_read, fill_arena, get_value,
     key_without_zero, needs_or_borrows, put_value, read_utf8_constant, repair_log, rewrite_log,
-    tells_encoded_length, tells_lossy_length, write_and_read,
+    tells_decoded_length, tells_encoded_length, tells_lossy_length, write_and_read,
 };
 
 #[test]
@@ -226,6 +226,10 @@ fn tells_what_other_calls_answer(rt: HostRuntime) -> Result<(), Fail> {
     for text in TEXTS {
         assert!(rt; needs_or_borrows(rt.alloc(), text)?, "of {text:?}");
         assert!(rt; tells_encoded_length(rt.alloc(), text)?, "of {text:?}");
+        assert!(rt;
+            tells_decoded_length(rt.alloc(), text.as_bytes())?,
+            "of {text:?}"
+        );
         assert!(rt;
             tells_lossy_length(rt.alloc(), text.as_bytes())?,
             "of {text:?}"

@@ -19,7 +19,7 @@ pub use cesu8_bytes::options::{DecodeOptions, Flavor};
 use cesu8_bytes::writers::NoRoom;
 pub use cesu8_bytes::writers::{copy, copy_text};
 use cesu8_decode::refusal::{LossyRefusal, Refusal, SliceRefusal};
-pub use cesu8_decode::{decode_lossy, lossy_len};
+pub use cesu8_decode::{decode_lossy, decoded_len, lossy_len};
 pub use cesu8_encode::{encode, encode_into};
 use std::alloc::Global;
 

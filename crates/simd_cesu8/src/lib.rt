@@ -18,6 +18,7 @@
 //! | text | its encoding with the length in front, counted once | [`counted`] |
 //! | text | how many UTF-16 code units it has | [`utf16_len`] |
 //! | bytes of the encoding | their text, or an error | [`decode_strict`] |
+//! | bytes of the encoding | the length of that text, or whether they are valid | [`decoded_len`] |
 //! | bytes of the encoding, perhaps damaged | a text in any case | [`decode_lossy_strict`] |
 //! | bytes of the encoding, perhaps damaged | the length of that text | [`lossy_len`] |
 //! | bytes that are UTF-8, or else the encoding | their text, or an error | [`decode`] |
@@ -50,7 +51,7 @@ ghost use Rattle.simd_cesu8.specs.Reading.{IsStrictReading, HasNoStrictReading, 
 ghost use Rattle.simd_cesu8.specs.Cow.{IfBytes, BorrowsBytesWhere, BuildsBytesOfCapacity, IfText, BorrowsTextWhere, BuildsTextOfCapacity, AnswersTextOfLength};
 ghost use Rattle.simd_cesu8.specs.Counted.{counted_encoding};
 ghost use Rattle.simd_cesu8.specs.Fault.{OnInvalid};
-ghost use Rattle.simd_cesu8.specs.Slices.{WritesAnswer, WritesReading, WritesLossyReading};
+ghost use Rattle.simd_cesu8.specs.Slices.{ReadsAtLength, WritesAnswer, WritesReading, WritesLossyReading};
 
 mod borrow_or_build;
 mod counted_text;
@@ -276,6 +277,24 @@ pub fn decode_lossy(alloc: Global, bytes: &[u8]) -> Result<CowText<'_>, AllocErr
     ensures capacity { BuildsTextOfCapacity result (lossy_length Cesu8 bytes.now) }
 {
     borrow_or_build::decode_lossy(alloc, Flavor::Cesu8, bytes)
+}
+
+/// Returns the length in bytes of the text that [`decode_strict`] returns, which decodes CESU-8
+/// (Unicode Technical Report 26). It returns `None` exactly where the bytes are the encoding of no
+/// text, so it also tests whether they are valid. It requests no memory.
+///
+/// [`lossy_len`] has a length for damaged bytes too.
+///
+/// ```rust
+/// assert_eq!(rt; simd_cesu8::decoded_len(b"a\xED\xA0\xBD\xED\xB2\x96"), Some(5));
+/// assert_eq!(rt; simd_cesu8::decoded_len(b"a\xED\xA0\xBD"), None);
+/// ```
+pub fn decoded_len(bytes: &[u8]) -> Option<usize>
+    ensures some { IfSome result (λ len.
+        ReadsAtLength (IsStrictReading Cesu8 bytes.now) (λ text_len. len ≡ text_len)) }
+    ensures none { IfNone result (HasNoStrictReading Cesu8 bytes.now) }
+{
+    internal::decoded_len(Flavor::Cesu8, bytes)
 }
 
 /// Returns the length in bytes of the text that [`decode_lossy_strict`] returns, which decodes

@@ -26,6 +26,21 @@ pub fn tells_encoded_length(alloc: Global, text: &str) -> Result<bool, AllocErro
     Ok(simd_cesu8::encode(alloc, text)?.as_bytes().len() == length)
 }
 
+/// Returns whether `decoded_len` is the length of the result of `decode_strict`, and is `None` if
+/// that is `Invalid`.
+pub fn tells_decoded_length(alloc: Global, bytes: &[u8]) -> Result<bool, AllocError>
+    ensures { IfOk result (λ agree. IsTrue agree) }
+{
+    laws::chars();
+    laws::lossy();
+    let length = match simd_cesu8::decode_strict(alloc, bytes) {
+        Ok(decoded) => Some(decoded.as_str().len()),
+        Err(DecodeFault::Invalid(_)) => None,
+        Err(DecodeFault::Memory(error)) => return Err(error),
+    };
+    Ok(simd_cesu8::decoded_len(bytes) == length)
+}
+
 /// Returns whether `lossy_len` is the length of the result of `decode_lossy_strict`.
 pub fn tells_lossy_length(alloc: Global, bytes: &[u8]) -> Result<bool, AllocError>
     ensures { IfOk result (λ agree. IsTrue agree) }

@@ -17,7 +17,8 @@ mod round_trip;
 mod string_file;
 
 pub use crate::agreement::{
-    append_and_encode, decodes_to_same, needs_or_borrows, tells_encoded_length, tells_lossy_length,
+    append_and_encode, decodes_to_same, needs_or_borrows, tells_decoded_length,
+    tells_encoded_length, tells_lossy_length,
 };
 pub use crate::arena::{ArenaFull, fill_arena};
 pub use crate::class_file::{ConstantFault, read_utf8_constant};
