@@ -113,6 +113,7 @@ text_rows() {
     local encoding encoded length any less
     measure "${cesu8//\\x[89AB]?/}"
     row 'utf16_len cesu8' "$utf8" "$length" 0 ''
+    row 'compare_as_utf16 cesu8' "$utf8" yes 0 ''
     for encoding in "$@"; do
         encoded=${!encoding}
         measure "$encoded"

@@ -16,6 +16,7 @@ pub use cesu8_bytes::ascii::{ascii_text, is_short_ascii, is_short_unchanged_asci
 pub use cesu8_bytes::first_looks::{contains_changed, needs_encoded, unchanged_text, whole_text};
 pub use cesu8_bytes::lengths::{encoded_len, utf16_len};
 pub use cesu8_bytes::options::{DecodeOptions, Flavor};
+pub use cesu8_bytes::order::compare_as_utf16;
 use cesu8_bytes::writers::NoRoom;
 pub use cesu8_bytes::writers::{copy, copy_text};
 use cesu8_decode::refusal::{LossyRefusal, Refusal, SliceRefusal};

@@ -17,6 +17,7 @@
 //! | text | the length of its encoding | [`encoded_len`] |
 //! | text | its encoding with the length in front, counted once | [`counted`] |
 //! | text | how many UTF-16 code units it has | [`utf16_len`] |
+//! | two texts | their order by UTF-16 code units | [`compare_as_utf16`] |
 //! | bytes of the encoding | their text, or an error | [`decode_strict`] |
 //! | bytes of the encoding | the length of that text, or whether they are valid | [`decoded_len`] |
 //! | bytes of the encoding, perhaps damaged | a text in any case | [`decode_lossy_strict`] |
@@ -29,7 +30,7 @@
 //! [`decode_lossy_to_slice`].
 //!
 //! The root's calls are for CESU-8, and those of [`mutf8`] for MUTF-8. Code units are the same in
-//! both, so the root alone has [`utf16_len`].
+//! both, so the root alone has [`utf16_len`] and [`compare_as_utf16`].
 //!
 //! Use a strict call if the bytes must be the encoding: a lenient one accepts raw UTF-8, with
 //! characters of four bytes.
@@ -43,6 +44,8 @@
 #![tactic(auto)]
 
 ghost use Rattle.std.specs.Prelude.{◌≡◌, ◌<◌, ◌≤◌, ◌+◌, ◌*◌, ◌++◌, [], ◌↔◌, length, IsTrue, IsUtf8, OnOk, OnErr, IsOk, vec_len, vec_capacity, IfSome, IfNone};
+ghost use Rattle.std.specs.Cmp.Lexicographic.{slice_cmp};
+ghost use Rattle.std.specs.Ordering.{nat_cmp};
 ghost use Rattle.std.specs.Str.{chars};
 ghost use Rattle.simd_cesu8.specs.Utf16.{units};
 ghost use Rattle.simd_cesu8.specs.Encoding.{Cesu8, encoding, NeedsEncoding};
@@ -67,6 +70,7 @@ pub use crate::cow::{CowBytes, CowText};
 pub use crate::error::{DecodeFault, DecodeSliceFault, DecodingError, LossySliceFault, TooShort};
 use crate::internal::Flavor;
 use std::alloc::{AllocError, Global};
+use std::cmp::Ordering;
 
 /// Returns whether the CESU-8 of a text differs from its UTF-8: whether some scalar value is
 /// U+10000 or more. It requests no memory.
@@ -116,6 +120,22 @@ pub fn utf16_len(text: &str) -> usize
     ensures { result ≡ length (units (chars text.now)) }
 {
     internal::utf16_len(text)
+}
+
+/// Compares two texts by their UTF-16 code units, as Java's `compareTo`, JavaScript and the canonical
+/// JSON of RFC 8785 do. Their encodings in CESU-8 compare so too. It requests no memory.
+///
+/// ```rust
+/// use std::cmp::Ordering;
+///
+/// // The surrogate pair D800 DC00 is below FFFF.
+/// let ordering = simd_cesu8::compare_as_utf16("\u{10000}", "\u{FFFF}");
+/// assert_eq!(rt; ordering, Ordering::Less);
+/// ```
+pub fn compare_as_utf16(text: &str, other: &str) -> Ordering
+    ensures { result ≡ slice_cmp nat_cmp (units (chars text.now)) (units (chars other.now)) }
+{
+    internal::compare_as_utf16(text, other)
 }
 
 /// Encodes a text to CESU-8 (Unicode Technical Report 26).

@@ -51,6 +51,18 @@ pub fn tells_lossy_length(alloc: Global, bytes: &[u8]) -> Result<bool, AllocErro
     Ok(simd_cesu8::lossy_len(bytes) == Some(length))
 }
 
+/// Returns whether `compare_as_utf16` compares two texts as their keys in CESU-8 do.
+pub fn compares_as_keys(alloc: Global, text: &str, other: &str) -> Result<bool, AllocError>
+    ensures { IfOk result (λ agree. IsTrue agree) }
+{
+    laws::chars();
+    laws::key_order();
+    let key = simd_cesu8::encode(alloc, text)?;
+    let other_key = simd_cesu8::encode(alloc, other)?;
+    let by_keys = key.as_bytes().cmp(other_key.as_bytes());
+    Ok(simd_cesu8::compare_as_utf16(text, other) == by_keys)
+}
+
 /// Appends by `encode_into` the result of `encode`, and returns this result.
 pub fn append_and_encode(
     alloc: Global,
