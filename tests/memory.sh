@@ -107,9 +107,13 @@ text() {
     done
 }
 
-# The calls that take a text, of the text that is kept: `text_rows ENCODING..`.
+# The calls that take a text, of the text that is kept: `text_rows ENCODING..`. In CESU-8 each of its
+# code units has one byte that is not 80 to BF.
 text_rows() {
     local encoding encoded length any less
+    measure "${cesu8//\\x[89AB]?/}"
+    row 'utf16_len cesu8' "$utf8" "$length" 0 ''
+    row 'compare_as_utf16 cesu8' "$utf8" yes 0 ''
     for encoding in "$@"; do
         encoded=${!encoding}
         measure "$encoded"
@@ -157,6 +161,7 @@ encoding_rows() {
         for call in decode decode_strict decode_lossy decode_lossy_strict; do
             row "$call $encoding" "$encoded" "$outcome" "$requests" "$utf8"
         done
+        row "decoded_len $encoding" "$encoded" "$length" 0 ''
         row "lossy_len $encoding" "$encoded" "$length" 0 ''
         row "into_string $encoding" "$encoded" owned "$((length > 0))" "$utf8"
     done
@@ -175,6 +180,7 @@ utf8_rows() {
         row "decode_strict $encoding" "$utf8" invalid 1 ''
         row "decode_lossy_strict $encoding" "$utf8" owned 1 "$reading"
         measure "$reading"
+        row "decoded_len $encoding" "$utf8" none 0 ''
         row "lossy_len $encoding" "$utf8" "$length" 0 ''
     done
 }
@@ -193,6 +199,7 @@ damage_rows() {
             row "$call $encoding" "$damaged" invalid 1 ''
             row "${call/decode/decode_lossy} $encoding" "$damaged" owned 1 "$reading"
         done
+        row "decoded_len $encoding" "$damaged" none 0 ''
         row "lossy_len $encoding" "$damaged" "$length" 0 ''
     done
 }

@@ -7,10 +7,10 @@ use std::cmp::Ordering;
 use std::collections::BTreeMap;
 use std::test::Fail;
 use uses::{
-    ConstantFault, Entry, append_all, append_and_encode, compare_as_utf16, copy_strings,
+    ConstantFault, Entry, append_all, append_and_encode, compares_as_keys, copy_strings,
     decode_and_encode, decodes_to_same, encode_and_decode, encode_and_read, fill_arena, get_value,
     key_without_zero, needs_or_borrows, put_value, read_utf8_constant, repair_log, rewrite_log,
-    tells_encoded_length, tells_lossy_length, write_and_read,
+    tells_decoded_length, tells_encoded_length, tells_lossy_length, write_and_read,
 };
 
 #[test]
@@ -208,16 +208,6 @@ fn makes_keys(rt: HostRuntime) -> Result<(), Fail> {
         key.as_slice(),
         b"a\xC0\x80\xED\xA0\xBD\xED\xB2\x96".as_slice()
     );
-    // Java's `compareTo`: the code unit D83D is below FFFF.
-    let rows = [
-        ("A", "A", Ordering::Equal),
-        ("\0", "A", Ordering::Less),
-        ("\u{FFFF}", "\u{1F496}", Ordering::Greater),
-    ];
-    for (text, other, want) in rows {
-        let ordering = compare_as_utf16(rt.alloc(), text, other)?;
-        assert_eq!(rt; ordering, want, "of {text:?} and {other:?}");
-    }
     Ok(())
 }
 
@@ -227,10 +217,18 @@ fn tells_what_other_calls_answer(rt: HostRuntime) -> Result<(), Fail> {
         assert!(rt; needs_or_borrows(rt.alloc(), text)?, "of {text:?}");
         assert!(rt; tells_encoded_length(rt.alloc(), text)?, "of {text:?}");
         assert!(rt;
+            tells_decoded_length(rt.alloc(), text.as_bytes())?,
+            "of {text:?}"
+        );
+        assert!(rt;
             tells_lossy_length(rt.alloc(), text.as_bytes())?,
             "of {text:?}"
         );
         assert!(rt; decodes_to_same(rt.alloc(), text)?, "of {text:?}");
+        assert!(rt;
+            compares_as_keys(rt.alloc(), text, "\u{FFFF}")?,
+            "of {text:?}"
+        );
     }
     let mut buf = vec![in rt.alloc(); b'=']?;
     let encoded = append_and_encode(rt.alloc(), "\u{10400}", &mut buf)?;

@@ -12,6 +12,7 @@ pub mod joining;
 pub mod lengths;
 pub mod null_form;
 pub mod options;
+pub mod order;
 pub mod runs;
 pub mod window;
 pub mod writers;

@@ -1,15 +1,35 @@
-//! The length of the lossy reading: three bytes for each byte, less what each position saves.
+//! The lengths of the readings. That of the lossy reading is three bytes for each byte, less what
+//! each position saves. If no byte is damaged, it is that of the strict reading.
 
 ghost use Rattle.std.specs.Prelude.{◌≡◌, ◌<◌, refl, IfSome, IfNone};
 ghost use Rattle.std.proofs.Common.{arith};
 ghost use Rattle.std.proofs.lemmas.Bool.Decides.{nat_tests};
-ghost use Rattle.cesu8_text.specs.Reading.{lossy_length};
+ghost use Rattle.cesu8_text.specs.Reading.{IsStrictReading, HasNoStrictReading, lossy_length};
+ghost use Rattle.cesu8_text.specs.Slices.{ReadsAtLength};
 ghost use Rattle.cesu8_bytes.specs.Internal.{flavor_of};
 ghost use Rattle.cesu8_decode.specs.DecodedPlaces.{saved, total_weight};
 
+use super::damage::is_damaged;
 use super::sums::{BLOCKS, Weight, Weights, sum_first};
+use cesu8_bytes::first_looks::unchanged_text;
 use cesu8_bytes::null_form::{NullForm, OneByteNull, TwoByteNull};
 use cesu8_bytes::options::Flavor;
+
+/// Returns the length of the strict reading, in bytes of UTF-8, if there is one.
+pub fn decoded_len(flavor: Flavor, bytes: &[u8]) -> Option<usize>
+    ensures some { IfSome result (λ len.
+        ReadsAtLength (IsStrictReading (flavor_of flavor) bytes.now) (λ text_len. len ≡ text_len)) }
+    ensures none { IfNone result (HasNoStrictReading (flavor_of flavor) bytes.now) }
+{
+    let text = unchanged_text(flavor, bytes);
+    if text.len() == bytes.len() {
+        return Some(text.len());
+    }
+    if is_damaged(flavor, bytes) {
+        return None;
+    }
+    lossy_len(flavor, bytes)
+}
 
 /// Returns the length of the lossy reading, in bytes of UTF-8, if it fits.
 pub fn lossy_len(flavor: Flavor, bytes: &[u8]) -> Option<usize>

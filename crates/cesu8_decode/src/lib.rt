@@ -39,7 +39,7 @@ mod windows;
 use crate::refusal::Refusal;
 use cesu8_bytes::options::{DecodeOptions, Flavor, Strictness};
 use cesu8_bytes::writers::exactly;
-pub use lengths::lossy_len;
+pub use lengths::{decoded_len, lossy_len};
 use std::alloc::{AllocError, Allocator};
 use text::append_text;
 

@@ -3,6 +3,7 @@ pub mod Forms
 pub mod Encodings
 pub mod Lengths
 pub mod EncodedLength
+pub mod UnitCount
 pub mod Patterns
 pub mod Found
 pub mod NoneFound

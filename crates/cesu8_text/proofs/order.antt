@@ -2,3 +2,4 @@
 pub mod Below
 pub mod UnitOrder
 pub mod Lawful
+pub mod RankOrder

@@ -1,5 +1,5 @@
 -- The classes of bytes that decide whether UTF-8 has to change.
-use Rattle.std.specs.Prelude.{ℕ, ◌+◌, Bool, IsTrue, nat_le, ◌&&◌, ◌||◌, ◌==◌, if◌then◌else◌, List, Any, IsUtf8, false}
+use Rattle.std.specs.Prelude.{ℕ, ◌+◌, Bool, IsTrue, nat_le, nat_lt, ◌&&◌, ◌||◌, ◌==◌, if◌then◌else◌, List, Any, IsUtf8, false}
 use Rattle.cesu8_text.specs.Encoding.{Flavor, Cesu8, Mutf8}
 
 -- The lead byte of four bytes.
@@ -46,7 +46,15 @@ IsChangedByte Mutf8 = IsNullFour
 abbrev pub IsUnchangedUtf8 : Flavor → List ℕ → Type 0
 IsUnchangedUtf8 f bytes = IsUtf8 bytes × (¬ (Any (IsChangedByte f) bytes))
 
+-- 00 to 7F, or C0 to EF (hexadecimal): what leads a character of one UTF-16 code unit in UTF-8.
+abbrev pub is_one_unit : ℕ → Bool
+is_one_unit b = nat_lt b 0x80 || (nat_le 0xC0 b && nat_lt b 0xF0)
+
+-- What a byte weighs: one in the class, and two from F0 to F7, as lead of four bytes.
+abbrev pub weight_of : (ℕ → Bool) → ℕ → ℕ
+weight_of class b = (if class b then 1 else 0) + (if is_four b then 2 else 0)
+
 -- How many bytes an encoding has more than the UTF-8, for one byte of this: two for F0 to F7, which
 -- leads four bytes that become six, and in MUTF-8 one for 00.
 abbrev pub growth_of : Flavor → ℕ → ℕ
-growth_of f b = (if is_null f b then 1 else 0) + (if is_four b then 2 else 0)
+growth_of f b = weight_of (is_null f) b

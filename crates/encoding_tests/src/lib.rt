@@ -10,3 +10,5 @@ mod long_texts;
 mod order;
 #[cfg(test)]
 mod texts;
+#[cfg(test)]
+mod units;

@@ -9,7 +9,7 @@ use std::test::Fail;
 use test_cases::comparisons::{Difference, expect, expect_encoding, expect_outcome};
 use test_cases::decoders::{Decoder, Outcome};
 use test_cases::fills::{Input, repeated};
-use test_cases::flavors::{FLAVORS, Flavor, encode, encoded_len, lossy_len};
+use test_cases::flavors::{FLAVORS, Flavor, decoded_len, encode, encoded_len, lossy_len};
 use test_cases::pattern::{PATTERN, encoded_pattern};
 use test_cases::plain::encoded;
 
@@ -78,6 +78,13 @@ fn expect_both_ways(
         flavor,
         "lossy_len",
         lossy_len(flavor, bytes),
+        Some(text.len()),
+    )?;
+    expect(
+        alloc,
+        flavor,
+        "decoded_len",
+        decoded_len(flavor, bytes),
         Some(text.len()),
     )?;
     let encoding = encode(alloc, flavor, text)?;

@@ -1,4 +1,4 @@
-//! How encodings compare as slices, and how the code units of their texts do.
+//! How texts and encodings compare, and how the code units of the texts do.
 
 use std::alloc::{AllocError, Global};
 use std::cmp::Ordering;
@@ -6,6 +6,7 @@ use std::cmp::Ordering::{Greater, Less};
 use std::str;
 use std::test::Fail;
 use test_cases::borders::{BORDERS, Border};
+use test_cases::comparisons::{Difference, expect};
 use test_cases::flavors::{FLAVORS, Flavor, encode};
 
 /// How the code units of two texts compare.
@@ -64,9 +65,82 @@ fn orders_examples(rt: HostRuntime) -> Result<(), Fail> {
     for (first, second, utf8, [units, cesu8, mutf8]) in rows {
         assert_eq!(rt; first.cmp(second), utf8, "UTF-8 of {first:?}");
         assert_eq!(rt; compare_units(first, second), units, "units of {first:?}");
+        assert_eq!(rt;
+            simd_cesu8::compare_as_utf16(first, second),
+            units,
+            "{first:?}"
+        );
         for (flavor, expected) in [(Flavor::Cesu8, cesu8), (Flavor::Mutf8, mutf8)] {
             let order = compare_encodings(rt.alloc(), flavor, first, second)?;
             assert_eq!(rt; order, expected, "{first:?} in {flavor:?}");
+        }
+    }
+    Ok(())
+}
+
+/// A text of a character so many times, and an end.
+fn with_front(alloc: Global, front: char, len: usize, end: &str) -> Result<String, AllocError> {
+    let mut text = String::new(alloc);
+    for _ in 0..len {
+        text.push(front)?;
+    }
+    text.push_str(end)?;
+    Ok(text)
+}
+
+/// Compares `compare_as_utf16` of two texts with how their code units compare, both ways.
+fn expect_order(alloc: Global, first: &str, second: &str) -> Result<(), Difference> {
+    let units = compare_units(first, second);
+    for (one, other, expected) in [(first, second, units), (second, first, units.reverse())] {
+        let ordering = simd_cesu8::compare_as_utf16(one, other);
+        expect(alloc, Flavor::Cesu8, "compare_as_utf16", ordering, expected)?;
+    }
+    Ok(())
+}
+
+/// Each of the ends with each, behind fronts of each length about the words that are compared at once.
+#[test]
+fn compares_behind_equal_fronts(rt: HostRuntime) -> Result<(), Fail> {
+    let ends = [
+        "",
+        "\0",
+        "A",
+        "\u{7FF}",
+        "\u{800}",
+        "\u{D7FF}z",
+        "\u{E000}",
+        "\u{FFFF}a",
+        "\u{10000}",
+        "\u{10000}b",
+        "\u{10001}",
+        "\u{1F496}",
+        "\u{10FFFF}",
+    ];
+    for front in ['a', '\u{FFFF}', '\u{10FFFF}'] {
+        for len in 0..=20 {
+            for first in ends {
+                let first = with_front(rt.alloc(), front, len, first)?;
+                for second in ends {
+                    let second = with_front(rt.alloc(), front, len, second)?;
+                    expect_order(rt.alloc(), first.as_str(), second.as_str())?;
+                }
+            }
+        }
+    }
+    Ok(())
+}
+
+/// Each scalar value at a border with each, behind each.
+#[test]
+fn compares_the_borders(rt: HostRuntime) -> Result<(), Fail> {
+    for front in &BORDERS {
+        let front = str::from_utf8(front.utf8)?.chars().next().unwrap_or('a');
+        for first in &BORDERS {
+            let first = with_front(rt.alloc(), front, 1, str::from_utf8(first.utf8)?)?;
+            for second in &BORDERS {
+                let second = with_front(rt.alloc(), front, 1, str::from_utf8(second.utf8)?)?;
+                expect_order(rt.alloc(), first.as_str(), second.as_str())?;
+            }
         }
     }
     Ok(())

@@ -43,6 +43,7 @@ fn make(rt: &HostRuntime, call: &str, bytes: &[u8]) -> io::Result<()> {
             tell_lossy(rt, flavors::decode_lossy_strict(rt.alloc(), flavor, bytes))
         }
         "into_string" => make_into_string(rt, flavor, bytes),
+        "decoded_len" => tell_length(rt, flavors::decoded_len(flavor, bytes)),
         "lossy_len" => tell_length(rt, flavors::lossy_len(flavor, bytes)),
         "active" | "fallback" | "simd" | "word" => ask_kernel(rt, call, flavor, bytes),
         "faults" => show_faults(rt, flavors::decode_strict(rt.alloc(), flavor, bytes)),
@@ -74,6 +75,11 @@ fn make_of_text(rt: &HostRuntime, call: &str, flavor: Flavor, text: &str) -> io:
     match call {
         "needs_encoded" => tell(rt, yes_or_no(flavors::needs_encoded(flavor, text)), &[]),
         "encoded_len" => tell_length(rt, Some(flavors::encoded_len(flavor, text))),
+        "utf16_len" => tell_length(rt, Some(simd_cesu8::utf16_len(text))),
+        "compare_as_utf16" => {
+            let is_equal = simd_cesu8::compare_as_utf16(text, text).is_eq();
+            tell(rt, yes_or_no(is_equal), &[])
+        }
         "encode" => tell_encoded(rt, flavors::encode(rt.alloc(), flavor, text)),
         "into_vec" => make_into_vec(rt, flavor, text),
         "counted" => append_counted(rt, Vec::new(rt.alloc()), flavors::counted(flavor, text)),

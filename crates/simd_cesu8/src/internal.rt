@@ -14,12 +14,13 @@ ghost use Rattle.simd_cesu8.specs.Outcomes.{IsFaultOf, IsAnswerOf, IsReadingOf, 
 use crate::error::{DecodeFault, DecodeSliceFault, DecodingError, LossySliceFault, TooShort};
 pub use cesu8_bytes::ascii::{ascii_text, is_short_ascii, is_short_unchanged_ascii};
 pub use cesu8_bytes::first_looks::{contains_changed, needs_encoded, unchanged_text, whole_text};
-pub use cesu8_bytes::lengths::encoded_len;
+pub use cesu8_bytes::lengths::{encoded_len, utf16_len};
 pub use cesu8_bytes::options::{DecodeOptions, Flavor};
+pub use cesu8_bytes::order::compare_as_utf16;
 use cesu8_bytes::writers::NoRoom;
 pub use cesu8_bytes::writers::{copy, copy_text};
 use cesu8_decode::refusal::{LossyRefusal, Refusal, SliceRefusal};
-pub use cesu8_decode::{decode_lossy, lossy_len};
+pub use cesu8_decode::{decode_lossy, decoded_len, lossy_len};
 pub use cesu8_encode::{encode, encode_into};
 use std::alloc::Global;
 

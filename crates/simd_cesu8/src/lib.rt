@@ -16,7 +16,10 @@
 //! | text | whether its encoding differs from its UTF-8 | [`needs_encoded`] |
 //! | text | the length of its encoding | [`encoded_len`] |
 //! | text | its encoding with the length in front, counted once | [`counted`] |
+//! | text | how many UTF-16 code units it has | [`utf16_len`] |
+//! | two texts | their order by UTF-16 code units | [`compare_as_utf16`] |
 //! | bytes of the encoding | their text, or an error | [`decode_strict`] |
+//! | bytes of the encoding | the length of that text, or whether they are valid | [`decoded_len`] |
 //! | bytes of the encoding, perhaps damaged | a text in any case | [`decode_lossy_strict`] |
 //! | bytes of the encoding, perhaps damaged | the length of that text | [`lossy_len`] |
 //! | bytes that are UTF-8, or else the encoding | their text, or an error | [`decode`] |
@@ -26,8 +29,11 @@
 //! [`decode_strict_to_slice`], [`decode_lossy_strict_to_slice`], [`decode_to_slice`] and
 //! [`decode_lossy_to_slice`].
 //!
-//! The root's calls are for CESU-8, and those of [`mutf8`] for MUTF-8. Use a strict call if the
-//! bytes must be the encoding: a lenient one accepts raw UTF-8, with characters of four bytes.
+//! The root's calls are for CESU-8, and those of [`mutf8`] for MUTF-8. Code units are the same in
+//! both, so the root alone has [`utf16_len`] and [`compare_as_utf16`].
+//!
+//! Use a strict call if the bytes must be the encoding: a lenient one accepts raw UTF-8, with
+//! characters of four bytes.
 //!
 //! ```rust
 //! assert!(rt; simd_cesu8::encode(alloc, "caf\u{E9}")?.is_borrowed());
@@ -38,14 +44,17 @@
 #![tactic(auto)]
 
 ghost use Rattle.std.specs.Prelude.{◌≡◌, ◌<◌, ◌≤◌, ◌+◌, ◌*◌, ◌++◌, [], ◌↔◌, length, IsTrue, IsUtf8, OnOk, OnErr, IsOk, vec_len, vec_capacity, IfSome, IfNone};
+ghost use Rattle.std.specs.Cmp.Lexicographic.{slice_cmp};
+ghost use Rattle.std.specs.Ordering.{nat_cmp};
 ghost use Rattle.std.specs.Str.{chars};
+ghost use Rattle.simd_cesu8.specs.Utf16.{units};
 ghost use Rattle.simd_cesu8.specs.Encoding.{Cesu8, encoding, NeedsEncoding};
 ghost use Rattle.simd_cesu8.specs.Class.{IsUnchangedUtf8};
 ghost use Rattle.simd_cesu8.specs.Reading.{IsStrictReading, HasNoStrictReading, IsLenientReading, HasNoLenientReading, reading, lossy_length, IsLenientLossyReading};
 ghost use Rattle.simd_cesu8.specs.Cow.{IfBytes, BorrowsBytesWhere, BuildsBytesOfCapacity, IfText, BorrowsTextWhere, BuildsTextOfCapacity, AnswersTextOfLength};
 ghost use Rattle.simd_cesu8.specs.Counted.{counted_encoding};
 ghost use Rattle.simd_cesu8.specs.Fault.{OnInvalid};
-ghost use Rattle.simd_cesu8.specs.Slices.{WritesAnswer, WritesReading, WritesLossyReading};
+ghost use Rattle.simd_cesu8.specs.Slices.{ReadsAtLength, WritesAnswer, WritesReading, WritesLossyReading};
 
 mod borrow_or_build;
 mod counted_text;
@@ -61,6 +70,7 @@ pub use crate::cow::{CowBytes, CowText};
 pub use crate::error::{DecodeFault, DecodeSliceFault, DecodingError, LossySliceFault, TooShort};
 use crate::internal::Flavor;
 use std::alloc::{AllocError, Global};
+use std::cmp::Ordering;
 
 /// Returns whether the CESU-8 of a text differs from its UTF-8: whether some scalar value is
 /// U+10000 or more. It requests no memory.
@@ -98,6 +108,34 @@ pub fn counted(value: &str) -> CountedText<'_>
     ensures { counted_encoding result ≡ encoding Cesu8 (chars value.now) }
 {
     CountedText::new(Flavor::Cesu8, value)
+}
+
+/// Returns how many UTF-16 code units a text has, as Java's and JavaScript's strings count their
+/// length, JNI, dex files and many editors. A surrogate pair counts as two. It requests no memory.
+///
+/// ```rust
+/// assert_eq!(rt; simd_cesu8::utf16_len("a\u{10FFFF}"), 3);
+/// ```
+pub fn utf16_len(text: &str) -> usize
+    ensures { result ≡ length (units (chars text.now)) }
+{
+    internal::utf16_len(text)
+}
+
+/// Compares two texts by their UTF-16 code units, as Java's `compareTo`, JavaScript and the canonical
+/// JSON of RFC 8785 do. Their encodings in CESU-8 compare so too. It requests no memory.
+///
+/// ```rust
+/// use std::cmp::Ordering;
+///
+/// // The surrogate pair D800 DC00 is below FFFF.
+/// let ordering = simd_cesu8::compare_as_utf16("\u{10000}", "\u{FFFF}");
+/// assert_eq!(rt; ordering, Ordering::Less);
+/// ```
+pub fn compare_as_utf16(text: &str, other: &str) -> Ordering
+    ensures { result ≡ slice_cmp nat_cmp (units (chars text.now)) (units (chars other.now)) }
+{
+    internal::compare_as_utf16(text, other)
 }
 
 /// Encodes a text to CESU-8 (Unicode Technical Report 26).
@@ -259,6 +297,24 @@ pub fn decode_lossy(alloc: Global, bytes: &[u8]) -> Result<CowText<'_>, AllocErr
     ensures capacity { BuildsTextOfCapacity result (lossy_length Cesu8 bytes.now) }
 {
     borrow_or_build::decode_lossy(alloc, Flavor::Cesu8, bytes)
+}
+
+/// Returns the length in bytes of the text that [`decode_strict`] returns, which decodes CESU-8
+/// (Unicode Technical Report 26). It returns `None` exactly where the bytes are the encoding of no
+/// text, so it also tests whether they are valid. It requests no memory.
+///
+/// [`lossy_len`] has a length for damaged bytes too.
+///
+/// ```rust
+/// assert_eq!(rt; simd_cesu8::decoded_len(b"a\xED\xA0\xBD\xED\xB2\x96"), Some(5));
+/// assert_eq!(rt; simd_cesu8::decoded_len(b"a\xED\xA0\xBD"), None);
+/// ```
+pub fn decoded_len(bytes: &[u8]) -> Option<usize>
+    ensures some { IfSome result (λ len.
+        ReadsAtLength (IsStrictReading Cesu8 bytes.now) (λ text_len. len ≡ text_len)) }
+    ensures none { IfNone result (HasNoStrictReading Cesu8 bytes.now) }
+{
+    internal::decoded_len(Flavor::Cesu8, bytes)
 }
 
 /// Returns the length in bytes of the text that [`decode_lossy_strict`] returns, which decodes

@@ -14,7 +14,7 @@ ghost use Rattle.simd_cesu8.specs.Reading.{IsStrictReading, HasNoStrictReading, 
 ghost use Rattle.simd_cesu8.specs.Cow.{IfBytes, BorrowsBytesWhere, BuildsBytesOfCapacity, IfText, BorrowsTextWhere, BuildsTextOfCapacity, AnswersTextOfLength};
 ghost use Rattle.simd_cesu8.specs.Counted.{counted_encoding};
 ghost use Rattle.simd_cesu8.specs.Fault.{OnInvalid};
-ghost use Rattle.simd_cesu8.specs.Slices.{WritesAnswer, WritesReading, WritesLossyReading};
+ghost use Rattle.simd_cesu8.specs.Slices.{ReadsAtLength, WritesAnswer, WritesReading, WritesLossyReading};
 
 use crate::counted_text::CountedText;
 use crate::cow::{CowBytes, CowText};
@@ -221,6 +221,24 @@ pub fn decode_lossy(alloc: Global, bytes: &[u8]) -> Result<CowText<'_>, AllocErr
     ensures capacity { BuildsTextOfCapacity result (lossy_length Mutf8 bytes.now) }
 {
     borrow_or_build::decode_lossy(alloc, Flavor::Mutf8, bytes)
+}
+
+/// Returns the length in bytes of the text that [`decode_strict`] returns, which decodes MUTF-8
+/// (Java's `DataInput`, without a length in front). It returns `None` exactly where the bytes are the
+/// encoding of no text, so it also tests whether they are valid. It requests no memory.
+///
+/// [`lossy_len`] has a length for damaged bytes too.
+///
+/// ```rust
+/// assert_eq!(rt; simd_cesu8::mutf8::decoded_len(b"a\xC0\x80"), Some(2));
+/// assert_eq!(rt; simd_cesu8::mutf8::decoded_len(b"a\0"), None);
+/// ```
+pub fn decoded_len(bytes: &[u8]) -> Option<usize>
+    ensures some { IfSome result (λ len.
+        ReadsAtLength (IsStrictReading Mutf8 bytes.now) (λ text_len. len ≡ text_len)) }
+    ensures none { IfNone result (HasNoStrictReading Mutf8 bytes.now) }
+{
+    internal::decoded_len(Flavor::Mutf8, bytes)
 }
 
 /// Returns the length in bytes of the text that [`decode_lossy_strict`] returns, which decodes

@@ -2,7 +2,8 @@
 
 use crate::decoders::{DECODERS, Decoder, Outcome, outcome_of};
 use crate::flavors::{
-    FLAVORS, Flavor, counted, encode, encode_into, encoded_len, lossy_len, needs_encoded,
+    FLAVORS, Flavor, counted, decoded_len, encode, encode_into, encoded_len, lossy_len,
+    needs_encoded,
 };
 use crate::plain::{Reading, read};
 use std::alloc::{AllocError, Global};
@@ -134,6 +135,14 @@ pub fn expect_reading(
 ) -> Result<(), Difference> {
     let len = Some(reading.text.len());
     expect(alloc, flavor, "lossy_len", lossy_len(flavor, bytes), len)?;
+    let len = if reading.damaged == 0 { len } else { None };
+    expect(
+        alloc,
+        flavor,
+        "decoded_len",
+        decoded_len(flavor, bytes),
+        len,
+    )?;
     for decoder in DECODERS {
         let expected = reading.expected(decoder, bytes);
         expect_outcome(alloc, decoder, flavor, bytes, expected)?;

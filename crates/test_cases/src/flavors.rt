@@ -91,6 +91,11 @@ pub fn decode_lossy(alloc: Global, flavor: Flavor, bytes: &[u8]) -> LossilyDecod
     call!(flavor, decode_lossy(alloc, bytes))
 }
 
+/// The length of a strict reading.
+pub fn decoded_len(flavor: Flavor, bytes: &[u8]) -> Option<usize> {
+    call!(flavor, decoded_len(bytes))
+}
+
 /// The length of a lossy reading.
 pub fn lossy_len(flavor: Flavor, bytes: &[u8]) -> Option<usize> {
     call!(flavor, lossy_len(bytes))

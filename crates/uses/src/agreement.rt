@@ -26,6 +26,21 @@ pub fn tells_encoded_length(alloc: Global, text: &str) -> Result<bool, AllocErro
     Ok(simd_cesu8::encode(alloc, text)?.as_bytes().len() == length)
 }
 
+/// Returns whether `decoded_len` is the length of the result of `decode_strict`, and is `None` if
+/// that is `Invalid`.
+pub fn tells_decoded_length(alloc: Global, bytes: &[u8]) -> Result<bool, AllocError>
+    ensures { IfOk result (λ agree. IsTrue agree) }
+{
+    laws::chars();
+    laws::lossy();
+    let length = match simd_cesu8::decode_strict(alloc, bytes) {
+        Ok(decoded) => Some(decoded.as_str().len()),
+        Err(DecodeFault::Invalid(_)) => None,
+        Err(DecodeFault::Memory(error)) => return Err(error),
+    };
+    Ok(simd_cesu8::decoded_len(bytes) == length)
+}
+
 /// Returns whether `lossy_len` is the length of the result of `decode_lossy_strict`.
 pub fn tells_lossy_length(alloc: Global, bytes: &[u8]) -> Result<bool, AllocError>
     ensures { IfOk result (λ agree. IsTrue agree) }
@@ -34,6 +49,18 @@ pub fn tells_lossy_length(alloc: Global, bytes: &[u8]) -> Result<bool, AllocErro
         .as_str()
         .len();
     Ok(simd_cesu8::lossy_len(bytes) == Some(length))
+}
+
+/// Returns whether `compare_as_utf16` compares two texts as their keys in CESU-8 do.
+pub fn compares_as_keys(alloc: Global, text: &str, other: &str) -> Result<bool, AllocError>
+    ensures { IfOk result (λ agree. IsTrue agree) }
+{
+    laws::chars();
+    laws::key_order();
+    let key = simd_cesu8::encode(alloc, text)?;
+    let other_key = simd_cesu8::encode(alloc, other)?;
+    let by_keys = key.as_bytes().cmp(other_key.as_bytes());
+    Ok(simd_cesu8::compare_as_utf16(text, other) == by_keys)
 }
 
 /// Appends by `encode_into` the result of `encode`, and returns this result.

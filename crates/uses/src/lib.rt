@@ -17,13 +17,14 @@ mod round_trip;
 mod string_file;
 
 pub use crate::agreement::{
-    append_and_encode, decodes_to_same, needs_or_borrows, tells_encoded_length, tells_lossy_length,
+    append_and_encode, compares_as_keys, decodes_to_same, needs_or_borrows, tells_decoded_length,
+    tells_encoded_length, tells_lossy_length,
 };
 pub use crate::arena::{ArenaFull, fill_arena};
 pub use crate::class_file::{ConstantFault, read_utf8_constant};
 pub use crate::entry::Entry;
 pub use crate::key_store::{Store, get_value, put_value};
-pub use crate::keys::{compare_as_utf16, key_without_zero};
+pub use crate::keys::key_without_zero;
 pub use crate::many_texts::append_all;
 pub use crate::repair::{Repaired, repair_log, rewrite_log};
 pub use crate::round_trip::{

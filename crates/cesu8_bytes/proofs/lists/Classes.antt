@@ -1,5 +1,5 @@
 -- Vectors that mark the bytes of a class.
-use Rattle.std.proofs.Common.{◌≡◌, ℕ, Bool, true, false, not, cond, ◌||◌, ◌%◌, ◌^◌, ◌≤◌, ◌<◌, List, [], ◌∷◌, map, length, replicate, eqb, leb, refl, ap, ◌∙◌, subst, arith, bit_and, bit_or, w8, Fits}
+use Rattle.std.proofs.Common.{◌≡◌, ℕ, Bool, true, false, not, cond, ◌||◌, ◌&&◌, ◌%◌, ◌^◌, ◌≤◌, ◌<◌, List, [], ◌∷◌, map, length, replicate, eqb, leb, ltb, refl, ap, ◌∙◌, subst, arith, bit_and, bit_or, w8, Fits}
 use Rattle.std.specs.Prelude.{ℤ}
 use Rattle.std.proofs.lemmas.Bool.{agree_below_at}
 use Rattle.std.proofs.lemmas.List.{length-map}
@@ -8,7 +8,7 @@ use lib.Lanes.{zip2, sel_l, mask_l, top, Each1}
 use mir.Val.{to_z, of_z}
 use Rattle.cesu8_text.specs.Class.{is_four}
 use Rattle.cesu8_bytes.specs.Kernels.{lane}
-use Rattle.cesu8_bytes.proofs.lists.Lanes.{ones, equal, map_agree}
+use Rattle.cesu8_bytes.proofs.lists.Lanes.{ones, equal, below, map_agree}
 
 -- the lanes of the mask that marks the bytes of a class
 abbrev pub marks_of : (ℕ → Bool) → List ℕ → List ℤ
@@ -94,6 +94,27 @@ two_marks x y n bytes long =
     marked (λ b. eqb b x || eqb b y) bytes _ (
     zip2_of_maps bit_or (λ b. equal b x) (λ b. equal b y) bytes (zip2_splat equal bytes n x long) (zip2_splat equal bytes n y long)
     ∙ map_agree _ _ bytes (Each1-all (λ b. bit_or (equal b x) (equal b y) ≡ ones (eqb b x || eqb b y)) (λ b. or_ones (eqb b x) (eqb b y)) bytes)
+    )
+
+and_ones : (s t : Bool) → bit_and (ones s) (ones t) ≡ ones (s && t)
+and_ones true true = refl
+and_ones true false = refl
+and_ones false true = refl
+and_ones false false = refl
+
+-- Three comparisons mark the bytes that are below one number, or from a second on below a third.
+pub range_marks : (x y z n : ℕ) (bytes : List ℕ) → length bytes ≡ n →
+    map (to_z w8) (zip2 bit_or (zip2 below bytes (replicate n x))
+    (zip2 bit_and (zip2 (λ a b. ones (leb a b)) (replicate n y) bytes) (zip2 below bytes (replicate n z))))
+    ≡ marks_of (λ b. ltb b x || (leb y b && ltb b z)) bytes
+range_marks x y z n bytes long =
+    marked (λ b. ltb b x || (leb y b && ltb b z)) bytes _ (
+    zip2_of_maps bit_or (λ b. ones (ltb b x)) (λ b. bit_and (ones (leb y b)) (ones (ltb b z))) bytes
+    (zip2_splat below bytes n x long)
+    (zip2_of_maps bit_and (λ b. ones (leb y b)) (λ b. ones (ltb b z)) bytes
+    (zip2_splat_left (λ a b. ones (leb a b)) y n bytes long) (zip2_splat below bytes n z long))
+    ∙ map_agree _ _ bytes (Each1-all (λ b. bit_or (ones (ltb b x)) (bit_and (ones (leb y b)) (ones (ltb b z))) ≡ ones (ltb b x || (leb y b && ltb b z)))
+    (λ b. ap (bit_or (ones (ltb b x))) (and_ones (leb y b) (ltb b z)) ∙ or_ones (ltb b x) (leb y b && ltb b z)) bytes)
     )
 
 top_of_lane : (t : Bool) → top 7 (of_z w8 (lane t)) ≡ t

@@ -1,14 +1,12 @@
--- By how much an encoding is longer than its UTF-8: by parts, and by marks.
+-- What bytes weigh: by parts, and by marks.
 use Rattle.std.proofs.Common.{◌≡◌, ℕ, ◌+◌, ◌-◌, ◌*◌, ◌<◌, ◌≤◌, Bool, true, false, cond, List, [], ◌∷◌, length, map, take, drop, replicate, refl, sym, ap, ◌∙◌, subst, arith, count_by, sum_by, count_ones, ◌/◌, ◌^◌, Fits, w8, w32}
 use lib.Lanes.{zip2, sel_l, top, mask_l, sum_l, fold_l, chunk, products, dots, Each1, Each2, Steps}
 use mir.Val.{of_z}
 use Rattle.std.specs.Prelude.{ℤ}
 use Rattle.std.proofs.lemmas.List.{length-map, length-drop, drop-drop, drop-map, take_all}
 use Rattle.std.proofs.lemmas.Simd.{length-replicate, Each2-of, Each1-zip2, sum-zip2, length-zip2, length-chunk, sum_bound, sum_dots, sum_by-ones, sum_fits, fold-sum, bytes_below, ones-mask_l}
-use Rattle.std.proofs.lemmas.Bool.Decides.{nat_tests}
 use Rattle.std.proofs.lemmas.List.Sums.{sum_by-cons, sum_by-take-drop}
-use Rattle.cesu8_text.specs.Class.{is_four, growth_of, is_null}
-use Rattle.cesu8_text.specs.Encoding.{Flavor, Cesu8, Mutf8}
+use Rattle.cesu8_text.specs.Class.{is_four, weight_of}
 use Rattle.cesu8_bytes.proofs.vectors.Rows.{mask_rest}
 use Rattle.cesu8_bytes.proofs.lists.Classes.{marks_of, chosen_by_marks}
 
@@ -18,29 +16,23 @@ doubled_one : (t : Bool) → 2 * cond t 1 0 ≡ cond t 2 0
 doubled_one true = refl
 doubled_one false = refl
 
--- Those of the class of nulls add one each, and those that lead four add two.
-pub growth_by_counts : (f : Flavor) (nulls : ℕ → Bool) → nulls ≡ is_null f → (bytes : List ℕ) →
-    count_by nulls bytes + 2 * count_by is_four bytes ≡ sum_by (growth_of f) bytes
-growth_by_counts f nulls are [] = refl
-growth_by_counts f nulls are (b ∷ bytes) =
+-- Those of the class add one each, and those that lead four add two.
+pub weight_by_counts : (class : ℕ → Bool) (bytes : List ℕ) → count_by class bytes + 2 * count_by is_four bytes ≡ sum_by (weight_of class) bytes
+weight_by_counts class [] = refl
+weight_by_counts class (b ∷ bytes) =
     omega (
       arith,
-      sum_by-cons (λ b. cond (nulls b) 1 0) b bytes,
+      sum_by-cons (λ b. cond (class b) 1 0) b bytes,
       sum_by-cons (λ b. cond (is_four b) 1 0) b bytes,
-      sum_by-cons (growth_of f) b bytes,
-      ap {B = ℕ} (λ p. cond (p b) 1 0) are,
+      sum_by-cons (weight_of class) b bytes,
       doubled_one (is_four b),
-      growth_by_counts f nulls are bytes,
+      weight_by_counts class bytes,
     )
 
-two_at_most : (f : Flavor) (b : ℕ) → growth_of f b ≤ 2
-two_at_most Cesu8 b = grind (arith, nat_tests)
-two_at_most Mutf8 b = grind (arith, nat_tests)
-
--- No byte adds more than two.
-pub growth_bound : (f : Flavor) (bytes : List ℕ) → sum_by (growth_of f) bytes ≤ 2 * length bytes
-growth_bound f [] = omega arith
-growth_bound f (b ∷ bytes) = omega (arith, sum_by-cons (growth_of f) b bytes, two_at_most f b, growth_bound f bytes)
+-- If none adds more than two, all add at most twice their number.
+pub weight_bound : (class : ℕ → Bool) → ((b : ℕ) → weight_of class b ≤ 2) → (bytes : List ℕ) → sum_by (weight_of class) bytes ≤ 2 * length bytes
+weight_bound class low [] = omega arith
+weight_bound class low (b ∷ bytes) = omega (arith, sum_by-cons (weight_of class) b bytes, low b, weight_bound class low bytes)
 
 -- ---- sums by parts
 
@@ -155,16 +147,16 @@ module _ (p : ℕ → Bool) (block : List ℕ) (n : ℕ) (lanes : List ℕ) (mar
       }
 
 -- All vectors of a block have counted all that its bytes add.
-pub block_counted : (f : Flavor) (class : ℕ → Bool) → class ≡ is_null f → (block : List ℕ) (n : ℕ) (nulls fours : List ℕ) →
-    length block ≤ 64 * n → HaveCounted class block n nulls → HaveCounted is_four block n fours →
-    sum_l nulls + 2 * sum_l fours ≡ sum_by (growth_of f) block
-block_counted f class are block n nulls fours whole of_class of_four =
+pub block_counted : (class : ℕ → Bool) (block : List ℕ) (n : ℕ) (ones fours : List ℕ) →
+    length block ≤ 64 * n → HaveCounted class block n ones → HaveCounted is_four block n fours →
+    sum_l ones + 2 * sum_l fours ≡ sum_by (weight_of class) block
+block_counted class block n ones fours whole of_class of_four =
     let all = take_all (64 * n) block whole in
     omega (
       arith,
       of_class.total ∙ ap (count_by class) all,
       of_four.total ∙ ap (count_by is_four) all,
-      growth_by_counts f class are block,
+      weight_by_counts class block,
     )
 
 -- The sum of dot products with ones is the sum of the lanes, which fits.

@@ -2,7 +2,7 @@
 
 ghost use Rattle.std.specs.Prelude.{◌≡◌, ◌==◌, ◌≤◌, ◌↔◌, ℕ, Bool, false, IsTrue, Any, map};
 ghost use Rattle.std.specs.Simd.Lanes.{mask_l};
-ghost use Rattle.cesu8_text.specs.Class.{is_four, is_null_four, is_high, is_null_high, is_null_lead, is_lead};
+ghost use Rattle.cesu8_text.specs.Class.{is_four, is_null_four, is_high, is_null_high, is_null_lead, is_lead, is_one_unit};
 ghost use Rattle.cesu8_bytes.specs.Kernels.{AnyIn, lane};
 
 use std::simd::Mask;
@@ -87,6 +87,9 @@ pub struct High;
 
 /// 00, or 80 (hexadecimal) or more.
 pub struct NullHigh;
+
+/// 00 to 7F, or C0 to EF (hexadecimal): in UTF-8 the lead bytes of one UTF-16 code unit.
+pub struct OneUnit;
 
 impl Class for NoByte {
     ghost class = { λ _. false };
@@ -193,6 +196,20 @@ impl<const N: usize> InVectors<N> for NullHigh {
     }
 }
 
+impl Class for OneUnit {
+    ghost class = { is_one_unit };
+}
+
+impl<const N: usize> InVectors<N> for OneUnit {
+    #[inline(always)]
+    fn marks(bytes: Simd<u8, N>) -> Mask<i8, N>
+        ensures { result ≡ map (λ b. lane (is_one_unit b)) bytes.entry }
+    {
+        let leads = bytes.simd_ge(Simd::splat(0xC0)) & bytes.simd_lt(Simd::splat(0xF0));
+        bytes.simd_lt(Simd::splat(0x80)) | leads
+    }
+}
+
 impl InAllVectors for NoByte {}
 
 impl InAllVectors for Null {}
@@ -208,3 +225,5 @@ impl InAllVectors for NullHigh {}
 impl InAllVectors for Lead {}
 
 impl InAllVectors for NullLead {}
+
+impl InAllVectors for OneUnit {}

@@ -41,7 +41,7 @@ at_length : (IsReading : List ℕ → Type 0) (F : ℕ → Type 0) (text answer 
 at_length IsReading F text answer is found =
     subst (λ t. F (length t)) (ap utf8 (is.only found.0 found.1) ∙ is.utf8_is) found.2
 
-of_length : (IsReading : List ℕ → Type 0) (F : ℕ → Type 0) (text answer : List ℕ) → IsOnlyText IsReading text answer →
+pub of_length : (IsReading : List ℕ → Type 0) (F : ℕ → Type 0) (text answer : List ℕ) → IsOnlyText IsReading text answer →
     F (length answer) → ReadsAtLength IsReading F
 of_length IsReading F text answer is holds = (text, is.reads, subst (λ t. F (length t)) (sym is.utf8_is) holds)
 
