@@ -4,7 +4,7 @@
 #   tests/clauses.sh --write    writes tests/clauses.txt again from the sources
 # These have to hold:
 # - docs/PROVED.md names each public clause, and none that is not in the sources;
-# - each name in the README's table of clauses is in the sources;
+# - each clause and law that README.md names is in the sources;
 # - a public function has an `ensures` and no `requires`;
 # - what is there twice, for each encoding or kernel, is the same;
 # - tests/clauses.txt has each public clause, signature and type, and the definitions that they
@@ -191,27 +191,20 @@ page() {
     comm -23 "$scratch/sources" "$scratch/page" | none 'not named in docs/PROVED.md'
 }
 
-# The README's table of clauses names functions with clauses of theirs, in code with a colon
-# between, and beside these functions, laws, definitions and faults alone.
+# The README names functions with clauses of theirs, in code with a colon between, and laws.
 readme() {
-    awk '/^\| words \| clause \|$/ { is_table = 1 } !/^\|/ { is_table = 0 } is_table' README.md |
-        awk -F '|' '{ print $(NF - 1) }' >"$scratch/table"
-    [[ -s $scratch/table ]] || echo 'the table of clauses' | none 'not in README.md'
-    grep -o '`[a-z_:]*`: `[a-z_]*`\(, `[a-z_]*`\)*' "$scratch/table" | tr -d '` ' |
+    grep -o '`[a-z_:]*`: `[a-z_]*`\(, `[a-z_]*`\)*' README.md | tr -d '` ' |
         awk '{
             at = match($0, /[^:]:[^:]/)
             names = split(substr($0, at + 2), name, ",")
             for (j = 1; j <= names; j++) print substr($0, 1, at), name[j]
         }' | sort -u >"$scratch/pairs"
+    [[ -s $scratch/pairs ]] || echo 'the main clauses' | none 'not in README.md'
     cut -d ' ' -f 2- "$scratch/sources" | sort -u | comm -13 - "$scratch/pairs" |
         none 'named in README.md, and not there'
-    {
-        cut -d ' ' -f 2 "$scratch/sources"
-        grep -o '[A-Z][A-Za-z0-9]*' "$scratch/clauses.txt"
-    } | sort -u >"$scratch/names"
-    sed 's/: `[a-z_]*`\(, `[a-z_]*`\)*//g' "$scratch/table" | grep -o '`[^`]*`' | tr -d '`' |
-        sort -u | comm -13 "$scratch/names" - |
-        none 'named in README.md, and nowhere in the contracts'
+    cut -d ' ' -f 2 "$scratch/sources" | sort -u >"$scratch/names"
+    grep -o '`laws::[a-z_]*`' README.md | tr -d '`' | sort -u | comm -13 "$scratch/names" - |
+        none 'named in README.md, and no law'
 }
 
 sources

@@ -13,19 +13,20 @@ source "$(dirname "${BASH_SOURCE[0]}")/lib.sh" || exit 2
 # shellcheck source=tests/kit.sh
 source "$top/tests/kit.sh" || exit 2
 
-# The crate of the new repository: the program that docs/CALLING.md shows, and a module whose proof
-# cites a clause and a law.
+# The crate of the new repository: the program that README.md shows, and a module whose proof cites a
+# clause and a law.
 write_crate() {
     mkdir -p "$1/src" "$1/proofs/round_trip/encode_and_decode" || exit 2
     cat >"$1/src/main.rt" <<'PROGRAM'
-//! Prints how many bytes the key of a text has, and whether it is borrowed.
 #![tactic(auto)]
-
 use std::io;
 
 fn main(rt: HostRuntime) -> io::Result<()> {
-    let key = simd_cesu8::encode(rt.alloc(), "\u{1F496}")?;
-    println!(rt; "{} bytes, borrowed: {}", key.as_bytes().len(), key.is_borrowed())
+    let key = simd_cesu8::encode(rt.alloc(), "a\u{1F496}")?;
+    println!(rt; "{} bytes, borrowed: {}", key.as_bytes().len(), key.is_borrowed())?;
+
+    let text = simd_cesu8::decode_lossy_strict(rt.alloc(), key.as_bytes())?;
+    rt.println(text.as_str())
 }
 PROGRAM
     printf '\npub mod round_trip;\n' >>"$1/src/main.rt"
@@ -96,7 +97,8 @@ prove() {
     done
     if ! (cd "$new/crates/keys" && quietly rt run ${PROOF_JOBS:+--jobs "$PROOF_JOBS"}); then
         wrong 'the crate is not proved'
-    elif ! grep -qx '6 bytes, borrowed: false' "$scratch/said"; then
+    elif ! grep -qx '7 bytes, borrowed: false' "$scratch/said" ||
+        ! grep -qx $'a\360\237\222\226' "$scratch/said"; then
         cat "$scratch/said"
         wrong 'the crate prints something else'
     fi
