@@ -76,8 +76,8 @@ link_shared() {
 pages=(docs/C.md docs/PROGRAM.md CHANGELOG.md SECURITY.md)
 there=" README.md cesu8.h ${pages[*]##*/} "
 
-# A page, without what is for the repository alone: the section `From the repository`, and each sentence
-# with a link to what is not in the release. Another link becomes its text: `page FILE`.
+# A page, without each sentence with a link to what is not in the release. Another link becomes its text:
+# `page FILE`.
 page() {
     awk -v there="$there" '
         # A sentence with the text of its links, or nothing.
@@ -94,8 +94,6 @@ page() {
             }
             return sentence
         }
-        /^## / { is_left_out = $0 == "## From the repository" }
-        is_left_out { next }
         /^```/ { is_code = !is_code }
         is_code || /^(    .*)?$/ { print; next }
         {
