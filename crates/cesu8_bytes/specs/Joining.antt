@@ -13,10 +13,12 @@ pub data Part : Type 0 where
   Stays : ℕ → Part
   Changes : ℕ → Part
 
+-- What changes is a scalar value that the flavor encodes otherwise.
 abbrev pub IsPart : Flavor → Part → Type 0
 IsPart f (Stays b) = Unit {0}
 IsPart f (Changes c) = IsScalarValue c × IsEncodedOtherwise f c
 
+-- Each of them is such a part.
 abbrev pub AreParts : Flavor → List Part → Type 0
 AreParts f [] = Unit {0}
 AreParts f (part ∷ parts) = IsPart f part × AreParts f parts

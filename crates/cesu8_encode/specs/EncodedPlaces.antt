@@ -48,9 +48,11 @@ abbrev pub changed_at : Flavor → List ℕ → ℕ → ℕ
 changed_at f window i =
     changed f (slice_index window i) (slice_index window (i + 1)) (slice_index window (i + 2)) (slice_index window (i + 3))
 
+-- Whether that byte becomes two.
 abbrev pub is_doubled_at : Flavor → List ℕ → ℕ → Bool
 is_doubled_at f window i = is_doubled f (slice_index window i) (slice_index window (i + 2))
 
+-- What is written for that byte.
 abbrev pub encoded_byte_at : Flavor → List ℕ → ℕ → List ℕ
 encoded_byte_at f window i =
     encoded_byte f (slice_index window i) (slice_index window (i + 1)) (slice_index window (i + 2)) (slice_index window (i + 3))
