@@ -64,7 +64,7 @@ fn calls(len: usize, most: usize) -> usize {
     if most == 0 { 0 } else { len.div_ceil(most) }
 }
 
-/// The same with one more call, which reports the end or fails.
+/// How many calls so many bytes take, and one more, which reports the end or fails.
 fn calls_to_end(len: usize, most: usize) -> usize {
     calls(len, most).saturating_add(1)
 }
@@ -74,7 +74,8 @@ fn front(bytes: &[u8], len: usize) -> &[u8] {
     bytes.get(..len).unwrap_or(&[])
 }
 
-/// In calls of so many bytes, with a flush that fails with the error if there is one.
+/// What differs at a row, in calls of so many bytes, with a flush that fails with the error if there
+/// is one.
 fn difference_at_rows(alloc: Global, most: usize, error: Option<ErrorKind>) -> Option<Difference> {
     let flushed = if error.is_some() { FAILED } else { DONE };
     for (words, bytes, end) in &ROWS {

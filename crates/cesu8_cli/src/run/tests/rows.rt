@@ -27,9 +27,10 @@ pub const TRAILING: End = Err((1, "cesu8: bytes after the string"));
 
 pub const USAGE: End = Err((2, "usage: cesu8_cli COMMAND FLAVOR"));
 
-/// U+1F496 as a surrogate pair, and in UTF-8.
+/// U+1F496 as a surrogate pair.
 pub const PAIR: [u8; 6] = *b"\xED\xA0\xBD\xED\xB2\x96";
 
+/// U+1F496 in UTF-8.
 pub const HEART: &[u8] = b"\xF0\x9F\x92\x96";
 
 /// U+FFFD in UTF-8, five times.
