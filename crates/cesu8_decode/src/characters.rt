@@ -11,12 +11,12 @@ ghost use Rattle.cesu8_bytes.specs.declared.options.Strictness.TheVariants.{Loss
 
 use super::packing::WIDEST;
 use super::refusal::is_refused;
-use super::widths::width;
+use super::widths::{is_one, width};
 use super::windows::Decoded;
 use cesu8_bytes::implementation::class::{High, NullHigh};
 use cesu8_bytes::implementation::short::copy_short;
 use cesu8_bytes::joining::{PAIR, PAIR_READ, is_pair, utf8_of_pair};
-use cesu8_bytes::options::{DecodeOptions, Flavor};
+use cesu8_bytes::options::{Flavor, Strictness};
 use cesu8_bytes::runs::copy_run;
 use cesu8_bytes::writers::put;
 use std::simd::prelude::*;
@@ -27,9 +27,14 @@ const REPLACEMENT: [u8; WIDEST] = [0xEF, 0xBF, 0xBD];
 /// Writes the characters of the bytes, and U+FFFD for each damaged byte. Strict reading stops
 /// behind the first of these.
 #[inline(always)]
-pub fn write_characters(options: DecodeOptions, bytes: &[u8], out: &mut [u8]) -> Decoded
+pub fn write_characters(
+    flavor: Flavor,
+    strictness: Strictness,
+    bytes: &[u8],
+    out: &mut [u8],
+) -> Decoded
     requires { WIDEST * length bytes.now ≤ length out.old }
-    ensures read { ReadsAll (flavor_of options.flavor) options.strictness bytes.now
+    ensures read { ReadsAll (flavor_of flavor) strictness bytes.now
         result.read (take result.end out.new) result.is_damaged }
     ensures end { result.end ≤ WIDEST * length bytes.now }
     ensures len { length out.new ≡ length out.old }
@@ -37,8 +42,8 @@ pub fn write_characters(options: DecodeOptions, bytes: &[u8], out: &mut [u8]) ->
     let mut read = 0;
     let mut end = 0;
     let mut is_damaged = false;
-    while (read < bytes.len()) & !is_refused(options.strictness, is_damaged) {
-        let step = write_next(options.flavor, &bytes[read..], out, end);
+    while (read < bytes.len()) & !is_refused(strictness, is_damaged) {
+        let step = write_next(flavor, &bytes[read..], out, end);
         read += step.read;
         end = step.end;
         is_damaged = is_damaged | step.is_damaged;
@@ -77,7 +82,7 @@ fn write_next(flavor: Flavor, bytes: &[u8], out: &mut [u8], end: usize) -> Decod
     write_character(flavor, bytes, out, end)
 }
 
-/// Copies some characters of one byte, and returns how many. If few bytes are left, it copies none.
+/// Copies some characters of one byte, and returns how many. If few bytes are left, it copies one.
 #[inline(always)]
 fn copy_ascii(flavor: Flavor, bytes: &[u8], out: &mut [u8], at: usize) -> usize
     requires some { 0 < length bytes.now }
@@ -88,13 +93,18 @@ fn copy_ascii(flavor: Flavor, bytes: &[u8], out: &mut [u8], at: usize) -> usize
     ensures bytes { take (at + result) out.new ≡ take at out.old ++ take result bytes.now }
     ensures len { length out.new ≡ length out.old }
 {
-    if bytes[0] >= 0x80 {
+    if !is_one(flavor, bytes[0]) {
         return 0;
     }
-    match flavor {
+    let run = match flavor {
         Flavor::Cesu8 => copy_run::<High>(bytes, out, at),
         Flavor::Mutf8 => copy_run::<NullHigh>(bytes, out, at),
+    };
+    if run == 0 {
+        put(&bytes[..1], out, at);
+        return 1;
     }
+    run
 }
 
 /// Writes the character that begins the bytes, or U+FFFD for a damaged byte.

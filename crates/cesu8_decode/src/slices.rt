@@ -4,29 +4,30 @@
 //! passes find whether they are damaged and, if needed, how long their text is. Then it is written
 //! piece by piece in its final position.
 
-ghost use Rattle.std.specs.Prelude.{◌≡◌, ◌+◌, ◌*◌, ◌≤◌, List, ℕ, length, take};
+ghost use Rattle.std.specs.Prelude.{◌≡◌, ◌+◌, ◌*◌, ◌≤◌, List, ℕ, length, take, IfSome, IfNone};
 ghost use Rattle.cesu8_text.specs.Encoding.{Flavor as AnyFlavor};
-ghost use Rattle.cesu8_text.specs.Reading.{reading, lossy_length};
+ghost use Rattle.cesu8_text.specs.Reading.{HasNoStrictReading, reading, lossy_length};
 ghost use Rattle.cesu8_text.specs.Slices.{StandsAtFront};
 ghost use Rattle.cesu8_text.specs.Text.{utf8};
 ghost use Rattle.cesu8_bytes.specs.Internal.{flavor_of};
 ghost use Rattle.cesu8_bytes.specs.Puts.{PutsAnswer};
-ghost use Rattle.cesu8_decode.specs.Decoding.{ReadsAll};
+ghost use Rattle.cesu8_bytes.specs.declared.options.Strictness.TheVariants.{Strict};
+ghost use Rattle.cesu8_decode.specs.Decoding.{ReadsAll, TextAtFront};
 ghost use Rattle.cesu8_decode.specs.PutReadings.{PutsText, IsReadingOf};
 
 use crate::characters::write_characters;
 use crate::damage::is_damaged;
 use crate::lengths::lossy_len;
 use crate::packing::WIDEST;
-use crate::piece::{next_piece, write_by_places};
+use crate::piece::{Piece, next_piece, write_by_places};
 use crate::refusal::{Unwritten, is_refused};
-use crate::way::{FEWEST, SHORT_WINDOW, Way, are_fewest, way_of};
+use crate::way::{FEWEST, LONG_WINDOW, SHORT_WINDOW, Way, are_fewest, way_of};
 use crate::windows::{
     AROUND, Decoded, LEAST, LONG_ROOM, LONG_TEXT, MEDIUM_ROOM, MEDIUM_TEXT, SHORT_ROOM, SHORT_TEXT,
     SPARED,
 };
 use cesu8_bytes::joining::ROOM_LEN;
-use cesu8_bytes::options::{DecodeOptions, Flavor, Strictness};
+use cesu8_bytes::options::{Flavor, Strictness};
 use cesu8_bytes::writers::{NoRoom, copy_to_slice, put};
 
 // The lengths of buffers for the text of bytes that are read one character after another.
@@ -34,19 +35,28 @@ const FEWEST_TEXT: usize = WIDEST * FEWEST;
 
 const CHARACTERS_TEXT: usize = WIDEST * SHORT_WINDOW;
 
+/// The length of a buffer for the text of a few pieces.
+const PIECES_TEXT: usize = WIDEST * LONG_WINDOW;
+
 /// Writes the text of the bytes to a caller's buffer, if it fits.
 #[inline(never)]
-pub fn put_text(options: DecodeOptions, bytes: &[u8], buf: &mut [u8]) -> Result<usize, Unwritten>
-    ensures { PutsText options.strictness
-        (IsReadingOf (flavor_of options.flavor) options.strictness bytes.now)
+pub fn put_text(
+    flavor: Flavor,
+    strictness: Strictness,
+    bytes: &[u8],
+    buf: &mut [u8],
+) -> Result<usize, Unwritten>
+    ensures { PutsText strictness
+        (IsReadingOf (flavor_of flavor) strictness bytes.now)
         result buf.old buf.new }
 {
-    match way_of(options, bytes) {
-        Way::Characters => put_characters(options, bytes, buf),
-        Way::ShortWindow => put_window::<SHORT_ROOM, SHORT_TEXT>(options, bytes, buf),
-        Way::MediumWindow => put_window::<MEDIUM_ROOM, MEDIUM_TEXT>(options, bytes, buf),
-        Way::LongWindow => put_window::<LONG_ROOM, LONG_TEXT>(options, bytes, buf),
-        Way::Pieces => put_pieces(options, bytes, buf),
+    match way_of(flavor, strictness, bytes) {
+        Way::Characters => put_characters(flavor, strictness, bytes, buf),
+        Way::ShortWindow => put_window::<SHORT_ROOM, SHORT_TEXT>(flavor, strictness, bytes, buf),
+        Way::MediumWindow => put_window::<MEDIUM_ROOM, MEDIUM_TEXT>(flavor, strictness, bytes, buf),
+        Way::LongWindow => put_window::<LONG_ROOM, LONG_TEXT>(flavor, strictness, bytes, buf),
+        Way::FewPieces => put_few_pieces(flavor, strictness, bytes, buf),
+        Way::Pieces => put_pieces(flavor, strictness, bytes, buf),
         Way::Refused => Err(Unwritten::NoText),
     }
 }
@@ -54,95 +64,123 @@ pub fn put_text(options: DecodeOptions, bytes: &[u8], buf: &mut [u8]) -> Result<
 /// Writes the text of a few bytes, one character after another.
 #[inline(never)]
 pub fn put_characters(
-    options: DecodeOptions,
+    flavor: Flavor,
+    strictness: Strictness,
     bytes: &[u8],
     buf: &mut [u8],
 ) -> Result<usize, Unwritten>
     requires { length bytes.now ≤ SHORT_WINDOW }
-    ensures { PutsText options.strictness
-        (IsReadingOf (flavor_of options.flavor) options.strictness bytes.now)
+    ensures { PutsText strictness
+        (IsReadingOf (flavor_of flavor) strictness bytes.now)
         result buf.old buf.new }
 {
     if are_fewest(bytes) {
-        return put_characters_in::<FEWEST_TEXT>(options, bytes, buf);
+        return put_characters_in::<FEWEST_TEXT>(flavor, strictness, bytes, buf);
     }
-    put_characters_in::<CHARACTERS_TEXT>(options, bytes, buf)
+    put_characters_in::<CHARACTERS_TEXT>(flavor, strictness, bytes, buf)
 }
 
 #[inline(always)]
 fn put_characters_in<const WRITTEN: usize>(
-    options: DecodeOptions,
+    flavor: Flavor,
+    strictness: Strictness,
     bytes: &[u8],
     buf: &mut [u8],
 ) -> Result<usize, Unwritten>
     requires { (WIDEST * length bytes.now ≤ WRITTEN) × (WRITTEN ≤ CHARACTERS_TEXT) }
-    ensures { PutsText options.strictness
-        (IsReadingOf (flavor_of options.flavor) options.strictness bytes.now)
+    ensures { PutsText strictness
+        (IsReadingOf (flavor_of flavor) strictness bytes.now)
         result buf.old buf.new }
 {
     let mut written = [0; WRITTEN];
-    let decoded = write_characters(options, bytes, &mut written);
-    put_decoded(options, decoded, &written, buf)
+    let decoded = write_characters(flavor, strictness, bytes, &mut written);
+    put_decoded(strictness, decoded, &written, buf)
 }
 
 /// Writes the text of the bytes of one window, in buffers of these lengths. It is not inlined, so
 /// that they are made only when it is called.
 #[inline(never)]
 fn put_window<const LEN: usize, const WRITTEN: usize>(
-    options: DecodeOptions,
+    flavor: Flavor,
+    strictness: Strictness,
     bytes: &[u8],
     buf: &mut [u8],
 ) -> Result<usize, Unwritten>
     requires window { (length bytes.now + AROUND ≤ LEN) × (LEAST ≤ LEN) }
     requires written { (WIDEST * LEN ≤ WRITTEN + SPARED) × (WRITTEN ≤ LONG_TEXT) }
-    ensures { PutsText options.strictness
-        (IsReadingOf (flavor_of options.flavor) options.strictness bytes.now)
+    ensures { PutsText strictness
+        (IsReadingOf (flavor_of flavor) strictness bytes.now)
         result buf.old buf.new }
 {
     let mut window = [0; LEN];
     let mut written = [0; WRITTEN];
-    let decoded = write_by_places(options.flavor, bytes, &mut window, &mut written);
-    put_decoded(options, decoded, &written, buf)
+    let decoded = write_by_places(flavor, bytes, &mut window, &mut written);
+    put_decoded(strictness, decoded, &written, buf)
 }
 
 /// Copies the text that was decoded of all bytes, unless damage in them is refused.
 #[inline(always)]
 fn put_decoded(
-    options: DecodeOptions,
+    strictness: Strictness,
     decoded: Decoded,
     written: &[u8],
     buf: &mut [u8],
 ) -> Result<usize, Unwritten>
     requires { decoded.end ≤ length written.now }
     ensures { (f : AnyFlavor) (bytes : List ℕ)
-        → ReadsAll f options.strictness bytes decoded.read
+        → ReadsAll f strictness bytes decoded.read
         (take decoded.end written.now) decoded.is_damaged
-        → PutsText options.strictness (IsReadingOf f options.strictness bytes)
+        → PutsText strictness (IsReadingOf f strictness bytes)
         result buf.old buf.new }
 {
-    if is_refused(options.strictness, decoded.is_damaged) {
+    if is_refused(strictness, decoded.is_damaged) {
         return Err(Unwritten::NoText);
     }
     copy_to_slice(&written[..decoded.end], buf).map_err(Unwritten::NoRoom)
 }
 
-/// Writes the text of more bytes, piece by piece. First passes find whether there is one, and how
-/// long it is. In strict reading it is never longer than the bytes.
+/// Writes the text of some more bytes, piece by piece, to an array, and copies it.
 #[inline(never)]
-fn put_pieces(options: DecodeOptions, bytes: &[u8], buf: &mut [u8]) -> Result<usize, Unwritten>
-    ensures { PutsText options.strictness
-        (IsReadingOf (flavor_of options.flavor) options.strictness bytes.now)
+fn put_few_pieces(
+    flavor: Flavor,
+    strictness: Strictness,
+    bytes: &[u8],
+    buf: &mut [u8],
+) -> Result<usize, Unwritten>
+    requires { length bytes.now ≤ LONG_WINDOW }
+    ensures { PutsText strictness
+        (IsReadingOf (flavor_of flavor) strictness bytes.now)
         result buf.old buf.new }
 {
-    match options.strictness {
+    let mut written = [0; PIECES_TEXT];
+    match write_pieces::<MEDIUM_ROOM, MEDIUM_TEXT>(flavor, strictness, bytes, &mut written) {
+        Some(end) => copy_to_slice(&written[..end], buf).map_err(Unwritten::NoRoom),
+        None => Err(Unwritten::NoText),
+    }
+}
+
+/// Writes the text of still more bytes, piece by piece, in its final position. First passes find whether there is one, and how
+/// long it is. In strict reading it is never longer than the bytes.
+#[inline(never)]
+fn put_pieces(
+    flavor: Flavor,
+    strictness: Strictness,
+    bytes: &[u8],
+    buf: &mut [u8],
+) -> Result<usize, Unwritten>
+    ensures { PutsText strictness
+        (IsReadingOf (flavor_of flavor) strictness bytes.now)
+        result buf.old buf.new }
+{
+    match strictness {
         Strictness::Strict => {
-            if is_damaged(options.flavor, bytes) {
+            if is_damaged(flavor, bytes) {
                 return Err(Unwritten::NoText);
             }
-            put_undamaged(options.flavor, bytes, buf).map_err(Unwritten::NoRoom)
+            put_undamaged(flavor, bytes, buf).map_err(Unwritten::NoRoom)
         }
-        Strictness::Lossy => match lossy_len(options.flavor, bytes) {
-            Some(len) => put_of_length(options.flavor, bytes, len, buf).map_err(Unwritten::NoRoom),
+        Strictness::Lossy => match lossy_len(flavor, bytes) {
+            Some(len) => put_of_length(flavor, bytes, len, buf).map_err(Unwritten::NoRoom),
             None => Err(Unwritten::TooLong),
         },
     }
@@ -175,22 +213,53 @@ fn put_of_length(flavor: Flavor, bytes: &[u8], len: usize, buf: &mut [u8]) -> Re
 
 /// Writes the lossy reading of the bytes at the front of a slice that is long enough, and returns
 /// its length.
-#[inline(never)]
 fn write_reading(flavor: Flavor, bytes: &[u8], out: &mut [u8]) -> usize
     requires { lossy_length (flavor_of flavor) bytes.now ≤ length out.old }
     ensures { StandsAtFront (utf8 (reading (flavor_of flavor) bytes.now))
         result out.old out.new }
 {
+    // Lossy reading refuses no damage.
+    write_pieces::<LONG_ROOM, LONG_TEXT>(flavor, Strictness::Lossy, bytes, out).unwrap()
+}
+
+/// Writes the text of the bytes piece by piece at the front of a slice that is long enough, and
+/// returns where it ends, unless damage is refused. The buffers for pieces by places have these
+/// lengths.
+#[inline(never)]
+fn write_pieces<const LEN: usize, const WRITTEN: usize>(
+    flavor: Flavor,
+    strictness: Strictness,
+    bytes: &[u8],
+    out: &mut [u8],
+) -> Option<usize>
+    requires window { LEAST ≤ LEN }
+    requires written { (WIDEST * LEN ≤ WRITTEN + SPARED) × (WRITTEN ≤ LONG_TEXT) }
+    requires out { lossy_length (flavor_of flavor) bytes.now ≤ length out.old }
+    ensures some { IfSome result (λ end.
+        TextAtFront (flavor_of flavor) strictness bytes.now end out.old out.new) }
+    ensures none { IfNone result ((strictness ≡ Strict)
+        × HasNoStrictReading (flavor_of flavor) bytes.now) }
+{
     let mut room = [0; ROOM_LEN];
-    let mut written = [0; LONG_TEXT];
+    let mut written = [0; WRITTEN];
     let mut rest = bytes;
     let mut end = 0;
     let mut joins = true;
     while !rest.is_empty() {
-        let piece = next_piece(flavor, rest, joins, &mut room, &mut written);
-        joins = !piece.is_damaged;
-        end = put(piece.text.as_bytes(), out, end);
-        rest = &rest[piece.read..];
+        match next_piece::<LEN>(flavor, rest, joins, &mut room, &mut written) {
+            Piece::Joined(joined) => {
+                rest = &rest[joined.read..];
+                end = put(joined.text.as_bytes(), out, end);
+            }
+            Piece::Written(decoded) => {
+                if is_refused(strictness, decoded.is_damaged) {
+                    return None;
+                }
+                rest = &rest[decoded.read..];
+                joins = !decoded.is_damaged;
+                end = put(&written[..decoded.end], out, end);
+            }
+        }
     }
-    end
+    Some(end)
 }

@@ -36,7 +36,7 @@ pub fn width(flavor: Flavor, bytes: &[u8], front: &[u8; PAIR_READ]) -> usize
 
 /// Returns whether a byte is a character of one byte.
 #[inline(always)]
-fn is_one(flavor: Flavor, byte: u8) -> bool
+pub fn is_one(flavor: Flavor, byte: u8) -> bool
     ensures { result ≡ one_at (flavor_of flavor) byte }
 {
     match flavor {

@@ -9,8 +9,8 @@ use Rattle.cesu8_decode.proofs.copy_or_write.put_changed.Goals as goal
 -- No encoding has a byte that changes.
 pub returns-in-Strict : goal.returns-in-Strict
 returns-in-Strict c =
-    let f = flavor_of c.args.options.flavor in
-    no_strict_text f c.args.options.strictness c.args.bytes.now c.args.buf.now (
+    let f = flavor_of c.args.flavor in
+    no_strict_text f c.args.strictness c.args.bytes.now c.args.buf.now (
       c.in-Strict.is,
       λ text reads.
           none_changed f text reads.0 (subst (Any (IsChangedByte f)) (sym reads.1) c.requires),
