@@ -61,9 +61,14 @@ abbrev pub TextAtFront : Flavor → Strictness → List ℕ → ℕ → List ℕ
 TextAtFront f which bytes end old new =
     (text : List ℕ) × IsDecodedText f which bytes text × StandsAtFront (utf8 text) end old new
 
+-- The text of the bytes has no more bytes than these.
+abbrev pub most_text : Flavor → Strictness → List ℕ → ℕ
+most_text f Strict bytes = length bytes
+most_text f Lossy bytes = lossy_length f bytes
+
 -- A piece of text is written to the front of a slice, up to an end, and the bytes after it stay.
 pub record IsWrittenSoFar (f : Flavor) (which : Strictness) (bytes rest : List ℕ) (end : ℕ) (old new : List ℕ) : Type 0 where
   pub so_far : IsPiece f which bytes rest (take end new)
-  pub room : end + lossy_length f rest ≡ lossy_length f bytes
+  pub room : end + most_text f which rest ≤ most_text f which bytes
   pub behind : drop end new ≡ drop end old
   pub len : length new ≡ length old

@@ -13,6 +13,6 @@ IsWayOf f which bytes Characters = length bytes ≤ 96
 IsWayOf f which bytes ShortWindow = length bytes ≤ 96
 IsWayOf f which bytes MediumWindow = length bytes ≤ 256
 IsWayOf f which bytes LongWindow = length bytes ≤ 1024
-IsWayOf f which bytes FewPieces = length bytes ≤ 1024
+IsWayOf f which bytes FewPieces = (which ≡ Strict) × (length bytes ≤ 1024)
 IsWayOf f which bytes Pieces = ⊤
 IsWayOf f which bytes Refused = (which ≡ Strict) × HasNoStrictReading f bytes

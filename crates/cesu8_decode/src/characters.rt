@@ -1,6 +1,6 @@
 //! Decodes bytes one character after another. Runs of ASCII are copied by vectors.
 
-ghost use Rattle.std.specs.Prelude.{◌≡◌, ◌+◌, ◌*◌, ◌<◌, ℕ, ◌≤◌, ◌++◌, length, take, drop, slice_index, false, true};
+ghost use Rattle.std.specs.Prelude.{◌≡◌, ◌+◌, ◌*◌, ◌<◌, ℕ, ◌≤◌, ◌++◌, length, take, drop, replicate, slice_index, false, true};
 ghost use Rattle.cesu8_text.specs.Reading.{NoneBegins};
 ghost use Rattle.cesu8_decode.specs.DecodedPlaces.{one_at, IsFrontOf};
 ghost use Rattle.cesu8_bytes.specs.Internal.{flavor_of};
@@ -19,7 +19,6 @@ use cesu8_bytes::joining::{PAIR, PAIR_READ, is_pair, utf8_of_pair};
 use cesu8_bytes::options::{Flavor, Strictness};
 use cesu8_bytes::runs::copy_run;
 use cesu8_bytes::writers::put;
-use std::simd::prelude::*;
 
 /// U+FFFD, which replaces a damaged byte.
 const REPLACEMENT: [u8; WIDEST] = [0xEF, 0xBF, 0xBD];
@@ -122,15 +121,16 @@ fn write_character(flavor: Flavor, bytes: &[u8], out: &mut [u8], end: usize) -> 
         (drop result.read bytes.now) (take end out.old) (take result.end out.new) }
     ensures len { length out.new ≡ length out.old }
 {
-    let front = front_of(bytes);
-    if is_pair(&front) {
+    let mut padded = [0; PAIR_READ];
+    let front = front_of(bytes, &mut padded);
+    if is_pair(front) {
         return Decoded {
             read: PAIR,
-            end: put(&utf8_of_pair(&front), out, end),
+            end: put(&utf8_of_pair(front), out, end),
             is_damaged: false,
         };
     }
-    let read = width(flavor, bytes, &front);
+    let read = width(flavor, bytes, front);
     if read == 0 {
         return Decoded {
             read: 1,
@@ -151,15 +151,16 @@ fn write_character(flavor: Flavor, bytes: &[u8], out: &mut [u8], end: usize) -> 
     }
 }
 
-/// Returns the first eight bytes, with zeros after the last.
+/// Returns the bytes if they are eight or more, or else a copy with zeros after the last.
 #[inline(always)]
-fn front_of(bytes: &[u8]) -> [u8; PAIR_READ]
-    ensures { IsFrontOf bytes.now result }
+fn front_of<'a>(bytes: &'a [u8], padded: &'a mut [u8; PAIR_READ]) -> &'a [u8]
+    requires { padded.old ≡ replicate PAIR_READ 0 }
+    ensures front { IsFrontOf bytes.now result.now }
+    ensures long { PAIR_READ ≤ length result.now }
 {
-    if bytes.len() >= 8 {
-        return u8x8::from_slice(bytes).to_array();
+    if bytes.len() >= PAIR_READ {
+        return bytes;
     }
-    let mut front = [0; PAIR_READ];
-    copy_short(bytes, &mut front);
-    front
+    copy_short(bytes, padded);
+    padded
 }

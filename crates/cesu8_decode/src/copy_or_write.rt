@@ -1,7 +1,5 @@
 //! Decodes to a caller's buffer: copies the bytes if none changes, and writes otherwise.
 
-ghost use Rattle.std.specs.Prelude.{Any};
-ghost use Rattle.cesu8_text.specs.Class.{IsChangedByte};
 ghost use Rattle.cesu8_bytes.specs.Internal.{flavor_of};
 ghost use Rattle.cesu8_decode.specs.PutReadings.{PutsText, IsReadingOf, IsLenientReadingOf};
 
@@ -47,30 +45,16 @@ fn put_other_encoding(
         return put_characters(flavor, strictness, bytes, buf);
     }
     if contains_changed(flavor, bytes) {
-        return put_changed(flavor, strictness, bytes, buf);
+        // In strict reading there is nothing to decode.
+        return match strictness {
+            Strictness::Strict => Err(Unwritten::NoText),
+            Strictness::Lossy => put_text(flavor, strictness, bytes, buf),
+        };
     }
     if whole_text(bytes).len() == bytes.len() {
         return copy_to_slice(bytes, buf).map_err(Unwritten::NoRoom);
     }
     put_text(flavor, strictness, bytes, buf)
-}
-
-/// A byte changes, so in strict reading there is nothing to decode.
-fn put_changed(
-    flavor: Flavor,
-    strictness: Strictness,
-    bytes: &[u8],
-    buf: &mut [u8],
-) -> Result<usize, Unwritten>
-    requires { Any (IsChangedByte (flavor_of flavor)) bytes.now }
-    ensures { PutsText strictness
-        (IsReadingOf (flavor_of flavor) strictness bytes.now)
-        result buf.old buf.new }
-{
-    match strictness {
-        Strictness::Strict => Err(Unwritten::NoText),
-        Strictness::Lossy => put_text(flavor, strictness, bytes, buf),
-    }
 }
 
 /// Writes the text of bytes that are UTF-8 as a whole, or else the encoding.

@@ -12,7 +12,7 @@ ghost use Rattle.cesu8_text.specs.Text.{utf8};
 ghost use Rattle.cesu8_bytes.specs.Internal.{flavor_of};
 ghost use Rattle.cesu8_bytes.specs.Puts.{PutsAnswer};
 ghost use Rattle.cesu8_bytes.specs.declared.options.Strictness.TheVariants.{Strict};
-ghost use Rattle.cesu8_decode.specs.Decoding.{ReadsAll, TextAtFront};
+ghost use Rattle.cesu8_decode.specs.Decoding.{ReadsAll, TextAtFront, most_text};
 ghost use Rattle.cesu8_decode.specs.PutReadings.{PutsText, IsReadingOf};
 
 use crate::characters::write_characters;
@@ -34,9 +34,6 @@ use cesu8_bytes::writers::{NoRoom, copy_to_slice, put};
 const FEWEST_TEXT: usize = WIDEST * FEWEST;
 
 const CHARACTERS_TEXT: usize = WIDEST * SHORT_WINDOW;
-
-/// The length of a buffer for the text of a few pieces.
-const PIECES_TEXT: usize = WIDEST * LONG_WINDOW;
 
 /// Writes the text of the bytes to a caller's buffer, if it fits.
 #[inline(never)]
@@ -139,7 +136,8 @@ fn put_decoded(
     copy_to_slice(&written[..decoded.end], buf).map_err(Unwritten::NoRoom)
 }
 
-/// Writes the text of some more bytes, piece by piece, to an array, and copies it.
+/// Writes the text of some more bytes, piece by piece, to an array, and copies it. In strict reading
+/// it is no longer than the bytes, so it fits.
 #[inline(never)]
 fn put_few_pieces(
     flavor: Flavor,
@@ -147,20 +145,21 @@ fn put_few_pieces(
     bytes: &[u8],
     buf: &mut [u8],
 ) -> Result<usize, Unwritten>
-    requires { length bytes.now ≤ LONG_WINDOW }
+    requires few { length bytes.now ≤ LONG_WINDOW }
+    requires strict { strictness ≡ Strict }
     ensures { PutsText strictness
         (IsReadingOf (flavor_of flavor) strictness bytes.now)
         result buf.old buf.new }
 {
-    let mut written = [0; PIECES_TEXT];
+    let mut written = [0; LONG_WINDOW];
     match write_pieces::<MEDIUM_ROOM, MEDIUM_TEXT>(flavor, strictness, bytes, &mut written) {
         Some(end) => copy_to_slice(&written[..end], buf).map_err(Unwritten::NoRoom),
         None => Err(Unwritten::NoText),
     }
 }
 
-/// Writes the text of still more bytes, piece by piece, in its final position. First passes find whether there is one, and how
-/// long it is. In strict reading it is never longer than the bytes.
+/// Writes the text of still more bytes, piece by piece, in its final position. First passes find
+/// whether there is one, and how long it is.
 #[inline(never)]
 fn put_pieces(
     flavor: Flavor,
@@ -234,7 +233,7 @@ fn write_pieces<const LEN: usize, const WRITTEN: usize>(
 ) -> Option<usize>
     requires window { LEAST ≤ LEN }
     requires written { (WIDEST * LEN ≤ WRITTEN + SPARED) × (WRITTEN ≤ LONG_TEXT) }
-    requires out { lossy_length (flavor_of flavor) bytes.now ≤ length out.old }
+    requires out { most_text (flavor_of flavor) strictness bytes.now ≤ length out.old }
     ensures some { IfSome result (λ end.
         TextAtFront (flavor_of flavor) strictness bytes.now end out.old out.new) }
     ensures none { IfNone result ((strictness ≡ Strict)

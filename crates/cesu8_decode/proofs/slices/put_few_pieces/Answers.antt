@@ -1,15 +1,16 @@
-use Rattle.std.proofs.Common.{arith, subst}
+use Rattle.std.proofs.Common.{◌≤◌, arith, subst, sym}
 use Rattle.cesu8_text.specs.Text.{utf8}
 use Rattle.cesu8_bytes.specs.Internal.{flavor_of}
 use Rattle.cesu8_bytes.specs.Puts.{PutsAnswer}
+use Rattle.cesu8_decode.specs.Decoding.{most_text}
 use Rattle.cesu8_decode.specs.PutReadings.{IsReadingOf}
 use Rattle.cesu8_decode.proofs.pieces.SliceReadings.{only_decoded, text_put}
 use Rattle.cesu8_decode.proofs.pieces.WrittenPieces.{front_is}
-use Rattle.cesu8_decode.proofs.positions.Savings.{lossy_length_by_savings}
 use Rattle.cesu8_decode.proofs.slices.put_few_pieces.Goals as goal
 
 pub write_pieces-requires-clause-out : goal.write_pieces-requires-clause-out
-write_pieces-requires-clause-out c = omega (arith, c.requires, lossy_length_by_savings (flavor_of c.args.flavor) c.args.bytes.now)
+write_pieces-requires-clause-out c =
+    subst (λ which. most_text (flavor_of c.args.flavor) which c.args.bytes.now ≤ 1024) (sym c.requires.strict) c.requires.few
 
 pub returns-in-Some : goal.returns-in-Some
 returns-in-Some c =

@@ -2,8 +2,8 @@ use Rattle.std.proofs.Common.{◌∙◌, [], sym, ap, arith, length, ◌++◌, t
 use Rattle.std.proofs.lemmas.Bool.{eqb-true}
 use Rattle.std.proofs.lemmas.List.{take_rest}
 use Rattle.cesu8_bytes.specs.Internal.{flavor_of}
-use Rattle.cesu8_decode.proofs.pieces.ReadPieces.{none_behind, none_refused, piece_length}
-use Rattle.cesu8_decode.proofs.pieces.WrittenPieces.{nothing_written, piece_put, all_written}
+use Rattle.cesu8_decode.proofs.pieces.ReadPieces.{none_behind, none_refused, piece_unless_refused}
+use Rattle.cesu8_decode.proofs.pieces.WrittenPieces.{nothing_written, piece_fits, piece_put, all_written}
 use Rattle.cesu8_decode.proofs.slices.write_pieces.Goals as goal
 
 pub loop-rest-init : goal.loop-rest-init
@@ -17,7 +17,8 @@ put-end-requires g c =
       c.loop-rest.invariant.room,
       c.loop-rest.invariant.len,
       ap length c.as_bytes.ensures.value,
-      piece_length (flavor_of c.args.flavor) c.loop-rest.rest.now _ _ c.in-Joined.ensures.lossy,
+      piece_fits (flavor_of c.args.flavor) c.args.strictness c.loop-rest.rest.now _ _
+          (piece_unless_refused (flavor_of c.args.flavor) c.args.strictness c.loop-rest.rest.now _ _ _ c.in-Joined.ensures (none_refused c.args.strictness)),
     )
 
 pub loop-rest-preserved-in-Joined : goal.loop-rest-preserved-in-Joined
@@ -40,7 +41,9 @@ put-end-requires-in-Written g c =
       c.requires.out,
       c.loop-rest.invariant.room,
       c.loop-rest.invariant.len,
-      piece_length (flavor_of c.args.flavor) c.loop-rest.rest.now _ _ c.in-Written.ensures.0.lossy,
+      piece_fits (flavor_of c.args.flavor) c.args.strictness c.loop-rest.rest.now _ _
+          (piece_unless_refused (flavor_of c.args.flavor) c.args.strictness c.loop-rest.rest.now _ _ _ c.in-Written.ensures.0
+          (sym c.is_refused.ensures ∙ c.if-is_refused.false)),
     )
 
 pub loop-rest-preserved : goal.loop-rest-preserved
@@ -54,3 +57,4 @@ pub returns-clause-some : goal.returns-clause-some
 returns-clause-some g c =
     all_written (flavor_of c.args.flavor) c.args.strictness c.args.bytes.now c.loop-rest.rest.now c.loop-rest.end _ _
     c.loop-rest.invariant (eqb-true _ _ (sym c.is_empty.ensures ∙ c.loop-rest-test.false))
+    (omega (arith, c.requires.out, c.loop-rest.invariant.room, c.loop-rest.invariant.len))
