@@ -8,7 +8,6 @@ use Rattle.cesu8_bytes.specs.declared.options.Strictness.TheVariants.{Strict, Lo
 use Rattle.cesu8_decode.specs.Refusals.{OnNoText}
 use Rattle.cesu8_decode.specs.declared.refusal.Refusal.{Refusal}
 use Rattle.cesu8_bytes.specs.Pieces.{IsPiece}
-use Rattle.cesu8_text.specs.Slices.{StandsAtFront}
 use Rattle.cesu8_decode.specs.declared.piece.Piece.{Piece}
 use Rattle.cesu8_decode.specs.declared.piece.Piece.TheVariants.{Joined, Written}
 
@@ -56,19 +55,10 @@ pub record AppendsText {T : Type 0} (f : Flavor) (which : Strictness) (bytes : L
   pub ok : OnOk result ((text : List ℕ) × IsDecodedText f which bytes text × (new ≡ old ++ utf8 text))
   pub invalid : OnNoText result (HasNoStrictReading f bytes)
 
--- The text of the bytes stands at the front of a slice, up to an end.
-abbrev pub TextAtFront : Flavor → Strictness → List ℕ → ℕ → List ℕ → List ℕ → Type 0
-TextAtFront f which bytes end old new =
-    (text : List ℕ) × IsDecodedText f which bytes text × StandsAtFront (utf8 text) end old new
-
--- The text of the bytes has no more bytes than these.
-abbrev pub most_text : Flavor → Strictness → List ℕ → ℕ
-most_text f Strict bytes = length bytes
-most_text f Lossy bytes = lossy_length f bytes
-
--- A piece of text is written to the front of a slice, up to an end, and the bytes after it stay.
-pub record IsWrittenSoFar (f : Flavor) (which : Strictness) (bytes rest : List ℕ) (end : ℕ) (old new : List ℕ) : Type 0 where
-  pub so_far : IsPiece f which bytes rest (take end new)
-  pub room : end + most_text f which rest ≤ most_text f which bytes
+-- The lossy reading of some bytes is written to the front of a slice, up to an end, and the bytes
+-- after it stay.
+pub record IsWrittenSoFar (f : Flavor) (bytes rest : List ℕ) (end : ℕ) (old new : List ℕ) : Type 0 where
+  pub so_far : IsPiece f Lossy bytes rest (take end new)
+  pub room : end + lossy_length f rest ≡ lossy_length f bytes
   pub behind : drop end new ≡ drop end old
   pub len : length new ≡ length old

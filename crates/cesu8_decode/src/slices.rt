@@ -4,15 +4,14 @@
 //! passes find whether they are damaged and, if needed, how long their text is. Then it is written
 //! piece by piece in its final position.
 
-ghost use Rattle.std.specs.Prelude.{◌≡◌, ◌+◌, ◌*◌, ◌≤◌, List, ℕ, length, take, IfSome, IfNone};
+ghost use Rattle.std.specs.Prelude.{◌≡◌, ◌+◌, ◌*◌, ◌≤◌, List, ℕ, ◌<◌, ◌++◌, length, take};
 ghost use Rattle.cesu8_text.specs.Encoding.{Flavor as AnyFlavor};
-ghost use Rattle.cesu8_text.specs.Reading.{HasNoStrictReading, reading, lossy_length};
+ghost use Rattle.cesu8_text.specs.Reading.{reading, lossy_length};
 ghost use Rattle.cesu8_text.specs.Slices.{StandsAtFront};
 ghost use Rattle.cesu8_text.specs.Text.{utf8};
 ghost use Rattle.cesu8_bytes.specs.Internal.{flavor_of};
 ghost use Rattle.cesu8_bytes.specs.Puts.{PutsAnswer};
-ghost use Rattle.cesu8_bytes.specs.declared.options.Strictness.TheVariants.{Strict};
-ghost use Rattle.cesu8_decode.specs.Decoding.{ReadsAll, TextAtFront, most_text};
+ghost use Rattle.cesu8_decode.specs.Decoding.{ReadsAll};
 ghost use Rattle.cesu8_decode.specs.PutReadings.{PutsText, IsReadingOf};
 
 use crate::characters::write_characters;
@@ -21,7 +20,7 @@ use crate::lengths::lossy_len;
 use crate::packing::WIDEST;
 use crate::piece::{Piece, next_piece, write_by_places};
 use crate::refusal::{Unwritten, is_refused};
-use crate::way::{FEWEST, LONG_WINDOW, SHORT_WINDOW, Way, are_fewest, way_of};
+use crate::way::{FEWEST, SHORT_WINDOW, Way, are_fewest, way_of};
 use crate::windows::{
     AROUND, Decoded, LEAST, LONG_ROOM, LONG_TEXT, MEDIUM_ROOM, MEDIUM_TEXT, SHORT_ROOM, SHORT_TEXT,
     SPARED,
@@ -52,7 +51,7 @@ pub fn put_text(
         Way::ShortWindow => put_window::<SHORT_ROOM, SHORT_TEXT>(flavor, strictness, bytes, buf),
         Way::MediumWindow => put_window::<MEDIUM_ROOM, MEDIUM_TEXT>(flavor, strictness, bytes, buf),
         Way::LongWindow => put_window::<LONG_ROOM, LONG_TEXT>(flavor, strictness, bytes, buf),
-        Way::FewPieces => put_few_pieces(flavor, strictness, bytes, buf),
+        Way::JoinedWindow => put_joined(flavor, strictness, bytes, buf),
         Way::Pieces => put_pieces(flavor, strictness, bytes, buf),
         Way::Refused => Err(Unwritten::NoText),
     }
@@ -136,26 +135,49 @@ fn put_decoded(
     copy_to_slice(&written[..decoded.end], buf).map_err(Unwritten::NoRoom)
 }
 
-/// Writes the text of some more bytes, piece by piece, to an array, and copies it. In strict reading
-/// it is no longer than the bytes, so it fits.
+/// Writes the text of a joined window and of a few bytes behind it. They are joined and decoded on
+/// the stack, so no pass looks for damage first.
 #[inline(never)]
-fn put_few_pieces(
+fn put_joined(
     flavor: Flavor,
     strictness: Strictness,
     bytes: &[u8],
     buf: &mut [u8],
 ) -> Result<usize, Unwritten>
-    requires few { length bytes.now ≤ LONG_WINDOW }
-    requires strict { strictness ≡ Strict }
+    requires { 0 < length bytes.now }
     ensures { PutsText strictness
         (IsReadingOf (flavor_of flavor) strictness bytes.now)
         result buf.old buf.new }
 {
-    let mut written = [0; LONG_WINDOW];
-    match write_pieces::<MEDIUM_ROOM, MEDIUM_TEXT>(flavor, strictness, bytes, &mut written) {
-        Some(end) => copy_to_slice(&written[..end], buf).map_err(Unwritten::NoRoom),
-        None => Err(Unwritten::NoText),
+    let mut room = [0; ROOM_LEN];
+    let mut written = [0; SHORT_TEXT];
+    let piece = next_piece::<SHORT_ROOM>(flavor, bytes, true, &mut room, &mut written);
+    let Piece::Joined(joined) = piece else {
+        return put_pieces(flavor, strictness, bytes, buf);
+    };
+    let rest = &bytes[joined.read..];
+    if rest.len() > SHORT_WINDOW {
+        return put_pieces(flavor, strictness, bytes, buf);
     }
+    let mut window = [0; SHORT_ROOM];
+    let decoded = write_by_places(flavor, rest, &mut window, &mut written);
+    if is_refused(strictness, decoded.is_damaged) {
+        return Err(Unwritten::NoText);
+    }
+    copy_two(joined.text.as_bytes(), &written[..decoded.end], buf).map_err(Unwritten::NoRoom)
+}
+
+/// Copies two parts to the front of a caller's buffer, one after the other, if both fit.
+#[inline(always)]
+fn copy_two(first: &[u8], second: &[u8], buf: &mut [u8]) -> Result<usize, NoRoom>
+    ensures { PutsAnswer (first.now ++ second.now) result buf.old buf.new }
+{
+    let needed = first.len() + second.len();
+    if buf.len() < needed {
+        return Err(NoRoom { needed });
+    }
+    let end = put(first, buf, 0);
+    Ok(put(second, buf, end))
 }
 
 /// Writes the text of still more bytes, piece by piece, in its final position. First passes find
@@ -212,53 +234,29 @@ fn put_of_length(flavor: Flavor, bytes: &[u8], len: usize, buf: &mut [u8]) -> Re
 
 /// Writes the lossy reading of the bytes at the front of a slice that is long enough, and returns
 /// its length.
+#[inline(never)]
 fn write_reading(flavor: Flavor, bytes: &[u8], out: &mut [u8]) -> usize
     requires { lossy_length (flavor_of flavor) bytes.now ≤ length out.old }
     ensures { StandsAtFront (utf8 (reading (flavor_of flavor) bytes.now))
         result out.old out.new }
 {
-    // Lossy reading refuses no damage.
-    write_pieces::<LONG_ROOM, LONG_TEXT>(flavor, Strictness::Lossy, bytes, out).unwrap()
-}
-
-/// Writes the text of the bytes piece by piece at the front of a slice that is long enough, and
-/// returns where it ends, unless damage is refused. The buffers for pieces by places have these
-/// lengths.
-#[inline(never)]
-fn write_pieces<const LEN: usize, const WRITTEN: usize>(
-    flavor: Flavor,
-    strictness: Strictness,
-    bytes: &[u8],
-    out: &mut [u8],
-) -> Option<usize>
-    requires window { LEAST ≤ LEN }
-    requires written { (WIDEST * LEN ≤ WRITTEN + SPARED) × (WRITTEN ≤ LONG_TEXT) }
-    requires out { most_text (flavor_of flavor) strictness bytes.now ≤ length out.old }
-    ensures some { IfSome result (λ end.
-        TextAtFront (flavor_of flavor) strictness bytes.now end out.old out.new) }
-    ensures none { IfNone result ((strictness ≡ Strict)
-        × HasNoStrictReading (flavor_of flavor) bytes.now) }
-{
     let mut room = [0; ROOM_LEN];
-    let mut written = [0; WRITTEN];
+    let mut written = [0; LONG_TEXT];
     let mut rest = bytes;
     let mut end = 0;
     let mut joins = true;
     while !rest.is_empty() {
-        match next_piece::<LEN>(flavor, rest, joins, &mut room, &mut written) {
+        match next_piece::<LONG_ROOM>(flavor, rest, joins, &mut room, &mut written) {
             Piece::Joined(joined) => {
                 rest = &rest[joined.read..];
                 end = put(joined.text.as_bytes(), out, end);
             }
             Piece::Written(decoded) => {
-                if is_refused(strictness, decoded.is_damaged) {
-                    return None;
-                }
                 rest = &rest[decoded.read..];
                 joins = !decoded.is_damaged;
                 end = put(&written[..decoded.end], out, end);
             }
         }
     }
-    Some(end)
+    end
 }

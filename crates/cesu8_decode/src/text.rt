@@ -46,7 +46,7 @@ pub fn append_text<A: Allocator>(
         Way::LongWindow => {
             append_window::<LONG_ROOM, LONG_TEXT, A>(flavor, strictness, bytes, out)
         }
-        Way::FewPieces => {
+        Way::JoinedWindow => {
             append_pieces::<MEDIUM_ROOM, MEDIUM_TEXT, A>(flavor, strictness, bytes, out)
         }
         Way::Pieces => append_pieces::<LONG_ROOM, LONG_TEXT, A>(flavor, strictness, bytes, out),

@@ -9,7 +9,7 @@
 //! | at most 96 | more | `ShortWindow` | `ShortWindow` |
 //! | at most 256 | any | `MediumWindow` | `MediumWindow` |
 //! | more, with damage among the first 64 | any | `Refused` | as without |
-//! | at most 1,024 | any | `FewPieces` | `LongWindow` |
+//! | at most 1,024 | any | `JoinedWindow` | `LongWindow` |
 //! | more | any | `Pieces` | `Pieces` |
 //!
 //! - `Characters`: one character after another. A branch on a byte costs little while few bytes are
@@ -17,8 +17,8 @@
 //! - The windows: 32 bytes at a time with no branch on a byte, in buffers on the stack. Smaller
 //!   ones are made in less time.
 //! - `Pieces`: joined windows of text that is not damaged, and windows by places after damage.
-//! - `FewPieces`: one joined window has most of the bytes, and strict reading stops at damage. So the
-//!   windows by places are smaller, and a text for a slice fits on the stack.
+//! - `JoinedWindow`: pieces, of which a joined window mostly has all bytes but a few. Strict reading
+//!   stops at damage, so the buffers for windows by places are smaller.
 //! - `Refused`: most input that is no encoding is damaged early.
 //!
 //! A call on a slice takes `Characters` before it tests the bytes at all, below 64 of them, where
@@ -44,7 +44,7 @@ pub enum Way {
     ShortWindow,
     MediumWindow,
     LongWindow,
-    FewPieces,
+    JoinedWindow,
     Pieces,
     Refused,
 }
@@ -96,7 +96,7 @@ pub fn way_of(flavor: Flavor, strictness: Strictness, bytes: &[u8]) -> Way
         return Way::Pieces;
     }
     if is_strict {
-        Way::FewPieces
+        Way::JoinedWindow
     } else {
         Way::LongWindow
     }

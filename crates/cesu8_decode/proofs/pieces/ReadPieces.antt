@@ -151,11 +151,9 @@ piece_length f bytes rest piece read =
     ∙ length-append (utf8 read.text) (utf8 (reading f rest)) ∙ ap (λ bs. length bs + length (utf8 (reading f rest))) (sym read.written)
 
 -- A piece that leaves nothing is the text of the whole.
-pub whole_text : (f : Flavor) (which : Strictness) (bytes piece : List ℕ) (n : ℕ) → IsPiece f which bytes (drop n bytes) piece →
-    n ≡ length bytes → IsDecodedText f which bytes (chars piece)
-whole_text f which bytes piece n read all =
-    decoded_text f which bytes [] piece refl
-    (all_read f which bytes (drop n bytes) [] piece read (omega (arith, length-drop n bytes, all)))
+pub whole_text : (f : Flavor) (which : Strictness) (bytes rest piece : List ℕ) → IsPiece f which bytes rest piece →
+    length rest ≡ 0 → IsDecodedText f which bytes (chars piece)
+whole_text f which bytes rest piece read empty = decoded_text f which bytes [] piece refl (all_read f which bytes rest [] piece read empty)
 
 -- What holds of a value that is there holds of it where the error is mapped.
 pub where_mapped : {T E D : Type 0} (r : Result T E) (mapped : Result T D) (P Q : T → Type 0) (R : E → Type 0) →

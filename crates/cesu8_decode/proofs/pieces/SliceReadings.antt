@@ -1,5 +1,5 @@
 -- What a call may say of a text that it writes into a caller's buffer.
-use Rattle.std.proofs.Common.{◌≡◌, ℕ, ◌^◌, ◌<◌, ◌≤◌, ◌↔◌, inl, inr, ⊎_elim, List, refl, sym, ap, ◌∙◌, subst, arith, length, drop, Bool, false, Result, Ok, Err, MatchResult, IsErrAnd}
+use Rattle.std.proofs.Common.{◌≡◌, ℕ, ◌^◌, ◌<◌, ◌≤◌, ◌↔◌, inl, inr, ⊎_elim, List, refl, sym, ap, ◌∙◌, subst, arith, length, length-drop, drop, [], ◌++◌, Bool, false, Result, Ok, Err, MatchResult, IsErrAnd}
 use Rattle.std.proofs.lemmas.Bool.{false≢true}
 use Rattle.std.specs.Str.{chars, IsUtf8}
 use Rattle.cesu8_text.specs.Text.{utf8}
@@ -21,7 +21,7 @@ use Rattle.cesu8_text.proofs.encoding.Lengths.{length_bounds}
 use Rattle.cesu8_text.proofs.reading.EncodedTexts.{reading_encoding}
 use Rattle.cesu8_text.proofs.reading.Borrowing.{unchanged_reading}
 use Rattle.cesu8_text.proofs.reading.LossyBorrowing.{unchanged_lossy}
-use Rattle.cesu8_decode.proofs.pieces.ReadPieces.{piece_utf8, whole_text, piece_unless_refused}
+use Rattle.cesu8_decode.proofs.pieces.ReadPieces.{more_read, piece_appended, piece_utf8, whole_text, piece_unless_refused}
 
 -- ---- the only text
 
@@ -59,12 +59,21 @@ pub only_decoded : (f : Flavor) (which : Strictness) (bytes text : List ℕ) →
 only_decoded f Strict bytes text is = only_strict f bytes text (is.0, is.2 refl)
 only_decoded f Lossy bytes text is = record { reads = is.1; only = λ other same. same ∙ sym is.1; utf8_is = refl }
 
-only_piece : (f : Flavor) (which : Strictness) (bytes piece : List ℕ) (n : ℕ) → IsPiece f which bytes (drop n bytes) piece → n ≡ length bytes →
+only_piece : (f : Flavor) (which : Strictness) (bytes rest piece : List ℕ) → IsPiece f which bytes rest piece → length rest ≡ 0 →
     IsOnlyText (IsReadingOf f which bytes) (chars piece) piece
-only_piece f which bytes piece n is_piece all =
+only_piece f which bytes rest piece is_piece empty =
     subst (IsOnlyText (IsReadingOf f which bytes) (chars piece))
-    (IsUtf8Of_chars piece (piece_utf8 f which bytes (drop n bytes) piece is_piece)).1
-    (only_decoded f which bytes (chars piece) (whole_text f which bytes piece n is_piece all))
+    (IsUtf8Of_chars piece (piece_utf8 f which bytes rest piece is_piece)).1
+    (only_decoded f which bytes (chars piece) (whole_text f which bytes rest piece is_piece empty))
+
+-- or are two.
+pub only_two_pieces : (f : Flavor) (which : Strictness) (bytes rest first second : List ℕ) (n : ℕ) → IsPiece f which bytes rest first →
+    IsPiece f which rest (drop n rest) second → n ≡ length rest → IsOnlyText (IsReadingOf f which bytes) (chars (first ++ second)) (first ++ second)
+only_two_pieces f which bytes rest first second n one other all =
+    only_piece f which bytes (drop n rest) (first ++ second)
+    (more_read f which bytes rest (drop n rest) [] first (first ++ second) one
+    (piece_appended f which rest (drop n rest) second first (first ++ second) other refl))
+    (omega (arith, length-drop n rest, all))
 
 -- The strict reading is no longer than the bytes.
 pub strict_no_longer : (f : Flavor) (bytes : List ℕ) → IsStrictReading f bytes (reading f bytes) → lossy_length f bytes ≤ length bytes
@@ -178,7 +187,8 @@ pub decoded_put : (f : Flavor) (which : Strictness) (bytes answer : List ℕ) (r
     PutsAnswer answer r old new → PutsText which (IsReadingOf f which bytes) told old new
 decoded_put f which bytes answer read is_damaged r told old new reads fine small told_is puts =
     text_put which (IsReadingOf f which bytes) (chars answer) answer r told old new
-    (only_piece f which bytes answer read (piece_unless_refused f which bytes answer read is_damaged reads.first fine) (reads.all fine))
+    (only_piece f which bytes (drop read bytes) answer (piece_unless_refused f which bytes answer read is_damaged reads.first fine)
+    (omega (arith, length-drop read bytes, reads.all fine)))
     small told_is puts
 
 -- No `usize` is the answer's length, so that it fits into no buffer.
