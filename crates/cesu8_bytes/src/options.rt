@@ -13,10 +13,3 @@ pub enum Strictness {
     Strict,
     Lossy,
 }
-
-/// How bytes are decoded.
-#[derive(Clone, Copy)]
-pub struct DecodeOptions {
-    pub flavor: Flavor,
-    pub strictness: Strictness,
-}

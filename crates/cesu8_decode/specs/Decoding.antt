@@ -7,7 +7,9 @@ use Rattle.cesu8_bytes.specs.declared.options.Strictness.{Strictness}
 use Rattle.cesu8_bytes.specs.declared.options.Strictness.TheVariants.{Strict, Lossy}
 use Rattle.cesu8_decode.specs.Refusals.{OnNoText}
 use Rattle.cesu8_decode.specs.declared.refusal.Refusal.{Refusal}
-use Rattle.cesu8_bytes.specs.Pieces.{IsReadSoFar, IsPiece}
+use Rattle.cesu8_bytes.specs.Pieces.{IsPiece}
+use Rattle.cesu8_decode.specs.declared.piece.Piece.{Piece}
+use Rattle.cesu8_decode.specs.declared.piece.Piece.TheVariants.{Joined, Written}
 
 -- The text of the bytes: it is the lossy reading, and in strict reading the bytes are its encoding.
 abbrev pub IsDecodedText : Flavor → Strictness → List ℕ → List ℕ → Type 0
@@ -41,15 +43,22 @@ pub record ReadsAll (f : Flavor) (which : Strictness) (bytes : List ℕ) (read :
   pub first : ReadsFirst f bytes read text is_damaged
   pub all : refuses which is_damaged ≡ false → read ≡ length bytes
 
+-- The next piece is text that was joined, or it is written at the front of a buffer. So much of this
+-- follows as the test for UTF-8 needs.
+abbrev pub IsNextPiece : Flavor → List ℕ → Piece → List ℕ → Type 0
+IsNextPiece f bytes (Joined joined) written = ReadsFirst f bytes joined.read joined.text.now false
+IsNextPiece f bytes (Written decoded) written =
+    ReadsFirst f bytes decoded.read (take decoded.end written) decoded.is_damaged × (decoded.end + 64 ≤ length written)
+
 -- The text of the bytes is appended. `NoText` is returned only where there is none.
 pub record AppendsText {T : Type 0} (f : Flavor) (which : Strictness) (bytes : List ℕ) (result : Result T Refusal) (old new : List ℕ) : Type 0 where
   pub ok : OnOk result ((text : List ℕ) × IsDecodedText f which bytes text × (new ≡ old ++ utf8 text))
   pub invalid : OnNoText result (HasNoStrictReading f bytes)
 
--- A piece of text is written to a slice from start to end, and the bytes after it stay.
-pub record IsWrittenSoFar (f : Flavor) (bytes rest : List ℕ) (start end : ℕ) (old new : List ℕ) : Type 0 where
-  pub so_far : IsReadSoFar f Lossy bytes rest (take start old) (take end new)
-  pub forward : start ≤ end
-  pub room : end + lossy_length f rest ≡ start + lossy_length f bytes
+-- The lossy reading of some bytes is written to the front of a slice, up to an end, and the bytes
+-- after it stay.
+pub record IsWrittenSoFar (f : Flavor) (bytes rest : List ℕ) (end : ℕ) (old new : List ℕ) : Type 0 where
+  pub so_far : IsPiece f Lossy bytes rest (take end new)
+  pub room : end + lossy_length f rest ≡ lossy_length f bytes
   pub behind : drop end new ≡ drop end old
   pub len : length new ≡ length old

@@ -1,6 +1,6 @@
 //! Decodes bytes one character after another. Runs of ASCII are copied by vectors.
 
-ghost use Rattle.std.specs.Prelude.{◌≡◌, ◌+◌, ◌*◌, ◌<◌, ℕ, ◌≤◌, ◌++◌, length, take, drop, slice_index, false, true};
+ghost use Rattle.std.specs.Prelude.{◌≡◌, ◌+◌, ◌*◌, ◌<◌, ℕ, ◌≤◌, ◌++◌, length, take, drop, replicate, slice_index, false, true};
 ghost use Rattle.cesu8_text.specs.Reading.{NoneBegins};
 ghost use Rattle.cesu8_decode.specs.DecodedPlaces.{one_at, IsFrontOf};
 ghost use Rattle.cesu8_bytes.specs.Internal.{flavor_of};
@@ -11,15 +11,14 @@ ghost use Rattle.cesu8_bytes.specs.declared.options.Strictness.TheVariants.{Loss
 
 use super::packing::WIDEST;
 use super::refusal::is_refused;
-use super::widths::width;
+use super::widths::{is_one, width};
 use super::windows::Decoded;
 use cesu8_bytes::implementation::class::{High, NullHigh};
 use cesu8_bytes::implementation::short::copy_short;
 use cesu8_bytes::joining::{PAIR, PAIR_READ, is_pair, utf8_of_pair};
-use cesu8_bytes::options::{DecodeOptions, Flavor};
+use cesu8_bytes::options::{Flavor, Strictness};
 use cesu8_bytes::runs::copy_run;
 use cesu8_bytes::writers::put;
-use std::simd::prelude::*;
 
 /// U+FFFD, which replaces a damaged byte.
 const REPLACEMENT: [u8; WIDEST] = [0xEF, 0xBF, 0xBD];
@@ -27,9 +26,14 @@ const REPLACEMENT: [u8; WIDEST] = [0xEF, 0xBF, 0xBD];
 /// Writes the characters of the bytes, and U+FFFD for each damaged byte. Strict reading stops
 /// behind the first of these.
 #[inline(always)]
-pub fn write_characters(options: DecodeOptions, bytes: &[u8], out: &mut [u8]) -> Decoded
+pub fn write_characters(
+    flavor: Flavor,
+    strictness: Strictness,
+    bytes: &[u8],
+    out: &mut [u8],
+) -> Decoded
     requires { WIDEST * length bytes.now ≤ length out.old }
-    ensures read { ReadsAll (flavor_of options.flavor) options.strictness bytes.now
+    ensures read { ReadsAll (flavor_of flavor) strictness bytes.now
         result.read (take result.end out.new) result.is_damaged }
     ensures end { result.end ≤ WIDEST * length bytes.now }
     ensures len { length out.new ≡ length out.old }
@@ -37,8 +41,8 @@ pub fn write_characters(options: DecodeOptions, bytes: &[u8], out: &mut [u8]) ->
     let mut read = 0;
     let mut end = 0;
     let mut is_damaged = false;
-    while (read < bytes.len()) & !is_refused(options.strictness, is_damaged) {
-        let step = write_next(options.flavor, &bytes[read..], out, end);
+    while (read < bytes.len()) & !is_refused(strictness, is_damaged) {
+        let step = write_next(flavor, &bytes[read..], out, end);
         read += step.read;
         end = step.end;
         is_damaged = is_damaged | step.is_damaged;
@@ -77,7 +81,7 @@ fn write_next(flavor: Flavor, bytes: &[u8], out: &mut [u8], end: usize) -> Decod
     write_character(flavor, bytes, out, end)
 }
 
-/// Copies some characters of one byte, and returns how many. If few bytes are left, it copies none.
+/// Copies some characters of one byte, and returns how many. If few bytes are left, it copies one.
 #[inline(always)]
 fn copy_ascii(flavor: Flavor, bytes: &[u8], out: &mut [u8], at: usize) -> usize
     requires some { 0 < length bytes.now }
@@ -88,13 +92,18 @@ fn copy_ascii(flavor: Flavor, bytes: &[u8], out: &mut [u8], at: usize) -> usize
     ensures bytes { take (at + result) out.new ≡ take at out.old ++ take result bytes.now }
     ensures len { length out.new ≡ length out.old }
 {
-    if bytes[0] >= 0x80 {
+    if !is_one(flavor, bytes[0]) {
         return 0;
     }
-    match flavor {
+    let run = match flavor {
         Flavor::Cesu8 => copy_run::<High>(bytes, out, at),
         Flavor::Mutf8 => copy_run::<NullHigh>(bytes, out, at),
+    };
+    if run == 0 {
+        put(&bytes[..1], out, at);
+        return 1;
     }
+    run
 }
 
 /// Writes the character that begins the bytes, or U+FFFD for a damaged byte.
@@ -112,15 +121,16 @@ fn write_character(flavor: Flavor, bytes: &[u8], out: &mut [u8], end: usize) -> 
         (drop result.read bytes.now) (take end out.old) (take result.end out.new) }
     ensures len { length out.new ≡ length out.old }
 {
-    let front = front_of(bytes);
-    if is_pair(&front) {
+    let mut padded = [0; PAIR_READ];
+    let front = front_of(bytes, &mut padded);
+    if is_pair(front) {
         return Decoded {
             read: PAIR,
-            end: put(&utf8_of_pair(&front), out, end),
+            end: put(&utf8_of_pair(front), out, end),
             is_damaged: false,
         };
     }
-    let read = width(flavor, bytes, &front);
+    let read = width(flavor, bytes, front);
     if read == 0 {
         return Decoded {
             read: 1,
@@ -141,15 +151,16 @@ fn write_character(flavor: Flavor, bytes: &[u8], out: &mut [u8], end: usize) -> 
     }
 }
 
-/// Returns the first eight bytes, with zeros after the last.
+/// Returns the bytes if they are eight or more, or else a copy with zeros after the last.
 #[inline(always)]
-fn front_of(bytes: &[u8]) -> [u8; PAIR_READ]
-    ensures { IsFrontOf bytes.now result }
+fn front_of<'a>(bytes: &'a [u8], padded: &'a mut [u8; PAIR_READ]) -> &'a [u8]
+    requires { padded.old ≡ replicate PAIR_READ 0 }
+    ensures front { IsFrontOf bytes.now result.now }
+    ensures long { PAIR_READ ≤ length result.now }
 {
-    if bytes.len() >= 8 {
-        return u8x8::from_slice(bytes).to_array();
+    if bytes.len() >= PAIR_READ {
+        return bytes;
     }
-    let mut front = [0; PAIR_READ];
-    copy_short(bytes, &mut front);
-    front
+    copy_short(bytes, padded);
+    padded
 }

@@ -37,7 +37,7 @@ mod widths;
 mod windows;
 
 use crate::refusal::Refusal;
-use cesu8_bytes::options::{DecodeOptions, Flavor, Strictness};
+use cesu8_bytes::options::{Flavor, Strictness};
 use cesu8_bytes::writers::exactly;
 pub use lengths::{decoded_len, lossy_len};
 use std::alloc::{AllocError, Allocator};
@@ -54,12 +54,8 @@ pub fn decode_strict<A: Allocator>(
     ensures capacity { IfOk result (λ text. string_capacity text ≡ length bytes.now) }
     ensures invalid { OnNoText result (HasNoStrictReading (flavor_of flavor) bytes.now) }
 {
-    let options = DecodeOptions {
-        flavor,
-        strictness: Strictness::Strict,
-    };
     let mut text = String::with_capacity(alloc, bytes.len()).map_err(Refusal::Memory)?;
-    append_text(options, bytes, &mut text)?;
+    append_text(flavor, Strictness::Strict, bytes, &mut text)?;
     exactly(text, bytes.len()).map_err(Refusal::Memory)
 }
 
@@ -86,13 +82,9 @@ pub fn decode_lossy<A: Allocator>(
     ensures capacity { IfOk result (λ text.
         string_capacity text ≡ lossy_length (flavor_of flavor) bytes.now) }
 {
-    let options = DecodeOptions {
-        flavor,
-        strictness: Strictness::Lossy,
-    };
     let mut text = String::new(alloc);
     // Lossy reading accepts all bytes, so the only error is out of memory.
-    if let Err(_) = append_text(options, bytes, &mut text) {
+    if let Err(_) = append_text(flavor, Strictness::Lossy, bytes, &mut text) {
         return Err(AllocError);
     }
     let len = text.as_str().len();

@@ -1,17 +1,16 @@
-//! The first bytes as a piece of text, in any of three ways, after a test that it is UTF-8.
+//! The first bytes as a piece of text: joined, or written by places.
 
 ghost use Rattle.std.specs.Prelude.{◌≡◌, ◌+◌, ◌*◌, ◌<◌, ◌≤◌, length, take, replicate};
 ghost use Rattle.std.specs.Str.{IsUtf8};
 ghost use Rattle.cesu8_bytes.specs.Internal.{flavor_of};
-ghost use Rattle.cesu8_decode.specs.Decoding.{ReadsFirst, ReadsAll};
+ghost use Rattle.cesu8_decode.specs.Decoding.{ReadsFirst, IsNextPiece};
 
-use super::characters::write_characters;
 use super::packing::WIDEST;
-use super::windows::{AROUND, Decoded, LEAST, LONG_ROOM, SPARED, write_window};
+use super::windows::{AROUND, Decoded, LEAST, SPARED, write_window};
 use cesu8_bytes::joining::Room;
 use cesu8_bytes::null_form::{OneByteNull, TwoByteNull};
-use cesu8_bytes::options::{DecodeOptions, Flavor};
-use cesu8_bytes::window::{TOO_FEW, read_window};
+use cesu8_bytes::options::Flavor;
+use cesu8_bytes::window::{Joined, TOO_FEW, read_window};
 use simdutf8::basic;
 
 /// How many bytes are tested at a time by vectors.
@@ -20,109 +19,37 @@ pub const TESTED: usize = 64;
 /// The least length of a text for which that takes less time.
 const PAYING: usize = 9;
 
-/// How many bytes were read, their text in lossy reading, and whether some of them are damaged.
+/// The next piece of text.
 #[derive(Drop)]
-pub struct Piece<'a> {
-    pub read: usize,
-    pub text: &'a str,
-    pub is_damaged: bool,
+pub enum Piece<'a> {
+    /// Bytes that are not damaged were joined, and tested for UTF-8.
+    Joined(Joined<'a>),
+    /// What becomes of the bytes was written, and is not tested.
+    Written(Decoded),
 }
 
-/// Reads the next bytes: as a joined window if that yields text, and else by places. After damage
-/// joining mostly yields none.
+/// Reads the next bytes: as a joined window if that yields text, and else by places in a window of
+/// this length. After damage joining mostly yields none.
 #[inline(never)]
-pub fn next_piece<'a>(
+pub fn next_piece<'a, const LEN: usize>(
     flavor: Flavor,
     bytes: &[u8],
     joins: bool,
     room: &'a mut Room,
-    written: &'a mut [u8],
+    written: &mut [u8],
 ) -> Piece<'a>
     requires some { 0 < length bytes.now }
-    requires written { WIDEST * LONG_ROOM ≤ length written.old + SPARED }
-    ensures { ReadsFirst (flavor_of flavor) bytes.now
-        result.read result.text.now result.is_damaged }
+    requires window { LEAST ≤ LEN }
+    requires written { WIDEST * LEN ≤ length written.old + SPARED }
+    ensures { IsNextPiece (flavor_of flavor) bytes.now result written.new }
 {
     if joins && bytes.len() > TOO_FEW {
         if let Some(joined) = read_window(flavor, bytes, room) {
-            return Piece {
-                read: joined.read,
-                text: joined.text,
-                is_damaged: false,
-            };
+            return Piece::Joined(joined);
         }
     }
-    let mut window = [0; LONG_ROOM];
-    read_by_places(flavor, bytes, &mut window, written)
-}
-
-/// Reads the first bytes by places.
-#[inline(always)]
-pub fn read_by_places<'a>(
-    flavor: Flavor,
-    bytes: &[u8],
-    window: &mut [u8],
-    written: &'a mut [u8],
-) -> Piece<'a>
-    requires window { LEAST ≤ length window.old }
-    requires zeros { window.old ≡ replicate (length window.old) 0 }
-    requires written { WIDEST * length window.old ≤ length written.old + SPARED }
-    ensures first { ReadsFirst (flavor_of flavor) bytes.now
-        result.read result.text.now result.is_damaged }
-    ensures all { length bytes.now + AROUND ≤ length window.old → result.read ≡ length bytes.now }
-{
-    let decoded = write_by_places(flavor, bytes, window, written);
-    Piece {
-        read: decoded.read,
-        text: text_of(written, decoded.end),
-        is_damaged: decoded.is_damaged,
-    }
-}
-
-/// Reads a few bytes one character after another.
-#[inline(always)]
-pub fn read_by_characters<'a>(
-    options: DecodeOptions,
-    bytes: &[u8],
-    written: &'a mut [u8],
-) -> Piece<'a>
-    requires { WIDEST * length bytes.now + TESTED ≤ length written.old }
-    ensures { ReadsAll (flavor_of options.flavor) options.strictness bytes.now
-        result.read result.text.now result.is_damaged }
-{
-    let decoded = write_characters(options, bytes, written);
-    Piece {
-        read: decoded.read,
-        text: text_of(written, decoded.end),
-        is_damaged: decoded.is_damaged,
-    }
-}
-
-/// Returns the text that is written up to `end`. A longer one is tested with zeros after it, so
-/// that vectors test no fewer bytes than a block.
-#[inline(always)]
-fn text_of(written: &mut [u8], end: usize) -> &str
-    requires room { end + TESTED ≤ length written.old }
-    requires utf8 { IsUtf8 (take end written.old) }
-    ensures { result.now ≡ take end written.old }
-{
-    if end < PAYING {
-        return tested(&written[..end]);
-    }
-    written[end..end + TESTED].fill(0);
-    &tested(&written[..TESTED * end.div_ceil(TESTED)])[..end]
-}
-
-/// Returns bytes that are UTF-8 as a text, after a test.
-#[inline(always)]
-fn tested(bytes: &[u8]) -> &str
-    requires { IsUtf8 bytes.now }
-    ensures { result.now ≡ bytes.now }
-{
-    match basic::from_utf8(bytes) {
-        Ok(text) => text,
-        Err(_) => unreachable!(),
-    }
+    let mut window = [0; LEN];
+    Piece::Written(write_by_places(flavor, bytes, &mut window, written))
 }
 
 /// Writes what becomes of the first bytes.
@@ -144,5 +71,32 @@ pub fn write_by_places(
     match flavor {
         Flavor::Cesu8 => write_window::<OneByteNull>(bytes, window, written),
         Flavor::Mutf8 => write_window::<TwoByteNull>(bytes, window, written),
+    }
+}
+
+/// Returns the text that is written up to `end`. A longer one is tested with zeros after it, so
+/// that vectors test no fewer bytes than a block.
+#[inline(always)]
+pub fn text_of(written: &mut [u8], end: usize) -> &str
+    requires room { end + TESTED ≤ length written.old }
+    requires utf8 { IsUtf8 (take end written.old) }
+    ensures { result.now ≡ take end written.old }
+{
+    if end < PAYING {
+        return tested(&written[..end]);
+    }
+    written[end..end + TESTED].fill(0);
+    &tested(&written[..TESTED * end.div_ceil(TESTED)])[..end]
+}
+
+/// Returns bytes that are UTF-8 as a text, after a test.
+#[inline(always)]
+fn tested(bytes: &[u8]) -> &str
+    requires { IsUtf8 bytes.now }
+    ensures { result.now ≡ bytes.now }
+{
+    match basic::from_utf8(bytes) {
+        Ok(text) => text,
+        Err(_) => unreachable!(),
     }
 }

@@ -16,25 +16,7 @@ pub enum Refusal {
     Memory(AllocError),
 }
 
-/// Why no strict reading is written to a caller's buffer.
-#[derive(Clone, Copy)]
-pub enum SliceRefusal {
-    /// The bytes have no text.
-    NoText,
-    /// The buffer is shorter than the text.
-    NoRoom(NoRoom),
-}
-
-/// Why no lossy reading is.
-#[derive(Clone, Copy)]
-pub enum LossyRefusal {
-    /// The length of the text in bytes does not fit `usize`.
-    TooLong,
-    /// The buffer is shorter than the text.
-    NoRoom(NoRoom),
-}
-
-/// Why neither is.
+/// Why no text is written to a caller's buffer.
 #[derive(Clone, Copy)]
 pub enum Unwritten {
     /// The bytes have no text, in strict reading.

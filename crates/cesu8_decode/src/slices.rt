@@ -4,7 +4,7 @@
 //! passes find whether they are damaged and, if needed, how long their text is. Then it is written
 //! piece by piece in its final position.
 
-ghost use Rattle.std.specs.Prelude.{◌≡◌, ◌+◌, ◌*◌, ◌≤◌, List, ℕ, length, take};
+ghost use Rattle.std.specs.Prelude.{◌≡◌, ◌+◌, ◌*◌, ◌≤◌, List, ℕ, ◌<◌, ◌++◌, length, take};
 ghost use Rattle.cesu8_text.specs.Encoding.{Flavor as AnyFlavor};
 ghost use Rattle.cesu8_text.specs.Reading.{reading, lossy_length};
 ghost use Rattle.cesu8_text.specs.Slices.{StandsAtFront};
@@ -18,7 +18,7 @@ use crate::characters::write_characters;
 use crate::damage::is_damaged;
 use crate::lengths::lossy_len;
 use crate::packing::WIDEST;
-use crate::piece::{next_piece, write_by_places};
+use crate::piece::{Piece, next_piece, write_by_places};
 use crate::refusal::{Unwritten, is_refused};
 use crate::way::{FEWEST, SHORT_WINDOW, Way, are_fewest, way_of};
 use crate::windows::{
@@ -26,7 +26,7 @@ use crate::windows::{
     SPARED,
 };
 use cesu8_bytes::joining::ROOM_LEN;
-use cesu8_bytes::options::{DecodeOptions, Flavor, Strictness};
+use cesu8_bytes::options::{Flavor, Strictness};
 use cesu8_bytes::writers::{NoRoom, copy_to_slice, put};
 
 // The lengths of buffers for the text of bytes that are read one character after another.
@@ -36,17 +36,23 @@ const CHARACTERS_TEXT: usize = WIDEST * SHORT_WINDOW;
 
 /// Writes the text of the bytes to a caller's buffer, if it fits.
 #[inline(never)]
-pub fn put_text(options: DecodeOptions, bytes: &[u8], buf: &mut [u8]) -> Result<usize, Unwritten>
-    ensures { PutsText options.strictness
-        (IsReadingOf (flavor_of options.flavor) options.strictness bytes.now)
+pub fn put_text(
+    flavor: Flavor,
+    strictness: Strictness,
+    bytes: &[u8],
+    buf: &mut [u8],
+) -> Result<usize, Unwritten>
+    ensures { PutsText strictness
+        (IsReadingOf (flavor_of flavor) strictness bytes.now)
         result buf.old buf.new }
 {
-    match way_of(options, bytes) {
-        Way::Characters => put_characters(options, bytes, buf),
-        Way::ShortWindow => put_window::<SHORT_ROOM, SHORT_TEXT>(options, bytes, buf),
-        Way::MediumWindow => put_window::<MEDIUM_ROOM, MEDIUM_TEXT>(options, bytes, buf),
-        Way::LongWindow => put_window::<LONG_ROOM, LONG_TEXT>(options, bytes, buf),
-        Way::Pieces => put_pieces(options, bytes, buf),
+    match way_of(flavor, strictness, bytes) {
+        Way::Characters => put_characters(flavor, strictness, bytes, buf),
+        Way::ShortWindow => put_window::<SHORT_ROOM, SHORT_TEXT>(flavor, strictness, bytes, buf),
+        Way::MediumWindow => put_window::<MEDIUM_ROOM, MEDIUM_TEXT>(flavor, strictness, bytes, buf),
+        Way::LongWindow => put_window::<LONG_ROOM, LONG_TEXT>(flavor, strictness, bytes, buf),
+        Way::JoinedWindow => put_joined(flavor, strictness, bytes, buf),
+        Way::Pieces => put_pieces(flavor, strictness, bytes, buf),
         Way::Refused => Err(Unwritten::NoText),
     }
 }
@@ -54,95 +60,148 @@ pub fn put_text(options: DecodeOptions, bytes: &[u8], buf: &mut [u8]) -> Result<
 /// Writes the text of a few bytes, one character after another.
 #[inline(never)]
 pub fn put_characters(
-    options: DecodeOptions,
+    flavor: Flavor,
+    strictness: Strictness,
     bytes: &[u8],
     buf: &mut [u8],
 ) -> Result<usize, Unwritten>
     requires { length bytes.now ≤ SHORT_WINDOW }
-    ensures { PutsText options.strictness
-        (IsReadingOf (flavor_of options.flavor) options.strictness bytes.now)
+    ensures { PutsText strictness
+        (IsReadingOf (flavor_of flavor) strictness bytes.now)
         result buf.old buf.new }
 {
     if are_fewest(bytes) {
-        return put_characters_in::<FEWEST_TEXT>(options, bytes, buf);
+        return put_characters_in::<FEWEST_TEXT>(flavor, strictness, bytes, buf);
     }
-    put_characters_in::<CHARACTERS_TEXT>(options, bytes, buf)
+    put_characters_in::<CHARACTERS_TEXT>(flavor, strictness, bytes, buf)
 }
 
 #[inline(always)]
 fn put_characters_in<const WRITTEN: usize>(
-    options: DecodeOptions,
+    flavor: Flavor,
+    strictness: Strictness,
     bytes: &[u8],
     buf: &mut [u8],
 ) -> Result<usize, Unwritten>
     requires { (WIDEST * length bytes.now ≤ WRITTEN) × (WRITTEN ≤ CHARACTERS_TEXT) }
-    ensures { PutsText options.strictness
-        (IsReadingOf (flavor_of options.flavor) options.strictness bytes.now)
+    ensures { PutsText strictness
+        (IsReadingOf (flavor_of flavor) strictness bytes.now)
         result buf.old buf.new }
 {
     let mut written = [0; WRITTEN];
-    let decoded = write_characters(options, bytes, &mut written);
-    put_decoded(options, decoded, &written, buf)
+    let decoded = write_characters(flavor, strictness, bytes, &mut written);
+    put_decoded(strictness, decoded, &written, buf)
 }
 
 /// Writes the text of the bytes of one window, in buffers of these lengths. It is not inlined, so
 /// that they are made only when it is called.
 #[inline(never)]
 fn put_window<const LEN: usize, const WRITTEN: usize>(
-    options: DecodeOptions,
+    flavor: Flavor,
+    strictness: Strictness,
     bytes: &[u8],
     buf: &mut [u8],
 ) -> Result<usize, Unwritten>
     requires window { (length bytes.now + AROUND ≤ LEN) × (LEAST ≤ LEN) }
     requires written { (WIDEST * LEN ≤ WRITTEN + SPARED) × (WRITTEN ≤ LONG_TEXT) }
-    ensures { PutsText options.strictness
-        (IsReadingOf (flavor_of options.flavor) options.strictness bytes.now)
+    ensures { PutsText strictness
+        (IsReadingOf (flavor_of flavor) strictness bytes.now)
         result buf.old buf.new }
 {
     let mut window = [0; LEN];
     let mut written = [0; WRITTEN];
-    let decoded = write_by_places(options.flavor, bytes, &mut window, &mut written);
-    put_decoded(options, decoded, &written, buf)
+    let decoded = write_by_places(flavor, bytes, &mut window, &mut written);
+    put_decoded(strictness, decoded, &written, buf)
 }
 
 /// Copies the text that was decoded of all bytes, unless damage in them is refused.
 #[inline(always)]
 fn put_decoded(
-    options: DecodeOptions,
+    strictness: Strictness,
     decoded: Decoded,
     written: &[u8],
     buf: &mut [u8],
 ) -> Result<usize, Unwritten>
     requires { decoded.end ≤ length written.now }
     ensures { (f : AnyFlavor) (bytes : List ℕ)
-        → ReadsAll f options.strictness bytes decoded.read
+        → ReadsAll f strictness bytes decoded.read
         (take decoded.end written.now) decoded.is_damaged
-        → PutsText options.strictness (IsReadingOf f options.strictness bytes)
+        → PutsText strictness (IsReadingOf f strictness bytes)
         result buf.old buf.new }
 {
-    if is_refused(options.strictness, decoded.is_damaged) {
+    if is_refused(strictness, decoded.is_damaged) {
         return Err(Unwritten::NoText);
     }
     copy_to_slice(&written[..decoded.end], buf).map_err(Unwritten::NoRoom)
 }
 
-/// Writes the text of more bytes, piece by piece. First passes find whether there is one, and how
-/// long it is. In strict reading it is never longer than the bytes.
+/// Writes the text of a joined window and of a few bytes behind it. They are joined and decoded on
+/// the stack, so no pass looks for damage first.
 #[inline(never)]
-fn put_pieces(options: DecodeOptions, bytes: &[u8], buf: &mut [u8]) -> Result<usize, Unwritten>
-    ensures { PutsText options.strictness
-        (IsReadingOf (flavor_of options.flavor) options.strictness bytes.now)
+fn put_joined(
+    flavor: Flavor,
+    strictness: Strictness,
+    bytes: &[u8],
+    buf: &mut [u8],
+) -> Result<usize, Unwritten>
+    requires { 0 < length bytes.now }
+    ensures { PutsText strictness
+        (IsReadingOf (flavor_of flavor) strictness bytes.now)
         result buf.old buf.new }
 {
-    match options.strictness {
+    let mut room = [0; ROOM_LEN];
+    let mut written = [0; SHORT_TEXT];
+    let piece = next_piece::<SHORT_ROOM>(flavor, bytes, true, &mut room, &mut written);
+    let Piece::Joined(joined) = piece else {
+        return put_pieces(flavor, strictness, bytes, buf);
+    };
+    let rest = &bytes[joined.read..];
+    if rest.len() > SHORT_WINDOW {
+        return put_pieces(flavor, strictness, bytes, buf);
+    }
+    let mut window = [0; SHORT_ROOM];
+    let decoded = write_by_places(flavor, rest, &mut window, &mut written);
+    if is_refused(strictness, decoded.is_damaged) {
+        return Err(Unwritten::NoText);
+    }
+    copy_two(joined.text.as_bytes(), &written[..decoded.end], buf).map_err(Unwritten::NoRoom)
+}
+
+/// Copies two parts to the front of a caller's buffer, one after the other, if both fit.
+#[inline(always)]
+fn copy_two(first: &[u8], second: &[u8], buf: &mut [u8]) -> Result<usize, NoRoom>
+    ensures { PutsAnswer (first.now ++ second.now) result buf.old buf.new }
+{
+    let needed = first.len() + second.len();
+    if buf.len() < needed {
+        return Err(NoRoom { needed });
+    }
+    let end = put(first, buf, 0);
+    Ok(put(second, buf, end))
+}
+
+/// Writes the text of still more bytes, piece by piece, in its final position. First passes find
+/// whether there is one, and how long it is.
+#[inline(never)]
+fn put_pieces(
+    flavor: Flavor,
+    strictness: Strictness,
+    bytes: &[u8],
+    buf: &mut [u8],
+) -> Result<usize, Unwritten>
+    ensures { PutsText strictness
+        (IsReadingOf (flavor_of flavor) strictness bytes.now)
+        result buf.old buf.new }
+{
+    match strictness {
         Strictness::Strict => {
-            if is_damaged(options.flavor, bytes) {
+            if is_damaged(flavor, bytes) {
                 return Err(Unwritten::NoText);
             }
-            put_undamaged(options.flavor, bytes, buf).map_err(Unwritten::NoRoom)
+            put_undamaged(flavor, bytes, buf).map_err(Unwritten::NoRoom)
         }
-        Strictness::Lossy => match lossy_len(options.flavor, bytes) {
-            Some(len) => put_of_length(options.flavor, bytes, len, buf).map_err(Unwritten::NoRoom),
+        Strictness::Lossy => match lossy_len(flavor, bytes) {
+            Some(len) => put_of_length(flavor, bytes, len, buf).map_err(Unwritten::NoRoom),
             None => Err(Unwritten::TooLong),
         },
     }
@@ -187,10 +246,17 @@ fn write_reading(flavor: Flavor, bytes: &[u8], out: &mut [u8]) -> usize
     let mut end = 0;
     let mut joins = true;
     while !rest.is_empty() {
-        let piece = next_piece(flavor, rest, joins, &mut room, &mut written);
-        joins = !piece.is_damaged;
-        end = put(piece.text.as_bytes(), out, end);
-        rest = &rest[piece.read..];
+        match next_piece::<LONG_ROOM>(flavor, rest, joins, &mut room, &mut written) {
+            Piece::Joined(joined) => {
+                rest = &rest[joined.read..];
+                end = put(joined.text.as_bytes(), out, end);
+            }
+            Piece::Written(decoded) => {
+                rest = &rest[decoded.read..];
+                joins = !decoded.is_damaged;
+                end = put(&written[..decoded.end], out, end);
+            }
+        }
     }
     end
 }

@@ -9,7 +9,7 @@
 //! | at most 96 | more | `ShortWindow` | `ShortWindow` |
 //! | at most 256 | any | `MediumWindow` | `MediumWindow` |
 //! | more, with damage among the first 64 | any | `Refused` | as without |
-//! | at most 1,024 | any | `LongWindow` | `LongWindow` |
+//! | at most 1,024 | any | `JoinedWindow` | `LongWindow` |
 //! | more | any | `Pieces` | `Pieces` |
 //!
 //! - `Characters`: one character after another. A branch on a byte costs little while few bytes are
@@ -17,6 +17,8 @@
 //! - The windows: 32 bytes at a time with no branch on a byte, in buffers on the stack. Smaller
 //!   ones are made in less time.
 //! - `Pieces`: joined windows of text that is not damaged, and windows by places after damage.
+//! - `JoinedWindow`: pieces, of which a joined window mostly has all bytes but a few. Strict reading
+//!   stops at damage, so the buffers for windows by places are smaller.
 //! - `Refused`: most input that is no encoding is damaged early.
 //!
 //! A call on a slice takes `Characters` before it tests the bytes at all, below 64 of them, where
@@ -33,7 +35,7 @@ ghost use Rattle.cesu8_decode.specs.Ways.{IsWayOf};
 use super::damage::is_damaged_in_front;
 use cesu8_bytes::implementation::class::NullHigh;
 use cesu8_bytes::implementation::short::count_in_ends;
-use cesu8_bytes::options::{DecodeOptions, Strictness};
+use cesu8_bytes::options::{Flavor, Strictness};
 
 /// Which way bytes are decoded.
 #[derive(Clone, Copy)]
@@ -42,6 +44,7 @@ pub enum Way {
     ShortWindow,
     MediumWindow,
     LongWindow,
+    JoinedWindow,
     Pieces,
     Refused,
 }
@@ -73,10 +76,10 @@ const TESTED_BY_VECTORS: usize = 64;
 
 /// Returns which way the bytes go.
 #[inline(always)]
-pub fn way_of(options: DecodeOptions, bytes: &[u8]) -> Way
-    ensures { IsWayOf (flavor_of options.flavor) options.strictness bytes.now result }
+pub fn way_of(flavor: Flavor, strictness: Strictness, bytes: &[u8]) -> Way
+    ensures { IsWayOf (flavor_of flavor) strictness bytes.now result }
 {
-    let is_strict = matches!(options.strictness, Strictness::Strict);
+    let is_strict = matches!(strictness, Strictness::Strict);
     if is_strict && bytes.len() <= FEW_STRICT || has_few_others(bytes) {
         return Way::Characters;
     }
@@ -86,13 +89,17 @@ pub fn way_of(options: DecodeOptions, bytes: &[u8]) -> Way
     if bytes.len() <= MEDIUM_WINDOW {
         return Way::MediumWindow;
     }
-    if is_strict && is_damaged_in_front(options.flavor, bytes) {
+    if is_strict && is_damaged_in_front(flavor, bytes) {
         return Way::Refused;
     }
-    if bytes.len() <= LONG_WINDOW {
-        return Way::LongWindow;
+    if bytes.len() > LONG_WINDOW {
+        return Way::Pieces;
     }
-    Way::Pieces
+    if is_strict {
+        Way::JoinedWindow
+    } else {
+        Way::LongWindow
+    }
 }
 
 /// Returns whether the smaller buffer is enough for the bytes.

@@ -11,9 +11,10 @@ use cesu8_bytes::options::Flavor;
 /// Returns how many bytes the character has that begins the bytes, or 0. It is no surrogate pair. The
 /// front has the first bytes, with zeros after the last, so no length is tested.
 #[inline(always)]
-pub fn width(flavor: Flavor, bytes: &[u8], front: &[u8; PAIR_READ]) -> usize
+pub fn width(flavor: Flavor, bytes: &[u8], front: &[u8]) -> usize
     requires some { 0 < length bytes.now }
     requires front { IsFrontOf bytes.now front.now }
+    requires long { PAIR_READ ≤ length front.now }
     requires no_pair { ¬ (HasPair front.now) }
     ensures width { result ≡ front_width (flavor_of flavor) bytes.now }
     ensures within { result ≤ length bytes.now }
@@ -36,7 +37,7 @@ pub fn width(flavor: Flavor, bytes: &[u8], front: &[u8; PAIR_READ]) -> usize
 
 /// Returns whether a byte is a character of one byte.
 #[inline(always)]
-fn is_one(flavor: Flavor, byte: u8) -> bool
+pub fn is_one(flavor: Flavor, byte: u8) -> bool
     ensures { result ≡ one_at (flavor_of flavor) byte }
 {
     match flavor {

@@ -3,13 +3,12 @@ use Rattle.std.proofs.Common.{◌≡◌, ℕ, List, Result, Ok, Err, sym, ◌∙
 use Rattle.cesu8_text.specs.Slices.{StandsAtFront, ReadsAtLength, ReadingAtFront}
 use Rattle.cesu8_bytes.specs.Puts.{PutsAnswer}
 use Rattle.cesu8_bytes.specs.declared.writers.NoRoom.{NoRoom}
-use Rattle.cesu8_decode.specs.PutReadings.{PutsReading, PutsLossyReading}
-use Rattle.cesu8_decode.specs.declared.refusal.SliceRefusal.{SliceRefusal}
-use Rattle.cesu8_decode.specs.declared.refusal.SliceRefusal.TheVariants as slice_refusals
-use Rattle.cesu8_decode.specs.declared.refusal.LossyRefusal.{LossyRefusal}
-use Rattle.cesu8_decode.specs.declared.refusal.LossyRefusal.TheVariants as lossy_refusals
+use Rattle.cesu8_decode.specs.PutReadings.{PutsText}
+use Rattle.cesu8_decode.specs.declared.refusal.Unwritten.{Unwritten}
+use Rattle.cesu8_decode.specs.declared.refusal.Unwritten.TheVariants as unwritten
+use Rattle.cesu8_bytes.specs.declared.options.Strictness.TheVariants.{Strict, Lossy}
 use Rattle.simd_cesu8.specs.Slices.{WritesAnswer, WritesReading, WritesLossyReading}
-use Rattle.simd_cesu8.specs.Outcomes.{IsAnswerOf, IsReadingOf, IsLossyReadingOf}
+use Rattle.simd_cesu8.specs.Outcomes.{IsAnswerOf, IsStrictOutcome, IsLossyOutcome}
 use Rattle.simd_cesu8.specs.declared.error.TooShort.{TooShort}
 use Rattle.simd_cesu8.specs.declared.error.DecodeSliceFault.{DecodeSliceFault}
 use Rattle.simd_cesu8.specs.declared.error.DecodeSliceFault.TheVariants as slice_faults
@@ -33,29 +32,30 @@ answer_told answer (Err no_room) (Err fault) old new is puts = record {
   unchanged = puts.unchanged;
 }
 
-pub reading_told : (IsReading : List ℕ → Type 0) (outcome : Result ℕ SliceRefusal) (told : Result ℕ DecodeSliceFault) (old new : List ℕ) →
-    IsReadingOf outcome told → PutsReading IsReading outcome old new → WritesReading IsReading told old new
-reading_told IsReading (Ok len) (Ok n) old new is puts = record {
+pub strict_told : (IsReading : List ℕ → Type 0) (outcome : Result ℕ Unwritten) (told : Result ℕ DecodeSliceFault) (old new : List ℕ) →
+    IsStrictOutcome outcome told → PutsText Strict IsReading outcome old new → WritesReading IsReading told old new
+strict_told IsReading (Ok len) (Ok n) old new is puts = record {
   written = subst (λ k. ReadingAtFront IsReading k old new) (sym is) puts.written;
   fits = puts.fits;
   invalid = puts.invalid;
   needed = tt;
   unchanged = tt;
 }
-reading_told IsReading (Ok len) (Err (slice_faults.Invalid error)) old new is puts = absurd is
-reading_told IsReading (Ok len) (Err (slice_faults.TooShort fault)) old new is puts = absurd is
-reading_told IsReading (Err slice_refusals.NoText) (Ok n) old new is puts = absurd is
-reading_told IsReading (Err slice_refusals.NoText) (Err (slice_faults.Invalid error)) old new is puts = record {
+strict_told IsReading (Ok len) (Err (slice_faults.Invalid error)) old new is puts = absurd is
+strict_told IsReading (Ok len) (Err (slice_faults.TooShort fault)) old new is puts = absurd is
+strict_told IsReading (Err unwritten.NoText) (Ok n) old new is puts = absurd is
+strict_told IsReading (Err unwritten.NoText) (Err (slice_faults.Invalid error)) old new is puts = record {
   written = tt;
   fits = puts.fits;
   invalid = puts.invalid;
   needed = tt;
   unchanged = puts.unchanged;
 }
-reading_told IsReading (Err slice_refusals.NoText) (Err (slice_faults.TooShort fault)) old new is puts = absurd is
-reading_told IsReading (Err (slice_refusals.NoRoom no_room)) (Ok n) old new is puts = absurd is
-reading_told IsReading (Err (slice_refusals.NoRoom no_room)) (Err (slice_faults.Invalid error)) old new is puts = absurd is
-reading_told IsReading (Err (slice_refusals.NoRoom no_room)) (Err (slice_faults.TooShort fault)) old new is puts = record {
+strict_told IsReading (Err unwritten.NoText) (Err (slice_faults.TooShort fault)) old new is puts = absurd is
+strict_told IsReading (Err unwritten.TooLong) told old new is puts = absurd (let no : Strict ≡ Lossy = puts.lossy tt in cc)
+strict_told IsReading (Err (unwritten.NoRoom no_room)) (Ok n) old new is puts = absurd is
+strict_told IsReading (Err (unwritten.NoRoom no_room)) (Err (slice_faults.Invalid error)) old new is puts = absurd is
+strict_told IsReading (Err (unwritten.NoRoom no_room)) (Err (slice_faults.TooShort fault)) old new is puts = record {
   written = tt;
   fits = puts.fits;
   invalid = puts.invalid;
@@ -63,29 +63,30 @@ reading_told IsReading (Err (slice_refusals.NoRoom no_room)) (Err (slice_faults.
   unchanged = puts.unchanged;
 }
 
-pub lossy_reading_told : (IsReading : List ℕ → Type 0) (outcome : Result ℕ LossyRefusal) (told : Result ℕ LossySliceFault) (old new : List ℕ) →
-    IsLossyReadingOf outcome told → PutsLossyReading IsReading outcome old new → WritesLossyReading IsReading told old new
-lossy_reading_told IsReading (Ok len) (Ok n) old new is puts = record {
+pub lossy_told : (IsReading : List ℕ → Type 0) (outcome : Result ℕ Unwritten) (told : Result ℕ LossySliceFault) (old new : List ℕ) →
+    IsLossyOutcome outcome told → PutsText Lossy IsReading outcome old new → WritesLossyReading IsReading told old new
+lossy_told IsReading (Ok len) (Ok n) old new is puts = record {
   written = subst (λ k. ReadingAtFront IsReading k old new) (sym is) puts.written;
   fits = puts.fits;
   too_long = puts.too_long;
   needed = tt;
   unchanged = tt;
 }
-lossy_reading_told IsReading (Ok len) (Err lossy_faults.TooLong) old new is puts = absurd is
-lossy_reading_told IsReading (Ok len) (Err (lossy_faults.TooShort fault)) old new is puts = absurd is
-lossy_reading_told IsReading (Err lossy_refusals.TooLong) (Ok n) old new is puts = absurd is
-lossy_reading_told IsReading (Err lossy_refusals.TooLong) (Err lossy_faults.TooLong) old new is puts = record {
+lossy_told IsReading (Ok len) (Err lossy_faults.TooLong) old new is puts = absurd is
+lossy_told IsReading (Ok len) (Err (lossy_faults.TooShort fault)) old new is puts = absurd is
+lossy_told IsReading (Err unwritten.NoText) told old new is puts = absurd (let no : Lossy ≡ Strict = puts.strict tt in cc)
+lossy_told IsReading (Err unwritten.TooLong) (Ok n) old new is puts = absurd is
+lossy_told IsReading (Err unwritten.TooLong) (Err lossy_faults.TooLong) old new is puts = record {
   written = tt;
   fits = puts.fits;
   too_long = puts.too_long;
   needed = tt;
   unchanged = puts.unchanged;
 }
-lossy_reading_told IsReading (Err lossy_refusals.TooLong) (Err (lossy_faults.TooShort fault)) old new is puts = absurd is
-lossy_reading_told IsReading (Err (lossy_refusals.NoRoom no_room)) (Ok n) old new is puts = absurd is
-lossy_reading_told IsReading (Err (lossy_refusals.NoRoom no_room)) (Err lossy_faults.TooLong) old new is puts = absurd is
-lossy_reading_told IsReading (Err (lossy_refusals.NoRoom no_room)) (Err (lossy_faults.TooShort fault)) old new is puts = record {
+lossy_told IsReading (Err unwritten.TooLong) (Err (lossy_faults.TooShort fault)) old new is puts = absurd is
+lossy_told IsReading (Err (unwritten.NoRoom no_room)) (Ok n) old new is puts = absurd is
+lossy_told IsReading (Err (unwritten.NoRoom no_room)) (Err lossy_faults.TooLong) old new is puts = absurd is
+lossy_told IsReading (Err (unwritten.NoRoom no_room)) (Err (lossy_faults.TooShort fault)) old new is puts = record {
   written = tt;
   fits = puts.fits;
   too_long = puts.too_long;

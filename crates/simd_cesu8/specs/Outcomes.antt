@@ -3,10 +3,8 @@ use Rattle.std.specs.Prelude.{◌≡◌, ℕ, ⊤, Result, Ok, Err}
 use Rattle.cesu8_bytes.specs.declared.writers.NoRoom.{NoRoom}
 use Rattle.cesu8_decode.specs.declared.refusal.Refusal.{Refusal}
 use Rattle.cesu8_decode.specs.declared.refusal.Refusal.TheVariants as refusals
-use Rattle.cesu8_decode.specs.declared.refusal.SliceRefusal.{SliceRefusal}
-use Rattle.cesu8_decode.specs.declared.refusal.SliceRefusal.TheVariants as slice_refusals
-use Rattle.cesu8_decode.specs.declared.refusal.LossyRefusal.{LossyRefusal}
-use Rattle.cesu8_decode.specs.declared.refusal.LossyRefusal.TheVariants as lossy_refusals
+use Rattle.cesu8_decode.specs.declared.refusal.Unwritten.{Unwritten}
+use Rattle.cesu8_decode.specs.declared.refusal.Unwritten.TheVariants as unwritten
 use Rattle.simd_cesu8.specs.declared.error.TooShort.{TooShort}
 use Rattle.simd_cesu8.specs.declared.error.DecodeFault.{DecodeFault}
 use Rattle.simd_cesu8.specs.declared.error.DecodeFault.TheVariants as faults
@@ -28,15 +26,17 @@ IsAnswerOf (Err no_room) (Err fault) = fault.needed ≡ no_room.needed
 IsAnswerOf outcome result = ⊥
 
 -- or both that the input has no text,
-abbrev pub IsReadingOf : Result ℕ SliceRefusal → Result ℕ DecodeSliceFault → Type 0
-IsReadingOf (Ok len) (Ok told) = told ≡ len
-IsReadingOf (Err slice_refusals.NoText) (Err (slice_faults.Invalid error)) = ⊤
-IsReadingOf (Err (slice_refusals.NoRoom no_room)) (Err (slice_faults.TooShort fault)) = fault.needed ≡ no_room.needed
-IsReadingOf outcome result = ⊥
+abbrev pub IsStrictOutcome : Result ℕ Unwritten → Result ℕ DecodeSliceFault → Type 0
+IsStrictOutcome (Ok len) (Ok told) = told ≡ len
+IsStrictOutcome (Err unwritten.NoText) (Err (slice_faults.Invalid error)) = ⊤
+IsStrictOutcome (Err unwritten.TooLong) (Err (slice_faults.Invalid error)) = ⊤
+IsStrictOutcome (Err (unwritten.NoRoom no_room)) (Err (slice_faults.TooShort fault)) = fault.needed ≡ no_room.needed
+IsStrictOutcome outcome result = ⊥
 
--- or both that the text is too long.
-abbrev pub IsLossyReadingOf : Result ℕ LossyRefusal → Result ℕ LossySliceFault → Type 0
-IsLossyReadingOf (Ok len) (Ok told) = told ≡ len
-IsLossyReadingOf (Err lossy_refusals.TooLong) (Err lossy_faults.TooLong) = ⊤
-IsLossyReadingOf (Err (lossy_refusals.NoRoom no_room)) (Err (lossy_faults.TooShort fault)) = fault.needed ≡ no_room.needed
-IsLossyReadingOf outcome result = ⊥
+-- or both that the text is too long. What a reading never has is taken for what it has.
+abbrev pub IsLossyOutcome : Result ℕ Unwritten → Result ℕ LossySliceFault → Type 0
+IsLossyOutcome (Ok len) (Ok told) = told ≡ len
+IsLossyOutcome (Err unwritten.NoText) (Err lossy_faults.TooLong) = ⊤
+IsLossyOutcome (Err unwritten.TooLong) (Err lossy_faults.TooLong) = ⊤
+IsLossyOutcome (Err (unwritten.NoRoom no_room)) (Err (lossy_faults.TooShort fault)) = fault.needed ≡ no_room.needed
+IsLossyOutcome outcome result = ⊥

@@ -9,17 +9,19 @@ ghost use Rattle.simd_cesu8.specs.Reading.{IsStrictReading, HasNoStrictReading, 
 ghost use Rattle.simd_cesu8.specs.Fault.{OnInvalid};
 ghost use Rattle.simd_cesu8.specs.Slices.{WritesAnswer, WritesReading, WritesLossyReading};
 ghost use Rattle.simd_cesu8.specs.Internal.{flavor_of};
-ghost use Rattle.simd_cesu8.specs.Outcomes.{IsFaultOf, IsAnswerOf, IsReadingOf, IsLossyReadingOf};
+ghost use Rattle.simd_cesu8.specs.Outcomes.{IsFaultOf, IsAnswerOf, IsStrictOutcome, IsLossyOutcome};
 
 use crate::error::{DecodeFault, DecodeSliceFault, DecodingError, LossySliceFault, TooShort};
 pub use cesu8_bytes::ascii::{ascii_text, is_short_ascii, is_short_unchanged_ascii};
 pub use cesu8_bytes::first_looks::{contains_changed, needs_encoded, unchanged_text, whole_text};
 pub use cesu8_bytes::lengths::{encoded_len, utf16_len};
-pub use cesu8_bytes::options::{DecodeOptions, Flavor};
+pub use cesu8_bytes::options::Flavor;
+use cesu8_bytes::options::Strictness;
 pub use cesu8_bytes::order::compare_as_utf16;
 use cesu8_bytes::writers::NoRoom;
 pub use cesu8_bytes::writers::{copy, copy_text};
-use cesu8_decode::refusal::{LossyRefusal, Refusal, SliceRefusal};
+use cesu8_decode::copy_or_write::{put_encoding, put_leniently};
+use cesu8_decode::refusal::{Refusal, Unwritten};
 pub use cesu8_decode::{decode_lossy, decoded_len, lossy_len};
 pub use cesu8_encode::{encode, encode_into};
 use std::alloc::Global;
@@ -56,7 +58,7 @@ pub fn encode_to_slice(flavor: Flavor, value: &str, buf: &mut [u8]) -> Result<us
 
 /// Writes the strict reading of the bytes to a caller's buffer, if it fits.
 #[inline(always)]
-#[tactic(auto, using(crate::proofs::Outcomes::reading_told))]
+#[tactic(auto, using(crate::proofs::Outcomes::strict_told))]
 pub fn decode_strict_to_slice(
     flavor: Flavor,
     bytes: &[u8],
@@ -65,12 +67,12 @@ pub fn decode_strict_to_slice(
     ensures { WritesReading (λ text. IsStrictReading (flavor_of flavor) bytes.now text)
         result buf.old buf.new }
 {
-    strict(cesu8_decode::copy_or_write::decode_strict_to_slice(flavor, bytes, buf))
+    strict(put_encoding(flavor, Strictness::Strict, bytes, buf))
 }
 
 /// Writes the lenient reading of the bytes to a caller's buffer, if it fits.
 #[inline(always)]
-#[tactic(auto, using(crate::proofs::Outcomes::reading_told))]
+#[tactic(auto, using(crate::proofs::Outcomes::strict_told))]
 pub fn decode_to_slice(
     flavor: Flavor,
     bytes: &[u8],
@@ -79,12 +81,12 @@ pub fn decode_to_slice(
     ensures { WritesReading (λ text. IsLenientReading (flavor_of flavor) bytes.now text)
         result buf.old buf.new }
 {
-    strict(cesu8_decode::copy_or_write::decode_to_slice(flavor, bytes, buf))
+    strict(put_leniently(flavor, Strictness::Strict, bytes, buf))
 }
 
 /// Writes the lossy reading of the bytes to a caller's buffer, if it fits.
 #[inline(always)]
-#[tactic(auto, using(crate::proofs::Outcomes::lossy_reading_told))]
+#[tactic(auto, using(crate::proofs::Outcomes::lossy_told))]
 pub fn decode_lossy_strict_to_slice(
     flavor: Flavor,
     bytes: &[u8],
@@ -93,12 +95,12 @@ pub fn decode_lossy_strict_to_slice(
     ensures { WritesLossyReading (λ text. text ≡ reading (flavor_of flavor) bytes.now)
         result buf.old buf.new }
 {
-    lossy(cesu8_decode::copy_or_write::decode_lossy_strict_to_slice(flavor, bytes, buf))
+    lossy(put_encoding(flavor, Strictness::Lossy, bytes, buf))
 }
 
 /// Writes the lenient lossy reading of the bytes to a caller's buffer, if it fits.
 #[inline(always)]
-#[tactic(auto, using(crate::proofs::Outcomes::lossy_reading_told))]
+#[tactic(auto, using(crate::proofs::Outcomes::lossy_told))]
 pub fn decode_lossy_to_slice(
     flavor: Flavor,
     bytes: &[u8],
@@ -107,7 +109,7 @@ pub fn decode_lossy_to_slice(
     ensures { WritesLossyReading (λ text. IsLenientLossyReading (flavor_of flavor) bytes.now text)
         result buf.old buf.new }
 {
-    lossy(cesu8_decode::copy_or_write::decode_lossy_to_slice(flavor, bytes, buf))
+    lossy(put_leniently(flavor, Strictness::Lossy, bytes, buf))
 }
 
 /// Returns a refusal of the decoder as a fault.
@@ -132,29 +134,31 @@ fn answer(outcome: Result<usize, NoRoom>) -> Result<usize, TooShort>
     }
 }
 
-/// Returns how many bytes of a strict reading were written, or the fault.
+/// Returns how many bytes of a strict reading were written, or the fault. It is never too long.
 #[inline(always)]
-fn strict(outcome: Result<usize, SliceRefusal>) -> Result<usize, DecodeSliceFault>
-    ensures { IsReadingOf outcome result }
+fn strict(outcome: Result<usize, Unwritten>) -> Result<usize, DecodeSliceFault>
+    ensures { IsStrictOutcome outcome result }
 {
     match outcome {
         Ok(len) => Ok(len),
-        Err(SliceRefusal::NoText) => Err(DecodeSliceFault::Invalid(DecodingError(()))),
-        Err(SliceRefusal::NoRoom(no_room)) => {
+        Err(Unwritten::NoText) | Err(Unwritten::TooLong) => {
+            Err(DecodeSliceFault::Invalid(DecodingError(())))
+        }
+        Err(Unwritten::NoRoom(no_room)) => {
             Err(DecodeSliceFault::TooShort(TooShort::new(no_room.needed)))
         }
     }
 }
 
-/// Returns how many bytes of a lossy reading were written, or the fault.
+/// Returns how many bytes of a lossy reading were written, or the fault. All bytes have one.
 #[inline(always)]
-fn lossy(outcome: Result<usize, LossyRefusal>) -> Result<usize, LossySliceFault>
-    ensures { IsLossyReadingOf outcome result }
+fn lossy(outcome: Result<usize, Unwritten>) -> Result<usize, LossySliceFault>
+    ensures { IsLossyOutcome outcome result }
 {
     match outcome {
         Ok(len) => Ok(len),
-        Err(LossyRefusal::TooLong) => Err(LossySliceFault::TooLong),
-        Err(LossyRefusal::NoRoom(no_room)) => {
+        Err(Unwritten::NoText) | Err(Unwritten::TooLong) => Err(LossySliceFault::TooLong),
+        Err(Unwritten::NoRoom(no_room)) => {
             Err(LossySliceFault::TooShort(TooShort::new(no_room.needed)))
         }
     }

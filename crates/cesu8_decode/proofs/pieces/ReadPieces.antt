@@ -105,16 +105,29 @@ pub piece_unless_refused : (f : Flavor) (which : Strictness) (bytes text : List 
 piece_unless_refused f Strict bytes text read is_damaged first fine = first.strict fine
 piece_unless_refused f Lossy bytes text read is_damaged first fine = first.lossy
 
+-- Bytes that are not damaged are not refused.
+pub none_refused : (which : Strictness) → refuses which false ≡ false
+none_refused Strict = refl
+none_refused Lossy = refl
+
 fault_if_refused : (f : Flavor) (which : Strictness) (bytes text : List ℕ) (read : ℕ) (is_damaged : Bool) →
     ReadsFirst f bytes read text is_damaged → refuses which is_damaged ≡ true → (which ≡ Strict) × HasFault f bytes
 fault_if_refused f Strict bytes text read is_damaged first refused = (refl, first.damaged refused)
 fault_if_refused f Lossy bytes text read is_damaged first refused = absurd (false≢true refused)
 
--- So bytes of which all were read have no text where it is refused.
+-- So bytes have no text where that of a piece of them is refused,
+pub none_behind : (f : Flavor) (which : Strictness) (bytes rest text old out : List ℕ) (read : ℕ) (is_damaged : Bool) →
+    IsReadSoFar f which bytes rest old out → ReadsFirst f rest read text is_damaged → refuses which is_damaged ≡ true →
+    (which ≡ Strict) × HasNoStrictReading f bytes
+none_behind f which bytes rest text old out read is_damaged so_far first refused =
+    let found = fault_if_refused f which rest text read is_damaged first refused in
+    (found.0, fault_of_whole f bytes (fault_after f which bytes rest old out so_far found.0 found.1))
+
+-- or of the first one.
 pub none_if_refused : (f : Flavor) (which : Strictness) (bytes text : List ℕ) (read : ℕ) (is_damaged : Bool) →
     ReadsFirst f bytes read text is_damaged → refuses which is_damaged ≡ true → (which ≡ Strict) × HasNoStrictReading f bytes
 none_if_refused f which bytes text read is_damaged first refused =
-    let found = fault_if_refused f which bytes text read is_damaged first refused in (found.0, fault_of_whole f bytes found.1)
+    none_behind f which bytes bytes text [] [] read is_damaged (nothing_read f which bytes []) first refused
 
 -- The text of what was decoded into nothing, and its length.
 pub decoded_text : (f : Flavor) (which : Strictness) (bytes old out : List ℕ) → old ≡ [] →
@@ -138,11 +151,9 @@ piece_length f bytes rest piece read =
     ∙ length-append (utf8 read.text) (utf8 (reading f rest)) ∙ ap (λ bs. length bs + length (utf8 (reading f rest))) (sym read.written)
 
 -- A piece that leaves nothing is the text of the whole.
-pub whole_text : (f : Flavor) (which : Strictness) (bytes piece : List ℕ) (n : ℕ) → IsPiece f which bytes (drop n bytes) piece →
-    n ≡ length bytes → IsDecodedText f which bytes (chars piece)
-whole_text f which bytes piece n read all =
-    decoded_text f which bytes [] piece refl
-    (all_read f which bytes (drop n bytes) [] piece read (omega (arith, length-drop n bytes, all)))
+pub whole_text : (f : Flavor) (which : Strictness) (bytes rest piece : List ℕ) → IsPiece f which bytes rest piece →
+    length rest ≡ 0 → IsDecodedText f which bytes (chars piece)
+whole_text f which bytes rest piece read empty = decoded_text f which bytes [] piece refl (all_read f which bytes rest [] piece read empty)
 
 -- What holds of a value that is there holds of it where the error is mapped.
 pub where_mapped : {T E D : Type 0} (r : Result T E) (mapped : Result T D) (P Q : T → Type 0) (R : E → Type 0) →
@@ -171,6 +182,5 @@ pub piece_refused : (f : Flavor) (which : Strictness) (bytes rest text old out :
     IsReadSoFar f which bytes rest old out → ReadsFirst f rest read text is_damaged → IfNoText refusal (refuses which is_damaged ≡ true) →
     IfNoText refusal (HasNoStrictReading f bytes)
 piece_refused f which bytes rest text old out read is_damaged NoText so_far first refused =
-    let found = fault_if_refused f which rest text read is_damaged first refused in
-    fault_of_whole f bytes (fault_after f which bytes rest old out so_far found.0 found.1)
+    (none_behind f which bytes rest text old out read is_damaged so_far first refused).1
 piece_refused f which bytes rest text old out read is_damaged (Memory error) so_far first refused = tt

@@ -1,5 +1,5 @@
 -- What a call may say of a text that it writes into a caller's buffer.
-use Rattle.std.proofs.Common.{◌≡◌, ℕ, ◌^◌, ◌<◌, ◌≤◌, ◌↔◌, inl, inr, ⊎_elim, List, refl, sym, ap, ◌∙◌, subst, arith, length, drop, Bool, false, Result, Ok, Err, MatchResult, IsErrAnd}
+use Rattle.std.proofs.Common.{◌≡◌, ℕ, ◌^◌, ◌<◌, ◌≤◌, ◌↔◌, inl, inr, ⊎_elim, List, refl, sym, ap, ◌∙◌, subst, arith, length, length-drop, drop, [], ◌++◌, Bool, false, Result, Ok, Err, MatchResult, IsErrAnd}
 use Rattle.std.proofs.lemmas.Bool.{false≢true}
 use Rattle.std.specs.Str.{chars, IsUtf8}
 use Rattle.cesu8_text.specs.Text.{utf8}
@@ -9,23 +9,19 @@ use Rattle.cesu8_text.specs.Reading.{IsStrictReading, HasNoStrictReading, readin
 use Rattle.cesu8_bytes.specs.Pieces.{IsPiece}
 use Rattle.cesu8_bytes.specs.declared.options.Strictness.{Strictness}
 use Rattle.cesu8_bytes.specs.declared.options.Strictness.TheVariants.{Strict, Lossy}
-use Rattle.cesu8_text.specs.Slices.{StandsAtFront, ReadsAtLength, ReadingAtFront}
+use Rattle.cesu8_text.specs.Slices.{StandsAtFront, ReadsAtLength}
 use Rattle.cesu8_bytes.specs.Puts.{PutsAnswer}
-use Rattle.cesu8_decode.specs.Decoding.{ReadsAll, refuses}
-use Rattle.cesu8_decode.specs.PutReadings.{PutsReading, PutsLossyReading, PutsText, IsReadingOf, IsLenientReadingOf, IsStrictOutcome, IsLossyOutcome}
+use Rattle.cesu8_decode.specs.Decoding.{IsDecodedText, ReadsAll, refuses}
+use Rattle.cesu8_decode.specs.PutReadings.{PutsText, IsReadingOf, IsLenientReadingOf}
 use Rattle.cesu8_decode.specs.declared.refusal.Unwritten.{Unwritten}
-use Rattle.cesu8_decode.specs.declared.refusal.Unwritten.TheVariants as either
+use Rattle.cesu8_decode.specs.declared.refusal.Unwritten.TheVariants as unwritten
 use Rattle.cesu8_bytes.specs.declared.writers.NoRoom.{NoRoom}
-use Rattle.cesu8_decode.specs.declared.refusal.SliceRefusal.{SliceRefusal}
-use Rattle.cesu8_decode.specs.declared.refusal.SliceRefusal.TheVariants as strict
-use Rattle.cesu8_decode.specs.declared.refusal.LossyRefusal.{LossyRefusal}
-use Rattle.cesu8_decode.specs.declared.refusal.LossyRefusal.TheVariants as lossy
 use Rattle.cesu8_text.proofs.StdUtf8.{IsUtf8Of_chars, chars_utf8, not_utf8_of}
 use Rattle.cesu8_text.proofs.encoding.Lengths.{length_bounds}
 use Rattle.cesu8_text.proofs.reading.EncodedTexts.{reading_encoding}
 use Rattle.cesu8_text.proofs.reading.Borrowing.{unchanged_reading}
 use Rattle.cesu8_text.proofs.reading.LossyBorrowing.{unchanged_lossy}
-use Rattle.cesu8_decode.proofs.pieces.ReadPieces.{piece_utf8, whole_text, piece_unless_refused}
+use Rattle.cesu8_decode.proofs.pieces.ReadPieces.{more_read, piece_appended, piece_utf8, whole_text, piece_unless_refused}
 
 -- ---- the only text
 
@@ -49,26 +45,7 @@ strict_only : (f : Flavor) (bytes text other : List ℕ) → IsStrictReading f b
 strict_only f bytes text other reads also =
     sym (reading_encoding f other also.0) ∙ ap (reading f) (also.1 ∙ sym reads.1) ∙ reading_encoding f text reads.0
 
--- That of bytes which are a piece;
-only_piece : (f : Flavor) (which : Strictness) (bytes piece : List ℕ) (n : ℕ) → IsPiece f which bytes (drop n bytes) piece → n ≡ length bytes →
-    IsOnlyText (IsReadingOf f which bytes) (chars piece) piece
-only_piece f Strict bytes piece n is_piece all =
-    let read = whole_text f Strict bytes piece n is_piece all in
-    let reads : IsStrictReading f bytes (chars piece) = (read.0, read.2 refl) in
-    record {
-      reads = reads;
-      only = λ other also. strict_only f bytes (chars piece) other reads also;
-      utf8_is = (IsUtf8Of_chars piece (piece_utf8 f Strict bytes (drop n bytes) piece is_piece)).1;
-    }
-only_piece f Lossy bytes piece n is_piece all =
-    let read = whole_text f Lossy bytes piece n is_piece all in
-    record {
-      reads = read.1;
-      only = λ other same. same ∙ sym read.1;
-      utf8_is = (IsUtf8Of_chars piece (piece_utf8 f Lossy bytes (drop n bytes) piece is_piece)).1;
-    }
-
--- that of bytes that are not damaged, which is no longer than they are,
+-- That of bytes that are not damaged;
 pub only_strict : (f : Flavor) (bytes text : List ℕ) → IsStrictReading f bytes text → IsOnlyText (IsStrictReading f bytes) text (utf8 text)
 only_strict f bytes text reads = record {
   reads = reads;
@@ -76,11 +53,34 @@ only_strict f bytes text reads = record {
   utf8_is = refl;
 }
 
+-- that of bytes that are decoded, or are a piece;
+pub only_decoded : (f : Flavor) (which : Strictness) (bytes text : List ℕ) → IsDecodedText f which bytes text →
+    IsOnlyText (IsReadingOf f which bytes) text (utf8 text)
+only_decoded f Strict bytes text is = only_strict f bytes text (is.0, is.2 refl)
+only_decoded f Lossy bytes text is = record { reads = is.1; only = λ other same. same ∙ sym is.1; utf8_is = refl }
+
+only_piece : (f : Flavor) (which : Strictness) (bytes rest piece : List ℕ) → IsPiece f which bytes rest piece → length rest ≡ 0 →
+    IsOnlyText (IsReadingOf f which bytes) (chars piece) piece
+only_piece f which bytes rest piece is_piece empty =
+    subst (IsOnlyText (IsReadingOf f which bytes) (chars piece))
+    (IsUtf8Of_chars piece (piece_utf8 f which bytes rest piece is_piece)).1
+    (only_decoded f which bytes (chars piece) (whole_text f which bytes rest piece is_piece empty))
+
+-- or are two.
+pub only_two_pieces : (f : Flavor) (which : Strictness) (bytes rest first second : List ℕ) (n : ℕ) → IsPiece f which bytes rest first →
+    IsPiece f which rest (drop n rest) second → n ≡ length rest → IsOnlyText (IsReadingOf f which bytes) (chars (first ++ second)) (first ++ second)
+only_two_pieces f which bytes rest first second n one other all =
+    only_piece f which bytes (drop n rest) (first ++ second)
+    (more_read f which bytes rest (drop n rest) [] first (first ++ second) one
+    (piece_appended f which rest (drop n rest) second first (first ++ second) other refl))
+    (omega (arith, length-drop n rest, all))
+
+-- The strict reading is no longer than the bytes.
 pub strict_no_longer : (f : Flavor) (bytes : List ℕ) → IsStrictReading f bytes (reading f bytes) → lossy_length f bytes ≤ length bytes
 unfolding lossy_length
 strict_no_longer f bytes reads = omega (arith, (length_bounds f (reading f bytes) reads.0).low, ap length reads.1)
 
--- and the lossy one of any;
+-- That of the lossy reading of any,
 pub only_lossy : (f : Flavor) (bytes : List ℕ) → IsOnlyText (λ text. text ≡ reading f bytes) (reading f bytes) (utf8 (reading f bytes))
 only_lossy f bytes = record { reads = refl; only = λ other same. same; utf8_is = refl }
 
@@ -125,7 +125,7 @@ only_utf8 f Lossy bytes is_utf8 =
 
 -- In strict reading the input has no text.
 pub text_lacks : (which : Strictness) (IsReading : List ℕ → Type 0) (buf : List ℕ) → which ≡ Strict →
-    ((text : List ℕ) → ¬ (IsReading text)) → PutsText which IsReading (Err either.NoText) buf buf
+    ((text : List ℕ) → ¬ (IsReading text)) → PutsText which IsReading (Err unwritten.NoText) buf buf
 text_lacks which IsReading buf strictly none = record {
   written = tt;
   fits = ((λ ok. absurd (false≢true ok)), (λ found. absurd (none found.0 found.1)));
@@ -138,14 +138,14 @@ text_lacks which IsReading buf strictly none = record {
 }
 
 pub no_strict_text : (f : Flavor) (which : Strictness) (bytes buf : List ℕ) → (which ≡ Strict) × HasNoStrictReading f bytes →
-    PutsText which (IsReadingOf f which bytes) (Err either.NoText) buf buf
+    PutsText which (IsReadingOf f which bytes) (Err unwritten.NoText) buf buf
 no_strict_text f Strict bytes buf refused = text_lacks Strict (IsReadingOf f Strict bytes) buf refl refused.1
 no_strict_text f Lossy bytes buf refused = absurd (let no : Lossy ≡ Strict = refused.0 in cc)
 
 -- The answer is written, or the buffer is too short for it.
 pub text_put : (which : Strictness) (IsReading : List ℕ → Type 0) (text answer : List ℕ) (r : Result ℕ NoRoom) (told : Result ℕ Unwritten) (old new : List ℕ) →
     IsOnlyText IsReading text answer → length answer < 2 ^ 64 →
-    MatchResult r (λ len. told ≡ Ok len) (λ fault. IsErrAnd told (λ d. d ≡ either.NoRoom fault)) →
+    MatchResult r (λ len. told ≡ Ok len) (λ fault. IsErrAnd told (λ d. d ≡ unwritten.NoRoom fault)) →
     PutsAnswer answer r old new → PutsText which IsReading told old new
 text_put which IsReading text answer (Ok len) told old new is small told_is puts =
     subst (λ t. PutsText which IsReading t old new) (sym told_is) (record {
@@ -183,16 +183,17 @@ text_put which IsReading text answer (Err fault) (Err other) old new is small to
 -- So are bytes of which all were decoded.
 pub decoded_put : (f : Flavor) (which : Strictness) (bytes answer : List ℕ) (read : ℕ) (is_damaged : Bool) (r : Result ℕ NoRoom) (told : Result ℕ Unwritten) (old new : List ℕ) →
     ReadsAll f which bytes read answer is_damaged → refuses which is_damaged ≡ false → length answer < 2 ^ 64 →
-    MatchResult r (λ len. told ≡ Ok len) (λ fault. IsErrAnd told (λ d. d ≡ either.NoRoom fault)) →
+    MatchResult r (λ len. told ≡ Ok len) (λ fault. IsErrAnd told (λ d. d ≡ unwritten.NoRoom fault)) →
     PutsAnswer answer r old new → PutsText which (IsReadingOf f which bytes) told old new
 decoded_put f which bytes answer read is_damaged r told old new reads fine small told_is puts =
     text_put which (IsReadingOf f which bytes) (chars answer) answer r told old new
-    (only_piece f which bytes answer read (piece_unless_refused f which bytes answer read is_damaged reads.first fine) (reads.all fine))
+    (only_piece f which bytes (drop read bytes) answer (piece_unless_refused f which bytes answer read is_damaged reads.first fine)
+    (omega (arith, length-drop read bytes, reads.all fine)))
     small told_is puts
 
 -- No `usize` is the answer's length, so that it fits into no buffer.
 pub length_lacks : (IsReading : List ℕ → Type 0) (text answer buf : List ℕ) → IsOnlyText IsReading text answer →
-    2 ^ 64 ≤ length answer → length buf < 2 ^ 64 → PutsText Lossy IsReading (Err either.TooLong) buf buf
+    2 ^ 64 ≤ length answer → length buf < 2 ^ 64 → PutsText Lossy IsReading (Err unwritten.TooLong) buf buf
 length_lacks IsReading text answer buf is long small = record {
   written = tt;
   fits = (
@@ -228,7 +229,7 @@ module _ (P Q : List ℕ → Type 0) (same : (text : List ℕ) → P text ↔ Q 
     strict = puts.strict;
     lossy = puts.lossy;
   }
-  same_reading which (Err either.NoText) old new puts = record {
+  same_reading which (Err unwritten.NoText) old new puts = record {
     written = tt;
     fits = ((λ ok. absurd (false≢true ok)), (λ found. puts.fits.1 (back (λ len. len ≤ length old) found)));
     invalid = ((λ _ text reads. puts.invalid.0 tt text ((same text).1 reads)), (λ _. tt));
@@ -238,7 +239,7 @@ module _ (P Q : List ℕ → Type 0) (same : (text : List ℕ) → P text ↔ Q 
     strict = puts.strict;
     lossy = puts.lossy;
   }
-  same_reading which (Err either.TooLong) old new puts = record {
+  same_reading which (Err unwritten.TooLong) old new puts = record {
     written = tt;
     fits = ((λ ok. absurd (false≢true ok)), (λ found. puts.fits.1 (back (λ len. len ≤ length old) found)));
     invalid = ((λ never. absurd never), (λ none. puts.invalid.1 (λ text reads. none text ((same text).0 reads))));
@@ -248,7 +249,7 @@ module _ (P Q : List ℕ → Type 0) (same : (text : List ℕ) → P text ↔ Q 
     strict = puts.strict;
     lossy = puts.lossy;
   }
-  same_reading which (Err (either.NoRoom fault)) old new puts = record {
+  same_reading which (Err (unwritten.NoRoom fault)) old new puts = record {
     written = tt;
     fits = ((λ ok. absurd (false≢true ok)), (λ found. puts.fits.1 (back (λ len. len ≤ length old) found)));
     invalid = ((λ never. absurd never), (λ none. puts.invalid.1 (λ text reads. none text ((same text).0 reads))));
@@ -270,65 +271,3 @@ lenient_is_other f Lossy bytes text not_utf8 = (
   (λ same. inr (not_utf8_of bytes not_utf8, same)),
   (λ reads. ⊎_elim (λ of. absurd (not_utf8_of bytes not_utf8 text of)) (λ lossily. lossily.1) reads),
 )
-
--- ---- what the calls say of either
-
-pub strict_put : (IsReading : List ℕ → Type 0) (outcome : Result ℕ Unwritten) (told : Result ℕ SliceRefusal) (old new : List ℕ) →
-    IsStrictOutcome outcome told → PutsText Strict IsReading outcome old new → PutsReading IsReading told old new
-strict_put IsReading (Ok len) (Ok n) old new is puts = record {
-  written = subst (λ k. ReadingAtFront IsReading k old new) (sym is) puts.written;
-  fits = puts.fits;
-  invalid = puts.invalid;
-  needed = tt;
-  unchanged = tt;
-}
-strict_put IsReading (Ok len) (Err other) old new is puts = absurd is
-strict_put IsReading (Err either.NoText) (Ok n) old new is puts = absurd is
-strict_put IsReading (Err either.NoText) (Err strict.NoText) old new is puts = record {
-  written = tt;
-  fits = puts.fits;
-  invalid = puts.invalid;
-  needed = tt;
-  unchanged = puts.unchanged;
-}
-strict_put IsReading (Err either.NoText) (Err (strict.NoRoom fault)) old new is puts = absurd is
-strict_put IsReading (Err either.TooLong) told old new is puts = absurd (let no : Strict ≡ Lossy = puts.lossy tt in cc)
-strict_put IsReading (Err (either.NoRoom fault)) (Ok n) old new is puts = absurd is
-strict_put IsReading (Err (either.NoRoom fault)) (Err strict.NoText) old new is puts = absurd is
-strict_put IsReading (Err (either.NoRoom fault)) (Err (strict.NoRoom told)) old new is puts = record {
-  written = tt;
-  fits = puts.fits;
-  invalid = puts.invalid;
-  needed = subst (λ no_room. ReadsAtLength IsReading (λ len. no_room.needed ≡ len)) (sym is) puts.needed;
-  unchanged = puts.unchanged;
-}
-
-pub lossy_put : (IsReading : List ℕ → Type 0) (outcome : Result ℕ Unwritten) (told : Result ℕ LossyRefusal) (old new : List ℕ) →
-    IsLossyOutcome outcome told → PutsText Lossy IsReading outcome old new → PutsLossyReading IsReading told old new
-lossy_put IsReading (Ok len) (Ok n) old new is puts = record {
-  written = subst (λ k. ReadingAtFront IsReading k old new) (sym is) puts.written;
-  fits = puts.fits;
-  too_long = puts.too_long;
-  needed = tt;
-  unchanged = tt;
-}
-lossy_put IsReading (Ok len) (Err other) old new is puts = absurd is
-lossy_put IsReading (Err either.NoText) told old new is puts = absurd (let no : Lossy ≡ Strict = puts.strict tt in cc)
-lossy_put IsReading (Err either.TooLong) (Ok n) old new is puts = absurd is
-lossy_put IsReading (Err either.TooLong) (Err lossy.TooLong) old new is puts = record {
-  written = tt;
-  fits = puts.fits;
-  too_long = puts.too_long;
-  needed = tt;
-  unchanged = puts.unchanged;
-}
-lossy_put IsReading (Err either.TooLong) (Err (lossy.NoRoom fault)) old new is puts = absurd is
-lossy_put IsReading (Err (either.NoRoom fault)) (Ok n) old new is puts = absurd is
-lossy_put IsReading (Err (either.NoRoom fault)) (Err lossy.TooLong) old new is puts = absurd is
-lossy_put IsReading (Err (either.NoRoom fault)) (Err (lossy.NoRoom told)) old new is puts = record {
-  written = tt;
-  fits = puts.fits;
-  too_long = puts.too_long;
-  needed = subst (λ no_room. ReadsAtLength IsReading (λ len. no_room.needed ≡ len)) (sym is) puts.needed;
-  unchanged = puts.unchanged;
-}

@@ -1,15 +1,13 @@
-use Rattle.std.proofs.Common.{◌∙◌, ◌-◌, ◌<◌, ◌≤◌, ◌++◌, refl, sym, ap, ⊎_elim, arith, length, replicate, get_or}
+use Rattle.std.proofs.Common.{◌∙◌, ◌-◌, ◌<◌, ◌≤◌, ◌++◌, refl, sym, ap, ⊎_elim, arith, length, drop, replicate, get_or}
 use Rattle.std.proofs.lemmas.Bool.{cases_lt}
-use Rattle.std.proofs.lemmas.List.{get_or_append_left, get_or-append_right, get_or_past, get_or-take, get_or-replicate, drop-replicate}
+use Rattle.std.proofs.lemmas.List.{get_or_append_left, get_or-append_right, get_or_past, get_or-replicate, drop-replicate}
 use Rattle.cesu8_decode.proofs.characters.front_of.Goals as goal
 
-pub returns-then-bytes-ge8 : goal.returns-then-bytes-ge8
-returns-then-bytes-ge8 c i small = get_or-take 8 c.args.bytes.now i 0 small
-
-pub returns : goal.returns
-returns c i small =
+pub returns-clause-front : goal.returns-clause-front
+returns-clause-front c i small =
     let bytes = c.args.bytes.now in
-    ap (λ bs. get_or bs i 0) (c.copy_short.ensures ∙ ap (λ zeros. bytes ++ zeros) (drop-replicate (length bytes) 8 0))
+    ap (λ bs. get_or bs i 0) (c.copy_short.ensures ∙ ap (λ zeros. bytes ++ drop (length bytes) zeros) c.requires
+    ∙ ap (λ zeros. bytes ++ zeros) (drop-replicate (length bytes) 8 0))
     ∙ ⊎_elim (λ (inside : i < length bytes). get_or_append_left bytes (replicate (8 - length bytes) 0) 0 i inside)
     (λ (past : length bytes ≤ i).
     get_or-append_right bytes (replicate (8 - length bytes) 0) (length bytes) i 0 refl past

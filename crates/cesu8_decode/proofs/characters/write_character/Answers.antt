@@ -37,14 +37,14 @@ returns-in_default-clause-character c whole which =
 
 pub returns-then-is_pair-clause-within : goal.returns-then-is_pair-clause-within
 returns-then-is_pair-clause-within c =
-    let pair = pair_by_front c.args.bytes.now c.front_of-front.result c.front_of-front.ensures (c.is_pair.ensures.0 c.if-is_pair.true) in
+    let pair = pair_by_front c.args.bytes.now c.front_of-front.result.now c.front_of-front.ensures.front (c.is_pair.ensures.0 c.if-is_pair.true) in
     (omega arith, pair.0, omega (arith, c.put.ensures.end))
 
 pub returns-then-is_pair-clause-character : goal.returns-then-is_pair-clause-character
 returns-then-is_pair-clause-character c whole which =
     let f = flavor_of c.args.flavor in
     let bytes = c.args.bytes.now in
-    let front = c.front_of-front.result in
-    let pair = pair_by_front bytes front c.front_of-front.ensures (c.is_pair.ensures.0 c.if-is_pair.true) in
+    let front = c.front_of-front.result.now in
+    let pair = pair_by_front bytes front c.front_of-front.ensures.front (c.is_pair.ensures.0 c.if-is_pair.true) in
     pair_read f which bytes _ _ _ (pair_width f bytes pair.0 pair.1)
-    (rw (sym (same_digits bytes front c.front_of-front.ensures)) c.utf8_of_pair.ensures) c.put.ensures.bytes
+    (rw (sym (same_digits bytes front c.front_of-front.ensures.front)) c.utf8_of_pair.ensures) c.put.ensures.bytes

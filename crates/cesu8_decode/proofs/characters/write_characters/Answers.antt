@@ -8,7 +8,7 @@ use Rattle.cesu8_decode.proofs.characters.write_characters.Goals as goal
 
 pub loop-read-init : goal.loop-read-init
 loop-read-init c =
-    let f = flavor_of c.args.options.flavor in
+    let f = flavor_of c.args.flavor in
     record {
       inside = omega arith;
       room = omega arith;
@@ -21,7 +21,7 @@ loop-read-init c =
 
 pub loop-read-preserved : goal.loop-read-preserved
 loop-read-preserved c =
-    let f = flavor_of c.args.options.flavor in
+    let f = flavor_of c.args.flavor in
     let bytes = c.args.bytes.now in
     let n = c.loop-read.read in
     let m = c.write_next-step.result.read in
@@ -41,7 +41,7 @@ loop-read-preserved c =
 
 pub returns-clause-read : goal.returns-clause-read
 returns-clause-read c =
-    let which = c.args.options.strictness in
+    let which = c.args.strictness in
     let inv = c.loop-read.invariant in
     let stopped = c.loop-read-test.false in
     record {

@@ -13,8 +13,8 @@ invariant-loop-read l = record {
   inside : l.read ≤ length l.fn.bytes;
   room : l.end ≤ 3 * l.read;
   some : l.is_damaged ≡ true → 0 < l.read;
-  lossy : IsPiece (flavor_of l.fn.options.flavor) Lossy l.fn.bytes (drop l.read l.fn.bytes) (take l.end l.out);
-  strict : l.is_damaged ≡ false → IsPiece (flavor_of l.fn.options.flavor) Strict l.fn.bytes (drop l.read l.fn.bytes) (take l.end l.out);
-  damaged : l.is_damaged ≡ true → HasFault (flavor_of l.fn.options.flavor) l.fn.bytes;
+  lossy : IsPiece (flavor_of l.fn.flavor) Lossy l.fn.bytes (drop l.read l.fn.bytes) (take l.end l.out);
+  strict : l.is_damaged ≡ false → IsPiece (flavor_of l.fn.flavor) Strict l.fn.bytes (drop l.read l.fn.bytes) (take l.end l.out);
+  damaged : l.is_damaged ≡ true → HasFault (flavor_of l.fn.flavor) l.fn.bytes;
   len : length l.out ≡ length l.initial.out;
 }

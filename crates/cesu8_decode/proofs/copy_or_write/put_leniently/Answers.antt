@@ -7,8 +7,8 @@ use Rattle.cesu8_decode.proofs.copy_or_write.put_leniently.Goals as goal
 
 pub returns-then-is_short_ascii : goal.returns-then-is_short_ascii
 returns-then-is_short_ascii c =
-    let f = flavor_of c.args.options.flavor in
-    let which = c.args.options.strictness in
+    let f = flavor_of c.args.flavor in
+    let which = c.args.strictness in
     let bytes = c.args.bytes.now in
     let found = c.if-is_short_ascii.true in
     text_put which (IsLenientReadingOf f which bytes) _ _ c.copy_to_slice.result c.map_err.result c.args.buf.now c.copy_to_slice.new.buf

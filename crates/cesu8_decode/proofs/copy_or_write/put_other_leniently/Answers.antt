@@ -6,8 +6,8 @@ use Rattle.cesu8_decode.proofs.copy_or_write.put_other_leniently.Goals as goal
 
 pub returns-then-whole_text-bytes : goal.returns-then-whole_text-bytes
 returns-then-whole_text-bytes c =
-    let f = flavor_of c.args.options.flavor in
-    let which = c.args.options.strictness in
+    let f = flavor_of c.args.flavor in
+    let which = c.args.strictness in
     let bytes = c.args.bytes.now in
     text_put which (IsLenientReadingOf f which bytes) _ _ c.copy_to_slice.result c.map_err.result c.args.buf.now c.copy_to_slice.new.buf
     (only_utf8 f which bytes (c.whole_text.ensures.whole c.if-whole_text-bytes.true).1)
@@ -15,8 +15,8 @@ returns-then-whole_text-bytes c =
 
 pub returns : goal.returns
 returns c =
-    let f = flavor_of c.args.options.flavor in
-    let which = c.args.options.strictness in
+    let f = flavor_of c.args.flavor in
+    let which = c.args.strictness in
     let bytes = c.args.bytes.now in
     same_reading (IsReadingOf f which bytes) (IsLenientReadingOf f which bytes)
     (λ text. lenient_is_other f which bytes text (c.whole_text.ensures.none c.if-whole_text-bytes.false))

@@ -3,7 +3,7 @@ use Rattle.cesu8_bytes.specs.declared.options.Strictness.TheVariants.{Strict, Lo
 use Rattle.cesu8_decode.proofs.piece.next_piece.Goals as goal
 
 pub returns-in-Some : goal.returns-in-Some
-returns-in-Some c = record {
+returns-in-Some g c = record {
   some = λ _. c.in-Some.ensures.within.0;
   within = c.in-Some.ensures.within.1;
   lossy = c.in-Some.ensures.text Lossy;

@@ -4,5 +4,5 @@ use Rattle.cesu8_decode.proofs.slices.put_text.Goals as goal
 
 pub returns-in-Refused : goal.returns-in-Refused
 returns-in-Refused c =
-    no_strict_text (flavor_of c.args.options.flavor) c.args.options.strictness c.args.bytes.now c.args.buf.now
+    no_strict_text (flavor_of c.args.flavor) c.args.strictness c.args.bytes.now c.args.buf.now
     (rw c.in-Refused.is at c.way_of.ensures)

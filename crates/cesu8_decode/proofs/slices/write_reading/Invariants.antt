@@ -7,4 +7,4 @@ abbrev pub decreases-loop-rest : goal.decreases-loop-rest
 decreases-loop-rest l = length l.rest
 
 abbrev pub invariant-loop-rest : goal.invariant-loop-rest
-invariant-loop-rest l = IsWrittenSoFar (flavor_of l.flavor) l.fn.bytes l.rest 0 l.end l.initial.out l.out
+invariant-loop-rest l = IsWrittenSoFar (flavor_of l.flavor) l.fn.bytes l.rest l.end l.initial.out l.out

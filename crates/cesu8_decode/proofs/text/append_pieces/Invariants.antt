@@ -9,4 +9,4 @@ decreases-loop-rest g l = length l.rest
 
 abbrev pub invariant-loop-rest : goal.invariant-loop-rest
 invariant-loop-rest g l =
-    IsReadSoFar (flavor_of l.options.flavor) l.options.strictness l.fn.bytes l.rest (string_bytes l.fn.out) (string_bytes l.out)
+    IsReadSoFar (flavor_of l.flavor) l.strictness l.fn.bytes l.rest (string_bytes l.fn.out) (string_bytes l.out)
