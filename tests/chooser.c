@@ -52,11 +52,28 @@ static struct {
         return name(input, n, buffer, m).status;                                                   \
     }
 
-#define CALLS(TOLD, PLACED)                                                                        \
+// What is other input here is a buffer in `seen`.
+#define STUB_COMPARED(result, name)                                                                \
+    STUB_LEVEL(result, name, 2,                                                                    \
+               (const uint8_t *input, size_t length, const uint8_t *other, size_t other_length),   \
+               (uint8_t *)(uintptr_t)other, other_length)                                          \
+    STUB_LEVEL(result, name, 3,                                                                    \
+               (const uint8_t *input, size_t length, const uint8_t *other, size_t other_length),   \
+               (uint8_t *)(uintptr_t)other, other_length)                                          \
+    static int call_##name(const uint8_t *input, size_t n, uint8_t *buffer, size_t m)              \
+    {                                                                                              \
+        return name(input, n, buffer, m).status;                                                   \
+    }
+
+#define CALLS(TOLD, PLACED, COMPARED)                                                              \
     TOLD(struct cesu8_decision, cesu8_needs_encoded)                                               \
     TOLD(struct cesu8_decision, cesu8_mutf8_needs_encoded)                                         \
     TOLD(struct cesu8_answer, cesu8_encoded_len)                                                   \
     TOLD(struct cesu8_answer, cesu8_mutf8_encoded_len)                                             \
+    TOLD(struct cesu8_answer, cesu8_utf16_len)                                                     \
+    COMPARED(struct cesu8_comparison, cesu8_compare_as_utf16)                                      \
+    TOLD(struct cesu8_answer, cesu8_decoded_len)                                                   \
+    TOLD(struct cesu8_answer, cesu8_mutf8_decoded_len)                                             \
     TOLD(struct cesu8_answer, cesu8_lossy_len)                                                     \
     TOLD(struct cesu8_answer, cesu8_mutf8_lossy_len)                                               \
     PLACED(struct cesu8_answer, cesu8_encode)                                                      \
@@ -73,7 +90,7 @@ static struct {
     PLACED(struct cesu8_reading, cesu8_java_read)                                                  \
     PLACED(struct cesu8_reading, cesu8_java_read_lossy)
 
-CALLS(STUB_TOLD, STUB_PLACED)
+CALLS(STUB_TOLD, STUB_PLACED, STUB_COMPARED)
 
 typedef int call(const uint8_t *input, size_t length, uint8_t *buffer, size_t buffer_length);
 
@@ -84,7 +101,7 @@ static const struct {
     const char *name;
     call *call;
     bool has_buffer;
-} rows[] = {CALLS(ROW_TOLD, ROW_PLACED)};
+} rows[] = {CALLS(ROW_TOLD, ROW_PLACED, ROW_PLACED)};
 
 enum { ROWS = sizeof rows / sizeof *rows };
 

@@ -20,13 +20,15 @@
 #include <sys/mman.h>
 #include <unistd.h>
 
-// The members have the types that the exports have: u32, usize and bool. A call leaves the bytes
+// The members have the types that the exports have: u32, usize, i32 and bool. A call leaves the bytes
 // beside a bool as they are, so an int there could be read with them.
 #define HAS(record, member, type)                                                                  \
     _Static_assert(_Generic(((struct record *)NULL)->member, type: 1, default: 0),                 \
                    #record " has a " #member " of another type than " #type)
 HAS(cesu8_answer, status, enum cesu8_status);
 HAS(cesu8_answer, length, size_t);
+HAS(cesu8_comparison, status, enum cesu8_status);
+HAS(cesu8_comparison, order, int32_t);
 HAS(cesu8_decision, status, enum cesu8_status);
 HAS(cesu8_decision, is_needed, bool);
 HAS(cesu8_reading, status, enum cesu8_status);
@@ -41,7 +43,8 @@ _Static_assert(CESU8_MAX_DECODED_LOSSY(INT_MAX - 1 + 1) == 3 * (size_t)INT_MAX,
 _Static_assert(CESU8_MAX_JAVA_WRITTEN(INT_MAX - 1 + 1) == 2 + 2 * (size_t)INT_MAX,
                "CESU8_MAX_JAVA_WRITTEN");
 
-// What a call tells, in one form for all. What is decided is a length here, 1 for yes.
+// What a call tells, in one form for all. What is decided is a length here, 1 for yes, and so is an
+// order, 0 for less, 1 for equal and 2 for greater.
 struct told {
     enum cesu8_status status;
     size_t length, taken;
@@ -76,10 +79,26 @@ typedef struct told call(const uint8_t *input, size_t length, uint8_t *buffer, s
         return (struct told){reading.status, reading.length, reading.taken};                       \
     }
 
+// The input is two texts with a byte FE between them, which is in no text.
+#define COMPARES(name)                                                                             \
+    static struct told name(const uint8_t *input, size_t n, uint8_t *buffer, size_t m)             \
+    {                                                                                              \
+        (void)buffer, (void)m;                                                                     \
+        const uint8_t *between = n == 0 ? NULL : memchr(input, 0xFE, n);                           \
+        size_t front = between == NULL ? n : (size_t)(between - input);                            \
+        const uint8_t *other = between == NULL ? input : between + 1;                              \
+        size_t other_length = between == NULL ? n : n - front - 1;                                 \
+        struct cesu8_comparison compared = cesu8_##name(input, front, other, other_length);        \
+        size_t order = compared.status == CESU8_OK ? (size_t)(compared.order + 1) : 0;             \
+        return (struct told){compared.status, order, 0};                                           \
+    }
+
 DECIDES(needs_encoded)
 DECIDES(mutf8_needs_encoded)
 TELLS(encoded_len)
 TELLS(mutf8_encoded_len)
+TELLS(utf16_len)
+COMPARES(compare_as_utf16)
 PLACES(encode)
 PLACES(mutf8_encode)
 PLACES(decode_strict)
@@ -90,6 +109,8 @@ PLACES(decode_lossy_strict)
 PLACES(mutf8_decode_lossy_strict)
 PLACES(decode_lossy)
 PLACES(mutf8_decode_lossy)
+TELLS(decoded_len)
+TELLS(mutf8_decoded_len)
 TELLS(lossy_len)
 TELLS(mutf8_lossy_len)
 PLACES(java_write)
@@ -113,6 +134,9 @@ struct row {
 #define CALL(name) #name, name
 #define BYTES(literal) {literal, sizeof literal - 1}
 #define LENGTH(length) {NULL, length}
+#define LESS LENGTH(0)
+#define EQUAL LENGTH(1)
+#define GREATER LENGTH(2)
 #define NOTHING {NULL, 0}
 #define OK CESU8_OK
 #define NOT_UTF8 CESU8_NOT_UTF8
@@ -127,6 +151,8 @@ struct row {
 #define SURROGATES "\xED\xA0\x81\xED\xB0\x80"   // and in CESU-8 and MUTF-8
 
 #define REPLACEMENT "\xEF\xBF\xBD"              // U+FFFD in UTF-8
+#define U_FFFF "\xEF\xBF\xBF"                   // U+FFFF, which is above each surrogate
+#define BETWEEN "\xFE"                           // What is between two texts to compare
 
 // As many as two bytes can count, and one more; and the form of the former. As many that are damaged,
 // after their count, which is damaged bytes too; and their reading.
@@ -158,6 +184,18 @@ static const struct row rows[] = {
     {CALL(mutf8_encoded_len), BYTES(ALIKE ZERO FOUR_BYTES), OK, LENGTH(14), 0},
     {CALL(mutf8_encoded_len), BYTES(ALIKE C0_80), NOT_UTF8, NOTHING, 0},
     {CALL(mutf8_encoded_len), BYTES(""), OK, LENGTH(0), 0},
+    {CALL(utf16_len), BYTES(ALIKE ZERO), OK, LENGTH(4), 0},
+    {CALL(utf16_len), BYTES(ALIKE FOUR_BYTES), OK, LENGTH(5), 0},
+    {CALL(utf16_len), BYTES(ALIKE SURROGATES), NOT_UTF8, NOTHING, 0},
+    {CALL(utf16_len), BYTES(""), OK, LENGTH(0), 0},
+    {CALL(compare_as_utf16), BYTES(ALIKE BETWEEN ALIKE), OK, EQUAL, 0},
+    {CALL(compare_as_utf16), BYTES(ALIKE FOUR_BYTES BETWEEN ALIKE U_FFFF), OK, LESS, 0},
+    {CALL(compare_as_utf16), BYTES(U_FFFF BETWEEN FOUR_BYTES), OK, GREATER, 0},
+    {CALL(compare_as_utf16), BYTES(ALIKE BETWEEN ALIKE ZERO), OK, LESS, 0},
+    {CALL(compare_as_utf16), BYTES(ALIKE BETWEEN), OK, GREATER, 0},
+    {CALL(compare_as_utf16), BYTES(SURROGATES BETWEEN ALIKE), NOT_UTF8, NOTHING, 0},
+    {CALL(compare_as_utf16), BYTES(ALIKE BETWEEN SURROGATES), NOT_UTF8, NOTHING, 0},
+    {CALL(compare_as_utf16), BYTES(""), OK, EQUAL, 0},
     {CALL(encode), BYTES(ALIKE ZERO), OK, BYTES(ALIKE ZERO), 0},
     {CALL(encode), BYTES(ALIKE FOUR_BYTES), OK, BYTES(ALIKE SURROGATES), 0},
     {CALL(encode), BYTES(ALIKE SURROGATES), NOT_UTF8, NOTHING, 0},
@@ -204,6 +242,15 @@ static const struct row rows[] = {
     {CALL(mutf8_decode_lossy), BYTES(ALIKE C0_80 SURROGATES), OK, BYTES(ALIKE ZERO FOUR_BYTES), 0},
     {CALL(mutf8_decode_lossy), BYTES(SURROGATES ZERO), OK, BYTES(FOUR_BYTES REPLACEMENT), 0},
     {CALL(mutf8_decode_lossy), BYTES(""), OK, BYTES(""), 0},
+    {CALL(decoded_len), BYTES(ALIKE ZERO), OK, LENGTH(7), 0},
+    {CALL(decoded_len), BYTES(ALIKE ZERO SURROGATES), OK, LENGTH(11), 0},
+    {CALL(decoded_len), BYTES(ALIKE FOUR_BYTES), INVALID, NOTHING, 0},
+    {CALL(decoded_len), BYTES(SURROGATES "\xFF"), INVALID, NOTHING, 0},
+    {CALL(decoded_len), BYTES(""), OK, LENGTH(0), 0},
+    {CALL(mutf8_decoded_len), BYTES(ALIKE), OK, LENGTH(6), 0},
+    {CALL(mutf8_decoded_len), BYTES(C0_80 SURROGATES), OK, LENGTH(5), 0},
+    {CALL(mutf8_decoded_len), BYTES(ALIKE ZERO), INVALID, NOTHING, 0},
+    {CALL(mutf8_decoded_len), BYTES(""), OK, LENGTH(0), 0},
     {CALL(lossy_len), BYTES(ALIKE ZERO), OK, LENGTH(7), 0},
     {CALL(lossy_len), BYTES(SURROGATES "\xFF" FOUR_BYTES), OK, LENGTH(19), 0},
     {CALL(lossy_len), BYTES(""), OK, LENGTH(0), 0},
@@ -235,6 +282,12 @@ static const struct row rows[] = {
     {CALL(mutf8_needs_encoded), BYTES(TIMES_100(ALIKE) ZERO), OK, LENGTH(1), 0},
     {CALL(encoded_len), BYTES(TIMES_100(ALIKE FOUR_BYTES)), OK, LENGTH(1200), 0},
     {CALL(mutf8_encoded_len), BYTES(TIMES_100(ALIKE ZERO FOUR_BYTES)), OK, LENGTH(1400), 0},
+    {CALL(utf16_len), BYTES(TIMES_100(ALIKE ZERO FOUR_BYTES)), OK, LENGTH(600), 0},
+    {CALL(utf16_len), BYTES(TIMES_100(ALIKE) "\xFF"), NOT_UTF8, NOTHING, 0},
+    {CALL(compare_as_utf16), BYTES(TIMES_20(ALIKE) FOUR_BYTES BETWEEN TIMES_20(ALIKE) U_FFFF), OK,
+     LESS, 0},
+    {CALL(compare_as_utf16), BYTES(TIMES_100(ALIKE ZERO) BETWEEN TIMES_100(ALIKE ZERO)), OK, EQUAL,
+     0},
     {CALL(encode), BYTES(TIMES_5(ALIKE FOUR_BYTES)), OK, BYTES(TIMES_5(ALIKE SURROGATES)), 0},
     {CALL(encode), BYTES(TIMES_100(ALIKE ZERO)), OK, BYTES(TIMES_100(ALIKE ZERO)), 0},
     {CALL(encode), BYTES(TIMES_100(ALIKE FOUR_BYTES)), OK, BYTES(TIMES_100(ALIKE SURROGATES)), 0},
@@ -274,6 +327,10 @@ static const struct row rows[] = {
      BYTES(TIMES_100(FOUR_BYTES REPLACEMENT)), 0},
     {CALL(mutf8_decode_lossy), BYTES(TIMES_100(C0_80 ZERO "\xFF")), OK,
      BYTES(TIMES_100(ZERO REPLACEMENT REPLACEMENT)), 0},
+    {CALL(decoded_len), BYTES(TIMES_100(ALIKE SURROGATES)), OK, LENGTH(1000), 0},
+    {CALL(decoded_len), BYTES(TIMES_100(ALIKE SURROGATES) "\xFF"), INVALID, NOTHING, 0},
+    {CALL(mutf8_decoded_len), BYTES(TIMES_100(C0_80 SURROGATES)), OK, LENGTH(500), 0},
+    {CALL(mutf8_decoded_len), BYTES(TIMES_100(C0_80) ZERO), INVALID, NOTHING, 0},
     {CALL(lossy_len), BYTES(TIMES_100(SURROGATES "\xFF")), OK, LENGTH(700), 0},
     {CALL(mutf8_lossy_len), BYTES(TIMES_100(C0_80 SURROGATES ZERO)), OK, LENGTH(800), 0},
     {CALL(java_write), BYTES(TIMES_100(ALIKE ZERO FOUR_BYTES)), OK,
@@ -430,6 +487,19 @@ static void look_at_macro(size_t macro)
     hold(is_needed, macros[macro].name, "each result is shorter");
 }
 
+// A 0 behind MUTF-8 ends it where it ends, as JNI wants it, since no byte of it is 00.
+static void look_at_terminated(void)
+{
+    static const uint8_t text[] = ALIKE ZERO FOUR_BYTES;
+    const size_t n = sizeof text - 1;
+    char name[CESU8_MAX_ENCODED(sizeof text - 1) + 1];
+    memset(name, FILLING, sizeof name);
+    struct cesu8_answer answer =
+        cesu8_mutf8_encode(text, n, (uint8_t *)name, sizeof name - 1);
+    name[answer.length] = 0;
+    hold(strcmp(name, ALIKE C0_80 SURROGATES) == 0, "mutf8_encode", "is not ended by a 0");
+}
+
 #ifdef ARCHIVE
 
 enum { MOST_NULLS = 1 };
@@ -481,6 +551,7 @@ int main(void)
         damaged_text[i] = REPLACEMENT[i % 3];
     for (size_t macro = 0; macro < sizeof macros / sizeof *macros; macro++)
         look_at_macro(macro);
+    look_at_terminated();
     look_at_plain_calls();
     for (const struct row *row = rows; row < rows + sizeof rows / sizeof *rows; row++) {
         size_t needed = row->status == OK ? row->answer.length : row->input.length;

@@ -19,6 +19,11 @@ static size_t of_answer(struct cesu8_answer answer)
     return answer.status == CESU8_OK ? answer.length : 0;
 }
 
+static bool of_comparison(struct cesu8_comparison comparison)
+{
+    return comparison.status != CESU8_NOT_UTF8 && comparison.order == 0;
+}
+
 static bool of_decision(struct cesu8_decision decision)
 {
     return decision.status != CESU8_NOT_UTF8 && decision.is_needed;
@@ -51,6 +56,8 @@ static void do_wrong(void)
     of_answer(cesu8_encode(NULL, sizeof text, encoded, sizeof encoded));
 #elif WRONG == 6
     of_answer(cesu8_encode(text, sizeof text, NULL, sizeof encoded));
+#elif WRONG == 7
+    of_comparison(cesu8_compare_as_utf16(text, sizeof text, text, sizeof text + 1));
 #endif
 }
 #endif
@@ -68,6 +75,8 @@ int main(void)
     is_any |= cesu8_version() >= CESU8_VERSION && sizeof CESU8_VERSION_STRING > 1;
     sum += of_answer(cesu8_encoded_len(text, n));
     sum += of_answer(cesu8_mutf8_encoded_len(text, n));
+    sum += of_answer(cesu8_utf16_len(text, n));
+    is_any |= of_comparison(cesu8_compare_as_utf16(text, n, text, n));
     sum += of_answer(cesu8_encode(text, n, encoded, sizeof encoded));
     sum += of_answer(cesu8_mutf8_encode(text, n, encoded, sizeof encoded));
     sum += of_answer(cesu8_decode_strict(text, n, decoded, sizeof decoded));
@@ -80,6 +89,8 @@ int main(void)
         cesu8_mutf8_decode_lossy_strict(text, n, decoded_lossily, sizeof decoded_lossily));
     sum += of_answer(cesu8_decode_lossy(text, n, decoded_lossily, sizeof decoded_lossily));
     sum += of_answer(cesu8_mutf8_decode_lossy(text, n, decoded_lossily, sizeof decoded_lossily));
+    sum += of_answer(cesu8_decoded_len(text, n));
+    sum += of_answer(cesu8_mutf8_decoded_len(text, n));
     sum += of_answer(cesu8_lossy_len(text, n));
     sum += of_answer(cesu8_mutf8_lossy_len(text, n));
     sum += of_answer(cesu8_java_write(text, n, written, sizeof written));

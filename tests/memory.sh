@@ -7,7 +7,7 @@
 # Both come from the standards' table of encoded characters in crates/test_cases, and these rules:
 # - a result borrows, without a request, exactly where its bytes are the input's;
 # - what is built, copied or refused takes one, and so does what is appended if the buffer is full;
-# - an empty copy, a length, and a Java string that is too long or cut short take none.
+# - an empty copy, a length, a comparison, and a Java string that is too long or cut short take none.
 #
 # The program of crates/memory_calls makes the calls that its standard input names, on one input. It
 # prints each result, and how many of three further requests are granted before one is refused.

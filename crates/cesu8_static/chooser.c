@@ -21,6 +21,10 @@ static uint8_t nothing;
 
 #define CHOOSE_TOLD(result, name)                                                                  \
     CHOOSE(result, name, (const uint8_t *input, size_t length), (input ? input : &nothing, length))
+#define CHOOSE_COMPARED(result, name)                                                              \
+    CHOOSE(result, name,                                                                           \
+           (const uint8_t *input, size_t length, const uint8_t *other, size_t other_length),       \
+           (input ? input : &nothing, length, other ? other : &nothing, other_length))
 #define CHOOSE_PLACED(result, name)                                                                \
     CHOOSE(result, name,                                                                           \
            (const uint8_t *input, size_t length, uint8_t *buffer, size_t buffer_length),           \
@@ -30,6 +34,8 @@ CHOOSE_TOLD(struct cesu8_decision, cesu8_needs_encoded)
 CHOOSE_TOLD(struct cesu8_decision, cesu8_mutf8_needs_encoded)
 CHOOSE_TOLD(struct cesu8_answer, cesu8_encoded_len)
 CHOOSE_TOLD(struct cesu8_answer, cesu8_mutf8_encoded_len)
+CHOOSE_TOLD(struct cesu8_answer, cesu8_utf16_len)
+CHOOSE_COMPARED(struct cesu8_comparison, cesu8_compare_as_utf16)
 CHOOSE_PLACED(struct cesu8_answer, cesu8_encode)
 CHOOSE_PLACED(struct cesu8_answer, cesu8_mutf8_encode)
 CHOOSE_PLACED(struct cesu8_answer, cesu8_decode_strict)
@@ -40,6 +46,8 @@ CHOOSE_PLACED(struct cesu8_answer, cesu8_decode_lossy_strict)
 CHOOSE_PLACED(struct cesu8_answer, cesu8_mutf8_decode_lossy_strict)
 CHOOSE_PLACED(struct cesu8_answer, cesu8_decode_lossy)
 CHOOSE_PLACED(struct cesu8_answer, cesu8_mutf8_decode_lossy)
+CHOOSE_TOLD(struct cesu8_answer, cesu8_decoded_len)
+CHOOSE_TOLD(struct cesu8_answer, cesu8_mutf8_decoded_len)
 CHOOSE_TOLD(struct cesu8_answer, cesu8_lossy_len)
 CHOOSE_TOLD(struct cesu8_answer, cesu8_mutf8_lossy_len)
 CHOOSE_PLACED(struct cesu8_answer, cesu8_java_write)

@@ -25,11 +25,21 @@ from . import _library
 from ._codec import CESU8, MUTF8, Data, Encoding, utf8_of
 
 __version__ = "1.0.0"
-__all__ = ["decode", "encode", "read_utf", "write_utf"]
+__all__ = [
+    "compare_as_utf16",
+    "decode",
+    "decoded_len",
+    "encode",
+    "read_utf",
+    "utf16_len",
+    "write_utf",
+]
 
 # By names as Python hands them to a search function: 'MUTF-8' comes as 'mutf_8'.
 _ENCODINGS = {"cesu_8": CESU8, "cesu8": CESU8, "mutf_8": MUTF8, "mutf8": MUTF8}
 
+_utf16_len = _library.telling("utf16_len")
+_compare_as_utf16 = _library.comparing("compare_as_utf16")
 _java_write = _library.call("java_write")
 _java_read = _library.call("java_read", _library.Reading)
 _java_read_lossy = _library.call("java_read_lossy", _library.Reading)
@@ -54,6 +64,42 @@ def decode(data: Data, encoding: str, errors: str = "strict", lenient: bool = Fa
     Raises LookupError for another encoding.
     """
     return _encoding(encoding).decode(_bytes(data), errors, lenient)
+
+
+def decoded_len(data: Data, encoding: str) -> Optional[int]:
+    """Tell how many bytes of UTF-8 the text has whose `cesu-8` or `mutf-8` the data is, or None
+    where it is the encoding of no text. So `decoded_len(...) is not None` tests data.
+
+    Raises LookupError for another encoding.
+    """
+    return _encoding(encoding).decoded_len(_bytes(data))
+
+
+def utf16_len(text: str) -> int:
+    """Count the UTF-16 code units of a text, as `len` of a string in Java or JavaScript does.
+
+    Raises UnicodeEncodeError for surrogates, which are in no text.
+    """
+    utf8 = utf8_of(text)
+    answer = _utf16_len(utf8, len(utf8))
+    if answer.status != _library.OK:
+        _refuse(text)
+    return answer.length
+
+
+def compare_as_utf16(text: str, other: str) -> int:
+    """Compare two texts by their UTF-16 code units: -1 if the first is less, 1 if it is greater,
+    else 0. So do Java's `compareTo`, JavaScript and RFC 8785, and `cesu-8` compares so.
+    `functools.cmp_to_key` makes a key of it, to sort by.
+
+    Raises UnicodeEncodeError for surrogates, which are in no text.
+    """
+    utf8, other_utf8 = utf8_of(text), utf8_of(other)
+    compared = _compare_as_utf16(utf8, len(utf8), other_utf8, len(other_utf8))
+    if compared.status != _library.OK:
+        _refuse(text)
+        _refuse(other)
+    return compared.order
 
 
 def write_utf(text: str) -> bytes:
@@ -99,6 +145,11 @@ def read_utf(data: Data, start: int = 0, errors: str = "strict") -> tuple[str, i
     if status == _library.TRUNCATED:
         raise EOFError(f"the string at {start} is cut: {there - start} bytes are there")
     return MUTF8.decode_by_handler(_bytes(data), start + 2, end, end, errors)[0], end
+
+
+def _refuse(text: str) -> None:
+    """Raises what Python's own encoder does for surrogates, if the text has any."""
+    str.encode(text, "utf-8")
 
 
 def _encoding(name: str) -> Encoding:

@@ -4,7 +4,7 @@ from __future__ import annotations
 
 import codecs
 import re
-from typing import Union
+from typing import Optional, Union
 
 from . import _library
 
@@ -48,6 +48,7 @@ class Encoding:
         self._decode = _library.call(prefix + "decode")
         self._decode_lossy_strict = _library.call(prefix + "decode_lossy_strict")
         self._decode_lossy = _library.call(prefix + "decode_lossy")
+        self._decoded_len = _library.telling(prefix + "decoded_len")
         self._characters = re.compile(rb"(?:[\x01-\x7F]+|" + null + rb"|" + _FORMS + rb")*")
         self._lead = re.compile(rb"[\x01-\x7F\xC2-\xEF]|" + null[:1])
         cut_forms = _CUT_FORMS + (rb"|" + null[:1] if len(null) > 1 else b"")
@@ -99,6 +100,11 @@ class Encoding:
         if status == _library.OK:
             return str(utf8, "utf-8")
         return self.decode_by_handler(data, 0, len(data), len(data), errors)[0]
+
+    def decoded_len(self, data: bytes) -> Optional[int]:
+        """The length in UTF-8 of the text of an encoding, or None where the bytes are none."""
+        answer = self._decoded_len(data, len(data))
+        return answer.length if answer.status == _library.OK else None
 
     def decode_front(self, data: bytes, errors: str, final: bool) -> tuple[str, int]:
         """The text of the input without a cut character at its end, and how many bytes that

@@ -16,6 +16,12 @@ class Answer(ctypes.Structure):
     _fields_ = [("status", ctypes.c_uint32), ("length", ctypes.c_size_t)]
 
 
+class Comparison(ctypes.Structure):
+    """A `struct cesu8_comparison`."""
+
+    _fields_ = [("status", ctypes.c_uint32), ("order", ctypes.c_int32)]
+
+
 class Reading(ctypes.Structure):
     """A `struct cesu8_reading`."""
 
@@ -28,6 +34,9 @@ class Reading(ctypes.Structure):
 
 # A call that writes bytes: its input, the input's length, a buffer, and the buffer's length.
 Call = Callable[..., Union[Answer, Reading]]
+
+# What a call takes of an input.
+_INPUT = [ctypes.c_char_p, ctypes.c_size_t]
 
 
 def _load() -> ctypes.CDLL:
@@ -47,8 +56,22 @@ _library = _load()
 
 def call(name: str, returns: type[ctypes.Structure] = Answer) -> Call:
     """The call `cesu8_NAME`."""
+    return _function(name, [*_INPUT, ctypes.c_void_p, ctypes.c_size_t], returns)
+
+
+def telling(name: str) -> Callable[[bytes, int], Answer]:
+    """The call `cesu8_NAME`, which takes an input and writes nothing."""
+    return _function(name, _INPUT, Answer)
+
+
+def comparing(name: str) -> Callable[[bytes, int, bytes, int], Comparison]:
+    """The call `cesu8_NAME`, which takes two inputs and writes nothing."""
+    return _function(name, [*_INPUT, *_INPUT], Comparison)
+
+
+def _function(name: str, takes: list, returns: type[ctypes.Structure]) -> Callable:
     function = _library["cesu8_" + name]
-    function.argtypes = [ctypes.c_char_p, ctypes.c_size_t, ctypes.c_void_p, ctypes.c_size_t]
+    function.argtypes = takes
     function.restype = returns
     return function
 

@@ -1,28 +1,47 @@
-// What Java writes of all scalar values, 4,096 to a string: to the file `strings` of the folder that
-// the argument names by writeUTF, and to the file `cesu8` by the charset CESU-8.
+// What Java tells of all scalar values, 4,096 to a string, in files of the folder that the argument
+// names: in `strings` what writeUTF writes, in `cesu8` what the charset CESU-8 does, and in `lengths`
+// each string's length. In `order` is how each scalar value that STEP divides compares with each, by
+// compareTo, as 0, 1 or 2.
 
+import java.io.BufferedOutputStream;
 import java.io.DataOutputStream;
 import java.io.FileOutputStream;
 import java.io.IOException;
+import java.io.OutputStream;
 import java.nio.charset.Charset;
 import java.nio.file.Files;
 import java.nio.file.Path;
 
 public class Strings {
     private static final int COUNT = 0x1000;
+    private static final int STEP = 0x1800;
 
     public static void main(String[] arguments) throws IOException {
         Path folder = Path.of(arguments[0]);
         StringBuilder all = new StringBuilder();
-        try (DataOutputStream strings =
-                new DataOutputStream(new FileOutputStream(folder.resolve("strings").toFile()))) {
+        try (DataOutputStream strings = file(folder, "strings");
+                DataOutputStream lengths = file(folder, "lengths")) {
             for (int first = 0; first <= Character.MAX_CODE_POINT; first += COUNT) {
                 String text = scalarValues(first);
                 strings.writeUTF(text);
+                lengths.writeInt(text.length());
                 all.append(text);
             }
         }
         Files.write(folder.resolve("cesu8"), all.toString().getBytes(Charset.forName("CESU-8")));
+        try (DataOutputStream order = file(folder, "order")) {
+            for (int first = 0; first <= Character.MAX_CODE_POINT; first += STEP) {
+                for (int second = 0; second <= Character.MAX_CODE_POINT; second += STEP) {
+                    int compared = Character.toString(first).compareTo(Character.toString(second));
+                    order.writeByte(Integer.signum(compared) + 1);
+                }
+            }
+        }
+    }
+
+    private static DataOutputStream file(Path folder, String name) throws IOException {
+        OutputStream bytes = new FileOutputStream(folder.resolve(name).toFile());
+        return new DataOutputStream(new BufferedOutputStream(bytes));
     }
 
     private static String scalarValues(int first) {

@@ -19,6 +19,10 @@ def units(scalar: int) -> list[int]:
     return [0xD800 + (scalar - 0x10000) // 0x400, 0xDC00 + (scalar - 0x10000) % 0x400]
 
 
+def units_of(text: str) -> list[int]:
+    return [unit for character in text for unit in units(ord(character))]
+
+
 def unit_bytes(unit: int, encoding: str) -> list[int]:
     if encoding == "mutf-8" and unit == 0:
         return [0xC0, 0x80]
@@ -32,8 +36,7 @@ def unit_bytes(unit: int, encoding: str) -> list[int]:
 def encoded(text: str, encoding: str) -> bytes:
     return bytes(
         byte
-        for character in text
-        for unit in units(ord(character))
+        for unit in units_of(text)
         for byte in unit_bytes(unit, encoding)
     )
 

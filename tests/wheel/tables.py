@@ -94,6 +94,15 @@ LENIENT = [
     ("C0 C0 80", None, 3 * R, None, R + "\0"),
 ]
 
+# Two texts, and how the first compares with the second by UTF-16 code units.
+ORDER = [
+    ("\uffff", "\U00010000", 1),
+    ("\ue000", "\U0010ffff", 1),
+    ("\0", "A", -1),
+    ("", "\0", -1),
+    ("A", "A", 0),
+]
+
 # Texts, and what writeUTF writes of them.
 JAVA = [
     ("", "00 00"),

@@ -3,6 +3,7 @@
 from __future__ import annotations
 
 import array
+import functools
 import mmap
 import threading
 import unittest
@@ -91,14 +92,48 @@ class Tables(unittest.TestCase):
         """Compares strict decoding with the model, and returns whether it accepts."""
         places = model.damaged(data, encoding)
         if not places:
-            self.assertEqual(cesu8.decode(data, encoding), model.lossy(data, encoding))
+            text = model.lossy(data, encoding)
+            self.assertEqual(cesu8.decode(data, encoding), text)
+            self.assertEqual(cesu8.decoded_len(data, encoding), len(text.encode()))
             return True
+        self.assertIsNone(cesu8.decoded_len(data, encoding))
         with self.assertRaises(UnicodeDecodeError) as caught:
             cesu8.decode(data, encoding)
         error = caught.exception
         self.assertEqual((error.encoding, error.object), (encoding, data))
         self.assertEqual((error.start, error.end), (places[0], places[0] + 1))
         return False
+
+
+class CodeUnits(unittest.TestCase):
+    def test_lengths(self) -> None:
+        for scalar, *_ in tables.BORDERS:
+            self.assertEqual(cesu8.utf16_len(chr(scalar)), len(model.units(scalar)))
+        for count in (0, 1, 5, 819):
+            self.assertEqual(cesu8.utf16_len(count * tables.PATTERN[0]), 10 * count)
+
+    def test_order(self) -> None:
+        for text, other, order in tables.ORDER:
+            for front in ("", "a", "\U0010ffff", 9 * "\uffff"):
+                self.assertEqual(cesu8.compare_as_utf16(front + text, front + other), order)
+                self.assertEqual(cesu8.compare_as_utf16(front + other, front + text), -order)
+
+    def test_order_of_borders(self) -> None:
+        texts = [chr(scalar) for scalar, *_ in tables.BORDERS]
+        for text in texts:
+            for other in texts:
+                units, others = model.units_of(text), model.units_of(other)
+                order = (units > others) - (units < others)
+                self.assertEqual(cesu8.compare_as_utf16(text, other), order)
+        by_units = functools.cmp_to_key(cesu8.compare_as_utf16)
+        self.assertEqual(sorted(texts, key=by_units), sorted(texts, key=model.units_of))
+
+    def test_surrogates(self) -> None:
+        with self.assertRaises(UnicodeEncodeError):
+            cesu8.utf16_len("a\ud83d")
+        for text, other in (("a\ud83d", "a"), ("a", "\udc96a")):
+            with self.assertRaises(UnicodeEncodeError):
+                cesu8.compare_as_utf16(text, other)
 
 
 class JavaStrings(unittest.TestCase):
@@ -201,11 +236,17 @@ class Arguments(unittest.TestCase):
                 cesu8.decode(data, "cesu-8")  # type: ignore[arg-type]
             with self.assertRaises(TypeError):
                 cesu8.read_utf(data)  # type: ignore[arg-type]
+            with self.assertRaises(TypeError):
+                cesu8.decoded_len(data, "cesu-8")  # type: ignore[arg-type]
         for text in (5, b"bytes", None):
             with self.assertRaises(TypeError):
                 cesu8.encode(text, "cesu-8")  # type: ignore[arg-type]
             with self.assertRaises(TypeError):
                 cesu8.write_utf(text)  # type: ignore[arg-type]
+            with self.assertRaises(TypeError):
+                cesu8.utf16_len(text)  # type: ignore[arg-type]
+            with self.assertRaises(TypeError):
+                cesu8.compare_as_utf16("", text)  # type: ignore[arg-type]
 
     def test_encodings(self) -> None:
         for name in ("mutf-8", "MUTF-8", "mutf_8", "mutf 8", "MUTF8"):
@@ -216,6 +257,8 @@ class Arguments(unittest.TestCase):
                 cesu8.encode("", name)
             with self.assertRaises(LookupError):
                 cesu8.decode(b"", name)
+            with self.assertRaises(LookupError):
+                cesu8.decoded_len(b"", name)
 
     def test_threads(self) -> None:
         text = tables.PATTERN[0] * 5000

@@ -1,7 +1,8 @@
-"""Java's own bytes, which tests/wheel/Strings.java has written to the folder JAVA_STRINGS."""
+"""What Java tells, which tests/wheel/Strings.java has written to the folder JAVA_STRINGS."""
 
 from __future__ import annotations
 
+import array
 import os
 import unittest
 from pathlib import Path
@@ -15,6 +16,8 @@ FOLDER = os.environ.get("JAVA_STRINGS")
 class Java(unittest.TestCase):
     def test_strings(self) -> None:
         data = Path(FOLDER or "", "strings").read_bytes()
+        lengths = array.array("I", Path(FOLDER or "", "lengths").read_bytes())
+        lengths.byteswap()
         place = 0
         for first in range(0, 0x110000, 0x1000):
             values = range(first, first + 0x1000)
@@ -25,7 +28,19 @@ class Java(unittest.TestCase):
             self.assertEqual(cesu8.write_utf(text), data[start:place])
             self.assertEqual(data[start + 2 : place].decode("mutf-8"), text)
             self.assertEqual(text.encode("mutf-8"), data[start + 2 : place])
+            self.assertEqual(cesu8.utf16_len(text), lengths[first // 0x1000])
         self.assertEqual(place, len(data))
+
+    def test_order(self) -> None:
+        order = iter(Path(FOLDER or "", "order").read_bytes())
+        texts = [chr(value) for value in range(0, 0x110000, 0x1800)]
+        for text in texts:
+            for other in texts:
+                # Java's strings may hold a surrogate alone, which is in no text.
+                compared = next(order) - 1
+                if not ("\ud800" <= text <= "\udfff" or "\ud800" <= other <= "\udfff"):
+                    self.assertEqual(cesu8.compare_as_utf16(text, other), compared)
+        self.assertEqual(list(order), [])
 
     def test_charset(self) -> None:
         data = Path(FOLDER or "", "cesu8").read_bytes()

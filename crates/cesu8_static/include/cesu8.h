@@ -22,6 +22,7 @@
 #endif
 #if __has_attribute(access)
 #define CESU8_INPUT __attribute__((access(read_only, 1, 2)))
+#define CESU8_OTHER_INPUT __attribute__((access(read_only, 3, 4)))
 #define CESU8_BUFFER __attribute__((access(write_only, 3, 4)))
 #endif
 #if __has_attribute(returns_nonnull)
@@ -33,13 +34,16 @@
 #endif
 #ifndef CESU8_INPUT
 #define CESU8_INPUT
+#define CESU8_OTHER_INPUT
 #define CESU8_BUFFER
 #endif
 #ifndef CESU8_NEVER_NULL
 #define CESU8_NEVER_NULL
 #endif
-// A call that returns all that it tells, and one that also writes to a buffer.
+// A call that returns all that it tells, one that does so of two inputs, and one that also writes to
+// a buffer.
 #define CESU8_TELLS CESU8_RESULT CESU8_INPUT
+#define CESU8_COMPARES CESU8_RESULT CESU8_INPUT CESU8_OTHER_INPUT
 #define CESU8_WRITES CESU8_RESULT CESU8_INPUT CESU8_BUFFER
 
 #ifdef __cplusplus
@@ -63,6 +67,11 @@ struct cesu8_answer {
     size_t length; // The result's, in bytes. With CESU8_TOO_SMALL the one it needs, and else 0.
 };
 
+struct cesu8_comparison {
+    enum cesu8_status status; // CESU8_OK or CESU8_NOT_UTF8.
+    int32_t order;            // -1, 0 or 1 as strcmp's sign. Without CESU8_OK it is 0.
+};
+
 struct cesu8_decision {
     enum cesu8_status status; // CESU8_OK or CESU8_NOT_UTF8.
     bool is_needed;           // Without CESU8_OK it is false.
@@ -82,7 +91,8 @@ struct cesu8_reading {
 // sanitizer does, since the library is built without one. GCC warns if it knows how many there are.
 //
 // With CESU8_OK a result of bytes stands at the front of the buffer. The bytes behind it, and with
-// any other status the whole buffer, are as before. No terminating NUL is written.
+// any other status the whole buffer, are as before. No terminating NUL is written. MUTF-8 has no byte
+// 00, so for JNI a 0 may be put behind it: give the call a byte less than the buffer has.
 //
 // CESU8_TOO_SMALL comes exactly where there is a result and it is longer than the buffer. A buffer
 // of the length that comes with it is enough, so a call with a buffer of length 0 asks how much is
@@ -113,6 +123,15 @@ CESU8_TELLS struct cesu8_decision cesu8_mutf8_needs_encoded(const uint8_t *text,
 // The length of the encoding of UTF-8: at most twice the text's. CESU8_OK, CESU8_NOT_UTF8.
 CESU8_TELLS struct cesu8_answer cesu8_encoded_len(const uint8_t *text, size_t text_length);
 CESU8_TELLS struct cesu8_answer cesu8_mutf8_encoded_len(const uint8_t *text, size_t text_length);
+
+// How many UTF-16 code units a text in UTF-8 has, as Java's String.length, JNI and dex files count.
+// Here `length` is in code units: at most the text's in bytes. CESU8_OK, CESU8_NOT_UTF8.
+CESU8_TELLS struct cesu8_answer cesu8_utf16_len(const uint8_t *text, size_t text_length);
+
+// How two texts in UTF-8 compare by their UTF-16 code units, as Java's String.compareTo, JavaScript
+// and RFC 8785 do, and as their CESU-8 does by memcmp. CESU8_OK, or CESU8_NOT_UTF8 for either text.
+CESU8_COMPARES struct cesu8_comparison cesu8_compare_as_utf16(
+    const uint8_t *text, size_t text_length, const uint8_t *other, size_t other_length);
 
 // Encodes UTF-8 to CESU-8 (Unicode Technical Report 26) or to MUTF-8 (Java's DataOutput, without a
 // length in front). CESU8_OK, CESU8_NOT_UTF8, CESU8_TOO_SMALL.
@@ -149,6 +168,11 @@ CESU8_WRITES struct cesu8_answer cesu8_decode_lossy(
     const uint8_t *bytes, size_t bytes_length, uint8_t *buffer, size_t buffer_length);
 CESU8_WRITES struct cesu8_answer cesu8_mutf8_decode_lossy(
     const uint8_t *bytes, size_t bytes_length, uint8_t *buffer, size_t buffer_length);
+
+// The length of what cesu8_decode_strict writes, and so whether the input is the encoding of a text.
+// CESU8_OK, CESU8_INVALID.
+CESU8_TELLS struct cesu8_answer cesu8_decoded_len(const uint8_t *bytes, size_t bytes_length);
+CESU8_TELLS struct cesu8_answer cesu8_mutf8_decoded_len(const uint8_t *bytes, size_t bytes_length);
 
 // The length of what cesu8_decode_lossy_strict writes. CESU8_OK, CESU8_TOO_LONG.
 CESU8_TELLS struct cesu8_answer cesu8_lossy_len(const uint8_t *bytes, size_t bytes_length);

@@ -1,9 +1,14 @@
 -- What a call returns to C, and what it leaves in the caller's buffer.
-use Rattle.std.specs.Prelude.{◌≡◌, ◌≢◌, ◌↔◌, ◌⊎◌, ◌^◌, ℕ, ◌+◌, ◌<◌, ◌≤◌, List, [], ◌∷◌, length, IsUtf8, IsTrue, Result, Ok, Err}
+use Rattle.std.specs.Prelude.{◌≡◌, ◌≢◌, ◌↔◌, ◌⊎◌, ◌^◌, ℕ, ℤ, pos, negsuc, ◌+◌, ◌<◌, ◌≤◌, List, [], ◌∷◌, length, IsUtf8, IsTrue, Result, Ok, Err}
+use Rattle.std.specs.Cmp.Lexicographic.{slice_cmp}
+use Rattle.std.specs.Ordering.{nat_cmp}
+use Rattle.std.specs.declared.cmp.Ordering.{Ordering}
+use Rattle.std.specs.declared.cmp.Ordering.TheVariants.{Less, Equal, Greater}
 use Rattle.std.specs.Str.{chars}
 use Rattle.simd_cesu8.specs.Encoding.{Flavor, Mutf8, encoding, NeedsEncoding}
-use Rattle.simd_cesu8.specs.Reading.{reading, lossy_length}
+use Rattle.simd_cesu8.specs.Reading.{IsStrictReading, HasNoStrictReading, reading, lossy_length}
 use Rattle.simd_cesu8.specs.Slices.{StandsAtFront, ReadsAtLength, ReadingAtFront}
+use Rattle.simd_cesu8.specs.Utf16.{units}
 use Rattle.simd_cesu8.specs.declared.error.TooShort.{TooShort}
 use Rattle.simd_cesu8.specs.declared.error.DecodeSliceFault.{DecodeSliceFault}
 use Rattle.simd_cesu8.specs.declared.error.DecodeSliceFault.TheVariants as strict
@@ -11,6 +16,7 @@ use Rattle.simd_cesu8.specs.declared.error.LossySliceFault.{LossySliceFault}
 use Rattle.simd_cesu8.specs.declared.error.LossySliceFault.TheVariants as lossy
 use Rattle.java_text.specs.Form.{HasForm, java_form, BeginsWithForm, count_in, counted, rest_in, IsTruncated}
 use Rattle.cesu8_static.specs.declared.answer.Answer.{Answer}
+use Rattle.cesu8_static.specs.declared.comparison.Comparison.{Comparison}
 use Rattle.cesu8_static.specs.declared.answer.Decision.{Decision}
 use Rattle.cesu8_static.specs.declared.answer.Reading.{Reading}
 use Rattle.cesu8_static.specs.declared.answer.TheConstants.{OK, NOT_UTF8, INVALID, TRUNCATED, TOO_LONG, TOO_SMALL}
@@ -54,6 +60,35 @@ pub record TellsEncodedLength (f : Flavor) (text : List ℕ) (answer : Answer) :
   pub not_utf8 : answer.status ≡ NOT_UTF8 ↔ ¬ (IsUtf8 text)
   pub encoded : IsUtf8 text → answer.length ≡ length (encoding f (chars text))
   pub none : ¬ (IsUtf8 text) → answer.length ≡ 0
+
+-- How many UTF-16 code units a text in UTF-8 has.
+pub record TellsUtf16Length (text : List ℕ) (answer : Answer) : Type 0 where
+  pub ok : answer.status ≡ OK ↔ IsUtf8 text
+  pub not_utf8 : answer.status ≡ NOT_UTF8 ↔ ¬ (IsUtf8 text)
+  pub counted : IsUtf8 text → answer.length ≡ length (units (chars text))
+  pub none : ¬ (IsUtf8 text) → answer.length ≡ 0
+
+-- What C gets for an ordering.
+abbrev pub number_of : Ordering → ℤ
+number_of Less = negsuc 0
+number_of Equal = pos 0
+number_of Greater = pos 1
+
+-- How two texts in UTF-8 compare by their UTF-16 code units.
+pub record ComparesTexts (text other : List ℕ) (comparison : Comparison) : Type 0 where
+  pub ok : comparison.status ≡ OK ↔ IsUtf8 text × IsUtf8 other
+  pub not_utf8 : comparison.status ≡ NOT_UTF8 ↔ ¬ (IsUtf8 text × IsUtf8 other)
+  pub compared : IsUtf8 text → IsUtf8 other
+      → comparison.order ≡ number_of (slice_cmp nat_cmp (units (chars text)) (units (chars other)))
+  pub none : ¬ (IsUtf8 text × IsUtf8 other) → comparison.order ≡ pos 0
+
+-- The length of the strict reading. Input without one is `INVALID`.
+pub record TellsDecodedLength (f : Flavor) (bytes : List ℕ) (answer : Answer) : Type 0 where
+  pub read : answer.status ≡ OK
+      → ReadsAtLength (IsStrictReading f bytes) (λ len. answer.length ≡ len)
+  pub invalid : answer.status ≡ INVALID ↔ HasNoStrictReading f bytes
+  pub statuses : IsAmong (OK ∷ INVALID ∷ []) answer.status
+  pub none : answer.status ≡ INVALID → answer.length ≡ 0
 
 -- The length of the lossy reading.
 pub record TellsLossyLength (f : Flavor) (bytes : List ℕ) (answer : Answer) : Type 0 where

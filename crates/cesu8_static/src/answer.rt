@@ -24,7 +24,8 @@ pub const TOO_SMALL: u32 = 5;
 pub struct Answer {
     /// One of the statuses above.
     pub status: u32,
-    /// With `OK` the result's length in bytes, with `TOO_SMALL` the needed length, otherwise 0.
+    /// With `OK` the result's length, with `TOO_SMALL` the needed length, otherwise 0. It is in
+    /// bytes, but from `cesu8_utf16_len` in UTF-16 code units.
     pub length: usize,
 }
 

@@ -10,14 +10,16 @@
 ghost use Rattle.std.specs.Prelude.{◌≡◌};
 ghost use Rattle.simd_cesu8.specs.Encoding.{Cesu8};
 ghost use Rattle.simd_cesu8.specs.Reading.{IsStrictReading, IsLenientReading, reading, IsLenientLossyReading};
-ghost use Rattle.cesu8_static.specs.Answers.{DecidesNeed, TellsEncodedLength, TellsLossyLength, Encodes, Decodes, DecodesLossily};
+ghost use Rattle.cesu8_static.specs.Answers.{DecidesNeed, TellsEncodedLength, TellsUtf16Length, ComparesTexts, TellsDecodedLength, TellsLossyLength, Encodes, Decodes, DecodesLossily};
 
 mod answer;
+mod comparison;
 pub mod java;
 pub mod mutf8;
 
 pub use crate::answer::{Answer, Decision, Reading};
-use crate::answer::{NOT_UTF8, TOO_LONG};
+use crate::answer::{INVALID, NOT_UTF8, TOO_LONG};
+pub use crate::comparison::Comparison;
 use simdutf8::compat;
 
 /// Returns whether the CESU-8 of a text in UTF-8 differs from the UTF-8, as
@@ -41,6 +43,33 @@ pub extern "C" fn cesu8_encoded_len(text: &[u8]) -> Answer
     match compat::from_utf8(text) {
         Ok(text) => Answer::of_length(simd_cesu8::encoded_len(text)),
         Err(_) => Answer::without(NOT_UTF8),
+    }
+}
+
+/// Returns how many UTF-16 code units a text in UTF-8 has, as `simd_cesu8::utf16_len` does.
+/// `NOT_UTF8` means that the input is not UTF-8.
+#[unsafe(no_mangle)]
+pub extern "C" fn cesu8_utf16_len(text: &[u8]) -> Answer
+    ensures { TellsUtf16Length text.now result }
+{
+    match compat::from_utf8(text) {
+        Ok(text) => Answer::of_length(simd_cesu8::utf16_len(text)),
+        Err(_) => Answer::without(NOT_UTF8),
+    }
+}
+
+/// Compares two texts in UTF-8 by their UTF-16 code units, as `simd_cesu8::compare_as_utf16` does.
+/// `NOT_UTF8` means that one of them is not UTF-8.
+#[unsafe(no_mangle)]
+pub extern "C" fn cesu8_compare_as_utf16(text: &[u8], other: &[u8]) -> Comparison
+    ensures { ComparesTexts text.now other.now result }
+{
+    let Ok(text) = compat::from_utf8(text) else {
+        return Comparison::without();
+    };
+    match compat::from_utf8(other) {
+        Ok(other) => Comparison::of(simd_cesu8::compare_as_utf16(text, other)),
+        Err(_) => Comparison::without(),
     }
 }
 
@@ -92,6 +121,18 @@ pub extern "C" fn cesu8_decode_lossy(bytes: &[u8], buf: &mut [u8]) -> Answer
     ensures { DecodesLossily (IsLenientLossyReading Cesu8 bytes.now) result buf.old buf.new }
 {
     Answer::of_lossy_text(simd_cesu8::decode_lossy_to_slice(bytes, buf))
+}
+
+/// Returns the length in bytes of the text that `cesu8_decode_strict` writes, as
+/// `simd_cesu8::decoded_len` does. `INVALID` means that the input is the encoding of no text.
+#[unsafe(no_mangle)]
+pub extern "C" fn cesu8_decoded_len(bytes: &[u8]) -> Answer
+    ensures { TellsDecodedLength Cesu8 bytes.now result }
+{
+    match simd_cesu8::decoded_len(bytes) {
+        Some(length) => Answer::of_length(length),
+        None => Answer::without(INVALID),
+    }
 }
 
 /// Returns the length in bytes of the text that `cesu8_decode_lossy_strict` writes, as

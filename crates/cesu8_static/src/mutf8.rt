@@ -3,9 +3,9 @@
 ghost use Rattle.std.specs.Prelude.{◌≡◌};
 ghost use Rattle.simd_cesu8.specs.Encoding.{Mutf8};
 ghost use Rattle.simd_cesu8.specs.Reading.{IsStrictReading, IsLenientReading, reading, IsLenientLossyReading};
-ghost use Rattle.cesu8_static.specs.Answers.{DecidesNeed, TellsEncodedLength, TellsLossyLength, Encodes, Decodes, DecodesLossily};
+ghost use Rattle.cesu8_static.specs.Answers.{DecidesNeed, TellsEncodedLength, TellsDecodedLength, TellsLossyLength, Encodes, Decodes, DecodesLossily};
 
-use crate::answer::{Answer, Decision, NOT_UTF8, TOO_LONG};
+use crate::answer::{Answer, Decision, INVALID, NOT_UTF8, TOO_LONG};
 use simd_cesu8::mutf8;
 use simdutf8::compat;
 
@@ -81,6 +81,18 @@ pub extern "C" fn cesu8_mutf8_decode_lossy(bytes: &[u8], buf: &mut [u8]) -> Answ
     ensures { DecodesLossily (IsLenientLossyReading Mutf8 bytes.now) result buf.old buf.new }
 {
     Answer::of_lossy_text(mutf8::decode_lossy_to_slice(bytes, buf))
+}
+
+/// Returns the length in bytes of the text that `cesu8_mutf8_decode_strict` writes, as
+/// `mutf8::decoded_len` does. `INVALID` means that the input is the encoding of no text.
+#[unsafe(no_mangle)]
+pub extern "C" fn cesu8_mutf8_decoded_len(bytes: &[u8]) -> Answer
+    ensures { TellsDecodedLength Mutf8 bytes.now result }
+{
+    match mutf8::decoded_len(bytes) {
+        Some(length) => Answer::of_length(length),
+        None => Answer::without(INVALID),
+    }
 }
 
 /// Returns the length in bytes of the text that `cesu8_mutf8_decode_lossy_strict` writes, as

@@ -1,4 +1,5 @@
--- Encodings: of one scalar value, of a text, how long, and that only one text has them.
+-- Encodings: of one scalar value, of a text, how long, also in code units, and that only one text has
+-- them.
 pub mod Forms
 pub mod Encodings
 pub mod Lengths

@@ -1,4 +1,5 @@
--- The order of encodings, and the laws that are put together from several lemmas.
+-- The order of encodings, that of UTF-8 by ranks, and the laws that are put together from several
+-- lemmas.
 pub mod Below
 pub mod UnitOrder
 pub mod Lawful
