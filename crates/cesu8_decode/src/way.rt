@@ -24,6 +24,9 @@
 //! A call on a slice takes `Characters` before it tests the bytes at all, below 64 of them, where
 //! the test for UTF-8 goes byte by byte.
 //!
+//! A call on a slice that takes `JoinedWindow` goes on by `Pieces` if more bytes are left than a
+//! short window has.
+//!
 //! Other lengths in this crate decide no way: `piece` joins no window of few bytes and lengthens a
 //! short text before its test for UTF-8, `characters` pads the last bytes, and `sums` the last
 //! block. Before the decoder, `cesu8_bytes` takes the first looks.
