@@ -2,9 +2,9 @@
 # for what it notes.
 # shellcheck shell=bash disable=SC2154
 
-# Notes every two seconds how much of the processors' time each check of `rt ci` and of an edit has taken,
+# Notes every two seconds how much of the processors' time each check of `rt ci` and of edits has taken,
 # until it is ended. What a check takes after the last look at it is missed: `note_checks TREE ROOM`, the
-# folder where `rt ci` runs, and the one where it makes the copies for edits.
+# folder where `rt ci` runs, and the one where it makes a copy for some crates.
 note_checks() {
     local stat pid line fields process
     local -A part=() ticks=()
@@ -36,7 +36,10 @@ part_of() {
         words=$(tr '\0' ' ' <"/proc/$1/cmdline")
     } 2>/dev/null
     case $at/ in
-        "$3"/rt-edit*) [[ $words =~ --crate-name\ ([a-z0-9_]+) ]] && echo "${BASH_REMATCH[1]}: edits" ;;
+        "$scratch"/rounds/*)
+            at=${at#"$scratch/rounds/"}
+            echo "${at%%/*}: edits"
+            ;;
         "$2"/crates/* | "$3"/rt-copy*/crates/*)
             at=${at##*/crates/}
             if [[ $words == *' --test '* ]]; then
@@ -87,7 +90,7 @@ show_account() {
             { spent = $1; sub(/^[0-9]+ /, ""); sum[$0] += spent }
             END { for (part in sum) printf "%6.1f  %s\n", sum[part] / hertz / 60, part }
         ' "$scratch/checks"
-        awk '{ printf "%6.1f  %s\n", $1 / 60, $2 }' "$scratch/script_seconds"
+        awk '{ spent = $1; sub(/^[0-9]+ /, ""); printf "%6.1f  %s\n", spent / 60, $0 }' "$scratch/script_seconds"
     } | sort -rn
     awk -v by_user="$user" -v by_system="$system" -v wall="$SECONDS" -v processors="$(nproc)" \
         -v ticks="$((ticks - first_ticks))" -v stolen="$((stolen - first_stolen))" 'BEGIN {

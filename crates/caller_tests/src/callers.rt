@@ -3,6 +3,7 @@
 //! 26.
 
 use java_text::{ReadFault, WriteFault};
+use std::alloc::{AllocError, Global};
 use std::cmp::Ordering;
 use std::collections::BTreeMap;
 use std::test::Fail;
@@ -119,6 +120,12 @@ fn repairs_logs(rt: HostRuntime) -> Result<(), Fail> {
     Ok(())
 }
 
+/// Whether a log is rewritten to this, which has no damage.
+fn is_rewritten_to(alloc: Global, log: &[u8], want: &[u8]) -> Result<bool, AllocError> {
+    let rewritten = rewrite_log(alloc, log)?;
+    Ok(rewritten.as_slice() == want && !repair_log(alloc, want)?.is_damaged)
+}
+
 #[test]
 fn rewrites_logs(rt: HostRuntime) -> Result<(), Fail> {
     // A log, and the rewritten log.
@@ -129,12 +136,7 @@ fn rewrites_logs(rt: HostRuntime) -> Result<(), Fail> {
         (b"one\n\xE2\x82two", b"one\n\xEF\xBF\xBD\xEF\xBF\xBDtwo"),
     ];
     for (log, want) in rows {
-        let rewritten = rewrite_log(rt.alloc(), log)?;
-        assert_eq!(rt; rewritten.as_slice(), want, "of {log:?}");
-        assert!(rt;
-            !repair_log(rt.alloc(), rewritten.as_slice())?.is_damaged,
-            "of {log:?}"
-        );
+        assert!(rt; is_rewritten_to(rt.alloc(), log, want)?, "of {log:?}");
     }
     Ok(())
 }
@@ -237,49 +239,58 @@ fn tells_what_other_calls_answer(rt: HostRuntime) -> Result<(), Fail> {
     Ok(())
 }
 
-#[test]
-fn keeps_names_in_entries(rt: HostRuntime) -> Result<(), Fail> {
-    let mut entry = Entry::new(7);
+/// Whether an entry writes this name to the front of a buffer, and nothing behind it.
+fn hands_out(entry: &Entry, want: &str) -> bool {
     let mut buf = [0xEE; 32];
-    assert_eq!(rt; entry.name(&mut buf)?, 0);
-    // Five surrogate pairs and U+0000 take 32 bytes.
-    let long = "\u{1F496}\u{1F496}\u{1F496}\u{1F496}\u{1F496}\0";
-    entry.set_name(long)?;
-    assert_eq!(rt; entry.name(&mut buf)?, 21);
-    assert_eq!(rt; &buf[..21], long.as_bytes());
-    assert_eq!(rt; &buf[21..], [0xEE; 11].as_slice());
-    // A name that is too long leaves the entry as it was, as does a buffer that is too short.
-    let refused = entry.set_name("\u{1F496}\u{1F496}\u{1F496}\u{1F496}\u{1F496}\0a");
-    assert!(rt; matches!(refused, Err(fault) if fault.needed() == 33));
-    let refused = entry.name(&mut buf[..20]);
-    assert!(rt; matches!(refused, Err(fault) if fault.needed() == 21));
-    assert_eq!(rt; entry.name(&mut buf)?, 21);
-    assert_eq!(rt; &buf[..21], long.as_bytes());
-    entry.set_name("a")?;
-    assert_eq!(rt; entry.name(&mut buf)?, 1);
-    assert_eq!(rt; (entry.id, buf[0]), (7, b'a'));
-    Ok(())
+    let Ok(len) = entry.name(&mut buf) else {
+        return false;
+    };
+    let Some((name, behind)) = buf.split_at_checked(len) else {
+        return false;
+    };
+    name == want.as_bytes() && behind.iter().all(|byte| *byte == 0xEE)
+}
+
+/// How many bytes a name needs that an entry refuses.
+fn refused(entry: &mut Entry, name: &str) -> Option<usize> {
+    Some(entry.set_name(name).err()?.needed())
 }
 
 #[test]
-fn fills_an_arena(rt: HostRuntime) -> Result<(), Fail> {
+fn keeps_names_in_entries(rt: HostRuntime) {
+    let mut entry = Entry::new(7);
+    assert!(rt; hands_out(&entry, ""));
+    // Five surrogate pairs and U+0000 take 32 bytes.
+    let long = "\u{1F496}\u{1F496}\u{1F496}\u{1F496}\u{1F496}\0";
+    assert_eq!(rt; refused(&mut entry, long), None);
+    assert!(rt; hands_out(&entry, long));
+    // A name that is too long leaves the entry as it was, as does a buffer that is too short.
+    let longer = "\u{1F496}\u{1F496}\u{1F496}\u{1F496}\u{1F496}\0a";
+    assert_eq!(rt; refused(&mut entry, longer), Some(33));
+    let short = entry.name(&mut [0; 20]).err();
+    assert_eq!(rt; short.map(|fault| fault.needed()), Some(21));
+    assert!(rt; hands_out(&entry, long));
+    assert_eq!(rt; refused(&mut entry, "a"), None);
+    assert!(rt; hands_out(&entry, "a"));
+    assert_eq!(rt; entry.id, 7);
+}
+
+/// Fills an arena with four texts. An error has the fields of `ArenaFull`.
+fn fill(arena: &mut [u8], ends: &mut [usize; 4]) -> Result<usize, (usize, usize, usize)> {
     let texts = ["id", "", "\u{1F496}", "\0"];
+    fill_arena(&texts, arena, ends).map_err(|full| (full.count, full.used, full.missing))
+}
+
+#[test]
+fn fills_an_arena(rt: HostRuntime) {
     let mut arena = [0xEE; 10];
     let mut ends = [0; 4];
-    let used = fill_arena(&texts, &mut arena, &mut ends).or(Err("is full"))?;
-    assert_eq!(rt; used, 9);
-    assert_eq!(rt;
-        arena.as_slice(),
-        b"id\xED\xA0\xBD\xED\xB2\x96\x00\xEE".as_slice()
-    );
-    assert_eq!(rt; ends.as_slice(), [2, 2, 8, 9].as_slice());
+    assert_eq!(rt; fill(&mut arena, &mut ends), Ok(9));
+    assert!(rt; arena == *b"id\xED\xA0\xBD\xED\xB2\x96\x00\xEE");
+    assert!(rt; ends == [2, 2, 8, 9]);
     let mut arena = [0xEE; 5];
     let mut ends = [0; 4];
-    let full = fill_arena(&texts, &mut arena, &mut ends)
-        .err()
-        .ok_or("has room")?;
-    assert_eq!(rt; (full.count, full.used, full.missing), (2, 2, 3));
-    assert_eq!(rt; arena.as_slice(), b"id\xEE\xEE\xEE".as_slice());
-    assert_eq!(rt; &ends[..2], [2, 2].as_slice());
-    Ok(())
+    assert_eq!(rt; fill(&mut arena, &mut ends), Err((2, 2, 3)));
+    assert!(rt; arena == *b"id\xEE\xEE\xEE");
+    assert!(rt; ends[..2] == [2, 2]);
 }

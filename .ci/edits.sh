@@ -1,0 +1,136 @@
+# How the gate tries the edits of must-fail. .ci/run sources this file, and sets `scratch` before. There the
+# copy `scripts` of the tree has the libraries, and the folder `proved` a file for each that is proved.
+# shellcheck shell=bash disable=SC2154
+#
+# Most of a check is loading, so one check tries several edits, which change a function of their own each:
+# a round, as rounds.awk lays them. An edit counts as refused only if a goal of its own function is false,
+# which told.awk finds in what the check says. What a round doesn't refuse is tried again, as a round of
+# its own, and at last each edit alone: the kit leaves goals of a function untried where one that it calls
+# is not proved, and an edit that can't be read spoils its round.
+
+# The crates that have edits, each after those that it uses.
+crates_with_edits() {
+    local crate
+    for crate in $(sed -n 's/^\([a-z0-9_]*\).*:.*/\1/p' crates.txt); do
+        [[ ! -d crates/$crate/must-fail ]] || echo "$crate"
+    done
+}
+
+# What a crate uses: `used_by CRATE`.
+used_by() {
+    sed -n "s/^$1\\b.*://p" crates.txt
+}
+
+# Tries the edits of crates, so many crates at once, and prints for each edit a line `edit CRATE/NAME:
+# refused: WHY`, or `not refused`: `try_edits AT_ONCE CRATE..`.
+try_edits() {
+    local at_once=$1 crate
+    shift
+    for crate in "$@"; do
+        [[ -d $scratch/scripts/crates/$crate/must-fail ]] || continue
+        while (($(jobs -rp | wc -l) >= at_once)); do wait -n || :; done
+        try_crate "$crate" &
+    done
+    wait
+}
+
+# Tries the edits of a crate, in a tree for it, once its libraries are proved.
+try_crate() {
+    local crate=$1 from=$scratch/scripts plan=$scratch/rounds/$1.plan
+    local -a names
+    until is_ready "$crate"; do
+        [[ ! -e $scratch/proved/failed ]] || return
+        sleep 1
+    done
+    make_tree "$crate"
+    mkdir "$plan"
+    touch "$plan/rounds" "$plan/bad"
+    (cd "$from/crates/$crate" && awk -v to="$plan" -f "$from/.ci/rounds.awk" must-fail/*.edit)
+    sed "s|^\([^\t]*\)\t|edit $crate/\1: not refused: |" "$plan/bad"
+    while read -r -a names; do
+        try_round "$crate" "${names[@]}"
+    done <"$plan/rounds"
+    rm -rf "$scratch/rounds/$crate"
+}
+
+# Whether what a crate uses is proved, and the crate itself where it is a library.
+is_ready() {
+    local name
+    for name in $(used_by "$1"); do
+        [[ -e $scratch/proved/$name ]] || return 1
+    done
+    [[ -e crates/$1/src/main.rt || -e $scratch/proved/$1 ]]
+}
+
+# Makes a tree in which a crate is checked over the proved libraries, with what was kept of its own proof:
+# `make_tree CRATE`. Files of libraries get a second name in place of a copy, where they can.
+make_tree() {
+    local tree=$scratch/rounds/$1 from=$scratch/scripts crate
+    mkdir -p "$tree"
+    cp "$from/crates.txt" "$from/HANDLES" "$tree"
+    for crate in "$from"/crates/*; do
+        crate=${crate##*/}
+        mkdir -p "$tree/crates/$crate/out"
+        find "$from/crates/$crate" -mindepth 1 -maxdepth 1 ! -name out ! -name must-fail \
+            -exec cp -r {} "$tree/crates/$crate" \;
+        [[ -e $scratch/proved/$crate && -d $from/crates/$crate/out/rlib ]] || continue
+        cp -rl "$from/crates/$crate/out/rlib" "$tree/crates/$crate/out" 2>/dev/null ||
+            cp -r "$from/crates/$crate/out/rlib" "$tree/crates/$crate/out"
+    done
+    [[ ! -d $from/crates/$1/out/incremental ]] || cp -r "$from/crates/$1/out/incremental" "$tree/crates/$1/out"
+}
+
+# Lays edits of a crate into its tree, checks it once, and says which are refused: `try_round CRATE NAME..`.
+try_round() {
+    local crate=$1 tree=$scratch/rounds/$1 plan=$scratch/rounds/$1.plan status=0 name result why
+    local -a again=() owners
+    shift
+    owners=("${@/%/.owners}")
+    lay_lines "$crate" "$@"
+    (cd "$tree/crates/$crate" && exec env TMPDIR="$scratch/rooms" rt check --jobs 1) \
+        </dev/null >"$plan/said" 2>&1 || status=$?
+    take_lines "$crate"
+    while IFS=$'\t' read -r name result why; do
+        if [[ $result == refused ]]; then
+            echo "edit $crate/$name: refused: $why"
+        elif (($# > 1)); then
+            again+=("$name")
+        else
+            echo "edit $crate/$name: not refused: $why"
+        fi
+    done < <(awk -v status="$status" -f "$scratch/scripts/.ci/told.awk" "${owners[@]/#/$plan/}" "$plan/said")
+    if ((${#again[@]} > 0 && ${#again[@]} < $#)); then
+        try_round "$crate" "${again[@]}"
+    else
+        for name in "${again[@]}"; do try_round "$crate" "$name"; done
+    fi
+}
+
+# Changes the lines of these edits in the crate's tree: `lay_lines CRATE NAME..`.
+lay_lines() {
+    local crate=$1 tree=$scratch/rounds/$1/crates/$1 plan=$scratch/rounds/$1.plan file
+    local -a lines
+    shift
+    lines=("${@/%/.lines}")
+    lines=("${lines[@]/#/$plan/}")
+    cut -f 1 "${lines[@]}" | sort -u >"$plan/files"
+    while read -r file; do
+        awk -F '\t' -v file="$file" '
+            FILENAME ~ /\.lines$/ {
+                if ($1 == file) changed[$2] = substr($0, length($1 $2) + 3)
+                next
+            }
+            { print FNR in changed ? changed[FNR] : $0 }
+        ' "${lines[@]}" "$scratch/scripts/crates/$crate/$file" >"$plan/file"
+        # The file may be the second name of one in the copy, so it is replaced.
+        mv "$plan/file" "$tree/$file"
+    done <"$plan/files"
+}
+
+# Takes the edits out of the crate's tree again: `take_lines CRATE`.
+take_lines() {
+    local file
+    while read -r file; do
+        cp --remove-destination "$scratch/scripts/crates/$1/$file" "$scratch/rounds/$1/crates/$1/$file"
+    done <"$scratch/rounds/$1.plan/files"
+}

@@ -1,0 +1,103 @@
+# Says which edits of a round a check has refused:
+#   awk -v status=STATUS -f told.awk NAME.owners.. OUTPUT
+# with the owners that rounds.awk has written, and what `rt check` has printed. For each edit it prints
+# NAME, `refused` or `not`, and WHY, with tabs between.
+#
+# An edit is refused if a goal of a function that it changes is false. The kit tells of a goal at a line
+# of the function's code, or in its file of answers or invariants. Any goal counts for an edit of what is
+# no function's body, since nothing else is changed in its round.
+
+FNR == 1 { FS = FILENAME ~ /\.owners$/ ? "\t" : " "; $0 = $0 }
+
+FILENAME ~ /\.owners$/ {
+    owners++
+    name[owners] = $1
+    file[owners] = $2
+    first[owners] = $3
+    last[owners] = $4
+    folder[owners] = $5
+    is_changed[$2]
+    next
+}
+
+# A message goes on in lines that begin with two spaces.
+/^(note: )?(\.\/)?[a-z]+\/[^ :]+:[0-9]+:[0-9]+: / {
+    judge()
+    begin = text = $0
+    next
+}
+
+begin != "" && /^  / {
+    text = text $0
+    next
+}
+
+{ judge() }
+
+/^logic=not-proved/ { has_verdict = 1 }
+
+END {
+    judge()
+    if (status == 0) all = "the crate is still proved"
+    else if (unread != "") all = "the text can't be read: " unread
+    else if (status != 1 || !has_verdict) all = "the check ended with status " status ", and no verdict"
+    for (i = 1; i <= owners; i++) {
+        if (all == "" && (i in goal)) refused[name[i]] = goal[i]
+        else if (i in vanished) only_names[name[i]] = vanished[i]
+    }
+    for (i = 1; i <= owners; i++) {
+        it = name[i]
+        if (it in is_told) continue
+        is_told[it]
+        if (it in refused) print it "\trefused\t" refused[it]
+        else if (all != "") print it "\tnot\t" all
+        else if (it in only_names) print it "\tnot\tonly a name is missing: " only_names[it]
+        else print it "\tnot\tno goal of what it changes is told to be false"
+    }
+}
+
+# Notes whose goal a message tells of, or that it tells of a text that can't be read.
+function judge(    path, line, rest, i) {
+    path = begin
+    begin = ""
+    if (path !~ /^note: |^[^ ]+ error: /) return
+    sub(/^note: /, "", path)
+    sub(/^\.\//, "", path)
+    line = path
+    sub(/:.*/, "", path)
+    sub(/^[^:]*:/, "", line)
+    sub(/:.*/, "", line)
+    if (is_unread(path, text)) unread = unread == "" ? short(text) : unread
+    for (i = 1; i <= owners; i++)
+        if (is_of(i, path, line + 0)) {
+            if (text ~ /has no field|is not in scope|has no `|was not admitted/) vanished[i] = short(text)
+            else if (tells_goal(text) && !(i in goal)) goal[i] = short(text)
+        }
+}
+
+# Whether a goal at this place is one of what the edit changes.
+function is_of(i, path, line) {
+    if (folder[i] == "any") return 1
+    if (path == file[i]) return first[i] <= line && line <= last[i]
+    return path == folder[i] "/Answers.antt" || path == folder[i] "/Invariants.antt"
+}
+
+# Whether a message begins as the kit tells of a goal that is false.
+function tells_goal(text) {
+    return substr(text, 1, 160) ~ /it is not proved that|`[a-z]+`:? (the goal|(found )?no proof|stopped)|the two (types|sides differ)|: expected type/
+}
+
+# Whether a message tells that code, a spec or an edited file can't be read. One of a goal begins with the
+# name of it.
+function is_unread(path, text) {
+    if (text !~ /^[^ ]+ error: / || !(path in is_changed) && path !~ /^(src|specs)\//) return 0
+    sub(/^[^ ]+ error: /, "", text)
+    if (!sub(/^`[^`]*`: /, "", text)) return 1
+    gsub(/`[^`]*`/, "", text)
+    return text ~ /is not in scope|has no field|is no name|operand is missing|expected the end|cannot continue/
+}
+
+function short(text) {
+    sub(/^\.\//, "", text)
+    return substr(text, 1, 160)
+}
