@@ -1,4 +1,3 @@
-pub mod Internal
 pub mod Kernels
 pub mod Joining
 pub mod Pieces

@@ -5,12 +5,11 @@
 ghost use Rattle.std.specs.Prelude.{◌≡◌, IsTrue, Any};
 ghost use Rattle.std.specs.Str.{IsAscii};
 ghost use Rattle.cesu8_text.specs.Class.{IsChangedByte};
-ghost use Rattle.cesu8_bytes.specs.Internal.{flavor_of};
 
-use crate::implementation::class::{High, LANES, NullHigh};
+use crate::flavor::Flavor;
+use crate::implementation::class::{Either, High, LANES};
 use crate::implementation::short::{SHORT_VALUE, any_in_short};
 use crate::implementation::simd::left_by;
-use crate::options::Flavor;
 
 /// Returns whether the bytes are few and all ASCII.
 #[inline(always)]
@@ -22,14 +21,11 @@ pub fn is_short_ascii(bytes: &[u8]) -> bool
 
 /// Returns whether the bytes are few and all ASCII that does not change.
 #[inline(always)]
-pub fn is_short_unchanged_ascii(flavor: Flavor, bytes: &[u8]) -> bool
+pub fn is_short_unchanged_ascii<F: Flavor>(bytes: &[u8]) -> bool
     ensures ascii { IsTrue result → IsAscii bytes.now }
-    ensures unchanged { IsTrue result → ¬ (Any (IsChangedByte (flavor_of flavor)) bytes.now) }
+    ensures unchanged { IsTrue result → ¬ (Any (IsChangedByte F.flavor) bytes.now) }
 {
-    match flavor {
-        Flavor::Cesu8 => is_short_ascii(bytes),
-        Flavor::Mutf8 => bytes.len() <= SHORT_VALUE && !any_in_short::<NullHigh>(bytes),
-    }
+    bytes.len() <= SHORT_VALUE && !any_in_short::<Either<F::Null, High>>(bytes)
 }
 
 /// Returns whether the bytes are all ASCII. It is not inlined, so that the calls stay small.

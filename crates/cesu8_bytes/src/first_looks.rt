@@ -5,48 +5,37 @@
 
 ghost use Rattle.std.specs.Prelude.{◌↔◌, IsTrue, Any, ◌≡◌, ◌*◌, length, IsUtf8, ◌<◌};
 ghost use Rattle.cesu8_text.specs.Class.{IsChangedByte, IsUnchangedUtf8};
-ghost use Rattle.cesu8_bytes.specs.Internal.{flavor_of};
 ghost use Rattle.std.specs.Str.{chars};
 ghost use Rattle.cesu8_text.specs.Encoding.{NeedsEncoding};
 
 use crate::ascii::{ascii_text, is_ascii};
 use crate::continuation::character_start;
+use crate::flavor::Flavor;
 use crate::implementation::active;
-use crate::implementation::class::{Four, NullFour};
+use crate::implementation::class::{Either, Four};
 use crate::implementation::short::{SHORT_VALUE, any_in_short};
-use crate::options::Flavor;
 use simdutf8::compat;
 
 /// Returns whether some byte of the UTF-8 changes in the flavor.
 #[inline(always)]
-pub fn contains_changed(flavor: Flavor, bytes: &[u8]) -> bool
-    ensures { IsTrue result ↔ Any (IsChangedByte (flavor_of flavor)) bytes.now }
+pub fn contains_changed<F: Flavor>(bytes: &[u8]) -> bool
+    ensures { IsTrue result ↔ Any (IsChangedByte F.flavor) bytes.now }
 {
     // From this length on the kernels test four vectors at once.
     if bytes.len() < SHORT_VALUE {
-        return short_contains_changed(flavor, bytes);
-    }
-    match flavor {
-        Flavor::Cesu8 => active::contains_utf8_4_byte_char_header(bytes),
-        Flavor::Mutf8 => active::contains_null_or_utf8_4_byte_char_header(bytes),
-    }
-}
-
-#[inline(always)]
-fn short_contains_changed(flavor: Flavor, bytes: &[u8]) -> bool
-    ensures { IsTrue result ↔ Any (IsChangedByte (flavor_of flavor)) bytes.now }
-{
-    match flavor {
-        Flavor::Cesu8 => any_in_short::<Four>(bytes),
-        Flavor::Mutf8 => any_in_short::<NullFour>(bytes),
+        any_in_short::<Either<F::Null, Four>>(bytes)
+    } else if F::has_long_null() {
+        active::contains_null_or_utf8_4_byte_char_header(bytes)
+    } else {
+        active::contains_utf8_4_byte_char_header(bytes)
     }
 }
 
 #[inline(always)]
-pub fn needs_encoded(flavor: Flavor, value: &str) -> bool
-    ensures { IsTrue result ↔ NeedsEncoding (flavor_of flavor) (chars value.now) }
+pub fn needs_encoded<F: Flavor>(value: &str) -> bool
+    ensures { IsTrue result ↔ NeedsEncoding F.flavor (chars value.now) }
 {
-    contains_changed(flavor, value.as_bytes())
+    contains_changed::<F>(value.as_bytes())
 }
 
 /// How many bytes of long input are tested for UTF-8 first.
@@ -58,8 +47,9 @@ const LONG: usize = 4 * TESTED_FIRST;
 /// Returns the bytes as a text if they are UTF-8, and otherwise the empty text, which no such bytes
 /// have. If long input is not UTF-8, its front mostly shows it, and the rest is not tested.
 ///
-/// A text is returned in registers; a `Result` with it would be returned through memory.
-#[inline(always)]
+/// A text is returned in registers; a `Result` with it would be returned through memory. It is not
+/// inlined, since each call needs it for each flavor.
+#[inline(never)]
 pub fn whole_text(bytes: &[u8]) -> &str
     ensures whole { length result.now ≡ length bytes.now
         → (result.now ≡ bytes.now) × IsUtf8 bytes.now }
@@ -93,13 +83,13 @@ fn has_utf8_front(bytes: &[u8]) -> bool
 /// Returns the bytes as a text if they are UTF-8 without a byte that changes, and otherwise the
 /// empty text, as `whole_text` does.
 #[inline(always)]
-pub fn unchanged_text(flavor: Flavor, bytes: &[u8]) -> &str
+pub fn unchanged_text<F: Flavor>(bytes: &[u8]) -> &str
     ensures whole { length result.now ≡ length bytes.now
-        → (result.now ≡ bytes.now) × IsUnchangedUtf8 (flavor_of flavor) bytes.now }
+        → (result.now ≡ bytes.now) × IsUnchangedUtf8 F.flavor bytes.now }
     ensures none { ¬ (length result.now ≡ length bytes.now)
-        → ¬ (IsUnchangedUtf8 (flavor_of flavor) bytes.now) }
+        → ¬ (IsUnchangedUtf8 F.flavor bytes.now) }
 {
-    if !contains_changed(flavor, bytes) {
+    if !contains_changed::<F>(bytes) {
         return whole_text(bytes);
     }
     ""

@@ -6,14 +6,14 @@
 
 ghost use Rattle.std.specs.Prelude.{◌≡◌, ◌+◌, ◌<◌, ◌≤◌, ◌↔◌, length, take, drop, IsTrue, IfSome, IfNone};
 ghost use Rattle.cesu8_text.specs.Encoding.{Flavor as AnyFlavor, Mutf8};
-ghost use Rattle.cesu8_bytes.specs.Internal.{flavor_of};
 ghost use Rattle.cesu8_bytes.specs.Joining.{IsJoined, IsJoinedAfter, KeepsJoined, nulls, HasNull};
 
 mod buffer;
 pub mod pairs;
 
 use crate::BLOCK;
-use crate::options::Flavor;
+use crate::flavor::Flavor;
+use crate::implementation::class::InVectors;
 use buffer::Progress;
 pub use buffer::{MOST_JOINED, MUST_FOLLOW, ROOM_LEN, Room, Step};
 pub use pairs::{PAIR, PAIR_READ, PAIR_UTF8, is_pair, utf8_of_pair};
@@ -24,25 +24,10 @@ use std::simd::prelude::*;
 pub const MOST_WITH_PAIR: usize = MOST_JOINED + PAIR;
 
 /// Joins the first `end` bytes and a pair across their end, or fewer if some can't be joined.
-pub fn join(flavor: Flavor, bytes: &[u8], end: usize, room: &mut Room) -> Step
+pub fn join<F: Flavor>(bytes: &[u8], end: usize, room: &mut Room) -> Step
     requires { (end + MUST_FOLLOW ≤ length bytes.now) × (end ≤ MOST_JOINED) }
     ensures within { (result.read ≤ end + PAIR) × (result.written ≤ MOST_WITH_PAIR) }
-    ensures joined { IsJoined (flavor_of flavor) (take result.read bytes.now)
-        (take result.written room.new) }
-{
-    // Inlined for each flavor, the loops below do not test it again.
-    match flavor {
-        Flavor::Cesu8 => join_blocks(Flavor::Cesu8, bytes, end, room),
-        Flavor::Mutf8 => join_blocks(Flavor::Mutf8, bytes, end, room),
-    }
-}
-
-/// Joins as `join` does, for a flavor that the compiler knows.
-#[inline(always)]
-fn join_blocks(flavor: Flavor, bytes: &[u8], end: usize, room: &mut Room) -> Step
-    requires { (end + MUST_FOLLOW ≤ length bytes.now) × (end ≤ MOST_JOINED) }
-    ensures within { (result.read ≤ end + PAIR) × (result.written ≤ MOST_WITH_PAIR) }
-    ensures joined { IsJoined (flavor_of flavor) (take result.read bytes.now)
+    ensures joined { IsJoined F.flavor (take result.read bytes.now)
         (take result.written room.new) }
 {
     let stop = bytes.len() - end;
@@ -52,7 +37,7 @@ fn join_blocks(flavor: Flavor, bytes: &[u8], end: usize, room: &mut Room) -> Ste
     };
     while at.rest.len() > stop {
         let len = at.rest.len();
-        at = join_block(flavor, at, stop, room);
+        at = join_block::<F>(at, stop, room);
         if at.rest.len() == len {
             break;
         }
@@ -65,16 +50,16 @@ fn join_blocks(flavor: Flavor, bytes: &[u8], end: usize, room: &mut Room) -> Ste
 
 /// Copies a block without marks before its end, or joins one with marks.
 #[inline(always)]
-fn join_block<'a>(flavor: Flavor, at: Progress<'a>, stop: usize, room: &mut Room) -> Progress<'a>
+fn join_block<'a, F: Flavor>(at: Progress<'a>, stop: usize, room: &mut Room) -> Progress<'a>
     requires stop { (stop < length at.rest.now) × (MUST_FOLLOW ≤ stop) }
     requires room { at.written + length at.rest.now ≤ MOST_JOINED + stop }
     ensures after { IsJoinedAfter at.entry.rest.now result.rest.now
         at.entry.written result.written stop }
-    ensures joined { KeepsJoined (flavor_of flavor)
+    ensures joined { KeepsJoined F.flavor
         at.entry.rest.now (take at.entry.written room.old)
         result.rest.now (take result.written room.new) }
 {
-    let marks = marks(flavor, at.rest);
+    let marks = marks::<F>(at.rest);
     let left = at.rest.len() - stop;
     let run = left.min(BLOCK);
     if marks.trailing_zeros() as usize >= run {
@@ -84,19 +69,19 @@ fn join_block<'a>(flavor: Flavor, at: Progress<'a>, stop: usize, room: &mut Room
             written: at.written + run,
         };
     }
-    match flavor {
-        Flavor::Mutf8 if left >= BLOCK && marks & NULL_MARKS == NULL_MARKS && is_nulls(at.rest) => {
-            join_nulls(at, room)
-        }
-        _ if marks & PAIR_MARKS == PAIR_MARKS && is_pair(at.rest) => join_pairs(at, stop, room),
-        _ => join_marked(flavor, at, marks, stop, room),
+    if left >= BLOCK && marks & NULL_MARKS == NULL_MARKS && is_nulls::<F>(at.rest) {
+        join_nulls(at, room)
+    } else if marks & PAIR_MARKS == PAIR_MARKS && is_pair(at.rest) {
+        join_pairs(at, stop, room)
+    } else {
+        join_marked::<F>(at, marks, stop, room)
     }
 }
 
 /// Marks the bytes of a block that may have to change, the first byte in the lowest bit: those that
 /// lead a surrogate pair or a null character, and those that no window may have.
 #[inline(always)]
-fn marks(flavor: Flavor, bytes: &[u8]) -> u32
+fn marks<F: Flavor>(bytes: &[u8]) -> u32
     requires { BLOCK < length bytes.now }
 {
     let block = u8x32::from_slice(bytes);
@@ -104,18 +89,13 @@ fn marks(flavor: Flavor, bytes: &[u8]) -> u32
     let high = next & u8x32::splat(0xF0);
     let pair = block.simd_eq(u8x32::splat(0xED)) & high.simd_eq(u8x32::splat(0xA0));
     let other = block.simd_eq(u8x32::splat(0xC0)) | block.simd_ge(u8x32::splat(0xF0));
-    let marks = pair | other;
-    let bits = match flavor {
-        Flavor::Cesu8 => marks.to_bitmask(),
-        Flavor::Mutf8 => (marks | block.simd_eq(u8x32::splat(0x00))).to_bitmask(),
-    };
-    (bits & 0xFFFF_FFFF) as u32
+    let marks = pair | other | F::Null::marks(block);
+    (marks.to_bitmask() & 0xFFFF_FFFF) as u32
 }
 
 /// Joins what is marked, and copies what precedes it, up to a mark that can't be joined.
 #[inline(always)]
-fn join_marked<'a>(
-    flavor: Flavor,
+fn join_marked<'a, F: Flavor>(
     start: Progress<'a>,
     marks: u32,
     stop: usize,
@@ -125,7 +105,7 @@ fn join_marked<'a>(
     requires room { start.written + length start.rest.now ≤ MOST_JOINED + stop }
     ensures after { IsJoinedAfter start.entry.rest.now result.rest.now
         start.entry.written result.written stop }
-    ensures joined { KeepsJoined (flavor_of flavor)
+    ensures joined { KeepsJoined F.flavor
         start.entry.rest.now (take start.entry.written room.old)
         result.rest.now (take result.written room.new) }
 {
@@ -143,7 +123,7 @@ fn join_marked<'a>(
         copy_run(&bytes[read..], position - read, written, room);
         written += position - read;
         read = position;
-        match join_changed(flavor, &bytes[position..], written, room) {
+        match join_changed::<F>(&bytes[position..], written, room) {
             Some(step) => {
                 read += step.read;
                 written += step.written;
@@ -184,18 +164,18 @@ fn store(block: u8x32, out: &mut [u8])
 /// Joins the surrogate pair that begins the bytes, or in MUTF-8 the null character. No branch
 /// distinguishes them, since no processor can predict it: one comparison serves both.
 #[inline(always)]
-fn join_changed(flavor: Flavor, bytes: &[u8], written: usize, room: &mut Room) -> Option<Step>
+fn join_changed<F: Flavor>(bytes: &[u8], written: usize, room: &mut Room) -> Option<Step>
     requires long { PAIR_READ ≤ length bytes.now }
     requires room { written + PAIR_UTF8 ≤ ROOM_LEN }
     ensures few { IfSome result (λ step.
         (0 < step.written) × (step.written ≤ step.read) × (step.read ≤ PAIR)) }
-    ensures joined { IfSome result (λ step. KeepsJoined (flavor_of flavor)
+    ensures joined { IfSome result (λ step. KeepsJoined F.flavor
         bytes.now (take written room.old)
         (drop step.read bytes.now) (take (written + step.written) room.new)) }
     ensures none { IfNone result (room.new ≡ room.old) }
 {
     let pair = pair_bits(bytes);
-    let null = null_bits(flavor, bytes);
+    let null = null_bits::<F>(bytes);
     let leads_pair = bytes[0] == PAIR_LEAD;
     let (bits, expected) = if leads_pair {
         (pair, PAIR_BITS)
@@ -218,13 +198,14 @@ fn join_changed(flavor: Flavor, bytes: &[u8], written: usize, room: &mut Room) -
 /// Returns the bits that show whether the null character of MUTF-8 begins the bytes. If it does,
 /// they are `NULL_BITS`.
 #[inline(always)]
-fn null_bits(flavor: Flavor, bytes: &[u8]) -> u64
+fn null_bits<F: Flavor>(bytes: &[u8]) -> u64
     requires { NULL ≤ length bytes.now }
-    ensures { result ≡ NULL_BITS ↔ HasNull (flavor_of flavor) bytes.now }
+    ensures { result ≡ NULL_BITS ↔ HasNull F.flavor bytes.now }
 {
-    match flavor {
-        Flavor::Cesu8 => 0,
-        Flavor::Mutf8 => u16::from_le_bytes([bytes[0], bytes[1]]) as u64,
+    if F::has_long_null() {
+        u16::from_le_bytes([bytes[0], bytes[1]]) as u64
+    } else {
+        0
     }
 }
 
@@ -251,12 +232,12 @@ const NULL_MARKS: u32 = 0x5555_5555;
 
 /// Returns whether a block of null characters of MUTF-8 begins the bytes.
 #[inline(always)]
-fn is_nulls(bytes: &[u8]) -> bool
+fn is_nulls<F: Flavor>(bytes: &[u8]) -> bool
     requires { BLOCK ≤ length bytes.now }
-    ensures { IsTrue result ↔ take BLOCK bytes.now ≡ nulls }
+    ensures { IsTrue result ↔ (F.flavor ≡ Mutf8) × (take BLOCK bytes.now ≡ nulls) }
 {
     let front = &bytes[..BLOCK];
-    front == NULLS.as_slice()
+    F::has_long_null() && front == NULLS.as_slice()
 }
 
 /// Joins a block of null characters of MUTF-8.

@@ -4,23 +4,31 @@ ghost use Rattle.std.specs.Prelude.{◌≡◌, length};
 ghost use Rattle.std.specs.Str.{chars};
 ghost use Rattle.cesu8_text.specs.Encoding.{encoding};
 ghost use Rattle.cesu8_text.specs.Utf16.{units};
-ghost use Rattle.cesu8_bytes.specs.Internal.{flavor_of};
 
-use crate::implementation::class::{NoByte, Null, OneUnit};
+use crate::first_looks::needs_encoded;
+use crate::flavor::Flavor;
+use crate::implementation::class::OneUnit;
 use crate::implementation::count::weight;
-use crate::options::Flavor;
 
 /// Returns the length of a text's encoding, in bytes. A character of four bytes becomes six, and in
 /// MUTF-8 U+0000 becomes two.
 #[inline(always)]
-pub fn encoded_len(flavor: Flavor, text: &str) -> usize
-    ensures { result ≡ length (encoding (flavor_of flavor) (chars text.now)) }
+pub fn encoded_len<F: Flavor>(text: &str) -> usize
+    ensures { result ≡ length (encoding F.flavor (chars text.now)) }
 {
-    let bytes = text.as_bytes();
-    match flavor {
-        Flavor::Cesu8 => bytes.len() + weight::<NoByte>(bytes),
-        Flavor::Mutf8 => bytes.len() + weight::<Null>(bytes),
+    text.len() + weight::<F::Null>(text.as_bytes())
+}
+
+/// Returns the same length. A text that stays as it is takes less time, since a test whether a
+/// byte changes is faster than a count of those that do.
+#[inline(always)]
+pub fn encoded_len_by_need<F: Flavor>(text: &str) -> usize
+    ensures { result ≡ length (encoding F.flavor (chars text.now)) }
+{
+    if !needs_encoded::<F>(text) {
+        return text.len();
     }
+    encoded_len::<F>(text)
 }
 
 /// Returns how many UTF-16 code units a text has. A character of four bytes has two, and each other

@@ -7,10 +7,10 @@
 pub mod ascii;
 pub mod continuation;
 pub mod first_looks;
+pub mod flavor;
 pub mod implementation;
 pub mod joining;
 pub mod lengths;
-pub mod null_form;
 pub mod options;
 pub mod order;
 pub mod runs;

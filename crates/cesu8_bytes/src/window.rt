@@ -2,7 +2,6 @@
 
 ghost use Rattle.std.specs.Prelude.{◌+◌, ◌<◌, ◌≤◌, length, take, drop, IfSome};
 ghost use Rattle.cesu8_text.specs.Encoding.{Flavor as AnyFlavor};
-ghost use Rattle.cesu8_bytes.specs.Internal.{flavor_of};
 ghost use Rattle.cesu8_bytes.specs.Joining.{IsJoined};
 ghost use Rattle.cesu8_bytes.specs.Pieces.{IsPiece};
 ghost use Rattle.cesu8_bytes.specs.declared.options.Strictness.{Strictness};
@@ -10,7 +9,7 @@ ghost use Rattle.cesu8_bytes.specs.declared.options.Strictness.{Strictness};
 use super::joining::{MOST_JOINED, MOST_WITH_PAIR, MUST_FOLLOW, PAIR, Room, Step, join};
 use crate::continuation::is_continuation;
 use crate::first_looks::contains_changed;
-use crate::options::Flavor;
+use crate::flavor::Flavor;
 use simdutf8::basic;
 
 /// The most bytes that are too few for a window. `MUST_FOLLOW` bounds them from below.
@@ -29,24 +28,19 @@ pub struct Joined<'a> {
 
 /// Joins a window, or the part of it before an error, up to the end of a character. If it returns
 /// none, nothing is known of the bytes.
-pub fn read_window<'a>(flavor: Flavor, bytes: &[u8], room: &'a mut Room) -> Option<Joined<'a>>
+pub fn read_window<'a, F: Flavor>(bytes: &[u8], room: &'a mut Room) -> Option<Joined<'a>>
     requires { TOO_FEW < length bytes.now }
     ensures within { IfSome result (λ joined.
         (0 < joined.read) × (joined.read ≤ length bytes.now)) }
-    ensures text { IfSome result (λ joined. (which : Strictness) → IsPiece (flavor_of flavor) which
+    ensures text { IfSome result (λ joined. (which : Strictness) → IsPiece F.flavor which
         bytes.now (drop joined.read bytes.now) joined.text.now) }
 {
-    let step = join(
-        flavor,
-        bytes,
-        MOST_JOINED.min(bytes.len() - MUST_FOLLOW),
-        room,
-    );
+    let step = join::<F>(bytes, MOST_JOINED.min(bytes.len() - MUST_FOLLOW), room);
     let Step { read, written } = copy_end(bytes, step, room);
     if read == 0 {
         return None;
     }
-    if contains_changed(flavor, &bytes[..read]) {
+    if contains_changed::<F>(&bytes[..read]) {
         return None;
     }
     let joined = &room[..written];

@@ -3,7 +3,6 @@
 ghost use Rattle.std.specs.Prelude.{◌≡◌, ◌+◌, ◌*◌, ◌<◌, ℕ, ◌≤◌, ◌++◌, length, take, drop, replicate, slice_index, false, true};
 ghost use Rattle.cesu8_text.specs.Reading.{NoneBegins};
 ghost use Rattle.cesu8_decode.specs.DecodedPlaces.{one_at, IsFrontOf};
-ghost use Rattle.cesu8_bytes.specs.Internal.{flavor_of};
 ghost use Rattle.cesu8_bytes.specs.Pieces.{IsReadSoFar};
 ghost use Rattle.cesu8_decode.specs.Decoding.{ReadsAll};
 ghost use Rattle.cesu8_bytes.specs.declared.options.Strictness.{Strictness};
@@ -13,10 +12,11 @@ use super::packing::WIDEST;
 use super::refusal::is_refused;
 use super::widths::{is_one, width};
 use super::windows::Decoded;
-use cesu8_bytes::implementation::class::{High, NullHigh};
+use cesu8_bytes::flavor::Flavor;
+use cesu8_bytes::implementation::class::{Either, High};
 use cesu8_bytes::implementation::short::copy_short;
 use cesu8_bytes::joining::{PAIR, PAIR_READ, is_pair, utf8_of_pair};
-use cesu8_bytes::options::{Flavor, Strictness};
+use cesu8_bytes::options::Strictness;
 use cesu8_bytes::runs::copy_run;
 use cesu8_bytes::writers::put;
 
@@ -24,16 +24,11 @@ use cesu8_bytes::writers::put;
 const REPLACEMENT: [u8; WIDEST] = [0xEF, 0xBF, 0xBD];
 
 /// Writes the characters of the bytes, and U+FFFD for each damaged byte. Strict reading stops
-/// behind the first of these.
-#[inline(always)]
-pub fn write_characters(
-    flavor: Flavor,
-    strictness: Strictness,
-    bytes: &[u8],
-    out: &mut [u8],
-) -> Decoded
+/// behind the first of these. It is not inlined, since buffers of each length need it.
+#[inline(never)]
+pub fn write_characters<F: Flavor>(strictness: Strictness, bytes: &[u8], out: &mut [u8]) -> Decoded
     requires { WIDEST * length bytes.now ≤ length out.old }
-    ensures read { ReadsAll (flavor_of flavor) strictness bytes.now
+    ensures read { ReadsAll F.flavor strictness bytes.now
         result.read (take result.end out.new) result.is_damaged }
     ensures end { result.end ≤ WIDEST * length bytes.now }
     ensures len { length out.new ≡ length out.old }
@@ -42,7 +37,7 @@ pub fn write_characters(
     let mut end = 0;
     let mut is_damaged = false;
     while (read < bytes.len()) & !is_refused(strictness, is_damaged) {
-        let step = write_next(flavor, &bytes[read..], out, end);
+        let step = write_next::<F>(&bytes[read..], out, end);
         read += step.read;
         end = step.end;
         is_damaged = is_damaged | step.is_damaged;
@@ -57,20 +52,20 @@ pub fn write_characters(
 /// Writes some characters of one byte, or else the character that begins the bytes, or U+FFFD for a
 /// damaged byte.
 #[inline(always)]
-fn write_next(flavor: Flavor, bytes: &[u8], out: &mut [u8], end: usize) -> Decoded
+fn write_next<F: Flavor>(bytes: &[u8], out: &mut [u8], end: usize) -> Decoded
     requires some { 0 < length bytes.now }
     requires room { end + WIDEST * length bytes.now ≤ length out.old }
     ensures within { (0 < result.read) × (result.read ≤ length bytes.now)
         × (result.end ≤ end + WIDEST * result.read) }
     ensures character { result.is_damaged ≡ false → (which : Strictness)
-        → IsReadSoFar (flavor_of flavor) which bytes.now
+        → IsReadSoFar F.flavor which bytes.now
         (drop result.read bytes.now) (take end out.old) (take result.end out.new) }
-    ensures damaged { result.is_damaged ≡ true → NoneBegins (flavor_of flavor) bytes.now }
-    ensures replaced { result.is_damaged ≡ true → IsReadSoFar (flavor_of flavor) Lossy bytes.now
+    ensures damaged { result.is_damaged ≡ true → NoneBegins F.flavor bytes.now }
+    ensures replaced { result.is_damaged ≡ true → IsReadSoFar F.flavor Lossy bytes.now
         (drop result.read bytes.now) (take end out.old) (take result.end out.new) }
     ensures len { length out.new ≡ length out.old }
 {
-    let run = copy_ascii(flavor, bytes, out, end);
+    let run = copy_ascii::<F>(bytes, out, end);
     if run > 0 {
         return Decoded {
             read: run,
@@ -78,27 +73,24 @@ fn write_next(flavor: Flavor, bytes: &[u8], out: &mut [u8], end: usize) -> Decod
             is_damaged: false,
         };
     }
-    write_character(flavor, bytes, out, end)
+    write_character::<F>(bytes, out, end)
 }
 
 /// Copies some characters of one byte, and returns how many. If few bytes are left, it copies one.
 #[inline(always)]
-fn copy_ascii(flavor: Flavor, bytes: &[u8], out: &mut [u8], at: usize) -> usize
+fn copy_ascii<F: Flavor>(bytes: &[u8], out: &mut [u8], at: usize) -> usize
     requires some { 0 < length bytes.now }
     requires room { at + length bytes.now ≤ length out.old }
     ensures within { result ≤ length bytes.now }
     ensures ascii { (i : ℕ) → i < result
-        → one_at (flavor_of flavor) (slice_index bytes.now i) ≡ true }
+        → one_at F.flavor (slice_index bytes.now i) ≡ true }
     ensures bytes { take (at + result) out.new ≡ take at out.old ++ take result bytes.now }
     ensures len { length out.new ≡ length out.old }
 {
-    if !is_one(flavor, bytes[0]) {
+    if !is_one::<F>(bytes[0]) {
         return 0;
     }
-    let run = match flavor {
-        Flavor::Cesu8 => copy_run::<High>(bytes, out, at),
-        Flavor::Mutf8 => copy_run::<NullHigh>(bytes, out, at),
-    };
+    let run = copy_run::<Either<F::Null, High>>(bytes, out, at);
     if run == 0 {
         put(&bytes[..1], out, at);
         return 1;
@@ -108,16 +100,16 @@ fn copy_ascii(flavor: Flavor, bytes: &[u8], out: &mut [u8], at: usize) -> usize
 
 /// Writes the character that begins the bytes, or U+FFFD for a damaged byte.
 #[inline(always)]
-fn write_character(flavor: Flavor, bytes: &[u8], out: &mut [u8], end: usize) -> Decoded
+fn write_character<F: Flavor>(bytes: &[u8], out: &mut [u8], end: usize) -> Decoded
     requires some { 0 < length bytes.now }
     requires room { end + WIDEST * length bytes.now ≤ length out.old }
     ensures within { (0 < result.read) × (result.read ≤ length bytes.now)
         × (result.end ≤ end + WIDEST * result.read) }
     ensures character { result.is_damaged ≡ false → (which : Strictness)
-        → IsReadSoFar (flavor_of flavor) which bytes.now
+        → IsReadSoFar F.flavor which bytes.now
         (drop result.read bytes.now) (take end out.old) (take result.end out.new) }
-    ensures damaged { result.is_damaged ≡ true → NoneBegins (flavor_of flavor) bytes.now }
-    ensures replaced { result.is_damaged ≡ true → IsReadSoFar (flavor_of flavor) Lossy bytes.now
+    ensures damaged { result.is_damaged ≡ true → NoneBegins F.flavor bytes.now }
+    ensures replaced { result.is_damaged ≡ true → IsReadSoFar F.flavor Lossy bytes.now
         (drop result.read bytes.now) (take end out.old) (take result.end out.new) }
     ensures len { length out.new ≡ length out.old }
 {
@@ -130,7 +122,7 @@ fn write_character(flavor: Flavor, bytes: &[u8], out: &mut [u8], end: usize) -> 
             is_damaged: false,
         };
     }
-    let read = width(flavor, bytes, front);
+    let read = width::<F>(bytes, front);
     if read == 0 {
         return Decoded {
             read: 1,

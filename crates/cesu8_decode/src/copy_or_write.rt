@@ -1,6 +1,5 @@
 //! Decodes to a caller's buffer: copies the bytes if none changes, and writes otherwise.
 
-ghost use Rattle.cesu8_bytes.specs.Internal.{flavor_of};
 ghost use Rattle.cesu8_decode.specs.PutReadings.{PutsText, IsReadingOf, IsLenientReadingOf};
 
 use crate::refusal::Unwritten;
@@ -8,87 +7,84 @@ use crate::slices::{put_characters, put_text};
 use crate::way::comes_before_tests;
 use cesu8_bytes::ascii::{is_short_ascii, is_short_unchanged_ascii};
 use cesu8_bytes::first_looks::{contains_changed, whole_text};
-use cesu8_bytes::options::{Flavor, Strictness};
+use cesu8_bytes::flavor::Flavor;
+use cesu8_bytes::options::Strictness;
 use cesu8_bytes::writers::copy_to_slice;
 
 /// Writes the text of the bytes, which are no encoding if a byte changes.
 #[inline(always)]
-pub fn put_encoding(
-    flavor: Flavor,
+pub fn put_encoding<F: Flavor>(
     strictness: Strictness,
     bytes: &[u8],
     buf: &mut [u8],
 ) -> Result<usize, Unwritten>
     ensures { PutsText strictness
-        (IsReadingOf (flavor_of flavor) strictness bytes.now)
+        (IsReadingOf F.flavor strictness bytes.now)
         result buf.old buf.new }
 {
-    if is_short_unchanged_ascii(flavor, bytes) {
+    if is_short_unchanged_ascii::<F>(bytes) {
         return copy_to_slice(bytes, buf).map_err(Unwritten::NoRoom);
     }
-    put_other_encoding(flavor, strictness, bytes, buf)
+    put_other_encoding::<F>(strictness, bytes, buf)
 }
 
 /// The bytes are not short ASCII. It is never inlined, so that the test for that stays small.
 #[inline(never)]
-fn put_other_encoding(
-    flavor: Flavor,
+fn put_other_encoding<F: Flavor>(
     strictness: Strictness,
     bytes: &[u8],
     buf: &mut [u8],
 ) -> Result<usize, Unwritten>
     ensures { PutsText strictness
-        (IsReadingOf (flavor_of flavor) strictness bytes.now)
+        (IsReadingOf F.flavor strictness bytes.now)
         result buf.old buf.new }
 {
     if comes_before_tests(bytes) {
-        return put_characters(flavor, strictness, bytes, buf);
+        return put_characters::<F>(strictness, bytes, buf);
     }
-    if contains_changed(flavor, bytes) {
+    if contains_changed::<F>(bytes) {
         // In strict reading there is nothing to decode.
         return match strictness {
             Strictness::Strict => Err(Unwritten::NoText),
-            Strictness::Lossy => put_text(flavor, strictness, bytes, buf),
+            Strictness::Lossy => put_text::<F>(strictness, bytes, buf),
         };
     }
     if whole_text(bytes).len() == bytes.len() {
         return copy_to_slice(bytes, buf).map_err(Unwritten::NoRoom);
     }
-    put_text(flavor, strictness, bytes, buf)
+    put_text::<F>(strictness, bytes, buf)
 }
 
 /// Writes the text of bytes that are UTF-8 as a whole, or else the encoding.
 #[inline(always)]
-pub fn put_leniently(
-    flavor: Flavor,
+pub fn put_leniently<F: Flavor>(
     strictness: Strictness,
     bytes: &[u8],
     buf: &mut [u8],
 ) -> Result<usize, Unwritten>
     ensures { PutsText strictness
-        (IsLenientReadingOf (flavor_of flavor) strictness bytes.now)
+        (IsLenientReadingOf F.flavor strictness bytes.now)
         result buf.old buf.new }
 {
     if is_short_ascii(bytes) {
         return copy_to_slice(bytes, buf).map_err(Unwritten::NoRoom);
     }
-    put_other_leniently(flavor, strictness, bytes, buf)
+    put_other_leniently::<F>(strictness, bytes, buf)
 }
 
 /// The bytes are not short ASCII. It is never inlined, so that the test for that stays small.
 #[inline(never)]
-fn put_other_leniently(
-    flavor: Flavor,
+fn put_other_leniently<F: Flavor>(
     strictness: Strictness,
     bytes: &[u8],
     buf: &mut [u8],
 ) -> Result<usize, Unwritten>
     ensures { PutsText strictness
-        (IsLenientReadingOf (flavor_of flavor) strictness bytes.now)
+        (IsLenientReadingOf F.flavor strictness bytes.now)
         result buf.old buf.new }
 {
     if whole_text(bytes).len() == bytes.len() {
         return copy_to_slice(bytes, buf).map_err(Unwritten::NoRoom);
     }
-    put_text(flavor, strictness, bytes, buf)
+    put_text::<F>(strictness, bytes, buf)
 }

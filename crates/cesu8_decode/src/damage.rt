@@ -5,38 +5,24 @@ ghost use Rattle.std.specs.Prelude.{◌≡◌, ◌<◌, ◌≤◌, length, refl,
 ghost use Rattle.std.proofs.Common.{arith};
 ghost use Rattle.cesu8_text.specs.Reading.{IsStrictReading, HasNoStrictReading, reading};
 ghost use Rattle.cesu8_decode.specs.DecodedPlaces.{covered};
-ghost use Rattle.cesu8_bytes.specs.Internal.{flavor_of};
 
 use super::sums::{BLOCKS, Weight, Weights, sum_first};
-use cesu8_bytes::null_form::{NullForm, OneByteNull, TwoByteNull};
-use cesu8_bytes::options::Flavor;
+use cesu8_bytes::flavor::Flavor;
 
 /// How many blocks are looked at first, since most input that is no encoding is damaged early.
 const FRONT_BLOCKS: usize = 2;
 
-/// Returns whether some byte is in no encoded character.
-pub fn is_damaged(flavor: Flavor, bytes: &[u8]) -> bool
-    ensures damaged { IsTrue result → HasNoStrictReading (flavor_of flavor) bytes.now }
-    ensures whole { result ≡ false → IsStrictReading (flavor_of flavor) bytes.now
-        (reading (flavor_of flavor) bytes.now) }
-{
-    match flavor {
-        Flavor::Cesu8 => has_damage::<OneByteNull>(bytes),
-        Flavor::Mutf8 => has_damage::<TwoByteNull>(bytes),
-    }
-}
-
-/// It stops soon after the first damage.
+/// Returns whether some byte is in no encoded character. It stops soon after the first damage.
 #[inline(never)]
-fn has_damage<N: NullForm>(bytes: &[u8]) -> bool
-    ensures damaged { IsTrue result → HasNoStrictReading N.flavor bytes.now }
-    ensures whole { result ≡ false → IsStrictReading N.flavor bytes.now
-        (reading N.flavor bytes.now) }
+pub fn is_damaged<F: Flavor>(bytes: &[u8]) -> bool
+    ensures damaged { IsTrue result → HasNoStrictReading F.flavor bytes.now }
+    ensures whole { result ≡ false → IsStrictReading F.flavor bytes.now
+        (reading F.flavor bytes.now) }
 {
     let mut covered = 0;
     let mut rest = bytes;
     while !rest.is_empty() {
-        let (sum, behind) = sum_first::<N, Widths>(rest, BLOCKS);
+        let (sum, behind) = sum_first::<F, Widths>(rest, BLOCKS);
         covered += sum;
         if covered < bytes.len() - behind.len() {
             return true;
@@ -47,22 +33,12 @@ fn has_damage<N: NullForm>(bytes: &[u8]) -> bool
 }
 
 /// Returns whether a byte among the first ones is in no encoded character.
-pub fn is_damaged_in_front(flavor: Flavor, bytes: &[u8]) -> bool
-    requires { 0 < length bytes.now }
-    ensures { IsTrue result → HasNoStrictReading (flavor_of flavor) bytes.now }
-{
-    match flavor {
-        Flavor::Cesu8 => has_damage_in_front::<OneByteNull>(bytes),
-        Flavor::Mutf8 => has_damage_in_front::<TwoByteNull>(bytes),
-    }
-}
-
 #[inline(never)]
-fn has_damage_in_front<N: NullForm>(bytes: &[u8]) -> bool
+pub fn is_damaged_in_front<F: Flavor>(bytes: &[u8]) -> bool
     requires { 0 < length bytes.now }
-    ensures { IsTrue result → HasNoStrictReading N.flavor bytes.now }
+    ensures { IsTrue result → HasNoStrictReading F.flavor bytes.now }
 {
-    let (covered, behind) = sum_first::<N, Widths>(bytes, FRONT_BLOCKS);
+    let (covered, behind) = sum_first::<F, Widths>(bytes, FRONT_BLOCKS);
     covered < bytes.len() - behind.len()
 }
 

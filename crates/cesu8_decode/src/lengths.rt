@@ -6,58 +6,46 @@ ghost use Rattle.std.proofs.Common.{arith};
 ghost use Rattle.std.proofs.lemmas.Bool.Decides.{nat_tests};
 ghost use Rattle.cesu8_text.specs.Reading.{IsStrictReading, HasNoStrictReading, lossy_length};
 ghost use Rattle.cesu8_text.specs.Slices.{ReadsAtLength};
-ghost use Rattle.cesu8_bytes.specs.Internal.{flavor_of};
 ghost use Rattle.cesu8_decode.specs.DecodedPlaces.{saved, total_weight};
 
 use super::damage::is_damaged;
 use super::sums::{BLOCKS, Weight, Weights, sum_first};
 use cesu8_bytes::first_looks::unchanged_text;
-use cesu8_bytes::null_form::{NullForm, OneByteNull, TwoByteNull};
-use cesu8_bytes::options::Flavor;
+use cesu8_bytes::flavor::Flavor;
 
 /// Returns the length of the strict reading, in bytes of UTF-8, if there is one.
-pub fn decoded_len(flavor: Flavor, bytes: &[u8]) -> Option<usize>
+pub fn decoded_len<F: Flavor>(bytes: &[u8]) -> Option<usize>
     ensures some { IfSome result (λ len.
-        ReadsAtLength (IsStrictReading (flavor_of flavor) bytes.now) (λ text_len. len ≡ text_len)) }
-    ensures none { IfNone result (HasNoStrictReading (flavor_of flavor) bytes.now) }
+        ReadsAtLength (IsStrictReading F.flavor bytes.now) (λ text_len. len ≡ text_len)) }
+    ensures none { IfNone result (HasNoStrictReading F.flavor bytes.now) }
 {
-    let text = unchanged_text(flavor, bytes);
+    let text = unchanged_text::<F>(bytes);
     if text.len() == bytes.len() {
         return Some(text.len());
     }
-    if is_damaged(flavor, bytes) {
+    if is_damaged::<F>(bytes) {
         return None;
     }
-    lossy_len(flavor, bytes)
+    lossy_len::<F>(bytes)
 }
 
 /// Returns the length of the lossy reading, in bytes of UTF-8, if it fits.
-pub fn lossy_len(flavor: Flavor, bytes: &[u8]) -> Option<usize>
-    ensures some { IfSome result (λ len. len ≡ lossy_length (flavor_of flavor) bytes.now) }
-    ensures none { IfNone result (usize.MAX < lossy_length (flavor_of flavor) bytes.now) }
-{
-    match flavor {
-        Flavor::Cesu8 => len_by_savings::<OneByteNull>(bytes),
-        Flavor::Mutf8 => len_by_savings::<TwoByteNull>(bytes),
-    }
-}
-
-fn len_by_savings<N: NullForm>(bytes: &[u8]) -> Option<usize>
-    ensures some { IfSome result (λ len. len ≡ lossy_length N.flavor bytes.now) }
-    ensures none { IfNone result (usize.MAX < lossy_length N.flavor bytes.now) }
+pub fn lossy_len<F: Flavor>(bytes: &[u8]) -> Option<usize>
+    ensures some { IfSome result (λ len. len ≡ lossy_length F.flavor bytes.now) }
+    ensures none { IfNone result (usize.MAX < lossy_length F.flavor bytes.now) }
 {
     let most = 3 * bytes.len() as u128;
-    usize::try_from(most - saved::<N>(bytes)).ok()
+    usize::try_from(most - saved::<F>(bytes)).ok()
 }
 
 /// Returns what all positions save.
-fn saved<N: NullForm>(bytes: &[u8]) -> u128
-    ensures { result ≡ total_weight saved N.flavor bytes.now }
+fn saved<F: Flavor>(bytes: &[u8]) -> u128
+    ensures { result ≡ total_weight saved F.flavor bytes.now }
 {
     let mut saved = 0;
     let mut rest = bytes;
     while !rest.is_empty() {
-        let (sum, behind) = sum_first::<N, Savings>(rest, BLOCKS);
+        let (sum, behind) = sum_first::<F, Savings>(rest, BLOCKS);
         saved += sum as u128;
         rest = behind;
     }

@@ -16,7 +16,6 @@ ghost use Rattle.std.specs.String.{string_bytes, string_capacity};
 ghost use Rattle.std.specs.Str.{chars};
 ghost use Rattle.cesu8_text.specs.Reading.{IsStrictReading, HasNoStrictReading, reading, lossy_length};
 ghost use Rattle.cesu8_decode.specs.Refusals.{OnNoText};
-ghost use Rattle.cesu8_bytes.specs.Internal.{flavor_of};
 
 mod characters;
 pub mod copy_or_write;
@@ -37,25 +36,22 @@ mod widths;
 mod windows;
 
 use crate::refusal::Refusal;
-use cesu8_bytes::options::{Flavor, Strictness};
+use cesu8_bytes::flavor::Flavor;
+use cesu8_bytes::options::Strictness;
 use cesu8_bytes::writers::exactly;
 pub use lengths::{decoded_len, lossy_len};
 use std::alloc::{AllocError, Allocator};
 use text::append_text;
 
 /// Returns the strict reading of the bytes, after one request for their length.
-pub fn decode_strict<A: Allocator>(
-    alloc: A,
-    flavor: Flavor,
-    bytes: &[u8],
-) -> Result<String<A>, Refusal>
+pub fn decode_strict<F: Flavor, A: Allocator>(alloc: A, bytes: &[u8]) -> Result<String<A>, Refusal>
     ensures text { IfOk result (λ text.
-        IsStrictReading (flavor_of flavor) bytes.now (chars (string_bytes text))) }
+        IsStrictReading F.flavor bytes.now (chars (string_bytes text))) }
     ensures capacity { IfOk result (λ text. string_capacity text ≡ length bytes.now) }
-    ensures invalid { OnNoText result (HasNoStrictReading (flavor_of flavor) bytes.now) }
+    ensures invalid { OnNoText result (HasNoStrictReading F.flavor bytes.now) }
 {
     let mut text = String::with_capacity(alloc, bytes.len()).map_err(Refusal::Memory)?;
-    append_text(flavor, Strictness::Strict, bytes, &mut text)?;
+    append_text::<F, A>(Strictness::Strict, bytes, &mut text)?;
     exactly(text, bytes.len()).map_err(Refusal::Memory)
 }
 
@@ -72,19 +68,18 @@ pub fn refuse<A: Allocator>(alloc: A, len: usize) -> Refusal {
 /// fit counts as refused. The text of a few bytes is decoded on the stack before that, so that it
 /// needs no pass for the length.
 #[inline(never)]
-pub fn decode_lossy<A: Allocator>(
+pub fn decode_lossy<F: Flavor, A: Allocator>(
     alloc: A,
-    flavor: Flavor,
     bytes: &[u8],
 ) -> Result<String<A>, AllocError>
     ensures text { IfOk result (λ text.
-        chars (string_bytes text) ≡ reading (flavor_of flavor) bytes.now) }
+        chars (string_bytes text) ≡ reading F.flavor bytes.now) }
     ensures capacity { IfOk result (λ text.
-        string_capacity text ≡ lossy_length (flavor_of flavor) bytes.now) }
+        string_capacity text ≡ lossy_length F.flavor bytes.now) }
 {
     let mut text = String::new(alloc);
     // Lossy reading accepts all bytes, so the only error is out of memory.
-    if let Err(_) = append_text(flavor, Strictness::Lossy, bytes, &mut text) {
+    if let Err(_) = append_text::<F, A>(Strictness::Lossy, bytes, &mut text) {
         return Err(AllocError);
     }
     let len = text.as_str().len();

@@ -20,7 +20,7 @@ ghost use Rattle.cesu8_decode.specs.DecodedLanes.{AreCodesNear, AreShufflesOfFou
 use super::packing::{Parts, ROOM, WIDEST, highest_bits, store};
 use super::places::{BLOCK, Codes, PAIR, REACH, THREE, equal, look_up};
 use cesu8_bytes::Rows;
-use cesu8_bytes::null_form::NullForm;
+use cesu8_bytes::flavor::{Flavor, nulls};
 use std::simd::prelude::*;
 
 /// The first byte of the UTF-8 of a surrogate pair, by the lower half of the pair's second byte.
@@ -54,7 +54,7 @@ pub struct Block {
 /// Writes what becomes of the first `count` bytes of a block, which follow `at` bytes of the window
 /// and five more.
 #[inline(always)]
-pub fn write_block<N: NullForm>(
+pub fn write_block<F: Flavor>(
     window: &[u8],
     codes: &Codes,
     at: usize,
@@ -65,19 +65,19 @@ pub fn write_block<N: NullForm>(
 ) -> Block
     requires count { count ≤ BLOCK }
     requires window { at + REACH ≤ length window.now }
-    requires codes { AreCodesNear N.flavor window.now at codes.now }
+    requires codes { AreCodesNear F.flavor window.now at codes.now }
     requires rows { AreShufflesOfFour rows.now }
     requires room { end + ROOM ≤ length out.old }
     ensures bytes { take result.end out.new
-        ≡ take end out.old ++ decoded N.flavor window.now at count }
+        ≡ take end out.old ++ decoded F.flavor window.now at count }
     ensures damaged { IsTrue result.is_damaged → (i : ℕ) × (at ≤ i) × (i < at + count)
-        × (is_damaged_at N.flavor window.now i ≡ true) }
+        × (is_damaged_at F.flavor window.now i ≡ true) }
     ensures whole { result.is_damaged ≡ false → (i : ℕ) → at ≤ i → i < at + count
-        → is_damaged_at N.flavor window.now i ≡ false }
+        → is_damaged_at F.flavor window.now i ≡ false }
     ensures end { (end ≤ result.end) × (result.end ≤ end + WIDEST * BLOCK) }
     ensures len { length out.new ≡ length out.old }
 {
-    let parts = parts_at::<N>(window, codes, at, count);
+    let parts = parts_at::<F>(window, codes, at, count);
     let is_damaged = highest_bits(parts.damaged) != 0;
     Block {
         end: store(parts, rows, out, end),
@@ -88,20 +88,20 @@ pub fn write_block<N: NullForm>(
 /// Returns what becomes of the first `count` of the 32 bytes that follow `at` bytes of the window
 /// and five more. The others go.
 #[inline(always)]
-fn parts_at<N: NullForm>(window: &[u8], codes: &Codes, at: usize, count: usize) -> Parts
+fn parts_at<F: Flavor>(window: &[u8], codes: &Codes, at: usize, count: usize) -> Parts
     requires count { count ≤ BLOCK }
     requires window { at + REACH ≤ length window.now }
-    requires codes { AreCodesNear N.flavor window.now at codes.now }
+    requires codes { AreCodesNear F.flavor window.now at codes.now }
     ensures written { written_lanes result.gone result.damaged result.bytes
-        ≡ decoded N.flavor window.now at count }
+        ≡ decoded F.flavor window.now at count }
     ensures damaged { map is_high result.damaged
-        ≡ map (is_damaged_at N.flavor window.now) (range_with_len at count)
+        ≡ map (is_damaged_at F.flavor window.now) (range_with_len at count)
         ++ replicate (BLOCK - count) false }
 {
     Parts {
         bytes: changed_bytes(window, codes, at),
         gone: gone(codes, count),
-        damaged: damaged::<N>(window, codes, at, count),
+        damaged: damaged::<F>(window, codes, at, count),
     }
 }
 
@@ -120,12 +120,12 @@ fn gone(codes: &Codes, count: usize) -> u8x32
 
 /// Marks, with the highest bit, those of the first `count` bytes that no encoded character covers.
 #[inline(always)]
-fn damaged<N: NullForm>(window: &[u8], codes: &Codes, at: usize, count: usize) -> u8x32
+fn damaged<F: Flavor>(window: &[u8], codes: &Codes, at: usize, count: usize) -> u8x32
     requires count { count ≤ BLOCK }
     requires window { at + REACH ≤ length window.now }
-    requires codes { AreCodesNear N.flavor window.now at codes.now }
+    requires codes { AreCodesNear F.flavor window.now at codes.now }
     ensures { map is_high result
-        ≡ map (is_damaged_at N.flavor window.now) (range_with_len at count)
+        ≡ map (is_damaged_at F.flavor window.now) (range_with_len at count)
         ++ replicate (BLOCK - count) false }
 {
     let pair = u8x32::splat(PAIR);
@@ -135,7 +135,7 @@ fn damaged<N: NullForm>(window: &[u8], codes: &Codes, at: usize, count: usize) -
     let alone = equal(near | of_three | of_pair, 0);
     // A byte below 80 is a character of its own, but 00 is none in MUTF-8.
     let byte = u8x32::from_slice(&window[at + 5..]);
-    alone & (byte | N::nulls(byte)) & (behind(count as u8) ^ u8x32::splat(0xFF))
+    alone & (byte | nulls::<F>(byte)) & (behind(count as u8) ^ u8x32::splat(0xFF))
 }
 
 /// Returns all ones in the lanes from `count` on, and otherwise zeros.

@@ -1,15 +1,13 @@
 //! The first bytes as a piece of text: joined, or written by places.
 
-ghost use Rattle.std.specs.Prelude.{◌≡◌, ◌+◌, ◌*◌, ◌<◌, ◌≤◌, length, take, replicate};
+ghost use Rattle.std.specs.Prelude.{◌≡◌, ◌+◌, ◌*◌, ◌<◌, ◌≤◌, length, take};
 ghost use Rattle.std.specs.Str.{IsUtf8};
-ghost use Rattle.cesu8_bytes.specs.Internal.{flavor_of};
-ghost use Rattle.cesu8_decode.specs.Decoding.{ReadsFirst, IsNextPiece};
+ghost use Rattle.cesu8_decode.specs.Decoding.{IsNextPiece};
 
 use super::packing::WIDEST;
-use super::windows::{AROUND, Decoded, LEAST, SPARED, write_window};
+use super::windows::{Decoded, LEAST, SPARED, write_window};
+use cesu8_bytes::flavor::Flavor;
 use cesu8_bytes::joining::Room;
-use cesu8_bytes::null_form::{OneByteNull, TwoByteNull};
-use cesu8_bytes::options::Flavor;
 use cesu8_bytes::window::{Joined, TOO_FEW, read_window};
 use simdutf8::basic;
 
@@ -31,8 +29,7 @@ pub enum Piece<'a> {
 /// Reads the next bytes: as a joined window if that yields text, and else by places in a window of
 /// this length. After damage joining mostly yields none.
 #[inline(never)]
-pub fn next_piece<'a, const LEN: usize>(
-    flavor: Flavor,
+pub fn next_piece<'a, F: Flavor, const LEN: usize>(
     bytes: &[u8],
     joins: bool,
     room: &'a mut Room,
@@ -41,37 +38,15 @@ pub fn next_piece<'a, const LEN: usize>(
     requires some { 0 < length bytes.now }
     requires window { LEAST ≤ LEN }
     requires written { WIDEST * LEN ≤ length written.old + SPARED }
-    ensures { IsNextPiece (flavor_of flavor) bytes.now result written.new }
+    ensures { IsNextPiece F.flavor bytes.now result written.new }
 {
     if joins && bytes.len() > TOO_FEW {
-        if let Some(joined) = read_window(flavor, bytes, room) {
+        if let Some(joined) = read_window::<F>(bytes, room) {
             return Piece::Joined(joined);
         }
     }
     let mut window = [0; LEN];
-    Piece::Written(write_by_places(flavor, bytes, &mut window, written))
-}
-
-/// Writes what becomes of the first bytes.
-#[inline(always)]
-pub fn write_by_places(
-    flavor: Flavor,
-    bytes: &[u8],
-    window: &mut [u8],
-    written: &mut [u8],
-) -> Decoded
-    requires window { LEAST ≤ length window.old }
-    requires zeros { window.old ≡ replicate (length window.old) 0 }
-    requires written { WIDEST * length window.old ≤ length written.old + SPARED }
-    ensures first { ReadsFirst (flavor_of flavor) bytes.now
-        result.read (take result.end written.new) result.is_damaged }
-    ensures all { length bytes.now + AROUND ≤ length window.old → result.read ≡ length bytes.now }
-    ensures end { result.end + TESTED ≤ length written.new }
-{
-    match flavor {
-        Flavor::Cesu8 => write_window::<OneByteNull>(bytes, window, written),
-        Flavor::Mutf8 => write_window::<TwoByteNull>(bytes, window, written),
-    }
+    Piece::Written(write_window::<F>(bytes, &mut window, written))
 }
 
 /// Returns the text that is written up to `end`. A longer one is tested with zeros after it, so

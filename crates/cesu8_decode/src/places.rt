@@ -10,7 +10,7 @@ ghost use Rattle.cesu8_bytes.specs.Kernels.{mask};
 ghost use Rattle.cesu8_decode.specs.DecodedPlaces.{continues};
 ghost use Rattle.cesu8_decode.specs.DecodedLanes.{code_of_two, start_code, AreFiveCodes, AreCodesNear};
 
-use cesu8_bytes::null_form::NullForm;
+use cesu8_bytes::flavor::{Flavor, second_of_null};
 use std::simd::prelude::*;
 
 /// The codes of characters of two bytes.
@@ -86,16 +86,16 @@ const LEAD_OF_THREE: u8 = 0xE0;
 /// Returns the codes of the 32 positions from `at` on. If no byte can lead others, they are zeros. If
 /// none can lead two others, two bytes decide.
 #[inline(always)]
-pub fn starts<N: NullForm>(bytes: &[u8], at: usize) -> u8x32
+pub fn starts<F: Flavor>(bytes: &[u8], at: usize) -> u8x32
     requires { at + REACH ≤ length bytes.now }
-    ensures { result ≡ map (start_code N.flavor bytes.now) (range_with_len at BLOCK) }
+    ensures { result ≡ map (start_code F.flavor bytes.now) (range_with_len at BLOCK) }
 {
     let first = u8x32::from_slice(&bytes[at..]);
     if first.simd_ge(u8x32::splat(LEAD)).to_bitmask() == 0 {
         return u8x32::splat(0);
     }
     let second = u8x32::from_slice(&bytes[at + 1..]);
-    let two = by_two::<N>(first, second);
+    let two = by_two::<F>(first, second);
     if first.simd_ge(u8x32::splat(LEAD_OF_THREE)).to_bitmask() == 0 {
         return two;
     }
@@ -134,14 +134,14 @@ pub fn near(before: u8x32, here: u8x32) -> Codes
 
 /// Returns what two bytes begin, if the others follow.
 #[inline(always)]
-fn by_two<N: NullForm>(first: u8x32, second: u8x32) -> u8x32
-    ensures { result ≡ zip2 (code_of_two N.flavor) first second }
+fn by_two<F: Flavor>(first: u8x32, second: u8x32) -> u8x32
+    ensures { result ≡ zip2 (code_of_two F.flavor) first second }
 {
     let four = u8x32::splat(4);
     look_up(BY_HIGH, first >> four)
         & look_up(BY_LOW, first)
         & look_up(BY_NEXT, second >> four)
-        & N::second_of_null(second)
+        & second_of_null::<F>(second)
 }
 
 /// Returns the entry of a table for the lower half of each lane.

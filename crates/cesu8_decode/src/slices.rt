@@ -9,7 +9,6 @@ ghost use Rattle.cesu8_text.specs.Encoding.{Flavor as AnyFlavor};
 ghost use Rattle.cesu8_text.specs.Reading.{reading, lossy_length};
 ghost use Rattle.cesu8_text.specs.Slices.{StandsAtFront};
 ghost use Rattle.cesu8_text.specs.Text.{utf8};
-ghost use Rattle.cesu8_bytes.specs.Internal.{flavor_of};
 ghost use Rattle.cesu8_bytes.specs.Puts.{PutsAnswer};
 ghost use Rattle.cesu8_decode.specs.Decoding.{ReadsAll};
 ghost use Rattle.cesu8_decode.specs.PutReadings.{PutsText, IsReadingOf};
@@ -18,15 +17,16 @@ use crate::characters::write_characters;
 use crate::damage::is_damaged;
 use crate::lengths::lossy_len;
 use crate::packing::WIDEST;
-use crate::piece::{Piece, next_piece, write_by_places};
+use crate::piece::{Piece, next_piece};
 use crate::refusal::{Unwritten, is_refused};
 use crate::way::{FEWEST, SHORT_WINDOW, Way, are_fewest, way_of};
 use crate::windows::{
     AROUND, Decoded, LEAST, LONG_ROOM, LONG_TEXT, MEDIUM_ROOM, MEDIUM_TEXT, SHORT_ROOM, SHORT_TEXT,
-    SPARED,
+    SPARED, write_window,
 };
+use cesu8_bytes::flavor::Flavor;
 use cesu8_bytes::joining::ROOM_LEN;
-use cesu8_bytes::options::{Flavor, Strictness};
+use cesu8_bytes::options::Strictness;
 use cesu8_bytes::writers::{NoRoom, copy_to_slice, put};
 
 // The lengths of buffers for the text of bytes that are read one character after another.
@@ -36,68 +36,64 @@ const CHARACTERS_TEXT: usize = WIDEST * SHORT_WINDOW;
 
 /// Writes the text of the bytes to a caller's buffer, if it fits.
 #[inline(never)]
-pub fn put_text(
-    flavor: Flavor,
+pub fn put_text<F: Flavor>(
     strictness: Strictness,
     bytes: &[u8],
     buf: &mut [u8],
 ) -> Result<usize, Unwritten>
     ensures { PutsText strictness
-        (IsReadingOf (flavor_of flavor) strictness bytes.now)
+        (IsReadingOf F.flavor strictness bytes.now)
         result buf.old buf.new }
 {
-    match way_of(flavor, strictness, bytes) {
-        Way::Characters => put_characters(flavor, strictness, bytes, buf),
-        Way::ShortWindow => put_window::<SHORT_ROOM, SHORT_TEXT>(flavor, strictness, bytes, buf),
-        Way::MediumWindow => put_window::<MEDIUM_ROOM, MEDIUM_TEXT>(flavor, strictness, bytes, buf),
-        Way::LongWindow => put_window::<LONG_ROOM, LONG_TEXT>(flavor, strictness, bytes, buf),
-        Way::JoinedWindow => put_joined(flavor, strictness, bytes, buf),
-        Way::Pieces => put_pieces(flavor, strictness, bytes, buf),
+    match way_of::<F>(strictness, bytes) {
+        Way::Characters => put_characters::<F>(strictness, bytes, buf),
+        Way::ShortWindow => put_window::<F, SHORT_ROOM, SHORT_TEXT>(strictness, bytes, buf),
+        Way::MediumWindow => put_window::<F, MEDIUM_ROOM, MEDIUM_TEXT>(strictness, bytes, buf),
+        Way::LongWindow => put_window::<F, LONG_ROOM, LONG_TEXT>(strictness, bytes, buf),
+        Way::JoinedWindow => put_joined::<F>(strictness, bytes, buf),
+        Way::Pieces => put_pieces::<F>(strictness, bytes, buf),
         Way::Refused => Err(Unwritten::NoText),
     }
 }
 
 /// Writes the text of a few bytes, one character after another.
 #[inline(never)]
-pub fn put_characters(
-    flavor: Flavor,
+pub fn put_characters<F: Flavor>(
     strictness: Strictness,
     bytes: &[u8],
     buf: &mut [u8],
 ) -> Result<usize, Unwritten>
     requires { length bytes.now ≤ SHORT_WINDOW }
     ensures { PutsText strictness
-        (IsReadingOf (flavor_of flavor) strictness bytes.now)
+        (IsReadingOf F.flavor strictness bytes.now)
         result buf.old buf.new }
 {
     if are_fewest(bytes) {
-        return put_characters_in::<FEWEST_TEXT>(flavor, strictness, bytes, buf);
+        return put_characters_in::<F, FEWEST_TEXT>(strictness, bytes, buf);
     }
-    put_characters_in::<CHARACTERS_TEXT>(flavor, strictness, bytes, buf)
+    put_characters_in::<F, CHARACTERS_TEXT>(strictness, bytes, buf)
 }
 
 #[inline(always)]
-fn put_characters_in<const WRITTEN: usize>(
-    flavor: Flavor,
+fn put_characters_in<F: Flavor, const WRITTEN: usize>(
     strictness: Strictness,
     bytes: &[u8],
     buf: &mut [u8],
 ) -> Result<usize, Unwritten>
     requires { (WIDEST * length bytes.now ≤ WRITTEN) × (WRITTEN ≤ CHARACTERS_TEXT) }
     ensures { PutsText strictness
-        (IsReadingOf (flavor_of flavor) strictness bytes.now)
+        (IsReadingOf F.flavor strictness bytes.now)
         result buf.old buf.new }
 {
     let mut written = [0; WRITTEN];
-    let decoded = write_characters(flavor, strictness, bytes, &mut written);
+    let decoded = write_characters::<F>(strictness, bytes, &mut written);
     put_decoded(strictness, decoded, &written, buf)
 }
 
 /// Writes the text of the bytes of one window, in buffers of these lengths. It is not inlined, so
 /// that they are made only when it is called.
 #[inline(never)]
-fn put_window<const LEN: usize, const WRITTEN: usize>(
-    flavor: Flavor,
+fn put_window<F: Flavor, const LEN: usize, const WRITTEN: usize>(
     strictness: Strictness,
     bytes: &[u8],
     buf: &mut [u8],
@@ -105,17 +101,18 @@ fn put_window<const LEN: usize, const WRITTEN: usize>(
     requires window { (length bytes.now + AROUND ≤ LEN) × (LEAST ≤ LEN) }
     requires written { (WIDEST * LEN ≤ WRITTEN + SPARED) × (WRITTEN ≤ LONG_TEXT) }
     ensures { PutsText strictness
-        (IsReadingOf (flavor_of flavor) strictness bytes.now)
+        (IsReadingOf F.flavor strictness bytes.now)
         result buf.old buf.new }
 {
     let mut window = [0; LEN];
     let mut written = [0; WRITTEN];
-    let decoded = write_by_places(flavor, bytes, &mut window, &mut written);
+    let decoded = write_window::<F>(bytes, &mut window, &mut written);
     put_decoded(strictness, decoded, &written, buf)
 }
 
-/// Copies the text that was decoded of all bytes, unless damage in them is refused.
-#[inline(always)]
+/// Copies the text that was decoded of all bytes, unless damage in them is refused. It is not
+/// inlined, since buffers of each length need it.
+#[inline(never)]
 fn put_decoded(
     strictness: Strictness,
     decoded: Decoded,
@@ -138,29 +135,28 @@ fn put_decoded(
 /// Writes the text of a joined window and of a few bytes behind it. They are joined and decoded on
 /// the stack, so no pass looks for damage first.
 #[inline(never)]
-fn put_joined(
-    flavor: Flavor,
+fn put_joined<F: Flavor>(
     strictness: Strictness,
     bytes: &[u8],
     buf: &mut [u8],
 ) -> Result<usize, Unwritten>
     requires { 0 < length bytes.now }
     ensures { PutsText strictness
-        (IsReadingOf (flavor_of flavor) strictness bytes.now)
+        (IsReadingOf F.flavor strictness bytes.now)
         result buf.old buf.new }
 {
     let mut room = [0; ROOM_LEN];
     let mut written = [0; SHORT_TEXT];
-    let piece = next_piece::<SHORT_ROOM>(flavor, bytes, true, &mut room, &mut written);
+    let piece = next_piece::<F, SHORT_ROOM>(bytes, true, &mut room, &mut written);
     let Piece::Joined(joined) = piece else {
-        return put_pieces(flavor, strictness, bytes, buf);
+        return put_pieces::<F>(strictness, bytes, buf);
     };
     let rest = &bytes[joined.read..];
     if rest.len() > SHORT_WINDOW {
-        return put_pieces(flavor, strictness, bytes, buf);
+        return put_pieces::<F>(strictness, bytes, buf);
     }
     let mut window = [0; SHORT_ROOM];
-    let decoded = write_by_places(flavor, rest, &mut window, &mut written);
+    let decoded = write_window::<F>(rest, &mut window, &mut written);
     if is_refused(strictness, decoded.is_damaged) {
         return Err(Unwritten::NoText);
     }
@@ -183,25 +179,24 @@ fn copy_two(first: &[u8], second: &[u8], buf: &mut [u8]) -> Result<usize, NoRoom
 /// Writes the text of still more bytes, piece by piece, in its final position. First passes find
 /// whether there is one, and how long it is.
 #[inline(never)]
-fn put_pieces(
-    flavor: Flavor,
+fn put_pieces<F: Flavor>(
     strictness: Strictness,
     bytes: &[u8],
     buf: &mut [u8],
 ) -> Result<usize, Unwritten>
     ensures { PutsText strictness
-        (IsReadingOf (flavor_of flavor) strictness bytes.now)
+        (IsReadingOf F.flavor strictness bytes.now)
         result buf.old buf.new }
 {
     match strictness {
         Strictness::Strict => {
-            if is_damaged(flavor, bytes) {
+            if is_damaged::<F>(bytes) {
                 return Err(Unwritten::NoText);
             }
-            put_undamaged(flavor, bytes, buf).map_err(Unwritten::NoRoom)
+            put_undamaged::<F>(bytes, buf).map_err(Unwritten::NoRoom)
         }
-        Strictness::Lossy => match lossy_len(flavor, bytes) {
-            Some(len) => put_of_length(flavor, bytes, len, buf).map_err(Unwritten::NoRoom),
+        Strictness::Lossy => match lossy_len::<F>(bytes) {
+            Some(len) => put_of_length::<F>(bytes, len, buf).map_err(Unwritten::NoRoom),
             None => Err(Unwritten::TooLong),
         },
     }
@@ -209,35 +204,35 @@ fn put_pieces(
 
 /// Writes the reading of bytes that are not damaged, if it fits.
 #[tactic(auto, unfolding(cesu8_text::specs::Reading::lossy_length))]
-fn put_undamaged(flavor: Flavor, bytes: &[u8], buf: &mut [u8]) -> Result<usize, NoRoom>
-    requires { lossy_length (flavor_of flavor) bytes.now ≤ length bytes.now }
-    ensures { PutsAnswer (utf8 (reading (flavor_of flavor) bytes.now)) result buf.old buf.new }
+fn put_undamaged<F: Flavor>(bytes: &[u8], buf: &mut [u8]) -> Result<usize, NoRoom>
+    requires { lossy_length F.flavor bytes.now ≤ length bytes.now }
+    ensures { PutsAnswer (utf8 (reading F.flavor bytes.now)) result buf.old buf.new }
 {
     if bytes.len() <= buf.len() {
-        return Ok(write_reading(flavor, bytes, buf));
+        return Ok(write_reading::<F>(bytes, buf));
     }
-    let len = lossy_len(flavor, bytes).unwrap();
-    put_of_length(flavor, bytes, len, buf)
+    let len = lossy_len::<F>(bytes).unwrap();
+    put_of_length::<F>(bytes, len, buf)
 }
 
 /// Writes the lossy reading of the bytes, which has this length, if it fits.
 #[tactic(auto, unfolding(cesu8_text::specs::Reading::lossy_length))]
-fn put_of_length(flavor: Flavor, bytes: &[u8], len: usize, buf: &mut [u8]) -> Result<usize, NoRoom>
-    requires { len ≡ lossy_length (flavor_of flavor) bytes.now }
-    ensures { PutsAnswer (utf8 (reading (flavor_of flavor) bytes.now)) result buf.old buf.new }
+fn put_of_length<F: Flavor>(bytes: &[u8], len: usize, buf: &mut [u8]) -> Result<usize, NoRoom>
+    requires { len ≡ lossy_length F.flavor bytes.now }
+    ensures { PutsAnswer (utf8 (reading F.flavor bytes.now)) result buf.old buf.new }
 {
     if buf.len() < len {
         return Err(NoRoom { needed: len });
     }
-    Ok(write_reading(flavor, bytes, buf))
+    Ok(write_reading::<F>(bytes, buf))
 }
 
 /// Writes the lossy reading of the bytes at the front of a slice that is long enough, and returns
 /// its length.
 #[inline(never)]
-fn write_reading(flavor: Flavor, bytes: &[u8], out: &mut [u8]) -> usize
-    requires { lossy_length (flavor_of flavor) bytes.now ≤ length out.old }
-    ensures { StandsAtFront (utf8 (reading (flavor_of flavor) bytes.now))
+fn write_reading<F: Flavor>(bytes: &[u8], out: &mut [u8]) -> usize
+    requires { lossy_length F.flavor bytes.now ≤ length out.old }
+    ensures { StandsAtFront (utf8 (reading F.flavor bytes.now))
         result out.old out.new }
 {
     let mut room = [0; ROOM_LEN];
@@ -246,7 +241,7 @@ fn write_reading(flavor: Flavor, bytes: &[u8], out: &mut [u8]) -> usize
     let mut end = 0;
     let mut joins = true;
     while !rest.is_empty() {
-        match next_piece::<LONG_ROOM>(flavor, rest, joins, &mut room, &mut written) {
+        match next_piece::<F, LONG_ROOM>(rest, joins, &mut room, &mut written) {
             Piece::Joined(joined) => {
                 rest = &rest[joined.read..];
                 end = put(joined.text.as_bytes(), out, end);

@@ -8,7 +8,7 @@ ghost use Rattle.cesu8_decode.specs.DecodedPlaces.{total_weight, weight_between}
 ghost use Rattle.cesu8_decode.specs.DecodedLanes.{weight_at, TellWeights};
 
 use super::places::{BEHIND, REACH, look_up, starts};
-use cesu8_bytes::null_form::NullForm;
+use cesu8_bytes::flavor::{Flavor, nulls};
 use std::simd::prelude::*;
 
 /// The weight of a position.
@@ -40,30 +40,30 @@ pub const BLOCKS: usize = 16;
 /// Returns the weight of the first positions, of at most so many blocks or of all if they are few,
 /// and the bytes from the next position on.
 #[inline(always)]
-pub fn sum_first<N: NullForm, W: Weight>(bytes: &[u8], most: usize) -> (usize, &[u8])
+pub fn sum_first<F: Flavor, W: Weight>(bytes: &[u8], most: usize) -> (usize, &[u8])
     requires some { 0 < length bytes.now }
     requires blocks { (0 < most) × (most ≤ BLOCKS) }
     ensures less { length result.1.now < length bytes.now }
-    ensures sum { result.0 + total_weight W.weight N.flavor result.1.now
-        ≡ total_weight W.weight N.flavor bytes.now }
+    ensures sum { result.0 + total_weight W.weight F.flavor result.1.now
+        ≡ total_weight W.weight F.flavor bytes.now }
 {
     if bytes.len() < REACH {
-        return (sum_of_few::<N, W>(bytes), &[]);
+        return (sum_of_few::<F, W>(bytes), &[]);
     }
     let count = ((bytes.len() - BEHIND) / 32).min(most);
-    (sum_of_blocks::<N, W>(bytes, count), &bytes[32 * count..])
+    (sum_of_blocks::<F, W>(bytes, count), &bytes[32 * count..])
 }
 
 /// Returns the weight of the positions of the first blocks.
 #[inline(always)]
-fn sum_of_blocks<N: NullForm, W: Weight>(bytes: &[u8], count: usize) -> usize
+fn sum_of_blocks<F: Flavor, W: Weight>(bytes: &[u8], count: usize) -> usize
     requires count { count ≤ BLOCKS }
     requires bytes { 32 * count + BEHIND ≤ length bytes.now }
-    ensures { result ≡ weight_between W.weight N.flavor bytes.now 0 (32 * count) }
+    ensures { result ≡ weight_between W.weight F.flavor bytes.now 0 (32 * count) }
 {
     let mut lanes = u8x32::splat(0);
     for i in 0..count {
-        lanes = lanes.strict_add(weight_lanes::<N, W>(bytes, 32 * i));
+        lanes = lanes.strict_add(weight_lanes::<F, W>(bytes, 32 * i));
     }
     lane_sum(lanes)
 }
@@ -71,13 +71,13 @@ fn sum_of_blocks<N: NullForm, W: Weight>(bytes: &[u8], count: usize) -> usize
 /// Returns the weight of the positions of a few bytes. They are followed by FF, which begins
 /// nothing and is in no character.
 #[inline(always)]
-fn sum_of_few<N: NullForm, W: Weight>(bytes: &[u8]) -> usize
+fn sum_of_few<F: Flavor, W: Weight>(bytes: &[u8]) -> usize
     requires { length bytes.now < REACH }
-    ensures { result ≡ total_weight W.weight N.flavor bytes.now }
+    ensures { result ≡ total_weight W.weight F.flavor bytes.now }
 {
     let mut padded = [0xFF; 32 + REACH];
     padded[..bytes.len()].copy_from_slice(bytes);
-    sum_of_blocks::<N, W>(&padded, 2)
+    sum_of_blocks::<F, W>(&padded, 2)
 }
 
 /// Returns the sum of the lanes.
@@ -90,15 +90,15 @@ fn lane_sum(lanes: u8x32) -> usize
 
 /// Returns the weights of the 32 positions from `at` on.
 #[inline(always)]
-fn weight_lanes<N: NullForm, W: Weight>(bytes: &[u8], at: usize) -> u8x32
+fn weight_lanes<F: Flavor, W: Weight>(bytes: &[u8], at: usize) -> u8x32
     requires { at + REACH ≤ length bytes.now }
-    ensures { result ≡ map (weight_at W.weight N.flavor bytes.now) (range_with_len at 32) }
+    ensures { result ≡ map (weight_at W.weight F.flavor bytes.now) (range_with_len at 32) }
 {
     let weights = W::weights();
-    let codes = starts::<N>(bytes, at);
+    let codes = starts::<F>(bytes, at);
     let byte = u8x32::from_slice(&bytes[at..]);
     // A byte below 80 is a character of its own, but 00 is none in MUTF-8.
-    let of_one = (byte | N::nulls(byte))
+    let of_one = (byte | nulls::<F>(byte))
         .simd_lt(u8x32::splat(0x80))
         .select(u8x32::splat(weights.of_one), u8x32::splat(0));
     of_one | look_up(weights.by_low, codes) | look_up(weights.by_high, codes >> u8x32::splat(4))

@@ -3,22 +3,22 @@
 ghost use Rattle.std.specs.Prelude.{◌≡◌, ◌+◌, ◌*◌, ◌≤◌, ◌++◌, length, take, false, true, OnOk};
 ghost use Rattle.std.specs.Str.{IsUtf8};
 ghost use Rattle.std.specs.String.{string_bytes};
-ghost use Rattle.cesu8_bytes.specs.Internal.{flavor_of};
 ghost use Rattle.cesu8_decode.specs.Decoding.{AppendsText, refuses};
 ghost use Rattle.cesu8_decode.specs.Refusals.{OnNoText};
 
 use crate::characters::write_characters;
 use crate::lengths::lossy_len;
 use crate::packing::WIDEST;
-use crate::piece::{Piece, TESTED, next_piece, text_of, write_by_places};
+use crate::piece::{Piece, TESTED, next_piece, text_of};
 use crate::refusal::{Refusal, is_refused};
 use crate::way::{SHORT_WINDOW, Way, way_of};
 use crate::windows::{
     AROUND, Decoded, LEAST, LONG_ROOM, LONG_TEXT, MEDIUM_ROOM, MEDIUM_TEXT, SHORT_ROOM, SHORT_TEXT,
-    SPARED,
+    SPARED, write_window,
 };
+use cesu8_bytes::flavor::Flavor;
 use cesu8_bytes::joining::ROOM_LEN;
-use cesu8_bytes::options::{Flavor, Strictness};
+use cesu8_bytes::options::Strictness;
 use std::alloc::{AllocError, Allocator};
 
 /// The length of a buffer for the text of bytes that are read one character after another.
@@ -26,90 +26,84 @@ const CHARACTERS_TEXT: usize = WIDEST * SHORT_WINDOW + TESTED;
 
 /// Appends the text of the bytes.
 #[inline(always)]
-pub fn append_text<A: Allocator>(
-    flavor: Flavor,
+pub fn append_text<F: Flavor, A: Allocator>(
     strictness: Strictness,
     bytes: &[u8],
     out: &mut String<A>,
 ) -> Result<(), Refusal>
-    ensures { AppendsText (flavor_of flavor) strictness bytes.now
+    ensures { AppendsText F.flavor strictness bytes.now
         result (string_bytes out.old) (string_bytes out.new) }
 {
-    match way_of(flavor, strictness, bytes) {
-        Way::Characters => append_characters(flavor, strictness, bytes, out),
+    match way_of::<F>(strictness, bytes) {
+        Way::Characters => append_characters::<F, A>(strictness, bytes, out),
         Way::ShortWindow => {
-            append_window::<SHORT_ROOM, SHORT_TEXT, A>(flavor, strictness, bytes, out)
+            append_window::<F, SHORT_ROOM, SHORT_TEXT, A>(strictness, bytes, out)
         }
         Way::MediumWindow => {
-            append_window::<MEDIUM_ROOM, MEDIUM_TEXT, A>(flavor, strictness, bytes, out)
+            append_window::<F, MEDIUM_ROOM, MEDIUM_TEXT, A>(strictness, bytes, out)
         }
-        Way::LongWindow => {
-            append_window::<LONG_ROOM, LONG_TEXT, A>(flavor, strictness, bytes, out)
-        }
+        Way::LongWindow => { append_window::<F, LONG_ROOM, LONG_TEXT, A>(strictness, bytes, out) }
         Way::JoinedWindow => {
-            append_pieces::<MEDIUM_ROOM, MEDIUM_TEXT, A>(flavor, strictness, bytes, out)
+            append_pieces::<F, MEDIUM_ROOM, MEDIUM_TEXT, A>(strictness, bytes, out)
         }
-        Way::Pieces => append_pieces::<LONG_ROOM, LONG_TEXT, A>(flavor, strictness, bytes, out),
+        Way::Pieces => append_pieces::<F, LONG_ROOM, LONG_TEXT, A>(strictness, bytes, out),
         Way::Refused => Err(Refusal::NoText),
     }
 }
 
 #[inline(never)]
-fn append_characters<A: Allocator>(
-    flavor: Flavor,
+fn append_characters<F: Flavor, A: Allocator>(
     strictness: Strictness,
     bytes: &[u8],
     out: &mut String<A>,
 ) -> Result<(), Refusal>
     requires { length bytes.now ≤ SHORT_WINDOW }
-    ensures { AppendsText (flavor_of flavor) strictness bytes.now
+    ensures { AppendsText F.flavor strictness bytes.now
         result (string_bytes out.old) (string_bytes out.new) }
 {
     let mut written = [0; CHARACTERS_TEXT];
-    let decoded = write_characters(flavor, strictness, bytes, &mut written);
+    let decoded = write_characters::<F>(strictness, bytes, &mut written);
     append_written(strictness, decoded, &mut written, out)
 }
 
 /// Appends the text of the bytes of one window, in buffers of these lengths. It is not inlined, so
 /// that they are made only when it is called.
 #[inline(never)]
-fn append_window<const LEN: usize, const WRITTEN: usize, A: Allocator>(
-    flavor: Flavor,
+fn append_window<F: Flavor, const LEN: usize, const WRITTEN: usize, A: Allocator>(
     strictness: Strictness,
     bytes: &[u8],
     out: &mut String<A>,
 ) -> Result<(), Refusal>
     requires window { (length bytes.now + AROUND ≤ LEN) × (LEAST ≤ LEN) }
     requires written { (WIDEST * LEN ≤ WRITTEN + SPARED) × (WRITTEN ≤ LONG_TEXT) }
-    ensures { AppendsText (flavor_of flavor) strictness bytes.now
+    ensures { AppendsText F.flavor strictness bytes.now
         result (string_bytes out.old) (string_bytes out.new) }
 {
     let mut window = [0; LEN];
     let mut written = [0; WRITTEN];
-    let decoded = write_by_places(flavor, bytes, &mut window, &mut written);
+    let decoded = write_window::<F>(bytes, &mut window, &mut written);
     append_written(strictness, decoded, &mut written, out)
 }
 
 /// Appends the text of more bytes piece by piece, in buffers of these lengths for those by places.
 #[inline(never)]
-fn append_pieces<const LEN: usize, const WRITTEN: usize, A: Allocator>(
-    flavor: Flavor,
+fn append_pieces<F: Flavor, const LEN: usize, const WRITTEN: usize, A: Allocator>(
     strictness: Strictness,
     bytes: &[u8],
     out: &mut String<A>,
 ) -> Result<(), Refusal>
     requires window { LEAST ≤ LEN }
     requires written { (WIDEST * LEN ≤ WRITTEN + SPARED) × (WRITTEN ≤ LONG_TEXT) }
-    ensures { AppendsText (flavor_of flavor) strictness bytes.now
+    ensures { AppendsText F.flavor strictness bytes.now
         result (string_bytes out.old) (string_bytes out.new) }
 {
-    request(flavor, strictness, bytes, out)?;
+    request::<F, A>(strictness, bytes, out)?;
     let mut room = [0; ROOM_LEN];
     let mut written = [0; WRITTEN];
     let mut rest = bytes;
     let mut joins = true;
     while !rest.is_empty() {
-        match next_piece::<LEN>(flavor, rest, joins, &mut room, &mut written) {
+        match next_piece::<F, LEN>(rest, joins, &mut room, &mut written) {
             Piece::Joined(joined) => {
                 rest = &rest[joined.read..];
                 append(joined.text, out)?;
@@ -126,8 +120,7 @@ fn append_pieces<const LEN: usize, const WRITTEN: usize, A: Allocator>(
 
 /// Requests memory for the text of all pieces, if the caller has not done so. A length that does
 /// not fit counts as refused.
-fn request<A: Allocator>(
-    flavor: Flavor,
+fn request<F: Flavor, A: Allocator>(
     strictness: Strictness,
     bytes: &[u8],
     out: &mut String<A>,
@@ -137,7 +130,7 @@ fn request<A: Allocator>(
 {
     match strictness {
         Strictness::Strict => Ok(()),
-        Strictness::Lossy => match lossy_len(flavor, bytes) {
+        Strictness::Lossy => match lossy_len::<F>(bytes) {
             Some(len) => out.reserve_exact(len).map_err(Refusal::Memory),
             None => Err(Refusal::Memory(AllocError)),
         },

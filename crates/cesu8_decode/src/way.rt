@@ -32,13 +32,13 @@
 //! block. Before the decoder, `cesu8_bytes` takes the first looks.
 
 ghost use Rattle.std.specs.Prelude.{◌<◌, ◌≤◌, length, IsTrue};
-ghost use Rattle.cesu8_bytes.specs.Internal.{flavor_of};
 ghost use Rattle.cesu8_decode.specs.Ways.{IsWayOf};
 
 use super::damage::is_damaged_in_front;
-use cesu8_bytes::implementation::class::NullHigh;
+use cesu8_bytes::flavor::Flavor;
+use cesu8_bytes::implementation::class::{Either, High, Null};
 use cesu8_bytes::implementation::short::count_in_ends;
-use cesu8_bytes::options::{Flavor, Strictness};
+use cesu8_bytes::options::Strictness;
 
 /// Which way bytes are decoded.
 #[derive(Clone, Copy)]
@@ -77,10 +77,13 @@ const FEWER_OTHERS: usize = 6;
 /// Below this length the test for UTF-8 goes byte by byte.
 const TESTED_BY_VECTORS: usize = 64;
 
+/// 00, or 80 (hexadecimal) or more.
+type NullOrHigh = Either<Null, High>;
+
 /// Returns which way the bytes go.
 #[inline(always)]
-pub fn way_of(flavor: Flavor, strictness: Strictness, bytes: &[u8]) -> Way
-    ensures { IsWayOf (flavor_of flavor) strictness bytes.now result }
+pub fn way_of<F: Flavor>(strictness: Strictness, bytes: &[u8]) -> Way
+    ensures { IsWayOf F.flavor strictness bytes.now result }
 {
     let is_strict = matches!(strictness, Strictness::Strict);
     if is_strict && bytes.len() <= FEW_STRICT || has_few_others(bytes) {
@@ -92,7 +95,7 @@ pub fn way_of(flavor: Flavor, strictness: Strictness, bytes: &[u8]) -> Way
     if bytes.len() <= MEDIUM_WINDOW {
         return Way::MediumWindow;
     }
-    if is_strict && is_damaged_in_front(flavor, bytes) {
+    if is_strict && is_damaged_in_front::<F>(bytes) {
         return Way::Refused;
     }
     if bytes.len() > LONG_WINDOW {
@@ -132,16 +135,16 @@ fn has_few_others(bytes: &[u8]) -> bool
         return true;
     }
     if len <= 16 {
-        return count_in_ends::<NullHigh, 8>(bytes) <= OTHERS;
+        return count_in_ends::<NullOrHigh, 8>(bytes) <= OTHERS;
     }
     if len <= FEW_STRICT {
-        return count_in_ends::<NullHigh, 16>(bytes) <= OTHERS;
+        return count_in_ends::<NullOrHigh, 16>(bytes) <= OTHERS;
     }
     if len <= 32 {
-        return count_in_ends::<NullHigh, 16>(bytes) <= FEWER_OTHERS;
+        return count_in_ends::<NullOrHigh, 16>(bytes) <= FEWER_OTHERS;
     }
     if len <= 64 {
-        return count_in_ends::<NullHigh, 32>(bytes) <= FEWER_OTHERS;
+        return count_in_ends::<NullOrHigh, 32>(bytes) <= FEWER_OTHERS;
     }
-    len <= SHORT_WINDOW && count_in_ends::<NullHigh, 64>(bytes) <= FEWER_OTHERS
+    len <= SHORT_WINDOW && count_in_ends::<NullOrHigh, 64>(bytes) <= FEWER_OTHERS
 }

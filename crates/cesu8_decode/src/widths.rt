@@ -3,30 +3,29 @@
 ghost use Rattle.std.specs.Prelude.{◌≡◌, ◌<◌, ◌≤◌, length};
 ghost use Rattle.cesu8_decode.specs.DecodedPlaces.{front_width, IsFrontOf, continues, one_at, two_at, fits_three, three_at};
 ghost use Rattle.cesu8_bytes.specs.Joining.{null_at, HasPair};
-ghost use Rattle.cesu8_bytes.specs.Internal.{flavor_of};
 
+use cesu8_bytes::flavor::Flavor;
 use cesu8_bytes::joining::PAIR_READ;
-use cesu8_bytes::options::Flavor;
 
 /// Returns how many bytes the character has that begins the bytes, or 0. It is no surrogate pair. The
 /// front has the first bytes, with zeros after the last, so no length is tested.
 #[inline(always)]
-pub fn width(flavor: Flavor, bytes: &[u8], front: &[u8]) -> usize
+pub fn width<F: Flavor>(bytes: &[u8], front: &[u8]) -> usize
     requires some { 0 < length bytes.now }
     requires front { IsFrontOf bytes.now front.now }
     requires long { PAIR_READ ≤ length front.now }
     requires no_pair { ¬ (HasPair front.now) }
-    ensures width { result ≡ front_width (flavor_of flavor) bytes.now }
+    ensures width { result ≡ front_width F.flavor bytes.now }
     ensures within { result ≤ length bytes.now }
     ensures small { result ≤ 3 }
 {
     let first = bytes[0];
     let second = front[1];
     let third = front[2];
-    if is_one(flavor, first) {
+    if is_one::<F>(first) {
         return 1;
     }
-    if is_null(flavor, first, second) || is_two(first, second) {
+    if is_null::<F>(first, second) || is_two(first, second) {
         return 2;
     }
     if is_three(first, second, third) {
@@ -37,24 +36,18 @@ pub fn width(flavor: Flavor, bytes: &[u8], front: &[u8]) -> usize
 
 /// Returns whether a byte is a character of one byte.
 #[inline(always)]
-pub fn is_one(flavor: Flavor, byte: u8) -> bool
-    ensures { result ≡ one_at (flavor_of flavor) byte }
+pub fn is_one<F: Flavor>(byte: u8) -> bool
+    ensures { result ≡ one_at F.flavor byte }
 {
-    match flavor {
-        Flavor::Cesu8 => byte < 0x80,
-        Flavor::Mutf8 => 1 <= byte && byte < 0x80,
-    }
+    byte < 0x80 && !(F::has_long_null() && byte == 0)
 }
 
 /// Returns whether two bytes are U+0000 in MUTF-8.
 #[inline(always)]
-fn is_null(flavor: Flavor, first: u8, second: u8) -> bool
-    ensures { result ≡ null_at (flavor_of flavor) first second }
+fn is_null<F: Flavor>(first: u8, second: u8) -> bool
+    ensures { result ≡ null_at F.flavor first second }
 {
-    match flavor {
-        Flavor::Cesu8 => false,
-        Flavor::Mutf8 => first == 0xC0 && second == 0x80,
-    }
+    F::has_long_null() && first == 0xC0 && second == 0x80
 }
 
 /// Returns whether two bytes are another character of two bytes.

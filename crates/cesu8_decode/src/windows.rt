@@ -13,7 +13,7 @@ use super::parts::write_block;
 use super::places::{BLOCK, PAIR, THREE, near, starts};
 use super::rows::rows;
 use super::way::{LONG_WINDOW, MEDIUM_WINDOW, SHORT_WINDOW};
-use cesu8_bytes::null_form::NullForm;
+use cesu8_bytes::flavor::Flavor;
 use std::simd::prelude::*;
 
 /// How many bytes a window's buffer has besides those of the window.
@@ -54,30 +54,31 @@ pub struct Decoded {
     pub is_damaged: bool,
 }
 
-/// Writes what becomes of the first bytes, up to a position that no encoded character crosses.
-#[inline(always)]
-pub fn write_window<N: NullForm>(bytes: &[u8], window: &mut [u8], out: &mut [u8]) -> Decoded
+/// Writes what becomes of the first bytes, up to a position that no encoded character crosses. It is
+/// not inlined, since it is long, and buffers of each length need it.
+#[inline(never)]
+pub fn write_window<F: Flavor>(bytes: &[u8], window: &mut [u8], out: &mut [u8]) -> Decoded
     requires window { LEAST ≤ length window.old }
     requires zeros { window.old ≡ replicate (length window.old) 0 }
     requires out { WIDEST * length window.old ≤ length out.old + SPARED }
-    ensures first { ReadsFirst N.flavor bytes.now
+    ensures first { ReadsFirst F.flavor bytes.now
         result.read (take result.end out.new) result.is_damaged }
     ensures all { length bytes.now + AROUND ≤ length window.old → result.read ≡ length bytes.now }
     ensures end { result.end + LEFT ≤ length out.new }
 {
-    let read = load::<N>(bytes, window);
-    write_blocks::<N>(window, read, out)
+    let read = load::<F>(bytes, window);
+    write_blocks::<F>(window, read, out)
 }
 
 /// Copies the first bytes into a window, and returns how many of them are read: up to a position
 /// that no encoded character crosses.
 #[inline(always)]
-pub fn load<N: NullForm>(bytes: &[u8], window: &mut [u8]) -> usize
+pub fn load<F: Flavor>(bytes: &[u8], window: &mut [u8]) -> usize
     requires room { LEAST ≤ length window.old }
     requires zeros { window.old ≡ replicate (length window.old) 0 }
     ensures some { 0 < length bytes.now → 0 < result }
     ensures all { length bytes.now + AROUND ≤ length window.old → result ≡ length bytes.now }
-    ensures read { IsRead N.flavor bytes.now window.new result }
+    ensures read { IsRead F.flavor bytes.now window.new result }
     ensures inside { result + AROUND ≤ length window.new }
     ensures before { (k : ℕ) → k < BEFORE → slice_index window.new k ≡ 0 }
     ensures len { length window.new ≡ length window.old }
@@ -92,7 +93,7 @@ pub fn load<N: NullForm>(bytes: &[u8], window: &mut [u8]) -> usize
     if loaded == bytes.len() {
         loaded
     } else {
-        border::<N>(window, loaded - BEFORE)
+        border::<F>(window, loaded - BEFORE)
     }
 }
 
@@ -108,13 +109,13 @@ fn pad(bytes: &[u8], window: &mut [u8])
 
 /// Returns the last border at or before a position of a window: no encoded character crosses it. It
 /// is at most five positions before.
-fn border<N: NullForm>(window: &[u8], most: usize) -> usize
+fn border<F: Flavor>(window: &[u8], most: usize) -> usize
     requires { (BEFORE ≤ most) × (most + BLOCK ≤ length window.now) }
     ensures within { (result ≤ most) × (most ≤ result + BEFORE) }
     ensures border { (n : ℕ) → n ≤ most → most ≤ n + BEFORE
-        → is_border_at N.flavor window.now n ≡ true → is_border_at N.flavor window.now result ≡ true }
+        → is_border_at F.flavor window.now n ≡ true → is_border_at F.flavor window.now result ≡ true }
 {
-    let codes = starts::<N>(window, most - BEFORE).to_array();
+    let codes = starts::<F>(window, most - BEFORE).to_array();
     for back in 0..BEFORE {
         if is_border(&codes, BEFORE - back) {
             return most - back;
@@ -136,16 +137,16 @@ fn is_border(codes: &[u8; BLOCK], at: usize) -> bool
 
 /// Writes what becomes of the first `count` bytes of a window.
 #[inline(always)]
-fn write_blocks<N: NullForm>(window: &[u8], count: usize, out: &mut [u8]) -> Decoded
+fn write_blocks<F: Flavor>(window: &[u8], count: usize, out: &mut [u8]) -> Decoded
     requires window { count + AROUND ≤ length window.now }
     requires zeros { (k : ℕ) → k < BEFORE → slice_index window.now k ≡ 0 }
     requires out { WIDEST * count + ROOM ≤ length out.old }
     ensures read { result.read ≡ count }
-    ensures bytes { take result.end out.new ≡ decoded N.flavor window.now 0 count }
+    ensures bytes { take result.end out.new ≡ decoded F.flavor window.now 0 count }
     ensures damaged { IsTrue result.is_damaged → (i : ℕ) × (i < count)
-        × (is_damaged_at N.flavor window.now i ≡ true) }
+        × (is_damaged_at F.flavor window.now i ≡ true) }
     ensures whole { result.is_damaged ≡ false → (i : ℕ) → i < count
-        → is_damaged_at N.flavor window.now i ≡ false }
+        → is_damaged_at F.flavor window.now i ≡ false }
     ensures end { result.end ≤ WIDEST * (count + BLOCK - 1) }
     ensures len { length out.new ≡ length out.old }
 {
@@ -156,8 +157,8 @@ fn write_blocks<N: NullForm>(window: &[u8], count: usize, out: &mut [u8]) -> Dec
     while at < count {
         let left = count - at;
         let len = if left < BLOCK { left } else { BLOCK };
-        let here = starts::<N>(window, at + BEFORE);
-        let block = write_block::<N>(window, &near(before, here), at, len, rows(), out, end);
+        let here = starts::<F>(window, at + BEFORE);
+        let block = write_block::<F>(window, &near(before, here), at, len, rows(), out, end);
         end = block.end;
         is_damaged = is_damaged | block.is_damaged;
         before = here;

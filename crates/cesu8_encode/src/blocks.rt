@@ -6,13 +6,12 @@
 
 ghost use Rattle.std.specs.Prelude.{◌≡◌, ℕ, List, Bool, ◌+◌, ◌*◌, ◌%◌, ◌/◌, ◌^◌, ◌<◌, ◌≤◌, ◌==◌, ◌++◌, map, length, take, IsTrue};
 ghost use Rattle.std.specs.Simd.Lanes.{chunk, zip2, mask_l};
-ghost use Rattle.cesu8_text.specs.Encoding.{Flavor, Cesu8, Mutf8};
-ghost use Rattle.cesu8_text.specs.Class.{is_lead, is_null};
-ghost use Rattle.cesu8_bytes.specs.Kernels.{mask};
+ghost use Rattle.cesu8_text.specs.Encoding.{Flavor as AnyFlavor};
 ghost use Rattle.cesu8_encode.specs.EncodedPlaces.{six_bits, packed, encoded_bytes, AreShuffles, AreLanes};
 
 use super::rows::rows;
-use cesu8_bytes::null_form::NullForm;
+use cesu8_bytes::flavor::{Flavor, nulls};
+use cesu8_bytes::implementation::class::{Lead, mask};
 use cesu8_bytes::writers::put;
 use cesu8_bytes::{BLOCK, Rows};
 use std::simd::prelude::*;
@@ -39,7 +38,7 @@ const BLOCK_STORED: usize = 2 * BLOCK;
 ///
 /// The rows are stored whole if they fit, and the next block overwrites the bytes beyond the end.
 #[inline(always)]
-pub fn write_block<N: NullForm>(
+pub fn write_block<F: Flavor>(
     window: &[u8],
     at: usize,
     count: usize,
@@ -48,12 +47,12 @@ pub fn write_block<N: NullForm>(
 ) -> usize
     requires window { at + BLOCK_READ ≤ length window.now }
     requires count { count ≤ BLOCK }
-    requires room { end + length (encoded_bytes N.flavor window.now at count) ≤ length out.old }
-    ensures bytes { take result out.new ≡ take end out.old ++ encoded_bytes N.flavor window.now at count }
-    ensures end { result ≡ end + length (encoded_bytes N.flavor window.now at count) }
+    requires room { end + length (encoded_bytes F.flavor window.now at count) ≤ length out.old }
+    ensures bytes { take result out.new ≡ take end out.old ++ encoded_bytes F.flavor window.now at count }
+    ensures end { result ≡ end + length (encoded_bytes F.flavor window.now at count) }
     ensures len { length out.new ≡ length out.old }
 {
-    let block = encode_block::<N>(window, at);
+    let block = encode_block::<F>(window, at);
     if BLOCK_STORED <= out.len() - end {
         return store_block(&block, count, out, end);
     }
@@ -73,15 +72,15 @@ struct EncodedBlock {
 
 /// Returns the lanes of the block that follows the first `at` bytes of a window, and two more.
 #[inline(always)]
-fn encode_block<N: NullForm>(window: &[u8], at: usize) -> EncodedBlock
+fn encode_block<F: Flavor>(window: &[u8], at: usize) -> EncodedBlock
     requires { at + BLOCK_READ ≤ length window.now }
-    ensures { AreLanes N.flavor window.now at result.seconds result.firsts result.doubled }
+    ensures { AreLanes F.flavor window.now at result.seconds result.firsts result.doubled }
 {
     let bytes = u8x32::from_slice(&window[at + 2..]);
-    let lead = leads(bytes);
-    let lead_before = leads(u8x32::from_slice(&window[at + 1..]));
-    let lead_two_before = leads(u8x32::from_slice(&window[at..]));
-    let null = N::nulls(bytes);
+    let lead = mask::<Lead>(bytes);
+    let lead_before = mask::<Lead>(u8x32::from_slice(&window[at + 1..]));
+    let lead_two_before = mask::<Lead>(u8x32::from_slice(&window[at..]));
+    let null = nulls::<F>(bytes);
 
     let six_bits = six_bits(bytes, u8x32::from_slice(&window[at + 3..]));
     let of_high = six_bits + (u8x32::splat(0x80) + (lead & u8x32::splat(0x1F)));
@@ -96,16 +95,6 @@ fn encode_block<N: NullForm>(window: &[u8], at: usize) -> EncodedBlock
             .select(u8x32::splat(0xED), u8x32::splat(0xC0)),
         doubled: bits(doubled),
     }
-}
-
-/// Marks the bytes that lead four.
-#[inline(always)]
-fn leads(bytes: u8x32) -> u8x32
-    ensures { result ≡ map (λ b. mask (is_lead b)) bytes }
-{
-    bytes
-        .simd_ge(u8x32::splat(0xF0))
-        .select(u8x32::splat(0xFF), u8x32::splat(0))
 }
 
 /// Returns the last four bits of each byte and two of the next.
@@ -148,10 +137,10 @@ fn store_row(lanes: u8x16, doubled: usize, rows: &Rows, out: &mut [u8], at: usiz
 fn store_block(block: &EncodedBlock, count: usize, out: &mut [u8], end: usize) -> usize
     requires count { count ≤ BLOCK }
     requires room { end + BLOCK_STORED ≤ length out.old }
-    ensures bytes { (f : Flavor) → (window : List ℕ) → (at : ℕ)
+    ensures bytes { (f : AnyFlavor) → (window : List ℕ) → (at : ℕ)
         → AreLanes f window at block.now.seconds block.now.firsts block.now.doubled
         → take result out.new ≡ take end out.old ++ encoded_bytes f window at count }
-    ensures end { (f : Flavor) → (window : List ℕ) → (at : ℕ)
+    ensures end { (f : AnyFlavor) → (window : List ℕ) → (at : ℕ)
         → AreLanes f window at block.now.seconds block.now.firsts block.now.doubled
         → result ≡ end + length (encoded_bytes f window at count) }
     ensures len { length out.new ≡ length out.old }

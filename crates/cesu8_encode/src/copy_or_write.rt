@@ -1,84 +1,71 @@
 //! Encodes to a caller's buffer: copies the text if no byte changes, and writes otherwise.
 
-ghost use Rattle.std.specs.Prelude.{◌<◌, ◌≤◌, ◌≡◌, length, IsTrue};
+ghost use Rattle.std.specs.Prelude.{◌<◌, ◌≤◌, ◌≡◌, ◌*◌, length, IsTrue};
 ghost use Rattle.std.specs.Str.{chars};
 ghost use Rattle.cesu8_text.specs.Encoding.{encoding};
-ghost use Rattle.cesu8_bytes.specs.Internal.{flavor_of};
 ghost use Rattle.cesu8_bytes.specs.Puts.{PutsAnswer};
 
 use crate::few::{is_unchanged, write_few};
-use crate::way::{FEW, ON_STACK, Way, way_of, write};
-use crate::windows::write_block_text;
+use crate::way::{FEW, Way, way_of, write};
 use crate::{BLOCK_ENCODED, FEW_ENCODED, ON_STACK_ENCODED};
-use cesu8_bytes::BLOCK;
 use cesu8_bytes::first_looks::needs_encoded;
+use cesu8_bytes::flavor::Flavor;
 use cesu8_bytes::lengths::encoded_len;
-use cesu8_bytes::options::Flavor;
 use cesu8_bytes::writers::{NoRoom, copy_to_slice};
 
 /// Writes the encoding of a text to a caller's buffer, if it fits. What changes, but for a few
 /// bytes, is not inlined: a text that stays as it is then uses no stack.
 #[inline(always)]
-pub fn encode_to_slice(flavor: Flavor, text: &str, buf: &mut [u8]) -> Result<usize, NoRoom>
-    ensures { PutsAnswer (encoding (flavor_of flavor) (chars text.now)) result buf.old buf.new }
+pub fn encode_to_slice<F: Flavor>(text: &str, buf: &mut [u8]) -> Result<usize, NoRoom>
+    ensures { PutsAnswer (encoding F.flavor (chars text.now)) result buf.old buf.new }
 {
     match way_of(text) {
-        Way::Few => put_few(flavor, text, buf),
-        _ if !needs_encoded(flavor, text) => copy_to_slice(text.as_bytes(), buf),
-        Way::Block => put_block(flavor, text, buf),
-        Way::OnStack => put_on_stack(flavor, text, buf),
-        Way::InPlace => put_in_place(flavor, text, buf),
+        Way::Few => put_few::<F>(text, buf),
+        _ if !needs_encoded::<F>(text) => copy_to_slice(text.as_bytes(), buf),
+        Way::Block => put_on_stack::<F, BLOCK_ENCODED>(text, buf),
+        Way::OnStack => put_on_stack::<F, ON_STACK_ENCODED>(text, buf),
+        Way::InPlace => put_in_place::<F>(text, buf),
     }
 }
 
 #[inline(always)]
 #[tactic(auto, using(cesu8_text::proofs::encoding::Lengths::length_encoding_chars))]
-fn put_few(flavor: Flavor, text: &str, buf: &mut [u8]) -> Result<usize, NoRoom>
+fn put_few<F: Flavor>(text: &str, buf: &mut [u8]) -> Result<usize, NoRoom>
     requires { length text.now ≤ FEW }
-    ensures { PutsAnswer (encoding (flavor_of flavor) (chars text.now)) result buf.old buf.new }
+    ensures { PutsAnswer (encoding F.flavor (chars text.now)) result buf.old buf.new }
 {
-    if is_unchanged(flavor, text) {
+    if is_unchanged::<F>(text) {
         return copy_to_slice(text.as_bytes(), buf);
     }
     if 2 * text.len() <= buf.len() {
         // It fits in any case, and what is behind it stays.
-        return Ok(write_few(flavor, text, buf));
+        return Ok(write_few::<F>(text, buf));
     }
     let mut written = [0; FEW_ENCODED];
-    let len = write_few(flavor, text, &mut written);
+    let len = write_few::<F>(text, &mut written);
     copy_to_slice(&written[..len], buf)
 }
 
+/// Encodes to the stack, where twice the bytes of the text fit, and copies that.
 #[inline(never)]
 #[tactic(auto, using(cesu8_text::proofs::encoding::Lengths::length_encoding_chars))]
-fn put_block(flavor: Flavor, text: &str, buf: &mut [u8]) -> Result<usize, NoRoom>
-    requires { length text.now ≤ BLOCK }
-    ensures { PutsAnswer (encoding (flavor_of flavor) (chars text.now)) result buf.old buf.new }
+fn put_on_stack<F: Flavor, const N: usize>(text: &str, buf: &mut [u8]) -> Result<usize, NoRoom>
+    requires { (2 * length text.now ≤ N) × (N ≤ ON_STACK_ENCODED) }
+    ensures { PutsAnswer (encoding F.flavor (chars text.now)) result buf.old buf.new }
 {
-    let mut written = [0; BLOCK_ENCODED];
-    let len = write_block_text(flavor, text, &mut written);
+    let mut written = [0; N];
+    let len = write::<F>(text, &mut written);
     copy_to_slice(&written[..len], buf)
 }
 
 #[inline(never)]
-#[tactic(auto, using(cesu8_text::proofs::encoding::Lengths::length_encoding_chars))]
-fn put_on_stack(flavor: Flavor, text: &str, buf: &mut [u8]) -> Result<usize, NoRoom>
-    requires { length text.now ≤ ON_STACK }
-    ensures { PutsAnswer (encoding (flavor_of flavor) (chars text.now)) result buf.old buf.new }
+fn put_in_place<F: Flavor>(text: &str, buf: &mut [u8]) -> Result<usize, NoRoom>
+    ensures { PutsAnswer (encoding F.flavor (chars text.now)) result buf.old buf.new }
 {
-    let mut written = [0; ON_STACK_ENCODED];
-    let len = write(flavor, text, &mut written);
-    copy_to_slice(&written[..len], buf)
-}
-
-#[inline(never)]
-fn put_in_place(flavor: Flavor, text: &str, buf: &mut [u8]) -> Result<usize, NoRoom>
-    ensures { PutsAnswer (encoding (flavor_of flavor) (chars text.now)) result buf.old buf.new }
-{
-    let len = encoded_len(flavor, text);
+    let len = encoded_len::<F>(text);
     if buf.len() < len {
         return Err(NoRoom { needed: len });
     }
-    write(flavor, text, &mut buf[..len]);
+    write::<F>(text, &mut buf[..len]);
     Ok(len)
 }

@@ -9,12 +9,11 @@ ghost use Rattle.cesu8_text.specs.Text.{IsScalarValue, utf8_of};
 ghost use Rattle.cesu8_text.specs.Encoding.{Flavor as AnyFlavor, encoding, short_form};
 ghost use Rattle.cesu8_encode.specs.Encoded.{WritesEncoding};
 ghost use Rattle.cesu8_encode.specs.EncodedPlaces.{IsRun};
-ghost use Rattle.cesu8_bytes.specs.Internal.{flavor_of};
 
-use cesu8_bytes::implementation::class::{Lead, NullLead};
+use cesu8_bytes::flavor::Flavor;
+use cesu8_bytes::implementation::class::{Either, Lead, Null};
 use cesu8_bytes::implementation::short::any_in_short;
 use cesu8_bytes::joining::{PAIR, PAIR_UTF8};
-use cesu8_bytes::options::Flavor;
 use cesu8_bytes::runs::copy_run;
 use cesu8_bytes::writers::put;
 
@@ -24,21 +23,18 @@ const FOUR_LEAD: u8 = 0xF0;
 /// Returns whether no byte of a text changes. It is correct for every length, and fast for a few
 /// bytes.
 #[inline(always)]
-pub fn is_unchanged(flavor: Flavor, text: &str) -> bool
-    ensures { IsTrue result → encoding (flavor_of flavor) (chars text.now) ≡ text.now }
+pub fn is_unchanged<F: Flavor>(text: &str) -> bool
+    ensures { IsTrue result → encoding F.flavor (chars text.now) ≡ text.now }
 {
-    match flavor {
-        Flavor::Cesu8 => !any_in_short::<Lead>(text.as_bytes()),
-        Flavor::Mutf8 => !any_in_short::<NullLead>(text.as_bytes()),
-    }
+    !any_in_short::<Either<F::Null, Lead>>(text.as_bytes())
 }
 
 /// Writes the encoding of a text at the front of a slice that is long enough, and returns its
 /// length. What is behind it stays.
 #[inline(never)]
-pub fn write_few(flavor: Flavor, text: &str, out: &mut [u8]) -> usize
-    requires { length (encoding (flavor_of flavor) (chars text.now)) ≤ length out.old }
-    ensures written { WritesEncoding (flavor_of flavor) text.now out.old out.new result }
+pub fn write_few<F: Flavor>(text: &str, out: &mut [u8]) -> usize
+    requires { length (encoding F.flavor (chars text.now)) ≤ length out.old }
+    ensures written { WritesEncoding F.flavor text.now out.old out.new result }
     ensures behind { drop result out.new ≡ drop result out.old }
 {
     let bytes = text.as_bytes();
@@ -51,7 +47,7 @@ pub fn write_few(flavor: Flavor, text: &str, out: &mut [u8]) -> usize
             read += run;
             end += run;
         } else if byte == 0 {
-            end = write_null(flavor, out, end);
+            end = write_null::<F>(out, end);
             read += 1;
         } else {
             end = put(&pair_of(&bytes[read..]), out, end);
@@ -74,7 +70,7 @@ fn copy_some(bytes: &[u8], out: &mut [u8], at: usize) -> usize
     ensures behind { drop (at + length bytes.now) out.new ≡ drop (at + length bytes.now) out.old }
     ensures len { length out.new ≡ length out.old }
 {
-    let run = copy_run::<NullLead>(bytes, out, at);
+    let run = copy_run::<Either<Null, Lead>>(bytes, out, at);
     if run > 0 {
         return run;
     }
@@ -84,16 +80,17 @@ fn copy_some(bytes: &[u8], out: &mut [u8], at: usize) -> usize
 
 /// Writes the encoding of U+0000 to a position, and returns its end.
 #[inline(always)]
-fn write_null(flavor: Flavor, out: &mut [u8], at: usize) -> usize
-    requires { at + length (short_form (flavor_of flavor) 0) ≤ length out.old }
-    ensures bytes { take result out.new ≡ take at out.old ++ short_form (flavor_of flavor) 0 }
-    ensures end { result ≡ at + length (short_form (flavor_of flavor) 0) }
+fn write_null<F: Flavor>(out: &mut [u8], at: usize) -> usize
+    requires { at + length (short_form F.flavor 0) ≤ length out.old }
+    ensures bytes { take result out.new ≡ take at out.old ++ short_form F.flavor 0 }
+    ensures end { result ≡ at + length (short_form F.flavor 0) }
     ensures behind { drop result out.new ≡ drop result out.old }
     ensures len { length out.new ≡ length out.old }
 {
-    match flavor {
-        Flavor::Cesu8 => put(&[0x00], out, at),
-        Flavor::Mutf8 => put(&[0xC0, 0x80], out, at),
+    if F::has_long_null() {
+        put(&[0xC0, 0x80], out, at)
+    } else {
+        put(&[0x00], out, at)
     }
 }
 

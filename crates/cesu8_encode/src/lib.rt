@@ -19,10 +19,9 @@
 //! calls.
 #![tactic(auto)]
 
-ghost use Rattle.std.specs.Prelude.{◌≡◌, ◌+◌, ◌≤◌, ◌++◌, length, vec_len, vec_capacity};
+ghost use Rattle.std.specs.Prelude.{◌≡◌, ◌+◌, ◌*◌, ◌≤◌, ◌++◌, length, vec_len, vec_capacity};
 ghost use Rattle.std.specs.Str.{chars};
 ghost use Rattle.cesu8_text.specs.Encoding.{encoding};
-ghost use Rattle.cesu8_bytes.specs.Internal.{flavor_of};
 ghost use Rattle.cesu8_encode.specs.Encoded.{BuildsEncoding, AppendsEncoding};
 
 mod blocks;
@@ -32,12 +31,10 @@ mod rows;
 mod way;
 mod windows;
 
-use self::few::write_few;
 use self::way::{FEW, ON_STACK, Way, way_of, write};
-use self::windows::write_block_text;
 use cesu8_bytes::BLOCK;
+use cesu8_bytes::flavor::Flavor;
 use cesu8_bytes::lengths::encoded_len;
-use cesu8_bytes::options::Flavor;
 use cesu8_bytes::writers::{append, append_zeros, copy, make_room};
 use std::alloc::{AllocError, Allocator};
 
@@ -54,110 +51,77 @@ const ON_STACK_ENCODED: usize = 2 * ON_STACK;
 /// the result is moved only once. What it calls is not inlined: a text that is borrowed then uses
 /// no stack, and every other text only that of its way.
 #[inline(always)]
-pub fn encode<A: Allocator + Copy>(
+pub fn encode<F: Flavor, A: Allocator + Copy>(
     alloc: A,
-    flavor: Flavor,
     text: &str,
 ) -> Result<Vec<u8, A>, AllocError>
-    ensures { BuildsEncoding (flavor_of flavor) text.now result }
+    ensures { BuildsEncoding F.flavor text.now result }
 {
     match way_of(text) {
-        Way::Few => encode_few(alloc, flavor, text),
-        Way::Block => encode_block(alloc, flavor, text),
-        Way::OnStack => encode_on_stack(alloc, flavor, text),
-        Way::InPlace => encode_in_place(alloc, flavor, text),
+        Way::Few => encode_on_stack::<F, A, FEW_ENCODED>(alloc, text),
+        Way::Block => encode_on_stack::<F, A, BLOCK_ENCODED>(alloc, text),
+        Way::OnStack => encode_on_stack::<F, A, ON_STACK_ENCODED>(alloc, text),
+        Way::InPlace => encode_in_place::<F, A>(alloc, text),
     }
 }
 
+/// Encodes to the stack, where twice the bytes of the text fit, and returns a copy.
 #[inline(never)]
 #[tactic(auto, using(cesu8_text::proofs::encoding::Lengths::length_encoding_chars))]
-fn encode_few<A: Allocator + Copy>(
+fn encode_on_stack<F: Flavor, A: Allocator + Copy, const N: usize>(
     alloc: A,
-    flavor: Flavor,
     text: &str,
 ) -> Result<Vec<u8, A>, AllocError>
-    requires { length text.now ≤ FEW }
-    ensures { BuildsEncoding (flavor_of flavor) text.now result }
+    requires { (2 * length text.now ≤ N) × (N ≤ ON_STACK_ENCODED) }
+    ensures { BuildsEncoding F.flavor text.now result }
 {
-    let mut written = [0; FEW_ENCODED];
-    let len = write_few(flavor, text, &mut written);
+    let mut written = [0; N];
+    let len = write::<F>(text, &mut written);
     copy(alloc, &written[..len])
 }
 
 #[inline(never)]
-#[tactic(auto, using(cesu8_text::proofs::encoding::Lengths::length_encoding_chars))]
-fn encode_block<A: Allocator + Copy>(
+fn encode_in_place<F: Flavor, A: Allocator + Copy>(
     alloc: A,
-    flavor: Flavor,
     text: &str,
 ) -> Result<Vec<u8, A>, AllocError>
-    requires { length text.now ≤ BLOCK }
-    ensures { BuildsEncoding (flavor_of flavor) text.now result }
+    ensures { BuildsEncoding F.flavor text.now result }
 {
-    let mut written = [0; BLOCK_ENCODED];
-    let len = write_block_text(flavor, text, &mut written);
-    copy(alloc, &written[..len])
-}
-
-#[inline(never)]
-#[tactic(auto, using(cesu8_text::proofs::encoding::Lengths::length_encoding_chars))]
-fn encode_on_stack<A: Allocator + Copy>(
-    alloc: A,
-    flavor: Flavor,
-    text: &str,
-) -> Result<Vec<u8, A>, AllocError>
-    requires { length text.now ≤ ON_STACK }
-    ensures { BuildsEncoding (flavor_of flavor) text.now result }
-{
-    let mut written = [0; ON_STACK_ENCODED];
-    let len = write(flavor, text, &mut written);
-    copy(alloc, &written[..len])
-}
-
-#[inline(never)]
-fn encode_in_place<A: Allocator + Copy>(
-    alloc: A,
-    flavor: Flavor,
-    text: &str,
-) -> Result<Vec<u8, A>, AllocError>
-    ensures { BuildsEncoding (flavor_of flavor) text.now result }
-{
-    let len = encoded_len(flavor, text);
+    let len = encoded_len::<F>(text);
     let mut encoded = Vec::with_capacity(alloc, len)?;
-    append_changed(flavor, text, len, &mut encoded);
+    append_changed::<F, A>(text, len, &mut encoded);
     Ok(encoded)
 }
 
 /// Appends the encoding of a text, which has this length. It makes one request if the capacity is
 /// too small.
 #[tactic(auto, using(cesu8_text::proofs::encoding::NeedsEncoding::encoding_as_long))]
-pub fn encode_into<A: Allocator + Copy>(
-    flavor: Flavor,
+pub fn encode_into<F: Flavor, A: Allocator + Copy>(
     text: &str,
     len: usize,
     out: &mut Vec<u8, A>,
 ) -> Result<(), AllocError>
-    requires { len ≡ length (encoding (flavor_of flavor) (chars text.now)) }
-    ensures { AppendsEncoding (flavor_of flavor) text.now result out.old out.new }
+    requires { len ≡ length (encoding F.flavor (chars text.now)) }
+    ensures { AppendsEncoding F.flavor text.now result out.old out.new }
 {
     make_room(len, out)?;
     if len == text.len() {
         // An encoding that differs from the UTF-8 is longer.
         append(text.as_bytes(), out);
     } else {
-        append_changed(flavor, text, len, out);
+        append_changed::<F, A>(text, len, out);
     }
     Ok(())
 }
 
 /// Appends the encoding of a text, which has this length, to a buffer with enough capacity.
-fn append_changed<A: Allocator + Copy>(flavor: Flavor, text: &str, len: usize, out: &mut Vec<u8, A>)
-    requires len { len ≡ length (encoding (flavor_of flavor) (chars text.now)) }
+fn append_changed<F: Flavor, A: Allocator + Copy>(text: &str, len: usize, out: &mut Vec<u8, A>)
+    requires len { len ≡ length (encoding F.flavor (chars text.now)) }
     requires room { vec_len out.old + len ≤ vec_capacity out.old }
-    ensures bytes { out.new.items ≡ out.old.items ++ encoding (flavor_of flavor) (chars text.now) }
+    ensures bytes { out.new.items ≡ out.old.items ++ encoding F.flavor (chars text.now) }
     ensures capacity { vec_capacity out.new ≡ vec_capacity out.old }
 {
     let start = out.len();
     append_zeros(len, out);
-    write(flavor, text, &mut out[start..]);
+    write::<F>(text, &mut out[start..]);
 }

@@ -17,14 +17,13 @@
 ghost use Rattle.std.specs.Prelude.{◌≤◌, length};
 ghost use Rattle.std.specs.Str.{chars};
 ghost use Rattle.cesu8_text.specs.Encoding.{encoding};
-ghost use Rattle.cesu8_bytes.specs.Internal.{flavor_of};
 ghost use Rattle.cesu8_encode.specs.Encoded.{WritesEncoding};
 ghost use Rattle.cesu8_encode.specs.Ways.{Fits};
 
 use crate::few::write_few;
-use crate::windows::{write_block_text, write_blocks};
+use crate::windows::{write_long, write_short};
 use cesu8_bytes::BLOCK;
-use cesu8_bytes::options::Flavor;
+use cesu8_bytes::flavor::Flavor;
 
 /// The most bytes of a text that is encoded one change after another.
 pub const FEW: usize = 24;
@@ -59,15 +58,15 @@ pub fn way_of(text: &str) -> Way
 }
 
 /// Writes the encoding of a text at the front of a slice that is long enough, and returns its
-/// length. It is not inlined, so that a text that stays as it is uses none of its stack.
-#[inline(never)]
-pub fn write(flavor: Flavor, text: &str, out: &mut [u8]) -> usize
-    requires { length (encoding (flavor_of flavor) (chars text.now)) ≤ length out.old }
-    ensures { WritesEncoding (flavor_of flavor) text.now out.old out.new result }
+/// length.
+#[inline(always)]
+pub fn write<F: Flavor>(text: &str, out: &mut [u8]) -> usize
+    requires { length (encoding F.flavor (chars text.now)) ≤ length out.old }
+    ensures { WritesEncoding F.flavor text.now out.old out.new result }
 {
     match way_of(text) {
-        Way::Few => write_few(flavor, text, out),
-        Way::Block => write_block_text(flavor, text, out),
-        Way::OnStack | Way::InPlace => write_blocks(flavor, text, out),
+        Way::Few => write_few::<F>(text, out),
+        Way::Block => write_short::<F>(text, out),
+        Way::OnStack | Way::InPlace => write_long::<F>(text, out),
     }
 }

@@ -6,104 +6,78 @@
 ghost use Rattle.std.specs.Prelude.{◌≡◌, ℕ, ◌+◌, ◌*◌, ◌<◌, ◌≤◌, ◌∷◌, length, replicate, slice_index};
 ghost use Rattle.std.specs.Str.{chars};
 ghost use Rattle.cesu8_text.specs.Encoding.{encoding};
-ghost use Rattle.cesu8_bytes.specs.Internal.{flavor_of};
 ghost use Rattle.cesu8_encode.specs.Encoded.{WritesEncoding};
 ghost use Rattle.cesu8_encode.specs.EncodedPlaces.{recoded, IsWritten, Writes};
 
 use super::blocks::{BLOCK_READ, READ_AFTER, READ_BEFORE, write_block};
 use cesu8_bytes::BLOCK;
-use cesu8_bytes::null_form::{NullForm, OneByteNull, TwoByteNull};
-use cesu8_bytes::options::Flavor;
+use cesu8_bytes::flavor::Flavor;
 
-/// Writes the encoding of a text of at most a block, and returns its end. It is inlined, so that a
-/// text of a block costs one call.
-#[inline(always)]
-pub fn write_block_text(flavor: Flavor, text: &str, out: &mut [u8]) -> usize
+/// Writes the encoding of a text of at most a block, and returns its end. It is not inlined, so that
+/// a text that stays as it is uses none of its stack.
+#[inline(never)]
+pub fn write_short<F: Flavor>(text: &str, out: &mut [u8]) -> usize
     requires short { length text.now ≤ BLOCK }
-    requires room { length (encoding (flavor_of flavor) (chars text.now)) ≤ length out.old }
-    ensures { WritesEncoding (flavor_of flavor) text.now out.old out.new result }
+    requires room { length (encoding F.flavor (chars text.now)) ≤ length out.old }
+    ensures { WritesEncoding F.flavor text.now out.old out.new result }
 {
-    match flavor {
-        Flavor::Cesu8 => write_short::<OneByteNull>(text.as_bytes(), out),
-        Flavor::Mutf8 => write_short::<TwoByteNull>(text.as_bytes(), out),
-    }
+    let mut window = [0; BLOCK_READ];
+    put_behind_zeros(text.as_bytes(), &mut window);
+    write_block::<F>(&window, 0, text.len(), out, 0)
 }
 
 /// Writes the encoding of a longer text, and returns its end.
-#[inline(always)]
-pub fn write_blocks(flavor: Flavor, text: &str, out: &mut [u8]) -> usize
+#[inline(never)]
+pub fn write_long<F: Flavor>(text: &str, out: &mut [u8]) -> usize
     requires long { BLOCK < length text.now }
-    requires room { length (encoding (flavor_of flavor) (chars text.now)) ≤ length out.old }
-    ensures { WritesEncoding (flavor_of flavor) text.now out.old out.new result }
+    requires room { length (encoding F.flavor (chars text.now)) ≤ length out.old }
+    ensures { WritesEncoding F.flavor text.now out.old out.new result }
 {
-    match flavor {
-        Flavor::Cesu8 => write_long::<OneByteNull>(text.as_bytes(), out),
-        Flavor::Mutf8 => write_long::<TwoByteNull>(text.as_bytes(), out),
-    }
-}
-
-/// Writes what the bytes of a text of at most a block become, and returns its end.
-#[inline(always)]
-fn write_short<N: NullForm>(text: &[u8], out: &mut [u8]) -> usize
-    requires short { length text.now ≤ BLOCK }
-    requires room { length (recoded N.flavor text.now) ≤ length out.old }
-    ensures { Writes N.flavor text.now (length text.now) out.old out.new result }
-{
-    let mut window = [0; BLOCK_READ];
-    put_behind_zeros(text, &mut window);
-    write_block::<N>(&window, 0, text.len(), out, 0)
-}
-
-/// Writes what the bytes of a longer text become, and returns its end.
-fn write_long<N: NullForm>(text: &[u8], out: &mut [u8]) -> usize
-    requires long { BLOCK < length text.now }
-    requires room { length (recoded N.flavor text.now) ≤ length out.old }
-    ensures { Writes N.flavor text.now (length text.now) out.old out.new result }
-{
-    let blocks = (text.len() - 1) / BLOCK;
-    let end = write_first::<N>(text, out);
-    let end = write_middle::<N>(text, blocks, out, end);
-    write_last::<N>(text, BLOCK * blocks, out, end)
+    let bytes = text.as_bytes();
+    let blocks = (bytes.len() - 1) / BLOCK;
+    let end = write_first::<F>(bytes, out);
+    let end = write_middle::<F>(bytes, blocks, out, end);
+    write_last::<F>(bytes, BLOCK * blocks, out, end)
 }
 
 /// Writes what the first block of a longer text becomes, and returns its end.
 #[inline(always)]
-fn write_first<N: NullForm>(text: &[u8], out: &mut [u8]) -> usize
+fn write_first<F: Flavor>(text: &[u8], out: &mut [u8]) -> usize
     requires long { BLOCK < length text.now }
-    requires room { length (recoded N.flavor text.now) ≤ length out.old }
-    ensures { Writes N.flavor text.now BLOCK out.old out.new result }
+    requires room { length (recoded F.flavor text.now) ≤ length out.old }
+    ensures { Writes F.flavor text.now BLOCK out.old out.new result }
 {
     let mut window = [0; BLOCK_READ];
     put_behind_zeros(&text[..BLOCK + READ_AFTER], &mut window);
-    write_block::<N>(&window, 0, BLOCK, out, 0)
+    write_block::<F>(&window, 0, BLOCK, out, 0)
 }
 
 /// Writes what the blocks between the first and the last become, and returns its end.
 #[inline(always)]
-fn write_middle<N: NullForm>(text: &[u8], blocks: usize, out: &mut [u8], start: usize) -> usize
+fn write_middle<F: Flavor>(text: &[u8], blocks: usize, out: &mut [u8], start: usize) -> usize
     requires blocks { (0 < blocks) × (BLOCK * blocks < length text.now) }
-    requires room { length (recoded N.flavor text.now) ≤ length out.old }
-    requires first { IsWritten N.flavor text.now BLOCK out.old start }
-    ensures { Writes N.flavor text.now (BLOCK * blocks) out.old out.new result }
+    requires room { length (recoded F.flavor text.now) ≤ length out.old }
+    requires first { IsWritten F.flavor text.now BLOCK out.old start }
+    ensures { Writes F.flavor text.now (BLOCK * blocks) out.old out.new result }
 {
     let mut end = start;
     for i in 1..blocks {
-        end = write_block::<N>(text, BLOCK * i - READ_BEFORE, BLOCK, out, end);
+        end = write_block::<F>(text, BLOCK * i - READ_BEFORE, BLOCK, out, end);
     }
     end
 }
 
 /// Writes what the last block of a longer text becomes, and returns its end.
 #[inline(always)]
-fn write_last<N: NullForm>(text: &[u8], at: usize, out: &mut [u8], end: usize) -> usize
+fn write_last<F: Flavor>(text: &[u8], at: usize, out: &mut [u8], end: usize) -> usize
     requires position { (BLOCK ≤ at) × (at < length text.now) × (length text.now ≤ at + BLOCK) }
-    requires room { length (recoded N.flavor text.now) ≤ length out.old }
-    requires before { IsWritten N.flavor text.now at out.old end }
-    ensures { Writes N.flavor text.now (length text.now) out.old out.new result }
+    requires room { length (recoded F.flavor text.now) ≤ length out.old }
+    requires before { IsWritten F.flavor text.now at out.old end }
+    ensures { Writes F.flavor text.now (length text.now) out.old out.new result }
 {
     let mut window = [0; BLOCK_READ];
     put_before_zeros(&text[at - READ_BEFORE..], &mut window);
-    write_block::<N>(&window, 0, text.len() - at, out, end)
+    write_block::<F>(&window, 0, text.len() - at, out, end)
 }
 
 /// Copies bytes into a window of zeros, after two of these: nothing precedes the bytes.

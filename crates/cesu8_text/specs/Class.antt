@@ -29,14 +29,6 @@ IsNullFour b = IsTrue (is_null_four b)
 abbrev pub is_high : ℕ → Bool
 is_high b = nat_le 0x80 b
 
--- That, or the byte 0.
-abbrev pub is_null_high : ℕ → Bool
-is_null_high b = b == 0 || is_high b
-
--- F0 (hexadecimal) or more, or the byte 0: of UTF-8, what changes in some flavor.
-abbrev pub is_null_lead : ℕ → Bool
-is_null_lead b = b == 0 || is_lead b
-
 -- The class of a flavor: the bytes of UTF-8 that change in it.
 abbrev pub IsChangedByte : Flavor → ℕ → Type 0
 IsChangedByte Cesu8 = IsFour

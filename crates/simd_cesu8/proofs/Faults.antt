@@ -2,7 +2,7 @@
 use Rattle.std.proofs.Common.{ℕ, List, ⊎_elim}
 use Rattle.std.specs.Str.{IsUtf8}
 use Rattle.simd_cesu8.specs.Encoding.{Flavor}
-use Rattle.simd_cesu8.specs.Reading.{HasNoStrictReading, HasNoLenientReading, reading}
+use Rattle.simd_cesu8.specs.Reading.{HasNoStrictReading, HasNoLenientReading}
 use Rattle.simd_cesu8.specs.Fault.{IfInvalid}
 use Rattle.simd_cesu8.specs.declared.error.DecodeFault.{DecodeFault}
 use Rattle.simd_cesu8.specs.declared.error.DecodeFault.TheVariants.{Invalid, Memory}

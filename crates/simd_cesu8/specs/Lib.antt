@@ -14,7 +14,7 @@ pub mod Counted
 pub mod Fault
 pub mod Slices
 pub mod Outcomes
-pub use Rattle.cesu8_bytes.specs.Internal
+pub mod Internal
 pub use Rattle.cesu8_bytes.specs.Joining
 pub use Rattle.cesu8_bytes.specs.Pieces
 pub use Rattle.cesu8_text.specs.Order

@@ -4,7 +4,6 @@
 //! of it, in a function whose name ends in `other`, is never inlined, so that this test stays small.
 
 ghost use Rattle.simd_cesu8.specs.Calls.{Encodes, DecodesStrictly, DecodesLeniently, DecodesLossily, DecodesLenientlyLossily};
-ghost use Rattle.simd_cesu8.specs.Internal.{flavor_of};
 
 use crate::cow::{CowBytes, CowText};
 use crate::error::DecodeFault;
@@ -17,124 +16,110 @@ use std::alloc::{AllocError, Global};
 
 #[inline(always)]
 #[tactic(auto, using(cesu8_text::proofs::encoding::NeedsEncoding::encoding_by_need))]
-pub fn encode(alloc: Global, flavor: Flavor, value: &str) -> Result<CowBytes<'_>, AllocError>
-    ensures { Encodes (flavor_of flavor) value.now result }
+pub fn encode<F: Flavor>(alloc: Global, value: &str) -> Result<CowBytes<'_>, AllocError>
+    ensures { Encodes F.flavor value.now result }
 {
-    if !needs_encoded(flavor, value) {
+    if !needs_encoded::<F>(value) {
         return Ok(CowBytes::Borrowed(value.as_bytes()));
     }
-    let encoded = internal::encode(alloc, flavor, value)?;
+    let encoded = internal::encode::<F, Global>(alloc, value)?;
     Ok(CowBytes::Owned(encoded))
 }
 
 #[inline(always)]
-pub fn decode_strict(
-    alloc: Global,
-    flavor: Flavor,
-    bytes: &[u8],
-) -> Result<CowText<'_>, DecodeFault>
-    ensures { DecodesStrictly (flavor_of flavor) bytes.now result }
+pub fn decode_strict<F: Flavor>(alloc: Global, bytes: &[u8]) -> Result<CowText<'_>, DecodeFault>
+    ensures { DecodesStrictly F.flavor bytes.now result }
 {
-    if is_short_unchanged_ascii(flavor, bytes) {
+    if is_short_unchanged_ascii::<F>(bytes) {
         return Ok(CowText::Borrowed(ascii_text(bytes)));
     }
-    decode_strict_other(alloc, flavor, bytes)
+    decode_strict_other::<F>(alloc, bytes)
 }
 
 #[inline(never)]
-fn decode_strict_other(
-    alloc: Global,
-    flavor: Flavor,
-    bytes: &[u8],
-) -> Result<CowText<'_>, DecodeFault>
-    ensures { DecodesStrictly (flavor_of flavor) bytes.now result }
+fn decode_strict_other<F: Flavor>(alloc: Global, bytes: &[u8]) -> Result<CowText<'_>, DecodeFault>
+    ensures { DecodesStrictly F.flavor bytes.now result }
 {
     // No encoding has a byte that changes, so there is nothing to decode.
-    if contains_changed(flavor, bytes) {
+    if contains_changed::<F>(bytes) {
         return Err(internal::refuse(alloc, bytes.len()));
     }
     let text = whole_text(bytes);
     if text.len() == bytes.len() {
         return Ok(CowText::Borrowed(text));
     }
-    let built = internal::decode_strict(alloc, flavor, bytes)?;
+    let built = internal::decode_strict::<F>(alloc, bytes)?;
     Ok(CowText::Owned(built))
 }
 
 #[inline(always)]
-pub fn decode(alloc: Global, flavor: Flavor, bytes: &[u8]) -> Result<CowText<'_>, DecodeFault>
-    ensures { DecodesLeniently (flavor_of flavor) bytes.now result }
+pub fn decode<F: Flavor>(alloc: Global, bytes: &[u8]) -> Result<CowText<'_>, DecodeFault>
+    ensures { DecodesLeniently F.flavor bytes.now result }
 {
     if is_short_ascii(bytes) {
         return Ok(CowText::Borrowed(ascii_text(bytes)));
     }
-    decode_other(alloc, flavor, bytes)
+    decode_other::<F>(alloc, bytes)
 }
 
 #[inline(never)]
-fn decode_other(alloc: Global, flavor: Flavor, bytes: &[u8]) -> Result<CowText<'_>, DecodeFault>
-    ensures { DecodesLeniently (flavor_of flavor) bytes.now result }
+fn decode_other<F: Flavor>(alloc: Global, bytes: &[u8]) -> Result<CowText<'_>, DecodeFault>
+    ensures { DecodesLeniently F.flavor bytes.now result }
 {
     let whole = whole_text(bytes);
     if whole.len() == bytes.len() {
         return Ok(CowText::Borrowed(whole));
     }
-    let decoded = internal::decode_strict(alloc, flavor, bytes)?;
+    let decoded = internal::decode_strict::<F>(alloc, bytes)?;
     Ok(CowText::Owned(decoded))
 }
 
 #[inline(always)]
-pub fn decode_lossy_strict(
+pub fn decode_lossy_strict<F: Flavor>(
     alloc: Global,
-    flavor: Flavor,
     bytes: &[u8],
 ) -> Result<CowText<'_>, AllocError>
-    ensures { DecodesLossily (flavor_of flavor) bytes.now result }
+    ensures { DecodesLossily F.flavor bytes.now result }
 {
-    if is_short_unchanged_ascii(flavor, bytes) {
+    if is_short_unchanged_ascii::<F>(bytes) {
         return Ok(CowText::Borrowed(ascii_text(bytes)));
     }
-    decode_lossy_strict_other(alloc, flavor, bytes)
+    decode_lossy_strict_other::<F>(alloc, bytes)
 }
 
 #[inline(never)]
-fn decode_lossy_strict_other(
+fn decode_lossy_strict_other<F: Flavor>(
     alloc: Global,
-    flavor: Flavor,
     bytes: &[u8],
 ) -> Result<CowText<'_>, AllocError>
-    ensures { DecodesLossily (flavor_of flavor) bytes.now result }
+    ensures { DecodesLossily F.flavor bytes.now result }
 {
-    let text = unchanged_text(flavor, bytes);
+    let text = unchanged_text::<F>(bytes);
     if text.len() == bytes.len() {
         return Ok(CowText::Borrowed(text));
     }
-    let built = internal::decode_lossy(alloc, flavor, bytes)?;
+    let built = internal::decode_lossy::<F, Global>(alloc, bytes)?;
     Ok(CowText::Owned(built))
 }
 
 #[inline(always)]
-pub fn decode_lossy(alloc: Global, flavor: Flavor, bytes: &[u8]) -> Result<CowText<'_>, AllocError>
-    ensures { DecodesLenientlyLossily (flavor_of flavor) bytes.now result }
+pub fn decode_lossy<F: Flavor>(alloc: Global, bytes: &[u8]) -> Result<CowText<'_>, AllocError>
+    ensures { DecodesLenientlyLossily F.flavor bytes.now result }
 {
     if is_short_ascii(bytes) {
         return Ok(CowText::Borrowed(ascii_text(bytes)));
     }
-    decode_lossy_other(alloc, flavor, bytes)
+    decode_lossy_other::<F>(alloc, bytes)
 }
 
 #[inline(never)]
-fn decode_lossy_other(
-    alloc: Global,
-    flavor: Flavor,
-    bytes: &[u8],
-) -> Result<CowText<'_>, AllocError>
-    ensures { DecodesLenientlyLossily (flavor_of flavor) bytes.now result }
+fn decode_lossy_other<F: Flavor>(alloc: Global, bytes: &[u8]) -> Result<CowText<'_>, AllocError>
+    ensures { DecodesLenientlyLossily F.flavor bytes.now result }
 {
     let text = whole_text(bytes);
     if text.len() == bytes.len() {
         return Ok(CowText::Borrowed(text));
     }
-    let built = internal::decode_lossy(alloc, flavor, bytes)?;
+    let built = internal::decode_lossy::<F, Global>(alloc, bytes)?;
     Ok(CowText::Owned(built))
 }

@@ -5,9 +5,9 @@ ghost use Rattle.std.specs.Str.{chars};
 ghost use Rattle.simd_cesu8.specs.Encoding.{encoding};
 ghost use Rattle.simd_cesu8.specs.Internal.{flavor_of};
 
-use crate::internal;
-use crate::internal::{Flavor, needs_encoded};
-use std::alloc::AllocError;
+use crate::internal::value::Flavor;
+use crate::internal::{Cesu8Flavor, Mutf8Flavor, encode_into};
+use std::alloc::{AllocError, Global};
 
 /// A text with the length of its encoding, for formats that write the length in front. The text is
 /// counted once: [`encoded_len`](CountedText::encoded_len) returns the length, and
@@ -36,15 +36,10 @@ impl<'a> CountedText<'a> {
     ghost use Rattle.simd_cesu8.specs.Counted.{counted_encoding};
 
     #[inline(always)]
-    pub(crate) fn new(flavor: Flavor, text: &'a str) -> CountedText<'a>
+    pub(crate) fn new(flavor: Flavor, text: &'a str, len: usize) -> CountedText<'a>
+        requires { len ≡ length (encoding (flavor_of flavor) (chars text.now)) }
         ensures { counted_encoding result ≡ encoding (flavor_of flavor) (chars text.now) }
     {
-        // It is faster to test whether a character changes than to count how many do.
-        if !needs_encoded(flavor, text) {
-            let len = text.len();
-            return CountedText { flavor, text, len };
-        }
-        let len = internal::encoded_len(flavor, text);
         CountedText { flavor, text, len }
     }
 
@@ -79,6 +74,9 @@ impl<'a> CountedText<'a> {
         ensures empty { counted_encoding self.now ≡ [] → IsOk result }
         ensures grows { vec_capacity buf.old ≤ vec_capacity buf.new }
     {
-        internal::encode_into(self.flavor, self.text, self.len, buf)
+        match self.flavor {
+            Flavor::Cesu8 => encode_into::<Cesu8Flavor, Global>(self.text, self.len, buf),
+            Flavor::Mutf8 => encode_into::<Mutf8Flavor, Global>(self.text, self.len, buf),
+        }
     }
 }

@@ -8,14 +8,15 @@ ghost use Rattle.simd_cesu8.specs.Encoding.{encoding};
 ghost use Rattle.simd_cesu8.specs.Reading.{IsStrictReading, HasNoStrictReading, IsLenientReading, reading, IsLenientLossyReading};
 ghost use Rattle.simd_cesu8.specs.Fault.{OnInvalid};
 ghost use Rattle.simd_cesu8.specs.Slices.{WritesAnswer, WritesReading, WritesLossyReading};
-ghost use Rattle.simd_cesu8.specs.Internal.{flavor_of};
 ghost use Rattle.simd_cesu8.specs.Outcomes.{IsFaultOf, IsAnswerOf, IsStrictOutcome, IsLossyOutcome};
+
+pub mod value;
 
 use crate::error::{DecodeFault, DecodeSliceFault, DecodingError, LossySliceFault, TooShort};
 pub use cesu8_bytes::ascii::{ascii_text, is_short_ascii, is_short_unchanged_ascii};
 pub use cesu8_bytes::first_looks::{contains_changed, needs_encoded, unchanged_text, whole_text};
-pub use cesu8_bytes::lengths::{encoded_len, utf16_len};
-pub use cesu8_bytes::options::Flavor;
+pub use cesu8_bytes::flavor::{Cesu8Flavor, Flavor, Mutf8Flavor};
+pub use cesu8_bytes::lengths::{encoded_len, encoded_len_by_need, utf16_len};
 use cesu8_bytes::options::Strictness;
 pub use cesu8_bytes::order::compare_as_utf16;
 use cesu8_bytes::writers::NoRoom;
@@ -28,13 +29,13 @@ use std::alloc::Global;
 
 /// Returns the strict reading of the bytes, after one request for their length.
 #[inline(always)]
-pub fn decode_strict(alloc: Global, flavor: Flavor, bytes: &[u8]) -> Result<String, DecodeFault>
+pub fn decode_strict<F: Flavor>(alloc: Global, bytes: &[u8]) -> Result<String, DecodeFault>
     ensures text { IfOk result (λ text.
-        IsStrictReading (flavor_of flavor) bytes.now (chars (string_bytes text))) }
+        IsStrictReading F.flavor bytes.now (chars (string_bytes text))) }
     ensures capacity { IfOk result (λ text. string_capacity text ≡ length bytes.now) }
-    ensures invalid { OnInvalid result (HasNoStrictReading (flavor_of flavor) bytes.now) }
+    ensures invalid { OnInvalid result (HasNoStrictReading F.flavor bytes.now) }
 {
-    match cesu8_decode::decode_strict(alloc, flavor, bytes) {
+    match cesu8_decode::decode_strict::<F, Global>(alloc, bytes) {
         Ok(text) => Ok(text),
         Err(refusal) => Err(fault(refusal)),
     }
@@ -50,66 +51,59 @@ pub fn refuse(alloc: Global, len: usize) -> DecodeFault {
 /// Writes the encoding of a text to a caller's buffer, if it fits.
 #[inline(always)]
 #[tactic(auto, using(crate::proofs::Outcomes::answer_told))]
-pub fn encode_to_slice(flavor: Flavor, value: &str, buf: &mut [u8]) -> Result<usize, TooShort>
-    ensures { WritesAnswer (encoding (flavor_of flavor) (chars value.now)) result buf.old buf.new }
+pub fn encode_to_slice<F: Flavor>(value: &str, buf: &mut [u8]) -> Result<usize, TooShort>
+    ensures { WritesAnswer (encoding F.flavor (chars value.now)) result buf.old buf.new }
 {
-    answer(cesu8_encode::copy_or_write::encode_to_slice(flavor, value, buf))
+    answer(cesu8_encode::copy_or_write::encode_to_slice::<F>(value, buf))
 }
 
 /// Writes the strict reading of the bytes to a caller's buffer, if it fits.
 #[inline(always)]
 #[tactic(auto, using(crate::proofs::Outcomes::strict_told))]
-pub fn decode_strict_to_slice(
-    flavor: Flavor,
+pub fn decode_strict_to_slice<F: Flavor>(
     bytes: &[u8],
     buf: &mut [u8],
 ) -> Result<usize, DecodeSliceFault>
-    ensures { WritesReading (λ text. IsStrictReading (flavor_of flavor) bytes.now text)
+    ensures { WritesReading (λ text. IsStrictReading F.flavor bytes.now text)
         result buf.old buf.new }
 {
-    strict(put_encoding(flavor, Strictness::Strict, bytes, buf))
+    strict(put_encoding::<F>(Strictness::Strict, bytes, buf))
 }
 
 /// Writes the lenient reading of the bytes to a caller's buffer, if it fits.
 #[inline(always)]
 #[tactic(auto, using(crate::proofs::Outcomes::strict_told))]
-pub fn decode_to_slice(
-    flavor: Flavor,
-    bytes: &[u8],
-    buf: &mut [u8],
-) -> Result<usize, DecodeSliceFault>
-    ensures { WritesReading (λ text. IsLenientReading (flavor_of flavor) bytes.now text)
+pub fn decode_to_slice<F: Flavor>(bytes: &[u8], buf: &mut [u8]) -> Result<usize, DecodeSliceFault>
+    ensures { WritesReading (λ text. IsLenientReading F.flavor bytes.now text)
         result buf.old buf.new }
 {
-    strict(put_leniently(flavor, Strictness::Strict, bytes, buf))
+    strict(put_leniently::<F>(Strictness::Strict, bytes, buf))
 }
 
 /// Writes the lossy reading of the bytes to a caller's buffer, if it fits.
 #[inline(always)]
 #[tactic(auto, using(crate::proofs::Outcomes::lossy_told))]
-pub fn decode_lossy_strict_to_slice(
-    flavor: Flavor,
+pub fn decode_lossy_strict_to_slice<F: Flavor>(
     bytes: &[u8],
     buf: &mut [u8],
 ) -> Result<usize, LossySliceFault>
-    ensures { WritesLossyReading (λ text. text ≡ reading (flavor_of flavor) bytes.now)
+    ensures { WritesLossyReading (λ text. text ≡ reading F.flavor bytes.now)
         result buf.old buf.new }
 {
-    lossy(put_encoding(flavor, Strictness::Lossy, bytes, buf))
+    lossy(put_encoding::<F>(Strictness::Lossy, bytes, buf))
 }
 
 /// Writes the lenient lossy reading of the bytes to a caller's buffer, if it fits.
 #[inline(always)]
 #[tactic(auto, using(crate::proofs::Outcomes::lossy_told))]
-pub fn decode_lossy_to_slice(
-    flavor: Flavor,
+pub fn decode_lossy_to_slice<F: Flavor>(
     bytes: &[u8],
     buf: &mut [u8],
 ) -> Result<usize, LossySliceFault>
-    ensures { WritesLossyReading (λ text. IsLenientLossyReading (flavor_of flavor) bytes.now text)
+    ensures { WritesLossyReading (λ text. IsLenientLossyReading F.flavor bytes.now text)
         result buf.old buf.new }
 {
-    lossy(put_leniently(flavor, Strictness::Lossy, bytes, buf))
+    lossy(put_leniently::<F>(Strictness::Lossy, bytes, buf))
 }
 
 /// Returns a refusal of the decoder as a fault.

@@ -68,7 +68,8 @@ pub mod mutf8;
 pub use crate::counted_text::CountedText;
 pub use crate::cow::{CowBytes, CowText};
 pub use crate::error::{DecodeFault, DecodeSliceFault, DecodingError, LossySliceFault, TooShort};
-use crate::internal::Flavor;
+use crate::internal::value::Flavor;
+use crate::internal::{Cesu8Flavor, encoded_len_by_need};
 use std::alloc::{AllocError, Global};
 use std::cmp::Ordering;
 
@@ -83,7 +84,7 @@ use std::cmp::Ordering;
 pub fn needs_encoded(value: &str) -> bool
     ensures { IsTrue result ↔ NeedsEncoding Cesu8 (chars value.now) }
 {
-    internal::needs_encoded(Flavor::Cesu8, value)
+    internal::needs_encoded::<Cesu8Flavor>(value)
 }
 
 /// Returns the length in bytes of the CESU-8 (Unicode Technical Report 26) of a text. It requests
@@ -95,7 +96,7 @@ pub fn needs_encoded(value: &str) -> bool
 pub fn encoded_len(value: &str) -> usize
     ensures { result ≡ length (encoding Cesu8 (chars value.now)) }
 {
-    internal::encoded_len(Flavor::Cesu8, value)
+    internal::encoded_len::<Cesu8Flavor>(value)
 }
 
 /// Returns the text with the length of its CESU-8 (Unicode Technical Report 26), for formats that
@@ -107,7 +108,11 @@ pub fn encoded_len(value: &str) -> usize
 pub fn counted(value: &str) -> CountedText<'_>
     ensures { counted_encoding result ≡ encoding Cesu8 (chars value.now) }
 {
-    CountedText::new(Flavor::Cesu8, value)
+    CountedText::new(
+        Flavor::Cesu8,
+        value,
+        encoded_len_by_need::<Cesu8Flavor>(value),
+    )
 }
 
 /// Returns how many UTF-16 code units a text has, as Java's and JavaScript's strings count their
@@ -158,7 +163,7 @@ pub fn encode(alloc: Global, value: &str) -> Result<CowBytes<'_>, AllocError>
     ensures succeeds { ¬ (NeedsEncoding Cesu8 (chars value.now)) → IsOk result }
     ensures capacity { BuildsBytesOfCapacity result (length (encoding Cesu8 (chars value.now))) }
 {
-    borrow_or_build::encode(alloc, Flavor::Cesu8, value)
+    borrow_or_build::encode::<Cesu8Flavor>(alloc, value)
 }
 
 /// Appends the CESU-8 (Unicode Technical Report 26) of a text to the buffer.
@@ -215,7 +220,7 @@ pub fn decode_strict(alloc: Global, bytes: &[u8]) -> Result<CowText<'_>, DecodeF
     ensures succeeds { IsUnchangedUtf8 Cesu8 bytes.now → IsOk result }
     ensures capacity { BuildsTextOfCapacity result (length bytes.now) }
 {
-    borrow_or_build::decode_strict(alloc, Flavor::Cesu8, bytes)
+    borrow_or_build::decode_strict::<Cesu8Flavor>(alloc, bytes)
 }
 
 /// Decodes bytes that are UTF-8 as a whole, or else CESU-8 (Unicode Technical Report 26). It reads
@@ -245,7 +250,7 @@ pub fn decode(alloc: Global, bytes: &[u8]) -> Result<CowText<'_>, DecodeFault>
     ensures succeeds { IsUtf8 bytes.now → IsOk result }
     ensures capacity { BuildsTextOfCapacity result (length bytes.now) }
 {
-    borrow_or_build::decode(alloc, Flavor::Cesu8, bytes)
+    borrow_or_build::decode::<Cesu8Flavor>(alloc, bytes)
 }
 
 /// Decodes CESU-8 (Unicode Technical Report 26) that may be damaged: returns each encoded character
@@ -270,7 +275,7 @@ pub fn decode_lossy_strict(alloc: Global, bytes: &[u8]) -> Result<CowText<'_>, A
     ensures succeeds { IsUnchangedUtf8 Cesu8 bytes.now → IsOk result }
     ensures capacity { BuildsTextOfCapacity result (lossy_length Cesu8 bytes.now) }
 {
-    borrow_or_build::decode_lossy_strict(alloc, Flavor::Cesu8, bytes)
+    borrow_or_build::decode_lossy_strict::<Cesu8Flavor>(alloc, bytes)
 }
 
 /// Decodes bytes that are UTF-8 as a whole, or else CESU-8 (Unicode Technical Report 26) that may
@@ -296,7 +301,7 @@ pub fn decode_lossy(alloc: Global, bytes: &[u8]) -> Result<CowText<'_>, AllocErr
     ensures succeeds { IsUtf8 bytes.now → IsOk result }
     ensures capacity { BuildsTextOfCapacity result (lossy_length Cesu8 bytes.now) }
 {
-    borrow_or_build::decode_lossy(alloc, Flavor::Cesu8, bytes)
+    borrow_or_build::decode_lossy::<Cesu8Flavor>(alloc, bytes)
 }
 
 /// Returns the length in bytes of the text that [`decode_strict`] returns, which decodes CESU-8
@@ -314,7 +319,7 @@ pub fn decoded_len(bytes: &[u8]) -> Option<usize>
         ReadsAtLength (IsStrictReading Cesu8 bytes.now) (λ text_len. len ≡ text_len)) }
     ensures none { IfNone result (HasNoStrictReading Cesu8 bytes.now) }
 {
-    internal::decoded_len(Flavor::Cesu8, bytes)
+    internal::decoded_len::<Cesu8Flavor>(bytes)
 }
 
 /// Returns the length in bytes of the text that [`decode_lossy_strict`] returns, which decodes
@@ -333,7 +338,7 @@ pub fn lossy_len(bytes: &[u8]) -> Option<usize>
     ensures some { IfSome result (λ len. len ≡ lossy_length Cesu8 bytes.now) }
     ensures none { IfNone result (usize.MAX < lossy_length Cesu8 bytes.now) }
 {
-    internal::lossy_len(Flavor::Cesu8, bytes)
+    internal::lossy_len::<Cesu8Flavor>(bytes)
 }
 
 /// Encodes a text to CESU-8 (Unicode Technical Report 26), in the caller's buffer.
@@ -352,7 +357,7 @@ pub fn lossy_len(bytes: &[u8]) -> Option<usize>
 pub fn encode_to_slice(value: &str, buf: &mut [u8]) -> Result<usize, TooShort>
     ensures { WritesAnswer (encoding Cesu8 (chars value.now)) result buf.old buf.new }
 {
-    internal::encode_to_slice(Flavor::Cesu8, value, buf)
+    internal::encode_to_slice::<Cesu8Flavor>(value, buf)
 }
 
 /// Decodes CESU-8 (Unicode Technical Report 26) strictly, and writes the UTF-8 of the text to the
@@ -373,7 +378,7 @@ pub fn encode_to_slice(value: &str, buf: &mut [u8]) -> Result<usize, TooShort>
 pub fn decode_strict_to_slice(bytes: &[u8], buf: &mut [u8]) -> Result<usize, DecodeSliceFault>
     ensures { WritesReading (λ text. IsStrictReading Cesu8 bytes.now text) result buf.old buf.new }
 {
-    internal::decode_strict_to_slice(Flavor::Cesu8, bytes, buf)
+    internal::decode_strict_to_slice::<Cesu8Flavor>(bytes, buf)
 }
 
 /// Decodes bytes that are UTF-8 as a whole, or else CESU-8 (Unicode Technical Report 26), and
@@ -394,7 +399,7 @@ pub fn decode_strict_to_slice(bytes: &[u8], buf: &mut [u8]) -> Result<usize, Dec
 pub fn decode_to_slice(bytes: &[u8], buf: &mut [u8]) -> Result<usize, DecodeSliceFault>
     ensures { WritesReading (λ text. IsLenientReading Cesu8 bytes.now text) result buf.old buf.new }
 {
-    internal::decode_to_slice(Flavor::Cesu8, bytes, buf)
+    internal::decode_to_slice::<Cesu8Flavor>(bytes, buf)
 }
 
 /// Decodes CESU-8 (Unicode Technical Report 26) that may be damaged, and writes to the caller's
@@ -416,7 +421,7 @@ pub fn decode_lossy_strict_to_slice(bytes: &[u8], buf: &mut [u8]) -> Result<usiz
     ensures { WritesLossyReading (λ text. text ≡ reading Cesu8 bytes.now)
         result buf.old buf.new }
 {
-    internal::decode_lossy_strict_to_slice(Flavor::Cesu8, bytes, buf)
+    internal::decode_lossy_strict_to_slice::<Cesu8Flavor>(bytes, buf)
 }
 
 /// Decodes bytes that are UTF-8 as a whole, or else CESU-8 (Unicode Technical Report 26) that may
@@ -438,5 +443,5 @@ pub fn decode_lossy_to_slice(bytes: &[u8], buf: &mut [u8]) -> Result<usize, Loss
     ensures { WritesLossyReading (λ text. IsLenientLossyReading Cesu8 bytes.now text)
         result buf.old buf.new }
 {
-    internal::decode_lossy_to_slice(Flavor::Cesu8, bytes, buf)
+    internal::decode_lossy_to_slice::<Cesu8Flavor>(bytes, buf)
 }

@@ -19,7 +19,8 @@ ghost use Rattle.simd_cesu8.specs.Slices.{ReadsAtLength, WritesAnswer, WritesRea
 use crate::counted_text::CountedText;
 use crate::cow::{CowBytes, CowText};
 use crate::error::{DecodeFault, DecodeSliceFault, LossySliceFault, TooShort};
-use crate::internal::Flavor;
+use crate::internal::value::Flavor;
+use crate::internal::{Mutf8Flavor, encoded_len_by_need};
 use crate::{borrow_or_build, internal};
 use std::alloc::{AllocError, Global};
 
@@ -34,7 +35,7 @@ use std::alloc::{AllocError, Global};
 pub fn needs_encoded(value: &str) -> bool
     ensures { IsTrue result ↔ NeedsEncoding Mutf8 (chars value.now) }
 {
-    internal::needs_encoded(Flavor::Mutf8, value)
+    internal::needs_encoded::<Mutf8Flavor>(value)
 }
 
 /// Returns the length in bytes of the MUTF-8 (Java's `DataOutput`, without a length in front) of a
@@ -46,7 +47,7 @@ pub fn needs_encoded(value: &str) -> bool
 pub fn encoded_len(value: &str) -> usize
     ensures { result ≡ length (encoding Mutf8 (chars value.now)) }
 {
-    internal::encoded_len(Flavor::Mutf8, value)
+    internal::encoded_len::<Mutf8Flavor>(value)
 }
 
 /// Returns the text with the length of its MUTF-8 (Java's `DataOutput`, without a length in front),
@@ -58,7 +59,11 @@ pub fn encoded_len(value: &str) -> usize
 pub fn counted(value: &str) -> CountedText<'_>
     ensures { counted_encoding result ≡ encoding Mutf8 (chars value.now) }
 {
-    CountedText::new(Flavor::Mutf8, value)
+    CountedText::new(
+        Flavor::Mutf8,
+        value,
+        encoded_len_by_need::<Mutf8Flavor>(value),
+    )
 }
 
 /// Encodes a text to MUTF-8 (Java's `DataOutput`, without a length in front).
@@ -81,7 +86,7 @@ pub fn encode(alloc: Global, value: &str) -> Result<CowBytes<'_>, AllocError>
     ensures succeeds { ¬ (NeedsEncoding Mutf8 (chars value.now)) → IsOk result }
     ensures capacity { BuildsBytesOfCapacity result (length (encoding Mutf8 (chars value.now))) }
 {
-    borrow_or_build::encode(alloc, Flavor::Mutf8, value)
+    borrow_or_build::encode::<Mutf8Flavor>(alloc, value)
 }
 
 /// Appends the MUTF-8 (Java's `DataOutput`, without a length in front) of a text to the buffer.
@@ -139,7 +144,7 @@ pub fn decode_strict(alloc: Global, bytes: &[u8]) -> Result<CowText<'_>, DecodeF
     ensures succeeds { IsUnchangedUtf8 Mutf8 bytes.now → IsOk result }
     ensures capacity { BuildsTextOfCapacity result (length bytes.now) }
 {
-    borrow_or_build::decode_strict(alloc, Flavor::Mutf8, bytes)
+    borrow_or_build::decode_strict::<Mutf8Flavor>(alloc, bytes)
 }
 
 /// Decodes bytes that are UTF-8 as a whole, or else MUTF-8 (Java's `DataInput`). It reads no input
@@ -169,7 +174,7 @@ pub fn decode(alloc: Global, bytes: &[u8]) -> Result<CowText<'_>, DecodeFault>
     ensures succeeds { IsUtf8 bytes.now → IsOk result }
     ensures capacity { BuildsTextOfCapacity result (length bytes.now) }
 {
-    borrow_or_build::decode(alloc, Flavor::Mutf8, bytes)
+    borrow_or_build::decode::<Mutf8Flavor>(alloc, bytes)
 }
 
 /// Decodes MUTF-8 (Java's `DataInput`) that may be damaged: returns each encoded character in the
@@ -194,7 +199,7 @@ pub fn decode_lossy_strict(alloc: Global, bytes: &[u8]) -> Result<CowText<'_>, A
     ensures succeeds { IsUnchangedUtf8 Mutf8 bytes.now → IsOk result }
     ensures capacity { BuildsTextOfCapacity result (lossy_length Mutf8 bytes.now) }
 {
-    borrow_or_build::decode_lossy_strict(alloc, Flavor::Mutf8, bytes)
+    borrow_or_build::decode_lossy_strict::<Mutf8Flavor>(alloc, bytes)
 }
 
 /// Decodes bytes that are UTF-8 as a whole, or else MUTF-8 (Java's `DataInput`) that may be
@@ -220,7 +225,7 @@ pub fn decode_lossy(alloc: Global, bytes: &[u8]) -> Result<CowText<'_>, AllocErr
     ensures succeeds { IsUtf8 bytes.now → IsOk result }
     ensures capacity { BuildsTextOfCapacity result (lossy_length Mutf8 bytes.now) }
 {
-    borrow_or_build::decode_lossy(alloc, Flavor::Mutf8, bytes)
+    borrow_or_build::decode_lossy::<Mutf8Flavor>(alloc, bytes)
 }
 
 /// Returns the length in bytes of the text that [`decode_strict`] returns, which decodes MUTF-8
@@ -238,7 +243,7 @@ pub fn decoded_len(bytes: &[u8]) -> Option<usize>
         ReadsAtLength (IsStrictReading Mutf8 bytes.now) (λ text_len. len ≡ text_len)) }
     ensures none { IfNone result (HasNoStrictReading Mutf8 bytes.now) }
 {
-    internal::decoded_len(Flavor::Mutf8, bytes)
+    internal::decoded_len::<Mutf8Flavor>(bytes)
 }
 
 /// Returns the length in bytes of the text that [`decode_lossy_strict`] returns, which decodes
@@ -257,7 +262,7 @@ pub fn lossy_len(bytes: &[u8]) -> Option<usize>
     ensures some { IfSome result (λ len. len ≡ lossy_length Mutf8 bytes.now) }
     ensures none { IfNone result (usize.MAX < lossy_length Mutf8 bytes.now) }
 {
-    internal::lossy_len(Flavor::Mutf8, bytes)
+    internal::lossy_len::<Mutf8Flavor>(bytes)
 }
 
 /// Encodes a text to MUTF-8 (Java's `DataOutput`, without a length in front), in the caller's
@@ -277,7 +282,7 @@ pub fn lossy_len(bytes: &[u8]) -> Option<usize>
 pub fn encode_to_slice(value: &str, buf: &mut [u8]) -> Result<usize, TooShort>
     ensures { WritesAnswer (encoding Mutf8 (chars value.now)) result buf.old buf.new }
 {
-    internal::encode_to_slice(Flavor::Mutf8, value, buf)
+    internal::encode_to_slice::<Mutf8Flavor>(value, buf)
 }
 
 /// Decodes MUTF-8 (Java's `DataInput`, without a length in front) strictly, and writes the UTF-8 of
@@ -298,7 +303,7 @@ pub fn encode_to_slice(value: &str, buf: &mut [u8]) -> Result<usize, TooShort>
 pub fn decode_strict_to_slice(bytes: &[u8], buf: &mut [u8]) -> Result<usize, DecodeSliceFault>
     ensures { WritesReading (λ text. IsStrictReading Mutf8 bytes.now text) result buf.old buf.new }
 {
-    internal::decode_strict_to_slice(Flavor::Mutf8, bytes, buf)
+    internal::decode_strict_to_slice::<Mutf8Flavor>(bytes, buf)
 }
 
 /// Decodes bytes that are UTF-8 as a whole, or else MUTF-8 (Java's `DataInput`), and writes the
@@ -319,7 +324,7 @@ pub fn decode_strict_to_slice(bytes: &[u8], buf: &mut [u8]) -> Result<usize, Dec
 pub fn decode_to_slice(bytes: &[u8], buf: &mut [u8]) -> Result<usize, DecodeSliceFault>
     ensures { WritesReading (λ text. IsLenientReading Mutf8 bytes.now text) result buf.old buf.new }
 {
-    internal::decode_to_slice(Flavor::Mutf8, bytes, buf)
+    internal::decode_to_slice::<Mutf8Flavor>(bytes, buf)
 }
 
 /// Decodes MUTF-8 (Java's `DataInput`) that may be damaged, and writes to the caller's buffer: the
@@ -341,7 +346,7 @@ pub fn decode_lossy_strict_to_slice(bytes: &[u8], buf: &mut [u8]) -> Result<usiz
     ensures { WritesLossyReading (λ text. text ≡ reading Mutf8 bytes.now)
         result buf.old buf.new }
 {
-    internal::decode_lossy_strict_to_slice(Flavor::Mutf8, bytes, buf)
+    internal::decode_lossy_strict_to_slice::<Mutf8Flavor>(bytes, buf)
 }
 
 /// Decodes bytes that are UTF-8 as a whole, or else MUTF-8 (Java's `DataInput`) that may be
@@ -363,5 +368,5 @@ pub fn decode_lossy_to_slice(bytes: &[u8], buf: &mut [u8]) -> Result<usize, Loss
     ensures { WritesLossyReading (λ text. IsLenientLossyReading Mutf8 bytes.now text)
         result buf.old buf.new }
 {
-    internal::decode_lossy_to_slice(Flavor::Mutf8, bytes, buf)
+    internal::decode_lossy_to_slice::<Mutf8Flavor>(bytes, buf)
 }

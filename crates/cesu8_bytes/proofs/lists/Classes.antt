@@ -58,11 +58,6 @@ four_marks n bytes long fits =
     ∙ map_agree _ _ bytes (Each1-weaker (Fits w8) _ (λ b h. ap ones (four_by_mask b h.fits)) bytes fits)
     )
 
--- A lane as bits: all ones where a test holds.
-bits_of_lane : (t : Bool) → of_z w8 (lane t) ≡ ones t
-bits_of_lane true = refl
-bits_of_lane false = refl
-
 either_ones : (s t : Bool) → bit_or (of_z w8 (lane s)) (of_z w8 (lane t)) ≡ ones (s || t)
 either_ones true true = refl
 either_ones true false = refl
@@ -85,16 +80,6 @@ or_ones true true = refl
 or_ones true false = refl
 or_ones false true = refl
 or_ones false false = refl
-
--- Two comparisons mark the bytes that are equal to one of two numbers.
-pub two_marks : (x y n : ℕ) (bytes : List ℕ) → length bytes ≡ n →
-    map (to_z w8) (zip2 bit_or (zip2 equal bytes (replicate n x)) (zip2 equal bytes (replicate n y)))
-    ≡ marks_of (λ b. eqb b x || eqb b y) bytes
-two_marks x y n bytes long =
-    marked (λ b. eqb b x || eqb b y) bytes _ (
-    zip2_of_maps bit_or (λ b. equal b x) (λ b. equal b y) bytes (zip2_splat equal bytes n x long) (zip2_splat equal bytes n y long)
-    ∙ map_agree _ _ bytes (Each1-all (λ b. bit_or (equal b x) (equal b y) ≡ ones (eqb b x || eqb b y)) (λ b. or_ones (eqb b x) (eqb b y)) bytes)
-    )
 
 and_ones : (s t : Bool) → bit_and (ones s) (ones t) ≡ ones (s && t)
 and_ones true true = refl

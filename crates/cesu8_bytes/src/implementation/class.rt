@@ -1,10 +1,11 @@
 //! Classes of bytes, which vectors of each width mark.
 
-ghost use Rattle.std.specs.Prelude.{◌≡◌, ◌==◌, ◌≤◌, ◌↔◌, ℕ, Bool, false, IsTrue, Any, map};
+ghost use Rattle.std.specs.Prelude.{◌≡◌, ◌==◌, ◌||◌, ◌≤◌, ◌↔◌, ℕ, Bool, false, IsTrue, Any, map};
 ghost use Rattle.std.specs.Simd.Lanes.{mask_l};
-ghost use Rattle.cesu8_text.specs.Class.{is_four, is_null_four, is_high, is_null_high, is_null_lead, is_lead, is_one_unit};
-ghost use Rattle.cesu8_bytes.specs.Kernels.{AnyIn, lane};
+ghost use Rattle.cesu8_text.specs.Class.{is_four, is_high, is_lead, is_one_unit};
+ghost use Rattle.cesu8_bytes.specs.Kernels.{AnyIn, lane, mask};
 
+use std::marker::PhantomData;
 use std::simd::Mask;
 use std::simd::prelude::*;
 
@@ -64,6 +65,14 @@ pub fn bits<C: InVectors<N>, const N: usize>(bytes: Simd<u8, N>) -> u64
     C::marks(bytes).to_bitmask()
 }
 
+/// Returns all ones for each byte of the class, and zeros for the others.
+#[inline(always)]
+pub fn mask<C: InVectors<32>>(bytes: u8x32) -> u8x32
+    ensures { result ≡ map (λ b. mask (C.class b)) bytes }
+{
+    C::marks(bytes).select(u8x32::splat(0xFF), u8x32::splat(0))
+}
+
 /// No byte.
 pub struct NoByte;
 
@@ -73,20 +82,14 @@ pub struct Null;
 /// F0 to F7 (hexadecimal): those whose upper five bits are those of F0.
 pub struct Four;
 
-/// 00, or F0 to F7 (hexadecimal).
-pub struct NullFour;
-
 /// F0 (hexadecimal) or more.
 pub struct Lead;
-
-/// 00, or F0 (hexadecimal) or more.
-pub struct NullLead;
 
 /// 80 (hexadecimal) or more: what is not ASCII.
 pub struct High;
 
-/// 00, or 80 (hexadecimal) or more.
-pub struct NullHigh;
+/// The bytes of one class or the other.
+pub struct Either<A, B>(PhantomData<(A, B)>);
 
 /// 00 to 7F, or C0 to EF (hexadecimal): in UTF-8 the lead bytes of one UTF-16 code unit.
 pub struct OneUnit;
@@ -131,19 +134,6 @@ impl<const N: usize> InVectors<N> for Four {
     }
 }
 
-impl Class for NullFour {
-    ghost class = { is_null_four };
-}
-
-impl<const N: usize> InVectors<N> for NullFour {
-    #[inline(always)]
-    fn marks(bytes: Simd<u8, N>) -> Mask<i8, N>
-        ensures { result ≡ map (λ b. lane (is_null_four b)) bytes.entry }
-    {
-        Null::marks(bytes) | Four::marks(bytes)
-    }
-}
-
 impl Class for Lead {
     ghost class = { is_lead };
 }
@@ -154,19 +144,6 @@ impl<const N: usize> InVectors<N> for Lead {
         ensures { result ≡ map (λ b. lane (is_lead b)) bytes.entry }
     {
         bytes.simd_ge(Simd::splat(0xF0))
-    }
-}
-
-impl Class for NullLead {
-    ghost class = { is_null_lead };
-}
-
-impl<const N: usize> InVectors<N> for NullLead {
-    #[inline(always)]
-    fn marks(bytes: Simd<u8, N>) -> Mask<i8, N>
-        ensures { result ≡ map (λ b. lane (is_null_lead b)) bytes.entry }
-    {
-        Null::marks(bytes) | Lead::marks(bytes)
     }
 }
 
@@ -183,16 +160,16 @@ impl<const N: usize> InVectors<N> for High {
     }
 }
 
-impl Class for NullHigh {
-    ghost class = { is_null_high };
+impl<A: Class, B: Class> Class for Either<A, B> {
+    ghost class = { λ b. A.class b || B.class b };
 }
 
-impl<const N: usize> InVectors<N> for NullHigh {
+impl<A: InVectors<N>, B: InVectors<N>, const N: usize> InVectors<N> for Either<A, B> {
     #[inline(always)]
     fn marks(bytes: Simd<u8, N>) -> Mask<i8, N>
-        ensures { result ≡ map (λ b. lane (is_null_high b)) bytes.entry }
+        ensures { result ≡ map (λ b. lane (A.class b || B.class b)) bytes.entry }
     {
-        Null::marks(bytes) | High::marks(bytes)
+        A::marks(bytes) | B::marks(bytes)
     }
 }
 
@@ -216,14 +193,10 @@ impl InAllVectors for Null {}
 
 impl InAllVectors for Four {}
 
-impl InAllVectors for NullFour {}
-
 impl InAllVectors for High {}
-
-impl InAllVectors for NullHigh {}
 
 impl InAllVectors for Lead {}
 
-impl InAllVectors for NullLead {}
-
 impl InAllVectors for OneUnit {}
+
+impl<A: InAllVectors, B: InAllVectors> InAllVectors for Either<A, B> {}

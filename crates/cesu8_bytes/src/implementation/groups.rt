@@ -9,7 +9,7 @@ ghost use Rattle.std.specs.Prelude.{◌≡◌, ◌==◌, ◌≤◌, ◌<◌, ◌
 ghost use Rattle.cesu8_text.specs.Class.{is_four, is_null_four, is_lead, is_high};
 ghost use Rattle.cesu8_bytes.specs.Kernels.{AnyIn};
 
-use super::class::{Four, High, InVectors, LANES, Lead, Null, NullFour, any_in_each, has};
+use super::class::{Either, Four, High, InVectors, LANES, Lead, Null, any_in_each, has};
 use std::simd::prelude::*;
 
 /// A class that four vectors at once may be tested for.
@@ -38,7 +38,7 @@ impl<const N: usize> InGroups<N> for Four {
     }
 }
 
-impl<const N: usize> InGroups<N> for NullFour {
+impl<const N: usize> InGroups<N> for Either<Null, Four> {
     #[inline(always)]
     fn may_have(group: &[[u8; N]; 4]) -> bool
         requires { N ≤ LANES }
@@ -60,7 +60,7 @@ impl<const N: usize> InGroups<N> for High {
 
 impl InAllGroups for Four {}
 
-impl InAllGroups for NullFour {}
+impl InAllGroups for Either<Null, Four> {}
 
 /// Returns whether some byte of the chunks is in the class. A short value has no chunk of most
 /// widths.

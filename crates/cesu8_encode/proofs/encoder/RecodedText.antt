@@ -7,8 +7,6 @@ use Rattle.std.proofs.lemmas.Nat.{and_mask, or_shifted}
 use lib.Bits.{or_add_and, and_zero_r}
 use Rattle.cesu8_text.specs.Text.{IsText, utf8_of, utf8}
 use Rattle.cesu8_text.specs.Encoding.{Flavor, Cesu8, Mutf8, encoding, short_form}
-use Rattle.cesu8_bytes.specs.Internal.{flavor_of}
-use Rattle.cesu8_bytes.specs.declared.options.Flavor.{Flavor as FlavorOption}
 use Rattle.cesu8_text.specs.Class.{is_null}
 use Rattle.cesu8_encode.specs.EncodedPlaces.{six_bits, encoded_byte, encoded_byte_at, encoded_bytes, recoded}
 use Rattle.cesu8_text.proofs.StdUtf8.{IsUtf8Of_chars}
@@ -168,13 +166,7 @@ unfolding encoded_bytes
 recoded_utf8 f text is_text = by_places f 0 0 (utf8 text) ∙ text_written f text is_text 0 0 (omega arith) (omega arith)
 
 -- The same of the text that std's UTF-8 has.
-recoded_chars : (f : Flavor) (bytes text : List ℕ) → text ≡ bytes → IsUtf8 bytes → recoded f text ≡ encoding f (chars bytes)
+pub recoded_chars : (f : Flavor) (bytes text : List ℕ) → text ≡ bytes → IsUtf8 bytes → recoded f text ≡ encoding f (chars bytes)
 recoded_chars f bytes text same_bytes is_utf8 =
     let of_chars = IsUtf8Of_chars bytes is_utf8 in
     ap (recoded f) (same_bytes ∙ sym of_chars.1) ∙ recoded_utf8 f (chars bytes) of_chars.0
-
--- The same in the flavor that the code's value names.
-pub recoded_named : (option flavor : FlavorOption) (bytes text : List ℕ) → flavor ≡ option → text ≡ bytes → IsUtf8 bytes →
-    recoded (flavor_of option) text ≡ encoding (flavor_of flavor) (chars bytes)
-recoded_named option flavor bytes text is same_bytes is_utf8 =
-    recoded_chars (flavor_of option) bytes text same_bytes is_utf8 ∙ ap (λ o. encoding (flavor_of o) (chars bytes)) (sym is)

@@ -1,13 +1,12 @@
 use Rattle.std.proofs.Common.{◌≡◌, ◌++◌, ◌∙◌, ap, refl, arith, length, take, get_or}
-use Rattle.cesu8_bytes.specs.Internal.{flavor_of}
 use Rattle.cesu8_bytes.specs.Joining.{HasPair, HasNull}
 use Rattle.cesu8_bytes.proofs.pieces.Joining.{keeps_pair, keeps_null, written_at, written_whole}
 use Rattle.cesu8_bytes.proofs.joining.join_changed.Goals.{then-leads_pair, else-leads_pair, then-leads_pair-2, else-leads_pair-2}
 use Rattle.cesu8_bytes.proofs.joining.join_changed.Goals as goal
 
 pub returns-clause-joined : goal.returns-clause-joined
-returns-clause-joined c =
-    let f = flavor_of c.args.flavor in
+returns-clause-joined g c =
+    let f = g.F.Flavor.flavor in
     let bytes = c.args.bytes.now in
     let before = take c.args.written c.args.room.now in
     let same = c.if-bits-expected.false in

@@ -1,14 +1,13 @@
 use Rattle.std.proofs.Common.{[], arith, ◌∙◌, sym, refl, length-drop, drop}
 use Rattle.std.proofs.lemmas.List.{take_rest, drop-drop}
-use Rattle.cesu8_bytes.specs.Internal.{flavor_of}
 use Rattle.cesu8_bytes.specs.declared.options.Strictness.TheVariants.{Strict, Lossy}
 use Rattle.cesu8_decode.proofs.pieces.ReadPieces.{nothing_read}
 use Rattle.cesu8_decode.proofs.pieces.Characters.{more_lossy, more_strict, first_fault, read_some, read_all}
 use Rattle.cesu8_decode.proofs.characters.write_characters.Goals as goal
 
 pub loop-read-init : goal.loop-read-init
-loop-read-init c =
-    let f = flavor_of c.args.flavor in
+loop-read-init g c =
+    let f = g.F.Flavor.flavor in
     record {
       inside = omega arith;
       room = omega arith;
@@ -20,8 +19,8 @@ loop-read-init c =
     }
 
 pub loop-read-preserved : goal.loop-read-preserved
-loop-read-preserved c =
-    let f = flavor_of c.args.flavor in
+loop-read-preserved g c =
+    let f = g.F.Flavor.flavor in
     let bytes = c.args.bytes.now in
     let n = c.loop-read.read in
     let m = c.write_next-step.result.read in
@@ -40,7 +39,7 @@ loop-read-preserved c =
     })
 
 pub returns-clause-read : goal.returns-clause-read
-returns-clause-read c =
+returns-clause-read g c =
     let which = c.args.strictness in
     let inv = c.loop-read.invariant in
     let stopped = c.loop-read-test.false in

@@ -1,20 +1,19 @@
 use Rattle.std.proofs.Common.{◌≡◌, ◌*◌, ◌-◌, ◌<◌, ◌≤◌, length, take, drop, true, false}
-use Rattle.cesu8_bytes.specs.Internal.{flavor_of}
 use Rattle.cesu8_bytes.specs.Pieces.{IsPiece}
 use Rattle.cesu8_decode.specs.Decoding.{HasFault}
 use Rattle.cesu8_bytes.specs.declared.options.Strictness.TheVariants.{Strict, Lossy}
 use Rattle.cesu8_decode.proofs.characters.write_characters.Given as goal
 
 abbrev pub decreases-loop-read : goal.decreases-loop-read
-decreases-loop-read l = length l.fn.bytes - l.read
+decreases-loop-read g l = length l.fn.bytes - l.read
 
 abbrev pub invariant-loop-read : goal.invariant-loop-read
-invariant-loop-read l = record {
+invariant-loop-read g l = record {
   inside : l.read ≤ length l.fn.bytes;
   room : l.end ≤ 3 * l.read;
   some : l.is_damaged ≡ true → 0 < l.read;
-  lossy : IsPiece (flavor_of l.fn.flavor) Lossy l.fn.bytes (drop l.read l.fn.bytes) (take l.end l.out);
-  strict : l.is_damaged ≡ false → IsPiece (flavor_of l.fn.flavor) Strict l.fn.bytes (drop l.read l.fn.bytes) (take l.end l.out);
-  damaged : l.is_damaged ≡ true → HasFault (flavor_of l.fn.flavor) l.fn.bytes;
+  lossy : IsPiece g.F.Flavor.flavor Lossy l.fn.bytes (drop l.read l.fn.bytes) (take l.end l.out);
+  strict : l.is_damaged ≡ false → IsPiece g.F.Flavor.flavor Strict l.fn.bytes (drop l.read l.fn.bytes) (take l.end l.out);
+  damaged : l.is_damaged ≡ true → HasFault g.F.Flavor.flavor l.fn.bytes;
   len : length l.out ≡ length l.initial.out;
 }

@@ -1,13 +1,12 @@
 use Rattle.std.proofs.Common.{arith}
 use Rattle.std.proofs.lemmas.Str.{IsUtf8-from_ascii}
-use Rattle.cesu8_bytes.specs.Internal.{flavor_of}
 use Rattle.cesu8_decode.specs.PutReadings.{IsReadingOf}
 use Rattle.cesu8_decode.proofs.pieces.SliceReadings.{only_unchanged, text_put}
 use Rattle.cesu8_decode.proofs.copy_or_write.put_encoding.Goals as goal
 
 pub returns-then-is_short_unchanged_ascii : goal.returns-then-is_short_unchanged_ascii
-returns-then-is_short_unchanged_ascii c =
-    let f = flavor_of c.args.flavor in
+returns-then-is_short_unchanged_ascii g c =
+    let f = g.F.Flavor.flavor in
     let which = c.args.strictness in
     let bytes = c.args.bytes.now in
     let found = c.if-is_short_unchanged_ascii.true in

@@ -3,14 +3,13 @@ use Rattle.std.specs.Prelude.{Any}
 use Rattle.cesu8_text.specs.Class.{IsChangedByte}
 use Rattle.cesu8_text.proofs.encoding.EncodedBytes.{none_changed}
 use Rattle.std.proofs.lemmas.Bool.{iff_false}
-use Rattle.cesu8_bytes.specs.Internal.{flavor_of}
 use Rattle.cesu8_decode.specs.PutReadings.{IsReadingOf}
 use Rattle.cesu8_decode.proofs.pieces.SliceReadings.{no_strict_text, only_unchanged, text_put}
 use Rattle.cesu8_decode.proofs.copy_or_write.put_other_encoding.Goals as goal
 
 pub returns-then-whole_text-bytes : goal.returns-then-whole_text-bytes
-returns-then-whole_text-bytes c =
-    let f = flavor_of c.args.flavor in
+returns-then-whole_text-bytes g c =
+    let f = g.F.Flavor.flavor in
     let which = c.args.strictness in
     let bytes = c.args.bytes.now in
     text_put which (IsReadingOf f which bytes) _ _ c.copy_to_slice.result c.map_err.result c.args.buf.now c.copy_to_slice.new.buf
@@ -19,8 +18,8 @@ returns-then-whole_text-bytes c =
 
 -- No encoding has a byte that changes.
 pub returns-in-Strict : goal.returns-in-Strict
-returns-in-Strict c =
-    let f = flavor_of c.args.flavor in
+returns-in-Strict g c =
+    let f = g.F.Flavor.flavor in
     no_strict_text f c.args.strictness c.args.bytes.now c.args.buf.now (
       c.in-Strict.is,
       λ text reads.

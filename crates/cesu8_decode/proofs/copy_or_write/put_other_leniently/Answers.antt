@@ -1,12 +1,11 @@
 use Rattle.std.proofs.Common.{arith}
-use Rattle.cesu8_bytes.specs.Internal.{flavor_of}
 use Rattle.cesu8_decode.specs.PutReadings.{IsReadingOf, IsLenientReadingOf}
 use Rattle.cesu8_decode.proofs.pieces.SliceReadings.{only_utf8, text_put, same_reading, lenient_is_other}
 use Rattle.cesu8_decode.proofs.copy_or_write.put_other_leniently.Goals as goal
 
 pub returns-then-whole_text-bytes : goal.returns-then-whole_text-bytes
-returns-then-whole_text-bytes c =
-    let f = flavor_of c.args.flavor in
+returns-then-whole_text-bytes g c =
+    let f = g.F.Flavor.flavor in
     let which = c.args.strictness in
     let bytes = c.args.bytes.now in
     text_put which (IsLenientReadingOf f which bytes) _ _ c.copy_to_slice.result c.map_err.result c.args.buf.now c.copy_to_slice.new.buf
@@ -14,8 +13,8 @@ returns-then-whole_text-bytes c =
     (omega arith) c.map_err.ensures.cases c.copy_to_slice.ensures
 
 pub returns : goal.returns
-returns c =
-    let f = flavor_of c.args.flavor in
+returns g c =
+    let f = g.F.Flavor.flavor in
     let which = c.args.strictness in
     let bytes = c.args.bytes.now in
     same_reading (IsReadingOf f which bytes) (IsLenientReadingOf f which bytes)

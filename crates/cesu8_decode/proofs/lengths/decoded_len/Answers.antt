@@ -1,14 +1,13 @@
 use Rattle.std.proofs.Common.{◌≡◌, ℕ, arith, length, Option, Some, None, IfNone}
 use Rattle.std.proofs.lemmas.Option.{IfSome_then}
 use Rattle.cesu8_text.specs.Reading.{IsStrictReading, reading, lossy_length}
-use Rattle.cesu8_bytes.specs.Internal.{flavor_of}
 use Rattle.cesu8_bytes.specs.declared.options.Strictness.TheVariants.{Strict}
 use Rattle.cesu8_decode.proofs.pieces.SliceReadings.{only_unchanged, of_length, strict_no_longer}
 use Rattle.cesu8_decode.proofs.lengths.decoded_len.Goals as goal
 
 pub returns-then-text-bytes-clause-some : goal.returns-then-text-bytes-clause-some
-returns-then-text-bytes-clause-some c =
-    let f = flavor_of c.args.flavor in
+returns-then-text-bytes-clause-some g c =
+    let f = g.F.Flavor.flavor in
     let bytes = c.args.bytes.now in
     of_length (IsStrictReading f bytes) (λ n. length c.unchanged_text-text.result.now ≡ n) _ bytes
     (only_unchanged f Strict bytes (c.unchanged_text-text.ensures.whole c.if-text-bytes.true).1) c.if-text-bytes.true
@@ -16,8 +15,8 @@ returns-then-text-bytes-clause-some c =
 -- The lossy reading is the strict one, and its length fits.
 pub returns-clause-some : goal.returns-clause-some
 unfolding lossy_length
-returns-clause-some c =
-    let f = flavor_of c.args.flavor in
+returns-clause-some g c =
+    let f = g.F.Flavor.flavor in
     let bytes = c.args.bytes.now in
     IfSome_then c.lossy_len.result c.lossy_len.ensures.some
     (λ len is. (reading f bytes, c.is_damaged.ensures.whole c.if-is_damaged.false, is))
@@ -28,8 +27,8 @@ never_none P Q (Some len) never none = tt
 never_none P Q None never none = absurd (never none)
 
 pub returns-clause-none : goal.returns-clause-none
-returns-clause-none c =
-    let f = flavor_of c.args.flavor in
+returns-clause-none g c =
+    let f = g.F.Flavor.flavor in
     let bytes = c.args.bytes.now in
     let short = strict_no_longer f bytes (c.is_damaged.ensures.whole c.if-is_damaged.false) in
     never_none _ _ c.lossy_len.result (λ long. omega (arith, short)) c.lossy_len.ensures.none

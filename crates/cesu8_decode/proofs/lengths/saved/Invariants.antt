@@ -3,7 +3,7 @@ use Rattle.cesu8_decode.specs.DecodedPlaces.{saved, total_weight}
 use Rattle.cesu8_decode.proofs.lengths.saved.Given as goal
 
 abbrev pub invariant-loop-rest : goal.invariant-loop-rest
-invariant-loop-rest g l = l.saved + total_weight saved g.N.NullForm.flavor l.rest ≡ total_weight saved g.N.NullForm.flavor l.fn.bytes
+invariant-loop-rest g l = l.saved + total_weight saved g.F.Flavor.flavor l.rest ≡ total_weight saved g.F.Flavor.flavor l.fn.bytes
 
 abbrev pub decreases-loop-rest : goal.decreases-loop-rest
 decreases-loop-rest g l = length l.rest

@@ -3,5 +3,5 @@ use Rattle.cesu8_decode.proofs.parts.damaged.Goals as goal
 
 pub returns : goal.returns
 returns g c =
-    first_damaged g.N.NullForm.flavor c.args.window.now c.args.codes.now c.args.at c.requires.codes c.requires.window c.args.count c.requires.count
+    first_damaged g.F.Flavor.flavor c.args.window.now c.args.codes.now c.args.at c.requires.codes c.requires.window c.args.count c.requires.count
     c.type_inv.window _ _ _ c.equal-alone.ensures c.nulls.ensures c.behind.ensures

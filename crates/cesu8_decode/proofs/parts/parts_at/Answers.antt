@@ -3,7 +3,7 @@ use Rattle.cesu8_decode.proofs.parts.parts_at.Goals as goal
 
 pub returns-clause-written : goal.returns-clause-written
 returns-clause-written g c =
-    let f = g.N.NullForm.flavor in
+    let f = g.F.Flavor.flavor in
     let window = c.args.window.now in
     block_written f window c.args.at c.args.count _ _ _ _ _ (c.gone.ensures f window c.args.at c.requires.codes) c.damaged.ensures
     (c.changed_bytes.ensures f c.args.count c.requires.count c.requires.codes)

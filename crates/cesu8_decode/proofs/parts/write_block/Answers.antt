@@ -7,10 +7,10 @@ use Rattle.cesu8_decode.proofs.parts.write_block.Goals as goal
 
 pub returns-clause-damaged : goal.returns-clause-damaged
 returns-clause-damaged g c some =
-    some_bit (is_damaged_at g.N.NullForm.flavor c.args.window.now) c.args.at c.args.count (32 - c.args.count)
+    some_bit (is_damaged_at g.F.Flavor.flavor c.args.window.now) c.args.at c.args.count (32 - c.args.count)
     (λ none. eqb-false _ _ (not-true _ some) (c.highest_bits-is_damaged.ensures ∙ ap mask_l c.parts_at-parts.ensures.damaged ∙ none))
 
 pub returns-clause-whole : goal.returns-clause-whole
 returns-clause-whole g c none =
-    no_bit (is_damaged_at g.N.NullForm.flavor c.args.window.now) c.args.at c.args.count (32 - c.args.count)
+    no_bit (is_damaged_at g.F.Flavor.flavor c.args.window.now) c.args.at c.args.count (32 - c.args.count)
     (sym (c.highest_bits-is_damaged.ensures ∙ ap mask_l c.parts_at-parts.ensures.damaged) ∙ eqb-true _ _ (not-false _ none))

@@ -1,28 +1,27 @@
 use Rattle.std.proofs.Common.{◌∙◌, [], sym, arith, take, length-append}
 use Rattle.std.proofs.lemmas.List.{take_rest, length-take-le}
-use Rattle.cesu8_bytes.specs.Internal.{flavor_of}
 use Rattle.cesu8_decode.specs.PutReadings.{IsReadingOf}
 use Rattle.cesu8_decode.proofs.pieces.ReadPieces.{none_behind, none_refused, piece_unless_refused}
 use Rattle.cesu8_decode.proofs.pieces.SliceReadings.{no_strict_text, only_two_pieces, text_put}
 use Rattle.cesu8_decode.proofs.slices.put_joined.Goals as goal
 
 pub returns-then-is_refused : goal.returns-then-is_refused
-returns-then-is_refused c =
-    let f = flavor_of c.args.flavor in
+returns-then-is_refused g c =
+    let f = g.F.Flavor.flavor in
     let which = c.args.strictness in
     let bytes = c.args.bytes.now in
     no_strict_text f which bytes c.args.buf.now
     (none_behind f which bytes _ _ [] _ _ _ (piece_unless_refused f which bytes _ _ _ c.in-Joined.ensures (none_refused which))
-    (rw take_rest at c.write_by_places-decoded.ensures.first) (sym c.is_refused.ensures ∙ c.if-is_refused.true))
+    (rw take_rest at c.write_window-decoded.ensures.first) (sym c.is_refused.ensures ∙ c.if-is_refused.true))
 
 pub returns : goal.returns
-returns c =
-    let f = flavor_of c.args.flavor in
+returns g c =
+    let f = g.F.Flavor.flavor in
     let which = c.args.strictness in
     let bytes = c.args.bytes.now in
-    let decoded = c.write_by_places-decoded.ensures in
-    let end = c.write_by_places-decoded.result.end in
-    let written = c.write_by_places-decoded.new.written in
+    let decoded = c.write_window-decoded.ensures in
+    let end = c.write_window-decoded.result.end in
+    let written = c.write_window-decoded.new.out in
     let only = only_two_pieces f which bytes _ _ _ _
     (piece_unless_refused f which bytes _ _ _ c.in-Joined.ensures (none_refused which))
     (piece_unless_refused f which _ _ _ _ (rw take_rest at decoded.first) (sym c.is_refused.ensures ∙ c.if-is_refused.false)) (rw take_rest at (decoded.all (omega arith))) in

@@ -1,25 +1,24 @@
 use Rattle.std.proofs.Common.{◌≡◌, ℕ, List, sym, subst, arith}
 use Rattle.cesu8_text.specs.Reading.{IsStrictReading, reading, lossy_length}
-use Rattle.cesu8_bytes.specs.Internal.{flavor_of}
 use Rattle.cesu8_bytes.specs.declared.options.Strictness.TheVariants.{Strict, Lossy}
 use Rattle.cesu8_decode.specs.PutReadings.{PutsText, IsReadingOf}
 use Rattle.cesu8_decode.proofs.pieces.SliceReadings.{only_strict, only_lossy, strict_no_longer, text_lacks, text_put, length_lacks}
 use Rattle.cesu8_decode.proofs.slices.put_pieces.Goals as goal
 
 pub returns-then-is_damaged : goal.returns-then-is_damaged
-returns-then-is_damaged c =
-    let f = flavor_of c.args.flavor in
+returns-then-is_damaged g c =
+    let f = g.F.Flavor.flavor in
     text_lacks c.args.strictness _ c.args.buf.now c.in-Strict.is
     (subst (λ which. (text : List ℕ) → ¬ (IsReadingOf f which c.args.bytes.now text)) (sym c.in-Strict.is) (c.is_damaged.ensures.damaged c.if-is_damaged.true))
 
 pub put_undamaged-requires : goal.put_undamaged-requires
-put_undamaged-requires c =
-    strict_no_longer (flavor_of c.args.flavor) c.args.bytes.now (c.is_damaged.ensures.whole c.if-is_damaged.false)
+put_undamaged-requires g c =
+    strict_no_longer g.F.Flavor.flavor c.args.bytes.now (c.is_damaged.ensures.whole c.if-is_damaged.false)
 
 pub returns-else-is_damaged : goal.returns-else-is_damaged
 unfolding lossy_length
-returns-else-is_damaged c =
-    let f = flavor_of c.args.flavor in
+returns-else-is_damaged g c =
+    let f = g.F.Flavor.flavor in
     let bytes = c.args.bytes.now in
     let whole = c.is_damaged.ensures.whole c.if-is_damaged.false in
     subst (λ which. PutsText which (IsReadingOf f which bytes) c.map_err.result c.args.buf.now c.put_undamaged.new.buf) (sym c.in-Strict.is)
@@ -29,8 +28,8 @@ returns-else-is_damaged c =
 
 pub returns-in-Some : goal.returns-in-Some
 unfolding lossy_length
-returns-in-Some c =
-    let f = flavor_of c.args.flavor in
+returns-in-Some g c =
+    let f = g.F.Flavor.flavor in
     let bytes = c.args.bytes.now in
     subst (λ which. PutsText which (IsReadingOf f which bytes) c.map_err-in-Some.result c.args.buf.now c.put_of_length.new.buf) (sym c.in-Lossy.is)
     (text_put Lossy (λ text. text ≡ reading f bytes) _ _ c.put_of_length.result c.map_err-in-Some.result c.args.buf.now c.put_of_length.new.buf
@@ -39,8 +38,8 @@ returns-in-Some c =
 
 pub returns-in-None : goal.returns-in-None
 unfolding lossy_length
-returns-in-None c =
-    let f = flavor_of c.args.flavor in
+returns-in-None g c =
+    let f = g.F.Flavor.flavor in
     let bytes = c.args.bytes.now in
     subst (λ which. PutsText which (IsReadingOf f which bytes) _ c.args.buf.now c.args.buf.now) (sym c.in-Lossy.is)
     (length_lacks (λ text. text ≡ reading f bytes) _ _ c.args.buf.now (only_lossy f bytes) (omega (arith, c.in-None.ensures.none)) (omega arith))

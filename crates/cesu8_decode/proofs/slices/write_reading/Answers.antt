@@ -1,50 +1,49 @@
 use Rattle.std.proofs.Common.{◌∙◌, sym, ap, arith, length, ◌++◌, take, ◌+◌}
 use Rattle.std.proofs.lemmas.Bool.{eqb-true}
 use Rattle.std.proofs.lemmas.List.{take_rest}
-use Rattle.cesu8_bytes.specs.Internal.{flavor_of}
 use Rattle.cesu8_decode.proofs.pieces.ReadPieces.{piece_length}
 use Rattle.cesu8_decode.proofs.pieces.WrittenPieces.{nothing_written, piece_put, all_written}
 use Rattle.cesu8_decode.proofs.slices.write_reading.Goals as goal
 
 pub loop-rest-init : goal.loop-rest-init
-loop-rest-init c = nothing_written (flavor_of c.args.flavor) c.args.bytes.now c.args.out.now
+loop-rest-init g c = nothing_written g.F.Flavor.flavor c.args.bytes.now c.args.out.now
 
 pub put-end-requires : goal.put-end-requires
-put-end-requires c =
+put-end-requires g c =
     omega (
       arith,
       c.requires,
       c.loop-rest.invariant.room,
       c.loop-rest.invariant.len,
       ap length c.as_bytes.ensures.value,
-      piece_length (flavor_of c.args.flavor) c.loop-rest.rest.now _ _ c.in-Joined.ensures.lossy,
+      piece_length g.F.Flavor.flavor c.loop-rest.rest.now _ _ c.in-Joined.ensures.lossy,
     )
 
 pub loop-rest-preserved-in-Joined : goal.loop-rest-preserved-in-Joined
-loop-rest-preserved-in-Joined c =
-    rw take_rest (piece_put (flavor_of c.args.flavor) c.args.bytes.now c.loop-rest.rest.now _ _ _ _ _ _ _ _
+loop-rest-preserved-in-Joined g c =
+    rw take_rest (piece_put g.F.Flavor.flavor c.args.bytes.now c.loop-rest.rest.now _ _ _ _ _ _ _ _
     c.loop-rest.invariant c.in-Joined.ensures
     (c.put-end.ensures.bytes ∙ ap (λ bs. take c.loop-rest.end c.loop-rest.out ++ bs) c.as_bytes.ensures.value)
     (c.put-end.ensures.end ∙ ap (λ bs. c.loop-rest.end + length bs) c.as_bytes.ensures.value)
     c.put-end.ensures.behind c.put-end.ensures.len)
 
 pub put-end-requires-in-Written : goal.put-end-requires-in-Written
-put-end-requires-in-Written c =
+put-end-requires-in-Written g c =
     omega (
       arith,
       c.requires,
       c.loop-rest.invariant.room,
       c.loop-rest.invariant.len,
-      piece_length (flavor_of c.args.flavor) c.loop-rest.rest.now _ _ c.in-Written.ensures.0.lossy,
+      piece_length g.F.Flavor.flavor c.loop-rest.rest.now _ _ c.in-Written.ensures.0.lossy,
     )
 
 pub loop-rest-preserved : goal.loop-rest-preserved
-loop-rest-preserved c =
+loop-rest-preserved g c =
     let put = c.put-end-in-Written.ensures in
-    rw take_rest (piece_put (flavor_of c.args.flavor) c.args.bytes.now c.loop-rest.rest.now _ _ _ _ _ _ _ _
+    rw take_rest (piece_put g.F.Flavor.flavor c.args.bytes.now c.loop-rest.rest.now _ _ _ _ _ _ _ _
     c.loop-rest.invariant c.in-Written.ensures.0 put.bytes put.end put.behind put.len)
 
 pub returns : goal.returns
-returns c =
-    all_written (flavor_of c.args.flavor) c.args.bytes.now c.loop-rest.rest.now c.loop-rest.end _ _
+returns g c =
+    all_written g.F.Flavor.flavor c.args.bytes.now c.loop-rest.rest.now c.loop-rest.end _ _
     c.loop-rest.invariant (eqb-true _ _ (sym c.is_empty.ensures ∙ c.loop-rest-test.false))

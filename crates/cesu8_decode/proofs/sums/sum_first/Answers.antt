@@ -6,12 +6,12 @@ use Rattle.cesu8_decode.proofs.sums.sum_first.Goals as goal
 
 pub returns-then-bytes-lt-REACH-clause-sum : goal.returns-then-bytes-lt-REACH-clause-sum
 returns-then-bytes-lt-REACH-clause-sum g c =
-    omega (arith, no_weight g.W.Weight.weight g.N.NullForm.flavor [] refl, c.sum_of_few.ensures)
+    omega (arith, no_weight g.W.Weight.weight g.F.Flavor.flavor [] refl, c.sum_of_few.ensures)
 
 pub returns-clause-sum : goal.returns-clause-sum
 returns-clause-sum g c =
     let weight = g.W.Weight.weight in
-    let f = g.N.NullForm.flavor in
+    let f = g.F.Flavor.flavor in
     let n = 32 * c.min-count.result in
     let parts = weight_by_parts weight f c.args.bytes.now n (omega arith) in
     let rest = ap (total_weight weight f) (take_rest c.args.bytes.now n) in

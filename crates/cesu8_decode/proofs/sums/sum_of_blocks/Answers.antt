@@ -6,7 +6,7 @@ pub overflow_add-lanes : goal.overflow_add-lanes
 overflow_add-lanes g c = block_fits _ g.met.W.Weight.light _ _ _ _ _ c.loop-i.invariant c.weight_lanes-lanes.ensures (omega arith)
 
 pub loop-i-init : goal.loop-i-init
-loop-i-init g c = no_sum g.W.Weight.weight g.N.NullForm.flavor c.args.bytes.now
+loop-i-init g c = no_sum g.W.Weight.weight g.F.Flavor.flavor c.args.bytes.now
 
 pub loop-i-preserved : goal.loop-i-preserved
 loop-i-preserved g c = block_summed _ g.met.W.Weight.light _ _ _ _ _ c.loop-i.invariant c.weight_lanes-lanes.ensures

@@ -2,4 +2,4 @@ use Rattle.cesu8_decode.proofs.decoder.WeightLanes.{HaveSum}
 use Rattle.cesu8_decode.proofs.sums.sum_of_blocks.Given as goal
 
 abbrev pub invariant-loop-i : goal.invariant-loop-i
-invariant-loop-i g l = HaveSum g.W.Weight.weight g.N.NullForm.flavor l.bytes l.i l.lanes
+invariant-loop-i g l = HaveSum g.W.Weight.weight g.F.Flavor.flavor l.bytes l.i l.lanes

@@ -8,7 +8,7 @@ use Rattle.cesu8_decode.proofs.sums.weight_lanes.Goals as goal
 
 pub returns : goal.returns
 returns g c =
-    let f = g.N.NullForm.flavor in
+    let f = g.F.Flavor.flavor in
     let bytes = c.args.bytes.now in
     let room : c.args.at + 32 ≤ length bytes = omega arith in
     rw (

@@ -1,13 +1,12 @@
-use Rattle.cesu8_bytes.specs.Internal.{flavor_of}
 use Rattle.cesu8_bytes.specs.declared.options.Strictness.TheVariants.{Lossy}
 use Rattle.cesu8_decode.proofs.pieces.ReadPieces.{all_appended, piece_utf8}
 use Rattle.cesu8_decode.proofs.text.append_characters.Goals as goal
 
 pub append_written-requires-clause-utf8 : goal.append_written-requires-clause-utf8
 append_written-requires-clause-utf8 g c =
-    piece_utf8 (flavor_of c.args.flavor) Lossy _ _ _ c.write_characters-decoded.ensures.read.first.lossy
+    piece_utf8 g.F.Flavor.flavor Lossy _ _ _ c.write_characters-decoded.ensures.read.first.lossy
 
 pub returns : goal.returns
 returns g c =
-    all_appended (flavor_of c.args.flavor) c.args.strictness c.args.bytes.now _ _ _ _ _ _
+    all_appended g.F.Flavor.flavor c.args.strictness c.args.bytes.now _ _ _ _ _ _
     c.write_characters-decoded.ensures.read c.append_written.ensures.ok c.append_written.ensures.invalid

@@ -1,6 +1,5 @@
 use Rattle.std.proofs.Common.{length}
 use Rattle.std.specs.String.{string_bytes}
-use Rattle.cesu8_bytes.specs.Internal.{flavor_of}
 use Rattle.cesu8_bytes.specs.Pieces.{IsReadSoFar}
 use Rattle.cesu8_decode.proofs.text.append_pieces.Given as goal
 
@@ -9,4 +8,4 @@ decreases-loop-rest g l = length l.rest
 
 abbrev pub invariant-loop-rest : goal.invariant-loop-rest
 invariant-loop-rest g l =
-    IsReadSoFar (flavor_of l.flavor) l.strictness l.fn.bytes l.rest (string_bytes l.fn.out) (string_bytes l.out)
+    IsReadSoFar g.F.Flavor.flavor l.strictness l.fn.bytes l.rest (string_bytes l.fn.out) (string_bytes l.out)

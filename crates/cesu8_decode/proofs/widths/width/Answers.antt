@@ -1,5 +1,4 @@
 use Rattle.std.proofs.Common.{ap, get_or, sym, ◌∙◌, arith}
-use Rattle.cesu8_bytes.specs.Internal.{flavor_of}
 use Rattle.cesu8_bytes.specs.Joining.{null_at}
 use Rattle.cesu8_decode.specs.DecodedPlaces.{two_at}
 use Rattle.cesu8_decode.proofs.positions.FrontWidths.{width_fits}
@@ -8,12 +7,12 @@ use Rattle.cesu8_decode.proofs.widths.width.Goals as goal
 use Rattle.cesu8_decode.proofs.widths.width.Goals.{then-is_null-via-then-is_null, then-is_null-via-else-is_null+then-is_two}
 
 pub returns-then-is_one-clause-width : goal.returns-then-is_one-clause-width
-returns-then-is_one-clause-width c =
-    sym (one_found (flavor_of c.args.flavor) c.args.bytes.now c.requires.some (sym c.is_one.ensures ∙ c.if-is_one.true))
+returns-then-is_one-clause-width g c =
+    sym (one_found g.F.Flavor.flavor c.args.bytes.now c.requires.some (sym c.is_one.ensures ∙ c.if-is_one.true))
 
 pub returns-then-is_null-clause-width : goal.returns-then-is_null-clause-width
-returns-then-is_null-clause-width c =
-    let f = flavor_of c.args.flavor in
+returns-then-is_null-clause-width g c =
+    let f = g.F.Flavor.flavor in
     let bytes = c.args.bytes.now in
     let second = c.requires.front 1 (omega arith) in
     elim c.then-is_null.branch [
@@ -24,8 +23,8 @@ returns-then-is_null-clause-width c =
     ]
 
 pub returns-then-is_null-clause-within : goal.returns-then-is_null-clause-within
-returns-then-is_null-clause-within c =
-    let f = flavor_of c.args.flavor in
+returns-then-is_null-clause-within g c =
+    let f = g.F.Flavor.flavor in
     let bytes = c.args.bytes.now in
     let second = c.requires.front 1 (omega arith) in
     elim c.then-is_null.branch [
@@ -36,14 +35,14 @@ returns-then-is_null-clause-within c =
     ]
 
 pub returns-then-is_three-clause-width : goal.returns-then-is_three-clause-width
-returns-then-is_three-clause-width c =
+returns-then-is_three-clause-width g c =
     let bytes = c.args.bytes.now in
-    sym (three_found (flavor_of c.args.flavor) bytes
+    sym (three_found g.F.Flavor.flavor bytes
     (rw (sym (c.requires.front 1 (omega arith)), sym (c.requires.front 2 (omega arith))) (sym c.is_three.ensures ∙ c.if-is_three.true)))
 
 pub returns-then-is_three-clause-within : goal.returns-then-is_three-clause-within
-returns-then-is_three-clause-within c =
-    let f = flavor_of c.args.flavor in
+returns-then-is_three-clause-within g c =
+    let f = g.F.Flavor.flavor in
     let bytes = c.args.bytes.now in
     omega (
       arith,
@@ -53,10 +52,10 @@ returns-then-is_three-clause-within c =
     )
 
 pub returns-clause-width : goal.returns-clause-width
-returns-clause-width c =
+returns-clause-width g c =
     let bytes = c.args.bytes.now in
     let same = c.requires.front in
-    sym (none_found (flavor_of c.args.flavor) bytes
+    sym (none_found g.F.Flavor.flavor bytes
     (rw (sym (same 1 (omega arith)), sym (same 2 (omega arith)), sym (same 3 (omega arith)), sym (same 4 (omega arith)), sym (same 5 (omega arith)))
     (record {
       one = sym c.is_one.ensures ∙ c.if-is_one.false;

@@ -6,14 +6,14 @@ use Rattle.cesu8_decode.proofs.windows.border.Goals as goal
 
 pub returns-then-is_border-clause-border : goal.returns-then-is_border-clause-border
 returns-then-is_border-clause-border g c n low high border =
-    let f = g.N.NullForm.flavor in
+    let f = g.F.Flavor.flavor in
     let window = c.args.window.now in
     sym (c.is_border.ensures f window (c.args.most - c.loop-back.back)
     (five_codes f window _ (c.args.most - 5) (5 - c.loop-back.back) _ c.starts.ensures (omega arith) (omega arith))) ∙ c.if-is_border.true
 
 pub loop-back-preserved : goal.loop-back-preserved
 loop-back-preserved g c =
-    let f = g.N.NullForm.flavor in
+    let f = g.F.Flavor.flavor in
     let window = c.args.window.now in
     below_more (λ (k : ℕ). is_border_at f window (c.args.most - k) ≡ false) c.loop-back.back c.loop-back.invariant
     (sym (c.is_border.ensures f window (c.args.most - c.loop-back.back)
@@ -22,7 +22,7 @@ loop-back-preserved g c =
 -- What is no border behind the fifth place before leaves that place alone.
 pub returns-clause-border : goal.returns-clause-border
 returns-clause-border g c n low high border =
-    let f = g.N.NullForm.flavor in
+    let f = g.F.Flavor.flavor in
     let window = c.args.window.now in
     let most = c.args.most in
     ⊎_elim (λ (later : most < n + 5).

@@ -11,15 +11,15 @@ returns-then-loaded-bytes-clause-read g c =
     let bytes = c.args.bytes.now in
     let window = c.pad.new.window in
     let loaded = c.if-bytes-most.loaded in
-    subst (IsRead g.N.NullForm.flavor bytes window) (sym c.if-loaded-bytes.true)
-    (all_read g.N.NullForm.flavor bytes window
+    subst (IsRead g.F.Flavor.flavor bytes window) (sym c.if-loaded-bytes.true)
+    (all_read g.F.Flavor.flavor bytes window
     (subst (λ bs. IsPadded bs window) (take_all loaded bytes (omega (arith, c.if-loaded-bytes.true))) c.pad.ensures.padded))
 
 pub returns-else-loaded-bytes-clause-read : goal.returns-else-loaded-bytes-clause-read
 returns-else-loaded-bytes-clause-read g c =
     let fits : c.if-bytes-most.loaded ≤ length c.args.bytes.now =
     elim c.if-bytes-most.branch [ then-bytes-most w ↦ omega arith | else-bytes-most w ↦ omega arith ] in
-    part_read g.N.NullForm.flavor c.args.bytes.now c.pad.new.window c.if-bytes-most.loaded c.border.result c.pad.ensures.padded fits
+    part_read g.F.Flavor.flavor c.args.bytes.now c.pad.new.window c.if-bytes-most.loaded c.border.result c.pad.ensures.padded fits
     (elim c.if-bytes-most.branch [ then-bytes-most w ↦ absurd (c.if-loaded-bytes.false w.loaded-is) | else-bytes-most w ↦ omega arith ])
     c.border.ensures.within.0
     c.border.ensures.border

@@ -10,7 +10,7 @@ loop-at-init g c = record {
   within = omega arith;
   room = λ some. omega arith;
   end = omega arith;
-  before = λ some. codes_of_zeros g.N.NullForm.flavor c.args.window.now _ refl c.requires.zeros;
+  before = λ some. codes_of_zeros g.F.Flavor.flavor c.args.window.now _ refl c.requires.zeros;
   len = refl;
   bytes = refl;
   damaged = λ some. cc;
@@ -19,11 +19,11 @@ loop-at-init g c = record {
 
 pub write_block-block-requires-clause-codes : goal.write_block-block-requires-clause-codes
 write_block-block-requires-clause-codes g c =
-    c.near.ensures g.N.NullForm.flavor c.args.window.now c.loop-at.at (c.loop-at.invariant.before (omega arith)) c.starts-here.ensures
+    c.near.ensures g.F.Flavor.flavor c.args.window.now c.loop-at.at (c.loop-at.invariant.before (omega arith)) c.starts-here.ensures
 
 pub loop-at-preserved : goal.loop-at-preserved
 loop-at-preserved g c =
-    let f = g.N.NullForm.flavor in
+    let f = g.F.Flavor.flavor in
     let window = c.args.window.now in
     let inv = c.loop-at.invariant in
     let block = c.write_block-block.ensures in

@@ -4,7 +4,7 @@ use Rattle.cesu8_decode.proofs.windows.write_window.Goals as goal
 
 pub returns : goal.returns
 returns g c =
-    let f = g.N.NullForm.flavor in
+    let f = g.F.Flavor.flavor in
     let bytes = c.args.bytes.now in
     let window = c.load-read.new.window in
     let loaded = c.load-read.ensures in

@@ -2,13 +2,13 @@ use Rattle.cesu8_encode.proofs.encoder.EncodedBlocks.{AreMarks, seconds_are, fir
 use Rattle.cesu8_encode.proofs.blocks.encode_block.Given.{Over}
 use Rattle.cesu8_encode.proofs.blocks.encode_block.Goals as goal
 
-marks : (g : Over) (c : goal.After-bits g) → AreMarks g.N.NullForm.flavor c.args.window.now c.args.at c.leads-lead.result c.leads-lead_before.result
-    c.leads-lead_two_before.result c.nulls-null.result c.six_bits-six_bits.result
+marks : (g : Over) (c : goal.After-bits g) → AreMarks g.F.Flavor.flavor c.args.window.now c.args.at c.mask-lead.result c.mask-lead_before.result
+    c.mask-lead_two_before.result c.nulls-null.result c.six_bits-six_bits.result
 marks g c = record {
   room = c.requires;
-  lead_is = c.leads-lead.ensures;
-  before_is = c.leads-lead_before.ensures;
-  two_before_is = c.leads-lead_two_before.ensures;
+  lead_is = c.mask-lead.ensures;
+  before_is = c.mask-lead_before.ensures;
+  two_before_is = c.mask-lead_two_before.ensures;
   null_is = c.nulls-null.ensures;
   six_is = c.six_bits-six_bits.ensures;
 }

@@ -1,13 +1,12 @@
 use Rattle.std.proofs.Common.{sym, ◌∙◌, subst}
 use Rattle.std.proofs.lemmas.Bool.{iff_false}
-use Rattle.cesu8_bytes.specs.Internal.{flavor_of}
 use Rattle.cesu8_bytes.specs.Puts.{PutsAnswer}
 use Rattle.cesu8_text.proofs.encoding.NeedsEncoding.{encoding_is_bytes}
 use Rattle.cesu8_encode.proofs.copy_or_write.encode_to_slice.Goals as goal
 
 pub returns-in_default : goal.returns-in_default
-returns-in_default c =
-    let same = encoding_is_bytes (flavor_of c.args.flavor) c.args.text.now c.utf8.text
+returns-in_default g c =
+    let same = encoding_is_bytes g.F.Flavor.flavor c.args.text.now c.utf8.text
     (iff_false c.needs_encoded.ensures c.if-not-needs_encoded.true) in
     subst (λ answer. PutsAnswer answer c.copy_to_slice.result c.args.buf.now c.copy_to_slice.new.buf)
     (c.as_bytes.ensures.value ∙ sym same) c.copy_to_slice.ensures

@@ -2,13 +2,12 @@ use Rattle.std.proofs.Common.{◌∙◌, ap, refl, arith, length, take, length-d
 use Rattle.std.proofs.lemmas.List.{drop_all, take_rest, length-take-le}
 use Rattle.std.specs.Str.{chars}
 use Rattle.cesu8_text.specs.Encoding.{encoding}
-use Rattle.cesu8_bytes.specs.Internal.{flavor_of}
 use Rattle.cesu8_encode.proofs.encoder.BytesInTurn.{none_encoded, all_encoded, fits_with_rest, first_is, stored_run, stored_null, room_for_null, pair_at, stored_pair, room_for_pair, still_behind, length_of_null}
 use Rattle.cesu8_encode.proofs.few.write_few.Goals as goal
 
 pub loop-read-init : goal.loop-read-init
-loop-read-init c =
-    let f = flavor_of c.args.flavor in
+loop-read-init g c =
+    let f = g.F.Flavor.flavor in
     let bytes = c.as_bytes-bytes.result.now in
     let none = none_encoded f bytes c.as_bytes-bytes.ensures.utf8 in
     let whole = ap (λ bytes. length (encoding f (chars bytes))) c.as_bytes-bytes.ensures.value in
@@ -21,16 +20,16 @@ loop-read-init c =
     }
 
 pub copy_some-run-requires-clause-first : goal.copy_some-run-requires-clause-first
-copy_some-run-requires-clause-first c =
+copy_some-run-requires-clause-first g c =
     let first = first_is c.as_bytes-bytes.result.now _ c.loop-read.read (take_rest c.as_bytes-bytes.result.now c.loop-read.read) in
     (omega (arith, first), omega (arith, first))
 
 pub loop-read-preserved-then-byte-lt-FOUR_LEAD : goal.loop-read-preserved-then-byte-lt-FOUR_LEAD
-loop-read-preserved-then-byte-lt-FOUR_LEAD c =
+loop-read-preserved-then-byte-lt-FOUR_LEAD g c =
     let rest_is = take_rest c.as_bytes-bytes.result.now c.loop-read.read in
     let left = length-drop c.loop-read.read c.as_bytes-bytes.result.now in
     record {
-      so_far = stored_run (flavor_of c.args.flavor) c.as_bytes-bytes.result.now _ (take c.loop-read.end c.loop-read.out) _ c.loop-read.read c.copy_some-run.result
+      so_far = stored_run g.F.Flavor.flavor c.as_bytes-bytes.result.now _ (take c.loop-read.end c.loop-read.out) _ c.loop-read.read c.copy_some-run.result
           rest_is c.copy_some-run.ensures.run c.copy_some-run.ensures.bytes c.loop-read.invariant.so_far;
       within = omega (arith, left, ap length rest_is, c.copy_some-run.ensures.run.within);
       room = omega (arith, left, ap length rest_is, c.copy_some-run.ensures.run.within, c.copy_some-run.ensures.len);
@@ -40,8 +39,8 @@ loop-read-preserved-then-byte-lt-FOUR_LEAD c =
     }
 
 pub write_null-end-requires : goal.write_null-end-requires
-write_null-end-requires c =
-    let f = flavor_of c.args.flavor in
+write_null-end-requires g c =
+    let f = g.F.Flavor.flavor in
     let bytes = c.as_bytes-bytes.result.now in
     let whole = ap (λ bytes. length (encoding f (chars bytes))) c.as_bytes-bytes.ensures.value in
     omega (
@@ -52,13 +51,13 @@ write_null-end-requires c =
     )
 
 pub pair_of-requires : goal.pair_of-requires
-pair_of-requires c =
-    let next = pair_at (flavor_of c.args.flavor) c.as_bytes-bytes.result.now _ c.loop-read.read (omega arith) c.loop-read.invariant.so_far in
+pair_of-requires g c =
+    let next = pair_at g.F.Flavor.flavor c.as_bytes-bytes.result.now _ c.loop-read.read (omega arith) c.loop-read.invariant.so_far in
     rw take_rest next.long
 
 pub put-end-requires : goal.put-end-requires
-put-end-requires c =
-    let f = flavor_of c.args.flavor in
+put-end-requires g c =
+    let f = g.F.Flavor.flavor in
     let bytes = c.as_bytes-bytes.result.now in
     let next = pair_at f bytes (take c.loop-read.end c.loop-read.out) c.loop-read.read (omega arith) c.loop-read.invariant.so_far in
     let whole = ap (λ bytes. length (encoding f (chars bytes))) c.as_bytes-bytes.ensures.value in
@@ -71,8 +70,8 @@ put-end-requires c =
     )
 
 pub loop-read-preserved-then-byte-eq0 : goal.loop-read-preserved-then-byte-eq0
-loop-read-preserved-then-byte-eq0 c =
-    let f = flavor_of c.args.flavor in
+loop-read-preserved-then-byte-eq0 g c =
+    let f = g.F.Flavor.flavor in
     let bytes = c.as_bytes-bytes.result.now in
     let whole = ap (λ bytes. length (encoding f (chars bytes))) c.as_bytes-bytes.ensures.value in
     let room = room_for_null f bytes (take c.loop-read.end c.loop-read.out) c.loop-read.read c.loop-read.end (length c.loop-read.out) (omega arith)
@@ -89,8 +88,8 @@ loop-read-preserved-then-byte-eq0 c =
     }
 
 pub loop-read-preserved : goal.loop-read-preserved
-loop-read-preserved c =
-    let f = flavor_of c.args.flavor in
+loop-read-preserved g c =
+    let f = g.F.Flavor.flavor in
     let bytes = c.as_bytes-bytes.result.now in
     let next = pair_at f bytes (take c.loop-read.end c.loop-read.out) c.loop-read.read (omega arith) c.loop-read.invariant.so_far in
     let whole = ap (λ bytes. length (encoding f (chars bytes))) c.as_bytes-bytes.ensures.value in
@@ -109,8 +108,8 @@ loop-read-preserved c =
     }
 
 pub returns-clause-written : goal.returns-clause-written
-returns-clause-written c =
-    let f = flavor_of c.args.flavor in
+returns-clause-written g c =
+    let f = g.F.Flavor.flavor in
     record {
       bytes = all_encoded f c.as_bytes-bytes.result.now _ _ (drop_all c.loop-read.read c.as_bytes-bytes.result.now (omega arith))
           c.loop-read.invariant.so_far

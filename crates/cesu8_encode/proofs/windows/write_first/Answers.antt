@@ -4,7 +4,7 @@ use Rattle.cesu8_encode.proofs.windows.write_first.Goals as goal
 
 pub write_block-requires-clause-room : goal.write_block-requires-clause-room
 write_block-requires-clause-room g c =
-    let f = g.N.NullForm.flavor in
+    let f = g.F.Flavor.flavor in
     let text = c.args.text.now in
     omega (
       arith,
@@ -15,7 +15,7 @@ write_block-requires-clause-room g c =
 
 pub returns : goal.returns
 returns g c =
-    let f = g.N.NullForm.flavor in
+    let f = g.F.Flavor.flavor in
     let text = c.args.text.now in
     let same = encoded_bytes_first f text c.put_behind_zeros.new.window 32 (omega arith) c.put_behind_zeros.ensures in
     let room = room_for_parts f (0 ∷ 0 ∷ text) 0 32 (length text - 32) (length text) (omega (arith, c.requires.long)) in

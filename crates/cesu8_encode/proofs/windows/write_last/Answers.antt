@@ -5,7 +5,7 @@ use Rattle.cesu8_encode.proofs.windows.write_last.Goals as goal
 
 pub write_block-requires-clause-room : goal.write_block-requires-clause-room
 write_block-requires-clause-room g c =
-    let f = g.N.NullForm.flavor in
+    let f = g.F.Flavor.flavor in
     let text = c.args.text.now in
     let at = c.args.at in
     omega (
@@ -16,7 +16,7 @@ write_block-requires-clause-room g c =
 
 pub returns : goal.returns
 returns g c =
-    let f = g.N.NullForm.flavor in
+    let f = g.F.Flavor.flavor in
     let text = c.args.text.now in
     let at = c.args.at in
     let same = encoded_bytes_last f text c.put_before_zeros.new.window at (length text - at) (omega (arith, c.requires.position)) c.put_before_zeros.ensures in

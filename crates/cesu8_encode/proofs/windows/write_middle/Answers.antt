@@ -5,7 +5,7 @@ use Rattle.cesu8_encode.proofs.windows.write_middle.Goals as goal
 
 pub write_block-end-requires-clause-room : goal.write_block-end-requires-clause-room
 write_block-end-requires-clause-room g c =
-    let f = g.N.NullForm.flavor in
+    let f = g.F.Flavor.flavor in
     let text = c.args.text.now in
     let inv = c.loop-i.invariant in
     omega (
@@ -17,7 +17,7 @@ write_block-end-requires-clause-room g c =
 
 pub loop-i-preserved : goal.loop-i-preserved
 loop-i-preserved g c =
-    let f = g.N.NullForm.flavor in
+    let f = g.F.Flavor.flavor in
     let text = c.args.text.now in
     let inv = c.loop-i.invariant in
     let sum : 32 * c.loop-i.i + 32 ≡ 32 * (c.loop-i.i + 1) = omega arith in

@@ -4,6 +4,6 @@ use Rattle.cesu8_encode.proofs.windows.write_middle.Given as goal
 
 abbrev pub invariant-loop-i : goal.invariant-loop-i
 invariant-loop-i g l = record {
-  written : IsWritten g.N.NullForm.flavor l.fn.text (32 * l.i) l.out l.end;
+  written : IsWritten g.F.Flavor.flavor l.fn.text (32 * l.i) l.out l.end;
   len : length l.out ≡ length l.initial.out;
 }

@@ -1,18 +1,17 @@
 use Rattle.std.proofs.Common.{rules}
 use Rattle.std.proofs.lemmas.Str.{IsUtf8-from_ascii}
-use Rattle.simd_cesu8.specs.Internal.{flavor_of}
 use Rattle.cesu8_text.proofs.reading.LossyBorrowing.{unchanged_lossy, unchanged_length}
 use Rattle.simd_cesu8.proofs.borrow_or_build.decode_lossy_strict.Goals as goal
 
 pub returns-then-is_short_unchanged_ascii : goal.returns-then-is_short_unchanged_ascii
-returns-then-is_short_unchanged_ascii c = record {
+returns-then-is_short_unchanged_ascii g c = record {
   reading = let look = c.is_short_unchanged_ascii.ensures in
       let found = c.if-is_short_unchanged_ascii.true in
-      unchanged_lossy (flavor_of c.args.flavor) c.args.bytes.now c.ascii_text.result.now c.ascii_text.ensures
+      unchanged_lossy g.F.Flavor.flavor c.args.bytes.now c.ascii_text.result.now c.ascii_text.ensures
       (IsUtf8-from_ascii c.args.bytes.now (look.ascii found), look.unchanged found);
   text_length = let look = c.is_short_unchanged_ascii.ensures in
       let found = c.if-is_short_unchanged_ascii.true in
-      unchanged_length (flavor_of c.args.flavor) c.args.bytes.now c.ascii_text.result.now c.ascii_text.ensures
+      unchanged_length g.F.Flavor.flavor c.args.bytes.now c.ascii_text.result.now c.ascii_text.ensures
       (IsUtf8-from_ascii c.args.bytes.now (look.ascii found), look.unchanged found);
   borrowed = search rules;
   borrowed_where = search rules;

@@ -2,14 +2,13 @@ use Rattle.std.proofs.Common.{inl, rules}
 use Rattle.std.specs.Str.{chars}
 use Rattle.std.specs.String.{string_bytes}
 use Rattle.std.proofs.lemmas.Str.{IsUtf8-string_bytes}
-use Rattle.simd_cesu8.specs.Internal.{flavor_of}
 use Rattle.cesu8_text.proofs.StdUtf8.{IsUtf8Of_chars_at}
 use Rattle.cesu8_text.proofs.reading.Borrowing.{built_lenient, not_utf8_differs, never_borrowed}
 use Rattle.simd_cesu8.proofs.Faults.{refused_lenient}
 use Rattle.simd_cesu8.proofs.borrow_or_build.decode_other.Goals as goal
 
 pub returns-then-whole-bytes : goal.returns-then-whole-bytes
-returns-then-whole-bytes c = record {
+returns-then-whole-bytes g c = record {
   text = inl (IsUtf8Of_chars_at c.args.bytes.now c.whole_text-whole.result.now (c.whole_text-whole.ensures.whole (c.if-whole-bytes.true)).0 (c.whole_text-whole.ensures.whole (c.if-whole-bytes.true)).1);
   invalid = search rules;
   borrowed = search rules;
@@ -19,8 +18,8 @@ returns-then-whole-bytes c = record {
 }
 
 pub returns : goal.returns
-returns c = record {
-  text = built_lenient (flavor_of c.args.flavor) c.args.bytes.now (chars (string_bytes c.in_ok-decoded.decoded)) (c.whole_text-whole.ensures.none (c.if-whole-bytes.false))
+returns g c = record {
+  text = built_lenient g.F.Flavor.flavor c.args.bytes.now (chars (string_bytes c.in_ok-decoded.decoded)) (c.whole_text-whole.ensures.none (c.if-whole-bytes.false))
       c.in_ok-decoded.ensures.text;
   invalid = search rules;
   borrowed = let built = c.in_ok-decoded.decoded in
@@ -31,9 +30,9 @@ returns c = record {
 }
 
 pub returns-in_err-decoded : goal.returns-in_err-decoded
-returns-in_err-decoded c = record {
+returns-in_err-decoded g c = record {
   text = search rules;
-  invalid = let refused = refused_lenient (flavor_of c.args.flavor) c.args.bytes.now c.in_err-decoded.field-0.0 (c.whole_text-whole.ensures.none (c.if-whole-bytes.false))
+  invalid = let refused = refused_lenient g.F.Flavor.flavor c.args.bytes.now c.in_err-decoded.field-0.0 (c.whole_text-whole.ensures.none (c.if-whole-bytes.false))
       c.in_err-decoded.ensures.invalid in
       search (rules, refused);
   borrowed = search rules;

@@ -1,7 +1,0 @@
-use Rattle.std.proofs.Common.{eqb}
-use Rattle.cesu8_text.specs.Class.{is_lead}
-use Rattle.cesu8_bytes.proofs.lists.Classes.{either_marks}
-use Rattle.cesu8_bytes.proofs.implementation.class.NullLeadInVectors.marks.Goals as goal
-
-pub returns : goal.returns
-returns g c = either_marks (λ b. eqb b 0) is_lead c.args.bytes _ _ c.marks.ensures c.marks-2.ensures

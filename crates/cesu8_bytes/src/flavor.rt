@@ -1,0 +1,78 @@
+//! The two encodings, as types. They differ in the form of U+0000, and in nothing else.
+
+ghost use Rattle.std.specs.Prelude.{◌≡◌, ◌↔◌, IsTrue, refl, map, if◌then◌else◌};
+ghost use Rattle.cesu8_text.specs.Encoding.{Flavor as AnyFlavor, Cesu8, Mutf8};
+ghost use Rattle.cesu8_text.specs.Class.{is_null};
+ghost use Rattle.cesu8_bytes.specs.Joining.{null_at};
+ghost use Rattle.cesu8_bytes.specs.Kernels.{mask};
+
+use crate::implementation::class::{NoByte, Null, mask};
+use crate::implementation::count::CountsOne;
+use std::simd::prelude::*;
+
+/// One of the two encodings.
+pub trait Flavor {
+    /// The bytes 00 that are written as C0 80.
+    type Null: CountsOne;
+
+    ghost flavor: { AnyFlavor };
+
+    /// Returns whether U+0000 is written as two bytes, C0 80.
+    fn has_long_null() -> bool
+        ensures { IsTrue result ↔ flavor ≡ Mutf8 };
+
+    ghost are_null: { Self.Null.class ≡ is_null flavor };
+}
+
+/// CESU-8. U+0000 is one byte, 00.
+pub struct Cesu8Flavor;
+
+impl Flavor for Cesu8Flavor {
+    type Null = NoByte;
+
+    ghost flavor = { Cesu8 };
+
+    #[inline(always)]
+    fn has_long_null() -> bool {
+        false
+    }
+
+    ghost are_null = { refl };
+}
+
+/// MUTF-8. U+0000 is two bytes, C0 80.
+pub struct Mutf8Flavor;
+
+impl Flavor for Mutf8Flavor {
+    type Null = Null;
+
+    ghost flavor = { Mutf8 };
+
+    #[inline(always)]
+    fn has_long_null() -> bool {
+        true
+    }
+
+    ghost are_null = { refl };
+}
+
+/// Returns all ones for each byte that is written as C0 80, and zeros for the others.
+#[inline(always)]
+pub fn nulls<F: Flavor>(bytes: u8x32) -> u8x32
+    ensures { result ≡ map (λ b. mask (is_null F.flavor b)) bytes }
+{
+    mask::<F::Null>(bytes)
+}
+
+/// Marks, with the highest bit, the second bytes of C0 80. The other bits are set.
+#[inline(always)]
+pub fn second_of_null<F: Flavor>(bytes: u8x32) -> u8x32
+    ensures { result ≡ map (λ b. if null_at F.flavor 0xC0 b then 0xFF else 0x7F) bytes }
+{
+    if F::has_long_null() {
+        return bytes
+            .simd_eq(u8x32::splat(0x80))
+            .select(u8x32::splat(0xFF), u8x32::splat(0x7F));
+    }
+    u8x32::splat(0x7F)
+}
