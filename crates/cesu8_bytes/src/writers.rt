@@ -88,6 +88,14 @@ pub fn copy_to_slice(bytes: &[u8], buf: &mut [u8]) -> Result<usize, NoRoom>
     Ok(len)
 }
 
+/// Copies in the same way. It is not inlined: the copy is long, and only short ones need it at hand.
+#[inline(never)]
+pub fn copy_to_slice_by_call(bytes: &[u8], buf: &mut [u8]) -> Result<usize, NoRoom>
+    ensures { PutsAnswer bytes.now result buf.old buf.new }
+{
+    copy_to_slice(bytes, buf)
+}
+
 /// Returns a copy of some bytes, after one request for their length.
 pub fn copy<A: Allocator + Copy>(alloc: A, bytes: &[u8]) -> Result<Vec<u8, A>, AllocError>
     ensures bytes { IfOk result (λ copied. copied.items ≡ bytes.now) }

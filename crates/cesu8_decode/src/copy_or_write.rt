@@ -9,7 +9,7 @@ use cesu8_bytes::ascii::{is_short_ascii, is_short_unchanged_ascii};
 use cesu8_bytes::first_looks::{contains_changed, whole_text};
 use cesu8_bytes::flavor::Flavor;
 use cesu8_bytes::options::Strictness;
-use cesu8_bytes::writers::copy_to_slice;
+use cesu8_bytes::writers::{copy_to_slice, copy_to_slice_by_call};
 
 /// Writes the text of the bytes, which are no encoding if a byte changes.
 #[inline(always)]
@@ -50,7 +50,7 @@ fn put_other_encoding<F: Flavor>(
         };
     }
     if whole_text(bytes).len() == bytes.len() {
-        return copy_to_slice(bytes, buf).map_err(Unwritten::NoRoom);
+        return copy_to_slice_by_call(bytes, buf).map_err(Unwritten::NoRoom);
     }
     put_text::<F>(strictness, bytes, buf)
 }
@@ -84,7 +84,7 @@ fn put_other_leniently<F: Flavor>(
         result buf.old buf.new }
 {
     if whole_text(bytes).len() == bytes.len() {
-        return copy_to_slice(bytes, buf).map_err(Unwritten::NoRoom);
+        return copy_to_slice_by_call(bytes, buf).map_err(Unwritten::NoRoom);
     }
     put_text::<F>(strictness, bytes, buf)
 }

@@ -28,7 +28,7 @@ pub enum Piece<'a> {
 
 /// Reads the next bytes: as a joined window if that yields text, and else by places in a window of
 /// this length. After damage joining mostly yields none.
-#[inline(never)]
+#[inline(always)]
 pub fn next_piece<'a, F: Flavor, const LEN: usize>(
     bytes: &[u8],
     joins: bool,

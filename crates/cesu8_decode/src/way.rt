@@ -130,21 +130,18 @@ pub fn comes_before_tests(bytes: &[u8]) -> bool
 fn has_few_others(bytes: &[u8]) -> bool
     ensures { IsTrue result → length bytes.now ≤ SHORT_WINDOW }
 {
-    let len = bytes.len();
-    if len <= OTHERS {
-        return true;
-    }
-    if len <= 16 {
-        return count_in_ends::<NullOrHigh, 8>(bytes) <= OTHERS;
-    }
-    if len <= FEW_STRICT {
-        return count_in_ends::<NullOrHigh, 16>(bytes) <= OTHERS;
-    }
-    if len <= 32 {
-        return count_in_ends::<NullOrHigh, 16>(bytes) <= FEWER_OTHERS;
-    }
-    if len <= 64 {
-        return count_in_ends::<NullOrHigh, 32>(bytes) <= FEWER_OTHERS;
-    }
-    len <= SHORT_WINDOW && count_in_ends::<NullOrHigh, 64>(bytes) <= FEWER_OTHERS
+    let others = match bytes.len() {
+        0..=OTHERS => return true,
+        13..=16 => count_in_ends::<NullOrHigh, 8>(bytes),
+        17..=32 => count_in_ends::<NullOrHigh, 16>(bytes),
+        33..=64 => count_in_ends::<NullOrHigh, 32>(bytes),
+        65..=SHORT_WINDOW => count_in_ends::<NullOrHigh, 64>(bytes),
+        _ => return false,
+    };
+    let most = if bytes.len() <= FEW_STRICT {
+        OTHERS
+    } else {
+        FEWER_OTHERS
+    };
+    others <= most
 }

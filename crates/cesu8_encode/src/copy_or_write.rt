@@ -11,7 +11,7 @@ use crate::{BLOCK_ENCODED, FEW_ENCODED, ON_STACK_ENCODED};
 use cesu8_bytes::first_looks::needs_encoded;
 use cesu8_bytes::flavor::Flavor;
 use cesu8_bytes::lengths::encoded_len;
-use cesu8_bytes::writers::{NoRoom, copy_to_slice};
+use cesu8_bytes::writers::{NoRoom, copy_to_slice, copy_to_slice_by_call};
 
 /// Writes the encoding of a text to a caller's buffer, if it fits. What changes, but for a few
 /// bytes, is not inlined: a text that stays as it is then uses no stack.
@@ -41,9 +41,7 @@ fn put_few<F: Flavor>(text: &str, buf: &mut [u8]) -> Result<usize, NoRoom>
         // It fits in any case, and what is behind it stays.
         return Ok(write_few::<F>(text, buf));
     }
-    let mut written = [0; FEW_ENCODED];
-    let len = write_few::<F>(text, &mut written);
-    copy_to_slice(&written[..len], buf)
+    put_on_stack::<F, FEW_ENCODED>(text, buf)
 }
 
 /// Encodes to the stack, where twice the bytes of the text fit, and copies that.
@@ -55,7 +53,7 @@ fn put_on_stack<F: Flavor, const N: usize>(text: &str, buf: &mut [u8]) -> Result
 {
     let mut written = [0; N];
     let len = write::<F>(text, &mut written);
-    copy_to_slice(&written[..len], buf)
+    copy_to_slice_by_call(&written[..len], buf)
 }
 
 #[inline(never)]

@@ -12,9 +12,9 @@ returns-then-whole_text-bytes g c =
     let f = g.F.Flavor.flavor in
     let which = c.args.strictness in
     let bytes = c.args.bytes.now in
-    text_put which (IsReadingOf f which bytes) _ _ c.copy_to_slice.result c.map_err.result c.args.buf.now c.copy_to_slice.new.buf
+    text_put which (IsReadingOf f which bytes) _ _ c.copy_to_slice_by_call.result c.map_err.result c.args.buf.now c.copy_to_slice_by_call.new.buf
     (only_unchanged f which bytes ((c.whole_text.ensures.whole c.if-whole_text-bytes.true).1, iff_false c.contains_changed.ensures c.if-contains_changed.false))
-    (omega arith) c.map_err.ensures.cases c.copy_to_slice.ensures
+    (omega arith) c.map_err.ensures.cases c.copy_to_slice_by_call.ensures
 
 -- No encoding has a byte that changes.
 pub returns-in-Strict : goal.returns-in-Strict
