@@ -2,7 +2,8 @@
 // lays it out, each with its index:
 //   class_constants FILE.class
 // These are Modified UTF-8 with their length in front, after the byte 1. A string with an unpaired
-// surrogate, which Java allows, is no text: it is printed with U+FFFD, and told.
+// surrogate, which Java allows, is no text: it is printed with U+FFFD, and told. C.md shows how
+// to put a NUL behind MUTF-8, as JNI wants it.
 
 #include "cesu8.h"
 
