@@ -24,8 +24,8 @@ use cesu8_bytes::writers::put;
 const REPLACEMENT: [u8; WIDEST] = [0xEF, 0xBF, 0xBD];
 
 /// Writes the characters of the bytes, and U+FFFD for each damaged byte. Strict reading stops
-/// behind the first of these. It is not inlined, since buffers of each length need it.
-#[inline(never)]
+/// behind the first of these.
+#[inline(always)]
 pub fn write_characters<F: Flavor>(strictness: Strictness, bytes: &[u8], out: &mut [u8]) -> Decoded
     requires { WIDEST * length bytes.now ≤ length out.old }
     ensures read { ReadsAll F.flavor strictness bytes.now
