@@ -1,3 +1,3 @@
 pub mod lists
 pub mod vectors
-pub mod pieces
+pub mod chunks

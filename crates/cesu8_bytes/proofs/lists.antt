@@ -8,4 +8,4 @@ pub mod Lanes
 pub mod Classes
 pub mod Words
 pub mod Ascii
-pub mod Fronts
+pub mod Prefixes

@@ -41,9 +41,9 @@ pub record IsJoined (f : Flavor) (bytes out : List ℕ) : Type 0 where
 
 -- The bytes before rest are joined to out.
 pub record IsJoinedSoFar (f : Flavor) (bytes rest out : List ℕ) : Type 0 where
-  pub front : List ℕ
-  pub bytes_are : bytes ≡ front ++ rest
-  pub joined : IsJoined f front out
+  pub prefix : List ℕ
+  pub bytes_are : bytes ≡ prefix ++ rest
+  pub joined : IsJoined f prefix out
 
 -- If the bytes before `rest` are joined to `out`, those before `after` are joined to `new`.
 abbrev pub KeepsJoined : Flavor → List ℕ → List ℕ → List ℕ → List ℕ → Type 0
@@ -78,7 +78,7 @@ abbrev pub AreJoinedDigits : List ℕ → List ℕ → Type 0
 AreJoinedDigits four written = (c w x y z : ℕ) → IsPair c w x y z → four ≡ (0xA0 + w) ∷ (0x80 + x) ∷ (0xB0 + y) ∷ (0x80 + z) ∷ [] →
     written ≡ utf8_of c
 
--- Their positions in a surrogate pair.
+-- Their offsets in a surrogate pair.
 abbrev pub second_third_fifth_sixth : List ℕ → List ℕ
 second_third_fifth_sixth bytes = slice_index bytes 1 ∷ slice_index bytes 2 ∷ slice_index bytes 4 ∷ slice_index bytes 5 ∷ []
 

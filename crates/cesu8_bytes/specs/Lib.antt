@@ -1,5 +1,5 @@
 pub mod Kernels
 pub mod Joining
-pub mod Pieces
+pub mod TextChunks
 pub mod Puts
-pub mod Fronts
+pub mod Prefixes

@@ -7,7 +7,7 @@ ghost use Rattle.std.specs.Str.{IsAscii};
 ghost use Rattle.cesu8_text.specs.Class.{IsChangedByte};
 
 use crate::flavor::Flavor;
-use crate::implementation::class::{Either, High, LANES};
+use crate::implementation::class::{Either, LANES, NonAscii};
 use crate::implementation::short::{SHORT_VALUE, any_in_short};
 use crate::implementation::simd::left_by;
 
@@ -16,7 +16,7 @@ use crate::implementation::simd::left_by;
 pub fn is_short_ascii(bytes: &[u8]) -> bool
     ensures { IsTrue result → IsAscii bytes.now }
 {
-    bytes.len() <= SHORT_VALUE && !any_in_short::<High>(bytes)
+    bytes.len() <= SHORT_VALUE && !any_in_short::<NonAscii>(bytes)
 }
 
 /// Returns whether the bytes are few and all ASCII that does not change.
@@ -25,7 +25,7 @@ pub fn is_short_unchanged_ascii<F: Flavor>(bytes: &[u8]) -> bool
     ensures ascii { IsTrue result → IsAscii bytes.now }
     ensures unchanged { IsTrue result → ¬ (Any (IsChangedByte F.flavor) bytes.now) }
 {
-    bytes.len() <= SHORT_VALUE && !any_in_short::<Either<F::Null, High>>(bytes)
+    bytes.len() <= SHORT_VALUE && !any_in_short::<Either<F::Null, NonAscii>>(bytes)
 }
 
 /// Returns whether the bytes are all ASCII. It is not inlined, so that the calls stay small.
@@ -33,8 +33,8 @@ pub fn is_short_unchanged_ascii<F: Flavor>(bytes: &[u8]) -> bool
 pub fn is_ascii(bytes: &[u8]) -> bool
     ensures { IsTrue result → IsAscii bytes.now }
 {
-    match left_by::<High, LANES>(bytes) {
-        Some(rest) => !any_in_short::<High>(rest),
+    match left_by::<NonAscii, LANES>(bytes) {
+        Some(rest) => !any_in_short::<NonAscii>(rest),
         None => false,
     }
 }

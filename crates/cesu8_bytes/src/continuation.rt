@@ -11,18 +11,18 @@ pub fn is_continuation(byte: u8) -> bool
     matches!(byte, 0x80..=0xBF)
 }
 
-/// Returns the last of the four positions up to `position` without a continuation byte, if there is
-/// one. In UTF-8 there is: the start of the character that contains `position`.
-pub fn character_start(bytes: &[u8], position: usize) -> Option<usize>
-    requires { (3 ≤ position) × (position < length bytes.now) }
-    ensures some { IfSome result (λ start. (start ≤ position)
+/// Returns the last of the four offsets up to `offset` without a continuation byte, if there is
+/// one. In UTF-8 there is: the start of the character that contains `offset`.
+pub fn character_start(bytes: &[u8], offset: usize) -> Option<usize>
+    requires { (3 ≤ offset) × (offset < length bytes.now) }
+    ensures some { IfSome result (λ start. (start ≤ offset)
         × ¬ (IsContinuation (slice_index bytes.now start))) }
     ensures none { IfNone result ((back : ℕ) → back < 4
-        → IsContinuation (slice_index bytes.now (position - back))) }
+        → IsContinuation (slice_index bytes.now (offset - back))) }
 {
     for back in 0..4 {
-        if !is_continuation(bytes[position - back]) {
-            return Some(position - back);
+        if !is_continuation(bytes[offset - back]) {
+            return Some(offset - back);
         }
     }
     None

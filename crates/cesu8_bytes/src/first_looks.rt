@@ -1,7 +1,7 @@
 //! The first looks at an input: whether a byte of it changes, and whether it is UTF-8.
 //!
 //! Both choose by a length, for speed alone. A short value is tested by vectors of one width. A longer
-//! one is UTF-8 if it is ASCII; otherwise the front of long input is tested before the rest.
+//! one is UTF-8 if it is ASCII; otherwise a prefix of long input is tested before the rest.
 
 ghost use Rattle.std.specs.Prelude.{◌↔◌, IsTrue, Any, ◌≡◌, ◌*◌, length, IsUtf8, ◌<◌};
 ghost use Rattle.cesu8_text.specs.Class.{IsChangedByte, IsUnchangedUtf8};
@@ -12,7 +12,7 @@ use crate::ascii::{ascii_text, is_ascii};
 use crate::continuation::character_start;
 use crate::flavor::Flavor;
 use crate::implementation::active;
-use crate::implementation::class::{Either, Four};
+use crate::implementation::class::{Either, FourByteLead};
 use crate::implementation::short::{SHORT_VALUE, any_in_short};
 use simdutf8::compat;
 
@@ -23,7 +23,7 @@ pub fn contains_changed<F: Flavor>(bytes: &[u8]) -> bool
 {
     // From this length on the kernels test four vectors at once.
     if bytes.len() < SHORT_VALUE {
-        any_in_short::<Either<F::Null, Four>>(bytes)
+        any_in_short::<Either<F::Null, FourByteLead>>(bytes)
     } else if F::has_long_null() {
         active::contains_null_or_utf8_4_byte_char_header(bytes)
     } else {
@@ -45,7 +45,7 @@ const TESTED_FIRST: usize = 512;
 const LONG: usize = 4 * TESTED_FIRST;
 
 /// Returns the bytes as a text if they are UTF-8, and otherwise the empty text, which no such bytes
-/// have. If long input is not UTF-8, its front mostly shows it, and the rest is not tested.
+/// have. If long input is not UTF-8, its prefix mostly shows it, and the rest is not tested.
 ///
 /// A text is returned in registers; a `Result` with it would be returned through memory. It is not
 /// inlined, since each call needs it for each flavor.
@@ -59,7 +59,7 @@ pub fn whole_text(bytes: &[u8]) -> &str
     if bytes.len() > SHORT_VALUE && is_ascii(bytes) {
         return ascii_text(bytes);
     }
-    if bytes.len() >= LONG && !has_utf8_front(bytes) {
+    if bytes.len() >= LONG && !has_utf8_prefix(bytes) {
         return "";
     }
     match compat::from_utf8(bytes) {
@@ -68,8 +68,8 @@ pub fn whole_text(bytes: &[u8]) -> &str
     }
 }
 
-/// Returns whether the front of the bytes is UTF-8, up to the start of a character.
-fn has_utf8_front(bytes: &[u8]) -> bool
+/// Returns whether a prefix of the bytes is UTF-8, up to the start of a character.
+fn has_utf8_prefix(bytes: &[u8]) -> bool
     requires { TESTED_FIRST < length bytes.now }
     ensures { IsUtf8 bytes.now → IsTrue result }
 {

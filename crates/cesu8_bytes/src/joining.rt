@@ -15,7 +15,7 @@ use crate::BLOCK;
 use crate::flavor::Flavor;
 use crate::implementation::class::InVectors;
 use buffer::Progress;
-pub use buffer::{MOST_JOINED, MUST_FOLLOW, ROOM_LEN, Room, Step};
+pub use buffer::{BUFFER_LEN, Buffer, MOST_JOINED, MUST_FOLLOW, Step};
 pub use pairs::{PAIR, PAIR_READ, PAIR_UTF8, is_pair, utf8_of_pair};
 use pairs::{PAIR_BITS, PAIR_LEAD, PAIR_MARKS, join_pairs, pair_bits};
 use std::simd::prelude::*;
@@ -24,11 +24,11 @@ use std::simd::prelude::*;
 pub const MOST_WITH_PAIR: usize = MOST_JOINED + PAIR;
 
 /// Joins the first `end` bytes and a pair across their end, or fewer if some can't be joined.
-pub fn join<F: Flavor>(bytes: &[u8], end: usize, room: &mut Room) -> Step
+pub fn join<F: Flavor>(bytes: &[u8], end: usize, buffer: &mut Buffer) -> Step
     requires { (end + MUST_FOLLOW ≤ length bytes.now) × (end ≤ MOST_JOINED) }
     ensures within { (result.read ≤ end + PAIR) × (result.written ≤ MOST_WITH_PAIR) }
     ensures joined { IsJoined F.flavor (take result.read bytes.now)
-        (take result.written room.new) }
+        (take result.written buffer.new) }
 {
     let stop = bytes.len() - end;
     let mut at = Progress {
@@ -37,7 +37,7 @@ pub fn join<F: Flavor>(bytes: &[u8], end: usize, room: &mut Room) -> Step
     };
     while at.rest.len() > stop {
         let len = at.rest.len();
-        at = join_block::<F>(at, stop, room);
+        at = join_block::<F>(at, stop, buffer);
         if at.rest.len() == len {
             break;
         }
@@ -50,31 +50,31 @@ pub fn join<F: Flavor>(bytes: &[u8], end: usize, room: &mut Room) -> Step
 
 /// Copies a block without marks before its end, or joins one with marks.
 #[inline(always)]
-fn join_block<'a, F: Flavor>(at: Progress<'a>, stop: usize, room: &mut Room) -> Progress<'a>
+fn join_block<'a, F: Flavor>(at: Progress<'a>, stop: usize, buffer: &mut Buffer) -> Progress<'a>
     requires stop { (stop < length at.rest.now) × (MUST_FOLLOW ≤ stop) }
     requires room { at.written + length at.rest.now ≤ MOST_JOINED + stop }
     ensures after { IsJoinedAfter at.entry.rest.now result.rest.now
         at.entry.written result.written stop }
     ensures joined { KeepsJoined F.flavor
-        at.entry.rest.now (take at.entry.written room.old)
-        result.rest.now (take result.written room.new) }
+        at.entry.rest.now (take at.entry.written buffer.old)
+        result.rest.now (take result.written buffer.new) }
 {
     let marks = marks::<F>(at.rest);
     let left = at.rest.len() - stop;
     let run = left.min(BLOCK);
     if marks.trailing_zeros() as usize >= run {
-        copy_run(at.rest, run, at.written, room);
+        copy_run(at.rest, run, at.written, buffer);
         return Progress {
             rest: &at.rest[run..],
             written: at.written + run,
         };
     }
     if left >= BLOCK && marks & NULL_MARKS == NULL_MARKS && is_nulls::<F>(at.rest) {
-        join_nulls(at, room)
+        join_nulls(at, buffer)
     } else if marks & PAIR_MARKS == PAIR_MARKS && is_pair(at.rest) {
-        join_pairs(at, stop, room)
+        join_pairs(at, stop, buffer)
     } else {
-        join_marked::<F>(at, marks, stop, room)
+        join_marked::<F>(at, marks, stop, buffer)
     }
 }
 
@@ -99,31 +99,31 @@ fn join_marked<'a, F: Flavor>(
     start: Progress<'a>,
     marks: u32,
     stop: usize,
-    room: &mut Room,
+    buffer: &mut Buffer,
 ) -> Progress<'a>
     requires stop { (stop < length start.rest.now) × (MUST_FOLLOW ≤ stop) }
     requires room { start.written + length start.rest.now ≤ MOST_JOINED + stop }
     ensures after { IsJoinedAfter start.entry.rest.now result.rest.now
         start.entry.written result.written stop }
     ensures joined { KeepsJoined F.flavor
-        start.entry.rest.now (take start.entry.written room.old)
-        result.rest.now (take result.written room.new) }
+        start.entry.rest.now (take start.entry.written buffer.old)
+        result.rest.now (take result.written buffer.new) }
 {
     let bytes = start.rest;
     let mut read = 0;
     let mut written = start.written;
     let mut marks = marks;
     while marks != 0 {
-        // Only the marks decide the position, so the processor need not wait for what was read.
-        let position = marks.trailing_zeros() as usize;
-        if position < read || position > bytes.len() - stop {
+        // Only the marks decide the offset, so the processor need not wait for what was read.
+        let offset = marks.trailing_zeros() as usize;
+        if offset < read || offset > bytes.len() - stop {
             break;
         }
         marks &= marks - 1;
-        copy_run(&bytes[read..], position - read, written, room);
-        written += position - read;
-        read = position;
-        match join_changed::<F>(&bytes[position..], written, room) {
+        copy_run(&bytes[read..], offset - read, written, buffer);
+        written += offset - read;
+        read = offset;
+        match join_changed::<F>(&bytes[offset..], written, buffer) {
             Some(step) => {
                 read += step.read;
                 written += step.written;
@@ -139,16 +139,16 @@ fn join_marked<'a, F: Flavor>(
 
 /// Copies a run of bytes, with the others of their block after them.
 #[inline(always)]
-fn copy_run(bytes: &[u8], run: usize, written: usize, room: &mut Room)
+fn copy_run(bytes: &[u8], run: usize, written: usize, buffer: &mut Buffer)
     requires run { run ≤ BLOCK }
     requires long { BLOCK ≤ length bytes.now }
-    requires room { written + BLOCK ≤ ROOM_LEN }
-    ensures { (f : AnyFlavor) → KeepsJoined f bytes.now (take written room.old)
-        (drop run bytes.now) (take (written + run) room.new) }
+    requires room { written + BLOCK ≤ BUFFER_LEN }
+    ensures { (f : AnyFlavor) → KeepsJoined f bytes.now (take written buffer.old)
+        (drop run bytes.now) (take (written + run) buffer.new) }
 {
     store(
         u8x32::from_slice(bytes),
-        &mut room[written..written + BLOCK],
+        &mut buffer[written..written + BLOCK],
     );
 }
 
@@ -164,15 +164,15 @@ fn store(block: u8x32, out: &mut [u8])
 /// Joins the surrogate pair that begins the bytes, or in MUTF-8 the null character. No branch
 /// distinguishes them, since no processor can predict it: one comparison serves both.
 #[inline(always)]
-fn join_changed<F: Flavor>(bytes: &[u8], written: usize, room: &mut Room) -> Option<Step>
+fn join_changed<F: Flavor>(bytes: &[u8], written: usize, buffer: &mut Buffer) -> Option<Step>
     requires long { PAIR_READ ≤ length bytes.now }
-    requires room { written + PAIR_UTF8 ≤ ROOM_LEN }
+    requires room { written + PAIR_UTF8 ≤ BUFFER_LEN }
     ensures few { IfSome result (λ step.
         (0 < step.written) × (step.written ≤ step.read) × (step.read ≤ PAIR)) }
     ensures joined { IfSome result (λ step. KeepsJoined F.flavor
-        bytes.now (take written room.old)
-        (drop step.read bytes.now) (take (written + step.written) room.new)) }
-    ensures none { IfNone result (room.new ≡ room.old) }
+        bytes.now (take written buffer.old)
+        (drop step.read bytes.now) (take (written + step.written) buffer.new)) }
+    ensures none { IfNone result (buffer.new ≡ buffer.old) }
 {
     let pair = pair_bits(bytes);
     let null = null_bits::<F>(bytes);
@@ -191,7 +191,7 @@ fn join_changed<F: Flavor>(bytes: &[u8], written: usize, room: &mut Room) -> Opt
     } else {
         (NULL, [0; PAIR_UTF8], NULL_UTF8)
     };
-    room[written..written + PAIR_UTF8].copy_from_slice(&utf8);
+    buffer[written..written + PAIR_UTF8].copy_from_slice(&utf8);
     Some(Step { read, written: len })
 }
 
@@ -236,22 +236,22 @@ fn is_nulls<F: Flavor>(bytes: &[u8]) -> bool
     requires { BLOCK ≤ length bytes.now }
     ensures { IsTrue result ↔ (F.flavor ≡ Mutf8) × (take BLOCK bytes.now ≡ nulls) }
 {
-    let front = &bytes[..BLOCK];
-    F::has_long_null() && front == NULLS.as_slice()
+    let prefix = &bytes[..BLOCK];
+    F::has_long_null() && prefix == NULLS.as_slice()
 }
 
 /// Joins a block of null characters of MUTF-8.
 #[inline(always)]
-fn join_nulls<'a>(at: Progress<'a>, room: &mut Room) -> Progress<'a>
+fn join_nulls<'a>(at: Progress<'a>, buffer: &mut Buffer) -> Progress<'a>
     requires nulls { take BLOCK at.rest.now ≡ nulls }
     requires long { BLOCK ≤ length at.rest.now }
-    requires room { at.written + NULLS_IN_BLOCK ≤ ROOM_LEN }
+    requires room { at.written + NULLS_IN_BLOCK ≤ BUFFER_LEN }
     ensures rest { length result.rest.now + BLOCK ≡ length at.entry.rest.now }
     ensures written { result.written ≡ at.entry.written + NULLS_IN_BLOCK }
-    ensures joined { KeepsJoined Mutf8 at.entry.rest.now (take at.entry.written room.old)
-        result.rest.now (take result.written room.new) }
+    ensures joined { KeepsJoined Mutf8 at.entry.rest.now (take at.entry.written buffer.old)
+        result.rest.now (take result.written buffer.new) }
 {
-    room[at.written..at.written + NULLS_IN_BLOCK].copy_from_slice(&[0; NULLS_IN_BLOCK]);
+    buffer[at.written..at.written + NULLS_IN_BLOCK].copy_from_slice(&[0; NULLS_IN_BLOCK]);
     Progress {
         rest: &at.rest[BLOCK..],
         written: at.written + NULLS_IN_BLOCK,

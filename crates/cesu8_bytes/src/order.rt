@@ -9,7 +9,7 @@ ghost use Rattle.std.specs.Ordering.{nat_cmp};
 ghost use Rattle.std.specs.Str.{chars};
 ghost use Rattle.cesu8_text.specs.Order.{utf16_rank};
 ghost use Rattle.cesu8_text.specs.Utf16.{units};
-ghost use Rattle.cesu8_bytes.specs.Fronts.{FollowSameFront};
+ghost use Rattle.cesu8_bytes.specs.Prefixes.{FollowSamePrefix};
 
 use std::cmp::Ordering;
 
@@ -26,7 +26,7 @@ pub fn compare_as_utf16(text: &str, other: &str) -> Ordering
 
 /// Returns what follows the equal words in front of some bytes and others.
 fn behind_equal_words<'a, 'b>(bytes: &'a [u8], other: &'b [u8]) -> (&'a [u8], &'b [u8])
-    ensures { FollowSameFront bytes.now other.now result.0.now result.1.now }
+    ensures { FollowSamePrefix bytes.now other.now result.0.now result.1.now }
 {
     let mut rest = bytes;
     let mut other_rest = other;

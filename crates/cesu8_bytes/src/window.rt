@@ -3,10 +3,10 @@
 ghost use Rattle.std.specs.Prelude.{◌+◌, ◌<◌, ◌≤◌, length, take, drop, IfSome};
 ghost use Rattle.cesu8_text.specs.Encoding.{Flavor as AnyFlavor};
 ghost use Rattle.cesu8_bytes.specs.Joining.{IsJoined};
-ghost use Rattle.cesu8_bytes.specs.Pieces.{IsPiece};
+ghost use Rattle.cesu8_bytes.specs.TextChunks.{IsChunk};
 ghost use Rattle.cesu8_bytes.specs.declared.options.Strictness.{Strictness};
 
-use super::joining::{MOST_JOINED, MOST_WITH_PAIR, MUST_FOLLOW, PAIR, Room, Step, join};
+use super::joining::{Buffer, MOST_JOINED, MOST_WITH_PAIR, MUST_FOLLOW, PAIR, Step, join};
 use crate::continuation::is_continuation;
 use crate::first_looks::contains_changed;
 use crate::flavor::Flavor;
@@ -28,22 +28,22 @@ pub struct Joined<'a> {
 
 /// Joins a window, or the part of it before an error, up to the end of a character. If it returns
 /// none, nothing is known of the bytes.
-pub fn read_window<'a, F: Flavor>(bytes: &[u8], room: &'a mut Room) -> Option<Joined<'a>>
+pub fn read_window<'a, F: Flavor>(bytes: &[u8], buffer: &'a mut Buffer) -> Option<Joined<'a>>
     requires { TOO_FEW < length bytes.now }
     ensures within { IfSome result (λ joined.
         (0 < joined.read) × (joined.read ≤ length bytes.now)) }
-    ensures text { IfSome result (λ joined. (which : Strictness) → IsPiece F.flavor which
+    ensures text { IfSome result (λ joined. (which : Strictness) → IsChunk F.flavor which
         bytes.now (drop joined.read bytes.now) joined.text.now) }
 {
-    let step = join::<F>(bytes, MOST_JOINED.min(bytes.len() - MUST_FOLLOW), room);
-    let Step { read, written } = copy_end(bytes, step, room);
+    let step = join::<F>(bytes, MOST_JOINED.min(bytes.len() - MUST_FOLLOW), buffer);
+    let Step { read, written } = copy_end(bytes, step, buffer);
     if read == 0 {
         return None;
     }
     if contains_changed::<F>(&bytes[..read]) {
         return None;
     }
-    let joined = &room[..written];
+    let joined = &buffer[..written];
     match basic::from_utf8(joined) {
         Ok(text) => Some(Joined { read, text }),
         Err(_) => None,
@@ -51,17 +51,17 @@ pub fn read_window<'a, F: Flavor>(bytes: &[u8], room: &'a mut Room) -> Option<Jo
 }
 
 /// Copies the continuation bytes that follow a step.
-fn copy_end(bytes: &[u8], step: Step, room: &mut Room) -> Step
+fn copy_end(bytes: &[u8], step: Step, buffer: &mut Buffer) -> Step
     requires { (step.read ≤ length bytes.now) × (step.written ≤ MOST_WITH_PAIR) }
     ensures within { (result.read ≤ length bytes.now) × (result.written ≤ FILLED) }
     ensures joined { (f : AnyFlavor)
-        → IsJoined f (take step.read bytes.now) (take step.written room.old)
-        → IsJoined f (take result.read bytes.now) (take result.written room.new) }
+        → IsJoined f (take step.read bytes.now) (take step.written buffer.old)
+        → IsJoined f (take result.read bytes.now) (take result.written buffer.new) }
 {
     let mut read = step.read;
     let mut written = step.written;
     while read < bytes.len() && is_continuation(bytes[read]) && written < FILLED {
-        room[written] = bytes[read];
+        buffer[written] = bytes[read];
         read += 1;
         written += 1;
     }

@@ -61,7 +61,7 @@ pub fn append_zeros<A: Allocator + Copy>(count: usize, out: &mut Vec<u8, A>)
     *out = taken;
 }
 
-/// Copies bytes to a position of a slice, and returns where they end.
+/// Copies bytes to an offset of a slice, and returns where they end.
 #[inline(always)]
 pub fn put(bytes: &[u8], out: &mut [u8], at: usize) -> usize
     requires { at + length bytes.now ≤ length out.old }

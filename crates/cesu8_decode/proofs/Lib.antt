@@ -1,3 +1,3 @@
-pub mod positions
-pub mod pieces
+pub mod by_offset
+pub mod chunks
 pub mod decoder

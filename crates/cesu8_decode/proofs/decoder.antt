@@ -1,6 +1,6 @@
 -- The decoder by vectors.
-pub mod Codes
-pub mod StartCodes
+pub mod Kinds
+pub mod StartKinds
 pub mod LaneTests
 pub mod FirstLanes
 pub mod StartLanes

@@ -3,38 +3,38 @@ use Rattle.std.specs.Prelude.{◌≡◌, ℕ, zero, suc, ◌+◌, ◌*◌, ◌/�
 use Rattle.std.specs.List.{range_with_len}
 use Rattle.cesu8_text.specs.Encoding.{Flavor}
 use Rattle.cesu8_bytes.specs.Joining.{null_at}
-use Rattle.cesu8_decode.specs.DecodedPlaces.{two_at, three_at, pair_at, front_width_by, width_at}
+use Rattle.cesu8_decode.specs.DecodedOffsets.{two_at, three_at, pair_at, first_width_by, width_at}
 
--- The code of the character that begins at a position, by the six bytes there: a bit, or 0 if none
+-- The kind of the character that begins at an offset, by the six bytes there: a bit, or 0 if none
 -- begins or one of one byte.
-unfoldable pub start_code_by : Flavor → ℕ → ℕ → ℕ → ℕ → ℕ → ℕ → ℕ
-start_code_by f a b d e g h =
+unfoldable pub start_kind_by : Flavor → ℕ → ℕ → ℕ → ℕ → ℕ → ℕ → ℕ
+start_kind_by f a b d e g h =
     if null_at f a b then 0x80
     else if two_at a b then (if nat_lt a 0xD0 then 0x01 else 0x02)
     else if three_at a b d then (if a == 0xE0 then 0x04 else if a == 0xED then 0x10 else 0x08)
     else if pair_at a b d e g h then 0x20
     else 0
 
--- The code of what two bytes begin, if the others follow.
-abbrev pub code_of_two : Flavor → ℕ → ℕ → ℕ
-code_of_two f a b = start_code_by f a b 0x80 0xED 0xB0 0x80
+-- The kind of what two bytes begin, if the others follow.
+abbrev pub kind_of_two : Flavor → ℕ → ℕ → ℕ
+kind_of_two f a b = start_kind_by f a b 0x80 0xED 0xB0 0x80
 
--- The code of what begins at position i of a window. Zeros follow the window.
-abbrev pub start_code : Flavor → List ℕ → ℕ → ℕ
-start_code f window i =
+-- The kind of what begins at offset i of a window. Zeros follow the window.
+abbrev pub start_kind : Flavor → List ℕ → ℕ → ℕ
+start_kind f window i =
     let w = slice_index window in
-    start_code_by f (w i) (w (i + 1)) (w (i + 2)) (w (i + 3)) (w (i + 4)) (w (i + 5))
+    start_kind_by f (w i) (w (i + 1)) (w (i + 2)) (w (i + 3)) (w (i + 4)) (w (i + 5))
 
--- The five codes from index p on are those of a window's positions from n on.
-abbrev pub AreFiveCodes : Flavor → List ℕ → ℕ → List ℕ → ℕ → Type 0
-AreFiveCodes f window n codes p = (k : ℕ) → k < 5 → slice_index codes (p + k) ≡ start_code f window (n + k)
+-- The five kinds from index p on are those of a window's offsets from n on.
+abbrev pub AreFiveKinds : Flavor → List ℕ → ℕ → List ℕ → ℕ → Type 0
+AreFiveKinds f window n kinds p = (k : ℕ) → k < 5 → slice_index kinds (p + k) ≡ start_kind f window (n + k)
 
--- Vector d of six has the codes of the 32 positions that follow the first `at` + d.
-abbrev pub AreCodesNear : Flavor → List ℕ → ℕ → List (List ℕ) → Type 0
-AreCodesNear f window at codes =
-    (d : ℕ) → d < 6 → slice_index_or codes d [] ≡ map (λ i. start_code f window (i + d)) (range_with_len at 32)
+-- Vector d of six has the kinds of the 32 offsets that follow the first `at` + d.
+abbrev pub AreKindsNear : Flavor → List ℕ → ℕ → List (List ℕ) → Type 0
+AreKindsNear f window at kinds =
+    (d : ℕ) → d < 6 → slice_index_or kinds d [] ≡ map (λ i. start_kind f window (i + d)) (range_with_len at 32)
 
--- Whether a byte goes, and the byte that is written for one that stays. The widths at its position
+-- Whether a byte goes, and the byte that is written for one that stays. The widths at its offset
 -- and at the five before it, and the two bytes before it, decide this.
 abbrev pub goes_by : (w0 w1 before b : ℕ) → Bool
 goes_by w0 w1 before b = w0 == 6 || (w1 == 6 || (w0 == 2 && b == 0xC0))
@@ -61,29 +61,29 @@ byte_at f window i =
 abbrev pub is_high : ℕ → Bool
 is_high lane = nat_le 0x80 lane
 
--- What is written for bytes in a row: the replacement character for one that is damaged, nothing
+-- What is written for bytes in a row: the replacement character for one that is ill-formed, nothing
 -- for one that goes, and otherwise the byte.
 abbrev pub written_for : Bool → Bool → ℕ → List ℕ
-written_for gone damaged b = if damaged then 0xEF ∷ 0xBF ∷ 0xBD ∷ [] else if gone then [] else b ∷ []
+written_for gone ill_formed b = if ill_formed then 0xEF ∷ 0xBF ∷ 0xBD ∷ [] else if gone then [] else b ∷ []
 
 abbrev pub written : List Bool → List Bool → List ℕ → List ℕ
-written [] damaged bytes = []
+written [] ill_formed bytes = []
 written (g ∷ gone) [] bytes = []
-written (g ∷ gone) (d ∷ damaged) [] = []
-written (g ∷ gone) (d ∷ damaged) (b ∷ bytes) = written_for g d b ++ written gone damaged bytes
+written (g ∷ gone) (d ∷ ill_formed) [] = []
+written (g ∷ gone) (d ∷ ill_formed) (b ∷ bytes) = written_for g d b ++ written gone ill_formed bytes
 
 -- What is written for the lanes of three vectors.
 abbrev pub written_lanes : List ℕ → List ℕ → List ℕ → List ℕ
-written_lanes gone damaged bytes = written (map is_high gone) (map is_high damaged) bytes
+written_lanes gone ill_formed bytes = written (map is_high gone) (map is_high ill_formed) bytes
 
 -- The lanes that packing keeps of four bytes, followed by a replacement character: from byte i on,
 -- for n bytes. Bit i of the first number is set if byte i goes, and that of the second if it is
--- damaged.
+-- ill-formed.
 abbrev pub kept_of : ℕ → ℕ → ℕ → ℕ → List ℕ
-kept_of gone damaged i zero = []
-kept_of gone damaged i (suc n) =
-    (if damaged % 2 == 1 then 4 ∷ 5 ∷ 6 ∷ [] else if gone % 2 == 1 then [] else i ∷ [])
-    ++ kept_of (gone / 2) (damaged / 2) (i + 1) n
+kept_of gone ill_formed i zero = []
+kept_of gone ill_formed i (suc n) =
+    (if ill_formed % 2 == 1 then 4 ∷ 5 ∷ 6 ∷ [] else if gone % 2 == 1 then [] else i ∷ [])
+    ++ kept_of (gone / 2) (ill_formed / 2) (i + 1) n
 
 -- A shuffle of sixteen lanes that keeps these. Its last number is their count; those between are
 -- not used.
@@ -91,7 +91,7 @@ abbrev pub shuffle_keeping : List ℕ → List ℕ
 shuffle_keeping kept = kept ++ replicate (15 - length kept) 0 ++ length kept ∷ []
 
 -- The lower four bits of the set mark those of four bytes that go, and the upper four those that
--- are damaged.
+-- are ill-formed.
 abbrev pub shuffle_of_four : ℕ → List ℕ
 shuffle_of_four set = shuffle_keeping (kept_of (set % 0x10) (set / 0x10) 0 4)
 
@@ -99,25 +99,25 @@ shuffle_of_four set = shuffle_keeping (kept_of (set % 0x10) (set / 0x10) 0 4)
 abbrev pub AreShufflesOfFour : List (List ℕ) → Type 0
 AreShufflesOfFour rows = (set : ℕ) → set < 0x100 → slice_index_or rows set [] ≡ shuffle_of_four set
 
--- The same for eight bytes of which none is damaged. Bit i of the number is set if byte i goes.
+-- The same for eight bytes of which none is ill-formed. Bit i of the number is set if byte i goes.
 abbrev pub shuffle_of_eight : ℕ → List ℕ
 shuffle_of_eight gone = shuffle_keeping (kept_of gone 0 0 8)
 
 abbrev pub AreShufflesOfEight : List (List ℕ) → Type 0
 AreShufflesOfEight rows = (gone : ℕ) → gone < 0x100 → slice_index_or rows gone [] ≡ shuffle_of_eight gone
 
--- The weight of position i of a window.
+-- The weight of offset i of a window.
 abbrev pub weight_at : (ℕ → ℕ → ℕ) → Flavor → List ℕ → ℕ → ℕ
 weight_at weight f window i = weight (width_at f window i) (slice_index window i)
 
 -- A number tells the weight of a character of one byte. Two tables tell that of others, by the lower
--- half of their code and by its upper half.
-abbrev pub weight_told : (one : ℕ) → (low high : List ℕ) → (width code : ℕ) → ℕ
-weight_told one low high width code =
-    bit_or (bit_or (if width == 1 then one else 0) (slice_index low (code % 0x10))) (slice_index high (code / 0x10 % 0x10))
+-- half of their kind and by its upper half.
+abbrev pub weight_told : (one : ℕ) → (low high : List ℕ) → (width kind : ℕ) → ℕ
+weight_told one low high width kind =
+    bit_or (bit_or (if width == 1 then one else 0) (slice_index low (kind % 0x10))) (slice_index high (kind / 0x10 % 0x10))
 
--- They do so at each position, by the six bytes there.
+-- They do so at each offset, by the six bytes there.
 abbrev pub TellWeights : (ℕ → ℕ → ℕ) → ℕ → List ℕ → List ℕ → Type 0
 TellWeights weight one low high =
     (f : Flavor) (a b d e g h : ℕ) →
-    weight_told one low high (front_width_by f a b d e g h) (start_code_by f a b d e g h) ≡ weight (front_width_by f a b d e g h) a
+    weight_told one low high (first_width_by f a b d e g h) (start_kind_by f a b d e g h) ≡ weight (first_width_by f a b d e g h) a

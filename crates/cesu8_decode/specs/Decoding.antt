@@ -1,4 +1,4 @@
--- What decoding a piece at a time promises.
+-- What decoding a chunk at a time promises.
 use Rattle.std.specs.Prelude.{◌≡◌, ℕ, ◌+◌, ◌<◌, ◌≤◌, Bool, true, false, List, ◌++◌, length, take, drop, Result, OnOk}
 use Rattle.cesu8_text.specs.Text.{IsText, utf8}
 use Rattle.cesu8_text.specs.Reading.{reading, NoneBegins, lossy_length, HasNoStrictReading}
@@ -7,48 +7,48 @@ use Rattle.cesu8_bytes.specs.declared.options.Strictness.{Strictness}
 use Rattle.cesu8_bytes.specs.declared.options.Strictness.TheVariants.{Strict, Lossy}
 use Rattle.cesu8_decode.specs.Refusals.{OnNoText}
 use Rattle.cesu8_decode.specs.declared.refusal.Refusal.{Refusal}
-use Rattle.cesu8_bytes.specs.Pieces.{IsPiece}
-use Rattle.cesu8_decode.specs.declared.piece.Piece.{Piece}
-use Rattle.cesu8_decode.specs.declared.piece.Piece.TheVariants.{Joined, Written}
+use Rattle.cesu8_bytes.specs.TextChunks.{IsChunk}
+use Rattle.cesu8_decode.specs.declared.chunk.Chunk.{Chunk}
+use Rattle.cesu8_decode.specs.declared.chunk.Chunk.TheVariants.{Joined, Written}
 
 -- The text of the bytes: it is the lossy reading, and in strict reading the bytes are its encoding.
 abbrev pub IsDecodedText : Flavor → Strictness → List ℕ → List ℕ → Type 0
 IsDecodedText f which bytes text =
     IsText text × (text ≡ reading f bytes) × (which ≡ Strict → encoding f text ≡ bytes)
 
--- Only strict reading refuses damage.
+-- Only strict reading refuses ill-formed bytes.
 abbrev pub refuses : Strictness → Bool → Bool
-refuses Strict is_damaged = is_damaged
-refuses Lossy is_damaged = false
+refuses Strict is_ill_formed = is_ill_formed
+refuses Lossy is_ill_formed = false
 
 -- After some text no encoded character begins the bytes that are left.
 pub record HasFault (f : Flavor) (bytes : List ℕ) : Type 0 where
   pub rest : List ℕ
-  pub piece : List ℕ
-  pub before : IsPiece f Strict bytes rest piece
+  pub chunk : List ℕ
+  pub before : IsChunk f Strict bytes rest chunk
   pub some : 0 < length rest
   pub none_begins : NoneBegins f rest
 
--- The first bytes are a piece of text in lossy reading, and in strict reading too if none of them is
--- damaged.
-pub record ReadsFirst (f : Flavor) (bytes : List ℕ) (read : ℕ) (text : List ℕ) (is_damaged : Bool) : Type 0 where
+-- The first bytes are a chunk of text in lossy reading, and in strict reading too if none of them
+-- is ill-formed.
+pub record ReadsFirst (f : Flavor) (bytes : List ℕ) (read : ℕ) (text : List ℕ) (is_ill_formed : Bool) : Type 0 where
   pub some : 0 < length bytes → 0 < read
   pub within : read ≤ length bytes
-  pub lossy : IsPiece f Lossy bytes (drop read bytes) text
-  pub strict : is_damaged ≡ false → IsPiece f Strict bytes (drop read bytes) text
-  pub damaged : is_damaged ≡ true → HasFault f bytes
+  pub lossy : IsChunk f Lossy bytes (drop read bytes) text
+  pub strict : is_ill_formed ≡ false → IsChunk f Strict bytes (drop read bytes) text
+  pub ill_formed : is_ill_formed ≡ true → HasFault f bytes
 
--- All of the bytes are, but behind damage that is refused.
-pub record ReadsAll (f : Flavor) (which : Strictness) (bytes : List ℕ) (read : ℕ) (text : List ℕ) (is_damaged : Bool) : Type 0 where
-  pub first : ReadsFirst f bytes read text is_damaged
-  pub all : refuses which is_damaged ≡ false → read ≡ length bytes
+-- All of the bytes are, but behind an ill-formed byte that is refused.
+pub record ReadsAll (f : Flavor) (which : Strictness) (bytes : List ℕ) (read : ℕ) (text : List ℕ) (is_ill_formed : Bool) : Type 0 where
+  pub first : ReadsFirst f bytes read text is_ill_formed
+  pub all : refuses which is_ill_formed ≡ false → read ≡ length bytes
 
--- The next piece is text that was joined, or it is written at the front of a buffer. So much of this
--- follows as the test for UTF-8 needs.
-abbrev pub IsNextPiece : Flavor → List ℕ → Piece → List ℕ → Type 0
-IsNextPiece f bytes (Joined joined) written = ReadsFirst f bytes joined.read joined.text.now false
-IsNextPiece f bytes (Written decoded) written =
-    ReadsFirst f bytes decoded.read (take decoded.end written) decoded.is_damaged × (decoded.end + 64 ≤ length written)
+-- The next chunk is text that was joined, or it is written at the front of a buffer. So much of
+-- this follows as the test for UTF-8 needs.
+abbrev pub IsNextChunk : Flavor → List ℕ → Chunk → List ℕ → Type 0
+IsNextChunk f bytes (Joined joined) written = ReadsFirst f bytes joined.read joined.text.now false
+IsNextChunk f bytes (Written decoded) written =
+    ReadsFirst f bytes decoded.read (take decoded.end written) decoded.is_ill_formed × (decoded.end + 64 ≤ length written)
 
 -- The text of the bytes is appended. `NoText` is returned only where there is none.
 pub record AppendsText {T : Type 0} (f : Flavor) (which : Strictness) (bytes : List ℕ) (result : Result T Refusal) (old new : List ℕ) : Type 0 where
@@ -58,7 +58,7 @@ pub record AppendsText {T : Type 0} (f : Flavor) (which : Strictness) (bytes : L
 -- The lossy reading of some bytes is written to the front of a slice, up to an end, and the bytes
 -- after it stay.
 pub record IsWrittenSoFar (f : Flavor) (bytes rest : List ℕ) (end : ℕ) (old new : List ℕ) : Type 0 where
-  pub so_far : IsPiece f Lossy bytes rest (take end new)
+  pub so_far : IsChunk f Lossy bytes rest (take end new)
   pub room : end + lossy_length f rest ≡ lossy_length f bytes
   pub behind : drop end new ≡ drop end old
   pub len : length new ≡ length old

@@ -1,4 +1,4 @@
-pub mod DecodedPlaces
+pub mod DecodedOffsets
 pub mod DecodedLanes
 pub mod DecodedWindows
 pub mod Refusals

@@ -2,8 +2,8 @@
 
 ghost use Rattle.std.specs.Prelude.{◌≡◌, ◌+◌, ◌*◌, ◌<◌, ℕ, ◌≤◌, ◌++◌, length, take, drop, replicate, slice_index, false, true};
 ghost use Rattle.cesu8_text.specs.Reading.{NoneBegins};
-ghost use Rattle.cesu8_decode.specs.DecodedPlaces.{one_at, IsFrontOf};
-ghost use Rattle.cesu8_bytes.specs.Pieces.{IsReadSoFar};
+ghost use Rattle.cesu8_decode.specs.DecodedOffsets.{one_at, IsPrefixOf};
+ghost use Rattle.cesu8_bytes.specs.TextChunks.{IsReadSoFar};
 ghost use Rattle.cesu8_decode.specs.Decoding.{ReadsAll};
 ghost use Rattle.cesu8_bytes.specs.declared.options.Strictness.{Strictness};
 ghost use Rattle.cesu8_bytes.specs.declared.options.Strictness.TheVariants.{Lossy};
@@ -13,55 +13,55 @@ use super::refusal::is_refused;
 use super::widths::{is_one, width};
 use super::windows::Decoded;
 use cesu8_bytes::flavor::Flavor;
-use cesu8_bytes::implementation::class::{Either, High};
+use cesu8_bytes::implementation::class::{Either, NonAscii};
 use cesu8_bytes::implementation::short::copy_short;
 use cesu8_bytes::joining::{PAIR, PAIR_READ, is_pair, utf8_of_pair};
 use cesu8_bytes::options::Strictness;
 use cesu8_bytes::runs::copy_run;
 use cesu8_bytes::writers::put;
 
-/// U+FFFD, which replaces a damaged byte.
+/// U+FFFD, which replaces an ill-formed byte.
 const REPLACEMENT: [u8; WIDEST] = [0xEF, 0xBF, 0xBD];
 
-/// Writes the characters of the bytes, and U+FFFD for each damaged byte. Strict reading stops
+/// Writes the characters of the bytes, and U+FFFD for each ill-formed byte. Strict reading stops
 /// behind the first of these.
 #[inline(always)]
 pub fn write_characters<F: Flavor>(strictness: Strictness, bytes: &[u8], out: &mut [u8]) -> Decoded
     requires { WIDEST * length bytes.now ≤ length out.old }
     ensures read { ReadsAll F.flavor strictness bytes.now
-        result.read (take result.end out.new) result.is_damaged }
+        result.read (take result.end out.new) result.is_ill_formed }
     ensures end { result.end ≤ WIDEST * length bytes.now }
     ensures len { length out.new ≡ length out.old }
 {
     let mut read = 0;
     let mut end = 0;
-    let mut is_damaged = false;
-    while (read < bytes.len()) & !is_refused(strictness, is_damaged) {
+    let mut is_ill_formed = false;
+    while (read < bytes.len()) & !is_refused(strictness, is_ill_formed) {
         let step = write_next::<F>(&bytes[read..], out, end);
         read += step.read;
         end = step.end;
-        is_damaged = is_damaged | step.is_damaged;
+        is_ill_formed = is_ill_formed | step.is_ill_formed;
     }
     Decoded {
         read,
         end,
-        is_damaged,
+        is_ill_formed,
     }
 }
 
-/// Writes some characters of one byte, or else the character that begins the bytes, or U+FFFD for a
-/// damaged byte.
+/// Writes some characters of one byte, or else the character that begins the bytes, or U+FFFD for
+/// an ill-formed byte.
 #[inline(always)]
 fn write_next<F: Flavor>(bytes: &[u8], out: &mut [u8], end: usize) -> Decoded
     requires some { 0 < length bytes.now }
     requires room { end + WIDEST * length bytes.now ≤ length out.old }
     ensures within { (0 < result.read) × (result.read ≤ length bytes.now)
         × (result.end ≤ end + WIDEST * result.read) }
-    ensures character { result.is_damaged ≡ false → (which : Strictness)
+    ensures character { result.is_ill_formed ≡ false → (which : Strictness)
         → IsReadSoFar F.flavor which bytes.now
         (drop result.read bytes.now) (take end out.old) (take result.end out.new) }
-    ensures damaged { result.is_damaged ≡ true → NoneBegins F.flavor bytes.now }
-    ensures replaced { result.is_damaged ≡ true → IsReadSoFar F.flavor Lossy bytes.now
+    ensures ill_formed { result.is_ill_formed ≡ true → NoneBegins F.flavor bytes.now }
+    ensures replaced { result.is_ill_formed ≡ true → IsReadSoFar F.flavor Lossy bytes.now
         (drop result.read bytes.now) (take end out.old) (take result.end out.new) }
     ensures len { length out.new ≡ length out.old }
 {
@@ -70,7 +70,7 @@ fn write_next<F: Flavor>(bytes: &[u8], out: &mut [u8], end: usize) -> Decoded
         return Decoded {
             read: run,
             end: end + run,
-            is_damaged: false,
+            is_ill_formed: false,
         };
     }
     write_character::<F>(bytes, out, end)
@@ -90,7 +90,7 @@ fn copy_ascii<F: Flavor>(bytes: &[u8], out: &mut [u8], at: usize) -> usize
     if !is_one::<F>(bytes[0]) {
         return 0;
     }
-    let run = copy_run::<Either<F::Null, High>>(bytes, out, at);
+    let run = copy_run::<Either<F::Null, NonAscii>>(bytes, out, at);
     if run == 0 {
         put(&bytes[..1], out, at);
         return 1;
@@ -98,36 +98,36 @@ fn copy_ascii<F: Flavor>(bytes: &[u8], out: &mut [u8], at: usize) -> usize
     run
 }
 
-/// Writes the character that begins the bytes, or U+FFFD for a damaged byte.
+/// Writes the character that begins the bytes, or U+FFFD for an ill-formed byte.
 #[inline(always)]
 fn write_character<F: Flavor>(bytes: &[u8], out: &mut [u8], end: usize) -> Decoded
     requires some { 0 < length bytes.now }
     requires room { end + WIDEST * length bytes.now ≤ length out.old }
     ensures within { (0 < result.read) × (result.read ≤ length bytes.now)
         × (result.end ≤ end + WIDEST * result.read) }
-    ensures character { result.is_damaged ≡ false → (which : Strictness)
+    ensures character { result.is_ill_formed ≡ false → (which : Strictness)
         → IsReadSoFar F.flavor which bytes.now
         (drop result.read bytes.now) (take end out.old) (take result.end out.new) }
-    ensures damaged { result.is_damaged ≡ true → NoneBegins F.flavor bytes.now }
-    ensures replaced { result.is_damaged ≡ true → IsReadSoFar F.flavor Lossy bytes.now
+    ensures ill_formed { result.is_ill_formed ≡ true → NoneBegins F.flavor bytes.now }
+    ensures replaced { result.is_ill_formed ≡ true → IsReadSoFar F.flavor Lossy bytes.now
         (drop result.read bytes.now) (take end out.old) (take result.end out.new) }
     ensures len { length out.new ≡ length out.old }
 {
     let mut padded = [0; PAIR_READ];
-    let front = front_of(bytes, &mut padded);
-    if is_pair(front) {
+    let prefix = prefix_of(bytes, &mut padded);
+    if is_pair(prefix) {
         return Decoded {
             read: PAIR,
-            end: put(&utf8_of_pair(front), out, end),
-            is_damaged: false,
+            end: put(&utf8_of_pair(prefix), out, end),
+            is_ill_formed: false,
         };
     }
-    let read = width::<F>(bytes, front);
+    let read = width::<F>(bytes, prefix);
     if read == 0 {
         return Decoded {
             read: 1,
             end: put(&REPLACEMENT, out, end),
-            is_damaged: true,
+            is_ill_formed: true,
         };
     }
     let end = match read {
@@ -139,15 +139,15 @@ fn write_character<F: Flavor>(bytes: &[u8], out: &mut [u8], end: usize) -> Decod
     Decoded {
         read,
         end,
-        is_damaged: false,
+        is_ill_formed: false,
     }
 }
 
 /// Returns the bytes if they are eight or more, or else a copy with zeros after the last.
 #[inline(always)]
-fn front_of<'a>(bytes: &'a [u8], padded: &'a mut [u8; PAIR_READ]) -> &'a [u8]
+fn prefix_of<'a>(bytes: &'a [u8], padded: &'a mut [u8; PAIR_READ]) -> &'a [u8]
     requires { padded.old ≡ replicate PAIR_READ 0 }
-    ensures front { IsFrontOf bytes.now result.now }
+    ensures prefix { IsPrefixOf bytes.now result.now }
     ensures long { PAIR_READ ≤ length result.now }
 {
     if bytes.len() >= PAIR_READ {

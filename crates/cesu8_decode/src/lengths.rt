@@ -1,14 +1,14 @@
 //! The lengths of the readings. That of the lossy reading is three bytes for each byte, less what
-//! each position saves. If no byte is damaged, it is that of the strict reading.
+//! each offset saves. If no byte is ill-formed, it is that of the strict reading.
 
 ghost use Rattle.std.specs.Prelude.{◌≡◌, ◌<◌, refl, IfSome, IfNone};
 ghost use Rattle.std.proofs.Common.{arith};
 ghost use Rattle.std.proofs.lemmas.Bool.Decides.{nat_tests};
 ghost use Rattle.cesu8_text.specs.Reading.{IsStrictReading, HasNoStrictReading, lossy_length};
 ghost use Rattle.cesu8_text.specs.Slices.{ReadsAtLength};
-ghost use Rattle.cesu8_decode.specs.DecodedPlaces.{saved, total_weight};
+ghost use Rattle.cesu8_decode.specs.DecodedOffsets.{saved, total_weight};
 
-use super::damage::is_damaged;
+use super::ill_formed::is_ill_formed;
 use super::sums::{BLOCKS, Weight, Weights, sum_first};
 use cesu8_bytes::first_looks::unchanged_text;
 use cesu8_bytes::flavor::Flavor;
@@ -23,7 +23,7 @@ pub fn decoded_len<F: Flavor>(bytes: &[u8]) -> Option<usize>
     if text.len() == bytes.len() {
         return Some(text.len());
     }
-    if is_damaged::<F>(bytes) {
+    if is_ill_formed::<F>(bytes) {
         return None;
     }
     lossy_len::<F>(bytes)
@@ -38,7 +38,7 @@ pub fn lossy_len<F: Flavor>(bytes: &[u8]) -> Option<usize>
     usize::try_from(most - saved::<F>(bytes)).ok()
 }
 
-/// Returns what all positions save.
+/// Returns what all offsets save.
 fn saved<F: Flavor>(bytes: &[u8]) -> u128
     ensures { result ≡ total_weight saved F.flavor bytes.now }
 {
@@ -52,7 +52,7 @@ fn saved<F: Flavor>(bytes: &[u8]) -> u128
     saved
 }
 
-/// What a position saves.
+/// What an offset saves.
 struct Savings;
 
 impl Weight for Savings {

@@ -1,14 +1,14 @@
 //! The decoder. Its names are no promise to users: `simd_cesu8` has the public calls.
 //!
-//! At most six bytes decide whether an encoded character begins at a position, and no two overlap.
+//! At most six bytes decide whether an encoded character begins at an offset, and no two overlap.
 //! So the nearby bytes decide what becomes of a byte in the lossy reading: it stays, changes, goes,
-//! or is damaged and replaced. `places` and `parts` find this for 32 bytes at a time, with no
-//! branch on a single byte. In strict reading no byte may be damaged. `lengths` adds up the length
-//! of the text.
+//! or is ill-formed and replaced. `offsets` and `parts` find this for 32 bytes at a time, with no
+//! branch on a single byte. In strict reading no byte may be ill-formed. `lengths` adds up the
+//! length of the text.
 //!
 //! `way` decides which way bytes go, and `text` and `slices` take them there: a few bytes are read
-//! one character after another, more in one window, and still more piece by piece. `piece` reads
-//! the next piece in any of these ways.
+//! one character after another, more in one window, and still more chunk by chunk. `chunk` reads
+//! the next chunk in any of these ways.
 #![tactic(auto)]
 
 ghost use Rattle.std.specs.Prelude.{◌≡◌, length, IfOk};
@@ -18,13 +18,13 @@ ghost use Rattle.cesu8_text.specs.Reading.{IsStrictReading, HasNoStrictReading, 
 ghost use Rattle.cesu8_decode.specs.Refusals.{OnNoText};
 
 mod characters;
+mod chunk;
 pub mod copy_or_write;
-mod damage;
+mod ill_formed;
 mod lengths;
+mod offsets;
 mod packing;
 mod parts;
-mod piece;
-mod places;
 pub mod refusal;
 mod rows;
 mod rows_of_eight;

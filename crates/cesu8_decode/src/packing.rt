@@ -1,11 +1,11 @@
 //! Packs what becomes of 32 bytes: by a shuffle for each four bytes, or for each eight if no byte
-//! is damaged.
+//! is ill-formed.
 
 ghost use Rattle.std.specs.Prelude.{◌≡◌, List, Bool, ◌+◌, ◌*◌, ◌%◌, ◌<◌, ◌≤◌, ◌∷◌, [], ◌++◌, false, length, map, take, replicate, slice_index};
 ghost use Rattle.std.specs.Simd.Lanes.{chunk, mask_l};
 ghost use Rattle.cesu8_decode.specs.DecodedLanes.{is_high, written, written_lanes, AreShufflesOfFour};
 
-use super::places::BLOCK;
+use super::offsets::BLOCK;
 use super::rows_of_eight::rows_of_eight;
 use cesu8_bytes::Rows;
 use std::simd::prelude::*;
@@ -22,14 +22,14 @@ pub const ROOM: usize = WIDEST * BLOCK + STORED;
 /// How many bytes are half a block.
 const HALF: usize = BLOCK / 2;
 
-/// What becomes of the bytes of a block. If a lane of `damaged` has its highest bit set, the
+/// What becomes of the bytes of a block. If a lane of `ill_formed` has its highest bit set, the
 /// replacement character is written; else if one of `gone` has it set, nothing is; else the lane of
 /// `bytes`.
 #[derive(Drop)]
 pub struct Parts {
     pub bytes: u8x32,
     pub gone: u8x32,
-    pub damaged: u8x32,
+    pub ill_formed: u8x32,
 }
 
 /// Stores what becomes of a block, and returns its end.
@@ -38,17 +38,17 @@ pub fn store(parts: Parts, rows: &Rows, out: &mut [u8], at: usize) -> usize
     requires rows { AreShufflesOfFour rows.now }
     requires room { at + ROOM ≤ length out.old }
     ensures bytes { take result out.new
-        ≡ take at out.old ++ written_lanes parts.gone parts.damaged parts.bytes }
+        ≡ take at out.old ++ written_lanes parts.gone parts.ill_formed parts.bytes }
     ensures end { (at ≤ result) × (result ≤ at + WIDEST * BLOCK) }
     ensures len { length out.new ≡ length out.old }
 {
-    if highest_bits(parts.damaged) == 0 {
+    if highest_bits(parts.ill_formed) == 0 {
         return store_whole(parts, out, at);
     }
     let at = store_half(
         parts.bytes.extract::<0, HALF>(),
         parts.gone.extract::<0, HALF>(),
-        parts.damaged.extract::<0, HALF>(),
+        parts.ill_formed.extract::<0, HALF>(),
         rows,
         out,
         at,
@@ -56,20 +56,20 @@ pub fn store(parts: Parts, rows: &Rows, out: &mut [u8], at: usize) -> usize
     store_half(
         parts.bytes.extract::<HALF, HALF>(),
         parts.gone.extract::<HALF, HALF>(),
-        parts.damaged.extract::<HALF, HALF>(),
+        parts.ill_formed.extract::<HALF, HALF>(),
         rows,
         out,
         at,
     )
 }
 
-/// Stores what becomes of a block without a damaged byte.
+/// Stores what becomes of a block without an ill-formed byte.
 #[inline(always)]
 fn store_whole(parts: Parts, out: &mut [u8], at: usize) -> usize
-    requires whole { mask_l (map is_high parts.damaged) ≡ 0 }
+    requires whole { mask_l (map is_high parts.ill_formed) ≡ 0 }
     requires room { at + ROOM ≤ length out.old }
     ensures bytes { take result out.new
-        ≡ take at out.old ++ written_lanes parts.gone parts.damaged parts.bytes }
+        ≡ take at out.old ++ written_lanes parts.gone parts.ill_formed parts.bytes }
     ensures end { (at ≤ result) × (result ≤ at + BLOCK) }
     ensures len { length out.new ≡ length out.old }
 {
@@ -122,14 +122,14 @@ const REPLACEMENTS: [u8; 16] = [
 fn store_half(
     bytes: u8x16,
     gone: u8x16,
-    damaged: u8x16,
+    ill_formed: u8x16,
     rows: &Rows,
     out: &mut [u8],
     at: usize,
 ) -> usize
     requires rows { AreShufflesOfFour rows.now }
     requires room { at + WIDEST * HALF + STORED ≤ length out.old }
-    ensures bytes { take result out.new ≡ take at out.old ++ written_lanes gone damaged bytes }
+    ensures bytes { take result out.new ≡ take at out.old ++ written_lanes gone ill_formed bytes }
     ensures end { (at ≤ result) × (result ≤ at + WIDEST * HALF) }
     ensures len { length out.new ≡ length out.old }
 {
@@ -143,11 +143,11 @@ fn store_half(
         [8, 9, 10, 11, 16, 17, 18, 19, 12, 13, 14, 15, 20, 21, 22, 23],
     );
     let front = highest_bits(gone.shuffle::<16>(
-        damaged,
+        ill_formed,
         [0, 1, 2, 3, 16, 17, 18, 19, 4, 5, 6, 7, 20, 21, 22, 23],
     )) as usize;
     let back = highest_bits(gone.shuffle::<16>(
-        damaged,
+        ill_formed,
         [8, 9, 10, 11, 24, 25, 26, 27, 12, 13, 14, 15, 28, 29, 30, 31],
     )) as usize;
     let at = store_four(first, front & 0xFF, rows, out, at);
@@ -166,16 +166,16 @@ fn second_of(lanes: u8x16) -> u8x16
 
 /// Stores what becomes of four bytes, which the replacement character follows in the lanes, and
 /// returns its end. The lower four bits of the set mark those that go, and the others those that
-/// are damaged.
+/// are ill-formed.
 #[inline(always)]
 fn store_four(lanes: u8x16, set: usize, rows: &Rows, out: &mut [u8], at: usize) -> usize
     requires rows { AreShufflesOfFour rows.now }
     requires small { set < 0x100 }
     requires replacement { chunk 4 3 lanes ≡ 0xEF ∷ 0xBF ∷ 0xBD ∷ [] }
     requires room { at + STORED ≤ length out.old }
-    ensures bytes { (gone damaged : List Bool) → length gone ≡ 4 → length damaged ≡ 4
-        → set ≡ mask_l (gone ++ damaged)
-        → take result out.new ≡ take at out.old ++ written gone damaged (chunk 0 4 lanes) }
+    ensures bytes { (gone ill_formed : List Bool) → length gone ≡ 4 → length ill_formed ≡ 4
+        → set ≡ mask_l (gone ++ ill_formed)
+        → take result out.new ≡ take at out.old ++ written gone ill_formed (chunk 0 4 lanes) }
     ensures end { (at ≤ result) × (result ≤ at + WIDEST * 4) }
     ensures len { length out.new ≡ length out.old }
 {
@@ -185,7 +185,7 @@ fn store_four(lanes: u8x16, set: usize, rows: &Rows, out: &mut [u8], at: usize) 
     at + row[15] as usize
 }
 
-/// Returns the lanes at the positions in the lower halves of a row's numbers.
+/// Returns the lanes at the indices in the lower halves of a row's numbers.
 #[inline(always)]
 fn picked(lanes: u8x16, row: u8x16) -> u8x16
     ensures { result ≡ map (λ j. slice_index lanes (j % 0x10)) row }

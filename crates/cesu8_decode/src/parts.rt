@@ -1,6 +1,6 @@
 //! What becomes of 32 bytes, by vectors: each stays, changes, goes or is replaced.
 //!
-//! The characters that begin at the byte's position and at the five before it decide this. The six
+//! The characters that begin at the byte's offset and at the five before it decide this. The six
 //! bytes of a surrogate pair, ED and two, twice, become four:
 //!
 //! ```text
@@ -14,11 +14,11 @@ ghost use Rattle.std.specs.List.{range_with_len};
 ghost use Rattle.std.specs.Simd.Lanes.{sel_l};
 ghost use Rattle.cesu8_text.specs.Encoding.{Flavor};
 ghost use Rattle.cesu8_bytes.specs.Kernels.{mask};
-ghost use Rattle.cesu8_decode.specs.DecodedPlaces.{decoded, is_damaged_at};
-ghost use Rattle.cesu8_decode.specs.DecodedLanes.{AreCodesNear, AreShufflesOfFour, is_high, goes_at, byte_at, written_lanes};
+ghost use Rattle.cesu8_decode.specs.DecodedOffsets.{decoded, is_ill_formed_at};
+ghost use Rattle.cesu8_decode.specs.DecodedLanes.{AreKindsNear, AreShufflesOfFour, is_high, goes_at, byte_at, written_lanes};
 
+use super::offsets::{BLOCK, Kinds, PAIR, REACH, THREE, equal, look_up};
 use super::packing::{Parts, ROOM, WIDEST, highest_bits, store};
-use super::places::{BLOCK, Codes, PAIR, REACH, THREE, equal, look_up};
 use cesu8_bytes::Rows;
 use cesu8_bytes::flavor::{Flavor, nulls};
 use std::simd::prelude::*;
@@ -44,11 +44,11 @@ const NUMBERS: [u8; BLOCK] = [
     26, 27, 28, 29, 30, 31,
 ];
 
-/// The end of what is written for a block, and whether some of its bytes are damaged.
+/// The end of what is written for a block, and whether some of its bytes are ill-formed.
 #[derive(Drop)]
 pub struct Block {
     pub end: usize,
-    pub is_damaged: bool,
+    pub is_ill_formed: bool,
 }
 
 /// Writes what becomes of the first `count` bytes of a block, which follow `at` bytes of the window
@@ -56,7 +56,7 @@ pub struct Block {
 #[inline(always)]
 pub fn write_block<F: Flavor>(
     window: &[u8],
-    codes: &Codes,
+    kinds: &Kinds,
     at: usize,
     count: usize,
     rows: &Rows,
@@ -65,73 +65,73 @@ pub fn write_block<F: Flavor>(
 ) -> Block
     requires count { count ≤ BLOCK }
     requires window { at + REACH ≤ length window.now }
-    requires codes { AreCodesNear F.flavor window.now at codes.now }
+    requires kinds { AreKindsNear F.flavor window.now at kinds.now }
     requires rows { AreShufflesOfFour rows.now }
     requires room { end + ROOM ≤ length out.old }
     ensures bytes { take result.end out.new
         ≡ take end out.old ++ decoded F.flavor window.now at count }
-    ensures damaged { IsTrue result.is_damaged → (i : ℕ) × (at ≤ i) × (i < at + count)
-        × (is_damaged_at F.flavor window.now i ≡ true) }
-    ensures whole { result.is_damaged ≡ false → (i : ℕ) → at ≤ i → i < at + count
-        → is_damaged_at F.flavor window.now i ≡ false }
+    ensures ill_formed { IsTrue result.is_ill_formed → (i : ℕ) × (at ≤ i) × (i < at + count)
+        × (is_ill_formed_at F.flavor window.now i ≡ true) }
+    ensures whole { result.is_ill_formed ≡ false → (i : ℕ) → at ≤ i → i < at + count
+        → is_ill_formed_at F.flavor window.now i ≡ false }
     ensures end { (end ≤ result.end) × (result.end ≤ end + WIDEST * BLOCK) }
     ensures len { length out.new ≡ length out.old }
 {
-    let parts = parts_at::<F>(window, codes, at, count);
-    let is_damaged = highest_bits(parts.damaged) != 0;
+    let parts = parts_at::<F>(window, kinds, at, count);
+    let is_ill_formed = highest_bits(parts.ill_formed) != 0;
     Block {
         end: store(parts, rows, out, end),
-        is_damaged,
+        is_ill_formed,
     }
 }
 
 /// Returns what becomes of the first `count` of the 32 bytes that follow `at` bytes of the window
 /// and five more. The others go.
 #[inline(always)]
-fn parts_at<F: Flavor>(window: &[u8], codes: &Codes, at: usize, count: usize) -> Parts
+fn parts_at<F: Flavor>(window: &[u8], kinds: &Kinds, at: usize, count: usize) -> Parts
     requires count { count ≤ BLOCK }
     requires window { at + REACH ≤ length window.now }
-    requires codes { AreCodesNear F.flavor window.now at codes.now }
-    ensures written { written_lanes result.gone result.damaged result.bytes
+    requires kinds { AreKindsNear F.flavor window.now at kinds.now }
+    ensures written { written_lanes result.gone result.ill_formed result.bytes
         ≡ decoded F.flavor window.now at count }
-    ensures damaged { map is_high result.damaged
-        ≡ map (is_damaged_at F.flavor window.now) (range_with_len at count)
+    ensures ill_formed { map is_high result.ill_formed
+        ≡ map (is_ill_formed_at F.flavor window.now) (range_with_len at count)
         ++ replicate (BLOCK - count) false }
 {
     Parts {
-        bytes: changed_bytes(window, codes, at),
-        gone: gone(codes, count),
-        damaged: damaged::<F>(window, codes, at, count),
+        bytes: changed_bytes(window, kinds, at),
+        gone: gone(kinds, count),
+        ill_formed: ill_formed::<F>(window, kinds, at, count),
     }
 }
 
 /// Marks, with the highest bit, those of the first `count` bytes that go, and all later bytes.
 #[inline(always)]
-fn gone(codes: &Codes, count: usize) -> u8x32
+fn gone(kinds: &Kinds, count: usize) -> u8x32
     requires count { count ≤ BLOCK }
-    ensures { (f : Flavor) (window : List ℕ) (at : ℕ) → AreCodesNear f window at codes.now
+    ensures { (f : Flavor) (window : List ℕ) (at : ℕ) → AreKindsNear f window at kinds.now
         → map is_high result
         ≡ map (goes_at f window) (range_with_len at count) ++ replicate (BLOCK - count) true }
 {
-    let here = codes[5];
-    let near = here | codes[4];
+    let here = kinds[5];
+    let near = here | kinds[4];
     (here | (near << u8x32::splat(2))) | behind(count as u8)
 }
 
 /// Marks, with the highest bit, those of the first `count` bytes that no encoded character covers.
 #[inline(always)]
-fn damaged<F: Flavor>(window: &[u8], codes: &Codes, at: usize, count: usize) -> u8x32
+fn ill_formed<F: Flavor>(window: &[u8], kinds: &Kinds, at: usize, count: usize) -> u8x32
     requires count { count ≤ BLOCK }
     requires window { at + REACH ≤ length window.now }
-    requires codes { AreCodesNear F.flavor window.now at codes.now }
+    requires kinds { AreKindsNear F.flavor window.now at kinds.now }
     ensures { map is_high result
-        ≡ map (is_damaged_at F.flavor window.now) (range_with_len at count)
+        ≡ map (is_ill_formed_at F.flavor window.now) (range_with_len at count)
         ++ replicate (BLOCK - count) false }
 {
     let pair = u8x32::splat(PAIR);
-    let near = codes[5] | codes[4];
-    let of_three = codes[3] & u8x32::splat(PAIR | THREE);
-    let of_pair = (codes[2] & pair) | (codes[1] & pair) | (codes[0] & pair);
+    let near = kinds[5] | kinds[4];
+    let of_three = kinds[3] & u8x32::splat(PAIR | THREE);
+    let of_pair = (kinds[2] & pair) | (kinds[1] & pair) | (kinds[0] & pair);
     let alone = equal(near | of_three | of_pair, 0);
     // A byte below 80 is a character of its own, but 00 is none in MUTF-8.
     let byte = u8x32::from_slice(&window[at + 5..]);
@@ -151,14 +151,14 @@ fn behind(count: u8) -> u8x32
 /// Returns the bytes, with those of surrogate pairs and of C0 80 replaced by what they become. Most
 /// blocks have many of these or none.
 #[inline(always)]
-fn changed_bytes(window: &[u8], codes: &Codes, at: usize) -> u8x32
+fn changed_bytes(window: &[u8], kinds: &Kinds, at: usize) -> u8x32
     requires window { at + REACH ≤ length window.now }
     ensures { (f : Flavor) (count : ℕ) → count ≤ BLOCK
-        → AreCodesNear f window.now at codes.now
+        → AreKindsNear f window.now at kinds.now
         → take count result ≡ map (byte_at f window.now) (range_with_len at count) }
 {
-    let near = codes[4];
-    let pairs = codes[3] | codes[2] | codes[1];
+    let near = kinds[4];
+    let pairs = kinds[3] | kinds[2] | kinds[1];
     let byte = u8x32::from_slice(&window[at + 5..]);
     if highest_bits(near | (pairs << u8x32::splat(2))) == 0 {
         return byte;
@@ -173,9 +173,9 @@ fn changed_bytes(window: &[u8], codes: &Codes, at: usize) -> u8x32
     let changed = near
         .simd_ge(u8x32::splat(0x80))
         .select(u8x32::splat(0), byte);
-    let changed = chosen(codes[1] & pair, third, changed);
-    let changed = chosen(codes[2] & pair, second, changed);
-    chosen(codes[3] & pair, first, changed)
+    let changed = chosen(kinds[1] & pair, third, changed);
+    let changed = chosen(kinds[2] & pair, second, changed);
+    chosen(kinds[3] & pair, first, changed)
 }
 
 /// Returns the lanes of `some` where those of a mark are not 0, and otherwise those of `other`.

@@ -27,13 +27,13 @@ pub enum Unwritten {
     NoRoom(NoRoom),
 }
 
-/// Returns whether damage leaves bytes without a text.
+/// Returns whether an ill-formed byte leaves no text.
 #[inline(always)]
-pub fn is_refused(strictness: Strictness, is_damaged: bool) -> bool
-    ensures { result ≡ refuses strictness is_damaged }
+pub fn is_refused(strictness: Strictness, is_ill_formed: bool) -> bool
+    ensures { result ≡ refuses strictness is_ill_formed }
 {
     match strictness {
-        Strictness::Strict => is_damaged,
+        Strictness::Strict => is_ill_formed,
         Strictness::Lossy => false,
     }
 }

@@ -1,4 +1,5 @@
-//! The shuffles that pack four bytes, one for each set of those that go and those that are damaged.
+//! The shuffles that pack four bytes, one for each set of those that go and those that are
+//! ill-formed.
 
 ghost use Rattle.cesu8_decode.specs.DecodedLanes.{AreShufflesOfFour};
 

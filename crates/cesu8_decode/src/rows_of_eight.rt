@@ -1,4 +1,5 @@
-//! The shuffles that pack eight bytes of which none is damaged, one for each set of those that go.
+//! The shuffles that pack eight bytes of which none is ill-formed, one for each set of those that
+//! go.
 
 ghost use Rattle.cesu8_decode.specs.DecodedLanes.{AreShufflesOfEight};
 

@@ -1,8 +1,8 @@
 //! Decodes to a caller's buffer, with no request.
 //!
 //! Up to a window is decoded to an array on the stack and copied from there. Of more bytes, first
-//! passes find whether they are damaged and, if needed, how long their text is. Then it is written
-//! piece by piece in its final position.
+//! passes find whether they are ill-formed and, if needed, how long their text is. Then it is
+//! written chunk by chunk where it stays.
 
 ghost use Rattle.std.specs.Prelude.{◌≡◌, ◌+◌, ◌*◌, ◌≤◌, List, ℕ, ◌<◌, ◌++◌, length, take};
 ghost use Rattle.cesu8_text.specs.Encoding.{Flavor as AnyFlavor};
@@ -14,18 +14,18 @@ ghost use Rattle.cesu8_decode.specs.Decoding.{ReadsAll};
 ghost use Rattle.cesu8_decode.specs.PutReadings.{PutsText, IsReadingOf};
 
 use crate::characters::write_characters;
-use crate::damage::is_damaged;
+use crate::chunk::{Chunk, next_chunk};
+use crate::ill_formed::is_ill_formed;
 use crate::lengths::lossy_len;
 use crate::packing::WIDEST;
-use crate::piece::{Piece, next_piece};
 use crate::refusal::{Unwritten, is_refused};
 use crate::way::{FEWEST, SHORT_WINDOW, Way, are_fewest, way_of};
 use crate::windows::{
-    AROUND, Decoded, LEAST, LONG_ROOM, LONG_TEXT, MEDIUM_ROOM, MEDIUM_TEXT, SHORT_ROOM, SHORT_TEXT,
-    SPARED, write_window,
+    AROUND, Decoded, LEAST, LONG_BUFFER, LONG_TEXT, MEDIUM_BUFFER, MEDIUM_TEXT, SHORT_BUFFER,
+    SHORT_TEXT, SPARED, write_window,
 };
 use cesu8_bytes::flavor::Flavor;
-use cesu8_bytes::joining::ROOM_LEN;
+use cesu8_bytes::joining::BUFFER_LEN;
 use cesu8_bytes::options::Strictness;
 use cesu8_bytes::writers::{NoRoom, copy_to_slice, put};
 
@@ -47,11 +47,11 @@ pub fn put_text<F: Flavor>(
 {
     match way_of::<F>(strictness, bytes) {
         Way::Characters => put_characters::<F>(strictness, bytes, buf),
-        Way::ShortWindow => put_window::<F, SHORT_ROOM, SHORT_TEXT>(strictness, bytes, buf),
-        Way::MediumWindow => put_window::<F, MEDIUM_ROOM, MEDIUM_TEXT>(strictness, bytes, buf),
-        Way::LongWindow => put_window::<F, LONG_ROOM, LONG_TEXT>(strictness, bytes, buf),
+        Way::ShortWindow => put_window::<F, SHORT_BUFFER, SHORT_TEXT>(strictness, bytes, buf),
+        Way::MediumWindow => put_window::<F, MEDIUM_BUFFER, MEDIUM_TEXT>(strictness, bytes, buf),
+        Way::LongWindow => put_window::<F, LONG_BUFFER, LONG_TEXT>(strictness, bytes, buf),
         Way::JoinedWindow => put_joined::<F>(strictness, bytes, buf),
-        Way::Pieces => put_pieces::<F>(strictness, bytes, buf),
+        Way::Chunks => put_chunks::<F>(strictness, bytes, buf),
         Way::Refused => Err(Unwritten::NoText),
     }
 }
@@ -110,8 +110,8 @@ fn put_window<F: Flavor, const LEN: usize, const WRITTEN: usize>(
     put_decoded(strictness, decoded, &written, buf)
 }
 
-/// Copies the text that was decoded of all bytes, unless damage in them is refused. It is not
-/// inlined, since buffers of each length need it.
+/// Copies the text that was decoded of all bytes, unless an ill-formed byte in them is refused. It
+/// is not inlined, since buffers of each length need it.
 #[inline(never)]
 fn put_decoded(
     strictness: Strictness,
@@ -122,18 +122,18 @@ fn put_decoded(
     requires { decoded.end ≤ length written.now }
     ensures { (f : AnyFlavor) (bytes : List ℕ)
         → ReadsAll f strictness bytes decoded.read
-        (take decoded.end written.now) decoded.is_damaged
+        (take decoded.end written.now) decoded.is_ill_formed
         → PutsText strictness (IsReadingOf f strictness bytes)
         result buf.old buf.new }
 {
-    if is_refused(strictness, decoded.is_damaged) {
+    if is_refused(strictness, decoded.is_ill_formed) {
         return Err(Unwritten::NoText);
     }
     copy_to_slice(&written[..decoded.end], buf).map_err(Unwritten::NoRoom)
 }
 
 /// Writes the text of a joined window and of a few bytes behind it. They are joined and decoded on
-/// the stack, so no pass looks for damage first.
+/// the stack, so no pass looks for ill-formed bytes first.
 #[inline(never)]
 fn put_joined<F: Flavor>(
     strictness: Strictness,
@@ -145,19 +145,19 @@ fn put_joined<F: Flavor>(
         (IsReadingOf F.flavor strictness bytes.now)
         result buf.old buf.new }
 {
-    let mut room = [0; ROOM_LEN];
+    let mut buffer = [0; BUFFER_LEN];
     let mut written = [0; SHORT_TEXT];
-    let piece = next_piece::<F, SHORT_ROOM>(bytes, true, &mut room, &mut written);
-    let Piece::Joined(joined) = piece else {
-        return put_pieces::<F>(strictness, bytes, buf);
+    let chunk = next_chunk::<F, SHORT_BUFFER>(bytes, true, &mut buffer, &mut written);
+    let Chunk::Joined(joined) = chunk else {
+        return put_chunks::<F>(strictness, bytes, buf);
     };
     let rest = &bytes[joined.read..];
     if rest.len() > SHORT_WINDOW {
-        return put_pieces::<F>(strictness, bytes, buf);
+        return put_chunks::<F>(strictness, bytes, buf);
     }
-    let mut window = [0; SHORT_ROOM];
+    let mut window = [0; SHORT_BUFFER];
     let decoded = write_window::<F>(rest, &mut window, &mut written);
-    if is_refused(strictness, decoded.is_damaged) {
+    if is_refused(strictness, decoded.is_ill_formed) {
         return Err(Unwritten::NoText);
     }
     copy_two(joined.text.as_bytes(), &written[..decoded.end], buf).map_err(Unwritten::NoRoom)
@@ -176,10 +176,10 @@ fn copy_two(first: &[u8], second: &[u8], buf: &mut [u8]) -> Result<usize, NoRoom
     Ok(put(second, buf, end))
 }
 
-/// Writes the text of still more bytes, piece by piece, in its final position. First passes find
+/// Writes the text of still more bytes, chunk by chunk, where it stays. First passes find
 /// whether there is one, and how long it is.
 #[inline(never)]
-fn put_pieces<F: Flavor>(
+fn put_chunks<F: Flavor>(
     strictness: Strictness,
     bytes: &[u8],
     buf: &mut [u8],
@@ -190,10 +190,10 @@ fn put_pieces<F: Flavor>(
 {
     match strictness {
         Strictness::Strict => {
-            if is_damaged::<F>(bytes) {
+            if is_ill_formed::<F>(bytes) {
                 return Err(Unwritten::NoText);
             }
-            put_undamaged::<F>(bytes, buf).map_err(Unwritten::NoRoom)
+            put_well_formed::<F>(bytes, buf).map_err(Unwritten::NoRoom)
         }
         Strictness::Lossy => match lossy_len::<F>(bytes) {
             Some(len) => put_of_length::<F>(bytes, len, buf).map_err(Unwritten::NoRoom),
@@ -202,9 +202,9 @@ fn put_pieces<F: Flavor>(
     }
 }
 
-/// Writes the reading of bytes that are not damaged, if it fits.
+/// Writes the reading of bytes that are well-formed, if it fits.
 #[tactic(auto, unfolding(cesu8_text::specs::Reading::lossy_length))]
-fn put_undamaged<F: Flavor>(bytes: &[u8], buf: &mut [u8]) -> Result<usize, NoRoom>
+fn put_well_formed<F: Flavor>(bytes: &[u8], buf: &mut [u8]) -> Result<usize, NoRoom>
     requires { lossy_length F.flavor bytes.now ≤ length bytes.now }
     ensures { PutsAnswer (utf8 (reading F.flavor bytes.now)) result buf.old buf.new }
 {
@@ -235,20 +235,20 @@ fn write_reading<F: Flavor>(bytes: &[u8], out: &mut [u8]) -> usize
     ensures { StandsAtFront (utf8 (reading F.flavor bytes.now))
         result out.old out.new }
 {
-    let mut room = [0; ROOM_LEN];
+    let mut buffer = [0; BUFFER_LEN];
     let mut written = [0; LONG_TEXT];
     let mut rest = bytes;
     let mut end = 0;
     let mut joins = true;
     while !rest.is_empty() {
-        match next_piece::<F, LONG_ROOM>(rest, joins, &mut room, &mut written) {
-            Piece::Joined(joined) => {
+        match next_chunk::<F, LONG_BUFFER>(rest, joins, &mut buffer, &mut written) {
+            Chunk::Joined(joined) => {
                 rest = &rest[joined.read..];
                 end = put(joined.text.as_bytes(), out, end);
             }
-            Piece::Written(decoded) => {
+            Chunk::Written(decoded) => {
                 rest = &rest[decoded.read..];
-                joins = !decoded.is_damaged;
+                joins = !decoded.is_ill_formed;
                 end = put(&written[..decoded.end], out, end);
             }
         }

@@ -1,17 +1,17 @@
-//! Sums over the positions of some bytes, by vectors, where they stand and with no branch on a
-//! byte. The character that begins at a position decides its weight.
+//! Sums over the offsets of some bytes, by vectors, where they stand and with no branch on a
+//! byte. The character that begins at an offset decides its weight.
 
 ghost use Rattle.std.specs.Prelude.{◌≡◌, ℕ, ◌+◌, ◌*◌, ◌<◌, ◌≤◌, length, map};
 ghost use Rattle.std.specs.List.{range_with_len};
 ghost use Rattle.std.specs.Simd.Lanes.{sum_l};
-ghost use Rattle.cesu8_decode.specs.DecodedPlaces.{total_weight, weight_between};
+ghost use Rattle.cesu8_decode.specs.DecodedOffsets.{total_weight, weight_between};
 ghost use Rattle.cesu8_decode.specs.DecodedLanes.{weight_at, TellWeights};
 
-use super::places::{BEHIND, REACH, look_up, starts};
+use super::offsets::{BEHIND, REACH, look_up, starts};
 use cesu8_bytes::flavor::{Flavor, nulls};
 use std::simd::prelude::*;
 
-/// The weight of a position.
+/// The weight of an offset.
 pub trait Weight {
     /// By the width of the character that begins there, or 0, and by its first byte.
     ghost weight: { ℕ → ℕ → ℕ };
@@ -25,7 +25,7 @@ pub trait Weight {
     ghost light: { (w b : ℕ) → w ≤ 6 → weight w b ≤ 14 };
 }
 
-/// The weights of characters: of one byte, and of others by the lower half of their code or by its
+/// The weights of characters: of one byte, and of others by the lower half of their kind or by its
 /// upper half.
 #[derive(Drop)]
 pub struct Weights {
@@ -34,11 +34,11 @@ pub struct Weights {
     pub by_high: [u8; 16],
 }
 
-/// The most blocks of 32 positions that each lane sums up: a position weighs at most 14.
+/// The most blocks of 32 offsets that each lane sums up: an offset weighs at most 14.
 pub const BLOCKS: usize = 16;
 
-/// Returns the weight of the first positions, of at most so many blocks or of all if they are few,
-/// and the bytes from the next position on.
+/// Returns the weight of the first offsets, of at most so many blocks or of all if they are few,
+/// and the bytes from the next offset on.
 #[inline(always)]
 pub fn sum_first<F: Flavor, W: Weight>(bytes: &[u8], most: usize) -> (usize, &[u8])
     requires some { 0 < length bytes.now }
@@ -54,7 +54,7 @@ pub fn sum_first<F: Flavor, W: Weight>(bytes: &[u8], most: usize) -> (usize, &[u
     (sum_of_blocks::<F, W>(bytes, count), &bytes[32 * count..])
 }
 
-/// Returns the weight of the positions of the first blocks.
+/// Returns the weight of the offsets of the first blocks.
 #[inline(always)]
 fn sum_of_blocks<F: Flavor, W: Weight>(bytes: &[u8], count: usize) -> usize
     requires count { count ≤ BLOCKS }
@@ -68,7 +68,7 @@ fn sum_of_blocks<F: Flavor, W: Weight>(bytes: &[u8], count: usize) -> usize
     lane_sum(lanes)
 }
 
-/// Returns the weight of the positions of a few bytes. They are followed by FF, which begins
+/// Returns the weight of the offsets of a few bytes. They are followed by FF, which begins
 /// nothing and is in no character.
 #[inline(always)]
 fn sum_of_few<F: Flavor, W: Weight>(bytes: &[u8]) -> usize
@@ -88,18 +88,18 @@ fn lane_sum(lanes: u8x32) -> usize
     lanes.dot4(u8x32::splat(1)).strict_reduce_sum() as usize
 }
 
-/// Returns the weights of the 32 positions from `at` on.
+/// Returns the weights of the 32 offsets from `at` on.
 #[inline(always)]
 fn weight_lanes<F: Flavor, W: Weight>(bytes: &[u8], at: usize) -> u8x32
     requires { at + REACH ≤ length bytes.now }
     ensures { result ≡ map (weight_at W.weight F.flavor bytes.now) (range_with_len at 32) }
 {
     let weights = W::weights();
-    let codes = starts::<F>(bytes, at);
+    let kinds = starts::<F>(bytes, at);
     let byte = u8x32::from_slice(&bytes[at..]);
     // A byte below 80 is a character of its own, but 00 is none in MUTF-8.
     let of_one = (byte | nulls::<F>(byte))
         .simd_lt(u8x32::splat(0x80))
         .select(u8x32::splat(weights.of_one), u8x32::splat(0));
-    of_one | look_up(weights.by_low, codes) | look_up(weights.by_high, codes >> u8x32::splat(4))
+    of_one | look_up(weights.by_low, kinds) | look_up(weights.by_high, kinds >> u8x32::splat(4))
 }

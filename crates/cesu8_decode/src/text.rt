@@ -7,17 +7,17 @@ ghost use Rattle.cesu8_decode.specs.Decoding.{AppendsText, refuses};
 ghost use Rattle.cesu8_decode.specs.Refusals.{OnNoText};
 
 use crate::characters::write_characters;
+use crate::chunk::{Chunk, TESTED, next_chunk, text_of};
 use crate::lengths::lossy_len;
 use crate::packing::WIDEST;
-use crate::piece::{Piece, TESTED, next_piece, text_of};
 use crate::refusal::{Refusal, is_refused};
 use crate::way::{SHORT_WINDOW, Way, way_of};
 use crate::windows::{
-    AROUND, Decoded, LEAST, LONG_ROOM, LONG_TEXT, MEDIUM_ROOM, MEDIUM_TEXT, SHORT_ROOM, SHORT_TEXT,
-    SPARED, write_window,
+    AROUND, Decoded, LEAST, LONG_BUFFER, LONG_TEXT, MEDIUM_BUFFER, MEDIUM_TEXT, SHORT_BUFFER,
+    SHORT_TEXT, SPARED, write_window,
 };
 use cesu8_bytes::flavor::Flavor;
-use cesu8_bytes::joining::ROOM_LEN;
+use cesu8_bytes::joining::BUFFER_LEN;
 use cesu8_bytes::options::Strictness;
 use std::alloc::{AllocError, Allocator};
 
@@ -37,16 +37,16 @@ pub fn append_text<F: Flavor, A: Allocator>(
     match way_of::<F>(strictness, bytes) {
         Way::Characters => append_characters::<F, A>(strictness, bytes, out),
         Way::ShortWindow => {
-            append_window::<F, SHORT_ROOM, SHORT_TEXT, A>(strictness, bytes, out)
+            append_window::<F, SHORT_BUFFER, SHORT_TEXT, A>(strictness, bytes, out)
         }
         Way::MediumWindow => {
-            append_window::<F, MEDIUM_ROOM, MEDIUM_TEXT, A>(strictness, bytes, out)
+            append_window::<F, MEDIUM_BUFFER, MEDIUM_TEXT, A>(strictness, bytes, out)
         }
-        Way::LongWindow => { append_window::<F, LONG_ROOM, LONG_TEXT, A>(strictness, bytes, out) }
+        Way::LongWindow => { append_window::<F, LONG_BUFFER, LONG_TEXT, A>(strictness, bytes, out) }
         Way::JoinedWindow => {
-            append_pieces::<F, MEDIUM_ROOM, MEDIUM_TEXT, A>(strictness, bytes, out)
+            append_chunks::<F, MEDIUM_BUFFER, MEDIUM_TEXT, A>(strictness, bytes, out)
         }
-        Way::Pieces => append_pieces::<F, LONG_ROOM, LONG_TEXT, A>(strictness, bytes, out),
+        Way::Chunks => append_chunks::<F, LONG_BUFFER, LONG_TEXT, A>(strictness, bytes, out),
         Way::Refused => Err(Refusal::NoText),
     }
 }
@@ -85,9 +85,9 @@ fn append_window<F: Flavor, const LEN: usize, const WRITTEN: usize, A: Allocator
     append_written(strictness, decoded, &mut written, out)
 }
 
-/// Appends the text of more bytes piece by piece, in buffers of these lengths for those by places.
+/// Appends the text of more bytes chunk by chunk, in buffers of these lengths for those by offsets.
 #[inline(never)]
-fn append_pieces<F: Flavor, const LEN: usize, const WRITTEN: usize, A: Allocator>(
+fn append_chunks<F: Flavor, const LEN: usize, const WRITTEN: usize, A: Allocator>(
     strictness: Strictness,
     bytes: &[u8],
     out: &mut String<A>,
@@ -98,19 +98,19 @@ fn append_pieces<F: Flavor, const LEN: usize, const WRITTEN: usize, A: Allocator
         result (string_bytes out.old) (string_bytes out.new) }
 {
     request::<F, A>(strictness, bytes, out)?;
-    let mut room = [0; ROOM_LEN];
+    let mut buffer = [0; BUFFER_LEN];
     let mut written = [0; WRITTEN];
     let mut rest = bytes;
     let mut joins = true;
     while !rest.is_empty() {
-        match next_piece::<F, LEN>(rest, joins, &mut room, &mut written) {
-            Piece::Joined(joined) => {
+        match next_chunk::<F, LEN>(rest, joins, &mut buffer, &mut written) {
+            Chunk::Joined(joined) => {
                 rest = &rest[joined.read..];
                 append(joined.text, out)?;
             }
-            Piece::Written(decoded) => {
+            Chunk::Written(decoded) => {
                 rest = &rest[decoded.read..];
-                joins = !decoded.is_damaged;
+                joins = !decoded.is_ill_formed;
                 append_written(strictness, decoded, &mut written, out)?;
             }
         }
@@ -118,7 +118,7 @@ fn append_pieces<F: Flavor, const LEN: usize, const WRITTEN: usize, A: Allocator
     Ok(())
 }
 
-/// Requests memory for the text of all pieces, if the caller has not done so. A length that does
+/// Requests memory for the text of all chunks, if the caller has not done so. A length that does
 /// not fit counts as refused.
 fn request<F: Flavor, A: Allocator>(
     strictness: Strictness,
@@ -137,7 +137,7 @@ fn request<F: Flavor, A: Allocator>(
     }
 }
 
-/// Appends what was written for some bytes, unless damage in them is refused.
+/// Appends what was written for some bytes, unless an ill-formed byte in them is refused.
 #[inline(always)]
 fn append_written<A: Allocator>(
     strictness: Strictness,
@@ -147,17 +147,17 @@ fn append_written<A: Allocator>(
 ) -> Result<(), Refusal>
     requires room { decoded.end + TESTED ≤ length written.old }
     requires utf8 { IsUtf8 (take decoded.end written.old) }
-    ensures ok { OnOk result ((refuses strictness decoded.is_damaged ≡ false)
+    ensures ok { OnOk result ((refuses strictness decoded.is_ill_formed ≡ false)
         × (string_bytes out.new ≡ string_bytes out.old ++ take decoded.end written.old)) }
-    ensures invalid { OnNoText result (refuses strictness decoded.is_damaged ≡ true) }
+    ensures invalid { OnNoText result (refuses strictness decoded.is_ill_formed ≡ true) }
 {
-    if is_refused(strictness, decoded.is_damaged) {
+    if is_refused(strictness, decoded.is_ill_formed) {
         return Err(Refusal::NoText);
     }
     append(text_of(written, decoded.end), out)
 }
 
-/// Appends a piece of text. It requests memory for exactly this piece, if there is none yet.
+/// Appends a chunk of text. It requests memory for exactly this chunk, if there is none yet.
 #[inline(always)]
 fn append<A: Allocator>(text: &str, out: &mut String<A>) -> Result<(), Refusal>
     ensures ok { OnOk result (string_bytes out.new ≡ string_bytes out.old ++ text.now) }

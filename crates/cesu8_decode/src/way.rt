@@ -8,35 +8,37 @@
 //! | at most 96 | at most 6 | `Characters` | `Characters` |
 //! | at most 96 | more | `ShortWindow` | `ShortWindow` |
 //! | at most 256 | any | `MediumWindow` | `MediumWindow` |
-//! | more, with damage among the first 64 | any | `Refused` | as without |
+//! | more, with an ill-formed byte among the first 64 | any | `Refused` | as without |
 //! | at most 1,024 | any | `JoinedWindow` | `LongWindow` |
-//! | more | any | `Pieces` | `Pieces` |
+//! | more | any | `Chunks` | `Chunks` |
 //!
 //! - `Characters`: one character after another. A branch on a byte costs little while few bytes are
-//!   not ASCII. Strict reading stops at the first damage, so a few bytes more are worth it.
+//!   not ASCII. Strict reading stops at the first ill-formed byte, so a few bytes more are worth
+//!   it.
 //! - The windows: 32 bytes at a time with no branch on a byte, in buffers on the stack. Smaller
 //!   ones are made in less time.
-//! - `Pieces`: joined windows of text that is not damaged, and windows by places after damage.
-//! - `JoinedWindow`: pieces, of which a joined window mostly has all bytes but a few. Strict reading
-//!   stops at damage, so the buffers for windows by places are smaller.
-//! - `Refused`: most input that is no encoding is damaged early.
+//! - `Chunks`: joined windows of well-formed bytes, and windows by offsets after an ill-formed
+//!   byte.
+//! - `JoinedWindow`: chunks, of which a joined window mostly has all bytes but a few. Strict
+//!   reading stops at an ill-formed byte, so the buffers for windows by offsets are smaller.
+//! - `Refused`: most input that is no encoding is ill-formed early.
 //!
 //! A call on a slice takes `Characters` before it tests the bytes at all, below 64 of them, where
 //! the test for UTF-8 goes byte by byte.
 //!
-//! A call on a slice that takes `JoinedWindow` goes on by `Pieces` if more bytes are left than a
+//! A call on a slice that takes `JoinedWindow` goes on by `Chunks` if more bytes are left than a
 //! short window has.
 //!
-//! Other lengths in this crate decide no way: `piece` joins no window of few bytes and lengthens a
+//! Other lengths in this crate decide no way: `chunk` joins no window of few bytes and lengthens a
 //! short text before its test for UTF-8, `characters` pads the last bytes, and `sums` the last
 //! block. Before the decoder, `cesu8_bytes` takes the first looks.
 
 ghost use Rattle.std.specs.Prelude.{◌<◌, ◌≤◌, length, IsTrue};
 ghost use Rattle.cesu8_decode.specs.Ways.{IsWayOf};
 
-use super::damage::is_damaged_in_front;
+use super::ill_formed::is_ill_formed_in_prefix;
 use cesu8_bytes::flavor::Flavor;
-use cesu8_bytes::implementation::class::{Either, High, Null};
+use cesu8_bytes::implementation::class::{Either, NonAscii, Null};
 use cesu8_bytes::implementation::short::count_in_ends;
 use cesu8_bytes::options::Strictness;
 
@@ -48,7 +50,7 @@ pub enum Way {
     MediumWindow,
     LongWindow,
     JoinedWindow,
-    Pieces,
+    Chunks,
     Refused,
 }
 
@@ -67,8 +69,8 @@ pub const FEWEST: usize = 32;
 /// So few bytes are read one character after another in strict reading, whatever they are.
 const FEW_STRICT: usize = 24;
 
-/// So many of 24 bytes may be other than 01 to 7F. In lossy reading each may be damaged, and then
-/// it is a step.
+/// So many of 24 bytes may be other than 01 to 7F. In lossy reading each may be ill-formed, and
+/// then it is a step.
 const OTHERS: usize = 12;
 
 /// Of more bytes so many may be, as many as a surrogate pair has.
@@ -78,7 +80,7 @@ const FEWER_OTHERS: usize = 6;
 const TESTED_BY_VECTORS: usize = 64;
 
 /// 00, or 80 (hexadecimal) or more.
-type NullOrHigh = Either<Null, High>;
+type NullOrNonAscii = Either<Null, NonAscii>;
 
 /// Returns which way the bytes go.
 #[inline(always)]
@@ -95,11 +97,11 @@ pub fn way_of<F: Flavor>(strictness: Strictness, bytes: &[u8]) -> Way
     if bytes.len() <= MEDIUM_WINDOW {
         return Way::MediumWindow;
     }
-    if is_strict && is_damaged_in_front::<F>(bytes) {
+    if is_strict && is_ill_formed_in_prefix::<F>(bytes) {
         return Way::Refused;
     }
     if bytes.len() > LONG_WINDOW {
-        return Way::Pieces;
+        return Way::Chunks;
     }
     if is_strict {
         Way::JoinedWindow
@@ -132,10 +134,10 @@ fn has_few_others(bytes: &[u8]) -> bool
 {
     let others = match bytes.len() {
         0..=OTHERS => return true,
-        13..=16 => count_in_ends::<NullOrHigh, 8>(bytes),
-        17..=32 => count_in_ends::<NullOrHigh, 16>(bytes),
-        33..=64 => count_in_ends::<NullOrHigh, 32>(bytes),
-        65..=SHORT_WINDOW => count_in_ends::<NullOrHigh, 64>(bytes),
+        13..=16 => count_in_ends::<NullOrNonAscii, 8>(bytes),
+        17..=32 => count_in_ends::<NullOrNonAscii, 16>(bytes),
+        33..=64 => count_in_ends::<NullOrNonAscii, 32>(bytes),
+        65..=SHORT_WINDOW => count_in_ends::<NullOrNonAscii, 64>(bytes),
         _ => return false,
     };
     let most = if bytes.len() <= FEW_STRICT {

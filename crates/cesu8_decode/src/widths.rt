@@ -1,7 +1,7 @@
 //! How many bytes the character has that begins some bytes, by tests of the first three.
 
 ghost use Rattle.std.specs.Prelude.{◌≡◌, ◌<◌, ◌≤◌, length};
-ghost use Rattle.cesu8_decode.specs.DecodedPlaces.{front_width, IsFrontOf, continues, one_at, two_at, fits_three, three_at};
+ghost use Rattle.cesu8_decode.specs.DecodedOffsets.{first_width, IsPrefixOf, continues, one_at, two_at, fits_three, three_at};
 ghost use Rattle.cesu8_bytes.specs.Joining.{null_at, HasPair};
 
 use cesu8_bytes::flavor::Flavor;
@@ -10,18 +10,18 @@ use cesu8_bytes::joining::PAIR_READ;
 /// Returns how many bytes the character has that begins the bytes, or 0. It is no surrogate pair. The
 /// front has the first bytes, with zeros after the last, so no length is tested.
 #[inline(always)]
-pub fn width<F: Flavor>(bytes: &[u8], front: &[u8]) -> usize
+pub fn width<F: Flavor>(bytes: &[u8], prefix: &[u8]) -> usize
     requires some { 0 < length bytes.now }
-    requires front { IsFrontOf bytes.now front.now }
-    requires long { PAIR_READ ≤ length front.now }
-    requires no_pair { ¬ (HasPair front.now) }
-    ensures width { result ≡ front_width F.flavor bytes.now }
+    requires prefix { IsPrefixOf bytes.now prefix.now }
+    requires long { PAIR_READ ≤ length prefix.now }
+    requires no_pair { ¬ (HasPair prefix.now) }
+    ensures width { result ≡ first_width F.flavor bytes.now }
     ensures within { result ≤ length bytes.now }
     ensures small { result ≤ 3 }
 {
     let first = bytes[0];
-    let second = front[1];
-    let third = front[2];
+    let second = prefix[1];
+    let third = prefix[2];
     if is_one::<F>(first) {
         return 1;
     }

@@ -1,16 +1,16 @@
-//! Windows by places: some bytes are copied between zeros, and what becomes of each byte is
+//! Windows by offsets: some bytes are copied between zeros, and what becomes of each byte is
 //! written.
 
 ghost use Rattle.std.specs.Prelude.{◌≡◌, ℕ, ◌+◌, ◌-◌, ◌*◌, ◌<◌, ◌≤◌, List, IsTrue, true, false, length, take, replicate, slice_index};
 ghost use Rattle.cesu8_text.specs.Encoding.{Flavor};
-ghost use Rattle.cesu8_decode.specs.DecodedPlaces.{IsPadded, decoded, is_damaged_at, is_border_at};
-ghost use Rattle.cesu8_decode.specs.DecodedLanes.{AreFiveCodes};
+ghost use Rattle.cesu8_decode.specs.DecodedOffsets.{IsPadded, decoded, is_ill_formed_at, is_boundary_at};
+ghost use Rattle.cesu8_decode.specs.DecodedLanes.{AreFiveKinds};
 ghost use Rattle.cesu8_decode.specs.DecodedWindows.{IsRead};
 ghost use Rattle.cesu8_decode.specs.Decoding.{ReadsFirst};
 
+use super::offsets::{BLOCK, PAIR, THREE, near, starts};
 use super::packing::{ROOM, WIDEST};
 use super::parts::write_block;
-use super::places::{BLOCK, PAIR, THREE, near, starts};
 use super::rows::rows;
 use super::way::{LONG_WINDOW, MEDIUM_WINDOW, SHORT_WINDOW};
 use cesu8_bytes::flavor::Flavor;
@@ -19,7 +19,7 @@ use std::simd::prelude::*;
 /// How many bytes a window's buffer has besides those of the window.
 pub const AROUND: usize = 80;
 
-/// How many positions before a byte are read to decide what becomes of it.
+/// How many offsets before a byte are read to decide what becomes of it.
 pub const BEFORE: usize = 5;
 
 /// The least length of a window's buffer, for which some bytes are read.
@@ -33,28 +33,28 @@ pub const SPARED: usize = 64;
 pub const LEFT: usize = 64;
 
 // The lengths of the buffers for each window and for its text.
-pub const SHORT_ROOM: usize = SHORT_WINDOW + AROUND;
+pub const SHORT_BUFFER: usize = SHORT_WINDOW + AROUND;
 
-pub const SHORT_TEXT: usize = WIDEST * SHORT_ROOM - SPARED;
+pub const SHORT_TEXT: usize = WIDEST * SHORT_BUFFER - SPARED;
 
-pub const MEDIUM_ROOM: usize = MEDIUM_WINDOW + AROUND;
+pub const MEDIUM_BUFFER: usize = MEDIUM_WINDOW + AROUND;
 
-pub const MEDIUM_TEXT: usize = WIDEST * MEDIUM_ROOM - SPARED;
+pub const MEDIUM_TEXT: usize = WIDEST * MEDIUM_BUFFER - SPARED;
 
-pub const LONG_ROOM: usize = LONG_WINDOW + AROUND;
+pub const LONG_BUFFER: usize = LONG_WINDOW + AROUND;
 
-pub const LONG_TEXT: usize = WIDEST * LONG_ROOM - SPARED;
+pub const LONG_TEXT: usize = WIDEST * LONG_BUFFER - SPARED;
 
 /// How many bytes were read, the end of what is written for them, and whether some of them are
-/// damaged.
+/// ill-formed.
 #[derive(Drop)]
 pub struct Decoded {
     pub read: usize,
     pub end: usize,
-    pub is_damaged: bool,
+    pub is_ill_formed: bool,
 }
 
-/// Writes what becomes of the first bytes, up to a position that no encoded character crosses. It is
+/// Writes what becomes of the first bytes, up to an offset that no encoded character crosses. It is
 /// not inlined, since it is long, and buffers of each length need it.
 #[inline(never)]
 pub fn write_window<F: Flavor>(bytes: &[u8], window: &mut [u8], out: &mut [u8]) -> Decoded
@@ -62,7 +62,7 @@ pub fn write_window<F: Flavor>(bytes: &[u8], window: &mut [u8], out: &mut [u8]) 
     requires zeros { window.old ≡ replicate (length window.old) 0 }
     requires out { WIDEST * length window.old ≤ length out.old + SPARED }
     ensures first { ReadsFirst F.flavor bytes.now
-        result.read (take result.end out.new) result.is_damaged }
+        result.read (take result.end out.new) result.is_ill_formed }
     ensures all { length bytes.now + AROUND ≤ length window.old → result.read ≡ length bytes.now }
     ensures end { result.end + LEFT ≤ length out.new }
 {
@@ -70,7 +70,7 @@ pub fn write_window<F: Flavor>(bytes: &[u8], window: &mut [u8], out: &mut [u8]) 
     write_blocks::<F>(window, read, out)
 }
 
-/// Copies the first bytes into a window, and returns how many of them are read: up to a position
+/// Copies the first bytes into a window, and returns how many of them are read: up to an offset
 /// that no encoded character crosses.
 #[inline(always)]
 pub fn load<F: Flavor>(bytes: &[u8], window: &mut [u8]) -> usize
@@ -93,7 +93,7 @@ pub fn load<F: Flavor>(bytes: &[u8], window: &mut [u8]) -> usize
     if loaded == bytes.len() {
         loaded
     } else {
-        border::<F>(window, loaded - BEFORE)
+        boundary::<F>(window, loaded - BEFORE)
     }
 }
 
@@ -107,32 +107,32 @@ fn pad(bytes: &[u8], window: &mut [u8])
     window[BEFORE..BEFORE + bytes.len()].copy_from_slice(bytes);
 }
 
-/// Returns the last border at or before a position of a window: no encoded character crosses it. It
-/// is at most five positions before.
-fn border<F: Flavor>(window: &[u8], most: usize) -> usize
+/// Returns the last boundary at or before an offset of a window: no encoded character crosses it.
+/// It is at most five offsets before.
+fn boundary<F: Flavor>(window: &[u8], most: usize) -> usize
     requires { (BEFORE ≤ most) × (most + BLOCK ≤ length window.now) }
     ensures within { (result ≤ most) × (most ≤ result + BEFORE) }
-    ensures border { (n : ℕ) → n ≤ most → most ≤ n + BEFORE
-        → is_border_at F.flavor window.now n ≡ true → is_border_at F.flavor window.now result ≡ true }
+    ensures boundary { (n : ℕ) → n ≤ most → most ≤ n + BEFORE
+        → is_boundary_at F.flavor window.now n ≡ true → is_boundary_at F.flavor window.now result ≡ true }
 {
-    let codes = starts::<F>(window, most - BEFORE).to_array();
+    let kinds = starts::<F>(window, most - BEFORE).to_array();
     for back in 0..BEFORE {
-        if is_border(&codes, BEFORE - back) {
+        if is_boundary(&kinds, BEFORE - back) {
             return most - back;
         }
     }
     most - BEFORE
 }
 
-/// Returns whether no character that begins at one of the five positions before reaches beyond this
-/// position.
-fn is_border(codes: &[u8; BLOCK], at: usize) -> bool
+/// Returns whether no character that begins at one of the five offsets before reaches beyond this
+/// offset.
+fn is_boundary(kinds: &[u8; BLOCK], at: usize) -> bool
     requires { at ≤ BEFORE }
-    ensures { (f : Flavor) (window : List ℕ) (n : ℕ) → AreFiveCodes f window n codes.now at
-        → result ≡ is_border_at f window n }
+    ensures { (f : Flavor) (window : List ℕ) (n : ℕ) → AreFiveKinds f window n kinds.now at
+        → result ≡ is_boundary_at f window n }
 {
-    let of_pair = codes[at] & PAIR | codes[at + 1] & PAIR | codes[at + 2] & PAIR;
-    codes[at + 4] | codes[at + 3] & (PAIR | THREE) | of_pair == 0
+    let of_pair = kinds[at] & PAIR | kinds[at + 1] & PAIR | kinds[at + 2] & PAIR;
+    kinds[at + 4] | kinds[at + 3] & (PAIR | THREE) | of_pair == 0
 }
 
 /// Writes what becomes of the first `count` bytes of a window.
@@ -143,16 +143,16 @@ fn write_blocks<F: Flavor>(window: &[u8], count: usize, out: &mut [u8]) -> Decod
     requires out { WIDEST * count + ROOM ≤ length out.old }
     ensures read { result.read ≡ count }
     ensures bytes { take result.end out.new ≡ decoded F.flavor window.now 0 count }
-    ensures damaged { IsTrue result.is_damaged → (i : ℕ) × (i < count)
-        × (is_damaged_at F.flavor window.now i ≡ true) }
-    ensures whole { result.is_damaged ≡ false → (i : ℕ) → i < count
-        → is_damaged_at F.flavor window.now i ≡ false }
+    ensures ill_formed { IsTrue result.is_ill_formed → (i : ℕ) × (i < count)
+        × (is_ill_formed_at F.flavor window.now i ≡ true) }
+    ensures whole { result.is_ill_formed ≡ false → (i : ℕ) → i < count
+        → is_ill_formed_at F.flavor window.now i ≡ false }
     ensures end { result.end ≤ WIDEST * (count + BLOCK - 1) }
     ensures len { length out.new ≡ length out.old }
 {
     let mut at = 0;
     let mut end = 0;
-    let mut is_damaged = false;
+    let mut is_ill_formed = false;
     let mut before = u8x32::splat(0);
     while at < count {
         let left = count - at;
@@ -160,13 +160,13 @@ fn write_blocks<F: Flavor>(window: &[u8], count: usize, out: &mut [u8]) -> Decod
         let here = starts::<F>(window, at + BEFORE);
         let block = write_block::<F>(window, &near(before, here), at, len, rows(), out, end);
         end = block.end;
-        is_damaged = is_damaged | block.is_damaged;
+        is_ill_formed = is_ill_formed | block.is_ill_formed;
         before = here;
         at += len;
     }
     Decoded {
         read: count,
         end,
-        is_damaged,
+        is_ill_formed,
     }
 }

@@ -7,11 +7,11 @@
 ghost use Rattle.std.specs.Prelude.{◌≡◌, ℕ, List, Bool, ◌+◌, ◌*◌, ◌%◌, ◌/◌, ◌^◌, ◌<◌, ◌≤◌, ◌==◌, ◌++◌, map, length, take, IsTrue};
 ghost use Rattle.std.specs.Simd.Lanes.{chunk, zip2, mask_l};
 ghost use Rattle.cesu8_text.specs.Encoding.{Flavor as AnyFlavor};
-ghost use Rattle.cesu8_encode.specs.EncodedPlaces.{six_bits, packed, encoded_bytes, AreShuffles, AreLanes};
+ghost use Rattle.cesu8_encode.specs.EncodedOffsets.{six_bits, packed, encoded_bytes, AreShuffles, AreLanes};
 
 use super::rows::rows;
 use cesu8_bytes::flavor::{Flavor, nulls};
-use cesu8_bytes::implementation::class::{Lead, mask};
+use cesu8_bytes::implementation::class::{AtLeastF0, mask};
 use cesu8_bytes::writers::put;
 use cesu8_bytes::{BLOCK, Rows};
 use std::simd::prelude::*;
@@ -34,7 +34,7 @@ const ROW_STORED: usize = 2 * ROW;
 /// How many bytes are stored for the rows of a block.
 const BLOCK_STORED: usize = 2 * BLOCK;
 
-/// Writes what the first `count` bytes of the block at a position become, and returns its end.
+/// Writes what the first `count` bytes of the block at an offset become, and returns its end.
 ///
 /// The rows are stored whole if they fit, and the next block overwrites the bytes beyond the end.
 #[inline(always)]
@@ -77,9 +77,9 @@ fn encode_block<F: Flavor>(window: &[u8], at: usize) -> EncodedBlock
     ensures { AreLanes F.flavor window.now at result.seconds result.firsts result.doubled }
 {
     let bytes = u8x32::from_slice(&window[at + 2..]);
-    let lead = mask::<Lead>(bytes);
-    let lead_before = mask::<Lead>(u8x32::from_slice(&window[at + 1..]));
-    let lead_two_before = mask::<Lead>(u8x32::from_slice(&window[at..]));
+    let lead = mask::<AtLeastF0>(bytes);
+    let lead_before = mask::<AtLeastF0>(u8x32::from_slice(&window[at + 1..]));
+    let lead_two_before = mask::<AtLeastF0>(u8x32::from_slice(&window[at..]));
     let null = nulls::<F>(bytes);
 
     let six_bits = six_bits(bytes, u8x32::from_slice(&window[at + 3..]));

@@ -8,10 +8,10 @@ ghost use Rattle.std.specs.Str.{chars};
 ghost use Rattle.cesu8_text.specs.Text.{IsScalarValue, utf8_of};
 ghost use Rattle.cesu8_text.specs.Encoding.{Flavor as AnyFlavor, encoding, short_form};
 ghost use Rattle.cesu8_encode.specs.Encoded.{WritesEncoding};
-ghost use Rattle.cesu8_encode.specs.EncodedPlaces.{IsRun};
+ghost use Rattle.cesu8_encode.specs.EncodedOffsets.{IsRun};
 
 use cesu8_bytes::flavor::Flavor;
-use cesu8_bytes::implementation::class::{Either, Lead, Null};
+use cesu8_bytes::implementation::class::{AtLeastF0, Either, Null};
 use cesu8_bytes::implementation::short::any_in_short;
 use cesu8_bytes::joining::{PAIR, PAIR_UTF8};
 use cesu8_bytes::runs::copy_run;
@@ -26,7 +26,7 @@ const FOUR_LEAD: u8 = 0xF0;
 pub fn is_unchanged<F: Flavor>(text: &str) -> bool
     ensures { IsTrue result → encoding F.flavor (chars text.now) ≡ text.now }
 {
-    !any_in_short::<Either<F::Null, Lead>>(text.as_bytes())
+    !any_in_short::<Either<F::Null, AtLeastF0>>(text.as_bytes())
 }
 
 /// Writes the encoding of a text at the front of a slice that is long enough, and returns its
@@ -57,7 +57,7 @@ pub fn write_few<F: Flavor>(text: &str, out: &mut [u8]) -> usize
     end
 }
 
-/// Copies the first byte, which stays, to a position, and the next ones up to one that changes, as
+/// Copies the first byte, which stays, to an offset, and the next ones up to one that changes, as
 /// far as a vector reaches, and returns how many. The rest of the vector is stored too, but ends
 /// within the encoding, which is at least as long as the bytes.
 #[inline(always)]
@@ -70,7 +70,7 @@ fn copy_some(bytes: &[u8], out: &mut [u8], at: usize) -> usize
     ensures behind { drop (at + length bytes.now) out.new ≡ drop (at + length bytes.now) out.old }
     ensures len { length out.new ≡ length out.old }
 {
-    let run = copy_run::<Either<Null, Lead>>(bytes, out, at);
+    let run = copy_run::<Either<Null, AtLeastF0>>(bytes, out, at);
     if run > 0 {
         return run;
     }
@@ -78,7 +78,7 @@ fn copy_some(bytes: &[u8], out: &mut [u8], at: usize) -> usize
     1
 }
 
-/// Writes the encoding of U+0000 to a position, and returns its end.
+/// Writes the encoding of U+0000 to an offset, and returns its end.
 #[inline(always)]
 fn write_null<F: Flavor>(out: &mut [u8], at: usize) -> usize
     requires { at + length (short_form F.flavor 0) ≤ length out.old }

@@ -1,6 +1,6 @@
 //! The shuffles that pack a row of eight bytes, one for each set of bytes that become two.
 
-ghost use Rattle.cesu8_encode.specs.EncodedPlaces.{AreShuffles};
+ghost use Rattle.cesu8_encode.specs.EncodedOffsets.{AreShuffles};
 
 use cesu8_bytes::Rows;
 

@@ -7,7 +7,7 @@ ghost use Rattle.std.specs.Prelude.{◌≡◌, ℕ, ◌+◌, ◌*◌, ◌<◌, �
 ghost use Rattle.std.specs.Str.{chars};
 ghost use Rattle.cesu8_text.specs.Encoding.{encoding};
 ghost use Rattle.cesu8_encode.specs.Encoded.{WritesEncoding};
-ghost use Rattle.cesu8_encode.specs.EncodedPlaces.{recoded, IsWritten, Writes};
+ghost use Rattle.cesu8_encode.specs.EncodedOffsets.{recoded, IsWritten, Writes};
 
 use super::blocks::{BLOCK_READ, READ_AFTER, READ_BEFORE, write_block};
 use cesu8_bytes::BLOCK;
@@ -70,7 +70,7 @@ fn write_middle<F: Flavor>(text: &[u8], blocks: usize, out: &mut [u8], start: us
 /// Writes what the last block of a longer text becomes, and returns its end.
 #[inline(always)]
 fn write_last<F: Flavor>(text: &[u8], at: usize, out: &mut [u8], end: usize) -> usize
-    requires position { (BLOCK ≤ at) × (at < length text.now) × (length text.now ≤ at + BLOCK) }
+    requires offset { (BLOCK ≤ at) × (at < length text.now) × (length text.now ≤ at + BLOCK) }
     requires room { length (recoded F.flavor text.now) ≤ length out.old }
     requires before { IsWritten F.flavor text.now at out.old end }
     ensures { Writes F.flavor text.now (length text.now) out.old out.new result }

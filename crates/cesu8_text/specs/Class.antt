@@ -2,9 +2,9 @@
 use Rattle.std.specs.Prelude.{ℕ, ◌+◌, Bool, IsTrue, nat_le, nat_lt, ◌&&◌, ◌||◌, ◌==◌, if◌then◌else◌, List, Any, IsUtf8, false}
 use Rattle.cesu8_text.specs.Encoding.{Flavor, Cesu8, Mutf8}
 
--- The lead byte of four bytes.
-abbrev pub is_lead : ℕ → Bool
-is_lead b = nat_le 0xF0 b
+-- F0 (hexadecimal) or more: in UTF-8 the lead bytes of four bytes.
+abbrev pub is_at_least_f0 : ℕ → Bool
+is_at_least_f0 b = nat_le 0xF0 b
 
 -- A byte 00 that is written as C0 80.
 abbrev pub is_null : Flavor → ℕ → Bool
@@ -26,8 +26,8 @@ abbrev pub IsNullFour : ℕ → Type 0
 IsNullFour b = IsTrue (is_null_four b)
 
 -- 80 (hexadecimal) or more: what is not ASCII.
-abbrev pub is_high : ℕ → Bool
-is_high b = nat_le 0x80 b
+abbrev pub is_non_ascii : ℕ → Bool
+is_non_ascii b = nat_le 0x80 b
 
 -- The class of a flavor: the bytes of UTF-8 that change in it.
 abbrev pub IsChangedByte : Flavor → ℕ → Type 0

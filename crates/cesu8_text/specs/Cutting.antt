@@ -37,7 +37,7 @@ ArePieces (piece ∷ pieces) = IsPiece piece × ArePieces pieces
 abbrev pub IsCutting : Flavor → List ℕ → List Piece → Type 0
 IsCutting f bytes pieces = ArePieces pieces × (bytes_of f pieces ≡ bytes)
 
--- No encoded character begins at the position of a replaced byte.
+-- No encoded character begins at the offset of a replaced byte.
 abbrev pub IsGreedy : Flavor → List Piece → Type 0
 IsGreedy f [] = ⊤
 IsGreedy f (Character c ∷ pieces) = IsGreedy f pieces

@@ -102,12 +102,12 @@ LossyBound = (f : Flavor) (bytes : List ℕ) → length (utf8 (reading f bytes))
 abbrev pub Bounds : Type 0
 Bounds = EncodingBound × StrictBound × CuttingBound × LossyBound
 
--- The stretches of the characters at any two positions, which may be equal, are equal or disjoint.
+-- The stretches of the characters at any two offsets, which may be equal, are equal or disjoint.
 abbrev pub NoOverlap : Type 0
 NoOverlap = (f : Flavor) (bytes : List ℕ) (i j c d : ℕ) → StandsAt f bytes i c → StandsAt f bytes j d →
     ((i ≡ j) × (c ≡ d)) ⊎ ((i + width f c ≤ j) ⊎ (j + width f d ≤ i))
 
--- A position has one mark, and the function `mark` computes it.
+-- An offset has one mark, and the function `mark` computes it.
 abbrev pub OneMark : Type 0
 OneMark = (f : Flavor) (bytes : List ℕ) (i : ℕ) →
     IsMark f bytes i (mark f bytes i) × ((other : List ℕ) → IsMark f bytes i other → other ≡ mark f bytes i)
@@ -161,8 +161,8 @@ abbrev pub Split : Type 0
 Split = (f : Flavor) (a b : List ℕ) →
     (reading f (a ++ b) ≡ reading f a ++ reading f b) ↔ NoneCrosses f a b
 
--- The condition is needed: the two halves of a surrogate pair are damage when apart, and U+1F496
--- when joined.
+-- The condition is needed: the two halves of a surrogate pair are ill-formed when apart, and
+-- U+1F496 when joined.
 abbrev pub HalvesJoin : Type 0
 HalvesJoin = (f : Flavor) →
     let high = 0xED ∷ 0xA0 ∷ 0xBD ∷ [] in

@@ -2,7 +2,7 @@
 use Rattle.std.specs.Prelude.{◌≡◌, ℕ, ◌+◌, ◌<◌, ◌⊎◌, ◌↔◌, ◌==◌, ◌||◌, if◌then◌else◌, List, [], ◌∷◌, ⊤}
 
 -- One list is below another if it is a proper prefix of it, or if its number is smaller at the
--- first position where they differ. (UTR 26, "binary collation")
+-- first index where they differ. (UTR 26, "binary collation")
 abbrev pub IsBelow : List ℕ → List ℕ → Type 0
 IsBelow [] [] = ⊥
 IsBelow [] (y ∷ ys) = ⊤

@@ -30,19 +30,19 @@ IsLenientReading f bytes text =
 abbrev pub HasNoLenientReading : Flavor → List ℕ → Type 0
 HasNoLenientReading f bytes = (text : List ℕ) → ¬ (IsLenientReading f bytes text)
 
--- The character c stands at position i: its encoding begins the bytes from there on. Its stretch is
--- the positions of that encoding.
+-- The character c stands at offset i: its encoding begins the bytes from there on. Its stretch is
+-- the offsets of that encoding.
 abbrev pub StandsAt : Flavor → List ℕ → ℕ → ℕ → Type 0
 StandsAt f bytes i c = (rest : List ℕ) × BeginsWith f (drop i bytes) c rest
 
 abbrev pub width : Flavor → ℕ → ℕ
 width f c = length (encoding f (c ∷ []))
 
--- Position i is in the stretch of a character that begins earlier.
+-- Offset i is in the stretch of a character that begins earlier.
 abbrev pub LiesWithin : Flavor → List ℕ → ℕ → Type 0
 LiesWithin f bytes i = (j : ℕ) × (c : ℕ) × StandsAt f bytes j c × (j < i) × (i < j + width f c)
 
--- The mark of position i: the character that stands there; nothing if none does and the position is
+-- The mark of offset i: the character that stands there; nothing if none does and the offset is
 -- in a stretch that begins earlier; and otherwise the replacement character.
 pub data IsMark (f : Flavor) (bytes : List ℕ) (i : ℕ) : List ℕ → Type 0 where
   Stands : (c : ℕ) → StandsAt f bytes i c → IsMark f bytes i (c ∷ [])
@@ -81,12 +81,12 @@ abbrev pub width_of : Flavor → Option ℕ → ℕ
 width_of f (Some c) = width f c
 width_of f None = 0
 
--- Whether position i is in a stretch that begins earlier.
+-- Whether offset i is in a stretch that begins earlier.
 unfoldable pub lies_within : Flavor → List ℕ → ℕ → Bool
 lies_within f bytes i =
     list_any (λ j. nat_lt i (j + width_of f (standing f (drop j bytes)))) (range_with_len 0 i)
 
--- The mark of a position, by the character there and whether the position is in a stretch.
+-- The mark of an offset, by the character there and whether the offset is in a stretch.
 abbrev pub mark_by : Option ℕ → Bool → List ℕ
 mark_by (Some c) within = c ∷ []
 mark_by None within = if within then [] else 0xFFFD ∷ []
@@ -94,7 +94,7 @@ mark_by None within = if within then [] else 0xFFFD ∷ []
 unfoldable pub mark : Flavor → List ℕ → ℕ → List ℕ
 mark f bytes i = mark_by (standing f (drop i bytes)) (lies_within f bytes i)
 
--- The lossy reading: the marks of all positions, in their order.
+-- The lossy reading: the marks of all offsets, in their order.
 unfoldable pub reading : Flavor → List ℕ → List ℕ
 reading f bytes = flat_map (mark f bytes) (range_with_len 0 (length bytes))
 

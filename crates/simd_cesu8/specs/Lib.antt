@@ -1,11 +1,11 @@
 pub use Rattle.cesu8_text.specs.Text
 pub use Rattle.cesu8_text.specs.Utf16
 pub use Rattle.cesu8_text.specs.Encoding
-pub use Rattle.cesu8_encode.specs.EncodedPlaces
+pub use Rattle.cesu8_encode.specs.EncodedOffsets
 pub use Rattle.cesu8_text.specs.Class
 pub use Rattle.cesu8_bytes.specs.Kernels
 pub use Rattle.cesu8_text.specs.Reading
-pub use Rattle.cesu8_decode.specs.DecodedPlaces
+pub use Rattle.cesu8_decode.specs.DecodedOffsets
 pub use Rattle.cesu8_decode.specs.DecodedLanes
 pub use Rattle.cesu8_decode.specs.DecodedWindows
 pub use Rattle.cesu8_text.specs.Cutting
@@ -16,7 +16,7 @@ pub mod Slices
 pub mod Outcomes
 pub mod Internal
 pub use Rattle.cesu8_bytes.specs.Joining
-pub use Rattle.cesu8_bytes.specs.Pieces
+pub use Rattle.cesu8_bytes.specs.TextChunks
 pub use Rattle.cesu8_text.specs.Order
 pub use Rattle.cesu8_text.specs.Laws
 pub mod Calls

@@ -104,12 +104,12 @@ pub fn bounds()
     ensures { Bounds }
 {}
 
-/// The stretches of the encoded characters at any two positions are equal or disjoint.
+/// The stretches of the encoded characters at any two offsets are equal or disjoint.
 pub fn no_overlap()
     ensures { NoOverlap }
 {}
 
-/// Each position has exactly one mark in the lossy reading, and the function of the definitions
+/// Each offset has exactly one mark in the lossy reading, and the function of the definitions
 /// computes it.
 pub fn one_mark()
     ensures { OneMark }
@@ -140,8 +140,8 @@ pub fn lossy()
 {}
 
 /// The lossy reading of a ++ b is that of a ++ that of b exactly where no encoded character begins
-/// in a and ends in b. The halves of a surrogate pair are damage when apart, and one character when
-/// joined.
+/// in a and ends in b. The halves of a surrogate pair are ill-formed when apart, and one character
+/// when joined.
 pub fn split()
     ensures parts { Split }
     ensures halves_join { HalvesJoin }

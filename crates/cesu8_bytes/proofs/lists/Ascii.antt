@@ -5,10 +5,10 @@ use Rattle.std.proofs.lemmas.Bool.{cases_lt, le-leb}
 use Rattle.std.proofs.lemmas.List.{get_or_default}
 use Rattle.std.proofs.lemmas.Str.Ascii.{IsAscii-from_reads}
 use Rattle.cesu8_bytes.specs.Kernels.{AnyIn}
-use Rattle.cesu8_text.specs.Class.{is_high}
+use Rattle.cesu8_text.specs.Class.{is_non_ascii}
 
 -- Bytes are ASCII where none is 80 or more.
-pub ascii_of_none : (xs : List ℕ) → (AnyIn is_high xs → ⊥) → IsAscii xs
+pub ascii_of_none : (xs : List ℕ) → (AnyIn is_non_ascii xs → ⊥) → IsAscii xs
 ascii_of_none xs none = IsAscii-from_reads xs (length xs) (omega arith) (λ k inside.
     ⊎_elim (λ low. low)
     (λ high. absurd (none (k, get_or xs k 0, inside, get_or_default xs k (get_or xs k 0) 0 inside, le-leb 0x80 (get_or xs k 0) high)))
@@ -19,6 +19,6 @@ second_suffices true t e = refl
 second_suffices false t e = e
 
 -- So are they where none is of another class either.
-pub ascii_of_neither : (other : ℕ → Bool) (xs : List ℕ) → (AnyIn (λ b. other b || is_high b) xs → ⊥) → IsAscii xs
+pub ascii_of_neither : (other : ℕ → Bool) (xs : List ℕ) → (AnyIn (λ b. other b || is_non_ascii b) xs → ⊥) → IsAscii xs
 ascii_of_neither other xs none = ascii_of_none xs (λ any.
-    none (any.0, any.1, any.2, any.3, second_suffices (other any.1) (is_high any.1) any.4))
+    none (any.0, any.1, any.2, any.3, second_suffices (other any.1) (is_non_ascii any.1) any.4))

@@ -88,7 +88,7 @@ group_listed (a ∷ b ∷ c ∷ []) e l = absurd (omega arith)
 group_listed (a ∷ b ∷ c ∷ d ∷ []) e l = refl
 group_listed (a ∷ b ∷ c ∷ d ∷ x ∷ xs) e l = absurd (omega arith)
 
--- The same of the elements of a list of four, read by their places.
+-- The same of the elements of a list of four, read by their indices.
 pub any_of_group : {X : Type 0} (P : X → Type 0) (xs : List X) (e : X) → length xs ≡ 4 →
     Any P xs ↔ ((P (get_or xs 0 e) ⊎ P (get_or xs 1 e)) ⊎ (P (get_or xs 2 e) ⊎ P (get_or xs 3 e)))
 any_of_group P xs e l =

@@ -1,4 +1,4 @@
--- Eight elements at a place of more.
+-- Eight elements at an index of more.
 use Rattle.std.proofs.Common.{◌≡◌, ℕ, ◌+◌, ◌-◌, ◌<◌, ◌≤◌, List, sym, ap, ◌∙◌, ⊎_elim, arith, length, drop, get_or, slice_range, length-take, length-drop}
 use Rattle.std.specs.List.{Any}
 use Rattle.std.proofs.lemmas.Bool.{cases_lt}
@@ -6,7 +6,7 @@ use Rattle.std.proofs.lemmas.List.{get_or-take, get_or-drop}
 use Rattle.cesu8_bytes.proofs.lists.Walks.{NoneBefore}
 
 module _ (P : ℕ → Type 0) (xs : List ℕ) where
-  -- the element at a place of the eight
+  -- the element at an index of the eight
   element_at : (n i x : ℕ) → i < 8 → get_or (slice_range xs n (n + 8)) i x ≡ get_or xs (n + i) x
   element_at n i x inside = get_or-take (n + 8 - n) (drop n xs) i x (omega arith) ∙ get_or-drop n xs i x
 
@@ -19,24 +19,24 @@ module _ (P : ℕ → Type 0) (xs : List ℕ) where
       let short : any.0 < 8 = omega (arith, any.2, length_of_eight n fits) in
       (n + any.0, any.1, omega (arith, short), sym (element_at n any.0 any.1 short) ∙ any.3, any.4)
 
-  -- an element at a place is one of the eight that it stands in
+  -- an element at an index is one of the eight that it stands in
   among_eight : (n i x : ℕ) → n + 8 ≤ length xs → n ≤ i → i < n + 8 → get_or xs i x ≡ x → P x → Any P (slice_range xs n (n + 8))
   among_eight n i x fits from to same holds =
-      let place : n + (i - n) ≡ i = omega arith in (
+      let index : n + (i - n) ≡ i = omega arith in (
         i - n,
         x,
         omega (arith, length_of_eight n fits),
-        element_at n (i - n) x (omega arith) ∙ ap (λ j. get_or xs j x) place ∙ same,
+        element_at n (i - n) x (omega arith) ∙ ap (λ j. get_or xs j x) index ∙ same,
         holds,
       )
 
-  -- Where P holds of none before a place, and of none of the eight there, it holds of none before their end.
+  -- Where P holds of none before an index, and of none of the eight there, it holds of none before their end.
   pub none_further : (n : ℕ) → n + 8 ≤ length xs → NoneBefore P xs n → (Any P (slice_range xs n (n + 8)) → ⊥) → NoneBefore P xs (n + 8)
   none_further n fits none eight i x to long same holds =
       ⊎_elim (λ before. none i x before long same holds)
       (λ from. eight (among_eight n i x fits from to same holds)) (cases_lt i n)
 
-  -- Where P holds of none before a place among the last eight or after their start, it holds of one of these
+  -- Where P holds of none before an index among the last eight or after their start, it holds of one of these
   -- if it holds of any.
   pub in_last_eight : (n m : ℕ) → m ≤ n → m + 8 ≡ length xs → NoneBefore P xs n → Any P xs → Any P (slice_range xs m (m + 8))
   in_last_eight n m early last none any =

@@ -1,23 +1,23 @@
--- The ends of lists: vectors at the front and at the end, which overlap, and what stays behind a place.
+-- The ends of lists: vectors at the front and at the end, which overlap, and what stays behind an index.
 use Rattle.std.proofs.Common.{◌≡◌, ℕ, Bool, true, false, IsTrue, ◌||◌, ◌+◌, ◌-◌, ◌*◌, ◌≤◌, ◌↔◌, ◌⊎◌, List, length, take, drop, refl, sym, ap, ◌∙◌, subst, inl, inr, ⊎_elim, arith}
 use Rattle.std.specs.List.{Any}
 use Rattle.std.proofs.lemmas.Bool.{false≢true}
 use Rattle.std.proofs.lemmas.List.{take-append-drop, drop-drop}
 use Rattle.cesu8_text.proofs.lists.Elements.{any_left, any_right, any_append}
 
--- P holds of an element where it holds of one from a place on.
+-- P holds of an element where it holds of one from an index on.
 pub any_drop : (P : ℕ → Type 0) (n : ℕ) (xs : List ℕ) → Any P (drop n xs) → Any P xs
 any_drop P n xs any = subst (Any P) (take-append-drop n xs) (any_right P (take n xs) (drop n xs) any)
 
--- P holds of an element where it holds of one before a place.
+-- P holds of an element where it holds of one before an index.
 any_take : (P : ℕ → Type 0) (n : ℕ) (xs : List ℕ) → Any P (take n xs) → Any P xs
 any_take P n xs any = subst (Any P) (take-append-drop n xs) (any_left P (take n xs) (drop n xs) any)
 
--- P holds of an element from a place on where it holds of one from a later place on.
+-- P holds of an element from an index on where it holds of one from a later index on.
 pub any_later : (P : ℕ → Type 0) (a b : ℕ) (xs : List ℕ) → a ≤ b → Any P (drop b xs) → Any P (drop a xs)
 any_later P a b xs order any =
-    let place : a + (b - a) ≡ b = omega (arith, order) in
-    any_drop P (b - a) (drop a xs) (subst (Any P) (sym (drop-drop (b - a) a xs ∙ ap (λ i. drop i xs) place)) any)
+    let index : a + (b - a) ≡ b = omega (arith, order) in
+    any_drop P (b - a) (drop a xs) (subst (Any P) (sym (drop-drop (b - a) a xs ∙ ap (λ i. drop i xs) index)) any)
 
 either : (s t : Bool) → IsTrue (s || t) → IsTrue s ⊎ IsTrue t
 either true t e = inl refl
@@ -37,9 +37,9 @@ ends_tell P n xs front end fits covers f e = (
       (any_append P (take n xs) (drop n xs) (subst (Any P) (sym (take-append-drop n xs)) any)))),
 )
 
--- What stays as it was behind a place does so behind a later one.
+-- What stays as it was behind an index does so behind a later one.
 pub stays_behind : (old new : List ℕ) (at end : ℕ) → at ≤ end → drop at new ≡ drop at old → drop end new ≡ drop end old
 stays_behind old new at end later same =
-    let place : at + (end - at) ≡ end = omega arith in
-    ap (λ n. drop n new) (sym place) ∙ sym (drop-drop (end - at) at new) ∙ ap (drop (end - at)) same
-    ∙ drop-drop (end - at) at old ∙ ap (λ n. drop n old) place
+    let index : at + (end - at) ≡ end = omega arith in
+    ap (λ n. drop n new) (sym index) ∙ sym (drop-drop (end - at) at new) ∙ ap (drop (end - at)) same
+    ∙ drop-drop (end - at) at old ∙ ap (λ n. drop n old) index

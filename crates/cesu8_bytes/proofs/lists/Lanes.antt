@@ -5,7 +5,7 @@ use Rattle.std.proofs.lemmas.Bool.{both_ways, cases_lt, eq-eqb, eqb-false, eqb-t
 use Rattle.std.proofs.lemmas.List.{length-map}
 use Rattle.std.proofs.lemmas.Simd.{mask_l-mod, tops_compared, zip2_splat_left}
 use lib.Lanes.{zip2, sel_l, mask_l, top, Each1}
-use Rattle.cesu8_text.specs.Class.{is_four, is_null_four, is_lead}
+use Rattle.cesu8_text.specs.Class.{is_four, is_null_four, is_at_least_f0}
 use Rattle.cesu8_bytes.specs.Kernels.{AnyIn}
 use Rattle.cesu8_text.proofs.lists.Elements.{any_nil, any_here, any_there, any_cons}
 
@@ -118,12 +118,12 @@ either_holds true t e = inl refl
 either_holds false t e = inr e
 
 -- F0 to F7 is F0 or more.
-pub lead_of_four : (chunks : List (List ℕ)) → Any (AnyIn is_four) chunks → Any (AnyIn is_lead) chunks
+pub lead_of_four : (chunks : List (List ℕ)) → Any (AnyIn is_four) chunks → Any (AnyIn is_at_least_f0) chunks
 lead_of_four chunks h = (h.0, h.1, h.2, h.3, (h.4.0, h.4.1, h.4.2, h.4.3, first_holds (leb 0xF0 h.4.1) (leb h.4.1 0xF7) h.4.4))
 
 -- So a byte of the other class is F0 or more, or it is 00.
 pub lead_or_null : (chunks : List (List ℕ)) → Any (AnyIn is_null_four) chunks →
-    Any (AnyIn is_lead) chunks ⊎ Any (AnyIn (λ b. eqb b 0)) chunks
+    Any (AnyIn is_at_least_f0) chunks ⊎ Any (AnyIn (λ b. eqb b 0)) chunks
 lead_or_null chunks h = ⊎_elim
     (λ null. inr (h.0, h.1, h.2, h.3, (h.4.0, h.4.1, h.4.2, h.4.3, null)))
     (λ four. inl (h.0, h.1, h.2, h.3, (h.4.0, h.4.1, h.4.2, h.4.3, first_holds (leb 0xF0 h.4.1) (leb h.4.1 0xF7) four)))

@@ -38,11 +38,11 @@ ends_stored n bytes out many few room =
     let before : take at first ≡ take at bytes =
     subst (λ i. take i first ≡ take at bytes) (let none : 0 + at ≡ at = omega arith in none)
     (run_stored 0 n at bytes out (omega arith) many (omega arith)) in
-    let front : take len second ≡ bytes =
+    let prefix : take len second ≡ bytes =
     take_more_put_chunk at first end len (omega (arith, end_len)) (omega (arith, room, length-put_chunk 0 out (take n bytes)))
     ∙ ap (λ bs. bs ++ end) before
     ∙ take-append-drop at bytes in
     let behind : drop len second ≡ drop len out =
     behind_stored at len first end (omega (arith, end_len))
     ∙ behind_stored 0 len out (take n bytes) (omega (arith, length-take-le n bytes many)) in
-    sym (take-append-drop len second) ∙ ap (λ bs. bs ++ drop len second) front ∙ ap (λ bs. bytes ++ bs) behind
+    sym (take-append-drop len second) ∙ ap (λ bs. bs ++ drop len second) prefix ∙ ap (λ bs. bytes ++ bs) behind

@@ -5,7 +5,7 @@ use Rattle.std.proofs.lemmas.Bool.{cases_lt, false≢true}
 use Rattle.std.proofs.lemmas.List.{get_or_default}
 
 module _ {X : Type 0} (P : X → Type 0) (xs : List X) where
-  -- P holds of no element before a place.
+  -- P holds of no element before an index.
   abbrev pub NoneBefore : ℕ → Type 0
   NoneBefore n = (i : ℕ) (x : X) → i < n → i < length xs → get_or xs i x ≡ x → P x → ⊥
 
@@ -13,7 +13,7 @@ module _ {X : Type 0} (P : X → Type 0) (xs : List X) where
   pub none_before_start : NoneBefore 0
   none_before_start i x l long e p = absurd (omega arith)
 
-  -- Where P holds of none before a place and not of the one there, it holds of none before the next place.
+  -- Where P holds of none before an index and not of the one there, it holds of none before the next index.
   pub none_with_next : (n : ℕ) (y : X) → n < length xs → y ≡ get_or xs n y → NoneBefore n → (P y → ⊥) → NoneBefore (n + 1)
   none_with_next n y l at none this i x before long e p =
       ⊎_elim (λ earlier. none i x earlier long e p)
@@ -24,6 +24,6 @@ module _ {X : Type 0} (P : X → Type 0) (xs : List X) where
   pub none_at_end : (n : ℕ) → length xs ≤ n → NoneBefore n → IsTrue false ↔ Any P xs
   none_at_end n l none = ((λ t. absurd (false≢true t)), (λ h. absurd (none h.0 h.1 (omega (arith, h.2)) h.2 h.3 h.4)))
 
-  -- Where P holds of the element at a place, it holds of an element.
+  -- Where P holds of the element at an index, it holds of an element.
   pub any_at : (n : ℕ) (y : X) → n < length xs → y ≡ get_or xs n y → P y → Any P xs
   any_at n y l at p = (n, y, l, sym at, p)

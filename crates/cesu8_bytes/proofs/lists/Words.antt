@@ -135,7 +135,7 @@ masked_word (b ∷ bytes) h =
     (and_lt 8 b 0xF8 h.0 (omega arith)) (omega arith)
     ∙ ap (λ x. x * 2 ^ 8 + masked b) (masked_word bytes h.1)
 
--- the byte at a place
+-- the byte at an index
 byte_at : (bytes : List ℕ) → AreBytes bytes → (i : ℕ) → get_or bytes i 0 < 0x100
 byte_at [] h i = omega arith
 byte_at (b ∷ bytes) h zero = h.0

@@ -1,4 +1,4 @@
--- Vectors that are loaded from a window, by places, and zeros around it.
+-- Vectors that are loaded from a window, by offsets, and zeros around it.
 use Rattle.std.proofs.Common.{◌≡◌, ℕ, ◌+◌, ◌≤◌, Bool, List, map, length, get_or, sym, ap, ◌∙◌, arith, zero, suc, [], ◌∷◌, ◌++◌, replicate, refl}
 use Rattle.std.specs.List.{range_with_len}
 use Rattle.std.proofs.lemmas.Simd.{map-map, pick_l-range_with_len}
@@ -11,13 +11,13 @@ shifted g a d (suc n) =
     let next : a + d + 1 ≡ a + 1 + d = omega arith in
     ap (λ l. g (a + d) ∷ l) (ap (λ k. map g (range_with_len k n)) next ∙ shifted g (a + 1) d n)
 
--- A load at d bytes behind a place has for each place the byte that is d further on.
+-- A load at d bytes behind an offset has for each offset the byte that is d further on.
 pub loaded : (window : List ℕ) (at d n : ℕ) → at + d + n ≤ length window →
     chunk (at + d) n window ≡ map (λ i. get_or window (i + d) 0) (range_with_len at n)
 loaded window at d n room =
     sym (pick_l-range_with_len 0 window (at + d) n room) ∙ shifted (λ i. get_or window i 0) at d n
 
--- Marks of the bytes of a load, by places.
+-- Marks of the bytes of a load, by offsets.
 pub marks_at : (t : ℕ → Bool) (window : List ℕ) (at d : ℕ) (lanes : List ℕ) → at + d + 32 ≤ length window →
     lanes ≡ map (λ b. mask (t b)) (chunk (at + d) 32 window) →
     lanes ≡ map (λ i. mask (t (get_or window (i + d) 0))) (range_with_len at 32)
@@ -41,6 +41,6 @@ padded [] rest zeros k = zeros k
 padded (x ∷ xs) rest zeros zero = refl
 padded (x ∷ xs) rest zeros (suc k) = padded xs rest zeros k
 
--- ---- the lanes of a load, by their places in the window
+-- ---- the lanes of a load, by their offsets in the window
 
 -- ---- a window with zeros around it

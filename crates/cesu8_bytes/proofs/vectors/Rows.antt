@@ -16,7 +16,7 @@ lowest false m =
     let even : (0 + 2 * m) % 2 ≡ 0 = omega arith in
     (rw even refl, omega arith)
 
--- It takes the lanes at its positions.
+-- It takes the lanes at its indices.
 pub shuffled : (lanes js : List ℕ) → length js ≡ 16 → Each1 (λ j. j < 16) js → swz_l w8 16 lanes 0 js ≡ map (λ j. get_or lanes j 0) js
 shuffled lanes js long small =
     ext_get_or 0 _ _ (length-swz_l w8 16 lanes 0 js ∙ sym (length-map js (λ j. get_or lanes j 0))) (λ m l.
@@ -26,14 +26,14 @@ shuffled lanes js long small =
     ∙ ap (λ k. get_or lanes k 0) here
     ∙ sym (get_or-map (λ j. get_or lanes j 0) js m 0 0 within))
 
--- A vector that is stored leaves what stood before it, and its own front up to there.
-pub stored_front : (out front padding : List ℕ) (at m : ℕ) → at + (length front + length padding) ≤ length out → m ≡ at + length front →
-    take m (put_chunk at out (front ++ padding)) ≡ take at out ++ front
-stored_front out front padding at m room end =
-    let behind = drop (length (front ++ padding)) (drop at out) in
-    let parts : take at out ++ ((front ++ padding) ++ behind) ≡ (take at out ++ front) ++ (padding ++ behind) = simp append_assoc in
-    ap (take m) (put_chunk_is at out (front ++ padding) (omega (arith, length-append front padding)) ∙ parts)
-    ∙ take_at (take at out ++ front) (padding ++ behind) m (omega (arith, length-append (take at out) front, length-take-le at out (omega arith)))
+-- A vector that is stored leaves what stood before it, and its own prefix up to there.
+pub stored_prefix : (out prefix padding : List ℕ) (at m : ℕ) → at + (length prefix + length padding) ≤ length out → m ≡ at + length prefix →
+    take m (put_chunk at out (prefix ++ padding)) ≡ take at out ++ prefix
+stored_prefix out prefix padding at m room end =
+    let behind = drop (length (prefix ++ padding)) (drop at out) in
+    let parts : take at out ++ ((prefix ++ padding) ++ behind) ≡ (take at out ++ prefix) ++ (padding ++ behind) = simp append_assoc in
+    ap (take m) (put_chunk_is at out (prefix ++ padding) (omega (arith, length-append prefix padding)) ∙ parts)
+    ∙ take_at (take at out ++ prefix) (padding ++ behind) m (omega (arith, length-append (take at out) prefix, length-take-le at out (omega arith)))
 
 -- A mask is that of its first n tests, and above them that of the others.
 mask_parts : (n : ℕ) (ts : List Bool) → mask_l ts ≡ mask_l (take n ts) + 2 ^ n * mask_l (drop n ts)
@@ -44,19 +44,19 @@ mask_parts (suc n) (t ∷ ts) =
     ap (λ k. k * mask_l (drop n ts)) (pow-succ' 2 n) ∙ mul_assoc 2 (2 ^ n) (mask_l (drop n ts)) in
     omega (arith, mask_parts n ts, times)
 
-front_below : (n : ℕ) (ts : List Bool) → n ≤ length ts → mask_l (take n ts) < 2 ^ n
-front_below n ts le = subst (λ k. mask_l (take n ts) < 2 ^ k) (length-take-le n ts le) (mask_l-lt (take n ts))
+prefix_below : (n : ℕ) (ts : List Bool) → n ≤ length ts → mask_l (take n ts) < 2 ^ n
+prefix_below n ts le = subst (λ k. mask_l (take n ts) < 2 ^ k) (length-take-le n ts le) (mask_l-lt (take n ts))
 
 -- Its lower bits are those of the first tests,
-pub mask_front : (n : ℕ) (ts : List Bool) → n ≤ length ts → mask_l ts % 2 ^ n ≡ mask_l (take n ts)
-mask_front n ts le =
+pub mask_prefix : (n : ℕ) (ts : List Bool) → n ≤ length ts → mask_l ts % 2 ^ n ≡ mask_l (take n ts)
+mask_prefix n ts le =
     ap (λ m. m % 2 ^ n) (mask_parts n ts) ∙ add-mul-mod_self_left (mask_l (take n ts)) (2 ^ n) (mask_l (drop n ts))
-    ∙ mod-eq_of_lt (front_below n ts le)
+    ∙ mod-eq_of_lt (prefix_below n ts le)
 
 -- and its upper bits those of the others.
 pub mask_rest : (n : ℕ) (ts : List Bool) → n ≤ length ts → mask_l ts / 2 ^ n ≡ mask_l (drop n ts)
 mask_rest n ts le =
-    let first : mask_l (take n ts) / 2 ^ n ≡ 0 = div-eq_of_lt (front_below n ts le) in
+    let first : mask_l (take n ts) / 2 ^ n ≡ 0 = div-eq_of_lt (prefix_below n ts le) in
     ap (λ m. m / 2 ^ n) (mask_parts n ts)
     ∙ add-mul-div_left (mask_l (take n ts)) (mask_l (drop n ts)) (one-le-pow n 2 (omega arith))
     ∙ omega (arith, first)
@@ -67,10 +67,10 @@ pub row_mask : (a : ℕ) (ts : List Bool) (d : ℕ) → a + 8 ≤ length ts → 
 row_mask a ts d le is =
     and_mask (d / 2 ^ a) 8
     ∙ ap (λ m. m % 0x100) (ap (λ m. m / 2 ^ a) is ∙ mask_rest a ts (omega arith))
-    ∙ mask_front 8 (drop a ts) (omega (arith, length-drop a ts))
+    ∙ mask_prefix 8 (drop a ts) (omega (arith, length-drop a ts))
 
 pub first_mask : (ts : List Bool) (d : ℕ) → 8 ≤ length ts → d ≡ mask_l ts → bit_and d 0xFF ≡ mask_l (chunk 0 8 ts)
-first_mask ts d le is = and_mask d 8 ∙ ap (λ m. m % 0x100) is ∙ mask_front 8 ts le
+first_mask ts d le is = and_mask d 8 ∙ ap (λ m. m % 0x100) is ∙ mask_prefix 8 ts le
 
 -- Neighbouring lanes of two vectors, one behind the other, are lanes of the first
 pub lanes_of_first : (xs ys : List ℕ) (a n : ℕ) → a + n ≤ length xs → pick_l 0 (xs ++ ys) (range_with_len a n) ≡ chunk a n xs

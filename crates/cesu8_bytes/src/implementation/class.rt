@@ -2,7 +2,7 @@
 
 ghost use Rattle.std.specs.Prelude.{◌≡◌, ◌==◌, ◌||◌, ◌≤◌, ◌↔◌, ℕ, Bool, false, IsTrue, Any, map};
 ghost use Rattle.std.specs.Simd.Lanes.{mask_l};
-ghost use Rattle.cesu8_text.specs.Class.{is_four, is_high, is_lead, is_one_unit};
+ghost use Rattle.cesu8_text.specs.Class.{is_four, is_non_ascii, is_at_least_f0, is_one_unit};
 ghost use Rattle.cesu8_bytes.specs.Kernels.{AnyIn, lane, mask};
 
 use std::marker::PhantomData;
@@ -80,13 +80,13 @@ pub struct NoByte;
 pub struct Null;
 
 /// F0 to F7 (hexadecimal): those whose upper five bits are those of F0.
-pub struct Four;
+pub struct FourByteLead;
 
 /// F0 (hexadecimal) or more.
-pub struct Lead;
+pub struct AtLeastF0;
 
 /// 80 (hexadecimal) or more: what is not ASCII.
-pub struct High;
+pub struct NonAscii;
 
 /// The bytes of one class or the other.
 pub struct Either<A, B>(PhantomData<(A, B)>);
@@ -121,11 +121,11 @@ impl<const N: usize> InVectors<N> for Null {
     }
 }
 
-impl Class for Four {
+impl Class for FourByteLead {
     ghost class = { is_four };
 }
 
-impl<const N: usize> InVectors<N> for Four {
+impl<const N: usize> InVectors<N> for FourByteLead {
     #[inline(always)]
     fn marks(bytes: Simd<u8, N>) -> Mask<i8, N>
         ensures { result ≡ map (λ b. lane (is_four b)) bytes.entry }
@@ -134,27 +134,27 @@ impl<const N: usize> InVectors<N> for Four {
     }
 }
 
-impl Class for Lead {
-    ghost class = { is_lead };
+impl Class for AtLeastF0 {
+    ghost class = { is_at_least_f0 };
 }
 
-impl<const N: usize> InVectors<N> for Lead {
+impl<const N: usize> InVectors<N> for AtLeastF0 {
     #[inline(always)]
     fn marks(bytes: Simd<u8, N>) -> Mask<i8, N>
-        ensures { result ≡ map (λ b. lane (is_lead b)) bytes.entry }
+        ensures { result ≡ map (λ b. lane (is_at_least_f0 b)) bytes.entry }
     {
         bytes.simd_ge(Simd::splat(0xF0))
     }
 }
 
-impl Class for High {
-    ghost class = { is_high };
+impl Class for NonAscii {
+    ghost class = { is_non_ascii };
 }
 
-impl<const N: usize> InVectors<N> for High {
+impl<const N: usize> InVectors<N> for NonAscii {
     #[inline(always)]
     fn marks(bytes: Simd<u8, N>) -> Mask<i8, N>
-        ensures { result ≡ map (λ b. lane (is_high b)) bytes.entry }
+        ensures { result ≡ map (λ b. lane (is_non_ascii b)) bytes.entry }
     {
         bytes.simd_ge(Simd::splat(0x80))
     }
@@ -191,11 +191,11 @@ impl InAllVectors for NoByte {}
 
 impl InAllVectors for Null {}
 
-impl InAllVectors for Four {}
+impl InAllVectors for FourByteLead {}
 
-impl InAllVectors for High {}
+impl InAllVectors for NonAscii {}
 
-impl InAllVectors for Lead {}
+impl InAllVectors for AtLeastF0 {}
 
 impl InAllVectors for OneUnit {}
 

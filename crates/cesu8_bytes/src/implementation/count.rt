@@ -11,7 +11,7 @@ ghost use Rattle.std.proofs.Common.{arith};
 ghost use Rattle.std.proofs.lemmas.Bool.Decides.{nat_tests};
 ghost use Rattle.cesu8_text.specs.Class.{weight_of};
 
-use super::class::{Four, InAllVectors, InVectors, LANES, NoByte, Null, OneUnit, bits};
+use super::class::{FourByteLead, InAllVectors, InVectors, LANES, NoByte, Null, OneUnit, bits};
 use super::short::by_two_vectors;
 use std::simd::prelude::*;
 
@@ -74,7 +74,10 @@ fn block_weight<C: CountsOne>(block: &[u8]) -> usize
     for i in 0..VECTORS_IN_LANES {
         let lanes = u8x64::from_slice(&block[LANES * i..]);
         ones = ones.strict_add(C::marks(lanes).select(u8x64::splat(1), u8x64::splat(0)));
-        fours = fours.strict_add(Four::marks(lanes).select(u8x64::splat(1), u8x64::splat(0)));
+        fours = fours.strict_add(FourByteLead::marks(lanes).select(
+            u8x64::splat(1),
+            u8x64::splat(0),
+        ));
     }
     lane_sum(ones) + 2 * lane_sum(fours)
 }
@@ -146,7 +149,7 @@ fn lanes_weight<C: CountsOne + InVectors<N>, const N: usize>(
     requires { (N ≤ LANES) × (skipped ≤ N) × (skipped < LANES) }
     ensures { result ≡ sum_by (weight_of C.class) (drop skipped lanes.entry) }
 {
-    count_lanes::<C, N>(lanes, skipped) + 2 * count_lanes::<Four, N>(lanes, skipped)
+    count_lanes::<C, N>(lanes, skipped) + 2 * count_lanes::<FourByteLead, N>(lanes, skipped)
 }
 
 /// Counts the lanes of a class after the first `skipped`.

@@ -6,10 +6,12 @@
 //! happens once.
 
 ghost use Rattle.std.specs.Prelude.{◌≡◌, ◌==◌, ◌≤◌, ◌<◌, ◌↔◌, ◌⊎◌, IsTrue, Any};
-ghost use Rattle.cesu8_text.specs.Class.{is_four, is_null_four, is_lead, is_high};
+ghost use Rattle.cesu8_text.specs.Class.{is_four, is_null_four, is_at_least_f0, is_non_ascii};
 ghost use Rattle.cesu8_bytes.specs.Kernels.{AnyIn};
 
-use super::class::{Either, Four, High, InVectors, LANES, Lead, Null, any_in_each, has};
+use super::class::{
+    AtLeastF0, Either, FourByteLead, InVectors, LANES, NonAscii, Null, any_in_each, has,
+};
 use std::simd::prelude::*;
 
 /// A class that four vectors at once may be tested for.
@@ -28,39 +30,40 @@ pub trait InAllGroups: InGroups<LANES>
     + InGroups<4>
     + InGroups<2> {}
 
-impl<const N: usize> InGroups<N> for Four {
+impl<const N: usize> InGroups<N> for FourByteLead {
     #[inline(always)]
     fn may_have(group: &[[u8; N]; 4]) -> bool
         requires { N ≤ LANES }
         ensures { Any (AnyIn is_four) group.now → IsTrue result }
     {
-        has::<Lead, N>(extremes::<Lead, N>(group))
+        has::<AtLeastF0, N>(extremes::<AtLeastF0, N>(group))
     }
 }
 
-impl<const N: usize> InGroups<N> for Either<Null, Four> {
+impl<const N: usize> InGroups<N> for Either<Null, FourByteLead> {
     #[inline(always)]
     fn may_have(group: &[[u8; N]; 4]) -> bool
         requires { N ≤ LANES }
         ensures { Any (AnyIn is_null_four) group.now → IsTrue result }
     {
-        has::<Lead, N>(extremes::<Lead, N>(group)) || has::<Null, N>(extremes::<Null, N>(group))
+        has::<AtLeastF0, N>(extremes::<AtLeastF0, N>(group))
+            || has::<Null, N>(extremes::<Null, N>(group))
     }
 }
 
-impl<const N: usize> InGroups<N> for High {
+impl<const N: usize> InGroups<N> for NonAscii {
     #[inline(always)]
     fn may_have(group: &[[u8; N]; 4]) -> bool
         requires { N ≤ LANES }
-        ensures { Any (AnyIn is_high) group.now → IsTrue result }
+        ensures { Any (AnyIn is_non_ascii) group.now → IsTrue result }
     {
-        has::<High, N>(extremes::<High, N>(group))
+        has::<NonAscii, N>(extremes::<NonAscii, N>(group))
     }
 }
 
-impl InAllGroups for Four {}
+impl InAllGroups for FourByteLead {}
 
-impl InAllGroups for Either<Null, Four> {}
+impl InAllGroups for Either<Null, FourByteLead> {}
 
 /// Returns whether some byte of the chunks is in the class. A short value has no chunk of most
 /// widths.
@@ -106,19 +109,19 @@ trait Extreme<const N: usize>: InVectors<N> {
             → AnyIn Self.class result };
 }
 
-impl<const N: usize> Extreme<N> for Lead {
+impl<const N: usize> Extreme<N> for AtLeastF0 {
     #[inline(always)]
     fn extreme(a: Simd<u8, N>, b: Simd<u8, N>) -> Simd<u8, N>
-        ensures { (AnyIn is_lead a.entry ⊎ AnyIn is_lead b.entry) → AnyIn is_lead result }
+        ensures { (AnyIn is_at_least_f0 a.entry ⊎ AnyIn is_at_least_f0 b.entry) → AnyIn is_at_least_f0 result }
     {
         a.simd_max(b)
     }
 }
 
-impl<const N: usize> Extreme<N> for High {
+impl<const N: usize> Extreme<N> for NonAscii {
     #[inline(always)]
     fn extreme(a: Simd<u8, N>, b: Simd<u8, N>) -> Simd<u8, N>
-        ensures { (AnyIn is_high a.entry ⊎ AnyIn is_high b.entry) → AnyIn is_high result }
+        ensures { (AnyIn is_non_ascii a.entry ⊎ AnyIn is_non_ascii b.entry) → AnyIn is_non_ascii result }
     {
         a.simd_max(b)
     }

@@ -6,7 +6,7 @@ ghost use Rattle.std.specs.Prelude.{◌≡◌, ◌≤◌, ◌<◌, ◌↔◌, Is
 ghost use Rattle.cesu8_text.specs.Class.{is_four, is_null_four, IsFour, IsNullFour};
 ghost use Rattle.cesu8_bytes.specs.Kernels.{AnyIn, MayTest, Finds};
 
-use super::class::{Either, Four, LANES, Null};
+use super::class::{Either, FourByteLead, LANES, Null};
 use super::fallback;
 use super::groups::{InAllGroups, InGroups, any_in_chunks};
 
@@ -47,7 +47,7 @@ fn lanes_four<F: Fn(&[u8]) -> bool>(value: &[u8], fallback: F) -> bool
     ensures { Finds (λ len. len ≡ 1) F.Fn fallback is_four
         → IsTrue result ↔ AnyIn is_four value.now }
 {
-    any_in::<Four, F>(value, fallback)
+    any_in::<FourByteLead, F>(value, fallback)
 }
 
 /// Returns whether some byte is 00, or F0 to F7 (hexadecimal), where the fallback tests a single byte
@@ -58,7 +58,7 @@ fn lanes_null_four<F: Fn(&[u8]) -> bool>(value: &[u8], fallback: F) -> bool
     ensures { Finds (λ len. len ≡ 1) F.Fn fallback is_null_four
         → IsTrue result ↔ AnyIn is_null_four value.now }
 {
-    any_in::<Either<Null, Four>, F>(value, fallback)
+    any_in::<Either<Null, FourByteLead>, F>(value, fallback)
 }
 
 /// Returns whether some byte is in the class. The vectors of each width test what the wider ones

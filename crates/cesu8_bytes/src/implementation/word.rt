@@ -66,30 +66,30 @@ where
         return true;
     }
     let last = value.len() - 8;
-    let mut position = 8;
-    while position < last {
-        if test(word_at(value, position)) {
+    let mut offset = 8;
+    while offset < last {
+        if test(word_at(value, offset)) {
             return true;
         }
-        position += 8;
+        offset += 8;
     }
     test(word_at(value, last))
 }
 
-/// Returns the eight bytes at a position as a word, the first one lowest.
-fn word_at(value: &[u8], position: usize) -> u64
-    requires { position + 8 ≤ length value.now }
-    ensures { to_le_bytes w64 result ≡ slice_range value.now position (position + 8) }
+/// Returns the eight bytes at an offset as a word, the first one lowest.
+fn word_at(value: &[u8], offset: usize) -> u64
+    requires { offset + 8 ≤ length value.now }
+    ensures { to_le_bytes w64 result ≡ slice_range value.now offset (offset + 8) }
 {
     u64::from_le_bytes([
-        value[position],
-        value[position + 1],
-        value[position + 2],
-        value[position + 3],
-        value[position + 4],
-        value[position + 5],
-        value[position + 6],
-        value[position + 7],
+        value[offset],
+        value[offset + 1],
+        value[offset + 2],
+        value[offset + 3],
+        value[offset + 4],
+        value[offset + 5],
+        value[offset + 6],
+        value[offset + 7],
     ])
 }
 
@@ -123,7 +123,7 @@ mod tests {
     /// The words are those of the first eight bytes, of each eight that follow, and of the last.
     #[test]
     fn tests_each_word(rt: HostRuntime) {
-        // Each byte is its own position.
+        // Each byte is its own index.
         let bytes: [u8; 25] = [
             0, 1, 2, 3, 4, 5, 6, 7, 8, 9, 10, 11, 12, 13, 14, 15, 16, 17, 18, 19, 20, 21, 22, 23,
             24,

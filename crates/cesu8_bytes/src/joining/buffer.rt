@@ -10,9 +10,9 @@ pub const MOST_JOINED: usize = 1024;
 pub const MUST_FOLLOW: usize = 48;
 
 /// The length of a buffer for joined bytes, and for the last block that is copied.
-pub const ROOM_LEN: usize = MOST_JOINED + 2 * BLOCK;
+pub const BUFFER_LEN: usize = MOST_JOINED + 2 * BLOCK;
 
-pub type Room = [u8; ROOM_LEN];
+pub type Buffer = [u8; BUFFER_LEN];
 
 /// How many bytes were read, and how many were written for them.
 #[derive(Clone, Copy)]

@@ -4,7 +4,7 @@ ghost use Rattle.std.specs.Prelude.{◌≡◌, ◌+◌, ◌*◌, ◌<◌, ◌≤
 ghost use Rattle.cesu8_text.specs.Encoding.{Flavor as AnyFlavor};
 ghost use Rattle.cesu8_bytes.specs.Joining.{IsJoinedAfter, KeepsJoined, HasPair, AreJoinedDigits, second_third_fifth_sixth, word_of};
 
-use super::buffer::{MOST_JOINED, MUST_FOLLOW, Progress, ROOM_LEN, Room};
+use super::buffer::{BUFFER_LEN, Buffer, MOST_JOINED, MUST_FOLLOW, Progress};
 use std::simd::prelude::*;
 
 /// How many bytes a surrogate pair has.
@@ -25,23 +25,23 @@ pub const PAIR_BITS: u64 = 0x0000_80B0_ED80_A0ED;
 /// The marks of three surrogate pairs in a row.
 pub const PAIR_MARKS: u32 = 0x0000_1041;
 
-/// Joins surrogate pairs in a row. Nothing is copied between them, and the position of the next one
+/// Joins surrogate pairs in a row. Nothing is copied between them, and the offset of the next one
 /// does not depend on what was read.
 #[inline(always)]
-pub fn join_pairs<'a>(start: Progress<'a>, stop: usize, room: &mut Room) -> Progress<'a>
+pub fn join_pairs<'a>(start: Progress<'a>, stop: usize, buffer: &mut Buffer) -> Progress<'a>
     requires stop { (stop < length start.rest.now) × (MUST_FOLLOW ≤ stop) }
     requires room { start.written + length start.rest.now ≤ MOST_JOINED + stop }
     ensures after { IsJoinedAfter start.entry.rest.now result.rest.now
         start.entry.written result.written stop }
     ensures joined { (f : AnyFlavor) → KeepsJoined f
-        start.entry.rest.now (take start.entry.written room.old)
-        result.rest.now (take result.written room.new) }
+        start.entry.rest.now (take start.entry.written buffer.old)
+        result.rest.now (take result.written buffer.new) }
 {
     let bytes = start.rest;
     let mut read = 0;
     let mut written = start.written;
     while bytes.len() - read > stop && is_pair(&bytes[read..]) {
-        join_pair(&bytes[read..], written, room);
+        join_pair(&bytes[read..], written, buffer);
         read += PAIR;
         written += PAIR_UTF8;
     }
@@ -53,15 +53,15 @@ pub fn join_pairs<'a>(start: Progress<'a>, stop: usize, room: &mut Room) -> Prog
 
 /// Joins the surrogate pair that begins the bytes.
 #[inline(always)]
-fn join_pair(bytes: &[u8], written: usize, room: &mut Room)
+fn join_pair(bytes: &[u8], written: usize, buffer: &mut Buffer)
     requires pair { HasPair bytes.now }
     requires long { PAIR_READ ≤ length bytes.now }
-    requires room { written + PAIR_UTF8 ≤ ROOM_LEN }
-    ensures { (f : AnyFlavor) → KeepsJoined f bytes.now (take written room.old)
-        (drop PAIR bytes.now) (take (written + PAIR_UTF8) room.new) }
+    requires room { written + PAIR_UTF8 ≤ BUFFER_LEN }
+    ensures { (f : AnyFlavor) → KeepsJoined f bytes.now (take written buffer.old)
+        (drop PAIR bytes.now) (take (written + PAIR_UTF8) buffer.new) }
 {
     let four = utf8_of_pair(bytes);
-    room[written..written + PAIR_UTF8].copy_from_slice(&four);
+    buffer[written..written + PAIR_UTF8].copy_from_slice(&four);
 }
 
 /// Returns whether a surrogate pair begins the bytes.
@@ -80,7 +80,7 @@ pub fn pair_bits(bytes: &[u8]) -> u64
     requires { PAIR_READ ≤ length bytes.now }
     ensures { result ≡ PAIR_BITS ↔ HasPair bytes.now }
 {
-    front_word(bytes) & 0x0000_C0F0_FFC0_F0FF
+    first_word(bytes) & 0x0000_C0F0_FFC0_F0FF
 }
 
 /// Returns the UTF-8 of the character whose surrogate pair begins the bytes.
@@ -90,7 +90,7 @@ pub fn utf8_of_pair(bytes: &[u8]) -> [u8; PAIR_UTF8]
     ensures { AreJoinedDigits (second_third_fifth_sixth bytes.now) result }
 {
     // The plane offset: one more than the last four bits of the second byte.
-    let word = front_word(bytes).wrapping_add(0x100);
+    let word = first_word(bytes).wrapping_add(0x100);
     // Digits that move by the same number of bits move together.
     let utf8 = 0x8080_80F0
         + (word >> 10 & 0x0000_0F07)
@@ -101,7 +101,7 @@ pub fn utf8_of_pair(bytes: &[u8]) -> [u8; PAIR_UTF8]
 
 /// Returns the first eight bytes as one word, the first in its lowest byte.
 #[inline(always)]
-fn front_word(bytes: &[u8]) -> u64
+fn first_word(bytes: &[u8]) -> u64
     requires { PAIR_READ ≤ length bytes.now }
     ensures { result ≡ word_of (slice_index bytes.now 0) (slice_index bytes.now 1)
         (slice_index bytes.now 2) (slice_index bytes.now 3) (slice_index bytes.now 4)

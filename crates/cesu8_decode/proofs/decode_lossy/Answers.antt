@@ -3,7 +3,7 @@ use Rattle.std.specs.Str.{chars}
 use Rattle.std.specs.String.{string_bytes}
 use Rattle.std.proofs.lemmas.Result.{IfOk-weaker}
 use Rattle.cesu8_bytes.specs.declared.options.Strictness.TheVariants.{Lossy}
-use Rattle.cesu8_decode.proofs.pieces.ReadPieces.{decoded_text, decoded_length}
+use Rattle.cesu8_decode.proofs.chunks.ReadChunks.{decoded_text, decoded_length}
 use Rattle.cesu8_decode.proofs.decode_lossy.Goals as goal
 
 pub returns-clause-text : goal.returns-clause-text

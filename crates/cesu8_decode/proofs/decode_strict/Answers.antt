@@ -3,7 +3,7 @@ use Rattle.std.specs.Str.{chars}
 use Rattle.std.specs.String.{string_bytes}
 use Rattle.cesu8_text.specs.Reading.{IsStrictReading}
 use Rattle.cesu8_bytes.specs.declared.options.Strictness.TheVariants.{Strict}
-use Rattle.cesu8_decode.proofs.pieces.ReadPieces.{decoded_text, where_mapped}
+use Rattle.cesu8_decode.proofs.chunks.ReadChunks.{decoded_text, where_mapped}
 use Rattle.cesu8_decode.proofs.decode_strict.Goals as goal
 
 pub returns-clause-text : goal.returns-clause-text

@@ -1,4 +1,4 @@
--- What the decoder's vectors say of the bytes of a block, by their places.
+-- What the decoder's vectors say of the bytes of a block, by their offsets.
 use Rattle.std.proofs.Common.{◌≡◌, ℕ, zero, suc, ◌+◌, ◌-◌, ◌*◌, ◌/◌, ◌%◌, ◌^◌, ◌<◌, ◌≤◌, true, false, not, eqb, leb, List, [], ◌∷◌, ◌++◌, refl, sym, ap, ◌∙◌, subst, arith, cond, ⊎_elim, add-zero, get_or, map, take, length, replicate, bit_and, bit_or, bit_xor, Fits, w8}
 use Rattle.std.specs.List.{flat_map, range_with_len}
 use Rattle.std.proofs.lemmas.Nat.{and_le_l}
@@ -10,16 +10,16 @@ use lib.Lanes.{zip2, sel_l, pick_l, mask_l, top, chunk, Each1}
 use Rattle.cesu8_text.specs.Encoding.{Flavor}
 use Rattle.cesu8_text.specs.Class.{is_null}
 use Rattle.cesu8_bytes.specs.Kernels.{mask}
-use Rattle.cesu8_decode.specs.DecodedPlaces.{is_damaged_at, decoded_at, decoded}
-use Rattle.cesu8_decode.specs.DecodedLanes.{start_code, AreFiveCodes, AreCodesNear, is_high, goes_at, byte_at, written, written_lanes}
+use Rattle.cesu8_decode.specs.DecodedOffsets.{is_ill_formed_at, decoded_at, decoded}
+use Rattle.cesu8_decode.specs.DecodedLanes.{start_kind, AreFiveKinds, AreKindsNear, is_high, goes_at, byte_at, written, written_lanes}
 use Rattle.cesu8_decode.specs.declared.parts.TheConstants.{FIRST_BY_SECOND, SECOND_BY_SECOND, THIRD_BY_THIRD}
 use Rattle.cesu8_bytes.proofs.vectors.Loads.{loaded}
 use Rattle.cesu8_decode.proofs.decoder.DecodedParts.{decoded_is_written}
-use Rattle.cesu8_decode.proofs.decoder.StartCodes.{start_at}
-use Rattle.cesu8_decode.proofs.decoder.LaneTests.{gone_lane, lane_goes, covered_lane, damaged_lane, lane_damaged, mask_fits, byte_lane, lane_byte, joined_lane, byte_stays}
-use Rattle.cesu8_decode.proofs.decoder.FirstLanes.{behind_lanes, before_lanes, gone_behind, undamaged_behind, written_first, no_lane, on_range}
+use Rattle.cesu8_decode.proofs.decoder.StartKinds.{start_at}
+use Rattle.cesu8_decode.proofs.decoder.LaneTests.{gone_lane, lane_goes, covered_lane, ill_formed_lane, lane_ill_formed, mask_fits, byte_lane, lane_byte, joined_lane, byte_stays}
+use Rattle.cesu8_decode.proofs.decoder.FirstLanes.{behind_lanes, before_lanes, gone_behind, well_formed_behind, written_first, no_lane, on_range}
 
--- ---- codes near a block
+-- ---- kinds near a block
 
 -- Maps over two ranges agree where their lanes do.
 map_ranges : {X : Type 0} (g h : ℕ → X) (a b n : ℕ) → ((k : ℕ) → k < n → g (a + k) ≡ h (b + k)) →
@@ -34,27 +34,27 @@ map_ranges g h a b (suc n) same =
     λ k. first k ∷ rest k
 
 module _ (f : Flavor) (window : List ℕ) (at : ℕ) (before here : List ℕ) (long : length before ≡ 32) (long_here : length here ≡ 32)
-    (before_are : AreFiveCodes f window at before 27) (here_are : here ≡ map (start_code f window) (range_with_len (at + 5) 32)) where
-  code_at : (j : ℕ) → j < 37 → get_or (before ++ here) (27 + j) 0 ≡ start_code f window (at + j)
-  code_at j small =
+    (before_are : AreFiveKinds f window at before 27) (here_are : here ≡ map (start_kind f window) (range_with_len (at + 5) 32)) where
+  kind_at : (j : ℕ) → j < 37 → get_or (before ++ here) (27 + j) 0 ≡ start_kind f window (at + j)
+  kind_at j small =
       ⊎_elim (λ (early : j < 5). get_or_append_left before here 0 (27 + j) (omega arith) ∙ before_are j early)
       (λ (late : 5 ≤ j).
-      let place = 27 + j - 32 in
-      let there : at + 5 + place ≡ at + j = omega arith in
+      let offset = 27 + j - 32 in
+      let there : at + 5 + offset ≡ at + j = omega arith in
       get_or-append_right before here 32 (27 + j) 0 long (omega arith)
-      ∙ ap (λ l. get_or l place 0) here_are
-      ∙ get_or-map-range_with_len (start_code f window) (at + 5) 32 place (at + j) 0 (omega arith) there)
+      ∙ ap (λ l. get_or l offset 0) here_are
+      ∙ get_or-map-range_with_len (start_kind f window) (at + 5) 32 offset (at + j) 0 (omega arith) there)
       (cases_lt j 5)
 
-  picked_from : (d : ℕ) → d < 6 → pick_l 0 (before ++ here) (range_with_len (27 + d) 32) ≡ map (λ i. start_code f window (i + d)) (range_with_len at 32)
+  picked_from : (d : ℕ) → d < 6 → pick_l 0 (before ++ here) (range_with_len (27 + d) 32) ≡ map (λ i. start_kind f window (i + d)) (range_with_len at 32)
   picked_from d small =
-      map_ranges (λ k. get_or (before ++ here) k 0) (λ i. start_code f window (i + d)) (27 + d) at 32 (λ k inside.
-      let place : 27 + d + k ≡ 27 + (d + k) = omega arith in
+      map_ranges (λ k. get_or (before ++ here) k 0) (λ i. start_kind f window (i + d)) (27 + d) at 32 (λ k inside.
+      let offset : 27 + d + k ≡ 27 + (d + k) = omega arith in
       let there : at + (d + k) ≡ at + k + d = omega arith in
-      ap (λ p. get_or (before ++ here) p 0) place ∙ code_at (d + k) (omega arith) ∙ ap (start_code f window) there)
+      ap (λ p. get_or (before ++ here) p 0) offset ∙ kind_at (d + k) (omega arith) ∙ ap (start_kind f window) there)
 
-  -- Six vectors of two have the codes near a block.
-  pub near_are : AreCodesNear f window at (pick_l 0 (before ++ here) (range_with_len 27 32) ∷ pick_l 0 (before ++ here) (range_with_len 28 32)
+  -- Six vectors of two have the kinds near a block.
+  pub near_are : AreKindsNear f window at (pick_l 0 (before ++ here) (range_with_len 27 32) ∷ pick_l 0 (before ++ here) (range_with_len 28 32)
       ∷ pick_l 0 (before ++ here) (range_with_len 29 32) ∷ pick_l 0 (before ++ here) (range_with_len 30 32)
       ∷ pick_l 0 (before ++ here) (range_with_len 31 32) ∷ here ∷ [])
   near_are zero small = picked_from 0 small
@@ -63,39 +63,39 @@ module _ (f : Flavor) (window : List ℕ) (at : ℕ) (before here : List ℕ) (l
   near_are (suc (suc (suc zero))) small = picked_from 3 small
   near_are (suc (suc (suc (suc zero)))) small = picked_from 4 small
   near_are (suc (suc (suc (suc (suc zero))))) small =
-      here_are ∙ map_ranges (start_code f window) (λ i. start_code f window (i + 5)) (at + 5) at 32 (λ k inside.
+      here_are ∙ map_ranges (start_kind f window) (λ i. start_kind f window (i + 5)) (at + 5) at 32 (λ k inside.
       let there : at + 5 + k ≡ at + k + 5 = omega arith in
-      ap (start_code f window) there)
+      ap (start_kind f window) there)
   near_are (suc (suc (suc (suc (suc (suc d)))))) small = absurd (omega arith)
 
--- ---- the lanes of a block, by places
+-- ---- the lanes of a block, by offsets
 
 module _ (f : Flavor) (window : List ℕ) where
-  abbrev code : ℕ → ℕ
-  code i = start_code f window i
+  abbrev kind : ℕ → ℕ
+  kind i = start_kind f window i
 
   abbrev gone_of : ℕ → ℕ
-  gone_of i = gone_lane (code (i + 5)) (code (i + 4))
+  gone_of i = gone_lane (kind (i + 5)) (kind (i + 4))
 
-  abbrev damaged_of : ℕ → ℕ
-  damaged_of i =
-      damaged_lane f (covered_lane (code (i + 5)) (code (i + 4)) (code (i + 3)) (code (i + 2)) (code (i + 1)) (code i)) (get_or window (i + 5) 0)
+  abbrev ill_formed_of : ℕ → ℕ
+  ill_formed_of i =
+      ill_formed_lane f (covered_lane (kind (i + 5)) (kind (i + 4)) (kind (i + 3)) (kind (i + 2)) (kind (i + 1)) (kind i)) (get_or window (i + 5) 0)
 
-  damaged_bytes : (places : List ℕ) → Each1 (λ x. x < 0x100) (map damaged_of places)
-  damaged_bytes [] = tt
-  damaged_bytes (i ∷ places) =
-      let covered = covered_lane (code (i + 5)) (code (i + 4)) (code (i + 3)) (code (i + 2)) (code (i + 1)) (code i) in
+  ill_formed_bytes : (offsets : List ℕ) → Each1 (λ x. x < 0x100) (map ill_formed_of offsets)
+  ill_formed_bytes [] = tt
+  ill_formed_bytes (i ∷ offsets) =
+      let covered = covered_lane (kind (i + 5)) (kind (i + 4)) (kind (i + 3)) (kind (i + 2)) (kind (i + 1)) (kind i) in
       let b = get_or window (i + 5) 0 in
-      let first : damaged_of i < 0x100 =
+      let first : ill_formed_of i < 0x100 =
       omega (arith, and_le_l (mask (eqb covered 0)) (bit_or b (mask (is_null f b))), mask_fits (eqb covered 0)) in
-      (first, damaged_bytes places)
+      (first, ill_formed_bytes offsets)
 
-  module _ (codes : List (List ℕ)) (at : ℕ) (near : AreCodesNear f window at codes) where
+  module _ (kinds : List (List ℕ)) (at : ℕ) (near : AreKindsNear f window at kinds) where
     abbrev near_by : ℕ → List ℕ
-    near_by d = get_or codes d []
+    near_by d = get_or kinds d []
 
-    code_here : near_by 0 ≡ map (λ i. code i) (range_with_len at 32)
-    code_here = near 0 (omega arith) ∙ on_range _ _ at 32 (λ i low inside. ap code (add-zero i))
+    kind_here : near_by 0 ≡ map (λ i. kind i) (range_with_len at 32)
+    kind_here = near 0 (omega arith) ∙ on_range _ _ at 32 (λ i low inside. ap kind (add-zero i))
 
     first_lanes : {X : Type 0} (g : ℕ → X) (count : ℕ) → count ≤ 32 → (lanes : List X) → lanes ≡ map g (range_with_len at 32) →
         take count lanes ≡ map g (range_with_len at count)
@@ -119,8 +119,8 @@ module _ (f : Flavor) (window : List ℕ) where
       byte_behind : (d : ℕ) → d ≤ 5 → chunk (at + d) 32 window ≡ map (λ i. get_or window (i + d) 0) (range_with_len at 32)
       byte_behind d small = loaded window at d 32 (omega arith)
 
-      -- which are damaged,
-      pub first_damaged : (count : ℕ) → count ≤ 32 → ((i : ℕ) → Fits w8 (get_or window i 0)) → (alone nulls marks : List ℕ) →
+      -- which are ill-formed,
+      pub first_ill_formed : (count : ℕ) → count ≤ 32 → ((i : ℕ) → Fits w8 (get_or window i 0)) → (alone nulls marks : List ℕ) →
           alone ≡ map (λ lane. mask (eqb lane 0))
           (zip2 bit_or
           (zip2 bit_or (zip2 bit_or (near_by 5) (near_by 4)) (zip2 bit_and (near_by 3) (replicate 32 0x3C)))
@@ -129,10 +129,10 @@ module _ (f : Flavor) (window : List ℕ) where
           (zip2 bit_and (near_by 0) (replicate 32 0x20)))) →
           nulls ≡ map (λ b. mask (is_null f b)) (chunk (at + 5) 32 window) → marks ≡ behind_lanes count 0 32 →
           map is_high (zip2 bit_and (zip2 bit_and alone (zip2 bit_or (chunk (at + 5) 32 window) nulls)) (zip2 bit_xor marks (replicate 32 0xFF)))
-          ≡ map (is_damaged_at f window) (range_with_len at count) ++ replicate (32 - count) false
-      first_damaged count small fits alone nulls marks alone_is nulls_are marks_are =
+          ≡ map (is_ill_formed_at f window) (range_with_len at count) ++ replicate (32 - count) false
+      first_ill_formed count small fits alone nulls marks alone_is nulls_are marks_are =
           let lanes = zip2 bit_and alone (zip2 bit_or (chunk (at + 5) 32 window) nulls) in
-          let are : lanes ≡ map damaged_of (range_with_len at 32) =
+          let are : lanes ≡ map ill_formed_of (range_with_len at 32) =
           rw (
             alone_is,
             nulls_are,
@@ -141,17 +141,17 @@ module _ (f : Flavor) (window : List ℕ) where
             near 3 (omega arith),
             near 2 (omega arith),
             near 1 (omega arith),
-            code_here,
+            kind_here,
             byte_behind 5 (omega arith),
           ) refl in
-          let long = ap length are ∙ length-map-range_with_len damaged_of at 32 in
+          let long = ap length are ∙ length-map-range_with_len ill_formed_of at 32 in
           ap (λ m. map is_high (zip2 bit_and lanes (zip2 bit_xor m (replicate 32 0xFF)))) marks_are
           ∙ ap (λ n. map is_high (zip2 bit_and lanes (before_lanes count 0 n))) (sym long)
-          ∙ undamaged_behind lanes count 0 count (32 - count)
-          (subst (Each1 (λ x. x < 0x100)) (sym are) (damaged_bytes (range_with_len at 32))) (omega arith) (omega arith)
+          ∙ well_formed_behind lanes count 0 count (32 - count)
+          (subst (Each1 (λ x. x < 0x100)) (sym are) (ill_formed_bytes (range_with_len at 32))) (omega arith) (omega arith)
           ∙ ap (λ l. l ++ replicate (32 - count) false) (sym (take-map is_high count lanes)
-          ∙ first_lanes (is_damaged_at f window) count small (map is_high lanes) (ap (map is_high) are ∙ map-map is_high damaged_of (range_with_len at 32)
-          ∙ on_range _ _ at 32 (λ i low inside. lane_damaged f window i (fits (i + 5)).fits)))
+          ∙ first_lanes (is_ill_formed_at f window) count small (map is_high lanes) (ap (map is_high) are ∙ map-map is_high ill_formed_of (range_with_len at 32)
+          ∙ on_range _ _ at 32 (λ i low inside. lane_ill_formed f window i (fits (i + 5)).fits)))
 
       -- and what is written: the bytes where no pair and no null is near,
       pub first_kept : mask_l (map is_high (zip2 bit_or (near_by 4) (zip2 (λ a b. a * 2 ^ b % 2 ^ 8)
@@ -160,7 +160,7 @@ module _ (f : Flavor) (window : List ℕ) where
       first_kept none count small =
           first_lanes (byte_at f window) count small _ (byte_behind 5 (omega arith)
           ∙ on_range _ (byte_at f window) at 32 (λ i low inside. sym (byte_stays f window i
-          (no_lane (λ i. is_high (joined_lane (code (i + 4)) (code (i + 3)) (code (i + 2)) (code (i + 1)))) at 32
+          (no_lane (λ i. is_high (joined_lane (kind (i + 4)) (kind (i + 3)) (kind (i + 2)) (kind (i + 1)))) at 32
           (rw (near 4 (omega arith), near 3 (omega arith), near 2 (omega arith), near 1 (omega arith)) at none) i low inside))))
 
       abbrev pub chosen_lanes : ℕ → List ℕ → List ℕ → List ℕ
@@ -192,28 +192,28 @@ module _ (f : Flavor) (window : List ℕ) where
             byte_behind 5 (omega arith),
             byte_behind 4 (omega arith),
             byte_behind 3 (omega arith),
-          ) refl ∙ on_range (λ i. byte_lane (code (i + 4)) (code (i + 3)) (code (i + 2)) (code (i + 1)) (get_or window (i + 3) 0)
+          ) refl ∙ on_range (λ i. byte_lane (kind (i + 4)) (kind (i + 3)) (kind (i + 2)) (kind (i + 1)) (get_or window (i + 3) 0)
           (get_or window (i + 4) 0) (get_or window (i + 5) 0)) (byte_at f window) at 32 (λ i low inside. lane_byte f window i))
 
 -- ---- what is written for a block
 
-written_places : (f : Flavor) (window : List ℕ) (places : List ℕ) →
-    written (map (goes_at f window) places) (map (is_damaged_at f window) places) (map (byte_at f window) places) ≡ flat_map (decoded_at f window) places
-written_places f window [] = refl
-written_places f window (i ∷ places) = λ k. sym (decoded_is_written f window i) k ++ written_places f window places k
+written_offsets : (f : Flavor) (window : List ℕ) (offsets : List ℕ) →
+    written (map (goes_at f window) offsets) (map (is_ill_formed_at f window) offsets) (map (byte_at f window) offsets) ≡ flat_map (decoded_at f window) offsets
+written_offsets f window [] = refl
+written_offsets f window (i ∷ offsets) = λ k. sym (decoded_is_written f window i) k ++ written_offsets f window offsets k
 
 -- What is written for the lanes is what the first bytes become.
-pub block_written : (f : Flavor) (window : List ℕ) (at count m n : ℕ) (gone damaged bytes : List ℕ) →
+pub block_written : (f : Flavor) (window : List ℕ) (at count m n : ℕ) (gone ill_formed bytes : List ℕ) →
     map is_high gone ≡ map (goes_at f window) (range_with_len at count) ++ replicate m true →
-    map is_high damaged ≡ map (is_damaged_at f window) (range_with_len at count) ++ replicate n false →
+    map is_high ill_formed ≡ map (is_ill_formed_at f window) (range_with_len at count) ++ replicate n false →
     take count bytes ≡ map (byte_at f window) (range_with_len at count) →
-    written_lanes gone damaged bytes ≡ decoded f window at count
+    written_lanes gone ill_formed bytes ≡ decoded f window at count
 unfolding decoded
-block_written f window at count m n gone damaged bytes gone_are damaged_are bytes_are =
+block_written f window at count m n gone ill_formed bytes gone_are ill_formed_are bytes_are =
     let goes = map (goes_at f window) (range_with_len at count) in
-    let damage = map (is_damaged_at f window) (range_with_len at count) in
-    (λ k. written (gone_are k) (damaged_are k) bytes)
-    ∙ written_first goes damage m n count bytes
-    (length-map-range_with_len (goes_at f window) at count) (length-map-range_with_len (is_damaged_at f window) at count)
-    ∙ ap (written goes damage) bytes_are
-    ∙ written_places f window (range_with_len at count)
+    let ill_formed_here = map (is_ill_formed_at f window) (range_with_len at count) in
+    (λ k. written (gone_are k) (ill_formed_are k) bytes)
+    ∙ written_first goes ill_formed_here m n count bytes
+    (length-map-range_with_len (goes_at f window) at count) (length-map-range_with_len (is_ill_formed_at f window) at count)
+    ∙ ap (written goes ill_formed_here) bytes_are
+    ∙ written_offsets f window (range_with_len at count)

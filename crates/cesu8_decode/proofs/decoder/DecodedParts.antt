@@ -1,13 +1,13 @@
--- What each byte becomes, told apart: whether it goes, whether it is damaged, and the byte that is written.
+-- What each byte becomes, told apart: whether it goes, whether it is ill-formed, and the byte that is written.
 use Rattle.std.proofs.Common.{◌≡◌, ℕ, zero, suc, ◌≢◌, ◌+◌, ◌-◌, ◌<◌, ◌≤◌, ⊎_elim, Bool, true, false, true≢false, ◌&&◌, ◌||◌, not, eqb, leb, ltb, List, [], ◌∷◌, refl, sym, ap, ◌∙◌, arith, cond, get_or}
 use Rattle.std.proofs.lemmas.Bool.{and_parts, eqb-true, ltb-true, ne_eqb, or_cases}
 use Rattle.std.proofs.lemmas.Bool.Decides.{nat_tests}
 use Rattle.cesu8_text.specs.Encoding.{Flavor}
-use Rattle.cesu8_decode.specs.DecodedPlaces.{front_width_by, width_at, one_at, two_at, three_at, pair_at, continues, decoded_byte, decoded_at, is_damaged_at}
+use Rattle.cesu8_decode.specs.DecodedOffsets.{first_width_by, width_at, one_at, two_at, three_at, pair_at, continues, decoded_byte, decoded_at, is_ill_formed_at}
 use Rattle.cesu8_bytes.specs.Joining.{null_at}
 use Rattle.cesu8_decode.specs.DecodedLanes.{goes_at, byte_at, written_for}
 
--- ---- one place
+-- ---- one offset
 
 pair_or_less : (one null two three pair : Bool) →
     ◌≡◌ {A = ℕ} (cond one 1 (cond null 2 (cond two 2 (cond three 3 (cond pair 6 0))))) 6 → pair ≡ true
@@ -21,7 +21,7 @@ pair_or_less false false false false false six = absurd (omega arith)
 -- Where a pair stands, its last four bytes are no C0.
 pair_bytes : (f : Flavor) (window : List ℕ) (j : ℕ) → width_at f window j ≡ 6 →
     (get_or window (j + 2) 0 < 0xC0) × (get_or window (j + 3) 0 ≡ 0xED) × (get_or window (j + 4) 0 < 0xC0) × (get_or window (j + 5) 0 < 0xC0)
-unfolding front_width_by
+unfolding first_width_by
 pair_bytes f window j six =
     let w : ℕ → ℕ = λ k. get_or window k 0 in
     let pair = pair_or_less (one_at f (w j)) (null_at f (w j) (w (j + 1))) (two_at (w j) (w (j + 1))) (three_at (w j) (w (j + 1)) (w (j + 2)))
@@ -54,11 +54,11 @@ no_null_in_pair : (f : Flavor) (window : List ℕ) (j k : ℕ) (two : Bool) → 
     (two && eqb (get_or window k 0) 0xC0) ≡ false
 no_null_in_pair f window j k false six low high = refl
 no_null_in_pair f window j k true six low high =
-    let place : j + (k - j) ≡ k = omega arith in
+    let offset : j + (k - j) ≡ k = omega arith in
     ne_eqb (get_or window k 0) 0xC0 (λ same. not_null f window j (k - j) (eqb-true (width_at f window j) 6 six) (omega arith) (omega arith)
-    (ap (λ p. get_or window p 0) place ∙ same))
+    (ap (λ p. get_or window p 0) offset ∙ same))
 
--- by the tests: of pairs at six places, of nulls at two, and whether a shorter character covers the byte
+-- by the tests: of pairs at six offsets, of nulls at two, and whether a shorter character covers the byte
 by_tests : (s0 s1 s2 s3 s4 s5 n0 n1 kept : Bool) (first second third b : ℕ) →
     ((s0 || (s1 || (s2 || (n0 || n1)))) ≡ true → kept ≡ true) → ((s2 || (s3 || (s4 || s5))) ≡ true → n0 ≡ false) → (s5 ≡ true → n1 ≡ false) →
     ◌≡◌ {A = List ℕ} (cond s0 [] (cond s1 [] (cond s2 (first ∷ []) (cond s3 (second ∷ []) (cond s4 (third ∷ []) (cond s5 (b ∷ [])
@@ -100,7 +100,7 @@ keeps_byte w0 w1 w2 before b = grind (arith, nat_tests)
 
 -- A byte becomes what is written for it.
 pub decoded_is_written : (f : Flavor) (window : List ℕ) (i : ℕ) →
-    decoded_at f window i ≡ written_for (goes_at f window i) (is_damaged_at f window i) (byte_at f window i)
+    decoded_at f window i ≡ written_for (goes_at f window i) (is_ill_formed_at f window i) (byte_at f window i)
 unfolding decoded_byte
 decoded_is_written f window i =
     let w = width_at f window in

@@ -1,4 +1,4 @@
--- How eight bytes, none of which is damaged, are packed by a shuffle, and 32 by four of these.
+-- How eight bytes, none of which is ill-formed, are packed by a shuffle, and 32 by four of these.
 use Rattle.std.proofs.Common.{◌≡◌, ℕ, ◌+◌, ◌*◌, ◌/◌, ◌%◌, ◌^◌, ◌-◌, ◌<◌, ◌≤◌, Bool, true, false, cond, List, [], ◌∷◌, ◌++◌, map, length, take, drop, get_or, replicate, refl, sym, ap, ◌∙◌, arith, bit_and}
 use Rattle.std.proofs.lemmas.List.{length-map, take-map, drop-map, drop-replicate, take-replicate}
 use Rattle.std.proofs.lemmas.Simd.{length-chunk, pick_l-range_with_len}
@@ -43,18 +43,18 @@ none_high (d ∷ lanes) none =
 chunk-map : (p : ℕ → Bool) (a n : ℕ) (xs : List ℕ) → map p (chunk a n xs) ≡ chunk a n (map p xs)
 chunk-map p a n xs = sym (take-map p n (drop a xs)) ∙ ap (take n) (sym (drop-map p a xs))
 
--- what stands behind x, with eight bytes written of which none is damaged
+-- what stands behind x, with eight bytes written of which none is ill-formed
 abbrev AddsEight : (x y lanes : List ℕ) → ℕ → Type 0
 AddsEight x y lanes set = (tests : List Bool) → length tests ≡ 8 → set ≡ mask_l tests → y ≡ x ++ written tests (replicate 8 false) lanes
 
-module _ (gone damaged bytes : List ℕ) (g : length gone ≡ 32) (d : length damaged ≡ 32) (b : length bytes ≡ 32)
-    (none : mask_l (map is_high damaged) ≡ 0) where
+module _ (gone ill_formed bytes : List ℕ) (g : length gone ≡ 32) (d : length ill_formed ≡ 32) (b : length bytes ≡ 32)
+    (none : mask_l (map is_high ill_formed) ≡ 0) where
   abbrev eight : ℕ → List ℕ
-  eight a = part gone damaged bytes a 8
+  eight a = part gone ill_formed bytes a 8
 
-  unharmed : (a : ℕ) → a + 8 ≤ 32 → map is_high (chunk a 8 damaged) ≡ replicate 8 false
+  unharmed : (a : ℕ) → a + 8 ≤ 32 → map is_high (chunk a 8 ill_formed) ≡ replicate 8 false
   unharmed a le =
-      chunk-map is_high a 8 damaged ∙ ap (chunk a 8) (none_high damaged none ∙ ap (λ n. replicate n false) d)
+      chunk-map is_high a 8 ill_formed ∙ ap (chunk a 8) (none_high ill_formed none ∙ ap (λ n. replicate n false) d)
       ∙ ap (take 8) (drop-replicate a 32 false) ∙ take-replicate 8 (32 - a) false (omega arith)
 
   adds : (x y lanes : List ℕ) (a set : ℕ) → a + 8 ≤ 32 → lanes ≡ chunk a 8 bytes → set ≡ mask_l (chunk a 8 (map is_high gone)) →
@@ -69,7 +69,7 @@ module _ (gone damaged bytes : List ℕ) (g : length gone ≡ 32) (d : length da
       v0 ≡ chunk 0 8 bytes → v1 ≡ chunk 8 8 bytes → v2 ≡ chunk 16 8 bytes → v3 ≡ chunk 24 8 bytes →
       AddsEight x0 x1 v0 (bit_and set 0xFF) → AddsEight x1 x2 v1 (bit_and (set / 2 ^ 8) 0xFF) →
       AddsEight x2 x3 v2 (bit_and (set / 2 ^ 16) 0xFF) → AddsEight x3 x4 v3 (bit_and (set / 2 ^ 24) 0xFF) →
-      x4 ≡ x0 ++ written_lanes gone damaged bytes
+      x4 ≡ x0 ++ written_lanes gone ill_formed bytes
   stored_whole x0 x1 x2 x3 x4 v0 v1 v2 v3 set is is0 is1 is2 is3 add0 add1 add2 add3 =
       let flags = map is_high gone in
       let row = λ (a : ℕ) (le : a + 8 ≤ 32). row_mask a flags set (omega (arith, length-map gone is_high)) is in
@@ -78,18 +78,18 @@ module _ (gone damaged bytes : List ℕ) (g : length gone ≡ 32) (d : length da
       (adds x1 x2 v1 8 _ (omega arith) is1 (row 8 (omega arith)) add1)
       (adds x2 x3 v2 16 _ (omega arith) is2 (row 16 (omega arith)) add2)
       (adds x3 x4 v3 24 _ (omega arith) is3 (row 24 (omega arith)) add3)
-      ∙ ap (λ l. x0 ++ l) (sym (in_four gone damaged bytes 32 g d b 8 refl))
+      ∙ ap (λ l. x0 ++ l) (sym (in_four gone ill_formed bytes 32 g d b 8 refl))
 
--- ---- nothing gone or damaged
+-- ---- nothing gone or ill-formed
 
--- Where no lane is gone or damaged, the bytes are written as they are.
-pub nothing_changes : (gone damaged bytes : List ℕ) → length gone ≡ length damaged → length gone ≡ length bytes →
-    mask_l (map is_high gone) ≡ 0 → mask_l (map is_high damaged) ≡ 0 → written_lanes gone damaged bytes ≡ bytes
-nothing_changes [] damaged [] e f none whole = refl
-nothing_changes [] damaged (b ∷ bytes) e f none whole = absurd (omega arith)
+-- Where no lane is gone or ill-formed, the bytes are written as they are.
+pub nothing_changes : (gone ill_formed bytes : List ℕ) → length gone ≡ length ill_formed → length gone ≡ length bytes →
+    mask_l (map is_high gone) ≡ 0 → mask_l (map is_high ill_formed) ≡ 0 → written_lanes gone ill_formed bytes ≡ bytes
+nothing_changes [] ill_formed [] e f none whole = refl
+nothing_changes [] ill_formed (b ∷ bytes) e f none whole = absurd (omega arith)
 nothing_changes (g ∷ gone) [] bytes e f none whole = absurd (omega arith)
-nothing_changes (g ∷ gone) (d ∷ damaged) [] e f none whole = absurd (omega arith)
-nothing_changes (g ∷ gone) (d ∷ damaged) (b ∷ bytes) e f none whole =
+nothing_changes (g ∷ gone) (d ∷ ill_formed) [] e f none whole = absurd (omega arith)
+nothing_changes (g ∷ gone) (d ∷ ill_formed) (b ∷ bytes) e f none whole =
     let stays = unset (is_high g) (mask_l (map is_high gone)) none in
-    let unharmed = unset (is_high d) (mask_l (map is_high damaged)) whole in
-    rw (stays.0, unharmed.0) (ap (λ l. b ∷ l) (nothing_changes gone damaged bytes (omega arith) (omega arith) stays.1 unharmed.1))
+    let unharmed = unset (is_high d) (mask_l (map is_high ill_formed)) whole in
+    rw (stays.0, unharmed.0) (ap (λ l. b ∷ l) (nothing_changes gone ill_formed bytes (omega arith) (omega arith) stays.1 unharmed.1))

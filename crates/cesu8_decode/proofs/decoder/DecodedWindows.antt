@@ -2,30 +2,30 @@
 use Rattle.std.proofs.Common.{◌≡◌, ℕ, ◌+◌, ◌-◌, ◌<◌, ◌≤◌, ◌⊎◌, ⊎_elim, Bool, true, false, ◌&&◌, ◌||◌, not, eqb, leb, List, [], ◌∷◌, ◌++◌, refl, sym, ap, subst, ◌∙◌, arith, IsTrue, true≢false, map, get_or, length, take, drop, replicate, zero-add, add-zero, bit_and, bit_or}
 use Rattle.std.proofs.lemmas.Bool.{ne_eqb, eq-eqb, le-leb, lt-leb, cases_lt}
 use Rattle.cesu8_text.specs.Encoding.{Flavor}
-use Rattle.cesu8_decode.specs.DecodedPlaces.{width_at, is_border_at, IsPadded, is_damaged_at, decoded}
+use Rattle.cesu8_decode.specs.DecodedOffsets.{width_at, is_boundary_at, IsPadded, is_ill_formed_at, decoded}
 use Rattle.cesu8_decode.specs.DecodedWindows.{IsRead}
-use Rattle.cesu8_bytes.specs.Pieces.{IsPiece}
+use Rattle.cesu8_bytes.specs.TextChunks.{IsChunk}
 use Rattle.cesu8_decode.specs.Decoding.{HasFault}
 use Rattle.cesu8_bytes.specs.declared.options.Strictness.TheVariants.{Strict, Lossy}
-use Rattle.cesu8_decode.specs.DecodedLanes.{start_code, AreFiveCodes}
+use Rattle.cesu8_decode.specs.DecodedLanes.{start_kind, AreFiveKinds}
 use Rattle.std.specs.List.{range_with_len}
 use Rattle.std.proofs.lemmas.List.FromFn.{get_or-map-range_with_len}
-use Rattle.cesu8_decode.proofs.positions.WindowPlaces.{decoded_split}
+use Rattle.cesu8_decode.proofs.by_offset.WindowOffsets.{decoded_split}
 use borrow.Rule.Slice.PartMut.{put_mid, post_of}
 use Rattle.std.proofs.lemmas.List.{get_or-drop, take-replicate, take-append-le, length-take-le, length-replicate}
 use Rattle.std.proofs.Math.Seq.{take-append-add}
 use Rattle.std.specs.Str.{IsUtf8}
 use Rattle.std.proofs.lemmas.Str.{IsUtf8-append, IsUtf8-from_ascii}
 use Rattle.cesu8_bytes.proofs.vectors.Loads.{zeros_at, padded}
-use Rattle.cesu8_decode.proofs.decoder.StartCodes.{start_at, no_start, over_one, over_two}
-use Rattle.cesu8_decode.proofs.positions.PlaceBorders.{width_bounds, border_at_end}
-use Rattle.cesu8_decode.proofs.positions.DecodedText.{padded_follows, padded_border}
-use Rattle.cesu8_decode.proofs.pieces.DecodedPieces.{padded_for, padded_take, border_behind, fault_at, lossy_piece, strict_piece}
+use Rattle.cesu8_decode.proofs.decoder.StartKinds.{start_at, no_start, over_one, over_two}
+use Rattle.cesu8_decode.proofs.by_offset.CharacterBoundaries.{width_bounds, boundary_at_end}
+use Rattle.cesu8_decode.proofs.by_offset.DecodedText.{padded_follows, padded_boundary}
+use Rattle.cesu8_decode.proofs.chunks.DecodedChunks.{padded_for, padded_take, boundary_behind, fault_at, lossy_chunk, strict_chunk}
 use Rattle.cesu8_decode.proofs.decoder.LaneTests.{no_bit_or, no_pair}
 
--- ---- borders
+-- ---- boundaries
 
--- a pair reaches over two places more, and nothing else does
+-- a pair reaches over two offsets more, and nothing else does
 by_bounds : (w n : ℕ) → (w ≤ 3) ⊎ (w ≡ 6) → 3 ≤ n → n < 6 → not (eqb w 6) ≡ leb w n
 by_bounds w n bounds low high =
     ⊎_elim (λ (small : w ≤ 3). ap not (ne_eqb w 6 (λ six. omega arith)) ∙ sym (le-leb w n (omega arith)))
@@ -43,21 +43,21 @@ regroup true true true false true = refl
 regroup true true true true false = refl
 regroup true true true true true = refl
 
--- The codes of five places tell whether there is a border behind them.
-pub border_told : (f : Flavor) (window codes : List ℕ) (n at : ℕ) → AreFiveCodes f window n codes at →
-    eqb (bit_or (bit_or (get_or codes (at + 4) 0) (bit_and (get_or codes (at + 3) 0) 0x3C))
-    (bit_or (bit_or (bit_and (get_or codes at 0) 0x20) (bit_and (get_or codes (at + 1) 0) 0x20)) (bit_and (get_or codes (at + 2) 0) 0x20))) 0
-    ≡ is_border_at f window n
-border_told f window codes n at told =
+-- The kinds of five offsets tell whether there is a boundary behind them.
+pub boundary_told : (f : Flavor) (window kinds : List ℕ) (n at : ℕ) → AreFiveKinds f window n kinds at →
+    eqb (bit_or (bit_or (get_or kinds (at + 4) 0) (bit_and (get_or kinds (at + 3) 0) 0x3C))
+    (bit_or (bit_or (bit_and (get_or kinds at 0) 0x20) (bit_and (get_or kinds (at + 1) 0) 0x20)) (bit_and (get_or kinds (at + 2) 0) 0x20))) 0
+    ≡ is_boundary_at f window n
+boundary_told f window kinds n at told =
     let w = width_at f window in
-    let c : ℕ → ℕ = λ k. get_or codes k 0 in
+    let c : ℕ → ℕ = λ k. get_or kinds k 0 in
     let s = start_at f window in
     let two = bit_and (c (at + 3)) 0x3C in
     let p0 = bit_and (c at) 0x20 in
     let p1 = bit_and (c (at + 1)) 0x20 in
     let p2 = bit_and (c (at + 2)) 0x20 in
-    let first : c at ≡ start_code f window n = ap c (sym (add-zero at)) ∙ told 0 (omega arith) ∙ ap (start_code f window) (add-zero n) in
-    let reach = λ (x p k : ℕ) (is : x ≡ start_code f window p) (low : 3 ≤ k) (high : k < 6).
+    let first : c at ≡ start_kind f window n = ap c (sym (add-zero at)) ∙ told 0 (omega arith) ∙ ap (start_kind f window) (add-zero n) in
+    let reach = λ (x p k : ℕ) (is : x ≡ start_kind f window p) (low : 3 ≤ k) (high : k < 6).
     ap (λ x. eqb (bit_and x 0x20) 0) is ∙ no_pair _ _ _ (s p) ∙ by_bounds (w p) k (width_bounds f window p) low high in
     no_bit_or (bit_or (c (at + 4)) two) (bit_or (bit_or p0 p1) p2)
     ∙ (λ i. no_bit_or (c (at + 4)) two i && no_bit_or (bit_or p0 p1) p2 i)
@@ -68,17 +68,17 @@ border_told f window codes n at told =
     && reach (c (at + 2)) (n + 2) 3 (told 2 (omega arith)) (omega arith) (omega arith) i))
     ∙ regroup (leb (w (n + 4)) 1) (leb (w (n + 3)) 2) (leb (w (n + 2)) 3) (leb (w (n + 1)) 4) (leb (w n) 5)
 
--- Five of the codes of a block are those of five places.
-pub five_codes : (f : Flavor) (window codes : List ℕ) (from p n : ℕ) → codes ≡ map (start_code f window) (range_with_len from 32) → p ≤ 27 →
-    from + p ≡ n → AreFiveCodes f window n codes p
-five_codes f window codes from p n are inside place k small =
+-- Five of the kinds of a block are those of five offsets.
+pub five_kinds : (f : Flavor) (window kinds : List ℕ) (from p n : ℕ) → kinds ≡ map (start_kind f window) (range_with_len from 32) → p ≤ 27 →
+    from + p ≡ n → AreFiveKinds f window n kinds p
+five_kinds f window kinds from p n are inside offset k small =
     let there : from + (p + k) ≡ n + k = omega arith in
-    ap (λ l. get_or l (p + k) 0) are ∙ get_or-map-range_with_len (start_code f window) from 32 (p + k) (n + k) 0 (omega arith) there
+    ap (λ l. get_or l (p + k) 0) are ∙ get_or-map-range_with_len (start_kind f window) from 32 (p + k) (n + k) 0 (omega arith) there
 
 -- Nothing of two bytes or more begins at the zeros before a window.
-pub codes_of_zeros : (f : Flavor) (window codes : List ℕ) → codes ≡ replicate 32 0 → ((k : ℕ) → k < 5 → get_or window k 0 ≡ 0) →
-    AreFiveCodes f window 0 codes 27
-codes_of_zeros f window codes are zeros k small =
+pub kinds_of_zeros : (f : Flavor) (window kinds : List ℕ) → kinds ≡ replicate 32 0 → ((k : ℕ) → k < 5 → get_or window k 0 ≡ 0) →
+    AreFiveKinds f window 0 kinds 27
+kinds_of_zeros f window kinds are zeros k small =
     ap (λ l. get_or l (27 + k) 0) are ∙ zeros_at 32 (27 + k)
     ∙ sym (no_start f _ _ _ _ _ _ (omega (arith, ap (λ p. get_or window p 0) (zero-add k), zeros k small)))
 
@@ -90,25 +90,25 @@ pub between_zeros : (window bytes copied : List ℕ) → 5 + length bytes ≤ le
 between_zeros window bytes copied fits zeros copied_is k =
     let n = 5 + length bytes - 5 in
     let all : List ℕ = replicate (length window) 0 in
-    let front : take 5 window ≡ 0 ∷ 0 ∷ 0 ∷ 0 ∷ 0 ∷ [] = ap (take 5) zeros ∙ take-replicate 5 (length window) 0 (omega arith) in
-    (λ i. get_or (front i ++ (copied_is i ++ post_of 5 n window)) k 0)
+    let prefix : take 5 window ≡ 0 ∷ 0 ∷ 0 ∷ 0 ∷ 0 ∷ [] = ap (take 5) zeros ∙ take-replicate 5 (length window) 0 (omega arith) in
+    (λ i. get_or (prefix i ++ (copied_is i ++ post_of 5 n window)) k 0)
     ∙ padded (0 ∷ 0 ∷ 0 ∷ 0 ∷ 0 ∷ bytes) (post_of 5 n window)
     (λ i. ap (λ w. get_or (drop n (drop 5 w)) i 0) zeros ∙ get_or-drop n (drop 5 all) i 0 ∙ get_or-drop 5 all (n + i) 0 ∙ zeros_at (length window) (5 + (n + i))) k
 
 -- ---- blocks
 
--- The bytes of a block are damaged, or those before.
-pub more_damaged : (p : ℕ → Bool) (at len : ℕ) (before here : Bool) →
+-- The bytes of a block are ill-formed, or those before.
+pub more_ill_formed : (p : ℕ → Bool) (at len : ℕ) (before here : Bool) →
     (before ≡ true → (i : ℕ) × (i < at) × (p i ≡ true)) → (IsTrue here → (i : ℕ) × (at ≤ i) × (i < at + len) × (p i ≡ true)) →
     (before || here) ≡ true → (i : ℕ) × (i < at + len) × (p i ≡ true)
-more_damaged p at len true here first then some = let found = first refl in (found.0, omega (arith, found.1), found.2)
-more_damaged p at len false here first then some = let found = then some in (found.0, found.2, found.3)
+more_ill_formed p at len true here first then some = let found = first refl in (found.0, omega (arith, found.1), found.2)
+more_ill_formed p at len false here first then some = let found = then some in (found.0, found.2, found.3)
 
-pub none_damaged : (p : ℕ → Bool) (at len : ℕ) (before here : Bool) →
+pub none_ill_formed : (p : ℕ → Bool) (at len : ℕ) (before here : Bool) →
     (before ≡ false → (i : ℕ) → i < at → p i ≡ false) → (here ≡ false → (i : ℕ) → at ≤ i → i < at + len → p i ≡ false) →
     (before || here) ≡ false → (i : ℕ) → i < at + len → p i ≡ false
-none_damaged p at len true here first then none i inside = absurd (true≢false none)
-none_damaged p at len false here first then none i inside =
+none_ill_formed p at len true here first then none i inside = absurd (true≢false none)
+none_ill_formed p at len false here first then none i inside =
     ⊎_elim (λ (early : i < at). first refl i early) (λ (late : at ≤ i). then none i late inside) (cases_lt i at)
 
 -- What more bytes become is written behind what the first ones become.
@@ -125,37 +125,37 @@ pub all_read : (f : Flavor) (bytes window : List ℕ) → IsPadded bytes window 
 all_read f bytes window padded = record {
   padded = padded_for bytes window (length bytes) padded;
   fits = omega arith;
-  border = border_at_end f window bytes (padded_follows bytes window padded) (padded_border f bytes window padded);
+  boundary = boundary_at_end f window bytes (padded_follows bytes window padded) (padded_boundary f bytes window padded);
 }
 
--- and one on the first of them those before the last border that is told.
+-- and one on the first of them those before the last boundary that is told.
 pub part_read : (f : Flavor) (bytes window : List ℕ) (loaded read : ℕ) → IsPadded (take loaded bytes) window → loaded ≤ length bytes → 5 ≤ loaded →
     read ≤ loaded - 5 →
-    ((n : ℕ) → n ≤ loaded - 5 → loaded - 5 ≤ n + 5 → is_border_at f window n ≡ true → is_border_at f window read ≡ true) →
+    ((n : ℕ) → n ≤ loaded - 5 → loaded - 5 ≤ n + 5 → is_boundary_at f window n ≡ true → is_boundary_at f window read ≡ true) →
     IsRead f bytes window read
 part_read f bytes window loaded read padded fits some inside last =
-    let near = border_behind f bytes window (loaded - 5) (padded_take bytes window loaded (loaded - 5) (omega arith) padded) (omega arith) in
+    let near = boundary_behind f bytes window (loaded - 5) (padded_take bytes window loaded (loaded - 5) (omega arith) padded) (omega arith) in
     record {
       padded = padded_take bytes window loaded read (omega arith) padded;
       fits = omega arith;
-      border = last near.0 near.1 near.2 near.3;
+      boundary = last near.0 near.1 near.2 near.3;
     }
 
 module _ (f : Flavor) (bytes window : List ℕ) (n : ℕ) (is_read : IsRead f bytes window n) where
-  -- What they become is a piece in lossy reading,
-  pub read_lossily : (read : ℕ) (piece : List ℕ) → read ≡ n → piece ≡ decoded f window 0 n → IsPiece f Lossy bytes (drop read bytes) piece
-  read_lossily read piece read_is piece_is =
-      rw (read_is, piece_is) (lossy_piece f bytes window n is_read.padded is_read.fits is_read.border)
+  -- What they become is a chunk in lossy reading,
+  pub read_lossily : (read : ℕ) (chunk : List ℕ) → read ≡ n → chunk ≡ decoded f window 0 n → IsChunk f Lossy bytes (drop read bytes) chunk
+  read_lossily read chunk read_is chunk_is =
+      rw (read_is, chunk_is) (lossy_chunk f bytes window n is_read.padded is_read.fits is_read.boundary)
 
-  -- in strict reading where none of them is damaged,
-  pub read_strictly : (read : ℕ) (piece : List ℕ) → read ≡ n → piece ≡ decoded f window 0 n →
-      ((i : ℕ) → i < n → is_damaged_at f window i ≡ false) → IsPiece f Strict bytes (drop read bytes) piece
-  read_strictly read piece read_is piece_is fine =
-      rw (read_is, piece_is) (strict_piece f bytes window n is_read.padded is_read.fits is_read.border Strict fine)
+  -- in strict reading where none of them is ill-formed,
+  pub read_strictly : (read : ℕ) (chunk : List ℕ) → read ≡ n → chunk ≡ decoded f window 0 n →
+      ((i : ℕ) → i < n → is_ill_formed_at f window i ≡ false) → IsChunk f Strict bytes (drop read bytes) chunk
+  read_strictly read chunk read_is chunk_is fine =
+      rw (read_is, chunk_is) (strict_chunk f bytes window n is_read.padded is_read.fits is_read.boundary Strict fine)
 
-  -- and one that is damaged is a fault.
-  pub read_fault : (i : ℕ) × (i < n) × (is_damaged_at f window i ≡ true) → HasFault f bytes
-  read_fault damaged = fault_at f bytes window n is_read.padded is_read.fits damaged.0 damaged.1 damaged.2
+  -- and one that is ill-formed is a fault.
+  pub read_fault : (i : ℕ) × (i < n) × (is_ill_formed_at f window i ≡ true) → HasFault f bytes
+  read_fault ill_formed = fault_at f bytes window n is_read.padded is_read.fits ill_formed.0 ill_formed.1 ill_formed.2
 
 -- ---- the test of a short text
 
@@ -163,12 +163,12 @@ module _ (f : Flavor) (bytes window : List ℕ) (n : ℕ) (is_read : IsRead f by
 pub text_and_zeros : (written zeros : List ℕ) (end k n len : ℕ) → end ≤ length written → end ≤ len → len ≤ end + n → zeros ≡ replicate n 0 →
     IsUtf8 (take end written) → IsUtf8 (take len (put_mid end k written zeros))
 text_and_zeros written zeros end k n len fits small long zeros_are text =
-    let front = take end written in
+    let prefix = take end written in
     let rest = zeros ++ post_of end k written in
-    let place : len ≡ length front + (len - end) = omega (arith, length-take-le end written fits) in
-    let tested : take len (front ++ rest) ≡ front ++ replicate (len - end) 0 =
-    ap (λ n. take n (front ++ rest)) place ∙ take-append-add front rest (len - end)
-    ∙ ap (λ l. front ++ l) (take-append-le (len - end) zeros (post_of end k written) (omega (arith, ap length zeros_are, length-replicate {A = ℕ} n 0))
+    let offset : len ≡ length prefix + (len - end) = omega (arith, length-take-le end written fits) in
+    let tested : take len (prefix ++ rest) ≡ prefix ++ replicate (len - end) 0 =
+    ap (λ n. take n (prefix ++ rest)) offset ∙ take-append-add prefix rest (len - end)
+    ∙ ap (λ l. prefix ++ l) (take-append-le (len - end) zeros (post_of end k written) (omega (arith, ap length zeros_are, length-replicate {A = ℕ} n 0))
     ∙ ap (take (len - end)) zeros_are ∙ take-replicate (len - end) n 0 (omega arith)) in
-    subst IsUtf8 (sym tested) (IsUtf8-append front (replicate (len - end) 0) text
+    subst IsUtf8 (sym tested) (IsUtf8-append prefix (replicate (len - end) 0) text
     (IsUtf8-from_ascii (replicate (len - end) 0) (λ i. omega (arith, zeros_at (len - end) i))))

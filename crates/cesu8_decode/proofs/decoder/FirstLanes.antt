@@ -1,4 +1,4 @@
--- The first lanes of the decoder's vectors, of which the others go and are not damaged.
+-- The first lanes of the decoder's vectors, of which the others go and are not ill-formed.
 use Rattle.std.proofs.Common.{◌≡◌, ◌≢◌, ℕ, zero, suc, ◌+◌, ◌<◌, ◌≤◌, ⊎_elim, Bool, true, false, ◌||◌, leb, List, [], ◌∷◌, ◌++◌, refl, ap, ◌∙◌, arith, map, take, length, replicate, bit_and, bit_or, bit_xor, zero-add, append-nil}
 use Rattle.std.specs.List.{range_with_len}
 use Rattle.std.proofs.lemmas.Bool.{agree_below_at, cases_Bool, le-leb, lt-leb, cases_eq}
@@ -54,15 +54,15 @@ none_behind (x ∷ xs) count start past =
     let rest = none_behind xs count (start + 1) (omega arith) in
     λ k. first k ∷ rest k
 
--- and are not damaged.
-pub undamaged_behind : (xs : List ℕ) (count start n m : ℕ) → Each1 (λ x. x < 0x100) xs → count ≡ start + n → length xs ≡ n + m →
+-- and are not ill-formed.
+pub well_formed_behind : (xs : List ℕ) (count start n m : ℕ) → Each1 (λ x. x < 0x100) xs → count ≡ start + n → length xs ≡ n + m →
     map is_high (zip2 bit_and xs (before_lanes count start (length xs))) ≡ map is_high (take n xs) ++ replicate m false
-undamaged_behind xs count start zero m fits e long = none_behind xs count start (omega arith) ∙ ap (λ l. replicate l false) (long ∙ zero-add m)
-undamaged_behind [] count start (suc n) m fits e long = absurd (omega arith)
-undamaged_behind (x ∷ xs) count start (suc n) m fits e long =
+well_formed_behind xs count start zero m fits e long = none_behind xs count start (omega arith) ∙ ap (λ l. replicate l false) (long ∙ zero-add m)
+well_formed_behind [] count start (suc n) m fits e long = absurd (omega arith)
+well_formed_behind (x ∷ xs) count start (suc n) m fits e long =
     let first = ap (λ (t : Bool). leb 0x80 (bit_and x (bit_xor (mask t) 0xFF))) (lt-leb count start (omega arith))
     ∙ agree_below_at (λ x. leb 0x80 (bit_and x 0xFF)) (λ x. leb 0x80 x) 0x100 x refl fits.0 in
-    let rest = undamaged_behind xs count (start + 1) n m fits.1 (omega arith) (omega arith) in
+    let rest = well_formed_behind xs count (start + 1) n m fits.1 (omega arith) (omega arith) in
     λ k. first k ∷ rest k
 
 -- ---- what is written
@@ -74,17 +74,17 @@ all_go (suc m) (suc n) [] = refl
 all_go (suc m) (suc n) (b ∷ bytes) = all_go m n bytes
 
 -- For what goes behind the first ones nothing is written.
-pub written_first : (gone damaged : List Bool) (m n count : ℕ) (bytes : List ℕ) → length gone ≡ count → length damaged ≡ count →
-    written (gone ++ replicate m true) (damaged ++ replicate n false) bytes ≡ written gone damaged (take count bytes)
+pub written_first : (gone ill_formed : List Bool) (m n count : ℕ) (bytes : List ℕ) → length gone ≡ count → length ill_formed ≡ count →
+    written (gone ++ replicate m true) (ill_formed ++ replicate n false) bytes ≡ written gone ill_formed (take count bytes)
 written_first [] [] m n count bytes e e' = all_go m n bytes
-written_first [] (d ∷ damaged) m n count bytes e e' = absurd (omega arith)
+written_first [] (d ∷ ill_formed) m n count bytes e e' = absurd (omega arith)
 written_first (g ∷ gone) [] m n count bytes e e' = absurd (omega arith)
-written_first (g ∷ gone) (d ∷ damaged) m n zero bytes e e' = absurd (omega arith)
-written_first (g ∷ gone) (d ∷ damaged) m n (suc count) [] e e' = refl
-written_first (g ∷ gone) (d ∷ damaged) m n (suc count) (b ∷ bytes) e e' =
-    ap (λ l. written_for g d b ++ l) (written_first gone damaged m n count bytes (omega arith) (omega arith))
+written_first (g ∷ gone) (d ∷ ill_formed) m n zero bytes e e' = absurd (omega arith)
+written_first (g ∷ gone) (d ∷ ill_formed) m n (suc count) [] e e' = refl
+written_first (g ∷ gone) (d ∷ ill_formed) m n (suc count) (b ∷ bytes) e e' =
+    ap (λ l. written_for g d b ++ l) (written_first gone ill_formed m n count bytes (omega arith) (omega arith))
 
--- ---- the bits of the damaged
+-- ---- the bits of the ill-formed
 
 no_bits : (m : ℕ) → mask_l (replicate m false) ≡ 0
 no_bits zero = refl

@@ -1,4 +1,4 @@
--- What the decoder's vectors say of one byte, by the codes of what begins at its place and before.
+-- What the decoder's vectors say of one byte, by the kinds of what begins at its offset and before.
 use Rattle.std.proofs.Common.{◌≡◌, ℕ, ◌+◌, ◌*◌, ◌/◌, ◌%◌, ◌^◌, ◌<◌, ◌≤◌, ⊎_elim, Bool, true, false, ◌&&◌, ◌||◌, not, eqb, leb, ltb, List, refl, sym, ap, ◌∙◌, arith, cond, get_or, bit_and, bit_or, add-zero, true≢false}
 use Rattle.std.proofs.lemmas.Bool.{agree_below_at, cases_lt, eqb-true, le-leb, lt-leb, eq-eqb, ne_eqb, cases_eq}
 use Rattle.std.proofs.lemmas.Bool.Decides.{nat_tests}
@@ -6,11 +6,11 @@ use Rattle.std.proofs.lemmas.Nat.{and_mask, le_or_l, le_or_r, or_lt, or_mod, or_
 use Rattle.cesu8_text.specs.Encoding.{Flavor, Cesu8, Mutf8}
 use Rattle.cesu8_text.specs.Class.{is_null}
 use Rattle.cesu8_bytes.specs.Kernels.{mask}
-use Rattle.cesu8_decode.specs.DecodedPlaces.{one_at, two_at, three_at, pair_at, front_width_by, width_at, is_damaged_at}
+use Rattle.cesu8_decode.specs.DecodedOffsets.{one_at, two_at, three_at, pair_at, first_width_by, width_at, is_ill_formed_at}
 use Rattle.cesu8_bytes.specs.Joining.{null_at}
-use Rattle.cesu8_decode.specs.DecodedLanes.{start_code, is_high, byte_at}
+use Rattle.cesu8_decode.specs.DecodedLanes.{start_kind, is_high, byte_at}
 use Rattle.cesu8_decode.specs.declared.parts.TheConstants.{FIRST_BY_SECOND, SECOND_BY_SECOND, THIRD_BY_THIRD}
-use Rattle.cesu8_decode.proofs.decoder.StartCodes.{Start, nothing, one, null, two_low, two_high, three_low, three_high, three_last, pair, start_at, pair_bit, over_two, over_one, null_bit}
+use Rattle.cesu8_decode.proofs.decoder.StartKinds.{Start, nothing, one, null, two_low, two_high, three_low, three_high, three_last, pair, start_at, pair_bit, over_two, over_one, null_bit}
 
 -- ---- bits of two numbers
 
@@ -47,7 +47,7 @@ shifted_or a b =
     sym (λ i. bit_or (add-zero (a * 2 ^ 2) i) (add-zero (b * 2 ^ 2) i)) ∙ shifted ∙ add-zero (bit_or a b * 2 ^ 2) in
     ap (λ n. n % 2 ^ 8) (sym plain) ∙ or_mod (a * 2 ^ 2) (b * 2 ^ 2) 8
 
--- ---- one lane, by the codes of what begins at its place and before
+-- ---- one lane, by the kinds of what begins at its offset and before
 
 abbrev pub gone_lane : (here before : ℕ) → ℕ
 gone_lane here before = bit_or here (bit_or here before * 2 ^ 2 % 2 ^ 8)
@@ -94,13 +94,13 @@ no_pair a w c what = ap (λ n. eqb n 0) (pair_bit a w c what) ∙ by_test (eqb w
 
 -- It has no bit where nothing of two bytes or more covers the byte.
 covered_is : (f : Flavor) (window : List ℕ) (i : ℕ) →
-    let c = start_code f window in
+    let c = start_kind f window in
     let w = width_at f window in
     eqb (covered_lane (c (i + 5)) (c (i + 4)) (c (i + 3)) (c (i + 2)) (c (i + 1)) (c i)) 0
     ≡ (((leb (w (i + 5)) 1 && leb (w (i + 4)) 1) && leb (w (i + 3)) 2)
     && ((not (eqb (w (i + 2)) 6) && not (eqb (w (i + 1)) 6)) && not (eqb (w i) 6)))
 covered_is f window i =
-    let c = start_code f window in
+    let c = start_kind f window in
     let s = start_at f window in
     let near = bit_or (c (i + 5)) (c (i + 4)) in
     let three = bit_and (c (i + 3)) 0x3C in
@@ -122,10 +122,10 @@ one_or_more false false false true is_pair = refl
 one_or_more false false false false true = refl
 one_or_more false false false false false = refl
 
--- What begins at a place and has no two bytes is one byte.
+-- What begins at an offset and has no two bytes is one byte.
 begins_one : (f : Flavor) (window : List ℕ) (i : ℕ) →
     leb 1 (width_at f window i) ≡ cond (leb (width_at f window i) 1) (one_at f (get_or window i 0)) true
-unfolding front_width_by
+unfolding first_width_by
 begins_one f window i =
     let w : ℕ → ℕ = λ k. get_or window k 0 in
     one_or_more (one_at f (w i)) (null_at f (w i) (w (i + 1))) (two_at (w i) (w (i + 1))) (three_at (w i) (w (i + 1)) (w (i + 2)))
@@ -150,46 +150,46 @@ masked : (t : Bool) (x : ℕ) → x < 0x100 → leb 0x80 (bit_and (mask t) x) �
 masked false x small = refl
 masked true x small = agree_below_at (λ x. leb 0x80 (bit_and 0xFF x)) (λ x. leb 0x80 x) 0x100 x refl small
 
-damage_by : (t s0 s1 s2 p3 p4 p5 : Bool) →
+ill_formed_by_tests : (t s0 s1 s2 p3 p4 p5 : Bool) →
     ((((s0 && s1) && s2) && ((not p3 && not p4) && not p5)) && not t)
     ≡ not (cond s0 t true || (not s1 || (not s2 || (p3 || (p4 || p5)))))
-damage_by t false s1 s2 p3 p4 p5 = refl
-damage_by true true false s2 p3 p4 p5 = refl
-damage_by false true false s2 p3 p4 p5 = refl
-damage_by true true true false p3 p4 p5 = refl
-damage_by false true true false p3 p4 p5 = refl
-damage_by true true true true true p4 p5 = refl
-damage_by false true true true true p4 p5 = refl
-damage_by true true true true false true p5 = refl
-damage_by false true true true false true p5 = refl
-damage_by true true true true false false true = refl
-damage_by false true true true false false true = refl
-damage_by true true true true false false false = refl
-damage_by false true true true false false false = refl
+ill_formed_by_tests t false s1 s2 p3 p4 p5 = refl
+ill_formed_by_tests true true false s2 p3 p4 p5 = refl
+ill_formed_by_tests false true false s2 p3 p4 p5 = refl
+ill_formed_by_tests true true true false p3 p4 p5 = refl
+ill_formed_by_tests false true true false p3 p4 p5 = refl
+ill_formed_by_tests true true true true true p4 p5 = refl
+ill_formed_by_tests false true true true true p4 p5 = refl
+ill_formed_by_tests true true true true false true p5 = refl
+ill_formed_by_tests false true true true false true p5 = refl
+ill_formed_by_tests true true true true false false true = refl
+ill_formed_by_tests false true true true false false true = refl
+ill_formed_by_tests true true true true false false false = refl
+ill_formed_by_tests false true true true false false false = refl
 
 over : (n w : ℕ) → not (leb w n) ≡ leb (n + 1) w
 over n w = grind (arith, nat_tests)
 
-abbrev pub damaged_lane : Flavor → (covered b : ℕ) → ℕ
-damaged_lane f covered b = bit_and (mask (eqb covered 0)) (bit_or b (mask (is_null f b)))
+abbrev pub ill_formed_lane : Flavor → (covered b : ℕ) → ℕ
+ill_formed_lane f covered b = bit_and (mask (eqb covered 0)) (bit_or b (mask (is_null f b)))
 
 pub mask_fits : (t : Bool) → mask t < 0x100
 mask_fits true = omega arith
 mask_fits false = omega arith
 
--- It says whether the byte is damaged.
-pub lane_damaged : (f : Flavor) (window : List ℕ) (i : ℕ) → get_or window (i + 5) 0 < 0x100 →
-    let c = start_code f window in
-    is_high (damaged_lane f (covered_lane (c (i + 5)) (c (i + 4)) (c (i + 3)) (c (i + 2)) (c (i + 1)) (c i)) (get_or window (i + 5) 0))
-    ≡ is_damaged_at f window i
-lane_damaged f window i small =
-    let c = start_code f window in
+-- It says whether the byte is ill-formed.
+pub lane_ill_formed : (f : Flavor) (window : List ℕ) (i : ℕ) → get_or window (i + 5) 0 < 0x100 →
+    let c = start_kind f window in
+    is_high (ill_formed_lane f (covered_lane (c (i + 5)) (c (i + 4)) (c (i + 3)) (c (i + 2)) (c (i + 1)) (c i)) (get_or window (i + 5) 0))
+    ≡ is_ill_formed_at f window i
+lane_ill_formed f window i small =
+    let c = start_kind f window in
     let w = width_at f window in
     let b = get_or window (i + 5) 0 in
     let covered = covered_lane (c (i + 5)) (c (i + 4)) (c (i + 3)) (c (i + 2)) (c (i + 1)) (c i) in
     masked (eqb covered 0) (bit_or b (mask (is_null f b))) (or_lt 8 b (mask (is_null f b)) small (mask_fits (is_null f b)))
     ∙ (λ k. covered_is f window i k && no_one f b k)
-    ∙ damage_by (one_at f b) (leb (w (i + 5)) 1) (leb (w (i + 4)) 1) (leb (w (i + 3)) 2) (eqb (w (i + 2)) 6) (eqb (w (i + 1)) 6) (eqb (w i) 6)
+    ∙ ill_formed_by_tests (one_at f b) (leb (w (i + 5)) 1) (leb (w (i + 4)) 1) (leb (w (i + 3)) 2) (eqb (w (i + 2)) 6) (eqb (w (i + 1)) 6) (eqb (w i) 6)
     ∙ (λ k. not (sym (begins_one f window (i + 5)) k || (over 1 (w (i + 4)) k || (over 2 (w (i + 3)) k || (eqb (w (i + 2)) 6 || (eqb (w (i + 1)) 6 || eqb (w i) 6))))))
 
 abbrev first_byte : ℕ → ℕ
@@ -239,10 +239,10 @@ none_of true p q r e = absurd (true≢false e)
 
 -- and else the byte stays.
 pub byte_stays : (f : Flavor) (window : List ℕ) (i : ℕ) →
-    let c = start_code f window in
+    let c = start_kind f window in
     is_high (joined_lane (c (i + 4)) (c (i + 3)) (c (i + 2)) (c (i + 1))) ≡ false → byte_at f window i ≡ get_or window (i + 5) 0
 byte_stays f window i low =
-    let c = start_code f window in
+    let c = start_kind f window in
     let s = start_at f window in
     let shifted : ℕ → ℕ = λ c. c * 2 ^ 2 % 2 ^ 8 in
     let c1 = c (i + 4) in
@@ -268,7 +268,7 @@ some_pair a w c what = ap not (no_pair a w c what) ∙ not_not (eqb w 6)
 
 -- It is the byte that is written.
 pub lane_byte : (f : Flavor) (window : List ℕ) (i : ℕ) →
-    let c = start_code f window in
+    let c = start_kind f window in
     byte_lane (c (i + 4)) (c (i + 3)) (c (i + 2)) (c (i + 1)) (get_or window (i + 3) 0) (get_or window (i + 4) 0) (get_or window (i + 5) 0)
     ≡ byte_at f window i
 lane_byte f window i =

@@ -5,7 +5,7 @@ use Rattle.cesu8_decode.specs.declared.rows.TheConstants.{ROWS as ROWS_OF_FOUR}
 use Rattle.cesu8_decode.specs.declared.rows_of_eight.TheConstants.{ROWS as ROWS_OF_EIGHT}
 use Rattle.cesu8_bytes.proofs.vectors.Tables.{same_list, same_rows, rows_by}
 
--- row d of the decoder that for the four bytes that go, and the four that are damaged,
+-- row d of the decoder that for the four bytes that go, and the four that are ill-formed,
 pub rows_of_four_are : (set : ℕ) → set < 0x100 → get_or ROWS_OF_FOUR set [] ≡ shuffle_of_four set
 unfolding same_list same_rows
 rows_of_four_are = rows_by ROWS_OF_FOUR shuffle_of_four refl

@@ -1,4 +1,4 @@
--- The codes of what begins at the places of a block, lane by lane.
+-- The kinds of what begins at the offsets of a block, lane by lane.
 use Rattle.std.proofs.Common.{◌≡◌, ℕ, ◌+◌, ◌*◌, ◌/◌, ◌%◌, ◌^◌, ◌<◌, ◌≤◌, Bool, true, false, cond, ◌&&◌, List, [], ◌∷◌, ◌++◌, map, length, get_or, replicate, eqb, leb, ltb, bit_and, bit_or, refl, sym, ap, ◌∙◌, subst, arith, Fits, w8}
 use Rattle.std.specs.List.{range_with_len}
 use Rattle.std.proofs.lemmas.Bool.{agree_below_at, eqb-true, leb-false}
@@ -10,14 +10,14 @@ use Rattle.std.proofs.lemmas.Simd.{SwzOk, swz_l, SwzOk-from_below, length-swz_l,
 use lib.Lanes.{zip2, mask_l, pick_l, Each1, chunk}
 use Rattle.cesu8_text.specs.Encoding.{Flavor}
 use Rattle.cesu8_bytes.specs.Kernels.{mask}
-use Rattle.cesu8_decode.specs.DecodedPlaces.{continues, two_at, fits_three}
+use Rattle.cesu8_decode.specs.DecodedOffsets.{continues, two_at, fits_three}
 use Rattle.cesu8_bytes.specs.Joining.{null_at}
-use Rattle.cesu8_decode.specs.DecodedLanes.{start_code_by, code_of_two, start_code}
+use Rattle.cesu8_decode.specs.DecodedLanes.{start_kind_by, kind_of_two, start_kind}
 use Rattle.cesu8_bytes.proofs.lists.Lanes.{map_agree}
 use Rattle.cesu8_bytes.proofs.vectors.Loads.{loaded, marks_at}
-use Rattle.cesu8_decode.proofs.decoder.StartCodes.{no_start, two_decide}
+use Rattle.cesu8_decode.proofs.decoder.StartKinds.{no_start, two_decide}
 use Rattle.cesu8_decode.proofs.decoder.FirstLanes.{no_lane, on_range}
-use Rattle.cesu8_decode.proofs.decoder.Codes.{cond_same, and_cond, by_high, by_low, by_next, looked_up}
+use Rattle.cesu8_decode.proofs.decoder.Kinds.{cond_same, and_cond, by_high, by_low, by_next, looked_up}
 
 -- ---- a look-up by the lower half of each lane
 
@@ -45,8 +45,8 @@ module _ (lanes : List ℕ) (long : length lanes ≡ 32) where
   module _ (table : List ℕ) (whole : length table ≡ 16) where
     in_table : (n : ℕ) → n < 32 → get_or (pick_l 0 (table ++ table) twice) n 0 ≡ get_or table (n % 16) 0
     in_table n small =
-        let place = eqb-true (get_or twice n 0) (n % 16) (agree_below_at (λ n. eqb (get_or twice n 0) (n % 16)) (λ _. true) 32 n refl small) in
-        get_or-map (λ k. get_or (table ++ table) k 0) twice n 0 0 small ∙ ap (λ p. get_or (table ++ table) p 0) place
+        let offset = eqb-true (get_or twice n 0) (n % 16) (agree_below_at (λ n. eqb (get_or twice n 0) (n % 16)) (λ _. true) 32 n refl small) in
+        get_or-map (λ k. get_or (table ++ table) k 0) twice n 0 0 small ∙ ap (λ p. get_or (table ++ table) p 0) offset
         ∙ get_or_append_left table table 0 (n % 16) (omega arith)
 
     abbrev found : List ℕ
@@ -94,24 +94,24 @@ two_lanes f n first second =
     (map (λ b. cond (null_at f 0xC0 b) 0xFF 0x7F) second)
 
 two_of : (f : Flavor) (first second : List ℕ) → length second ≡ length first → Each1 (Fits w8) first → Each1 (Fits w8) second →
-    two_lanes f (length first) first second ≡ zip2 (code_of_two f) first second
+    two_lanes f (length first) first second ≡ zip2 (kind_of_two f) first second
 two_of f [] [] e fits_first fits_second = refl
 two_of f [] (b ∷ second) e fits_first fits_second = absurd (omega arith)
 two_of f (a ∷ first) [] e fits_first fits_second = absurd (omega arith)
 two_of f (a ∷ first) (b ∷ second) e fits_first fits_second =
     λ i. looked_up f a b fits_first.0.fits fits_second.0.fits i ∷ two_of f first second (omega arith) fits_first.1 fits_second.1 i
 
--- The look-ups give the codes of two bytes each.
+-- The look-ups give the kinds of two bytes each.
 pub two_are : (f : Flavor) (first second : List ℕ) → length first ≡ 32 → length second ≡ 32 → Each1 (Fits w8) first → Each1 (Fits w8) second →
-    two_lanes f 32 first second ≡ zip2 (code_of_two f) first second
+    two_lanes f 32 first second ≡ zip2 (kind_of_two f) first second
 two_are f first second long long_second fits_first fits_second =
-    subst (λ n. two_lanes f n first second ≡ zip2 (code_of_two f) first second) long
+    subst (λ n. two_lanes f n first second ≡ zip2 (kind_of_two f) first second) long
     (two_of f first second (long_second ∙ sym long) fits_first fits_second)
 
 -- ---- and the bytes behind them
 
-abbrev codes : (null two low three first last pair : Bool) → ℕ
-codes null two low three first last pair =
+abbrev kinds : (null two low three first last pair : Bool) → ℕ
+kinds null two low three first last pair =
     cond null 0x80 (cond two (cond low 0x01 0x02) (cond three (cond first 0x04 (cond last 0x10 0x08)) (cond pair 0x20 0)))
 
 and_false : (t : Bool) → (t && false) ≡ false
@@ -124,8 +124,8 @@ behind third fourth fifth sixth =
 
 -- what two bytes begin, and tests of the others, tell what six begin
 with_others : (null two low first last a1 a2 a3 a4 b1 b2 b3 third fourth low_fifth high_fifth sixth : Bool) →
-    bit_and (codes null two low (a1 && (a2 && (a3 && a4))) first last (b1 && (b2 && (b3 && true)))) (behind third fourth (low_fifth && high_fifth) sixth)
-    ≡ codes null two low (a1 && (a2 && (a3 && (third && a4)))) first last
+    bit_and (kinds null two low (a1 && (a2 && (a3 && a4))) first last (b1 && (b2 && (b3 && true)))) (behind third fourth (low_fifth && high_fifth) sixth)
+    ≡ kinds null two low (a1 && (a2 && (a3 && (third && a4)))) first last
     (b1 && (b2 && (b3 && (third && (fourth && (low_fifth && (high_fifth && sixth)))))))
 with_others null two low first last a1 a2 a3 a4 b1 b2 b3 true true true true true = simp and_cond
 with_others null two low first last a1 a2 a3 a4 b1 b2 b3 true true true true false = simp (and_cond, and_false, cond_same)
@@ -138,8 +138,8 @@ low_second : (b : ℕ) → b < 0x100 → eqb (bit_and b 0xF0) 0xB0 ≡ (leb 0xB0
 low_second b h = agree_below_at (λ b. eqb (bit_and b 0xF0) 0xB0) (λ b. leb 0xB0 b && ltb b 0xC0) 0x100 b refl h
 
 six : (f : Flavor) (a b d e g h : ℕ) → g < 0x100 →
-    bit_and (code_of_two f a b) (behind (continues d) (eqb e 0xED) (eqb (bit_and g 0xF0) 0xB0) (continues h)) ≡ start_code_by f a b d e g h
-unfolding start_code_by
+    bit_and (kind_of_two f a b) (behind (continues d) (eqb e 0xED) (eqb (bit_and g 0xF0) 0xB0) (continues h)) ≡ start_kind_by f a b d e g h
+unfolding start_kind_by
 six f a b d e g h small =
     rw (low_second g small)
     (with_others (null_at f a b) (two_at a b) (ltb a 0xD0) (eqb a 0xE0) (eqb a 0xED) (leb 0xE0 a) (ltb a 0xF0) (continues b) (fits_three a b)
@@ -159,23 +159,23 @@ module _ (f : Flavor) (window : List ℕ) (fits : (k : ℕ) → Fits w8 (get_or 
       leb-false least (get_or window i 0)
       (no_lane (λ i. leb least (get_or window i 0)) at 32 (ap (λ l. mask_l (map (leb least) l)) lanes ∙ none) i low inside)
 
-  codes_of : (vs : List ℕ) →
-      start_lanes (length vs) (map (λ i. code_of_two f (get_or window i 0) (get_or window (i + 1) 0)) vs)
+  kinds_of : (vs : List ℕ) →
+      start_lanes (length vs) (map (λ i. kind_of_two f (get_or window i 0) (get_or window (i + 1) 0)) vs)
       (map (λ i. mask (continues (get_or window (i + 2) 0))) vs) (map (λ i. mask (eqb (get_or window (i + 3) 0) 0xED)) vs)
       (map (λ i. mask (eqb (bit_and (get_or window (i + 4) 0) 0xF0) 0xB0)) vs) (map (λ i. mask (continues (get_or window (i + 5) 0))) vs)
-      ≡ map (start_code f window) vs
-  codes_of [] = refl
-  codes_of (v ∷ vs) =
+      ≡ map (start_kind f window) vs
+  kinds_of [] = refl
+  kinds_of (v ∷ vs) =
       λ i. six f (get_or window v 0) (get_or window (v + 1) 0) (get_or window (v + 2) 0) (get_or window (v + 3) 0) (get_or window (v + 4) 0)
-      (get_or window (v + 5) 0) (fits (v + 4)).fits i ∷ codes_of vs i
+      (get_or window (v + 5) 0) (fits (v + 4)).fits i ∷ kinds_of vs i
 
   module _ (at : ℕ) (room : at + 37 ≤ length window) (two : List ℕ)
-      (two_is : two ≡ zip2 (code_of_two f) (chunk at 32 window) (chunk (at + 1) 32 window)) where
-    two_at_places : two ≡ map (λ i. code_of_two f (get_or window i 0) (get_or window (i + 1) 0)) (range_with_len at 32)
-    two_at_places = two_is ∙ zip2_of_maps (code_of_two f) (λ i. get_or window i 0) (λ i. get_or window (i + 1) 0) (range_with_len at 32)
+      (two_is : two ≡ zip2 (kind_of_two f) (chunk at 32 window) (chunk (at + 1) 32 window)) where
+    two_at_offsets : two ≡ map (λ i. kind_of_two f (get_or window i 0) (get_or window (i + 1) 0)) (range_with_len at 32)
+    two_at_offsets = two_is ∙ zip2_of_maps (kind_of_two f) (λ i. get_or window i 0) (λ i. get_or window (i + 1) 0) (range_with_len at 32)
         (sym (pick_l-range_with_len 0 window at 32 (omega arith))) (loaded window at 1 32 (omega arith))
 
-    -- The vectors of a block give the codes of its places.
+    -- The vectors of a block give the kinds of its offsets.
     module _ (third fourth fifth sixth : List ℕ)
         (third_is : third ≡ map (λ b. mask (continues b)) (chunk (at + 2) 32 window))
         (fourth_is : fourth ≡ map (λ b. mask (eqb b 0xED)) (chunk (at + 3) 32 window))
@@ -186,25 +186,25 @@ module _ (f : Flavor) (window : List ℕ) (fits : (k : ℕ) → Fits w8 (get_or 
           ∙ ap (map (λ b. mask (eqb b 0xB0))) (zip2_splat bit_and (chunk (at + 4) 32 window) 32 0xF0 (length-chunk (at + 4) 32 window (omega arith)))
           ∙ map-map (λ b. mask (eqb b 0xB0)) (λ b. bit_and b 0xF0) (chunk (at + 4) 32 window)
 
-      pub starts_are : start_lanes 32 two third fourth fifth sixth ≡ map (start_code f window) (range_with_len at 32)
+      pub starts_are : start_lanes 32 two third fourth fifth sixth ≡ map (start_kind f window) (range_with_len at 32)
       starts_are =
           rw (
-            two_at_places,
+            two_at_offsets,
             marks_at continues window at 2 third (omega arith) third_is,
             marks_at (λ b. eqb b 0xED) window at 3 fourth (omega arith) fourth_is,
             marks_at (λ b. eqb (bit_and b 0xF0) 0xB0) window at 4 fifth (omega arith) fifth_by_mask,
             marks_at continues window at 5 sixth (omega arith) sixth_is,
-          ) (codes_of (range_with_len at 32))
+          ) (kinds_of (range_with_len at 32))
 
     -- Where none of its bytes is E0 or more, the first two of them do.
-    pub two_are_starts : mask_l (map (leb 0xE0) (chunk at 32 window)) ≡ 0 → two ≡ map (start_code f window) (range_with_len at 32)
+    pub two_are_starts : mask_l (map (leb 0xE0) (chunk at 32 window)) ≡ 0 → two ≡ map (start_kind f window) (range_with_len at 32)
     two_are_starts none =
-        two_at_places ∙ on_range _ (start_code f window) at 32
+        two_at_offsets ∙ on_range _ (start_kind f window) at 32
         (λ i low inside. two_decide f _ _ _ _ _ _ (all_below 0xE0 at (omega arith) none i low inside))
 
-  -- Where none is C0 or more, the codes are 0.
+  -- Where none is C0 or more, the kinds are 0.
   pub none_start : (at : ℕ) → at + 32 ≤ length window → mask_l (map (leb 0xC0) (chunk at 32 window)) ≡ 0 →
-      replicate 32 0 ≡ map (start_code f window) (range_with_len at 32)
+      replicate 32 0 ≡ map (start_kind f window) (range_with_len at 32)
   none_start at room none =
-      on_range (λ i. 0) (start_code f window) at 32
+      on_range (λ i. 0) (start_kind f window) at 32
       (λ i low inside. sym (no_start f _ _ _ _ _ _ (all_below 0xC0 at room none i low inside)))

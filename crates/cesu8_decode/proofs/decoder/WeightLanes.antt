@@ -1,4 +1,4 @@
--- What the places of a block weigh, lane by lane.
+-- What the offsets of a block weigh, lane by lane.
 use Rattle.std.proofs.Common.{◌≡◌, ℕ, zero, suc, ◌+◌, ◌*◌, ◌/◌, ◌%◌, ◌^◌, ◌<◌, ◌≤◌, ◌⊎◌, ⊎_elim, true, false, cond, List, [], ◌∷◌, map, length, get_or, replicate, eqb, ltb, bit_or, refl, sym, ap, ◌∙◌, subst, inl, inr, arith, Fits, w8, zero-add}
 use Rattle.std.specs.Int.Bits.{or_zero_r}
 use Rattle.std.specs.List.{range_with_len}
@@ -9,12 +9,12 @@ use lib.Lanes.{zip2, sel_l, top, sum_l, Each1, Each2}
 use Rattle.cesu8_text.specs.Encoding.{Flavor, Cesu8, Mutf8}
 use Rattle.cesu8_text.specs.Class.{is_null}
 use Rattle.cesu8_bytes.specs.Kernels.{mask}
-use Rattle.cesu8_decode.specs.DecodedPlaces.{one_at, width_at, weight_between}
-use Rattle.cesu8_decode.specs.DecodedLanes.{start_code, weight_at, TellWeights}
-use Rattle.cesu8_decode.proofs.decoder.StartCodes.{one_by_first}
+use Rattle.cesu8_decode.specs.DecodedOffsets.{one_at, width_at, weight_between}
+use Rattle.cesu8_decode.specs.DecodedLanes.{start_kind, weight_at, TellWeights}
+use Rattle.cesu8_decode.proofs.decoder.StartKinds.{one_by_first}
 use Rattle.cesu8_bytes.proofs.lists.Lanes.{chosen}
-use Rattle.cesu8_decode.proofs.positions.PlaceBorders.{width_bounds}
-use Rattle.cesu8_decode.proofs.positions.WindowPlaces.{weight_split}
+use Rattle.cesu8_decode.proofs.by_offset.CharacterBoundaries.{width_bounds}
+use Rattle.cesu8_decode.proofs.by_offset.WindowOffsets.{weight_split}
 
 -- ---- one lane
 
@@ -35,37 +35,37 @@ entry table lane = get_or table (lane % 16) 0
 abbrev shr : ℕ → ℕ → ℕ
 shr a b = a / 2 ^ b
 
-abbrev weight_vector : (n one : ℕ) (table_low table_high bytes nulls codes : List ℕ) → List ℕ
-weight_vector n one table_low table_high bytes nulls codes =
+abbrev weight_vector : (n one : ℕ) (table_low table_high bytes nulls kinds : List ℕ) → List ℕ
+weight_vector n one table_low table_high bytes nulls kinds =
     zip2 bit_or (zip2 bit_or
     (sel_l (map (top 7) (zip2 (λ a b. cond (ltb a b) 255 0) (zip2 bit_or bytes nulls) (replicate n 0x80))) (replicate n one) (replicate n 0))
-    (map (entry table_low) codes)) (map (entry table_high) (zip2 shr codes (replicate n 4)))
+    (map (entry table_low) kinds)) (map (entry table_high) (zip2 shr kinds (replicate n 4)))
 
 module _ (weight : ℕ → ℕ → ℕ) (one : ℕ) (table_low table_high : List ℕ) (told : TellWeights weight one table_low table_high)
     (f : Flavor) (window : List ℕ) where
   weight_lane : (i : ℕ) →
-      let b = get_or window i 0 in let c = start_code f window i in
+      let b = get_or window i 0 in let c = start_kind f window i in
       bit_or (bit_or (cond (top 7 (cond (ltb (bit_or b (mask (is_null f b))) 0x80) 255 0)) one 0) (entry table_low c)) (entry table_high (c / 2 ^ 4))
       ≡ weight_at weight f window i
   weight_lane i =
       let w = λ (k : ℕ). get_or window k 0 in
       let test = one_by_byte f (w i) ∙ sym (one_by_first f (w i) (w (i + 1)) (w (i + 2)) (w (i + 3)) (w (i + 4)) (w (i + 5))) in
-      let c = start_code f window i in
+      let c = start_kind f window i in
       ap (λ n. bit_or (bit_or n (entry table_low c)) (entry table_high (c / 16)))
       (chosen (ltb (bit_or (w i) (mask (is_null f (w i)))) 0x80) one 0 ∙ ap (λ t. cond t one 0) test)
       ∙ told f (w i) (w (i + 1)) (w (i + 2)) (w (i + 3)) (w (i + 4)) (w (i + 5))
 
-  -- The vectors of a block give what its places weigh.
+  -- The vectors of a block give what its offsets weigh.
   pub weight_lanes_are : (vs : List ℕ) →
       weight_vector (length vs) one table_low table_high (map (λ i. get_or window i 0) vs) (map (λ i. mask (is_null f (get_or window i 0))) vs)
-      (map (start_code f window) vs)
+      (map (start_kind f window) vs)
       ≡ map (weight_at weight f window) vs
   weight_lanes_are [] = refl
   weight_lanes_are (v ∷ vs) = λ i. weight_lane v i ∷ weight_lanes_are vs i
 
 -- ---- sums of lanes
 
--- After n blocks each lane has 14 times n at most, and all lanes what their places weigh.
+-- After n blocks each lane has 14 times n at most, and all lanes what their offsets weigh.
 pub record HaveSum (weight : ℕ → ℕ → ℕ) (f : Flavor) (bytes : List ℕ) (n : ℕ) (lanes : List ℕ) : Type 0 where
   pub long : length lanes ≡ 32
   pub low : Each1 (λ a. a ≤ 14 * n) lanes
@@ -111,6 +111,6 @@ module _ (weight : ℕ → ℕ → ℕ) (light : (w b : ℕ) → w ≤ 6 → wei
       total =
           let parts : 32 * (n + 1) ≡ 32 * n + 32 = omega arith in
           let split = ap (weight_between weight f bytes 0) parts ∙ weight_split weight f bytes 0 (32 * n) 32 in
-          let place = ap (λ i. weight_between weight f bytes i 32) (zero-add (32 * n)) in
-          omega (arith, sum-zip2 lanes more (have.long ∙ sym more_long), have.total, ap sum_l next, lanes_total weight f bytes (32 * n) 32, split, place);
+          let offset = ap (λ i. weight_between weight f bytes i 32) (zero-add (32 * n)) in
+          omega (arith, sum-zip2 lanes more (have.long ∙ sym more_long), have.total, ap sum_l next, lanes_total weight f bytes (32 * n) 32, split, offset);
     }

@@ -1,14 +1,14 @@
--- What the last places of bytes weigh, where FF stands behind them.
+-- What the last offsets of bytes weigh, where FF stands behind them.
 use Rattle.std.proofs.Common.{◌≡◌, ℕ, zero, suc, ◌+◌, ◌-◌, ◌<◌, ◌≤◌, ◌⊎◌, ⊎_elim, List, ◌++◌, length, get_or, replicate, refl, sym, ap, ◌∙◌, inl, inr, arith}
 use Rattle.std.proofs.lemmas.Bool.{cases_lt}
 use Rattle.std.proofs.lemmas.List.{get_or_past, get_or_append_left, get_or-append_right, get_or-replicate}
 use Rattle.cesu8_text.specs.Encoding.{Flavor, Cesu8, Mutf8}
-use Rattle.cesu8_decode.specs.DecodedPlaces.{front_width_by, weight_between, total_weight}
+use Rattle.cesu8_decode.specs.DecodedOffsets.{first_width_by, weight_between, total_weight}
 use Rattle.cesu8_decode.specs.DecodedLanes.{weight_at}
-use Rattle.cesu8_decode.proofs.positions.WindowPlaces.{weight_split}
-use Rattle.cesu8_decode.proofs.positions.Weights.{all_places}
+use Rattle.cesu8_decode.proofs.by_offset.WindowOffsets.{weight_split}
+use Rattle.cesu8_decode.proofs.by_offset.Weights.{all_offsets}
 
--- ---- FF instead of 00 changes no width, but at the first place
+-- ---- FF instead of 00 changes no width, but at the first offset
 
 abbrev Filled : ℕ → ℕ → Type 0
 Filled x y = (x ≡ y) ⊎ ((x ≡ 0xFF) × (y ≡ 0))
@@ -17,18 +17,18 @@ alike : (g : ℕ → ℕ) (x y : ℕ) → g 0xFF ≡ g 0 → Filled x y → g x 
 alike g x y same (inl here) = ap g here
 alike g x y same (inr end) = ap g end.0 ∙ same ∙ sym (ap g end.1)
 
-second_alike : (f : Flavor) (a d e g h : ℕ) → front_width_by f a 0xFF d e g h ≡ front_width_by f a 0 d e g h
-unfolding front_width_by
+second_alike : (f : Flavor) (a d e g h : ℕ) → first_width_by f a 0xFF d e g h ≡ first_width_by f a 0 d e g h
+unfolding first_width_by
 second_alike Cesu8 a d e g h = refl
 second_alike Mutf8 a d e g h = refl
 
 -- FF begins nothing.
-none_begins : (f : Flavor) (b d e g h : ℕ) → front_width_by f 0xFF b d e g h ≡ 0
-unfolding front_width_by
+none_begins : (f : Flavor) (b d e g h : ℕ) → first_width_by f 0xFF b d e g h ≡ 0
+unfolding first_width_by
 none_begins Cesu8 b d e g h = refl
 none_begins Mutf8 b d e g h = refl
 
--- ---- sums over places that weigh alike
+-- ---- sums over offsets that weigh alike
 
 weigh_alike : (weight : ℕ → ℕ → ℕ) (f : Flavor) (a b : List ℕ) (i n : ℕ) → ((k : ℕ) → k < i + n → weight_at weight f a k ≡ weight_at weight f b k) →
     weight_between weight f a i n ≡ weight_between weight f b i n
@@ -66,25 +66,25 @@ module _ (weight : ℕ → ℕ → ℕ) (nothing : (b : ℕ) → weight 0 b ≡ 
       (λ (past : length bytes ≤ k). inr (behind k past small, get_or_past bytes k 0 past)) (cases_lt k (length bytes))
 
   weight_here : (k : ℕ) → k < length bytes → 5 ≤ n → weight_at weight f padded k ≡ weight_at weight f bytes k
-  unfolding front_width_by
+  unfolding first_width_by
   weight_here k inside room =
       let p = λ (j : ℕ). get_or padded j 0 in
       let b = λ (j : ℕ). get_or bytes j 0 in
       let width =
-      alike (λ n. front_width_by f (p k) n (p (k + 2)) (p (k + 3)) (p (k + 4)) (p (k + 5))) (p (k + 1)) (b (k + 1))
+      alike (λ n. first_width_by f (p k) n (p (k + 2)) (p (k + 3)) (p (k + 4)) (p (k + 5))) (p (k + 1)) (b (k + 1))
       (second_alike f (p k) (p (k + 2)) (p (k + 3)) (p (k + 4)) (p (k + 5))) (filled (k + 1) (omega arith))
-      ∙ alike (λ n. front_width_by f (p k) (b (k + 1)) n (p (k + 3)) (p (k + 4)) (p (k + 5))) (p (k + 2)) (b (k + 2)) refl (filled (k + 2) (omega arith))
-      ∙ alike (λ n. front_width_by f (p k) (b (k + 1)) (b (k + 2)) n (p (k + 4)) (p (k + 5))) (p (k + 3)) (b (k + 3)) refl (filled (k + 3) (omega arith))
-      ∙ alike (λ n. front_width_by f (p k) (b (k + 1)) (b (k + 2)) (b (k + 3)) n (p (k + 5))) (p (k + 4)) (b (k + 4)) refl (filled (k + 4) (omega arith))
-      ∙ alike (λ n. front_width_by f (p k) (b (k + 1)) (b (k + 2)) (b (k + 3)) (b (k + 4)) n) (p (k + 5)) (b (k + 5)) refl (filled (k + 5) (omega arith))
-      ∙ ap (λ a. front_width_by f a (b (k + 1)) (b (k + 2)) (b (k + 3)) (b (k + 4)) (b (k + 5))) (here k inside) in
+      ∙ alike (λ n. first_width_by f (p k) (b (k + 1)) n (p (k + 3)) (p (k + 4)) (p (k + 5))) (p (k + 2)) (b (k + 2)) refl (filled (k + 2) (omega arith))
+      ∙ alike (λ n. first_width_by f (p k) (b (k + 1)) (b (k + 2)) n (p (k + 4)) (p (k + 5))) (p (k + 3)) (b (k + 3)) refl (filled (k + 3) (omega arith))
+      ∙ alike (λ n. first_width_by f (p k) (b (k + 1)) (b (k + 2)) (b (k + 3)) n (p (k + 5))) (p (k + 4)) (b (k + 4)) refl (filled (k + 4) (omega arith))
+      ∙ alike (λ n. first_width_by f (p k) (b (k + 1)) (b (k + 2)) (b (k + 3)) (b (k + 4)) n) (p (k + 5)) (b (k + 5)) refl (filled (k + 5) (omega arith))
+      ∙ ap (λ a. first_width_by f a (b (k + 1)) (b (k + 2)) (b (k + 3)) (b (k + 4)) (b (k + 5))) (here k inside) in
       (λ j. weight (width j) (here k inside j))
 
   weight_behind : (k : ℕ) → length bytes ≤ k → k < length bytes + n → weight_at weight f padded k ≡ 0
   weight_behind k past small =
       let p = λ (j : ℕ). get_or padded j 0 in
       let width =
-      ap (λ a. front_width_by f a (p (k + 1)) (p (k + 2)) (p (k + 3)) (p (k + 4)) (p (k + 5))) (behind k past small)
+      ap (λ a. first_width_by f a (p (k + 1)) (p (k + 2)) (p (k + 3)) (p (k + 4)) (p (k + 5))) (behind k past small)
       ∙ none_begins f (p (k + 1)) (p (k + 2)) (p (k + 3)) (p (k + 4)) (p (k + 5)) in
       ap (λ w. weight w (p k)) width ∙ nothing (p k)
 
@@ -95,7 +95,7 @@ module _ (weight : ℕ → ℕ → ℕ) (nothing : (b : ℕ) → weight 0 b ≡ 
       let split = ap (weight_between weight f padded 0) parts ∙ weight_split weight f padded 0 (length bytes) (m - length bytes) in
       let front = weigh_alike weight f padded bytes 0 (length bytes) (λ k small. weight_here k (omega arith) (omega arith)) in
       let back = weigh_nothing weight f padded (0 + length bytes) (m - length bytes) (λ k low small. weight_behind k (omega arith) (omega arith)) in
-      omega (arith, split, front, back, all_places weight f bytes)
+      omega (arith, split, front, back, all_offsets weight f bytes)
 
 -- Two blocks of a few bytes and FF weigh what the bytes weigh.
 pub weight_filled : (weight : ℕ → ℕ → ℕ) → ((b : ℕ) → weight 0 b ≡ 0) → (f : Flavor) (bytes padded : List ℕ) → length bytes < 37 →

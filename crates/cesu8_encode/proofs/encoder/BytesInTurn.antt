@@ -4,7 +4,7 @@ use Rattle.std.specs.Str.{chars, IsUtf8}
 use Rattle.std.proofs.lemmas.List.{drop_more, drop-drop, get_or-drop}
 use Rattle.cesu8_text.specs.Text.{IsScalarValue, IsText, utf8_of, utf8}
 use Rattle.cesu8_text.specs.Encoding.{Flavor, Cesu8, Mutf8, encoding, short_form}
-use Rattle.cesu8_encode.specs.EncodedPlaces.{IsRun}
+use Rattle.cesu8_encode.specs.EncodedOffsets.{IsRun}
 use Rattle.cesu8_text.specs.Patterns.{IsContinuation}
 use Rattle.cesu8_bytes.proofs.lists.Ends.{stays_behind}
 use Rattle.cesu8_text.proofs.StdUtf8.{IsUtf8Of_chars}
@@ -141,13 +141,13 @@ run_stays f bytes (suc n) (b ∷ rest) out within stay so_far =
     (run_stays f bytes n rest (out ++ b ∷ []) (omega arith) (λ k h. stay (suc k) (omega arith))
     (byte_stays f bytes b (b ∷ rest) rest out refl first.0 first.1 so_far))
 
--- The bytes from a position on begin with the byte there.
+-- The bytes from an offset on begin with the byte there.
 pub first_is : (bytes rest : List ℕ) (read : ℕ) → rest ≡ drop read bytes → get_or rest 0 0 ≡ get_or bytes read 0
 first_is bytes rest read rest_is =
-    let place : read + 0 ≡ read = omega arith in
-    ap (λ bs. get_or bs 0 0) rest_is ∙ get_or-drop read bytes 0 0 ∙ ap (λ i. get_or bytes i 0) place
+    let offset : read + 0 ≡ read = omega arith in
+    ap (λ bs. get_or bs 0 0) rest_is ∙ get_or-drop read bytes 0 0 ∙ ap (λ i. get_or bytes i 0) offset
 
--- A run from a position on is written.
+-- A run from an offset on is written.
 pub stored_run : (f : Flavor) (bytes rest out new : List ℕ) (read n : ℕ) → rest ≡ drop read bytes → IsRun rest n →
     new ≡ out ++ take n rest → IsEncodedSoFar f bytes (drop read bytes) out → IsEncodedSoFar f bytes (drop (read + n) bytes) new
 stored_run f bytes rest out new read n rest_is run new_is so_far =
@@ -209,7 +209,7 @@ null_changes f bytes rest more out begins so_far =
     null_by f bytes more so_far.inside so_far.text out so_far.continue so_far.scalars
     (sym begins ∙ so_far.rest_is) so_far.out_is
 
--- The byte 00 at a position of the bytes, and what is written of it.
+-- The byte 00 at an offset of the bytes, and what is written of it.
 pub stored_null : (f : Flavor) (bytes out new : List ℕ) (read : ℕ) → read < length bytes → get_or bytes read 0 ≡ 0 →
     new ≡ out ++ short_form f 0 → IsEncodedSoFar f bytes (drop read bytes) out → IsEncodedSoFar f bytes (drop (read + 1) bytes) new
 stored_null f bytes out new read left null new_is so_far =
@@ -280,7 +280,7 @@ pair_next : (f : Flavor) (bytes rest out : List ℕ) → 0xF0 ≤ get_or rest 0 
 pair_next f bytes rest out lead so_far =
     pair_by f bytes rest so_far.inside so_far.text out so_far.continue so_far.scalars lead so_far.rest_is so_far.out_is
 
--- Such a character at a position of the bytes,
+-- Such a character at an offset of the bytes,
 pub pair_at : (f : Flavor) (bytes out : List ℕ) (read : ℕ) → 0xF0 ≤ get_or bytes read 0 →
     IsEncodedSoFar f bytes (drop read bytes) out → IsPairNext f bytes (drop read bytes) out
 pair_at f bytes out read lead so_far =

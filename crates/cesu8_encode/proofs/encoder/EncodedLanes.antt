@@ -6,9 +6,9 @@ use Rattle.std.proofs.lemmas.Bool.Decides.{nat_tests}
 use Rattle.std.proofs.lemmas.Simd.{bitmask_splat}
 use lib.Lanes.{zip2, sel_l, mask_l, top}
 use Rattle.cesu8_text.specs.Encoding.{Flavor, Cesu8, Mutf8}
-use Rattle.cesu8_text.specs.Class.{is_lead, is_null}
+use Rattle.cesu8_text.specs.Class.{is_at_least_f0, is_null}
 use Rattle.cesu8_bytes.specs.Kernels.{mask}
-use Rattle.cesu8_encode.specs.EncodedPlaces.{six_bits, packed}
+use Rattle.cesu8_encode.specs.EncodedOffsets.{six_bits, packed}
 use Rattle.cesu8_bytes.proofs.lists.Lanes.{equal}
 
 abbrev pub at_most : ℕ → ℕ → ℕ
@@ -21,15 +21,15 @@ chosen false = refl
 
 leads_of : (bytes : List ℕ) →
     sel_l (map (top 7) (zip2 at_most (replicate (length bytes) 0xF0) bytes)) (replicate (length bytes) 0xFF) (replicate (length bytes) 0)
-    ≡ map (λ b. mask (is_lead b)) bytes
+    ≡ map (λ b. mask (is_at_least_f0 b)) bytes
 leads_of [] = refl
 leads_of (b ∷ bytes) = λ i. chosen (leb 0xF0 b) i ∷ leads_of bytes i
 
 -- A comparison with F0 marks the lead bytes of four.
 pub lead_lanes : (bytes : List ℕ) → length bytes ≡ 32 →
-    sel_l (map (top 7) (zip2 at_most (replicate 32 0xF0) bytes)) (replicate 32 0xFF) (replicate 32 0) ≡ map (λ b. mask (is_lead b)) bytes
+    sel_l (map (top 7) (zip2 at_most (replicate 32 0xF0) bytes)) (replicate 32 0xFF) (replicate 32 0) ≡ map (λ b. mask (is_at_least_f0 b)) bytes
 lead_lanes bytes long =
-    subst (λ n. sel_l (map (top 7) (zip2 at_most (replicate n 0xF0) bytes)) (replicate n 0xFF) (replicate n 0) ≡ map (λ b. mask (is_lead b)) bytes)
+    subst (λ n. sel_l (map (top 7) (zip2 at_most (replicate n 0xF0) bytes)) (replicate n 0xFF) (replicate n 0) ≡ map (λ b. mask (is_at_least_f0 b)) bytes)
     long (leads_of bytes)
 
 abbrev shl : ℕ → ℕ → ℕ
@@ -58,7 +58,7 @@ pub bits_are : (lanes : List ℕ) → length lanes ≡ 32 →
     mask_l (map (top 7) (zip2 equal lanes (replicate 32 255))) % 2 ^ 64 ≡ mask_l (map (λ b. eqb b 0xFF) lanes)
 bits_are lanes long = bitmask_splat w8 eqb lanes 32 255 long (omega arith)
 
--- ---- what becomes of the bytes, at places vs
+-- ---- what becomes of the bytes, at offsets vs
 
 abbrev pub second_vector : ℕ → List ℕ → List ℕ → List ℕ → List ℕ → List ℕ → List ℕ → List ℕ
 second_vector n lead before two_before null bytes six =
@@ -122,7 +122,7 @@ pub doubled_lanes : (a b c : ℕ → Bool) → ((v : ℕ) → (a v && c v) ≡ f
 doubled_lanes a b c apart [] = refl
 doubled_lanes a b c apart (v ∷ vs) = λ i. doubled_lane (a v) (b v) (c v) (apart v) i ∷ doubled_lanes a b c apart vs i
 
-lead_is_not_null : (b : ℕ) → (is_lead b && is_null Mutf8 b) ≡ false
+lead_is_not_null : (b : ℕ) → (is_at_least_f0 b && is_null Mutf8 b) ≡ false
 lead_is_not_null b = grind (arith, nat_tests)
 
 neither : (t : Bool) → (t && false) ≡ false
@@ -130,8 +130,8 @@ neither true = refl
 neither false = refl
 
 -- No lead byte is null.
-pub lead_or_null : (f : Flavor) (b : ℕ) → (is_lead b && is_null f b) ≡ false
-lead_or_null Cesu8 b = neither (is_lead b)
+pub lead_or_null : (f : Flavor) (b : ℕ) → (is_at_least_f0 b && is_null f b) ≡ false
+lead_or_null Cesu8 b = neither (is_at_least_f0 b)
 lead_or_null Mutf8 b = lead_is_not_null b
 
 packed_one : (t : Bool) (a b : ℕ) (ts : List Bool) (firsts seconds rest : List ℕ) → packed ts firsts seconds ≡ rest →
@@ -139,8 +139,8 @@ packed_one : (t : Bool) (a b : ℕ) (ts : List Bool) (firsts seconds rest : List
 packed_one true a b ts firsts seconds rest e = ap (λ l. a ∷ b ∷ l) e
 packed_one false a b ts firsts seconds rest e = ap (λ l. b ∷ l) e
 
--- Packing the lanes writes what is written for each place.
-pub packed_places : (t : ℕ → Bool) (g h : ℕ → ℕ) (vs : List ℕ) →
+-- Packing the lanes writes what is written for each offset.
+pub packed_offsets : (t : ℕ → Bool) (g h : ℕ → ℕ) (vs : List ℕ) →
     packed (map t vs) (map g vs) (map h vs) ≡ flat_map (λ v. cond (t v) (g v ∷ h v ∷ []) (h v ∷ [])) vs
-packed_places t g h [] = refl
-packed_places t g h (v ∷ vs) = packed_one (t v) (g v) (h v) _ _ _ _ (packed_places t g h vs)
+packed_offsets t g h [] = refl
+packed_offsets t g h (v ∷ vs) = packed_one (t v) (g v) (h v) _ _ _ _ (packed_offsets t g h vs)

@@ -7,8 +7,8 @@ use Rattle.std.proofs.lemmas.Simd.{swz_l, SwzOk, SwzOk-from_below, pick_l-range_
 use lib.Dec.{ltb→lt}
 use mir.ValLaws.{and_both}
 use lib.Lanes.{mask_l, put_chunk, chunk, pick_l, all_below, Each1}
-use Rattle.cesu8_encode.specs.EncodedPlaces.{packed, kept_lanes, shuffle_of}
-use Rattle.cesu8_bytes.proofs.vectors.Rows.{lowest, shuffled, stored_front, lanes_of_first, lanes_of_second, four_calls}
+use Rattle.cesu8_encode.specs.EncodedOffsets.{packed, kept_lanes, shuffle_of}
+use Rattle.cesu8_bytes.proofs.vectors.Rows.{lowest, shuffled, stored_prefix, lanes_of_first, lanes_of_second, four_calls}
 
 kept_one : (g : ℕ → ℕ) (i : ℕ) (t : Bool) (xs ys : List ℕ) → map g xs ≡ ys →
     map g (cond t ((8 + i) ∷ i ∷ xs) (i ∷ xs)) ≡ cond t (g (8 + i) ∷ g i ∷ ys) (g i ∷ ys)
@@ -87,7 +87,7 @@ module _ (out lanes row : List ℕ) (at d : ℕ) (ts : List Bool)
       ap (λ n. take n (put_chunk at out (swz_l w8 16 lanes 0 row))) end_is
       ∙ ap (λ v. take (at + 8 + count_ones d) (put_chunk at out v))
       (ap (swz_l w8 16 lanes 0) row_is ∙ shuffled lanes (shuffle_of d) (shuffle_long d small) (shuffle_below d small) ∙ map-append lane kept padding)
-      ∙ stored_front out (map lane kept) (map lane padding) at (at + 8 + count_ones d)
+      ∙ stored_prefix out (map lane kept) (map lane padding) at (at + 8 + count_ones d)
       (omega (arith, shuffle_long d small, length-append kept padding, length-map kept lane, length-map padding lane))
       (omega (arith, length-map kept lane, kept_long))
       ∙ ap (λ l. take at out ++ l) kept_is

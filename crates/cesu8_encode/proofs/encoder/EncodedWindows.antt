@@ -10,9 +10,9 @@ use lib.Pow.{pow_mono}
 use Rattle.std.proofs.lemmas.Simd.{ones-mask_l_cons}
 use lib.Lanes.{mask_l}
 use Rattle.cesu8_text.specs.Encoding.{Flavor}
-use Rattle.cesu8_encode.specs.EncodedPlaces.{encoded_byte_at, encoded_bytes, recoded, is_doubled_at, inserted_at, changed_at, packed, IsWritten}
-use Rattle.cesu8_encode.proofs.encoder.EncodedLanes.{packed_places}
-use Rattle.cesu8_bytes.proofs.vectors.Rows.{mask_front}
+use Rattle.cesu8_encode.specs.EncodedOffsets.{encoded_byte_at, encoded_bytes, recoded, is_doubled_at, inserted_at, changed_at, packed, IsWritten}
+use Rattle.cesu8_encode.proofs.encoder.EncodedLanes.{packed_offsets}
+use Rattle.cesu8_bytes.proofs.vectors.Rows.{mask_prefix}
 use Rattle.cesu8_bytes.proofs.vectors.Loads.{zeros_at, padded}
 
 range_parts : (i n m : ℕ) → range_with_len i (n + m) ≡ range_with_len i n ++ range_with_len (i + n) m
@@ -82,19 +82,19 @@ length_written t g h (v ∷ vs) =
     length_one false a b xs n m k e f = omega (arith, e, f)
 
 -- What is written for n bytes has as many bytes as they and the bits of those that become two.
-length_places : (f : Flavor) (window : List ℕ) (i n : ℕ) →
+length_offsets : (f : Flavor) (window : List ℕ) (i n : ℕ) →
     length (encoded_bytes f window i n) ≡ n + count_ones (mask_l (map (is_doubled_at f window) (range_with_len i n)))
 unfolding encoded_bytes
-length_places f window i n =
+length_offsets f window i n =
     length_written (is_doubled_at f window) (inserted_at f window) (changed_at f window) (range_with_len i n)
     ∙ ap (λ k. k + count_ones (mask_l (map (is_doubled_at f window) (range_with_len i n)))) (length-range_with_len i n)
 
--- What packing the lanes of a block writes is what is written for its places.
+-- What packing the lanes of a block writes is what is written for its offsets.
 packed_block : (f : Flavor) (window : List ℕ) (i n : ℕ) →
     packed (map (is_doubled_at f window) (range_with_len i n)) (map (inserted_at f window) (range_with_len i n)) (map (changed_at f window) (range_with_len i n))
     ≡ encoded_bytes f window i n
 unfolding encoded_bytes
-packed_block f window i n = packed_places (is_doubled_at f window) (inserted_at f window) (changed_at f window) (range_with_len i n)
+packed_block f window i n = packed_offsets (is_doubled_at f window) (inserted_at f window) (changed_at f window) (range_with_len i n)
 
 -- The number of n set bits, as the code makes it.
 ones_are : (n : ℕ) → n ≤ 32 → 1 * 2 ^ n % 0x10000000000000000 - 1 ≡ 2 ^ n - 1
@@ -104,30 +104,30 @@ ones_are n le =
     ap (λ k. k - 1) (mod-eq_of_lt fits ∙ omega arith)
 
 -- The bits of the first n bytes of a block tell how long what is written for them is.
-pub front_long : (f : Flavor) (window : List ℕ) (i n doubled : ℕ) → n ≤ 32 →
+pub prefix_long : (f : Flavor) (window : List ℕ) (i n doubled : ℕ) → n ≤ 32 →
     doubled ≡ mask_l (map (is_doubled_at f window) (range_with_len i 32)) →
     n + count_ones (bit_and doubled (1 * 2 ^ n % 0x10000000000000000 - 1)) ≡ length (encoded_bytes f window i n)
-front_long f window i n doubled le doubled_is =
+prefix_long f window i n doubled le doubled_is =
     let tests = is_doubled_at f window in
-    let front : bit_and doubled (2 ^ n - 1) ≡ mask_l (map tests (range_with_len i n)) =
+    let prefix : bit_and doubled (2 ^ n - 1) ≡ mask_l (map tests (range_with_len i n)) =
     and_mask doubled n ∙ ap (λ m. m % 2 ^ n) doubled_is
-    ∙ mask_front n (map tests (range_with_len i 32)) (omega (arith, length-map-range_with_len tests i 32))
+    ∙ mask_prefix n (map tests (range_with_len i 32)) (omega (arith, length-map-range_with_len tests i 32))
     ∙ ap mask_l (take-map-range_with_len tests i 32 n le) in
-    ap (λ k. n + count_ones (bit_and doubled k)) (ones_are n le) ∙ ap (λ b. n + count_ones b) front ∙ sym (length_places f window i n)
+    ap (λ k. n + count_ones (bit_and doubled k)) (ones_are n le) ∙ ap (λ b. n + count_ones b) prefix ∙ sym (length_offsets f window i n)
 
--- The front of what is stored of a block is what is written for its first n bytes.
-pub front_of_block : (f : Flavor) (window before out : List ℕ) (i n stored end : ℕ) → n ≤ 32 → stored ≤ length out →
+-- The prefix of what is stored of a block is what is written for its first n bytes.
+pub prefix_of_block : (f : Flavor) (window before out : List ℕ) (i n stored end : ℕ) → n ≤ 32 → stored ≤ length out →
     take stored out ≡ before ++ encoded_bytes f window i 32 → end ≡ length before + length (encoded_bytes f window i n) →
     take end out ≡ before ++ encoded_bytes f window i n
-front_of_block f window before out i n stored end le within is end_is =
+prefix_of_block f window before out i n stored end le within is end_is =
     let sum : 32 ≡ n + (32 - n) = omega arith in
-    let front = encoded_bytes f window i n in
+    let prefix = encoded_bytes f window i n in
     let others = encoded_bytes f window (i + n) (32 - n) in
-    let parts : take stored out ≡ (before ++ front) ++ others =
-    is ∙ ap (λ l. before ++ l) (ap (encoded_bytes f window i) sum ∙ encoded_bytes_append f window i n (32 - n)) ∙ sym (append_assoc before front others) in
-    let whole = length-append before front in
-    let ends : end ≤ stored = omega (arith, end_is, whole, ap length parts, length-append (before ++ front) others, length-take-le stored out within) in
-    sym (take-take end stored out ends) ∙ ap (take end) parts ∙ take_at (before ++ front) others end (whole ∙ sym end_is)
+    let parts : take stored out ≡ (before ++ prefix) ++ others =
+    is ∙ ap (λ l. before ++ l) (ap (encoded_bytes f window i) sum ∙ encoded_bytes_append f window i n (32 - n)) ∙ sym (append_assoc before prefix others) in
+    let whole = length-append before prefix in
+    let ends : end ≤ stored = omega (arith, end_is, whole, ap length parts, length-append (before ++ prefix) others, length-take-le stored out within) in
+    sym (take-take end stored out ends) ∙ ap (take end) parts ∙ take_at (before ++ prefix) others end (whole ∙ sym end_is)
 
 -- What is stored of a block, by its lanes.
 pub stored_block : (f : Flavor) (window before out firsts seconds : List ℕ) (i stored : ℕ) →

@@ -8,7 +8,7 @@ use lib.Bits.{or_add_and, and_zero_r}
 use Rattle.cesu8_text.specs.Text.{IsText, utf8_of, utf8}
 use Rattle.cesu8_text.specs.Encoding.{Flavor, Cesu8, Mutf8, encoding, short_form}
 use Rattle.cesu8_text.specs.Class.{is_null}
-use Rattle.cesu8_encode.specs.EncodedPlaces.{six_bits, encoded_byte, encoded_byte_at, encoded_bytes, recoded}
+use Rattle.cesu8_encode.specs.EncodedOffsets.{six_bits, encoded_byte, encoded_byte_at, encoded_bytes, recoded}
 use Rattle.cesu8_text.proofs.StdUtf8.{IsUtf8Of_chars}
 use Rattle.cesu8_text.proofs.text.Shapes.{Shape, IsPair, one, two, three, pair, shape, utf8_of_one, utf8_of_two, utf8_of_three, utf8_of_pair}
 use Rattle.cesu8_text.proofs.encoding.Forms.{encoding_one, encoding_two, encoding_three, encoding_pair, short_form_other}
@@ -34,11 +34,11 @@ all_later : (f : Flavor) (x : ℕ) (window : List ℕ) (i n : ℕ) →
 all_later f x window i zero = refl
 all_later f x window i (suc n) = rw (later f x window i, all_later f x window (i + 1) n) refl
 
-by_places : (f : Flavor) (x y : ℕ) (bytes : List ℕ) → flat_map (encoded_byte_at f (x ∷ y ∷ bytes)) (range_with_len 0 (length bytes)) ≡ written f x y bytes
+by_offsets : (f : Flavor) (x y : ℕ) (bytes : List ℕ) → flat_map (encoded_byte_at f (x ∷ y ∷ bytes)) (range_with_len 0 (length bytes)) ≡ written f x y bytes
 unfolding written
-by_places f x y [] = refl
-by_places f x y (b ∷ bytes) =
-    ap (λ l. encoded_byte f x y b (get_or bytes 0 0) ++ l) (all_later f x (y ∷ b ∷ bytes) 0 (length bytes) ∙ by_places f y b bytes)
+by_offsets f x y [] = refl
+by_offsets f x y (b ∷ bytes) =
+    ap (λ l. encoded_byte f x y b (get_or bytes 0 0) ++ l) (all_later f x (y ∷ b ∷ bytes) 0 (length bytes) ∙ by_offsets f y b bytes)
 
 -- ---- what is written for one byte
 
@@ -72,14 +72,14 @@ low_surrogate : (c : ℕ) → c < 0x40 → bit_or (0x80 + c) 0x30 ≡ 0xB0 + c %
 low_surrogate c h = eqb-true _ _ (agree_below_at (λ c. eqb (bit_or (0x80 + c) 0x30) (0xB0 + c % 0x10)) (λ _. true) 0x40 c refl h)
 
 -- The first byte of four, the second and the third.
-lead_place : (f : Flavor) (x y a b : ℕ) → 0xF0 ≤ a → encoded_byte f x y a b ≡ 0xED ∷ ((six_bits a b + 0x9F) % 0x100) ∷ []
-lead_place f x y a b h = rw (le-leb 0xF0 a h, not_null f a (omega arith)) refl
+lead_offset : (f : Flavor) (x y a b : ℕ) → 0xF0 ≤ a → encoded_byte f x y a b ≡ 0xED ∷ ((six_bits a b + 0x9F) % 0x100) ∷ []
+lead_offset f x y a b h = rw (le-leb 0xF0 a h, not_null f a (omega arith)) refl
 
-second_place : (f : Flavor) (x a b c : ℕ) → x < 0xF0 → 0xF0 ≤ a → b < 0xF0 → 0 < b → encoded_byte f x a b c ≡ ((six_bits b c + 0x80) % 0x100) ∷ []
-second_place f x a b c hx ha hb some = rw (lt-leb 0xF0 x hx, le-leb 0xF0 a ha, lt-leb 0xF0 b hb, not_null f b some) refl
+second_offset : (f : Flavor) (x a b c : ℕ) → x < 0xF0 → 0xF0 ≤ a → b < 0xF0 → 0 < b → encoded_byte f x a b c ≡ ((six_bits b c + 0x80) % 0x100) ∷ []
+second_offset f x a b c hx ha hb some = rw (lt-leb 0xF0 x hx, le-leb 0xF0 a ha, lt-leb 0xF0 b hb, not_null f b some) refl
 
-third_place : (f : Flavor) (a b c d : ℕ) → 0xF0 ≤ a → b < 0xF0 → c < 0xF0 → 0 < c → encoded_byte f a b c d ≡ 0xED ∷ bit_or c 0x30 ∷ []
-third_place f a b c d ha hb hc some =
+third_offset : (f : Flavor) (a b c d : ℕ) → 0xF0 ≤ a → b < 0xF0 → c < 0xF0 → 0 < c → encoded_byte f a b c d ≡ 0xED ∷ bit_or c 0x30 ∷ []
+third_offset f a b c d ha hb hc some =
     rw (le-leb 0xF0 a ha, lt-leb 0xF0 b hb, lt-leb 0xF0 c hc, not_null f c some, or_zero (bit_or c 0x30)) refl
 
 -- ---- what is written for one character
@@ -101,9 +101,9 @@ pair_written f c w x y z p q rest encoded digits hp hq continues =
     let middle : (six_bits b d + 0x80) % 0x100 ≡ 0x80 + x = omega (arith, six_bits_by_digits b d (omega arith)) in
     let low : bit_or d 0x30 ≡ 0xB0 + y = omega (arith, low_surrogate (x % 4 * 0x10 + y) (omega arith)) in
     rw (
-      lead_place f p q a b (omega arith),
-      second_place f q a b d hq (omega arith) (omega arith) (omega arith),
-      third_place f a b d (0x80 + z) (omega arith) (omega arith) (omega arith) (omega arith),
+      lead_offset f p q a b (omega arith),
+      second_offset f q a b d hq (omega arith) (omega arith) (omega arith),
+      third_offset f a b d (0x80 + z) (omega arith) (omega arith) (omega arith) (omega arith),
       same f b d (0x80 + z) (get_or rest 0 0) (omega arith) (omega arith) (omega arith) (omega arith),
       continues d (0x80 + z) (omega arith) (omega arith),
       high,
@@ -163,7 +163,7 @@ text_written f (c ∷ text) is_text p q hp hq =
 -- What is written for the UTF-8 of a text is its encoding.
 recoded_utf8 : (f : Flavor) (text : List ℕ) → IsText text → recoded f (utf8 text) ≡ encoding f text
 unfolding encoded_bytes
-recoded_utf8 f text is_text = by_places f 0 0 (utf8 text) ∙ text_written f text is_text 0 0 (omega arith) (omega arith)
+recoded_utf8 f text is_text = by_offsets f 0 0 (utf8 text) ∙ text_written f text is_text 0 0 (omega arith) (omega arith)
 
 -- The same of the text that std's UTF-8 has.
 pub recoded_chars : (f : Flavor) (bytes text : List ℕ) → text ≡ bytes → IsUtf8 bytes → recoded f text ≡ encoding f (chars bytes)

@@ -1,6 +1,6 @@
 -- The rows of shuffles are those that packing needs.
 use Rattle.std.proofs.Common.{◌≡◌, ℕ, ◌<◌, [], refl, get_or}
-use Rattle.cesu8_encode.specs.EncodedPlaces.{shuffle_of}
+use Rattle.cesu8_encode.specs.EncodedOffsets.{shuffle_of}
 use Rattle.cesu8_encode.specs.declared.rows.TheConstants.{ROWS}
 use Rattle.cesu8_bytes.proofs.vectors.Tables.{same_list, same_rows, rows_by}
 

@@ -14,7 +14,7 @@ any_here P x xs p = (0, x, omega arith, refl, p)
 pub any_there : {X : Type 0} (P : X → Type 0) (x : X) (xs : List X) → Any P xs → Any P (x ∷ xs)
 any_there P x xs any = (suc any.0, any.1, omega (arith, any.2), any.3, any.4)
 
--- by the place of the element
+-- by the index of the element
 at_front : {X : Type 0} (P : X → Type 0) (x : X) (xs : List X) (k : ℕ) (y : X) → k < suc (length xs) →
     get_or (x ∷ xs) k y ≡ y → P y → P x ⊎ Any P xs
 at_front P x xs zero y inside same holds = inl (subst P (sym same) holds)

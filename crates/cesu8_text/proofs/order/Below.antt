@@ -88,7 +88,7 @@ compares_as xs ys us vs below equal above = by (compared us vs)
       ((λ _. greater), above),
     )
 
--- What follows a common front decides.
+-- What follows a common prefix decides.
 pub below_after : (front xs ys : List ℕ) → IsBelow xs ys → IsBelow (front ++ xs) (front ++ ys)
 below_after [] xs ys h = h
 below_after (x ∷ front) xs ys h = inr (refl, below_after front xs ys h)

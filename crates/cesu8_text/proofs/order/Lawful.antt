@@ -100,7 +100,7 @@ bounds_law = (
   reading_length,
 )
 
--- a place has one mark, which the function computes
+-- an offset has one mark, which the function computes
 pub one_mark_law : OneMark
 one_mark_law f bytes i = (mark_is f bytes i, (λ other is_mark. sym (mark_from f bytes i other is_mark)))
 

@@ -185,7 +185,7 @@ not_below_nothing : (us : List ℕ) → IsBelow us [] → ⊥
 not_below_nothing [] below = below
 not_below_nothing (u ∷ us) below = below
 
--- Behind equal fronts the rest decides.
+-- Behind equal prefixes the rest decides.
 after_front : (front us vs : List ℕ) → IsBelow (front ++ us) (front ++ vs) → IsBelow us vs
 after_front [] us vs below = below
 after_front (u ∷ front) us vs (inl smaller) = absurd (omega arith)

@@ -34,7 +34,7 @@ record After (f : Flavor) (front rest : List ℕ) (pieces : List Piece) : Type 0
   cuts : IsCutting f rest left
   costs : cost pieces ≡ length front + cost left
 
--- Where no character stands at a place of the front, a cutting replaces each of its bytes.
+-- Where no character stands at an offset of the front, a cutting replaces each of its bytes.
 after : (f : Flavor) (front rest : List ℕ) (pieces : List Piece) → IsCutting f (front ++ rest) pieces →
     ((j : ℕ) → j < length front → NoneBegins f (drop j (front ++ rest))) → After f front rest pieces
 after f [] rest pieces cuts none_begins = record { left = pieces; cuts = cuts; costs = omega arith }

@@ -75,7 +75,7 @@ moved bytes j (inr surrogate) =
       rw (get_or-drop j bytes 1 0, add-one j) surrogate.1,
     )
 
--- Where a character stands at the front, none stands at a later place of its stretch.
+-- Where a character stands at the front, none stands at a later offset of its stretch.
 pub none_inside : (f : Flavor) (bytes : List ℕ) (c d j : ℕ) (rest : List ℕ) → BeginsWith f bytes c rest → StandsAt f bytes j d →
     0 < j → j < width f c → ⊥
 none_inside f bytes c d j rest begins stands later inside =

@@ -12,7 +12,7 @@ use Rattle.cesu8_text.proofs.reading.Inside.{none_inside}
 use Rattle.cesu8_text.proofs.reading.Stretches.{later, earlier, none_crosses_character}
 use Rattle.cesu8_text.proofs.reading.Marks.{mark_is, mark_from}
 
--- the marks of n places, from i on
+-- the marks of n offsets, from i on
 marks : Flavor → List ℕ → ℕ → ℕ → List ℕ
 marks f bytes i n = flat_map (mark f bytes) (range_with_len i n)
 
@@ -20,8 +20,8 @@ marks_split : (f : Flavor) (bytes : List ℕ) (i m n : ℕ) → marks f bytes i 
 unfolding marks
 marks_split f bytes i zero n = rw (add-zero i, zero-add n) refl
 marks_split f bytes i (suc m) n =
-    let place : i + 1 + m ≡ i + suc m = omega arith in
-    rw (suc-add m n, marks_split f bytes (i + 1) m n, place) (sym (append_assoc (mark f bytes i) _ _))
+    let offset : i + 1 + m ≡ i + suc m = omega arith in
+    rw (suc-add m n, marks_split f bytes (i + 1) m n, offset) (sym (append_assoc (mark f bytes i) _ _))
 
 none_later : (f : Flavor) (front back : List ℕ) (i : ℕ) → NoneBegins f (drop i back) → NoneBegins f (drop (length front + i) (front ++ back))
 none_later f front back i none_begins = subst (NoneBegins f) (sym (drop-append-add front back i)) none_begins
@@ -32,11 +32,11 @@ within_earlier f front back i crosses within =
     ⊎_elim (λ (before : within.0 < length front).
     absurd (omega (arith, crosses within.0 within.1 within.2 before, within.4)))
     (λ (after : length front ≤ within.0).
-    let place : length front + (within.0 - length front) ≡ within.0 = omega arith in (
+    let offset : length front + (within.0 - length front) ≡ within.0 = omega arith in (
       within.0 - length front,
       within.1,
       earlier f front back (within.0 - length front) within.1
-          (subst (λ j. StandsAt f (front ++ back) j within.1) (sym place) within.2),
+          (subst (λ j. StandsAt f (front ++ back) j within.1) (sym offset) within.2),
       omega (arith, within.3),
       omega (arith, within.4),
     ))
@@ -66,9 +66,9 @@ marks_later : (f : Flavor) (front back : List ℕ) (i n : ℕ) → NoneCrosses f
 unfolding marks
 marks_later f front back i zero crosses = refl
 marks_later f front back i (suc n) crosses =
-    let place : length front + i + 1 ≡ length front + (i + 1) = omega arith in
+    let offset : length front + i + 1 ≡ length front + (i + 1) = omega arith in
     rw (
-      place,
+      offset,
       marks_later f front back (i + 1) n crosses,
       mark_from f (front ++ back) (length front + i) (mark f back i) (mark_later f front back i _ crosses (mark_is f back i)),
     ) refl
@@ -95,7 +95,7 @@ reading_replaced f b bytes none_begins =
     only_front zero c stands before = none_begins c stands.0 stands.1
     only_front (suc j) c stands before = omega arith
 
--- The places of a character's stretch but the first have nothing.
+-- The offsets of a character's stretch but the first have nothing.
 inside_marks : (f : Flavor) (bytes : List ℕ) (c i n : ℕ) (rest : List ℕ) → BeginsWith f bytes c rest → 0 < i → i + n ≤ width f c →
     marks f bytes i n ≡ []
 unfolding marks

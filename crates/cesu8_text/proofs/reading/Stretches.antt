@@ -10,15 +10,15 @@ use Rattle.cesu8_text.specs.Laws.{NoOverlap, NoneCrosses}
 use Rattle.cesu8_text.proofs.encoding.Unique.{same_character}
 use Rattle.cesu8_text.proofs.reading.Inside.{none_inside}
 
--- a character at a later place begins past the stretch of the earlier
+-- a character at a later offset begins past the stretch of the earlier
 past : (f : Flavor) (bytes : List ℕ) (i j c d : ℕ) → StandsAt f bytes i c → StandsAt f bytes j d → i < j → i + width f c ≤ j
 past f bytes i j c d stands later_stands before =
     ⊎_elim
     (λ (inside : j < i + width f c).
-    let place : i + (j - i) ≡ j = omega arith in
+    let offset : i + (j - i) ≡ j = omega arith in
     let there : StandsAt f (drop i bytes) (j - i) d =
     subst (λ bs. (rest : List ℕ) × BeginsWith f bs d rest)
-    (ap (λ n. drop n bytes) (sym place) ∙ sym (drop-drop (j - i) i bytes)) later_stands in
+    (ap (λ n. drop n bytes) (sym offset) ∙ sym (drop-drop (j - i) i bytes)) later_stands in
     absurd (none_inside f (drop i bytes) c d (j - i) stands.0 stands.1 there (omega arith) (omega arith)))
     (λ (beyond : i + width f c ≤ j). beyond)
     (cases_lt j (i + width f c))
@@ -71,8 +71,8 @@ none_crosses_character f d front back scalar crosses i c stands inside =
     (λ (same : (0 ≡ i) × (d ≡ c)). omega (arith, same.0, ap (width f) same.1, long))
     (λ (apart : (0 + width f d ≤ i) ⊎ (i + width f c ≤ 0)). ⊎_elim
     (λ (past : 0 + width f d ≤ i).
-    let place : width f d + (i - width f d) ≡ i = omega arith in
-    let after = earlier f first (front ++ back) (i - width f d) c (subst (λ j. StandsAt f (first ++ (front ++ back)) j c) (sym place) there) in
+    let offset : width f d + (i - width f d) ≡ i = omega arith in
+    let after = earlier f first (front ++ back) (i - width f d) c (subst (λ j. StandsAt f (first ++ (front ++ back)) j c) (sym offset) there) in
     omega (arith, crosses (i - width f d) c after (omega arith), long))
     (λ (before : i + width f c ≤ 0). omega arith)
     apart)

@@ -1,11 +1,11 @@
--- Damaged inputs and their lossy readings, computed by the definitions.
+-- Ill-formed inputs and their lossy readings, computed by the definitions.
 use Rattle.std.proofs.Common.{◌≡◌, [], ◌∷◌, refl}
 use Rattle.cesu8_text.specs.Utf16.{units_of}
 use Rattle.cesu8_text.specs.Encoding.{Cesu8, Mutf8, form, encoding}
 use Rattle.cesu8_text.specs.Reading.{standing, lies_within, mark, reading}
 use Rattle.cesu8_text.specs.Laws.{HalvesJoin}
 
--- two high surrogates and a low one: the first is damage, and the others are U+1F496
+-- two high surrogates and a low one: the first is ill-formed, and the others are U+1F496
 two_high : reading Cesu8 (0xED ∷ 0xA0 ∷ 0xBD ∷ 0xED ∷ 0xA0 ∷ 0xBD ∷ 0xED ∷ 0xB2 ∷ 0x96 ∷ [])
     ≡ 0xFFFD ∷ 0xFFFD ∷ 0xFFFD ∷ 0x1F496 ∷ []
 unfolding units_of form encoding standing lies_within mark reading
@@ -23,9 +23,9 @@ unfolding units_of form encoding standing lies_within mark reading
 pair_cut = refl
 
 -- C0 before the null character of MUTF-8, which CESU-8 has not
-null_after_damage : reading Mutf8 (0xC0 ∷ 0xC0 ∷ 0x80 ∷ []) ≡ 0xFFFD ∷ 0x0 ∷ []
+null_after_ill_formed : reading Mutf8 (0xC0 ∷ 0xC0 ∷ 0x80 ∷ []) ≡ 0xFFFD ∷ 0x0 ∷ []
 unfolding units_of form encoding standing lies_within mark reading
-null_after_damage = refl
+null_after_ill_formed = refl
 
 no_null : reading Cesu8 (0xC0 ∷ 0xC0 ∷ 0x80 ∷ []) ≡ 0xFFFD ∷ 0xFFFD ∷ 0xFFFD ∷ []
 unfolding units_of form encoding standing lies_within mark reading

@@ -4,4 +4,4 @@ use Rattle.cesu8_bytes.proofs.continuation.character_start.Given as goal
 
 abbrev pub invariant-loop-back : goal.invariant-loop-back
 invariant-loop-back l =
-    (k : ℕ) → k < l.back → IsContinuation (get_or l.bytes (l.position - k) 0)
+    (k : ℕ) → k < l.back → IsContinuation (get_or l.bytes (l.offset - k) 0)

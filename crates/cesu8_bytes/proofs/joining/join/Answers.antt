@@ -1,12 +1,12 @@
-use Rattle.cesu8_bytes.proofs.pieces.Joining.{joined_so_far}
+use Rattle.cesu8_bytes.proofs.chunks.Joining.{joined_so_far}
 use Rattle.cesu8_bytes.proofs.joining.join.Goals.{else-loop-at-test, then-loop-at-test+then-at-len}
 use Rattle.cesu8_bytes.proofs.joining.join.Goals as goal
 
 pub returns-clause-joined : goal.returns-clause-joined
 returns-clause-joined g c = elim c.loop-at-test.branch [
   | else-loop-at-test w ↦
-      rw (w.at-is, w.room-is) (joined_so_far g.F.Flavor.flavor c.args.bytes.now _ _ c.loop-at.invariant.joined)
+      rw (w.at-is, w.buffer-is) (joined_so_far g.F.Flavor.flavor c.args.bytes.now _ _ c.loop-at.invariant.joined)
   | then-loop-at-test+then-at-len w ↦
-      rw (w.at-is, w.room-is) (joined_so_far g.F.Flavor.flavor c.args.bytes.now _ _
+      rw (w.at-is, w.buffer-is) (joined_so_far g.F.Flavor.flavor c.args.bytes.now _ _
       (w.join_block-at.ensures.joined c.args.bytes.now c.loop-at.invariant.joined))
 ]

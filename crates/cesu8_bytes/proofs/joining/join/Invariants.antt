@@ -12,5 +12,5 @@ invariant-loop-at g l = record {
   stop : l.stop + l.fn.end ≡ length l.fn.bytes;
   past : l.stop ≤ length l.at.rest.now + PAIR;
   room : l.at.written + length l.at.rest.now ≤ length l.fn.bytes;
-  joined : IsJoinedSoFar g.F.Flavor.flavor l.fn.bytes l.at.rest.now (take l.at.written l.room);
+  joined : IsJoinedSoFar g.F.Flavor.flavor l.fn.bytes l.at.rest.now (take l.at.written l.buffer);
 }

@@ -10,5 +10,5 @@ abbrev pub invariant-loop-marks : goal.invariant-loop-marks
 invariant-loop-marks g l = record {
   past : l.stop + l.read ≤ length l.bytes + PAIR;
   room : l.written ≤ l.fn.start.written + l.read;
-  joined : KeepsJoined g.F.Flavor.flavor l.bytes (take l.fn.start.written l.fn.room) (drop l.read l.bytes) (take l.written l.room);
+  joined : KeepsJoined g.F.Flavor.flavor l.bytes (take l.fn.start.written l.fn.buffer) (drop l.read l.bytes) (take l.written l.buffer);
 }

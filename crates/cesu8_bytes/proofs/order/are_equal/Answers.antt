@@ -1,5 +1,5 @@
 use Rattle.std.proofs.lemmas.Bool.{eqb-true}
-use Rattle.cesu8_bytes.proofs.lists.Fronts.{same_word}
+use Rattle.cesu8_bytes.proofs.lists.Prefixes.{same_word}
 use Rattle.cesu8_bytes.proofs.order.are_equal.Goals as goal
 
 pub returns : goal.returns

@@ -1,7 +1,7 @@
 use Rattle.std.proofs.Common.{◌∙◌}
 use Rattle.cesu8_text.specs.Order.{utf16_rank}
 use Rattle.cesu8_text.proofs.order.RankOrder.{rank_order_by_bytes}
-use Rattle.cesu8_bytes.proofs.lists.Fronts.{compare_mapped}
+use Rattle.cesu8_bytes.proofs.lists.Prefixes.{compare_mapped}
 use Rattle.cesu8_bytes.proofs.order.compare_as_utf16.Goals as goal
 
 pub returns : goal.returns

@@ -1,6 +1,6 @@
 use Rattle.std.proofs.Common.{get_or, arith}
 use Rattle.std.proofs.lemmas.List.{take_more, take_more_set}
-use Rattle.cesu8_bytes.proofs.pieces.Joining.{joined_byte}
+use Rattle.cesu8_bytes.proofs.chunks.Joining.{joined_byte}
 use Rattle.cesu8_bytes.proofs.window.copy_end.Goals as goal
 
 pub loop-read-preserved : goal.loop-read-preserved
@@ -9,6 +9,6 @@ loop-read-preserved c = record {
   within = omega arith;
   joined = λ f before. rw (
     take_more c.args.bytes.now c.loop-read.read 0 (omega arith),
-    take_more_set c.loop-read.room c.loop-read.written (get_or c.args.bytes.now c.loop-read.read 0) (omega arith),
+    take_more_set c.loop-read.buffer c.loop-read.written (get_or c.args.bytes.now c.loop-read.read 0) (omega arith),
   ) (joined_byte f _ _ _ (c.loop-read.invariant.joined f before));
 }

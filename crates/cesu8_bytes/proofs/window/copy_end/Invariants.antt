@@ -11,6 +11,6 @@ abbrev pub invariant-loop-read : goal.invariant-loop-read
 invariant-loop-read l = record {
   inside : l.read ≤ length l.fn.bytes;
   within : l.written ≤ FILLED;
-  joined : (f : Flavor) → IsJoined f (take l.fn.step.read l.fn.bytes) (take l.fn.step.written l.fn.room) →
-      IsJoined f (take l.read l.fn.bytes) (take l.written l.room);
+  joined : (f : Flavor) → IsJoined f (take l.fn.step.read l.fn.bytes) (take l.fn.step.written l.fn.buffer) →
+      IsJoined f (take l.read l.fn.bytes) (take l.written l.buffer);
 }

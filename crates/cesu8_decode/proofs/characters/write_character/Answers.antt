@@ -1,14 +1,14 @@
 use Rattle.std.proofs.Common.{◌≡◌, arith, sym, ◌∙◌}
-use Rattle.cesu8_decode.proofs.pieces.Characters.{kept_read, null_read, pair_read, pair_width, none_of_width, replaced_read}
-use Rattle.cesu8_decode.proofs.positions.WidthTests.{pair_by_front, same_digits}
+use Rattle.cesu8_decode.proofs.chunks.Characters.{kept_read, null_read, pair_read, pair_width, none_of_width, replaced_read}
+use Rattle.cesu8_decode.proofs.by_offset.WidthTests.{pair_by_prefix, same_digits}
 use Rattle.cesu8_decode.proofs.characters.write_character.Goals as goal
 
-pub returns-then-read-eq0-clause-damaged : goal.returns-then-read-eq0-clause-damaged
-returns-then-read-eq0-clause-damaged g c damaged =
+pub returns-then-read-eq0-clause-ill_formed : goal.returns-then-read-eq0-clause-ill_formed
+returns-then-read-eq0-clause-ill_formed g c ill_formed =
     none_of_width g.F.Flavor.flavor c.args.bytes.now (omega (arith, c.width-read.ensures.width))
 
 pub returns-then-read-eq0-clause-replaced : goal.returns-then-read-eq0-clause-replaced
-returns-then-read-eq0-clause-replaced g c damaged =
+returns-then-read-eq0-clause-replaced g c ill_formed =
     replaced_read g.F.Flavor.flavor c.args.bytes.now _ _ c.requires.some
     (none_of_width g.F.Flavor.flavor c.args.bytes.now (omega (arith, c.width-read.ensures.width)))
     c.put-then-read-eq0.ensures.bytes
@@ -36,14 +36,14 @@ returns-in_default-clause-character g c whole which =
 
 pub returns-then-is_pair-clause-within : goal.returns-then-is_pair-clause-within
 returns-then-is_pair-clause-within g c =
-    let pair = pair_by_front c.args.bytes.now c.front_of-front.result.now c.front_of-front.ensures.front (c.is_pair.ensures.0 c.if-is_pair.true) in
+    let pair = pair_by_prefix c.args.bytes.now c.prefix_of-prefix.result.now c.prefix_of-prefix.ensures.prefix (c.is_pair.ensures.0 c.if-is_pair.true) in
     (omega arith, pair.0, omega (arith, c.put.ensures.end))
 
 pub returns-then-is_pair-clause-character : goal.returns-then-is_pair-clause-character
 returns-then-is_pair-clause-character g c whole which =
     let f = g.F.Flavor.flavor in
     let bytes = c.args.bytes.now in
-    let front = c.front_of-front.result.now in
-    let pair = pair_by_front bytes front c.front_of-front.ensures.front (c.is_pair.ensures.0 c.if-is_pair.true) in
+    let prefix = c.prefix_of-prefix.result.now in
+    let pair = pair_by_prefix bytes prefix c.prefix_of-prefix.ensures.prefix (c.is_pair.ensures.0 c.if-is_pair.true) in
     pair_read f which bytes _ _ _ (pair_width f bytes pair.0 pair.1)
-    (rw (sym (same_digits bytes front c.front_of-front.ensures.front)) c.utf8_of_pair.ensures) c.put.ensures.bytes
+    (rw (sym (same_digits bytes prefix c.prefix_of-prefix.ensures.prefix)) c.utf8_of_pair.ensures) c.put.ensures.bytes

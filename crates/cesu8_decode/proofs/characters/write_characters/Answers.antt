@@ -1,8 +1,8 @@
 use Rattle.std.proofs.Common.{[], arith, ◌∙◌, sym, refl, length-drop, drop}
 use Rattle.std.proofs.lemmas.List.{take_rest, drop-drop}
 use Rattle.cesu8_bytes.specs.declared.options.Strictness.TheVariants.{Strict, Lossy}
-use Rattle.cesu8_decode.proofs.pieces.ReadPieces.{nothing_read}
-use Rattle.cesu8_decode.proofs.pieces.Characters.{more_lossy, more_strict, first_fault, read_some, read_all}
+use Rattle.cesu8_decode.proofs.chunks.ReadChunks.{nothing_read}
+use Rattle.cesu8_decode.proofs.chunks.Characters.{more_lossy, more_strict, first_fault, read_some, read_all}
 use Rattle.cesu8_decode.proofs.characters.write_characters.Goals as goal
 
 pub loop-read-init : goal.loop-read-init
@@ -11,10 +11,10 @@ loop-read-init g c =
     record {
       inside = omega arith;
       room = omega arith;
-      some = λ damaged. cc;
+      some = λ ill_formed. cc;
       lossy = nothing_read f Lossy c.args.bytes.now [];
       strict = λ _. nothing_read f Strict c.args.bytes.now [];
-      damaged = λ damaged. cc;
+      ill_formed = λ ill_formed. cc;
       len = refl;
     }
 
@@ -31,10 +31,10 @@ loop-read-preserved g c =
       inside = omega (arith, step.within.1, length-drop n bytes);
       room = omega (arith, inv.room, step.within.2);
       some = λ _. omega (arith, step.within.0);
-      lossy = more_lossy f bytes rest _ [] _ _ c.write_next-step.result.is_damaged inv.lossy step.character step.replaced;
-      strict = more_strict f bytes rest _ [] _ _ c.loop-read.is_damaged c.write_next-step.result.is_damaged inv.strict step.character;
-      damaged = first_fault f bytes rest _ c.loop-read.is_damaged c.write_next-step.result.is_damaged inv.strict inv.damaged
-          (omega (arith, step.within.0, step.within.1)) step.damaged;
+      lossy = more_lossy f bytes rest _ [] _ _ c.write_next-step.result.is_ill_formed inv.lossy step.character step.replaced;
+      strict = more_strict f bytes rest _ [] _ _ c.loop-read.is_ill_formed c.write_next-step.result.is_ill_formed inv.strict step.character;
+      ill_formed = first_fault f bytes rest _ c.loop-read.is_ill_formed c.write_next-step.result.is_ill_formed inv.strict inv.ill_formed
+          (omega (arith, step.within.0, step.within.1)) step.ill_formed;
       len = step.len ∙ inv.len;
     })
 
@@ -45,11 +45,11 @@ returns-clause-read g c =
     let stopped = c.loop-read-test.false in
     record {
       first = record {
-        some = λ nonempty. read_some which c.loop-read.read _ c.loop-read.is_damaged (rw c.is_refused.ensures at stopped) nonempty inv.some;
+        some = λ nonempty. read_some which c.loop-read.read _ c.loop-read.is_ill_formed (rw c.is_refused.ensures at stopped) nonempty inv.some;
         within = inv.inside;
         lossy = inv.lossy;
         strict = inv.strict;
-        damaged = inv.damaged;
+        ill_formed = inv.ill_formed;
       };
-      all = λ fine. read_all which c.loop-read.read _ c.loop-read.is_damaged (rw c.is_refused.ensures at stopped) fine inv.inside;
+      all = λ fine. read_all which c.loop-read.read _ c.loop-read.is_ill_formed (rw c.is_refused.ensures at stopped) fine inv.inside;
     }

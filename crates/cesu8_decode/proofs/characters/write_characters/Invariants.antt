@@ -1,5 +1,5 @@
 use Rattle.std.proofs.Common.{◌≡◌, ◌*◌, ◌-◌, ◌<◌, ◌≤◌, length, take, drop, true, false}
-use Rattle.cesu8_bytes.specs.Pieces.{IsPiece}
+use Rattle.cesu8_bytes.specs.TextChunks.{IsChunk}
 use Rattle.cesu8_decode.specs.Decoding.{HasFault}
 use Rattle.cesu8_bytes.specs.declared.options.Strictness.TheVariants.{Strict, Lossy}
 use Rattle.cesu8_decode.proofs.characters.write_characters.Given as goal
@@ -11,9 +11,9 @@ abbrev pub invariant-loop-read : goal.invariant-loop-read
 invariant-loop-read g l = record {
   inside : l.read ≤ length l.fn.bytes;
   room : l.end ≤ 3 * l.read;
-  some : l.is_damaged ≡ true → 0 < l.read;
-  lossy : IsPiece g.F.Flavor.flavor Lossy l.fn.bytes (drop l.read l.fn.bytes) (take l.end l.out);
-  strict : l.is_damaged ≡ false → IsPiece g.F.Flavor.flavor Strict l.fn.bytes (drop l.read l.fn.bytes) (take l.end l.out);
-  damaged : l.is_damaged ≡ true → HasFault g.F.Flavor.flavor l.fn.bytes;
+  some : l.is_ill_formed ≡ true → 0 < l.read;
+  lossy : IsChunk g.F.Flavor.flavor Lossy l.fn.bytes (drop l.read l.fn.bytes) (take l.end l.out);
+  strict : l.is_ill_formed ≡ false → IsChunk g.F.Flavor.flavor Strict l.fn.bytes (drop l.read l.fn.bytes) (take l.end l.out);
+  ill_formed : l.is_ill_formed ≡ true → HasFault g.F.Flavor.flavor l.fn.bytes;
   len : length l.out ≡ length l.initial.out;
 }

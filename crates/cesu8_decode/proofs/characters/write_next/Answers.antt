@@ -1,4 +1,4 @@
-use Rattle.cesu8_decode.proofs.pieces.Characters.{ascii_read}
+use Rattle.cesu8_decode.proofs.chunks.Characters.{ascii_read}
 use Rattle.cesu8_decode.proofs.characters.write_next.Goals as goal
 
 pub returns-then-run-gt0-clause-character : goal.returns-then-run-gt0-clause-character

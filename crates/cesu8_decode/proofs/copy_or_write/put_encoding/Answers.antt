@@ -1,7 +1,7 @@
 use Rattle.std.proofs.Common.{arith}
 use Rattle.std.proofs.lemmas.Str.{IsUtf8-from_ascii}
 use Rattle.cesu8_decode.specs.PutReadings.{IsReadingOf}
-use Rattle.cesu8_decode.proofs.pieces.SliceReadings.{only_unchanged, text_put}
+use Rattle.cesu8_decode.proofs.chunks.SliceReadings.{only_unchanged, text_put}
 use Rattle.cesu8_decode.proofs.copy_or_write.put_encoding.Goals as goal
 
 pub returns-then-is_short_unchanged_ascii : goal.returns-then-is_short_unchanged_ascii

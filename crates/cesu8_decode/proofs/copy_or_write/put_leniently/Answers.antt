@@ -1,7 +1,7 @@
 use Rattle.std.proofs.Common.{arith}
 use Rattle.std.proofs.lemmas.Str.{IsUtf8-from_ascii}
 use Rattle.cesu8_decode.specs.PutReadings.{IsLenientReadingOf}
-use Rattle.cesu8_decode.proofs.pieces.SliceReadings.{only_utf8, text_put}
+use Rattle.cesu8_decode.proofs.chunks.SliceReadings.{only_utf8, text_put}
 use Rattle.cesu8_decode.proofs.copy_or_write.put_leniently.Goals as goal
 
 pub returns-then-is_short_ascii : goal.returns-then-is_short_ascii

@@ -4,7 +4,7 @@ use Rattle.cesu8_text.specs.Class.{IsChangedByte}
 use Rattle.cesu8_text.proofs.encoding.EncodedBytes.{none_changed}
 use Rattle.std.proofs.lemmas.Bool.{iff_false}
 use Rattle.cesu8_decode.specs.PutReadings.{IsReadingOf}
-use Rattle.cesu8_decode.proofs.pieces.SliceReadings.{no_strict_text, only_unchanged, text_put}
+use Rattle.cesu8_decode.proofs.chunks.SliceReadings.{no_strict_text, only_unchanged, text_put}
 use Rattle.cesu8_decode.proofs.copy_or_write.put_other_encoding.Goals as goal
 
 pub returns-then-whole_text-bytes : goal.returns-then-whole_text-bytes

@@ -1,6 +1,6 @@
 use Rattle.std.proofs.Common.{arith}
 use Rattle.cesu8_decode.specs.PutReadings.{IsReadingOf, IsLenientReadingOf}
-use Rattle.cesu8_decode.proofs.pieces.SliceReadings.{only_utf8, text_put, same_reading, lenient_is_other}
+use Rattle.cesu8_decode.proofs.chunks.SliceReadings.{only_utf8, text_put, same_reading, lenient_is_other}
 use Rattle.cesu8_decode.proofs.copy_or_write.put_other_leniently.Goals as goal
 
 pub returns-then-whole_text-bytes : goal.returns-then-whole_text-bytes

@@ -2,7 +2,7 @@ use Rattle.std.proofs.Common.{◌≡◌, ℕ, arith, length, Option, Some, None,
 use Rattle.std.proofs.lemmas.Option.{IfSome_then}
 use Rattle.cesu8_text.specs.Reading.{IsStrictReading, reading, lossy_length}
 use Rattle.cesu8_bytes.specs.declared.options.Strictness.TheVariants.{Strict}
-use Rattle.cesu8_decode.proofs.pieces.SliceReadings.{only_unchanged, of_length, strict_no_longer}
+use Rattle.cesu8_decode.proofs.chunks.SliceReadings.{only_unchanged, of_length, strict_no_longer}
 use Rattle.cesu8_decode.proofs.lengths.decoded_len.Goals as goal
 
 pub returns-then-text-bytes-clause-some : goal.returns-then-text-bytes-clause-some
@@ -19,7 +19,7 @@ returns-clause-some g c =
     let f = g.F.Flavor.flavor in
     let bytes = c.args.bytes.now in
     IfSome_then c.lossy_len.result c.lossy_len.ensures.some
-    (λ len is. (reading f bytes, c.is_damaged.ensures.whole c.if-is_damaged.false, is))
+    (λ len is. (reading f bytes, c.is_ill_formed.ensures.whole c.if-is_ill_formed.false, is))
 
 -- So there is one.
 never_none : (P Q : Type 0) (r : Option ℕ) → ¬ P → IfNone r P → IfNone r Q
@@ -30,5 +30,5 @@ pub returns-clause-none : goal.returns-clause-none
 returns-clause-none g c =
     let f = g.F.Flavor.flavor in
     let bytes = c.args.bytes.now in
-    let short = strict_no_longer f bytes (c.is_damaged.ensures.whole c.if-is_damaged.false) in
+    let short = strict_no_longer f bytes (c.is_ill_formed.ensures.whole c.if-is_ill_formed.false) in
     never_none _ _ c.lossy_len.result (λ long. omega (arith, short)) c.lossy_len.ensures.none

@@ -1,5 +1,5 @@
 use Rattle.std.proofs.Common.{arith}
-use Rattle.cesu8_decode.proofs.positions.Savings.{lossy_length_by_savings, length_given}
+use Rattle.cesu8_decode.proofs.by_offset.Savings.{lossy_length_by_savings, length_given}
 use Rattle.cesu8_decode.proofs.lengths.lossy_len.Goals as goal
 
 pub overflow_sub-most : goal.overflow_sub-most

@@ -1,8 +1,8 @@
 use Rattle.std.proofs.Common.{◌≡◌, ◌∙◌, sym, arith, length}
 use Rattle.std.proofs.lemmas.Bool.{eqb-true}
-use Rattle.cesu8_decode.specs.DecodedPlaces.{saved}
-use Rattle.cesu8_decode.proofs.positions.Savings.{lossy_length_by_savings}
-use Rattle.cesu8_decode.proofs.positions.Weights.{no_weight}
+use Rattle.cesu8_decode.specs.DecodedOffsets.{saved}
+use Rattle.cesu8_decode.proofs.by_offset.Savings.{lossy_length_by_savings}
+use Rattle.cesu8_decode.proofs.by_offset.Weights.{no_weight}
 use Rattle.cesu8_decode.proofs.lengths.saved.Goals as goal
 
 pub overflow_add-saved : goal.overflow_add-saved

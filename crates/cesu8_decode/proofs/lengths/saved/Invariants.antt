@@ -1,5 +1,5 @@
 use Rattle.std.proofs.Common.{◌≡◌, ◌+◌, length}
-use Rattle.cesu8_decode.specs.DecodedPlaces.{saved, total_weight}
+use Rattle.cesu8_decode.specs.DecodedOffsets.{saved, total_weight}
 use Rattle.cesu8_decode.proofs.lengths.saved.Given as goal
 
 abbrev pub invariant-loop-rest : goal.invariant-loop-rest

@@ -4,4 +4,4 @@ use Rattle.cesu8_decode.proofs.packing.store.Goals as goal
 
 pub returns-clause-bytes : goal.returns-clause-bytes
 returns-clause-bytes c =
-    stored_halves c.args.parts.gone c.args.parts.damaged c.args.parts.bytes (omega arith) (omega arith) (omega arith) _ _ _ c.store_half-at.ensures.bytes c.store_half.ensures.bytes
+    stored_halves c.args.parts.gone c.args.parts.ill_formed c.args.parts.bytes (omega arith) (omega arith) (omega arith) _ _ _ c.store_half-at.ensures.bytes c.store_half.ensures.bytes

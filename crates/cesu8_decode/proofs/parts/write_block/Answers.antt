@@ -1,16 +1,16 @@
 use Rattle.std.proofs.Common.{◌-◌, ap, ◌∙◌, sym}
 use Rattle.std.proofs.lemmas.Bool.{not-true, not-false, eqb-true, eqb-false}
 use lib.Lanes.{mask_l}
-use Rattle.cesu8_decode.specs.DecodedPlaces.{is_damaged_at}
+use Rattle.cesu8_decode.specs.DecodedOffsets.{is_ill_formed_at}
 use Rattle.cesu8_decode.proofs.decoder.FirstLanes.{some_bit, no_bit}
 use Rattle.cesu8_decode.proofs.parts.write_block.Goals as goal
 
-pub returns-clause-damaged : goal.returns-clause-damaged
-returns-clause-damaged g c some =
-    some_bit (is_damaged_at g.F.Flavor.flavor c.args.window.now) c.args.at c.args.count (32 - c.args.count)
-    (λ none. eqb-false _ _ (not-true _ some) (c.highest_bits-is_damaged.ensures ∙ ap mask_l c.parts_at-parts.ensures.damaged ∙ none))
+pub returns-clause-ill_formed : goal.returns-clause-ill_formed
+returns-clause-ill_formed g c some =
+    some_bit (is_ill_formed_at g.F.Flavor.flavor c.args.window.now) c.args.at c.args.count (32 - c.args.count)
+    (λ none. eqb-false _ _ (not-true _ some) (c.highest_bits-is_ill_formed.ensures ∙ ap mask_l c.parts_at-parts.ensures.ill_formed ∙ none))
 
 pub returns-clause-whole : goal.returns-clause-whole
 returns-clause-whole g c none =
-    no_bit (is_damaged_at g.F.Flavor.flavor c.args.window.now) c.args.at c.args.count (32 - c.args.count)
-    (sym (c.highest_bits-is_damaged.ensures ∙ ap mask_l c.parts_at-parts.ensures.damaged) ∙ eqb-true _ _ (not-false _ none))
+    no_bit (is_ill_formed_at g.F.Flavor.flavor c.args.window.now) c.args.at c.args.count (32 - c.args.count)
+    (sym (c.highest_bits-is_ill_formed.ensures ∙ ap mask_l c.parts_at-parts.ensures.ill_formed) ∙ eqb-true _ _ (not-false _ none))

@@ -1,7 +1,7 @@
 use Rattle.std.proofs.Common.{◌∙◌, sym, arith}
 use Rattle.std.proofs.lemmas.List.{length-take-le}
-use Rattle.cesu8_decode.proofs.pieces.ReadPieces.{none_if_refused}
-use Rattle.cesu8_decode.proofs.pieces.SliceReadings.{no_strict_text, decoded_put}
+use Rattle.cesu8_decode.proofs.chunks.ReadChunks.{none_if_refused}
+use Rattle.cesu8_decode.proofs.chunks.SliceReadings.{no_strict_text, decoded_put}
 use Rattle.cesu8_decode.proofs.slices.put_decoded.Goals as goal
 
 pub returns-then-is_refused : goal.returns-then-is_refused

@@ -1,4 +1,4 @@
-use Rattle.cesu8_decode.proofs.pieces.SliceReadings.{no_strict_text}
+use Rattle.cesu8_decode.proofs.chunks.SliceReadings.{no_strict_text}
 use Rattle.cesu8_decode.proofs.slices.put_text.Goals as goal
 
 pub returns-in-Refused : goal.returns-in-Refused

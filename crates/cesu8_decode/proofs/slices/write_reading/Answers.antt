@@ -1,8 +1,8 @@
 use Rattle.std.proofs.Common.{◌∙◌, sym, ap, arith, length, ◌++◌, take, ◌+◌}
 use Rattle.std.proofs.lemmas.Bool.{eqb-true}
 use Rattle.std.proofs.lemmas.List.{take_rest}
-use Rattle.cesu8_decode.proofs.pieces.ReadPieces.{piece_length}
-use Rattle.cesu8_decode.proofs.pieces.WrittenPieces.{nothing_written, piece_put, all_written}
+use Rattle.cesu8_decode.proofs.chunks.ReadChunks.{chunk_length}
+use Rattle.cesu8_decode.proofs.chunks.WrittenChunks.{nothing_written, chunk_written, all_written}
 use Rattle.cesu8_decode.proofs.slices.write_reading.Goals as goal
 
 pub loop-rest-init : goal.loop-rest-init
@@ -16,12 +16,12 @@ put-end-requires g c =
       c.loop-rest.invariant.room,
       c.loop-rest.invariant.len,
       ap length c.as_bytes.ensures.value,
-      piece_length g.F.Flavor.flavor c.loop-rest.rest.now _ _ c.in-Joined.ensures.lossy,
+      chunk_length g.F.Flavor.flavor c.loop-rest.rest.now _ _ c.in-Joined.ensures.lossy,
     )
 
 pub loop-rest-preserved-in-Joined : goal.loop-rest-preserved-in-Joined
 loop-rest-preserved-in-Joined g c =
-    rw take_rest (piece_put g.F.Flavor.flavor c.args.bytes.now c.loop-rest.rest.now _ _ _ _ _ _ _ _
+    rw take_rest (chunk_written g.F.Flavor.flavor c.args.bytes.now c.loop-rest.rest.now _ _ _ _ _ _ _ _
     c.loop-rest.invariant c.in-Joined.ensures
     (c.put-end.ensures.bytes ∙ ap (λ bs. take c.loop-rest.end c.loop-rest.out ++ bs) c.as_bytes.ensures.value)
     (c.put-end.ensures.end ∙ ap (λ bs. c.loop-rest.end + length bs) c.as_bytes.ensures.value)
@@ -34,13 +34,13 @@ put-end-requires-in-Written g c =
       c.requires,
       c.loop-rest.invariant.room,
       c.loop-rest.invariant.len,
-      piece_length g.F.Flavor.flavor c.loop-rest.rest.now _ _ c.in-Written.ensures.0.lossy,
+      chunk_length g.F.Flavor.flavor c.loop-rest.rest.now _ _ c.in-Written.ensures.0.lossy,
     )
 
 pub loop-rest-preserved : goal.loop-rest-preserved
 loop-rest-preserved g c =
     let put = c.put-end-in-Written.ensures in
-    rw take_rest (piece_put g.F.Flavor.flavor c.args.bytes.now c.loop-rest.rest.now _ _ _ _ _ _ _ _
+    rw take_rest (chunk_written g.F.Flavor.flavor c.args.bytes.now c.loop-rest.rest.now _ _ _ _ _ _ _ _
     c.loop-rest.invariant c.in-Written.ensures.0 put.bytes put.end put.behind put.len)
 
 pub returns : goal.returns

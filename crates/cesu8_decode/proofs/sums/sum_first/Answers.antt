@@ -1,7 +1,7 @@
 use Rattle.std.proofs.Common.{◌*◌, [], refl, ap, arith}
 use Rattle.std.proofs.lemmas.List.{take_rest}
-use Rattle.cesu8_decode.specs.DecodedPlaces.{total_weight}
-use Rattle.cesu8_decode.proofs.positions.Weights.{no_weight, weight_by_parts}
+use Rattle.cesu8_decode.specs.DecodedOffsets.{total_weight}
+use Rattle.cesu8_decode.proofs.by_offset.Weights.{no_weight, weight_by_parts}
 use Rattle.cesu8_decode.proofs.sums.sum_first.Goals as goal
 
 pub returns-then-bytes-lt-REACH-clause-sum : goal.returns-then-bytes-lt-REACH-clause-sum

@@ -16,5 +16,5 @@ returns g c =
       sym (pick_l-range_with_len 0 bytes c.args.at 32 room),
       c.look_up.ensures,
       c.look_up-2.ensures,
-      c.starts-codes.ensures,
+      c.starts-kinds.ensures,
     ) (weight_lanes_are g.W.Weight.weight _ _ _ c.weights-weights.ensures f bytes (range_with_len c.args.at 32))

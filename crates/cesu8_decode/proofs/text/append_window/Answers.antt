@@ -1,11 +1,11 @@
 use Rattle.std.proofs.Common.{arith}
 use Rattle.cesu8_bytes.specs.declared.options.Strictness.TheVariants.{Lossy}
-use Rattle.cesu8_decode.proofs.pieces.ReadPieces.{all_appended, piece_utf8}
+use Rattle.cesu8_decode.proofs.chunks.ReadChunks.{all_appended, chunk_utf8}
 use Rattle.cesu8_decode.proofs.text.append_window.Goals as goal
 
 pub append_written-requires-clause-utf8 : goal.append_written-requires-clause-utf8
 append_written-requires-clause-utf8 g c =
-    piece_utf8 g.F.Flavor.flavor Lossy _ _ _ c.write_window-decoded.ensures.first.lossy
+    chunk_utf8 g.F.Flavor.flavor Lossy _ _ _ c.write_window-decoded.ensures.first.lossy
 
 pub returns : goal.returns
 returns g c =

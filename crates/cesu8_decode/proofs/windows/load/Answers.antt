@@ -1,6 +1,6 @@
 use Rattle.std.proofs.Common.{◌≤◌, length, subst, sym, arith}
 use Rattle.std.proofs.lemmas.List.{take_all}
-use Rattle.cesu8_decode.specs.DecodedPlaces.{IsPadded}
+use Rattle.cesu8_decode.specs.DecodedOffsets.{IsPadded}
 use Rattle.cesu8_decode.specs.DecodedWindows.{IsRead}
 use Rattle.cesu8_decode.proofs.decoder.DecodedWindows.{all_read, part_read}
 use Rattle.cesu8_decode.proofs.windows.load.Goals as goal
@@ -19,7 +19,7 @@ pub returns-else-loaded-bytes-clause-read : goal.returns-else-loaded-bytes-claus
 returns-else-loaded-bytes-clause-read g c =
     let fits : c.if-bytes-most.loaded ≤ length c.args.bytes.now =
     elim c.if-bytes-most.branch [ then-bytes-most w ↦ omega arith | else-bytes-most w ↦ omega arith ] in
-    part_read g.F.Flavor.flavor c.args.bytes.now c.pad.new.window c.if-bytes-most.loaded c.border.result c.pad.ensures.padded fits
+    part_read g.F.Flavor.flavor c.args.bytes.now c.pad.new.window c.if-bytes-most.loaded c.boundary.result c.pad.ensures.padded fits
     (elim c.if-bytes-most.branch [ then-bytes-most w ↦ absurd (c.if-loaded-bytes.false w.loaded-is) | else-bytes-most w ↦ omega arith ])
-    c.border.ensures.within.0
-    c.border.ensures.border
+    c.boundary.ensures.within.0
+    c.boundary.ensures.boundary

@@ -1,6 +1,6 @@
 use Rattle.std.proofs.Common.{◌+◌, ◌∙◌, arith, refl}
-use Rattle.cesu8_decode.specs.DecodedPlaces.{decoded, is_damaged_at}
-use Rattle.cesu8_decode.proofs.decoder.DecodedWindows.{codes_of_zeros, five_codes, more_damaged, none_damaged, more_written}
+use Rattle.cesu8_decode.specs.DecodedOffsets.{decoded, is_ill_formed_at}
+use Rattle.cesu8_decode.proofs.decoder.DecodedWindows.{kinds_of_zeros, five_kinds, more_ill_formed, none_ill_formed, more_written}
 use Rattle.cesu8_decode.proofs.windows.write_blocks.Goals as goal
 use Rattle.cesu8_decode.proofs.windows.write_blocks.Goals.{then-left-lt-BLOCK, else-left-lt-BLOCK}
 
@@ -10,15 +10,15 @@ loop-at-init g c = record {
   within = omega arith;
   room = λ some. omega arith;
   end = omega arith;
-  before = λ some. codes_of_zeros g.F.Flavor.flavor c.args.window.now _ refl c.requires.zeros;
+  before = λ some. kinds_of_zeros g.F.Flavor.flavor c.args.window.now _ refl c.requires.zeros;
   len = refl;
   bytes = refl;
-  damaged = λ some. cc;
+  ill_formed = λ some. cc;
   whole = λ none i before. absurd (omega arith);
 }
 
-pub write_block-block-requires-clause-codes : goal.write_block-block-requires-clause-codes
-write_block-block-requires-clause-codes g c =
+pub write_block-block-requires-clause-kinds : goal.write_block-block-requires-clause-kinds
+write_block-block-requires-clause-kinds g c =
     c.near.ensures g.F.Flavor.flavor c.args.window.now c.loop-at.at (c.loop-at.invariant.before (omega arith)) c.starts-here.ensures
 
 pub loop-at-preserved : goal.loop-at-preserved
@@ -33,10 +33,10 @@ loop-at-preserved g c =
       end = omega (arith, inv.room, block.end);
       before = λ more. elim c.if-left-lt-BLOCK.branch [
         | then-left-lt-BLOCK w ↦ absurd (omega arith)
-        | else-left-lt-BLOCK w ↦ five_codes f window _ (c.loop-at.at + 5) 27 _ c.starts-here.ensures (omega arith) (omega arith)
+        | else-left-lt-BLOCK w ↦ five_kinds f window _ (c.loop-at.at + 5) 27 _ c.starts-here.ensures (omega arith) (omega arith)
       ];
       len = block.len ∙ inv.len;
       bytes = more_written f window _ _ c.loop-at.at c.if-left-lt-BLOCK.len inv.bytes block.bytes;
-      damaged = more_damaged (is_damaged_at f window) c.loop-at.at c.if-left-lt-BLOCK.len _ _ inv.damaged block.damaged;
-      whole = none_damaged (is_damaged_at f window) c.loop-at.at c.if-left-lt-BLOCK.len _ _ inv.whole block.whole;
+      ill_formed = more_ill_formed (is_ill_formed_at f window) c.loop-at.at c.if-left-lt-BLOCK.len _ _ inv.ill_formed block.ill_formed;
+      whole = none_ill_formed (is_ill_formed_at f window) c.loop-at.at c.if-left-lt-BLOCK.len _ _ inv.whole block.whole;
     }

@@ -15,7 +15,7 @@ returns g c =
         within = search rules;
         lossy = read_lossily f bytes window c.load-read.result loaded.read _ _ blocks.read blocks.bytes;
         strict = λ fine. read_strictly f bytes window c.load-read.result loaded.read _ _ blocks.read blocks.bytes (blocks.whole fine);
-        damaged = λ damaged. read_fault f bytes window c.load-read.result loaded.read (blocks.damaged damaged);
+        ill_formed = λ ill_formed. read_fault f bytes window c.load-read.result loaded.read (blocks.ill_formed ill_formed);
       };
       all = search rules;
       end = omega (arith, blocks.end, blocks.len, loaded.inside, loaded.len);

@@ -1,5 +1,5 @@
 use Rattle.std.proofs.Common.{◌≡◌, ◌+◌, ◌-◌, ap, subst, arith, length}
-use Rattle.cesu8_encode.specs.EncodedPlaces.{IsWritten}
+use Rattle.cesu8_encode.specs.EncodedOffsets.{IsWritten}
 use Rattle.cesu8_encode.proofs.encoder.EncodedWindows.{encoded_bytes_last, room_behind, written_behind}
 use Rattle.cesu8_encode.proofs.windows.write_last.Goals as goal
 
@@ -10,8 +10,8 @@ write_block-requires-clause-room g c =
     let at = c.args.at in
     omega (
       arith,
-      ap length (encoded_bytes_last f text c.put_before_zeros.new.window at (length text - at) (omega (arith, c.requires.position)) c.put_before_zeros.ensures),
-      room_behind f text at (length text - at) c.args.end c.args.out.now (omega (arith, c.requires.position)) c.requires.before c.requires.room,
+      ap length (encoded_bytes_last f text c.put_before_zeros.new.window at (length text - at) (omega (arith, c.requires.offset)) c.put_before_zeros.ensures),
+      room_behind f text at (length text - at) c.args.end c.args.out.now (omega (arith, c.requires.offset)) c.requires.before c.requires.room,
     )
 
 pub returns : goal.returns
@@ -19,9 +19,9 @@ returns g c =
     let f = g.F.Flavor.flavor in
     let text = c.args.text.now in
     let at = c.args.at in
-    let same = encoded_bytes_last f text c.put_before_zeros.new.window at (length text - at) (omega (arith, c.requires.position)) c.put_before_zeros.ensures in
-    let room = room_behind f text at (length text - at) c.args.end c.args.out.now (omega (arith, c.requires.position)) c.requires.before c.requires.room in
-    let sum : at + (length text - at) ≡ length text = omega (arith, c.requires.position) in
+    let same = encoded_bytes_last f text c.put_before_zeros.new.window at (length text - at) (omega (arith, c.requires.offset)) c.put_before_zeros.ensures in
+    let room = room_behind f text at (length text - at) c.args.end c.args.out.now (omega (arith, c.requires.offset)) c.requires.before c.requires.room in
+    let sum : at + (length text - at) ≡ length text = omega (arith, c.requires.offset) in
     record {
       written = subst (λ n. IsWritten f text n c.write_block.new.out c.write_block.result) sum
           (written_behind f text at (length text - at) _ _ _ _ _ c.requires.before c.write_block.ensures.bytes same

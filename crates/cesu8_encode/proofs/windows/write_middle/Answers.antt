@@ -1,5 +1,5 @@
 use Rattle.std.proofs.Common.{◌≡◌, ◌+◌, ◌*◌, ap, subst, ◌∙◌, arith, length}
-use Rattle.cesu8_encode.specs.EncodedPlaces.{IsWritten}
+use Rattle.cesu8_encode.specs.EncodedOffsets.{IsWritten}
 use Rattle.cesu8_encode.proofs.encoder.EncodedWindows.{encoded_bytes_here, room_behind, written_behind}
 use Rattle.cesu8_encode.proofs.windows.write_middle.Goals as goal
 

@@ -1,5 +1,5 @@
 use Rattle.std.proofs.Common.{◌≡◌, ◌*◌, length}
-use Rattle.cesu8_encode.specs.EncodedPlaces.{IsWritten}
+use Rattle.cesu8_encode.specs.EncodedOffsets.{IsWritten}
 use Rattle.cesu8_encode.proofs.windows.write_middle.Given as goal
 
 abbrev pub invariant-loop-i : goal.invariant-loop-i

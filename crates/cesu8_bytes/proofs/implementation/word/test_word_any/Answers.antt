@@ -4,27 +4,27 @@ use Rattle.cesu8_bytes.proofs.lists.Words.{tested}
 use Rattle.cesu8_bytes.proofs.lists.EightElements.{of_eight, none_further, in_last_eight}
 use Rattle.cesu8_bytes.proofs.implementation.word.test_word_any.Goals as goal
 
-pub loop-position-init : goal.loop-position-init
-loop-position-init g c class tests =
+pub loop-offset-init : goal.loop-offset-init
+loop-offset-init g c class tests =
     let here = tested class c.word_at.result _ c.test.result (tests c.word_at.result c.test.result c.word_at.type_inv c.test.ensures) c.word_at.ensures in
     none_further (λ b. IsTrue (class b)) c.args.value.now 0 (omega arith) (λ i x before long e p. absurd (omega arith))
     (iff_false here c.if-test.false)
 
 pub returns-then-test-2 : goal.returns-then-test-2
 returns-then-test-2 g c class short tests =
-    let here = tested class c.word_at-in-loop-position.result _ c.test-in-loop-position.result
-    (tests c.word_at-in-loop-position.result c.test-in-loop-position.result c.word_at-in-loop-position.type_inv c.test-in-loop-position.ensures)
-    c.word_at-in-loop-position.ensures in (
-      (λ _. of_eight (λ b. IsTrue (class b)) c.args.value.now c.loop-position.position (omega arith) (here.0 c.if-test-2.true)),
+    let here = tested class c.word_at-in-loop-offset.result _ c.test-in-loop-offset.result
+    (tests c.word_at-in-loop-offset.result c.test-in-loop-offset.result c.word_at-in-loop-offset.type_inv c.test-in-loop-offset.ensures)
+    c.word_at-in-loop-offset.ensures in (
+      (λ _. of_eight (λ b. IsTrue (class b)) c.args.value.now c.loop-offset.offset (omega arith) (here.0 c.if-test-2.true)),
       (λ _. refl),
     )
 
-pub loop-position-preserved : goal.loop-position-preserved
-loop-position-preserved g c class tests =
-    let here = tested class c.word_at-in-loop-position.result _ c.test-in-loop-position.result
-    (tests c.word_at-in-loop-position.result c.test-in-loop-position.result c.word_at-in-loop-position.type_inv c.test-in-loop-position.ensures)
-    c.word_at-in-loop-position.ensures in
-    none_further (λ b. IsTrue (class b)) c.args.value.now c.loop-position.position (omega arith) (c.loop-position.invariant class tests)
+pub loop-offset-preserved : goal.loop-offset-preserved
+loop-offset-preserved g c class tests =
+    let here = tested class c.word_at-in-loop-offset.result _ c.test-in-loop-offset.result
+    (tests c.word_at-in-loop-offset.result c.test-in-loop-offset.result c.word_at-in-loop-offset.type_inv c.test-in-loop-offset.ensures)
+    c.word_at-in-loop-offset.ensures in
+    none_further (λ b. IsTrue (class b)) c.args.value.now c.loop-offset.offset (omega arith) (c.loop-offset.invariant class tests)
     (iff_false here c.if-test-2.false)
 
 pub returns : goal.returns
@@ -32,6 +32,6 @@ returns g c class short tests =
     let here = tested class c.word_at-2.result _ c.test-2.result
     (tests c.word_at-2.result c.test-2.result c.word_at-2.type_inv c.test-2.ensures) c.word_at-2.ensures in (
       (λ t. of_eight (λ b. IsTrue (class b)) c.args.value.now _ (omega arith) (here.0 t)),
-      (λ p. here.1 (in_last_eight (λ b. IsTrue (class b)) c.args.value.now c.loop-position.position _ (omega arith) (omega arith)
-          (c.loop-position.invariant class tests) p)),
+      (λ p. here.1 (in_last_eight (λ b. IsTrue (class b)) c.args.value.now c.loop-offset.offset _ (omega arith) (omega arith)
+          (c.loop-offset.invariant class tests) p)),
     )

@@ -11,5 +11,5 @@ abbrev pub invariant-loop-read : goal.invariant-loop-read
 invariant-loop-read l = record {
   past : l.stop + l.read ≤ length l.bytes + PAIR;
   room : l.written ≤ l.fn.start.written + l.read;
-  joined : (f : Flavor) → KeepsJoined f l.bytes (take l.fn.start.written l.fn.room) (drop l.read l.bytes) (take l.written l.room);
+  joined : (f : Flavor) → KeepsJoined f l.bytes (take l.fn.start.written l.fn.buffer) (drop l.read l.bytes) (take l.written l.buffer);
 }

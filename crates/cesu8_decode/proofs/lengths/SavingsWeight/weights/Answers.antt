@@ -1,11 +1,11 @@
 use Rattle.std.proofs.Common.{◌≡◌, ℕ, refl}
-use Rattle.cesu8_decode.specs.DecodedPlaces.{saved}
+use Rattle.cesu8_decode.specs.DecodedOffsets.{saved}
 use Rattle.cesu8_decode.specs.DecodedLanes.{weight_told}
 use Rattle.cesu8_decode.specs.declared.lengths.TheConstants.{BY_LOW, BY_HIGH}
-use Rattle.cesu8_decode.proofs.decoder.StartCodes.{Start, nothing, one, null, two_low, two_high, three_low, three_high, three_last, pair, start}
+use Rattle.cesu8_decode.proofs.decoder.StartKinds.{Start, nothing, one, null, two_low, two_high, three_low, three_high, three_last, pair, start}
 use Rattle.cesu8_decode.proofs.lengths.SavingsWeight.weights.Goals as goal
 
--- what begins at a place tells what it saves
+-- what begins at an offset tells what it saves
 told : (b w c : ℕ) → Start b w c → weight_told 2 BY_LOW BY_HIGH w c ≡ saved w b
 told b w c nothing = refl
 told b w c (one low) = refl

@@ -1,0 +1,5 @@
+-- Text that is joined a chunk at a time.
+pub mod EncodedChunk
+pub mod Joining
+pub mod PairWords
+pub mod JoinedText

@@ -1,0 +1,19 @@
+-- Text that is read a chunk at a time.
+use Rattle.std.specs.Prelude.{◌≡◌, ℕ, List, [], ◌++◌}
+use Rattle.cesu8_text.specs.Text.{IsText, utf8}
+use Rattle.cesu8_text.specs.Encoding.{Flavor, encoding}
+use Rattle.cesu8_text.specs.Reading.{reading}
+use Rattle.cesu8_bytes.specs.declared.options.Strictness.{Strictness}
+use Rattle.cesu8_bytes.specs.declared.options.Strictness.TheVariants.{Strict}
+
+-- The text so far, whose UTF-8 was written after old, and the bytes that are left.
+pub record IsReadSoFar (f : Flavor) (which : Strictness) (bytes rest old new : List ℕ) : Type 0 where
+  pub text : List ℕ
+  pub scalars : IsText text
+  pub lossy_reading : reading f bytes ≡ text ++ reading f rest
+  pub strict_reading : which ≡ Strict → bytes ≡ encoding f text ++ rest
+  pub written : new ≡ old ++ utf8 text
+
+-- A chunk of text, in UTF-8, is read before the rest.
+abbrev pub IsChunk : Flavor → Strictness → List ℕ → List ℕ → List ℕ → Type 0
+IsChunk f which bytes rest chunk = IsReadSoFar f which bytes rest [] chunk

@@ -1,0 +1,10 @@
+-- Reading by offsets: what begins where, what becomes of each byte, lengths and ill-formed bytes as sums.
+pub mod FirstWidths
+pub mod WidthTests
+pub mod WindowOffsets
+pub mod CharacterBoundaries
+pub mod DecodedBytes
+pub mod DecodedText
+pub mod Weights
+pub mod Savings
+pub mod IllFormed

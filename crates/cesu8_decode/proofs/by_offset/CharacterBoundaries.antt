@@ -1,0 +1,181 @@
+-- Offsets that no encoded character reaches over, told by the widths at the five before.
+use Rattle.std.proofs.Common.{◌≡◌, ℕ, zero, suc, ◌+◌, ◌-◌, ◌<◌, ◌≤◌, ◌⊎◌, ⊎_elim, Bool, true, false, leb, List, ◌∷◌, refl, ap, ◌∙◌, subst, inl, inr, arith, length, take, drop, get_or, cond, add-zero, zero-add, length-drop}
+use Rattle.std.proofs.lemmas.Bool.{and_parts, and_from, and_cases, leb-true, leb-false, le-leb, cases_lt, cases_Bool}
+use Rattle.std.proofs.lemmas.List.{take-append-drop, length-take-le}
+use Rattle.cesu8_text.specs.Encoding.{Flavor, Cesu8, Mutf8}
+use Rattle.cesu8_text.specs.Reading.{StandsAt, width}
+use Rattle.cesu8_text.specs.Laws.{NoneCrosses}
+use Rattle.cesu8_decode.specs.DecodedOffsets.{first_width, first_width_by, width_at, is_boundary_at, one_at, two_at, three_at, pair_at}
+use Rattle.cesu8_bytes.specs.Joining.{null_at}
+use Rattle.cesu8_decode.proofs.by_offset.FirstWidths.{wide, width_of_first, width_fits}
+use Rattle.cesu8_text.proofs.reading.Stretches.{no_overlap}
+use Rattle.cesu8_decode.proofs.by_offset.WindowOffsets.{Follows, width_in}
+
+-- ---- the widths there are
+
+width_or_none : (one null two three pair : Bool) →
+    let w : ℕ = cond one 1 (cond null 2 (cond two 2 (cond three 3 (cond pair 6 0)))) in (w ≤ 3) ⊎ (w ≡ 6)
+width_or_none true null two three pair = inl (omega arith)
+width_or_none false true two three pair = inl (omega arith)
+width_or_none false false true three pair = inl (omega arith)
+width_or_none false false false true pair = inl (omega arith)
+width_or_none false false false false true = inr refl
+width_or_none false false false false false = inl (omega arith)
+
+-- A width is 3 at most, or 6.
+pub width_bounds : (f : Flavor) (window : List ℕ) (i : ℕ) → (width_at f window i ≤ 3) ⊎ (width_at f window i ≡ 6)
+unfolding first_width_by
+width_bounds f window i =
+    let w : ℕ → ℕ = λ k. get_or window k 0 in
+    width_or_none (one_at f (w i)) (null_at f (w i) (w (i + 1))) (two_at (w i) (w (i + 1))) (three_at (w i) (w (i + 1)) (w (i + 2)))
+    (pair_at (w i) (w (i + 1)) (w (i + 2)) (w (i + 3)) (w (i + 4)) (w (i + 5)))
+
+-- A zero is no character of two bytes or more.
+zero_width : (f : Flavor) (window : List ℕ) (i : ℕ) → get_or window i 0 ≡ 0 → width_at f window i ≤ 1
+unfolding first_width_by
+zero_width Cesu8 window i null = rw null (omega arith)
+zero_width Mutf8 window i null = rw null (omega arith)
+
+-- ---- boundaries
+
+-- A character that begins before a boundary, in the five offsets there, ends before it.
+pub boundary_ends : (f : Flavor) (window : List ℕ) (i : ℕ) → is_boundary_at f window i ≡ true → (s : ℕ) → s < 5 →
+    width_at f window (i + s) + s ≤ 5
+boundary_ends f window i boundary s small =
+    let w = width_at f window in
+    let h1 = and_parts (leb (w (i + 4)) 1) _ boundary in
+    let h2 = and_parts (leb (w (i + 3)) 2) _ h1.1 in
+    let h3 = and_parts (leb (w (i + 2)) 3) _ h2.1 in
+    let h4 = and_parts (leb (w (i + 1)) 4) (leb (w i) 5) h3.1 in
+    five s small (leb-true (w (i + 4)) 1 h1.0) (leb-true (w (i + 3)) 2 h2.0) (leb-true (w (i + 2)) 3 h3.0)
+    (leb-true (w (i + 1)) 4 h4.0) (leb-true (w i) 5 h4.1)
+  where
+    five : (s : ℕ) → s < 5 → width_at f window (i + 4) ≤ 1 → width_at f window (i + 3) ≤ 2 → width_at f window (i + 2) ≤ 3 →
+        width_at f window (i + 1) ≤ 4 → width_at f window i ≤ 5 → width_at f window (i + s) + s ≤ 5
+    five zero small h1 h2 h3 h4 h5 = omega (arith, ap (width_at f window) (add-zero i))
+    five (suc zero) small h1 h2 h3 h4 h5 = omega arith
+    five (suc (suc zero)) small h1 h2 h3 h4 h5 = omega arith
+    five (suc (suc (suc zero))) small h1 h2 h3 h4 h5 = omega arith
+    five (suc (suc (suc (suc zero)))) small h1 h2 h3 h4 h5 = omega arith
+    five (suc (suc (suc (suc (suc s))))) small h1 h2 h3 h4 h5 = absurd (omega arith)
+
+-- Where each does, there is a boundary.
+boundary_where : (f : Flavor) (window : List ℕ) (i : ℕ) → ((s : ℕ) → s < 5 → width_at f window (i + s) + s ≤ 5) →
+    is_boundary_at f window i ≡ true
+boundary_where f window i ends =
+    let w = width_at f window in
+    let last : w i ≤ 5 = omega (arith, ends 0 (omega arith), ap w (add-zero i)) in
+    and_from (leb (w (i + 4)) 1) _ (le-leb (w (i + 4)) 1 (omega (arith, ends 4 (omega arith))))
+    (and_from (leb (w (i + 3)) 2) _ (le-leb (w (i + 3)) 2 (omega (arith, ends 3 (omega arith))))
+    (and_from (leb (w (i + 2)) 3) _ (le-leb (w (i + 2)) 3 (omega (arith, ends 2 (omega arith))))
+    (and_from (leb (w (i + 1)) 4) _ (le-leb (w (i + 1)) 4 (omega (arith, ends 1 (omega arith)))) (le-leb (w i) 5 last))))
+
+-- There is one behind five zeros.
+pub boundary_of_zeros : (f : Flavor) (bytes : List ℕ) → is_boundary_at f (0 ∷ 0 ∷ 0 ∷ 0 ∷ 0 ∷ bytes) 0 ≡ true
+boundary_of_zeros f bytes =
+    boundary_where f (0 ∷ 0 ∷ 0 ∷ 0 ∷ 0 ∷ bytes) 0 (λ s small. omega (arith, zero_width f (0 ∷ 0 ∷ 0 ∷ 0 ∷ 0 ∷ bytes) (0 + s) (five s small)))
+  where
+    five : (s : ℕ) → s < 5 → get_or (0 ∷ 0 ∷ 0 ∷ 0 ∷ 0 ∷ bytes) (0 + s) 0 ≡ 0
+    five zero small = refl
+    five (suc zero) small = refl
+    five (suc (suc zero)) small = refl
+    five (suc (suc (suc zero))) small = refl
+    five (suc (suc (suc (suc zero)))) small = refl
+    five (suc (suc (suc (suc (suc s))))) small = absurd (omega arith)
+
+-- ---- boundaries in bytes
+
+-- The width at an offset is that of the character that begins there.
+pub width_of_standing : (f : Flavor) (window bytes : List ℕ) (i c : ℕ) → Follows window bytes 5 → i < length bytes → StandsAt f bytes i c →
+    width_at f window (i + 5) ≡ width f c
+width_of_standing f window bytes i c follows inside stands =
+    width_in f window bytes 5 i follows inside ∙ width_of_first f (drop i bytes) c stands.0 stands.1
+
+-- No character crosses a boundary.
+pub none_crosses_boundary : (f : Flavor) (window bytes : List ℕ) (n : ℕ) → Follows window bytes 5 → n ≤ length bytes →
+    is_boundary_at f window n ≡ true → NoneCrosses f (take n bytes) (drop n bytes)
+none_crosses_boundary f window bytes n follows fits boundary i c stands inside =
+    let long = length-take-le n bytes fits in
+    let there : StandsAt f bytes i c = subst (λ bs. StandsAt f bs i c) (take-append-drop n bytes) stands in
+    let wide = width_of_standing f window bytes i c follows (omega arith) there in
+    ⊎_elim (λ (near : n < i + 6).
+    let offset : n + (i + 5 - n) ≡ i + 5 = omega arith in
+    omega (arith, boundary_ends f window n boundary (i + 5 - n) (omega arith), ap (width_at f window) offset))
+    (λ (far : i + 6 ≤ n). ⊎_elim (λ small. omega arith) (λ six. omega arith) (width_bounds f window (i + 5)))
+    (cases_lt n (i + 6))
+
+-- A character is behind those before it.
+ends_before : (f : Flavor) (window bytes : List ℕ) (p i : ℕ) → Follows window bytes 5 → p < i → i < length bytes →
+    0 < width_at f window (i + 5) → p + width_at f window (p + 5) ≤ i
+ends_before f window bytes p i follows before inside some =
+    let there = width_in f window bytes 5 p follows (omega arith) in
+    ⊎_elim (λ (begun : 0 < first_width f (drop p bytes)).
+    let earlier = wide f (drop p bytes) begun in
+    let later = wide f (drop i bytes) (omega (arith, width_in f window bytes 5 i follows inside)) in
+    let same = earlier.wide in
+    ⊎_elim (λ (same : (p ≡ i) × (earlier.character ≡ later.character)). absurd (omega (arith, same.0)))
+    (λ (apart : (p + width f earlier.character ≤ i) ⊎ (i + width f later.character ≤ p)). ⊎_elim
+    (λ (done : p + width f earlier.character ≤ i). omega arith)
+    (λ (past : i + width f later.character ≤ p). absurd (omega arith)) apart)
+    (no_overlap f bytes p i earlier.character later.character (earlier.rest, earlier.begins) (later.rest, later.begins)))
+    (λ (none : first_width f (drop p bytes) ≤ 0). omega arith)
+    (cases_lt 0 (first_width f (drop p bytes)))
+
+-- Where a character begins is a boundary.
+boundary_at_character : (f : Flavor) (window bytes : List ℕ) (i : ℕ) → Follows window bytes 5 → is_boundary_at f window 0 ≡ true →
+    i < length bytes → 0 < width_at f window (i + 5) → is_boundary_at f window i ≡ true
+boundary_at_character f window bytes i follows first inside some =
+    boundary_where f window i (λ s small. ⊎_elim
+    (λ (early : i + s < 5). omega (arith, boundary_ends f window 0 first (i + s) early, ap (width_at f window) (zero-add (i + s))))
+    (λ (later : 5 ≤ i + s).
+    let offset : i + s - 5 + 5 ≡ i + s = omega arith in
+    omega (arith, ends_before f window bytes (i + s - 5) i follows (omega arith) inside some, ap (width_at f window) offset))
+    (cases_lt (i + s) 5))
+
+-- The end of the bytes is a boundary.
+pub boundary_at_end : (f : Flavor) (window bytes : List ℕ) → Follows window bytes 5 → is_boundary_at f window 0 ≡ true →
+    is_boundary_at f window (length bytes) ≡ true
+boundary_at_end f window bytes follows first =
+    boundary_where f window (length bytes) (λ s small. ⊎_elim
+    (λ (early : length bytes + s < 5).
+    omega (arith, boundary_ends f window 0 first (length bytes + s) early, ap (width_at f window) (zero-add (length bytes + s))))
+    (λ (later : 5 ≤ length bytes + s).
+    let p = length bytes + s - 5 in
+    let offset : p + 5 ≡ length bytes + s = omega arith in
+    let there = width_in f window bytes 5 p follows (omega arith) in
+    omega (arith, width_fits f (drop p bytes), length-drop p bytes, ap (width_at f window) offset))
+    (cases_lt (length bytes + s) 5))
+
+-- where there is none, a character reaches over the offset
+reaching : (f : Flavor) (window : List ℕ) (i : ℕ) → is_boundary_at f window i ≡ false →
+    (s : ℕ) × (s < 5) × (5 < width_at f window (i + s) + s)
+reaching f window i over =
+    let w = width_at f window in
+    ⊎_elim (λ h. (4, omega arith, omega (arith, leb-false (w (i + 4)) 1 h)))
+    (λ h. ⊎_elim (λ h. (3, omega arith, omega (arith, leb-false (w (i + 3)) 2 h)))
+    (λ h. ⊎_elim (λ h. (2, omega arith, omega (arith, leb-false (w (i + 2)) 3 h)))
+    (λ h. ⊎_elim (λ h. (1, omega arith, omega (arith, leb-false (w (i + 1)) 4 h)))
+    (λ h. (0, omega arith, omega (arith, leb-false (w i) 5 h, ap w (add-zero i))))
+    (and_cases (leb (w (i + 1)) 4) (leb (w i) 5) h))
+    (and_cases (leb (w (i + 2)) 3) _ h))
+    (and_cases (leb (w (i + 3)) 2) _ h))
+    (and_cases (leb (w (i + 4)) 1) _ over)
+
+-- Each offset is a boundary, or one of the five before it is: where a character begins that reaches over it.
+pub boundary_near : (f : Flavor) (window bytes : List ℕ) (n : ℕ) → Follows window bytes 5 → is_boundary_at f window 0 ≡ true →
+    n ≤ length bytes → (m : ℕ) × (m ≤ n) × (n ≤ m + 5) × (is_boundary_at f window m ≡ true)
+boundary_near f window bytes n follows first fits =
+    ⊎_elim (λ (boundary : is_boundary_at f window n ≡ true). (n, omega arith, omega arith, boundary))
+    (λ (over : is_boundary_at f window n ≡ false). let reach = reaching f window n over in by_reach reach.0 reach.1 reach.2)
+    (cases_Bool (is_boundary_at f window n))
+  where
+    by_reach : (s : ℕ) → s < 5 → 5 < width_at f window (n + s) + s → (m : ℕ) × (m ≤ n) × (n ≤ m + 5) × (is_boundary_at f window m ≡ true)
+    by_reach s small far =
+        ⊎_elim (λ (early : n + s < 5).
+        absurd (omega (arith, boundary_ends f window 0 first (n + s) early, ap (width_at f window) (zero-add (n + s)))))
+        (λ (later : 5 ≤ n + s).
+        let m = n + s - 5 in
+        let offset : m + 5 ≡ n + s = omega arith in
+        let same = ap (width_at f window) offset in
+        (m, omega arith, omega arith, boundary_at_character f window bytes m follows first (omega arith) (omega arith)))
+        (cases_lt (n + s) 5)

@@ -1,0 +1,217 @@
+-- What the bytes become, each by its neighbours, is the UTF-8 of the lossy reading.
+use Rattle.std.proofs.Common.{◌≡◌, ℕ, ◌+◌, ◌*◌, ◌/◌, ◌%◌, ◌<◌, ◌≤◌, ◌⊎◌, eqb, leb, List, [], ◌∷◌, ◌++◌, refl, sym, ap, ◌∙◌, subst, inl, inr, arith, length}
+use Rattle.std.proofs.lemmas.Bool.{ne_eqb, lt-leb, cases_eq}
+use Rattle.cesu8_text.specs.Text.{IsScalarValue, utf8_of, utf8}
+use Rattle.cesu8_text.specs.Encoding.{Flavor, Cesu8, Mutf8, encoding}
+use Rattle.cesu8_text.specs.Reading.{NoneBegins, width, reading}
+use Rattle.cesu8_text.specs.Cutting.{Piece, Character, Replaced, ArePieces, bytes_of, text_of, IsGreedy}
+use Rattle.cesu8_decode.specs.DecodedOffsets.{first_width, decoded_byte}
+use Rattle.cesu8_text.proofs.text.Shapes.{Shape, IsTwo, IsThree, IsPair, one, two, three, pair, shape, utf8_of_one, utf8_of_two, utf8_of_three, utf8_of_pair}
+use Rattle.cesu8_text.proofs.encoding.Forms.{encoding_one, encoding_two, encoding_three, encoding_pair, short_form_null, short_form_other}
+use Rattle.cesu8_decode.proofs.by_offset.FirstWidths.{begins_encoded, width_of_first, width_of_none, width_inside}
+use Rattle.cesu8_text.proofs.reading.Cuttings.{greedy_cutting}
+use Rattle.cesu8_text.proofs.reading.Greedy.{places}
+
+-- What bytes become behind two others, and behind five offsets of such widths.
+unfoldable pub decoded_after : Flavor → (w1 w2 w3 w4 w5 two_before before : ℕ) → List ℕ → List ℕ
+decoded_after f w1 w2 w3 w4 w5 two_before before [] = []
+decoded_after f w1 w2 w3 w4 w5 two_before before (b ∷ bytes) =
+    decoded_byte (first_width f (b ∷ bytes)) w1 w2 w3 w4 w5 two_before before b
+    ++ decoded_after f (first_width f (b ∷ bytes)) w1 w2 w3 w4 before b bytes
+
+-- ---- widths of characters that have ended
+
+-- Two widths are alike in each test against a number over n.
+abbrev Alike : ℕ → ℕ → ℕ → Type 0
+Alike n v w = (m : ℕ) → n < m → (eqb v m ≡ eqb w m) × (leb m v ≡ leb m w)
+
+-- No width at the offset n before is tested against n or less.
+byte_alike : (w0 v1 v2 v3 v4 v5 w1 w2 w3 w4 w5 p q b : ℕ) → Alike 1 v1 w1 → Alike 2 v2 w2 → Alike 3 v3 w3 → Alike 4 v4 w4 → Alike 5 v5 w5 →
+    decoded_byte w0 v1 v2 v3 v4 v5 p q b ≡ decoded_byte w0 w1 w2 w3 w4 w5 p q b
+unfolding decoded_byte
+byte_alike w0 v1 v2 v3 v4 v5 w1 w2 w3 w4 w5 p q b h1 h2 h3 h4 h5 =
+    rw (
+      (h1 6 (omega arith)).0,
+      (h2 6 (omega arith)).0,
+      (h3 6 (omega arith)).0,
+      (h4 6 (omega arith)).0,
+      (h5 6 (omega arith)).0,
+      (h1 2 (omega arith)).0,
+      (h1 2 (omega arith)).1,
+      (h2 3 (omega arith)).1,
+    ) refl
+
+after_alike : (f : Flavor) (bytes : List ℕ) (v1 v2 v3 v4 v5 w1 w2 w3 w4 w5 p q : ℕ) →
+    Alike 1 v1 w1 → Alike 2 v2 w2 → Alike 3 v3 w3 → Alike 4 v4 w4 → Alike 5 v5 w5 →
+    decoded_after f v1 v2 v3 v4 v5 p q bytes ≡ decoded_after f w1 w2 w3 w4 w5 p q bytes
+unfolding decoded_after
+after_alike f [] v1 v2 v3 v4 v5 w1 w2 w3 w4 w5 p q h1 h2 h3 h4 h5 = refl
+after_alike f (b ∷ bytes) v1 v2 v3 v4 v5 w1 w2 w3 w4 w5 p q h1 h2 h3 h4 h5 =
+    let w0 = first_width f (b ∷ bytes) in
+    let here = byte_alike w0 v1 v2 v3 v4 v5 w1 w2 w3 w4 w5 p q b h1 h2 h3 h4 h5 in
+    let rest = after_alike f bytes w0 v1 v2 v3 v4 w0 w1 w2 w3 w4 q b (λ m over. (refl, refl)) (λ m over. h1 m (omega arith))
+    (λ m over. h2 m (omega arith)) (λ m over. h3 m (omega arith)) (λ m over. h4 m (omega arith)) in
+    (λ k. here k ++ rest k)
+
+ended : (n w : ℕ) → w ≤ n → Alike n w 0
+ended n w small m over =
+    (ne_eqb w m (λ e. omega arith) ∙ sym (ne_eqb 0 m (λ e. omega arith)), lt-leb m w (omega arith) ∙ sym (lt-leb m 0 (omega arith)))
+
+-- Behind characters that have ended, bytes become the same as behind none.
+behind_ended : (f : Flavor) (bytes : List ℕ) (w1 w2 w3 w4 w5 p q : ℕ) → w1 ≤ 1 → w2 ≤ 2 → w3 ≤ 3 → w4 ≤ 4 → w5 ≤ 5 →
+    decoded_after f w1 w2 w3 w4 w5 p q bytes ≡ decoded_after f 0 0 0 0 0 p q bytes
+behind_ended f bytes w1 w2 w3 w4 w5 p q h1 h2 h3 h4 h5 =
+    after_alike f bytes w1 w2 w3 w4 w5 0 0 0 0 0 p q (ended 1 w1 h1) (ended 2 w2 h2) (ended 3 w3 h3) (ended 4 w4 h4) (ended 5 w5 h5)
+
+-- ---- what the bytes of a character become
+
+-- what bytes become behind none, whatever the two bytes before
+abbrev Become : Flavor → List ℕ → List ℕ → Type 0
+Become f bytes text = (p q : ℕ) → decoded_after f 0 0 0 0 0 p q bytes ≡ text
+
+-- so it is behind some that have ended
+continued : (f : Flavor) (rest text : List ℕ) (w1 w2 w3 p q : ℕ) → Become f rest text → w1 ≤ 1 → w2 ≤ 2 → w3 ≤ 3 →
+    decoded_after f w1 w2 w3 0 0 p q rest ≡ text
+continued f rest text w1 w2 w3 p q become h1 h2 h3 =
+    behind_ended f rest w1 w2 w3 0 0 p q h1 h2 h3 (omega arith) (omega arith) ∙ become p q
+
+one_read : (f : Flavor) (c : ℕ) (rest text : List ℕ) → IsScalarValue c → encoding f (c ∷ []) ≡ c ∷ [] →
+    Become f rest text → Become f (c ∷ rest) (c ∷ text)
+unfolding decoded_after decoded_byte
+one_read f c rest text scalar same become p q =
+    let begins = begins_encoded f c (c ∷ []) rest scalar same in
+    rw (
+      width_of_first f (c ∷ rest) c rest begins,
+      ap length same,
+      continued f rest text 1 0 0 q c become (omega arith) (omega arith) (omega arith),
+    ) refl
+
+two_read : (f : Flavor) (c x y : ℕ) (rest text : List ℕ) → IsScalarValue c → IsTwo c x y → Become f rest text →
+    Become f ((0xC0 + x) ∷ (0x80 + y) ∷ rest) ((0xC0 + x) ∷ (0x80 + y) ∷ text)
+unfolding decoded_after decoded_byte
+two_read f c x y rest text scalar digits become p q =
+    let a = 0xC0 + x in
+    let b = 0x80 + y in
+    let same = encoding_two f c x y digits in
+    let begins = begins_encoded f c (a ∷ b ∷ []) rest scalar same in
+    let long : width f c ≡ 2 = ap length same in
+    rw (
+      width_of_first f (a ∷ b ∷ rest) c rest begins,
+      width_inside f (a ∷ b ∷ rest) c 1 rest begins (omega arith) (omega (arith, long)),
+      long,
+      ne_eqb a 0xC0 (λ e. omega (arith, digits.low)),
+      continued f rest text 0 2 0 a b become (omega arith) (omega arith) (omega arith),
+    ) refl
+
+three_read : (f : Flavor) (c x y z : ℕ) (rest text : List ℕ) → IsScalarValue c → IsThree c x y z → Become f rest text →
+    Become f ((0xE0 + x) ∷ (0x80 + y) ∷ (0x80 + z) ∷ rest) ((0xE0 + x) ∷ (0x80 + y) ∷ (0x80 + z) ∷ text)
+unfolding decoded_after decoded_byte
+three_read f c x y z rest text scalar digits become p q =
+    let a = 0xE0 + x in
+    let b = 0x80 + y in
+    let d = 0x80 + z in
+    let same = encoding_three f c x y z digits in
+    let begins = begins_encoded f c (a ∷ b ∷ d ∷ []) rest scalar same in
+    let long : width f c ≡ 3 = ap length same in
+    rw (
+      width_of_first f (a ∷ b ∷ d ∷ rest) c rest begins,
+      width_inside f (a ∷ b ∷ d ∷ rest) c 1 rest begins (omega arith) (omega (arith, long)),
+      width_inside f (a ∷ b ∷ d ∷ rest) c 2 rest begins (omega arith) (omega (arith, long)),
+      long,
+      continued f rest text 0 0 3 b d become (omega arith) (omega arith) (omega arith),
+    ) refl
+
+null_read : (f : Flavor) (c : ℕ) (rest text : List ℕ) → IsScalarValue c → encoding f (c ∷ []) ≡ 0xC0 ∷ 0x80 ∷ [] → Become f rest text →
+    Become f (0xC0 ∷ 0x80 ∷ rest) (0 ∷ text)
+unfolding decoded_after decoded_byte
+null_read f c rest text scalar same become p q =
+    let begins = begins_encoded f c (0xC0 ∷ 0x80 ∷ []) rest scalar same in
+    let long : width f c ≡ 2 = ap length same in
+    rw (
+      width_of_first f (0xC0 ∷ 0x80 ∷ rest) c rest begins,
+      width_inside f (0xC0 ∷ 0x80 ∷ rest) c 1 rest begins (omega arith) (omega (arith, long)),
+      long,
+      continued f rest text 0 2 0 0xC0 0x80 become (omega arith) (omega arith) (omega arith),
+    ) refl
+
+pair_read : (f : Flavor) (c w x y z : ℕ) (rest text : List ℕ) → IsScalarValue c → IsPair c w x y z → Become f rest text →
+    Become f (0xED ∷ (0xA0 + w) ∷ (0x80 + x) ∷ 0xED ∷ (0xB0 + y) ∷ (0x80 + z) ∷ rest)
+    ((0xF0 + (w + 1) / 4) ∷ (0x80 + ((w + 1) % 4 * 0x10 + x / 4)) ∷ (0x80 + (x % 4 * 0x10 + y)) ∷ (0x80 + z) ∷ text)
+unfolding decoded_after decoded_byte
+pair_read f c w x y z rest text scalar digits become p q =
+    let b = 0xA0 + w in
+    let d = 0x80 + x in
+    let g = 0xB0 + y in
+    let h = 0x80 + z in
+    let bytes = 0xED ∷ b ∷ d ∷ 0xED ∷ g ∷ h ∷ rest in
+    let same = encoding_pair f c w x y z digits in
+    let begins = begins_encoded f c (0xED ∷ b ∷ d ∷ 0xED ∷ g ∷ h ∷ []) rest scalar same in
+    let long : width f c ≡ 6 = ap length same in
+    let h_w = digits.first in
+    let h_x = digits.second in
+    let h_y = digits.third in
+    let e0 : (b % 0x10 + 1) / 4 ≡ (w + 1) / 4 = omega arith in
+    let e1 : (b % 0x10 + 1) % 4 * 0x10 + d / 4 % 0x10 ≡ (w + 1) % 4 * 0x10 + x / 4 = omega arith in
+    let e2 : d % 4 * 0x10 + g % 0x10 ≡ x % 4 * 0x10 + y = omega arith in
+    rw (
+      width_of_first f bytes c rest begins,
+      width_inside f bytes c 1 rest begins (omega arith) (omega (arith, long)),
+      width_inside f bytes c 2 rest begins (omega arith) (omega (arith, long)),
+      width_inside f bytes c 3 rest begins (omega arith) (omega (arith, long)),
+      width_inside f bytes c 4 rest begins (omega arith) (omega (arith, long)),
+      width_inside f bytes c 5 rest begins (omega arith) (omega (arith, long)),
+      long,
+      e0,
+      e1,
+      e2,
+      become g h,
+    ) refl
+
+-- ---- by the pieces, from the first on
+
+ascii_read : (f : Flavor) (c : ℕ) (rest text : List ℕ) → IsScalarValue c → c < 0x80 → (c ≡ 0) ⊎ (c ≡ 0 → ⊥) → Become f rest text →
+    Become f (encoding f (c ∷ []) ++ rest) (c ∷ text)
+ascii_read Cesu8 c rest text scalar ascii _ become =
+    let same = encoding_one Cesu8 c ascii in
+    subst (λ bs. Become Cesu8 (bs ++ rest) (c ∷ text)) (sym same) (one_read Cesu8 c rest text scalar same become)
+ascii_read Mutf8 c rest text scalar ascii (inl null) become =
+    let same = encoding_one Mutf8 c ascii ∙ short_form_null c null in
+    subst (λ bs. Become Mutf8 (bs ++ rest) (c ∷ text)) (sym same)
+    (subst (λ d. Become Mutf8 (0xC0 ∷ 0x80 ∷ rest) (d ∷ text)) (sym null) (null_read Mutf8 c rest text scalar same become))
+ascii_read Mutf8 c rest text scalar ascii (inr some) become =
+    let same = encoding_one Mutf8 c ascii ∙ short_form_other Mutf8 c some in
+    subst (λ bs. Become Mutf8 (bs ++ rest) (c ∷ text)) (sym same) (one_read Mutf8 c rest text scalar same become)
+
+character_read : (f : Flavor) (c : ℕ) (rest text : List ℕ) → IsScalarValue c → Shape c → Become f rest text →
+    Become f (encoding f (c ∷ []) ++ rest) (utf8_of c ++ text)
+character_read f c rest text scalar (one ascii) become =
+    rw (utf8_of_one c ascii) (ascii_read f c rest text scalar ascii (cases_eq c 0) become)
+character_read f c rest text scalar (two x y digits) become =
+    rw (encoding_two f c x y digits, utf8_of_two c x y digits) (two_read f c x y rest text scalar digits become)
+character_read f c rest text scalar (three x y z digits) become =
+    rw (encoding_three f c x y z digits, utf8_of_three c x y z digits) (three_read f c x y z rest text scalar digits become)
+character_read f c rest text scalar (pair w x y z digits) become =
+    rw (encoding_pair f c w x y z digits, utf8_of_pair c w x y z digits) (pair_read f c w x y z rest text scalar digits become)
+
+replaced_read : (f : Flavor) (b : ℕ) (rest text : List ℕ) → NoneBegins f (b ∷ rest) → Become f rest text →
+    Become f (b ∷ rest) (utf8_of 0xFFFD ++ text)
+unfolding decoded_after decoded_byte utf8_of
+replaced_read f b rest text none_begins become p q = rw (width_of_none f (b ∷ rest) none_begins, become q b) refl
+
+pieces_read : (f : Flavor) (pieces : List Piece) → ArePieces pieces → IsGreedy f pieces → Become f (bytes_of f pieces) (utf8 (text_of pieces))
+unfolding decoded_after
+pieces_read f [] are_pieces is_greedy = λ p q. refl
+pieces_read f (Character c ∷ pieces) are_pieces is_greedy =
+    character_read f c (bytes_of f pieces) (utf8 (text_of pieces)) are_pieces.0 (shape c are_pieces.0) (pieces_read f pieces are_pieces.1 is_greedy)
+pieces_read f (Replaced b ∷ pieces) are_pieces is_greedy =
+    replaced_read f b (bytes_of f pieces) (utf8 (text_of pieces)) is_greedy.0 (pieces_read f pieces are_pieces.1 is_greedy.1)
+
+-- Bytes behind characters that have ended become the UTF-8 of the lossy reading.
+pub decoded_after_ended : (f : Flavor) (bytes : List ℕ) (w1 w2 w3 w4 w5 p q : ℕ) → w1 ≤ 1 → w2 ≤ 2 → w3 ≤ 3 → w4 ≤ 4 → w5 ≤ 5 →
+    decoded_after f w1 w2 w3 w4 w5 p q bytes ≡ utf8 (reading f bytes)
+decoded_after_ended f bytes w1 w2 w3 w4 w5 p q h1 h2 h3 h4 h5 =
+    let cutting = greedy_cutting f bytes in
+    behind_ended f bytes w1 w2 w3 w4 w5 p q h1 h2 h3 h4 h5
+    ∙ ap (decoded_after f 0 0 0 0 0 p q) (sym cutting.cuts.1)
+    ∙ pieces_read f cutting.pieces cutting.cuts.0 cutting.greedy p q
+    ∙ ap utf8 (places f bytes cutting.pieces cutting.cuts cutting.greedy)

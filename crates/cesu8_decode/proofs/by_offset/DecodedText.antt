@@ -1,0 +1,72 @@
+-- What the bytes of a window become, between boundaries, is the UTF-8 of their lossy reading.
+use Rattle.std.proofs.Common.{◌≡◌, ℕ, ◌+◌, ◌≤◌, true, List, [], ◌∷◌, ◌++◌, refl, sym, ap, ◌∙◌, arith, length, take, drop, get_or, length-drop, zero-add, add-zero, subst}
+use Rattle.std.proofs.lemmas.List.{take-append-drop, append_cancel_right}
+use Rattle.cesu8_text.specs.Text.{utf8}
+use Rattle.cesu8_text.specs.Encoding.{Flavor}
+use Rattle.cesu8_text.specs.Reading.{reading}
+use Rattle.cesu8_decode.specs.DecodedOffsets.{width_at, decoded_byte, decoded, IsPadded, is_boundary_at}
+use Rattle.cesu8_text.proofs.reading.Decoding.{utf8_append}
+use Rattle.cesu8_text.proofs.reading.Splits.{split}
+use Rattle.cesu8_decode.proofs.by_offset.DecodedBytes.{decoded_after, decoded_after_ended}
+use Rattle.cesu8_decode.proofs.by_offset.WindowOffsets.{Follows, follows_later, follows_zeros, width_following, boundary_agrees, decoded_split}
+use Rattle.cesu8_decode.proofs.by_offset.CharacterBoundaries.{boundary_ends, boundary_of_zeros, none_crosses_boundary}
+
+-- by the bytes, from the first on
+by_index : (f : Flavor) (window bytes : List ℕ) (i : ℕ) → Follows window bytes (i + 5) →
+    decoded f window i (length bytes)
+    ≡ decoded_after f (width_at f window (i + 4)) (width_at f window (i + 3)) (width_at f window (i + 2)) (width_at f window (i + 1))
+    (width_at f window i) (get_or window (i + 3) 0) (get_or window (i + 4) 0) bytes
+unfolding decoded decoded_after
+by_index f window [] i follows = refl
+by_index f window (b ∷ bytes) i follows =
+    let width = width_following f window (b ∷ bytes) (i + 5) follows (omega arith) in
+    let first : get_or window (i + 5) 0 ≡ b = ap (λ p. get_or window p 0) (sym (add-zero (i + 5))) ∙ follows 0 in
+    let e1 : i + 1 + 1 ≡ i + 2 = omega arith in
+    let e2 : i + 1 + 2 ≡ i + 3 = omega arith in
+    let e3 : i + 1 + 3 ≡ i + 4 = omega arith in
+    let e4 : i + 1 + 4 ≡ i + 5 = omega arith in
+    let offset : 1 + (i + 5) ≡ i + 1 + 5 = omega arith in
+    let rest = by_index f window bytes (i + 1) (subst (Follows window bytes) offset (follows_later window (b ∷ bytes) (i + 5) 1 follows)) in
+    let w = width_at f window in
+    (λ k. decoded_byte (width k) (w (i + 4)) (w (i + 3)) (w (i + 2)) (w (i + 1)) (w i) (get_or window (i + 3) 0) (get_or window (i + 4) 0) (first k)
+    ++ (rest ∙ (λ k. decoded_after f ((ap w e4 ∙ width) k) (w (e3 k)) (w (e2 k)) (w (e1 k)) (w (i + 1))
+    (get_or window (e3 k) 0) ((ap (λ p. get_or window p 0) e4 ∙ first) k) bytes)) k)
+
+-- From a boundary on, all bytes become the UTF-8 of their lossy reading.
+decoded_from_boundary : (f : Flavor) (window bytes : List ℕ) (i : ℕ) → Follows window bytes (i + 5) → is_boundary_at f window i ≡ true →
+    decoded f window i (length bytes) ≡ utf8 (reading f bytes)
+decoded_from_boundary f window bytes i follows boundary =
+    let ends = boundary_ends f window i boundary in
+    by_index f window bytes i follows
+    ∙ decoded_after_ended f bytes _ _ _ _ _ (get_or window (i + 3) 0) (get_or window (i + 4) 0)
+    (omega (arith, ends 4 (omega arith))) (omega (arith, ends 3 (omega arith))) (omega (arith, ends 2 (omega arith)))
+    (omega (arith, ends 1 (omega arith))) (omega (arith, ends 0 (omega arith), ap (width_at f window) (add-zero i)))
+
+-- Between two boundaries they become that of theirs.
+pub decoded_between : (f : Flavor) (window bytes : List ℕ) (n : ℕ) → Follows window bytes 5 → n ≤ length bytes →
+    is_boundary_at f window 0 ≡ true → is_boundary_at f window n ≡ true →
+    decoded f window 0 n ≡ utf8 (reading f (take n bytes))
+decoded_between f window bytes n follows fits first boundary =
+    let front = take n bytes in
+    let back = drop n bytes in
+    let all : n + length back ≡ length bytes = omega (arith, length-drop n bytes) in
+    let behind : decoded f window (0 + n) (length back) ≡ utf8 (reading f back) =
+    ap (λ i. decoded f window i (length back)) (zero-add n)
+    ∙ decoded_from_boundary f window back n (follows_later window bytes 5 n follows) boundary in
+    append_cancel_right (decoded f window 0 n) (utf8 (reading f front)) (utf8 (reading f back))
+    (ap (λ bs. decoded f window 0 n ++ bs) (sym behind)
+    ∙ sym (decoded_split f window 0 n (length back))
+    ∙ ap (decoded f window 0) all
+    ∙ decoded_from_boundary f window bytes 0 follows first
+    ∙ ap (λ bs. utf8 (reading f bs)) (sym (take-append-drop n bytes))
+    ∙ ap utf8 ((split f front back).1 (none_crosses_boundary f window bytes n follows fits boundary))
+    ∙ utf8_append (reading f front) (reading f back))
+
+-- A padded window has the bytes behind its first five offsets.
+pub padded_follows : (bytes window : List ℕ) → IsPadded bytes window → Follows window bytes 5
+padded_follows bytes window padded k = padded (5 + k) ∙ follows_zeros bytes k
+
+-- No character reaches over its first byte.
+pub padded_boundary : (f : Flavor) (bytes window : List ℕ) → IsPadded bytes window → is_boundary_at f window 0 ≡ true
+padded_boundary f bytes window padded =
+    boundary_agrees f window (0 ∷ 0 ∷ 0 ∷ 0 ∷ 0 ∷ bytes) 0 0 (λ k small. padded (0 + k)) ∙ boundary_of_zeros f bytes

@@ -1,0 +1,58 @@
+-- How wide the character is that begins bytes.
+use Rattle.std.proofs.Common.{◌≡◌, ℕ, ◌<◌, ◌≤◌, List, [], ◌∷◌, ◌++◌, Option, Some, None, refl, sym, ap, ⊎_elim, arith, drop, length, length-append}
+use Rattle.std.proofs.lemmas.Bool.{cases_lt}
+use Rattle.cesu8_text.specs.Text.{IsScalarValue}
+use Rattle.cesu8_text.specs.Encoding.{Flavor, encoding}
+use Rattle.cesu8_text.specs.Reading.{BeginsWith, NoneBegins, width, width_of, standing}
+use Rattle.cesu8_decode.specs.DecodedOffsets.{first_width}
+use Rattle.cesu8_text.proofs.reading.Inside.{none_inside}
+use Rattle.cesu8_text.proofs.reading.Marks.{standing_is}
+use Rattle.cesu8_text.proofs.reading.Standing.{standing_begins}
+
+-- An encoding and what follows begin with its character.
+pub begins_encoded : (f : Flavor) (c : ℕ) (prefix rest : List ℕ) → IsScalarValue c → encoding f (c ∷ []) ≡ prefix →
+    BeginsWith f (prefix ++ rest) c rest
+begins_encoded f c prefix rest scalar same = record { scalar = scalar; bytes_are = ap (λ bs. bs ++ rest) (sym same) }
+
+-- The width of bytes is that of the character that begins them.
+pub width_of_first : (f : Flavor) (bytes : List ℕ) (c : ℕ) (rest : List ℕ) → BeginsWith f bytes c rest → first_width f bytes ≡ width f c
+width_of_first f bytes c rest begins = ap (width_of f) (standing_is f bytes c rest begins)
+
+-- A character begins the bytes, and is as wide as they say.
+pub record IsWide (f : Flavor) (bytes : List ℕ) : Type 0 where
+  pub character : ℕ
+  pub rest : List ℕ
+  pub begins : BeginsWith f bytes character rest
+  pub wide : first_width f bytes ≡ width f character
+
+wide_by : (f : Flavor) (bytes : List ℕ) (o : Option ℕ) → standing f bytes ≡ o → 0 < width_of f o → IsWide f bytes
+wide_by f bytes None found some = absurd (omega arith)
+wide_by f bytes (Some c) found some = record {
+  character = c;
+  rest = drop (width f c) bytes;
+  begins = standing_begins f bytes c found;
+  wide = ap (width_of f) found;
+}
+
+-- One does where the width is not 0.
+pub wide : (f : Flavor) (bytes : List ℕ) → 0 < first_width f bytes → IsWide f bytes
+wide f bytes some = wide_by f bytes (standing f bytes) refl some
+
+-- The width is no more than the bytes.
+pub width_fits : (f : Flavor) (bytes : List ℕ) → first_width f bytes ≤ length bytes
+width_fits f bytes =
+    ⊎_elim (λ some. let found = wide f bytes some in
+    omega (arith, found.wide, ap length found.begins.bytes_are, length-append (encoding f (found.character ∷ [])) found.rest))
+    (λ (none : first_width f bytes ≤ 0). omega arith) (cases_lt 0 (first_width f bytes))
+
+-- It is 0 where none begins them.
+pub width_of_none : (f : Flavor) (bytes : List ℕ) → NoneBegins f bytes → first_width f bytes ≡ 0
+width_of_none f bytes none_begins =
+    ⊎_elim (λ some. let found = wide f bytes some in absurd (none_begins found.character found.rest found.begins))
+    (λ (none : first_width f bytes ≤ 0). omega arith) (cases_lt 0 (first_width f bytes))
+
+-- None begins inside a character.
+pub width_inside : (f : Flavor) (bytes : List ℕ) (c j : ℕ) (rest : List ℕ) → BeginsWith f bytes c rest → 0 < j → j < width f c →
+    first_width f (drop j bytes) ≡ 0
+width_inside f bytes c j rest begins later inside =
+    width_of_none f (drop j bytes) (λ d more other. none_inside f bytes c d j rest begins (more, other) later inside)

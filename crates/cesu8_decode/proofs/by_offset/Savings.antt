@@ -1,0 +1,91 @@
+-- The length of the lossy reading, by what each offset saves of three bytes.
+use Rattle.std.proofs.Common.{◌≡◌, ℕ, ◌+◌, ◌*◌, ◌^◌, ◌-◌, ◌<◌, ◌≤◌, ◌⊎◌, ⊎_elim, List, [], ◌∷◌, ◌++◌, refl, ap, ◌∙◌, inl, inr, arith, length, length-append, Result, Ok, Err}
+use Rattle.std.specs.Option.{IfSome, IfNone}
+use Rattle.std.specs.Result.{OkIff, result_ok}
+use Rattle.std.proofs.lemmas.Bool.{ne_eqb, cases_eq, cases_lt}
+use Rattle.cesu8_text.specs.Text.{IsScalarValue, utf8_of, utf8}
+use Rattle.cesu8_text.specs.Encoding.{Flavor, Cesu8, Mutf8, encoding}
+use Rattle.cesu8_text.specs.Reading.{width, lossy_length}
+use Rattle.cesu8_text.specs.Cutting.{Piece, Character, Replaced, ArePieces, bytes_of, text_of, IsGreedy}
+use Rattle.cesu8_decode.specs.DecodedOffsets.{saved, total_weight}
+use Rattle.cesu8_text.proofs.text.Shapes.{Shape, one, two, three, pair, shape, utf8_of_one, utf8_of_two, utf8_of_three, utf8_of_pair}
+use Rattle.cesu8_text.proofs.encoding.Forms.{encoding_one, encoding_two, encoding_three, encoding_pair, short_form_null, short_form_other}
+use Rattle.cesu8_text.proofs.reading.Decoding.{length_utf8_replaced}
+use Rattle.cesu8_decode.proofs.by_offset.Weights.{first_weighs, replaced_weighs}
+use Rattle.cesu8_text.proofs.reading.Cuttings.{greedy_cutting}
+use Rattle.cesu8_text.proofs.reading.Greedy.{places}
+
+-- what a character saves, and its UTF-8 and three times its bytes
+record Saves (f : Flavor) (c : ℕ) (rest : List ℕ) : Type 0 where
+  pub some : ℕ
+  pub saves : total_weight saved f (encoding f (c ∷ []) ++ rest) ≡ some + total_weight saved f rest
+  pub fits : length (utf8_of c) + some ≡ 3 * width f c
+
+-- one whose UTF-8 has n bytes
+by_lengths : (f : Flavor) (c b n : ℕ) (prefix rest : List ℕ) → IsScalarValue c → encoding f (c ∷ []) ≡ b ∷ prefix →
+    length (utf8_of c) ≡ n → n + saved (length (b ∷ prefix)) b ≡ 3 * length (b ∷ prefix) → Saves f c rest
+by_lengths f c b n prefix rest scalar same in_utf8 fits = record {
+  some = saved (length (b ∷ prefix)) b;
+  saves = first_weighs saved (λ b. refl) f c b prefix rest scalar same;
+  fits = rw (in_utf8, ap length same) fits;
+}
+
+ascii_saves : (f : Flavor) (c : ℕ) (rest : List ℕ) → IsScalarValue c → c < 0x80 → (c ≡ 0) ⊎ (c ≡ 0 → ⊥) → Saves f c rest
+ascii_saves Cesu8 c rest scalar ascii _ =
+    by_lengths Cesu8 c c 1 [] rest scalar (encoding_one Cesu8 c ascii) (ap length (utf8_of_one c ascii)) refl
+ascii_saves Mutf8 c rest scalar ascii (inl null) =
+    by_lengths Mutf8 c 0xC0 1 (0x80 ∷ []) rest scalar (encoding_one Mutf8 c ascii ∙ short_form_null c null) (ap length (utf8_of_one c ascii)) refl
+ascii_saves Mutf8 c rest scalar ascii (inr some) =
+    by_lengths Mutf8 c c 1 [] rest scalar (encoding_one Mutf8 c ascii ∙ short_form_other Mutf8 c some) (ap length (utf8_of_one c ascii)) refl
+
+character_saves : (f : Flavor) (c : ℕ) (rest : List ℕ) → IsScalarValue c → Shape c → Saves f c rest
+character_saves f c rest scalar (one ascii) = ascii_saves f c rest scalar ascii (cases_eq c 0)
+character_saves f c rest scalar (two x y digits) =
+    by_lengths f c (0xC0 + x) 2 ((0x80 + y) ∷ []) rest scalar (encoding_two f c x y digits) (ap length (utf8_of_two c x y digits))
+    (rw (ne_eqb (0xC0 + x) 0xC0 (λ e. omega (arith, digits.low))) refl)
+character_saves f c rest scalar (three x y z digits) =
+    by_lengths f c (0xE0 + x) 3 ((0x80 + y) ∷ (0x80 + z) ∷ []) rest scalar (encoding_three f c x y z digits) (ap length (utf8_of_three c x y z digits)) refl
+character_saves f c rest scalar (pair w x y z digits) =
+    by_lengths f c 0xED 4 ((0xA0 + w) ∷ (0x80 + x) ∷ 0xED ∷ (0xB0 + y) ∷ (0x80 + z) ∷ []) rest scalar
+    (encoding_pair f c w x y z digits) (ap length (utf8_of_pair c w x y z digits)) refl
+
+pieces_save : (f : Flavor) (pieces : List Piece) → ArePieces pieces → IsGreedy f pieces →
+    length (utf8 (text_of pieces)) + total_weight saved f (bytes_of f pieces) ≡ 3 * length (bytes_of f pieces)
+unfolding total_weight
+pieces_save f [] are_pieces is_greedy = refl
+pieces_save f (Character c ∷ pieces) are_pieces is_greedy =
+    let first = character_saves f c (bytes_of f pieces) are_pieces.0 (shape c are_pieces.0) in
+    omega (
+      arith,
+      first.saves,
+      first.fits,
+      pieces_save f pieces are_pieces.1 is_greedy,
+      length-append (utf8_of c) (utf8 (text_of pieces)),
+      length-append (encoding f (c ∷ [])) (bytes_of f pieces),
+    )
+pieces_save f (Replaced b ∷ pieces) are_pieces is_greedy =
+    omega (
+      arith,
+      replaced_weighs saved (λ b. refl) f b (bytes_of f pieces) is_greedy.0,
+      pieces_save f pieces are_pieces.1 is_greedy.1,
+      length_utf8_replaced (text_of pieces),
+    )
+
+-- The lossy length is three times the bytes, less what all offsets save,
+pub lossy_length_by_savings : (f : Flavor) (bytes : List ℕ) → lossy_length f bytes + total_weight saved f bytes ≡ 3 * length bytes
+unfolding lossy_length
+lossy_length_by_savings f bytes =
+    let cutting = greedy_cutting f bytes in
+    omega (
+      arith,
+      pieces_save f cutting.pieces cutting.cuts.0 cutting.greedy,
+      ap length cutting.cuts.1,
+      ap (total_weight saved f) cutting.cuts.1,
+      ap (λ text. length (utf8 text)) (places f bytes cutting.pieces cutting.cuts cutting.greedy),
+    )
+
+-- and is given where it fits.
+pub length_given : {E : Type 0} (r : Result ℕ E) (n len : ℕ) → OkIff r (n < 2 ^ 64) n → n ≡ len →
+    IfSome (result_ok r) (λ m. m ≡ len) × IfNone (result_ok r) (2 ^ 64 - 1 < len)
+length_given (Ok m) n len given same = (given.1 ∙ same, tt)
+length_given (Err e) n len given same = (tt, ⊎_elim (λ fits. absurd (given fits)) (λ (past : 2 ^ 64 ≤ n). omega arith) (cases_lt n (2 ^ 64)))

@@ -1,0 +1,109 @@
+-- What is told of the offsets of a window rests on its bytes there and a few more.
+use Rattle.std.proofs.Common.{◌≡◌, ℕ, zero, suc, ◌+◌, ◌<◌, ◌≤◌, List, ◌++◌, refl, sym, ap, ◌∙◌, arith, get_or, append_assoc, add-zero, zero-add, suc-add, length, drop, length-drop, get_or-drop, ◌∷◌}
+use Rattle.cesu8_text.specs.Encoding.{Flavor}
+use Rattle.cesu8_decode.specs.DecodedOffsets.{first_width, first_width_by, width_at, decoded_byte, decoded_at, decoded, is_ill_formed_at, ill_formed_by, is_boundary_at, boundary_by, weight_between}
+use Rattle.cesu8_decode.proofs.by_offset.WidthTests.{width_by_six}
+
+-- Two windows have the same n bytes, one from i on and the other from j on.
+abbrev pub Agree : (a b : List ℕ) (i j n : ℕ) → Type 0
+Agree a b i j n = (k : ℕ) → k < n → get_or a (i + k) 0 ≡ get_or b (j + k) 0
+
+-- So they have from later offsets on.
+agree_later : (a b : List ℕ) (i j n s m : ℕ) → s + m ≤ n → Agree a b i j n → Agree a b (i + s) (j + s) m
+agree_later a b i j n s m fits agree k small =
+    let here : i + s + k ≡ i + (s + k) = omega arith in
+    let there : j + s + k ≡ j + (s + k) = omega arith in
+    ap (λ p. get_or a p 0) here ∙ agree (s + k) (omega arith) ∙ ap (λ p. get_or b p 0) (sym there)
+
+first_agrees : (a b : List ℕ) (i j n : ℕ) → 0 < n → Agree a b i j n → get_or a i 0 ≡ get_or b j 0
+first_agrees a b i j n some agree = ap (λ p. get_or a p 0) (sym (add-zero i)) ∙ agree 0 some ∙ ap (λ p. get_or b p 0) (add-zero j)
+
+-- The width at an offset rests on six bytes,
+width_agrees : (f : Flavor) (a b : List ℕ) (i j : ℕ) → Agree a b i j 6 → width_at f a i ≡ width_at f b j
+width_agrees f a b i j agree =
+    (λ k. first_width_by f (first_agrees a b i j 6 (omega arith) agree k) (agree 1 (omega arith) k) (agree 2 (omega arith) k)
+    (agree 3 (omega arith) k) (agree 4 (omega arith) k) (agree 5 (omega arith) k))
+
+width_later : (f : Flavor) (a b : List ℕ) (i j n s : ℕ) → s + 6 ≤ n → Agree a b i j n → width_at f a (i + s) ≡ width_at f b (j + s)
+width_later f a b i j n s fits agree = width_agrees f a b (i + s) (j + s) (agree_later a b i j n s 6 fits agree)
+
+width_first : (f : Flavor) (a b : List ℕ) (i j n : ℕ) → 6 ≤ n → Agree a b i j n → width_at f a i ≡ width_at f b j
+width_first f a b i j n fits agree = width_agrees f a b i j (λ k small. agree k (omega arith))
+
+-- a boundary on ten,
+pub boundary_agrees : (f : Flavor) (a b : List ℕ) (i j : ℕ) → Agree a b i j 10 → is_boundary_at f a i ≡ is_boundary_at f b j
+boundary_agrees f a b i j agree =
+    (λ k. boundary_by (width_later f a b i j 10 4 (omega arith) agree k) (width_later f a b i j 10 3 (omega arith) agree k)
+    (width_later f a b i j 10 2 (omega arith) agree k) (width_later f a b i j 10 1 (omega arith) agree k)
+    (width_first f a b i j 10 (omega arith) agree k))
+
+-- and whether a byte is ill-formed on eleven,
+pub ill_formed_agrees : (f : Flavor) (a b : List ℕ) (i j : ℕ) → Agree a b i j 11 → is_ill_formed_at f a i ≡ is_ill_formed_at f b j
+ill_formed_agrees f a b i j agree =
+    (λ k. ill_formed_by (width_later f a b i j 11 5 (omega arith) agree k) (width_later f a b i j 11 4 (omega arith) agree k)
+    (width_later f a b i j 11 3 (omega arith) agree k) (width_later f a b i j 11 2 (omega arith) agree k)
+    (width_later f a b i j 11 1 (omega arith) agree k) (width_first f a b i j 11 (omega arith) agree k))
+
+-- and what a byte becomes
+byte_decoded_alike : (f : Flavor) (a b : List ℕ) (i j : ℕ) → Agree a b i j 11 → decoded_at f a i ≡ decoded_at f b j
+byte_decoded_alike f a b i j agree =
+    (λ k. decoded_byte (width_later f a b i j 11 5 (omega arith) agree k) (width_later f a b i j 11 4 (omega arith) agree k)
+    (width_later f a b i j 11 3 (omega arith) agree k) (width_later f a b i j 11 2 (omega arith) agree k)
+    (width_later f a b i j 11 1 (omega arith) agree k) (width_first f a b i j 11 (omega arith) agree k)
+    (agree 3 (omega arith) k) (agree 4 (omega arith) k) (agree 5 (omega arith) k))
+
+-- What n bytes become rests on ten more bytes.
+pub decoded_agrees : (f : Flavor) (a b : List ℕ) (i j n : ℕ) → Agree a b i j (n + 10) → decoded f a i n ≡ decoded f b j n
+unfolding decoded
+decoded_agrees f a b i j zero agree = refl
+decoded_agrees f a b i j (suc n) agree =
+    let here = byte_decoded_alike f a b i j (λ k small. agree k (omega arith)) in
+    let rest = decoded_agrees f a b (i + 1) (j + 1) n (agree_later a b i j (suc n + 10) 1 (n + 10) (omega arith) agree) in
+    (λ k. here k ++ rest k)
+
+-- What more bytes become is what the first become, and then the others.
+pub decoded_split : (f : Flavor) (window : List ℕ) (i m n : ℕ) →
+    decoded f window i (m + n) ≡ decoded f window i m ++ decoded f window (i + m) n
+unfolding decoded
+decoded_split f window i zero n = rw (add-zero i, zero-add n) refl
+decoded_split f window i (suc m) n =
+    let offset : i + 1 + m ≡ i + suc m = omega arith in
+    rw (suc-add m n, decoded_split f window (i + 1) m n, offset) (sym (append_assoc (decoded_at f window i) _ _))
+
+-- More offsets weigh what the first weigh and the others.
+pub weight_split : (weight : ℕ → ℕ → ℕ) (f : Flavor) (window : List ℕ) (i m n : ℕ) →
+    weight_between weight f window i (m + n) ≡ weight_between weight f window i m + weight_between weight f window (i + m) n
+unfolding weight_between
+weight_split weight f window i zero n = rw (add-zero i, zero-add n) (sym (zero-add (weight_between weight f window i n)))
+weight_split weight f window i (suc m) n =
+    let offset : i + 1 + m ≡ i + suc m = omega arith in
+    rw (suc-add m n, weight_split weight f window (i + 1) m n, offset) (omega arith)
+
+-- From an offset on a window has the bytes, and zeros behind them.
+abbrev pub Follows : (window bytes : List ℕ) (i : ℕ) → Type 0
+Follows window bytes i = (k : ℕ) → get_or window (i + k) 0 ≡ get_or bytes k 0
+
+-- So it has what follows n of them.
+pub follows_later : (window bytes : List ℕ) (i n : ℕ) → Follows window bytes i → Follows window (drop n bytes) (n + i)
+follows_later window bytes i n follows k =
+    let offset : n + i + k ≡ i + (n + k) = omega arith in
+    ap (λ p. get_or window p 0) offset ∙ follows (n + k) ∙ sym (get_or-drop n bytes k 0)
+
+-- The width at their first offset is that of the character that begins them.
+pub width_following : (f : Flavor) (window bytes : List ℕ) (i : ℕ) → Follows window bytes i → 0 < length bytes →
+    width_at f window i ≡ first_width f bytes
+width_following f window bytes i follows some =
+    width_agrees f window bytes i 0 (λ k small. follows k ∙ ap (λ p. get_or bytes p 0) (sym (zero-add k)))
+    ∙ sym (width_by_six f bytes some)
+
+-- So it is at each of their offsets.
+pub width_in : (f : Flavor) (window bytes : List ℕ) (i n : ℕ) → Follows window bytes i → n < length bytes →
+    width_at f window (n + i) ≡ first_width f (drop n bytes)
+width_in f window bytes i n follows inside =
+    width_following f window (drop n bytes) (n + i) (follows_later window bytes i n follows) (omega (arith, length-drop n bytes))
+
+-- Five zeros go before the bytes.
+pub follows_zeros : (bytes : List ℕ) → Follows (0 ∷ 0 ∷ 0 ∷ 0 ∷ 0 ∷ bytes) bytes 5
+follows_zeros bytes k =
+    let offset : 5 + k ≡ suc (suc (suc (suc (suc k)))) = omega arith in
+    ap (λ p. get_or (0 ∷ 0 ∷ 0 ∷ 0 ∷ 0 ∷ bytes) p 0) offset

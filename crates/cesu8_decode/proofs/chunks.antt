@@ -1,0 +1,6 @@
+-- Text that is read or written a chunk at a time.
+pub mod ReadChunks
+pub mod DecodedChunks
+pub mod WrittenChunks
+pub mod Characters
+pub mod SliceReadings

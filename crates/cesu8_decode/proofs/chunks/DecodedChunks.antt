@@ -1,0 +1,128 @@
+-- What a window of bytes becomes is a chunk of their text, or an ill-formed byte in it is their fault.
+use Rattle.std.proofs.Common.{◌≡◌, ℕ, zero, suc, ◌+◌, ◌<◌, ◌≤◌, true, false, List, [], ◌∷◌, ◌++◌, refl, sym, ap, ◌∙◌, subst, inr, arith, length, take, drop, get_or}
+use Rattle.std.proofs.lemmas.List.{take-append-drop, length-take-le, get_or-take}
+use Rattle.cesu8_text.specs.Text.{IsText, utf8}
+use Rattle.cesu8_text.specs.Encoding.{Flavor}
+use Rattle.cesu8_text.specs.Reading.{reading, IsStrictReading}
+use Rattle.cesu8_text.specs.Cutting.{Piece, Character, Replaced, ArePieces, text_of}
+use Rattle.cesu8_text.specs.Laws.{NoneCrosses}
+use Rattle.cesu8_bytes.specs.TextChunks.{IsChunk}
+use Rattle.cesu8_decode.specs.Decoding.{HasFault}
+use Rattle.cesu8_bytes.specs.declared.options.Strictness.{Strictness}
+use Rattle.cesu8_bytes.specs.declared.options.Strictness.TheVariants.{Strict, Lossy}
+use Rattle.cesu8_decode.specs.DecodedOffsets.{decoded, is_ill_formed_at, is_boundary_at, IsPadded, IsPaddedFor}
+use Rattle.cesu8_text.proofs.reading.Cuttings.{greedy_cutting}
+use Rattle.cesu8_text.proofs.reading.Greedy.{places}
+use Rattle.cesu8_text.proofs.reading.Splits.{split}
+use Rattle.cesu8_decode.proofs.by_offset.WindowOffsets.{Agree, follows_zeros, boundary_agrees, ill_formed_agrees, decoded_agrees}
+use Rattle.cesu8_decode.proofs.by_offset.CharacterBoundaries.{boundary_of_zeros, none_crosses_boundary, boundary_near}
+use Rattle.cesu8_decode.proofs.by_offset.IllFormed.{IsCovered, chunk_of_text, covered_read, uncovered_fault, covered_where, not_covered_where, covered_in_front}
+use Rattle.cesu8_decode.proofs.by_offset.DecodedText.{decoded_between}
+
+-- ---- chunks
+
+scalar_pieces : (pieces : List Piece) → ArePieces pieces → IsText (text_of pieces)
+scalar_pieces [] are_pieces = tt
+scalar_pieces (Character c ∷ pieces) are_pieces = (are_pieces.0, scalar_pieces pieces are_pieces.1)
+scalar_pieces (Replaced b ∷ pieces) are_pieces = (inr (omega arith, omega arith), scalar_pieces pieces are_pieces.1)
+
+-- The lossy reading is a text.
+reading_is_text : (f : Flavor) (bytes : List ℕ) → IsText (reading f bytes)
+reading_is_text f bytes =
+    let cutting = greedy_cutting f bytes in
+    subst IsText (places f bytes cutting.pieces cutting.cuts cutting.greedy) (scalar_pieces cutting.pieces cutting.cuts.0)
+
+-- Before an offset that no character crosses, the lossy reading is a chunk in lossy reading,
+first_chunk : (f : Flavor) (bytes : List ℕ) (n : ℕ) → NoneCrosses f (take n bytes) (drop n bytes) →
+    IsChunk f Lossy bytes (drop n bytes) (utf8 (reading f (take n bytes)))
+first_chunk f bytes n crosses = record {
+  text = reading f (take n bytes);
+  scalars = reading_is_text f (take n bytes);
+  lossy_reading = ap (reading f) (sym (take-append-drop n bytes)) ∙ (split f (take n bytes) (drop n bytes)).1 crosses;
+  strict_reading = λ (strict : Lossy ≡ Strict). absurd (cc);
+  written = refl;
+}
+
+-- and in both where it is the strict reading.
+strict_first_chunk : (f : Flavor) (which : Strictness) (bytes : List ℕ) (n : ℕ) → IsStrictReading f (take n bytes) (reading f (take n bytes)) →
+    IsChunk f which bytes (drop n bytes) (utf8 (reading f (take n bytes)))
+strict_first_chunk f which bytes n reads =
+    chunk_of_text f which bytes (reading f (take n bytes)) (drop n bytes) reads.0
+    (sym (take-append-drop n bytes) ∙ ap (λ bs. bs ++ drop n bytes) (sym reads.1))
+
+-- ---- chunks by windows
+
+-- A window on all bytes is one on the first n.
+pub padded_for : (bytes window : List ℕ) (n : ℕ) → IsPadded bytes window → IsPaddedFor n bytes window
+padded_for bytes window n padded k small = padded k
+
+module _ (f : Flavor) (bytes window : List ℕ) (n : ℕ) (padded : IsPaddedFor n bytes window) where
+  -- the window on all bytes
+  abbrev all : List ℕ
+  all = 0 ∷ 0 ∷ 0 ∷ 0 ∷ 0 ∷ bytes
+
+  agrees : (i m : ℕ) → i + m ≤ n + 10 → Agree window all i i m
+  agrees i m fits k small = padded (i + k) (omega arith)
+
+  module _ (fits : n ≤ length bytes) where
+    -- The end of the first n is a boundary, or one of the five offsets before it is.
+    pub boundary_behind : (m : ℕ) × (m ≤ n) × (n ≤ m + 5) × (is_boundary_at f window m ≡ true)
+    boundary_behind =
+        let near = boundary_near f all bytes n (follows_zeros bytes) (boundary_of_zeros f bytes) fits in (
+          near.0,
+          near.1,
+          near.2,
+          boundary_agrees f window all near.0 near.0 (agrees near.0 10 (omega (arith, near.1))) ∙ near.3,
+        )
+
+    -- An ill-formed byte is a fault.
+    pub fault_at : (i : ℕ) → i < n → is_ill_formed_at f window i ≡ true → HasFault f bytes
+    fault_at i inside ill_formed =
+        uncovered_fault f bytes i (omega arith)
+        (not_covered_where f all bytes (follows_zeros bytes) (boundary_of_zeros f bytes) i (omega arith)
+        (sym (ill_formed_agrees f window all i i (agrees i 11 (omega arith))) ∙ ill_formed))
+
+    module _ (boundary : is_boundary_at f window n ≡ true) where
+      all_boundary : is_boundary_at f all n ≡ true
+      all_boundary = sym (boundary_agrees f window all n n (agrees n 10 (omega arith))) ∙ boundary
+
+      -- No character crosses the boundary behind them.
+      none_crosses_window : NoneCrosses f (take n bytes) (drop n bytes)
+      none_crosses_window = none_crosses_boundary f all bytes n (follows_zeros bytes) fits all_boundary
+
+      -- They become the UTF-8 of their lossy reading.
+      decoded_window : decoded f window 0 n ≡ utf8 (reading f (take n bytes))
+      decoded_window =
+          decoded_agrees f window all 0 0 n (agrees 0 (n + 10) (omega arith))
+          ∙ decoded_between f all bytes n (follows_zeros bytes) fits (boundary_of_zeros f bytes) all_boundary
+
+      -- Where none of them is ill-formed, that is their strict reading.
+      strict_window : ((i : ℕ) → i < n → is_ill_formed_at f window i ≡ false) → IsStrictReading f (take n bytes) (reading f (take n bytes))
+      strict_window fine =
+          let long = length-take-le n bytes fits in
+          covered_read f (take n bytes) (λ i inside.
+          covered_in_front f (take n bytes) (drop n bytes) i none_crosses_window inside
+          (subst (λ bs. IsCovered f bs i) (sym (take-append-drop n bytes))
+          (covered_where f all bytes (follows_zeros bytes) (boundary_of_zeros f bytes) i (omega arith)
+          (sym (ill_formed_agrees f window all i i (agrees i 11 (omega arith))) ∙ fine i (omega arith)))))
+
+      -- So what they become is a chunk,
+      pub lossy_chunk : IsChunk f Lossy bytes (drop n bytes) (decoded f window 0 n)
+      lossy_chunk = subst (IsChunk f Lossy bytes (drop n bytes)) (sym decoded_window) (first_chunk f bytes n none_crosses_window)
+
+      -- and in strict reading too where none is ill-formed.
+      pub strict_chunk : (which : Strictness) → ((i : ℕ) → i < n → is_ill_formed_at f window i ≡ false) → IsChunk f which bytes (drop n bytes) (decoded f window 0 n)
+      strict_chunk which fine =
+          subst (IsChunk f which bytes (drop n bytes)) (sym decoded_window) (strict_first_chunk f which bytes n (strict_window fine))
+
+-- A window on the first m bytes is one on the first n of all, where five more are among the m.
+pub padded_take : (bytes window : List ℕ) (m n : ℕ) → n + 5 ≤ m → IsPadded (take m bytes) window → IsPaddedFor n bytes window
+padded_take bytes window m n fits padded k small = padded k ∙ same k small
+  where
+    same : (k : ℕ) → k < n + 10 → get_or (0 ∷ 0 ∷ 0 ∷ 0 ∷ 0 ∷ take m bytes) k 0 ≡ get_or (0 ∷ 0 ∷ 0 ∷ 0 ∷ 0 ∷ bytes) k 0
+    same zero small = refl
+    same (suc zero) small = refl
+    same (suc (suc zero)) small = refl
+    same (suc (suc (suc zero))) small = refl
+    same (suc (suc (suc (suc zero)))) small = refl
+    same (suc (suc (suc (suc (suc k))))) small = get_or-take m bytes k 0 (omega arith)

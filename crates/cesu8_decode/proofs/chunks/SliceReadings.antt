@@ -1,0 +1,273 @@
+-- What a call may say of a text that it writes into a caller's buffer.
+use Rattle.std.proofs.Common.{◌≡◌, ℕ, ◌^◌, ◌<◌, ◌≤◌, ◌↔◌, inl, inr, ⊎_elim, List, refl, sym, ap, ◌∙◌, subst, arith, length, length-drop, drop, [], ◌++◌, Bool, false, Result, Ok, Err, MatchResult, IsErrAnd}
+use Rattle.std.proofs.lemmas.Bool.{false≢true}
+use Rattle.std.specs.Str.{chars, IsUtf8}
+use Rattle.cesu8_text.specs.Text.{utf8}
+use Rattle.cesu8_text.specs.Encoding.{Flavor}
+use Rattle.cesu8_text.specs.Class.{IsUnchangedUtf8}
+use Rattle.cesu8_text.specs.Reading.{IsStrictReading, HasNoStrictReading, reading, lossy_length}
+use Rattle.cesu8_bytes.specs.TextChunks.{IsChunk}
+use Rattle.cesu8_bytes.specs.declared.options.Strictness.{Strictness}
+use Rattle.cesu8_bytes.specs.declared.options.Strictness.TheVariants.{Strict, Lossy}
+use Rattle.cesu8_text.specs.Slices.{StandsAtFront, ReadsAtLength}
+use Rattle.cesu8_bytes.specs.Puts.{PutsAnswer}
+use Rattle.cesu8_decode.specs.Decoding.{IsDecodedText, ReadsAll, refuses}
+use Rattle.cesu8_decode.specs.PutReadings.{PutsText, IsReadingOf, IsLenientReadingOf}
+use Rattle.cesu8_decode.specs.declared.refusal.Unwritten.{Unwritten}
+use Rattle.cesu8_decode.specs.declared.refusal.Unwritten.TheVariants as unwritten
+use Rattle.cesu8_bytes.specs.declared.writers.NoRoom.{NoRoom}
+use Rattle.cesu8_text.proofs.StdUtf8.{IsUtf8Of_chars, chars_utf8, not_utf8_of}
+use Rattle.cesu8_text.proofs.encoding.Lengths.{length_bounds}
+use Rattle.cesu8_text.proofs.reading.EncodedTexts.{reading_encoding}
+use Rattle.cesu8_text.proofs.reading.Borrowing.{unchanged_reading}
+use Rattle.cesu8_text.proofs.reading.LossyBorrowing.{unchanged_lossy}
+use Rattle.cesu8_decode.proofs.chunks.ReadChunks.{more_read, chunk_appended, chunk_utf8, whole_text, chunk_unless_refused}
+
+-- ---- the only text
+
+-- The bytes are read as this text and as no other, and the answer is its UTF-8.
+pub record IsOnlyText (IsReading : List ℕ → Type 0) (text answer : List ℕ) : Type 0 where
+  pub reads : IsReading text
+  pub only : (other : List ℕ) → IsReading other → other ≡ text
+  pub utf8_is : utf8 text ≡ answer
+
+-- So what is known of a text's length is known of the answer's, and the other way round.
+at_length : (IsReading : List ℕ → Type 0) (F : ℕ → Type 0) (text answer : List ℕ) → IsOnlyText IsReading text answer →
+    ReadsAtLength IsReading F → F (length answer)
+at_length IsReading F text answer is found =
+    subst (λ t. F (length t)) (ap utf8 (is.only found.0 found.1) ∙ is.utf8_is) found.2
+
+pub of_length : (IsReading : List ℕ → Type 0) (F : ℕ → Type 0) (text answer : List ℕ) → IsOnlyText IsReading text answer →
+    F (length answer) → ReadsAtLength IsReading F
+of_length IsReading F text answer is holds = (text, is.reads, subst (λ t. F (length t)) (sym is.utf8_is) holds)
+
+strict_only : (f : Flavor) (bytes text other : List ℕ) → IsStrictReading f bytes text → IsStrictReading f bytes other → other ≡ text
+strict_only f bytes text other reads also =
+    sym (reading_encoding f other also.0) ∙ ap (reading f) (also.1 ∙ sym reads.1) ∙ reading_encoding f text reads.0
+
+-- That of bytes that are well-formed;
+pub only_strict : (f : Flavor) (bytes text : List ℕ) → IsStrictReading f bytes text → IsOnlyText (IsStrictReading f bytes) text (utf8 text)
+only_strict f bytes text reads = record {
+  reads = reads;
+  only = λ other also. strict_only f bytes text other reads also;
+  utf8_is = refl;
+}
+
+-- that of bytes that are decoded, or are a chunk;
+pub only_decoded : (f : Flavor) (which : Strictness) (bytes text : List ℕ) → IsDecodedText f which bytes text →
+    IsOnlyText (IsReadingOf f which bytes) text (utf8 text)
+only_decoded f Strict bytes text is = only_strict f bytes text (is.0, is.2 refl)
+only_decoded f Lossy bytes text is = record { reads = is.1; only = λ other same. same ∙ sym is.1; utf8_is = refl }
+
+only_chunk : (f : Flavor) (which : Strictness) (bytes rest chunk : List ℕ) → IsChunk f which bytes rest chunk → length rest ≡ 0 →
+    IsOnlyText (IsReadingOf f which bytes) (chars chunk) chunk
+only_chunk f which bytes rest chunk is_chunk empty =
+    subst (IsOnlyText (IsReadingOf f which bytes) (chars chunk))
+    (IsUtf8Of_chars chunk (chunk_utf8 f which bytes rest chunk is_chunk)).1
+    (only_decoded f which bytes (chars chunk) (whole_text f which bytes rest chunk is_chunk empty))
+
+-- or are two.
+pub only_two_chunks : (f : Flavor) (which : Strictness) (bytes rest first second : List ℕ) (n : ℕ) → IsChunk f which bytes rest first →
+    IsChunk f which rest (drop n rest) second → n ≡ length rest → IsOnlyText (IsReadingOf f which bytes) (chars (first ++ second)) (first ++ second)
+only_two_chunks f which bytes rest first second n one other all =
+    only_chunk f which bytes (drop n rest) (first ++ second)
+    (more_read f which bytes rest (drop n rest) [] first (first ++ second) one
+    (chunk_appended f which rest (drop n rest) second first (first ++ second) other refl))
+    (omega (arith, length-drop n rest, all))
+
+-- The strict reading is no longer than the bytes.
+pub strict_no_longer : (f : Flavor) (bytes : List ℕ) → IsStrictReading f bytes (reading f bytes) → lossy_length f bytes ≤ length bytes
+unfolding lossy_length
+strict_no_longer f bytes reads = omega (arith, (length_bounds f (reading f bytes) reads.0).low, ap length reads.1)
+
+-- That of the lossy reading of any,
+pub only_lossy : (f : Flavor) (bytes : List ℕ) → IsOnlyText (λ text. text ≡ reading f bytes) (reading f bytes) (utf8 (reading f bytes))
+only_lossy f bytes = record { reads = refl; only = λ other same. same; utf8_is = refl }
+
+-- that of UTF-8 in which nothing changes,
+pub only_unchanged : (f : Flavor) (which : Strictness) (bytes : List ℕ) → IsUnchangedUtf8 f bytes →
+    IsOnlyText (IsReadingOf f which bytes) (chars bytes) bytes
+only_unchanged f Strict bytes unchanged =
+    let reads = unchanged_reading f bytes bytes refl unchanged in
+    record {
+      reads = reads;
+      only = λ other also. strict_only f bytes (chars bytes) other reads also;
+      utf8_is = (IsUtf8Of_chars bytes unchanged.0).1;
+    }
+only_unchanged f Lossy bytes unchanged =
+    let reads = unchanged_lossy f bytes bytes refl unchanged in
+    record {
+      reads = reads;
+      only = λ other same. same ∙ sym reads;
+      utf8_is = (IsUtf8Of_chars bytes unchanged.0).1;
+    }
+
+-- and in lenient reading that of any UTF-8.
+pub only_utf8 : (f : Flavor) (which : Strictness) (bytes : List ℕ) → IsUtf8 bytes → IsOnlyText (IsLenientReadingOf f which bytes) (chars bytes) bytes
+only_utf8 f Strict bytes is_utf8 =
+    let of_chars = IsUtf8Of_chars bytes is_utf8 in
+    record {
+      reads = inl of_chars;
+      only = λ other also. ⊎_elim (λ of. sym (chars_utf8 other of.0) ∙ ap chars of.1)
+          (λ reads. absurd (reads.0 (chars bytes) of_chars)) also;
+      utf8_is = of_chars.1;
+    }
+only_utf8 f Lossy bytes is_utf8 =
+    let of_chars = IsUtf8Of_chars bytes is_utf8 in
+    record {
+      reads = inl of_chars;
+      only = λ other also. ⊎_elim (λ of. sym (chars_utf8 other of.0) ∙ ap chars of.1)
+          (λ reads. absurd (reads.0 (chars bytes) of_chars)) also;
+      utf8_is = of_chars.1;
+    }
+
+-- ---- where it is written or not
+
+-- In strict reading the input has no text.
+pub text_lacks : (which : Strictness) (IsReading : List ℕ → Type 0) (buf : List ℕ) → which ≡ Strict →
+    ((text : List ℕ) → ¬ (IsReading text)) → PutsText which IsReading (Err unwritten.NoText) buf buf
+text_lacks which IsReading buf strictly none = record {
+  written = tt;
+  fits = ((λ ok. absurd (false≢true ok)), (λ found. absurd (none found.0 found.1)));
+  invalid = ((λ _. none), (λ _. tt));
+  too_long = ((λ never. absurd never), (λ found. absurd (none found.0 found.1)));
+  needed = tt;
+  unchanged = refl;
+  strict = λ _. strictly;
+  lossy = λ never. absurd never;
+}
+
+pub no_strict_text : (f : Flavor) (which : Strictness) (bytes buf : List ℕ) → (which ≡ Strict) × HasNoStrictReading f bytes →
+    PutsText which (IsReadingOf f which bytes) (Err unwritten.NoText) buf buf
+no_strict_text f Strict bytes buf refused = text_lacks Strict (IsReadingOf f Strict bytes) buf refl refused.1
+no_strict_text f Lossy bytes buf refused = absurd (let no : Lossy ≡ Strict = refused.0 in cc)
+
+-- The answer is written, or the buffer is too short for it.
+pub text_put : (which : Strictness) (IsReading : List ℕ → Type 0) (text answer : List ℕ) (r : Result ℕ NoRoom) (told : Result ℕ Unwritten) (old new : List ℕ) →
+    IsOnlyText IsReading text answer → length answer < 2 ^ 64 →
+    MatchResult r (λ len. told ≡ Ok len) (λ fault. IsErrAnd told (λ d. d ≡ unwritten.NoRoom fault)) →
+    PutsAnswer answer r old new → PutsText which IsReading told old new
+text_put which IsReading text answer (Ok len) told old new is small told_is puts =
+    subst (λ t. PutsText which IsReading t old new) (sym told_is) (record {
+      written = (text, is.reads, subst (λ a. StandsAtFront a len old new) (sym is.utf8_is) puts.written);
+      fits = ((λ _. of_length IsReading (λ len. len ≤ length old) text answer is (puts.fits.0 refl)), (λ _. refl));
+      invalid = ((λ never. absurd never), (λ none. absurd (none text is.reads)));
+      too_long = (
+        (λ never. absurd never),
+        (λ found. absurd (omega (arith, small, at_length IsReading (λ len. 2 ^ 64 ≤ len) text answer is found))),
+      );
+      needed = tt;
+      unchanged = tt;
+      strict = λ never. absurd never;
+      lossy = λ never. absurd never;
+    })
+text_put which IsReading text answer (Err fault) (Ok len) old new is small told_is puts = absurd told_is
+text_put which IsReading text answer (Err fault) (Err other) old new is small told_is puts =
+    subst (λ d. PutsText which IsReading (Err d) old new) (sym told_is) (record {
+      written = tt;
+      fits = (
+        (λ ok. absurd (false≢true ok)),
+        (λ found. absurd (false≢true (puts.fits.1 (at_length IsReading (λ len. len ≤ length old) text answer is found)))),
+      );
+      invalid = ((λ never. absurd never), (λ none. absurd (none text is.reads)));
+      too_long = (
+        (λ never. absurd never),
+        (λ found. absurd (omega (arith, small, at_length IsReading (λ len. 2 ^ 64 ≤ len) text answer is found))),
+      );
+      needed = of_length IsReading (λ len. fault.needed ≡ len) text answer is puts.needed;
+      unchanged = puts.unchanged;
+      strict = λ never. absurd never;
+      lossy = λ never. absurd never;
+    })
+
+-- So are bytes of which all were decoded.
+pub decoded_put : (f : Flavor) (which : Strictness) (bytes answer : List ℕ) (read : ℕ) (is_ill_formed : Bool) (r : Result ℕ NoRoom) (told : Result ℕ Unwritten) (old new : List ℕ) →
+    ReadsAll f which bytes read answer is_ill_formed → refuses which is_ill_formed ≡ false → length answer < 2 ^ 64 →
+    MatchResult r (λ len. told ≡ Ok len) (λ fault. IsErrAnd told (λ d. d ≡ unwritten.NoRoom fault)) →
+    PutsAnswer answer r old new → PutsText which (IsReadingOf f which bytes) told old new
+decoded_put f which bytes answer read is_ill_formed r told old new reads fine small told_is puts =
+    text_put which (IsReadingOf f which bytes) (chars answer) answer r told old new
+    (only_chunk f which bytes (drop read bytes) answer (chunk_unless_refused f which bytes answer read is_ill_formed reads.first fine)
+    (omega (arith, length-drop read bytes, reads.all fine)))
+    small told_is puts
+
+-- No `usize` is the answer's length, so that it fits into no buffer.
+pub length_lacks : (IsReading : List ℕ → Type 0) (text answer buf : List ℕ) → IsOnlyText IsReading text answer →
+    2 ^ 64 ≤ length answer → length buf < 2 ^ 64 → PutsText Lossy IsReading (Err unwritten.TooLong) buf buf
+length_lacks IsReading text answer buf is long small = record {
+  written = tt;
+  fits = (
+    (λ ok. absurd (false≢true ok)),
+    (λ found. absurd (omega (arith, long, small, at_length IsReading (λ len. len ≤ length buf) text answer is found))),
+  );
+  invalid = ((λ never. absurd never), (λ none. absurd (none text is.reads)));
+  too_long = ((λ _. of_length IsReading (λ len. 2 ^ 64 ≤ len) text answer is long), (λ _. tt));
+  needed = tt;
+  unchanged = refl;
+  strict = λ never. absurd never;
+  lossy = λ _. refl;
+}
+
+-- ---- other words for the reading
+
+module _ (P Q : List ℕ → Type 0) (same : (text : List ℕ) → P text ↔ Q text) where
+  there : (F : ℕ → Type 0) → ReadsAtLength P F → ReadsAtLength Q F
+  there F found = (found.0, (same found.0).0 found.1, found.2)
+
+  back : (F : ℕ → Type 0) → ReadsAtLength Q F → ReadsAtLength P F
+  back F found = (found.0, (same found.0).1 found.1, found.2)
+
+  -- What is said by one reading is said by another that has the same texts.
+  pub same_reading : (which : Strictness) (r : Result ℕ Unwritten) (old new : List ℕ) → PutsText which P r old new → PutsText which Q r old new
+  same_reading which (Ok len) old new puts = record {
+    written = (puts.written.0, (same puts.written.0).0 puts.written.1, puts.written.2);
+    fits = ((λ ok. there (λ len. len ≤ length old) (puts.fits.0 ok)), (λ _. refl));
+    invalid = ((λ never. absurd never), (λ none. absurd (none puts.written.0 ((same puts.written.0).0 puts.written.1))));
+    too_long = ((λ never. absurd never), (λ found. puts.too_long.1 (back (λ len. 2 ^ 64 ≤ len) found)));
+    needed = tt;
+    unchanged = tt;
+    strict = puts.strict;
+    lossy = puts.lossy;
+  }
+  same_reading which (Err unwritten.NoText) old new puts = record {
+    written = tt;
+    fits = ((λ ok. absurd (false≢true ok)), (λ found. puts.fits.1 (back (λ len. len ≤ length old) found)));
+    invalid = ((λ _ text reads. puts.invalid.0 tt text ((same text).1 reads)), (λ _. tt));
+    too_long = ((λ never. absurd never), (λ found. puts.too_long.1 (back (λ len. 2 ^ 64 ≤ len) found)));
+    needed = tt;
+    unchanged = puts.unchanged;
+    strict = puts.strict;
+    lossy = puts.lossy;
+  }
+  same_reading which (Err unwritten.TooLong) old new puts = record {
+    written = tt;
+    fits = ((λ ok. absurd (false≢true ok)), (λ found. puts.fits.1 (back (λ len. len ≤ length old) found)));
+    invalid = ((λ never. absurd never), (λ none. puts.invalid.1 (λ text reads. none text ((same text).0 reads))));
+    too_long = ((λ _. there (λ len. 2 ^ 64 ≤ len) (puts.too_long.0 tt)), (λ _. tt));
+    needed = tt;
+    unchanged = puts.unchanged;
+    strict = puts.strict;
+    lossy = puts.lossy;
+  }
+  same_reading which (Err (unwritten.NoRoom fault)) old new puts = record {
+    written = tt;
+    fits = ((λ ok. absurd (false≢true ok)), (λ found. puts.fits.1 (back (λ len. len ≤ length old) found)));
+    invalid = ((λ never. absurd never), (λ none. puts.invalid.1 (λ text reads. none text ((same text).0 reads))));
+    too_long = ((λ never. absurd never), (λ found. puts.too_long.1 (back (λ len. 2 ^ 64 ≤ len) found)));
+    needed = there (λ len. fault.needed ≡ len) puts.needed;
+    unchanged = puts.unchanged;
+    strict = puts.strict;
+    lossy = puts.lossy;
+  }
+
+-- Where bytes are no UTF-8, lenient reading is the other.
+pub lenient_is_other : (f : Flavor) (which : Strictness) (bytes text : List ℕ) → ¬ (IsUtf8 bytes) →
+    IsReadingOf f which bytes text ↔ IsLenientReadingOf f which bytes text
+lenient_is_other f Strict bytes text not_utf8 = (
+  (λ reads. inr (not_utf8_of bytes not_utf8, reads)),
+  (λ reads. ⊎_elim (λ of. absurd (not_utf8_of bytes not_utf8 text of)) (λ strictly. strictly.1) reads),
+)
+lenient_is_other f Lossy bytes text not_utf8 = (
+  (λ same. inr (not_utf8_of bytes not_utf8, same)),
+  (λ reads. ⊎_elim (λ of. absurd (not_utf8_of bytes not_utf8 text of)) (λ lossily. lossily.1) reads),
+)

@@ -1,0 +1,45 @@
+-- Text that is written into a slice a chunk at a time.
+use Rattle.std.proofs.Common.{◌≡◌, ℕ, ◌+◌, List, [], ◌++◌, refl, sym, ap, ◌∙◌, arith, length, take, drop, Bool}
+use Rattle.std.proofs.lemmas.List.{take-append-drop}
+use Rattle.cesu8_text.specs.Text.{utf8}
+use Rattle.cesu8_text.specs.Encoding.{Flavor}
+use Rattle.cesu8_text.specs.Reading.{reading, lossy_length}
+use Rattle.cesu8_text.specs.Slices.{StandsAtFront}
+use Rattle.cesu8_decode.specs.Decoding.{ReadsFirst, IsWrittenSoFar}
+use Rattle.cesu8_bytes.specs.declared.options.Strictness.TheVariants.{Lossy}
+use Rattle.cesu8_bytes.proofs.lists.Ends.{stays_behind}
+use Rattle.cesu8_decode.proofs.chunks.ReadChunks.{nothing_read, all_read, more_read, chunk_appended, chunk_length}
+use Rattle.cesu8_text.proofs.reading.Decoding.{lossy_length_nil}
+
+-- Before the first chunk nothing is written.
+pub nothing_written : (f : Flavor) (bytes old : List ℕ) → IsWrittenSoFar f bytes bytes 0 old old
+nothing_written f bytes old = record {
+  so_far = nothing_read f Lossy bytes [];
+  room = omega arith;
+  behind = refl;
+  len = refl;
+}
+
+-- A chunk that is put behind what was written so far adds to it.
+pub chunk_written : (f : Flavor) (bytes rest chunk : List ℕ) (read : ℕ) (is_ill_formed : Bool) (at end : ℕ) (old between new : List ℕ) →
+    IsWrittenSoFar f bytes rest at old between → ReadsFirst f rest read chunk is_ill_formed →
+    take end new ≡ take at between ++ chunk → end ≡ at + length chunk → drop end new ≡ drop end between → length new ≡ length between →
+    IsWrittenSoFar f bytes (drop read rest) end old new
+chunk_written f bytes rest chunk read is_ill_formed at end old between new so_far first put end_is behind len = record {
+  so_far = more_read f Lossy bytes rest (drop read rest) [] (take at between) (take end new) so_far.so_far
+      (chunk_appended f Lossy rest (drop read rest) chunk (take at between) (take end new) first.lossy put);
+  room = omega (arith, end_is, so_far.room, chunk_length f rest (drop read rest) chunk first.lossy);
+  behind = behind ∙ stays_behind old between at end (omega (arith, end_is)) so_far.behind;
+  len = len ∙ so_far.len;
+}
+
+-- Where no bytes are left, their lossy reading stands at the front.
+pub all_written : (f : Flavor) (bytes rest : List ℕ) (end : ℕ) (old new : List ℕ) → IsWrittenSoFar f bytes rest end old new →
+    length rest ≡ 0 → StandsAtFront (utf8 (reading f bytes)) end old new
+unfolding lossy_length
+all_written f bytes rest end old new written empty =
+    let read = all_read f Lossy bytes rest [] (take end new) written.so_far empty in (
+      omega (arith, written.room, lossy_length_nil f rest empty),
+      sym (take-append-drop end new) ∙ ap (λ bs. bs ++ drop end new) (read.2 ∙ ap utf8 read.1.1)
+          ∙ ap (λ bs. utf8 (reading f bytes) ++ bs) written.behind,
+    )

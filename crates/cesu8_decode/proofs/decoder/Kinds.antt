@@ -1,0 +1,100 @@
+-- The kind of what two bytes begin, by three look-ups.
+use Rattle.std.proofs.Common.{◌≡◌, ℕ, ◌+◌, ◌*◌, ◌/◌, ◌%◌, ◌<◌, ◌⊎◌, Bool, true, false, ◌&&◌, cond, eqb, leb, ltb, List, [], ◌∷◌, refl, ap, ◌∙◌, inl, inr, arith, get_or, bit_and}
+use Rattle.std.proofs.lemmas.Bool.{agree_below_at, eqb-true, and_right, cases_Bool}
+use Rattle.cesu8_text.specs.Encoding.{Flavor, Cesu8, Mutf8}
+use Rattle.cesu8_bytes.specs.Joining.{null_at}
+use Rattle.cesu8_decode.specs.DecodedOffsets.{two_at, three_at, pair_at}
+use Rattle.cesu8_decode.specs.DecodedLanes.{start_kind_by, kind_of_two}
+
+-- ---- tests before a mask
+
+pub cond_same : {X : Type 0} (t : Bool) (x : X) → cond t x x ≡ x
+cond_same true x = refl
+cond_same false x = refl
+
+pub and_cond : (t : Bool) (x y m : ℕ) → bit_and (cond t x y) m ≡ cond t (bit_and x m) (bit_and y m)
+and_cond true x y m = refl
+and_cond false x y m = refl
+
+-- ---- the three tables
+
+abbrev pub by_high : List ℕ
+by_high = 0 ∷ 0 ∷ 0 ∷ 0 ∷ 0 ∷ 0 ∷ 0 ∷ 0 ∷ 0 ∷ 0 ∷ 0 ∷ 0 ∷ 0x81 ∷ 0x02 ∷ 0x3C ∷ 0 ∷ []
+
+abbrev pub by_low : List ℕ
+by_low = 0x86 ∷ 0x0A ∷ 0x0B ∷ 0x0B ∷ 0x0B ∷ 0x0B ∷ 0x0B ∷ 0x0B ∷ 0x0B ∷ 0x0B ∷ 0x0B ∷ 0x0B ∷ 0x0B ∷ 0x33 ∷ 0x0B ∷ 0x0B ∷ []
+
+abbrev pub by_next : List ℕ
+by_next = 0 ∷ 0 ∷ 0 ∷ 0 ∷ 0 ∷ 0 ∷ 0 ∷ 0 ∷ 0x9B ∷ 0x1B ∷ 0x2F ∷ 0x0F ∷ 0 ∷ 0 ∷ 0 ∷ 0 ∷ []
+
+-- the kind of two bytes, by the second's upper half
+kind : ℕ → ℕ → ℕ
+kind a n = bit_and (bit_and (get_or by_high (a / 0x10 % 0x10) 0) (get_or by_low (a % 0x10) 0)) (get_or by_next (n % 0x10) 0)
+
+-- the same by tests
+kind_by : ℕ → ℕ → ℕ
+kind_by a b =
+    cond (two_at a b) (cond (ltb a 0xD0) 0x01 0x02)
+    (cond (three_at a b 0x80) (cond (eqb a 0xE0) 0x04 (cond (eqb a 0xED) 0x10 0x08))
+    (cond (pair_at a b 0x80 0xED 0xB0 0x80) 0x20
+    (cond (eqb a 0xC0 && (leb 0x80 b && ltb b 0x90)) 0x80 0)))
+
+agrees : ℕ → Bool
+agrees i = eqb (kind (i / 0x10) (i % 0x10)) (kind_by (i / 0x10) (i % 0x10 * 0x10))
+
+-- both depend on the second byte's upper half alone, and agree there
+at_halves : (a n : ℕ) → a < 0x100 → n < 0x10 → kind a n ≡ kind_by a (n * 0x10)
+unfolding agrees kind kind_by
+at_halves a n ha hn =
+    let i = a * 0x10 + n in
+    let e0 : i / 0x10 ≡ a = omega arith in
+    let e1 : i % 0x10 ≡ n = omega arith in
+    eqb-true _ _ (rw (e0, e1) at (agree_below_at agrees (λ _. true) 0x1000 i refl (omega arith)))
+
+abbrev half : ℕ → ℕ
+half b = b / 0x10 * 0x10
+
+by_half : (a b : ℕ) → b < 0x100 → kind_by a (half b) ≡ kind_by a b
+unfolding kind_by
+by_half a b h =
+    let e80 : leb 0x80 (half b) ≡ leb 0x80 b = agree_below_at (λ b. leb 0x80 (half b)) (λ b. leb 0x80 b) 0x100 b refl h in
+    let eA0 : leb 0xA0 (half b) ≡ leb 0xA0 b = agree_below_at (λ b. leb 0xA0 (half b)) (λ b. leb 0xA0 b) 0x100 b refl h in
+    let l90 : ltb (half b) 0x90 ≡ ltb b 0x90 = agree_below_at (λ b. ltb (half b) 0x90) (λ b. ltb b 0x90) 0x100 b refl h in
+    let lA0 : ltb (half b) 0xA0 ≡ ltb b 0xA0 = agree_below_at (λ b. ltb (half b) 0xA0) (λ b. ltb b 0xA0) 0x100 b refl h in
+    let lB0 : ltb (half b) 0xB0 ≡ ltb b 0xB0 = agree_below_at (λ b. ltb (half b) 0xB0) (λ b. ltb b 0xB0) 0x100 b refl h in
+    let lC0 : ltb (half b) 0xC0 ≡ ltb b 0xC0 = agree_below_at (λ b. ltb (half b) 0xC0) (λ b. ltb b 0xC0) 0x100 b refl h in
+    rw (e80, eA0, l90, lA0, lB0, lC0) refl
+
+kind_is : (a b : ℕ) → a < 0x100 → b < 0x100 → kind a (b / 0x10) ≡ kind_by a b
+kind_is a b ha hb = at_halves a (b / 0x10) ha (omega arith) ∙ by_half a b hb
+
+-- ---- with the mask that tells the flavors apart
+
+no_null : (a b : ℕ) → bit_and (kind_by a b) 0x7F ≡ kind_of_two Cesu8 a b
+unfolding kind_by start_kind_by
+no_null a b = simp (and_cond, cond_same)
+
+null_agrees : ℕ → Bool
+null_agrees a = eqb (bit_and (kind_by a 0x80) 0xFF) (kind_of_two Mutf8 a 0x80)
+
+at_null : (a : ℕ) → a < 0x100 → bit_and (kind_by a 0x80) 0xFF ≡ kind_of_two Mutf8 a 0x80
+unfolding null_agrees kind_by start_kind_by
+at_null a ha = eqb-true _ _ (agree_below_at null_agrees (λ _. true) 0x100 a refl ha)
+
+other_second : (a b : ℕ) → eqb b 0x80 ≡ false → kind_of_two Cesu8 a b ≡ kind_of_two Mutf8 a b
+unfolding start_kind_by
+other_second a b other = rw (and_right (eqb a 0xC0) (eqb b 0x80) other) refl
+
+masked : (f : Flavor) (a b : ℕ) → a < 0x100 → (eqb b 0x80 ≡ true) ⊎ (eqb b 0x80 ≡ false) →
+    bit_and (kind_by a b) (cond (null_at f 0xC0 b) 0xFF 0x7F) ≡ kind_of_two f a b
+masked Cesu8 a b ha _ = no_null a b
+masked Mutf8 a b ha (inl same) = rw (eqb-true b 0x80 same) (at_null a ha)
+masked Mutf8 a b ha (inr other) = rw other (no_null a b ∙ other_second a b other)
+
+-- The three look-ups and the mask give the kind of two bytes.
+pub looked_up : (f : Flavor) (a b : ℕ) → a < 0x100 → b < 0x100 →
+    bit_and (bit_and (bit_and (get_or by_high (a / 0x10 % 0x10) 0) (get_or by_low (a % 0x10) 0)) (get_or by_next (b / 0x10 % 0x10) 0))
+    (cond (null_at f 0xC0 b) 0xFF 0x7F) ≡ kind_of_two f a b
+unfolding kind
+looked_up f a b ha hb =
+    ap (λ n. bit_and n (cond (null_at f 0xC0 b) 0xFF 0x7F)) (kind_is a b ha hb) ∙ masked f a b ha (cases_Bool (eqb b 0x80))

@@ -1,0 +1,141 @@
+-- What the lossy reading makes of each byte, from its neighbours alone: the two bytes before it,
+-- and the widths of the characters that begin at its offset and at the five before it.
+use Rattle.std.specs.Prelude.{◌≡◌, ℕ, zero, suc, ◌+◌, ◌*◌, ◌/◌, ◌%◌, ◌<◌, ◌&&◌, ◌||◌, ◌==◌, nat_le, nat_lt, if◌then◌else◌, not, Bool, true, List, [], ◌∷◌, slice_index}
+use Rattle.std.specs.List.{flat_map, range_with_len}
+use Rattle.cesu8_text.specs.Encoding.{Flavor, Cesu8, Mutf8}
+use Rattle.cesu8_text.specs.Reading.{standing, width_of}
+use Rattle.cesu8_bytes.specs.Joining.{null_at}
+
+-- How many bytes the encoded character has that begins the bytes, or 0.
+abbrev pub first_width : Flavor → List ℕ → ℕ
+first_width f bytes = width_of f (standing f bytes)
+
+-- The first eight bytes. Zeros follow the last.
+abbrev pub IsPrefixOf : List ℕ → List ℕ → Type 0
+IsPrefixOf bytes prefix = (i : ℕ) → i < 8 → slice_index prefix i ≡ slice_index bytes i
+
+-- Tests of the first six bytes. A continuation byte:
+abbrev pub continues : ℕ → Bool
+continues b = nat_le 0x80 b && nat_lt b 0xC0
+
+-- A character of one byte,
+abbrev pub one_at : Flavor → ℕ → Bool
+one_at Cesu8 a = nat_lt a 0x80
+one_at Mutf8 a = nat_le 1 a && nat_lt a 0x80
+
+-- one of two bytes but the null of MUTF-8,
+abbrev pub two_at : ℕ → ℕ → Bool
+two_at a b = nat_le 0xC2 a && (nat_lt a 0xE0 && continues b)
+
+-- one of three bytes, where E0 is followed by A0 or more, and ED by less,
+abbrev pub fits_three : ℕ → ℕ → Bool
+fits_three a b = if a == 0xE0 then nat_le 0xA0 b else if a == 0xED then nat_lt b 0xA0 else true
+
+abbrev pub three_at : ℕ → ℕ → ℕ → Bool
+three_at a b d = nat_le 0xE0 a && (nat_lt a 0xF0 && (continues b && (continues d && fits_three a b)))
+
+-- and a surrogate pair.
+abbrev pub pair_at : ℕ → ℕ → ℕ → ℕ → ℕ → ℕ → Bool
+pair_at a b d e g h =
+    a == 0xED && (nat_le 0xA0 b && (nat_lt b 0xB0 && (continues d && (e == 0xED && (nat_le 0xB0 g && (nat_lt g 0xC0 && continues h))))))
+
+-- The width by these tests.
+unfoldable pub first_width_by : Flavor → ℕ → ℕ → ℕ → ℕ → ℕ → ℕ → ℕ
+first_width_by f a b d e g h =
+    if one_at f a then 1
+    else if null_at f a b then 2
+    else if two_at a b then 2
+    else if three_at a b d then 3
+    else if pair_at a b d e g h then 6
+    else 0
+
+-- The width of the character that begins at offset i of a window, by six bytes of it. Zeros
+-- follow the window.
+abbrev pub width_at : Flavor → List ℕ → ℕ → ℕ
+width_at f window i =
+    let w = slice_index window in
+    first_width_by f (w i) (w (i + 1)) (w (i + 2)) (w (i + 3)) (w (i + 4)) (w (i + 5))
+
+-- What a byte becomes that is neither of a surrogate pair nor of the null of MUTF-8: in a character
+-- it stays, and otherwise it is replaced.
+abbrev pub kept : ℕ → ℕ → ℕ → ℕ → List ℕ
+kept w0 w1 w2 b = if nat_le 1 w0 || (nat_le 2 w1 || nat_le 3 w2) then b ∷ [] else 0xEF ∷ 0xBF ∷ 0xBD ∷ []
+
+-- What a byte becomes, by the widths at its offset and at the five before it, and by the two
+-- bytes before it. The six bytes of a surrogate pair become four, and C0 80 in MUTF-8 becomes 00.
+unfoldable pub decoded_byte : (w0 w1 w2 w3 w4 w5 two_before before b : ℕ) → List ℕ
+decoded_byte w0 w1 w2 w3 w4 w5 two_before before b =
+    if w0 == 6 then []
+    else if w1 == 6 then []
+    else if w2 == 6 then (0xF0 + (before % 0x10 + 1) / 4) ∷ []
+    else if w3 == 6 then (0x80 + ((two_before % 0x10 + 1) % 4 * 0x10 + before / 4 % 0x10)) ∷ []
+    else if w4 == 6 then (0x80 + (two_before % 4 * 0x10 + b % 0x10)) ∷ []
+    else if w5 == 6 then b ∷ []
+    else if w0 == 2 && b == 0xC0 then []
+    else if w1 == 2 && before == 0xC0 then 0 ∷ []
+    else kept w0 w1 w2 b
+
+-- What the byte of a window becomes that follows the first i bytes and five more.
+abbrev pub decoded_at : Flavor → List ℕ → ℕ → List ℕ
+decoded_at f window i =
+    decoded_byte (width_at f window (i + 5)) (width_at f window (i + 4)) (width_at f window (i + 3)) (width_at f window (i + 2))
+    (width_at f window (i + 1)) (width_at f window i) (slice_index window (i + 3)) (slice_index window (i + 4)) (slice_index window (i + 5))
+
+-- What n bytes of a window become, from there on.
+unfoldable pub decoded : Flavor → List ℕ → ℕ → ℕ → List ℕ
+decoded f window i n = flat_map (decoded_at f window) (range_with_len i n)
+
+-- A window on all of the bytes: five zeros, the bytes, and zeros.
+abbrev pub IsPadded : List ℕ → List ℕ → Type 0
+IsPadded bytes window = (k : ℕ) → slice_index window k ≡ slice_index (0 ∷ 0 ∷ 0 ∷ 0 ∷ 0 ∷ bytes) k
+
+-- A window on the first n of them and five more, which decide what begins before n.
+abbrev pub IsPaddedFor : ℕ → List ℕ → List ℕ → Type 0
+IsPaddedFor n bytes window =
+    (k : ℕ) → k < n + 10 → slice_index window k ≡ slice_index (0 ∷ 0 ∷ 0 ∷ 0 ∷ 0 ∷ bytes) k
+
+-- No encoded character covers a byte, by the widths at its offset and at the five before it.
+abbrev pub ill_formed_by : (w0 w1 w2 w3 w4 w5 : ℕ) → Bool
+ill_formed_by w0 w1 w2 w3 w4 w5 =
+    not (nat_le 1 w0 || (nat_le 2 w1 || (nat_le 3 w2 || (w3 == 6 || (w4 == 6 || w5 == 6)))))
+
+-- The same for the byte of a window that follows the first i bytes and five more.
+abbrev pub is_ill_formed_at : Flavor → List ℕ → ℕ → Bool
+is_ill_formed_at f window i =
+    ill_formed_by (width_at f window (i + 5)) (width_at f window (i + 4)) (width_at f window (i + 3)) (width_at f window (i + 2))
+    (width_at f window (i + 1)) (width_at f window i)
+
+-- No encoded character crosses a boundary from the five offsets before it, by their widths.
+abbrev pub boundary_by : (w1 w2 w3 w4 w5 : ℕ) → Bool
+boundary_by w1 w2 w3 w4 w5 = nat_le w1 1 && (nat_le w2 2 && (nat_le w3 3 && (nat_le w4 4 && nat_le w5 5)))
+
+-- The boundary before the byte of a window that follows the first i bytes and five more.
+abbrev pub is_boundary_at : Flavor → List ℕ → ℕ → Bool
+is_boundary_at f window i =
+    boundary_by (width_at f window (i + 4)) (width_at f window (i + 3)) (width_at f window (i + 2)) (width_at f window (i + 1)) (width_at f window i)
+
+-- How many bytes an offset saves: three times the bytes of the character that begins there, less
+-- those of its UTF-8. An ill-formed byte saves none.
+abbrev pub saved : ℕ → ℕ → ℕ
+saved w b =
+    if w == 1 then 2
+    else if w == 2 then (if b == 0xC0 then 5 else 4)
+    else if w == 3 then 6
+    else if w == 6 then 14
+    else 0
+
+-- How many bytes the character has that begins at an offset.
+abbrev pub covered : ℕ → ℕ → ℕ
+covered w b = w
+
+-- The weight of an offset follows from the width of the character that begins there, or 0, and
+-- from the byte there. The weight of all offsets,
+unfoldable pub total_weight : (ℕ → ℕ → ℕ) → Flavor → List ℕ → ℕ
+total_weight weight f [] = 0
+total_weight weight f (b ∷ bytes) = weight (first_width f (b ∷ bytes)) b + total_weight weight f bytes
+
+-- and of n offsets, from offset i of a window on.
+unfoldable pub weight_between : (ℕ → ℕ → ℕ) → Flavor → List ℕ → ℕ → ℕ → ℕ
+weight_between weight f window i zero = 0
+weight_between weight f window i (suc n) =
+    weight (width_at f window i) (slice_index window i) + weight_between weight f window (i + 1) n

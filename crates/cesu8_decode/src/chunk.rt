@@ -1,0 +1,77 @@
+//! The first bytes as a chunk of text: joined, or written by offsets.
+
+ghost use Rattle.std.specs.Prelude.{◌≡◌, ◌+◌, ◌*◌, ◌<◌, ◌≤◌, length, take};
+ghost use Rattle.std.specs.Str.{IsUtf8};
+ghost use Rattle.cesu8_decode.specs.Decoding.{IsNextChunk};
+
+use super::packing::WIDEST;
+use super::windows::{Decoded, LEAST, SPARED, write_window};
+use cesu8_bytes::flavor::Flavor;
+use cesu8_bytes::joining::Buffer;
+use cesu8_bytes::window::{Joined, TOO_FEW, read_window};
+use simdutf8::basic;
+
+/// How many bytes are tested at a time by vectors.
+pub const TESTED: usize = 64;
+
+/// The least length of a text for which that takes less time.
+const PAYING: usize = 9;
+
+/// The next chunk of text.
+#[derive(Drop)]
+pub enum Chunk<'a> {
+    /// Bytes that are well-formed were joined, and tested for UTF-8.
+    Joined(Joined<'a>),
+    /// What becomes of the bytes was written, and is not tested.
+    Written(Decoded),
+}
+
+/// Reads the next bytes: as a joined window if that yields text, and else by offsets in a window of
+/// this length. After an ill-formed byte joining mostly yields none.
+#[inline(always)]
+pub fn next_chunk<'a, F: Flavor, const LEN: usize>(
+    bytes: &[u8],
+    joins: bool,
+    buffer: &'a mut Buffer,
+    written: &mut [u8],
+) -> Chunk<'a>
+    requires some { 0 < length bytes.now }
+    requires window { LEAST ≤ LEN }
+    requires written { WIDEST * LEN ≤ length written.old + SPARED }
+    ensures { IsNextChunk F.flavor bytes.now result written.new }
+{
+    if joins && bytes.len() > TOO_FEW {
+        if let Some(joined) = read_window::<F>(bytes, buffer) {
+            return Chunk::Joined(joined);
+        }
+    }
+    let mut window = [0; LEN];
+    Chunk::Written(write_window::<F>(bytes, &mut window, written))
+}
+
+/// Returns the text that is written up to `end`. A longer one is tested with zeros after it, so
+/// that vectors test no fewer bytes than a block.
+#[inline(always)]
+pub fn text_of(written: &mut [u8], end: usize) -> &str
+    requires room { end + TESTED ≤ length written.old }
+    requires utf8 { IsUtf8 (take end written.old) }
+    ensures { result.now ≡ take end written.old }
+{
+    if end < PAYING {
+        return tested(&written[..end]);
+    }
+    written[end..end + TESTED].fill(0);
+    &tested(&written[..TESTED * end.div_ceil(TESTED)])[..end]
+}
+
+/// Returns bytes that are UTF-8 as a text, after a test.
+#[inline(always)]
+fn tested(bytes: &[u8]) -> &str
+    requires { IsUtf8 bytes.now }
+    ensures { result.now ≡ bytes.now }
+{
+    match basic::from_utf8(bytes) {
+        Ok(text) => text,
+        Err(_) => unreachable!(),
+    }
+}

@@ -1,0 +1,173 @@
+//! What begins at each offset of some bytes, by vectors.
+//!
+//! The six bytes from the offset on decide this. The result is one bit, or none.
+
+ghost use Rattle.std.specs.Prelude.{◌≡◌, ◌==◌, ◌+◌, ◌-◌, ◌%◌, ◌≤◌, ℕ, List, length, map, slice_index};
+ghost use Rattle.std.specs.List.{range_with_len};
+ghost use Rattle.std.specs.Simd.Lanes.{zip2};
+ghost use Rattle.cesu8_text.specs.Encoding.{Flavor};
+ghost use Rattle.cesu8_bytes.specs.Kernels.{mask};
+ghost use Rattle.cesu8_decode.specs.DecodedOffsets.{continues};
+ghost use Rattle.cesu8_decode.specs.DecodedLanes.{kind_of_two, start_kind, AreFiveKinds, AreKindsNear};
+
+use cesu8_bytes::flavor::{Flavor, second_of_null};
+use std::simd::prelude::*;
+
+/// The kinds of characters of two bytes.
+const TWO: u8 = 0x03;
+
+/// Those of characters of three bytes: from E0 on, from ED, and from another byte.
+pub const THREE: u8 = 0x1C;
+
+/// That of a surrogate pair.
+pub const PAIR: u8 = 0x20;
+
+/// That of C0 80 in MUTF-8.
+pub const NULL: u8 = 0x80;
+
+/// The kinds of what two bytes begin are the common bits of three tables: by the upper half of the
+/// first byte, by its lower half, and by the upper half of the second. There `NULL` is the kind of
+/// C0 80 to C0 8F.
+const BY_HIGH: [u8; 16] = [0, 0, 0, 0, 0, 0, 0, 0, 0, 0, 0, 0, 0x81, 0x02, 0x3C, 0];
+
+const BY_LOW: [u8; 16] = [
+    0x86, 0x0A, 0x0B, 0x0B, 0x0B, 0x0B, 0x0B, 0x0B, 0x0B, 0x0B, 0x0B, 0x0B, 0x0B, 0x33, 0x0B, 0x0B,
+];
+
+const BY_NEXT: [u8; 16] = [0, 0, 0, 0, 0, 0, 0, 0, 0x9B, 0x1B, 0x2F, 0x0F, 0, 0, 0, 0];
+
+/// The indices of sixteen lanes, twice.
+const TWICE: [usize; BLOCK] = [
+    0, 1, 2, 3, 4, 5, 6, 7, 8, 9, 10, 11, 12, 13, 14, 15, 0, 1, 2, 3, 4, 5, 6, 7, 8, 9, 10, 11, 12,
+    13, 14, 15,
+];
+
+// The indices of 32 lanes, from the number in the name on.
+const FROM_27: [usize; BLOCK] = [
+    27, 28, 29, 30, 31, 32, 33, 34, 35, 36, 37, 38, 39, 40, 41, 42, 43, 44, 45, 46, 47, 48, 49, 50,
+    51, 52, 53, 54, 55, 56, 57, 58,
+];
+
+const FROM_28: [usize; BLOCK] = [
+    28, 29, 30, 31, 32, 33, 34, 35, 36, 37, 38, 39, 40, 41, 42, 43, 44, 45, 46, 47, 48, 49, 50, 51,
+    52, 53, 54, 55, 56, 57, 58, 59,
+];
+
+const FROM_29: [usize; BLOCK] = [
+    29, 30, 31, 32, 33, 34, 35, 36, 37, 38, 39, 40, 41, 42, 43, 44, 45, 46, 47, 48, 49, 50, 51, 52,
+    53, 54, 55, 56, 57, 58, 59, 60,
+];
+
+const FROM_30: [usize; BLOCK] = [
+    30, 31, 32, 33, 34, 35, 36, 37, 38, 39, 40, 41, 42, 43, 44, 45, 46, 47, 48, 49, 50, 51, 52, 53,
+    54, 55, 56, 57, 58, 59, 60, 61,
+];
+
+const FROM_31: [usize; BLOCK] = [
+    31, 32, 33, 34, 35, 36, 37, 38, 39, 40, 41, 42, 43, 44, 45, 46, 47, 48, 49, 50, 51, 52, 53, 54,
+    55, 56, 57, 58, 59, 60, 61, 62,
+];
+
+/// How many offsets form a block: as many as a vector has lanes.
+pub const BLOCK: usize = 32;
+
+/// How many bytes after an offset decide what begins there.
+pub const BEHIND: usize = 5;
+
+/// How many bytes decide what begins at the offsets of a block.
+pub const REACH: usize = BLOCK + BEHIND;
+
+/// The least byte that begins two bytes or more,
+const LEAD: u8 = 0xC0;
+
+/// and three or more.
+const LEAD_OF_THREE: u8 = 0xE0;
+
+/// Returns the kinds of the 32 offsets from `at` on. If no byte can lead others, they are zeros. If
+/// none can lead two others, two bytes decide.
+#[inline(always)]
+pub fn starts<F: Flavor>(bytes: &[u8], at: usize) -> u8x32
+    requires { at + REACH ≤ length bytes.now }
+    ensures { result ≡ map (start_kind F.flavor bytes.now) (range_with_len at BLOCK) }
+{
+    let first = u8x32::from_slice(&bytes[at..]);
+    if first.simd_ge(u8x32::splat(LEAD)).to_bitmask() == 0 {
+        return u8x32::splat(0);
+    }
+    let second = u8x32::from_slice(&bytes[at + 1..]);
+    let two = by_two::<F>(first, second);
+    if first.simd_ge(u8x32::splat(LEAD_OF_THREE)).to_bitmask() == 0 {
+        return two;
+    }
+    let third = u8x32::from_slice(&bytes[at + 2..]);
+    let fourth = u8x32::from_slice(&bytes[at + 3..]);
+    let fifth = u8x32::from_slice(&bytes[at + 4..]);
+    let sixth = u8x32::from_slice(&bytes[at + 5..]);
+    let ends_pair = equal(fourth, 0xED)
+        & equal(fifth & u8x32::splat(0xF0), 0xB0)
+        & continuations(sixth)
+        & u8x32::splat(PAIR);
+    let of_three = continuations(third) & (ends_pair | u8x32::splat(THREE));
+    two & (of_three | u8x32::splat(TWO | NULL))
+}
+
+/// The kinds of the offsets around a block: at index `d` those of the offsets `5 - d` before
+/// its bytes.
+pub type Kinds = [u8x32; 6];
+
+/// Returns these, from the kinds of the offsets of its bytes and of the 32 before.
+#[inline(always)]
+pub fn near(before: u8x32, here: u8x32) -> Kinds
+    ensures { (f : Flavor) (window : List ℕ) (at : ℕ) → AreFiveKinds f window at before (BLOCK - BEHIND)
+        → here ≡ map (start_kind f window) (range_with_len (at + BEHIND) BLOCK)
+        → AreKindsNear f window at result }
+{
+    [
+        before.shuffle::<32>(here, FROM_27),
+        before.shuffle::<32>(here, FROM_28),
+        before.shuffle::<32>(here, FROM_29),
+        before.shuffle::<32>(here, FROM_30),
+        before.shuffle::<32>(here, FROM_31),
+        here,
+    ]
+}
+
+/// Returns what two bytes begin, if the others follow.
+#[inline(always)]
+fn by_two<F: Flavor>(first: u8x32, second: u8x32) -> u8x32
+    ensures { result ≡ zip2 (kind_of_two F.flavor) first second }
+{
+    let four = u8x32::splat(4);
+    look_up(BY_HIGH, first >> four)
+        & look_up(BY_LOW, first)
+        & look_up(BY_NEXT, second >> four)
+        & second_of_null::<F>(second)
+}
+
+/// Returns the entry of a table for the lower half of each lane.
+#[inline(always)]
+pub fn look_up(table: [u8; 16], lanes: u8x32) -> u8x32
+    ensures { result ≡ map (λ lane. slice_index table (lane % 16)) lanes }
+{
+    u8x16::from_array(table)
+        .swizzle::<32>(TWICE)
+        .swizzle_dyn_within::<16>(lanes & u8x32::splat(15))
+}
+
+/// Returns all ones where a lane is equal to a byte, and otherwise zeros.
+#[inline(always)]
+pub fn equal(lanes: u8x32, byte: u8) -> u8x32
+    ensures { result ≡ map (λ lane. mask (lane == byte)) lanes }
+{
+    lanes
+        .simd_eq(u8x32::splat(byte))
+        .select(u8x32::splat(0xFF), u8x32::splat(0))
+}
+
+/// Returns all ones where a byte is a continuation byte, and otherwise zeros.
+#[inline(always)]
+fn continuations(bytes: u8x32) -> u8x32
+    ensures { result ≡ map (λ b. mask (continues b)) bytes }
+{
+    equal(bytes & u8x32::splat(0xC0), 0x80)
+}
