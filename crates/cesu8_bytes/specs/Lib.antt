@@ -3,3 +3,4 @@ pub mod Joining
 pub mod TextChunks
 pub mod Puts
 pub mod Prefixes
+pub mod FirstLooks

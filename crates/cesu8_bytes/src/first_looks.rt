@@ -5,6 +5,7 @@
 
 ghost use Rattle.std.specs.Prelude.{◌↔◌, IsTrue, Any, ◌≡◌, ◌*◌, length, IsUtf8, ◌<◌};
 ghost use Rattle.cesu8_text.specs.Class.{IsChangedByte, IsUnchangedUtf8};
+ghost use Rattle.cesu8_bytes.specs.FirstLooks.{IsTextWhere};
 ghost use Rattle.std.specs.Str.{chars};
 ghost use Rattle.cesu8_text.specs.Encoding.{NeedsEncoding};
 
@@ -45,23 +46,37 @@ const TESTED_FIRST: usize = 512;
 const LONG: usize = 4 * TESTED_FIRST;
 
 /// Returns the bytes as a text if they are UTF-8, and otherwise the empty text, which no such bytes
-/// have. If long input is not UTF-8, its prefix mostly shows it, and the rest is not tested.
-///
-/// A text is returned in registers; a `Result` with it would be returned through memory. It is not
-/// inlined, since each call needs it for each flavor.
-#[inline(never)]
+/// have. A text is returned in registers; a `Result` with it would be returned through memory.
+#[inline(always)]
 pub fn whole_text(bytes: &[u8]) -> &str
-    ensures whole { length result.now ≡ length bytes.now
-        → (result.now ≡ bytes.now) × IsUtf8 bytes.now }
-    ensures none { ¬ (length result.now ≡ length bytes.now) → ¬ (IsUtf8 bytes.now) }
+    ensures { IsTextWhere (IsUtf8 bytes.now) bytes.now result.now }
 {
-    // Short ASCII was found before.
-    if bytes.len() > SHORT_VALUE && is_ascii(bytes) {
+    if bytes.len() > SHORT_VALUE {
+        return long_text(bytes);
+    }
+    tested_text(bytes)
+}
+
+/// Does so for long input. ASCII needs no test for UTF-8. If other input is not UTF-8, its prefix
+/// mostly shows it, and the rest is not tested. It is not inlined, so that the calls stay small.
+#[inline(never)]
+fn long_text(bytes: &[u8]) -> &str
+    ensures { IsTextWhere (IsUtf8 bytes.now) bytes.now result.now }
+{
+    if is_ascii(bytes) {
         return ascii_text(bytes);
     }
     if bytes.len() >= LONG && !has_utf8_prefix(bytes) {
         return "";
     }
+    tested_text(bytes)
+}
+
+/// Does so by a test of all bytes.
+#[inline(always)]
+fn tested_text(bytes: &[u8]) -> &str
+    ensures { IsTextWhere (IsUtf8 bytes.now) bytes.now result.now }
+{
     match compat::from_utf8(bytes) {
         Ok(text) => text,
         Err(_) => "",
@@ -84,10 +99,7 @@ fn has_utf8_prefix(bytes: &[u8]) -> bool
 /// empty text, as `whole_text` does.
 #[inline(always)]
 pub fn unchanged_text<F: Flavor>(bytes: &[u8]) -> &str
-    ensures whole { length result.now ≡ length bytes.now
-        → (result.now ≡ bytes.now) × IsUnchangedUtf8 F.flavor bytes.now }
-    ensures none { ¬ (length result.now ≡ length bytes.now)
-        → ¬ (IsUnchangedUtf8 F.flavor bytes.now) }
+    ensures { IsTextWhere (IsUnchangedUtf8 F.flavor bytes.now) bytes.now result.now }
 {
     if !contains_changed::<F>(bytes) {
         return whole_text(bytes);

@@ -110,9 +110,8 @@ fn put_window<F: Flavor, const LEN: usize, const WRITTEN: usize>(
     put_decoded(strictness, decoded, &written, buf)
 }
 
-/// Copies the text that was decoded of all bytes, unless an ill-formed byte in them is refused. It
-/// is not inlined, since buffers of each length need it.
-#[inline(never)]
+/// Copies the text that was decoded of all bytes, unless an ill-formed byte in them is refused.
+#[inline(always)]
 fn put_decoded(
     strictness: Strictness,
     decoded: Decoded,
