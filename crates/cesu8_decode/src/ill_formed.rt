@@ -33,7 +33,8 @@ pub fn is_ill_formed<F: Flavor>(bytes: &[u8]) -> bool
     false
 }
 
-/// Returns whether a byte among the first ones is in no encoded character.
+/// Returns whether the first bytes show one that is in no encoded character. A character that begins
+/// among them and ends behind them can hide as many.
 #[inline(never)]
 pub fn is_ill_formed_in_prefix<F: Flavor>(bytes: &[u8]) -> bool
     requires { 0 < length bytes.now }

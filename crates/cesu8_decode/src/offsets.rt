@@ -115,7 +115,8 @@ pub fn starts<F: Flavor>(bytes: &[u8], at: usize) -> u8x32
 /// its bytes.
 pub type Kinds = [u8x32; 6];
 
-/// Returns these, from the kinds of the offsets of its bytes and of the 32 before.
+/// Returns the kinds around a block, from those of its bytes and of the 32 bytes before, of which
+/// the last five count. Before the first block they are zeros. `parts` reads them by their index.
 #[inline(always)]
 pub fn near(before: u8x32, here: u8x32) -> Kinds
     ensures { (f : Flavor) (window : List ℕ) (at : ℕ) → AreFiveKinds f window at before (BLOCK - BEHIND)

@@ -110,7 +110,8 @@ fn put_window<F: Flavor, const LEN: usize, const WRITTEN: usize>(
     put_decoded(strictness, decoded, &written, buf)
 }
 
-/// Copies the text that was decoded of all bytes, unless an ill-formed byte in them is refused.
+/// Copies the text that was decoded of all bytes, unless an ill-formed byte in them is refused. The
+/// bytes are no argument, so that they were read is a premise of what it ensures.
 #[inline(always)]
 fn put_decoded(
     strictness: Strictness,

@@ -118,8 +118,9 @@ fn append_chunks<F: Flavor, const LEN: usize, const WRITTEN: usize, A: Allocator
     Ok(())
 }
 
-/// Requests memory for the text of all chunks, if the caller has not done so. A length that does
-/// not fit counts as refused.
+/// Requests memory for the text of all chunks. For strict reading `decode_strict` has done so. For
+/// lossy reading this is the one request, and `decode_lossy` fails at any other capacity. A length
+/// that does not fit counts as refused.
 fn request<F: Flavor, A: Allocator>(
     strictness: Strictness,
     bytes: &[u8],

@@ -8,7 +8,7 @@
 //! | at most 96 | at most 6 | `Characters` | `Characters` |
 //! | at most 96 | more | `ShortWindow` | `ShortWindow` |
 //! | at most 256 | any | `MediumWindow` | `MediumWindow` |
-//! | more, with an ill-formed byte among the first 64 | any | `Refused` | as without |
+//! | more, and the first 64 show an ill-formed byte | any | `Refused` | as without |
 //! | at most 1,024 | any | `JoinedWindow` | `LongWindow` |
 //! | more | any | `Chunks` | `Chunks` |
 //!
@@ -55,6 +55,7 @@ pub enum Way {
 }
 
 /// The most bytes that are read one character after another, and the most in a short window.
+/// `Ways` of `specs` has this number too.
 pub const SHORT_WINDOW: usize = 96;
 
 /// The most bytes that are read in a window of medium length.
@@ -132,6 +133,7 @@ pub fn comes_before_tests(bytes: &[u8]) -> bool
 fn has_few_others(bytes: &[u8]) -> bool
     ensures { IsTrue result → length bytes.now ≤ SHORT_WINDOW }
 {
+    // Two vectors of each width have all bytes. The count decides speed alone.
     let others = match bytes.len() {
         0..=OTHERS => return true,
         13..=16 => count_in_ends::<NullOrNonAscii, 8>(bytes),

@@ -56,7 +56,7 @@ pub fn any_in_each<C: InVectors<N>, const N: usize>(chunks: &[[u8; N]]) -> bool
     false
 }
 
-/// Returns a bit for each byte of the class.
+/// Returns a bit for each byte of the class, the lowest for the first byte.
 #[inline(always)]
 pub fn bits<C: InVectors<N>, const N: usize>(bytes: Simd<u8, N>) -> u64
     requires { N ≤ LANES }

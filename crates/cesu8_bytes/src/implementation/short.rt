@@ -81,8 +81,9 @@ fn any_in_blocks<C: InVectors<LANES>>(bytes: &[u8]) -> bool
     any_in_each::<C, LANES>(blocks) || has::<C, LANES>(end)
 }
 
-/// Counts the bytes in the class, in a vector at the front and one at the end. Bytes in both count
-/// once.
+/// Counts the bytes in the class, in a vector at the front and one at the end. The bits of bytes in
+/// both are shifted out of the second mask, so they count once. No clause has the count: a decoder
+/// chooses its way by it, for speed alone.
 #[inline(always)]
 pub fn count_in_ends<C: InVectors<N>, const N: usize>(bytes: &[u8]) -> usize
     requires { (N ≤ LANES) × (N < length bytes.now) × (length bytes.now ≤ 2 * N) }
