@@ -48,3 +48,10 @@ pub record PutsText (which : Strictness) (IsReading : List ℕ → Type 0) (resu
   -- Only strict reading refuses bytes, and its text is no longer than they are.
   pub strict : LacksText result → which ≡ Strict
   pub lossy : LacksLength result → which ≡ Lossy
+
+-- The reading of the bytes is, or in lenient calls that of bytes that are UTF-8 as a whole.
+abbrev pub PutsReading : Flavor → Strictness → List ℕ → Result ℕ Unwritten → List ℕ → List ℕ → Type 0
+PutsReading f which bytes = PutsText which (IsReadingOf f which bytes)
+
+abbrev pub PutsLenientReading : Flavor → Strictness → List ℕ → Result ℕ Unwritten → List ℕ → List ℕ → Type 0
+PutsLenientReading f which bytes = PutsText which (IsLenientReadingOf f which bytes)

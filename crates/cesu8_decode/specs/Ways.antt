@@ -13,6 +13,6 @@ IsWayOf f which bytes Characters = length bytes ≤ 96
 IsWayOf f which bytes ShortWindow = length bytes ≤ 96
 IsWayOf f which bytes MediumWindow = length bytes ≤ 256
 IsWayOf f which bytes LongWindow = length bytes ≤ 1024
-IsWayOf f which bytes JoinedWindow = 0 < length bytes
+IsWayOf f which bytes JoinedWindow = 256 < length bytes
 IsWayOf f which bytes Chunks = ⊤
 IsWayOf f which bytes Refused = (which ≡ Strict) × HasNoStrictReading f bytes

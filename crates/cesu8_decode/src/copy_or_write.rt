@@ -1,6 +1,6 @@
 //! Decodes to a caller's buffer: copies the bytes if none changes, and writes otherwise.
 
-ghost use Rattle.cesu8_decode.specs.PutReadings.{PutsText, IsReadingOf, IsLenientReadingOf};
+ghost use Rattle.cesu8_decode.specs.PutReadings.{PutsReading, PutsLenientReading};
 
 use crate::refusal::Unwritten;
 use crate::slices::{put_characters, put_text};
@@ -18,9 +18,7 @@ pub fn put_encoding<F: Flavor>(
     bytes: &[u8],
     buf: &mut [u8],
 ) -> Result<usize, Unwritten>
-    ensures { PutsText strictness
-        (IsReadingOf F.flavor strictness bytes.now)
-        result buf.old buf.new }
+    ensures { PutsReading F.flavor strictness bytes.now result buf.old buf.new }
 {
     if is_short_unchanged_ascii::<F>(bytes) {
         return copy_to_slice(bytes, buf).map_err(Unwritten::NoRoom);
@@ -35,9 +33,7 @@ fn put_other_encoding<F: Flavor>(
     bytes: &[u8],
     buf: &mut [u8],
 ) -> Result<usize, Unwritten>
-    ensures { PutsText strictness
-        (IsReadingOf F.flavor strictness bytes.now)
-        result buf.old buf.new }
+    ensures { PutsReading F.flavor strictness bytes.now result buf.old buf.new }
 {
     if comes_before_tests(bytes) {
         return put_characters::<F>(strictness, bytes, buf);
@@ -62,9 +58,7 @@ pub fn put_leniently<F: Flavor>(
     bytes: &[u8],
     buf: &mut [u8],
 ) -> Result<usize, Unwritten>
-    ensures { PutsText strictness
-        (IsLenientReadingOf F.flavor strictness bytes.now)
-        result buf.old buf.new }
+    ensures { PutsLenientReading F.flavor strictness bytes.now result buf.old buf.new }
 {
     if is_short_ascii(bytes) {
         return copy_to_slice(bytes, buf).map_err(Unwritten::NoRoom);
@@ -79,9 +73,7 @@ fn put_other_leniently<F: Flavor>(
     bytes: &[u8],
     buf: &mut [u8],
 ) -> Result<usize, Unwritten>
-    ensures { PutsText strictness
-        (IsLenientReadingOf F.flavor strictness bytes.now)
-        result buf.old buf.new }
+    ensures { PutsLenientReading F.flavor strictness bytes.now result buf.old buf.new }
 {
     if whole_text(bytes).len() == bytes.len() {
         return copy_to_slice_by_call(bytes, buf).map_err(Unwritten::NoRoom);

@@ -8,7 +8,7 @@
 //!
 //! `way` decides which way bytes go, and `text` and `slices` take them there: a few bytes are read
 //! one character after another, more in one window, and still more chunk by chunk. `chunk` reads
-//! the next chunk in any of these ways.
+//! the next chunk, joined or by offsets.
 #![tactic(auto)]
 
 ghost use Rattle.std.specs.Prelude.{◌≡◌, length, IfOk};

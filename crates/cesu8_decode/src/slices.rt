@@ -11,7 +11,7 @@ ghost use Rattle.cesu8_text.specs.Slices.{StandsAtFront};
 ghost use Rattle.cesu8_text.specs.Text.{utf8};
 ghost use Rattle.cesu8_bytes.specs.Puts.{PutsAnswer};
 ghost use Rattle.cesu8_decode.specs.Decoding.{ReadsAll};
-ghost use Rattle.cesu8_decode.specs.PutReadings.{PutsText, IsReadingOf};
+ghost use Rattle.cesu8_decode.specs.PutReadings.{PutsReading};
 
 use crate::characters::write_characters;
 use crate::chunk::{Chunk, next_chunk};
@@ -27,6 +27,7 @@ use crate::windows::{
 use cesu8_bytes::flavor::Flavor;
 use cesu8_bytes::joining::BUFFER_LEN;
 use cesu8_bytes::options::Strictness;
+use cesu8_bytes::window::{TOO_FEW, read_window};
 use cesu8_bytes::writers::{NoRoom, copy_to_slice, put};
 
 // The lengths of buffers for the text of bytes that are read one character after another.
@@ -41,9 +42,7 @@ pub fn put_text<F: Flavor>(
     bytes: &[u8],
     buf: &mut [u8],
 ) -> Result<usize, Unwritten>
-    ensures { PutsText strictness
-        (IsReadingOf F.flavor strictness bytes.now)
-        result buf.old buf.new }
+    ensures { PutsReading F.flavor strictness bytes.now result buf.old buf.new }
 {
     match way_of::<F>(strictness, bytes) {
         Way::Characters => put_characters::<F>(strictness, bytes, buf),
@@ -64,9 +63,7 @@ pub fn put_characters<F: Flavor>(
     buf: &mut [u8],
 ) -> Result<usize, Unwritten>
     requires { length bytes.now ≤ SHORT_WINDOW }
-    ensures { PutsText strictness
-        (IsReadingOf F.flavor strictness bytes.now)
-        result buf.old buf.new }
+    ensures { PutsReading F.flavor strictness bytes.now result buf.old buf.new }
 {
     if are_fewest(bytes) {
         return put_characters_in::<F, FEWEST_TEXT>(strictness, bytes, buf);
@@ -81,9 +78,7 @@ fn put_characters_in<F: Flavor, const WRITTEN: usize>(
     buf: &mut [u8],
 ) -> Result<usize, Unwritten>
     requires { (WIDEST * length bytes.now ≤ WRITTEN) × (WRITTEN ≤ CHARACTERS_TEXT) }
-    ensures { PutsText strictness
-        (IsReadingOf F.flavor strictness bytes.now)
-        result buf.old buf.new }
+    ensures { PutsReading F.flavor strictness bytes.now result buf.old buf.new }
 {
     let mut written = [0; WRITTEN];
     let decoded = write_characters::<F>(strictness, bytes, &mut written);
@@ -100,9 +95,7 @@ fn put_window<F: Flavor, const LEN: usize, const WRITTEN: usize>(
 ) -> Result<usize, Unwritten>
     requires window { (length bytes.now + AROUND ≤ LEN) × (LEAST ≤ LEN) }
     requires written { (WIDEST * LEN ≤ WRITTEN + SPARED) × (WRITTEN ≤ LONG_TEXT) }
-    ensures { PutsText strictness
-        (IsReadingOf F.flavor strictness bytes.now)
-        result buf.old buf.new }
+    ensures { PutsReading F.flavor strictness bytes.now result buf.old buf.new }
 {
     let mut window = [0; LEN];
     let mut written = [0; WRITTEN];
@@ -123,8 +116,7 @@ fn put_decoded(
     ensures { (f : AnyFlavor) (bytes : List ℕ)
         → ReadsAll f strictness bytes decoded.read
         (take decoded.end written.now) decoded.is_ill_formed
-        → PutsText strictness (IsReadingOf f strictness bytes)
-        result buf.old buf.new }
+        → PutsReading f strictness bytes result buf.old buf.new }
 {
     if is_refused(strictness, decoded.is_ill_formed) {
         return Err(Unwritten::NoText);
@@ -140,15 +132,11 @@ fn put_joined<F: Flavor>(
     bytes: &[u8],
     buf: &mut [u8],
 ) -> Result<usize, Unwritten>
-    requires { 0 < length bytes.now }
-    ensures { PutsText strictness
-        (IsReadingOf F.flavor strictness bytes.now)
-        result buf.old buf.new }
+    requires { TOO_FEW < length bytes.now }
+    ensures { PutsReading F.flavor strictness bytes.now result buf.old buf.new }
 {
     let mut buffer = [0; BUFFER_LEN];
-    let mut written = [0; SHORT_TEXT];
-    let chunk = next_chunk::<F, SHORT_BUFFER>(bytes, true, &mut buffer, &mut written);
-    let Chunk::Joined(joined) = chunk else {
+    let Some(joined) = read_window::<F>(bytes, &mut buffer) else {
         return put_chunks::<F>(strictness, bytes, buf);
     };
     let rest = &bytes[joined.read..];
@@ -156,6 +144,7 @@ fn put_joined<F: Flavor>(
         return put_chunks::<F>(strictness, bytes, buf);
     }
     let mut window = [0; SHORT_BUFFER];
+    let mut written = [0; SHORT_TEXT];
     let decoded = write_window::<F>(rest, &mut window, &mut written);
     if is_refused(strictness, decoded.is_ill_formed) {
         return Err(Unwritten::NoText);
@@ -184,9 +173,7 @@ fn put_chunks<F: Flavor>(
     bytes: &[u8],
     buf: &mut [u8],
 ) -> Result<usize, Unwritten>
-    ensures { PutsText strictness
-        (IsReadingOf F.flavor strictness bytes.now)
-        result buf.old buf.new }
+    ensures { PutsReading F.flavor strictness bytes.now result buf.old buf.new }
 {
     match strictness {
         Strictness::Strict => {

@@ -23,8 +23,8 @@
 //!   reading stops at an ill-formed byte, so the buffers for windows by offsets are smaller.
 //! - `Refused`: most input that is no encoding is ill-formed early.
 //!
-//! A call on a slice takes `Characters` before it tests the bytes at all, below 64 of them, where
-//! the test for UTF-8 goes byte by byte.
+//! A call on a slice that takes no UTF-8 as such takes `Characters` before it tests the bytes at
+//! all, below 64 of them, where the test for UTF-8 goes byte by byte.
 //!
 //! A call on a slice that takes `JoinedWindow` goes on by `Chunks` if more bytes are left than a
 //! short window has.

@@ -7,8 +7,8 @@ ghost use Rattle.cesu8_bytes.specs.Joining.{null_at, HasPair};
 use cesu8_bytes::flavor::Flavor;
 use cesu8_bytes::joining::PAIR_READ;
 
-/// Returns how many bytes the character has that begins the bytes, or 0. It is no surrogate pair. The
-/// front has the first bytes, with zeros after the last, so no length is tested.
+/// Returns how many bytes the character has that begins the bytes, or 0. It is no surrogate pair.
+/// `prefix` has the first bytes, with zeros after the last, so no length is tested.
 #[inline(always)]
 pub fn width<F: Flavor>(bytes: &[u8], prefix: &[u8]) -> usize
     requires some { 0 < length bytes.now }

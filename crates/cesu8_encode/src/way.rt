@@ -1,4 +1,4 @@
-//! Which way a text is encoded. No other file of this crate chooses by a length.
+//! Which way a text is encoded. No other file of this crate chooses by the length of a text.
 //!
 //! | bytes of the text | way       | what is done                                              |
 //! |-------------------|-----------|-----------------------------------------------------------|
