@@ -4,13 +4,17 @@ ghost use Rattle.std.specs.Prelude.{◌≡◌, ℕ, ◌+◌, ◌<◌, ◌≤◌,
 ghost use Rattle.std.specs.List.{prefix_len};
 
 use crate::implementation::class::{InAllVectors, InVectors, LANES, bits};
+use crate::writers::put;
 use std::simd::prelude::*;
 
-/// Copies the first bytes, up to one of the class or to the end of a vector, and returns how many.
-/// So few bytes as no vector has are left.
+/// Copies the first byte, which is not in the class, and the next ones up to one that is, as far as a
+/// vector reaches, and returns how many. The rest of the vector is stored too.
 #[inline(always)]
 pub fn copy_run<C: InAllVectors>(bytes: &[u8], out: &mut [u8], at: usize) -> usize
-    requires { at + length bytes.now ≤ length out.old }
+    requires some { 0 < length bytes.now }
+    requires first { C.class (slice_index bytes.now 0) ≡ false }
+    requires room { at + length bytes.now ≤ length out.old }
+    ensures some { 0 < result }
     ensures within { result ≤ length bytes.now }
     ensures run { (i : ℕ) → i < result → C.class (slice_index bytes.now i) ≡ false }
     ensures bytes { take (at + result) out.new ≡ take at out.old ++ take result bytes.now }
@@ -26,14 +30,16 @@ pub fn copy_run<C: InAllVectors>(bytes: &[u8], out: &mut [u8], at: usize) -> usi
     if bytes.len() >= 4 {
         return copy_lanes::<C, 4>(bytes, out, at);
     }
-    0
+    put(&bytes[..1], out, at);
+    1
 }
 
 /// Copies a vector of bytes, and returns how many of them precede one of the class.
 #[inline(always)]
 fn copy_lanes<C: InVectors<N>, const N: usize>(bytes: &[u8], out: &mut [u8], at: usize) -> usize
-    requires lanes { (N ≤ LANES) × (N ≤ length bytes.now) }
+    requires lanes { (0 < N) × (N ≤ LANES) × (N ≤ length bytes.now) }
     requires room { at + N ≤ length out.old }
+    ensures some { C.class (slice_index bytes.now 0) ≡ false → 0 < result }
     ensures within { result ≤ N }
     ensures run { (i : ℕ) → i < result → C.class (slice_index bytes.now i) ≡ false }
     ensures bytes { take (at + result) out.new ≡ take at out.old ++ take result bytes.now }

@@ -76,7 +76,8 @@ fn write_next<F: Flavor>(bytes: &[u8], out: &mut [u8], end: usize) -> Decoded
     write_character::<F>(bytes, out, end)
 }
 
-/// Copies some characters of one byte, and returns how many. If few bytes are left, it copies one.
+/// Copies some characters of one byte, and returns how many: none only if the first is no such
+/// character.
 #[inline(always)]
 fn copy_ascii<F: Flavor>(bytes: &[u8], out: &mut [u8], at: usize) -> usize
     requires some { 0 < length bytes.now }
@@ -84,24 +85,22 @@ fn copy_ascii<F: Flavor>(bytes: &[u8], out: &mut [u8], at: usize) -> usize
     ensures within { result ≤ length bytes.now }
     ensures ascii { (i : ℕ) → i < result
         → one_at F.flavor (slice_index bytes.now i) ≡ true }
+    ensures none { result ≡ 0 → one_at F.flavor (slice_index bytes.now 0) ≡ false }
     ensures bytes { take (at + result) out.new ≡ take at out.old ++ take result bytes.now }
     ensures len { length out.new ≡ length out.old }
 {
     if !is_one::<F>(bytes[0]) {
         return 0;
     }
-    let run = copy_run::<Either<F::Null, NonAscii>>(bytes, out, at);
-    if run == 0 {
-        put(&bytes[..1], out, at);
-        return 1;
-    }
-    run
+    copy_run::<Either<F::Null, NonAscii>>(bytes, out, at)
 }
 
-/// Writes the character that begins the bytes, or U+FFFD for an ill-formed byte.
+/// Writes the character of two or more bytes that begins the bytes, or U+FFFD for an ill-formed
+/// byte.
 #[inline(always)]
 fn write_character<F: Flavor>(bytes: &[u8], out: &mut [u8], end: usize) -> Decoded
     requires some { 0 < length bytes.now }
+    requires longer { one_at F.flavor (slice_index bytes.now 0) ≡ false }
     requires room { end + WIDEST * length bytes.now ≤ length out.old }
     ensures within { (0 < result.read) × (result.read ≤ length bytes.now)
         × (result.end ≤ end + WIDEST * result.read) }
@@ -131,7 +130,6 @@ fn write_character<F: Flavor>(bytes: &[u8], out: &mut [u8], end: usize) -> Decod
         };
     }
     let end = match read {
-        1 => put(&bytes[..1], out, end),
         2 if bytes[0] == 0xC0 => put(&[0], out, end),
         2 => put(&bytes[..2], out, end),
         _ => put(&bytes[..3], out, end),

@@ -1,30 +1,28 @@
 //! How many bytes the character has that begins some bytes, by tests of the first three.
 
-ghost use Rattle.std.specs.Prelude.{◌≡◌, ◌<◌, ◌≤◌, length};
+ghost use Rattle.std.specs.Prelude.{◌≡◌, ◌≢◌, ◌<◌, ◌≤◌, length, slice_index, false};
 ghost use Rattle.cesu8_decode.specs.DecodedOffsets.{first_width, IsPrefixOf, continues, one_at, two_at, fits_three, three_at};
 ghost use Rattle.cesu8_bytes.specs.Joining.{null_at, HasPair};
 
 use cesu8_bytes::flavor::Flavor;
 use cesu8_bytes::joining::PAIR_READ;
 
-/// Returns how many bytes the character has that begins the bytes, or 0. It is no surrogate pair.
-/// `prefix` has the first bytes, with zeros after the last, so no length is tested.
+/// Returns how many bytes the character has that begins the bytes, or 0. It is no surrogate pair and
+/// has not one byte. `prefix` has the first bytes, with zeros after the last, so no length is tested.
 #[inline(always)]
 pub fn width<F: Flavor>(bytes: &[u8], prefix: &[u8]) -> usize
     requires some { 0 < length bytes.now }
     requires prefix { IsPrefixOf bytes.now prefix.now }
     requires long { PAIR_READ ≤ length prefix.now }
+    requires longer { one_at F.flavor (slice_index bytes.now 0) ≡ false }
     requires no_pair { ¬ (HasPair prefix.now) }
     ensures width { result ≡ first_width F.flavor bytes.now }
     ensures within { result ≤ length bytes.now }
-    ensures small { result ≤ 3 }
+    ensures small { (result ≢ 1) × (result ≤ 3) }
 {
     let first = bytes[0];
     let second = prefix[1];
     let third = prefix[2];
-    if is_one::<F>(first) {
-        return 1;
-    }
     if is_null::<F>(first, second) || is_two(first, second) {
         return 2;
     }

@@ -58,8 +58,8 @@ pub fn write_few<F: Flavor>(text: &str, out: &mut [u8]) -> usize
 }
 
 /// Copies the first byte, which stays, to an offset, and the next ones up to one that changes, as
-/// far as a vector reaches, and returns how many. The rest of the vector is stored too, but ends
-/// within the encoding, which is at least as long as the bytes.
+/// far as a vector reaches, and returns how many. The rest of the vector ends within the encoding,
+/// which is at least as long as the bytes.
 #[inline(always)]
 fn copy_some(bytes: &[u8], out: &mut [u8], at: usize) -> usize
     requires some { 0 < length bytes.now }
@@ -70,12 +70,7 @@ fn copy_some(bytes: &[u8], out: &mut [u8], at: usize) -> usize
     ensures behind { drop (at + length bytes.now) out.new ≡ drop (at + length bytes.now) out.old }
     ensures len { length out.new ≡ length out.old }
 {
-    let run = copy_run::<Either<Null, AtLeastF0>>(bytes, out, at);
-    if run > 0 {
-        return run;
-    }
-    put(&bytes[..1], out, at);
-    1
+    copy_run::<Either<Null, AtLeastF0>>(bytes, out, at)
 }
 
 /// Writes the encoding of U+0000 to an offset, and returns its end.

@@ -13,15 +13,10 @@ returns-then-read-eq0-clause-replaced g c ill_formed =
     (none_of_width g.F.Flavor.flavor c.args.bytes.now (omega (arith, c.width-read.ensures.width)))
     c.put-then-read-eq0.ensures.bytes
 
-pub returns-in-1-clause-character : goal.returns-in-1-clause-character
-returns-in-1-clause-character g c whole which =
-    rw c.in-1.is (kept_read g.F.Flavor.flavor which c.args.bytes.now _ _ 1 (sym c.width-read.ensures.width ∙ c.in-1.is) (omega arith) (omega arith)
-    (λ two lead. omega arith) c.put-end.ensures.bytes)
-
 pub returns-in-2-clause-character : goal.returns-in-2-clause-character
 returns-in-2-clause-character g c whole which =
     rw c.in-2.is (null_read g.F.Flavor.flavor which c.args.bytes.now _ _ (sym c.width-read.ensures.width ∙ c.in-2.is)
-    c.if-bytes.true c.put-end-in-2.ensures.bytes)
+    c.if-bytes.true c.put-end.ensures.bytes)
 
 pub returns-in-2-2-clause-character : goal.returns-in-2-2-clause-character
 returns-in-2-2-clause-character g c whole which =
@@ -30,7 +25,7 @@ returns-in-2-2-clause-character g c whole which =
 
 pub returns-in_default-clause-character : goal.returns-in_default-clause-character
 returns-in_default-clause-character g c whole which =
-    let three : c.width-read.result ≡ 3 = omega (arith, c.width-read.ensures.small) in
+    let three : c.width-read.result ≡ 3 = omega (arith, c.width-read.ensures.small.0, c.width-read.ensures.small.1) in
     rw three (kept_read g.F.Flavor.flavor which c.args.bytes.now _ _ 3 (sym c.width-read.ensures.width ∙ three) (omega arith) (omega arith)
     (λ two lead. omega arith) c.put-end-in_default.ensures.bytes)
 

@@ -2,13 +2,9 @@ use Rattle.std.proofs.Common.{ap, get_or, sym, ◌∙◌, arith}
 use Rattle.cesu8_bytes.specs.Joining.{null_at}
 use Rattle.cesu8_decode.specs.DecodedOffsets.{two_at}
 use Rattle.cesu8_decode.proofs.by_offset.FirstWidths.{width_fits}
-use Rattle.cesu8_decode.proofs.by_offset.WidthTests.{one_found, null_found, two_found, three_found, none_found, no_pair}
+use Rattle.cesu8_decode.proofs.by_offset.WidthTests.{null_found, two_found, three_found, none_found, no_pair}
 use Rattle.cesu8_decode.proofs.widths.width.Goals as goal
 use Rattle.cesu8_decode.proofs.widths.width.Goals.{then-is_null-via-then-is_null, then-is_null-via-else-is_null+then-is_two}
-
-pub returns-then-is_one-clause-width : goal.returns-then-is_one-clause-width
-returns-then-is_one-clause-width g c =
-    sym (one_found g.F.Flavor.flavor c.args.bytes.now c.requires.some (sym c.is_one.ensures ∙ c.if-is_one.true))
 
 pub returns-then-is_null-clause-width : goal.returns-then-is_null-clause-width
 returns-then-is_null-clause-width g c =
@@ -58,7 +54,7 @@ returns-clause-width g c =
     sym (none_found g.F.Flavor.flavor bytes
     (rw (sym (same 1 (omega arith)), sym (same 2 (omega arith)), sym (same 3 (omega arith)), sym (same 4 (omega arith)), sym (same 5 (omega arith)))
     (record {
-      one = sym c.is_one.ensures ∙ c.if-is_one.false;
+      one = c.requires.longer;
       null = sym c.is_null.ensures ∙ c.if-is_null.false;
       two = sym c.is_two.ensures ∙ c.if-is_two.false;
       three = sym c.is_three.ensures ∙ c.if-is_three.false;
