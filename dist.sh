@@ -123,7 +123,7 @@ mkdir -p "$release/bin" "$release/include" "$release/lib" "$release/examples"
 build
 cp "$program" "$release/bin/cesu8_cli"
 sh "$crate/archive.sh" "$release/lib/libcesu8.a"
-strip -D --strip-debug "$release/lib/libcesu8.a"
+strip -D --strip-unneeded "$release/lib/libcesu8.a"
 link_shared
 strip -D --strip-unneeded "$release/bin/cesu8_cli" "$release/lib/libcesu8.so.$major"
 cp "$crate/include/cesu8.h" "$release/include"

@@ -15,7 +15,7 @@ use crate::flavor::Flavor;
 use crate::implementation::active;
 use crate::implementation::class::{Either, FourByteLead};
 use crate::implementation::short::{SHORT_VALUE, any_in_short};
-use simdutf8::compat;
+use simdutf8::{compat, is_utf8};
 
 /// Returns whether some byte of the UTF-8 changes in the flavor.
 #[inline(always)]
@@ -57,8 +57,8 @@ pub fn whole_text(bytes: &[u8]) -> &str
     tested_text(bytes)
 }
 
-/// Does so for long input. ASCII needs no test for UTF-8. If other input is not UTF-8, its prefix
-/// mostly shows it, and the rest is not tested. It is not inlined, so that the calls stay small.
+/// Does so for long input. ASCII needs no test for UTF-8. It is not inlined, so that the calls stay
+/// small.
 #[inline(never)]
 fn long_text(bytes: &[u8]) -> &str
     ensures { IsTextWhere (IsUtf8 bytes.now) bytes.now result.now }
@@ -66,7 +66,7 @@ fn long_text(bytes: &[u8]) -> &str
     if is_ascii(bytes) {
         return ascii_text(bytes);
     }
-    if bytes.len() >= LONG && !has_utf8_prefix(bytes) {
+    if !may_be_utf8(bytes) {
         return "";
     }
     tested_text(bytes)
@@ -83,13 +83,28 @@ fn tested_text(bytes: &[u8]) -> &str
     }
 }
 
-/// Returns whether a prefix of the bytes is UTF-8, up to the start of a character.
-fn has_utf8_prefix(bytes: &[u8]) -> bool
-    requires { TESTED_FIRST < length bytes.now }
+/// Returns whether the bytes are UTF-8. No text is made, so the test need not say where it failed,
+/// and it reads no byte twice.
+#[inline(never)]
+pub fn is_text(bytes: &[u8]) -> bool
+    ensures { IsTrue result ↔ IsUtf8 bytes.now }
+{
+    if bytes.len() > SHORT_VALUE && is_ascii(bytes) {
+        return true;
+    }
+    may_be_utf8(bytes) && is_utf8(bytes)
+}
+
+/// Returns whether a prefix of long input is UTF-8, up to the start of a character. If input is not
+/// UTF-8, its prefix mostly shows it, and the rest is not tested.
+fn may_be_utf8(bytes: &[u8]) -> bool
     ensures { IsUtf8 bytes.now → IsTrue result }
 {
+    if bytes.len() < LONG {
+        return true;
+    }
     match character_start(bytes, TESTED_FIRST) {
-        Some(start) => simdutf8::is_utf8(&bytes[..start]),
+        Some(start) => is_utf8(&bytes[..start]),
         // UTF-8 has no four continuation bytes in a row.
         None => false,
     }

@@ -6,7 +6,7 @@ use crate::refusal::Unwritten;
 use crate::slices::{put_characters, put_text};
 use crate::way::comes_before_tests;
 use cesu8_bytes::ascii::{is_short_ascii, is_short_unchanged_ascii};
-use cesu8_bytes::first_looks::{contains_changed, whole_text};
+use cesu8_bytes::first_looks::{contains_changed, is_text};
 use cesu8_bytes::flavor::Flavor;
 use cesu8_bytes::options::Strictness;
 use cesu8_bytes::writers::{copy_to_slice, copy_to_slice_by_call};
@@ -45,7 +45,7 @@ fn put_other_encoding<F: Flavor>(
             Strictness::Lossy => put_text::<F>(strictness, bytes, buf),
         };
     }
-    if whole_text(bytes).len() == bytes.len() {
+    if is_text(bytes) {
         return copy_to_slice_by_call(bytes, buf).map_err(Unwritten::NoRoom);
     }
     put_text::<F>(strictness, bytes, buf)
@@ -75,7 +75,7 @@ fn put_other_leniently<F: Flavor>(
 ) -> Result<usize, Unwritten>
     ensures { PutsLenientReading F.flavor strictness bytes.now result buf.old buf.new }
 {
-    if whole_text(bytes).len() == bytes.len() {
+    if is_text(bytes) {
         return copy_to_slice_by_call(bytes, buf).map_err(Unwritten::NoRoom);
     }
     put_text::<F>(strictness, bytes, buf)

@@ -10,7 +10,7 @@ ghost use Rattle.cesu8_decode.specs.DecodedOffsets.{saved, total_weight};
 
 use super::ill_formed::is_ill_formed;
 use super::sums::{BLOCKS, Weight, Weights, sum_first};
-use cesu8_bytes::first_looks::unchanged_text;
+use cesu8_bytes::first_looks::{contains_changed, is_text};
 use cesu8_bytes::flavor::Flavor;
 
 /// Returns the length of the strict reading, in bytes of UTF-8, if there is one.
@@ -19,9 +19,8 @@ pub fn decoded_len<F: Flavor>(bytes: &[u8]) -> Option<usize>
         ReadsAtLength (IsStrictReading F.flavor bytes.now) (λ text_len. len ≡ text_len)) }
     ensures none { IfNone result (HasNoStrictReading F.flavor bytes.now) }
 {
-    let text = unchanged_text::<F>(bytes);
-    if text.len() == bytes.len() {
-        return Some(text.len());
+    if !contains_changed::<F>(bytes) && is_text(bytes) {
+        return Some(bytes.len());
     }
     if is_ill_formed::<F>(bytes) {
         return None;

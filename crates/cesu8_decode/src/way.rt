@@ -2,12 +2,10 @@
 //!
 //! | bytes | of them other than 01 to 7F | in strict reading | in lossy reading |
 //! |---|---|---|---|
-//! | at most 12 | any | `Characters` | `Characters` |
 //! | at most 24 | at most 12 | `Characters` | `Characters` |
 //! | at most 24 | more | `Characters` | `ShortWindow` |
 //! | at most 96 | at most 6 | `Characters` | `Characters` |
-//! | at most 96 | more | `ShortWindow` | `ShortWindow` |
-//! | at most 256 | any | `MediumWindow` | `MediumWindow` |
+//! | at most 256 | any | `ShortWindow` | `ShortWindow` |
 //! | more, and the first 64 show an ill-formed byte | any | `Refused` | as without |
 //! | at most 1,024 | any | `JoinedWindow` | `LongWindow` |
 //! | more | any | `Chunks` | `Chunks` |
@@ -47,31 +45,26 @@ use cesu8_bytes::options::Strictness;
 pub enum Way {
     Characters,
     ShortWindow,
-    MediumWindow,
     LongWindow,
     JoinedWindow,
     Chunks,
     Refused,
 }
 
-/// The most bytes that are read one character after another, and the most in a short window.
-/// `Ways` of `specs` has this number too.
-pub const SHORT_WINDOW: usize = 96;
+/// The most bytes that are read one character after another. `Ways` of `specs` has this number too.
+pub const FEW: usize = 96;
 
-/// The most bytes that are read in a window of medium length.
-pub const MEDIUM_WINDOW: usize = 256;
+/// So few bytes are read one character after another in strict reading, whatever they are.
+const FEWEST: usize = 24;
+
+/// The most bytes that are read in a short window.
+pub const SHORT_WINDOW: usize = 256;
 
 /// The most bytes that are read in any window.
 pub const LONG_WINDOW: usize = 1024;
 
-/// So few bytes, read one character after another, have a smaller buffer.
-pub const FEWEST: usize = 32;
-
-/// So few bytes are read one character after another in strict reading, whatever they are.
-const FEW_STRICT: usize = 24;
-
-/// So many of 24 bytes may be other than 01 to 7F. In lossy reading each may be ill-formed, and
-/// then it is a step.
+/// So many of the fewest bytes may be other than 01 to 7F. In lossy reading each may be ill-formed,
+/// and then it is a step.
 const OTHERS: usize = 12;
 
 /// Of more bytes so many may be, as many as a surrogate pair has.
@@ -89,14 +82,11 @@ pub fn way_of<F: Flavor>(strictness: Strictness, bytes: &[u8]) -> Way
     ensures { IsWayOf F.flavor strictness bytes.now result }
 {
     let is_strict = matches!(strictness, Strictness::Strict);
-    if is_strict && bytes.len() <= FEW_STRICT || has_few_others(bytes) {
+    if is_strict && bytes.len() <= FEWEST || has_few_others(bytes) {
         return Way::Characters;
     }
     if bytes.len() <= SHORT_WINDOW {
         return Way::ShortWindow;
-    }
-    if bytes.len() <= MEDIUM_WINDOW {
-        return Way::MediumWindow;
     }
     if is_strict && is_ill_formed_in_prefix::<F>(bytes) {
         return Way::Refused;
@@ -111,14 +101,6 @@ pub fn way_of<F: Flavor>(strictness: Strictness, bytes: &[u8]) -> Way
     }
 }
 
-/// Returns whether the smaller buffer is enough for the bytes.
-#[inline(always)]
-pub fn are_fewest(bytes: &[u8]) -> bool
-    ensures { IsTrue result → length bytes.now ≤ FEWEST }
-{
-    bytes.len() <= FEWEST
-}
-
 /// Returns whether so few bytes, of which hardly any are not ASCII, are decoded before they are
 /// tested for UTF-8.
 #[inline(always)]
@@ -131,7 +113,7 @@ pub fn comes_before_tests(bytes: &[u8]) -> bool
 /// Returns whether few enough of few bytes are other than 01 to 7F.
 #[inline(always)]
 fn has_few_others(bytes: &[u8]) -> bool
-    ensures { IsTrue result → length bytes.now ≤ SHORT_WINDOW }
+    ensures { IsTrue result → length bytes.now ≤ FEW }
 {
     // Two vectors of each width have all bytes. The count decides speed alone.
     let others = match bytes.len() {
@@ -139,10 +121,10 @@ fn has_few_others(bytes: &[u8]) -> bool
         13..=16 => count_in_ends::<NullOrNonAscii, 8>(bytes),
         17..=32 => count_in_ends::<NullOrNonAscii, 16>(bytes),
         33..=64 => count_in_ends::<NullOrNonAscii, 32>(bytes),
-        65..=SHORT_WINDOW => count_in_ends::<NullOrNonAscii, 64>(bytes),
+        65..=FEW => count_in_ends::<NullOrNonAscii, 64>(bytes),
         _ => return false,
     };
-    let most = if bytes.len() <= FEW_STRICT {
+    let most = if bytes.len() <= FEWEST {
         OTHERS
     } else {
         FEWER_OTHERS

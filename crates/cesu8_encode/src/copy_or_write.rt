@@ -7,7 +7,7 @@ ghost use Rattle.cesu8_bytes.specs.Puts.{PutsAnswer};
 
 use crate::few::{is_unchanged, write_few};
 use crate::way::{FEW, Way, way_of, write};
-use crate::{BLOCK_ENCODED, FEW_ENCODED, ON_STACK_ENCODED};
+use crate::{FEW_ENCODED, ON_STACK_ENCODED};
 use cesu8_bytes::first_looks::needs_encoded;
 use cesu8_bytes::flavor::Flavor;
 use cesu8_bytes::lengths::encoded_len;
@@ -22,7 +22,6 @@ pub fn encode_to_slice<F: Flavor>(text: &str, buf: &mut [u8]) -> Result<usize, N
     match way_of(text) {
         Way::Few => put_few::<F>(text, buf),
         _ if !needs_encoded::<F>(text) => copy_to_slice(text.as_bytes(), buf),
-        Way::Block => put_on_stack::<F, BLOCK_ENCODED>(text, buf),
         Way::OnStack => put_on_stack::<F, ON_STACK_ENCODED>(text, buf),
         Way::InPlace => put_in_place::<F>(text, buf),
     }

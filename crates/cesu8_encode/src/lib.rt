@@ -32,7 +32,6 @@ mod way;
 mod windows;
 
 use self::way::{FEW, ON_STACK, Way, way_of, write};
-use cesu8_bytes::BLOCK;
 use cesu8_bytes::flavor::Flavor;
 use cesu8_bytes::lengths::encoded_len;
 use cesu8_bytes::writers::{append, append_zeros, copy, make_room};
@@ -40,9 +39,6 @@ use std::alloc::{AllocError, Allocator};
 
 /// The most bytes that the encoding of a few bytes has.
 const FEW_ENCODED: usize = 2 * FEW;
-
-/// The most bytes that the encoding of a block has.
-const BLOCK_ENCODED: usize = 2 * BLOCK;
 
 /// The most bytes that an encoding on the stack has.
 const ON_STACK_ENCODED: usize = 2 * ON_STACK;
@@ -59,7 +55,6 @@ pub fn encode<F: Flavor, A: Allocator + Copy>(
 {
     match way_of(text) {
         Way::Few => encode_on_stack::<F, A, FEW_ENCODED>(alloc, text),
-        Way::Block => encode_on_stack::<F, A, BLOCK_ENCODED>(alloc, text),
         Way::OnStack => encode_on_stack::<F, A, ON_STACK_ENCODED>(alloc, text),
         Way::InPlace => encode_in_place::<F, A>(alloc, text),
     }

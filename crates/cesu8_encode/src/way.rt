@@ -2,12 +2,11 @@
 //!
 //! | bytes of the text | way       | what is done                                              |
 //! |-------------------|-----------|-----------------------------------------------------------|
-//! | at most 24        | `Few`     | a run or a change at a time, by `few`                     |
-//! | at most 32        | `Block`   | one block of vectors, by `blocks`                         |
+//! | at most 32        | `Few`     | a run or a change at a time, by `few`                     |
 //! | at most 128       | `OnStack` | blocks in turn, by `windows`, to the stack and then copied |
 //! | more              | `InPlace` | a count first, then the same blocks where they stay       |
 //!
-//! An encoding has at most twice the bytes of its text, so the first three ways write to an array
+//! An encoding has at most twice the bytes of its text, so the first two ways write to an array
 //! on the stack before the length is known. Where it is known, as in `encode_into`, each way writes
 //! where the encoding stays.
 //!
@@ -21,12 +20,12 @@ ghost use Rattle.cesu8_encode.specs.Encoded.{WritesEncoding};
 ghost use Rattle.cesu8_encode.specs.Ways.{Fits};
 
 use crate::few::write_few;
-use crate::windows::{write_long, write_short};
+use crate::windows::write_blocks;
 use cesu8_bytes::BLOCK;
 use cesu8_bytes::flavor::Flavor;
 
-/// The most bytes of a text that is encoded one change after another.
-pub const FEW: usize = 24;
+/// The most bytes of a text that is encoded one change after another: no more than a block has.
+pub const FEW: usize = BLOCK;
 
 /// The most bytes of a text that is encoded on the stack, before its length is known.
 pub const ON_STACK: usize = 128;
@@ -35,7 +34,6 @@ pub const ON_STACK: usize = 128;
 #[derive(Clone, Copy)]
 pub enum Way {
     Few,
-    Block,
     OnStack,
     InPlace,
 }
@@ -48,8 +46,6 @@ pub fn way_of(text: &str) -> Way
     let len = text.len();
     if len <= FEW {
         Way::Few
-    } else if len <= BLOCK {
-        Way::Block
     } else if len <= ON_STACK {
         Way::OnStack
     } else {
@@ -66,7 +62,6 @@ pub fn write<F: Flavor>(text: &str, out: &mut [u8]) -> usize
 {
     match way_of(text) {
         Way::Few => write_few::<F>(text, out),
-        Way::Block => write_short::<F>(text, out),
-        Way::OnStack | Way::InPlace => write_long::<F>(text, out),
+        Way::OnStack | Way::InPlace => write_blocks::<F>(text, out),
     }
 }

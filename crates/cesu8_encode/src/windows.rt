@@ -13,22 +13,10 @@ use super::blocks::{BLOCK_READ, READ_AFTER, READ_BEFORE, write_block};
 use cesu8_bytes::BLOCK;
 use cesu8_bytes::flavor::Flavor;
 
-/// Writes the encoding of a text of at most a block, and returns its end. It is not inlined, so that
-/// a text that stays as it is uses none of its stack.
+/// Writes the encoding of a text of more than a block, and returns its end. It is not inlined, so
+/// that a text that stays as it is uses none of its stack.
 #[inline(never)]
-pub fn write_short<F: Flavor>(text: &str, out: &mut [u8]) -> usize
-    requires short { length text.now ≤ BLOCK }
-    requires room { length (encoding F.flavor (chars text.now)) ≤ length out.old }
-    ensures { WritesEncoding F.flavor text.now out.old out.new result }
-{
-    let mut window = [0; BLOCK_READ];
-    put_behind_zeros(text.as_bytes(), &mut window);
-    write_block::<F>(&window, 0, text.len(), out, 0)
-}
-
-/// Writes the encoding of a longer text, and returns its end.
-#[inline(never)]
-pub fn write_long<F: Flavor>(text: &str, out: &mut [u8]) -> usize
+pub fn write_blocks<F: Flavor>(text: &str, out: &mut [u8]) -> usize
     requires long { BLOCK < length text.now }
     requires room { length (encoding F.flavor (chars text.now)) ≤ length out.old }
     ensures { WritesEncoding F.flavor text.now out.old out.new result }
@@ -40,7 +28,7 @@ pub fn write_long<F: Flavor>(text: &str, out: &mut [u8]) -> usize
     write_last::<F>(bytes, BLOCK * blocks, out, end)
 }
 
-/// Writes what the first block of a longer text becomes, and returns its end.
+/// Writes what the first block becomes, and returns its end.
 #[inline(always)]
 fn write_first<F: Flavor>(text: &[u8], out: &mut [u8]) -> usize
     requires long { BLOCK < length text.now }
@@ -67,7 +55,7 @@ fn write_middle<F: Flavor>(text: &[u8], blocks: usize, out: &mut [u8], start: us
     end
 }
 
-/// Writes what the last block of a longer text becomes, and returns its end.
+/// Writes what the last block becomes, and returns its end.
 #[inline(always)]
 fn write_last<F: Flavor>(text: &[u8], at: usize, out: &mut [u8], end: usize) -> usize
     requires offset { (BLOCK ≤ at) × (at < length text.now) × (length text.now ≤ at + BLOCK) }

@@ -17,13 +17,13 @@ returns-clause-some g c first =
     let bytes = c.args.bytes.now in
     let n = g.row.N in
     let passes : not (class (get_or (take n bytes) 0 0)) ≡ true =
-        ap (λ b. not (class b)) (get_or-take n bytes 0 0 (omega (arith, c.requires.lanes.0))) ∙ ap not first in
+    ap (λ b. not (class b)) (get_or-take n bytes 0 0 (omega (arith, c.requires.lanes.0))) ∙ ap not first in
     ⊎_elim (λ (some : 0 < c.lanes_before.result). some)
     (λ (none : c.lanes_before.result ≤ 0).
-        let stops : prefix_len (λ b. not (class b)) (take n bytes) ≡ 0 = omega (arith, none, c.lanes_before.ensures) in
-        let is_out = prefix_len_stops (λ b. not (class b)) (take n bytes) 0
-        (omega (arith, stops, length-take-le n bytes c.requires.lanes.2, c.requires.lanes.0)) in
-        absurd (both_ways (not (class (get_or (take n bytes) 0 0))) (rw stops at is_out) passes)) (cases_lt 0 c.lanes_before.result)
+    let stops : prefix_len (λ b. not (class b)) (take n bytes) ≡ 0 = omega (arith, none, c.lanes_before.ensures) in
+    let is_out = prefix_len_stops (λ b. not (class b)) (take n bytes) 0
+    (omega (arith, stops, length-take-le n bytes c.requires.lanes.2, c.requires.lanes.0)) in
+    absurd (both_ways (not (class (get_or (take n bytes) 0 0))) (rw stops at is_out) passes)) (cases_lt 0 c.lanes_before.result)
 
 pub returns-clause-within : goal.returns-clause-within
 returns-clause-within g c =

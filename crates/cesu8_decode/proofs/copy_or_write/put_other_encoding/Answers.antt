@@ -7,13 +7,13 @@ use Rattle.cesu8_decode.specs.PutReadings.{IsReadingOf}
 use Rattle.cesu8_decode.proofs.chunks.SliceReadings.{no_strict_text, only_unchanged, text_put}
 use Rattle.cesu8_decode.proofs.copy_or_write.put_other_encoding.Goals as goal
 
-pub returns-then-whole_text-bytes : goal.returns-then-whole_text-bytes
-returns-then-whole_text-bytes g c =
+pub returns-then-is_text : goal.returns-then-is_text
+returns-then-is_text g c =
     let f = g.F.Flavor.flavor in
     let which = c.args.strictness in
     let bytes = c.args.bytes.now in
     text_put which (IsReadingOf f which bytes) _ _ c.copy_to_slice_by_call.result c.map_err.result c.args.buf.now c.copy_to_slice_by_call.new.buf
-    (only_unchanged f which bytes ((c.whole_text.ensures.whole c.if-whole_text-bytes.true).1, iff_false c.contains_changed.ensures c.if-contains_changed.false))
+    (only_unchanged f which bytes (c.is_text.ensures.0 c.if-is_text.true, iff_false c.contains_changed.ensures c.if-contains_changed.false))
     (omega arith) c.map_err.ensures.cases c.copy_to_slice_by_call.ensures
 
 -- No encoding has a byte that changes.

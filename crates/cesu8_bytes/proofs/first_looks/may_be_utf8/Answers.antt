@@ -2,7 +2,7 @@ use Rattle.std.proofs.Common.{◌<◌, ◌≤◌, get_or, ⊎_elim, arith}
 use Rattle.std.proofs.lemmas.Bool.{cases_lt}
 use Rattle.std.proofs.lemmas.Str.{IsUtf8-take}
 use Rattle.cesu8_text.proofs.text.Continuations.{no_four_continue}
-use Rattle.cesu8_bytes.proofs.first_looks.has_utf8_prefix.Goals as goal
+use Rattle.cesu8_bytes.proofs.first_looks.may_be_utf8.Goals as goal
 
 pub returns-in-Some : goal.returns-in-Some
 returns-in-Some c is_utf8 =

@@ -1,6 +1,6 @@
 use Rattle.std.proofs.Common.{◌∙◌, ap, arith, length}
 use Rattle.cesu8_encode.proofs.encoder.RecodedText.{recoded_chars}
-use Rattle.cesu8_encode.proofs.windows.write_long.Goals as goal
+use Rattle.cesu8_encode.proofs.windows.write_blocks.Goals as goal
 
 pub write_first-end-requires-clause-room : goal.write_first-end-requires-clause-room
 write_first-end-requires-clause-room g c =
