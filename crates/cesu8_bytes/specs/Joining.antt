@@ -1,6 +1,6 @@
 -- Bytes that are joined: their surrogate pairs, and C0 80 in MUTF-8, become UTF-8, and the others
 -- stay.
-use Rattle.std.specs.Prelude.{◌≡◌, ℕ, ◌+◌, ◌*◌, ◌<◌, ◌&&◌, ◌==◌, Bool, false, List, [], ◌∷◌, slice_index, ◌≤◌, ◌++◌, length, replicate}
+use Rattle.std.specs.Prelude.{IsTrue, ◌≡◌, ℕ, ◌+◌, ◌*◌, ◌<◌, ◌&&◌, ◌==◌, Bool, false, List, [], ◌∷◌, slice_index, ◌≤◌, ◌++◌, length, replicate}
 use Rattle.std.specs.List.{flat_map}
 use Rattle.cesu8_text.specs.Encoding.{Flavor, Cesu8, Mutf8, encoding, IsEncodedOtherwise}
 use Rattle.cesu8_text.specs.Text.{IsScalarValue, utf8_of}
@@ -67,12 +67,6 @@ pub record HasPair (bytes : List ℕ) : Type 0 where
   pub high : (0xA0 ≤ slice_index bytes 1) × (slice_index bytes 1 < 0xB0)
   pub ends : EndsPair (slice_index bytes 2) (slice_index bytes 3) (slice_index bytes 4) (slice_index bytes 5)
 
--- They begin with the null character of MUTF-8.
-pub record HasNull (f : Flavor) (bytes : List ℕ) : Type 0 where
-  pub flavor : f ≡ Mutf8
-  pub lead : slice_index bytes 0 ≡ 0xC0
-  pub continuation : slice_index bytes 1 ≡ 0x80
-
 -- The digits of a surrogate pair, wherever they are, are joined to the UTF-8 of the character.
 abbrev pub AreJoinedDigits : List ℕ → List ℕ → Type 0
 AreJoinedDigits four written = (c w x y z : ℕ) → IsPair c w x y z → four ≡ (0xA0 + w) ∷ (0x80 + x) ∷ (0xB0 + y) ∷ (0x80 + z) ∷ [] →
@@ -91,3 +85,7 @@ word_of a b d e g h more =
 abbrev pub null_at : Flavor → ℕ → ℕ → Bool
 null_at Cesu8 a b = false
 null_at Mutf8 a b = a == 0xC0 && b == 0x80
+
+-- The bytes begin with it.
+abbrev pub HasNull : Flavor → List ℕ → Type 0
+HasNull f bytes = IsTrue (null_at f (slice_index bytes 0) (slice_index bytes 1))

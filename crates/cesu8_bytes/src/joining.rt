@@ -63,7 +63,7 @@ fn join_block<'a, F: Flavor>(at: Progress<'a>, stop: usize, buffer: &mut Buffer)
     let left = at.rest.len() - stop;
     let run = left.min(BLOCK);
     if marks.trailing_zeros() as usize >= run {
-        copy_run(at.rest, run, at.written, buffer);
+        copy_block(at.rest, run, at.written, buffer);
         return Progress {
             rest: &at.rest[run..],
             written: at.written + run,
@@ -120,7 +120,7 @@ fn join_marked<'a, F: Flavor>(
             break;
         }
         marks &= marks - 1;
-        copy_run(&bytes[read..], offset - read, written, buffer);
+        copy_block(&bytes[read..], offset - read, written, buffer);
         written += offset - read;
         read = offset;
         match join_changed::<F>(&bytes[offset..], written, buffer) {
@@ -137,9 +137,9 @@ fn join_marked<'a, F: Flavor>(
     }
 }
 
-/// Copies a run of bytes, with the others of their block after them.
+/// Copies a block, whose first bytes are a run that stays.
 #[inline(always)]
-fn copy_run(bytes: &[u8], run: usize, written: usize, buffer: &mut Buffer)
+fn copy_block(bytes: &[u8], run: usize, written: usize, buffer: &mut Buffer)
     requires run { run ≤ BLOCK }
     requires long { BLOCK ≤ length bytes.now }
     requires room { written + BLOCK ≤ BUFFER_LEN }

@@ -5,9 +5,9 @@ ghost use Rattle.std.specs.Str.{chars};
 ghost use Rattle.cesu8_text.specs.Encoding.{encoding};
 ghost use Rattle.cesu8_bytes.specs.Puts.{PutsAnswer};
 
+use crate::FEW_ENCODED;
 use crate::few::{is_unchanged, write_few};
 use crate::way::{FEW, Way, way_of, write};
-use crate::{FEW_ENCODED, ON_STACK_ENCODED};
 use cesu8_bytes::first_looks::needs_encoded;
 use cesu8_bytes::flavor::Flavor;
 use cesu8_bytes::lengths::encoded_len;
@@ -22,8 +22,7 @@ pub fn encode_to_slice<F: Flavor>(text: &str, buf: &mut [u8]) -> Result<usize, N
     match way_of(text) {
         Way::Few => put_few::<F>(text, buf),
         _ if !needs_encoded::<F>(text) => copy_to_slice(text.as_bytes(), buf),
-        Way::OnStack => put_on_stack::<F, ON_STACK_ENCODED>(text, buf),
-        Way::InPlace => put_in_place::<F>(text, buf),
+        Way::Blocks => put_in_place::<F>(text, buf),
     }
 }
 
@@ -40,17 +39,17 @@ fn put_few<F: Flavor>(text: &str, buf: &mut [u8]) -> Result<usize, NoRoom>
         // It fits in any case, and what is behind it stays.
         return Ok(write_few::<F>(text, buf));
     }
-    put_on_stack::<F, FEW_ENCODED>(text, buf)
+    put_on_stack::<F>(text, buf)
 }
 
-/// Encodes to the stack, where twice the bytes of the text fit, and copies that.
+/// Encodes a few bytes to the stack, and copies that.
 #[inline(never)]
 #[tactic(auto, using(cesu8_text::proofs::encoding::Lengths::length_encoding_chars))]
-fn put_on_stack<F: Flavor, const N: usize>(text: &str, buf: &mut [u8]) -> Result<usize, NoRoom>
-    requires { (2 * length text.now ≤ N) × (N ≤ ON_STACK_ENCODED) }
+fn put_on_stack<F: Flavor>(text: &str, buf: &mut [u8]) -> Result<usize, NoRoom>
+    requires { length text.now ≤ FEW }
     ensures { PutsAnswer (encoding F.flavor (chars text.now)) result buf.old buf.new }
 {
-    let mut written = [0; N];
+    let mut written = [0; FEW_ENCODED];
     let len = write::<F>(text, &mut written);
     copy_to_slice_by_call(&written[..len], buf)
 }

@@ -31,7 +31,7 @@ mod rows;
 mod way;
 mod windows;
 
-use self::way::{FEW, ON_STACK, Way, way_of, write};
+use self::way::{FEW, Way, way_of, write};
 use cesu8_bytes::flavor::Flavor;
 use cesu8_bytes::lengths::encoded_len;
 use cesu8_bytes::writers::{append, append_zeros, copy, make_room};
@@ -39,9 +39,6 @@ use std::alloc::{AllocError, Allocator};
 
 /// The most bytes that the encoding of a few bytes has.
 const FEW_ENCODED: usize = 2 * FEW;
-
-/// The most bytes that an encoding on the stack has.
-const ON_STACK_ENCODED: usize = 2 * ON_STACK;
 
 /// Returns the encoding of a text, after one request for exactly its length. It is inlined, so that
 /// the result is moved only once. What it calls is not inlined: a text that is borrowed then uses
@@ -54,23 +51,22 @@ pub fn encode<F: Flavor, A: Allocator + Copy>(
     ensures { BuildsEncoding F.flavor text.now result }
 {
     match way_of(text) {
-        Way::Few => encode_on_stack::<F, A, FEW_ENCODED>(alloc, text),
-        Way::OnStack => encode_on_stack::<F, A, ON_STACK_ENCODED>(alloc, text),
-        Way::InPlace => encode_in_place::<F, A>(alloc, text),
+        Way::Few => encode_on_stack::<F, A>(alloc, text),
+        Way::Blocks => encode_in_place::<F, A>(alloc, text),
     }
 }
 
-/// Encodes to the stack, where twice the bytes of the text fit, and returns a copy.
+/// Encodes a few bytes to the stack, and returns a copy.
 #[inline(never)]
 #[tactic(auto, using(cesu8_text::proofs::encoding::Lengths::length_encoding_chars))]
-fn encode_on_stack<F: Flavor, A: Allocator + Copy, const N: usize>(
+fn encode_on_stack<F: Flavor, A: Allocator + Copy>(
     alloc: A,
     text: &str,
 ) -> Result<Vec<u8, A>, AllocError>
-    requires { (2 * length text.now ≤ N) × (N ≤ ON_STACK_ENCODED) }
+    requires { length text.now ≤ FEW }
     ensures { BuildsEncoding F.flavor text.now result }
 {
-    let mut written = [0; N];
+    let mut written = [0; FEW_ENCODED];
     let len = write::<F>(text, &mut written);
     copy(alloc, &written[..len])
 }

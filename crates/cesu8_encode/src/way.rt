@@ -1,14 +1,13 @@
 //! Which way a text is encoded. No other file of this crate chooses by the length of a text.
 //!
-//! | bytes of the text | way       | what is done                                              |
-//! |-------------------|-----------|-----------------------------------------------------------|
-//! | at most 32        | `Few`     | a run or a change at a time, by `few`                     |
-//! | at most 128       | `OnStack` | blocks in turn, by `windows`, to the stack and then copied |
-//! | more              | `InPlace` | a count first, then the same blocks where they stay       |
+//! | bytes of the text | way      | what is done                          |
+//! |-------------------|----------|---------------------------------------|
+//! | at most 32        | `Few`    | a run or a change at a time, by `few` |
+//! | more              | `Blocks` | blocks in turn, by `windows`          |
 //!
-//! An encoding has at most twice the bytes of its text, so the first two ways write to an array
-//! on the stack before the length is known. Where it is known, as in `encode_into`, each way writes
-//! where the encoding stays.
+//! An encoding has at most twice the bytes of its text, so that of a few bytes is written to the
+//! stack before its length is known. A longer text is counted first. Where the length is known, as
+//! in `encode_into`, both ways write where the encoding stays.
 //!
 //! Below this crate, two kinds of code choose by a length too: the first looks of `cesu8_bytes`,
 //! which see whether a byte changes, and the widths of its vectors.
@@ -27,15 +26,11 @@ use cesu8_bytes::flavor::Flavor;
 /// The most bytes of a text that is encoded one change after another: no more than a block has.
 pub const FEW: usize = BLOCK;
 
-/// The most bytes of a text that is encoded on the stack, before its length is known.
-pub const ON_STACK: usize = 128;
-
 /// A way to encode a text.
 #[derive(Clone, Copy)]
 pub enum Way {
     Few,
-    OnStack,
-    InPlace,
+    Blocks,
 }
 
 /// Returns the way of a text.
@@ -43,13 +38,10 @@ pub enum Way {
 pub fn way_of(text: &str) -> Way
     ensures { Fits result (length text.now) }
 {
-    let len = text.len();
-    if len <= FEW {
+    if text.len() <= FEW {
         Way::Few
-    } else if len <= ON_STACK {
-        Way::OnStack
     } else {
-        Way::InPlace
+        Way::Blocks
     }
 }
 
@@ -62,6 +54,6 @@ pub fn write<F: Flavor>(text: &str, out: &mut [u8]) -> usize
 {
     match way_of(text) {
         Way::Few => write_few::<F>(text, out),
-        Way::OnStack | Way::InPlace => write_blocks::<F>(text, out),
+        Way::Blocks => write_blocks::<F>(text, out),
     }
 }

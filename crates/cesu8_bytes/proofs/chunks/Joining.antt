@@ -1,5 +1,6 @@
 -- What joining keeps, a step at a time.
-use Rattle.std.proofs.Common.{◌≡◌, ℕ, zero, suc, ◌+◌, ◌-◌, ◌<◌, ◌≤◌, List, [], ◌∷◌, ◌++◌, refl, sym, ap, ◌∙◌, subst, arith, length, take, drop, append_assoc, append-nil, length-append, inl, inr, replicate}
+use Rattle.std.proofs.Common.{◌≡◌, ℕ, zero, suc, ◌+◌, ◌-◌, ◌<◌, ◌≤◌, List, [], ◌∷◌, ◌++◌, refl, sym, ap, ◌∙◌, subst, arith, length, take, drop, append_assoc, append-nil, length-append, inl, inr, replicate, true, get_or, eqb}
+use Rattle.std.proofs.lemmas.Bool.{and_parts, eqb-true}
 use Rattle.std.proofs.lemmas.List.{take-append-drop, take-append-le, length-take-le}
 use Rattle.std.proofs.lemmas.List.Concat.{flat_map-append}
 use Rattle.std.proofs.Math.Seq.{take-append_seam, take-append-add, take-length}
@@ -7,7 +8,7 @@ use Rattle.cesu8_text.specs.Text.{utf8_of}
 use Rattle.cesu8_text.specs.Utf16.{units_of}
 use Rattle.cesu8_text.specs.Encoding.{Flavor, Cesu8, Mutf8, encoding, form, IsEncodedOtherwise}
 use Rattle.cesu8_text.specs.Reading.{width}
-use Rattle.cesu8_bytes.specs.Joining.{Part, Stays, Changes, AreParts, encoded_part, utf8_part, IsJoined, IsJoinedSoFar, KeepsJoined, nulls, HasPair, HasNull, AreJoinedDigits, second_third_fifth_sixth}
+use Rattle.cesu8_bytes.specs.Joining.{Part, Stays, Changes, AreParts, encoded_part, utf8_part, IsJoined, IsJoinedSoFar, KeepsJoined, nulls, HasPair, null_at, HasNull, AreJoinedDigits, second_third_fifth_sixth}
 use Rattle.cesu8_text.proofs.encoding.Lengths.{Change, same, longer, change}
 use Rattle.cesu8_text.proofs.encoding.Found.{BeginsInLengths, rest_is, found_null, found_pair}
 use Rattle.cesu8_text.proofs.text.Shapes.{Shape, one, two, three, pair, shape, utf8_of_one, utf8_of_two, utf8_of_three, utf8_of_pair}
@@ -151,11 +152,19 @@ null_is f c two_bytes one_byte (three x y z digits) _ =
 null_is f c two_bytes one_byte (pair w x y z digits) _ =
     absurd (omega (arith, one_byte, ap length (utf8_of_pair c w x y z digits)))
 
+-- Two bytes that are null are C0 80, and the flavor is MUTF-8.
+pub null_parts : (f : Flavor) (a b : ℕ) → null_at f a b ≡ true → (f ≡ Mutf8) × ((a ≡ 0xC0) × (b ≡ 0x80))
+null_parts Cesu8 a b never = absurd (cc)
+null_parts Mutf8 a b both =
+    let parts = and_parts (eqb a 0xC0) (eqb b 0x80) both in
+    (refl, (eqb-true a 0xC0 parts.0, eqb-true b 0x80 parts.1))
+
 -- A null character that was joined.
 pub keeps_null : (f : Flavor) (rest out after new : List ℕ) → 2 ≤ length rest → HasNull f rest → after ≡ drop 2 rest →
     new ≡ out ++ 0 ∷ [] → KeepsJoined f rest out after new
 keeps_null f rest out after new long has_null after_is new_is =
-    let found = found_null f rest has_null.flavor long has_null.lead has_null.continuation in
+    let null = null_parts f (get_or rest 0 0) (get_or rest 1 0) has_null in
+    let found = found_null f rest null.0 long null.1.0 null.1.1 in
     keeps_changed f rest out after (0 ∷ []) new 2 1 (omega arith) found
     (null_is f found.character found.encoded found.in_utf8 (shape found.character found.begins.scalar)
     (change f found.character found.begins.scalar))

@@ -1,7 +1,7 @@
 use Rattle.std.proofs.Common.{◌≡◌, ◌++◌, ◌∙◌, refl, ap, take, length, arith}
 use Rattle.std.proofs.lemmas.List.{length-take-le, take-take}
 use Rattle.cesu8_bytes.proofs.chunks.Joining.{keeps_copied, written_at}
-use Rattle.cesu8_bytes.proofs.joining.copy_run.Goals as goal
+use Rattle.cesu8_bytes.proofs.joining.copy_block.Goals as goal
 
 pub returns : goal.returns
 returns c f =
