@@ -6,7 +6,7 @@ ghost use Rattle.cesu8_bytes.specs.Joining.{IsJoined};
 ghost use Rattle.cesu8_bytes.specs.TextChunks.{IsChunk};
 ghost use Rattle.cesu8_bytes.specs.declared.options.Strictness.{Strictness};
 
-use super::joining::{Buffer, MOST_JOINED, MOST_WITH_PAIR, MUST_FOLLOW, PAIR, Step, join};
+use super::joining::{Buffer, MOST_JOINED, MOST_WITH_PAIR, MUST_FOLLOW, Step, join};
 use crate::continuation::is_continuation;
 use crate::first_looks::contains_changed;
 use crate::flavor::Flavor;
@@ -15,9 +15,8 @@ use simdutf8::basic;
 /// The most bytes that are too few for a window. `MUST_FOLLOW` bounds them from below.
 pub const TOO_FEW: usize = 64;
 
-/// The most bytes that are written for a window: those that are joined, and the continuation bytes
-/// after them.
-const FILLED: usize = MOST_WITH_PAIR + PAIR;
+/// The most continuation bytes that a character has in UTF-8.
+const MOST_CONTINUATIONS: usize = 3;
 
 /// The text of the first bytes, and their number.
 #[derive(Drop)]
@@ -50,17 +49,19 @@ pub fn read_window<'a, F: Flavor>(bytes: &[u8], buffer: &'a mut Buffer) -> Optio
     }
 }
 
-/// Copies the continuation bytes that follow a step.
+/// Copies the continuation bytes that follow a step, up to the end of a character.
 fn copy_end(bytes: &[u8], step: Step, buffer: &mut Buffer) -> Step
     requires { (step.read ≤ length bytes.now) × (step.written ≤ MOST_WITH_PAIR) }
-    ensures within { (result.read ≤ length bytes.now) × (result.written ≤ FILLED) }
+    ensures within { (result.read ≤ length bytes.now)
+        × (result.written ≤ step.written + MOST_CONTINUATIONS) }
     ensures joined { (f : AnyFlavor)
         → IsJoined f (take step.read bytes.now) (take step.written buffer.old)
         → IsJoined f (take result.read bytes.now) (take result.written buffer.new) }
 {
     let mut read = step.read;
     let mut written = step.written;
-    while read < bytes.len() && is_continuation(bytes[read]) && written < FILLED {
+    let most = written + MOST_CONTINUATIONS;
+    while read < bytes.len() && written < most && is_continuation(bytes[read]) {
         buffer[written] = bytes[read];
         read += 1;
         written += 1;

@@ -19,9 +19,10 @@ use crate::ill_formed::is_ill_formed;
 use crate::lengths::lossy_len;
 use crate::packing::WIDEST;
 use crate::refusal::{Unwritten, is_refused};
-use crate::way::{FEW, SHORT_WINDOW, Way, way_of};
+use crate::way::{SHORT_WINDOW, Way, way_of};
 use crate::windows::{
-    AROUND, Decoded, LEAST, LONG_BUFFER, LONG_TEXT, SHORT_BUFFER, SHORT_TEXT, SPARED, write_window,
+    AROUND, Decoded, LEAST, LONG_BUFFER, LONG_TEXT, MEDIUM_BUFFER, MEDIUM_TEXT, SHORT_BUFFER,
+    SHORT_TEXT, SPARED, write_window,
 };
 use cesu8_bytes::flavor::Flavor;
 use cesu8_bytes::joining::BUFFER_LEN;
@@ -30,7 +31,7 @@ use cesu8_bytes::window::{TOO_FEW, read_window};
 use cesu8_bytes::writers::{NoRoom, copy_to_slice, put};
 
 /// The length of a buffer for the text of bytes that are read one character after another.
-const FEW_TEXT: usize = WIDEST * FEW;
+const CHARACTERS_TEXT: usize = WIDEST * SHORT_WINDOW;
 
 /// Writes the text of the bytes to a caller's buffer, if it fits.
 #[inline(never)]
@@ -44,6 +45,7 @@ pub fn put_text<F: Flavor>(
     match way_of::<F>(strictness, bytes) {
         Way::Characters => put_characters::<F>(strictness, bytes, buf),
         Way::ShortWindow => put_window::<F, SHORT_BUFFER, SHORT_TEXT>(strictness, bytes, buf),
+        Way::MediumWindow => put_window::<F, MEDIUM_BUFFER, MEDIUM_TEXT>(strictness, bytes, buf),
         Way::LongWindow => put_window::<F, LONG_BUFFER, LONG_TEXT>(strictness, bytes, buf),
         Way::JoinedWindow => put_joined::<F>(strictness, bytes, buf),
         Way::Chunks => put_chunks::<F>(strictness, bytes, buf),
@@ -58,10 +60,10 @@ pub fn put_characters<F: Flavor>(
     bytes: &[u8],
     buf: &mut [u8],
 ) -> Result<usize, Unwritten>
-    requires { length bytes.now ≤ FEW }
+    requires { length bytes.now ≤ SHORT_WINDOW }
     ensures { PutsReading F.flavor strictness bytes.now result buf.old buf.new }
 {
-    let mut written = [0; FEW_TEXT];
+    let mut written = [0; CHARACTERS_TEXT];
     let decoded = write_characters::<F>(strictness, bytes, &mut written);
     put_decoded(strictness, decoded, &written, buf)
 }
@@ -105,7 +107,7 @@ fn put_decoded(
     copy_to_slice(&written[..decoded.end], buf).map_err(Unwritten::NoRoom)
 }
 
-/// Writes the text of a joined window and of a short one behind it. They are joined and decoded on
+/// Writes the text of a joined window and of a few bytes behind it. They are joined and decoded on
 /// the stack, so no pass looks for ill-formed bytes first.
 #[inline(never)]
 fn put_joined<F: Flavor>(

@@ -77,7 +77,8 @@ fn sum_of_few<F: Flavor, W: Weight>(bytes: &[u8]) -> usize
 {
     let mut padded = [0xFF; 32 + REACH];
     padded[..bytes.len()].copy_from_slice(bytes);
-    sum_of_blocks::<F, W>(&padded, 2)
+    let count = if bytes.len() > 32 { 2 } else { 1 };
+    sum_of_blocks::<F, W>(&padded, count)
 }
 
 /// Returns the sum of the lanes.

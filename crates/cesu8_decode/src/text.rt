@@ -11,9 +11,10 @@ use crate::chunk::{Chunk, TESTED, next_chunk, text_of};
 use crate::lengths::lossy_len;
 use crate::packing::WIDEST;
 use crate::refusal::{Refusal, is_refused};
-use crate::way::{FEW, Way, way_of};
+use crate::way::{SHORT_WINDOW, Way, way_of};
 use crate::windows::{
-    AROUND, Decoded, LEAST, LONG_BUFFER, LONG_TEXT, SHORT_BUFFER, SHORT_TEXT, SPARED, write_window,
+    AROUND, Decoded, LEAST, LONG_BUFFER, LONG_TEXT, MEDIUM_BUFFER, MEDIUM_TEXT, SHORT_BUFFER,
+    SHORT_TEXT, SPARED, write_window,
 };
 use cesu8_bytes::flavor::Flavor;
 use cesu8_bytes::joining::BUFFER_LEN;
@@ -21,7 +22,7 @@ use cesu8_bytes::options::Strictness;
 use std::alloc::{AllocError, Allocator};
 
 /// The length of a buffer for the text of bytes that are read one character after another.
-const CHARACTERS_TEXT: usize = WIDEST * FEW + TESTED;
+const CHARACTERS_TEXT: usize = WIDEST * SHORT_WINDOW + TESTED;
 
 /// Appends the text of the bytes.
 #[inline(always)]
@@ -38,9 +39,12 @@ pub fn append_text<F: Flavor, A: Allocator>(
         Way::ShortWindow => {
             append_window::<F, SHORT_BUFFER, SHORT_TEXT, A>(strictness, bytes, out)
         }
+        Way::MediumWindow => {
+            append_window::<F, MEDIUM_BUFFER, MEDIUM_TEXT, A>(strictness, bytes, out)
+        }
         Way::LongWindow => { append_window::<F, LONG_BUFFER, LONG_TEXT, A>(strictness, bytes, out) }
         Way::JoinedWindow => {
-            append_chunks::<F, SHORT_BUFFER, SHORT_TEXT, A>(strictness, bytes, out)
+            append_chunks::<F, MEDIUM_BUFFER, MEDIUM_TEXT, A>(strictness, bytes, out)
         }
         Way::Chunks => append_chunks::<F, LONG_BUFFER, LONG_TEXT, A>(strictness, bytes, out),
         Way::Refused => Err(Refusal::NoText),
@@ -53,7 +57,7 @@ fn append_characters<F: Flavor, A: Allocator>(
     bytes: &[u8],
     out: &mut String<A>,
 ) -> Result<(), Refusal>
-    requires { length bytes.now ≤ FEW }
+    requires { length bytes.now ≤ SHORT_WINDOW }
     ensures { AppendsText F.flavor strictness bytes.now
         result (string_bytes out.old) (string_bytes out.new) }
 {

@@ -5,7 +5,8 @@
 //! | at most 24 | at most 12 | `Characters` | `Characters` |
 //! | at most 24 | more | `Characters` | `ShortWindow` |
 //! | at most 96 | at most 6 | `Characters` | `Characters` |
-//! | at most 256 | any | `ShortWindow` | `ShortWindow` |
+//! | at most 96 | more | `ShortWindow` | `ShortWindow` |
+//! | at most 256 | any | `MediumWindow` | `MediumWindow` |
 //! | more, and the first 64 show an ill-formed byte | any | `Refused` | as without |
 //! | at most 1,024 | any | `JoinedWindow` | `LongWindow` |
 //! | more | any | `Chunks` | `Chunks` |
@@ -28,7 +29,8 @@
 //! |---|---|---|---|
 //! | `Characters` | 32 and 48 bytes of ASCII with one emoji or null, to a slice | 1.4 | 1.5 |
 //! | | the same, to a `String` | 1.1 | 1.2 |
-//! | `ShortWindow` | 200 and 256 bytes, to a slice | 1.1 | 1.1 |
+//! | `ShortWindow` | damaged, 16 to 24 bytes | 1.1 | 1.1 |
+//! | `MediumWindow` | 200 and 256 bytes, to a slice | 1.1 | 1.1 |
 //! | `LongWindow` | damaged, 1,024 bytes, to a slice | 1.3 | 1.4 |
 //! | `JoinedWindow` | well-formed, 1,024 bytes, to a slice | 1.3 | 1.4 |
 //! | `Refused` | refused, 1,024 bytes, to a `String` | 2.3 | 1.9 |
@@ -57,20 +59,22 @@ use cesu8_bytes::options::Strictness;
 pub enum Way {
     Characters,
     ShortWindow,
+    MediumWindow,
     LongWindow,
     JoinedWindow,
     Chunks,
     Refused,
 }
 
-/// The most bytes that are read one character after another. `Ways` of `specs` has this number too.
-pub const FEW: usize = 96;
+/// The most bytes that are read one character after another, and the most in a short window.
+/// `Ways` of `specs` has this number too.
+pub const SHORT_WINDOW: usize = 96;
 
 /// So few bytes are read one character after another in strict reading, whatever they are.
 const FEWEST: usize = 24;
 
-/// The most bytes that are read in a short window.
-pub const SHORT_WINDOW: usize = 256;
+/// The most bytes that are read in a window of medium length.
+pub const MEDIUM_WINDOW: usize = 256;
 
 /// The most bytes that are read in any window.
 pub const LONG_WINDOW: usize = 1024;
@@ -100,6 +104,9 @@ pub fn way_of<F: Flavor>(strictness: Strictness, bytes: &[u8]) -> Way
     if bytes.len() <= SHORT_WINDOW {
         return Way::ShortWindow;
     }
+    if bytes.len() <= MEDIUM_WINDOW {
+        return Way::MediumWindow;
+    }
     if is_strict && is_ill_formed_in_prefix::<F>(bytes) {
         return Way::Refused;
     }
@@ -125,7 +132,7 @@ pub fn comes_before_tests(bytes: &[u8]) -> bool
 /// Returns whether few enough of few bytes are other than 01 to 7F.
 #[inline(always)]
 fn has_few_others(bytes: &[u8]) -> bool
-    ensures { IsTrue result → length bytes.now ≤ FEW }
+    ensures { IsTrue result → length bytes.now ≤ SHORT_WINDOW }
 {
     // Two vectors of each width have all bytes. The count decides speed alone.
     let others = match bytes.len() {
@@ -133,7 +140,7 @@ fn has_few_others(bytes: &[u8]) -> bool
         13..=16 => count_in_ends::<NullOrNonAscii, 8>(bytes),
         17..=32 => count_in_ends::<NullOrNonAscii, 16>(bytes),
         33..=64 => count_in_ends::<NullOrNonAscii, 32>(bytes),
-        65..=FEW => count_in_ends::<NullOrNonAscii, 64>(bytes),
+        65..=SHORT_WINDOW => count_in_ends::<NullOrNonAscii, 64>(bytes),
         _ => return false,
     };
     let most = if bytes.len() <= FEWEST {

@@ -12,7 +12,7 @@ use super::offsets::{BLOCK, PAIR, THREE, near, starts};
 use super::packing::{ROOM, WIDEST};
 use super::parts::write_block;
 use super::rows::rows;
-use super::way::{LONG_WINDOW, SHORT_WINDOW};
+use super::way::{LONG_WINDOW, MEDIUM_WINDOW, SHORT_WINDOW};
 use cesu8_bytes::flavor::Flavor;
 use std::simd::prelude::*;
 
@@ -36,6 +36,10 @@ pub const LEFT: usize = 64;
 pub const SHORT_BUFFER: usize = SHORT_WINDOW + AROUND;
 
 pub const SHORT_TEXT: usize = WIDEST * SHORT_BUFFER - SPARED;
+
+pub const MEDIUM_BUFFER: usize = MEDIUM_WINDOW + AROUND;
+
+pub const MEDIUM_TEXT: usize = WIDEST * MEDIUM_BUFFER - SPARED;
 
 pub const LONG_BUFFER: usize = LONG_WINDOW + AROUND;
 

@@ -1,5 +1,5 @@
 -- What the last offsets of bytes weigh, where FF stands behind them.
-use Rattle.std.proofs.Common.{◌≡◌, ℕ, zero, suc, ◌+◌, ◌-◌, ◌<◌, ◌≤◌, ◌⊎◌, ⊎_elim, List, ◌++◌, length, get_or, replicate, refl, sym, ap, ◌∙◌, inl, inr, arith}
+use Rattle.std.proofs.Common.{◌≡◌, ℕ, zero, suc, ◌+◌, ◌-◌, ◌*◌, ◌<◌, ◌≤◌, ◌⊎◌, ⊎_elim, List, ◌++◌, length, get_or, replicate, refl, sym, ap, ◌∙◌, inl, inr, arith}
 use Rattle.std.proofs.lemmas.Bool.{cases_lt}
 use Rattle.std.proofs.lemmas.List.{get_or_past, get_or_append_left, get_or-append_right, get_or-replicate}
 use Rattle.cesu8_text.specs.Encoding.{Flavor, Cesu8, Mutf8}
@@ -97,8 +97,10 @@ module _ (weight : ℕ → ℕ → ℕ) (nothing : (b : ℕ) → weight 0 b ≡ 
       let back = weigh_nothing weight f padded (0 + length bytes) (m - length bytes) (λ k low small. weight_behind k (omega arith) (omega arith)) in
       omega (arith, split, front, back, all_offsets weight f bytes)
 
--- Two blocks of a few bytes and FF weigh what the bytes weigh.
-pub weight_filled : (weight : ℕ → ℕ → ℕ) → ((b : ℕ) → weight 0 b ≡ 0) → (f : Flavor) (bytes padded : List ℕ) → length bytes < 37 →
-    padded ≡ bytes ++ replicate (69 - length bytes) 0xFF → weight_between weight f padded 0 64 ≡ total_weight weight f bytes
-weight_filled weight nothing f bytes padded few is =
-    ap (λ p. weight_between weight f p 0 64) is ∙ weight_with_end weight nothing f bytes (69 - length bytes) 64 (omega arith) (omega arith)
+-- The blocks that have all of a few bytes, with FF behind them, weigh what the bytes weigh.
+pub weight_filled : (weight : ℕ → ℕ → ℕ) → ((b : ℕ) → weight 0 b ≡ 0) → (f : Flavor) (bytes padded : List ℕ) (count : ℕ) →
+    length bytes ≤ 32 * count → count ≤ 2 → padded ≡ bytes ++ replicate (69 - length bytes) 0xFF →
+    weight_between weight f padded 0 (32 * count) ≡ total_weight weight f bytes
+weight_filled weight nothing f bytes padded count all few is =
+    ap (λ p. weight_between weight f p 0 (32 * count)) is
+    ∙ weight_with_end weight nothing f bytes (69 - length bytes) (32 * count) (omega arith) (omega arith)
