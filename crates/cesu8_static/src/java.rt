@@ -5,9 +5,9 @@ ghost use Rattle.java_text.specs.Form.{count_in, counted, IsTruncated};
 ghost use Rattle.cesu8_static.specs.Answers.{WritesForm, ReadsForm, ReadsFormLossily};
 
 use crate::answer::{Answer, NOT_UTF8, Reading, TOO_LONG, TRUNCATED};
+use crate::input::{BLOCK, text_of};
 use java_text::{WriteSliceFault, write_utf_to_slice};
 use simd_cesu8::mutf8;
-use simdutf8::compat;
 
 /// Writes UTF-8 as `java_text::write_utf_to_slice` does (Java's `DataOutput.writeUTF`): the length
 /// of its MUTF-8 in two bytes, the high byte first, and then the MUTF-8. `TOO_LONG` means that this
@@ -16,7 +16,8 @@ use simdutf8::compat;
 pub extern "C" fn cesu8_java_write(text: &[u8], buf: &mut [u8]) -> Answer
     ensures { WritesForm text.now result buf.old buf.new }
 {
-    let Ok(text) = compat::from_utf8(text) else {
+    let mut block = [0; BLOCK];
+    let Some(text) = text_of(text, &mut block) else {
         return Answer::without(NOT_UTF8);
     };
     match write_utf_to_slice(text, buf) {

@@ -14,13 +14,14 @@ ghost use Rattle.cesu8_static.specs.Answers.{DecidesNeed, TellsEncodedLength, Te
 
 mod answer;
 mod comparison;
+mod input;
 pub mod java;
 pub mod mutf8;
 
 pub use crate::answer::{Answer, Decision, Reading};
 use crate::answer::{INVALID, NOT_UTF8, TOO_LONG};
 pub use crate::comparison::Comparison;
-use simdutf8::compat;
+use crate::input::{BLOCK, text_of};
 
 /// Returns whether the CESU-8 of a text in UTF-8 differs from the UTF-8, as
 /// `simd_cesu8::needs_encoded` does. `NOT_UTF8` means that the input is not UTF-8.
@@ -28,9 +29,9 @@ use simdutf8::compat;
 pub extern "C" fn cesu8_needs_encoded(text: &[u8]) -> Decision
     ensures { DecidesNeed Cesu8 text.now result }
 {
-    match compat::from_utf8(text) {
-        Ok(text) => Decision::of(simd_cesu8::needs_encoded(text)),
-        Err(_) => Decision::without(),
+    match text_of(text, &mut [0; BLOCK]) {
+        Some(text) => Decision::of(simd_cesu8::needs_encoded(text)),
+        None => Decision::without(),
     }
 }
 
@@ -40,9 +41,9 @@ pub extern "C" fn cesu8_needs_encoded(text: &[u8]) -> Decision
 pub extern "C" fn cesu8_encoded_len(text: &[u8]) -> Answer
     ensures { TellsEncodedLength Cesu8 text.now result }
 {
-    match compat::from_utf8(text) {
-        Ok(text) => Answer::of_length(simd_cesu8::encoded_len(text)),
-        Err(_) => Answer::without(NOT_UTF8),
+    match text_of(text, &mut [0; BLOCK]) {
+        Some(text) => Answer::of_length(simd_cesu8::encoded_len(text)),
+        None => Answer::without(NOT_UTF8),
     }
 }
 
@@ -52,9 +53,9 @@ pub extern "C" fn cesu8_encoded_len(text: &[u8]) -> Answer
 pub extern "C" fn cesu8_utf16_len(text: &[u8]) -> Answer
     ensures { TellsUtf16Length text.now result }
 {
-    match compat::from_utf8(text) {
-        Ok(text) => Answer::of_length(simd_cesu8::utf16_len(text)),
-        Err(_) => Answer::without(NOT_UTF8),
+    match text_of(text, &mut [0; BLOCK]) {
+        Some(text) => Answer::of_length(simd_cesu8::utf16_len(text)),
+        None => Answer::without(NOT_UTF8),
     }
 }
 
@@ -64,12 +65,13 @@ pub extern "C" fn cesu8_utf16_len(text: &[u8]) -> Answer
 pub extern "C" fn cesu8_compare_as_utf16(text: &[u8], other: &[u8]) -> Comparison
     ensures { ComparesTexts text.now other.now result }
 {
-    let Ok(text) = compat::from_utf8(text) else {
+    let mut block = [0; BLOCK];
+    let Some(text) = text_of(text, &mut block) else {
         return Comparison::without();
     };
-    match compat::from_utf8(other) {
-        Ok(other) => Comparison::of(simd_cesu8::compare_as_utf16(text, other)),
-        Err(_) => Comparison::without(),
+    match text_of(other, &mut [0; BLOCK]) {
+        Some(other) => Comparison::of(simd_cesu8::compare_as_utf16(text, other)),
+        None => Comparison::without(),
     }
 }
 
@@ -79,9 +81,9 @@ pub extern "C" fn cesu8_compare_as_utf16(text: &[u8], other: &[u8]) -> Compariso
 pub extern "C" fn cesu8_encode(text: &[u8], buf: &mut [u8]) -> Answer
     ensures { Encodes Cesu8 text.now result buf.old buf.new }
 {
-    match compat::from_utf8(text) {
-        Ok(text) => Answer::of_bytes(simd_cesu8::encode_to_slice(text, buf)),
-        Err(_) => Answer::without(NOT_UTF8),
+    match text_of(text, &mut [0; BLOCK]) {
+        Some(text) => Answer::of_bytes(simd_cesu8::encode_to_slice(text, buf)),
+        None => Answer::without(NOT_UTF8),
     }
 }
 

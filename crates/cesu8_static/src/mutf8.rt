@@ -6,8 +6,8 @@ ghost use Rattle.simd_cesu8.specs.Reading.{IsStrictReading, IsLenientReading, re
 ghost use Rattle.cesu8_static.specs.Answers.{DecidesNeed, TellsEncodedLength, TellsDecodedLength, TellsLossyLength, Encodes, Decodes, DecodesLossily};
 
 use crate::answer::{Answer, Decision, INVALID, NOT_UTF8, TOO_LONG};
+use crate::input::{BLOCK, text_of};
 use simd_cesu8::mutf8;
-use simdutf8::compat;
 
 /// Returns whether the MUTF-8 of a text in UTF-8 differs from the UTF-8, as `mutf8::needs_encoded`
 /// does. `NOT_UTF8` means that the input is not UTF-8.
@@ -15,9 +15,9 @@ use simdutf8::compat;
 pub extern "C" fn cesu8_mutf8_needs_encoded(text: &[u8]) -> Decision
     ensures { DecidesNeed Mutf8 text.now result }
 {
-    match compat::from_utf8(text) {
-        Ok(text) => Decision::of(mutf8::needs_encoded(text)),
-        Err(_) => Decision::without(),
+    match text_of(text, &mut [0; BLOCK]) {
+        Some(text) => Decision::of(mutf8::needs_encoded(text)),
+        None => Decision::without(),
     }
 }
 
@@ -27,9 +27,9 @@ pub extern "C" fn cesu8_mutf8_needs_encoded(text: &[u8]) -> Decision
 pub extern "C" fn cesu8_mutf8_encoded_len(text: &[u8]) -> Answer
     ensures { TellsEncodedLength Mutf8 text.now result }
 {
-    match compat::from_utf8(text) {
-        Ok(text) => Answer::of_length(mutf8::encoded_len(text)),
-        Err(_) => Answer::without(NOT_UTF8),
+    match text_of(text, &mut [0; BLOCK]) {
+        Some(text) => Answer::of_length(mutf8::encoded_len(text)),
+        None => Answer::without(NOT_UTF8),
     }
 }
 
@@ -39,9 +39,9 @@ pub extern "C" fn cesu8_mutf8_encoded_len(text: &[u8]) -> Answer
 pub extern "C" fn cesu8_mutf8_encode(text: &[u8], buf: &mut [u8]) -> Answer
     ensures { Encodes Mutf8 text.now result buf.old buf.new }
 {
-    match compat::from_utf8(text) {
-        Ok(text) => Answer::of_bytes(mutf8::encode_to_slice(text, buf)),
-        Err(_) => Answer::without(NOT_UTF8),
+    match text_of(text, &mut [0; BLOCK]) {
+        Some(text) => Answer::of_bytes(mutf8::encode_to_slice(text, buf)),
+        None => Answer::without(NOT_UTF8),
     }
 }
 
