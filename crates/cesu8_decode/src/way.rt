@@ -36,7 +36,7 @@
 //! | `Refused` | refused, 1,024 bytes, to a `String` | 2.3 | 1.9 |
 //!
 //! A call on a slice that takes no UTF-8 as such takes `Characters` before it tests the bytes at
-//! all, below 64 of them: the tests take as long as reading so few.
+//! all, below 64 of them of which at most 6 are others: the tests take as long as reading these.
 //!
 //! A call on a slice that takes `JoinedWindow` goes on by `Chunks` if more bytes are left than a
 //! short window has.
@@ -98,7 +98,7 @@ pub fn way_of<F: Flavor>(strictness: Strictness, bytes: &[u8]) -> Way
     ensures { IsWayOf F.flavor strictness bytes.now result }
 {
     let is_strict = matches!(strictness, Strictness::Strict);
-    if is_strict && bytes.len() <= FEWEST || has_few_others(bytes) {
+    if is_strict && bytes.len() <= FEWEST || has_few_others(bytes, most_others(bytes)) {
         return Way::Characters;
     }
     if bytes.len() <= SHORT_WINDOW {
@@ -126,27 +126,36 @@ pub fn way_of<F: Flavor>(strictness: Strictness, bytes: &[u8]) -> Way
 pub fn comes_before_tests(bytes: &[u8]) -> bool
     ensures { IsTrue result → length bytes.now < READ_AT_ONCE }
 {
-    bytes.len() < READ_AT_ONCE && has_few_others(bytes)
+    bytes.len() < READ_AT_ONCE && has_few_others(bytes, FEWER_OTHERS)
 }
 
-/// Returns whether few enough of few bytes are other than 01 to 7F.
+/// Returns how many bytes may be other than 01 to 7F if all are read one character after another.
 #[inline(always)]
-fn has_few_others(bytes: &[u8]) -> bool
+fn most_others(bytes: &[u8]) -> usize
+    ensures { result ≤ OTHERS }
+{
+    if bytes.len() <= FEWEST {
+        OTHERS
+    } else {
+        FEWER_OTHERS
+    }
+}
+
+/// Returns whether the bytes are few, and at most so many of them other than 01 to 7F.
+#[inline(always)]
+fn has_few_others(bytes: &[u8], most: usize) -> bool
+    requires { most ≤ OTHERS }
     ensures { IsTrue result → length bytes.now ≤ SHORT_WINDOW }
 {
     // Two vectors of each width have all bytes. The count decides speed alone.
     let others = match bytes.len() {
-        0..=OTHERS => return true,
-        13..=16 => count_in_ends::<NullOrNonAscii, 8>(bytes),
+        0..=FEWER_OTHERS => return true,
+        7..=8 => count_in_ends::<NullOrNonAscii, 4>(bytes),
+        9..=16 => count_in_ends::<NullOrNonAscii, 8>(bytes),
         17..=32 => count_in_ends::<NullOrNonAscii, 16>(bytes),
         33..=64 => count_in_ends::<NullOrNonAscii, 32>(bytes),
         65..=SHORT_WINDOW => count_in_ends::<NullOrNonAscii, 64>(bytes),
         _ => return false,
-    };
-    let most = if bytes.len() <= FEWEST {
-        OTHERS
-    } else {
-        FEWER_OTHERS
     };
     others <= most
 }
