@@ -29,7 +29,7 @@
 //! |---|---|---|---|
 //! | `Characters` | 32 and 48 bytes of ASCII with one emoji or null, to a slice | 1.4 | 1.5 |
 //! | | the same, to a `String` | 1.1 | 1.2 |
-//! | `ShortWindow` | damaged, 16 to 24 bytes | 1.1 | 1.1 |
+//! | `ShortWindow` | damaged, 16 to 24 bytes, to a slice | 1.1 | not tried |
 //! | `MediumWindow` | 200 and 256 bytes, to a slice | 1.1 | 1.1 |
 //! | `LongWindow` | damaged, 1,024 bytes, to a slice | 1.3 | 1.4 |
 //! | `JoinedWindow` | well-formed, 1,024 bytes, to a slice | 1.3 | 1.4 |
