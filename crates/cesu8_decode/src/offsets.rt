@@ -150,6 +150,7 @@ fn by_two<F: Flavor>(first: u8x32, second: u8x32) -> u8x32
 pub fn look_up(table: [u8; 16], lanes: u8x32) -> u8x32
     ensures { result ≡ map (λ lane. slice_index table (lane % 16)) lanes }
 {
+    // Each half of the lanes looks into its own sixteen, so the table stands in both.
     u8x16::from_array(table)
         .swizzle::<32>(TWICE)
         .swizzle_dyn_within::<16>(lanes & u8x32::splat(15))

@@ -3,11 +3,11 @@
 
 ghost use Rattle.std.specs.Prelude.{◌≡◌, List, Bool, ◌+◌, ◌*◌, ◌%◌, ◌<◌, ◌≤◌, ◌∷◌, [], ◌++◌, false, length, map, take, replicate, slice_index};
 ghost use Rattle.std.specs.Simd.Lanes.{chunk, mask_l};
-ghost use Rattle.cesu8_decode.specs.DecodedLanes.{is_high, written, written_lanes, AreShufflesOfFour};
+ghost use Rattle.cesu8_decode.specs.DecodedLanes.{is_high, written, written_lanes};
 
 use super::offsets::BLOCK;
+use super::rows::rows;
 use super::rows_of_eight::rows_of_eight;
-use cesu8_bytes::Rows;
 use std::simd::prelude::*;
 
 /// The most bytes that are written for one byte: those of the replacement character.
@@ -34,8 +34,7 @@ pub struct Parts {
 
 /// Stores what becomes of a block, and returns its end.
 #[inline(always)]
-pub fn store(parts: Parts, rows: &Rows, out: &mut [u8], at: usize) -> usize
-    requires rows { AreShufflesOfFour rows.now }
+pub fn store(parts: Parts, out: &mut [u8], at: usize) -> usize
     requires room { at + ROOM ≤ length out.old }
     ensures bytes { take result out.new
         ≡ take at out.old ++ written_lanes parts.gone parts.ill_formed parts.bytes }
@@ -49,7 +48,6 @@ pub fn store(parts: Parts, rows: &Rows, out: &mut [u8], at: usize) -> usize
         parts.bytes.extract::<0, HALF>(),
         parts.gone.extract::<0, HALF>(),
         parts.ill_formed.extract::<0, HALF>(),
-        rows,
         out,
         at,
     );
@@ -57,7 +55,6 @@ pub fn store(parts: Parts, rows: &Rows, out: &mut [u8], at: usize) -> usize
         parts.bytes.extract::<HALF, HALF>(),
         parts.gone.extract::<HALF, HALF>(),
         parts.ill_formed.extract::<HALF, HALF>(),
-        rows,
         out,
         at,
     )
@@ -119,15 +116,7 @@ const REPLACEMENTS: [u8; 16] = [
 
 /// Stores what becomes of sixteen bytes.
 #[inline(always)]
-fn store_half(
-    bytes: u8x16,
-    gone: u8x16,
-    ill_formed: u8x16,
-    rows: &Rows,
-    out: &mut [u8],
-    at: usize,
-) -> usize
-    requires rows { AreShufflesOfFour rows.now }
+fn store_half(bytes: u8x16, gone: u8x16, ill_formed: u8x16, out: &mut [u8], at: usize) -> usize
     requires room { at + WIDEST * HALF + STORED ≤ length out.old }
     ensures bytes { take result out.new ≡ take at out.old ++ written_lanes gone ill_formed bytes }
     ensures end { (at ≤ result) × (result ≤ at + WIDEST * HALF) }
@@ -150,10 +139,10 @@ fn store_half(
         ill_formed,
         [8, 9, 10, 11, 24, 25, 26, 27, 12, 13, 14, 15, 28, 29, 30, 31],
     )) as usize;
-    let at = store_four(first, front & 0xFF, rows, out, at);
-    let at = store_four(second_of(first), front >> 8 & 0xFF, rows, out, at);
-    let at = store_four(third, back & 0xFF, rows, out, at);
-    store_four(second_of(third), back >> 8 & 0xFF, rows, out, at)
+    let at = store_four(first, front & 0xFF, out, at);
+    let at = store_four(second_of(first), front >> 8 & 0xFF, out, at);
+    let at = store_four(third, back & 0xFF, out, at);
+    store_four(second_of(third), back >> 8 & 0xFF, out, at)
 }
 
 /// Returns the upper half of some lanes, twice.
@@ -168,8 +157,7 @@ fn second_of(lanes: u8x16) -> u8x16
 /// returns its end. The lower four bits of the set mark those that go, and the others those that
 /// are ill-formed.
 #[inline(always)]
-fn store_four(lanes: u8x16, set: usize, rows: &Rows, out: &mut [u8], at: usize) -> usize
-    requires rows { AreShufflesOfFour rows.now }
+fn store_four(lanes: u8x16, set: usize, out: &mut [u8], at: usize) -> usize
     requires small { set < 0x100 }
     requires replacement { chunk 4 3 lanes ≡ 0xEF ∷ 0xBF ∷ 0xBD ∷ [] }
     requires room { at + STORED ≤ length out.old }
@@ -179,7 +167,7 @@ fn store_four(lanes: u8x16, set: usize, rows: &Rows, out: &mut [u8], at: usize) 
     ensures end { (at ≤ result) × (result ≤ at + WIDEST * 4) }
     ensures len { length out.new ≡ length out.old }
 {
-    let row = &rows[set];
+    let row = &rows()[set];
     let packed = picked(lanes, u8x16::from_array(*row));
     packed.copy_to_slice(&mut out[at..]);
     at + row[15] as usize

@@ -15,11 +15,10 @@ ghost use Rattle.std.specs.Simd.Lanes.{sel_l};
 ghost use Rattle.cesu8_text.specs.Encoding.{Flavor};
 ghost use Rattle.cesu8_bytes.specs.Kernels.{mask};
 ghost use Rattle.cesu8_decode.specs.DecodedOffsets.{decoded, is_ill_formed_at};
-ghost use Rattle.cesu8_decode.specs.DecodedLanes.{AreKindsNear, AreShufflesOfFour, is_high, goes_at, byte_at, written_lanes};
+ghost use Rattle.cesu8_decode.specs.DecodedLanes.{AreKindsNear, is_high, goes_at, byte_at, written_lanes};
 
 use super::offsets::{BLOCK, Kinds, PAIR, REACH, THREE, equal, look_up};
 use super::packing::{Parts, ROOM, WIDEST, highest_bits, store};
-use cesu8_bytes::Rows;
 use cesu8_bytes::flavor::{Flavor, nulls};
 use std::simd::prelude::*;
 
@@ -59,14 +58,12 @@ pub fn write_block<F: Flavor>(
     kinds: &Kinds,
     at: usize,
     count: usize,
-    rows: &Rows,
     out: &mut [u8],
     end: usize,
 ) -> Block
     requires count { count ≤ BLOCK }
     requires window { at + REACH ≤ length window.now }
     requires kinds { AreKindsNear F.flavor window.now at kinds.now }
-    requires rows { AreShufflesOfFour rows.now }
     requires room { end + ROOM ≤ length out.old }
     ensures bytes { take result.end out.new
         ≡ take end out.old ++ decoded F.flavor window.now at count }
@@ -80,7 +77,7 @@ pub fn write_block<F: Flavor>(
     let parts = parts_at::<F>(window, kinds, at, count);
     let is_ill_formed = highest_bits(parts.ill_formed) != 0;
     Block {
-        end: store(parts, rows, out, end),
+        end: store(parts, out, end),
         is_ill_formed,
     }
 }

@@ -11,7 +11,6 @@ ghost use Rattle.cesu8_decode.specs.Decoding.{ReadsFirst};
 use super::offsets::{BLOCK, PAIR, THREE, near, starts};
 use super::packing::{ROOM, WIDEST};
 use super::parts::write_block;
-use super::rows::rows;
 use super::way::{LONG_WINDOW, MEDIUM_WINDOW, SHORT_WINDOW};
 use cesu8_bytes::flavor::Flavor;
 use std::simd::prelude::*;
@@ -158,7 +157,7 @@ fn write_blocks<F: Flavor>(window: &[u8], count: usize, out: &mut [u8]) -> Decod
         let left = count - at;
         let len = if left < BLOCK { left } else { BLOCK };
         let here = starts::<F>(window, at + BEFORE);
-        let block = write_block::<F>(window, &near(before, here), at, len, rows(), out, end);
+        let block = write_block::<F>(window, &near(before, here), at, len, out, end);
         end = block.end;
         is_ill_formed = is_ill_formed | block.is_ill_formed;
         before = here;

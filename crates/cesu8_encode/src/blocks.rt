@@ -7,13 +7,13 @@
 ghost use Rattle.std.specs.Prelude.{◌≡◌, ℕ, List, Bool, ◌+◌, ◌*◌, ◌%◌, ◌/◌, ◌^◌, ◌<◌, ◌≤◌, ◌==◌, ◌++◌, map, length, take, IsTrue};
 ghost use Rattle.std.specs.Simd.Lanes.{chunk, zip2, mask_l};
 ghost use Rattle.cesu8_text.specs.Encoding.{Flavor as AnyFlavor};
-ghost use Rattle.cesu8_encode.specs.EncodedOffsets.{six_bits, packed, encoded_bytes, AreShuffles, AreLanes};
+ghost use Rattle.cesu8_encode.specs.EncodedOffsets.{six_bits, packed, encoded_bytes, AreLanes};
 
 use super::rows::rows;
+use cesu8_bytes::BLOCK;
 use cesu8_bytes::flavor::{Flavor, nulls};
 use cesu8_bytes::implementation::class::{AtLeastF0, mask};
 use cesu8_bytes::writers::put;
-use cesu8_bytes::{BLOCK, Rows};
 use std::simd::prelude::*;
 
 /// How many bytes before a block are read with it, since they decide what its bytes become.
@@ -83,6 +83,7 @@ fn encode_block<F: Flavor>(window: &[u8], at: usize) -> EncodedBlock
     let null = nulls::<F>(bytes);
 
     let six_bits = six_bits(bytes, u8x32::from_slice(&window[at + 3..]));
+    // For a lead byte 80 becomes 9F: A0, the least second byte of a pair, less the plane offset.
     let of_high = six_bits + (u8x32::splat(0x80) + (lead & u8x32::splat(0x1F)));
     let other = bytes | (lead_two_before & u8x32::splat(0x30)) | (null & u8x32::splat(0x80));
     let is_of_high = lead | lead_before;
@@ -117,8 +118,7 @@ fn bits(lanes: u8x32) -> u64
 
 /// Stores a row, packed, and returns the end of its content.
 #[inline(always)]
-fn store_row(lanes: u8x16, doubled: usize, rows: &Rows, out: &mut [u8], at: usize) -> usize
-    requires rows { AreShuffles rows.now }
+fn store_row(lanes: u8x16, doubled: usize, out: &mut [u8], at: usize) -> usize
     requires small { doubled < 0x100 }
     requires room { at + ROW_STORED ≤ length out.old }
     ensures bytes { (ts : List Bool) → length ts ≡ ROW → doubled ≡ mask_l ts
@@ -127,7 +127,7 @@ fn store_row(lanes: u8x16, doubled: usize, rows: &Rows, out: &mut [u8], at: usiz
     ensures end { (at ≤ result) × (result ≤ at + ROW_STORED) }
     ensures len { length out.new ≡ length out.old }
 {
-    let packed = lanes.swizzle_dyn(u8x16::from_array(rows[doubled]));
+    let packed = lanes.swizzle_dyn(u8x16::from_array(rows()[doubled]));
     packed.copy_to_slice(&mut out[at..]);
     at + ROW + doubled.count_ones() as usize
 }
@@ -145,21 +145,13 @@ fn store_block(block: &EncodedBlock, count: usize, out: &mut [u8], end: usize) -
         → result ≡ end + length (encoded_bytes f window at count) }
     ensures len { length out.new ≡ length out.old }
 {
-    store_rows(block.seconds, block.firsts, block.doubled, rows(), out, end);
+    store_rows(block.seconds, block.firsts, block.doubled, out, end);
     end + count + (block.doubled & ((1 << count) - 1)).count_ones() as usize
 }
 
 /// Stores the four rows of a block, and returns the end of their content.
 #[inline(always)]
-fn store_rows(
-    seconds: u8x32,
-    firsts: u8x32,
-    doubled: u64,
-    rows: &Rows,
-    out: &mut [u8],
-    at: usize,
-) -> usize
-    requires rows { AreShuffles rows.now }
+fn store_rows(seconds: u8x32, firsts: u8x32, doubled: u64, out: &mut [u8], at: usize) -> usize
     requires room { at + BLOCK_STORED ≤ length out.old }
     ensures bytes { (ts : List Bool) → length ts ≡ BLOCK → doubled ≡ mask_l ts
         → take result out.new ≡ take at out.old ++ packed ts firsts seconds }
@@ -170,24 +162,24 @@ fn store_rows(
         firsts,
         [0, 1, 2, 3, 4, 5, 6, 7, 32, 33, 34, 35, 36, 37, 38, 39],
     );
-    let at = store_row(row, (doubled & 0xFF) as usize, rows, out, at);
+    let at = store_row(row, (doubled & 0xFF) as usize, out, at);
     let row = seconds.shuffle::<16>(
         firsts,
         [8, 9, 10, 11, 12, 13, 14, 15, 40, 41, 42, 43, 44, 45, 46, 47],
     );
-    let at = store_row(row, (doubled >> 8 & 0xFF) as usize, rows, out, at);
+    let at = store_row(row, (doubled >> 8 & 0xFF) as usize, out, at);
     let row = seconds.shuffle::<16>(
         firsts,
         [
             16, 17, 18, 19, 20, 21, 22, 23, 48, 49, 50, 51, 52, 53, 54, 55,
         ],
     );
-    let at = store_row(row, (doubled >> 16 & 0xFF) as usize, rows, out, at);
+    let at = store_row(row, (doubled >> 16 & 0xFF) as usize, out, at);
     let row = seconds.shuffle::<16>(
         firsts,
         [
             24, 25, 26, 27, 28, 29, 30, 31, 56, 57, 58, 59, 60, 61, 62, 63,
         ],
     );
-    store_row(row, (doubled >> 24 & 0xFF) as usize, rows, out, at)
+    store_row(row, (doubled >> 24 & 0xFF) as usize, out, at)
 }
