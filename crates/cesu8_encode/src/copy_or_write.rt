@@ -50,7 +50,7 @@ fn put_on_stack<F: Flavor>(text: &str, buf: &mut [u8]) -> Result<usize, NoRoom>
     ensures { PutsAnswer (encoding F.flavor (chars text.now)) result buf.old buf.new }
 {
     let mut written = [0; FEW_ENCODED];
-    let len = write::<F>(text, &mut written);
+    let len = write_few::<F>(text, &mut written);
     copy_to_slice_by_call(&written[..len], buf)
 }
 

@@ -31,6 +31,7 @@ mod rows;
 mod way;
 mod windows;
 
+use self::few::write_few;
 use self::way::{FEW, Way, way_of, write};
 use cesu8_bytes::flavor::Flavor;
 use cesu8_bytes::lengths::encoded_len;
@@ -67,7 +68,7 @@ fn encode_on_stack<F: Flavor, A: Allocator + Copy>(
     ensures { BuildsEncoding F.flavor text.now result }
 {
     let mut written = [0; FEW_ENCODED];
-    let len = write::<F>(text, &mut written);
+    let len = write_few::<F>(text, &mut written);
     copy(alloc, &written[..len])
 }
 
