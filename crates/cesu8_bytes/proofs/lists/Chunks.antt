@@ -63,7 +63,7 @@ pub nothing_left : {X : Type 0} (P : X → Type 0) (rest : List X) → length re
 nothing_left P rest none = ((λ t. absurd (false≢true t)), (λ h. absurd (omega (arith, none, h.2))))
 
 -- P holds of one of four elements where it holds of one of the first two or of the others.
-group_elements : {X : Type 0} (P : X → Type 0) (a b c d : X) → Any P (a ∷ b ∷ c ∷ d ∷ []) ↔ ((P a ⊎ P b) ⊎ (P c ⊎ P d))
+pub group_elements : {X : Type 0} (P : X → Type 0) (a b c d : X) → Any P (a ∷ b ∷ c ∷ d ∷ []) ↔ ((P a ⊎ P b) ⊎ (P c ⊎ P d))
 group_elements P a b c d = (
   (λ h. ⊎_elim (λ p. inl (inl p))
       (λ h. ⊎_elim (λ p. inl (inr p))
@@ -79,7 +79,7 @@ group_elements P a b c d = (
 )
 
 -- A list of four elements is that of its elements.
-group_listed : {X : Type 0} (xs : List X) (e : X) → length xs ≡ 4 →
+pub group_listed : {X : Type 0} (xs : List X) (e : X) → length xs ≡ 4 →
     xs ≡ get_or xs 0 e ∷ get_or xs 1 e ∷ get_or xs 2 e ∷ get_or xs 3 e ∷ []
 group_listed [] e l = absurd (omega arith)
 group_listed (a ∷ []) e l = absurd (omega arith)
@@ -87,11 +87,3 @@ group_listed (a ∷ b ∷ []) e l = absurd (omega arith)
 group_listed (a ∷ b ∷ c ∷ []) e l = absurd (omega arith)
 group_listed (a ∷ b ∷ c ∷ d ∷ []) e l = refl
 group_listed (a ∷ b ∷ c ∷ d ∷ x ∷ xs) e l = absurd (omega arith)
-
--- The same of the elements of a list of four, read by their indices.
-pub any_of_group : {X : Type 0} (P : X → Type 0) (xs : List X) (e : X) → length xs ≡ 4 →
-    Any P xs ↔ ((P (get_or xs 0 e) ⊎ P (get_or xs 1 e)) ⊎ (P (get_or xs 2 e) ⊎ P (get_or xs 3 e)))
-any_of_group P xs e l =
-    let listed = group_elements P (get_or xs 0 e) (get_or xs 1 e) (get_or xs 2 e) (get_or xs 3 e) in
-    let same = group_listed xs e l in
-    ((λ h. listed.0 (subst (Any P) same h)), (λ s. subst (Any P) (sym same) (listed.1 s)))

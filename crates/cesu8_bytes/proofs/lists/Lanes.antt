@@ -3,11 +3,12 @@ use Rattle.std.proofs.Common.{◌≡◌, ℕ, Bool, not, cond, ◌&&◌, ◌||�
 use Rattle.std.specs.List.{Any}
 use Rattle.std.proofs.lemmas.Bool.{both_ways, cases_lt, eq-eqb, eqb-false, eqb-true, le-leb, le-ltb, leb-true, lt-ltb, ne_eqb, not-true}
 use Rattle.std.proofs.lemmas.List.{length-map}
-use Rattle.std.proofs.lemmas.Simd.{mask_l-mod, tops_compared, zip2_splat_left}
+use Rattle.std.proofs.lemmas.Simd.{length-zip2, mask_l-mod, tops_compared, zip2_splat_left}
 use lib.Lanes.{zip2, sel_l, mask_l, top, Each1}
-use Rattle.cesu8_text.specs.Class.{is_four, is_null_four, is_at_least_f0}
+use Rattle.cesu8_text.specs.Class.{is_four, is_at_least_f0}
 use Rattle.cesu8_bytes.specs.Kernels.{AnyIn}
 use Rattle.cesu8_text.proofs.lists.Elements.{any_nil, any_here, any_there, any_cons}
+use Rattle.cesu8_bytes.proofs.lists.Chunks.{group_elements}
 
 -- all ones where a test holds, and else 0
 abbrev pub ones : Bool → ℕ
@@ -57,6 +58,15 @@ kept P f keeps (x ∷ xs) (y ∷ ys) e s = ⊎_elim
     (λ p. ⊎_elim (λ m. any_here P (f x y) (zip2 f xs ys) (keeps x y (inr m)))
     (λ q. any_there P (f x y) (zip2 f xs ys) (kept P f keeps xs ys (omega arith) (inr q))) (any_cons P y ys p)) s
 
+-- The same of four vectors, of which f makes one.
+kept_of_four : (P : ℕ → Type 0) (f : ℕ → ℕ → ℕ) → ((a b : ℕ) → P a ⊎ P b → P (f a b)) → (n : ℕ) (a b c d : List ℕ) →
+    length a ≡ n → length b ≡ n → length c ≡ n → length d ≡ n → Any (Any P) (a ∷ b ∷ c ∷ d ∷ []) → Any P (zip2 f (zip2 f a b) (zip2 f c d))
+kept_of_four P f keeps n a b c d long_a long_b long_c long_d some =
+    kept P f keeps (zip2 f a b) (zip2 f c d)
+    (omega (arith, length-zip2 f a b (long_a ∙ sym long_b), length-zip2 f c d (long_c ∙ sym long_d)))
+    (⊎_elim (λ s. inl (kept P f keeps a b (long_a ∙ sym long_b) s)) (λ s. inr (kept P f keeps c d (long_c ∙ sym long_d) s))
+    ((group_elements (Any P) a b c d).0 some))
+
 abbrev greater : ℕ → ℕ → ℕ
 greater a b = cond (top 7 (below a b)) b a
 
@@ -76,11 +86,12 @@ greater_keeps least a b s = ⊎_elim
     subst (λ x. IsTrue (leb least x)) (sym is) (⊎_elim (λ m. m) (λ m. le-leb least a (omega (arith, leb-true least b m, l))) s)))
     (cases_lt a b)
 
--- The greater of two lanes is at least what one of them is at least.
-pub least_in_greater : (least : ℕ) (xs ys : List ℕ) → length xs ≡ length ys → AnyIn (leb least) xs ⊎ AnyIn (leb least) ys →
-    AnyIn (leb least) (greater_lanes xs ys)
-least_in_greater least xs ys e s =
-    subst (AnyIn (leb least)) (sym (greater_each xs ys)) (kept (λ b. IsTrue (leb least b)) greater (greater_keeps least) xs ys e s)
+-- The greatest of four lanes is at least what one of them is at least.
+pub least_in_greatest : (least n : ℕ) (a b c d : List ℕ) → length a ≡ n → length b ≡ n → length c ≡ n → length d ≡ n →
+    Any (AnyIn (leb least)) (a ∷ b ∷ c ∷ d ∷ []) → AnyIn (leb least) (greater_lanes (greater_lanes a b) (greater_lanes c d))
+least_in_greatest least n a b c d long_a long_b long_c long_d some =
+    rw (greater_each (greater_lanes a b), greater_each a b, greater_each c d)
+    (kept_of_four (λ b. IsTrue (leb least b)) greater (greater_keeps least) n a b c d long_a long_b long_c long_d some)
 
 abbrev lesser : ℕ → ℕ → ℕ
 lesser a b = cond (top 7 (below a b)) a b
@@ -101,11 +112,12 @@ lesser_keeps a b s = ⊎_elim
     subst (λ x. IsTrue (eqb x 0)) (sym is) (⊎_elim (λ m. eq-eqb b 0 (omega (arith, eqb-true a 0 m, l))) (λ m. m) s)))
     (cases_lt a b)
 
--- The lesser of two lanes is 00 where one of them is.
-pub null_in_lesser : (xs ys : List ℕ) → length xs ≡ length ys → AnyIn (λ b. eqb b 0) xs ⊎ AnyIn (λ b. eqb b 0) ys →
-    AnyIn (λ b. eqb b 0) (lesser_lanes xs ys)
-null_in_lesser xs ys e s =
-    subst (AnyIn (λ b. eqb b 0)) (sym (lesser_each xs ys)) (kept (λ b. IsTrue (eqb b 0)) lesser lesser_keeps xs ys e s)
+-- The least of four lanes is 00 where one of them is.
+pub null_in_least : (n : ℕ) (a b c d : List ℕ) → length a ≡ n → length b ≡ n → length c ≡ n → length d ≡ n →
+    Any (AnyIn (λ b. eqb b 0)) (a ∷ b ∷ c ∷ d ∷ []) → AnyIn (λ b. eqb b 0) (lesser_lanes (lesser_lanes a b) (lesser_lanes c d))
+null_in_least n a b c d long_a long_b long_c long_d some =
+    rw (lesser_each (lesser_lanes a b), lesser_each a b, lesser_each c d)
+    (kept_of_four (λ b. IsTrue (eqb b 0)) lesser lesser_keeps n a b c d long_a long_b long_c long_d some)
 
 -- ---- a class by the greatest and the least
 
@@ -121,13 +133,12 @@ either_holds false t e = inr e
 pub lead_of_four : (chunks : List (List ℕ)) → Any (AnyIn is_four) chunks → Any (AnyIn is_at_least_f0) chunks
 lead_of_four chunks h = (h.0, h.1, h.2, h.3, (h.4.0, h.4.1, h.4.2, h.4.3, first_holds (leb 0xF0 h.4.1) (leb h.4.1 0xF7) h.4.4))
 
--- So a byte of the other class is F0 or more, or it is 00.
-pub lead_or_null : (chunks : List (List ℕ)) → Any (AnyIn is_null_four) chunks →
-    Any (AnyIn is_at_least_f0) chunks ⊎ Any (AnyIn (λ b. eqb b 0)) chunks
-lead_or_null chunks h = ⊎_elim
-    (λ null. inr (h.0, h.1, h.2, h.3, (h.4.0, h.4.1, h.4.2, h.4.3, null)))
-    (λ four. inl (h.0, h.1, h.2, h.3, (h.4.0, h.4.1, h.4.2, h.4.3, first_holds (leb 0xF0 h.4.1) (leb h.4.1 0xF7) four)))
-    (either_holds (eqb h.4.1 0) (is_four h.4.1) h.4.4)
+-- A byte of one class or another is of the one or of the other.
+pub either_of_any : (p q : ℕ → Bool) (chunks : List (List ℕ)) → Any (AnyIn (λ b. p b || q b)) chunks → Any (AnyIn p) chunks ⊎ Any (AnyIn q) chunks
+either_of_any p q chunks h = ⊎_elim
+    (λ one. inl (h.0, h.1, h.2, h.3, (h.4.0, h.4.1, h.4.2, h.4.3, one)))
+    (λ other. inr (h.0, h.1, h.2, h.3, (h.4.0, h.4.1, h.4.2, h.4.3, other)))
+    (either_holds (p h.4.1) (q h.4.1) h.4.4)
 
 -- ---- the test for a lane
 

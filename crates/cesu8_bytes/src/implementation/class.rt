@@ -1,8 +1,8 @@
 //! Classes of bytes, which vectors of each width mark.
 
-ghost use Rattle.std.specs.Prelude.{◌≡◌, ◌==◌, ◌||◌, ◌≤◌, ◌↔◌, ℕ, Bool, false, IsTrue, Any, map};
+ghost use Rattle.std.specs.Prelude.{◌≡◌, ◌==◌, ◌||◌, ◌≤◌, ◌↔◌, ℕ, Bool, false, nat_le, IsTrue, Any, map};
 ghost use Rattle.std.specs.Simd.Lanes.{mask_l};
-ghost use Rattle.cesu8_text.specs.Class.{is_four, is_non_ascii, is_at_least_f0, is_one_unit};
+ghost use Rattle.cesu8_text.specs.Class.{is_four, is_one_unit};
 ghost use Rattle.cesu8_bytes.specs.Kernels.{AnyIn, lane, mask};
 
 use std::marker::PhantomData;
@@ -32,6 +32,17 @@ pub trait InAllVectors: InVectors<LANES>
     + InVectors<4>
     + InVectors<2>
     + InVectors<1> {}
+
+impl<C> InAllVectors for C
+where
+    C: InVectors<LANES>
+        + InVectors<32>
+        + InVectors<16>
+        + InVectors<8>
+        + InVectors<4>
+        + InVectors<2>
+        + InVectors<1>,
+{}
 
 /// Returns whether some byte is in the class.
 #[inline(always)]
@@ -82,11 +93,14 @@ pub struct Null;
 /// F0 to F7 (hexadecimal): those whose upper five bits are those of F0.
 pub struct FourByteLead;
 
+/// A byte and all above it.
+pub struct AtLeast<const BYTE: u8>;
+
 /// F0 (hexadecimal) or more.
-pub struct AtLeastF0;
+pub type AtLeastF0 = AtLeast<0xF0>;
 
 /// 80 (hexadecimal) or more: what is not ASCII.
-pub struct NonAscii;
+pub type NonAscii = AtLeast<0x80>;
 
 /// The bytes of one class or the other.
 pub struct Either<A, B>(PhantomData<(A, B)>);
@@ -134,29 +148,16 @@ impl<const N: usize> InVectors<N> for FourByteLead {
     }
 }
 
-impl Class for AtLeastF0 {
-    ghost class = { is_at_least_f0 };
+impl<const BYTE: u8> Class for AtLeast<BYTE> {
+    ghost class = { λ b. nat_le BYTE b };
 }
 
-impl<const N: usize> InVectors<N> for AtLeastF0 {
+impl<const BYTE: u8, const N: usize> InVectors<N> for AtLeast<BYTE> {
     #[inline(always)]
     fn marks(bytes: Simd<u8, N>) -> Mask<i8, N>
-        ensures { result ≡ map (λ b. lane (is_at_least_f0 b)) bytes.entry }
+        ensures { result ≡ map (λ b. lane (nat_le BYTE b)) bytes.entry }
     {
-        bytes.simd_ge(Simd::splat(0xF0))
-    }
-}
-
-impl Class for NonAscii {
-    ghost class = { is_non_ascii };
-}
-
-impl<const N: usize> InVectors<N> for NonAscii {
-    #[inline(always)]
-    fn marks(bytes: Simd<u8, N>) -> Mask<i8, N>
-        ensures { result ≡ map (λ b. lane (is_non_ascii b)) bytes.entry }
-    {
-        bytes.simd_ge(Simd::splat(0x80))
+        bytes.simd_ge(Simd::splat(BYTE))
     }
 }
 
@@ -186,17 +187,3 @@ impl<const N: usize> InVectors<N> for OneUnit {
         bytes.simd_lt(Simd::splat(0x80)) | leads
     }
 }
-
-impl InAllVectors for NoByte {}
-
-impl InAllVectors for Null {}
-
-impl InAllVectors for FourByteLead {}
-
-impl InAllVectors for NonAscii {}
-
-impl InAllVectors for AtLeastF0 {}
-
-impl InAllVectors for OneUnit {}
-
-impl<A: InAllVectors, B: InAllVectors> InAllVectors for Either<A, B> {}
