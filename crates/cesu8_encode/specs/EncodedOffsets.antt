@@ -15,12 +15,6 @@ is_doubled f two_before b = (is_at_least_f0 b || is_at_least_f0 two_before) || i
 abbrev pub inserted : Flavor → ℕ → ℕ
 inserted f b = if is_null f b then 0xC0 else 0xED
 
--- The first n bytes are a run of bytes that are neither of these in any flavor.
-pub record IsRun (bytes : List ℕ) (n : ℕ) : Type 0 where
-  pub some : 0 < n
-  pub within : n ≤ length bytes
-  pub stay : (k : ℕ) → k < n → (0 < slice_index bytes k) × (slice_index bytes k < 0xF0)
-
 -- The last four bits of a byte and two of the next.
 abbrev pub six_bits : ℕ → ℕ → ℕ
 six_bits b next = bit_or (bit_and (b * 4 % 0x100) 0x3C) (bit_and (next / 0x10) 3)

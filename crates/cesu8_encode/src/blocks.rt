@@ -94,7 +94,7 @@ fn encode_block<F: Flavor>(window: &[u8], at: usize) -> EncodedBlock
         firsts: null
             .simd_eq(u8x32::splat(0))
             .select(u8x32::splat(0xED), u8x32::splat(0xC0)),
-        doubled: bits(doubled),
+        doubled: doubled.simd_eq(u8x32::splat(0xFF)).to_bitmask(),
     }
 }
 
@@ -106,14 +106,6 @@ fn six_bits(bytes: u8x32, next: u8x32) -> u8x32
     let high = (bytes << u8x32::splat(2)) & u8x32::splat(0x3C);
     let low = (next >> u8x32::splat(4)) & u8x32::splat(0x03);
     high | low
-}
-
-/// Returns a bit for each lane that is all ones.
-#[inline(always)]
-fn bits(lanes: u8x32) -> u64
-    ensures { result ≡ mask_l (map (λ b. b == 0xFF) lanes) }
-{
-    lanes.simd_eq(u8x32::splat(0xFF)).to_bitmask()
 }
 
 /// Stores a row, packed, and returns the end of its content.

@@ -8,7 +8,6 @@ ghost use Rattle.std.specs.Str.{chars};
 ghost use Rattle.cesu8_text.specs.Text.{IsScalarValue, utf8_of};
 ghost use Rattle.cesu8_text.specs.Encoding.{Flavor as AnyFlavor, encoding, short_form};
 ghost use Rattle.cesu8_encode.specs.Encoded.{WritesEncoding};
-ghost use Rattle.cesu8_encode.specs.EncodedOffsets.{IsRun};
 
 use cesu8_bytes::flavor::Flavor;
 use cesu8_bytes::implementation::class::{AtLeastF0, Either, Null};
@@ -43,7 +42,8 @@ pub fn write_few<F: Flavor>(text: &str, out: &mut [u8]) -> usize
     while read < bytes.len() {
         let byte = bytes[read];
         if byte >= 1 && byte < FOUR_LEAD {
-            let run = copy_some(&bytes[read..], out, end);
+            // The rest of a vector ends within the encoding, which is at least as long as the bytes.
+            let run = copy_run::<Either<Null, AtLeastF0>>(&bytes[read..], out, end);
             read += run;
             end += run;
         } else if byte == 0 {
@@ -55,22 +55,6 @@ pub fn write_few<F: Flavor>(text: &str, out: &mut [u8]) -> usize
         }
     }
     end
-}
-
-/// Copies the first byte, which stays, to an offset, and the next ones up to one that changes, as
-/// far as a vector reaches, and returns how many. The rest of the vector ends within the encoding,
-/// which is at least as long as the bytes.
-#[inline(always)]
-fn copy_some(bytes: &[u8], out: &mut [u8], at: usize) -> usize
-    requires some { 0 < length bytes.now }
-    requires first { (0 < slice_index bytes.now 0) × (slice_index bytes.now 0 < FOUR_LEAD) }
-    requires room { at + length bytes.now ≤ length out.old }
-    ensures run { IsRun bytes.now result }
-    ensures bytes { take (at + result) out.new ≡ take at out.old ++ take result bytes.now }
-    ensures behind { drop (at + length bytes.now) out.new ≡ drop (at + length bytes.now) out.old }
-    ensures len { length out.new ≡ length out.old }
-{
-    copy_run::<Either<Null, AtLeastF0>>(bytes, out, at)
 }
 
 /// Writes the encoding of U+0000 to an offset, and returns its end.

@@ -3,7 +3,7 @@
 //! The bytes around a block are read with it, since what is written for a byte depends on its
 //! neighbours. At the ends of the text, where there are none, a small array of zeros replaces them.
 
-ghost use Rattle.std.specs.Prelude.{◌≡◌, ℕ, ◌+◌, ◌*◌, ◌<◌, ◌≤◌, ◌∷◌, length, replicate, slice_index};
+ghost use Rattle.std.specs.Prelude.{◌≡◌, ℕ, ◌+◌, ◌*◌, ◌<◌, ◌≤◌, length};
 ghost use Rattle.std.specs.Str.{chars};
 ghost use Rattle.cesu8_text.specs.Encoding.{encoding};
 ghost use Rattle.cesu8_encode.specs.Encoded.{WritesEncoding};
@@ -36,7 +36,8 @@ fn write_first<F: Flavor>(text: &[u8], out: &mut [u8]) -> usize
     ensures { Writes F.flavor text.now BLOCK out.old out.new result }
 {
     let mut window = [0; BLOCK_READ];
-    put_behind_zeros(&text[..BLOCK + READ_AFTER], &mut window);
+    // Nothing precedes the block.
+    window[READ_BEFORE..].copy_from_slice(&text[..BLOCK + READ_AFTER]);
     write_block::<F>(&window, 0, BLOCK, out, 0)
 }
 
@@ -64,26 +65,8 @@ fn write_last<F: Flavor>(text: &[u8], at: usize, out: &mut [u8], end: usize) -> 
     ensures { Writes F.flavor text.now (length text.now) out.old out.new result }
 {
     let mut window = [0; BLOCK_READ];
-    put_before_zeros(&text[at - READ_BEFORE..], &mut window);
-    write_block::<F>(&window, 0, text.len() - at, out, end)
-}
-
-/// Copies bytes into a window of zeros, after two of these: nothing precedes the bytes.
-#[inline(always)]
-fn put_behind_zeros(near: &[u8], window: &mut [u8; BLOCK_READ])
-    requires short { length near.now ≤ BLOCK + READ_AFTER }
-    requires zeros { window.old ≡ replicate BLOCK_READ 0 }
-    ensures { (k : ℕ) → slice_index window.new k ≡ slice_index (0 ∷ 0 ∷ near.now) k }
-{
-    window[READ_BEFORE..READ_BEFORE + near.len()].copy_from_slice(near);
-}
-
-/// Copies bytes to the front of a window of zeros: nothing follows them.
-#[inline(always)]
-fn put_before_zeros(near: &[u8], window: &mut [u8; BLOCK_READ])
-    requires short { length near.now ≤ BLOCK_READ }
-    requires zeros { window.old ≡ replicate BLOCK_READ 0 }
-    ensures { (k : ℕ) → slice_index window.new k ≡ slice_index near.now k }
-{
+    // Nothing follows the block.
+    let near = &text[at - READ_BEFORE..];
     window[..near.len()].copy_from_slice(near);
+    write_block::<F>(&window, 0, text.len() - at, out, end)
 }

@@ -1,10 +1,10 @@
 -- Bytes of UTF-8 that are encoded one after another.
-use Rattle.std.proofs.Common.{◌≡◌, ℕ, ◌+◌, ◌-◌, ◌/◌, ◌<◌, ◌≤◌, List, [], ◌∷◌, ◌++◌, refl, sym, ap, ◌∙◌, arith, length, length-append, length-drop, get_or, take, drop, append_assoc, append-nil, subst, zero, suc}
+use Rattle.std.proofs.Common.{◌≡◌, ℕ, ◌+◌, ◌-◌, ◌/◌, ◌<◌, ◌≤◌, Bool, false, ◌||◌, eqb, leb, List, [], ◌∷◌, ◌++◌, refl, sym, ap, ◌∙◌, arith, length, length-append, length-drop, get_or, take, drop, append_assoc, append-nil, subst, zero, suc}
 use Rattle.std.specs.Str.{chars, IsUtf8}
+use Rattle.std.proofs.lemmas.Bool.Decides.{nat_tests}
 use Rattle.std.proofs.lemmas.List.{drop_more, drop-drop, get_or-drop}
 use Rattle.cesu8_text.specs.Text.{IsScalarValue, IsText, utf8_of, utf8}
 use Rattle.cesu8_text.specs.Encoding.{Flavor, Cesu8, Mutf8, encoding, short_form}
-use Rattle.cesu8_encode.specs.EncodedOffsets.{IsRun}
 use Rattle.cesu8_text.specs.Patterns.{IsContinuation}
 use Rattle.cesu8_bytes.proofs.lists.Ends.{stays_behind}
 use Rattle.cesu8_text.proofs.StdUtf8.{IsUtf8Of_chars}
@@ -129,14 +129,22 @@ byte_stays f bytes b rest more out begins some low so_far =
     stays_by f bytes b more so_far.inside so_far.text out so_far.continue so_far.scalars some low
     (sym begins ∙ so_far.rest_is) so_far.out_is
 
+-- whether a byte is 00 or F0 or more, as the encoder asks
+abbrev ends_run : ℕ → Bool
+ends_run b = eqb b 0 || leb 0xF0 b
+
+-- A byte that does not end a run stays,
+in_run : (b : ℕ) → ends_run b ≡ false → (0 < b) × (b < 0xF0)
+in_run b none = grind (arith, nat_tests)
+
 -- So does a run of such bytes.
 run_stays : (f : Flavor) (bytes : List ℕ) (n : ℕ) (rest out : List ℕ) → n ≤ length rest →
-    ((k : ℕ) → k < n → (0 < get_or rest k 0) × (get_or rest k 0 < 0xF0)) →
+    ((k : ℕ) → k < n → ends_run (get_or rest k 0) ≡ false) →
     IsEncodedSoFar f bytes rest out → IsEncodedSoFar f bytes (drop n rest) (out ++ take n rest)
 run_stays f bytes zero rest out within stay so_far = subst (IsEncodedSoFar f bytes rest) (sym (append-nil out)) so_far
 run_stays f bytes (suc n) [] out within stay so_far = absurd (omega arith)
 run_stays f bytes (suc n) (b ∷ rest) out within stay so_far =
-    let first = stay 0 (omega arith) in
+    let first = in_run b (stay 0 (omega arith)) in
     subst (IsEncodedSoFar f bytes (drop n rest)) (append_assoc out (b ∷ []) (take n rest))
     (run_stays f bytes n rest (out ++ b ∷ []) (omega arith) (λ k h. stay (suc k) (omega arith))
     (byte_stays f bytes b (b ∷ rest) rest out refl first.0 first.1 so_far))
@@ -147,13 +155,23 @@ first_is bytes rest read rest_is =
     let offset : read + 0 ≡ read = omega arith in
     ap (λ bs. get_or bs 0 0) rest_is ∙ get_or-drop read bytes 0 0 ∙ ap (λ i. get_or bytes i 0) offset
 
+-- and one that stays does not end a run.
+stays_in_run : (b : ℕ) → 0 < b → b < 0xF0 → ends_run b ≡ false
+stays_in_run b some low = grind (arith, nat_tests)
+
+-- So a byte at an offset that stays begins a run.
+pub begins_run : (bytes rest : List ℕ) (read : ℕ) → rest ≡ drop read bytes → 0 < get_or bytes read 0 → get_or bytes read 0 < 0xF0 →
+    ends_run (get_or rest 0 0) ≡ false
+begins_run bytes rest read rest_is some low =
+    let first = first_is bytes rest read rest_is in stays_in_run (get_or rest 0 0) (omega (arith, first)) (omega (arith, first))
+
 -- A run from an offset on is written.
-pub stored_run : (f : Flavor) (bytes rest out new : List ℕ) (read n : ℕ) → rest ≡ drop read bytes → IsRun rest n →
-    new ≡ out ++ take n rest → IsEncodedSoFar f bytes (drop read bytes) out → IsEncodedSoFar f bytes (drop (read + n) bytes) new
-stored_run f bytes rest out new read n rest_is run new_is so_far =
+pub stored_run : (f : Flavor) (bytes rest out new : List ℕ) (read n : ℕ) → rest ≡ drop read bytes → n ≤ length rest →
+    ((k : ℕ) → k < n → ends_run (get_or rest k 0) ≡ false) → new ≡ out ++ take n rest → IsEncodedSoFar f bytes (drop read bytes) out → IsEncodedSoFar f bytes (drop (read + n) bytes) new
+stored_run f bytes rest out new read n rest_is within run new_is so_far =
     subst (λ left. IsEncodedSoFar f bytes left new) (ap (drop n) rest_is ∙ drop-drop n read bytes)
     (subst (IsEncodedSoFar f bytes (drop n rest)) (sym new_is)
-    (run_stays f bytes n rest out run.within run.stay (subst (λ left. IsEncodedSoFar f bytes left out) (sym rest_is) so_far)))
+    (run_stays f bytes n rest out within run (subst (λ left. IsEncodedSoFar f bytes left out) (sym rest_is) so_far)))
 
 -- ---- a byte that changes
 

@@ -1,14 +1,16 @@
 -- What the encoder's vectors say of the offsets of a block.
-use Rattle.std.proofs.Common.{◌≡◌, ℕ, ◌+◌, ◌%◌, ◌^◌, ◌≤◌, List, map, length, get_or, eqb, bit_or, ap, ◌∙◌, arith}
+use Rattle.std.proofs.Common.{◌≡◌, ℕ, ◌+◌, ◌%◌, ◌^◌, ◌≤◌, List, map, length, get_or, replicate, ◌∙◌, arith}
 use Rattle.std.specs.List.{range_with_len}
 use Rattle.std.proofs.lemmas.Simd.{zip2_of_maps}
-use lib.Lanes.{zip2, mask_l, chunk}
+use Rattle.std.proofs.lemmas.List.FromFn.{length-range_with_len}
+use lib.Lanes.{zip2, mask_l, chunk, top}
 use Rattle.cesu8_text.specs.Encoding.{Flavor}
 use Rattle.cesu8_text.specs.Class.{is_at_least_f0, is_null}
 use Rattle.cesu8_bytes.specs.Kernels.{mask}
 use Rattle.cesu8_encode.specs.EncodedOffsets.{six_bits, changed_at, inserted_at, is_doubled_at}
+use Rattle.cesu8_bytes.proofs.lists.Lanes.{equal}
 use Rattle.cesu8_bytes.proofs.vectors.Loads.{loaded, marks_at, marks_here}
-use Rattle.cesu8_encode.proofs.encoder.EncodedLanes.{second_vector, second_lanes, first_vector, first_lanes, doubled_lanes, lead_or_null}
+use Rattle.cesu8_encode.proofs.encoder.EncodedLanes.{second_vector, second_lanes, first_vector, first_lanes, doubled_vector, doubled_bits, lead_or_null}
 
 -- The vectors of a block, from which its lanes are made.
 pub record AreMarks (f : Flavor) (window : List ℕ) (at : ℕ) (lead before two_before null six : List ℕ) : Type 0 where
@@ -47,8 +49,8 @@ module _ (f : Flavor) (window : List ℕ) (at : ℕ) (lead before two_before nul
   pub firsts_are : first_vector 32 null ≡ map (inserted_at f window) (range_with_len at 32)
   firsts_are = rw null_at (first_lanes (λ i. is_null f (get_or window (i + 2) 0)) (range_with_len at 32))
 
-  pub doubled_are : (bits : ℕ) → bits ≡ mask_l (map (λ x. eqb x 0xFF) (zip2 bit_or (zip2 (λ a b. (a + b) % 2 ^ 8) lead null) two_before)) →
-      bits ≡ mask_l (map (is_doubled_at f window) (range_with_len at 32))
-  doubled_are bits is = is ∙ rw (lead_at, two_before_at, null_at)
-      (ap mask_l (doubled_lanes (λ i. is_at_least_f0 (get_or window (i + 2) 0)) (λ i. is_at_least_f0 (get_or window i 0))
-      (λ i. is_null f (get_or window (i + 2) 0)) (λ i. lead_or_null f (get_or window (i + 2) 0)) (range_with_len at 32)))
+  pub doubled_are : mask_l (map (top 7) (zip2 equal (doubled_vector lead two_before null) (replicate 32 255))) % 2 ^ 64
+      ≡ mask_l (map (is_doubled_at f window) (range_with_len at 32))
+  doubled_are = rw (lead_at, two_before_at, null_at)
+      (doubled_bits (λ i. is_at_least_f0 (get_or window (i + 2) 0)) (λ i. is_at_least_f0 (get_or window i 0))
+      (λ i. is_null f (get_or window (i + 2) 0)) (λ i. lead_or_null f (get_or window (i + 2) 0)) (range_with_len at 32) (length-range_with_len at 32))

@@ -3,6 +3,7 @@ use Rattle.std.proofs.Common.{◌≡◌, ℕ, ◌+◌, ◌*◌, ◌/◌, ◌%◌
 use Rattle.std.specs.List.{flat_map}
 use Rattle.std.proofs.lemmas.Bool.{false≢true}
 use Rattle.std.proofs.lemmas.Bool.Decides.{nat_tests}
+use Rattle.std.proofs.lemmas.List.{length-map}
 use Rattle.std.proofs.lemmas.Simd.{bitmask_splat}
 use lib.Lanes.{zip2, sel_l, mask_l, top}
 use Rattle.cesu8_text.specs.Encoding.{Flavor, Cesu8, Mutf8}
@@ -52,11 +53,6 @@ six_bits_of (b ∷ bytes) (n ∷ next) e = ap (λ l. six_bits b n ∷ l) (six_bi
 pub six_bits_are : (bytes next : List ℕ) → length bytes ≡ 32 → length next ≡ 32 → six_bit_lanes 32 bytes next ≡ zip2 six_bits bytes next
 six_bits_are bytes next long long_next =
     subst (λ n. six_bit_lanes n bytes next ≡ zip2 six_bits bytes next) long (six_bits_of bytes next (long_next ∙ sym long))
-
--- The bits of the lanes that are all ones.
-pub bits_are : (lanes : List ℕ) → length lanes ≡ 32 →
-    mask_l (map (top 7) (zip2 equal lanes (replicate 32 255))) % 2 ^ 64 ≡ mask_l (map (λ b. eqb b 0xFF) lanes)
-bits_are lanes long = bitmask_splat w8 eqb lanes 32 255 long (omega arith)
 
 -- ---- what becomes of the bytes, at offsets vs
 
@@ -115,12 +111,24 @@ doubled_lane false true false h = refl
 doubled_lane false false true h = refl
 doubled_lane false false false h = refl
 
--- The lanes of three tests, joined, tell which hold. The first and the last never hold together.
-pub doubled_lanes : (a b c : ℕ → Bool) → ((v : ℕ) → (a v && c v) ≡ false) → (vs : List ℕ) →
-    map (λ x. eqb x 0xFF) (zip2 bit_or (zip2 (λ a b. (a + b) % 2 ^ 8) (map (λ v. mask (a v)) vs) (map (λ v. mask (c v)) vs)) (map (λ v. mask (b v)) vs))
+abbrev pub doubled_vector : List ℕ → List ℕ → List ℕ → List ℕ
+doubled_vector lead two_before null = zip2 bit_or (zip2 (λ a b. (a + b) % 2 ^ 8) lead null) two_before
+
+doubled_lanes : (a b c : ℕ → Bool) → ((v : ℕ) → (a v && c v) ≡ false) → (vs : List ℕ) →
+    map (λ x. eqb x 0xFF) (doubled_vector (map (λ v. mask (a v)) vs) (map (λ v. mask (b v)) vs) (map (λ v. mask (c v)) vs))
     ≡ map (λ v. (a v || b v) || c v) vs
 doubled_lanes a b c apart [] = refl
 doubled_lanes a b c apart (v ∷ vs) = λ i. doubled_lane (a v) (b v) (c v) (apart v) i ∷ doubled_lanes a b c apart vs i
+
+-- The lanes of three tests, joined, tell which hold. The first and the last never hold together.
+pub doubled_bits : (a b c : ℕ → Bool) → ((v : ℕ) → (a v && c v) ≡ false) → (vs : List ℕ) → length vs ≡ 32 →
+    mask_l (map (top 7) (zip2 equal (doubled_vector (map (λ v. mask (a v)) vs) (map (λ v. mask (b v)) vs) (map (λ v. mask (c v)) vs)) (replicate 32 255))) % 2 ^ 64
+    ≡ mask_l (map (λ v. (a v || b v) || c v) vs)
+doubled_bits a b c apart vs long =
+    let lanes = doubled_vector (map (λ v. mask (a v)) vs) (map (λ v. mask (b v)) vs) (map (λ v. mask (c v)) vs) in
+    let tell = doubled_lanes a b c apart vs in
+    let all = sym (length-map lanes (λ x. eqb x 0xFF)) ∙ ap length tell ∙ length-map vs (λ v. (a v || b v) || c v) ∙ long in
+    bitmask_splat w8 eqb lanes 32 255 all (omega arith) ∙ ap mask_l tell
 
 lead_is_not_null : (b : ℕ) → (is_at_least_f0 b && is_null Mutf8 b) ≡ false
 lead_is_not_null b = grind (arith, nat_tests)

@@ -2,7 +2,7 @@ use Rattle.cesu8_encode.proofs.encoder.EncodedBlocks.{AreMarks, seconds_are, fir
 use Rattle.cesu8_encode.proofs.blocks.encode_block.Given.{Over}
 use Rattle.cesu8_encode.proofs.blocks.encode_block.Goals as goal
 
-marks : (g : Over) (c : goal.After-bits g) → AreMarks g.F.Flavor.flavor c.args.window.now c.args.at c.mask-lead.result c.mask-lead_before.result
+marks : (g : Over) (c : goal.After-six_bits-six_bits g) → AreMarks g.F.Flavor.flavor c.args.window.now c.args.at c.mask-lead.result c.mask-lead_before.result
     c.mask-lead_two_before.result c.nulls-null.result c.six_bits-six_bits.result
 marks g c = record {
   room = c.requires;
@@ -17,5 +17,5 @@ pub returns : goal.returns
 returns g c = record {
   seconds_are = seconds_are _ _ _ _ _ _ _ _ (marks g c);
   firsts_are = firsts_are _ _ _ _ _ _ _ _ (marks g c);
-  doubled_is = doubled_are _ _ _ _ _ _ _ _ (marks g c) _ c.bits.ensures;
+  doubled_is = doubled_are _ _ _ _ _ _ _ _ (marks g c);
 }

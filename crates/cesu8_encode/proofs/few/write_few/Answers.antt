@@ -2,7 +2,7 @@ use Rattle.std.proofs.Common.{◌∙◌, ap, refl, arith, length, take, length-d
 use Rattle.std.proofs.lemmas.List.{drop_all, take_rest, length-take-le}
 use Rattle.std.specs.Str.{chars}
 use Rattle.cesu8_text.specs.Encoding.{encoding}
-use Rattle.cesu8_encode.proofs.encoder.BytesInTurn.{none_encoded, all_encoded, fits_with_rest, first_is, stored_run, stored_null, room_for_null, pair_at, stored_pair, room_for_pair, still_behind, length_of_null}
+use Rattle.cesu8_encode.proofs.encoder.BytesInTurn.{none_encoded, all_encoded, fits_with_rest, begins_run, stored_run, stored_null, room_for_null, pair_at, stored_pair, room_for_pair, still_behind, length_of_null}
 use Rattle.cesu8_encode.proofs.few.write_few.Goals as goal
 
 pub loop-read-init : goal.loop-read-init
@@ -19,23 +19,22 @@ loop-read-init g c =
       behind = refl;
     }
 
-pub copy_some-run-requires-clause-first : goal.copy_some-run-requires-clause-first
-copy_some-run-requires-clause-first g c =
-    let first = first_is c.as_bytes-bytes.result.now _ c.loop-read.read (take_rest c.as_bytes-bytes.result.now c.loop-read.read) in
-    (omega (arith, first), omega (arith, first))
+pub copy_run-run-requires-clause-first : goal.copy_run-run-requires-clause-first
+copy_run-run-requires-clause-first g c =
+    begins_run c.as_bytes-bytes.result.now _ c.loop-read.read (take_rest c.as_bytes-bytes.result.now c.loop-read.read) (omega arith) (omega arith)
 
 pub loop-read-preserved-then-byte-lt-FOUR_LEAD : goal.loop-read-preserved-then-byte-lt-FOUR_LEAD
 loop-read-preserved-then-byte-lt-FOUR_LEAD g c =
     let rest_is = take_rest c.as_bytes-bytes.result.now c.loop-read.read in
     let left = length-drop c.loop-read.read c.as_bytes-bytes.result.now in
     record {
-      so_far = stored_run g.F.Flavor.flavor c.as_bytes-bytes.result.now _ (take c.loop-read.end c.loop-read.out) _ c.loop-read.read c.copy_some-run.result
-          rest_is c.copy_some-run.ensures.run c.copy_some-run.ensures.bytes c.loop-read.invariant.so_far;
-      within = omega (arith, left, ap length rest_is, c.copy_some-run.ensures.run.within);
-      room = omega (arith, left, ap length rest_is, c.copy_some-run.ensures.run.within, c.copy_some-run.ensures.len);
-      len = c.copy_some-run.ensures.len ∙ c.loop-read.invariant.len;
+      so_far = stored_run g.F.Flavor.flavor c.as_bytes-bytes.result.now _ (take c.loop-read.end c.loop-read.out) _ c.loop-read.read c.copy_run-run.result
+          rest_is c.copy_run-run.ensures.within c.copy_run-run.ensures.run c.copy_run-run.ensures.bytes c.loop-read.invariant.so_far;
+      within = omega (arith, left, ap length rest_is, c.copy_run-run.ensures.within);
+      room = omega (arith, left, ap length rest_is, c.copy_run-run.ensures.within, c.copy_run-run.ensures.len);
+      len = c.copy_run-run.ensures.len ∙ c.loop-read.invariant.len;
       behind = still_behind _ _ _ _ c.loop-read.out _ (omega (arith, left, ap length rest_is)) (omega arith)
-          c.copy_some-run.ensures.behind c.loop-read.invariant.behind;
+          c.copy_run-run.ensures.behind c.loop-read.invariant.behind;
     }
 
 pub write_null-end-requires : goal.write_null-end-requires

@@ -10,7 +10,7 @@ write_block-requires-clause-room g c =
     let at = c.args.at in
     omega (
       arith,
-      ap length (encoded_bytes_last f text c.put_before_zeros.new.window at (length text - at) (omega (arith, c.requires.offset)) c.put_before_zeros.ensures),
+      ap length (encoded_bytes_last f text c.copy_from_slice.new.self at (length text - at) (omega (arith, c.requires.offset)) c.copy_from_slice.ensures.after),
       room_behind f text at (length text - at) c.args.end c.args.out.now (omega (arith, c.requires.offset)) c.requires.before c.requires.room,
     )
 
@@ -19,7 +19,7 @@ returns g c =
     let f = g.F.Flavor.flavor in
     let text = c.args.text.now in
     let at = c.args.at in
-    let same = encoded_bytes_last f text c.put_before_zeros.new.window at (length text - at) (omega (arith, c.requires.offset)) c.put_before_zeros.ensures in
+    let same = encoded_bytes_last f text c.copy_from_slice.new.self at (length text - at) (omega (arith, c.requires.offset)) c.copy_from_slice.ensures.after in
     let room = room_behind f text at (length text - at) c.args.end c.args.out.now (omega (arith, c.requires.offset)) c.requires.before c.requires.room in
     let sum : at + (length text - at) ≡ length text = omega (arith, c.requires.offset) in
     record {
