@@ -124,7 +124,7 @@ fn store_row(lanes: u8x16, doubled: usize, out: &mut [u8], at: usize) -> usize
     at + ROW + doubled.count_ones() as usize
 }
 
-/// Stores a block, and returns the end of its content for its first `count` bytes.
+/// Stores the four rows of a block, and returns the end of its content for its first `count` bytes.
 #[inline(always)]
 fn store_block(block: &EncodedBlock, count: usize, out: &mut [u8], end: usize) -> usize
     requires count { count ≤ BLOCK }
@@ -137,24 +137,12 @@ fn store_block(block: &EncodedBlock, count: usize, out: &mut [u8], end: usize) -
         → result ≡ end + length (encoded_bytes f window at count) }
     ensures len { length out.new ≡ length out.old }
 {
-    store_rows(block.seconds, block.firsts, block.doubled, out, end);
-    end + count + (block.doubled & ((1 << count) - 1)).count_ones() as usize
-}
-
-/// Stores the four rows of a block, and returns the end of their content.
-#[inline(always)]
-fn store_rows(seconds: u8x32, firsts: u8x32, doubled: u64, out: &mut [u8], at: usize) -> usize
-    requires room { at + BLOCK_STORED ≤ length out.old }
-    ensures bytes { (ts : List Bool) → length ts ≡ BLOCK → doubled ≡ mask_l ts
-        → take result out.new ≡ take at out.old ++ packed ts firsts seconds }
-    ensures end { (at ≤ result) × (result ≤ at + BLOCK_STORED) }
-    ensures len { length out.new ≡ length out.old }
-{
+    let (seconds, firsts, doubled) = (block.seconds, block.firsts, block.doubled);
     let row = seconds.shuffle::<16>(
         firsts,
         [0, 1, 2, 3, 4, 5, 6, 7, 32, 33, 34, 35, 36, 37, 38, 39],
     );
-    let at = store_row(row, (doubled & 0xFF) as usize, out, at);
+    let at = store_row(row, (doubled & 0xFF) as usize, out, end);
     let row = seconds.shuffle::<16>(
         firsts,
         [8, 9, 10, 11, 12, 13, 14, 15, 40, 41, 42, 43, 44, 45, 46, 47],
@@ -173,5 +161,6 @@ fn store_rows(seconds: u8x32, firsts: u8x32, doubled: u64, out: &mut [u8], at: u
             24, 25, 26, 27, 28, 29, 30, 31, 56, 57, 58, 59, 60, 61, 62, 63,
         ],
     );
-    store_row(row, (doubled >> 24 & 0xFF) as usize, out, at)
+    store_row(row, (doubled >> 24 & 0xFF) as usize, out, at);
+    end + count + (doubled & ((1 << count) - 1)).count_ones() as usize
 }

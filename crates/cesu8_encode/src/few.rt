@@ -47,7 +47,7 @@ pub fn write_few<F: Flavor>(text: &str, out: &mut [u8]) -> usize
             read += run;
             end += run;
         } else if byte == 0 {
-            end = write_null::<F>(out, end);
+            end = put(null::<F>(), out, end);
             read += 1;
         } else {
             end = put(&pair_of(&bytes[read..]), out, end);
@@ -57,19 +57,15 @@ pub fn write_few<F: Flavor>(text: &str, out: &mut [u8]) -> usize
     end
 }
 
-/// Writes the encoding of U+0000 to an offset, and returns its end.
+/// Returns the encoding of U+0000.
 #[inline(always)]
-fn write_null<F: Flavor>(out: &mut [u8], at: usize) -> usize
-    requires { at + length (short_form F.flavor 0) ≤ length out.old }
-    ensures bytes { take result out.new ≡ take at out.old ++ short_form F.flavor 0 }
-    ensures end { result ≡ at + length (short_form F.flavor 0) }
-    ensures behind { drop result out.new ≡ drop result out.old }
-    ensures len { length out.new ≡ length out.old }
+fn null<F: Flavor>() -> &'static [u8]
+    ensures { result.now ≡ short_form F.flavor 0 }
 {
     if F::has_long_null() {
-        put(&[0xC0, 0x80], out, at)
+        &[0xC0, 0x80]
     } else {
-        put(&[0x00], out, at)
+        &[0x00]
     }
 }
 

@@ -1,4 +1,4 @@
-use Rattle.std.proofs.Common.{◌∙◌, ap, refl, arith, length, take, length-drop}
+use Rattle.std.proofs.Common.{◌++◌, ◌∙◌, ap, refl, arith, length, take, length-drop}
 use Rattle.std.proofs.lemmas.List.{drop_all, take_rest, length-take-le}
 use Rattle.std.specs.Str.{chars}
 use Rattle.cesu8_text.specs.Encoding.{encoding}
@@ -37,13 +37,14 @@ loop-read-preserved-then-byte-lt-FOUR_LEAD g c =
           c.copy_run-run.ensures.behind c.loop-read.invariant.behind;
     }
 
-pub write_null-end-requires : goal.write_null-end-requires
-write_null-end-requires g c =
+pub put-end-requires : goal.put-end-requires
+put-end-requires g c =
     let f = g.F.Flavor.flavor in
     let bytes = c.as_bytes-bytes.result.now in
     let whole = ap (λ bytes. length (encoding f (chars bytes))) c.as_bytes-bytes.ensures.value in
     omega (
       arith,
+      ap length c.null.ensures,
       room_for_null f bytes (take c.loop-read.end c.loop-read.out) c.loop-read.read c.loop-read.end (length c.loop-read.out) (omega arith)
           c.if-byte-eq0.true (length-take-le c.loop-read.end c.loop-read.out (omega (arith, c.loop-read.invariant.room)))
           (omega (arith, whole, c.requires, c.loop-read.invariant.len)) c.loop-read.invariant.so_far,
@@ -54,8 +55,8 @@ pair_of-requires g c =
     let next = pair_at g.F.Flavor.flavor c.as_bytes-bytes.result.now _ c.loop-read.read (omega arith) c.loop-read.invariant.so_far in
     rw take_rest next.long
 
-pub put-end-requires : goal.put-end-requires
-put-end-requires g c =
+pub put-end-requires-else-byte-eq0 : goal.put-end-requires-else-byte-eq0
+put-end-requires-else-byte-eq0 g c =
     let f = g.F.Flavor.flavor in
     let bytes = c.as_bytes-bytes.result.now in
     let next = pair_at f bytes (take c.loop-read.end c.loop-read.out) c.loop-read.read (omega arith) c.loop-read.invariant.so_far in
@@ -76,14 +77,15 @@ loop-read-preserved-then-byte-eq0 g c =
     let room = room_for_null f bytes (take c.loop-read.end c.loop-read.out) c.loop-read.read c.loop-read.end (length c.loop-read.out) (omega arith)
     c.if-byte-eq0.true (length-take-le c.loop-read.end c.loop-read.out (omega (arith, c.loop-read.invariant.room)))
     (omega (arith, whole, c.requires, c.loop-read.invariant.len)) c.loop-read.invariant.so_far in
+    let end = ap length c.null.ensures in
     record {
       so_far = stored_null f bytes (take c.loop-read.end c.loop-read.out) _ c.loop-read.read
-          (omega arith) c.if-byte-eq0.true c.write_null-end.ensures.bytes c.loop-read.invariant.so_far;
+          (omega arith) c.if-byte-eq0.true (c.put-end.ensures.bytes ∙ ap (λ l. take c.loop-read.end c.loop-read.out ++ l) c.null.ensures) c.loop-read.invariant.so_far;
       within = omega arith;
-      room = omega (arith, room, c.write_null-end.ensures.end, c.write_null-end.ensures.len);
-      len = c.write_null-end.ensures.len ∙ c.loop-read.invariant.len;
-      behind = still_behind _ _ _ _ c.loop-read.out _ (omega (arith, c.write_null-end.ensures.end)) (omega (arith, c.write_null-end.ensures.end, length_of_null f))
-          c.write_null-end.ensures.behind c.loop-read.invariant.behind;
+      room = omega (arith, room, end, c.put-end.ensures.end, c.put-end.ensures.len);
+      len = c.put-end.ensures.len ∙ c.loop-read.invariant.len;
+      behind = still_behind _ _ _ _ c.loop-read.out _ (omega (arith, c.put-end.ensures.end)) (omega (arith, end, c.put-end.ensures.end, length_of_null f))
+          c.put-end.ensures.behind c.loop-read.invariant.behind;
     }
 
 pub loop-read-preserved : goal.loop-read-preserved
@@ -98,12 +100,12 @@ loop-read-preserved g c =
     (omega (arith, whole, c.requires, c.loop-read.invariant.len)) in
     let left = length-drop c.loop-read.read bytes in
     record {
-      so_far = stored_pair f bytes (take c.loop-read.end c.loop-read.out) c.pair_of.result _ c.loop-read.read next pair c.put-end.ensures.bytes;
+      so_far = stored_pair f bytes (take c.loop-read.end c.loop-read.out) c.pair_of.result _ c.loop-read.read next pair c.put-end-else-byte-eq0.ensures.bytes;
       within = omega (arith, next.long, left);
-      room = omega (arith, room, c.put-end.ensures.end, c.put-end.ensures.len);
-      len = c.put-end.ensures.len ∙ c.loop-read.invariant.len;
-      behind = still_behind _ _ _ _ c.loop-read.out _ (omega (arith, c.put-end.ensures.end)) (omega (arith, next.long, left, c.put-end.ensures.end))
-          c.put-end.ensures.behind c.loop-read.invariant.behind;
+      room = omega (arith, room, c.put-end-else-byte-eq0.ensures.end, c.put-end-else-byte-eq0.ensures.len);
+      len = c.put-end-else-byte-eq0.ensures.len ∙ c.loop-read.invariant.len;
+      behind = still_behind _ _ _ _ c.loop-read.out _ (omega (arith, c.put-end-else-byte-eq0.ensures.end)) (omega (arith, next.long, left, c.put-end-else-byte-eq0.ensures.end))
+          c.put-end-else-byte-eq0.ensures.behind c.loop-read.invariant.behind;
     }
 
 pub returns-clause-written : goal.returns-clause-written
