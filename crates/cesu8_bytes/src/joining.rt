@@ -146,19 +146,7 @@ fn copy_block(bytes: &[u8], run: usize, written: usize, buffer: &mut Buffer)
     ensures { (f : AnyFlavor) → KeepsJoined f bytes.now (take written buffer.old)
         (drop run bytes.now) (take (written + run) buffer.new) }
 {
-    store(
-        u8x32::from_slice(bytes),
-        &mut buffer[written..written + BLOCK],
-    );
-}
-
-/// Stores a block.
-#[inline(always)]
-fn store(block: u8x32, out: &mut [u8])
-    requires { length out.old ≡ BLOCK }
-    ensures { out.new ≡ block }
-{
-    block.copy_to_slice(out);
+    u8x32::from_slice(bytes).copy_to_slice(&mut buffer[written..written + BLOCK]);
 }
 
 /// Joins the surrogate pair that begins the bytes, or in MUTF-8 the null character. No branch

@@ -21,7 +21,9 @@ pub fn compare_as_utf16(text: &str, other: &str) -> Ordering
     ensures { result ≡ slice_cmp nat_cmp (units (chars text.now)) (units (chars other.now)) }
 {
     let (rest, other_rest) = behind_equal_words(text.as_bytes(), other.as_bytes());
-    compare_ranks(rest, other_rest)
+    rest.iter()
+        .map(|byte| rank(*byte))
+        .cmp(other_rest.iter().map(|byte| rank(*byte)))
 }
 
 /// Returns what follows the equal words in front of some bytes and others.
@@ -34,31 +36,13 @@ fn behind_equal_words<'a, 'b>(bytes: &'a [u8], other: &'b [u8]) -> (&'a [u8], &'
         rest.split_first_chunk::<WORD>(),
         other_rest.split_first_chunk::<WORD>(),
     ) {
-        if !are_equal(word, other_word) {
+        if u64::from_le_bytes(*word) != u64::from_le_bytes(*other_word) {
             break;
         }
         rest = behind;
         other_rest = other_behind;
     }
     (rest, other_rest)
-}
-
-/// Returns whether two words are equal, by one comparison.
-#[inline(always)]
-fn are_equal(word: &[u8; WORD], other: &[u8; WORD]) -> bool
-    ensures { IsTrue result → word.now ≡ other.now }
-{
-    u64::from_le_bytes(*word) == u64::from_le_bytes(*other)
-}
-
-/// Compares bytes of UTF-8 by their ranks.
-fn compare_ranks(bytes: &[u8], other: &[u8]) -> Ordering
-    ensures { result ≡ slice_cmp nat_cmp (map utf16_rank bytes.now) (map utf16_rank other.now) }
-{
-    bytes
-        .iter()
-        .map(|byte| rank(*byte))
-        .cmp(other.iter().map(|byte| rank(*byte)))
 }
 
 /// Returns a byte of UTF-8 as a number, so that these compare as UTF-16 code units do.

@@ -1,10 +1,12 @@
 -- Lists behind equal prefixes.
-use Rattle.std.proofs.Common.{◌≡◌, ℕ, List, [], ◌∷◌, ◌++◌, map, take, drop, length, get_or, append_assoc, Equal, refl, sym, ap, ◌∙◌, ◌<◌, w64}
+use Rattle.std.proofs.Common.{◌≡◌, ℕ, List, [], ◌∷◌, ◌++◌, map, take, drop, length, get_or, append_assoc, Equal, refl, sym, ap, ◌∙◌, ◌+◌, ◌<◌, ◌≤◌, ⊎_elim, arith, w8, w64, Fits}
 use Rattle.std.specs.Int.{from_le_bytes, to_le_bytes}
 use Rattle.std.specs.Ordering.{nat_cmp}
 use Rattle.std.specs.Cmp.{nat_cmp_is}
 use Rattle.std.specs.Cmp.Lexicographic.{slice_cmp}
-use Rattle.std.proofs.lemmas.List.{map-append, take-append-drop}
+use Rattle.std.proofs.Math.ListN.{get_or-eq_default}
+use Rattle.std.proofs.lemmas.Bool.{cases_lt}
+use Rattle.std.proofs.lemmas.List.{get_or-take, get_or-append-add, length-take, map-append, take-append-drop}
 use Rattle.std.proofs.lemmas.Nat.{le_bytes_8}
 use Rattle.cesu8_bytes.specs.Prefixes.{FollowSamePrefix}
 
@@ -19,6 +21,15 @@ pub compare_mapped : (f : ℕ → ℕ) (bytes other rest other_rest : List ℕ) 
 compare_mapped f bytes other rest other_rest follow =
     rw (follow.bytes_are, follow.other_is, map-append f follow.prefix rest, map-append f follow.prefix other_rest)
     (sym (compare_behind (map f follow.prefix) (map f rest) (map f other_rest)))
+
+-- Where bytes fit, those of a word behind a prefix do.
+pub word_fits : (bytes prefix rest word : List ℕ) → ((i : ℕ) → Fits w8 (get_or bytes i 0)) → bytes ≡ prefix ++ rest → word ≡ take 8 rest →
+    (i : ℕ) → get_or word i 0 < 0x100
+word_fits bytes prefix rest word fits bytes_are word_is i = rw word_is (⊎_elim
+    (λ (l : i < 8). (let e = get_or-take 8 rest i 0 l ∙ sym (get_or-append-add prefix rest i 0) ∙ ap (λ bs. get_or bs (length prefix + i) 0) (sym bytes_are) in
+    omega (arith, e, (fits (length prefix + i)).fits)))
+    (λ (l : 8 ≤ i). omega (arith, get_or-eq_default (take 8 rest) 0 {n = i} (omega (arith, length-take 8 rest))))
+    (cases_lt i 8))
 
 -- Words of eight bytes that are equal numbers are equal bytes.
 pub same_word : (word other : List ℕ) (n m : ℕ) → length word ≡ 8 → length other ≡ 8 →

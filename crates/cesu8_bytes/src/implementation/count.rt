@@ -5,7 +5,7 @@
 //! lanes are summed once. In the bytes after these, 64 at a time, the bits of a mask are counted.
 //! The last vector overlaps the one before it, and bits that were counted there are shifted out.
 
-ghost use Rattle.std.specs.Prelude.{◌≡◌, ℕ, ◌<◌, ◌≤◌, ◌+◌, ◌-◌, ◌*◌, length, drop, count_by, sum_by};
+ghost use Rattle.std.specs.Prelude.{◌≡◌, ℕ, ◌<◌, ◌≤◌, ◌+◌, ◌-◌, ◌*◌, length, drop, sum_by};
 ghost use Rattle.std.specs.Simd.Lanes.{sum_l};
 ghost use Rattle.std.proofs.Common.{arith};
 ghost use Rattle.std.proofs.lemmas.Bool.Decides.{nat_tests};
@@ -69,15 +69,13 @@ fn block_weight<C: CountsOne>(block: &[u8]) -> usize
     requires { length block.now ≡ BYTES_IN_LANES }
     ensures { result ≡ sum_by (weight_of C.class) block.now }
 {
-    let mut ones = u8x64::splat(0);
-    let mut fours = u8x64::splat(0);
+    let (none, one) = (u8x64::splat(0), u8x64::splat(1));
+    let mut ones = none;
+    let mut fours = none;
     for i in 0..VECTORS_IN_LANES {
         let lanes = u8x64::from_slice(&block[LANES * i..]);
-        ones = ones.strict_add(C::marks(lanes).select(u8x64::splat(1), u8x64::splat(0)));
-        fours = fours.strict_add(FourByteLead::marks(lanes).select(
-            u8x64::splat(1),
-            u8x64::splat(0),
-        ));
+        ones = ones.strict_add(C::marks(lanes).select(one, none));
+        fours = fours.strict_add(FourByteLead::marks(lanes).select(one, none));
     }
     lane_sum(ones) + 2 * lane_sum(fours)
 }
@@ -149,14 +147,7 @@ fn lanes_weight<C: CountsOne + InVectors<N>, const N: usize>(
     requires { (N ≤ LANES) × (skipped ≤ N) × (skipped < LANES) }
     ensures { result ≡ sum_by (weight_of C.class) (drop skipped lanes.entry) }
 {
-    count_lanes::<C, N>(lanes, skipped) + 2 * count_lanes::<FourByteLead, N>(lanes, skipped)
-}
-
-/// Counts the lanes of a class after the first `skipped`.
-#[inline(always)]
-fn count_lanes<C: InVectors<N>, const N: usize>(lanes: Simd<u8, N>, skipped: usize) -> usize
-    requires { (N ≤ LANES) × (skipped ≤ N) × (skipped < LANES) }
-    ensures { result ≡ count_by C.class (drop skipped lanes.entry) }
-{
-    (bits::<C, N>(lanes) >> skipped).count_ones() as usize
+    let ones = bits::<C, N>(lanes) >> skipped;
+    let fours = bits::<FourByteLead, N>(lanes) >> skipped;
+    ones.count_ones() as usize + 2 * fours.count_ones() as usize
 }

@@ -4,7 +4,7 @@ ghost use Rattle.std.specs.Prelude.{◌≡◌, ◌+◌, ◌*◌, ◌<◌, ◌≤
 ghost use Rattle.cesu8_text.specs.Encoding.{Flavor as AnyFlavor};
 ghost use Rattle.cesu8_bytes.specs.Joining.{IsJoinedAfter, KeepsJoined, HasPair, AreJoinedDigits, second_third_fifth_sixth, word_of};
 
-use super::buffer::{BUFFER_LEN, Buffer, MOST_JOINED, MUST_FOLLOW, Progress};
+use super::buffer::{Buffer, MOST_JOINED, MUST_FOLLOW, Progress};
 use std::simd::prelude::*;
 
 /// How many bytes a surrogate pair has.
@@ -41,7 +41,8 @@ pub fn join_pairs<'a>(start: Progress<'a>, stop: usize, buffer: &mut Buffer) -> 
     let mut read = 0;
     let mut written = start.written;
     while bytes.len() - read > stop && is_pair(&bytes[read..]) {
-        join_pair(&bytes[read..], written, buffer);
+        let four = utf8_of_pair(&bytes[read..]);
+        buffer[written..written + PAIR_UTF8].copy_from_slice(&four);
         read += PAIR;
         written += PAIR_UTF8;
     }
@@ -49,19 +50,6 @@ pub fn join_pairs<'a>(start: Progress<'a>, stop: usize, buffer: &mut Buffer) -> 
         rest: &bytes[read..],
         written,
     }
-}
-
-/// Joins the surrogate pair that begins the bytes.
-#[inline(always)]
-fn join_pair(bytes: &[u8], written: usize, buffer: &mut Buffer)
-    requires pair { HasPair bytes.now }
-    requires long { PAIR_READ ≤ length bytes.now }
-    requires room { written + PAIR_UTF8 ≤ BUFFER_LEN }
-    ensures { (f : AnyFlavor) → KeepsJoined f bytes.now (take written buffer.old)
-        (drop PAIR bytes.now) (take (written + PAIR_UTF8) buffer.new) }
-{
-    let four = utf8_of_pair(bytes);
-    buffer[written..written + PAIR_UTF8].copy_from_slice(&four);
 }
 
 /// Returns whether a surrogate pair begins the bytes.
