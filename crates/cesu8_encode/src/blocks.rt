@@ -28,10 +28,7 @@ pub const BLOCK_READ: usize = READ_BEFORE + BLOCK + READ_AFTER;
 /// How many bytes of a block form a row.
 const ROW: usize = 8;
 
-/// How many bytes are stored for a row, whatever it becomes.
-const ROW_STORED: usize = 2 * ROW;
-
-/// How many bytes are stored for the rows of a block.
+/// How many bytes are stored for the rows of a block, whatever they become.
 const BLOCK_STORED: usize = 2 * BLOCK;
 
 /// Writes what the first `count` bytes of the block at an offset become, and returns its end.
@@ -112,11 +109,11 @@ fn six_bits(bytes: u8x32, next: u8x32) -> u8x32
 #[inline(always)]
 fn store_row(lanes: u8x16, doubled: usize, out: &mut [u8], at: usize) -> usize
     requires small { doubled < 0x100 }
-    requires room { at + ROW_STORED ≤ length out.old }
+    requires room { at + 2 * ROW ≤ length out.old }
     ensures bytes { (ts : List Bool) → length ts ≡ ROW → doubled ≡ mask_l ts
         → take result out.new
         ≡ take at out.old ++ packed ts (chunk ROW ROW lanes) (chunk 0 ROW lanes) }
-    ensures end { (at ≤ result) × (result ≤ at + ROW_STORED) }
+    ensures end { (at ≤ result) × (result ≤ at + 2 * ROW) }
     ensures len { length out.new ≡ length out.old }
 {
     let packed = lanes.swizzle_dyn(u8x16::from_array(rows()[doubled]));

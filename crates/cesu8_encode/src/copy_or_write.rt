@@ -5,7 +5,6 @@ ghost use Rattle.std.specs.Str.{chars};
 ghost use Rattle.cesu8_text.specs.Encoding.{encoding};
 ghost use Rattle.cesu8_bytes.specs.Puts.{PutsAnswer};
 
-use crate::FEW_ENCODED;
 use crate::few::{is_unchanged, write_few};
 use crate::way::{FEW, Way, way_of, write};
 use cesu8_bytes::first_looks::needs_encoded;
@@ -49,7 +48,7 @@ fn put_on_stack<F: Flavor>(text: &str, buf: &mut [u8]) -> Result<usize, NoRoom>
     requires { length text.now ≤ FEW }
     ensures { PutsAnswer (encoding F.flavor (chars text.now)) result buf.old buf.new }
 {
-    let mut written = [0; FEW_ENCODED];
+    let mut written = [0; 2 * FEW];
     let len = write_few::<F>(text, &mut written);
     copy_to_slice_by_call(&written[..len], buf)
 }

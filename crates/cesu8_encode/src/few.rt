@@ -16,9 +16,6 @@ use cesu8_bytes::joining::{PAIR, PAIR_UTF8};
 use cesu8_bytes::runs::copy_run;
 use cesu8_bytes::writers::put;
 
-/// The least lead byte of a character of four bytes.
-const FOUR_LEAD: u8 = 0xF0;
-
 /// Returns whether no byte of a text changes. It is correct for every length, and fast for a few
 /// bytes.
 #[inline(always)]
@@ -41,7 +38,7 @@ pub fn write_few<F: Flavor>(text: &str, out: &mut [u8]) -> usize
     let mut end = 0;
     while read < bytes.len() {
         let byte = bytes[read];
-        if byte >= 1 && byte < FOUR_LEAD {
+        if byte >= 1 && byte < 0xF0 {
             // The rest of a vector ends within the encoding, which is at least as long as the bytes.
             let run = copy_run::<Either<Null, AtLeastF0>>(&bytes[read..], out, end);
             read += run;

@@ -38,9 +38,6 @@ use cesu8_bytes::lengths::encoded_len;
 use cesu8_bytes::writers::{append, append_zeros, copy, make_room};
 use std::alloc::{AllocError, Allocator};
 
-/// The most bytes that the encoding of a few bytes has.
-const FEW_ENCODED: usize = 2 * FEW;
-
 /// Returns the encoding of a text, after one request for exactly its length. It is inlined, so that
 /// the result is moved only once. What it calls is not inlined: a text that is borrowed then uses
 /// no stack, and every other text only that of its way.
@@ -67,7 +64,7 @@ fn encode_on_stack<F: Flavor, A: Allocator + Copy>(
     requires { length text.now ≤ FEW }
     ensures { BuildsEncoding F.flavor text.now result }
 {
-    let mut written = [0; FEW_ENCODED];
+    let mut written = [0; 2 * FEW];
     let len = write_few::<F>(text, &mut written);
     copy(alloc, &written[..len])
 }

@@ -1,5 +1,5 @@
 -- What the vectors of the encoder hold, lane by lane.
-use Rattle.std.proofs.Common.{◌≡◌, ℕ, ◌+◌, ◌*◌, ◌/◌, ◌%◌, ◌^◌, Bool, true, false, cond, ◌||◌, ◌&&◌, List, [], ◌∷◌, ◌++◌, map, length, replicate, eqb, leb, bit_and, bit_or, refl, sym, ap, ◌∙◌, subst, arith, w8}
+use Rattle.std.proofs.Common.{◌≡◌, ℕ, ◌+◌, ◌*◌, ◌/◌, ◌%◌, ◌^◌, Bool, true, false, cond, ◌||◌, ◌&&◌, List, [], ◌∷◌, ◌++◌, map, length, replicate, eqb, bit_and, bit_or, refl, sym, ap, ◌∙◌, subst, arith, w8}
 use Rattle.std.specs.List.{flat_map}
 use Rattle.std.proofs.lemmas.Bool.{false≢true}
 use Rattle.std.proofs.lemmas.Bool.Decides.{nat_tests}
@@ -11,27 +11,6 @@ use Rattle.cesu8_text.specs.Class.{is_at_least_f0, is_null}
 use Rattle.cesu8_bytes.specs.Kernels.{mask}
 use Rattle.cesu8_encode.specs.EncodedOffsets.{six_bits, packed}
 use Rattle.cesu8_bytes.proofs.lists.Lanes.{equal}
-
-abbrev pub at_most : ℕ → ℕ → ℕ
-at_most a b = cond (leb a b) 255 0
-
--- all ones where a comparison holds
-chosen : (t : Bool) → cond (top 7 (cond t 255 0)) 255 0 ≡ mask t
-chosen true = refl
-chosen false = refl
-
-leads_of : (bytes : List ℕ) →
-    sel_l (map (top 7) (zip2 at_most (replicate (length bytes) 0xF0) bytes)) (replicate (length bytes) 0xFF) (replicate (length bytes) 0)
-    ≡ map (λ b. mask (is_at_least_f0 b)) bytes
-leads_of [] = refl
-leads_of (b ∷ bytes) = λ i. chosen (leb 0xF0 b) i ∷ leads_of bytes i
-
--- A comparison with F0 marks the lead bytes of four.
-pub lead_lanes : (bytes : List ℕ) → length bytes ≡ 32 →
-    sel_l (map (top 7) (zip2 at_most (replicate 32 0xF0) bytes)) (replicate 32 0xFF) (replicate 32 0) ≡ map (λ b. mask (is_at_least_f0 b)) bytes
-lead_lanes bytes long =
-    subst (λ n. sel_l (map (top 7) (zip2 at_most (replicate n 0xF0) bytes)) (replicate n 0xFF) (replicate n 0) ≡ map (λ b. mask (is_at_least_f0 b)) bytes)
-    long (leads_of bytes)
 
 abbrev shl : ℕ → ℕ → ℕ
 shl a b = a * 2 ^ b % 2 ^ 8

@@ -23,8 +23,8 @@ pub copy_run-run-requires-clause-first : goal.copy_run-run-requires-clause-first
 copy_run-run-requires-clause-first g c =
     begins_run c.as_bytes-bytes.result.now _ c.loop-read.read (take_rest c.as_bytes-bytes.result.now c.loop-read.read) (omega arith) (omega arith)
 
-pub loop-read-preserved-then-byte-lt-FOUR_LEAD : goal.loop-read-preserved-then-byte-lt-FOUR_LEAD
-loop-read-preserved-then-byte-lt-FOUR_LEAD g c =
+pub loop-read-preserved-then-byte-lt240 : goal.loop-read-preserved-then-byte-lt240
+loop-read-preserved-then-byte-lt240 g c =
     let rest_is = take_rest c.as_bytes-bytes.result.now c.loop-read.read in
     let left = length-drop c.loop-read.read c.as_bytes-bytes.result.now in
     record {
