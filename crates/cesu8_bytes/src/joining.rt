@@ -177,7 +177,7 @@ fn join_changed<F: Flavor>(bytes: &[u8], written: usize, buffer: &mut Buffer) ->
     let (read, utf8, len) = if leads_pair {
         (PAIR, four, PAIR_UTF8)
     } else {
-        (NULL, [0; PAIR_UTF8], NULL_UTF8)
+        (NULL, [0; PAIR_UTF8], 1)
     };
     buffer[written..written + PAIR_UTF8].copy_from_slice(&utf8);
     Some(Step { read, written: len })
@@ -202,9 +202,6 @@ const NULL_BITS: u64 = 0x80C0;
 
 /// How many bytes the null character of MUTF-8 has.
 const NULL: usize = 2;
-
-/// How many bytes the null character has in UTF-8.
-const NULL_UTF8: usize = 1;
 
 /// How many null characters of MUTF-8 a block has.
 const NULLS_IN_BLOCK: usize = BLOCK / NULL;

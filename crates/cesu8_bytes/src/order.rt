@@ -13,9 +13,6 @@ ghost use Rattle.cesu8_bytes.specs.Prefixes.{FollowSamePrefix};
 
 use std::cmp::Ordering;
 
-/// How many bytes are compared at once.
-const WORD: usize = 8;
-
 /// Compares two texts by their UTF-16 code units.
 pub fn compare_as_utf16(text: &str, other: &str) -> Ordering
     ensures { result ≡ slice_cmp nat_cmp (units (chars text.now)) (units (chars other.now)) }
@@ -33,8 +30,8 @@ fn behind_equal_words<'a, 'b>(bytes: &'a [u8], other: &'b [u8]) -> (&'a [u8], &'
     let mut rest = bytes;
     let mut other_rest = other;
     while let (Some((word, behind)), Some((other_word, other_behind))) = (
-        rest.split_first_chunk::<WORD>(),
-        other_rest.split_first_chunk::<WORD>(),
+        rest.split_first_chunk::<8>(),
+        other_rest.split_first_chunk::<8>(),
     ) {
         if u64::from_le_bytes(*word) != u64::from_le_bytes(*other_word) {
             break;

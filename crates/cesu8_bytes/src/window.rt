@@ -36,14 +36,10 @@ pub fn read_window<'a, F: Flavor>(bytes: &[u8], buffer: &'a mut Buffer) -> Optio
 {
     let step = join::<F>(bytes, MOST_JOINED.min(bytes.len() - MUST_FOLLOW), buffer);
     let Step { read, written } = copy_end(bytes, step, buffer);
-    if read == 0 {
+    if read == 0 || contains_changed::<F>(&bytes[..read]) {
         return None;
     }
-    if contains_changed::<F>(&bytes[..read]) {
-        return None;
-    }
-    let joined = &buffer[..written];
-    match basic::from_utf8(joined) {
+    match basic::from_utf8(&buffer[..written]) {
         Ok(text) => Some(Joined { read, text }),
         Err(_) => None,
     }

@@ -11,6 +11,7 @@ ghost use Rattle.cesu8_text.specs.Class.{IsFour, IsNullFour};
 ghost use Rattle.cesu8_bytes.specs.Kernels.{AnyIn, MayTest, MayTestWords, Finds, FindsInWords};
 
 use super::fallback;
+use std::simd::prelude::*;
 
 /// Returns whether some byte is F0 to F7 (hexadecimal). In UTF-8 these are the lead bytes of
 /// characters of four bytes.
@@ -81,16 +82,7 @@ fn word_at(value: &[u8], offset: usize) -> u64
     requires { offset + 8 ≤ length value.now }
     ensures { to_le_bytes w64 result ≡ slice_range value.now offset (offset + 8) }
 {
-    u64::from_le_bytes([
-        value[offset],
-        value[offset + 1],
-        value[offset + 2],
-        value[offset + 3],
-        value[offset + 4],
-        value[offset + 5],
-        value[offset + 6],
-        value[offset + 7],
-    ])
+    u64::from_le_bytes(u8x8::from_slice(&value[offset..]).to_array())
 }
 
 /// Whether some byte of the word is F0 to F7 (hexadecimal).
