@@ -3,7 +3,7 @@
 
 ghost use Rattle.std.specs.Prelude.{◌≡◌, ℕ, ◌+◌, ◌-◌, ◌*◌, ◌<◌, ◌≤◌, List, IsTrue, true, false, length, take, replicate, slice_index};
 ghost use Rattle.cesu8_text.specs.Encoding.{Flavor};
-ghost use Rattle.cesu8_decode.specs.DecodedOffsets.{IsPadded, decoded, is_ill_formed_at, is_boundary_at};
+ghost use Rattle.cesu8_decode.specs.DecodedOffsets.{decoded, is_ill_formed_at, is_boundary_at};
 ghost use Rattle.cesu8_decode.specs.DecodedLanes.{AreFiveKinds};
 ghost use Rattle.cesu8_decode.specs.DecodedWindows.{IsRead};
 ghost use Rattle.cesu8_decode.specs.Decoding.{ReadsFirst};
@@ -88,22 +88,12 @@ pub fn load<F: Flavor>(bytes: &[u8], window: &mut [u8]) -> usize
     } else {
         most
     };
-    pad(&bytes[..loaded], window);
+    window[BEFORE..BEFORE + loaded].copy_from_slice(&bytes[..loaded]);
     if loaded == bytes.len() {
         loaded
     } else {
         boundary::<F>(window, loaded - BEFORE)
     }
-}
-
-/// Copies the bytes into zeros, after five of them.
-fn pad(bytes: &[u8], window: &mut [u8])
-    requires room { length bytes.now + AROUND ≤ length window.old }
-    requires zeros { window.old ≡ replicate (length window.old) 0 }
-    ensures padded { IsPadded bytes.now window.new }
-    ensures len { length window.new ≡ length window.old }
-{
-    window[BEFORE..BEFORE + bytes.len()].copy_from_slice(bytes);
 }
 
 /// Returns the last boundary at or before an offset of a window: no encoded character crosses it.
