@@ -1,8 +1,9 @@
 //! Decodes bytes one character after another. Runs of ASCII are copied by vectors.
 
-ghost use Rattle.std.specs.Prelude.{◌≡◌, ◌+◌, ◌*◌, ◌<◌, ℕ, ◌≤◌, ◌++◌, length, take, drop, replicate, slice_index, false, true};
+ghost use Rattle.std.specs.Prelude.{◌≡◌, ◌+◌, ◌*◌, ◌<◌, ◌≤◌, length, take, drop, replicate, false, true};
 ghost use Rattle.cesu8_text.specs.Reading.{NoneBegins};
-ghost use Rattle.cesu8_decode.specs.DecodedOffsets.{one_at, IsPrefixOf};
+ghost use Rattle.cesu8_bytes.specs.Joining.{null_at};
+ghost use Rattle.cesu8_decode.specs.DecodedOffsets.{IsPrefixOf, one_at, two_at, three_at};
 ghost use Rattle.cesu8_bytes.specs.TextChunks.{IsReadSoFar};
 ghost use Rattle.cesu8_decode.specs.Decoding.{ReadsAll};
 ghost use Rattle.cesu8_bytes.specs.declared.options.Strictness.{Strictness};
@@ -10,8 +11,8 @@ ghost use Rattle.cesu8_bytes.specs.declared.options.Strictness.TheVariants.{Loss
 
 use super::packing::WIDEST;
 use super::refusal::is_refused;
-use super::widths::{is_one, width};
 use super::windows::Decoded;
+use cesu8_bytes::continuation::is_continuation;
 use cesu8_bytes::flavor::Flavor;
 use cesu8_bytes::implementation::class::{Either, NonAscii};
 use cesu8_bytes::implementation::short::copy_short;
@@ -65,80 +66,72 @@ fn write_next<F: Flavor>(bytes: &[u8], out: &mut [u8], end: usize) -> Decoded
         (drop result.read bytes.now) (take end out.old) (take result.end out.new) }
     ensures len { length out.new ≡ length out.old }
 {
-    let run = copy_ascii::<F>(bytes, out, end);
-    if run > 0 {
-        return Decoded {
-            read: run,
-            end: end + run,
-            is_ill_formed: false,
-        };
-    }
-    write_character::<F>(bytes, out, end)
-}
-
-/// Copies some characters of one byte, and returns how many: none only if the first is no such
-/// character.
-#[inline(always)]
-fn copy_ascii<F: Flavor>(bytes: &[u8], out: &mut [u8], at: usize) -> usize
-    requires some { 0 < length bytes.now }
-    requires room { at + length bytes.now ≤ length out.old }
-    ensures within { result ≤ length bytes.now }
-    ensures ascii { (i : ℕ) → i < result
-        → one_at F.flavor (slice_index bytes.now i) ≡ true }
-    ensures none { result ≡ 0 → one_at F.flavor (slice_index bytes.now 0) ≡ false }
-    ensures bytes { take (at + result) out.new ≡ take at out.old ++ take result bytes.now }
-    ensures len { length out.new ≡ length out.old }
-{
-    if !is_one::<F>(bytes[0]) {
-        return 0;
-    }
-    copy_run::<Either<F::Null, NonAscii>>(bytes, out, at)
-}
-
-/// Writes the character of two or more bytes that begins the bytes, or U+FFFD for an ill-formed
-/// byte.
-#[inline(always)]
-fn write_character<F: Flavor>(bytes: &[u8], out: &mut [u8], end: usize) -> Decoded
-    requires some { 0 < length bytes.now }
-    requires longer { one_at F.flavor (slice_index bytes.now 0) ≡ false }
-    requires room { end + WIDEST * length bytes.now ≤ length out.old }
-    ensures within { (0 < result.read) × (result.read ≤ length bytes.now)
-        × (result.end ≤ end + WIDEST * result.read) }
-    ensures character { result.is_ill_formed ≡ false → (which : Strictness)
-        → IsReadSoFar F.flavor which bytes.now
-        (drop result.read bytes.now) (take end out.old) (take result.end out.new) }
-    ensures ill_formed { result.is_ill_formed ≡ true → NoneBegins F.flavor bytes.now }
-    ensures replaced { result.is_ill_formed ≡ true → IsReadSoFar F.flavor Lossy bytes.now
-        (drop result.read bytes.now) (take end out.old) (take result.end out.new) }
-    ensures len { length out.new ≡ length out.old }
-{
     let mut padded = [0; PAIR_READ];
-    let prefix = prefix_of(bytes, &mut padded);
-    if is_pair(prefix) {
-        return Decoded {
-            read: PAIR,
-            end: put(&utf8_of_pair(prefix), out, end),
-            is_ill_formed: false,
-        };
-    }
-    let read = width::<F>(bytes, prefix);
-    if read == 0 {
-        return Decoded {
-            read: 1,
-            end: put(&REPLACEMENT, out, end),
-            is_ill_formed: true,
-        };
-    }
-    let end = match read {
-        2 if bytes[0] == 0xC0 => put(&[0], out, end),
-        2 => put(&bytes[..2], out, end),
-        _ => put(&bytes[..3], out, end),
+    let first = bytes[0];
+    let (read, end) = if is_one::<F>(first) {
+        let run = copy_run::<Either<F::Null, NonAscii>>(bytes, out, end);
+        (run, end + run)
+    } else {
+        let prefix = prefix_of(bytes, &mut padded);
+        if is_pair(prefix) {
+            (PAIR, put(&utf8_of_pair(prefix), out, end))
+        } else if is_null::<F>(first, prefix[1]) {
+            (2, put(&[0], out, end))
+        } else if is_two(first, prefix[1]) {
+            (2, put(&bytes[..2], out, end))
+        } else if is_three(first, prefix[1], prefix[2]) {
+            (3, put(&bytes[..3], out, end))
+        } else {
+            return Decoded {
+                read: 1,
+                end: put(&REPLACEMENT, out, end),
+                is_ill_formed: true,
+            };
+        }
     };
     Decoded {
         read,
         end,
         is_ill_formed: false,
     }
+}
+
+/// Returns whether a byte is a character of one byte.
+#[inline(always)]
+fn is_one<F: Flavor>(byte: u8) -> bool
+    ensures { result ≡ one_at F.flavor byte }
+{
+    byte < 0x80 && !(F::has_long_null() && byte == 0)
+}
+
+/// Returns whether two bytes are U+0000 in MUTF-8.
+#[inline(always)]
+fn is_null<F: Flavor>(first: u8, second: u8) -> bool
+    ensures { result ≡ null_at F.flavor first second }
+{
+    F::has_long_null() && first == 0xC0 && second == 0x80
+}
+
+/// Returns whether two bytes are another character of two bytes.
+#[inline(always)]
+fn is_two(first: u8, second: u8) -> bool
+    ensures { result ≡ two_at first second }
+{
+    0xC2 <= first && first < 0xE0 && is_continuation(second)
+}
+
+/// Returns whether three bytes are a character of three bytes: neither a surrogate nor what two
+/// bytes can write.
+#[inline(always)]
+fn is_three(first: u8, second: u8, third: u8) -> bool
+    ensures { result ≡ three_at first second third }
+{
+    let fits = match first {
+        0xE0 => 0xA0 <= second,
+        0xED => second < 0xA0,
+        _ => true,
+    };
+    0xE0 <= first && first < 0xF0 && is_continuation(second) && is_continuation(third) && fits
 }
 
 /// Returns the bytes if they are eight or more, or else a copy with zeros after the last.

@@ -57,21 +57,13 @@ pub fn text_of(written: &mut [u8], end: usize) -> &str
     requires utf8 { IsUtf8 (take end written.old) }
     ensures { result.now ≡ take end written.old }
 {
-    if end < PAYING {
-        return tested(&written[..end]);
+    let mut len = end;
+    if end >= PAYING {
+        written[end..end + TESTED].fill(0);
+        len = TESTED * end.div_ceil(TESTED);
     }
-    written[end..end + TESTED].fill(0);
-    &tested(&written[..TESTED * end.div_ceil(TESTED)])[..end]
-}
-
-/// Returns bytes that are UTF-8 as a text, after a test.
-#[inline(always)]
-fn tested(bytes: &[u8]) -> &str
-    requires { IsUtf8 bytes.now }
-    ensures { result.now ≡ bytes.now }
-{
-    match basic::from_utf8(bytes) {
-        Ok(text) => text,
+    match basic::from_utf8(&written[..len]) {
+        Ok(text) => &text[..end],
         Err(_) => unreachable!(),
     }
 }

@@ -2,7 +2,7 @@
 
 ghost use Rattle.cesu8_decode.specs.PutReadings.{PutsReading, PutsLenientReading};
 
-use crate::refusal::Unwritten;
+use crate::refusal::{Unwritten, is_refused};
 use crate::slices::{put_characters, put_text};
 use crate::way::comes_before_tests;
 use cesu8_bytes::ascii::{is_short_ascii, is_short_unchanged_ascii};
@@ -38,14 +38,12 @@ fn put_other_encoding<F: Flavor>(
     if comes_before_tests(bytes) {
         return put_characters::<F>(strictness, bytes, buf);
     }
-    if contains_changed::<F>(bytes) {
-        // In strict reading there is nothing to decode.
-        return match strictness {
-            Strictness::Strict => Err(Unwritten::NoText),
-            Strictness::Lossy => put_text::<F>(strictness, bytes, buf),
-        };
+    // No encoding has a byte that changes.
+    let changes = contains_changed::<F>(bytes);
+    if is_refused(strictness, changes) {
+        return Err(Unwritten::NoText);
     }
-    if is_text(bytes) {
+    if !changes && is_text(bytes) {
         return copy_to_slice_by_call(bytes, buf).map_err(Unwritten::NoRoom);
     }
     put_text::<F>(strictness, bytes, buf)

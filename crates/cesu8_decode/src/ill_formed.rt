@@ -1,7 +1,7 @@
 //! Finds ill-formed bytes before anything is written. No two encoded characters overlap, so they
 //! cover all bytes exactly if their widths sum up to the length of these.
 
-ghost use Rattle.std.specs.Prelude.{◌≡◌, ◌<◌, ◌≤◌, length, refl, IsTrue, false};
+ghost use Rattle.std.specs.Prelude.{◌≡◌, ◌<◌, length, refl, IsTrue, false};
 ghost use Rattle.std.proofs.Common.{arith};
 ghost use Rattle.cesu8_text.specs.Reading.{IsStrictReading, HasNoStrictReading, reading};
 ghost use Rattle.cesu8_decode.specs.DecodedOffsets.{covered};

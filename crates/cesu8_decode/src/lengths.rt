@@ -6,7 +6,7 @@ ghost use Rattle.std.proofs.Common.{arith};
 ghost use Rattle.std.proofs.lemmas.Bool.Decides.{nat_tests};
 ghost use Rattle.cesu8_text.specs.Reading.{IsStrictReading, HasNoStrictReading, lossy_length};
 ghost use Rattle.cesu8_text.specs.Slices.{ReadsAtLength};
-ghost use Rattle.cesu8_decode.specs.DecodedOffsets.{saved, total_weight};
+ghost use Rattle.cesu8_decode.specs.DecodedOffsets.{saved};
 
 use super::ill_formed::is_ill_formed;
 use super::sums::{BLOCKS, Weight, Weights, sum_first};
@@ -33,22 +33,14 @@ pub fn lossy_len<F: Flavor>(bytes: &[u8]) -> Option<usize>
     ensures some { IfSome result (λ len. len ≡ lossy_length F.flavor bytes.now) }
     ensures none { IfNone result (usize.MAX < lossy_length F.flavor bytes.now) }
 {
-    let most = 3 * bytes.len() as u128;
-    usize::try_from(most - saved::<F>(bytes)).ok()
-}
-
-/// Returns what all offsets save.
-fn saved<F: Flavor>(bytes: &[u8]) -> u128
-    ensures { result ≡ total_weight saved F.flavor bytes.now }
-{
-    let mut saved = 0;
+    let mut len = 3 * bytes.len() as u128;
     let mut rest = bytes;
     while !rest.is_empty() {
-        let (sum, behind) = sum_first::<F, Savings>(rest, BLOCKS);
-        saved += sum as u128;
+        let (saved, behind) = sum_first::<F, Savings>(rest, BLOCKS);
+        len -= saved as u128;
         rest = behind;
     }
-    saved
+    usize::try_from(len).ok()
 }
 
 /// What an offset saves.

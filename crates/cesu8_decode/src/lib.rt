@@ -32,7 +32,6 @@ mod slices;
 mod sums;
 mod text;
 mod way;
-mod widths;
 mod windows;
 
 use crate::refusal::Refusal;

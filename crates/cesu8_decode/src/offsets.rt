@@ -42,31 +42,31 @@ const TWICE: [usize; BLOCK] = [
     13, 14, 15,
 ];
 
+// The numbers of 32 lanes, from this one on.
+macro_rules! numbers_from {
+    ($n:literal) => {
+        numbers_from!(
+            $n; 0 1 2 3 4 5 6 7 8 9 10 11 12 13 14 15 16 17 18 19 20 21 22 23 24 25 26 27 28 29 30 31
+        )
+    };
+    ($n:literal; $($k:literal)+) => {
+        [$($n + $k),+]
+    };
+}
+
+/// The numbers of 32 lanes.
+pub const NUMBERS: [u8; BLOCK] = numbers_from!(0);
+
 // The indices of 32 lanes, from the number in the name on.
-const FROM_27: [usize; BLOCK] = [
-    27, 28, 29, 30, 31, 32, 33, 34, 35, 36, 37, 38, 39, 40, 41, 42, 43, 44, 45, 46, 47, 48, 49, 50,
-    51, 52, 53, 54, 55, 56, 57, 58,
-];
+const FROM_27: [usize; BLOCK] = numbers_from!(27);
 
-const FROM_28: [usize; BLOCK] = [
-    28, 29, 30, 31, 32, 33, 34, 35, 36, 37, 38, 39, 40, 41, 42, 43, 44, 45, 46, 47, 48, 49, 50, 51,
-    52, 53, 54, 55, 56, 57, 58, 59,
-];
+const FROM_28: [usize; BLOCK] = numbers_from!(28);
 
-const FROM_29: [usize; BLOCK] = [
-    29, 30, 31, 32, 33, 34, 35, 36, 37, 38, 39, 40, 41, 42, 43, 44, 45, 46, 47, 48, 49, 50, 51, 52,
-    53, 54, 55, 56, 57, 58, 59, 60,
-];
+const FROM_29: [usize; BLOCK] = numbers_from!(29);
 
-const FROM_30: [usize; BLOCK] = [
-    30, 31, 32, 33, 34, 35, 36, 37, 38, 39, 40, 41, 42, 43, 44, 45, 46, 47, 48, 49, 50, 51, 52, 53,
-    54, 55, 56, 57, 58, 59, 60, 61,
-];
+const FROM_30: [usize; BLOCK] = numbers_from!(30);
 
-const FROM_31: [usize; BLOCK] = [
-    31, 32, 33, 34, 35, 36, 37, 38, 39, 40, 41, 42, 43, 44, 45, 46, 47, 48, 49, 50, 51, 52, 53, 54,
-    55, 56, 57, 58, 59, 60, 61, 62,
-];
+const FROM_31: [usize; BLOCK] = numbers_from!(31);
 
 /// How many offsets form a block: as many as a vector has lanes.
 pub const BLOCK: usize = 32;
@@ -77,10 +77,10 @@ pub const BEHIND: usize = 5;
 /// How many bytes decide what begins at the offsets of a block.
 pub const REACH: usize = BLOCK + BEHIND;
 
-/// The least byte that begins two bytes or more,
+/// The least byte that begins two bytes or more.
 const LEAD: u8 = 0xC0;
 
-/// and three or more.
+/// The least byte that begins three bytes or more.
 const LEAD_OF_THREE: u8 = 0xE0;
 
 /// Returns the kinds of the 32 offsets from `at` on. If no byte can lead others, they are zeros. If

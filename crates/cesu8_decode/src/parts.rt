@@ -15,9 +15,9 @@ ghost use Rattle.std.specs.Simd.Lanes.{sel_l};
 ghost use Rattle.cesu8_text.specs.Encoding.{Flavor};
 ghost use Rattle.cesu8_bytes.specs.Kernels.{mask};
 ghost use Rattle.cesu8_decode.specs.DecodedOffsets.{decoded, is_ill_formed_at};
-ghost use Rattle.cesu8_decode.specs.DecodedLanes.{AreKindsNear, is_high, goes_at, byte_at, written_lanes};
+ghost use Rattle.cesu8_decode.specs.DecodedLanes.{AreKindsNear, is_high, goes_at, byte_at};
 
-use super::offsets::{BLOCK, Kinds, PAIR, REACH, THREE, equal, look_up};
+use super::offsets::{BLOCK, Kinds, NUMBERS, PAIR, REACH, THREE, equal, look_up};
 use super::packing::{Parts, ROOM, WIDEST, highest_bits, store};
 use cesu8_bytes::flavor::{Flavor, nulls};
 use std::simd::prelude::*;
@@ -37,12 +37,6 @@ const THIRD_BY_THIRD: [u8; 16] = [
     0x80, 0x90, 0xA0, 0xB0, 0x80, 0x90, 0xA0, 0xB0, 0x80, 0x90, 0xA0, 0xB0, 0x80, 0x90, 0xA0, 0xB0,
 ];
 
-/// The numbers of the lanes.
-const NUMBERS: [u8; BLOCK] = [
-    0, 1, 2, 3, 4, 5, 6, 7, 8, 9, 10, 11, 12, 13, 14, 15, 16, 17, 18, 19, 20, 21, 22, 23, 24, 25,
-    26, 27, 28, 29, 30, 31,
-];
-
 /// The end of what is written for a block, and whether some of its bytes are ill-formed.
 #[derive(Drop)]
 pub struct Block {
@@ -51,7 +45,7 @@ pub struct Block {
 }
 
 /// Writes what becomes of the first `count` bytes of a block, which follow `at` bytes of the window
-/// and five more.
+/// and five more. The others go.
 #[inline(always)]
 pub fn write_block<F: Flavor>(
     window: &[u8],
@@ -74,31 +68,15 @@ pub fn write_block<F: Flavor>(
     ensures end { (end ≤ result.end) × (result.end ≤ end + WIDEST * BLOCK) }
     ensures len { length out.new ≡ length out.old }
 {
-    let parts = parts_at::<F>(window, kinds, at, count);
+    let parts = Parts {
+        bytes: changed_bytes(window, kinds, at),
+        gone: gone(kinds, count),
+        ill_formed: ill_formed::<F>(window, kinds, at, count),
+    };
     let is_ill_formed = highest_bits(parts.ill_formed) != 0;
     Block {
         end: store(parts, out, end),
         is_ill_formed,
-    }
-}
-
-/// Returns what becomes of the first `count` of the 32 bytes that follow `at` bytes of the window
-/// and five more. The others go.
-#[inline(always)]
-fn parts_at<F: Flavor>(window: &[u8], kinds: &Kinds, at: usize, count: usize) -> Parts
-    requires count { count ≤ BLOCK }
-    requires window { at + REACH ≤ length window.now }
-    requires kinds { AreKindsNear F.flavor window.now at kinds.now }
-    ensures written { written_lanes result.gone result.ill_formed result.bytes
-        ≡ decoded F.flavor window.now at count }
-    ensures ill_formed { map is_high result.ill_formed
-        ≡ map (is_ill_formed_at F.flavor window.now) (range_with_len at count)
-        ++ replicate (BLOCK - count) false }
-{
-    Parts {
-        bytes: changed_bytes(window, kinds, at),
-        gone: gone(kinds, count),
-        ill_formed: ill_formed::<F>(window, kinds, at, count),
     }
 }
 

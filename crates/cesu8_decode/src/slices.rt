@@ -4,12 +4,11 @@
 //! passes find whether they are ill-formed and, if needed, how long their text is. Then it is
 //! written chunk by chunk where it stays.
 
-ghost use Rattle.std.specs.Prelude.{◌≡◌, ◌+◌, ◌*◌, ◌≤◌, List, ℕ, ◌<◌, ◌++◌, length, take};
+ghost use Rattle.std.specs.Prelude.{◌+◌, ◌*◌, ◌≤◌, List, ℕ, ◌<◌, length, take};
 ghost use Rattle.cesu8_text.specs.Encoding.{Flavor as AnyFlavor};
 ghost use Rattle.cesu8_text.specs.Reading.{reading, lossy_length};
 ghost use Rattle.cesu8_text.specs.Slices.{StandsAtFront};
 ghost use Rattle.cesu8_text.specs.Text.{utf8};
-ghost use Rattle.cesu8_bytes.specs.Puts.{PutsAnswer};
 ghost use Rattle.cesu8_decode.specs.Decoding.{ReadsAll};
 ghost use Rattle.cesu8_decode.specs.PutReadings.{PutsReading};
 
@@ -132,24 +131,17 @@ fn put_joined<F: Flavor>(
     if is_refused(strictness, decoded.is_ill_formed) {
         return Err(Unwritten::NoText);
     }
-    copy_two(joined.text.as_bytes(), &written[..decoded.end], buf).map_err(Unwritten::NoRoom)
-}
-
-/// Copies two parts to the front of a caller's buffer, one after the other, if both fit.
-#[inline(always)]
-fn copy_two(first: &[u8], second: &[u8], buf: &mut [u8]) -> Result<usize, NoRoom>
-    ensures { PutsAnswer (first.now ++ second.now) result buf.old buf.new }
-{
-    let needed = first.len() + second.len();
+    let first = joined.text.as_bytes();
+    let needed = first.len() + decoded.end;
     if buf.len() < needed {
-        return Err(NoRoom { needed });
+        return Err(Unwritten::NoRoom(NoRoom { needed }));
     }
     let end = put(first, buf, 0);
-    Ok(put(second, buf, end))
+    Ok(put(&written[..decoded.end], buf, end))
 }
 
-/// Writes the text of still more bytes, chunk by chunk, where it stays. First passes find
-/// whether there is one, and how long it is.
+/// Writes the text of still more bytes, chunk by chunk, where it stays. First passes find whether
+/// there is one, and how long it is: in strict reading it is no longer than the bytes.
 #[inline(never)]
 fn put_chunks<F: Flavor>(
     strictness: Strictness,
@@ -158,43 +150,19 @@ fn put_chunks<F: Flavor>(
 ) -> Result<usize, Unwritten>
     ensures { PutsReading F.flavor strictness bytes.now result buf.old buf.new }
 {
-    match strictness {
-        Strictness::Strict => {
-            if is_ill_formed::<F>(bytes) {
-                return Err(Unwritten::NoText);
-            }
-            put_well_formed::<F>(bytes, buf).map_err(Unwritten::NoRoom)
+    if let Strictness::Strict = strictness {
+        if is_ill_formed::<F>(bytes) {
+            return Err(Unwritten::NoText);
         }
-        Strictness::Lossy => match lossy_len::<F>(bytes) {
-            Some(len) => put_of_length::<F>(bytes, len, buf).map_err(Unwritten::NoRoom),
-            None => Err(Unwritten::TooLong),
-        },
+        if bytes.len() <= buf.len() {
+            return Ok(write_reading::<F>(bytes, buf));
+        }
     }
-}
-
-/// Writes the reading of bytes that are well-formed, if it fits.
-#[tactic(auto, unfolding(cesu8_text::specs::Reading::lossy_length))]
-fn put_well_formed<F: Flavor>(bytes: &[u8], buf: &mut [u8]) -> Result<usize, NoRoom>
-    requires { lossy_length F.flavor bytes.now ≤ length bytes.now }
-    ensures { PutsAnswer (utf8 (reading F.flavor bytes.now)) result buf.old buf.new }
-{
-    if bytes.len() <= buf.len() {
-        return Ok(write_reading::<F>(bytes, buf));
+    match lossy_len::<F>(bytes) {
+        Some(len) if len <= buf.len() => Ok(write_reading::<F>(bytes, buf)),
+        Some(len) => Err(Unwritten::NoRoom(NoRoom { needed: len })),
+        None => Err(Unwritten::TooLong),
     }
-    let len = lossy_len::<F>(bytes).unwrap();
-    put_of_length::<F>(bytes, len, buf)
-}
-
-/// Writes the lossy reading of the bytes, which has this length, if it fits.
-#[tactic(auto, unfolding(cesu8_text::specs::Reading::lossy_length))]
-fn put_of_length<F: Flavor>(bytes: &[u8], len: usize, buf: &mut [u8]) -> Result<usize, NoRoom>
-    requires { len ≡ lossy_length F.flavor bytes.now }
-    ensures { PutsAnswer (utf8 (reading F.flavor bytes.now)) result buf.old buf.new }
-{
-    if buf.len() < len {
-        return Err(NoRoom { needed: len });
-    }
-    Ok(write_reading::<F>(bytes, buf))
 }
 
 /// Writes the lossy reading of the bytes at the front of a slice that is long enough, and returns

@@ -3,7 +3,6 @@
 
 ghost use Rattle.std.specs.Prelude.{◌≡◌, ℕ, ◌+◌, ◌*◌, ◌<◌, ◌≤◌, length, map};
 ghost use Rattle.std.specs.List.{range_with_len};
-ghost use Rattle.std.specs.Simd.Lanes.{sum_l};
 ghost use Rattle.cesu8_decode.specs.DecodedOffsets.{total_weight, weight_between};
 ghost use Rattle.cesu8_decode.specs.DecodedLanes.{weight_at, TellWeights};
 
@@ -65,7 +64,7 @@ fn sum_of_blocks<F: Flavor, W: Weight>(bytes: &[u8], count: usize) -> usize
     for i in 0..count {
         lanes = lanes.strict_add(weight_lanes::<F, W>(bytes, 32 * i));
     }
-    lane_sum(lanes)
+    lanes.dot4(u8x32::splat(1)).strict_reduce_sum() as usize
 }
 
 /// Returns the weight of the offsets of a few bytes. They are followed by FF, which begins
@@ -79,14 +78,6 @@ fn sum_of_few<F: Flavor, W: Weight>(bytes: &[u8]) -> usize
     padded[..bytes.len()].copy_from_slice(bytes);
     let count = if bytes.len() > 32 { 2 } else { 1 };
     sum_of_blocks::<F, W>(&padded, count)
-}
-
-/// Returns the sum of the lanes.
-#[inline(always)]
-fn lane_sum(lanes: u8x32) -> usize
-    ensures { result ≡ sum_l lanes }
-{
-    lanes.dot4(u8x32::splat(1)).strict_reduce_sum() as usize
 }
 
 /// Returns the weights of the 32 offsets from `at` on.

@@ -86,6 +86,9 @@ fn append_window<F: Flavor, const LEN: usize, const WRITTEN: usize, A: Allocator
 }
 
 /// Appends the text of more bytes chunk by chunk, in buffers of these lengths for those by offsets.
+/// For strict reading `decode_strict` has requested memory for all. For lossy reading this is the
+/// one request, and `decode_lossy` fails at any other capacity. A length that does not fit counts
+/// as refused.
 #[inline(never)]
 fn append_chunks<F: Flavor, const LEN: usize, const WRITTEN: usize, A: Allocator>(
     strictness: Strictness,
@@ -97,7 +100,12 @@ fn append_chunks<F: Flavor, const LEN: usize, const WRITTEN: usize, A: Allocator
     ensures { AppendsText F.flavor strictness bytes.now
         result (string_bytes out.old) (string_bytes out.new) }
 {
-    request::<F, A>(strictness, bytes, out)?;
+    if let Strictness::Lossy = strictness {
+        let Some(len) = lossy_len::<F>(bytes) else {
+            return Err(Refusal::Memory(AllocError));
+        };
+        out.reserve_exact(len).map_err(Refusal::Memory)?;
+    }
     let mut buffer = [0; BUFFER_LEN];
     let mut written = [0; WRITTEN];
     let mut rest = bytes;
@@ -116,26 +124,6 @@ fn append_chunks<F: Flavor, const LEN: usize, const WRITTEN: usize, A: Allocator
         }
     }
     Ok(())
-}
-
-/// Requests memory for the text of all chunks. For strict reading `decode_strict` has done so. For
-/// lossy reading this is the one request, and `decode_lossy` fails at any other capacity. A length
-/// that does not fit counts as refused.
-fn request<F: Flavor, A: Allocator>(
-    strictness: Strictness,
-    bytes: &[u8],
-    out: &mut String<A>,
-) -> Result<(), Refusal>
-    ensures bytes { string_bytes out.new ≡ string_bytes out.old }
-    ensures invalid { OnNoText result ⊥ }
-{
-    match strictness {
-        Strictness::Strict => Ok(()),
-        Strictness::Lossy => match lossy_len::<F>(bytes) {
-            Some(len) => out.reserve_exact(len).map_err(Refusal::Memory),
-            None => Err(Refusal::Memory(AllocError)),
-        },
-    }
 }
 
 /// Appends what was written for some bytes, unless an ill-formed byte in them is refused.

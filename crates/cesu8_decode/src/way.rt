@@ -98,7 +98,12 @@ pub fn way_of<F: Flavor>(strictness: Strictness, bytes: &[u8]) -> Way
     ensures { IsWayOf F.flavor strictness bytes.now result }
 {
     let is_strict = matches!(strictness, Strictness::Strict);
-    if is_strict && bytes.len() <= FEWEST || has_few_others(bytes, most_others(bytes)) {
+    let most = if bytes.len() <= FEWEST {
+        OTHERS
+    } else {
+        FEWER_OTHERS
+    };
+    if is_strict && bytes.len() <= FEWEST || has_few_others(bytes, most) {
         return Way::Characters;
     }
     if bytes.len() <= SHORT_WINDOW {
@@ -127,18 +132,6 @@ pub fn comes_before_tests(bytes: &[u8]) -> bool
     ensures { IsTrue result → length bytes.now < READ_AT_ONCE }
 {
     bytes.len() < READ_AT_ONCE && has_few_others(bytes, FEWER_OTHERS)
-}
-
-/// Returns how many bytes may be other than 01 to 7F if all are read one character after another.
-#[inline(always)]
-fn most_others(bytes: &[u8]) -> usize
-    ensures { result ≤ OTHERS }
-{
-    if bytes.len() <= FEWEST {
-        OTHERS
-    } else {
-        FEWER_OTHERS
-    }
 }
 
 /// Returns whether the bytes are few, and at most so many of them other than 01 to 7F.

@@ -3,9 +3,8 @@
 
 ghost use Rattle.std.specs.Prelude.{◌≡◌, ℕ, ◌+◌, ◌-◌, ◌*◌, ◌<◌, ◌≤◌, List, IsTrue, true, false, length, take, replicate, slice_index};
 ghost use Rattle.cesu8_text.specs.Encoding.{Flavor};
-ghost use Rattle.cesu8_decode.specs.DecodedOffsets.{IsPadded, decoded, is_ill_formed_at, is_boundary_at};
+ghost use Rattle.cesu8_decode.specs.DecodedOffsets.{decoded, is_ill_formed_at, is_boundary_at};
 ghost use Rattle.cesu8_decode.specs.DecodedLanes.{AreFiveKinds};
-ghost use Rattle.cesu8_decode.specs.DecodedWindows.{IsRead};
 ghost use Rattle.cesu8_decode.specs.Decoding.{ReadsFirst};
 
 use super::offsets::{BLOCK, PAIR, THREE, near, starts};
@@ -65,45 +64,14 @@ pub fn write_window<F: Flavor>(bytes: &[u8], window: &mut [u8], out: &mut [u8]) 
     ensures all { length bytes.now + AROUND ≤ length window.old → result.read ≡ length bytes.now }
     ensures end { result.end + LEFT ≤ length out.new }
 {
-    let read = load::<F>(bytes, window);
-    write_blocks::<F>(window, read, out)
-}
-
-/// Copies the first bytes into a window, and returns how many of them are read: up to an offset
-/// that no encoded character crosses.
-#[inline(always)]
-pub fn load<F: Flavor>(bytes: &[u8], window: &mut [u8]) -> usize
-    requires room { LEAST ≤ length window.old }
-    requires zeros { window.old ≡ replicate (length window.old) 0 }
-    ensures some { 0 < length bytes.now → 0 < result }
-    ensures all { length bytes.now + AROUND ≤ length window.old → result ≡ length bytes.now }
-    ensures read { IsRead F.flavor bytes.now window.new result }
-    ensures inside { result + AROUND ≤ length window.new }
-    ensures before { (k : ℕ) → k < BEFORE → slice_index window.new k ≡ 0 }
-    ensures len { length window.new ≡ length window.old }
-{
-    let most = window.len() - AROUND;
-    let loaded = if bytes.len() < most {
-        bytes.len()
-    } else {
-        most
-    };
-    pad(&bytes[..loaded], window);
-    if loaded == bytes.len() {
+    let loaded = bytes.len().min(window.len() - AROUND);
+    window[BEFORE..BEFORE + loaded].copy_from_slice(&bytes[..loaded]);
+    let read = if loaded == bytes.len() {
         loaded
     } else {
         boundary::<F>(window, loaded - BEFORE)
-    }
-}
-
-/// Copies the bytes into zeros, after five of them.
-fn pad(bytes: &[u8], window: &mut [u8])
-    requires room { length bytes.now + AROUND ≤ length window.old }
-    requires zeros { window.old ≡ replicate (length window.old) 0 }
-    ensures padded { IsPadded bytes.now window.new }
-    ensures len { length window.new ≡ length window.old }
-{
-    window[BEFORE..BEFORE + bytes.len()].copy_from_slice(bytes);
+    };
+    write_blocks::<F>(window, read, out)
 }
 
 /// Returns the last boundary at or before an offset of a window: no encoded character crosses it.

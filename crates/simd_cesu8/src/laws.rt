@@ -2,46 +2,7 @@
 //! and every list of bytes, in both flavors. docs/DEFINITIONS.md defines stretch, mark, cutting and
 //! cost, with an example.
 
-ghost use Rattle.simd_cesu8.specs.Laws.{
-  RoundTrip,
-  CharsAreText,
-  CharsInUtf8,
-  SameBytes,
-  TextIsString,
-  CharsOfUtf8,
-  DecodedBack,
-  NotRefused,
-  EncodedBack,
-  Concat,
-  SameText,
-  Needs,
-  UnchangedEncoding,
-  UnchangedString,
-  NoZero,
-  Bounds,
-  NoOverlap,
-  OneMark,
-  Places,
-  HasGreedyCutting,
-  Fewest,
-  ReadingIsText,
-  ReadingOfEncoding,
-  ReadAgain,
-  LossyIsStrict,
-  NothingReplaced,
-  Split,
-  HalvesJoin,
-  Around,
-  Middle,
-  Trichotomy,
-  Transitivity,
-  SliceOrder,
-  OrderInCesu8,
-  KeyOrder,
-  OrderInMutf8,
-  NullOutOfOrder,
-  ScalarsOutOfOrder,
-};
+ghost use Rattle.simd_cesu8.specs.Laws.{RoundTrip, CharsAreText, CharsInUtf8, SameBytes, TextIsString, CharsOfUtf8, DecodedBack, NotRefused, EncodedBack, Concat, SameText, Needs, UnchangedEncoding, UnchangedString, NoZero, Bounds, NoOverlap, OneMark, Places, HasGreedyCutting, Fewest, ReadingIsText, ReadingOfEncoding, ReadAgain, LossyIsStrict, NothingReplaced, Split, HalvesJoin, Around, Middle, Trichotomy, Transitivity, SliceOrder, OrderInCesu8, KeyOrder, OrderInMutf8, NullOutOfOrder, ScalarsOutOfOrder};
 
 /// The strict reading of an encoding is the text, and texts with equal encodings are equal.
 pub fn round_trip()

@@ -1,12 +1,12 @@
 -- Text that is read a character at a time.
-use Rattle.std.proofs.Common.{◌≡◌, ℕ, zero, suc, ◌<◌, ◌≤◌, ◌⊎◌, List, [], ◌∷◌, ◌++◌, refl, sym, ap, ◌∙◌, inl, inr, ⊎_elim, Bool, true, false, not, ◌&&◌, ◌||◌, ltb, true≢false, arith, length, take, drop, get_or, append-nil, append_assoc, subst}
-use Rattle.std.proofs.lemmas.Bool.{cases_eq, cases_Bool, ltb-false}
+use Rattle.std.proofs.Common.{◌≡◌, ℕ, zero, suc, ◌<◌, ◌≤◌, ◌⊎◌, List, [], ◌∷◌, ◌++◌, refl, sym, ap, ◌∙◌, inl, inr, ⊎_elim, Bool, true, false, not, ◌&&◌, ◌||◌, eqb, ltb, true≢false, arith, length, take, drop, get_or, append-nil, append_assoc, subst}
+use Rattle.std.proofs.lemmas.Bool.{and_parts, eqb-true, cases_eq, cases_Bool, ltb-false}
 use Rattle.std.proofs.Math.Seq.{take-append_seam, drop-append_seam}
 use Rattle.cesu8_text.specs.Text.{utf8_of}
 use Rattle.cesu8_text.specs.Encoding.{Flavor, Cesu8, Mutf8, encoding}
 use Rattle.cesu8_text.specs.Reading.{NoneBegins, width, reading}
-use Rattle.cesu8_decode.specs.DecodedOffsets.{first_width, one_at}
-use Rattle.cesu8_bytes.specs.Joining.{AreJoinedDigits, second_third_fifth_sixth, HasPair}
+use Rattle.cesu8_decode.specs.DecodedOffsets.{first_width, one_at, two_at, three_at, IsPrefixOf}
+use Rattle.cesu8_bytes.specs.Joining.{null_at, AreJoinedDigits, second_third_fifth_sixth, HasPair}
 use Rattle.cesu8_bytes.specs.TextChunks.{IsReadSoFar, IsChunk}
 use Rattle.cesu8_decode.specs.Decoding.{HasFault, refuses}
 use Rattle.cesu8_bytes.specs.declared.options.Strictness.{Strictness}
@@ -16,7 +16,7 @@ use Rattle.cesu8_text.proofs.encoding.Forms.{encoding_one, encoding_two, encodin
 use Rattle.cesu8_text.proofs.encoding.Found.{found_pair}
 use Rattle.cesu8_text.proofs.encoding.Lengths.{length_of_character}
 use Rattle.cesu8_decode.proofs.by_offset.FirstWidths.{IsWide, wide, width_of_first}
-use Rattle.cesu8_decode.proofs.by_offset.WidthTests.{one_found}
+use Rattle.cesu8_decode.proofs.by_offset.WidthTests.{one_found, null_found, none_found, no_pair}
 use Rattle.cesu8_decode.proofs.chunks.ReadChunks.{nothing_read, more_read}
 use Rattle.cesu8_text.proofs.reading.Steps.{reading_character, reading_replaced}
 
@@ -109,13 +109,20 @@ null_utf8 f bytes found (three x y z digits) width_is lead =
 null_utf8 f bytes found (pair w x y z digits) width_is lead =
     absurd (omega (arith, width_is, found.wide, ap length (encoding_pair f found.character w x y z digits)))
 
--- So 00 is written for them.
-pub null_read : (f : Flavor) (which : Strictness) (bytes old new : List ℕ) → first_width f bytes ≡ 2 → get_or bytes 0 0 ≡ 0xC0 →
+-- C0 leads the null of MUTF-8.
+null_lead : (f : Flavor) (a b : ℕ) → null_at f a b ≡ true → a ≡ 0xC0
+null_lead Cesu8 a b null = absurd (cc)
+null_lead Mutf8 a b null = eqb-true a 0xC0 (and_parts (eqb a 0xC0) (eqb b 0x80) null).0
+
+-- So 00 is written for it.
+pub null_read : (f : Flavor) (which : Strictness) (bytes old new : List ℕ) → null_at f (get_or bytes 0 0) (get_or bytes 1 0) ≡ true →
     new ≡ old ++ 0 ∷ [] → IsReadSoFar f which bytes (drop 2 bytes) old new
-null_read f which bytes old new width_is lead new_is =
+null_read f which bytes old new null new_is =
+    let width_is = null_found f bytes null in
     let found = wide f bytes (omega arith) in
     character_read f which bytes old new 2 width_is found
-    (new_is ∙ ap (λ bs. old ++ bs) (null_utf8 f bytes found (shape found.character found.begins.scalar) width_is lead))
+    (new_is ∙ ap (λ bs. old ++ bs) (null_utf8 f bytes found (shape found.character found.begins.scalar) width_is
+    (null_lead f (get_or bytes 0 0) (get_or bytes 1 0) null)))
 
 -- Six bytes are a surrogate pair, and what joins its digits is its UTF-8.
 pair_utf8 : (f : Flavor) (bytes four : List ℕ) (found : IsWide f bytes) → Shape found.character → first_width f bytes ≡ 6 →
@@ -152,10 +159,25 @@ pair_read f which bytes old four new width_is joins new_is =
     (new_is ∙ ap (λ bs. old ++ bs) (pair_utf8 f bytes four found (shape found.character found.begins.scalar) width_is joins))
 
 -- Where the width is 0, no character begins the bytes,
-pub none_of_width : (f : Flavor) (bytes : List ℕ) → first_width f bytes ≡ 0 → NoneBegins f bytes
+none_of_width : (f : Flavor) (bytes : List ℕ) → first_width f bytes ≡ 0 → NoneBegins f bytes
 none_of_width f bytes width_is c rest begins =
     let long = length_of_character f c begins.scalar in
     omega (arith, width_is, width_of_first f bytes c rest begins, long.some, long.fits)
+
+-- which the tests show, of the first byte and of the prefix,
+pub none_by_prefix : (f : Flavor) (bytes prefix : List ℕ) → IsPrefixOf bytes prefix → one_at f (get_or bytes 0 0) ≡ false →
+    null_at f (get_or bytes 0 0) (get_or prefix 1 0) ≡ false → two_at (get_or bytes 0 0) (get_or prefix 1 0) ≡ false →
+    three_at (get_or bytes 0 0) (get_or prefix 1 0) (get_or prefix 2 0) ≡ false → ¬ (HasPair prefix) → NoneBegins f bytes
+none_by_prefix f bytes prefix same no_one no_null no_two no_three none =
+    none_of_width f bytes (none_found f bytes
+    (rw (sym (same 1 (omega arith)), sym (same 2 (omega arith)), sym (same 3 (omega arith)), sym (same 4 (omega arith)), sym (same 5 (omega arith)))
+    (record {
+      one = no_one;
+      null = no_null;
+      two = no_two;
+      three = no_three;
+      pair = rw (sym (same 0 (omega arith))) (no_pair prefix none);
+    })))
 
 -- and U+FFFD is written for the first of them.
 pub replaced_read : (f : Flavor) (bytes old new : List ℕ) → 0 < length bytes → NoneBegins f bytes →

@@ -110,10 +110,15 @@ pub none_refused : (which : Strictness) → refuses which false ≡ false
 none_refused Strict = refl
 none_refused Lossy = refl
 
+-- Strict reading refuses what is ill-formed, and no other does.
+pub if_refused : (which : Strictness) (is_ill_formed : Bool) → refuses which is_ill_formed ≡ true → (which ≡ Strict) × (is_ill_formed ≡ true)
+if_refused Strict is_ill_formed refused = (refl, refused)
+if_refused Lossy is_ill_formed refused = absurd (false≢true refused)
+
 fault_if_refused : (f : Flavor) (which : Strictness) (bytes text : List ℕ) (read : ℕ) (is_ill_formed : Bool) →
     ReadsFirst f bytes read text is_ill_formed → refuses which is_ill_formed ≡ true → (which ≡ Strict) × HasFault f bytes
-fault_if_refused f Strict bytes text read is_ill_formed first refused = (refl, first.ill_formed refused)
-fault_if_refused f Lossy bytes text read is_ill_formed first refused = absurd (false≢true refused)
+fault_if_refused f which bytes text read is_ill_formed first refused =
+    let is = if_refused which is_ill_formed refused in (is.0, first.ill_formed is.1)
 
 -- So bytes have no text where that of a chunk of them is refused,
 pub none_behind : (f : Flavor) (which : Strictness) (bytes rest text old out : List ℕ) (read : ℕ) (is_ill_formed : Bool) →

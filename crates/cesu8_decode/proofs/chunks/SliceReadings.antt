@@ -1,6 +1,6 @@
 -- What a call may say of a text that it writes into a caller's buffer.
 use Rattle.std.proofs.Common.{◌≡◌, ℕ, ◌^◌, ◌<◌, ◌≤◌, ◌↔◌, inl, inr, ⊎_elim, List, refl, sym, ap, ◌∙◌, subst, arith, length, length-drop, drop, [], ◌++◌, Bool, false, Result, Ok, Err, MatchResult, IsErrAnd}
-use Rattle.std.proofs.lemmas.Bool.{false≢true}
+use Rattle.std.proofs.lemmas.Bool.{false≢true, cases_lt}
 use Rattle.std.specs.Str.{chars, IsUtf8}
 use Rattle.cesu8_text.specs.Text.{utf8}
 use Rattle.cesu8_text.specs.Encoding.{Flavor}
@@ -80,9 +80,11 @@ pub strict_no_longer : (f : Flavor) (bytes : List ℕ) → IsStrictReading f byt
 unfolding lossy_length
 strict_no_longer f bytes reads = omega (arith, (length_bounds f (reading f bytes) reads.0).low, ap length reads.1)
 
--- That of the lossy reading of any,
-pub only_lossy : (f : Flavor) (bytes : List ℕ) → IsOnlyText (λ text. text ≡ reading f bytes) (reading f bytes) (utf8 (reading f bytes))
-only_lossy f bytes = record { reads = refl; only = λ other same. same; utf8_is = refl }
+-- That of bytes of which none is refused is their reading,
+pub only_reading : (f : Flavor) (which : Strictness) (bytes : List ℕ) → (which ≡ Strict → IsStrictReading f bytes (reading f bytes)) →
+    IsOnlyText (IsReadingOf f which bytes) (reading f bytes) (utf8 (reading f bytes))
+only_reading f Strict bytes whole = only_strict f bytes (reading f bytes) (whole refl)
+only_reading f Lossy bytes whole = record { reads = refl; only = λ other same. same; utf8_is = refl }
 
 -- that of UTF-8 in which nothing changes,
 pub only_unchanged : (f : Flavor) (which : Strictness) (bytes : List ℕ) → IsUnchangedUtf8 f bytes →
@@ -124,9 +126,9 @@ only_utf8 f Lossy bytes is_utf8 =
 -- ---- where it is written or not
 
 -- In strict reading the input has no text.
-pub text_lacks : (which : Strictness) (IsReading : List ℕ → Type 0) (buf : List ℕ) → which ≡ Strict →
-    ((text : List ℕ) → ¬ (IsReading text)) → PutsText which IsReading (Err unwritten.NoText) buf buf
-text_lacks which IsReading buf strictly none = record {
+pub no_strict_text : (f : Flavor) (which : Strictness) (bytes buf : List ℕ) → (which ≡ Strict) × HasNoStrictReading f bytes →
+    PutsText which (IsReadingOf f which bytes) (Err unwritten.NoText) buf buf
+no_strict_text f Strict bytes buf (strictly, none) = record {
   written = tt;
   fits = ((λ ok. absurd (false≢true ok)), (λ found. absurd (none found.0 found.1)));
   invalid = ((λ _. none), (λ _. tt));
@@ -136,49 +138,57 @@ text_lacks which IsReading buf strictly none = record {
   strict = λ _. strictly;
   lossy = λ never. absurd never;
 }
-
-pub no_strict_text : (f : Flavor) (which : Strictness) (bytes buf : List ℕ) → (which ≡ Strict) × HasNoStrictReading f bytes →
-    PutsText which (IsReadingOf f which bytes) (Err unwritten.NoText) buf buf
-no_strict_text f Strict bytes buf refused = text_lacks Strict (IsReadingOf f Strict bytes) buf refl refused.1
 no_strict_text f Lossy bytes buf refused = absurd (let no : Lossy ≡ Strict = refused.0 in cc)
 
--- The answer is written, or the buffer is too short for it.
+module _ (which : Strictness) (IsReading : List ℕ → Type 0) (text answer buf : List ℕ) (is : IsOnlyText IsReading text answer) (small : length answer < 2 ^ 64) where
+  -- The answer is written to a buffer that is long enough,
+  pub answer_put : (len : ℕ) (new : List ℕ) → length answer ≤ length buf → StandsAtFront answer len buf new → PutsText which IsReading (Ok len) buf new
+  answer_put len new room stands = record {
+    written = (text, is.reads, subst (λ a. StandsAtFront a len buf new) (sym is.utf8_is) stands);
+    fits = ((λ _. of_length IsReading (λ len. len ≤ length buf) text answer is room), (λ _. refl));
+    invalid = ((λ never. absurd never), (λ none. absurd (none text is.reads)));
+    too_long = (
+      (λ never. absurd never),
+      (λ found. absurd (omega (arith, small, at_length IsReading (λ len. 2 ^ 64 ≤ len) text answer is found))),
+    );
+    needed = tt;
+    unchanged = tt;
+    strict = λ never. absurd never;
+    lossy = λ never. absurd never;
+  }
+
+  -- and its length is returned if the buffer is shorter.
+  pub room_lacks : (no_room : NoRoom) → no_room.needed ≡ length answer → length buf < length answer →
+      PutsText which IsReading (Err (unwritten.NoRoom no_room)) buf buf
+  room_lacks no_room needed short = record {
+    written = tt;
+    fits = (
+      (λ ok. absurd (false≢true ok)),
+      (λ found. absurd (omega (arith, short, at_length IsReading (λ len. len ≤ length buf) text answer is found))),
+    );
+    invalid = ((λ never. absurd never), (λ none. absurd (none text is.reads)));
+    too_long = (
+      (λ never. absurd never),
+      (λ found. absurd (omega (arith, small, at_length IsReading (λ len. 2 ^ 64 ≤ len) text answer is found))),
+    );
+    needed = of_length IsReading (λ len. no_room.needed ≡ len) text answer is needed;
+    unchanged = refl;
+    strict = λ never. absurd never;
+    lossy = λ never. absurd never;
+  }
+
+-- One of both is told of a copy of the answer.
 pub text_put : (which : Strictness) (IsReading : List ℕ → Type 0) (text answer : List ℕ) (r : Result ℕ NoRoom) (told : Result ℕ Unwritten) (old new : List ℕ) →
     IsOnlyText IsReading text answer → length answer < 2 ^ 64 →
     MatchResult r (λ len. told ≡ Ok len) (λ fault. IsErrAnd told (λ d. d ≡ unwritten.NoRoom fault)) →
     PutsAnswer answer r old new → PutsText which IsReading told old new
 text_put which IsReading text answer (Ok len) told old new is small told_is puts =
-    subst (λ t. PutsText which IsReading t old new) (sym told_is) (record {
-      written = (text, is.reads, subst (λ a. StandsAtFront a len old new) (sym is.utf8_is) puts.written);
-      fits = ((λ _. of_length IsReading (λ len. len ≤ length old) text answer is (puts.fits.0 refl)), (λ _. refl));
-      invalid = ((λ never. absurd never), (λ none. absurd (none text is.reads)));
-      too_long = (
-        (λ never. absurd never),
-        (λ found. absurd (omega (arith, small, at_length IsReading (λ len. 2 ^ 64 ≤ len) text answer is found))),
-      );
-      needed = tt;
-      unchanged = tt;
-      strict = λ never. absurd never;
-      lossy = λ never. absurd never;
-    })
+    subst (λ t. PutsText which IsReading t old new) (sym told_is)
+    (answer_put which IsReading text answer old is small len new (puts.fits.0 refl) puts.written)
 text_put which IsReading text answer (Err fault) (Ok len) old new is small told_is puts = absurd told_is
 text_put which IsReading text answer (Err fault) (Err other) old new is small told_is puts =
-    subst (λ d. PutsText which IsReading (Err d) old new) (sym told_is) (record {
-      written = tt;
-      fits = (
-        (λ ok. absurd (false≢true ok)),
-        (λ found. absurd (false≢true (puts.fits.1 (at_length IsReading (λ len. len ≤ length old) text answer is found)))),
-      );
-      invalid = ((λ never. absurd never), (λ none. absurd (none text is.reads)));
-      too_long = (
-        (λ never. absurd never),
-        (λ found. absurd (omega (arith, small, at_length IsReading (λ len. 2 ^ 64 ≤ len) text answer is found))),
-      );
-      needed = of_length IsReading (λ len. fault.needed ≡ len) text answer is puts.needed;
-      unchanged = puts.unchanged;
-      strict = λ never. absurd never;
-      lossy = λ never. absurd never;
-    })
+    rw (told_is, puts.unchanged) (room_lacks which IsReading text answer old is small fault puts.needed
+    (⊎_elim (λ short. short) (λ fits. absurd (false≢true (puts.fits.1 fits))) (cases_lt (length old) (length answer))))
 
 -- So are bytes of which all were decoded.
 pub decoded_put : (f : Flavor) (which : Strictness) (bytes answer : List ℕ) (read : ℕ) (is_ill_formed : Bool) (r : Result ℕ NoRoom) (told : Result ℕ Unwritten) (old new : List ℕ) →
@@ -191,22 +201,26 @@ decoded_put f which bytes answer read is_ill_formed r told old new reads fine sm
     (omega (arith, length-drop read bytes, reads.all fine)))
     small told_is puts
 
--- No `usize` is the answer's length, so that it fits into no buffer.
-pub length_lacks : (IsReading : List ℕ → Type 0) (text answer buf : List ℕ) → IsOnlyText IsReading text answer →
-    2 ^ 64 ≤ length answer → length buf < 2 ^ 64 → PutsText Lossy IsReading (Err unwritten.TooLong) buf buf
-length_lacks IsReading text answer buf is long small = record {
-  written = tt;
-  fits = (
-    (λ ok. absurd (false≢true ok)),
-    (λ found. absurd (omega (arith, long, small, at_length IsReading (λ len. len ≤ length buf) text answer is found))),
-  );
-  invalid = ((λ never. absurd never), (λ none. absurd (none text is.reads)));
-  too_long = ((λ _. of_length IsReading (λ len. 2 ^ 64 ≤ len) text answer is long), (λ _. tt));
-  needed = tt;
-  unchanged = refl;
-  strict = λ never. absurd never;
-  lossy = λ _. refl;
-}
+-- No `usize` is its length, so that it fits into no buffer.
+pub length_lacks : (f : Flavor) (which : Strictness) (bytes buf : List ℕ) → (which ≡ Strict → IsStrictReading f bytes (reading f bytes)) →
+    length bytes < 2 ^ 64 → length buf < 2 ^ 64 → 2 ^ 64 ≤ lossy_length f bytes → PutsText which (IsReadingOf f which bytes) (Err unwritten.TooLong) buf buf
+unfolding lossy_length
+length_lacks f Strict bytes buf whole few small long = absurd (omega (arith, strict_no_longer f bytes (whole refl), few, long))
+length_lacks f Lossy bytes buf whole few small long =
+    let is = only_reading f Lossy bytes whole in
+    record {
+      written = tt;
+      fits = (
+        (λ ok. absurd (false≢true ok)),
+        (λ found. absurd (omega (arith, long, small, at_length _ (λ len. len ≤ length buf) _ _ is found))),
+      );
+      invalid = ((λ never. absurd never), (λ none. absurd (none _ is.reads)));
+      too_long = ((λ _. of_length _ (λ len. 2 ^ 64 ≤ len) _ _ is long), (λ _. tt));
+      needed = tt;
+      unchanged = refl;
+      strict = λ never. absurd never;
+      lossy = λ _. refl;
+    }
 
 -- ---- other words for the reading
 

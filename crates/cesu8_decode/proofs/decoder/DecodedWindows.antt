@@ -85,10 +85,9 @@ kinds_of_zeros f window kinds are zeros k small =
 -- ---- a window between zeros
 
 -- Bytes that are copied into zeros, behind five of them.
-pub between_zeros : (window bytes copied : List ℕ) → 5 + length bytes ≤ length window →
-    window ≡ replicate (length window) 0 → copied ≡ bytes → IsPadded bytes (put_mid 5 (5 + length bytes - 5) window copied)
-between_zeros window bytes copied fits zeros copied_is k =
-    let n = 5 + length bytes - 5 in
+pub between_zeros : (window bytes copied : List ℕ) (n : ℕ) → 5 ≤ length window →
+    window ≡ replicate (length window) 0 → copied ≡ bytes → IsPadded bytes (put_mid 5 n window copied)
+between_zeros window bytes copied n fits zeros copied_is k =
     let all : List ℕ = replicate (length window) 0 in
     let prefix : take 5 window ≡ 0 ∷ 0 ∷ 0 ∷ 0 ∷ 0 ∷ [] = ap (take 5) zeros ∙ take-replicate 5 (length window) 0 (omega arith) in
     (λ i. get_or (prefix i ++ (copied_is i ++ post_of 5 n window)) k 0)

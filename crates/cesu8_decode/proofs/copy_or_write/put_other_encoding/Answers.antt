@@ -1,9 +1,10 @@
-use Rattle.std.proofs.Common.{arith, sym, subst}
+use Rattle.std.proofs.Common.{◌∙◌, arith, sym, subst}
 use Rattle.std.specs.Prelude.{Any}
 use Rattle.cesu8_text.specs.Class.{IsChangedByte}
 use Rattle.cesu8_text.proofs.encoding.EncodedBytes.{none_changed}
 use Rattle.std.proofs.lemmas.Bool.{iff_false}
 use Rattle.cesu8_decode.specs.PutReadings.{IsReadingOf}
+use Rattle.cesu8_decode.proofs.chunks.ReadChunks.{if_refused}
 use Rattle.cesu8_decode.proofs.chunks.SliceReadings.{no_strict_text, only_unchanged, text_put}
 use Rattle.cesu8_decode.proofs.copy_or_write.put_other_encoding.Goals as goal
 
@@ -13,15 +14,16 @@ returns-then-is_text g c =
     let which = c.args.strictness in
     let bytes = c.args.bytes.now in
     text_put which (IsReadingOf f which bytes) _ _ c.copy_to_slice_by_call.result c.map_err.result c.args.buf.now c.copy_to_slice_by_call.new.buf
-    (only_unchanged f which bytes (c.is_text.ensures.0 c.if-is_text.true, iff_false c.contains_changed.ensures c.if-contains_changed.false))
+    (only_unchanged f which bytes (c.is_text.ensures.0 c.if-is_text.true, iff_false c.contains_changed-changes.ensures c.if-not-changes.true))
     (omega arith) c.map_err.ensures.cases c.copy_to_slice_by_call.ensures
 
 -- No encoding has a byte that changes.
-pub returns-in-Strict : goal.returns-in-Strict
-returns-in-Strict g c =
+pub returns-then-is_refused : goal.returns-then-is_refused
+returns-then-is_refused g c =
     let f = g.F.Flavor.flavor in
+    let refused = if_refused c.args.strictness _ (sym c.is_refused.ensures ∙ c.if-is_refused.true) in
     no_strict_text f c.args.strictness c.args.bytes.now c.args.buf.now (
-      c.in-Strict.is,
+      refused.0,
       λ text reads.
-          none_changed f text reads.0 (subst (Any (IsChangedByte f)) (sym reads.1) (c.contains_changed.ensures.0 c.if-contains_changed.true)),
+          none_changed f text reads.0 (subst (Any (IsChangedByte f)) (sym reads.1) (c.contains_changed-changes.ensures.0 refused.1)),
     )

@@ -1,45 +1,64 @@
-use Rattle.std.proofs.Common.{◌≡◌, ℕ, List, sym, subst, arith}
+use Rattle.std.proofs.Common.{◌≡◌, ◌<◌, ◌^◌, rules, arith}
 use Rattle.cesu8_text.specs.Reading.{IsStrictReading, reading, lossy_length}
-use Rattle.cesu8_bytes.specs.declared.options.Strictness.TheVariants.{Strict, Lossy}
-use Rattle.cesu8_decode.specs.PutReadings.{PutsText, IsReadingOf}
-use Rattle.cesu8_decode.proofs.chunks.SliceReadings.{only_strict, only_lossy, strict_no_longer, text_lacks, text_put, length_lacks}
+use Rattle.cesu8_bytes.specs.declared.options.Strictness.TheVariants.{Strict}
+use Rattle.cesu8_decode.proofs.chunks.SliceReadings.{strict_no_longer, no_strict_text, only_reading, answer_put, room_lacks, length_lacks}
 use Rattle.cesu8_decode.proofs.slices.put_chunks.Goals as goal
+use Rattle.cesu8_decode.proofs.slices.put_chunks.Goals.{in-Strict+else-is_ill_formed+else-bytes-buf, in_default}
 
 pub returns-then-is_ill_formed : goal.returns-then-is_ill_formed
 returns-then-is_ill_formed g c =
-    let f = g.F.Flavor.flavor in
-    text_lacks c.args.strictness _ c.args.buf.now c.in-Strict.is
-    (subst (λ which. (text : List ℕ) → ¬ (IsReadingOf f which c.args.bytes.now text)) (sym c.in-Strict.is) (c.is_ill_formed.ensures.ill_formed c.if-is_ill_formed.true))
+    no_strict_text g.F.Flavor.flavor c.args.strictness c.args.bytes.now c.args.buf.now
+    (c.in-Strict.is, c.is_ill_formed.ensures.ill_formed c.if-is_ill_formed.true)
 
-pub put_well_formed-requires : goal.put_well_formed-requires
-put_well_formed-requires g c =
-    strict_no_longer g.F.Flavor.flavor c.args.bytes.now (c.is_ill_formed.ensures.whole c.if-is_ill_formed.false)
+pub write_reading-requires : goal.write_reading-requires
+write_reading-requires g c =
+    omega (arith, strict_no_longer g.F.Flavor.flavor c.args.bytes.now (c.is_ill_formed.ensures.whole c.if-is_ill_formed.false))
 
-pub returns-else-is_ill_formed : goal.returns-else-is_ill_formed
+pub returns-then-bytes-buf : goal.returns-then-bytes-buf
 unfolding lossy_length
-returns-else-is_ill_formed g c =
+returns-then-bytes-buf g c =
     let f = g.F.Flavor.flavor in
     let bytes = c.args.bytes.now in
     let whole = c.is_ill_formed.ensures.whole c.if-is_ill_formed.false in
-    subst (λ which. PutsText which (IsReadingOf f which bytes) c.map_err.result c.args.buf.now c.put_well_formed.new.buf) (sym c.in-Strict.is)
-    (text_put Strict (IsStrictReading f bytes) _ _ c.put_well_formed.result c.map_err.result c.args.buf.now c.put_well_formed.new.buf
-    (only_strict f bytes (reading f bytes) whole) (omega (arith, strict_no_longer f bytes whole))
-    c.map_err.ensures.cases c.put_well_formed.ensures)
+    let room = strict_no_longer f bytes whole in
+    answer_put c.args.strictness _ _ _ c.args.buf.now (only_reading f c.args.strictness bytes (λ _. whole)) (omega (arith, room)) _ _
+    (omega (arith, room)) c.write_reading.ensures
 
 pub returns-in-Some : goal.returns-in-Some
 unfolding lossy_length
 returns-in-Some g c =
     let f = g.F.Flavor.flavor in
     let bytes = c.args.bytes.now in
-    subst (λ which. PutsText which (IsReadingOf f which bytes) c.map_err-in-Some.result c.args.buf.now c.put_of_length.new.buf) (sym c.in-Lossy.is)
-    (text_put Lossy (λ text. text ≡ reading f bytes) _ _ c.put_of_length.result c.map_err-in-Some.result c.args.buf.now c.put_of_length.new.buf
-    (only_lossy f bytes) (omega (arith, c.in-Some.ensures.some))
-    c.map_err-in-Some.ensures.cases c.put_of_length.ensures)
+    let whole : c.args.strictness ≡ Strict → IsStrictReading f bytes (reading f bytes) =
+    elim c.match-strictness.branch [
+      | in-Strict+else-is_ill_formed+else-bytes-buf w ↦ λ _. w.is_ill_formed.ensures.whole w.if-is_ill_formed.false
+      | in_default w ↦ λ strictly. absurd (w.in_default.not-Strict strictly)
+    ] in
+    let len = c.in-Some.ensures.some in
+    answer_put c.args.strictness _ _ _ c.args.buf.now (only_reading f c.args.strictness bytes whole) (omega (arith, len)) _ _
+    (omega (arith, len)) c.write_reading-in-Some.ensures
+
+pub returns-in-Some-2 : goal.returns-in-Some-2
+unfolding lossy_length
+returns-in-Some-2 g c =
+    let f = g.F.Flavor.flavor in
+    let bytes = c.args.bytes.now in
+    let whole : c.args.strictness ≡ Strict → IsStrictReading f bytes (reading f bytes) =
+    elim c.match-strictness.branch [
+      | in-Strict+else-is_ill_formed+else-bytes-buf w ↦ λ _. w.is_ill_formed.ensures.whole w.if-is_ill_formed.false
+      | in_default w ↦ λ strictly. absurd (w.in_default.not-Strict strictly)
+    ] in
+    let fits : c.in-Some.len < 2 ^ 64 = search rules in
+    room_lacks c.args.strictness _ _ _ c.args.buf.now (only_reading f c.args.strictness bytes whole) (omega (arith, c.in-Some.ensures.some)) _
+    c.in-Some.ensures.some (omega (arith, c.in-Some.ensures.some))
 
 pub returns-in-None : goal.returns-in-None
-unfolding lossy_length
 returns-in-None g c =
     let f = g.F.Flavor.flavor in
     let bytes = c.args.bytes.now in
-    subst (λ which. PutsText which (IsReadingOf f which bytes) _ c.args.buf.now c.args.buf.now) (sym c.in-Lossy.is)
-    (length_lacks (λ text. text ≡ reading f bytes) _ _ c.args.buf.now (only_lossy f bytes) (omega (arith, c.in-None.ensures.none)) (omega arith))
+    let whole : c.args.strictness ≡ Strict → IsStrictReading f bytes (reading f bytes) =
+    elim c.match-strictness.branch [
+      | in-Strict+else-is_ill_formed+else-bytes-buf w ↦ λ _. w.is_ill_formed.ensures.whole w.if-is_ill_formed.false
+      | in_default w ↦ λ strictly. absurd (w.in_default.not-Strict strictly)
+    ] in
+    length_lacks f c.args.strictness bytes c.args.buf.now whole (omega arith) (omega arith) (omega (arith, c.in-None.ensures.none))

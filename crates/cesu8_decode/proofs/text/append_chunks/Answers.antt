@@ -10,7 +10,7 @@ use Rattle.cesu8_decode.proofs.text.append_chunks.Goals as goal
 pub loop-rest-init : goal.loop-rest-init
 loop-rest-init g c =
     let f = g.F.Flavor.flavor in
-    subst (IsReadSoFar f c.args.strictness c.args.bytes.now c.args.bytes.now (string_bytes c.args.out.now)) (sym c.request.ensures.bytes)
+    subst (IsReadSoFar f c.args.strictness c.args.bytes.now c.args.bytes.now (string_bytes c.args.out.now)) (search rules)
     (nothing_read f c.args.strictness c.args.bytes.now (string_bytes c.args.out.now))
 
 pub loop-rest-preserved-in-Continue-branch-2 : goal.loop-rest-preserved-in-Continue-branch-2

@@ -1,9 +1,0 @@
-use Rattle.std.proofs.Common.{◌≡◌, ◌+◌, length}
-use Rattle.cesu8_decode.specs.DecodedOffsets.{saved, total_weight}
-use Rattle.cesu8_decode.proofs.lengths.saved.Given as goal
-
-abbrev pub invariant-loop-rest : goal.invariant-loop-rest
-invariant-loop-rest g l = l.saved + total_weight saved g.F.Flavor.flavor l.rest ≡ total_weight saved g.F.Flavor.flavor l.fn.bytes
-
-abbrev pub decreases-loop-rest : goal.decreases-loop-rest
-decreases-loop-rest g l = length l.rest
