@@ -3,7 +3,7 @@
 //! UTF-8 compares as scalar values do. In UTF-16 a surrogate pair is below U+E000 to U+FFFF, whose
 //! lead bytes are EE and EF (hexadecimal). So these have to come after the lead bytes of four.
 
-ghost use Rattle.std.specs.Prelude.{◌≡◌, IsTrue, map};
+ghost use Rattle.std.specs.Prelude.{◌≡◌, map};
 ghost use Rattle.std.specs.Cmp.Lexicographic.{slice_cmp};
 ghost use Rattle.std.specs.Ordering.{nat_cmp};
 ghost use Rattle.std.specs.Str.{chars};

@@ -3,7 +3,7 @@
 //! A vector copies a run of bytes that stay. Continuation bytes stay too, so the width of a
 //! character decides nothing unless it is four.
 
-ghost use Rattle.std.specs.Prelude.{◌≡◌, ℕ, ◌+◌, ◌≤◌, ◌<◌, [], ◌∷◌, ◌++◌, length, take, drop, slice_index, IsTrue};
+ghost use Rattle.std.specs.Prelude.{◌≡◌, ℕ, ◌+◌, ◌≤◌, ◌<◌, [], ◌∷◌, length, take, drop, IsTrue};
 ghost use Rattle.std.specs.Str.{chars};
 ghost use Rattle.cesu8_text.specs.Text.{IsScalarValue, utf8_of};
 ghost use Rattle.cesu8_text.specs.Encoding.{Flavor as AnyFlavor, encoding, short_form};
@@ -39,7 +39,7 @@ pub fn write_few<F: Flavor>(text: &str, out: &mut [u8]) -> usize
     while read < bytes.len() {
         let byte = bytes[read];
         if byte >= 1 && byte < 0xF0 {
-            // The rest of a vector ends within the encoding, which is at least as long as the bytes.
+            // The rest of a vector ends within the encoding, which is no shorter than the bytes.
             let run = copy_run::<Either<Null, AtLeastF0>>(&bytes[read..], out, end);
             read += run;
             end += run;

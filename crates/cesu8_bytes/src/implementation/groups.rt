@@ -73,8 +73,8 @@ impl<A: InGroups<N>, B: InGroups<N>, const N: usize> InGroups<N> for Either<A, B
     #[inline(always)]
     fn may_have(a: Simd<u8, N>, b: Simd<u8, N>, c: Simd<u8, N>, d: Simd<u8, N>) -> bool
         requires { N ≤ LANES }
-        ensures { Any (AnyIn (λ b. A.class b || B.class b)) (a.entry ∷ b.entry ∷ c.entry ∷ d.entry ∷ [])
-            → IsTrue result }
+        ensures { Any (AnyIn (λ b. A.class b || B.class b))
+            (a.entry ∷ b.entry ∷ c.entry ∷ d.entry ∷ []) → IsTrue result }
     {
         A::may_have(a, b, c, d) || B::may_have(a, b, c, d)
     }
