@@ -85,15 +85,6 @@ decoded_at f window i =
 unfoldable pub decoded : Flavor → List ℕ → ℕ → ℕ → List ℕ
 decoded f window i n = flat_map (decoded_at f window) (range_with_len i n)
 
--- A window on all of the bytes: five zeros, the bytes, and zeros.
-abbrev pub IsPadded : List ℕ → List ℕ → Type 0
-IsPadded bytes window = (k : ℕ) → slice_index window k ≡ slice_index (0 ∷ 0 ∷ 0 ∷ 0 ∷ 0 ∷ bytes) k
-
--- A window on the first n of them and five more, which decide what begins before n.
-abbrev pub IsPaddedFor : ℕ → List ℕ → List ℕ → Type 0
-IsPaddedFor n bytes window =
-    (k : ℕ) → k < n + 10 → slice_index window k ≡ slice_index (0 ∷ 0 ∷ 0 ∷ 0 ∷ 0 ∷ bytes) k
-
 -- No encoded character covers a byte, by the widths at its offset and at the five before it.
 abbrev pub ill_formed_by : (w0 w1 w2 w3 w4 w5 : ℕ) → Bool
 ill_formed_by w0 w1 w2 w3 w4 w5 =

@@ -1,6 +1,5 @@
 pub mod DecodedOffsets
 pub mod DecodedLanes
-pub mod DecodedWindows
 pub mod Refusals
 pub mod Decoding
 pub mod PutReadings

@@ -66,12 +66,12 @@ fn write_next<F: Flavor>(bytes: &[u8], out: &mut [u8], end: usize) -> Decoded
         (drop result.read bytes.now) (take end out.old) (take result.end out.new) }
     ensures len { length out.new ≡ length out.old }
 {
-    let mut padded = [0; PAIR_READ];
     let first = bytes[0];
     let (read, end) = if is_one::<F>(first) {
         let run = copy_run::<Either<F::Null, NonAscii>>(bytes, out, end);
         (run, end + run)
     } else {
+        let mut padded = [0; PAIR_READ];
         let prefix = prefix_of(bytes, &mut padded);
         if is_pair(prefix) {
             (PAIR, put(&utf8_of_pair(prefix), out, end))
@@ -126,12 +126,15 @@ fn is_two(first: u8, second: u8) -> bool
 fn is_three(first: u8, second: u8, third: u8) -> bool
     ensures { result ≡ three_at first second third }
 {
-    let fits = match first {
-        0xE0 => 0xA0 <= second,
-        0xED => second < 0xA0,
-        _ => true,
-    };
-    0xE0 <= first && first < 0xF0 && is_continuation(second) && is_continuation(third) && fits
+    0xE0 <= first
+        && first < 0xF0
+        && is_continuation(second)
+        && is_continuation(third)
+        && match first {
+            0xE0 => 0xA0 <= second,
+            0xED => second < 0xA0,
+            _ => true,
+        }
 }
 
 /// Returns the bytes if they are eight or more, or else a copy with zeros after the last.

@@ -47,7 +47,11 @@ pub fn sum_first<F: Flavor, W: Weight>(bytes: &[u8], most: usize) -> (usize, &[u
         ≡ total_weight W.weight F.flavor bytes.now }
 {
     if bytes.len() < REACH {
-        return (sum_of_few::<F, W>(bytes), &[]);
+        // They are followed by FF, which begins nothing and is in no character.
+        let mut padded = [0xFF; 32 + REACH];
+        padded[..bytes.len()].copy_from_slice(bytes);
+        let count = if bytes.len() > 32 { 2 } else { 1 };
+        return (sum_of_blocks::<F, W>(&padded, count), &[]);
     }
     let count = ((bytes.len() - BEHIND) / 32).min(most);
     (sum_of_blocks::<F, W>(bytes, count), &bytes[32 * count..])
@@ -65,19 +69,6 @@ fn sum_of_blocks<F: Flavor, W: Weight>(bytes: &[u8], count: usize) -> usize
         lanes = lanes.strict_add(weight_lanes::<F, W>(bytes, 32 * i));
     }
     lanes.dot4(u8x32::splat(1)).strict_reduce_sum() as usize
-}
-
-/// Returns the weight of the offsets of a few bytes. They are followed by FF, which begins
-/// nothing and is in no character.
-#[inline(always)]
-fn sum_of_few<F: Flavor, W: Weight>(bytes: &[u8]) -> usize
-    requires { length bytes.now < REACH }
-    ensures { result ≡ total_weight W.weight F.flavor bytes.now }
-{
-    let mut padded = [0xFF; 32 + REACH];
-    padded[..bytes.len()].copy_from_slice(bytes);
-    let count = if bytes.len() > 32 { 2 } else { 1 };
-    sum_of_blocks::<F, W>(&padded, count)
 }
 
 /// Returns the weights of the 32 offsets from `at` on.

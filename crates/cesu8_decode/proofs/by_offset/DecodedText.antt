@@ -1,10 +1,11 @@
 -- What the bytes of a window become, between boundaries, is the UTF-8 of their lossy reading.
 use Rattle.std.proofs.Common.{◌≡◌, ℕ, ◌+◌, ◌≤◌, true, List, [], ◌∷◌, ◌++◌, refl, sym, ap, ◌∙◌, arith, length, take, drop, get_or, length-drop, zero-add, add-zero, subst}
+use Rattle.std.specs.Prelude.{slice_index}
 use Rattle.std.proofs.lemmas.List.{take-append-drop, append_cancel_right}
 use Rattle.cesu8_text.specs.Text.{utf8}
 use Rattle.cesu8_text.specs.Encoding.{Flavor}
 use Rattle.cesu8_text.specs.Reading.{reading}
-use Rattle.cesu8_decode.specs.DecodedOffsets.{width_at, decoded_byte, decoded, IsPadded, is_boundary_at}
+use Rattle.cesu8_decode.specs.DecodedOffsets.{width_at, decoded_byte, decoded, is_boundary_at}
 use Rattle.cesu8_text.proofs.reading.Decoding.{utf8_append}
 use Rattle.cesu8_text.proofs.reading.Splits.{split}
 use Rattle.cesu8_decode.proofs.by_offset.DecodedBytes.{decoded_after, decoded_after_ended}
@@ -62,7 +63,11 @@ decoded_between f window bytes n follows fits first boundary =
     ∙ ap utf8 ((split f front back).1 (none_crosses_boundary f window bytes n follows fits boundary))
     ∙ utf8_append (reading f front) (reading f back))
 
--- A padded window has the bytes behind its first five offsets.
+-- A window on all of the bytes: five zeros, the bytes, and zeros.
+abbrev pub IsPadded : List ℕ → List ℕ → Type 0
+IsPadded bytes window = (k : ℕ) → slice_index window k ≡ slice_index (0 ∷ 0 ∷ 0 ∷ 0 ∷ 0 ∷ bytes) k
+
+-- It has the bytes behind its first five offsets.
 pub padded_follows : (bytes window : List ℕ) → IsPadded bytes window → Follows window bytes 5
 padded_follows bytes window padded k = padded (5 + k) ∙ follows_zeros bytes k
 

@@ -1,5 +1,6 @@
 -- What a window of bytes becomes is a chunk of their text, or an ill-formed byte in it is their fault.
 use Rattle.std.proofs.Common.{◌≡◌, ℕ, zero, suc, ◌+◌, ◌<◌, ◌≤◌, true, false, List, [], ◌∷◌, ◌++◌, refl, sym, ap, ◌∙◌, subst, inr, arith, length, take, drop, get_or}
+use Rattle.std.specs.Prelude.{slice_index}
 use Rattle.std.proofs.lemmas.List.{take-append-drop, length-take-le, get_or-take}
 use Rattle.cesu8_text.specs.Text.{IsText, utf8}
 use Rattle.cesu8_text.specs.Encoding.{Flavor}
@@ -10,14 +11,14 @@ use Rattle.cesu8_bytes.specs.TextChunks.{IsChunk}
 use Rattle.cesu8_decode.specs.Decoding.{HasFault}
 use Rattle.cesu8_bytes.specs.declared.options.Strictness.{Strictness}
 use Rattle.cesu8_bytes.specs.declared.options.Strictness.TheVariants.{Strict, Lossy}
-use Rattle.cesu8_decode.specs.DecodedOffsets.{decoded, is_ill_formed_at, is_boundary_at, IsPadded, IsPaddedFor}
+use Rattle.cesu8_decode.specs.DecodedOffsets.{decoded, is_ill_formed_at, is_boundary_at}
 use Rattle.cesu8_text.proofs.reading.Cuttings.{greedy_cutting}
 use Rattle.cesu8_text.proofs.reading.Greedy.{places}
 use Rattle.cesu8_text.proofs.reading.Splits.{split}
 use Rattle.cesu8_decode.proofs.by_offset.WindowOffsets.{Agree, follows_zeros, boundary_agrees, ill_formed_agrees, decoded_agrees}
 use Rattle.cesu8_decode.proofs.by_offset.CharacterBoundaries.{boundary_of_zeros, none_crosses_boundary, boundary_near}
 use Rattle.cesu8_decode.proofs.by_offset.IllFormed.{IsCovered, chunk_of_text, covered_read, uncovered_fault, covered_where, not_covered_where, covered_in_front}
-use Rattle.cesu8_decode.proofs.by_offset.DecodedText.{decoded_between}
+use Rattle.cesu8_decode.proofs.by_offset.DecodedText.{IsPadded, decoded_between}
 
 -- ---- chunks
 
@@ -52,7 +53,12 @@ strict_first_chunk f which bytes n reads =
 
 -- ---- chunks by windows
 
--- A window on all bytes is one on the first n.
+-- A window on the first n bytes and five more, which decide what begins before n.
+abbrev pub IsPaddedFor : ℕ → List ℕ → List ℕ → Type 0
+IsPaddedFor n bytes window =
+    (k : ℕ) → k < n + 10 → slice_index window k ≡ slice_index (0 ∷ 0 ∷ 0 ∷ 0 ∷ 0 ∷ bytes) k
+
+-- A window on all bytes is one.
 pub padded_for : (bytes window : List ℕ) (n : ℕ) → IsPadded bytes window → IsPaddedFor n bytes window
 padded_for bytes window n padded k small = padded k
 

@@ -2,8 +2,7 @@
 use Rattle.std.proofs.Common.{◌≡◌, ℕ, ◌+◌, ◌-◌, ◌<◌, ◌≤◌, ◌⊎◌, ⊎_elim, Bool, true, false, ◌&&◌, ◌||◌, not, eqb, leb, List, [], ◌∷◌, ◌++◌, refl, sym, ap, subst, ◌∙◌, arith, IsTrue, true≢false, map, get_or, length, take, drop, replicate, zero-add, add-zero, bit_and, bit_or}
 use Rattle.std.proofs.lemmas.Bool.{ne_eqb, eq-eqb, le-leb, lt-leb, cases_lt}
 use Rattle.cesu8_text.specs.Encoding.{Flavor}
-use Rattle.cesu8_decode.specs.DecodedOffsets.{width_at, is_boundary_at, IsPadded, is_ill_formed_at, decoded}
-use Rattle.cesu8_decode.specs.DecodedWindows.{IsRead}
+use Rattle.cesu8_decode.specs.DecodedOffsets.{width_at, is_boundary_at, is_ill_formed_at, decoded}
 use Rattle.cesu8_bytes.specs.TextChunks.{IsChunk}
 use Rattle.cesu8_decode.specs.Decoding.{HasFault}
 use Rattle.cesu8_bytes.specs.declared.options.Strictness.TheVariants.{Strict, Lossy}
@@ -19,8 +18,8 @@ use Rattle.std.proofs.lemmas.Str.{IsUtf8-append, IsUtf8-from_ascii}
 use Rattle.cesu8_bytes.proofs.vectors.Loads.{zeros_at, padded}
 use Rattle.cesu8_decode.proofs.decoder.StartKinds.{start_at, no_start, over_one, over_two}
 use Rattle.cesu8_decode.proofs.by_offset.CharacterBoundaries.{width_bounds, boundary_at_end}
-use Rattle.cesu8_decode.proofs.by_offset.DecodedText.{padded_follows, padded_boundary}
-use Rattle.cesu8_decode.proofs.chunks.DecodedChunks.{padded_for, padded_take, boundary_behind, fault_at, lossy_chunk, strict_chunk}
+use Rattle.cesu8_decode.proofs.by_offset.DecodedText.{IsPadded, padded_follows, padded_boundary}
+use Rattle.cesu8_decode.proofs.chunks.DecodedChunks.{IsPaddedFor, padded_for, padded_take, boundary_behind, fault_at, lossy_chunk, strict_chunk}
 use Rattle.cesu8_decode.proofs.decoder.LaneTests.{no_bit_or, no_pair}
 
 -- ---- boundaries
@@ -118,6 +117,12 @@ more_written f window old new at len old_is new_is =
     ∙ ap (λ i. decoded f window 0 at ++ decoded f window i len) (sym (zero-add at)) ∙ sym (decoded_split f window 0 at len)
 
 -- ---- windows
+
+-- The first n bytes are read by a window, up to a boundary.
+pub record IsRead (f : Flavor) (bytes window : List ℕ) (n : ℕ) : Type 0 where
+  pub padded : IsPaddedFor n bytes window
+  pub fits : n ≤ length bytes
+  pub boundary : is_boundary_at f window n ≡ true
 
 -- A window on all bytes reads them all,
 pub all_read : (f : Flavor) (bytes window : List ℕ) → IsPadded bytes window → IsRead f bytes window (length bytes)

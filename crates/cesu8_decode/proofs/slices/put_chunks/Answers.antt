@@ -29,11 +29,7 @@ unfolding lossy_length
 returns-in-Some g c =
     let f = g.F.Flavor.flavor in
     let bytes = c.args.bytes.now in
-    let whole : c.args.strictness ≡ Strict → IsStrictReading f bytes (reading f bytes) =
-    elim c.match-strictness.branch [
-      | in-Strict+else-is_ill_formed+else-bytes-buf w ↦ λ _. w.is_ill_formed.ensures.whole w.if-is_ill_formed.false
-      | in_default w ↦ λ strictly. absurd (w.in_default.not-Strict strictly)
-    ] in
+    let whole : c.args.strictness ≡ Strict → IsStrictReading f bytes (reading f bytes) = search rules in
     let len = c.in-Some.ensures.some in
     answer_put c.args.strictness _ _ _ c.args.buf.now (only_reading f c.args.strictness bytes whole) (omega (arith, len)) _ _
     (omega (arith, len)) c.write_reading-in-Some.ensures
@@ -43,11 +39,7 @@ unfolding lossy_length
 returns-in-Some-2 g c =
     let f = g.F.Flavor.flavor in
     let bytes = c.args.bytes.now in
-    let whole : c.args.strictness ≡ Strict → IsStrictReading f bytes (reading f bytes) =
-    elim c.match-strictness.branch [
-      | in-Strict+else-is_ill_formed+else-bytes-buf w ↦ λ _. w.is_ill_formed.ensures.whole w.if-is_ill_formed.false
-      | in_default w ↦ λ strictly. absurd (w.in_default.not-Strict strictly)
-    ] in
+    let whole : c.args.strictness ≡ Strict → IsStrictReading f bytes (reading f bytes) = search rules in
     let fits : c.in-Some.len < 2 ^ 64 = search rules in
     room_lacks c.args.strictness _ _ _ c.args.buf.now (only_reading f c.args.strictness bytes whole) (omega (arith, c.in-Some.ensures.some)) _
     c.in-Some.ensures.some (omega (arith, c.in-Some.ensures.some))
@@ -56,9 +48,5 @@ pub returns-in-None : goal.returns-in-None
 returns-in-None g c =
     let f = g.F.Flavor.flavor in
     let bytes = c.args.bytes.now in
-    let whole : c.args.strictness ≡ Strict → IsStrictReading f bytes (reading f bytes) =
-    elim c.match-strictness.branch [
-      | in-Strict+else-is_ill_formed+else-bytes-buf w ↦ λ _. w.is_ill_formed.ensures.whole w.if-is_ill_formed.false
-      | in_default w ↦ λ strictly. absurd (w.in_default.not-Strict strictly)
-    ] in
+    let whole : c.args.strictness ≡ Strict → IsStrictReading f bytes (reading f bytes) = search rules in
     length_lacks f c.args.strictness bytes c.args.buf.now whole (omega arith) (omega arith) (omega (arith, c.in-None.ensures.none))

@@ -1,9 +1,8 @@
 use Rattle.std.proofs.Common.{◌+◌, ◌-◌, ◌≤◌, ◌∙◌, length, take, subst, sym, arith, rules}
 use Rattle.std.proofs.lemmas.List.{take_all}
-use Rattle.cesu8_decode.specs.DecodedOffsets.{IsPadded}
 use borrow.Rule.Slice.PartMut.{put_mid}
-use Rattle.cesu8_decode.specs.DecodedWindows.{IsRead}
-use Rattle.cesu8_decode.proofs.decoder.DecodedWindows.{between_zeros, all_read, part_read, read_lossily, read_strictly, read_fault}
+use Rattle.cesu8_decode.proofs.by_offset.DecodedText.{IsPadded}
+use Rattle.cesu8_decode.proofs.decoder.DecodedWindows.{IsRead, between_zeros, all_read, part_read, read_lossily, read_strictly, read_fault}
 use Rattle.cesu8_decode.proofs.windows.write_window.Goals as goal
 use Rattle.cesu8_decode.proofs.windows.write_window.Goals.{then-loaded-bytes, else-loaded-bytes}
 
