@@ -9,8 +9,8 @@
 # Where dpkg-deb is there, FOLDER gets the Debian packages too, by packages.sh, and where python3 is
 # there the wheel, by python/wheel.py.
 #
-# It needs the kit's `rt`, git, a C compiler `cc` with GNU ld 2.36 or later, ar, nm, objcopy, objdump,
-# strip, GNU tar, gzip, bash, awk, grep, sed and the core utilities.
+# It needs the kit's `rt`, git, a C compiler `cc` with GNU ld 2.36 or later, ar, ld, nm, objcopy,
+# objdump, strip, GNU tar, gzip, bash, awk, grep, sed and the core utilities.
 set -euo pipefail
 unset CDPATH
 export LC_ALL=C
@@ -20,7 +20,7 @@ if (($# != 1)); then
     echo 'usage: dist.sh FOLDER' >&2
     exit 2
 fi
-for tool in rt git cc ar nm objcopy objdump strip tar gzip; do
+for tool in rt git cc ar ld nm objcopy objdump strip tar gzip; do
     if ! command -v "$tool" >/dev/null; then
         echo "dist.sh needs $tool on the PATH" >&2
         exit 2

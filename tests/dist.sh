@@ -263,7 +263,7 @@ PYTHON
     fi
 }
 
-for tool in git cc ar nm objcopy objdump readelf strip tar gzip; do
+for tool in git cc ar ld nm objcopy objdump readelf strip tar gzip; do
     if ! command -v "$tool" >/dev/null; then
         echo "$tool is missing: the release skipped"
         exit 0

@@ -13,7 +13,7 @@ find_release() {
     local tool
     release=${RELEASE-}
     if [[ -z $release ]]; then
-        for tool in git cc ar nm objcopy objdump tar gzip; do
+        for tool in git cc ar ld nm objcopy objdump tar gzip; do
             if ! command -v "$tool" >/dev/null; then
                 echo "$tool is missing: $1 skipped"
                 return 1

@@ -3,7 +3,7 @@
 # of them as the program runs, and with plain.c:
 #   archive.sh FILE.a
 # It proves the crate and the libraries below it where that is not done, by as many jobs as PROOF_JOBS
-# says, or else as rt chooses. It needs the kit's rt, cc, ar, objcopy and nm.
+# says, or else as rt chooses. It needs the kit's rt, cc, ar, ld, objcopy and nm.
 set -eu
 unset CDPATH
 # The members of the archive have the same order everywhere.
@@ -22,6 +22,19 @@ fi
 archive=$1
 rm -f "$archive"
 
+# rt gives each function and each table a section of its own, so what describes the sections would
+# take a tenth of the archive. No program would be smaller by them, since the chooser calls every
+# export. So a level gets one section of code and one of tables, where each row begins at a multiple
+# of 16 bytes. The constants of vectors stay in sections in which a linker keeps one of those that
+# are equal.
+cat >"$scratch/level.ld" <<'SCRIPT'
+SECTIONS
+{
+    .text : { *(.text .text.*) }
+    .rodata : SUBALIGN(16) { *(.rodata .rodata..L*) }
+}
+SCRIPT
+
 # The code for x86-64-v2 comes last, and stays in out/, since it is what rt builds by default.
 for level in v3 v2; do
     if ! (cd "$crate" && rt lib --cpu "x86-64-$level" ${PROOF_JOBS:+--jobs "$PROOF_JOBS"}) \
@@ -31,13 +44,11 @@ for level in v3 v2; do
     fi
     mkdir "$scratch/$level"
     (cd "$scratch/$level" && ar x "$crate/out/libcesu8_static.a")
+    ld -r -T "$scratch/level.ld" -o "$scratch/$level.o" "$scratch/$level"/*.o
     # Each export gets the level behind its name. What the code calls keeps its name.
-    nm -g --defined-only "$scratch/$level"/*.o |
+    nm -g --defined-only "$scratch/$level.o" |
         awk -v level="$level" 'NF == 3 { print $3, $3 "_" level }' >"$scratch/$level/names"
-    for object in "$scratch/$level"/*.o; do
-        objcopy --redefine-syms="$scratch/$level/names" "$object" \
-            "$scratch/${level}_$(basename "$object")"
-    done
+    objcopy --redefine-syms="$scratch/$level/names" "$scratch/$level.o"
 done
 
 for file in chooser plain; do

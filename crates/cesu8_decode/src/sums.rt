@@ -57,8 +57,9 @@ pub fn sum_first<F: Flavor, W: Weight>(bytes: &[u8], most: usize) -> (usize, &[u
     (sum_of_blocks::<F, W>(bytes, count), &bytes[32 * count..])
 }
 
-/// Returns the weight of the offsets of the first blocks.
-#[inline(always)]
+/// Returns the weight of the offsets of the first blocks. It is not inlined, since it
+/// would stand twice in each function that sums up.
+#[inline(never)]
 fn sum_of_blocks<F: Flavor, W: Weight>(bytes: &[u8], count: usize) -> usize
     requires count { count ≤ BLOCKS }
     requires bytes { 32 * count + BEHIND ≤ length bytes.now }
