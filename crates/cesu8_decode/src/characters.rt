@@ -67,27 +67,35 @@ fn write_next<F: Flavor>(bytes: &[u8], out: &mut [u8], end: usize) -> Decoded
     ensures len { length out.new ≡ length out.old }
 {
     let first = bytes[0];
-    let (read, end) = if is_one::<F>(first) {
-        let run = copy_run::<Either<F::Null, NonAscii>>(bytes, out, end);
-        (run, end + run)
+    let run = if is_one::<F>(first) {
+        copy_run::<Either<F::Null, NonAscii>>(bytes, out, end)
     } else {
-        let mut padded = [0; PAIR_READ];
-        let prefix = prefix_of(bytes, &mut padded);
-        if is_pair(prefix) {
-            (PAIR, put(&utf8_of_pair(prefix), out, end))
-        } else if is_null::<F>(first, prefix[1]) {
-            (2, put(&[0], out, end))
-        } else if is_two(first, prefix[1]) {
-            (2, put(&bytes[..2], out, end))
-        } else if is_three(first, prefix[1], prefix[2]) {
-            (3, put(&bytes[..3], out, end))
-        } else {
-            return Decoded {
-                read: 1,
-                end: put(&REPLACEMENT, out, end),
-                is_ill_formed: true,
-            };
-        }
+        0
+    };
+    // This branch is mostly guessed, so the next step need not wait for the length of the run.
+    if run > 0 {
+        return Decoded {
+            read: run,
+            end: end + run,
+            is_ill_formed: false,
+        };
+    }
+    let mut padded = [0; PAIR_READ];
+    let prefix = prefix_of(bytes, &mut padded);
+    let (read, end) = if is_pair(prefix) {
+        (PAIR, put(&utf8_of_pair(prefix), out, end))
+    } else if is_null::<F>(first, prefix[1]) {
+        (2, put(&[0], out, end))
+    } else if is_two(first, prefix[1]) {
+        (2, put(&bytes[..2], out, end))
+    } else if is_three(first, prefix[1], prefix[2]) {
+        (3, put(&bytes[..3], out, end))
+    } else {
+        return Decoded {
+            read: 1,
+            end: put(&REPLACEMENT, out, end),
+            is_ill_formed: true,
+        };
     };
     Decoded {
         read,
