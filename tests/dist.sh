@@ -1,7 +1,7 @@
 #!/usr/bin/env bash
 # Builds the release by dist.sh, unpacks it in an empty folder, and uses it there without the kit on
 # the PATH:
-# - tests/exports.c calls each export of the archive and of the shared object;
+# - tests/exports.c calls each export of the archive, at both levels, and of the shared object;
 # - keys.c is built by pkg-config and by CMake, with the archive and with the shared object, where the
 #   release is unpacked, and where install.sh put it in lib, lib64 and lib/x86_64-linux-gnu and below
 #   DESTDIR;
@@ -142,8 +142,7 @@ look_at_pages() {
 }
 
 # What the archive shows and what it asks for: the names of its calls, and functions that copy and
-# compare bytes. The chooser asks the compiler's runtime what the processor has. That the code for each
-# level is there is seen in the names, since this processor runs one of them.
+# compare bytes. The chooser asks the compiler's runtime what the processor has.
 look_at_archive() {
     local archive=$unpacked/lib/libcesu8.a asked
     diff <({ exports | sed 's/.*/&\n&_v2\n&_v3/'; plain_calls; } | sed 's/^/T cesu8_/' | sort) \
@@ -153,6 +152,13 @@ look_at_archive() {
         grep -vxE 'mem(cpy|move|set|cmp)|__cpu_(model|features2)|_GLOBAL_OFFSET_TABLE_|cesu8_.*_v[23]')
     [[ -z $asked ]] || wrong "the archive asks for other names: $asked"
     readelf -SW "$archive" 2>/dev/null | grep -F ' .debug' && wrong 'the archive is not stripped'
+}
+
+# Calls each export at x86-64-v2 too: a processor with x86-64-v3 would never run that code.
+call_lower_level() {
+    local objects=$scratch/objects
+    mkdir "$objects" && (cd "$objects" && ar x "$unpacked/lib/libcesu8.a" && rm chooser.o) || exit 2
+    call_exports -DARCHIVE '-D__builtin_cpu_supports(level)=0' "$crate/chooser.c" "$objects"/*.o
 }
 
 look_at_shared() {
@@ -284,6 +290,7 @@ look_at_archive
 look_at_shared
 look_at_mark
 call_exports -DARCHIVE "$unpacked/lib/libcesu8.a"
+call_lower_level
 call_exports -DARCHIVE "$unpacked/$shared" -Wl,-rpath,"$unpacked/lib"
 has_pkg_config='' has_cmake=''
 if can_build 'keys.c by pkg-config' pkg-config --version; then
