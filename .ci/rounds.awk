@@ -12,6 +12,10 @@
 # that isn't so, an edit has a round of its own: of a table, a contract, a spec, a proof, a `const fn`, or a
 # function under `#[cycle(..)]`, whose proof opens the others of the cycle.
 #
+# While a function is not proved, the kit leaves goals of its callers untried. So an edit goes where no
+# function of the round calls another one, if there is such a round. By names alone that can't be told for
+# sure, so it opens no round for this.
+#
 # An edit is applied as `rt must-fail` does: each old text is in its file exactly once, after the pairs
 # before. It changes lines in place, and adds none.
 
@@ -106,6 +110,8 @@ function find_functions(path,    k, line, block, indent, first, name_line, body,
         if (!body && (line ~ /;$/ || name_line == k && line ~ /}$/)) first = 0
         if (body && line == indent "}") {
             functions[path]++
+            name_of[path, first] = name
+            for (at = body + 1; at < k; at++) text_of[path, first] = text_of[path, first] was[path, at] "\n"
             first_of[path, functions[path]] = first
             body_of[path, functions[path]] = is_open ? k : body
             last_of[path, functions[path]] = k
@@ -168,8 +174,8 @@ function owner(path, k,    at) {
     return 0
 }
 
-# Puts the edit into the first round that changes none of its functions, nor one whose proof has the same
-# folder.
+# Puts the edit into a round that changes none of its functions, nor one whose proof has the same folder:
+# into the first where no function calls another, or else into the first.
 function lay(    it, round, parts) {
     round = is_alone ? rounds + 1 : free_round()
     if (round > rounds) rounds = round
@@ -180,17 +186,35 @@ function lay(    it, round, parts) {
         split(it, parts, "\t")
         taken[round, parts[1], parts[2]]
         taken[round, parts[4]]
+        changed[round] = changed[round] parts[1] SUBSEP parts[2] "\n"
     }
 }
 
-function free_round(    round, it, parts, fits) {
+function free_round(    round, it, parts, fits, found) {
     for (round = 1; round <= rounds; round++) {
         fits = !is_closed[round]
         for (it in owners) {
             split(it, parts, "\t")
             if ((round, parts[1], parts[2]) in taken || (round, parts[4]) in taken) fits = 0
         }
-        if (fits) break
+        if (fits && !has_call(round)) return round
+        if (fits && !found) found = round
     }
-    return round
+    return found ? found : round
+}
+
+# Whether a function of the edit calls one that the round changes, or is called by one.
+function has_call(round,    it, parts, others, k) {
+    for (it in owners) {
+        split(it, parts, "\t")
+        for (k = split(changed[round], others, "\n") - 1; k > 0; k--)
+            if (calls(parts[1] SUBSEP parts[2], others[k]) || calls(others[k], parts[1] SUBSEP parts[2]))
+                return 1
+    }
+    return 0
+}
+
+# Whether the text of one function has a call of the other's name.
+function calls(one, other) {
+    return text_of[one] ~ ("(^|[^a-z0-9_])" name_of[other] "(::<[^(]*>)?\\(")
 }

@@ -11,3 +11,5 @@ mod pairs;
 mod places;
 #[cfg(test)]
 mod rows;
+#[cfg(test)]
+mod slices;

@@ -4,6 +4,7 @@ ghost use Rattle.std.specs.Prelude.{◌≤◌};
 
 use simd_cesu8::implementation::{active, fallback, simd, word};
 use std::ops::RangeInclusive;
+use std::process::Abort;
 
 /// A module, and what its two kernels return: whether some byte is F0 to F7, and whether some is 00 or
 /// one of these.
@@ -95,104 +96,109 @@ fn first_wrong_place(fill: u8, lengths: RangeInclusive<usize>) -> Option<(usize,
     None
 }
 
+/// Asserts that there is none.
+fn assert_found(rt: &impl Abort, fill: u8, lengths: RangeInclusive<usize>) {
+    assert_eq!(rt; first_wrong_place(fill, lengths), None);
+}
+
 #[test]
 fn finds_a_byte_among_01_up_to_117(rt: HostRuntime) {
-    assert_eq!(rt; first_wrong_place(0x01, 1..=117), None);
+    assert_found(&rt, 0x01, 1..=117);
 }
 
 #[test]
 fn finds_a_byte_among_01_up_to_147(rt: HostRuntime) {
-    assert_eq!(rt; first_wrong_place(0x01, 118..=147), None);
+    assert_found(&rt, 0x01, 118..=147);
 }
 
 #[test]
 fn finds_a_byte_among_01_up_to_169(rt: HostRuntime) {
-    assert_eq!(rt; first_wrong_place(0x01, 148..=169), None);
+    assert_found(&rt, 0x01, 148..=169);
 }
 
 #[test]
 fn finds_a_byte_among_01_up_to_186(rt: HostRuntime) {
-    assert_eq!(rt; first_wrong_place(0x01, 170..=186), None);
+    assert_found(&rt, 0x01, 170..=186);
 }
 
 #[test]
 fn finds_a_byte_among_01_up_to_200(rt: HostRuntime) {
-    assert_eq!(rt; first_wrong_place(0x01, 187..=200), None);
+    assert_found(&rt, 0x01, 187..=200);
 }
 
 #[test]
 fn finds_a_byte_among_61_up_to_117(rt: HostRuntime) {
-    assert_eq!(rt; first_wrong_place(0x61, 1..=117), None);
+    assert_found(&rt, 0x61, 1..=117);
 }
 
 #[test]
 fn finds_a_byte_among_61_up_to_147(rt: HostRuntime) {
-    assert_eq!(rt; first_wrong_place(0x61, 118..=147), None);
+    assert_found(&rt, 0x61, 118..=147);
 }
 
 #[test]
 fn finds_a_byte_among_61_up_to_169(rt: HostRuntime) {
-    assert_eq!(rt; first_wrong_place(0x61, 148..=169), None);
+    assert_found(&rt, 0x61, 148..=169);
 }
 
 #[test]
 fn finds_a_byte_among_61_up_to_186(rt: HostRuntime) {
-    assert_eq!(rt; first_wrong_place(0x61, 170..=186), None);
+    assert_found(&rt, 0x61, 170..=186);
 }
 
 #[test]
 fn finds_a_byte_among_61_up_to_200(rt: HostRuntime) {
-    assert_eq!(rt; first_wrong_place(0x61, 187..=200), None);
+    assert_found(&rt, 0x61, 187..=200);
 }
 
 #[test]
 fn finds_a_byte_among_81_up_to_117(rt: HostRuntime) {
-    assert_eq!(rt; first_wrong_place(0x81, 1..=117), None);
+    assert_found(&rt, 0x81, 1..=117);
 }
 
 #[test]
 fn finds_a_byte_among_81_up_to_147(rt: HostRuntime) {
-    assert_eq!(rt; first_wrong_place(0x81, 118..=147), None);
+    assert_found(&rt, 0x81, 118..=147);
 }
 
 #[test]
 fn finds_a_byte_among_81_up_to_169(rt: HostRuntime) {
-    assert_eq!(rt; first_wrong_place(0x81, 148..=169), None);
+    assert_found(&rt, 0x81, 148..=169);
 }
 
 #[test]
 fn finds_a_byte_among_81_up_to_186(rt: HostRuntime) {
-    assert_eq!(rt; first_wrong_place(0x81, 170..=186), None);
+    assert_found(&rt, 0x81, 170..=186);
 }
 
 #[test]
 fn finds_a_byte_among_81_up_to_200(rt: HostRuntime) {
-    assert_eq!(rt; first_wrong_place(0x81, 187..=200), None);
+    assert_found(&rt, 0x81, 187..=200);
 }
 
 #[test]
 fn finds_a_byte_among_ff_up_to_117(rt: HostRuntime) {
-    assert_eq!(rt; first_wrong_place(0xFF, 1..=117), None);
+    assert_found(&rt, 0xFF, 1..=117);
 }
 
 #[test]
 fn finds_a_byte_among_ff_up_to_147(rt: HostRuntime) {
-    assert_eq!(rt; first_wrong_place(0xFF, 118..=147), None);
+    assert_found(&rt, 0xFF, 118..=147);
 }
 
 #[test]
 fn finds_a_byte_among_ff_up_to_169(rt: HostRuntime) {
-    assert_eq!(rt; first_wrong_place(0xFF, 148..=169), None);
+    assert_found(&rt, 0xFF, 148..=169);
 }
 
 #[test]
 fn finds_a_byte_among_ff_up_to_186(rt: HostRuntime) {
-    assert_eq!(rt; first_wrong_place(0xFF, 170..=186), None);
+    assert_found(&rt, 0xFF, 170..=186);
 }
 
 #[test]
 fn finds_a_byte_among_ff_up_to_200(rt: HostRuntime) {
-    assert_eq!(rt; first_wrong_place(0xFF, 187..=200), None);
+    assert_found(&rt, 0xFF, 187..=200);
 }
 
 /// A list of one byte that is sought or is not, of each length.

@@ -9,6 +9,8 @@ mod long_texts;
 #[cfg(test)]
 mod order;
 #[cfg(test)]
+mod slices;
+#[cfg(test)]
 mod texts;
 #[cfg(test)]
 mod units;

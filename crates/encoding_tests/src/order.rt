@@ -34,48 +34,78 @@ fn is_reversed(flavor: Flavor, first: &Border, second: &Border) -> bool {
     flavor == Flavor::Mutf8 && is_ascii && is_null != (second.name == "U+0000")
 }
 
+/// Compares how the encodings of two scalar values compare with how their code units do.
+fn expect_as_units(
+    alloc: Global,
+    flavor: Flavor,
+    first: &Border,
+    second: &Border,
+) -> Result<(), Difference> {
+    let one = str::from_utf8(first.utf8).unwrap_or("");
+    let other = str::from_utf8(second.utf8).unwrap_or("");
+    let units = compare_units(one, other);
+    let reversed = is_reversed(flavor, first, second);
+    let expected = if reversed { units.reverse() } else { units };
+    let order = compare_encodings(alloc, flavor, one, other)?;
+    expect(alloc, flavor, "encode", order, expected)
+}
+
 /// Each scalar value with each.
 #[test]
-fn orders_the_borders_by_code_units(rt: HostRuntime) -> Result<(), Fail> {
+fn orders_the_borders_by_code_units(rt: HostRuntime) {
     for flavor in FLAVORS {
         for first in &BORDERS {
             for second in &BORDERS {
-                let one = str::from_utf8(first.utf8)?;
-                let other = str::from_utf8(second.utf8)?;
-                let units = compare_units(one, other);
-                let reversed = is_reversed(flavor, first, second);
-                let expected = if reversed { units.reverse() } else { units };
-                let order = compare_encodings(rt.alloc(), flavor, one, other)?;
-                assert_eq!(rt; order, expected, "{one:?} and {other:?} in {flavor:?}");
+                let compared = expect_as_units(rt.alloc(), flavor, first, second);
+                assert!(rt;
+                    compared.is_ok(),
+                    "{compared:?}: {} and {}",
+                    first.name,
+                    second.name
+                );
             }
         }
+    }
+}
+
+/// Compares how the first of two texts compares by UTF-8, by code units, in CESU-8 and in MUTF-8.
+fn expect_orders(
+    alloc: Global,
+    (first, second): (&str, &str),
+    utf8: Ordering,
+    [units, cesu8, mutf8]: [Ordering; 3],
+) -> Result<(), Difference> {
+    let flavor = Flavor::Cesu8;
+    expect(alloc, flavor, "cmp", first.cmp(second), utf8)?;
+    expect(
+        alloc,
+        flavor,
+        "encode_utf16",
+        compare_units(first, second),
+        units,
+    )?;
+    let ordering = simd_cesu8::compare_as_utf16(first, second);
+    expect(alloc, flavor, "compare_as_utf16", ordering, units)?;
+    for (flavor, expected) in [(Flavor::Cesu8, cesu8), (Flavor::Mutf8, mutf8)] {
+        let order = compare_encodings(alloc, flavor, first, second)?;
+        expect(alloc, flavor, "encode", order, expected)?;
     }
     Ok(())
 }
 
 /// Two texts, and how the first compares by UTF-8, by code units, in CESU-8 and in MUTF-8.
 #[test]
-fn orders_examples(rt: HostRuntime) -> Result<(), Fail> {
+fn orders_examples(rt: HostRuntime) {
     let rows = [
         ("\u{FFFF}", "\u{10000}", Less, [Greater, Greater, Greater]),
         ("\u{E000}", "\u{10FFFF}", Less, [Greater, Greater, Greater]),
         ("\0", "A", Less, [Less, Less, Greater]),
         ("", "\0", Less, [Less, Less, Less]),
     ];
-    for (first, second, utf8, [units, cesu8, mutf8]) in rows {
-        assert_eq!(rt; first.cmp(second), utf8, "UTF-8 of {first:?}");
-        assert_eq!(rt; compare_units(first, second), units, "units of {first:?}");
-        assert_eq!(rt;
-            simd_cesu8::compare_as_utf16(first, second),
-            units,
-            "{first:?}"
-        );
-        for (flavor, expected) in [(Flavor::Cesu8, cesu8), (Flavor::Mutf8, mutf8)] {
-            let order = compare_encodings(rt.alloc(), flavor, first, second)?;
-            assert_eq!(rt; order, expected, "{first:?} in {flavor:?}");
-        }
+    for (first, second, utf8, others) in rows {
+        let compared = expect_orders(rt.alloc(), (first, second), utf8, others);
+        assert!(rt; compared.is_ok(), "{compared:?}: {first:?} and {second:?}");
     }
-    Ok(())
 }
 
 /// A text of a character so many times, and an end.
