@@ -4,7 +4,8 @@
 //! one is UTF-8 if it is ASCII; otherwise a prefix of long input is tested before the rest.
 
 ghost use Rattle.std.specs.Prelude.{◌↔◌, IsTrue, Any, ◌≡◌, ◌*◌, length, IsUtf8, ◌<◌};
-ghost use Rattle.cesu8_text.specs.Class.{IsChangedByte, IsUnchangedUtf8};
+ghost use Rattle.cesu8_text.specs.Class.{IsChangedByte, IsUnchangedUtf8, is_other_lead};
+ghost use Rattle.cesu8_bytes.specs.Kernels.{AnyIn};
 ghost use Rattle.cesu8_bytes.specs.FirstLooks.{IsTextWhere};
 ghost use Rattle.std.specs.Str.{chars};
 ghost use Rattle.cesu8_text.specs.Encoding.{NeedsEncoding};
@@ -13,7 +14,7 @@ use crate::ascii::{ascii_text, is_ascii};
 use crate::continuation::character_start;
 use crate::flavor::Flavor;
 use crate::implementation::active;
-use crate::implementation::class::{Either, FourByteLead};
+use crate::implementation::class::{Either, FourByteLead, OtherLead};
 use crate::implementation::short::{SHORT_VALUE, any_in_short};
 use simdutf8::{compat, is_utf8};
 
@@ -120,4 +121,13 @@ pub fn unchanged_text<F: Flavor>(bytes: &[u8]) -> &str
         return whole_text(bytes);
     }
     ""
+}
+
+/// Returns whether bytes that are not UTF-8 may be an encoding: whether some byte is ED, which leads
+/// surrogates, or C0 (hexadecimal).
+#[inline(never)]
+pub fn may_be_encoding(bytes: &[u8]) -> bool
+    ensures { IsTrue result ↔ AnyIn is_other_lead bytes.now }
+{
+    any_in_short::<OtherLead>(bytes)
 }

@@ -11,7 +11,7 @@
 //! the next chunk, joined or by offsets.
 #![tactic(auto)]
 
-ghost use Rattle.std.specs.Prelude.{◌≡◌, length, IfOk};
+ghost use Rattle.std.specs.Prelude.{◌≡◌, length, IfOk, IsUtf8};
 ghost use Rattle.std.specs.String.{string_bytes, string_capacity};
 ghost use Rattle.std.specs.Str.{chars};
 ghost use Rattle.cesu8_text.specs.Reading.{IsStrictReading, HasNoStrictReading, reading, lossy_length};
@@ -42,8 +42,9 @@ pub use lengths::{decoded_len, lossy_len};
 use std::alloc::{AllocError, Allocator};
 use text::append_text;
 
-/// Returns the strict reading of the bytes, after one request for their length.
+/// Returns the strict reading of bytes that are not UTF-8, after one request for their length.
 pub fn decode_strict<F: Flavor, A: Allocator>(alloc: A, bytes: &[u8]) -> Result<String<A>, Refusal>
+    requires { ¬ (IsUtf8 bytes.now) }
     ensures text { IfOk result (λ text.
         IsStrictReading F.flavor bytes.now (chars (string_bytes text))) }
     ensures capacity { IfOk result (λ text. string_capacity text ≡ length bytes.now) }

@@ -4,11 +4,12 @@
 //! passes find whether they are ill-formed and, if needed, how long their text is. Then it is
 //! written chunk by chunk where it stays.
 
-ghost use Rattle.std.specs.Prelude.{◌+◌, ◌*◌, ◌≤◌, List, ℕ, ◌<◌, length, take};
+ghost use Rattle.std.specs.Prelude.{◌≡◌, ◌+◌, ◌*◌, ◌≤◌, List, ℕ, ◌<◌, length, take, IsUtf8};
 ghost use Rattle.cesu8_text.specs.Encoding.{Flavor as AnyFlavor};
 ghost use Rattle.cesu8_text.specs.Reading.{reading, lossy_length};
 ghost use Rattle.cesu8_text.specs.Slices.{StandsAtFront};
 ghost use Rattle.cesu8_text.specs.Text.{utf8};
+ghost use Rattle.cesu8_bytes.specs.declared.options.Strictness.TheVariants.{Strict};
 ghost use Rattle.cesu8_decode.specs.Decoding.{ReadsAll};
 ghost use Rattle.cesu8_decode.specs.PutReadings.{PutsReading};
 
@@ -39,6 +40,7 @@ pub fn put_text<F: Flavor>(
     bytes: &[u8],
     buf: &mut [u8],
 ) -> Result<usize, Unwritten>
+    requires { strictness ≡ Strict → ¬ (IsUtf8 bytes.now) }
     ensures { PutsReading F.flavor strictness bytes.now result buf.old buf.new }
 {
     match way_of::<F>(strictness, bytes) {

@@ -3,6 +3,7 @@
 ghost use Rattle.std.specs.Prelude.{◌≡◌, ◌+◌, ◌*◌, ◌≤◌, ◌++◌, length, take, false, true, OnOk};
 ghost use Rattle.std.specs.Str.{IsUtf8};
 ghost use Rattle.std.specs.String.{string_bytes};
+ghost use Rattle.cesu8_bytes.specs.declared.options.Strictness.TheVariants.{Strict};
 ghost use Rattle.cesu8_decode.specs.Decoding.{AppendsText, refuses};
 ghost use Rattle.cesu8_decode.specs.Refusals.{OnNoText};
 
@@ -31,6 +32,7 @@ pub fn append_text<F: Flavor, A: Allocator>(
     bytes: &[u8],
     out: &mut String<A>,
 ) -> Result<(), Refusal>
+    requires { strictness ≡ Strict → ¬ (IsUtf8 bytes.now) }
     ensures { AppendsText F.flavor strictness bytes.now
         result (string_bytes out.old) (string_bytes out.new) }
 {

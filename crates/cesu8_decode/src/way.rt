@@ -5,6 +5,7 @@
 //! | at most 24 | at most 12 | `Characters` | `Characters` |
 //! | at most 24 | more | `Characters` | `ShortWindow` |
 //! | at most 96 | at most 6 | `Characters` | `Characters` |
+//! | at most 1,024, of which none is ED or C0 | any | `Refused` | as without |
 //! | at most 96 | more | `ShortWindow` | `ShortWindow` |
 //! | at most 256 | any | `MediumWindow` | `MediumWindow` |
 //! | more, and the first 64 show an ill-formed byte | any | `Refused` | as without |
@@ -20,7 +21,8 @@
 //!   byte.
 //! - `JoinedWindow`: chunks, of which a joined window mostly has all bytes but a few. Strict
 //!   reading stops at an ill-formed byte, so the buffers for windows by offsets are smaller.
-//! - `Refused`: most input that is no encoding is ill-formed early.
+//! - `Refused`: strict reading is asked for bytes that are not UTF-8 alone, and each encoding that is
+//!   not UTF-8 has an ED or a C0. Most other input that is no encoding is ill-formed early.
 //!
 //! How many times as fast a row makes what it is for, in the median at x86-64-v3 and at v2, beside
 //! 1fdcb97 without it, where the next row that fits took its place:
@@ -33,10 +35,14 @@
 //! | `MediumWindow` | 200 and 256 bytes, to a slice | 1.1 | 1.1 |
 //! | `LongWindow` | damaged, 1,024 bytes, to a slice | 1.3 | 1.4 |
 //! | `JoinedWindow` | well-formed, 1,024 bytes, to a slice | 1.3 | 1.4 |
-//! | `Refused` | refused, 1,024 bytes, to a `String` | 2.3 | 1.9 |
+//! | `Refused`, by the first 64 | refused, 1,024 bytes, to a `String` | 2.3 | 1.9 |
+//! | `Refused`, without ED and C0 | refused, 64 to 128 bytes, to a `String`, beside 70c002d | 1.9 | 2.0 |
+//! | | the same, to a slice | 2.3 | 2.3 |
 //!
 //! A call on a slice that takes no UTF-8 as such takes `Characters` before it tests the bytes at
-//! all, below 64 of them of which at most 6 are others: the tests take as long as reading these.
+//! all, below 64 of them of which at most 6 are others: the tests take as long as reading these. It
+//! does so too with at most 24 bytes of which one is ED or C0, since they are mostly an encoding:
+//! well-formed bytes from 16 on take two thirds of the time in lossy reading (70c002d).
 //!
 //! A call on a slice that takes `JoinedWindow` goes on by `Chunks` if more bytes are left than a
 //! short window has.
@@ -45,10 +51,12 @@
 //! short text before its test for UTF-8, `characters` pads the last bytes, and `sums` the last
 //! block. Before the decoder, `cesu8_bytes` takes the first looks.
 
-ghost use Rattle.std.specs.Prelude.{◌<◌, ◌≤◌, length, IsTrue};
+ghost use Rattle.std.specs.Prelude.{◌≡◌, ◌<◌, ◌≤◌, length, IsTrue, IsUtf8};
+ghost use Rattle.cesu8_bytes.specs.declared.options.Strictness.TheVariants.{Strict};
 ghost use Rattle.cesu8_decode.specs.Ways.{IsWayOf};
 
 use super::ill_formed::is_ill_formed_in_prefix;
+use cesu8_bytes::first_looks::may_be_encoding;
 use cesu8_bytes::flavor::Flavor;
 use cesu8_bytes::implementation::class::{Either, NonAscii, Null};
 use cesu8_bytes::implementation::short::count_in_ends;
@@ -95,16 +103,22 @@ type NullOrNonAscii = Either<Null, NonAscii>;
 /// Returns which way the bytes go.
 #[inline(always)]
 pub fn way_of<F: Flavor>(strictness: Strictness, bytes: &[u8]) -> Way
+    requires { strictness ≡ Strict → ¬ (IsUtf8 bytes.now) }
     ensures { IsWayOf F.flavor strictness bytes.now result }
 {
     let is_strict = matches!(strictness, Strictness::Strict);
-    let most = if bytes.len() <= FEWEST {
-        OTHERS
-    } else {
-        FEWER_OTHERS
-    };
-    if is_strict && bytes.len() <= FEWEST || has_few_others(bytes, most) {
+    if bytes.len() <= FEWEST {
+        return if is_strict || has_few_others(bytes, OTHERS) {
+            Way::Characters
+        } else {
+            Way::ShortWindow
+        };
+    }
+    if has_few_others(bytes, FEWER_OTHERS) {
         return Way::Characters;
+    }
+    if is_strict && bytes.len() <= LONG_WINDOW && !may_be_encoding(bytes) {
+        return Way::Refused;
     }
     if bytes.len() <= SHORT_WINDOW {
         return Way::ShortWindow;
@@ -125,13 +139,14 @@ pub fn way_of<F: Flavor>(strictness: Strictness, bytes: &[u8]) -> Way
     }
 }
 
-/// Returns whether so few bytes, of which hardly any are not ASCII, are decoded before they are
-/// tested for UTF-8.
+/// Returns whether bytes are decoded before they are tested for UTF-8: a few of which hardly any are
+/// not ASCII, or still fewer that are most likely an encoding.
 #[inline(always)]
 pub fn comes_before_tests(bytes: &[u8]) -> bool
     ensures { IsTrue result → length bytes.now < READ_AT_ONCE }
 {
     bytes.len() < READ_AT_ONCE && has_few_others(bytes, FEWER_OTHERS)
+        || bytes.len() <= FEWEST && may_be_encoding(bytes)
 }
 
 /// Returns whether the bytes are few, and at most so many of them other than 01 to 7F.

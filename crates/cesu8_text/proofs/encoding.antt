@@ -11,3 +11,4 @@ pub mod NoneFound
 pub mod Unique
 pub mod NeedsEncoding
 pub mod EncodedBytes
+pub mod OtherLeads

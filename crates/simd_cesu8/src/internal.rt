@@ -1,7 +1,7 @@
 //! The one door to the codec, for both flavors: its options and its functions. What they return
 //! where there is no result becomes a fault of this crate here, and nowhere else.
 
-ghost use Rattle.std.specs.Prelude.{◌≡◌, length, IfOk};
+ghost use Rattle.std.specs.Prelude.{◌≡◌, length, IfOk, IsUtf8};
 ghost use Rattle.std.specs.Str.{chars};
 ghost use Rattle.std.specs.String.{string_bytes, string_capacity};
 ghost use Rattle.simd_cesu8.specs.Encoding.{encoding};
@@ -27,9 +27,10 @@ pub use cesu8_decode::{decode_lossy, decoded_len, lossy_len};
 pub use cesu8_encode::{encode, encode_into};
 use std::alloc::Global;
 
-/// Returns the strict reading of the bytes, after one request for their length.
+/// Returns the strict reading of bytes that are not UTF-8, after one request for their length.
 #[inline(always)]
 pub fn decode_strict<F: Flavor>(alloc: Global, bytes: &[u8]) -> Result<String, DecodeFault>
+    requires { ¬ (IsUtf8 bytes.now) }
     ensures text { IfOk result (λ text.
         IsStrictReading F.flavor bytes.now (chars (string_bytes text))) }
     ensures capacity { IfOk result (λ text. string_capacity text ≡ length bytes.now) }

@@ -87,8 +87,14 @@ pub fn mask<C: InVectors<32>>(bytes: u8x32) -> u8x32
 /// No byte.
 pub struct NoByte;
 
+/// One byte.
+pub struct Equal<const BYTE: u8>;
+
 /// 00.
-pub struct Null;
+pub type Null = Equal<0>;
+
+/// ED or C0 (hexadecimal). Each encoding that is not UTF-8 has one of them.
+pub type OtherLead = Either<Equal<0xED>, Equal<0xC0>>;
 
 /// F0 to F7 (hexadecimal): those whose upper five bits are those of F0.
 pub struct FourByteLead;
@@ -122,16 +128,16 @@ impl<const N: usize> InVectors<N> for NoByte {
     }
 }
 
-impl Class for Null {
-    ghost class = { λ b. b == 0 };
+impl<const BYTE: u8> Class for Equal<BYTE> {
+    ghost class = { λ b. b == BYTE };
 }
 
-impl<const N: usize> InVectors<N> for Null {
+impl<const BYTE: u8, const N: usize> InVectors<N> for Equal<BYTE> {
     #[inline(always)]
     fn marks(bytes: Simd<u8, N>) -> Mask<i8, N>
-        ensures { result ≡ map (λ b. lane (b == 0)) bytes.entry }
+        ensures { result ≡ map (λ b. lane (b == BYTE)) bytes.entry }
     {
-        bytes.simd_eq(Simd::splat(0))
+        bytes.simd_eq(Simd::splat(BYTE))
     }
 }
 
