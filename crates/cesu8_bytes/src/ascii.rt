@@ -11,7 +11,7 @@ use crate::implementation::class::{Either, LANES, NonAscii};
 use crate::implementation::short::{SHORT_VALUE, any_in_short};
 use crate::implementation::simd::left_by;
 
-/// Returns whether the bytes are few and all ASCII.
+/// Returns whether the bytes are few and all ASCII. More are tested faster by `is_ascii`.
 #[inline(always)]
 pub fn is_short_ascii(bytes: &[u8]) -> bool
     ensures { IsTrue result → IsAscii bytes.now }
@@ -19,7 +19,8 @@ pub fn is_short_ascii(bytes: &[u8]) -> bool
     bytes.len() <= SHORT_VALUE && !any_in_short::<NonAscii>(bytes)
 }
 
-/// Returns whether the bytes are few and all ASCII that does not change.
+/// Returns whether the bytes are few and all ASCII that does not change: in MUTF-8 00 does, and in
+/// CESU-8 none.
 #[inline(always)]
 pub fn is_short_unchanged_ascii<F: Flavor>(bytes: &[u8]) -> bool
     ensures ascii { IsTrue result → IsAscii bytes.now }

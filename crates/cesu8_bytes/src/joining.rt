@@ -48,7 +48,8 @@ pub fn join<F: Flavor>(bytes: &[u8], end: usize, buffer: &mut Buffer) -> Step
     }
 }
 
-/// Copies a block without marks before its end, or joins one with marks.
+/// Copies a block without marks before its end, or joins one with marks. As `KeepsJoined` says, what
+/// was joined before the call goes on to be so after it.
 #[inline(always)]
 fn join_block<'a, F: Flavor>(at: Progress<'a>, stop: usize, buffer: &mut Buffer) -> Progress<'a>
     requires stop { (stop < length at.rest.now) × (MUST_FOLLOW ≤ stop) }

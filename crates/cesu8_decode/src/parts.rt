@@ -80,7 +80,9 @@ pub fn write_block<F: Flavor>(
     }
 }
 
-/// Marks, with the highest bit, those of the first `count` bytes that go, and all later bytes.
+/// Marks, with the highest bit, those of the first `count` bytes that go, and all later bytes. The
+/// highest bit of a kind is that of C0 80, whose first byte goes. `PAIR` is two bits below, and the
+/// first two bytes of a pair go. No other kind has either bit.
 #[inline(always)]
 fn gone(kinds: &Kinds, count: usize) -> u8x32
     requires count { count ≤ BLOCK }

@@ -120,6 +120,8 @@ fn write_blocks<F: Flavor>(window: &[u8], count: usize, out: &mut [u8]) -> Decod
     let mut at = 0;
     let mut end = 0;
     let mut is_ill_formed = false;
+    // What begins at the last five offsets of a block may reach into the next one. Before the first
+    // block are zeros, where nothing begins.
     let mut before = u8x32::splat(0);
     while at < count {
         let left = count - at;

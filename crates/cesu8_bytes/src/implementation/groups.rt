@@ -23,7 +23,8 @@ pub trait InGroups<const N: usize>: InVectors<N> {
             → IsTrue result };
 }
 
-/// A class that four vectors of each width may be tested for.
+/// A class that four vectors of each width may be tested for. By these widths `simd` takes bytes, and
+/// they leave one byte at most.
 pub trait InAllGroups: InGroups<LANES>
     + InGroups<32>
     + InGroups<16>
