@@ -87,13 +87,16 @@ compare_code() {
     grep -r --include='*.rt' '#\[test\]' "$new/crates" && wrong 'a test is copied'
 }
 
-# Proves and runs the crate, over what was proved of these sources before.
+# Proves and runs the crate, over what was proved of these sources before. A copy without tests has other
+# sources than the library here, so `rt` builds it anew, over what was kept of each proof.
 prove() {
-    local library
+    local library made
     for library in "${libraries[@]}"; do
-        [[ -d $top/crates/$library/out/rlib ]] || continue
         mkdir "$new/crates/$library/out" || exit 2
-        cp -R "$top/crates/$library/out/rlib" "$new/crates/$library/out" || exit 2
+        for made in rlib incremental; do
+            [[ -d $top/crates/$library/out/$made ]] || continue
+            cp -R "$top/crates/$library/out/$made" "$new/crates/$library/out" || exit 2
+        done
     done
     if ! (cd "$new/crates/keys" && quietly rt run ${PROOF_JOBS:+--jobs "$PROOF_JOBS"}); then
         wrong 'the crate is not proved'
