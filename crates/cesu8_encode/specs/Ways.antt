@@ -1,9 +1,11 @@
 -- How long a text is that goes each way.
 use Rattle.std.specs.Prelude.{ℕ, ◌<◌, ◌≤◌}
+use Rattle.cesu8_bytes.specs.declared.TheConstants.{BLOCK}
 use Rattle.cesu8_encode.specs.declared.way.TheConstants.{FEW}
 use Rattle.cesu8_encode.specs.declared.way.Way.{Way}
-use Rattle.cesu8_encode.specs.declared.way.Way.TheVariants.{Few, Blocks}
+use Rattle.cesu8_encode.specs.declared.way.Way.TheVariants.{Few, Block, Blocks}
 
 abbrev pub Fits : Way → ℕ → Type 0
 Fits Few n = n ≤ FEW
-Fits Blocks n = FEW < n
+Fits Block n = (FEW < n) × (n ≤ BLOCK)
+Fits Blocks n = BLOCK < n

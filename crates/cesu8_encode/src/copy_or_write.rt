@@ -6,7 +6,8 @@ ghost use Rattle.cesu8_text.specs.Encoding.{encoding};
 ghost use Rattle.cesu8_bytes.specs.Puts.{PutsAnswer};
 
 use crate::few::{is_unchanged, write_few};
-use crate::way::{FEW, Way, way_of, write};
+use crate::way::{Way, way_of, write};
+use cesu8_bytes::BLOCK;
 use cesu8_bytes::first_looks::needs_encoded;
 use cesu8_bytes::flavor::Flavor;
 use cesu8_bytes::lengths::encoded_len;
@@ -19,7 +20,7 @@ pub fn encode_to_slice<F: Flavor>(text: &str, buf: &mut [u8]) -> Result<usize, N
     ensures { PutsAnswer (encoding F.flavor (chars text.now)) result buf.old buf.new }
 {
     match way_of(text) {
-        Way::Few => put_few::<F>(text, buf),
+        Way::Few | Way::Block => put_few::<F>(text, buf),
         _ if !needs_encoded::<F>(text) => copy_to_slice(text.as_bytes(), buf),
         Way::Blocks => put_in_place::<F>(text, buf),
     }
@@ -28,7 +29,7 @@ pub fn encode_to_slice<F: Flavor>(text: &str, buf: &mut [u8]) -> Result<usize, N
 #[inline(always)]
 #[tactic(auto, using(cesu8_text::proofs::encoding::Lengths::length_encoding_chars))]
 fn put_few<F: Flavor>(text: &str, buf: &mut [u8]) -> Result<usize, NoRoom>
-    requires { length text.now ≤ FEW }
+    requires { length text.now ≤ BLOCK }
     ensures { PutsAnswer (encoding F.flavor (chars text.now)) result buf.old buf.new }
 {
     if is_unchanged::<F>(text) {
@@ -45,10 +46,10 @@ fn put_few<F: Flavor>(text: &str, buf: &mut [u8]) -> Result<usize, NoRoom>
 #[inline(never)]
 #[tactic(auto, using(cesu8_text::proofs::encoding::Lengths::length_encoding_chars))]
 fn put_on_stack<F: Flavor>(text: &str, buf: &mut [u8]) -> Result<usize, NoRoom>
-    requires { length text.now ≤ FEW }
+    requires { length text.now ≤ BLOCK }
     ensures { PutsAnswer (encoding F.flavor (chars text.now)) result buf.old buf.new }
 {
-    let mut written = [0; 2 * FEW];
+    let mut written = [0; 2 * BLOCK];
     let len = write_few::<F>(text, &mut written);
     copy_to_slice_by_call(&written[..len], buf)
 }

@@ -31,8 +31,8 @@ mod rows;
 mod way;
 mod windows;
 
-use self::few::write_few;
-use self::way::{FEW, Way, way_of, write};
+use self::way::{Way, way_of, write};
+use cesu8_bytes::BLOCK;
 use cesu8_bytes::flavor::Flavor;
 use cesu8_bytes::lengths::encoded_len;
 use cesu8_bytes::writers::{append, append_zeros, copy, make_room};
@@ -49,23 +49,23 @@ pub fn encode<F: Flavor, A: Allocator + Copy>(
     ensures { BuildsEncoding F.flavor text.now result }
 {
     match way_of(text) {
-        Way::Few => encode_on_stack::<F, A>(alloc, text),
+        Way::Few | Way::Block => encode_on_stack::<F, A>(alloc, text),
         Way::Blocks => encode_in_place::<F, A>(alloc, text),
     }
 }
 
-/// Encodes a few bytes to the stack, and returns a copy.
+/// Encodes a short text to the stack, and returns a copy.
 #[inline(never)]
 #[tactic(auto, using(cesu8_text::proofs::encoding::Lengths::length_encoding_chars))]
 fn encode_on_stack<F: Flavor, A: Allocator + Copy>(
     alloc: A,
     text: &str,
 ) -> Result<Vec<u8, A>, AllocError>
-    requires { length text.now ≤ FEW }
+    requires { length text.now ≤ BLOCK }
     ensures { BuildsEncoding F.flavor text.now result }
 {
-    let mut written = [0; 2 * FEW];
-    let len = write_few::<F>(text, &mut written);
+    let mut written = [0; 2 * BLOCK];
+    let len = write::<F>(text, &mut written);
     copy(alloc, &written[..len])
 }
 

@@ -13,8 +13,21 @@ use super::blocks::{BLOCK_READ, READ_AFTER, READ_BEFORE, write_block};
 use cesu8_bytes::BLOCK;
 use cesu8_bytes::flavor::Flavor;
 
-/// Writes the encoding of a text of more than a block, and returns its end. It is not inlined, so
+/// Writes the encoding of a text of at most a block, and returns its end. It is not inlined, so
 /// that a text that stays as it is uses none of its stack.
+#[inline(never)]
+pub fn write_short<F: Flavor>(text: &str, out: &mut [u8]) -> usize
+    requires short { length text.now ≤ BLOCK }
+    requires room { length (encoding F.flavor (chars text.now)) ≤ length out.old }
+    ensures { WritesEncoding F.flavor text.now out.old out.new result }
+{
+    let bytes = text.as_bytes();
+    let mut window = [0; BLOCK_READ];
+    window[READ_BEFORE..READ_BEFORE + bytes.len()].copy_from_slice(bytes);
+    write_block::<F>(&window, 0, bytes.len(), out, 0)
+}
+
+/// Writes the encoding of a longer text, and returns its end.
 #[inline(never)]
 pub fn write_blocks<F: Flavor>(text: &str, out: &mut [u8]) -> usize
     requires long { BLOCK < length text.now }

@@ -1,5 +1,5 @@
 -- What is written for parts of a text.
-use Rattle.std.proofs.Common.{◌≡◌, ℕ, zero, suc, ◌+◌, ◌-◌, ◌*◌, ◌%◌, ◌^◌, ◌<◌, ◌≤◌, Bool, true, false, cond, List, [], ◌∷◌, ◌++◌, map, refl, sym, ap, ◌∙◌, arith, length, take, drop, get_or, replicate, bit_and, length-append, append_assoc, append-nil, count_ones}
+use Rattle.std.proofs.Common.{◌≡◌, ℕ, zero, suc, ◌+◌, ◌-◌, ◌*◌, ◌%◌, ◌^◌, ◌<◌, ◌≤◌, Bool, true, false, cond, List, [], ◌∷◌, ◌++◌, map, refl, sym, ap, ◌∙◌, arith, length, take, drop, get_or, replicate, bit_and, length-append, append_assoc, count_ones}
 use Rattle.std.specs.List.{flat_map, range_with_len}
 use Rattle.std.proofs.lemmas.List.{get_or-drop, get_or-take, length-drop, length-take-le, take_all, take_at, take-take}
 use Rattle.std.proofs.lemmas.List.Concat.{flat_map-append}
@@ -138,16 +138,20 @@ stored_block f window before out firsts seconds i stored is firsts_are seconds_a
     is ∙ ap (λ l. before ++ l)
     ((λ j. packed (map (is_doubled_at f window) (range_with_len i 32)) (firsts_are j) (seconds_are j)) ∙ packed_block f window i 32)
 
--- Of the window in which a text's first bytes stand behind two zeros, the first bytes of the text are written,
-pub encoded_bytes_first : (f : Flavor) (text near : List ℕ) (n : ℕ) → n ≤ 32 → near ≡ take 33 text →
-    encoded_bytes f (0 ∷ 0 ∷ (near ++ [])) 0 n ≡ encoded_bytes f (0 ∷ 0 ∷ text) 0 n
-encoded_bytes_first f text near n le is =
-    rw (append-nil near, is) (encoded_bytes_agree f (0 ∷ 0 ∷ take 33 text) (0 ∷ 0 ∷ text) 0 0 n (λ k l. first (0 + k) (omega arith)))
+-- What is left of zeros is zeros.
+zeros_left : (n m j : ℕ) → ◌≡◌ {A = ℕ} (get_or (drop m (replicate n 0)) j 0) 0
+zeros_left n m j = get_or-drop m (replicate n 0) j 0 ∙ zeros_at n (m + j)
+
+-- Of the window in which a text's first bytes stand between zeros, the first bytes of the text are written,
+pub encoded_bytes_first : (f : Flavor) (text near : List ℕ) (zeros m n : ℕ) → n ≤ 32 → near ≡ take 33 text →
+    encoded_bytes f (0 ∷ 0 ∷ (near ++ drop m (replicate zeros 0))) 0 n ≡ encoded_bytes f (0 ∷ 0 ∷ text) 0 n
+encoded_bytes_first f text near zeros m n le is =
+    encoded_bytes_agree f (0 ∷ 0 ∷ (near ++ drop m (replicate zeros 0))) (0 ∷ 0 ∷ text) 0 0 n (λ k l. first (0 + k) (omega arith))
   where
-    first : (k : ℕ) → k < 35 → get_or (0 ∷ 0 ∷ take 33 text) k 0 ≡ get_or (0 ∷ 0 ∷ text) k 0
+    first : (k : ℕ) → k < 35 → get_or (0 ∷ 0 ∷ (near ++ drop m (replicate zeros 0))) k 0 ≡ get_or (0 ∷ 0 ∷ text) k 0
     first zero l = refl
     first (suc zero) l = refl
-    first (suc (suc k)) l = get_or-take 33 text k 0 (omega arith)
+    first (suc (suc k)) l = padded near _ (zeros_left zeros m) k ∙ ap (λ xs. get_or xs k 0) is ∙ get_or-take 33 text k 0 (omega arith)
 
 -- and of that in which zeros follow its last bytes, those from i on.
 pub encoded_bytes_last : (f : Flavor) (text near : List ℕ) (i n : ℕ) → 2 ≤ i → near ≡ part_from (i - 2) text →
@@ -155,7 +159,7 @@ pub encoded_bytes_last : (f : Flavor) (text near : List ℕ) (i n : ℕ) → 2 �
 encoded_bytes_last f text near i n le is =
     let m = length (part_from (i - 2) text) in
     encoded_bytes_agree f (near ++ drop m (replicate 35 0)) near 0 0 n
-    (λ k l. padded near (drop m (replicate 35 0)) (λ j. get_or-drop m (replicate 35 0) j 0 ∙ zeros_at 35 (m + j)) (0 + k))
+    (λ k l. padded near (drop m (replicate 35 0)) (zeros_left 35 m) (0 + k))
     ∙ ap (λ window. encoded_bytes f window 0 n) is ∙ encoded_bytes_drop f text i n le
 
 -- What is written for n bytes and then m is no longer than what is written for as many and more.

@@ -8,7 +8,7 @@ write_block-requires-clause-room g c =
     let text = c.args.text.now in
     omega (
       arith,
-      ap length (encoded_bytes_first f text c.copy_from_slice.new.self 32 (omega arith) c.copy_from_slice.ensures.after),
+      ap length (encoded_bytes_first f text c.copy_from_slice.new.self 0 0 32 (omega arith) c.copy_from_slice.ensures.after),
       room_for_parts f (0 ∷ 0 ∷ text) 0 32 (length text - 32) (length text) (omega (arith, c.requires.long)),
       c.requires.room,
     )
@@ -17,7 +17,7 @@ pub returns : goal.returns
 returns g c =
     let f = g.F.Flavor.flavor in
     let text = c.args.text.now in
-    let same = encoded_bytes_first f text c.copy_from_slice.new.self 32 (omega arith) c.copy_from_slice.ensures.after in
+    let same = encoded_bytes_first f text c.copy_from_slice.new.self 0 0 32 (omega arith) c.copy_from_slice.ensures.after in
     let room = room_for_parts f (0 ∷ 0 ∷ text) 0 32 (length text - 32) (length text) (omega (arith, c.requires.long)) in
     record {
       written = (c.write_block.ensures.bytes ∙ same, omega (arith, c.write_block.ensures.end, c.write_block.ensures.len, ap length same, room, c.requires.room));
