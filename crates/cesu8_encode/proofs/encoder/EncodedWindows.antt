@@ -146,15 +146,12 @@ zeros_left n m j = get_or-drop m (replicate n 0) j 0 ∙ zeros_at n (m + j)
 pub encoded_bytes_first : (f : Flavor) (text near : List ℕ) (zeros m n : ℕ) → n ≤ 32 → near ≡ take 33 text →
     encoded_bytes f (0 ∷ 0 ∷ (near ++ drop m (replicate zeros 0))) 0 n ≡ encoded_bytes f (0 ∷ 0 ∷ text) 0 n
 encoded_bytes_first f text near zeros m n le is =
-    encoded_bytes_agree f (0 ∷ 0 ∷ (near ++ rest)) (0 ∷ 0 ∷ text) 0 0 n (λ k l. first (0 + k) (omega arith))
+    encoded_bytes_agree f (0 ∷ 0 ∷ (near ++ drop m (replicate zeros 0))) (0 ∷ 0 ∷ text) 0 0 n (λ k l. first (0 + k) (omega arith))
   where
-    rest : List ℕ
-    rest = drop m (replicate zeros 0)
-
-    first : (k : ℕ) → k < 35 → get_or (0 ∷ 0 ∷ (near ++ rest)) k 0 ≡ get_or (0 ∷ 0 ∷ text) k 0
+    first : (k : ℕ) → k < 35 → get_or (0 ∷ 0 ∷ (near ++ drop m (replicate zeros 0))) k 0 ≡ get_or (0 ∷ 0 ∷ text) k 0
     first zero l = refl
     first (suc zero) l = refl
-    first (suc (suc k)) l = padded near rest (zeros_left zeros m) k ∙ ap (λ xs. get_or xs k 0) is ∙ get_or-take 33 text k 0 (omega arith)
+    first (suc (suc k)) l = padded near _ (zeros_left zeros m) k ∙ ap (λ xs. get_or xs k 0) is ∙ get_or-take 33 text k 0 (omega arith)
 
 -- and of that in which zeros follow its last bytes, those from i on.
 pub encoded_bytes_last : (f : Flavor) (text near : List ℕ) (i n : ℕ) → 2 ≤ i → near ≡ part_from (i - 2) text →
