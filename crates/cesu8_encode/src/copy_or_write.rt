@@ -6,7 +6,8 @@ ghost use Rattle.cesu8_text.specs.Encoding.{encoding};
 ghost use Rattle.cesu8_bytes.specs.Puts.{PutsAnswer};
 
 use crate::few::{is_unchanged, write_few};
-use crate::way::{Way, way_of, write};
+use crate::way::{Way, way_of};
+use crate::windows::write_blocks;
 use cesu8_bytes::BLOCK;
 use cesu8_bytes::first_looks::needs_encoded;
 use cesu8_bytes::flavor::Flavor;
@@ -22,7 +23,7 @@ pub fn encode_to_slice<F: Flavor>(text: &str, buf: &mut [u8]) -> Result<usize, N
     match way_of(text) {
         Way::Few | Way::Block => put_few::<F>(text, buf),
         _ if !needs_encoded::<F>(text) => copy_to_slice(text.as_bytes(), buf),
-        Way::Blocks => put_in_place::<F>(text, buf),
+        Way::OnStack | Way::Blocks => put_in_place::<F>(text, buf),
     }
 }
 
@@ -56,12 +57,13 @@ fn put_on_stack<F: Flavor>(text: &str, buf: &mut [u8]) -> Result<usize, NoRoom>
 
 #[inline(never)]
 fn put_in_place<F: Flavor>(text: &str, buf: &mut [u8]) -> Result<usize, NoRoom>
+    requires { BLOCK < length text.now }
     ensures { PutsAnswer (encoding F.flavor (chars text.now)) result buf.old buf.new }
 {
     let len = encoded_len::<F>(text);
     if buf.len() < len {
         return Err(NoRoom { needed: len });
     }
-    write::<F>(text, &mut buf[..len]);
+    write_blocks::<F>(text, &mut buf[..len]);
     Ok(len)
 }

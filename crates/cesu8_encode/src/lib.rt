@@ -31,17 +31,23 @@ mod rows;
 mod way;
 mod windows;
 
-use self::way::{Way, way_of, write};
+use self::way::{ON_STACK, Way, way_of, write};
 use cesu8_bytes::BLOCK;
 use cesu8_bytes::flavor::Flavor;
 use cesu8_bytes::lengths::encoded_len;
 use cesu8_bytes::writers::{append, append_zeros, copy, make_room};
 use std::alloc::{AllocError, Allocator};
 
-/// Returns the encoding of a text, after one request for exactly its length. It is inlined, so that
-/// the result is moved only once. What it calls is not inlined: a text that is borrowed then uses
-/// no stack, and every other text only that of its way.
-#[inline(always)]
+/// The most bytes that the encoding of a block has.
+const BLOCK_ENCODED: usize = 2 * BLOCK;
+
+/// The most bytes that the encoding of any text has that goes to the stack.
+const ON_STACK_ENCODED: usize = 2 * ON_STACK;
+
+/// Returns the encoding of a text, after one request for exactly its length. It is not inlined: a
+/// text that is borrowed then uses no stack. The two functions below are, so that the length is
+/// compared once.
+#[inline(never)]
 pub fn encode<F: Flavor, A: Allocator + Copy>(
     alloc: A,
     text: &str,
@@ -49,27 +55,29 @@ pub fn encode<F: Flavor, A: Allocator + Copy>(
     ensures { BuildsEncoding F.flavor text.now result }
 {
     match way_of(text) {
-        Way::Few | Way::Block => encode_on_stack::<F, A>(alloc, text),
+        Way::Few | Way::Block => encode_on_stack::<F, A, BLOCK_ENCODED>(alloc, text),
+        Way::OnStack => encode_on_stack::<F, A, ON_STACK_ENCODED>(alloc, text),
         Way::Blocks => encode_in_place::<F, A>(alloc, text),
     }
 }
 
-/// Encodes a short text to the stack, and returns a copy.
-#[inline(never)]
+/// Encodes a text to an array of this length on the stack, and returns a copy.
+#[inline(always)]
 #[tactic(auto, using(cesu8_text::proofs::encoding::Lengths::length_encoding_chars))]
-fn encode_on_stack<F: Flavor, A: Allocator + Copy>(
+fn encode_on_stack<F: Flavor, A: Allocator + Copy, const N: usize>(
     alloc: A,
     text: &str,
 ) -> Result<Vec<u8, A>, AllocError>
-    requires { length text.now ≤ BLOCK }
+    requires { (2 * length text.now ≤ N) × (N ≤ ON_STACK_ENCODED) }
     ensures { BuildsEncoding F.flavor text.now result }
 {
-    let mut written = [0; 2 * BLOCK];
+    let mut written = [0; N];
     let len = write::<F>(text, &mut written);
     copy(alloc, &written[..len])
 }
 
-#[inline(never)]
+/// Counts the encoding, and writes it where it stays.
+#[inline(always)]
 fn encode_in_place<F: Flavor, A: Allocator + Copy>(
     alloc: A,
     text: &str,

@@ -1,15 +1,20 @@
 //! Which way a text is encoded. No other file of this crate chooses by the length of a text.
 //!
-//! | bytes of the text | way      | what is done                          |
-//! |-------------------|----------|---------------------------------------|
-//! | at most 24        | `Few`    | a run or a change at a time, by `few` |
-//! | at most 32        | `Block`  | one block, by `windows`               |
-//! | more              | `Blocks` | blocks in turn, by `windows`          |
+//! | bytes of the text | way       | what is done                               |
+//! |-------------------|-----------|--------------------------------------------|
+//! | at most 24        | `Few`     | a run or a change at a time, by `few`      |
+//! | at most 32        | `Block`   | one block, by `windows`                    |
+//! | at most 128       | `OnStack` | blocks in turn, by `windows`, to the stack |
+//! | more              | `Blocks`  | blocks in turn, by `windows`               |
 //!
-//! An encoding has at most twice the bytes of its text, so that of at most 32 is written to the
-//! stack before its length is known. A longer text is counted first. Where the length is known, as
-//! in `encode_into`, each way writes where the encoding stays. To a slice, `few` writes `Block` too:
-//! it leaves what is behind the encoding, where a block would have to be copied.
+//! An encoding has at most twice the bytes of its text. So `encode` writes that of at most 128 to
+//! an array on the stack before its length is known, and copies it. The array has 64 bytes for `Few`
+//! and `Block`, and 256 for `OnStack`, since clearing it takes time. A longer text is counted first.
+//!
+//! `OnStack` is for `encode` alone: every other call treats it as `Blocks`. Where the length is
+//! known, as in `encode_into`, each way writes where the encoding stays. To a slice, a text of more
+//! than 32 bytes is counted, and `few` writes `Block` too: it leaves what is behind the encoding,
+//! where a block would have to be copied.
 //!
 //! `Block` makes texts of 28 to 32 bytes that change 1.10 times as fast in the median of `encode` at
 //! x86-64-v3, and 1.04 times at v2, beside adb3e23 without it.
@@ -31,11 +36,15 @@ use cesu8_bytes::flavor::Flavor;
 /// The most bytes of a text that is encoded one change after another.
 pub const FEW: usize = 24;
 
+/// The most bytes of a text that is encoded to the stack before its length is known.
+pub const ON_STACK: usize = 128;
+
 /// A way to encode a text.
 #[derive(Clone, Copy)]
 pub enum Way {
     Few,
     Block,
+    OnStack,
     Blocks,
 }
 
@@ -44,13 +53,17 @@ pub enum Way {
 pub fn way_of(text: &str) -> Way
     ensures { Fits result (length text.now) }
 {
-    if text.len() <= FEW {
-        Way::Few
-    } else if text.len() <= BLOCK {
-        Way::Block
-    } else {
-        Way::Blocks
+    // By these returns each `match` on the way is compiled to comparisons of the length alone.
+    if text.len() > ON_STACK {
+        return Way::Blocks;
     }
+    if text.len() > BLOCK {
+        return Way::OnStack;
+    }
+    if text.len() > FEW {
+        return Way::Block;
+    }
+    Way::Few
 }
 
 /// Writes the encoding of a text at the front of a slice that is long enough, and returns its
@@ -63,6 +76,6 @@ pub fn write<F: Flavor>(text: &str, out: &mut [u8]) -> usize
     match way_of(text) {
         Way::Few => write_few::<F>(text, out),
         Way::Block => write_short::<F>(text, out),
-        Way::Blocks => write_blocks::<F>(text, out),
+        Way::OnStack | Way::Blocks => write_blocks::<F>(text, out),
     }
 }
