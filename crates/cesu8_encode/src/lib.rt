@@ -112,6 +112,7 @@ pub fn encode_into<F: Flavor, A: Allocator + Copy>(
 }
 
 /// Appends the encoding of a text, which has this length, to a buffer with enough capacity.
+#[inline(always)]
 fn append_changed<F: Flavor, A: Allocator + Copy>(text: &str, len: usize, out: &mut Vec<u8, A>)
     requires len { len ≡ length (encoding F.flavor (chars text.now)) }
     requires room { vec_len out.old + len ≤ vec_capacity out.old }

@@ -13,9 +13,9 @@ use super::blocks::{BLOCK_READ, READ_AFTER, READ_BEFORE, write_block};
 use cesu8_bytes::BLOCK;
 use cesu8_bytes::flavor::Flavor;
 
-/// Writes the encoding of a text of at most a block, and returns its end. It is not inlined, so
-/// that a text that stays as it is uses none of its stack.
-#[inline(never)]
+/// Writes the encoding of a text of at most a block, and returns its end. It is inlined: where the
+/// slice is an array on the stack, no test is left whether the rows fit.
+#[inline(always)]
 pub fn write_short<F: Flavor>(text: &str, out: &mut [u8]) -> usize
     requires short { length text.now ≤ BLOCK }
     requires room { length (encoding F.flavor (chars text.now)) ≤ length out.old }
