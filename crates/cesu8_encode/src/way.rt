@@ -8,16 +8,17 @@
 //! | more              | `Blocks`  | blocks in turn, by `windows`               |
 //!
 //! An encoding has at most twice the bytes of its text. So `encode` writes that of at most 128 to
-//! an array on the stack before its length is known, and copies it. The array has 64 bytes for `Few`
-//! and `Block`, and 256 for `OnStack`, since clearing it takes time. A longer text is counted first.
+//! an array on the stack before its length is known, and copies it. The array has 64 bytes for
+//! `Few` and `Block`, and 256 for `OnStack`, since clearing it takes time. A longer text is counted
+//! first.
 //!
 //! `OnStack` is for `encode` alone: every other call treats it as `Blocks`. Where the length is
 //! known, as in `encode_into`, each way writes where the encoding stays. To a slice, a text of more
 //! than 32 bytes is counted, and `few` writes `Block` too: it leaves what is behind the encoding,
 //! where a block would have to be copied.
 //!
-//! `Block` makes texts of 28 to 32 bytes that change 1.10 times as fast in the median of `encode` at
-//! x86-64-v3, and 1.04 times at v2, beside adb3e23 without it.
+//! `Block` makes texts of 28 to 32 bytes that change 1.10 times as fast in the median of `encode`
+//! at x86-64-v3, and 1.04 times at v2, beside adb3e23 without it.
 //!
 //! Below this crate, two kinds of code choose by a length too: the first looks of `cesu8_bytes`,
 //! which see whether a byte changes, and the widths of its vectors.
