@@ -11,12 +11,15 @@ use crate::implementation::class::{Either, LANES, NonAscii};
 use crate::implementation::short::{SHORT_VALUE, any_in_short};
 use crate::implementation::simd::left_by;
 
+/// The most bytes that are tested for ASCII before anything is called.
+const TESTED_AT_ONCE: usize = 16 * LANES;
+
 /// Returns whether the bytes are few and all ASCII. More are tested faster by `is_ascii`.
 #[inline(always)]
 pub fn is_short_ascii(bytes: &[u8]) -> bool
     ensures { IsTrue result → IsAscii bytes.now }
 {
-    bytes.len() <= SHORT_VALUE && !any_in_short::<NonAscii>(bytes)
+    bytes.len() <= TESTED_AT_ONCE && !any_in_short::<NonAscii>(bytes)
 }
 
 /// Returns whether the bytes are few and all ASCII that does not change: in MUTF-8 00 does, and in

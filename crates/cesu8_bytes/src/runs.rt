@@ -1,9 +1,10 @@
-//! Copies runs of bytes without one of a class, by vectors.
+//! Runs of bytes without one of a class, found and copied by vectors.
 
-ghost use Rattle.std.specs.Prelude.{◌≡◌, ℕ, ◌+◌, ◌<◌, ◌≤◌, ◌++◌, not, false, length, take, drop, slice_index};
+ghost use Rattle.std.specs.Prelude.{◌≡◌, ℕ, ◌+◌, ◌*◌, ◌<◌, ◌≤◌, ◌++◌, not, true, false, length, take, drop, slice_index};
 ghost use Rattle.std.specs.List.{prefix_len};
 
 use crate::implementation::class::{InAllVectors, InVectors, LANES, bits};
+use crate::implementation::short::{by_two_vectors, end_vector};
 use crate::writers::put;
 use std::simd::prelude::*;
 
@@ -63,4 +64,32 @@ fn lanes_before<C: InVectors<N>, const N: usize>(lanes: Simd<u8, N>) -> usize
     } else {
         marks.trailing_zeros() as usize
     }
+}
+
+/// Returns how many of the bytes precede the first one of the class, as far as the first 64 show.
+#[inline(always)]
+pub fn run_len<C: InAllVectors>(bytes: &[u8]) -> usize
+    requires some { 0 < length bytes.now }
+    ensures within { result ≤ length bytes.now }
+    ensures run { (i : ℕ) → i < result → C.class (slice_index bytes.now i) ≡ false }
+    ensures none { result ≡ 0 → C.class (slice_index bytes.now 0) ≡ true }
+{
+    let first = &bytes[..bytes.len().min(LANES)];
+    by_two_vectors!(first, run_in_ends[C](first), 0)
+}
+
+/// Returns how many of the bytes precede the first one of the class, by a vector at the front and
+/// one at the end, which together cover all.
+#[inline(always)]
+fn run_in_ends<C: InVectors<N>, const N: usize>(bytes: &[u8]) -> usize
+    requires { (N ≤ LANES) × (N ≤ length bytes.now) × (length bytes.now ≤ 2 * N) }
+    ensures within { result ≤ length bytes.now }
+    ensures run { (i : ℕ) → i < result → C.class (slice_index bytes.now i) ≡ false }
+    ensures end { result < length bytes.now → C.class (slice_index bytes.now result) ≡ true }
+{
+    let run = lanes_before::<C, N>(Simd::from_slice(bytes));
+    if run < N {
+        return run;
+    }
+    bytes.len() - N + lanes_before::<C, N>(end_vector::<N>(bytes))
 }

@@ -3,4 +3,5 @@ pub mod ReadChunks
 pub mod DecodedChunks
 pub mod WrittenChunks
 pub mod Characters
+pub mod Forms
 pub mod SliceReadings

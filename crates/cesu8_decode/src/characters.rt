@@ -1,10 +1,11 @@
 //! Decodes bytes one character after another. Runs of ASCII are copied by vectors.
 
-ghost use Rattle.std.specs.Prelude.{◌≡◌, ◌+◌, ◌*◌, ◌<◌, ◌≤◌, length, take, drop, replicate, false, true};
+ghost use Rattle.std.specs.Prelude.{◌≡◌, ◌+◌, ◌*◌, ◌<◌, ◌≤◌, length, take, drop, replicate, false, true, IfSome, IfNone, encode_utf8};
 ghost use Rattle.cesu8_text.specs.Reading.{NoneBegins};
 ghost use Rattle.cesu8_bytes.specs.Joining.{null_at};
 ghost use Rattle.cesu8_decode.specs.DecodedOffsets.{IsPrefixOf, one_at, two_at, three_at};
 ghost use Rattle.cesu8_bytes.specs.TextChunks.{IsReadSoFar};
+ghost use Rattle.cesu8_decode.specs.Forms.{HasForm, HasNoForm, form_len, IsUtf8OfForm};
 ghost use Rattle.cesu8_decode.specs.Decoding.{ReadsAll};
 ghost use Rattle.cesu8_bytes.specs.declared.options.Strictness.{Strictness};
 ghost use Rattle.cesu8_bytes.specs.declared.options.Strictness.TheVariants.{Lossy};
@@ -82,25 +83,93 @@ fn write_next<F: Flavor>(bytes: &[u8], out: &mut [u8], end: usize) -> Decoded
     }
     let mut padded = [0; PAIR_READ];
     let prefix = prefix_of(bytes, &mut padded);
-    let (read, end) = if is_pair(prefix) {
-        (PAIR, put(&utf8_of_pair(prefix), out, end))
-    } else if is_null::<F>(first, prefix[1]) {
-        (2, put(&[0], out, end))
-    } else if is_two(first, prefix[1]) {
-        (2, put(&bytes[..2], out, end))
-    } else if is_three(first, prefix[1], prefix[2]) {
-        (3, put(&bytes[..3], out, end))
-    } else {
+    let Some(form) = form_of::<F>(prefix) else {
         return Decoded {
             read: 1,
             end: put(&REPLACEMENT, out, end),
             is_ill_formed: true,
         };
     };
+    let end = match form {
+        Form::Pair => put(&utf8_of_pair(prefix), out, end),
+        Form::Null => put(&[0], out, end),
+        Form::Two => put(&bytes[..2], out, end),
+        Form::Three => put(&bytes[..3], out, end),
+    };
     Decoded {
-        read,
+        read: len_of(form),
         end,
         is_ill_formed: false,
+    }
+}
+
+/// How a character of more than one byte is encoded.
+#[derive(Clone, Copy)]
+pub enum Form {
+    /// As a surrogate pair.
+    Pair,
+    /// As C0 80, the null character of MUTF-8.
+    Null,
+    /// As two other bytes, as in UTF-8.
+    Two,
+    /// As three bytes, as in UTF-8.
+    Three,
+}
+
+/// Returns how the character that begins the bytes is encoded, if one of more than one byte does.
+#[inline(always)]
+pub fn form_of<F: Flavor>(bytes: &[u8]) -> Option<Form>
+    requires { PAIR_READ ≤ length bytes.now }
+    ensures some { IfSome result (λ form. HasForm F.flavor bytes.now form) }
+    ensures none { IfNone result (HasNoForm F.flavor bytes.now) }
+{
+    let (first, second) = (bytes[0], bytes[1]);
+    if is_pair(bytes) {
+        Some(Form::Pair)
+    } else if is_null::<F>(first, second) {
+        Some(Form::Null)
+    } else if is_two(first, second) {
+        Some(Form::Two)
+    } else if is_three(first, second, bytes[2]) {
+        Some(Form::Three)
+    } else {
+        None
+    }
+}
+
+/// Returns how many bytes a character of this form has.
+#[inline(always)]
+pub fn len_of(form: Form) -> usize
+    ensures { result ≡ form_len form }
+{
+    match form {
+        Form::Pair => PAIR,
+        Form::Null | Form::Two => 2,
+        Form::Three => 3,
+    }
+}
+
+/// Returns the character of this form that begins the bytes.
+#[inline(always)]
+pub fn character_of<F: Flavor>(form: Form, bytes: &[u8]) -> char
+    requires long { PAIR_READ ≤ length bytes.now }
+    requires form { HasForm F.flavor bytes.now form }
+    ensures { IsUtf8OfForm form bytes.now (encode_utf8 result) }
+{
+    let (first, second, third) = (bytes[0] as u32, bytes[1] as u32, bytes[2] as u32);
+    // What shows the form, and is no part of the value, is subtracted.
+    let value = match form {
+        Form::Pair => {
+            let last = bytes[4] as u32 * 0x40 + bytes[5] as u32;
+            second * 0x1_0000 + third * 0x400 + last - 0xA1_2C80
+        }
+        Form::Null => 0,
+        Form::Two => first * 0x40 + second - 0x3080,
+        Form::Three => first * 0x1000 + second * 0x40 + third - 0xE_2080,
+    };
+    match char::from_u32(value) {
+        Some(character) => character,
+        None => unreachable!(),
     }
 }
 
@@ -147,7 +216,7 @@ fn is_three(first: u8, second: u8, third: u8) -> bool
 
 /// Returns the bytes if they are eight or more, or else a copy with zeros after the last.
 #[inline(always)]
-fn prefix_of<'a>(bytes: &'a [u8], padded: &'a mut [u8; PAIR_READ]) -> &'a [u8]
+pub fn prefix_of<'a>(bytes: &'a [u8], padded: &'a mut [u8; PAIR_READ]) -> &'a [u8]
     requires { padded.old ≡ replicate PAIR_READ 0 }
     ensures prefix { IsPrefixOf bytes.now result.now }
     ensures long { PAIR_READ ≤ length result.now }

@@ -1,13 +1,15 @@
 //! Decodes to a `String`.
 
-ghost use Rattle.std.specs.Prelude.{◌≡◌, ◌+◌, ◌*◌, ◌≤◌, ◌++◌, length, take, false, true, OnOk};
+ghost use Rattle.std.specs.Prelude.{◌≡◌, ◌+◌, ◌*◌, ◌<◌, ◌≤◌, ◌++◌, length, take, drop, false, true, OnOk, IfOk};
 ghost use Rattle.std.specs.Str.{IsUtf8};
 ghost use Rattle.std.specs.String.{string_bytes};
-ghost use Rattle.cesu8_bytes.specs.declared.options.Strictness.TheVariants.{Strict};
+ghost use Rattle.cesu8_text.specs.Reading.{NoneBegins};
+ghost use Rattle.cesu8_bytes.specs.TextChunks.{IsReadSoFar};
+ghost use Rattle.cesu8_bytes.specs.declared.options.Strictness.TheVariants.{Strict, Lossy};
 ghost use Rattle.cesu8_decode.specs.Decoding.{AppendsText, refuses};
 ghost use Rattle.cesu8_decode.specs.Refusals.{OnNoText};
 
-use crate::characters::write_characters;
+use crate::characters::{character_of, form_of, len_of, prefix_of, write_characters};
 use crate::chunk::{Chunk, TESTED, next_chunk, text_of};
 use crate::lengths::lossy_len;
 use crate::packing::WIDEST;
@@ -17,9 +19,12 @@ use crate::windows::{
     AROUND, Decoded, LEAST, LONG_BUFFER, LONG_TEXT, MEDIUM_BUFFER, MEDIUM_TEXT, SHORT_BUFFER,
     SHORT_TEXT, SPARED, write_window,
 };
+use cesu8_bytes::ascii::ascii_text;
 use cesu8_bytes::flavor::Flavor;
-use cesu8_bytes::joining::BUFFER_LEN;
+use cesu8_bytes::implementation::class::{Either, NonAscii};
+use cesu8_bytes::joining::{BUFFER_LEN, PAIR_READ};
 use cesu8_bytes::options::Strictness;
+use cesu8_bytes::runs::run_len;
 use std::alloc::{AllocError, Allocator};
 
 /// The length of a buffer for the text of bytes that are read one character after another.
@@ -37,7 +42,10 @@ pub fn append_text<F: Flavor, A: Allocator>(
         result (string_bytes out.old) (string_bytes out.new) }
 {
     match way_of::<F>(strictness, bytes) {
-        Way::Characters => append_characters::<F, A>(strictness, bytes, out),
+        Way::Characters => match strictness {
+            Strictness::Strict => push_characters::<F, A>(bytes, out),
+            Strictness::Lossy => append_characters::<F, A>(bytes, out),
+        },
         Way::ShortWindow => {
             append_window::<F, SHORT_BUFFER, SHORT_TEXT, A>(strictness, bytes, out)
         }
@@ -53,19 +61,64 @@ pub fn append_text<F: Flavor, A: Allocator>(
     }
 }
 
+/// Appends the characters of the bytes in strict reading. What is appended as ASCII and as
+/// characters needs no test for UTF-8, which takes longer than these do while they are few.
+#[inline(never)]
+fn push_characters<F: Flavor, A: Allocator>(
+    bytes: &[u8],
+    out: &mut String<A>,
+) -> Result<(), Refusal>
+    ensures { AppendsText F.flavor Strict bytes.now
+        result (string_bytes out.old) (string_bytes out.new) }
+{
+    let mut rest = bytes;
+    while !rest.is_empty() {
+        let read = push_next::<F, A>(rest, out)?;
+        rest = &rest[read..];
+    }
+    Ok(())
+}
+
+/// Appends some characters of one byte, or else the character that begins the bytes, and returns
+/// how many bytes these are.
+#[inline(always)]
+fn push_next<F: Flavor, A: Allocator>(bytes: &[u8], out: &mut String<A>) -> Result<usize, Refusal>
+    requires { 0 < length bytes.now }
+    ensures within { IfOk result (λ read. (0 < read) × (read ≤ length bytes.now)) }
+    ensures read { IfOk result (λ read. IsReadSoFar F.flavor Strict bytes.now
+        (drop read bytes.now) (string_bytes out.old) (string_bytes out.new)) }
+    ensures invalid { OnNoText result (NoneBegins F.flavor bytes.now) }
+{
+    let run = run_len::<Either<F::Null, NonAscii>>(bytes);
+    if run > 0 {
+        out.push_str(ascii_text(&bytes[..run]))
+            .map_err(Refusal::Memory)?;
+        return Ok(run);
+    }
+    let mut padded = [0; PAIR_READ];
+    let prefix = prefix_of(bytes, &mut padded);
+    let Some(form) = form_of::<F>(prefix) else {
+        return Err(Refusal::NoText);
+    };
+    out.push(character_of::<F>(form, prefix))
+        .map_err(Refusal::Memory)?;
+    Ok(len_of(form))
+}
+
+/// Appends the characters of the bytes in lossy reading. They are written first, since the one
+/// request is for exactly their length.
 #[inline(never)]
 fn append_characters<F: Flavor, A: Allocator>(
-    strictness: Strictness,
     bytes: &[u8],
     out: &mut String<A>,
 ) -> Result<(), Refusal>
     requires { length bytes.now ≤ SHORT_WINDOW }
-    ensures { AppendsText F.flavor strictness bytes.now
+    ensures { AppendsText F.flavor Lossy bytes.now
         result (string_bytes out.old) (string_bytes out.new) }
 {
     let mut written = [0; CHARACTERS_TEXT];
-    let decoded = write_characters::<F>(strictness, bytes, &mut written);
-    append_written(strictness, decoded, &mut written, out)
+    let decoded = write_characters::<F>(Strictness::Lossy, bytes, &mut written);
+    append_written(Strictness::Lossy, decoded, &mut written, out)
 }
 
 /// Appends the text of the bytes of one window, in buffers of these lengths. It is not inlined, so

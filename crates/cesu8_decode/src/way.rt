@@ -2,10 +2,9 @@
 //!
 //! | bytes | of them other than 01 to 7F | in strict reading | in lossy reading |
 //! |---|---|---|---|
-//! | at most 24 | at most 12 | `Characters` | `Characters` |
-//! | at most 24 | more | `Characters` | `ShortWindow` |
-//! | at most 96 | at most 6 | `Characters` | `Characters` |
 //! | at most 1,024, of which none is ED or C0 | any | `Refused` | as without |
+//! | at most 24 | at most 12 | `Characters` | `Characters` |
+//! | at most 96 | at most 6 | `Characters` | `Characters` |
 //! | at most 96 | more | `ShortWindow` | `ShortWindow` |
 //! | at most 256 | any | `MediumWindow` | `MediumWindow` |
 //! | more, and the first 64 show an ill-formed byte | any | `Refused` | as without |
@@ -13,8 +12,8 @@
 //! | more | any | `Chunks` | `Chunks` |
 //!
 //! - `Characters`: one character after another. A branch on a byte costs little while few bytes are
-//!   not ASCII. Strict reading stops at the first ill-formed byte, so a few bytes more are worth
-//!   it.
+//!   not ASCII. In strict reading a `String` is appended to at once, and what is appended as
+//!   characters and as ASCII needs no test for UTF-8.
 //! - The windows: 32 bytes at a time with no branch on a byte, in buffers on the stack. Smaller
 //!   ones are made in less time.
 //! - `Chunks`: joined windows of well-formed bytes, and windows by offsets after an ill-formed
@@ -78,7 +77,7 @@ pub enum Way {
 /// `Ways` of `specs` has this number too.
 pub const SHORT_WINDOW: usize = 96;
 
-/// So few bytes are read one character after another in strict reading, whatever they are.
+/// So few bytes are read one character after another with more others among them.
 const FEWEST: usize = 24;
 
 /// The most bytes that are read in a window of medium length.
@@ -87,8 +86,7 @@ pub const MEDIUM_WINDOW: usize = 256;
 /// The most bytes that are read in any window.
 pub const LONG_WINDOW: usize = 1024;
 
-/// So many of the fewest bytes may be other than 01 to 7F. In lossy reading each may be ill-formed,
-/// and then it is a step.
+/// So many of the fewest bytes may be other than 01 to 7F. Each may be a step of its own.
 const OTHERS: usize = 12;
 
 /// Of more bytes so many may be, as many as a surrogate pair has.
@@ -107,18 +105,16 @@ pub fn way_of<F: Flavor>(strictness: Strictness, bytes: &[u8]) -> Way
     ensures { IsWayOf F.flavor strictness bytes.now result }
 {
     let is_strict = matches!(strictness, Strictness::Strict);
-    if bytes.len() <= FEWEST {
-        return if is_strict || has_few_others(bytes, OTHERS) {
-            Way::Characters
-        } else {
-            Way::ShortWindow
-        };
-    }
-    if has_few_others(bytes, FEWER_OTHERS) {
-        return Way::Characters;
-    }
     if is_strict && bytes.len() <= LONG_WINDOW && !may_be_encoding(bytes) {
         return Way::Refused;
+    }
+    let most = if bytes.len() <= FEWEST {
+        OTHERS
+    } else {
+        FEWER_OTHERS
+    };
+    if has_few_others(bytes, most) {
+        return Way::Characters;
     }
     if bytes.len() <= SHORT_WINDOW {
         return Way::ShortWindow;

@@ -62,7 +62,7 @@ fn any_in_ends<C: InVectors<N>, const N: usize>(bytes: &[u8]) -> bool
 
 /// Returns the vector that ends where the bytes do.
 #[inline(always)]
-fn end_vector<const N: usize>(bytes: &[u8]) -> Simd<u8, N>
+pub(crate) fn end_vector<const N: usize>(bytes: &[u8]) -> Simd<u8, N>
     requires { (N ≤ LANES) × (N ≤ length bytes.now) }
     ensures { result ≡ drop (length bytes.now - N) bytes.now }
 {

@@ -12,10 +12,10 @@ use Rattle.cesu8_text.proofs.encoding.Forms.{short_form_other}
 use Rattle.cesu8_decode.proofs.by_offset.FirstWidths.{width_of_first, width_of_none}
 
 -- bytes are as long as their last byte that is not 0
-long_by : (bytes : List ℕ) (i : ℕ) → 0 < get_or bytes i 0 → i < length bytes
+pub long_by : (bytes : List ℕ) (i : ℕ) → 0 < get_or bytes i 0 → i < length bytes
 long_by bytes i some = ⊎_elim (λ h. h) (λ past. absurd (omega (arith, get_or_past bytes i 0 past))) (cases_lt i (length bytes))
 
-continuation : (b : ℕ) → continues b ≡ true → IsContinuation b
+pub continuation : (b : ℕ) → continues b ≡ true → IsContinuation b
 continuation b t = let h = and_parts (leb 0x80 b) (ltb b 0xC0) t in (leb-true 0x80 b h.0, ltb-true b 0xC0 h.1)
 
 is_continuation : (b : ℕ) → 0x80 ≤ b → b < 0xC0 → continues b ≡ true
@@ -52,7 +52,7 @@ two_found f bytes t =
     let long = long_by bytes 1 (omega (arith, last.0)) in
     by_found f bytes 2 2 (found_two f bytes (omega arith) (leb-true 0xC2 a h.0) (ltb-true a 0xE0 h2.0) last)
 
-fits_low : (a b : ℕ) → fits_three a b ≡ true → a ≡ 0xE0 → 0xA0 ≤ b
+pub fits_low : (a b : ℕ) → fits_three a b ≡ true → a ≡ 0xE0 → 0xA0 ≤ b
 fits_low a b t e = leb-true 0xA0 b (rw e at t)
 
 fits_high : (a b : ℕ) → fits_three a b ≡ true → a ≡ 0xED → b < 0xA0

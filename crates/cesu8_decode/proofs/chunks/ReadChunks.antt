@@ -1,8 +1,8 @@
 -- Text that is read a chunk at a time.
-use Rattle.std.proofs.Common.{◌≡◌, ℕ, ◌+◌, List, [], ◌∷◌, ◌++◌, refl, sym, ap, ◌∙◌, arith, length, append-nil, length-append, Result, Ok, Err, IfOk, OnOk, MatchResult, is_ok, true≢false, true, false, Bool, subst, drop, append_assoc, length-drop}
+use Rattle.std.proofs.Common.{◌≡◌, ℕ, ◌+◌, ◌<◌, List, [], ◌∷◌, ◌++◌, refl, sym, ap, ◌∙◌, arith, length, append-nil, length-append, Result, Ok, Err, IfOk, OnOk, MatchResult, is_ok, true≢false, true, false, Bool, subst, drop, append_assoc, length-drop}
 use Rattle.cesu8_text.specs.Text.{utf8}
 use Rattle.cesu8_text.specs.Encoding.{Flavor, encoding}
-use Rattle.cesu8_text.specs.Reading.{reading, lossy_length, HasNoStrictReading}
+use Rattle.cesu8_text.specs.Reading.{reading, lossy_length, HasNoStrictReading, NoneBegins}
 use Rattle.cesu8_decode.specs.Decoding.{IsDecodedText, HasFault, refuses, ReadsFirst, ReadsAll, AppendsText}
 use Rattle.cesu8_bytes.specs.TextChunks.{IsReadSoFar, IsChunk}
 use Rattle.cesu8_bytes.specs.declared.options.Strictness.{Strictness}
@@ -189,3 +189,10 @@ pub chunk_refused : (f : Flavor) (which : Strictness) (bytes rest text old out :
 chunk_refused f which bytes rest text old out read is_ill_formed NoText so_far first refused =
     (none_behind f which bytes rest text old out read is_ill_formed so_far first refused).1
 chunk_refused f which bytes rest text old out read is_ill_formed (Memory error) so_far first refused = tt
+
+-- The same where no character begins the rest.
+pub none_begins_rest : (f : Flavor) (bytes rest old out : List ℕ) (refusal : Refusal) → IsReadSoFar f Strict bytes rest old out →
+    0 < length rest → IfNoText refusal (NoneBegins f rest) → IfNoText refusal (HasNoStrictReading f bytes)
+none_begins_rest f bytes rest old out NoText so_far some none_begins =
+    no_reading f bytes so_far.text rest so_far.scalars (so_far.strict_reading refl) some none_begins
+none_begins_rest f bytes rest old out (Memory error) so_far some none_begins = tt

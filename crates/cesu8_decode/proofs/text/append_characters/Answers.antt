@@ -8,5 +8,5 @@ append_written-requires-clause-utf8 g c =
 
 pub returns : goal.returns
 returns g c =
-    all_appended g.F.Flavor.flavor c.args.strictness c.args.bytes.now _ _ _ _ _ _
+    all_appended g.F.Flavor.flavor Lossy c.args.bytes.now _ _ _ _ _ _
     c.write_characters-decoded.ensures.read c.append_written.ensures.ok c.append_written.ensures.invalid

@@ -1,0 +1,156 @@
+-- Characters of more than one byte, by how they are encoded at the front of bytes.
+use Rattle.std.proofs.Common.{◌≡◌, ℕ, ◌+◌, ◌*◌, ◌-◌, ◌<◌, ◌≤◌, List, [], ◌∷◌, ◌++◌, refl, sym, ap, ◌∙◌, ⊎_elim, true, false, arith, length, take, drop, get_or, eqb, leb, ltb, ◌&&◌}
+use Rattle.std.proofs.lemmas.Bool.{and_parts, eqb-true, leb-true, ltb-true, cases_eq}
+use Rattle.cesu8_text.specs.Encoding.{Flavor, Cesu8, Mutf8}
+use Rattle.cesu8_text.specs.Reading.{NoneBegins}
+use Rattle.cesu8_text.specs.Text.{utf8_of}
+use Rattle.cesu8_bytes.specs.Joining.{null_at, HasPair, AreJoinedDigits, second_third_fifth_sixth}
+use Rattle.cesu8_bytes.specs.TextChunks.{IsReadSoFar}
+use Rattle.cesu8_bytes.specs.declared.options.Strictness.{Strictness}
+use Rattle.cesu8_decode.specs.DecodedOffsets.{IsPrefixOf, one_at, two_at, three_at, continues, fits_three}
+use Rattle.cesu8_decode.specs.Forms.{HasForm, HasNoForm, form_len, IsUtf8OfForm}
+use Rattle.cesu8_decode.specs.declared.characters.Form.{Form}
+use Rattle.cesu8_decode.specs.declared.characters.Form.TheVariants.{Pair, Null, Two, Three}
+use Rattle.cesu8_text.proofs.text.Shapes.{utf8_of_two, utf8_of_three}
+use Rattle.cesu8_decode.proofs.by_offset.WidthTests.{two_found, three_found, pair_by_prefix, same_digits, long_by, continuation, fits_low}
+use Rattle.cesu8_decode.proofs.chunks.Characters.{kept_read, null_read, pair_read, pair_width, none_by_prefix}
+
+take_two : (bytes : List ℕ) → 2 ≤ length bytes → take 2 bytes ≡ get_or bytes 0 0 ∷ get_or bytes 1 0 ∷ []
+take_two [] long = absurd (omega arith)
+take_two (a ∷ []) long = absurd (omega arith)
+take_two (a ∷ b ∷ bytes) long = refl
+
+take_three : (bytes : List ℕ) → 3 ≤ length bytes → take 3 bytes ≡ get_or bytes 0 0 ∷ get_or bytes 1 0 ∷ get_or bytes 2 0 ∷ []
+take_three [] long = absurd (omega arith)
+take_three (a ∷ []) long = absurd (omega arith)
+take_three (a ∷ b ∷ []) long = absurd (omega arith)
+take_three (a ∷ b ∷ d ∷ bytes) long = refl
+
+-- What is known of the bytes of a character of two bytes, and of three.
+record AreTwo (a b : ℕ) : Type 0 where
+  low : 0xC2 ≤ a
+  high : a < 0xE0
+  last : (0x80 ≤ b) × (b < 0xC0)
+
+are_two : (a b : ℕ) → two_at a b ≡ true → AreTwo a b
+are_two a b t =
+    let h = and_parts (leb 0xC2 a) (ltb a 0xE0 && continues b) t in
+    let h2 = and_parts (ltb a 0xE0) (continues b) h.1 in
+    record { low = leb-true 0xC2 a h.0; high = ltb-true a 0xE0 h2.0; last = continuation b h2.1 }
+
+record AreThree (a b d : ℕ) : Type 0 where
+  low : 0xE0 ≤ a
+  high : a < 0xF0
+  middle : (0x80 ≤ b) × (b < 0xC0)
+  last : (0x80 ≤ d) × (d < 0xC0)
+  fits : a ≡ 0xE0 → 0xA0 ≤ b
+
+are_three : (a b d : ℕ) → three_at a b d ≡ true → AreThree a b d
+are_three a b d t =
+    let h = and_parts (leb 0xE0 a) (ltb a 0xF0 && (continues b && (continues d && fits_three a b))) t in
+    let h2 = and_parts (ltb a 0xF0) (continues b && (continues d && fits_three a b)) h.1 in
+    let h3 = and_parts (continues b) (continues d && fits_three a b) h2.1 in
+    let h4 = and_parts (continues d) (fits_three a b) h3.1 in
+    record {
+      low = leb-true 0xE0 a h.0;
+      high = ltb-true a 0xF0 h2.0;
+      middle = continuation b h3.0;
+      last = continuation d h4.0;
+      fits = fits_low a b h4.1;
+    }
+
+pub form_some : (form : Form) → 0 < form_len form
+form_some Pair = omega arith
+form_some Null = omega arith
+form_some Two = omega arith
+form_some Three = omega arith
+
+-- The null character's second byte.
+null_second : (f : Flavor) (a b : ℕ) → null_at f a b ≡ true → b ≡ 0x80
+null_second Cesu8 a b null = absurd (cc)
+null_second Mutf8 a b null = eqb-true b 0x80 (and_parts (eqb a 0xC0) (eqb b 0x80) null).1
+
+-- The bytes have all of the character whose form was seen in a prefix.
+pub form_within : (f : Flavor) (bytes prefix : List ℕ) (form : Form) → IsPrefixOf bytes prefix → HasForm f prefix form →
+    form_len form ≤ length bytes
+form_within f bytes prefix Pair same has = (pair_by_prefix bytes prefix same has).0
+form_within f bytes prefix Null same has =
+    let second = same 1 (omega arith) in
+    long_by bytes 1 (omega (arith, second, null_second f (get_or prefix 0 0) (get_or prefix 1 0) has))
+form_within f bytes prefix Two same has =
+    let second = same 1 (omega arith) in
+    long_by bytes 1 (omega (arith, second, (are_two (get_or prefix 0 0) (get_or prefix 1 0) has).last.0))
+form_within f bytes prefix Three same has =
+    let third = same 2 (omega arith) in
+    long_by bytes 2 (omega (arith, third, (are_three (get_or prefix 0 0) (get_or prefix 1 0) (get_or prefix 2 0) has).last.0))
+
+-- They are those of the prefix.
+pub two_bytes : (bytes prefix : List ℕ) → IsPrefixOf bytes prefix → 2 ≤ length bytes → take 2 bytes ≡ get_or prefix 0 0 ∷ get_or prefix 1 0 ∷ []
+two_bytes bytes prefix same long =
+    take_two bytes long ∙ (λ i. sym (same 0 (omega arith)) i ∷ sym (same 1 (omega arith)) i ∷ [])
+
+pub three_bytes : (bytes prefix : List ℕ) → IsPrefixOf bytes prefix → 3 ≤ length bytes →
+    take 3 bytes ≡ get_or prefix 0 0 ∷ get_or prefix 1 0 ∷ get_or prefix 2 0 ∷ []
+three_bytes bytes prefix same long =
+    take_three bytes long ∙ (λ i. sym (same 0 (omega arith)) i ∷ sym (same 1 (omega arith)) i ∷ sym (same 2 (omega arith)) i ∷ [])
+
+-- The UTF-8 of a character of this form is read, where the form was seen in a prefix of the bytes.
+pub form_read : (f : Flavor) (which : Strictness) (bytes prefix old new utf8 : List ℕ) (form : Form) → IsPrefixOf bytes prefix →
+    HasForm f prefix form → IsUtf8OfForm form prefix utf8 → new ≡ old ++ utf8 → IsReadSoFar f which bytes (drop (form_len form) bytes) old new
+form_read f which bytes prefix old new utf8 Pair same has is new_is =
+    let pair = pair_by_prefix bytes prefix same has in
+    pair_read f which bytes old utf8 new (pair_width f bytes pair.0 pair.1) (rw (sym (same_digits bytes prefix same)) is) new_is
+form_read f which bytes prefix old new utf8 Null same has is new_is =
+    null_read f which bytes old new (rw (sym (same 0 (omega arith)), sym (same 1 (omega arith))) has) (new_is ∙ ap (λ bs. old ++ bs) is)
+form_read f which bytes prefix old new utf8 Two same has is new_is =
+    let two : two_at (get_or bytes 0 0) (get_or bytes 1 0) ≡ true = rw (sym (same 0 (omega arith)), sym (same 1 (omega arith))) has in
+    let are = are_two (get_or bytes 0 0) (get_or bytes 1 0) two in
+    kept_read f which bytes old new 2 (two_found f bytes two) (omega arith) (omega arith) (λ _ lead. omega (arith, lead, are.low))
+    (new_is ∙ ap (λ bs. old ++ bs) (is ∙ sym (two_bytes bytes prefix same (form_within f bytes prefix Two same has))))
+form_read f which bytes prefix old new utf8 Three same has is new_is =
+    let three : three_at (get_or bytes 0 0) (get_or bytes 1 0) (get_or bytes 2 0) ≡ true =
+    rw (sym (same 0 (omega arith)), sym (same 1 (omega arith)), sym (same 2 (omega arith))) has in
+    kept_read f which bytes old new 3 (three_found f bytes three) (omega arith) (omega arith) (λ two lead. omega (arith, two))
+    (new_is ∙ ap (λ bs. old ++ bs) (is ∙ sym (three_bytes bytes prefix same (form_within f bytes prefix Three same has))))
+
+-- Where the prefix has no form, and the first byte is no character, none begins the bytes.
+pub no_form : (f : Flavor) (bytes prefix : List ℕ) → IsPrefixOf bytes prefix → one_at f (get_or bytes 0 0) ≡ false →
+    HasNoForm f prefix → NoneBegins f bytes
+no_form f bytes prefix same no_one none =
+    let first = same 0 (omega arith) in
+    none_by_prefix f bytes prefix same no_one (rw (sym first) none.null) (rw (sym first) none.two) (rw (sym first) none.three) none.pair
+
+-- The scalar value of a character is what its bytes have less what shows its form.
+pub two_utf8 : (a b c : ℕ) → two_at a b ≡ true → c ≡ a * 0x40 + b - 0x3080 → utf8_of c ≡ a ∷ b ∷ []
+two_utf8 a b c t is =
+    let are = are_two a b t in
+    let first : 0xC0 + (a - 0xC0) ≡ a = omega (arith, are.low) in
+    let second : 0x80 + (b - 0x80) ≡ b = omega (arith, are.last.0) in
+    utf8_of_two c (a - 0xC0) (b - 0x80) (record {
+      value = omega (arith, is, are.low, are.last.0);
+      low = omega (arith, are.low);
+      high = omega (arith, are.high);
+      last = omega (arith, are.last.1);
+    }) ∙ (λ i. first i ∷ second i ∷ [])
+
+pub three_utf8 : (a b d c : ℕ) → three_at a b d ≡ true → c ≡ a * 0x1000 + b * 0x40 + d - 0xE2080 → utf8_of c ≡ a ∷ b ∷ d ∷ []
+three_utf8 a b d c t is =
+    let are = are_three a b d t in
+    let first : 0xE0 + (a - 0xE0) ≡ a = omega (arith, are.low) in
+    let second : 0x80 + (b - 0x80) ≡ b = omega (arith, are.middle.0) in
+    let third : 0x80 + (d - 0x80) ≡ d = omega (arith, are.last.0) in
+    utf8_of_three c (a - 0xE0) (b - 0x80) (d - 0x80) (record {
+      value = omega (arith, is, are.low, are.middle.0, are.last.0);
+      low = ⊎_elim (λ lead. omega (arith, is, lead, are.fits lead, are.last.0)) (λ other. omega (arith, is, are.low, other, are.middle.0, are.last.0)) (cases_eq a 0xE0);
+      high = omega (arith, are.high);
+      middle = omega (arith, are.middle.1);
+      last = omega (arith, are.last.1);
+    }) ∙ (λ i. first i ∷ second i ∷ third i ∷ [])
+
+pub pair_utf8 : (bytes : List ℕ) (c : ℕ) →
+    c ≡ get_or bytes 1 0 * 0x10000 + get_or bytes 2 0 * 0x400 + (get_or bytes 4 0 * 0x40 + get_or bytes 5 0) - 0xA12C80 →
+    AreJoinedDigits (second_third_fifth_sixth bytes) (utf8_of c)
+pair_utf8 bytes c is c' w x y z digits are =
+    let value : c ≡ c' =
+    omega (arith, is, digits.value, ap (λ bs. get_or bs 0 0) are, ap (λ bs. get_or bs 1 0) are, ap (λ bs. get_or bs 2 0) are, ap (λ bs. get_or bs 3 0) are) in
+    ap utf8_of value
