@@ -14,3 +14,24 @@ mod slices;
 mod texts;
 #[cfg(test)]
 mod units;
+
+#[cfg(test)]
+use std::process::Abort;
+#[cfg(test)]
+use std::str;
+#[cfg(test)]
+use test_cases::borders::Border;
+#[cfg(test)]
+use test_cases::comparisons::Difference;
+
+/// The text of a scalar value at a border. None is empty, as what is no UTF-8 would be.
+#[cfg(test)]
+fn text_of(border: &Border) -> &'static str {
+    str::from_utf8(border.utf8).unwrap_or("")
+}
+
+/// Asserts that nothing differs, where this is tried.
+#[cfg(test)]
+fn assert_same(rt: &impl Abort, compared: Result<(), Difference>, tried: &[&str]) {
+    assert!(rt; compared.is_ok(), "{compared:?} of {tried:?}");
+}
