@@ -24,7 +24,7 @@ use test_cases::borders::Border;
 #[cfg(test)]
 use test_cases::comparisons::Difference;
 
-/// The text of a scalar value at a border. None is empty, as what is no UTF-8 would be.
+/// The text of a scalar value at a border, which is empty only where the row has no UTF-8.
 #[cfg(test)]
 fn text_of(border: &Border) -> &'static str {
     str::from_utf8(border.utf8).unwrap_or("")

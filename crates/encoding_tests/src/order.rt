@@ -111,7 +111,7 @@ fn orders_examples(rt: HostRuntime) {
 /// A text of a character so many times, and an end.
 fn with_front(alloc: Global, front: char, len: usize, end: &str) -> Result<String, AllocError> {
     let mut text = String::new(alloc);
-    for _ in 0..len {
+    for _place in 0..len {
         text.push(front)?;
     }
     text.push_str(end)?;

@@ -48,10 +48,9 @@ fn encodes_texts(rt: HostRuntime) {
 
 /// Compares what is built of a scalar value, in both encodings.
 fn expect_border(alloc: Global, border: &Border) -> Result<(), Difference> {
-    for flavor in FLAVORS {
-        expect_encoding(alloc, flavor, text_of(border), border.encoded(flavor))?;
-    }
-    Ok(())
+    let text = text_of(border);
+    expect_encoding(alloc, Flavor::Cesu8, text, border.encoded(Flavor::Cesu8))?;
+    expect_encoding(alloc, Flavor::Mutf8, text, border.encoded(Flavor::Mutf8))
 }
 
 #[test]
@@ -85,7 +84,7 @@ fn appends_to_a_cleared_buffer(rt: HostRuntime) -> Result<(), Fail> {
 fn makes_few_requests(rt: HostRuntime) -> Result<(), Fail> {
     let mut buf = Vec::new(rt.alloc());
     let mut requests: u32 = 0;
-    for _ in 0..1_000 {
+    for _call in 0..1_000 {
         let before = buf.capacity();
         encode_into(Flavor::Mutf8, "a\u{1F496}", &mut buf)?;
         requests = requests.wrapping_add(u32::from(buf.capacity() != before));

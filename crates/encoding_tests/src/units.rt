@@ -36,9 +36,9 @@ fn counts_the_borders(rt: HostRuntime) {
     }
 }
 
-/// Compares what is counted of so many code units with their number.
+/// Compares how many code units are counted in a text, given as UTF-8, with their number.
 fn expect_units(alloc: Global, utf8: &[u8], units: usize) -> Result<(), Difference> {
-    let text = str::from_utf8(utf8).unwrap_or("not UTF-8");
+    let text = str::from_utf8(utf8).unwrap_or("");
     let counted = simd_cesu8::utf16_len(text);
     expect(alloc, Flavor::Cesu8, "utf16_len", counted, units)
 }
