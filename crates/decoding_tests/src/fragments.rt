@@ -23,7 +23,7 @@ fn row_at(place: usize) -> &'static [u8] {
 fn sequence(alloc: Global, seed: u64, pieces: u64, one_of: u64) -> Result<Vec<u8>, AllocError> {
     let mut bytes = Vec::new(alloc);
     let mut number = after(after(seed.wrapping_mul(0x9E37_79B9_7F4A_7C15) | 1));
-    for _ in 0..pieces {
+    for _piece in 0..pieces {
         number = after(number);
         let drawn = (number >> 32) as usize;
         if number.checked_rem(one_of).unwrap_or(0) == 0 {

@@ -62,7 +62,7 @@ pub static ROWS: [(&[u8], usize, &str, usize); 37] = [
 
 /// Appends so many U+FFFD.
 fn push_marks(text: &mut String, count: usize) -> Result<(), AllocError> {
-    for _ in 0..count {
+    for _mark in 0..count {
         text.push('\u{FFFD}')?;
     }
     Ok(())
