@@ -1,6 +1,6 @@
 //! How texts and encodings compare, and how the code units of the texts do.
 
-use crate::{assert_same, text_of};
+use crate::asserts::{assert_same, text_of};
 use std::alloc::{AllocError, Global};
 use std::cmp::Ordering;
 use std::cmp::Ordering::{Greater, Less};

@@ -1,6 +1,6 @@
 //! Encoding into buffers of each length up to one byte more than is needed.
 
-use crate::{assert_same, text_of};
+use crate::asserts::{assert_same, text_of};
 use std::alloc::Global;
 use std::ops::Range;
 use std::str;

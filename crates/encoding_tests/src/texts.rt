@@ -1,6 +1,6 @@
 //! Short texts, by each call that encodes or appends.
 
-use crate::{assert_same, text_of};
+use crate::asserts::{assert_same, text_of};
 use std::alloc::Global;
 use std::str;
 use std::test::Fail;

@@ -1,6 +1,6 @@
 //! How many UTF-16 code units a text has.
 
-use crate::text_of;
+use crate::asserts::text_of;
 use std::alloc::{AllocError, Global};
 use std::process::Abort;
 use std::str;
