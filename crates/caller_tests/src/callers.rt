@@ -164,8 +164,8 @@ fn rewrites_logs(rt: HostRuntime) -> Result<(), Fail> {
     Ok(())
 }
 
-/// How many strings are copied to a target of two bytes, if the whole source is appended. None are if
-/// it is refused, and the target is as before.
+/// How many strings are copied to a target of two bytes, if the whole source is appended. None are
+/// if it is refused, and the target is as before.
 fn copied(alloc: Global, source: &[u8]) -> Result<Option<usize>, Fail> {
     let mut target = vec![in alloc; 1, 2]?;
     let copied = copy_strings(alloc, source, &mut target);

@@ -66,8 +66,8 @@ fn reads_pairs_lossily(rt: HostRuntime) -> Result<(), Fail> {
     Ok(expect_counts(rt.alloc(), Decoder::LossyLenient, both)?)
 }
 
-/// Measures each input, and counts how many are read lossily as so many bytes of UTF-8, from none to
-/// six.
+/// Measures each input, and counts how many are read lossily as so many bytes of UTF-8, from none
+/// to six.
 fn count_lengths(alloc: Global, flavor: Flavor) -> Result<[u32; 7], Difference> {
     let mut counts = [0u32; 7];
     for pair in 0..=u16::MAX {

@@ -6,8 +6,8 @@ use simd_cesu8::implementation::{active, fallback, simd, word};
 use std::ops::RangeInclusive;
 use std::process::Abort;
 
-/// What a module's two kernels return: whether some byte is F0 to F7, and whether some is 00 or one of
-/// these.
+/// What a module's two kernels return: whether some byte is F0 to F7, and whether some is 00 or one
+/// of these.
 macro_rules! results {
     ($module:ident, $bytes:ident) => {
         [

@@ -85,8 +85,8 @@ static ROWS: [(&[u8], Due<'_>, Due<'_>); 15] = [
     (b"\x00\x04\xF0\x9F\x92\x96", Invalid, Owned(FOUR, b"")),
 ];
 
-/// A call that returns or leaves something else than what is due, and the length of its buffer if it
-/// has one.
+/// A call that returns or leaves something else than what is due, and the length of its buffer if
+/// it has one.
 type Wrong = (&'static str, Option<usize>);
 
 /// The first of the calls that return a text which returns something else.

@@ -43,11 +43,10 @@ static FORMS: [(&str, &[u8]); 5] = [
     ("\u{1F496}", b"\x00\x06\xED\xA0\xBD\xED\xB2\x96"),
 ];
 
-/// The first call that writes, or fails, otherwise than is due, and the length of its buffer if it has
-/// one.
+/// A call that writes, or fails, otherwise than is due, and the length of its buffer if it has one.
 type Wrong = (&'static str, Option<usize>);
 
-/// The first such call, with buffers of these lengths.
+/// The first call that does something else than what is due, with buffers of these lengths.
 fn wrong_call(
     alloc: Global,
     text: &str,
@@ -128,7 +127,7 @@ fn is_read(alloc: Global, text: &str, due: Due<'_>) -> bool {
     }
 }
 
-/// The first call that does something else than what is due for a text whose MUTF-8 has this length.
+/// The same for a text whose MUTF-8 has this length, with a call that reads it back.
 fn wrong_count(
     alloc: Global,
     character: (&str, &[u8]),
