@@ -6,6 +6,7 @@ use java_text::{ReadFault, WriteFault};
 use std::alloc::{AllocError, Global};
 use std::cmp::Ordering;
 use std::collections::BTreeMap;
+use std::process::Abort;
 use std::test::Fail;
 use uses::{
     ConstantFault, Entry, append_all, append_and_encode, compares_as_keys, copy_strings,
@@ -14,67 +15,77 @@ use uses::{
     tells_decoded_length, tells_encoded_length, tells_lossy_length, write_and_read,
 };
 
-#[test]
-fn reads_the_text_constants_of_a_class_file(rt: HostRuntime) -> Result<(), Fail> {
-    // A constant pool's bytes from a text constant on, its text, and how many bytes follow.
-    let rows: [(&[u8], &str, usize); 4] = [
-        (b"\x01\x00\x04Code", "Code", 0),
-        (b"\x01\x00\x00\x01\x00\x03()V", "", 6),
-        (b"\x01\x00\x02\xC0\x80\x07\x00\x02", "\0", 3),
-        (b"\x01\x00\x06\xED\xA0\xBD\xED\xB2\x96", "\u{1F496}", 0),
-    ];
-    for (bytes, want, more) in rows {
-        let (text, rest) = read_utf8_constant(rt.alloc(), bytes).or(Err("is refused"))?;
-        assert_eq!(rt; text.as_str(), want, "of {bytes:?}");
-        assert_eq!(rt; rest.len(), more, "of {bytes:?}");
+/// Whether a text constant begins these bytes which is this text, and so many bytes follow it.
+fn is_constant(alloc: Global, bytes: &[u8], want: &str, more: usize) -> bool {
+    match read_utf8_constant(alloc, bytes) {
+        Ok((text, rest)) => text.as_str() == want && rest.len() == more,
+        Err(_) => false,
     }
-    Ok(())
+}
+
+/// A constant pool's bytes from a text constant on, its text, and how many bytes follow.
+static CONSTANTS: [(&[u8], &str, usize); 4] = [
+    (b"\x01\x00\x04Code", "Code", 0),
+    (b"\x01\x00\x00\x01\x00\x03()V", "", 6),
+    (b"\x01\x00\x02\xC0\x80\x07\x00\x02", "\0", 3),
+    (b"\x01\x00\x06\xED\xA0\xBD\xED\xB2\x96", "\u{1F496}", 0),
+];
+
+#[test]
+fn reads_the_text_constants_of_a_class_file(rt: HostRuntime) {
+    for (bytes, want, more) in &CONSTANTS {
+        assert!(rt; is_constant(rt.alloc(), bytes, want, *more), "of {bytes:?}");
+    }
+}
+
+/// Whether bytes are refused as a text constant that is cut off.
+fn is_truncated(alloc: Global, bytes: &[u8]) -> bool {
+    let read = read_utf8_constant(alloc, bytes);
+    matches!(read, Err(ConstantFault::Text(ReadFault::Truncated)))
+}
+
+/// Whether bytes are refused as a text constant that is not MUTF-8.
+fn is_invalid(alloc: Global, bytes: &[u8]) -> bool {
+    let read = read_utf8_constant(alloc, bytes);
+    matches!(read, Err(ConstantFault::Text(ReadFault::Invalid(_))))
 }
 
 #[test]
 fn refuses_what_is_no_text_constant(rt: HostRuntime) {
     let class = read_utf8_constant(rt.alloc(), b"\x07\x00\x02");
     assert!(rt; matches!(class, Err(ConstantFault::OtherTag(7))));
-    for bytes in [b"".as_slice(), b"\x01\x00", b"\x01\x00\x02A"] {
-        let read = read_utf8_constant(rt.alloc(), bytes);
-        assert!(rt;
-            matches!(read, Err(ConstantFault::Text(ReadFault::Truncated))),
-            "of {bytes:?}"
-        );
-    }
+    assert!(rt; is_truncated(rt.alloc(), b""));
+    assert!(rt; is_truncated(rt.alloc(), b"\x01\x00"));
+    assert!(rt; is_truncated(rt.alloc(), b"\x01\x00\x02A"));
     // The byte 0 by itself, and one half of a surrogate pair.
-    for bytes in [b"\x01\x00\x01\x00".as_slice(), b"\x01\x00\x03\xED\xA0\xBD"] {
-        let read = read_utf8_constant(rt.alloc(), bytes);
-        assert!(rt;
-            matches!(read, Err(ConstantFault::Text(ReadFault::Invalid(_)))),
-            "of {bytes:?}"
-        );
-    }
+    assert!(rt; is_invalid(rt.alloc(), b"\x01\x00\x01\x00"));
+    assert!(rt; is_invalid(rt.alloc(), b"\x01\x00\x03\xED\xA0\xBD"));
 }
+
+/// Texts in the order of Java's `compareTo`: the code units of the last but two begin with D800 and
+/// DBFF, below E000 and FFFF.
+static ASCENDING: [&str; 9] = [
+    "",
+    "\0",
+    "A",
+    "AB",
+    "\u{D7FF}",
+    "\u{10000}",
+    "\u{10FFFF}",
+    "\u{E000}",
+    "\u{FFFF}",
+];
 
 #[test]
 fn orders_keys_as_utf16(rt: HostRuntime) -> Result<(), Fail> {
-    // In the order of Java's `compareTo`: the code units of the last but two begin with D800 and
-    // DBFF, below E000 and FFFF.
-    let ascending = [
-        "",
-        "\0",
-        "A",
-        "AB",
-        "\u{D7FF}",
-        "\u{10000}",
-        "\u{10FFFF}",
-        "\u{E000}",
-        "\u{FFFF}",
-    ];
     let mut store = BTreeMap::new(rt.alloc());
-    for (place, text) in ascending.iter().enumerate().rev() {
+    for (place, text) in ASCENDING.iter().enumerate().rev() {
         put_value(rt.alloc(), &mut store, text, place as u64)?;
     }
     for (place, value) in store.values().enumerate() {
         assert_eq!(rt; *value, place as u64);
     }
-    for (place, text) in ascending.iter().enumerate() {
+    for (place, text) in ASCENDING.iter().enumerate() {
         let value = get_value(rt.alloc(), &store, text)?;
         assert_eq!(rt; value, Some(place as u64), "at {text:?}");
     }
@@ -97,25 +108,36 @@ fn appends_all_texts(rt: HostRuntime) -> Result<(), Fail> {
     Ok(())
 }
 
+/// Whether a log is repaired to this text, and whether it is told to be damaged as it is.
+fn is_repaired_to(
+    alloc: Global,
+    log: &[u8],
+    text: &str,
+    is_damaged: bool,
+) -> Result<bool, AllocError> {
+    let repaired = repair_log(alloc, log)?;
+    Ok(repaired.text.as_str() == text && repaired.is_damaged == is_damaged)
+}
+
+/// A log, its text, and whether it is damaged.
+static LOGS: [(&[u8], &str, bool); 5] = [
+    (b"", "", false),
+    (b"one\ntwo\n", "one\ntwo\n", false),
+    (b"\xED\xA0\xBD\xED\xB2\x96\n", "\u{1F496}\n", false),
+    // What replaced a damaged byte before is now a character, and no damage.
+    (b"\xEF\xBF\xBD\n", "\u{FFFD}\n", false),
+    (
+        b"one\n\xED\xA0\xBDtwo\n",
+        "one\n\u{FFFD}\u{FFFD}\u{FFFD}two\n",
+        true,
+    ),
+];
+
 #[test]
 fn repairs_logs(rt: HostRuntime) -> Result<(), Fail> {
-    // A log, its text, and whether it is damaged.
-    let rows: [(&[u8], &str, bool); 5] = [
-        (b"", "", false),
-        (b"one\ntwo\n", "one\ntwo\n", false),
-        (b"\xED\xA0\xBD\xED\xB2\x96\n", "\u{1F496}\n", false),
-        // What replaced a damaged byte before is now a character, and no damage.
-        (b"\xEF\xBF\xBD\n", "\u{FFFD}\n", false),
-        (
-            b"one\n\xED\xA0\xBDtwo\n",
-            "one\n\u{FFFD}\u{FFFD}\u{FFFD}two\n",
-            true,
-        ),
-    ];
-    for (log, text, damaged) in rows {
-        let repaired = repair_log(rt.alloc(), log)?;
-        assert_eq!(rt; repaired.text.as_str(), text, "of {log:?}");
-        assert_eq!(rt; repaired.is_damaged, damaged, "of {log:?}");
+    for (log, text, is_damaged) in &LOGS {
+        let is_repaired = is_repaired_to(rt.alloc(), log, text, *is_damaged)?;
+        assert!(rt; is_repaired, "of {log:?}");
     }
     Ok(())
 }
@@ -126,48 +148,54 @@ fn is_rewritten_to(alloc: Global, log: &[u8], want: &[u8]) -> Result<bool, Alloc
     Ok(rewritten.as_slice() == want && !repair_log(alloc, want)?.is_damaged)
 }
 
+/// A log, and the rewritten log.
+static REWRITTEN: [(&[u8], &[u8]); 4] = [
+    (b"one\ntwo\n", b"one\ntwo\n"),
+    (b"\xED\xA0\xBD\xED\xB2\x96", b"\xED\xA0\xBD\xED\xB2\x96"),
+    (b"\xEF\xBF\xBD\n", b"\xEF\xBF\xBD\n"),
+    (b"one\n\xE2\x82two", b"one\n\xEF\xBF\xBD\xEF\xBF\xBDtwo"),
+];
+
 #[test]
 fn rewrites_logs(rt: HostRuntime) -> Result<(), Fail> {
-    // A log, and the rewritten log.
-    let rows: [(&[u8], &[u8]); 4] = [
-        (b"one\ntwo\n", b"one\ntwo\n"),
-        (b"\xED\xA0\xBD\xED\xB2\x96", b"\xED\xA0\xBD\xED\xB2\x96"),
-        (b"\xEF\xBF\xBD\n", b"\xEF\xBF\xBD\n"),
-        (b"one\n\xE2\x82two", b"one\n\xEF\xBF\xBD\xEF\xBF\xBDtwo"),
-    ];
-    for (log, want) in rows {
+    for (log, want) in &REWRITTEN {
         assert!(rt; is_rewritten_to(rt.alloc(), log, want)?, "of {log:?}");
     }
     Ok(())
 }
 
+/// How many strings are copied to a target of two bytes, if the whole source is appended. None are
+/// if it is refused, and the target is as before.
+fn copied(alloc: Global, source: &[u8]) -> Result<Option<usize>, Fail> {
+    let mut target = vec![in alloc; 1, 2]?;
+    let copied = copy_strings(alloc, source, &mut target);
+    match (copied, target.as_slice()) {
+        (Ok(count), [1, 2, appended @ ..]) if appended == source => Ok(Some(count)),
+        (Err(_), [1, 2]) => Ok(None),
+        _ => Err("the target has other bytes".into()),
+    }
+}
+
+/// A source, and how many strings it has.
+static SOURCES: [(&[u8], Option<usize>); 6] = [
+    (b"", Some(0)),
+    (b"\x00\x00", Some(1)),
+    (b"\x00\x01A\x00\x02\xC0\x80", Some(2)),
+    (b"\x00\x00\x00\x06\xED\xA0\xBD\xED\xB2\x96\x00\x00", Some(3)),
+    (b"\x00\x01A\x00\x01\x00", None),
+    (b"\x00\x01A\x00", None),
+];
+
 #[test]
 fn copies_all_strings_or_none(rt: HostRuntime) -> Result<(), Fail> {
-    // A source, and how many strings it has.
-    let rows: [(&[u8], usize); 4] = [
-        (b"", 0),
-        (b"\x00\x00", 1),
-        (b"\x00\x01A\x00\x02\xC0\x80", 2),
-        (b"\x00\x00\x00\x06\xED\xA0\xBD\xED\xB2\x96\x00\x00", 3),
-    ];
-    for (source, strings) in rows {
-        let mut target = vec![in rt.alloc(); 1, 2]?;
-        let count = copy_strings(rt.alloc(), source, &mut target)?;
-        assert_eq!(rt; count, strings, "of {source:?}");
-        assert_eq!(rt; &target[..2], b"\x01\x02".as_slice(), "of {source:?}");
-        assert_eq!(rt; &target[2..], source, "of {source:?}");
-    }
-    for source in [b"\x00\x01A\x00\x01\x00".as_slice(), b"\x00\x01A\x00"] {
-        let mut target = vec![in rt.alloc(); 1, 2]?;
-        let copied = copy_strings(rt.alloc(), source, &mut target);
-        assert!(rt; copied.is_err(), "of {source:?}");
-        assert_eq!(rt; target.as_slice(), b"\x01\x02".as_slice(), "of {source:?}");
+    for (source, strings) in &SOURCES {
+        assert_eq!(rt; copied(rt.alloc(), source)?, *strings, "of {source:?}");
     }
     Ok(())
 }
 
-// Texts of each length of an encoded character.
-const TEXTS: [&str; 5] = [
+/// Texts of each length of an encoded character.
+static TEXTS: [&str; 5] = [
     "",
     "a\0",
     "\u{7FF}",
@@ -175,15 +203,21 @@ const TEXTS: [&str; 5] = [
     "a\u{1F496}\u{10FFFF}",
 ];
 
+/// Asserts that a text is given back.
+fn assert_given_back(rt: &impl Abort, alloc: Global, text: &str) -> Result<(), Fail> {
+    let back = encode_and_decode(alloc, text)?;
+    assert_eq!(rt; back.as_str(), text);
+    let back = encode_and_read(alloc, text)?;
+    assert_eq!(rt; back.as_str(), text);
+    let back = write_and_read(alloc, text, b"\xFF").or(Err("is refused"))?;
+    assert_eq!(rt; back.as_str(), text);
+    Ok(())
+}
+
 #[test]
 fn gives_back_what_went_in(rt: HostRuntime) -> Result<(), Fail> {
-    for text in TEXTS {
-        let back = encode_and_decode(rt.alloc(), text)?;
-        assert_eq!(rt; back.as_str(), text);
-        let back = encode_and_read(rt.alloc(), text)?;
-        assert_eq!(rt; back.as_str(), text);
-        let back = write_and_read(rt.alloc(), text, b"\xFF").or(Err("is refused"))?;
-        assert_eq!(rt; back.as_str(), text);
+    for text in &TEXTS {
+        assert_given_back(&rt, rt.alloc(), text)?;
     }
     let bytes = b"a\xED\xA0\xBD\xED\xB2\x96".as_slice();
     let back = decode_and_encode(rt.alloc(), bytes).or(Err("is refused"))?;
@@ -195,7 +229,7 @@ fn gives_back_what_went_in(rt: HostRuntime) -> Result<(), Fail> {
 #[test]
 fn refuses_to_write_what_has_no_form(rt: HostRuntime) -> Result<(), Fail> {
     let mut long = String::new(rt.alloc());
-    for _ in 0..32_768 {
+    for _place in 0..32_768 {
         long.push_str("\0")?;
     }
     let refused = write_and_read(rt.alloc(), long.as_str(), b"");
@@ -213,24 +247,22 @@ fn makes_keys(rt: HostRuntime) -> Result<(), Fail> {
     Ok(())
 }
 
+/// What each call tells of a text by its own result, in the order of their names.
+fn told(alloc: Global, text: &str) -> Result<[bool; 6], AllocError> {
+    Ok([
+        compares_as_keys(alloc, text, "\u{FFFF}")?,
+        decodes_to_same(alloc, text)?,
+        needs_or_borrows(alloc, text)?,
+        tells_decoded_length(alloc, text.as_bytes())?,
+        tells_encoded_length(alloc, text)?,
+        tells_lossy_length(alloc, text.as_bytes())?,
+    ])
+}
+
 #[test]
 fn tells_what_other_calls_answer(rt: HostRuntime) -> Result<(), Fail> {
-    for text in TEXTS {
-        assert!(rt; needs_or_borrows(rt.alloc(), text)?, "of {text:?}");
-        assert!(rt; tells_encoded_length(rt.alloc(), text)?, "of {text:?}");
-        assert!(rt;
-            tells_decoded_length(rt.alloc(), text.as_bytes())?,
-            "of {text:?}"
-        );
-        assert!(rt;
-            tells_lossy_length(rt.alloc(), text.as_bytes())?,
-            "of {text:?}"
-        );
-        assert!(rt; decodes_to_same(rt.alloc(), text)?, "of {text:?}");
-        assert!(rt;
-            compares_as_keys(rt.alloc(), text, "\u{FFFF}")?,
-            "of {text:?}"
-        );
+    for text in &TEXTS {
+        assert_eq!(rt; told(rt.alloc(), text)?, [true; 6], "of {text:?}");
     }
     let mut buf = vec![in rt.alloc(); b'=']?;
     let encoded = append_and_encode(rt.alloc(), "\u{10400}", &mut buf)?;

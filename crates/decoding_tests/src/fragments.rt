@@ -14,15 +14,20 @@ fn after(number: u64) -> u64 {
     number ^ (number << 17)
 }
 
+/// The row at this place, where they come in turn.
+fn row_at(place: usize) -> &'static [u8] {
+    ROWS[place % ROWS.len()].0
+}
+
 /// The sequence of a number: so many rows or, but for one of so many, characters.
 fn sequence(alloc: Global, seed: u64, pieces: u64, one_of: u64) -> Result<Vec<u8>, AllocError> {
     let mut bytes = Vec::new(alloc);
     let mut number = after(after(seed.wrapping_mul(0x9E37_79B9_7F4A_7C15) | 1));
-    for _ in 0..pieces {
+    for _piece in 0..pieces {
         number = after(number);
         let drawn = (number >> 32) as usize;
         if number.checked_rem(one_of).unwrap_or(0) == 0 {
-            bytes.extend_from_slice(ROWS[drawn % ROWS.len()].0)?;
+            bytes.extend_from_slice(row_at(drawn))?;
         } else {
             bytes.extend_from_slice(FILLS[drawn % FILLS.len()])?;
         }

@@ -10,7 +10,7 @@ use test_cases::fills::{FILLS, Input};
 
 /// A surrogate pair and one that is cut, U+0000 in both forms, four bytes of UTF-8, a lead byte, and
 /// bytes that begin nothing.
-const PIECES: [&[u8]; 11] = [
+static PIECES: [&[u8]; 11] = [
     b"\xED\xA0\xBD\xED\xB2\x96",
     b"\xED\xA0\xBD\xED\xB2",
     b"\xC0\x80",
@@ -44,12 +44,23 @@ fn expect_at(
     Ok(())
 }
 
+/// Each piece at each of some places.
+fn expect_each(
+    alloc: Global,
+    fill: &[u8],
+    len: usize,
+    places: Range<usize>,
+) -> Result<(), Difference> {
+    for put in &PIECES {
+        expect_at(alloc, fill, len, places.start..places.end, put)?;
+    }
+    Ok(())
+}
+
 /// Each piece at each place of ASCII of some lengths.
 fn expect_pieces(alloc: Global, lengths: Range<usize>) -> Result<(), Difference> {
     for len in lengths {
-        for put in PIECES {
-            expect_at(alloc, FILLS[0], len, 0..len.saturating_add(1), put)?;
-        }
+        expect_each(alloc, FILLS[0], len, 0..len.saturating_add(1))?;
     }
     Ok(())
 }
@@ -69,10 +80,8 @@ fn reads_pieces_about_blocks(rt: HostRuntime) -> Result<(), Fail> {
 #[test]
 fn reads_pieces_about_the_ends_of_windows(rt: HostRuntime) -> Result<(), Fail> {
     for end in [256, 1_024, 1_088, 1_280, 2_048] {
-        for put in PIECES {
-            for fill in [FILLS[0], FILLS[5]] {
-                expect_at(rt.alloc(), fill, end + 20, end - 6..end + 2, put)?;
-            }
+        for fill in [FILLS[0], FILLS[5]] {
+            expect_each(rt.alloc(), fill, end + 20, end - 6..end + 2)?;
         }
     }
     Ok(())
@@ -103,14 +112,18 @@ fn reads_each_byte_among_nulls_and_two_widths(rt: HostRuntime) -> Result<(), Fai
     Ok(expect_bytes(rt.alloc(), &FILLS[4..])?)
 }
 
-/// Each row at each offset in a block of 64, at the end of the input and before more of it.
+/// Something at each offset in a block of 64, at the end of the input and before more of it.
+fn expect_at_offsets(alloc: Global, put: &[u8]) -> Result<(), Difference> {
+    for place in 0..64 {
+        expect_at(alloc, FILLS[5], place, place..place + 1, put)?;
+    }
+    expect_at(alloc, FILLS[5], 100, 0..64, put)
+}
+
 #[test]
 fn reads_rows_at_each_offset(rt: HostRuntime) -> Result<(), Fail> {
-    for (put, ..) in ROWS {
-        for place in 0..64 {
-            expect_at(rt.alloc(), FILLS[5], place, place..place + 1, put)?;
-        }
-        expect_at(rt.alloc(), FILLS[5], 100, 0..64, put)?;
+    for (put, ..) in &ROWS {
+        expect_at_offsets(rt.alloc(), put)?;
     }
     Ok(())
 }

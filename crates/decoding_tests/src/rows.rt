@@ -1,16 +1,17 @@
 //! Rows of bytes, whole and damaged, by each call that decodes.
 
 use std::alloc::{AllocError, Global};
+use std::process::Abort;
 use std::str;
 use std::test::Fail;
-use test_cases::borders::BORDERS;
+use test_cases::borders::{BORDERS, Border};
 use test_cases::comparisons::{expect, expect_reading};
-use test_cases::flavors::{FLAVORS, decode_strict};
+use test_cases::flavors::{FLAVORS, Flavor, decode_strict};
 use test_cases::plain::Reading;
 
 /// Bytes that both encodings read alike: U+FFFD so many times, a text, and U+FFFD again. Where there
 /// is none, they are the encoding of the text.
-pub const ROWS: [(&[u8], usize, &str, usize); 37] = [
+pub static ROWS: [(&[u8], usize, &str, usize); 37] = [
     (b"", 0, "", 0),
     (b"Hello, world!", 0, "Hello, world!", 0),
     (b"\xC8\x85\xE2\x82\xAC", 0, "\u{205}\u{20AC}", 0),
@@ -59,30 +60,48 @@ pub const ROWS: [(&[u8], usize, &str, usize); 37] = [
     (b"\xA0\xBD\xED\xB2\x96", 5, "", 0),
 ];
 
-/// The text of a row.
-fn text_of(alloc: Global, before: usize, text: &str, after: usize) -> Result<String, AllocError> {
+/// Appends so many U+FFFD.
+fn push_marks(text: &mut String, count: usize) -> Result<(), AllocError> {
+    for _mark in 0..count {
+        text.push('\u{FFFD}')?;
+    }
+    Ok(())
+}
+
+/// What a row says is read.
+fn reading_of(
+    alloc: Global,
+    before: usize,
+    text: &str,
+    after: usize,
+) -> Result<Reading, AllocError> {
     let mut read = String::new(alloc);
-    for _ in 0..before {
-        read.push('\u{FFFD}')?;
-    }
+    push_marks(&mut read, before)?;
     read.push_str(text)?;
-    for _ in 0..after {
-        read.push('\u{FFFD}')?;
-    }
-    Ok(read)
+    push_marks(&mut read, after)?;
+    Ok(Reading {
+        text: read,
+        damaged: before.wrapping_add(after),
+    })
+}
+
+/// Asserts that each call reads this in an encoding.
+fn assert_read(rt: &impl Abort, alloc: Global, flavor: Flavor, bytes: &[u8], reading: &Reading) {
+    let compared = expect_reading(alloc, flavor, bytes, reading);
+    assert!(rt; compared.is_ok(), "{compared:?} of {bytes:?}");
+}
+
+/// Asserts that each call reads this in both encodings.
+fn assert_read_alike(rt: &impl Abort, alloc: Global, bytes: &[u8], reading: &Reading) {
+    assert_read(rt, alloc, Flavor::Cesu8, bytes, reading);
+    assert_read(rt, alloc, Flavor::Mutf8, bytes, reading);
 }
 
 #[test]
 fn reads_rows(rt: HostRuntime) -> Result<(), Fail> {
-    for (bytes, before, text, after) in ROWS {
-        let reading = Reading {
-            text: text_of(rt.alloc(), before, text, after)?,
-            damaged: before.wrapping_add(after),
-        };
-        for flavor in FLAVORS {
-            let compared = expect_reading(rt.alloc(), flavor, bytes, &reading);
-            assert!(rt; compared.is_ok(), "{compared:?} of {bytes:?}");
-        }
+    for (bytes, before, text, after) in &ROWS {
+        let reading = reading_of(rt.alloc(), *before, text, *after)?;
+        assert_read_alike(&rt, rt.alloc(), bytes, &reading);
     }
     Ok(())
 }
@@ -93,73 +112,81 @@ fn reads_cuts_of_a_pair(rt: HostRuntime) -> Result<(), Fail> {
     let pair = b"\xED\xA0\xBD\xED\xB2\x96";
     for place in 1..6 {
         for bytes in [&pair[..place], &pair[place..]] {
-            let damaged = bytes.len();
-            let reading = Reading {
-                text: text_of(rt.alloc(), damaged, "", 0)?,
-                damaged,
-            };
-            for flavor in FLAVORS {
-                let compared = expect_reading(rt.alloc(), flavor, bytes, &reading);
-                assert!(rt; compared.is_ok(), "{compared:?} of {bytes:?}");
-            }
+            let reading = reading_of(rt.alloc(), bytes.len(), "", 0)?;
+            assert_read_alike(&rt, rt.alloc(), bytes, &reading);
         }
     }
     Ok(())
 }
 
 /// Bytes that the encodings read otherwise, or that have damage between characters: their text in
-/// CESU-8 and in MUTF-8, and how many of its U+FFFD are damage.
-const APART: [(&[u8], [(&str, usize); 2]); 9] = [
-    (b"\0", [("\0", 0), ("\u{FFFD}", 1)]),
-    (b"\0\0\0", [("\0\0\0", 0), ("\u{FFFD}\u{FFFD}\u{FFFD}", 3)]),
-    (b"A\0B", [("A\0B", 0), ("A\u{FFFD}B", 1)]),
-    (b"\xC0\x80", [("\u{FFFD}\u{FFFD}", 2), ("\0", 0)]),
+/// CESU-8 and in MUTF-8, and how many U+FFFD of each are damage.
+static APART: [(&[u8], [&str; 2], [usize; 2]); 9] = [
+    (b"\0", ["\0", "\u{FFFD}"], [0, 1]),
+    (b"\0\0\0", ["\0\0\0", "\u{FFFD}\u{FFFD}\u{FFFD}"], [0, 3]),
+    (b"A\0B", ["A\0B", "A\u{FFFD}B"], [0, 1]),
+    (b"\xC0\x80", ["\u{FFFD}\u{FFFD}", "\0"], [2, 0]),
     (
         b"\xC2\xC0\x80",
-        [("\u{FFFD}\u{FFFD}\u{FFFD}", 3), ("\u{FFFD}\0", 1)],
+        ["\u{FFFD}\u{FFFD}\u{FFFD}", "\u{FFFD}\0"],
+        [3, 1],
     ),
     (
         b"\xC0\xC0\x80",
-        [("\u{FFFD}\u{FFFD}\u{FFFD}", 3), ("\u{FFFD}\0", 1)],
+        ["\u{FFFD}\u{FFFD}\u{FFFD}", "\u{FFFD}\0"],
+        [3, 1],
     ),
-    (
-        b"\0\xC0\x80",
-        [("\0\u{FFFD}\u{FFFD}", 2), ("\u{FFFD}\0", 1)],
-    ),
+    (b"\0\xC0\x80", ["\0\u{FFFD}\u{FFFD}", "\u{FFFD}\0"], [2, 1]),
     (
         b"\xC0\x80\xEF\xBF\xBD",
-        [("\u{FFFD}\u{FFFD}\u{FFFD}", 2), ("\0\u{FFFD}", 0)],
+        ["\u{FFFD}\u{FFFD}\u{FFFD}", "\0\u{FFFD}"],
+        [2, 0],
     ),
     (
         b"a\xED\xA0\xBD\xED\xA0\xBD\xED\xB2\x96",
-        [("a\u{FFFD}\u{FFFD}\u{FFFD}\u{1F496}", 3); 2],
+        ["a\u{FFFD}\u{FFFD}\u{FFFD}\u{1F496}"; 2],
+        [3; 2],
     ),
 ];
 
 #[test]
 fn reads_each_encoding(rt: HostRuntime) -> Result<(), Fail> {
-    for flavor in FLAVORS {
-        for (bytes, both) in APART {
-            let (text, damaged) = flavor.of(both);
-            let text = text_of(rt.alloc(), 0, text, 0)?;
-            let compared = expect_reading(rt.alloc(), flavor, bytes, &Reading { text, damaged });
-            assert!(rt; compared.is_ok(), "{compared:?} of {bytes:?}");
+    for (bytes, texts, damaged) in &APART {
+        for flavor in FLAVORS {
+            let text = reading_of(rt.alloc(), 0, flavor.of(*texts), 0)?.text;
+            let damaged = flavor.of(*damaged);
+            assert_read(&rt, rt.alloc(), flavor, bytes, &Reading { text, damaged });
         }
     }
     Ok(())
 }
 
+/// Asserts that a scalar value is read, also by its text as a string.
+fn assert_border(
+    rt: &impl Abort,
+    alloc: Global,
+    flavor: Flavor,
+    border: &Border,
+) -> Result<(), Fail> {
+    let bytes = border.encoded(flavor);
+    let reading = reading_of(alloc, 0, str::from_utf8(border.utf8)?, 0)?;
+    let copy = decode_strict(alloc, flavor, bytes)?.into_string(alloc)?;
+    expect(
+        alloc,
+        flavor,
+        border.name,
+        copy.as_str(),
+        reading.text.as_str(),
+    )?;
+    assert_read(rt, alloc, flavor, bytes, &reading);
+    Ok(())
+}
+
 #[test]
 fn reads_the_borders(rt: HostRuntime) -> Result<(), Fail> {
-    for flavor in FLAVORS {
-        for row in &BORDERS {
-            let bytes = row.encoded(flavor);
-            let text = text_of(rt.alloc(), 0, str::from_utf8(row.utf8)?, 0)?;
-            let copy = decode_strict(rt.alloc(), flavor, bytes)?.into_string(rt.alloc())?;
-            expect(rt.alloc(), flavor, row.name, copy.as_str(), text.as_str())?;
-            let compared = expect_reading(rt.alloc(), flavor, bytes, &Reading { text, damaged: 0 });
-            assert!(rt; compared.is_ok(), "{compared:?} at {}", row.name);
-        }
+    for row in &BORDERS {
+        assert_border(&rt, rt.alloc(), Flavor::Cesu8, row)?;
+        assert_border(&rt, rt.alloc(), Flavor::Mutf8, row)?;
     }
     Ok(())
 }

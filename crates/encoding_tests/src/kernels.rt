@@ -6,30 +6,41 @@ use simd_cesu8::implementation::{active, fallback, simd, word};
 use std::ops::RangeInclusive;
 use std::process::Abort;
 
-/// A module, and what its two kernels return: whether some byte is F0 to F7, and whether some is 00 or
-/// one of these.
+/// What a module's two kernels return: whether some byte is F0 to F7, and whether some is 00 or one
+/// of these.
 macro_rules! results {
-    ($bytes:ident: $($module:ident),*) => {
-        [$((
-            stringify!($module),
+    ($module:ident, $bytes:ident) => {
+        [
             $module::contains_utf8_4_byte_char_header($bytes),
             $module::contains_null_or_utf8_4_byte_char_header($bytes),
-        )),*]
+        ]
     };
 }
 
 /// The first module whose kernels return other than these on a list.
 fn first_wrong(bytes: &[u8], four: bool, null_four: bool) -> Option<&'static str> {
-    for (module, has_four, has_null_four) in results!(bytes: fallback, word, simd, active) {
-        if has_four != four || has_null_four != null_four {
-            return Some(module);
-        }
+    let expected = [four, null_four];
+    if results!(fallback, bytes) != expected {
+        Some("fallback")
+    } else if results!(word, bytes) != expected {
+        Some("word")
+    } else if results!(simd, bytes) != expected {
+        Some("simd")
+    } else if results!(active, bytes) != expected {
+        Some("active")
+    } else {
+        None
     }
-    None
+}
+
+/// Asserts that each module's kernels return these.
+fn assert_right(rt: &impl Abort, bytes: &[u8], four: bool, null_four: bool) {
+    let wrong = first_wrong(bytes, four, null_four);
+    assert_eq!(rt; wrong, None, "of {} bytes: {bytes:?}", bytes.len());
 }
 
 /// Bytes at the borders of the classes, and whether each is F0 to F7, and 00 or one of these.
-const BYTES: [(u8, bool, bool); 14] = [
+static BYTES: [(u8, bool, bool); 14] = [
     (0x00, false, true),
     (0x01, false, false),
     (0x08, false, false),
@@ -49,31 +60,31 @@ const BYTES: [(u8, bool, bool); 14] = [
 /// Lists that an inexact test of a word, or a walk that leaves out a word, gets wrong.
 #[test]
 fn finds_bytes_in_short_lists(rt: HostRuntime) {
-    let rows: [(&[u8], bool, bool); 7] = [
-        (b"", false, false),
-        (&[0x81; 8], false, false),
-        (&[0x08; 8], false, false),
-        (b"\x00\x01\x01\x01\x01\x01\x01\x01", false, true),
-        (b"\x01\x01\x01\x01\x01\x01\x01\x00", false, true),
-        (&[0x01; 8], false, false),
-        (b"aaaaaaaa\xF0", true, true),
-    ];
-    for (bytes, four, null_four) in rows {
-        assert_eq!(rt; first_wrong(bytes, four, null_four), None, "of {bytes:?}");
+    assert_right(&rt, b"", false, false);
+    assert_right(&rt, &[0x81; 8], false, false);
+    assert_right(&rt, &[0x08; 8], false, false);
+    assert_right(&rt, b"\x00\x01\x01\x01\x01\x01\x01\x01", false, true);
+    assert_right(&rt, b"\x01\x01\x01\x01\x01\x01\x01\x00", false, true);
+    assert_right(&rt, &[0x01; 8], false, false);
+    assert_right(&rt, b"aaaaaaaa\xF0", true, true);
+}
+
+/// Asserts that one byte that is sought is found in a list of this length.
+fn assert_found_at(rt: &impl Abort, len: usize, place: usize) {
+    let mut bytes = [0x61; 128];
+    if let Some(byte) = bytes.get_mut(place) {
+        *byte = 0xF7;
     }
+    assert_right(rt, bytes.get(..len).unwrap_or(&[]), true, true);
 }
 
 /// One byte that is sought, at the borders of the vectors' widths.
 #[test]
 fn finds_a_byte_in_a_long_list(rt: HostRuntime) {
-    let mut bytes = [0x61; 128];
-    bytes[127] = 0xF7;
-    assert_eq!(rt; first_wrong(&bytes[..127], false, false), None);
-    assert_eq!(rt; first_wrong(&bytes, true, true), None);
+    assert_right(&rt, &[0x61; 127], false, false);
+    assert_found_at(&rt, 128, 127);
     for place in [0, 63, 64, 95, 96, 111, 112, 119, 120, 123, 124, 125, 126] {
-        let mut bytes = [0x61; 127];
-        bytes[place] = 0xF7;
-        assert_eq!(rt; first_wrong(&bytes, true, true), None, "at {place}");
+        assert_found_at(&rt, 127, place);
     }
 }
 
@@ -84,10 +95,10 @@ fn first_wrong_place(fill: u8, lengths: RangeInclusive<usize>) -> Option<(usize,
     for len in lengths {
         let list = bytes.get_mut(..len)?;
         for place in 0..len {
-            for (byte, four, null_four) in BYTES {
-                *list.get_mut(place)? = byte;
-                if first_wrong(list, four, null_four).is_some() {
-                    return Some((len, place, byte));
+            for (byte, four, null_four) in &BYTES {
+                *list.get_mut(place)? = *byte;
+                if first_wrong(list, *four, *null_four).is_some() {
+                    return Some((len, place, *byte));
                 }
             }
             *list.get_mut(place)? = fill;
@@ -201,23 +212,22 @@ fn finds_a_byte_among_ff_up_to_200(rt: HostRuntime) {
     assert_found(&rt, 0xFF, 187..=200);
 }
 
+/// Asserts what the kernels return on a list of one byte, of each length but 0.
+fn assert_filled(rt: &impl Abort, fill: u8, four: bool, null_four: bool) {
+    let bytes = [fill; 200];
+    for len in 1..201 {
+        assert_right(rt, &bytes[..len], four, null_four);
+    }
+}
+
 /// A list of one byte that is sought or is not, of each length.
 #[test]
 fn finds_a_byte_that_fills_a_list(rt: HostRuntime) {
-    let rows = [
-        (0x01, false, false),
-        (0x61, false, false),
-        (0x81, false, false),
-        (0xFF, false, false),
-        (0x00, false, true),
-        (0xF4, true, true),
-    ];
-    for (fill, four, null_four) in rows {
-        let bytes = [fill; 200];
-        assert_eq!(rt; first_wrong(&[], false, false), None);
-        for len in 1..201 {
-            let wrong = first_wrong(&bytes[..len], four, null_four);
-            assert_eq!(rt; wrong, None, "{len} of {fill}");
-        }
-    }
+    assert_right(&rt, &[], false, false);
+    assert_filled(&rt, 0x01, false, false);
+    assert_filled(&rt, 0x61, false, false);
+    assert_filled(&rt, 0x81, false, false);
+    assert_filled(&rt, 0xFF, false, false);
+    assert_filled(&rt, 0x00, false, true);
+    assert_filled(&rt, 0xF4, true, true);
 }

@@ -95,39 +95,50 @@ fn expect_both_ways(
     Ok(())
 }
 
+/// Compares what so many patterns become, which have these lengths in UTF-8 and in the encoding.
+fn expect_pattern(
+    alloc: Global,
+    flavor: Flavor,
+    times: usize,
+    lengths: [usize; 2],
+) -> Result<(), Difference> {
+    let utf8 = repeated(alloc, PATTERN, times)?;
+    let bytes = repeated(alloc, encoded_pattern(flavor), times)?;
+    expect(
+        alloc,
+        flavor,
+        "the lengths",
+        [utf8.len(), bytes.len()],
+        lengths,
+    )?;
+    let text = str::from_utf8(utf8.as_slice()).unwrap_or("");
+    expect_both_ways(alloc, flavor, text, bytes.as_slice())
+}
+
 #[test]
 fn encodes_and_decodes_the_pattern(rt: HostRuntime) -> Result<(), Fail> {
-    let rows = [
-        (Flavor::Cesu8, 1, 24),
-        (Flavor::Cesu8, 819, 19_656),
-        (Flavor::Mutf8, 1, 25),
-        (Flavor::Mutf8, 819, 20_475),
-    ];
-    for (flavor, times, len) in rows {
-        let utf8 = repeated(rt.alloc(), PATTERN, times)?;
-        let bytes = repeated(rt.alloc(), encoded_pattern(flavor), times)?;
-        assert_eq!(rt; (utf8.len(), bytes.len()), (20 * times, len));
-        let text = str::from_utf8(utf8.as_slice())?;
-        expect_both_ways(rt.alloc(), flavor, text, bytes.as_slice())?;
-    }
+    expect_pattern(rt.alloc(), Flavor::Cesu8, 1, [20, 24])?;
+    expect_pattern(rt.alloc(), Flavor::Cesu8, 819, [16_380, 19_656])?;
+    expect_pattern(rt.alloc(), Flavor::Mutf8, 1, [20, 25])?;
+    expect_pattern(rt.alloc(), Flavor::Mutf8, 819, [16_380, 20_475])?;
     Ok(())
 }
 
 // The characters of each width, drawn in turn. The lists' lengths have no divisor in common with
 // one another, or with the draws for a text, 819 from `ONE` and 1,638 from each other list, so no
 // two texts are the same.
-const ONE: [u32; 8] = [0x1, 0x9, 0xA, 0x20, 0x30, 0x41, 0x7A, 0x7F];
+static ONE: [u32; 8] = [0x1, 0x9, 0xA, 0x20, 0x30, 0x41, 0x7A, 0x7F];
 
-const TWO: [u32; 11] = [
+static TWO: [u32; 11] = [
     0x80, 0xA0, 0xE9, 0xFF, 0x100, 0x205, 0x3A9, 0x416, 0x5D0, 0x627, 0x7FF,
 ];
 
-const THREE: [u32; 17] = [
+static THREE: [u32; 17] = [
     0x800, 0x905, 0xFFF, 0x1000, 0x1E9E, 0x20AC, 0x3042, 0x4E2D, 0xAC00, 0xCFFF, 0xD000, 0xD7FF,
     0xE000, 0xF8FF, 0xFEFF, 0xFFFD, 0xFFFF,
 ];
 
-const FOUR: [u32; 19] = [
+static FOUR: [u32; 19] = [
     0x10000, 0x103FF, 0x10400, 0x107FF, 0x1D11E, 0x1F496, 0x1F600, 0x1FFFF, 0x20000, 0x2A6DF,
     0x30000, 0x3FFFF, 0x40000, 0x7FFFF, 0x80000, 0xE0001, 0xFFFFF, 0x100000, 0x10FFFF,
 ];
@@ -135,20 +146,26 @@ const FOUR: [u32; 19] = [
 /// How many characters a text has: 819 groups of eight.
 const CHARACTERS: u32 = 8 * 819;
 
+/// The scalar value that comes at this number, where those of a list come in turn.
+fn drawn(list: &[u32], number: usize) -> u32 {
+    let place = number.checked_rem(list.len()).unwrap_or(0);
+    list.get(place).copied().unwrap_or(0)
+}
+
 /// The scalar value of this number among those of all texts.
 fn scalar_at(number: u32) -> u32 {
     let group = number as usize / 8;
-    let first = 2 * group;
-    let second = first + 1;
+    let first = group.wrapping_mul(2);
+    let second = first.wrapping_add(1);
     match number % 8 {
-        0 => ONE[group % ONE.len()],
-        1 => TWO[first % TWO.len()],
-        2 => THREE[first % THREE.len()],
-        3 => FOUR[first % FOUR.len()],
+        0 => drawn(&ONE, group),
+        1 => drawn(&TWO, first),
+        2 => drawn(&THREE, first),
+        3 => drawn(&FOUR, first),
         4 => 0,
-        5 => TWO[second % TWO.len()],
-        6 => THREE[second % THREE.len()],
-        _ => FOUR[second % FOUR.len()],
+        5 => drawn(&TWO, second),
+        6 => drawn(&THREE, second),
+        _ => drawn(&FOUR, second),
     }
 }
 

@@ -1,13 +1,14 @@
 //! How texts and encodings compare, and how the code units of the texts do.
 
+use crate::asserts::{assert_same, text_of};
 use std::alloc::{AllocError, Global};
 use std::cmp::Ordering;
 use std::cmp::Ordering::{Greater, Less};
-use std::str;
+use std::process::Abort;
 use std::test::Fail;
 use test_cases::borders::{BORDERS, Border};
 use test_cases::comparisons::{Difference, expect};
-use test_cases::flavors::{FLAVORS, Flavor, encode};
+use test_cases::flavors::{Flavor, encode};
 
 /// How the code units of two texts compare.
 fn compare_units(first: &str, second: &str) -> Ordering {
@@ -41,8 +42,7 @@ fn expect_as_units(
     first: &Border,
     second: &Border,
 ) -> Result<(), Difference> {
-    let one = str::from_utf8(first.utf8).unwrap_or("");
-    let other = str::from_utf8(second.utf8).unwrap_or("");
+    let (one, other) = (text_of(first), text_of(second));
     let units = compare_units(one, other);
     let reversed = is_reversed(flavor, first, second);
     let expected = if reversed { units.reverse() } else { units };
@@ -50,21 +50,20 @@ fn expect_as_units(
     expect(alloc, flavor, "encode", order, expected)
 }
 
+/// Asserts that the encodings of a scalar value and of each compare as they have to.
+fn assert_as_units(rt: &impl Abort, alloc: Global, flavor: Flavor, first: &Border) {
+    for second in &BORDERS {
+        let compared = expect_as_units(alloc, flavor, first, second);
+        assert_same(rt, compared, &[first.name, second.name]);
+    }
+}
+
 /// Each scalar value with each.
 #[test]
 fn orders_the_borders_by_code_units(rt: HostRuntime) {
-    for flavor in FLAVORS {
-        for first in &BORDERS {
-            for second in &BORDERS {
-                let compared = expect_as_units(rt.alloc(), flavor, first, second);
-                assert!(rt;
-                    compared.is_ok(),
-                    "{compared:?}: {} and {}",
-                    first.name,
-                    second.name
-                );
-            }
-        }
+    for first in &BORDERS {
+        assert_as_units(&rt, rt.alloc(), Flavor::Cesu8, first);
+        assert_as_units(&rt, rt.alloc(), Flavor::Mutf8, first);
     }
 }
 
@@ -94,24 +93,25 @@ fn expect_orders(
 }
 
 /// Two texts, and how the first compares by UTF-8, by code units, in CESU-8 and in MUTF-8.
+static EXAMPLES: [(&str, &str, Ordering, [Ordering; 3]); 4] = [
+    ("\u{FFFF}", "\u{10000}", Less, [Greater, Greater, Greater]),
+    ("\u{E000}", "\u{10FFFF}", Less, [Greater, Greater, Greater]),
+    ("\0", "A", Less, [Less, Less, Greater]),
+    ("", "\0", Less, [Less, Less, Less]),
+];
+
 #[test]
 fn orders_examples(rt: HostRuntime) {
-    let rows = [
-        ("\u{FFFF}", "\u{10000}", Less, [Greater, Greater, Greater]),
-        ("\u{E000}", "\u{10FFFF}", Less, [Greater, Greater, Greater]),
-        ("\0", "A", Less, [Less, Less, Greater]),
-        ("", "\0", Less, [Less, Less, Less]),
-    ];
-    for (first, second, utf8, others) in rows {
-        let compared = expect_orders(rt.alloc(), (first, second), utf8, others);
-        assert!(rt; compared.is_ok(), "{compared:?}: {first:?} and {second:?}");
+    for (first, second, utf8, others) in &EXAMPLES {
+        let compared = expect_orders(rt.alloc(), (first, second), *utf8, *others);
+        assert_same(&rt, compared, &[first, second]);
     }
 }
 
 /// A text of a character so many times, and an end.
 fn with_front(alloc: Global, front: char, len: usize, end: &str) -> Result<String, AllocError> {
     let mut text = String::new(alloc);
-    for _ in 0..len {
+    for _place in 0..len {
         text.push(front)?;
     }
     text.push_str(end)?;
@@ -160,18 +160,30 @@ fn compares_behind_equal_fronts(rt: HostRuntime) -> Result<(), Fail> {
     Ok(())
 }
 
+/// Compares a text with each scalar value at a border, behind a front.
+fn expect_with_each(alloc: Global, first: &str, front: char) -> Result<(), Difference> {
+    for second in &BORDERS {
+        let second = with_front(alloc, front, 1, text_of(second))?;
+        expect_order(alloc, first, second.as_str())?;
+    }
+    Ok(())
+}
+
+/// Compares each scalar value at a border with each, behind a front.
+fn expect_behind(alloc: Global, front: char) -> Result<(), Difference> {
+    for first in &BORDERS {
+        let first = with_front(alloc, front, 1, text_of(first))?;
+        expect_with_each(alloc, first.as_str(), front)?;
+    }
+    Ok(())
+}
+
 /// Each scalar value at a border with each, behind each.
 #[test]
 fn compares_the_borders(rt: HostRuntime) -> Result<(), Fail> {
     for front in &BORDERS {
-        let front = str::from_utf8(front.utf8)?.chars().next().unwrap_or('a');
-        for first in &BORDERS {
-            let first = with_front(rt.alloc(), front, 1, str::from_utf8(first.utf8)?)?;
-            for second in &BORDERS {
-                let second = with_front(rt.alloc(), front, 1, str::from_utf8(second.utf8)?)?;
-                expect_order(rt.alloc(), first.as_str(), second.as_str())?;
-            }
-        }
+        let front = text_of(front).chars().next().ok_or("no character")?;
+        expect_behind(rt.alloc(), front)?;
     }
     Ok(())
 }

@@ -1,9 +1,11 @@
 //! Encoding into buffers of each length up to one byte more than is needed.
 
+use crate::asserts::{assert_same, text_of};
 use std::alloc::Global;
+use std::ops::Range;
 use std::str;
 use std::test::Fail;
-use test_cases::borders::BORDERS;
+use test_cases::borders::{BORDERS, Border};
 use test_cases::comparisons::Difference;
 use test_cases::fills::{Input, repeated};
 use test_cases::flavors::{FLAVORS, Flavor};
@@ -22,16 +24,19 @@ fn expect_in_each_room(
     expect_in_rooms(alloc, flavor, SliceCall::Encode(text), Some(bytes), rooms)
 }
 
-#[test]
-fn encodes_the_borders(rt: HostRuntime) -> Result<(), Fail> {
+/// Compares the call on a scalar value, in both encodings.
+fn expect_border(alloc: Global, border: &Border) -> Result<(), Difference> {
     for flavor in FLAVORS {
-        for row in &BORDERS {
-            let text = str::from_utf8(row.utf8)?;
-            let compared = expect_in_each_room(rt.alloc(), flavor, text, row.encoded(flavor));
-            assert!(rt; compared.is_ok(), "{}: {compared:?}", row.name);
-        }
+        expect_in_each_room(alloc, flavor, text_of(border), border.encoded(flavor))?;
     }
     Ok(())
+}
+
+#[test]
+fn encodes_the_borders(rt: HostRuntime) {
+    for row in &BORDERS {
+        assert_same(&rt, expect_border(rt.alloc(), row), &[row.name]);
+    }
 }
 
 /// About the lengths at which the encoder goes another way.
@@ -71,17 +76,20 @@ fn encodes_characters_among_ascii(rt: HostRuntime) -> Result<(), Fail> {
     Ok(())
 }
 
+/// Compares the call on 819 patterns, in no room and in rooms of about these lengths.
+fn expect_pattern(alloc: Global, flavor: Flavor, rooms: Range<usize>) -> Result<(), Difference> {
+    let utf8 = repeated(alloc, PATTERN, 819)?;
+    let call = SliceCall::Encode(str::from_utf8(utf8.as_slice()).unwrap_or(""));
+    let bytes = repeated(alloc, encoded_pattern(flavor), 819)?;
+    let result = Some(bytes.as_slice());
+    expect_in_rooms(alloc, flavor, call, result, 0..1)?;
+    expect_in_rooms(alloc, flavor, call, result, rooms)
+}
+
+/// The results have 19,656 and 20,475 bytes.
 #[test]
 fn encodes_the_pattern(rt: HostRuntime) -> Result<(), Fail> {
-    let utf8 = repeated(rt.alloc(), PATTERN, 819)?;
-    let text = str::from_utf8(utf8.as_slice())?;
-    for (flavor, len) in [(Flavor::Cesu8, 19_656), (Flavor::Mutf8, 20_475)] {
-        let bytes = repeated(rt.alloc(), encoded_pattern(flavor), 819)?;
-        let (call, result) = (SliceCall::Encode(text), Some(bytes.as_slice()));
-        for rooms in [0..1, len - 1..len + 2] {
-            let compared = expect_in_rooms(rt.alloc(), flavor, call, result, rooms);
-            assert!(rt; compared.is_ok(), "{compared:?}");
-        }
-    }
+    expect_pattern(rt.alloc(), Flavor::Cesu8, 19_655..19_658)?;
+    expect_pattern(rt.alloc(), Flavor::Mutf8, 20_474..20_477)?;
     Ok(())
 }

@@ -1,14 +1,16 @@
 //! Short texts, by each call that encodes or appends.
 
+use crate::asserts::{assert_same, text_of};
+use std::alloc::Global;
 use std::str;
 use std::test::Fail;
-use test_cases::borders::BORDERS;
-use test_cases::comparisons::{expect_appended, expect_encoding};
+use test_cases::borders::{BORDERS, Border};
+use test_cases::comparisons::{Difference, expect_appended, expect_encoding};
 use test_cases::flavors::{FLAVORS, Flavor, encode_into};
 use test_cases::plain::encoded;
 
 /// Texts, and their bytes in CESU-8 and in MUTF-8.
-const TEXTS: [(&str, [&[u8]; 2]); 10] = [
+static TEXTS: [(&str, [&[u8]; 2]); 10] = [
     ("", [b"", b""]),
     ("Hello, world!", [b"Hello, world!", b"Hello, world!"]),
     ("E", [b"E", b"E"]),
@@ -27,44 +29,51 @@ const TEXTS: [(&str, [&[u8]; 2]); 10] = [
     ),
 ];
 
-#[test]
-fn encodes_texts(rt: HostRuntime) -> Result<(), Fail> {
+/// Compares what is built and what is appended of a text, in both encodings.
+fn expect_text(alloc: Global, text: &str, both: [&[u8]; 2]) -> Result<(), Difference> {
     for flavor in FLAVORS {
-        for (text, both) in TEXTS {
-            let bytes = flavor.of(both);
-            let built = expect_encoding(rt.alloc(), flavor, text, bytes);
-            assert!(rt; built.is_ok(), "{built:?} of {text:?}");
-            let appended = expect_appended(rt.alloc(), flavor, b"\x01\x02", text, bytes);
-            assert!(rt; appended.is_ok(), "{appended:?} of {text:?}");
-        }
+        let bytes = flavor.of(both);
+        expect_encoding(alloc, flavor, text, bytes)?;
+        expect_appended(alloc, flavor, b"\x01\x02", text, bytes)?;
     }
     Ok(())
 }
 
 #[test]
-fn encodes_the_borders(rt: HostRuntime) -> Result<(), Fail> {
-    for flavor in FLAVORS {
-        for row in &BORDERS {
-            let text = str::from_utf8(row.utf8)?;
-            let built = expect_encoding(rt.alloc(), flavor, text, row.encoded(flavor));
-            assert!(rt; built.is_ok(), "{built:?} at {}", row.name);
-        }
+fn encodes_texts(rt: HostRuntime) {
+    for (text, both) in &TEXTS {
+        assert_same(&rt, expect_text(rt.alloc(), text, *both), &[text]);
     }
-    Ok(())
 }
+
+/// Compares what is built of a scalar value, in both encodings.
+fn expect_border(alloc: Global, border: &Border) -> Result<(), Difference> {
+    let text = text_of(border);
+    expect_encoding(alloc, Flavor::Cesu8, text, border.encoded(Flavor::Cesu8))?;
+    expect_encoding(alloc, Flavor::Mutf8, text, border.encoded(Flavor::Mutf8))
+}
+
+#[test]
+fn encodes_the_borders(rt: HostRuntime) {
+    for row in &BORDERS {
+        assert_same(&rt, expect_border(rt.alloc(), row), &[row.name]);
+    }
+}
+
+/// Texts, and their bytes in CESU-8.
+static APPENDED: [(&str, &[u8]); 4] = [
+    ("E", b"E"),
+    ("\u{205}", b"\xC8\x85"),
+    ("\u{20AC}", b"\xE2\x82\xAC"),
+    ("\u{10400}", b"\xED\xA0\x81\xED\xB0\x80"),
+];
 
 #[test]
 fn appends_to_a_cleared_buffer(rt: HostRuntime) -> Result<(), Fail> {
-    let rows: [(&str, &[u8]); 4] = [
-        ("E", b"E"),
-        ("\u{205}", b"\xC8\x85"),
-        ("\u{20AC}", b"\xE2\x82\xAC"),
-        ("\u{10400}", b"\xED\xA0\x81\xED\xB0\x80"),
-    ];
     let mut buf = Vec::new(rt.alloc());
-    for (text, bytes) in rows {
+    for (text, bytes) in &APPENDED {
         encode_into(Flavor::Cesu8, text, &mut buf)?;
-        assert_eq!(rt; buf.as_slice(), bytes);
+        assert_eq!(rt; buf.as_slice(), *bytes);
         buf.clear();
     }
     Ok(())
@@ -75,7 +84,7 @@ fn appends_to_a_cleared_buffer(rt: HostRuntime) -> Result<(), Fail> {
 fn makes_few_requests(rt: HostRuntime) -> Result<(), Fail> {
     let mut buf = Vec::new(rt.alloc());
     let mut requests: u32 = 0;
-    for _ in 0..1_000 {
+    for _call in 0..1_000 {
         let before = buf.capacity();
         encode_into(Flavor::Mutf8, "a\u{1F496}", &mut buf)?;
         requests = requests.wrapping_add(u32::from(buf.capacity() != before));
@@ -85,19 +94,27 @@ fn makes_few_requests(rt: HostRuntime) -> Result<(), Fail> {
     Ok(())
 }
 
+/// Compares the encodings of two bytes, if they are UTF-8, and returns whether they are.
+fn expect_if_text(alloc: Global, pair: u16) -> Result<bool, Difference> {
+    let utf8 = pair.to_be_bytes();
+    let Ok(text) = str::from_utf8(&utf8) else {
+        return Ok(false);
+    };
+    for flavor in FLAVORS {
+        let bytes = encoded(alloc, flavor, text)?;
+        expect_encoding(alloc, flavor, text, bytes.as_slice())?;
+    }
+    Ok(true)
+}
+
 /// Each text of two bytes of UTF-8: 128 times 128 pairs of ASCII, and 30 lead bytes with 64
 /// continuation bytes each.
 #[test]
 fn encodes_two_bytes(rt: HostRuntime) -> Result<(), Fail> {
     let mut texts = 0u32;
     for pair in 0..=u16::MAX {
-        if let Ok(text) = str::from_utf8(&pair.to_be_bytes()) {
-            for flavor in FLAVORS {
-                let bytes = encoded(rt.alloc(), flavor, text)?;
-                expect_encoding(rt.alloc(), flavor, text, bytes.as_slice())?;
-            }
-            texts = texts.wrapping_add(1);
-        }
+        let is_text = expect_if_text(rt.alloc(), pair)?;
+        texts = texts.wrapping_add(u32::from(is_text));
     }
     assert_eq!(rt; texts, 18_304);
     Ok(())

@@ -1,6 +1,8 @@
 //! How many UTF-16 code units a text has.
 
+use crate::asserts::text_of;
 use std::alloc::{AllocError, Global};
+use std::process::Abort;
 use std::str;
 use std::test::Fail;
 use test_cases::borders::BORDERS;
@@ -9,46 +11,49 @@ use test_cases::fills::{Input, repeated};
 use test_cases::flavors::Flavor;
 use test_cases::pattern::PATTERN;
 
+/// Asserts how many code units are counted in a text.
+fn assert_counted(rt: &impl Abort, text: &str, units: usize) {
+    assert_eq!(rt; simd_cesu8::utf16_len(text), units, "in {text:?}");
+}
+
 #[test]
 fn counts_examples(rt: HostRuntime) {
-    let rows = [
-        ("", 0),
-        ("Hello, world!", 13),
-        ("a\0", 2),
-        ("\u{205}\u{20AC}", 2),
-        ("\u{10400}", 2),
-        ("a\u{10FFFF}", 3),
-        ("\0\0\u{1F496}\0", 5),
-    ];
-    for (text, units) in rows {
-        assert_eq!(rt; simd_cesu8::utf16_len(text), units, "in {text:?}");
-    }
+    assert_counted(&rt, "", 0);
+    assert_counted(&rt, "Hello, world!", 13);
+    assert_counted(&rt, "a\0", 2);
+    assert_counted(&rt, "\u{205}\u{20AC}", 2);
+    assert_counted(&rt, "\u{10400}", 2);
+    assert_counted(&rt, "a\u{10FFFF}", 3);
+    assert_counted(&rt, "\0\0\u{1F496}\0", 5);
 }
 
 /// One code unit below U+10000, whose UTF-8 is the first of four bytes, and else two.
 #[test]
-fn counts_the_borders(rt: HostRuntime) -> Result<(), Fail> {
+fn counts_the_borders(rt: HostRuntime) {
     for row in &BORDERS {
         let units = if row.utf8.len() == 4 { 2 } else { 1 };
-        let text = str::from_utf8(row.utf8)?;
-        assert_eq!(rt; simd_cesu8::utf16_len(text), units, "at {}", row.name);
+        assert_counted(&rt, text_of(row), units);
     }
-    Ok(())
+}
+
+/// Compares how many code units are counted in a text, given as UTF-8, with their number.
+fn expect_units(alloc: Global, utf8: &[u8], units: usize) -> Result<(), Difference> {
+    let text = str::from_utf8(utf8).unwrap_or("");
+    let counted = simd_cesu8::utf16_len(text);
+    expect(alloc, Flavor::Cesu8, "utf16_len", counted, units)
 }
 
 /// The pattern has eight characters, of which two are surrogate pairs.
 #[test]
 fn counts_the_pattern(rt: HostRuntime) -> Result<(), Fail> {
+    let mut units = 0usize;
     for times in 0..=220 {
         let utf8 = repeated(rt.alloc(), PATTERN, times)?;
-        let text = str::from_utf8(utf8.as_slice())?;
-        assert_eq!(rt; simd_cesu8::utf16_len(text), 10 * times, "{times} times");
+        expect_units(rt.alloc(), utf8.as_slice(), units)?;
+        units = units.wrapping_add(10);
     }
     let utf8 = repeated(rt.alloc(), PATTERN, 819)?;
-    assert_eq!(rt;
-        simd_cesu8::utf16_len(str::from_utf8(utf8.as_slice())?),
-        8_190
-    );
+    expect_units(rt.alloc(), utf8.as_slice(), 8_190)?;
     Ok(())
 }
 
@@ -59,12 +64,10 @@ fn expect_counted(
     units: usize,
     len: usize,
 ) -> Result<(), Difference> {
+    let units = len.wrapping_add(units);
     for place in 0..=len {
         let utf8 = among_letters(alloc, len, character, place)?;
-        let text = str::from_utf8(utf8.as_slice()).unwrap_or("");
-        let expected = len.wrapping_add(units);
-        let counted = simd_cesu8::utf16_len(text);
-        expect(alloc, Flavor::Cesu8, "utf16_len", counted, expected)?;
+        expect_units(alloc, utf8.as_slice(), units)?;
     }
     Ok(())
 }

@@ -5,6 +5,7 @@ use java_text::{
     ReadFault, ReadSliceFault, read_utf, read_utf_lossy, read_utf_lossy_to_slice, read_utf_to_slice,
 };
 use simd_cesu8::CowText;
+use std::alloc::{AllocError, Global};
 use std::test::Fail;
 use test_cases::slices::{buffer, holds};
 
@@ -58,7 +59,7 @@ const FOUR: &str = "\u{FFFD}\u{FFFD}\u{FFFD}\u{FFFD}";
 const PAIR: &[u8] = b"\x00\x06\xED\xA0\xBD\xED\xB2\x96\xFF";
 
 /// Bytes, and what is due strictly and lossily.
-const ROWS: [(&[u8], Due<'_>, Due<'_>); 15] = [
+static ROWS: [(&[u8], Due<'_>, Due<'_>); 15] = [
     (b"", Truncated, Truncated),
     (b"\x00", Truncated, Truncated),
     (b"\x00\x01", Truncated, Truncated),
@@ -84,24 +85,49 @@ const ROWS: [(&[u8], Due<'_>, Due<'_>); 15] = [
     (b"\x00\x04\xF0\x9F\x92\x96", Invalid, Owned(FOUR, b"")),
 ];
 
+/// A call that returns or leaves something else than what is due, and the length of its buffer if
+/// it has one.
+type Wrong = (&'static str, Option<usize>);
+
+/// The first of the calls that return a text which returns something else.
+fn wrong_text(alloc: Global, bytes: &[u8], strict: Due<'_>, lossy: Due<'_>) -> Option<Wrong> {
+    if !strict.is_returned(&read_utf(alloc, bytes)) {
+        Some(("read_utf", None))
+    } else if !lossy.is_returned(&read_utf_lossy(alloc, bytes)) {
+        Some(("read_utf_lossy", None))
+    } else {
+        None
+    }
+}
+
+/// The first of the calls with a buffer, of each length up to 13, which leaves something else.
+fn wrong_buffer(
+    alloc: Global,
+    bytes: &[u8],
+    strict: Due<'_>,
+    lossy: Due<'_>,
+) -> Result<Option<Wrong>, AllocError> {
+    for room in 0..14 {
+        let mut buf = buffer(alloc, room)?;
+        let read = read_utf_to_slice(bytes, buf.as_mut_slice());
+        if !strict.is_left(read, buf.as_slice()) {
+            return Ok(Some(("read_utf_to_slice", Some(room))));
+        }
+        let mut buf = buffer(alloc, room)?;
+        let read = read_utf_lossy_to_slice(bytes, buf.as_mut_slice());
+        if !lossy.is_left(read, buf.as_slice()) {
+            return Ok(Some(("read_utf_lossy_to_slice", Some(room))));
+        }
+    }
+    Ok(None)
+}
+
 #[test]
 fn reads_rows(rt: HostRuntime) -> Result<(), Fail> {
-    for (bytes, strict, lossy) in ROWS {
-        let read = read_utf(rt.alloc(), bytes);
-        assert!(rt; strict.is_returned(&read), "{bytes:?}");
-        let read = read_utf_lossy(rt.alloc(), bytes);
-        assert!(rt; lossy.is_returned(&read), "{bytes:?}, lossily");
-        for room in 0..14 {
-            let mut buf = buffer(rt.alloc(), room)?;
-            let read = read_utf_to_slice(bytes, &mut buf[..]);
-            assert!(rt; strict.is_left(read, buf.as_slice()), "{bytes:?} in {room}");
-            let mut buf = buffer(rt.alloc(), room)?;
-            let read = read_utf_lossy_to_slice(bytes, &mut buf[..]);
-            assert!(rt;
-                lossy.is_left(read, buf.as_slice()),
-                "{bytes:?} in {room}, lossily"
-            );
-        }
+    for (bytes, strict, lossy) in &ROWS {
+        let text = wrong_text(rt.alloc(), bytes, *strict, *lossy);
+        let buffer = wrong_buffer(rt.alloc(), bytes, *strict, *lossy)?;
+        assert_eq!(rt; (text, buffer), (None, None), "{bytes:?}");
     }
     Ok(())
 }

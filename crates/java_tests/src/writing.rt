@@ -34,23 +34,8 @@ fn is_written(alloc: Global, text: &str, due: Due<'_>, room: usize) -> Result<bo
     Ok(written == want && holds(buf.as_slice(), front))
 }
 
-/// The first of these lengths of a buffer in which something else is done than what is due.
-fn wrong_room(
-    alloc: Global,
-    text: &str,
-    due: Due<'_>,
-    rooms: Range<usize>,
-) -> Result<Option<usize>, AllocError> {
-    for room in rooms {
-        if !is_written(alloc, text, due, room)? {
-            return Ok(Some(room));
-        }
-    }
-    Ok(None)
-}
-
 /// Some texts, and their forms.
-const FORMS: [(&str, &[u8]); 5] = [
+static FORMS: [(&str, &[u8]); 5] = [
     ("", b"\x00\x00"),
     ("A", b"\x00\x01A"),
     ("\0", b"\x00\x02\xC0\x80"),
@@ -58,18 +43,38 @@ const FORMS: [(&str, &[u8]); 5] = [
     ("\u{1F496}", b"\x00\x06\xED\xA0\xBD\xED\xB2\x96"),
 ];
 
+/// A call that writes, or fails, otherwise than is due, and the length of its buffer if it has one.
+type Wrong = (&'static str, Option<usize>);
+
+/// The first call that does something else than what is due, with buffers of these lengths.
+fn wrong_call(
+    alloc: Global,
+    text: &str,
+    due: Due<'_>,
+    rooms: Range<usize>,
+) -> Result<Option<Wrong>, AllocError> {
+    if !is_appended(alloc, text, due)? {
+        return Ok(Some(("write_utf", None)));
+    }
+    for room in rooms {
+        if !is_written(alloc, text, due, room)? {
+            return Ok(Some(("write_utf_to_slice", Some(room))));
+        }
+    }
+    Ok(None)
+}
+
 #[test]
 fn writes_forms(rt: HostRuntime) -> Result<(), Fail> {
-    for (text, form) in FORMS {
-        assert!(rt; is_appended(rt.alloc(), text, Ok(form))?, "{text:?}");
-        let wrong = wrong_room(rt.alloc(), text, Ok(form), 0..10)?;
+    for (text, form) in &FORMS {
+        let wrong = wrong_call(rt.alloc(), text, Ok(form), 0..10)?;
         assert_eq!(rt; wrong, None, "{text:?}");
     }
     Ok(())
 }
 
 /// Characters of one, two, three and six bytes of MUTF-8: themselves, and their MUTF-8.
-const CHARACTERS: [(&str, &[u8]); 5] = [
+static CHARACTERS: [(&str, &[u8]); 5] = [
     ("A", b"A"),
     ("\0", b"\xC0\x80"),
     ("\u{80}", b"\xC2\x80"),
@@ -78,7 +83,7 @@ const CHARACTERS: [(&str, &[u8]); 5] = [
 ];
 
 /// Lengths of MUTF-8, and the two bytes that count them. No two bytes count the last.
-const COUNTS: [(usize, &[u8]); 9] = [
+static COUNTS: [(usize, &[u8]); 9] = [
     (0, b"\x00\x00"),
     (1, b"\x00\x01"),
     (127, b"\x00\x7F"),
@@ -100,41 +105,56 @@ fn counted(
 ) -> Result<(String, Vec<u8>), AllocError> {
     let mut text = String::new(alloc);
     let mut form = Vec::from_slice(alloc, count)?;
-    for _ in 0..length.checked_div(mutf8.len()).unwrap_or(0) {
+    for _time in 0..length.checked_div(mutf8.len()).unwrap_or(0) {
         text.push_str(character)?;
         form.extend_from_slice(mutf8)?;
     }
-    for _ in 0..length.checked_rem(mutf8.len()).unwrap_or(0) {
+    for _time in 0..length.checked_rem(mutf8.len()).unwrap_or(0) {
         text.push('a')?;
         form.push(b'a')?;
     }
     Ok((text, form))
 }
 
+/// Whether a form is read as the text, with nothing behind it. What has no form need not be.
+fn is_read(alloc: Global, text: &str, due: Due<'_>) -> bool {
+    match due {
+        Ok(form) => match read_utf(alloc, form) {
+            Ok((read, rest)) => read.as_str() == text && rest.is_empty(),
+            Err(_) => false,
+        },
+        Err(_) => true,
+    }
+}
+
+/// The same for a text whose MUTF-8 has this length, with a call that reads it back.
+fn wrong_count(
+    alloc: Global,
+    character: (&str, &[u8]),
+    length: usize,
+    count: &[u8],
+) -> Result<Option<Wrong>, AllocError> {
+    let (text, form) = counted(alloc, character, length, count)?;
+    let text = text.as_str();
+    let due = if count.is_empty() {
+        Err(length)
+    } else {
+        Ok(form.as_slice())
+    };
+    if !is_read(alloc, text, due) {
+        return Ok(Some(("read_utf", None)));
+    }
+    let wrong = wrong_call(alloc, text, due, 0..3)?;
+    let rooms = length.saturating_add(1)..length.saturating_add(4);
+    Ok(wrong.or(wrong_call(alloc, text, due, rooms)?))
+}
+
 #[test]
 fn counts_in_two_bytes(rt: HostRuntime) -> Result<(), Fail> {
-    for character in CHARACTERS {
-        for (length, count) in COUNTS {
-            let (text, form) = counted(rt.alloc(), character, length, count)?;
-            let text = text.as_str();
-            let due = if count.is_empty() {
-                Err(length)
-            } else {
-                Ok(form.as_slice())
-            };
-            assert!(rt;
-                is_appended(rt.alloc(), text, due)?,
-                "{length}: {character:?}"
-            );
-            for rooms in [0..3, length.saturating_add(1)..length.saturating_add(4)] {
-                let wrong = wrong_room(rt.alloc(), text, due, rooms)?;
-                assert_eq!(rt; wrong, None, "{length}: {character:?}");
-            }
-            if let Ok(form) = due {
-                let (read, rest) = read_utf(rt.alloc(), form)?;
-                let is_read = read.as_str() == text && rest.is_empty();
-                assert!(rt; is_read, "{length}: {character:?}");
-            }
+    for character in &CHARACTERS {
+        for (length, count) in &COUNTS {
+            let wrong = wrong_count(rt.alloc(), *character, *length, count)?;
+            assert_eq!(rt; wrong, None, "{length}: {character:?}");
         }
     }
     Ok(())

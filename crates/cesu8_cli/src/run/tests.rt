@@ -8,6 +8,7 @@ use self::rows::*;
 use super::*;
 use crate::fault::{fault_line, fault_status};
 use std::io::ErrorKind;
+use std::process::Abort;
 
 /// No limit on the bytes of one call.
 const WHOLE: usize = usize::MAX;
@@ -89,17 +90,22 @@ fn difference_at_rows(alloc: Global, most: usize, error: Option<ErrorKind>) -> O
     None
 }
 
+/// Asserts that nothing differs.
+fn assert_same(rt: &impl Abort, difference: Option<Difference>) {
+    assert_eq!(rt; difference, None);
+}
+
 #[test]
 fn ends_as_each_row_says(rt: HostRuntime) {
     for most in [1, 2, 3, WHOLE] {
-        assert_eq!(rt; difference_at_rows(rt.alloc(), most, None), None);
+        assert_same(&rt, difference_at_rows(rt.alloc(), most, None));
     }
 }
 
 #[test]
 fn stops_at_a_failed_flush(rt: HostRuntime) {
-    for kind in KINDS {
-        assert_eq!(rt; difference_at_rows(rt.alloc(), WHOLE, Some(kind)), None);
+    for kind in &KINDS {
+        assert_same(&rt, difference_at_rows(rt.alloc(), WHOLE, Some(*kind)));
     }
 }
 
@@ -182,8 +188,8 @@ fn difference_at_reads(alloc: Global, error: Option<ErrorKind>) -> Option<Differ
 
 #[test]
 fn stops_at_a_failed_read(rt: HostRuntime) {
-    for kind in KINDS {
-        assert_eq!(rt; difference_at_reads(rt.alloc(), Some(kind)), None);
+    for kind in &KINDS {
+        assert_same(&rt, difference_at_reads(rt.alloc(), Some(*kind)));
     }
 }
 
@@ -211,12 +217,12 @@ fn difference_at_writes(alloc: Global, error: Option<ErrorKind>) -> Option<Diffe
 
 #[test]
 fn stops_where_nothing_is_accepted(rt: HostRuntime) {
-    assert_eq!(rt; difference_at_writes(rt.alloc(), None), None);
+    assert_same(&rt, difference_at_writes(rt.alloc(), None));
 }
 
 #[test]
 fn stops_at_a_failed_write(rt: HostRuntime) {
-    for kind in KINDS {
-        assert_eq!(rt; difference_at_writes(rt.alloc(), Some(kind)), None);
+    for kind in &KINDS {
+        assert_same(&rt, difference_at_writes(rt.alloc(), Some(*kind)));
     }
 }

@@ -3,7 +3,7 @@
 use std::io::ErrorKind;
 
 /// Every kind of error.
-pub const KINDS: [ErrorKind; 42] = [
+pub static KINDS: [ErrorKind; 42] = [
     ErrorKind::NotFound,
     ErrorKind::PermissionDenied,
     ErrorKind::ConnectionRefused,
