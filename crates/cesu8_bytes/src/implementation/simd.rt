@@ -69,25 +69,25 @@ fn any_in<C: InAllGroups, F: Fn(&[u8]) -> bool>(value: &[u8], fallback: F) -> bo
     ensures { Finds (λ len. len ≡ 1) F.Fn fallback C.class
         → IsTrue result ↔ AnyIn C.class value.now }
 {
-    let Some(rest) = left_by::<C, LANES>(value) else {
-        return true;
-    };
-    let Some(rest) = left_by::<C, 32>(rest) else {
-        return true;
-    };
-    let Some(rest) = left_by::<C, 16>(rest) else {
-        return true;
-    };
-    let Some(rest) = left_by::<C, 8>(rest) else {
-        return true;
-    };
-    let Some(rest) = left_by::<C, 4>(rest) else {
-        return true;
-    };
-    let Some(rest) = left_by::<C, 2>(rest) else {
-        return true;
-    };
-    !rest.is_empty() && fallback(rest)
+    match left_by_all::<C>(value) {
+        Some(rest) => !rest.is_empty() && fallback(rest),
+        None => true,
+    }
+}
+
+/// Returns what the vectors of all widths leave, or none if they find the class.
+#[inline(always)]
+fn left_by_all<C: InAllGroups>(bytes: &[u8]) -> Option<&[u8]>
+    ensures left { IfSome result (λ rest. (length rest.now < 2)
+        × (AnyIn C.class rest.now ↔ AnyIn C.class bytes.now)) }
+    ensures found { IfNone result (AnyIn C.class bytes.now) }
+{
+    let rest = left_by::<C, LANES>(bytes)?;
+    let rest = left_by::<C, 32>(rest)?;
+    let rest = left_by::<C, 16>(rest)?;
+    let rest = left_by::<C, 8>(rest)?;
+    let rest = left_by::<C, 4>(rest)?;
+    left_by::<C, 2>(rest)
 }
 
 /// Returns what the vectors of one width leave, or none if they find the class.
