@@ -150,9 +150,11 @@ mod tests {
                     contains_four(word)
                 },
             );
-            assert!(rt; !found, "{len} bytes");
-            assert_eq!(rt; tested.get(), count, "{len} bytes");
-            assert_eq!(rt; seen.get(), words, "{len} bytes");
+            assert_eq!(rt;
+                (found, tested.get(), seen.get()),
+                (false, count, words),
+                "{len} bytes"
+            );
         }
     }
 }
