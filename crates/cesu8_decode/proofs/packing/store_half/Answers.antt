@@ -1,9 +1,42 @@
-use Rattle.std.proofs.Common.{ℕ, ◌+◌, ◌≤◌, ap, ◌∙◌, arith}
+use Rattle.std.proofs.Common.{ℕ, ◌+◌, ◌<◌, ◌≤◌, ap, ◌∙◌, arith, bit_and}
+use Rattle.std.proofs.lemmas.Nat.{and_le_r}
 use lib.Lanes.{chunk}
-use Rattle.cesu8_bytes.proofs.vectors.Rows.{lanes_of_first}
+use Rattle.cesu8_bytes.proofs.vectors.Rows.{lanes_of_first, lanes_of_second}
 use Rattle.cesu8_decode.proofs.decoder.DecodedRows.{stored_half}
 use Rattle.cesu8_decode.specs.declared.packing.TheConstants.{REPLACEMENTS}
 use Rattle.cesu8_decode.proofs.packing.store_half.Goals as goal
+
+-- The lower eight bits are one of 256 sets.
+is_set : (bits : ℕ) → bit_and bits 0xFF < 0x100
+is_set bits = omega (arith, and_le_r bits 0xFF)
+
+pub store_four-at-requires-clause-replacement : goal.store_four-at-requires-clause-replacement
+store_four-at-requires-clause-replacement c =
+    lanes_of_second c.args.bytes REPLACEMENTS 16 0 3 c.fits-bytes.0 (omega arith)
+
+pub store_four-at-requires-clause-small : goal.store_four-at-requires-clause-small
+store_four-at-requires-clause-small c = is_set _
+
+pub store_four-at-requires-2-clause-replacement : goal.store_four-at-requires-2-clause-replacement
+store_four-at-requires-2-clause-replacement c =
+    ap (chunk 4 3) c.second_of.ensures ∙ lanes_of_second c.args.bytes REPLACEMENTS 16 4 3 c.fits-bytes.0 (omega arith)
+
+pub store_four-at-requires-2-clause-small : goal.store_four-at-requires-2-clause-small
+store_four-at-requires-2-clause-small c = is_set _
+
+pub store_four-at-requires-3-clause-replacement : goal.store_four-at-requires-3-clause-replacement
+store_four-at-requires-3-clause-replacement c =
+    lanes_of_second c.args.bytes REPLACEMENTS 16 0 3 c.fits-bytes.0 (omega arith)
+
+pub store_four-at-requires-3-clause-small : goal.store_four-at-requires-3-clause-small
+store_four-at-requires-3-clause-small c = is_set _
+
+pub store_four-requires-clause-replacement : goal.store_four-requires-clause-replacement
+store_four-requires-clause-replacement c =
+    ap (chunk 4 3) c.second_of-2.ensures ∙ lanes_of_second c.args.bytes REPLACEMENTS 16 4 3 c.fits-bytes.0 (omega arith)
+
+pub store_four-requires-clause-small : goal.store_four-requires-clause-small
+store_four-requires-clause-small c = is_set _
 
 pub returns-clause-bytes : goal.returns-clause-bytes
 returns-clause-bytes c =
