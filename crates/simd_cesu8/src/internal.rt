@@ -60,7 +60,6 @@ pub fn encode_to_slice<F: Flavor>(value: &str, buf: &mut [u8]) -> Result<usize, 
 
 /// Writes the strict reading of the bytes to a caller's buffer, if it fits.
 #[inline(always)]
-#[tactic(auto, using(crate::proofs::Outcomes::strict_told))]
 pub fn decode_strict_to_slice<F: Flavor>(
     bytes: &[u8],
     buf: &mut [u8],
@@ -73,7 +72,6 @@ pub fn decode_strict_to_slice<F: Flavor>(
 
 /// Writes the lenient reading of the bytes to a caller's buffer, if it fits.
 #[inline(always)]
-#[tactic(auto, using(crate::proofs::Outcomes::strict_told))]
 pub fn decode_to_slice<F: Flavor>(bytes: &[u8], buf: &mut [u8]) -> Result<usize, DecodeSliceFault>
     ensures { WritesReading (λ text. IsLenientReading F.flavor bytes.now text)
         result buf.old buf.new }
@@ -83,7 +81,6 @@ pub fn decode_to_slice<F: Flavor>(bytes: &[u8], buf: &mut [u8]) -> Result<usize,
 
 /// Writes the lossy reading of the bytes to a caller's buffer, if it fits.
 #[inline(always)]
-#[tactic(auto, using(crate::proofs::Outcomes::lossy_told))]
 pub fn decode_lossy_strict_to_slice<F: Flavor>(
     bytes: &[u8],
     buf: &mut [u8],
@@ -96,7 +93,6 @@ pub fn decode_lossy_strict_to_slice<F: Flavor>(
 
 /// Writes the lenient lossy reading of the bytes to a caller's buffer, if it fits.
 #[inline(always)]
-#[tactic(auto, using(crate::proofs::Outcomes::lossy_told))]
 pub fn decode_lossy_to_slice<F: Flavor>(
     bytes: &[u8],
     buf: &mut [u8],
