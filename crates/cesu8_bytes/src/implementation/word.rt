@@ -63,8 +63,11 @@ where
     if value.len() < 8 {
         return fallback(value);
     }
+    if test(word_at(value, 0)) {
+        return true;
+    }
     let last = value.len() - 8;
-    let mut offset = 0;
+    let mut offset = 8;
     while offset < last {
         if test(word_at(value, offset)) {
             return true;
@@ -127,7 +130,7 @@ mod tests {
         // The number of bytes, and the words that are tested, followed by zeros.
         let cases = [
             (7, 0, [0, 0, 0, 0]),
-            (8, 1, [AT_0, 0, 0, 0]),
+            (8, 2, [AT_0, AT_0, 0, 0]),
             (9, 2, [AT_0, AT_1, 0, 0]),
             (16, 2, [AT_0, AT_8, 0, 0]),
             (17, 3, [AT_0, AT_8, AT_9, 0]),

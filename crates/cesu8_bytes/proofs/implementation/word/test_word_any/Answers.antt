@@ -1,29 +1,31 @@
 use Rattle.std.proofs.Common.{IsTrue, arith, refl}
 use Rattle.std.proofs.lemmas.Bool.{iff_false}
-use Rattle.cesu8_bytes.proofs.lists.Walks.{none_before_start}
 use Rattle.cesu8_bytes.proofs.lists.Words.{tested}
 use Rattle.cesu8_bytes.proofs.lists.EightElements.{of_eight, none_further, in_last_eight}
 use Rattle.cesu8_bytes.proofs.implementation.word.test_word_any.Goals as goal
 
 pub loop-offset-init : goal.loop-offset-init
-loop-offset-init g c class tests = none_before_start (λ b. IsTrue (class b)) c.args.value.now
+loop-offset-init g c class tests =
+    let here = tested class c.word_at.result _ c.test.result (tests c.word_at.result c.test.result c.word_at.type_inv c.test.ensures) c.word_at.ensures in
+    none_further (λ b. IsTrue (class b)) c.args.value.now 0 (omega arith) (λ i x before long e p. absurd (omega arith))
+    (iff_false here c.if-test.false)
 
-pub returns-then-test : goal.returns-then-test
-returns-then-test g c class short tests =
-    let here = tested class c.word_at.result _ c.test.result
-    (tests c.word_at.result c.test.result c.word_at.type_inv c.test.ensures)
-    c.word_at.ensures in (
-      (λ _. of_eight (λ b. IsTrue (class b)) c.args.value.now c.loop-offset.offset (omega arith) (here.0 c.if-test.true)),
+pub returns-then-test-2 : goal.returns-then-test-2
+returns-then-test-2 g c class short tests =
+    let here = tested class c.word_at-in-loop-offset.result _ c.test-in-loop-offset.result
+    (tests c.word_at-in-loop-offset.result c.test-in-loop-offset.result c.word_at-in-loop-offset.type_inv c.test-in-loop-offset.ensures)
+    c.word_at-in-loop-offset.ensures in (
+      (λ _. of_eight (λ b. IsTrue (class b)) c.args.value.now c.loop-offset.offset (omega arith) (here.0 c.if-test-2.true)),
       (λ _. refl),
     )
 
 pub loop-offset-preserved : goal.loop-offset-preserved
 loop-offset-preserved g c class tests =
-    let here = tested class c.word_at.result _ c.test.result
-    (tests c.word_at.result c.test.result c.word_at.type_inv c.test.ensures)
-    c.word_at.ensures in
+    let here = tested class c.word_at-in-loop-offset.result _ c.test-in-loop-offset.result
+    (tests c.word_at-in-loop-offset.result c.test-in-loop-offset.result c.word_at-in-loop-offset.type_inv c.test-in-loop-offset.ensures)
+    c.word_at-in-loop-offset.ensures in
     none_further (λ b. IsTrue (class b)) c.args.value.now c.loop-offset.offset (omega arith) (c.loop-offset.invariant class tests)
-    (iff_false here c.if-test.false)
+    (iff_false here c.if-test-2.false)
 
 pub returns : goal.returns
 returns g c class short tests =
