@@ -9,3 +9,4 @@ pub mod Classes
 pub mod Words
 pub mod Ascii
 pub mod Prefixes
+pub mod NotUtf8

@@ -1,12 +1,14 @@
 //! The first looks at an input: whether a byte of it changes, and whether it is UTF-8.
 //!
-//! Both choose by a length, for speed alone. A short value is tested by vectors of one width. A longer
-//! one is UTF-8 if it is ASCII; otherwise a prefix of long input is tested before the rest.
+//! Each chooses by a length, for speed alone. A short value is tested for a byte by vectors of one
+//! width. A longer one is UTF-8 if it is ASCII; otherwise a prefix of long input is tested before the
+//! rest. In 2 to 64 bytes a strict call also looks for what UTF-8 never has, so that it mostly tests
+//! only what is UTF-8.
 
-ghost use Rattle.std.specs.Prelude.{◌↔◌, IsTrue, Any, ◌≡◌, ◌*◌, length, IsUtf8, ◌<◌};
+ghost use Rattle.std.specs.Prelude.{◌↔◌, IsTrue, Any, ◌≡◌, ◌*◌, length, IsUtf8, ◌<◌, ◌≤◌};
 ghost use Rattle.cesu8_text.specs.Class.{IsChangedByte, IsUnchangedUtf8, is_other_lead};
 ghost use Rattle.cesu8_bytes.specs.Kernels.{AnyIn};
-ghost use Rattle.cesu8_bytes.specs.FirstLooks.{IsTextWhere};
+ghost use Rattle.cesu8_bytes.specs.FirstLooks.{IsShown, IsTextWhere};
 ghost use Rattle.std.specs.Str.{chars};
 ghost use Rattle.cesu8_text.specs.Encoding.{NeedsEncoding};
 
@@ -14,8 +16,10 @@ use crate::ascii::{ascii_text, is_ascii};
 use crate::continuation::character_start;
 use crate::flavor::Flavor;
 use crate::implementation::active;
-use crate::implementation::class::{Either, FourByteLead, OtherLead};
-use crate::implementation::short::{SHORT_VALUE, any_in_short};
+use crate::implementation::class::{Either, Equal, FourByteLead, InVectors, LANES, OtherLead};
+use crate::implementation::short::{
+    SHORT_VALUE, any_in_ends, any_in_short, by_two_vectors, has_surrogate,
+};
 use simdutf8::{compat, is_utf8};
 
 /// Returns whether some byte of the UTF-8 changes in the flavor.
@@ -38,6 +42,54 @@ pub fn needs_encoded<F: Flavor>(value: &str) -> bool
     ensures { IsTrue result ↔ NeedsEncoding F.flavor (chars value.now) }
 {
     contains_changed::<F>(value.as_bytes())
+}
+
+/// What a first look at bytes shows.
+pub enum FirstLook {
+    /// No byte changes.
+    Unchanged,
+    /// Some byte changes.
+    Changed,
+    /// The bytes are not UTF-8.
+    NotUtf8,
+}
+
+/// Returns what a first look shows. It finds encodings that are not UTF-8 among a few bytes alone,
+/// since more are tested for UTF-8 by vectors.
+#[inline(always)]
+pub fn first_look<F: Flavor>(bytes: &[u8]) -> FirstLook
+    ensures { IsShown (IsChangedByte F.flavor) bytes.now result }
+{
+    if bytes.len() >= 2 && bytes.len() <= LANES {
+        let leads = &bytes[..bytes.len() - 1];
+        return by_two_vectors!(
+            leads,
+            look_at_ends[Either<F::Null, FourByteLead>](bytes),
+            FirstLook::Unchanged
+        );
+    }
+    if contains_changed::<F>(bytes) {
+        return FirstLook::Changed;
+    }
+    FirstLook::Unchanged
+}
+
+/// Does so by two vectors. The class has the bytes that change. UTF-8 has neither C0 nor a
+/// surrogate, and each encoding that is not UTF-8 has one of them.
+#[inline(always)]
+fn look_at_ends<C: InVectors<N>, const N: usize>(bytes: &[u8]) -> FirstLook
+    requires { (N ≤ LANES) × (N < length bytes.now) × (length bytes.now ≤ 2 * N) }
+    ensures { IsShown (λ b. IsTrue (C.class b)) bytes.now result }
+{
+    if any_in_ends::<C, N>(bytes) {
+        return FirstLook::Changed;
+    }
+    let has_c0 = any_in_ends::<Equal<0xC0>, N>(bytes);
+    let end = bytes.len() - 1 - N;
+    if has_c0 | has_surrogate::<N>(bytes, 0) | has_surrogate::<N>(bytes, end) {
+        return FirstLook::NotUtf8;
+    }
+    FirstLook::Unchanged
 }
 
 /// How many bytes of long input are tested for UTF-8 first.
@@ -117,10 +169,10 @@ fn may_be_utf8(bytes: &[u8]) -> bool
 pub fn unchanged_text<F: Flavor>(bytes: &[u8]) -> &str
     ensures { IsTextWhere (IsUnchangedUtf8 F.flavor bytes.now) bytes.now result.now }
 {
-    if !contains_changed::<F>(bytes) {
-        return whole_text(bytes);
+    match first_look::<F>(bytes) {
+        FirstLook::Unchanged => whole_text(bytes),
+        FirstLook::Changed | FirstLook::NotUtf8 => "",
     }
-    ""
 }
 
 /// Returns whether bytes that are not UTF-8 may be an encoding: whether some byte is ED, which leads

@@ -9,8 +9,8 @@ use crate::cow::{CowBytes, CowText};
 use crate::error::DecodeFault;
 use crate::internal;
 use crate::internal::{
-    Flavor, ascii_text, contains_changed, is_short_ascii, is_short_unchanged_ascii, needs_encoded,
-    unchanged_text, whole_text,
+    FirstLook, Flavor, ascii_text, first_look, is_short_ascii, is_short_unchanged_ascii,
+    needs_encoded, unchanged_text, whole_text,
 };
 use std::alloc::{AllocError, Global};
 
@@ -40,13 +40,16 @@ pub fn decode_strict<F: Flavor>(alloc: Global, bytes: &[u8]) -> Result<CowText<'
 fn decode_strict_other<F: Flavor>(alloc: Global, bytes: &[u8]) -> Result<CowText<'_>, DecodeFault>
     ensures { DecodesStrictly F.flavor bytes.now result }
 {
-    // No encoding has a byte that changes, so there is nothing to decode.
-    if contains_changed::<F>(bytes) {
-        return Err(internal::refuse(alloc, bytes.len()));
-    }
-    let text = whole_text(bytes);
-    if text.len() == bytes.len() {
-        return Ok(CowText::Borrowed(text));
+    match first_look::<F>(bytes) {
+        // No encoding has a byte that changes, so there is nothing to decode.
+        FirstLook::Changed => return Err(internal::refuse(alloc, bytes.len())),
+        FirstLook::Unchanged => {
+            let text = whole_text(bytes);
+            if text.len() == bytes.len() {
+                return Ok(CowText::Borrowed(text));
+            }
+        }
+        FirstLook::NotUtf8 => {}
     }
     let built = internal::decode_strict::<F>(alloc, bytes)?;
     Ok(CowText::Owned(built))

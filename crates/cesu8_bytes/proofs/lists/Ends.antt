@@ -19,7 +19,7 @@ any_later P a b xs order any =
     let index : a + (b - a) ≡ b = omega (arith, order) in
     any_drop P (b - a) (drop a xs) (subst (Any P) (sym (drop-drop (b - a) a xs ∙ ap (λ i. drop i xs) index)) any)
 
-either : (s t : Bool) → IsTrue (s || t) → IsTrue s ⊎ IsTrue t
+pub either : (s t : Bool) → IsTrue (s || t) → IsTrue s ⊎ IsTrue t
 either true t e = inl refl
 either false t e = inr e
 

@@ -3,10 +3,10 @@
 //! Two vectors of one width, one at the front and one at the end, cover a value between that width
 //! and twice that. They overlap where needed, so no byte is left out.
 
-ghost use Rattle.std.specs.Prelude.{◌≡◌, ◌≤◌, ◌<◌, ◌*◌, ◌-◌, ◌↔◌, ◌++◌, IsTrue, length, drop};
+ghost use Rattle.std.specs.Prelude.{◌≡◌, ◌≤◌, ◌<◌, ◌+◌, ◌*◌, ◌-◌, ◌↔◌, ◌++◌, IsTrue, IsUtf8, length, drop};
 ghost use Rattle.cesu8_bytes.specs.Kernels.{AnyIn};
 
-use super::class::{InAllVectors, InVectors, LANES, any_in_each, bits, has};
+use super::class::{AtLeast, Equal, InAllVectors, InVectors, LANES, any_in_each, bits, has};
 use std::simd::prelude::*;
 
 /// The most bytes that a short value has.
@@ -51,7 +51,7 @@ pub fn any_in_short<C: InAllVectors>(bytes: &[u8]) -> bool
 /// Returns whether some byte is in the class, by a vector at the front and one at the end, which
 /// together cover all.
 #[inline(always)]
-fn any_in_ends<C: InVectors<N>, const N: usize>(bytes: &[u8]) -> bool
+pub fn any_in_ends<C: InVectors<N>, const N: usize>(bytes: &[u8]) -> bool
     requires { (N ≤ LANES) × (N ≤ length bytes.now) × (length bytes.now ≤ 2 * N) }
     ensures { IsTrue result ↔ AnyIn C.class bytes.now }
 {
@@ -67,6 +67,18 @@ pub(crate) fn end_vector<const N: usize>(bytes: &[u8]) -> Simd<u8, N>
     ensures { result ≡ drop (length bytes.now - N) bytes.now }
 {
     Simd::from_slice(&bytes[bytes.len() - N..])
+}
+
+/// Returns whether one of `N` bytes from an index on is ED with A0 or more behind it (hexadecimal).
+/// A surrogate has both, so UTF-8 does not.
+#[inline(always)]
+pub fn has_surrogate<const N: usize>(bytes: &[u8], at: usize) -> bool
+    requires { (N ≤ LANES) × (at + N < length bytes.now) }
+    ensures { IsTrue result → ¬ (IsUtf8 bytes.now) }
+{
+    let leads: Simd<u8, N> = Simd::from_slice(&bytes[at..]);
+    let behind: Simd<u8, N> = Simd::from_slice(&bytes[at + 1..]);
+    (Equal::<0xED>::marks(leads) & AtLeast::<0xA0>::marks(behind)).any()
 }
 
 /// Returns whether some byte of a block is in the class, or of the last 64 bytes, which overlap the
