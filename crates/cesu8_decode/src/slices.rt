@@ -19,7 +19,7 @@ use crate::ill_formed::is_ill_formed;
 use crate::lengths::lossy_len;
 use crate::packing::WIDEST;
 use crate::refusal::{Unwritten, is_refused};
-use crate::way::{SHORT_WINDOW, Way, way_of};
+use crate::way::{FEWEST, SHORT_WINDOW, Way, way_of};
 use crate::windows::{
     AROUND, Decoded, LEAST, LONG_BUFFER, LONG_TEXT, MEDIUM_BUFFER, MEDIUM_TEXT, SHORT_BUFFER,
     SHORT_TEXT, SPARED, write_window,
@@ -30,7 +30,9 @@ use cesu8_bytes::options::Strictness;
 use cesu8_bytes::window::{TOO_FEW, read_window};
 use cesu8_bytes::writers::{NoRoom, copy_to_slice, put};
 
-/// The length of a buffer for the text of bytes that are read one character after another.
+// The lengths of a buffer for the text of bytes that are read one character after another.
+const FEWEST_TEXT: usize = WIDEST * FEWEST;
+
 const CHARACTERS_TEXT: usize = WIDEST * SHORT_WINDOW;
 
 /// Writes the text of the bytes to a caller's buffer, if it fits.
@@ -55,7 +57,7 @@ pub fn put_text<F: Flavor>(
 }
 
 /// Writes the text of a few bytes, one character after another.
-#[inline(never)]
+#[inline(always)]
 pub fn put_characters<F: Flavor>(
     strictness: Strictness,
     bytes: &[u8],
@@ -64,7 +66,25 @@ pub fn put_characters<F: Flavor>(
     requires { length bytes.now ≤ SHORT_WINDOW }
     ensures { PutsReading F.flavor strictness bytes.now result buf.old buf.new }
 {
-    let mut written = [0; CHARACTERS_TEXT];
+    if bytes.len() <= FEWEST {
+        put_written::<F, FEWEST_TEXT>(strictness, bytes, buf)
+    } else {
+        put_written::<F, CHARACTERS_TEXT>(strictness, bytes, buf)
+    }
+}
+
+/// Writes the text of a few bytes to an array of this length first. It is not inlined, so that the
+/// array is made only when it is called.
+#[inline(never)]
+fn put_written<F: Flavor, const WRITTEN: usize>(
+    strictness: Strictness,
+    bytes: &[u8],
+    buf: &mut [u8],
+) -> Result<usize, Unwritten>
+    requires { (WIDEST * length bytes.now ≤ WRITTEN) × (WRITTEN ≤ CHARACTERS_TEXT) }
+    ensures { PutsReading F.flavor strictness bytes.now result buf.old buf.new }
+{
+    let mut written = [0; WRITTEN];
     let decoded = write_characters::<F>(strictness, bytes, &mut written);
     put_decoded(strictness, decoded, &written, buf)
 }

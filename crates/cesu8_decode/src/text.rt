@@ -14,7 +14,7 @@ use crate::chunk::{Chunk, TESTED, next_chunk, text_of};
 use crate::lengths::lossy_len;
 use crate::packing::WIDEST;
 use crate::refusal::{Refusal, is_refused};
-use crate::way::{SHORT_WINDOW, Way, way_of};
+use crate::way::{FEWEST, SHORT_WINDOW, Way, way_of};
 use crate::windows::{
     AROUND, Decoded, LEAST, LONG_BUFFER, LONG_TEXT, MEDIUM_BUFFER, MEDIUM_TEXT, SHORT_BUFFER,
     SHORT_TEXT, SPARED, write_window,
@@ -27,7 +27,9 @@ use cesu8_bytes::options::Strictness;
 use cesu8_bytes::runs::run_len;
 use std::alloc::{AllocError, Allocator};
 
-/// The length of a buffer for the text of bytes that are read one character after another.
+// The lengths of a buffer for the text of bytes that are read one character after another.
+const FEWEST_TEXT: usize = WIDEST * FEWEST + TESTED;
+
 const CHARACTERS_TEXT: usize = WIDEST * SHORT_WINDOW + TESTED;
 
 /// Appends the text of the bytes.
@@ -44,7 +46,10 @@ pub fn append_text<F: Flavor, A: Allocator>(
     match way_of::<F>(strictness, bytes) {
         Way::Characters => match strictness {
             Strictness::Strict => push_characters::<F, A>(bytes, out),
-            Strictness::Lossy => append_characters::<F, A>(bytes, out),
+            Strictness::Lossy if bytes.len() <= FEWEST => {
+                append_characters::<F, FEWEST_TEXT, A>(bytes, out)
+            }
+            Strictness::Lossy => append_characters::<F, CHARACTERS_TEXT, A>(bytes, out),
         },
         Way::ShortWindow => {
             append_window::<F, SHORT_BUFFER, SHORT_TEXT, A>(strictness, bytes, out)
@@ -105,18 +110,18 @@ fn push_next<F: Flavor, A: Allocator>(bytes: &[u8], out: &mut String<A>) -> Resu
     Ok(len_of(form))
 }
 
-/// Appends the characters of the bytes in lossy reading. They are written first, since the one
-/// request is for exactly their length.
+/// Appends the characters of the bytes in lossy reading. They are written to an array of this length
+/// first, since the one request is for exactly their length.
 #[inline(never)]
-fn append_characters<F: Flavor, A: Allocator>(
+fn append_characters<F: Flavor, const WRITTEN: usize, A: Allocator>(
     bytes: &[u8],
     out: &mut String<A>,
 ) -> Result<(), Refusal>
-    requires { length bytes.now ≤ SHORT_WINDOW }
+    requires { (WIDEST * length bytes.now + TESTED ≤ WRITTEN) × (WRITTEN ≤ CHARACTERS_TEXT) }
     ensures { AppendsText F.flavor Lossy bytes.now
         result (string_bytes out.old) (string_bytes out.new) }
 {
-    let mut written = [0; CHARACTERS_TEXT];
+    let mut written = [0; WRITTEN];
     let decoded = write_characters::<F>(Strictness::Lossy, bytes, &mut written);
     append_written(Strictness::Lossy, decoded, &mut written, out)
 }

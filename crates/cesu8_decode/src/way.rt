@@ -78,7 +78,7 @@ pub enum Way {
 pub const SHORT_WINDOW: usize = 96;
 
 /// So few bytes are read one character after another with more others among them.
-const FEWEST: usize = 24;
+pub const FEWEST: usize = 24;
 
 /// The most bytes that are read in a window of medium length.
 pub const MEDIUM_WINDOW: usize = 256;

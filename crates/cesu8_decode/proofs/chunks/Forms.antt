@@ -4,7 +4,7 @@ use Rattle.std.proofs.lemmas.Bool.{and_parts, eqb-true, leb-true, ltb-true, case
 use Rattle.cesu8_text.specs.Encoding.{Flavor, Cesu8, Mutf8}
 use Rattle.cesu8_text.specs.Reading.{NoneBegins}
 use Rattle.cesu8_text.specs.Text.{utf8_of}
-use Rattle.cesu8_bytes.specs.Joining.{null_at, HasPair, AreJoinedDigits, second_third_fifth_sixth}
+use Rattle.cesu8_bytes.specs.Joining.{null_at, AreJoinedDigits, second_third_fifth_sixth}
 use Rattle.cesu8_bytes.specs.TextChunks.{IsReadSoFar}
 use Rattle.cesu8_bytes.specs.declared.options.Strictness.{Strictness}
 use Rattle.cesu8_decode.specs.DecodedOffsets.{IsPrefixOf, one_at, two_at, three_at, continues, fits_three}
