@@ -2,8 +2,8 @@
 //!
 //! Each chooses by a length, for speed alone. A short value is tested for a byte by vectors of one
 //! width. A longer one is UTF-8 if it is ASCII; otherwise a prefix of long input is tested before the
-//! rest. In 2 to 64 bytes a strict call also looks for what UTF-8 never has, so that it mostly tests
-//! only what is UTF-8.
+//! rest. Up to 64 bytes are also looked at for what UTF-8 never has, so that mostly only what is UTF-8
+//! is tested.
 
 ghost use Rattle.std.specs.Prelude.{◌↔◌, IsTrue, Any, ◌≡◌, ◌*◌, length, IsUtf8, ◌<◌, ◌≤◌};
 ghost use Rattle.cesu8_text.specs.Class.{IsChangedByte, IsUnchangedUtf8, is_other_lead};
@@ -14,7 +14,7 @@ ghost use Rattle.cesu8_text.specs.Encoding.{NeedsEncoding};
 
 use crate::ascii::{ascii_text, is_ascii};
 use crate::continuation::character_start;
-use crate::flavor::Flavor;
+use crate::flavor::{Cesu8Flavor, Flavor};
 use crate::implementation::active;
 use crate::implementation::class::{Either, Equal, FourByteLead, InVectors, LANES, OtherLead};
 use crate::implementation::short::{
@@ -45,6 +45,7 @@ pub fn needs_encoded<F: Flavor>(value: &str) -> bool
 }
 
 /// What a first look at bytes shows.
+#[derive(Drop)]
 pub enum FirstLook {
     /// No byte changes.
     Unchanged,
@@ -92,6 +93,23 @@ fn look_at_ends<C: InVectors<N>, const N: usize>(bytes: &[u8]) -> FirstLook
     FirstLook::Unchanged
 }
 
+/// Returns whether a few bytes show that they are not UTF-8. Those that are UTF-8 mostly have neither
+/// ED nor C0, so this costs them little.
+#[inline(always)]
+fn shows_no_utf8(bytes: &[u8]) -> bool
+    ensures { IsTrue result → ¬ (IsUtf8 bytes.now) }
+{
+    bytes.len() <= LANES && any_in_short::<OtherLead>(bytes) && has_no_utf8(bytes)
+}
+
+/// Does so where some byte is ED or C0. It is not inlined, so that the test for these stays small.
+#[inline(never)]
+fn has_no_utf8(bytes: &[u8]) -> bool
+    ensures { IsTrue result → ¬ (IsUtf8 bytes.now) }
+{
+    matches!(first_look::<Cesu8Flavor>(bytes), FirstLook::NotUtf8)
+}
+
 /// How many bytes of long input are tested for UTF-8 first.
 const TESTED_FIRST: usize = 512;
 
@@ -104,10 +122,21 @@ const LONG: usize = 4 * TESTED_FIRST;
 pub fn whole_text(bytes: &[u8]) -> &str
     ensures { IsTextWhere (IsUtf8 bytes.now) bytes.now result.now }
 {
+    if shows_no_utf8(bytes) {
+        return "";
+    }
+    tested_text(bytes)
+}
+
+/// Does so for bytes that were looked at.
+#[inline(always)]
+pub fn tested_text(bytes: &[u8]) -> &str
+    ensures { IsTextWhere (IsUtf8 bytes.now) bytes.now result.now }
+{
     if bytes.len() > SHORT_VALUE {
         return long_text(bytes);
     }
-    tested_text(bytes)
+    text_by_test(bytes)
 }
 
 /// Does so for long input. ASCII needs no test for UTF-8. It is not inlined, so that the calls stay
@@ -122,12 +151,12 @@ fn long_text(bytes: &[u8]) -> &str
     if !may_be_utf8(bytes) {
         return "";
     }
-    tested_text(bytes)
+    text_by_test(bytes)
 }
 
 /// Does so by a test of all bytes.
 #[inline(always)]
-fn tested_text(bytes: &[u8]) -> &str
+fn text_by_test(bytes: &[u8]) -> &str
     ensures { IsTextWhere (IsUtf8 bytes.now) bytes.now result.now }
 {
     match compat::from_utf8(bytes) {
@@ -170,7 +199,7 @@ pub fn unchanged_text<F: Flavor>(bytes: &[u8]) -> &str
     ensures { IsTextWhere (IsUnchangedUtf8 F.flavor bytes.now) bytes.now result.now }
 {
     match first_look::<F>(bytes) {
-        FirstLook::Unchanged => whole_text(bytes),
+        FirstLook::Unchanged => tested_text(bytes),
         FirstLook::Changed | FirstLook::NotUtf8 => "",
     }
 }

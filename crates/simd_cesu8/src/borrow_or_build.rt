@@ -10,7 +10,7 @@ use crate::error::DecodeFault;
 use crate::internal;
 use crate::internal::{
     FirstLook, Flavor, ascii_text, first_look, is_short_ascii, is_short_unchanged_ascii,
-    needs_encoded, unchanged_text, whole_text,
+    needs_encoded, tested_text, unchanged_text, whole_text,
 };
 use std::alloc::{AllocError, Global};
 
@@ -44,7 +44,7 @@ fn decode_strict_other<F: Flavor>(alloc: Global, bytes: &[u8]) -> Result<CowText
         // No encoding has a byte that changes, so there is nothing to decode.
         FirstLook::Changed => return Err(internal::refuse(alloc, bytes.len())),
         FirstLook::Unchanged => {
-            let text = whole_text(bytes);
+            let text = tested_text(bytes);
             if text.len() == bytes.len() {
                 return Ok(CowText::Borrowed(text));
             }

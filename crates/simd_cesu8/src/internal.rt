@@ -15,7 +15,7 @@ pub mod value;
 use crate::error::{DecodeFault, DecodeSliceFault, DecodingError, LossySliceFault, TooShort};
 pub use cesu8_bytes::ascii::{ascii_text, is_short_ascii, is_short_unchanged_ascii};
 pub use cesu8_bytes::first_looks::{
-    FirstLook, first_look, needs_encoded, unchanged_text, whole_text,
+    FirstLook, first_look, needs_encoded, tested_text, unchanged_text, whole_text,
 };
 pub use cesu8_bytes::flavor::{Cesu8Flavor, Flavor, Mutf8Flavor};
 pub use cesu8_bytes::lengths::{encoded_len, encoded_len_by_need, utf16_len};

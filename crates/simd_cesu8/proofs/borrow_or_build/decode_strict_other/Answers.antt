@@ -23,8 +23,8 @@ returns-in-Changed g c = record {
 
 pub returns-then-text-bytes : goal.returns-then-text-bytes
 returns-then-text-bytes g c = record {
-  text = unchanged_reading g.F.Flavor.flavor c.args.bytes.now c.whole_text-text.result.now (c.whole_text-text.ensures.whole (c.if-text-bytes.true)).0
-      ((c.whole_text-text.ensures.whole (c.if-text-bytes.true)).1, c.in-Unchanged.ensures);
+  text = unchanged_reading g.F.Flavor.flavor c.args.bytes.now c.tested_text-text.result.now (c.tested_text-text.ensures.whole (c.if-text-bytes.true)).0
+      ((c.tested_text-text.ensures.whole (c.if-text-bytes.true)).1, c.in-Unchanged.ensures);
   invalid = search rules;
   borrowed = search rules;
   borrowed_where = search rules;
@@ -38,7 +38,7 @@ returns g c = record {
   invalid = search rules;
   borrowed = let built = c.in_ok-built.built in
       let not_utf8 : IsUtf8 c.args.bytes.now → ⊥ = elim c.match-first_look.branch [
-        | in-Unchanged+else-text-bytes w ↦ w.whole_text-text.ensures.none w.if-text-bytes.false
+        | in-Unchanged+else-text-bytes w ↦ w.tested_text-text.ensures.none w.if-text-bytes.false
         | in-NotUtf8 w ↦ w.in-NotUtf8.ensures
       ] in
       never_borrowed (changed_text g.F.Flavor.flavor c.args.bytes.now (string_bytes built) (λ unchanged. not_utf8 unchanged.0)
