@@ -48,7 +48,9 @@
 //!
 //! Other lengths in this crate decide no way: `chunk` joins no window of few bytes and lengthens a
 //! short text before its test for UTF-8, `characters` pads the last bytes, and `sums` the last
-//! block. Before the decoder, `cesu8_bytes` takes the first looks.
+//! block. So few bytes that they are characters are written to a smaller array if they are at most
+//! 24. Before the decoder, `cesu8_bytes` takes the first looks: if a few bytes show C0 or a
+//! surrogate, a call that returns a `String` decodes them without a test for UTF-8.
 
 ghost use Rattle.std.specs.Prelude.{◌≡◌, ◌<◌, ◌≤◌, length, IsTrue, IsUtf8};
 ghost use Rattle.cesu8_bytes.specs.declared.options.Strictness.TheVariants.{Strict};
