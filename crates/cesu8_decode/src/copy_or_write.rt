@@ -3,8 +3,8 @@
 ghost use Rattle.cesu8_decode.specs.PutReadings.{PutsReading, PutsLenientReading};
 
 use crate::refusal::{Unwritten, is_refused};
-use crate::slices::{put_characters, put_text};
-use crate::way::comes_before_tests;
+use crate::slices::{put_by, put_text};
+use crate::way::way_before_tests;
 use cesu8_bytes::ascii::{is_short_ascii, is_short_unchanged_ascii};
 use cesu8_bytes::first_looks::{contains_changed, is_text};
 use cesu8_bytes::flavor::Flavor;
@@ -35,8 +35,8 @@ fn put_other_encoding<F: Flavor>(
 ) -> Result<usize, Unwritten>
     ensures { PutsReading F.flavor strictness bytes.now result buf.old buf.new }
 {
-    if comes_before_tests(bytes) {
-        return put_characters::<F>(strictness, bytes, buf);
+    if let Some(way) = way_before_tests(bytes) {
+        return put_by::<F>(way, strictness, bytes, buf);
     }
     // No encoding has a byte that changes.
     let changes = contains_changed::<F>(bytes);

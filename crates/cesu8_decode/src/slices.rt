@@ -12,6 +12,7 @@ ghost use Rattle.cesu8_text.specs.Text.{utf8};
 ghost use Rattle.cesu8_bytes.specs.declared.options.Strictness.TheVariants.{Strict};
 ghost use Rattle.cesu8_decode.specs.Decoding.{ReadsAll};
 ghost use Rattle.cesu8_decode.specs.PutReadings.{PutsReading};
+ghost use Rattle.cesu8_decode.specs.Ways.{IsWayOf};
 
 use crate::characters::write_characters;
 use crate::chunk::{Chunk, next_chunk};
@@ -45,8 +46,23 @@ pub fn put_text<F: Flavor>(
     requires { strictness ≡ Strict → ¬ (IsUtf8 bytes.now) }
     ensures { PutsReading F.flavor strictness bytes.now result buf.old buf.new }
 {
-    match way_of::<F>(strictness, bytes) {
-        Way::Characters => put_characters::<F>(strictness, bytes, buf),
+    put_by::<F>(way_of::<F>(strictness, bytes), strictness, bytes, buf)
+}
+
+/// Writes the text of the bytes by a way that fits them.
+#[inline(always)]
+pub fn put_by<F: Flavor>(
+    way: Way,
+    strictness: Strictness,
+    bytes: &[u8],
+    buf: &mut [u8],
+) -> Result<usize, Unwritten>
+    requires { IsWayOf F.flavor strictness bytes.now way }
+    ensures { PutsReading F.flavor strictness bytes.now result buf.old buf.new }
+{
+    match way {
+        Way::FewCharacters => put_characters::<F, FEWEST_TEXT>(strictness, bytes, buf),
+        Way::Characters => put_characters::<F, CHARACTERS_TEXT>(strictness, bytes, buf),
         Way::ShortWindow => put_window::<F, SHORT_BUFFER, SHORT_TEXT>(strictness, bytes, buf),
         Way::MediumWindow => put_window::<F, MEDIUM_BUFFER, MEDIUM_TEXT>(strictness, bytes, buf),
         Way::LongWindow => put_window::<F, LONG_BUFFER, LONG_TEXT>(strictness, bytes, buf),
@@ -56,27 +72,10 @@ pub fn put_text<F: Flavor>(
     }
 }
 
-/// Writes the text of a few bytes, one character after another.
-#[inline(always)]
-pub fn put_characters<F: Flavor>(
-    strictness: Strictness,
-    bytes: &[u8],
-    buf: &mut [u8],
-) -> Result<usize, Unwritten>
-    requires { length bytes.now ≤ SHORT_WINDOW }
-    ensures { PutsReading F.flavor strictness bytes.now result buf.old buf.new }
-{
-    if bytes.len() <= FEWEST {
-        put_written::<F, FEWEST_TEXT>(strictness, bytes, buf)
-    } else {
-        put_written::<F, CHARACTERS_TEXT>(strictness, bytes, buf)
-    }
-}
-
-/// Writes the text of a few bytes to an array of this length first. It is not inlined, so that the
-/// array is made only when it is called.
+/// Writes the text of a few bytes, one character after another, to an array of this length first.
+/// It is not inlined, so that the array is made only when it is called.
 #[inline(never)]
-fn put_written<F: Flavor, const WRITTEN: usize>(
+fn put_characters<F: Flavor, const WRITTEN: usize>(
     strictness: Strictness,
     bytes: &[u8],
     buf: &mut [u8],

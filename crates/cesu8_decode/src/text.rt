@@ -44,11 +44,12 @@ pub fn append_text<F: Flavor, A: Allocator>(
         result (string_bytes out.old) (string_bytes out.new) }
 {
     match way_of::<F>(strictness, bytes) {
+        Way::FewCharacters => match strictness {
+            Strictness::Strict => push_characters::<F, A>(bytes, out),
+            Strictness::Lossy => append_characters::<F, FEWEST_TEXT, A>(bytes, out),
+        },
         Way::Characters => match strictness {
             Strictness::Strict => push_characters::<F, A>(bytes, out),
-            Strictness::Lossy if bytes.len() <= FEWEST => {
-                append_characters::<F, FEWEST_TEXT, A>(bytes, out)
-            }
             Strictness::Lossy => append_characters::<F, CHARACTERS_TEXT, A>(bytes, out),
         },
         Way::ShortWindow => {

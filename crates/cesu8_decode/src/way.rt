@@ -3,7 +3,7 @@
 //! | bytes | of them other than 01 to 7F | in strict reading | in lossy reading |
 //! |---|---|---|---|
 //! | at most 1,024, of which none is ED or C0 | any | `Refused` | as without |
-//! | at most 24 | at most 12 | `Characters` | `Characters` |
+//! | at most 24 | at most 12 | `FewCharacters` | `FewCharacters` |
 //! | at most 96 | at most 6 | `Characters` | `Characters` |
 //! | at most 96 | more | `ShortWindow` | `ShortWindow` |
 //! | at most 256 | any | `MediumWindow` | `MediumWindow` |
@@ -13,7 +13,8 @@
 //!
 //! - `Characters`: one character after another. A branch on a byte costs little while few bytes are
 //!   not ASCII. In strict reading a `String` is appended to at once, and what is appended as
-//!   characters and as ASCII needs no test for UTF-8.
+//!   characters and as ASCII needs no test for UTF-8. `FewCharacters` is the same with a smaller
+//!   array, since clearing one takes time.
 //! - The windows: 32 bytes at a time with no branch on a byte, in buffers on the stack. Smaller
 //!   ones are made in less time.
 //! - `Chunks`: joined windows of well-formed bytes, and windows by offsets after an ill-formed
@@ -38,9 +39,9 @@
 //! | `Refused`, without ED and C0 | refused, 64 to 128 bytes, to a `String`, beside 70c002d | 1.9 | 2.0 |
 //! | | the same, to a slice | 2.3 | 2.3 |
 //!
-//! A call on a slice that takes no UTF-8 as such takes `Characters` before it tests the bytes at
-//! all, below 64 of them of which at most 6 are others: the tests take as long as reading these. It
-//! does so too with at most 24 bytes of which one is ED or C0, since they are mostly an encoding:
+//! A call on a slice that takes no UTF-8 as such reads characters before it tests the bytes at all,
+//! below 64 of them of which at most 6 are others: the tests take as long as reading these. It does
+//! so too with at most 24 bytes of which one is ED or C0, since they are mostly an encoding:
 //! well-formed bytes from 16 on take two thirds of the time in lossy reading (70c002d).
 //!
 //! A call on a slice that takes `JoinedWindow` goes on by `Chunks` if more bytes are left than a
@@ -48,11 +49,12 @@
 //!
 //! Other lengths in this crate decide no way: `chunk` joins no window of few bytes and lengthens a
 //! short text before its test for UTF-8, `characters` pads the last bytes, and `sums` the last
-//! block. So few bytes that they are characters are written to a smaller array if they are at most
-//! 24. Before the decoder, `cesu8_bytes` takes the first looks: if a few bytes show C0 or a
+//! block. Before the decoder, `cesu8_bytes` takes the first looks: if a few bytes show C0 or a
 //! surrogate, a call that returns a `String` decodes them without a test for UTF-8.
 
-ghost use Rattle.std.specs.Prelude.{◌≡◌, ◌<◌, ◌≤◌, length, IsTrue, IsUtf8};
+ghost use Rattle.std.specs.Prelude.{◌≡◌, ◌≤◌, length, IsTrue, IsUtf8, IfSome};
+ghost use Rattle.cesu8_text.specs.Encoding.{Flavor as AnyFlavor};
+ghost use Rattle.cesu8_bytes.specs.declared.options.Strictness.{Strictness};
 ghost use Rattle.cesu8_bytes.specs.declared.options.Strictness.TheVariants.{Strict};
 ghost use Rattle.cesu8_decode.specs.Ways.{IsWayOf};
 
@@ -66,6 +68,7 @@ use cesu8_bytes::options::Strictness;
 /// Which way bytes are decoded.
 #[derive(Clone, Copy)]
 pub enum Way {
+    FewCharacters,
     Characters,
     ShortWindow,
     MediumWindow,
@@ -110,12 +113,10 @@ pub fn way_of<F: Flavor>(strictness: Strictness, bytes: &[u8]) -> Way
     if is_strict && bytes.len() <= LONG_WINDOW && !may_be_encoding(bytes) {
         return Way::Refused;
     }
-    let most = if bytes.len() <= FEWEST {
-        OTHERS
-    } else {
-        FEWER_OTHERS
-    };
-    if has_few_others(bytes, most) {
+    if bytes.len() <= FEWEST && has_few_others(bytes, OTHERS) {
+        return Way::FewCharacters;
+    }
+    if has_few_others(bytes, FEWER_OTHERS) {
         return Way::Characters;
     }
     if bytes.len() <= SHORT_WINDOW {
@@ -137,14 +138,23 @@ pub fn way_of<F: Flavor>(strictness: Strictness, bytes: &[u8]) -> Way
     }
 }
 
-/// Returns whether bytes are decoded before they are tested for UTF-8: a few of which hardly any are
-/// not ASCII, or still fewer that are most likely an encoding.
+/// Returns which way bytes go that are decoded before they are tested for UTF-8: a few of which hardly
+/// any are not ASCII, or still fewer that are most likely an encoding.
 #[inline(always)]
-pub fn comes_before_tests(bytes: &[u8]) -> bool
-    ensures { IsTrue result → length bytes.now < READ_AT_ONCE }
+pub fn way_before_tests(bytes: &[u8]) -> Option<Way>
+    ensures { (f : AnyFlavor) (which : Strictness) → IfSome result (IsWayOf f which bytes.now) }
 {
-    bytes.len() < READ_AT_ONCE && has_few_others(bytes, FEWER_OTHERS)
-        || bytes.len() <= FEWEST && may_be_encoding(bytes)
+    if bytes.len() >= READ_AT_ONCE {
+        return None;
+    }
+    let is_read = has_few_others(bytes, FEWER_OTHERS);
+    if bytes.len() > FEWEST {
+        return if is_read { Some(Way::Characters) } else { None };
+    }
+    if is_read || may_be_encoding(bytes) {
+        return Some(Way::FewCharacters);
+    }
+    None
 }
 
 /// Returns whether the bytes are few, and at most so many of them other than 01 to 7F.
