@@ -42,7 +42,8 @@ fn behind_equal_words<'a, 'b>(bytes: &'a [u8], other: &'b [u8]) -> (&'a [u8], &'
     (rest, other_rest)
 }
 
-/// Returns a byte of UTF-8 as a number, so that these compare as UTF-16 code units do.
+/// Returns a byte of UTF-8 as a number, so that these compare as UTF-16 code units do. It is
+/// inlined, since it is called for each byte.
 #[inline(always)]
 fn rank(byte: u8) -> u8
     ensures { result ≡ utf16_rank byte }

@@ -28,6 +28,10 @@ pub enum Chunk<'a> {
 
 /// Reads the next bytes: as a joined window if that yields text, and else by offsets in a window of
 /// this length. After an ill-formed byte joining mostly yields none.
+///
+/// `IsNextChunk` says that at least one byte was read, and that the chunk's text and the reading of
+/// what is left are that of all; so the loops over it end and are right. What is written needs
+/// `SPARED` bytes less than three for each of the window, since some of these are only around it.
 #[inline(always)]
 pub fn next_chunk<'a, F: Flavor, const LEN: usize>(
     bytes: &[u8],

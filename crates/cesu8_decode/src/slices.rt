@@ -143,6 +143,7 @@ fn put_joined<F: Flavor>(
         return put_chunks::<F>(strictness, bytes, buf);
     };
     let rest = &bytes[joined.read..];
+    // Of more bytes a buffer of this length would have only the first.
     if rest.len() > SHORT_WINDOW {
         return put_chunks::<F>(strictness, bytes, buf);
     }

@@ -111,8 +111,8 @@ fn push_next<F: Flavor, A: Allocator>(bytes: &[u8], out: &mut String<A>) -> Resu
     Ok(len_of(form))
 }
 
-/// Appends the characters of the bytes in lossy reading. They are written to an array of this length
-/// first, since the one request is for exactly their length.
+/// Appends the characters of the bytes in lossy reading. They are written to an array of this
+/// length first, since the one request is for exactly their length.
 #[inline(never)]
 fn append_characters<F: Flavor, const WRITTEN: usize, A: Allocator>(
     bytes: &[u8],

@@ -138,8 +138,8 @@ pub fn way_of<F: Flavor>(strictness: Strictness, bytes: &[u8]) -> Way
     }
 }
 
-/// Returns which way bytes go that are decoded before they are tested for UTF-8: a few of which hardly
-/// any are not ASCII, or still fewer that are most likely an encoding.
+/// Returns which way bytes go that are decoded before they are tested for UTF-8: a few of which
+/// hardly any are not ASCII, or still fewer that are most likely an encoding.
 #[inline(always)]
 pub fn way_before_tests(bytes: &[u8]) -> Option<Way>
     ensures { (f : AnyFlavor) (which : Strictness) → IfSome result (IsWayOf f which bytes.now) }

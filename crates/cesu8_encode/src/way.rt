@@ -18,9 +18,9 @@
 //! where a block would have to be copied.
 //!
 //! `Block` makes texts of 28 to 32 bytes that change 1.10 times as fast in the median of `encode`
-//! at x86-64-v3, and 1.04 times at v2, beside adb3e23 without it. `OnStack` makes those of 64 to 128
-//! bytes 1.06 times as fast at v3, and 1.04 times at v2, beside f2ced24 without it. In both figures
-//! the export first tests its input for UTF-8.
+//! at x86-64-v3, and 1.04 times at v2, beside adb3e23 without it. `OnStack` makes those of 64 to
+//! 128 bytes 1.06 times as fast at v3, and 1.04 times at v2, beside f2ced24 without it. In both
+//! figures the export first tests its input for UTF-8.
 //!
 //! Below this crate, two kinds of code choose by a length too: the first looks of `cesu8_bytes`,
 //! which see whether a byte changes, and the widths of its vectors.
