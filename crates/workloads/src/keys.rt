@@ -1,0 +1,106 @@
+//! Keeps titles and names in many languages as keys that order as UTF-16 does: reads the keys,
+//! sorts their texts and writes the keys again.
+
+use crate::digest::Digest;
+use crate::pool::Pool;
+use crate::random::Random;
+use crate::scripts::{Script, push_words};
+use simd_cesu8::{
+    CowText, compare_as_utf16, decode_strict, decode_strict_to_slice, encode, encode_into,
+};
+use std::alloc::{AllocError, Global};
+
+/// The number of keys.
+const KEYS: usize = 16_384;
+
+/// How many are sorted at a time.
+const SORTED: usize = 512;
+
+/// More than any key has, in bytes.
+const MOST: usize = 256;
+
+pub fn run(
+    alloc: Global,
+    random: &mut Random,
+    rounds: u32,
+    digest: &mut Digest,
+) -> Result<(), AllocError> {
+    let mut pool = keys(alloc, random)?;
+    for round in 0..rounds {
+        pool.renew(round);
+        let mut first = 0;
+        for _ in 0..KEYS / SORTED {
+            let texts = read(alloc, &pool, first)?;
+            write_sorted(alloc, &texts, digest)?;
+            first = first.wrapping_add(SORTED);
+        }
+        look_through(&pool, digest);
+    }
+    Ok(())
+}
+
+/// Reads some keys.
+fn read(alloc: Global, pool: &Pool, first: usize) -> Result<Vec<CowText<'_>>, AllocError> {
+    let mut texts = Vec::new(alloc);
+    for place in 0..SORTED {
+        if let Ok(text) = decode_strict(alloc, pool.piece(first.wrapping_add(place))) {
+            texts.push(text)?;
+        }
+    }
+    Ok(texts)
+}
+
+/// Sorts texts and writes their keys, half of them one behind the other and half each by itself.
+fn write_sorted(
+    alloc: Global,
+    texts: &Vec<CowText<'_>>,
+    digest: &mut Digest,
+) -> Result<(), AllocError> {
+    let mut sorted = Vec::new(alloc);
+    for text in texts.as_slice() {
+        sorted.push(text.as_str())?;
+    }
+    sorted.sort_unstable_by(|text, other| compare_as_utf16(text, other));
+    let mut written = Vec::new(alloc);
+    for (place, text) in sorted.as_slice().iter().enumerate() {
+        if place % 2 == 0 {
+            encode_into(text, &mut written)?;
+        } else {
+            digest.add_bytes(encode(alloc, text)?.as_bytes());
+        }
+    }
+    digest.add_bytes(written.as_slice());
+    Ok(())
+}
+
+/// Reads all keys to a buffer for one.
+fn look_through(pool: &Pool, digest: &mut Digest) {
+    let mut buffer = [0; MOST];
+    for index in 0..pool.len() {
+        match decode_strict_to_slice(pool.piece(index), &mut buffer) {
+            Ok(length) if length <= MOST => digest.add_bytes(&buffer[..length]),
+            _ => digest.add(1),
+        }
+    }
+}
+
+/// Makes the keys, of 8 to 80 bytes.
+fn keys(alloc: Global, random: &mut Random) -> Result<Pool, AllocError> {
+    let mut pool = Pool::new(alloc);
+    for _ in 0..KEYS {
+        let mut before = String::new(alloc);
+        let mut after = String::new(alloc);
+        let script = match random.below(3) {
+            0 => Script::Ascii,
+            _ => Script::of_any_language(random),
+        };
+        let bytes = random.within(2, 60) as usize;
+        let emoji_in = if random.one_in(25) { 4 } else { 0 };
+        push_words(random, script, bytes / 3, 0, &mut before)?;
+        push_words(random, script, bytes - bytes / 3, emoji_in, &mut after)?;
+        let before = encode(alloc, before.as_str())?;
+        let after = encode(alloc, after.as_str())?;
+        pool.push(before.as_bytes(), after.as_bytes())?;
+    }
+    Ok(pool)
+}
