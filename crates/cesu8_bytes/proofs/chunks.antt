@@ -1,4 +1,5 @@
 -- Text that is joined a chunk at a time.
+pub mod CutUtf8
 pub mod EncodedChunk
 pub mod Joining
 pub mod PairWords

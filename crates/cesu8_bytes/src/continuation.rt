@@ -17,6 +17,7 @@ pub fn character_start(bytes: &[u8], offset: usize) -> Option<usize>
     requires { (3 ≤ offset) × (offset < length bytes.now) }
     ensures some { IfSome result (λ start. (start ≤ offset)
         × ¬ (IsContinuation (slice_index bytes.now start))) }
+    ensures near { IfSome result (λ start. offset ≤ start + 3) }
     ensures none { IfNone result ((back : ℕ) → back < 4
         → IsContinuation (slice_index bytes.now (offset - back))) }
 {

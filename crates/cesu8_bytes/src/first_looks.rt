@@ -13,14 +13,13 @@ ghost use Rattle.std.specs.Str.{chars};
 ghost use Rattle.cesu8_text.specs.Encoding.{NeedsEncoding};
 
 use crate::ascii::{ascii_text, is_ascii};
-use crate::continuation::character_start;
 use crate::flavor::{Cesu8Flavor, Flavor};
 use crate::implementation::active;
 use crate::implementation::class::{Either, Equal, FourByteLead, InVectors, LANES, OtherLead};
 use crate::implementation::short::{
     SHORT_VALUE, any_in_ends, any_in_short, by_two_vectors, has_surrogate,
 };
-use simdutf8::{compat, is_utf8};
+use crate::utf8::{is_utf8, known_text};
 
 /// Returns whether some byte of the UTF-8 changes in the flavor.
 #[inline(always)]
@@ -116,12 +115,6 @@ fn has_no_utf8(bytes: &[u8]) -> bool
     matches!(first_look::<Cesu8Flavor>(bytes), FirstLook::NotUtf8)
 }
 
-/// How many bytes of long input are tested for UTF-8 first.
-const TESTED_FIRST: usize = 512;
-
-/// The least bytes of long input.
-const LONG: usize = 4 * TESTED_FIRST;
-
 /// Returns the bytes as a text if they are UTF-8, and otherwise the empty text, which no such bytes
 /// have. A text is returned in registers; a `Result` with it would be returned through memory.
 #[inline(always)]
@@ -154,9 +147,6 @@ fn long_text(bytes: &[u8]) -> &str
     if is_ascii(bytes) {
         return ascii_text(bytes);
     }
-    if !may_be_utf8(bytes) {
-        return "";
-    }
     text_by_test(bytes)
 }
 
@@ -165,14 +155,13 @@ fn long_text(bytes: &[u8]) -> &str
 fn text_by_test(bytes: &[u8]) -> &str
     ensures { IsTextWhere (IsUtf8 bytes.now) bytes.now result.now }
 {
-    match compat::from_utf8(bytes) {
-        Ok(text) => text,
-        Err(_) => "",
+    if is_utf8(bytes) {
+        return known_text(bytes);
     }
+    ""
 }
 
-/// Returns whether the bytes are UTF-8. No text is made, so the test need not say where it failed,
-/// and it reads no byte twice.
+/// Returns whether the bytes are UTF-8. ASCII needs no test for it.
 #[inline(never)]
 pub fn is_text(bytes: &[u8]) -> bool
     ensures { IsTrue result ↔ IsUtf8 bytes.now }
@@ -180,22 +169,7 @@ pub fn is_text(bytes: &[u8]) -> bool
     if bytes.len() > SHORT_VALUE && is_ascii(bytes) {
         return true;
     }
-    may_be_utf8(bytes) && is_utf8(bytes)
-}
-
-/// Returns whether a prefix of long input is UTF-8, up to the start of a character. If input is not
-/// UTF-8, its prefix mostly shows it, and the rest is not tested.
-fn may_be_utf8(bytes: &[u8]) -> bool
-    ensures { IsUtf8 bytes.now → IsTrue result }
-{
-    if bytes.len() < LONG {
-        return true;
-    }
-    match character_start(bytes, TESTED_FIRST) {
-        Some(start) => is_utf8(&bytes[..start]),
-        // UTF-8 has no four continuation bytes in a row.
-        None => false,
-    }
+    is_utf8(bytes)
 }
 
 /// Returns the bytes as a text if they are UTF-8 without a byte that changes, and otherwise the
