@@ -1,7 +1,6 @@
 //! The first bytes as a chunk of text: joined, or written by offsets.
 
-ghost use Rattle.std.specs.Prelude.{◌≡◌, ◌+◌, ◌*◌, ◌<◌, ◌≤◌, length, take};
-ghost use Rattle.std.specs.Str.{IsUtf8};
+ghost use Rattle.std.specs.Prelude.{◌+◌, ◌*◌, ◌<◌, ◌≤◌, length};
 ghost use Rattle.cesu8_decode.specs.Decoding.{IsNextChunk};
 
 use super::packing::WIDEST;
@@ -9,20 +8,13 @@ use super::windows::{Decoded, LEAST, SPARED, write_window};
 use cesu8_bytes::flavor::Flavor;
 use cesu8_bytes::joining::Buffer;
 use cesu8_bytes::window::{Joined, TOO_FEW, read_window};
-use simdutf8::basic;
-
-/// How many bytes are tested at a time by vectors.
-pub const TESTED: usize = 64;
-
-/// The least length of a text for which that takes less time.
-const PAYING: usize = 9;
 
 /// The next chunk of text.
 #[derive(Drop)]
 pub enum Chunk<'a> {
     /// Bytes that are well-formed were joined, and tested for UTF-8.
     Joined(Joined<'a>),
-    /// What becomes of the bytes was written, and is not tested.
+    /// What becomes of the bytes was written. It is known to be UTF-8.
     Written(Decoded),
 }
 
@@ -51,23 +43,4 @@ pub fn next_chunk<'a, F: Flavor, const LEN: usize>(
     }
     let mut window = [0; LEN];
     Chunk::Written(write_window::<F>(bytes, &mut window, written))
-}
-
-/// Returns the text that is written up to `end`. A longer one is tested with zeros after it, so
-/// that vectors test no fewer bytes than a block.
-#[inline(always)]
-pub fn text_of(written: &mut [u8], end: usize) -> &str
-    requires room { end + TESTED ≤ length written.old }
-    requires utf8 { IsUtf8 (take end written.old) }
-    ensures { result.now ≡ take end written.old }
-{
-    let mut len = end;
-    if end >= PAYING {
-        written[end..end + TESTED].fill(0);
-        len = TESTED * end.div_ceil(TESTED);
-    }
-    match basic::from_utf8(&written[..len]) {
-        Ok(text) => &text[..end],
-        Err(_) => unreachable!(),
-    }
 }

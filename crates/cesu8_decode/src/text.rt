@@ -10,7 +10,7 @@ ghost use Rattle.cesu8_decode.specs.Decoding.{AppendsText, refuses};
 ghost use Rattle.cesu8_decode.specs.Refusals.{OnNoText};
 
 use crate::characters::{character_of, form_of, len_of, prefix_of, write_characters};
-use crate::chunk::{Chunk, TESTED, next_chunk, text_of};
+use crate::chunk::{Chunk, next_chunk};
 use crate::lengths::lossy_len;
 use crate::packing::WIDEST;
 use crate::refusal::{Refusal, is_refused};
@@ -25,12 +25,13 @@ use cesu8_bytes::implementation::class::{Either, NonAscii};
 use cesu8_bytes::joining::{BUFFER_LEN, PAIR_READ};
 use cesu8_bytes::options::Strictness;
 use cesu8_bytes::runs::run_len;
+use cesu8_bytes::utf8::known_text;
 use std::alloc::{AllocError, Allocator};
 
 // The lengths of a buffer for the text of bytes that are read one character after another.
-const FEWEST_TEXT: usize = WIDEST * FEWEST + TESTED;
+const FEWEST_TEXT: usize = WIDEST * FEWEST;
 
-const CHARACTERS_TEXT: usize = WIDEST * SHORT_WINDOW + TESTED;
+const CHARACTERS_TEXT: usize = WIDEST * SHORT_WINDOW;
 
 /// Appends the text of the bytes.
 #[inline(always)]
@@ -118,13 +119,13 @@ fn append_characters<F: Flavor, const WRITTEN: usize, A: Allocator>(
     bytes: &[u8],
     out: &mut String<A>,
 ) -> Result<(), Refusal>
-    requires { (WIDEST * length bytes.now + TESTED ≤ WRITTEN) × (WRITTEN ≤ CHARACTERS_TEXT) }
+    requires { (WIDEST * length bytes.now ≤ WRITTEN) × (WRITTEN ≤ CHARACTERS_TEXT) }
     ensures { AppendsText F.flavor Lossy bytes.now
         result (string_bytes out.old) (string_bytes out.new) }
 {
     let mut written = [0; WRITTEN];
     let decoded = write_characters::<F>(Strictness::Lossy, bytes, &mut written);
-    append_written(Strictness::Lossy, decoded, &mut written, out)
+    append_written(Strictness::Lossy, decoded, &written, out)
 }
 
 /// Appends the text of the bytes of one window, in buffers of these lengths. It is not inlined, so
@@ -143,7 +144,7 @@ fn append_window<F: Flavor, const LEN: usize, const WRITTEN: usize, A: Allocator
     let mut window = [0; LEN];
     let mut written = [0; WRITTEN];
     let decoded = write_window::<F>(bytes, &mut window, &mut written);
-    append_written(strictness, decoded, &mut written, out)
+    append_written(strictness, decoded, &written, out)
 }
 
 /// Appends the text of more bytes chunk by chunk, in buffers of these lengths for those by offsets.
@@ -180,7 +181,7 @@ fn append_chunks<F: Flavor, const LEN: usize, const WRITTEN: usize, A: Allocator
             Chunk::Written(decoded) => {
                 rest = &rest[decoded.read..];
                 joins = !decoded.is_ill_formed;
-                append_written(strictness, decoded, &mut written, out)?;
+                append_written(strictness, decoded, &written, out)?;
             }
         }
     }
@@ -192,19 +193,19 @@ fn append_chunks<F: Flavor, const LEN: usize, const WRITTEN: usize, A: Allocator
 fn append_written<A: Allocator>(
     strictness: Strictness,
     decoded: Decoded,
-    written: &mut [u8],
+    written: &[u8],
     out: &mut String<A>,
 ) -> Result<(), Refusal>
-    requires room { decoded.end + TESTED ≤ length written.old }
-    requires utf8 { IsUtf8 (take decoded.end written.old) }
+    requires room { decoded.end ≤ length written.now }
+    requires utf8 { IsUtf8 (take decoded.end written.now) }
     ensures ok { OnOk result ((refuses strictness decoded.is_ill_formed ≡ false)
-        × (string_bytes out.new ≡ string_bytes out.old ++ take decoded.end written.old)) }
+        × (string_bytes out.new ≡ string_bytes out.old ++ take decoded.end written.now)) }
     ensures invalid { OnNoText result (refuses strictness decoded.is_ill_formed ≡ true) }
 {
     if is_refused(strictness, decoded.is_ill_formed) {
         return Err(Refusal::NoText);
     }
-    append(text_of(written, decoded.end), out)
+    append(known_text(&written[..decoded.end]), out)
 }
 
 /// Appends a chunk of text. It requests memory for exactly this chunk, if there is none yet.

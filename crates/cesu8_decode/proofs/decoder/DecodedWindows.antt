@@ -1,5 +1,5 @@
 -- What is read and written by windows.
-use Rattle.std.proofs.Common.{◌≡◌, ℕ, ◌+◌, ◌-◌, ◌<◌, ◌≤◌, ◌⊎◌, ⊎_elim, Bool, true, false, ◌&&◌, ◌||◌, not, eqb, leb, List, [], ◌∷◌, ◌++◌, refl, sym, ap, subst, ◌∙◌, arith, IsTrue, true≢false, map, get_or, length, take, drop, replicate, zero-add, add-zero, bit_and, bit_or}
+use Rattle.std.proofs.Common.{◌≡◌, ℕ, ◌+◌, ◌-◌, ◌<◌, ◌≤◌, ◌⊎◌, ⊎_elim, Bool, true, false, ◌&&◌, ◌||◌, not, eqb, leb, List, [], ◌∷◌, ◌++◌, refl, sym, ap, ◌∙◌, arith, IsTrue, true≢false, map, get_or, length, take, drop, replicate, zero-add, add-zero, bit_and, bit_or}
 use Rattle.std.proofs.lemmas.Bool.{ne_eqb, eq-eqb, le-leb, lt-leb, cases_lt}
 use Rattle.cesu8_text.specs.Encoding.{Flavor}
 use Rattle.cesu8_decode.specs.DecodedOffsets.{width_at, is_boundary_at, is_ill_formed_at, decoded}
@@ -11,10 +11,7 @@ use Rattle.std.specs.List.{range_with_len}
 use Rattle.std.proofs.lemmas.List.FromFn.{get_or-map-range_with_len}
 use Rattle.cesu8_decode.proofs.by_offset.WindowOffsets.{decoded_split}
 use borrow.Rule.Slice.PartMut.{put_mid, post_of}
-use Rattle.std.proofs.lemmas.List.{get_or-drop, take-replicate, take-append-le, length-take-le, length-replicate}
-use Rattle.std.proofs.Math.Seq.{take-append-add}
-use Rattle.std.specs.Str.{IsUtf8}
-use Rattle.std.proofs.lemmas.Str.{IsUtf8-append, IsUtf8-from_ascii}
+use Rattle.std.proofs.lemmas.List.{get_or-drop, take-replicate}
 use Rattle.cesu8_bytes.proofs.vectors.Loads.{zeros_at, padded}
 use Rattle.cesu8_decode.proofs.decoder.StartKinds.{start_at, no_start, over_one, over_two}
 use Rattle.cesu8_decode.proofs.by_offset.CharacterBoundaries.{width_bounds, boundary_at_end}
@@ -160,19 +157,3 @@ module _ (f : Flavor) (bytes window : List ℕ) (n : ℕ) (is_read : IsRead f by
   -- and one that is ill-formed is a fault.
   pub read_fault : (i : ℕ) × (i < n) × (is_ill_formed_at f window i ≡ true) → HasFault f bytes
   read_fault ill_formed = fault_at f bytes window n is_read.padded is_read.fits ill_formed.0 ill_formed.1 ill_formed.2
-
--- ---- the test of a short text
-
--- Zeros behind a text leave it one.
-pub text_and_zeros : (written zeros : List ℕ) (end k n len : ℕ) → end ≤ length written → end ≤ len → len ≤ end + n → zeros ≡ replicate n 0 →
-    IsUtf8 (take end written) → IsUtf8 (take len (put_mid end k written zeros))
-text_and_zeros written zeros end k n len fits small long zeros_are text =
-    let prefix = take end written in
-    let rest = zeros ++ post_of end k written in
-    let offset : len ≡ length prefix + (len - end) = omega (arith, length-take-le end written fits) in
-    let tested : take len (prefix ++ rest) ≡ prefix ++ replicate (len - end) 0 =
-    ap (λ n. take n (prefix ++ rest)) offset ∙ take-append-add prefix rest (len - end)
-    ∙ ap (λ l. prefix ++ l) (take-append-le (len - end) zeros (post_of end k written) (omega (arith, ap length zeros_are, length-replicate {A = ℕ} n 0))
-    ∙ ap (take (len - end)) zeros_are ∙ take-replicate (len - end) n 0 (omega arith)) in
-    subst IsUtf8 (sym tested) (IsUtf8-append prefix (replicate (len - end) 0) text
-    (IsUtf8-from_ascii (replicate (len - end) 0) (λ i. omega (arith, zeros_at (len - end) i))))
