@@ -6,8 +6,10 @@ ghost use Rattle.cesu8_decode.specs.Decoding.{IsNextChunk};
 use super::packing::WIDEST;
 use super::windows::{Decoded, LEAST, SPARED, write_window};
 use cesu8_bytes::flavor::Flavor;
+use cesu8_bytes::implementation::class::{LANES, OtherLead, bits};
 use cesu8_bytes::joining::Buffer;
 use cesu8_bytes::window::{Joined, TOO_FEW, read_window};
+use std::simd::prelude::*;
 
 /// The next chunk of text.
 #[derive(Drop)]
@@ -18,8 +20,8 @@ pub enum Chunk<'a> {
     Written(Decoded),
 }
 
-/// Reads the next bytes: as a joined window if that yields text, and else by offsets in a window of
-/// this length. After an ill-formed byte joining mostly yields none.
+/// Reads the next bytes: as a joined window if they begin sparsely and that yields text, and else by
+/// offsets in a window of this length. After an ill-formed byte joining mostly yields none.
 ///
 /// `IsNextChunk` says that at least one byte was read, and that the chunk's text and the reading of
 /// what is left are that of all; so the loops over it end and are right. What is written needs
@@ -36,7 +38,7 @@ pub fn next_chunk<'a, F: Flavor, const LEN: usize>(
     requires written { WIDEST * LEN ≤ length written.old + SPARED }
     ensures { IsNextChunk F.flavor bytes.now result written.new }
 {
-    if joins && bytes.len() > TOO_FEW {
+    if joins && bytes.len() > TOO_FEW && begins_sparsely(bytes) {
         if let Some(joined) = read_window::<F>(bytes, buffer) {
             return Chunk::Joined(joined);
         }
@@ -44,3 +46,16 @@ pub fn next_chunk<'a, F: Flavor, const LEN: usize>(
     let mut window = [0; LEN];
     Chunk::Written(write_window::<F>(bytes, &mut window, written))
 }
+
+/// Returns whether the first bytes have at most two surrogate pairs or four null characters, by their
+/// lead bytes. Each takes a branch where it is joined, so more are read faster by offsets. The
+/// answer decides speed alone.
+#[inline(always)]
+fn begins_sparsely(bytes: &[u8]) -> bool
+    requires { TOO_FEW < length bytes.now }
+{
+    bits::<OtherLead, LANES>(Simd::from_slice(bytes)).count_ones() <= MOST_LEADS
+}
+
+/// The most bytes ED or C0 (hexadecimal) for which joining pays, of so many as a vector has.
+const MOST_LEADS: u32 = 4;

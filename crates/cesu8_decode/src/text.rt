@@ -171,7 +171,8 @@ fn append_chunks<F: Flavor, const LEN: usize, const WRITTEN: usize, A: Allocator
     let mut buffer = [0; BUFFER_LEN];
     let mut written = [0; WRITTEN];
     let mut rest = bytes;
-    let mut joins = true;
+    // What is read lossily is mostly damaged.
+    let mut joins = matches!(strictness, Strictness::Strict);
     while !rest.is_empty() {
         match next_chunk::<F, LEN>(rest, joins, &mut buffer, &mut written) {
             Chunk::Joined(joined) => {
