@@ -126,7 +126,7 @@ fn behind(count: u8) -> u8x32
 }
 
 /// Returns the bytes, with those of surrogate pairs and of C0 80 replaced by what they become. Most
-/// blocks have many of these or none.
+/// blocks have many of these or none, and most texts only one of the two.
 #[inline(always)]
 fn changed_bytes(window: &[u8], kinds: &Kinds, at: usize) -> u8x32
     requires window { at + REACH ≤ length window.now }
@@ -140,6 +140,12 @@ fn changed_bytes(window: &[u8], kinds: &Kinds, at: usize) -> u8x32
     if highest_bits(near | (pairs << u8x32::splat(2))) == 0 {
         return byte;
     }
+    let changed = near
+        .simd_ge(u8x32::splat(0x80))
+        .select(u8x32::splat(0), byte);
+    if highest_bits(pairs << u8x32::splat(2)) == 0 {
+        return changed;
+    }
     let pair = u8x32::splat(PAIR);
     let half = u8x32::splat(0x0F);
     let before = u8x32::from_slice(&window[at + 4..]);
@@ -147,9 +153,6 @@ fn changed_bytes(window: &[u8], kinds: &Kinds, at: usize) -> u8x32
     let first = look_up(FIRST_BY_SECOND, before);
     let second = look_up(SECOND_BY_SECOND, two_before) | ((before >> u8x32::splat(2)) & half);
     let third = look_up(THIRD_BY_THIRD, two_before) | (byte & half);
-    let changed = near
-        .simd_ge(u8x32::splat(0x80))
-        .select(u8x32::splat(0), byte);
     let changed = chosen(kinds[1] & pair, third, changed);
     let changed = chosen(kinds[2] & pair, second, changed);
     chosen(kinds[3] & pair, first, changed)

@@ -16,7 +16,7 @@ use Rattle.cesu8_decode.specs.declared.parts.TheConstants.{FIRST_BY_SECOND, SECO
 use Rattle.cesu8_bytes.proofs.vectors.Loads.{loaded}
 use Rattle.cesu8_decode.proofs.decoder.DecodedParts.{decoded_is_written}
 use Rattle.cesu8_decode.proofs.decoder.StartKinds.{start_at}
-use Rattle.cesu8_decode.proofs.decoder.LaneTests.{gone_lane, lane_goes, covered_lane, ill_formed_lane, lane_ill_formed, mask_fits, byte_lane, lane_byte, joined_lane, byte_stays}
+use Rattle.cesu8_decode.proofs.decoder.LaneTests.{gone_lane, lane_goes, covered_lane, ill_formed_lane, lane_ill_formed, mask_fits, byte_lane, lane_byte, joined_lane, byte_stays, paired_lane, byte_unpaired}
 use Rattle.cesu8_decode.proofs.decoder.FirstLanes.{behind_lanes, before_lanes, gone_behind, well_formed_behind, written_first, no_lane, on_range}
 
 -- ---- kinds near a block
@@ -163,6 +163,19 @@ module _ (f : Flavor) (window : List ℕ) where
           (no_lane (λ i. is_high (joined_lane (kind (i + 4)) (kind (i + 3)) (kind (i + 2)) (kind (i + 1)))) at 32
           (rw (near 4 (omega arith), near 3 (omega arith), near 2 (omega arith), near 1 (omega arith)) at none) i low inside))))
 
+      abbrev pub null_lanes : List ℕ
+      null_lanes = sel_l (map (top 7) (zip2 (λ a b. cond (leb a b) 255 0) (replicate 32 0x80) (near_by 4))) (replicate 32 0) (chunk (at + 5) 32 window)
+
+      -- Where no pair changes them, only nulls do,
+      pub first_unpaired : mask_l (map is_high (zip2 (λ a b. a * 2 ^ b % 2 ^ 8)
+          (zip2 bit_or (zip2 bit_or (near_by 3) (near_by 2)) (near_by 1)) (replicate 32 2))) ≡ 0 →
+          (count : ℕ) → count ≤ 32 → take count null_lanes ≡ map (byte_at f window) (range_with_len at count)
+      first_unpaired none count small =
+          first_lanes (byte_at f window) count small null_lanes (rw (tops_compared w8 leb (replicate 32 0x80) (near_by 4), near 4 (omega arith), byte_behind 5 (omega arith)) refl
+          ∙ on_range (λ i. cond (leb 0x80 (kind (i + 4))) 0 (get_or window (i + 5) 0)) (byte_at f window) at 32 (λ i low inside. byte_unpaired f window i
+          (no_lane (λ i. is_high (paired_lane (kind (i + 3)) (kind (i + 2)) (kind (i + 1)))) at 32
+          (rw (near 3 (omega arith), near 2 (omega arith), near 1 (omega arith)) at none) i low inside)))
+
       abbrev pub chosen_lanes : ℕ → List ℕ → List ℕ → List ℕ
       chosen_lanes d some other = sel_l (map (λ lane. not (eqb lane 0)) (zip2 bit_and (near_by d) (replicate 32 0x20))) some other
 
@@ -172,7 +185,7 @@ module _ (f : Flavor) (window : List ℕ) where
           second ≡ map (λ lane. get_or SECOND_BY_SECOND (lane % 16) 0) (chunk (at + 3) 32 window) →
           third ≡ map (λ lane. get_or THIRD_BY_THIRD (lane % 16) 0) (chunk (at + 3) 32 window) →
           fourth ≡ chosen_lanes 1 (zip2 bit_or third (zip2 bit_and (chunk (at + 5) 32 window) (replicate 32 0x0F)))
-          (sel_l (map (top 7) (zip2 (λ a b. cond (leb a b) 255 0) (replicate 32 0x80) (near_by 4))) (replicate 32 0) (chunk (at + 5) 32 window)) →
+          null_lanes →
           two ≡ chosen_lanes 2
           (zip2 bit_or second (zip2 bit_and (zip2 (λ a b. a / 2 ^ b) (chunk (at + 4) 32 window) (replicate 32 2)) (replicate 32 0x0F))) fourth →
           last ≡ chosen_lanes 3 first two →

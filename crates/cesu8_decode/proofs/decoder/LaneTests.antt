@@ -279,3 +279,36 @@ lane_byte f window i =
     λ k. cond (some_pair _ _ _ (s (i + 3)) k) (first_is before k)
     (cond (some_pair _ _ _ (s (i + 2)) k) (second_is two_before before k)
     (cond (some_pair _ _ _ (s (i + 1)) k) (third_is two_before b k) (cond (null_bit _ _ _ (s (i + 4)) k) 0 b)))
+
+-- It is high where a pair changes the byte,
+abbrev pub paired_lane : (c2 c3 c4 : ℕ) → ℕ
+paired_lane c2 c3 c4 = bit_or (bit_or c2 c3) c4 * 2 ^ 2 % 2 ^ 8
+
+-- and else only a null does.
+pub byte_unpaired : (f : Flavor) (window : List ℕ) (i : ℕ) →
+    let c = start_kind f window in
+    is_high (paired_lane (c (i + 3)) (c (i + 2)) (c (i + 1))) ≡ false → cond (leb 0x80 (c (i + 4))) 0 (get_or window (i + 5) 0) ≡ byte_at f window i
+byte_unpaired f window i low =
+    let c = start_kind f window in
+    let s = start_at f window in
+    let shifted : ℕ → ℕ = λ c. c * 2 ^ 2 % 2 ^ 8 in
+    let c2 = c (i + 3) in
+    let c3 = c (i + 2) in
+    let c4 = c (i + 1) in
+    let w = width_at f window in
+    let b = get_or window (i + 5) 0 in
+    let before = get_or window (i + 4) 0 in
+    let two_before = get_or window (i + 3) 0 in
+    let all = none_of false (eqb (w (i + 3)) 6) (eqb (w (i + 2)) 6) (eqb (w (i + 1)) 6)
+    (sym (ap (λ (n : ℕ). leb 0x80 n) (shifted_or (bit_or c2 c3) c4 ∙ ap (λ (n : ℕ). bit_or n (shifted c4)) (shifted_or c2 c3))
+    ∙ high_or (bit_or (shifted c2) (shifted c3)) (shifted c4)
+    ∙ ap (λ (t : Bool). t || leb 0x80 (shifted c4)) (high_or (shifted c2) (shifted c3))
+    ∙ (λ k. (shifted_pair _ _ _ (s (i + 3)) k || shifted_pair _ _ _ (s (i + 2)) k) || shifted_pair _ _ _ (s (i + 1)) k))
+    ∙ low) in
+    let third = some_pair _ _ _ (s (i + 3)) ∙ all.1 in
+    let second = some_pair _ _ _ (s (i + 2)) ∙ all.2 in
+    let first = some_pair _ _ _ (s (i + 1)) ∙ all.3 in
+    sym (λ k. cond (third k) (first_byte before)
+    (cond (second k) (second_byte two_before before)
+    (cond (first k) (third_byte two_before b) (cond (leb 0x80 (c (i + 4))) 0 b))))
+    ∙ lane_byte f window i
