@@ -158,7 +158,7 @@ encoding_rows() {
         outcome=owned
         requests=1
         [[ $encoded == "$utf8" ]] && outcome=borrowed requests=0
-        for call in decode decode_strict decode_lossy decode_lossy_strict; do
+        for call in decode decode_strict decode_strict_front decode_lossy decode_lossy_strict; do
             row "$call $encoding" "$encoded" "$outcome" "$requests" "$utf8"
         done
         row "decoded_len $encoding" "$encoded" "$length" 0 ''
@@ -178,6 +178,7 @@ utf8_rows() {
         row "decode_lossy $encoding" "$utf8" borrowed 0 "$utf8"
         row "into_string $encoding" "$utf8" owned 1 "$utf8"
         row "decode_strict $encoding" "$utf8" invalid 1 ''
+        row "decode_strict_front $encoding" "$utf8" invalid 1 ''
         row "decode_lossy_strict $encoding" "$utf8" owned 1 "$reading"
         measure "$reading"
         row "decoded_len $encoding" "$utf8" none 0 ''
@@ -199,6 +200,7 @@ damage_rows() {
             row "$call $encoding" "$damaged" invalid 1 ''
             row "${call/decode/decode_lossy} $encoding" "$damaged" owned 1 "$reading"
         done
+        row "decode_strict_front $encoding" "$damaged" invalid 1 ''
         row "decoded_len $encoding" "$damaged" none 0 ''
         row "lossy_len $encoding" "$damaged" "$length" 0 ''
     done

@@ -2,7 +2,7 @@
 //!
 //! Only this module uses `percent_encoding`, which returns ASCII as a text.
 
-ghost use Rattle.std.specs.Prelude.{◌≡◌, IsTrue, Any};
+ghost use Rattle.std.specs.Prelude.{◌≡◌, ◌≤◌, IsTrue, Any, length, take};
 ghost use Rattle.std.specs.Str.{IsAscii};
 ghost use Rattle.cesu8_text.specs.Class.{IsChangedByte};
 
@@ -10,9 +10,14 @@ use crate::flavor::Flavor;
 use crate::implementation::class::{Either, LANES, NonAscii};
 use crate::implementation::short::{SHORT_VALUE, any_in_short};
 use crate::implementation::simd::left_by;
+use crate::runs::lanes_before;
+use std::simd::prelude::*;
 
 /// The most bytes that are tested for ASCII before anything is called.
 const TESTED_AT_ONCE: usize = 16 * LANES;
+
+/// How many bytes one look shows at the front of others.
+pub const SHOWN_AT_ONCE: usize = LANES;
 
 /// Returns whether the bytes are few and all ASCII. More are tested faster by `is_ascii`.
 #[inline(always)]
@@ -30,6 +35,18 @@ pub fn is_short_unchanged_ascii<F: Flavor>(bytes: &[u8]) -> bool
     ensures unchanged { IsTrue result → ¬ (Any (IsChangedByte F.flavor) bytes.now) }
 {
     bytes.len() <= SHORT_VALUE && !any_in_short::<Either<F::Null, NonAscii>>(bytes)
+}
+
+/// Returns whether the first bytes are all ASCII that does not change, as far as one vector shows,
+/// which may have more bytes than these. So no branch depends on how many they are, and strings that
+/// follow one another cost no wrong guess of one.
+#[inline(always)]
+pub fn begins_with_unchanged_ascii<F: Flavor>(bytes: &[u8], len: usize) -> bool
+    requires { SHOWN_AT_ONCE ≤ length bytes.now }
+    ensures ascii { IsTrue result → IsAscii (take len bytes.now) }
+    ensures unchanged { IsTrue result → ¬ (Any (IsChangedByte F.flavor) (take len bytes.now)) }
+{
+    lanes_before::<Either<F::Null, NonAscii>, SHOWN_AT_ONCE>(Simd::from_slice(bytes)) >= len
 }
 
 /// Returns whether the bytes are all ASCII. It is not inlined, so that the calls stay small.

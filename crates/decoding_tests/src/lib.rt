@@ -6,6 +6,8 @@ mod errors;
 #[cfg(test)]
 mod fragments;
 #[cfg(test)]
+mod fronts;
+#[cfg(test)]
 mod pairs;
 #[cfg(test)]
 mod places;

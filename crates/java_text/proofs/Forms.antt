@@ -1,7 +1,7 @@
 -- What the first two bytes of a form count, and that bytes begin with one form at most.
-use Rattle.std.proofs.Common.{◌≡◌, ℕ, ◌+◌, ◌*◌, ◌/◌, ◌%◌, ◌<◌, ◌≤◌, List, [], ◌∷◌, ◌++◌, Result, Ok, Err, IfOk, OnOk, Bor, sym, ap, subst, ◌∙◌, inl, inr, length, get_or, take, drop, arith, lit<, length-append}
+use Rattle.std.proofs.Common.{◌≡◌, ℕ, ◌+◌, ◌-◌, ◌*◌, ◌/◌, ◌%◌, ◌<◌, ◌≤◌, List, [], ◌∷◌, ◌++◌, Result, Ok, Err, IfOk, OnOk, Bor, sym, ap, subst, ◌∙◌, inl, inr, length, get_or, take, drop, arith, lit<, length-append}
 use Rattle.std.proofs.Math.Seq.{take-append_seam, drop-append_seam, drop-append-add}
-use Rattle.std.proofs.lemmas.List.{take-append-drop, length-take-le}
+use Rattle.std.proofs.lemmas.List.{take-append-drop, take_min, take_rest, length-take, length-take-le}
 use Rattle.simd_cesu8.specs.Encoding.{Mutf8, encoding}
 use Rattle.simd_cesu8.specs.Reading.{IsStrictReading, HasNoStrictReading}
 use Rattle.simd_cesu8.specs.Laws.{RoundTrip}
@@ -35,6 +35,13 @@ rest_in_form bytes text rest h =
     ap (λ n. drop (2 + n) bytes) (count_in_form bytes text rest h)
     ∙ ap (drop (2 + mutf8_len text)) h.bytes_are
     ∙ drop_after_two _ _ (mutf8_len text) (encoding Mutf8 text ++ rest) ∙ drop-append_seam (encoding Mutf8 text) rest
+
+-- The counted bytes are as many of those after the first two as they are.
+pub counted_behind_two : (bytes some : List ℕ) → some ≡ counted bytes → take (length some) (take (length bytes - 2) (drop 2 bytes)) ≡ counted bytes
+counted_behind_two bytes some are =
+    let after = drop 2 bytes in
+    rw take_rest
+    (ap (λ bs. take (length bs) after) are ∙ ap (λ n. take n after) (length-take (count_in bytes) after) ∙ take_min (count_in bytes) after)
 
 -- No form begins bytes that are too few.
 pub none_begins_truncated : (bytes : List ℕ) → IsTruncated bytes → NoFormBegins bytes

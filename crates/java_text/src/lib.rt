@@ -113,6 +113,7 @@ pub fn write_utf(text: &str, buf: &mut Vec<u8>) -> Result<(), WriteFault>
 /// assert_eq!(rt; rest, b"B".as_slice());
 /// assert!(rt; java_text::read_utf(alloc, b"\0\x02A").is_err());
 /// ```
+#[inline]
 #[tactic(auto, using(crate::proofs::Forms::refused_forms))]
 pub fn read_utf(alloc: Global, bytes: &[u8]) -> Result<(CowText<'_>, &[u8]), ReadFault>
     ensures text { IfRead result (BeginsWithForm bytes.now) }
@@ -130,7 +131,9 @@ pub fn read_utf(alloc: Global, bytes: &[u8]) -> Result<(CowText<'_>, &[u8]), Rea
     ensures capacity { BuildsTextOfCapacity (text_of result) (count_in bytes.now) }
 {
     let (counted, rest) = split_counted(bytes)?;
-    Ok((mutf8::decode_strict(alloc, counted)?, rest))
+    // Other forms mostly follow, so a short text is read with what is behind it.
+    let text = mutf8::decode_strict_front(alloc, &bytes[2..], counted.len())?;
+    Ok((text, rest))
 }
 
 /// Reads the count that begins the bytes (Java's `DataInput.readUTF`), and as many bytes of MUTF-8,
@@ -273,6 +276,7 @@ pub fn read_utf_lossy_to_slice<'b>(
 }
 
 /// Returns the bytes that the first two count, and those after them.
+#[inline]
 fn split_counted(bytes: &[u8]) -> Result<(&[u8], &[u8]), ReadFault>
     ensures counted { IfOk result (λ parts. parts.0.now ≡ counted bytes.now) }
     ensures rest { IfOk result (λ parts. parts.1.now ≡ rest_in bytes.now) }

@@ -38,6 +38,13 @@ fn make(rt: &HostRuntime, call: &str, bytes: &[u8]) -> io::Result<()> {
     match call {
         "decode" => tell_text(rt, flavors::decode(rt.alloc(), flavor, bytes)),
         "decode_strict" => tell_text(rt, flavors::decode_strict(rt.alloc(), flavor, bytes)),
+        "decode_strict_front" => {
+            let len = bytes.len();
+            tell_text(
+                rt,
+                flavors::decode_strict_front(rt.alloc(), flavor, bytes, len),
+            )
+        }
         "decode_lossy" => tell_lossy(rt, flavors::decode_lossy(rt.alloc(), flavor, bytes)),
         "decode_lossy_strict" => {
             tell_lossy(rt, flavors::decode_lossy_strict(rt.alloc(), flavor, bytes))

@@ -2,15 +2,18 @@
 //!
 //! Decoding returns short ASCII first, in a function that is inlined into the public call. The rest
 //! of it, in a function whose name ends in `other`, is never inlined, so that this test stays small.
+//! At the front of enough bytes one look shows short ASCII, whatever its length.
 
+ghost use Rattle.std.specs.Prelude.{take};
 ghost use Rattle.simd_cesu8.specs.Calls.{Encodes, DecodesStrictly, DecodesLeniently, DecodesLossily, DecodesLenientlyLossily};
 
 use crate::cow::{CowBytes, CowText};
 use crate::error::DecodeFault;
 use crate::internal;
 use crate::internal::{
-    FirstLook, Flavor, ascii_text, first_look, is_short_ascii, is_short_unchanged_ascii,
-    needs_encoded, tested_text, unchanged_text, whole_text,
+    FirstLook, Flavor, SHOWN_AT_ONCE, ascii_text, begins_with_unchanged_ascii, first_look,
+    is_short_ascii, is_short_unchanged_ascii, needs_encoded, tested_text, unchanged_text,
+    whole_text,
 };
 use std::alloc::{AllocError, Global};
 
@@ -34,6 +37,51 @@ pub fn decode_strict<F: Flavor>(alloc: Global, bytes: &[u8]) -> Result<CowText<'
         return Ok(CowText::Borrowed(ascii_text(bytes)));
     }
     decode_strict_other::<F>(alloc, bytes)
+}
+
+#[inline(always)]
+pub fn decode_strict_front<F: Flavor>(
+    alloc: Global,
+    bytes: &[u8],
+    len: usize,
+) -> Result<CowText<'_>, DecodeFault>
+    ensures { DecodesStrictly F.flavor (take len bytes.now) result }
+{
+    let len = len.min(bytes.len());
+    let front = &bytes[..len];
+    let is_shown = len <= SHOWN_AT_ONCE && bytes.len() >= SHOWN_AT_ONCE;
+    if is_shown && begins_with_unchanged_ascii::<F>(bytes, len) {
+        return Ok(CowText::Borrowed(ascii_text(front)));
+    }
+    decode_strict_by_call::<F>(alloc, front, is_shown)
+}
+
+/// Makes the call below. The room for its result is cleared at the start of the function that makes
+/// it, so this is one of its own.
+#[inline(always)]
+fn decode_strict_by_call<F: Flavor>(
+    alloc: Global,
+    bytes: &[u8],
+    is_shown: bool,
+) -> Result<CowText<'_>, DecodeFault>
+    ensures { DecodesStrictly F.flavor bytes.now result }
+{
+    decode_strict_called::<F>(alloc, bytes, is_shown)
+}
+
+/// Returns the strict reading of bytes that are no short ASCII, or have not been looked at.
+#[inline(never)]
+fn decode_strict_called<F: Flavor>(
+    alloc: Global,
+    bytes: &[u8],
+    is_shown: bool,
+) -> Result<CowText<'_>, DecodeFault>
+    ensures { DecodesStrictly F.flavor bytes.now result }
+{
+    if is_shown {
+        return decode_strict_other::<F>(alloc, bytes);
+    }
+    decode_strict::<F>(alloc, bytes)
 }
 
 #[inline(never)]

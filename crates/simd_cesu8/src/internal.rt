@@ -13,7 +13,10 @@ ghost use Rattle.simd_cesu8.specs.Outcomes.{IsFaultOf, IsAnswerOf, IsStrictOutco
 pub mod value;
 
 use crate::error::{DecodeFault, DecodeSliceFault, DecodingError, LossySliceFault, TooShort};
-pub use cesu8_bytes::ascii::{ascii_text, is_short_ascii, is_short_unchanged_ascii};
+pub use cesu8_bytes::ascii::{
+    SHOWN_AT_ONCE, ascii_text, begins_with_unchanged_ascii, is_short_ascii,
+    is_short_unchanged_ascii,
+};
 pub use cesu8_bytes::first_looks::{
     FirstLook, first_look, needs_encoded, tested_text, unchanged_text, whole_text,
 };

@@ -19,6 +19,7 @@
 //! | text | how many UTF-16 code units it has | [`utf16_len`] |
 //! | two texts | their order by UTF-16 code units | [`compare_as_utf16`] |
 //! | bytes of the encoding | their text, or an error | [`decode_strict`] |
+//! | bytes that begin with the encoding, so many | its text, or an error | [`decode_strict_front`] |
 //! | bytes of the encoding | the length of that text, or whether they are valid | [`decoded_len`] |
 //! | bytes of the encoding, perhaps damaged | a text in any case | [`decode_lossy_strict`] |
 //! | bytes of the encoding, perhaps damaged | the length of that text | [`lossy_len`] |
@@ -43,7 +44,7 @@
 //! ```
 #![tactic(auto)]
 
-ghost use Rattle.std.specs.Prelude.{◌≡◌, ◌<◌, ◌≤◌, ◌+◌, ◌*◌, ◌++◌, [], ◌↔◌, length, IsTrue, IsUtf8, OnOk, OnErr, IsOk, vec_len, vec_capacity, IfSome, IfNone};
+ghost use Rattle.std.specs.Prelude.{◌≡◌, ◌<◌, ◌≤◌, ◌+◌, ◌*◌, ◌++◌, [], ◌↔◌, length, take, IsTrue, IsUtf8, OnOk, OnErr, IsOk, vec_len, vec_capacity, IfSome, IfNone};
 ghost use Rattle.std.specs.Cmp.Lexicographic.{slice_cmp};
 ghost use Rattle.std.specs.Ordering.{nat_cmp};
 ghost use Rattle.std.specs.Str.{chars};
@@ -221,6 +222,34 @@ pub fn decode_strict(alloc: Global, bytes: &[u8]) -> Result<CowText<'_>, DecodeF
     ensures capacity { BuildsTextOfCapacity result (length bytes.now) }
 {
     borrow_or_build::decode_strict::<Cesu8Flavor>(alloc, bytes)
+}
+
+/// Decodes the CESU-8 (Unicode Technical Report 26) at the front of the bytes strictly: returns what
+/// [`decode_strict`] does of the first `len` bytes, or of all where there are fewer.
+///
+/// It is for strings that follow one another. It may look at the bytes behind the front, which
+/// change no result, so the time for short ASCII depends less on its length.
+///
+/// ```rust
+/// let bytes = b"name\xED\xA0\xBD\xED\xB2\x96".as_slice();
+/// let name = simd_cesu8::decode_strict_front(alloc, bytes, 4)?;
+/// assert_eq!(rt; name.as_str(), "name");
+/// ```
+#[inline]
+pub fn decode_strict_front(
+    alloc: Global,
+    bytes: &[u8],
+    len: usize,
+) -> Result<CowText<'_>, DecodeFault>
+    ensures text { IfText result (λ text. IsStrictReading Cesu8 (take len bytes.now) text) }
+    ensures invalid { OnInvalid result (HasNoStrictReading Cesu8 (take len bytes.now)) }
+    ensures borrowed { BorrowsTextWhere result (λ utf8. utf8 ≡ take len bytes.now) }
+    ensures borrowed_where { BorrowsTextWhere result
+        (λ _. IsUnchangedUtf8 Cesu8 (take len bytes.now)) }
+    ensures succeeds { IsUnchangedUtf8 Cesu8 (take len bytes.now) → IsOk result }
+    ensures capacity { BuildsTextOfCapacity result (length (take len bytes.now)) }
+{
+    borrow_or_build::decode_strict_front::<Cesu8Flavor>(alloc, bytes, len)
 }
 
 /// Decodes bytes that are UTF-8 as a whole, or else CESU-8 (Unicode Technical Report 26). It reads

@@ -6,7 +6,7 @@
 //! assert_eq!(rt; built.as_bytes(), b"a\xC0\x80".as_slice());
 //! ```
 
-ghost use Rattle.std.specs.Prelude.{◌≡◌, ◌<◌, ◌≤◌, ◌+◌, ◌*◌, ◌++◌, [], ◌↔◌, length, IsTrue, IsUtf8, OnOk, OnErr, IsOk, vec_len, vec_capacity, IfSome, IfNone};
+ghost use Rattle.std.specs.Prelude.{◌≡◌, ◌<◌, ◌≤◌, ◌+◌, ◌*◌, ◌++◌, [], ◌↔◌, length, take, IsTrue, IsUtf8, OnOk, OnErr, IsOk, vec_len, vec_capacity, IfSome, IfNone};
 ghost use Rattle.std.specs.Str.{chars};
 ghost use Rattle.simd_cesu8.specs.Encoding.{Mutf8, encoding, NeedsEncoding};
 ghost use Rattle.simd_cesu8.specs.Class.{IsUnchangedUtf8};
@@ -145,6 +145,35 @@ pub fn decode_strict(alloc: Global, bytes: &[u8]) -> Result<CowText<'_>, DecodeF
     ensures capacity { BuildsTextOfCapacity result (length bytes.now) }
 {
     borrow_or_build::decode_strict::<Mutf8Flavor>(alloc, bytes)
+}
+
+/// Decodes the MUTF-8 (Java's `DataInput`, without a length in front) at the front of the bytes
+/// strictly: returns what [`decode_strict`] does of the first `len` bytes, or of all where there are
+/// fewer.
+///
+/// It is for strings that follow one another. It may look at the bytes behind the front, which
+/// change no result, so the time for short ASCII depends less on its length.
+///
+/// ```rust
+/// let bytes = b"name\xC0\x80".as_slice();
+/// let name = simd_cesu8::mutf8::decode_strict_front(alloc, bytes, 4)?;
+/// assert_eq!(rt; name.as_str(), "name");
+/// ```
+#[inline]
+pub fn decode_strict_front(
+    alloc: Global,
+    bytes: &[u8],
+    len: usize,
+) -> Result<CowText<'_>, DecodeFault>
+    ensures text { IfText result (λ text. IsStrictReading Mutf8 (take len bytes.now) text) }
+    ensures invalid { OnInvalid result (HasNoStrictReading Mutf8 (take len bytes.now)) }
+    ensures borrowed { BorrowsTextWhere result (λ utf8. utf8 ≡ take len bytes.now) }
+    ensures borrowed_where { BorrowsTextWhere result
+        (λ _. IsUnchangedUtf8 Mutf8 (take len bytes.now)) }
+    ensures succeeds { IsUnchangedUtf8 Mutf8 (take len bytes.now) → IsOk result }
+    ensures capacity { BuildsTextOfCapacity result (length (take len bytes.now)) }
+{
+    borrow_or_build::decode_strict_front::<Mutf8Flavor>(alloc, bytes, len)
 }
 
 /// Decodes bytes that are UTF-8 as a whole, or else MUTF-8 (Java's `DataInput`). It reads no input

@@ -76,6 +76,11 @@ pub fn decode_strict(alloc: Global, flavor: Flavor, bytes: &[u8]) -> Decoded<'_>
     call!(flavor, decode_strict(alloc, bytes))
 }
 
+/// The strict reading of the front.
+pub fn decode_strict_front(alloc: Global, flavor: Flavor, bytes: &[u8], len: usize) -> Decoded<'_> {
+    call!(flavor, decode_strict_front(alloc, bytes, len))
+}
+
 /// The lenient reading.
 pub fn decode(alloc: Global, flavor: Flavor, bytes: &[u8]) -> Decoded<'_> {
     call!(flavor, decode(alloc, bytes))

@@ -1,11 +1,14 @@
 -- ASCII: bytes of which none is 80 (hexadecimal) or more.
-use Rattle.std.proofs.Common.{◌≡◌, ℕ, Bool, true, false, ◌||◌, List, refl, ⊎_elim, arith, length, get_or}
+use Rattle.std.proofs.Common.{◌≡◌, ◌∙◌, ℕ, Bool, true, false, not, ◌||◌, ◌<◌, ◌≤◌, List, refl, sym, ap, ⊎_elim, arith, length, take, get_or}
+use Rattle.std.specs.List.{Any, prefix_len}
 use Rattle.std.specs.Str.{IsAscii}
-use Rattle.std.proofs.lemmas.Bool.{cases_lt, le-leb}
-use Rattle.std.proofs.lemmas.List.{get_or_default}
+use Rattle.std.proofs.lemmas.Bool.{and_parts, both_ways, cases_lt, le-leb, leb-true, not-true, or_cases, or_left, or_right}
+use Rattle.std.proofs.lemmas.List.{get_or_default, get_or-take, length-take}
+use Rattle.std.proofs.lemmas.List.Sums.{prefix_len-le-length, prefix_len_passes}
 use Rattle.std.proofs.lemmas.Str.Ascii.{IsAscii-from_reads}
 use Rattle.cesu8_bytes.specs.Kernels.{AnyIn}
-use Rattle.cesu8_text.specs.Class.{is_non_ascii}
+use Rattle.cesu8_text.specs.Encoding.{Flavor, Cesu8, Mutf8}
+use Rattle.cesu8_text.specs.Class.{is_four, is_null, is_non_ascii, IsChangedByte}
 
 -- Bytes are ASCII where none is 80 or more.
 pub ascii_of_none : (xs : List ℕ) → (AnyIn is_non_ascii xs → ⊥) → IsAscii xs
@@ -22,3 +25,29 @@ second_suffices false t e = e
 pub ascii_of_neither : (other : ℕ → Bool) (xs : List ℕ) → (AnyIn (λ b. other b || is_non_ascii b) xs → ⊥) → IsAscii xs
 ascii_of_neither other xs none = ascii_of_none xs (λ any.
     none (any.0, any.1, any.2, any.3, second_suffices (other any.1) (is_non_ascii any.1) any.4))
+
+four_is_other : (b : ℕ) → is_four b ≡ true → is_non_ascii b ≡ true
+four_is_other b four = le-leb 0x80 b (omega (arith, leb-true 0xF0 b (and_parts _ _ four).0))
+
+changed_is_either : (f : Flavor) (b : ℕ) → IsChangedByte f b → (is_null f b || is_non_ascii b) ≡ true
+changed_is_either Cesu8 b four = four_is_other b four
+changed_is_either Mutf8 b changed =
+    ⊎_elim (λ null. or_left _ _ null) (λ four. or_right _ _ (four_is_other b four)) (or_cases _ _ changed)
+
+-- No byte changes where none is a null that changes, or 80 or more.
+pub unchanged_of_neither : (f : Flavor) (null : ℕ → Bool) → null ≡ is_null f → (xs : List ℕ) →
+    (AnyIn (λ b. null b || is_non_ascii b) xs → ⊥) → Any (IsChangedByte f) xs → ⊥
+unchanged_of_neither f null is xs none any =
+    none (any.0, any.1, any.2, any.3, ap (λ p. p any.1 || is_non_ascii any.1) is ∙ changed_is_either f any.1 any.4)
+
+-- None of the first bytes is of a class where no fewer precede one of it.
+pub none_in_front : (class : ℕ → Bool) (xs : List ℕ) (n len run : ℕ) → run ≡ prefix_len (λ b. not (class b)) (take n xs) → len ≤ run →
+    AnyIn class (take len xs) → ⊥
+none_in_front class xs n len run is enough any =
+    let before : any.0 < len = omega (arith, any.2, length-take len xs) in
+    let here : any.0 < n = omega (arith, before, enough, is, prefix_len-le-length (λ b. not (class b)) (take n xs), length-take n xs) in
+    let same : get_or (take n xs) any.0 any.1 ≡ any.1 =
+    get_or-take n xs any.0 any.1 here ∙ sym (get_or-take len xs any.0 any.1 before) ∙ any.3 in
+    both_ways (class any.1)
+    (not-true _ (ap (λ b. not (class b)) (sym same)
+    ∙ prefix_len_passes (λ b. not (class b)) (take n xs) any.0 any.1 (omega (arith, before, enough, is)))) any.4
