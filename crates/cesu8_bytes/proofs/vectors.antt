@@ -1,5 +1,7 @@
--- Vectors that both directions use: loads, rows of eight lanes, tables of shuffles, and counts.
+-- Vectors that both directions use: loads, rows of eight lanes, packing, tables of shuffles, and
+-- counts.
 pub mod Loads
 pub mod Rows
+pub mod Packing
 pub mod Tables
 pub mod Counts

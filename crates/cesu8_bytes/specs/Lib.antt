@@ -4,3 +4,4 @@ pub mod TextChunks
 pub mod Puts
 pub mod Prefixes
 pub mod FirstLooks
+pub mod Packing

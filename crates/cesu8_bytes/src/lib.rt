@@ -13,6 +13,7 @@ pub mod joining;
 pub mod lengths;
 pub mod options;
 pub mod order;
+pub mod packing;
 pub mod runs;
 pub mod utf8;
 pub mod window;

@@ -7,7 +7,7 @@ pub mod StartLanes
 pub mod DecodedParts
 pub mod DecodedBlocks
 pub mod DecodedRows
-pub mod DecodedRowsOfEight
+pub mod WholeBlocks
 pub mod Shuffles
 pub mod WeightLanes
 pub mod WeightRest

@@ -1,8 +1,9 @@
 -- The lanes of the decoder's vectors.
-use Rattle.std.specs.Prelude.{◌≡◌, ℕ, zero, suc, ◌+◌, ◌*◌, ◌/◌, ◌%◌, ◌-◌, ◌<◌, ◌&&◌, ◌||◌, ◌==◌, nat_le, nat_lt, if◌then◌else◌, Bool, List, [], ◌∷◌, ◌++◌, map, length, slice_index, slice_index_or, replicate, bit_or}
+use Rattle.std.specs.Prelude.{◌≡◌, ℕ, ◌+◌, ◌*◌, ◌/◌, ◌%◌, ◌<◌, ◌&&◌, ◌||◌, ◌==◌, nat_le, nat_lt, if◌then◌else◌, Bool, List, [], map, slice_index, slice_index_or, bit_or}
 use Rattle.std.specs.List.{range_with_len}
 use Rattle.cesu8_text.specs.Encoding.{Flavor}
 use Rattle.cesu8_bytes.specs.Joining.{null_at}
+use Rattle.cesu8_bytes.specs.Packing.{written, kept_of, shuffle_keeping}
 use Rattle.cesu8_decode.specs.DecodedOffsets.{two_at, three_at, pair_at, first_width_by, width_at}
 
 -- The kind of the character that begins at an offset, by the six bytes there: a bit, or 0 if none
@@ -61,34 +62,9 @@ byte_at f window i =
 abbrev pub is_high : ℕ → Bool
 is_high lane = nat_le 0x80 lane
 
--- What is written for bytes in a row: the replacement character for one that is ill-formed, nothing
--- for one that goes, and otherwise the byte.
-abbrev pub written_for : Bool → Bool → ℕ → List ℕ
-written_for gone ill_formed b = if ill_formed then 0xEF ∷ 0xBF ∷ 0xBD ∷ [] else if gone then [] else b ∷ []
-
-abbrev pub written : List Bool → List Bool → List ℕ → List ℕ
-written [] ill_formed bytes = []
-written (g ∷ gone) [] bytes = []
-written (g ∷ gone) (d ∷ ill_formed) [] = []
-written (g ∷ gone) (d ∷ ill_formed) (b ∷ bytes) = written_for g d b ++ written gone ill_formed bytes
-
 -- What is written for the lanes of three vectors.
 abbrev pub written_lanes : List ℕ → List ℕ → List ℕ → List ℕ
 written_lanes gone ill_formed bytes = written (map is_high gone) (map is_high ill_formed) bytes
-
--- The lanes that packing keeps of four bytes, followed by a replacement character: from byte i on,
--- for n bytes. Bit i of the first number is set if byte i goes, and that of the second if it is
--- ill-formed.
-abbrev pub kept_of : ℕ → ℕ → ℕ → ℕ → List ℕ
-kept_of gone ill_formed i zero = []
-kept_of gone ill_formed i (suc n) =
-    (if ill_formed % 2 == 1 then 4 ∷ 5 ∷ 6 ∷ [] else if gone % 2 == 1 then [] else i ∷ [])
-    ++ kept_of (gone / 2) (ill_formed / 2) (i + 1) n
-
--- A shuffle of sixteen lanes that keeps these. Its last number is their count; those between are
--- not used.
-abbrev pub shuffle_keeping : List ℕ → List ℕ
-shuffle_keeping kept = kept ++ replicate (15 - length kept) 0 ++ length kept ∷ []
 
 -- The lower four bits of the set mark those of four bytes that go, and the upper four those that
 -- are ill-formed.
@@ -98,13 +74,6 @@ shuffle_of_four set = shuffle_keeping (kept_of (set % 0x10) (set / 0x10) 0 4)
 -- The rows of shuffles, one for each number below 100 (hexadecimal).
 abbrev pub AreShufflesOfFour : List (List ℕ) → Type 0
 AreShufflesOfFour rows = (set : ℕ) → set < 0x100 → slice_index_or rows set [] ≡ shuffle_of_four set
-
--- The same for eight bytes of which none is ill-formed. Bit i of the number is set if byte i goes.
-abbrev pub shuffle_of_eight : ℕ → List ℕ
-shuffle_of_eight gone = shuffle_keeping (kept_of gone 0 0 8)
-
-abbrev pub AreShufflesOfEight : List (List ℕ) → Type 0
-AreShufflesOfEight rows = (gone : ℕ) → gone < 0x100 → slice_index_or rows gone [] ≡ shuffle_of_eight gone
 
 -- The weight of offset i of a window.
 abbrev pub weight_at : (ℕ → ℕ → ℕ) → Flavor → List ℕ → ℕ → ℕ

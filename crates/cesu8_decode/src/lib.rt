@@ -27,7 +27,6 @@ mod packing;
 mod parts;
 pub mod refusal;
 mod rows;
-mod rows_of_eight;
 mod slices;
 mod sums;
 mod text;

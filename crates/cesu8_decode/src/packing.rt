@@ -1,20 +1,18 @@
 //! Packs what becomes of 32 bytes: by a shuffle for each four bytes, or for each eight if no byte
 //! is ill-formed.
 
-ghost use Rattle.std.specs.Prelude.{◌≡◌, List, Bool, ◌+◌, ◌*◌, ◌%◌, ◌<◌, ◌≤◌, ◌∷◌, [], ◌++◌, false, length, map, take, replicate, slice_index};
+ghost use Rattle.std.specs.Prelude.{◌≡◌, List, Bool, ◌+◌, ◌*◌, ◌<◌, ◌≤◌, ◌∷◌, [], ◌++◌, length, map, take};
 ghost use Rattle.std.specs.Simd.Lanes.{chunk, mask_l};
-ghost use Rattle.cesu8_decode.specs.DecodedLanes.{is_high, written, written_lanes};
+ghost use Rattle.cesu8_bytes.specs.Packing.{written};
+ghost use Rattle.cesu8_decode.specs.DecodedLanes.{is_high, written_lanes};
 
 use super::offsets::BLOCK;
 use super::rows::rows;
-use super::rows_of_eight::rows_of_eight;
+use cesu8_bytes::packing::{STORED, picked, second_of, store_kept};
 use std::simd::prelude::*;
 
 /// The most bytes that are written for one byte: those of the replacement character.
 pub const WIDEST: usize = 3;
-
-/// How many bytes are stored at once. The last of them may not be used.
-const STORED: usize = 16;
 
 /// How long the buffer for a block must be.
 pub const ROOM: usize = WIDEST * BLOCK + STORED;
@@ -75,29 +73,7 @@ fn store_whole(parts: Parts, out: &mut [u8], at: usize) -> usize
         parts.bytes.copy_to_slice(&mut out[at..]);
         return at + BLOCK;
     }
-    let first = parts.bytes.extract::<0, HALF>();
-    let third = parts.bytes.extract::<HALF, HALF>();
-    let at = store_eight(first, gone & 0xFF, out, at);
-    let at = store_eight(second_of(first), gone >> 8 & 0xFF, out, at);
-    let at = store_eight(third, gone >> 16 & 0xFF, out, at);
-    store_eight(second_of(third), gone >> 24 & 0xFF, out, at)
-}
-
-/// Stores those of eight bytes that don't go, by the set of those that do, and returns their end.
-#[inline(always)]
-fn store_eight(lanes: u8x16, gone: usize, out: &mut [u8], at: usize) -> usize
-    requires small { gone < 0x100 }
-    requires room { at + STORED ≤ length out.old }
-    ensures bytes { (tests : List Bool) → length tests ≡ 8 → gone ≡ mask_l tests
-        → take result out.new
-        ≡ take at out.old ++ written tests (replicate 8 false) (chunk 0 8 lanes) }
-    ensures end { (at ≤ result) × (result ≤ at + 8) }
-    ensures len { length out.new ≡ length out.old }
-{
-    let row = &rows_of_eight()[gone];
-    let packed = picked(lanes, u8x16::from_array(*row));
-    packed.copy_to_slice(&mut out[at..]);
-    at + row[15] as usize
+    store_kept(parts.bytes, gone, out, at)
 }
 
 /// Returns a bit for each lane whose highest bit is set.
@@ -145,14 +121,6 @@ fn store_half(bytes: u8x16, gone: u8x16, ill_formed: u8x16, out: &mut [u8], at: 
     store_four(second_of(third), back >> 8 & 0xFF, out, at)
 }
 
-/// Returns the upper half of some lanes, twice.
-#[inline(always)]
-fn second_of(lanes: u8x16) -> u8x16
-    ensures { result ≡ chunk 8 8 lanes ++ chunk 8 8 lanes }
-{
-    lanes.swizzle::<16>([8, 9, 10, 11, 12, 13, 14, 15, 8, 9, 10, 11, 12, 13, 14, 15])
-}
-
 /// Stores what becomes of four bytes, which the replacement character follows in the lanes, and
 /// returns its end. The lower four bits of the set mark those that go, and the others those that
 /// are ill-formed.
@@ -171,12 +139,4 @@ fn store_four(lanes: u8x16, set: usize, out: &mut [u8], at: usize) -> usize
     let packed = picked(lanes, u8x16::from_array(*row));
     packed.copy_to_slice(&mut out[at..]);
     at + row[15] as usize
-}
-
-/// Returns the lanes at the indices in the lower halves of a row's numbers.
-#[inline(always)]
-fn picked(lanes: u8x16, row: u8x16) -> u8x16
-    ensures { result ≡ map (λ j. slice_index lanes (j % 0x10)) row }
-{
-    lanes.swizzle_dyn_within::<16>(row & u8x16::splat(0x0F))
 }

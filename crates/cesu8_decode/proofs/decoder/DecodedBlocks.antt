@@ -11,7 +11,8 @@ use Rattle.cesu8_text.specs.Encoding.{Flavor}
 use Rattle.cesu8_text.specs.Class.{is_null}
 use Rattle.cesu8_bytes.specs.Kernels.{mask}
 use Rattle.cesu8_decode.specs.DecodedOffsets.{is_ill_formed_at, decoded_at, decoded}
-use Rattle.cesu8_decode.specs.DecodedLanes.{start_kind, AreFiveKinds, AreKindsNear, is_high, goes_at, byte_at, written, written_lanes}
+use Rattle.cesu8_bytes.specs.Packing.{written}
+use Rattle.cesu8_decode.specs.DecodedLanes.{start_kind, AreFiveKinds, AreKindsNear, is_high, goes_at, byte_at, written_lanes}
 use Rattle.cesu8_decode.specs.declared.parts.TheConstants.{FIRST_BY_SECOND, SECOND_BY_SECOND, THIRD_BY_THIRD}
 use Rattle.cesu8_bytes.proofs.vectors.Loads.{loaded}
 use Rattle.cesu8_decode.proofs.decoder.DecodedParts.{decoded_is_written}

@@ -6,7 +6,8 @@ use Rattle.std.proofs.lemmas.Nat.{le_or_r}
 use Rattle.std.specs.Int.Bits.{and_zero_r}
 use lib.Lanes.{zip2, mask_l, Each1}
 use Rattle.cesu8_bytes.specs.Kernels.{mask}
-use Rattle.cesu8_decode.specs.DecodedLanes.{is_high, written_for, written}
+use Rattle.cesu8_bytes.specs.Packing.{written_for, written}
+use Rattle.cesu8_decode.specs.DecodedLanes.{is_high}
 use Rattle.cesu8_decode.proofs.decoder.LaneTests.{high_or}
 
 -- ---- the highest bits

@@ -1,5 +1,5 @@
-use Rattle.cesu8_decode.proofs.decoder.DecodedRows.{low_ok, low_picked}
-use Rattle.cesu8_decode.proofs.packing.picked.Goals as goal
+use Rattle.cesu8_bytes.proofs.vectors.Packing.{low_ok, low_picked}
+use Rattle.cesu8_bytes.proofs.packing.picked.Goals as goal
 
 pub swizzle : goal.swizzle
 swizzle c = low_ok c.args.row c.fits-row.0

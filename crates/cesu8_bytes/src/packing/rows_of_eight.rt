@@ -1,9 +1,8 @@
-//! The shuffles that pack eight bytes of which none is ill-formed, one for each set of those that
-//! go.
+//! The shuffles that pack eight bytes, one for each set of those that go.
 
-ghost use Rattle.cesu8_decode.specs.DecodedLanes.{AreShufflesOfEight};
+ghost use Rattle.cesu8_bytes.specs.Packing.{AreShufflesOfEight};
 
-use cesu8_bytes::Rows;
+use crate::Rows;
 
 /// In row `gone` byte `i` goes if bit `i` of `gone` is set. The last number of a row is how many
 /// bytes are written.

@@ -1,7 +1,7 @@
 use Rattle.std.proofs.Common.{◌+◌, ap, ◌∙◌, arith, take, get_or, []}
 use lib.Lanes.{put_chunk}
-use Rattle.cesu8_decode.proofs.decoder.DecodedRowsOfEight.{end_of_eight, stored_eight}
-use Rattle.cesu8_decode.proofs.packing.store_eight.Goals as goal
+use Rattle.cesu8_bytes.proofs.vectors.Packing.{end_of_eight, stored_eight}
+use Rattle.cesu8_bytes.proofs.packing.store_eight.Goals as goal
 
 pub returns-clause-bytes : goal.returns-clause-bytes
 returns-clause-bytes c tests long is =

@@ -1,6 +1,6 @@
 use Rattle.std.proofs.Common.{arith, ◌++◌}
 use Rattle.cesu8_bytes.proofs.vectors.Rows.{lanes_of_first}
-use Rattle.cesu8_decode.proofs.packing.second_of.Goals as goal
+use Rattle.cesu8_bytes.proofs.packing.second_of.Goals as goal
 
 pub returns : goal.returns
 returns c =

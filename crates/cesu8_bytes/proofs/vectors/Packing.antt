@@ -1,0 +1,221 @@
+-- How bytes are packed by a shuffle that leaves out those that go, and 32 by four of these.
+use Rattle.std.proofs.Common.{◌≡◌, ℕ, zero, suc, ◌+◌, ◌*◌, ◌/◌, ◌%◌, ◌-◌, ◌^◌, ◌<◌, ◌≤◌, Bool, true, false, cond, List, [], ◌∷◌, ◌++◌, map, length, take, drop, get_or, replicate, leb, refl, sym, ap, ◌∙◌, arith, w8, length-append, append-nil, append_assoc, bit_and}
+use Rattle.std.specs.List.{range_with_len}
+use Rattle.std.proofs.lemmas.Bool.{agree_below, agree_below_at, leb-true}
+use Rattle.std.proofs.lemmas.List.{length-map, length-drop, length-replicate, map-append, drop_all, drop-drop, drop-replicate, take-replicate, take-take, drop-take, length-take-le, get_or_at}
+use Rattle.std.proofs.lemmas.Nat.{and_mask, and_le_r}
+use Rattle.std.proofs.lemmas.Simd.{swz_l, SwzOk, SwzOk-from_below, zip2_splat, length-zip2, length-chunk, map-map, pick_l-range_with_len, Each1-all, Each1-zip2, Each2-splat}
+use lib.Lanes.{zip2, mask_l, put_chunk, chunk, Each1}
+use Rattle.cesu8_bytes.specs.Packing.{written_for, written, kept_of, shuffle_keeping, shuffle_of_eight}
+use Rattle.cesu8_bytes.specs.declared.packing.rows_of_eight.TheConstants.{ROWS}
+use Rattle.cesu8_bytes.proofs.vectors.Rows.{lowest, shuffled, stored_prefix, first_mask, row_mask, four_calls}
+use Rattle.cesu8_bytes.proofs.vectors.Tables.{same_list, same_rows, rows_by}
+
+-- ---- a shuffle by the lower halves of numbers
+
+abbrev low_halves : List ℕ → List ℕ
+low_halves row = zip2 bit_and row (replicate 16 0x0F)
+
+low_below : (row : List ℕ) → Each1 (λ j. j < 16) (low_halves row)
+low_below row =
+    Each1-zip2 bit_and (λ j. j < 16) row (replicate 16 0x0F) (Each2-splat (λ a b. bit_and a b < 16) row 16 0x0F
+    (Each1-all (λ a. bit_and a 0x0F < 16) (λ a. omega (arith, and_le_r a 0x0F)) row))
+
+-- Each of them is below 16,
+pub low_ok : (row : List ℕ) → length row ≡ 16 → SwzOk w8 16 16 0 (low_halves row)
+low_ok row long = SwzOk-from_below w8 16 1 16 0 (low_halves row) refl (omega (arith, length-zip2 bit_and row (replicate 16 0x0F) long)) (low_below row)
+
+-- and the lanes at these indices are picked.
+pub low_picked : (lanes row : List ℕ) → length row ≡ 16 → swz_l w8 16 lanes 0 (low_halves row) ≡ map (λ j. get_or lanes (j % 0x10) 0) row
+low_picked lanes row long =
+    shuffled lanes (low_halves row) (length-zip2 bit_and row (replicate 16 0x0F) long ∙ long) (low_below row)
+    ∙ ap (map (λ j. get_or lanes j 0)) (zip2_splat bit_and row 16 0x0F long)
+    ∙ map-map (λ j. get_or lanes j 0) (λ j. bit_and j 0x0F) row
+    ∙ (λ i. map (λ j. get_or lanes (and_mask j 4 i) 0) row)
+
+-- ---- what is kept of some bytes
+
+-- Where one of them is ill-formed, lanes 4 to 6 have the replacement character.
+abbrev HasReplacement : (ℕ → ℕ) → ℕ → Type 0
+HasReplacement lane ill_formed = 0 < ill_formed → map lane (4 ∷ 5 ∷ 6 ∷ []) ≡ 0xEF ∷ 0xBF ∷ 0xBD ∷ []
+
+some_set : (t : Bool) (m : ℕ) → t ≡ true → 0 < cond t 1 0 + 2 * m
+some_set true m is = omega arith
+some_set false m is = absurd (cc)
+
+kept_one : (g : ℕ → ℕ) (i : ℕ) (s d : Bool) (xs ys : List ℕ) → (d ≡ true → map g (4 ∷ 5 ∷ 6 ∷ []) ≡ 0xEF ∷ 0xBF ∷ 0xBD ∷ []) → map g xs ≡ ys →
+    map g (cond d (4 ∷ 5 ∷ 6 ∷ []) (cond s [] (i ∷ [])) ++ xs) ≡ written_for s d (g i) ++ ys
+kept_one g i s true xs ys r e = λ j. r refl j ++ e j
+kept_one g i true false xs ys r e = e
+kept_one g i false false xs ys r e = ap (λ l. g i ∷ l) e
+
+-- The lanes that are kept are what is written.
+kept_written : (g : ℕ → ℕ) (gone ill_formed : List Bool) (i : ℕ) → length ill_formed ≡ length gone → HasReplacement g (mask_l ill_formed) →
+    map g (kept_of (mask_l gone) (mask_l ill_formed) i (length gone)) ≡ written gone ill_formed (map g (range_with_len i (length gone)))
+kept_written g [] ill_formed i e r = refl
+kept_written g (s ∷ gone) [] i e r = absurd (omega arith)
+kept_written g (s ∷ gone) (d ∷ ill_formed) i e r =
+    let goes = lowest s (mask_l gone) in
+    let fails = lowest d (mask_l ill_formed) in
+    let here = λ (is : d ≡ true). r (some_set d (mask_l ill_formed) is) in
+    let behind = λ (some : 0 < mask_l ill_formed). r (omega (arith, some)) in
+    rw (goes.0, goes.1, fails.0, fails.1) (kept_one g i s d _ _ here (kept_written g gone ill_formed (i + 1) (omega arith) behind))
+
+-- ---- a row that keeps some lanes
+
+unfoldable pub is_short : (ℕ → List ℕ) → ℕ → ℕ → Bool
+is_short kept most set = leb (length (kept set)) most
+
+-- So many lanes at most are kept for each of 256 sets, where a look at them all says so.
+pub at_most : (kept : ℕ → List ℕ) (most : ℕ) → agree_below (is_short kept most) (λ _. true) 0x100 ≡ true →
+    (set : ℕ) → set < 0x100 → length (kept set) ≤ most
+unfolding is_short
+at_most kept most e set l = leb-true _ _ (agree_below_at (is_short kept most) (λ _. true) 0x100 set e l)
+
+module _ (n gone_set ill_formed_set most : ℕ) (row : List ℕ) (row_is : row ≡ shuffle_keeping (kept_of gone_set ill_formed_set 0 n))
+    (few : length (kept_of gone_set ill_formed_set 0 n) ≤ most) (fits : most ≤ 15) where
+  abbrev kept : List ℕ
+  kept = kept_of gone_set ill_formed_set 0 n
+
+  abbrev zeros : List ℕ
+  zeros = replicate (15 - length kept) 0
+
+  prefix_long : length (kept ++ zeros) ≡ 15
+  prefix_long = omega (arith, length-append kept zeros, length-replicate {A = ℕ} (15 - length kept) 0, few, fits)
+
+  -- The last number of a row is how many lanes are kept.
+  last_is : get_or row 15 0 ≡ length kept
+  last_is = ap (λ r. get_or r 15 0) row_is ∙ get_or_at (kept ++ zeros) (length kept) [] 0 15 prefix_long
+
+  pub end_of_row : get_or row 15 0 ≤ most
+  end_of_row = omega (arith, last_is, few)
+
+  module _ (out lanes : List ℕ) (at : ℕ) (lanes_long : length lanes ≡ 16) (room : at + 16 ≤ length out) where
+    abbrev lane : ℕ → ℕ
+    lane j = get_or lanes (j % 0x10) 0
+
+    -- After the lanes are stored, what is up to their end is what was there, and what is written.
+    pub stored_row : (gone ill_formed : List Bool) → length gone ≡ n → length ill_formed ≡ n → gone_set ≡ mask_l gone → ill_formed_set ≡ mask_l ill_formed →
+        map lane (range_with_len 0 n) ≡ chunk 0 n lanes → HasReplacement lane ill_formed_set →
+        take (at + get_or row 15 0) (put_chunk at out (map lane row)) ≡ take at out ++ written gone ill_formed (chunk 0 n lanes)
+    stored_row gone ill_formed g d gone_is ill_formed_is front replacement =
+        let padding = zeros ++ length kept ∷ [] in
+        let parts : row ≡ kept ++ padding = row_is ∙ append_assoc kept zeros (length kept ∷ []) in
+        let long : length kept + length padding ≡ 16 = omega (arith, prefix_long, length-append kept zeros, length-append zeros (length kept ∷ [])) in
+        let kept_is : map lane kept ≡ written gone ill_formed (chunk 0 n lanes) =
+        (λ i. map lane (kept_of (gone_is i) (ill_formed_is i) 0 (sym g i)))
+        ∙ kept_written lane gone ill_formed 0 (omega arith) (λ some. replacement (omega (arith, some)))
+        ∙ ap (λ m. written gone ill_formed (map lane (range_with_len 0 m))) g
+        ∙ ap (written gone ill_formed) front in
+        ap (λ v. take (at + get_or row 15 0) (put_chunk at out v)) (ap (map lane) parts ∙ map-append lane kept padding)
+        ∙ stored_prefix out (map lane kept) (map lane padding) at (at + get_or row 15 0)
+        (omega (arith, long, length-map kept lane, length-map padding lane)) (omega (arith, last_is, length-map kept lane))
+        ∙ ap (λ l. take at out ++ l) kept_is
+
+-- ---- eight bytes
+
+abbrev kept_of_eight : ℕ → List ℕ
+kept_of_eight gone = kept_of gone 0 0 8
+
+few_of_eight : (gone : ℕ) → gone < 0x100 → length (kept_of_eight gone) ≤ 8
+unfolding is_short
+few_of_eight = at_most kept_of_eight 8 refl
+
+module _ (row : List ℕ) (gone : ℕ) (small : gone < 0x100) (row_is : row ≡ shuffle_of_eight gone) where
+  -- the end of what a row packs
+  pub end_of_eight : get_or row 15 0 ≤ 8
+  end_of_eight = end_of_row 8 gone 0 8 row row_is (few_of_eight gone small) (omega arith)
+
+  pub stored_eight : (out lanes : List ℕ) (at : ℕ) → length lanes ≡ 16 → at + 16 ≤ length out → (tests : List Bool) → length tests ≡ 8 → gone ≡ mask_l tests →
+      take (at + get_or row 15 0) (put_chunk at out (map (λ j. get_or lanes (j % 0x10) 0) row))
+      ≡ take at out ++ written tests (replicate 8 false) (chunk 0 8 lanes)
+  stored_eight out lanes at lanes_long room tests long gone_is =
+      stored_row 8 gone 0 8 row row_is (few_of_eight gone small) (omega arith) out lanes at lanes_long room tests (replicate 8 false) long refl gone_is refl
+      (pick_l-range_with_len 0 lanes 0 8 (omega arith)) (λ some. absurd (omega (arith, some)))
+
+-- Row d of the table is that for the eight bytes that go.
+pub rows_are : (gone : ℕ) → gone < 0x100 → get_or ROWS gone [] ≡ shuffle_of_eight gone
+unfolding same_list same_rows
+rows_are = rows_by ROWS shuffle_of_eight refl
+
+-- ---- bytes in parts
+
+-- What is written for bytes is what is written for their front and for the rest.
+pub written_parts : (n : ℕ) (gone ill_formed : List Bool) (bytes : List ℕ) → length gone ≡ length ill_formed → length gone ≡ length bytes →
+    written gone ill_formed bytes ≡ written (take n gone) (take n ill_formed) (take n bytes) ++ written (drop n gone) (drop n ill_formed) (drop n bytes)
+written_parts zero gone ill_formed bytes e f = refl
+written_parts (suc n) [] ill_formed bytes e f = refl
+written_parts (suc n) (g ∷ gone) [] bytes e f = absurd (omega arith)
+written_parts (suc n) (g ∷ gone) (d ∷ ill_formed) [] e f = absurd (omega arith)
+written_parts (suc n) (g ∷ gone) (d ∷ ill_formed) (b ∷ bytes) e f =
+    let this = written_for g d b in
+    ap (λ l. this ++ l) (written_parts n gone ill_formed bytes (omega arith) (omega arith))
+    ∙ sym (append_assoc this (written (take n gone) (take n ill_formed) (take n bytes)) (written (drop n gone) (drop n ill_formed) (drop n bytes)))
+
+module _ (gone ill_formed : List Bool) (bytes : List ℕ) where
+  -- what is written for n bytes from a on, and for all from there on
+  abbrev pub part : ℕ → ℕ → List ℕ
+  part a n = written (chunk a n gone) (chunk a n ill_formed) (chunk a n bytes)
+
+  abbrev rest : ℕ → List ℕ
+  rest a = written (drop a gone) (drop a ill_formed) (drop a bytes)
+
+  module _ (long : ℕ) (g : length gone ≡ long) (d : length ill_formed ≡ long) (b : length bytes ≡ long) where
+    next : (a n : ℕ) → rest a ≡ part a n ++ rest (a + n)
+    next a n =
+        written_parts n (drop a gone) (drop a ill_formed) (drop a bytes)
+        (omega (arith, length-drop a gone, length-drop a ill_formed)) (omega (arith, length-drop a gone, length-drop a bytes))
+        ∙ rw (drop-drop n a gone, drop-drop n a ill_formed, drop-drop n a bytes) refl
+
+    last : (a n : ℕ) → a + n ≡ long → rest a ≡ part a n
+    last a n e = next a n ∙ rw (drop_all (a + n) gone (omega arith)) (append-nil (part a n))
+
+    -- What is written for all is what is written for each of four parts.
+    pub in_four : (n : ℕ) → 0 + n + n + n + n ≡ long → rest 0 ≡ part 0 n ++ (part (0 + n) n ++ (part (0 + n + n) n ++ part (0 + n + n + n) n))
+    in_four n e =
+        next 0 n ∙ ap (λ l. part 0 n ++ l) (next (0 + n) n ∙ ap (λ l. part (0 + n) n ++ l) (next (0 + n + n) n
+        ∙ ap (λ l. part (0 + n + n) n ++ l) (last (0 + n + n + n) n e)))
+
+    -- The same for two parts.
+    pub in_two : (n : ℕ) → 0 + n + n ≡ long → rest 0 ≡ part 0 n ++ part (0 + n) n
+    in_two n e = next 0 n ∙ ap (λ l. part 0 n ++ l) (last (0 + n) n e)
+
+-- ---- 32 bytes
+
+-- Lanes of a prefix are lanes of the whole.
+chunk_take : {X : Type 0} (a n m : ℕ) (xs : List X) → a + n ≤ m → chunk a n (take m xs) ≡ chunk a n xs
+chunk_take a n m xs le =
+    ap (λ k. chunk a n (take k xs)) (omega (arith, le)) ∙ ap (take n) (drop-take a (m - a) xs) ∙ take-take n (m - a) (drop a xs) (omega (arith, le))
+
+-- what stands behind x, with eight bytes written of which none is ill-formed
+abbrev AddsEight : (x y lanes : List ℕ) → ℕ → Type 0
+AddsEight x y lanes set = (tests : List Bool) → length tests ≡ 8 → set ≡ mask_l tests → y ≡ x ++ written tests (replicate 8 false) lanes
+
+module _ (tests : List Bool) (bytes : List ℕ) (t : 32 ≤ length tests) (b : length bytes ≡ 32) where
+  abbrev none : List Bool
+  none = replicate 32 false
+
+  abbrev eight : ℕ → List ℕ
+  eight a = part (take 32 tests) none bytes a 8
+
+  adds : (x y lanes : List ℕ) (a set : ℕ) → a + 8 ≤ 32 → lanes ≡ chunk a 8 bytes → set ≡ mask_l (chunk a 8 tests) →
+      AddsEight x y lanes set → y ≡ x ++ eight a
+  adds x y lanes a set le lanes_are set_is add =
+      let whole : chunk a 8 none ≡ replicate 8 false = ap (take 8) (drop-replicate a 32 false) ∙ take-replicate 8 (32 - a) false (omega arith) in
+      add (chunk a 8 tests) (length-chunk a 8 tests (omega arith)) set_is
+      ∙ (λ i. x ++ written (sym (chunk_take a 8 32 tests le) i) (sym whole i) (lanes_are i))
+
+  -- Four calls write 32 bytes.
+  pub stored_kept : (x0 x1 x2 x3 x4 v0 v1 v2 v3 : List ℕ) (set : ℕ) → set ≡ mask_l tests →
+      v0 ≡ chunk 0 8 bytes → v1 ≡ chunk 8 8 bytes → v2 ≡ chunk 16 8 bytes → v3 ≡ chunk 24 8 bytes →
+      AddsEight x0 x1 v0 (bit_and set 0xFF) → AddsEight x1 x2 v1 (bit_and (set / 2 ^ 8) 0xFF) →
+      AddsEight x2 x3 v2 (bit_and (set / 2 ^ 16) 0xFF) → AddsEight x3 x4 v3 (bit_and (set / 2 ^ 24) 0xFF) →
+      x4 ≡ x0 ++ written (take 32 tests) none bytes
+  stored_kept x0 x1 x2 x3 x4 v0 v1 v2 v3 set is is0 is1 is2 is3 add0 add1 add2 add3 =
+      let row = λ (a : ℕ) (le : a + 8 ≤ 32). row_mask a tests set (omega arith) is in
+      four_calls x0 x1 x2 x3 x4 (eight 0) (eight 8) (eight 16) (eight 24)
+      (adds x0 x1 v0 0 _ (omega arith) is0 (first_mask tests set (omega arith) is) add0)
+      (adds x1 x2 v1 8 _ (omega arith) is1 (row 8 (omega arith)) add1)
+      (adds x2 x3 v2 16 _ (omega arith) is2 (row 16 (omega arith)) add2)
+      (adds x3 x4 v3 24 _ (omega arith) is3 (row 24 (omega arith)) add3)
+      ∙ ap (λ l. x0 ++ l) (sym (in_four (take 32 tests) none bytes 32 (length-take-le 32 tests t) refl b 8 refl))

@@ -1,0 +1,69 @@
+//! Packs the lanes of a vector of which some go, by a shuffle for each eight.
+
+ghost use Rattle.std.specs.Prelude.{◌≡◌, List, Bool, ◌+◌, ◌%◌, ◌<◌, ◌≤◌, ◌++◌, false, length, map, take, replicate, slice_index};
+ghost use Rattle.std.specs.Simd.Lanes.{chunk, mask_l};
+ghost use Rattle.cesu8_bytes.specs.Packing.{written};
+
+mod rows_of_eight;
+
+use crate::BLOCK;
+use rows_of_eight::rows_of_eight;
+use std::simd::prelude::*;
+
+/// How many bytes are stored at once. The last of them may not be used.
+pub const STORED: usize = 16;
+
+/// How many bytes are half a block.
+const HALF: usize = BLOCK / 2;
+
+/// Stores those of 32 bytes that don't go, and returns their end. Bit `i` of the set tells whether
+/// byte `i` goes. Its bits above these tell nothing.
+#[inline(always)]
+pub fn store_kept(bytes: u8x32, gone: usize, out: &mut [u8], at: usize) -> usize
+    requires room { at + BLOCK + STORED ≤ length out.old }
+    ensures bytes { (tests : List Bool) → BLOCK ≤ length tests → gone ≡ mask_l tests
+        → take result out.new
+        ≡ take at out.old ++ written (take BLOCK tests) (replicate BLOCK false) bytes }
+    ensures end { (at ≤ result) × (result ≤ at + BLOCK) }
+    ensures len { length out.new ≡ length out.old }
+{
+    let first = bytes.extract::<0, HALF>();
+    let third = bytes.extract::<HALF, HALF>();
+    let at = store_eight(first, gone & 0xFF, out, at);
+    let at = store_eight(second_of(first), gone >> 8 & 0xFF, out, at);
+    let at = store_eight(third, gone >> 16 & 0xFF, out, at);
+    store_eight(second_of(third), gone >> 24 & 0xFF, out, at)
+}
+
+/// Stores those of eight bytes that don't go, by the set of those that do, and returns their end.
+#[inline(always)]
+fn store_eight(lanes: u8x16, gone: usize, out: &mut [u8], at: usize) -> usize
+    requires small { gone < 0x100 }
+    requires room { at + STORED ≤ length out.old }
+    ensures bytes { (tests : List Bool) → length tests ≡ 8 → gone ≡ mask_l tests
+        → take result out.new
+        ≡ take at out.old ++ written tests (replicate 8 false) (chunk 0 8 lanes) }
+    ensures end { (at ≤ result) × (result ≤ at + 8) }
+    ensures len { length out.new ≡ length out.old }
+{
+    let row = &rows_of_eight()[gone];
+    let packed = picked(lanes, u8x16::from_array(*row));
+    packed.copy_to_slice(&mut out[at..]);
+    at + row[15] as usize
+}
+
+/// Returns the upper half of some lanes, twice.
+#[inline(always)]
+pub fn second_of(lanes: u8x16) -> u8x16
+    ensures { result ≡ chunk 8 8 lanes ++ chunk 8 8 lanes }
+{
+    lanes.swizzle::<16>([8, 9, 10, 11, 12, 13, 14, 15, 8, 9, 10, 11, 12, 13, 14, 15])
+}
+
+/// Returns the lanes at the indices in the lower halves of a row's numbers.
+#[inline(always)]
+pub fn picked(lanes: u8x16, row: u8x16) -> u8x16
+    ensures { result ≡ map (λ j. slice_index lanes (j % 0x10)) row }
+{
+    lanes.swizzle_dyn_within::<16>(row & u8x16::splat(0x0F))
+}
