@@ -2,5 +2,6 @@
 pub mod CutUtf8
 pub mod EncodedChunk
 pub mod Joining
+pub mod PackedNulls
 pub mod PairWords
 pub mod JoinedText

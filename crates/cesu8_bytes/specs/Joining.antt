@@ -1,10 +1,12 @@
 -- Bytes that are joined: their surrogate pairs, and C0 80 in MUTF-8, become UTF-8, and the others
 -- stay.
-use Rattle.std.specs.Prelude.{IsTrue, ◌≡◌, ℕ, ◌+◌, ◌*◌, ◌<◌, ◌&&◌, ◌==◌, Bool, false, List, [], ◌∷◌, slice_index, ◌≤◌, ◌++◌, length, replicate}
+use Rattle.std.specs.Prelude.{IsTrue, ◌≡◌, ℕ, zero, suc, ◌+◌, ◌*◌, ◌<◌, ◌&&◌, ◌==◌, Bool, false, List, [], ◌∷◌, slice_index, ◌≤◌, ◌++◌, length, map, take, replicate}
 use Rattle.std.specs.List.{flat_map}
+use Rattle.std.specs.Simd.Lanes.{mask_l}
 use Rattle.cesu8_text.specs.Encoding.{Flavor, Cesu8, Mutf8, encoding, IsEncodedOtherwise}
 use Rattle.cesu8_text.specs.Text.{IsScalarValue, utf8_of}
 use Rattle.cesu8_text.specs.Patterns.{EndsPair, IsPair}
+use Rattle.cesu8_bytes.specs.declared.TheConstants.{BLOCK}
 use Rattle.cesu8_bytes.specs.declared.joining.pairs.TheConstants.{PAIR}
 
 -- A part of what is joined: a byte that stays, or a scalar value that is encoded otherwise than in
@@ -89,3 +91,14 @@ null_at Mutf8 a b = a == 0xC0 && b == 0x80
 -- The bytes begin with it.
 abbrev pub HasNull : Flavor → List ℕ → Type 0
 HasNull f bytes = IsTrue (null_at f (slice_index bytes 0) (slice_index bytes 1))
+
+-- Which of the first bytes lead the null character of MUTF-8.
+abbrev pub null_leads : ℕ → List ℕ → List Bool
+null_leads zero bytes = []
+null_leads (suc n) [] = []
+null_leads (suc n) (b ∷ bytes) = null_at Mutf8 b (slice_index bytes 0) ∷ null_leads n bytes
+
+-- The marks of a block are those of its bytes C0, and each of these leads a null character.
+pub record AreNullMarks (marks : ℕ) (bytes : List ℕ) : Type 0 where
+  pub marks_are : marks ≡ mask_l (null_leads BLOCK bytes)
+  pub leads_are : map (λ b. b == 0xC0) (take BLOCK bytes) ≡ null_leads BLOCK bytes

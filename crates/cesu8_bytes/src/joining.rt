@@ -3,12 +3,16 @@
 //! A block of bytes is copied whole, and a mask marks the bytes that may have to change. The caller
 //! tests whether the result is UTF-8, so the mask may mark any bytes: if it omits one that has to
 //! change, the result is not UTF-8.
+//!
+//! What is marked is joined one mark after another. Some blocks are joined at once: those of C0 80
+//! alone, those in which only C0 80 is marked, and surrogate pairs in a row.
 
 ghost use Rattle.std.specs.Prelude.{◌≡◌, ◌+◌, ◌<◌, ◌≤◌, ◌↔◌, length, take, drop, IsTrue, IfSome, IfNone};
 ghost use Rattle.cesu8_text.specs.Encoding.{Flavor as AnyFlavor, Mutf8};
 ghost use Rattle.cesu8_bytes.specs.Joining.{IsJoined, IsJoinedAfter, KeepsJoined, nulls, HasNull};
 
 mod buffer;
+mod nulls;
 pub mod pairs;
 
 use crate::BLOCK;
@@ -16,6 +20,9 @@ use crate::flavor::Flavor;
 use crate::implementation::class::InVectors;
 use buffer::Progress;
 pub use buffer::{BUFFER_LEN, Buffer, MOST_JOINED, MUST_FOLLOW, Step};
+use nulls::{
+    NULL, NULL_BITS, NULL_MARKS, are_null_marks, is_nulls, join_nulls, null_bits, pack_nulls,
+};
 pub use pairs::{PAIR, PAIR_READ, PAIR_UTF8, is_pair, utf8_of_pair};
 use pairs::{PAIR_BITS, PAIR_LEAD, PAIR_MARKS, join_pairs, pair_bits};
 use std::simd::prelude::*;
@@ -72,6 +79,8 @@ fn join_block<'a, F: Flavor>(at: Progress<'a>, stop: usize, buffer: &mut Buffer)
     }
     if left >= BLOCK && marks & NULL_MARKS == NULL_MARKS && is_nulls::<F>(at.rest) {
         join_nulls(at, buffer)
+    } else if left >= BLOCK && are_null_marks::<F>(at.rest, marks) {
+        pack_nulls(at, marks, buffer)
     } else if marks & PAIR_MARKS == PAIR_MARKS && is_pair(at.rest) {
         join_pairs(at, stop, buffer)
     } else {
@@ -182,64 +191,4 @@ fn join_changed<F: Flavor>(bytes: &[u8], written: usize, buffer: &mut Buffer) ->
     };
     buffer[written..written + PAIR_UTF8].copy_from_slice(&utf8);
     Some(Step { read, written: len })
-}
-
-/// Returns the bits that show whether the null character of MUTF-8 begins the bytes. If it does,
-/// they are `NULL_BITS`.
-#[inline(always)]
-fn null_bits<F: Flavor>(bytes: &[u8]) -> u64
-    requires { NULL ≤ length bytes.now }
-    ensures { result ≡ NULL_BITS ↔ HasNull F.flavor bytes.now }
-{
-    if F::has_long_null() {
-        u16::from_le_bytes([bytes[0], bytes[1]]) as u64
-    } else {
-        0
-    }
-}
-
-/// The bits of the null character of MUTF-8.
-const NULL_BITS: u64 = 0x80C0;
-
-/// How many bytes the null character of MUTF-8 has.
-const NULL: usize = 2;
-
-/// How many null characters of MUTF-8 a block has.
-const NULLS_IN_BLOCK: usize = BLOCK / NULL;
-
-/// The bytes of a block of null characters.
-const NULLS: [u8; BLOCK] = [
-    0xC0, 0x80, 0xC0, 0x80, 0xC0, 0x80, 0xC0, 0x80, 0xC0, 0x80, 0xC0, 0x80, 0xC0, 0x80, 0xC0, 0x80,
-    0xC0, 0x80, 0xC0, 0x80, 0xC0, 0x80, 0xC0, 0x80, 0xC0, 0x80, 0xC0, 0x80, 0xC0, 0x80, 0xC0, 0x80,
-];
-
-/// The marks of a block of null characters.
-const NULL_MARKS: u32 = 0x5555_5555;
-
-/// Returns whether a block of null characters of MUTF-8 begins the bytes.
-#[inline(always)]
-fn is_nulls<F: Flavor>(bytes: &[u8]) -> bool
-    requires { BLOCK ≤ length bytes.now }
-    ensures { IsTrue result ↔ (F.flavor ≡ Mutf8) × (take BLOCK bytes.now ≡ nulls) }
-{
-    let prefix = &bytes[..BLOCK];
-    F::has_long_null() && prefix == NULLS.as_slice()
-}
-
-/// Joins a block of null characters of MUTF-8.
-#[inline(always)]
-fn join_nulls<'a>(at: Progress<'a>, buffer: &mut Buffer) -> Progress<'a>
-    requires nulls { take BLOCK at.rest.now ≡ nulls }
-    requires long { BLOCK ≤ length at.rest.now }
-    requires room { at.written + NULLS_IN_BLOCK ≤ BUFFER_LEN }
-    ensures rest { length result.rest.now + BLOCK ≡ length at.entry.rest.now }
-    ensures written { result.written ≡ at.entry.written + NULLS_IN_BLOCK }
-    ensures joined { KeepsJoined Mutf8 at.entry.rest.now (take at.entry.written buffer.old)
-        result.rest.now (take result.written buffer.new) }
-{
-    buffer[at.written..at.written + NULLS_IN_BLOCK].copy_from_slice(&[0; NULLS_IN_BLOCK]);
-    Progress {
-        rest: &at.rest[BLOCK..],
-        written: at.written + NULLS_IN_BLOCK,
-    }
 }

@@ -87,6 +87,17 @@ fn reads_pieces_about_the_ends_of_windows(rt: HostRuntime) -> Result<(), Fail> {
     Ok(())
 }
 
+/// U+0000 in its long form among other characters. Each offset of a block is one where it begins,
+/// since this has eleven bytes.
+const AMONG_NULLS: &[u8] = b"\xC0\x80a\xC0\x80\xC0\x80\xC3\xA9b\x7F";
+
+/// Each piece, and the first byte of U+0000 alone, at each place of a block among these.
+#[test]
+fn reads_pieces_among_nulls(rt: HostRuntime) -> Result<(), Fail> {
+    expect_each(rt.alloc(), AMONG_NULLS, 420, 64..97)?;
+    Ok(expect_at(rt.alloc(), AMONG_NULLS, 420, 64..97, b"\xC0")?)
+}
+
 /// Each byte about the end of a block, in some fills.
 fn expect_bytes(alloc: Global, fills: &[&[u8]]) -> Result<(), Difference> {
     for fill in fills {

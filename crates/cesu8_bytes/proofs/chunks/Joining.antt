@@ -30,7 +30,7 @@ joined_append f bytes out more written first second = record {
 }
 
 -- Nothing is joined to nothing,
-joined_nothing : (f : Flavor) → IsJoined f [] []
+pub joined_nothing : (f : Flavor) → IsJoined f [] []
 joined_nothing f = record { parts = []; are_parts = tt; bytes_are = refl; out_is = refl }
 
 -- and bytes to themselves.
@@ -59,7 +59,7 @@ joined_changes f bytes m n fewer found (longer otherwise _ _) = record {
 }
 
 -- A step joins the next bytes.
-more_joined : (f : Flavor) (next rest out after written new : List ℕ) → rest ≡ next ++ after → new ≡ out ++ written →
+pub more_joined : (f : Flavor) (next rest out after written new : List ℕ) → rest ≡ next ++ after → new ≡ out ++ written →
     IsJoined f next written → KeepsJoined f rest out after new
 more_joined f next rest out after written new rest_is new_is joined bytes so_far = record {
   prefix = so_far.prefix ++ next;

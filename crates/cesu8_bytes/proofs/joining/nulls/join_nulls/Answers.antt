@@ -1,7 +1,7 @@
 use Rattle.std.proofs.Common.{◌++◌, ◌∙◌, ap, refl, arith, length, take}
 use Rattle.std.proofs.lemmas.List.{take_rest}
 use Rattle.cesu8_bytes.proofs.chunks.Joining.{keeps_nulls, written_whole}
-use Rattle.cesu8_bytes.proofs.joining.join_nulls.Goals as goal
+use Rattle.cesu8_bytes.proofs.joining.nulls.join_nulls.Goals as goal
 
 pub returns-clause-joined : goal.returns-clause-joined
 returns-clause-joined c = rw take_rest (keeps_nulls c.args.at.rest.now _ _ _ c.requires.nulls refl
