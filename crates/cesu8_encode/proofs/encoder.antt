@@ -3,6 +3,7 @@ pub mod Runs
 pub mod BytesInTurn
 pub mod ComputedPairs
 pub mod RecodedText
+pub mod UnchangedBytes
 pub mod EncodedLanes
 pub mod EncodedBlocks
 pub mod EncodedRows

@@ -3,8 +3,10 @@
 //! A byte becomes one byte or two, as the two before it, itself and the next decide. Loads that
 //! begin a byte apart have these four in one lane each. Of a row of eight bytes, sixteen lanes are
 //! packed by one shuffle and stored, and the next row overwrites those that it does not need.
+//!
+//! A block within a text is copied where no byte of it changes, nor one of the two before it.
 
-ghost use Rattle.std.specs.Prelude.{◌≡◌, ℕ, List, Bool, ◌+◌, ◌*◌, ◌<◌, ◌≤◌, ◌++◌, length, take};
+ghost use Rattle.std.specs.Prelude.{◌≡◌, ℕ, List, Bool, ◌+◌, ◌*◌, ◌<◌, ◌≤◌, ◌++◌, length, take, IsTrue};
 ghost use Rattle.std.specs.Simd.Lanes.{chunk, zip2, mask_l};
 ghost use Rattle.cesu8_text.specs.Encoding.{Flavor as AnyFlavor};
 ghost use Rattle.cesu8_encode.specs.EncodedOffsets.{six_bits, packed, encoded_bytes, AreLanes};
@@ -12,7 +14,8 @@ ghost use Rattle.cesu8_encode.specs.EncodedOffsets.{six_bits, packed, encoded_by
 use super::rows::rows;
 use cesu8_bytes::BLOCK;
 use cesu8_bytes::flavor::{Flavor, nulls};
-use cesu8_bytes::implementation::class::{AtLeastF0, mask};
+use cesu8_bytes::implementation::class::{AtLeastF0, Either, mask};
+use cesu8_bytes::implementation::short::any_in_ends;
 use cesu8_bytes::writers::put;
 use std::simd::prelude::*;
 
@@ -56,6 +59,47 @@ pub fn write_block<F: Flavor>(
     let mut stored = [0; BLOCK_STORED];
     let len = store_block(&block, count, &mut stored, 0);
     put(&stored[..len], out, end)
+}
+
+/// Writes what the whole block at an offset becomes, and returns its end.
+///
+/// A block is copied if no byte of it changes. Most text has runs of such blocks.
+#[inline(always)]
+pub fn copy_or_write_block<F: Flavor>(window: &[u8], at: usize, out: &mut [u8], end: usize) -> usize
+    requires window { at + BLOCK_READ ≤ length window.now }
+    requires room { end + length (encoded_bytes F.flavor window.now at BLOCK) ≤ length out.old }
+    ensures bytes { take result out.new ≡ take end out.old ++ encoded_bytes F.flavor window.now at BLOCK }
+    ensures end { result ≡ end + length (encoded_bytes F.flavor window.now at BLOCK) }
+    ensures len { length out.new ≡ length out.old }
+{
+    if is_unchanged::<F>(window, at) {
+        return copy_block(window, at + READ_BEFORE, out, end);
+    }
+    write_block::<F>(window, at, BLOCK, out, end)
+}
+
+/// Copies the block behind the first `from` bytes of a window, and returns its end.
+#[inline(always)]
+fn copy_block(window: &[u8], from: usize, out: &mut [u8], end: usize) -> usize
+    requires window { from + BLOCK ≤ length window.now }
+    requires room { end + BLOCK ≤ length out.old }
+    ensures bytes { take result out.new ≡ take end out.old ++ chunk from BLOCK window.now }
+    ensures end { result ≡ end + BLOCK }
+    ensures len { length out.new ≡ length out.old }
+{
+    u8x32::from_slice(&window[from..]).copy_to_slice(&mut out[end..]);
+    end + BLOCK
+}
+
+/// Returns whether the block at an offset stays as it is. The byte after it decides nothing then.
+#[inline(always)]
+fn is_unchanged<F: Flavor>(window: &[u8], at: usize) -> bool
+    requires { at + BLOCK_READ ≤ length window.now }
+    ensures { IsTrue result
+        → encoded_bytes F.flavor window.now at BLOCK ≡ chunk (at + READ_BEFORE) BLOCK window.now }
+{
+    let near = &window[at..at + READ_BEFORE + BLOCK];
+    !any_in_ends::<Either<F::Null, AtLeastF0>, BLOCK>(near)
 }
 
 /// What the bytes of a block become. A byte becomes its lane of `seconds`, and if its bit of

@@ -9,7 +9,7 @@ ghost use Rattle.cesu8_text.specs.Encoding.{encoding};
 ghost use Rattle.cesu8_encode.specs.Encoded.{WritesEncoding};
 ghost use Rattle.cesu8_encode.specs.EncodedOffsets.{recoded, IsWritten, Writes};
 
-use super::blocks::{BLOCK_READ, READ_AFTER, READ_BEFORE, write_block};
+use super::blocks::{BLOCK_READ, READ_AFTER, READ_BEFORE, copy_or_write_block, write_block};
 use cesu8_bytes::BLOCK;
 use cesu8_bytes::flavor::Flavor;
 
@@ -64,7 +64,7 @@ fn write_middle<F: Flavor>(text: &[u8], blocks: usize, out: &mut [u8], start: us
 {
     let mut end = start;
     for i in 1..blocks {
-        end = write_block::<F>(text, BLOCK * i - READ_BEFORE, BLOCK, out, end);
+        end = copy_or_write_block::<F>(text, BLOCK * i - READ_BEFORE, out, end);
     }
     end
 }

@@ -42,7 +42,7 @@ by_offsets f x y (b ∷ bytes) =
 
 -- ---- what is written for one byte
 
-or_zero : (a : ℕ) → bit_or a 0 ≡ a
+pub or_zero : (a : ℕ) → bit_or a 0 ≡ a
 or_zero a = omega (arith, or_add_and a 0, and_zero_r a)
 
 -- A byte with no lead byte of four near it is written as its short form.
