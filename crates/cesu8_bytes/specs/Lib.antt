@@ -2,6 +2,5 @@ pub mod Kernels
 pub mod Joining
 pub mod TextChunks
 pub mod Puts
-pub mod Prefixes
 pub mod FirstLooks
 pub mod Packing

@@ -1,49 +1,116 @@
 //! The order of texts by their UTF-16 code units, without encoding them.
 //!
 //! UTF-8 compares as scalar values do. In UTF-16 a surrogate pair is below U+E000 to U+FFFF, whose
-//! lead bytes are EE and EF (hexadecimal). So these have to come after the lead bytes of four.
+//! lead bytes are EE and EF (hexadecimal). So these have to come after the lead bytes of four. Only
+//! the first two bytes that differ decide, or the lengths if none do.
 
-ghost use Rattle.std.specs.Prelude.{◌≡◌, map};
+ghost use Rattle.std.specs.Prelude.{◌≡◌, ◌≢◌, ℕ, ◌+◌, ◌<◌, ◌≤◌, length, slice_index};
 ghost use Rattle.std.specs.Cmp.Lexicographic.{slice_cmp};
 ghost use Rattle.std.specs.Ordering.{nat_cmp};
 ghost use Rattle.std.specs.Str.{chars};
 ghost use Rattle.cesu8_text.specs.Order.{utf16_rank};
 ghost use Rattle.cesu8_text.specs.Utf16.{units};
-ghost use Rattle.cesu8_bytes.specs.Prefixes.{FollowSamePrefix};
 
+use crate::implementation::class::LANES;
 use std::cmp::Ordering;
+use std::simd::prelude::*;
 
 /// Compares two texts by their UTF-16 code units.
 pub fn compare_as_utf16(text: &str, other: &str) -> Ordering
     ensures { result ≡ slice_cmp nat_cmp (units (chars text.now)) (units (chars other.now)) }
 {
-    let (rest, other_rest) = behind_equal_words(text.as_bytes(), other.as_bytes());
-    rest.iter()
-        .map(|byte| rank(*byte))
-        .cmp(other_rest.iter().map(|byte| rank(*byte)))
-}
-
-/// Returns what follows the equal words in front of some bytes and others.
-fn behind_equal_words<'a, 'b>(bytes: &'a [u8], other: &'b [u8]) -> (&'a [u8], &'b [u8])
-    ensures { FollowSamePrefix bytes.now other.now result.0.now result.1.now }
-{
-    let mut rest = bytes;
-    let mut other_rest = other;
-    while let (Some((word, behind)), Some((other_word, other_behind))) = (
-        rest.split_first_chunk::<8>(),
-        other_rest.split_first_chunk::<8>(),
-    ) {
-        if u64::from_le_bytes(*word) != u64::from_le_bytes(*other_word) {
-            break;
-        }
-        rest = behind;
-        other_rest = other_behind;
+    let bytes = text.as_bytes();
+    let other_bytes = other.as_bytes();
+    let len = bytes.len().min(other_bytes.len());
+    let offset = first_difference(bytes, other_bytes, len);
+    if offset < len {
+        rank(bytes[offset]).cmp(&rank(other_bytes[offset]))
+    } else {
+        bytes.len().cmp(&other_bytes.len())
     }
-    (rest, other_rest)
 }
 
-/// Returns a byte of UTF-8 as a number, so that these compare as UTF-16 code units do. It is
-/// inlined, since it is called for each byte.
+/// Returns the offset of the first byte that differs, or the length up to which it looks.
+#[inline(always)]
+fn first_difference(bytes: &[u8], other: &[u8], len: usize) -> usize
+    requires { (len ≤ length bytes.now) × (len ≤ length other.now) }
+    ensures within { result ≤ len }
+    ensures same { (i : ℕ) → i < result → slice_index bytes.now i ≡ slice_index other.now i }
+    ensures end { result < len → slice_index bytes.now result ≢ slice_index other.now result }
+{
+    if len < 8 {
+        difference_by_bytes(bytes, other, len)
+    } else if len < 16 {
+        difference_by::<8>(bytes, other, len)
+    } else {
+        difference_by::<16>(bytes, other, len)
+    }
+}
+
+/// Returns the offset of the first byte that differs, or the length up to which it looks, byte by
+/// byte. For fewer than eight bytes the choice of a vector would cost more.
+#[inline(always)]
+fn difference_by_bytes(bytes: &[u8], other: &[u8], len: usize) -> usize
+    requires { (len ≤ length bytes.now) × (len ≤ length other.now) }
+    ensures within { result ≤ len }
+    ensures same { (i : ℕ) → i < result → slice_index bytes.now i ≡ slice_index other.now i }
+    ensures end { result < len → slice_index bytes.now result ≢ slice_index other.now result }
+{
+    let mut offset = 0;
+    while offset < len {
+        if bytes[offset] != other[offset] {
+            return offset;
+        }
+        offset += 1;
+    }
+    len
+}
+
+/// Returns the offset of the first byte that differs, or the length up to which it looks, by
+/// vectors of so many bytes. The last one ends at that length, and may overlap the one before.
+#[inline(always)]
+fn difference_by<const N: usize>(bytes: &[u8], other: &[u8], len: usize) -> usize
+    requires lanes { (0 < N) × (N ≤ LANES) × (N ≤ len) }
+    requires long { (len ≤ length bytes.now) × (len ≤ length other.now) }
+    ensures within { result ≤ len }
+    ensures same { (i : ℕ) → i < result → slice_index bytes.now i ≡ slice_index other.now i }
+    ensures end { result < len → slice_index bytes.now result ≢ slice_index other.now result }
+{
+    let last = len - N;
+    let mut offset = 0;
+    while offset < last {
+        let same = same_in_front::<N>(bytes, other, offset);
+        if same < N {
+            return offset + same;
+        }
+        offset += N;
+    }
+    last + same_in_front::<N>(bytes, other, last)
+}
+
+/// Returns how many of the bytes of a vector at an offset are the same, up to the first that
+/// differs.
+#[inline(always)]
+fn same_in_front<const N: usize>(bytes: &[u8], other: &[u8], offset: usize) -> usize
+    requires lanes { N ≤ LANES }
+    requires long { (offset + N ≤ length bytes.now) × (offset + N ≤ length other.now) }
+    ensures within { result ≤ N }
+    ensures same { (i : ℕ) → i < result
+        → slice_index bytes.now (offset + i) ≡ slice_index other.now (offset + i) }
+    ensures end { result < N
+        → slice_index bytes.now (offset + result) ≢ slice_index other.now (offset + result) }
+{
+    let lanes: Simd<u8, N> = Simd::from_slice(&bytes[offset..]);
+    let other_lanes: Simd<u8, N> = Simd::from_slice(&other[offset..]);
+    let marks = lanes.simd_ne(other_lanes).to_bitmask();
+    if marks == 0 {
+        N
+    } else {
+        marks.trailing_zeros() as usize
+    }
+}
+
+/// Returns a byte of UTF-8 as a number, so that these compare as UTF-16 code units do.
 #[inline(always)]
 fn rank(byte: u8) -> u8
     ensures { result ≡ utf16_rank byte }

@@ -1,26 +1,23 @@
--- Lists behind equal prefixes.
-use Rattle.std.proofs.Common.{◌≡◌, ℕ, List, [], ◌∷◌, ◌++◌, map, take, drop, length, get_or, append_assoc, Equal, refl, sym, ap, ◌∙◌, ◌+◌, ◌<◌, ◌≤◌, ⊎_elim, arith, w8, w64, Fits}
-use Rattle.std.specs.Int.{from_le_bytes, to_le_bytes}
-use Rattle.std.specs.Ordering.{nat_cmp}
+-- What the first difference of two lists tells, and what vectors tell of it.
+use Rattle.std.proofs.Common.{◌≡◌, ◌≢◌, ℕ, Bool, false, not, cond, List, [], ◌∷◌, ◌++◌, map, take, length, get_or, eqb, min, zero, suc, Less, Equal, Greater, refl, sym, ap, ◌∙◌, ◌+◌, ◌<◌, ◌≤◌, ◌^◌, ◌%◌, ◌/◌, ◌*◌, ◌-◌, subst, ◌⊎◌, inl, inr, ⊎_elim, arith, w8, Fits}
+use Rattle.std.specs.List.{prefix_len, All}
+use Rattle.std.specs.Ordering.{nat_cmp, ordering_then}
 use Rattle.std.specs.Cmp.{nat_cmp_is}
 use Rattle.std.specs.Cmp.Lexicographic.{slice_cmp}
+use Rattle.std.specs.Str.{chars, IsUtf8}
 use Rattle.std.proofs.Math.ListN.{get_or-eq_default}
-use Rattle.std.proofs.lemmas.Bool.{cases_lt}
-use Rattle.std.proofs.lemmas.List.{get_or-take, get_or-append-add, length-take, map-append, take-append-drop}
-use Rattle.std.proofs.lemmas.Nat.{le_bytes_8}
-use Rattle.cesu8_bytes.specs.Prefixes.{FollowSamePrefix}
-
--- What follows equal prefixes decides how lists compare.
-compare_behind : (prefix xs ys : List ℕ) → slice_cmp nat_cmp (prefix ++ xs) (prefix ++ ys) ≡ slice_cmp nat_cmp xs ys
-compare_behind [] xs ys = refl
-compare_behind (x ∷ prefix) xs ys = rw (sym (nat_cmp_is x x Equal refl)) (compare_behind prefix xs ys)
-
--- So it does after a function of each element.
-pub compare_mapped : (f : ℕ → ℕ) (bytes other rest other_rest : List ℕ) → FollowSamePrefix bytes other rest other_rest →
-    slice_cmp nat_cmp (map f rest) (map f other_rest) ≡ slice_cmp nat_cmp (map f bytes) (map f other)
-compare_mapped f bytes other rest other_rest follow =
-    rw (follow.bytes_are, follow.other_is, map-append f follow.prefix rest, map-append f follow.prefix other_rest)
-    (sym (compare_behind (map f follow.prefix) (map f rest) (map f other_rest)))
+use Rattle.std.proofs.lemmas.Bool.{cases_lt, cases_order, not-true, not-false, eqb-true, eqb-false, eq-eqb, ne_eqb}
+use Rattle.std.proofs.lemmas.Bool.Decides.{nat_tests}
+use Rattle.std.proofs.lemmas.List.{get_or-take, get_or-append-add, length-take, map-id}
+use Rattle.std.proofs.lemmas.List.Elements.{All-nil, All-cons, All-append, All-get_or}
+use Rattle.std.proofs.lemmas.List.Sums.{prefix_len-le-length, prefix_len_passes, prefix_len_stops}
+use Rattle.std.proofs.lemmas.Simd.{length-chunk, get_or-chunk, length-zip2, get_or-zip2, tops_compared, mask_l-mod, first_set_mask_l}
+use lib.Count.{count_trailing_zeros}
+use lib.Lanes.{chunk, zip2, mask_l, top}
+use Rattle.cesu8_text.specs.Order.{utf16_rank}
+use Rattle.cesu8_text.specs.Text.{IsText, utf8, utf8_of}
+use Rattle.cesu8_text.proofs.StdUtf8.{IsUtf8Of_chars}
+use Rattle.cesu8_text.proofs.text.Shapes.{Shape, one, two, three, pair, shape, utf8_of_one, utf8_of_two, utf8_of_three, utf8_of_pair}
 
 -- Where bytes fit, those of a word behind a prefix do.
 pub word_fits : (bytes prefix rest word : List ℕ) → ((i : ℕ) → Fits w8 (get_or bytes i 0)) → bytes ≡ prefix ++ rest → word ≡ take 8 rest →
@@ -31,26 +28,148 @@ word_fits bytes prefix rest word fits bytes_are word_is i = rw word_is (⊎_elim
     (λ (l : 8 ≤ i). omega (arith, get_or-eq_default (take 8 rest) 0 {n = i} (omega (arith, length-take 8 rest))))
     (cases_lt i 8))
 
--- Words of eight bytes that are equal numbers are equal bytes.
-pub same_word : (word other : List ℕ) (n m : ℕ) → length word ≡ 8 → length other ≡ 8 →
-    ((i : ℕ) → get_or word i 0 < 0x100) → ((i : ℕ) → get_or other i 0 < 0x100) →
-    n ≡ from_le_bytes w64 word → m ≡ from_le_bytes w64 other → n ≡ m → word ≡ other
-same_word word other n m long other_long fits other_fits n_is m_is same =
-    sym (le_bytes_8 word n long fits n_is) ∙ ap (to_le_bytes w64) same
-    ∙ le_bytes_8 other m other_long other_fits m_is
-
--- Such a word lengthens the prefix.
-pub next_word : (bytes other rest other_rest word other_word behind other_behind : List ℕ) → FollowSamePrefix bytes other rest other_rest →
-    word ≡ take 8 rest → behind ≡ drop 8 rest → other_word ≡ take 8 other_rest → other_behind ≡ drop 8 other_rest → word ≡ other_word →
-    FollowSamePrefix bytes other behind other_behind
-next_word bytes other rest other_rest word other_word behind other_behind follow word_is behind_is other_word_is other_behind_is same =
-    record {
-      prefix = follow.prefix ++ word;
-      bytes_are = follow.bytes_are ∙ longer rest word behind word_is behind_is;
-      other_is = follow.other_is ∙ longer other_rest other_word other_behind other_word_is other_behind_is
-          ∙ ap (λ w. (follow.prefix ++ w) ++ other_behind) (sym same);
-    }
+-- The first elements that differ decide how lists compare, if the function of them differs too.
+pub compare_at : (f : ℕ → ℕ) (xs ys : List ℕ) (i : ℕ) → ((j : ℕ) → j < i → get_or xs j 0 ≡ get_or ys j 0) →
+    i < length xs → i < length ys → f (get_or xs i 0) ≢ f (get_or ys i 0) →
+    nat_cmp (f (get_or xs i 0)) (f (get_or ys i 0)) ≡ slice_cmp nat_cmp (map f xs) (map f ys)
+compare_at f [] ys i same long other_long differ = absurd (omega arith)
+compare_at f (x ∷ xs) [] i same long other_long differ = absurd (omega arith)
+compare_at f (x ∷ xs) (y ∷ ys) zero same long other_long differ = by (cases_order (f x) (f y))
   where
-    longer : (xs w later : List ℕ) → w ≡ take 8 xs → later ≡ drop 8 xs → follow.prefix ++ xs ≡ (follow.prefix ++ w) ++ later
-    longer xs w later w_is later_is =
-        rw (w_is, later_is, append_assoc follow.prefix (take 8 xs) (drop 8 xs), take-append-drop 8 xs) refl
+    by : (f x ≡ f y) ⊎ ((f x < f y) ⊎ (f y < f x)) →
+        nat_cmp (f x) (f y) ≡ ordering_then (nat_cmp (f x) (f y)) (slice_cmp nat_cmp (map f xs) (map f ys))
+    by (inl equal) = absurd (differ equal)
+    by (inr (inl less)) = rw (sym (nat_cmp_is (f x) (f y) Less less)) refl
+    by (inr (inr greater)) = rw (sym (nat_cmp_is (f x) (f y) Greater greater)) refl
+compare_at f (x ∷ xs) (y ∷ ys) (suc i) same long other_long differ =
+    compare_at f xs ys i (λ j before. same (suc j) (omega arith)) (omega arith) (omega arith) differ
+    ∙ ap (λ o. ordering_then o (slice_cmp nat_cmp (map f xs) (map f ys))) (nat_cmp_is (f x) (f y) Equal (ap f (same 0 (omega arith))))
+
+-- If there are none, the lengths decide.
+pub compare_lengths : (f : ℕ → ℕ) (xs ys : List ℕ) (i : ℕ) → ((j : ℕ) → j < i → get_or xs j 0 ≡ get_or ys j 0) →
+    (length xs ≤ i) ⊎ (length ys ≤ i) →
+    nat_cmp (length xs) (length ys) ≡ slice_cmp nat_cmp (map f xs) (map f ys)
+compare_lengths f [] [] i same ended = refl
+compare_lengths f [] (y ∷ ys) i same ended = sym (nat_cmp_is 0 (suc (length ys)) Less (omega arith))
+compare_lengths f (x ∷ xs) [] i same ended = sym (nat_cmp_is (suc (length xs)) 0 Greater (omega arith))
+compare_lengths f (x ∷ xs) (y ∷ ys) zero same ended = absurd (⊎_elim (λ (e : suc (length xs) ≤ 0). omega arith) (λ (e : suc (length ys) ≤ 0). omega arith) ended)
+compare_lengths f (x ∷ xs) (y ∷ ys) (suc i) same ended =
+    longer
+    ∙ compare_lengths f xs ys i (λ j before. same (suc j) (omega arith))
+    (⊎_elim (λ (e : suc (length xs) ≤ suc i). inl (omega arith)) (λ (e : suc (length ys) ≤ suc i). inr (omega arith)) ended)
+    ∙ ap (λ o. ordering_then o (slice_cmp nat_cmp (map f xs) (map f ys))) (nat_cmp_is (f x) (f y) Equal (ap f (same 0 (omega arith))))
+  where
+    longer : nat_cmp (suc (length xs)) (suc (length ys)) ≡ nat_cmp (length xs) (length ys)
+    longer = grind (arith, nat_tests)
+
+-- Up to the length of the shorter list one has ended.
+pub ended : (n m least i : ℕ) → least ≡ min n m → least ≤ i → (n ≤ i) ⊎ (m ≤ i)
+ended n m least i is reached =
+    ⊎_elim (λ (less : n < m). inl (omega (arith, is, reached, less))) (λ (more : m ≤ n). inr (omega (arith, is, reached, more))) (cases_lt n m)
+
+-- The lanes in which two vectors differ.
+abbrev pub differ : ℕ → ℕ → List ℕ → List ℕ → List Bool
+differ at n xs ys = zip2 (λ a b. not (eqb a b)) (chunk at n xs) (chunk at n ys)
+
+module _ (at n : ℕ) (xs ys : List ℕ) (long : at + n ≤ length xs) (other_long : at + n ≤ length ys) where
+  differ_long : length (differ at n xs ys) ≡ n
+  differ_long =
+      length-zip2 (λ a b. not (eqb a b)) (chunk at n xs) (chunk at n ys) (length-chunk at n xs long ∙ sym (length-chunk at n ys other_long))
+      ∙ length-chunk at n xs long
+
+  differ_at : (i : ℕ) → i < n → get_or (differ at n xs ys) i false ≡ not (eqb (get_or xs (at + i) 0) (get_or ys (at + i) 0))
+  differ_at i inside =
+      get_or-zip2 (λ a b. not (eqb a b)) (chunk at n xs) (chunk at n ys) i 0 0 false
+      (omega (arith, inside, length-chunk at n xs long)) (omega (arith, inside, length-chunk at n ys other_long))
+      ∙ ap (λ a. not (eqb a (get_or (chunk at n ys) i 0))) (get_or-chunk at n xs i 0 inside)
+      ∙ ap (λ b. not (eqb (get_or xs (at + i) 0) b)) (get_or-chunk at n ys i 0 inside)
+
+  -- The lanes before the first such one are the same,
+  pub same_before : (run : ℕ) → run ≡ prefix_len (λ b. not b) (differ at n xs ys) → (i : ℕ) → i < run →
+      get_or xs (at + i) 0 ≡ get_or ys (at + i) 0
+  same_before run is i before =
+      let inside : i < n = omega (arith, before, is, prefix_len-le-length (λ b. not b) (differ at n xs ys), differ_long) in
+      eqb-true _ _ (not-false _ (sym (differ_at i inside)
+      ∙ not-true _ (prefix_len_passes (λ b. not b) (differ at n xs ys) i false (omega (arith, before, is)))))
+
+  -- and that one differs.
+  pub differs_there : (run : ℕ) → run ≡ prefix_len (λ b. not b) (differ at n xs ys) → run < n →
+      get_or xs (at + run) 0 ≢ get_or ys (at + run) 0
+  differs_there run is inside =
+      eqb-false _ _ (not-true _ (sym (differ_at run inside) ∙ ap (λ k. get_or (differ at n xs ys) k false) is
+      ∙ not-false _ (prefix_len_stops (λ b. not b) (differ at n xs ys) false (omega (arith, inside, is, differ_long)))))
+
+  pub run_within : (run : ℕ) → run ≡ prefix_len (λ b. not b) (differ at n xs ys) → run ≤ n
+  run_within run is = omega (arith, is, prefix_len-le-length (λ b. not b) (differ at n xs ys), differ_long)
+
+  abbrev pub marks : ℕ
+  marks = mask_l (map (top 7) (zip2 (λ a b. cond (not (eqb a b)) 255 0) (chunk at n xs) (chunk at n ys))) % 2 ^ 64
+
+  -- The mask that a comparison of vectors gives has them as its bits,
+  marks_are : n ≤ 64 → marks ≡ mask_l (differ at n xs ys)
+  marks_are few =
+      ap (λ ms. mask_l ms % 2 ^ 64) (tops_compared w8 (λ a b. not (eqb a b)) (chunk at n xs) (chunk at n ys))
+      ∙ mask_l-mod (differ at n xs ys) 64 (omega (arith, few, differ_long))
+
+  first_of_marks : n ≤ 64 → cond (eqb marks 0) n (count_trailing_zeros 64 marks) ≡ prefix_len (λ b. not b) (differ at n xs ys)
+  first_of_marks few =
+      ap (λ m. cond (eqb m 0) n (count_trailing_zeros 64 m)) (marks_are few ∙ ap mask_l (sym (map-id (differ at n xs ys))))
+      ∙ first_set_mask_l (λ (b : Bool). b) (differ at n xs ys) n differ_long few
+
+  -- so where it is 0, all lanes are the same,
+  pub all_same : n ≤ 64 → marks ≡ 0 → n ≡ prefix_len (λ b. not b) (differ at n xs ys)
+  all_same few none =
+      ap (λ t. cond t n (count_trailing_zeros 64 marks)) (sym (eq-eqb marks 0 none)) ∙ first_of_marks few
+
+  -- and else its first bit tells the first one that differs.
+  pub first_bit : n ≤ 64 → (marks ≡ 0 → ⊥) → count_trailing_zeros 64 marks ≡ prefix_len (λ b. not b) (differ at n xs ys)
+  first_bit few some =
+      ap (λ t. cond t n (count_trailing_zeros 64 marks)) (sym (ne_eqb marks 0 some)) ∙ first_of_marks few
+
+-- Where two lists are the same up to an index, and from one that is no greater, they are both.
+pub same_further : (xs ys : List ℕ) (known at more : ℕ) → at ≤ known → ((i : ℕ) → i < known → get_or xs i 0 ≡ get_or ys i 0) →
+    ((i : ℕ) → i < more → get_or xs (at + i) 0 ≡ get_or ys (at + i) 0) → (i : ℕ) → i < at + more → get_or xs i 0 ≡ get_or ys i 0
+same_further xs ys known at more covered same later i before =
+    ⊎_elim (λ (l : i < known). same i l)
+    (λ (l : known ≤ i).
+    let there : at + (i - at) ≡ i = omega (arith, covered, l) in
+    subst (λ k. get_or xs k 0 ≡ get_or ys k 0) there (later (i - at) (omega (arith, covered, l, before)))) (cases_lt i known)
+
+-- A byte of UTF-8 is below F8 (hexadecimal).
+low_last : (b : ℕ) → b < 0xF8 → All (λ b. b < 0xF8) (b ∷ [])
+low_last b low = All-cons (λ b. b < 0xF8) b [] low (All-nil (λ b. b < 0xF8))
+
+low_of : (c : ℕ) → Shape c → All (λ b. b < 0xF8) (utf8_of c)
+low_of c (one ascii) =
+    rw (utf8_of_one c ascii) (low_last c (omega arith))
+low_of c (two x y digits) =
+    rw (utf8_of_two c x y digits)
+    (All-cons (λ b. b < 0xF8) (0xC0 + x) ((0x80 + y) ∷ []) (omega arith) (low_last (0x80 + y) (omega arith)))
+low_of c (three x y z digits) =
+    rw (utf8_of_three c x y z digits)
+    (All-cons (λ b. b < 0xF8) (0xE0 + x) ((0x80 + y) ∷ (0x80 + z) ∷ []) (omega arith)
+    (All-cons (λ b. b < 0xF8) (0x80 + y) ((0x80 + z) ∷ []) (omega arith) (low_last (0x80 + z) (omega arith))))
+low_of c (pair w x y z digits) =
+    let a = 0xF0 + (w + 1) / 4 in
+    let b = 0x80 + ((w + 1) % 4 * 0x10 + x / 4) in
+    let d = 0x80 + (x % 4 * 0x10 + y) in
+    let e = 0x80 + z in
+    rw (utf8_of_pair c w x y z digits)
+    (All-cons (λ b. b < 0xF8) a (b ∷ d ∷ e ∷ []) (omega arith)
+    (All-cons (λ b. b < 0xF8) b (d ∷ e ∷ []) (omega arith)
+    (All-cons (λ b. b < 0xF8) d (e ∷ []) (omega arith) (low_last e (omega arith)))))
+
+low_in : (text : List ℕ) → IsText text → All (λ b. b < 0xF8) (utf8 text)
+low_in [] is_text = All-nil (λ b. b < 0xF8)
+low_in (c ∷ text) is_text =
+    All-append (λ b. b < 0xF8) (utf8_of c) (utf8 text) (low_of c (shape c is_text.0)) (low_in text is_text.1)
+
+pub low_bytes : (bytes : List ℕ) → IsUtf8 bytes → (i : ℕ) → i < length bytes → get_or bytes i 0 < 0xF8
+low_bytes bytes is_utf8 i inside =
+    let of_chars = IsUtf8Of_chars bytes is_utf8 in
+    let low = low_in (chars bytes) of_chars.0 in
+    All-get_or (λ b. b < 0xF8) bytes i 0 inside (rw of_chars.1 at low)
+
+-- Of such bytes different ones have different ranks.
+pub ranks_differ : (a b : ℕ) → a < 0xF8 → b < 0xF8 → a ≢ b → utf16_rank a ≢ utf16_rank b
+ranks_differ a b low other_low differ same = grind (arith, nat_tests)
