@@ -2,7 +2,7 @@
 -- the second one goes.
 use Rattle.std.proofs.Common.{◌≡◌, ℕ, zero, suc, ◌+◌, ◌*◌, ◌%◌, ◌/◌, ◌^◌, ◌<◌, ◌≤◌, Bool, true, false, ◌&&◌, cond, List, [], ◌∷◌, ◌++◌, map, length, take, drop, get_or, replicate, eqb, refl, sym, ap, ◌∙◌, subst, arith, bit_and, inl, w8}
 use Rattle.std.specs.Prelude.{ℤ}
-use Rattle.std.proofs.lemmas.List.{length-map, length-drop, length-take-le, take-append-drop}
+use Rattle.std.proofs.lemmas.List.{length-map, length-take-le, take-append-drop}
 use Rattle.std.proofs.lemmas.Simd.{mask_l-lt, mask_l-mod}
 use lib.Lanes.{zip2, sel_l, mask_l, top}
 use mir.Val.{of_z}
@@ -197,11 +197,6 @@ module _ (bytes : List ℕ) (marks : ℕ) (long : 32 < length bytes) (nulls : Ar
 
   pub read_most : read ≤ 33
   read_most = omega (arith, read_is, (reach_most false 32 bytes (omega arith)).1)
-
-  pub left_behind : (length (drop read bytes) + 32 ≤ length bytes) × (length bytes ≤ length (drop read bytes) + 32 + 1)
-  left_behind =
-      let left = length-drop read bytes in
-      (omega (arith, left), omega (arith, left, read_most))
 
   -- What was joined before goes on to be so after what is written for them.
   pub keeps_packed : (ps : List ℤ) (out new : List ℕ) → ps ≡ marks_of is_first (take 32 bytes) →

@@ -1,6 +1,7 @@
 use Rattle.std.proofs.Common.{arith}
+use Rattle.std.proofs.lemmas.Grind.{common_steps}
 use Rattle.std.proofs.lemmas.List.{take_rest}
-use Rattle.cesu8_bytes.proofs.chunks.PackedNulls.{tests, tests_long, gone_is, read_most, left_behind, keeps_packed}
+use Rattle.cesu8_bytes.proofs.chunks.PackedNulls.{tests, tests_long, gone_is, read_most, keeps_packed}
 use Rattle.cesu8_bytes.proofs.joining.nulls.pack_nulls.Goals as goal
 
 pub slice_bounds-result-count : goal.slice_bounds-result-count
@@ -10,7 +11,7 @@ pub slice_bounds-result-start : goal.slice_bounds-result-start
 slice_bounds-result-start c = omega (arith, c.requires.long, read_most c.args.at.rest.now _ c.requires.long c.requires.nulls)
 
 pub returns-clause-rest : goal.returns-clause-rest
-returns-clause-rest c = rw take_rest (left_behind c.args.at.rest.now _ c.requires.long c.requires.nulls)
+returns-clause-rest c = grind (arith, common_steps, read_most c.args.at.rest.now _ c.requires.long c.requires.nulls)
 
 pub returns-clause-joined : goal.returns-clause-joined
 returns-clause-joined c =
