@@ -37,9 +37,9 @@ pub fn is_short_unchanged_ascii<F: Flavor>(bytes: &[u8]) -> bool
     bytes.len() <= SHORT_VALUE && !any_in_short::<Either<F::Null, NonAscii>>(bytes)
 }
 
-/// Returns whether the first bytes are all ASCII that does not change, as far as one vector shows,
-/// which may have more bytes than these. So no branch depends on how many they are, and strings that
-/// follow one another cost no wrong guess of one.
+/// Returns whether the first bytes are all ASCII that does not change, as far as one vector shows.
+/// It may have more bytes than these, so no branch depends on how many they are, which a processor
+/// could guess wrong.
 #[inline(always)]
 pub fn begins_with_unchanged_ascii<F: Flavor>(bytes: &[u8], len: usize) -> bool
     requires { SHOWN_AT_ONCE ≤ length bytes.now }

@@ -57,7 +57,7 @@ pub fn decode_strict_front<F: Flavor>(
 }
 
 /// Makes the call below. The room for its result is cleared at the start of the function that makes
-/// it, so this is one of its own.
+/// it, so this is one of its own, and the look at the front clears nothing.
 #[inline(always)]
 fn decode_strict_by_call<F: Flavor>(
     alloc: Global,

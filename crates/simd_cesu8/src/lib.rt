@@ -19,7 +19,7 @@
 //! | text | how many UTF-16 code units it has | [`utf16_len`] |
 //! | two texts | their order by UTF-16 code units | [`compare_as_utf16`] |
 //! | bytes of the encoding | their text, or an error | [`decode_strict`] |
-//! | bytes that begin with the encoding, so many | its text, or an error | [`decode_strict_front`] |
+//! | bytes that begin with it, and its length | its text, or an error | [`decode_strict_front`] |
 //! | bytes of the encoding | the length of that text, or whether they are valid | [`decoded_len`] |
 //! | bytes of the encoding, perhaps damaged | a text in any case | [`decode_lossy_strict`] |
 //! | bytes of the encoding, perhaps damaged | the length of that text | [`lossy_len`] |
@@ -224,8 +224,8 @@ pub fn decode_strict(alloc: Global, bytes: &[u8]) -> Result<CowText<'_>, DecodeF
     borrow_or_build::decode_strict::<Cesu8Flavor>(alloc, bytes)
 }
 
-/// Decodes the CESU-8 (Unicode Technical Report 26) at the front of the bytes strictly: returns what
-/// [`decode_strict`] does of the first `len` bytes, or of all where there are fewer.
+/// Decodes the CESU-8 (Unicode Technical Report 26) at the front of the bytes strictly: returns
+/// what [`decode_strict`] does of the first `len` bytes, or of all where there are fewer.
 ///
 /// It is for strings that follow one another. It may look at the bytes behind the front, which
 /// change no result, so the time for short ASCII depends less on its length.

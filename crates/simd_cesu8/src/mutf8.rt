@@ -148,8 +148,8 @@ pub fn decode_strict(alloc: Global, bytes: &[u8]) -> Result<CowText<'_>, DecodeF
 }
 
 /// Decodes the MUTF-8 (Java's `DataInput`, without a length in front) at the front of the bytes
-/// strictly: returns what [`decode_strict`] does of the first `len` bytes, or of all where there are
-/// fewer.
+/// strictly: returns what [`decode_strict`] does of the first `len` bytes, or of all where there
+/// are fewer.
 ///
 /// It is for strings that follow one another. It may look at the bytes behind the front, which
 /// change no result, so the time for short ASCII depends less on its length.
