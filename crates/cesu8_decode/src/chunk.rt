@@ -6,7 +6,7 @@ ghost use Rattle.cesu8_decode.specs.Decoding.{IsNextChunk};
 use super::packing::WIDEST;
 use super::windows::{Decoded, LEAST, SPARED, write_window};
 use cesu8_bytes::flavor::Flavor;
-use cesu8_bytes::implementation::class::{LANES, OtherLead, bits};
+use cesu8_bytes::implementation::class::{Equal, LANES, bits};
 use cesu8_bytes::joining::Buffer;
 use cesu8_bytes::window::{Joined, TOO_FEW, read_window};
 use std::simd::prelude::*;
@@ -47,15 +47,14 @@ pub fn next_chunk<'a, F: Flavor, const LEN: usize>(
     Chunk::Written(write_window::<F>(bytes, &mut window, written))
 }
 
-/// Returns whether the first bytes have at most two surrogate pairs or four null characters, by their
-/// lead bytes. Each takes a branch where it is joined, so more are read faster by offsets. The
-/// answer decides speed alone.
+/// Returns whether the first bytes have at most two surrogate pairs, by their lead bytes. Each takes
+/// a branch where it is joined, so more are read faster by offsets. The answer decides speed alone.
 #[inline(always)]
 fn begins_sparsely(bytes: &[u8]) -> bool
     requires { TOO_FEW < length bytes.now }
 {
-    bits::<OtherLead, LANES>(Simd::from_slice(bytes)).count_ones() <= MOST_LEADS
+    bits::<Equal<0xED>, LANES>(Simd::from_slice(bytes)).count_ones() <= MOST_LEADS
 }
 
-/// The most bytes ED or C0 (hexadecimal) for which joining pays, of so many as a vector has.
+/// The most lead bytes of surrogates for which joining pays, of so many bytes as a vector has.
 const MOST_LEADS: u32 = 4;
