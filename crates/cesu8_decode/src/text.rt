@@ -68,8 +68,8 @@ pub fn append_text<F: Flavor, A: Allocator>(
     }
 }
 
-/// Appends the characters of the bytes in strict reading. What is appended as ASCII and as
-/// characters needs no test for UTF-8, which takes longer than these do while they are few.
+/// Appends the characters of the bytes in strict reading. While they are few, this takes less time
+/// than a buffer and a copy.
 #[inline(never)]
 fn push_characters<F: Flavor, A: Allocator>(
     bytes: &[u8],

@@ -12,13 +12,12 @@
 //! | more | any | `Chunks` | `Chunks` |
 //!
 //! - `Characters`: one character after another. A branch on a byte costs little while few bytes are
-//!   not ASCII. In strict reading a `String` is appended to at once, and what is appended as
-//!   characters and as ASCII needs no test for UTF-8. `FewCharacters` is the same with a smaller
-//!   array, since clearing one takes time.
+//!   not ASCII. In strict reading a `String` is appended to at once, with no array between.
+//!   `FewCharacters` is the same with a smaller array, since clearing one takes time.
 //! - The windows: 32 bytes at a time with no branch on a byte, in buffers on the stack. Smaller
 //!   ones are made in less time.
 //! - `Chunks`: joined windows of well-formed bytes, and windows by offsets after an ill-formed
-//!   byte.
+//!   byte, or where surrogate pairs are dense. Lossy reading begins by offsets.
 //! - `JoinedWindow`: chunks, of which a joined window mostly has all bytes but a few. Strict
 //!   reading stops at an ill-formed byte, so the buffers for windows by offsets are smaller.
 //! - `Refused`: strict reading is asked for bytes that are not UTF-8 alone, and each encoding that is
@@ -47,10 +46,10 @@
 //! A call on a slice that takes `JoinedWindow` goes on by `Chunks` if more bytes are left than a
 //! short window has.
 //!
-//! Other lengths in this crate decide no way: `chunk` joins no window of few bytes and lengthens a
-//! short text before its test for UTF-8, `characters` pads the last bytes, and `sums` the last
-//! block. Before the decoder, `cesu8_bytes` takes the first looks: if a few bytes show C0 or a
-//! surrogate, a call that returns a `String` decodes them without a test for UTF-8.
+//! Other lengths in this crate decide no way: `chunk` joins no window of few bytes, `characters`
+//! pads the last bytes, and `sums` the last block. Before the decoder, `cesu8_bytes` takes the first
+//! looks: if a few bytes show C0 or a surrogate, a call that returns a `String` decodes them without
+//! a test for UTF-8.
 
 ghost use Rattle.std.specs.Prelude.{◌≡◌, ◌≤◌, length, IsTrue, IsUtf8, IfSome};
 ghost use Rattle.cesu8_text.specs.Encoding.{Flavor as AnyFlavor};
