@@ -1,9 +1,9 @@
 //! The first looks at an input: whether a byte of it changes, and whether it is UTF-8.
 //!
 //! Each chooses by a length, for speed alone. A short value is tested for a byte by vectors of one
-//! width. A longer one is UTF-8 if it is ASCII; `utf8` tests all others. A strict call looks for what
-//! UTF-8 never has in 2 to 64 bytes, and a lenient call in 16 to 64, so that mostly only what is
-//! UTF-8 is tested.
+//! width. A longer one is UTF-8 if it is ASCII; `utf8` tests all others. A strict call looks for
+//! what UTF-8 never has in 2 to 64 bytes, and a lenient call in 16 to 64, so that mostly only what
+//! is UTF-8 is tested.
 
 ghost use Rattle.std.specs.Prelude.{◌↔◌, IsTrue, Any, ◌≡◌, ◌*◌, length, IsUtf8, ◌<◌, ◌≤◌};
 ghost use Rattle.cesu8_text.specs.Class.{IsChangedByte, IsUnchangedUtf8, is_other_lead};
@@ -54,8 +54,7 @@ pub enum FirstLook {
     NotUtf8,
 }
 
-/// Returns what a first look shows. It finds encodings that are not UTF-8 among a few bytes alone,
-/// since more are tested for UTF-8 by vectors.
+/// Returns what a first look shows. It finds encodings that are not UTF-8 among a few bytes alone.
 #[inline(always)]
 pub fn first_look<F: Flavor>(bytes: &[u8]) -> FirstLook
     ensures { IsShown (IsChangedByte F.flavor) bytes.now result }

@@ -1,7 +1,7 @@
 //! The test for UTF-8, and what is known to be UTF-8 as a text.
 //!
 //! A few bytes are tested as one block, with zeros behind them. Of long input each part is tested
-//! up to the start of a character, so that input that is not UTF-8 is not read to its end.
+//! up to the start of a character, so that it is not read far behind a fault.
 
 ghost use Rattle.std.specs.Prelude.{◌↔◌, ◌≡◌, ◌<◌, ◌≤◌, IsTrue, IfSome, IfNone, IsUtf8, length};
 
@@ -15,10 +15,11 @@ use std::str;
 /// The least bytes of long input. Fewer are tested at once.
 const LONG: usize = 2048;
 
-/// Long input is at least so many times as long as the part that is tested first.
+/// What is left of long input is at least so many times as long as its next part. A part is so
+/// many times as long as the one before it.
 const PARTS: usize = 4;
 
-/// The most bytes of a part.
+/// The most bytes of a part. What is left behind the last one may be nearly four times as long.
 const MOST_OF_PART: usize = 8192;
 
 /// Returns whether the bytes are UTF-8. It is not inlined, since it is long.
@@ -63,8 +64,8 @@ fn is_long_utf8(bytes: &[u8]) -> bool
     simdutf8::is_utf8(rest)
 }
 
-/// Tests a part of so many bytes, or up to three fewer, and returns what is behind it if the part is
-/// UTF-8.
+/// Tests a part of so many bytes, or up to three fewer, and returns what is behind it if the part
+/// is UTF-8.
 #[inline(always)]
 fn behind_part(bytes: &[u8], most: usize) -> Option<&[u8]>
     requires { (3 < most) × (most < length bytes.now) }

@@ -43,8 +43,8 @@ pub record ReadsAll (f : Flavor) (which : Strictness) (bytes : List ℕ) (read :
   pub first : ReadsFirst f bytes read text is_ill_formed
   pub all : refuses which is_ill_formed ≡ false → read ≡ length bytes
 
--- The next chunk is text that was joined, or it is written at the front of a buffer. So much of
--- this follows as the test for UTF-8 needs.
+-- The next chunk is text that was joined, or it is written at the front of a buffer, of which at
+-- least so many bytes follow.
 abbrev pub IsNextChunk : Flavor → List ℕ → Chunk → List ℕ → Type 0
 IsNextChunk f bytes (Joined joined) written = ReadsFirst f bytes joined.read joined.text.now false
 IsNextChunk f bytes (Written decoded) written =

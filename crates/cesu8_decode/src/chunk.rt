@@ -20,8 +20,8 @@ pub enum Chunk<'a> {
     Written(Decoded),
 }
 
-/// Reads the next bytes: as a joined window if they begin sparsely and that yields text, and else by
-/// offsets in a window of this length. After an ill-formed byte joining mostly yields none.
+/// Reads the next bytes: as a joined window if they begin sparsely and that yields text, and else
+/// by offsets in a window of this length. After an ill-formed byte joining mostly yields none.
 ///
 /// `IsNextChunk` says that at least one byte was read, and that the chunk's text and the reading of
 /// what is left are that of all; so the loops over it end and are right. What is written needs
@@ -47,8 +47,9 @@ pub fn next_chunk<'a, F: Flavor, const LEN: usize>(
     Chunk::Written(write_window::<F>(bytes, &mut window, written))
 }
 
-/// Returns whether the first bytes have at most two surrogate pairs, by their lead bytes. Each takes
-/// a branch where it is joined, so more are read faster by offsets. The answer decides speed alone.
+/// Returns whether the first bytes have at most as many bytes ED (hexadecimal) as two surrogate
+/// pairs. Each pair takes a branch where it is joined, so more are read faster by offsets. Some
+/// Korean syllables begin with ED too. The answer decides speed alone.
 #[inline(always)]
 fn begins_sparsely(bytes: &[u8]) -> bool
     requires { TOO_FEW < length bytes.now }
@@ -56,5 +57,5 @@ fn begins_sparsely(bytes: &[u8]) -> bool
     bits::<Equal<0xED>, LANES>(Simd::from_slice(bytes)).count_ones() <= MOST_LEADS
 }
 
-/// The most lead bytes of surrogates for which joining pays, of so many bytes as a vector has.
+/// The most bytes ED for which joining pays, of so many bytes as a vector has.
 const MOST_LEADS: u32 = 4;

@@ -68,8 +68,7 @@ pub fn append_text<F: Flavor, A: Allocator>(
     }
 }
 
-/// Appends the characters of the bytes in strict reading. While they are few, this takes less time
-/// than a buffer and a copy.
+/// Appends the characters of the bytes in strict reading, with no buffer between.
 #[inline(never)]
 fn push_characters<F: Flavor, A: Allocator>(
     bytes: &[u8],

@@ -17,7 +17,7 @@
 //! - The windows: 32 bytes at a time with no branch on a byte, in buffers on the stack. Smaller
 //!   ones are made in less time.
 //! - `Chunks`: joined windows of well-formed bytes, and windows by offsets after an ill-formed
-//!   byte, or where surrogate pairs are dense. Lossy reading begins by offsets.
+//!   byte, or where surrogate pairs are dense. Lossy reading to a `String` begins by offsets.
 //! - `JoinedWindow`: chunks, of which a joined window mostly has all bytes but a few. Strict
 //!   reading stops at an ill-formed byte, so the buffers for windows by offsets are smaller.
 //! - `Refused`: strict reading is asked for bytes that are not UTF-8 alone, and each encoding that is
@@ -47,9 +47,9 @@
 //! short window has.
 //!
 //! Other lengths in this crate decide no way: `chunk` joins no window of few bytes, `characters`
-//! pads the last bytes, and `sums` the last block. Before the decoder, `cesu8_bytes` takes the first
-//! looks: if a few bytes show C0 or a surrogate, a call that returns a `String` decodes them without
-//! a test for UTF-8.
+//! pads the last bytes, and `sums` the last block. Before the decoder, `cesu8_bytes` takes the
+//! first looks: if a few bytes show C0 or a surrogate, a call that returns a `String` decodes them
+//! without a test for UTF-8.
 
 ghost use Rattle.std.specs.Prelude.{◌≡◌, ◌≤◌, length, IsTrue, IsUtf8, IfSome};
 ghost use Rattle.cesu8_text.specs.Encoding.{Flavor as AnyFlavor};

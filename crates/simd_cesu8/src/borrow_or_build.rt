@@ -1,8 +1,8 @@
 //! The calls for both flavors: each borrows if no byte changes, and builds otherwise.
 //!
-//! Decoding returns short ASCII first, in a function that is inlined into the public call. The rest
-//! of it, in a function whose name ends in `other`, is never inlined, so that this test stays small.
-//! At the front of enough bytes one look shows short ASCII, whatever its length.
+//! Decoding returns short ASCII first, in a function that is inlined into the public call. The
+//! rest of it, in a function whose name ends in `other` or `called`, is never inlined, so that this
+//! test stays small. At the front of enough bytes one look shows short ASCII, whatever its length.
 
 ghost use Rattle.std.specs.Prelude.{take};
 ghost use Rattle.simd_cesu8.specs.Calls.{Encodes, DecodesStrictly, DecodesLeniently, DecodesLossily, DecodesLenientlyLossily};

@@ -7,9 +7,9 @@ use Rattle.cesu8_bytes.proofs.ascii.begins_with_unchanged_ascii.Goals as goal
 pub returns-clause-ascii : goal.returns-clause-ascii
 returns-clause-ascii g c found =
     ascii_of_neither g.F.Null.Class.class (take c.args.len c.args.bytes.now)
-    (none_in_front _ c.args.bytes.now SHOWN_AT_ONCE c.args.len c.lanes_before.result c.lanes_before.ensures (leb-true _ _ found))
+    (none_in_front _ c.args.bytes.now SHOWN_AT_ONCE c.args.len c.lanes_before.result c.lanes_before.ensures (leb-true c.args.len c.lanes_before.result found))
 
 pub returns-clause-unchanged : goal.returns-clause-unchanged
 returns-clause-unchanged g c found =
     unchanged_of_neither g.F.Flavor.flavor g.F.Null.Class.class g.met.F.Flavor.are_null (take c.args.len c.args.bytes.now)
-    (none_in_front _ c.args.bytes.now SHOWN_AT_ONCE c.args.len c.lanes_before.result c.lanes_before.ensures (leb-true _ _ found))
+    (none_in_front _ c.args.bytes.now SHOWN_AT_ONCE c.args.len c.lanes_before.result c.lanes_before.ensures (leb-true c.args.len c.lanes_before.result found))
