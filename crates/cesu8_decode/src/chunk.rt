@@ -6,10 +6,8 @@ ghost use Rattle.cesu8_decode.specs.Decoding.{IsNextChunk};
 use super::packing::WIDEST;
 use super::windows::{Decoded, LEAST, SPARED, write_window};
 use cesu8_bytes::flavor::Flavor;
-use cesu8_bytes::implementation::class::{Equal, LANES, bits};
 use cesu8_bytes::joining::Buffer;
 use cesu8_bytes::window::{Joined, TOO_FEW, read_window};
-use std::simd::prelude::*;
 
 /// The next chunk of text.
 #[derive(Drop)]
@@ -20,8 +18,8 @@ pub enum Chunk<'a> {
     Written(Decoded),
 }
 
-/// Reads the next bytes: as a joined window if they begin sparsely and that yields text, and else
-/// by offsets in a window of this length. After an ill-formed byte joining mostly yields none.
+/// Reads the next bytes: as a joined window if that yields text, and else by offsets in a window of
+/// this length. After an ill-formed byte joining mostly yields none.
 ///
 /// `IsNextChunk` says that at least one byte was read, and that the chunk's text and the reading of
 /// what is left are that of all; so the loops over it end and are right. What is written needs
@@ -38,7 +36,7 @@ pub fn next_chunk<'a, F: Flavor, const LEN: usize>(
     requires written { WIDEST * LEN ≤ length written.old + SPARED }
     ensures { IsNextChunk F.flavor bytes.now result written.new }
 {
-    if joins && bytes.len() > TOO_FEW && begins_sparsely(bytes) {
+    if joins && bytes.len() > TOO_FEW {
         if let Some(joined) = read_window::<F>(bytes, buffer) {
             return Chunk::Joined(joined);
         }
@@ -46,16 +44,3 @@ pub fn next_chunk<'a, F: Flavor, const LEN: usize>(
     let mut window = [0; LEN];
     Chunk::Written(write_window::<F>(bytes, &mut window, written))
 }
-
-/// Returns whether the first bytes have at most as many bytes ED (hexadecimal) as two surrogate
-/// pairs. Each pair takes a branch where it is joined, so more are read faster by offsets. Some
-/// Korean syllables begin with ED too. The answer decides speed alone.
-#[inline(always)]
-fn begins_sparsely(bytes: &[u8]) -> bool
-    requires { TOO_FEW < length bytes.now }
-{
-    bits::<Equal<0xED>, LANES>(Simd::from_slice(bytes)).count_ones() <= MOST_LEADS
-}
-
-/// The most bytes ED for which joining pays, of so many bytes as a vector has.
-const MOST_LEADS: u32 = 4;

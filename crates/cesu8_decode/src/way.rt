@@ -17,7 +17,7 @@
 //! - The windows: 32 bytes at a time with no branch on a byte, in buffers on the stack. Smaller
 //!   ones are made in less time.
 //! - `Chunks`: joined windows of well-formed bytes, and windows by offsets after an ill-formed
-//!   byte, or where surrogate pairs are dense. Lossy reading to a `String` begins by offsets.
+//!   byte. Lossy reading to a `String` begins by offsets.
 //! - `JoinedWindow`: chunks, of which a joined window mostly has all bytes but a few. Strict
 //!   reading stops at an ill-formed byte, so the buffers for windows by offsets are smaller.
 //! - `Refused`: strict reading is asked for bytes that are not UTF-8 alone, and each encoding that is
