@@ -1,8 +1,8 @@
 -- Vectors that are stored into a list of bytes.
 use Rattle.std.proofs.Common.{◌≡◌, ℕ, zero, suc, ◌+◌, ◌*◌, ◌-◌, ◌≤◌, List, [], ◌∷◌, ◌++◌, refl, sym, subst, ap, ◌∙◌, arith, length, take, drop}
 use lib.Lanes.{put_chunk}
-use Rattle.std.proofs.lemmas.List.{length-drop, length-take-le, take-append-drop, take-append-le, take-take}
-use Rattle.std.proofs.Math.Seq.{take-append-add}
+use Rattle.std.proofs.lemmas.List.{append_assoc, length-drop, length-take-le, take-append-drop, take-append-le, take-take}
+use Rattle.std.proofs.Math.Seq.{take-append-add, take-add}
 use Rattle.std.proofs.lemmas.Simd.{length-put_chunk, put_chunk_is, take_more_put_chunk}
 
 -- What is stored of a run stands behind what was written,
@@ -46,3 +46,12 @@ ends_stored n bytes out many few room =
     behind_stored at len first end (omega (arith, end_len))
     ∙ behind_stored 0 len out (take n bytes) (omega (arith, length-take-le n bytes many)) in
     sym (take-append-drop len second) ∙ ap (λ bs. bs ++ drop len second) prefix ∙ ap (λ bs. bytes ++ bs) behind
+
+-- Bytes that were appended, cut back to an index and appended again from there on, stand there once.
+pub appended_again : (before bytes : List ℕ) (at written n : ℕ) → at ≤ written →
+    take (length before + at) (before ++ take written bytes) ++ take n (drop at bytes) ≡ before ++ take (at + n) bytes
+appended_again before bytes at written n le =
+    ap (λ xs. xs ++ take n (drop at bytes)) (take-append-add before (take written bytes) at)
+    ∙ append_assoc before (take at (take written bytes)) (take n (drop at bytes))
+    ∙ ap (λ xs. before ++ (xs ++ take n (drop at bytes))) (take-take at written bytes le)
+    ∙ ap (λ xs. before ++ xs) (sym (take-add at n bytes))

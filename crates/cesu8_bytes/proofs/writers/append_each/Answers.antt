@@ -1,6 +1,6 @@
 use Rattle.std.proofs.Common.{◌∙◌, refl, arith, append_assoc}
 use Rattle.std.proofs.lemmas.List.{take_more}
-use Rattle.cesu8_bytes.proofs.writers.append.Goals as goal
+use Rattle.cesu8_bytes.proofs.writers.append_each.Goals as goal
 
 pub loop-byte-preserved : goal.loop-byte-preserved
 loop-byte-preserved g c =
