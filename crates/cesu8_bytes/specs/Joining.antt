@@ -2,8 +2,10 @@
 -- stay.
 use Rattle.std.specs.Prelude.{IsTrue, ◌≡◌, ℕ, zero, suc, ◌+◌, ◌*◌, ◌<◌, ◌&&◌, ◌==◌, Bool, false, List, [], ◌∷◌, slice_index, ◌≤◌, ◌++◌, length, map, take, replicate}
 use Rattle.std.specs.List.{flat_map}
+use Rattle.std.specs.Int.{bit_at}
 use Rattle.std.specs.Simd.Lanes.{mask_l}
 use Rattle.cesu8_text.specs.Encoding.{Flavor, Cesu8, Mutf8, encoding, IsEncodedOtherwise}
+use Rattle.cesu8_text.specs.Class.{IsChangedByte}
 use Rattle.cesu8_text.specs.Text.{IsScalarValue, utf8_of}
 use Rattle.cesu8_text.specs.Patterns.{EndsPair, IsPair}
 use Rattle.cesu8_bytes.specs.declared.TheConstants.{BLOCK}
@@ -58,6 +60,14 @@ pub record IsJoinedAfter (rest after : List ℕ) (written new stop : ℕ) : Type
   pub shorter : length after ≤ length rest
   pub past : stop ≤ length after + PAIR
   pub room : new + length after ≤ written + length rest
+
+-- None of the first n bytes changes in the flavor.
+abbrev pub NoneChanges : Flavor → ℕ → List ℕ → Type 0
+NoneChanges f n bytes = (i : ℕ) → i < n → ¬ (IsChangedByte f (slice_index bytes i))
+
+-- Each byte of the first block that changes in the flavor has a mark: the bit of its offset.
+abbrev pub AreMarked : Flavor → List ℕ → ℕ → Type 0
+AreMarked f bytes marks = (i : ℕ) → i < BLOCK → IsChangedByte f (slice_index bytes i) → bit_at marks i ≡ 1
 
 -- Sixteen null characters of MUTF-8.
 abbrev pub nulls : List ℕ

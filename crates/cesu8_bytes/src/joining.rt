@@ -1,15 +1,16 @@
 //! Joins what is encoded otherwise than in UTF-8: surrogate pairs, and C0 80 in MUTF-8.
 //!
-//! A block of bytes is copied whole, and a mask marks the bytes that may have to change. The caller
-//! tests whether the result is UTF-8, so the mask may mark any bytes: if it omits one that has to
-//! change, the result is not UTF-8.
+//! A block of bytes is copied whole, and a mask marks the bytes that may have to be joined. It marks
+//! each byte that changes in the flavor too, and none of these is read. Besides these it may mark any
+//! bytes: the caller tests whether the result is UTF-8, and if the mask omits one that has to be
+//! joined, it is not.
 //!
 //! What is marked is joined one mark after another. Some blocks are joined at once: those of C0 80
 //! alone, those in which only C0 80 is marked, and surrogate pairs in a row.
 
-ghost use Rattle.std.specs.Prelude.{◌≡◌, ◌+◌, ◌<◌, ◌≤◌, ◌↔◌, length, take, drop, IsTrue, IfSome, IfNone};
+ghost use Rattle.std.specs.Prelude.{◌≡◌, ◌+◌, ◌-◌, ◌<◌, ◌≤◌, ◌↔◌, length, take, drop, IsTrue, IfSome, IfNone};
 ghost use Rattle.cesu8_text.specs.Encoding.{Flavor as AnyFlavor, Mutf8};
-ghost use Rattle.cesu8_bytes.specs.Joining.{IsJoined, IsJoinedAfter, KeepsJoined, nulls, HasNull};
+ghost use Rattle.cesu8_bytes.specs.Joining.{IsJoined, IsJoinedAfter, KeepsJoined, NoneChanges, AreMarked, nulls, HasNull};
 
 mod buffer;
 mod nulls;
@@ -17,7 +18,7 @@ pub mod pairs;
 
 use crate::BLOCK;
 use crate::flavor::Flavor;
-use crate::implementation::class::InVectors;
+use crate::implementation::class::{AtLeastF0, Either, bits};
 use buffer::Progress;
 pub use buffer::{BUFFER_LEN, Buffer, MOST_JOINED, MUST_FOLLOW, Step};
 use nulls::{
@@ -36,6 +37,7 @@ pub fn join<F: Flavor>(bytes: &[u8], end: usize, buffer: &mut Buffer) -> Step
     ensures within { (result.read ≤ end + PAIR) × (result.written ≤ MOST_WITH_PAIR) }
     ensures joined { IsJoined F.flavor (take result.read bytes.now)
         (take result.written buffer.new) }
+    ensures unchanged { NoneChanges F.flavor result.read bytes.now }
 {
     let stop = bytes.len() - end;
     let mut at = Progress {
@@ -66,6 +68,8 @@ fn join_block<'a, F: Flavor>(at: Progress<'a>, stop: usize, buffer: &mut Buffer)
     ensures joined { KeepsJoined F.flavor
         at.entry.rest.now (take at.entry.written buffer.old)
         result.rest.now (take result.written buffer.new) }
+    ensures unchanged { NoneChanges F.flavor
+        (length at.entry.rest.now - length result.rest.now) at.entry.rest.now }
 {
     let marks = marks::<F>(at.rest);
     let left = at.rest.len() - stop;
@@ -88,19 +92,21 @@ fn join_block<'a, F: Flavor>(at: Progress<'a>, stop: usize, buffer: &mut Buffer)
     }
 }
 
-/// Marks the bytes of a block that may have to change, the first byte in the lowest bit: those that
-/// lead a surrogate pair or a null character, and those that no window may have.
+/// Marks the bytes of a block that may have to be joined, the first byte in the lowest bit: those
+/// that lead a surrogate pair or a null character. It marks those that no window may have too: each
+/// that changes in the flavor, and F8 or more (hexadecimal).
 #[inline(always)]
 fn marks<F: Flavor>(bytes: &[u8]) -> u32
     requires { BLOCK < length bytes.now }
+    ensures { AreMarked F.flavor bytes.now result }
 {
     let block = u8x32::from_slice(bytes);
     let next = u8x32::from_slice(&bytes[1..]);
     let high = next & u8x32::splat(0xF0);
     let pair = block.simd_eq(u8x32::splat(0xED)) & high.simd_eq(u8x32::splat(0xA0));
-    let other = block.simd_eq(u8x32::splat(0xC0)) | block.simd_ge(u8x32::splat(0xF0));
-    let marks = pair | other | F::Null::marks(block);
-    (marks.to_bitmask() & 0xFFFF_FFFF) as u32
+    let other = pair | block.simd_eq(u8x32::splat(0xC0));
+    let changed = bits::<Either<F::Null, AtLeastF0>, BLOCK>(block);
+    ((other.to_bitmask() | changed) & 0xFFFF_FFFF) as u32
 }
 
 /// Joins what is marked, and copies what precedes it, up to a mark that can't be joined.
@@ -113,11 +119,14 @@ fn join_marked<'a, F: Flavor>(
 ) -> Progress<'a>
     requires stop { (stop < length start.rest.now) × (MUST_FOLLOW ≤ stop) }
     requires room { start.written + length start.rest.now ≤ MOST_JOINED + stop }
+    requires marked { AreMarked F.flavor start.rest.now marks }
     ensures after { IsJoinedAfter start.entry.rest.now result.rest.now
         start.entry.written result.written stop }
     ensures joined { KeepsJoined F.flavor
         start.entry.rest.now (take start.entry.written buffer.old)
         result.rest.now (take result.written buffer.new) }
+    ensures unchanged { NoneChanges F.flavor
+        (length start.entry.rest.now - length result.rest.now) start.entry.rest.now }
 {
     let bytes = start.rest;
     let mut read = 0;
@@ -171,6 +180,7 @@ fn join_changed<F: Flavor>(bytes: &[u8], written: usize, buffer: &mut Buffer) ->
         bytes.now (take written buffer.old)
         (drop step.read bytes.now) (take (written + step.written) buffer.new)) }
     ensures none { IfNone result (buffer.new ≡ buffer.old) }
+    ensures unchanged { IfSome result (λ step. NoneChanges F.flavor step.read bytes.now) }
 {
     let pair = pair_bits(bytes);
     let null = null_bits::<F>(bytes);

@@ -2,13 +2,12 @@
 
 ghost use Rattle.std.specs.Prelude.{◌+◌, ◌<◌, ◌≤◌, length, take, drop, IfSome};
 ghost use Rattle.cesu8_text.specs.Encoding.{Flavor as AnyFlavor};
-ghost use Rattle.cesu8_bytes.specs.Joining.{IsJoined};
+ghost use Rattle.cesu8_bytes.specs.Joining.{IsJoined, NoneChanges};
 ghost use Rattle.cesu8_bytes.specs.TextChunks.{IsChunk};
 ghost use Rattle.cesu8_bytes.specs.declared.options.Strictness.{Strictness};
 
 use super::joining::{Buffer, MOST_JOINED, MOST_WITH_PAIR, MUST_FOLLOW, Step, join};
 use crate::continuation::is_continuation;
-use crate::first_looks::contains_changed;
 use crate::flavor::Flavor;
 use simdutf8::basic;
 
@@ -36,7 +35,7 @@ pub fn read_window<'a, F: Flavor>(bytes: &[u8], buffer: &'a mut Buffer) -> Optio
 {
     let step = join::<F>(bytes, MOST_JOINED.min(bytes.len() - MUST_FOLLOW), buffer);
     let Step { read, written } = copy_end(bytes, step, buffer);
-    if read == 0 || contains_changed::<F>(&bytes[..read]) {
+    if read == 0 {
         return None;
     }
     match basic::from_utf8(&buffer[..written]) {
@@ -53,6 +52,8 @@ fn copy_end(bytes: &[u8], step: Step, buffer: &mut Buffer) -> Step
     ensures joined { (f : AnyFlavor)
         → IsJoined f (take step.read bytes.now) (take step.written buffer.old)
         → IsJoined f (take result.read bytes.now) (take result.written buffer.new) }
+    ensures unchanged { (f : AnyFlavor)
+        → NoneChanges f step.read bytes.now → NoneChanges f result.read bytes.now }
 {
     let mut read = step.read;
     let mut written = step.written;

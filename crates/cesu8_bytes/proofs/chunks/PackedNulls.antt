@@ -66,7 +66,7 @@ length-null_leads (suc n) (b ∷ bytes) long = omega (arith, length-null_leads n
 
 -- Whether the last of some bytes leads a null character, whose second byte follows, or the one
 -- before them does.
-abbrev reach : Bool → ℕ → List ℕ → ℕ
+abbrev pub reach : Bool → ℕ → List ℕ → ℕ
 reach before zero bytes = cond before 1 0
 reach before (suc n) [] = 0
 reach before (suc n) (b ∷ bytes) = suc (reach (null_at Mutf8 b (get_or bytes 0 0)) n bytes)
@@ -131,13 +131,23 @@ reach_is false zero bytes long = refl
 reach_is before (suc n) [] long = absurd (omega arith)
 reach_is before (suc n) (b ∷ bytes) long = omega (arith, reach_is (null_at Mutf8 b (get_or bytes 0 0)) n bytes (omega arith))
 
-reach_most : (before : Bool) (n : ℕ) (bytes : List ℕ) → n ≤ length bytes → (n ≤ reach before n bytes) × (reach before n bytes ≤ n + 1)
+pub reach_most : (before : Bool) (n : ℕ) (bytes : List ℕ) → n ≤ length bytes → (n ≤ reach before n bytes) × (reach before n bytes ≤ n + 1)
 reach_most true zero bytes long = (omega arith, omega arith)
 reach_most false zero bytes long = (omega arith, omega arith)
 reach_most before (suc n) [] long = absurd (omega arith)
 reach_most before (suc n) (b ∷ bytes) long =
     let most = reach_most (null_at Mutf8 b (get_or bytes 0 0)) n bytes (omega arith) in
     (omega (arith, most.0), omega (arith, most.1))
+
+-- If a byte is read behind them, it is a second byte.
+pub reach_second : (before : Bool) (n : ℕ) (bytes : List ℕ) → n < length bytes → (before ≡ true → get_or bytes 0 0 ≡ 0x80) →
+    n < reach before n bytes → get_or bytes n 0 ≡ 0x80
+reach_second before n [] long second behind = absurd (omega (arith, long))
+reach_second true zero (b ∷ bytes) long second behind = second refl
+reach_second false zero (b ∷ bytes) long second behind = absurd (omega (arith, behind))
+reach_second before (suc n) (b ∷ bytes) long second behind =
+    let leads = null_at Mutf8 b (get_or bytes 0 0) in
+    reach_second leads n bytes (omega arith) (λ is. (null_parts Mutf8 b (get_or bytes 0 0) is).1.1) (omega (arith, behind))
 
 -- ---- a block
 
@@ -191,7 +201,7 @@ module _ (bytes : List ℕ) (marks : ℕ) (long : 32 < length bytes) (nulls : Ar
   read = 32 + marks * 2 % 2 ^ 64 / 2 ^ 32
 
   -- and the bit above these tells of one behind the block.
-  read_is : read ≡ reach false 32 bytes
+  pub read_is : read ≡ reach false 32 bytes
   read_is =
       omega (arith, ap (λ m. m / 2 ^ 32) gone_is ∙ mask_rest 32 tests (omega (arith, tests_long)), reach_is false 32 bytes (omega arith))
 

@@ -1,9 +1,9 @@
 //! The null characters of MUTF-8, C0 80, found and joined: one, a block of them, or those among the
 //! other bytes of a block.
 
-ghost use Rattle.std.specs.Prelude.{◌≡◌, ◌+◌, ◌<◌, ◌≤◌, ◌↔◌, length, take, IsTrue};
+ghost use Rattle.std.specs.Prelude.{◌≡◌, ◌+◌, ◌-◌, ◌<◌, ◌≤◌, ◌↔◌, length, take, IsTrue};
 ghost use Rattle.cesu8_text.specs.Encoding.{Mutf8};
-ghost use Rattle.cesu8_bytes.specs.Joining.{KeepsJoined, nulls, AreNullMarks, HasNull};
+ghost use Rattle.cesu8_bytes.specs.Joining.{KeepsJoined, NoneChanges, AreMarked, nulls, AreNullMarks, HasNull};
 
 use super::buffer::{BUFFER_LEN, Buffer, Progress};
 use crate::BLOCK;
@@ -92,12 +92,15 @@ pub fn are_null_marks<F: Flavor>(bytes: &[u8], marks: u32) -> bool
 pub fn pack_nulls<'a>(at: Progress<'a>, marks: u32, buffer: &mut Buffer) -> Progress<'a>
     requires long { BLOCK < length at.rest.now }
     requires nulls { AreNullMarks marks at.rest.now }
+    requires marked { AreMarked Mutf8 at.rest.now marks }
     requires room { at.written + BLOCK + STORED ≤ BUFFER_LEN }
     ensures rest { (length result.rest.now + BLOCK ≤ length at.entry.rest.now)
         × (length at.entry.rest.now ≤ length result.rest.now + BLOCK + 1) }
     ensures written { result.written ≤ at.entry.written + BLOCK }
     ensures joined { KeepsJoined Mutf8 at.entry.rest.now (take at.entry.written buffer.old)
         result.rest.now (take result.written buffer.new) }
+    ensures unchanged { NoneChanges Mutf8
+        (length at.entry.rest.now - length result.rest.now) at.entry.rest.now }
 {
     let block = u8x32::from_slice(at.rest);
     let lanes = Equal::<0xC0>::marks(block).select(u8x32::splat(0), block);

@@ -1,8 +1,8 @@
 //! Surrogate pairs, found and joined by words of eight bytes.
 
-ghost use Rattle.std.specs.Prelude.{◌≡◌, ◌+◌, ◌*◌, ◌<◌, ◌≤◌, ◌↔◌, length, take, slice_index, IsTrue};
+ghost use Rattle.std.specs.Prelude.{◌≡◌, ◌+◌, ◌-◌, ◌*◌, ◌<◌, ◌≤◌, ◌↔◌, length, take, slice_index, IsTrue};
 ghost use Rattle.cesu8_text.specs.Encoding.{Flavor as AnyFlavor};
-ghost use Rattle.cesu8_bytes.specs.Joining.{IsJoinedAfter, KeepsJoined, HasPair, AreJoinedDigits, second_third_fifth_sixth, word_of};
+ghost use Rattle.cesu8_bytes.specs.Joining.{IsJoinedAfter, KeepsJoined, NoneChanges, HasPair, AreJoinedDigits, second_third_fifth_sixth, word_of};
 
 use super::buffer::{Buffer, MOST_JOINED, MUST_FOLLOW, Progress};
 use std::simd::prelude::*;
@@ -36,6 +36,8 @@ pub fn join_pairs<'a>(start: Progress<'a>, stop: usize, buffer: &mut Buffer) -> 
     ensures joined { (f : AnyFlavor) → KeepsJoined f
         start.entry.rest.now (take start.entry.written buffer.old)
         result.rest.now (take result.written buffer.new) }
+    ensures unchanged { (f : AnyFlavor) → NoneChanges f
+        (length start.entry.rest.now - length result.rest.now) start.entry.rest.now }
 {
     let bytes = start.rest;
     let mut read = 0;

@@ -1,5 +1,5 @@
-use Rattle.std.proofs.Common.{◌≡◌, ◌+◌, ◌≤◌, length, take}
-use Rattle.cesu8_bytes.specs.Joining.{IsJoinedSoFar}
+use Rattle.std.proofs.Common.{◌≡◌, ◌+◌, ◌-◌, ◌≤◌, length, take}
+use Rattle.cesu8_bytes.specs.Joining.{IsJoinedSoFar, NoneChanges}
 use Rattle.cesu8_bytes.specs.declared.joining.pairs.TheConstants.{PAIR}
 use Rattle.cesu8_bytes.proofs.joining.join.Given as goal
 
@@ -13,4 +13,5 @@ invariant-loop-at g l = record {
   past : l.stop ≤ length l.at.rest.now + PAIR;
   room : l.at.written + length l.at.rest.now ≤ length l.fn.bytes;
   joined : IsJoinedSoFar g.F.Flavor.flavor l.fn.bytes l.at.rest.now (take l.at.written l.buffer);
+  unchanged : NoneChanges g.F.Flavor.flavor (length l.fn.bytes - length l.at.rest.now) l.fn.bytes;
 }

@@ -1,9 +1,11 @@
 use Rattle.std.proofs.Common.{◌≡◌, ◌∙◌, ◌+◌, ◌-◌, ◌≤◌, ℕ, List, ap, subst, arith, length, take, drop, length-drop}
 use Rattle.std.proofs.lemmas.List.{drop-drop, take_rest}
+use Rattle.std.proofs.lemmas.Nat.{trailing_le}
 use Rattle.cesu8_text.specs.Encoding.{Flavor}
-use Rattle.cesu8_bytes.specs.Joining.{KeepsJoined, IsJoinedSoFar, IsJoinedAfter}
+use Rattle.cesu8_bytes.specs.Joining.{KeepsJoined, NoneChanges, IsJoinedSoFar, IsJoinedAfter}
 use Rattle.cesu8_bytes.specs.declared.joining.buffer.TheConstants.{MUST_FOLLOW}
 use Rattle.cesu8_bytes.specs.declared.joining.pairs.TheConstants.{PAIR}
+use Rattle.cesu8_bytes.proofs.chunks.Unchanged.{above_lowest, none_after, none_to_mark}
 use Rattle.cesu8_bytes.proofs.joining.join_marked.Goals.{else-loop-marks-test, then-loop-marks-test+then-offset-read, then-loop-marks-test+else-offset-read+else-offset-bytes+in-None}
 use Rattle.cesu8_bytes.proofs.joining.join_marked.Goals as goal
 
@@ -34,6 +36,15 @@ loop-marks-preserved g c = record {
       let f = g.F.Flavor.flavor in
       rw (← drop-drop) ((rw take_rest at c.in-Some.ensures.joined) all
       (keeps_run f c.args.start.rest.now _ _ _ _ _ (omega arith) c.loop-marks.invariant.joined (c.copy_block.ensures f) all so_far));
+  unchanged =
+      let f = g.F.Flavor.flavor in
+      none_after f _ _ c.args.start.rest.now
+      (none_to_mark f c.args.start.rest.now c.loop-marks.marks c.loop-marks.read _ (omega arith) (trailing_le 32 c.loop-marks.marks) (omega arith)
+      c.loop-marks.invariant.unchanged c.loop-marks.invariant.marked)
+      (rw take_rest at c.in-Some.ensures.unchanged);
+  marked = λ i behind inside changed.
+      above_lowest c.loop-marks.marks i (omega arith) (omega arith) (omega (arith, behind, c.in-Some.ensures.few))
+      (c.loop-marks.invariant.marked i (omega (arith, behind, c.in-Some.ensures.few)) inside changed);
 }
 
 pub returns-clause-joined : goal.returns-clause-joined
@@ -57,3 +68,16 @@ returns-clause-after g c =
       | then-loop-marks-test+else-offset-read+else-offset-bytes+in-None w ↦ rw (w.read-is, w.written-is) (omega arith, omega arith)
     ] in
     rw take_rest (bounds_after bytes c.args.stop read c.args.start.written c.loop-marks-test.written c.requires.stop.1 bounds.0 bounds.1)
+
+pub returns-clause-unchanged : goal.returns-clause-unchanged
+returns-clause-unchanged g c =
+    let f = g.F.Flavor.flavor in
+    let bytes = c.args.start.rest.now in
+    let inv = c.loop-marks.invariant in
+    let none : NoneChanges f c.loop-marks-test.read bytes = elim c.loop-marks-test.branch [
+      | else-loop-marks-test w ↦ rw w.read-is inv.unchanged
+      | then-loop-marks-test+then-offset-read w ↦ rw w.read-is inv.unchanged
+      | then-loop-marks-test+else-offset-read+else-offset-bytes+in-None w ↦ rw w.read-is
+          (none_to_mark f bytes c.loop-marks.marks c.loop-marks.read _ (omega arith) (trailing_le 32 c.loop-marks.marks) (omega arith) inv.unchanged inv.marked)
+    ] in
+    rw take_rest (λ i before. none i (omega (arith, before, length-drop c.loop-marks-test.read bytes)))

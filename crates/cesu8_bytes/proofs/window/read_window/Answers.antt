@@ -1,9 +1,9 @@
 use Rattle.std.proofs.Common.{sym, subst, take}
 use Rattle.std.specs.Str.{chars, IsUtf8}
-use Rattle.std.proofs.lemmas.Bool.{iff_false}
 use Rattle.cesu8_text.proofs.StdUtf8.{IsUtf8Of_chars_at}
 use Rattle.cesu8_bytes.proofs.chunks.JoinedText.{joined_text}
 use Rattle.cesu8_bytes.proofs.chunks.EncodedChunk.{chunk_of_encoding}
+use Rattle.cesu8_bytes.proofs.chunks.Unchanged.{none_read}
 use Rattle.cesu8_bytes.proofs.window.read_window.Goals as goal
 
 pub returns-in-Ok-clause-text : goal.returns-in-Ok-clause-text
@@ -14,5 +14,5 @@ returns-in-Ok-clause-text g c which =
     (subst IsUtf8 (sym c.in-Ok.ensures.0) c.in-Ok.ensures.1) (
       of_chars.0,
       joined_text f _ _ (chars c.in-Ok.text.now) (c.copy_end-read.ensures.joined f c.join-step.ensures.joined)
-          (λ found. iff_false c.contains_changed.ensures c.if-contains_changed.false found) of_chars.0 of_chars.1,
+          (none_read f c.copy_end-read.result.read c.args.bytes.now (c.copy_end-read.ensures.unchanged f c.join-step.ensures.unchanged)) of_chars.0 of_chars.1,
     )

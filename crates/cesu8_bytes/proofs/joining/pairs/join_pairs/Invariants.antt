@@ -1,6 +1,6 @@
 use Rattle.std.proofs.Common.{◌+◌, ◌-◌, ◌≤◌, length, take, drop}
 use Rattle.cesu8_text.specs.Encoding.{Flavor}
-use Rattle.cesu8_bytes.specs.Joining.{KeepsJoined}
+use Rattle.cesu8_bytes.specs.Joining.{KeepsJoined, NoneChanges}
 use Rattle.cesu8_bytes.specs.declared.joining.pairs.TheConstants.{PAIR}
 use Rattle.cesu8_bytes.proofs.joining.pairs.join_pairs.Given as goal
 
@@ -12,4 +12,5 @@ invariant-loop-read l = record {
   past : l.stop + l.read ≤ length l.bytes + PAIR;
   room : l.written ≤ l.fn.start.written + l.read;
   joined : (f : Flavor) → KeepsJoined f l.bytes (take l.fn.start.written l.fn.buffer) (drop l.read l.bytes) (take l.written l.buffer);
+  unchanged : (f : Flavor) → NoneChanges f l.read l.bytes;
 }
