@@ -84,7 +84,8 @@ const LEAD: u8 = 0xC0;
 const LEAD_OF_THREE: u8 = 0xE0;
 
 /// Returns the kinds of the 32 offsets from `at` on. If no byte can lead others, they are zeros. If
-/// none can lead two others, two bytes decide.
+/// none can lead two others, two bytes decide, and if no two can begin a surrogate pair, three do.
+/// `PAIR` is two bits below the highest.
 #[inline(always)]
 pub fn starts<F: Flavor>(bytes: &[u8], at: usize) -> u8x32
     requires { at + REACH ≤ length bytes.now }
@@ -99,7 +100,14 @@ pub fn starts<F: Flavor>(bytes: &[u8], at: usize) -> u8x32
     if first.simd_ge(u8x32::splat(LEAD_OF_THREE)).to_bitmask() == 0 {
         return two;
     }
-    let third = u8x32::from_slice(&bytes[at + 2..]);
+    let third = continuations(u8x32::from_slice(&bytes[at + 2..]));
+    if (two << u8x32::splat(2))
+        .simd_ge(u8x32::splat(0x80))
+        .to_bitmask()
+        == 0
+    {
+        return two & ((third & u8x32::splat(THREE)) | u8x32::splat(TWO | NULL));
+    }
     let fourth = u8x32::from_slice(&bytes[at + 3..]);
     let fifth = u8x32::from_slice(&bytes[at + 4..]);
     let sixth = u8x32::from_slice(&bytes[at + 5..]);
@@ -107,7 +115,7 @@ pub fn starts<F: Flavor>(bytes: &[u8], at: usize) -> u8x32
         & equal(fifth & u8x32::splat(0xF0), 0xB0)
         & continuations(sixth)
         & u8x32::splat(PAIR);
-    let of_three = continuations(third) & (ends_pair | u8x32::splat(THREE));
+    let of_three = third & (ends_pair | u8x32::splat(THREE));
     two & (of_three | u8x32::splat(TWO | NULL))
 }
 

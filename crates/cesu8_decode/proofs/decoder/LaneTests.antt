@@ -63,6 +63,18 @@ shifted_pair a w c three_high = refl
 shifted_pair a w c three_last = refl
 shifted_pair a w c pair = refl
 
+-- Without a pair's bit it makes no difference whether a mask has that.
+pub no_pair_begun : (a w c : ℕ) → Start a w c → leb 0x80 (c * 2 ^ 2 % 2 ^ 8) ≡ false → bit_and c 0xBF ≡ bit_and c 0x9F
+no_pair_begun a w c nothing unset = refl
+no_pair_begun a w c (one low) unset = refl
+no_pair_begun a w c (null first) unset = refl
+no_pair_begun a w c (two_low other) unset = refl
+no_pair_begun a w c (two_high other) unset = refl
+no_pair_begun a w c three_low unset = refl
+no_pair_begun a w c three_high unset = refl
+no_pair_begun a w c three_last unset = refl
+no_pair_begun a w c pair unset = absurd (true≢false unset)
+
 last_first : (n p q : Bool) → (n || (p || q)) ≡ (p || (q || n))
 last_first true true q = refl
 last_first true false true = refl

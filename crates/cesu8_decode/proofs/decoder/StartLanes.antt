@@ -15,7 +15,8 @@ use Rattle.cesu8_bytes.specs.Joining.{null_at}
 use Rattle.cesu8_decode.specs.DecodedLanes.{start_kind_by, kind_of_two, start_kind}
 use Rattle.cesu8_bytes.proofs.lists.Lanes.{map_agree}
 use Rattle.cesu8_bytes.proofs.vectors.Loads.{loaded, marks_at}
-use Rattle.cesu8_decode.proofs.decoder.StartKinds.{no_start, two_decide}
+use Rattle.cesu8_decode.proofs.decoder.StartKinds.{start, no_start, two_decide}
+use Rattle.cesu8_decode.proofs.decoder.LaneTests.{no_pair_begun}
 use Rattle.cesu8_decode.proofs.decoder.FirstLanes.{no_lane, on_range}
 use Rattle.cesu8_decode.proofs.decoder.Kinds.{cond_same, and_cond, by_high, by_low, by_next, looked_up}
 
@@ -145,6 +146,24 @@ six f a b d e g h small =
     (with_others (null_at f a b) (two_at a b) (ltb a 0xD0) (eqb a 0xE0) (eqb a 0xED) (leb 0xE0 a) (ltb a 0xF0) (continues b) (fits_three a b)
     (eqb a 0xED) (leb 0xA0 b) (ltb b 0xB0) (continues d) (eqb e 0xED) (leb 0xB0 g) (ltb g 0xC0) (continues h))
 
+-- what three bytes tell, where no pair's bit is set
+abbrev three : Bool → ℕ
+three third = bit_or (bit_and (mask third) 0x1C) 0x83
+
+ends_alike : (c : ℕ) → bit_and c 0xBF ≡ bit_and c 0x9F → (third fourth fifth sixth : Bool) →
+    bit_and c (three third) ≡ bit_and c (behind third fourth fifth sixth)
+ends_alike c same true true true true = sym same
+ends_alike c same true true true false = refl
+ends_alike c same true true false sixth = ap (λ n. bit_and c (bit_or (bit_and 0xFF (bit_or (bit_and n 0x20) 0x1C)) 0x83)) (sym (and_zero_l (mask sixth)))
+ends_alike c same true false fifth sixth = refl
+ends_alike c same false fourth fifth sixth = refl
+
+three_decide : (f : Flavor) (a b d e g h : ℕ) → g < 0x100 → leb 0x80 (kind_of_two f a b * 2 ^ 2 % 2 ^ 8) ≡ false →
+    bit_and (kind_of_two f a b) (three (continues d)) ≡ start_kind_by f a b d e g h
+three_decide f a b d e g h small unset =
+    ends_alike (kind_of_two f a b) (no_pair_begun _ _ _ (start f a b 0x80 0xED 0xB0 0x80) unset) (continues d) (eqb e 0xED) (eqb (bit_and g 0xF0) 0xB0) (continues h)
+    ∙ six f a b d e g h small
+
 abbrev start_lanes : ℕ → (two third fourth fifth sixth : List ℕ) → List ℕ
 start_lanes n two third fourth fifth sixth =
     zip2 bit_and two (zip2 bit_or (zip2 bit_and third
@@ -195,6 +214,18 @@ module _ (f : Flavor) (window : List ℕ) (fits : (k : ℕ) → Fits w8 (get_or 
             marks_at (λ b. eqb (bit_and b 0xF0) 0xB0) window at 4 fifth (omega arith) fifth_by_mask,
             marks_at continues window at 5 sixth (omega arith) sixth_is,
           ) (kinds_of (range_with_len at 32))
+
+    -- Where no two bytes can begin a pair, three do.
+    pub three_are_starts : (third : List ℕ) → third ≡ map (λ b. mask (continues b)) (chunk (at + 2) 32 window) →
+        mask_l (map (leb 0x80) (zip2 (λ a b. a * 2 ^ b % 2 ^ 8) two (replicate 32 2))) ≡ 0 →
+        zip2 bit_and two (zip2 bit_or (zip2 bit_and third (replicate 32 0x1C)) (replicate 32 0x83)) ≡ map (start_kind f window) (range_with_len at 32)
+    three_are_starts third third_is none =
+        let lanes : zip2 bit_and two (zip2 bit_or (zip2 bit_and third (replicate 32 0x1C)) (replicate 32 0x83))
+        ≡ map (λ i. bit_and (kind_of_two f (get_or window i 0) (get_or window (i + 1) 0)) (three (continues (get_or window (i + 2) 0)))) (range_with_len at 32) =
+        rw (two_at_offsets, marks_at continues window at 2 third (omega arith) third_is) refl in
+        lanes ∙ on_range _ (start_kind f window) at 32
+        (λ i low inside. three_decide f _ _ _ _ _ _ (fits (i + 4)).fits
+        (no_lane (λ i. leb 0x80 (kind_of_two f (get_or window i 0) (get_or window (i + 1) 0) * 2 ^ 2 % 2 ^ 8)) at 32 (rw two_at_offsets at none) i low inside))
 
     -- Where none of its bytes is E0 or more, the first two of them do.
     pub two_are_starts : mask_l (map (leb 0xE0) (chunk at 32 window)) ≡ 0 → two ≡ map (start_kind f window) (range_with_len at 32)
