@@ -78,7 +78,7 @@ pub const BEHIND: usize = 5;
 pub const REACH: usize = BLOCK + BEHIND;
 
 /// The least byte that begins two bytes or more.
-const LEAD: u8 = 0xC0;
+pub const LEAD: u8 = 0xC0;
 
 /// The least byte that begins three bytes or more.
 const LEAD_OF_THREE: u8 = 0xE0;

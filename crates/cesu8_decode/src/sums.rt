@@ -6,7 +6,7 @@ ghost use Rattle.std.specs.List.{range_with_len};
 ghost use Rattle.cesu8_decode.specs.DecodedOffsets.{total_weight, weight_between};
 ghost use Rattle.cesu8_decode.specs.DecodedLanes.{weight_at, TellWeights};
 
-use super::offsets::{BEHIND, REACH, look_up, starts};
+use super::offsets::{BEHIND, LEAD, REACH, look_up, starts};
 use cesu8_bytes::flavor::{Flavor, nulls};
 use std::simd::prelude::*;
 
@@ -72,18 +72,22 @@ fn sum_of_blocks<F: Flavor, W: Weight>(bytes: &[u8], count: usize) -> usize
     lanes.dot4(u8x32::splat(1)).strict_reduce_sum() as usize
 }
 
-/// Returns the weights of the 32 offsets from `at` on.
+/// Returns the weights of the 32 offsets from `at` on. If no byte can lead others, they are those of
+/// characters of one byte.
 #[inline(always)]
 fn weight_lanes<F: Flavor, W: Weight>(bytes: &[u8], at: usize) -> u8x32
     requires { at + REACH ≤ length bytes.now }
     ensures { result ≡ map (weight_at W.weight F.flavor bytes.now) (range_with_len at 32) }
 {
     let weights = W::weights();
-    let kinds = starts::<F>(bytes, at);
     let byte = u8x32::from_slice(&bytes[at..]);
     // A byte below 80 is a character of its own, but 00 is none in MUTF-8.
     let of_one = (byte | nulls::<F>(byte))
         .simd_lt(u8x32::splat(0x80))
         .select(u8x32::splat(weights.of_one), u8x32::splat(0));
+    if byte.simd_ge(u8x32::splat(LEAD)).to_bitmask() == 0 {
+        return of_one;
+    }
+    let kinds = starts::<F>(bytes, at);
     of_one | look_up(weights.by_low, kinds) | look_up(weights.by_high, kinds >> u8x32::splat(4))
 }

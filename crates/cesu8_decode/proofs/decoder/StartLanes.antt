@@ -171,7 +171,7 @@ start_lanes n two third fourth fifth sixth =
 
 module _ (f : Flavor) (window : List ℕ) (fits : (k : ℕ) → Fits w8 (get_or window k 0)) where
   -- The bytes of a block are below one that no lane reaches.
-  all_below : (least at : ℕ) → at + 32 ≤ length window → mask_l (map (leb least) (chunk at 32 window)) ≡ 0 →
+  pub all_below : (least at : ℕ) → at + 32 ≤ length window → mask_l (map (leb least) (chunk at 32 window)) ≡ 0 →
       (i : ℕ) → at ≤ i → i < at + 32 → get_or window i 0 < least
   all_below least at room none i low inside =
       let lanes = pick_l-range_with_len 0 window at 32 room in

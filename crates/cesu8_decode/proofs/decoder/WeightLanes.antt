@@ -2,6 +2,7 @@
 use Rattle.std.proofs.Common.{◌≡◌, ℕ, zero, suc, ◌+◌, ◌*◌, ◌/◌, ◌%◌, ◌^◌, ◌<◌, ◌≤◌, ◌⊎◌, ⊎_elim, true, false, cond, List, [], ◌∷◌, map, length, get_or, replicate, eqb, ltb, bit_or, refl, sym, ap, ◌∙◌, subst, inl, inr, arith, Fits, w8, zero-add}
 use Rattle.std.specs.Int.Bits.{or_zero_r}
 use Rattle.std.specs.List.{range_with_len}
+use Rattle.std.proofs.lemmas.Nat.{le_or_l, le_or_r}
 use Rattle.std.proofs.lemmas.Bool.{cases_Bool, eqb-true, eqb-false, le-leb}
 use Rattle.std.proofs.lemmas.List.FromFn.{length-map-range_with_len}
 use Rattle.std.proofs.lemmas.Simd.{Each1-replicate, length-zip2, sum-zip2, Each1-zip2, Each2-of}
@@ -9,9 +10,10 @@ use lib.Lanes.{zip2, sel_l, top, sum_l, Each1, Each2}
 use Rattle.cesu8_text.specs.Encoding.{Flavor, Cesu8, Mutf8}
 use Rattle.cesu8_text.specs.Class.{is_null}
 use Rattle.cesu8_bytes.specs.Kernels.{mask}
-use Rattle.cesu8_decode.specs.DecodedOffsets.{one_at, width_at, weight_between}
-use Rattle.cesu8_decode.specs.DecodedLanes.{start_kind, weight_at, TellWeights}
-use Rattle.cesu8_decode.proofs.decoder.StartKinds.{one_by_first}
+use Rattle.cesu8_decode.specs.DecodedOffsets.{one_at, first_width_by, width_at, weight_between}
+use Rattle.cesu8_decode.specs.DecodedLanes.{start_kind_by, start_kind, weight_at, TellWeights}
+use Rattle.cesu8_decode.proofs.decoder.StartKinds.{no_start, one_by_first}
+use Rattle.cesu8_decode.proofs.decoder.FirstLanes.{on_range}
 use Rattle.cesu8_bytes.proofs.lists.Lanes.{chosen}
 use Rattle.cesu8_decode.proofs.by_offset.CharacterBoundaries.{width_bounds}
 use Rattle.cesu8_decode.proofs.by_offset.WindowOffsets.{weight_split}
@@ -35,11 +37,13 @@ entry table lane = get_or table (lane % 16) 0
 abbrev shr : ℕ → ℕ → ℕ
 shr a b = a / 2 ^ b
 
+abbrev one_vector : (n one : ℕ) (bytes nulls : List ℕ) → List ℕ
+one_vector n one bytes nulls =
+    sel_l (map (top 7) (zip2 (λ a b. cond (ltb a b) 255 0) (zip2 bit_or bytes nulls) (replicate n 0x80))) (replicate n one) (replicate n 0)
+
 abbrev weight_vector : (n one : ℕ) (table_low table_high bytes nulls kinds : List ℕ) → List ℕ
 weight_vector n one table_low table_high bytes nulls kinds =
-    zip2 bit_or (zip2 bit_or
-    (sel_l (map (top 7) (zip2 (λ a b. cond (ltb a b) 255 0) (zip2 bit_or bytes nulls) (replicate n 0x80))) (replicate n one) (replicate n 0))
-    (map (entry table_low) kinds)) (map (entry table_high) (zip2 shr kinds (replicate n 4)))
+    zip2 bit_or (zip2 bit_or (one_vector n one bytes nulls) (map (entry table_low) kinds)) (map (entry table_high) (zip2 shr kinds (replicate n 4)))
 
 module _ (weight : ℕ → ℕ → ℕ) (one : ℕ) (table_low table_high : List ℕ) (told : TellWeights weight one table_low table_high)
     (f : Flavor) (window : List ℕ) where
@@ -62,6 +66,39 @@ module _ (weight : ℕ → ℕ → ℕ) (one : ℕ) (table_low table_high : List
       ≡ map (weight_at weight f window) vs
   weight_lanes_are [] = refl
   weight_lanes_are (v ∷ vs) = λ i. weight_lane v i ∷ weight_lanes_are vs i
+
+  -- ---- where no byte leads others
+
+  module _ (nothing : (b : ℕ) → weight 0 b ≡ 0) where
+    -- the tables have 0 for a kind of 0, since FF begins nothing
+    entries_of_none : bit_or (entry table_low 0) (entry table_high 0) ≡ 0
+    unfolding first_width_by start_kind_by
+    entries_of_none = told Cesu8 0xFF 0 0 0 0 0 ∙ nothing 0xFF
+
+    abbrev one_lane : ℕ → ℕ
+    one_lane i = let b = get_or window i 0 in cond (top 7 (cond (ltb (bit_or b (mask (is_null f b))) 0x80) 255 0)) one 0
+
+    no_lead_weighs : (i : ℕ) → get_or window i 0 < 0xC0 → one_lane i ≡ weight_at weight f window i
+    no_lead_weighs i low =
+        let kind : start_kind f window i ≡ 0 = no_start f _ _ _ _ _ _ low in
+        let none_low : entry table_low 0 ≡ 0 = omega (arith, entries_of_none, le_or_l (entry table_low 0) (entry table_high 0)) in
+        let none_high : entry table_high 0 ≡ 0 = omega (arith, entries_of_none, le_or_r (entry table_low 0) (entry table_high 0)) in
+        sym ((λ k. bit_or (bit_or (one_lane i) (entry table_low (kind k))) (entry table_high (kind k / 2 ^ 4)))
+        ∙ (λ k. bit_or (bit_or (one_lane i) (none_low k)) (none_high k)) ∙ or_zero_r (bit_or (one_lane i) 0) ∙ or_zero_r (one_lane i))
+        ∙ weight_lane i
+
+    one_lanes : (vs : List ℕ) →
+        one_vector (length vs) one (map (λ i. get_or window i 0) vs) (map (λ i. mask (is_null f (get_or window i 0))) vs) ≡ map one_lane vs
+    one_lanes [] = refl
+    one_lanes (v ∷ vs) = ap (λ l. one_lane v ∷ l) (one_lanes vs)
+
+    -- Where no byte leads others, characters of one byte are all that weigh.
+    pub no_lead_weigh : (at : ℕ) → ((i : ℕ) → at ≤ i → i < at + 32 → get_or window i 0 < 0xC0) →
+        let offsets = range_with_len at 32 in
+        one_vector 32 one (map (λ i. get_or window i 0) offsets) (map (λ i. mask (is_null f (get_or window i 0))) offsets)
+        ≡ map (weight_at weight f window) offsets
+    no_lead_weigh at low =
+        one_lanes (range_with_len at 32) ∙ on_range one_lane (weight_at weight f window) at 32 (λ i from before. no_lead_weighs i (low i from before))
 
 -- ---- sums of lanes
 
