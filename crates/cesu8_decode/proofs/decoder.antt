@@ -7,6 +7,7 @@ pub mod StartLanes
 pub mod DecodedParts
 pub mod DecodedBlocks
 pub mod DecodedRows
+pub mod KeptBlocks
 pub mod WholeBlocks
 pub mod Shuffles
 pub mod WeightLanes

@@ -1,10 +1,10 @@
 -- The lanes of the decoder's vectors.
-use Rattle.std.specs.Prelude.{◌≡◌, ℕ, ◌+◌, ◌*◌, ◌/◌, ◌%◌, ◌<◌, ◌&&◌, ◌||◌, ◌==◌, nat_le, nat_lt, if◌then◌else◌, Bool, List, [], map, slice_index, slice_index_or, bit_or}
+use Rattle.std.specs.Prelude.{◌≡◌, ℕ, ◌+◌, ◌-◌, ◌*◌, ◌/◌, ◌%◌, ◌<◌, ◌≤◌, ◌&&◌, ◌||◌, ◌==◌, nat_le, nat_lt, if◌then◌else◌, Bool, true, false, List, [], ◌++◌, map, take, replicate, slice_index, slice_index_or, bit_or}
 use Rattle.std.specs.List.{range_with_len}
 use Rattle.cesu8_text.specs.Encoding.{Flavor}
 use Rattle.cesu8_bytes.specs.Joining.{null_at}
 use Rattle.cesu8_bytes.specs.Packing.{written, kept_of, shuffle_keeping}
-use Rattle.cesu8_decode.specs.DecodedOffsets.{two_at, three_at, pair_at, first_width_by, width_at}
+use Rattle.cesu8_decode.specs.DecodedOffsets.{two_at, three_at, pair_at, first_width_by, width_at, is_ill_formed_at}
 
 -- The kind of the character that begins at an offset, by the six bytes there: a bit, or 0 if none
 -- begins or one of one byte.
@@ -61,6 +61,20 @@ byte_at f window i =
 -- A lane whose highest bit is set.
 abbrev pub is_high : ℕ → Bool
 is_high lane = nat_le 0x80 lane
+
+-- A surrogate pair begins at an offset, or C0 80 in MUTF-8. UTF-8 has other bytes for these.
+abbrev pub begins_changed : Flavor → List ℕ → ℕ → Bool
+begins_changed f window i = start_kind f window i == 0x20 || start_kind f window i == 0x80
+
+-- None does at the 32 offsets of a block that follow the first `at` and five more, nor at those five.
+abbrev pub NoneChanges : Flavor → List ℕ → ℕ → Type 0
+NoneChanges f window at = (i : ℕ) → at ≤ i → i < at + 37 → begins_changed f window i ≡ false
+
+-- Three vectors say what becomes of the first `count` bytes of a block, and that the others go.
+pub record AreParts (f : Flavor) (window : List ℕ) (at count : ℕ) (gone ill_formed bytes : List ℕ) : Type 0 where
+  pub gone_are : map is_high gone ≡ map (goes_at f window) (range_with_len at count) ++ replicate (32 - count) true
+  pub ill_formed_are : map is_high ill_formed ≡ map (is_ill_formed_at f window) (range_with_len at count) ++ replicate (32 - count) false
+  pub bytes_are : take count bytes ≡ map (byte_at f window) (range_with_len at count)
 
 -- What is written for the lanes of three vectors.
 abbrev pub written_lanes : List ℕ → List ℕ → List ℕ → List ℕ

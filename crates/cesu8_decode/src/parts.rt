@@ -9,15 +9,17 @@
 //! fourth ──► two bits of the second, four of the third
 //! ```
 
-ghost use Rattle.std.specs.Prelude.{◌≡◌, ℕ, List, ◌+◌, ◌-◌, ◌*◌, ◌<◌, ◌≤◌, ◌++◌, ◌==◌, not, nat_le, IsTrue, true, false, length, take, map, replicate};
+ghost use Rattle.std.specs.Prelude.{◌≡◌, ℕ, List, ◌+◌, ◌-◌, ◌*◌, ◌<◌, ◌≤◌, ◌++◌, ◌==◌, not, nat_le, IsTrue, true, false, length, take, map, replicate, slice_index};
 ghost use Rattle.std.specs.List.{range_with_len};
-ghost use Rattle.std.specs.Simd.Lanes.{sel_l};
+ghost use Rattle.std.specs.Simd.Lanes.{sel_l, mask_l};
 ghost use Rattle.cesu8_text.specs.Encoding.{Flavor};
 ghost use Rattle.cesu8_bytes.specs.Kernels.{mask};
 ghost use Rattle.cesu8_decode.specs.DecodedOffsets.{decoded, is_ill_formed_at};
-ghost use Rattle.cesu8_decode.specs.DecodedLanes.{AreKindsNear, is_high, goes_at, byte_at};
+ghost use Rattle.cesu8_decode.specs.DecodedLanes.{start_kind, AreFiveKinds, AreKindsNear, NoneChanges, AreParts, is_high, goes_at, byte_at};
 
-use super::offsets::{BLOCK, Kinds, NUMBERS, PAIR, REACH, THREE, equal, look_up};
+use super::offsets::{
+    BEHIND, BLOCK, Kinds, NUMBERS, PAIR, REACH, THREE, equal, look_up, near, starts,
+};
 use super::packing::{Parts, ROOM, WIDEST, highest_bits, store};
 use cesu8_bytes::flavor::{Flavor, nulls};
 use std::simd::prelude::*;
@@ -37,27 +39,32 @@ const THIRD_BY_THIRD: [u8; 16] = [
     0x80, 0x90, 0xA0, 0xB0, 0x80, 0x90, 0xA0, 0xB0, 0x80, 0x90, 0xA0, 0xB0, 0x80, 0x90, 0xA0, 0xB0,
 ];
 
-/// The end of what is written for a block, and whether some of its bytes are ill-formed.
+/// The end of what is written for a block, whether some of its bytes are ill-formed, and the kinds
+/// of their offsets.
 #[derive(Drop)]
 pub struct Block {
     pub end: usize,
     pub is_ill_formed: bool,
+    pub kinds: u8x32,
 }
 
 /// Writes what becomes of the first `count` bytes of a block, which follow `at` bytes of the window
-/// and five more. The others go.
+/// and five more. The kinds of these five come last in `before`. The other bytes go.
+///
+/// Most blocks are copied: those of characters of one byte, whatever comes before, and those that
+/// are well-formed and near no surrogate pair and no C0 80.
 #[inline(always)]
 pub fn write_block<F: Flavor>(
     window: &[u8],
-    kinds: &Kinds,
+    before: u8x32,
     at: usize,
     count: usize,
     out: &mut [u8],
     end: usize,
 ) -> Block
     requires count { count ≤ BLOCK }
-    requires window { at + REACH ≤ length window.now }
-    requires kinds { AreKindsNear F.flavor window.now at kinds.now }
+    requires window { at + BEHIND + REACH ≤ length window.now }
+    requires before { AreFiveKinds F.flavor window.now at before (BLOCK - BEHIND) }
     requires room { end + ROOM ≤ length out.old }
     ensures bytes { take result.end out.new
         ≡ take end out.old ++ decoded F.flavor window.now at count }
@@ -65,18 +72,118 @@ pub fn write_block<F: Flavor>(
         × (is_ill_formed_at F.flavor window.now i ≡ true) }
     ensures whole { result.is_ill_formed ≡ false → (i : ℕ) → at ≤ i → i < at + count
         → is_ill_formed_at F.flavor window.now i ≡ false }
+    ensures kinds { count ≡ BLOCK → result.kinds
+        ≡ map (start_kind F.flavor window.now) (range_with_len (at + BEHIND) BLOCK) }
     ensures end { (end ≤ result.end) × (result.end ≤ end + WIDEST * BLOCK) }
     ensures len { length out.new ≡ length out.old }
 {
-    let parts = Parts {
-        bytes: changed_bytes(window, kinds, at),
-        gone: gone(kinds, count),
-        ill_formed: ill_formed::<F>(window, kinds, at, count),
+    let bytes = u8x32::from_slice(&window[at + BEHIND..]);
+    if first_bits(bytes | nulls::<F>(bytes), count) == 0 {
+        return copy_block(bytes, u8x32::splat(0), count, out, end);
+    }
+    let here = starts::<F>(window, at + BEHIND);
+    let kinds = near(before, here);
+    let parts = if changes_none(&kinds) {
+        let marks = kept_ill_formed::<F>(window, &kinds, at);
+        if first_bits(marks, count) == 0 {
+            return copy_block(bytes, here, count, out, end);
+        }
+        kept_parts(bytes, marks, count)
+    } else {
+        changed_parts::<F>(window, &kinds, at, count)
     };
     let is_ill_formed = highest_bits(parts.ill_formed) != 0;
     Block {
         end: store(parts, out, end),
         is_ill_formed,
+        kinds: here,
+    }
+}
+
+/// Copies the first `count` bytes of a block, which stay as they are.
+#[inline(always)]
+fn copy_block(bytes: u8x32, kinds: u8x32, count: usize, out: &mut [u8], end: usize) -> Block
+    requires count { count ≤ BLOCK }
+    requires room { end + BLOCK ≤ length out.old }
+    ensures bytes { take result.end out.new ≡ take end out.old ++ take count bytes }
+    ensures whole { result.is_ill_formed ≡ false }
+    ensures kinds { result.kinds ≡ kinds }
+    ensures end { result.end ≡ end + count }
+    ensures len { length out.new ≡ length out.old }
+{
+    bytes.copy_to_slice(&mut out[end..]);
+    Block {
+        end: end + count,
+        is_ill_formed: false,
+        kinds,
+    }
+}
+
+/// Returns a bit for each of the first `count` lanes whose highest bit is set.
+#[inline(always)]
+fn first_bits(lanes: u8x32, count: usize) -> u64
+    requires { count ≤ BLOCK }
+    ensures { result ≡ mask_l (take count (map is_high lanes)) }
+{
+    highest_bits(lanes) & ((1 << count) - 1)
+}
+
+/// Returns whether neither a surrogate pair nor C0 80 begins at the offsets around a block. Then its
+/// bytes stay, but for those that are ill-formed.
+#[inline(always)]
+fn changes_none(kinds: &Kinds) -> bool
+    ensures { (f : Flavor) (window : List ℕ) (at : ℕ) → AreKindsNear f window at kinds.now
+        → IsTrue result → NoneChanges f window at }
+{
+    let around = kinds[0] | kinds[5];
+    highest_bits(around | (around << u8x32::splat(2))) == 0
+}
+
+/// Marks, with the highest bit, the bytes that no encoded character covers, where none changes.
+#[inline(always)]
+fn kept_ill_formed<F: Flavor>(window: &[u8], kinds: &Kinds, at: usize) -> u8x32
+    requires window { at + REACH ≤ length window.now }
+    requires kinds { AreKindsNear F.flavor window.now at kinds.now }
+    requires kept { NoneChanges F.flavor window.now at }
+    ensures { map is_high result
+        ≡ map (is_ill_formed_at F.flavor window.now) (range_with_len at BLOCK) }
+{
+    let near = kinds[5] | kinds[4];
+    let of_three = kinds[3] & u8x32::splat(PAIR | THREE);
+    let byte = u8x32::from_slice(&window[at + BEHIND..]);
+    equal(near | of_three, 0) & (byte | nulls::<F>(byte))
+}
+
+/// Returns what becomes of the first `count` bytes of a block where none changes. Those that are
+/// ill-formed are marked.
+#[inline(always)]
+fn kept_parts(bytes: u8x32, marks: u8x32, count: usize) -> Parts
+    requires count { count ≤ BLOCK }
+    ensures { (f : Flavor) (window : List ℕ) (at : ℕ) → NoneChanges f window at
+        → bytes ≡ map (λ i. slice_index window (i + BEHIND)) (range_with_len at BLOCK)
+        → map is_high marks ≡ map (is_ill_formed_at f window) (range_with_len at BLOCK)
+        → AreParts f window at count result.gone result.ill_formed result.bytes }
+{
+    let behind = behind(count as u8);
+    Parts {
+        bytes,
+        gone: behind,
+        ill_formed: marks & (behind ^ u8x32::splat(0xFF)),
+    }
+}
+
+/// Returns what becomes of the first `count` bytes of a block.
+#[inline(always)]
+fn changed_parts<F: Flavor>(window: &[u8], kinds: &Kinds, at: usize, count: usize) -> Parts
+    requires count { count ≤ BLOCK }
+    requires window { at + REACH ≤ length window.now }
+    requires kinds { AreKindsNear F.flavor window.now at kinds.now }
+    ensures { AreParts F.flavor window.now at count result.gone result.ill_formed result.bytes }
+{
+    Parts {
+        bytes: changed_bytes(window, kinds, at),
+        gone: gone(kinds, count),
+        ill_formed: ill_formed::<F>(window, kinds, at, count),
     }
 }
 

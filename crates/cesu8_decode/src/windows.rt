@@ -7,7 +7,7 @@ ghost use Rattle.cesu8_decode.specs.DecodedOffsets.{decoded, is_ill_formed_at, i
 ghost use Rattle.cesu8_decode.specs.DecodedLanes.{AreFiveKinds};
 ghost use Rattle.cesu8_decode.specs.Decoding.{ReadsFirst};
 
-use super::offsets::{BLOCK, PAIR, THREE, near, starts};
+use super::offsets::{BLOCK, PAIR, THREE, starts};
 use super::packing::{ROOM, WIDEST};
 use super::parts::write_block;
 use super::way::{LONG_WINDOW, MEDIUM_WINDOW, SHORT_WINDOW};
@@ -126,11 +126,10 @@ fn write_blocks<F: Flavor>(window: &[u8], count: usize, out: &mut [u8]) -> Decod
     while at < count {
         let left = count - at;
         let len = if left < BLOCK { left } else { BLOCK };
-        let here = starts::<F>(window, at + BEFORE);
-        let block = write_block::<F>(window, &near(before, here), at, len, out, end);
+        let block = write_block::<F>(window, before, at, len, out, end);
         end = block.end;
         is_ill_formed = is_ill_formed | block.is_ill_formed;
-        before = here;
+        before = block.kinds;
         at += len;
     }
     Decoded {

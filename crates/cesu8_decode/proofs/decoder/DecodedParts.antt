@@ -10,7 +10,8 @@ use Rattle.cesu8_decode.specs.DecodedLanes.{goes_at, byte_at}
 
 -- ---- one offset
 
-pair_or_less : (one null two three pair : Bool) →
+-- A width of 6 is that of a pair.
+pub pair_or_less : (one null two three pair : Bool) →
     ◌≡◌ {A = ℕ} (cond one 1 (cond null 2 (cond two 2 (cond three 3 (cond pair 6 0))))) 6 → pair ≡ true
 pair_or_less true null two three pair six = absurd (omega arith)
 pair_or_less false true two three pair six = absurd (omega arith)

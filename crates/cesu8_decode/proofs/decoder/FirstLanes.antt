@@ -1,8 +1,11 @@
 -- The first lanes of the decoder's vectors, of which the others go and are not ill-formed.
-use Rattle.std.proofs.Common.{◌≡◌, ◌≢◌, ℕ, zero, suc, ◌+◌, ◌<◌, ◌≤◌, ⊎_elim, Bool, true, false, ◌||◌, leb, List, [], ◌∷◌, ◌++◌, refl, ap, ◌∙◌, arith, map, take, length, replicate, bit_and, bit_or, bit_xor, zero-add, append-nil}
+use Rattle.std.proofs.Common.{◌≡◌, ◌≢◌, ℕ, zero, suc, ◌+◌, ◌-◌, ◌*◌, ◌^◌, ◌%◌, ◌<◌, ◌≤◌, ⊎_elim, Bool, true, false, ◌||◌, leb, List, [], ◌∷◌, ◌++◌, refl, sym, ap, ◌∙◌, arith, map, take, length, replicate, bit_and, bit_or, bit_xor, zero-add, append-nil}
 use Rattle.std.specs.List.{range_with_len}
 use Rattle.std.proofs.lemmas.Bool.{agree_below_at, cases_Bool, le-leb, lt-leb, cases_eq}
-use Rattle.std.proofs.lemmas.Nat.{le_or_r}
+use Rattle.std.proofs.lemmas.Nat.{le_or_r, and_mask}
+use Rattle.std.proofs.Math.Nat.{mod-eq_of_lt}
+use lib.Pow.{pow_mono}
+use Rattle.cesu8_bytes.proofs.vectors.Rows.{mask_prefix}
 use Rattle.std.specs.Int.Bits.{and_zero_r}
 use lib.Lanes.{zip2, mask_l, Each1}
 use Rattle.cesu8_bytes.specs.Kernels.{mask}
@@ -42,6 +45,23 @@ gone_behind (x ∷ xs) count start (suc n) m e long =
     let first = ap (λ (t : Bool). leb 0x80 (bit_or x (mask t))) (lt-leb count start (omega arith)) ∙ or_no x in
     let rest = gone_behind xs count (start + 1) n m (omega arith) (omega arith) in
     λ k. first k ∷ rest k
+
+behind_high : (count start m : ℕ) → count ≤ start → map is_high (behind_lanes count start m) ≡ replicate m true
+behind_high count start zero past = refl
+behind_high count start (suc m) past =
+    let first = ap (λ t. is_high (mask t)) (le-leb count start past) in
+    let rest = behind_high count (start + 1) m (omega arith) in
+    λ k. first k ∷ rest k
+
+-- where none of the first ones goes, the marks of the others are all,
+pub none_go : (goes : ℕ → Bool) (at count start n m : ℕ) → count ≡ start + n → ((i : ℕ) → at ≤ i → i < at + n → goes i ≡ false) →
+    map is_high (behind_lanes count start (n + m)) ≡ map goes (range_with_len at n) ++ replicate m true
+none_go goes at count start zero m e none = ap (λ k. map is_high (behind_lanes count start k)) (zero-add m) ∙ behind_high count start m (omega arith)
+none_go goes at count start (suc n) m e none =
+    let first = ap (λ t. is_high (mask t)) (lt-leb count start (omega arith)) ∙ sym (none at (omega arith) (omega arith)) in
+    let rest = none_go goes (at + 1) count (start + 1) n m (omega arith) (λ i low inside. none i (omega arith) (omega arith)) in
+    let long : suc n + m ≡ suc (n + m) = omega arith in
+    ap (λ k. map is_high (behind_lanes count start k)) long ∙ (λ k. first k ∷ rest k)
 
 abbrev pub before_lanes : (count start n : ℕ) → List ℕ
 before_lanes count start n = zip2 bit_xor (behind_lanes count start n) (replicate n 0xFF)
@@ -84,6 +104,20 @@ written_first (g ∷ gone) (d ∷ ill_formed) m n zero bytes e e' = absurd (omeg
 written_first (g ∷ gone) (d ∷ ill_formed) m n (suc count) [] e e' = refl
 written_first (g ∷ gone) (d ∷ ill_formed) m n (suc count) (b ∷ bytes) e e' =
     ap (λ l. written_for g d b ++ l) (written_first gone ill_formed m n count bytes (omega arith) (omega arith))
+
+-- ---- the bits of the first lanes
+
+ones_are : (n : ℕ) → n ≤ 32 → 1 * 2 ^ n % 0x10000000000000000 - 1 ≡ 2 ^ n - 1
+ones_are n le =
+    let small : 2 ^ n ≤ 2 ^ 32 = pow_mono le in
+    let fits : 1 * 2 ^ n < 0x10000000000000000 = omega arith in
+    ap (λ k. k - 1) (mod-eq_of_lt fits ∙ omega arith)
+
+-- So many ones leave the bits of the first tests.
+pub first_bits_are : (tests : List Bool) (bits n : ℕ) → n ≤ 32 → n ≤ length tests → bits ≡ mask_l tests →
+    bit_and bits (1 * 2 ^ n % 0x10000000000000000 - 1) ≡ mask_l (take n tests)
+first_bits_are tests bits n le fits bits_are =
+    ap (bit_and bits) (ones_are n le) ∙ and_mask bits n ∙ ap (λ m. m % 2 ^ n) bits_are ∙ mask_prefix n tests fits
 
 -- ---- the bits of the ill-formed
 

@@ -40,7 +40,7 @@ no_bit_or a b =
     (cases_eq a 0)
 
 -- A shift shifts both.
-shifted_or : (a b : ℕ) → bit_or a b * 2 ^ 2 % 2 ^ 8 ≡ bit_or (a * 2 ^ 2 % 2 ^ 8) (b * 2 ^ 2 % 2 ^ 8)
+pub shifted_or : (a b : ℕ) → bit_or a b * 2 ^ 2 % 2 ^ 8 ≡ bit_or (a * 2 ^ 2 % 2 ^ 8) (b * 2 ^ 2 % 2 ^ 8)
 shifted_or a b =
     let shifted = or_block 2 a b 0 0 (omega arith) (omega arith) in
     let plain : bit_or (a * 2 ^ 2) (b * 2 ^ 2) ≡ bit_or a b * 2 ^ 2 =
@@ -144,7 +144,7 @@ begins_one f window i =
     (pair_at (w i) (w (i + 1)) (w (i + 2)) (w (i + 3)) (w (i + 4)) (w (i + 5)))
 
 -- A byte is marked that is no character.
-no_one : (f : Flavor) (b : ℕ) → leb 0x80 (bit_or b (mask (is_null f b))) ≡ not (one_at f b)
+pub no_one : (f : Flavor) (b : ℕ) → leb 0x80 (bit_or b (mask (is_null f b))) ≡ not (one_at f b)
 no_one Cesu8 b = high_or b 0 ∙ low b
   where
     low : (b : ℕ) → (leb 0x80 b || false) ≡ not (ltb b 0x80)

@@ -42,7 +42,8 @@ start_by a false false false true is_pair low first other alone = three_by a (eq
 start_by a false false false false true low first other alone = pair
 start_by a false false false false false low first other alone = nothing
 
-low_one : (f : Flavor) (a : ℕ) → one_at f a ≡ true → a < 0x80
+-- A character of one byte is below 80.
+pub low_one : (f : Flavor) (a : ℕ) → one_at f a ≡ true → a < 0x80
 low_one Cesu8 a t = ltb-true a 0x80 t
 low_one Mutf8 a t = ltb-true a 0x80 (and_parts (leb 1 a) (ltb a 0x80) t).1
 

@@ -17,10 +17,6 @@ loop-at-init g c = record {
   whole = λ none i before. absurd (omega arith);
 }
 
-pub write_block-block-requires-clause-kinds : goal.write_block-block-requires-clause-kinds
-write_block-block-requires-clause-kinds g c =
-    c.near.ensures g.F.Flavor.flavor c.args.window.now c.loop-at.at (c.loop-at.invariant.before (omega arith)) c.starts-here.ensures
-
 pub loop-at-preserved : goal.loop-at-preserved
 loop-at-preserved g c =
     let f = g.F.Flavor.flavor in
@@ -33,7 +29,7 @@ loop-at-preserved g c =
       end = omega (arith, inv.room, block.end);
       before = λ more. elim c.if-left-lt-BLOCK.branch [
         | then-left-lt-BLOCK w ↦ absurd (omega arith)
-        | else-left-lt-BLOCK w ↦ five_kinds f window _ (c.loop-at.at + 5) 27 _ c.starts-here.ensures (omega arith) (omega arith)
+        | else-left-lt-BLOCK w ↦ five_kinds f window _ (c.loop-at.at + 5) 27 _ (block.kinds (w.len-is)) (omega arith) (omega arith)
       ];
       len = block.len ∙ inv.len;
       bytes = more_written f window _ _ c.loop-at.at c.if-left-lt-BLOCK.len inv.bytes block.bytes;

@@ -1,0 +1,302 @@
+-- Blocks whose bytes stay: characters of one byte, and those near no surrogate pair and no C0 80.
+use Rattle.std.proofs.Common.{◌≡◌, ℕ, zero, suc, ◌+◌, ◌-◌, ◌*◌, ◌^◌, ◌%◌, ◌<◌, ◌≤◌, ⊎_elim, Bool, true, false, true≢false, ◌&&◌, ◌||◌, not, cond, eqb, leb, ltb, List, [], ◌∷◌, ◌++◌, map, take, length, get_or, replicate, bit_and, bit_or, bit_xor, refl, sym, ap, ◌∙◌, arith}
+use Rattle.std.specs.List.{range_with_len}
+use Rattle.std.specs.Int.Bits.{or_zero_r}
+use Rattle.std.proofs.lemmas.Bool.{and_parts, eqb-true, leb-true, not-false, cases_lt, cases_Bool, ne_eqb}
+use Rattle.std.proofs.lemmas.List.{take-map, take-take, length-take-le}
+use Rattle.std.proofs.lemmas.List.FromFn.{take-map-range_with_len}
+use Rattle.std.proofs.lemmas.Simd.{map-map, take_more_put_chunk}
+use Rattle.std.proofs.Math.Seq.{take-append-add}
+use lib.Lanes.{zip2, mask_l, chunk, put_chunk, Each1}
+use Rattle.cesu8_text.specs.Encoding.{Flavor, Cesu8, Mutf8}
+use Rattle.cesu8_text.specs.Class.{is_null}
+use Rattle.cesu8_bytes.specs.Kernels.{mask}
+use Rattle.cesu8_bytes.specs.Joining.{null_at}
+use Rattle.cesu8_bytes.specs.Packing.{written_for}
+use Rattle.cesu8_bytes.proofs.vectors.Loads.{loaded}
+use Rattle.cesu8_decode.specs.DecodedOffsets.{one_at, two_at, three_at, pair_at, continues, first_width_by, width_at, is_ill_formed_at, decoded_at, decoded}
+use Rattle.cesu8_decode.specs.DecodedLanes.{start_kind, AreKindsNear, begins_changed, NoneChanges, AreParts, is_high, goes_at, byte_at}
+use Rattle.cesu8_decode.proofs.decoder.StartKinds.{Start, nothing, one, null, two_low, two_high, three_low, three_high, three_last, pair, start_at, low_one, no_start, one_by_first, pair_bit}
+use Rattle.cesu8_decode.proofs.decoder.LaneTests.{high_or, shifted_or, covered_lane, ill_formed_lane, lane_ill_formed, no_one}
+use Rattle.cesu8_decode.proofs.decoder.FirstLanes.{no_lane, on_range, behind_lanes, before_lanes, none_go, well_formed_behind}
+use Rattle.cesu8_decode.proofs.decoder.DecodedParts.{decoded_is_written, pair_or_less}
+
+-- ---- bytes that stay
+
+-- A byte of a window neither goes nor changes, and is not ill-formed.
+pub record Stays (f : Flavor) (window : List ℕ) (i : ℕ) : Type 0 where
+  pub goes : goes_at f window i ≡ false
+  pub well_formed : is_ill_formed_at f window i ≡ false
+  pub byte : byte_at f window i ≡ get_or window (i + 5) 0
+
+abbrev AllStay : Flavor → List ℕ → ℕ → ℕ → Type 0
+AllStay f window at n = (i : ℕ) → at ≤ i → i < at + n → Stays f window i
+
+module _ (f : Flavor) (window : List ℕ) where
+  becomes_itself : (i : ℕ) → Stays f window i → decoded_at f window i ≡ get_or window (i + 5) 0 ∷ []
+  becomes_itself i stays = decoded_is_written f window i ∙ (λ k. written_for (stays.goes k) (stays.well_formed k) (stays.byte k))
+
+  -- Bytes that stay become themselves.
+  pub stay_decoded : (at n : ℕ) → AllStay f window at n → map (λ i. get_or window (i + 5) 0) (range_with_len at n) ≡ decoded f window at n
+  unfolding decoded
+  stay_decoded at zero stay = refl
+  stay_decoded at (suc n) stay =
+      let rest = stay_decoded (at + 1) n (λ i low inside. stay i (omega arith) (omega arith)) in
+      λ k. sym (becomes_itself at (stay at (omega arith) (omega arith))) k ++ rest k
+
+-- The first of the lanes that are copied stand behind what was written.
+pub copied_first : (at n : ℕ) (out lanes : List ℕ) → length lanes ≡ 32 → n ≤ 32 → at + 32 ≤ length out →
+    take (at + n) (put_chunk at out lanes) ≡ take at out ++ take n lanes
+copied_first at n out lanes long small room =
+    let front : length (take at out) ≡ at = length-take-le at out (omega arith) in
+    sym (take-take (at + n) (at + 32) (put_chunk at out lanes) (omega arith))
+    ∙ ap (take (at + n)) (take_more_put_chunk at out lanes (at + 32) (omega (arith, long)) room)
+    ∙ ap (λ k. take (k + n) (take at out ++ lanes)) (sym front)
+    ∙ take-append-add (take at out) lanes n
+
+-- ---- characters of one byte
+
+-- The bytes behind the first of a surrogate pair are 80 or more.
+pair_high : (a b d e g h : ℕ) → pair_at a b d e g h ≡ true → (0x80 ≤ b) × (0x80 ≤ d) × (0x80 ≤ e) × (0x80 ≤ g) × (0x80 ≤ h)
+pair_high a b d e g h begun =
+    let h1 = and_parts (eqb a 0xED) _ begun in
+    let h2 = and_parts (leb 0xA0 b) _ h1.1 in
+    let h3 = and_parts (ltb b 0xB0) _ h2.1 in
+    let h4 = and_parts (continues d) _ h3.1 in
+    let h5 = and_parts (eqb e 0xED) _ h4.1 in
+    let h6 = and_parts (leb 0xB0 g) _ h5.1 in
+    let h7 = and_parts (ltb g 0xC0) (continues h) h6.1 in
+    let third = and_parts (leb 0x80 d) (ltb d 0xC0) h4.0 in
+    let last = and_parts (leb 0x80 h) (ltb h 0xC0) h7.1 in (
+      omega (arith, leb-true 0xA0 b h2.0),
+      leb-true 0x80 d third.0,
+      omega (arith, eqb-true e 0xED h5.0),
+      omega (arith, leb-true 0xB0 g h6.0),
+      leb-true 0x80 h last.0,
+    )
+
+six_high : (f : Flavor) (a b d e g h : ℕ) → first_width_by f a b d e g h ≡ 6 → (0x80 ≤ b) × (0x80 ≤ d) × (0x80 ≤ e) × (0x80 ≤ g) × (0x80 ≤ h)
+unfolding first_width_by
+six_high f a b d e g h six =
+    pair_high a b d e g h (pair_or_less (one_at f a) (null_at f a b) (two_at a b) (three_at a b d) (pair_at a b d e g h) six)
+
+-- below 80 is no second byte of C0
+no_second : (f : Flavor) (b d e g h : ℕ) → b < 0x80 → eqb (first_width_by f 0xC0 b d e g h) 2 ≡ false
+unfolding first_width_by
+no_second Cesu8 b d e g h low = refl
+no_second Mutf8 b d e g h low = rw (ne_eqb b 0x80 (λ same. omega arith)) refl
+
+no_null_before : (f : Flavor) (a b d e g h : ℕ) → b < 0x80 → (eqb (first_width_by f a b d e g h) 2 && eqb a 0xC0) ≡ false
+no_null_before f a b d e g h low =
+    ⊎_elim (λ (same : eqb a 0xC0 ≡ true). rw (eqb-true a 0xC0 same) (ap (λ t. t && true) (no_second f b d e g h low)))
+    (λ (other : eqb a 0xC0 ≡ false). ap (λ t. eqb (first_width_by f a b d e g h) 2 && t) other ∙ and_no (eqb (first_width_by f a b d e g h) 2))
+    (cases_Bool (eqb a 0xC0))
+  where
+    and_no : (t : Bool) → (t && false) ≡ false
+    and_no true = refl
+    and_no false = refl
+
+module _ (f : Flavor) (window : List ℕ) where
+  no_pair_over : (j d k : ℕ) → 1 ≤ d → d ≤ 5 → j + d ≡ k → get_or window k 0 < 0x80 → eqb (width_at f window j) 6 ≡ false
+  no_pair_over j d k some small there low =
+      ne_eqb (width_at f window j) 6 (λ six. omega (arith, low, high d some small six, ap (λ p. get_or window p 0) there))
+    where
+      high : (d : ℕ) → 1 ≤ d → d ≤ 5 → width_at f window j ≡ 6 → 0x80 ≤ get_or window (j + d) 0
+      high zero some small six = absurd (omega arith)
+      high (suc zero) some small six = (six_high f _ _ _ _ _ _ six).0
+      high (suc (suc zero)) some small six = (six_high f _ _ _ _ _ _ six).1
+      high (suc (suc (suc zero))) some small six = (six_high f _ _ _ _ _ _ six).2
+      high (suc (suc (suc (suc zero)))) some small six = (six_high f _ _ _ _ _ _ six).3
+      high (suc (suc (suc (suc (suc zero))))) some small six = (six_high f _ _ _ _ _ _ six).4
+      high (suc (suc (suc (suc (suc (suc d)))))) some small six = absurd (omega arith)
+
+  -- A byte that is a character of its own stays.
+  pub one_stays : (i : ℕ) → one_at f (get_or window (i + 5) 0) ≡ true → Stays f window i
+  one_stays i is_one =
+      let w : ℕ → ℕ = λ k. get_or window k 0 in
+      let width = eqb-true (width_at f window (i + 5)) 1 (one_by_first f _ _ _ _ _ _ ∙ is_one) in
+      let low = low_one f (w (i + 5)) is_one in
+      let next : i + 4 + 1 ≡ i + 5 = omega arith in
+      let before = no_null_before f (w (i + 4)) (w (i + 4 + 1)) (w (i + 4 + 2)) (w (i + 4 + 3)) (w (i + 4 + 4)) (w (i + 4 + 5)) (omega (arith, low, ap w next)) in
+      record {
+        goes = rw (width, no_pair_over (i + 4) 1 (i + 5) (omega arith) (omega arith) (omega arith) low) refl;
+        well_formed = rw width refl;
+        byte =
+            rw (
+              no_pair_over (i + 3) 2 (i + 5) (omega arith) (omega arith) (omega arith) low,
+              no_pair_over (i + 2) 3 (i + 5) (omega arith) (omega arith) (omega arith) low,
+              no_pair_over (i + 1) 4 (i + 5) (omega arith) (omega arith) (omega arith) low,
+              before,
+            ) refl;
+      }
+
+  -- So do those of a block whose first lanes say that they are characters of their own.
+  pub ones_stay : (at n : ℕ) → n ≤ 32 → at + 37 ≤ length window → (nulls : List ℕ) → nulls ≡ map (λ b. mask (is_null f b)) (chunk (at + 5) 32 window) →
+      mask_l (take n (map is_high (zip2 bit_or (chunk (at + 5) 32 window) nulls))) ≡ 0 →
+      (i : ℕ) → at ≤ i → i < at + n → one_at f (get_or window (i + 5) 0) ≡ true
+  ones_stay at n small room nulls nulls_are none i low inside =
+      let other : ℕ → ℕ = λ i. let b = get_or window (i + 5) 0 in bit_or b (mask (is_null f b)) in
+      let test : ℕ → Bool = λ i. not (one_at f (get_or window (i + 5) 0)) in
+      let are : zip2 bit_or (chunk (at + 5) 32 window) nulls ≡ map other (range_with_len at 32) =
+      rw (nulls_are, loaded window at 5 32 (omega arith)) refl in
+      let high : map is_high (zip2 bit_or (chunk (at + 5) 32 window) nulls) ≡ map test (range_with_len at 32) =
+      ap (map is_high) are ∙ map-map is_high other (range_with_len at 32) ∙ on_range _ test at 32 (λ i low inside. no_one f (get_or window (i + 5) 0)) in
+      not-false _ (no_lane test at n (sym (ap mask_l (ap (take n) high ∙ take-map-range_with_len test at 32 n small)) ∙ none) i low inside)
+
+  -- Nothing of two bytes or more begins at them.
+  pub kinds_of_ones : (at : ℕ) → ((i : ℕ) → at ≤ i → i < at + 32 → one_at f (get_or window (i + 5) 0) ≡ true) →
+      replicate 32 0 ≡ map (start_kind f window) (range_with_len (at + 5) 32)
+  kinds_of_ones at ones =
+      on_range (λ i. 0) (start_kind f window) (at + 5) 32
+      (λ i low inside.
+      let offset : i - 5 + 5 ≡ i = omega arith in
+      let one = sym (ap (λ k. one_at f (get_or window k 0)) offset) ∙ ones (i - 5) (omega arith) (omega arith) in
+      sym (no_start f _ _ _ _ _ _ (omega (arith, low_one f (get_or window i 0) one))))
+
+  -- The first of a block's bytes are what they become, where they stay.
+  pub first_stay : (at n : ℕ) → n ≤ 32 → at + 37 ≤ length window → AllStay f window at n → take n (chunk (at + 5) 32 window) ≡ decoded f window at n
+  first_stay at n small room stay =
+      ap (take n) (loaded window at 5 32 (omega arith))
+      ∙ take-map-range_with_len (λ i. get_or window (i + 5) 0) at 32 n small
+      ∙ stay_decoded f window at n stay
+
+-- ---- blocks where none changes
+
+other_start : (a w c : ℕ) → Start a w c → (eqb c 0x20 || eqb c 0x80) ≡ false → (eqb w 6 ≡ false) × ((eqb w 2 && eqb a 0xC0) ≡ false)
+other_start a w c nothing none = (refl, refl)
+other_start a w c (one low) none = (refl, refl)
+other_start a w c (null first) none = absurd (true≢false none)
+other_start a w c (two_low other) none = (refl, other)
+other_start a w c (two_high other) none = (refl, other)
+other_start a w c three_low none = (refl, refl)
+other_start a w c three_high none = (refl, refl)
+other_start a w c three_last none = (refl, refl)
+other_start a w c pair none = absurd (true≢false none)
+
+low_kind : (a w c : ℕ) → Start a w c → leb 0x80 c ≡ false → leb 0x80 (c * 2 ^ 2 % 2 ^ 8) ≡ false → (eqb c 0x20 || eqb c 0x80) ≡ false
+low_kind a w c nothing low unset = refl
+low_kind a w c (one first) low unset = refl
+low_kind a w c (null first) low unset = absurd (true≢false low)
+low_kind a w c (two_low other) low unset = refl
+low_kind a w c (two_high other) low unset = refl
+low_kind a w c three_low low unset = refl
+low_kind a w c three_high low unset = refl
+low_kind a w c three_last low unset = refl
+low_kind a w c pair low unset = absurd (true≢false unset)
+
+none_of : (p q r s : Bool) → ((p || q) || (r || s)) ≡ false → (p ≡ false) × (q ≡ false) × (r ≡ false) × (s ≡ false)
+none_of false false false false e = (refl, refl, refl, refl)
+none_of false false false true e = absurd (true≢false e)
+none_of false false true s e = absurd (true≢false e)
+none_of false true r s e = absurd (true≢false e)
+none_of true q r s e = absurd (true≢false e)
+
+abbrev around_lane : (c c' : ℕ) → ℕ
+around_lane c c' = bit_or (bit_or c c') (bit_or c c' * 2 ^ 2 % 2 ^ 8)
+
+-- where a lane of two kinds is not high, neither is changed
+around_low : (a w c a' w' c' : ℕ) → Start a w c → Start a' w' c' → is_high (around_lane c c') ≡ false →
+    ((eqb c 0x20 || eqb c 0x80) ≡ false) × ((eqb c' 0x20 || eqb c' 0x80) ≡ false)
+around_low a w c a' w' c' here there low =
+    let shifted : ℕ → ℕ = λ c. c * 2 ^ 2 % 2 ^ 8 in
+    let all = none_of (leb 0x80 c) (leb 0x80 c') (leb 0x80 (shifted c)) (leb 0x80 (shifted c'))
+    (sym (high_or (bit_or c c') (bit_or c c' * 2 ^ 2 % 2 ^ 8)
+    ∙ (λ k. high_or c c' k || (ap (leb 0x80) (shifted_or c c') ∙ high_or (shifted c) (shifted c')) k)) ∙ low) in
+    (low_kind a w c here all.0 all.2, low_kind a' w' c' there all.1 all.3)
+
+module _ (f : Flavor) (window : List ℕ) (at : ℕ) where
+  abbrev kind : ℕ → ℕ
+  kind i = start_kind f window i
+
+  -- Two vectors of the kinds near a block tell that none changes.
+  pub none_changes : (kinds : List (List ℕ)) → AreKindsNear f window at kinds →
+      let around = zip2 bit_or (get_or kinds 0 []) (get_or kinds 5 []) in
+      mask_l (map is_high (zip2 bit_or around (zip2 (λ a b. a * 2 ^ b % 2 ^ 8) around (replicate 32 2)))) ≡ 0 → NoneChanges f window at
+  none_changes kinds near none i low inside =
+      let lane : ℕ → ℕ = λ i. around_lane (kind (i + 0)) (kind (i + 5)) in
+      let lows = no_lane (λ i. is_high (lane i)) at 32 (rw (near 0 (omega arith), near 5 (omega arith)) at none) in
+      let both = λ (i : ℕ) (low : at ≤ i) (inside : i < at + 32). around_low _ _ _ _ _ _ (start_at f window (i + 0)) (start_at f window (i + 5)) (lows i low inside) in
+      ⊎_elim (λ (early : i < at + 32).
+      let offset : i + 0 ≡ i = omega arith in
+      sym (ap (begins_changed f window) offset) ∙ (both i low early).0)
+      (λ (late : at + 32 ≤ i).
+      let offset : i - 5 + 5 ≡ i = omega arith in
+      sym (ap (begins_changed f window) offset) ∙ (both (i - 5) (omega arith) (omega arith)).1)
+      (cases_lt i (at + 32))
+
+  module _ (none : NoneChanges f window at) where
+    other_at : (i d : ℕ) → at ≤ i → i < at + 32 → d < 6 →
+        (eqb (width_at f window (i + d)) 6 ≡ false) × ((eqb (width_at f window (i + d)) 2 && eqb (get_or window (i + d) 0) 0xC0) ≡ false)
+    other_at i d low inside small = other_start _ _ _ (start_at f window (i + d)) (none (i + d) (omega arith) (omega arith))
+
+    kept_goes : (i : ℕ) → at ≤ i → i < at + 32 → goes_at f window i ≡ false
+    kept_goes i low inside =
+        let here = other_at i 5 low inside (omega arith) in
+        rw (here.0, (other_at i 4 low inside (omega arith)).0, here.1) refl
+
+    kept_byte : (i : ℕ) → at ≤ i → i < at + 32 → byte_at f window i ≡ get_or window (i + 5) 0
+    kept_byte i low inside =
+        let before = other_at i 4 low inside (omega arith) in
+        rw ((other_at i 3 low inside (omega arith)).0, (other_at i 2 low inside (omega arith)).0, (other_at i 1 low inside (omega arith)).0, before.1) refl
+
+    -- Where none changes, bytes stay that are not ill-formed.
+    pub kept_stays : (i : ℕ) → at ≤ i → i < at + 32 → is_ill_formed_at f window i ≡ false → Stays f window i
+    kept_stays i low inside fine = record { goes = kept_goes i low inside; well_formed = fine; byte = kept_byte i low inside }
+
+    abbrev kept_lane : ℕ → ℕ
+    kept_lane i = ill_formed_lane f (bit_or (bit_or (kind (i + 5)) (kind (i + 4))) (bit_and (kind (i + 3)) 0x3C)) (get_or window (i + 5) 0)
+
+    no_pair_near : (i d : ℕ) → at ≤ i → i < at + 32 → d < 6 → bit_and (kind (i + d)) 0x20 ≡ 0
+    no_pair_near i d low inside small = pair_bit _ _ _ (start_at f window (i + d)) ∙ ap (λ t. cond t 0x20 0) (other_at i d low inside small).0
+
+    kept_covered : (i : ℕ) → at ≤ i → i < at + 32 →
+        bit_or (bit_or (kind (i + 5)) (kind (i + 4))) (bit_and (kind (i + 3)) 0x3C)
+        ≡ covered_lane (kind (i + 5)) (kind (i + 4)) (kind (i + 3)) (kind (i + 2)) (kind (i + 1)) (kind i)
+    kept_covered i low inside =
+        let shorter = bit_or (bit_or (kind (i + 5)) (kind (i + 4))) (bit_and (kind (i + 3)) 0x3C) in
+        let offset : i + 0 ≡ i = omega arith in
+        let here = sym (ap (λ i. bit_and (kind i) 0x20) offset) ∙ no_pair_near i 0 low inside (omega arith) in
+        sym ((λ k. bit_or shorter (bit_or (bit_or (no_pair_near i 2 low inside (omega arith) k) (no_pair_near i 1 low inside (omega arith) k)) (here k))) ∙ or_zero_r shorter)
+
+    -- Their marks are told by the kinds at three offsets.
+    pub kept_marks : (kinds : List (List ℕ)) → AreKindsNear f window at kinds → at + 37 ≤ length window → ((i : ℕ) → get_or window i 0 < 0x100) →
+        (alone nulls : List ℕ) →
+        alone ≡ map (λ lane. mask (eqb lane 0))
+        (zip2 bit_or (zip2 bit_or (get_or kinds 5 []) (get_or kinds 4 [])) (zip2 bit_and (get_or kinds 3 []) (replicate 32 0x3C))) →
+        nulls ≡ map (λ b. mask (is_null f b)) (chunk (at + 5) 32 window) →
+        map is_high (zip2 bit_and alone (zip2 bit_or (chunk (at + 5) 32 window) nulls)) ≡ map (is_ill_formed_at f window) (range_with_len at 32)
+    kept_marks kinds near room fits alone nulls alone_is nulls_are =
+        let are : zip2 bit_and alone (zip2 bit_or (chunk (at + 5) 32 window) nulls) ≡ map kept_lane (range_with_len at 32) =
+        rw (alone_is, nulls_are, near 5 (omega arith), near 4 (omega arith), near 3 (omega arith), loaded window at 5 32 (omega arith)) refl in
+        ap (map is_high) are ∙ map-map is_high kept_lane (range_with_len at 32)
+        ∙ on_range _ _ at 32 (λ i low inside.
+        ap (λ c. is_high (ill_formed_lane f c (get_or window (i + 5) 0))) (kept_covered i low inside) ∙ lane_ill_formed f window i (fits (i + 5)))
+
+    -- Where the marks of the first ones are not set, these stay,
+    pub first_kept : (n : ℕ) → n ≤ 32 → (marks : List ℕ) → map is_high marks ≡ map (is_ill_formed_at f window) (range_with_len at 32) →
+        mask_l (take n (map is_high marks)) ≡ 0 → AllStay f window at n
+    first_kept n small marks marks_are unset i low inside =
+        let test = is_ill_formed_at f window in
+        kept_stays i low (omega arith)
+        (no_lane test at n (sym (ap mask_l (ap (take n) marks_are ∙ take-map-range_with_len test at 32 n small)) ∙ unset) i low inside)
+
+    -- and else they stay but for those.
+    pub kept_are_parts : (n : ℕ) → n ≤ 32 → (bytes marks behind : List ℕ) → bytes ≡ map (λ i. get_or window (i + 5) 0) (range_with_len at 32) →
+        length marks ≡ 32 → Each1 (λ x. x < 0x100) marks → map is_high marks ≡ map (is_ill_formed_at f window) (range_with_len at 32) →
+        behind ≡ behind_lanes n 0 32 → AreParts f window at n behind (zip2 bit_and marks (zip2 bit_xor behind (replicate 32 0xFF))) bytes
+    kept_are_parts n small bytes marks behind bytes_is long fits marks_are behind_is =
+        let test = is_ill_formed_at f window in
+        let all : 32 ≡ n + (32 - n) = omega arith in
+        record {
+          gone_are =
+              ap (map is_high) (behind_is ∙ ap (behind_lanes n 0) all)
+              ∙ none_go (goes_at f window) at n 0 n (32 - n) (omega arith) (λ i low inside. kept_goes i low (omega arith));
+          ill_formed_are =
+              ap (λ m. map is_high (zip2 bit_and marks (zip2 bit_xor m (replicate 32 0xFF)))) behind_is
+              ∙ ap (λ k. map is_high (zip2 bit_and marks (before_lanes n 0 k))) (sym long)
+              ∙ well_formed_behind marks n 0 n (32 - n) fits (omega arith) (omega arith)
+              ∙ ap (λ l. l ++ replicate (32 - n) false) (sym (take-map is_high n marks) ∙ ap (take n) marks_are ∙ take-map-range_with_len test at 32 n small);
+          bytes_are =
+              ap (take n) bytes_is ∙ take-map-range_with_len (λ i. get_or window (i + 5) 0) at 32 n small
+              ∙ on_range _ (byte_at f window) at n (λ i low inside. sym (kept_byte i low (omega arith)));
+        }

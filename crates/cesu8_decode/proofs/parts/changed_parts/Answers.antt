@@ -1,0 +1,10 @@
+use Rattle.cesu8_decode.proofs.parts.changed_parts.Goals as goal
+
+pub returns : goal.returns
+returns g c =
+    let window = c.args.window.now in
+    record {
+      gone_are = c.gone.ensures g.F.Flavor.flavor window c.args.at c.requires.kinds;
+      ill_formed_are = c.ill_formed.ensures;
+      bytes_are = c.changed_bytes.ensures g.F.Flavor.flavor c.args.count c.requires.count c.requires.kinds;
+    }
