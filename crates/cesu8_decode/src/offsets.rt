@@ -58,7 +58,7 @@ macro_rules! numbers_from {
 pub const NUMBERS: [u8; BLOCK] = numbers_from!(0);
 
 // The indices of 32 lanes, from the number in the name on.
-const FROM_27: [usize; BLOCK] = numbers_from!(27);
+pub const FROM_27: [usize; BLOCK] = numbers_from!(27);
 
 const FROM_28: [usize; BLOCK] = numbers_from!(28);
 

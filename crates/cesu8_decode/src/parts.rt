@@ -18,7 +18,7 @@ ghost use Rattle.cesu8_decode.specs.DecodedOffsets.{decoded, is_ill_formed_at};
 ghost use Rattle.cesu8_decode.specs.DecodedLanes.{start_kind, AreFiveKinds, AreKindsNear, NoneChanges, AreParts, is_high, goes_at, byte_at};
 
 use super::offsets::{
-    BEHIND, BLOCK, Kinds, NUMBERS, PAIR, REACH, THREE, equal, look_up, near, starts,
+    BEHIND, BLOCK, FROM_27, Kinds, LEAD, NUMBERS, PAIR, REACH, THREE, equal, look_up, near, starts,
 };
 use super::packing::{Parts, ROOM, WIDEST, highest_bits, store};
 use cesu8_bytes::flavor::{Flavor, nulls};
@@ -78,12 +78,14 @@ pub fn write_block<F: Flavor>(
     ensures len { length out.new ≡ length out.old }
 {
     let bytes = u8x32::from_slice(&window[at + BEHIND..]);
-    if first_bits(bytes | nulls::<F>(bytes), count) == 0 {
+    // `starts` looks for lead bytes too, so where there are some this takes no time.
+    let leads = bytes.simd_ge(u8x32::splat(LEAD)).to_bitmask() != 0;
+    if !leads && first_bits(bytes | nulls::<F>(bytes), count) == 0 {
         return copy_block(bytes, u8x32::splat(0), count, out, end);
     }
     let here = starts::<F>(window, at + BEHIND);
     let kinds = near(before, here);
-    let parts = if changes_none(&kinds) {
+    let parts = if changes_none(before, here) {
         let marks = kept_ill_formed::<F>(window, &kinds, at);
         if first_bits(marks, count) == 0 {
             return copy_block(bytes, here, count, out, end);
@@ -128,14 +130,16 @@ fn first_bits(lanes: u8x32, count: usize) -> u64
     highest_bits(lanes) & ((1 << count) - 1)
 }
 
-/// Returns whether neither a surrogate pair nor C0 80 begins at the offsets around a block. Then its
-/// bytes stay, but for those that are ill-formed.
+/// Returns whether neither a surrogate pair nor C0 80 begins at the offsets around a block, from the
+/// kinds of its bytes and of the 32 bytes before, of which the last five count. Then its bytes stay,
+/// but for those that are ill-formed.
 #[inline(always)]
-fn changes_none(kinds: &Kinds) -> bool
-    ensures { (f : Flavor) (window : List ℕ) (at : ℕ) → AreKindsNear f window at kinds.now
+fn changes_none(before: u8x32, here: u8x32) -> bool
+    ensures { (f : Flavor) (window : List ℕ) (at : ℕ) → AreFiveKinds f window at before (BLOCK - BEHIND)
+        → here ≡ map (start_kind f window) (range_with_len (at + BEHIND) BLOCK)
         → IsTrue result → NoneChanges f window at }
 {
-    let around = kinds[0] | kinds[5];
+    let around = here | before.shuffle::<32>(u8x32::splat(0), FROM_27);
     highest_bits(around | (around << u8x32::splat(2))) == 0
 }
 
@@ -227,13 +231,16 @@ fn ill_formed<F: Flavor>(window: &[u8], kinds: &Kinds, at: usize, count: usize) 
 fn behind(count: u8) -> u8x32
     ensures { result ≡ map (λ lane. mask (nat_le count lane)) (range_with_len 0 BLOCK) }
 {
+    if count == BLOCK as u8 {
+        return u8x32::splat(0);
+    }
     u8x32::from_array(NUMBERS)
         .simd_ge(u8x32::splat(count))
         .select(u8x32::splat(0xFF), u8x32::splat(0))
 }
 
 /// Returns the bytes, with those of surrogate pairs and of C0 80 replaced by what they become. Most
-/// blocks have many of these or none, and most texts only one of the two.
+/// texts have only one of the two.
 #[inline(always)]
 fn changed_bytes(window: &[u8], kinds: &Kinds, at: usize) -> u8x32
     requires window { at + REACH ≤ length window.now }
@@ -244,9 +251,6 @@ fn changed_bytes(window: &[u8], kinds: &Kinds, at: usize) -> u8x32
     let near = kinds[4];
     let pairs = kinds[3] | kinds[2] | kinds[1];
     let byte = u8x32::from_slice(&window[at + 5..]);
-    if highest_bits(near | (pairs << u8x32::splat(2))) == 0 {
-        return byte;
-    }
     let changed = near
         .simd_ge(u8x32::splat(0x80))
         .select(u8x32::splat(0), byte);

@@ -17,13 +17,13 @@ use Rattle.cesu8_decode.specs.declared.parts.TheConstants.{FIRST_BY_SECOND, SECO
 use Rattle.cesu8_bytes.proofs.vectors.Loads.{loaded}
 use Rattle.cesu8_decode.proofs.decoder.DecodedParts.{decoded_is_written}
 use Rattle.cesu8_decode.proofs.decoder.StartKinds.{start_at}
-use Rattle.cesu8_decode.proofs.decoder.LaneTests.{gone_lane, lane_goes, covered_lane, ill_formed_lane, lane_ill_formed, mask_fits, byte_lane, lane_byte, joined_lane, byte_stays, paired_lane, byte_unpaired}
+use Rattle.cesu8_decode.proofs.decoder.LaneTests.{gone_lane, lane_goes, covered_lane, ill_formed_lane, lane_ill_formed, mask_fits, byte_lane, lane_byte, paired_lane, byte_unpaired}
 use Rattle.cesu8_decode.proofs.decoder.FirstLanes.{behind_lanes, before_lanes, gone_behind, well_formed_behind, written_first, no_lane, on_range}
 
 -- ---- kinds near a block
 
 -- Maps over two ranges agree where their lanes do.
-map_ranges : {X : Type 0} (g h : ℕ → X) (a b n : ℕ) → ((k : ℕ) → k < n → g (a + k) ≡ h (b + k)) →
+pub map_ranges : {X : Type 0} (g h : ℕ → X) (a b n : ℕ) → ((k : ℕ) → k < n → g (a + k) ≡ h (b + k)) →
     map g (range_with_len a n) ≡ map h (range_with_len b n)
 map_ranges g h a b zero same = refl
 map_ranges g h a b (suc n) same =
@@ -154,20 +154,10 @@ module _ (f : Flavor) (window : List ℕ) where
           ∙ first_lanes (is_ill_formed_at f window) count small (map is_high lanes) (ap (map is_high) are ∙ map-map is_high ill_formed_of (range_with_len at 32)
           ∙ on_range _ _ at 32 (λ i low inside. lane_ill_formed f window i (fits (i + 5)).fits)))
 
-      -- and what is written: the bytes where no pair and no null is near,
-      pub first_kept : mask_l (map is_high (zip2 bit_or (near_by 4) (zip2 (λ a b. a * 2 ^ b % 2 ^ 8)
-          (zip2 bit_or (zip2 bit_or (near_by 3) (near_by 2)) (near_by 1)) (replicate 32 2)))) ≡ 0 →
-          (count : ℕ) → count ≤ 32 → take count (chunk (at + 5) 32 window) ≡ map (byte_at f window) (range_with_len at count)
-      first_kept none count small =
-          first_lanes (byte_at f window) count small _ (byte_behind 5 (omega arith)
-          ∙ on_range _ (byte_at f window) at 32 (λ i low inside. sym (byte_stays f window i
-          (no_lane (λ i. is_high (joined_lane (kind (i + 4)) (kind (i + 3)) (kind (i + 2)) (kind (i + 1)))) at 32
-          (rw (near 4 (omega arith), near 3 (omega arith), near 2 (omega arith), near 1 (omega arith)) at none) i low inside))))
-
       abbrev pub null_lanes : List ℕ
       null_lanes = sel_l (map (top 7) (zip2 (λ a b. cond (leb a b) 255 0) (replicate 32 0x80) (near_by 4))) (replicate 32 0) (chunk (at + 5) 32 window)
 
-      -- Where no pair changes them, only nulls do,
+      -- and what is written: where no pair changes the bytes, only nulls do,
       pub first_unpaired : mask_l (map is_high (zip2 (λ a b. a * 2 ^ b % 2 ^ 8)
           (zip2 bit_or (zip2 bit_or (near_by 3) (near_by 2)) (near_by 1)) (replicate 32 2))) ≡ 0 →
           (count : ℕ) → count ≤ 32 → take count null_lanes ≡ map (byte_at f window) (range_with_len at count)

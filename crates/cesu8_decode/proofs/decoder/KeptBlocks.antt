@@ -1,13 +1,13 @@
 -- Blocks whose bytes stay: characters of one byte, and those near no surrogate pair and no C0 80.
-use Rattle.std.proofs.Common.{◌≡◌, ℕ, zero, suc, ◌+◌, ◌-◌, ◌*◌, ◌^◌, ◌%◌, ◌<◌, ◌≤◌, ⊎_elim, Bool, true, false, true≢false, ◌&&◌, ◌||◌, not, cond, eqb, leb, ltb, List, [], ◌∷◌, ◌++◌, map, take, length, get_or, replicate, bit_and, bit_or, bit_xor, refl, sym, ap, ◌∙◌, arith}
+use Rattle.std.proofs.Common.{◌≡◌, ℕ, zero, suc, ◌+◌, ◌-◌, ◌*◌, ◌^◌, ◌%◌, ◌<◌, ◌≤◌, ⊎_elim, Bool, true, false, true≢false, ◌&&◌, ◌||◌, not, cond, eqb, leb, ltb, List, [], ◌∷◌, ◌++◌, map, take, length, get_or, replicate, bit_and, bit_or, bit_xor, refl, sym, ap, ◌∙◌, arith, zero-add}
 use Rattle.std.specs.List.{range_with_len}
 use Rattle.std.specs.Int.Bits.{or_zero_r}
 use Rattle.std.proofs.lemmas.Bool.{and_parts, eqb-true, leb-true, not-false, cases_lt, cases_Bool, ne_eqb}
-use Rattle.std.proofs.lemmas.List.{take-map, take-take, length-take-le}
+use Rattle.std.proofs.lemmas.List.{take-map, take-take, length-take-le, get_or_append_left}
 use Rattle.std.proofs.lemmas.List.FromFn.{take-map-range_with_len}
 use Rattle.std.proofs.lemmas.Simd.{map-map, take_more_put_chunk}
 use Rattle.std.proofs.Math.Seq.{take-append-add}
-use lib.Lanes.{zip2, mask_l, chunk, put_chunk, Each1}
+use lib.Lanes.{zip2, pick_l, mask_l, chunk, put_chunk, Each1}
 use Rattle.cesu8_text.specs.Encoding.{Flavor, Cesu8, Mutf8}
 use Rattle.cesu8_text.specs.Class.{is_null}
 use Rattle.cesu8_bytes.specs.Kernels.{mask}
@@ -15,11 +15,12 @@ use Rattle.cesu8_bytes.specs.Joining.{null_at}
 use Rattle.cesu8_bytes.specs.Packing.{written_for}
 use Rattle.cesu8_bytes.proofs.vectors.Loads.{loaded}
 use Rattle.cesu8_decode.specs.DecodedOffsets.{one_at, two_at, three_at, pair_at, continues, first_width_by, width_at, is_ill_formed_at, decoded_at, decoded}
-use Rattle.cesu8_decode.specs.DecodedLanes.{start_kind, AreKindsNear, begins_changed, NoneChanges, AreParts, is_high, goes_at, byte_at}
+use Rattle.cesu8_decode.specs.DecodedLanes.{start_kind, AreFiveKinds, AreKindsNear, NoneChanges, AreParts, is_high, goes_at, byte_at}
 use Rattle.cesu8_decode.proofs.decoder.StartKinds.{Start, nothing, one, null, two_low, two_high, three_low, three_high, three_last, pair, start_at, low_one, no_start, one_by_first, pair_bit}
 use Rattle.cesu8_decode.proofs.decoder.LaneTests.{high_or, shifted_or, covered_lane, ill_formed_lane, lane_ill_formed, no_one}
 use Rattle.cesu8_decode.proofs.decoder.FirstLanes.{no_lane, on_range, behind_lanes, before_lanes, none_go, well_formed_behind}
 use Rattle.cesu8_decode.proofs.decoder.DecodedParts.{decoded_is_written, pair_or_less}
+use Rattle.cesu8_decode.proofs.decoder.DecodedBlocks.{map_ranges}
 
 -- ---- bytes that stay
 
@@ -194,35 +195,43 @@ none_of true q r s e = absurd (true≢false e)
 abbrev around_lane : (c c' : ℕ) → ℕ
 around_lane c c' = bit_or (bit_or c c') (bit_or c c' * 2 ^ 2 % 2 ^ 8)
 
--- where a lane of two kinds is not high, neither is changed
-around_low : (a w c a' w' c' : ℕ) → Start a w c → Start a' w' c' → is_high (around_lane c c') ≡ false →
-    ((eqb c 0x20 || eqb c 0x80) ≡ false) × ((eqb c' 0x20 || eqb c' 0x80) ≡ false)
-around_low a w c a' w' c' here there low =
+-- where a lane of two kinds is not high, none of them is, nor shifted
+around_low : (c c' : ℕ) → is_high (around_lane c c') ≡ false →
+    (leb 0x80 c ≡ false) × (leb 0x80 c' ≡ false) × (leb 0x80 (c * 2 ^ 2 % 2 ^ 8) ≡ false) × (leb 0x80 (c' * 2 ^ 2 % 2 ^ 8) ≡ false)
+around_low c c' low =
     let shifted : ℕ → ℕ = λ c. c * 2 ^ 2 % 2 ^ 8 in
-    let all = none_of (leb 0x80 c) (leb 0x80 c') (leb 0x80 (shifted c)) (leb 0x80 (shifted c'))
+    none_of (leb 0x80 c) (leb 0x80 c') (leb 0x80 (shifted c)) (leb 0x80 (shifted c'))
     (sym (high_or (bit_or c c') (bit_or c c' * 2 ^ 2 % 2 ^ 8)
-    ∙ (λ k. high_or c c' k || (ap (leb 0x80) (shifted_or c c') ∙ high_or (shifted c) (shifted c')) k)) ∙ low) in
-    (low_kind a w c here all.0 all.2, low_kind a' w' c' there all.1 all.3)
+    ∙ (λ k. high_or c c' k || (ap (leb 0x80) (shifted_or c c') ∙ high_or (shifted c) (shifted c')) k)) ∙ low)
 
 module _ (f : Flavor) (window : List ℕ) (at : ℕ) where
   abbrev kind : ℕ → ℕ
   kind i = start_kind f window i
 
-  -- Two vectors of the kinds near a block tell that none changes.
-  pub none_changes : (kinds : List (List ℕ)) → AreKindsNear f window at kinds →
-      let around = zip2 bit_or (get_or kinds 0 []) (get_or kinds 5 []) in
+  -- The kinds of a block and the last five before tell that none changes.
+  pub none_changes : (before here : List ℕ) → length before ≡ 32 → AreFiveKinds f window at before 27 →
+      here ≡ map (start_kind f window) (range_with_len (at + 5) 32) →
+      let around = zip2 bit_or here (pick_l 0 (before ++ replicate 32 0) (range_with_len 27 32)) in
       mask_l (map is_high (zip2 bit_or around (zip2 (λ a b. a * 2 ^ b % 2 ^ 8) around (replicate 32 2)))) ≡ 0 → NoneChanges f window at
-  none_changes kinds near none i low inside =
-      let lane : ℕ → ℕ = λ i. around_lane (kind (i + 0)) (kind (i + 5)) in
-      let lows = no_lane (λ i. is_high (lane i)) at 32 (rw (near 0 (omega arith), near 5 (omega arith)) at none) in
-      let both = λ (i : ℕ) (low : at ≤ i) (inside : i < at + 32). around_low _ _ _ _ _ _ (start_at f window (i + 0)) (start_at f window (i + 5)) (lows i low inside) in
-      ⊎_elim (λ (early : i < at + 32).
-      let offset : i + 0 ≡ i = omega arith in
-      sym (ap (begins_changed f window) offset) ∙ (both i low early).0)
-      (λ (late : at + 32 ≤ i).
-      let offset : i - 5 + 5 ≡ i = omega arith in
-      sym (ap (begins_changed f window) offset) ∙ (both (i - 5) (omega arith) (omega arith)).1)
-      (cases_lt i (at + 32))
+  none_changes before here long before_are here_are none i low inside =
+      let last : ℕ → ℕ = λ k. get_or (before ++ replicate 32 0) (27 + k) 0 in
+      let lane : ℕ → ℕ = λ k. around_lane (kind (at + 5 + k)) (last k) in
+      let here_by_lane : here ≡ map (λ k. kind (at + 5 + k)) (range_with_len 0 32) =
+      here_are ∙ map_ranges (start_kind f window) (λ k. kind (at + 5 + k)) (at + 5) 0 32 (λ k small. ap (λ j. kind (at + 5 + j)) (sym (zero-add k))) in
+      let lows = no_lane (λ k. is_high (lane k)) 0 32 (rw here_by_lane at none) in
+      ⊎_elim (λ (early : i < at + 5).
+      let k = i - at in
+      let there : at + k ≡ i = omega arith in
+      let same : last k ≡ kind i =
+      get_or_append_left before (replicate 32 0) 0 (27 + k) (omega (arith, long)) ∙ before_are k (omega arith) ∙ ap kind there in
+      let all = around_low _ _ (lows k (omega arith) (omega arith)) in
+      low_kind _ _ _ (start_at f window i) (ap (leb 0x80) (sym same) ∙ all.1) (ap (λ c. leb 0x80 (c * 2 ^ 2 % 2 ^ 8)) (sym same) ∙ all.3))
+      (λ (late : at + 5 ≤ i).
+      let k = i - (at + 5) in
+      let there : i ≡ at + 5 + k = omega arith in
+      let all = around_low _ _ (lows k (omega arith) (omega arith)) in
+      low_kind _ _ _ (start_at f window i) (ap (λ i. leb 0x80 (kind i)) there ∙ all.0) (ap (λ i. leb 0x80 (kind i * 2 ^ 2 % 2 ^ 8)) there ∙ all.2))
+      (cases_lt i (at + 5))
 
   module _ (none : NoneChanges f window at) where
     other_at : (i d : ℕ) → at ≤ i → i < at + 32 → d < 6 →

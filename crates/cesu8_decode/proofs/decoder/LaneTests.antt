@@ -238,38 +238,12 @@ byte_lane c1 c2 c3 c4 two_before before b =
     (cond (not (eqb (bit_and c3 0x20) 0)) (second_byte two_before before)
     (cond (not (eqb (bit_and c4 0x20) 0)) (third_byte two_before b) (cond (leb 0x80 c1) 0 b)))
 
--- It is high where a pair or a null changes the byte,
-abbrev pub joined_lane : (c1 c2 c3 c4 : ℕ) → ℕ
-joined_lane c1 c2 c3 c4 = bit_or c1 (bit_or (bit_or c2 c3) c4 * 2 ^ 2 % 2 ^ 8)
-
 none_of : (n p q r : Bool) → (n || ((p || q) || r)) ≡ false → (n ≡ false) × (p ≡ false) × (q ≡ false) × (r ≡ false)
 none_of false false false false e = (refl, refl, refl, refl)
 none_of false false false true e = absurd (true≢false e)
 none_of false false true r e = absurd (true≢false e)
 none_of false true q r e = absurd (true≢false e)
 none_of true p q r e = absurd (true≢false e)
-
--- and else the byte stays.
-pub byte_stays : (f : Flavor) (window : List ℕ) (i : ℕ) →
-    let c = start_kind f window in
-    is_high (joined_lane (c (i + 4)) (c (i + 3)) (c (i + 2)) (c (i + 1))) ≡ false → byte_at f window i ≡ get_or window (i + 5) 0
-byte_stays f window i low =
-    let c = start_kind f window in
-    let s = start_at f window in
-    let shifted : ℕ → ℕ = λ c. c * 2 ^ 2 % 2 ^ 8 in
-    let c1 = c (i + 4) in
-    let c2 = c (i + 3) in
-    let c3 = c (i + 2) in
-    let c4 = c (i + 1) in
-    let w = width_at f window in
-    let all = none_of (eqb (w (i + 4)) 2 && eqb (get_or window (i + 4) 0) 0xC0) (eqb (w (i + 3)) 6) (eqb (w (i + 2)) 6) (eqb (w (i + 1)) 6)
-    (sym (high_or c1 (shifted (bit_or (bit_or c2 c3) c4))
-    ∙ ap (λ (n : ℕ). leb 0x80 c1 || leb 0x80 n) (shifted_or (bit_or c2 c3) c4 ∙ ap (λ (n : ℕ). bit_or n (shifted c4)) (shifted_or c2 c3))
-    ∙ ap (λ (t : Bool). leb 0x80 c1 || t) (high_or (bit_or (shifted c2) (shifted c3)) (shifted c4)
-    ∙ ap (λ (t : Bool). t || leb 0x80 (shifted c4)) (high_or (shifted c2) (shifted c3)))
-    ∙ (λ k. null_bit _ _ _ (s (i + 4)) k || ((shifted_pair _ _ _ (s (i + 3)) k || shifted_pair _ _ _ (s (i + 2)) k) || shifted_pair _ _ _ (s (i + 1)) k)))
-    ∙ low) in
-    rw (all.1, all.2, all.3, all.0) refl
 
 not_not : (t : Bool) → not (not t) ≡ t
 not_not true = refl

@@ -1,14 +1,10 @@
 use Rattle.std.proofs.Common.{◌∙◌, sym}
-use Rattle.cesu8_decode.proofs.decoder.DecodedBlocks.{first_kept, first_unpaired, first_bytes}
+use Rattle.cesu8_decode.proofs.decoder.DecodedBlocks.{first_unpaired, first_bytes}
 use Rattle.cesu8_decode.proofs.parts.changed_bytes.Goals as goal
 
 pub returns-then-highest_bits-eq0 : goal.returns-then-highest_bits-eq0
 returns-then-highest_bits-eq0 c f count small near =
-    first_kept f c.args.window.now c.args.kinds.now c.args.at near c.requires.window (sym c.highest_bits.ensures ∙ c.if-highest_bits-eq0.true) count small
-
-pub returns-then-highest_bits-eq0-2 : goal.returns-then-highest_bits-eq0-2
-returns-then-highest_bits-eq0-2 c f count small near =
-    first_unpaired f c.args.window.now c.args.kinds.now c.args.at near c.requires.window (sym c.highest_bits-2.ensures ∙ c.if-highest_bits-eq0-2.true) count small
+    first_unpaired f c.args.window.now c.args.kinds.now c.args.at near c.requires.window (sym c.highest_bits.ensures ∙ c.if-highest_bits-eq0.true) count small
 
 pub returns : goal.returns
 returns c f count small near =

@@ -44,17 +44,16 @@ pub kept_ill_formed-marks-requires-clause-kept : goal.kept_ill_formed-marks-requ
 kept_ill_formed-marks-requires-clause-kept g c =
     let f = g.F.Flavor.flavor in
     let window = c.args.window.now in
-    c.changes_none.ensures f window c.args.at (c.near-kinds.ensures f window c.args.at c.requires.before c.starts-here.ensures) c.if-changes_none.true
+    c.changes_none.ensures f window c.args.at c.requires.before c.starts-here.ensures c.if-changes_none.true
 
 pub returns-then-first_bits-eq0-2-clause-bytes : goal.returns-then-first_bits-eq0-2-clause-bytes
 returns-then-first_bits-eq0-2-clause-bytes g c =
     let f = g.F.Flavor.flavor in
     let window = c.args.window.now in
     let at = c.args.at in
-    let near = c.near-kinds.ensures f window at c.requires.before c.starts-here.ensures in
     c.copy_block-then-first_bits-eq0-2.ensures.bytes ∙ ap (λ bs. take c.args.end c.args.out.now ++ bs)
     (first_stay f window at c.args.count c.requires.count (omega (arith, c.requires.window))
-    (first_kept f window at (c.changes_none.ensures f window at near c.if-changes_none.true) c.args.count c.requires.count c.kept_ill_formed-marks.result
+    (first_kept f window at (c.changes_none.ensures f window at c.requires.before c.starts-here.ensures c.if-changes_none.true) c.args.count c.requires.count c.kept_ill_formed-marks.result
     c.kept_ill_formed-marks.ensures (sym c.first_bits-then-changes_none.ensures ∙ c.if-first_bits-eq0-2.true)))
 
 pub returns-then-first_bits-eq0-2-clause-whole : goal.returns-then-first_bits-eq0-2-clause-whole
@@ -62,8 +61,7 @@ returns-then-first_bits-eq0-2-clause-whole g c none i low inside =
     let f = g.F.Flavor.flavor in
     let window = c.args.window.now in
     let at = c.args.at in
-    let near = c.near-kinds.ensures f window at c.requires.before c.starts-here.ensures in
-    (first_kept f window at (c.changes_none.ensures f window at near c.if-changes_none.true) c.args.count c.requires.count c.kept_ill_formed-marks.result
+    (first_kept f window at (c.changes_none.ensures f window at c.requires.before c.starts-here.ensures c.if-changes_none.true) c.args.count c.requires.count c.kept_ill_formed-marks.result
     c.kept_ill_formed-marks.ensures (sym c.first_bits-then-changes_none.ensures ∙ c.if-first_bits-eq0-2.true) i low inside).well_formed
 
 pub returns-clause-bytes : goal.returns-clause-bytes
@@ -72,11 +70,10 @@ returns-clause-bytes g c =
     let window = c.args.window.now in
     let at = c.args.at in
     let count = c.args.count in
-    let near = c.near-kinds.ensures f window at c.requires.before c.starts-here.ensures in
     let chosen = c.if-changes_none.parts in
     let parts : AreParts f window at count chosen.gone chosen.ill_formed chosen.bytes = elim c.if-changes_none.branch [
       | then-changes_none+else-first_bits-eq0-2 w ↦ subst (λ p. AreParts f window at count p.gone p.ill_formed p.bytes) (sym w.parts-is)
-          (w.kept_parts-parts.ensures f window at (c.changes_none.ensures f window at near w.if-changes_none.true)
+          (w.kept_parts-parts.ensures f window at (c.changes_none.ensures f window at c.requires.before c.starts-here.ensures w.if-changes_none.true)
           (loaded window at 5 32 (omega (arith, c.requires.window))) w.kept_ill_formed-marks.ensures)
       | else-changes_none w ↦ subst (λ p. AreParts f window at count p.gone p.ill_formed p.bytes) (sym w.parts-is) w.changed_parts-parts.ensures
     ] in
@@ -89,11 +86,10 @@ returns-clause-ill_formed g c some =
     let window = c.args.window.now in
     let at = c.args.at in
     let count = c.args.count in
-    let near = c.near-kinds.ensures f window at c.requires.before c.starts-here.ensures in
     let chosen = c.if-changes_none.parts in
     let parts : AreParts f window at count chosen.gone chosen.ill_formed chosen.bytes = elim c.if-changes_none.branch [
       | then-changes_none+else-first_bits-eq0-2 w ↦ subst (λ p. AreParts f window at count p.gone p.ill_formed p.bytes) (sym w.parts-is)
-          (w.kept_parts-parts.ensures f window at (c.changes_none.ensures f window at near w.if-changes_none.true)
+          (w.kept_parts-parts.ensures f window at (c.changes_none.ensures f window at c.requires.before c.starts-here.ensures w.if-changes_none.true)
           (loaded window at 5 32 (omega (arith, c.requires.window))) w.kept_ill_formed-marks.ensures)
       | else-changes_none w ↦ subst (λ p. AreParts f window at count p.gone p.ill_formed p.bytes) (sym w.parts-is) w.changed_parts-parts.ensures
     ] in
@@ -106,11 +102,10 @@ returns-clause-whole g c none =
     let window = c.args.window.now in
     let at = c.args.at in
     let count = c.args.count in
-    let near = c.near-kinds.ensures f window at c.requires.before c.starts-here.ensures in
     let chosen = c.if-changes_none.parts in
     let parts : AreParts f window at count chosen.gone chosen.ill_formed chosen.bytes = elim c.if-changes_none.branch [
       | then-changes_none+else-first_bits-eq0-2 w ↦ subst (λ p. AreParts f window at count p.gone p.ill_formed p.bytes) (sym w.parts-is)
-          (w.kept_parts-parts.ensures f window at (c.changes_none.ensures f window at near w.if-changes_none.true)
+          (w.kept_parts-parts.ensures f window at (c.changes_none.ensures f window at c.requires.before c.starts-here.ensures w.if-changes_none.true)
           (loaded window at 5 32 (omega (arith, c.requires.window))) w.kept_ill_formed-marks.ensures)
       | else-changes_none w ↦ subst (λ p. AreParts f window at count p.gone p.ill_formed p.bytes) (sym w.parts-is) w.changed_parts-parts.ensures
     ] in
