@@ -43,12 +43,11 @@ pub record ReadsAll (f : Flavor) (which : Strictness) (bytes : List ℕ) (read :
   pub first : ReadsFirst f bytes read text is_ill_formed
   pub all : refuses which is_ill_formed ≡ false → read ≡ length bytes
 
--- The next chunk is text that was joined, or it is written at the front of a buffer, of which at
--- least so many bytes follow.
+-- The next chunk is text that was joined, or it is written at the front of a buffer.
 abbrev pub IsNextChunk : Flavor → List ℕ → Chunk → List ℕ → Type 0
 IsNextChunk f bytes (Joined joined) written = ReadsFirst f bytes joined.read joined.text.now false
 IsNextChunk f bytes (Written decoded) written =
-    ReadsFirst f bytes decoded.read (take decoded.end written) decoded.is_ill_formed × (decoded.end + 64 ≤ length written)
+    ReadsFirst f bytes decoded.read (take decoded.end written) decoded.is_ill_formed × (decoded.end ≤ length written)
 
 -- The text of the bytes is appended. `NoText` is returned only where there is none.
 pub record AppendsText {T : Type 0} (f : Flavor) (which : Strictness) (bytes : List ℕ) (result : Result T Refusal) (old new : List ℕ) : Type 0 where

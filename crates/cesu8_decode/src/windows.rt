@@ -27,9 +27,6 @@ pub const LEAST: usize = AROUND + 2 * BEFORE + 1;
 /// window's buffer.
 pub const SPARED: usize = 64;
 
-/// At least so many bytes of it follow the text.
-pub const LEFT: usize = 64;
-
 // The lengths of the buffers for each window and for its text.
 pub const SHORT_BUFFER: usize = SHORT_WINDOW + AROUND;
 
@@ -62,7 +59,7 @@ pub fn write_window<F: Flavor>(bytes: &[u8], window: &mut [u8], out: &mut [u8]) 
     ensures first { ReadsFirst F.flavor bytes.now
         result.read (take result.end out.new) result.is_ill_formed }
     ensures all { length bytes.now + AROUND ≤ length window.old → result.read ≡ length bytes.now }
-    ensures end { result.end + LEFT ≤ length out.new }
+    ensures end { result.end ≤ length out.new }
 {
     let loaded = bytes.len().min(window.len() - AROUND);
     window[BEFORE..BEFORE + loaded].copy_from_slice(&bytes[..loaded]);
