@@ -147,9 +147,8 @@ fn append_window<F: Flavor, const LEN: usize, const WRITTEN: usize, A: Allocator
 }
 
 /// Appends the text of more bytes chunk by chunk, in buffers of these lengths for those by offsets.
-/// For strict reading `decode_strict` has requested memory for all. For lossy reading this is the
-/// one request, and `decode_lossy` fails at any other capacity. A length that does not fit counts
-/// as refused.
+/// For strict reading `decode_strict` has requested memory for all. Lossy reading makes its one
+/// request behind the first window.
 #[inline(never)]
 fn append_chunks<F: Flavor, const LEN: usize, const WRITTEN: usize, A: Allocator>(
     strictness: Strictness,
@@ -161,17 +160,15 @@ fn append_chunks<F: Flavor, const LEN: usize, const WRITTEN: usize, A: Allocator
     ensures { AppendsText F.flavor strictness bytes.now
         result (string_bytes out.old) (string_bytes out.new) }
 {
-    if let Strictness::Lossy = strictness {
-        let Some(len) = lossy_len::<F>(bytes) else {
-            return Err(Refusal::Memory(AllocError));
-        };
-        out.reserve_exact(len).map_err(Refusal::Memory)?;
-    }
     let mut buffer = [0; BUFFER_LEN];
     let mut written = [0; WRITTEN];
     let mut rest = bytes;
-    // What is read lossily is mostly damaged.
-    let mut joins = matches!(strictness, Strictness::Strict);
+    let mut joins = true;
+    if let Strictness::Lossy = strictness {
+        let (behind, is_ill_formed) = append_first::<F, LEN, A>(bytes, &mut written, out)?;
+        rest = behind;
+        joins = !is_ill_formed;
+    }
     while !rest.is_empty() {
         match next_chunk::<F, LEN>(rest, joins, &mut buffer, &mut written) {
             Chunk::Joined(joined) => {
@@ -186,6 +183,40 @@ fn append_chunks<F: Flavor, const LEN: usize, const WRITTEN: usize, A: Allocator
         }
     }
     Ok(())
+}
+
+/// Appends the lossy reading of the first bytes, after one request for that of all. Returns the
+/// bytes that are left, and whether some of the first ones are ill-formed.
+///
+/// They are decoded by offsets, in a window of this length, before the request, so that they need
+/// no pass for the length. `decode_lossy` fails at any other capacity. A length that does not fit
+/// counts as refused.
+#[inline(always)]
+fn append_first<'a, F: Flavor, const LEN: usize, A: Allocator>(
+    bytes: &'a [u8],
+    written: &mut [u8],
+    out: &mut String<A>,
+) -> Result<(&'a [u8], bool), Refusal>
+    requires window { LEAST ≤ LEN }
+    requires written { WIDEST * LEN ≤ length written.old + SPARED }
+    ensures read { IfOk result (λ first. IsReadSoFar F.flavor Lossy bytes.now
+        first.0.now (string_bytes out.old) (string_bytes out.new)) }
+    ensures invalid { OnNoText result ⊥ }
+    ensures len { length written.new ≡ length written.old }
+{
+    let mut window = [0; LEN];
+    let decoded = write_window::<F>(bytes, &mut window, written);
+    let is_ill_formed = decoded.is_ill_formed;
+    let rest = &bytes[decoded.read..];
+    let Some(rest_len) = lossy_len::<F>(rest) else {
+        return Err(Refusal::Memory(AllocError));
+    };
+    let Some(len) = rest_len.checked_add(decoded.end) else {
+        return Err(Refusal::Memory(AllocError));
+    };
+    out.reserve_exact(len).map_err(Refusal::Memory)?;
+    append_written(Strictness::Lossy, decoded, written, out)?;
+    Ok((rest, is_ill_formed))
 }
 
 /// Appends what was written for some bytes, unless an ill-formed byte in them is refused.

@@ -1,4 +1,4 @@
-use Rattle.std.proofs.Common.{◌∙◌, sym, subst, rules}
+use Rattle.std.proofs.Common.{◌∙◌, sym, ap, subst, rules}
 use Rattle.std.specs.String.{string_bytes}
 use Rattle.std.proofs.lemmas.Bool.{eqb-true}
 use Rattle.std.proofs.lemmas.List.{take_rest}
@@ -6,12 +6,20 @@ use Rattle.cesu8_bytes.specs.TextChunks.{IsReadSoFar}
 use Rattle.cesu8_bytes.specs.declared.options.Strictness.TheVariants.{Lossy}
 use Rattle.cesu8_decode.proofs.chunks.ReadChunks.{nothing_read, all_read, more_read, chunk_appended, chunk_unless_refused, chunk_refused, chunk_utf8, none_refused}
 use Rattle.cesu8_decode.proofs.text.append_chunks.Goals as goal
+use Rattle.cesu8_decode.proofs.text.append_chunks.Goals.{in-Lossy+in_ok-behind, in_default}
 
 pub loop-rest-init : goal.loop-rest-init
 loop-rest-init g c =
     let f = g.F.Flavor.flavor in
-    subst (IsReadSoFar f c.args.strictness c.args.bytes.now c.args.bytes.now (string_bytes c.args.out.now)) (search rules)
-    (nothing_read f c.args.strictness c.args.bytes.now (string_bytes c.args.out.now))
+    let which = c.args.strictness in
+    let bytes = c.args.bytes.now in
+    let old = string_bytes c.args.out.now in
+    elim c.match-strictness.branch [
+      | in-Lossy+in_ok-behind w ↦ subst (λ r. IsReadSoFar f which bytes r old (string_bytes c.match-strictness.out)) (sym (ap (λ r. r.now) w.rest-is))
+          (subst (λ out. IsReadSoFar f which bytes w.in_ok-behind.behind.now old (string_bytes out)) (sym w.out-is)
+          (subst (λ strictness. IsReadSoFar f strictness bytes w.in_ok-behind.behind.now old (string_bytes w.append_first.new.out)) (sym w.in-Lossy.is) w.in_ok-behind.ensures.read))
+      | in_default w ↦ rw (w.rest-is, w.out-is) (nothing_read f which bytes old)
+    ]
 
 pub loop-rest-preserved-in-Continue-branch-2 : goal.loop-rest-preserved-in-Continue-branch-2
 loop-rest-preserved-in-Continue-branch-2 g c =
