@@ -4,6 +4,7 @@ pub mod BytesInTurn
 pub mod ComputedPairs
 pub mod RecodedText
 pub mod UnchangedBytes
+pub mod LowBlocks
 pub mod EncodedLanes
 pub mod EncodedBlocks
 pub mod EncodedRows

@@ -1,6 +1,6 @@
 -- What encoding makes of each byte of UTF-8, from the byte and its neighbours alone: the two before
 -- it and the one after it. This is defined for every list of bytes, with zeros around it.
-use Rattle.std.specs.Prelude.{ℕ, zero, suc, ◌+◌, ◌-◌, ◌*◌, ◌/◌, ◌%◌, Bool, ◌||◌, ◌==◌, if◌then◌else◌, ◌≡◌, ◌<◌, ◌≤◌, List, [], ◌∷◌, ◌++◌, length, take, slice_index, slice_index_or, map, replicate, bit_and, bit_or}
+use Rattle.std.specs.Prelude.{ℕ, zero, suc, ◌+◌, ◌-◌, ◌*◌, ◌/◌, ◌%◌, Bool, ◌||◌, ◌==◌, if◌then◌else◌, ◌≡◌, ◌^◌, ◌<◌, ◌≤◌, List, [], ◌∷◌, ◌++◌, length, take, slice_index, slice_index_or, map, replicate, bit_and, bit_or, count_ones}
 use Rattle.std.specs.List.{flat_map, range_with_len}
 use Rattle.std.specs.Simd.Lanes.{mask_l}
 use Rattle.cesu8_text.specs.Encoding.{Flavor}
@@ -76,6 +76,10 @@ packed (t ∷ ts) [] seconds = []
 packed (t ∷ ts) (a ∷ firsts) [] = []
 packed (t ∷ ts) (a ∷ firsts) (b ∷ seconds) = if t then a ∷ b ∷ packed ts firsts seconds else b ∷ packed ts firsts seconds
 
+-- How many they are, for the first n bytes. Bit i of the number is set if the test of byte i holds.
+abbrev pub packed_len : ℕ → ℕ → ℕ
+packed_len doubled n = n + count_ones (doubled % 2 ^ n)
+
 -- The lanes that packing keeps of a vector of eight seconds and eight firsts, from second i on, for
 -- n bytes. Bit i of the number is set if the test of byte i holds.
 abbrev pub kept_lanes : ℕ → ℕ → ℕ → List ℕ
@@ -100,3 +104,10 @@ pub record AreLanes (f : Flavor) (window : List ℕ) (i : ℕ) (seconds firsts :
   pub seconds_are : seconds ≡ map (changed_at f window) (range_with_len i 32)
   pub firsts_are : firsts ≡ map (inserted_at f window) (range_with_len i 32)
   pub doubled_is : doubled ≡ mask_l (map (is_doubled_at f window) (range_with_len i 32))
+
+-- Lanes that are packed to what is written for that block, with a bit for each byte that becomes two.
+pub record ArePackedTo (f : Flavor) (window : List ℕ) (i : ℕ) (seconds firsts : List ℕ) (doubled : ℕ) : Type 0 where
+  pub seconds_long : length seconds ≡ 32
+  pub firsts_long : length firsts ≡ 32
+  pub doubled_is : doubled ≡ mask_l (map (is_doubled_at f window) (range_with_len i 32))
+  pub packed_to : packed (map (is_doubled_at f window) (range_with_len i 32)) firsts seconds ≡ encoded_bytes f window i 32

@@ -4,17 +4,20 @@
 //! begin a byte apart have these four in one lane each. Of a row of eight bytes, sixteen lanes are
 //! packed by one shuffle and stored, and the next row overwrites those that it does not need.
 //!
-//! A block within a text is copied where no byte of it changes, nor one of the two before it.
+//! A block within a text is copied where no byte of it changes, nor one of the two before it. Where
+//! only null characters change, no neighbour decides anything, and the lanes take less.
 
-ghost use Rattle.std.specs.Prelude.{◌≡◌, ℕ, List, Bool, ◌+◌, ◌*◌, ◌<◌, ◌≤◌, ◌++◌, length, take, IsTrue};
+ghost use Rattle.std.specs.Prelude.{◌≡◌, ℕ, List, Bool, ◌+◌, ◌*◌, ◌<◌, ◌≤◌, ◌↔◌, ◌++◌, length, take, IsTrue};
 ghost use Rattle.std.specs.Simd.Lanes.{chunk, zip2, mask_l};
+ghost use Rattle.cesu8_text.specs.Class.{is_at_least_f0};
 ghost use Rattle.cesu8_text.specs.Encoding.{Flavor as AnyFlavor};
-ghost use Rattle.cesu8_encode.specs.EncodedOffsets.{six_bits, packed, encoded_bytes, AreLanes};
+ghost use Rattle.cesu8_bytes.specs.Kernels.{AnyIn};
+ghost use Rattle.cesu8_encode.specs.EncodedOffsets.{six_bits, packed, packed_len, encoded_bytes, AreLanes, ArePackedTo};
 
 use super::rows::rows;
 use cesu8_bytes::BLOCK;
 use cesu8_bytes::flavor::{Flavor, nulls};
-use cesu8_bytes::implementation::class::{AtLeastF0, Either, mask};
+use cesu8_bytes::implementation::class::{AtLeastF0, Either, bits, mask};
 use cesu8_bytes::implementation::short::any_in_ends;
 use cesu8_bytes::writers::put;
 use std::simd::prelude::*;
@@ -35,8 +38,6 @@ const ROW: usize = 8;
 const BLOCK_STORED: usize = 2 * BLOCK;
 
 /// Writes what the first `count` bytes of the block at an offset become, and returns its end.
-///
-/// The rows are stored whole if they fit, and the next block overwrites the bytes beyond the end.
 #[inline(always)]
 pub fn write_block<F: Flavor>(
     window: &[u8],
@@ -53,12 +54,7 @@ pub fn write_block<F: Flavor>(
     ensures len { length out.new ≡ length out.old }
 {
     let block = encode_block::<F>(window, at);
-    if BLOCK_STORED <= out.len() - end {
-        return store_block(&block, count, out, end);
-    }
-    let mut stored = [0; BLOCK_STORED];
-    let len = store_block(&block, count, &mut stored, 0);
-    put(&stored[..len], out, end)
+    write_lanes(&block, count, out, end)
 }
 
 /// Writes what the whole block at an offset becomes, and returns its end.
@@ -74,6 +70,9 @@ pub fn copy_or_write_block<F: Flavor>(window: &[u8], at: usize, out: &mut [u8], 
 {
     if is_unchanged::<F>(window, at) {
         return copy_block(window, at + READ_BEFORE, out, end);
+    }
+    if F::has_long_null() && !has_lead(window, at) {
+        return write_nulls::<F>(window, at, out, end);
     }
     write_block::<F>(window, at, BLOCK, out, end)
 }
@@ -100,6 +99,34 @@ fn is_unchanged<F: Flavor>(window: &[u8], at: usize) -> bool
 {
     let near = &window[at..at + READ_BEFORE + BLOCK];
     !any_in_ends::<Either<F::Null, AtLeastF0>, BLOCK>(near)
+}
+
+/// Returns whether a byte of the block at an offset, or of the two before it, is F0 or more.
+#[inline(always)]
+fn has_lead(window: &[u8], at: usize) -> bool
+    requires { at + BLOCK_READ ≤ length window.now }
+    ensures { IsTrue result ↔ AnyIn is_at_least_f0 (chunk at (READ_BEFORE + BLOCK) window.now) }
+{
+    any_in_ends::<AtLeastF0, BLOCK>(&window[at..at + READ_BEFORE + BLOCK])
+}
+
+/// Writes what a block becomes of which null characters alone change, to C0 80, and returns its end.
+#[inline(always)]
+fn write_nulls<F: Flavor>(window: &[u8], at: usize, out: &mut [u8], end: usize) -> usize
+    requires window { at + BLOCK_READ ≤ length window.now }
+    requires low { ¬ (AnyIn is_at_least_f0 (chunk at (READ_BEFORE + BLOCK) window.now)) }
+    requires room { end + length (encoded_bytes F.flavor window.now at BLOCK) ≤ length out.old }
+    ensures bytes { take result out.new ≡ take end out.old ++ encoded_bytes F.flavor window.now at BLOCK }
+    ensures end { result ≡ end + length (encoded_bytes F.flavor window.now at BLOCK) }
+    ensures len { length out.new ≡ length out.old }
+{
+    let bytes = u8x32::from_slice(&window[at + READ_BEFORE..]);
+    let block = EncodedBlock {
+        seconds: bytes | (nulls::<F>(bytes) & u8x32::splat(0x80)),
+        firsts: u8x32::splat(0xC0),
+        doubled: bits::<F::Null, BLOCK>(bytes),
+    };
+    write_lanes(&block, BLOCK, out, end)
 }
 
 /// What the bytes of a block become. A byte becomes its lane of `seconds`, and if its bit of
@@ -165,17 +192,36 @@ fn store_row(lanes: u8x16, doubled: usize, out: &mut [u8], at: usize) -> usize
     at + ROW + doubled.count_ones() as usize
 }
 
+/// Writes what the lanes say of the first `count` bytes of a block, and returns its end.
+///
+/// The rows are stored whole if they fit, and the next block overwrites the bytes beyond the end.
+#[inline(always)]
+fn write_lanes(block: &EncodedBlock, count: usize, out: &mut [u8], end: usize) -> usize
+    requires count { count ≤ BLOCK }
+    requires room { end + packed_len block.now.doubled count ≤ length out.old }
+    ensures bytes { (f : AnyFlavor) → (window : List ℕ) → (at : ℕ)
+        → ArePackedTo f window at block.now.seconds block.now.firsts block.now.doubled
+        → take result out.new ≡ take end out.old ++ encoded_bytes f window at count }
+    ensures end { result ≡ end + packed_len block.now.doubled count }
+    ensures len { length out.new ≡ length out.old }
+{
+    if BLOCK_STORED <= out.len() - end {
+        return store_block(block, count, out, end);
+    }
+    let mut stored = [0; BLOCK_STORED];
+    let len = store_block(block, count, &mut stored, 0);
+    put(&stored[..len], out, end)
+}
+
 /// Stores the four rows of a block, and returns the end of its content for its first `count` bytes.
 #[inline(always)]
 fn store_block(block: &EncodedBlock, count: usize, out: &mut [u8], end: usize) -> usize
     requires count { count ≤ BLOCK }
     requires room { end + BLOCK_STORED ≤ length out.old }
     ensures bytes { (f : AnyFlavor) → (window : List ℕ) → (at : ℕ)
-        → AreLanes f window at block.now.seconds block.now.firsts block.now.doubled
+        → ArePackedTo f window at block.now.seconds block.now.firsts block.now.doubled
         → take result out.new ≡ take end out.old ++ encoded_bytes f window at count }
-    ensures end { (f : AnyFlavor) → (window : List ℕ) → (at : ℕ)
-        → AreLanes f window at block.now.seconds block.now.firsts block.now.doubled
-        → result ≡ end + length (encoded_bytes f window at count) }
+    ensures end { result ≡ end + packed_len block.now.doubled count }
     ensures len { length out.new ≡ length out.old }
 {
     let (seconds, firsts, doubled) = (block.seconds, block.firsts, block.doubled);

@@ -4,13 +4,13 @@ use Rattle.std.specs.List.{flat_map, range_with_len}
 use Rattle.std.proofs.lemmas.List.{get_or-drop, get_or-take, length-drop, length-take-le, take_all, take_at, take-take}
 use Rattle.std.proofs.lemmas.List.Concat.{flat_map-append}
 use Rattle.std.proofs.lemmas.List.FromFn.{length-range_with_len, length-map-range_with_len, take-map-range_with_len}
-use Rattle.std.proofs.lemmas.Nat.{and_mask}
-use Rattle.std.proofs.Math.Nat.{mod-eq_of_lt}
+use Rattle.std.proofs.lemmas.Nat.{and_mask, ones-le}
+use Rattle.std.proofs.Math.Nat.{mod-eq_of_lt, mod-lt, one-le-pow}
 use lib.Pow.{pow_mono}
 use Rattle.std.proofs.lemmas.Simd.{ones-mask_l_cons}
 use lib.Lanes.{mask_l}
 use Rattle.cesu8_text.specs.Encoding.{Flavor}
-use Rattle.cesu8_encode.specs.EncodedOffsets.{encoded_byte_at, encoded_bytes, recoded, is_doubled_at, inserted_at, changed_at, packed, IsWritten}
+use Rattle.cesu8_encode.specs.EncodedOffsets.{encoded_byte_at, encoded_bytes, recoded, is_doubled_at, inserted_at, changed_at, packed, packed_len, IsWritten, AreLanes, ArePackedTo}
 use Rattle.cesu8_encode.proofs.encoder.EncodedLanes.{packed_offsets}
 use Rattle.cesu8_bytes.proofs.vectors.Rows.{mask_prefix}
 use Rattle.cesu8_bytes.proofs.vectors.Loads.{zeros_at, padded}
@@ -103,17 +103,28 @@ ones_are n le =
     let fits : 1 * 2 ^ n < 0x10000000000000000 = omega arith in
     ap (λ k. k - 1) (mod-eq_of_lt fits ∙ omega arith)
 
+-- The bits that the code counts are those of the first n bytes.
+pub counted : (n doubled : ℕ) → n ≤ 32 →
+    n + count_ones (bit_and doubled (1 * 2 ^ n % 0x10000000000000000 - 1)) ≡ packed_len doubled n
+counted n doubled le = ap (λ k. n + count_ones (bit_and doubled k)) (ones_are n le) ∙ ap (λ b. n + count_ones b) (and_mask doubled n)
+
+-- So 64 bytes hold what is written for a block.
+pub stored_long : (out : List ℕ) (n doubled end : ℕ) → n ≤ 32 → length out ≡ 64 → end ≡ 0 + packed_len doubled n → length (take end out) ≡ end
+stored_long out n doubled end le long end_is =
+    let below : doubled % 2 ^ n < 2 ^ n = mod-lt doubled (one-le-pow n 2 (omega arith)) in
+    length-take-le end out (omega (arith, ones-le n (doubled % 2 ^ n) below, le, long, end_is))
+
 -- The bits of the first n bytes of a block tell how long what is written for them is.
 pub prefix_long : (f : Flavor) (window : List ℕ) (i n doubled : ℕ) → n ≤ 32 →
     doubled ≡ mask_l (map (is_doubled_at f window) (range_with_len i 32)) →
-    n + count_ones (bit_and doubled (1 * 2 ^ n % 0x10000000000000000 - 1)) ≡ length (encoded_bytes f window i n)
+    packed_len doubled n ≡ length (encoded_bytes f window i n)
 prefix_long f window i n doubled le doubled_is =
     let tests = is_doubled_at f window in
-    let prefix : bit_and doubled (2 ^ n - 1) ≡ mask_l (map tests (range_with_len i n)) =
-    and_mask doubled n ∙ ap (λ m. m % 2 ^ n) doubled_is
+    let prefix : doubled % 2 ^ n ≡ mask_l (map tests (range_with_len i n)) =
+    ap (λ m. m % 2 ^ n) doubled_is
     ∙ mask_prefix n (map tests (range_with_len i 32)) (omega (arith, length-map-range_with_len tests i 32))
     ∙ ap mask_l (take-map-range_with_len tests i 32 n le) in
-    ap (λ k. n + count_ones (bit_and doubled k)) (ones_are n le) ∙ ap (λ b. n + count_ones b) prefix ∙ sym (length_offsets f window i n)
+    ap (λ b. n + count_ones b) prefix ∙ sym (length_offsets f window i n)
 
 -- The prefix of what is stored of a block is what is written for its first n bytes.
 pub prefix_of_block : (f : Flavor) (window before out : List ℕ) (i n stored end : ℕ) → n ≤ 32 → stored ≤ length out →
@@ -129,14 +140,16 @@ prefix_of_block f window before out i n stored end le within is end_is =
     let ends : end ≤ stored = omega (arith, end_is, whole, ap length parts, length-append (before ++ prefix) others, length-take-le stored out within) in
     sym (take-take end stored out ends) ∙ ap (take end) parts ∙ take_at (before ++ prefix) others end (whole ∙ sym end_is)
 
--- What is stored of a block, by its lanes.
-pub stored_block : (f : Flavor) (window before out firsts seconds : List ℕ) (i stored : ℕ) →
-    take stored out ≡ before ++ packed (map (is_doubled_at f window) (range_with_len i 32)) firsts seconds →
-    firsts ≡ map (inserted_at f window) (range_with_len i 32) → seconds ≡ map (changed_at f window) (range_with_len i 32) →
-    take stored out ≡ before ++ encoded_bytes f window i 32
-stored_block f window before out firsts seconds i stored is firsts_are seconds_are =
-    is ∙ ap (λ l. before ++ l)
-    ((λ j. packed (map (is_doubled_at f window) (range_with_len i 32)) (firsts_are j) (seconds_are j)) ∙ packed_block f window i 32)
+-- The lanes of a block are packed to what is written for it.
+pub lanes_packed : (f : Flavor) (window : List ℕ) (i : ℕ) (seconds firsts : List ℕ) (doubled : ℕ) → AreLanes f window i seconds firsts doubled →
+    ArePackedTo f window i seconds firsts doubled
+lanes_packed f window i seconds firsts doubled lanes = record {
+  seconds_long = ap length lanes.seconds_are ∙ length-map-range_with_len (changed_at f window) i 32;
+  firsts_long = ap length lanes.firsts_are ∙ length-map-range_with_len (inserted_at f window) i 32;
+  doubled_is = lanes.doubled_is;
+  packed_to =
+      (λ j. packed (map (is_doubled_at f window) (range_with_len i 32)) (lanes.firsts_are j) (lanes.seconds_are j)) ∙ packed_block f window i 32;
+}
 
 -- What is left of zeros is zeros.
 zeros_left : (n m j : ℕ) → ◌≡◌ {A = ℕ} (get_or (drop m (replicate n 0)) j 0) 0

@@ -1,13 +1,13 @@
-use Rattle.std.proofs.Common.{ap, ◌∙◌, arith, length, map, take}
+use Rattle.std.proofs.Common.{◌++◌, ap, ◌∙◌, arith, map, take}
 use Rattle.std.specs.List.{range_with_len}
 use Rattle.std.proofs.lemmas.List.{length-take-le}
 use Rattle.std.proofs.lemmas.List.FromFn.{length-map-range_with_len}
 use Rattle.std.proofs.lemmas.Simd.{length-chunk}
 use lib.Lanes.{chunk}
-use Rattle.cesu8_encode.specs.EncodedOffsets.{changed_at, inserted_at, is_doubled_at}
+use Rattle.cesu8_encode.specs.EncodedOffsets.{is_doubled_at}
 use Rattle.cesu8_bytes.proofs.vectors.Rows.{row_mask, first_mask}
 use Rattle.cesu8_encode.proofs.encoder.EncodedRows.{four_rows}
-use Rattle.cesu8_encode.proofs.encoder.EncodedWindows.{prefix_long, prefix_of_block, stored_block}
+use Rattle.cesu8_encode.proofs.encoder.EncodedWindows.{counted, prefix_long, prefix_of_block}
 use Rattle.cesu8_encode.proofs.blocks.store_block.Goals as goal
 
 pub returns-clause-bytes : goal.returns-clause-bytes
@@ -17,16 +17,16 @@ returns-clause-bytes c f window at lanes =
     let tests = map (is_doubled_at f window) (range_with_len at 32) in
     let long = length-map-range_with_len (is_doubled_at f window) at 32 in
     let rows = four_rows c.args.block.now.firsts c.args.block.now.seconds tests
-    (ap length lanes.firsts_are ∙ length-map-range_with_len (inserted_at f window) at 32)
-    (ap length lanes.seconds_are ∙ length-map-range_with_len (changed_at f window) at 32) long _ _ _ _ _
+    lanes.firsts_long lanes.seconds_long long _ _ _ _ _
     (c.store_row-at.ensures.bytes (chunk 0 8 tests) (length-chunk 0 8 tests (omega (arith, long))) (first_mask tests doubled (omega (arith, long)) lanes.doubled_is))
     (c.store_row-at-2.ensures.bytes (chunk 8 8 tests) (length-chunk 8 8 tests (omega (arith, long))) (row_mask 8 tests doubled (omega (arith, long)) lanes.doubled_is))
     (c.store_row-at-3.ensures.bytes (chunk 16 8 tests) (length-chunk 16 8 tests (omega (arith, long))) (row_mask 16 tests doubled (omega (arith, long)) lanes.doubled_is))
     (c.store_row.ensures.bytes (chunk 24 8 tests) (length-chunk 24 8 tests (omega (arith, long))) (row_mask 24 tests doubled (omega (arith, long)) lanes.doubled_is)) in
-    let stored = stored_block f window before c.store_row.new.out _ _ at c.store_row.result rows lanes.firsts_are lanes.seconds_are in
+    let stored = rows ∙ ap (λ l. before ++ l) lanes.packed_to in
+    let counted_is = counted c.args.count doubled c.requires.count in
     prefix_of_block f window before c.store_row.new.out at c.args.count c.store_row.result _ c.requires.count
     (omega (arith, c.store_row.ensures.end, c.store_row.ensures.len, c.requires.room)) stored
-    (omega (arith, prefix_long f window at c.args.count _ c.requires.count lanes.doubled_is, length-take-le c.args.end c.args.out.now (omega (arith, c.requires.room))))
+    (omega (arith, counted_is, prefix_long f window at c.args.count _ c.requires.count lanes.doubled_is, length-take-le c.args.end c.args.out.now (omega (arith, c.requires.room))))
 
 pub returns-clause-end : goal.returns-clause-end
-returns-clause-end c f window at lanes = omega (arith, prefix_long f window at c.args.count _ c.requires.count lanes.doubled_is)
+returns-clause-end c = omega (arith, counted c.args.count c.args.block.now.doubled c.requires.count)

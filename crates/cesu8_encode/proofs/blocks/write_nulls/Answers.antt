@@ -1,0 +1,30 @@
+use Rattle.std.proofs.Common.{arith}
+use Rattle.cesu8_encode.proofs.encoder.EncodedWindows.{prefix_long}
+use Rattle.cesu8_encode.proofs.encoder.LowBlocks.{low_packed}
+use Rattle.cesu8_encode.proofs.blocks.write_nulls.Goals as goal
+
+pub write_lanes-requires-clause-room : goal.write_lanes-requires-clause-room
+write_lanes-requires-clause-room g c =
+    let lanes = low_packed g.F.Flavor.flavor g.F.Null.Class.class c.args.window.now c.args.at _ _ g.met.F.Flavor.are_null
+    c.requires.window c.requires.low c.nulls.ensures c.bits.ensures in
+    omega (
+      arith,
+      prefix_long g.F.Flavor.flavor c.args.window.now c.args.at 32 _ (omega arith) lanes.doubled_is,
+      c.requires.room,
+    )
+
+pub returns-clause-bytes : goal.returns-clause-bytes
+returns-clause-bytes g c =
+    c.write_lanes.ensures.bytes g.F.Flavor.flavor c.args.window.now c.args.at
+    (low_packed g.F.Flavor.flavor g.F.Null.Class.class c.args.window.now c.args.at _ _ g.met.F.Flavor.are_null
+    c.requires.window c.requires.low c.nulls.ensures c.bits.ensures)
+
+pub returns-clause-end : goal.returns-clause-end
+returns-clause-end g c =
+    let lanes = low_packed g.F.Flavor.flavor g.F.Null.Class.class c.args.window.now c.args.at _ _ g.met.F.Flavor.are_null
+    c.requires.window c.requires.low c.nulls.ensures c.bits.ensures in
+    omega (
+      arith,
+      c.write_lanes.ensures.end,
+      prefix_long g.F.Flavor.flavor c.args.window.now c.args.at 32 _ (omega arith) lanes.doubled_is,
+    )
