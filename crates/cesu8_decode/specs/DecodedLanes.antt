@@ -66,7 +66,7 @@ is_high lane = nat_le 0x80 lane
 abbrev pub begins_changed : Flavor → List ℕ → ℕ → Bool
 begins_changed f window i = start_kind f window i == 0x20 || start_kind f window i == 0x80
 
--- None does at the 32 offsets of a block that follow the first `at` and five more, nor at those five.
+-- None does at the 32 offsets of a block that follow `at` offsets and five more, nor at those five.
 abbrev pub NoneChanges : Flavor → List ℕ → ℕ → Type 0
 NoneChanges f window at = (i : ℕ) → at ≤ i → i < at + 37 → begins_changed f window i ≡ false
 

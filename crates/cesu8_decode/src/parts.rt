@@ -130,12 +130,13 @@ fn first_bits(lanes: u8x32, count: usize) -> u64
     highest_bits(lanes) & ((1 << count) - 1)
 }
 
-/// Returns whether neither a surrogate pair nor C0 80 begins at the offsets around a block, from the
-/// kinds of its bytes and of the 32 bytes before, of which the last five count. Then its bytes stay,
-/// but for those that are ill-formed.
+/// Returns whether neither a surrogate pair nor C0 80 begins at the offsets around a block. Then
+/// its bytes stay, but for those that are ill-formed. Of the kinds of the 32 bytes before, the last
+/// five count.
 #[inline(always)]
 fn changes_none(before: u8x32, here: u8x32) -> bool
-    ensures { (f : Flavor) (window : List ℕ) (at : ℕ) → AreFiveKinds f window at before (BLOCK - BEHIND)
+    ensures { (f : Flavor) (window : List ℕ) (at : ℕ)
+        → AreFiveKinds f window at before (BLOCK - BEHIND)
         → here ≡ map (start_kind f window) (range_with_len (at + BEHIND) BLOCK)
         → IsTrue result → NoneChanges f window at }
 {

@@ -72,8 +72,8 @@ fn sum_of_blocks<F: Flavor, W: Weight>(bytes: &[u8], count: usize) -> usize
     lanes.dot4(u8x32::splat(1)).strict_reduce_sum() as usize
 }
 
-/// Returns the weights of the 32 offsets from `at` on. If no byte can lead others, they are those of
-/// characters of one byte.
+/// Returns the weights of the 32 offsets from `at` on. If no byte can lead others, only characters
+/// of one byte weigh.
 #[inline(always)]
 fn weight_lanes<F: Flavor, W: Weight>(bytes: &[u8], at: usize) -> u8x32
     requires { at + REACH ≤ length bytes.now }
