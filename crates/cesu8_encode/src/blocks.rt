@@ -59,7 +59,8 @@ pub fn write_block<F: Flavor>(
 
 /// Writes what the whole block at an offset becomes, and returns its end.
 ///
-/// A block is copied if no byte of it changes. Most text has runs of such blocks.
+/// A block is copied if no byte of it changes. Most text has runs of such blocks. In MUTF-8 one more
+/// branch tells blocks with bytes of surrogate pairs from those of which null alone changes.
 #[inline(always)]
 pub fn copy_or_write_block<F: Flavor>(window: &[u8], at: usize, out: &mut [u8], end: usize) -> usize
     requires window { at + BLOCK_READ ≤ length window.now }
@@ -110,7 +111,8 @@ fn has_lead(window: &[u8], at: usize) -> bool
     any_in_ends::<AtLeastF0, BLOCK>(&window[at..at + READ_BEFORE + BLOCK])
 }
 
-/// Writes what a block becomes of which null characters alone change, to C0 80, and returns its end.
+/// Writes what a block becomes of which null characters alone change, and returns its end. They
+/// become C0 80.
 #[inline(always)]
 fn write_nulls<F: Flavor>(window: &[u8], at: usize, out: &mut [u8], end: usize) -> usize
     requires window { at + BLOCK_READ ≤ length window.now }

@@ -1,10 +1,10 @@
 //! The encoder: from the UTF-8 of a text to its encoding.
 //!
 //! The two bytes before a byte of UTF-8 and the one after it decide what is written for it. So
-//! vectors encode 32 bytes at a time. Of the blocks between the first and the last, one branch copies
-//! those of which no byte changes, and one has a shorter way for those of which null alone changes.
-//! There is no other branch on what a byte is. The four bytes `a b c d` of one character become a
-//! surrogate pair, ED and two bytes each:
+//! vectors encode 32 bytes at a time. Between the first block and the last, one branch copies those
+//! of which no byte changes. One more, in MUTF-8, has a shorter way for those of which null alone
+//! changes. There is no other branch on what a byte is. The four bytes `a b c d` of one character
+//! become a surrogate pair, ED and two bytes each:
 //!
 //! ```text
 //! a ──► ED, four bits of a and two of b      c ──► ED, four bits of c
