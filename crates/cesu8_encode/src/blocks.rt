@@ -4,10 +4,10 @@
 //! begin a byte apart have these four in one lane each. Of a row of eight bytes, sixteen lanes are
 //! packed by one shuffle and stored, and the next row overwrites those that it does not need.
 //!
-//! A block within a text is copied where no byte of it changes, nor one of the two before it. Where
-//! only null characters change, no neighbour decides anything, and the lanes take less.
+//! A block within a text can be copied where no byte of it changes, nor one of the two before it.
+//! Where null characters alone change, no neighbour decides anything, and the lanes take less.
 
-ghost use Rattle.std.specs.Prelude.{◌≡◌, ℕ, List, Bool, ◌+◌, ◌*◌, ◌<◌, ◌≤◌, ◌↔◌, ◌++◌, length, take, IsTrue};
+ghost use Rattle.std.specs.Prelude.{◌≡◌, ℕ, List, Bool, ◌+◌, ◌*◌, ◌<◌, ◌≤◌, ◌++◌, length, take, IsTrue};
 ghost use Rattle.std.specs.Simd.Lanes.{chunk, zip2, mask_l};
 ghost use Rattle.cesu8_text.specs.Class.{is_at_least_f0};
 ghost use Rattle.cesu8_text.specs.Encoding.{Flavor as AnyFlavor};
@@ -57,10 +57,8 @@ pub fn write_block<F: Flavor>(
     write_lanes(&block, count, out, end)
 }
 
-/// Writes what the whole block at an offset becomes, and returns its end.
-///
-/// A block is copied if no byte of it changes. Most text has runs of such blocks. In MUTF-8 one more
-/// branch tells blocks with bytes of surrogate pairs from those of which null alone changes.
+/// Writes what the whole block at an offset becomes, and returns its end. A block is copied if no
+/// byte of it changes. Most text has runs of such blocks.
 #[inline(always)]
 pub fn copy_or_write_block<F: Flavor>(window: &[u8], at: usize, out: &mut [u8], end: usize) -> usize
     requires window { at + BLOCK_READ ≤ length window.now }
@@ -72,10 +70,24 @@ pub fn copy_or_write_block<F: Flavor>(window: &[u8], at: usize, out: &mut [u8], 
     if is_unchanged::<F>(window, at) {
         return copy_block(window, at + READ_BEFORE, out, end);
     }
-    if F::has_long_null() && !has_lead(window, at) {
-        return write_nulls::<F>(window, at, out, end);
-    }
     write_block::<F>(window, at, BLOCK, out, end)
+}
+
+/// Does so in a text without surrogate pairs, where null characters alone can change.
+#[inline(always)]
+pub fn copy_or_write_nulls<F: Flavor>(window: &[u8], at: usize, out: &mut [u8], end: usize) -> usize
+    requires window { at + BLOCK_READ ≤ length window.now }
+    requires low { ¬ (AnyIn is_at_least_f0 window.now) }
+    requires room { end + length (encoded_bytes F.flavor window.now at BLOCK) ≤ length out.old }
+    ensures bytes { take result out.new ≡ take end out.old ++ encoded_bytes F.flavor window.now at BLOCK }
+    ensures end { result ≡ end + length (encoded_bytes F.flavor window.now at BLOCK) }
+    ensures len { length out.new ≡ length out.old }
+{
+    if is_unchanged::<F>(window, at) {
+        copy_block(window, at + READ_BEFORE, out, end)
+    } else {
+        write_nulls::<F>(window, at, out, end)
+    }
 }
 
 /// Copies the block behind the first `from` bytes of a window, and returns its end.
@@ -102,21 +114,12 @@ fn is_unchanged<F: Flavor>(window: &[u8], at: usize) -> bool
     !any_in_ends::<Either<F::Null, AtLeastF0>, BLOCK>(near)
 }
 
-/// Returns whether a byte of the block at an offset, or of the two before it, is F0 or more.
-#[inline(always)]
-fn has_lead(window: &[u8], at: usize) -> bool
-    requires { at + BLOCK_READ ≤ length window.now }
-    ensures { IsTrue result ↔ AnyIn is_at_least_f0 (chunk at (READ_BEFORE + BLOCK) window.now) }
-{
-    any_in_ends::<AtLeastF0, BLOCK>(&window[at..at + READ_BEFORE + BLOCK])
-}
-
-/// Writes what a block becomes of which null characters alone change, and returns its end. They
-/// become C0 80.
+/// Writes what a block becomes in a text without surrogate pairs, and returns its end. Null
+/// characters become C0 80.
 #[inline(always)]
 fn write_nulls<F: Flavor>(window: &[u8], at: usize, out: &mut [u8], end: usize) -> usize
     requires window { at + BLOCK_READ ≤ length window.now }
-    requires low { ¬ (AnyIn is_at_least_f0 (chunk at (READ_BEFORE + BLOCK) window.now)) }
+    requires low { ¬ (AnyIn is_at_least_f0 window.now) }
     requires room { end + length (encoded_bytes F.flavor window.now at BLOCK) ≤ length out.old }
     ensures bytes { take result out.new ≡ take end out.old ++ encoded_bytes F.flavor window.now at BLOCK }
     ensures end { result ≡ end + length (encoded_bytes F.flavor window.now at BLOCK) }

@@ -56,6 +56,7 @@ fn put_on_stack<F: Flavor>(text: &str, buf: &mut [u8]) -> Result<usize, NoRoom>
 }
 
 #[inline(never)]
+#[tactic(auto, using(crate::proofs::encoder::EncodedLengths::no_shorter))]
 fn put_in_place<F: Flavor>(text: &str, buf: &mut [u8]) -> Result<usize, NoRoom>
     requires { BLOCK < length text.now }
     ensures { PutsAnswer (encoding F.flavor (chars text.now)) result buf.old buf.new }
@@ -64,6 +65,6 @@ fn put_in_place<F: Flavor>(text: &str, buf: &mut [u8]) -> Result<usize, NoRoom>
     if buf.len() < len {
         return Err(NoRoom { needed: len });
     }
-    write_blocks::<F>(text, &mut buf[..len]);
+    write_blocks::<F>(text, len - text.len(), &mut buf[..len]);
     Ok(len)
 }

@@ -2,9 +2,8 @@
 //!
 //! The two bytes before a byte of UTF-8 and the one after it decide what is written for it. So
 //! vectors encode 32 bytes at a time. Between the first block and the last, one branch copies those
-//! of which no byte changes. One more, in MUTF-8, has a shorter way for those of which null alone
-//! changes. There is no other branch on what a byte is. The four bytes `a b c d` of one character
-//! become a surrogate pair, ED and two bytes each:
+//! of which no byte changes, unless most change; there is no other on what a byte is. The four
+//! bytes `a b c d` of one character become a surrogate pair, ED and two bytes each:
 //!
 //! ```text
 //! a ──► ED, four bits of a and two of b      c ──► ED, four bits of c
@@ -13,8 +12,8 @@
 //!
 //! In MUTF-8 the byte 00 becomes C0 80, and every other byte stays. So a row of eight bytes becomes
 //! sixteen lanes, and one shuffle packs those that are written. `blocks` makes the lanes, `rows`
-//! has the shuffles, and `windows` has the loop over the text. `few` encodes a few bytes without
-//! blocks, and `way` says which texts go which way.
+//! has the shuffles, `windows` has the loop over the text, and `block_writers` what it does with a
+//! block. `few` encodes a few bytes without blocks, and `way` says which texts go which way.
 //!
 //! This file has what builds or appends an encoding, and `copy_or_write` what writes it to a
 //! caller's buffer. The names of this crate are no promise to users: `simd_cesu8` has the public
@@ -26,6 +25,7 @@ ghost use Rattle.std.specs.Str.{chars};
 ghost use Rattle.cesu8_text.specs.Encoding.{encoding};
 ghost use Rattle.cesu8_encode.specs.Encoded.{BuildsEncoding, AppendsEncoding};
 
+mod block_writers;
 mod blocks;
 pub mod copy_or_write;
 mod few;
@@ -74,7 +74,7 @@ fn encode_on_stack<F: Flavor, A: Allocator + Copy, const N: usize>(
     ensures { BuildsEncoding F.flavor text.now result }
 {
     let mut written = [0; N];
-    let len = write::<F>(text, &mut written);
+    let len = write::<F>(text, 0, &mut written);
     copy(alloc, &written[..len])
 }
 
@@ -115,6 +115,7 @@ pub fn encode_into<F: Flavor, A: Allocator + Copy>(
 
 /// Appends the encoding of a text, which has this length, to a buffer with enough capacity.
 #[inline(always)]
+#[tactic(auto, using(crate::proofs::encoder::EncodedLengths::no_shorter))]
 fn append_changed<F: Flavor, A: Allocator + Copy>(text: &str, len: usize, out: &mut Vec<u8, A>)
     requires len { len ≡ length (encoding F.flavor (chars text.now)) }
     requires room { vec_len out.old + len ≤ vec_capacity out.old }
@@ -123,5 +124,5 @@ fn append_changed<F: Flavor, A: Allocator + Copy>(text: &str, len: usize, out: &
 {
     let start = out.len();
     append_zeros(len, out);
-    write::<F>(text, &mut out[start..]);
+    write::<F>(text, len - text.len(), &mut out[start..]);
 }

@@ -22,6 +22,9 @@
 //! 128 bytes 1.06 times as fast at v3, and 1.04 times at v2, beside f2ced24 without it. In both
 //! figures the export first tests its input for UTF-8.
 //!
+//! `windows` has three ways for the blocks between the first and the last, by what changes in the
+//! text: `block_writers` has them.
+//!
 //! Below this crate, two kinds of code choose by a length too: the first looks of `cesu8_bytes`,
 //! which see whether a byte changes, and the widths of its vectors.
 
@@ -70,15 +73,15 @@ pub fn way_of(text: &str) -> Way
 }
 
 /// Writes the encoding of a text at the front of a slice that is long enough, and returns its
-/// length.
+/// length. It is told how many bytes more than the text that has, or 0 if this is not known.
 #[inline(always)]
-pub fn write<F: Flavor>(text: &str, out: &mut [u8]) -> usize
+pub fn write<F: Flavor>(text: &str, more: usize, out: &mut [u8]) -> usize
     requires { length (encoding F.flavor (chars text.now)) ≤ length out.old }
     ensures { WritesEncoding F.flavor text.now out.old out.new result }
 {
     match way_of(text) {
         Way::Few => write_few::<F>(text, out),
         Way::Block => write_short::<F>(text, out),
-        Way::OnStack | Way::Blocks => write_blocks::<F>(text, out),
+        Way::OnStack | Way::Blocks => write_blocks::<F>(text, more, out),
     }
 }

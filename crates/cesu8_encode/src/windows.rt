@@ -9,9 +9,12 @@ ghost use Rattle.cesu8_text.specs.Encoding.{encoding};
 ghost use Rattle.cesu8_encode.specs.Encoded.{WritesEncoding};
 ghost use Rattle.cesu8_encode.specs.EncodedOffsets.{recoded, IsWritten, Writes};
 
-use super::blocks::{BLOCK_READ, READ_AFTER, READ_BEFORE, copy_or_write_block, write_block};
+use super::block_writers::{BlockWriter, FewChanges, ManyChanges, NullsChange};
+use super::blocks::{BLOCK_READ, READ_AFTER, READ_BEFORE, write_block};
 use cesu8_bytes::BLOCK;
 use cesu8_bytes::flavor::Flavor;
+use cesu8_bytes::implementation::class::AtLeastF0;
+use cesu8_bytes::implementation::short::any_in_short;
 
 /// Writes the encoding of a text of at most a block, and returns its end. It is inlined: where the
 /// slice is an array on the stack, no test is left whether the rows fit.
@@ -27,9 +30,11 @@ pub fn write_short<F: Flavor>(text: &str, out: &mut [u8]) -> usize
     write_block::<F>(&window, 0, bytes.len(), out, 0)
 }
 
-/// Writes the encoding of a longer text, and returns its end.
+/// Writes the encoding of a longer text, and returns its end. It is told how many bytes more than
+/// the text the encoding has, or 0 if that is not known. For speed alone it decides by this how
+/// blocks are written.
 #[inline(never)]
-pub fn write_blocks<F: Flavor>(text: &str, out: &mut [u8]) -> usize
+pub fn write_blocks<F: Flavor>(text: &str, more: usize, out: &mut [u8]) -> usize
     requires long { BLOCK < length text.now }
     requires room { length (encoding F.flavor (chars text.now)) ≤ length out.old }
     ensures { WritesEncoding F.flavor text.now out.old out.new result }
@@ -37,7 +42,7 @@ pub fn write_blocks<F: Flavor>(text: &str, out: &mut [u8]) -> usize
     let bytes = text.as_bytes();
     let blocks = (bytes.len() - 1) / BLOCK;
     let end = write_first::<F>(bytes, out);
-    let end = write_middle::<F>(bytes, blocks, out, end);
+    let end = write_middle::<F>(bytes, more, blocks, out, end);
     write_last::<F>(bytes, BLOCK * blocks, out, end)
 }
 
@@ -54,9 +59,39 @@ fn write_first<F: Flavor>(text: &[u8], out: &mut [u8]) -> usize
     write_block::<F>(&window, 0, BLOCK, out, 0)
 }
 
-/// Writes what the blocks between the first and the last become, and returns its end.
+/// Writes what the blocks between the first and the last become, and returns its end. Where each
+/// has a byte more on average, it looks for none that stays.
 #[inline(always)]
-fn write_middle<F: Flavor>(text: &[u8], blocks: usize, out: &mut [u8], start: usize) -> usize
+fn write_middle<F: Flavor>(
+    text: &[u8],
+    more: usize,
+    blocks: usize,
+    out: &mut [u8],
+    start: usize,
+) -> usize
+    requires blocks { (0 < blocks) × (BLOCK * blocks < length text.now) }
+    requires room { length (recoded F.flavor text.now) ≤ length out.old }
+    requires first { IsWritten F.flavor text.now BLOCK out.old start }
+    ensures { Writes F.flavor text.now (BLOCK * blocks) out.old out.new result }
+{
+    if F::has_long_null() && !any_in_short::<AtLeastF0>(text) {
+        return write_middle_by::<F, NullsChange>(text, blocks, out, start);
+    }
+    if more >= blocks {
+        return write_middle_by::<F, ManyChanges>(text, blocks, out, start);
+    }
+    write_middle_by::<F, FewChanges>(text, blocks, out, start)
+}
+
+/// Does so in one way.
+#[inline(always)]
+fn write_middle_by<F: Flavor, W: BlockWriter>(
+    text: &[u8],
+    blocks: usize,
+    out: &mut [u8],
+    start: usize,
+) -> usize
+    requires known { W.knows text.now }
     requires blocks { (0 < blocks) × (BLOCK * blocks < length text.now) }
     requires room { length (recoded F.flavor text.now) ≤ length out.old }
     requires first { IsWritten F.flavor text.now BLOCK out.old start }
@@ -64,7 +99,7 @@ fn write_middle<F: Flavor>(text: &[u8], blocks: usize, out: &mut [u8], start: us
 {
     let mut end = start;
     for i in 1..blocks {
-        end = copy_or_write_block::<F>(text, BLOCK * i - READ_BEFORE, out, end);
+        end = W::write::<F>(text, BLOCK * i - READ_BEFORE, out, end);
     }
     end
 }

@@ -1,8 +1,8 @@
 -- Blocks in which no byte is F0 or more, nor in the two before: of their bytes null alone changes.
-use Rattle.std.proofs.Common.{◌≡◌, ℕ, zero, suc, ◌+◌, ◌<◌, ◌≤◌, Bool, true, false, cond, List, [], ◌∷◌, ◌++◌, map, refl, sym, ap, ◌∙◌, arith, length, get_or, replicate, bit_and, bit_or}
-use Rattle.std.specs.List.{flat_map, range_with_len}
+use Rattle.std.proofs.Common.{◌≡◌, ℕ, zero, suc, ◌+◌, ◌<◌, ◌≤◌, Bool, true, false, cond, List, [], ◌∷◌, ◌++◌, map, refl, sym, subst, ap, ◌∙◌, arith, length, get_or, take, drop, replicate, bit_and, bit_or, IsTrue}
+use Rattle.std.specs.List.{Any, flat_map, range_with_len}
 use Rattle.std.proofs.lemmas.Bool.{false_from_ne_true}
-use Rattle.std.proofs.lemmas.List.{get_or_default}
+use Rattle.std.proofs.lemmas.List.{get_or_default, take-append-drop}
 use Rattle.std.proofs.lemmas.List.FromFn.{length-map-range_with_len}
 use Rattle.std.proofs.lemmas.Simd.{get_or-chunk, length-chunk, map-map}
 use lib.Lanes.{chunk, zip2, mask_l}
@@ -10,12 +10,20 @@ use Rattle.cesu8_bytes.specs.Kernels.{AnyIn, mask}
 use Rattle.cesu8_text.specs.Encoding.{Flavor}
 use Rattle.cesu8_text.specs.Class.{is_null, is_at_least_f0}
 use Rattle.cesu8_encode.specs.EncodedOffsets.{changed, encoded_byte_at, encoded_bytes, changed_at, is_doubled_at, packed, ArePackedTo}
+use Rattle.cesu8_text.proofs.lists.Elements.{any_left}
+use Rattle.cesu8_bytes.proofs.lists.Ends.{any_drop}
 use Rattle.cesu8_bytes.proofs.vectors.Loads.{loaded, marks_at}
 use Rattle.cesu8_encode.proofs.encoder.RecodedText.{or_zero}
 
 -- None of n bytes from an offset on is F0 or more.
 abbrev Low : List ℕ → ℕ → ℕ → Type 0
 Low window i n = (k : ℕ) → k < n → is_at_least_f0 (get_or window (i + k) 0) ≡ false
+
+-- Where no byte is F0 or more, none of a load is.
+none_of_chunk : (window : List ℕ) (i n : ℕ) → (AnyIn is_at_least_f0 window → ⊥) → AnyIn is_at_least_f0 (chunk i n window) → ⊥
+none_of_chunk window i n none any =
+    let Lead : ℕ → Type 0 = λ b. IsTrue (is_at_least_f0 b) in
+    none (any_drop Lead i window (subst (Any Lead) (take-append-drop n (drop i window)) (any_left Lead (take n (drop i window)) (drop n (drop i window)) any)))
 
 -- Each byte of a load is below F0, where none is F0 or more.
 low : (window : List ℕ) (i n : ℕ) → i + n ≤ length window → (AnyIn is_at_least_f0 (chunk i n window) → ⊥) → Low window i n
@@ -79,12 +87,12 @@ module _ (f : Flavor) (window : List ℕ) where
 
 -- The lanes of such a block, from the bytes and the marks of null.
 pub low_packed : (f : Flavor) (null_class : ℕ → Bool) (window : List ℕ) (at : ℕ) (null : List ℕ) (doubled : ℕ) → null_class ≡ is_null f → at + 35 ≤ length window →
-    (AnyIn is_at_least_f0 (chunk at 34 window) → ⊥) → null ≡ map (λ b. mask (is_null f b)) (chunk (at + 2) 32 window) →
+    (AnyIn is_at_least_f0 window → ⊥) → null ≡ map (λ b. mask (is_null f b)) (chunk (at + 2) 32 window) →
     doubled ≡ mask_l (map null_class (chunk (at + 2) 32 window)) →
     ArePackedTo f window at (zip2 bit_or (chunk (at + 2) 32 window) (zip2 bit_and null (replicate 32 0x80))) (replicate 32 0xC0) doubled
 unfolding encoded_bytes
 low_packed f null_class window at null doubled are room none null_is doubled_is =
-    let h = low window at 34 (omega (arith, room)) none in
+    let h = low window at 34 (omega (arith, room)) (none_of_chunk window at 34 none) in
     let load = loaded window at 2 32 (omega (arith, room)) in
     let null_at = marks_at (is_null f) window at 2 null (omega (arith, room)) null_is in
     let seconds_are : zip2 bit_or (chunk (at + 2) 32 window) (zip2 bit_and null (replicate 32 0x80)) ≡ map (changed_at f window) (range_with_len at 32) =

@@ -1,10 +1,10 @@
 use Rattle.std.proofs.Common.{◌≡◌, ◌+◌, ◌*◌, ap, subst, ◌∙◌, arith, length}
 use Rattle.cesu8_encode.specs.EncodedOffsets.{IsWritten}
 use Rattle.cesu8_encode.proofs.encoder.EncodedWindows.{encoded_bytes_here, room_behind, written_behind}
-use Rattle.cesu8_encode.proofs.windows.write_middle.Goals as goal
+use Rattle.cesu8_encode.proofs.windows.write_middle_by.Goals as goal
 
-pub copy_or_write_block-end-requires-clause-room : goal.copy_or_write_block-end-requires-clause-room
-copy_or_write_block-end-requires-clause-room g c =
+pub write-end-requires-clause-room : goal.write-end-requires-clause-room
+write-end-requires-clause-room g c =
     let f = g.F.Flavor.flavor in
     let text = c.args.text.now in
     let inv = c.loop-i.invariant in
@@ -25,8 +25,8 @@ loop-i-preserved g c =
     let room = room_behind f text (32 * c.loop-i.i) 32 c.loop-i.end c.loop-i.out (omega (arith, c.requires.blocks)) inv.written
     (omega (arith, inv.len, c.requires.room)) in
     record {
-      written = subst (λ n. IsWritten f text n c.copy_or_write_block-end.new.out c.copy_or_write_block-end.result) sum
-          (written_behind f text (32 * c.loop-i.i) 32 _ _ _ _ _ inv.written c.copy_or_write_block-end.ensures.bytes same
-          (omega (arith, c.copy_or_write_block-end.ensures.end, c.copy_or_write_block-end.ensures.len, ap length same, room)));
-      len = c.copy_or_write_block-end.ensures.len ∙ inv.len;
+      written = subst (λ n. IsWritten f text n c.write-end.new.out c.write-end.result) sum
+          (written_behind f text (32 * c.loop-i.i) 32 _ _ _ _ _ inv.written c.write-end.ensures.bytes same
+          (omega (arith, c.write-end.ensures.end, c.write-end.ensures.len, ap length same, room)));
+      len = c.write-end.ensures.len ∙ inv.len;
     }

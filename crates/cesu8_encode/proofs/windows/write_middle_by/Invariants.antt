@@ -1,6 +1,6 @@
 use Rattle.std.proofs.Common.{◌≡◌, ◌*◌, length}
 use Rattle.cesu8_encode.specs.EncodedOffsets.{IsWritten}
-use Rattle.cesu8_encode.proofs.windows.write_middle.Given as goal
+use Rattle.cesu8_encode.proofs.windows.write_middle_by.Given as goal
 
 abbrev pub invariant-loop-i : goal.invariant-loop-i
 invariant-loop-i g l = record {

@@ -1,0 +1,12 @@
+-- How long an encoding is beside the UTF-8 of its text.
+use Rattle.std.proofs.Common.{ℕ, ◌≤◌, List, ap, arith, length}
+use Rattle.std.specs.Str.{chars, IsUtf8}
+use Rattle.cesu8_text.specs.Encoding.{Flavor, encoding}
+use Rattle.cesu8_text.proofs.StdUtf8.{IsUtf8Of_chars}
+use Rattle.cesu8_text.proofs.encoding.Lengths.{length_bounds}
+
+-- It is no shorter.
+pub no_shorter : (f : Flavor) (bytes : List ℕ) → IsUtf8 bytes → length bytes ≤ length (encoding f (chars bytes))
+no_shorter f bytes is_utf8 =
+    let of_chars = IsUtf8Of_chars bytes is_utf8 in
+    omega (arith, (length_bounds f (chars bytes) of_chars.0).low, ap length of_chars.1)
