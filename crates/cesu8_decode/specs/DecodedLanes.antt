@@ -67,8 +67,8 @@ abbrev pub begins_changed : Flavor → List ℕ → ℕ → Bool
 begins_changed f window i = start_kind f window i == 0x20 || start_kind f window i == 0x80
 
 -- None does at the 32 offsets of a block that follow `at` offsets and five more, nor at those five.
-abbrev pub NoneChanges : Flavor → List ℕ → ℕ → Type 0
-NoneChanges f window at = (i : ℕ) → at ≤ i → i < at + 37 → begins_changed f window i ≡ false
+abbrev pub NoneBeginsChanged : Flavor → List ℕ → ℕ → Type 0
+NoneBeginsChanged f window at = (i : ℕ) → at ≤ i → i < at + 37 → begins_changed f window i ≡ false
 
 -- Three vectors say what becomes of the first `count` bytes of a block, and that the others go.
 pub record AreParts (f : Flavor) (window : List ℕ) (at count : ℕ) (gone ill_formed bytes : List ℕ) : Type 0 where

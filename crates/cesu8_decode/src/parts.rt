@@ -15,7 +15,7 @@ ghost use Rattle.std.specs.Simd.Lanes.{sel_l, mask_l};
 ghost use Rattle.cesu8_text.specs.Encoding.{Flavor};
 ghost use Rattle.cesu8_bytes.specs.Kernels.{mask};
 ghost use Rattle.cesu8_decode.specs.DecodedOffsets.{decoded, is_ill_formed_at};
-ghost use Rattle.cesu8_decode.specs.DecodedLanes.{start_kind, AreFiveKinds, AreKindsNear, NoneChanges, AreParts, is_high, goes_at, byte_at};
+ghost use Rattle.cesu8_decode.specs.DecodedLanes.{start_kind, AreFiveKinds, AreKindsNear, NoneBeginsChanged, AreParts, is_high, goes_at, byte_at};
 
 use super::offsets::{
     BEHIND, BLOCK, FROM_27, Kinds, LEAD, NUMBERS, PAIR, REACH, THREE, equal, look_up, near, starts,
@@ -138,7 +138,7 @@ fn changes_none(before: u8x32, here: u8x32) -> bool
     ensures { (f : Flavor) (window : List ℕ) (at : ℕ)
         → AreFiveKinds f window at before (BLOCK - BEHIND)
         → here ≡ map (start_kind f window) (range_with_len (at + BEHIND) BLOCK)
-        → IsTrue result → NoneChanges f window at }
+        → IsTrue result → NoneBeginsChanged f window at }
 {
     let around = here | before.shuffle::<32>(u8x32::splat(0), FROM_27);
     highest_bits(around | (around << u8x32::splat(2))) == 0
@@ -149,7 +149,7 @@ fn changes_none(before: u8x32, here: u8x32) -> bool
 fn kept_ill_formed<F: Flavor>(window: &[u8], kinds: &Kinds, at: usize) -> u8x32
     requires window { at + REACH ≤ length window.now }
     requires kinds { AreKindsNear F.flavor window.now at kinds.now }
-    requires kept { NoneChanges F.flavor window.now at }
+    requires kept { NoneBeginsChanged F.flavor window.now at }
     ensures { map is_high result
         ≡ map (is_ill_formed_at F.flavor window.now) (range_with_len at BLOCK) }
 {
@@ -164,7 +164,7 @@ fn kept_ill_formed<F: Flavor>(window: &[u8], kinds: &Kinds, at: usize) -> u8x32
 #[inline(always)]
 fn kept_parts(bytes: u8x32, marks: u8x32, count: usize) -> Parts
     requires count { count ≤ BLOCK }
-    ensures { (f : Flavor) (window : List ℕ) (at : ℕ) → NoneChanges f window at
+    ensures { (f : Flavor) (window : List ℕ) (at : ℕ) → NoneBeginsChanged f window at
         → bytes ≡ map (λ i. slice_index window (i + BEHIND)) (range_with_len at BLOCK)
         → map is_high marks ≡ map (is_ill_formed_at f window) (range_with_len at BLOCK)
         → AreParts f window at count result.gone result.ill_formed result.bytes }

@@ -15,7 +15,7 @@ use Rattle.cesu8_bytes.specs.Joining.{null_at}
 use Rattle.cesu8_bytes.specs.Packing.{written_for}
 use Rattle.cesu8_bytes.proofs.vectors.Loads.{loaded}
 use Rattle.cesu8_decode.specs.DecodedOffsets.{one_at, two_at, three_at, pair_at, continues, first_width_by, width_at, is_ill_formed_at, decoded_at, decoded}
-use Rattle.cesu8_decode.specs.DecodedLanes.{start_kind, AreFiveKinds, AreKindsNear, NoneChanges, AreParts, is_high, goes_at, byte_at}
+use Rattle.cesu8_decode.specs.DecodedLanes.{start_kind, AreFiveKinds, AreKindsNear, NoneBeginsChanged, AreParts, is_high, goes_at, byte_at}
 use Rattle.cesu8_decode.proofs.decoder.StartKinds.{Start, nothing, one, null, two_low, two_high, three_low, three_high, three_last, pair, start_at, low_one, no_start, one_by_first, pair_bit}
 use Rattle.cesu8_decode.proofs.decoder.LaneTests.{high_or, shifted_or, covered_lane, ill_formed_lane, lane_ill_formed, no_one}
 use Rattle.cesu8_decode.proofs.decoder.FirstLanes.{no_lane, on_range, behind_lanes, before_lanes, none_go, well_formed_behind}
@@ -212,7 +212,7 @@ module _ (f : Flavor) (window : List ℕ) (at : ℕ) where
   pub none_changes : (before here : List ℕ) → length before ≡ 32 → AreFiveKinds f window at before 27 →
       here ≡ map (start_kind f window) (range_with_len (at + 5) 32) →
       let around = zip2 bit_or here (pick_l 0 (before ++ replicate 32 0) (range_with_len 27 32)) in
-      mask_l (map is_high (zip2 bit_or around (zip2 (λ a b. a * 2 ^ b % 2 ^ 8) around (replicate 32 2)))) ≡ 0 → NoneChanges f window at
+      mask_l (map is_high (zip2 bit_or around (zip2 (λ a b. a * 2 ^ b % 2 ^ 8) around (replicate 32 2)))) ≡ 0 → NoneBeginsChanged f window at
   none_changes before here long before_are here_are none i low inside =
       let last : ℕ → ℕ = λ k. get_or (before ++ replicate 32 0) (27 + k) 0 in
       let lane : ℕ → ℕ = λ k. around_lane (kind (at + 5 + k)) (last k) in
@@ -233,7 +233,7 @@ module _ (f : Flavor) (window : List ℕ) (at : ℕ) where
       low_kind _ _ _ (start_at f window i) (ap (λ i. leb 0x80 (kind i)) there ∙ all.0) (ap (λ i. leb 0x80 (kind i * 2 ^ 2 % 2 ^ 8)) there ∙ all.2))
       (cases_lt i (at + 5))
 
-  module _ (none : NoneChanges f window at) where
+  module _ (none : NoneBeginsChanged f window at) where
     other_at : (i d : ℕ) → at ≤ i → i < at + 32 → d < 6 →
         (eqb (width_at f window (i + d)) 6 ≡ false) × ((eqb (width_at f window (i + d)) 2 && eqb (get_or window (i + d) 0) 0xC0) ≡ false)
     other_at i d low inside small = other_start _ _ _ (start_at f window (i + d)) (none (i + d) (omega arith) (omega arith))
