@@ -1,16 +1,16 @@
 //! Joins what is encoded otherwise than in UTF-8: surrogate pairs, and C0 80 in MUTF-8.
 //!
-//! A block of bytes is copied whole, and a mask marks the bytes that may have to be joined. It marks
-//! each byte that changes in the flavor too, and none of these is read. Besides these it may mark any
-//! bytes: the caller tests whether the result is UTF-8, and if the mask omits one that has to be
-//! joined, it is not.
+//! A block of bytes is copied whole, and a mask marks the bytes that may have to be joined. It
+//! marks each byte that changes in the flavor too, and none of these is read. Besides these it may
+//! mark any bytes: the caller tests whether the result is UTF-8, and if the mask omits one that has
+//! to be joined, it is not.
 //!
 //! What is marked is joined one mark after another. Some blocks are joined at once: those of C0 80
 //! alone, those in which only C0 80 is marked, and surrogate pairs in a row.
 
-ghost use Rattle.std.specs.Prelude.{◌≡◌, ◌+◌, ◌-◌, ◌<◌, ◌≤◌, ◌↔◌, length, take, drop, IsTrue, IfSome, IfNone};
-ghost use Rattle.cesu8_text.specs.Encoding.{Flavor as AnyFlavor, Mutf8};
-ghost use Rattle.cesu8_bytes.specs.Joining.{IsJoined, IsJoinedAfter, KeepsJoined, NoneChanges, AreMarked, nulls, HasNull};
+ghost use Rattle.std.specs.Prelude.{◌≡◌, ◌+◌, ◌-◌, ◌<◌, ◌≤◌, length, take, drop, IfSome, IfNone};
+ghost use Rattle.cesu8_text.specs.Encoding.{Flavor as AnyFlavor};
+ghost use Rattle.cesu8_bytes.specs.Joining.{IsJoined, IsJoinedAfter, KeepsJoined, NoneChanges, AreMarked};
 
 mod buffer;
 mod nulls;

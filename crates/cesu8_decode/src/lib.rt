@@ -64,8 +64,8 @@ pub fn refuse<A: Allocator>(alloc: A, len: usize) -> Refusal {
 }
 
 /// Returns the lossy reading of the bytes, after one request for its length. A length that does not
-/// fit counts as refused. The text of a few bytes is decoded on the stack before that, so that it
-/// needs no pass for the length.
+/// fit counts as refused. That of a few bytes, or of the first window of many, is decoded on the
+/// stack before that, so that it needs no pass for the length.
 #[inline(never)]
 pub fn decode_lossy<F: Flavor, A: Allocator>(
     alloc: A,

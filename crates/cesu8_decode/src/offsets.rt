@@ -71,7 +71,8 @@ const FROM_31: [usize; BLOCK] = numbers_from!(31);
 /// How many offsets form a block: as many as a vector has lanes.
 pub const BLOCK: usize = 32;
 
-/// How many bytes after an offset decide what begins there.
+/// How many bytes after an offset decide what begins there. What begins at as many offsets before
+/// a byte decides what becomes of it.
 pub const BEHIND: usize = 5;
 
 /// How many bytes decide what begins at the offsets of a block.
@@ -85,7 +86,6 @@ const LEAD_OF_THREE: u8 = 0xE0;
 
 /// Returns the kinds of the 32 offsets from `at` on. If no byte can lead others, they are zeros. If
 /// none can lead two others, two bytes decide, and if no two can begin a surrogate pair, three do.
-/// `PAIR` is two bits below the highest.
 #[inline(always)]
 pub fn starts<F: Flavor>(bytes: &[u8], at: usize) -> u8x32
     requires { at + REACH ≤ length bytes.now }
@@ -101,6 +101,7 @@ pub fn starts<F: Flavor>(bytes: &[u8], at: usize) -> u8x32
         return two;
     }
     let third = continuations(u8x32::from_slice(&bytes[at + 2..]));
+    // `PAIR` is two bits below the highest.
     if (two << u8x32::splat(2))
         .simd_ge(u8x32::splat(0x80))
         .to_bitmask()

@@ -78,7 +78,7 @@ pub fn write_block<F: Flavor>(
     ensures len { length out.new ≡ length out.old }
 {
     let bytes = u8x32::from_slice(&window[at + BEHIND..]);
-    // `starts` looks for lead bytes too, so where there are some this takes no time.
+    // `starts` makes the same test, so the compiler makes it once.
     let leads = bytes.simd_ge(u8x32::splat(LEAD)).to_bitmask() != 0;
     if !leads && first_bits(bytes | nulls::<F>(bytes), count) == 0 {
         return copy_block(bytes, u8x32::splat(0), count, out, end);

@@ -148,7 +148,7 @@ fn append_window<F: Flavor, const LEN: usize, const WRITTEN: usize, A: Allocator
 
 /// Appends the text of more bytes chunk by chunk, in buffers of these lengths for those by offsets.
 /// For strict reading `decode_strict` has requested memory for all. Lossy reading makes its one
-/// request behind the first window.
+/// request once the first window is decoded.
 #[inline(never)]
 fn append_chunks<F: Flavor, const LEN: usize, const WRITTEN: usize, A: Allocator>(
     strictness: Strictness,

@@ -105,7 +105,8 @@ pub record AreLanes (f : Flavor) (window : List ℕ) (i : ℕ) (seconds firsts :
   pub firsts_are : firsts ≡ map (inserted_at f window) (range_with_len i 32)
   pub doubled_is : doubled ≡ mask_l (map (is_doubled_at f window) (range_with_len i 32))
 
--- Lanes that are packed to what is written for that block, with a bit for each byte that becomes two.
+-- Lanes that are packed to what is written for that block, with a bit for each byte that becomes
+-- two.
 pub record ArePackedTo (f : Flavor) (window : List ℕ) (i : ℕ) (seconds firsts : List ℕ) (doubled : ℕ) : Type 0 where
   pub seconds_long : length seconds ≡ 32
   pub firsts_long : length firsts ≡ 32

@@ -3,7 +3,7 @@
 //!
 //! | what changes                     | way           | what is done with a block        |
 //! |----------------------------------|---------------|----------------------------------|
-//! | null characters alone, in MUTF-8 | `NullsChange` | copied, or the lanes of nulls    |
+//! | null characters alone, in MUTF-8 | `NullsChange` | copied, or written without pairs |
 //! | a byte more for each block       | `ManyChanges` | written as the first and last    |
 //! | less, or it is not known         | `FewChanges`  | copied if no byte of it changes  |
 //!

@@ -5,7 +5,7 @@
 //! packed by one shuffle and stored, and the next row overwrites those that it does not need.
 //!
 //! A block within a text can be copied where no byte of it changes, nor one of the two before it.
-//! Where null characters alone change, no neighbour decides anything, and the lanes take less.
+//! Where null characters alone change, no neighbour decides anything, and lanes take fewer steps.
 
 ghost use Rattle.std.specs.Prelude.{◌≡◌, ℕ, List, Bool, ◌+◌, ◌*◌, ◌<◌, ◌≤◌, ◌++◌, length, take, IsTrue};
 ghost use Rattle.std.specs.Simd.Lanes.{chunk, zip2, mask_l};
@@ -49,7 +49,8 @@ pub fn write_block<F: Flavor>(
     requires window { at + BLOCK_READ ≤ length window.now }
     requires count { count ≤ BLOCK }
     requires room { end + length (encoded_bytes F.flavor window.now at count) ≤ length out.old }
-    ensures bytes { take result out.new ≡ take end out.old ++ encoded_bytes F.flavor window.now at count }
+    ensures bytes { take result out.new
+        ≡ take end out.old ++ encoded_bytes F.flavor window.now at count }
     ensures end { result ≡ end + length (encoded_bytes F.flavor window.now at count) }
     ensures len { length out.new ≡ length out.old }
 {
@@ -63,7 +64,8 @@ pub fn write_block<F: Flavor>(
 pub fn copy_or_write_block<F: Flavor>(window: &[u8], at: usize, out: &mut [u8], end: usize) -> usize
     requires window { at + BLOCK_READ ≤ length window.now }
     requires room { end + length (encoded_bytes F.flavor window.now at BLOCK) ≤ length out.old }
-    ensures bytes { take result out.new ≡ take end out.old ++ encoded_bytes F.flavor window.now at BLOCK }
+    ensures bytes { take result out.new
+        ≡ take end out.old ++ encoded_bytes F.flavor window.now at BLOCK }
     ensures end { result ≡ end + length (encoded_bytes F.flavor window.now at BLOCK) }
     ensures len { length out.new ≡ length out.old }
 {
@@ -73,13 +75,14 @@ pub fn copy_or_write_block<F: Flavor>(window: &[u8], at: usize, out: &mut [u8], 
     write_block::<F>(window, at, BLOCK, out, end)
 }
 
-/// Does so in a text without surrogate pairs, where null characters alone can change.
+/// Does so in a text without a byte of F0 or more (hexadecimal), where null alone can change.
 #[inline(always)]
 pub fn copy_or_write_nulls<F: Flavor>(window: &[u8], at: usize, out: &mut [u8], end: usize) -> usize
     requires window { at + BLOCK_READ ≤ length window.now }
     requires low { ¬ (AnyIn is_at_least_f0 window.now) }
     requires room { end + length (encoded_bytes F.flavor window.now at BLOCK) ≤ length out.old }
-    ensures bytes { take result out.new ≡ take end out.old ++ encoded_bytes F.flavor window.now at BLOCK }
+    ensures bytes { take result out.new
+        ≡ take end out.old ++ encoded_bytes F.flavor window.now at BLOCK }
     ensures end { result ≡ end + length (encoded_bytes F.flavor window.now at BLOCK) }
     ensures len { length out.new ≡ length out.old }
 {
@@ -114,14 +117,15 @@ fn is_unchanged<F: Flavor>(window: &[u8], at: usize) -> bool
     !any_in_ends::<Either<F::Null, AtLeastF0>, BLOCK>(near)
 }
 
-/// Writes what a block becomes in a text without surrogate pairs, and returns its end. Null
-/// characters become C0 80.
+/// Writes what a block becomes in a text without a byte of F0 or more (hexadecimal), and returns
+/// its end. Null characters become C0 80.
 #[inline(always)]
 fn write_nulls<F: Flavor>(window: &[u8], at: usize, out: &mut [u8], end: usize) -> usize
     requires window { at + BLOCK_READ ≤ length window.now }
     requires low { ¬ (AnyIn is_at_least_f0 window.now) }
     requires room { end + length (encoded_bytes F.flavor window.now at BLOCK) ≤ length out.old }
-    ensures bytes { take result out.new ≡ take end out.old ++ encoded_bytes F.flavor window.now at BLOCK }
+    ensures bytes { take result out.new
+        ≡ take end out.old ++ encoded_bytes F.flavor window.now at BLOCK }
     ensures end { result ≡ end + length (encoded_bytes F.flavor window.now at BLOCK) }
     ensures len { length out.new ≡ length out.old }
 {

@@ -1,4 +1,4 @@
-//! Which way a text is encoded. No other file of this crate chooses by the length of a text.
+//! Which way a text is encoded. No other file of this crate chooses by the length of a text alone.
 //!
 //! | bytes of the text | way       | what is done                               |
 //! |-------------------|-----------|--------------------------------------------|
@@ -22,8 +22,8 @@
 //! 128 bytes 1.06 times as fast at v3, and 1.04 times at v2, beside f2ced24 without it. In both
 //! figures the export first tests its input for UTF-8.
 //!
-//! `windows` has three ways for the blocks between the first and the last, by what changes in the
-//! text: `block_writers` has them.
+//! `windows` chooses among three ways for the blocks between the first and the last, by what
+//! changes in the text. `block_writers` has these ways.
 //!
 //! Below this crate, two kinds of code choose by a length too: the first looks of `cesu8_bytes`,
 //! which see whether a byte changes, and the widths of its vectors.
@@ -73,7 +73,8 @@ pub fn way_of(text: &str) -> Way
 }
 
 /// Writes the encoding of a text at the front of a slice that is long enough, and returns its
-/// length. It is told how many bytes more than the text that has, or 0 if this is not known.
+/// length. It is told how many bytes more than the text the encoding has, or 0 where that is not
+/// known.
 #[inline(always)]
 pub fn write<F: Flavor>(text: &str, more: usize, out: &mut [u8]) -> usize
     requires { length (encoding F.flavor (chars text.now)) ≤ length out.old }

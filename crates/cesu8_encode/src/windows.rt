@@ -59,8 +59,8 @@ fn write_first<F: Flavor>(text: &[u8], out: &mut [u8]) -> usize
     write_block::<F>(&window, 0, BLOCK, out, 0)
 }
 
-/// Writes what the blocks between the first and the last become, and returns its end. Where each
-/// has a byte more on average, it looks for none that stays.
+/// Writes what the blocks between the first and the last become, and returns its end, in the way
+/// that `block_writers` has for what changes in the text.
 #[inline(always)]
 fn write_middle<F: Flavor>(
     text: &[u8],
