@@ -85,9 +85,10 @@ pub const LEAD: u8 = 0xC0;
 const LEAD_OF_THREE: u8 = 0xE0;
 
 /// Returns the kinds of the 32 offsets from `at` on. If no byte can lead others, they are zeros. If
-/// none can lead two others, two bytes decide, and if no two can begin a surrogate pair, three do.
+/// none can lead two others, two bytes decide. Where pairs are told to be rare, three decide if no
+/// two can begin one. Where they are not, that branch would be guessed wrong.
 #[inline(always)]
-pub fn starts<F: Flavor>(bytes: &[u8], at: usize) -> u8x32
+pub fn starts<F: Flavor>(bytes: &[u8], at: usize, pairs_are_rare: bool) -> u8x32
     requires { at + REACH ≤ length bytes.now }
     ensures { result ≡ map (start_kind F.flavor bytes.now) (range_with_len at BLOCK) }
 {
@@ -102,10 +103,11 @@ pub fn starts<F: Flavor>(bytes: &[u8], at: usize) -> u8x32
     }
     let third = continuations(u8x32::from_slice(&bytes[at + 2..]));
     // `PAIR` is two bits below the highest.
-    if (two << u8x32::splat(2))
-        .simd_ge(u8x32::splat(0x80))
-        .to_bitmask()
-        == 0
+    if pairs_are_rare
+        && (two << u8x32::splat(2))
+            .simd_ge(u8x32::splat(0x80))
+            .to_bitmask()
+            == 0
     {
         return two & ((third & u8x32::splat(THREE)) | u8x32::splat(TWO | NULL));
     }

@@ -83,7 +83,7 @@ pub fn write_block<F: Flavor>(
     if !leads && first_bits(bytes | nulls::<F>(bytes), count) == 0 {
         return copy_block(bytes, u8x32::splat(0), count, out, end);
     }
-    let here = starts::<F>(window, at + BEHIND);
+    let here = starts::<F>(window, at + BEHIND, true);
     let kinds = near(before, here);
     let parts = if changes_none(before, here) {
         let marks = kept_ill_formed::<F>(window, &kinds, at);

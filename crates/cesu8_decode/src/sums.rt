@@ -88,6 +88,6 @@ fn weight_lanes<F: Flavor, W: Weight>(bytes: &[u8], at: usize) -> u8x32
     if byte.simd_ge(u8x32::splat(LEAD)).to_bitmask() == 0 {
         return of_one;
     }
-    let kinds = starts::<F>(bytes, at);
+    let kinds = starts::<F>(bytes, at, false);
     of_one | look_up(weights.by_low, kinds) | look_up(weights.by_high, kinds >> u8x32::splat(4))
 }

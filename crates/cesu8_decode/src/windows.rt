@@ -79,7 +79,7 @@ fn boundary<F: Flavor>(window: &[u8], most: usize) -> usize
     ensures boundary { (n : ℕ) → n ≤ most → most ≤ n + BEFORE
         → is_boundary_at F.flavor window.now n ≡ true → is_boundary_at F.flavor window.now result ≡ true }
 {
-    let kinds = starts::<F>(window, most - BEFORE).to_array();
+    let kinds = starts::<F>(window, most - BEFORE, true).to_array();
     for back in 0..BEFORE {
         if is_boundary(&kinds, BEFORE - back) {
             return most - back;
