@@ -13,8 +13,8 @@ use crate::command::{Command, FlavorWord};
 use crate::fault::RunFault;
 use java_text::{read_utf, write_utf};
 use simd_cesu8::{CowBytes, CowText, laws, mutf8};
+use simdutf8::basic;
 use std::alloc::Global;
-use std::str;
 
 /// Returns the output of the command, or the fault.
 #[tactic(auto, unfolding(crate::specs::Answer::IsAnswer))]
@@ -76,7 +76,7 @@ fn input_text(input: &[u8]) -> Result<&str, RunFault>
     ensures ok { IfOk result (λ text. IsUtf8Of (chars text.now) input.now) }
     ensures err { IfErr result (λ fault. IsUtf8Fault input.now fault) }
 {
-    match str::from_utf8(input) {
+    match basic::from_utf8(input) {
         Ok(text) => Ok(text),
         Err(_) => Err(RunFault::NotUtf8),
     }
