@@ -11,6 +11,7 @@ ghost use Rattle.cesu8_decode.specs.DecodedOffsets.{continues};
 ghost use Rattle.cesu8_decode.specs.DecodedLanes.{kind_of_two, start_kind, AreFiveKinds, AreKindsNear};
 
 use cesu8_bytes::flavor::{Flavor, second_of_null};
+use cesu8_bytes::implementation::class::{AtLeast, bits};
 use std::simd::prelude::*;
 
 /// The kinds of characters of two bytes.
@@ -93,22 +94,17 @@ pub fn starts<F: Flavor>(bytes: &[u8], at: usize, pairs_are_rare: bool) -> u8x32
     ensures { result ≡ map (start_kind F.flavor bytes.now) (range_with_len at BLOCK) }
 {
     let first = u8x32::from_slice(&bytes[at..]);
-    if first.simd_ge(u8x32::splat(LEAD)).to_bitmask() == 0 {
+    if bits::<AtLeast<LEAD>, BLOCK>(first) == 0 {
         return u8x32::splat(0);
     }
     let second = u8x32::from_slice(&bytes[at + 1..]);
     let two = by_two::<F>(first, second);
-    if first.simd_ge(u8x32::splat(LEAD_OF_THREE)).to_bitmask() == 0 {
+    if bits::<AtLeast<LEAD_OF_THREE>, BLOCK>(first) == 0 {
         return two;
     }
     let third = continuations(u8x32::from_slice(&bytes[at + 2..]));
     // `PAIR` is two bits below the highest.
-    if pairs_are_rare
-        && (two << u8x32::splat(2))
-            .simd_ge(u8x32::splat(0x80))
-            .to_bitmask()
-            == 0
-    {
+    if pairs_are_rare && bits::<AtLeast<0x80>, BLOCK>(two << u8x32::splat(2)) == 0 {
         return two & ((third & u8x32::splat(THREE)) | u8x32::splat(TWO | NULL));
     }
     let fourth = u8x32::from_slice(&bytes[at + 3..]);

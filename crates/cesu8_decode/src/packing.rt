@@ -8,6 +8,7 @@ ghost use Rattle.cesu8_decode.specs.DecodedLanes.{is_high, written_lanes};
 
 use super::offsets::BLOCK;
 use super::rows::rows;
+use cesu8_bytes::implementation::class::{AtLeast, bits};
 use cesu8_bytes::packing::{STORED, picked, second_of, store_kept};
 use std::simd::prelude::*;
 
@@ -82,7 +83,7 @@ pub fn highest_bits<const N: usize>(lanes: Simd<u8, N>) -> u64
     requires { N ≤ u64.BITS }
     ensures { result ≡ mask_l (map is_high lanes.entry) }
 {
-    lanes.simd_ge(Simd::splat(0x80)).to_bitmask()
+    bits::<AtLeast<0x80>, N>(lanes)
 }
 
 /// The replacement character, U+FFFD, twice, each in four lanes.

@@ -22,6 +22,7 @@ use super::offsets::{
 };
 use super::packing::{Parts, ROOM, WIDEST, highest_bits, store};
 use cesu8_bytes::flavor::{Flavor, nulls};
+use cesu8_bytes::implementation::class::{AtLeast, bits};
 use std::simd::prelude::*;
 
 /// The first byte of the UTF-8 of a surrogate pair, by the lower half of the pair's second byte.
@@ -79,7 +80,7 @@ pub fn write_block<F: Flavor>(
 {
     let bytes = u8x32::from_slice(&window[at + BEHIND..]);
     // `starts` makes the same test, so the compiler makes it once.
-    let leads = bytes.simd_ge(u8x32::splat(LEAD)).to_bitmask() != 0;
+    let leads = bits::<AtLeast<LEAD>, BLOCK>(bytes) != 0;
     if !leads && first_bits(bytes | nulls::<F>(bytes), count) == 0 {
         return copy_block(bytes, u8x32::splat(0), count, out, end);
     }

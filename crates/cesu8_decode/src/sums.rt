@@ -8,6 +8,7 @@ ghost use Rattle.cesu8_decode.specs.DecodedLanes.{weight_at, TellWeights};
 
 use super::offsets::{BEHIND, LEAD, REACH, look_up, starts};
 use cesu8_bytes::flavor::{Flavor, nulls};
+use cesu8_bytes::implementation::class::{AtLeast, bits};
 use std::simd::prelude::*;
 
 /// The weight of an offset.
@@ -85,7 +86,7 @@ fn weight_lanes<F: Flavor, W: Weight>(bytes: &[u8], at: usize) -> u8x32
     let of_one = (byte | nulls::<F>(byte))
         .simd_lt(u8x32::splat(0x80))
         .select(u8x32::splat(weights.of_one), u8x32::splat(0));
-    if byte.simd_ge(u8x32::splat(LEAD)).to_bitmask() == 0 {
+    if bits::<AtLeast<LEAD>, 32>(byte) == 0 {
         return of_one;
     }
     let kinds = starts::<F>(bytes, at, false);

@@ -1,9 +1,8 @@
 -- Vectors of bytes, lane by lane.
-use Rattle.std.proofs.Common.{◌≡◌, ℕ, Bool, not, cond, ◌&&◌, ◌||◌, IsTrue, ◌%◌, ◌^◌, ◌≤◌, ◌↔◌, ◌⊎◌, List, [], ◌∷◌, map, length, replicate, true, false, ◌+◌, ◌*◌, eqb, ltb, leb, refl, sym, ap, ◌∙◌, subst, inl, inr, ⊎_elim, arith, w8}
+use Rattle.std.proofs.Common.{◌≡◌, ℕ, Bool, not, cond, ◌&&◌, ◌||◌, IsTrue, ◌↔◌, ◌⊎◌, List, [], ◌∷◌, map, length, replicate, true, false, ◌+◌, ◌*◌, eqb, ltb, leb, refl, sym, ap, ◌∙◌, subst, inl, inr, ⊎_elim, arith}
 use Rattle.std.specs.List.{Any}
 use Rattle.std.proofs.lemmas.Bool.{both_ways, cases_lt, eq-eqb, eqb-false, eqb-true, le-leb, le-ltb, leb-true, lt-ltb, ne_eqb, not-true}
-use Rattle.std.proofs.lemmas.List.{length-map}
-use Rattle.std.proofs.lemmas.Simd.{length-zip2, mask_l-mod, tops_compared, zip2_splat_left}
+use Rattle.std.proofs.lemmas.Simd.{length-zip2}
 use lib.Lanes.{zip2, sel_l, mask_l, top, Each1}
 use Rattle.cesu8_text.specs.Class.{is_four, is_at_least_f0}
 use Rattle.cesu8_bytes.specs.Kernels.{AnyIn}
@@ -162,10 +161,3 @@ any_passes p lanes bits is =
       (λ t. tells.0 (λ e. eqb-false _ _ (not-true _ t) (is ∙ e))),
       (λ q. ap not (ne_eqb _ _ (λ e. tells.1 q (sym is ∙ e)))),
     )
-
--- A comparison with a number tells of each lane whether it is that or more.
-pub least_bits : (least n : ℕ) (lanes : List ℕ) → length lanes ≡ n → n ≤ 64 →
-    mask_l (map (top 7) (zip2 (λ a b. ones (leb a b)) (replicate n least) lanes)) % 2 ^ 64 ≡ mask_l (map (leb least) lanes)
-least_bits least n lanes long small =
-    ap (λ ms. mask_l ms % 2 ^ 64) (tops_compared w8 leb (replicate n least) lanes ∙ zip2_splat_left leb least n lanes long)
-    ∙ mask_l-mod (map (leb least) lanes) 64 (omega (arith, long, small, length-map lanes (leb least)))

@@ -64,19 +64,28 @@ returns-then-first_bits-eq0-2-clause-whole g c none i low inside =
     (first_kept f window at (c.changes_none.ensures f window at c.requires.before c.starts-here.ensures c.if-changes_none.true) c.args.count c.requires.count c.kept_ill_formed-marks.result
     c.kept_ill_formed-marks.ensures (sym c.first_bits-then-changes_none.ensures ∙ c.if-first_bits-eq0-2.true) i low inside).well_formed
 
+-- What becomes of the block, whichever way the parts were found.
+parts_are : (g : Rattle.cesu8_decode.proofs.parts.write_block.Given.Over) (c : goal.After-slice_known-2-1 g) → AreParts g.F.Flavor.flavor c.args.window.now c.args.at c.args.count
+    c.if-changes_none.parts.gone c.if-changes_none.parts.ill_formed c.if-changes_none.parts.bytes
+parts_are g c =
+    let f = g.F.Flavor.flavor in
+    let window = c.args.window.now in
+    let at = c.args.at in
+    let count = c.args.count in
+    elim c.if-changes_none.branch [
+      | then-changes_none+else-first_bits-eq0-2 w ↦ subst (λ p. AreParts f window at count p.gone p.ill_formed p.bytes) (sym w.parts-is)
+          (w.kept_parts-parts.ensures f window at (c.changes_none.ensures f window at c.requires.before c.starts-here.ensures w.if-changes_none.true)
+          (loaded window at 5 32 (omega (arith, c.requires.window))) w.kept_ill_formed-marks.ensures)
+      | else-changes_none w ↦ subst (λ p. AreParts f window at count p.gone p.ill_formed p.bytes) (sym w.parts-is) w.changed_parts-parts.ensures
+    ]
+
 pub returns-clause-bytes : goal.returns-clause-bytes
 returns-clause-bytes g c =
     let f = g.F.Flavor.flavor in
     let window = c.args.window.now in
     let at = c.args.at in
     let count = c.args.count in
-    let chosen = c.if-changes_none.parts in
-    let parts : AreParts f window at count chosen.gone chosen.ill_formed chosen.bytes = elim c.if-changes_none.branch [
-      | then-changes_none+else-first_bits-eq0-2 w ↦ subst (λ p. AreParts f window at count p.gone p.ill_formed p.bytes) (sym w.parts-is)
-          (w.kept_parts-parts.ensures f window at (c.changes_none.ensures f window at c.requires.before c.starts-here.ensures w.if-changes_none.true)
-          (loaded window at 5 32 (omega (arith, c.requires.window))) w.kept_ill_formed-marks.ensures)
-      | else-changes_none w ↦ subst (λ p. AreParts f window at count p.gone p.ill_formed p.bytes) (sym w.parts-is) w.changed_parts-parts.ensures
-    ] in
+    let parts = parts_are g c in
     c.store.ensures.bytes ∙ ap (λ bs. take c.args.end c.args.out.now ++ bs)
     (block_written f window at count _ _ _ _ _ parts.gone_are parts.ill_formed_are parts.bytes_are)
 
@@ -86,13 +95,7 @@ returns-clause-ill_formed g c some =
     let window = c.args.window.now in
     let at = c.args.at in
     let count = c.args.count in
-    let chosen = c.if-changes_none.parts in
-    let parts : AreParts f window at count chosen.gone chosen.ill_formed chosen.bytes = elim c.if-changes_none.branch [
-      | then-changes_none+else-first_bits-eq0-2 w ↦ subst (λ p. AreParts f window at count p.gone p.ill_formed p.bytes) (sym w.parts-is)
-          (w.kept_parts-parts.ensures f window at (c.changes_none.ensures f window at c.requires.before c.starts-here.ensures w.if-changes_none.true)
-          (loaded window at 5 32 (omega (arith, c.requires.window))) w.kept_ill_formed-marks.ensures)
-      | else-changes_none w ↦ subst (λ p. AreParts f window at count p.gone p.ill_formed p.bytes) (sym w.parts-is) w.changed_parts-parts.ensures
-    ] in
+    let parts = parts_are g c in
     some_bit (is_ill_formed_at f window) at count (32 - count)
     (λ none. eqb-false _ _ (not-true _ some) (c.highest_bits-is_ill_formed.ensures ∙ ap mask_l parts.ill_formed_are ∙ none))
 
@@ -102,12 +105,6 @@ returns-clause-whole g c none =
     let window = c.args.window.now in
     let at = c.args.at in
     let count = c.args.count in
-    let chosen = c.if-changes_none.parts in
-    let parts : AreParts f window at count chosen.gone chosen.ill_formed chosen.bytes = elim c.if-changes_none.branch [
-      | then-changes_none+else-first_bits-eq0-2 w ↦ subst (λ p. AreParts f window at count p.gone p.ill_formed p.bytes) (sym w.parts-is)
-          (w.kept_parts-parts.ensures f window at (c.changes_none.ensures f window at c.requires.before c.starts-here.ensures w.if-changes_none.true)
-          (loaded window at 5 32 (omega (arith, c.requires.window))) w.kept_ill_formed-marks.ensures)
-      | else-changes_none w ↦ subst (λ p. AreParts f window at count p.gone p.ill_formed p.bytes) (sym w.parts-is) w.changed_parts-parts.ensures
-    ] in
+    let parts = parts_are g c in
     no_bit (is_ill_formed_at f window) at count (32 - count)
     (sym (c.highest_bits-is_ill_formed.ensures ∙ ap mask_l parts.ill_formed_are) ∙ eqb-true _ _ (not-false _ none))

@@ -1,20 +1,19 @@
 use Rattle.std.proofs.Common.{◌+◌, ◌≤◌, length, sym, ◌∙◌, arith}
 use Rattle.std.specs.List.{range_with_len}
-use Rattle.std.proofs.lemmas.Simd.{pick_l-range_with_len, length-chunk}
+use Rattle.std.proofs.lemmas.Simd.{pick_l-range_with_len}
 use Rattle.cesu8_text.specs.Class.{is_null}
 use Rattle.cesu8_bytes.proofs.vectors.Loads.{marks_here}
-use Rattle.cesu8_bytes.proofs.lists.Lanes.{least_bits}
 use Rattle.cesu8_decode.proofs.decoder.StartLanes.{all_below}
 use Rattle.cesu8_decode.proofs.decoder.WeightLanes.{weight_lanes_are, no_lead_weigh}
 use Rattle.cesu8_decode.proofs.sums.weight_lanes.Goals as goal
 
-pub returns-then-byte-eq0 : goal.returns-then-byte-eq0
-returns-then-byte-eq0 g c =
+pub returns-then-bits-eq0 : goal.returns-then-bits-eq0
+returns-then-bits-eq0 g c =
     let f = g.F.Flavor.flavor in
     let bytes = c.args.bytes.now in
     let at = c.args.at in
     let room : at + 32 ≤ length bytes = omega arith in
-    let none = sym (least_bits 0xC0 32 _ (length-chunk at 32 bytes room) (omega arith)) ∙ c.if-byte-eq0.true in
+    let none = sym c.bits.ensures ∙ c.if-bits-eq0.true in
     rw (marks_here (is_null f) bytes at c.nulls.result room c.nulls.ensures, sym (pick_l-range_with_len 0 bytes at 32 room))
     (no_lead_weigh g.W.Weight.weight _ _ _ c.weights-weights.ensures f bytes g.met.W.Weight.nothing at (all_below f bytes c.type_inv.bytes 0xC0 at room none))
 
