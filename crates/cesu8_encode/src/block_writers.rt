@@ -1,11 +1,11 @@
 //! How the blocks between the first and the last of a text are written. Each way gives the same for
 //! every text that it may take; what changes in the text decides which one is fast.
 //!
-//! | what changes                     | way           | what is done with a block        |
-//! |----------------------------------|---------------|----------------------------------|
-//! | null characters alone, in MUTF-8 | `NullsChange` | copied, or written without pairs |
-//! | a byte more for each block       | `ManyChanges` | written as the first and last    |
-//! | less, or it is not known         | `FewChanges`  | copied if no byte of it changes  |
+//! | what changes                     | way                      | what is done with a block    |
+//! |----------------------------------|--------------------------|------------------------------|
+//! | null characters alone, in MUTF-8 | `CopyUnless<NullChange>` | copied, or its nulls written |
+//! | a byte more for each block       | `AnyChange`              | written with its pairs       |
+//! | less, or it is not known         | `CopyUnless<AnyChange>`  | copied, or so written        |
 //!
 //! The average of the text decides, so one that is dense with pairs in a part alone may have its
 //! other blocks written where they could be copied.
@@ -15,9 +15,10 @@ ghost use Rattle.cesu8_text.specs.Class.{is_at_least_f0};
 ghost use Rattle.cesu8_bytes.specs.Kernels.{AnyIn};
 ghost use Rattle.cesu8_encode.specs.EncodedOffsets.{encoded_bytes};
 
-use super::blocks::{BLOCK_READ, copy_or_write_block, copy_or_write_nulls, write_block};
+use super::blocks::{BLOCK_READ, READ_BEFORE, copy_block, is_unchanged, write_block, write_nulls};
 use cesu8_bytes::BLOCK;
 use cesu8_bytes::flavor::Flavor;
+use std::marker::PhantomData;
 
 /// A way to write a block.
 pub trait BlockWriter {
@@ -35,16 +36,17 @@ pub trait BlockWriter {
         ensures len { length out.new ≡ length out.old };
 }
 
-/// Most blocks change, so none is looked at before.
-pub struct ManyChanges;
+/// Anything in the block can change.
+pub struct AnyChange;
 
-/// Most blocks stay, and are copied.
-pub struct FewChanges;
+/// Null characters alone can change, since the text has no byte of F0 or more (hexadecimal).
+pub struct NullChange;
 
-/// Null characters alone change.
-pub struct NullsChange;
+/// A block is copied if no byte of it changes, and else written in the way `W`. Most text has runs
+/// of blocks that stay.
+pub struct CopyUnless<W>(PhantomData<W>);
 
-impl BlockWriter for ManyChanges {
+impl BlockWriter for AnyChange {
     ghost knows = { λ _. Unit };
 
     #[inline(always)]
@@ -53,20 +55,23 @@ impl BlockWriter for ManyChanges {
     }
 }
 
-impl BlockWriter for FewChanges {
-    ghost knows = { λ _. Unit };
-
-    #[inline(always)]
-    fn write<F: Flavor>(text: &[u8], at: usize, out: &mut [u8], end: usize) -> usize {
-        copy_or_write_block::<F>(text, at, out, end)
-    }
-}
-
-impl BlockWriter for NullsChange {
+impl BlockWriter for NullChange {
     ghost knows = { λ text. ¬ (AnyIn is_at_least_f0 text) };
 
     #[inline(always)]
     fn write<F: Flavor>(text: &[u8], at: usize, out: &mut [u8], end: usize) -> usize {
-        copy_or_write_nulls::<F>(text, at, out, end)
+        write_nulls::<F>(text, at, out, end)
+    }
+}
+
+impl<W: BlockWriter> BlockWriter for CopyUnless<W> {
+    ghost knows = { W.knows };
+
+    #[inline(always)]
+    fn write<F: Flavor>(text: &[u8], at: usize, out: &mut [u8], end: usize) -> usize {
+        if is_unchanged::<F>(text, at) {
+            return copy_block(text, at + READ_BEFORE, out, end);
+        }
+        W::write::<F>(text, at, out, end)
     }
 }

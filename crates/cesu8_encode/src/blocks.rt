@@ -58,44 +58,9 @@ pub fn write_block<F: Flavor>(
     write_lanes(&block, count, out, end)
 }
 
-/// Writes what the whole block at an offset becomes, and returns its end. A block is copied if no
-/// byte of it changes. Most text has runs of such blocks.
-#[inline(always)]
-pub fn copy_or_write_block<F: Flavor>(window: &[u8], at: usize, out: &mut [u8], end: usize) -> usize
-    requires window { at + BLOCK_READ ≤ length window.now }
-    requires room { end + length (encoded_bytes F.flavor window.now at BLOCK) ≤ length out.old }
-    ensures bytes { take result out.new
-        ≡ take end out.old ++ encoded_bytes F.flavor window.now at BLOCK }
-    ensures end { result ≡ end + length (encoded_bytes F.flavor window.now at BLOCK) }
-    ensures len { length out.new ≡ length out.old }
-{
-    if is_unchanged::<F>(window, at) {
-        return copy_block(window, at + READ_BEFORE, out, end);
-    }
-    write_block::<F>(window, at, BLOCK, out, end)
-}
-
-/// Does so in a text without a byte of F0 or more (hexadecimal), where null alone can change.
-#[inline(always)]
-pub fn copy_or_write_nulls<F: Flavor>(window: &[u8], at: usize, out: &mut [u8], end: usize) -> usize
-    requires window { at + BLOCK_READ ≤ length window.now }
-    requires low { ¬ (AnyIn is_at_least_f0 window.now) }
-    requires room { end + length (encoded_bytes F.flavor window.now at BLOCK) ≤ length out.old }
-    ensures bytes { take result out.new
-        ≡ take end out.old ++ encoded_bytes F.flavor window.now at BLOCK }
-    ensures end { result ≡ end + length (encoded_bytes F.flavor window.now at BLOCK) }
-    ensures len { length out.new ≡ length out.old }
-{
-    if is_unchanged::<F>(window, at) {
-        copy_block(window, at + READ_BEFORE, out, end)
-    } else {
-        write_nulls::<F>(window, at, out, end)
-    }
-}
-
 /// Copies the block behind the first `from` bytes of a window, and returns its end.
 #[inline(always)]
-fn copy_block(window: &[u8], from: usize, out: &mut [u8], end: usize) -> usize
+pub fn copy_block(window: &[u8], from: usize, out: &mut [u8], end: usize) -> usize
     requires window { from + BLOCK ≤ length window.now }
     requires room { end + BLOCK ≤ length out.old }
     ensures bytes { take result out.new ≡ take end out.old ++ chunk from BLOCK window.now }
@@ -108,7 +73,7 @@ fn copy_block(window: &[u8], from: usize, out: &mut [u8], end: usize) -> usize
 
 /// Returns whether the block at an offset stays as it is. The byte after it decides nothing then.
 #[inline(always)]
-fn is_unchanged<F: Flavor>(window: &[u8], at: usize) -> bool
+pub fn is_unchanged<F: Flavor>(window: &[u8], at: usize) -> bool
     requires { at + BLOCK_READ ≤ length window.now }
     ensures { IsTrue result
         → encoded_bytes F.flavor window.now at BLOCK ≡ chunk (at + READ_BEFORE) BLOCK window.now }
@@ -120,7 +85,7 @@ fn is_unchanged<F: Flavor>(window: &[u8], at: usize) -> bool
 /// Writes what a block becomes in a text without a byte of F0 or more (hexadecimal), and returns
 /// its end. Null characters become C0 80.
 #[inline(always)]
-fn write_nulls<F: Flavor>(window: &[u8], at: usize, out: &mut [u8], end: usize) -> usize
+pub fn write_nulls<F: Flavor>(window: &[u8], at: usize, out: &mut [u8], end: usize) -> usize
     requires window { at + BLOCK_READ ≤ length window.now }
     requires low { ¬ (AnyIn is_at_least_f0 window.now) }
     requires room { end + length (encoded_bytes F.flavor window.now at BLOCK) ≤ length out.old }

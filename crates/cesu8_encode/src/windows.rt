@@ -9,7 +9,7 @@ ghost use Rattle.cesu8_text.specs.Encoding.{encoding};
 ghost use Rattle.cesu8_encode.specs.Encoded.{WritesEncoding};
 ghost use Rattle.cesu8_encode.specs.EncodedOffsets.{recoded, IsWritten, Writes};
 
-use super::block_writers::{BlockWriter, FewChanges, ManyChanges, NullsChange};
+use super::block_writers::{AnyChange, BlockWriter, CopyUnless, NullChange};
 use super::blocks::{BLOCK_READ, READ_AFTER, READ_BEFORE, write_block};
 use cesu8_bytes::BLOCK;
 use cesu8_bytes::flavor::Flavor;
@@ -75,12 +75,12 @@ fn write_middle<F: Flavor>(
     ensures { Writes F.flavor text.now (BLOCK * blocks) out.old out.new result }
 {
     if F::has_long_null() && !any_in_short::<AtLeastF0>(text) {
-        return write_middle_by::<F, NullsChange>(text, blocks, out, start);
+        return write_middle_by::<F, CopyUnless<NullChange>>(text, blocks, out, start);
     }
     if more >= blocks {
-        return write_middle_by::<F, ManyChanges>(text, blocks, out, start);
+        return write_middle_by::<F, AnyChange>(text, blocks, out, start);
     }
-    write_middle_by::<F, FewChanges>(text, blocks, out, start)
+    write_middle_by::<F, CopyUnless<AnyChange>>(text, blocks, out, start)
 }
 
 /// Does so in one way.

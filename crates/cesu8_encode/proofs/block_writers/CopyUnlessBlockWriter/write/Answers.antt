@@ -1,13 +1,13 @@
 use Rattle.std.proofs.Common.{◌+◌, ap, arith, length}
 use Rattle.std.proofs.lemmas.Simd.{length-chunk}
-use Rattle.cesu8_encode.proofs.blocks.copy_or_write_block.Goals as goal
+use Rattle.cesu8_encode.proofs.block_writers.CopyUnlessBlockWriter.write.Goals as goal
 
 pub copy_block-requires-clause-room : goal.copy_block-requires-clause-room
 copy_block-requires-clause-room g c =
     omega (
       arith,
       ap length (c.is_unchanged.ensures c.if-is_unchanged.true),
-      length-chunk (c.args.at + 2) 32 c.args.window.now (omega (arith, c.requires.window)),
+      length-chunk (c.args.at + 2) 32 c.args.text.now (omega (arith, c.requires.window)),
       c.requires.room,
     )
 
@@ -16,6 +16,6 @@ returns-then-is_unchanged-clause-end g c =
     omega (
       arith,
       ap length (c.is_unchanged.ensures c.if-is_unchanged.true),
-      length-chunk (c.args.at + 2) 32 c.args.window.now (omega (arith, c.requires.window)),
+      length-chunk (c.args.at + 2) 32 c.args.text.now (omega (arith, c.requires.window)),
       c.copy_block.ensures.end,
     )
