@@ -1,7 +1,8 @@
--- Vectors that both directions use: loads, rows of eight lanes, packing, tables of shuffles, and
--- counts.
+-- Vectors that both directions use: loads, rows of eight lanes, packing, padding, tables of shuffles,
+-- and counts.
 pub mod Loads
 pub mod Rows
 pub mod Packing
+pub mod Padded
 pub mod Tables
 pub mod Counts

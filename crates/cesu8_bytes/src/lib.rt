@@ -14,6 +14,7 @@ pub mod lengths;
 pub mod options;
 pub mod order;
 pub mod packing;
+mod padded;
 pub mod runs;
 pub mod utf8;
 pub mod window;

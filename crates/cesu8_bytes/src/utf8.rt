@@ -7,7 +7,7 @@ ghost use Rattle.std.specs.Prelude.{◌↔◌, ◌≡◌, ◌<◌, ◌≤◌, Is
 
 use crate::continuation::character_start;
 use crate::implementation::class::LANES;
-use crate::implementation::short::copy_short;
+use crate::padded::{QUARTER, block_of_quarter, padded_block};
 use simdutf8::Checker;
 use std::simd::prelude::*;
 use std::str;
@@ -27,24 +27,48 @@ const MOST_OF_PART: usize = 8192;
 pub fn is_utf8(bytes: &[u8]) -> bool
     ensures { IsTrue result ↔ IsUtf8 bytes.now }
 {
-    if bytes.len() <= LANES {
-        return is_short_utf8(bytes);
-    }
     if bytes.len() < LONG {
-        return simdutf8::is_utf8(bytes);
+        is_short_utf8(bytes)
+    } else {
+        is_long_utf8(bytes)
     }
-    is_long_utf8(bytes)
 }
 
-/// Returns whether at most a block of bytes is UTF-8.
+/// Returns whether bytes are UTF-8, all of which it reads.
 #[inline(always)]
 fn is_short_utf8(bytes: &[u8]) -> bool
-    requires { length bytes.now ≤ LANES }
     ensures { IsTrue result ↔ IsUtf8 bytes.now }
 {
-    let mut block = [0; LANES];
-    copy_short(bytes, &mut block);
-    Checker::new().step(u8x64::from_array(block)).finish()
+    if bytes.len() < QUARTER {
+        return is_block_utf8(block_of_quarter(bytes));
+    }
+    if bytes.len() <= LANES {
+        return is_block_utf8(padded_block(bytes, 0));
+    }
+    are_blocks_utf8(bytes)
+}
+
+/// Returns whether a block is UTF-8.
+#[inline(always)]
+fn is_block_utf8(block: u8x64) -> bool
+    ensures { IsTrue result ↔ IsUtf8 block }
+{
+    Checker::new().step(block).finish()
+}
+
+/// Returns whether some blocks are UTF-8, of which the last may be short.
+#[inline(always)]
+fn are_blocks_utf8(bytes: &[u8]) -> bool
+    requires { LANES ≤ length bytes.now }
+    ensures { IsTrue result ↔ IsUtf8 bytes.now }
+{
+    let mut checker = Checker::new();
+    let mut at = 0;
+    while bytes.len() - at > LANES {
+        checker = checker.step(u8x64::from_slice(&bytes[at..]));
+        at += LANES;
+    }
+    checker.step(padded_block(bytes, at)).finish()
 }
 
 /// Returns whether long input is UTF-8. Its first parts are small, since most input that is not

@@ -1,5 +1,6 @@
 -- UTF-8 that is cut where a character begins, and bytes with zeros behind them.
-use Rattle.std.proofs.Common.{◌≡◌, ℕ, List, [], ◌∷◌, ◌<◌, ◌≤◌, ◌↔◌, ◌++◌, length, take, drop, replicate, get_or, subst, ⊎_elim, arith}
+use Rattle.std.proofs.Common.{◌≡◌, ℕ, Bool, List, [], ◌∷◌, ◌<◌, ◌≤◌, ◌↔◌, ◌++◌, length, take, drop, replicate, get_or, sym, subst, ⊎_elim, arith}
+use Rattle.std.specs.Bool.{IsTrue}
 use Rattle.std.specs.Str.{IsUtf8, IsCharBoundary}
 use Rattle.std.proofs.lemmas.Bool.{cases_lt}
 use Rattle.std.proofs.lemmas.List.{length-append, take-append-drop}
@@ -32,7 +33,7 @@ zero_behind [] n = zeros_at n 0
 zero_behind (b ∷ bytes) n = zero_behind bytes n
 
 -- Bytes with zeros behind them are UTF-8 exactly if the bytes are.
-pub with_zeros : (bytes : List ℕ) (n : ℕ) → IsUtf8 (bytes ++ replicate n 0) ↔ IsUtf8 bytes
+with_zeros : (bytes : List ℕ) (n : ℕ) → IsUtf8 (bytes ++ replicate n 0) ↔ IsUtf8 bytes
 with_zeros bytes n = (
   λ whole. subst IsUtf8 (take-append_seam bytes (replicate n 0))
       (IsUtf8-take (bytes ++ replicate n 0) (length bytes) whole
@@ -40,3 +41,12 @@ with_zeros bytes n = (
       (λ continues. absurd (omega (arith, continues.0, zero_behind bytes n))))),
   λ text. IsUtf8-append bytes (replicate n 0) text (IsUtf8-from_ascii (replicate n 0) (λ i. omega (arith, zeros_at n i))),
 )
+
+-- So a test of both is one of the bytes.
+pub without_zeros : (bytes padded : List ℕ) (n : ℕ) (passes : Bool) → padded ≡ bytes ++ replicate n 0 → IsTrue passes ↔ IsUtf8 padded →
+    IsTrue passes ↔ IsUtf8 bytes
+without_zeros bytes padded n passes is tells =
+    let same = with_zeros bytes n in (
+      λ passed. same.0 (subst IsUtf8 is (tells.0 passed)),
+      λ text. tells.1 (subst IsUtf8 (sym is) (same.1 text)),
+    )

@@ -1,17 +1,13 @@
--- The block is the bytes with zeros behind them.
-use Rattle.std.proofs.Common.{◌≡◌, ◌-◌, ◌++◌, ℕ, [], length, replicate, ap, ◌∙◌, sym, subst}
-use Rattle.std.specs.Str.{IsUtf8}
-use Rattle.std.proofs.lemmas.List.{drop-replicate}
-use Rattle.cesu8_bytes.proofs.chunks.CutUtf8.{with_zeros}
+-- A block is the bytes with zeros behind them.
+use Rattle.std.proofs.Common.{◌-◌, length}
+use Rattle.cesu8_bytes.proofs.chunks.CutUtf8.{without_zeros}
 use Rattle.cesu8_bytes.proofs.utf8.is_short_utf8.Goals as goal
 
-pub returns : goal.returns
-returns c =
-    let bytes = c.args.bytes.now in
-    let block : c.copy_short.new.buf ≡ bytes ++ replicate (64 - length bytes) 0 =
-    c.copy_short.ensures ∙ ap (λ rest. bytes ++ rest) (drop-replicate {X = ℕ} (length bytes) 64 0) in
-    let told = c.finish.ensures c.copy_short.new.buf (c.step.ensures [] c.new.ensures) in
-    let same = with_zeros bytes (64 - length bytes) in (
-      λ passed. same.0 (subst IsUtf8 block (told.0 passed)),
-      λ text. told.1 (subst IsUtf8 (sym block) (same.1 text)),
-    )
+pub returns-then-bytes-lt-QUARTER : goal.returns-then-bytes-lt-QUARTER
+returns-then-bytes-lt-QUARTER c =
+    without_zeros c.args.bytes.now c.block_of_quarter.result (64 - length c.args.bytes.now) c.is_block_utf8.result c.block_of_quarter.ensures c.is_block_utf8.ensures
+
+pub returns-then-bytes-le-LANES : goal.returns-then-bytes-le-LANES
+returns-then-bytes-le-LANES c =
+    without_zeros c.args.bytes.now c.padded_block.result (64 - length c.args.bytes.now) c.is_block_utf8-then-bytes-le-LANES.result c.padded_block.ensures
+    c.is_block_utf8-then-bytes-le-LANES.ensures
