@@ -1,6 +1,7 @@
-//! The last bytes of a slice as a block, with zeros behind them, made in registers.
+//! The last bytes of a slice as a block of 64, with zeros behind them.
 //!
 //! A block that is copied to a buffer and read from there at once waits for its bytes to be stored.
+//! So shuffles make it in registers. Less than a quarter goes by a buffer of that length.
 
 ghost use Rattle.std.specs.Prelude.{◌≡◌, ◌≤◌, ◌+◌, ◌-◌, ◌++◌, length, drop, replicate};
 ghost use Rattle.std.specs.Simd.Lanes.{chunk};
@@ -15,11 +16,11 @@ pub const QUARTER: usize = LANES / 4;
 /// The indices of a quarter, then as many that give 0.
 const INDICES: [u8; 2 * QUARTER] = [
     0, 1, 2, 3, 4, 5, 6, 7, 8, 9, 10, 11, 12, 13, 14, 15, //
-    0x80, 0x80, 0x80, 0x80, 0x80, 0x80, 0x80, 0x80, 0x80, 0x80, 0x80, 0x80, 0x80, 0x80, 0x80, 0x80,
+    128, 128, 128, 128, 128, 128, 128, 128, 128, 128, 128, 128, 128, 128, 128, 128,
 ];
 
-/// Returns at most 16 bytes with zeros behind them. The buffer that they go by is no longer than that,
-/// so the compiler knows that the rest of the block is zero.
+/// Returns at most 16 bytes with zeros behind them. The buffer that they go by is no longer, so the
+/// compiler knows that the rest of the block is zero.
 #[inline(always)]
 pub fn block_of_quarter(bytes: &[u8]) -> u8x64
     requires { length bytes.now ≤ QUARTER }
@@ -54,6 +55,8 @@ fn padded_quarter(bytes: &[u8], from: usize) -> u8x16
     requires from { from + QUARTER ≤ length bytes.now + LANES }
     ensures { result ≡ chunk from QUARTER (bytes.now ++ replicate LANES 0) }
 {
+    // A load lies in the slice, so near the end it begins before the index, and the shuffle moves
+    // its bytes to the front.
     let start = from.min(bytes.len() - QUARTER);
     let behind = (from - start).min(QUARTER);
     let indices = u8x16::from_slice(&INDICES[behind..]);

@@ -1,7 +1,7 @@
 //! The test for UTF-8, and what is known to be UTF-8 as a text.
 //!
-//! A few bytes are tested as one block, with zeros behind them. Of long input each part is tested
-//! up to the start of a character, so that it is not read far behind a fault.
+//! Less than 2,048 bytes are tested block by block, the last with zeros behind it. Of long input
+//! each part is tested up to the start of a character, so that it is not read far behind a fault.
 
 ghost use Rattle.std.specs.Prelude.{◌↔◌, ◌≡◌, ◌<◌, ◌≤◌, IsTrue, IfSome, IfNone, IsUtf8, length};
 
@@ -34,7 +34,7 @@ pub fn is_utf8(bytes: &[u8]) -> bool
     }
 }
 
-/// Returns whether bytes are UTF-8, all of which it reads.
+/// Does so for input that is not long. It reads all of it.
 #[inline(always)]
 fn is_short_utf8(bytes: &[u8]) -> bool
     ensures { IsTrue result ↔ IsUtf8 bytes.now }

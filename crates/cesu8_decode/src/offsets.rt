@@ -86,10 +86,10 @@ pub const LEAD: u8 = 0xC0;
 const LEAD_OF_THREE: u8 = 0xE0;
 
 /// Returns the kinds of the 32 offsets from `at` on. If no byte can lead others, they are zeros. If
-/// none can lead two others, two bytes decide. Where pairs are told to be rare, three decide if no
-/// two can begin one. Where they are not, that branch would be guessed wrong.
+/// none can lead two others, two bytes decide. With a test for pairs, three decide where no two
+/// bytes can begin one. That is a branch more, which is guessed wrong where pairs come and go.
 #[inline(always)]
-pub fn starts<F: Flavor>(bytes: &[u8], at: usize, pairs_are_rare: bool) -> u8x32
+pub fn starts<F: Flavor>(bytes: &[u8], at: usize, tests_for_pairs: bool) -> u8x32
     requires { at + REACH ≤ length bytes.now }
     ensures { result ≡ map (start_kind F.flavor bytes.now) (range_with_len at BLOCK) }
 {
@@ -104,7 +104,7 @@ pub fn starts<F: Flavor>(bytes: &[u8], at: usize, pairs_are_rare: bool) -> u8x32
     }
     let third = continuations(u8x32::from_slice(&bytes[at + 2..]));
     // `PAIR` is two bits below the highest.
-    if pairs_are_rare && bits::<AtLeast<0x80>, BLOCK>(two << u8x32::splat(2)) == 0 {
+    if tests_for_pairs && bits::<AtLeast<0x80>, BLOCK>(two << u8x32::splat(2)) == 0 {
         return two & ((third & u8x32::splat(THREE)) | u8x32::splat(TWO | NULL));
     }
     let fourth = u8x32::from_slice(&bytes[at + 3..]);

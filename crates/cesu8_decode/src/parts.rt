@@ -224,7 +224,7 @@ fn ill_formed<F: Flavor>(window: &[u8], kinds: &Kinds, at: usize, count: usize) 
     let of_pair = (kinds[2] & pair) | (kinds[1] & pair) | (kinds[0] & pair);
     let alone = equal(near | of_three | of_pair, 0);
     // A byte below 80 is a character of its own, but 00 is none in MUTF-8.
-    let byte = u8x32::from_slice(&window[at + 5..]);
+    let byte = u8x32::from_slice(&window[at + BEHIND..]);
     alone & (byte | nulls::<F>(byte)) & (behind(count as u8) ^ u8x32::splat(0xFF))
 }
 
@@ -252,7 +252,7 @@ fn changed_bytes(window: &[u8], kinds: &Kinds, at: usize) -> u8x32
 {
     let near = kinds[4];
     let pairs = kinds[3] | kinds[2] | kinds[1];
-    let byte = u8x32::from_slice(&window[at + 5..]);
+    let byte = u8x32::from_slice(&window[at + BEHIND..]);
     let changed = near
         .simd_ge(u8x32::splat(0x80))
         .select(u8x32::splat(0), byte);

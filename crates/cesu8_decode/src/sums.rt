@@ -89,6 +89,7 @@ fn weight_lanes<F: Flavor, W: Weight>(bytes: &[u8], at: usize) -> u8x32
     if bits::<AtLeast<LEAD>, 32>(byte) == 0 {
         return of_one;
     }
+    // Here the branch on pairs would be guessed wrong.
     let kinds = starts::<F>(bytes, at, false);
     of_one | look_up(weights.by_low, kinds) | look_up(weights.by_high, kinds >> u8x32::splat(4))
 }

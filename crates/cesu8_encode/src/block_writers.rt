@@ -1,11 +1,12 @@
 //! How the blocks between the first and the last of a text are written. Each way gives the same for
-//! every text that it may take; what changes in the text decides which one is fast.
+//! every text that it may take; what changes in the text decides which one is fast. The first row
+//! that fits decides:
 //!
 //! | what changes                     | way                      | what is done with a block    |
 //! |----------------------------------|--------------------------|------------------------------|
 //! | null characters alone, in MUTF-8 | `CopyUnless<NullChange>` | copied, or its nulls written |
 //! | a byte more for each block       | `AnyChange`              | written with its pairs       |
-//! | less, or it is not known         | `CopyUnless<AnyChange>`  | copied, or so written        |
+//! | less, or not known how many      | `CopyUnless<AnyChange>`  | copied, or so written        |
 //!
 //! The average of the text decides, so one that is dense with pairs in a part alone may have its
 //! other blocks written where they could be copied.

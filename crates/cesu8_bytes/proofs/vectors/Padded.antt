@@ -1,8 +1,8 @@
 -- Bytes with zeros behind them: a shuffle by sixteen of the indices makes a quarter of these.
-use Rattle.std.proofs.Common.{◌≡◌, ℕ, ◌+◌, ◌*◌, ◌/◌, ◌-◌, ◌<◌, ◌≤◌, true, ◌||◌, cond, List, ◌++◌, length, take, drop, get_or, replicate, eqb, refl, sym, ap, ◌∙◌, subst, arith, w8, length-append, take-add, take-append-drop, ◌⊎◌, inl, inr, min}
+use Rattle.std.proofs.Common.{◌≡◌, ℕ, ◌+◌, ◌*◌, ◌/◌, ◌-◌, ◌<◌, ◌≤◌, true, ◌||◌, cond, List, ◌++◌, length, take, drop, get_or, replicate, eqb, refl, sym, ap, ◌∙◌, subst, arith, w8, length-append, take-add, ◌⊎◌, inl, inr, min}
 use Rattle.std.proofs.Math.Seq.{take-append-add}
 use Rattle.std.proofs.lemmas.Bool.{agree_below_at, cases_lt, eqb-true}
-use Rattle.std.proofs.lemmas.List.{ext_get_or, get_or_append_left, get_or-append_right, length-drop, length-take-le, drop-drop, drop-append-le, drop-replicate, take-replicate}
+use Rattle.std.proofs.lemmas.List.{ext_get_or, get_or_append_left, get_or-append_right, length-drop, length-take-le, drop-drop, drop-append-le, take-replicate}
 use Rattle.std.proofs.lemmas.Simd.{swz_l, SwzOk, SwzOk-from_Each1, length-swz_l, get_or-swz_l, get_or-swz_l_below, length-chunk, get_or-chunk, get_or-replicate, length-replicate, put_chunk_whole, Each1-from_get_or}
 use lib.Dec.{T, ltb}
 use Rattle.std.proofs.lemmas.Slice.{take-put_mid}
@@ -41,13 +41,13 @@ index_of_quarter j l = eqb-true _ _ (agree_below_at (λ k. eqb (get_or INDICES k
 index_behind : (k : ℕ) → k < 16 → zeroes 16 w8 (get_or INDICES (16 + k) 0) ≡ true
 index_behind k l = agree_below_at (λ k. zeroes 16 w8 (get_or INDICES (16 + k) 0)) (λ _. true) 16 k refl l
 
-abbrev padded : List ℕ → List ℕ
-padded bytes = bytes ++ replicate 64 0
+abbrev with_block_of_zeros : List ℕ → List ℕ
+with_block_of_zeros bytes = bytes ++ replicate 64 0
 
 -- A lane is that of the quarter, or zero behind the bytes.
 lane_is : (bytes : List ℕ) (from start behind m : ℕ) → 16 ≤ length bytes → from + 16 ≤ length bytes + 64 → start ≡ min from (length bytes - 16) →
     behind ≡ min (from - start) 16 → m < 16 → (behind + m < 16) ⊎ (16 ≤ behind + m) →
-    get_or (swz_l w8 16 (chunk start 16 bytes) 0 (indices_from behind)) m 0 ≡ get_or (padded bytes) (from + m) 0
+    get_or (swz_l w8 16 (chunk start 16 bytes) 0 (indices_from behind)) m 0 ≡ get_or (with_block_of_zeros bytes) (from + m) 0
 lane_is bytes from start behind m long room starts is l (inl below) =
     let js = indices_from behind in
     let low : behind ≤ 16 = omega (arith, is) in
@@ -75,27 +75,27 @@ lane_is bytes from start behind m long room starts is l (inr above) =
 
 -- The shuffle makes the quarter.
 pub quarter_is : (bytes : List ℕ) (from start behind : ℕ) → 16 ≤ length bytes → from + 16 ≤ length bytes + 64 → start ≡ min from (length bytes - 16) →
-    behind ≡ min (from - start) 16 → swz_l w8 16 (chunk start 16 bytes) 0 (indices_from behind) ≡ chunk from 16 (padded bytes)
+    behind ≡ min (from - start) 16 → swz_l w8 16 (chunk start 16 bytes) 0 (indices_from behind) ≡ chunk from 16 (with_block_of_zeros bytes)
 quarter_is bytes from start behind long room starts is =
     let js = indices_from behind in
     let low : behind ≤ 16 = omega (arith, is) in
     let whole = length-append bytes (replicate 64 0) in
     let many : length (swz_l w8 16 (chunk start 16 bytes) 0 js) ≡ 16 = length-swz_l w8 16 (chunk start 16 bytes) 0 js ∙ long_indices behind low in
-    let rest : from + 16 ≤ length (padded bytes) = omega (arith, whole, length-replicate {A = ℕ} 64 0, room) in
-    ext_get_or 0 _ _ (many ∙ sym (length-chunk from 16 (padded bytes) rest)) (λ m l.
+    let rest : from + 16 ≤ length (with_block_of_zeros bytes) = omega (arith, whole, length-replicate {A = ℕ} 64 0, room) in
+    ext_get_or 0 _ _ (many ∙ sym (length-chunk from 16 (with_block_of_zeros bytes) rest)) (λ m l.
     let small : m < 16 = omega (arith, l, many) in
-    lane_is bytes from start behind m long room starts is small (cases_lt (behind + m) 16) ∙ sym (get_or-chunk from 16 (padded bytes) m 0 small))
+    lane_is bytes from start behind m long room starts is small (cases_lt (behind + m) 16) ∙ sym (get_or-chunk from 16 (with_block_of_zeros bytes) m 0 small))
 
 -- ---- a block of four quarters
 
 -- A quarter that is stored behind others is the next.
-pub next_quarter : (block bytes quarter : List ℕ) (from i : ℕ) → i < 4 → length block ≡ 64 → take (16 * i) block ≡ chunk from (16 * i) (padded bytes) →
-    from + 16 * (i + 1) ≤ length bytes + 64 → quarter ≡ chunk (from + 16 * i) 16 (padded bytes) →
+pub next_quarter : (block bytes quarter : List ℕ) (from i : ℕ) → i < 4 → length block ≡ 64 → take (16 * i) block ≡ chunk from (16 * i) (with_block_of_zeros bytes) →
+    from + 16 * (i + 1) ≤ length bytes + 64 → quarter ≡ chunk (from + 16 * i) 16 (with_block_of_zeros bytes) →
     let stored = put_mid (16 * i) (16 * (i + 1) - 16 * i) block (put_chunk 0 (chunk (16 * i) (16 * (i + 1) - 16 * i) block) quarter) in
-    (length stored ≡ 64) × (take (16 * (i + 1)) stored ≡ chunk from (16 * (i + 1)) (padded bytes))
+    (length stored ≡ 64) × (take (16 * (i + 1)) stored ≡ chunk from (16 * (i + 1)) (with_block_of_zeros bytes))
 next_quarter block bytes quarter from i four long before room is =
     let wide : 16 * (i + 1) - 16 * i ≡ 16 = omega arith in
-    let short : length quarter ≡ 16 = ap length is ∙ length-chunk (from + 16 * i) 16 (padded bytes) (omega (arith, room, length-append bytes (replicate 64 0), length-replicate {A = ℕ} 64 0)) in
+    let short : length quarter ≡ 16 = ap length is ∙ length-chunk (from + 16 * i) 16 (with_block_of_zeros bytes) (omega (arith, room, length-append bytes (replicate 64 0), length-replicate {A = ℕ} 64 0)) in
     let mid : put_chunk 0 (chunk (16 * i) (16 * (i + 1) - 16 * i) block) quarter ≡ quarter =
     put_chunk_whole _ quarter (length-chunk (16 * i) (16 * (i + 1) - 16 * i) block (omega (arith, four, long)) ∙ wide ∙ sym short) in (
       ap (λ p. length (put_mid (16 * i) (16 * (i + 1) - 16 * i) block p)) mid
@@ -113,14 +113,14 @@ next_quarter block bytes quarter from i four long before room is =
       ap (λ p. take (16 * (i + 1)) (put_mid (16 * i) (16 * (i + 1) - 16 * i) block p)) mid
           ∙ take-put_mid (16 * i) (16 * (i + 1) - 16 * i) block quarter (16 * (i + 1)) (omega (arith, short)) (omega (arith, four, long))
           ∙ (λ j. before j ++ is j)
-          ∙ ap (λ rest. chunk from (16 * i) (padded bytes) ++ take 16 rest) (sym (drop-drop (16 * i) from (padded bytes)))
-          ∙ sym (take-add (16 * i) 16 (drop from (padded bytes)))
-          ∙ ap (λ n. take n (drop from (padded bytes))) (omega arith),
+          ∙ ap (λ rest. chunk from (16 * i) (with_block_of_zeros bytes) ++ take 16 rest) (sym (drop-drop (16 * i) from (with_block_of_zeros bytes)))
+          ∙ sym (take-add (16 * i) 16 (drop from (with_block_of_zeros bytes)))
+          ∙ ap (λ n. take n (drop from (with_block_of_zeros bytes))) (omega arith),
     )
 
 -- What is from an index on is the bytes there with zeros behind them.
 pub last_block : (bytes : List ℕ) (from : ℕ) → from ≤ length bytes → length bytes ≤ from + 64 →
-    chunk from 64 (padded bytes) ≡ drop from bytes ++ replicate (from + 64 - length bytes) 0
+    chunk from 64 (with_block_of_zeros bytes) ≡ drop from bytes ++ replicate (from + 64 - length bytes) 0
 last_block bytes from inside l =
     let rest = drop from bytes in
     let many : length rest + (from + 64 - length bytes) ≡ 64 = omega (arith, length-drop from bytes, inside, l) in
@@ -128,10 +128,3 @@ last_block bytes from inside l =
     ∙ ap (λ n. take n (rest ++ replicate 64 0)) (sym many)
     ∙ take-append-add rest (replicate 64 0) (from + 64 - length bytes)
     ∙ ap (λ zeros. rest ++ zeros) (take-replicate (from + 64 - length bytes) 64 0 (omega (arith, inside)))
-
--- Zeros behind zeros are zeros.
-pub zeros_behind : (m n : ℕ) → replicate {A = ℕ} m 0 ++ replicate n 0 ≡ replicate (m + n) 0
-zeros_behind m n =
-    let front : take m (replicate (m + n) 0) ≡ replicate m 0 = take-replicate m (m + n) 0 (omega arith) in
-    let behind : drop m (replicate (m + n) 0) ≡ replicate n 0 = drop-replicate m (m + n) 0 ∙ ap (λ k. replicate k 0) (omega arith) in
-    (λ i. sym front i ++ sym behind i) ∙ take-append-drop m (replicate (m + n) 0)

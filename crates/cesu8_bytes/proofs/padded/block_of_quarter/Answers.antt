@@ -1,6 +1,5 @@
 use Rattle.std.proofs.Common.{◌-◌, ◌++◌, ℕ, length, replicate, ap, ◌∙◌, arith, append_assoc}
-use Rattle.std.proofs.lemmas.List.{drop-replicate}
-use Rattle.cesu8_bytes.proofs.vectors.Padded.{zeros_behind}
+use Rattle.std.proofs.lemmas.List.{drop-replicate, replicate-append-replicate}
 use Rattle.cesu8_bytes.proofs.padded.block_of_quarter.Goals as goal
 
 pub returns : goal.returns
@@ -10,5 +9,5 @@ returns c =
     let zeros = replicate {A = ℕ} 48 0 in
     ap (λ quarter. quarter ++ zeros) (c.copy_from_slice.ensures.after ∙ c.copy_short.ensures ∙ ap (λ rest. bytes ++ rest) (drop-replicate {X = ℕ} (length bytes) 16 0))
     ∙ append_assoc bytes (replicate rest 0) zeros
-    ∙ ap (λ zs. bytes ++ zs) (zeros_behind rest 48)
+    ∙ ap (λ zs. bytes ++ zs) (replicate-append-replicate rest 48 0)
     ∙ ap (λ n. bytes ++ replicate n 0) (omega (arith, c.requires))

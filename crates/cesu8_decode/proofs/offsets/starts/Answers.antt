@@ -15,7 +15,7 @@ returns-then-bits-eq0-2 g c =
 pub returns-then-bits-eq0-3 : goal.returns-then-bits-eq0-3
 returns-then-bits-eq0-3 g c =
     three_are_starts g.F.Flavor.flavor c.args.bytes.now c.type_inv.bytes c.args.at c.requires _ c.by_two-two.ensures _ c.continuations-third.ensures
-    (sym c.bits-then-pairs_are_rare.ensures ∙ c.if-bits-eq0-3.true)
+    (sym c.bits-then-tests_for_pairs.ensures ∙ c.if-bits-eq0-3.true)
 
 pub returns : goal.returns
 returns g c =
