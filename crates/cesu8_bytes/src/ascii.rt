@@ -2,24 +2,27 @@
 //!
 //! Only this module uses `percent_encoding`, which returns ASCII as a text.
 
-ghost use Rattle.std.specs.Prelude.{◌≡◌, ◌≤◌, IsTrue, Any, length, take};
+ghost use Rattle.std.specs.Prelude.{◌≡◌, ◌<◌, ◌≤◌, IsTrue, Any, length, take};
 ghost use Rattle.std.specs.Str.{IsAscii};
 ghost use Rattle.cesu8_text.specs.Class.{IsChangedByte};
 
 use crate::flavor::Flavor;
-use crate::implementation::class::{Either, LANES, NonAscii};
+use crate::implementation::class::{Either, LANES, NonAscii, has};
+use crate::implementation::groups::InGroups;
 use crate::implementation::short::{SHORT_VALUE, any_in_short};
-use crate::implementation::simd::left_by;
 use crate::runs::lanes_before;
 use std::simd::prelude::*;
 
 /// The most bytes that are tested for ASCII before anything is called.
 const TESTED_AT_ONCE: usize = 16 * LANES;
 
+/// How many bytes are tested for ASCII at once where all mostly are.
+const GROUP: usize = 4 * LANES;
+
 /// How many bytes one look shows at the front of others.
 pub const SHOWN_AT_ONCE: usize = LANES;
 
-/// Returns whether the bytes are few and all ASCII. More are tested faster by `is_ascii`.
+/// Returns whether the bytes are few and all ASCII. More are tested by `is_utf8`.
 #[inline(always)]
 pub fn is_short_ascii(bytes: &[u8]) -> bool
     ensures { IsTrue result → IsAscii bytes.now }
@@ -49,15 +52,65 @@ pub fn begins_with_unchanged_ascii<F: Flavor>(bytes: &[u8], len: usize) -> bool
     lanes_before::<Either<F::Null, NonAscii>, SHOWN_AT_ONCE>(Simd::from_slice(bytes)) >= len
 }
 
-/// Returns whether the bytes are all ASCII. It is not inlined, so that the calls stay small.
-#[inline(never)]
-pub fn is_ascii(bytes: &[u8]) -> bool
-    ensures { IsTrue result → IsAscii bytes.now }
+/// Returns how many bytes at the front are ASCII: all, or those in whole blocks.
+#[inline(always)]
+pub fn ascii_front(bytes: &[u8]) -> usize
+    ensures { (result ≤ length bytes.now) × IsAscii (take result bytes.now) }
 {
-    match left_by::<NonAscii, LANES>(bytes) {
-        Some(rest) => !any_in_short::<NonAscii>(rest),
-        None => false,
+    let front = ascii_blocks(bytes);
+    if front > 0 && bytes.len() - front <= LANES && is_ascii_block(&bytes[bytes.len() - LANES..]) {
+        return bytes.len();
     }
+    front
+}
+
+/// Returns how many bytes at the front are in whole blocks of ASCII.
+#[inline(always)]
+fn ascii_blocks(bytes: &[u8]) -> usize
+    ensures ascii { (result ≤ length bytes.now) × IsAscii (take result bytes.now) }
+    ensures block { 0 < result → LANES ≤ result }
+{
+    let mut at = ascii_groups(bytes);
+    while bytes.len() - at >= LANES && is_ascii_block(&bytes[at..]) {
+        at += LANES;
+    }
+    at
+}
+
+/// Returns how many bytes at the front are in whole groups of ASCII.
+#[inline(always)]
+fn ascii_groups(bytes: &[u8]) -> usize
+    ensures ascii { (result ≤ length bytes.now) × IsAscii (take result bytes.now) }
+    ensures group { 0 < result → GROUP ≤ result }
+{
+    let mut at = 0;
+    while bytes.len() - at >= GROUP && is_ascii_group(&bytes[at..]) {
+        at += GROUP;
+    }
+    at
+}
+
+/// Returns whether the first block is ASCII.
+#[inline(always)]
+fn is_ascii_block(bytes: &[u8]) -> bool
+    requires { LANES ≤ length bytes.now }
+    ensures { IsTrue result → IsAscii (take LANES bytes.now) }
+{
+    !has::<NonAscii, LANES>(u8x64::from_slice(bytes))
+}
+
+/// Returns whether the first four blocks are ASCII, by one test.
+#[inline(always)]
+fn is_ascii_group(bytes: &[u8]) -> bool
+    requires { GROUP ≤ length bytes.now }
+    ensures { IsTrue result → IsAscii (take GROUP bytes.now) }
+{
+    !NonAscii::may_have(
+        u8x64::from_slice(bytes),
+        u8x64::from_slice(&bytes[LANES..]),
+        u8x64::from_slice(&bytes[2 * LANES..]),
+        u8x64::from_slice(&bytes[3 * LANES..]),
+    )
 }
 
 /// Returns ASCII as a text.

@@ -5,21 +5,27 @@
 //! what UTF-8 never has in 2 to 64 bytes, and a lenient call in 16 to 64, so that mostly only what
 //! is UTF-8 is tested.
 
-ghost use Rattle.std.specs.Prelude.{◌↔◌, IsTrue, Any, ◌≡◌, ◌*◌, length, IsUtf8, ◌<◌, ◌≤◌};
+ghost use Rattle.std.specs.Prelude.{◌↔◌, IsTrue, Any, ◌≡◌, ◌*◌, length, IsUtf8, ◌+◌, ◌<◌, ◌≤◌};
 ghost use Rattle.cesu8_text.specs.Class.{IsChangedByte, IsUnchangedUtf8, is_other_lead};
 ghost use Rattle.cesu8_bytes.specs.Kernels.{AnyIn};
 ghost use Rattle.cesu8_bytes.specs.FirstLooks.{IsShown, IsTextWhere};
 ghost use Rattle.std.specs.Str.{chars};
-ghost use Rattle.cesu8_text.specs.Encoding.{NeedsEncoding};
+ghost use Rattle.cesu8_text.specs.Encoding.{Flavor as AnyFlavor, NeedsEncoding};
+ghost use Rattle.cesu8_text.specs.Patterns.{AreFollowed};
+ghost use Rattle.cesu8_text.specs.Reading.{HasNoStrictReading};
 
-use crate::ascii::{ascii_text, is_ascii};
+use crate::continuation::is_continuation;
 use crate::flavor::{Cesu8Flavor, Flavor};
 use crate::implementation::active;
-use crate::implementation::class::{Either, Equal, FourByteLead, InVectors, LANES, OtherLead};
+use crate::implementation::class::{
+    AtLeast, Continuation, Either, Equal, FourByteLead, InVectors, LANES, NoContinuation, NonAscii,
+    OtherLead,
+};
 use crate::implementation::short::{
-    SHORT_VALUE, any_in_ends, any_in_short, by_two_vectors, has_surrogate,
+    SHORT_VALUE, adjoin, any_in_ends, any_in_short, by_two_vectors,
 };
 use crate::utf8::{is_utf8, known_text};
+use std::simd::prelude::*;
 
 /// Returns whether some byte of the UTF-8 changes in the flavor.
 #[inline(always)]
@@ -91,6 +97,42 @@ fn look_at_ends<C: InVectors<N>, const N: usize>(bytes: &[u8]) -> FirstLook
     FirstLook::Unchanged
 }
 
+/// Returns whether one of `N` bytes from an index on is ED with A0 or more behind it (hexadecimal).
+/// A surrogate has both, so UTF-8 does not.
+#[inline(always)]
+fn has_surrogate<const N: usize>(bytes: &[u8], at: usize) -> bool
+    requires { (N ≤ LANES) × (at + N < length bytes.now) }
+    ensures { IsTrue result → ¬ (IsUtf8 bytes.now) }
+{
+    adjoin::<Equal<0xED>, AtLeast<0xA0>, N>(bytes, at)
+}
+
+/// How many bytes show whether others are no text.
+const SHOWING: usize = 16;
+
+/// Returns whether the first bytes show that all are no text: neither UTF-8 nor an encoding. In
+/// both a continuation byte follows each lead byte, and none comes first or follows ASCII.
+#[inline(always)]
+pub fn shows_no_text(bytes: &[u8]) -> bool
+    ensures not_utf8 { IsTrue result → ¬ (IsUtf8 bytes.now) }
+    ensures not_encoded { IsTrue result → (f : AnyFlavor) → HasNoStrictReading f bytes.now }
+{
+    bytes.len() > SHOWING && is_continuation(bytes[0]) | has_misplaced(bytes)
+}
+
+/// Returns whether one of the first bytes is followed by what may not follow it.
+#[inline(always)]
+fn has_misplaced(bytes: &[u8]) -> bool
+    requires { SHOWING < length bytes.now }
+    ensures { IsTrue result → ¬ (AreFollowed bytes.now) }
+{
+    let first: Simd<u8, SHOWING> = Simd::from_slice(bytes);
+    let behind: Simd<u8, SHOWING> = Simd::from_slice(&bytes[1..]);
+    // Of what is no continuation byte, a lead byte has one behind it, and ASCII has none.
+    let differ = NonAscii::marks(first) ^ Continuation::marks(behind);
+    (NoContinuation::marks(first) & differ).any()
+}
+
 /// The least bytes that a lenient call looks at. Fewer are tested for UTF-8 in hardly more time.
 const LOOKED_AT: usize = 16;
 
@@ -120,38 +162,26 @@ fn has_no_utf8(bytes: &[u8]) -> bool
 pub fn whole_text(bytes: &[u8]) -> &str
     ensures { IsTextWhere (IsUtf8 bytes.now) bytes.now result.now }
 {
+    if shows_no_text(bytes) {
+        return "";
+    }
+    looked_at_text(bytes)
+}
+
+/// Does so for bytes whose first ones show no misplaced byte.
+#[inline(always)]
+pub fn looked_at_text(bytes: &[u8]) -> &str
+    ensures { IsTextWhere (IsUtf8 bytes.now) bytes.now result.now }
+{
     if shows_no_utf8(bytes) {
         return "";
     }
     tested_text(bytes)
 }
 
-/// Does so for bytes that were looked at.
+/// Does so by the test for UTF-8 alone.
 #[inline(always)]
 pub fn tested_text(bytes: &[u8]) -> &str
-    ensures { IsTextWhere (IsUtf8 bytes.now) bytes.now result.now }
-{
-    if bytes.len() > SHORT_VALUE {
-        return long_text(bytes);
-    }
-    text_by_test(bytes)
-}
-
-/// Does so for long input. ASCII needs no test for UTF-8. It is not inlined, so that the calls stay
-/// small.
-#[inline(never)]
-fn long_text(bytes: &[u8]) -> &str
-    ensures { IsTextWhere (IsUtf8 bytes.now) bytes.now result.now }
-{
-    if is_ascii(bytes) {
-        return ascii_text(bytes);
-    }
-    text_by_test(bytes)
-}
-
-/// Does so by a test of all bytes.
-#[inline(always)]
-fn text_by_test(bytes: &[u8]) -> &str
     ensures { IsTextWhere (IsUtf8 bytes.now) bytes.now result.now }
 {
     if is_utf8(bytes) {
@@ -160,23 +190,15 @@ fn text_by_test(bytes: &[u8]) -> &str
     ""
 }
 
-/// Returns whether the bytes are UTF-8. ASCII needs no test for it.
-#[inline(never)]
-pub fn is_text(bytes: &[u8]) -> bool
-    ensures { IsTrue result ↔ IsUtf8 bytes.now }
-{
-    if bytes.len() > SHORT_VALUE && is_ascii(bytes) {
-        return true;
-    }
-    is_utf8(bytes)
-}
-
 /// Returns the bytes as a text if they are UTF-8 without a byte that changes, and otherwise the
 /// empty text, as `whole_text` does.
 #[inline(always)]
 pub fn unchanged_text<F: Flavor>(bytes: &[u8]) -> &str
     ensures { IsTextWhere (IsUnchangedUtf8 F.flavor bytes.now) bytes.now result.now }
 {
+    if shows_no_text(bytes) {
+        return "";
+    }
     match first_look::<F>(bytes) {
         FirstLook::Unchanged => tested_text(bytes),
         FirstLook::Changed | FirstLook::NotUtf8 => "",

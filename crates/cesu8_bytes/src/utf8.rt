@@ -1,10 +1,14 @@
 //! The test for UTF-8, and what is known to be UTF-8 as a text.
 //!
-//! Less than 2,048 bytes are tested block by block, the last with zeros behind it. Of long input
-//! each part is tested up to the start of a character, so that it is not read far behind a fault.
+//! ASCII in front is passed over by a tight loop. What is behind it is tested block by block, the
+//! last with zeros behind it. Now and then the test looks whether it has met a fault, so that it
+//! does not read far behind one.
 
-ghost use Rattle.std.specs.Prelude.{◌↔◌, ◌≡◌, ◌<◌, ◌≤◌, IsTrue, IfSome, IfNone, IsUtf8, length};
+ghost use Rattle.std.specs.Prelude.{◌↔◌, ◌≡◌, ◌+◌, ◌*◌, ◌<◌, ◌≤◌, IsTrue, IsUtf8, length, take, drop};
+ghost use Rattle.simdutf8.specs.Tracks.{HasRead};
+ghost use Rattle.cesu8_bytes.specs.declared.utf8.Look.TheVariants.{Fault};
 
+use crate::ascii::ascii_front;
 use crate::continuation::character_start;
 use crate::implementation::class::LANES;
 use crate::padded::{QUARTER, block_of_quarter, padded_block};
@@ -12,96 +16,99 @@ use simdutf8::Checker;
 use std::simd::prelude::*;
 use std::str;
 
-/// The least bytes of long input. Fewer are tested at once.
-const LONG: usize = 2048;
+/// So few bytes are tested one by one in less time than a block.
+const FEW: usize = 4;
 
-/// What is left of long input is at least so many times as long as its next part. A part is so
-/// many times as long as the one before it.
-const PARTS: usize = 4;
+/// How many blocks the first part has, behind which the test looks whether it has met a fault. Most
+/// input that is not UTF-8 shows it early.
+const FIRST_PART: usize = 4;
 
-/// The most bytes of a part. What is left behind the last one may be nearly four times as long.
-const MOST_OF_PART: usize = 8192;
+/// How many blocks each other part has.
+const PART: usize = 16;
+
+/// How many it has where a character may cross the end of the part before.
+const PART_BEHIND_CUT: usize = 2;
 
 /// Returns whether the bytes are UTF-8. It is not inlined, since it is long.
 #[inline(never)]
 pub fn is_utf8(bytes: &[u8]) -> bool
     ensures { IsTrue result ↔ IsUtf8 bytes.now }
 {
-    if bytes.len() < LONG {
-        is_short_utf8(bytes)
-    } else {
-        is_long_utf8(bytes)
+    if bytes.len() <= FEW {
+        return str::from_utf8(bytes).is_ok();
     }
-}
-
-/// Does so for input that is not long. It reads all of it.
-#[inline(always)]
-fn is_short_utf8(bytes: &[u8]) -> bool
-    ensures { IsTrue result ↔ IsUtf8 bytes.now }
-{
     if bytes.len() < QUARTER {
-        return is_block_utf8(block_of_quarter(bytes));
+        return Checker::new().step(block_of_quarter(bytes)).finish();
     }
-    if bytes.len() <= LANES {
-        return is_block_utf8(padded_block(bytes, 0));
-    }
-    are_blocks_utf8(bytes)
+    let front = ascii_front(bytes);
+    front == bytes.len() || are_blocks_utf8(bytes, front)
 }
 
-/// Returns whether a block is UTF-8.
+/// Returns whether the bytes from an index on are UTF-8.
 #[inline(always)]
-fn is_block_utf8(block: u8x64) -> bool
-    ensures { IsTrue result ↔ IsUtf8 block }
+fn are_blocks_utf8(bytes: &[u8], from: usize) -> bool
+    requires quarter { QUARTER ≤ length bytes.now }
+    requires from { from ≤ length bytes.now }
+    ensures { IsTrue result ↔ IsUtf8 (drop from bytes.now) }
 {
-    Checker::new().step(block).finish()
-}
-
-/// Returns whether some blocks are UTF-8, of which the last may be short.
-#[inline(always)]
-fn are_blocks_utf8(bytes: &[u8]) -> bool
-    requires { LANES ≤ length bytes.now }
-    ensures { IsTrue result ↔ IsUtf8 bytes.now }
-{
+    let rest = &bytes[from..];
     let mut checker = Checker::new();
     let mut at = 0;
-    while bytes.len() - at > LANES {
-        checker = checker.step(u8x64::from_slice(&bytes[at..]));
-        at += LANES;
-    }
-    checker.step(padded_block(bytes, at)).finish()
-}
-
-/// Returns whether long input is UTF-8. Its first parts are small, since most input that is not
-/// UTF-8 shows it early.
-fn is_long_utf8(bytes: &[u8]) -> bool
-    ensures { IsTrue result ↔ IsUtf8 bytes.now }
-{
-    let mut rest = bytes;
-    let mut part = LONG / PARTS;
-    while rest.len() >= PARTS * part {
-        match behind_part(rest, part) {
-            Some(behind) => rest = behind,
-            None => return false,
+    let mut most = FIRST_PART;
+    while rest.len() - at > LANES {
+        let blocks = most.min((rest.len() - at - 1) / LANES);
+        checker = behind_blocks(checker, rest, at, blocks);
+        at += LANES * blocks;
+        if rest.len() - at > LANES {
+            match look_behind(checker, rest, at) {
+                Look::Fault => return false,
+                Look::Cut => most = PART_BEHIND_CUT,
+                Look::Whole => most = PART,
+            }
         }
-        part = MOST_OF_PART.min(PARTS * part);
     }
-    simdutf8::is_utf8(rest)
+    checker.step(padded_block(bytes, from + at)).finish()
 }
 
-/// Tests a part of so many bytes, or up to three fewer, and returns what is behind it if the part
-/// is UTF-8.
+/// Returns the checker behind some more blocks.
 #[inline(always)]
-fn behind_part(bytes: &[u8], most: usize) -> Option<&[u8]>
-    requires { (3 < most) × (most < length bytes.now) }
-    ensures less { IfSome result (λ behind. length behind.now < length bytes.now) }
-    ensures same { IfSome result (λ behind. IsUtf8 bytes.now ↔ IsUtf8 behind.now) }
-    ensures none { IfNone result (¬ (IsUtf8 bytes.now)) }
+fn behind_blocks(start: Checker, bytes: &[u8], from: usize, blocks: usize) -> Checker
+    requires bytes { from + LANES * blocks ≤ length bytes.now }
+    requires read { HasRead start (take from bytes.now) }
+    ensures { HasRead result (take (from + LANES * blocks) bytes.now) }
 {
-    match character_start(bytes, most) {
-        Some(start) if simdutf8::is_utf8(&bytes[..start]) => Some(&bytes[start..]),
-        Some(_) => None,
+    let mut checker = start;
+    for i in 0..blocks {
+        checker = checker.step(u8x64::from_slice(&bytes[from + LANES * i..]));
+    }
+    checker
+}
+
+/// What the bytes before an offset show.
+#[derive(Drop)]
+enum Look {
+    /// They are UTF-8.
+    Whole,
+    /// They are not, and a character that the offset cuts may be why.
+    Cut,
+    /// All of the bytes are not UTF-8.
+    Fault,
+}
+
+/// Returns what the bytes before an offset show, which a checker has read.
+#[inline(always)]
+fn look_behind(checker: Checker, bytes: &[u8], at: usize) -> Look
+    requires at { (3 ≤ at) × (at < length bytes.now) }
+    requires read { HasRead checker (take at bytes.now) }
+    ensures { result ≡ Fault → ¬ (IsUtf8 bytes.now) }
+{
+    if checker.finish() {
+        return Look::Whole;
+    }
+    match character_start(bytes, at) {
+        Some(start) => { if start < at { Look::Cut } else { Look::Fault } }
         // UTF-8 has no four continuation bytes in a row.
-        None => None,
+        None => Look::Fault,
     }
 }
 

@@ -29,25 +29,23 @@ pub record HasFault (f : Flavor) (bytes : List ℕ) : Type 0 where
   pub some : 0 < length rest
   pub none_begins : NoneBegins f rest
 
--- The first bytes are a chunk of text in lossy reading, and in strict reading too if none of them
--- is ill-formed.
-pub record ReadsFirst (f : Flavor) (bytes : List ℕ) (read : ℕ) (text : List ℕ) (is_ill_formed : Bool) : Type 0 where
+-- The first bytes are a chunk of text, unless an ill-formed one among them is refused.
+pub record ReadsFirst (f : Flavor) (which : Strictness) (bytes : List ℕ) (read : ℕ) (text : List ℕ) (is_ill_formed : Bool) : Type 0 where
   pub some : 0 < length bytes → 0 < read
   pub within : read ≤ length bytes
-  pub lossy : IsChunk f Lossy bytes (drop read bytes) text
-  pub strict : is_ill_formed ≡ false → IsChunk f Strict bytes (drop read bytes) text
+  pub chunk : refuses which is_ill_formed ≡ false → IsChunk f which bytes (drop read bytes) text
   pub ill_formed : is_ill_formed ≡ true → HasFault f bytes
 
--- All of the bytes are, but behind an ill-formed byte that is refused.
+-- All of the bytes are.
 pub record ReadsAll (f : Flavor) (which : Strictness) (bytes : List ℕ) (read : ℕ) (text : List ℕ) (is_ill_formed : Bool) : Type 0 where
-  pub first : ReadsFirst f bytes read text is_ill_formed
+  pub first : ReadsFirst f which bytes read text is_ill_formed
   pub all : refuses which is_ill_formed ≡ false → read ≡ length bytes
 
 -- The next chunk is text that was joined, or it is written at the front of a buffer.
-abbrev pub IsNextChunk : Flavor → List ℕ → Chunk → List ℕ → Type 0
-IsNextChunk f bytes (Joined joined) written = ReadsFirst f bytes joined.read joined.text.now false
-IsNextChunk f bytes (Written decoded) written =
-    ReadsFirst f bytes decoded.read (take decoded.end written) decoded.is_ill_formed × (decoded.end ≤ length written)
+abbrev pub IsNextChunk : Flavor → Strictness → List ℕ → Chunk → List ℕ → Type 0
+IsNextChunk f which bytes (Joined joined) written = ReadsFirst f which bytes joined.read joined.text.now false
+IsNextChunk f which bytes (Written decoded) written =
+    ReadsFirst f which bytes decoded.read (take decoded.end written) decoded.is_ill_formed × (decoded.end ≤ length written)
 
 -- The text of the bytes is appended. `NoText` is returned only where there is none.
 pub record AppendsText {T : Type 0} (f : Flavor) (which : Strictness) (bytes : List ℕ) (result : Result T Refusal) (old new : List ℕ) : Type 0 where

@@ -7,6 +7,7 @@ use super::packing::WIDEST;
 use super::windows::{Decoded, LEAST, SPARED, write_window};
 use cesu8_bytes::flavor::Flavor;
 use cesu8_bytes::joining::Buffer;
+use cesu8_bytes::options::Strictness;
 use cesu8_bytes::window::{Joined, TOO_FEW, read_window};
 
 /// The next chunk of text.
@@ -26,6 +27,7 @@ pub enum Chunk<'a> {
 /// `SPARED` bytes less than three for each of the window, since some of these are only around it.
 #[inline(always)]
 pub fn next_chunk<'a, F: Flavor, const LEN: usize>(
+    strictness: Strictness,
     bytes: &[u8],
     joins: bool,
     buffer: &'a mut Buffer,
@@ -34,7 +36,7 @@ pub fn next_chunk<'a, F: Flavor, const LEN: usize>(
     requires some { 0 < length bytes.now }
     requires window { LEAST ≤ LEN }
     requires written { WIDEST * LEN ≤ length written.old + SPARED }
-    ensures { IsNextChunk F.flavor bytes.now result written.new }
+    ensures { IsNextChunk F.flavor strictness bytes.now result written.new }
 {
     if joins && bytes.len() > TOO_FEW {
         if let Some(joined) = read_window::<F>(bytes, buffer) {
@@ -42,5 +44,5 @@ pub fn next_chunk<'a, F: Flavor, const LEN: usize>(
         }
     }
     let mut window = [0; LEN];
-    Chunk::Written(write_window::<F>(bytes, &mut window, written))
+    Chunk::Written(write_window::<F>(strictness, bytes, &mut window, written))
 }

@@ -6,9 +6,10 @@ use crate::refusal::{Unwritten, is_refused};
 use crate::slices::{put_by, put_text};
 use crate::way::way_before_tests;
 use cesu8_bytes::ascii::{is_short_ascii, is_short_unchanged_ascii};
-use cesu8_bytes::first_looks::{contains_changed, is_text};
+use cesu8_bytes::first_looks::{contains_changed, shows_no_text};
 use cesu8_bytes::flavor::Flavor;
 use cesu8_bytes::options::Strictness;
+use cesu8_bytes::utf8::is_utf8;
 use cesu8_bytes::writers::{copy_to_slice, copy_to_slice_by_call};
 
 /// Writes the text of the bytes, which are no encoding if a byte changes.
@@ -35,6 +36,9 @@ fn put_other_encoding<F: Flavor>(
 ) -> Result<usize, Unwritten>
     ensures { PutsReading F.flavor strictness bytes.now result buf.old buf.new }
 {
+    if is_refused(strictness, shows_no_text(bytes)) {
+        return Err(Unwritten::NoText);
+    }
     if let Some(way) = way_before_tests(bytes) {
         return put_by::<F>(way, strictness, bytes, buf);
     }
@@ -43,7 +47,7 @@ fn put_other_encoding<F: Flavor>(
     if is_refused(strictness, changes) {
         return Err(Unwritten::NoText);
     }
-    if !changes && is_text(bytes) {
+    if !changes && is_utf8(bytes) {
         return copy_to_slice_by_call(bytes, buf).map_err(Unwritten::NoRoom);
     }
     put_text::<F>(strictness, bytes, buf)
@@ -73,7 +77,10 @@ fn put_other_leniently<F: Flavor>(
 ) -> Result<usize, Unwritten>
     ensures { PutsLenientReading F.flavor strictness bytes.now result buf.old buf.new }
 {
-    if is_text(bytes) {
+    if is_refused(strictness, shows_no_text(bytes)) {
+        return Err(Unwritten::NoText);
+    }
+    if is_utf8(bytes) {
         return copy_to_slice_by_call(bytes, buf).map_err(Unwritten::NoRoom);
     }
     put_text::<F>(strictness, bytes, buf)

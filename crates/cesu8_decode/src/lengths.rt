@@ -10,8 +10,9 @@ ghost use Rattle.cesu8_decode.specs.DecodedOffsets.{saved};
 
 use super::ill_formed::is_ill_formed;
 use super::sums::{BLOCKS, Weight, Weights, sum_first};
-use cesu8_bytes::first_looks::{contains_changed, is_text};
+use cesu8_bytes::first_looks::contains_changed;
 use cesu8_bytes::flavor::Flavor;
+use cesu8_bytes::utf8::is_utf8;
 
 /// Returns the length of the strict reading, in bytes of UTF-8, if there is one.
 pub fn decoded_len<F: Flavor>(bytes: &[u8]) -> Option<usize>
@@ -19,7 +20,7 @@ pub fn decoded_len<F: Flavor>(bytes: &[u8]) -> Option<usize>
         ReadsAtLength (IsStrictReading F.flavor bytes.now) (λ text_len. len ≡ text_len)) }
     ensures none { IfNone result (HasNoStrictReading F.flavor bytes.now) }
 {
-    if !contains_changed::<F>(bytes) && is_text(bytes) {
+    if !contains_changed::<F>(bytes) && is_utf8(bytes) {
         return Some(bytes.len());
     }
     if is_ill_formed::<F>(bytes) {

@@ -20,6 +20,7 @@ ghost use Rattle.cesu8_decode.specs.Refusals.{OnNoText};
 mod characters;
 mod chunk;
 pub mod copy_or_write;
+mod forms;
 mod ill_formed;
 mod lengths;
 mod offsets;

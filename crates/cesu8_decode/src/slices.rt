@@ -102,7 +102,7 @@ fn put_window<F: Flavor, const LEN: usize, const WRITTEN: usize>(
 {
     let mut window = [0; LEN];
     let mut written = [0; WRITTEN];
-    let decoded = write_window::<F>(bytes, &mut window, &mut written);
+    let decoded = write_window::<F>(strictness, bytes, &mut window, &mut written);
     put_decoded(strictness, decoded, &written, buf)
 }
 
@@ -149,7 +149,7 @@ fn put_joined<F: Flavor>(
     }
     let mut window = [0; SHORT_BUFFER];
     let mut written = [0; SHORT_TEXT];
-    let decoded = write_window::<F>(rest, &mut window, &mut written);
+    let decoded = write_window::<F>(strictness, rest, &mut window, &mut written);
     if is_refused(strictness, decoded.is_ill_formed) {
         return Err(Unwritten::NoText);
     }
@@ -201,7 +201,13 @@ fn write_reading<F: Flavor>(bytes: &[u8], out: &mut [u8]) -> usize
     let mut end = 0;
     let mut joins = true;
     while !rest.is_empty() {
-        match next_chunk::<F, LONG_BUFFER>(rest, joins, &mut buffer, &mut written) {
+        match next_chunk::<F, LONG_BUFFER>(
+            Strictness::Lossy,
+            rest,
+            joins,
+            &mut buffer,
+            &mut written,
+        ) {
             Chunk::Joined(joined) => {
                 rest = &rest[joined.read..];
                 end = put(joined.text.as_bytes(), out, end);

@@ -9,8 +9,9 @@ ghost use Rattle.cesu8_bytes.specs.declared.options.Strictness.TheVariants.{Stri
 ghost use Rattle.cesu8_decode.specs.Decoding.{AppendsText, refuses};
 ghost use Rattle.cesu8_decode.specs.Refusals.{OnNoText};
 
-use crate::characters::{character_of, form_of, len_of, prefix_of, write_characters};
+use crate::characters::write_characters;
 use crate::chunk::{Chunk, next_chunk};
+use crate::forms::{character_of, form_of, len_of, prefix_of};
 use crate::lengths::lossy_len;
 use crate::packing::WIDEST;
 use crate::refusal::{Refusal, is_refused};
@@ -142,7 +143,7 @@ fn append_window<F: Flavor, const LEN: usize, const WRITTEN: usize, A: Allocator
 {
     let mut window = [0; LEN];
     let mut written = [0; WRITTEN];
-    let decoded = write_window::<F>(bytes, &mut window, &mut written);
+    let decoded = write_window::<F>(strictness, bytes, &mut window, &mut written);
     append_written(strictness, decoded, &written, out)
 }
 
@@ -170,7 +171,7 @@ fn append_chunks<F: Flavor, const LEN: usize, const WRITTEN: usize, A: Allocator
         joins = !is_ill_formed;
     }
     while !rest.is_empty() {
-        match next_chunk::<F, LEN>(rest, joins, &mut buffer, &mut written) {
+        match next_chunk::<F, LEN>(strictness, rest, joins, &mut buffer, &mut written) {
             Chunk::Joined(joined) => {
                 rest = &rest[joined.read..];
                 append(joined.text, out)?;
@@ -205,7 +206,7 @@ fn append_first<'a, F: Flavor, const LEN: usize, A: Allocator>(
     ensures len { length written.new ≡ length written.old }
 {
     let mut window = [0; LEN];
-    let decoded = write_window::<F>(bytes, &mut window, written);
+    let decoded = write_window::<F>(Strictness::Lossy, bytes, &mut window, written);
     let is_ill_formed = decoded.is_ill_formed;
     let rest = &bytes[decoded.read..];
     let Some(rest_len) = lossy_len::<F>(rest) else {
@@ -228,7 +229,8 @@ fn append_written<A: Allocator>(
     out: &mut String<A>,
 ) -> Result<(), Refusal>
     requires room { decoded.end ≤ length written.now }
-    requires utf8 { IsUtf8 (take decoded.end written.now) }
+    requires utf8 { refuses strictness decoded.is_ill_formed ≡ false
+        → IsUtf8 (take decoded.end written.now) }
     ensures ok { OnOk result ((refuses strictness decoded.is_ill_formed ≡ false)
         × (string_bytes out.new ≡ string_bytes out.old ++ take decoded.end written.now)) }
     ensures invalid { OnNoText result (refuses strictness decoded.is_ill_formed ≡ true) }

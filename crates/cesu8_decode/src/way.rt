@@ -57,6 +57,7 @@ ghost use Rattle.cesu8_bytes.specs.declared.options.Strictness.{Strictness};
 ghost use Rattle.cesu8_bytes.specs.declared.options.Strictness.TheVariants.{Strict};
 ghost use Rattle.cesu8_decode.specs.Ways.{IsWayOf};
 
+use super::forms::begins_ill_formed;
 use super::ill_formed::is_ill_formed_in_prefix;
 use cesu8_bytes::first_looks::may_be_encoding;
 use cesu8_bytes::flavor::Flavor;
@@ -109,6 +110,9 @@ pub fn way_of<F: Flavor>(strictness: Strictness, bytes: &[u8]) -> Way
     ensures { IsWayOf F.flavor strictness bytes.now result }
 {
     let is_strict = matches!(strictness, Strictness::Strict);
+    if is_strict && bytes.len() > SHORT_WINDOW && begins_ill_formed::<F>(bytes) {
+        return Way::Refused;
+    }
     if is_strict && bytes.len() <= LONG_WINDOW && !may_be_encoding(bytes) {
         return Way::Refused;
     }
@@ -117,6 +121,9 @@ pub fn way_of<F: Flavor>(strictness: Strictness, bytes: &[u8]) -> Way
     }
     if has_few_others(bytes, FEWER_OTHERS) {
         return Way::Characters;
+    }
+    if is_strict && bytes.len() <= SHORT_WINDOW && begins_ill_formed::<F>(bytes) {
+        return Way::Refused;
     }
     if bytes.len() <= SHORT_WINDOW {
         return Way::ShortWindow;

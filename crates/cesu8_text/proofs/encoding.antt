@@ -12,3 +12,4 @@ pub mod Unique
 pub mod NeedsEncoding
 pub mod EncodedBytes
 pub mod OtherLeads
+pub mod Followed

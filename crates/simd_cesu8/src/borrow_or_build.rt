@@ -12,8 +12,8 @@ use crate::error::DecodeFault;
 use crate::internal;
 use crate::internal::{
     FirstLook, Flavor, SHOWN_AT_ONCE, ascii_text, begins_with_unchanged_ascii, first_look,
-    is_short_ascii, is_short_unchanged_ascii, needs_encoded, tested_text, unchanged_text,
-    whole_text,
+    is_short_ascii, is_short_unchanged_ascii, looked_at_text, needs_encoded, shows_no_text,
+    tested_text, unchanged_text, whole_text,
 };
 use std::alloc::{AllocError, Global};
 
@@ -88,6 +88,9 @@ fn decode_strict_called<F: Flavor>(
 fn decode_strict_other<F: Flavor>(alloc: Global, bytes: &[u8]) -> Result<CowText<'_>, DecodeFault>
     ensures { DecodesStrictly F.flavor bytes.now result }
 {
+    if shows_no_text(bytes) {
+        return Err(internal::refuse(alloc, bytes.len()));
+    }
     match first_look::<F>(bytes) {
         // No encoding has a byte that changes, so there is nothing to decode.
         FirstLook::Changed => return Err(internal::refuse(alloc, bytes.len())),
@@ -117,7 +120,10 @@ pub fn decode<F: Flavor>(alloc: Global, bytes: &[u8]) -> Result<CowText<'_>, Dec
 fn decode_other<F: Flavor>(alloc: Global, bytes: &[u8]) -> Result<CowText<'_>, DecodeFault>
     ensures { DecodesLeniently F.flavor bytes.now result }
 {
-    let whole = whole_text(bytes);
+    if shows_no_text(bytes) {
+        return Err(internal::refuse(alloc, bytes.len()));
+    }
+    let whole = looked_at_text(bytes);
     if whole.len() == bytes.len() {
         return Ok(CowText::Borrowed(whole));
     }

@@ -18,7 +18,8 @@ pub use cesu8_bytes::ascii::{
     is_short_unchanged_ascii,
 };
 pub use cesu8_bytes::first_looks::{
-    FirstLook, first_look, needs_encoded, tested_text, unchanged_text, whole_text,
+    FirstLook, first_look, looked_at_text, needs_encoded, shows_no_text, tested_text,
+    unchanged_text, whole_text,
 };
 pub use cesu8_bytes::flavor::{Cesu8Flavor, Flavor, Mutf8Flavor};
 pub use cesu8_bytes::lengths::{encoded_len, encoded_len_by_need, utf16_len};

@@ -5,7 +5,7 @@ use Rattle.std.specs.Str.{IsUtf8, IsCharBoundary}
 use Rattle.std.proofs.lemmas.Bool.{cases_lt}
 use Rattle.std.proofs.lemmas.List.{length-append, take-append-drop}
 use Rattle.std.proofs.Math.Seq.{take-append_seam}
-use Rattle.std.proofs.lemmas.Str.{IsUtf8-append, IsUtf8-take, IsUtf8-drop, IsUtf8-from_ascii}
+use Rattle.std.proofs.lemmas.Str.{IsUtf8-append, IsUtf8-take, IsUtf8-drop, IsUtf8-from_ascii, IsCharBoundary-from_take}
 use Rattle.cesu8_text.specs.Patterns.{IsContinuation}
 use Rattle.cesu8_bytes.proofs.vectors.Loads.{zeros_at}
 
@@ -27,6 +27,13 @@ both_parts bytes start within begins =
       λ whole. (IsUtf8-take bytes start whole at, IsUtf8-drop bytes start whole at),
       λ parts. subst IsUtf8 (take-append-drop start bytes) (IsUtf8-append (take start bytes) (drop start bytes) parts.0 parts.1),
     )
+
+-- Behind what is UTF-8, bytes are UTF-8 exactly if all are.
+pub behind_text : (bytes : List ℕ) (n : ℕ) → n ≤ length bytes → IsUtf8 (take n bytes) → IsUtf8 (drop n bytes) ↔ IsUtf8 bytes
+behind_text bytes n within front = (
+  λ rest. subst IsUtf8 (take-append-drop n bytes) (IsUtf8-append (take n bytes) (drop n bytes) front rest),
+  λ whole. IsUtf8-drop bytes n whole (IsCharBoundary-from_take bytes n whole within front),
+)
 
 zero_behind : (bytes : List ℕ) (n : ℕ) → ◌≡◌ {A = ℕ} (get_or (bytes ++ replicate n 0) (length bytes) 0) 0
 zero_behind [] n = zeros_at n 0

@@ -42,6 +42,11 @@ pub least_marks : (least n : ℕ) (bytes : List ℕ) → length bytes ≡ n →
     map (to_z w8) (zip2 (λ a b. ones (leb a b)) (replicate n least) bytes) ≡ marks_of (leb least) bytes
 least_marks least n bytes long = marked (leb least) bytes _ (zip2_splat_left (λ a b. ones (leb a b)) least n bytes long)
 
+-- A third marks those that are less.
+pub below_marks : (least n : ℕ) (bytes : List ℕ) → length bytes ≡ n →
+    map (to_z w8) (zip2 below bytes (replicate n least)) ≡ marks_of (λ b. ltb b least) bytes
+below_marks least n bytes long = marked (λ b. ltb b least) bytes _ (zip2_splat below bytes n least long)
+
 -- A byte is F0 to F7 (hexadecimal) where its upper five bits are those of F0.
 four_by_mask : (b : ℕ) → b < 0x100 → eqb (bit_and b 0xF8) 0xF0 ≡ is_four b
 four_by_mask b h = agree_below_at (λ b. eqb (bit_and b 0xF8) 0xF0) is_four 0x100 b refl h
@@ -73,6 +78,23 @@ either_marks p q bytes ps qs of_p of_q =
     (ap (map (of_z w8)) of_p ∙ map-map (of_z w8) (λ b. lane (p b)) bytes)
     (ap (map (of_z w8)) of_q ∙ map-map (of_z w8) (λ b. lane (q b)) bytes)
     ∙ map_agree _ _ bytes (Each1-all (λ b. bit_or (of_z w8 (lane (p b))) (of_z w8 (lane (q b))) ≡ ones (p b || q b)) (λ b. either_ones (p b) (q b)) bytes)
+    )
+
+both_ones : (s t : Bool) → bit_and (of_z w8 (lane s)) (of_z w8 (lane t)) ≡ ones (s && t)
+both_ones true true = refl
+both_ones true false = refl
+both_ones false true = refl
+both_ones false false = refl
+
+-- What is in both marks of two classes is in both.
+pub both_marks : (p q : ℕ → Bool) (bytes : List ℕ) (ps qs : List ℤ) → ps ≡ marks_of p bytes → qs ≡ marks_of q bytes →
+    map (to_z w8) (zip2 bit_and (map (of_z w8) ps) (map (of_z w8) qs)) ≡ marks_of (λ b. p b && q b) bytes
+both_marks p q bytes ps qs of_p of_q =
+    marked (λ b. p b && q b) bytes _ (
+    zip2_of_maps bit_and (λ b. of_z w8 (lane (p b))) (λ b. of_z w8 (lane (q b))) bytes
+    (ap (map (of_z w8)) of_p ∙ map-map (of_z w8) (λ b. lane (p b)) bytes)
+    (ap (map (of_z w8)) of_q ∙ map-map (of_z w8) (λ b. lane (q b)) bytes)
+    ∙ map_agree _ _ bytes (Each1-all (λ b. bit_and (of_z w8 (lane (p b))) (of_z w8 (lane (q b))) ≡ ones (p b && q b)) (λ b. both_ones (p b) (q b)) bytes)
     )
 
 or_ones : (s t : Bool) → bit_or (ones s) (ones t) ≡ ones (s || t)

@@ -1,6 +1,6 @@
 //! Classes of bytes, which vectors of each width mark.
 
-ghost use Rattle.std.specs.Prelude.{◌≡◌, ◌==◌, ◌||◌, ◌≤◌, ◌↔◌, ℕ, Bool, false, nat_le, IsTrue, Any, map};
+ghost use Rattle.std.specs.Prelude.{◌≡◌, ◌==◌, ◌||◌, ◌&&◌, ◌≤◌, ◌↔◌, ℕ, Bool, false, nat_le, nat_lt, IsTrue, Any, map};
 ghost use Rattle.std.specs.Simd.Lanes.{mask_l};
 ghost use Rattle.cesu8_text.specs.Class.{is_four, is_one_unit};
 ghost use Rattle.cesu8_bytes.specs.Kernels.{AnyIn, lane, mask};
@@ -108,8 +108,23 @@ pub type AtLeastF0 = AtLeast<0xF0>;
 /// 80 (hexadecimal) or more: what is not ASCII.
 pub type NonAscii = AtLeast<0x80>;
 
+/// What is less than a byte.
+pub struct Below<const BYTE: u8>;
+
+/// Below 80 (hexadecimal).
+pub type Ascii = Below<0x80>;
+
 /// The bytes of one class or the other.
 pub struct Either<A, B>(PhantomData<(A, B)>);
+
+/// The bytes of both classes.
+pub struct Both<A, B>(PhantomData<(A, B)>);
+
+/// 80 to BF (hexadecimal): what continues a character.
+pub type Continuation = Both<NonAscii, Below<0xC0>>;
+
+/// Any other byte.
+pub type NoContinuation = Either<Ascii, AtLeast<0xC0>>;
 
 /// 00 to 7F, or C0 to EF (hexadecimal): in UTF-8 the lead bytes of one UTF-16 code unit.
 pub struct OneUnit;
@@ -167,6 +182,19 @@ impl<const BYTE: u8, const N: usize> InVectors<N> for AtLeast<BYTE> {
     }
 }
 
+impl<const BYTE: u8> Class for Below<BYTE> {
+    ghost class = { λ b. nat_lt b BYTE };
+}
+
+impl<const BYTE: u8, const N: usize> InVectors<N> for Below<BYTE> {
+    #[inline(always)]
+    fn marks(bytes: Simd<u8, N>) -> Mask<i8, N>
+        ensures { result ≡ map (λ b. lane (nat_lt b BYTE)) bytes.entry }
+    {
+        bytes.simd_lt(Simd::splat(BYTE))
+    }
+}
+
 impl<A: Class, B: Class> Class for Either<A, B> {
     ghost class = { λ b. A.class b || B.class b };
 }
@@ -177,6 +205,19 @@ impl<A: InVectors<N>, B: InVectors<N>, const N: usize> InVectors<N> for Either<A
         ensures { result ≡ map (λ b. lane (A.class b || B.class b)) bytes.entry }
     {
         A::marks(bytes) | B::marks(bytes)
+    }
+}
+
+impl<A: Class, B: Class> Class for Both<A, B> {
+    ghost class = { λ b. A.class b && B.class b };
+}
+
+impl<A: InVectors<N>, B: InVectors<N>, const N: usize> InVectors<N> for Both<A, B> {
+    #[inline(always)]
+    fn marks(bytes: Simd<u8, N>) -> Mask<i8, N>
+        ensures { result ≡ map (λ b. lane (A.class b && B.class b)) bytes.entry }
+    {
+        A::marks(bytes) & B::marks(bytes)
     }
 }
 

@@ -4,9 +4,9 @@
 //! and twice that. They overlap where needed, so no byte is left out.
 
 ghost use Rattle.std.specs.Prelude.{◌≡◌, ◌≤◌, ◌<◌, ◌+◌, ◌*◌, ◌-◌, ◌↔◌, ◌++◌, IsTrue, IsUtf8, length, drop};
-ghost use Rattle.cesu8_bytes.specs.Kernels.{AnyIn};
+ghost use Rattle.cesu8_bytes.specs.Kernels.{AnyIn, NoneAdjoin};
 
-use super::class::{AtLeast, Equal, InAllVectors, InVectors, LANES, any_in_each, bits, has};
+use super::class::{InAllVectors, InVectors, LANES, any_in_each, bits, has};
 use std::simd::prelude::*;
 
 /// The most bytes that a short value has.
@@ -69,16 +69,16 @@ pub(crate) fn end_vector<const N: usize>(bytes: &[u8]) -> Simd<u8, N>
     Simd::from_slice(&bytes[bytes.len() - N..])
 }
 
-/// Returns whether one of `N` bytes from an index on is ED with A0 or more behind it (hexadecimal).
-/// A surrogate has both, so UTF-8 does not.
+/// Returns whether one of `N` bytes from an index on is in a class, and the byte behind it in
+/// another.
 #[inline(always)]
-pub fn has_surrogate<const N: usize>(bytes: &[u8], at: usize) -> bool
+pub fn adjoin<P: InVectors<N>, Q: InVectors<N>, const N: usize>(bytes: &[u8], at: usize) -> bool
     requires { (N ≤ LANES) × (at + N < length bytes.now) }
-    ensures { IsTrue result → ¬ (IsUtf8 bytes.now) }
+    ensures { IsTrue result → ¬ (NoneAdjoin P.class Q.class bytes.now) }
 {
-    let leads: Simd<u8, N> = Simd::from_slice(&bytes[at..]);
+    let first: Simd<u8, N> = Simd::from_slice(&bytes[at..]);
     let behind: Simd<u8, N> = Simd::from_slice(&bytes[at + 1..]);
-    (Equal::<0xED>::marks(leads) & AtLeast::<0xA0>::marks(behind)).any()
+    (P::marks(first) & Q::marks(behind)).any()
 }
 
 /// Returns whether some byte of a block is in the class, or of the last 64 bytes, which overlap the

@@ -222,6 +222,12 @@ first_fault f bytes rest chunk false here so_far fault some none_begins ill_form
   none_begins = none_begins ill_formed;
 }
 
+-- What was read is a chunk unless an ill-formed byte in it is refused.
+pub read_unless_refused : (f : Flavor) (which : Strictness) (bytes rest chunk : List ℕ) (is_ill_formed : Bool) → IsChunk f Lossy bytes rest chunk →
+    (is_ill_formed ≡ false → IsChunk f Strict bytes rest chunk) → refuses which is_ill_formed ≡ false → IsChunk f which bytes rest chunk
+read_unless_refused f Strict bytes rest chunk is_ill_formed lossy strict fine = strict fine
+read_unless_refused f Lossy bytes rest chunk is_ill_formed lossy strict fine = lossy
+
 -- Reading stops at the end, or behind an ill-formed byte that is refused: then something was read,
 pub read_some : (which : Strictness) (n len : ℕ) (is_ill_formed : Bool) → (ltb n len && not (refuses which is_ill_formed)) ≡ false →
     0 < len → (is_ill_formed ≡ true → 0 < n) → 0 < n

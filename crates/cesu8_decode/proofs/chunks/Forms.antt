@@ -9,8 +9,8 @@ use Rattle.cesu8_bytes.specs.TextChunks.{IsReadSoFar}
 use Rattle.cesu8_bytes.specs.declared.options.Strictness.{Strictness}
 use Rattle.cesu8_decode.specs.DecodedOffsets.{IsPrefixOf, one_at, two_at, three_at, continues, fits_three}
 use Rattle.cesu8_decode.specs.Forms.{HasForm, HasNoForm, form_len, IsUtf8OfForm}
-use Rattle.cesu8_decode.specs.declared.characters.Form.{Form}
-use Rattle.cesu8_decode.specs.declared.characters.Form.TheVariants.{Pair, Null, Two, Three}
+use Rattle.cesu8_decode.specs.declared.forms.Form.{Form}
+use Rattle.cesu8_decode.specs.declared.forms.Form.TheVariants.{Pair, Null, Two, Three}
 use Rattle.cesu8_text.proofs.text.Shapes.{utf8_of_two, utf8_of_three}
 use Rattle.cesu8_decode.proofs.by_offset.WidthTests.{two_found, three_found, pair_by_prefix, same_digits, long_by, continuation, fits_low}
 use Rattle.cesu8_decode.proofs.chunks.Characters.{kept_read, null_read, pair_read, pair_width, none_by_prefix}

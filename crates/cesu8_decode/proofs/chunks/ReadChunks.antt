@@ -101,9 +101,8 @@ fault_of_whole f bytes fault =
 
 -- What was read first is a chunk, or a fault where an ill-formed byte in it is refused.
 pub chunk_unless_refused : (f : Flavor) (which : Strictness) (bytes text : List ℕ) (read : ℕ) (is_ill_formed : Bool) →
-    ReadsFirst f bytes read text is_ill_formed → refuses which is_ill_formed ≡ false → IsChunk f which bytes (drop read bytes) text
-chunk_unless_refused f Strict bytes text read is_ill_formed first fine = first.strict fine
-chunk_unless_refused f Lossy bytes text read is_ill_formed first fine = first.lossy
+    ReadsFirst f which bytes read text is_ill_formed → refuses which is_ill_formed ≡ false → IsChunk f which bytes (drop read bytes) text
+chunk_unless_refused f which bytes text read is_ill_formed first fine = first.chunk fine
 
 -- Bytes that are well-formed are not refused.
 pub none_refused : (which : Strictness) → refuses which false ≡ false
@@ -116,13 +115,13 @@ if_refused Strict is_ill_formed refused = (refl, refused)
 if_refused Lossy is_ill_formed refused = absurd (false≢true refused)
 
 fault_if_refused : (f : Flavor) (which : Strictness) (bytes text : List ℕ) (read : ℕ) (is_ill_formed : Bool) →
-    ReadsFirst f bytes read text is_ill_formed → refuses which is_ill_formed ≡ true → (which ≡ Strict) × HasFault f bytes
+    ReadsFirst f which bytes read text is_ill_formed → refuses which is_ill_formed ≡ true → (which ≡ Strict) × HasFault f bytes
 fault_if_refused f which bytes text read is_ill_formed first refused =
     let is = if_refused which is_ill_formed refused in (is.0, first.ill_formed is.1)
 
 -- So bytes have no text where that of a chunk of them is refused,
 pub none_behind : (f : Flavor) (which : Strictness) (bytes rest text old out : List ℕ) (read : ℕ) (is_ill_formed : Bool) →
-    IsReadSoFar f which bytes rest old out → ReadsFirst f rest read text is_ill_formed → refuses which is_ill_formed ≡ true →
+    IsReadSoFar f which bytes rest old out → ReadsFirst f which rest read text is_ill_formed → refuses which is_ill_formed ≡ true →
     (which ≡ Strict) × HasNoStrictReading f bytes
 none_behind f which bytes rest text old out read is_ill_formed so_far first refused =
     let found = fault_if_refused f which rest text read is_ill_formed first refused in
@@ -130,7 +129,7 @@ none_behind f which bytes rest text old out read is_ill_formed so_far first refu
 
 -- or of the first one.
 pub none_if_refused : (f : Flavor) (which : Strictness) (bytes text : List ℕ) (read : ℕ) (is_ill_formed : Bool) →
-    ReadsFirst f bytes read text is_ill_formed → refuses which is_ill_formed ≡ true → (which ≡ Strict) × HasNoStrictReading f bytes
+    ReadsFirst f which bytes read text is_ill_formed → refuses which is_ill_formed ≡ true → (which ≡ Strict) × HasNoStrictReading f bytes
 none_if_refused f which bytes text read is_ill_formed first refused =
     none_behind f which bytes bytes text [] [] read is_ill_formed (nothing_read f which bytes []) first refused
 
@@ -184,7 +183,7 @@ all_appended f which bytes text read is_ill_formed (Err (Memory error)) old new 
 
 -- and where a chunk of them is refused, they have none.
 pub chunk_refused : (f : Flavor) (which : Strictness) (bytes rest text old out : List ℕ) (read : ℕ) (is_ill_formed : Bool) (refusal : Refusal) →
-    IsReadSoFar f which bytes rest old out → ReadsFirst f rest read text is_ill_formed → IfNoText refusal (refuses which is_ill_formed ≡ true) →
+    IsReadSoFar f which bytes rest old out → ReadsFirst f which rest read text is_ill_formed → IfNoText refusal (refuses which is_ill_formed ≡ true) →
     IfNoText refusal (HasNoStrictReading f bytes)
 chunk_refused f which bytes rest text old out read is_ill_formed NoText so_far first refused =
     (none_behind f which bytes rest text old out read is_ill_formed so_far first refused).1

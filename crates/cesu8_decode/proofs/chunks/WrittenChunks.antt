@@ -22,13 +22,13 @@ nothing_written f bytes old = record {
 
 -- A chunk that is put behind what was written so far adds to it.
 pub chunk_written : (f : Flavor) (bytes rest chunk : List ℕ) (read : ℕ) (is_ill_formed : Bool) (at end : ℕ) (old between new : List ℕ) →
-    IsWrittenSoFar f bytes rest at old between → ReadsFirst f rest read chunk is_ill_formed →
+    IsWrittenSoFar f bytes rest at old between → ReadsFirst f Lossy rest read chunk is_ill_formed →
     take end new ≡ take at between ++ chunk → end ≡ at + length chunk → drop end new ≡ drop end between → length new ≡ length between →
     IsWrittenSoFar f bytes (drop read rest) end old new
 chunk_written f bytes rest chunk read is_ill_formed at end old between new so_far first put end_is behind len = record {
   so_far = more_read f Lossy bytes rest (drop read rest) [] (take at between) (take end new) so_far.so_far
-      (chunk_appended f Lossy rest (drop read rest) chunk (take at between) (take end new) first.lossy put);
-  room = omega (arith, end_is, so_far.room, chunk_length f rest (drop read rest) chunk first.lossy);
+      (chunk_appended f Lossy rest (drop read rest) chunk (take at between) (take end new) (first.chunk refl) put);
+  room = omega (arith, end_is, so_far.room, chunk_length f rest (drop read rest) chunk (first.chunk refl));
   behind = behind ∙ stays_behind old between at end (omega (arith, end_is)) so_far.behind;
   len = len ∙ so_far.len;
 }

@@ -2,7 +2,7 @@ use Rattle.std.proofs.Common.{[], arith, ◌∙◌, sym, refl, length-drop, drop
 use Rattle.std.proofs.lemmas.List.{take_rest, drop-drop}
 use Rattle.cesu8_bytes.specs.declared.options.Strictness.TheVariants.{Strict, Lossy}
 use Rattle.cesu8_decode.proofs.chunks.ReadChunks.{nothing_read}
-use Rattle.cesu8_decode.proofs.chunks.Characters.{more_lossy, more_strict, first_fault, read_some, read_all}
+use Rattle.cesu8_decode.proofs.chunks.Characters.{more_lossy, more_strict, first_fault, read_unless_refused, read_some, read_all}
 use Rattle.cesu8_decode.proofs.characters.write_characters.Goals as goal
 
 pub loop-read-init : goal.loop-read-init
@@ -47,8 +47,7 @@ returns-clause-read g c =
       first = record {
         some = λ nonempty. read_some which c.loop-read.read _ c.loop-read.is_ill_formed (rw c.is_refused.ensures at stopped) nonempty inv.some;
         within = inv.inside;
-        lossy = inv.lossy;
-        strict = inv.strict;
+        chunk = read_unless_refused g.F.Flavor.flavor which c.args.bytes.now _ _ c.loop-read.is_ill_formed inv.lossy inv.strict;
         ill_formed = inv.ill_formed;
       };
       all = λ fine. read_all which c.loop-read.read _ c.loop-read.is_ill_formed (rw c.is_refused.ensures at stopped) fine inv.inside;

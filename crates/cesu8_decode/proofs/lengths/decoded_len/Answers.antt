@@ -6,12 +6,12 @@ use Rattle.cesu8_bytes.specs.declared.options.Strictness.TheVariants.{Strict}
 use Rattle.cesu8_decode.proofs.chunks.SliceReadings.{only_unchanged, of_length, strict_no_longer}
 use Rattle.cesu8_decode.proofs.lengths.decoded_len.Goals as goal
 
-pub returns-then-is_text-clause-some : goal.returns-then-is_text-clause-some
-returns-then-is_text-clause-some g c =
+pub returns-then-is_utf8-clause-some : goal.returns-then-is_utf8-clause-some
+returns-then-is_utf8-clause-some g c =
     let f = g.F.Flavor.flavor in
     let bytes = c.args.bytes.now in
     of_length (IsStrictReading f bytes) (λ n. length bytes ≡ n) _ bytes
-    (only_unchanged f Strict bytes (c.is_text.ensures.0 c.if-is_text.true, iff_false c.contains_changed.ensures c.if-not-contains_changed.true)) refl
+    (only_unchanged f Strict bytes (c.is_utf8.ensures.0 c.if-is_utf8.true, iff_false c.contains_changed.ensures c.if-not-contains_changed.true)) refl
 
 -- The lossy reading is the strict one, and its length fits.
 pub returns-clause-some : goal.returns-clause-some

@@ -25,7 +25,7 @@ returns-then-buf-needed g c =
     let written = c.write_window-decoded.new.out in
     let chunks = only_two_chunks f which bytes _ _ _ _
     (c.in-Some.ensures.text which)
-    (chunk_unless_refused f which _ _ _ _ (rw take_rest at decoded.first) (sym c.is_refused.ensures ∙ c.if-is_refused.false)) (rw take_rest at (decoded.all (omega arith))) in
+    (chunk_unless_refused f which _ _ _ _ (rw take_rest at decoded.first) (sym c.is_refused.ensures ∙ c.if-is_refused.false)) (rw take_rest at (decoded.all (omega arith) (sym c.is_refused.ensures ∙ c.if-is_refused.false))) in
     let first = c.as_bytes-first.result.now in
     let only = rw (sym c.as_bytes-first.ensures.value) at chunks in
     let second = take end written in
@@ -43,7 +43,7 @@ returns g c =
     let written = c.write_window-decoded.new.out in
     let chunks = only_two_chunks f which bytes _ _ _ _
     (c.in-Some.ensures.text which)
-    (chunk_unless_refused f which _ _ _ _ (rw take_rest at decoded.first) (sym c.is_refused.ensures ∙ c.if-is_refused.false)) (rw take_rest at (decoded.all (omega arith))) in
+    (chunk_unless_refused f which _ _ _ _ (rw take_rest at decoded.first) (sym c.is_refused.ensures ∙ c.if-is_refused.false)) (rw take_rest at (decoded.all (omega arith) (sym c.is_refused.ensures ∙ c.if-is_refused.false))) in
     let first = c.as_bytes-first.result.now in
     let only = rw (sym c.as_bytes-first.ensures.value) at chunks in
     let second = take end written in

@@ -1,4 +1,4 @@
-use Rattle.std.proofs.Common.{◌∙◌, sym, ap, arith, length, ◌++◌, take, ◌+◌}
+use Rattle.std.proofs.Common.{◌∙◌, refl, sym, ap, arith, length, ◌++◌, take, ◌+◌}
 use Rattle.std.proofs.lemmas.Bool.{eqb-true}
 use Rattle.std.proofs.lemmas.List.{take_rest}
 use Rattle.cesu8_decode.proofs.chunks.ReadChunks.{chunk_length}
@@ -16,7 +16,7 @@ put-end-requires g c =
       c.loop-rest.invariant.room,
       c.loop-rest.invariant.len,
       ap length c.as_bytes.ensures.value,
-      chunk_length g.F.Flavor.flavor c.loop-rest.rest.now _ _ c.in-Joined.ensures.lossy,
+      chunk_length g.F.Flavor.flavor c.loop-rest.rest.now _ _ (c.in-Joined.ensures.chunk refl),
     )
 
 pub loop-rest-preserved-in-Joined : goal.loop-rest-preserved-in-Joined
@@ -34,7 +34,7 @@ put-end-requires-in-Written g c =
       c.requires,
       c.loop-rest.invariant.room,
       c.loop-rest.invariant.len,
-      chunk_length g.F.Flavor.flavor c.loop-rest.rest.now _ _ c.in-Written.ensures.0.lossy,
+      chunk_length g.F.Flavor.flavor c.loop-rest.rest.now _ _ (c.in-Written.ensures.0.chunk refl),
     )
 
 pub loop-rest-preserved : goal.loop-rest-preserved

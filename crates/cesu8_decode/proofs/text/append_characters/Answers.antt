@@ -3,8 +3,8 @@ use Rattle.cesu8_decode.proofs.chunks.ReadChunks.{all_appended, chunk_utf8}
 use Rattle.cesu8_decode.proofs.text.append_characters.Goals as goal
 
 pub append_written-requires-clause-utf8 : goal.append_written-requires-clause-utf8
-append_written-requires-clause-utf8 g c =
-    chunk_utf8 g.F.Flavor.flavor Lossy _ _ _ c.write_characters-decoded.ensures.read.first.lossy
+append_written-requires-clause-utf8 g c fine =
+    chunk_utf8 g.F.Flavor.flavor Lossy _ _ _ (c.write_characters-decoded.ensures.read.first.chunk fine)
 
 pub returns : goal.returns
 returns g c =

@@ -3,7 +3,6 @@ use Rattle.std.specs.String.{string_bytes}
 use Rattle.std.proofs.lemmas.Bool.{eqb-true}
 use Rattle.std.proofs.lemmas.List.{take_rest}
 use Rattle.cesu8_bytes.specs.TextChunks.{IsReadSoFar}
-use Rattle.cesu8_bytes.specs.declared.options.Strictness.TheVariants.{Lossy}
 use Rattle.cesu8_decode.proofs.chunks.ReadChunks.{nothing_read, all_read, more_read, chunk_appended, chunk_unless_refused, chunk_refused, chunk_utf8, none_refused}
 use Rattle.cesu8_decode.proofs.text.append_chunks.Goals as goal
 use Rattle.cesu8_decode.proofs.text.append_chunks.Goals.{in-Lossy+in_ok-behind, in_default}
@@ -30,7 +29,7 @@ loop-rest-preserved-in-Continue-branch-2 g c =
     (chunk_appended f which rest _ _ _ _ (chunk_unless_refused f which rest _ _ _ c.in-Joined.ensures (none_refused which)) c.in_ok-append-in-Joined.ensures.ok))
 
 pub append_written-requires-clause-utf8 : goal.append_written-requires-clause-utf8
-append_written-requires-clause-utf8 g c = chunk_utf8 g.F.Flavor.flavor Lossy _ _ _ c.in-Written.ensures.0.lossy
+append_written-requires-clause-utf8 g c fine = chunk_utf8 g.F.Flavor.flavor c.args.strictness _ _ _ (c.in-Written.ensures.0.chunk fine)
 
 pub loop-rest-preserved : goal.loop-rest-preserved
 loop-rest-preserved g c =

@@ -1,4 +1,5 @@
-use Rattle.std.proofs.Common.{◌+◌, ◌∙◌, arith, refl}
+use Rattle.std.proofs.Common.{◌+◌, ◌<◌, ◌∙◌, arith, refl}
+use Rattle.std.proofs.lemmas.Bool.{and_parts, ltb-true}
 use Rattle.cesu8_decode.specs.DecodedOffsets.{decoded, is_ill_formed_at}
 use Rattle.cesu8_decode.proofs.decoder.DecodedWindows.{kinds_of_zeros, five_kinds, more_ill_formed, none_ill_formed, more_written}
 use Rattle.cesu8_decode.proofs.windows.write_blocks.Goals as goal
@@ -9,6 +10,7 @@ unfolding decoded
 loop-at-init g c = record {
   within = omega arith;
   room = λ some. omega arith;
+  some = λ some. cc;
   end = omega arith;
   before = λ some. kinds_of_zeros g.F.Flavor.flavor c.args.window.now _ refl c.requires.zeros;
   len = refl;
@@ -23,13 +25,15 @@ loop-at-preserved g c =
     let window = c.args.window.now in
     let inv = c.loop-at.invariant in
     let block = c.write_block-block.ensures in
+    let inside : c.loop-at.at < c.args.count = ltb-true _ _ (and_parts _ _ c.loop-at-test.true).0 in
     record {
-      within = elim c.if-left-lt-BLOCK.branch [ then-left-lt-BLOCK w ↦ omega arith | else-left-lt-BLOCK w ↦ omega arith ];
-      room = λ more. elim c.if-left-lt-BLOCK.branch [ then-left-lt-BLOCK w ↦ omega arith | else-left-lt-BLOCK w ↦ omega arith ];
-      end = omega (arith, inv.room, block.end);
+      within = elim c.if-left-lt-BLOCK.branch [ then-left-lt-BLOCK w ↦ omega (arith, inside) | else-left-lt-BLOCK w ↦ omega (arith, inside) ];
+      room = λ more. elim c.if-left-lt-BLOCK.branch [ then-left-lt-BLOCK w ↦ omega (arith, inside) | else-left-lt-BLOCK w ↦ omega (arith, inside) ];
+      some = λ _. elim c.if-left-lt-BLOCK.branch [ then-left-lt-BLOCK w ↦ omega (arith, inside) | else-left-lt-BLOCK w ↦ omega (arith, inside) ];
+      end = omega (arith, inside, inv.room, block.end);
       before = λ more. elim c.if-left-lt-BLOCK.branch [
-        | then-left-lt-BLOCK w ↦ absurd (omega arith)
-        | else-left-lt-BLOCK w ↦ five_kinds f window _ (c.loop-at.at + 5) 27 _ (block.kinds (w.len-is)) (omega arith) (omega arith)
+        | then-left-lt-BLOCK w ↦ absurd (omega (arith, inside))
+        | else-left-lt-BLOCK w ↦ five_kinds f window _ (c.loop-at.at + 5) 27 _ (block.kinds (w.len-is)) (omega (arith, inside)) (omega (arith, inside))
       ];
       len = block.len ∙ inv.len;
       bytes = more_written f window _ _ c.loop-at.at c.if-left-lt-BLOCK.len inv.bytes block.bytes;

@@ -2,7 +2,7 @@ use Rattle.std.proofs.Common.{◌+◌, ◌-◌, ◌≤◌, ◌∙◌, length, ta
 use Rattle.std.proofs.lemmas.List.{take_all}
 use borrow.Rule.Slice.PartMut.{put_mid}
 use Rattle.cesu8_decode.proofs.by_offset.DecodedText.{IsPadded}
-use Rattle.cesu8_decode.proofs.decoder.DecodedWindows.{IsRead, between_zeros, all_read, part_read, read_lossily, read_strictly, read_fault}
+use Rattle.cesu8_decode.proofs.decoder.DecodedWindows.{IsRead, between_zeros, all_read, part_read, read_unless_refused, read_fault}
 use Rattle.cesu8_decode.proofs.windows.write_window.Goals as goal
 use Rattle.cesu8_decode.proofs.windows.write_window.Goals.{then-loaded-bytes, else-loaded-bytes}
 
@@ -26,7 +26,6 @@ returns-clause-first g c =
     record {
       some = search rules;
       within = search rules;
-      lossy = read_lossily f bytes window read is_read _ _ blocks.read blocks.bytes;
-      strict = λ fine. read_strictly f bytes window read is_read _ _ blocks.read blocks.bytes (blocks.whole fine);
+      chunk = read_unless_refused f bytes window read is_read c.args.strictness _ _ _ blocks.bytes blocks.all blocks.whole;
       ill_formed = λ ill_formed. read_fault f bytes window read is_read (blocks.ill_formed ill_formed);
     }

@@ -1,7 +1,7 @@
 use Rattle.std.proofs.Common.{◌∙◌, ◌-◌, ◌<◌, ◌≤◌, ◌++◌, refl, sym, ap, ⊎_elim, arith, length, drop, replicate, get_or}
 use Rattle.std.proofs.lemmas.Bool.{cases_lt}
 use Rattle.std.proofs.lemmas.List.{get_or_append_left, get_or-append_right, get_or_past, get_or-replicate, drop-replicate}
-use Rattle.cesu8_decode.proofs.characters.prefix_of.Goals as goal
+use Rattle.cesu8_decode.proofs.forms.prefix_of.Goals as goal
 
 pub returns-clause-prefix : goal.returns-clause-prefix
 returns-clause-prefix c i small =

@@ -2,8 +2,8 @@ use Rattle.std.proofs.Common.{◌∙◌, sym, get_or, arith}
 use Rattle.std.proofs.lemmas.Str.{encode_ascii}
 use Rattle.cesu8_text.proofs.StdUtf8.{utf8_of_encode}
 use Rattle.cesu8_decode.proofs.chunks.Forms.{two_utf8, three_utf8, pair_utf8}
-use Rattle.cesu8_decode.proofs.characters.character_of.Goals as goal
-use Rattle.cesu8_decode.proofs.characters.character_of.Goals.{in-Pair, in-Null, in-Two, in-Three}
+use Rattle.cesu8_decode.proofs.forms.character_of.Goals as goal
+use Rattle.cesu8_decode.proofs.forms.character_of.Goals.{in-Pair, in-Null, in-Two, in-Three}
 
 pub returns : goal.returns
 returns g c =

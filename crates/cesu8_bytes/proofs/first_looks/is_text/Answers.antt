@@ -1,7 +1,0 @@
-use Rattle.std.proofs.Common.{refl}
-use Rattle.std.proofs.lemmas.Str.{IsUtf8-from_ascii}
-use Rattle.cesu8_bytes.proofs.first_looks.is_text.Goals as goal
-
-pub returns-then-is_ascii : goal.returns-then-is_ascii
-returns-then-is_ascii c =
-    ((λ _. IsUtf8-from_ascii c.args.bytes.now (c.is_ascii.ensures c.if-is_ascii.true)), λ _. refl)
