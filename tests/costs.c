@@ -446,8 +446,8 @@ __attribute__((noinline)) void end_counting(void)
     __asm__ volatile("" ::: "memory");
 }
 
-// Makes a call on all inputs, and returns how many answers there are. Between two calls there is
-// only the branch of the loop, so that the library's are guessed alike whatever compiler builds this.
+// Makes a call on all inputs, and returns how many answers there are. Between two calls is only the
+// branch of the loop, so that the library's are guessed alike whatever compiler builds this.
 static size_t make(const struct call *call, struct inputs inputs)
 {
     size_t room = call->writes ? inputs.room : 0;

@@ -60,20 +60,23 @@ build_calls() {
         -I "$top/bench" -o "$scratch/costs" "$top/tests/costs.c" ./measured.so) || exit 2
 }
 
-# Runs a program under callgrind in the folder of a level, with no environment:
-# `simulate LEVEL WORD..`. What callgrind counts is in $scratch/counts then, and what the program
-# prints in $scratch/printed.
+# Runs a program under callgrind in the folder of a level: `simulate LEVEL FLAGS PROGRAM WORD..`.
+# What callgrind counts is in $scratch/counts then, and what the program prints in $scratch/printed.
+# The program gets no environment, not even valgrind's, which has the folder's name: its length moves
+# the stack, and by that copies in the C library take other ways.
 simulate() {
-    local level=$1
-    shift
+    local level=$1 flags
+    read -r -a flags <<<"$2"
+    shift 2
     (cd "$scratch/$level" && exec env -i "$valgrind" -q --tool=callgrind --branch-sim=yes \
         --callgrind-out-file="$scratch/counts" --compress-strings=no --compress-pos=no \
-        --combine-dumps=yes "$@") >"$scratch/printed" </dev/null
+        --combine-dumps=yes --trace-children=yes "${flags[@]}" "$env" -i "$@"
+    ) >"$scratch/printed" </dev/null
 }
 
 # The single calls at a level, each with its cost and what was counted apart.
 cost_of_calls() {
-    simulate "$1" --zero-before=begin_counting --dump-before=end_counting ../costs || return
+    simulate "$1" '--zero-before=begin_counting --dump-before=end_counting' ../costs || return
     # Behind the last call is the end of the program.
     awk -v library=measured.so -v driver=costs -f "$top/tests/costs.awk" "$scratch/counts" |
         head -n -1 | paste -d ' ' "$scratch/printed" - |
@@ -82,7 +85,7 @@ cost_of_calls() {
 
 # The two sums of a run of a workload: `sums_of LEVEL NAME ROUNDS`.
 sums_of() {
-    simulate "$1" ./workloads "$2" 1 "$3" &&
+    simulate "$1" '' ./workloads "$2" 1 "$3" &&
         awk -v library=workloads -v driver=none -f "$top/tests/costs.awk" "$scratch/counts"
 }
 
@@ -141,10 +144,11 @@ esac
 can_build_c 'the costs of calls' || exit 0
 can_build 'the costs of calls' valgrind --tool=callgrind --callgrind-out-file=/dev/null \
     "$scratch/probe" || exit 0
-valgrind=$(command -v valgrind)
+valgrind=$(command -v valgrind) env=$(command -v env)
 if ! grep -qw avx2 /proc/cpuinfo; then
     echo 'the processor has no AVX2: the costs at x86-64-v3 skipped'
     levels=(x86-64-v2)
+    [[ ${1-} != --write ]] || { echo 'bench/costs.txt has both levels: not written' >&2; exit 2; }
 fi
 
 # What is built last is left.
@@ -154,7 +158,7 @@ for level in "${levels[@]}"; do
     { cost_of_workloads "$level" && cost_of_calls "$level"; } >>"$scratch/costs.txt" || exit 2
 done
 case ${1-} in
-    --show) column -t "$scratch/costs.txt" ;;
+    --show) cat "$scratch/costs.txt" ;;
     --write) { written >"$scratch/new.txt" && cp "$scratch/new.txt" "$lines"; } || exit 2 ;;
 esac
 compare >"$scratch/differs"
