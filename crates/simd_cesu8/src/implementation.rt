@@ -1,3 +1,32 @@
-//! The kernels: whether bytes have one that encoding changes. Their names may change.
+//! What the crates of this repository above this one use beside its calls: the kernels, which find
+//! a byte that encoding changes, and the test for UTF-8. Their names may change.
 
+ghost use Rattle.std.specs.Prelude.{◌≡◌, IfSome, IfNone, IsUtf8};
+
+use crate::internal::{ascii_text, is_short_ascii, tested_text};
+use cesu8_bytes::implementation::short::SHORT_VALUE;
 pub use cesu8_bytes::implementation::{active, fallback, simd, word};
+
+/// Returns the bytes as a text if they are UTF-8, as the calls that decode test them. It requests
+/// no memory.
+///
+/// ```rust
+/// use simd_cesu8::implementation;
+///
+/// assert_eq!(rt; implementation::text_of(b"caf\xC3\xA9"), Some("caf\u{E9}"));
+/// assert_eq!(rt; implementation::text_of(b"caf\xE9"), None);
+/// ```
+#[inline(always)]
+pub fn text_of(bytes: &[u8]) -> Option<&str>
+    ensures some { IfSome result (λ text. text.now ≡ bytes.now) }
+    ensures none { IfNone result (¬ (IsUtf8 bytes.now)) }
+{
+    if bytes.len() <= SHORT_VALUE && is_short_ascii(bytes) {
+        return Some(ascii_text(bytes));
+    }
+    let text = tested_text(bytes);
+    if text.len() != bytes.len() {
+        return None;
+    }
+    Some(text)
+}
