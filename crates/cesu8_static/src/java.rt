@@ -5,8 +5,8 @@ ghost use Rattle.java_text.specs.Form.{count_in, counted, IsTruncated};
 ghost use Rattle.cesu8_static.specs.Answers.{WritesForm, ReadsForm, ReadsFormLossily};
 
 use crate::answer::{Answer, NOT_UTF8, Reading, TOO_LONG, TRUNCATED};
-use crate::input::{BLOCK, text_of};
 use java_text::{WriteSliceFault, write_utf_to_slice};
+use simd_cesu8::implementation::text_of;
 use simd_cesu8::mutf8;
 
 /// Writes UTF-8 as `java_text::write_utf_to_slice` does (Java's `DataOutput.writeUTF`): the length
@@ -16,8 +16,7 @@ use simd_cesu8::mutf8;
 pub extern "C" fn cesu8_java_write(text: &[u8], buf: &mut [u8]) -> Answer
     ensures { WritesForm text.now result buf.old buf.new }
 {
-    let mut block = [0; BLOCK];
-    let Some(text) = text_of(text, &mut block) else {
+    let Some(text) = text_of(text) else {
         return Answer::without(NOT_UTF8);
     };
     match write_utf_to_slice(text, buf) {

@@ -14,14 +14,13 @@ ghost use Rattle.cesu8_static.specs.Answers.{DecidesNeed, TellsEncodedLength, Te
 
 mod answer;
 mod comparison;
-mod input;
 pub mod java;
 pub mod mutf8;
 
 pub use crate::answer::{Answer, Decision, Reading};
 use crate::answer::{INVALID, NOT_UTF8, TOO_LONG};
 pub use crate::comparison::Comparison;
-use crate::input::{BLOCK, text_of};
+use simd_cesu8::implementation::text_of;
 
 /// Returns whether the CESU-8 of a text in UTF-8 differs from the UTF-8, as
 /// `simd_cesu8::needs_encoded` does. `NOT_UTF8` means that the input is not UTF-8.
@@ -29,7 +28,7 @@ use crate::input::{BLOCK, text_of};
 pub extern "C" fn cesu8_needs_encoded(text: &[u8]) -> Decision
     ensures { DecidesNeed Cesu8 text.now result }
 {
-    match text_of(text, &mut [0; BLOCK]) {
+    match text_of(text) {
         Some(text) => Decision::of(simd_cesu8::needs_encoded(text)),
         None => Decision::without(),
     }
@@ -41,7 +40,7 @@ pub extern "C" fn cesu8_needs_encoded(text: &[u8]) -> Decision
 pub extern "C" fn cesu8_encoded_len(text: &[u8]) -> Answer
     ensures { TellsEncodedLength Cesu8 text.now result }
 {
-    match text_of(text, &mut [0; BLOCK]) {
+    match text_of(text) {
         Some(text) => Answer::of_length(simd_cesu8::encoded_len(text)),
         None => Answer::without(NOT_UTF8),
     }
@@ -53,7 +52,7 @@ pub extern "C" fn cesu8_encoded_len(text: &[u8]) -> Answer
 pub extern "C" fn cesu8_utf16_len(text: &[u8]) -> Answer
     ensures { TellsUtf16Length text.now result }
 {
-    match text_of(text, &mut [0; BLOCK]) {
+    match text_of(text) {
         Some(text) => Answer::of_length(simd_cesu8::utf16_len(text)),
         None => Answer::without(NOT_UTF8),
     }
@@ -65,11 +64,10 @@ pub extern "C" fn cesu8_utf16_len(text: &[u8]) -> Answer
 pub extern "C" fn cesu8_compare_as_utf16(text: &[u8], other: &[u8]) -> Comparison
     ensures { ComparesTexts text.now other.now result }
 {
-    let mut block = [0; BLOCK];
-    let Some(text) = text_of(text, &mut block) else {
+    let Some(text) = text_of(text) else {
         return Comparison::without();
     };
-    match text_of(other, &mut [0; BLOCK]) {
+    match text_of(other) {
         Some(other) => Comparison::of(simd_cesu8::compare_as_utf16(text, other)),
         None => Comparison::without(),
     }
@@ -81,7 +79,7 @@ pub extern "C" fn cesu8_compare_as_utf16(text: &[u8], other: &[u8]) -> Compariso
 pub extern "C" fn cesu8_encode(text: &[u8], buf: &mut [u8]) -> Answer
     ensures { Encodes Cesu8 text.now result buf.old buf.new }
 {
-    match text_of(text, &mut [0; BLOCK]) {
+    match text_of(text) {
         Some(text) => Answer::of_bytes(simd_cesu8::encode_to_slice(text, buf)),
         None => Answer::without(NOT_UTF8),
     }

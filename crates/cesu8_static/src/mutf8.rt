@@ -6,7 +6,7 @@ ghost use Rattle.simd_cesu8.specs.Reading.{IsStrictReading, IsLenientReading, re
 ghost use Rattle.cesu8_static.specs.Answers.{DecidesNeed, TellsEncodedLength, TellsDecodedLength, TellsLossyLength, Encodes, Decodes, DecodesLossily};
 
 use crate::answer::{Answer, Decision, INVALID, NOT_UTF8, TOO_LONG};
-use crate::input::{BLOCK, text_of};
+use simd_cesu8::implementation::text_of;
 use simd_cesu8::mutf8;
 
 /// Returns whether the MUTF-8 of a text in UTF-8 differs from the UTF-8, as `mutf8::needs_encoded`
@@ -15,7 +15,7 @@ use simd_cesu8::mutf8;
 pub extern "C" fn cesu8_mutf8_needs_encoded(text: &[u8]) -> Decision
     ensures { DecidesNeed Mutf8 text.now result }
 {
-    match text_of(text, &mut [0; BLOCK]) {
+    match text_of(text) {
         Some(text) => Decision::of(mutf8::needs_encoded(text)),
         None => Decision::without(),
     }
@@ -27,7 +27,7 @@ pub extern "C" fn cesu8_mutf8_needs_encoded(text: &[u8]) -> Decision
 pub extern "C" fn cesu8_mutf8_encoded_len(text: &[u8]) -> Answer
     ensures { TellsEncodedLength Mutf8 text.now result }
 {
-    match text_of(text, &mut [0; BLOCK]) {
+    match text_of(text) {
         Some(text) => Answer::of_length(mutf8::encoded_len(text)),
         None => Answer::without(NOT_UTF8),
     }
@@ -39,7 +39,7 @@ pub extern "C" fn cesu8_mutf8_encoded_len(text: &[u8]) -> Answer
 pub extern "C" fn cesu8_mutf8_encode(text: &[u8], buf: &mut [u8]) -> Answer
     ensures { Encodes Mutf8 text.now result buf.old buf.new }
 {
-    match text_of(text, &mut [0; BLOCK]) {
+    match text_of(text) {
         Some(text) => Answer::of_bytes(mutf8::encode_to_slice(text, buf)),
         None => Answer::without(NOT_UTF8),
     }
