@@ -4,7 +4,7 @@
 ghost use Rattle.std.specs.Prelude.{◌<◌};
 
 use crate::outcome::{Outcome, tell_length, without_answer};
-use simdutf8::compat;
+use simd_cesu8::implementation::text_of;
 
 /// Texts of one length, in bytes, one after another.
 #[derive(Clone, Copy)]
@@ -25,7 +25,7 @@ pub fn tell_sum<F: Fn(&str) -> Option<usize>>(
 ) -> Outcome
     requires { F.IsAlwaysCallable call }
 {
-    let Ok(all) = compat::from_utf8(texts) else {
+    let Some(all) = text_of(texts) else {
         return without_answer(true);
     };
     match repeated_sum(Texts { all, length }, times, call) {

@@ -19,16 +19,15 @@ use crate::outcome::{
     tell_bytes, tell_bytes_written, tell_length, tell_lossy_text, tell_lossy_written, tell_text,
     tell_written, without_answer,
 };
-use simd_cesu8::implementation::active;
-use simdutf8::compat;
+use simd_cesu8::implementation::{active, text_of};
 use std::alloc::Global;
 
 /// Calls `simd_cesu8::encode`.
 #[unsafe(no_mangle)]
 pub extern "C" fn measured_encode(alloc: Global, text: &[u8], buf: &mut [u8]) -> Outcome {
-    match compat::from_utf8(text) {
-        Ok(text) => tell_bytes(simd_cesu8::encode(alloc, text), buf),
-        Err(_) => without_answer(true),
+    match text_of(text) {
+        Some(text) => tell_bytes(simd_cesu8::encode(alloc, text), buf),
+        None => without_answer(true),
     }
 }
 
@@ -48,9 +47,9 @@ pub extern "C" fn measured_decode_strict(alloc: Global, bytes: &[u8], buf: &mut 
 #[unsafe(no_mangle)]
 pub extern "C" fn measured_encoded_len(text: &[u8], buf: &mut [u8]) -> Outcome {
     let _ = buf;
-    match compat::from_utf8(text) {
-        Ok(text) => tell_length(simd_cesu8::encoded_len(text)),
-        Err(_) => without_answer(true),
+    match text_of(text) {
+        Some(text) => tell_length(simd_cesu8::encoded_len(text)),
+        None => without_answer(true),
     }
 }
 
@@ -151,8 +150,8 @@ pub extern "C" fn measured_decode_lossy_strict_to_slice(bytes: &[u8], buf: &mut 
 /// Calls `simd_cesu8::encode_to_slice`.
 #[unsafe(no_mangle)]
 pub extern "C" fn measured_encode_to_slice(text: &[u8], buf: &mut [u8]) -> Outcome {
-    match compat::from_utf8(text) {
-        Ok(text) => tell_bytes_written(simd_cesu8::encode_to_slice(text, buf)),
-        Err(_) => without_answer(true),
+    match text_of(text) {
+        Some(text) => tell_bytes_written(simd_cesu8::encode_to_slice(text, buf)),
+        None => without_answer(true),
     }
 }

@@ -5,16 +5,16 @@ use crate::outcome::{
     Outcome, tell_bytes, tell_bytes_written, tell_length, tell_lossy_text, tell_lossy_written,
     tell_text, tell_written, without_answer,
 };
+use simd_cesu8::implementation::text_of;
 use simd_cesu8::mutf8;
-use simdutf8::compat;
 use std::alloc::Global;
 
 /// Calls `mutf8::encode`.
 #[unsafe(no_mangle)]
 pub extern "C" fn measured_mutf8_encode(alloc: Global, text: &[u8], buf: &mut [u8]) -> Outcome {
-    match compat::from_utf8(text) {
-        Ok(text) => tell_bytes(mutf8::encode(alloc, text), buf),
-        Err(_) => without_answer(true),
+    match text_of(text) {
+        Some(text) => tell_bytes(mutf8::encode(alloc, text), buf),
+        None => without_answer(true),
     }
 }
 
@@ -38,9 +38,9 @@ pub extern "C" fn measured_mutf8_decode_strict(
 #[unsafe(no_mangle)]
 pub extern "C" fn measured_mutf8_encoded_len(text: &[u8], buf: &mut [u8]) -> Outcome {
     let _ = buf;
-    match compat::from_utf8(text) {
-        Ok(text) => tell_length(mutf8::encoded_len(text)),
-        Err(_) => without_answer(true),
+    match text_of(text) {
+        Some(text) => tell_length(mutf8::encoded_len(text)),
+        None => without_answer(true),
     }
 }
 
@@ -127,8 +127,8 @@ pub extern "C" fn measured_mutf8_decode_lossy_strict_to_slice(
 /// Calls `mutf8::encode_to_slice`.
 #[unsafe(no_mangle)]
 pub extern "C" fn measured_mutf8_encode_to_slice(text: &[u8], buf: &mut [u8]) -> Outcome {
-    match compat::from_utf8(text) {
-        Ok(text) => tell_bytes_written(mutf8::encode_to_slice(text, buf)),
-        Err(_) => without_answer(true),
+    match text_of(text) {
+        Some(text) => tell_bytes_written(mutf8::encode_to_slice(text, buf)),
+        None => without_answer(true),
     }
 }
