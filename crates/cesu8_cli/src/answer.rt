@@ -12,15 +12,9 @@ ghost use Rattle.cesu8_cli.specs.Answer.{IsAnswer, TakesNoMemory, IsUtf8Fault, I
 use crate::command::{Command, FlavorWord};
 use crate::fault::RunFault;
 use java_text::{read_utf, write_utf};
+use simd_cesu8::implementation::text_of;
 use simd_cesu8::{CowBytes, CowText, laws, mutf8};
-use simdutf8::basic;
 use std::alloc::Global;
-
-/// How many bytes are tested before all are.
-const FRONT: usize = 4096;
-
-/// The most bytes of a character.
-const MOST_OF_CHARACTER: usize = 4;
 
 /// Returns the output of the command, or the fault.
 #[tactic(auto, unfolding(crate::specs::Answer::IsAnswer))]
@@ -82,29 +76,10 @@ fn input_text(input: &[u8]) -> Result<&str, RunFault>
     ensures ok { IfOk result (λ text. IsUtf8Of (chars text.now) input.now) }
     ensures err { IfErr result (λ fault. IsUtf8Fault input.now fault) }
 {
-    if fails_early(input) {
-        return Err(RunFault::NotUtf8);
+    match text_of(input) {
+        Some(text) => Ok(text),
+        None => Err(RunFault::NotUtf8),
     }
-    match basic::from_utf8(input) {
-        Ok(text) => Ok(text),
-        Err(_) => Err(RunFault::NotUtf8),
-    }
-}
-
-/// Returns whether the bytes up to a character near the front show that the input is not UTF-8. The
-/// test of the whole reads all, wherever a fault is.
-fn fails_early(input: &[u8]) -> bool
-    ensures { IsTrue result → ¬ (IsUtf8 input.now) }
-{
-    for end in FRONT..FRONT + MOST_OF_CHARACTER {
-        match input.get(end) {
-            Some(next) if *next < 0x80 || *next >= 0xC0 => {
-                return !simdutf8::is_utf8(&input[..end]);
-            }
-            _ => {}
-        }
-    }
-    false
 }
 
 fn decode(alloc: Global, flavor: FlavorWord, input: &[u8]) -> Result<CowBytes<'_>, RunFault>
