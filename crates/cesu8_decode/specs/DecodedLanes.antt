@@ -3,7 +3,7 @@ use Rattle.std.specs.Prelude.{◌≡◌, ℕ, ◌+◌, ◌-◌, ◌*◌, ◌/◌
 use Rattle.std.specs.List.{range_with_len}
 use Rattle.cesu8_text.specs.Encoding.{Flavor}
 use Rattle.cesu8_bytes.specs.Joining.{null_at}
-use Rattle.cesu8_bytes.specs.Packing.{written, kept_of, shuffle_keeping}
+pub use Rattle.cesu8_bytes.specs.Packing.{written, written_for, kept_of, shuffle_keeping, shuffle_of_eight, AreShufflesOfEight}
 use Rattle.cesu8_decode.specs.DecodedOffsets.{two_at, three_at, pair_at, first_width_by, width_at, is_ill_formed_at}
 
 -- The kind of the character that begins at an offset, by the six bytes there: a bit, or 0 if none
