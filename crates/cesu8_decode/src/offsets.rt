@@ -126,7 +126,8 @@ pub type Kinds = [u8x32; 6];
 /// the last five count. Before the first block they are zeros. `parts` reads them by their index.
 #[inline(always)]
 pub fn near(before: u8x32, here: u8x32) -> Kinds
-    ensures { (f : Flavor) (window : List ℕ) (at : ℕ) → AreFiveKinds f window at before (BLOCK - BEHIND)
+    ensures { (f : Flavor) (window : List ℕ) (at : ℕ)
+        → AreFiveKinds f window at before (BLOCK - BEHIND)
         → here ≡ map (start_kind f window) (range_with_len (at + BEHIND) BLOCK)
         → AreKindsNear f window at result }
 {
