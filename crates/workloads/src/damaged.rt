@@ -62,7 +62,7 @@ fn refuse_all(alloc: Global, others: &Pool, digest: &mut Digest) {
     }
 }
 
-/// Makes damaged texts, of some 40 bytes to 20 KB: cut at a length in bytes, with Latin-1 in
+/// Makes damaged texts, of some 60 bytes to 11 KB: cut at a length in bytes, with Latin-1 in
 /// between, or in the other encoding in part.
 fn damaged(alloc: Global, random: &mut Random) -> Result<Pool, AllocError> {
     let mut pool = Pool::new(alloc);
@@ -111,7 +111,7 @@ fn push_damaged_line(
     }
 }
 
-/// Makes inputs of 8 bytes to 1 KiB that are mostly no encoding: Latin-1, UTF-8 with characters of
+/// Makes inputs of 5 to 1,100 bytes that are mostly no encoding: Latin-1, UTF-8 with characters of
 /// four bytes, UTF-16, random bytes, or an encoding that is cut.
 fn others(alloc: Global, random: &mut Random) -> Result<Pool, AllocError> {
     let mut pool = Pool::new(alloc);

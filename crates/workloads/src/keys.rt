@@ -84,7 +84,7 @@ fn look_through(pool: &Pool, digest: &mut Digest) {
     }
 }
 
-/// Makes the keys, of 8 to 80 bytes.
+/// Makes the keys, of some 6 to 116 bytes, and mostly of 20 to 70.
 fn keys(alloc: Global, random: &mut Random) -> Result<Pool, AllocError> {
     let mut pool = Pool::new(alloc);
     for _ in 0..KEYS {

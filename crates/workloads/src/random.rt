@@ -30,8 +30,8 @@ impl Random {
         least + self.below(most - least + 1)
     }
 
-    /// Returns a number from `least` to `least` times two to the `doublings`, evenly on a scale of
-    /// logarithms.
+    /// Returns `least`, doubled up to `doublings` times, and a number below `least` more. Each number
+    /// of doublings has the same chance.
     pub fn of_any_size(&mut self, least: u32, doublings: u32) -> u32
         requires { (0 < least) × (least < 65536) × (doublings < 12) }
     {
