@@ -17,7 +17,7 @@ use std::simd::prelude::*;
 const TESTED_AT_ONCE: usize = 16 * LANES;
 
 /// How many bytes are tested for ASCII at once where all mostly are.
-const GROUP: usize = 4 * LANES;
+pub const GROUP: usize = 4 * LANES;
 
 /// How many bytes one look shows at the front of others.
 pub const SHOWN_AT_ONCE: usize = LANES;

@@ -58,6 +58,8 @@ pub enum FirstLook {
     Changed,
     /// The bytes are not UTF-8.
     NotUtf8,
+    /// The bytes are neither UTF-8 nor an encoding.
+    NoText,
 }
 
 /// Returns what a first look shows. It finds encodings that are not UTF-8 among a few bytes alone.
@@ -72,6 +74,9 @@ pub fn first_look<F: Flavor>(bytes: &[u8]) -> FirstLook
             look_at_ends[Either<F::Null, FourByteLead>](bytes),
             FirstLook::Unchanged
         );
+    }
+    if shows_no_text(bytes) {
+        return FirstLook::NoText;
     }
     if contains_changed::<F>(bytes) {
         return FirstLook::Changed;
@@ -91,8 +96,13 @@ fn look_at_ends<C: InVectors<N>, const N: usize>(bytes: &[u8]) -> FirstLook
     }
     let has_c0 = any_in_ends::<Equal<0xC0>, N>(bytes);
     let end = bytes.len() - 1 - N;
-    if has_c0 | has_surrogate::<N>(bytes, 0) | has_surrogate::<N>(bytes, end) {
-        return FirstLook::NotUtf8;
+    let is_no_text = N >= SHOWING && is_misplaced::<N>(bytes);
+    if is_no_text | has_c0 | has_surrogate::<N>(bytes, 0) | has_surrogate::<N>(bytes, end) {
+        return if is_no_text {
+            FirstLook::NoText
+        } else {
+            FirstLook::NotUtf8
+        };
     }
     FirstLook::Unchanged
 }
@@ -107,7 +117,7 @@ fn has_surrogate<const N: usize>(bytes: &[u8], at: usize) -> bool
     adjoin::<Equal<0xED>, AtLeast<0xA0>, N>(bytes, at)
 }
 
-/// How many bytes show whether others are no text.
+/// So many bytes show whether others are no text. Fewer are tested for UTF-8 in hardly more time.
 const SHOWING: usize = 16;
 
 /// Returns whether the first bytes show that all are no text: neither UTF-8 nor an encoding. In
@@ -117,17 +127,28 @@ pub fn shows_no_text(bytes: &[u8]) -> bool
     ensures not_utf8 { IsTrue result → ¬ (IsUtf8 bytes.now) }
     ensures not_encoded { IsTrue result → (f : AnyFlavor) → HasNoStrictReading f bytes.now }
 {
-    bytes.len() > SHOWING && is_continuation(bytes[0]) | has_misplaced(bytes)
+    bytes.len() > SHOWING && is_misplaced::<SHOWING>(bytes)
 }
 
-/// Returns whether one of the first bytes is followed by what may not follow it.
+/// Returns whether the first byte continues a character, or one of the first `N` is followed by what
+/// may not follow it.
 #[inline(always)]
-fn has_misplaced(bytes: &[u8]) -> bool
-    requires { SHOWING < length bytes.now }
+fn is_misplaced<const N: usize>(bytes: &[u8]) -> bool
+    requires { (N ≤ LANES) × (N < length bytes.now) }
+    ensures not_utf8 { IsTrue result → ¬ (IsUtf8 bytes.now) }
+    ensures not_encoded { IsTrue result → (f : AnyFlavor) → HasNoStrictReading f bytes.now }
+{
+    is_continuation(bytes[0]) | has_misplaced::<N>(bytes)
+}
+
+/// Returns whether one of the first `N` bytes is followed by what may not follow it.
+#[inline(always)]
+fn has_misplaced<const N: usize>(bytes: &[u8]) -> bool
+    requires { (N ≤ LANES) × (N < length bytes.now) }
     ensures { IsTrue result → ¬ (AreFollowed bytes.now) }
 {
-    let first: Simd<u8, SHOWING> = Simd::from_slice(bytes);
-    let behind: Simd<u8, SHOWING> = Simd::from_slice(&bytes[1..]);
+    let first: Simd<u8, N> = Simd::from_slice(bytes);
+    let behind: Simd<u8, N> = Simd::from_slice(&bytes[1..]);
     // Of what is no continuation byte, a lead byte has one behind it, and ASCII has none.
     let differ = NonAscii::marks(first) ^ Continuation::marks(behind);
     (NoContinuation::marks(first) & differ).any()
@@ -153,7 +174,10 @@ fn shows_no_utf8(bytes: &[u8]) -> bool
 fn has_no_utf8(bytes: &[u8]) -> bool
     ensures { IsTrue result → ¬ (IsUtf8 bytes.now) }
 {
-    matches!(first_look::<Cesu8Flavor>(bytes), FirstLook::NotUtf8)
+    matches!(
+        first_look::<Cesu8Flavor>(bytes),
+        FirstLook::NotUtf8 | FirstLook::NoText
+    )
 }
 
 /// Returns the bytes as a text if they are UTF-8, and otherwise the empty text, which no such bytes
@@ -196,12 +220,9 @@ pub fn tested_text(bytes: &[u8]) -> &str
 pub fn unchanged_text<F: Flavor>(bytes: &[u8]) -> &str
     ensures { IsTextWhere (IsUnchangedUtf8 F.flavor bytes.now) bytes.now result.now }
 {
-    if shows_no_text(bytes) {
-        return "";
-    }
     match first_look::<F>(bytes) {
         FirstLook::Unchanged => tested_text(bytes),
-        FirstLook::Changed | FirstLook::NotUtf8 => "",
+        FirstLook::Changed | FirstLook::NotUtf8 | FirstLook::NoText => "",
     }
 }
 

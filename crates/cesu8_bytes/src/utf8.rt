@@ -8,7 +8,7 @@ ghost use Rattle.std.specs.Prelude.{◌↔◌, ◌≡◌, ◌+◌, ◌*◌, ◌<
 ghost use Rattle.simdutf8.specs.Tracks.{HasRead};
 ghost use Rattle.cesu8_bytes.specs.declared.utf8.Look.TheVariants.{Fault};
 
-use crate::ascii::ascii_front;
+use crate::ascii::{GROUP, ascii_front};
 use crate::continuation::character_start;
 use crate::implementation::class::LANES;
 use crate::padded::{QUARTER, block_of_quarter, padded_block};
@@ -34,14 +34,28 @@ const PART_BEHIND_CUT: usize = 2;
 pub fn is_utf8(bytes: &[u8]) -> bool
     ensures { IsTrue result ↔ IsUtf8 bytes.now }
 {
-    if bytes.len() <= FEW {
-        return str::from_utf8(bytes).is_ok();
+    if bytes.len() >= GROUP {
+        let front = ascii_front(bytes);
+        return front == bytes.len() || are_blocks_utf8(bytes, front);
     }
-    if bytes.len() < QUARTER {
-        return Checker::new().step(block_of_quarter(bytes)).finish();
+    if bytes.len() > LANES {
+        return are_blocks_utf8(bytes, 0);
     }
-    let front = ascii_front(bytes);
-    front == bytes.len() || are_blocks_utf8(bytes, front)
+    if bytes.len() >= QUARTER {
+        return is_block_utf8(padded_block(bytes, 0));
+    }
+    if bytes.len() > FEW {
+        return is_block_utf8(block_of_quarter(bytes));
+    }
+    str::from_utf8(bytes).is_ok()
+}
+
+/// Returns whether a block is UTF-8.
+#[inline(always)]
+fn is_block_utf8(block: u8x64) -> bool
+    ensures { IsTrue result ↔ IsUtf8 block }
+{
+    Checker::new().step(block).finish()
 }
 
 /// Returns whether the bytes from an index on are UTF-8.

@@ -88,12 +88,10 @@ fn decode_strict_called<F: Flavor>(
 fn decode_strict_other<F: Flavor>(alloc: Global, bytes: &[u8]) -> Result<CowText<'_>, DecodeFault>
     ensures { DecodesStrictly F.flavor bytes.now result }
 {
-    if shows_no_text(bytes) {
-        return Err(internal::refuse(alloc, bytes.len()));
-    }
     match first_look::<F>(bytes) {
         // No encoding has a byte that changes, so there is nothing to decode.
         FirstLook::Changed => return Err(internal::refuse(alloc, bytes.len())),
+        FirstLook::NoText => return Err(internal::refuse(alloc, bytes.len())),
         FirstLook::Unchanged => {
             let text = tested_text(bytes);
             if text.len() == bytes.len() {

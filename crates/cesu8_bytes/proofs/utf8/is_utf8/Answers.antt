@@ -6,11 +6,6 @@ use Rattle.std.proofs.lemmas.Str.{IsUtf8-from_ascii}
 use Rattle.cesu8_bytes.proofs.chunks.CutUtf8.{without_zeros, behind_text}
 use Rattle.cesu8_bytes.proofs.utf8.is_utf8.Goals as goal
 
-pub returns-then-bytes-lt-QUARTER : goal.returns-then-bytes-lt-QUARTER
-returns-then-bytes-lt-QUARTER c =
-    without_zeros c.args.bytes.now c.block_of_quarter.result (64 - length c.args.bytes.now) c.finish.result c.block_of_quarter.ensures
-    (c.finish.ensures _ (c.step.ensures _ c.new.ensures))
-
 pub returns-then-front-bytes : goal.returns-then-front-bytes
 returns-then-front-bytes c = (
   λ _. IsUtf8-from_ascii c.args.bytes.now
@@ -23,3 +18,12 @@ returns-else-front-bytes c =
     let front = c.ascii_front-front.ensures in
     let same = behind_text c.args.bytes.now c.ascii_front-front.result front.0 (IsUtf8-from_ascii _ front.1) in
     (λ passed. same.0 (c.are_blocks_utf8.ensures.0 passed), λ text. c.are_blocks_utf8.ensures.1 (same.1 text))
+
+pub returns-then-bytes-ge-QUARTER : goal.returns-then-bytes-ge-QUARTER
+returns-then-bytes-ge-QUARTER c =
+    without_zeros c.args.bytes.now c.padded_block.result (64 - length c.args.bytes.now) c.is_block_utf8.result c.padded_block.ensures c.is_block_utf8.ensures
+
+pub returns-then-bytes-gt-FEW : goal.returns-then-bytes-gt-FEW
+returns-then-bytes-gt-FEW c =
+    without_zeros c.args.bytes.now c.block_of_quarter.result (64 - length c.args.bytes.now) c.is_block_utf8-then-bytes-gt-FEW.result c.block_of_quarter.ensures
+    c.is_block_utf8-then-bytes-gt-FEW.ensures

@@ -9,20 +9,20 @@ use Rattle.simd_cesu8.proofs.Faults.{refused_by_any}
 use Rattle.simd_cesu8.proofs.borrow_or_build.decode_strict_other.Goals as goal
 use Rattle.simd_cesu8.proofs.borrow_or_build.decode_strict_other.Goals.{in-Unchanged+else-text-bytes, in-NotUtf8}
 
-pub returns-then-shows_no_text : goal.returns-then-shows_no_text
-returns-then-shows_no_text g c = record {
+pub returns-in-NoText : goal.returns-in-NoText
+returns-in-NoText g c = record {
   text = search rules;
-  invalid = refused_by_any c.refuse.result (c.shows_no_text.ensures.not_encoded c.if-shows_no_text.true g.F.Flavor.flavor);
+  invalid = refused_by_any c.refuse-in-NoText.result (c.in-NoText.ensures.1 g.F.Flavor.flavor);
   borrowed = search rules;
   borrowed_where = search rules;
-  succeeds = λ unchanged. absurd (c.shows_no_text.ensures.not_utf8 c.if-shows_no_text.true unchanged.0);
+  succeeds = λ unchanged. absurd (c.in-NoText.ensures.0 unchanged.0);
   capacity = search rules;
 }
 
 pub returns-in-Changed : goal.returns-in-Changed
 returns-in-Changed g c = record {
   text = search rules;
-  invalid = refused_by_any c.refuse-in-Changed.result (λ text reads.
+  invalid = refused_by_any c.refuse.result (λ text reads.
       none_changed g.F.Flavor.flavor text reads.0
       (subst (Any (IsChangedByte g.F.Flavor.flavor)) (sym reads.1) c.in-Changed.ensures));
   borrowed = search rules;
