@@ -202,14 +202,15 @@ pub fn copy_to_slice_by_call(bytes: &[u8], buf: &mut [u8]) -> Result<usize, NoRo
     copy_to_slice(bytes, buf)
 }
 
-/// Returns a copy of some bytes, after one request for their length.
+/// Returns a copy of some bytes, after one request for their length. One call of `memcpy` copies
+/// them, as the loop is compiled: vectors would be longer, and so would not be inlined.
 pub fn copy<A: Allocator + Copy>(alloc: A, bytes: &[u8]) -> Result<Vec<u8, A>, AllocError>
     ensures bytes { IfOk result (λ copied. copied.items ≡ bytes.now) }
     ensures capacity { IfOk result (λ copied. vec_capacity copied ≡ length bytes.now) }
     ensures empty { bytes.now ≡ [] → IsOk result }
 {
     let mut copied = Vec::with_capacity(alloc, bytes.len())?;
-    append(bytes, &mut copied);
+    append_each(bytes, &mut copied);
     Ok(copied)
 }
 
