@@ -2,10 +2,9 @@
 //!
 //! The two bytes before a byte of UTF-8 and the one after it decide what is written for it. So
 //! vectors encode 32 bytes at a time. Between the first block and the last, one branch copies those
-//! of which no byte changes. It is left out where pairs can change and the encoding has a byte more
-//! for each block. In MUTF-8 one test of the whole text comes before. There is no other branch on
-//! what a byte is. The four bytes `a b c d` of one character become a surrogate pair, ED and two
-//! bytes each:
+//! of which no byte changes. It is left out where many change, as the length of the encoding shows.
+//! In MUTF-8 one test of the whole text comes before. There is no other branch on what a byte is.
+//! The four bytes `a b c d` of one character become a surrogate pair, ED and two bytes each:
 //!
 //! ```text
 //! a ──► ED, four bits of a and two of b      c ──► ED, four bits of c

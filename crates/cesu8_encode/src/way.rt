@@ -22,7 +22,7 @@
 //! 128 bytes 1.06 times as fast at v3, and 1.04 times at v2, beside f2ced24 without it. In both
 //! figures the export first tests its input for UTF-8.
 //!
-//! `windows` chooses among three ways for the blocks between the first and the last, by what
+//! `windows` chooses among four ways for the blocks between the first and the last, by what
 //! changes in the text. `block_writers` has these ways.
 //!
 //! Below this crate, two kinds of code choose by a length too: the first looks of `cesu8_bytes`,

@@ -74,10 +74,18 @@ fn write_middle<F: Flavor>(
     requires first { IsWritten F.flavor text.now BLOCK out.old start }
     ensures { Writes F.flavor text.now (BLOCK * blocks) out.old out.new result }
 {
+    if blocks == 1 {
+        // The last block follows the first, so no test of the text is of use.
+        return start;
+    }
     if F::has_long_null() && !any_in_short::<AtLeastF0>(text) {
+        // One more, since the first and the last block have some of them.
+        if more > 1 + blocks / 4 {
+            return write_middle_by::<F, NullChange>(text, blocks, out, start);
+        }
         return write_middle_by::<F, CopyUnless<NullChange>>(text, blocks, out, start);
     }
-    if more >= blocks {
+    if more >= blocks - blocks / 4 {
         return write_middle_by::<F, AnyChange>(text, blocks, out, start);
     }
     write_middle_by::<F, CopyUnless<AnyChange>>(text, blocks, out, start)
