@@ -34,7 +34,7 @@ const PART_BEHIND_CUT: usize = 2;
 pub fn is_utf8(bytes: &[u8]) -> bool
     ensures { IsTrue result ↔ IsUtf8 bytes.now }
 {
-    if bytes.len() >= GROUP {
+    if bytes.len() > GROUP {
         let front = ascii_front(bytes);
         return front == bytes.len() || are_blocks_utf8(bytes, front);
     }

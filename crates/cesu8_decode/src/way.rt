@@ -2,9 +2,11 @@
 //!
 //! | bytes | of them other than 01 to 7F | in strict reading | in lossy reading |
 //! |---|---|---|---|
+//! | more than 96, and the first character of more than a byte is ill-formed | any | `Refused` | as without |
 //! | at most 1,024, of which none is ED or C0 | any | `Refused` | as without |
 //! | at most 24 | at most 12 | `FewCharacters` | `FewCharacters` |
 //! | at most 96 | at most 6 | `Characters` | `Characters` |
+//! | at most 96, and the first character of more than a byte is ill-formed | more | `Refused` | as without |
 //! | at most 96 | more | `ShortWindow` | `ShortWindow` |
 //! | at most 256 | any | `MediumWindow` | `MediumWindow` |
 //! | more, and the first 64 show an ill-formed byte | any | `Refused` | as without |
@@ -21,7 +23,8 @@
 //! - `JoinedWindow`: chunks, of which a joined window mostly has all bytes but a few. Strict
 //!   reading stops at an ill-formed byte, so the buffers for windows by offsets are smaller.
 //! - `Refused`: strict reading is asked for bytes that are not UTF-8 alone, and each encoding that is
-//!   not UTF-8 has an ED or a C0. Most other input that is no encoding is ill-formed early.
+//!   not UTF-8 has an ED or a C0. Most other input that is no encoding is ill-formed early. What is
+//!   found only later is refused at the end of its block: a window of strict reading goes no further.
 //!
 //! How many times as fast a row makes what it is for, in the median at x86-64-v3 and at v2, beside
 //! 1fdcb97 without it, where the next row that fits took its place:
@@ -34,6 +37,8 @@
 //! | `MediumWindow` | 200 and 256 bytes, to a slice | 1.1 | 1.1 |
 //! | `LongWindow` | damaged, 1,024 bytes, to a slice | 1.3 | 1.4 |
 //! | `JoinedWindow` | well-formed, 1,024 bytes, to a slice | 1.3 | 1.4 |
+//! | `Refused`, by the first character | surrogates alone, 72 and 200 bytes, to a `String`, beside 5c3627c without it | 1.5 | 1.5 |
+//! | | the same, to a slice | 2.3 | 2.2 |
 //! | `Refused`, by the first 64 | refused, 1,024 bytes, to a `String` | 2.3 | 1.9 |
 //! | `Refused`, without ED and C0 | refused, 64 to 128 bytes, to a `String`, beside 70c002d | 1.9 | 2.0 |
 //! | | the same, to a slice | 2.3 | 2.3 |
@@ -48,8 +53,8 @@
 //!
 //! Other lengths in this crate decide no way: `chunk` joins no window of few bytes, `characters`
 //! pads the last bytes, and `sums` the last block. Before the decoder, `cesu8_bytes` takes the
-//! first looks: if a few bytes show C0 or a surrogate, a call that returns a `String` decodes them
-//! without a test for UTF-8.
+//! first looks: if the first bytes show that all are no text, a strict call refuses them at once. If
+//! a few show C0 or a surrogate, a call that returns a `String` decodes them without a test for UTF-8.
 
 ghost use Rattle.std.specs.Prelude.{◌≡◌, ◌≤◌, length, IsTrue, IsUtf8, IfSome};
 ghost use Rattle.cesu8_text.specs.Encoding.{Flavor as AnyFlavor};
