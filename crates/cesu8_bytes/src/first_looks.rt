@@ -96,7 +96,7 @@ fn look_at_ends<C: InVectors<N>, const N: usize>(bytes: &[u8]) -> FirstLook
     }
     let has_c0 = any_in_ends::<Equal<0xC0>, N>(bytes);
     let end = bytes.len() - 1 - N;
-    let is_no_text = N >= SHOWING && is_misplaced::<N>(bytes);
+    let is_no_text = N >= SHOWING && is_misplaced(bytes);
     if is_no_text | has_c0 | has_surrogate::<N>(bytes, 0) | has_surrogate::<N>(bytes, end) {
         return if is_no_text {
             FirstLook::NoText
@@ -127,28 +127,28 @@ pub fn shows_no_text(bytes: &[u8]) -> bool
     ensures not_utf8 { IsTrue result → ¬ (IsUtf8 bytes.now) }
     ensures not_encoded { IsTrue result → (f : AnyFlavor) → HasNoStrictReading f bytes.now }
 {
-    bytes.len() > SHOWING && is_misplaced::<SHOWING>(bytes)
+    bytes.len() > SHOWING && is_misplaced(bytes)
 }
 
-/// Returns whether the first byte continues a character, or one of the first `N` is followed by what
-/// may not follow it.
+/// Returns whether the first byte continues a character, or one of the first is followed by what may
+/// not follow it.
 #[inline(always)]
-fn is_misplaced<const N: usize>(bytes: &[u8]) -> bool
-    requires { (N ≤ LANES) × (N < length bytes.now) }
+fn is_misplaced(bytes: &[u8]) -> bool
+    requires { SHOWING < length bytes.now }
     ensures not_utf8 { IsTrue result → ¬ (IsUtf8 bytes.now) }
     ensures not_encoded { IsTrue result → (f : AnyFlavor) → HasNoStrictReading f bytes.now }
 {
-    is_continuation(bytes[0]) | has_misplaced::<N>(bytes)
+    is_continuation(bytes[0]) | has_misplaced(bytes)
 }
 
-/// Returns whether one of the first `N` bytes is followed by what may not follow it.
+/// Returns whether one of the first bytes is followed by what may not follow it.
 #[inline(always)]
-fn has_misplaced<const N: usize>(bytes: &[u8]) -> bool
-    requires { (N ≤ LANES) × (N < length bytes.now) }
+fn has_misplaced(bytes: &[u8]) -> bool
+    requires { SHOWING < length bytes.now }
     ensures { IsTrue result → ¬ (AreFollowed bytes.now) }
 {
-    let first: Simd<u8, N> = Simd::from_slice(bytes);
-    let behind: Simd<u8, N> = Simd::from_slice(&bytes[1..]);
+    let first: Simd<u8, SHOWING> = Simd::from_slice(bytes);
+    let behind: Simd<u8, SHOWING> = Simd::from_slice(&bytes[1..]);
     // Of what is no continuation byte, a lead byte has one behind it, and ASCII has none.
     let differ = NonAscii::marks(first) ^ Continuation::marks(behind);
     (NoContinuation::marks(first) & differ).any()

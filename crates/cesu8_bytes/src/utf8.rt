@@ -17,7 +17,7 @@ use std::simd::prelude::*;
 use std::str;
 
 /// So few bytes are tested one by one in less time than a block.
-const FEW: usize = 4;
+const FEW: usize = 3;
 
 /// How many blocks the first part has, behind which the test looks whether it has met a fault. Most
 /// input that is not UTF-8 shows it early.

@@ -1,9 +1,10 @@
 //! How a character of more than one byte is encoded, and whether bytes begin with one.
 
-ghost use Rattle.std.specs.Prelude.{◌≡◌, ◌+◌, ◌<◌, ◌≤◌, length, replicate, IsTrue, IfSome, IfNone, encode_utf8};
+ghost use Rattle.std.specs.Prelude.{◌≡◌, ◌+◌, ◌<◌, ◌≤◌, length, replicate, slice_index, false, IsTrue, IfSome, IfNone, encode_utf8};
 ghost use Rattle.cesu8_text.specs.Reading.{HasNoStrictReading};
 ghost use Rattle.cesu8_bytes.specs.Joining.{null_at};
 ghost use Rattle.cesu8_decode.specs.DecodedOffsets.{IsPrefixOf, one_at, two_at, three_at};
+ghost use Rattle.cesu8_decode.specs.declared.forms.FirstLead.TheVariants.{IllFormed};
 ghost use Rattle.cesu8_decode.specs.Forms.{HasForm, HasNoForm, form_len, IsUtf8OfForm};
 
 use cesu8_bytes::continuation::is_continuation;
@@ -83,25 +84,52 @@ pub fn character_of<F: Flavor>(form: Form, bytes: &[u8]) -> char
     }
 }
 
-/// Returns whether the first character that is more than a byte is ill-formed, as far as one look
-/// finds it.
+/// How many bytes are looked at for the first character of more than a byte.
+const LOOKED_AT: usize = 16;
+
+/// What the first character of more than a byte shows of bytes, if it begins in the first ones.
+#[derive(Drop)]
+pub enum FirstLead {
+    /// It is a surrogate without its pair, or C0 without a null character, so the bytes have no text.
+    IllFormed,
+    /// It has a lead byte that each encoding has that is not UTF-8.
+    OfEncoding,
+    /// It is another, or was not looked at.
+    Other,
+}
+
+/// Returns what the first lead byte shows. Most input that has ED or C0, but is no encoding, shows it
+/// so. Fewer than a vector and a surrogate pair are not looked at.
 #[inline(never)]
-pub fn begins_ill_formed<F: Flavor>(bytes: &[u8]) -> bool
-    ensures { IsTrue result → HasNoStrictReading F.flavor bytes.now }
+pub fn first_lead<F: Flavor>(bytes: &[u8]) -> FirstLead
+    ensures { result ≡ IllFormed → HasNoStrictReading F.flavor bytes.now }
 {
-    if bytes.is_empty() {
-        return false;
+    if bytes.len() < LOOKED_AT + PAIR_READ {
+        return FirstLead::Other;
     }
-    let run = run_len::<Either<F::Null, NonAscii>>(bytes);
+    let run = run_len::<Either<F::Null, NonAscii>>(&bytes[..LOOKED_AT]);
     let rest = &bytes[run..];
-    if rest.is_empty() || is_one::<F>(rest[0]) {
-        return false;
+    if has_lone_lead::<F>(rest) {
+        return FirstLead::IllFormed;
     }
-    let mut padded = [0; PAIR_READ];
-    match form_of::<F>(prefix_of(rest, &mut padded)) {
-        Some(_) => false,
-        None => true,
+    match rest[0] {
+        0xC0 | 0xED => FirstLead::OfEncoding,
+        _ => FirstLead::Other,
     }
+}
+
+/// Returns whether bytes begin with a surrogate without its pair, or C0 without a null character. No
+/// branch tells which, since it would be guessed wrong where characters are mixed.
+#[inline(always)]
+fn has_lone_lead<F: Flavor>(bytes: &[u8]) -> bool
+    requires { PAIR_READ ≤ length bytes.now }
+    ensures form { IsTrue result → HasNoForm F.flavor bytes.now }
+    ensures more { IsTrue result → one_at F.flavor (slice_index bytes.now 0) ≡ false }
+{
+    let (first, second) = (bytes[0], bytes[1]);
+    let is_unpaired = (first == 0xED) & (second >= 0xA0) & !is_pair(bytes);
+    let is_overlong = (first == 0xC0) & !is_null::<F>(first, second);
+    is_unpaired | is_overlong
 }
 
 /// Returns whether a byte is a character of one byte.

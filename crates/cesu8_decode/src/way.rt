@@ -2,11 +2,10 @@
 //!
 //! | bytes | of them other than 01 to 7F | in strict reading | in lossy reading |
 //! |---|---|---|---|
-//! | more than 96, and the first character of more than a byte is ill-formed | any | `Refused` | as without |
+//! | 24 and more, whose first character of more than a byte is a lone surrogate or C0 | any | `Refused` | as without |
 //! | at most 1,024, of which none is ED or C0 | any | `Refused` | as without |
 //! | at most 24 | at most 12 | `FewCharacters` | `FewCharacters` |
 //! | at most 96 | at most 6 | `Characters` | `Characters` |
-//! | at most 96, and the first character of more than a byte is ill-formed | more | `Refused` | as without |
 //! | at most 96 | more | `ShortWindow` | `ShortWindow` |
 //! | at most 256 | any | `MediumWindow` | `MediumWindow` |
 //! | more, and the first 64 show an ill-formed byte | any | `Refused` | as without |
@@ -58,11 +57,12 @@
 
 ghost use Rattle.std.specs.Prelude.{◌≡◌, ◌≤◌, length, IsTrue, IsUtf8, IfSome};
 ghost use Rattle.cesu8_text.specs.Encoding.{Flavor as AnyFlavor};
+ghost use Rattle.cesu8_text.specs.Reading.{HasNoStrictReading};
 ghost use Rattle.cesu8_bytes.specs.declared.options.Strictness.{Strictness};
 ghost use Rattle.cesu8_bytes.specs.declared.options.Strictness.TheVariants.{Strict};
 ghost use Rattle.cesu8_decode.specs.Ways.{IsWayOf};
 
-use super::forms::begins_ill_formed;
+use super::forms::{FirstLead, first_lead};
 use super::ill_formed::is_ill_formed_in_prefix;
 use cesu8_bytes::first_looks::may_be_encoding;
 use cesu8_bytes::flavor::Flavor;
@@ -115,10 +115,7 @@ pub fn way_of<F: Flavor>(strictness: Strictness, bytes: &[u8]) -> Way
     ensures { IsWayOf F.flavor strictness bytes.now result }
 {
     let is_strict = matches!(strictness, Strictness::Strict);
-    if is_strict && bytes.len() > SHORT_WINDOW && begins_ill_formed::<F>(bytes) {
-        return Way::Refused;
-    }
-    if is_strict && bytes.len() <= LONG_WINDOW && !may_be_encoding(bytes) {
+    if is_strict && shows_no_encoding::<F>(bytes) {
         return Way::Refused;
     }
     if bytes.len() <= FEWEST && has_few_others(bytes, OTHERS) {
@@ -126,9 +123,6 @@ pub fn way_of<F: Flavor>(strictness: Strictness, bytes: &[u8]) -> Way
     }
     if has_few_others(bytes, FEWER_OTHERS) {
         return Way::Characters;
-    }
-    if is_strict && bytes.len() <= SHORT_WINDOW && begins_ill_formed::<F>(bytes) {
-        return Way::Refused;
     }
     if bytes.len() <= SHORT_WINDOW {
         return Way::ShortWindow;
@@ -146,6 +140,20 @@ pub fn way_of<F: Flavor>(strictness: Strictness, bytes: &[u8]) -> Way
         Way::JoinedWindow
     } else {
         Way::LongWindow
+    }
+}
+
+/// Returns whether bytes that are not UTF-8 show that they are no encoding, by their first lead byte,
+/// or by a search for ED and C0 in all.
+#[inline(always)]
+fn shows_no_encoding<F: Flavor>(bytes: &[u8]) -> bool
+    requires { ¬ (IsUtf8 bytes.now) }
+    ensures { IsTrue result → HasNoStrictReading F.flavor bytes.now }
+{
+    match first_lead::<F>(bytes) {
+        FirstLead::IllFormed => true,
+        FirstLead::OfEncoding => false,
+        FirstLead::Other => bytes.len() <= LONG_WINDOW && !may_be_encoding(bytes),
     }
 }
 

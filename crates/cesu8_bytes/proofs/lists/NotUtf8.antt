@@ -1,5 +1,5 @@
 -- Marks of bytes that UTF-8 does not have.
-use Rattle.std.proofs.Common.{◌≡◌, ℕ, zero, suc, Bool, true, false, not, cond, ◌&&◌, ◌||◌, ltb, ⊎_elim, ◌+◌, ◌%◌, ◌^◌, ◌<◌, ◌≤◌, IsTrue, List, [], ◌∷◌, map, take, drop, get_or, ◌↔◌, eqb, leb, refl, sym, ap, ◌∙◌, arith, bit_and, bit_xor, w8, true≢false}
+use Rattle.std.proofs.Common.{◌≡◌, ℕ, zero, suc, Bool, true, false, not, cond, ◌&&◌, ◌||◌, ltb, ⊎_elim, ◌+◌, ◌%◌, ◌^◌, ◌<◌, ◌≤◌, IsTrue, List, [], ◌∷◌, map, take, drop, eqb, leb, refl, sym, ap, ◌∙◌, arith, bit_and, bit_xor, w8, true≢false}
 use Rattle.std.specs.Prelude.{ℤ}
 use Rattle.std.specs.Str.{IsUtf8}
 use Rattle.std.proofs.lemmas.Bool.{and_from, and_parts, cases_Bool, eqb-false, eqb-true, le-leb, leb-true, lt-leb, lt-ltb, ltb-true, not-true, or_cases}
@@ -10,7 +10,6 @@ use Rattle.cesu8_text.proofs.lists.Elements.{any_nil, none_cons}
 use Rattle.cesu8_text.proofs.text.Surrogates.{HasNeither, neither_in_utf8}
 use Rattle.cesu8_bytes.specs.Kernels.{AnyIn, NoneAdjoin, lane}
 use Rattle.cesu8_text.specs.Patterns.{AreFollowed, IsContinuation}
-use Rattle.cesu8_bytes.proofs.lists.Ends.{either}
 use Rattle.cesu8_bytes.proofs.lists.Classes.{marks_of}
 
 neither_c0 : (bytes : List ℕ) → HasNeither bytes → AnyIn (λ b. eqb b 0xC0) bytes → ⊥

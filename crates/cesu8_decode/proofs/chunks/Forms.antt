@@ -1,10 +1,11 @@
 -- Characters of more than one byte, by how they are encoded at the front of bytes.
-use Rattle.std.proofs.Common.{◌≡◌, ℕ, ◌+◌, ◌*◌, ◌-◌, ◌<◌, ◌≤◌, List, [], ◌∷◌, ◌++◌, refl, sym, ap, ◌∙◌, ⊎_elim, true, false, arith, length, take, drop, get_or, eqb, leb, ltb, ◌&&◌}
-use Rattle.std.proofs.lemmas.Bool.{and_parts, eqb-true, leb-true, ltb-true, cases_eq}
+use Rattle.std.proofs.Common.{◌≡◌, ℕ, ◌+◌, ◌*◌, ◌-◌, ◌<◌, ◌≤◌, ◌↔◌, Bool, IsTrue, not, ◌||◌, List, [], ◌∷◌, ◌++◌, refl, sym, ap, ◌∙◌, ⊎_elim, true, false, arith, length, take, drop, get_or, eqb, leb, ltb, ◌&&◌}
+use Rattle.std.proofs.lemmas.Bool.{and_from, and_parts, eqb-true, iff_false, le-leb, le-ltb, leb-true, lt-ltb, ltb-true, cases_eq, cases_lt, false≢true, not-true, or_cases, or_left, or_right}
 use Rattle.cesu8_text.specs.Encoding.{Flavor, Cesu8, Mutf8}
+use Rattle.cesu8_text.specs.Class.{is_null}
 use Rattle.cesu8_text.specs.Reading.{NoneBegins}
 use Rattle.cesu8_text.specs.Text.{utf8_of}
-use Rattle.cesu8_bytes.specs.Joining.{null_at, AreJoinedDigits, second_third_fifth_sixth}
+use Rattle.cesu8_bytes.specs.Joining.{null_at, HasPair, AreJoinedDigits, second_third_fifth_sixth}
 use Rattle.cesu8_bytes.specs.TextChunks.{IsReadSoFar}
 use Rattle.cesu8_bytes.specs.declared.options.Strictness.{Strictness}
 use Rattle.cesu8_decode.specs.DecodedOffsets.{IsPrefixOf, one_at, two_at, three_at, continues, fits_three}
@@ -154,3 +155,71 @@ pair_utf8 bytes c is c' w x y z digits are =
     let value : c ≡ c' =
     omega (arith, is, digits.value, ap (λ bs. get_or bs 0 0) are, ap (λ bs. get_or bs 1 0) are, ap (λ bs. get_or bs 2 0) are, ap (λ bs. get_or bs 3 0) are) in
     ap utf8_of value
+
+low_of_class : (null : ℕ → Bool) (b : ℕ) → (null b || leb 0x80 b) ≡ false → b < 0x80
+low_of_class null b none =
+    ⊎_elim (λ low. low) (λ high. absurd (false≢true (sym none ∙ or_right (null b) (leb 0x80 b) (le-leb 0x80 b high)))) (cases_lt b 0x80)
+
+null_of_surrogate : (f : Flavor) (b : ℕ) → null_at f 0xED b ≡ false
+null_of_surrogate Cesu8 b = refl
+null_of_surrogate Mutf8 b = refl
+
+never : (s t : Bool) → (s && (t && false)) ≡ false
+never true true = refl
+never true false = refl
+never false t = refl
+
+not_one : (f : Flavor) → one_at f 0xED ≡ false
+not_one Cesu8 = refl
+not_one Mutf8 = refl
+
+not_one_c0 : (f : Flavor) → one_at f 0xC0 ≡ false
+not_one_c0 Cesu8 = refl
+not_one_c0 Mutf8 = refl
+
+-- A byte that is neither a null that changes nor 80 or more is a character of its own.
+pub one_of_class : (f : Flavor) (null : ℕ → Bool) → null ≡ is_null f → (b : ℕ) → (null b || leb 0x80 b) ≡ false → one_at f b ≡ true
+one_of_class Cesu8 null is b none = lt-ltb b 0x80 (low_of_class null b none)
+one_of_class Mutf8 null is b none =
+    ⊎_elim
+    (λ zero. absurd (false≢true (sym none ∙ or_left (null b) (leb 0x80 b) (ap (λ p. p b) is ∙ ap (is_null Mutf8) zero))))
+    (λ some. and_from (leb 1 b) (ltb b 0x80) (le-leb 1 b (omega (arith, some))) (lt-ltb b 0x80 (low_of_class null b none)))
+    (cases_eq b 0)
+
+-- A surrogate without its pair begins no character,
+lone_surrogate : (f : Flavor) (bytes : List ℕ) → get_or bytes 0 0 ≡ 0xED → 0xA0 ≤ get_or bytes 1 0 → (HasPair bytes → ⊥) →
+    HasNoForm f bytes × (one_at f (get_or bytes 0 0) ≡ false)
+lone_surrogate f bytes first high no_pair = (
+  record {
+    pair = no_pair;
+    null = rw first (null_of_surrogate f (get_or bytes 1 0));
+    two = rw first refl;
+    three = rw (first, le-ltb (get_or bytes 1 0) 0xA0 high) (never (continues (get_or bytes 1 0)) (continues (get_or bytes 2 0)));
+  },
+  rw first (not_one f),
+)
+
+-- and neither does C0 without a null.
+lone_c0 : (f : Flavor) (bytes : List ℕ) → get_or bytes 0 0 ≡ 0xC0 → null_at f (get_or bytes 0 0) (get_or bytes 1 0) ≡ false →
+    HasNoForm f bytes × (one_at f (get_or bytes 0 0) ≡ false)
+lone_c0 f bytes first no_null = (
+  record {
+    pair = λ pair. omega (arith, first, pair.lead);
+    null = no_null;
+    two = rw first refl;
+    three = rw first refl;
+  },
+  rw first (not_one_c0 f),
+)
+
+-- So none begins where one of them is seen.
+pub lone_lead : (f : Flavor) (bytes : List ℕ) (pair null : Bool) → IsTrue pair ↔ HasPair bytes → null ≡ null_at f (get_or bytes 0 0) (get_or bytes 1 0) →
+    IsTrue (((eqb (get_or bytes 0 0) 0xED && leb 0xA0 (get_or bytes 1 0)) && not pair) || (eqb (get_or bytes 0 0) 0xC0 && not null)) →
+    HasNoForm f bytes × (one_at f (get_or bytes 0 0) ≡ false)
+lone_lead f bytes pair null tells_pair tells_null shown =
+    ⊎_elim
+    (λ surrogate. let parts = and_parts _ _ surrogate in
+    let both = and_parts _ _ parts.0 in
+    lone_surrogate f bytes (eqb-true _ _ both.0) (leb-true _ _ both.1) (iff_false tells_pair (not-true _ parts.1)))
+    (λ c0. let parts = and_parts _ _ c0 in lone_c0 f bytes (eqb-true _ _ parts.0) (sym tells_null ∙ not-true _ parts.1))
+    (or_cases _ _ shown)
