@@ -94,10 +94,8 @@ fn look_at_ends<C: InVectors<N>, const N: usize>(bytes: &[u8]) -> FirstLook
     if any_in_ends::<C, N>(bytes) {
         return FirstLook::Changed;
     }
-    let has_c0 = any_in_ends::<Equal<0xC0>, N>(bytes);
-    let end = bytes.len() - 1 - N;
     let is_no_text = N >= SHOWING && is_misplaced(bytes);
-    if is_no_text | has_c0 | has_surrogate::<N>(bytes, 0) | has_surrogate::<N>(bytes, end) {
+    if is_no_text | is_no_utf8_by_ends::<N>(bytes) {
         return if is_no_text {
             FirstLook::NoText
         } else {
@@ -105,6 +103,18 @@ fn look_at_ends<C: InVectors<N>, const N: usize>(bytes: &[u8]) -> FirstLook
         };
     }
     FirstLook::Unchanged
+}
+
+/// Returns whether C0 or a surrogate shows that bytes are not UTF-8, by two vectors.
+#[inline(always)]
+fn is_no_utf8_by_ends<const N: usize>(bytes: &[u8]) -> bool
+    requires { (N ≤ LANES) × (N < length bytes.now) × (length bytes.now ≤ 2 * N) }
+    ensures { IsTrue result → ¬ (IsUtf8 bytes.now) }
+{
+    let end = bytes.len() - 1 - N;
+    any_in_ends::<Equal<0xC0>, N>(bytes)
+        | has_surrogate::<N>(bytes, 0)
+        | has_surrogate::<N>(bytes, end)
 }
 
 /// Returns whether one of `N` bytes from an index on is ED with A0 or more behind it (hexadecimal).
@@ -174,10 +184,11 @@ fn shows_no_utf8(bytes: &[u8]) -> bool
 fn has_no_utf8(bytes: &[u8]) -> bool
     ensures { IsTrue result → ¬ (IsUtf8 bytes.now) }
 {
-    matches!(
-        first_look::<Cesu8Flavor>(bytes),
-        FirstLook::NotUtf8 | FirstLook::NoText
-    )
+    if bytes.len() < 2 || bytes.len() > LANES {
+        return false;
+    }
+    let leads = &bytes[..bytes.len() - 1];
+    by_two_vectors!(leads, is_no_utf8_by_ends[](bytes), false)
 }
 
 /// Returns the bytes as a text if they are UTF-8, and otherwise the empty text, which no such bytes

@@ -2,10 +2,10 @@
 //!
 //! | bytes | of them other than 01 to 7F | in strict reading | in lossy reading |
 //! |---|---|---|---|
-//! | 24 and more, whose first character of more than a byte is a lone surrogate or C0 | any | `Refused` | as without |
-//! | at most 1,024, of which none is ED or C0 | any | `Refused` | as without |
 //! | at most 24 | at most 12 | `FewCharacters` | `FewCharacters` |
 //! | at most 96 | at most 6 | `Characters` | `Characters` |
+//! | 24 and more, whose first character of more than a byte is a lone surrogate or C0 | any | `Refused` | as without |
+//! | at most 1,024, of which none is ED or C0 | any | `Refused` | as without |
 //! | at most 96 | more | `ShortWindow` | `ShortWindow` |
 //! | at most 256 | any | `MediumWindow` | `MediumWindow` |
 //! | more, and the first 64 show an ill-formed byte | any | `Refused` | as without |
@@ -115,14 +115,14 @@ pub fn way_of<F: Flavor>(strictness: Strictness, bytes: &[u8]) -> Way
     ensures { IsWayOf F.flavor strictness bytes.now result }
 {
     let is_strict = matches!(strictness, Strictness::Strict);
-    if is_strict && shows_no_encoding::<F>(bytes) {
-        return Way::Refused;
-    }
     if bytes.len() <= FEWEST && has_few_others(bytes, OTHERS) {
         return Way::FewCharacters;
     }
     if has_few_others(bytes, FEWER_OTHERS) {
         return Way::Characters;
+    }
+    if is_strict && shows_no_encoding::<F>(bytes) {
+        return Way::Refused;
     }
     if bytes.len() <= SHORT_WINDOW {
         return Way::ShortWindow;
