@@ -2,6 +2,7 @@
 //!
 //! | bytes | of them other than 01 to 7F | in strict reading | in lossy reading |
 //! |---|---|---|---|
+//! | at most 16, of which none is ED or C0 | any | `Refused` | as without |
 //! | at most 24 | at most 12 | `FewCharacters` | `FewCharacters` |
 //! | at most 96 | at most 6 | `Characters` | `Characters` |
 //! | 24 and more, whose first character of more than a byte is a lone surrogate or C0 | any | `Refused` | as without |
@@ -87,6 +88,9 @@ pub enum Way {
 /// `Ways` of `specs` has this number too.
 pub const SHORT_WINDOW: usize = 96;
 
+/// So few bytes are searched for ED and C0 before others are counted, since most are refused so.
+const SEARCHED: usize = 16;
+
 /// So few bytes are read one character after another with more others among them.
 pub const FEWEST: usize = 24;
 
@@ -115,6 +119,9 @@ pub fn way_of<F: Flavor>(strictness: Strictness, bytes: &[u8]) -> Way
     ensures { IsWayOf F.flavor strictness bytes.now result }
 {
     let is_strict = matches!(strictness, Strictness::Strict);
+    if is_strict && bytes.len() <= SEARCHED && has_no_other_lead::<F>(bytes) {
+        return Way::Refused;
+    }
     if bytes.len() <= FEWEST && has_few_others(bytes, OTHERS) {
         return Way::FewCharacters;
     }
@@ -153,8 +160,17 @@ fn shows_no_encoding<F: Flavor>(bytes: &[u8]) -> bool
     match first_lead::<F>(bytes) {
         FirstLead::IllFormed => true,
         FirstLead::OfEncoding => false,
-        FirstLead::Other => bytes.len() <= LONG_WINDOW && !may_be_encoding(bytes),
+        FirstLead::Other => bytes.len() <= LONG_WINDOW && has_no_other_lead::<F>(bytes),
     }
+}
+
+/// Returns whether bytes that are not UTF-8 have neither ED nor C0. An encoding has one of them.
+#[inline(always)]
+fn has_no_other_lead<F: Flavor>(bytes: &[u8]) -> bool
+    requires { ¬ (IsUtf8 bytes.now) }
+    ensures { IsTrue result → HasNoStrictReading F.flavor bytes.now }
+{
+    !may_be_encoding(bytes)
 }
 
 /// Returns which way bytes go that are decoded before they are tested for UTF-8: a few of which

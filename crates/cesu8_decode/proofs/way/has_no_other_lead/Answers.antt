@@ -1,7 +1,7 @@
 use Rattle.std.proofs.lemmas.Bool.{iff_false, not-true}
 use Rattle.cesu8_text.proofs.encoding.OtherLeads.{utf8_without_leads}
-use Rattle.cesu8_decode.proofs.way.shows_no_encoding.Goals as goal
+use Rattle.cesu8_decode.proofs.way.has_no_other_lead.Goals as goal
 
-pub returns-then-bytes-le-LONG_WINDOW : goal.returns-then-bytes-le-LONG_WINDOW
-returns-then-bytes-le-LONG_WINDOW g c none text reads =
+pub returns : goal.returns
+returns g c none text reads =
     c.requires (utf8_without_leads g.F.Flavor.flavor c.args.bytes.now text (iff_false c.may_be_encoding.ensures (not-true _ none)) reads)
