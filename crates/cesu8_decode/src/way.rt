@@ -2,11 +2,10 @@
 //!
 //! | bytes | of them other than 01 to 7F | in strict reading | in lossy reading |
 //! |---|---|---|---|
-//! | at most 16, of which none is ED or C0 | any | `Refused` | as without |
+//! | at most 1,024, of which none is ED or C0 | any | `Refused` | as without |
 //! | at most 24 | at most 12 | `FewCharacters` | `FewCharacters` |
 //! | at most 96 | at most 6 | `Characters` | `Characters` |
-//! | 24 and more, whose first character of more than a byte is a lone surrogate or C0 | any | `Refused` | as without |
-//! | at most 1,024, of which none is ED or C0 | any | `Refused` | as without |
+//! | 24 and more, whose first lead byte is that of a lone surrogate, or C0 of no null | any | `Refused` | as without |
 //! | at most 96 | more | `ShortWindow` | `ShortWindow` |
 //! | at most 256 | any | `MediumWindow` | `MediumWindow` |
 //! | more, and the first 64 show an ill-formed byte | any | `Refused` | as without |
@@ -88,9 +87,6 @@ pub enum Way {
 /// `Ways` of `specs` has this number too.
 pub const SHORT_WINDOW: usize = 96;
 
-/// So few bytes are searched for ED and C0 before others are counted, since most are refused so.
-const SEARCHED: usize = 16;
-
 /// So few bytes are read one character after another with more others among them.
 pub const FEWEST: usize = 24;
 
@@ -119,14 +115,12 @@ pub fn way_of<F: Flavor>(strictness: Strictness, bytes: &[u8]) -> Way
     ensures { IsWayOf F.flavor strictness bytes.now result }
 {
     let is_strict = matches!(strictness, Strictness::Strict);
-    if is_strict && bytes.len() <= SEARCHED && has_no_other_lead::<F>(bytes) {
-        return Way::Refused;
-    }
-    if bytes.len() <= FEWEST && has_few_others(bytes, OTHERS) {
-        return Way::FewCharacters;
-    }
-    if has_few_others(bytes, FEWER_OTHERS) {
-        return Way::Characters;
+    if let Some(way) = way_of_few_others(bytes) {
+        return if is_strict && has_no_other_lead::<F>(bytes) {
+            Way::Refused
+        } else {
+            way
+        };
     }
     if is_strict && shows_no_encoding::<F>(bytes) {
         return Way::Refused;
@@ -148,6 +142,20 @@ pub fn way_of<F: Flavor>(strictness: Strictness, bytes: &[u8]) -> Way
     } else {
         Way::LongWindow
     }
+}
+
+/// Returns which way bytes go that are read one character after another.
+#[inline(always)]
+fn way_of_few_others(bytes: &[u8]) -> Option<Way>
+    ensures { (f : AnyFlavor) (which : Strictness) → IfSome result (IsWayOf f which bytes.now) }
+{
+    if bytes.len() <= FEWEST && has_few_others(bytes, OTHERS) {
+        return Some(Way::FewCharacters);
+    }
+    if has_few_others(bytes, FEWER_OTHERS) {
+        return Some(Way::Characters);
+    }
+    None
 }
 
 /// Returns whether bytes that are not UTF-8 show that they are no encoding, by their first lead byte,
