@@ -6,8 +6,8 @@
 # on one commit give the same bytes, with the same kit and C compiler: names are sorted, times are the
 # commit's, and owners are 0. BUILT-FROM in the archive says what it was built from and what it needs.
 #
-# Where dpkg-deb is there, FOLDER gets the Debian packages too, by packages.sh, and where python3 is
-# there the wheel, by python/wheel.py.
+# Where dpkg-deb is there, FOLDER gets the Debian packages too, by packages.sh. Where python3 and its
+# header are there, as python3-dev of Debian has them, it gets the wheel, by python/wheel.py.
 #
 # It needs the kit's `rt`, git, a C compiler `cc` with GNU ld 2.36 or later, ar, ld, nm, objcopy,
 # objdump, strip, GNU tar, gzip, bash, awk, grep, sed and the core utilities.
@@ -52,6 +52,8 @@ made=("$name.tar.gz")
 
 # shellcheck source=tests/program.sh
 source "$top/tests/program.sh"
+# shellcheck source=tests/python_header.sh
+source "$top/tests/python_header.sh"
 
 # Puts a file into the release, with the version and the commit's day in place of their names:
 # `fill FILE TO`.
@@ -134,6 +136,7 @@ fill cesu8-config-version.cmake lib/cmake/cesu8/cesu8-config-version.cmake
 fill cesu8_cli.1 share/man/man1/cesu8_cli.1
 fill cesu8_cli.bash share/bash-completion/completions/cesu8_cli
 fill install.sh install.sh
+fill uninstall.sh uninstall.sh
 fill README.md README.md
 for file in "${pages[@]}"; do
     page "$file"
@@ -152,7 +155,7 @@ needs Linux on x86-64-v2, and the GNU C library $needed
 BUILT
 
 find "$release" -type f -exec chmod 644 {} +
-chmod 755 "$release/bin/cesu8_cli" "$release/install.sh" "$release/examples/"*.sh
+chmod 755 "$release/bin/cesu8_cli" "$release/"*install.sh "$release/examples/"*.sh
 tar --create --format=ustar --sort=name --owner=0 --group=0 --numeric-owner \
     --mtime="@$seconds" -C "$scratch" "$name" |
     gzip -n -9 >"$folder/$name.tar.gz"
@@ -169,7 +172,11 @@ make_more() {
     mapfile -t -O "${#made[@]}" made <<<"$names"
 }
 make_more dpkg-deb 'the Debian packages' "$top/packages.sh"
-make_more python3 'the wheel' "$top/python/wheel.py"
+if ! command -v python3 >/dev/null || has_python_header; then
+    make_more python3 'the wheel' "$top/python/wheel.py"
+else
+    echo 'Python.h of Python 3.10 or later (python3-dev) is missing: the wheel not built' >&2
+fi
 
 (cd "$folder" && sha256sum "${made[@]}" >SHA256SUMS)
 printf '%s\n' "${made[@]/#/$folder/}"

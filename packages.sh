@@ -62,7 +62,7 @@ take_pages() {
 # Installs the release, and splits it. What is left over is in no package on purpose, and is listed.
 split() {
     mkdir "$all"
-    DESTDIR=$all sh "$release/install.sh" /usr lib/x86_64-linux-gnu
+    DESTDIR=$all sh "$release/install.sh" /usr lib/x86_64-linux-gnu >/dev/null
     take "$library" "$libdir/libcesu8.so.$major"
     take libcesu8-dev "$libdir"/{libcesu8.a,libcesu8.so,pkgconfig,cmake} usr/include
     take_pages libcesu8-dev C.md examples

@@ -38,7 +38,9 @@ part_of() {
     case $at/ in
         "$scratch"/rounds/*)
             at=${at#"$scratch/rounds/"}
-            echo "${at%%/*}: edits"
+            at=${at%%/*}
+            # The tests that --quick proves are a part of their own.
+            [[ $at == *.tests ]] || echo "$at: edits"
             ;;
         "$2"/crates/* | "$3"/rt-copy*/crates/*)
             at=${at##*/crates/}

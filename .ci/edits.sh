@@ -8,10 +8,15 @@
 # its own, and at last each edit alone: the kit leaves goals of a function untried where one that it calls
 # is not proved, and an edit that can't be read spoils its round.
 
-# The crates that have edits, each after those that it uses.
+# The crates, each after those that it uses.
+listed_crates() {
+    sed -n 's/^\([a-z0-9_][a-z0-9_]*\).*:.*/\1/p' crates.txt
+}
+
+# The crates that have edits, in that order.
 crates_with_edits() {
     local crate
-    for crate in $(sed -n 's/^\([a-z0-9_]*\).*:.*/\1/p' crates.txt); do
+    for crate in $(listed_crates); do
         [[ ! -d crates/$crate/must-fail ]] || echo "$crate"
     done
 }
@@ -42,7 +47,7 @@ try_crate() {
         [[ ! -e $scratch/proved/failed ]] || return
         sleep 1
     done
-    make_tree "$crate"
+    make_tree "$crate" "$crate"
     mkdir "$plan"
     touch "$plan/rounds" "$plan/bad"
     (cd "$from/crates/$crate" && awk -v to="$plan" -f "$from/.ci/rounds.awk" must-fail/*.edit)
@@ -53,19 +58,20 @@ try_crate() {
     rm -rf "$scratch/rounds/$crate"
 }
 
-# Whether what a crate uses is proved, and the crate itself where it is a library.
+# Whether what a crate uses is proved, and the crate itself where that is proved there: in the gate only a
+# library is, in --quick what it needs.
 is_ready() {
     local name
     for name in $(used_by "$1"); do
         [[ -e $scratch/proved/$name ]] || return 1
     done
-    [[ -e crates/$1/src/main.rt || -e $scratch/proved/$1 ]]
+    [[ -e $scratch/proved/$1 ]] || { is_program "$1" && ! has "$1" "${needed[@]}"; }
 }
 
 # Makes a tree in which a crate is checked over the proved libraries, with what was kept of its own proof:
-# `make_tree CRATE`. Files of libraries get a second name in place of a copy, where they can.
+# `make_tree CRATE NAME`. Files of libraries get a second name in place of a copy, where they can.
 make_tree() {
-    local tree=$scratch/rounds/$1 from=$scratch/scripts crate
+    local tree=$scratch/rounds/$2 from=$scratch/scripts crate
     mkdir -p "$tree"
     cp "$from/crates.txt" "$from/HANDLES" "$tree"
     for crate in "$from"/crates/*; do

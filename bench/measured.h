@@ -55,6 +55,11 @@ MEASURED_CALL(mutf8_encoded_len);
 MEASURED_CALL(lossy_len);
 MEASURED_CALL(mutf8_lossy_len);
 
+// How many bytes at the front are whole encoded characters: the answer has that length, and nothing
+// is written.
+MEASURED_CALL(valid_up_to);
+MEASURED_CALL(mutf8_valid_up_to);
+
 // Whether some byte is F0 to F7, and whether some is 00 or one of these: the answer's length is 1
 // for yes and 0 for no, and nothing is written.
 MEASURED_CALL(contains_utf8_4_byte_char_header);

@@ -1,11 +1,12 @@
 #!/usr/bin/env python3
-"""Writes the wheel of the Python package, with the shared object of a release in it:
+"""Writes the wheel of the Python package, whose module in C holds the static library of a release:
 
     SOURCE_DATE_EPOCH=SECONDS wheel.py RELEASE FOLDER
 
 RELEASE is the folder that the archive of dist.sh holds. FOLDER gets the wheel, and its name is
-printed. Two runs give the same bytes, with the same Python: names are sorted, and times are
-SOURCE_DATE_EPOCH. It needs Python 3.9 or later, and nothing beside.
+printed. Two runs give the same bytes, with the same Python and C compiler: names are sorted, and
+times are SOURCE_DATE_EPOCH. It needs Python 3.10 or later with its `Python.h`, and a C compiler
+`cc` with GNU ld.
 """
 
 from __future__ import annotations
@@ -14,14 +15,19 @@ import base64
 import hashlib
 import os
 import re
+import subprocess
 import sys
+import sysconfig
+import tempfile
 import time
 import zipfile
 from pathlib import Path
 
 SOURCES = Path(__file__).resolve().parent
-# The tag has no manylinux, which promises that any x86-64 will do.
-TAG = "py3-none-linux_x86_64"
+# Each Python from 3.10 on loads the module. The tag has no manylinux, which promises that any
+# x86-64 will do.
+TAG = "cp310-abi3-linux_x86_64"
+MODULE = "cesu8/_native.abi3.so"
 
 WHEEL = f"""\
 Wheel-Version: 1.0
@@ -41,16 +47,29 @@ Classifier: Private :: Do Not Upload
 Classifier: Operating System :: POSIX :: Linux
 Classifier: Programming Language :: Python :: 3
 Classifier: Typing :: Typed
-Requires-Python: >=3.9
+Requires-Python: >=3.10
 Requires-External: glibc (>={c_library})
 Description-Content-Type: text/markdown
 
 {description}"""
 
 
-def c_library(shared: bytes) -> str:
-    """The newest version of the GNU C library that the shared object names."""
-    versions = re.findall(rb"GLIBC_([0-9.]+)\0", shared)
+def module(release: Path) -> bytes:
+    """The module in C. The loader refuses it on a processor before x86-64-v2."""
+    with tempfile.TemporaryDirectory() as folder:
+        path = Path(folder, "module.so")
+        command = ["cc", "-std=c11", "-O2", "-fPIC", "-Wall", "-Wextra", "-Werror", "-DNDEBUG"]
+        command += ["-shared", "-s", "-o", str(path), str(SOURCES / "native.c")]
+        command += ["-isystem", sysconfig.get_path("include"), "-I", str(release / "include")]
+        command += [str(release / "lib" / "libcesu8.a"), "-Wl,--exclude-libs,ALL,--fatal-warnings"]
+        command += ["-Wl,-z,relro,-z,now,-z,noexecstack,-z,x86-64-v2"]
+        subprocess.run(command, check=True)
+        return path.read_bytes()
+
+
+def c_library(module: bytes) -> str:
+    """The newest version of the GNU C library that the module names."""
+    versions = re.findall(rb"GLIBC_([0-9.]+)\0", module)
     return max(versions, key=lambda version: [int(part) for part in version.split(b".")]).decode()
 
 
@@ -60,8 +79,7 @@ def licences(release: Path) -> dict[str, bytes]:
 
 def package(release: Path) -> dict[str, bytes]:
     """The files of the package, by their names in the wheel."""
-    (shared,) = (release / "lib").glob("libcesu8.so.*")
-    files = {"cesu8/libcesu8.so": shared.read_bytes()}
+    files = {MODULE: module(release)}
     files["cesu8/BUILT-FROM"] = (release / "BUILT-FROM").read_bytes()
     for path in (SOURCES / "cesu8").iterdir():
         if path.suffix == ".py" or path.name == "py.typed":
@@ -109,7 +127,7 @@ def main() -> None:
     given = licences(release)
     for name, content in given.items():
         files[f"{information}/licenses/{name}"] = content
-    needed = c_library(files["cesu8/libcesu8.so"])
+    needed = c_library(files[MODULE])
     files[f"{information}/METADATA"] = metadata(version, needed, sorted(given))
     files[f"{information}/WHEEL"] = WHEEL.encode()
     files[f"{information}/RECORD"] = record(files, f"{information}/RECORD")

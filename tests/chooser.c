@@ -74,6 +74,8 @@ static struct {
     COMPARED(struct cesu8_comparison, cesu8_compare_as_utf16)                                      \
     TOLD(struct cesu8_answer, cesu8_decoded_len)                                                   \
     TOLD(struct cesu8_answer, cesu8_mutf8_decoded_len)                                             \
+    TOLD(struct cesu8_answer, cesu8_valid_up_to)                                                   \
+    TOLD(struct cesu8_answer, cesu8_mutf8_valid_up_to)                                             \
     TOLD(struct cesu8_answer, cesu8_lossy_len)                                                     \
     TOLD(struct cesu8_answer, cesu8_mutf8_lossy_len)                                               \
     PLACED(struct cesu8_answer, cesu8_encode)                                                      \

@@ -111,6 +111,15 @@ closed_pipe() {
     rm "$scratch/pipe"
 }
 
+# A reader that ends early, of more than a pipe holds.
+early_end() {
+    repeated 262144 a >"$scratch/input"
+    printf a >"$scratch/wanted"
+    "$program" encode cesu8 <"$scratch/input" 2>"$scratch/error" | head -c 1 >"$scratch/output"
+    status=${PIPESTATUS[0]}
+    expect_run 'output to head' 4 "$device_failed" "$scratch/wanted"
+}
+
 closed_streams() {
     printf a >"$scratch/input"
     "$program" encode cesu8 <&- >"$scratch/output" 2>"$scratch/error"
@@ -348,6 +357,30 @@ java_strings() {
     expect_bytes 'a text too long for a Java string' "$status" 1 '' 'cesu8: text is too long'
 }
 
+# Runs in parts of whole lines what PROGRAM.md shows for a dump that is larger than memory.
+run_in_parts() {
+    (cd "$scratch" && program="'$program'" && eval "$in_parts") 2>"$scratch/error"
+    status=$?
+    mv "$scratch/text" "$scratch/output"
+}
+
+# Lines with characters of six bytes, so that each part ends elsewhere in its last line. Then a line that
+# is longer than a part, and is cut within a pair: nothing of it is written.
+large_dump() {
+    local in_parts pair='\xED\xA0\xBD\xED\xB2\x96'
+    in_parts=$(grep '^split -C ' "$top/docs/PROGRAM.md")
+    [[ $in_parts == *' dump >text' ]] || { wrong 'PROGRAM.md shows no run in parts'; return; }
+    repeated 1200000 "a$pair$pair\xC0\x80$pair\n" >"$scratch/dump"
+    repeated 1200000 'a\xF0\x9F\x92\x96\xF0\x9F\x92\x96\x00\xF0\x9F\x92\x96\n' >"$scratch/wanted"
+    run_in_parts
+    expect_run 'a dump in parts' 0 '' "$scratch/wanted"
+    { printf a && repeated 2800000 "$pair"; } >"$scratch/dump"
+    run_in_parts
+    sed -i '/^split: /d' "$scratch/error"
+    : >"$scratch/wanted"
+    expect_run 'a line longer than a part' 1 'cesu8: invalid input' "$scratch/wanted"
+}
+
 # No length as such is want of memory.
 very_long_text() {
     repeated $((4 << 20)) '\xC8\x85\xE2\x82\xAC a\n' >"$scratch/input"
@@ -358,6 +391,7 @@ build
 run_cases
 every_pair full_output
 closed_pipe
+early_end
 closed_streams
 nothing_in_a_pipe
 begun_output
@@ -373,6 +407,7 @@ long_texts
 long_damage
 long_pairs
 java_strings
+large_dump
 very_long_text
 
 finish

@@ -9,8 +9,9 @@
 #
 # It also checks that two builds, in folders of different names, give the same bytes of every file;
 # that the sums are right; which files there are, and that the pages name no other; what the archive
-# and the shared object show and how this is marked; what install.sh refuses; that the man page and the
-# completion know the commands; and that no file names a folder of this machine. It builds from a
+# and the shared object show and how this is marked; what install.sh refuses and prints, and that
+# uninstall.sh leaves nothing of it; that the man page and the completion know the commands; and that no
+# file names a folder of this machine. It builds from a
 # commit of a copy of the tree, over what is proved here. In a clean clone that takes minutes.
 #
 # If pkg-config, CMake, c++, rustc, python3 or man is missing, it says what it skipped. If a tool that
@@ -99,11 +100,12 @@ path_without_kit() {
 look_at_files() {
     local wanted=(BUILT-FROM C.md CHANGELOG.md LICENSE-APACHE LICENSE-MIT
         LICENSE-percent_encoding LICENSE-simdutf8 PROGRAM.md README.md SECURITY.md bin/cesu8_cli
-        examples/class_constants.c examples/java_strings.sh examples/keys.c examples/keys.rs
+        examples/class_constants.c examples/find_damage.c examples/java_strings.sh
+        examples/keys.c examples/keys.rs
         include/cesu8.h install.sh
         lib/cmake/cesu8/cesu8-config-version.cmake lib/cmake/cesu8/cesu8-config.cmake
         lib/libcesu8.a lib/libcesu8.so "$shared" lib/pkgconfig/cesu8.pc
-        share/bash-completion/completions/cesu8_cli share/man/man1/cesu8_cli.1)
+        share/bash-completion/completions/cesu8_cli share/man/man1/cesu8_cli.1 uninstall.sh)
     (cd "$unpacked" && find . ! -type d -printf '%P\n' | sort) >"$scratch/files"
     diff <(printf '%s\n' "${wanted[@]}") "$scratch/files" || wrong 'the release has other files'
     [[ $(readlink "$unpacked/lib/libcesu8.so") == "libcesu8.so.$major" ]] ||
@@ -314,12 +316,15 @@ fi
 run_program "$unpacked"
 shown_lines "$unpacked/README.md"
 shown_c
+shown_in_page
 in_class_file
+in_large_file
 in_java_file
 look_at_words
 look_at_refusals
 install_to lib ''
 install_to lib64 lib64/
 install_to lib/x86_64-linux-gnu PREFIX/lib/x86_64-linux-gnu
+install_twice
 install_below
 ((failed == 0))

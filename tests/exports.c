@@ -111,6 +111,8 @@ PLACES(decode_lossy)
 PLACES(mutf8_decode_lossy)
 TELLS(decoded_len)
 TELLS(mutf8_decoded_len)
+TELLS(valid_up_to)
+TELLS(mutf8_valid_up_to)
 TELLS(lossy_len)
 TELLS(mutf8_lossy_len)
 PLACES(java_write)
@@ -251,6 +253,16 @@ static const struct row rows[] = {
     {CALL(mutf8_decoded_len), BYTES(C0_80 SURROGATES), OK, LENGTH(5), 0},
     {CALL(mutf8_decoded_len), BYTES(ALIKE ZERO), INVALID, NOTHING, 0},
     {CALL(mutf8_decoded_len), BYTES(""), OK, LENGTH(0), 0},
+    {CALL(valid_up_to), BYTES(ALIKE ZERO SURROGATES), OK, LENGTH(13), 0},
+    {CALL(valid_up_to), BYTES(ALIKE FOUR_BYTES), OK, LENGTH(6), 0},
+    {CALL(valid_up_to), BYTES(SURROGATES "\xFF" SURROGATES), OK, LENGTH(6), 0},
+    {CALL(valid_up_to), BYTES(SURROGATES "\xED\xA0\xBD\xED\xB2"), OK, LENGTH(6), 0},
+    {CALL(valid_up_to), BYTES("\xFF" ALIKE), OK, LENGTH(0), 0},
+    {CALL(valid_up_to), BYTES(""), OK, LENGTH(0), 0},
+    {CALL(mutf8_valid_up_to), BYTES(ALIKE C0_80 SURROGATES), OK, LENGTH(14), 0},
+    {CALL(mutf8_valid_up_to), BYTES(ALIKE ZERO ALIKE), OK, LENGTH(6), 0},
+    {CALL(mutf8_valid_up_to), BYTES(C0_80 "\xC0"), OK, LENGTH(2), 0},
+    {CALL(mutf8_valid_up_to), BYTES(""), OK, LENGTH(0), 0},
     {CALL(lossy_len), BYTES(ALIKE ZERO), OK, LENGTH(7), 0},
     {CALL(lossy_len), BYTES(SURROGATES "\xFF" FOUR_BYTES), OK, LENGTH(19), 0},
     {CALL(lossy_len), BYTES(""), OK, LENGTH(0), 0},
@@ -331,6 +343,10 @@ static const struct row rows[] = {
     {CALL(decoded_len), BYTES(TIMES_100(ALIKE SURROGATES) "\xFF"), INVALID, NOTHING, 0},
     {CALL(mutf8_decoded_len), BYTES(TIMES_100(C0_80 SURROGATES)), OK, LENGTH(500), 0},
     {CALL(mutf8_decoded_len), BYTES(TIMES_100(C0_80) ZERO), INVALID, NOTHING, 0},
+    {CALL(valid_up_to), BYTES(TIMES_100(ALIKE SURROGATES)), OK, LENGTH(1200), 0},
+    {CALL(valid_up_to), BYTES(TIMES_100(ALIKE SURROGATES) "\xFF"), OK, LENGTH(1200), 0},
+    {CALL(mutf8_valid_up_to), BYTES(TIMES_100(C0_80 SURROGATES)), OK, LENGTH(800), 0},
+    {CALL(mutf8_valid_up_to), BYTES(TIMES_100(C0_80) ZERO), OK, LENGTH(200), 0},
     {CALL(lossy_len), BYTES(TIMES_100(SURROGATES "\xFF")), OK, LENGTH(700), 0},
     {CALL(mutf8_lossy_len), BYTES(TIMES_100(C0_80 SURROGATES ZERO)), OK, LENGTH(800), 0},
     {CALL(java_write), BYTES(TIMES_100(ALIKE ZERO FOUR_BYTES)), OK,

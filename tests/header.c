@@ -91,6 +91,8 @@ int main(void)
     sum += of_answer(cesu8_mutf8_decode_lossy(text, n, decoded_lossily, sizeof decoded_lossily));
     sum += of_answer(cesu8_decoded_len(text, n));
     sum += of_answer(cesu8_mutf8_decoded_len(text, n));
+    sum += of_answer(cesu8_valid_up_to(text, n));
+    sum += of_answer(cesu8_mutf8_valid_up_to(text, n));
     sum += of_answer(cesu8_lossy_len(text, n));
     sum += of_answer(cesu8_mutf8_lossy_len(text, n));
     sum += of_answer(cesu8_java_write(text, n, written, sizeof written));

@@ -52,6 +52,8 @@ install_to() {
     local prefix="$scratch/pre & fix|" moved=$scratch/moved_${1//\//_} flag
     quietly sh "$unpacked/install.sh" "$prefix" ${2:+"${2//PREFIX/"$prefix"}"} ||
         wrong "install.sh fails for $1"
+    diff <(find "$prefix" ! -type d | sort) <(sort "$scratch/said") ||
+        wrong "install.sh prints other files than it installs for $1"
     mkdir -p "${moved%/*}" && mv "$prefix" "$moved" || exit 2
     diff -r "$unpacked/include" "$moved/include" || wrong "install.sh changes the header for $1"
     diff -r "$unpacked/bin" "$moved/bin" || wrong "install.sh changes the program for $1"
@@ -68,6 +70,26 @@ install_to() {
         esac
         by_cmake "keys.c by CMake from $1" "$flag"
     fi
+    uninstall "$moved"
+}
+
+# Takes away all that was installed in a folder, beside a file that was not: `uninstall FOLDER`.
+uninstall() {
+    local files
+    touch "$1/bin/other" || exit 2
+    files=$(find "$1" ! -type d ! -name other | sort)
+    quietly "$1/share/doc/cesu8/uninstall.sh" || wrong 'uninstall.sh fails'
+    diff <(echo "$files") <(sort "$scratch/said") || wrong 'uninstall.sh prints other files'
+    diff <(echo "$1/bin/other") <(find "$1" '(' ! -type d -o -name cesu8 ')') ||
+        wrong 'uninstall.sh leaves other files'
+}
+
+# What was installed twice, with the libraries in two folders, is taken away by one run.
+install_twice() {
+    local prefix=$scratch/twice
+    quietly "$unpacked/install.sh" "$prefix" || wrong 'install.sh fails for the first time'
+    quietly "$unpacked/install.sh" "$prefix" lib64 || wrong 'install.sh fails for the second time'
+    uninstall "$prefix"
 }
 
 # Installs below DESTDIR, as for a package, with a /lib that is a link to /usr/lib.
@@ -79,8 +101,8 @@ install_below() {
     grep -qx 'prefix=/usr' "$root/usr/$libdir/pkgconfig/cesu8.pc" ||
         wrong 'the file for pkg-config has another prefix'
     grep -rlF "$scratch" "$root" && wrong 'these name DESTDIR'
-    # All of the release is there but the script itself.
-    files=$(cd "$unpacked" && find . ! -type d ! -name install.sh -printf '%P %M\n' |
+    # All of the release is there but the two scripts.
+    files=$(cd "$unpacked" && find . ! -type d ! -name '*install.sh' -printf '%P %M\n' |
         sed -E -e "s,^lib/,usr/$libdir/," -e 's,^(bin|include|share)/,usr/&,' \
             -e 's,^(examples/.*|[^/]*)$,usr/share/doc/cesu8/&,' | sort)
     diff <(echo "$files") <(cd "$root" && find usr ! -type d -printf '%p %M\n' | sort) ||
@@ -99,16 +121,26 @@ install_below() {
 # That install.sh refuses these arguments with status 2, and writes nothing: `refuses ARGUMENT..`.
 refuses() {
     local status=0
-    (cd "$scratch/nowhere" && sh "$unpacked/install.sh" "$@") >"$scratch/said" 2>&1 || status=$?
+    (cd "$scratch/nowhere" && sh "$unpacked/install.sh" "$@") >"$scratch/printed" 2>"$scratch/said" ||
+        status=$?
     ((status == 2)) || wrong "install.sh ends with status $status for: $*"
+    [[ ! -s $scratch/printed ]] || wrong "install.sh prints something for: $*"
     grep -q '^usage: ' "$scratch/said" || wrong "install.sh does not say how it is called for: $*"
     [[ -z $(find "$scratch/nowhere" -mindepth 1 ! -type l) ]] ||
         wrong "install.sh writes something for: $*"
     diff -r "$unpacked" "$scratch/unpacked_before" || wrong "install.sh writes to the release for: $*"
 }
 
+# That a script of the release prints how it is called, and nothing else: `helps SCRIPT ARGUMENT..`.
+helps() {
+    (cd "$unpacked" && sh "$@") >"$scratch/printed" 2>"$scratch/said" ||
+        wrong "this fails: $*"
+    [[ $(<"$scratch/printed") == 'usage: '* && ! -s $scratch/said ]] ||
+        wrong "this does not say how it is called: $*"
+}
+
 look_at_refusals() {
-    local prefix=$scratch/nowhere/prefix libdir
+    local prefix=$scratch/nowhere/prefix libdir word
     mkdir "$scratch/nowhere" && cp -a "$unpacked" "$scratch/unpacked_before" || exit 2
     ln -s "$unpacked" "$scratch/nowhere/link" || exit 2
     refuses
@@ -117,6 +149,18 @@ look_at_refusals() {
     for libdir in '' . .. ./lib lib/. ../lib lib/../lib lib//x /lib "$scratch/nowhere/pre" \
         "$prefix/../lib"; do
         refuses "$prefix" "$libdir"
+    done
+    for word in - -h -v -- --prefix "--prefix=$prefix" --version; do
+        refuses "$word"
+        refuses "$word" "$prefix"
+        refuses "$prefix" "$word"
+    done
+    helps install.sh --help
+    helps install.sh "$prefix" --help
+    helps uninstall.sh --help
+    for word in '' "$prefix" -x; do
+        (cd "$scratch/nowhere" && sh "$unpacked/uninstall.sh" ${word:+"$word"}) >"$scratch/said" 2>&1
+        [[ $? == 2 && $(<"$scratch/said") == *usage:* ]] || wrong "uninstall.sh takes: $word"
     done
     refuses "$unpacked"
     refuses "$unpacked/"

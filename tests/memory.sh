@@ -163,6 +163,9 @@ encoding_rows() {
         done
         row "decoded_len $encoding" "$encoded" "$length" 0 ''
         row "lossy_len $encoding" "$encoded" "$length" 0 ''
+        measure "$encoded"
+        row "valid_up_to $encoding" "$encoded" "$length" 0 ''
+        measure "$utf8"
         row "into_string $encoding" "$encoded" owned "$((length > 0))" "$utf8"
     done
 }
@@ -203,6 +206,9 @@ damage_rows() {
         row "decode_strict_front $encoding" "$damaged" invalid 1 ''
         row "decoded_len $encoding" "$damaged" none 0 ''
         row "lossy_len $encoding" "$damaged" "$length" 0 ''
+        measure "${!encoding}"
+        row "valid_up_to $encoding" "$damaged" "$length" 0 ''
+        measure "$reading"
     done
 }
 

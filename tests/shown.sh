@@ -27,6 +27,25 @@ shown_c() {
     fi
 }
 
+# The two blocks of C that C.md shows, each as the body of a program: one prints what it has decoded, and
+# the other makes a name that is printed here.
+shown_in_page() {
+    local file=$scratch/shown/page.c first
+    for first in bytes text; do
+        {
+            printf '#include <cesu8.h>\n#include <stdio.h>\nint main(void) {\n'
+            sed -n "/^    static const uint8_t $first\[\]/,/^\$/p" "$unpacked/C.md"
+            [[ $first == bytes ]] || printf '    fputs(name, stdout);\n'
+            printf '    return answer.status != CESU8_OK;\n}\n'
+        } >"$file"
+        quietly cc -std=c99 -Wall -Wextra -Werror -pedantic -I "$unpacked/include" -o "$file.out" \
+            "$file" "$unpacked/lib/libcesu8.a" || wrong "what C.md shows of $first does not build"
+        "$file.out" >>"$scratch/shown/printed" || wrong "what C.md shows of $first fails"
+    done
+    printf 'a\0a\355\240\275\355\262\226' | cmp - "$scratch/shown/printed" ||
+        wrong 'what C.md shows prints something else'
+}
+
 # A class file as the Java Virtual Machine Specification has it (4.1, 4.4), up to its constants: each
 # kind of them, a Long and a Double taking two places, and among them three strings: "caf" and U+00E9,
 # the empty one, and U+0000 with U+1F496. A last one has half of a surrogate pair.
@@ -50,7 +69,8 @@ in_class_file() {
         printf '1 caf\303\251\n20 \n21 \0\360\237\222\226\n'
         printf '22 a\357\277\275\357\277\275\357\277\275\n'
     } | cmp - "$scratch/printed" || wrong 'class_constants.c prints other constants'
-    diff <(echo 'constant 22: invalid input') "$scratch/said" ||
+    # The last string is at 112, and half of a pair behind its first byte.
+    diff <(echo "$scratch/constants.class: constant 22, offset 113: invalid input") "$scratch/said" ||
         wrong 'class_constants.c does not tell a fault'
     head -c -1 "$scratch/constants.class" >"$scratch/cut.class"
     "$program" "$scratch/cut.class" >"$scratch/printed" 2>&1 &&
@@ -59,6 +79,28 @@ in_class_file() {
     "$program" "$scratch/cut.class" >"$scratch/printed" 2>&1 &&
         wrong 'class_constants.c takes another file'
     echo 'class_constants.c was built and run'
+}
+
+# A file of more than one piece, of "a" and pairs, so that the end of a piece cuts a pair; then with a byte
+# behind it that is in no character, with a pair that is cut at the end, and with a zero byte in front.
+in_large_file() {
+    local program=$scratch/find_damage pairs=$scratch/pairs
+    quietly cc -std=c99 -Wall -Wextra -Wconversion -pedantic -Werror -I "$unpacked/include" \
+        -o "$program" "$unpacked/examples/find_damage.c" "$unpacked/lib/libcesu8.a" ||
+        { wrong 'find_damage.c does not build'; return; }
+    {
+        printf a
+        printf '\355\240\275\355\262\226%.0s' {1..30000}
+    } >"$pairs"
+    diff <("$program" cesu8 <"$pairs"; "$program" mutf8 <"$pairs"; echo $?) <(echo 0) ||
+        wrong 'find_damage.c finds damage where there is none'
+    diff <({ cat "$pairs"; printf '\377b'; } | "$program" cesu8) <(echo 180001) ||
+        wrong 'find_damage.c does not find a damaged byte'
+    diff <(head -c -1 "$pairs" | "$program" cesu8; head -c 100000 "$pairs" | "$program" mutf8) \
+        <(printf '179995\n99997\n') || wrong 'find_damage.c does not find a cut pair'
+    diff <({ printf '\0'; cat "$pairs"; } | "$program" mutf8) <(echo 0) ||
+        wrong 'find_damage.c does not find a zero byte'
+    echo 'find_damage.c was built and run'
 }
 
 # The strings of a file, as writeUTF writes them: those of the class file above, the longest one, and

@@ -1,6 +1,6 @@
 #!/usr/bin/env bash
-# Makes a new repository with a copy of the libraries by vendor.sh and one crate, whose proof cites
-# a clause and a law, and proves and runs that. It checks that the copy has what it needs and no
+# Makes a new repository with a copy of the libraries by vendor.sh and two crates, one with a proof that
+# cites a clause and a law, and proves and runs them. It checks that the copy has what it needs and no
 # more, and of that no tests, that git takes nothing that `rt` made, and that a second copy changes
 # nothing. The status is 0 if nothing is wrong.
 #
@@ -13,11 +13,10 @@ source "$(dirname "${BASH_SOURCE[0]}")/lib.sh" || exit 2
 # shellcheck source=tests/kit.sh
 source "$top/tests/kit.sh" || exit 2
 
-# The crate of the new repository: the program that README.md shows, and a module whose proof cites a
-# clause and a law.
-write_crate() {
-    mkdir -p "$1/src" "$1/proofs/round_trip/encode_and_decode" || exit 2
-    cat >"$1/src/main.rt" <<'PROGRAM'
+# The program that README.md shows.
+write_program() {
+    mkdir -p "$1/keys/src" || exit 2
+    cat >"$1/keys/src/main.rt" <<'PROGRAM'
 #![tactic(auto)]
 use std::io;
 
@@ -29,30 +28,64 @@ fn main(rt: HostRuntime) -> io::Result<()> {
     rt.println(text.as_str())
 }
 PROGRAM
-    printf '\npub mod round_trip;\n' >>"$1/src/main.rt"
-    cat >"$1/src/round_trip.rt" <<'MODULE'
-ghost use Rattle.std.specs.Prelude.{◌≡◌, IfOk};
-ghost use Rattle.std.specs.String.{string_bytes};
+}
 
-use simd_cesu8::{DecodeFault, laws};
+# The library that docs/CALLING.md shows, of which the last function alone has a proof file.
+write_library() {
+    mkdir -p "$1/sorted/src" "$1/sorted/proofs/there_and_back" || exit 2
+    cat >"$1/sorted/src/lib.rt" <<'LIBRARY'
+//! Keys that sort as UTF-16 does.
+#![tactic(auto)]
+
+ghost use Rattle.std.specs.Prelude.{◌≡◌, IfOk};
+ghost use Rattle.std.specs.Str.{chars};
+ghost use Rattle.std.specs.String.{string_bytes};
+ghost use Rattle.simd_cesu8.specs.Encoding.{Cesu8, encoding};
+ghost use Rattle.simd_cesu8.specs.Reading.{IsStrictReading};
+
+use simd_cesu8::DecodeFault;
 use std::alloc::{AllocError, Global};
 
-pub fn encode_and_decode(alloc: Global, text: &str) -> Result<String, AllocError>
+/// Returns the key of a text, its CESU-8.
+pub fn key_of(alloc: Global, text: &str) -> Result<Vec<u8>, AllocError>
+    ensures { IfOk result (λ key. key.items ≡ encoding Cesu8 (chars text.now)) }
+{
+    simd_cesu8::encode(alloc, text)?.into_vec(alloc)
+}
+
+/// Returns the text of a key.
+pub fn text_of(alloc: Global, key: &[u8]) -> Result<String, DecodeFault>
+    ensures { IfOk result (λ text. IsStrictReading Cesu8 key.now (chars (string_bytes text))) }
+{
+    Ok(simd_cesu8::decode_strict(alloc, key)?.into_string(alloc)?)
+}
+LIBRARY
+    cat >>"$1/sorted/src/lib.rt" <<'FUNCTION'
+
+use simd_cesu8::laws;
+
+/// Makes a key of a text and reads it: returns the text.
+pub fn there_and_back(alloc: Global, text: &str) -> Result<String, DecodeFault>
     ensures { IfOk result (λ back. string_bytes back ≡ text.now) }
 {
     laws::inverse();
-    let encoded = simd_cesu8::encode(alloc, text)?;
-    match simd_cesu8::decode_strict(alloc, encoded.as_bytes()) {
-        Ok(decoded) => decoded.into_string(alloc),
-        Err(DecodeFault::Memory(error)) => Err(error),
-        // An encoding is never refused.
-        Err(DecodeFault::Invalid(_)) => unreachable!(),
-    }
+    let key = key_of(alloc, text)?;
+    text_of(alloc, key.as_slice())
 }
-MODULE
-    sed 's/Rattle\.uses\.proofs\./Rattle.keys.proofs./' \
-        "$top/crates/uses/proofs/round_trip/encode_and_decode/Answers.antt" \
-        >"$1/proofs/round_trip/encode_and_decode/Answers.antt" || exit 2
+FUNCTION
+    cat >"$1/sorted/proofs/there_and_back/Answers.antt" <<'ANSWERS'
+use Rattle.std.proofs.Common.{◌∙◌}
+use Rattle.std.specs.String.{string_bytes}
+use Rattle.std.proofs.lemmas.Result.{IfOk-weaker}
+use Rattle.std.proofs.lemmas.Str.{IsUtf8-string_bytes}
+use Rattle.simd_cesu8.specs.Encoding.{Cesu8}
+use Rattle.sorted.proofs.there_and_back.Goals as goal
+
+pub returns : goal.returns
+returns c =
+    IfOk-weaker _ _ _ (λ back. c.inverse.ensures.decoded Cesu8 c.args.text.now _ (string_bytes back) c.utf8.text
+    (IsUtf8-string_bytes back) (c.as_slice.ensures.value ∙ c.in_ok-key.ensures)) c.text_of.ensures
+ANSWERS
 }
 
 # What a copy has to have: the files of three folders, and four more.
@@ -66,7 +99,8 @@ wanted_files() {
 
 # What it has, but for what `rt` made.
 copied_files() {
-    (cd "$new/crates" && find . -type f ! -path '*/out/*' ! -path './keys/*' -printf '%P\n' | sort)
+    (cd "$new/crates" && find . -type f ! -path '*/out/*' ! -path './keys/*' ! -path './sorted/*' \
+        -printf '%P\n' | sort)
 }
 
 # Copies the libraries, after which crates.txt has these lines: `copy LINES`.
@@ -87,7 +121,7 @@ compare_code() {
     grep -r --include='*.rt' '#\[test\]' "$new/crates" && wrong 'a test is copied'
 }
 
-# Proves and runs the crate, over what was proved of these sources before. A copy without tests has other
+# Proves the crates and runs the program, over what was proved of these sources before. A copy without tests has other
 # sources than the library here, so `rt` builds it anew, over what was kept of each proof.
 prove() {
     local library made
@@ -99,11 +133,11 @@ prove() {
         done
     done
     if ! (cd "$new/crates/keys" && quietly rt run ${PROOF_JOBS:+--jobs "$PROOF_JOBS"}); then
-        wrong 'the crate is not proved'
+        wrong 'the crates are not proved'
     elif ! grep -qx '7 bytes, borrowed: false' "$scratch/said" ||
         ! grep -qx $'a\360\237\222\226' "$scratch/said"; then
         cat "$scratch/said"
-        wrong 'the crate prints something else'
+        wrong 'the program prints something else'
     fi
 }
 
@@ -130,12 +164,15 @@ java_text: simd_cesu8'
 new=$scratch/new
 mkdir "$new" || exit 2
 copy "$lines"
-write_crate "$new/crates/keys"
-echo 'keys: simd_cesu8' >>"$new/crates.txt"
+write_program "$new/crates"
+write_library "$new/crates"
+own='sorted: simd_cesu8
+keys: simd_cesu8 sorted'
+echo "$own" >>"$new/crates.txt"
 prove
 look_at_git
 echo 'old' >"$new/crates/simd_cesu8/src/old.rt"
-copy "$lines"$'\nkeys: simd_cesu8'
+copy "$lines"$'\n'"$own"
 
 # A repository with no folder crates, and one with a library of this name that is its own.
 mkdir -p "$scratch/flat" "$scratch/other/crates/simd_cesu8/src" || exit 2

@@ -2,21 +2,28 @@
 # Installs the wheel of the release into a fresh environment, and tests it there by the files of
 # tests/wheel: on the standards' tables, all inputs of two bytes and all scalar values beside a plain
 # model, every error handler, every split of damaged bytes, files and streams, and Java's own bytes.
-# It also checks what the wheel holds, and that wheel.py writes the same bytes again.
+# It also checks what the wheel holds, and that wheel.py writes the same bytes again. It then tests the
+# wheel once more in each other Python from 3.10 on that is there as python3.N, in the debug build that
+# Debian's python3-dbg has, and in python3 under valgrind.
 #
 # RELEASE names the folder that dist.sh has filled; where it is not set, dist.sh is run. Without
-# python3 with ctypes and venv, it says that it skipped everything, without Java what it skipped. The
-# status is 0 if nothing is wrong. It needs what tests/release.sh does.
+# python3 with venv and the header that dist.sh needs, it says that it skipped everything; without Java,
+# a debug build or valgrind, what it skipped. The status is 0 if nothing is wrong. It needs what
+# tests/release.sh does.
 unset "${!PYTHON@}"
 # shellcheck source=tests/lib.sh
 source "$(dirname "${BASH_SOURCE[0]}")/lib.sh" || exit 2
 # shellcheck source=tests/release.sh
 source "$top/tests/release.sh" || exit 2
+# shellcheck source=tests/python_header.sh
+source "$top/tests/python_header.sh" || exit 2
 
 # What the wheel holds, and a second run of wheel.py, with another folder and umask.
 look_at_wheel() {
     local again=$scratch/again needed
-    needed=$(objdump -p "$unpacked/lib/libcesu8.so.$major" | grep -o 'GLIBC_[0-9.]*' | sort -V | tail -n 1)
+    quietly python3 -m zipfile -e "$wheel" "$scratch/site-packages" || exit 1
+    needed=$(objdump -p "$scratch/site-packages/cesu8/_native.abi3.so" | grep -o 'GLIBC_[0-9.]*' | sort -V |
+        tail -n 1)
     python3 - "$wheel" "${needed#GLIBC_}" "$seconds" <<'PYTHON' || wrong 'the wheel holds something else'
 import base64
 import csv
@@ -36,7 +43,7 @@ folder = re.match(r"(cesu8-[0-9.]+\.dist-info)/", names[0])[1]
 licences = ["APACHE", "MIT", "percent_encoding", "simdutf8"]
 wanted = [f"{folder}/{name}" for name in ("METADATA", "RECORD", "WHEEL")]
 wanted += [f"{folder}/licenses/LICENSE-{name}" for name in licences]
-package = ["BUILT-FROM", "__init__.py", "_codec.py", "_library.py", "libcesu8.so", "py.typed"]
+package = ["BUILT-FROM", "__init__.py", "_codec.py", "_native.abi3.so", "py.typed"]
 wanted += [f"cesu8/{name}" for name in package]
 assert names == wanted, names
 # An archive has even seconds alone.
@@ -92,12 +99,43 @@ run_java() {
     fi
 }
 
-if ! python3 -c 'import ctypes, venv, sys; sys.exit(sys.version_info < (3, 9))' 2>/dev/null; then
-    echo 'python3 3.9 with ctypes and venv is missing: the wheel skipped'
+# Runs the tests of some files, of what is installed, or of what SITE holds: `run_tests PATTERN SITE
+# PYTHON..`. An isolated Python sees the folders of the tests alone by what they say.
+run_tests() {
+    local arguments=("$top/tests/wheel" "$1" "$2")
+    shift 2
+    if ! (cd "$scratch" && CESU8_VERSION=$version "$@" -B -W error - "${arguments[@]}" <<'PYTHON'); then
+import sys
+import unittest
+
+folder, pattern, site = sys.argv[1:]
+if site:
+    sys.path.insert(0, site)
+suite = unittest.defaultTestLoader.discover(folder, pattern)
+result = unittest.TextTestRunner(stream=sys.stdout, verbosity=1).run(suite)
+sys.exit(not result.wasSuccessful() or result.testsRun < (50 if "*" in pattern else 5))
+PYTHON
+        wrong "the tests of the wheel by $*"
+    fi
+}
+
+# Tests the wheel in another Python, if it is there. A debug build looks at the borders of each block,
+# and at what each call returns.
+test_by() {
+    if ! "$1" -c '' 2>"$scratch/said"; then
+        [[ $1 != *-dbg ]] || echo "$1 is missing: a debug build of Python skipped"
+    elif [[ $1 == *-dbg || $("$1" -V) != "$("$python" -V)" ]]; then
+        echo "in $("$1" -V) by $1:"
+        run_tests 'test_*.py' "$scratch/site-packages" "$1" -I
+    fi
+}
+
+if ! python3 -c 'import venv' 2>/dev/null || ! has_python_header; then
+    echo 'python3 3.10 with venv and Python.h is missing: the wheel skipped'
     exit 0
 fi
 find_release 'the wheel' || exit 0
-wheel=$release/cesu8-$version-py3-none-linux_x86_64.whl
+wheel=$release/cesu8-$version-cp310-abi3-linux_x86_64.whl
 if [[ ! -f $wheel ]]; then
     wrong "the release has no ${wheel##*/}"
     exit 1
@@ -105,15 +143,20 @@ fi
 look_at_wheel
 install_wheel
 run_java
-# Isolated, python sees the folders of the tests alone by what they say.
-if ! (cd "$scratch" && CESU8_VERSION=$version "$python" -I -B -W error - "$top/tests/wheel" <<'PYTHON'); then
-import sys
-import unittest
-
-suite = unittest.defaultTestLoader.discover(sys.argv[1])
-result = unittest.TextTestRunner(stream=sys.stdout, verbosity=1).run(suite)
-sys.exit(not result.wasSuccessful() or result.testsRun < 50)
-PYTHON
-    wrong 'the tests of the wheel'
+run_tests 'test_*.py' '' "$python" -I
+for other in python3.{10..20} python3-dbg; do
+    test_by "$other"
+done
+if can_build 'the module under valgrind' valgrind --version; then
+    # Each object is a block of its own, so valgrind sees what is read or written beyond it.
+    PYTHONMALLOC=malloc run_tests test_native.py "$scratch/site-packages" \
+        valgrind -q --log-file="$scratch/valgrind" "$python" -s
+    # An error of Python's own has no frame in the module.
+    awk '
+        /^==[0-9]+== *$/ { block = "" }
+        { block = block $0 "\n" }
+        /_native/ { printf "%s", block; block = ""; found = 1 }
+        END { exit found }
+    ' "$scratch/valgrind" || wrong 'valgrind finds errors of the module'
 fi
 ((failed == 0))

@@ -21,8 +21,7 @@ import codecs
 import operator
 from typing import Optional
 
-from . import _library
-from ._codec import CESU8, MUTF8, Data, Encoding, utf8_of
+from ._codec import CESU8, MUTF8, Data, Encoding, _native
 
 __version__ = "1.0.0"
 __all__ = [
@@ -35,14 +34,10 @@ __all__ = [
     "write_utf",
 ]
 
-# By names as Python hands them to a search function: 'MUTF-8' comes as 'mutf_8'.
+# By names as Python hands them to a search function, where 'MUTF-8' comes as 'mutf_8', and as most
+# callers write them.
 _ENCODINGS = {"cesu_8": CESU8, "cesu8": CESU8, "mutf_8": MUTF8, "mutf8": MUTF8}
-
-_utf16_len = _library.telling("utf16_len")
-_compare_as_utf16 = _library.comparing("compare_as_utf16")
-_java_write = _library.call("java_write")
-_java_read = _library.call("java_read", _library.Reading)
-_java_read_lossy = _library.call("java_read_lossy", _library.Reading)
+_ENCODINGS |= {"cesu-8": CESU8, "mutf-8": MUTF8}
 
 
 def encode(text: str, encoding: str, errors: str = "strict") -> bytes:
@@ -80,11 +75,7 @@ def utf16_len(text: str) -> int:
 
     Raises UnicodeEncodeError for surrogates, which are in no text.
     """
-    utf8 = utf8_of(text)
-    answer = _utf16_len(utf8, len(utf8))
-    if answer.status != _library.OK:
-        _refuse(text)
-    return answer.length
+    return _native.utf16_len(text)
 
 
 def compare_as_utf16(text: str, other: str) -> int:
@@ -94,27 +85,22 @@ def compare_as_utf16(text: str, other: str) -> int:
 
     Raises UnicodeEncodeError for surrogates, which are in no text.
     """
-    utf8, other_utf8 = utf8_of(text), utf8_of(other)
-    compared = _compare_as_utf16(utf8, len(utf8), other_utf8, len(other_utf8))
-    if compared.status != _library.OK:
-        _refuse(text)
-        _refuse(other)
-    return compared.order
+    return _native.compare_as_utf16(text, other)
 
 
-def write_utf(text: str) -> bytes:
+def write_utf(text: str, errors: str = "strict") -> bytes:
     """Write a text as Java's `DataOutput.writeUTF` does: the count of its bytes of MUTF-8, in two
     bytes, and then these.
 
     Raises OverflowError if there are more than 65,535, and UnicodeEncodeError for surrogates.
     """
-    utf8 = utf8_of(text)
-    status, written = _library.result(_java_write, utf8, len(utf8), 2 + len(utf8))
-    if status == _library.TOO_LONG:
-        raise OverflowError("the text has more than 65,535 bytes of MUTF-8")
-    if status != _library.OK:
-        return MUTF8.encode_by_handler(text, "strict")
-    return written.tobytes()
+    written = _native.write_utf(text)
+    if written is None:
+        encoded = MUTF8.encode_by_handler(text, errors)
+        if len(encoded) > 0xFFFF:
+            raise OverflowError("the text has more than 65,535 bytes of MUTF-8")
+        written = len(encoded).to_bytes(2, "big") + encoded
+    return written
 
 
 def read_utf(data: Data, start: int = 0, errors: str = "strict") -> tuple[str, int]:
@@ -129,39 +115,39 @@ def read_utf(data: Data, start: int = 0, errors: str = "strict") -> tuple[str, i
     Raises EOFError if the data ends within the string, UnicodeDecodeError for damage, with its
     place in the whole data, and ValueError if `start` is not in the data.
     """
-    start = operator.index(start)
-    # A view that an exception kept alive would forbid the caller to append to a bytearray.
-    with memoryview(data) as given, given.cast("B") as view:
-        there = len(view)
-        if not 0 <= start <= there:
-            raise ValueError(f"start is {start}, and the data has {there} bytes")
-        count = int.from_bytes(view[start : start + 2], "big")
-        end = start + 2 + count
-        string = view[start:end].tobytes()
-    function = _java_read_lossy if errors == "replace" else _java_read
-    status, utf8 = _library.result(function, string, len(string), count)
-    if status == _library.OK:
-        return str(utf8, "utf-8"), end
-    if status == _library.TRUNCATED:
-        raise EOFError(f"the string at {start} is cut: {there - start} bytes are there")
+    if isinstance(data, bytes):
+        text, end = _native.read_utf(data, start, errors == "replace")
+    else:
+        text, end = _read_utf_of_view(data, operator.index(start), errors)
+    if text is not None:
+        return text, end
+    if end == start:
+        raise EOFError(f"the string at {start} is cut: {len(_bytes(data)) - start} bytes are there")
     return MUTF8.decode_by_handler(_bytes(data), start + 2, end, end, errors)[0], end
 
 
-def _refuse(text: str) -> None:
-    """Raises what Python's own encoder does for surrogates, if the text has any."""
-    str.encode(text, "utf-8")
+def _read_utf_of_view(data: Data, start: int, errors: str) -> tuple[Optional[str], int]:
+    """What `_native.read_utf` does, for data that is not of bytes. It copies the string alone."""
+    # A view that an exception kept alive would forbid the caller to append to a bytearray.
+    with memoryview(data) as given, given.cast("B") as view:
+        if not 0 <= start <= len(view):
+            raise ValueError(f"start is {start}, and the data has {len(view)} bytes")
+        count = int.from_bytes(view[start : start + 2], "big")
+        string = view[start : start + 2 + count].tobytes()
+    text, taken = _native.read_utf(string, 0, errors == "replace")
+    return text, start + taken
 
 
 def _encoding(name: str) -> Encoding:
-    found = _ENCODINGS.get(name.lower().replace("-", "_").replace(" ", "_"))
+    found = _ENCODINGS.get(name) or _ENCODINGS.get(name.lower().replace("-", "_").replace(" ", "_"))
     if found is None:
         raise LookupError(f"cesu8 has no encoding {name!r}")
     return found
 
 
 def _bytes(data: Data) -> bytes:
-    # ctypes takes bytes alone, which nobody changes while the library reads them. A number would
-    # give as many zeros by bytes().
+    # Nobody changes bytes while the library reads them. A number would give as many zeros by
+    # bytes().
     return data if isinstance(data, bytes) else memoryview(data).tobytes()
 
 
@@ -173,7 +159,7 @@ def _codec(encoding: Encoding) -> codecs.CodecInfo:
             return encoding.encode(input, errors), len(input)
 
         def decode(self, input: Data, errors: str = "strict") -> tuple[str, int]:
-            data = _bytes(input)
+            data = input if isinstance(input, bytes) else memoryview(input).tobytes()
             return encoding.decode(data, errors), len(data)
 
     class IncrementalEncoder(codecs.IncrementalEncoder):

@@ -6,7 +6,14 @@ import codecs
 import re
 from typing import Optional, Union
 
-from . import _library
+try:
+    from . import _native
+except ImportError as error:
+    raise ImportError(
+        f"cesu8 needs Linux on x86-64-v2 or later, and the GNU C library: {error}",
+        name="cesu8",
+        path=error.path,
+    ) from error
 
 Data = Union[bytes, bytearray, memoryview]
 
@@ -37,18 +44,19 @@ _SURROGATES = re.compile("[\ud800-\udfff]+")
 _ESCAPED_OR_SURROGATES = re.compile("[\udc80-\udcff]+|[\ud800-\udfff]+")
 
 
-class Encoding:
-    """CESU-8 or MUTF-8, by the name of its codec, what the names of its calls begin with, and
-    its form of U+0000."""
+# Handlers of Python's own that treat each byte by itself. What they give for bytes from 80 on,
+# Python's ASCII decoder gives for all of them at once.
+_OF_EACH_BYTE = tuple(map(codecs.lookup_error, ("backslashreplace", "ignore", "surrogateescape")))
 
-    def __init__(self, name: str, prefix: str, null: bytes) -> None:
+
+class Encoding:
+    """CESU-8 or MUTF-8, by the name of its codec, and its form of U+0000."""
+
+    def __init__(self, name: str, is_mutf8: bool, null: bytes) -> None:
         self.name = name
-        self._encode = _library.call(prefix + "encode")
-        self._decode_strict = _library.call(prefix + "decode_strict")
-        self._decode = _library.call(prefix + "decode")
-        self._decode_lossy_strict = _library.call(prefix + "decode_lossy_strict")
-        self._decode_lossy = _library.call(prefix + "decode_lossy")
-        self._decoded_len = _library.telling(prefix + "decoded_len")
+        self._is_mutf8 = is_mutf8
+        begins = rb"[\x00-\x7F]|" + _FORMS + (rb"|" + null if len(null) > 1 else b"")
+        self._begins = re.compile(begins)
         self._characters = re.compile(rb"(?:[\x01-\x7F]+|" + null + rb"|" + _FORMS + rb")*")
         self._lead = re.compile(rb"[\x01-\x7F\xC2-\xEF]|" + null[:1])
         cut_forms = _CUT_FORMS + (rb"|" + null[:1] if len(null) > 1 else b"")
@@ -56,14 +64,8 @@ class Encoding:
 
     def encode(self, text: str, errors: str = "strict") -> bytes:
         """The encoding of a text."""
-        status, encoded = self._encoded(text)
-        if status == _library.OK:
-            return encoded.tobytes()
-        return self.encode_by_handler(text, errors)
-
-    def _encoded(self, text: str) -> tuple[int, memoryview]:
-        utf8 = utf8_of(text)
-        return _library.result(self._encode, utf8, len(utf8), len(utf8))
+        encoded = _native.encode(self._is_mutf8, text)
+        return self.encode_by_handler(text, errors) if encoded is None else encoded
 
     def encode_by_handler(self, text: str, errors: str) -> bytes:
         """The encoding of a text with surrogates, for which an error handler speaks."""
@@ -80,10 +82,9 @@ class Encoding:
             replacement, place = _handled(handler(error), (str, bytes), error)
             place = _within(place, 0, len(text))
             if isinstance(replacement, str):
-                status, encoded = self._encoded(replacement)
-                if status != _library.OK:
+                replacement = _native.encode(self._is_mutf8, replacement)
+                if replacement is None:
                     raise error
-                replacement = encoded.tobytes()
             parts.append(replacement)
             run = runs.search(text, place)
         parts.append(self.encode(text[place:]))
@@ -92,31 +93,28 @@ class Encoding:
     def decode(self, data: bytes, errors: str = "strict", lenient: bool = False) -> str:
         """The text of an encoding; with `lenient`, of what is UTF-8 as a whole or else the
         encoding."""
-        if errors == "replace":
-            function = self._decode_lossy if lenient else self._decode_lossy_strict
-        else:
-            function = self._decode if lenient else self._decode_strict
-        status, utf8 = _library.result(function, data, len(data), len(data))
-        if status == _library.OK:
-            return str(utf8, "utf-8")
-        return self.decode_by_handler(data, 0, len(data), len(data), errors)[0]
+        text = _native.decode(self._is_mutf8, lenient, errors == "replace", data)
+        if text is None:
+            return self.decode_by_handler(data, 0, len(data), len(data), errors)[0]
+        return text
 
     def decoded_len(self, data: bytes) -> Optional[int]:
         """The length in UTF-8 of the text of an encoding, or None where the bytes are none."""
-        answer = self._decoded_len(data, len(data))
-        return answer.length if answer.status == _library.OK else None
+        return _native.decoded_len(self._is_mutf8, data)
 
     def decode_front(self, data: bytes, errors: str, final: bool) -> tuple[str, int]:
         """The text of the input without a cut character at its end, and how many bytes that
         takes. With `final` nothing follows, so a cut character is damage."""
-        cut = None if final else self._cut.search(data, max(len(data) - _LONGEST_CUT, 0))
+        cut = None
+        if not final and data[-1:] >= b"\x80":
+            cut = self._cut.search(data, max(len(data) - _LONGEST_CUT, 0))
         if cut is None:
             return self.decode(data, errors), len(data)
-        function = self._decode_lossy_strict if errors == "replace" else self._decode_strict
-        status, utf8 = _library.result(function, data, cut.start(), cut.start())
-        if status == _library.OK:
-            return str(utf8, "utf-8"), cut.start()
-        return self.decode_by_handler(data, 0, cut.start(), len(data), errors)
+        is_lossy = errors == "replace"
+        text = _native.decode(self._is_mutf8, False, is_lossy, data, 0, cut.start())
+        if text is None:
+            return self.decode_by_handler(data, 0, cut.start(), len(data), errors)
+        return text, cut.start()
 
     def decode_by_handler(
         self, data: bytes, start: int, stop: int, end: int, errors: str
@@ -124,15 +122,23 @@ class Encoding:
         """The text of the bytes from `start` to `stop`, with an error handler called for each
         byte in no encoded character, and where it ends. A handler may go on up to `end`."""
         handler = codecs.lookup_error(errors)
+        is_of_each_byte = handler in _OF_EACH_BYTE
         parts = []
         place = start
         while place < stop:
             damaged = self._damaged(data, place, stop)
             if damaged > place:
-                parts.append(self._text(data[place:damaged]))
+                parts.append(
+                    _native.decode(self._is_mutf8, False, False, data, place, damaged)
+                )
             place = damaged
             if damaged == stop:
                 break
+            if is_of_each_byte and data[damaged] >= 0x80:
+                behind = self._begins.search(data, damaged + 1, stop)
+                place = stop if behind is None else behind.start()
+                parts.append(data[damaged:place].decode("ascii", errors))
+                continue
             reason = self._reason(data, damaged, end)
             error = UnicodeDecodeError(self.name, data, damaged, damaged + 1, reason)
             replacement, place = _handled(handler(error), str, error)
@@ -143,11 +149,6 @@ class Encoding:
                 end = stop
             place = _within(place, start, end)
         return "".join(parts), place
-
-    def _text(self, data: bytes) -> str:
-        status, utf8 = _library.result(self._decode_strict, data, len(data), len(data))
-        assert status == _library.OK
-        return str(utf8, "utf-8")
 
     def _damaged(self, data: bytes, place: int, end: int) -> int:
         """Where the first byte in no encoded character is, or `end`. Characters begin at
@@ -162,16 +163,9 @@ class Encoding:
     def _reason(self, data: bytes, damaged: int, end: int) -> str:
         if not self._lead.match(data, damaged, end):
             return "invalid start byte"
-        if self._cut.match(data, damaged, end):
+        if end - damaged <= _LONGEST_CUT and self._cut.match(data, damaged, end):
             return "unexpected end of data"
         return "invalid continuation byte"
-
-
-def utf8_of(text: str) -> bytes:
-    """The UTF-8 of a text. Surrogates have three bytes each there, which the library refuses."""
-    if not isinstance(text, str):
-        raise TypeError(f"text must be str, not {type(text).__name__}")
-    return str.encode(text, "utf-8", "surrogatepass")
 
 
 def _handled(answer: object, replaces: object, error: UnicodeError) -> tuple:
@@ -196,5 +190,5 @@ def _within(place: int, start: int, end: int) -> int:
     return found
 
 
-CESU8 = Encoding("cesu-8", "", b"\x00")
-MUTF8 = Encoding("mutf-8", "mutf8_", b"\xC0\x80")
+CESU8 = Encoding("cesu-8", False, b"\x00")
+MUTF8 = Encoding("mutf-8", True, b"\xC0\x80")

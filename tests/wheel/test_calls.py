@@ -160,6 +160,33 @@ class JavaStrings(unittest.TestCase):
         error = caught.exception
         self.assertEqual((error.encoding, error.start, error.end), ("mutf-8", 2, 4))
 
+    def test_handlers_of_writing(self) -> None:
+        for text, errors, row in (
+            ("a\ud800", "ignore", "00 01 61"),
+            ("a\ud800\0", "replace", "00 04 61 3F C0 80"),
+            ("\ud800\U0001f496", "backslashreplace", "00 0C 5C 75 64 38 30 30 " + tables.PAIR),
+            ("\udc80\udcff", "surrogateescape", "00 02 80 FF"),
+        ):
+            self.assertEqual(cesu8.write_utf(text, errors), bytes.fromhex(row))
+        self.assertEqual(cesu8.write_utf("\ud800" + 65534 * "a", "replace")[:3], b"\xff\xff?")
+        with self.assertRaisesRegex(OverflowError, "65,535"):
+            cesu8.write_utf("\ud800" + 65535 * "a", "replace")
+        for text, errors, error in (
+            ("\ud800", "surrogateescape", UnicodeEncodeError),
+            ("\ud800", "surrogatepass", UnicodeEncodeError),
+            ("\ud800", "cesu8.unknown", LookupError),
+        ):
+            with self.assertRaises(error):
+                cesu8.write_utf(text, errors)
+
+    def test_surrogates_come_back(self) -> None:
+        for unit in (*range(0xD800, 0xE000, 0x55), 0xDBFF, 0xDC00, 0xDFFF):
+            encoded = b"a" + bytes(model.unit_bytes(unit, "mutf-8")) + b"\xc0\x80"
+            data = b"\0\x06" + encoded
+            text, end = cesu8.read_utf(data, 0, "surrogateescape")
+            self.assertEqual((len(text), end), (5, 8))
+            self.assertEqual(cesu8.write_utf(text, "surrogateescape"), data)
+
     def test_cut(self) -> None:
         for row in ("", "00", "00 01", "00 03 61 C0", "FF FF 61"):
             data = bytes.fromhex(row)

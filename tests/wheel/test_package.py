@@ -36,13 +36,14 @@ class Package(unittest.TestCase):
         self.assertGreater(len(test.examples), 7)
         self.assertEqual(doctest.DocTestRunner().run(test).failed, 0)
 
-    def test_a_library_that_cannot_be_loaded(self) -> None:
+    def test_a_module_that_cannot_be_loaded(self) -> None:
         with tempfile.TemporaryDirectory() as folder:
             shutil.copytree(FOLDER, Path(folder, "cesu8"))
-            Path(folder, "cesu8", "libcesu8.so").write_bytes(b"no shared object")
+            Path(folder, "cesu8", "_native.abi3.so").write_bytes(b"no shared object")
             program = "import sys; sys.path.insert(0, sys.argv[1]); import cesu8"
             found = subprocess.run(
                 [sys.executable, "-c", program, folder], capture_output=True, text=True
             )
         last = found.stderr.splitlines()[-1]
-        self.assertRegex(last, r"^ImportError: cesu8 needs Linux on x86-64-v2 .*: /.*libcesu8\.so: ")
+        said = r"^ImportError: cesu8 needs Linux on x86-64-v2 .*: /.*_native\.abi3\.so: "
+        self.assertRegex(last, said)

@@ -9,10 +9,11 @@ use std::collections::BTreeMap;
 use std::process::Abort;
 use std::test::Fail;
 use uses::{
-    ConstantFault, Entry, append_all, append_and_encode, compares_as_keys, copy_strings,
-    decode_and_encode, decodes_to_same, encode_and_decode, encode_and_read, fill_arena, get_value,
-    key_without_zero, needs_or_borrows, put_value, read_utf8_constant, repair_log, rewrite_log,
-    tells_decoded_length, tells_encoded_length, tells_lossy_length, write_and_read,
+    ConstantFault, Entry, append_all, append_and_encode, append_piece, compares_as_keys,
+    copy_strings, decode_and_encode, decodes_to_same, encode_and_decode, encode_and_read,
+    fill_arena, get_value, key_without_zero, needs_or_borrows, put_value, read_utf8_constant,
+    repair_log, rewrite_log, tells_decoded_length, tells_encoded_length, tells_lossy_length,
+    write_and_read,
 };
 
 /// Whether a text constant begins these bytes which is this text, and so many bytes follow it.
@@ -105,6 +106,55 @@ fn appends_all_texts(rt: HostRuntime) -> Result<(), Fail> {
         buf.as_slice(),
         b"id=\xED\xA0\xBD\xED\xB2\x96\x00\xE2\x82\xAC".as_slice()
     );
+    Ok(())
+}
+
+/// Asserts that CESU-8 is read which comes in two pieces, cut at a place.
+fn assert_pieces(
+    rt: &impl Abort,
+    alloc: Global,
+    bytes: &[u8],
+    place: usize,
+    want: &str,
+) -> Result<(), AllocError> {
+    let mut text = String::new(alloc);
+    let mut kept = Vec::new(alloc);
+    append_piece(
+        alloc,
+        &bytes[..place.min(bytes.len())],
+        &mut kept,
+        &mut text,
+    )?;
+    append_piece(
+        alloc,
+        &bytes[place.min(bytes.len())..],
+        &mut kept,
+        &mut text,
+    )?;
+    assert_eq!(rt; text.as_str(), want, "at {place}");
+    assert!(rt; kept.is_empty(), "at {place}");
+    Ok(())
+}
+
+/// A character of each width, cut at each place.
+#[test]
+fn reads_pieces(rt: HostRuntime) -> Result<(), Fail> {
+    let bytes = b"a\xC2\x80\xE2\x82\xAC\xED\xA0\xBD\xED\xB2\x96";
+    for place in 0..bytes.len() {
+        assert_pieces(&rt, rt.alloc(), bytes, place, "a\u{80}\u{20AC}\u{1F496}")?;
+    }
+    Ok(())
+}
+
+/// Damage is kept, and what is behind it.
+#[test]
+fn keeps_damaged_pieces(rt: HostRuntime) -> Result<(), Fail> {
+    let mut text = String::new(rt.alloc());
+    let mut kept = Vec::new(rt.alloc());
+    append_piece(rt.alloc(), b"id=\xFF", &mut kept, &mut text)?;
+    append_piece(rt.alloc(), b"1", &mut kept, &mut text)?;
+    assert_eq!(rt; text.as_str(), "id=");
+    assert_eq!(rt; kept.as_slice(), b"\xFF1".as_slice());
     Ok(())
 }
 

@@ -5,3 +5,4 @@ pub mod WrittenChunks
 pub mod Characters
 pub mod Forms
 pub mod SliceReadings
+pub mod ValidFronts

@@ -5,3 +5,4 @@ pub mod Forms
 pub mod Decoding
 pub mod PutReadings
 pub mod Ways
+pub mod ValidFront

@@ -45,7 +45,7 @@ pub fn is_ill_formed_in_prefix<F: Flavor>(bytes: &[u8]) -> bool
 }
 
 /// How many bytes the character has that begins at an offset.
-struct Widths;
+pub struct Widths;
 
 impl Weight for Widths {
     ghost weight = { covered };

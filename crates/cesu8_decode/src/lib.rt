@@ -31,6 +31,7 @@ mod rows;
 mod slices;
 mod sums;
 mod text;
+mod valid_front;
 mod way;
 mod windows;
 
@@ -41,6 +42,7 @@ use cesu8_bytes::writers::exactly;
 pub use lengths::{decoded_len, lossy_len};
 use std::alloc::{AllocError, Allocator};
 use text::append_text;
+pub use valid_front::valid_up_to;
 
 /// Returns the strict reading of bytes that are not UTF-8, after one request for their length.
 pub fn decode_strict<F: Flavor, A: Allocator>(alloc: A, bytes: &[u8]) -> Result<String<A>, Refusal>

@@ -1,7 +1,7 @@
 //! Sums over the offsets of some bytes, by vectors, where they stand and with no branch on a
 //! byte. The character that begins at an offset decides its weight.
 
-ghost use Rattle.std.specs.Prelude.{◌≡◌, ℕ, ◌+◌, ◌*◌, ◌<◌, ◌≤◌, length, map};
+ghost use Rattle.std.specs.Prelude.{◌≡◌, ℕ, ◌+◌, ◌-◌, ◌*◌, ◌<◌, ◌≤◌, length, drop, map};
 ghost use Rattle.std.specs.List.{range_with_len};
 ghost use Rattle.cesu8_decode.specs.DecodedOffsets.{total_weight, weight_between};
 ghost use Rattle.cesu8_decode.specs.DecodedLanes.{weight_at, TellWeights};
@@ -44,6 +44,7 @@ pub fn sum_first<F: Flavor, W: Weight>(bytes: &[u8], most: usize) -> (usize, &[u
     requires some { 0 < length bytes.now }
     requires blocks { (0 < most) × (most ≤ BLOCKS) }
     ensures less { length result.1.now < length bytes.now }
+    ensures behind { result.1.now ≡ drop (length bytes.now - length result.1.now) bytes.now }
     ensures sum { result.0 + total_weight W.weight F.flavor result.1.now
         ≡ total_weight W.weight F.flavor bytes.now }
 {

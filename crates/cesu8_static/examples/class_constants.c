@@ -2,13 +2,20 @@
 // lays it out, each with its index:
 //   class_constants FILE.class
 // These are Modified UTF-8 with their length in front, after the byte 1. A string with an unpaired
-// surrogate, which Java allows, is no text: it is printed with U+FFFD, and told. C.md shows how
-// to put a NUL behind MUTF-8, as JNI wants it.
+// surrogate, which Java allows, is no text: it is printed with U+FFFD, and its place in the file is
+// told. C.md shows how to put a NUL behind MUTF-8, as JNI wants it.
 
 #include "cesu8.h"
 
 #include <stdio.h>
 #include <stdlib.h>
+
+// What is read, and how far.
+struct file {
+    const char *name;
+    const uint8_t *bytes;
+    size_t length, at;
+};
 
 // How many bytes a constant of this tag has after it, or 0 for a tag that there is not.
 static size_t length_of(uint8_t tag)
@@ -39,13 +46,18 @@ static size_t length_of(uint8_t tag)
     }
 }
 
-// Prints the string with which the bytes begin, and returns how many of them it takes, or 0.
-static size_t print_string(unsigned index, const uint8_t *bytes, size_t length)
+// Prints the string that comes next, and returns how many bytes it takes, or 0.
+static size_t print_string(const struct file *file, unsigned index)
 {
     static uint8_t text[CESU8_MAX_JAVA_READ_LOSSY]; // Enough for both calls.
+    const uint8_t *bytes = file->bytes + file->at;
+    size_t length = file->length - file->at;
     struct cesu8_reading read = cesu8_java_read(bytes, length, text, sizeof text);
     if (read.status == CESU8_INVALID) {
-        fprintf(stderr, "constant %u: %s\n", index, cesu8_status_text(read.status));
+        // The string is behind its count of two bytes, and its damage behind whole characters.
+        size_t whole = cesu8_mutf8_valid_up_to(bytes + 2, read.taken - 2).length;
+        fprintf(stderr, "%s: constant %u, offset %zu: %s\n", file->name, index,
+                file->at + 2 + whole, cesu8_status_text(read.status));
         read = cesu8_java_read_lossy(bytes, length, text, sizeof text);
     }
     if (read.status != CESU8_OK)
@@ -56,23 +68,28 @@ static size_t print_string(unsigned index, const uint8_t *bytes, size_t length)
     return read.taken;
 }
 
-// Prints the strings of a class file, and returns whether it has a whole pool of constants.
-static bool print_strings(const uint8_t *bytes, size_t length)
+// Prints the strings of a class file, and returns whether it has a whole pool of constants. If not,
+// `at` is where it can't be read.
+static bool print_strings(struct file *file)
 {
     // Before it are four bytes CA FE BA BE, two of the minor version and two of the major one. Its
     // own first two are one more than the last index.
-    if (length < 10 || bytes[0] != 0xCA || bytes[1] != 0xFE || bytes[2] != 0xBA || bytes[3] != 0xBE)
+    const uint8_t *bytes = file->bytes;
+    if (file->length < 10 || bytes[0] != 0xCA || bytes[1] != 0xFE || bytes[2] != 0xBA
+        || bytes[3] != 0xBE)
         return false;
     unsigned end = 256u * bytes[8] + bytes[9];
-    size_t at = 10;
+    file->at = 10;
     for (unsigned index = 1; index < end; index++) {
-        if (at == length)
+        if (file->at == file->length)
             return false;
-        uint8_t tag = bytes[at++];
-        size_t taken = tag == 1 ? print_string(index, bytes + at, length - at) : length_of(tag);
-        if (taken == 0 || taken > length - at)
+        uint8_t tag = bytes[file->at++];
+        size_t taken = tag == 1 ? print_string(file, index) : length_of(tag);
+        if (taken == 0 || taken > file->length - file->at) {
+            file->at--;
             return false;
-        at += taken;
+        }
+        file->at += taken;
         if (tag == 5 || tag == 6) // The index after a Long or a Double is not used.
             index++;
     }
@@ -119,9 +136,10 @@ int main(int count, char **words)
         perror(words[1]);
         return 1;
     }
-    bool is_whole = print_strings(bytes, length);
+    struct file file = {words[1], bytes, length, 0};
+    bool is_whole = print_strings(&file);
     free(bytes);
     if (!is_whole)
-        fprintf(stderr, "%s: no class file\n", words[1]);
+        fprintf(stderr, "%s: no class file, from offset %zu on\n", words[1], file.at);
     return is_whole ? 0 : 1;
 }

@@ -174,6 +174,13 @@ CESU8_WRITES struct cesu8_answer cesu8_mutf8_decode_lossy(
 CESU8_TELLS struct cesu8_answer cesu8_decoded_len(const uint8_t *bytes, size_t bytes_length);
 CESU8_TELLS struct cesu8_answer cesu8_mutf8_decoded_len(const uint8_t *bytes, size_t bytes_length);
 
+// How many bytes at the front of the input are whole encoded characters, in `length`: all where
+// cesu8_decode_strict takes the input, and otherwise the offset of the first byte for which
+// cesu8_decode_lossy_strict writes U+FFFD. At most five bytes from there on may be the beginning of a
+// character whose other bytes follow in the next read. CESU8_OK.
+CESU8_TELLS struct cesu8_answer cesu8_valid_up_to(const uint8_t *bytes, size_t bytes_length);
+CESU8_TELLS struct cesu8_answer cesu8_mutf8_valid_up_to(const uint8_t *bytes, size_t bytes_length);
+
 // The length of what cesu8_decode_lossy_strict writes. CESU8_OK, CESU8_TOO_LONG.
 CESU8_TELLS struct cesu8_answer cesu8_lossy_len(const uint8_t *bytes, size_t bytes_length);
 CESU8_TELLS struct cesu8_answer cesu8_mutf8_lossy_len(const uint8_t *bytes, size_t bytes_length);

@@ -1,22 +1,37 @@
 #!/bin/sh
-# Installs the library, the program and the pages from this folder:
+# Installs the library, the program and the pages from this folder, and prints each file:
 #   [DESTDIR=ROOT] ./install.sh PREFIX [LIBDIR]
 # LIBDIR is the folder for the libraries below PREFIX: lib, if it is left out, or for instance lib64 or
 # lib/x86_64-linux-gnu. It can also begin with PREFIX. What is installed names no other place, so
-# PREFIX can be moved afterwards.
+# PREFIX can be moved afterwards. PREFIX/share/doc/cesu8/uninstall.sh takes all of it away again, by the
+# list beside it, INSTALLED, in which a second run keeps the lines of the first.
 #
 # With DESTDIR, all goes below that folder instead, as for a package, and the file for pkg-config names
-# PREFIX, which is absolute then.
+# PREFIX, which is absolute then. There is no uninstall.sh then, since a package knows its files.
 #
-# The status is 2, and nothing is written, where the arguments are none of these.
+# The status is 2, and nothing is written, where the arguments are none of these. --help prints how it
+# is called.
 set -eu
 unset CDPATH
+export LC_ALL=C
 umask 022
 
+usage='usage: [DESTDIR=ROOT] ./install.sh PREFIX [LIBDIR]'
+
 refuse() {
-    printf 'install.sh: %s\nusage: [DESTDIR=ROOT] ./install.sh PREFIX [LIBDIR]\n' "$1" >&2
+    printf 'install.sh: %s\n%s\n' "$1" "$usage" >&2
     exit 2
 }
+
+for word in "$@"; do
+    case $word in
+        --help)
+            printf '%s\n' "$usage"
+            exit
+            ;;
+        -*) refuse "$word is no folder; there are no options" ;;
+    esac
+done
 
 # A folder's path from the root, with no slash at its end: `absolute FOLDER`.
 absolute() {
@@ -68,6 +83,14 @@ if [ -d "$to/" ] && [ "$(cd "$to/" && pwd -P)" = "$here" ]; then
 fi
 cd "$here"
 
+# Notes a file that was installed, and prints its path: `note PATH`, below PREFIX.
+installed=
+note() {
+    printf '%s\n' "$to/$1"
+    installed="$installed$1
+"
+}
+
 # Copies files to a folder: `put MODE FOLDER FILE..`.
 put() {
     mode=$1
@@ -75,6 +98,7 @@ put() {
     shift 2
     for file in "$@"; do
         install -D -m "$mode" "$file" "$to/$folder/${file##*/}"
+        note "$folder/${file##*/}"
     done
 }
 
@@ -83,6 +107,7 @@ put 755 bin bin/*
 put 644 "$libdir" lib/*.a lib/*.so.*
 for link in lib/*.so; do
     ln -sf "$(readlink "$link")" "$to/$libdir/${link##*/}"
+    note "$libdir/${link##*/}"
 done
 put 644 share/man/man1 share/man/man1/*
 put 644 share/bash-completion/completions share/bash-completion/completions/*
@@ -102,6 +127,16 @@ mkdir -p "$to/$libdir/pkgconfig" "$to/$libdir/cmake/cesu8"
     printf 'libdir=${prefix}/%s\n' "$libdir"
     grep -v -e '^prefix=' -e '^libdir=' lib/pkgconfig/cesu8.pc
 } >"$to/$libdir/pkgconfig/cesu8.pc"
+note "$libdir/pkgconfig/cesu8.pc"
 for file in lib/cmake/cesu8/*; do
     sed "s|set(_cesu8_up .*|set(_cesu8_up $up)|" "$file" >"$to/$libdir/cmake/cesu8/${file##*/}"
+    note "$libdir/cmake/cesu8/${file##*/}"
 done
+
+if [ -z "$root" ]; then
+    put 755 share/doc/cesu8 uninstall.sh
+    list=share/doc/cesu8/INSTALLED
+    note "$list"
+    { cat "$to/$list" 2>/dev/null || :; printf '%s' "$installed"; } | sort -u >"$to/$list.new"
+    mv "$to/$list.new" "$to/$list"
+fi

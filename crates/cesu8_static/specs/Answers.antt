@@ -7,6 +7,7 @@ use Rattle.std.specs.declared.cmp.Ordering.TheVariants.{Less, Equal, Greater}
 use Rattle.std.specs.Str.{chars}
 use Rattle.simd_cesu8.specs.Encoding.{Flavor, Mutf8, encoding, NeedsEncoding}
 use Rattle.simd_cesu8.specs.Reading.{IsStrictReading, HasNoStrictReading, reading, lossy_length}
+use Rattle.simd_cesu8.specs.Fronts.{IsValidUpTo}
 use Rattle.simd_cesu8.specs.Slices.{StandsAtFront, ReadsAtLength, ReadingAtFront}
 use Rattle.simd_cesu8.specs.Utf16.{units}
 use Rattle.simd_cesu8.specs.declared.error.TooShort.{TooShort}
@@ -96,6 +97,11 @@ pub record TellsLossyLength (f : Flavor) (bytes : List ℕ) (answer : Answer) : 
   pub too_long : answer.status ≡ TOO_LONG ↔ 2 ^ 64 ≤ lossy_length f bytes
   pub statuses : IsAmong (OK ∷ TOO_LONG ∷ []) answer.status
   pub none : answer.status ≡ TOO_LONG → answer.length ≡ 0
+
+-- How many bytes at the front are whole encoded characters, and no more. Each input has an answer.
+pub record TellsValidFront (f : Flavor) (bytes : List ℕ) (answer : Answer) : Type 0 where
+  pub ok : answer.status ≡ OK
+  pub valid : IsValidUpTo f bytes answer.length
 
 -- These bytes are at the front of the buffer, or it is too small for them.
 pub record Places (bytes : List ℕ) (answer : Answer) (old new : List ℕ) : Type 0 where

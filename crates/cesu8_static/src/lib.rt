@@ -10,7 +10,7 @@
 ghost use Rattle.std.specs.Prelude.{◌≡◌};
 ghost use Rattle.simd_cesu8.specs.Encoding.{Cesu8};
 ghost use Rattle.simd_cesu8.specs.Reading.{IsStrictReading, IsLenientReading, reading, IsLenientLossyReading};
-ghost use Rattle.cesu8_static.specs.Answers.{DecidesNeed, TellsEncodedLength, TellsUtf16Length, ComparesTexts, TellsDecodedLength, TellsLossyLength, Encodes, Decodes, DecodesLossily};
+ghost use Rattle.cesu8_static.specs.Answers.{DecidesNeed, TellsEncodedLength, TellsUtf16Length, ComparesTexts, TellsDecodedLength, TellsLossyLength, TellsValidFront, Encodes, Decodes, DecodesLossily};
 
 mod answer;
 mod comparison;
@@ -133,6 +133,15 @@ pub extern "C" fn cesu8_decoded_len(bytes: &[u8]) -> Answer
         Some(length) => Answer::of_length(length),
         None => Answer::without(INVALID),
     }
+}
+
+/// Returns how many bytes at the front are whole encoded characters, as `simd_cesu8::valid_up_to`
+/// does. The status is `OK` for all input.
+#[unsafe(no_mangle)]
+pub extern "C" fn cesu8_valid_up_to(bytes: &[u8]) -> Answer
+    ensures { TellsValidFront Cesu8 bytes.now result }
+{
+    Answer::of_length(simd_cesu8::valid_up_to(bytes))
 }
 
 /// Returns the length in bytes of the text that `cesu8_decode_lossy_strict` writes, as

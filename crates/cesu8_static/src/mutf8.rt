@@ -3,7 +3,7 @@
 ghost use Rattle.std.specs.Prelude.{◌≡◌};
 ghost use Rattle.simd_cesu8.specs.Encoding.{Mutf8};
 ghost use Rattle.simd_cesu8.specs.Reading.{IsStrictReading, IsLenientReading, reading, IsLenientLossyReading};
-ghost use Rattle.cesu8_static.specs.Answers.{DecidesNeed, TellsEncodedLength, TellsDecodedLength, TellsLossyLength, Encodes, Decodes, DecodesLossily};
+ghost use Rattle.cesu8_static.specs.Answers.{DecidesNeed, TellsEncodedLength, TellsDecodedLength, TellsLossyLength, TellsValidFront, Encodes, Decodes, DecodesLossily};
 
 use crate::answer::{Answer, Decision, INVALID, NOT_UTF8, TOO_LONG};
 use simd_cesu8::implementation::text_of;
@@ -93,6 +93,15 @@ pub extern "C" fn cesu8_mutf8_decoded_len(bytes: &[u8]) -> Answer
         Some(length) => Answer::of_length(length),
         None => Answer::without(INVALID),
     }
+}
+
+/// Returns how many bytes at the front are whole encoded characters, as `mutf8::valid_up_to` does.
+/// The status is `OK` for all input.
+#[unsafe(no_mangle)]
+pub extern "C" fn cesu8_mutf8_valid_up_to(bytes: &[u8]) -> Answer
+    ensures { TellsValidFront Mutf8 bytes.now result }
+{
+    Answer::of_length(mutf8::valid_up_to(bytes))
 }
 
 /// Returns the length in bytes of the text that `cesu8_mutf8_decode_lossy_strict` writes, as

@@ -8,3 +8,4 @@ pub mod Cutting
 pub mod Slices
 pub mod Order
 pub mod Laws
+pub mod Fronts

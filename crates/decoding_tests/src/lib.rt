@@ -15,3 +15,5 @@ mod places;
 mod rows;
 #[cfg(test)]
 mod slices;
+#[cfg(test)]
+mod valid_fronts;

@@ -68,9 +68,10 @@ fn push_marks(text: &mut String, count: usize) -> Result<(), AllocError> {
     Ok(())
 }
 
-/// What a row says is read.
+/// What a row says is read of its bytes.
 fn reading_of(
     alloc: Global,
+    bytes: &[u8],
     before: usize,
     text: &str,
     after: usize,
@@ -82,6 +83,11 @@ fn reading_of(
     Ok(Reading {
         text: read,
         damaged: before.wrapping_add(after),
+        valid: if before > 0 {
+            0
+        } else {
+            bytes.len().saturating_sub(after)
+        },
     })
 }
 
@@ -100,7 +106,7 @@ fn assert_read_alike(rt: &impl Abort, alloc: Global, bytes: &[u8], reading: &Rea
 #[test]
 fn reads_rows(rt: HostRuntime) -> Result<(), Fail> {
     for (bytes, before, text, after) in &ROWS {
-        let reading = reading_of(rt.alloc(), *before, text, *after)?;
+        let reading = reading_of(rt.alloc(), bytes, *before, text, *after)?;
         assert_read_alike(&rt, rt.alloc(), bytes, &reading);
     }
     Ok(())
@@ -112,7 +118,7 @@ fn reads_cuts_of_a_pair(rt: HostRuntime) -> Result<(), Fail> {
     let pair = b"\xED\xA0\xBD\xED\xB2\x96";
     for place in 1..6 {
         for bytes in [&pair[..place], &pair[place..]] {
-            let reading = reading_of(rt.alloc(), bytes.len(), "", 0)?;
+            let reading = reading_of(rt.alloc(), bytes, bytes.len(), "", 0)?;
             assert_read_alike(&rt, rt.alloc(), bytes, &reading);
         }
     }
@@ -120,42 +126,59 @@ fn reads_cuts_of_a_pair(rt: HostRuntime) -> Result<(), Fail> {
 }
 
 /// Bytes that the encodings read otherwise, or that have damage between characters: their text in
-/// CESU-8 and in MUTF-8, and how many U+FFFD of each are damage.
-static APART: [(&[u8], [&str; 2], [usize; 2]); 9] = [
-    (b"\0", ["\0", "\u{FFFD}"], [0, 1]),
-    (b"\0\0\0", ["\0\0\0", "\u{FFFD}\u{FFFD}\u{FFFD}"], [0, 3]),
-    (b"A\0B", ["A\0B", "A\u{FFFD}B"], [0, 1]),
-    (b"\xC0\x80", ["\u{FFFD}\u{FFFD}", "\0"], [2, 0]),
+/// CESU-8 and in MUTF-8, how many U+FFFD of each are damage, and how many bytes precede it.
+static APART: [(&[u8], [&str; 2], [usize; 2], [usize; 2]); 9] = [
+    (b"\0", ["\0", "\u{FFFD}"], [0, 1], [1, 0]),
+    (
+        b"\0\0\0",
+        ["\0\0\0", "\u{FFFD}\u{FFFD}\u{FFFD}"],
+        [0, 3],
+        [3, 0],
+    ),
+    (b"A\0B", ["A\0B", "A\u{FFFD}B"], [0, 1], [3, 1]),
+    (b"\xC0\x80", ["\u{FFFD}\u{FFFD}", "\0"], [2, 0], [0, 2]),
     (
         b"\xC2\xC0\x80",
         ["\u{FFFD}\u{FFFD}\u{FFFD}", "\u{FFFD}\0"],
         [3, 1],
+        [0, 0],
     ),
     (
         b"\xC0\xC0\x80",
         ["\u{FFFD}\u{FFFD}\u{FFFD}", "\u{FFFD}\0"],
         [3, 1],
+        [0, 0],
     ),
-    (b"\0\xC0\x80", ["\0\u{FFFD}\u{FFFD}", "\u{FFFD}\0"], [2, 1]),
+    (
+        b"\0\xC0\x80",
+        ["\0\u{FFFD}\u{FFFD}", "\u{FFFD}\0"],
+        [2, 1],
+        [1, 0],
+    ),
     (
         b"\xC0\x80\xEF\xBF\xBD",
         ["\u{FFFD}\u{FFFD}\u{FFFD}", "\0\u{FFFD}"],
         [2, 0],
+        [0, 5],
     ),
     (
         b"a\xED\xA0\xBD\xED\xA0\xBD\xED\xB2\x96",
         ["a\u{FFFD}\u{FFFD}\u{FFFD}\u{1F496}"; 2],
         [3; 2],
+        [1; 2],
     ),
 ];
 
 #[test]
 fn reads_each_encoding(rt: HostRuntime) -> Result<(), Fail> {
-    for (bytes, texts, damaged) in &APART {
+    for (bytes, texts, damaged, valid) in &APART {
         for flavor in FLAVORS {
-            let text = reading_of(rt.alloc(), 0, flavor.of(*texts), 0)?.text;
-            let damaged = flavor.of(*damaged);
-            assert_read(&rt, rt.alloc(), flavor, bytes, &Reading { text, damaged });
+            let reading = Reading {
+                text: reading_of(rt.alloc(), bytes, 0, flavor.of(*texts), 0)?.text,
+                damaged: flavor.of(*damaged),
+                valid: flavor.of(*valid),
+            };
+            assert_read(&rt, rt.alloc(), flavor, bytes, &reading);
         }
     }
     Ok(())
@@ -169,7 +192,7 @@ fn assert_border(
     border: &Border,
 ) -> Result<(), Fail> {
     let bytes = border.encoded(flavor);
-    let reading = reading_of(alloc, 0, str::from_utf8(border.utf8)?, 0)?;
+    let reading = reading_of(alloc, bytes, 0, str::from_utf8(border.utf8)?, 0)?;
     let copy = decode_strict(alloc, flavor, bytes)?.into_string(alloc)?;
     expect(
         alloc,

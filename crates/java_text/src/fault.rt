@@ -6,7 +6,7 @@ ghost use Rattle.java_text.specs.declared.fault.WriteFault.TheVariants as writin
 ghost use Rattle.java_text.specs.declared.fault.ReadFault.TheVariants as reading;
 
 use simd_cesu8::{DecodeFault, DecodeSliceFault, DecodingError};
-use std::alloc::AllocError;
+use std::alloc::{AllocError, AllocFailed};
 use std::error::Error;
 use std::fmt;
 use std::fmt::{Display, Formatter};
@@ -26,6 +26,15 @@ impl From<AllocError> for WriteFault {
     ghost from_gives = { λ _ fault. fault ≡ writing.Memory };
 
     fn from(_: AllocError) -> WriteFault {
+        WriteFault::Memory
+    }
+}
+
+/// So that `push(byte)?` works where a `WriteFault` is returned. The value is dropped.
+impl<T: Drop> From<AllocFailed<T>> for WriteFault {
+    ghost from_gives = { λ _ fault. fault ≡ writing.Memory };
+
+    fn from(_: AllocFailed<T>) -> WriteFault {
         WriteFault::Memory
     }
 }
@@ -63,6 +72,15 @@ impl From<AllocError> for ReadFault {
     ghost from_gives = { λ _ fault. fault ≡ reading.Memory };
 
     fn from(_: AllocError) -> ReadFault {
+        ReadFault::Memory
+    }
+}
+
+/// So that `push(byte)?` works where a `ReadFault` is returned. The value is dropped.
+impl<T: Drop> From<AllocFailed<T>> for ReadFault {
+    ghost from_gives = { λ _ fault. fault ≡ reading.Memory };
+
+    fn from(_: AllocFailed<T>) -> ReadFault {
         ReadFault::Memory
     }
 }

@@ -27,6 +27,14 @@
 //! assert_eq!(rt; (first.as_str(), second.as_str()), ("a\0", "\u{1F496}"));
 //! assert!(rt; rest.is_empty());
 //! ```
+//!
+//! [`mutf8::valid_up_to`] finds the first damage in a form, behind the count:
+//!
+//! ```rust
+//! let damaged = b"\0\x04a\xC0\x80\0".as_slice();
+//! assert!(rt; java_text::read_utf(alloc, damaged).is_err());
+//! assert_eq!(rt; simd_cesu8::mutf8::valid_up_to(&damaged[2..]), 3);
+//! ```
 #![tactic(auto)]
 
 ghost use Rattle.std.specs.Prelude.{◌≡◌, ℕ, List, ◌↔◌, ◌<◌, ◌≤◌, ◌+◌, ◌++◌, Err, length, IfOk, IfErr, OnOk, OnErr, IsOk, IsOkUnless, vec_len, vec_capacity};

@@ -63,6 +63,13 @@ pub extern "C" fn measured_lossy_len(bytes: &[u8], buf: &mut [u8]) -> Outcome {
     }
 }
 
+/// Calls `simd_cesu8::valid_up_to`. It writes nothing.
+#[unsafe(no_mangle)]
+pub extern "C" fn measured_valid_up_to(bytes: &[u8], buf: &mut [u8]) -> Outcome {
+    let _ = buf;
+    tell_length(simd_cesu8::valid_up_to(bytes))
+}
+
 /// Calls `simd_cesu8::decode_lossy_strict`.
 #[unsafe(no_mangle)]
 pub extern "C" fn measured_decode_lossy_strict(

@@ -54,6 +54,13 @@ pub extern "C" fn measured_mutf8_lossy_len(bytes: &[u8], buf: &mut [u8]) -> Outc
     }
 }
 
+/// Calls `mutf8::valid_up_to`. It writes nothing.
+#[unsafe(no_mangle)]
+pub extern "C" fn measured_mutf8_valid_up_to(bytes: &[u8], buf: &mut [u8]) -> Outcome {
+    let _ = buf;
+    tell_length(mutf8::valid_up_to(bytes))
+}
+
 /// Calls `mutf8::decode_lossy_strict`.
 #[unsafe(no_mangle)]
 pub extern "C" fn measured_mutf8_decode_lossy_strict(

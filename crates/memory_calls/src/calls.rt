@@ -52,6 +52,7 @@ fn make(rt: &HostRuntime, call: &str, bytes: &[u8]) -> io::Result<()> {
         "into_string" => make_into_string(rt, flavor, bytes),
         "decoded_len" => tell_length(rt, flavors::decoded_len(flavor, bytes)),
         "lossy_len" => tell_length(rt, flavors::lossy_len(flavor, bytes)),
+        "valid_up_to" => tell_length(rt, Some(flavors::valid_up_to(flavor, bytes))),
         "active" | "fallback" | "simd" | "word" => ask_kernel(rt, call, flavor, bytes),
         "faults" => show_faults(rt, flavors::decode_strict(rt.alloc(), flavor, bytes)),
         "laws" => {

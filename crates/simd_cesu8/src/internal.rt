@@ -29,7 +29,7 @@ use cesu8_bytes::writers::NoRoom;
 pub use cesu8_bytes::writers::{copy, copy_text};
 use cesu8_decode::copy_or_write::{put_encoding, put_leniently};
 use cesu8_decode::refusal::{Refusal, Unwritten};
-pub use cesu8_decode::{decode_lossy, decoded_len, lossy_len};
+pub use cesu8_decode::{decode_lossy, decoded_len, lossy_len, valid_up_to};
 pub use cesu8_encode::{encode, encode_into};
 use std::alloc::Global;
 

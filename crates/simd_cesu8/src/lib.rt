@@ -21,6 +21,7 @@
 //! | bytes of the encoding | their text, or an error | [`decode_strict`] |
 //! | bytes that begin with it, and its length | its text, or an error | [`decode_strict_front`] |
 //! | bytes of the encoding | the length of that text, or whether they are valid | [`decoded_len`] |
+//! | bytes of the encoding, perhaps damaged | where the first damage is | [`valid_up_to`] |
 //! | bytes of the encoding, perhaps damaged | a text in any case | [`decode_lossy_strict`] |
 //! | bytes of the encoding, perhaps damaged | the length of that text | [`lossy_len`] |
 //! | bytes that are UTF-8, or else the encoding | their text, or an error | [`decode`] |
@@ -44,14 +45,15 @@
 //! ```
 #![tactic(auto)]
 
-ghost use Rattle.std.specs.Prelude.{◌≡◌, ◌<◌, ◌≤◌, ◌+◌, ◌*◌, ◌++◌, [], ◌↔◌, length, take, IsTrue, IsUtf8, OnOk, OnErr, IsOk, vec_len, vec_capacity, IfSome, IfNone};
+ghost use Rattle.std.specs.Prelude.{◌≡◌, ◌<◌, ◌≤◌, ◌+◌, ◌*◌, ◌++◌, [], ◌∷◌, ℕ, ◌↔◌, length, take, drop, IsTrue, IsUtf8, OnOk, OnErr, IsOk, vec_len, vec_capacity, IfSome, IfNone};
 ghost use Rattle.std.specs.Cmp.Lexicographic.{slice_cmp};
 ghost use Rattle.std.specs.Ordering.{nat_cmp};
 ghost use Rattle.std.specs.Str.{chars};
 ghost use Rattle.simd_cesu8.specs.Utf16.{units};
 ghost use Rattle.simd_cesu8.specs.Encoding.{Cesu8, encoding, NeedsEncoding};
 ghost use Rattle.simd_cesu8.specs.Class.{IsUnchangedUtf8};
-ghost use Rattle.simd_cesu8.specs.Reading.{IsStrictReading, HasNoStrictReading, IsLenientReading, HasNoLenientReading, reading, lossy_length, IsLenientLossyReading};
+ghost use Rattle.simd_cesu8.specs.Reading.{NoneBegins, IsStrictReading, HasNoStrictReading, IsLenientReading, HasNoLenientReading, mark, reading, lossy_length, IsLenientLossyReading};
+ghost use Rattle.simd_cesu8.specs.Fronts.{HasStrictReading};
 ghost use Rattle.simd_cesu8.specs.Cow.{IfBytes, BorrowsBytesWhere, BuildsBytesOfCapacity, IfText, BorrowsTextWhere, BuildsTextOfCapacity, AnswersTextOfLength};
 ghost use Rattle.simd_cesu8.specs.Counted.{counted_encoding};
 ghost use Rattle.simd_cesu8.specs.Fault.{OnInvalid};
@@ -368,6 +370,34 @@ pub fn lossy_len(bytes: &[u8]) -> Option<usize>
     ensures none { IfNone result (usize.MAX < lossy_length Cesu8 bytes.now) }
 {
     internal::lossy_len::<Cesu8Flavor>(bytes)
+}
+
+/// Returns how many bytes at the front are whole encoded characters of CESU-8
+/// (Unicode Technical Report 26): the length of all
+/// where [`decode_strict`] returns a text, and otherwise the offset of the first byte for which
+/// [`decode_lossy_strict`] has U+FFFD. It stops soon after that offset. It requests no memory.
+///
+/// The bytes from there on may begin with damage, or with a part of a character whose other bytes
+/// follow in the next read: of at most five bytes.
+///
+/// ```rust
+/// let bytes = b"id=\xED\xA0\xBD\xED\xB2\x96\xFF";
+/// assert_eq!(rt; simd_cesu8::valid_up_to(bytes), 9);
+/// assert_eq!(rt; simd_cesu8::valid_up_to(&bytes[..9]), 9);
+/// assert_eq!(rt; simd_cesu8::valid_up_to(&bytes[..8]), 3);
+/// ```
+pub fn valid_up_to(bytes: &[u8]) -> usize
+    ensures within { result ≤ length bytes.now }
+    ensures valid { HasStrictReading Cesu8 (take result bytes.now) }
+
+    // If there are more bytes, no encoded character begins behind these, so no longer front has a
+    // strict reading, and the lossy reading replaces the byte there.
+    ensures stops { result < length bytes.now → NoneBegins Cesu8 (drop result bytes.now) }
+    ensures greatest { (n : ℕ) → result < n → n ≤ length bytes.now
+        → HasNoStrictReading Cesu8 (take n bytes.now) }
+    ensures replaced { result < length bytes.now → mark Cesu8 bytes.now result ≡ 0xFFFD ∷ [] }
+{
+    internal::valid_up_to::<Cesu8Flavor>(bytes)
 }
 
 /// Encodes a text to CESU-8 (Unicode Technical Report 26), in the caller's buffer.

@@ -6,11 +6,12 @@
 //! assert_eq!(rt; built.as_bytes(), b"a\xC0\x80".as_slice());
 //! ```
 
-ghost use Rattle.std.specs.Prelude.{◌≡◌, ◌<◌, ◌≤◌, ◌+◌, ◌*◌, ◌++◌, [], ◌↔◌, length, take, IsTrue, IsUtf8, OnOk, OnErr, IsOk, vec_len, vec_capacity, IfSome, IfNone};
+ghost use Rattle.std.specs.Prelude.{◌≡◌, ◌<◌, ◌≤◌, ◌+◌, ◌*◌, ◌++◌, [], ◌∷◌, ℕ, ◌↔◌, length, take, drop, IsTrue, IsUtf8, OnOk, OnErr, IsOk, vec_len, vec_capacity, IfSome, IfNone};
 ghost use Rattle.std.specs.Str.{chars};
 ghost use Rattle.simd_cesu8.specs.Encoding.{Mutf8, encoding, NeedsEncoding};
 ghost use Rattle.simd_cesu8.specs.Class.{IsUnchangedUtf8};
-ghost use Rattle.simd_cesu8.specs.Reading.{IsStrictReading, HasNoStrictReading, IsLenientReading, HasNoLenientReading, reading, lossy_length, IsLenientLossyReading};
+ghost use Rattle.simd_cesu8.specs.Reading.{NoneBegins, IsStrictReading, HasNoStrictReading, IsLenientReading, HasNoLenientReading, mark, reading, lossy_length, IsLenientLossyReading};
+ghost use Rattle.simd_cesu8.specs.Fronts.{HasStrictReading};
 ghost use Rattle.simd_cesu8.specs.Cow.{IfBytes, BorrowsBytesWhere, BuildsBytesOfCapacity, IfText, BorrowsTextWhere, BuildsTextOfCapacity, AnswersTextOfLength};
 ghost use Rattle.simd_cesu8.specs.Counted.{counted_encoding};
 ghost use Rattle.simd_cesu8.specs.Fault.{OnInvalid};
@@ -292,6 +293,33 @@ pub fn lossy_len(bytes: &[u8]) -> Option<usize>
     ensures none { IfNone result (usize.MAX < lossy_length Mutf8 bytes.now) }
 {
     internal::lossy_len::<Mutf8Flavor>(bytes)
+}
+
+/// Returns how many bytes at the front are whole encoded characters of MUTF-8
+/// (Java's `DataInput`): the length of all
+/// where [`decode_strict`] returns a text, and otherwise the offset of the first byte for which
+/// [`decode_lossy_strict`] has U+FFFD. It stops soon after that offset. It requests no memory.
+///
+/// The bytes from there on may begin with damage, or with a part of a character whose other bytes
+/// follow in the next read: of at most five bytes.
+///
+/// ```rust
+/// assert_eq!(rt; simd_cesu8::mutf8::valid_up_to(b"id=\xC0\x80\0"), 5);
+/// assert_eq!(rt; simd_cesu8::mutf8::valid_up_to(b"id=\xC0\x80"), 5);
+/// assert_eq!(rt; simd_cesu8::mutf8::valid_up_to(b"id=\xC0"), 3);
+/// ```
+pub fn valid_up_to(bytes: &[u8]) -> usize
+    ensures within { result ≤ length bytes.now }
+    ensures valid { HasStrictReading Mutf8 (take result bytes.now) }
+
+    // If there are more bytes, no encoded character begins behind these, so no longer front has a
+    // strict reading, and the lossy reading replaces the byte there.
+    ensures stops { result < length bytes.now → NoneBegins Mutf8 (drop result bytes.now) }
+    ensures greatest { (n : ℕ) → result < n → n ≤ length bytes.now
+        → HasNoStrictReading Mutf8 (take n bytes.now) }
+    ensures replaced { result < length bytes.now → mark Mutf8 bytes.now result ≡ 0xFFFD ∷ [] }
+{
+    internal::valid_up_to::<Mutf8Flavor>(bytes)
 }
 
 /// Encodes a text to MUTF-8 (Java's `DataOutput`, without a length in front), in the caller's

@@ -3,7 +3,7 @@
 use crate::decoders::{DECODERS, Decoder, Outcome, outcome_of};
 use crate::flavors::{
     FLAVORS, Flavor, counted, decoded_len, encode, encode_into, encoded_len, lossy_len,
-    needs_encoded,
+    needs_encoded, valid_up_to,
 };
 use crate::plain::{Reading, read};
 use std::alloc::{AllocError, Global};
@@ -133,6 +133,8 @@ pub fn expect_reading(
     bytes: &[u8],
     reading: &Reading,
 ) -> Result<(), Difference> {
+    let valid = valid_up_to(flavor, bytes);
+    expect(alloc, flavor, "valid_up_to", valid, reading.valid)?;
     let len = Some(reading.text.len());
     expect(alloc, flavor, "lossy_len", lossy_len(flavor, bytes), len)?;
     let len = if reading.damaged == 0 { len } else { None };

@@ -106,6 +106,11 @@ pub fn lossy_len(flavor: Flavor, bytes: &[u8]) -> Option<usize> {
     call!(flavor, lossy_len(bytes))
 }
 
+/// How many bytes at the front are whole encoded characters.
+pub fn valid_up_to(flavor: Flavor, bytes: &[u8]) -> usize {
+    call!(flavor, valid_up_to(bytes))
+}
+
 /// The strict reading, into a buffer of the caller's.
 pub fn decode_strict_to_slice(
     flavor: Flavor,

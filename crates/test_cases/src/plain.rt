@@ -90,17 +90,20 @@ fn character(bytes: &[u8]) -> char {
     char::from_u32(scalar).unwrap_or('\u{FFFD}')
 }
 
-/// A lossy reading: its text, and how many bytes are in no character.
+/// A lossy reading: its text, how many bytes are in no character, and how many precede the first of
+/// these.
 #[derive(Drop)]
 pub struct Reading {
     pub text: String,
     pub damaged: usize,
+    pub valid: usize,
 }
 
 /// The lossy reading of the bytes.
 pub fn read(alloc: Global, flavor: Flavor, bytes: &[u8]) -> Result<Reading, AllocError> {
     let mut text = String::new(alloc);
     let mut damaged = 0usize;
+    let mut valid = bytes.len();
     let mut inside = 0usize;
     for place in 0..bytes.len() {
         if inside > 0 {
@@ -110,10 +113,17 @@ pub fn read(alloc: Global, flavor: Flavor, bytes: &[u8]) -> Result<Reading, Allo
         let rest = &bytes[place..];
         let width = width(flavor, rest);
         text.push(character(rest.get(..width).unwrap_or(&[])))?;
-        damaged = damaged.wrapping_add(usize::from(width == 0));
+        if width == 0 {
+            damaged = damaged.wrapping_add(1);
+            valid = valid.min(place);
+        }
         inside = width.saturating_sub(1);
     }
-    Ok(Reading { text, damaged })
+    Ok(Reading {
+        text,
+        damaged,
+        valid,
+    })
 }
 
 impl Reading {

@@ -3,3 +3,4 @@ pub mod LostBytes
 pub mod OrderedKeys
 pub mod CopiedStrings
 pub mod FilledArena
+pub mod ReadPieces

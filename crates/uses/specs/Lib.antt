@@ -5,3 +5,4 @@ pub mod Repair
 pub mod StringFile
 pub mod Entry
 pub mod Arena
+pub mod Pieces

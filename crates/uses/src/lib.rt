@@ -12,6 +12,7 @@ mod entry;
 mod key_store;
 mod keys;
 mod many_texts;
+mod pieces;
 mod repair;
 mod round_trip;
 mod string_file;
@@ -26,6 +27,7 @@ pub use crate::entry::Entry;
 pub use crate::key_store::{Store, get_value, put_value};
 pub use crate::keys::key_without_zero;
 pub use crate::many_texts::append_all;
+pub use crate::pieces::append_piece;
 pub use crate::repair::{Repaired, repair_log, rewrite_log};
 pub use crate::round_trip::{
     decode_and_encode, encode_and_decode, encode_and_read, write_and_read,

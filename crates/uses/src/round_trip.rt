@@ -43,10 +43,7 @@ pub fn decode_and_encode(alloc: Global, bytes: &[u8]) -> Result<Vec<u8>, DecodeF
     ensures invalid { OnInvalid result (HasNoStrictReading Cesu8 bytes.now) }
 {
     let text = simd_cesu8::decode_strict(alloc, bytes)?;
-    match simd_cesu8::encode(alloc, text.as_str()) {
-        Ok(encoded) => encoded.into_vec(alloc).map_err(DecodeFault::Memory),
-        Err(error) => Err(DecodeFault::Memory(error)),
-    }
+    Ok(simd_cesu8::encode(alloc, text.as_str())?.into_vec(alloc)?)
 }
 
 /// Encodes a text and decodes the result lossily: returns the text.

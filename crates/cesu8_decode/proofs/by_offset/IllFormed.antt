@@ -156,8 +156,8 @@ encoding_covered f (c ∷ text) i is_text inside =
     })
     (cases_lt i (width f c)))
 
--- no character crosses from an encoding into what follows it
-none_crosses_encoding : (f : Flavor) (text rest : List ℕ) → IsText text → NoneCrosses f (encoding f text) rest
+-- No character crosses from an encoding into what follows it,
+pub none_crosses_encoding : (f : Flavor) (text rest : List ℕ) → IsText text → NoneCrosses f (encoding f text) rest
 none_crosses_encoding f [] rest is_text = λ i c stands inside. absurd (omega (arith, ap length (encoding_nil f)))
 none_crosses_encoding f (d ∷ text) rest is_text =
     subst (λ bs. NoneCrosses f bs rest) (sym (encoding_cons f d text))

@@ -8,12 +8,12 @@ use Rattle.cesu8_text.specs.Text.{utf8_of}
 use Rattle.cesu8_bytes.specs.Joining.{null_at, HasPair, AreJoinedDigits, second_third_fifth_sixth}
 use Rattle.cesu8_bytes.specs.TextChunks.{IsReadSoFar}
 use Rattle.cesu8_bytes.specs.declared.options.Strictness.{Strictness}
-use Rattle.cesu8_decode.specs.DecodedOffsets.{IsPrefixOf, one_at, two_at, three_at, continues, fits_three}
+use Rattle.cesu8_decode.specs.DecodedOffsets.{IsPrefixOf, first_width, one_at, two_at, three_at, continues, fits_three}
 use Rattle.cesu8_decode.specs.Forms.{HasForm, HasNoForm, form_len, IsUtf8OfForm}
 use Rattle.cesu8_decode.specs.declared.forms.Form.{Form}
 use Rattle.cesu8_decode.specs.declared.forms.Form.TheVariants.{Pair, Null, Two, Three}
 use Rattle.cesu8_text.proofs.text.Shapes.{utf8_of_two, utf8_of_three}
-use Rattle.cesu8_decode.proofs.by_offset.WidthTests.{two_found, three_found, pair_by_prefix, same_digits, long_by, continuation, fits_low}
+use Rattle.cesu8_decode.proofs.by_offset.WidthTests.{null_found, two_found, three_found, pair_by_prefix, same_digits, long_by, continuation, fits_low}
 use Rattle.cesu8_decode.proofs.chunks.Characters.{kept_read, null_read, pair_read, pair_width, none_by_prefix}
 
 take_two : (bytes : List ℕ) → 2 ≤ length bytes → take 2 bytes ≡ get_or bytes 0 0 ∷ get_or bytes 1 0 ∷ []
@@ -94,6 +94,16 @@ pub three_bytes : (bytes prefix : List ℕ) → IsPrefixOf bytes prefix → 3 �
     take 3 bytes ≡ get_or prefix 0 0 ∷ get_or prefix 1 0 ∷ get_or prefix 2 0 ∷ []
 three_bytes bytes prefix same long =
     take_three bytes long ∙ (λ i. sym (same 0 (omega arith)) i ∷ sym (same 1 (omega arith)) i ∷ sym (same 2 (omega arith)) i ∷ [])
+
+-- The character is as wide as its form.
+pub form_width : (f : Flavor) (bytes prefix : List ℕ) (form : Form) → IsPrefixOf bytes prefix → HasForm f prefix form →
+    first_width f bytes ≡ form_len form
+form_width f bytes prefix Pair same has =
+    let pair = pair_by_prefix bytes prefix same has in pair_width f bytes pair.0 pair.1
+form_width f bytes prefix Null same has = null_found f bytes (rw (sym (same 0 (omega arith)), sym (same 1 (omega arith))) has)
+form_width f bytes prefix Two same has = two_found f bytes (rw (sym (same 0 (omega arith)), sym (same 1 (omega arith))) has)
+form_width f bytes prefix Three same has =
+    three_found f bytes (rw (sym (same 0 (omega arith)), sym (same 1 (omega arith)), sym (same 2 (omega arith))) has)
 
 -- The UTF-8 of a character of this form is read, where the form was seen in a prefix of the bytes.
 pub form_read : (f : Flavor) (which : Strictness) (bytes prefix old new utf8 : List ℕ) (form : Form) → IsPrefixOf bytes prefix →

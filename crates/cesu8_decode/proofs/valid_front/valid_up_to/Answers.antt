@@ -1,0 +1,32 @@
+use Rattle.std.proofs.Common.{◌+◌, sym, subst, length, length-drop, arith}
+use Rattle.std.proofs.Math.Seq.{take-length}
+use Rattle.std.proofs.lemmas.List.{take_rest, drop-drop}
+use Rattle.std.proofs.lemmas.Str.{IsUtf8-from_ascii}
+use Rattle.cesu8_text.specs.Class.{IsUnchangedUtf8}
+use Rattle.cesu8_decode.proofs.chunks.ValidFronts.{fronts_joined, unchanged_valid, valid_up_to_by}
+use Rattle.cesu8_decode.proofs.valid_front.valid_up_to.Goals as goal
+
+pub returns-then-is_short_unchanged_ascii : goal.returns-then-is_short_unchanged_ascii
+returns-then-is_short_unchanged_ascii g c =
+    let f = g.F.Flavor.flavor in
+    let bytes = c.args.bytes.now in
+    let unchanged : IsUnchangedUtf8 f bytes =
+    (IsUtf8-from_ascii bytes (c.is_short_unchanged_ascii.ensures.ascii c.if-is_short_unchanged_ascii.true), c.is_short_unchanged_ascii.ensures.unchanged c.if-is_short_unchanged_ascii.true) in
+    valid_up_to_by f bytes (length bytes)
+    (unchanged_valid f bytes (length bytes) (omega arith) (subst (IsUnchangedUtf8 f) (sym (take-length bytes)) unchanged))
+    (λ more. absurd (omega (arith, more)))
+
+pub returns : goal.returns
+returns g c =
+    let f = g.F.Flavor.flavor in
+    let bytes = c.args.bytes.now in
+    let unchanged = c.valid_by_parts-unchanged.result in
+    let many = c.valid_by_sums.result in
+    let few = c.valid_by_sums-2.result in
+    let m = c.valid_by_characters.result in
+    let by_many = fronts_joined f bytes unchanged many c.valid_by_parts-unchanged.ensures (rw take_rest at c.valid_by_sums.ensures) in
+    let summed = fronts_joined f bytes (unchanged + many) few by_many (rw take_rest at c.valid_by_sums-2.ensures) in
+    let n = unchanged + many + few in
+    let last = rw take_rest at c.valid_by_characters.ensures in
+    valid_up_to_by f bytes (n + m) (fronts_joined f bytes n m summed last.front)
+    (λ more. rw (sym (drop-drop m n bytes)) (last.stops (omega (arith, length-drop n bytes, more))))
