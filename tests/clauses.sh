@@ -168,7 +168,7 @@ texts() {
 }
 
 # What the last cells of the page's tables name: entries that a semicolon parts, each a name and,
-# after a colon, its clauses.
+# after a colon, its clauses. Names with the same clauses stand before one colon.
 page() {
     awk '
         /^## / { crate = $2; gsub(/`/, "", crate) }
@@ -182,8 +182,10 @@ page() {
                     print crate, entry[i], "-"
                     continue
                 }
+                owners = split(substr(entry[i], 1, at), owner, ",")
                 names = split(substr(entry[i], at + 2), name, ",")
-                for (j = 1; j <= names; j++) print crate, substr(entry[i], 1, at), name[j]
+                for (k = 1; k <= owners; k++)
+                    for (j = 1; j <= names; j++) print crate, owner[k], name[j]
             }
         }
     ' docs/PROVED.md | sort -u >"$scratch/page"
