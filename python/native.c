@@ -9,8 +9,7 @@
 enum {
     // A result of so many bytes needs no request for memory.
     FEW = 512,
-    // From so many bytes of input on, other threads run meanwhile. With fewer, a call would only
-    // wait until they let it go on.
+    // From so many bytes on, other threads run meanwhile. With fewer, a call would only wait.
     MANY = 65536
 };
 
@@ -19,6 +18,7 @@ typedef struct cesu8_answer writes(const uint8_t *, size_t, uint8_t *, size_t);
 
 // By whether they are for MUTF-8; and the last by whether they are lenient, and lossy.
 static tells *const TELLS[2] = {cesu8_decoded_len, cesu8_mutf8_decoded_len};
+static tells *const LOOKS[2] = {cesu8_valid_up_to, cesu8_mutf8_valid_up_to};
 static writes *const ENCODES[2] = {cesu8_encode, cesu8_mutf8_encode};
 static writes *const DECODES[2][2][2] = {
     {{cesu8_decode_strict, cesu8_decode_lossy_strict}, {cesu8_decode, cesu8_decode_lossy}},
@@ -153,6 +153,19 @@ static PyObject *decoded_len(PyObject *Py_UNUSED(module), PyObject *arguments)
     return answer.status == CESU8_OK ? PyLong_FromSize_t(answer.length) : Py_NewRef(Py_None);
 }
 
+// valid_up_to(is_mutf8, data, start, stop): how many bytes from `start` on are whole characters.
+// Other threads wait, since in damaged data the next place is mostly near.
+static PyObject *valid_up_to(PyObject *Py_UNUSED(module), PyObject *arguments)
+{
+    int is_mutf8;
+    PyObject *data;
+    Py_ssize_t start, stop;
+    if (!PyArg_ParseTuple(arguments, "pSnn", &is_mutf8, &data, &start, &stop))
+        return NULL;
+    struct input input = part_of(data, start, stop);
+    return PyLong_FromSize_t(LOOKS[is_mutf8](input.bytes, input.length).length);
+}
+
 // utf16_len(text)
 static PyObject *utf16_len(PyObject *Py_UNUSED(module), PyObject *arguments)
 {
@@ -219,6 +232,7 @@ static PyMethodDef FUNCTIONS[] = {
     {"encode", encode, METH_VARARGS, NULL},
     {"decode", decode, METH_VARARGS, NULL},
     {"decoded_len", decoded_len, METH_VARARGS, NULL},
+    {"valid_up_to", valid_up_to, METH_VARARGS, NULL},
     {"utf16_len", utf16_len, METH_VARARGS, NULL},
     {"compare_as_utf16", compare_as_utf16, METH_VARARGS, NULL},
     {"write_utf", write_utf, METH_VARARGS, NULL},

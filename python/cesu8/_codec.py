@@ -17,15 +17,7 @@ except ImportError as error:
 
 Data = Union[bytes, bytearray, memoryview]
 
-# The forms of a character of two bytes and more, but for that of U+0000.
-_FORMS = (
-    rb"[\xC2-\xDF][\x80-\xBF]"
-    rb"|\xE0[\xA0-\xBF][\x80-\xBF]"
-    rb"|[\xE1-\xEC\xEE\xEF][\x80-\xBF]{2}"
-    rb"|\xED[\x80-\x9F][\x80-\xBF]"
-    rb"|\xED[\xA0-\xAF][\x80-\xBF]\xED[\xB0-\xBF][\x80-\xBF]"
-)
-# Their beginnings: all but the last byte, and less.
+# The beginnings of a character of two bytes and more: all but its last byte, and less.
 _CUT_FORMS = (
     rb"[\xC2-\xDF]"
     rb"|\xE0[\xA0-\xBF]?"
@@ -35,9 +27,8 @@ _CUT_FORMS = (
 )
 _LONGEST_CUT = 5
 
-# How many bytes one search for damage looks at, since the regular expression takes memory for
-# each character that it passes.
-_SEARCHED = 4096
+# Bytes behind damage that may begin a character. All others are damage too.
+_MAY_BEGIN = re.compile(rb"[\x00-\x7F\xC0-\xEF]")
 
 _SURROGATES = re.compile("[\ud800-\udfff]+")
 # Python's own encoders hand the handler `surrogateescape` what it can't escape, by itself.
@@ -55,9 +46,6 @@ class Encoding:
     def __init__(self, name: str, is_mutf8: bool, null: bytes) -> None:
         self.name = name
         self._is_mutf8 = is_mutf8
-        begins = rb"[\x00-\x7F]|" + _FORMS + (rb"|" + null if len(null) > 1 else b"")
-        self._begins = re.compile(begins)
-        self._characters = re.compile(rb"(?:[\x01-\x7F]+|" + null + rb"|" + _FORMS + rb")*")
         self._lead = re.compile(rb"[\x01-\x7F\xC2-\xEF]|" + null[:1])
         cut_forms = _CUT_FORMS + (rb"|" + null[:1] if len(null) > 1 else b"")
         self._cut = re.compile(rb"(?:" + cut_forms + rb")\Z")
@@ -126,7 +114,7 @@ class Encoding:
         parts = []
         place = start
         while place < stop:
-            damaged = self._damaged(data, place, stop)
+            damaged = place + _native.valid_up_to(self._is_mutf8, data, place, stop)
             if damaged > place:
                 parts.append(
                     _native.decode(self._is_mutf8, False, False, data, place, damaged)
@@ -135,7 +123,7 @@ class Encoding:
             if damaged == stop:
                 break
             if is_of_each_byte and data[damaged] >= 0x80:
-                behind = self._begins.search(data, damaged + 1, stop)
+                behind = _MAY_BEGIN.search(data, damaged + 1, stop)
                 place = stop if behind is None else behind.start()
                 parts.append(data[damaged:place].decode("ascii", errors))
                 continue
@@ -149,16 +137,6 @@ class Encoding:
                 end = stop
             place = _within(place, start, end)
         return "".join(parts), place
-
-    def _damaged(self, data: bytes, place: int, end: int) -> int:
-        """Where the first byte in no encoded character is, or `end`. Characters begin at
-        `place`."""
-        while True:
-            # No character begins inside another, so a search that is cut short loses none.
-            found = self._characters.match(data, place, min(place + _SEARCHED, end)).end()
-            if found == place:
-                return found
-            place = found
 
     def _reason(self, data: bytes, damaged: int, end: int) -> str:
         if not self._lead.match(data, damaged, end):

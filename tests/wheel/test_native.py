@@ -22,6 +22,7 @@ CALLS = [
     (_native.encode, 2),
     (_native.decode, 4),
     (_native.decoded_len, 2),
+    (_native.valid_up_to, 4),
     (_native.utf16_len, 1),
     (_native.compare_as_utf16, 2),
     (_native.write_utf, 1),
@@ -43,6 +44,8 @@ class Refusals(unittest.TestCase):
             with self.assertRaises(TypeError):
                 _native.decoded_len(False, data)
             with self.assertRaises(TypeError):
+                _native.valid_up_to(False, data, 0, 0)
+            with self.assertRaises(TypeError):
                 _native.read_utf(data, 0, False)
         for text in (None, 5, b"bytes"):
             for call in (_native.utf16_len, _native.write_utf):
@@ -63,6 +66,10 @@ class Refusals(unittest.TestCase):
                 _native.decode(False, False, False, b"data", place, 4)
             with self.assertRaises(TypeError):
                 _native.decode(False, False, False, b"data", 0, place)
+            with self.assertRaises(TypeError):
+                _native.valid_up_to(False, b"data", place, 4)
+            with self.assertRaises(TypeError):
+                _native.valid_up_to(False, b"data", 0, place)
             with self.assertRaises(TypeError):
                 _native.read_utf(b"data", place, False)
 
@@ -95,8 +102,24 @@ class Results(unittest.TestCase):
             for stop in (*range(8), sys.maxsize):
                 text = _native.decode(False, False, True, data, start, stop)
                 self.assertEqual(text, data[start:stop].decode("ascii", "replace"))
+                found = _native.valid_up_to(False, data, start, stop)
+                part = data[start:stop]
+                self.assertEqual(found, part.find(255) if 255 in part else len(part))
+        self.assertEqual(_native.valid_up_to(False, data, -sys.maxsize, 6), 0)
         self.assertEqual(_native.decode(False, False, False, data, -1, -1), "")
         self.assertEqual(_native.decode(False, False, False, data, -sys.maxsize, 0), "")
+
+    def test_where_damage_is(self) -> None:
+        fills = [b"", 70 * b"a", 3000 * b"\xe2\x82\xac", 90 * bytes.fromhex(tables.PAIR)]
+        for encoding, is_mutf8 in zip(model.ENCODINGS, (False, True)):
+            for row in (bytes.fromhex(row) for row, *_ in tables.DAMAGE):
+                places = model.damaged(row, encoding)
+                for fill in fills:
+                    # No character that the row cuts goes on behind it.
+                    data = b"\xff" + fill + row + b"a" + fill
+                    found = _native.valid_up_to(is_mutf8, data, 1, len(data))
+                    self.assertEqual(found, len(fill) + places[0] if places else len(data) - 1)
+                    self.assertEqual(_native.valid_up_to(is_mutf8, data, 0, len(data)), 0)
 
 
 class Objects(unittest.TestCase):
@@ -114,6 +137,7 @@ class Objects(unittest.TestCase):
                     _native.decode(is_mutf8, *flags, encoded, 1 if encoded else 0, len(encoded))
                 _native.decoded_len(is_mutf8, encoded)
                 _native.decoded_len(is_mutf8, encoded + b"\xff")
+                _native.valid_up_to(is_mutf8, encoded + b"\xff", 0, len(encoded) + 1)
             _native.utf16_len(text)
             _native.compare_as_utf16(text, text + "a")
             if len(text) < 1000:
@@ -130,6 +154,7 @@ class Objects(unittest.TestCase):
             (_native.compare_as_utf16, ("\ud800", "a")),
             (_native.compare_as_utf16, ("a", "\ud800")),
             (_native.decode, (False, False, False, DATA, 3, 1 << 70)),
+            (_native.valid_up_to, (False, DATA, 3, 1 << 70)),
             (_native.read_utf, (DATA, 7, False)),
             (_native.read_utf, (DATA, 2, False)),
             (_native.read_utf, (DATA, 0, False)),
