@@ -1,12 +1,12 @@
-// The calls of the library, on Python's objects. This is plain C, of what Python's interface has in
-// each version from 3.10 on, and nothing of it is proved. A function that returns None refuses the
-// input: the package finds out where, and calls the error handler.
+// The calls of the library on Python's objects, by what Python's interface has in each version from
+// 3.10 on. Nothing of this is proved. None means refused input, which the package looks into.
 
 #define Py_LIMITED_API 0x030A0000
 #include <Python.h>
 #include "cesu8.h"
 
 enum {
+    LONGEST = 6, // A surrogate pair.
     // A result of so many bytes needs no request for memory.
     FEW = 512,
     // From so many bytes on, other threads run meanwhile. With fewer, a call would only wait.
@@ -153,17 +153,22 @@ static PyObject *decoded_len(PyObject *Py_UNUSED(module), PyObject *arguments)
     return answer.status == CESU8_OK ? PyLong_FromSize_t(answer.length) : Py_NewRef(Py_None);
 }
 
-// valid_up_to(is_mutf8, data, start, stop): how many bytes from `start` on are whole characters.
-// Other threads wait, since in damaged data the next place is mostly near.
-static PyObject *valid_up_to(PyObject *Py_UNUSED(module), PyObject *arguments)
+// damage(is_mutf8, data, start, stop): where the first bytes in no character begin, and where some
+// of them end. Other threads wait, since in damaged data the next ones are mostly near.
+static PyObject *damage(PyObject *Py_UNUSED(module), PyObject *arguments)
 {
     int is_mutf8;
     PyObject *data;
     Py_ssize_t start, stop;
     if (!PyArg_ParseTuple(arguments, "pSnn", &is_mutf8, &data, &start, &stop))
         return NULL;
+    tells *look = LOOKS[is_mutf8];
     struct input input = part_of(data, start, stop);
-    return PyLong_FromSize_t(LOOKS[is_mutf8](input.bytes, input.length).length);
+    size_t first = look(input.bytes, input.length).length, end = first;
+    for (size_t left; (left = input.length - end) > 0 && end - first < FEW; end++)
+        if (look(input.bytes + end, left < LONGEST ? left : LONGEST).length > 0)
+            break;
+    return Py_BuildValue("nn", start + (Py_ssize_t)first, start + (Py_ssize_t)end);
 }
 
 // utf16_len(text)
@@ -228,16 +233,10 @@ static PyObject *read_utf(PyObject *Py_UNUSED(module), PyObject *arguments)
     return Py_BuildValue("Nn", text, start + (Py_ssize_t)reading.taken);
 }
 
+#define CALL(name) {#name, name, METH_VARARGS, NULL}
 static PyMethodDef FUNCTIONS[] = {
-    {"encode", encode, METH_VARARGS, NULL},
-    {"decode", decode, METH_VARARGS, NULL},
-    {"decoded_len", decoded_len, METH_VARARGS, NULL},
-    {"valid_up_to", valid_up_to, METH_VARARGS, NULL},
-    {"utf16_len", utf16_len, METH_VARARGS, NULL},
-    {"compare_as_utf16", compare_as_utf16, METH_VARARGS, NULL},
-    {"write_utf", write_utf, METH_VARARGS, NULL},
-    {"read_utf", read_utf, METH_VARARGS, NULL},
-    {NULL, NULL, 0, NULL},
+    CALL(encode), CALL(decode), CALL(decoded_len), CALL(damage), CALL(utf16_len),
+    CALL(compare_as_utf16), CALL(write_utf), CALL(read_utf), {NULL, NULL, 0, NULL},
 };
 static PyModuleDef_Slot SLOTS[] = {{0, NULL}};
 static struct PyModuleDef MODULE = {

@@ -27,9 +27,6 @@ _CUT_FORMS = (
 )
 _LONGEST_CUT = 5
 
-# Bytes behind damage that may begin a character. All others are damage too.
-_MAY_BEGIN = re.compile(rb"[\x00-\x7F\xC0-\xEF]")
-
 _SURROGATES = re.compile("[\ud800-\udfff]+")
 # Python's own encoders hand the handler `surrogateescape` what it can't escape, by itself.
 _ESCAPED_OR_SURROGATES = re.compile("[\udc80-\udcff]+|[\ud800-\udfff]+")
@@ -113,28 +110,29 @@ class Encoding:
         is_of_each_byte = handler in _OF_EACH_BYTE
         parts = []
         place = start
+        damaged = behind = 0
         while place < stop:
-            damaged = place + _native.valid_up_to(self._is_mutf8, data, place, stop)
-            if damaged > place:
-                parts.append(
-                    _native.decode(self._is_mutf8, False, False, data, place, damaged)
-                )
-            place = damaged
-            if damaged == stop:
-                break
-            if is_of_each_byte and data[damaged] >= 0x80:
-                behind = _MAY_BEGIN.search(data, damaged + 1, stop)
-                place = stop if behind is None else behind.start()
-                parts.append(data[damaged:place].decode("ascii", errors))
+            if not damaged <= place < behind:
+                damaged, behind = _native.damage(self._is_mutf8, data, place, stop)
+                if place < damaged:
+                    parts.append(
+                        _native.decode(self._is_mutf8, False, False, data, place, damaged)
+                    )
+                    place = damaged
+                    continue
+            if is_of_each_byte and data.find(0, place, behind) < 0:
+                parts.append(data[place:behind].decode("ascii", errors))
+                place = behind
                 continue
-            reason = self._reason(data, damaged, end)
-            error = UnicodeDecodeError(self.name, data, damaged, damaged + 1, reason)
+            reason = self._reason(data, place, end)
+            error = UnicodeDecodeError(self.name, data, place, place + 1, reason)
             replacement, place = _handled(handler(error), str, error)
             parts.append(replacement)
             if error.object is not data:
                 # A handler may put other input in place of this, as with Python's own decoders.
                 data, start, stop = error.object, 0, len(error.object)
                 end = stop
+                behind = 0
             place = _within(place, start, end)
         return "".join(parts), place
 
