@@ -1,16 +1,15 @@
-// The calls of the library, on Python's objects. This is plain C, of what Python's interface has in
-// each version from 3.10 on, and nothing of it is proved. A function that returns None refuses the
-// input: the package finds out where, and calls the error handler.
+// The calls of the library on Python's objects, by what Python's interface has in each version from
+// 3.10 on. Nothing of this is proved. None means refused input, which the package looks into.
 
 #define Py_LIMITED_API 0x030A0000
 #include <Python.h>
 #include "cesu8.h"
 
 enum {
+    LONGEST = 6, // A surrogate pair.
     // A result of so many bytes needs no request for memory.
     FEW = 512,
-    // From so many bytes of input on, other threads run meanwhile. With fewer, a call would only
-    // wait until they let it go on.
+    // From so many bytes on, other threads run meanwhile. With fewer, a call would only wait.
     MANY = 65536
 };
 
@@ -19,6 +18,7 @@ typedef struct cesu8_answer writes(const uint8_t *, size_t, uint8_t *, size_t);
 
 // By whether they are for MUTF-8; and the last by whether they are lenient, and lossy.
 static tells *const TELLS[2] = {cesu8_decoded_len, cesu8_mutf8_decoded_len};
+static tells *const LOOKS[2] = {cesu8_valid_up_to, cesu8_mutf8_valid_up_to};
 static writes *const ENCODES[2] = {cesu8_encode, cesu8_mutf8_encode};
 static writes *const DECODES[2][2][2] = {
     {{cesu8_decode_strict, cesu8_decode_lossy_strict}, {cesu8_decode, cesu8_decode_lossy}},
@@ -153,6 +153,24 @@ static PyObject *decoded_len(PyObject *Py_UNUSED(module), PyObject *arguments)
     return answer.status == CESU8_OK ? PyLong_FromSize_t(answer.length) : Py_NewRef(Py_None);
 }
 
+// damage(is_mutf8, data, start, stop): where the first bytes in no character begin, and where some
+// of them end. Other threads wait, since in damaged data the next ones are mostly near.
+static PyObject *damage(PyObject *Py_UNUSED(module), PyObject *arguments)
+{
+    int is_mutf8;
+    PyObject *data;
+    Py_ssize_t start, stop;
+    if (!PyArg_ParseTuple(arguments, "pSnn", &is_mutf8, &data, &start, &stop))
+        return NULL;
+    tells *look = LOOKS[is_mutf8];
+    struct input input = part_of(data, start, stop);
+    size_t first = look(input.bytes, input.length).length, end = first;
+    for (size_t left; (left = input.length - end) > 0 && end - first < FEW; end++)
+        if (look(input.bytes + end, left < LONGEST ? left : LONGEST).length > 0)
+            break;
+    return Py_BuildValue("nn", start + (Py_ssize_t)first, start + (Py_ssize_t)end);
+}
+
 // utf16_len(text)
 static PyObject *utf16_len(PyObject *Py_UNUSED(module), PyObject *arguments)
 {
@@ -215,15 +233,10 @@ static PyObject *read_utf(PyObject *Py_UNUSED(module), PyObject *arguments)
     return Py_BuildValue("Nn", text, start + (Py_ssize_t)reading.taken);
 }
 
+#define CALL(name) {#name, name, METH_VARARGS, NULL}
 static PyMethodDef FUNCTIONS[] = {
-    {"encode", encode, METH_VARARGS, NULL},
-    {"decode", decode, METH_VARARGS, NULL},
-    {"decoded_len", decoded_len, METH_VARARGS, NULL},
-    {"utf16_len", utf16_len, METH_VARARGS, NULL},
-    {"compare_as_utf16", compare_as_utf16, METH_VARARGS, NULL},
-    {"write_utf", write_utf, METH_VARARGS, NULL},
-    {"read_utf", read_utf, METH_VARARGS, NULL},
-    {NULL, NULL, 0, NULL},
+    CALL(encode), CALL(decode), CALL(decoded_len), CALL(damage), CALL(utf16_len),
+    CALL(compare_as_utf16), CALL(write_utf), CALL(read_utf), {NULL, NULL, 0, NULL},
 };
 static PyModuleDef_Slot SLOTS[] = {{0, NULL}};
 static struct PyModuleDef MODULE = {

@@ -402,6 +402,12 @@ static const struct row {
     {"one-null", one_null, 40, 40, 256, OTHER, {EACH(mutf8_encode)}},
     {"80-nulls", nulls_80, 4000, 4000, 64, OTHER, {EACH(mutf8_encode)}},
     {"null-in-30", nulls_in_30, 16384, 16384, 16, OTHER, {EACH(mutf8_encode)}},
+
+    // How many bytes at the front are whole: all, or those in front of a wrong one.
+    {"any-width", any_in_cesu8, 24, 24, 256, OTHER, {ONE(valid_up_to)}},
+    {"any-width", any_in_cesu8, 16380, 16380, 16, OTHER, {ONE(valid_up_to)}},
+    {"three-bytes", all_of_three, 16380, 16380, 16, OTHER, {ONE(mutf8_valid_up_to)}},
+    {"wrong-in-front", wrong_in_front, 1900, 1900, 256, OTHER, {ONE(valid_up_to)}},
     {.name = NULL},
 };
 

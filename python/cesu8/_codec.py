@@ -17,15 +17,7 @@ except ImportError as error:
 
 Data = Union[bytes, bytearray, memoryview]
 
-# The forms of a character of two bytes and more, but for that of U+0000.
-_FORMS = (
-    rb"[\xC2-\xDF][\x80-\xBF]"
-    rb"|\xE0[\xA0-\xBF][\x80-\xBF]"
-    rb"|[\xE1-\xEC\xEE\xEF][\x80-\xBF]{2}"
-    rb"|\xED[\x80-\x9F][\x80-\xBF]"
-    rb"|\xED[\xA0-\xAF][\x80-\xBF]\xED[\xB0-\xBF][\x80-\xBF]"
-)
-# Their beginnings: all but the last byte, and less.
+# The beginnings of a character of two bytes and more: all but its last byte, and less.
 _CUT_FORMS = (
     rb"[\xC2-\xDF]"
     rb"|\xE0[\xA0-\xBF]?"
@@ -34,10 +26,6 @@ _CUT_FORMS = (
     rb"|\xED[\xA0-\xAF](?:[\x80-\xBF](?:\xED[\xB0-\xBF]?)?)?"
 )
 _LONGEST_CUT = 5
-
-# How many bytes one search for damage looks at, since the regular expression takes memory for
-# each character that it passes.
-_SEARCHED = 4096
 
 _SURROGATES = re.compile("[\ud800-\udfff]+")
 # Python's own encoders hand the handler `surrogateescape` what it can't escape, by itself.
@@ -55,9 +43,6 @@ class Encoding:
     def __init__(self, name: str, is_mutf8: bool, null: bytes) -> None:
         self.name = name
         self._is_mutf8 = is_mutf8
-        begins = rb"[\x00-\x7F]|" + _FORMS + (rb"|" + null if len(null) > 1 else b"")
-        self._begins = re.compile(begins)
-        self._characters = re.compile(rb"(?:[\x01-\x7F]+|" + null + rb"|" + _FORMS + rb")*")
         self._lead = re.compile(rb"[\x01-\x7F\xC2-\xEF]|" + null[:1])
         cut_forms = _CUT_FORMS + (rb"|" + null[:1] if len(null) > 1 else b"")
         self._cut = re.compile(rb"(?:" + cut_forms + rb")\Z")
@@ -125,40 +110,31 @@ class Encoding:
         is_of_each_byte = handler in _OF_EACH_BYTE
         parts = []
         place = start
+        damaged = behind = 0
         while place < stop:
-            damaged = self._damaged(data, place, stop)
-            if damaged > place:
-                parts.append(
-                    _native.decode(self._is_mutf8, False, False, data, place, damaged)
-                )
-            place = damaged
-            if damaged == stop:
-                break
-            if is_of_each_byte and data[damaged] >= 0x80:
-                behind = self._begins.search(data, damaged + 1, stop)
-                place = stop if behind is None else behind.start()
-                parts.append(data[damaged:place].decode("ascii", errors))
+            if not damaged <= place < behind:
+                damaged, behind = _native.damage(self._is_mutf8, data, place, stop)
+                if place < damaged:
+                    parts.append(
+                        _native.decode(self._is_mutf8, False, False, data, place, damaged)
+                    )
+                    place = damaged
+                    continue
+            if is_of_each_byte and data.find(0, place, behind) < 0:
+                parts.append(data[place:behind].decode("ascii", errors))
+                place = behind
                 continue
-            reason = self._reason(data, damaged, end)
-            error = UnicodeDecodeError(self.name, data, damaged, damaged + 1, reason)
+            reason = self._reason(data, place, end)
+            error = UnicodeDecodeError(self.name, data, place, place + 1, reason)
             replacement, place = _handled(handler(error), str, error)
             parts.append(replacement)
             if error.object is not data:
                 # A handler may put other input in place of this, as with Python's own decoders.
                 data, start, stop = error.object, 0, len(error.object)
                 end = stop
+                behind = 0
             place = _within(place, start, end)
         return "".join(parts), place
-
-    def _damaged(self, data: bytes, place: int, end: int) -> int:
-        """Where the first byte in no encoded character is, or `end`. Characters begin at
-        `place`."""
-        while True:
-            # No character begins inside another, so a search that is cut short loses none.
-            found = self._characters.match(data, place, min(place + _SEARCHED, end)).end()
-            if found == place:
-                return found
-            place = found
 
     def _reason(self, data: bytes, damaged: int, end: int) -> str:
         if not self._lead.match(data, damaged, end):

@@ -56,8 +56,10 @@ class Decoding(unittest.TestCase):
     def test_handlers(self) -> None:
         rows = [bytes.fromhex(row) for row, *_ in tables.DAMAGE]
         rows += [b"start" + row + b"end" for row in rows] + [row + row for row in rows]
-        # Damage at the borders of the pieces in which it is searched for.
+        # Damage at the borders of the parts in which it is searched for.
         rows += [b"a" * count + row for count in (4090, 4095, 4096, 4097) for row in rows[:12]]
+        # A zero byte, which is damage in MUTF-8 alone, among other damage.
+        rows += [b"\xff\0\xff\xed\0a", 600 * b"\xff" + b"\0" + 600 * b"\xff"]
         for encoding in model.ENCODINGS:
             for errors in HANDLERS:
                 for data in rows:
@@ -167,6 +169,11 @@ class Decoding(unittest.TestCase):
     def test_much_damage_is_linear(self) -> None:
         data = bytes.fromhex("41 FF ED A0 BD 42") * 20000
         self.assertEqual(data.decode("cesu-8", "ignore"), "AB" * 20000)
+        codecs.register_error("cesu8.one_mark", lambda error: ("\ufffd", error.end))
+        for byte in (b"\xff", b"\xc3", b"\xed"):
+            data = 200000 * byte
+            self.assertEqual(data.decode("cesu-8", "backslashreplace"), 200000 * f"\\x{byte.hex()}")
+            self.assertEqual(data.decode("cesu-8", "cesu8.one_mark"), 200000 * "\ufffd")
 
 
 class Encoding(unittest.TestCase):

@@ -22,6 +22,7 @@ CALLS = [
     (_native.encode, 2),
     (_native.decode, 4),
     (_native.decoded_len, 2),
+    (_native.damage, 4),
     (_native.utf16_len, 1),
     (_native.compare_as_utf16, 2),
     (_native.write_utf, 1),
@@ -43,6 +44,8 @@ class Refusals(unittest.TestCase):
             with self.assertRaises(TypeError):
                 _native.decoded_len(False, data)
             with self.assertRaises(TypeError):
+                _native.damage(False, data, 0, 0)
+            with self.assertRaises(TypeError):
                 _native.read_utf(data, 0, False)
         for text in (None, 5, b"bytes"):
             for call in (_native.utf16_len, _native.write_utf):
@@ -63,6 +66,10 @@ class Refusals(unittest.TestCase):
                 _native.decode(False, False, False, b"data", place, 4)
             with self.assertRaises(TypeError):
                 _native.decode(False, False, False, b"data", 0, place)
+            with self.assertRaises(TypeError):
+                _native.damage(False, b"data", place, 4)
+            with self.assertRaises(TypeError):
+                _native.damage(False, b"data", 0, place)
             with self.assertRaises(TypeError):
                 _native.read_utf(b"data", place, False)
 
@@ -95,8 +102,45 @@ class Results(unittest.TestCase):
             for stop in (*range(8), sys.maxsize):
                 text = _native.decode(False, False, True, data, start, stop)
                 self.assertEqual(text, data[start:stop].decode("ascii", "replace"))
+                first, behind = _native.damage(False, data, start, stop)
+                found = range(start, start + len(data[start:stop]))
+                places = [place for place in found if data[place] == 0xFF]
+                self.assertEqual(list(range(first, behind)), places[:1])
+                self.assertEqual(first, places[0] if places else found.stop)
         self.assertEqual(_native.decode(False, False, False, data, -1, -1), "")
         self.assertEqual(_native.decode(False, False, False, data, -sys.maxsize, 0), "")
+
+    def test_where_damage_is(self) -> None:
+        fills = [b"", 70 * b"a", 3000 * b"\xe2\x82\xac", 90 * bytes.fromhex(tables.PAIR)]
+        for encoding, is_mutf8 in zip(model.ENCODINGS, (False, True)):
+            for row in (bytes.fromhex(row) for row, *_ in tables.DAMAGE):
+                places = model.damaged(row, encoding)
+                # Those that follow the first without a gap.
+                run = [place for n, place in enumerate(places) if place == places[0] + n]
+                for fill in fills:
+                    # No character that the row cuts goes on behind it.
+                    data = b"\xff" + fill + row + b"a" + fill
+                    place = 1 + len(fill) + places[0] if places else len(data)
+                    found = _native.damage(is_mutf8, data, 1, len(data))
+                    self.assertEqual(found, (place, place + len(run)))
+                    self.assertEqual(_native.damage(is_mutf8, data, 0, 1), (0, 1))
+
+    def test_much_damage(self) -> None:
+        """The end of many bytes of damage is found in steps."""
+        for count in (1, 6, 500, 511, 512, 513, 520, 5000):
+            for character in ("a", "\u20ac", "\U0001f496"):
+                encoded = model.encoded(character, "cesu-8")
+                data = count * b"\xed" + encoded
+                place = 0
+                while place < count:
+                    first, behind = _native.damage(False, data, place, len(data))
+                    self.assertEqual(first, place)
+                    self.assertLessEqual(behind, count)
+                    self.assertTrue(behind == count or behind >= place + 500)
+                    place = behind
+                self.assertEqual(
+                    _native.damage(False, data, place, len(data)), (len(data), len(data))
+                )
 
 
 class Objects(unittest.TestCase):
@@ -114,6 +158,7 @@ class Objects(unittest.TestCase):
                     _native.decode(is_mutf8, *flags, encoded, 1 if encoded else 0, len(encoded))
                 _native.decoded_len(is_mutf8, encoded)
                 _native.decoded_len(is_mutf8, encoded + b"\xff")
+                _native.damage(is_mutf8, encoded + b"\xff", 0, len(encoded) + 1)
             _native.utf16_len(text)
             _native.compare_as_utf16(text, text + "a")
             if len(text) < 1000:
@@ -130,6 +175,7 @@ class Objects(unittest.TestCase):
             (_native.compare_as_utf16, ("\ud800", "a")),
             (_native.compare_as_utf16, ("a", "\ud800")),
             (_native.decode, (False, False, False, DATA, 3, 1 << 70)),
+            (_native.damage, (False, DATA, 3, 1 << 70)),
             (_native.read_utf, (DATA, 7, False)),
             (_native.read_utf, (DATA, 2, False)),
             (_native.read_utf, (DATA, 0, False)),

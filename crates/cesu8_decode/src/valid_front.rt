@@ -1,8 +1,9 @@
 //! How many bytes at the front are whole encoded characters.
 //!
-//! While the bytes are UTF-8 in which nothing changes, they are tested as that, a part at a time.
-//! From there on the widths of characters are summed up, some blocks at a time. Where a sum shows
-//! an ill-formed byte, fewer blocks are summed up, and at last characters are read one by one.
+//! The widths of characters are summed up over some blocks at a time: first over few, since a fault
+//! is mostly near, and then over more and more. Bytes behind the first blocks are tested as UTF-8
+//! in which nothing changes, a part at a time, as long as they are that. Where a sum shows an
+//! ill-formed byte, fewer blocks are summed up, and at last characters are read one by one.
 
 ghost use Rattle.std.specs.Prelude.{◌≡◌, ◌+◌, ◌-◌, ◌<◌, length, drop};
 ghost use Rattle.cesu8_text.specs.Fronts.{IsValidUpTo};
@@ -12,22 +13,30 @@ ghost use Rattle.cesu8_decode.specs.ValidFront.{IsValidFront};
 
 use super::forms::{form_of, len_of, prefix_of};
 use super::ill_formed::Widths;
+use super::offsets::BLOCK;
 use super::sums::{BLOCKS, sum_first};
 use cesu8_bytes::ascii::is_short_unchanged_ascii;
 use cesu8_bytes::continuation::character_start;
 use cesu8_bytes::first_looks::contains_changed;
 use cesu8_bytes::flavor::Flavor;
-use cesu8_bytes::implementation::class::{Either, NonAscii};
+use cesu8_bytes::implementation::class::{AtLeast, Either, Equal, NonAscii};
+use cesu8_bytes::implementation::short::{adjoin, any_in_short};
 use cesu8_bytes::joining::PAIR_READ;
 use cesu8_bytes::runs::run_len;
 use cesu8_bytes::utf8::is_utf8;
 
+/// How many bytes are summed up at first.
+const NEAR: usize = 64;
+
+/// How many are summed up next, by one sum.
+const MORE: usize = BLOCK * BLOCKS;
+
+/// How many are summed up at most between two looks at what begins behind them. A look takes an
+/// eighth to a third of the time of one sum.
+const MOST: usize = 8 * MORE;
+
 /// The most bytes that are tested as UTF-8 at once. A fault among them is looked for again.
 const PART: usize = 2048;
-
-/// How many sums there are between two looks at what begins behind them. A look takes an eighth to
-/// a third of the time of a sum.
-const SUMS: usize = 8;
 
 /// Returns how many bytes at the front are whole encoded characters.
 pub fn valid_up_to<F: Flavor>(bytes: &[u8]) -> usize
@@ -36,10 +45,33 @@ pub fn valid_up_to<F: Flavor>(bytes: &[u8]) -> usize
     if is_short_unchanged_ascii::<F>(bytes) {
         return bytes.len();
     }
-    let unchanged = valid_by_parts::<F>(bytes);
-    let by_many = unchanged + valid_by_sums::<F>(&bytes[unchanged..], SUMS);
-    let summed = by_many + valid_by_sums::<F>(&bytes[by_many..], 1);
-    summed + valid_by_characters::<F>(&bytes[summed..])
+    let shown = valid_by_tests::<F>(bytes);
+    shown + valid_by_characters::<F>(&bytes[shown..])
+}
+
+/// Returns how many bytes at the front are whole encoded characters, as far as tests of many show.
+fn valid_by_tests<F: Flavor>(bytes: &[u8]) -> usize
+    ensures { IsValidFront F.flavor bytes.now result }
+{
+    let near = first_sums::<F>(bytes, NEAR);
+    if near == 0 || near == bytes.len() {
+        return near;
+    }
+    let unchanged = if shows_no_utf8(&bytes[..near]) {
+        near
+    } else {
+        near + valid_by_parts::<F>(&bytes[near..])
+    };
+    unchanged + valid_by_sums::<F>(&bytes[unchanged..])
+}
+
+/// Returns whether a look at the first bytes shows C0 or a surrogate, which UTF-8 does not have.
+/// More of them mostly follow, so that a test for UTF-8 would be in vain.
+fn shows_no_utf8(bytes: &[u8]) -> bool {
+    bytes.len() > BLOCK
+        && (any_in_short::<Equal<0xC0>>(bytes)
+            || adjoin::<Equal<0xED>, AtLeast<0xA0>, BLOCK>(bytes, 0)
+            || adjoin::<Equal<0xED>, AtLeast<0xA0>, BLOCK>(bytes, bytes.len() - BLOCK - 1))
 }
 
 /// Returns how many bytes at the front are UTF-8 in which nothing changes, as far as whole parts
@@ -76,34 +108,33 @@ fn first_part<F: Flavor>(bytes: &[u8]) -> usize
     }
 }
 
-/// Returns how many bytes at the front are whole encoded characters, as far as so many sums at a
-/// time show.
-fn valid_by_sums<F: Flavor>(bytes: &[u8], sums: usize) -> usize
-    requires { 0 < sums }
+/// Returns how many bytes at the front are whole encoded characters, as far as sums show.
+fn valid_by_sums<F: Flavor>(bytes: &[u8]) -> usize
     ensures { IsValidFront F.flavor bytes.now result }
 {
     let mut at = 0;
-    while at < bytes.len() {
-        let read = first_sums::<F>(&bytes[at..], sums);
+    let mut most = MORE;
+    let mut limit = MOST;
+    while at < bytes.len() && most >= NEAR {
+        let read = first_sums::<F>(&bytes[at..], most);
         if read == 0 {
-            break;
+            limit = most / 8;
         }
+        most = limit.min(8 * most);
         at += read;
     }
     at
 }
 
-/// Returns how many bytes the characters have that begin in the blocks of the first sums, if they
-/// cover these blocks, and otherwise 0.
+/// Returns how many bytes the characters have that begin in the blocks of so many bytes, or of all
+/// if they are fewer, if they cover these blocks, and otherwise 0.
 ///
 /// An ill-formed byte is hidden in a sum if the last character reaches over the end of the blocks.
 /// Then the sum ends within that character, where no other begins.
-fn first_sums<F: Flavor>(bytes: &[u8], sums: usize) -> usize
-    requires some { 0 < length bytes.now }
-    requires sums { 0 < sums }
+fn first_sums<F: Flavor>(bytes: &[u8], most: usize) -> usize
     ensures { IsValidFront F.flavor bytes.now result }
 {
-    let (covered, behind) = cover_first::<F>(bytes, sums);
+    let (covered, behind) = cover_first::<F>(bytes, most);
     if covered < bytes.len() - behind.len() {
         return 0;
     }
@@ -115,21 +146,23 @@ fn first_sums<F: Flavor>(bytes: &[u8], sums: usize) -> usize
     }
 }
 
-/// Returns how many bytes the characters have that begin in the blocks of the first sums, and the
-/// bytes behind these blocks. It stops where they cover fewer.
+/// Returns how many bytes the characters have that begin in the blocks of so many bytes, or of all
+/// if they are fewer, and the bytes behind these blocks. It stops where they cover fewer.
 #[inline(always)]
-fn cover_first<F: Flavor>(bytes: &[u8], sums: usize) -> (usize, &[u8])
+fn cover_first<F: Flavor>(bytes: &[u8], most: usize) -> (usize, &[u8])
     ensures behind { result.1.now ≡ drop (length bytes.now - length result.1.now) bytes.now }
     ensures sum { result.0 + total_weight covered F.flavor result.1.now
         ≡ total_weight covered F.flavor bytes.now }
 {
     let mut covered = 0;
     let mut behind = bytes;
-    for _sum in 0..sums {
-        if behind.is_empty() || covered < bytes.len() - behind.len() {
+    while !behind.is_empty() {
+        let read = bytes.len() - behind.len();
+        if covered < read || read >= most {
             break;
         }
-        let (more, rest) = sum_first::<F, Widths>(behind, BLOCKS);
+        let blocks = (most - read).div_ceil(BLOCK).min(BLOCKS);
+        let (more, rest) = sum_first::<F, Widths>(behind, blocks);
         covered += more;
         behind = rest;
     }

@@ -45,7 +45,7 @@ static DAMAGE: [&[u8]; 3] = [b"\xFF", b"\xFF\xFF\xFF\xFF", b"\xED\xA0\xBD\xED\xB
 fn finds_damage_about_the_ends_of_sums(rt: HostRuntime) -> Result<(), Fail> {
     for put in &DAMAGE {
         for fill in [FILLS[3], FILLS[5]] {
-            for end in [512, 4_096, 4_608, 8_192] {
+            for end in [64, 512, 576, 4_096, 4_608, 4_672, 8_192, 8_768] {
                 expect_at(rt.alloc(), fill, end - 12..end + 12, put)?;
             }
         }
@@ -57,14 +57,14 @@ fn finds_damage_about_the_ends_of_sums(rt: HostRuntime) -> Result<(), Fail> {
 #[test]
 fn finds_damage_about_the_ends_of_parts(rt: HostRuntime) -> Result<(), Fail> {
     for fill in &FILLS[..3] {
-        for end in [2_048, 4_096] {
-            expect_at(rt.alloc(), fill, end - 8..end + 4, b"\xFF")?;
-            expect_at(
-                rt.alloc(),
-                fill,
-                end - 8..end + 4,
+        for end in [2_048, 2_112, 4_096, 4_160] {
+            for put in [
+                b"\xFF".as_slice(),
                 b"\xED\xA0\xBD\xED\xB2\x96",
-            )?;
+                b"\xED\xA0\xBD\xED\xB2\x96\xFF",
+            ] {
+                expect_at(rt.alloc(), fill, end - 8..end + 4, put)?;
+            }
         }
     }
     Ok(())

@@ -20,13 +20,8 @@ pub returns : goal.returns
 returns g c =
     let f = g.F.Flavor.flavor in
     let bytes = c.args.bytes.now in
-    let unchanged = c.valid_by_parts-unchanged.result in
-    let many = c.valid_by_sums.result in
-    let few = c.valid_by_sums-2.result in
+    let n = c.valid_by_tests-shown.result in
     let m = c.valid_by_characters.result in
-    let by_many = fronts_joined f bytes unchanged many c.valid_by_parts-unchanged.ensures (rw take_rest at c.valid_by_sums.ensures) in
-    let summed = fronts_joined f bytes (unchanged + many) few by_many (rw take_rest at c.valid_by_sums-2.ensures) in
-    let n = unchanged + many + few in
     let last = rw take_rest at c.valid_by_characters.ensures in
-    valid_up_to_by f bytes (n + m) (fronts_joined f bytes n m summed last.front)
+    valid_up_to_by f bytes (n + m) (fronts_joined f bytes n m c.valid_by_tests-shown.ensures last.front)
     (λ more. rw (sym (drop-drop m n bytes)) (last.stops (omega (arith, length-drop n bytes, more))))
