@@ -22,6 +22,7 @@ mod chunk;
 pub mod copy_or_write;
 mod forms;
 mod ill_formed;
+mod in_place;
 mod lengths;
 mod offsets;
 mod packing;
@@ -29,6 +30,7 @@ mod parts;
 pub mod refusal;
 mod rows;
 mod slices;
+mod strict_text;
 mod sums;
 mod text;
 mod valid_front;
@@ -43,6 +45,7 @@ pub use lengths::{decoded_len, lossy_len};
 use std::alloc::{AllocError, Allocator};
 use text::append_text;
 pub use valid_front::valid_up_to;
+use way::{Way, way_of};
 
 /// Returns the strict reading of bytes that are not UTF-8, after one request for their length.
 pub fn decode_strict<F: Flavor, A: Allocator>(alloc: A, bytes: &[u8]) -> Result<String<A>, Refusal>
@@ -52,9 +55,14 @@ pub fn decode_strict<F: Flavor, A: Allocator>(alloc: A, bytes: &[u8]) -> Result<
     ensures capacity { IfOk result (λ text. string_capacity text ≡ length bytes.now) }
     ensures invalid { OnNoText result (HasNoStrictReading F.flavor bytes.now) }
 {
-    let mut text = String::with_capacity(alloc, bytes.len()).map_err(Refusal::Memory)?;
-    append_text::<F, A>(Strictness::Strict, bytes, &mut text)?;
-    exactly(text, bytes.len()).map_err(Refusal::Memory)
+    match way_of::<F>(Strictness::Strict, bytes) {
+        Way::FewCharacters | Way::Characters | Way::Refused => {
+            let mut text = String::with_capacity(alloc, bytes.len()).map_err(Refusal::Memory)?;
+            append_text::<F, A>(Strictness::Strict, bytes, &mut text)?;
+            exactly(text, bytes.len()).map_err(Refusal::Memory)
+        }
+        _ => strict_text::build::<F, A>(alloc, bytes),
+    }
 }
 
 /// Returns the error of bytes that are known to have no strict reading. It first requests memory

@@ -61,7 +61,7 @@ pub fn store(parts: Parts, out: &mut [u8], at: usize) -> usize
 
 /// Stores what becomes of a block without an ill-formed byte.
 #[inline(always)]
-fn store_whole(parts: Parts, out: &mut [u8], at: usize) -> usize
+pub fn store_whole(parts: Parts, out: &mut [u8], at: usize) -> usize
     requires whole { mask_l (map is_high parts.ill_formed) ≡ 0 }
     requires room { at + ROOM ≤ length out.old }
     ensures bytes { take result out.new

@@ -20,7 +20,7 @@ ghost use Rattle.cesu8_decode.specs.DecodedLanes.{start_kind, AreFiveKinds, AreK
 use super::offsets::{
     BEHIND, BLOCK, FROM_27, Kinds, LEAD, NUMBERS, PAIR, REACH, THREE, equal, look_up, near, starts,
 };
-use super::packing::{Parts, ROOM, WIDEST, highest_bits, store};
+use super::packing::{Parts, ROOM, WIDEST, highest_bits, store, store_whole};
 use cesu8_bytes::flavor::{Flavor, nulls};
 use cesu8_bytes::implementation::class::{AtLeast, bits};
 use std::simd::prelude::*;
@@ -100,6 +100,53 @@ pub fn write_block<F: Flavor>(
         end: store(parts, out, end),
         is_ill_formed,
         kinds: here,
+    }
+}
+
+/// Writes what becomes of the first `count` bytes of a block, unless one of them is ill-formed. Then
+/// nothing is written behind what was, and other bytes than those of the block may be left.
+#[inline(always)]
+pub fn write_well_formed<F: Flavor>(
+    window: &[u8],
+    before: u8x32,
+    at: usize,
+    count: usize,
+    out: &mut [u8],
+    end: usize,
+) -> Block {
+    let bytes = u8x32::from_slice(&window[at + BEHIND..]);
+    // `starts` makes the same test, so the compiler makes it once.
+    let leads = bits::<AtLeast<LEAD>, BLOCK>(bytes) != 0;
+    if !leads && first_bits(bytes | nulls::<F>(bytes), count) == 0 {
+        return copy_block(bytes, u8x32::splat(0), count, out, end);
+    }
+    let here = starts::<F>(window, at + BEHIND, true);
+    let kinds = near(before, here);
+    if changes_none(before, here) {
+        let marks = kept_ill_formed::<F>(window, &kinds, at);
+        if first_bits(marks, count) == 0 {
+            return copy_block(bytes, here, count, out, end);
+        }
+        return ill_formed_block(here, end);
+    }
+    let parts = changed_parts::<F>(window, &kinds, at, count);
+    if highest_bits(parts.ill_formed) != 0 {
+        return ill_formed_block(here, end);
+    }
+    Block {
+        end: store_whole(parts, out, end),
+        is_ill_formed: false,
+        kinds: here,
+    }
+}
+
+/// Tells that a block has an ill-formed byte.
+#[inline(always)]
+fn ill_formed_block(kinds: u8x32, end: usize) -> Block {
+    Block {
+        end,
+        is_ill_formed: true,
+        kinds,
     }
 }
 
