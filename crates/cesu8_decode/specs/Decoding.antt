@@ -5,6 +5,7 @@ use Rattle.cesu8_text.specs.Reading.{reading, NoneBegins, lossy_length, HasNoStr
 use Rattle.cesu8_text.specs.Encoding.{Flavor, encoding}
 use Rattle.cesu8_bytes.specs.declared.options.Strictness.{Strictness}
 use Rattle.cesu8_bytes.specs.declared.options.Strictness.TheVariants.{Strict, Lossy}
+use Rattle.cesu8_decode.specs.DecodedOffsets.{window_of, decoded, is_ill_formed_at}
 use Rattle.cesu8_decode.specs.Refusals.{OnNoText}
 use Rattle.cesu8_decode.specs.declared.refusal.Refusal.{Refusal}
 use Rattle.cesu8_bytes.specs.TextChunks.{IsChunk}
@@ -59,3 +60,9 @@ pub record IsWrittenSoFar (f : Flavor) (bytes rest : List ℕ) (end : ℕ) (old 
   pub room : end + lossy_length f rest ≡ lossy_length f bytes
   pub behind : drop end new ≡ drop end old
   pub len : length new ≡ length old
+
+-- The first n bytes are written, or some byte is ill-formed.
+pub record IsWrittenUpTo (f : Flavor) (bytes : List ℕ) (n : ℕ) (text : List ℕ) (is_ill_formed : Bool) : Type 0 where
+  pub decoded_text : is_ill_formed ≡ false → text ≡ decoded f (window_of bytes) 0 n
+  pub well_formed : is_ill_formed ≡ false → (i : ℕ) → i < n → is_ill_formed_at f (window_of bytes) i ≡ false
+  pub ill_formed : is_ill_formed ≡ true → (i : ℕ) × (i < length bytes) × (is_ill_formed_at f (window_of bytes) i ≡ true)

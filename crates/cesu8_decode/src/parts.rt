@@ -20,7 +20,7 @@ ghost use Rattle.cesu8_decode.specs.DecodedLanes.{start_kind, AreFiveKinds, AreK
 use super::offsets::{
     BEHIND, BLOCK, FROM_27, Kinds, LEAD, NUMBERS, PAIR, REACH, THREE, equal, look_up, near, starts,
 };
-use super::packing::{Parts, ROOM, WIDEST, highest_bits, store, store_whole};
+use super::packing::{Parts, ROOM, WELL_FORMED_ROOM, WIDEST, highest_bits, store, store_whole};
 use cesu8_bytes::flavor::{Flavor, nulls};
 use cesu8_bytes::implementation::class::{AtLeast, bits};
 use std::simd::prelude::*;
@@ -103,8 +103,8 @@ pub fn write_block<F: Flavor>(
     }
 }
 
-/// Writes what becomes of the first `count` bytes of a block, unless one of them is ill-formed. Then
-/// nothing is written behind what was, and other bytes than those of the block may be left.
+/// Writes what becomes of the first `count` bytes of a block, unless one of them is ill-formed. It is
+/// no more than these bytes, and so needs less room than what ill-formed bytes become.
 #[inline(always)]
 pub fn write_well_formed<F: Flavor>(
     window: &[u8],
@@ -113,7 +113,22 @@ pub fn write_well_formed<F: Flavor>(
     count: usize,
     out: &mut [u8],
     end: usize,
-) -> Block {
+) -> Block
+    requires count { count ≤ BLOCK }
+    requires window { at + BEHIND + REACH ≤ length window.now }
+    requires before { AreFiveKinds F.flavor window.now at before (BLOCK - BEHIND) }
+    requires room { end + WELL_FORMED_ROOM ≤ length out.old }
+    ensures bytes { result.is_ill_formed ≡ false → take result.end out.new
+        ≡ take end out.old ++ decoded F.flavor window.now at count }
+    ensures ill_formed { IsTrue result.is_ill_formed → (i : ℕ) × (at ≤ i) × (i < at + count)
+        × (is_ill_formed_at F.flavor window.now i ≡ true) }
+    ensures whole { result.is_ill_formed ≡ false → (i : ℕ) → at ≤ i → i < at + count
+        → is_ill_formed_at F.flavor window.now i ≡ false }
+    ensures kinds { count ≡ BLOCK → result.kinds
+        ≡ map (start_kind F.flavor window.now) (range_with_len (at + BEHIND) BLOCK) }
+    ensures end { result.end ≤ end + count }
+    ensures len { length out.new ≡ length out.old }
+{
     let bytes = u8x32::from_slice(&window[at + BEHIND..]);
     // `starts` makes the same test, so the compiler makes it once.
     let leads = bits::<AtLeast<LEAD>, BLOCK>(bytes) != 0;
@@ -142,7 +157,9 @@ pub fn write_well_formed<F: Flavor>(
 
 /// Tells that a block has an ill-formed byte.
 #[inline(always)]
-fn ill_formed_block(kinds: u8x32, end: usize) -> Block {
+fn ill_formed_block(kinds: u8x32, end: usize) -> Block
+    ensures { (result.is_ill_formed ≡ true) × (result.kinds ≡ kinds) × (result.end ≡ end) }
+{
     Block {
         end,
         is_ill_formed: true,

@@ -82,7 +82,7 @@ pub fn write_window<F: Flavor>(
 
 /// Returns the last boundary at or before an offset of a window: no encoded character crosses it.
 /// It is at most five offsets before.
-fn boundary<F: Flavor>(window: &[u8], most: usize) -> usize
+pub fn boundary<F: Flavor>(window: &[u8], most: usize) -> usize
     requires { (BEFORE ≤ most) × (most + BLOCK ≤ length window.now) }
     ensures within { (result ≤ most) × (most ≤ result + BEFORE) }
     ensures boundary { (n : ℕ) → n ≤ most → most ≤ n + BEFORE
