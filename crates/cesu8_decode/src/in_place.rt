@@ -5,9 +5,9 @@
 //! behind the text so far, as long as enough bytes follow it. Only the first block, which zeros go
 //! before, and the last ones, which zeros follow, are read from small arrays.
 
-ghost use Rattle.std.specs.Prelude.{◌≡◌, ◌+◌, ◌-◌, ◌*◌, ◌<◌, ◌≤◌, ℕ, IsTrue, true, false, length, take, replicate, slice_index};
+ghost use Rattle.std.specs.Prelude.{◌≡◌, ◌+◌, ◌-◌, ◌*◌, ◌<◌, ◌≤◌, ℕ, IsTrue, true, false, [], length, take, replicate, slice_index, vec_capacity};
 ghost use Rattle.cesu8_bytes.specs.declared.options.Strictness.TheVariants.{Strict};
-ghost use Rattle.cesu8_decode.specs.Decoding.{ReadsFirst, IsWrittenUpTo};
+ghost use Rattle.cesu8_decode.specs.Decoding.{ReadsFirst, WritesStrictly, IsWrittenUpTo};
 ghost use Rattle.cesu8_decode.specs.DecodedOffsets.{window_of, decoded, is_ill_formed_at, is_boundary_at};
 ghost use Rattle.cesu8_decode.specs.DecodedLanes.{AreFiveKinds};
 
@@ -17,7 +17,8 @@ use super::parts::{Block, write_well_formed};
 use super::windows::{BEFORE, Decoded, boundary};
 use cesu8_bytes::flavor::Flavor;
 use cesu8_bytes::packing::STORED;
-use cesu8_bytes::writers::put;
+use cesu8_bytes::writers::{append_zeros, put};
+use std::alloc::Allocator;
 use std::simd::prelude::*;
 
 /// At least so many bytes follow a block that is read where it stands and written where it goes.
@@ -34,6 +35,34 @@ const LAST: usize = BLOCK + FIRST;
 
 /// The length of an array for the text of these.
 const LAST_TEXT: usize = BLOCK + WELL_FORMED_ROOM;
+
+/// So many bytes are cleared and written at once. More would be cleared for nothing where an
+/// ill-formed byte is near.
+const PART: usize = 4096;
+
+/// Writes the strict reading of the bytes to an empty vector that has capacity for as many.
+#[inline(never)]
+pub fn append_strictly<F: Flavor, A: Allocator + Copy>(
+    bytes: &[u8],
+    empty: Vec<u8, A>,
+) -> Option<Vec<u8, A>>
+    requires { (empty.items ≡ []) × (length bytes.now ≤ vec_capacity empty) }
+    ensures { WritesStrictly F.flavor bytes.now empty result }
+{
+    let mut text = empty;
+    let mut rest = bytes;
+    while !rest.is_empty() {
+        let start = text.len();
+        append_zeros(rest.len().min(PART), &mut text);
+        let decoded = write_strict::<F>(rest, &mut text[start..]);
+        if decoded.is_ill_formed {
+            return None;
+        }
+        text.truncate(start + decoded.end);
+        rest = &rest[decoded.read..];
+    }
+    Some(text)
+}
 
 /// Writes the text of the bytes, or of the first of them if there is no room for so many. If one is
 /// ill-formed, no text is left. It ends soon after the first such byte.

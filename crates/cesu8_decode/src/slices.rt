@@ -15,7 +15,7 @@ ghost use Rattle.cesu8_decode.specs.PutReadings.{PutsReading};
 ghost use Rattle.cesu8_decode.specs.Ways.{IsWayOf};
 
 use crate::characters::write_characters;
-use crate::chunk::{Chunk, next_chunk};
+use crate::chunk::next_chunk;
 use crate::ill_formed::is_ill_formed;
 use crate::lengths::lossy_len;
 use crate::packing::WIDEST;
@@ -32,9 +32,9 @@ use cesu8_bytes::window::{TOO_FEW, read_window};
 use cesu8_bytes::writers::{NoRoom, copy_to_slice, put};
 
 // The lengths of a buffer for the text of bytes that are read one character after another.
-const FEWEST_TEXT: usize = WIDEST * FEWEST;
+pub const FEWEST_TEXT: usize = WIDEST * FEWEST;
 
-const CHARACTERS_TEXT: usize = WIDEST * SHORT_WINDOW;
+pub const CHARACTERS_TEXT: usize = WIDEST * SHORT_WINDOW;
 
 /// Writes the text of the bytes to a caller's buffer, if it fits.
 #[inline(never)]
@@ -201,23 +201,16 @@ fn write_reading<F: Flavor>(bytes: &[u8], out: &mut [u8]) -> usize
     let mut end = 0;
     let mut joins = true;
     while !rest.is_empty() {
-        match next_chunk::<F, LONG_BUFFER>(
+        let chunk = next_chunk::<F, LONG_BUFFER>(
             Strictness::Lossy,
             rest,
             joins,
             &mut buffer,
             &mut written,
-        ) {
-            Chunk::Joined(joined) => {
-                rest = &rest[joined.read..];
-                end = put(joined.text.as_bytes(), out, end);
-            }
-            Chunk::Written(decoded) => {
-                rest = &rest[decoded.read..];
-                joins = !decoded.is_ill_formed;
-                end = put(&written[..decoded.end], out, end);
-            }
-        }
+        );
+        rest = &rest[chunk.read..];
+        joins = !chunk.is_ill_formed;
+        end = put(chunk.text, out, end);
     }
     end
 }

@@ -13,8 +13,7 @@
 //! | more | any | `Chunks` | `Chunks` |
 //!
 //! - `Characters`: one character after another. A branch on a byte costs little while few bytes are
-//!   not ASCII. In strict reading a `String` is appended to at once, with no array between.
-//!   `FewCharacters` is the same with a smaller array, since clearing one takes time.
+//!   not ASCII. `FewCharacters` is the same with a smaller array, since clearing one takes time.
 //! - The windows: 32 bytes at a time with no branch on a byte, in buffers on the stack. Smaller
 //!   ones are made in less time.
 //! - `Chunks`: joined windows of well-formed bytes, and windows by offsets after an ill-formed
@@ -47,8 +46,7 @@
 //! so too with at most 24 bytes of which one is ED or C0, since they are mostly an encoding:
 //! well-formed bytes from 16 on take two thirds of the time in lossy reading (70c002d).
 //!
-//! A call on a slice that takes `JoinedWindow` goes on by `Chunks` if more bytes are left than a
-//! short window has.
+//! What takes `JoinedWindow` goes on by `Chunks` if more bytes are left than a short window has.
 //!
 //! Other lengths in this crate decide no way: `chunk` joins no window of few bytes, `characters`
 //! pads the last bytes, and `sums` the last block. Before the decoder, `cesu8_bytes` takes the

@@ -1,5 +1,5 @@
 -- Blocks that are read where they stand, of which none is ill-formed.
-use Rattle.std.proofs.Common.{◌≡◌, ◌≢◌, append-nil, ℕ, zero, suc, ◌+◌, ◌-◌, ◌<◌, ◌≤◌, ⊎_elim, Bool, true, false, true≢false, List, [], ◌++◌, refl, sym, ap, ◌∙◌, subst, arith, map, get_or, length, take, drop, replicate, zero-add, add-zero}
+use Rattle.std.proofs.Common.{◌≡◌, ◌≢◌, append-nil, ℕ, zero, suc, ◌+◌, ◌-◌, ◌<◌, ◌≤◌, ⊎_elim, Bool, true, false, true≢false, List, [], ◌++◌, refl, sym, ap, ◌∙◌, arith, map, get_or, length, take, drop, replicate, zero-add, add-zero}
 use Rattle.std.specs.List.{range_with_len}
 use Rattle.std.proofs.lemmas.List.{length-append, length-take-le, get_or-take, get_or-drop, drop-take}
 use lib.Lanes.{mask_l}
@@ -9,14 +9,12 @@ use Rattle.std.proofs.Math.Seq.{take-length}
 use Rattle.std.proofs.lemmas.Bool.{cases_lt}
 use Rattle.cesu8_text.specs.Encoding.{Flavor}
 use Rattle.cesu8_bytes.specs.Packing.{written_for}
-use Rattle.cesu8_bytes.specs.TextChunks.{IsChunk}
 use Rattle.cesu8_bytes.specs.declared.options.Strictness.TheVariants.{Strict}
-use Rattle.cesu8_bytes.proofs.vectors.Loads.{zeros_at, padded}
+use Rattle.cesu8_bytes.proofs.vectors.Loads.{padded}
 use Rattle.cesu8_decode.specs.DecodedOffsets.{window_of, is_ill_formed_at, is_boundary_at, decoded_at, decoded}
 use Rattle.cesu8_decode.specs.DecodedLanes.{start_kind_by, start_kind, AreFiveKinds, goes_at, byte_at, is_high}
 use Rattle.cesu8_decode.specs.Decoding.{IsWrittenUpTo, ReadsFirst}
-use Rattle.cesu8_decode.proofs.by_offset.WindowOffsets.{Agree, Follows, follows_zeros, boundary_agrees, ill_formed_agrees, decoded_agrees, decoded_split}
-use Rattle.cesu8_decode.proofs.by_offset.DecodedText.{IsPadded}
+use Rattle.cesu8_decode.proofs.by_offset.WindowOffsets.{Agree, follows_zeros, boundary_agrees, ill_formed_agrees, decoded_agrees, decoded_split}
 use Rattle.cesu8_decode.proofs.chunks.DecodedChunks.{padded_for, fault_at, strict_chunk}
 use Rattle.cesu8_decode.proofs.decoder.DecodedParts.{decoded_is_written}
 use Rattle.cesu8_decode.proofs.decoder.DecodedWindows.{five_kinds, kinds_of_zeros}

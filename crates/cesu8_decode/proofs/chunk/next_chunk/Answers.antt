@@ -5,6 +5,6 @@ pub returns-in-Some : goal.returns-in-Some
 returns-in-Some g c = record {
   some = λ _. c.in-Some.ensures.within.0;
   within = c.in-Some.ensures.within.1;
-  chunk = λ _. c.in-Some.ensures.text c.args.strictness;
+  chunk = λ _. rw c.as_bytes.ensures.value (c.in-Some.ensures.text c.args.strictness);
   ill_formed = λ ill_formed. absurd (true≢false (sym ill_formed));
 }

@@ -1,4 +1,4 @@
-use Rattle.std.proofs.Common.{◌≡◌, ◌+◌, ◌-◌, ◌≤◌, arith}
+use Rattle.std.proofs.Common.{◌-◌, arith}
 use Rattle.cesu8_decode.proofs.decoder.BlocksInPlace.{all_last, part_last}
 use Rattle.cesu8_decode.proofs.in_place.last_len.Goals as goal
 

@@ -1,4 +1,4 @@
-use Rattle.std.proofs.Common.{◌≡◌, ◌+◌, ◌-◌, ap, ◌∙◌, sym, arith, get_or, length, take, drop, replicate}
+use Rattle.std.proofs.Common.{◌≡◌, ◌+◌, ◌-◌, ap, ◌∙◌, arith, get_or, length, take, drop, replicate}
 use Rattle.std.proofs.lemmas.List.{get_or-drop}
 use Rattle.cesu8_bytes.proofs.vectors.Loads.{zeros_at}
 use Rattle.cesu8_decode.specs.DecodedOffsets.{window_of}

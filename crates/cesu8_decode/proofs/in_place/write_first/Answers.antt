@@ -1,4 +1,4 @@
-use Rattle.std.proofs.Common.{◌+◌, ◌<◌, [], refl, replicate, arith}
+use Rattle.std.proofs.Common.{[], refl, replicate, arith}
 use Rattle.cesu8_decode.specs.DecodedOffsets.{window_of}
 use Rattle.cesu8_decode.proofs.decoder.BlocksInPlace.{loaded_agrees, first_kinds, kinds_agree, kinds_behind, none_written, block_added}
 use Rattle.cesu8_decode.proofs.in_place.write_first.Goals as goal

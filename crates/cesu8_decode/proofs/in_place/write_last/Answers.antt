@@ -1,8 +1,8 @@
-use Rattle.std.proofs.Common.{◌≡◌, ◌+◌, ◌-◌, ◌<◌, ◌≤◌, [], refl, ◌++◌, true, false, sym, ap, ◌∙◌, subst, take, arith}
+use Rattle.std.proofs.Common.{◌+◌, [], refl, ◌++◌, false, sym, ap, ◌∙◌, subst, take, arith}
 use Rattle.std.proofs.lemmas.Bool.{false≢true}
 use Rattle.cesu8_decode.specs.DecodedOffsets.{window_of}
 use Rattle.cesu8_decode.specs.Decoding.{IsWrittenUpTo}
-use Rattle.cesu8_decode.proofs.decoder.BlocksInPlace.{around_agrees, loaded_agrees, kinds_agree, block_added, read_in_place, refused_in_place}
+use Rattle.cesu8_decode.proofs.decoder.BlocksInPlace.{around_agrees, kinds_agree, block_added, read_in_place, refused_in_place}
 use Rattle.cesu8_decode.proofs.in_place.write_last.Goals as goal
 
 pub write_two-last-requires-clause-before : goal.write_two-last-requires-clause-before

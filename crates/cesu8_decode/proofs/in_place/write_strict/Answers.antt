@@ -1,4 +1,4 @@
-use Rattle.std.proofs.Common.{◌*◌, [], subst, take}
+use Rattle.std.proofs.Common.{◌*◌, subst, take}
 use Rattle.cesu8_decode.specs.Decoding.{IsWrittenUpTo}
 use Rattle.cesu8_decode.proofs.decoder.BlocksInPlace.{refused_in_place}
 use Rattle.cesu8_decode.proofs.in_place.write_strict.Goals as goal

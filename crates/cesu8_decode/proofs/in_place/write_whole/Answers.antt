@@ -1,4 +1,4 @@
-use Rattle.std.proofs.Common.{[], refl, not, ltb, ◌∙◌, ◌≡◌, ◌+◌, ◌-◌, ◌*◌, ◌<◌, ◌≤◌, ⊎_elim, false, sym, subst, take, replicate, arith}
+use Rattle.std.proofs.Common.{[], refl, not, ltb, ◌∙◌, ◌≡◌, ◌+◌, ◌-◌, ◌*◌, ◌<◌, ⊎_elim, false, sym, subst, take, replicate, arith}
 use Rattle.std.proofs.lemmas.Bool.{and_parts, and_cases, ltb-true, ltb-false, not-true, not-false}
 use Rattle.cesu8_decode.specs.DecodedOffsets.{window_of}
 use Rattle.cesu8_decode.specs.DecodedLanes.{AreFiveKinds}
