@@ -5,7 +5,7 @@
 //! bytes are decoded on the stack before that. Of more bytes the text is appended chunk by chunk:
 //! with zeros for all, bytes that are refused early would take three times the time.
 
-ghost use Rattle.std.specs.Prelude.{◌≡◌, ◌+◌, ◌*◌, ◌≤◌, [], length, vec_len, vec_capacity, IfSome, IfNone, IsUtf8};
+ghost use Rattle.std.specs.Prelude.{◌≡◌, ◌+◌, ◌*◌, ◌≤◌, ◌++◌, [], length, vec_len, vec_capacity, IfSome, IfNone, IsUtf8};
 ghost use Rattle.cesu8_text.specs.Reading.{HasNoStrictReading};
 ghost use Rattle.cesu8_bytes.specs.TextChunks.{IsReadSoFar};
 ghost use Rattle.cesu8_bytes.specs.declared.options.Strictness.TheVariants.{Strict};
@@ -26,7 +26,7 @@ use crate::windows::{
 use cesu8_bytes::flavor::Flavor;
 use cesu8_bytes::joining::BUFFER_LEN;
 use cesu8_bytes::options::Strictness;
-use cesu8_bytes::writers::{append_each, append_zeros, copy};
+use cesu8_bytes::writers::{append_zeros, copy};
 use std::alloc::{AllocError, Allocator};
 
 /// Writes the strict reading of bytes that are not UTF-8 to an empty vector that has capacity for as
@@ -42,8 +42,9 @@ pub fn write_strictly<F: Flavor, A: Allocator + Copy>(
 {
     match way_of::<F>(Strictness::Strict, bytes) {
         Way::Refused => None,
+        Way::FewCharacters | Way::Characters => write_in_place::<F, A>(bytes, empty),
         Way::Chunks => append_chunks::<F, A>(Strictness::Strict, bytes, true, empty),
-        way => write_in_place::<F, A>(way, bytes, empty),
+        way => put_in_place::<F, A>(way, bytes, empty),
     }
 }
 
@@ -65,10 +66,28 @@ pub fn build_lossily<F: Flavor, A: Allocator + Copy>(
     }
 }
 
-/// Writes the strict reading of a few bytes by a way that fits them, to an empty vector that has
-/// capacity for as many.
-#[inline(always)]
+/// Writes the strict reading of a few bytes, one character after another.
+#[inline(never)]
 fn write_in_place<F: Flavor, A: Allocator + Copy>(
+    bytes: &[u8],
+    empty: Vec<u8, A>,
+) -> Option<Vec<u8, A>>
+    requires { (empty.items ≡ []) × (length bytes.now ≤ vec_capacity empty) }
+    ensures { WritesStrictly F.flavor bytes.now empty result }
+{
+    let mut text = empty;
+    append_zeros(bytes.len(), &mut text);
+    let decoded = write_characters::<F>(Strictness::Strict, bytes, &mut text[..]);
+    if decoded.is_ill_formed {
+        return None;
+    }
+    text.truncate(decoded.end);
+    Some(text)
+}
+
+/// Writes the strict reading of more bytes by a way that fits them, as to a caller's slice.
+#[inline(always)]
+fn put_in_place<F: Flavor, A: Allocator + Copy>(
     way: Way,
     bytes: &[u8],
     empty: Vec<u8, A>,
@@ -91,7 +110,7 @@ fn write_in_place<F: Flavor, A: Allocator + Copy>(
 /// Appends the text of the bytes chunk by chunk. The first is joined if it can be and `joins_first`
 /// holds.
 #[inline(never)]
-fn append_chunks<F: Flavor, A: Allocator>(
+fn append_chunks<F: Flavor, A: Allocator + Copy>(
     strictness: Strictness,
     bytes: &[u8],
     joins_first: bool,
@@ -122,9 +141,22 @@ fn append_chunks<F: Flavor, A: Allocator>(
         }
         rest = &rest[chunk.read..];
         joins = !chunk.is_ill_formed;
-        append_each(chunk.text, &mut text);
+        put_behind(chunk.text, &mut text);
     }
     Some(text)
+}
+
+/// Writes bytes behind the others of a vector, in place of zeros. Each is one call.
+#[inline(always)]
+fn put_behind<A: Allocator + Copy>(bytes: &[u8], out: &mut Vec<u8, A>)
+    requires { vec_len out.old + length bytes.now ≤ vec_capacity out.old }
+    ensures bytes { out.new.items ≡ out.old.items ++ bytes.now }
+    ensures len { vec_len out.new ≡ vec_len out.old + length bytes.now }
+    ensures capacity { vec_capacity out.new ≡ vec_capacity out.old }
+{
+    let end = out.len();
+    append_zeros(bytes.len(), out);
+    out[end..].copy_from_slice(bytes);
 }
 
 /// Returns the lossy reading of a few bytes, read one character after another to an array of this
@@ -178,7 +210,7 @@ fn build_chunks<F: Flavor, A: Allocator + Copy>(
         return Err(AllocError);
     };
     let mut first = Vec::with_capacity(alloc, len)?;
-    append_each(&written[..decoded.end], &mut first);
+    put_behind(&written[..decoded.end], &mut first);
     match append_chunks::<F, A>(Strictness::Lossy, rest, !decoded.is_ill_formed, first) {
         Some(text) => Ok(text),
         // Lossy reading accepts all bytes.
