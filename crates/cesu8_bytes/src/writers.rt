@@ -72,9 +72,9 @@ fn append_by_vectors<A: Allocator>(bytes: &[u8], out: &mut Vec<u8, A>)
     }
 }
 
-/// Appends bytes one by one. To a local vector one call of `memcpy` does, as this is compiled.
+/// Appends bytes one by one.
 #[inline(always)]
-pub fn append_each<A: Allocator>(bytes: &[u8], out: &mut Vec<u8, A>)
+fn append_each<A: Allocator>(bytes: &[u8], out: &mut Vec<u8, A>)
     requires { vec_len out.old + length bytes.now ≤ vec_capacity out.old }
     ensures bytes { out.new.items ≡ out.old.items ++ bytes.now }
     ensures len { vec_len out.new ≡ vec_len out.old + length bytes.now }
@@ -203,8 +203,8 @@ pub fn copy_to_slice_by_call(bytes: &[u8], buf: &mut [u8]) -> Result<usize, NoRo
     copy_to_slice(bytes, buf)
 }
 
-/// Returns a copy of some bytes, after one request for their length. Vectors would be longer, and so
-/// would not be inlined.
+/// Returns a copy of some bytes, after one request for their length. One call of `memcpy` copies
+/// them, as the loop is compiled: vectors would be longer, and so would not be inlined.
 pub fn copy<A: Allocator + Copy>(alloc: A, bytes: &[u8]) -> Result<Vec<u8, A>, AllocError>
     ensures bytes { IfOk result (λ copied. copied.items ≡ bytes.now) }
     ensures capacity { IfOk result (λ copied. vec_capacity copied ≡ length bytes.now) }

@@ -1,5 +1,5 @@
 -- What decoding a chunk at a time promises.
-use Rattle.std.specs.Prelude.{◌≡◌, ℕ, ◌+◌, ◌<◌, ◌≤◌, Bool, true, false, List, [], Vec, length, take, drop, vec_capacity, Option, IfSome, IfNone, Result, IfOk}
+use Rattle.std.specs.Prelude.{◌≡◌, ℕ, ◌+◌, ◌*◌, ◌<◌, ◌≤◌, Bool, true, false, List, [], Vec, length, take, drop, vec_capacity, Option, IfSome, IfNone, Result, IfOk}
 use Rattle.cesu8_text.specs.Text.{IsText}
 use Rattle.cesu8_text.specs.Reading.{reading, NoneBegins, lossy_length, HasNoStrictReading}
 use Rattle.cesu8_text.specs.Encoding.{Flavor, encoding}
@@ -37,6 +37,11 @@ pub record ReadsFirst (f : Flavor) (which : Strictness) (bytes : List ℕ) (read
 pub record ReadsAll (f : Flavor) (which : Strictness) (bytes : List ℕ) (read : ℕ) (text : List ℕ) (is_ill_formed : Bool) : Type 0 where
   pub first : ReadsFirst f which bytes read text is_ill_formed
   pub all : refuses which is_ill_formed ≡ false → read ≡ length bytes
+
+-- No more is written for so many bytes, if they are read one character after another.
+abbrev pub most_written : Strictness → ℕ → ℕ
+most_written Strict n = n
+most_written Lossy n = 3 * n
 
 -- No text of the bytes is longer.
 abbrev pub most_of_text : Flavor → Strictness → List ℕ → ℕ

@@ -5,12 +5,11 @@
 //! bytes are decoded on the stack before that. Of more bytes the text is appended chunk by chunk:
 //! with zeros for all, bytes that are refused early would take three times the time.
 
-ghost use Rattle.std.specs.Prelude.{◌≡◌, ◌+◌, ◌*◌, ◌≤◌, [], length, vec_len, vec_capacity, IfSome, IfNone, IsUtf8};
+ghost use Rattle.std.specs.Prelude.{◌≡◌, ◌+◌, ◌*◌, ◌≤◌, ◌++◌, [], length, vec_len, vec_capacity, IfSome, IfNone, IsUtf8};
 ghost use Rattle.cesu8_text.specs.Reading.{HasNoStrictReading};
 ghost use Rattle.cesu8_bytes.specs.TextChunks.{IsReadSoFar};
 ghost use Rattle.cesu8_bytes.specs.declared.options.Strictness.TheVariants.{Strict};
 ghost use Rattle.cesu8_decode.specs.Decoding.{BuildsReading, WritesStrictly, most_of_text};
-ghost use Rattle.cesu8_decode.specs.Ways.{IsWayOf};
 
 use crate::characters::write_characters;
 use crate::chunk::next_chunk;
@@ -18,7 +17,7 @@ use crate::in_place::append_strictly;
 use crate::lengths::lossy_len;
 use crate::packing::WIDEST;
 use crate::refusal::is_refused;
-use crate::slices::{CHARACTERS_TEXT, FEWEST_TEXT, put_by};
+use crate::slices::{CHARACTERS_TEXT, FEWEST_TEXT};
 use crate::way::{Way, way_of};
 use crate::windows::{
     AROUND, LEAST, LONG_BUFFER, LONG_TEXT, MEDIUM_BUFFER, MEDIUM_TEXT, SHORT_BUFFER, SHORT_TEXT,
@@ -27,7 +26,7 @@ use crate::windows::{
 use cesu8_bytes::flavor::Flavor;
 use cesu8_bytes::joining::BUFFER_LEN;
 use cesu8_bytes::options::Strictness;
-use cesu8_bytes::writers::{append_each, append_zeros, copy};
+use cesu8_bytes::writers::{append_zeros, copy};
 use std::alloc::{AllocError, Allocator};
 
 /// Writes the strict reading of bytes that are not UTF-8 to an empty vector that has capacity for as
@@ -43,9 +42,8 @@ pub fn write_strictly<F: Flavor, A: Allocator + Copy>(
 {
     match way_of::<F>(Strictness::Strict, bytes) {
         Way::Refused => None,
-        Way::ShortWindow | Way::MediumWindow | Way::LongWindow | Way::JoinedWindow | Way::Chunks =>
-            append_strictly::<F, A>(bytes, empty),
-        way => write_in_place::<F, A>(way, bytes, empty),
+        Way::FewCharacters | Way::Characters => write_in_place::<F, A>(bytes, empty),
+        _ => append_strictly::<F, A>(bytes, empty),
     }
 }
 
@@ -67,33 +65,29 @@ pub fn build_lossily<F: Flavor, A: Allocator + Copy>(
     }
 }
 
-/// Writes the strict reading of a few bytes by a way that fits them, to an empty vector that has
-/// capacity for as many.
-#[inline(always)]
+/// Writes the strict reading of a few bytes, one character after another.
+#[inline(never)]
 fn write_in_place<F: Flavor, A: Allocator + Copy>(
-    way: Way,
     bytes: &[u8],
     empty: Vec<u8, A>,
 ) -> Option<Vec<u8, A>>
-    requires way { IsWayOf F.flavor Strict bytes.now way }
-    requires empty { (empty.items ≡ []) × (length bytes.now ≤ vec_capacity empty) }
+    requires { (empty.items ≡ []) × (length bytes.now ≤ vec_capacity empty) }
     ensures { WritesStrictly F.flavor bytes.now empty result }
 {
     let mut text = empty;
     append_zeros(bytes.len(), &mut text);
-    match put_by::<F>(way, Strictness::Strict, bytes, &mut text[..]) {
-        Ok(len) => {
-            text.truncate(len);
-            Some(text)
-        }
-        Err(_) => None,
+    let decoded = write_characters::<F>(Strictness::Strict, bytes, &mut text[..]);
+    if decoded.is_ill_formed {
+        return None;
     }
+    text.truncate(decoded.end);
+    Some(text)
 }
 
 /// Appends the text of the bytes chunk by chunk. The first is joined if it can be and `joins_first`
 /// holds.
 #[inline(never)]
-fn append_chunks<F: Flavor, A: Allocator>(
+fn append_chunks<F: Flavor, A: Allocator + Copy>(
     strictness: Strictness,
     bytes: &[u8],
     joins_first: bool,
@@ -124,9 +118,22 @@ fn append_chunks<F: Flavor, A: Allocator>(
         }
         rest = &rest[chunk.read..];
         joins = !chunk.is_ill_formed;
-        append_each(chunk.text, &mut text);
+        put_behind(chunk.text, &mut text);
     }
     Some(text)
+}
+
+/// Writes bytes behind the others of a vector, in place of zeros. Each is one call.
+#[inline(always)]
+fn put_behind<A: Allocator + Copy>(bytes: &[u8], out: &mut Vec<u8, A>)
+    requires { vec_len out.old + length bytes.now ≤ vec_capacity out.old }
+    ensures bytes { out.new.items ≡ out.old.items ++ bytes.now }
+    ensures len { vec_len out.new ≡ vec_len out.old + length bytes.now }
+    ensures capacity { vec_capacity out.new ≡ vec_capacity out.old }
+{
+    let end = out.len();
+    append_zeros(bytes.len(), out);
+    out[end..].copy_from_slice(bytes);
 }
 
 /// Returns the lossy reading of a few bytes, read one character after another to an array of this
@@ -180,7 +187,7 @@ fn build_chunks<F: Flavor, A: Allocator + Copy>(
         return Err(AllocError);
     };
     let mut first = Vec::with_capacity(alloc, len)?;
-    append_each(&written[..decoded.end], &mut first);
+    put_behind(&written[..decoded.end], &mut first);
     match append_chunks::<F, A>(Strictness::Lossy, rest, !decoded.is_ill_formed, first) {
         Some(text) => Ok(text),
         // Lossy reading accepts all bytes.

@@ -16,8 +16,8 @@ returns-then-is_refused-clause-none g c =
     none_behind g.F.Flavor.flavor c.args.strictness c.args.bytes.now c.loop-rest.rest.now _ _ _ _ _
     c.loop-rest.invariant.read c.next_chunk-chunk.ensures (sym c.is_refused.ensures ∙ c.if-is_refused.true)
 
-pub append_each-requires : goal.append_each-requires
-append_each-requires g c =
+pub put_behind-requires : goal.put_behind-requires
+put_behind-requires g c =
     let fits = chunk_fits g.F.Flavor.flavor c.args.strictness c.loop-rest.rest.now _ _
     (c.next_chunk-chunk.ensures.chunk (sym c.is_refused.ensures ∙ c.if-is_refused.false)) in
     omega (arith, c.loop-rest.invariant.room, fits)
@@ -28,7 +28,7 @@ loop-rest-preserved g c =
     let which = c.args.strictness in
     let rest = c.loop-rest.rest.now in
     let chunk = c.next_chunk-chunk.ensures.chunk (sym c.is_refused.ensures ∙ c.if-is_refused.false) in
-    let appended = c.append_each.ensures in
+    let appended = c.put_behind.ensures in
     rw take_rest (record {
       read = more_read f which c.args.bytes.now rest _ _ _ _ c.loop-rest.invariant.read
           (chunk_appended f which rest _ _ _ _ chunk appended.bytes);

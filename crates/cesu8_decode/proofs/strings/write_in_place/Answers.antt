@@ -1,29 +1,28 @@
-use Rattle.std.proofs.Common.{◌≤◌, [], ◌∙◌, sym, ap, subst, arith, length}
-use Rattle.cesu8_text.specs.Text.{utf8}
+use Rattle.std.proofs.Common.{◌≤◌, [], ◌∙◌, refl, sym, subst, arith, length}
 use Rattle.cesu8_bytes.specs.TextChunks.{IsChunk}
 use Rattle.cesu8_bytes.specs.declared.options.Strictness.TheVariants.{Strict}
-use Rattle.cesu8_text.proofs.encoding.Lengths.{length_bounds}
-use Rattle.cesu8_decode.proofs.chunks.ReadChunks.{strict_chunk}
-use Rattle.cesu8_decode.proofs.chunks.SliceReadings.{has_none}
-use Rattle.cesu8_decode.proofs.chunks.Strings.{front}
+use Rattle.cesu8_decode.proofs.chunks.ReadChunks.{all_chunk, none_if_refused}
+use Rattle.cesu8_decode.proofs.chunks.Strings.{cut}
 use Rattle.cesu8_decode.proofs.strings.write_in_place.Goals as goal
 
-pub returns-in-Ok : goal.returns-in-Ok
-returns-in-Ok g c =
+pub returns-then-decoded : goal.returns-then-decoded
+returns-then-decoded g c = record {
+  text = tt;
+  capacity = tt;
+  none = (none_if_refused g.F.Flavor.flavor Strict c.args.bytes.now _ _ _ c.write_characters-decoded.ensures.read.first c.if-decoded.true).1;
+}
+
+pub returns : goal.returns
+returns g c =
     let f = g.F.Flavor.flavor in
     let bytes = c.args.bytes.now in
-    let written = c.in-Ok.ensures.written in
-    let len : c.in-Ok.len ≤ c.append_zeros.new.out.len =
-    omega (arith, c.append_zeros.ensures.len, written.2.0, (length_bounds f written.0 written.1.0).low, ap length written.1.1) in
+    let decoded = c.write_characters-decoded in
+    let new = decoded.new.out in
+    let end : decoded.result.end ≤ length new = omega (arith, decoded.ensures.end, decoded.ensures.len, c.deref_mut.ensures.len, c.append_zeros.ensures.len) in
+    let within : decoded.result.end ≤ c.append_zeros.new.out.len = omega (arith, decoded.ensures.end, c.append_zeros.ensures.len) in
     record {
-      text = subst (IsChunk f Strict bytes []) (sym (c.truncate.ensures.items ∙ front (utf8 written.0) _ _ _ _ _ written.2 len))
-          (strict_chunk f bytes written.0 written.1);
+      text = subst (IsChunk f Strict bytes []) (sym (c.truncate.ensures.items ∙ cut new _ _ _ end within))
+          (all_chunk f Strict bytes _ _ _ decoded.ensures.read c.if-decoded.false);
       capacity = c.truncate.ensures.capacity ∙ c.append_zeros.ensures.capacity;
       none = tt;
     }
-
-pub returns-in-Err : goal.returns-in-Err
-returns-in-Err g c =
-    let bytes = c.args.bytes.now in
-    let all : length bytes ≤ length c.deref_mut.result.now = omega (arith, c.deref_mut.ensures.len, c.append_zeros.ensures.len) in
-    record { text = tt; capacity = tt; none = has_none g.F.Flavor.flavor bytes c.in-Err.field-0 _ _ all c.in-Err.ensures }
