@@ -1,5 +1,5 @@
 -- What is known of the bytes that go a way.
-use Rattle.std.specs.Prelude.{◌≡◌, ℕ, ◌<◌, ◌≤◌, ⊤, List, length}
+use Rattle.std.specs.Prelude.{◌≡◌, ℕ, ◌≤◌, ⊤, List, length}
 use Rattle.cesu8_text.specs.Encoding.{Flavor}
 use Rattle.cesu8_text.specs.Reading.{HasNoStrictReading}
 use Rattle.cesu8_bytes.specs.declared.options.Strictness.{Strictness}
@@ -14,6 +14,6 @@ IsWayOf f which bytes Characters = length bytes ≤ 96
 IsWayOf f which bytes ShortWindow = length bytes ≤ 96
 IsWayOf f which bytes MediumWindow = length bytes ≤ 256
 IsWayOf f which bytes LongWindow = length bytes ≤ 1024
-IsWayOf f which bytes JoinedWindow = 256 < length bytes
+IsWayOf f which bytes JoinedWindow = (which ≡ Strict) × (length bytes ≤ 1024)
 IsWayOf f which bytes Chunks = ⊤
 IsWayOf f which bytes Refused = (which ≡ Strict) × HasNoStrictReading f bytes

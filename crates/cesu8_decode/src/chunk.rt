@@ -1,14 +1,13 @@
-//! The first bytes as a chunk of text: joined, or written by offsets.
+//! The first bytes as a chunk of text.
 
 ghost use Rattle.std.specs.Prelude.{◌+◌, ◌*◌, ◌<◌, ◌≤◌, length};
 ghost use Rattle.cesu8_decode.specs.Decoding.{ReadsFirst};
 
+use super::in_place::write_strict;
 use super::packing::WIDEST;
 use super::windows::{LEAST, SPARED, write_window};
 use cesu8_bytes::flavor::Flavor;
-use cesu8_bytes::joining::Buffer;
 use cesu8_bytes::options::Strictness;
-use cesu8_bytes::window::{TOO_FEW, read_window};
 
 /// How many bytes were read, their text in UTF-8, and whether some of them are ill-formed.
 #[derive(Drop)]
@@ -18,8 +17,8 @@ pub struct Chunk<'a> {
     pub is_ill_formed: bool,
 }
 
-/// Reads the next bytes: as a joined window if that yields text, and else by offsets in a window of
-/// this length. After an ill-formed byte joining mostly yields none.
+/// Reads the next bytes: in the pass of strict reading if that finds no ill-formed byte, and else by
+/// offsets in a window of this length. After an ill-formed byte another is mostly near.
 ///
 /// `ReadsFirst` says that at least one byte was read, and that the chunk's text and the reading of
 /// what is left are that of all; so the loops over it end and are right. What is written needs
@@ -28,8 +27,7 @@ pub struct Chunk<'a> {
 pub fn next_chunk<'a, F: Flavor, const LEN: usize>(
     strictness: Strictness,
     bytes: &[u8],
-    joins: bool,
-    buffer: &'a mut Buffer,
+    is_well_formed: bool,
     written: &'a mut [u8],
 ) -> Chunk<'a>
     requires some { 0 < length bytes.now }
@@ -38,11 +36,12 @@ pub fn next_chunk<'a, F: Flavor, const LEN: usize>(
     ensures { ReadsFirst F.flavor strictness bytes.now
         result.read result.text.now result.is_ill_formed }
 {
-    if joins && bytes.len() > TOO_FEW {
-        if let Some(joined) = read_window::<F>(bytes, buffer) {
+    if is_well_formed {
+        let decoded = write_strict::<F>(bytes, written);
+        if !decoded.is_ill_formed {
             return Chunk {
-                read: joined.read,
-                text: joined.text.as_bytes(),
+                read: decoded.read,
+                text: &written[..decoded.end],
                 is_ill_formed: false,
             };
         }

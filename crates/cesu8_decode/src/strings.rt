@@ -24,7 +24,6 @@ use crate::windows::{
     SPARED, write_window,
 };
 use cesu8_bytes::flavor::Flavor;
-use cesu8_bytes::joining::BUFFER_LEN;
 use cesu8_bytes::options::Strictness;
 use cesu8_bytes::writers::{append_zeros, copy};
 use std::alloc::{AllocError, Allocator};
@@ -84,13 +83,13 @@ fn write_in_place<F: Flavor, A: Allocator + Copy>(
     Some(text)
 }
 
-/// Appends the text of the bytes chunk by chunk. The first is joined if it can be and `joins_first`
+/// Appends the text of the bytes chunk by chunk. The first is joined if it can be and `is_first_well_formed`
 /// holds.
 #[inline(never)]
 fn append_chunks<F: Flavor, A: Allocator + Copy>(
     strictness: Strictness,
     bytes: &[u8],
-    joins_first: bool,
+    is_first_well_formed: bool,
     before: Vec<u8, A>,
 ) -> Option<Vec<u8, A>>
     requires { vec_len before + most_of_text F.flavor strictness bytes.now
@@ -101,23 +100,16 @@ fn append_chunks<F: Flavor, A: Allocator + Copy>(
     ensures none { IfNone result ((strictness ≡ Strict) × HasNoStrictReading F.flavor bytes.now) }
 {
     let mut text = before;
-    let mut buffer = [0; BUFFER_LEN];
     let mut written = [0; LONG_TEXT];
     let mut rest = bytes;
-    let mut joins = joins_first;
+    let mut is_well_formed = is_first_well_formed;
     while !rest.is_empty() {
-        let chunk = next_chunk::<F, LONG_BUFFER>(
-            strictness,
-            rest,
-            joins,
-            &mut buffer,
-            &mut written,
-        );
+        let chunk = next_chunk::<F, LONG_BUFFER>(strictness, rest, is_well_formed, &mut written);
         if is_refused(strictness, chunk.is_ill_formed) {
             return None;
         }
         rest = &rest[chunk.read..];
-        joins = !chunk.is_ill_formed;
+        is_well_formed = !chunk.is_ill_formed;
         put_behind(chunk.text, &mut text);
     }
     Some(text)

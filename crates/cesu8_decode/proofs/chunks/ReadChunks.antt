@@ -69,6 +69,16 @@ chunk_appended f which bytes rest chunk old new is_chunk new_is = record {
   written = new_is ∙ ap (λ bs. old ++ bs) is_chunk.written;
 }
 
+-- A chunk in strict reading is one in both.
+pub chunk_of_strict : (f : Flavor) (which : Strictness) (bytes rest chunk : List ℕ) → IsChunk f Strict bytes rest chunk → IsChunk f which bytes rest chunk
+chunk_of_strict f which bytes rest chunk is = record {
+  text = is.text;
+  scalars = is.scalars;
+  lossy_reading = is.lossy_reading;
+  strict_reading = λ _. is.strict_reading refl;
+  written = is.written;
+}
+
 -- What is read is UTF-8.
 pub chunk_utf8 : (f : Flavor) (which : Strictness) (bytes rest chunk : List ℕ) → IsChunk f which bytes rest chunk → IsUtf8 chunk
 chunk_utf8 f which bytes rest chunk read = subst IsUtf8 (sym read.written) (IsUtf8_utf8 read.text read.scalars)

@@ -1,4 +1,4 @@
-use Rattle.std.proofs.Common.{◌≤◌, [], ◌∙◌, refl, sym, subst, arith, length}
+use Rattle.std.proofs.Common.{◌≤◌, [], ◌∙◌, sym, subst, arith, length}
 use Rattle.cesu8_bytes.specs.TextChunks.{IsChunk}
 use Rattle.cesu8_bytes.specs.declared.options.Strictness.TheVariants.{Strict}
 use Rattle.cesu8_decode.proofs.chunks.ReadChunks.{all_chunk, none_if_refused}
