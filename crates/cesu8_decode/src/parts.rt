@@ -9,7 +9,7 @@
 //! fourth ──► two bits of the second, four of the third
 //! ```
 
-ghost use Rattle.std.specs.Prelude.{◌≡◌, ℕ, List, ◌+◌, ◌-◌, ◌*◌, ◌<◌, ◌≤◌, ◌++◌, ◌==◌, not, nat_le, IsTrue, true, false, length, take, map, replicate, slice_index};
+ghost use Rattle.std.specs.Prelude.{◌≡◌, ℕ, List, ◌+◌, ◌-◌, ◌*◌, ◌^◌, ◌%◌, ◌<◌, ◌≤◌, ◌++◌, nat_le, IsTrue, true, false, length, take, map, replicate, slice_index};
 ghost use Rattle.std.specs.List.{range_with_len};
 ghost use Rattle.std.specs.Simd.Lanes.{sel_l, mask_l};
 ghost use Rattle.cesu8_text.specs.Encoding.{Flavor};
@@ -323,22 +323,24 @@ fn changed_bytes(window: &[u8], kinds: &Kinds, at: usize) -> u8x32
     if highest_bits(pairs << u8x32::splat(2)) == 0 {
         return changed;
     }
-    let pair = u8x32::splat(PAIR);
     let half = u8x32::splat(0x0F);
     let before = u8x32::from_slice(&window[at + 4..]);
     let two_before = u8x32::from_slice(&window[at + 3..]);
     let first = look_up(FIRST_BY_SECOND, before);
     let second = look_up(SECOND_BY_SECOND, two_before) | ((before >> u8x32::splat(2)) & half);
     let third = look_up(THIRD_BY_THIRD, two_before) | (byte & half);
-    let changed = chosen(kinds[1] & pair, third, changed);
-    let changed = chosen(kinds[2] & pair, second, changed);
-    chosen(kinds[3] & pair, first, changed)
+    let changed = chosen(kinds[1], third, changed);
+    let changed = chosen(kinds[2], second, changed);
+    chosen(kinds[3], first, changed)
 }
 
-/// Returns the lanes of `some` where those of a mark are not 0, and otherwise those of `other`.
+/// Returns the lanes of `some` where those of kinds have the bit of `PAIR`, which is two bits below the
+/// highest, and otherwise those of `other`.
 #[inline(always)]
-fn chosen(mark: u8x32, some: u8x32, other: u8x32) -> u8x32
-    ensures { result ≡ sel_l (map (λ lane. not (lane == 0)) mark) some other }
+fn chosen(kinds: u8x32, some: u8x32, other: u8x32) -> u8x32
+    ensures { result ≡ sel_l (map (λ kind. nat_le 0x80 (kind * 2 ^ 2 % 2 ^ 8)) kinds) some other }
 {
-    mark.simd_ne(u8x32::splat(0)).select(some, other)
+    (kinds << u8x32::splat(2))
+        .simd_ge(u8x32::splat(0x80))
+        .select(some, other)
 }

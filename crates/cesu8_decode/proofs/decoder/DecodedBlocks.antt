@@ -168,7 +168,7 @@ module _ (f : Flavor) (window : List ℕ) where
           (rw (near 3 (omega arith), near 2 (omega arith), near 1 (omega arith)) at none) i low inside)))
 
       abbrev pub chosen_lanes : ℕ → List ℕ → List ℕ → List ℕ
-      chosen_lanes d some other = sel_l (map (λ lane. not (eqb lane 0)) (zip2 bit_and (near_by d) (replicate 32 0x20))) some other
+      chosen_lanes d some other = sel_l (map (λ lane. leb 0x80 (lane * 2 ^ 2 % 2 ^ 8)) (near_by d)) some other
 
       -- and else what they become.
       pub first_bytes : (first second third fourth two last : List ℕ) →
