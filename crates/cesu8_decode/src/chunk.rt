@@ -1,13 +1,13 @@
 //! The first bytes as a chunk of text.
 
 ghost use Rattle.std.specs.Prelude.{◌+◌, ◌*◌, ◌<◌, ◌≤◌, length};
+ghost use Rattle.cesu8_bytes.specs.declared.options.Strictness.TheVariants.{Lossy};
 ghost use Rattle.cesu8_decode.specs.Decoding.{ReadsFirst};
 
 use super::in_place::write_strict;
 use super::packing::WIDEST;
 use super::windows::{LEAST, SPARED, write_window};
 use cesu8_bytes::flavor::Flavor;
-use cesu8_bytes::options::Strictness;
 
 /// How many bytes were read, their text in UTF-8, and whether some of them are ill-formed.
 #[derive(Drop)]
@@ -25,7 +25,6 @@ pub struct Chunk<'a> {
 /// `SPARED` bytes less than three for each of the window, since some of these are only around it.
 #[inline(always)]
 pub fn next_chunk<'a, F: Flavor, const LEN: usize>(
-    strictness: Strictness,
     bytes: &[u8],
     is_well_formed: bool,
     written: &'a mut [u8],
@@ -33,7 +32,7 @@ pub fn next_chunk<'a, F: Flavor, const LEN: usize>(
     requires some { 0 < length bytes.now }
     requires window { LEAST ≤ LEN }
     requires written { WIDEST * LEN ≤ length written.old + SPARED }
-    ensures { ReadsFirst F.flavor strictness bytes.now
+    ensures { ReadsFirst F.flavor Lossy bytes.now
         result.read result.text.now result.is_ill_formed }
 {
     if is_well_formed {
@@ -47,7 +46,7 @@ pub fn next_chunk<'a, F: Flavor, const LEN: usize>(
         }
     }
     let mut window = [0; LEN];
-    let decoded = write_window::<F>(strictness, bytes, &mut window, written);
+    let decoded = write_window::<F>(bytes, &mut window, written);
     Chunk {
         read: decoded.read,
         text: &written[..decoded.end],

@@ -9,7 +9,7 @@ ghost use Rattle.cesu8_text.specs.Encoding.{Flavor as AnyFlavor};
 ghost use Rattle.cesu8_text.specs.Reading.{reading, lossy_length};
 ghost use Rattle.cesu8_text.specs.Slices.{StandsAtFront};
 ghost use Rattle.cesu8_text.specs.Text.{utf8};
-ghost use Rattle.cesu8_bytes.specs.declared.options.Strictness.TheVariants.{Strict};
+ghost use Rattle.cesu8_bytes.specs.declared.options.Strictness.TheVariants.{Strict, Lossy};
 ghost use Rattle.cesu8_decode.specs.Decoding.{ReadsAll};
 ghost use Rattle.cesu8_decode.specs.PutReadings.{PutsReading};
 ghost use Rattle.cesu8_decode.specs.Ways.{IsWayOf};
@@ -63,17 +63,17 @@ pub fn put_by<F: Flavor>(
         Way::FewCharacters => put_characters::<F, FEWEST_TEXT>(strictness, bytes, buf),
         Way::Characters => put_characters::<F, CHARACTERS_TEXT>(strictness, bytes, buf),
         Way::ShortWindow => match strictness {
-            Strictness::Strict => put_strictly::<F, SHORT_WINDOW>(strictness, bytes, buf),
-            Strictness::Lossy => put_window::<F, SHORT_BUFFER, SHORT_TEXT>(strictness, bytes, buf),
+            Strictness::Strict => put_strictly::<F, SHORT_WINDOW>(bytes, buf),
+            Strictness::Lossy => put_window::<F, SHORT_BUFFER, SHORT_TEXT>(bytes, buf),
         },
         Way::MediumWindow => match strictness {
-            Strictness::Strict => put_strictly::<F, MEDIUM_WINDOW>(strictness, bytes, buf),
-            Strictness::Lossy => {
-                put_window::<F, MEDIUM_BUFFER, MEDIUM_TEXT>(strictness, bytes, buf)
-            }
+            Strictness::Strict => put_strictly::<F, MEDIUM_WINDOW>(bytes, buf),
+            Strictness::Lossy => { put_window::<F, MEDIUM_BUFFER, MEDIUM_TEXT>(bytes, buf) }
         },
-        Way::LongWindow => put_window::<F, LONG_BUFFER, LONG_TEXT>(strictness, bytes, buf),
-        Way::JoinedWindow => put_strictly::<F, LONG_WINDOW>(strictness, bytes, buf),
+        Way::LongWindow => match strictness {
+            Strictness::Strict => put_strictly::<F, LONG_WINDOW>(bytes, buf),
+            Strictness::Lossy => put_window::<F, LONG_BUFFER, LONG_TEXT>(bytes, buf),
+        },
         Way::Chunks => put_chunks::<F>(strictness, bytes, buf),
         Way::Refused => Err(Unwritten::NoText),
     }
@@ -99,18 +99,17 @@ fn put_characters<F: Flavor, const WRITTEN: usize>(
 /// that they are made only when it is called.
 #[inline(never)]
 fn put_window<F: Flavor, const LEN: usize, const WRITTEN: usize>(
-    strictness: Strictness,
     bytes: &[u8],
     buf: &mut [u8],
 ) -> Result<usize, Unwritten>
     requires window { (length bytes.now + AROUND ≤ LEN) × (LEAST ≤ LEN) }
     requires written { (WIDEST * LEN ≤ WRITTEN + SPARED) × (WRITTEN ≤ LONG_TEXT) }
-    ensures { PutsReading F.flavor strictness bytes.now result buf.old buf.new }
+    ensures { PutsReading F.flavor Lossy bytes.now result buf.old buf.new }
 {
     let mut window = [0; LEN];
     let mut written = [0; WRITTEN];
-    let decoded = write_window::<F>(strictness, bytes, &mut window, &mut written);
-    put_decoded(strictness, decoded, &written, buf)
+    let decoded = write_window::<F>(bytes, &mut window, &mut written);
+    put_decoded(Strictness::Lossy, decoded, &written, buf)
 }
 
 /// Copies the text that was decoded of all bytes, unless an ill-formed byte in them is refused. The
@@ -138,17 +137,15 @@ fn put_decoded(
 /// to first: a caller's buffer stays as it was if there is none.
 #[inline(never)]
 fn put_strictly<F: Flavor, const TEXT: usize>(
-    strictness: Strictness,
     bytes: &[u8],
     buf: &mut [u8],
 ) -> Result<usize, Unwritten>
-    requires strict { strictness ≡ Strict }
-    requires text { (length bytes.now ≤ TEXT) × (TEXT ≤ LONG_WINDOW) }
-    ensures { PutsReading F.flavor strictness bytes.now result buf.old buf.new }
+    requires { (length bytes.now ≤ TEXT) × (TEXT ≤ LONG_WINDOW) }
+    ensures { PutsReading F.flavor Strict bytes.now result buf.old buf.new }
 {
     let mut text = [0; TEXT];
     let decoded = write_strict::<F>(bytes, &mut text);
-    put_decoded(strictness, decoded, &text, buf)
+    put_decoded(Strictness::Strict, decoded, &text, buf)
 }
 
 /// Writes the text of still more bytes, chunk by chunk, where it stays. First passes find whether
@@ -189,12 +186,7 @@ fn write_reading<F: Flavor>(bytes: &[u8], out: &mut [u8]) -> usize
     let mut end = 0;
     let mut is_well_formed = true;
     while !rest.is_empty() {
-        let chunk = next_chunk::<F, LONG_BUFFER>(
-            Strictness::Lossy,
-            rest,
-            is_well_formed,
-            &mut written,
-        );
+        let chunk = next_chunk::<F, LONG_BUFFER>(rest, is_well_formed, &mut written);
         rest = &rest[chunk.read..];
         is_well_formed = !chunk.is_ill_formed;
         end = put(chunk.text, out, end);

@@ -1,22 +1,20 @@
 //! Decodes to a vector, whose bytes are then known to be UTF-8.
 //!
-//! Strict reading has requested as many bytes as it was given. Up to 1,024 are decoded to zeros in
-//! the vector, as to a caller's slice. Lossy reading requests exactly what the text has, so a few
-//! bytes are decoded on the stack before that. Of more bytes the text is appended chunk by chunk:
-//! with zeros for all, bytes that are refused early would take three times the time.
+//! Strict reading has requested as many bytes as it was given, and decodes to the vector itself.
+//! Lossy reading requests exactly what the text has, so a few bytes are decoded on the stack before
+//! that. Of more bytes the text is appended chunk by chunk.
 
-ghost use Rattle.std.specs.Prelude.{◌≡◌, ◌+◌, ◌*◌, ◌≤◌, ◌++◌, [], length, vec_len, vec_capacity, IfSome, IfNone, IsUtf8};
-ghost use Rattle.cesu8_text.specs.Reading.{HasNoStrictReading};
+ghost use Rattle.std.specs.Prelude.{◌≡◌, ◌+◌, ◌*◌, ◌≤◌, ◌++◌, [], length, vec_len, vec_capacity, IsUtf8};
+ghost use Rattle.cesu8_text.specs.Reading.{lossy_length};
 ghost use Rattle.cesu8_bytes.specs.TextChunks.{IsReadSoFar};
-ghost use Rattle.cesu8_bytes.specs.declared.options.Strictness.TheVariants.{Strict};
-ghost use Rattle.cesu8_decode.specs.Decoding.{BuildsReading, WritesStrictly, most_of_text};
+ghost use Rattle.cesu8_bytes.specs.declared.options.Strictness.TheVariants.{Lossy};
+ghost use Rattle.cesu8_decode.specs.Decoding.{BuildsReading, WritesStrictly};
 
 use crate::characters::write_characters;
 use crate::chunk::next_chunk;
 use crate::in_place::append_strictly;
 use crate::lengths::lossy_len;
 use crate::packing::WIDEST;
-use crate::refusal::is_refused;
 use crate::slices::{CHARACTERS_TEXT, FEWEST_TEXT};
 use crate::way::{Way, way_of};
 use crate::windows::{
@@ -60,7 +58,7 @@ pub fn build_lossily<F: Flavor, A: Allocator + Copy>(
         Way::ShortWindow => build_window::<F, SHORT_BUFFER, SHORT_TEXT, A>(alloc, bytes),
         Way::MediumWindow => build_window::<F, MEDIUM_BUFFER, MEDIUM_TEXT, A>(alloc, bytes),
         Way::LongWindow => build_window::<F, LONG_BUFFER, LONG_TEXT, A>(alloc, bytes),
-        Way::JoinedWindow | Way::Chunks | Way::Refused => build_chunks::<F, A>(alloc, bytes),
+        Way::Chunks | Way::Refused => build_chunks::<F, A>(alloc, bytes),
     }
 }
 
@@ -83,36 +81,28 @@ fn write_in_place<F: Flavor, A: Allocator + Copy>(
     Some(text)
 }
 
-/// Appends the text of the bytes chunk by chunk. The first is joined if it can be and `is_first_well_formed`
-/// holds.
+/// Appends the lossy reading of the bytes chunk by chunk.
 #[inline(never)]
 fn append_chunks<F: Flavor, A: Allocator + Copy>(
-    strictness: Strictness,
     bytes: &[u8],
     is_first_well_formed: bool,
     before: Vec<u8, A>,
-) -> Option<Vec<u8, A>>
-    requires { vec_len before + most_of_text F.flavor strictness bytes.now
-        ≤ vec_capacity before }
-    ensures text { IfSome result (λ text.
-        IsReadSoFar F.flavor strictness bytes.now [] before.items text.items) }
-    ensures capacity { IfSome result (λ text. vec_capacity text ≡ vec_capacity before) }
-    ensures none { IfNone result ((strictness ≡ Strict) × HasNoStrictReading F.flavor bytes.now) }
+) -> Vec<u8, A>
+    requires { vec_len before + lossy_length F.flavor bytes.now ≤ vec_capacity before }
+    ensures text { IsReadSoFar F.flavor Lossy bytes.now [] before.items result.items }
+    ensures capacity { vec_capacity result ≡ vec_capacity before }
 {
     let mut text = before;
     let mut written = [0; LONG_TEXT];
     let mut rest = bytes;
     let mut is_well_formed = is_first_well_formed;
     while !rest.is_empty() {
-        let chunk = next_chunk::<F, LONG_BUFFER>(strictness, rest, is_well_formed, &mut written);
-        if is_refused(strictness, chunk.is_ill_formed) {
-            return None;
-        }
+        let chunk = next_chunk::<F, LONG_BUFFER>(rest, is_well_formed, &mut written);
         rest = &rest[chunk.read..];
         is_well_formed = !chunk.is_ill_formed;
         put_behind(chunk.text, &mut text);
     }
-    Some(text)
+    text
 }
 
 /// Writes bytes behind the others of a vector, in place of zeros. Each is one call.
@@ -155,7 +145,7 @@ fn build_window<F: Flavor, const LEN: usize, const WRITTEN: usize, A: Allocator 
 {
     let mut window = [0; LEN];
     let mut written = [0; WRITTEN];
-    let decoded = write_window::<F>(Strictness::Lossy, bytes, &mut window, &mut written);
+    let decoded = write_window::<F>(bytes, &mut window, &mut written);
     copy(alloc, &written[..decoded.end])
 }
 
@@ -170,7 +160,7 @@ fn build_chunks<F: Flavor, A: Allocator + Copy>(
 {
     let mut window = [0; LONG_BUFFER];
     let mut written = [0; LONG_TEXT];
-    let decoded = write_window::<F>(Strictness::Lossy, bytes, &mut window, &mut written);
+    let decoded = write_window::<F>(bytes, &mut window, &mut written);
     let rest = &bytes[decoded.read..];
     let Some(rest_len) = lossy_len::<F>(rest) else {
         return Err(AllocError);
@@ -180,9 +170,5 @@ fn build_chunks<F: Flavor, A: Allocator + Copy>(
     };
     let mut first = Vec::with_capacity(alloc, len)?;
     put_behind(&written[..decoded.end], &mut first);
-    match append_chunks::<F, A>(Strictness::Lossy, rest, !decoded.is_ill_formed, first) {
-        Some(text) => Ok(text),
-        // Lossy reading accepts all bytes.
-        None => unreachable!(),
-    }
+    Ok(append_chunks::<F, A>(rest, !decoded.is_ill_formed, first))
 }

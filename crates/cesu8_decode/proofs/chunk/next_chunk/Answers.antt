@@ -1,4 +1,5 @@
 use Rattle.std.proofs.Common.{true≢false, sym, rules}
+use Rattle.cesu8_bytes.specs.declared.options.Strictness.TheVariants.{Lossy}
 use Rattle.cesu8_decode.proofs.chunks.ReadChunks.{chunk_of_strict}
 use Rattle.cesu8_decode.proofs.chunk.next_chunk.Goals as goal
 
@@ -8,6 +9,6 @@ returns-then-not-decoded g c =
     record {
       some = first.some;
       within = first.within;
-      chunk = λ _. chunk_of_strict g.F.Flavor.flavor c.args.strictness c.args.bytes.now _ _ (first.chunk (search rules));
+      chunk = λ _. chunk_of_strict g.F.Flavor.flavor Lossy c.args.bytes.now _ _ (first.chunk (search rules));
       ill_formed = λ ill_formed. absurd (true≢false (sym ill_formed));
     }

@@ -5,4 +5,4 @@ pub returns : goal.returns
 returns g c =
     let decoded = c.write_strict-decoded.ensures in
     c.put_decoded.ensures g.F.Flavor.flavor c.args.bytes.now
-    (rw c.requires.strict (record { first = decoded.first; all = λ fine. decoded.all (omega (arith, c.requires.text)) }))
+    (record { first = decoded.first; all = λ _. decoded.all (omega (arith, c.requires)) })

@@ -10,5 +10,5 @@ returns g c =
     let bytes = c.args.bytes.now in
     let decoded = c.write_window-decoded.ensures in
     built f bytes _ c.copy.result
-    (all_chunk f Lossy bytes _ _ _ (record { first = decoded.first; all = λ fine. decoded.all (omega arith) fine }) refl)
+    (all_chunk f Lossy bytes _ _ _ (record { first = decoded.first; all = λ _. decoded.all (omega arith) }) refl)
     c.copy.ensures.bytes c.copy.ensures.capacity
