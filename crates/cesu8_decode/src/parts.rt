@@ -9,9 +9,10 @@
 //! fourth ──► two bits of the second, four of the third
 //! ```
 
-ghost use Rattle.std.specs.Prelude.{◌≡◌, ℕ, List, ◌+◌, ◌-◌, ◌*◌, ◌^◌, ◌%◌, ◌<◌, ◌≤◌, ◌++◌, nat_le, IsTrue, true, false, length, take, map, replicate, slice_index};
+ghost use Rattle.std.specs.Prelude.{◌≡◌, ℕ, List, ◌+◌, ◌-◌, ◌*◌, ◌^◌, ◌%◌, ◌<◌, ◌≤◌, ◌++◌, nat_le, IsTrue, true, false, length, take, map, replicate, slice_index, bit_or};
 ghost use Rattle.std.specs.List.{range_with_len};
-ghost use Rattle.std.specs.Simd.Lanes.{sel_l, mask_l};
+ghost use Rattle.std.specs.Simd.Lanes.{sel_l, mask_l, zip2};
+ghost use Rattle.cesu8_text.specs.Class.{is_null};
 ghost use Rattle.cesu8_text.specs.Encoding.{Flavor};
 ghost use Rattle.cesu8_bytes.specs.Kernels.{mask};
 ghost use Rattle.cesu8_decode.specs.DecodedOffsets.{decoded, is_ill_formed_at};
@@ -79,9 +80,7 @@ pub fn write_block<F: Flavor>(
     ensures len { length out.new ≡ length out.old }
 {
     let bytes = u8x32::from_slice(&window[at + BEHIND..]);
-    // `starts` makes the same test, so the compiler makes it once.
-    let leads = bits::<AtLeast<LEAD>, BLOCK>(bytes) != 0;
-    if !leads && first_bits(bytes | nulls::<F>(bytes), count) == 0 {
+    if are_ones::<F>(bytes, count) {
         return copy_block(bytes, u8x32::splat(0), count, out, end);
     }
     let here = starts::<F>(window, at + BEHIND, true);
@@ -130,9 +129,7 @@ pub fn write_well_formed<F: Flavor>(
     ensures len { length out.new ≡ length out.old }
 {
     let bytes = u8x32::from_slice(&window[at + BEHIND..]);
-    // `starts` makes the same test, so the compiler makes it once.
-    let leads = bits::<AtLeast<LEAD>, BLOCK>(bytes) != 0;
-    if !leads && first_bits(bytes | nulls::<F>(bytes), count) == 0 {
+    if are_ones::<F>(bytes, count) {
         return copy_block(bytes, u8x32::splat(0), count, out, end);
     }
     let here = starts::<F>(window, at + BEHIND, true);
@@ -165,6 +162,18 @@ fn ill_formed_block(kinds: u8x32, end: usize) -> Block
         is_ill_formed: true,
         kinds,
     }
+}
+
+/// Returns whether no byte leads others and the first `count` are characters of one byte.
+#[inline(always)]
+fn are_ones<F: Flavor>(bytes: u8x32, count: usize) -> bool
+    requires { count ≤ BLOCK }
+    ensures { IsTrue result → mask_l (take count (map is_high
+        (zip2 bit_or bytes (map (λ b. mask (is_null F.flavor b)) bytes)))) ≡ 0 }
+{
+    // `starts` makes the same test, so the compiler makes it once.
+    let leads = bits::<AtLeast<LEAD>, BLOCK>(bytes) != 0;
+    !leads && first_bits(bytes | nulls::<F>(bytes), count) == 0
 }
 
 /// Copies the first `count` bytes of a block, which stay as they are.
