@@ -260,7 +260,7 @@ fn changed_parts<F: Flavor>(window: &[u8], kinds: &Kinds, at: usize, count: usiz
     ensures { AreParts F.flavor window.now at count result.gone result.ill_formed result.bytes }
 {
     Parts {
-        bytes: changed_bytes(window, kinds, at),
+        bytes: changed_bytes::<F>(window, kinds, at),
         gone: gone(kinds, count),
         ill_formed: ill_formed::<F>(window, kinds, at, count),
     }
@@ -315,21 +315,18 @@ fn behind(count: u8) -> u8x32
 }
 
 /// Returns the bytes, with those of surrogate pairs and of C0 80 replaced by what they become. Most
-/// texts have only one of the two.
+/// texts of MUTF-8 have only one of the two.
 #[inline(always)]
-fn changed_bytes(window: &[u8], kinds: &Kinds, at: usize) -> u8x32
+fn changed_bytes<F: Flavor>(window: &[u8], kinds: &Kinds, at: usize) -> u8x32
     requires window { at + REACH ≤ length window.now }
-    ensures { (f : Flavor) (count : ℕ) → count ≤ BLOCK
-        → AreKindsNear f window.now at kinds.now
-        → take count result ≡ map (byte_at f window.now) (range_with_len at count) }
+    requires kinds { AreKindsNear F.flavor window.now at kinds.now }
+    ensures { (count : ℕ) → count ≤ BLOCK
+        → take count result ≡ map (byte_at F.flavor window.now) (range_with_len at count) }
 {
-    let near = kinds[4];
     let pairs = kinds[3] | kinds[2] | kinds[1];
     let byte = u8x32::from_slice(&window[at + BEHIND..]);
-    let changed = near
-        .simd_ge(u8x32::splat(0x80))
-        .select(u8x32::splat(0), byte);
-    if highest_bits(pairs << u8x32::splat(2)) == 0 {
+    let changed = changed_nulls::<F>(kinds[4], byte);
+    if F::has_long_null() && highest_bits(pairs << u8x32::splat(2)) == 0 {
         return changed;
     }
     let half = u8x32::splat(0x0F);
@@ -341,6 +338,22 @@ fn changed_bytes(window: &[u8], kinds: &Kinds, at: usize) -> u8x32
     let changed = chosen(kinds[1], third, changed);
     let changed = chosen(kinds[2], second, changed);
     chosen(kinds[3], first, changed)
+}
+
+/// Returns the bytes, with 00 for those that follow the first of C0 80, by the kinds one offset before.
+/// CESU-8 has none.
+#[inline(always)]
+fn changed_nulls<F: Flavor>(before: u8x32, bytes: u8x32) -> u8x32
+    ensures { (window : List ℕ) (at : ℕ)
+        → before ≡ map (λ i. start_kind F.flavor window (i + 4)) (range_with_len at BLOCK)
+        → result ≡ sel_l (map (nat_le 0x80) before) (replicate BLOCK 0) bytes }
+{
+    if F::has_long_null() {
+        return before
+            .simd_ge(u8x32::splat(0x80))
+            .select(u8x32::splat(0), bytes);
+    }
+    bytes
 }
 
 /// Returns the lanes of `some` where those of kinds have the bit of `PAIR`, which is two bits below the
