@@ -6,9 +6,10 @@
 //! branch on a single byte. In strict reading no byte may be ill-formed. `lengths` adds up the
 //! length of the text.
 //!
-//! `way` decides which way bytes go, and `slices` takes them there: a few bytes are read one
-//! character after another, more in one window, and still more chunk by chunk. `chunk` reads the
-//! next chunk, joined or by offsets. `strings` does so for a `String`.
+//! `way` decides which way bytes go. A few are read one character after another. More are read in one
+//! pass by `in_place` if all are well-formed, as strict reading wants it, and else by `windows`; of
+//! lossy reading `chunk` reads the next chunk. `slices` writes to a caller's slice, and `strings`
+//! for a `String`.
 #![tactic(auto)]
 
 ghost use Rattle.std.specs.Prelude.{◌≡◌, length, IfOk, IsUtf8};
