@@ -4,7 +4,8 @@
 //! last with zeros behind it. Now and then the test looks whether it has met a fault, so that it
 //! does not read far behind one.
 
-ghost use Rattle.std.specs.Prelude.{◌↔◌, ◌≡◌, ◌+◌, ◌*◌, ◌<◌, ◌≤◌, IsTrue, IsUtf8, length, take, drop};
+ghost use Rattle.std.specs.Prelude.{◌↔◌, ◌≡◌, ◌+◌, ◌*◌, ◌<◌, ◌≤◌, IsTrue, IsUtf8, length, take, drop, vec_capacity};
+ghost use Rattle.std.specs.String.{string_bytes, string_capacity};
 ghost use Rattle.simdutf8.specs.Tracks.{HasRead};
 ghost use Rattle.cesu8_bytes.specs.declared.utf8.Look.TheVariants.{Fault};
 
@@ -13,6 +14,7 @@ use crate::continuation::character_start;
 use crate::implementation::class::LANES;
 use crate::padded::{QUARTER, block_of_quarter, padded_block};
 use simdutf8::Checker;
+use std::alloc::Allocator;
 use std::simd::prelude::*;
 use std::str;
 
@@ -134,4 +136,15 @@ pub fn known_text(bytes: &[u8]) -> &str
 {
     // What it wants is what this function requires, so the check proves it at each call.
     unsafe { str::from_utf8_unchecked(bytes) }
+}
+
+/// Returns bytes that are known to be UTF-8 as a `String`, with no test.
+#[inline(always)]
+pub fn known_string<A: Allocator>(bytes: Vec<u8, A>) -> String<A>
+    requires { IsUtf8 bytes.items }
+    ensures bytes { string_bytes result ≡ bytes.items }
+    ensures capacity { string_capacity result ≡ vec_capacity bytes }
+{
+    // As above.
+    unsafe { String::from_utf8_unchecked(bytes) }
 }

@@ -157,6 +157,7 @@ fn append_lanes<A: Allocator, const N: usize>(lanes: Simd<u8, N>, out: &mut Vec<
 pub fn append_zeros<A: Allocator + Copy>(count: usize, out: &mut Vec<u8, A>)
     requires { vec_len out.old + count ≤ vec_capacity out.old }
     ensures bytes { out.new.items ≡ out.old.items ++ replicate count 0 }
+    ensures len { vec_len out.new ≡ vec_len out.old + count }
     ensures capacity { vec_capacity out.new ≡ vec_capacity out.old }
 {
     // A local vector, as in `append`.

@@ -5,4 +5,5 @@ pub mod WrittenChunks
 pub mod Characters
 pub mod Forms
 pub mod SliceReadings
+pub mod Strings
 pub mod ValidFronts

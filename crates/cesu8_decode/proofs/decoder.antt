@@ -13,3 +13,4 @@ pub mod Shuffles
 pub mod WeightLanes
 pub mod WeightRest
 pub mod DecodedWindows
+pub mod BlocksInPlace

@@ -81,6 +81,10 @@ decoded_at f window i =
     decoded_byte (width_at f window (i + 5)) (width_at f window (i + 4)) (width_at f window (i + 3)) (width_at f window (i + 2))
     (width_at f window (i + 1)) (width_at f window i) (slice_index window (i + 3)) (slice_index window (i + 4)) (slice_index window (i + 5))
 
+-- The window on some bytes: five zeros go before them.
+abbrev pub window_of : List ℕ → List ℕ
+window_of bytes = 0 ∷ 0 ∷ 0 ∷ 0 ∷ 0 ∷ bytes
+
 -- What n bytes of a window become, from there on.
 unfoldable pub decoded : Flavor → List ℕ → ℕ → ℕ → List ℕ
 decoded f window i n = flat_map (decoded_at f window) (range_with_len i n)

@@ -1,15 +1,12 @@
 -- What decoding a chunk at a time promises.
-use Rattle.std.specs.Prelude.{◌≡◌, ℕ, ◌+◌, ◌<◌, ◌≤◌, Bool, true, false, List, ◌++◌, length, take, drop, Result, OnOk}
-use Rattle.cesu8_text.specs.Text.{IsText, utf8}
+use Rattle.std.specs.Prelude.{◌≡◌, ℕ, ◌+◌, ◌*◌, ◌<◌, ◌≤◌, Bool, true, false, List, [], Vec, length, take, drop, vec_capacity, Option, IfSome, IfNone, Result, IfOk}
+use Rattle.cesu8_text.specs.Text.{IsText}
 use Rattle.cesu8_text.specs.Reading.{reading, NoneBegins, lossy_length, HasNoStrictReading}
 use Rattle.cesu8_text.specs.Encoding.{Flavor, encoding}
 use Rattle.cesu8_bytes.specs.declared.options.Strictness.{Strictness}
 use Rattle.cesu8_bytes.specs.declared.options.Strictness.TheVariants.{Strict, Lossy}
-use Rattle.cesu8_decode.specs.Refusals.{OnNoText}
-use Rattle.cesu8_decode.specs.declared.refusal.Refusal.{Refusal}
+use Rattle.cesu8_decode.specs.DecodedOffsets.{window_of, decoded, is_ill_formed_at}
 use Rattle.cesu8_bytes.specs.TextChunks.{IsChunk}
-use Rattle.cesu8_decode.specs.declared.chunk.Chunk.{Chunk}
-use Rattle.cesu8_decode.specs.declared.chunk.Chunk.TheVariants.{Joined, Written}
 
 -- The text of the bytes: it is the lossy reading, and in strict reading the bytes are its encoding.
 abbrev pub IsDecodedText : Flavor → Strictness → List ℕ → List ℕ → Type 0
@@ -41,16 +38,26 @@ pub record ReadsAll (f : Flavor) (which : Strictness) (bytes : List ℕ) (read :
   pub first : ReadsFirst f which bytes read text is_ill_formed
   pub all : refuses which is_ill_formed ≡ false → read ≡ length bytes
 
--- The next chunk is text that was joined, or it is written at the front of a buffer.
-abbrev pub IsNextChunk : Flavor → Strictness → List ℕ → Chunk → List ℕ → Type 0
-IsNextChunk f which bytes (Joined joined) written = ReadsFirst f which bytes joined.read joined.text.now false
-IsNextChunk f which bytes (Written decoded) written =
-    ReadsFirst f which bytes decoded.read (take decoded.end written) decoded.is_ill_formed × (decoded.end ≤ length written)
+-- No more is written for so many bytes, if they are read one character after another.
+abbrev pub most_written : Strictness → ℕ → ℕ
+most_written Strict n = n
+most_written Lossy n = 3 * n
 
--- The text of the bytes is appended. `NoText` is returned only where there is none.
-pub record AppendsText {T : Type 0} (f : Flavor) (which : Strictness) (bytes : List ℕ) (result : Result T Refusal) (old new : List ℕ) : Type 0 where
-  pub ok : OnOk result ((text : List ℕ) × IsDecodedText f which bytes text × (new ≡ old ++ utf8 text))
-  pub invalid : OnNoText result (HasNoStrictReading f bytes)
+-- No text of the bytes is longer.
+abbrev pub most_of_text : Flavor → Strictness → List ℕ → ℕ
+most_of_text f Strict bytes = length bytes
+most_of_text f Lossy bytes = lossy_length f bytes
+
+-- The strict reading of the bytes is all that is written to an empty vector, if there is one.
+pub record WritesStrictly {Z : Type 0} (f : Flavor) (bytes : List ℕ) (empty : Vec ℕ Z) (result : Option (Vec ℕ Z)) : Type 0 where
+  pub text : IfSome result (λ text. IsChunk f Strict bytes [] text.items)
+  pub capacity : IfSome result (λ text. vec_capacity text ≡ vec_capacity empty)
+  pub none : IfNone result (HasNoStrictReading f bytes)
+
+-- The lossy reading is, and fills what was requested.
+pub record BuildsReading {Z E : Type 0} (f : Flavor) (bytes : List ℕ) (result : Result (Vec ℕ Z) E) : Type 0 where
+  pub text : IfOk result (λ text. IsChunk f Lossy bytes [] text.items)
+  pub capacity : IfOk result (λ text. vec_capacity text ≡ length text.items)
 
 -- The lossy reading of some bytes is written to the front of a slice, up to an end, and the bytes
 -- after it stay.
@@ -59,3 +66,9 @@ pub record IsWrittenSoFar (f : Flavor) (bytes rest : List ℕ) (end : ℕ) (old 
   pub room : end + lossy_length f rest ≡ lossy_length f bytes
   pub behind : drop end new ≡ drop end old
   pub len : length new ≡ length old
+
+-- The first n bytes are written, or some byte is ill-formed.
+pub record IsWrittenUpTo (f : Flavor) (bytes : List ℕ) (n : ℕ) (text : List ℕ) (is_ill_formed : Bool) : Type 0 where
+  pub decoded_text : is_ill_formed ≡ false → text ≡ decoded f (window_of bytes) 0 n
+  pub well_formed : is_ill_formed ≡ false → (i : ℕ) → i < n → is_ill_formed_at f (window_of bytes) i ≡ false
+  pub ill_formed : is_ill_formed ≡ true → (i : ℕ) × (i < length bytes) × (is_ill_formed_at f (window_of bytes) i ≡ true)

@@ -1,7 +1,7 @@
 -- How a character of more than one byte is encoded at the front of bytes.
-use Rattle.std.specs.Prelude.{◌≡◌, ℕ, true, false, List, [], ◌∷◌, slice_index}
+use Rattle.std.specs.Prelude.{◌≡◌, ℕ, true, false, List, slice_index}
 use Rattle.cesu8_text.specs.Encoding.{Flavor}
-use Rattle.cesu8_bytes.specs.Joining.{null_at, HasPair, AreJoinedDigits, second_third_fifth_sixth}
+use Rattle.cesu8_bytes.specs.Joining.{null_at, HasPair}
 use Rattle.cesu8_decode.specs.DecodedOffsets.{two_at, three_at}
 use Rattle.cesu8_decode.specs.declared.forms.Form.{Form}
 use Rattle.cesu8_decode.specs.declared.forms.Form.TheVariants.{Pair, Null, Two, Three}
@@ -25,10 +25,3 @@ form_len Pair = 6
 form_len Null = 2
 form_len Two = 2
 form_len Three = 3
-
--- The character of this form that begins the bytes, in UTF-8.
-abbrev pub IsUtf8OfForm : Form → List ℕ → List ℕ → Type 0
-IsUtf8OfForm Pair bytes utf8 = AreJoinedDigits (second_third_fifth_sixth bytes) utf8
-IsUtf8OfForm Null bytes utf8 = utf8 ≡ 0 ∷ []
-IsUtf8OfForm Two bytes utf8 = utf8 ≡ slice_index bytes 0 ∷ slice_index bytes 1 ∷ []
-IsUtf8OfForm Three bytes utf8 = utf8 ≡ slice_index bytes 0 ∷ slice_index bytes 1 ∷ slice_index bytes 2 ∷ []

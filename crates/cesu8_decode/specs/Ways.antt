@@ -1,11 +1,11 @@
 -- What is known of the bytes that go a way.
-use Rattle.std.specs.Prelude.{◌≡◌, ℕ, ◌<◌, ◌≤◌, ⊤, List, length}
+use Rattle.std.specs.Prelude.{◌≡◌, ℕ, ◌≤◌, ⊤, List, length}
 use Rattle.cesu8_text.specs.Encoding.{Flavor}
 use Rattle.cesu8_text.specs.Reading.{HasNoStrictReading}
 use Rattle.cesu8_bytes.specs.declared.options.Strictness.{Strictness}
 use Rattle.cesu8_bytes.specs.declared.options.Strictness.TheVariants.{Strict}
 use Rattle.cesu8_decode.specs.declared.way.Way.{Way}
-use Rattle.cesu8_decode.specs.declared.way.Way.TheVariants.{FewCharacters, Characters, ShortWindow, MediumWindow, LongWindow, JoinedWindow, Chunks, Refused}
+use Rattle.cesu8_decode.specs.declared.way.Way.TheVariants.{FewCharacters, Characters, ShortWindow, MediumWindow, LongWindow, Chunks, Refused}
 
 -- They are no more than it takes, or have no text.
 abbrev pub IsWayOf : Flavor → Strictness → List ℕ → Way → Type 0
@@ -14,6 +14,5 @@ IsWayOf f which bytes Characters = length bytes ≤ 96
 IsWayOf f which bytes ShortWindow = length bytes ≤ 96
 IsWayOf f which bytes MediumWindow = length bytes ≤ 256
 IsWayOf f which bytes LongWindow = length bytes ≤ 1024
-IsWayOf f which bytes JoinedWindow = 256 < length bytes
 IsWayOf f which bytes Chunks = ⊤
 IsWayOf f which bytes Refused = (which ≡ Strict) × HasNoStrictReading f bytes

@@ -1,9 +1,9 @@
 //! Decodes bytes one character after another. Runs of ASCII are copied by vectors.
 
-ghost use Rattle.std.specs.Prelude.{◌≡◌, ◌+◌, ◌*◌, ◌<◌, ◌≤◌, length, take, drop, false, true};
+ghost use Rattle.std.specs.Prelude.{◌≡◌, ◌+◌, ◌<◌, ◌≤◌, ◌++◌, ◌∷◌, [], length, take, drop, false, true};
 ghost use Rattle.cesu8_text.specs.Reading.{NoneBegins};
 ghost use Rattle.cesu8_bytes.specs.TextChunks.{IsReadSoFar};
-ghost use Rattle.cesu8_decode.specs.Decoding.{ReadsAll};
+ghost use Rattle.cesu8_decode.specs.Decoding.{ReadsAll, most_written};
 ghost use Rattle.cesu8_bytes.specs.declared.options.Strictness.{Strictness};
 ghost use Rattle.cesu8_bytes.specs.declared.options.Strictness.TheVariants.{Lossy};
 
@@ -22,20 +22,20 @@ use cesu8_bytes::writers::put;
 const REPLACEMENT: [u8; WIDEST] = [0xEF, 0xBF, 0xBD];
 
 /// Writes the characters of the bytes, and U+FFFD for each ill-formed byte. Strict reading stops
-/// behind the first of these.
+/// behind the first of these, and writes nothing for it.
 #[inline(always)]
 pub fn write_characters<F: Flavor>(strictness: Strictness, bytes: &[u8], out: &mut [u8]) -> Decoded
-    requires { WIDEST * length bytes.now ≤ length out.old }
+    requires { most_written strictness (length bytes.now) ≤ length out.old }
     ensures read { ReadsAll F.flavor strictness bytes.now
         result.read (take result.end out.new) result.is_ill_formed }
-    ensures end { result.end ≤ WIDEST * length bytes.now }
+    ensures end { result.end ≤ most_written strictness (length bytes.now) }
     ensures len { length out.new ≡ length out.old }
 {
     let mut read = 0;
     let mut end = 0;
     let mut is_ill_formed = false;
     while (read < bytes.len()) & !is_refused(strictness, is_ill_formed) {
-        let step = write_next::<F>(&bytes[read..], out, end);
+        let step = write_next::<F>(strictness, &bytes[read..], out, end);
         read += step.read;
         end = step.end;
         is_ill_formed = is_ill_formed | step.is_ill_formed;
@@ -47,19 +47,26 @@ pub fn write_characters<F: Flavor>(strictness: Strictness, bytes: &[u8], out: &m
     }
 }
 
-/// Writes some characters of one byte, or else the character that begins the bytes, or U+FFFD for
+/// Writes some characters of one byte, or else the character that begins the bytes, or what replaces
 /// an ill-formed byte.
 #[inline(always)]
-fn write_next<F: Flavor>(bytes: &[u8], out: &mut [u8], end: usize) -> Decoded
+#[tactic(auto, using(crate::proofs::chunks::Characters::some_written))]
+fn write_next<F: Flavor>(
+    strictness: Strictness,
+    bytes: &[u8],
+    out: &mut [u8],
+    end: usize,
+) -> Decoded
     requires some { 0 < length bytes.now }
-    requires room { end + WIDEST * length bytes.now ≤ length out.old }
+    requires room { end + most_written strictness (length bytes.now) ≤ length out.old }
     ensures within { (0 < result.read) × (result.read ≤ length bytes.now)
-        × (result.end ≤ end + WIDEST * result.read) }
+        × (result.end ≤ end + most_written strictness result.read) }
     ensures character { result.is_ill_formed ≡ false → (which : Strictness)
         → IsReadSoFar F.flavor which bytes.now
         (drop result.read bytes.now) (take end out.old) (take result.end out.new) }
     ensures ill_formed { result.is_ill_formed ≡ true → NoneBegins F.flavor bytes.now }
-    ensures replaced { result.is_ill_formed ≡ true → IsReadSoFar F.flavor Lossy bytes.now
+    ensures replaced { strictness ≡ Lossy → result.is_ill_formed ≡ true
+        → IsReadSoFar F.flavor Lossy bytes.now
         (drop result.read bytes.now) (take end out.old) (take result.end out.new) }
     ensures len { length out.new ≡ length out.old }
 {
@@ -80,11 +87,7 @@ fn write_next<F: Flavor>(bytes: &[u8], out: &mut [u8], end: usize) -> Decoded
     let mut padded = [0; PAIR_READ];
     let prefix = prefix_of(bytes, &mut padded);
     let Some(form) = form_of::<F>(prefix) else {
-        return Decoded {
-            read: 1,
-            end: put(&REPLACEMENT, out, end),
-            is_ill_formed: true,
-        };
+        return replace(strictness, out, end);
     };
     let end = match form {
         Form::Pair => put(&utf8_of_pair(prefix), out, end),
@@ -96,5 +99,26 @@ fn write_next<F: Flavor>(bytes: &[u8], out: &mut [u8], end: usize) -> Decoded
         read: len_of(form),
         end,
         is_ill_formed: false,
+    }
+}
+
+/// Writes U+FFFD for an ill-formed byte, unless that is refused.
+#[inline(always)]
+fn replace(strictness: Strictness, out: &mut [u8], end: usize) -> Decoded
+    requires { strictness ≡ Lossy → end + WIDEST ≤ length out.old }
+    ensures one { (result.read ≡ 1) × (result.is_ill_formed ≡ true) }
+    ensures end { result.end ≤ end + most_written strictness 1 }
+    ensures bytes { strictness ≡ Lossy
+        → take result.end out.new ≡ take end out.old ++ 0xEF ∷ 0xBF ∷ 0xBD ∷ [] }
+    ensures len { length out.new ≡ length out.old }
+{
+    let end = match strictness {
+        Strictness::Strict => end,
+        Strictness::Lossy => put(&REPLACEMENT, out, end),
+    };
+    Decoded {
+        read: 1,
+        end,
+        is_ill_formed: true,
     }
 }

@@ -1,11 +1,11 @@
 //! How a character of more than one byte is encoded, and whether bytes begin with one.
 
-ghost use Rattle.std.specs.Prelude.{◌≡◌, ◌+◌, ◌<◌, ◌≤◌, length, replicate, slice_index, false, IsTrue, IfSome, IfNone, encode_utf8};
+ghost use Rattle.std.specs.Prelude.{◌≡◌, ◌+◌, ◌<◌, ◌≤◌, length, replicate, slice_index, false, IsTrue, IfSome, IfNone};
 ghost use Rattle.cesu8_text.specs.Reading.{HasNoStrictReading};
 ghost use Rattle.cesu8_bytes.specs.Joining.{null_at};
 ghost use Rattle.cesu8_decode.specs.DecodedOffsets.{IsPrefixOf, one_at, two_at, three_at};
 ghost use Rattle.cesu8_decode.specs.declared.forms.FirstLead.TheVariants.{IllFormed};
-ghost use Rattle.cesu8_decode.specs.Forms.{HasForm, HasNoForm, form_len, IsUtf8OfForm};
+ghost use Rattle.cesu8_decode.specs.Forms.{HasForm, HasNoForm, form_len};
 
 use cesu8_bytes::continuation::is_continuation;
 use cesu8_bytes::flavor::Flavor;
@@ -57,30 +57,6 @@ pub fn len_of(form: Form) -> usize
         Form::Pair => PAIR,
         Form::Null | Form::Two => 2,
         Form::Three => 3,
-    }
-}
-
-/// Returns the character of this form that begins the bytes.
-#[inline(always)]
-pub fn character_of<F: Flavor>(form: Form, bytes: &[u8]) -> char
-    requires long { PAIR_READ ≤ length bytes.now }
-    requires form { HasForm F.flavor bytes.now form }
-    ensures { IsUtf8OfForm form bytes.now (encode_utf8 result) }
-{
-    let (first, second, third) = (bytes[0] as u32, bytes[1] as u32, bytes[2] as u32);
-    // What shows the form, and is no part of the value, is subtracted.
-    let value = match form {
-        Form::Pair => {
-            let last = bytes[4] as u32 * 0x40 + bytes[5] as u32;
-            second * 0x1_0000 + third * 0x400 + last - 0xA1_2C80
-        }
-        Form::Null => 0,
-        Form::Two => first * 0x40 + second - 0x3080,
-        Form::Three => first * 0x1000 + second * 0x40 + third - 0xE_2080,
-    };
-    match char::from_u32(value) {
-        Some(character) => character,
-        None => unreachable!(),
     }
 }
 

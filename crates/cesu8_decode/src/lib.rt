@@ -6,9 +6,10 @@
 //! branch on a single byte. In strict reading no byte may be ill-formed. `lengths` adds up the
 //! length of the text.
 //!
-//! `way` decides which way bytes go, and `text` and `slices` take them there: a few bytes are read
-//! one character after another, more in one window, and still more chunk by chunk. `chunk` reads
-//! the next chunk, joined or by offsets.
+//! `way` decides which way bytes go. A few are read one character after another. More are read in one
+//! pass by `in_place` if all are well-formed, as strict reading wants it, and else by `windows`; of
+//! lossy reading `chunk` reads the next chunk. `slices` writes to a caller's slice, and `strings`
+//! for a `String`.
 #![tactic(auto)]
 
 ghost use Rattle.std.specs.Prelude.{◌≡◌, length, IfOk, IsUtf8};
@@ -22,6 +23,7 @@ mod chunk;
 pub mod copy_or_write;
 mod forms;
 mod ill_formed;
+mod in_place;
 mod lengths;
 mod offsets;
 mod packing;
@@ -29,32 +31,36 @@ mod parts;
 pub mod refusal;
 mod rows;
 mod slices;
+mod strings;
 mod sums;
-mod text;
 mod valid_front;
 mod way;
 mod windows;
 
 use crate::refusal::Refusal;
 use cesu8_bytes::flavor::Flavor;
-use cesu8_bytes::options::Strictness;
-use cesu8_bytes::writers::exactly;
+use cesu8_bytes::utf8::known_string;
 pub use lengths::{decoded_len, lossy_len};
 use std::alloc::{AllocError, Allocator};
-use text::append_text;
+use strings::{build_lossily, write_strictly};
 pub use valid_front::valid_up_to;
 
 /// Returns the strict reading of bytes that are not UTF-8, after one request for their length.
-pub fn decode_strict<F: Flavor, A: Allocator>(alloc: A, bytes: &[u8]) -> Result<String<A>, Refusal>
+pub fn decode_strict<F: Flavor, A: Allocator + Copy>(
+    alloc: A,
+    bytes: &[u8],
+) -> Result<String<A>, Refusal>
     requires { ¬ (IsUtf8 bytes.now) }
     ensures text { IfOk result (λ text.
         IsStrictReading F.flavor bytes.now (chars (string_bytes text))) }
     ensures capacity { IfOk result (λ text. string_capacity text ≡ length bytes.now) }
     ensures invalid { OnNoText result (HasNoStrictReading F.flavor bytes.now) }
 {
-    let mut text = String::with_capacity(alloc, bytes.len()).map_err(Refusal::Memory)?;
-    append_text::<F, A>(Strictness::Strict, bytes, &mut text)?;
-    exactly(text, bytes.len()).map_err(Refusal::Memory)
+    let empty = Vec::with_capacity(alloc, bytes.len()).map_err(Refusal::Memory)?;
+    match write_strictly::<F, A>(bytes, empty) {
+        Some(text) => Ok(known_string(text)),
+        None => Err(Refusal::NoText),
+    }
 }
 
 /// Returns the error of bytes that are known to have no strict reading. It first requests memory
@@ -70,7 +76,7 @@ pub fn refuse<A: Allocator>(alloc: A, len: usize) -> Refusal {
 /// fit counts as refused. That of a few bytes, or of the first window of many, is decoded on the
 /// stack before that, so that it needs no pass for the length.
 #[inline(never)]
-pub fn decode_lossy<F: Flavor, A: Allocator>(
+pub fn decode_lossy<F: Flavor, A: Allocator + Copy>(
     alloc: A,
     bytes: &[u8],
 ) -> Result<String<A>, AllocError>
@@ -79,11 +85,6 @@ pub fn decode_lossy<F: Flavor, A: Allocator>(
     ensures capacity { IfOk result (λ text.
         string_capacity text ≡ lossy_length F.flavor bytes.now) }
 {
-    let mut text = String::new(alloc);
-    // Lossy reading accepts all bytes, so the only error is out of memory.
-    if let Err(_) = append_text::<F, A>(Strictness::Lossy, bytes, &mut text) {
-        return Err(AllocError);
-    }
-    let len = text.as_str().len();
-    exactly(text, len)
+    let text = build_lossily::<F, A>(alloc, bytes)?;
+    Ok(known_string(text))
 }

@@ -112,10 +112,8 @@ pub fn starts<F: Flavor>(bytes: &[u8], at: usize, tests_for_pairs: bool) -> u8x3
     let sixth = u8x32::from_slice(&bytes[at + 5..]);
     let ends_pair = equal(fourth, 0xED)
         & equal(fifth & u8x32::splat(0xF0), 0xB0)
-        & continuations(sixth)
-        & u8x32::splat(PAIR);
-    let of_three = third & (ends_pair | u8x32::splat(THREE));
-    two & (of_three | u8x32::splat(TWO | NULL))
+        & continuations(sixth);
+    two & ((third | u8x32::splat(TWO | NULL)) & (ends_pair | u8x32::splat(!PAIR)))
 }
 
 /// The kinds of the offsets around a block: at index `d` those of the offsets `5 - d` before

@@ -18,6 +18,9 @@ pub const WIDEST: usize = 3;
 /// How long the buffer for a block must be.
 pub const ROOM: usize = WIDEST * BLOCK + STORED;
 
+/// How long it must be for a block without an ill-formed byte.
+pub const WELL_FORMED_ROOM: usize = BLOCK + STORED;
+
 /// How many bytes are half a block.
 const HALF: usize = BLOCK / 2;
 
@@ -61,9 +64,9 @@ pub fn store(parts: Parts, out: &mut [u8], at: usize) -> usize
 
 /// Stores what becomes of a block without an ill-formed byte.
 #[inline(always)]
-fn store_whole(parts: Parts, out: &mut [u8], at: usize) -> usize
+pub fn store_whole(parts: Parts, out: &mut [u8], at: usize) -> usize
     requires whole { mask_l (map is_high parts.ill_formed) ≡ 0 }
-    requires room { at + ROOM ≤ length out.old }
+    requires room { at + WELL_FORMED_ROOM ≤ length out.old }
     ensures bytes { take result out.new
         ≡ take at out.old ++ written_lanes parts.gone parts.ill_formed parts.bytes }
     ensures end { (at ≤ result) × (result ≤ at + BLOCK) }

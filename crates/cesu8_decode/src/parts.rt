@@ -9,9 +9,10 @@
 //! fourth ──► two bits of the second, four of the third
 //! ```
 
-ghost use Rattle.std.specs.Prelude.{◌≡◌, ℕ, List, ◌+◌, ◌-◌, ◌*◌, ◌<◌, ◌≤◌, ◌++◌, ◌==◌, not, nat_le, IsTrue, true, false, length, take, map, replicate, slice_index};
+ghost use Rattle.std.specs.Prelude.{◌≡◌, ℕ, List, ◌+◌, ◌-◌, ◌*◌, ◌^◌, ◌%◌, ◌<◌, ◌≤◌, ◌++◌, nat_le, IsTrue, true, false, length, take, map, replicate, slice_index, bit_or};
 ghost use Rattle.std.specs.List.{range_with_len};
-ghost use Rattle.std.specs.Simd.Lanes.{sel_l, mask_l};
+ghost use Rattle.std.specs.Simd.Lanes.{sel_l, mask_l, zip2};
+ghost use Rattle.cesu8_text.specs.Class.{is_null};
 ghost use Rattle.cesu8_text.specs.Encoding.{Flavor};
 ghost use Rattle.cesu8_bytes.specs.Kernels.{mask};
 ghost use Rattle.cesu8_decode.specs.DecodedOffsets.{decoded, is_ill_formed_at};
@@ -20,7 +21,7 @@ ghost use Rattle.cesu8_decode.specs.DecodedLanes.{start_kind, AreFiveKinds, AreK
 use super::offsets::{
     BEHIND, BLOCK, FROM_27, Kinds, LEAD, NUMBERS, PAIR, REACH, THREE, equal, look_up, near, starts,
 };
-use super::packing::{Parts, ROOM, WIDEST, highest_bits, store};
+use super::packing::{Parts, ROOM, WELL_FORMED_ROOM, WIDEST, highest_bits, store, store_whole};
 use cesu8_bytes::flavor::{Flavor, nulls};
 use cesu8_bytes::implementation::class::{AtLeast, bits};
 use std::simd::prelude::*;
@@ -79,9 +80,7 @@ pub fn write_block<F: Flavor>(
     ensures len { length out.new ≡ length out.old }
 {
     let bytes = u8x32::from_slice(&window[at + BEHIND..]);
-    // `starts` makes the same test, so the compiler makes it once.
-    let leads = bits::<AtLeast<LEAD>, BLOCK>(bytes) != 0;
-    if !leads && first_bits(bytes | nulls::<F>(bytes), count) == 0 {
+    if are_ones::<F>(bytes, count) {
         return copy_block(bytes, u8x32::splat(0), count, out, end);
     }
     let here = starts::<F>(window, at + BEHIND, true);
@@ -101,6 +100,80 @@ pub fn write_block<F: Flavor>(
         is_ill_formed,
         kinds: here,
     }
+}
+
+/// Writes what becomes of the first `count` bytes of a block, unless one of them is ill-formed. It is
+/// no more than these bytes, and so needs less room than what ill-formed bytes become.
+#[inline(always)]
+pub fn write_well_formed<F: Flavor>(
+    window: &[u8],
+    before: u8x32,
+    at: usize,
+    count: usize,
+    out: &mut [u8],
+    end: usize,
+) -> Block
+    requires count { count ≤ BLOCK }
+    requires window { at + BEHIND + REACH ≤ length window.now }
+    requires before { AreFiveKinds F.flavor window.now at before (BLOCK - BEHIND) }
+    requires room { end + WELL_FORMED_ROOM ≤ length out.old }
+    ensures bytes { result.is_ill_formed ≡ false → take result.end out.new
+        ≡ take end out.old ++ decoded F.flavor window.now at count }
+    ensures ill_formed { IsTrue result.is_ill_formed → (i : ℕ) × (at ≤ i) × (i < at + count)
+        × (is_ill_formed_at F.flavor window.now i ≡ true) }
+    ensures whole { result.is_ill_formed ≡ false → (i : ℕ) → at ≤ i → i < at + count
+        → is_ill_formed_at F.flavor window.now i ≡ false }
+    ensures kinds { count ≡ BLOCK → result.kinds
+        ≡ map (start_kind F.flavor window.now) (range_with_len (at + BEHIND) BLOCK) }
+    ensures end { result.end ≤ end + count }
+    ensures len { length out.new ≡ length out.old }
+{
+    let bytes = u8x32::from_slice(&window[at + BEHIND..]);
+    if are_ones::<F>(bytes, count) {
+        return copy_block(bytes, u8x32::splat(0), count, out, end);
+    }
+    let here = starts::<F>(window, at + BEHIND, true);
+    let kinds = near(before, here);
+    if changes_none(before, here) {
+        let marks = kept_ill_formed::<F>(window, &kinds, at);
+        if first_bits(marks, count) == 0 {
+            return copy_block(bytes, here, count, out, end);
+        }
+        return ill_formed_block(here, end);
+    }
+    let parts = changed_parts::<F>(window, &kinds, at, count);
+    if highest_bits(parts.ill_formed) != 0 {
+        return ill_formed_block(here, end);
+    }
+    Block {
+        end: store_whole(parts, out, end),
+        is_ill_formed: false,
+        kinds: here,
+    }
+}
+
+/// Tells that a block has an ill-formed byte.
+#[inline(always)]
+fn ill_formed_block(kinds: u8x32, end: usize) -> Block
+    ensures { (result.is_ill_formed ≡ true) × (result.kinds ≡ kinds) × (result.end ≡ end) }
+{
+    Block {
+        end,
+        is_ill_formed: true,
+        kinds,
+    }
+}
+
+/// Returns whether no byte leads others and the first `count` are characters of one byte.
+#[inline(always)]
+fn are_ones<F: Flavor>(bytes: u8x32, count: usize) -> bool
+    requires { count ≤ BLOCK }
+    ensures { IsTrue result → mask_l (take count (map is_high
+        (zip2 bit_or bytes (map (λ b. mask (is_null F.flavor b)) bytes)))) ≡ 0 }
+{
+    // `starts` makes the same test, so the compiler makes it once.
+    let leads = bits::<AtLeast<LEAD>, BLOCK>(bytes) != 0;
+    !leads && first_bits(bytes | nulls::<F>(bytes), count) == 0
 }
 
 /// Copies the first `count` bytes of a block, which stay as they are.
@@ -187,7 +260,7 @@ fn changed_parts<F: Flavor>(window: &[u8], kinds: &Kinds, at: usize, count: usiz
     ensures { AreParts F.flavor window.now at count result.gone result.ill_formed result.bytes }
 {
     Parts {
-        bytes: changed_bytes(window, kinds, at),
+        bytes: changed_bytes::<F>(window, kinds, at),
         gone: gone(kinds, count),
         ill_formed: ill_formed::<F>(window, kinds, at, count),
     }
@@ -242,39 +315,54 @@ fn behind(count: u8) -> u8x32
 }
 
 /// Returns the bytes, with those of surrogate pairs and of C0 80 replaced by what they become. Most
-/// texts have only one of the two.
+/// texts of MUTF-8 have only one of the two.
 #[inline(always)]
-fn changed_bytes(window: &[u8], kinds: &Kinds, at: usize) -> u8x32
+fn changed_bytes<F: Flavor>(window: &[u8], kinds: &Kinds, at: usize) -> u8x32
     requires window { at + REACH ≤ length window.now }
-    ensures { (f : Flavor) (count : ℕ) → count ≤ BLOCK
-        → AreKindsNear f window.now at kinds.now
-        → take count result ≡ map (byte_at f window.now) (range_with_len at count) }
+    requires kinds { AreKindsNear F.flavor window.now at kinds.now }
+    ensures { (count : ℕ) → count ≤ BLOCK
+        → take count result ≡ map (byte_at F.flavor window.now) (range_with_len at count) }
 {
-    let near = kinds[4];
     let pairs = kinds[3] | kinds[2] | kinds[1];
     let byte = u8x32::from_slice(&window[at + BEHIND..]);
-    let changed = near
-        .simd_ge(u8x32::splat(0x80))
-        .select(u8x32::splat(0), byte);
-    if highest_bits(pairs << u8x32::splat(2)) == 0 {
+    let changed = changed_nulls::<F>(kinds[4], byte);
+    if F::has_long_null() && highest_bits(pairs << u8x32::splat(2)) == 0 {
         return changed;
     }
-    let pair = u8x32::splat(PAIR);
     let half = u8x32::splat(0x0F);
     let before = u8x32::from_slice(&window[at + 4..]);
     let two_before = u8x32::from_slice(&window[at + 3..]);
     let first = look_up(FIRST_BY_SECOND, before);
     let second = look_up(SECOND_BY_SECOND, two_before) | ((before >> u8x32::splat(2)) & half);
     let third = look_up(THIRD_BY_THIRD, two_before) | (byte & half);
-    let changed = chosen(kinds[1] & pair, third, changed);
-    let changed = chosen(kinds[2] & pair, second, changed);
-    chosen(kinds[3] & pair, first, changed)
+    let changed = chosen(kinds[1], third, changed);
+    let changed = chosen(kinds[2], second, changed);
+    chosen(kinds[3], first, changed)
 }
 
-/// Returns the lanes of `some` where those of a mark are not 0, and otherwise those of `other`.
+/// Returns the bytes, with 00 for those that follow the first of C0 80, by the kinds one offset before.
+/// CESU-8 has none.
 #[inline(always)]
-fn chosen(mark: u8x32, some: u8x32, other: u8x32) -> u8x32
-    ensures { result ≡ sel_l (map (λ lane. not (lane == 0)) mark) some other }
+fn changed_nulls<F: Flavor>(before: u8x32, bytes: u8x32) -> u8x32
+    ensures { (window : List ℕ) (at : ℕ)
+        → before ≡ map (λ i. start_kind F.flavor window (i + 4)) (range_with_len at BLOCK)
+        → result ≡ sel_l (map (nat_le 0x80) before) (replicate BLOCK 0) bytes }
 {
-    mark.simd_ne(u8x32::splat(0)).select(some, other)
+    if F::has_long_null() {
+        return before
+            .simd_ge(u8x32::splat(0x80))
+            .select(u8x32::splat(0), bytes);
+    }
+    bytes
+}
+
+/// Returns the lanes of `some` where those of kinds have the bit of `PAIR`, which is two bits below the
+/// highest, and otherwise those of `other`.
+#[inline(always)]
+fn chosen(kinds: u8x32, some: u8x32, other: u8x32) -> u8x32
+    ensures { result ≡ sel_l (map (λ kind. nat_le 0x80 (kind * 2 ^ 2 % 2 ^ 8)) kinds) some other }
+{
+    (kinds << u8x32::splat(2))
+        .simd_ge(u8x32::splat(0x80))
+        .select(some, other)
 }

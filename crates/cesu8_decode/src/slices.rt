@@ -9,32 +9,31 @@ ghost use Rattle.cesu8_text.specs.Encoding.{Flavor as AnyFlavor};
 ghost use Rattle.cesu8_text.specs.Reading.{reading, lossy_length};
 ghost use Rattle.cesu8_text.specs.Slices.{StandsAtFront};
 ghost use Rattle.cesu8_text.specs.Text.{utf8};
-ghost use Rattle.cesu8_bytes.specs.declared.options.Strictness.TheVariants.{Strict};
+ghost use Rattle.cesu8_bytes.specs.declared.options.Strictness.TheVariants.{Strict, Lossy};
 ghost use Rattle.cesu8_decode.specs.Decoding.{ReadsAll};
 ghost use Rattle.cesu8_decode.specs.PutReadings.{PutsReading};
 ghost use Rattle.cesu8_decode.specs.Ways.{IsWayOf};
 
 use crate::characters::write_characters;
-use crate::chunk::{Chunk, next_chunk};
+use crate::chunk::next_chunk;
 use crate::ill_formed::is_ill_formed;
+use crate::in_place::write_strict;
 use crate::lengths::lossy_len;
 use crate::packing::WIDEST;
 use crate::refusal::{Unwritten, is_refused};
-use crate::way::{FEWEST, SHORT_WINDOW, Way, way_of};
+use crate::way::{FEWEST, LONG_WINDOW, MEDIUM_WINDOW, SHORT_WINDOW, Way, way_of};
 use crate::windows::{
     AROUND, Decoded, LEAST, LONG_BUFFER, LONG_TEXT, MEDIUM_BUFFER, MEDIUM_TEXT, SHORT_BUFFER,
     SHORT_TEXT, SPARED, write_window,
 };
 use cesu8_bytes::flavor::Flavor;
-use cesu8_bytes::joining::BUFFER_LEN;
 use cesu8_bytes::options::Strictness;
-use cesu8_bytes::window::{TOO_FEW, read_window};
 use cesu8_bytes::writers::{NoRoom, copy_to_slice, put};
 
 // The lengths of a buffer for the text of bytes that are read one character after another.
-const FEWEST_TEXT: usize = WIDEST * FEWEST;
+pub const FEWEST_TEXT: usize = WIDEST * FEWEST;
 
-const CHARACTERS_TEXT: usize = WIDEST * SHORT_WINDOW;
+pub const CHARACTERS_TEXT: usize = WIDEST * SHORT_WINDOW;
 
 /// Writes the text of the bytes to a caller's buffer, if it fits.
 #[inline(never)]
@@ -63,10 +62,18 @@ pub fn put_by<F: Flavor>(
     match way {
         Way::FewCharacters => put_characters::<F, FEWEST_TEXT>(strictness, bytes, buf),
         Way::Characters => put_characters::<F, CHARACTERS_TEXT>(strictness, bytes, buf),
-        Way::ShortWindow => put_window::<F, SHORT_BUFFER, SHORT_TEXT>(strictness, bytes, buf),
-        Way::MediumWindow => put_window::<F, MEDIUM_BUFFER, MEDIUM_TEXT>(strictness, bytes, buf),
-        Way::LongWindow => put_window::<F, LONG_BUFFER, LONG_TEXT>(strictness, bytes, buf),
-        Way::JoinedWindow => put_joined::<F>(strictness, bytes, buf),
+        Way::ShortWindow => match strictness {
+            Strictness::Strict => put_strictly::<F, SHORT_WINDOW>(bytes, buf),
+            Strictness::Lossy => put_window::<F, SHORT_BUFFER, SHORT_TEXT>(bytes, buf),
+        },
+        Way::MediumWindow => match strictness {
+            Strictness::Strict => put_strictly::<F, MEDIUM_WINDOW>(bytes, buf),
+            Strictness::Lossy => { put_window::<F, MEDIUM_BUFFER, MEDIUM_TEXT>(bytes, buf) }
+        },
+        Way::LongWindow => match strictness {
+            Strictness::Strict => put_strictly::<F, LONG_WINDOW>(bytes, buf),
+            Strictness::Lossy => put_window::<F, LONG_BUFFER, LONG_TEXT>(bytes, buf),
+        },
         Way::Chunks => put_chunks::<F>(strictness, bytes, buf),
         Way::Refused => Err(Unwritten::NoText),
     }
@@ -92,18 +99,17 @@ fn put_characters<F: Flavor, const WRITTEN: usize>(
 /// that they are made only when it is called.
 #[inline(never)]
 fn put_window<F: Flavor, const LEN: usize, const WRITTEN: usize>(
-    strictness: Strictness,
     bytes: &[u8],
     buf: &mut [u8],
 ) -> Result<usize, Unwritten>
     requires window { (length bytes.now + AROUND ≤ LEN) × (LEAST ≤ LEN) }
     requires written { (WIDEST * LEN ≤ WRITTEN + SPARED) × (WRITTEN ≤ LONG_TEXT) }
-    ensures { PutsReading F.flavor strictness bytes.now result buf.old buf.new }
+    ensures { PutsReading F.flavor Lossy bytes.now result buf.old buf.new }
 {
     let mut window = [0; LEN];
     let mut written = [0; WRITTEN];
-    let decoded = write_window::<F>(strictness, bytes, &mut window, &mut written);
-    put_decoded(strictness, decoded, &written, buf)
+    let decoded = write_window::<F>(bytes, &mut window, &mut written);
+    put_decoded(Strictness::Lossy, decoded, &written, buf)
 }
 
 /// Copies the text that was decoded of all bytes, unless an ill-formed byte in them is refused. The
@@ -127,39 +133,19 @@ fn put_decoded(
     copy_to_slice(&written[..decoded.end], buf).map_err(Unwritten::NoRoom)
 }
 
-/// Writes the text of a joined window and of a few bytes behind it. They are joined and decoded on
-/// the stack, so no pass looks for ill-formed bytes first.
+/// Writes the strict reading of no more bytes than an array of this length has, which it is written
+/// to first: a caller's buffer stays as it was if there is none.
 #[inline(never)]
-fn put_joined<F: Flavor>(
-    strictness: Strictness,
+fn put_strictly<F: Flavor, const TEXT: usize>(
     bytes: &[u8],
     buf: &mut [u8],
 ) -> Result<usize, Unwritten>
-    requires { TOO_FEW < length bytes.now }
-    ensures { PutsReading F.flavor strictness bytes.now result buf.old buf.new }
+    requires { (length bytes.now ≤ TEXT) × (TEXT ≤ LONG_WINDOW) }
+    ensures { PutsReading F.flavor Strict bytes.now result buf.old buf.new }
 {
-    let mut buffer = [0; BUFFER_LEN];
-    let Some(joined) = read_window::<F>(bytes, &mut buffer) else {
-        return put_chunks::<F>(strictness, bytes, buf);
-    };
-    let rest = &bytes[joined.read..];
-    // Of more bytes a buffer of this length would have only the first.
-    if rest.len() > SHORT_WINDOW {
-        return put_chunks::<F>(strictness, bytes, buf);
-    }
-    let mut window = [0; SHORT_BUFFER];
-    let mut written = [0; SHORT_TEXT];
-    let decoded = write_window::<F>(strictness, rest, &mut window, &mut written);
-    if is_refused(strictness, decoded.is_ill_formed) {
-        return Err(Unwritten::NoText);
-    }
-    let first = joined.text.as_bytes();
-    let needed = first.len() + decoded.end;
-    if buf.len() < needed {
-        return Err(Unwritten::NoRoom(NoRoom { needed }));
-    }
-    let end = put(first, buf, 0);
-    Ok(put(&written[..decoded.end], buf, end))
+    let mut text = [0; TEXT];
+    let decoded = write_strict::<F>(bytes, &mut text);
+    put_decoded(Strictness::Strict, decoded, &text, buf)
 }
 
 /// Writes the text of still more bytes, chunk by chunk, where it stays. First passes find whether
@@ -195,29 +181,15 @@ fn write_reading<F: Flavor>(bytes: &[u8], out: &mut [u8]) -> usize
     ensures { StandsAtFront (utf8 (reading F.flavor bytes.now))
         result out.old out.new }
 {
-    let mut buffer = [0; BUFFER_LEN];
     let mut written = [0; LONG_TEXT];
     let mut rest = bytes;
     let mut end = 0;
-    let mut joins = true;
+    let mut is_well_formed = true;
     while !rest.is_empty() {
-        match next_chunk::<F, LONG_BUFFER>(
-            Strictness::Lossy,
-            rest,
-            joins,
-            &mut buffer,
-            &mut written,
-        ) {
-            Chunk::Joined(joined) => {
-                rest = &rest[joined.read..];
-                end = put(joined.text.as_bytes(), out, end);
-            }
-            Chunk::Written(decoded) => {
-                rest = &rest[decoded.read..];
-                joins = !decoded.is_ill_formed;
-                end = put(&written[..decoded.end], out, end);
-            }
-        }
+        let chunk = next_chunk::<F, LONG_BUFFER>(rest, is_well_formed, &mut written);
+        rest = &rest[chunk.read..];
+        is_well_formed = !chunk.is_ill_formed;
+        end = put(chunk.text, out, end);
     }
     end
 }

@@ -9,18 +9,17 @@
 //! | at most 96 | more | `ShortWindow` | `ShortWindow` |
 //! | at most 256 | any | `MediumWindow` | `MediumWindow` |
 //! | more, and the first 64 show an ill-formed byte | any | `Refused` | as without |
-//! | at most 1,024 | any | `JoinedWindow` | `LongWindow` |
+//! | at most 1,024 | any | `LongWindow` | `LongWindow` |
 //! | more | any | `Chunks` | `Chunks` |
 //!
 //! - `Characters`: one character after another. A branch on a byte costs little while few bytes are
-//!   not ASCII. In strict reading a `String` is appended to at once, with no array between.
-//!   `FewCharacters` is the same with a smaller array, since clearing one takes time.
-//! - The windows: 32 bytes at a time with no branch on a byte, in buffers on the stack. Smaller
-//!   ones are made in less time.
-//! - `Chunks`: joined windows of well-formed bytes, and windows by offsets after an ill-formed
-//!   byte. Lossy reading to a `String` begins by offsets.
-//! - `JoinedWindow`: chunks, of which a joined window mostly has all bytes but a few. Strict
-//!   reading stops at an ill-formed byte, so the buffers for windows by offsets are smaller.
+//!   not ASCII. `FewCharacters` is the same with a smaller array, since clearing one takes time.
+//! - The windows: 32 bytes at a time with no branch on a byte. In lossy reading they are decoded
+//!   between buffers on the stack, of which smaller ones are made in less time. In strict reading a
+//!   block is read where it stands and written where it goes: to the `String`, or to an array from
+//!   which it is copied to a slice.
+//! - `Chunks`: in strict reading as before. In lossy reading well-formed bytes are read as in strict
+//!   reading, and windows after an ill-formed byte. Lossy reading to a `String` begins by a window.
 //! - `Refused`: strict reading is asked for bytes that are not UTF-8 alone, and each encoding that is
 //!   not UTF-8 has an ED or a C0. Most other input that is no encoding is ill-formed early. What is
 //!   found only later is refused at the end of its block: a window of strict reading goes no further.
@@ -35,7 +34,6 @@
 //! | `ShortWindow` | damaged, 16 to 24 bytes, to a slice | 1.1 | not tried |
 //! | `MediumWindow` | 200 and 256 bytes, to a slice | 1.1 | 1.1 |
 //! | `LongWindow` | damaged, 1,024 bytes, to a slice | 1.3 | 1.4 |
-//! | `JoinedWindow` | well-formed, 1,024 bytes, to a slice | 1.3 | 1.4 |
 //! | `Refused`, by the first character | surrogates alone, 72 and 200 bytes, to a `String`, beside 5c3627c without it | 1.5 | 1.5 |
 //! | | the same, to a slice | 2.3 | 2.2 |
 //! | `Refused`, by the first 64 | refused, 1,024 bytes, to a `String` | 2.3 | 1.9 |
@@ -47,11 +45,8 @@
 //! so too with at most 24 bytes of which one is ED or C0, since they are mostly an encoding:
 //! well-formed bytes from 16 on take two thirds of the time in lossy reading (70c002d).
 //!
-//! A call on a slice that takes `JoinedWindow` goes on by `Chunks` if more bytes are left than a
-//! short window has.
-//!
-//! Other lengths in this crate decide no way: `chunk` joins no window of few bytes, `characters`
-//! pads the last bytes, and `sums` the last block. Before the decoder, `cesu8_bytes` takes the
+//! Other lengths in this crate decide no way: `characters` pads the last bytes, and
+//! `in_place` and `sums` the last block. Before the decoder, `cesu8_bytes` takes the
 //! first looks: if the first bytes show that all are no text, a strict call refuses them at once. If
 //! a few show C0 or a surrogate, a call that returns a `String` decodes them without a test for UTF-8.
 
@@ -78,7 +73,6 @@ pub enum Way {
     ShortWindow,
     MediumWindow,
     LongWindow,
-    JoinedWindow,
     Chunks,
     Refused,
 }
@@ -137,11 +131,7 @@ pub fn way_of<F: Flavor>(strictness: Strictness, bytes: &[u8]) -> Way
     if bytes.len() > LONG_WINDOW {
         return Way::Chunks;
     }
-    if is_strict {
-        Way::JoinedWindow
-    } else {
-        Way::LongWindow
-    }
+    Way::LongWindow
 }
 
 /// Returns which way bytes go that are read one character after another.

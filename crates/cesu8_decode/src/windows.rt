@@ -3,17 +3,16 @@
 
 ghost use Rattle.std.specs.Prelude.{◌≡◌, ℕ, ◌+◌, ◌-◌, ◌*◌, ◌<◌, ◌≤◌, List, IsTrue, true, false, length, take, replicate, slice_index};
 ghost use Rattle.cesu8_text.specs.Encoding.{Flavor};
+ghost use Rattle.cesu8_bytes.specs.declared.options.Strictness.TheVariants.{Lossy};
 ghost use Rattle.cesu8_decode.specs.DecodedOffsets.{decoded, is_ill_formed_at, is_boundary_at};
 ghost use Rattle.cesu8_decode.specs.DecodedLanes.{AreFiveKinds};
-ghost use Rattle.cesu8_decode.specs.Decoding.{ReadsFirst, refuses};
+ghost use Rattle.cesu8_decode.specs.Decoding.{ReadsFirst};
 
 use super::offsets::{BLOCK, PAIR, THREE, starts};
 use super::packing::{ROOM, WIDEST};
 use super::parts::write_block;
-use super::refusal::is_refused;
 use super::way::{LONG_WINDOW, MEDIUM_WINDOW, SHORT_WINDOW};
 use cesu8_bytes::flavor::Flavor;
-use cesu8_bytes::options::Strictness;
 use std::simd::prelude::*;
 
 /// How many bytes a window's buffer has besides those of the window.
@@ -51,23 +50,16 @@ pub struct Decoded {
     pub is_ill_formed: bool,
 }
 
-/// Writes what becomes of the first bytes, up to an offset that no encoded character crosses. Strict
-/// reading ends at the first block with an ill-formed byte. It is not inlined, since it is long, and
-/// buffers of each length need it.
+/// Writes what becomes of the first bytes, up to an offset that no encoded character crosses. It is
+/// not inlined, since it is long, and buffers of each length need it.
 #[inline(never)]
-pub fn write_window<F: Flavor>(
-    strictness: Strictness,
-    bytes: &[u8],
-    window: &mut [u8],
-    out: &mut [u8],
-) -> Decoded
+pub fn write_window<F: Flavor>(bytes: &[u8], window: &mut [u8], out: &mut [u8]) -> Decoded
     requires window { LEAST ≤ length window.old }
     requires zeros { window.old ≡ replicate (length window.old) 0 }
     requires out { WIDEST * length window.old ≤ length out.old + SPARED }
-    ensures first { ReadsFirst F.flavor strictness bytes.now
+    ensures first { ReadsFirst F.flavor Lossy bytes.now
         result.read (take result.end out.new) result.is_ill_formed }
-    ensures all { length bytes.now + AROUND ≤ length window.old
-        → refuses strictness result.is_ill_formed ≡ false → result.read ≡ length bytes.now }
+    ensures all { length bytes.now + AROUND ≤ length window.old → result.read ≡ length bytes.now }
     ensures end { result.end ≤ length out.new }
 {
     let loaded = bytes.len().min(window.len() - AROUND);
@@ -77,12 +69,12 @@ pub fn write_window<F: Flavor>(
     } else {
         boundary::<F>(window, loaded - BEFORE)
     };
-    write_blocks::<F>(strictness, window, read, out)
+    write_blocks::<F>(window, read, out)
 }
 
 /// Returns the last boundary at or before an offset of a window: no encoded character crosses it.
 /// It is at most five offsets before.
-fn boundary<F: Flavor>(window: &[u8], most: usize) -> usize
+pub fn boundary<F: Flavor>(window: &[u8], most: usize) -> usize
     requires { (BEFORE ≤ most) × (most + BLOCK ≤ length window.now) }
     ensures within { (result ≤ most) × (most ≤ result + BEFORE) }
     ensures boundary { (n : ℕ) → n ≤ most → most ≤ n + BEFORE
@@ -108,22 +100,14 @@ fn is_boundary(kinds: &[u8; BLOCK], at: usize) -> bool
     kinds[at + 4] | kinds[at + 3] & (PAIR | THREE) | of_pair == 0
 }
 
-/// Writes what becomes of the first `count` bytes of a window, or of fewer in strict reading, up to
-/// the end of the first block with an ill-formed byte.
+/// Writes what becomes of the first `count` bytes of a window.
 #[inline(always)]
-fn write_blocks<F: Flavor>(
-    strictness: Strictness,
-    window: &[u8],
-    count: usize,
-    out: &mut [u8],
-) -> Decoded
+fn write_blocks<F: Flavor>(window: &[u8], count: usize, out: &mut [u8]) -> Decoded
     requires window { count + AROUND ≤ length window.now }
     requires zeros { (k : ℕ) → k < BEFORE → slice_index window.now k ≡ 0 }
     requires out { WIDEST * count + ROOM ≤ length out.old }
-    ensures some { 0 < count → 0 < result.read }
-    ensures within { result.read ≤ count }
-    ensures all { refuses strictness result.is_ill_formed ≡ false → result.read ≡ count }
-    ensures bytes { take result.end out.new ≡ decoded F.flavor window.now 0 result.read }
+    ensures read { result.read ≡ count }
+    ensures bytes { take result.end out.new ≡ decoded F.flavor window.now 0 count }
     ensures ill_formed { IsTrue result.is_ill_formed → (i : ℕ) × (i < count)
         × (is_ill_formed_at F.flavor window.now i ≡ true) }
     ensures whole { result.is_ill_formed ≡ false → (i : ℕ) → i < count
@@ -137,7 +121,7 @@ fn write_blocks<F: Flavor>(
     // What begins at the last five offsets of a block may reach into the next one. Before the first
     // block are zeros, where nothing begins.
     let mut before = u8x32::splat(0);
-    while (at < count) & !is_refused(strictness, is_ill_formed) {
+    while at < count {
         let left = count - at;
         let len = if left < BLOCK { left } else { BLOCK };
         let block = write_block::<F>(window, before, at, len, out, end);

@@ -1,5 +1,5 @@
 -- Text that is read a character at a time.
-use Rattle.std.proofs.Common.{◌≡◌, ℕ, zero, suc, ◌<◌, ◌≤◌, ◌⊎◌, List, [], ◌∷◌, ◌++◌, refl, sym, ap, ◌∙◌, inl, inr, ⊎_elim, Bool, true, false, not, ◌&&◌, ◌||◌, eqb, ltb, true≢false, arith, length, take, drop, get_or, append-nil, append_assoc, subst}
+use Rattle.std.proofs.Common.{◌≡◌, ℕ, zero, suc, ◌+◌, ◌<◌, ◌≤◌, ◌⊎◌, List, [], ◌∷◌, ◌++◌, refl, sym, ap, ◌∙◌, inl, inr, ⊎_elim, Bool, true, false, not, ◌&&◌, ◌||◌, eqb, ltb, true≢false, arith, length, take, drop, get_or, append-nil, append_assoc, subst}
 use Rattle.std.proofs.lemmas.Bool.{and_parts, eqb-true, cases_eq, cases_Bool, ltb-false}
 use Rattle.std.proofs.Math.Seq.{take-append_seam, drop-append_seam}
 use Rattle.cesu8_text.specs.Text.{utf8_of}
@@ -8,7 +8,7 @@ use Rattle.cesu8_text.specs.Reading.{NoneBegins, width, reading}
 use Rattle.cesu8_decode.specs.DecodedOffsets.{first_width, one_at, two_at, three_at, IsPrefixOf}
 use Rattle.cesu8_bytes.specs.Joining.{null_at, AreJoinedDigits, second_third_fifth_sixth, HasPair}
 use Rattle.cesu8_bytes.specs.TextChunks.{IsReadSoFar, IsChunk}
-use Rattle.cesu8_decode.specs.Decoding.{HasFault, refuses}
+use Rattle.cesu8_decode.specs.Decoding.{HasFault, refuses, most_written}
 use Rattle.cesu8_bytes.specs.declared.options.Strictness.{Strictness}
 use Rattle.cesu8_bytes.specs.declared.options.Strictness.TheVariants.{Strict, Lossy}
 use Rattle.cesu8_text.proofs.text.Shapes.{Shape, one, two, three, pair, shape, utf8_of_one, utf8_of_two, utf8_of_three}
@@ -194,6 +194,16 @@ replaced_read f (b ∷ bytes) old new some none_begins new_is = record {
 
 -- ---- character after character
 
+-- At least as much may be written as is read,
+pub some_written : (which : Strictness) (n : ℕ) → n ≤ most_written which n
+some_written Strict n = omega arith
+some_written Lossy n = omega arith
+
+-- that of more bytes may be written behind that of some,
+pub more_written : (which : Strictness) (n m : ℕ) → most_written which (n + m) ≡ most_written which n + most_written which m
+more_written Strict n m = refl
+more_written Lossy n m = omega arith
+
 -- More is read in lossy reading,
 pub more_lossy : (f : Flavor) (bytes rest after chunk old new : List ℕ) (ill_formed : Bool) → IsReadSoFar f Lossy bytes rest chunk old →
     (ill_formed ≡ false → (which : Strictness) → IsReadSoFar f which rest after old new) →
@@ -223,10 +233,10 @@ first_fault f bytes rest chunk false here so_far fault some none_begins ill_form
 }
 
 -- What was read is a chunk unless an ill-formed byte in it is refused.
-pub read_unless_refused : (f : Flavor) (which : Strictness) (bytes rest chunk : List ℕ) (is_ill_formed : Bool) → IsChunk f Lossy bytes rest chunk →
+pub read_unless_refused : (f : Flavor) (which : Strictness) (bytes rest chunk : List ℕ) (is_ill_formed : Bool) → (which ≡ Lossy → IsChunk f Lossy bytes rest chunk) →
     (is_ill_formed ≡ false → IsChunk f Strict bytes rest chunk) → refuses which is_ill_formed ≡ false → IsChunk f which bytes rest chunk
 read_unless_refused f Strict bytes rest chunk is_ill_formed lossy strict fine = strict fine
-read_unless_refused f Lossy bytes rest chunk is_ill_formed lossy strict fine = lossy
+read_unless_refused f Lossy bytes rest chunk is_ill_formed lossy strict fine = lossy refl
 
 -- Reading stops at the end, or behind an ill-formed byte that is refused: then something was read,
 pub read_some : (which : Strictness) (n len : ℕ) (is_ill_formed : Bool) → (ltb n len && not (refuses which is_ill_formed)) ≡ false →

@@ -1,18 +1,16 @@
 -- Characters of more than one byte, by how they are encoded at the front of bytes.
-use Rattle.std.proofs.Common.{◌≡◌, ℕ, ◌+◌, ◌*◌, ◌-◌, ◌<◌, ◌≤◌, ◌↔◌, Bool, IsTrue, not, ◌||◌, List, [], ◌∷◌, ◌++◌, refl, sym, ap, ◌∙◌, ⊎_elim, true, false, arith, length, take, drop, get_or, eqb, leb, ltb, ◌&&◌}
+use Rattle.std.proofs.Common.{◌≡◌, ℕ, ◌<◌, ◌≤◌, ◌↔◌, Bool, IsTrue, not, ◌||◌, List, [], ◌∷◌, ◌++◌, refl, sym, ap, ◌∙◌, ⊎_elim, true, false, arith, length, take, drop, get_or, eqb, leb, ltb, ◌&&◌}
 use Rattle.std.proofs.lemmas.Bool.{and_from, and_parts, eqb-true, iff_false, le-leb, le-ltb, leb-true, lt-ltb, ltb-true, cases_eq, cases_lt, false≢true, not-true, or_cases, or_left, or_right}
 use Rattle.cesu8_text.specs.Encoding.{Flavor, Cesu8, Mutf8}
 use Rattle.cesu8_text.specs.Class.{is_null}
 use Rattle.cesu8_text.specs.Reading.{NoneBegins}
-use Rattle.cesu8_text.specs.Text.{utf8_of}
 use Rattle.cesu8_bytes.specs.Joining.{null_at, HasPair, AreJoinedDigits, second_third_fifth_sixth}
 use Rattle.cesu8_bytes.specs.TextChunks.{IsReadSoFar}
 use Rattle.cesu8_bytes.specs.declared.options.Strictness.{Strictness}
 use Rattle.cesu8_decode.specs.DecodedOffsets.{IsPrefixOf, first_width, one_at, two_at, three_at, continues, fits_three}
-use Rattle.cesu8_decode.specs.Forms.{HasForm, HasNoForm, form_len, IsUtf8OfForm}
+use Rattle.cesu8_decode.specs.Forms.{HasForm, HasNoForm, form_len}
 use Rattle.cesu8_decode.specs.declared.forms.Form.{Form}
 use Rattle.cesu8_decode.specs.declared.forms.Form.TheVariants.{Pair, Null, Two, Three}
-use Rattle.cesu8_text.proofs.text.Shapes.{utf8_of_two, utf8_of_three}
 use Rattle.cesu8_decode.proofs.by_offset.WidthTests.{null_found, two_found, three_found, pair_by_prefix, same_digits, long_by, continuation, fits_low}
 use Rattle.cesu8_decode.proofs.chunks.Characters.{kept_read, null_read, pair_read, pair_width, none_by_prefix}
 
@@ -59,6 +57,13 @@ are_three a b d t =
       last = continuation d h4.0;
       fits = fits_low a b h4.1;
     }
+
+-- The character of this form that begins the bytes, in UTF-8.
+abbrev IsUtf8OfForm : Form → List ℕ → List ℕ → Type 0
+IsUtf8OfForm Pair bytes utf8 = AreJoinedDigits (second_third_fifth_sixth bytes) utf8
+IsUtf8OfForm Null bytes utf8 = utf8 ≡ 0 ∷ []
+IsUtf8OfForm Two bytes utf8 = utf8 ≡ get_or bytes 0 0 ∷ get_or bytes 1 0 ∷ []
+IsUtf8OfForm Three bytes utf8 = utf8 ≡ get_or bytes 0 0 ∷ get_or bytes 1 0 ∷ get_or bytes 2 0 ∷ []
 
 pub form_some : (form : Form) → 0 < form_len form
 form_some Pair = omega arith
@@ -130,41 +135,6 @@ pub no_form : (f : Flavor) (bytes prefix : List ℕ) → IsPrefixOf bytes prefix
 no_form f bytes prefix same no_one none =
     let first = same 0 (omega arith) in
     none_by_prefix f bytes prefix same no_one (rw (sym first) none.null) (rw (sym first) none.two) (rw (sym first) none.three) none.pair
-
--- The scalar value of a character is what its bytes have less what shows its form.
-pub two_utf8 : (a b c : ℕ) → two_at a b ≡ true → c ≡ a * 0x40 + b - 0x3080 → utf8_of c ≡ a ∷ b ∷ []
-two_utf8 a b c t is =
-    let are = are_two a b t in
-    let first : 0xC0 + (a - 0xC0) ≡ a = omega (arith, are.low) in
-    let second : 0x80 + (b - 0x80) ≡ b = omega (arith, are.last.0) in
-    utf8_of_two c (a - 0xC0) (b - 0x80) (record {
-      value = omega (arith, is, are.low, are.last.0);
-      low = omega (arith, are.low);
-      high = omega (arith, are.high);
-      last = omega (arith, are.last.1);
-    }) ∙ (λ i. first i ∷ second i ∷ [])
-
-pub three_utf8 : (a b d c : ℕ) → three_at a b d ≡ true → c ≡ a * 0x1000 + b * 0x40 + d - 0xE2080 → utf8_of c ≡ a ∷ b ∷ d ∷ []
-three_utf8 a b d c t is =
-    let are = are_three a b d t in
-    let first : 0xE0 + (a - 0xE0) ≡ a = omega (arith, are.low) in
-    let second : 0x80 + (b - 0x80) ≡ b = omega (arith, are.middle.0) in
-    let third : 0x80 + (d - 0x80) ≡ d = omega (arith, are.last.0) in
-    utf8_of_three c (a - 0xE0) (b - 0x80) (d - 0x80) (record {
-      value = omega (arith, is, are.low, are.middle.0, are.last.0);
-      low = ⊎_elim (λ lead. omega (arith, is, lead, are.fits lead, are.last.0)) (λ other. omega (arith, is, are.low, other, are.middle.0, are.last.0)) (cases_eq a 0xE0);
-      high = omega (arith, are.high);
-      middle = omega (arith, are.middle.1);
-      last = omega (arith, are.last.1);
-    }) ∙ (λ i. first i ∷ second i ∷ third i ∷ [])
-
-pub pair_utf8 : (bytes : List ℕ) (c : ℕ) →
-    c ≡ get_or bytes 1 0 * 0x10000 + get_or bytes 2 0 * 0x400 + (get_or bytes 4 0 * 0x40 + get_or bytes 5 0) - 0xA12C80 →
-    AreJoinedDigits (second_third_fifth_sixth bytes) (utf8_of c)
-pair_utf8 bytes c is c' w x y z digits are =
-    let value : c ≡ c' =
-    omega (arith, is, digits.value, ap (λ bs. get_or bs 0 0) are, ap (λ bs. get_or bs 1 0) are, ap (λ bs. get_or bs 2 0) are, ap (λ bs. get_or bs 3 0) are) in
-    ap utf8_of value
 
 low_of_class : (null : ℕ → Bool) (b : ℕ) → (null b || leb 0x80 b) ≡ false → b < 0x80
 low_of_class null b none =

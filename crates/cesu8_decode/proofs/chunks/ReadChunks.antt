@@ -1,21 +1,20 @@
 -- Text that is read a chunk at a time.
-use Rattle.std.proofs.Common.{◌≡◌, ℕ, ◌+◌, ◌<◌, List, [], ◌∷◌, ◌++◌, refl, sym, ap, ◌∙◌, arith, length, append-nil, length-append, Result, Ok, Err, IfOk, OnOk, MatchResult, is_ok, true≢false, true, false, Bool, subst, drop, append_assoc, length-drop}
+use Rattle.std.proofs.Common.{◌≡◌, ℕ, ◌+◌, ◌≤◌, List, [], ◌∷◌, ◌++◌, refl, sym, ap, ◌∙◌, arith, length, append-nil, length-append, true, false, Bool, subst, drop, append_assoc, length-drop}
 use Rattle.cesu8_text.specs.Text.{utf8}
 use Rattle.cesu8_text.specs.Encoding.{Flavor, encoding}
-use Rattle.cesu8_text.specs.Reading.{reading, lossy_length, HasNoStrictReading, NoneBegins}
-use Rattle.cesu8_decode.specs.Decoding.{IsDecodedText, HasFault, refuses, ReadsFirst, ReadsAll, AppendsText}
+use Rattle.cesu8_text.specs.Reading.{reading, lossy_length, IsStrictReading, HasNoStrictReading}
+use Rattle.cesu8_decode.specs.Decoding.{IsDecodedText, HasFault, refuses, ReadsFirst, ReadsAll, most_of_text}
 use Rattle.cesu8_bytes.specs.TextChunks.{IsReadSoFar, IsChunk}
 use Rattle.cesu8_bytes.specs.declared.options.Strictness.{Strictness}
 use Rattle.cesu8_text.proofs.encoding.Encodings.{encoding_nil, encoding_append}
 use Rattle.cesu8_text.proofs.reading.Steps.{reading_nil}
 use Rattle.std.specs.Str.{chars, IsUtf8}
 use Rattle.std.proofs.lemmas.Bool.{false≢true}
-use Rattle.cesu8_decode.specs.Refusals.{IfNoText, OnNoText}
-use Rattle.cesu8_decode.specs.declared.refusal.Refusal.{Refusal}
-use Rattle.cesu8_decode.specs.declared.refusal.Refusal.TheVariants.{NoText, Memory}
 use Rattle.cesu8_bytes.specs.declared.options.Strictness.TheVariants.{Strict, Lossy}
 use Rattle.cesu8_text.proofs.StdUtf8.{IsUtf8_utf8, chars_utf8}
+use Rattle.cesu8_text.proofs.encoding.Lengths.{length_bounds}
 use Rattle.cesu8_text.proofs.encoding.Unique.{no_reading}
+use Rattle.cesu8_text.proofs.reading.EncodedTexts.{reading_encoding}
 use Rattle.cesu8_text.proofs.reading.Decoding.{IsText_append, utf8_append}
 
 -- Before the first chunk nothing is read, and all bytes are left.
@@ -70,6 +69,16 @@ chunk_appended f which bytes rest chunk old new is_chunk new_is = record {
   written = new_is ∙ ap (λ bs. old ++ bs) is_chunk.written;
 }
 
+-- A chunk in strict reading is one in both.
+pub chunk_of_strict : (f : Flavor) (which : Strictness) (bytes rest chunk : List ℕ) → IsChunk f Strict bytes rest chunk → IsChunk f which bytes rest chunk
+chunk_of_strict f which bytes rest chunk is = record {
+  text = is.text;
+  scalars = is.scalars;
+  lossy_reading = is.lossy_reading;
+  strict_reading = λ _. is.strict_reading refl;
+  written = is.written;
+}
+
 -- What is read is UTF-8.
 pub chunk_utf8 : (f : Flavor) (which : Strictness) (bytes rest chunk : List ℕ) → IsChunk f which bytes rest chunk → IsUtf8 chunk
 chunk_utf8 f which bytes rest chunk read = subst IsUtf8 (sym read.written) (IsUtf8_utf8 read.text read.scalars)
@@ -104,11 +113,6 @@ pub chunk_unless_refused : (f : Flavor) (which : Strictness) (bytes text : List 
     ReadsFirst f which bytes read text is_ill_formed → refuses which is_ill_formed ≡ false → IsChunk f which bytes (drop read bytes) text
 chunk_unless_refused f which bytes text read is_ill_formed first fine = first.chunk fine
 
--- Bytes that are well-formed are not refused.
-pub none_refused : (which : Strictness) → refuses which false ≡ false
-none_refused Strict = refl
-none_refused Lossy = refl
-
 -- Strict reading refuses what is ill-formed, and no other does.
 pub if_refused : (which : Strictness) (is_ill_formed : Bool) → refuses which is_ill_formed ≡ true → (which ≡ Strict) × (is_ill_formed ≡ true)
 if_refused Strict is_ill_formed refused = (refl, refused)
@@ -133,19 +137,6 @@ pub none_if_refused : (f : Flavor) (which : Strictness) (bytes text : List ℕ) 
 none_if_refused f which bytes text read is_ill_formed first refused =
     none_behind f which bytes bytes text [] [] read is_ill_formed (nothing_read f which bytes []) first refused
 
--- The text of what was decoded into nothing, and its length.
-pub decoded_text : (f : Flavor) (which : Strictness) (bytes old out : List ℕ) → old ≡ [] →
-    ((text : List ℕ) × IsDecodedText f which bytes text × (out ≡ old ++ utf8 text)) → IsDecodedText f which bytes (chars out)
-decoded_text f which bytes old out nothing read =
-    subst (IsDecodedText f which bytes)
-    (sym (ap chars (read.2 ∙ ap (λ bs. bs ++ utf8 read.0) nothing) ∙ chars_utf8 read.0 read.1.0)) read.1
-
-pub decoded_length : (f : Flavor) (bytes old out : List ℕ) → old ≡ [] →
-    ((text : List ℕ) × IsDecodedText f Lossy bytes text × (out ≡ old ++ utf8 text)) → length out ≡ lossy_length f bytes
-unfolding lossy_length
-decoded_length f bytes old out nothing read =
-    ap length (read.2 ∙ ap (λ bs. bs ++ utf8 read.0) nothing) ∙ ap (λ text. length (utf8 text)) read.1.1
-
 -- A chunk adds its length to that of the lossy reading.
 pub chunk_length : (f : Flavor) (bytes rest chunk : List ℕ) → IsChunk f Lossy bytes rest chunk →
     lossy_length f bytes ≡ length chunk + lossy_length f rest
@@ -154,44 +145,45 @@ chunk_length f bytes rest chunk read =
     ap (λ text. length (utf8 text)) read.lossy_reading ∙ ap length (utf8_append read.text (reading f rest))
     ∙ length-append (utf8 read.text) (utf8 (reading f rest)) ∙ ap (λ bs. length bs + length (utf8 (reading f rest))) (sym read.written)
 
+-- No text that is left is longer than what the chunk leaves room for.
+pub chunk_fits : (f : Flavor) (which : Strictness) (bytes rest chunk : List ℕ) → IsChunk f which bytes rest chunk →
+    length chunk + most_of_text f which rest ≤ most_of_text f which bytes
+chunk_fits f Strict bytes rest chunk read =
+    omega (
+      arith,
+      ap length read.written,
+      ap length (read.strict_reading refl),
+      length-append (encoding f read.text) rest,
+      (length_bounds f read.text read.scalars).low,
+    )
+chunk_fits f Lossy bytes rest chunk read = omega (arith, chunk_length f bytes rest chunk read)
+
+-- Where no bytes are left, that can be said of the empty list.
+pub none_left : (f : Flavor) (which : Strictness) (bytes rest old new : List ℕ) → IsReadSoFar f which bytes rest old new →
+    length rest ≡ 0 → IsReadSoFar f which bytes [] old new
+none_left f which bytes [] old new so_far empty = so_far
+none_left f which bytes (b ∷ rest) old new so_far empty = absurd (omega arith)
+
 -- A chunk that leaves nothing is the text of the whole.
 pub whole_text : (f : Flavor) (which : Strictness) (bytes rest chunk : List ℕ) → IsChunk f which bytes rest chunk →
     length rest ≡ 0 → IsDecodedText f which bytes (chars chunk)
-whole_text f which bytes rest chunk read empty = decoded_text f which bytes [] chunk refl (all_read f which bytes rest [] chunk read empty)
+whole_text f which bytes rest chunk read empty =
+    let all = all_read f which bytes rest [] chunk read empty in
+    subst (IsDecodedText f which bytes) (sym (ap chars all.2 ∙ chars_utf8 all.0 all.1.0)) all.1
 
--- What holds of a value that is there holds of it where the error is mapped.
-pub where_mapped : {T E D : Type 0} (r : Result T E) (mapped : Result T D) (P Q : T → Type 0) (R : E → Type 0) →
-    MatchResult r (λ x. mapped ≡ Ok x) R → is_ok mapped ≡ is_ok r → ((x : T) → P x → Q x) → IfOk r P → IfOk mapped Q
-where_mapped (Ok x) mapped P Q R is same weaker holds = subst (λ m. IfOk m Q) (sym is) (weaker x holds)
-where_mapped (Err e) (Ok y) P Q R is same weaker holds = absurd (true≢false same)
-where_mapped (Err e) (Err d) P Q R is same weaker holds = tt
+-- What was read of all bytes is such a chunk.
+pub all_chunk : (f : Flavor) (which : Strictness) (bytes text : List ℕ) (read : ℕ) (is_ill_formed : Bool) → ReadsAll f which bytes read text is_ill_formed →
+    refuses which is_ill_formed ≡ false → IsChunk f which bytes [] text
+all_chunk f which bytes text read is_ill_formed reads fine =
+    none_left f which bytes (drop read bytes) [] text (reads.first.chunk fine) (omega (arith, length-drop read bytes, reads.all fine))
 
--- What was read of all bytes is appended as their text,
-pub all_appended : {T : Type 0} (f : Flavor) (which : Strictness) (bytes text : List ℕ) (read : ℕ) (is_ill_formed : Bool) (result : Result T Refusal) (old new : List ℕ) →
-    ReadsAll f which bytes read text is_ill_formed → OnOk result ((refuses which is_ill_formed ≡ false) × (new ≡ old ++ text)) →
-    OnNoText result (refuses which is_ill_formed ≡ true) → AppendsText f which bytes result old new
-all_appended f which bytes text read is_ill_formed (Ok done) old new reads appended refused = record {
-  ok = all_read f which bytes (drop read bytes) old new
-      (chunk_appended f which bytes (drop read bytes) text old new
-      (chunk_unless_refused f which bytes text read is_ill_formed reads.first appended.0) appended.1)
-      (omega (arith, length-drop read bytes, reads.all appended.0));
-  invalid = tt;
+-- So is a strict reading that was written.
+pub strict_chunk : (f : Flavor) (bytes text : List ℕ) → IsStrictReading f bytes text → IsChunk f Strict bytes [] (utf8 text)
+strict_chunk f bytes text reads = record {
+  text = text;
+  scalars = reads.0;
+  lossy_reading = sym (ap (reading f) reads.1) ∙ reading_encoding f text reads.0
+      ∙ sym (ap (λ cs. text ++ cs) (reading_nil f) ∙ append-nil text);
+  strict_reading = λ _. sym (append-nil (encoding f text) ∙ reads.1);
+  written = refl;
 }
-all_appended f which bytes text read is_ill_formed (Err NoText) old new reads appended refused =
-    record { ok = tt; invalid = (none_if_refused f which bytes text read is_ill_formed reads.first refused).1 }
-all_appended f which bytes text read is_ill_formed (Err (Memory error)) old new reads appended refused = record { ok = tt; invalid = tt }
-
--- and where a chunk of them is refused, they have none.
-pub chunk_refused : (f : Flavor) (which : Strictness) (bytes rest text old out : List ℕ) (read : ℕ) (is_ill_formed : Bool) (refusal : Refusal) →
-    IsReadSoFar f which bytes rest old out → ReadsFirst f which rest read text is_ill_formed → IfNoText refusal (refuses which is_ill_formed ≡ true) →
-    IfNoText refusal (HasNoStrictReading f bytes)
-chunk_refused f which bytes rest text old out read is_ill_formed NoText so_far first refused =
-    (none_behind f which bytes rest text old out read is_ill_formed so_far first refused).1
-chunk_refused f which bytes rest text old out read is_ill_formed (Memory error) so_far first refused = tt
-
--- The same where no character begins the rest.
-pub none_begins_rest : (f : Flavor) (bytes rest old out : List ℕ) (refusal : Refusal) → IsReadSoFar f Strict bytes rest old out →
-    0 < length rest → IfNoText refusal (NoneBegins f rest) → IfNoText refusal (HasNoStrictReading f bytes)
-none_begins_rest f bytes rest old out NoText so_far some none_begins =
-    no_reading f bytes so_far.text rest so_far.scalars (so_far.strict_reading refl) some none_begins
-none_begins_rest f bytes rest old out (Memory error) so_far some none_begins = tt

@@ -140,6 +140,12 @@ no_strict_text f Strict bytes buf (strictly, none) = record {
 }
 no_strict_text f Lossy bytes buf refused = absurd (let no : Lossy ≡ Strict = refused.0 in cc)
 
+-- A buffer as long as the bytes has room for their strict reading.
+pub has_none : (f : Flavor) (bytes : List ℕ) (fault : Unwritten) (old new : List ℕ) → length bytes ≤ length old →
+    PutsText Strict (IsReadingOf f Strict bytes) (Err fault) old new → HasNoStrictReading f bytes
+has_none f bytes fault old new room puts text reads =
+    absurd (false≢true (puts.fits.1 (text, reads, omega (arith, room, (length_bounds f text reads.0).low, ap length reads.1))))
+
 module _ (which : Strictness) (IsReading : List ℕ → Type 0) (text answer buf : List ℕ) (is : IsOnlyText IsReading text answer) (small : length answer < 2 ^ 64) where
   -- The answer is written to a buffer that is long enough,
   pub answer_put : (len : ℕ) (new : List ℕ) → length answer ≤ length buf → StandsAtFront answer len buf new → PutsText which IsReading (Ok len) buf new

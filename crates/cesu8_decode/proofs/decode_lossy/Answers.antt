@@ -1,19 +1,23 @@
-use Rattle.std.proofs.Common.{ap, ◌∙◌, rules, length}
+use Rattle.std.proofs.Common.{[], ◌∙◌, refl, ap, arith}
 use Rattle.std.specs.Str.{chars}
-use Rattle.std.specs.String.{string_bytes}
-use Rattle.std.proofs.lemmas.Result.{IfOk-weaker}
+use Rattle.cesu8_text.proofs.reading.Decoding.{lossy_length_nil}
 use Rattle.cesu8_bytes.specs.declared.options.Strictness.TheVariants.{Lossy}
-use Rattle.cesu8_decode.proofs.chunks.ReadChunks.{decoded_text, decoded_length}
+use Rattle.cesu8_decode.proofs.chunks.ReadChunks.{chunk_utf8, chunk_length, whole_text}
 use Rattle.cesu8_decode.proofs.decode_lossy.Goals as goal
+
+pub known_string-requires : goal.known_string-requires
+known_string-requires g c = chunk_utf8 g.F.Flavor.flavor Lossy c.args.bytes.now [] _ c.in_ok-text.ensures.text
 
 pub returns-clause-text : goal.returns-clause-text
 returns-clause-text g c =
-    let read = decoded_text g.F.Flavor.flavor Lossy c.args.bytes.now _ (string_bytes c.append_text.new.out)
-    (search rules) c.in_default.ensures.ok in
-    IfOk-weaker c.exactly.result _ _ (λ exact same. ap chars same ∙ read.1) c.exactly.ensures.text
+    ap chars c.known_string.ensures.bytes ∙ (whole_text g.F.Flavor.flavor Lossy c.args.bytes.now [] _ c.in_ok-text.ensures.text refl).1
 
 pub returns-clause-capacity : goal.returns-clause-capacity
 returns-clause-capacity g c =
-    let long = decoded_length g.F.Flavor.flavor c.args.bytes.now _ (string_bytes c.append_text.new.out)
-    (search rules) c.in_default.ensures.ok in
-    IfOk-weaker c.exactly.result _ _ (λ exact same. same ∙ ap length c.as_str-len.ensures.value ∙ long) c.exactly.ensures.capacity
+    omega (
+      arith,
+      c.known_string.ensures.capacity,
+      c.in_ok-text.ensures.capacity,
+      chunk_length g.F.Flavor.flavor c.args.bytes.now [] _ c.in_ok-text.ensures.text,
+      lossy_length_nil g.F.Flavor.flavor [] refl,
+    )

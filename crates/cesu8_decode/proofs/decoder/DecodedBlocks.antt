@@ -1,22 +1,22 @@
 -- What the decoder's vectors say of the bytes of a block, by their offsets.
-use Rattle.std.proofs.Common.{◌≡◌, ℕ, zero, suc, ◌+◌, ◌-◌, ◌*◌, ◌/◌, ◌%◌, ◌^◌, ◌<◌, ◌≤◌, true, false, not, eqb, leb, List, [], ◌∷◌, ◌++◌, refl, sym, ap, ◌∙◌, subst, arith, cond, ⊎_elim, add-zero, get_or, map, take, length, replicate, bit_and, bit_or, bit_xor, Fits, w8}
+use Rattle.std.proofs.Common.{◌≡◌, ℕ, zero, suc, ◌+◌, ◌-◌, ◌*◌, ◌/◌, ◌%◌, ◌^◌, ◌<◌, ◌≤◌, ◌&&◌, Bool, true, false, eqb, leb, List, [], ◌∷◌, ◌++◌, refl, sym, ap, ◌∙◌, subst, arith, cond, ⊎_elim, add-zero, get_or, map, take, length, replicate, bit_and, bit_or, bit_xor, Fits, w8}
 use Rattle.std.specs.List.{flat_map, range_with_len}
 use Rattle.std.proofs.lemmas.Nat.{and_le_l}
-use Rattle.std.proofs.lemmas.Bool.{cases_lt}
+use Rattle.std.proofs.lemmas.Bool.{cases_lt, cases_Bool, eqb-true}
 use Rattle.std.proofs.lemmas.List.{take-map, get_or_append_left, get_or-append_right}
 use Rattle.std.proofs.lemmas.List.FromFn.{take-map-range_with_len, length-map-range_with_len, get_or-map-range_with_len}
-use Rattle.std.proofs.lemmas.Simd.{map-map, tops_compared}
-use lib.Lanes.{zip2, sel_l, pick_l, mask_l, top, chunk, Each1}
-use Rattle.cesu8_text.specs.Encoding.{Flavor}
+use Rattle.std.proofs.lemmas.Simd.{map-map}
+use lib.Lanes.{zip2, sel_l, pick_l, mask_l, chunk, Each1}
+use Rattle.cesu8_text.specs.Encoding.{Flavor, Cesu8, Mutf8}
 use Rattle.cesu8_text.specs.Class.{is_null}
 use Rattle.cesu8_bytes.specs.Kernels.{mask}
-use Rattle.cesu8_decode.specs.DecodedOffsets.{is_ill_formed_at, decoded_at, decoded}
+use Rattle.cesu8_decode.specs.DecodedOffsets.{first_width_by, is_ill_formed_at, decoded_at, decoded}
 use Rattle.cesu8_bytes.specs.Packing.{written}
 use Rattle.cesu8_decode.specs.DecodedLanes.{start_kind, AreFiveKinds, AreKindsNear, is_high, goes_at, byte_at, written_lanes}
 use Rattle.cesu8_decode.specs.declared.parts.TheConstants.{FIRST_BY_SECOND, SECOND_BY_SECOND, THIRD_BY_THIRD}
 use Rattle.cesu8_bytes.proofs.vectors.Loads.{loaded}
 use Rattle.cesu8_decode.proofs.decoder.DecodedParts.{decoded_is_written}
-use Rattle.cesu8_decode.proofs.decoder.StartKinds.{start_at}
+use Rattle.cesu8_decode.proofs.decoder.StartKinds.{start_at, null_bit}
 use Rattle.cesu8_decode.proofs.decoder.LaneTests.{gone_lane, lane_goes, covered_lane, ill_formed_lane, lane_ill_formed, mask_fits, byte_lane, lane_byte, paired_lane, byte_unpaired}
 use Rattle.cesu8_decode.proofs.decoder.FirstLanes.{behind_lanes, before_lanes, gone_behind, well_formed_behind, written_first, no_lane, on_range}
 
@@ -155,40 +155,40 @@ module _ (f : Flavor) (window : List ℕ) where
           ∙ on_range _ _ at 32 (λ i low inside. lane_ill_formed f window i (fits (i + 5)).fits)))
 
       abbrev pub null_lanes : List ℕ
-      null_lanes = sel_l (map (top 7) (zip2 (λ a b. cond (leb a b) 255 0) (replicate 32 0x80) (near_by 4))) (replicate 32 0) (chunk (at + 5) 32 window)
+      null_lanes = sel_l (map (leb 0x80) (near_by 4)) (replicate 32 0) (chunk (at + 5) 32 window)
 
       -- and what is written: where no pair changes the bytes, only nulls do,
       pub first_unpaired : mask_l (map is_high (zip2 (λ a b. a * 2 ^ b % 2 ^ 8)
           (zip2 bit_or (zip2 bit_or (near_by 3) (near_by 2)) (near_by 1)) (replicate 32 2))) ≡ 0 →
           (count : ℕ) → count ≤ 32 → take count null_lanes ≡ map (byte_at f window) (range_with_len at count)
       first_unpaired none count small =
-          first_lanes (byte_at f window) count small null_lanes (rw (tops_compared w8 leb (replicate 32 0x80) (near_by 4), near 4 (omega arith), byte_behind 5 (omega arith)) refl
+          first_lanes (byte_at f window) count small null_lanes (rw (near 4 (omega arith), byte_behind 5 (omega arith)) refl
           ∙ on_range (λ i. cond (leb 0x80 (kind (i + 4))) 0 (get_or window (i + 5) 0)) (byte_at f window) at 32 (λ i low inside. byte_unpaired f window i
           (no_lane (λ i. is_high (paired_lane (kind (i + 3)) (kind (i + 2)) (kind (i + 1)))) at 32
           (rw (near 3 (omega arith), near 2 (omega arith), near 1 (omega arith)) at none) i low inside)))
 
       abbrev pub chosen_lanes : ℕ → List ℕ → List ℕ → List ℕ
-      chosen_lanes d some other = sel_l (map (λ lane. not (eqb lane 0)) (zip2 bit_and (near_by d) (replicate 32 0x20))) some other
+      chosen_lanes d some other = sel_l (map (λ lane. leb 0x80 (lane * 2 ^ 2 % 2 ^ 8)) (near_by d)) some other
 
       -- and else what they become.
-      pub first_bytes : (first second third fourth two last : List ℕ) →
+      pub first_bytes : (first second third fourth two last nulls : List ℕ) → nulls ≡ null_lanes →
           first ≡ map (λ lane. get_or FIRST_BY_SECOND (lane % 16) 0) (chunk (at + 4) 32 window) →
           second ≡ map (λ lane. get_or SECOND_BY_SECOND (lane % 16) 0) (chunk (at + 3) 32 window) →
           third ≡ map (λ lane. get_or THIRD_BY_THIRD (lane % 16) 0) (chunk (at + 3) 32 window) →
           fourth ≡ chosen_lanes 1 (zip2 bit_or third (zip2 bit_and (chunk (at + 5) 32 window) (replicate 32 0x0F)))
-          null_lanes →
+          nulls →
           two ≡ chosen_lanes 2
           (zip2 bit_or second (zip2 bit_and (zip2 (λ a b. a / 2 ^ b) (chunk (at + 4) 32 window) (replicate 32 2)) (replicate 32 0x0F))) fourth →
           last ≡ chosen_lanes 3 first two →
           (count : ℕ) → count ≤ 32 → take count last ≡ map (byte_at f window) (range_with_len at count)
-      first_bytes first second third fourth two last first_is second_is third_is fourth_is two_is last_is count small =
+      first_bytes first second third fourth two last nulls nulls_are first_is second_is third_is fourth_is two_is last_is count small =
           first_lanes (byte_at f window) count small last (last_is ∙ rw (
             two_is,
             fourth_is,
+            nulls_are,
             first_is,
             second_is,
             third_is,
-            tops_compared w8 leb (replicate 32 0x80) (near_by 4),
             near 4 (omega arith),
             near 3 (omega arith),
             near 2 (omega arith),
@@ -198,6 +198,40 @@ module _ (f : Flavor) (window : List ℕ) where
             byte_behind 3 (omega arith),
           ) refl ∙ on_range (λ i. byte_lane (kind (i + 4)) (kind (i + 3)) (kind (i + 2)) (kind (i + 1)) (get_or window (i + 3) 0)
           (get_or window (i + 4) 0) (get_or window (i + 5) 0)) (byte_at f window) at 32 (λ i low inside. lane_byte f window i))
+
+-- ---- bytes without a null
+
+-- Only MUTF-8 has C0 80.
+no_null : (f : Flavor) → (f ≡ Mutf8 → ⊥) → (a b d e g h : ℕ) → (eqb (first_width_by f a b d e g h) 2 && eqb a 0xC0) ≡ false
+unfolding first_width_by
+no_null Mutf8 other a b d e g h = absurd (other refl)
+no_null Cesu8 other a b d e g h =
+    ⊎_elim (λ (lead : eqb a 0xC0 ≡ true). rw (eqb-true a 0xC0 lead) refl)
+    (λ (none : eqb a 0xC0 ≡ false). ap (λ t. eqb (first_width_by Cesu8 a b d e g h) 2 && t) none ∙ and_no (eqb (first_width_by Cesu8 a b d e g h) 2))
+    (cases_Bool (eqb a 0xC0))
+  where
+    and_no : (t : Bool) → (t && false) ≡ false
+    and_no true = refl
+    and_no false = refl
+
+none_chosen : (n : ℕ) (some bytes : List ℕ) → length some ≡ n → length bytes ≡ n → sel_l (replicate n false) some bytes ≡ bytes
+none_chosen zero [] [] s b = refl
+none_chosen zero [] (y ∷ bytes) s b = absurd (omega arith)
+none_chosen zero (x ∷ some) bytes s b = absurd (omega arith)
+none_chosen (suc n) [] bytes s b = absurd (omega arith)
+none_chosen (suc n) (x ∷ some) [] s b = absurd (omega arith)
+none_chosen (suc n) (x ∷ some) (y ∷ bytes) s b = ap (λ l. y ∷ l) (none_chosen n some bytes (omega arith) (omega arith))
+
+-- So no byte of CESU-8 becomes 00.
+pub none_null : (f : Flavor) (window : List ℕ) (at : ℕ) (before bytes : List ℕ) → (f ≡ Mutf8 → ⊥) →
+    before ≡ map (λ i. start_kind f window (i + 4)) (range_with_len at 32) → length bytes ≡ 32 →
+    bytes ≡ sel_l (map (leb 0x80) before) (replicate 32 0) bytes
+none_null f window at before bytes other are long =
+    let tests : map (leb 0x80) before ≡ replicate 32 false =
+    ap (map (leb 0x80)) are ∙ map-map (leb 0x80) (λ i. start_kind f window (i + 4)) (range_with_len at 32)
+    ∙ on_range (λ i. leb 0x80 (start_kind f window (i + 4))) (λ i. false) at 32
+    (λ i low inside. null_bit _ _ _ (start_at f window (i + 4)) ∙ no_null f other _ _ _ _ _ _) in
+    sym (ap (λ t. sel_l t (replicate 32 0) bytes) tests ∙ none_chosen 32 (replicate 32 0) bytes refl long)
 
 -- ---- what is written for a block
 

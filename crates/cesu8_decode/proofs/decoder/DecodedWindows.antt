@@ -4,9 +4,8 @@ use Rattle.std.proofs.lemmas.Bool.{ne_eqb, eq-eqb, le-leb, lt-leb, cases_lt}
 use Rattle.cesu8_text.specs.Encoding.{Flavor}
 use Rattle.cesu8_decode.specs.DecodedOffsets.{width_at, is_boundary_at, is_ill_formed_at, decoded}
 use Rattle.cesu8_bytes.specs.TextChunks.{IsChunk}
-use Rattle.cesu8_decode.specs.Decoding.{HasFault, refuses}
-use Rattle.cesu8_bytes.specs.declared.options.Strictness.{Strictness}
-use Rattle.cesu8_bytes.specs.declared.options.Strictness.TheVariants.{Strict, Lossy}
+use Rattle.cesu8_decode.specs.Decoding.{HasFault}
+use Rattle.cesu8_bytes.specs.declared.options.Strictness.TheVariants.{Lossy}
 use Rattle.cesu8_decode.specs.DecodedLanes.{start_kind, AreFiveKinds}
 use Rattle.std.specs.List.{range_with_len}
 use Rattle.std.proofs.lemmas.List.FromFn.{get_or-map-range_with_len}
@@ -17,7 +16,7 @@ use Rattle.cesu8_bytes.proofs.vectors.Loads.{zeros_at, padded}
 use Rattle.cesu8_decode.proofs.decoder.StartKinds.{start_at, no_start, over_one, over_two}
 use Rattle.cesu8_decode.proofs.by_offset.CharacterBoundaries.{width_bounds, boundary_at_end}
 use Rattle.cesu8_decode.proofs.by_offset.DecodedText.{IsPadded, padded_follows, padded_boundary}
-use Rattle.cesu8_decode.proofs.chunks.DecodedChunks.{IsPaddedFor, padded_for, padded_take, boundary_behind, fault_at, lossy_chunk, strict_chunk}
+use Rattle.cesu8_decode.proofs.chunks.DecodedChunks.{IsPaddedFor, padded_for, padded_take, boundary_behind, fault_at, lossy_chunk}
 use Rattle.cesu8_decode.proofs.decoder.LaneTests.{no_bit_or, no_pair}
 
 -- ---- boundaries
@@ -145,24 +144,9 @@ part_read f bytes window loaded read padded fits some inside last =
 
 module _ (f : Flavor) (bytes window : List ℕ) (n : ℕ) (is_read : IsRead f bytes window n) where
   -- What they become is a chunk in lossy reading,
-  read_lossily : (read : ℕ) (chunk : List ℕ) → read ≡ n → chunk ≡ decoded f window 0 n → IsChunk f Lossy bytes (drop read bytes) chunk
+  pub read_lossily : (read : ℕ) (chunk : List ℕ) → read ≡ n → chunk ≡ decoded f window 0 n → IsChunk f Lossy bytes (drop read bytes) chunk
   read_lossily read chunk read_is chunk_is =
       rw (read_is, chunk_is) (lossy_chunk f bytes window n is_read.padded is_read.fits is_read.boundary)
-
-  -- in strict reading where none of them is ill-formed,
-  read_strictly : (read : ℕ) (chunk : List ℕ) → read ≡ n → chunk ≡ decoded f window 0 n →
-      ((i : ℕ) → i < n → is_ill_formed_at f window i ≡ false) → IsChunk f Strict bytes (drop read bytes) chunk
-  read_strictly read chunk read_is chunk_is fine =
-      rw (read_is, chunk_is) (strict_chunk f bytes window n is_read.padded is_read.fits is_read.boundary Strict fine)
-
-  -- so it is one unless an ill-formed byte is refused,
-  pub read_unless_refused : (which : Strictness) (is_ill_formed : Bool) (read : ℕ) (chunk : List ℕ) → chunk ≡ decoded f window 0 read →
-      (refuses which is_ill_formed ≡ false → read ≡ n) → (is_ill_formed ≡ false → (i : ℕ) → i < n → is_ill_formed_at f window i ≡ false) →
-      refuses which is_ill_formed ≡ false → IsChunk f which bytes (drop read bytes) chunk
-  read_unless_refused Strict is_ill_formed read chunk chunk_is all whole fine =
-      read_strictly read chunk (all fine) (chunk_is ∙ ap (decoded f window 0) (all fine)) (whole fine)
-  read_unless_refused Lossy is_ill_formed read chunk chunk_is all whole fine =
-      read_lossily read chunk (all fine) (chunk_is ∙ ap (decoded f window 0) (all fine))
 
   -- and one that is ill-formed is a fault.
   pub read_fault : (i : ℕ) × (i < n) × (is_ill_formed_at f window i ≡ true) → HasFault f bytes

@@ -63,16 +63,16 @@ shifted_pair a w c three_high = refl
 shifted_pair a w c three_last = refl
 shifted_pair a w c pair = refl
 
--- Without a pair's bit it makes no difference whether a mask has that.
-pub no_pair_begun : (a w c : ℕ) → Start a w c → leb 0x80 (c * 2 ^ 2 % 2 ^ 8) ≡ false → bit_and c 0xBF ≡ bit_and c 0x9F
-no_pair_begun a w c nothing unset = refl
-no_pair_begun a w c (one low) unset = refl
-no_pair_begun a w c (null first) unset = refl
-no_pair_begun a w c (two_low other) unset = refl
-no_pair_begun a w c (two_high other) unset = refl
-no_pair_begun a w c three_low unset = refl
-no_pair_begun a w c three_high unset = refl
-no_pair_begun a w c three_last unset = refl
+-- Without a pair's bit it makes no difference whether a mask has that, nor one that no kind has.
+pub no_pair_begun : (a w c : ℕ) → Start a w c → leb 0x80 (c * 2 ^ 2 % 2 ^ 8) ≡ false → (bit_and c 0x9F ≡ bit_and c 0xDF) × (bit_and c 0x9F ≡ bit_and c 0xFF)
+no_pair_begun a w c nothing unset = (refl, refl)
+no_pair_begun a w c (one low) unset = (refl, refl)
+no_pair_begun a w c (null first) unset = (refl, refl)
+no_pair_begun a w c (two_low other) unset = (refl, refl)
+no_pair_begun a w c (two_high other) unset = (refl, refl)
+no_pair_begun a w c three_low unset = (refl, refl)
+no_pair_begun a w c three_high unset = (refl, refl)
+no_pair_begun a w c three_last unset = (refl, refl)
 no_pair_begun a w c pair unset = absurd (true≢false unset)
 
 last_first : (n p q : Bool) → (n || (p || q)) ≡ (p || (q || n))
@@ -234,9 +234,9 @@ third_is two_before b =
 
 abbrev pub byte_lane : (c1 c2 c3 c4 two_before before b : ℕ) → ℕ
 byte_lane c1 c2 c3 c4 two_before before b =
-    cond (not (eqb (bit_and c2 0x20) 0)) (first_byte before)
-    (cond (not (eqb (bit_and c3 0x20) 0)) (second_byte two_before before)
-    (cond (not (eqb (bit_and c4 0x20) 0)) (third_byte two_before b) (cond (leb 0x80 c1) 0 b)))
+    cond (leb 0x80 (c2 * 2 ^ 2 % 2 ^ 8)) (first_byte before)
+    (cond (leb 0x80 (c3 * 2 ^ 2 % 2 ^ 8)) (second_byte two_before before)
+    (cond (leb 0x80 (c4 * 2 ^ 2 % 2 ^ 8)) (third_byte two_before b) (cond (leb 0x80 c1) 0 b)))
 
 none_of : (n p q r : Bool) → (n || ((p || q) || r)) ≡ false → (n ≡ false) × (p ≡ false) × (q ≡ false) × (r ≡ false)
 none_of false false false false e = (refl, refl, refl, refl)
@@ -244,13 +244,6 @@ none_of false false false true e = absurd (true≢false e)
 none_of false false true r e = absurd (true≢false e)
 none_of false true q r e = absurd (true≢false e)
 none_of true p q r e = absurd (true≢false e)
-
-not_not : (t : Bool) → not (not t) ≡ t
-not_not true = refl
-not_not false = refl
-
-some_pair : (a w c : ℕ) → Start a w c → not (eqb (bit_and c 0x20) 0) ≡ eqb w 6
-some_pair a w c what = ap not (no_pair a w c what) ∙ not_not (eqb w 6)
 
 -- It is the byte that is written.
 pub lane_byte : (f : Flavor) (window : List ℕ) (i : ℕ) →
@@ -262,9 +255,9 @@ lane_byte f window i =
     let b = get_or window (i + 5) 0 in
     let before = get_or window (i + 4) 0 in
     let two_before = get_or window (i + 3) 0 in
-    λ k. cond (some_pair _ _ _ (s (i + 3)) k) (first_is before k)
-    (cond (some_pair _ _ _ (s (i + 2)) k) (second_is two_before before k)
-    (cond (some_pair _ _ _ (s (i + 1)) k) (third_is two_before b k) (cond (null_bit _ _ _ (s (i + 4)) k) 0 b)))
+    λ k. cond (shifted_pair _ _ _ (s (i + 3)) k) (first_is before k)
+    (cond (shifted_pair _ _ _ (s (i + 2)) k) (second_is two_before before k)
+    (cond (shifted_pair _ _ _ (s (i + 1)) k) (third_is two_before b k) (cond (null_bit _ _ _ (s (i + 4)) k) 0 b)))
 
 -- It is high where a pair changes the byte,
 abbrev pub paired_lane : (c2 c3 c4 : ℕ) → ℕ
@@ -291,9 +284,9 @@ byte_unpaired f window i low =
     ∙ ap (λ (t : Bool). t || leb 0x80 (shifted c4)) (high_or (shifted c2) (shifted c3))
     ∙ (λ k. (shifted_pair _ _ _ (s (i + 3)) k || shifted_pair _ _ _ (s (i + 2)) k) || shifted_pair _ _ _ (s (i + 1)) k))
     ∙ low) in
-    let third = some_pair _ _ _ (s (i + 3)) ∙ all.1 in
-    let second = some_pair _ _ _ (s (i + 2)) ∙ all.2 in
-    let first = some_pair _ _ _ (s (i + 1)) ∙ all.3 in
+    let third = shifted_pair _ _ _ (s (i + 3)) ∙ all.1 in
+    let second = shifted_pair _ _ _ (s (i + 2)) ∙ all.2 in
+    let first = shifted_pair _ _ _ (s (i + 1)) ∙ all.3 in
     sym (λ k. cond (third k) (first_byte before)
     (cond (second k) (second_byte two_before before)
     (cond (first k) (third_byte two_before b) (cond (leb 0x80 (c (i + 4))) 0 b))))

@@ -121,7 +121,7 @@ and_false false = refl
 
 abbrev behind : (third fourth fifth sixth : Bool) → ℕ
 behind third fourth fifth sixth =
-    bit_or (bit_and (mask third) (bit_or (bit_and (bit_and (bit_and (mask fourth) (mask fifth)) (mask sixth)) 0x20) 0x1C)) 0x83
+    bit_and (bit_or (mask third) 0x83) (bit_or (bit_and (bit_and (mask fourth) (mask fifth)) (mask sixth)) 0xDF)
 
 -- what two bytes begin, and tests of the others, tell what six begin
 with_others : (null two low first last a1 a2 a3 a4 b1 b2 b3 third fourth low_fifth high_fifth sixth : Bool) →
@@ -133,7 +133,11 @@ with_others null two low first last a1 a2 a3 a4 b1 b2 b3 true true true true fal
 with_others null two low first last a1 a2 a3 a4 b1 b2 b3 true true true false sixth = simp (and_cond, and_zero_l, and_false, cond_same)
 with_others null two low first last a1 a2 a3 a4 b1 b2 b3 true true false high_fifth sixth = simp (and_cond, and_zero_l, and_false, cond_same)
 with_others null two low first last a1 a2 a3 a4 b1 b2 b3 true false low_fifth high_fifth sixth = simp (and_cond, and_zero_l, and_false, cond_same)
-with_others null two low first last a1 a2 a3 a4 b1 b2 b3 false fourth low_fifth high_fifth sixth = simp (and_cond, and_zero_l, and_false, cond_same)
+with_others null two low first last a1 a2 a3 a4 b1 b2 b3 false true true true true = simp (and_cond, and_false, cond_same)
+with_others null two low first last a1 a2 a3 a4 b1 b2 b3 false true true true false = simp (and_cond, and_false, cond_same)
+with_others null two low first last a1 a2 a3 a4 b1 b2 b3 false true true false sixth = simp (and_cond, and_zero_l, and_false, cond_same)
+with_others null two low first last a1 a2 a3 a4 b1 b2 b3 false true false high_fifth sixth = simp (and_cond, and_zero_l, and_false, cond_same)
+with_others null two low first last a1 a2 a3 a4 b1 b2 b3 false false low_fifth high_fifth sixth = simp (and_cond, and_zero_l, and_false, cond_same)
 
 low_second : (b : ℕ) → b < 0x100 → eqb (bit_and b 0xF0) 0xB0 ≡ (leb 0xB0 b && ltb b 0xC0)
 low_second b h = agree_below_at (λ b. eqb (bit_and b 0xF0) 0xB0) (λ b. leb 0xB0 b && ltb b 0xC0) 0x100 b refl h
@@ -150,24 +154,30 @@ six f a b d e g h small =
 abbrev three : Bool → ℕ
 three third = bit_or (bit_and (mask third) 0x1C) 0x83
 
-ends_alike : (c : ℕ) → bit_and c 0xBF ≡ bit_and c 0x9F → (third fourth fifth sixth : Bool) →
+ends_alike : (c : ℕ) → bit_and c 0x9F ≡ bit_and c 0xDF → bit_and c 0x9F ≡ bit_and c 0xFF → (third fourth fifth sixth : Bool) →
     bit_and c (three third) ≡ bit_and c (behind third fourth fifth sixth)
-ends_alike c same true true true true = sym same
-ends_alike c same true true true false = refl
-ends_alike c same true true false sixth = ap (λ n. bit_and c (bit_or (bit_and 0xFF (bit_or (bit_and n 0x20) 0x1C)) 0x83)) (sym (and_zero_l (mask sixth)))
-ends_alike c same true false fifth sixth = refl
-ends_alike c same false fourth fifth sixth = refl
+ends_alike c no_end same true true true true = same
+ends_alike c no_end same true true true false = no_end
+ends_alike c no_end same true true false sixth = no_end ∙ ap (λ n. bit_and c (bit_and 0xFF (bit_or n 0xDF))) (sym (and_zero_l (mask sixth)))
+ends_alike c no_end same true false true sixth = no_end ∙ ap (λ n. bit_and c (bit_and 0xFF (bit_or n 0xDF))) (sym (and_zero_l (mask sixth)))
+ends_alike c no_end same true false false sixth = no_end ∙ ap (λ n. bit_and c (bit_and 0xFF (bit_or n 0xDF))) (sym (and_zero_l (mask sixth)))
+ends_alike c no_end same false true true true = refl
+ends_alike c no_end same false true true false = refl
+ends_alike c no_end same false true false sixth = ap (λ n. bit_and c (bit_and 0x83 (bit_or n 0xDF))) (sym (and_zero_l (mask sixth)))
+ends_alike c no_end same false false true sixth = ap (λ n. bit_and c (bit_and 0x83 (bit_or n 0xDF))) (sym (and_zero_l (mask sixth)))
+ends_alike c no_end same false false false sixth = ap (λ n. bit_and c (bit_and 0x83 (bit_or n 0xDF))) (sym (and_zero_l (mask sixth)))
 
 three_decide : (f : Flavor) (a b d e g h : ℕ) → g < 0x100 → leb 0x80 (kind_of_two f a b * 2 ^ 2 % 2 ^ 8) ≡ false →
     bit_and (kind_of_two f a b) (three (continues d)) ≡ start_kind_by f a b d e g h
 three_decide f a b d e g h small unset =
-    ends_alike (kind_of_two f a b) (no_pair_begun _ _ _ (start f a b 0x80 0xED 0xB0 0x80) unset) (continues d) (eqb e 0xED) (eqb (bit_and g 0xF0) 0xB0) (continues h)
+    let begun = no_pair_begun _ _ _ (start f a b 0x80 0xED 0xB0 0x80) unset in
+    ends_alike (kind_of_two f a b) begun.0 begun.1 (continues d) (eqb e 0xED) (eqb (bit_and g 0xF0) 0xB0) (continues h)
     ∙ six f a b d e g h small
 
 abbrev start_lanes : ℕ → (two third fourth fifth sixth : List ℕ) → List ℕ
 start_lanes n two third fourth fifth sixth =
-    zip2 bit_and two (zip2 bit_or (zip2 bit_and third
-    (zip2 bit_or (zip2 bit_and (zip2 bit_and (zip2 bit_and fourth fifth) sixth) (replicate n 0x20)) (replicate n 0x1C))) (replicate n 0x83))
+    zip2 bit_and two (zip2 bit_and (zip2 bit_or third (replicate n 0x83))
+    (zip2 bit_or (zip2 bit_and (zip2 bit_and fourth fifth) sixth) (replicate n 0xDF)))
 
 module _ (f : Flavor) (window : List ℕ) (fits : (k : ℕ) → Fits w8 (get_or window k 0)) where
   -- The bytes of a block are below one that no lane reaches.

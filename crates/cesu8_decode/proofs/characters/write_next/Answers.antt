@@ -1,6 +1,6 @@
 use Rattle.std.proofs.Common.{◌≡◌, ◌≤◌, [], ◌∷◌, rules, arith, refl, length, take}
 use Rattle.cesu8_decode.specs.declared.forms.Form.TheVariants.{Pair}
-use Rattle.cesu8_decode.proofs.chunks.Characters.{ascii_read, replaced_read}
+use Rattle.cesu8_decode.proofs.chunks.Characters.{ascii_read, replaced_read, some_written}
 use Rattle.cesu8_decode.proofs.chunks.Forms.{form_read, form_within, no_form, two_bytes, three_bytes}
 use Rattle.cesu8_decode.proofs.characters.write_next.Goals as goal
 use Rattle.cesu8_decode.proofs.characters.write_next.Goals.{then-is_one, else-is_one, in-Pair, in-Null, in-Two, in-Three}
@@ -18,11 +18,11 @@ returns-in_default-clause-ill_formed g c ill_formed =
     no_form g.F.Flavor.flavor c.args.bytes.now _ c.prefix_of-prefix.ensures.prefix (search rules) c.in_default.ensures.none
 
 pub returns-in_default-clause-replaced : goal.returns-in_default-clause-replaced
-returns-in_default-clause-replaced g c ill_formed =
+returns-in_default-clause-replaced g c lossy ill_formed =
     let kept : take c.args.end c.if-is_one.out ≡ take c.args.end c.args.out.now = search rules in
-    replaced_read g.F.Flavor.flavor c.args.bytes.now _ _ c.requires.some
+    rw c.replace.ensures.one.0 (replaced_read g.F.Flavor.flavor c.args.bytes.now _ _ c.requires.some
     (no_form g.F.Flavor.flavor c.args.bytes.now _ c.prefix_of-prefix.ensures.prefix (search rules) c.in_default.ensures.none)
-    (rw kept at c.put.ensures.bytes)
+    (rw kept at c.replace.ensures.bytes lossy))
 
 pub put-end-requires : goal.put-end-requires
 put-end-requires g c =
@@ -35,7 +35,7 @@ returns-clause-within g c =
     let within = form_within g.F.Flavor.flavor c.args.bytes.now _ c.in-Some.form c.prefix_of-prefix.ensures.prefix c.in-Some.ensures.some in
     elim c.match-form.branch [
       | in-Pair w ↦ rw (c.len_of.ensures, w.in-Pair.is, w.end-is, w.put-end.ensures.end) (omega arith, rw w.in-Pair.is at within, search rules)
-      | in-Null w ↦ rw (c.len_of.ensures, w.in-Null.is, w.end-is, w.put-end-in-Null.ensures.end) (omega arith, rw w.in-Null.is at within, omega arith)
+      | in-Null w ↦ rw (c.len_of.ensures, w.in-Null.is, w.end-is, w.put-end-in-Null.ensures.end) (omega arith, rw w.in-Null.is at within, omega (arith, some_written c.args.strictness 2))
       | in-Two w ↦ rw (c.len_of.ensures, w.in-Two.is, w.end-is, w.put-end-in-Two.ensures.end) (omega arith, rw w.in-Two.is at within, search rules)
       | in-Three w ↦ rw (c.len_of.ensures, w.in-Three.is, w.end-is, w.put-end-in-Three.ensures.end) (omega arith, rw w.in-Three.is at within, search rules)
     ]

@@ -6,5 +6,5 @@ returns g c =
     record {
       gone_are = c.gone.ensures g.F.Flavor.flavor window c.args.at c.requires.kinds;
       ill_formed_are = c.ill_formed.ensures;
-      bytes_are = c.changed_bytes.ensures g.F.Flavor.flavor c.args.count c.requires.count c.requires.kinds;
+      bytes_are = c.changed_bytes.ensures c.args.count c.requires.count;
     }

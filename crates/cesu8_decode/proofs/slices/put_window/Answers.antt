@@ -5,4 +5,4 @@ pub returns : goal.returns
 returns g c =
     let decoded = c.write_window-decoded.ensures in
     c.put_decoded.ensures g.F.Flavor.flavor c.args.bytes.now
-    (record { first = decoded.first; all = λ fine. decoded.all (omega arith) fine })
+    (record { first = decoded.first; all = λ _. decoded.all (omega arith) })

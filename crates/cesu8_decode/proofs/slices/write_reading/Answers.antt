@@ -1,4 +1,4 @@
-use Rattle.std.proofs.Common.{◌∙◌, refl, sym, ap, arith, length, ◌++◌, take, ◌+◌}
+use Rattle.std.proofs.Common.{◌∙◌, refl, sym, arith}
 use Rattle.std.proofs.lemmas.Bool.{eqb-true}
 use Rattle.std.proofs.lemmas.List.{take_rest}
 use Rattle.cesu8_decode.proofs.chunks.ReadChunks.{chunk_length}
@@ -15,33 +15,14 @@ put-end-requires g c =
       c.requires,
       c.loop-rest.invariant.room,
       c.loop-rest.invariant.len,
-      ap length c.as_bytes.ensures.value,
-      chunk_length g.F.Flavor.flavor c.loop-rest.rest.now _ _ (c.in-Joined.ensures.chunk refl),
-    )
-
-pub loop-rest-preserved-in-Joined : goal.loop-rest-preserved-in-Joined
-loop-rest-preserved-in-Joined g c =
-    rw take_rest (chunk_written g.F.Flavor.flavor c.args.bytes.now c.loop-rest.rest.now _ _ _ _ _ _ _ _
-    c.loop-rest.invariant c.in-Joined.ensures
-    (c.put-end.ensures.bytes ∙ ap (λ bs. take c.loop-rest.end c.loop-rest.out ++ bs) c.as_bytes.ensures.value)
-    (c.put-end.ensures.end ∙ ap (λ bs. c.loop-rest.end + length bs) c.as_bytes.ensures.value)
-    c.put-end.ensures.behind c.put-end.ensures.len)
-
-pub put-end-requires-in-Written : goal.put-end-requires-in-Written
-put-end-requires-in-Written g c =
-    omega (
-      arith,
-      c.requires,
-      c.loop-rest.invariant.room,
-      c.loop-rest.invariant.len,
-      chunk_length g.F.Flavor.flavor c.loop-rest.rest.now _ _ (c.in-Written.ensures.0.chunk refl),
+      chunk_length g.F.Flavor.flavor c.loop-rest.rest.now _ _ (c.next_chunk-chunk.ensures.chunk refl),
     )
 
 pub loop-rest-preserved : goal.loop-rest-preserved
 loop-rest-preserved g c =
-    let put = c.put-end-in-Written.ensures in
+    let put = c.put-end.ensures in
     rw take_rest (chunk_written g.F.Flavor.flavor c.args.bytes.now c.loop-rest.rest.now _ _ _ _ _ _ _ _
-    c.loop-rest.invariant c.in-Written.ensures.0 put.bytes put.end put.behind put.len)
+    c.loop-rest.invariant c.next_chunk-chunk.ensures put.bytes put.end put.behind put.len)
 
 pub returns : goal.returns
 returns g c =

@@ -1,5 +1,4 @@
 use Rattle.std.proofs.Common.{◌+◌, ◌<◌, ◌∙◌, arith, refl}
-use Rattle.std.proofs.lemmas.Bool.{and_parts, ltb-true}
 use Rattle.cesu8_decode.specs.DecodedOffsets.{decoded, is_ill_formed_at}
 use Rattle.cesu8_decode.proofs.decoder.DecodedWindows.{kinds_of_zeros, five_kinds, more_ill_formed, none_ill_formed, more_written}
 use Rattle.cesu8_decode.proofs.windows.write_blocks.Goals as goal
@@ -10,7 +9,6 @@ unfolding decoded
 loop-at-init g c = record {
   within = omega arith;
   room = λ some. omega arith;
-  some = λ some. cc;
   end = omega arith;
   before = λ some. kinds_of_zeros g.F.Flavor.flavor c.args.window.now _ refl c.requires.zeros;
   len = refl;
@@ -25,11 +23,10 @@ loop-at-preserved g c =
     let window = c.args.window.now in
     let inv = c.loop-at.invariant in
     let block = c.write_block-block.ensures in
-    let inside : c.loop-at.at < c.args.count = ltb-true _ _ (and_parts _ _ c.loop-at-test.true).0 in
+    let inside : c.loop-at.at < c.args.count = c.loop-at-test.true in
     record {
       within = elim c.if-left-lt-BLOCK.branch [ then-left-lt-BLOCK w ↦ omega (arith, inside) | else-left-lt-BLOCK w ↦ omega (arith, inside) ];
       room = λ more. elim c.if-left-lt-BLOCK.branch [ then-left-lt-BLOCK w ↦ omega (arith, inside) | else-left-lt-BLOCK w ↦ omega (arith, inside) ];
-      some = λ _. elim c.if-left-lt-BLOCK.branch [ then-left-lt-BLOCK w ↦ omega (arith, inside) | else-left-lt-BLOCK w ↦ omega (arith, inside) ];
       end = omega (arith, inside, inv.room, block.end);
       before = λ more. elim c.if-left-lt-BLOCK.branch [
         | then-left-lt-BLOCK w ↦ absurd (omega (arith, inside))

@@ -10,7 +10,6 @@ abbrev pub invariant-loop-at : goal.invariant-loop-at
 invariant-loop-at g l = record {
   within : l.at ≤ l.fn.count;
   room : l.at < l.fn.count → l.end ≤ 3 * l.at;
-  some : l.is_ill_formed ≡ true → 0 < l.at;
   end : l.end ≤ 3 * l.fn.count + 93;
   before : l.at < l.fn.count → AreFiveKinds g.F.Flavor.flavor l.fn.window l.at l.before 27;
   len : length l.out ≡ length l.initial.out;

@@ -2,7 +2,7 @@ use Rattle.std.proofs.Common.{◌+◌, ◌-◌, ◌≤◌, ◌∙◌, length, ta
 use Rattle.std.proofs.lemmas.List.{take_all}
 use borrow.Rule.Slice.PartMut.{put_mid}
 use Rattle.cesu8_decode.proofs.by_offset.DecodedText.{IsPadded}
-use Rattle.cesu8_decode.proofs.decoder.DecodedWindows.{IsRead, between_zeros, all_read, part_read, read_unless_refused, read_fault}
+use Rattle.cesu8_decode.proofs.decoder.DecodedWindows.{IsRead, between_zeros, all_read, part_read, read_lossily, read_fault}
 use Rattle.cesu8_decode.proofs.windows.write_window.Goals as goal
 use Rattle.cesu8_decode.proofs.windows.write_window.Goals.{then-loaded-bytes, else-loaded-bytes}
 
@@ -26,6 +26,6 @@ returns-clause-first g c =
     record {
       some = search rules;
       within = search rules;
-      chunk = read_unless_refused f bytes window read is_read c.args.strictness _ _ _ blocks.bytes blocks.all blocks.whole;
+      chunk = λ _. read_lossily f bytes window read is_read c.write_blocks.result.read _ blocks.read blocks.bytes;
       ill_formed = λ ill_formed. read_fault f bytes window read is_read (blocks.ill_formed ill_formed);
     }
