@@ -1,9 +1,10 @@
-//! Decodes to a vector, whose bytes are then known to be UTF-8.
+//! Decodes to a vector, which becomes a `String`: what is written to it is known to be UTF-8.
 //!
-//! Strict reading has requested as many bytes as it was given. Up to 1,024 are decoded to zeros in
-//! the vector, as to a caller's slice. Lossy reading requests exactly what the text has, so a few
-//! bytes are decoded on the stack before that. Of more bytes the text is appended chunk by chunk:
-//! with zeros for all, bytes that are refused early would take three times the time.
+//! Strict reading has requested as many bytes as it was given. Up to 1,024 of them are decoded to
+//! zeros in the vector, as to a caller's slice. Lossy reading requests exactly what the text has, so
+//! as many are decoded on the stack before that. Of still more bytes each chunk is written in place
+//! of zeros of its own. With zeros for all at once, 256 KiB that are refused behind the first bytes
+//! would take three times the time.
 
 ghost use Rattle.std.specs.Prelude.{◌≡◌, ◌+◌, ◌*◌, ◌≤◌, ◌++◌, [], length, vec_len, vec_capacity, IfSome, IfNone, IsUtf8};
 ghost use Rattle.cesu8_text.specs.Reading.{HasNoStrictReading};
@@ -42,9 +43,9 @@ pub fn write_strictly<F: Flavor, A: Allocator + Copy>(
 {
     match way_of::<F>(Strictness::Strict, bytes) {
         Way::Refused => None,
-        Way::FewCharacters | Way::Characters => write_in_place::<F, A>(bytes, empty),
+        Way::FewCharacters | Way::Characters => write_few::<F, A>(bytes, empty),
         Way::Chunks => append_chunks::<F, A>(Strictness::Strict, bytes, true, empty),
-        way => put_in_place::<F, A>(way, bytes, empty),
+        way => write_more::<F, A>(way, bytes, empty),
     }
 }
 
@@ -66,12 +67,9 @@ pub fn build_lossily<F: Flavor, A: Allocator + Copy>(
     }
 }
 
-/// Writes the strict reading of a few bytes, one character after another.
+/// Writes the strict reading of a few bytes to zeros, one character after another.
 #[inline(never)]
-fn write_in_place<F: Flavor, A: Allocator + Copy>(
-    bytes: &[u8],
-    empty: Vec<u8, A>,
-) -> Option<Vec<u8, A>>
+fn write_few<F: Flavor, A: Allocator + Copy>(bytes: &[u8], empty: Vec<u8, A>) -> Option<Vec<u8, A>>
     requires { (empty.items ≡ []) × (length bytes.now ≤ vec_capacity empty) }
     ensures { WritesStrictly F.flavor bytes.now empty result }
 {
@@ -85,9 +83,9 @@ fn write_in_place<F: Flavor, A: Allocator + Copy>(
     Some(text)
 }
 
-/// Writes the strict reading of more bytes by a way that fits them, as to a caller's slice.
+/// Writes the strict reading of more bytes to zeros, by a way that fits them.
 #[inline(always)]
-fn put_in_place<F: Flavor, A: Allocator + Copy>(
+fn write_more<F: Flavor, A: Allocator + Copy>(
     way: Way,
     bytes: &[u8],
     empty: Vec<u8, A>,
@@ -107,8 +105,8 @@ fn put_in_place<F: Flavor, A: Allocator + Copy>(
     }
 }
 
-/// Appends the text of the bytes chunk by chunk. The first is joined if it can be and `joins_first`
-/// holds.
+/// Appends the text of the bytes chunk by chunk. `joins_first` tells whether the first of them is
+/// joined if it can be.
 #[inline(never)]
 fn append_chunks<F: Flavor, A: Allocator + Copy>(
     strictness: Strictness,
@@ -146,7 +144,8 @@ fn append_chunks<F: Flavor, A: Allocator + Copy>(
     Some(text)
 }
 
-/// Writes bytes behind the others of a vector, in place of zeros. Each is one call.
+/// Appends zeros to a vector with enough capacity, and then writes bytes in their place. Each of both
+/// is compiled to one call.
 #[inline(always)]
 fn put_behind<A: Allocator + Copy>(bytes: &[u8], out: &mut Vec<u8, A>)
     requires { vec_len out.old + length bytes.now ≤ vec_capacity out.old }

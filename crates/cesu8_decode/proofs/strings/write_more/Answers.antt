@@ -6,7 +6,7 @@ use Rattle.cesu8_text.proofs.encoding.Lengths.{length_bounds}
 use Rattle.cesu8_decode.proofs.chunks.ReadChunks.{strict_chunk}
 use Rattle.cesu8_decode.proofs.chunks.SliceReadings.{has_none}
 use Rattle.cesu8_decode.proofs.chunks.Strings.{front}
-use Rattle.cesu8_decode.proofs.strings.put_in_place.Goals as goal
+use Rattle.cesu8_decode.proofs.strings.write_more.Goals as goal
 
 pub returns-in-Ok : goal.returns-in-Ok
 returns-in-Ok g c =
