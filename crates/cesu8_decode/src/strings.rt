@@ -39,7 +39,7 @@ pub fn write_strictly<F: Flavor, A: Allocator + Copy>(
 {
     match way_of::<F>(Strictness::Strict, bytes) {
         Way::Refused => None,
-        Way::FewCharacters | Way::Characters => write_in_place::<F, A>(bytes, empty),
+        Way::FewCharacters | Way::Characters => write_few::<F, A>(bytes, empty),
         _ => append_strictly::<F, A>(bytes, empty),
     }
 }
@@ -64,7 +64,7 @@ pub fn build_lossily<F: Flavor, A: Allocator + Copy>(
 
 /// Writes the strict reading of a few bytes, one character after another.
 #[inline(never)]
-fn write_in_place<F: Flavor, A: Allocator + Copy>(
+fn write_few<F: Flavor, A: Allocator + Copy>(
     bytes: &[u8],
     empty: Vec<u8, A>,
 ) -> Option<Vec<u8, A>>

@@ -3,7 +3,7 @@ use Rattle.cesu8_bytes.specs.TextChunks.{IsChunk}
 use Rattle.cesu8_bytes.specs.declared.options.Strictness.TheVariants.{Strict}
 use Rattle.cesu8_decode.proofs.chunks.ReadChunks.{all_chunk, none_if_refused}
 use Rattle.cesu8_decode.proofs.chunks.Strings.{cut}
-use Rattle.cesu8_decode.proofs.strings.write_in_place.Goals as goal
+use Rattle.cesu8_decode.proofs.strings.write_few.Goals as goal
 
 pub returns-then-decoded : goal.returns-then-decoded
 returns-then-decoded g c = record {
