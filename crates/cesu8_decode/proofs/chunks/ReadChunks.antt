@@ -1,5 +1,5 @@
 -- Text that is read a chunk at a time.
-use Rattle.std.proofs.Common.{◌≡◌, ℕ, ◌+◌, ◌≤◌, List, [], ◌∷◌, ◌++◌, refl, sym, ap, ◌∙◌, arith, length, append-nil, length-append, true, false, Bool, subst, drop, append_assoc, length-drop}
+use Rattle.std.proofs.Common.{◌≡◌, ℕ, ◌+◌, ◌<◌, ◌≤◌, List, ⊎_elim, [], ◌∷◌, ◌++◌, refl, sym, ap, ◌∙◌, arith, length, append-nil, length-append, true, false, Bool, subst, drop, append_assoc, length-drop}
 use Rattle.cesu8_text.specs.Text.{utf8}
 use Rattle.cesu8_text.specs.Encoding.{Flavor, encoding}
 use Rattle.cesu8_text.specs.Reading.{reading, lossy_length, IsStrictReading, HasNoStrictReading}
@@ -9,7 +9,8 @@ use Rattle.cesu8_bytes.specs.declared.options.Strictness.{Strictness}
 use Rattle.cesu8_text.proofs.encoding.Encodings.{encoding_nil, encoding_append}
 use Rattle.cesu8_text.proofs.reading.Steps.{reading_nil}
 use Rattle.std.specs.Str.{chars, IsUtf8}
-use Rattle.std.proofs.lemmas.Bool.{false≢true}
+use Rattle.std.proofs.lemmas.Bool.{false≢true, cases_lt}
+use Rattle.std.proofs.lemmas.List.{drop-drop}
 use Rattle.cesu8_bytes.specs.declared.options.Strictness.TheVariants.{Strict, Lossy}
 use Rattle.cesu8_text.proofs.StdUtf8.{IsUtf8_utf8, chars_utf8}
 use Rattle.cesu8_text.proofs.encoding.Lengths.{length_bounds}
@@ -186,4 +187,18 @@ strict_chunk f bytes text reads = record {
       ∙ sym (ap (λ cs. text ++ cs) (reading_nil f) ∙ append-nil text);
   strict_reading = λ _. sym (append-nil (encoding f text) ∙ reads.1);
   written = refl;
+}
+
+-- Where text was read strictly from the front, and then from what is left, the first of all bytes are read.
+pub first_after : (f : Flavor) (bytes front text whole : List ℕ) (read more : ℕ) (is_ill_formed : Bool) → read ≤ length bytes →
+    IsChunk f Strict bytes (drop read bytes) front → ReadsFirst f Strict (drop read bytes) more text is_ill_formed →
+    whole ≡ front ++ text → ReadsFirst f Strict bytes (read + more) whole is_ill_formed
+first_after f bytes front text whole read more is_ill_formed inside so_far next whole_is = record {
+  some = λ nonempty. ⊎_elim
+      (λ (none : read < 1). omega (arith, next.some (omega (arith, length-drop read bytes, nonempty, none))))
+      (λ (some : 1 ≤ read). omega (arith, some)) (cases_lt read 1);
+  within = omega (arith, length-drop read bytes, next.within, inside);
+  chunk = λ fine. rw (← drop-drop more read bytes) (more_read f Strict bytes (drop read bytes) _ [] front whole so_far
+      (chunk_appended f Strict (drop read bytes) _ text front whole (next.chunk fine) whole_is));
+  ill_formed = λ ill_formed. fault_after f Strict bytes (drop read bytes) [] front so_far refl (next.ill_formed ill_formed);
 }
