@@ -66,7 +66,8 @@ const LOOKED_AT: usize = 16;
 /// What the first character of more than a byte shows of bytes, if it begins in the first ones.
 #[derive(Drop)]
 pub enum FirstLead {
-    /// It is a surrogate without its pair, or C0 without a null character, so the bytes have no text.
+    /// It is a surrogate without its pair, C0 without a null character, or a byte of F0 or more, so the
+    /// bytes have no text.
     IllFormed,
     /// It has a lead byte that each encoding has that is not UTF-8.
     OfEncoding,
@@ -94,8 +95,9 @@ pub fn first_lead<F: Flavor>(bytes: &[u8]) -> FirstLead
     }
 }
 
-/// Returns whether bytes begin with a surrogate without its pair, or C0 without a null character. No
-/// branch tells which, since it would be guessed wrong where characters are mixed.
+/// Returns whether bytes begin with a surrogate without its pair, with C0 without a null character,
+/// or with a byte of F0 or more. No branch tells which, since it would be guessed wrong where
+/// characters are mixed.
 #[inline(always)]
 fn has_lone_lead<F: Flavor>(bytes: &[u8]) -> bool
     requires { PAIR_READ ≤ length bytes.now }
@@ -105,7 +107,7 @@ fn has_lone_lead<F: Flavor>(bytes: &[u8]) -> bool
     let (first, second) = (bytes[0], bytes[1]);
     let is_unpaired = (first == 0xED) & (second >= 0xA0) & !is_pair(bytes);
     let is_overlong = (first == 0xC0) & !is_null::<F>(first, second);
-    is_unpaired | is_overlong
+    is_unpaired | is_overlong | (first >= 0xF0)
 }
 
 /// Returns whether a byte is a character of one byte.

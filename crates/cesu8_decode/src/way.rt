@@ -5,7 +5,7 @@
 //! | at most 1,024, of which none is ED or C0 | any | `Refused` | as without |
 //! | at most 24 | at most 12 | `FewCharacters` | `FewCharacters` |
 //! | at most 96 | at most 6 | `Characters` | `Characters` |
-//! | 24 and more, whose first lead byte is that of a lone surrogate, or C0 of no null | any | `Refused` | as without |
+//! | 24 and more, whose first lead byte is that of a lone surrogate, C0 of no null, or F0 and more | any | `Refused` | as without |
 //! | at most 96 | more | `ShortWindow` | `ShortWindow` |
 //! | at most 256 | any | `MediumWindow` | `MediumWindow` |
 //! | more, and the first 64 show an ill-formed byte | any | `Refused` | as without |

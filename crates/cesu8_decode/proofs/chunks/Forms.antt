@@ -1,6 +1,6 @@
 -- Characters of more than one byte, by how they are encoded at the front of bytes.
 use Rattle.std.proofs.Common.{◌≡◌, ℕ, ◌<◌, ◌≤◌, ◌↔◌, Bool, IsTrue, not, ◌||◌, List, [], ◌∷◌, ◌++◌, refl, sym, ap, ◌∙◌, ⊎_elim, true, false, arith, length, take, drop, get_or, eqb, leb, ltb, ◌&&◌}
-use Rattle.std.proofs.lemmas.Bool.{and_from, and_parts, eqb-true, iff_false, le-leb, le-ltb, leb-true, lt-ltb, ltb-true, cases_eq, cases_lt, false≢true, not-true, or_cases, or_left, or_right}
+use Rattle.std.proofs.lemmas.Bool.{and_from, and_parts, eqb-true, iff_false, le-leb, le-ltb, leb-true, lt-ltb, ltb-true, ne_eqb, cases_eq, cases_lt, false≢true, not-true, or_cases, or_left, or_right}
 use Rattle.cesu8_text.specs.Encoding.{Flavor, Cesu8, Mutf8}
 use Rattle.cesu8_text.specs.Class.{is_null}
 use Rattle.cesu8_text.specs.Reading.{NoneBegins}
@@ -166,6 +166,18 @@ one_of_class Mutf8 null is b none =
     (λ some. and_from (leb 1 b) (ltb b 0x80) (le-leb 1 b (omega (arith, some))) (lt-ltb b 0x80 (low_of_class null b none)))
     (cases_eq b 0)
 
+high_no_null : (f : Flavor) (a b : ℕ) → 0xF0 ≤ a → null_at f a b ≡ false
+high_no_null Cesu8 a b high = refl
+high_no_null Mutf8 a b high = rw (ne_eqb a 0xC0 (λ same. omega (arith, high, same))) refl
+
+never_behind : (s : Bool) → (s && false) ≡ false
+never_behind true = refl
+never_behind false = refl
+
+high_not_one : (f : Flavor) (a : ℕ) → 0xF0 ≤ a → one_at f a ≡ false
+high_not_one Cesu8 a high = le-ltb a 0x80 (omega (arith, high))
+high_not_one Mutf8 a high = rw (le-ltb a 0x80 (omega (arith, high))) (never_behind (leb 1 a))
+
 -- A surrogate without its pair begins no character,
 lone_surrogate : (f : Flavor) (bytes : List ℕ) → get_or bytes 0 0 ≡ 0xED → 0xA0 ≤ get_or bytes 1 0 → (HasPair bytes → ⊥) →
     HasNoForm f bytes × (one_at f (get_or bytes 0 0) ≡ false)
@@ -192,14 +204,29 @@ lone_c0 f bytes first no_null = (
   rw first (not_one_c0 f),
 )
 
+-- nor does a byte of F0 or more.
+high_lead : (f : Flavor) (bytes : List ℕ) → 0xF0 ≤ get_or bytes 0 0 → HasNoForm f bytes × (one_at f (get_or bytes 0 0) ≡ false)
+high_lead f bytes high = (
+  record {
+    pair = λ pair. omega (arith, high, pair.lead);
+    null = high_no_null f (get_or bytes 0 0) (get_or bytes 1 0) high;
+    two = rw (le-ltb (get_or bytes 0 0) 0xE0 (omega (arith, high))) (never_behind (leb 0xC2 (get_or bytes 0 0)));
+    three = rw (le-ltb (get_or bytes 0 0) 0xF0 high) (never_behind (leb 0xE0 (get_or bytes 0 0)));
+  },
+  high_not_one f (get_or bytes 0 0) high,
+)
+
 -- So none begins where one of them is seen.
 pub lone_lead : (f : Flavor) (bytes : List ℕ) (pair null : Bool) → IsTrue pair ↔ HasPair bytes → null ≡ null_at f (get_or bytes 0 0) (get_or bytes 1 0) →
-    IsTrue (((eqb (get_or bytes 0 0) 0xED && leb 0xA0 (get_or bytes 1 0)) && not pair) || (eqb (get_or bytes 0 0) 0xC0 && not null)) →
+    IsTrue ((((eqb (get_or bytes 0 0) 0xED && leb 0xA0 (get_or bytes 1 0)) && not pair) || (eqb (get_or bytes 0 0) 0xC0 && not null)) || leb 0xF0 (get_or bytes 0 0)) →
     HasNoForm f bytes × (one_at f (get_or bytes 0 0) ≡ false)
 lone_lead f bytes pair null tells_pair tells_null shown =
     ⊎_elim
+    (λ low. ⊎_elim
     (λ surrogate. let parts = and_parts _ _ surrogate in
     let both = and_parts _ _ parts.0 in
     lone_surrogate f bytes (eqb-true _ _ both.0) (leb-true _ _ both.1) (iff_false tells_pair (not-true _ parts.1)))
     (λ c0. let parts = and_parts _ _ c0 in lone_c0 f bytes (eqb-true _ _ parts.0) (sym tells_null ∙ not-true _ parts.1))
+    (or_cases _ _ low))
+    (λ high. high_lead f bytes (leb-true _ _ high))
     (or_cases _ _ shown)
