@@ -141,10 +141,16 @@ pub fn write_well_formed<F: Flavor>(
         }
         return ill_formed_block(here, end);
     }
-    let parts = changed_parts::<F>(window, &kinds, at, count);
-    if highest_bits(parts.ill_formed) != 0 {
+    // First the test, so that what it needs is not kept meanwhile.
+    let ill_formed = ill_formed::<F>(window, &kinds, at, count);
+    if highest_bits(ill_formed) != 0 {
         return ill_formed_block(here, end);
     }
+    let parts = Parts {
+        bytes: changed_bytes::<F>(window, &kinds, at),
+        gone: gone(&kinds, count),
+        ill_formed,
+    };
     Block {
         end: store_whole(parts, out, end),
         is_ill_formed: false,

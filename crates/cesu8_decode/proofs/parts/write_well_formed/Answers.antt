@@ -69,25 +69,25 @@ returns-then-changes_none-clause-ill_formed g c some =
 pub returns-then-highest_bits-ne0-clause-ill_formed : goal.returns-then-highest_bits-ne0-clause-ill_formed
 returns-then-highest_bits-ne0-clause-ill_formed g c some =
     some_bit (is_ill_formed_at g.F.Flavor.flavor c.args.window.now) c.args.at c.args.count (32 - c.args.count)
-    (λ none. c.if-highest_bits-ne0.true (c.highest_bits.ensures ∙ ap mask_l c.changed_parts-parts.ensures.ill_formed_are ∙ none))
+    (λ none. c.if-highest_bits-ne0.true (c.highest_bits.ensures ∙ ap mask_l c.ill_formed-ill_formed.ensures ∙ none))
 
 pub returns-clause-bytes : goal.returns-clause-bytes
 returns-clause-bytes g c none =
-    let parts = c.changed_parts-parts.ensures in
+    let gone = c.gone.ensures g.F.Flavor.flavor c.args.window.now c.args.at (c.near-kinds.ensures g.F.Flavor.flavor c.args.window.now c.args.at c.requires.before c.starts-here.ensures) in
     c.store_whole.ensures.bytes ∙ ap (λ bs. take c.args.end c.args.out.now ++ bs)
-    (block_written g.F.Flavor.flavor c.args.window.now c.args.at c.args.count _ _ _ _ _ parts.gone_are parts.ill_formed_are parts.bytes_are)
+    (block_written g.F.Flavor.flavor c.args.window.now c.args.at c.args.count _ _ _ _ _ gone c.ill_formed-ill_formed.ensures (c.changed_bytes.ensures c.args.count c.requires.count))
 
 pub returns-clause-whole : goal.returns-clause-whole
 returns-clause-whole g c none =
     no_bit (is_ill_formed_at g.F.Flavor.flavor c.args.window.now) c.args.at c.args.count (32 - c.args.count)
-    (sym (c.highest_bits.ensures ∙ ap mask_l c.changed_parts-parts.ensures.ill_formed_are) ∙ c.if-highest_bits-ne0.false)
+    (sym (c.highest_bits.ensures ∙ ap mask_l c.ill_formed-ill_formed.ensures) ∙ c.if-highest_bits-ne0.false)
 
 pub returns-clause-end : goal.returns-clause-end
 returns-clause-end g c =
-    let parts = c.changed_parts-parts.ensures in
+    let gone = c.gone.ensures g.F.Flavor.flavor c.args.window.now c.args.at (c.near-kinds.ensures g.F.Flavor.flavor c.args.window.now c.args.at c.requires.before c.starts-here.ensures) in
     ends_within g.F.Flavor.flavor c.args.window.now c.args.out.now c.store_whole.new.out c.args.at c.args.count c.args.end c.store_whole.result
     (no_bit (is_ill_formed_at g.F.Flavor.flavor c.args.window.now) c.args.at c.args.count (32 - c.args.count)
-    (sym (c.highest_bits.ensures ∙ ap mask_l parts.ill_formed_are) ∙ c.if-highest_bits-ne0.false))
+    (sym (c.highest_bits.ensures ∙ ap mask_l c.ill_formed-ill_formed.ensures) ∙ c.if-highest_bits-ne0.false))
     (c.store_whole.ensures.bytes ∙ ap (λ bs. take c.args.end c.args.out.now ++ bs)
-    (block_written g.F.Flavor.flavor c.args.window.now c.args.at c.args.count _ _ _ _ _ parts.gone_are parts.ill_formed_are parts.bytes_are))
+    (block_written g.F.Flavor.flavor c.args.window.now c.args.at c.args.count _ _ _ _ _ gone c.ill_formed-ill_formed.ensures (c.changed_bytes.ensures c.args.count c.requires.count)))
     (omega (arith, c.requires.room)) (omega (arith, c.requires.room, c.store_whole.ensures.end, c.store_whole.ensures.len))
