@@ -38,9 +38,7 @@ part_of() {
     case $at/ in
         "$scratch"/rounds/*)
             at=${at#"$scratch/rounds/"}
-            at=${at%%/*}
-            # The tests that --quick proves are a part of their own.
-            [[ $at == *.tests ]] || echo "$at: edits"
+            echo "${at%%/*}: edits"
             ;;
         "$2"/crates/* | "$3"/rt-copy*/crates/*)
             at=${at##*/crates/}
@@ -66,6 +64,13 @@ read_seconds() {
     minutes=${system%m*} system=${system#*m} system=${system%.*}
     system=$((minutes * 60 + system))
     seconds=$((user + system))
+}
+
+# Notes the processor time that this shell and its children took, as that of a part: `note_seconds NAME`.
+note_seconds() {
+    times >"$scratch/part.$BASHPID"
+    read_seconds "$scratch/part.$BASHPID"
+    echo "$seconds $1" >>"$scratch/script_seconds"
 }
 
 # How many ticks the processors had, and how many of them other machines took, since this machine began.

@@ -10,7 +10,7 @@
 
 # The crates, each after those that it uses.
 listed_crates() {
-    sed -n 's/^\([a-z0-9_][a-z0-9_]*\).*:.*/\1/p' crates.txt
+    sed -n 's/^\([a-z0-9_]*\).*:.*/\1/p' crates.txt
 }
 
 # The crates that have edits, in that order.
@@ -47,7 +47,7 @@ try_crate() {
         [[ ! -e $scratch/proved/failed ]] || return
         sleep 1
     done
-    make_tree "$crate" "$crate"
+    make_tree "$crate"
     mkdir "$plan"
     touch "$plan/rounds" "$plan/bad"
     (cd "$from/crates/$crate" && awk -v to="$plan" -f "$from/.ci/rounds.awk" must-fail/*.edit)
@@ -58,20 +58,19 @@ try_crate() {
     rm -rf "$scratch/rounds/$crate"
 }
 
-# Whether what a crate uses is proved, and the crate itself where that is proved there: in the gate only a
-# library is, in --quick what it needs.
+# Whether what a crate uses is proved, and the crate itself where it is a library.
 is_ready() {
     local name
     for name in $(used_by "$1"); do
         [[ -e $scratch/proved/$name ]] || return 1
     done
-    [[ -e $scratch/proved/$1 ]] || { is_program "$1" && ! has "$1" "${needed[@]}"; }
+    [[ -e crates/$1/src/main.rt || -e $scratch/proved/$1 ]]
 }
 
 # Makes a tree in which a crate is checked over the proved libraries, with what was kept of its own proof:
-# `make_tree CRATE NAME`. Files of libraries get a second name in place of a copy, where they can.
+# `make_tree CRATE`. Files of libraries get a second name in place of a copy, where they can.
 make_tree() {
-    local tree=$scratch/rounds/$2 from=$scratch/scripts crate
+    local tree=$scratch/rounds/$1 from=$scratch/scripts crate
     mkdir -p "$tree"
     cp "$from/crates.txt" "$from/HANDLES" "$tree"
     for crate in "$from"/crates/*; do
