@@ -1,8 +1,3 @@
--- Text that is joined a chunk at a time.
+-- UTF-8 that is cut, and the words that surrogate pairs are found and written by.
 pub mod CutUtf8
-pub mod EncodedChunk
-pub mod Joining
-pub mod PackedNulls
-pub mod Unchanged
 pub mod PairWords
-pub mod JoinedText

@@ -9,7 +9,7 @@ use Rattle.cesu8_text.specs.Class.{IsChangedByte}
 use Rattle.cesu8_text.specs.Text.{IsScalarValue, utf8_of}
 use Rattle.cesu8_text.specs.Patterns.{EndsPair, IsPair}
 use Rattle.cesu8_bytes.specs.declared.TheConstants.{BLOCK}
-use Rattle.cesu8_bytes.specs.declared.joining.pairs.TheConstants.{PAIR}
+use Rattle.cesu8_bytes.specs.declared.pairs.TheConstants.{PAIR}
 
 -- A part of what is joined: a byte that stays, or a scalar value that is encoded otherwise than in
 -- UTF-8.

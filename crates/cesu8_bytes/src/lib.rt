@@ -1,5 +1,5 @@
 //! What the encoder and the decoder share: classes of bytes and the kernels that find them, the
-//! first looks at an input, runs, windows, and copies.
+//! first looks at an input, runs, surrogate pairs, packing, and copies.
 //!
 //! The names of this crate are no promise to users. `simd_cesu8` has the public calls.
 #![tactic(auto)]
@@ -9,15 +9,14 @@ pub mod continuation;
 pub mod first_looks;
 pub mod flavor;
 pub mod implementation;
-pub mod joining;
 pub mod lengths;
 pub mod options;
 pub mod order;
 pub mod packing;
 mod padded;
+pub mod pairs;
 pub mod runs;
 pub mod utf8;
-pub mod window;
 pub mod writers;
 
 /// How many bytes form a block, which one vector holds.

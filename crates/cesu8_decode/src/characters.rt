@@ -13,8 +13,8 @@ use super::refusal::is_refused;
 use super::windows::Decoded;
 use cesu8_bytes::flavor::Flavor;
 use cesu8_bytes::implementation::class::{Either, NonAscii};
-use cesu8_bytes::joining::{PAIR_READ, utf8_of_pair};
 use cesu8_bytes::options::Strictness;
+use cesu8_bytes::pairs::{PAIR_READ, utf8_of_pair};
 use cesu8_bytes::runs::copy_run;
 use cesu8_bytes::writers::put;
 

@@ -11,7 +11,7 @@ use cesu8_bytes::continuation::is_continuation;
 use cesu8_bytes::flavor::Flavor;
 use cesu8_bytes::implementation::class::{Either, NonAscii};
 use cesu8_bytes::implementation::short::copy_short;
-use cesu8_bytes::joining::{PAIR, PAIR_READ, is_pair};
+use cesu8_bytes::pairs::{PAIR, PAIR_READ, is_pair};
 use cesu8_bytes::runs::run_len;
 
 /// How a character of more than one byte is encoded.

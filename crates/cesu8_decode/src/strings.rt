@@ -64,10 +64,7 @@ pub fn build_lossily<F: Flavor, A: Allocator + Copy>(
 
 /// Writes the strict reading of a few bytes, one character after another.
 #[inline(never)]
-fn write_few<F: Flavor, A: Allocator + Copy>(
-    bytes: &[u8],
-    empty: Vec<u8, A>,
-) -> Option<Vec<u8, A>>
+fn write_few<F: Flavor, A: Allocator + Copy>(bytes: &[u8], empty: Vec<u8, A>) -> Option<Vec<u8, A>>
     requires { (empty.items ≡ []) × (length bytes.now ≤ vec_capacity empty) }
     ensures { WritesStrictly F.flavor bytes.now empty result }
 {

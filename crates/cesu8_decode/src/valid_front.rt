@@ -21,7 +21,7 @@ use cesu8_bytes::first_looks::contains_changed;
 use cesu8_bytes::flavor::Flavor;
 use cesu8_bytes::implementation::class::{AtLeast, Either, Equal, NonAscii};
 use cesu8_bytes::implementation::short::{adjoin, any_in_short};
-use cesu8_bytes::joining::PAIR_READ;
+use cesu8_bytes::pairs::PAIR_READ;
 use cesu8_bytes::runs::run_len;
 use cesu8_bytes::utf8::is_utf8;
 

@@ -12,7 +12,7 @@ ghost use Rattle.cesu8_encode.specs.Encoded.{WritesEncoding};
 use cesu8_bytes::flavor::Flavor;
 use cesu8_bytes::implementation::class::{AtLeastF0, Either, Null};
 use cesu8_bytes::implementation::short::any_in_short;
-use cesu8_bytes::joining::{PAIR, PAIR_UTF8};
+use cesu8_bytes::pairs::{PAIR, PAIR_UTF8};
 use cesu8_bytes::runs::copy_run;
 use cesu8_bytes::writers::put;
 

@@ -1,6 +1,6 @@
 use Rattle.std.proofs.Common.{◌≡◌, ◌∙◌, ◌+◌, ◌*◌, ◌<◌, ℕ, refl, get_or, arith}
 use Rattle.cesu8_bytes.proofs.chunks.PairWords.{joined_word_is}
-use Rattle.cesu8_bytes.proofs.joining.pairs.utf8_of_pair.Goals as goal
+use Rattle.cesu8_bytes.proofs.pairs.utf8_of_pair.Goals as goal
 
 pub returns : goal.returns
 returns c scalar w x y z digits four_is =

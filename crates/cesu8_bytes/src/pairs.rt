@@ -1,10 +1,8 @@
-//! Surrogate pairs, found and joined by words of eight bytes.
+//! Surrogate pairs, found and written in UTF-8 by words of eight bytes.
 
-ghost use Rattle.std.specs.Prelude.{◌≡◌, ◌+◌, ◌-◌, ◌*◌, ◌<◌, ◌≤◌, ◌↔◌, length, take, slice_index, IsTrue};
-ghost use Rattle.cesu8_text.specs.Encoding.{Flavor as AnyFlavor};
-ghost use Rattle.cesu8_bytes.specs.Joining.{IsJoinedAfter, KeepsJoined, NoneChanges, HasPair, AreJoinedDigits, second_third_fifth_sixth, word_of};
+ghost use Rattle.std.specs.Prelude.{◌≡◌, ◌+◌, ◌*◌, ◌≤◌, ◌↔◌, length, slice_index, IsTrue};
+ghost use Rattle.cesu8_bytes.specs.Joining.{HasPair, AreJoinedDigits, second_third_fifth_sixth, word_of};
 
-use super::buffer::{Buffer, MOST_JOINED, MUST_FOLLOW, Progress};
 use std::simd::prelude::*;
 
 /// How many bytes a surrogate pair has.
@@ -16,43 +14,8 @@ pub const PAIR_UTF8: usize = 4;
 /// How many bytes are read to find a surrogate pair: those of a word.
 pub const PAIR_READ: usize = 8;
 
-/// The first byte of a surrogate pair.
-pub const PAIR_LEAD: u8 = 0xED;
-
 /// The bits that all surrogate pairs share.
-pub const PAIR_BITS: u64 = 0x0000_80B0_ED80_A0ED;
-
-/// The marks of three surrogate pairs in a row.
-pub const PAIR_MARKS: u32 = 0x0000_1041;
-
-/// Joins surrogate pairs in a row. Nothing is copied between them, and the offset of the next one
-/// does not depend on what was read.
-#[inline(always)]
-pub fn join_pairs<'a>(start: Progress<'a>, stop: usize, buffer: &mut Buffer) -> Progress<'a>
-    requires stop { (stop < length start.rest.now) × (MUST_FOLLOW ≤ stop) }
-    requires room { start.written + length start.rest.now ≤ MOST_JOINED + stop }
-    ensures after { IsJoinedAfter start.entry.rest.now result.rest.now
-        start.entry.written result.written stop }
-    ensures joined { (f : AnyFlavor) → KeepsJoined f
-        start.entry.rest.now (take start.entry.written buffer.old)
-        result.rest.now (take result.written buffer.new) }
-    ensures unchanged { (f : AnyFlavor) → NoneChanges f
-        (length start.entry.rest.now - length result.rest.now) start.entry.rest.now }
-{
-    let bytes = start.rest;
-    let mut read = 0;
-    let mut written = start.written;
-    while bytes.len() - read > stop && is_pair(&bytes[read..]) {
-        let four = utf8_of_pair(&bytes[read..]);
-        buffer[written..written + PAIR_UTF8].copy_from_slice(&four);
-        read += PAIR;
-        written += PAIR_UTF8;
-    }
-    Progress {
-        rest: &bytes[read..],
-        written,
-    }
-}
+const PAIR_BITS: u64 = 0x0000_80B0_ED80_A0ED;
 
 /// Returns whether a surrogate pair begins the bytes.
 #[inline(always)]
@@ -66,7 +29,7 @@ pub fn is_pair(bytes: &[u8]) -> bool
 /// Returns the bits that show whether a surrogate pair begins the bytes. If it does, they are
 /// `PAIR_BITS`.
 #[inline(always)]
-pub fn pair_bits(bytes: &[u8]) -> u64
+fn pair_bits(bytes: &[u8]) -> u64
     requires { PAIR_READ ≤ length bytes.now }
     ensures { result ≡ PAIR_BITS ↔ HasPair bytes.now }
 {

@@ -1,6 +1,6 @@
 use Rattle.std.proofs.Common.{arith}
 use Rattle.std.proofs.lemmas.List.{get_or-take}
-use Rattle.cesu8_bytes.proofs.joining.pairs.first_word.Goals as goal
+use Rattle.cesu8_bytes.proofs.pairs.first_word.Goals as goal
 
 pub returns : goal.returns
 returns c = omega (

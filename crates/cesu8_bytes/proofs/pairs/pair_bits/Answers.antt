@@ -1,6 +1,6 @@
 use Rattle.std.proofs.Common.{◌∙◌, ◌+◌, ◌*◌, ◌<◌, ℕ, ap, sym, get_or, bit_and, arith}
 use Rattle.cesu8_bytes.proofs.chunks.PairWords.{word_is_pair, pair_is_word}
-use Rattle.cesu8_bytes.proofs.joining.pairs.pair_bits.Goals as goal
+use Rattle.cesu8_bytes.proofs.pairs.pair_bits.Goals as goal
 
 pub returns : goal.returns
 returns c =
