@@ -161,12 +161,16 @@ look_at_form() {
     return 1
 }
 
-# Proves a crate that differs, for what stands above it and for its edits.
+# Proves a crate that differs, for what stands above it and for its edits. What comes before it in `needed`
+# is proved then too.
 prove_crate() {
     local verb=lib name
     [[ ! -e crates/$1/src/main.rt ]] || verb=check
     run_in "scripts/crates/$1" rt "$verb" || return
-    for name in "$1" $(used_by "$1"); do touch "$scratch/proved/$name"; done
+    for name in "${needed[@]}"; do
+        touch "$scratch/proved/$name"
+        [[ $name != "$1" ]] || return 0
+    done
 }
 
 # Links the program, and compares what it writes with the file beside its sources.
