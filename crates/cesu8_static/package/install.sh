@@ -83,10 +83,9 @@ if [ -d "$to/" ] && [ "$(cd "$to/" && pwd -P)" = "$here" ]; then
 fi
 cd "$here"
 
-# Notes a file that was installed, and prints its path: `note PATH`, below PREFIX.
+# Notes a file that was installed: `note PATH`, below PREFIX.
 installed=
 note() {
-    printf '%s\n' "$to/$1"
     installed="$installed$1
 "
 }
@@ -140,3 +139,6 @@ if [ -z "$root" ]; then
     { cat "$to/$list" 2>/dev/null || :; printf '%s' "$installed"; } | sort -u >"$to/$list.new"
     mv "$to/$list.new" "$to/$list"
 fi
+
+# Whoever reads only the first lines, as head does, ends nothing but this.
+printf '%s' "$installed" | while IFS= read -r path; do printf '%s\n' "$to/$path"; done

@@ -32,7 +32,6 @@ list=$(cat "$here/INSTALLED")
 folders=
 while IFS= read -r path; do
     rm -f "$prefix/$path"
-    printf '%s\n' "$prefix/$path"
     case $path in
         */cesu8/*)
             folders="${path%/*}
@@ -48,3 +47,6 @@ while IFS= read -r folder; do
 done <<FOLDERS
 $folders
 FOLDERS
+
+# Whoever reads only the first lines, as head does, ends nothing but this.
+printf '%s\n' "$list" | while IFS= read -r path; do printf '%s\n' "$prefix/$path"; done
