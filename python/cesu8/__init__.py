@@ -154,14 +154,16 @@ def _bytes(data: Data) -> bytes:
 def _codec(encoding: Encoding) -> codecs.CodecInfo:
     """What Python's codecs registry wants to know of an encoding."""
 
-    # Functions are called in less time than methods.
+    # These make no other call in Python where there is no error, since it takes as long as theirs.
     def encoded(input: str, errors: str = "strict") -> tuple[bytes, int]:
-        return encoding.encode(input, errors), len(input)
+        data = _native.encode(encoding.is_mutf8, input)
+        return encoding.encode(input, errors) if data is None else data, len(input)
 
     def decoded(input: Data, errors: str = "strict") -> tuple[str, int]:
         # Python's own `decode` hands over a view.
         data = input.tobytes() if type(input) is memoryview else _bytes(input)
-        return encoding.decode(data, errors), len(data)
+        text = _native.decode(encoding.is_mutf8, False, errors == "replace", data)
+        return encoding.decode(data, errors) if text is None else text, len(data)
 
     class Codec(codecs.Codec):
         encode = staticmethod(encoded)

@@ -42,14 +42,14 @@ class Encoding:
 
     def __init__(self, name: str, is_mutf8: bool, null: bytes) -> None:
         self.name = name
-        self._is_mutf8 = is_mutf8
+        self.is_mutf8 = is_mutf8
         self._lead = re.compile(rb"[\x01-\x7F\xC2-\xEF]|" + null[:1])
         cut_forms = _CUT_FORMS + (rb"|" + null[:1] if len(null) > 1 else b"")
         self._cut = re.compile(rb"(?:" + cut_forms + rb")\Z")
 
     def encode(self, text: str, errors: str = "strict") -> bytes:
         """The encoding of a text."""
-        encoded = _native.encode(self._is_mutf8, text)
+        encoded = _native.encode(self.is_mutf8, text)
         return self.encode_by_handler(text, errors) if encoded is None else encoded
 
     def encode_by_handler(self, text: str, errors: str) -> bytes:
@@ -67,7 +67,7 @@ class Encoding:
             replacement, place = _handled(handler(error), (str, bytes), error)
             place = _within(place, 0, len(text))
             if isinstance(replacement, str):
-                replacement = _native.encode(self._is_mutf8, replacement)
+                replacement = _native.encode(self.is_mutf8, replacement)
                 if replacement is None:
                     raise error
             parts.append(replacement)
@@ -78,14 +78,14 @@ class Encoding:
     def decode(self, data: bytes, errors: str = "strict", lenient: bool = False) -> str:
         """The text of an encoding; with `lenient`, of what is UTF-8 as a whole or else the
         encoding."""
-        text = _native.decode(self._is_mutf8, lenient, errors == "replace", data)
+        text = _native.decode(self.is_mutf8, lenient, errors == "replace", data)
         if text is None:
             return self.decode_by_handler(data, 0, len(data), len(data), errors)[0]
         return text
 
     def decoded_len(self, data: bytes) -> Optional[int]:
         """The length in UTF-8 of the text of an encoding, or None where the bytes are none."""
-        return _native.decoded_len(self._is_mutf8, data)
+        return _native.decoded_len(self.is_mutf8, data)
 
     def decode_front(self, data: bytes, errors: str, final: bool) -> tuple[str, int]:
         """The text of the input without a cut character at its end, and how many bytes that
@@ -96,7 +96,7 @@ class Encoding:
         if cut is None:
             return self.decode(data, errors), len(data)
         is_lossy = errors == "replace"
-        text = _native.decode(self._is_mutf8, False, is_lossy, data, 0, cut.start())
+        text = _native.decode(self.is_mutf8, False, is_lossy, data, 0, cut.start())
         if text is None:
             return self.decode_by_handler(data, 0, cut.start(), len(data), errors)
         return text, cut.start()
@@ -113,10 +113,10 @@ class Encoding:
         damaged = behind = 0
         while place < stop:
             if not damaged <= place < behind:
-                damaged, behind = _native.damage(self._is_mutf8, data, place, stop)
+                damaged, behind = _native.damage(self.is_mutf8, data, place, stop)
                 if place < damaged:
                     parts.append(
-                        _native.decode(self._is_mutf8, False, False, data, place, damaged)
+                        _native.decode(self.is_mutf8, False, False, data, place, damaged)
                     )
                     place = damaged
                     continue
