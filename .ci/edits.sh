@@ -58,11 +58,12 @@ try_crate() {
     rm -rf "$scratch/rounds/$crate"
 }
 
-# Whether what a crate uses is proved, and the crate itself where it is a library.
+# Whether what a crate uses is proved, and the crate itself where it is a library. What has no folder here
+# is the kit's.
 is_ready() {
     local name
     for name in $(used_by "$1"); do
-        [[ -e $scratch/proved/$name ]] || return 1
+        [[ -e $scratch/proved/$name || ! -d crates/$name ]] || return 1
     done
     [[ -e crates/$1/src/main.rt || -e $scratch/proved/$1 ]]
 }

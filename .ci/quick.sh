@@ -90,25 +90,30 @@ edits_to_try() {
     done
 }
 
+# Whether this clone has a proof of a crate as it stands. `rt` knows that by the texts; this goes by times.
+is_kept() {
+    local at=crates/$1
+    ! is_changed "$1" && [[ -e $at/out/rlib/stamp &&
+        -z $(find "$at"/{src,specs,proofs} -newer "$at/out/rlib/stamp") ]]
+}
+
 # Says what there is to do, for how long, and what is left: `announce REV`. The times are of a processor at
-# 2.5 GHz. `rt` knows by the texts what is proved; this goes by times.
+# 2.5 GHz.
 announce() {
-    local seconds=0 again=() new=() crate at lines tests lanes=$((processors < 3 ? processors : 3))
+    local seconds=0 again=() new=() crate lines tests lanes=$((processors < 3 ? processors : 3))
     for crate in "${needed[@]}"; do
-        at=crates/$crate
-        if [[ ! -d $at/out/incremental ]]; then
+        if [[ ! -d crates/$crate/out/incremental ]]; then
             new+=("$crate")
-            lines=$(find "$at/src" -name '*.rt' -exec cat {} + | wc -l)
-            seconds=$((seconds + 20 + lines / 4))
-        elif is_changed "$crate" || [[ ! -e $at/out/rlib/stamp ||
-            -n $(find "$at"/{src,specs,proofs} -newer "$at/out/rlib/stamp") ]]; then
+            lines=$(find "crates/$crate/src" -name '*.rt' -exec cat {} + | wc -l)
+            seconds=$((seconds + 20 + lines / 5))
+        elif ! is_kept "$crate"; then
             again+=("$crate")
             seconds=$((seconds + 30))
         fi
     done
     for crate in "${tested[@]}"; do
         tests=$(grep -rhF '#[test]' "crates/$crate/src" | wc -l)
-        seconds=$((seconds + 20 + 8 * tests))
+        seconds=$((seconds + 20 + 6 * tests))
     done
     seconds=$((seconds + 15 * $(edits_to_try | wc -l)))
     ! is_needed cesu8_cli || seconds=$((seconds + 45))
@@ -121,24 +126,38 @@ announce() {
     [[ " ${new[*]} " != *' simd_cesu8 '* ]] || echo 'where rt run was done once in crates/cesu8_cli it takes less'
 }
 
-# Makes the two copies.
-make_copies() {
-    local crate part
+# Makes the copy in which the tests run.
+copy_for_tests() {
     mkdir "$scratch/tests"
     tar -c --exclude=.git --exclude=out . | tar -x -C "$scratch/tests"
+}
+
+# Makes the copy in which crates are proved, from that one, with what this clone has of their proofs.
+copy_for_proofs() {
+    local crate
     cp -r "$scratch/tests" "$scratch/scripts"
     rm -rf "$scratch/scripts"/crates/*/must-fail
     edits_to_try | xargs -r cp --parents -t "$scratch/scripts"
     for crate in $(listed_crates); do
-        if ! is_needed "$crate"; then
+        if is_needed "$crate"; then
+            copy_proof "$crate"
+        else
             rm -rf "$scratch/scripts/crates/$crate"
             sed -i "/^$crate\b/d" "$scratch/scripts/crates.txt"
-            continue
         fi
-        for part in rlib incremental; do
-            [[ ! -d crates/$crate/out/$part ]] || cp -r --parents "crates/$crate/out/$part" "$scratch/scripts"
-        done
     done
+}
+
+# Copies what this clone has of a crate's proof: the library, whose files get a second name where they can,
+# since `rt` replaces them and changes none, and where there is something to prove what that begins with.
+copy_proof() {
+    local out=crates/$1/out
+    if [[ -d $out/rlib ]]; then
+        cp -rl --parents "$out/rlib" "$scratch/scripts" 2>/dev/null || cp -r --parents "$out/rlib" "$scratch/scripts"
+    fi
+    if [[ -d $out/incremental ]] && ! is_kept "$1"; then
+        cp -r --parents "$out/incremental" "$scratch/scripts"
+    fi
 }
 
 # Runs a command in a folder below `scratch`, and prints what it said where it fails, but for what is well:
@@ -186,10 +205,16 @@ try_tests() {
     note_seconds "tests of $1"
 }
 
+# Tries the edits, and notes their time.
+try_changed_edits() {
+    try_edits 1 "${differing[@]}"
+    note_seconds edits
+}
+
 # Tries the edits, and beside them the tests of two crates at once.
 try_edits_and_tests() {
     local crate
-    try_edits 1 "${differing[@]}" &
+    try_changed_edits &
     for crate in "${tested[@]}"; do
         while (($(jobs -rp | wc -l) > 2)); do wait -n || :; done
         try_tests "$crate" &
@@ -224,8 +249,9 @@ run_quick() {
         end
     fi
     announce "$1"
-    make_copies
+    copy_for_tests
     for crate in "${differing[@]}"; do run_or_end "$crate: form" look_at_form "$crate"; done
+    copy_for_proofs
     start_tries try_edits_and_tests
     for crate in "${differing[@]}"; do run_or_end "$crate: proof" prove_crate "$crate"; done
     ((${#above[@]} == 0)) || run_or_end 'proofs above' run_in scripts rt all check --jobs "$processors"
