@@ -21,9 +21,12 @@ crates_with_edits() {
     done
 }
 
-# What a crate uses: `used_by CRATE`.
+# What a crate uses of this repository. The kit's crates have no folder here: `used_by CRATE`.
 used_by() {
-    sed -n "s/^$1\\b.*://p" crates.txt
+    local name
+    for name in $(sed -n "s/^$1\\b.*://p" crates.txt); do
+        [[ ! -d crates/$name ]] || echo "$name"
+    done
 }
 
 # Tries the edits of crates, so many crates at once, and prints for each edit a line `edit CRATE/NAME:
@@ -58,12 +61,11 @@ try_crate() {
     rm -rf "$scratch/rounds/$crate"
 }
 
-# Whether what a crate uses is proved, and the crate itself where it is a library. What has no folder here
-# is the kit's.
+# Whether what a crate uses is proved, and the crate itself where it is a library.
 is_ready() {
     local name
     for name in $(used_by "$1"); do
-        [[ -e $scratch/proved/$name || ! -d crates/$name ]] || return 1
+        [[ -e $scratch/proved/$name ]] || return 1
     done
     [[ -e crates/$1/src/main.rt || -e $scratch/proved/$1 ]]
 }

@@ -35,10 +35,10 @@ is_above() {
     return 1
 }
 
-# Adds a crate to `needed`, after those that it uses. Those without a folder are the kit's.
+# Adds a crate to `needed`, after those that it uses.
 need() {
     local used
-    ! is_needed "$1" && [[ -d crates/$1 ]] || return 0
+    ! is_needed "$1" || return 0
     for used in $(used_by "$1"); do need "$used"; done
     needed+=("$1")
 }
