@@ -7,3 +7,4 @@ pub mod Forms
 pub mod SliceReadings
 pub mod Strings
 pub mod ValidFronts
+pub mod FollowingBytes

@@ -12,5 +12,7 @@ pub mod WholeBlocks
 pub mod Shuffles
 pub mod WeightLanes
 pub mod WeightRest
+pub mod FollowingLanes
+pub mod FollowingBlocks
 pub mod DecodedWindows
 pub mod BlocksInPlace

@@ -6,3 +6,4 @@ pub mod Decoding
 pub mod PutReadings
 pub mod Ways
 pub mod ValidFront
+pub mod Following

@@ -1,12 +1,12 @@
-//! Finds ill-formed bytes before anything is written. No two encoded characters overlap, so they
-//! cover all bytes exactly if their widths sum up to the length of these.
+//! Finds ill-formed bytes before anything is written.
 
 ghost use Rattle.std.specs.Prelude.{◌≡◌, ◌<◌, length, refl, IsTrue, false};
 ghost use Rattle.std.proofs.Common.{arith};
 ghost use Rattle.cesu8_text.specs.Reading.{IsStrictReading, HasNoStrictReading, reading};
 ghost use Rattle.cesu8_decode.specs.DecodedOffsets.{covered};
 
-use super::sums::{BLOCKS, Weight, Weights, sum_first};
+use super::sums::{Weight, Weights, sum_first};
+use super::valid_front::valid_up_to;
 use cesu8_bytes::flavor::Flavor;
 
 /// How many blocks are looked at first, since most input that is no encoding is ill-formed early.
@@ -14,27 +14,18 @@ const PREFIX_BLOCKS: usize = 2;
 
 /// Returns whether some byte is in no encoded character. It stops soon after the first ill-formed
 /// byte.
-#[inline(never)]
+#[inline(always)]
 pub fn is_ill_formed<F: Flavor>(bytes: &[u8]) -> bool
     ensures ill_formed { IsTrue result → HasNoStrictReading F.flavor bytes.now }
     ensures whole { result ≡ false → IsStrictReading F.flavor bytes.now
         (reading F.flavor bytes.now) }
 {
-    let mut covered = 0;
-    let mut rest = bytes;
-    while !rest.is_empty() {
-        let (sum, behind) = sum_first::<F, Widths>(rest, BLOCKS);
-        covered += sum;
-        if covered < bytes.len() - behind.len() {
-            return true;
-        }
-        rest = behind;
-    }
-    false
+    valid_up_to::<F>(bytes) < bytes.len()
 }
 
-/// Returns whether the first bytes show one that is in no encoded character. A character that begins
-/// among them and ends behind them can hide as many.
+/// Returns whether the first bytes show one that is in no encoded character. No two encoded
+/// characters overlap, so they cover as many bytes as their widths sum up to. A character that begins
+/// among the first and ends behind them can hide as many.
 #[inline(never)]
 pub fn is_ill_formed_in_prefix<F: Flavor>(bytes: &[u8]) -> bool
     requires { 0 < length bytes.now }

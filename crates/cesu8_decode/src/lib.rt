@@ -4,7 +4,8 @@
 //! So the nearby bytes decide what becomes of a byte in the lossy reading: it stays, changes, goes,
 //! or is ill-formed and replaced. `offsets` and `parts` find this for 32 bytes at a time, with no
 //! branch on a single byte. In strict reading no byte may be ill-formed. `lengths` adds up the
-//! length of the text.
+//! length of the text. `following` tests whole blocks of encoded characters without writing, for
+//! `valid_front` and `ill_formed`.
 //!
 //! `way` decides which way bytes go. A few are read one character after another. More are read in one
 //! pass by `in_place` if all are well-formed, as strict reading wants it, and else by `windows`; of
@@ -21,6 +22,7 @@ ghost use Rattle.cesu8_decode.specs.Refusals.{OnNoText};
 mod characters;
 mod chunk;
 pub mod copy_or_write;
+mod following;
 mod forms;
 mod ill_formed;
 mod in_place;

@@ -1,5 +1,4 @@
-//! How many bytes are whole encoded characters, where sums over blocks begin and end, beside the plain
-//! decoder.
+//! How many bytes are whole encoded characters, where blocks begin and end, beside the plain decoder.
 
 use std::alloc::Global;
 use std::ops::Range;
@@ -19,17 +18,18 @@ fn expect_front(alloc: Global, bytes: &[u8]) -> Result<(), Difference> {
     Ok(())
 }
 
-/// Something at each of some places among many of these.
+/// Something at each of some places among these.
 fn expect_at(
     alloc: Global,
     fill: &[u8],
+    len: usize,
     places: Range<usize>,
     put: &[u8],
 ) -> Result<(), Difference> {
     for place in places {
         let input = Input {
             fill,
-            len: 9_000,
+            len,
             put,
             place,
         };
@@ -38,32 +38,35 @@ fn expect_at(
     Ok(())
 }
 
-/// One byte, and as many as the next character can reach over the end of a sum.
-static DAMAGE: [&[u8]; 3] = [b"\xFF", b"\xFF\xFF\xFF\xFF", b"\xED\xA0\xBD\xED\xB2"];
+/// A byte, as many as the next character can reach over the end of a block, half of a surrogate pair,
+/// and a pair whose last byte is missing.
+static DAMAGE: [&[u8]; 4] = [
+    b"\xFF",
+    b"\xFF\xFF\xFF\xFF",
+    b"\xED\xA0\xBD",
+    b"\xED\xA0\xBD\xED\xB2",
+];
 
+/// The first block has 32 bytes, each step behind it 64.
 #[test]
-fn finds_damage_about_the_ends_of_sums(rt: HostRuntime) -> Result<(), Fail> {
+fn finds_damage_about_the_ends_of_blocks(rt: HostRuntime) -> Result<(), Fail> {
     for put in &DAMAGE {
-        for fill in [FILLS[3], FILLS[5]] {
-            for end in [64, 512, 576, 4_096, 4_608, 4_672, 8_192, 8_768] {
-                expect_at(rt.alloc(), fill, end - 12..end + 12, put)?;
+        for fill in &FILLS {
+            for end in [32, 64, 96, 160, 224] {
+                expect_at(rt.alloc(), fill, 300, end - 12..end + 12, put)?;
             }
         }
     }
     Ok(())
 }
 
-/// Among characters that do not change, where a part of them ends.
+/// Where the last block begins in the one before it.
 #[test]
-fn finds_damage_about_the_ends_of_parts(rt: HostRuntime) -> Result<(), Fail> {
-    for fill in &FILLS[..3] {
-        for end in [2_048, 2_112, 4_096, 4_160] {
-            for put in [
-                b"\xFF".as_slice(),
-                b"\xED\xA0\xBD\xED\xB2\x96",
-                b"\xED\xA0\xBD\xED\xB2\x96\xFF",
-            ] {
-                expect_at(rt.alloc(), fill, end - 8..end + 4, put)?;
+fn finds_damage_about_the_end(rt: HostRuntime) -> Result<(), Fail> {
+    for put in &DAMAGE {
+        for fill in &FILLS {
+            for len in 28..132 {
+                expect_at(rt.alloc(), fill, len, len - 7..len, put)?;
             }
         }
     }

@@ -122,11 +122,7 @@ whole_or_faulty f bytes =
 pub covered_fits : (f : Flavor) (bytes : List ℕ) → total_weight covered f bytes ≤ length bytes
 covered_fits f bytes = ⊎_elim (λ whole. omega (arith, whole.1)) (λ faulty. omega (arith, faulty.1)) (whole_or_faulty f bytes)
 
--- Where they cover all, the bytes are the encoding of their lossy reading,
-pub all_covered : (f : Flavor) (bytes : List ℕ) → length bytes ≤ total_weight covered f bytes → IsStrictReading f bytes (reading f bytes)
-all_covered f bytes all = ⊎_elim (λ whole. whole.0) (λ faulty. absurd (omega (arith, faulty.1))) (whole_or_faulty f bytes)
-
--- and else of no text.
+-- Where they cover fewer, they are the encoding of no text.
 pub fewer_covered : (f : Flavor) (bytes : List ℕ) → total_weight covered f bytes < length bytes → HasNoStrictReading f bytes
 fewer_covered f bytes fewer =
     ⊎_elim (λ whole. absurd (omega (arith, whole.1))) (λ faulty. fault_of_whole f bytes faulty.0) (whole_or_faulty f bytes)

@@ -112,24 +112,24 @@ null_test : (f : Flavor) (a b : ℕ) → f ≡ Mutf8 → a ≡ 0xC0 → b ≡ 0x
 null_test Cesu8 a b mutf8 lead last = absurd (cc)
 null_test Mutf8 a b mutf8 lead last = and_from (eqb a 0xC0) (eqb b 0x80) (eq-eqb a 0xC0 lead) (eq-eqb b 0x80 last)
 
-two_test : (a b : ℕ) → 0xC2 ≤ a → a < 0xE0 → 0x80 ≤ b → b < 0xC0 → two_at a b ≡ true
+pub two_test : (a b : ℕ) → 0xC2 ≤ a → a < 0xE0 → 0x80 ≤ b → b < 0xC0 → two_at a b ≡ true
 two_test a b low high first last =
     and_from (leb 0xC2 a) _ (le-leb 0xC2 a low) (and_from (ltb a 0xE0) (continues b) (lt-ltb a 0xE0 high) (is_continuation b first last))
 
-fits_test : (a b : ℕ) → (a ≡ 0xE0 → 0xA0 ≤ b) → (a ≡ 0xED → b < 0xA0) → fits_three a b ≡ true
+pub fits_test : (a b : ℕ) → (a ≡ 0xE0 → 0xA0 ≤ b) → (a ≡ 0xED → b < 0xA0) → fits_three a b ≡ true
 fits_test a b low high =
     ⊎_elim (λ e0. rw e0 (le-leb 0xA0 b (low e0)))
     (λ no_e0. ⊎_elim (λ ed. rw ed (lt-ltb b 0xA0 (high ed)))
     (λ no_ed. rw (ne_eqb a 0xE0 no_e0, ne_eqb a 0xED no_ed) refl) (cases_eq a 0xED)) (cases_eq a 0xE0)
 
-three_test : (a b d : ℕ) → 0xE0 ≤ a → a < 0xF0 → 0x80 ≤ b → b < 0xC0 → 0x80 ≤ d → d < 0xC0 → fits_three a b ≡ true →
+pub three_test : (a b d : ℕ) → 0xE0 ≤ a → a < 0xF0 → 0x80 ≤ b → b < 0xC0 → 0x80 ≤ d → d < 0xC0 → fits_three a b ≡ true →
     three_at a b d ≡ true
 three_test a b d low high b_low b_high d_low d_high fits =
     and_from (leb 0xE0 a) _ (le-leb 0xE0 a low) (and_from (ltb a 0xF0) _ (lt-ltb a 0xF0 high)
     (and_from (continues b) _ (is_continuation b b_low b_high)
     (and_from (continues d) (fits_three a b) (is_continuation d d_low d_high) fits)))
 
-pair_test : (a b d e g h : ℕ) → a ≡ 0xED → 0xA0 ≤ b → b < 0xB0 → 0x80 ≤ d → d < 0xC0 → e ≡ 0xED → 0xB0 ≤ g → g < 0xC0 →
+pub pair_test : (a b d e g h : ℕ) → a ≡ 0xED → 0xA0 ≤ b → b < 0xB0 → 0x80 ≤ d → d < 0xC0 → e ≡ 0xED → 0xB0 ≤ g → g < 0xC0 →
     0x80 ≤ h → h < 0xC0 → pair_at a b d e g h ≡ true
 pair_test a b d e g h lead b_low b_high d_low d_high second g_low g_high h_low h_high =
     and_from (eqb a 0xED) _ (eq-eqb a 0xED lead) (and_from (leb 0xA0 b) _ (le-leb 0xA0 b b_low)

@@ -1,22 +1,22 @@
-use Rattle.std.proofs.Common.{◌∙◌, sym, arith}
-use Rattle.std.proofs.lemmas.Bool.{eqb-true}
-use Rattle.cesu8_decode.proofs.by_offset.IllFormed.{covered_fits, all_covered, fewer_covered}
-use Rattle.cesu8_decode.proofs.by_offset.Weights.{no_weight}
-use Rattle.cesu8_decode.specs.DecodedOffsets.{covered}
+use Rattle.std.proofs.Common.{◌≡◌, ◌∙◌, ap, length, subst, sym, take, arith}
+use Rattle.std.proofs.Math.Seq.{take-length}
+use Rattle.std.proofs.lemmas.Bool.{ltb-true, ltb-false}
+use Rattle.cesu8_text.specs.Reading.{HasNoStrictReading, IsStrictReading, reading}
+use Rattle.cesu8_text.proofs.reading.EncodedTexts.{reading_encoding}
 use Rattle.cesu8_decode.proofs.ill_formed.is_ill_formed.Goals as goal
 
-pub overflow_add-covered : goal.overflow_add-covered
-overflow_add-covered g c = record { fits = omega (arith, c.sum_first-sum.ensures.sum, covered_fits g.F.Flavor.flavor c.args.bytes.now) }
-
--- No more bytes are covered from here on than there are.
-pub returns-then-covered-bytes-clause-ill_formed : goal.returns-then-covered-bytes-clause-ill_formed
-returns-then-covered-bytes-clause-ill_formed g c _ =
+pub returns-clause-ill_formed : goal.returns-clause-ill_formed
+returns-clause-ill_formed g c fewer =
     let f = g.F.Flavor.flavor in
-    fewer_covered f c.args.bytes.now (omega (arith, c.sum_first-sum.ensures.sum, covered_fits f c.sum_first-sum.result.1.now))
+    let bytes = c.args.bytes.now in
+    subst (HasNoStrictReading f) (take-length bytes) (c.valid_up_to.ensures.greatest (length bytes) (ltb-true _ _ fewer) (omega arith))
 
 pub returns-clause-whole : goal.returns-clause-whole
-returns-clause-whole g c _ =
+returns-clause-whole g c none =
     let f = g.F.Flavor.flavor in
-    let inv = c.loop-rest.invariant in
-    let none = eqb-true _ _ (sym c.is_empty.ensures ∙ c.loop-rest-test.false) in
-    all_covered f c.args.bytes.now (omega (arith, inv.sum, inv.fine, none, no_weight covered f c.loop-rest.rest.now none))
+    let bytes = c.args.bytes.now in
+    let front = c.valid_up_to.ensures in
+    let text = front.valid.0 in
+    let all : c.valid_up_to.result ≡ length bytes = omega (arith, front.within, ltb-false _ _ none) in
+    let reads = front.valid.1.1 ∙ ap (λ n. take n bytes) all ∙ take-length bytes in
+    subst (IsStrictReading f bytes) (sym (reading_encoding f text front.valid.1.0) ∙ ap (reading f) reads) (front.valid.1.0, reads)

@@ -1,0 +1,335 @@
+-- Bytes that may follow each other are those of whole encoded characters.
+use Rattle.std.proofs.Common.{◌≡◌, ℕ, zero, suc, ◌+◌, ◌<◌, ◌≤◌, ◌⊎◌, ⊎_elim, inl, inr, Bool, true, false, ◌&&◌, ◌||◌, not, cond, eqb, leb, ltb, List, [], ◌∷◌, ◌++◌, refl, sym, ap, ◌∙◌, subst, arith, length, take, drop, length-drop, true≢false, suc-add}
+use Rattle.std.proofs.Math.Seq.{take-length}
+use Rattle.std.proofs.lemmas.Bool.{and_from, and_parts, or_parts, and_right, eqb-true, leb-true, ltb-true, leb-false, ltb-false, le-leb, lt-leb, lt-ltb, le-ltb, ne_eqb, eq-eqb, eqb-false, cases_eq, cases_lt, cases_Bool}
+use Rattle.cesu8_text.specs.Class.{is_null}
+use Rattle.cesu8_text.specs.Encoding.{Flavor, Cesu8, Mutf8}
+use Rattle.cesu8_bytes.specs.Joining.{null_at}
+use Rattle.cesu8_decode.specs.DecodedOffsets.{continues, one_at, first_width}
+use Rattle.cesu8_decode.specs.Following.{shown, is_high_surrogate, wanted, follows, follows_at, after_fillers, FirstFollow, crosses, crosses_at}
+use Rattle.cesu8_decode.specs.ValidFront.{IsValidFront}
+use Rattle.cesu8_text.specs.Fronts.{HasStrictReading}
+use Rattle.cesu8_decode.proofs.by_offset.WidthTests.{continuation, one_found, null_found, two_found, three_found, pair_found, two_test, three_test, pair_test, fits_test}
+use Rattle.cesu8_decode.proofs.by_offset.FirstWidths.{width_fits}
+use Rattle.cesu8_decode.proofs.chunks.ValidFronts.{none_valid, character_valid, fronts_joined}
+
+-- ---- what two bytes show
+
+-- A number that no bytes have to show.
+abbrev is_unwanted : ℕ → Bool
+is_unwanted n = not (eqb n 0 || (eqb n 0x80 || eqb n 0x20))
+
+-- What byte b shows behind byte a, and what that says of them.
+data Shown (f : Flavor) (a b : ℕ) : ℕ → Type 0 where
+  begins : a < 0xC0 → continues b ≡ false → is_null f b ≡ false → Shown f a b 0
+  second : 0xC0 ≤ a → a < 0xF0 → continues b ≡ true → (a ≡ 0xC0 → null_at f 0xC0 b ≡ true) → ¬ (a ≡ 0xC1) →
+      (eqb a 0xE0 && ltb b 0xA0) ≡ false → (eqb a 0xED && leb 0xB0 b) ≡ false → Shown f a b 0
+  third : 0x80 ≤ a → a < 0xC0 → continues b ≡ true → Shown f a b 0x80
+  ends_pair : a ≡ 0xED → 0xB0 ≤ b → continues b ≡ true → Shown f a b 0x20
+  in_no_character : (n : ℕ) → is_unwanted n ≡ true → Shown f a b n
+
+by_tests : (f : Flavor) (a b : ℕ) (is_nul above continuing led ascii behind c0 long c1 overlong low : Bool) →
+    is_null f b ≡ is_nul → leb 0xF0 a ≡ above → continues b ≡ continuing → leb 0xC0 a ≡ led → ltb a 0x80 ≡ ascii → ltb a 0xC0 ≡ behind →
+    eqb a 0xC0 ≡ c0 → null_at f 0xC0 b ≡ long → eqb a 0xC1 ≡ c1 → (eqb a 0xE0 && ltb b 0xA0) ≡ overlong → (eqb a 0xED && leb 0xB0 b) ≡ low →
+    Shown f a b (cond is_nul 0xFF (cond above 0x40 (cond (not continuing) (cond led 0x01 0) (cond ascii 0x02 (cond behind 0x80
+    (cond c0 (cond long 0 0x10) (cond c1 0x08 (cond overlong 0x04 (cond low 0x20 0)))))))))
+by_tests f a b true above continuing led ascii behind c0 long c1 overlong low _ _ _ _ _ _ _ _ _ _ _ = in_no_character 0xFF refl
+by_tests f a b false true continuing led ascii behind c0 long c1 overlong low _ _ _ _ _ _ _ _ _ _ _ = in_no_character 0x40 refl
+by_tests f a b false false false true ascii behind c0 long c1 overlong low _ _ _ _ _ _ _ _ _ _ _ = in_no_character 0x01 refl
+by_tests f a b false false false false ascii behind c0 long c1 overlong low nul _ other led _ _ _ _ _ _ _ = begins (leb-false 0xC0 a led) other nul
+by_tests f a b false false true led true behind c0 long c1 overlong low _ _ _ _ _ _ _ _ _ _ _ = in_no_character 0x02 refl
+by_tests f a b false false true led false true c0 long c1 overlong low _ _ goes_on _ high low_enough _ _ _ _ _ =
+    third (ltb-false a 0x80 high) (ltb-true a 0xC0 low_enough) goes_on
+by_tests f a b false false true led false false true true c1 overlong low _ above goes_on _ _ behind same long _ not_overlong not_low =
+    let lead = eqb-true a 0xC0 same in
+    second (ltb-false a 0xC0 behind) (leb-false 0xF0 a above) goes_on (λ e. long) (λ e. absurd (omega (arith, e, lead)))
+    (rw (ne_eqb a 0xE0 (λ e. absurd (omega (arith, e, lead)))) refl) (rw (ne_eqb a 0xED (λ e. absurd (omega (arith, e, lead)))) refl)
+by_tests f a b false false true led false false true false c1 overlong low _ _ _ _ _ _ _ _ _ _ _ = in_no_character 0x10 refl
+by_tests f a b false false true led false false false long true overlong low _ _ _ _ _ _ _ _ _ _ _ = in_no_character 0x08 refl
+by_tests f a b false false true led false false false long false true low _ _ _ _ _ _ _ _ _ _ _ = in_no_character 0x04 refl
+by_tests f a b false false true led false false false long false false true _ _ goes_on _ _ _ _ _ _ _ ends =
+    let parts = and_parts (eqb a 0xED) (leb 0xB0 b) ends in
+    ends_pair (eqb-true a 0xED parts.0) (leb-true 0xB0 b parts.1) goes_on
+by_tests f a b false false true led false false false long false false false _ above goes_on _ _ behind no_c0 _ no_c1 overlong low =
+    second (ltb-false a 0xC0 behind) (leb-false 0xF0 a above) goes_on (λ e. absurd (eqb-false a 0xC0 no_c0 e)) (eqb-false a 0xC1 no_c1) overlong low
+
+what_is_shown : (f : Flavor) (a b : ℕ) → Shown f a b (shown f a b)
+unfolding shown
+what_is_shown f a b =
+    by_tests f a b (is_null f b) (leb 0xF0 a) (continues b) (leb 0xC0 a) (ltb a 0x80) (ltb a 0xC0) (eqb a 0xC0) (null_at f 0xC0 b) (eqb a 0xC1)
+    (eqb a 0xE0 && ltb b 0xA0) (eqb a 0xED && leb 0xB0 b) refl refl refl refl refl refl refl refl refl refl refl
+
+unwanted_is_not : (n m : ℕ) → is_unwanted n ≡ true → n ≡ m → is_unwanted m ≡ false → ⊥
+unwanted_is_not n m is same none = true≢false (sym is ∙ ap is_unwanted same ∙ none)
+
+-- Byte b begins a character behind byte a, which leads none.
+record Begins (f : Flavor) (a b : ℕ) : Type 0 where
+  behind : a < 0xC0
+  no_continuation : continues b ≡ false
+  no_null : is_null f b ≡ false
+
+-- Byte b is the second byte of a character that byte a leads, or of a high surrogate.
+record IsSecond (f : Flavor) (a b : ℕ) : Type 0 where
+  leads : 0xC0 ≤ a
+  fits : a < 0xF0
+  continuing : continues b ≡ true
+  null : a ≡ 0xC0 → null_at f 0xC0 b ≡ true
+  no_c1 : ¬ (a ≡ 0xC1)
+  no_overlong : (eqb a 0xE0 && ltb b 0xA0) ≡ false
+  no_low : (eqb a 0xED && leb 0xB0 b) ≡ false
+
+if_nothing : (f : Flavor) (a b n : ℕ) → Shown f a b n → n ≡ 0 → Begins f a b ⊎ IsSecond f a b
+if_nothing f a b n (begins behind other no_null) e = inl (record { behind = behind; no_continuation = other; no_null = no_null })
+if_nothing f a b n (second leads fits goes_on null no_c1 no_overlong no_low) e = inr (record {
+  leads = leads;
+  fits = fits;
+  continuing = goes_on;
+  null = null;
+  no_c1 = no_c1;
+  no_overlong = no_overlong;
+  no_low = no_low;
+})
+if_nothing f a b n (third _ _ _) e = absurd (omega (arith, e))
+if_nothing f a b n (ends_pair _ _ _) e = absurd (omega (arith, e))
+if_nothing f a b n (in_no_character m is) e = absurd (unwanted_is_not m 0 is e refl)
+
+if_third : (f : Flavor) (a b n : ℕ) → Shown f a b n → n ≡ 0x80 → (0x80 ≤ a) × (a < 0xC0) × (continues b ≡ true)
+if_third f a b n (begins _ _ _) e = absurd (omega (arith, e))
+if_third f a b n (second _ _ _ _ _ _ _) e = absurd (omega (arith, e))
+if_third f a b n (third low high goes_on) e = (low, high, goes_on)
+if_third f a b n (ends_pair _ _ _) e = absurd (omega (arith, e))
+if_third f a b n (in_no_character m is) e = absurd (unwanted_is_not m 0x80 is e refl)
+
+if_low : (f : Flavor) (a b n : ℕ) → Shown f a b n → n ≡ 0x20 → (a ≡ 0xED) × (0xB0 ≤ b) × (continues b ≡ true)
+if_low f a b n (begins _ _ _) e = absurd (omega (arith, e))
+if_low f a b n (second _ _ _ _ _ _ _) e = absurd (omega (arith, e))
+if_low f a b n (third _ _ _) e = absurd (omega (arith, e))
+if_low f a b n (ends_pair lead low goes_on) e = (lead, low, goes_on)
+if_low f a b n (in_no_character m is) e = absurd (unwanted_is_not m 0x20 is e refl)
+
+-- ---- what is wanted
+
+other_lead : (a b : ℕ) → ¬ (a ≡ 0xED) → is_high_surrogate a b ≡ false
+other_lead a b other = rw (ne_eqb a 0xED other) refl
+
+low_second : (a b : ℕ) → 0xB0 ≤ b → is_high_surrogate a b ≡ false
+low_second a b low = and_right (eqb a 0xED) _ (and_right (leb 0xA0 b) (ltb b 0xB0) (le-ltb b 0xB0 low))
+
+wants : (a b d : ℕ) (is_third is_low : Bool) → leb 0xE0 d ≡ is_third → is_high_surrogate a b ≡ is_low →
+    wanted a b d ≡ cond is_third 0x80 0 + cond is_low 0x20 0
+wants a b d is_third is_low e e' = rw (e, e') refl
+
+shown_is : (f : Flavor) (a b d e g n : ℕ) → follows f a b d e g ≡ true → wanted a b d ≡ n → shown f e g ≡ n
+shown_is f a b d e g n fits wants_n = eqb-true (shown f e g) (wanted a b d) fits ∙ wants_n
+
+-- No character crosses the boundary behind four bytes.
+record Ends (a b d e : ℕ) : Type 0 where
+  last : e < 0xC0
+  second_last : d < 0xE0
+  no_high : is_high_surrogate b d ≡ false
+  no_higher : is_high_surrogate a b ≡ false
+
+begins_or_second : (f : Flavor) (a b d e g : ℕ) → is_high_surrogate a b ≡ false → d < 0xE0 → follows f a b d e g ≡ true →
+    Begins f e g ⊎ IsSecond f e g
+begins_or_second f a b d e g no_high before fits =
+    if_nothing f e g (shown f e g) (what_is_shown f e g)
+    (shown_is f a b d e g 0 fits (wants a b d false false (lt-leb 0xE0 d before) no_high))
+
+is_third : (f : Flavor) (a b d e g : ℕ) → is_high_surrogate a b ≡ false → 0xE0 ≤ d → follows f a b d e g ≡ true → continues g ≡ true
+is_third f a b d e g no_high lead fits =
+    (if_third f e g (shown f e g) (what_is_shown f e g)
+    (shown_is f a b d e g 0x80 fits (wants a b d true false (le-leb 0xE0 d lead) no_high))).2
+
+is_low : (f : Flavor) (a b d e g : ℕ) → is_high_surrogate a b ≡ true → d < 0xE0 → follows f a b d e g ≡ true →
+    (e ≡ 0xED) × (0xB0 ≤ g) × (continues g ≡ true)
+is_low f a b d e g high before fits =
+    if_low f e g (shown f e g) (what_is_shown f e g)
+    (shown_is f a b d e g 0x20 fits (wants a b d false true (lt-leb 0xE0 d before) high))
+
+high_pair : (a b : ℕ) → a ≡ 0xED → 0xA0 ≤ b → b < 0xB0 → is_high_surrogate a b ≡ true
+high_pair a b lead low high =
+    and_from (eqb a 0xED) _ (eq-eqb a 0xED lead) (and_from (leb 0xA0 b) (ltb b 0xB0) (le-leb 0xA0 b low) (lt-ltb b 0xB0 high))
+
+no_overlong : (a b : ℕ) → (eqb a 0xE0 && ltb b 0xA0) ≡ false → a ≡ 0xE0 → 0xA0 ≤ b
+no_overlong a b t e = ltb-false b 0xA0 (rw e at t)
+
+no_surrogate : (a b : ℕ) → is_high_surrogate a b ≡ false → (eqb a 0xED && leb 0xB0 b) ≡ false → a ≡ 0xED → b < 0xA0
+no_surrogate a b no_high no_low e =
+    let below : b < 0xB0 = leb-false 0xB0 b (rw e at no_low) in
+    ⊎_elim (λ (low : b < 0xA0). low) (λ (high : 0xA0 ≤ b). absurd (true≢false (sym (high_pair a b e high below) ∙ no_high))) (cases_lt b 0xA0)
+
+one_of : (f : Flavor) (b : ℕ) → b < 0x80 → is_null f b ≡ false → one_at f b ≡ true
+one_of Cesu8 b low no_null = lt-ltb b 0x80 low
+one_of Mutf8 b low no_null =
+    and_from (leb 1 b) (ltb b 0x80) (le-leb 1 b (omega (arith, eqb-false b 0 no_null))) (lt-ltb b 0x80 low)
+
+led : (b : ℕ) → 0x80 ≤ b → continues b ≡ false → 0xC0 ≤ b
+led b high other = ltb-false b 0xC0 (rw (le-leb 0x80 b high) at other)
+
+-- ---- one character after another
+
+abbrev fillers : List ℕ
+fillers = 0x61 ∷ 0x61 ∷ []
+
+-- Each byte may follow those before it, of which the first four are given.
+abbrev AllFollow : Flavor → (a b d e : ℕ) → List ℕ → Type 0
+AllFollow f a b d e [] = Unit {0}
+AllFollow f a b d e (g ∷ bytes) = (follows f a b d e g ≡ true) × AllFollow f b d e g bytes
+
+-- Up to n bytes are whole encoded characters if they begin at a boundary and fillers may follow them.
+abbrev AreValid : Flavor → ℕ → Type 0
+AreValid f n =
+    (a b d e : ℕ) (bytes : List ℕ) → length bytes ≤ n → Ends a b d e → AllFollow f a b d e (bytes ++ fillers) → IsValidFront f bytes (length bytes)
+
+joined : (f : Flavor) (bytes : List ℕ) (k : ℕ) → first_width f bytes ≡ k → 0 < k → IsValidFront f (drop k bytes) (length (drop k bytes)) →
+    IsValidFront f bytes (length bytes)
+joined f bytes k width_is some rest =
+    let long : k + length (drop k bytes) ≡ length bytes = omega (arith, length-drop k bytes, width_is, width_fits f bytes) in
+    subst (IsValidFront f bytes) long (fronts_joined f bytes k (length (drop k bytes)) (character_valid f bytes k width_is some) rest)
+
+no_filler : continues 0x61 ≡ true → ⊥
+no_filler t = true≢false (sym t)
+
+module _ (f : Flavor) (n : ℕ) (later : AreValid f n) where
+  -- Behind the three bytes of a high surrogate,
+  in_pair : (e g h j : ℕ) (bytes : List ℕ) → length bytes ≤ n → g ≡ 0xED → 0xA0 ≤ h → h < 0xB0 → 0x80 ≤ j → j < 0xC0 →
+      AllFollow f e g h j (bytes ++ fillers) → IsValidFront f (g ∷ h ∷ j ∷ bytes) (length (g ∷ h ∷ j ∷ bytes))
+  in_pair e g h j [] few lead low high j_low j_high all =
+      absurd (omega (arith, (is_low f g h j 0x61 0x61 (high_pair g h lead low high) (omega arith) all.1.0).0))
+  in_pair e g h j (k ∷ []) few lead low high j_low j_high all =
+      absurd (no_filler (is_low f g h j k 0x61 (high_pair g h lead low high) (omega arith) all.1.0).2)
+  in_pair e g h j (k ∷ l ∷ []) few lead low high j_low j_high all =
+      let found = is_low f g h j k l (high_pair g h lead low high) (omega arith) all.1.0 in
+      absurd (no_filler (is_third f h j k l 0x61 (other_lead h j (λ same. omega arith)) (omega (arith, found.0)) all.1.1.0))
+  in_pair e g h j (k ∷ l ∷ m ∷ bytes) few lead low high j_low j_high all =
+      let found = is_low f g h j k l (high_pair g h lead low high) (omega arith) all.1.0 in
+      let fifth = continuation l found.2 in
+      let sixth = continuation m (is_third f h j k l m (other_lead h j (λ same. omega arith)) (omega (arith, found.0)) all.1.1.0) in
+      joined f (g ∷ h ∷ j ∷ k ∷ l ∷ m ∷ bytes) 6
+      (pair_found f (g ∷ h ∷ j ∷ k ∷ l ∷ m ∷ bytes)
+      (pair_test g h j k l m lead low high j_low j_high found.0 found.1 fifth.1 sixth.0 sixth.1)) (omega arith)
+      (later j k l m bytes (omega arith) (record {
+        last = sixth.1;
+        second_last = omega (arith, fifth.1);
+        no_high = low_second k l found.1;
+        no_higher = other_lead j k (λ same. omega arith);
+      }) all.1.1.1)
+
+  -- behind the first two of a character of three, or of a surrogate pair,
+  in_three : (d e g h : ℕ) (bytes : List ℕ) → length bytes ≤ n → d < 0xE0 → e < 0xC0 → 0xE0 ≤ g → IsSecond f g h →
+      AllFollow f d e g h (bytes ++ fillers) → IsValidFront f (g ∷ h ∷ bytes) (length (g ∷ h ∷ bytes))
+  in_three d e g h [] few before last lead two all =
+      absurd (no_filler (is_third f d e g h 0x61 (other_lead d e (λ same. omega arith)) lead all.0))
+  in_three d e g h (j ∷ bytes) few before last lead two all =
+      let next = continuation h two.continuing in
+      let third = continuation j (is_third f d e g h j (other_lead d e (λ same. omega arith)) lead all.0) in
+      ⊎_elim (λ (high : is_high_surrogate g h ≡ true).
+      let parts = and_parts (eqb g 0xED) _ high in
+      let range = and_parts (leb 0xA0 h) (ltb h 0xB0) parts.1 in
+      in_pair e g h j bytes (omega arith) (eqb-true g 0xED parts.0) (leb-true 0xA0 h range.0) (ltb-true h 0xB0 range.1) third.0 third.1 all.1)
+      (λ (other : is_high_surrogate g h ≡ false).
+      joined f (g ∷ h ∷ j ∷ bytes) 3
+      (three_found f (g ∷ h ∷ j ∷ bytes)
+      (three_test g h j lead two.fits next.0 next.1 third.0 third.1 (fits_test g h (no_overlong g h two.no_overlong) (no_surrogate g h other two.no_low))))
+      (omega arith)
+      (later e g h j bytes (omega arith) (record {
+        last = third.1;
+        second_last = omega (arith, next.1);
+        no_high = other;
+        no_higher = other_lead e g (λ same. omega arith);
+      }) all.1))
+      (cases_Bool (is_high_surrogate g h))
+
+  -- behind the first of more than one byte,
+  in_character : (b d e g : ℕ) (bytes : List ℕ) → length bytes ≤ n → is_high_surrogate b d ≡ false → d < 0xE0 → e < 0xC0 → 0xC0 ≤ g →
+      AllFollow f b d e g (bytes ++ fillers) → IsValidFront f (g ∷ bytes) (length (g ∷ bytes))
+  in_character b d e g [] few no_high before last lead all =
+      ⊎_elim (λ (found : Begins f g 0x61). absurd (omega (arith, found.behind)))
+      (λ (found : IsSecond f g 0x61). absurd (no_filler found.continuing))
+      (begins_or_second f b d e g 0x61 no_high (omega arith) all.0)
+  in_character b d e g (h ∷ bytes) few no_high before last lead all =
+      ⊎_elim (λ (found : Begins f g h). absurd (omega (arith, found.behind)))
+      (λ (found : IsSecond f g h).
+      let next = continuation h found.continuing in
+      ⊎_elim (λ (low : g < 0xE0).
+      joined f (g ∷ h ∷ bytes) 2
+      (⊎_elim (λ (null : g ≡ 0xC0). null_found f (g ∷ h ∷ bytes) (rw null (found.null null)))
+      (λ other. two_found f (g ∷ h ∷ bytes) (two_test g h (omega (arith, other, found.no_c1)) low next.0 next.1)) (cases_eq g 0xC0))
+      (omega arith)
+      (later d e g h bytes (omega arith) (record {
+        last = next.1;
+        second_last = low;
+        no_high = other_lead e g (λ same. omega arith);
+        no_higher = other_lead d e (λ same. omega arith);
+      }) all.1))
+      (λ (high : 0xE0 ≤ g). in_three d e g h bytes (omega arith) before last high found all.1)
+      (cases_lt g 0xE0))
+      (begins_or_second f b d e g h no_high (omega arith) all.0)
+
+-- and from boundary to boundary they are.
+are_valid : (f : Flavor) (n : ℕ) → AreValid f n
+are_valid f n a b d e [] few ends all = none_valid f []
+are_valid f zero a b d e (g ∷ bytes) few ends all = absurd (omega arith)
+are_valid f (suc n) a b d e (g ∷ bytes) few ends all =
+    ⊎_elim (λ (found : Begins f e g).
+    ⊎_elim (λ (low : g < 0x80).
+    joined f (g ∷ bytes) 1 (one_found f (g ∷ bytes) (omega arith) (one_of f g low found.no_null)) (omega arith)
+    (are_valid f n b d e g bytes (omega arith) (record {
+      last = omega arith;
+      second_last = omega (arith, ends.last);
+      no_high = other_lead d e (λ same. omega (arith, ends.second_last));
+      no_higher = ends.no_high;
+    }) all.1))
+    (λ (high : 0x80 ≤ g).
+    in_character f n (are_valid f n) b d e g bytes (omega arith) ends.no_high ends.second_last ends.last (led g high found.no_continuation) all.1)
+    (cases_lt g 0x80))
+    (λ (found : IsSecond f e g). absurd (omega (arith, found.leads, ends.last)))
+    (begins_or_second f a b d e g ends.no_higher ends.second_last all.0)
+
+-- ---- a front
+
+filled : (f : Flavor) (a b d e : ℕ) → crosses a b d e ≡ false → is_null f 0x61 ≡ false → AllFollow f a b d e fillers
+unfolding shown
+filled f a b d e none no_null =
+    let last = or_parts (leb 0xC0 e) _ none in
+    let second_last = or_parts (leb 0xE0 d) _ last.1 in
+    let high = or_parts (is_high_surrogate b d) (is_high_surrogate a b) second_last.1 in
+    let below = leb-false 0xC0 e last.0 in (
+      rw (no_null, lt-leb 0xF0 e (omega arith), last.0, second_last.0, high.1) refl,
+      (rw (no_null, lt-leb 0xE0 e (omega arith), high.0) refl, tt),
+    )
+
+fillers_follow : (f : Flavor) (a b d e : ℕ) → crosses a b d e ≡ false → AllFollow f a b d e fillers
+unfolding shown
+fillers_follow Cesu8 a b d e none = filled Cesu8 a b d e none refl
+fillers_follow Mutf8 a b d e none = filled Mutf8 a b d e none refl
+
+follows_later : (f : Flavor) (a i : ℕ) (window : List ℕ) → follows_at f (a ∷ window) (suc i) ≡ follows_at f window i
+follows_later f a i window = rw (suc-add i 1, suc-add i 2, suc-add i 3, suc-add i 4) refl
+
+crosses_later : (a i : ℕ) (window : List ℕ) → crosses_at (a ∷ window) (suc i) ≡ crosses_at window i
+crosses_later a i window = rw (suc-add i 1, suc-add i 2, suc-add i 3) refl
+
+all_follow : (f : Flavor) (a b d e n : ℕ) (bytes : List ℕ) → n ≤ length bytes →
+    ((i : ℕ) → i < n → follows_at f (a ∷ b ∷ d ∷ e ∷ bytes) i ≡ true) → crosses_at (a ∷ b ∷ d ∷ e ∷ bytes) n ≡ false →
+    AllFollow f a b d e (take n bytes ++ fillers)
+all_follow f a b d e zero bytes fits each none = fillers_follow f a b d e none
+all_follow f a b d e (suc n) [] fits each none = absurd (omega arith)
+all_follow f a b d e (suc n) (g ∷ bytes) fits each none = (
+  each 0 (omega arith),
+  all_follow f b d e g n bytes (omega arith)
+      (λ i before. sym (follows_later f a i (b ∷ d ∷ e ∷ g ∷ bytes)) ∙ each (suc i) (omega arith))
+      (sym (crosses_later a n (b ∷ d ∷ e ∷ g ∷ bytes)) ∙ none),
+)
+
+-- Bytes of which each may follow those before it are whole encoded characters up to a boundary that none
+-- crosses.
+pub followed_valid : (f : Flavor) (bytes : List ℕ) (m n : ℕ) → FirstFollow f bytes m → n ≤ m → crosses_at (after_fillers bytes) n ≡ false →
+    IsValidFront f bytes n
+followed_valid f bytes m n first fits none =
+    let within : n ≤ length bytes = omega (arith, first.within) in
+    let each : (i : ℕ) → i < n → follows_at f (after_fillers bytes) i ≡ true = λ i before. first.follow i (omega arith) in
+    let start : Ends 0x61 0x61 0x61 0x61 = record { last = omega arith; second_last = omega arith; no_high = refl; no_higher = refl } in
+    let front =
+    are_valid f (length (take n bytes)) 0x61 0x61 0x61 0x61 (take n bytes) (omega arith) start (all_follow f 0x61 0x61 0x61 0x61 n bytes within each none) in
+    record { within = within; valid = subst (HasStrictReading f) (take-length (take n bytes)) front.valid }

@@ -1,0 +1,8 @@
+use Rattle.std.proofs.Common.{arith}
+use Rattle.cesu8_decode.proofs.decoder.FollowingLanes.{wanted_are}
+use Rattle.cesu8_decode.proofs.following.wanted_by.Goals as goal
+
+pub returns : goal.returns
+returns c =
+    wanted_are c.args.window.now c.type_inv.window c.args.at c.leads_three.result c.equal.result c.equal-2.result (omega (arith, c.requires))
+    c.leads_three.ensures c.equal.ensures c.equal-2.ensures
