@@ -144,7 +144,6 @@ done
 cp "$top/LICENSE-APACHE" "$top/LICENSE-MIT" "$release"
 # What the library uses of the kit is in it too.
 cp "$kit/rattle/simdutf8/LICENSE" "$release/LICENSE-simdutf8"
-cp "$kit/rattle/percent_encoding/LICENSE-MIT" "$release/LICENSE-percent_encoding"
 needed=$(c_library "$release/bin/cesu8_cli" "$release/lib/libcesu8.so.$major")
 cat >"$release/BUILT-FROM" <<BUILT
 cesu8 $version

@@ -272,6 +272,7 @@ KIND(one_pair) { sprinkle(out, length, 1, emoji, CESU8); }
 KIND(one_c0_80) { sprinkle(out, length, 1, null, MUTF8); }
 KIND(one_null) { sprinkle(out, length, 1, null, UTF8); }
 KIND(nulls_80) { sprinkle(out, length, 80, null, UTF8); }
+KIND(one_emoji) { sprinkle(out, length, 1, emoji, UTF8); }
 KIND(emoji_60) { sprinkle(out, length, 60, emoji, UTF8); }
 KIND(quote_anywhere) { sprinkle(out, length, 1, quote, UTF8); }
 
@@ -338,7 +339,7 @@ static const struct row {
     {"ascii", all_ascii, 4, 32, 256, BORROWED,
      {ONE(decode_strict), ONE(mutf8_decode_strict), ONE(decode), ONE(decode_lossy)}},
     {"ascii", all_ascii, 24, 24, 256, OTHER,
-     {WRITE(decode_strict), EACH(encode), EACH(mutf8_encode)}},
+     {WRITE(decode_strict), WRITE(encode), EACH(encode), EACH(mutf8_encode)}},
     {"latin", all_latin, 24, 48, 256, BORROWED, {ONE(decode_strict), ONE(mutf8_decode)}},
     {"one-of-two-bytes", all_of_two, 2, 2, 256, BORROWED, {ONE(decode_strict)}},
     {"one-of-three-bytes", all_of_three, 3, 3, 256, BORROWED, {ONE(decode_strict)}},
@@ -393,6 +394,7 @@ static const struct row {
     // Texts that stay, and texts that change.
     {"up-to-three-bytes", all_up_to_three, 200, 200, 256, OTHER,
      {EACH(encode), EACH(encoded_len)}},
+    {"one-emoji", one_emoji, 8, 8, 256, OTHER, {WRITE(encode)}},
     {"any-width-utf8", any_in_utf8, 24, 24, 256, OTHER, {EACH(encode)}},
     {"any-width-utf8", any_in_utf8, 200, 200, 256, OTHER, {EACH(encode), EACH(encoded_len)}},
     {"any-width-utf8", any_in_utf8, 16380, 16380, 16, OTHER, {EACH(encode)}},

@@ -99,7 +99,7 @@ path_without_kit() {
 
 look_at_files() {
     local wanted=(BUILT-FROM C.md CHANGELOG.md LICENSE-APACHE LICENSE-MIT
-        LICENSE-percent_encoding LICENSE-simdutf8 PROGRAM.md README.md SECURITY.md bin/cesu8_cli
+        LICENSE-simdutf8 PROGRAM.md README.md SECURITY.md bin/cesu8_cli
         examples/class_constants.c examples/find_damage.c examples/java_strings.sh
         examples/keys.c examples/keys.rs
         include/cesu8.h install.sh

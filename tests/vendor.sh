@@ -156,7 +156,7 @@ look_at_git() {
 
 libraries=(cesu8_text cesu8_bytes cesu8_encode cesu8_decode simd_cesu8 java_text)
 lines='cesu8_text:
-cesu8_bytes: cesu8_text percent_encoding simdutf8
+cesu8_bytes: cesu8_text simdutf8
 cesu8_encode: cesu8_bytes cesu8_text
 cesu8_decode: cesu8_bytes cesu8_text simdutf8
 simd_cesu8: cesu8_encode cesu8_decode cesu8_bytes cesu8_text

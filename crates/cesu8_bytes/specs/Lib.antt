@@ -2,5 +2,6 @@ pub mod Kernels
 pub mod Joining
 pub mod TextChunks
 pub mod Puts
-pub mod FirstLooks
+pub mod Looks
 pub mod Packing
+pub mod Differences

@@ -1,9 +1,22 @@
--- What a function promises that writes to a caller's buffer.
-use Rattle.std.specs.Prelude.{◌≡◌, ℕ, ◌≤◌, ◌↔◌, List, length, Result, IfOk, IfErr, IsOk, OnErr}
+-- What a function promises that writes to a slice, or appends to a buffer.
+use Rattle.std.specs.Prelude.{◌≡◌, ℕ, ◌+◌, ◌≤◌, ◌↔◌, List, Vec, ◌++◌, length, take, drop, Result, IfOk, IfErr, IsOk, OnErr, vec_len, vec_capacity}
 use Rattle.cesu8_text.specs.Slices.{StandsAtFront}
 use Rattle.cesu8_bytes.specs.declared.writers.NoRoom.{NoRoom}
 
--- The result is written to the buffer, or the buffer is too short.
+-- Bytes are written at an offset, up to their end, and those around them stay.
+pub record PutsAt (written : List ℕ) (at : ℕ) (old new : List ℕ) (n : ℕ) : Type 0 where
+  pub bytes : take n new ≡ take at old ++ written
+  pub end : n ≡ at + length written
+  pub behind : drop n new ≡ drop n old
+  pub len : length new ≡ length old
+
+-- Bytes are appended, within the capacity.
+pub record Appends {A : Type 0} (appended : List ℕ) (old new : Vec ℕ A) : Type 0 where
+  pub bytes : new.items ≡ old.items ++ appended
+  pub len : vec_len new ≡ vec_len old + length appended
+  pub capacity : vec_capacity new ≡ vec_capacity old
+
+-- The result is written to a caller's buffer, or the buffer is too short.
 pub record PutsAnswer (answer : List ℕ) (result : Result ℕ NoRoom) (old new : List ℕ) : Type 0 where
   pub written : IfOk result (λ len. StandsAtFront answer len old new)
   -- It is written exactly where it fits.

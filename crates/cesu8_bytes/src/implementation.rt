@@ -4,6 +4,7 @@ pub mod class;
 pub mod count;
 pub mod fallback;
 pub mod groups;
+pub mod search;
 pub mod short;
 pub mod simd;
 pub mod word;

@@ -5,10 +5,10 @@ ghost use Rattle.std.specs.Str.{chars};
 ghost use Rattle.cesu8_text.specs.Encoding.{encoding};
 ghost use Rattle.cesu8_text.specs.Utf16.{units};
 
-use crate::first_looks::needs_encoded;
 use crate::flavor::Flavor;
 use crate::implementation::class::OneUnit;
 use crate::implementation::count::weight;
+use crate::looks::needs_encoded;
 
 /// Returns the length of a text's encoding, in bytes. A character of four bytes becomes six, and in
 /// MUTF-8 U+0000 becomes two.

@@ -4,20 +4,24 @@
 //! The names of this crate are no promise to users. `simd_cesu8` has the public calls.
 #![tactic(auto)]
 
-pub mod ascii;
+mod ascii_front;
 pub mod continuation;
-pub mod first_looks;
+pub mod copies;
 pub mod flavor;
 pub mod implementation;
 pub mod lengths;
+pub mod looks;
 pub mod options;
 pub mod order;
 pub mod packing;
 mod padded;
 pub mod pairs;
+pub mod put;
 pub mod runs;
+mod signs;
 pub mod utf8;
 pub mod writers;
+pub mod zeros;
 
 /// How many bytes form a block, which one vector holds.
 pub const BLOCK: usize = 32;

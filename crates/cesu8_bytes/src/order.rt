@@ -10,8 +10,10 @@ ghost use Rattle.std.specs.Ordering.{nat_cmp};
 ghost use Rattle.std.specs.Str.{chars};
 ghost use Rattle.cesu8_text.specs.Order.{utf16_rank};
 ghost use Rattle.cesu8_text.specs.Utf16.{units};
+ghost use Rattle.cesu8_bytes.specs.Differences.{IsFirstDifference};
 
 use crate::implementation::class::LANES;
+use crate::runs::first_bit;
 use std::cmp::Ordering;
 use std::simd::prelude::*;
 
@@ -34,9 +36,7 @@ pub fn compare_as_utf16(text: &str, other: &str) -> Ordering
 #[inline(always)]
 fn first_difference(bytes: &[u8], other: &[u8], len: usize) -> usize
     requires { (len ≤ length bytes.now) × (len ≤ length other.now) }
-    ensures within { result ≤ len }
-    ensures same { (i : ℕ) → i < result → slice_index bytes.now i ≡ slice_index other.now i }
-    ensures end { result < len → slice_index bytes.now result ≢ slice_index other.now result }
+    ensures { IsFirstDifference bytes.now other.now len result }
 {
     if len < 8 {
         difference_by_bytes(bytes, other, len)
@@ -52,9 +52,7 @@ fn first_difference(bytes: &[u8], other: &[u8], len: usize) -> usize
 #[inline(always)]
 fn difference_by_bytes(bytes: &[u8], other: &[u8], len: usize) -> usize
     requires { (len ≤ length bytes.now) × (len ≤ length other.now) }
-    ensures within { result ≤ len }
-    ensures same { (i : ℕ) → i < result → slice_index bytes.now i ≡ slice_index other.now i }
-    ensures end { result < len → slice_index bytes.now result ≢ slice_index other.now result }
+    ensures { IsFirstDifference bytes.now other.now len result }
 {
     let mut offset = 0;
     while offset < len {
@@ -72,9 +70,7 @@ fn difference_by_bytes(bytes: &[u8], other: &[u8], len: usize) -> usize
 fn difference_by<const N: usize>(bytes: &[u8], other: &[u8], len: usize) -> usize
     requires lanes { (0 < N) × (N ≤ LANES) × (N ≤ len) }
     requires long { (len ≤ length bytes.now) × (len ≤ length other.now) }
-    ensures within { result ≤ len }
-    ensures same { (i : ℕ) → i < result → slice_index bytes.now i ≡ slice_index other.now i }
-    ensures end { result < len → slice_index bytes.now result ≢ slice_index other.now result }
+    ensures { IsFirstDifference bytes.now other.now len result }
 {
     let last = len - N;
     let mut offset = 0;
@@ -102,12 +98,7 @@ fn same_in_front<const N: usize>(bytes: &[u8], other: &[u8], offset: usize) -> u
 {
     let lanes: Simd<u8, N> = Simd::from_slice(&bytes[offset..]);
     let other_lanes: Simd<u8, N> = Simd::from_slice(&other[offset..]);
-    let marks = lanes.simd_ne(other_lanes).to_bitmask();
-    if marks == 0 {
-        N
-    } else {
-        marks.trailing_zeros() as usize
-    }
+    first_bit::<N>(lanes.simd_ne(other_lanes).to_bitmask())
 }
 
 /// Returns a byte of UTF-8 as a number, so that these compare as UTF-16 code units do.

@@ -1,11 +1,12 @@
 //! Runs of bytes without one of a class, found and copied by vectors.
 
-ghost use Rattle.std.specs.Prelude.{◌≡◌, ℕ, ◌+◌, ◌*◌, ◌<◌, ◌≤◌, ◌++◌, not, true, false, length, take, drop, slice_index};
+ghost use Rattle.std.specs.Prelude.{◌≡◌, ◌==◌, if◌then◌else◌, ℕ, ◌+◌, ◌*◌, ◌<◌, ◌≤◌, ◌++◌, not, true, false, length, take, drop, slice_index};
+ghost use Rattle.std.specs.Int.Count.{count_trailing_zeros};
 ghost use Rattle.std.specs.List.{prefix_len};
 
 use crate::implementation::class::{InAllVectors, InVectors, LANES, bits};
 use crate::implementation::short::{by_two_vectors, end_vector};
-use crate::writers::put;
+use crate::put::{put, put_lanes};
 use std::simd::prelude::*;
 
 /// Copies the first byte, which is not in the class, and the next ones up to one that is, as far as a
@@ -48,7 +49,7 @@ fn copy_lanes<C: InVectors<N>, const N: usize>(bytes: &[u8], out: &mut [u8], at:
     ensures len { length out.new ≡ length out.old }
 {
     let lanes: Simd<u8, N> = Simd::from_slice(bytes);
-    lanes.copy_to_slice(&mut out[at..]);
+    put_lanes(lanes, out, at);
     lanes_before::<C, N>(lanes)
 }
 
@@ -58,7 +59,15 @@ pub(crate) fn lanes_before<C: InVectors<N>, const N: usize>(lanes: Simd<u8, N>) 
     requires { N ≤ LANES }
     ensures { result ≡ prefix_len (λ b. not (C.class b)) lanes.entry }
 {
-    let marks = bits::<C, N>(lanes);
+    first_bit::<N>(bits::<C, N>(lanes))
+}
+
+/// Returns the first of `N` bits that is set, or `N` if none is.
+#[inline(always)]
+pub(crate) fn first_bit<const N: usize>(marks: u64) -> usize
+    requires { N ≤ LANES }
+    ensures { result ≡ if marks == 0 then N else count_trailing_zeros 64 marks }
+{
     if marks == 0 {
         N
     } else {

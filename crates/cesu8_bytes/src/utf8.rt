@@ -7,9 +7,9 @@
 ghost use Rattle.std.specs.Prelude.{◌↔◌, ◌≡◌, ◌+◌, ◌*◌, ◌<◌, ◌≤◌, IsTrue, IsUtf8, length, take, drop, vec_capacity};
 ghost use Rattle.std.specs.String.{string_bytes, string_capacity};
 ghost use Rattle.simdutf8.specs.Tracks.{HasRead};
-ghost use Rattle.cesu8_bytes.specs.declared.utf8.Look.TheVariants.{Fault};
+ghost use Rattle.cesu8_bytes.specs.declared.utf8.Prefix.TheVariants.{Fault};
 
-use crate::ascii::{GROUP, ascii_front};
+use crate::ascii_front::{GROUP, ascii_front};
 use crate::continuation::character_start;
 use crate::implementation::class::LANES;
 use crate::padded::{QUARTER, block_of_quarter, padded_block};
@@ -76,10 +76,10 @@ fn are_blocks_utf8(bytes: &[u8], from: usize) -> bool
         checker = behind_blocks(checker, rest, at, blocks);
         at += LANES * blocks;
         if rest.len() - at > LANES {
-            match look_behind(checker, rest, at) {
-                Look::Fault => return false,
-                Look::Cut => most = PART_BEHIND_CUT,
-                Look::Whole => most = PART,
+            match prefix_at(checker, rest, at) {
+                Prefix::Fault => return false,
+                Prefix::Cut => most = PART_BEHIND_CUT,
+                Prefix::Whole => most = PART,
             }
         }
     }
@@ -102,7 +102,7 @@ fn behind_blocks(start: Checker, bytes: &[u8], from: usize, blocks: usize) -> Ch
 
 /// What the bytes before an offset show.
 #[derive(Drop)]
-enum Look {
+enum Prefix {
     /// They are UTF-8.
     Whole,
     /// They are not, and a character that the offset cuts may be why.
@@ -113,18 +113,24 @@ enum Look {
 
 /// Returns what the bytes before an offset show, which a checker has read.
 #[inline(always)]
-fn look_behind(checker: Checker, bytes: &[u8], at: usize) -> Look
+fn prefix_at(checker: Checker, bytes: &[u8], at: usize) -> Prefix
     requires at { (3 ≤ at) × (at < length bytes.now) }
     requires read { HasRead checker (take at bytes.now) }
     ensures { result ≡ Fault → ¬ (IsUtf8 bytes.now) }
 {
     if checker.finish() {
-        return Look::Whole;
+        return Prefix::Whole;
     }
     match character_start(bytes, at) {
-        Some(start) => { if start < at { Look::Cut } else { Look::Fault } }
+        Some(start) => {
+            if start < at {
+                Prefix::Cut
+            } else {
+                Prefix::Fault
+            }
+        }
         // UTF-8 has no four continuation bytes in a row.
-        None => Look::Fault,
+        None => Prefix::Fault,
     }
 }
 

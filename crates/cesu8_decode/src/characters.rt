@@ -15,8 +15,8 @@ use cesu8_bytes::flavor::Flavor;
 use cesu8_bytes::implementation::class::{Either, NonAscii};
 use cesu8_bytes::options::Strictness;
 use cesu8_bytes::pairs::{PAIR_READ, utf8_of_pair};
+use cesu8_bytes::put::put;
 use cesu8_bytes::runs::copy_run;
-use cesu8_bytes::writers::put;
 
 /// U+FFFD, which replaces an ill-formed byte.
 const REPLACEMENT: [u8; WIDEST] = [0xEF, 0xBF, 0xBD];

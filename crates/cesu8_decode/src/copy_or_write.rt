@@ -5,9 +5,10 @@ ghost use Rattle.cesu8_decode.specs.PutReadings.{PutsReading, PutsLenientReading
 use crate::refusal::{Unwritten, is_refused};
 use crate::slices::{put_by, put_text};
 use crate::way::way_before_tests;
-use cesu8_bytes::ascii::{is_short_ascii, is_short_unchanged_ascii};
-use cesu8_bytes::first_looks::{contains_changed, shows_no_text};
 use cesu8_bytes::flavor::Flavor;
+use cesu8_bytes::looks::{
+    contains_changed, is_short_ascii, is_short_unchanged_ascii, shows_no_text,
+};
 use cesu8_bytes::options::Strictness;
 use cesu8_bytes::utf8::is_utf8;
 use cesu8_bytes::writers::{copy_to_slice, copy_to_slice_by_call};

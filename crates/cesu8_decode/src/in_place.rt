@@ -20,7 +20,8 @@ use super::windows::{BEFORE, Decoded, boundary};
 use cesu8_bytes::flavor::Flavor;
 use cesu8_bytes::packing::STORED;
 use cesu8_bytes::pairs::{PAIR, PAIR_READ, is_pair, utf8_of_pair};
-use cesu8_bytes::writers::{append_zeros, put};
+use cesu8_bytes::put::put;
+use cesu8_bytes::zeros::append_zeros;
 use std::alloc::Allocator;
 use std::simd::prelude::*;
 

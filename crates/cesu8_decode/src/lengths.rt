@@ -10,8 +10,8 @@ ghost use Rattle.cesu8_decode.specs.DecodedOffsets.{saved};
 
 use super::ill_formed::is_ill_formed;
 use super::sums::{BLOCKS, Weight, Weights, sum_first};
-use cesu8_bytes::first_looks::contains_changed;
 use cesu8_bytes::flavor::Flavor;
+use cesu8_bytes::looks::contains_changed;
 use cesu8_bytes::utf8::is_utf8;
 
 /// Returns the length of the strict reading, in bytes of UTF-8, if there is one.

@@ -28,7 +28,8 @@ use crate::windows::{
 };
 use cesu8_bytes::flavor::Flavor;
 use cesu8_bytes::options::Strictness;
-use cesu8_bytes::writers::{NoRoom, copy_to_slice, put};
+use cesu8_bytes::put::put;
+use cesu8_bytes::writers::{NoRoom, copy_to_slice};
 
 // The lengths of a buffer for the text of bytes that are read one character after another.
 pub const FEWEST_TEXT: usize = WIDEST * FEWEST;

@@ -21,9 +21,10 @@ use crate::windows::{
     AROUND, LEAST, LONG_BUFFER, LONG_TEXT, MEDIUM_BUFFER, MEDIUM_TEXT, SHORT_BUFFER, SHORT_TEXT,
     SPARED, write_window,
 };
+use cesu8_bytes::copies::copy;
 use cesu8_bytes::flavor::Flavor;
 use cesu8_bytes::options::Strictness;
-use cesu8_bytes::writers::{append_zeros, copy};
+use cesu8_bytes::zeros::append_zeros;
 use std::alloc::{AllocError, Allocator};
 
 /// Writes the strict reading of bytes that are not UTF-8 to an empty vector that has capacity for as

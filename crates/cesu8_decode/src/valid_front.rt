@@ -11,9 +11,9 @@ ghost use Rattle.cesu8_decode.specs.ValidFront.{IsValidFront};
 
 use super::following::{FILLER, following_front};
 use super::forms::{form_of, len_of, prefix_of};
-use cesu8_bytes::ascii::is_short_unchanged_ascii;
 use cesu8_bytes::flavor::Flavor;
 use cesu8_bytes::implementation::class::{Either, NonAscii};
+use cesu8_bytes::looks::is_short_unchanged_ascii;
 use cesu8_bytes::pairs::PAIR_READ;
 use cesu8_bytes::runs::run_len;
 

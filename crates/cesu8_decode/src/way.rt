@@ -45,10 +45,8 @@
 //! so too with at most 24 bytes of which one is ED or C0, since they are mostly an encoding:
 //! well-formed bytes from 16 on take two thirds of the time in lossy reading (70c002d).
 //!
-//! Other lengths in this crate decide no way: `characters` pads the last bytes, and
-//! `in_place` and `sums` the last block. Before the decoder, `cesu8_bytes` takes the
-//! first looks: if the first bytes show that all are no text, a strict call refuses them at once. If
-//! a few show C0 or a surrogate, a call that returns a `String` decodes them without a test for UTF-8.
+//! Other lengths in this crate decide no way: `characters` pads the last bytes, and `in_place` and
+//! `sums` the last block. `looks` of `cesu8_bytes` says what is seen of the bytes before.
 
 ghost use Rattle.std.specs.Prelude.{◌≡◌, ◌≤◌, length, IsTrue, IsUtf8, IfSome};
 ghost use Rattle.cesu8_text.specs.Encoding.{Flavor as AnyFlavor};
@@ -59,10 +57,10 @@ ghost use Rattle.cesu8_decode.specs.Ways.{IsWayOf};
 
 use super::forms::{FirstLead, first_lead};
 use super::ill_formed::is_ill_formed_in_prefix;
-use cesu8_bytes::first_looks::may_be_encoding;
 use cesu8_bytes::flavor::Flavor;
 use cesu8_bytes::implementation::class::{Either, NonAscii, Null};
 use cesu8_bytes::implementation::short::count_in_ends;
+use cesu8_bytes::looks::may_be_encoding;
 use cesu8_bytes::options::Strictness;
 
 /// Which way bytes are decoded.

@@ -1,6 +1,5 @@
 -- The encoder of a few bytes, and the one by vectors.
 pub mod EncodedLengths
-pub mod Runs
 pub mod BytesInTurn
 pub mod ComputedPairs
 pub mod RecodedText

@@ -112,3 +112,10 @@ pub record ArePackedTo (f : Flavor) (window : List ℕ) (i : ℕ) (seconds first
   pub firsts_long : length firsts ≡ 32
   pub doubled_is : doubled ≡ mask_l (map (is_doubled_at f window) (range_with_len i 32))
   pub packed_to : packed (map (is_doubled_at f window) (range_with_len i 32)) firsts seconds ≡ encoded_bytes f window i 32
+
+-- What the lanes of a block say of its first bytes is written behind what stands before an offset.
+pub record WritesLanes (seconds firsts : List ℕ) (doubled count at : ℕ) (old new : List ℕ) (n : ℕ) : Type 0 where
+  pub bytes : (f : Flavor) → (window : List ℕ) → (i : ℕ) → ArePackedTo f window i seconds firsts doubled →
+      take n new ≡ take at old ++ encoded_bytes f window i count
+  pub end : n ≡ at + packed_len doubled count
+  pub len : length new ≡ length old

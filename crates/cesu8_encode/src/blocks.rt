@@ -7,19 +7,19 @@
 //! A block within a text can be copied where no byte of it changes, nor one of the two before it.
 //! Where null characters alone change, no neighbour decides anything, and lanes take fewer steps.
 
-ghost use Rattle.std.specs.Prelude.{◌≡◌, ℕ, List, Bool, ◌+◌, ◌*◌, ◌<◌, ◌≤◌, ◌++◌, length, take, IsTrue};
+ghost use Rattle.std.specs.Prelude.{◌≡◌, List, Bool, ◌+◌, ◌*◌, ◌<◌, ◌≤◌, ◌++◌, length, take, IsTrue};
 ghost use Rattle.std.specs.Simd.Lanes.{chunk, zip2, mask_l};
 ghost use Rattle.cesu8_text.specs.Class.{is_at_least_f0};
-ghost use Rattle.cesu8_text.specs.Encoding.{Flavor as AnyFlavor};
 ghost use Rattle.cesu8_bytes.specs.Kernels.{AnyIn};
-ghost use Rattle.cesu8_encode.specs.EncodedOffsets.{six_bits, packed, packed_len, encoded_bytes, AreLanes, ArePackedTo};
+ghost use Rattle.cesu8_encode.specs.Encoded.{WritesAt};
+ghost use Rattle.cesu8_encode.specs.EncodedOffsets.{six_bits, packed, packed_len, encoded_bytes, AreLanes, WritesLanes};
 
 use super::rows::rows;
 use cesu8_bytes::BLOCK;
 use cesu8_bytes::flavor::{Flavor, nulls};
 use cesu8_bytes::implementation::class::{AtLeastF0, Either, bits, mask};
 use cesu8_bytes::implementation::short::any_in_ends;
-use cesu8_bytes::writers::put;
+use cesu8_bytes::put::put;
 use std::simd::prelude::*;
 
 /// How many bytes before a block are read with it, since they decide what its bytes become.
@@ -34,8 +34,8 @@ pub const BLOCK_READ: usize = READ_BEFORE + BLOCK + READ_AFTER;
 /// How many bytes of a block form a row.
 const ROW: usize = 8;
 
-/// How many bytes are stored for the rows of a block, whatever they become.
-const BLOCK_STORED: usize = 2 * BLOCK;
+/// How many bytes are stored for the rows of a block, and the most that its encoding has.
+pub const BLOCK_ENCODED: usize = 2 * BLOCK;
 
 /// Writes what the first `count` bytes of the block at an offset become, and returns its end.
 #[inline(always)]
@@ -49,26 +49,10 @@ pub fn write_block<F: Flavor>(
     requires window { at + BLOCK_READ ≤ length window.now }
     requires count { count ≤ BLOCK }
     requires room { end + length (encoded_bytes F.flavor window.now at count) ≤ length out.old }
-    ensures bytes { take result out.new
-        ≡ take end out.old ++ encoded_bytes F.flavor window.now at count }
-    ensures end { result ≡ end + length (encoded_bytes F.flavor window.now at count) }
-    ensures len { length out.new ≡ length out.old }
+    ensures { WritesAt (encoded_bytes F.flavor window.now at count) end out.old out.new result }
 {
     let block = encode_block::<F>(window, at);
     write_lanes(&block, count, out, end)
-}
-
-/// Copies the block behind the first `from` bytes of a window, and returns its end.
-#[inline(always)]
-pub fn copy_block(window: &[u8], from: usize, out: &mut [u8], end: usize) -> usize
-    requires window { from + BLOCK ≤ length window.now }
-    requires room { end + BLOCK ≤ length out.old }
-    ensures bytes { take result out.new ≡ take end out.old ++ chunk from BLOCK window.now }
-    ensures end { result ≡ end + BLOCK }
-    ensures len { length out.new ≡ length out.old }
-{
-    u8x32::from_slice(&window[from..]).copy_to_slice(&mut out[end..]);
-    end + BLOCK
 }
 
 /// Returns whether the block at an offset stays as it is. The byte after it decides nothing then.
@@ -89,10 +73,7 @@ pub fn write_nulls<F: Flavor>(window: &[u8], at: usize, out: &mut [u8], end: usi
     requires window { at + BLOCK_READ ≤ length window.now }
     requires low { ¬ (AnyIn is_at_least_f0 window.now) }
     requires room { end + length (encoded_bytes F.flavor window.now at BLOCK) ≤ length out.old }
-    ensures bytes { take result out.new
-        ≡ take end out.old ++ encoded_bytes F.flavor window.now at BLOCK }
-    ensures end { result ≡ end + length (encoded_bytes F.flavor window.now at BLOCK) }
-    ensures len { length out.new ≡ length out.old }
+    ensures { WritesAt (encoded_bytes F.flavor window.now at BLOCK) end out.old out.new result }
 {
     let bytes = u8x32::from_slice(&window[at + READ_BEFORE..]);
     let block = EncodedBlock {
@@ -173,16 +154,13 @@ fn store_row(lanes: u8x16, doubled: usize, out: &mut [u8], at: usize) -> usize
 fn write_lanes(block: &EncodedBlock, count: usize, out: &mut [u8], end: usize) -> usize
     requires count { count ≤ BLOCK }
     requires room { end + packed_len block.now.doubled count ≤ length out.old }
-    ensures bytes { (f : AnyFlavor) → (window : List ℕ) → (at : ℕ)
-        → ArePackedTo f window at block.now.seconds block.now.firsts block.now.doubled
-        → take result out.new ≡ take end out.old ++ encoded_bytes f window at count }
-    ensures end { result ≡ end + packed_len block.now.doubled count }
-    ensures len { length out.new ≡ length out.old }
+    ensures { WritesLanes block.now.seconds block.now.firsts block.now.doubled
+        count end out.old out.new result }
 {
-    if BLOCK_STORED <= out.len() - end {
+    if BLOCK_ENCODED <= out.len() - end {
         return store_block(block, count, out, end);
     }
-    let mut stored = [0; BLOCK_STORED];
+    let mut stored = [0; BLOCK_ENCODED];
     let len = store_block(block, count, &mut stored, 0);
     put(&stored[..len], out, end)
 }
@@ -191,12 +169,9 @@ fn write_lanes(block: &EncodedBlock, count: usize, out: &mut [u8], end: usize) -
 #[inline(always)]
 fn store_block(block: &EncodedBlock, count: usize, out: &mut [u8], end: usize) -> usize
     requires count { count ≤ BLOCK }
-    requires room { end + BLOCK_STORED ≤ length out.old }
-    ensures bytes { (f : AnyFlavor) → (window : List ℕ) → (at : ℕ)
-        → ArePackedTo f window at block.now.seconds block.now.firsts block.now.doubled
-        → take result out.new ≡ take end out.old ++ encoded_bytes f window at count }
-    ensures end { result ≡ end + packed_len block.now.doubled count }
-    ensures len { length out.new ≡ length out.old }
+    requires room { end + BLOCK_ENCODED ≤ length out.old }
+    ensures { WritesLanes block.now.seconds block.now.firsts block.now.doubled
+        count end out.old out.new result }
 {
     let (seconds, firsts, doubled) = (block.seconds, block.firsts, block.doubled);
     let row = seconds.shuffle::<16>(

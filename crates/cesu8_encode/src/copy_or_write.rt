@@ -5,35 +5,39 @@ ghost use Rattle.std.specs.Str.{chars};
 ghost use Rattle.cesu8_text.specs.Encoding.{encoding};
 ghost use Rattle.cesu8_bytes.specs.Puts.{PutsAnswer};
 
-use crate::few::{is_unchanged, write_few};
-use crate::way::{Way, way_of};
-use crate::windows::write_blocks;
+use crate::blocks::BLOCK_ENCODED;
+use crate::blockwise::write;
+use crate::few::write_few;
+use crate::way::is_block;
 use cesu8_bytes::BLOCK;
-use cesu8_bytes::first_looks::needs_encoded;
 use cesu8_bytes::flavor::Flavor;
 use cesu8_bytes::lengths::encoded_len;
-use cesu8_bytes::writers::{NoRoom, copy_to_slice, copy_to_slice_by_call};
+use cesu8_bytes::looks::{few_need_encoded, needs_encoded};
+use cesu8_bytes::writers::{NoRoom, copy_to_slice};
 
-/// Writes the encoding of a text to a caller's buffer, if it fits. What changes, but for a few
-/// bytes, is not inlined: a text that stays as it is then uses no stack.
+/// Writes the encoding of a text to a caller's buffer, if it fits. What changes is not inlined: a
+/// text that stays as it is then uses no stack.
 #[inline(always)]
 pub fn encode_to_slice<F: Flavor>(text: &str, buf: &mut [u8]) -> Result<usize, NoRoom>
     ensures { PutsAnswer (encoding F.flavor (chars text.now)) result buf.old buf.new }
 {
-    match way_of(text) {
-        Way::Few | Way::Block => put_few::<F>(text, buf),
-        _ if !needs_encoded::<F>(text) => copy_to_slice(text.as_bytes(), buf),
-        Way::OnStack | Way::Blocks => put_in_place::<F>(text, buf),
+    if is_block(text) {
+        return put_short::<F>(text, buf);
     }
+    if !needs_encoded::<F>(text) {
+        return copy_to_slice(text.as_bytes(), buf);
+    }
+    put_in_place::<F>(text, buf)
 }
 
+/// Does so for a few bytes, of which the test and the copy then ask for no greater length.
 #[inline(always)]
 #[tactic(auto, using(cesu8_text::proofs::encoding::Lengths::length_encoding_chars))]
-fn put_few<F: Flavor>(text: &str, buf: &mut [u8]) -> Result<usize, NoRoom>
+fn put_short<F: Flavor>(text: &str, buf: &mut [u8]) -> Result<usize, NoRoom>
     requires { length text.now ≤ BLOCK }
     ensures { PutsAnswer (encoding F.flavor (chars text.now)) result buf.old buf.new }
 {
-    if is_unchanged::<F>(text) {
+    if !few_need_encoded::<F>(text) {
         return copy_to_slice(text.as_bytes(), buf);
     }
     if 2 * text.len() <= buf.len() {
@@ -50,21 +54,21 @@ fn put_on_stack<F: Flavor>(text: &str, buf: &mut [u8]) -> Result<usize, NoRoom>
     requires { length text.now ≤ BLOCK }
     ensures { PutsAnswer (encoding F.flavor (chars text.now)) result buf.old buf.new }
 {
-    let mut written = [0; 2 * BLOCK];
+    let mut written = [0; BLOCK_ENCODED];
     let len = write_few::<F>(text, &mut written);
-    copy_to_slice_by_call(&written[..len], buf)
+    copy_to_slice(&written[..len], buf)
 }
 
+/// Counts the encoding, and writes it where it stays.
 #[inline(never)]
 #[tactic(auto, using(crate::proofs::encoder::EncodedLengths::no_shorter))]
 fn put_in_place<F: Flavor>(text: &str, buf: &mut [u8]) -> Result<usize, NoRoom>
-    requires { BLOCK < length text.now }
     ensures { PutsAnswer (encoding F.flavor (chars text.now)) result buf.old buf.new }
 {
     let len = encoded_len::<F>(text);
     if buf.len() < len {
         return Err(NoRoom { needed: len });
     }
-    write_blocks::<F>(text, len - text.len(), &mut buf[..len]);
+    write::<F>(text, len - text.len(), &mut buf[..len]);
     Ok(len)
 }

@@ -1,9 +1,9 @@
-//! Encodes a few bytes, a run or a change at a time, which takes less time than a block does.
+//! Encodes a few bytes, a run or a change at a time, and writes nothing behind the encoding.
 //!
 //! A vector copies a run of bytes that stay. Continuation bytes stay too, so the width of a
 //! character decides nothing unless it is four.
 
-ghost use Rattle.std.specs.Prelude.{◌≡◌, ℕ, ◌+◌, ◌≤◌, ◌<◌, [], ◌∷◌, length, take, drop, IsTrue};
+ghost use Rattle.std.specs.Prelude.{◌≡◌, ℕ, ◌+◌, ◌≤◌, ◌<◌, [], ◌∷◌, length, take, drop};
 ghost use Rattle.std.specs.Str.{chars};
 ghost use Rattle.cesu8_text.specs.Text.{IsScalarValue, utf8_of};
 ghost use Rattle.cesu8_text.specs.Encoding.{Flavor as AnyFlavor, encoding, short_form};
@@ -11,19 +11,9 @@ ghost use Rattle.cesu8_encode.specs.Encoded.{WritesEncoding};
 
 use cesu8_bytes::flavor::Flavor;
 use cesu8_bytes::implementation::class::{AtLeastF0, Either, Null};
-use cesu8_bytes::implementation::short::any_in_short;
 use cesu8_bytes::pairs::{PAIR, PAIR_UTF8};
+use cesu8_bytes::put::put;
 use cesu8_bytes::runs::copy_run;
-use cesu8_bytes::writers::put;
-
-/// Returns whether no byte of a text changes. It is correct for every length, and fast for a few
-/// bytes.
-#[inline(always)]
-pub fn is_unchanged<F: Flavor>(text: &str) -> bool
-    ensures { IsTrue result → encoding F.flavor (chars text.now) ≡ text.now }
-{
-    !any_in_short::<Either<F::Null, AtLeastF0>>(text.as_bytes())
-}
 
 /// Writes the encoding of a text at the front of a slice that is long enough, and returns its
 /// length. What is behind it stays.

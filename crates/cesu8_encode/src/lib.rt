@@ -13,36 +13,38 @@
 //!
 //! In MUTF-8 the byte 00 becomes C0 80, and every other byte stays. So a row of eight bytes becomes
 //! sixteen lanes, and one shuffle packs those that are written. `blocks` makes the lanes, `rows`
-//! has the shuffles, `windows` has the loop over the text, and `block_writers` what it does with a
-//! block. `few` encodes a few bytes without blocks, and `way` says which texts go which way.
+//! has the shuffles, `blockwise` has the loop over the text, and `middle` what it does with a block
+//! within it. `few` encodes a few bytes without blocks, and `way` says which texts go which way.
 //!
 //! This file has what builds or appends an encoding, and `copy_or_write` what writes it to a
 //! caller's buffer. The names of this crate are no promise to users: `simd_cesu8` has the public
 //! calls.
 #![tactic(auto)]
 
-ghost use Rattle.std.specs.Prelude.{◌≡◌, ◌+◌, ◌*◌, ◌≤◌, ◌++◌, length, vec_len, vec_capacity};
+ghost use Rattle.std.specs.Prelude.{◌≡◌, ◌+◌, ◌*◌, ◌≤◌, length, vec_len, vec_capacity};
 ghost use Rattle.std.specs.Str.{chars};
 ghost use Rattle.cesu8_text.specs.Encoding.{encoding};
+ghost use Rattle.cesu8_bytes.specs.Puts.{Appends};
 ghost use Rattle.cesu8_encode.specs.Encoded.{BuildsEncoding, AppendsEncoding};
 
-mod block_writers;
+mod append;
 mod blocks;
+mod blockwise;
 pub mod copy_or_write;
 mod few;
+mod middle;
 mod rows;
 mod way;
-mod windows;
 
-use self::way::{ON_STACK, Way, way_of, write};
-use cesu8_bytes::BLOCK;
+use self::append::{append, make_room};
+use self::blocks::BLOCK_ENCODED;
+use self::blockwise::write;
+use self::way::{ON_STACK, is_block, is_for_stack};
+use cesu8_bytes::copies::copy;
 use cesu8_bytes::flavor::Flavor;
 use cesu8_bytes::lengths::encoded_len;
-use cesu8_bytes::writers::{append, append_zeros, copy, make_room};
+use cesu8_bytes::zeros::append_zeros;
 use std::alloc::{AllocError, Allocator};
-
-/// The most bytes that the encoding of a block has.
-const BLOCK_ENCODED: usize = 2 * BLOCK;
 
 /// The most bytes that the encoding of any text has that goes to the stack.
 const ON_STACK_ENCODED: usize = 2 * ON_STACK;
@@ -57,11 +59,13 @@ pub fn encode<F: Flavor, A: Allocator + Copy>(
 ) -> Result<Vec<u8, A>, AllocError>
     ensures { BuildsEncoding F.flavor text.now result }
 {
-    match way_of(text) {
-        Way::Few | Way::Block => encode_on_stack::<F, A, BLOCK_ENCODED>(alloc, text),
-        Way::OnStack => encode_on_stack::<F, A, ON_STACK_ENCODED>(alloc, text),
-        Way::Blocks => encode_in_place::<F, A>(alloc, text),
+    if is_block(text) {
+        return encode_on_stack::<F, A, BLOCK_ENCODED>(alloc, text);
     }
+    if is_for_stack(text) {
+        return encode_on_stack::<F, A, ON_STACK_ENCODED>(alloc, text);
+    }
+    encode_in_place::<F, A>(alloc, text)
 }
 
 /// Encodes a text to an array of this length on the stack, and returns a copy.
@@ -120,8 +124,7 @@ pub fn encode_into<F: Flavor, A: Allocator + Copy>(
 fn append_changed<F: Flavor, A: Allocator + Copy>(text: &str, len: usize, out: &mut Vec<u8, A>)
     requires len { len ≡ length (encoding F.flavor (chars text.now)) }
     requires room { vec_len out.old + len ≤ vec_capacity out.old }
-    ensures bytes { out.new.items ≡ out.old.items ++ encoding F.flavor (chars text.now) }
-    ensures capacity { vec_capacity out.new ≡ vec_capacity out.old }
+    ensures { Appends (encoding F.flavor (chars text.now)) out.old out.new }
 {
     let start = out.len();
     append_zeros(len, out);

@@ -1,88 +1,109 @@
-//! Which way a text is encoded. No other file of this crate chooses by the length of a text alone.
+//! Which way a text is encoded. No other file of this crate decides that.
 //!
-//! | bytes of the text | way       | what is done                               |
-//! |-------------------|-----------|--------------------------------------------|
-//! | at most 24        | `Few`     | a run or a change at a time, by `few`      |
-//! | at most 32        | `Block`   | one block, by `windows`                    |
-//! | at most 128       | `OnStack` | blocks in turn, by `windows`, to the stack |
-//! | more              | `Blocks`  | blocks in turn, by `windows`               |
+//! | bytes of the text | way       | what is done                                      |
+//! |-------------------|-----------|---------------------------------------------------|
+//! | at most 16        | few       | runs and changes in turn, to an array of 64 bytes |
+//! | at most 32        | block     | one block, to an array of 64 bytes                |
+//! | at most 128       | on stack  | blocks in turn, to an array of 256 bytes          |
+//! | more              | in place  | counted, and then blocks in turn, where they stay |
 //!
-//! An encoding has at most twice the bytes of its text. So `encode` writes that of at most 128 to
-//! an array on the stack before its length is known, and copies it. The array has 64 bytes for
-//! `Few` and `Block`, and 256 for `OnStack`, since clearing it takes time. A longer text is counted
-//! first.
+//! An encoding has at most twice the bytes of its text. So `encode` writes a short one to an array
+//! on the stack before its length is known, and copies it. Where the length is known, as in
+//! `encode_into`, each way writes where the encoding stays.
 //!
-//! `OnStack` is for `encode` alone: every other call treats it as `Blocks`. Where the length is
-//! known, as in `encode_into`, each way writes where the encoding stays. To a slice, a text of more
-//! than 32 bytes is counted, and `few` writes `Block` too: it leaves what is behind the encoding,
-//! where a block would have to be copied.
+//! To a slice, a text of more than 32 bytes is counted, and written in place. Others go the way of
+//! a few bytes, which writes none behind the encoding: in place if twice as many fit, and else to
+//! the stack, from where they are copied. Other threads may read what is behind it.
 //!
-//! `Block` makes texts of 28 to 32 bytes that change 1.10 times as fast in the median of `encode`
-//! at x86-64-v3, and 1.04 times at v2, beside adb3e23 without it. `OnStack` makes those of 64 to
-//! 128 bytes 1.06 times as fast at v3, and 1.04 times at v2, beside f2ced24 without it. In both
-//! figures the export first tests its input for UTF-8.
+//! In `encode` of 20 to 24 bytes that change, a block takes 0.8 of the time of runs and changes.
+//! Of 14 bytes, a block with pairs takes 1.1 times as long. The stack makes texts of 40 to 128
+//! bytes 1.13 times as fast at x86-64-v3, and 1.08 times at v2, beside f2bb1c4 without it.
 //!
-//! `windows` chooses among four ways for the blocks between the first and the last, by what
-//! changes in the text. `block_writers` has these ways.
+//! These ways are tests and no enum: `encode` asked for the value of one, which cost 13
+//! instructions.
 //!
-//! Below this crate, two kinds of code choose by a length too: the first looks of `cesu8_bytes`,
-//! which see whether a byte changes, and the widths of its vectors.
+//! Between its first block and its last, a text has blocks that have the bytes around them beside
+//! them. What changes in the text says how these are written. The first row that fits decides:
+//!
+//! | bytes that the encoding has more                | `Middle`        | what is done with a block |
+//! |-------------------------------------------------|-----------------|---------------------------|
+//! | at most one for four blocks, or it is not known | `CopyUnchanged` | copied, or written as next |
+//! | more, and no byte is F0 or more (hexadecimal)   | `NullChange`    | written with its nulls    |
+//! | fewer than three for four blocks                | `CopyUnchanged` | copied, or written as next |
+//! | more                                            | `AnyChange`     | written with its pairs    |
+//!
+//! To copy a block takes the least time. But a processor often guesses wrong which blocks change,
+//! and a wrong guess takes as long as to write a block. So no block is copied where about a quarter
+//! change or more, or with pairs a third, since a block with pairs takes longer to write. The
+//! average of the text decides: one that is dense with pairs in a part alone may have its other
+//! blocks written where they could be copied.
+//!
+//! Beside f2bb1c4 without the row, `NullChange` makes texts of 256 bytes to 16 KB with a null in 2
+//! to 50 bytes 1.1 to 1.5 times as fast. `AnyChange` makes those with characters of all widths 1.2
+//! times as fast from 1 KiB on. A way of its own for nulls that are few gained nothing.
+//!
+//! Other lengths choose no way: `append` and the vectors of `cesu8_bytes` have widths, and `looks`
+//! there sees whether a byte changes.
 
-ghost use Rattle.std.specs.Prelude.{◌≤◌, length};
-ghost use Rattle.std.specs.Str.{chars};
-ghost use Rattle.cesu8_text.specs.Encoding.{encoding};
-ghost use Rattle.cesu8_encode.specs.Encoded.{WritesEncoding};
-ghost use Rattle.cesu8_encode.specs.Ways.{Fits};
+ghost use Rattle.std.specs.Prelude.{◌≤◌, ◌↔◌, length, IsTrue};
+ghost use Rattle.cesu8_encode.specs.Ways.{FitsMiddle};
 
-use crate::few::write_few;
-use crate::windows::{write_blocks, write_short};
 use cesu8_bytes::BLOCK;
 use cesu8_bytes::flavor::Flavor;
-
-/// The most bytes of a text that is encoded one change after another.
-pub const FEW: usize = 24;
+use cesu8_bytes::implementation::class::AtLeastF0;
+use cesu8_bytes::implementation::search::any_in_bytes;
 
 /// The most bytes of a text that is encoded to the stack before its length is known.
 pub const ON_STACK: usize = 128;
 
-/// A way to encode a text.
+/// The most bytes of a text that is encoded one change after another, but for slices.
+const FEW: usize = 16;
+
+/// Returns whether a text is encoded one change after another.
+#[inline(always)]
+pub fn is_few(text: &str) -> bool {
+    text.len() <= FEW
+}
+
+/// Returns whether a text is encoded as one block.
+#[inline(always)]
+pub fn is_block(text: &str) -> bool
+    ensures { IsTrue result ↔ length text.now ≤ BLOCK }
+{
+    text.len() <= BLOCK
+}
+
+/// Returns whether a text is encoded to the stack before its length is known.
+#[inline(always)]
+pub fn is_for_stack(text: &str) -> bool
+    ensures { IsTrue result ↔ length text.now ≤ ON_STACK }
+{
+    text.len() <= ON_STACK
+}
+
+/// A way to write the blocks between the first and the last. Each is a type of `middle`.
 #[derive(Clone, Copy)]
-pub enum Way {
-    Few,
-    Block,
-    OnStack,
-    Blocks,
+pub enum Middle {
+    CopyUnchanged,
+    NullChange,
+    AnyChange,
 }
 
-/// Returns the way of a text.
+/// Returns the way of the blocks between the first and the last of a text, by how many bytes more
+/// than the text its encoding has, or 0 if that is not known.
 #[inline(always)]
-pub fn way_of(text: &str) -> Way
-    ensures { Fits result (length text.now) }
+pub fn middle_of<F: Flavor>(text: &[u8], more: usize, blocks: usize) -> Middle
+    ensures { FitsMiddle result text.now }
 {
-    // By these returns each `match` on the way is compiled to comparisons of the length alone.
-    if text.len() > ON_STACK {
-        return Way::Blocks;
+    // One more, since the first and the last block have some of them.
+    if more <= 1 + blocks / 4 {
+        return Middle::CopyUnchanged;
     }
-    if text.len() > BLOCK {
-        return Way::OnStack;
+    if F::has_long_null() && !any_in_bytes::<AtLeastF0>(text) {
+        return Middle::NullChange;
     }
-    if text.len() > FEW {
-        return Way::Block;
+    if more < blocks - blocks / 4 {
+        return Middle::CopyUnchanged;
     }
-    Way::Few
-}
-
-/// Writes the encoding of a text at the front of a slice that is long enough, and returns its
-/// length. It is told how many bytes more than the text the encoding has, or 0 where that is not
-/// known.
-#[inline(always)]
-pub fn write<F: Flavor>(text: &str, more: usize, out: &mut [u8]) -> usize
-    requires { length (encoding F.flavor (chars text.now)) ≤ length out.old }
-    ensures { WritesEncoding F.flavor text.now out.old out.new result }
-{
-    match way_of(text) {
-        Way::Few => write_few::<F>(text, out),
-        Way::Block => write_short::<F>(text, out),
-        Way::OnStack | Way::Blocks => write_blocks::<F>(text, more, out),
-    }
+    Middle::AnyChange
 }

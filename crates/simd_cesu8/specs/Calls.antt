@@ -3,7 +3,7 @@ use Rattle.std.specs.Prelude.{◌≡◌, ℕ, List, length, Result, IsOk, IsUtf8
 use Rattle.std.specs.Str.{chars}
 use Rattle.simd_cesu8.specs.Encoding.{Flavor, encoding as encoding_of, NeedsEncoding}
 use Rattle.simd_cesu8.specs.Class.{IsUnchangedUtf8}
-use Rattle.simd_cesu8.specs.Reading.{IsStrictReading, HasNoStrictReading, IsLenientReading, HasNoLenientReading, reading as reading_of, lossy_length, IsLenientLossyReading}
+use Rattle.simd_cesu8.specs.Reading.{IsStrictReading, HasNoStrictReading, IsLenientReading, reading as reading_of, lossy_length, IsLenientLossyReading}
 use Rattle.simd_cesu8.specs.Cow.{IfBytes, BorrowsBytesWhere, BuildsBytesOfCapacity, IfText, BorrowsTextWhere, BuildsTextOfCapacity, AnswersTextOfLength}
 use Rattle.simd_cesu8.specs.Fault.{OnInvalid}
 use Rattle.simd_cesu8.specs.declared.cow.CowText.{CowText}
@@ -17,23 +17,32 @@ pub record Encodes {E : Type 0} (f : Flavor) (utf8 : List ℕ) (result : Result 
   pub succeeds : ¬ (NeedsEncoding f (chars utf8)) → IsOk result
   pub capacity : BuildsBytesOfCapacity result (length (encoding_of f (chars utf8)))
 
--- `decode_strict`: the strict reading of bytes, borrowed where its UTF-8 is the bytes.
-pub record DecodesStrictly (f : Flavor) (bytes : List ℕ) (result : Result CowText DecodeFault) : Type 0 where
-  pub text : IfText result (λ text. IsStrictReading f bytes text)
-  pub invalid : OnInvalid result (HasNoStrictReading f bytes)
+-- A call that decodes: bytes that are kept are borrowed, and others are read, or refused.
+pub record DecodesAs (keeps : Type 0) (reads : List ℕ → Type 0) (bytes : List ℕ) (result : Result CowText DecodeFault) : Type 0 where
+  pub text : IfText result (λ text. reads text)
+  pub invalid : OnInvalid result ((text : List ℕ) → ¬ (reads text))
   pub borrowed : BorrowsTextWhere result (λ utf8. utf8 ≡ bytes)
-  pub borrowed_where : BorrowsTextWhere result (λ _. IsUnchangedUtf8 f bytes)
-  pub succeeds : IsUnchangedUtf8 f bytes → IsOk result
+  pub borrowed_where : BorrowsTextWhere result (λ _. keeps)
+  pub succeeds : keeps → IsOk result
   pub capacity : BuildsTextOfCapacity result (length bytes)
 
+-- `decode_strict`: the strict reading of bytes, borrowed where its UTF-8 is the bytes.
+abbrev pub DecodesStrictly : Flavor → List ℕ → Result CowText DecodeFault → Type 0
+DecodesStrictly f bytes = DecodesAs (IsUnchangedUtf8 f bytes) (IsStrictReading f bytes) bytes
+
 -- `decode`: the lenient reading, borrowed where the bytes are UTF-8.
-pub record DecodesLeniently (f : Flavor) (bytes : List ℕ) (result : Result CowText DecodeFault) : Type 0 where
-  pub text : IfText result (λ text. IsLenientReading f bytes text)
-  pub invalid : OnInvalid result (HasNoLenientReading f bytes)
+abbrev pub DecodesLeniently : Flavor → List ℕ → Result CowText DecodeFault → Type 0
+DecodesLeniently f bytes = DecodesAs (IsUtf8 bytes) (IsLenientReading f bytes) bytes
+
+-- A call that decodes and replaces what is ill-formed. If its text is the lossy reading alone, so is
+-- its length.
+pub record DecodesLossilyAs {E : Type 0} (f : Flavor) (keeps : Type 0) (reads : List ℕ → Type 0) (bytes : List ℕ) (result : Result CowText E) : Type 0 where
+  pub reading : IfText result (λ text. reads text)
+  pub text_length : ((text : List ℕ) → reads text → text ≡ reading_of f bytes) → AnswersTextOfLength result (lossy_length f bytes)
   pub borrowed : BorrowsTextWhere result (λ utf8. utf8 ≡ bytes)
-  pub borrowed_where : BorrowsTextWhere result (λ _. IsUtf8 bytes)
-  pub succeeds : IsUtf8 bytes → IsOk result
-  pub capacity : BuildsTextOfCapacity result (length bytes)
+  pub borrowed_where : BorrowsTextWhere result (λ _. keeps)
+  pub succeeds : keeps → IsOk result
+  pub capacity : BuildsTextOfCapacity result (lossy_length f bytes)
 
 -- `decode_lossy_strict`: the lossy reading, borrowed where its UTF-8 is the bytes.
 pub record DecodesLossily {E : Type 0} (f : Flavor) (bytes : List ℕ) (result : Result CowText E) : Type 0 where
@@ -45,9 +54,18 @@ pub record DecodesLossily {E : Type 0} (f : Flavor) (bytes : List ℕ) (result :
   pub capacity : BuildsTextOfCapacity result (lossy_length f bytes)
 
 -- `decode_lossy`: the lenient lossy reading, borrowed where the bytes are UTF-8.
-pub record DecodesLenientlyLossily {E : Type 0} (f : Flavor) (bytes : List ℕ) (result : Result CowText E) : Type 0 where
-  pub reading : IfText result (λ text. IsLenientLossyReading f bytes text)
-  pub borrowed : BorrowsTextWhere result (λ utf8. utf8 ≡ bytes)
-  pub borrowed_where : BorrowsTextWhere result (λ _. IsUtf8 bytes)
-  pub succeeds : IsUtf8 bytes → IsOk result
-  pub capacity : BuildsTextOfCapacity result (lossy_length f bytes)
+abbrev pub DecodesLenientlyLossily : {E : Type 0} → Flavor → List ℕ → Result CowText E → Type 0
+DecodesLenientlyLossily f bytes = DecodesLossilyAs f (IsUtf8 bytes) (IsLenientLossyReading f bytes) bytes
+
+-- What is known of the texts of bytes: of those that are kept, of others that are not UTF-8, and of
+-- those that are no encoding either.
+pub record KnowsTexts (f : Flavor) (keeps : Type 0) (reads : List ℕ → Type 0) (bytes : List ℕ) : Type 0 where
+  pub kept : keeps → reads (chars bytes)
+  pub built : (text : List ℕ) → ¬ (IsUtf8 bytes) → IsStrictReading f bytes text → reads text
+  pub refused : ¬ keeps → HasNoStrictReading f bytes → (text : List ℕ) → ¬ (reads text)
+
+-- The same where what is ill-formed is replaced.
+pub record KnowsLossyTexts (f : Flavor) (keeps : Type 0) (reads : List ℕ → Type 0) (bytes : List ℕ) : Type 0 where
+  pub kept : keeps → reads (chars bytes)
+  pub built : (text : List ℕ) → ¬ keeps → text ≡ reading_of f bytes → reads text
+  pub unchanged : IsUnchangedUtf8 f bytes → keeps

@@ -3,17 +3,17 @@
 //! Decoding returns short ASCII first, in a function that is inlined into the public call. The
 //! rest of it, in a function whose name ends in `other` or `called`, is never inlined, so that this
 //! test stays small. At the front of enough bytes one look shows short ASCII, whatever its length.
+//! What a call takes is a type, `Lenient` or `EncodingAlone`, which has its looks.
 
 ghost use Rattle.std.specs.Prelude.{take};
-ghost use Rattle.simd_cesu8.specs.Calls.{Encodes, DecodesStrictly, DecodesLeniently, DecodesLossily, DecodesLenientlyLossily};
+ghost use Rattle.simd_cesu8.specs.Calls.{Encodes, DecodesAs, DecodesLossilyAs, DecodesStrictly, DecodesLeniently, DecodesLossily, DecodesLenientlyLossily, KnowsTexts, KnowsLossyTexts};
 
 use crate::cow::{CowBytes, CowText};
 use crate::error::DecodeFault;
 use crate::internal;
 use crate::internal::{
-    FirstLook, Flavor, SHOWN_AT_ONCE, ascii_text, begins_with_unchanged_ascii, first_look,
-    is_short_ascii, is_short_unchanged_ascii, looked_at_text, needs_encoded, shows_no_text,
-    tested_text, unchanged_text, whole_text,
+    Accepts, EncodingAlone, Flavor, Lenient, Look, begins_with_unchanged_ascii, is_shown_at_once,
+    known_text, needs_encoded,
 };
 use std::alloc::{AllocError, Global};
 
@@ -30,13 +30,51 @@ pub fn encode<F: Flavor>(alloc: Global, value: &str) -> Result<CowBytes<'_>, All
 }
 
 #[inline(always)]
+#[tactic(auto, using(crate::proofs::KnownTexts::strict_texts))]
 pub fn decode_strict<F: Flavor>(alloc: Global, bytes: &[u8]) -> Result<CowText<'_>, DecodeFault>
     ensures { DecodesStrictly F.flavor bytes.now result }
 {
-    if is_short_unchanged_ascii::<F>(bytes) {
-        return Ok(CowText::Borrowed(ascii_text(bytes)));
+    decode_as::<F, EncodingAlone>(alloc, bytes)
+}
+
+#[inline(always)]
+#[tactic(auto, using(crate::proofs::KnownTexts::lenient_texts))]
+pub fn decode<F: Flavor>(alloc: Global, bytes: &[u8]) -> Result<CowText<'_>, DecodeFault>
+    ensures { DecodesLeniently F.flavor bytes.now result }
+{
+    decode_as::<F, Lenient>(alloc, bytes)
+}
+
+/// Decodes what a call of this kind takes.
+#[inline(always)]
+fn decode_as<F: Flavor, A: Accepts>(alloc: Global, bytes: &[u8]) -> Result<CowText<'_>, DecodeFault>
+    requires { KnowsTexts F.flavor (A.keeps F.flavor bytes.now)
+        (A.reads F.flavor bytes.now) bytes.now }
+    ensures { DecodesAs (A.keeps F.flavor bytes.now) (A.reads F.flavor bytes.now) bytes.now result }
+{
+    if A::is_short_ascii::<F>(bytes) {
+        return Ok(CowText::Borrowed(known_text(bytes)));
     }
-    decode_strict_other::<F>(alloc, bytes)
+    decode_other::<F, A>(alloc, bytes)
+}
+
+/// Decodes bytes that are no short ASCII.
+#[inline(never)]
+fn decode_other<F: Flavor, A: Accepts>(
+    alloc: Global,
+    bytes: &[u8],
+) -> Result<CowText<'_>, DecodeFault>
+    requires { KnowsTexts F.flavor (A.keeps F.flavor bytes.now)
+        (A.reads F.flavor bytes.now) bytes.now }
+    ensures { DecodesAs (A.keeps F.flavor bytes.now) (A.reads F.flavor bytes.now) bytes.now result }
+{
+    match A::look::<F>(bytes) {
+        Look::Text => return Ok(CowText::Borrowed(known_text(bytes))),
+        Look::NoEncoding => return Err(internal::refuse(alloc, bytes.len())),
+        Look::Encoding | Look::Unknown => {}
+    }
+    let built = internal::decode_strict::<F>(alloc, bytes)?;
+    Ok(CowText::Owned(built))
 }
 
 #[inline(always)]
@@ -49,9 +87,9 @@ pub fn decode_strict_front<F: Flavor>(
 {
     let len = len.min(bytes.len());
     let front = &bytes[..len];
-    let is_shown = len <= SHOWN_AT_ONCE && bytes.len() >= SHOWN_AT_ONCE;
+    let is_shown = is_shown_at_once(bytes, len);
     if is_shown && begins_with_unchanged_ascii::<F>(bytes, len) {
-        return Ok(CowText::Borrowed(ascii_text(front)));
+        return Ok(CowText::Borrowed(known_text(front)));
     }
     decode_strict_by_call::<F>(alloc, front, is_shown)
 }
@@ -71,6 +109,7 @@ fn decode_strict_by_call<F: Flavor>(
 
 /// Returns the strict reading of bytes that are no short ASCII, or have not been looked at.
 #[inline(never)]
+#[tactic(auto, using(crate::proofs::KnownTexts::strict_texts))]
 fn decode_strict_called<F: Flavor>(
     alloc: Global,
     bytes: &[u8],
@@ -79,101 +118,62 @@ fn decode_strict_called<F: Flavor>(
     ensures { DecodesStrictly F.flavor bytes.now result }
 {
     if is_shown {
-        return decode_strict_other::<F>(alloc, bytes);
+        return decode_other::<F, EncodingAlone>(alloc, bytes);
     }
     decode_strict::<F>(alloc, bytes)
 }
 
-#[inline(never)]
-fn decode_strict_other<F: Flavor>(alloc: Global, bytes: &[u8]) -> Result<CowText<'_>, DecodeFault>
-    ensures { DecodesStrictly F.flavor bytes.now result }
-{
-    match first_look::<F>(bytes) {
-        // No encoding has a byte that changes, so there is nothing to decode.
-        FirstLook::Changed => return Err(internal::refuse(alloc, bytes.len())),
-        FirstLook::NoText => return Err(internal::refuse(alloc, bytes.len())),
-        FirstLook::Unchanged => {
-            let text = tested_text(bytes);
-            if text.len() == bytes.len() {
-                return Ok(CowText::Borrowed(text));
-            }
-        }
-        FirstLook::NotUtf8 => {}
-    }
-    let built = internal::decode_strict::<F>(alloc, bytes)?;
-    Ok(CowText::Owned(built))
-}
-
 #[inline(always)]
-pub fn decode<F: Flavor>(alloc: Global, bytes: &[u8]) -> Result<CowText<'_>, DecodeFault>
-    ensures { DecodesLeniently F.flavor bytes.now result }
-{
-    if is_short_ascii(bytes) {
-        return Ok(CowText::Borrowed(ascii_text(bytes)));
-    }
-    decode_other::<F>(alloc, bytes)
-}
-
-#[inline(never)]
-fn decode_other<F: Flavor>(alloc: Global, bytes: &[u8]) -> Result<CowText<'_>, DecodeFault>
-    ensures { DecodesLeniently F.flavor bytes.now result }
-{
-    if shows_no_text(bytes) {
-        return Err(internal::refuse(alloc, bytes.len()));
-    }
-    let whole = looked_at_text(bytes);
-    if whole.len() == bytes.len() {
-        return Ok(CowText::Borrowed(whole));
-    }
-    let decoded = internal::decode_strict::<F>(alloc, bytes)?;
-    Ok(CowText::Owned(decoded))
-}
-
-#[inline(always)]
+#[tactic(auto, using(crate::proofs::KnownTexts::lossy_texts))]
 pub fn decode_lossy_strict<F: Flavor>(
     alloc: Global,
     bytes: &[u8],
 ) -> Result<CowText<'_>, AllocError>
     ensures { DecodesLossily F.flavor bytes.now result }
 {
-    if is_short_unchanged_ascii::<F>(bytes) {
-        return Ok(CowText::Borrowed(ascii_text(bytes)));
-    }
-    decode_lossy_strict_other::<F>(alloc, bytes)
-}
-
-#[inline(never)]
-fn decode_lossy_strict_other<F: Flavor>(
-    alloc: Global,
-    bytes: &[u8],
-) -> Result<CowText<'_>, AllocError>
-    ensures { DecodesLossily F.flavor bytes.now result }
-{
-    let text = unchanged_text::<F>(bytes);
-    if text.len() == bytes.len() {
-        return Ok(CowText::Borrowed(text));
-    }
-    let built = internal::decode_lossy::<F, Global>(alloc, bytes)?;
-    Ok(CowText::Owned(built))
+    decode_lossy_as::<F, EncodingAlone>(alloc, bytes)
 }
 
 #[inline(always)]
+#[tactic(auto, using(crate::proofs::KnownTexts::lenient_lossy_texts))]
 pub fn decode_lossy<F: Flavor>(alloc: Global, bytes: &[u8]) -> Result<CowText<'_>, AllocError>
     ensures { DecodesLenientlyLossily F.flavor bytes.now result }
 {
-    if is_short_ascii(bytes) {
-        return Ok(CowText::Borrowed(ascii_text(bytes)));
-    }
-    decode_lossy_other::<F>(alloc, bytes)
+    decode_lossy_as::<F, Lenient>(alloc, bytes)
 }
 
-#[inline(never)]
-fn decode_lossy_other<F: Flavor>(alloc: Global, bytes: &[u8]) -> Result<CowText<'_>, AllocError>
-    ensures { DecodesLenientlyLossily F.flavor bytes.now result }
+/// Decodes what a call of this kind takes, and replaces what is ill-formed.
+#[inline(always)]
+fn decode_lossy_as<F: Flavor, A: Accepts>(
+    alloc: Global,
+    bytes: &[u8],
+) -> Result<CowText<'_>, AllocError>
+    requires { KnowsLossyTexts F.flavor (A.keeps F.flavor bytes.now)
+        (A.reads_lossily F.flavor bytes.now) bytes.now }
+    ensures { DecodesLossilyAs F.flavor (A.keeps F.flavor bytes.now)
+        (A.reads_lossily F.flavor bytes.now) bytes.now result }
 {
-    let text = whole_text(bytes);
-    if text.len() == bytes.len() {
-        return Ok(CowText::Borrowed(text));
+    if A::is_short_ascii::<F>(bytes) {
+        return Ok(CowText::Borrowed(known_text(bytes)));
+    }
+    decode_lossy_other::<F, A>(alloc, bytes)
+}
+
+/// Does so for bytes that are no short ASCII. All of them have a lossy reading, so nothing more need
+/// be known of those that are no text.
+#[inline(never)]
+fn decode_lossy_other<F: Flavor, A: Accepts>(
+    alloc: Global,
+    bytes: &[u8],
+) -> Result<CowText<'_>, AllocError>
+    requires { KnowsLossyTexts F.flavor (A.keeps F.flavor bytes.now)
+        (A.reads_lossily F.flavor bytes.now) bytes.now }
+    ensures { DecodesLossilyAs F.flavor (A.keeps F.flavor bytes.now)
+        (A.reads_lossily F.flavor bytes.now) bytes.now result }
+{
+    match A::look::<F>(bytes) {
+        Look::Text => return Ok(CowText::Borrowed(known_text(bytes))),
+        Look::NoEncoding | Look::Encoding | Look::Unknown => {}
     }
     let built = internal::decode_lossy::<F, Global>(alloc, bytes)?;
     Ok(CowText::Owned(built))

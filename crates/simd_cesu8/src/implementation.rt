@@ -3,8 +3,7 @@
 
 ghost use Rattle.std.specs.Prelude.{◌≡◌, IfSome, IfNone, IsUtf8};
 
-use crate::internal::{ascii_text, is_short_ascii, tested_text};
-use cesu8_bytes::implementation::short::SHORT_VALUE;
+use crate::internal::{Cesu8Flavor, is_short_unchanged_ascii, is_utf8, known_text};
 pub use cesu8_bytes::implementation::{active, fallback, simd, word};
 
 /// Returns the bytes as a text if they are UTF-8, as the calls that decode test them. It requests
@@ -21,12 +20,12 @@ pub fn text_of(bytes: &[u8]) -> Option<&str>
     ensures some { IfSome result (λ text. text.now ≡ bytes.now) }
     ensures none { IfNone result (¬ (IsUtf8 bytes.now)) }
 {
-    if bytes.len() <= SHORT_VALUE && is_short_ascii(bytes) {
-        return Some(ascii_text(bytes));
+    // In CESU-8 no ASCII changes.
+    if is_short_unchanged_ascii::<Cesu8Flavor>(bytes) {
+        return Some(known_text(bytes));
     }
-    let text = tested_text(bytes);
-    if text.len() != bytes.len() {
-        return None;
+    if is_utf8(bytes) {
+        return Some(known_text(bytes));
     }
-    Some(text)
+    None
 }

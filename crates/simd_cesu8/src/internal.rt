@@ -13,20 +13,17 @@ ghost use Rattle.simd_cesu8.specs.Outcomes.{IsFaultOf, IsAnswerOf, IsStrictOutco
 pub mod value;
 
 use crate::error::{DecodeFault, DecodeSliceFault, DecodingError, LossySliceFault, TooShort};
-pub use cesu8_bytes::ascii::{
-    SHOWN_AT_ONCE, ascii_text, begins_with_unchanged_ascii, is_short_ascii,
-    is_short_unchanged_ascii,
-};
-pub use cesu8_bytes::first_looks::{
-    FirstLook, first_look, looked_at_text, needs_encoded, shows_no_text, tested_text,
-    unchanged_text, whole_text,
-};
+pub use cesu8_bytes::copies::{copy, copy_text};
 pub use cesu8_bytes::flavor::{Cesu8Flavor, Flavor, Mutf8Flavor};
 pub use cesu8_bytes::lengths::{encoded_len, encoded_len_by_need, utf16_len};
+pub use cesu8_bytes::looks::{
+    Accepts, EncodingAlone, Lenient, Look, begins_with_unchanged_ascii, is_short_unchanged_ascii,
+    is_shown_at_once, needs_encoded,
+};
 use cesu8_bytes::options::Strictness;
 pub use cesu8_bytes::order::compare_as_utf16;
+pub use cesu8_bytes::utf8::{is_utf8, known_text};
 use cesu8_bytes::writers::NoRoom;
-pub use cesu8_bytes::writers::{copy, copy_text};
 use cesu8_decode::copy_or_write::{put_encoding, put_leniently};
 use cesu8_decode::refusal::{Refusal, Unwritten};
 pub use cesu8_decode::{decode_lossy, decoded_len, lossy_len, valid_up_to};

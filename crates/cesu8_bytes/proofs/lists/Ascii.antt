@@ -1,5 +1,5 @@
 -- ASCII: bytes of which none is 80 (hexadecimal) or more.
-use Rattle.std.proofs.Common.{◌≡◌, ◌∙◌, ℕ, Bool, true, false, not, ◌||◌, ◌⊎◌, ◌<◌, ◌≤◌, List, [], ◌∷◌, refl, sym, ap, subst, ⊎_elim, arith, length, take, drop, get_or, inl, inr, take-add}
+use Rattle.std.proofs.Common.{◌≡◌, ◌∙◌, ℕ, Bool, true, false, not, ◌||◌, ◌⊎◌, ◌<◌, ◌≤◌, List, [], ◌∷◌, refl, sym, ap, subst, ⊎_elim, arith, leb, length, take, drop, get_or, inl, inr, take-add}
 use Rattle.std.specs.List.{Any, prefix_len}
 use Rattle.std.specs.Str.{IsAscii}
 use Rattle.std.proofs.lemmas.Bool.{and_parts, both_ways, cases_lt, le-leb, leb-true, not-true, or_cases, or_left, or_right}
@@ -49,19 +49,19 @@ pub ascii_of_neither : (other : ℕ → Bool) (xs : List ℕ) → (AnyIn (λ b. 
 ascii_of_neither other xs none = ascii_of_none xs (λ any.
     none (any.0, any.1, any.2, any.3, second_suffices (other any.1) (is_non_ascii any.1) any.4))
 
-four_is_other : (b : ℕ) → is_four b ≡ true → is_non_ascii b ≡ true
-four_is_other b four = le-leb 0x80 b (omega (arith, leb-true 0xF0 b (and_parts _ _ four).0))
+four_is_other : (n b : ℕ) → n ≤ 0xF0 → is_four b ≡ true → leb n b ≡ true
+four_is_other n b low four = le-leb n b (omega (arith, low, leb-true 0xF0 b (and_parts _ _ four).0))
 
-changed_is_either : (f : Flavor) (b : ℕ) → IsChangedByte f b → (is_null f b || is_non_ascii b) ≡ true
-changed_is_either Cesu8 b four = four_is_other b four
-changed_is_either Mutf8 b changed =
-    ⊎_elim (λ null. or_left _ _ null) (λ four. or_right _ _ (four_is_other b four)) (or_cases _ _ changed)
+changed_is_either : (f : Flavor) (n b : ℕ) → n ≤ 0xF0 → IsChangedByte f b → (is_null f b || leb n b) ≡ true
+changed_is_either Cesu8 n b low four = four_is_other n b low four
+changed_is_either Mutf8 n b low changed =
+    ⊎_elim (λ null. or_left _ _ null) (λ four. or_right _ _ (four_is_other n b low four)) (or_cases _ _ changed)
 
--- No byte changes where none is a null that changes, or 80 or more.
-pub unchanged_of_neither : (f : Flavor) (null : ℕ → Bool) → null ≡ is_null f → (xs : List ℕ) →
-    (AnyIn (λ b. null b || is_non_ascii b) xs → ⊥) → Any (IsChangedByte f) xs → ⊥
-unchanged_of_neither f null is xs none any =
-    none (any.0, any.1, any.2, any.3, ap (λ p. p any.1 || is_non_ascii any.1) is ∙ changed_is_either f any.1 any.4)
+-- A byte that changes is a null that does, or F0 or more, and so a number below that or more.
+pub either_of_changed : (f : Flavor) (null : ℕ → Bool) → null ≡ is_null f → (n : ℕ) → n ≤ 0xF0 → (xs : List ℕ) →
+    Any (IsChangedByte f) xs → AnyIn (λ b. null b || leb n b) xs
+either_of_changed f null is n low xs any =
+    (any.0, any.1, any.2, any.3, ap (λ p. p any.1 || leb n any.1) is ∙ changed_is_either f n any.1 low any.4)
 
 -- None of the first bytes is of a class where no fewer precede one of it.
 pub none_in_front : (class : ℕ → Bool) (xs : List ℕ) (n len run : ℕ) → run ≡ prefix_len (λ b. not (class b)) (take n xs) → len ≤ run →

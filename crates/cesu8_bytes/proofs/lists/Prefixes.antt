@@ -6,7 +6,7 @@ use Rattle.std.specs.Cmp.{nat_cmp_is}
 use Rattle.std.specs.Cmp.Lexicographic.{slice_cmp}
 use Rattle.std.specs.Str.{chars, IsUtf8}
 use Rattle.std.proofs.Math.ListN.{get_or-eq_default}
-use Rattle.std.proofs.lemmas.Bool.{cases_lt, cases_order, not-true, not-false, eqb-true, eqb-false, eq-eqb, ne_eqb}
+use Rattle.std.proofs.lemmas.Bool.{cases_lt, cases_order, not-true, not-false, eqb-true, eqb-false}
 use Rattle.std.proofs.lemmas.Bool.Decides.{nat_tests}
 use Rattle.std.proofs.lemmas.List.{get_or-take, get_or-append-add, length-take, map-id}
 use Rattle.std.proofs.lemmas.List.Elements.{All-nil, All-cons, All-append, All-get_or}
@@ -111,20 +111,11 @@ module _ (at n : ℕ) (xs ys : List ℕ) (long : at + n ≤ length xs) (other_lo
       ap (λ ms. mask_l ms % 2 ^ 64) (tops_compared w8 (λ a b. not (eqb a b)) (chunk at n xs) (chunk at n ys))
       ∙ mask_l-mod (differ at n xs ys) 64 (omega (arith, few, differ_long))
 
-  first_of_marks : n ≤ 64 → cond (eqb marks 0) n (count_trailing_zeros 64 marks) ≡ prefix_len (λ b. not b) (differ at n xs ys)
+  -- so its first one tells the first that differs.
+  pub first_of_marks : n ≤ 64 → cond (eqb marks 0) n (count_trailing_zeros 64 marks) ≡ prefix_len (λ b. not b) (differ at n xs ys)
   first_of_marks few =
       ap (λ m. cond (eqb m 0) n (count_trailing_zeros 64 m)) (marks_are few ∙ ap mask_l (sym (map-id (differ at n xs ys))))
       ∙ first_set_mask_l (λ (b : Bool). b) (differ at n xs ys) n differ_long few
-
-  -- so where it is 0, all lanes are the same,
-  pub all_same : n ≤ 64 → marks ≡ 0 → n ≡ prefix_len (λ b. not b) (differ at n xs ys)
-  all_same few none =
-      ap (λ t. cond t n (count_trailing_zeros 64 marks)) (sym (eq-eqb marks 0 none)) ∙ first_of_marks few
-
-  -- and else its first bit tells the first one that differs.
-  pub first_bit : n ≤ 64 → (marks ≡ 0 → ⊥) → count_trailing_zeros 64 marks ≡ prefix_len (λ b. not b) (differ at n xs ys)
-  first_bit few some =
-      ap (λ t. cond t n (count_trailing_zeros 64 marks)) (sym (ne_eqb marks 0 some)) ∙ first_of_marks few
 
 -- Where two lists are the same up to an index, and from one that is no greater, they are both.
 pub same_further : (xs ys : List ℕ) (known at more : ℕ) → at ≤ known → ((i : ℕ) → i < known → get_or xs i 0 ≡ get_or ys i 0) →

@@ -1,20 +1,26 @@
 -- Vectors that are stored into a list of bytes.
 use Rattle.std.proofs.Common.{◌≡◌, ℕ, zero, suc, ◌+◌, ◌*◌, ◌-◌, ◌≤◌, List, [], ◌∷◌, ◌++◌, refl, sym, subst, ap, ◌∙◌, arith, length, take, drop}
 use lib.Lanes.{put_chunk}
-use Rattle.std.proofs.lemmas.List.{append_assoc, length-drop, length-take-le, take-append-drop, take-append-le, take-take}
+use Rattle.std.proofs.lemmas.List.{append_assoc, length-drop, length-take-le, take-append-drop, take-take}
 use Rattle.std.proofs.Math.Seq.{take-append-add, take-add}
-use Rattle.std.proofs.lemmas.Simd.{length-put_chunk, put_chunk_is, take_more_put_chunk}
+use Rattle.std.proofs.lemmas.Simd.{length-put_chunk, take_more_put_chunk}
 
--- What is stored of a run stands behind what was written,
-pub run_stored : (at n run : ℕ) (bytes out : List ℕ) → at + n ≤ length out → n ≤ length bytes → run ≤ n →
+-- Of a vector that is put behind what was written, the first bytes stand there too,
+pub run_put : (at n run end : ℕ) (bytes out new : List ℕ) → at ≤ length out → n ≤ length bytes → run ≤ n → end ≡ at + length (take n bytes) →
+    take end new ≡ take at out ++ take n bytes → take (at + run) new ≡ take at out ++ take run bytes
+run_put at n run end bytes out new room long le end_is put =
+    sym (take-take (at + run) end new (omega (arith, le, end_is, length-take-le n bytes long)))
+    ∙ ap (take (at + run)) put
+    ∙ ap (λ i. take (i + run) (take at out ++ take n bytes)) (sym (length-take-le at out room))
+    ∙ take-append-add (take at out) (take n bytes) run
+    ∙ ap (λ bs. take at out ++ bs) (take-take run n bytes le)
+
+run_stored : (at n run : ℕ) (bytes out : List ℕ) → at + n ≤ length out → n ≤ length bytes → run ≤ n →
     take (at + run) (put_chunk at out (take n bytes)) ≡ take at out ++ take run bytes
 run_stored at n run bytes out room long le =
-    let lanes = take n bytes in
     let len = length-take-le n bytes long in
-    ap (take (at + run)) (put_chunk_is at out lanes (omega (arith, room, len)))
-    ∙ ap (λ i. take (i + run) (take at out ++ (lanes ++ drop (length lanes) (drop at out)))) (sym (length-take-le at out (omega arith)))
-    ∙ take-append-add (take at out) (lanes ++ drop (length lanes) (drop at out)) run
-    ∙ ap (λ bs. take at out ++ bs) (take-append-le run lanes (drop (length lanes) (drop at out)) (omega (arith, le, len)) ∙ take-take run n bytes le)
+    run_put at n run (at + n) bytes out (put_chunk at out (take n bytes)) (omega (arith, room)) long le (omega (arith, len))
+    (take_more_put_chunk at out (take n bytes) (at + n) (omega (arith, len)) (omega (arith, room)))
 
 -- and the bytes behind the vector stay.
 pub behind_stored : (at m : ℕ) (out lanes : List ℕ) → at + length lanes ≤ m → drop m (put_chunk at out lanes) ≡ drop m out

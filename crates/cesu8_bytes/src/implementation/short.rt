@@ -3,14 +3,11 @@
 //! Two vectors of one width, one at the front and one at the end, cover a value between that width
 //! and twice that. They overlap where needed, so no byte is left out.
 
-ghost use Rattle.std.specs.Prelude.{◌≡◌, ◌≤◌, ◌<◌, ◌+◌, ◌*◌, ◌-◌, ◌↔◌, ◌++◌, IsTrue, IsUtf8, length, drop};
+ghost use Rattle.std.specs.Prelude.{◌≡◌, ◌≤◌, ◌<◌, ◌+◌, ◌*◌, ◌-◌, ◌↔◌, ◌++◌, IsTrue, length, drop};
 ghost use Rattle.cesu8_bytes.specs.Kernels.{AnyIn, NoneAdjoin};
 
-use super::class::{InAllVectors, InVectors, LANES, any_in_each, bits, has};
+use super::class::{InVectors, LANES, bits, has};
 use std::simd::prelude::*;
-
-/// The most bytes that a short value has.
-pub const SHORT_VALUE: usize = 4 * LANES;
 
 /// Calls a function at the greatest width of which two vectors cover at most 64 bytes, or returns
 /// what is right of none: `by_two_vectors!(value, function[Class](value), of_none)`.
@@ -35,18 +32,6 @@ macro_rules! by_two_vectors {
 }
 
 pub(crate) use by_two_vectors;
-
-/// Returns whether some byte is in the class. It is correct for every length, and fast for short
-/// ones.
-#[inline(always)]
-pub fn any_in_short<C: InAllVectors>(bytes: &[u8]) -> bool
-    ensures { IsTrue result ↔ AnyIn C.class bytes.now }
-{
-    if bytes.len() > LANES {
-        return any_in_blocks::<C>(bytes);
-    }
-    by_two_vectors!(bytes, any_in_ends[C](bytes), false)
-}
 
 /// Returns whether some byte is in the class, by a vector at the front and one at the end, which
 /// together cover all.
@@ -79,18 +64,6 @@ pub fn adjoin<P: InVectors<N>, Q: InVectors<N>, const N: usize>(bytes: &[u8], at
     let first: Simd<u8, N> = Simd::from_slice(&bytes[at..]);
     let behind: Simd<u8, N> = Simd::from_slice(&bytes[at + 1..]);
     (P::marks(first) & Q::marks(behind)).any()
-}
-
-/// Returns whether some byte of a block is in the class, or of the last 64 bytes, which overlap the
-/// last block.
-#[inline(always)]
-fn any_in_blocks<C: InVectors<LANES>>(bytes: &[u8]) -> bool
-    requires { LANES ≤ length bytes.now }
-    ensures { IsTrue result ↔ AnyIn C.class bytes.now }
-{
-    let (blocks, _) = bytes.as_chunks::<LANES>();
-    let end = end_vector::<LANES>(bytes);
-    any_in_each::<C, LANES>(blocks) || has::<C, LANES>(end)
 }
 
 /// Counts the bytes in the class, in a vector at the front and one at the end. The bits of bytes in

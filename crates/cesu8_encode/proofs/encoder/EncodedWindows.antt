@@ -1,7 +1,7 @@
 -- What is written for parts of a text.
 use Rattle.std.proofs.Common.{◌≡◌, ℕ, zero, suc, ◌+◌, ◌-◌, ◌*◌, ◌%◌, ◌^◌, ◌<◌, ◌≤◌, Bool, true, false, cond, List, [], ◌∷◌, ◌++◌, map, refl, sym, ap, ◌∙◌, arith, length, take, drop, get_or, replicate, bit_and, length-append, append_assoc, count_ones}
 use Rattle.std.specs.List.{flat_map, range_with_len}
-use Rattle.std.proofs.lemmas.List.{get_or-drop, get_or-take, length-drop, length-take-le, take_all, take_at, take-take}
+use Rattle.std.proofs.lemmas.List.{append-nil, get_or-drop, get_or-take, length-drop, length-take-le, take_all, take_at, take-take}
 use Rattle.std.proofs.lemmas.List.Concat.{flat_map-append}
 use Rattle.std.proofs.lemmas.List.FromFn.{length-range_with_len, length-map-range_with_len, take-map-range_with_len}
 use Rattle.std.proofs.lemmas.Nat.{and_mask, ones-le}
@@ -9,8 +9,10 @@ use Rattle.std.proofs.Math.Nat.{mod-eq_of_lt, mod-lt, one-le-pow}
 use lib.Pow.{pow_mono}
 use Rattle.std.proofs.lemmas.Simd.{ones-mask_l_cons}
 use lib.Lanes.{mask_l}
-use Rattle.cesu8_text.specs.Encoding.{Flavor}
+use Rattle.std.specs.Str.{IsUtf8, chars}
+use Rattle.cesu8_text.specs.Encoding.{Flavor, encoding}
 use Rattle.cesu8_encode.specs.EncodedOffsets.{encoded_byte_at, encoded_bytes, recoded, is_doubled_at, inserted_at, changed_at, packed, packed_len, IsWritten, AreLanes, ArePackedTo}
+use Rattle.cesu8_encode.proofs.encoder.RecodedText.{recoded_chars}
 use Rattle.cesu8_encode.proofs.encoder.EncodedLanes.{packed_offsets}
 use Rattle.cesu8_bytes.proofs.vectors.Rows.{mask_prefix}
 use Rattle.cesu8_bytes.proofs.vectors.Loads.{zeros_at, padded}
@@ -165,6 +167,16 @@ encoded_bytes_first f text near zeros m n le is =
     first zero l = refl
     first (suc zero) l = refl
     first (suc (suc k)) l = padded near _ (zeros_left zeros m) k ∙ ap (λ xs. get_or xs k 0) is ∙ get_or-take 33 text k 0 (omega arith)
+
+-- For a text that is a block or less, that is its encoding.
+pub encoded_short : (f : Flavor) (bytes text near : List ℕ) → near ≡ bytes ++ drop (length bytes) (replicate 33 0) →
+    bytes ≡ text → IsUtf8 text → length text ≤ 32 →
+    encoded_bytes f (0 ∷ 0 ∷ (near ++ [])) 0 (length bytes) ≡ encoding f (chars text)
+encoded_short f bytes text near near_is same is_utf8 short =
+    let le : length bytes ≤ 32 = omega (arith, short, ap length same) in
+    ap (λ window. encoded_bytes f (0 ∷ 0 ∷ window) 0 (length bytes)) (append-nil near ∙ near_is)
+    ∙ encoded_bytes_first f bytes bytes 33 (length bytes) (length bytes) le (sym (take_all 33 bytes (omega (arith, le))))
+    ∙ recoded_chars f text bytes same is_utf8
 
 -- and of that in which zeros follow its last bytes, those from i on.
 pub encoded_bytes_last : (f : Flavor) (text near : List ℕ) (i n : ℕ) → 2 ≤ i → near ≡ part_from (i - 2) text →

@@ -1,12 +1,12 @@
 -- When a decoder may give its input as the text, and that it may not elsewhere.
-use Rattle.std.proofs.Common.{◌≡◌, ◌≢◌, ℕ, ◌↔◌, false, List, IsTrue, ◌∙◌, sym, ap, subst, inr}
+use Rattle.std.proofs.Common.{◌≡◌, ◌≢◌, ℕ, ◌↔◌, false, List, IsTrue, sym, subst, inr}
 use Rattle.std.proofs.lemmas.Bool.{false≢true}
 use Rattle.std.specs.Str.{chars, IsUtf8}
-use Rattle.cesu8_text.specs.Encoding.{Flavor, encoding, NeedsEncoding}
+use Rattle.cesu8_text.specs.Encoding.{Flavor, NeedsEncoding}
 use Rattle.cesu8_text.specs.Reading.{IsStrictReading, IsLenientReading}
 use Rattle.cesu8_text.proofs.StdUtf8.{IsUtf8Of_chars, not_utf8_of}
 use Rattle.cesu8_text.specs.Class.{IsUnchangedUtf8}
-use Rattle.cesu8_text.proofs.encoding.NeedsEncoding.{needs_by_bytes, encoding_is_bytes, encoding_is_not_bytes}
+use Rattle.cesu8_text.proofs.encoding.NeedsEncoding.{needs_by_bytes, encoding_is_bytes}
 
 -- UTF-8 without a byte of the class is the encoding of its characters.
 pub unchanged_reading : (f : Flavor) (bytes text : List ℕ) → text ≡ bytes → IsUnchangedUtf8 f bytes →
@@ -16,18 +16,6 @@ unchanged_reading f bytes text equal unchanged =
     λ needs. unchanged.1 ((needs_by_bytes f bytes unchanged.0).1 needs) in
     subst (λ t. IsStrictReading f bytes (chars t)) (sym equal)
     ((IsUtf8Of_chars bytes unchanged.0).0, encoding_is_bytes f bytes unchanged.0 needs_none)
-
--- The text of any other encoding is not the input.
-pub changed_text : (f : Flavor) (bytes text : List ℕ) → ¬ (IsUnchangedUtf8 f bytes) → IsUtf8 text →
-    IsStrictReading f bytes (chars text) → text ≢ bytes
-changed_text f bytes text not_unchanged is_utf8 reading equal =
-    let utf8 = subst IsUtf8 equal is_utf8 in
-    not_unchanged (
-      utf8,
-      λ changed.
-          encoding_is_not_bytes f bytes utf8 ((needs_by_bytes f bytes utf8).0 changed)
-          (ap (λ t. encoding f (chars t)) (sym equal) ∙ reading.1),
-    )
 
 -- Where the bytes are no UTF-8, the strict reading is the lenient one,
 pub built_lenient : (f : Flavor) (bytes text : List ℕ) → ¬ (IsUtf8 bytes) → IsStrictReading f bytes text → IsLenientReading f bytes text

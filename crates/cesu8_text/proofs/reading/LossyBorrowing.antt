@@ -120,13 +120,6 @@ unchanged_lossy f bytes text equal unchanged =
     let strict = unchanged_reading f bytes text equal unchanged in
     sym (ap (reading f) (sym strict.1) ∙ reading_encoding f (chars text) strict.0)
 
--- and it is as long as that.
-pub unchanged_length : (f : Flavor) (bytes text : List ℕ) → text ≡ bytes → IsUnchangedUtf8 f bytes →
-    length text ≡ lossy_length f bytes
-unchanged_length f bytes text equal unchanged =
-    length_of_reading f bytes text (subst IsUtf8 (sym equal) unchanged.0)
-    (unchanged_lossy f bytes text equal unchanged)
-
 -- Where the bytes are no UTF-8, the lenient reading is the lossy one.
 pub built_lenient_lossy : (f : Flavor) (bytes text : List ℕ) → ¬ (IsUtf8 bytes) → text ≡ reading f bytes → IsLenientLossyReading f bytes text
 built_lenient_lossy f bytes text not_utf8 reads = inr (not_utf8_of bytes not_utf8, reads)

@@ -1,18 +1,24 @@
-use Rattle.std.proofs.Common.{◌-◌, arith}
+use Rattle.std.proofs.Common.{◌-◌, arith, rules}
 use Rattle.cesu8_bytes.proofs.lists.Prefixes.{same_further}
 use Rattle.cesu8_bytes.proofs.order.difference_by.Goals as goal
 
-pub returns-then-same-clause-same : goal.returns-then-same-clause-same
-returns-then-same-clause-same g c =
-    same_further c.args.bytes.now c.args.other.now c.loop-offset.offset c.loop-offset.offset c.same_in_front-same.result (omega arith)
-    c.loop-offset.invariant c.same_in_front-same.ensures.same
+pub returns-then-same : goal.returns-then-same
+returns-then-same g c = record {
+  within = search rules;
+  same = same_further c.args.bytes.now c.args.other.now c.loop-offset.offset c.loop-offset.offset c.same_in_front-same.result (omega arith)
+      c.loop-offset.invariant c.same_in_front-same.ensures.same;
+  end = λ _. c.same_in_front-same.ensures.end c.if-same.true;
+}
 
 pub loop-offset-preserved : goal.loop-offset-preserved
 loop-offset-preserved g c =
     same_further c.args.bytes.now c.args.other.now c.loop-offset.offset c.loop-offset.offset g.row.N (omega arith)
     c.loop-offset.invariant (λ i before. c.same_in_front-same.ensures.same i (omega (arith, before, c.if-same.false)))
 
-pub returns-clause-same : goal.returns-clause-same
-returns-clause-same g c =
-    same_further c.args.bytes.now c.args.other.now c.loop-offset.offset (c.args.len - g.row.N) c.same_in_front.result
-    (omega (arith, c.loop-offset-test.false)) c.loop-offset.invariant c.same_in_front.ensures.same
+pub returns : goal.returns
+returns g c = record {
+  within = omega (arith, c.same_in_front.ensures.within);
+  same = same_further c.args.bytes.now c.args.other.now c.loop-offset.offset (c.args.len - g.row.N) c.same_in_front.result
+      (omega (arith, c.loop-offset-test.false)) c.loop-offset.invariant c.same_in_front.ensures.same;
+  end = λ less. c.same_in_front.ensures.end (omega (arith, less));
+}

@@ -1,6 +1,6 @@
 use Rattle.std.proofs.Common.{[], ℕ, List, replicate, ◌≡◌, ◌++◌, ◌∙◌, refl, ap, arith, length, take}
 use Rattle.std.proofs.Math.Seq.{take-append_seam}
-use Rattle.std.proofs.lemmas.List.{take_rest, length-append}
+use Rattle.std.proofs.lemmas.List.{take_rest, length-append, length-replicate}
 use Rattle.cesu8_bytes.specs.declared.options.Strictness.TheVariants.{Strict}
 use Rattle.cesu8_decode.proofs.chunks.ReadChunks.{nothing_read, none_behind, more_read, chunk_appended, chunk_fits}
 use Rattle.cesu8_decode.proofs.chunks.Strings.{part_kept}
@@ -30,15 +30,16 @@ loop-rest-preserved g c =
     let before = c.deref_mut.result.now in
     let chunk = c.write_strict-decoded.ensures.first.chunk c.if-decoded.false in
     let zeros : List ℕ = replicate c.min.result 0 in
+    let added : length zeros ≡ c.min.result = length-replicate c.min.result 0 in
     let long : start ≡ length c.loop-rest.text.items = omega (arith, c.len-start.ensures, c.loop-rest.text.ok) in
     let old : take start before ≡ c.loop-rest.text.items =
     ap (take start) (c.deref_mut.ensures.value ∙ c.append_zeros.ensures.bytes)
     ∙ ap (λ n. take n (c.loop-rest.text.items ++ zeros)) long ∙ take-append_seam c.loop-rest.text.items zeros in
     let new : c.truncate.new.self.items ≡ c.loop-rest.text.items ++ take end c.write_strict-decoded.new.out =
     c.truncate.ensures.items ∙ part_kept start end _ before c.write_strict-decoded.new.out _ _
-    (omega (arith, c.len-start.ensures, c.deref_mut.ensures.len, c.append_zeros.ensures.len))
+    (omega (arith, c.len-start.ensures, c.deref_mut.ensures.len, c.append_zeros.ensures.len, added))
     c.write_strict-decoded.ensures.end
-    (omega (arith, c.len-start.ensures, c.deref_mut.ensures.len, c.append_zeros.ensures.len, c.write_strict-decoded.ensures.end, c.write_strict-decoded.ensures.len))
+    (omega (arith, c.len-start.ensures, c.deref_mut.ensures.len, c.append_zeros.ensures.len, added, c.write_strict-decoded.ensures.end, c.write_strict-decoded.ensures.len))
     ∙ ap (λ bs. bs ++ take end c.write_strict-decoded.new.out) old in
     rw take_rest (record {
       read = more_read f Strict c.args.bytes.now rest _ _ _ _ c.loop-rest.invariant.read (chunk_appended f Strict rest _ _ _ _ chunk new);

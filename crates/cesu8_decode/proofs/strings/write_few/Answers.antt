@@ -1,4 +1,5 @@
-use Rattle.std.proofs.Common.{◌≤◌, [], ◌∙◌, sym, subst, arith, length}
+use Rattle.std.proofs.Common.{◌≡◌, ℕ, ◌≤◌, [], ◌∙◌, sym, subst, arith, length, replicate}
+use Rattle.std.proofs.lemmas.List.{length-replicate}
 use Rattle.cesu8_bytes.specs.TextChunks.{IsChunk}
 use Rattle.cesu8_bytes.specs.declared.options.Strictness.TheVariants.{Strict}
 use Rattle.cesu8_decode.proofs.chunks.ReadChunks.{all_chunk, none_if_refused}
@@ -18,8 +19,9 @@ returns g c =
     let bytes = c.args.bytes.now in
     let decoded = c.write_characters-decoded in
     let new = decoded.new.out in
-    let end : decoded.result.end ≤ length new = omega (arith, decoded.ensures.end, decoded.ensures.len, c.deref_mut.ensures.len, c.append_zeros.ensures.len) in
-    let within : decoded.result.end ≤ c.append_zeros.new.out.len = omega (arith, decoded.ensures.end, c.append_zeros.ensures.len) in
+    let zeros : length (replicate {A = ℕ} (length bytes) 0) ≡ length bytes = length-replicate (length bytes) 0 in
+    let end : decoded.result.end ≤ length new = omega (arith, decoded.ensures.end, decoded.ensures.len, c.deref_mut.ensures.len, c.append_zeros.ensures.len, zeros) in
+    let within : decoded.result.end ≤ c.append_zeros.new.out.len = omega (arith, decoded.ensures.end, c.append_zeros.ensures.len, zeros) in
     record {
       text = subst (IsChunk f Strict bytes []) (sym (c.truncate.ensures.items ∙ cut new _ _ _ end within))
           (all_chunk f Strict bytes _ _ _ decoded.ensures.read c.if-decoded.false);

@@ -1,4 +1,4 @@
-use Rattle.std.proofs.Common.{◌++◌, ap, ◌∙◌, arith, map, take}
+use Rattle.std.proofs.Common.{rules, ◌++◌, ap, ◌∙◌, arith, map, take}
 use Rattle.std.specs.List.{range_with_len}
 use Rattle.std.proofs.lemmas.List.{length-take-le}
 use Rattle.std.proofs.lemmas.List.FromFn.{length-map-range_with_len}
@@ -10,23 +10,24 @@ use Rattle.cesu8_encode.proofs.encoder.EncodedRows.{four_rows}
 use Rattle.cesu8_encode.proofs.encoder.EncodedWindows.{counted, prefix_long, prefix_of_block}
 use Rattle.cesu8_encode.proofs.blocks.store_block.Goals as goal
 
-pub returns-clause-bytes : goal.returns-clause-bytes
-returns-clause-bytes c f window at lanes =
-    let doubled = c.args.block.now.doubled in
-    let before = take c.args.end c.args.out.now in
-    let tests = map (is_doubled_at f window) (range_with_len at 32) in
-    let long = length-map-range_with_len (is_doubled_at f window) at 32 in
-    let rows = four_rows c.args.block.now.firsts c.args.block.now.seconds tests
-    lanes.firsts_long lanes.seconds_long long _ _ _ _ _
-    (c.store_row-at.ensures.bytes (chunk 0 8 tests) (length-chunk 0 8 tests (omega (arith, long))) (first_mask tests doubled (omega (arith, long)) lanes.doubled_is))
-    (c.store_row-at-2.ensures.bytes (chunk 8 8 tests) (length-chunk 8 8 tests (omega (arith, long))) (row_mask 8 tests doubled (omega (arith, long)) lanes.doubled_is))
-    (c.store_row-at-3.ensures.bytes (chunk 16 8 tests) (length-chunk 16 8 tests (omega (arith, long))) (row_mask 16 tests doubled (omega (arith, long)) lanes.doubled_is))
-    (c.store_row.ensures.bytes (chunk 24 8 tests) (length-chunk 24 8 tests (omega (arith, long))) (row_mask 24 tests doubled (omega (arith, long)) lanes.doubled_is)) in
-    let stored = rows ∙ ap (λ l. before ++ l) lanes.packed_to in
-    let counted_is = counted c.args.count doubled c.requires.count in
-    prefix_of_block f window before c.store_row.new.out at c.args.count c.store_row.result _ c.requires.count
-    (omega (arith, c.store_row.ensures.end, c.store_row.ensures.len, c.requires.room)) stored
-    (omega (arith, counted_is, prefix_long f window at c.args.count _ c.requires.count lanes.doubled_is, length-take-le c.args.end c.args.out.now (omega (arith, c.requires.room))))
-
-pub returns-clause-end : goal.returns-clause-end
-returns-clause-end c = omega (arith, counted c.args.count c.args.block.now.doubled c.requires.count)
+pub returns : goal.returns
+returns c = record {
+  bytes = λ f window at lanes.
+      let doubled = c.args.block.now.doubled in
+      let before = take c.args.end c.args.out.now in
+      let tests = map (is_doubled_at f window) (range_with_len at 32) in
+      let long = length-map-range_with_len (is_doubled_at f window) at 32 in
+      let rows = four_rows c.args.block.now.firsts c.args.block.now.seconds tests
+      lanes.firsts_long lanes.seconds_long long _ _ _ _ _
+      (c.store_row-at.ensures.bytes (chunk 0 8 tests) (length-chunk 0 8 tests (omega (arith, long))) (first_mask tests doubled (omega (arith, long)) lanes.doubled_is))
+      (c.store_row-at-2.ensures.bytes (chunk 8 8 tests) (length-chunk 8 8 tests (omega (arith, long))) (row_mask 8 tests doubled (omega (arith, long)) lanes.doubled_is))
+      (c.store_row-at-3.ensures.bytes (chunk 16 8 tests) (length-chunk 16 8 tests (omega (arith, long))) (row_mask 16 tests doubled (omega (arith, long)) lanes.doubled_is))
+      (c.store_row.ensures.bytes (chunk 24 8 tests) (length-chunk 24 8 tests (omega (arith, long))) (row_mask 24 tests doubled (omega (arith, long)) lanes.doubled_is)) in
+      let stored = rows ∙ ap (λ l. before ++ l) lanes.packed_to in
+      let counted_is = counted c.args.count doubled c.requires.count in
+      prefix_of_block f window before c.store_row.new.out at c.args.count c.store_row.result _ c.requires.count
+      (omega (arith, c.store_row.ensures.end, c.store_row.ensures.len, c.requires.room)) stored
+      (omega (arith, counted_is, prefix_long f window at c.args.count _ c.requires.count lanes.doubled_is, length-take-le c.args.end c.args.out.now (omega (arith, c.requires.room))));
+  end = omega (arith, counted c.args.count c.args.block.now.doubled c.requires.count);
+  len = search rules;
+}

@@ -10,15 +10,14 @@ write_lanes-requires-clause-room g c =
       c.requires.room,
     )
 
-pub returns-clause-bytes : goal.returns-clause-bytes
-returns-clause-bytes g c =
-    c.write_lanes.ensures.bytes g.F.Flavor.flavor c.args.window.now c.args.at
-    (lanes_packed g.F.Flavor.flavor c.args.window.now c.args.at _ _ _ c.encode_block-block.ensures)
-
-pub returns-clause-end : goal.returns-clause-end
-returns-clause-end g c =
-    omega (
-      arith,
-      c.write_lanes.ensures.end,
-      prefix_long g.F.Flavor.flavor c.args.window.now c.args.at c.args.count _ c.requires.count c.encode_block-block.ensures.doubled_is,
-    )
+pub returns : goal.returns
+returns g c = record {
+  bytes = c.write_lanes.ensures.bytes g.F.Flavor.flavor c.args.window.now c.args.at
+      (lanes_packed g.F.Flavor.flavor c.args.window.now c.args.at _ _ _ c.encode_block-block.ensures);
+  end = omega (
+    arith,
+    c.write_lanes.ensures.end,
+    prefix_long g.F.Flavor.flavor c.args.window.now c.args.at c.args.count _ c.requires.count c.encode_block-block.ensures.doubled_is,
+  );
+  len = c.write_lanes.ensures.len;
+}

@@ -19,16 +19,15 @@ put-requires c =
       c.requires.room,
     )
 
-pub returns-clause-bytes : goal.returns-clause-bytes
-returns-clause-bytes c f window at lanes =
-    c.put.ensures.bytes
-    ∙ ap (λ l. take c.args.end c.args.out.now ++ l) (c.store_block-len.ensures.bytes f window at lanes)
-
-pub returns-clause-end : goal.returns-clause-end
-returns-clause-end c =
-    omega (
-      arith,
-      stored_long c.store_block-len.new.out c.args.count c.args.block.now.doubled _ c.requires.count c.store_block-len.ensures.len c.store_block-len.ensures.end,
-      c.put.ensures.end,
-      c.store_block-len.ensures.end,
-    )
+pub returns : goal.returns
+returns c = record {
+  bytes = λ f window at lanes. c.put.ensures.bytes
+      ∙ ap (λ l. take c.args.end c.args.out.now ++ l) (c.store_block-len.ensures.bytes f window at lanes);
+  end = omega (
+    arith,
+    stored_long c.store_block-len.new.out c.args.count c.args.block.now.doubled _ c.requires.count c.store_block-len.ensures.len c.store_block-len.ensures.end,
+    c.put.ensures.end,
+    c.store_block-len.ensures.end,
+  );
+  len = c.put.ensures.len;
+}

@@ -13,18 +13,16 @@ write_lanes-requires-clause-room g c =
       c.requires.room,
     )
 
-pub returns-clause-bytes : goal.returns-clause-bytes
-returns-clause-bytes g c =
-    c.write_lanes.ensures.bytes g.F.Flavor.flavor c.args.window.now c.args.at
-    (low_packed g.F.Flavor.flavor g.F.Null.Class.class c.args.window.now c.args.at _ _ g.met.F.Flavor.are_null
-    c.requires.window c.requires.low c.nulls.ensures c.bits.ensures)
-
-pub returns-clause-end : goal.returns-clause-end
-returns-clause-end g c =
+pub returns : goal.returns
+returns g c =
     let lanes = low_packed g.F.Flavor.flavor g.F.Null.Class.class c.args.window.now c.args.at _ _ g.met.F.Flavor.are_null
     c.requires.window c.requires.low c.nulls.ensures c.bits.ensures in
-    omega (
-      arith,
-      c.write_lanes.ensures.end,
-      prefix_long g.F.Flavor.flavor c.args.window.now c.args.at 32 _ (omega arith) lanes.doubled_is,
-    )
+    record {
+      bytes = c.write_lanes.ensures.bytes g.F.Flavor.flavor c.args.window.now c.args.at lanes;
+      end = omega (
+        arith,
+        c.write_lanes.ensures.end,
+        prefix_long g.F.Flavor.flavor c.args.window.now c.args.at 32 _ (omega arith) lanes.doubled_is,
+      );
+      len = c.write_lanes.ensures.len;
+    }

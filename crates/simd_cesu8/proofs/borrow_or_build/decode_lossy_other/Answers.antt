@@ -1,28 +1,42 @@
-use Rattle.std.proofs.Common.{rules, inl}
-use Rattle.std.specs.Str.{chars}
+use Rattle.std.proofs.Common.{rules, sym, subst}
+use Rattle.std.specs.Str.{chars, IsUtf8}
 use Rattle.std.specs.String.{string_bytes}
 use Rattle.std.proofs.lemmas.Str.{IsUtf8-string_bytes}
-use Rattle.cesu8_text.proofs.StdUtf8.{IsUtf8Of_chars_at}
-use Rattle.cesu8_text.proofs.reading.Borrowing.{not_utf8_differs, never_borrowed}
-use Rattle.cesu8_text.proofs.reading.LossyBorrowing.{built_lenient_lossy}
+use Rattle.cesu8_text.proofs.reading.Borrowing.{never_borrowed}
+use Rattle.cesu8_text.proofs.reading.LossyBorrowing.{length_of_reading, changed_reading}
+use Rattle.simd_cesu8.proofs.KnownTexts.{not_kept_by}
 use Rattle.simd_cesu8.proofs.borrow_or_build.decode_lossy_other.Goals as goal
 
-pub returns-then-text-bytes : goal.returns-then-text-bytes
-returns-then-text-bytes g c = record {
-  reading = inl (IsUtf8Of_chars_at c.args.bytes.now c.whole_text-text.result.now (c.whole_text-text.ensures.whole (c.if-text-bytes.true)).0 (c.whole_text-text.ensures.whole (c.if-text-bytes.true)).1);
-  borrowed = search rules;
-  borrowed_where = search rules;
-  succeeds = search rules;
-  capacity = search rules;
-}
+pub known_text-requires : goal.known_text-requires
+known_text-requires g c = g.met.A.Accepts.is_utf8 g.F.Flavor.flavor c.args.bytes.now c.in-Text.ensures
+
+pub returns-in-Text : goal.returns-in-Text
+returns-in-Text g c =
+    let f = g.F.Flavor.flavor in
+    let bytes = c.args.bytes.now in
+    let reads = subst (λ text. g.A.Accepts.reads_lossily f bytes (chars text)) (sym c.known_text.ensures) (c.requires.kept c.in-Text.ensures) in
+    record {
+      reading = reads;
+      text_length = λ exact. length_of_reading f bytes c.known_text.result.now
+          (subst IsUtf8 (sym c.known_text.ensures) (g.met.A.Accepts.is_utf8 f bytes c.in-Text.ensures)) (exact (chars c.known_text.result.now) reads);
+      borrowed = search rules;
+      borrowed_where = search rules;
+      succeeds = search rules;
+      capacity = search rules;
+    }
 
 pub returns : goal.returns
-returns g c = record {
-  reading = built_lenient_lossy g.F.Flavor.flavor c.args.bytes.now (chars (string_bytes c.in_ok-built.built)) (c.whole_text-text.ensures.none (c.if-text-bytes.false))
-      c.in_ok-built.ensures.text;
-  borrowed = let built = c.in_ok-built.built in
-      never_borrowed (not_utf8_differs c.args.bytes.now (string_bytes built) (c.whole_text-text.ensures.none (c.if-text-bytes.false)) (IsUtf8-string_bytes built));
-  borrowed_where = search rules;
-  succeeds = search rules;
-  capacity = search rules;
-}
+returns g c =
+    let f = g.F.Flavor.flavor in
+    let bytes = c.args.bytes.now in
+    let built = string_bytes c.in_ok-built.built in
+    let is_utf8 = IsUtf8-string_bytes c.in_ok-built.built in
+    let not_kept = not_kept_by f _ bytes c.look.result (g.met.A.Accepts.is_utf8 f bytes) c.look.ensures c.in-NoEncoding.is in
+    record {
+      reading = c.requires.built (chars built) not_kept c.in_ok-built.ensures.text;
+      text_length = λ exact. length_of_reading f bytes built is_utf8 c.in_ok-built.ensures.text;
+      borrowed = never_borrowed (changed_reading f bytes built (λ unchanged. not_kept (c.requires.unchanged unchanged)) is_utf8 c.in_ok-built.ensures.text);
+      borrowed_where = never_borrowed not_kept;
+      succeeds = search rules;
+      capacity = search rules;
+    }

@@ -1,20 +1,13 @@
-use Rattle.std.proofs.Common.{rules}
-use Rattle.std.proofs.lemmas.Str.{IsUtf8-from_ascii}
-use Rattle.cesu8_text.proofs.reading.LossyBorrowing.{unchanged_lossy, unchanged_length}
 use Rattle.simd_cesu8.proofs.borrow_or_build.decode_lossy_strict.Goals as goal
 
-pub returns-then-is_short_unchanged_ascii : goal.returns-then-is_short_unchanged_ascii
-returns-then-is_short_unchanged_ascii g c = record {
-  reading = let look = c.is_short_unchanged_ascii.ensures in
-      let found = c.if-is_short_unchanged_ascii.true in
-      unchanged_lossy g.F.Flavor.flavor c.args.bytes.now c.ascii_text.result.now c.ascii_text.ensures
-      (IsUtf8-from_ascii c.args.bytes.now (look.ascii found), look.unchanged found);
-  text_length = let look = c.is_short_unchanged_ascii.ensures in
-      let found = c.if-is_short_unchanged_ascii.true in
-      unchanged_length g.F.Flavor.flavor c.args.bytes.now c.ascii_text.result.now c.ascii_text.ensures
-      (IsUtf8-from_ascii c.args.bytes.now (look.ascii found), look.unchanged found);
-  borrowed = search rules;
-  borrowed_where = search rules;
-  succeeds = search rules;
-  capacity = search rules;
-}
+pub returns : goal.returns
+returns g c =
+    let decodes = c.decode_lossy_as.ensures in
+    record {
+      reading = decodes.reading;
+      text_length = decodes.text_length (λ text reads. reads);
+      borrowed = decodes.borrowed;
+      borrowed_where = decodes.borrowed_where;
+      succeeds = decodes.succeeds;
+      capacity = decodes.capacity;
+    }

@@ -15,14 +15,18 @@ of_front : (f : Flavor) (bytes : List ℕ) (len most : ℕ) (result : Result Cow
 of_front f bytes len most result is decodes =
     subst (λ front. DecodesStrictly f front result) (ap (λ n. take n bytes) is ∙ take_min len bytes) decodes
 
+pub known_text-requires : goal.known_text-requires
+known_text-requires g c =
+    IsUtf8-from_ascii (take c.min-len.result c.args.bytes.now) (c.begins_with_unchanged_ascii.ensures.ascii c.if-begins_with_unchanged_ascii.true)
+
 pub returns-then-begins_with_unchanged_ascii : goal.returns-then-begins_with_unchanged_ascii
 returns-then-begins_with_unchanged_ascii g c =
     let front = take c.min-len.result c.args.bytes.now in
     let look = c.begins_with_unchanged_ascii.ensures in
     let found = c.if-begins_with_unchanged_ascii.true in
-    of_front g.F.Flavor.flavor c.args.bytes.now c.args.len c.min-len.result (Ok (Borrowed c.ascii_text.result)) c.min-len.ensures
+    of_front g.F.Flavor.flavor c.args.bytes.now c.args.len c.min-len.result (Ok (Borrowed c.known_text.result)) c.min-len.ensures
     (record {
-      text = unchanged_reading g.F.Flavor.flavor front c.ascii_text.result.now c.ascii_text.ensures
+      text = unchanged_reading g.F.Flavor.flavor front c.known_text.result.now c.known_text.ensures
           (IsUtf8-from_ascii front (look.ascii found), look.unchanged found);
       invalid = search rules;
       borrowed = search rules;

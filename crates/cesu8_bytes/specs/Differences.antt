@@ -1,0 +1,8 @@
+-- Where two lists of bytes differ first.
+use Rattle.std.specs.Prelude.{◌≡◌, ◌≢◌, ℕ, ◌<◌, ◌≤◌, List, slice_index}
+
+-- The offset of the first byte that differs, or the length up to which they are compared.
+pub record IsFirstDifference (bytes other : List ℕ) (len n : ℕ) : Type 0 where
+  pub within : n ≤ len
+  pub same : (i : ℕ) → i < n → slice_index bytes i ≡ slice_index other i
+  pub end : n < len → slice_index bytes n ≢ slice_index other n

@@ -1,0 +1,32 @@
+use Rattle.std.proofs.Common.{◌≡◌, ◌+◌, ◌*◌, ap, subst, ◌∙◌, arith, length}
+use Rattle.cesu8_encode.specs.EncodedOffsets.{IsWritten}
+use Rattle.cesu8_encode.proofs.encoder.EncodedWindows.{encoded_bytes_here, room_behind, written_behind}
+use Rattle.cesu8_encode.proofs.blockwise.write_middle_by.Goals as goal
+
+pub write-end-requires-clause-room : goal.write-end-requires-clause-room
+write-end-requires-clause-room g c =
+    let f = g.F.Flavor.flavor in
+    let text = c.args.text.now in
+    let inv = c.loop-i.invariant in
+    omega (
+      arith,
+      ap length (encoded_bytes_here f text (32 * c.loop-i.i) 32 (omega arith)),
+      room_behind f text (32 * c.loop-i.i) 32 c.loop-i.end c.loop-i.out (omega (arith, c.requires.blocks)) inv.written
+          (omega (arith, inv.len, c.requires.room)),
+    )
+
+pub loop-i-preserved : goal.loop-i-preserved
+loop-i-preserved g c =
+    let f = g.F.Flavor.flavor in
+    let text = c.args.text.now in
+    let inv = c.loop-i.invariant in
+    let sum : 32 * c.loop-i.i + 32 ≡ 32 * (c.loop-i.i + 1) = omega arith in
+    let same = encoded_bytes_here f text (32 * c.loop-i.i) 32 (omega arith) in
+    let room = room_behind f text (32 * c.loop-i.i) 32 c.loop-i.end c.loop-i.out (omega (arith, c.requires.blocks)) inv.written
+    (omega (arith, inv.len, c.requires.room)) in
+    record {
+      written = subst (λ n. IsWritten f text n c.write-end.new.out c.write-end.result) sum
+          (written_behind f text (32 * c.loop-i.i) 32 _ _ _ _ _ inv.written c.write-end.ensures.bytes same
+          (omega (arith, c.write-end.ensures.end, c.write-end.ensures.len, ap length same, room)));
+      len = c.write-end.ensures.len ∙ inv.len;
+    }

@@ -1,9 +1,0 @@
-use Rattle.std.proofs.Common.{◌≡◌, ◌*◌, length}
-use Rattle.cesu8_encode.specs.EncodedOffsets.{IsWritten}
-use Rattle.cesu8_encode.proofs.windows.write_middle_by.Given as goal
-
-abbrev pub invariant-loop-i : goal.invariant-loop-i
-invariant-loop-i g l = record {
-  written : IsWritten g.F.Flavor.flavor l.fn.text (32 * l.i) l.out l.end;
-  len : length l.out ≡ length l.initial.out;
-}

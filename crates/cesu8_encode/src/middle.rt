@@ -1,0 +1,66 @@
+//! How the blocks between the first and the last of a text are written. Each way gives the same for
+//! every text that it may take; `way` says which one is fast.
+
+ghost use Rattle.std.specs.Prelude.{ℕ, List, ◌+◌, ◌≤◌, length};
+ghost use Rattle.cesu8_text.specs.Class.{is_at_least_f0};
+ghost use Rattle.cesu8_bytes.specs.Kernels.{AnyIn};
+ghost use Rattle.cesu8_encode.specs.Encoded.{WritesAt};
+ghost use Rattle.cesu8_encode.specs.EncodedOffsets.{encoded_bytes};
+
+use super::blocks::{BLOCK_READ, READ_BEFORE, is_unchanged, write_block, write_nulls};
+use cesu8_bytes::BLOCK;
+use cesu8_bytes::flavor::Flavor;
+use cesu8_bytes::put::put_lanes;
+use std::simd::prelude::*;
+
+/// A way to write a block.
+pub trait BlockWriter {
+    /// What must be known of the text.
+    ghost knows: { List ℕ → Type 0 };
+
+    /// Writes what the whole block at an offset becomes, and returns its end.
+    fn write<F: Flavor>(text: &[u8], at: usize, out: &mut [u8], end: usize) -> usize
+        requires window { at + BLOCK_READ ≤ length text.now }
+        requires known { Self.knows text.now }
+        requires room { end + length (encoded_bytes F.flavor text.now at BLOCK) ≤ length out.old }
+        ensures { WritesAt (encoded_bytes F.flavor text.now at BLOCK) end out.old out.new result };
+}
+
+/// Anything in the block can change.
+pub struct AnyChange;
+
+/// Null characters alone can change, since the text has no byte of F0 or more (hexadecimal).
+pub struct NullChange;
+
+/// A block is copied if no byte of it changes. Most text has runs of blocks that stay.
+pub struct CopyUnchanged;
+
+impl BlockWriter for AnyChange {
+    ghost knows = { λ _. Unit };
+
+    #[inline(always)]
+    fn write<F: Flavor>(text: &[u8], at: usize, out: &mut [u8], end: usize) -> usize {
+        write_block::<F>(text, at, BLOCK, out, end)
+    }
+}
+
+impl BlockWriter for NullChange {
+    ghost knows = { λ text. ¬ (AnyIn is_at_least_f0 text) };
+
+    #[inline(always)]
+    fn write<F: Flavor>(text: &[u8], at: usize, out: &mut [u8], end: usize) -> usize {
+        write_nulls::<F>(text, at, out, end)
+    }
+}
+
+impl BlockWriter for CopyUnchanged {
+    ghost knows = { λ _. Unit };
+
+    #[inline(always)]
+    fn write<F: Flavor>(text: &[u8], at: usize, out: &mut [u8], end: usize) -> usize {
+        if is_unchanged::<F>(text, at) {
+            return put_lanes(u8x32::from_slice(&text[at + READ_BEFORE..]), out, end);
+        }
+        write_block::<F>(text, at, BLOCK, out, end)
+    }
+}

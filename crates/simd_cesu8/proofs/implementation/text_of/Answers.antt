@@ -1,0 +1,5 @@
+use Rattle.std.proofs.lemmas.Str.{IsUtf8-from_ascii}
+use Rattle.simd_cesu8.proofs.implementation.text_of.Goals as goal
+
+pub known_text-requires : goal.known_text-requires
+known_text-requires c = IsUtf8-from_ascii c.args.bytes.now (c.is_short_unchanged_ascii.ensures.ascii c.if-is_short_unchanged_ascii.true)
