@@ -1,5 +1,5 @@
 -- What decoding a chunk at a time promises.
-use Rattle.std.specs.Prelude.{◌≡◌, ℕ, ◌+◌, ◌*◌, ◌<◌, ◌≤◌, Bool, true, false, List, [], Vec, length, take, drop, vec_capacity, Option, IfSome, IfNone, Result, IfOk}
+use Rattle.std.specs.Prelude.{◌≡◌, ℕ, ◌+◌, ◌*◌, ◌/◌, ◌<◌, ◌≤◌, Bool, true, false, List, [], Vec, length, take, drop, vec_capacity, Option, IfSome, IfNone, Result, IfOk}
 use Rattle.cesu8_text.specs.Text.{IsText}
 use Rattle.cesu8_text.specs.Reading.{reading, NoneBegins, lossy_length, HasNoStrictReading}
 use Rattle.cesu8_text.specs.Encoding.{Flavor, encoding}
@@ -18,6 +18,29 @@ abbrev pub refuses : Strictness → Bool → Bool
 refuses Strict is_ill_formed = is_ill_formed
 refuses Lossy is_ill_formed = false
 
+-- No more is written for so many bytes, if they are read one after another.
+abbrev pub most_written : Strictness → ℕ → ℕ
+most_written Strict n = n
+most_written Lossy n = 3 * n
+
+-- A buffer has room for the text of n bytes, and for what is stored behind it.
+abbrev pub room_for : Strictness → ℕ → ℕ
+room_for Strict n = n
+room_for Lossy n = 3 * n + 208
+
+-- It must have so many where it has not room for all.
+abbrev pub least_room : Strictness → ℕ
+least_room Strict = 48
+least_room Lossy = 592
+
+-- A buffer of a length has room for the text of n bytes, or of enough of them.
+abbrev pub HasRoom : Strictness → ℕ → ℕ → Type 0
+HasRoom which n len = len < room_for which n → least_room which ≤ len
+
+-- It has room behind an end for the text of the blocks that n bytes have, and for what is stored behind it.
+abbrev pub HasRoomBehind : Strictness → ℕ → ℕ → ℕ → Type 0
+HasRoomBehind which n end len = end + most_written which (32 * ((n + 31) / 32)) + 16 ≤ len
+
 -- After some text no encoded character begins the bytes that are left.
 pub record HasFault (f : Flavor) (bytes : List ℕ) : Type 0 where
   pub rest : List ℕ
@@ -33,15 +56,17 @@ pub record ReadsFirst (f : Flavor) (which : Strictness) (bytes : List ℕ) (read
   pub chunk : refuses which is_ill_formed ≡ false → IsChunk f which bytes (drop read bytes) text
   pub ill_formed : is_ill_formed ≡ true → HasFault f bytes
 
+-- Such text is written at the front of a slice, and it is of all bytes if there is room for that.
+pub record WritesText (f : Flavor) (which : Strictness) (bytes : List ℕ) (read written : ℕ) (is_ill_formed : Bool) (old new : List ℕ) : Type 0 where
+  pub first : ReadsFirst f which bytes read (take written new) is_ill_formed
+  pub all : room_for which (length bytes) ≤ length old → read ≡ length bytes
+  pub end : written ≤ length new
+  pub len : length new ≡ length old
+
 -- All of the bytes are.
 pub record ReadsAll (f : Flavor) (which : Strictness) (bytes : List ℕ) (read : ℕ) (text : List ℕ) (is_ill_formed : Bool) : Type 0 where
   pub first : ReadsFirst f which bytes read text is_ill_formed
   pub all : refuses which is_ill_formed ≡ false → read ≡ length bytes
-
--- No more is written for so many bytes, if they are read one character after another.
-abbrev pub most_written : Strictness → ℕ → ℕ
-most_written Strict n = n
-most_written Lossy n = 3 * n
 
 -- No text of the bytes is longer.
 abbrev pub most_of_text : Flavor → Strictness → List ℕ → ℕ
@@ -67,8 +92,9 @@ pub record IsWrittenSoFar (f : Flavor) (bytes rest : List ℕ) (end : ℕ) (old 
   pub behind : drop end new ≡ drop end old
   pub len : length new ≡ length old
 
--- The first n bytes are written, or some byte is ill-formed.
-pub record IsWrittenUpTo (f : Flavor) (bytes : List ℕ) (n : ℕ) (text : List ℕ) (is_ill_formed : Bool) : Type 0 where
-  pub decoded_text : is_ill_formed ≡ false → text ≡ decoded f (window_of bytes) 0 n
-  pub well_formed : is_ill_formed ≡ false → (i : ℕ) → i < n → is_ill_formed_at f (window_of bytes) i ≡ false
-  pub ill_formed : is_ill_formed ≡ true → (i : ℕ) × (i < length bytes) × (is_ill_formed_at f (window_of bytes) i ≡ true)
+-- The first n bytes are written, or strict reading refuses some byte.
+pub record IsWrittenUpTo (f : Flavor) (which : Strictness) (bytes : List ℕ) (n : ℕ) (text : List ℕ) (is_refused : Bool) : Type 0 where
+  pub decoded_text : is_refused ≡ false → text ≡ decoded f (window_of bytes) 0 n
+  pub well_formed : which ≡ Strict → is_refused ≡ false → (i : ℕ) → i < n → is_ill_formed_at f (window_of bytes) i ≡ false
+  pub refused : is_refused ≡ true → (i : ℕ) × (i < length bytes) × (is_ill_formed_at f (window_of bytes) i ≡ true)
+  pub lossy : which ≡ Lossy → is_refused ≡ false

@@ -7,10 +7,10 @@ ghost use Rattle.cesu8_decode.specs.Decoding.{ReadsAll, most_written};
 ghost use Rattle.cesu8_bytes.specs.declared.options.Strictness.{Strictness};
 ghost use Rattle.cesu8_bytes.specs.declared.options.Strictness.TheVariants.{Lossy};
 
+use super::decoded::Decoded;
 use super::forms::{Form, form_of, is_one, len_of, prefix_of};
 use super::packing::WIDEST;
 use super::refusal::is_refused;
-use super::windows::Decoded;
 use cesu8_bytes::flavor::Flavor;
 use cesu8_bytes::implementation::class::{Either, NonAscii};
 use cesu8_bytes::options::Strictness;

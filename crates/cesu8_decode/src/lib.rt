@@ -7,10 +7,11 @@
 //! length of the text. `following` tests whole blocks of encoded characters without writing, for
 //! `valid_front` and `ill_formed`.
 //!
-//! `way` decides which way bytes go. A few are read one character after another. More are read in one
-//! pass by `in_place` if all are well-formed, as strict reading wants it, and else by `windows`; of
-//! lossy reading `chunk` reads the next chunk. `slices` writes to a caller's slice, and `strings`
-//! for a `String`.
+//! `way` decides which way bytes go. A few are read one character after another, by `characters`.
+//! More are read in one pass, by `in_place`: `whole_blocks` reads blocks where they stand, and
+//! `last_blocks` the last ones from an array. `block` writes each, and `reading` has what strict and
+//! lossy reading make of an ill-formed byte. `slices` writes to a caller's slice, and `strings` for
+//! a `String`.
 #![tactic(auto)]
 
 ghost use Rattle.std.specs.Prelude.{◌≡◌, length, IfOk, IsUtf8};
@@ -19,17 +20,20 @@ ghost use Rattle.std.specs.Str.{chars};
 ghost use Rattle.cesu8_text.specs.Reading.{IsStrictReading, HasNoStrictReading, reading, lossy_length};
 ghost use Rattle.cesu8_decode.specs.Refusals.{OnNoText};
 
+mod block;
 mod characters;
-mod chunk;
 pub mod copy_or_write;
+mod decoded;
 mod following;
 mod forms;
 mod ill_formed;
 mod in_place;
+mod last_blocks;
 mod lengths;
 mod offsets;
 mod packing;
 mod parts;
+mod reading;
 pub mod refusal;
 mod rows;
 mod slices;
@@ -37,7 +41,8 @@ mod strings;
 mod sums;
 mod valid_front;
 mod way;
-mod windows;
+mod whole_blocks;
+mod window;
 
 use crate::refusal::Refusal;
 use cesu8_bytes::flavor::Flavor;

@@ -43,9 +43,6 @@ pub fn store(parts: Parts, out: &mut [u8], at: usize) -> usize
     ensures end { (at ≤ result) × (result ≤ at + WIDEST * BLOCK) }
     ensures len { length out.new ≡ length out.old }
 {
-    if highest_bits(parts.ill_formed) == 0 {
-        return store_whole(parts, out, at);
-    }
     let at = store_half(
         parts.bytes.extract::<0, HALF>(),
         parts.gone.extract::<0, HALF>(),
@@ -66,7 +63,7 @@ pub fn store(parts: Parts, out: &mut [u8], at: usize) -> usize
 #[inline(always)]
 pub fn store_whole(parts: Parts, out: &mut [u8], at: usize) -> usize
     requires whole { mask_l (map is_high parts.ill_formed) ≡ 0 }
-    requires room { at + WELL_FORMED_ROOM ≤ length out.old }
+    requires room { at + BLOCK + STORED ≤ length out.old }
     ensures bytes { take result out.new
         ≡ take at out.old ++ written_lanes parts.gone parts.ill_formed parts.bytes }
     ensures end { (at ≤ result) × (result ≤ at + BLOCK) }

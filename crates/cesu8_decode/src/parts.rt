@@ -9,21 +9,17 @@
 //! fourth ──► two bits of the second, four of the third
 //! ```
 
-ghost use Rattle.std.specs.Prelude.{◌≡◌, ℕ, List, ◌+◌, ◌-◌, ◌*◌, ◌^◌, ◌%◌, ◌<◌, ◌≤◌, ◌++◌, nat_le, IsTrue, true, false, length, take, map, replicate, slice_index, bit_or};
+ghost use Rattle.std.specs.Prelude.{◌≡◌, ℕ, List, ◌+◌, ◌-◌, ◌*◌, ◌^◌, ◌%◌, ◌≤◌, ◌++◌, nat_le, true, false, length, take, map, replicate, slice_index};
 ghost use Rattle.std.specs.List.{range_with_len};
-ghost use Rattle.std.specs.Simd.Lanes.{sel_l, mask_l, zip2};
-ghost use Rattle.cesu8_text.specs.Class.{is_null};
+ghost use Rattle.std.specs.Simd.Lanes.{sel_l};
 ghost use Rattle.cesu8_text.specs.Encoding.{Flavor};
 ghost use Rattle.cesu8_bytes.specs.Kernels.{mask};
-ghost use Rattle.cesu8_decode.specs.DecodedOffsets.{decoded, is_ill_formed_at};
-ghost use Rattle.cesu8_decode.specs.DecodedLanes.{start_kind, AreFiveKinds, AreKindsNear, NoneBeginsChanged, AreParts, is_high, goes_at, byte_at};
+ghost use Rattle.cesu8_decode.specs.DecodedOffsets.{is_ill_formed_at};
+ghost use Rattle.cesu8_decode.specs.DecodedLanes.{start_kind, AreKindsNear, NoneBeginsChanged, AreParts, is_high, goes_at, byte_at};
 
-use super::offsets::{
-    BEHIND, BLOCK, FROM_27, Kinds, LEAD, NUMBERS, PAIR, REACH, THREE, equal, look_up, near, starts,
-};
-use super::packing::{Parts, ROOM, WELL_FORMED_ROOM, WIDEST, highest_bits, store, store_whole};
+use super::offsets::{BEHIND, BLOCK, Kinds, NUMBERS, PAIR, REACH, THREE, equal, look_up};
+use super::packing::{Parts, highest_bits};
 use cesu8_bytes::flavor::{Flavor, nulls};
-use cesu8_bytes::implementation::class::{AtLeast, bits};
 use std::simd::prelude::*;
 
 /// The first byte of the UTF-8 of a surrogate pair, by the lower half of the pair's second byte.
@@ -41,192 +37,9 @@ const THIRD_BY_THIRD: [u8; 16] = [
     0x80, 0x90, 0xA0, 0xB0, 0x80, 0x90, 0xA0, 0xB0, 0x80, 0x90, 0xA0, 0xB0, 0x80, 0x90, 0xA0, 0xB0,
 ];
 
-/// The end of what is written for a block, whether some of its bytes are ill-formed, and the kinds
-/// of their offsets.
-#[derive(Drop)]
-pub struct Block {
-    pub end: usize,
-    pub is_ill_formed: bool,
-    pub kinds: u8x32,
-}
-
-/// Writes what becomes of the first `count` bytes of a block, which follow `at` bytes of the window
-/// and five more. The kinds of these five come last in `before`. The other bytes go.
-///
-/// Most blocks are copied: those of characters of one byte, whatever comes before, and those that
-/// are well-formed and near no surrogate pair and no C0 80.
-#[inline(always)]
-pub fn write_block<F: Flavor>(
-    window: &[u8],
-    before: u8x32,
-    at: usize,
-    count: usize,
-    out: &mut [u8],
-    end: usize,
-) -> Block
-    requires count { count ≤ BLOCK }
-    requires window { at + BEHIND + REACH ≤ length window.now }
-    requires before { AreFiveKinds F.flavor window.now at before (BLOCK - BEHIND) }
-    requires room { end + ROOM ≤ length out.old }
-    ensures bytes { take result.end out.new
-        ≡ take end out.old ++ decoded F.flavor window.now at count }
-    ensures ill_formed { IsTrue result.is_ill_formed → (i : ℕ) × (at ≤ i) × (i < at + count)
-        × (is_ill_formed_at F.flavor window.now i ≡ true) }
-    ensures whole { result.is_ill_formed ≡ false → (i : ℕ) → at ≤ i → i < at + count
-        → is_ill_formed_at F.flavor window.now i ≡ false }
-    ensures kinds { count ≡ BLOCK → result.kinds
-        ≡ map (start_kind F.flavor window.now) (range_with_len (at + BEHIND) BLOCK) }
-    ensures end { (end ≤ result.end) × (result.end ≤ end + WIDEST * BLOCK) }
-    ensures len { length out.new ≡ length out.old }
-{
-    let bytes = u8x32::from_slice(&window[at + BEHIND..]);
-    if are_ones::<F>(bytes, count) {
-        return copy_block(bytes, u8x32::splat(0), count, out, end);
-    }
-    let here = starts::<F>(window, at + BEHIND, true);
-    let kinds = near(before, here);
-    let parts = if changes_none(before, here) {
-        let marks = kept_ill_formed::<F>(window, &kinds, at);
-        if first_bits(marks, count) == 0 {
-            return copy_block(bytes, here, count, out, end);
-        }
-        kept_parts(bytes, marks, count)
-    } else {
-        changed_parts::<F>(window, &kinds, at, count)
-    };
-    let is_ill_formed = highest_bits(parts.ill_formed) != 0;
-    Block {
-        end: store(parts, out, end),
-        is_ill_formed,
-        kinds: here,
-    }
-}
-
-/// Writes what becomes of the first `count` bytes of a block, unless one of them is ill-formed. It is
-/// no more than these bytes, and so needs less room than what ill-formed bytes become.
-#[inline(always)]
-pub fn write_well_formed<F: Flavor>(
-    window: &[u8],
-    before: u8x32,
-    at: usize,
-    count: usize,
-    out: &mut [u8],
-    end: usize,
-) -> Block
-    requires count { count ≤ BLOCK }
-    requires window { at + BEHIND + REACH ≤ length window.now }
-    requires before { AreFiveKinds F.flavor window.now at before (BLOCK - BEHIND) }
-    requires room { end + WELL_FORMED_ROOM ≤ length out.old }
-    ensures bytes { result.is_ill_formed ≡ false → take result.end out.new
-        ≡ take end out.old ++ decoded F.flavor window.now at count }
-    ensures ill_formed { IsTrue result.is_ill_formed → (i : ℕ) × (at ≤ i) × (i < at + count)
-        × (is_ill_formed_at F.flavor window.now i ≡ true) }
-    ensures whole { result.is_ill_formed ≡ false → (i : ℕ) → at ≤ i → i < at + count
-        → is_ill_formed_at F.flavor window.now i ≡ false }
-    ensures kinds { count ≡ BLOCK → result.kinds
-        ≡ map (start_kind F.flavor window.now) (range_with_len (at + BEHIND) BLOCK) }
-    ensures end { result.end ≤ end + count }
-    ensures len { length out.new ≡ length out.old }
-{
-    let bytes = u8x32::from_slice(&window[at + BEHIND..]);
-    if are_ones::<F>(bytes, count) {
-        return copy_block(bytes, u8x32::splat(0), count, out, end);
-    }
-    let here = starts::<F>(window, at + BEHIND, true);
-    let kinds = near(before, here);
-    if changes_none(before, here) {
-        let marks = kept_ill_formed::<F>(window, &kinds, at);
-        if first_bits(marks, count) == 0 {
-            return copy_block(bytes, here, count, out, end);
-        }
-        return ill_formed_block(here, end);
-    }
-    // First the test, so that what it needs is not kept meanwhile.
-    let ill_formed = ill_formed::<F>(window, &kinds, at, count);
-    if highest_bits(ill_formed) != 0 {
-        return ill_formed_block(here, end);
-    }
-    let parts = Parts {
-        bytes: changed_bytes::<F>(window, &kinds, at),
-        gone: gone(&kinds, count),
-        ill_formed,
-    };
-    Block {
-        end: store_whole(parts, out, end),
-        is_ill_formed: false,
-        kinds: here,
-    }
-}
-
-/// Tells that a block has an ill-formed byte.
-#[inline(always)]
-fn ill_formed_block(kinds: u8x32, end: usize) -> Block
-    ensures { (result.is_ill_formed ≡ true) × (result.kinds ≡ kinds) × (result.end ≡ end) }
-{
-    Block {
-        end,
-        is_ill_formed: true,
-        kinds,
-    }
-}
-
-/// Returns whether no byte leads others and the first `count` are characters of one byte.
-#[inline(always)]
-fn are_ones<F: Flavor>(bytes: u8x32, count: usize) -> bool
-    requires { count ≤ BLOCK }
-    ensures { IsTrue result → mask_l (take count (map is_high
-        (zip2 bit_or bytes (map (λ b. mask (is_null F.flavor b)) bytes)))) ≡ 0 }
-{
-    // `starts` makes the same test, so the compiler makes it once.
-    let leads = bits::<AtLeast<LEAD>, BLOCK>(bytes) != 0;
-    !leads && first_bits(bytes | nulls::<F>(bytes), count) == 0
-}
-
-/// Copies the first `count` bytes of a block, which stay as they are.
-#[inline(always)]
-fn copy_block(bytes: u8x32, kinds: u8x32, count: usize, out: &mut [u8], end: usize) -> Block
-    requires count { count ≤ BLOCK }
-    requires room { end + BLOCK ≤ length out.old }
-    ensures bytes { take result.end out.new ≡ take end out.old ++ take count bytes }
-    ensures whole { result.is_ill_formed ≡ false }
-    ensures kinds { result.kinds ≡ kinds }
-    ensures end { result.end ≡ end + count }
-    ensures len { length out.new ≡ length out.old }
-{
-    bytes.copy_to_slice(&mut out[end..]);
-    Block {
-        end: end + count,
-        is_ill_formed: false,
-        kinds,
-    }
-}
-
-/// Returns a bit for each of the first `count` lanes whose highest bit is set.
-#[inline(always)]
-fn first_bits(lanes: u8x32, count: usize) -> u64
-    requires { count ≤ BLOCK }
-    ensures { result ≡ mask_l (take count (map is_high lanes)) }
-{
-    highest_bits(lanes) & ((1 << count) - 1)
-}
-
-/// Returns whether neither a surrogate pair nor C0 80 begins at the offsets around a block. Then
-/// its bytes stay, but for those that are ill-formed. Of the kinds of the 32 bytes before, the last
-/// five count.
-#[inline(always)]
-fn changes_none(before: u8x32, here: u8x32) -> bool
-    ensures { (f : Flavor) (window : List ℕ) (at : ℕ)
-        → AreFiveKinds f window at before (BLOCK - BEHIND)
-        → here ≡ map (start_kind f window) (range_with_len (at + BEHIND) BLOCK)
-        → IsTrue result → NoneBeginsChanged f window at }
-{
-    let around = here | before.shuffle::<32>(u8x32::splat(0), FROM_27);
-    highest_bits(around | (around << u8x32::splat(2))) == 0
-}
-
 /// Marks, with the highest bit, the bytes that no encoded character covers, where none changes.
 #[inline(always)]
-fn kept_ill_formed<F: Flavor>(window: &[u8], kinds: &Kinds, at: usize) -> u8x32
+pub fn kept_ill_formed<F: Flavor>(window: &[u8], kinds: &Kinds, at: usize) -> u8x32
     requires window { at + REACH ≤ length window.now }
     requires kinds { AreKindsNear F.flavor window.now at kinds.now }
     requires kept { NoneBeginsChanged F.flavor window.now at }
@@ -242,7 +55,7 @@ fn kept_ill_formed<F: Flavor>(window: &[u8], kinds: &Kinds, at: usize) -> u8x32
 /// Returns what becomes of the first `count` bytes of a block where none changes. Those that are
 /// ill-formed are marked.
 #[inline(always)]
-fn kept_parts(bytes: u8x32, marks: u8x32, count: usize) -> Parts
+pub fn kept_parts(bytes: u8x32, marks: u8x32, count: usize) -> Parts
     requires count { count ≤ BLOCK }
     ensures { (f : Flavor) (window : List ℕ) (at : ℕ) → NoneBeginsChanged f window at
         → bytes ≡ map (λ i. slice_index window (i + BEHIND)) (range_with_len at BLOCK)
@@ -257,18 +70,30 @@ fn kept_parts(bytes: u8x32, marks: u8x32, count: usize) -> Parts
     }
 }
 
-/// Returns what becomes of the first `count` bytes of a block.
+/// Returns what becomes of the first `count` bytes of a block, of which those that are ill-formed
+/// are marked.
 #[inline(always)]
-fn changed_parts<F: Flavor>(window: &[u8], kinds: &Kinds, at: usize, count: usize) -> Parts
+pub fn changed_parts<F: Flavor>(
+    window: &[u8],
+    kinds: &Kinds,
+    at: usize,
+    count: usize,
+    ill_formed: u8x32,
+) -> Parts
     requires count { count ≤ BLOCK }
     requires window { at + REACH ≤ length window.now }
     requires kinds { AreKindsNear F.flavor window.now at kinds.now }
-    ensures { AreParts F.flavor window.now at count result.gone result.ill_formed result.bytes }
+    requires marks { map is_high ill_formed
+        ≡ map (is_ill_formed_at F.flavor window.now) (range_with_len at count)
+        ++ replicate (BLOCK - count) false }
+    ensures parts { AreParts F.flavor window.now at count
+        result.gone result.ill_formed result.bytes }
+    ensures ill_formed { result.ill_formed ≡ ill_formed }
 {
     Parts {
         bytes: changed_bytes::<F>(window, kinds, at),
         gone: gone(kinds, count),
-        ill_formed: ill_formed::<F>(window, kinds, at, count),
+        ill_formed,
     }
 }
 
@@ -289,7 +114,7 @@ fn gone(kinds: &Kinds, count: usize) -> u8x32
 
 /// Marks, with the highest bit, those of the first `count` bytes that no encoded character covers.
 #[inline(always)]
-fn ill_formed<F: Flavor>(window: &[u8], kinds: &Kinds, at: usize, count: usize) -> u8x32
+pub fn ill_formed<F: Flavor>(window: &[u8], kinds: &Kinds, at: usize, count: usize) -> u8x32
     requires count { count ≤ BLOCK }
     requires window { at + REACH ≤ length window.now }
     requires kinds { AreKindsNear F.flavor window.now at kinds.now }

@@ -10,22 +10,18 @@ ghost use Rattle.cesu8_text.specs.Reading.{reading, lossy_length};
 ghost use Rattle.cesu8_text.specs.Slices.{StandsAtFront};
 ghost use Rattle.cesu8_text.specs.Text.{utf8};
 ghost use Rattle.cesu8_bytes.specs.declared.options.Strictness.TheVariants.{Strict, Lossy};
-ghost use Rattle.cesu8_decode.specs.Decoding.{ReadsAll};
+ghost use Rattle.cesu8_decode.specs.Decoding.{ReadsAll, room_for};
 ghost use Rattle.cesu8_decode.specs.PutReadings.{PutsReading};
 ghost use Rattle.cesu8_decode.specs.Ways.{IsWayOf};
 
 use crate::characters::write_characters;
-use crate::chunk::next_chunk;
+use crate::decoded::Decoded;
 use crate::ill_formed::is_ill_formed;
-use crate::in_place::write_strict;
+use crate::in_place::{LONG_TEXT, MEDIUM_TEXT, SHORT_TEXT, write_text};
 use crate::lengths::lossy_len;
 use crate::packing::WIDEST;
 use crate::refusal::{Unwritten, is_refused};
 use crate::way::{FEWEST, LONG_WINDOW, MEDIUM_WINDOW, SHORT_WINDOW, Way, way_of};
-use crate::windows::{
-    AROUND, Decoded, LEAST, LONG_BUFFER, LONG_TEXT, MEDIUM_BUFFER, MEDIUM_TEXT, SHORT_BUFFER,
-    SHORT_TEXT, SPARED, write_window,
-};
 use cesu8_bytes::flavor::Flavor;
 use cesu8_bytes::options::Strictness;
 use cesu8_bytes::put::put;
@@ -63,18 +59,9 @@ pub fn put_by<F: Flavor>(
     match way {
         Way::FewCharacters => put_characters::<F, FEWEST_TEXT>(strictness, bytes, buf),
         Way::Characters => put_characters::<F, CHARACTERS_TEXT>(strictness, bytes, buf),
-        Way::ShortWindow => match strictness {
-            Strictness::Strict => put_strictly::<F, SHORT_WINDOW>(bytes, buf),
-            Strictness::Lossy => put_window::<F, SHORT_BUFFER, SHORT_TEXT>(bytes, buf),
-        },
-        Way::MediumWindow => match strictness {
-            Strictness::Strict => put_strictly::<F, MEDIUM_WINDOW>(bytes, buf),
-            Strictness::Lossy => { put_window::<F, MEDIUM_BUFFER, MEDIUM_TEXT>(bytes, buf) }
-        },
-        Way::LongWindow => match strictness {
-            Strictness::Strict => put_strictly::<F, LONG_WINDOW>(bytes, buf),
-            Strictness::Lossy => put_window::<F, LONG_BUFFER, LONG_TEXT>(bytes, buf),
-        },
+        Way::ShortWindow => put_window::<F, SHORT_WINDOW, SHORT_TEXT>(strictness, bytes, buf),
+        Way::MediumWindow => put_window::<F, MEDIUM_WINDOW, MEDIUM_TEXT>(strictness, bytes, buf),
+        Way::LongWindow => put_window::<F, LONG_WINDOW, LONG_TEXT>(strictness, bytes, buf),
         Way::Chunks => put_chunks::<F>(strictness, bytes, buf),
         Way::Refused => Err(Unwritten::NoText),
     }
@@ -96,21 +83,36 @@ fn put_characters<F: Flavor, const WRITTEN: usize>(
     put_decoded(strictness, decoded, &written, buf)
 }
 
-/// Writes the text of the bytes of one window, in buffers of these lengths. It is not inlined, so
-/// that they are made only when it is called.
-#[inline(never)]
+/// Writes the text of the bytes of one window, to an array first: in strict reading of as many bytes
+/// as the window has, and in lossy reading of this length.
+#[inline(always)]
 fn put_window<F: Flavor, const LEN: usize, const WRITTEN: usize>(
+    strictness: Strictness,
     bytes: &[u8],
     buf: &mut [u8],
 ) -> Result<usize, Unwritten>
-    requires window { (length bytes.now + AROUND ≤ LEN) × (LEAST ≤ LEN) }
-    requires written { (WIDEST * LEN ≤ WRITTEN + SPARED) × (WRITTEN ≤ LONG_TEXT) }
-    ensures { PutsReading F.flavor Lossy bytes.now result buf.old buf.new }
+    requires { (length bytes.now ≤ LEN) × (room_for Lossy LEN ≤ WRITTEN) × (WRITTEN ≤ LONG_TEXT) }
+    ensures { PutsReading F.flavor strictness bytes.now result buf.old buf.new }
 {
-    let mut window = [0; LEN];
+    match strictness {
+        Strictness::Strict => put_by_array::<F, LEN>(strictness, bytes, buf),
+        Strictness::Lossy => put_by_array::<F, WRITTEN>(strictness, bytes, buf),
+    }
+}
+
+/// Does so by an array of this length. It is not inlined, so that it is made only when it is called.
+#[inline(never)]
+fn put_by_array<F: Flavor, const WRITTEN: usize>(
+    strictness: Strictness,
+    bytes: &[u8],
+    buf: &mut [u8],
+) -> Result<usize, Unwritten>
+    requires { (room_for strictness (length bytes.now) ≤ WRITTEN) × (WRITTEN ≤ LONG_TEXT) }
+    ensures { PutsReading F.flavor strictness bytes.now result buf.old buf.new }
+{
     let mut written = [0; WRITTEN];
-    let decoded = write_window::<F>(bytes, &mut window, &mut written);
-    put_decoded(Strictness::Lossy, decoded, &written, buf)
+    let decoded = write_text::<F>(strictness, bytes, &mut written);
+    put_decoded(strictness, decoded, &written, buf)
 }
 
 /// Copies the text that was decoded of all bytes, unless an ill-formed byte in them is refused. The
@@ -132,21 +134,6 @@ fn put_decoded(
         return Err(Unwritten::NoText);
     }
     copy_to_slice(&written[..decoded.end], buf).map_err(Unwritten::NoRoom)
-}
-
-/// Writes the strict reading of no more bytes than an array of this length has, which it is written
-/// to first: a caller's buffer stays as it was if there is none.
-#[inline(never)]
-fn put_strictly<F: Flavor, const TEXT: usize>(
-    bytes: &[u8],
-    buf: &mut [u8],
-) -> Result<usize, Unwritten>
-    requires { (length bytes.now ≤ TEXT) × (TEXT ≤ LONG_WINDOW) }
-    ensures { PutsReading F.flavor Strict bytes.now result buf.old buf.new }
-{
-    let mut text = [0; TEXT];
-    let decoded = write_strict::<F>(bytes, &mut text);
-    put_decoded(Strictness::Strict, decoded, &text, buf)
 }
 
 /// Writes the text of still more bytes, chunk by chunk, where it stays. First passes find whether
@@ -185,12 +172,10 @@ fn write_reading<F: Flavor>(bytes: &[u8], out: &mut [u8]) -> usize
     let mut written = [0; LONG_TEXT];
     let mut rest = bytes;
     let mut end = 0;
-    let mut is_well_formed = true;
     while !rest.is_empty() {
-        let chunk = next_chunk::<F, LONG_BUFFER>(rest, is_well_formed, &mut written);
-        rest = &rest[chunk.read..];
-        is_well_formed = !chunk.is_ill_formed;
-        end = put(chunk.text, out, end);
+        let decoded = write_text::<F>(Strictness::Lossy, rest, &mut written);
+        rest = &rest[decoded.read..];
+        end = put(&written[..decoded.end], out, end);
     }
     end
 }

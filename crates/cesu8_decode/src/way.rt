@@ -14,12 +14,11 @@
 //!
 //! - `Characters`: one character after another. A branch on a byte costs little while few bytes are
 //!   not ASCII. `FewCharacters` is the same with a smaller array, since clearing one takes time.
-//! - The windows: 32 bytes at a time with no branch on a byte. In lossy reading they are decoded
-//!   between buffers on the stack, of which smaller ones are made in less time. In strict reading a
-//!   block is read where it stands and written where it goes: to the `String`, or to an array from
-//!   which it is copied to a slice.
-//! - `Chunks`: in strict reading as before. In lossy reading well-formed bytes are read as in strict
-//!   reading, and windows after an ill-formed byte. Lossy reading to a `String` begins by a window.
+//! - The windows: one pass, 32 bytes at a time with no branch on a byte. In strict reading to a
+//!   `String` the text is written where it stays, and else to an array, from which it is copied. A
+//!   smaller array is made in less time.
+//! - `Chunks`: in strict reading as before. In lossy reading the same pass reads as many bytes as an
+//!   array has room for, and the next ones to the same array.
 //! - `Refused`: strict reading is asked for bytes that are not UTF-8 alone, and each encoding that is
 //!   not UTF-8 has an ED or a C0. Most other input that is no encoding is ill-formed early. What is
 //!   found only later is refused at the end of its block: a window of strict reading goes no further.

@@ -9,8 +9,8 @@ use Rattle.cesu8_decode.specs.DecodedOffsets.{width_at, decoded_byte, decoded, i
 use Rattle.cesu8_text.proofs.reading.Decoding.{utf8_append}
 use Rattle.cesu8_text.proofs.reading.Splits.{split}
 use Rattle.cesu8_decode.proofs.by_offset.DecodedBytes.{decoded_after, decoded_after_ended}
-use Rattle.cesu8_decode.proofs.by_offset.WindowOffsets.{Follows, follows_later, follows_zeros, width_following, boundary_agrees, decoded_split}
-use Rattle.cesu8_decode.proofs.by_offset.CharacterBoundaries.{boundary_ends, boundary_of_zeros, none_crosses_boundary}
+use Rattle.cesu8_decode.proofs.by_offset.WindowOffsets.{Follows, follows_later, width_following, decoded_split}
+use Rattle.cesu8_decode.proofs.by_offset.CharacterBoundaries.{boundary_ends, none_crosses_boundary}
 
 -- by the bytes, from the first on
 by_index : (f : Flavor) (window bytes : List ℕ) (i : ℕ) → Follows window bytes (i + 5) →
@@ -66,12 +66,3 @@ decoded_between f window bytes n follows fits first boundary =
 -- A window on all of the bytes: five zeros, the bytes, and zeros.
 abbrev pub IsPadded : List ℕ → List ℕ → Type 0
 IsPadded bytes window = (k : ℕ) → slice_index window k ≡ slice_index (0 ∷ 0 ∷ 0 ∷ 0 ∷ 0 ∷ bytes) k
-
--- It has the bytes behind its first five offsets.
-pub padded_follows : (bytes window : List ℕ) → IsPadded bytes window → Follows window bytes 5
-padded_follows bytes window padded k = padded (5 + k) ∙ follows_zeros bytes k
-
--- No character reaches over its first byte.
-pub padded_boundary : (f : Flavor) (bytes window : List ℕ) → IsPadded bytes window → is_boundary_at f window 0 ≡ true
-padded_boundary f bytes window padded =
-    boundary_agrees f window (0 ∷ 0 ∷ 0 ∷ 0 ∷ 0 ∷ bytes) 0 0 (λ k small. padded (0 + k)) ∙ boundary_of_zeros f bytes

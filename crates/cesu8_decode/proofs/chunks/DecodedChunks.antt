@@ -1,7 +1,7 @@
 -- What a window of bytes becomes is a chunk of their text, or an ill-formed byte in it is their fault.
-use Rattle.std.proofs.Common.{◌≡◌, ℕ, zero, suc, ◌+◌, ◌<◌, ◌≤◌, true, false, List, [], ◌∷◌, ◌++◌, refl, sym, ap, ◌∙◌, subst, inr, arith, length, take, drop, get_or}
+use Rattle.std.proofs.Common.{◌≡◌, ℕ, ◌+◌, ◌<◌, ◌≤◌, true, false, List, [], ◌∷◌, ◌++◌, refl, sym, ap, ◌∙◌, subst, inr, arith, length, take, drop}
 use Rattle.std.specs.Prelude.{slice_index}
-use Rattle.std.proofs.lemmas.List.{take-append-drop, length-take-le, get_or-take}
+use Rattle.std.proofs.lemmas.List.{take-append-drop, length-take-le}
 use Rattle.cesu8_text.specs.Text.{IsText, utf8}
 use Rattle.cesu8_text.specs.Encoding.{Flavor}
 use Rattle.cesu8_text.specs.Reading.{reading, IsStrictReading}
@@ -16,7 +16,7 @@ use Rattle.cesu8_text.proofs.reading.Cuttings.{greedy_cutting}
 use Rattle.cesu8_text.proofs.reading.Greedy.{places}
 use Rattle.cesu8_text.proofs.reading.Splits.{split}
 use Rattle.cesu8_decode.proofs.by_offset.WindowOffsets.{Agree, follows_zeros, boundary_agrees, ill_formed_agrees, decoded_agrees}
-use Rattle.cesu8_decode.proofs.by_offset.CharacterBoundaries.{boundary_of_zeros, none_crosses_boundary, boundary_near}
+use Rattle.cesu8_decode.proofs.by_offset.CharacterBoundaries.{boundary_of_zeros, none_crosses_boundary}
 use Rattle.cesu8_decode.proofs.by_offset.IllFormed.{IsCovered, chunk_of_text, covered_read, uncovered_fault, covered_where, not_covered_where, covered_in_front}
 use Rattle.cesu8_decode.proofs.by_offset.DecodedText.{IsPadded, decoded_between}
 
@@ -71,16 +71,6 @@ module _ (f : Flavor) (bytes window : List ℕ) (n : ℕ) (padded : IsPaddedFor 
   agrees i m fits k small = padded (i + k) (omega arith)
 
   module _ (fits : n ≤ length bytes) where
-    -- The end of the first n is a boundary, or one of the five offsets before it is.
-    pub boundary_behind : (m : ℕ) × (m ≤ n) × (n ≤ m + 5) × (is_boundary_at f window m ≡ true)
-    boundary_behind =
-        let near = boundary_near f all bytes n (follows_zeros bytes) (boundary_of_zeros f bytes) fits in (
-          near.0,
-          near.1,
-          near.2,
-          boundary_agrees f window all near.0 near.0 (agrees near.0 10 (omega (arith, near.1))) ∙ near.3,
-        )
-
     -- An ill-formed byte is a fault.
     pub fault_at : (i : ℕ) → i < n → is_ill_formed_at f window i ≡ true → HasFault f bytes
     fault_at i inside ill_formed =
@@ -120,15 +110,3 @@ module _ (f : Flavor) (bytes window : List ℕ) (n : ℕ) (padded : IsPaddedFor 
       pub strict_chunk : (which : Strictness) → ((i : ℕ) → i < n → is_ill_formed_at f window i ≡ false) → IsChunk f which bytes (drop n bytes) (decoded f window 0 n)
       strict_chunk which fine =
           subst (IsChunk f which bytes (drop n bytes)) (sym decoded_window) (strict_first_chunk f which bytes n (strict_window fine))
-
--- A window on the first m bytes is one on the first n of all, where five more are among the m.
-pub padded_take : (bytes window : List ℕ) (m n : ℕ) → n + 5 ≤ m → IsPadded (take m bytes) window → IsPaddedFor n bytes window
-padded_take bytes window m n fits padded k small = padded k ∙ same k small
-  where
-    same : (k : ℕ) → k < n + 10 → get_or (0 ∷ 0 ∷ 0 ∷ 0 ∷ 0 ∷ take m bytes) k 0 ≡ get_or (0 ∷ 0 ∷ 0 ∷ 0 ∷ 0 ∷ bytes) k 0
-    same zero small = refl
-    same (suc zero) small = refl
-    same (suc (suc zero)) small = refl
-    same (suc (suc (suc zero))) small = refl
-    same (suc (suc (suc (suc zero)))) small = refl
-    same (suc (suc (suc (suc (suc k))))) small = get_or-take m bytes k 0 (omega arith)

@@ -70,16 +70,6 @@ chunk_appended f which bytes rest chunk old new is_chunk new_is = record {
   written = new_is ∙ ap (λ bs. old ++ bs) is_chunk.written;
 }
 
--- A chunk in strict reading is one in both.
-pub chunk_of_strict : (f : Flavor) (which : Strictness) (bytes rest chunk : List ℕ) → IsChunk f Strict bytes rest chunk → IsChunk f which bytes rest chunk
-chunk_of_strict f which bytes rest chunk is = record {
-  text = is.text;
-  scalars = is.scalars;
-  lossy_reading = is.lossy_reading;
-  strict_reading = λ _. is.strict_reading refl;
-  written = is.written;
-}
-
 -- What is read is UTF-8.
 pub chunk_utf8 : (f : Flavor) (which : Strictness) (bytes rest chunk : List ℕ) → IsChunk f which bytes rest chunk → IsUtf8 chunk
 chunk_utf8 f which bytes rest chunk read = subst IsUtf8 (sym read.written) (IsUtf8_utf8 read.text read.scalars)
@@ -189,16 +179,16 @@ strict_chunk f bytes text reads = record {
   written = refl;
 }
 
--- Where text was read strictly from the front, and then from what is left, the first of all bytes are read.
-pub first_after : (f : Flavor) (bytes front text whole : List ℕ) (read more : ℕ) (is_ill_formed : Bool) → read ≤ length bytes →
-    IsChunk f Strict bytes (drop read bytes) front → ReadsFirst f Strict (drop read bytes) more text is_ill_formed →
-    whole ≡ front ++ text → ReadsFirst f Strict bytes (read + more) whole is_ill_formed
-first_after f bytes front text whole read more is_ill_formed inside so_far next whole_is = record {
+-- Where encoded characters were read from the front, and then what is left, the first of all bytes are read.
+pub first_after : (f : Flavor) (which : Strictness) (bytes front text whole : List ℕ) (read more : ℕ) (is_ill_formed : Bool) → read ≤ length bytes →
+    ((w : Strictness) → IsChunk f w bytes (drop read bytes) front) → ReadsFirst f which (drop read bytes) more text is_ill_formed →
+    whole ≡ front ++ text → ReadsFirst f which bytes (read + more) whole is_ill_formed
+first_after f which bytes front text whole read more is_ill_formed inside so_far next whole_is = record {
   some = λ nonempty. ⊎_elim
       (λ (none : read < 1). omega (arith, next.some (omega (arith, length-drop read bytes, nonempty, none))))
       (λ (some : 1 ≤ read). omega (arith, some)) (cases_lt read 1);
   within = omega (arith, length-drop read bytes, next.within, inside);
-  chunk = λ fine. rw (← drop-drop more read bytes) (more_read f Strict bytes (drop read bytes) _ [] front whole so_far
-      (chunk_appended f Strict (drop read bytes) _ text front whole (next.chunk fine) whole_is));
-  ill_formed = λ ill_formed. fault_after f Strict bytes (drop read bytes) [] front so_far refl (next.ill_formed ill_formed);
+  chunk = λ fine. rw (← drop-drop more read bytes) (more_read f which bytes (drop read bytes) _ [] front whole (so_far which)
+      (chunk_appended f which (drop read bytes) _ text front whole (next.chunk fine) whole_is));
+  ill_formed = λ ill_formed. fault_after f Strict bytes (drop read bytes) [] front (so_far Strict) refl (next.ill_formed ill_formed);
 }

@@ -1,5 +1,5 @@
 -- What a call may say of a text that it writes into a caller's buffer.
-use Rattle.std.proofs.Common.{◌≡◌, ℕ, ◌^◌, ◌<◌, ◌≤◌, ◌↔◌, inl, inr, ⊎_elim, List, refl, sym, ap, ◌∙◌, subst, arith, length, length-drop, drop, [], ◌++◌, Bool, false, Result, Ok, Err, MatchResult, IsErrAnd}
+use Rattle.std.proofs.Common.{◌≡◌, ℕ, ◌^◌, ◌<◌, ◌≤◌, ◌↔◌, inl, inr, ⊎_elim, List, refl, sym, ap, ◌∙◌, subst, arith, length, length-drop, drop, Bool, false, Result, Ok, Err, MatchResult, IsErrAnd}
 use Rattle.std.proofs.lemmas.Bool.{false≢true, cases_lt}
 use Rattle.std.specs.Str.{chars, IsUtf8}
 use Rattle.cesu8_text.specs.Text.{utf8}
@@ -21,7 +21,7 @@ use Rattle.cesu8_text.proofs.encoding.Lengths.{length_bounds}
 use Rattle.cesu8_text.proofs.reading.EncodedTexts.{reading_encoding}
 use Rattle.cesu8_text.proofs.reading.Borrowing.{unchanged_reading}
 use Rattle.cesu8_text.proofs.reading.LossyBorrowing.{unchanged_lossy}
-use Rattle.cesu8_decode.proofs.chunks.ReadChunks.{more_read, chunk_appended, chunk_utf8, whole_text, chunk_unless_refused}
+use Rattle.cesu8_decode.proofs.chunks.ReadChunks.{chunk_utf8, whole_text, chunk_unless_refused}
 
 -- ---- the only text
 
@@ -53,7 +53,7 @@ only_strict f bytes text reads = record {
   utf8_is = refl;
 }
 
--- that of bytes that are decoded, or are a chunk;
+-- that of bytes that are decoded, or are a chunk.
 pub only_decoded : (f : Flavor) (which : Strictness) (bytes text : List ℕ) → IsDecodedText f which bytes text →
     IsOnlyText (IsReadingOf f which bytes) text (utf8 text)
 only_decoded f Strict bytes text is = only_strict f bytes text (is.0, is.2 refl)
@@ -65,15 +65,6 @@ only_chunk f which bytes rest chunk is_chunk empty =
     subst (IsOnlyText (IsReadingOf f which bytes) (chars chunk))
     (IsUtf8Of_chars chunk (chunk_utf8 f which bytes rest chunk is_chunk)).1
     (only_decoded f which bytes (chars chunk) (whole_text f which bytes rest chunk is_chunk empty))
-
--- or are two.
-pub only_two_chunks : (f : Flavor) (which : Strictness) (bytes rest first second : List ℕ) (n : ℕ) → IsChunk f which bytes rest first →
-    IsChunk f which rest (drop n rest) second → n ≡ length rest → IsOnlyText (IsReadingOf f which bytes) (chars (first ++ second)) (first ++ second)
-only_two_chunks f which bytes rest first second n one other all =
-    only_chunk f which bytes (drop n rest) (first ++ second)
-    (more_read f which bytes rest (drop n rest) [] first (first ++ second) one
-    (chunk_appended f which rest (drop n rest) second first (first ++ second) other refl))
-    (omega (arith, length-drop n rest, all))
 
 -- The strict reading is no longer than the bytes.
 pub strict_no_longer : (f : Flavor) (bytes : List ℕ) → IsStrictReading f bytes (reading f bytes) → lossy_length f bytes ≤ length bytes
@@ -139,12 +130,6 @@ no_strict_text f Strict bytes buf (strictly, none) = record {
   lossy = λ never. absurd never;
 }
 no_strict_text f Lossy bytes buf refused = absurd (let no : Lossy ≡ Strict = refused.0 in cc)
-
--- A buffer as long as the bytes has room for their strict reading.
-pub has_none : (f : Flavor) (bytes : List ℕ) (fault : Unwritten) (old new : List ℕ) → length bytes ≤ length old →
-    PutsText Strict (IsReadingOf f Strict bytes) (Err fault) old new → HasNoStrictReading f bytes
-has_none f bytes fault old new room puts text reads =
-    absurd (false≢true (puts.fits.1 (text, reads, omega (arith, room, (length_bounds f text reads.0).low, ap length reads.1))))
 
 module _ (which : Strictness) (IsReading : List ℕ → Type 0) (text answer buf : List ℕ) (is : IsOnlyText IsReading text answer) (small : length answer < 2 ^ 64) where
   -- The answer is written to a buffer that is long enough,

@@ -1,4 +1,4 @@
--- Blocks that are read where they stand, of which none is ill-formed.
+-- Blocks that are read where they stand.
 use Rattle.std.proofs.Common.{◌≡◌, ◌≢◌, append-nil, ℕ, zero, suc, ◌+◌, ◌-◌, ◌<◌, ◌≤◌, ⊎_elim, Bool, true, false, true≢false, List, [], ◌++◌, refl, sym, ap, ◌∙◌, arith, map, get_or, length, take, drop, replicate, zero-add, add-zero}
 use Rattle.std.specs.List.{range_with_len}
 use Rattle.std.proofs.lemmas.List.{length-append, length-take-le, get_or-take, get_or-drop, drop-take}
@@ -9,13 +9,15 @@ use Rattle.std.proofs.Math.Seq.{take-length}
 use Rattle.std.proofs.lemmas.Bool.{cases_lt}
 use Rattle.cesu8_text.specs.Encoding.{Flavor}
 use Rattle.cesu8_bytes.specs.Packing.{written_for}
-use Rattle.cesu8_bytes.specs.declared.options.Strictness.TheVariants.{Strict}
+use Rattle.cesu8_bytes.specs.declared.options.Strictness.{Strictness}
+use Rattle.cesu8_bytes.specs.declared.options.Strictness.TheVariants.{Strict, Lossy}
+use Rattle.cesu8_bytes.specs.TextChunks.{IsChunk}
 use Rattle.cesu8_bytes.proofs.vectors.Loads.{padded}
 use Rattle.cesu8_decode.specs.DecodedOffsets.{window_of, is_ill_formed_at, is_boundary_at, decoded_at, decoded}
 use Rattle.cesu8_decode.specs.DecodedLanes.{start_kind_by, start_kind, AreFiveKinds, goes_at, byte_at, is_high}
-use Rattle.cesu8_decode.specs.Decoding.{IsWrittenUpTo, ReadsFirst}
+use Rattle.cesu8_decode.specs.Decoding.{IsWrittenUpTo, ReadsFirst, most_written}
 use Rattle.cesu8_decode.proofs.by_offset.WindowOffsets.{Agree, follows_zeros, boundary_agrees, ill_formed_agrees, decoded_agrees, decoded_split}
-use Rattle.cesu8_decode.proofs.chunks.DecodedChunks.{padded_for, fault_at, strict_chunk}
+use Rattle.cesu8_decode.proofs.chunks.DecodedChunks.{IsPaddedFor, padded_for, fault_at, lossy_chunk, strict_chunk}
 use Rattle.cesu8_decode.proofs.decoder.DecodedParts.{decoded_is_written}
 use Rattle.cesu8_decode.proofs.decoder.DecodedWindows.{five_kinds, kinds_of_zeros}
 use Rattle.cesu8_decode.proofs.by_offset.CharacterBoundaries.{boundary_of_zeros, boundary_at_end, boundary_near}
@@ -26,35 +28,67 @@ one_or_none : (goes : Bool) (b : ℕ) → length (written_for goes false b) ≤ 
 one_or_none true b = omega arith
 one_or_none false b = omega arith
 
--- Bytes of which none is ill-formed become no more bytes.
-pub no_longer : (f : Flavor) (window : List ℕ) (at n : ℕ) → ((i : ℕ) → at ≤ i → i < at + n → is_ill_formed_at f window i ≡ false) →
-    length (decoded f window at n) ≤ n
+at_most_three : (goes ill_formed : Bool) (b : ℕ) → length (written_for goes ill_formed b) ≤ 3
+at_most_three true true b = omega arith
+at_most_three true false b = omega arith
+at_most_three false true b = omega arith
+at_most_three false false b = omega arith
+
+-- Bytes become no more bytes where none is ill-formed, and else at most three for each.
+pub no_longer : (f : Flavor) (which : Strictness) (window : List ℕ) (at n : ℕ) →
+    (which ≡ Strict → (i : ℕ) → at ≤ i → i < at + n → is_ill_formed_at f window i ≡ false) → length (decoded f window at n) ≤ most_written which n
 unfolding decoded
-no_longer f window at zero fine = omega arith
-no_longer f window at (suc n) fine =
+no_longer f Strict window at zero fine = omega arith
+no_longer f Lossy window at zero fine = omega arith
+no_longer f Strict window at (suc n) fine =
     let is : decoded_at f window at ≡ written_for (goes_at f window at) false (byte_at f window at) =
-    decoded_is_written f window at ∙ ap (λ t. written_for (goes_at f window at) t (byte_at f window at)) (fine at (omega arith) (omega arith)) in
+    decoded_is_written f window at ∙ ap (λ t. written_for (goes_at f window at) t (byte_at f window at)) (fine refl at (omega arith) (omega arith)) in
     omega (
       arith,
       ap length is,
       one_or_none (goes_at f window at) (byte_at f window at),
-      no_longer f window (at + 1) n (λ i low inside. fine i (omega arith) (omega arith)),
+      no_longer f Strict window (at + 1) n (λ strict i low inside. fine strict i (omega arith) (omega arith)),
+      length-append (decoded_at f window at) (decoded f window (at + 1) n),
+    )
+no_longer f Lossy window at (suc n) fine =
+    omega (
+      arith,
+      ap length (decoded_is_written f window at),
+      at_most_three (goes_at f window at) (is_ill_formed_at f window at) (byte_at f window at),
+      no_longer f Lossy window (at + 1) n (λ strict i low inside. fine strict i (omega arith) (omega arith)),
       length-append (decoded_at f window at) (decoded f window (at + 1) n),
     )
 
+-- More bytes become as many more.
+pub most_adds : (which : Strictness) (a b : ℕ) → most_written which a + most_written which b ≡ most_written which (a + b)
+most_adds Strict a b = refl
+most_adds Lossy a b = omega arith
+
+pub most_is_more : (which : Strictness) (n : ℕ) → n ≤ most_written which n
+most_is_more Strict n = omega arith
+most_is_more Lossy n = omega arith
+
 -- So the end of what is written for them is no further on.
-pub ends_within : (f : Flavor) (window old new : List ℕ) (at n end behind : ℕ) →
-    ((i : ℕ) → at ≤ i → i < at + n → is_ill_formed_at f window i ≡ false) →
-    take behind new ≡ take end old ++ decoded f window at n → end ≤ length old → behind ≤ length new → behind ≤ end + n
-ends_within f window old new at n end behind fine written fits inside =
+pub ends_within : (f : Flavor) (which : Strictness) (window old new : List ℕ) (at n end behind : ℕ) →
+    (which ≡ Strict → (i : ℕ) → at ≤ i → i < at + n → is_ill_formed_at f window i ≡ false) →
+    take behind new ≡ take end old ++ decoded f window at n → end ≤ length old → behind ≤ length new → behind ≤ end + most_written which n
+ends_within f which window old new at n end behind fine written fits inside =
     omega (
       arith,
       ap length written,
       length-take-le behind new inside,
       length-take-le end old fits,
       length-append (take end old) (decoded f window at n),
-      no_longer f window at n fine,
+      no_longer f which window at n fine,
     )
+
+-- Nor is it where ill-formed bytes are replaced, or nothing is written for them.
+pub ill_formed_within : (f : Flavor) (which : Strictness) (window old new : List ℕ) (at n end behind : ℕ) (is_refused : Bool) →
+    (which ≡ Strict → behind ≡ end) → (which ≡ Lossy → is_refused ≡ false) →
+    (is_refused ≡ false → take behind new ≡ take end old ++ decoded f window at n) → end ≤ length old → behind ≤ length new → behind ≤ end + most_written which n
+ill_formed_within f Strict window old new at n end behind is_refused strict lossy written fits inside = omega (arith, strict refl)
+ill_formed_within f Lossy window old new at n end behind is_refused strict lossy written fits inside =
+    ends_within f Lossy window old new at n end behind (λ strict. absurd (cc)) (written (lossy refl)) fits inside
 
 -- Where some of the first marks are set, a byte is ill-formed.
 pub marked : (f : Flavor) (window : List ℕ) (at n : ℕ) → n ≤ 32 → (marks : List ℕ) →
@@ -109,39 +143,41 @@ stands_in_window bytes at n some k small =
 -- ---- what is written
 
 -- A block adds what its bytes become.
-pub block_added : (f : Flavor) (bytes window : List ℕ) (p at n : ℕ) (old text : List ℕ) (is_ill_formed : Bool) →
-    IsWrittenUpTo f bytes at old false → Agree window (window_of bytes) p at (n + 10) → at + n ≤ length bytes →
-    (is_ill_formed ≡ false → text ≡ old ++ decoded f window p n) →
-    (is_ill_formed ≡ true → (i : ℕ) × (p ≤ i) × (i < p + n) × (is_ill_formed_at f window i ≡ true)) →
-    (is_ill_formed ≡ false → (i : ℕ) → p ≤ i → i < p + n → is_ill_formed_at f window i ≡ false) →
-    IsWrittenUpTo f bytes (at + n) text is_ill_formed
-block_added f bytes window p at n old text is_ill_formed before agree inside added ill_formed fine = record {
+pub block_added : (f : Flavor) (which : Strictness) (bytes window : List ℕ) (p at n : ℕ) (old text : List ℕ) (is_refused : Bool) →
+    IsWrittenUpTo f which bytes at old false → Agree window (window_of bytes) p at (n + 10) → at + n ≤ length bytes →
+    (is_refused ≡ false → text ≡ old ++ decoded f window p n) →
+    (is_refused ≡ true → (i : ℕ) × (p ≤ i) × (i < p + n) × (is_ill_formed_at f window i ≡ true)) →
+    (which ≡ Lossy → is_refused ≡ false) →
+    (which ≡ Strict → is_refused ≡ false → (i : ℕ) → p ≤ i → i < p + n → is_ill_formed_at f window i ≡ false) →
+    IsWrittenUpTo f which bytes (at + n) text is_refused
+block_added f which bytes window p at n old text is_refused before agree inside added refused lossy fine = record {
   decoded_text = λ none.
       added none
       ∙ (λ k. before.decoded_text refl k ++ decoded_agrees f window (window_of bytes) p at n agree k)
       ∙ ap (λ i. decoded f (window_of bytes) 0 at ++ decoded f (window_of bytes) i n) (sym (zero-add at))
       ∙ sym (decoded_split f (window_of bytes) 0 at n);
-  well_formed = λ none i small. by_cases i small none;
-  ill_formed = λ some.
-      let found = ill_formed some in
+  well_formed = λ strict none i small. by_cases strict i small none;
+  refused = λ some.
+      let found = refused some in
       let i = found.0 in
       let here : p + (i - p) ≡ i = omega (arith, found.1) in (
         at + (i - p),
         omega (arith, found.1, found.2),
         sym (same (i - p) (omega (arith, found.1, found.2))) ∙ ap (is_ill_formed_at f window) here ∙ found.3,
       );
+  lossy = lossy;
 }
   where
     same : (s : ℕ) → s < n → is_ill_formed_at f window (p + s) ≡ is_ill_formed_at f (window_of bytes) (at + s)
     same s small = ill_formed_agrees f window (window_of bytes) (p + s) (at + s) (agree_from window (window_of bytes) p at (n + 10) s 11 (omega arith) agree)
 
-    by_cases : (i : ℕ) → i < at + n → is_ill_formed ≡ false → is_ill_formed_at f (window_of bytes) i ≡ false
-    by_cases i small none =
-        ⊎_elim (λ (early : i < at). before.well_formed refl i early)
+    by_cases : which ≡ Strict → (i : ℕ) → i < at + n → is_refused ≡ false → is_ill_formed_at f (window_of bytes) i ≡ false
+    by_cases strict i small none =
+        ⊎_elim (λ (early : i < at). before.well_formed strict refl i early)
         (λ (late : at ≤ i).
         let there : at + (i - at) ≡ i = omega arith in
         sym (ap (is_ill_formed_at f (window_of bytes)) there) ∙ sym (same (i - at) (omega arith))
-        ∙ fine none (p + (i - at)) (omega arith) (omega arith))
+        ∙ fine strict none (p + (i - at)) (omega arith) (omega arith))
         (cases_lt i at)
 
 -- Nothing begins in the zeros before the first block,
@@ -157,21 +193,13 @@ first_kinds f bytes = kinds_of_zeros f (window_of bytes) (replicate 32 0) refl z
     zeros (suc (suc (suc (suc (suc k))))) small = absurd (omega arith)
 
 -- and nothing is written.
-pub none_written : (f : Flavor) (bytes text : List ℕ) → text ≡ [] → IsWrittenUpTo f bytes 0 text false
+pub none_written : (f : Flavor) (which : Strictness) (bytes text : List ℕ) → text ≡ [] → IsWrittenUpTo f which bytes 0 text false
 unfolding decoded
-none_written f bytes text empty = record {
+none_written f which bytes text empty = record {
   decoded_text = λ _. empty;
-  well_formed = λ _ i small. absurd (omega arith);
-  ill_formed = λ some. absurd (true≢false (sym some));
-}
-
--- Where some byte is ill-formed, it does not matter how many were read.
-pub still_ill_formed : (f : Flavor) (bytes : List ℕ) (m n : ℕ) (old text : List ℕ) (is_ill_formed : Bool) → is_ill_formed ≡ true →
-    IsWrittenUpTo f bytes m old is_ill_formed → IsWrittenUpTo f bytes n text is_ill_formed
-still_ill_formed f bytes m n old text is_ill_formed some written = record {
-  decoded_text = λ none. absurd (true≢false (sym some ∙ none));
-  well_formed = λ none. absurd (true≢false (sym some ∙ none));
-  ill_formed = written.ill_formed;
+  well_formed = λ _ _ i small. absurd (omega arith);
+  refused = λ some. absurd (true≢false (sym some));
+  lossy = λ _. refl;
 }
 
 -- ---- bytes that are copied to zeros
@@ -246,26 +274,32 @@ copied_behind bytes copied rest at n some is zeros k =
 
 -- ---- what was read
 
--- The first n bytes are a chunk of text up to a boundary, unless some byte is ill-formed.
-pub read_in_place : (f : Flavor) (bytes : List ℕ) (n read : ℕ) (text : List ℕ) → IsWrittenUpTo f bytes n text false →
-    (0 < length bytes → 0 < n) → n ≤ length bytes → is_boundary_at f (window_of bytes) n ≡ true → read ≡ n → ReadsFirst f Strict bytes read text false
-read_in_place f bytes n read text written some inside boundary read_is = record {
+-- The first n bytes are a chunk of text up to a boundary, unless strict reading refuses one.
+pub read_in_place : (f : Flavor) (which : Strictness) (bytes : List ℕ) (n read : ℕ) (text : List ℕ) → IsWrittenUpTo f which bytes n text false →
+    (0 < length bytes → 0 < n) → n ≤ length bytes → is_boundary_at f (window_of bytes) n ≡ true → read ≡ n → ReadsFirst f which bytes read text false
+read_in_place f which bytes n read text written some inside boundary read_is = record {
   some = λ more. omega (arith, some more);
   within = omega arith;
-  chunk = λ _.
-      rw (read_is, written.decoded_text refl)
-      (strict_chunk f bytes (window_of bytes) n (padded_for bytes (window_of bytes) n (λ k. refl)) inside boundary Strict (written.well_formed refl));
+  chunk = λ _. rw (read_is, written.decoded_text refl) (chunk which written);
   ill_formed = λ ill_formed. absurd (true≢false (sym ill_formed));
 }
+  where
+    padded : IsPaddedFor n bytes (window_of bytes)
+    padded = padded_for bytes (window_of bytes) n (λ k. refl)
 
--- Where some byte is ill-formed, they have a fault.
-pub refused_in_place : (f : Flavor) (bytes : List ℕ) (n read : ℕ) (text written : List ℕ) (is_ill_formed : Bool) → IsWrittenUpTo f bytes n written true →
-    read ≡ length bytes → is_ill_formed ≡ true → ReadsFirst f Strict bytes read text is_ill_formed
-refused_in_place f bytes n read text written is_ill_formed is read_is some = record {
+    chunk : (w : Strictness) → IsWrittenUpTo f w bytes n text false → IsChunk f w bytes (drop n bytes) (decoded f (window_of bytes) 0 n)
+    chunk Strict written = strict_chunk f bytes (window_of bytes) n padded inside boundary Strict (written.well_formed refl refl)
+    chunk Lossy written = lossy_chunk f bytes (window_of bytes) n padded inside boundary
+
+-- Where it does, they have a fault.
+pub refused_in_place : (f : Flavor) (which : Strictness) (bytes : List ℕ) (n read : ℕ) (text written : List ℕ) (is_ill_formed : Bool) →
+    IsWrittenUpTo f which bytes n written true → read ≡ length bytes → is_ill_formed ≡ true → ReadsFirst f which bytes read text is_ill_formed
+refused_in_place f Strict bytes n read text written is_ill_formed is read_is some = record {
   some = λ more. omega arith;
   within = omega arith;
   chunk = λ none. absurd (true≢false (sym some ∙ none));
   ill_formed = λ _.
-      let found = is.ill_formed refl in
+      let found = is.refused refl in
       fault_at f bytes (window_of bytes) (length bytes) (padded_for bytes (window_of bytes) (length bytes) (λ k. refl)) (omega arith) found.0 found.1 found.2;
 }
+refused_in_place f Lossy bytes n read text written is_ill_formed is read_is some = absurd (true≢false (is.lossy refl))

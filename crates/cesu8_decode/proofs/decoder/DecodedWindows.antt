@@ -1,11 +1,8 @@
 -- What is read and written by windows.
-use Rattle.std.proofs.Common.{◌≡◌, ℕ, ◌+◌, ◌-◌, ◌<◌, ◌≤◌, ◌⊎◌, ⊎_elim, Bool, true, false, ◌&&◌, ◌||◌, not, eqb, leb, List, [], ◌∷◌, ◌++◌, refl, sym, ap, ◌∙◌, arith, IsTrue, true≢false, map, get_or, length, take, drop, replicate, zero-add, add-zero, bit_and, bit_or}
-use Rattle.std.proofs.lemmas.Bool.{ne_eqb, eq-eqb, le-leb, lt-leb, cases_lt}
+use Rattle.std.proofs.Common.{append_assoc, ◌≡◌, ℕ, ◌+◌, ◌<◌, ◌≤◌, ◌⊎◌, ⊎_elim, Bool, true, false, ◌&&◌, not, eqb, leb, List, [], ◌∷◌, ◌++◌, refl, sym, ap, ◌∙◌, arith, map, get_or, length, take, drop, replicate, zero-add, add-zero, bit_and, bit_or}
+use Rattle.std.proofs.lemmas.Bool.{ne_eqb, eq-eqb, le-leb, lt-leb}
 use Rattle.cesu8_text.specs.Encoding.{Flavor}
-use Rattle.cesu8_decode.specs.DecodedOffsets.{width_at, is_boundary_at, is_ill_formed_at, decoded}
-use Rattle.cesu8_bytes.specs.TextChunks.{IsChunk}
-use Rattle.cesu8_decode.specs.Decoding.{HasFault}
-use Rattle.cesu8_bytes.specs.declared.options.Strictness.TheVariants.{Lossy}
+use Rattle.cesu8_decode.specs.DecodedOffsets.{width_at, is_boundary_at, decoded}
 use Rattle.cesu8_decode.specs.DecodedLanes.{start_kind, AreFiveKinds}
 use Rattle.std.specs.List.{range_with_len}
 use Rattle.std.proofs.lemmas.List.FromFn.{get_or-map-range_with_len}
@@ -14,9 +11,8 @@ use borrow.Rule.Slice.PartMut.{put_mid, post_of}
 use Rattle.std.proofs.lemmas.List.{get_or-drop, take-replicate}
 use Rattle.cesu8_bytes.proofs.vectors.Loads.{zeros_at, padded}
 use Rattle.cesu8_decode.proofs.decoder.StartKinds.{start_at, no_start, over_one, over_two}
-use Rattle.cesu8_decode.proofs.by_offset.CharacterBoundaries.{width_bounds, boundary_at_end}
-use Rattle.cesu8_decode.proofs.by_offset.DecodedText.{IsPadded, padded_follows, padded_boundary}
-use Rattle.cesu8_decode.proofs.chunks.DecodedChunks.{IsPaddedFor, padded_for, padded_take, boundary_behind, fault_at, lossy_chunk}
+use Rattle.cesu8_decode.proofs.by_offset.CharacterBoundaries.{width_bounds}
+use Rattle.cesu8_decode.proofs.by_offset.DecodedText.{IsPadded}
 use Rattle.cesu8_decode.proofs.decoder.LaneTests.{no_bit_or, no_pair}
 
 -- ---- boundaries
@@ -92,62 +88,9 @@ between_zeros window bytes copied n fits zeros copied_is k =
 
 -- ---- blocks
 
--- The bytes of a block are ill-formed, or those before.
-pub more_ill_formed : (p : ℕ → Bool) (at len : ℕ) (before here : Bool) →
-    (before ≡ true → (i : ℕ) × (i < at) × (p i ≡ true)) → (IsTrue here → (i : ℕ) × (at ≤ i) × (i < at + len) × (p i ≡ true)) →
-    (before || here) ≡ true → (i : ℕ) × (i < at + len) × (p i ≡ true)
-more_ill_formed p at len true here first then some = let found = first refl in (found.0, omega (arith, found.1), found.2)
-more_ill_formed p at len false here first then some = let found = then some in (found.0, found.2, found.3)
-
-pub none_ill_formed : (p : ℕ → Bool) (at len : ℕ) (before here : Bool) →
-    (before ≡ false → (i : ℕ) → i < at → p i ≡ false) → (here ≡ false → (i : ℕ) → at ≤ i → i < at + len → p i ≡ false) →
-    (before || here) ≡ false → (i : ℕ) → i < at + len → p i ≡ false
-none_ill_formed p at len true here first then none i inside = absurd (true≢false none)
-none_ill_formed p at len false here first then none i inside =
-    ⊎_elim (λ (early : i < at). first refl i early) (λ (late : at ≤ i). then none i late inside) (cases_lt i at)
-
 -- What more bytes become is written behind what the first ones become.
-pub more_written : (f : Flavor) (window old new : List ℕ) (at len : ℕ) → old ≡ decoded f window 0 at →
-    new ≡ old ++ decoded f window at len → new ≡ decoded f window 0 (at + len)
-more_written f window old new at len old_is new_is =
-    new_is ∙ ap (λ l. l ++ decoded f window at len) old_is
-    ∙ ap (λ i. decoded f window 0 at ++ decoded f window i len) (sym (zero-add at)) ∙ sym (decoded_split f window 0 at len)
-
--- ---- windows
-
--- The first n bytes are read by a window, up to a boundary.
-pub record IsRead (f : Flavor) (bytes window : List ℕ) (n : ℕ) : Type 0 where
-  pub padded : IsPaddedFor n bytes window
-  pub fits : n ≤ length bytes
-  pub boundary : is_boundary_at f window n ≡ true
-
--- A window on all bytes reads them all,
-pub all_read : (f : Flavor) (bytes window : List ℕ) → IsPadded bytes window → IsRead f bytes window (length bytes)
-all_read f bytes window padded = record {
-  padded = padded_for bytes window (length bytes) padded;
-  fits = omega arith;
-  boundary = boundary_at_end f window bytes (padded_follows bytes window padded) (padded_boundary f bytes window padded);
-}
-
--- and one on the first of them those before the last boundary that is told.
-pub part_read : (f : Flavor) (bytes window : List ℕ) (loaded read : ℕ) → IsPadded (take loaded bytes) window → loaded ≤ length bytes → 5 ≤ loaded →
-    read ≤ loaded - 5 →
-    ((n : ℕ) → n ≤ loaded - 5 → loaded - 5 ≤ n + 5 → is_boundary_at f window n ≡ true → is_boundary_at f window read ≡ true) →
-    IsRead f bytes window read
-part_read f bytes window loaded read padded fits some inside last =
-    let near = boundary_behind f bytes window (loaded - 5) (padded_take bytes window loaded (loaded - 5) (omega arith) padded) (omega arith) in
-    record {
-      padded = padded_take bytes window loaded read (omega arith) padded;
-      fits = omega arith;
-      boundary = last near.0 near.1 near.2 near.3;
-    }
-
-module _ (f : Flavor) (bytes window : List ℕ) (n : ℕ) (is_read : IsRead f bytes window n) where
-  -- What they become is a chunk in lossy reading,
-  pub read_lossily : (read : ℕ) (chunk : List ℕ) → read ≡ n → chunk ≡ decoded f window 0 n → IsChunk f Lossy bytes (drop read bytes) chunk
-  read_lossily read chunk read_is chunk_is =
-      rw (read_is, chunk_is) (lossy_chunk f bytes window n is_read.padded is_read.fits is_read.boundary)
-
-  -- and one that is ill-formed is a fault.
-  pub read_fault : (i : ℕ) × (i < n) × (is_ill_formed_at f window i ≡ true) → HasFault f bytes
-  read_fault ill_formed = fault_at f bytes window n is_read.padded is_read.fits ill_formed.0 ill_formed.1 ill_formed.2
+pub more_written : (f : Flavor) (window before old new : List ℕ) (at len : ℕ) → old ≡ before ++ decoded f window 0 at →
+    new ≡ old ++ decoded f window at len → new ≡ before ++ decoded f window 0 (at + len)
+more_written f window before old new at len old_is new_is =
+    new_is ∙ ap (λ l. l ++ decoded f window at len) old_is ∙ append_assoc before (decoded f window 0 at) (decoded f window at len)
+    ∙ ap (λ bs. before ++ bs) (ap (λ i. decoded f window 0 at ++ decoded f window i len) (sym (zero-add at)) ∙ sym (decoded_split f window 0 at len))

@@ -18,7 +18,7 @@ returns-then-decoded g c = record {
   text = tt;
   capacity = tt;
   none = (none_behind g.F.Flavor.flavor Strict c.args.bytes.now c.loop-rest.rest.now _ _ _ _ _
-      c.loop-rest.invariant.read c.write_strict-decoded.ensures.first c.if-decoded.true).1;
+      c.loop-rest.invariant.read c.write_text-decoded.ensures.first c.if-decoded.true).1;
 }
 
 pub loop-rest-preserved : goal.loop-rest-preserved
@@ -26,21 +26,21 @@ loop-rest-preserved g c =
     let f = g.F.Flavor.flavor in
     let rest = c.loop-rest.rest.now in
     let start = c.len-start.result in
-    let end = c.write_strict-decoded.result.end in
+    let end = c.write_text-decoded.result.end in
     let before = c.deref_mut.result.now in
-    let chunk = c.write_strict-decoded.ensures.first.chunk c.if-decoded.false in
+    let chunk = c.write_text-decoded.ensures.first.chunk c.if-decoded.false in
     let zeros : List ℕ = replicate c.min.result 0 in
     let added : length zeros ≡ c.min.result = length-replicate c.min.result 0 in
     let long : start ≡ length c.loop-rest.text.items = omega (arith, c.len-start.ensures, c.loop-rest.text.ok) in
     let old : take start before ≡ c.loop-rest.text.items =
     ap (take start) (c.deref_mut.ensures.value ∙ c.append_zeros.ensures.bytes)
     ∙ ap (λ n. take n (c.loop-rest.text.items ++ zeros)) long ∙ take-append_seam c.loop-rest.text.items zeros in
-    let new : c.truncate.new.self.items ≡ c.loop-rest.text.items ++ take end c.write_strict-decoded.new.out =
-    c.truncate.ensures.items ∙ part_kept start end _ before c.write_strict-decoded.new.out _ _
+    let new : c.truncate.new.self.items ≡ c.loop-rest.text.items ++ take end c.write_text-decoded.new.out =
+    c.truncate.ensures.items ∙ part_kept start end _ before c.write_text-decoded.new.out _ _
     (omega (arith, c.len-start.ensures, c.deref_mut.ensures.len, c.append_zeros.ensures.len, added))
-    c.write_strict-decoded.ensures.end
-    (omega (arith, c.len-start.ensures, c.deref_mut.ensures.len, c.append_zeros.ensures.len, added, c.write_strict-decoded.ensures.end, c.write_strict-decoded.ensures.len))
-    ∙ ap (λ bs. bs ++ take end c.write_strict-decoded.new.out) old in
+    c.write_text-decoded.ensures.end
+    (omega (arith, c.len-start.ensures, c.deref_mut.ensures.len, c.append_zeros.ensures.len, added, c.write_text-decoded.ensures.end, c.write_text-decoded.ensures.len))
+    ∙ ap (λ bs. bs ++ take end c.write_text-decoded.new.out) old in
     rw take_rest (record {
       read = more_read f Strict c.args.bytes.now rest _ _ _ _ c.loop-rest.invariant.read (chunk_appended f Strict rest _ _ _ _ chunk new);
       room =
@@ -49,7 +49,7 @@ loop-rest-preserved g c =
             chunk_fits f Strict rest _ _ chunk,
             ap length new,
             c.truncate.ensures.len,
-            length-append c.loop-rest.text.items (take end c.write_strict-decoded.new.out),
+            length-append c.loop-rest.text.items (take end c.write_text-decoded.new.out),
             c.loop-rest.invariant.room,
             c.truncate.ensures.capacity,
             c.append_zeros.ensures.capacity,

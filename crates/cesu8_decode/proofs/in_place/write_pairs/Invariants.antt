@@ -1,7 +1,7 @@
 use Rattle.std.proofs.Common.{◌-◌, ◌≤◌, ◌≡◌, [], length, take, drop}
 use Rattle.cesu8_text.specs.Encoding.{Flavor}
 use Rattle.cesu8_bytes.specs.TextChunks.{IsReadSoFar}
-use Rattle.cesu8_bytes.specs.declared.options.Strictness.TheVariants.{Strict}
+use Rattle.cesu8_bytes.specs.declared.options.Strictness.{Strictness}
 use Rattle.cesu8_decode.proofs.in_place.write_pairs.Given as goal
 
 abbrev pub decreases-loop-read : goal.decreases-loop-read
@@ -10,6 +10,6 @@ decreases-loop-read l = l.most - l.read
 abbrev pub invariant-loop-read : goal.invariant-loop-read
 invariant-loop-read l = record {
   inside : (l.read ≤ l.most) × (l.end ≤ l.read);
-  so_far : (f : Flavor) → IsReadSoFar f Strict l.fn.bytes (drop l.read l.fn.bytes) [] (take l.end l.out);
+  so_far : (f : Flavor) (which : Strictness) → IsReadSoFar f which l.fn.bytes (drop l.read l.fn.bytes) [] (take l.end l.out);
   len : length l.out ≡ length l.fn.out;
 }

@@ -15,14 +15,14 @@ put-end-requires g c =
       c.requires,
       c.loop-rest.invariant.room,
       c.loop-rest.invariant.len,
-      chunk_length g.F.Flavor.flavor c.loop-rest.rest.now _ _ (c.next_chunk-chunk.ensures.chunk refl),
+      chunk_length g.F.Flavor.flavor c.loop-rest.rest.now _ _ (c.write_text-decoded.ensures.first.chunk refl),
     )
 
 pub loop-rest-preserved : goal.loop-rest-preserved
 loop-rest-preserved g c =
     let put = c.put-end.ensures in
     rw take_rest (chunk_written g.F.Flavor.flavor c.args.bytes.now c.loop-rest.rest.now _ _ _ _ _ _ _ _
-    c.loop-rest.invariant c.next_chunk-chunk.ensures put.bytes put.end put.behind put.len)
+    c.loop-rest.invariant c.write_text-decoded.ensures.first put.bytes put.end put.behind put.len)
 
 pub returns : goal.returns
 returns g c =

@@ -17,14 +17,14 @@ put_behind-requires g c =
     omega (
       arith,
       c.loop-rest.invariant.room,
-      chunk_length g.F.Flavor.flavor c.loop-rest.rest.now _ _ (c.next_chunk-chunk.ensures.chunk refl),
+      chunk_length g.F.Flavor.flavor c.loop-rest.rest.now _ _ (c.write_text-decoded.ensures.first.chunk refl),
     )
 
 pub loop-rest-preserved : goal.loop-rest-preserved
 loop-rest-preserved g c =
     let f = g.F.Flavor.flavor in
     let rest = c.loop-rest.rest.now in
-    let chunk = c.next_chunk-chunk.ensures.chunk refl in
+    let chunk = c.write_text-decoded.ensures.first.chunk refl in
     let appended = c.put_behind.ensures in
     rw take_rest (record {
       read = more_read f Lossy c.args.bytes.now rest _ _ _ _ c.loop-rest.invariant.read

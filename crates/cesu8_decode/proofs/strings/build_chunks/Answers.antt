@@ -11,7 +11,7 @@ pub returns : goal.returns
 returns g c =
     let f = g.F.Flavor.flavor in
     let bytes = c.args.bytes.now in
-    let decoded = c.write_window-decoded in
+    let decoded = c.write_text-decoded in
     let first = take decoded.result.end decoded.new.out in
     let rest = drop decoded.result.read bytes in
     let text = c.append_chunks.result in

@@ -8,7 +8,7 @@ pub returns : goal.returns
 returns g c =
     let f = g.F.Flavor.flavor in
     let bytes = c.args.bytes.now in
-    let decoded = c.write_window-decoded.ensures in
+    let decoded = c.write_text-decoded.ensures in
     built f bytes _ c.copy.result
-    (all_chunk f Lossy bytes _ _ _ (record { first = decoded.first; all = λ _. decoded.all (omega arith) }) refl)
+    (all_chunk f Lossy bytes _ _ _ (record { first = decoded.first; all = λ _. decoded.all (omega (arith, c.requires)) }) refl)
     c.copy.ensures.bytes c.copy.ensures.capacity

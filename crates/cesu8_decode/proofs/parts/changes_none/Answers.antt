@@ -1,8 +1,0 @@
-use Rattle.std.proofs.Common.{◌∙◌, sym}
-use Rattle.std.proofs.lemmas.Bool.{eqb-true}
-use Rattle.cesu8_decode.proofs.decoder.KeptBlocks.{none_changes}
-use Rattle.cesu8_decode.proofs.parts.changes_none.Goals as goal
-
-pub returns : goal.returns
-returns c f window at before_are here_are none =
-    none_changes f window at c.args.before c.args.here c.fits-before.0 before_are here_are (sym c.highest_bits.ensures ∙ eqb-true _ _ none)
