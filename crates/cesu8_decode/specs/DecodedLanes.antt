@@ -1,5 +1,5 @@
 -- The lanes of the decoder's vectors.
-use Rattle.std.specs.Prelude.{◌≡◌, ℕ, ◌+◌, ◌-◌, ◌*◌, ◌/◌, ◌%◌, ◌<◌, ◌≤◌, ◌&&◌, ◌||◌, ◌==◌, nat_le, nat_lt, if◌then◌else◌, Bool, true, false, List, [], ◌++◌, map, take, replicate, slice_index, slice_index_or, bit_or}
+use Rattle.std.specs.Prelude.{◌≡◌, ℕ, ◌+◌, ◌-◌, ◌*◌, ◌/◌, ◌%◌, ◌<◌, ◌≤◌, ◌&&◌, ◌||◌, ◌==◌, nat_le, nat_lt, if◌then◌else◌, Bool, true, false, List, [], ◌++◌, map, take, replicate, slice_index, slice_index_or, bit_and, bit_or}
 use Rattle.std.specs.List.{range_with_len}
 use Rattle.cesu8_text.specs.Encoding.{Flavor}
 use Rattle.cesu8_bytes.specs.Joining.{null_at}
@@ -19,6 +19,12 @@ start_kind_by f a b d e g h =
 -- The kind of what two bytes begin, if the others follow.
 abbrev pub kind_of_two : Flavor → ℕ → ℕ → ℕ
 kind_of_two f a b = start_kind_by f a b 0x80 0xED 0xB0 0x80
+
+-- What three tables tell of two bytes: the common bits of their entries, by the upper half of the
+-- first byte, by its lower half, and by the upper half of the second.
+abbrev pub told : (by_high by_low by_next : List ℕ) → ℕ → ℕ → ℕ
+told by_high by_low by_next a b =
+    bit_and (bit_and (slice_index by_high (a / 0x10 % 0x10)) (slice_index by_low (a % 0x10))) (slice_index by_next (b / 0x10 % 0x10))
 
 -- The kind of what begins at offset i of a window. Zeros follow the window.
 abbrev pub start_kind : Flavor → List ℕ → ℕ → ℕ

@@ -10,19 +10,18 @@ ghost use Rattle.std.specs.Simd.Lanes.{zip2};
 ghost use Rattle.cesu8_bytes.specs.Kernels.{mask};
 ghost use Rattle.cesu8_decode.specs.Following.{shown, wanted, follows_at, AllFollow, FirstFollow, marked_if_not_one};
 
-use super::offsets::{BLOCK, equal, look_up};
+use super::offsets::{BLOCK, common_bits, equal};
 use cesu8_bytes::flavor::{Flavor, nulls};
 use cesu8_bytes::implementation::class::{NonAscii, bits};
 use std::simd::prelude::*;
 
 /// How many bytes before a byte decide whether it may follow them.
-pub const BEFORE: usize = 4;
+pub const DECIDING: usize = 4;
 
 /// What stands for bytes before the first and behind the last: some character of one byte.
 pub const FILLER: u8 = 0x61;
 
-/// What two bytes show is the common bits of three tables: by the upper half of the first byte, by
-/// its lower half, and by the upper half of the second.
+/// What two bytes show is the common bits of three tables.
 const BY_HIGH: [u8; 16] = [
     0x02, 0x02, 0x02, 0x02, 0x02, 0x02, 0x02, 0x02, 0x80, 0x80, 0x80, 0x80, 0x19, 0x01, 0x25, 0x40,
 ];
@@ -45,11 +44,11 @@ pub fn following_front<F: Flavor>(bytes: &[u8]) -> usize
     }
     let at = following_blocks::<F>(bytes, bytes.len().min(BLOCK));
     let rest = bytes.len() - at;
-    if rest == 0 || rest >= BLOCK || bytes.len() < BEFORE + BLOCK {
+    if rest == 0 || rest >= BLOCK || bytes.len() < DECIDING + BLOCK {
         return at;
     }
     // The last block begins in the one before.
-    let last = bytes.len() - BLOCK - BEFORE;
+    let last = bytes.len() - BLOCK - DECIDING;
     if block_follows::<F>(bytes, last) {
         bytes.len()
     } else {
@@ -62,11 +61,11 @@ pub fn following_front<F: Flavor>(bytes: &[u8]) -> usize
 fn first_follows<F: Flavor>(bytes: &[u8]) -> bool
     ensures { IsTrue result → FirstFollow F.flavor bytes.now (min (length bytes.now) BLOCK) }
 {
-    let mut window = [FILLER; BEFORE + BLOCK];
+    let mut window = [FILLER; DECIDING + BLOCK];
     if bytes.len() >= BLOCK {
-        window[BEFORE..].copy_from_slice(&bytes[..BLOCK]);
+        window[DECIDING..].copy_from_slice(&bytes[..BLOCK]);
     } else {
-        window[BEFORE..BEFORE + bytes.len()].copy_from_slice(bytes);
+        window[DECIDING..DECIDING + bytes.len()].copy_from_slice(bytes);
     }
     block_follows::<F>(&window, 0)
 }
@@ -75,14 +74,14 @@ fn first_follows<F: Flavor>(bytes: &[u8]) -> bool
 #[inline(always)]
 fn following_blocks<F: Flavor>(bytes: &[u8], start: usize) -> usize
     requires first { FirstFollow F.flavor bytes.now start }
-    requires before { start < length bytes.now → BEFORE ≤ start }
+    requires before { start < length bytes.now → DECIDING ≤ start }
     ensures { FirstFollow F.flavor bytes.now result }
 {
     let mut at = start;
-    while bytes.len() - at >= 2 * BLOCK && two_follow::<F>(bytes, at - BEFORE) {
+    while bytes.len() - at >= 2 * BLOCK && two_follow::<F>(bytes, at - DECIDING) {
         at += 2 * BLOCK;
     }
-    if bytes.len() - at >= BLOCK && block_follows::<F>(bytes, at - BEFORE) {
+    if bytes.len() - at >= BLOCK && block_follows::<F>(bytes, at - DECIDING) {
         at += BLOCK;
     }
     at
@@ -91,7 +90,7 @@ fn following_blocks<F: Flavor>(bytes: &[u8], start: usize) -> usize
 /// Returns whether each of the 64 bytes behind `at` bytes and four more may follow those before it.
 #[inline(always)]
 fn two_follow<F: Flavor>(window: &[u8], at: usize) -> bool
-    requires { at + BEFORE + 2 * BLOCK ≤ length window.now }
+    requires { at + DECIDING + 2 * BLOCK ≤ length window.now }
     ensures { IsTrue result → AllFollow F.flavor window.now at (2 * BLOCK) }
 {
     let above = above_ascii::<F>(window, at) | above_ascii::<F>(window, at + BLOCK);
@@ -104,7 +103,7 @@ fn two_follow<F: Flavor>(window: &[u8], at: usize) -> bool
 /// Returns whether each of the 32 bytes behind `at` bytes and four more may follow those before it.
 #[inline(always)]
 fn block_follows<F: Flavor>(window: &[u8], at: usize) -> bool
-    requires { at + BEFORE + BLOCK ≤ length window.now }
+    requires { at + DECIDING + BLOCK ≤ length window.now }
     ensures { IsTrue result → AllFollow F.flavor window.now at BLOCK }
 {
     let above = above_ascii::<F>(window, at);
@@ -118,34 +117,34 @@ fn block_follows<F: Flavor>(window: &[u8], at: usize) -> bool
 /// characters of one byte.
 #[inline(always)]
 fn above_ascii<F: Flavor>(window: &[u8], at: usize) -> u8x32
-    requires { at + BEFORE + BLOCK ≤ length window.now }
-    ensures { result ≡ map (λ i. marked_if_not_one F.flavor (slice_index window.now (i + BEFORE)))
+    requires { at + DECIDING + BLOCK ≤ length window.now }
+    ensures { result ≡ map (λ i. marked_if_not_one F.flavor (slice_index window.now (i + DECIDING)))
         (range_with_len at BLOCK) }
 {
-    let bytes = u8x32::from_slice(&window[at + BEFORE..]);
+    let bytes = u8x32::from_slice(&window[at + DECIDING..]);
     bytes | nulls::<F>(bytes)
 }
 
 /// Returns whether the four bytes behind `at` bytes are ASCII.
 #[inline(always)]
 fn begins_with_ascii(window: &[u8], at: usize) -> bool
-    requires { at + BEFORE ≤ length window.now }
-    ensures { IsTrue result → (i : ℕ) → at ≤ i → i < at + BEFORE
+    requires { at + DECIDING ≤ length window.now }
+    ensures { IsTrue result → (i : ℕ) → at ≤ i → i < at + DECIDING
         → slice_index window.now i < 0x80 }
 {
-    bits::<NonAscii, BEFORE>(u8x4::from_slice(&window[at..])) == 0
+    bits::<NonAscii, DECIDING>(u8x4::from_slice(&window[at..])) == 0
 }
 
 /// Returns all ones for each of the 32 bytes behind `at` bytes and four more that may not follow
 /// those before it, and zeros for the others.
 #[inline(always)]
 fn misplaced<F: Flavor>(window: &[u8], at: usize) -> u8x32
-    requires { at + BEFORE + BLOCK ≤ length window.now }
+    requires { at + DECIDING + BLOCK ≤ length window.now }
     ensures { result ≡ map (λ i. mask (not (follows_at F.flavor window.now i)))
         (range_with_len at BLOCK) }
 {
     let first = u8x32::from_slice(&window[at + 3..]);
-    let second = u8x32::from_slice(&window[at + BEFORE..]);
+    let second = u8x32::from_slice(&window[at + DECIDING..]);
     shown_by::<F>(first, second)
         .simd_eq(wanted_by(window, at))
         .select(u8x32::splat(0), u8x32::splat(0xFF))
@@ -156,10 +155,7 @@ fn misplaced<F: Flavor>(window: &[u8], at: usize) -> u8x32
 fn shown_by<F: Flavor>(first: u8x32, second: u8x32) -> u8x32
     ensures { result ≡ zip2 (shown F.flavor) first second }
 {
-    let four = u8x32::splat(4);
-    let of_two = look_up(BY_HIGH, first >> four)
-        & look_up(BY_LOW, first)
-        & look_up(BY_NEXT, second >> four);
+    let of_two = common_bits(BY_HIGH, BY_LOW, BY_NEXT, first, second);
     if F::has_long_null() {
         let of_null = second
             .simd_eq(u8x32::splat(0x80))
@@ -172,7 +168,7 @@ fn shown_by<F: Flavor>(first: u8x32, second: u8x32) -> u8x32
 /// Returns what the bytes have to show that follow `at` bytes and four more.
 #[inline(always)]
 fn wanted_by(window: &[u8], at: usize) -> u8x32
-    requires { at + BEFORE + BLOCK ≤ length window.now }
+    requires { at + DECIDING + BLOCK ≤ length window.now }
     ensures { result ≡ map (λ i. wanted (slice_index window.now i)
         (slice_index window.now (i + 1)) (slice_index window.now (i + 2)))
         (range_with_len at BLOCK) }

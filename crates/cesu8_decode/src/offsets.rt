@@ -8,7 +8,7 @@ ghost use Rattle.std.specs.Simd.Lanes.{zip2};
 ghost use Rattle.cesu8_text.specs.Encoding.{Flavor};
 ghost use Rattle.cesu8_bytes.specs.Kernels.{mask};
 ghost use Rattle.cesu8_decode.specs.DecodedOffsets.{continues};
-ghost use Rattle.cesu8_decode.specs.DecodedLanes.{kind_of_two, start_kind, AreFiveKinds, AreKindsNear};
+ghost use Rattle.cesu8_decode.specs.DecodedLanes.{told, kind_of_two, start_kind, AreFiveKinds, AreKindsNear};
 
 use cesu8_bytes::flavor::{Flavor, second_of_null};
 use cesu8_bytes::implementation::class::{AtLeast, bits};
@@ -144,11 +144,23 @@ pub fn near(before: u8x32, here: u8x32) -> Kinds
 fn by_two<F: Flavor>(first: u8x32, second: u8x32) -> u8x32
     ensures { result ≡ zip2 (kind_of_two F.flavor) first second }
 {
+    common_bits(BY_HIGH, BY_LOW, BY_NEXT, first, second) & second_of_null::<F>(second)
+}
+
+/// Returns the common bits of three tables, for each two bytes: by the upper half of the first, by
+/// its lower half, and by the upper half of the second.
+#[inline(always)]
+pub fn common_bits(
+    by_high: [u8; 16],
+    by_low: [u8; 16],
+    by_next: [u8; 16],
+    first: u8x32,
+    second: u8x32,
+) -> u8x32
+    ensures { result ≡ zip2 (told by_high by_low by_next) first second }
+{
     let four = u8x32::splat(4);
-    look_up(BY_HIGH, first >> four)
-        & look_up(BY_LOW, first)
-        & look_up(BY_NEXT, second >> four)
-        & second_of_null::<F>(second)
+    look_up(by_high, first >> four) & look_up(by_low, first) & look_up(by_next, second >> four)
 }
 
 /// Returns the entry of a table for the lower half of each lane.

@@ -1,5 +1,5 @@
 -- What bytes show behind others, and what these want, lane by lane.
-use Rattle.std.proofs.Common.{◌≡◌, ℕ, ◌+◌, ◌*◌, ◌/◌, ◌%◌, ◌^◌, ◌<◌, ◌≤◌, ⊎_elim, Bool, true, false, cond, ◌&&◌, List, [], ◌∷◌, map, length, get_or, replicate, eqb, leb, ltb, bit_and, bit_or, refl, sym, ap, ◌∙◌, subst, arith, Fits, w8, ◌-◌}
+use Rattle.std.proofs.Common.{◌≡◌, ℕ, ◌+◌, ◌%◌, ◌^◌, ◌<◌, ◌≤◌, ⊎_elim, Bool, true, false, cond, ◌&&◌, List, [], ◌∷◌, map, length, get_or, replicate, eqb, leb, ltb, bit_and, bit_or, refl, sym, ap, ◌∙◌, subst, arith, Fits, w8, ◌-◌}
 use Rattle.std.specs.List.{range_with_len}
 use Rattle.std.proofs.lemmas.Bool.{agree_below_at, eqb-true, ne_eqb, cases_eq}
 use Rattle.std.proofs.lemmas.Simd.{length-chunk, zip2_splat, map-map}
@@ -7,6 +7,8 @@ use lib.Lanes.{zip2, sel_l, top, Each1, chunk}
 use Rattle.cesu8_text.specs.Class.{is_null}
 use Rattle.cesu8_text.specs.Encoding.{Flavor, Cesu8, Mutf8}
 use Rattle.cesu8_bytes.specs.Kernels.{mask}
+use Rattle.cesu8_decode.specs.DecodedLanes.{told}
+use Rattle.cesu8_decode.proofs.decoder.Kinds.{half, told_alike}
 use Rattle.cesu8_decode.specs.Following.{shown, wanted}
 use Rattle.cesu8_bytes.proofs.lists.Lanes.{ones, chosen_lanes}
 use Rattle.cesu8_bytes.proofs.vectors.Loads.{loaded, marks_at, marks_here}
@@ -22,25 +24,6 @@ by_low = 0xD7 ∷ 0xCB ∷ 0xC3 ∷ 0xC3 ∷ 0xC3 ∷ 0xC3 ∷ 0xC3 ∷ 0xC3 ∷
 abbrev pub by_next : List ℕ
 by_next = 0x41 ∷ 0x41 ∷ 0x41 ∷ 0x41 ∷ 0x41 ∷ 0x41 ∷ 0x41 ∷ 0x41 ∷ 0xDE ∷ 0xDE ∷ 0xDA ∷ 0xFA ∷ 0x41 ∷ 0x41 ∷ 0x41 ∷ 0x41 ∷ []
 
--- the common bits, by the second byte's upper half
-found : ℕ → ℕ → ℕ
-found a n = bit_and (bit_and (get_or by_high (a / 0x10 % 0x10) 0) (get_or by_low (a % 0x10) 0)) (get_or by_next (n % 0x10) 0)
-
-agrees : ℕ → Bool
-agrees i = eqb (found (i / 0x10) (i % 0x10)) (shown Cesu8 (i / 0x10) (i % 0x10 * 0x10))
-
--- both depend on the second byte's upper half alone, and agree there
-at_halves : (a n : ℕ) → a < 0x100 → n < 0x10 → found a n ≡ shown Cesu8 a (n * 0x10)
-unfolding agrees found shown
-at_halves a n ha hn =
-    let i = a * 0x10 + n in
-    let e0 : i / 0x10 ≡ a = omega arith in
-    let e1 : i % 0x10 ≡ n = omega arith in
-    eqb-true _ _ (rw (e0, e1) at (agree_below_at agrees (λ _. true) 0x1000 i refl (omega arith)))
-
-abbrev half : ℕ → ℕ
-half b = b / 0x10 * 0x10
-
 by_half : (a b : ℕ) → b < 0x100 → shown Cesu8 a (half b) ≡ shown Cesu8 a b
 unfolding shown
 by_half a b h =
@@ -50,8 +33,9 @@ by_half a b h =
     let lC0 : ltb (half b) 0xC0 ≡ ltb b 0xC0 = agree_below_at (λ b. ltb (half b) 0xC0) (λ b. ltb b 0xC0) 0x100 b refl h in
     rw (e80, eB0, lA0, lC0) refl
 
-found_is : (a b : ℕ) → a < 0x100 → b < 0x100 → found a (b / 0x10) ≡ shown Cesu8 a b
-found_is a b ha hb = at_halves a (b / 0x10) ha (omega arith) ∙ by_half a b hb
+told_is : (a b : ℕ) → a < 0x100 → b < 0x100 → told by_high by_low by_next a b ≡ shown Cesu8 a b
+unfolding shown
+told_is = told_alike by_high by_low by_next (shown Cesu8) refl by_half
 
 -- In MUTF-8 a byte 00 is none of a character, and 80 behind C0 is.
 abbrev in_mutf8 : ℕ → ℕ → ℕ
@@ -74,29 +58,18 @@ mutf8_is a b ha =
 
 -- ---- the lanes of these look-ups
 
-abbrev shr : ℕ → ℕ → ℕ
-shr a b = a / 2 ^ b
-
-abbrev found_lanes : ℕ → List ℕ → List ℕ → List ℕ
-found_lanes n first second =
-    zip2 bit_and (zip2 bit_and (map (λ lane. get_or by_high (lane % 16) 0) (zip2 shr first (replicate n 4)))
-    (map (λ lane. get_or by_low (lane % 16) 0) first)) (map (λ lane. get_or by_next (lane % 16) 0) (zip2 shr second (replicate n 4)))
-
 cesu8_of : (first second : List ℕ) → length second ≡ length first → Each1 (Fits w8) first → Each1 (Fits w8) second →
-    found_lanes (length first) first second ≡ zip2 (shown Cesu8) first second
-unfolding found
+    zip2 (told by_high by_low by_next) first second ≡ zip2 (shown Cesu8) first second
 cesu8_of [] [] e fits_first fits_second = refl
 cesu8_of [] (b ∷ second) e fits_first fits_second = absurd (omega arith)
 cesu8_of (a ∷ first) [] e fits_first fits_second = absurd (omega arith)
 cesu8_of (a ∷ first) (b ∷ second) e fits_first fits_second =
-    λ i. found_is a b fits_first.0.fits fits_second.0.fits i ∷ cesu8_of first second (omega arith) fits_first.1 fits_second.1 i
+    λ i. told_is a b fits_first.0.fits fits_second.0.fits i ∷ cesu8_of first second (omega arith) fits_first.1 fits_second.1 i
 
 -- They give what the second of two bytes shows in CESU-8,
 pub cesu8_lanes : (first second : List ℕ) → length first ≡ 32 → length second ≡ 32 → Each1 (Fits w8) first → Each1 (Fits w8) second →
-    found_lanes 32 first second ≡ zip2 (shown Cesu8) first second
-cesu8_lanes first second long long_second fits_first fits_second =
-    subst (λ n. found_lanes n first second ≡ zip2 (shown Cesu8) first second) long
-    (cesu8_of first second (long_second ∙ sym long) fits_first fits_second)
+    zip2 (told by_high by_low by_next) first second ≡ zip2 (shown Cesu8) first second
+cesu8_lanes first second long long_second fits_first fits_second = cesu8_of first second (long_second ∙ sym long) fits_first fits_second
 
 -- Either encoding is one of two.
 pub cesu8_unless : (f : Flavor) → ¬ (f ≡ Mutf8) → f ≡ Cesu8
@@ -114,7 +87,7 @@ mutf8_of (a ∷ first) (b ∷ second) e fits = λ i. mutf8_is a b fits.0.fits i 
 -- and, changed where the second is 00 or 80, in MUTF-8.
 pub mutf8_lanes : (first second nulls : List ℕ) → length first ≡ 32 → length second ≡ 32 → Each1 (Fits w8) first → Each1 (Fits w8) second →
     nulls ≡ map (λ b. mask (is_null Mutf8 b)) second →
-    zip2 bit_or (zip2 bit_and (found_lanes 32 first second)
+    zip2 bit_or (zip2 bit_and (zip2 (told by_high by_low by_next) first second)
     (sel_l (map (top 7) (zip2 (λ a b. ones (eqb a b)) second (replicate 32 0x80))) (replicate 32 0xEF) (replicate 32 0xFF))) nulls
     ≡ zip2 (shown Mutf8) first second
 mutf8_lanes first second nulls long long_second fits_first fits_second nulls_are =

@@ -1,10 +1,10 @@
 -- The kind of what two bytes begin, by three look-ups.
-use Rattle.std.proofs.Common.{◌≡◌, ℕ, ◌+◌, ◌*◌, ◌/◌, ◌%◌, ◌<◌, ◌⊎◌, Bool, true, false, ◌&&◌, cond, eqb, leb, ltb, List, [], ◌∷◌, refl, ap, ◌∙◌, inl, inr, arith, get_or, bit_and}
-use Rattle.std.proofs.lemmas.Bool.{agree_below_at, eqb-true, and_right, cases_Bool}
+use Rattle.std.proofs.Common.{◌≡◌, ℕ, ◌+◌, ◌*◌, ◌/◌, ◌%◌, ◌<◌, ◌⊎◌, Bool, true, false, ◌&&◌, cond, eqb, leb, ltb, List, [], ◌∷◌, refl, ap, ◌∙◌, inl, inr, arith, bit_and}
+use Rattle.std.proofs.lemmas.Bool.{agree_below, agree_below_at, eqb-true, and_right, cases_Bool}
 use Rattle.cesu8_text.specs.Encoding.{Flavor, Cesu8, Mutf8}
 use Rattle.cesu8_bytes.specs.Joining.{null_at}
 use Rattle.cesu8_decode.specs.DecodedOffsets.{two_at, three_at, pair_at}
-use Rattle.cesu8_decode.specs.DecodedLanes.{start_kind_by, kind_of_two}
+use Rattle.cesu8_decode.specs.DecodedLanes.{told, start_kind_by, kind_of_two}
 
 -- ---- tests before a mask
 
@@ -27,11 +27,7 @@ by_low = 0x86 ∷ 0x0A ∷ 0x0B ∷ 0x0B ∷ 0x0B ∷ 0x0B ∷ 0x0B ∷ 0x0B ∷
 abbrev pub by_next : List ℕ
 by_next = 0 ∷ 0 ∷ 0 ∷ 0 ∷ 0 ∷ 0 ∷ 0 ∷ 0 ∷ 0x9B ∷ 0x1B ∷ 0x2F ∷ 0x0F ∷ 0 ∷ 0 ∷ 0 ∷ 0 ∷ []
 
--- the kind of two bytes, by the second's upper half
-kind : ℕ → ℕ → ℕ
-kind a n = bit_and (bit_and (get_or by_high (a / 0x10 % 0x10) 0) (get_or by_low (a % 0x10) 0)) (get_or by_next (n % 0x10) 0)
-
--- the same by tests
+-- the kind of two bytes, by tests
 kind_by : ℕ → ℕ → ℕ
 kind_by a b =
     cond (two_at a b) (cond (ltb a 0xD0) 0x01 0x02)
@@ -39,20 +35,25 @@ kind_by a b =
     (cond (pair_at a b 0x80 0xED 0xB0 0x80) 0x20
     (cond (eqb a 0xC0 && (leb 0x80 b && ltb b 0x90)) 0x80 0)))
 
-agrees : ℕ → Bool
-agrees i = eqb (kind (i / 0x10) (i % 0x10)) (kind_by (i / 0x10) (i % 0x10 * 0x10))
+abbrev pub half : ℕ → ℕ
+half b = b / 0x10 * 0x10
 
--- both depend on the second byte's upper half alone, and agree there
-at_halves : (a n : ℕ) → a < 0x100 → n < 0x10 → kind a n ≡ kind_by a (n * 0x10)
-unfolding agrees kind kind_by
-at_halves a n ha hn =
+-- Tables tell the same as a function if they do for each first byte and upper half of the second, by
+-- which that function tells it of all.
+abbrev tells_at : (high low next : List ℕ) → (ℕ → ℕ → ℕ) → ℕ → Bool
+tells_at high low next tells i = eqb (told high low next (i / 0x10) (i % 0x10 * 0x10)) (tells (i / 0x10) (i % 0x10 * 0x10))
+
+pub told_alike : (high low next : List ℕ) (tells : ℕ → ℕ → ℕ) → agree_below (tells_at high low next tells) (λ _. true) 0x1000 ≡ true →
+    ((a b : ℕ) → b < 0x100 → tells a (half b) ≡ tells a b) → (a b : ℕ) → a < 0x100 → b < 0x100 → told high low next a b ≡ tells a b
+told_alike high low next tells agree by_half a b ha hb =
+    let n = b / 0x10 in
     let i = a * 0x10 + n in
     let e0 : i / 0x10 ≡ a = omega arith in
     let e1 : i % 0x10 ≡ n = omega arith in
-    eqb-true _ _ (rw (e0, e1) at (agree_below_at agrees (λ _. true) 0x1000 i refl (omega arith)))
-
-abbrev half : ℕ → ℕ
-half b = b / 0x10 * 0x10
+    let e2 : n * 0x10 / 0x10 % 0x10 ≡ b / 0x10 % 0x10 = omega arith in
+    let at_half : told high low next a (half b) ≡ tells a (half b) =
+    eqb-true _ _ (rw (e0, e1) at (agree_below_at (tells_at high low next tells) (λ _. true) 0x1000 i agree (omega arith))) in
+    rw e2 at at_half ∙ by_half a b hb
 
 by_half : (a b : ℕ) → b < 0x100 → kind_by a (half b) ≡ kind_by a b
 unfolding kind_by
@@ -65,8 +66,9 @@ by_half a b h =
     let lC0 : ltb (half b) 0xC0 ≡ ltb b 0xC0 = agree_below_at (λ b. ltb (half b) 0xC0) (λ b. ltb b 0xC0) 0x100 b refl h in
     rw (e80, eA0, l90, lA0, lB0, lC0) refl
 
-kind_is : (a b : ℕ) → a < 0x100 → b < 0x100 → kind a (b / 0x10) ≡ kind_by a b
-kind_is a b ha hb = at_halves a (b / 0x10) ha (omega arith) ∙ by_half a b hb
+kind_is : (a b : ℕ) → a < 0x100 → b < 0x100 → told by_high by_low by_next a b ≡ kind_by a b
+unfolding kind_by
+kind_is = told_alike by_high by_low by_next kind_by refl by_half
 
 -- ---- with the mask that tells the flavors apart
 
@@ -93,8 +95,6 @@ masked Mutf8 a b ha (inr other) = rw other (no_null a b ∙ other_second a b oth
 
 -- The three look-ups and the mask give the kind of two bytes.
 pub looked_up : (f : Flavor) (a b : ℕ) → a < 0x100 → b < 0x100 →
-    bit_and (bit_and (bit_and (get_or by_high (a / 0x10 % 0x10) 0) (get_or by_low (a % 0x10) 0)) (get_or by_next (b / 0x10 % 0x10) 0))
-    (cond (null_at f 0xC0 b) 0xFF 0x7F) ≡ kind_of_two f a b
-unfolding kind
+    bit_and (told by_high by_low by_next a b) (cond (null_at f 0xC0 b) 0xFF 0x7F) ≡ kind_of_two f a b
 looked_up f a b ha hb =
     ap (λ n. bit_and n (cond (null_at f 0xC0 b) 0xFF 0x7F)) (kind_is a b ha hb) ∙ masked f a b ha (cases_Bool (eqb b 0x80))

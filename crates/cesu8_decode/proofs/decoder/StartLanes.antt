@@ -12,7 +12,7 @@ use Rattle.cesu8_text.specs.Encoding.{Flavor}
 use Rattle.cesu8_bytes.specs.Kernels.{mask}
 use Rattle.cesu8_decode.specs.DecodedOffsets.{continues, two_at, fits_three}
 use Rattle.cesu8_bytes.specs.Joining.{null_at}
-use Rattle.cesu8_decode.specs.DecodedLanes.{start_kind_by, kind_of_two, start_kind}
+use Rattle.cesu8_decode.specs.DecodedLanes.{told, start_kind_by, kind_of_two, start_kind}
 use Rattle.cesu8_bytes.proofs.lists.Lanes.{map_agree}
 use Rattle.cesu8_bytes.proofs.vectors.Loads.{loaded, marks_at}
 use Rattle.cesu8_decode.proofs.decoder.StartKinds.{start, no_start, two_decide}
@@ -87,27 +87,38 @@ continuation_lanes bytes long fits =
 abbrev shr : ℕ → ℕ → ℕ
 shr a b = a / 2 ^ b
 
-abbrev two_lanes : Flavor → ℕ → List ℕ → List ℕ → List ℕ
-two_lanes f n first second =
-    zip2 bit_and (zip2 bit_and (zip2 bit_and (map (λ lane. get_or by_high (lane % 16) 0) (zip2 shr first (replicate n 4)))
-    (map (λ lane. get_or by_low (lane % 16) 0) first))
-    (map (λ lane. get_or by_next (lane % 16) 0) (zip2 shr second (replicate n 4))))
-    (map (λ b. cond (null_at f 0xC0 b) 0xFF 0x7F) second)
+told_of : (by_high by_low by_next first second : List ℕ) → length second ≡ length first →
+    zip2 bit_and (zip2 bit_and (map (λ lane. get_or by_high (lane % 16) 0) (zip2 shr first (replicate (length first) 4)))
+    (map (λ lane. get_or by_low (lane % 16) 0) first)) (map (λ lane. get_or by_next (lane % 16) 0) (zip2 shr second (replicate (length first) 4)))
+    ≡ zip2 (told by_high by_low by_next) first second
+told_of by_high by_low by_next [] [] e = refl
+told_of by_high by_low by_next [] (b ∷ second) e = absurd (omega arith)
+told_of by_high by_low by_next (a ∷ first) [] e = absurd (omega arith)
+told_of by_high by_low by_next (a ∷ first) (b ∷ second) e =
+    ap (λ l. told by_high by_low by_next a b ∷ l) (told_of by_high by_low by_next first second (omega arith))
+
+-- Three look-ups give what the tables tell of two bytes each,
+pub told_are : (by_high by_low by_next first second : List ℕ) → length first ≡ 32 → length second ≡ 32 →
+    zip2 bit_and (zip2 bit_and (map (λ lane. get_or by_high (lane % 16) 0) (zip2 shr first (replicate 32 4)))
+    (map (λ lane. get_or by_low (lane % 16) 0) first)) (map (λ lane. get_or by_next (lane % 16) 0) (zip2 shr second (replicate 32 4)))
+    ≡ zip2 (told by_high by_low by_next) first second
+told_are by_high by_low by_next first second long long_second =
+    subst (λ n. zip2 bit_and (zip2 bit_and (map (λ lane. get_or by_high (lane % 16) 0) (zip2 shr first (replicate n 4)))
+    (map (λ lane. get_or by_low (lane % 16) 0) first)) (map (λ lane. get_or by_next (lane % 16) 0) (zip2 shr second (replicate n 4)))
+    ≡ zip2 (told by_high by_low by_next) first second) long (told_of by_high by_low by_next first second (long_second ∙ sym long))
 
 two_of : (f : Flavor) (first second : List ℕ) → length second ≡ length first → Each1 (Fits w8) first → Each1 (Fits w8) second →
-    two_lanes f (length first) first second ≡ zip2 (kind_of_two f) first second
+    zip2 bit_and (zip2 (told by_high by_low by_next) first second) (map (λ b. cond (null_at f 0xC0 b) 0xFF 0x7F) second) ≡ zip2 (kind_of_two f) first second
 two_of f [] [] e fits_first fits_second = refl
 two_of f [] (b ∷ second) e fits_first fits_second = absurd (omega arith)
 two_of f (a ∷ first) [] e fits_first fits_second = absurd (omega arith)
 two_of f (a ∷ first) (b ∷ second) e fits_first fits_second =
     λ i. looked_up f a b fits_first.0.fits fits_second.0.fits i ∷ two_of f first second (omega arith) fits_first.1 fits_second.1 i
 
--- The look-ups give the kinds of two bytes each.
+-- and with a mask the kinds.
 pub two_are : (f : Flavor) (first second : List ℕ) → length first ≡ 32 → length second ≡ 32 → Each1 (Fits w8) first → Each1 (Fits w8) second →
-    two_lanes f 32 first second ≡ zip2 (kind_of_two f) first second
-two_are f first second long long_second fits_first fits_second =
-    subst (λ n. two_lanes f n first second ≡ zip2 (kind_of_two f) first second) long
-    (two_of f first second (long_second ∙ sym long) fits_first fits_second)
+    zip2 bit_and (zip2 (told by_high by_low by_next) first second) (map (λ b. cond (null_at f 0xC0 b) 0xFF 0x7F) second) ≡ zip2 (kind_of_two f) first second
+two_are f first second long long_second fits_first fits_second = two_of f first second (long_second ∙ sym long) fits_first fits_second
 
 -- ---- and the bytes behind them
 

@@ -3,5 +3,5 @@ use Rattle.cesu8_decode.proofs.offsets.by_two.Goals as goal
 
 pub returns : goal.returns
 returns g c =
-    rw (c.look_up.ensures, c.look_up-2.ensures, c.look_up-3.ensures, c.second_of_null.ensures)
+    rw (c.common_bits.ensures, c.second_of_null.ensures)
     (two_are g.F.Flavor.flavor c.args.first c.args.second c.fits-first.0 c.fits-second.0 c.fits-first.1 c.fits-second.1)
