@@ -21,7 +21,10 @@ pub const DECIDING: usize = 4;
 /// What stands for bytes before the first and behind the last: some character of one byte.
 pub const FILLER: u8 = 0x61;
 
-/// What two bytes show is the common bits of three tables.
+/// What two bytes show is the common bits of three tables. Bits 80 and 20 (hexadecimal) are those
+/// that `wanted_by` has. Each other is of a second byte that no character has there: 01 begins one
+/// behind a lead byte, and 02 is a continuation byte behind ASCII, 04 behind E0 in an overlong
+/// form, 08 behind C1, 10 behind C0, and 40 any byte behind F0 or more.
 const BY_HIGH: [u8; 16] = [
     0x02, 0x02, 0x02, 0x02, 0x02, 0x02, 0x02, 0x02, 0x80, 0x80, 0x80, 0x80, 0x19, 0x01, 0x25, 0x40,
 ];
@@ -156,6 +159,7 @@ fn shown_by<F: Flavor>(first: u8x32, second: u8x32) -> u8x32
     ensures { result ≡ zip2 (shown F.flavor) first second }
 {
     let of_two = common_bits(BY_HIGH, BY_LOW, BY_NEXT, first, second);
+    // In MUTF-8 C0 80 is a character, and 00 is none.
     if F::has_long_null() {
         let of_null = second
             .simd_eq(u8x32::splat(0x80))

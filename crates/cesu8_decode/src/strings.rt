@@ -93,7 +93,8 @@ fn append_chunks<F: Flavor, A: Allocator + Copy>(bytes: &[u8], before: Vec<u8, A
     text
 }
 
-/// Writes bytes behind the others of a vector, in place of zeros. Each is one call.
+/// Writes bytes behind the others of a vector, over zeros: to clear and to copy are one call each,
+/// which costs less than to append by vectors.
 #[inline(always)]
 fn put_behind<A: Allocator + Copy>(bytes: &[u8], out: &mut Vec<u8, A>)
     requires { vec_len out.old + length bytes.now ≤ vec_capacity out.old }

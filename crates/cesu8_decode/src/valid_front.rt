@@ -29,8 +29,8 @@ pub fn valid_up_to<F: Flavor>(bytes: &[u8]) -> usize
     whole + valid_by_characters::<F>(&bytes[whole..])
 }
 
-/// Returns the last boundary up to `at` that no character crosses, if all bytes before it may follow
-/// each other.
+/// Returns the last boundary up to `at` that no character crosses, if all bytes before it may
+/// follow each other.
 #[inline(always)]
 fn last_boundary<F: Flavor>(bytes: &[u8], at: usize) -> usize
     requires { FirstFollow F.flavor bytes.now at }
@@ -70,7 +70,8 @@ fn begins_high_surrogate(first: u8, second: u8) -> bool
     first == 0xED && matches!(second, 0xA0..=0xAF)
 }
 
-/// Returns the byte so many before an offset, or the filler if there is none.
+/// Returns the byte so many before an offset, or the filler if there is none. The four before an
+/// offset decide whether a character may cross it.
 #[inline(always)]
 fn byte_before(bytes: &[u8], at: usize, back: usize) -> u8
     requires at { at ≤ length bytes.now }
