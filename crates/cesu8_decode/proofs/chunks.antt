@@ -7,4 +7,5 @@ pub mod Forms
 pub mod SliceReadings
 pub mod Strings
 pub mod ValidFronts
+pub mod ShownBytes
 pub mod FollowingBytes

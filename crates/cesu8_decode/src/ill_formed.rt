@@ -6,7 +6,7 @@ ghost use Rattle.cesu8_text.specs.Reading.{IsStrictReading, HasNoStrictReading, 
 ghost use Rattle.cesu8_decode.specs.DecodedOffsets.{covered};
 
 use super::sums::{Weight, Weights, sum_first};
-use super::valid_front::valid_up_to;
+use super::valid_front::valid_up_to_other;
 use cesu8_bytes::flavor::Flavor;
 
 /// How many blocks are looked at first, since most input that is no encoding is ill-formed early.
@@ -20,7 +20,7 @@ pub fn is_ill_formed<F: Flavor>(bytes: &[u8]) -> bool
     ensures whole { result ≡ false → IsStrictReading F.flavor bytes.now
         (reading F.flavor bytes.now) }
 {
-    valid_up_to::<F>(bytes) < bytes.len()
+    valid_up_to_other::<F>(bytes) < bytes.len()
 }
 
 /// Returns whether the first bytes show one that is in no encoded character. No two encoded

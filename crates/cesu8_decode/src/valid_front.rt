@@ -18,13 +18,22 @@ use cesu8_bytes::pairs::PAIR_READ;
 use cesu8_bytes::runs::run_len;
 
 /// Returns how many bytes at the front are whole encoded characters.
-#[inline(never)]
+#[inline(always)]
 pub fn valid_up_to<F: Flavor>(bytes: &[u8]) -> usize
     ensures { IsValidUpTo F.flavor bytes.now result }
 {
     if is_short_unchanged_ascii::<F>(bytes) {
         return bytes.len();
     }
+    valid_up_to_other::<F>(bytes)
+}
+
+/// Does so for bytes that are not short ASCII. It is not inlined, so that the test for that stays
+/// small.
+#[inline(never)]
+pub fn valid_up_to_other<F: Flavor>(bytes: &[u8]) -> usize
+    ensures { IsValidUpTo F.flavor bytes.now result }
+{
     let whole = last_boundary::<F>(bytes, following_front::<F>(bytes));
     whole + valid_by_characters::<F>(&bytes[whole..])
 }

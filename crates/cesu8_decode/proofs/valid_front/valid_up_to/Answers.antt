@@ -1,9 +1,8 @@
-use Rattle.std.proofs.Common.{◌+◌, sym, subst, length, length-drop, arith}
+use Rattle.std.proofs.Common.{sym, subst, length, arith}
 use Rattle.std.proofs.Math.Seq.{take-length}
-use Rattle.std.proofs.lemmas.List.{take_rest, drop-drop}
 use Rattle.std.proofs.lemmas.Str.{IsUtf8-from_ascii}
 use Rattle.cesu8_text.specs.Class.{IsUnchangedUtf8}
-use Rattle.cesu8_decode.proofs.chunks.ValidFronts.{fronts_joined, unchanged_valid, valid_up_to_by}
+use Rattle.cesu8_decode.proofs.chunks.ValidFronts.{unchanged_valid, valid_up_to_by}
 use Rattle.cesu8_decode.proofs.valid_front.valid_up_to.Goals as goal
 
 pub returns-then-is_short_unchanged_ascii : goal.returns-then-is_short_unchanged_ascii
@@ -15,13 +14,3 @@ returns-then-is_short_unchanged_ascii g c =
     valid_up_to_by f bytes (length bytes)
     (unchanged_valid f bytes (length bytes) (omega arith) (subst (IsUnchangedUtf8 f) (sym (take-length bytes)) unchanged))
     (λ more. absurd (omega (arith, more)))
-
-pub returns : goal.returns
-returns g c =
-    let f = g.F.Flavor.flavor in
-    let bytes = c.args.bytes.now in
-    let n = c.last_boundary-whole.result in
-    let m = c.valid_by_characters.result in
-    let last = rw take_rest at c.valid_by_characters.ensures in
-    valid_up_to_by f bytes (n + m) (fronts_joined f bytes n m c.last_boundary-whole.ensures last.front)
-    (λ more. rw (sym (drop-drop m n bytes)) (last.stops (omega (arith, length-drop n bytes, more))))
