@@ -10,3 +10,4 @@ pub mod Words
 pub mod Ascii
 pub mod Prefixes
 pub mod NotUtf8
+pub mod Looks

@@ -19,6 +19,8 @@ ghost use Rattle.std.specs.Str.{chars, IsAscii};
 ghost use Rattle.cesu8_text.specs.Class.{IsChangedByte, IsUnchangedUtf8};
 ghost use Rattle.cesu8_text.specs.Encoding.{Flavor as AnyFlavor, NeedsEncoding};
 ghost use Rattle.cesu8_text.specs.Reading.{HasNoStrictReading, IsStrictReading, IsLenientReading, reading, IsLenientLossyReading};
+ghost use Rattle.cesu8_text.specs.Kept.{KnowsTexts, ReadsEncoding};
+ghost use Rattle.cesu8_text.proofs.reading.KeptTexts.{encoding_texts, lenient_texts};
 ghost use Rattle.cesu8_bytes.specs.Looks.{IsShown, IsLook};
 
 use crate::flavor::Flavor;
@@ -78,7 +80,17 @@ pub trait Accepts {
     fn look<F: Flavor>(bytes: &[u8]) -> Look
         ensures { IsLook F.flavor (keeps F.flavor bytes.now) bytes.now result };
 
-    ghost is_utf8: { (f : AnyFlavor) → (bytes : List ℕ) → keeps f bytes → IsUtf8 bytes };
+    /// Does so where those that are kept are copied.
+    fn look_to_copy<F: Flavor>(bytes: &[u8]) -> Look
+        ensures { IsLook F.flavor (keeps F.flavor bytes.now) bytes.now result };
+
+    /// Returns whether all bytes are read as the encoding, also those that are kept.
+    fn is_encoding_alone() -> bool
+        ensures { IsTrue result → (f : AnyFlavor) (bytes : List ℕ)
+            → ReadsEncoding f bytes (reads f bytes) (reads_lossily f bytes) };
+
+    ghost known: { (f : AnyFlavor) (bytes : List ℕ)
+        → KnowsTexts f bytes (keeps f bytes) (reads f bytes) (reads_lossily f bytes) };
 }
 
 /// UTF-8 as a whole, or else the encoding.
@@ -104,13 +116,24 @@ impl Accepts for Lenient {
         if shows_no_utf8(bytes) {
             return Look::Encoding;
         }
-        if is_utf8(bytes) {
-            return Look::Text;
-        }
-        Look::Unknown
+        by_test(bytes)
     }
 
-    ghost is_utf8 = { λ f bytes kept. kept };
+    /// To look for C0 and surrogates too would cost what is copied a tenth.
+    #[inline(always)]
+    fn look_to_copy<F: Flavor>(bytes: &[u8]) -> Look {
+        if shows_no_text(bytes) {
+            return Look::NoEncoding;
+        }
+        by_test(bytes)
+    }
+
+    #[inline(always)]
+    fn is_encoding_alone() -> bool {
+        false
+    }
+
+    ghost known = { lenient_texts };
 }
 
 /// The encoding alone. UTF-8 is one if no byte of it changes.
@@ -135,17 +158,40 @@ impl Accepts for EncodingAlone {
             FirstLook::Changed => Look::NoEncoding,
             FirstLook::NoText => Look::NoEncoding,
             FirstLook::NotUtf8 => Look::Encoding,
-            FirstLook::Unchanged => {
-                if is_utf8(bytes) {
-                    Look::Text
-                } else {
-                    Look::Unknown
-                }
-            }
+            FirstLook::Unchanged => by_test(bytes),
         }
     }
 
-    ghost is_utf8 = { λ f bytes kept. kept.0 };
+    #[inline(always)]
+    fn look_to_copy<F: Flavor>(bytes: &[u8]) -> Look {
+        if shows_no_text(bytes) {
+            return Look::NoEncoding;
+        }
+        // No encoding has a byte that changes.
+        if contains_changed::<F>(bytes) {
+            return Look::NoEncoding;
+        }
+        by_test(bytes)
+    }
+
+    #[inline(always)]
+    fn is_encoding_alone() -> bool {
+        true
+    }
+
+    ghost known = { encoding_texts };
+}
+
+/// Returns what the test for UTF-8 shows.
+#[inline(always)]
+fn by_test(bytes: &[u8]) -> Look
+    ensures { (f : AnyFlavor) → IsLook f (IsUtf8 bytes.now) bytes.now result }
+{
+    if is_utf8(bytes) {
+        Look::Text
+    } else {
+        Look::Unknown
+    }
 }
 
 /// Returns whether the bytes are few and all ASCII. More are tested by `is_utf8`.

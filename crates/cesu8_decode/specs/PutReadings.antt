@@ -1,22 +1,21 @@
 -- What the decoder promises where it writes to a caller's buffer.
 use Rattle.std.specs.Prelude.{◌≡◌, ℕ, ◌^◌, ◌≤◌, ◌↔◌, ⊤, List, length, Result, Err, IfOk, IsOk, OnErr}
 use Rattle.cesu8_text.specs.Encoding.{Flavor}
-use Rattle.cesu8_text.specs.Reading.{IsStrictReading, IsLenientReading, reading, IsLenientLossyReading}
+use Rattle.cesu8_text.specs.Reading.{IsStrictReading, reading}
 use Rattle.cesu8_text.specs.Slices.{ReadsAtLength, ReadingAtFront}
 use Rattle.cesu8_bytes.specs.declared.options.Strictness.{Strictness}
 use Rattle.cesu8_bytes.specs.declared.options.Strictness.TheVariants.{Strict, Lossy}
 use Rattle.cesu8_decode.specs.declared.refusal.Unwritten.{Unwritten}
 use Rattle.cesu8_decode.specs.declared.refusal.Unwritten.TheVariants.{NoText, TooLong, NoRoom}
 
--- What is a text of the bytes,
-abbrev pub IsReadingOf : Flavor → Strictness → List ℕ → List ℕ → Type 0
-IsReadingOf f Strict bytes = λ text. IsStrictReading f bytes text
-IsReadingOf f Lossy bytes = λ text. text ≡ reading f bytes
+-- What is a text to a call, in strict or in lossy reading,
+abbrev pub ReadsAs : Strictness → (reads reads_lossily : List ℕ → Type 0) → List ℕ → Type 0
+ReadsAs Strict reads reads_lossily = λ text. reads text
+ReadsAs Lossy reads reads_lossily = λ text. reads_lossily text
 
--- also where bytes that are UTF-8 as a whole are read as such.
-abbrev pub IsLenientReadingOf : Flavor → Strictness → List ℕ → List ℕ → Type 0
-IsLenientReadingOf f Strict bytes = λ text. IsLenientReading f bytes text
-IsLenientReadingOf f Lossy bytes = λ text. IsLenientLossyReading f bytes text
+-- and to one that takes the encoding alone.
+abbrev pub IsReadingOf : Flavor → Strictness → List ℕ → List ℕ → Type 0
+IsReadingOf f which bytes = ReadsAs which (IsStrictReading f bytes) (λ text. text ≡ reading f bytes)
 
 -- The bytes have no text.
 abbrev pub LacksText : Result ℕ Unwritten → Type 0
@@ -49,9 +48,6 @@ pub record PutsText (which : Strictness) (IsReading : List ℕ → Type 0) (resu
   pub strict : LacksText result → which ≡ Strict
   pub lossy : LacksLength result → which ≡ Lossy
 
--- The reading of the bytes is, or in lenient calls that of bytes that are UTF-8 as a whole.
+-- The reading of the bytes is.
 abbrev pub PutsReading : Flavor → Strictness → List ℕ → Result ℕ Unwritten → List ℕ → List ℕ → Type 0
 PutsReading f which bytes = PutsText which (IsReadingOf f which bytes)
-
-abbrev pub PutsLenientReading : Flavor → Strictness → List ℕ → Result ℕ Unwritten → List ℕ → List ℕ → Type 0
-PutsLenientReading f which bytes = PutsText which (IsLenientReadingOf f which bytes)

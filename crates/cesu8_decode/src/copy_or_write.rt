@@ -1,88 +1,53 @@
-//! Decodes to a caller's buffer: copies the bytes if none changes, and writes otherwise.
+//! Decodes to a caller's buffer: copies bytes that a call keeps, and writes the text of others.
 
-ghost use Rattle.cesu8_decode.specs.PutReadings.{PutsReading, PutsLenientReading};
+ghost use Rattle.cesu8_decode.specs.PutReadings.{PutsText, ReadsAs};
 
-use crate::refusal::{Unwritten, is_refused};
+use crate::refusal::Unwritten;
 use crate::slices::{put_by, put_text};
-use crate::way::way_before_tests;
+use crate::way::way_before_looks;
 use cesu8_bytes::flavor::Flavor;
-use cesu8_bytes::looks::{
-    contains_changed, is_short_ascii, is_short_unchanged_ascii, shows_no_text,
-};
+use cesu8_bytes::looks::{Accepts, Look};
 use cesu8_bytes::options::Strictness;
-use cesu8_bytes::utf8::is_utf8;
 use cesu8_bytes::writers::{copy_to_slice, copy_to_slice_by_call};
 
-/// Writes the text of the bytes, which are no encoding if a byte changes.
+/// Writes the text of the bytes to a call of this kind.
 #[inline(always)]
-pub fn put_encoding<F: Flavor>(
+pub fn put<F: Flavor, A: Accepts>(
     strictness: Strictness,
     bytes: &[u8],
     buf: &mut [u8],
 ) -> Result<usize, Unwritten>
-    ensures { PutsReading F.flavor strictness bytes.now result buf.old buf.new }
+    ensures { PutsText strictness (ReadsAs strictness (A.reads F.flavor bytes.now)
+        (A.reads_lossily F.flavor bytes.now)) result buf.old buf.new }
 {
-    if is_short_unchanged_ascii::<F>(bytes) {
+    if A::is_short_ascii::<F>(bytes) {
         return copy_to_slice(bytes, buf).map_err(Unwritten::NoRoom);
     }
-    put_other_encoding::<F>(strictness, bytes, buf)
+    put_other::<F, A>(strictness, bytes, buf)
 }
 
 /// The bytes are not short ASCII. It is never inlined, so that the test for that stays small.
 #[inline(never)]
-fn put_other_encoding<F: Flavor>(
+fn put_other<F: Flavor, A: Accepts>(
     strictness: Strictness,
     bytes: &[u8],
     buf: &mut [u8],
 ) -> Result<usize, Unwritten>
-    ensures { PutsReading F.flavor strictness bytes.now result buf.old buf.new }
+    ensures { PutsText strictness (ReadsAs strictness (A.reads F.flavor bytes.now)
+        (A.reads_lossily F.flavor bytes.now)) result buf.old buf.new }
 {
-    if is_refused(strictness, shows_no_text(bytes)) {
-        return Err(Unwritten::NoText);
+    if A::is_encoding_alone() {
+        if let Some(way) = way_before_looks(bytes) {
+            return put_by::<F>(way, strictness, bytes, buf);
+        }
     }
-    if let Some(way) = way_before_tests(bytes) {
-        return put_by::<F>(way, strictness, bytes, buf);
+    let look = A::look_to_copy::<F>(bytes);
+    match look {
+        Look::Text => copy_to_slice_by_call(bytes, buf).map_err(Unwritten::NoRoom),
+        Look::NoEncoding => match strictness {
+            Strictness::Strict => Err(Unwritten::NoText),
+            Strictness::Lossy => put_text::<F>(strictness, look, bytes, buf),
+        },
+        Look::Encoding | Look::Unknown => put_text::<F>(strictness, look, bytes, buf),
     }
-    // No encoding has a byte that changes.
-    let changes = contains_changed::<F>(bytes);
-    if is_refused(strictness, changes) {
-        return Err(Unwritten::NoText);
-    }
-    if !changes && is_utf8(bytes) {
-        return copy_to_slice_by_call(bytes, buf).map_err(Unwritten::NoRoom);
-    }
-    put_text::<F>(strictness, bytes, buf)
-}
-
-/// Writes the text of bytes that are UTF-8 as a whole, or else the encoding.
-#[inline(always)]
-pub fn put_leniently<F: Flavor>(
-    strictness: Strictness,
-    bytes: &[u8],
-    buf: &mut [u8],
-) -> Result<usize, Unwritten>
-    ensures { PutsLenientReading F.flavor strictness bytes.now result buf.old buf.new }
-{
-    if is_short_ascii(bytes) {
-        return copy_to_slice(bytes, buf).map_err(Unwritten::NoRoom);
-    }
-    put_other_leniently::<F>(strictness, bytes, buf)
-}
-
-/// The bytes are not short ASCII. It is never inlined, so that the test for that stays small.
-#[inline(never)]
-fn put_other_leniently<F: Flavor>(
-    strictness: Strictness,
-    bytes: &[u8],
-    buf: &mut [u8],
-) -> Result<usize, Unwritten>
-    ensures { PutsLenientReading F.flavor strictness bytes.now result buf.old buf.new }
-{
-    if is_refused(strictness, shows_no_text(bytes)) {
-        return Err(Unwritten::NoText);
-    }
-    if is_utf8(bytes) {
-        return copy_to_slice_by_call(bytes, buf).map_err(Unwritten::NoRoom);
-    }
-    put_text::<F>(strictness, bytes, buf)
 }

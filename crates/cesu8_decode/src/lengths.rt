@@ -11,8 +11,7 @@ ghost use Rattle.cesu8_decode.specs.DecodedOffsets.{saved};
 use super::ill_formed::is_ill_formed;
 use super::sums::{BLOCKS, Weight, Weights, sum_first};
 use cesu8_bytes::flavor::Flavor;
-use cesu8_bytes::looks::contains_changed;
-use cesu8_bytes::utf8::is_utf8;
+use cesu8_bytes::looks::{Accepts, EncodingAlone, Look};
 
 /// Returns the length of the strict reading, in bytes of UTF-8, if there is one.
 pub fn decoded_len<F: Flavor>(bytes: &[u8]) -> Option<usize>
@@ -20,8 +19,10 @@ pub fn decoded_len<F: Flavor>(bytes: &[u8]) -> Option<usize>
         ReadsAtLength (IsStrictReading F.flavor bytes.now) (λ text_len. len ≡ text_len)) }
     ensures none { IfNone result (HasNoStrictReading F.flavor bytes.now) }
 {
-    if !contains_changed::<F>(bytes) && is_utf8(bytes) {
-        return Some(bytes.len());
+    match EncodingAlone::look::<F>(bytes) {
+        Look::Text => return Some(bytes.len()),
+        Look::NoEncoding => return None,
+        Look::Encoding | Look::Unknown => {}
     }
     if is_ill_formed::<F>(bytes) {
         return None;

@@ -46,15 +46,18 @@ mod window;
 
 use crate::refusal::Refusal;
 use cesu8_bytes::flavor::Flavor;
+use cesu8_bytes::looks::Look;
 use cesu8_bytes::utf8::known_string;
 pub use lengths::{decoded_len, lossy_len};
 use std::alloc::{AllocError, Allocator};
 use strings::{build_lossily, write_strictly};
 pub use valid_front::valid_up_to;
 
-/// Returns the strict reading of bytes that are not UTF-8, after one request for their length.
+/// Returns the strict reading of bytes that are not UTF-8, after one request for their length. What a
+/// look shows of them chooses the way.
 pub fn decode_strict<F: Flavor, A: Allocator + Copy>(
     alloc: A,
+    look: Look,
     bytes: &[u8],
 ) -> Result<String<A>, Refusal>
     requires { ¬ (IsUtf8 bytes.now) }
@@ -64,7 +67,7 @@ pub fn decode_strict<F: Flavor, A: Allocator + Copy>(
     ensures invalid { OnNoText result (HasNoStrictReading F.flavor bytes.now) }
 {
     let empty = Vec::with_capacity(alloc, bytes.len()).map_err(Refusal::Memory)?;
-    match write_strictly::<F, A>(bytes, empty) {
+    match write_strictly::<F, A>(look, bytes, empty) {
         Some(text) => Ok(known_string(text)),
         None => Err(Refusal::NoText),
     }
@@ -85,6 +88,7 @@ pub fn refuse<A: Allocator>(alloc: A, len: usize) -> Refusal {
 #[inline(never)]
 pub fn decode_lossy<F: Flavor, A: Allocator + Copy>(
     alloc: A,
+    look: Look,
     bytes: &[u8],
 ) -> Result<String<A>, AllocError>
     ensures text { IfOk result (λ text.
@@ -92,6 +96,6 @@ pub fn decode_lossy<F: Flavor, A: Allocator + Copy>(
     ensures capacity { IfOk result (λ text.
         string_capacity text ≡ lossy_length F.flavor bytes.now) }
 {
-    let text = build_lossily::<F, A>(alloc, bytes)?;
+    let text = build_lossily::<F, A>(alloc, look, bytes)?;
     Ok(known_string(text))
 }

@@ -23,6 +23,7 @@ use crate::packing::WIDEST;
 use crate::refusal::{Unwritten, is_refused};
 use crate::way::{FEWEST, LONG_WINDOW, MEDIUM_WINDOW, SHORT_WINDOW, Way, way_of};
 use cesu8_bytes::flavor::Flavor;
+use cesu8_bytes::looks::Look;
 use cesu8_bytes::options::Strictness;
 use cesu8_bytes::put::put;
 use cesu8_bytes::writers::{NoRoom, copy_to_slice};
@@ -36,13 +37,14 @@ pub const CHARACTERS_TEXT: usize = WIDEST * SHORT_WINDOW;
 #[inline(never)]
 pub fn put_text<F: Flavor>(
     strictness: Strictness,
+    look: Look,
     bytes: &[u8],
     buf: &mut [u8],
 ) -> Result<usize, Unwritten>
     requires { strictness ≡ Strict → ¬ (IsUtf8 bytes.now) }
     ensures { PutsReading F.flavor strictness bytes.now result buf.old buf.new }
 {
-    put_by::<F>(way_of::<F>(strictness, bytes), strictness, bytes, buf)
+    put_by::<F>(way_of::<F>(strictness, look, bytes), strictness, bytes, buf)
 }
 
 /// Writes the text of the bytes by a way that fits them.

@@ -19,6 +19,7 @@ use crate::slices::{CHARACTERS_TEXT, FEWEST_TEXT};
 use crate::way::{Way, way_of};
 use cesu8_bytes::copies::copy;
 use cesu8_bytes::flavor::Flavor;
+use cesu8_bytes::looks::Look;
 use cesu8_bytes::options::Strictness;
 use cesu8_bytes::zeros::append_zeros;
 use std::alloc::{AllocError, Allocator};
@@ -27,6 +28,7 @@ use std::alloc::{AllocError, Allocator};
 /// many.
 #[inline(always)]
 pub fn write_strictly<F: Flavor, A: Allocator + Copy>(
+    look: Look,
     bytes: &[u8],
     empty: Vec<u8, A>,
 ) -> Option<Vec<u8, A>>
@@ -34,7 +36,7 @@ pub fn write_strictly<F: Flavor, A: Allocator + Copy>(
     requires empty { (empty.items ≡ []) × (length bytes.now ≤ vec_capacity empty) }
     ensures { WritesStrictly F.flavor bytes.now empty result }
 {
-    match way_of::<F>(Strictness::Strict, bytes) {
+    match way_of::<F>(Strictness::Strict, look, bytes) {
         Way::Refused => None,
         Way::FewCharacters | Way::Characters => write_few::<F, A>(bytes, empty),
         _ => append_strictly::<F, A>(bytes, empty),
@@ -45,11 +47,12 @@ pub fn write_strictly<F: Flavor, A: Allocator + Copy>(
 #[inline(always)]
 pub fn build_lossily<F: Flavor, A: Allocator + Copy>(
     alloc: A,
+    look: Look,
     bytes: &[u8],
 ) -> Result<Vec<u8, A>, AllocError>
     ensures { BuildsReading F.flavor bytes.now result }
 {
-    match way_of::<F>(Strictness::Lossy, bytes) {
+    match way_of::<F>(Strictness::Lossy, look, bytes) {
         Way::FewCharacters => build_characters::<F, FEWEST_TEXT, A>(alloc, bytes),
         Way::Characters => build_characters::<F, CHARACTERS_TEXT, A>(alloc, bytes),
         Way::ShortWindow => build_window::<F, SHORT_TEXT, A>(alloc, bytes),

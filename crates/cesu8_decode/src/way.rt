@@ -59,7 +59,7 @@ use super::ill_formed::is_ill_formed_in_prefix;
 use cesu8_bytes::flavor::Flavor;
 use cesu8_bytes::implementation::class::{Either, NonAscii, Null};
 use cesu8_bytes::implementation::short::count_in_ends;
-use cesu8_bytes::looks::may_be_encoding;
+use cesu8_bytes::looks::{Look, may_be_encoding};
 use cesu8_bytes::options::Strictness;
 
 /// Which way bytes are decoded.
@@ -93,7 +93,7 @@ const OTHERS: usize = 12;
 /// Of more bytes so many may be, as many as a surrogate pair has.
 const FEWER_OTHERS: usize = 6;
 
-/// Below this length bytes are read in no more time than their test for UTF-8 takes.
+/// Below this length bytes are read in no more time than the looks at them take.
 const READ_AT_ONCE: usize = 64;
 
 /// 00, or 80 (hexadecimal) or more.
@@ -101,13 +101,14 @@ type NullOrNonAscii = Either<Null, NonAscii>;
 
 /// Returns which way the bytes go.
 #[inline(always)]
-pub fn way_of<F: Flavor>(strictness: Strictness, bytes: &[u8]) -> Way
+pub fn way_of<F: Flavor>(strictness: Strictness, look: Look, bytes: &[u8]) -> Way
     requires { strictness ≡ Strict → ¬ (IsUtf8 bytes.now) }
     ensures { IsWayOf F.flavor strictness bytes.now result }
 {
     let is_strict = matches!(strictness, Strictness::Strict);
-    if let Some(way) = way_of_few_others(bytes) {
-        return if is_strict && has_no_other_lead::<F>(bytes) {
+    let may_be_refused = is_strict && !is_encoding(look);
+    if let Some(way) = way_of_few_others(look, bytes) {
+        return if may_be_refused && has_no_other_lead::<F>(bytes) {
             Way::Refused
         } else {
             way
@@ -133,10 +134,10 @@ pub fn way_of<F: Flavor>(strictness: Strictness, bytes: &[u8]) -> Way
 
 /// Returns which way bytes go that are read one character after another.
 #[inline(always)]
-fn way_of_few_others(bytes: &[u8]) -> Option<Way>
+fn way_of_few_others(look: Look, bytes: &[u8]) -> Option<Way>
     ensures { (f : AnyFlavor) (which : Strictness) → IfSome result (IsWayOf f which bytes.now) }
 {
-    if bytes.len() <= FEWEST && has_few_others(bytes, OTHERS) {
+    if bytes.len() <= FEWEST && (is_encoding(look) || has_few_others(bytes, OTHERS)) {
         return Some(Way::FewCharacters);
     }
     if has_few_others(bytes, FEWER_OTHERS) {
@@ -168,10 +169,10 @@ fn has_no_other_lead<F: Flavor>(bytes: &[u8]) -> bool
     !may_be_encoding(bytes)
 }
 
-/// Returns which way bytes go that are decoded before they are tested for UTF-8: a few of which
-/// hardly any are not ASCII, or still fewer that are most likely an encoding.
+/// Returns which way bytes go that are decoded before they are looked at: a few of which hardly any are
+/// not ASCII, or still fewer that are most likely an encoding.
 #[inline(always)]
-pub fn way_before_tests(bytes: &[u8]) -> Option<Way>
+pub fn way_before_looks(bytes: &[u8]) -> Option<Way>
     ensures { (f : AnyFlavor) (which : Strictness) → IfSome result (IsWayOf f which bytes.now) }
 {
     if bytes.len() >= READ_AT_ONCE {
@@ -185,6 +186,12 @@ pub fn way_before_tests(bytes: &[u8]) -> Option<Way>
         return Some(Way::FewCharacters);
     }
     None
+}
+
+/// Returns whether a look has shown that bytes may be an encoding, and are not UTF-8.
+#[inline(always)]
+fn is_encoding(look: Look) -> bool {
+    matches!(look, Look::Encoding)
 }
 
 /// Returns whether the bytes are few, and at most so many of them other than 01 to 7F.

@@ -13,4 +13,5 @@ pub mod EncodedTexts
 pub mod LossyTexts
 pub mod Borrowing
 pub mod LossyBorrowing
+pub mod KeptTexts
 pub mod Worked

@@ -5,6 +5,7 @@ pub mod Class
 pub mod Patterns
 pub mod Reading
 pub mod Cutting
+pub mod Kept
 pub mod Slices
 pub mod Order
 pub mod Laws

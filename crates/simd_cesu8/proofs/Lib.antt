@@ -1,4 +1,3 @@
 pub use Rattle.cesu8_text.proofs.StdUtf8
 pub mod Faults
 pub mod Outcomes
-pub mod KnownTexts

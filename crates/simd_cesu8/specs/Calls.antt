@@ -3,7 +3,7 @@ use Rattle.std.specs.Prelude.{◌≡◌, ℕ, List, length, Result, IsOk, IsUtf8
 use Rattle.std.specs.Str.{chars}
 use Rattle.simd_cesu8.specs.Encoding.{Flavor, encoding as encoding_of, NeedsEncoding}
 use Rattle.simd_cesu8.specs.Class.{IsUnchangedUtf8}
-use Rattle.simd_cesu8.specs.Reading.{IsStrictReading, HasNoStrictReading, IsLenientReading, reading as reading_of, lossy_length, IsLenientLossyReading}
+use Rattle.simd_cesu8.specs.Reading.{IsStrictReading, IsLenientReading, reading as reading_of, lossy_length, IsLenientLossyReading}
 use Rattle.simd_cesu8.specs.Cow.{IfBytes, BorrowsBytesWhere, BuildsBytesOfCapacity, IfText, BorrowsTextWhere, BuildsTextOfCapacity, AnswersTextOfLength}
 use Rattle.simd_cesu8.specs.Fault.{OnInvalid}
 use Rattle.simd_cesu8.specs.declared.cow.CowText.{CowText}
@@ -56,16 +56,3 @@ pub record DecodesLossily {E : Type 0} (f : Flavor) (bytes : List ℕ) (result :
 -- `decode_lossy`: the lenient lossy reading, borrowed where the bytes are UTF-8.
 abbrev pub DecodesLenientlyLossily : {E : Type 0} → Flavor → List ℕ → Result CowText E → Type 0
 DecodesLenientlyLossily f bytes = DecodesLossilyAs f (IsUtf8 bytes) (IsLenientLossyReading f bytes) bytes
-
--- What is known of the texts of bytes: of those that are kept, of others that are not UTF-8, and of
--- those that are no encoding either.
-pub record KnowsTexts (f : Flavor) (keeps : Type 0) (reads : List ℕ → Type 0) (bytes : List ℕ) : Type 0 where
-  pub kept : keeps → reads (chars bytes)
-  pub built : (text : List ℕ) → ¬ (IsUtf8 bytes) → IsStrictReading f bytes text → reads text
-  pub refused : ¬ keeps → HasNoStrictReading f bytes → (text : List ℕ) → ¬ (reads text)
-
--- The same where what is ill-formed is replaced.
-pub record KnowsLossyTexts (f : Flavor) (keeps : Type 0) (reads : List ℕ → Type 0) (bytes : List ℕ) : Type 0 where
-  pub kept : keeps → reads (chars bytes)
-  pub built : (text : List ℕ) → ¬ keeps → text ≡ reading_of f bytes → reads text
-  pub unchanged : IsUnchangedUtf8 f bytes → keeps

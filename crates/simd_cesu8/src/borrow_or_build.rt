@@ -6,7 +6,7 @@
 //! What a call takes is a type, `Lenient` or `EncodingAlone`, which has its looks.
 
 ghost use Rattle.std.specs.Prelude.{take};
-ghost use Rattle.simd_cesu8.specs.Calls.{Encodes, DecodesAs, DecodesLossilyAs, DecodesStrictly, DecodesLeniently, DecodesLossily, DecodesLenientlyLossily, KnowsTexts, KnowsLossyTexts};
+ghost use Rattle.simd_cesu8.specs.Calls.{Encodes, DecodesAs, DecodesLossilyAs, DecodesStrictly, DecodesLeniently, DecodesLossily, DecodesLenientlyLossily};
 
 use crate::cow::{CowBytes, CowText};
 use crate::error::DecodeFault;
@@ -30,7 +30,6 @@ pub fn encode<F: Flavor>(alloc: Global, value: &str) -> Result<CowBytes<'_>, All
 }
 
 #[inline(always)]
-#[tactic(auto, using(crate::proofs::KnownTexts::strict_texts))]
 pub fn decode_strict<F: Flavor>(alloc: Global, bytes: &[u8]) -> Result<CowText<'_>, DecodeFault>
     ensures { DecodesStrictly F.flavor bytes.now result }
 {
@@ -38,7 +37,6 @@ pub fn decode_strict<F: Flavor>(alloc: Global, bytes: &[u8]) -> Result<CowText<'
 }
 
 #[inline(always)]
-#[tactic(auto, using(crate::proofs::KnownTexts::lenient_texts))]
 pub fn decode<F: Flavor>(alloc: Global, bytes: &[u8]) -> Result<CowText<'_>, DecodeFault>
     ensures { DecodesLeniently F.flavor bytes.now result }
 {
@@ -48,8 +46,6 @@ pub fn decode<F: Flavor>(alloc: Global, bytes: &[u8]) -> Result<CowText<'_>, Dec
 /// Decodes what a call of this kind takes.
 #[inline(always)]
 fn decode_as<F: Flavor, A: Accepts>(alloc: Global, bytes: &[u8]) -> Result<CowText<'_>, DecodeFault>
-    requires { KnowsTexts F.flavor (A.keeps F.flavor bytes.now)
-        (A.reads F.flavor bytes.now) bytes.now }
     ensures { DecodesAs (A.keeps F.flavor bytes.now) (A.reads F.flavor bytes.now) bytes.now result }
 {
     if A::is_short_ascii::<F>(bytes) {
@@ -64,16 +60,15 @@ fn decode_other<F: Flavor, A: Accepts>(
     alloc: Global,
     bytes: &[u8],
 ) -> Result<CowText<'_>, DecodeFault>
-    requires { KnowsTexts F.flavor (A.keeps F.flavor bytes.now)
-        (A.reads F.flavor bytes.now) bytes.now }
     ensures { DecodesAs (A.keeps F.flavor bytes.now) (A.reads F.flavor bytes.now) bytes.now result }
 {
-    match A::look::<F>(bytes) {
+    let look = A::look::<F>(bytes);
+    match look {
         Look::Text => return Ok(CowText::Borrowed(known_text(bytes))),
         Look::NoEncoding => return Err(internal::refuse(alloc, bytes.len())),
         Look::Encoding | Look::Unknown => {}
     }
-    let built = internal::decode_strict::<F>(alloc, bytes)?;
+    let built = internal::decode_strict::<F>(alloc, look, bytes)?;
     Ok(CowText::Owned(built))
 }
 
@@ -109,7 +104,6 @@ fn decode_strict_by_call<F: Flavor>(
 
 /// Returns the strict reading of bytes that are no short ASCII, or have not been looked at.
 #[inline(never)]
-#[tactic(auto, using(crate::proofs::KnownTexts::strict_texts))]
 fn decode_strict_called<F: Flavor>(
     alloc: Global,
     bytes: &[u8],
@@ -124,7 +118,6 @@ fn decode_strict_called<F: Flavor>(
 }
 
 #[inline(always)]
-#[tactic(auto, using(crate::proofs::KnownTexts::lossy_texts))]
 pub fn decode_lossy_strict<F: Flavor>(
     alloc: Global,
     bytes: &[u8],
@@ -135,7 +128,6 @@ pub fn decode_lossy_strict<F: Flavor>(
 }
 
 #[inline(always)]
-#[tactic(auto, using(crate::proofs::KnownTexts::lenient_lossy_texts))]
 pub fn decode_lossy<F: Flavor>(alloc: Global, bytes: &[u8]) -> Result<CowText<'_>, AllocError>
     ensures { DecodesLenientlyLossily F.flavor bytes.now result }
 {
@@ -148,8 +140,6 @@ fn decode_lossy_as<F: Flavor, A: Accepts>(
     alloc: Global,
     bytes: &[u8],
 ) -> Result<CowText<'_>, AllocError>
-    requires { KnowsLossyTexts F.flavor (A.keeps F.flavor bytes.now)
-        (A.reads_lossily F.flavor bytes.now) bytes.now }
     ensures { DecodesLossilyAs F.flavor (A.keeps F.flavor bytes.now)
         (A.reads_lossily F.flavor bytes.now) bytes.now result }
 {
@@ -166,15 +156,13 @@ fn decode_lossy_other<F: Flavor, A: Accepts>(
     alloc: Global,
     bytes: &[u8],
 ) -> Result<CowText<'_>, AllocError>
-    requires { KnowsLossyTexts F.flavor (A.keeps F.flavor bytes.now)
-        (A.reads_lossily F.flavor bytes.now) bytes.now }
     ensures { DecodesLossilyAs F.flavor (A.keeps F.flavor bytes.now)
         (A.reads_lossily F.flavor bytes.now) bytes.now result }
 {
-    match A::look::<F>(bytes) {
-        Look::Text => return Ok(CowText::Borrowed(known_text(bytes))),
-        Look::NoEncoding | Look::Encoding | Look::Unknown => {}
+    let look = A::look::<F>(bytes);
+    if let Look::Text = look {
+        return Ok(CowText::Borrowed(known_text(bytes)));
     }
-    let built = internal::decode_lossy::<F, Global>(alloc, bytes)?;
+    let built = internal::decode_lossy::<F, Global>(alloc, look, bytes)?;
     Ok(CowText::Owned(built))
 }

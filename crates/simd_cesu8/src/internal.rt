@@ -24,7 +24,7 @@ use cesu8_bytes::options::Strictness;
 pub use cesu8_bytes::order::compare_as_utf16;
 pub use cesu8_bytes::utf8::{is_utf8, known_text};
 use cesu8_bytes::writers::NoRoom;
-use cesu8_decode::copy_or_write::{put_encoding, put_leniently};
+use cesu8_decode::copy_or_write::put;
 use cesu8_decode::refusal::{Refusal, Unwritten};
 pub use cesu8_decode::{decode_lossy, decoded_len, lossy_len, valid_up_to};
 pub use cesu8_encode::{encode, encode_into};
@@ -32,14 +32,18 @@ use std::alloc::Global;
 
 /// Returns the strict reading of bytes that are not UTF-8, after one request for their length.
 #[inline(always)]
-pub fn decode_strict<F: Flavor>(alloc: Global, bytes: &[u8]) -> Result<String, DecodeFault>
+pub fn decode_strict<F: Flavor>(
+    alloc: Global,
+    look: Look,
+    bytes: &[u8],
+) -> Result<String, DecodeFault>
     requires { ¬ (IsUtf8 bytes.now) }
     ensures text { IfOk result (λ text.
         IsStrictReading F.flavor bytes.now (chars (string_bytes text))) }
     ensures capacity { IfOk result (λ text. string_capacity text ≡ length bytes.now) }
     ensures invalid { OnInvalid result (HasNoStrictReading F.flavor bytes.now) }
 {
-    match cesu8_decode::decode_strict::<F, Global>(alloc, bytes) {
+    match cesu8_decode::decode_strict::<F, Global>(alloc, look, bytes) {
         Ok(text) => Ok(text),
         Err(refusal) => Err(fault(refusal)),
     }
@@ -70,7 +74,7 @@ pub fn decode_strict_to_slice<F: Flavor>(
     ensures { WritesReading (λ text. IsStrictReading F.flavor bytes.now text)
         result buf.old buf.new }
 {
-    strict(put_encoding::<F>(Strictness::Strict, bytes, buf))
+    strict(put::<F, EncodingAlone>(Strictness::Strict, bytes, buf))
 }
 
 /// Writes the lenient reading of the bytes to a caller's buffer, if it fits.
@@ -79,7 +83,7 @@ pub fn decode_to_slice<F: Flavor>(bytes: &[u8], buf: &mut [u8]) -> Result<usize,
     ensures { WritesReading (λ text. IsLenientReading F.flavor bytes.now text)
         result buf.old buf.new }
 {
-    strict(put_leniently::<F>(Strictness::Strict, bytes, buf))
+    strict(put::<F, Lenient>(Strictness::Strict, bytes, buf))
 }
 
 /// Writes the lossy reading of the bytes to a caller's buffer, if it fits.
@@ -91,7 +95,7 @@ pub fn decode_lossy_strict_to_slice<F: Flavor>(
     ensures { WritesLossyReading (λ text. text ≡ reading F.flavor bytes.now)
         result buf.old buf.new }
 {
-    lossy(put_encoding::<F>(Strictness::Lossy, bytes, buf))
+    lossy(put::<F, EncodingAlone>(Strictness::Lossy, bytes, buf))
 }
 
 /// Writes the lenient lossy reading of the bytes to a caller's buffer, if it fits.
@@ -103,7 +107,7 @@ pub fn decode_lossy_to_slice<F: Flavor>(
     ensures { WritesLossyReading (λ text. IsLenientLossyReading F.flavor bytes.now text)
         result buf.old buf.new }
 {
-    lossy(put_leniently::<F>(Strictness::Lossy, bytes, buf))
+    lossy(put::<F, Lenient>(Strictness::Lossy, bytes, buf))
 }
 
 /// Returns a refusal of the decoder as a fault.

@@ -1,10 +1,10 @@
 -- What a call may say of a text that it writes into a caller's buffer.
-use Rattle.std.proofs.Common.{◌≡◌, ℕ, ◌^◌, ◌<◌, ◌≤◌, ◌↔◌, inl, inr, ⊎_elim, List, refl, sym, ap, ◌∙◌, subst, arith, length, length-drop, drop, Bool, false, Result, Ok, Err, MatchResult, IsErrAnd}
+use Rattle.std.proofs.Common.{◌≡◌, ℕ, ◌^◌, ◌<◌, ◌≤◌, ◌↔◌, ⊎_elim, List, refl, sym, ap, ◌∙◌, subst, arith, length, length-drop, drop, Bool, false, Result, Ok, Err, MatchResult, IsErrAnd}
 use Rattle.std.proofs.lemmas.Bool.{false≢true, cases_lt}
-use Rattle.std.specs.Str.{chars, IsUtf8}
+use Rattle.std.specs.Str.{chars}
 use Rattle.cesu8_text.specs.Text.{utf8}
 use Rattle.cesu8_text.specs.Encoding.{Flavor}
-use Rattle.cesu8_text.specs.Class.{IsUnchangedUtf8}
+use Rattle.cesu8_text.specs.Kept.{KnowsTexts, ReadsEncoding}
 use Rattle.cesu8_text.specs.Reading.{IsStrictReading, HasNoStrictReading, reading, lossy_length}
 use Rattle.cesu8_bytes.specs.TextChunks.{IsChunk}
 use Rattle.cesu8_bytes.specs.declared.options.Strictness.{Strictness}
@@ -12,15 +12,13 @@ use Rattle.cesu8_bytes.specs.declared.options.Strictness.TheVariants.{Strict, Lo
 use Rattle.cesu8_text.specs.Slices.{StandsAtFront, ReadsAtLength}
 use Rattle.cesu8_bytes.specs.Puts.{PutsAnswer}
 use Rattle.cesu8_decode.specs.Decoding.{IsDecodedText, ReadsAll, refuses}
-use Rattle.cesu8_decode.specs.PutReadings.{PutsText, IsReadingOf, IsLenientReadingOf}
+use Rattle.cesu8_decode.specs.PutReadings.{PutsText, ReadsAs, IsReadingOf}
 use Rattle.cesu8_decode.specs.declared.refusal.Unwritten.{Unwritten}
 use Rattle.cesu8_decode.specs.declared.refusal.Unwritten.TheVariants as unwritten
 use Rattle.cesu8_bytes.specs.declared.writers.NoRoom.{NoRoom}
-use Rattle.cesu8_text.proofs.StdUtf8.{IsUtf8Of_chars, chars_utf8, not_utf8_of}
+use Rattle.cesu8_text.proofs.StdUtf8.{IsUtf8Of_chars}
 use Rattle.cesu8_text.proofs.encoding.Lengths.{length_bounds}
-use Rattle.cesu8_text.proofs.reading.EncodedTexts.{reading_encoding}
-use Rattle.cesu8_text.proofs.reading.Borrowing.{unchanged_reading}
-use Rattle.cesu8_text.proofs.reading.LossyBorrowing.{unchanged_lossy}
+use Rattle.cesu8_text.proofs.reading.KeptTexts.{strict_only}
 use Rattle.cesu8_decode.proofs.chunks.ReadChunks.{chunk_utf8, whole_text, chunk_unless_refused}
 
 -- ---- the only text
@@ -40,10 +38,6 @@ at_length IsReading F text answer is found =
 pub of_length : (IsReading : List ℕ → Type 0) (F : ℕ → Type 0) (text answer : List ℕ) → IsOnlyText IsReading text answer →
     F (length answer) → ReadsAtLength IsReading F
 of_length IsReading F text answer is holds = (text, is.reads, subst (λ t. F (length t)) (sym is.utf8_is) holds)
-
-strict_only : (f : Flavor) (bytes text other : List ℕ) → IsStrictReading f bytes text → IsStrictReading f bytes other → other ≡ text
-strict_only f bytes text other reads also =
-    sym (reading_encoding f other also.0) ∙ ap (reading f) (also.1 ∙ sym reads.1) ∙ reading_encoding f text reads.0
 
 -- That of bytes that are well-formed;
 pub only_strict : (f : Flavor) (bytes text : List ℕ) → IsStrictReading f bytes text → IsOnlyText (IsStrictReading f bytes) text (utf8 text)
@@ -77,42 +71,19 @@ pub only_reading : (f : Flavor) (which : Strictness) (bytes : List ℕ) → (whi
 only_reading f Strict bytes whole = only_strict f bytes (reading f bytes) (whole refl)
 only_reading f Lossy bytes whole = record { reads = refl; only = λ other same. same; utf8_is = refl }
 
--- that of UTF-8 in which nothing changes,
-pub only_unchanged : (f : Flavor) (which : Strictness) (bytes : List ℕ) → IsUnchangedUtf8 f bytes →
-    IsOnlyText (IsReadingOf f which bytes) (chars bytes) bytes
-only_unchanged f Strict bytes unchanged =
-    let reads = unchanged_reading f bytes bytes refl unchanged in
-    record {
-      reads = reads;
-      only = λ other also. strict_only f bytes (chars bytes) other reads also;
-      utf8_is = (IsUtf8Of_chars bytes unchanged.0).1;
-    }
-only_unchanged f Lossy bytes unchanged =
-    let reads = unchanged_lossy f bytes bytes refl unchanged in
-    record {
-      reads = reads;
-      only = λ other same. same ∙ sym reads;
-      utf8_is = (IsUtf8Of_chars bytes unchanged.0).1;
-    }
-
--- and in lenient reading that of any UTF-8.
-pub only_utf8 : (f : Flavor) (which : Strictness) (bytes : List ℕ) → IsUtf8 bytes → IsOnlyText (IsLenientReadingOf f which bytes) (chars bytes) bytes
-only_utf8 f Strict bytes is_utf8 =
-    let of_chars = IsUtf8Of_chars bytes is_utf8 in
-    record {
-      reads = inl of_chars;
-      only = λ other also. ⊎_elim (λ of. sym (chars_utf8 other of.0) ∙ ap chars of.1)
-          (λ reads. absurd (reads.0 (chars bytes) of_chars)) also;
-      utf8_is = of_chars.1;
-    }
-only_utf8 f Lossy bytes is_utf8 =
-    let of_chars = IsUtf8Of_chars bytes is_utf8 in
-    record {
-      reads = inl of_chars;
-      only = λ other also. ⊎_elim (λ of. sym (chars_utf8 other of.0) ∙ ap chars of.1)
-          (λ reads. absurd (reads.0 (chars bytes) of_chars)) also;
-      utf8_is = of_chars.1;
-    }
+-- and that of bytes that a call keeps is of their characters.
+module _ (f : Flavor) (bytes : List ℕ) (keeps : Type 0) (reads reads_lossily : List ℕ → Type 0) (known : KnowsTexts f bytes keeps reads reads_lossily) where
+  pub only_kept : (which : Strictness) → keeps → IsOnlyText (ReadsAs which reads reads_lossily) (chars bytes) bytes
+  only_kept Strict kept = record {
+    reads = (known.kept (chars bytes) kept).1 refl;
+    only = λ other also. (known.kept other kept).0 also;
+    utf8_is = (IsUtf8Of_chars bytes (known.is_utf8 kept)).1;
+  }
+  only_kept Lossy kept = record {
+    reads = (known.kept_lossily (chars bytes) kept).1 refl;
+    only = λ other also. (known.kept_lossily other kept).0 also;
+    utf8_is = (IsUtf8Of_chars bytes (known.is_utf8 kept)).1;
+  }
 
 -- ---- where it is written or not
 
@@ -223,7 +194,7 @@ module _ (P Q : List ℕ → Type 0) (same : (text : List ℕ) → P text ↔ Q 
   back F found = (found.0, (same found.0).1 found.1, found.2)
 
   -- What is said by one reading is said by another that has the same texts.
-  pub same_reading : (which : Strictness) (r : Result ℕ Unwritten) (old new : List ℕ) → PutsText which P r old new → PutsText which Q r old new
+  same_reading : (which : Strictness) (r : Result ℕ Unwritten) (old new : List ℕ) → PutsText which P r old new → PutsText which Q r old new
   same_reading which (Ok len) old new puts = record {
     written = (puts.written.0, (same puts.written.0).0 puts.written.1, puts.written.2);
     fits = ((λ ok. there (λ len. len ≤ length old) (puts.fits.0 ok)), (λ _. refl));
@@ -265,14 +236,11 @@ module _ (P Q : List ℕ → Type 0) (same : (text : List ℕ) → P text ↔ Q 
     lossy = puts.lossy;
   }
 
--- Where bytes are no UTF-8, lenient reading is the other.
-pub lenient_is_other : (f : Flavor) (which : Strictness) (bytes text : List ℕ) → ¬ (IsUtf8 bytes) →
-    IsReadingOf f which bytes text ↔ IsLenientReadingOf f which bytes text
-lenient_is_other f Strict bytes text not_utf8 = (
-  (λ reads. inr (not_utf8_of bytes not_utf8, reads)),
-  (λ reads. ⊎_elim (λ of. absurd (not_utf8_of bytes not_utf8 text of)) (λ strictly. strictly.1) reads),
-)
-lenient_is_other f Lossy bytes text not_utf8 = (
-  (λ same. inr (not_utf8_of bytes not_utf8, same)),
-  (λ reads. ⊎_elim (λ of. absurd (not_utf8_of bytes not_utf8 text of)) (λ lossily. lossily.1) reads),
-)
+-- What is put of the encoding is put of what a call reads as that.
+pub encoding_put : (f : Flavor) (bytes : List ℕ) (reads reads_lossily : List ℕ → Type 0) → ReadsEncoding f bytes reads reads_lossily →
+    (which : Strictness) (r : Result ℕ Unwritten) (old new : List ℕ) → PutsText which (IsReadingOf f which bytes) r old new →
+    PutsText which (ReadsAs which reads reads_lossily) r old new
+encoding_put f bytes reads reads_lossily so Strict r old new puts =
+    same_reading (IsStrictReading f bytes) reads (λ text. ((so.strictly text).1, (so.strictly text).0)) Strict r old new puts
+encoding_put f bytes reads reads_lossily so Lossy r old new puts =
+    same_reading (λ text. text ≡ reading f bytes) reads_lossily (λ text. ((so.lossily text).1, (so.lossily text).0)) Lossy r old new puts

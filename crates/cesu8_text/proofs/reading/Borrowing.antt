@@ -1,10 +1,10 @@
 -- When a decoder may give its input as the text, and that it may not elsewhere.
-use Rattle.std.proofs.Common.{◌≡◌, ◌≢◌, ℕ, ◌↔◌, false, List, IsTrue, sym, subst, inr}
+use Rattle.std.proofs.Common.{◌≡◌, ◌≢◌, ℕ, ◌↔◌, false, List, IsTrue, sym, subst}
 use Rattle.std.proofs.lemmas.Bool.{false≢true}
 use Rattle.std.specs.Str.{chars, IsUtf8}
 use Rattle.cesu8_text.specs.Encoding.{Flavor, NeedsEncoding}
-use Rattle.cesu8_text.specs.Reading.{IsStrictReading, IsLenientReading}
-use Rattle.cesu8_text.proofs.StdUtf8.{IsUtf8Of_chars, not_utf8_of}
+use Rattle.cesu8_text.specs.Reading.{IsStrictReading}
+use Rattle.cesu8_text.proofs.StdUtf8.{IsUtf8Of_chars}
 use Rattle.cesu8_text.specs.Class.{IsUnchangedUtf8}
 use Rattle.cesu8_text.proofs.encoding.NeedsEncoding.{needs_by_bytes, encoding_is_bytes}
 
@@ -17,11 +17,7 @@ unchanged_reading f bytes text equal unchanged =
     subst (λ t. IsStrictReading f bytes (chars t)) (sym equal)
     ((IsUtf8Of_chars bytes unchanged.0).0, encoding_is_bytes f bytes unchanged.0 needs_none)
 
--- Where the bytes are no UTF-8, the strict reading is the lenient one,
-pub built_lenient : (f : Flavor) (bytes text : List ℕ) → ¬ (IsUtf8 bytes) → IsStrictReading f bytes text → IsLenientReading f bytes text
-built_lenient f bytes text not_utf8 reads = inr (not_utf8_of bytes not_utf8, reads)
-
--- and no text is the input.
+-- Where the bytes are no UTF-8, no text is the input.
 pub not_utf8_differs : (bytes text : List ℕ) → ¬ (IsUtf8 bytes) → IsUtf8 text → text ≢ bytes
 not_utf8_differs bytes text not_utf8 is_utf8 equal = not_utf8 (subst IsUtf8 equal is_utf8)
 

@@ -4,9 +4,9 @@ use Rattle.std.proofs.Common.{◌≡◌, ℕ, ◌+◌, ◌*◌, ◌/◌, ◌%◌
 use Rattle.std.specs.Str.{chars, IsUtf8}
 use Rattle.cesu8_text.specs.Text.{IsScalarValue, IsText, utf8_of, utf8}
 use Rattle.cesu8_text.specs.Encoding.{Flavor, Cesu8, Mutf8, encoding, IsEncodedOtherwise, NeedsEncoding}
-use Rattle.cesu8_text.specs.Reading.{NoneBegins, reading, lossy_length, IsLenientLossyReading}
+use Rattle.cesu8_text.specs.Reading.{NoneBegins, reading, lossy_length}
 use Rattle.cesu8_text.specs.Class.{IsUnchangedUtf8}
-use Rattle.cesu8_text.proofs.StdUtf8.{IsUtf8Of_chars, not_utf8_of}
+use Rattle.cesu8_text.proofs.StdUtf8.{IsUtf8Of_chars}
 use Rattle.cesu8_text.proofs.text.Shapes.{Shape, one, two, three, pair, shape, utf8_of_one, utf8_of_pair}
 use Rattle.cesu8_text.proofs.encoding.Lengths.{Change, same, longer, change, not_otherwise}
 use Rattle.cesu8_text.proofs.reading.Borrowing.{unchanged_reading}
@@ -119,7 +119,3 @@ pub unchanged_lossy : (f : Flavor) (bytes text : List ℕ) → text ≡ bytes �
 unchanged_lossy f bytes text equal unchanged =
     let strict = unchanged_reading f bytes text equal unchanged in
     sym (ap (reading f) (sym strict.1) ∙ reading_encoding f (chars text) strict.0)
-
--- Where the bytes are no UTF-8, the lenient reading is the lossy one.
-pub built_lenient_lossy : (f : Flavor) (bytes text : List ℕ) → ¬ (IsUtf8 bytes) → text ≡ reading f bytes → IsLenientLossyReading f bytes text
-built_lenient_lossy f bytes text not_utf8 reads = inr (not_utf8_of bytes not_utf8, reads)

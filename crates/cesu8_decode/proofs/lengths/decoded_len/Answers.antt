@@ -1,17 +1,17 @@
 use Rattle.std.proofs.Common.{◌≡◌, ℕ, refl, arith, length, Option, Some, None, IfNone}
-use Rattle.std.proofs.lemmas.Bool.{iff_false}
 use Rattle.std.proofs.lemmas.Option.{IfSome_then}
 use Rattle.cesu8_text.specs.Reading.{IsStrictReading, reading, lossy_length}
+use Rattle.cesu8_text.proofs.reading.KeptTexts.{encoding_texts}
 use Rattle.cesu8_bytes.specs.declared.options.Strictness.TheVariants.{Strict}
-use Rattle.cesu8_decode.proofs.chunks.SliceReadings.{only_unchanged, of_length, strict_no_longer}
+use Rattle.cesu8_decode.proofs.chunks.SliceReadings.{only_kept, of_length, strict_no_longer}
 use Rattle.cesu8_decode.proofs.lengths.decoded_len.Goals as goal
 
-pub returns-then-is_utf8-clause-some : goal.returns-then-is_utf8-clause-some
-returns-then-is_utf8-clause-some g c =
+pub returns-in-Text-clause-some : goal.returns-in-Text-clause-some
+returns-in-Text-clause-some g c =
     let f = g.F.Flavor.flavor in
     let bytes = c.args.bytes.now in
     of_length (IsStrictReading f bytes) (λ n. length bytes ≡ n) _ bytes
-    (only_unchanged f Strict bytes (c.is_utf8.ensures.0 c.if-is_utf8.true, iff_false c.contains_changed.ensures c.if-not-contains_changed.true)) refl
+    (only_kept f bytes _ _ _ (encoding_texts f bytes) Strict c.in-Text.ensures) refl
 
 -- The lossy reading is the strict one, and its length fits.
 pub returns-clause-some : goal.returns-clause-some

@@ -1,24 +1,25 @@
-use Rattle.std.proofs.Common.{rules, sym, subst}
+use Rattle.std.proofs.Common.{rules, ap, sym, subst}
 use Rattle.std.specs.Str.{chars, IsUtf8}
 use Rattle.std.specs.String.{string_bytes}
 use Rattle.std.proofs.lemmas.Str.{IsUtf8-string_bytes}
 use Rattle.cesu8_text.proofs.reading.Borrowing.{never_borrowed}
 use Rattle.cesu8_text.proofs.reading.LossyBorrowing.{length_of_reading, changed_reading}
-use Rattle.simd_cesu8.proofs.KnownTexts.{not_kept_by}
+use Rattle.cesu8_bytes.proofs.lists.Looks.{not_kept_by}
 use Rattle.simd_cesu8.proofs.borrow_or_build.decode_lossy_other.Goals as goal
 
 pub known_text-requires : goal.known_text-requires
-known_text-requires g c = g.met.A.Accepts.is_utf8 g.F.Flavor.flavor c.args.bytes.now c.in-Text.ensures
+known_text-requires g c = (g.met.A.Accepts.known g.F.Flavor.flavor c.args.bytes.now).is_utf8 c.in-Text.ensures
 
 pub returns-in-Text : goal.returns-in-Text
 returns-in-Text g c =
     let f = g.F.Flavor.flavor in
     let bytes = c.args.bytes.now in
-    let reads = subst (λ text. g.A.Accepts.reads_lossily f bytes (chars text)) (sym c.known_text.ensures) (c.requires.kept c.in-Text.ensures) in
+    let known = g.met.A.Accepts.known f bytes in
+    let reads = (known.kept_lossily (chars c.known_text.result.now) c.in-Text.ensures).1 (ap chars c.known_text.ensures) in
     record {
       reading = reads;
       text_length = λ exact. length_of_reading f bytes c.known_text.result.now
-          (subst IsUtf8 (sym c.known_text.ensures) (g.met.A.Accepts.is_utf8 f bytes c.in-Text.ensures)) (exact (chars c.known_text.result.now) reads);
+          (subst IsUtf8 (sym c.known_text.ensures) (known.is_utf8 c.in-Text.ensures)) (exact (chars c.known_text.result.now) reads);
       borrowed = search rules;
       borrowed_where = search rules;
       succeeds = search rules;
@@ -31,11 +32,12 @@ returns g c =
     let bytes = c.args.bytes.now in
     let built = string_bytes c.in_ok-built.built in
     let is_utf8 = IsUtf8-string_bytes c.in_ok-built.built in
-    let not_kept = not_kept_by f _ bytes c.look.result (g.met.A.Accepts.is_utf8 f bytes) c.look.ensures c.in-NoEncoding.is in
+    let known = g.met.A.Accepts.known f bytes in
+    let not_kept = not_kept_by f _ bytes c.look-look.result known.is_utf8 c.look-look.ensures c.in_default.not-Text in
     record {
-      reading = c.requires.built (chars built) not_kept c.in_ok-built.ensures.text;
+      reading = ((known.other not_kept).lossily (chars built)).1 c.in_ok-built.ensures.text;
       text_length = λ exact. length_of_reading f bytes built is_utf8 c.in_ok-built.ensures.text;
-      borrowed = never_borrowed (changed_reading f bytes built (λ unchanged. not_kept (c.requires.unchanged unchanged)) is_utf8 c.in_ok-built.ensures.text);
+      borrowed = never_borrowed (changed_reading f bytes built (λ unchanged. not_kept (known.unchanged unchanged)) is_utf8 c.in_ok-built.ensures.text);
       borrowed_where = never_borrowed not_kept;
       succeeds = search rules;
       capacity = search rules;

@@ -1,0 +1,68 @@
+-- What is known of the texts of bytes, by what a call takes.
+use Rattle.std.proofs.Common.{◌≡◌, ℕ, ◌↔◌, ◌⊎◌, inl, inr, ⊎_elim, List, refl, sym, ap, ◌∙◌, subst}
+use Rattle.std.specs.Str.{chars, IsUtf8}
+use Rattle.cesu8_text.specs.Text.{IsUtf8Of}
+use Rattle.cesu8_text.specs.Encoding.{Flavor}
+use Rattle.cesu8_text.specs.Class.{IsUnchangedUtf8}
+use Rattle.cesu8_text.specs.Reading.{IsStrictReading, IsLenientReading, reading, IsLenientLossyReading}
+use Rattle.cesu8_text.specs.Kept.{KnowsTexts, ReadsEncoding}
+use Rattle.cesu8_text.proofs.StdUtf8.{IsUtf8Of_chars, chars_utf8, not_utf8_of}
+use Rattle.cesu8_text.proofs.reading.EncodedTexts.{reading_encoding}
+use Rattle.cesu8_text.proofs.reading.Borrowing.{unchanged_reading}
+use Rattle.cesu8_text.proofs.reading.LossyBorrowing.{unchanged_lossy}
+
+-- Bytes have one strict reading.
+pub strict_only : (f : Flavor) (bytes text other : List ℕ) → IsStrictReading f bytes text → IsStrictReading f bytes other → other ≡ text
+strict_only f bytes text other reads also =
+    sym (reading_encoding f other also.0) ∙ ap (reading f) (also.1 ∙ sym reads.1) ∙ reading_encoding f text reads.0
+
+-- A call that takes the encoding alone reads all bytes so.
+pub encoding_alone : (f : Flavor) (bytes : List ℕ) → ReadsEncoding f bytes (IsStrictReading f bytes) (λ text. text ≡ reading f bytes)
+encoding_alone f bytes = record {
+  strictly = λ text. ((λ reads. reads), (λ reads. reads));
+  lossily = λ text. ((λ is. is), (λ is. is));
+}
+
+-- To it UTF-8 in which nothing changes is that of its characters.
+pub encoding_texts : (f : Flavor) (bytes : List ℕ) →
+    KnowsTexts f bytes (IsUnchangedUtf8 f bytes) (IsStrictReading f bytes) (λ text. text ≡ reading f bytes)
+encoding_texts f bytes = record {
+  is_utf8 = λ kept. kept.0;
+  unchanged = λ unchanged. unchanged;
+  kept = λ text kept.
+      let reads = unchanged_reading f bytes bytes refl kept in
+      (strict_only f bytes (chars bytes) text reads, λ same. subst (IsStrictReading f bytes) (sym same) reads);
+  kept_lossily = λ text kept.
+      let reads = unchanged_lossy f bytes bytes refl kept in
+      ((λ is. is ∙ sym reads), (λ same. same ∙ reads));
+  other = λ not_kept. encoding_alone f bytes;
+}
+
+-- Either the text of bytes that are UTF-8, or of others what else they are read as.
+module _ (bytes text : List ℕ) (P : Type 0) where
+  by_chars : IsUtf8 bytes → (IsUtf8Of text bytes ⊎ (((other : List ℕ) → ¬ (IsUtf8Of other bytes)) × P)) ↔ text ≡ chars bytes
+  by_chars is_utf8 =
+      let of_chars = IsUtf8Of_chars bytes is_utf8 in (
+        (λ reads. ⊎_elim (λ of. sym (chars_utf8 text of.0) ∙ ap chars of.1) (λ other. absurd (other.0 (chars bytes) of_chars)) reads),
+        (λ same. inl (subst (λ t. IsUtf8Of t bytes) (sym same) of_chars)),
+      )
+
+  by_other : ¬ (IsUtf8 bytes) → (IsUtf8Of text bytes ⊎ (((other : List ℕ) → ¬ (IsUtf8Of other bytes)) × P)) ↔ P
+  by_other not_utf8 = (
+    (λ reads. ⊎_elim (λ of. absurd (not_utf8_of bytes not_utf8 text of)) (λ other. other.1) reads),
+    (λ holds. inr (not_utf8_of bytes not_utf8, holds)),
+  )
+
+-- To a call that takes UTF-8 as a whole, or else the encoding, so is all UTF-8.
+pub lenient_texts : (f : Flavor) (bytes : List ℕ) →
+    KnowsTexts f bytes (IsUtf8 bytes) (IsLenientReading f bytes) (IsLenientLossyReading f bytes)
+lenient_texts f bytes = record {
+  is_utf8 = λ kept. kept;
+  unchanged = λ unchanged. unchanged.0;
+  kept = λ text kept. by_chars bytes text (IsStrictReading f bytes text) kept;
+  kept_lossily = λ text kept. by_chars bytes text (text ≡ reading f bytes) kept;
+  other = λ not_kept. record {
+    strictly = λ text. by_other bytes text (IsStrictReading f bytes text) not_kept;
+    lossily = λ text. by_other bytes text (text ≡ reading f bytes) not_kept;
+  };
+}
