@@ -3,8 +3,8 @@
 ghost use Rattle.cesu8_decode.specs.PutReadings.{PutsText, ReadsAs};
 
 use crate::refusal::Unwritten;
-use crate::slices::{put_by, put_text};
-use crate::way::way_before_looks;
+use crate::slices::{put_few, put_text};
+use crate::way::is_read_before_looks;
 use cesu8_bytes::flavor::Flavor;
 use cesu8_bytes::looks::{Accepts, Look};
 use cesu8_bytes::options::Strictness;
@@ -36,10 +36,8 @@ fn put_other<F: Flavor, A: Accepts>(
     ensures { PutsText strictness (ReadsAs strictness (A.reads F.flavor bytes.now)
         (A.reads_lossily F.flavor bytes.now)) result buf.old buf.new }
 {
-    if A::is_encoding_alone() {
-        if let Some(way) = way_before_looks(bytes) {
-            return put_by::<F>(way, strictness, bytes, buf);
-        }
+    if A::is_encoding_alone() && is_read_before_looks(bytes) {
+        return put_few::<F>(strictness, bytes, buf);
     }
     let look = A::look_to_copy::<F>(bytes);
     match look {

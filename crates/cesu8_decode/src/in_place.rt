@@ -17,7 +17,7 @@ use super::decoded::{Decoded, refused};
 use super::last_blocks::{LastBlocks, write_last};
 use super::packing::WIDEST;
 use super::reading::{LossyReading, Reading, StrictReading};
-use super::way::{LONG_WINDOW, MEDIUM_WINDOW, SHORT_WINDOW};
+use super::way::{LONG_WINDOW, SHORT_WINDOW};
 use super::whole_blocks::{FOLLOWING, SPARE, last_end, whole_count, write_whole};
 use cesu8_bytes::flavor::Flavor;
 use cesu8_bytes::options::Strictness;
@@ -28,8 +28,6 @@ use std::alloc::Allocator;
 
 // The lengths of buffers for the lossy reading of so many bytes.
 pub const SHORT_TEXT: usize = WIDEST * SHORT_WINDOW + SPARE;
-
-pub const MEDIUM_TEXT: usize = WIDEST * MEDIUM_WINDOW + SPARE;
 
 pub const LONG_TEXT: usize = WIDEST * LONG_WINDOW + SPARE;
 

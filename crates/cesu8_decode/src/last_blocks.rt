@@ -11,7 +11,7 @@ use super::decoded::{Decoded, refused};
 use super::offsets::{BEHIND, BLOCK};
 use super::packing::WELL_FORMED_ROOM;
 use super::reading::{Block, LossyReading, Reading, StrictReading};
-use super::way::SHORT_WINDOW;
+use super::way::FEW_BYTES;
 use super::whole_blocks::{FOLLOWING, Whole};
 use super::window::{BEFORE, boundary, load};
 use cesu8_bytes::flavor::Flavor;
@@ -19,10 +19,10 @@ use cesu8_bytes::put::put;
 use std::simd::prelude::*;
 
 /// The length of an array for the last bytes, or for all if they are few. It takes `BLOCK` bytes less.
-const LAST: usize = SHORT_WINDOW + BLOCK;
+const LAST: usize = FEW_BYTES + BLOCK;
 
 /// The length of an array for the text of these in strict reading.
-const LAST_TEXT: usize = SHORT_WINDOW + WELL_FORMED_ROOM;
+const LAST_TEXT: usize = FEW_BYTES + WELL_FORMED_ROOM;
 
 /// Writes what becomes of the last of so many bytes, from an array and by an array. If more bytes
 /// follow, it ends at a character boundary.
@@ -33,7 +33,7 @@ pub fn write_last<F: Flavor, S: LastBlocks>(
     most: usize,
     out: &mut [u8],
 ) -> Decoded
-    requires bytes { (whole.read ≤ most) × (most ≤ whole.read + SHORT_WINDOW)
+    requires bytes { (whole.read ≤ most) × (most ≤ whole.read + FEW_BYTES)
         × (most ≤ length bytes.now) }
     requires before { whole.read < BEFORE → whole.read ≡ 0 }
     requires following { most < length bytes.now → whole.read + FOLLOWING ≤ most }
@@ -100,7 +100,7 @@ pub trait LastBlocks: Reading {
     ) -> Block
         requires window { BLOCK * ((count + BLOCK - 1) / BLOCK) + 2 * BEHIND ≤ length window.now }
         requires before { AreFiveKinds F.flavor window.now 0 before (BLOCK - BEHIND) }
-        requires count { count ≤ SHORT_WINDOW }
+        requires count { count ≤ FEW_BYTES }
         requires strict { Self.which ≡ Strict → end + count ≤ length out.old }
         requires lossy { Self.which ≡ Lossy → HasRoomBehind Lossy count end (length out.old) }
         ensures bytes { result.is_refused ≡ false → take result.end out.new

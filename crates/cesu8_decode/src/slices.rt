@@ -10,28 +10,25 @@ ghost use Rattle.cesu8_text.specs.Reading.{reading, lossy_length};
 ghost use Rattle.cesu8_text.specs.Slices.{StandsAtFront};
 ghost use Rattle.cesu8_text.specs.Text.{utf8};
 ghost use Rattle.cesu8_bytes.specs.declared.options.Strictness.TheVariants.{Strict, Lossy};
-ghost use Rattle.cesu8_decode.specs.Decoding.{ReadsAll, room_for};
+ghost use Rattle.cesu8_decode.specs.Decoding.{ReadsAll, most_written, room_for};
 ghost use Rattle.cesu8_decode.specs.PutReadings.{PutsReading};
-ghost use Rattle.cesu8_decode.specs.Ways.{IsWayOf};
 
 use crate::characters::write_characters;
 use crate::decoded::Decoded;
 use crate::ill_formed::is_ill_formed;
-use crate::in_place::{LONG_TEXT, MEDIUM_TEXT, SHORT_TEXT, write_text};
+use crate::in_place::{LONG_TEXT, SHORT_TEXT, write_text};
 use crate::lengths::lossy_len;
 use crate::packing::WIDEST;
 use crate::refusal::{Unwritten, is_refused};
-use crate::way::{FEWEST, LONG_WINDOW, MEDIUM_WINDOW, SHORT_WINDOW, Way, way_of};
+use crate::way::{FEW_BYTES, LONG_WINDOW, SHORT_WINDOW, Way, way_of};
 use cesu8_bytes::flavor::Flavor;
 use cesu8_bytes::looks::Look;
 use cesu8_bytes::options::Strictness;
 use cesu8_bytes::put::put;
 use cesu8_bytes::writers::{NoRoom, copy_to_slice};
 
-// The lengths of a buffer for the text of bytes that are read one character after another.
-pub const FEWEST_TEXT: usize = WIDEST * FEWEST;
-
-pub const CHARACTERS_TEXT: usize = WIDEST * SHORT_WINDOW;
+/// The length of a buffer for the text of bytes that are read one character after another.
+pub const CHARACTERS_TEXT: usize = WIDEST * FEW_BYTES;
 
 /// Writes the text of the bytes to a caller's buffer, if it fits.
 #[inline(never)]
@@ -44,40 +41,40 @@ pub fn put_text<F: Flavor>(
     requires { strictness ≡ Strict → ¬ (IsUtf8 bytes.now) }
     ensures { PutsReading F.flavor strictness bytes.now result buf.old buf.new }
 {
-    put_by::<F>(way_of::<F>(strictness, look, bytes), strictness, bytes, buf)
-}
-
-/// Writes the text of the bytes by a way that fits them.
-#[inline(always)]
-pub fn put_by<F: Flavor>(
-    way: Way,
-    strictness: Strictness,
-    bytes: &[u8],
-    buf: &mut [u8],
-) -> Result<usize, Unwritten>
-    requires { IsWayOf F.flavor strictness bytes.now way }
-    ensures { PutsReading F.flavor strictness bytes.now result buf.old buf.new }
-{
-    match way {
-        Way::FewCharacters => put_characters::<F, FEWEST_TEXT>(strictness, bytes, buf),
-        Way::Characters => put_characters::<F, CHARACTERS_TEXT>(strictness, bytes, buf),
+    match way_of::<F>(strictness, look, bytes) {
+        Way::Characters => put_few::<F>(strictness, bytes, buf),
         Way::ShortWindow => put_window::<F, SHORT_WINDOW, SHORT_TEXT>(strictness, bytes, buf),
-        Way::MediumWindow => put_window::<F, MEDIUM_WINDOW, MEDIUM_TEXT>(strictness, bytes, buf),
         Way::LongWindow => put_window::<F, LONG_WINDOW, LONG_TEXT>(strictness, bytes, buf),
         Way::Chunks => put_chunks::<F>(strictness, bytes, buf),
         Way::Refused => Err(Unwritten::NoText),
     }
 }
 
-/// Writes the text of a few bytes, one character after another, to an array of this length first.
-/// It is not inlined, so that the array is made only when it is called.
+/// Writes the text of a few bytes, one character after another, to an array first: in strict reading
+/// of as many bytes, since to clear more takes time.
+#[inline(always)]
+pub fn put_few<F: Flavor>(
+    strictness: Strictness,
+    bytes: &[u8],
+    buf: &mut [u8],
+) -> Result<usize, Unwritten>
+    requires { length bytes.now ≤ FEW_BYTES }
+    ensures { PutsReading F.flavor strictness bytes.now result buf.old buf.new }
+{
+    match strictness {
+        Strictness::Strict => put_characters::<F, FEW_BYTES>(strictness, bytes, buf),
+        Strictness::Lossy => put_characters::<F, CHARACTERS_TEXT>(strictness, bytes, buf),
+    }
+}
+
+/// Does so by an array of this length. It is not inlined, so that it is made only when it is called.
 #[inline(never)]
 fn put_characters<F: Flavor, const WRITTEN: usize>(
     strictness: Strictness,
     bytes: &[u8],
     buf: &mut [u8],
 ) -> Result<usize, Unwritten>
-    requires { (WIDEST * length bytes.now ≤ WRITTEN) × (WRITTEN ≤ CHARACTERS_TEXT) }
+    requires { (most_written strictness (length bytes.now) ≤ WRITTEN) × (WRITTEN ≤ LONG_TEXT) }
     ensures { PutsReading F.flavor strictness bytes.now result buf.old buf.new }
 {
     let mut written = [0; WRITTEN];

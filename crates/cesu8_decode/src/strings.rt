@@ -12,11 +12,11 @@ ghost use Rattle.cesu8_bytes.specs.declared.options.Strictness.TheVariants.{Loss
 ghost use Rattle.cesu8_decode.specs.Decoding.{BuildsReading, WritesStrictly, room_for};
 
 use crate::characters::write_characters;
-use crate::in_place::{LONG_TEXT, MEDIUM_TEXT, SHORT_TEXT, append_strictly, write_text};
+use crate::in_place::{LONG_TEXT, SHORT_TEXT, append_strictly, write_text};
 use crate::lengths::lossy_len;
 use crate::packing::WIDEST;
-use crate::slices::{CHARACTERS_TEXT, FEWEST_TEXT};
-use crate::way::{Way, way_of};
+use crate::slices::CHARACTERS_TEXT;
+use crate::way::{FEW_BYTES, Way, way_of};
 use cesu8_bytes::copies::copy;
 use cesu8_bytes::flavor::Flavor;
 use cesu8_bytes::looks::Look;
@@ -38,7 +38,7 @@ pub fn write_strictly<F: Flavor, A: Allocator + Copy>(
 {
     match way_of::<F>(Strictness::Strict, look, bytes) {
         Way::Refused => None,
-        Way::FewCharacters | Way::Characters => write_few::<F, A>(bytes, empty),
+        Way::Characters => write_few::<F, A>(bytes, empty),
         _ => append_strictly::<F, A>(bytes, empty),
     }
 }
@@ -53,10 +53,8 @@ pub fn build_lossily<F: Flavor, A: Allocator + Copy>(
     ensures { BuildsReading F.flavor bytes.now result }
 {
     match way_of::<F>(Strictness::Lossy, look, bytes) {
-        Way::FewCharacters => build_characters::<F, FEWEST_TEXT, A>(alloc, bytes),
-        Way::Characters => build_characters::<F, CHARACTERS_TEXT, A>(alloc, bytes),
+        Way::Characters => build_characters::<F, A>(alloc, bytes),
         Way::ShortWindow => build_window::<F, SHORT_TEXT, A>(alloc, bytes),
-        Way::MediumWindow => build_window::<F, MEDIUM_TEXT, A>(alloc, bytes),
         Way::LongWindow => build_window::<F, LONG_TEXT, A>(alloc, bytes),
         Way::Chunks | Way::Refused => build_chunks::<F, A>(alloc, bytes),
     }
@@ -108,17 +106,16 @@ fn put_behind<A: Allocator + Copy>(bytes: &[u8], out: &mut Vec<u8, A>)
     out[end..].copy_from_slice(bytes);
 }
 
-/// Returns the lossy reading of a few bytes, read one character after another to an array of this
-/// length.
+/// Returns the lossy reading of a few bytes, read one character after another to an array.
 #[inline(never)]
-fn build_characters<F: Flavor, const WRITTEN: usize, A: Allocator + Copy>(
+fn build_characters<F: Flavor, A: Allocator + Copy>(
     alloc: A,
     bytes: &[u8],
 ) -> Result<Vec<u8, A>, AllocError>
-    requires { (WIDEST * length bytes.now ≤ WRITTEN) × (WRITTEN ≤ CHARACTERS_TEXT) }
+    requires { length bytes.now ≤ FEW_BYTES }
     ensures { BuildsReading F.flavor bytes.now result }
 {
-    let mut written = [0; WRITTEN];
+    let mut written = [0; CHARACTERS_TEXT];
     let decoded = write_characters::<F>(Strictness::Lossy, bytes, &mut written);
     copy(alloc, &written[..decoded.end])
 }

@@ -47,10 +47,8 @@
 //! Other lengths in this crate decide no way: `characters` pads the last bytes, and `in_place` and
 //! `sums` the last block. `looks` of `cesu8_bytes` says what is seen of the bytes before.
 
-ghost use Rattle.std.specs.Prelude.{◌≡◌, ◌≤◌, length, IsTrue, IsUtf8, IfSome};
-ghost use Rattle.cesu8_text.specs.Encoding.{Flavor as AnyFlavor};
+ghost use Rattle.std.specs.Prelude.{◌≡◌, ◌≤◌, length, IsTrue, IsUtf8};
 ghost use Rattle.cesu8_text.specs.Reading.{HasNoStrictReading};
-ghost use Rattle.cesu8_bytes.specs.declared.options.Strictness.{Strictness};
 ghost use Rattle.cesu8_bytes.specs.declared.options.Strictness.TheVariants.{Strict};
 ghost use Rattle.cesu8_decode.specs.Ways.{IsWayOf};
 
@@ -59,39 +57,41 @@ use super::ill_formed::is_ill_formed_in_prefix;
 use cesu8_bytes::flavor::Flavor;
 use cesu8_bytes::implementation::class::{Either, NonAscii, Null};
 use cesu8_bytes::implementation::short::count_in_ends;
-use cesu8_bytes::looks::{Look, may_be_encoding};
+use cesu8_bytes::looks::{Look, may_be_encoding, shows_no_text};
 use cesu8_bytes::options::Strictness;
 
 /// Which way bytes are decoded.
 #[derive(Clone, Copy)]
 pub enum Way {
-    FewCharacters,
     Characters,
     ShortWindow,
-    MediumWindow,
     LongWindow,
     Chunks,
     Refused,
 }
 
-/// The most bytes that are read one character after another, and the most in a short window.
-/// `Ways` of `specs` has this number too.
-pub const SHORT_WINDOW: usize = 96;
+/// The most bytes that are read one character after another, and that are left to the last blocks.
+/// `Ways` of `specs` has these numbers too.
+pub const FEW_BYTES: usize = 96;
 
-/// So few bytes are read one character after another with more others among them.
-pub const FEWEST: usize = 24;
-
-/// The most bytes that are read in a window of medium length.
-pub const MEDIUM_WINDOW: usize = 256;
+/// The most bytes that are read in a short window.
+pub const SHORT_WINDOW: usize = 256;
 
 /// The most bytes that are read in any window.
 pub const LONG_WINDOW: usize = 1024;
 
-/// So many of the fewest bytes may be other than 01 to 7F. Each may be a step of its own.
+/// So few bytes are read one character after another with more others among them.
+const FEWER_BYTES: usize = 16;
+
+/// How many of these may be other than 01 to 7F. Each may be a step of its own.
 const OTHERS: usize = 12;
 
-/// Of more bytes so many may be, as many as a surrogate pair has.
+/// How many of more bytes may be: as many as a surrogate pair has.
 const FEWER_OTHERS: usize = 6;
+
+/// So few bytes of which one is ED or C0 are read one character after another in strict reading, or
+/// where nothing has been seen of them.
+const MOSTLY_ENCODING: usize = 24;
 
 /// Below this length bytes are read in no more time than the looks at them take.
 const READ_AT_ONCE: usize = 64;
@@ -99,19 +99,22 @@ const READ_AT_ONCE: usize = 64;
 /// 00, or 80 (hexadecimal) or more.
 type NullOrNonAscii = Either<Null, NonAscii>;
 
-/// Returns which way the bytes go.
+/// Returns which way the bytes go, by what a look has shown of them.
 #[inline(always)]
 pub fn way_of<F: Flavor>(strictness: Strictness, look: Look, bytes: &[u8]) -> Way
     requires { strictness ≡ Strict → ¬ (IsUtf8 bytes.now) }
     ensures { IsWayOf F.flavor strictness bytes.now result }
 {
     let is_strict = matches!(strictness, Strictness::Strict);
-    let may_be_refused = is_strict && !is_encoding(look);
-    if let Some(way) = way_of_few_others(look, bytes) {
-        return if may_be_refused && has_no_other_lead::<F>(bytes) {
+    let is_encoding = is_strict && matches!(look, Look::Encoding);
+    if is_encoding && bytes.len() <= MOSTLY_ENCODING {
+        return Way::Characters;
+    }
+    if are_few_others(bytes) {
+        return if is_strict && !is_encoding && has_no_other_lead::<F>(bytes) {
             Way::Refused
         } else {
-            way
+            Way::Characters
         };
     }
     if is_strict && shows_no_encoding::<F>(bytes) {
@@ -119,9 +122,6 @@ pub fn way_of<F: Flavor>(strictness: Strictness, look: Look, bytes: &[u8]) -> Wa
     }
     if bytes.len() <= SHORT_WINDOW {
         return Way::ShortWindow;
-    }
-    if bytes.len() <= MEDIUM_WINDOW {
-        return Way::MediumWindow;
     }
     if is_strict && is_ill_formed_in_prefix::<F>(bytes) {
         return Way::Refused;
@@ -132,18 +132,29 @@ pub fn way_of<F: Flavor>(strictness: Strictness, look: Look, bytes: &[u8]) -> Wa
     Way::LongWindow
 }
 
-/// Returns which way bytes go that are read one character after another.
+/// Returns whether bytes are read one character after another before anything is seen of them: a few
+/// of which hardly any are not ASCII, or fewer that are most likely an encoding.
 #[inline(always)]
-fn way_of_few_others(look: Look, bytes: &[u8]) -> Option<Way>
-    ensures { (f : AnyFlavor) (which : Strictness) → IfSome result (IsWayOf f which bytes.now) }
+pub fn is_read_before_looks(bytes: &[u8]) -> bool
+    ensures { IsTrue result → length bytes.now ≤ FEW_BYTES }
 {
-    if bytes.len() <= FEWEST && (is_encoding(look) || has_few_others(bytes, OTHERS)) {
-        return Some(Way::FewCharacters);
-    }
-    if has_few_others(bytes, FEWER_OTHERS) {
-        return Some(Way::Characters);
-    }
-    None
+    bytes.len() < READ_AT_ONCE
+        && !shows_no_text(bytes)
+        && (has_few_others(bytes, FEWER_OTHERS)
+            || bytes.len() <= MOSTLY_ENCODING && may_be_encoding(bytes))
+}
+
+/// Returns whether the bytes are few, and hardly any of them other than 01 to 7F.
+#[inline(always)]
+fn are_few_others(bytes: &[u8]) -> bool
+    ensures { IsTrue result → length bytes.now ≤ FEW_BYTES }
+{
+    let most = if bytes.len() <= FEWER_BYTES {
+        OTHERS
+    } else {
+        FEWER_OTHERS
+    };
+    has_few_others(bytes, most)
 }
 
 /// Returns whether bytes that are not UTF-8 show that they are no encoding, by their first lead byte,
@@ -169,36 +180,11 @@ fn has_no_other_lead<F: Flavor>(bytes: &[u8]) -> bool
     !may_be_encoding(bytes)
 }
 
-/// Returns which way bytes go that are decoded before they are looked at: a few of which hardly any are
-/// not ASCII, or still fewer that are most likely an encoding.
-#[inline(always)]
-pub fn way_before_looks(bytes: &[u8]) -> Option<Way>
-    ensures { (f : AnyFlavor) (which : Strictness) → IfSome result (IsWayOf f which bytes.now) }
-{
-    if bytes.len() >= READ_AT_ONCE {
-        return None;
-    }
-    let is_read = has_few_others(bytes, FEWER_OTHERS);
-    if bytes.len() > FEWEST {
-        return if is_read { Some(Way::Characters) } else { None };
-    }
-    if is_read || may_be_encoding(bytes) {
-        return Some(Way::FewCharacters);
-    }
-    None
-}
-
-/// Returns whether a look has shown that bytes may be an encoding, and are not UTF-8.
-#[inline(always)]
-fn is_encoding(look: Look) -> bool {
-    matches!(look, Look::Encoding)
-}
-
 /// Returns whether the bytes are few, and at most so many of them other than 01 to 7F.
 #[inline(always)]
 fn has_few_others(bytes: &[u8], most: usize) -> bool
     requires { most ≤ OTHERS }
-    ensures { IsTrue result → length bytes.now ≤ SHORT_WINDOW }
+    ensures { IsTrue result → length bytes.now ≤ FEW_BYTES }
 {
     // Two vectors of each width have all bytes. The count decides speed alone.
     let others = match bytes.len() {
@@ -207,7 +193,7 @@ fn has_few_others(bytes: &[u8], most: usize) -> bool
         9..=16 => count_in_ends::<NullOrNonAscii, 8>(bytes),
         17..=32 => count_in_ends::<NullOrNonAscii, 16>(bytes),
         33..=64 => count_in_ends::<NullOrNonAscii, 32>(bytes),
-        65..=SHORT_WINDOW => count_in_ends::<NullOrNonAscii, 64>(bytes),
+        65..=FEW_BYTES => count_in_ends::<NullOrNonAscii, 64>(bytes),
         _ => return false,
     };
     others <= most

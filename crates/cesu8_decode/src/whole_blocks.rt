@@ -10,7 +10,7 @@ use super::block::write_block;
 use super::offsets::{BEHIND, BLOCK, REACH};
 use super::packing::WIDEST;
 use super::reading::{Block, Reading};
-use super::way::SHORT_WINDOW;
+use super::way::FEW_BYTES;
 use super::window::{BEFORE, load};
 use cesu8_bytes::flavor::Flavor;
 use cesu8_bytes::options::Strictness;
@@ -32,10 +32,10 @@ pub const SPARE: usize = 208;
 #[inline(always)]
 pub fn whole_count(len: usize) -> usize
     ensures some { 0 < result → BLOCK * result + FOLLOWING ≤ len }
-    ensures few { result ≡ 0 → len ≤ SHORT_WINDOW }
+    ensures few { result ≡ 0 → len ≤ FEW_BYTES }
     ensures rest { 0 < result → len < BLOCK * result + BLOCK + FOLLOWING }
 {
-    if len <= SHORT_WINDOW {
+    if len <= FEW_BYTES {
         return 0;
     }
     (len - FOLLOWING) / BLOCK

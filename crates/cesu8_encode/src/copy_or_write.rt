@@ -8,7 +8,7 @@ ghost use Rattle.cesu8_bytes.specs.Puts.{PutsAnswer};
 use crate::blocks::BLOCK_ENCODED;
 use crate::blockwise::write;
 use crate::few::write_few;
-use crate::way::is_block;
+use crate::way::{is_block, is_few};
 use cesu8_bytes::BLOCK;
 use cesu8_bytes::flavor::Flavor;
 use cesu8_bytes::lengths::encoded_len;
@@ -30,7 +30,7 @@ pub fn encode_to_slice<F: Flavor>(text: &str, buf: &mut [u8]) -> Result<usize, N
     put_in_place::<F>(text, buf)
 }
 
-/// Does so for a few bytes, of which the test and the copy then ask for no greater length.
+/// Does so for a block or less, of which the test and the copy then ask for no greater length.
 #[inline(always)]
 #[tactic(auto, using(cesu8_text::proofs::encoding::Lengths::length_encoding_chars))]
 fn put_short<F: Flavor>(text: &str, buf: &mut [u8]) -> Result<usize, NoRoom>
@@ -40,14 +40,14 @@ fn put_short<F: Flavor>(text: &str, buf: &mut [u8]) -> Result<usize, NoRoom>
     if !few_need_encoded::<F>(text) {
         return copy_to_slice(text.as_bytes(), buf);
     }
-    if 2 * text.len() <= buf.len() {
+    if is_few(text) && 2 * text.len() <= buf.len() {
         // It fits in any case, and what is behind it stays.
         return Ok(write_few::<F>(text, buf));
     }
     put_on_stack::<F>(text, buf)
 }
 
-/// Encodes a few bytes to the stack, and copies that.
+/// Encodes a block or less to the stack, and copies that.
 #[inline(never)]
 #[tactic(auto, using(cesu8_text::proofs::encoding::Lengths::length_encoding_chars))]
 fn put_on_stack<F: Flavor>(text: &str, buf: &mut [u8]) -> Result<usize, NoRoom>
@@ -55,7 +55,7 @@ fn put_on_stack<F: Flavor>(text: &str, buf: &mut [u8]) -> Result<usize, NoRoom>
     ensures { PutsAnswer (encoding F.flavor (chars text.now)) result buf.old buf.new }
 {
     let mut written = [0; BLOCK_ENCODED];
-    let len = write_few::<F>(text, &mut written);
+    let len = write::<F>(text, 0, &mut written);
     copy_to_slice(&written[..len], buf)
 }
 

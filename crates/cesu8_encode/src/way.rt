@@ -56,8 +56,8 @@ use cesu8_bytes::implementation::search::any_in_bytes;
 /// The most bytes of a text that is encoded to the stack before its length is known.
 pub const ON_STACK: usize = 128;
 
-/// The most bytes of a text that is encoded one change after another, but for slices.
-const FEW: usize = 16;
+/// The most bytes of a text that is encoded one change after another.
+const FEW: usize = 12;
 
 /// Returns whether a text is encoded one change after another.
 #[inline(always)]

@@ -15,11 +15,11 @@ returns-in-Text g c =
     (omega arith) c.map_err.ensures.cases c.copy_to_slice_by_call.ensures
 
 -- It is an encoding alone that is read before it is looked at.
-pub returns-in-Some : goal.returns-in-Some
-returns-in-Some g c =
+pub returns-then-is_read_before_looks : goal.returns-then-is_read_before_looks
+returns-then-is_read_before_looks g c =
     let f = g.F.Flavor.flavor in
     let bytes = c.args.bytes.now in
-    encoding_put f bytes _ _ (c.is_encoding_alone.ensures c.if-is_encoding_alone.true f bytes) c.args.strictness _ _ _ c.put_by.ensures
+    encoding_put f bytes _ _ (c.is_encoding_alone.ensures c.if-is_encoding_alone.true f bytes) c.args.strictness _ _ _ c.put_few.ensures
 
 pub returns-in-Lossy : goal.returns-in-Lossy
 returns-in-Lossy g c =
