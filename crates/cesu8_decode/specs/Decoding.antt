@@ -1,5 +1,5 @@
 -- What decoding a chunk at a time promises.
-use Rattle.std.specs.Prelude.{◌≡◌, ℕ, ◌+◌, ◌*◌, ◌/◌, ◌<◌, ◌≤◌, Bool, true, false, List, [], Vec, length, take, drop, vec_capacity, Option, IfSome, IfNone, Result, IfOk}
+use Rattle.std.specs.Prelude.{◌≡◌, ℕ, ◌+◌, ◌*◌, ◌/◌, ◌<◌, ◌≤◌, Bool, true, false, List, [], ◌++◌, Vec, length, take, drop, vec_capacity, Option, IfSome, IfNone, Result, IfOk}
 use Rattle.cesu8_text.specs.Text.{IsText}
 use Rattle.cesu8_text.specs.Reading.{reading, NoneBegins, lossy_length, HasNoStrictReading}
 use Rattle.cesu8_text.specs.Encoding.{Flavor, encoding}
@@ -98,3 +98,12 @@ pub record IsWrittenUpTo (f : Flavor) (which : Strictness) (bytes : List ℕ) (n
   pub well_formed : which ≡ Strict → is_refused ≡ false → (i : ℕ) → i < n → is_ill_formed_at f (window_of bytes) i ≡ false
   pub refused : is_refused ≡ true → (i : ℕ) × (i < length bytes) × (is_ill_formed_at f (window_of bytes) i ≡ true)
   pub lossy : which ≡ Lossy → is_refused ≡ false
+
+-- What becomes of the first n bytes of a window is written behind an end, or strict reading refuses
+-- some byte.
+pub record WritesWindow (f : Flavor) (which : Strictness) (window : List ℕ) (n : ℕ) (old : List ℕ) (end : ℕ) (new : List ℕ) (new_end : ℕ) (is_refused : Bool) : Type 0 where
+  pub bytes : is_refused ≡ false → take new_end new ≡ take end old ++ decoded f window 0 n
+  pub refused : is_refused ≡ true → (i : ℕ) × (i < n) × (is_ill_formed_at f window i ≡ true)
+  pub lossy : which ≡ Lossy → is_refused ≡ false
+  pub strict : which ≡ Strict → is_refused ≡ false → (i : ℕ) → i < n → is_ill_formed_at f window i ≡ false
+  pub len : length new ≡ length old

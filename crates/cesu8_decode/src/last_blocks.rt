@@ -2,8 +2,8 @@
 
 ghost use Rattle.std.specs.Prelude.{◌≡◌, ◌++◌, ◌+◌, ◌-◌, ◌*◌, ◌/◌, ◌<◌, ◌≤◌, ℕ, true, false, length, take, slice_index};
 ghost use Rattle.cesu8_bytes.specs.declared.options.Strictness.TheVariants.{Strict, Lossy};
-ghost use Rattle.cesu8_decode.specs.Decoding.{ReadsFirst, IsWrittenUpTo, HasRoomBehind, most_written};
-ghost use Rattle.cesu8_decode.specs.DecodedOffsets.{window_of, decoded, is_ill_formed_at, is_boundary_at};
+ghost use Rattle.cesu8_decode.specs.Decoding.{ReadsFirst, IsWrittenUpTo, WritesWindow, HasRoomBehind, most_written};
+ghost use Rattle.cesu8_decode.specs.DecodedOffsets.{window_of, is_boundary_at};
 ghost use Rattle.cesu8_decode.specs.DecodedLanes.{AreFiveKinds};
 
 use super::block::write_block;
@@ -103,15 +103,9 @@ pub trait LastBlocks: Reading {
         requires count { count ≤ FEW_BYTES }
         requires strict { Self.which ≡ Strict → end + count ≤ length out.old }
         requires lossy { Self.which ≡ Lossy → HasRoomBehind Lossy count end (length out.old) }
-        ensures bytes { result.is_refused ≡ false → take result.end out.new
-            ≡ take end out.old ++ decoded F.flavor window.now 0 count }
-        ensures refused { result.is_refused ≡ true → (i : ℕ) × (i < count)
-            × (is_ill_formed_at F.flavor window.now i ≡ true) }
-        ensures lossy { Self.which ≡ Lossy → result.is_refused ≡ false }
-        ensures strict { Self.which ≡ Strict → result.is_refused ≡ false
-            → (i : ℕ) → i < count → is_ill_formed_at F.flavor window.now i ≡ false }
-        ensures end { result.end ≤ length out.new }
-        ensures len { length out.new ≡ length out.old };
+        ensures text { WritesWindow F.flavor Self.which window.now count
+            out.old end out.new result.end result.is_refused }
+        ensures end { result.end ≤ length out.new };
 }
 
 /// By an array, since the text has no room behind it.
@@ -163,15 +157,9 @@ fn write_loaded<F: Flavor, S: Reading>(
     requires window { BLOCK * ((count + BLOCK - 1) / BLOCK) + 2 * BEHIND ≤ length window.now }
     requires before { AreFiveKinds F.flavor window.now 0 before (BLOCK - BEHIND) }
     requires room { HasRoomBehind S.which count end (length out.old) }
-    ensures bytes { result.is_refused ≡ false → take result.end out.new
-        ≡ take end out.old ++ decoded F.flavor window.now 0 count }
-    ensures refused { result.is_refused ≡ true → (i : ℕ) × (i < count)
-        × (is_ill_formed_at F.flavor window.now i ≡ true) }
-    ensures lossy { S.which ≡ Lossy → result.is_refused ≡ false }
-    ensures strict { S.which ≡ Strict → result.is_refused ≡ false
-        → (i : ℕ) → i < count → is_ill_formed_at F.flavor window.now i ≡ false }
+    ensures text { WritesWindow F.flavor S.which window.now count
+        out.old end out.new result.end result.is_refused }
     ensures end { result.end ≤ end + most_written S.which count }
-    ensures len { length out.new ≡ length out.old }
 {
     let mut at = 0;
     let mut block = Block {

@@ -27,8 +27,8 @@ returns-then-last-clause-first g c =
     (around_agrees c.load.new.window (window_of bytes) at (left + 10) c.last_len-left.ensures.around)
     (omega (arith, c.last_len-left.ensures.within, c.requires.bytes))
     (λ none. absurd (false≢true (sym none ∙ c.if-last.true)))
-    (λ some. let found = two.refused some in (found.0, omega arith, omega (arith, found.1), found.2))
-    two.lossy
+    (λ some. let found = two.text.refused some in (found.0, omega arith, omega (arith, found.1), found.2))
+    two.text.lossy
     (λ strict none. absurd (false≢true (sym none ∙ c.if-last.true)))))
     c.refused.ensures.0 c.refused.ensures.2
 
@@ -45,8 +45,8 @@ returns-clause-first g c =
     (block_added f which bytes c.load.new.window 0 at left (take c.args.whole.last.end c.args.out.now) _ false c.requires.text
     (around_agrees c.load.new.window (window_of bytes) at (left + 10) last.around)
     (omega (arith, last.within, c.requires.bytes))
-    (λ none. two.bytes c.if-last.false)
+    (λ none. two.text.bytes c.if-last.false)
     (λ some. absurd (false≢true some))
     (λ lossy. refl)
-    (λ strict none i low inside. two.strict strict c.if-last.false i (omega arith)))
+    (λ strict none i low inside. two.text.strict strict c.if-last.false i (omega arith)))
     last.some (omega (arith, last.within, c.requires.bytes)) last.boundary refl

@@ -11,12 +11,14 @@ loop-at-init g c = record {
   within = omega arith;
   whole = λ some. (0, refl);
   before = λ some. c.requires.before;
-  bytes = λ none. sym (append-nil (take c.args.end c.args.out.now));
-  refused = λ some. absurd (true≢false (sym some));
-  lossy = λ lossy. refl;
-  strict = λ strict none i small. absurd (omega arith);
+  text = record {
+    bytes = λ none. sym (append-nil (take c.args.end c.args.out.now));
+    refused = λ some. absurd (true≢false (sym some));
+    lossy = λ lossy. refl;
+    strict = λ strict none i small. absurd (omega arith);
+    len = refl;
+  };
   end = omega arith;
-  len = refl;
 }
 
 pub loop-at-preserved : goal.loop-at-preserved
@@ -35,11 +37,13 @@ loop-at-preserved g c =
       whole = λ more. let before = inv.whole inside in (before.0 + 1, omega (arith, before.1, more, c.min-len.ensures));
       before = λ more.
           five_kinds f window _ (at + 5) 27 _ (block.kinds (omega (arith, more, c.min-len.ensures))) (omega arith) (omega (arith, more, c.min-len.ensures));
-      bytes = λ none. more_written f window (take c.args.end c.args.out.now) _ _ at len (inv.bytes fine) (block.bytes none);
-      refused = λ some. let found = block.refused some in (found.0, found.2, found.3);
-      lossy = block.lossy;
-      strict = λ strict none i small.
-          ⊎_elim (λ (early : i < at). inv.strict strict fine i early) (λ (late : at ≤ i). block.strict strict none i late small) (cases_lt i at);
+      text = record {
+        bytes = λ none. more_written f window (take c.args.end c.args.out.now) _ _ at len (inv.text.bytes fine) (block.bytes none);
+        refused = λ some. let found = block.refused some in (found.0, found.2, found.3);
+        lossy = block.lossy;
+        strict = λ strict none i small.
+            ⊎_elim (λ (early : i < at). inv.text.strict strict fine i early) (λ (late : at ≤ i). block.strict strict none i late small) (cases_lt i at);
+        len = block.len ∙ inv.text.len;
+      };
       end = omega (arith, inv.end, block.end, most_adds g.S.Reading.which at len);
-      len = block.len ∙ inv.len;
     }
