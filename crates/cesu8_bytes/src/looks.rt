@@ -6,8 +6,8 @@
 //! | at most 1,024 | are all ASCII? | what takes UTF-8 as well |
 //! | at most 64, with more behind them | the first of these, by one vector | strings in a row |
 //! | 17 and more | is one of the first 17 misplaced? | all that decode |
-//! | 2 to 64 | has one changed, or are there C0 or surrogates? | what takes the encoding alone |
-//! | 16 to 64 | are there C0 or surrogates? | what takes UTF-8 as well |
+//! | 2 to 64 | has one changed, or are there C0 or surrogates? | what takes the encoding alone, but to a slice |
+//! | 16 to 64 | are there C0 or surrogates? | what takes UTF-8 as well, but to a slice |
 //! | below 256 | does a byte change? by the same vectors | all |
 //! | 256 and more | does a byte change? by the kernels, four vectors at once | all |
 //!

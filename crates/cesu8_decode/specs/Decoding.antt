@@ -5,6 +5,7 @@ use Rattle.cesu8_text.specs.Reading.{reading, NoneBegins, lossy_length, HasNoStr
 use Rattle.cesu8_text.specs.Encoding.{Flavor, encoding}
 use Rattle.cesu8_bytes.specs.declared.options.Strictness.{Strictness}
 use Rattle.cesu8_bytes.specs.declared.options.Strictness.TheVariants.{Strict, Lossy}
+use Rattle.cesu8_decode.specs.declared.whole_blocks.TheConstants.{SPARE}
 use Rattle.cesu8_decode.specs.DecodedOffsets.{window_of, decoded, is_ill_formed_at}
 use Rattle.cesu8_bytes.specs.TextChunks.{IsChunk}
 
@@ -26,7 +27,7 @@ most_written Lossy n = 3 * n
 -- A buffer has room for the text of n bytes, and for what is stored behind it.
 abbrev pub room_for : Strictness → ℕ → ℕ
 room_for Strict n = n
-room_for Lossy n = 3 * n + 208
+room_for Lossy n = 3 * n + SPARE
 
 -- It must have so many where it has not room for all.
 abbrev pub least_room : Strictness → ℕ

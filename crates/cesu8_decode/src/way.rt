@@ -2,18 +2,18 @@
 //!
 //! | bytes | of them other than 01 to 7F | in strict reading | in lossy reading |
 //! |---|---|---|---|
-//! | at most 1,024, of which none is ED or C0 | any | `Refused` | as without |
-//! | at most 24 | at most 12 | `FewCharacters` | `FewCharacters` |
-//! | at most 96 | at most 6 | `Characters` | `Characters` |
-//! | 24 and more, whose first lead byte is that of a lone surrogate, C0 of no null, or F0 and more | any | `Refused` | as without |
-//! | at most 96 | more | `ShortWindow` | `ShortWindow` |
-//! | at most 256 | any | `MediumWindow` | `MediumWindow` |
-//! | more, and the first 64 show an ill-formed byte | any | `Refused` | as without |
+//! | at most 24, where a look has shown C0 or a surrogate | any | `Characters` | as below |
+//! | at most 16 | at most 12 | `Characters`, or `Refused` without ED and C0 | `Characters` |
+//! | at most 96 | at most 6 | the same | `Characters` |
+//! | 24 and more, whose first lead byte is that of a lone surrogate, C0 of no null, or F0 and more | any | `Refused` | as below |
+//! | at most 1,024, of which none is ED or C0 | any | `Refused` | as below |
+//! | at most 256 | more | `ShortWindow` | `ShortWindow` |
+//! | more, and the first 64 show an ill-formed byte | any | `Refused` | as below |
 //! | at most 1,024 | any | `LongWindow` | `LongWindow` |
 //! | more | any | `Chunks` | `Chunks` |
 //!
 //! - `Characters`: one character after another. A branch on a byte costs little while few bytes are
-//!   not ASCII. `FewCharacters` is the same with a smaller array, since clearing one takes time.
+//!   not ASCII, or hardly any in all.
 //! - The windows: one pass, 32 bytes at a time with no branch on a byte. In strict reading to a
 //!   `String` the text is written where it stays, and else to an array, from which it is copied. A
 //!   smaller array is made in less time.
@@ -24,25 +24,30 @@
 //!   found only later is refused at the end of its block: a window of strict reading goes no further.
 //!
 //! How many times as fast a row makes what it is for, in the median at x86-64-v3 and at v2, beside
-//! 1fdcb97 without it, where the next row that fits took its place:
+//! e8cb82e without it, where the next row that fits took its place:
 //!
 //! | row | bytes | v3 | v2 |
 //! |---|---|---|---|
-//! | `Characters` | 32 and 48 bytes of ASCII with one emoji or null, to a slice | 1.4 | 1.5 |
-//! | | the same, to a `String` | 1.1 | 1.2 |
-//! | `ShortWindow` | damaged, 16 to 24 bytes, to a slice | 1.1 | not tried |
-//! | `MediumWindow` | 200 and 256 bytes, to a slice | 1.1 | 1.1 |
-//! | `LongWindow` | damaged, 1,024 bytes, to a slice | 1.3 | 1.4 |
-//! | `Refused`, by the first character | surrogates alone, 72 and 200 bytes, to a `String`, beside 5c3627c without it | 1.5 | 1.5 |
-//! | | the same, to a slice | 2.3 | 2.2 |
-//! | `Refused`, by the first 64 | refused, 1,024 bytes, to a `String` | 2.3 | 1.9 |
-//! | `Refused`, without ED and C0 | refused, 64 to 128 bytes, to a `String`, beside 70c002d | 1.9 | 2.0 |
-//! | | the same, to a slice | 2.3 | 2.3 |
+//! | `Characters` | 8 to 48 bytes of ASCII with one emoji or null, to a `String` | 1.3 | 1.4 |
+//! | | the same, to a slice | 1.5 to 2.3 | 1.8 to 2.4 |
+//! | | two surrogate pairs, to a `String` | 1.5 | 1.6 |
+//! | `ShortWindow` | damaged, 128 bytes | 1.2 | 1.1 |
+//! | `LongWindow` | damaged, 300 to 1,024 bytes, to a `String` | 1.1 | 1.1 |
+//! | | 300 to 1,024 bytes, to a slice | 1.3 | 1.4 |
+//! | `Refused`, by the first lead byte | surrogates alone, 24 to 48 bytes, to a `String` | 1.9 | 1.8 |
+//! | | the same, 300 to 1,024 bytes | 1.2 | 1.2 |
+//! | `Refused`, by the first 64 | the other encoding, 300 to 1,024 bytes, in lenient calls | 1.2 | 1.1 |
+//! | | ill-formed in front, 4,000 bytes and more, in lenient calls | 1.5 | 1.3 |
+//! | `Refused`, without ED and C0 | one FF in 24 to 96 bytes of text | 1.7 | 1.6 |
 //!
-//! A call on a slice that takes no UTF-8 as such reads characters before it tests the bytes at all,
-//! below 64 of them of which at most 6 are others: the tests take as long as reading these. It does
-//! so too with at most 24 bytes of which one is ED or C0, since they are mostly an encoding:
-//! well-formed bytes from 16 on take two thirds of the time in lossy reading (70c002d).
+//! Text that is built of 300 to 1,024 bytes takes 6 to 8% longer for the look at the first 64. An array
+//! of its own for 24 bytes gained less than a tenth, and so did a window of 96.
+//!
+//! A call on a slice that takes no UTF-8 as such reads characters before it looks at more than the
+//! first bytes, below 64 of them of which at most 6 are others: the looks take as long as reading
+//! these. It does so too with at most 24 bytes of which one is ED or C0, since they are mostly an
+//! encoding. With one emoji or null that is 1.3 to 1.8 times as fast, with pairs alone 1.4 to 2.2, and
+//! text that stays takes up to a quarter longer.
 //!
 //! Other lengths in this crate decide no way: `characters` pads the last bytes, and `in_place` and
 //! `sums` the last block. `looks` of `cesu8_bytes` says what is seen of the bytes before.
@@ -71,7 +76,6 @@ pub enum Way {
 }
 
 /// The most bytes that are read one character after another, and that are left to the last blocks.
-/// `Ways` of `specs` has these numbers too.
 pub const FEW_BYTES: usize = 96;
 
 /// The most bytes that are read in a short window.

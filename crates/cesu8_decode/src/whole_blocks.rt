@@ -24,7 +24,7 @@ pub const FOLLOWING: usize = STORED;
 const FIRST: usize = BEFORE + REACH;
 
 /// Lossy reading needs so many bytes besides three for each byte that is read, to write the last
-/// blocks where they go. `Decoding` of `specs` has this number too.
+/// blocks where they go.
 pub const SPARE: usize = 208;
 
 /// Returns how many of the blocks in so many bytes are read where they stand and written where they

@@ -1,23 +1,23 @@
 //! Which way a text is encoded. No other file of this crate decides that.
 //!
-//! | bytes of the text | way       | what is done                                      |
-//! |-------------------|-----------|---------------------------------------------------|
-//! | at most 16        | few       | runs and changes in turn, to an array of 64 bytes |
-//! | at most 32        | block     | one block, to an array of 64 bytes                |
-//! | at most 128       | on stack  | blocks in turn, to an array of 256 bytes          |
-//! | more              | in place  | counted, and then blocks in turn, where they stay |
+//! | bytes of the text | what is done             |
+//! |-------------------|--------------------------|
+//! | at most 12        | runs and changes in turn |
+//! | at most 32        | one block                |
+//! | more              | blocks in turn           |
 //!
-//! An encoding has at most twice the bytes of its text. So `encode` writes a short one to an array
-//! on the stack before its length is known, and copies it. Where the length is known, as in
-//! `encode_into`, each way writes where the encoding stays.
+//! An encoding has at most twice the bytes of its text. So `encode` writes one of at most 128 bytes to
+//! an array on the stack before its length is known, and copies it. Others are counted, and written
+//! where they stay. Where the length is known, as in `encode_into`, all are.
 //!
-//! To a slice, a text of more than 32 bytes is counted, and written in place. Others go the way of
-//! a few bytes, which writes none behind the encoding: in place if twice as many fit, and else to
-//! the stack, from where they are copied. Other threads may read what is behind it.
+//! To a slice, a text of more than a block is counted, and written in place. A few bytes are written in
+//! place too if twice as many fit, since that way writes none behind the encoding: other threads may
+//! read what is there. Else a block or less goes to the stack, from where it is copied.
 //!
-//! In `encode` of 20 to 24 bytes that change, a block takes 0.8 of the time of runs and changes.
-//! Of 14 bytes, a block with pairs takes 1.1 times as long. The stack makes texts of 40 to 128
-//! bytes 1.13 times as fast at x86-64-v3, and 1.08 times at v2, beside f2bb1c4 without it.
+//! Beside e8cb82e without the row, runs and changes in turn make texts of 1 to 6 bytes 1.1 to 1.4 times
+//! as fast, and to a slice up to 12 bytes 1.1 to 2.7 times. Longer ones they make slower, unless they
+//! have pairs alone. The stack makes texts of 33 to 128 bytes 1.04 to 1.12 times as fast. An array of
+//! its own for a block gained less than a tenth.
 //!
 //! These ways are tests and no enum: `encode` asked for the value of one, which cost 13
 //! instructions.
@@ -38,9 +38,11 @@
 //! average of the text decides: one that is dense with pairs in a part alone may have its other
 //! blocks written where they could be copied.
 //!
-//! Beside f2bb1c4 without the row, `NullChange` makes texts of 256 bytes to 16 KB with a null in 2
-//! to 50 bytes 1.1 to 1.5 times as fast. `AnyChange` makes those with characters of all widths 1.2
-//! times as fast from 1 KiB on. A way of its own for nulls that are few gained nothing.
+//! Beside e8cb82e without the row, `NullChange` makes texts of 256 to 4,096 bytes with a null in 2 to
+//! 50 bytes 1.1 to 1.7 times as fast. `AnyChange` makes those of 1 KiB and more with a pair in 20 to 50
+//! bytes, or of all widths, 1.1 to 1.16 times as fast at x86-64-v3, and 1.02 to 1.09 at v2.
+//! `CopyUnchanged` makes those with a pair in 300 bytes or more 1.2 to 2.5 times as fast. A way of its
+//! own for nulls that are few gained nothing.
 //!
 //! Other lengths choose no way: `append` and the vectors of `cesu8_bytes` have widths, and `looks`
 //! there sees whether a byte changes.
