@@ -6,7 +6,7 @@
 # - code, definitions and proofs name no module of another crate's `proofs`, except
 #   simd_cesu8.proofs.StdUtf8, which is public. Within the library they may name those of the crates
 #   below. The proofs of std are public;
-# - no contract or definition takes a word from a proof;
+# - no contract or definition takes a word from a proof, but for the proof of a trait's law;
 # - only the modules below import one another. That list is to become shorter.
 # The status is 0 if nothing is wrong. It needs bash, awk, sed and the core utilities.
 set -u
@@ -56,6 +56,17 @@ wrong() {
             { sub(/(--|\/\/).*/, "") }
             {
                 is_word = file ~ /\/specs\// || /^ *ghost use /
+                # What is imported for the proof of a law stands in laws alone.
+                if (is_word && file !~ /\/specs\// && match($0, /\.proofs\..*\{.*\}/)) {
+                    names = substr($0, RSTART, RLENGTH)
+                    gsub(/.*\{|\}.*/, "", names)
+                    for (i = split(names, word, /, */); i > 0; i--) of_laws[word[i]] = 1
+                    is_word = 0
+                } else if (!/^ *ghost [a-z_]+ = /) {
+                    for (name in of_laws)
+                        if ($0 ~ "(^|[^A-Za-z0-9_])" name "([^A-Za-z0-9_]|$)")
+                            print "a contract or definition names a proof: " file ": " name
+                }
                 gsub(/::/, ".")
                 gsub(/crate\.proofs/, crate ".proofs")
                 line = $0
