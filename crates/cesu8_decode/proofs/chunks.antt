@@ -9,3 +9,4 @@ pub mod Strings
 pub mod ValidFronts
 pub mod ShownBytes
 pub mod FollowingBytes
+pub mod EncodedFollow

@@ -11,6 +11,7 @@ pub mod KeptBlocks
 pub mod WholeBlocks
 pub mod Shuffles
 pub mod WeightLanes
+pub mod Savings
 pub mod WeightRest
 pub mod FollowingLanes
 pub mod FollowingBlocks

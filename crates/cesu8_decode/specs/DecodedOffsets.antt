@@ -119,10 +119,6 @@ saved w b =
     else if w == 6 then 14
     else 0
 
--- How many bytes the character has that begins at an offset.
-abbrev pub covered : ℕ → ℕ → ℕ
-covered w b = w
-
 -- The weight of an offset follows from the width of the character that begins there, or 0, and
 -- from the byte there. The weight of all offsets,
 unfoldable pub total_weight : (ℕ → ℕ → ℕ) → Flavor → List ℕ → ℕ

@@ -4,7 +4,7 @@
 //! character, and the second half of a surrogate pair. Where both are the same for each byte, all
 //! are in encoded characters, but for those of the last one, which may be cut off.
 
-ghost use Rattle.std.specs.Prelude.{◌≡◌, ℕ, ◌+◌, ◌*◌, ◌<◌, ◌≤◌, IsTrue, length, map, slice_index, min, nat_le, if◌then◌else◌, not, true};
+ghost use Rattle.std.specs.Prelude.{◌≡◌, ◌↔◌, ℕ, ◌+◌, ◌*◌, ◌<◌, ◌≤◌, IsTrue, length, map, slice_index, min, nat_le, if◌then◌else◌, not, true};
 ghost use Rattle.std.specs.List.{range_with_len};
 ghost use Rattle.std.specs.Simd.Lanes.{zip2};
 ghost use Rattle.cesu8_bytes.specs.Kernels.{mask};
@@ -92,9 +92,9 @@ fn following_blocks<F: Flavor>(bytes: &[u8], start: usize) -> usize
 
 /// Returns whether each of the 64 bytes behind `at` bytes and four more may follow those before it.
 #[inline(always)]
-fn two_follow<F: Flavor>(window: &[u8], at: usize) -> bool
+pub fn two_follow<F: Flavor>(window: &[u8], at: usize) -> bool
     requires { at + DECIDING + 2 * BLOCK ≤ length window.now }
-    ensures { IsTrue result → AllFollow F.flavor window.now at (2 * BLOCK) }
+    ensures { IsTrue result ↔ AllFollow F.flavor window.now at (2 * BLOCK) }
 {
     let above = above_ascii::<F>(window, at) | above_ascii::<F>(window, at + BLOCK);
     if bits::<NonAscii, BLOCK>(above) == 0 && begins_with_ascii(window, at) {

@@ -1,15 +1,12 @@
 //! The lengths of the readings. That of the lossy reading is three bytes for each byte, less what
 //! each offset saves. If no byte is ill-formed, it is that of the strict reading.
 
-ghost use Rattle.std.specs.Prelude.{◌≡◌, ◌<◌, refl, IfSome, IfNone};
-ghost use Rattle.std.proofs.Common.{arith};
-ghost use Rattle.std.proofs.lemmas.Bool.Decides.{nat_tests};
+ghost use Rattle.std.specs.Prelude.{◌≡◌, ◌<◌, IfSome, IfNone};
 ghost use Rattle.cesu8_text.specs.Reading.{IsStrictReading, HasNoStrictReading, lossy_length};
 ghost use Rattle.cesu8_text.specs.Slices.{ReadsAtLength};
-ghost use Rattle.cesu8_decode.specs.DecodedOffsets.{saved};
 
 use super::ill_formed::is_ill_formed;
-use super::sums::{BLOCKS, Weight, Weights, sum_first};
+use super::sums::sum_first;
 use cesu8_bytes::flavor::Flavor;
 use cesu8_bytes::looks::{Accepts, EncodingAlone, Look};
 
@@ -38,33 +35,9 @@ pub fn lossy_len<F: Flavor>(bytes: &[u8]) -> Option<usize>
     let mut len = 3 * bytes.len() as u128;
     let mut rest = bytes;
     while !rest.is_empty() {
-        let (saved, behind) = sum_first::<F, Savings>(rest, BLOCKS);
+        let (saved, behind) = sum_first::<F>(rest);
         len -= saved as u128;
         rest = behind;
     }
     usize::try_from(len).ok()
 }
-
-/// What an offset saves.
-struct Savings;
-
-impl Weight for Savings {
-    ghost weight = { saved };
-
-    #[inline(always)]
-    fn weights() -> Weights {
-        Weights {
-            of_one: 2,
-            by_low: BY_LOW,
-            by_high: BY_HIGH,
-        }
-    }
-
-    ghost nothing = { λ b. refl };
-
-    ghost light = { λ w b few. Prim.grind (arith, nat_tests) };
-}
-
-const BY_LOW: [u8; 16] = [0, 4, 4, 0, 6, 0, 0, 0, 6, 0, 0, 0, 0, 0, 0, 0];
-
-const BY_HIGH: [u8; 16] = [0, 6, 14, 0, 0, 0, 0, 0, 5, 0, 0, 0, 0, 0, 0, 0];

@@ -4,19 +4,16 @@ use Rattle.std.proofs.lemmas.Bool.{cases_lt, leb-true, leb-false, eqb-true, eqb-
 use Rattle.std.proofs.lemmas.List.{drop-append-le}
 use Rattle.cesu8_text.specs.Text.{IsScalarValue, IsText, utf8}
 use Rattle.cesu8_text.specs.Encoding.{Flavor, encoding}
-use Rattle.cesu8_text.specs.Reading.{BeginsWith, NoneBegins, StandsAt, width, reading, IsStrictReading, HasNoStrictReading}
+use Rattle.cesu8_text.specs.Reading.{BeginsWith, NoneBegins, StandsAt, width, reading, IsStrictReading}
 use Rattle.cesu8_text.specs.Cutting.{Piece, Character, Replaced, ArePieces, bytes_of, text_of, IsGreedy}
 use Rattle.cesu8_text.specs.Laws.{NoneCrosses}
-use Rattle.cesu8_decode.specs.DecodedOffsets.{width_at, is_ill_formed_at, is_boundary_at, covered, total_weight}
+use Rattle.cesu8_decode.specs.DecodedOffsets.{width_at, is_ill_formed_at, is_boundary_at}
 use Rattle.cesu8_bytes.specs.TextChunks.{IsChunk}
 use Rattle.cesu8_decode.specs.Decoding.{HasFault}
 use Rattle.cesu8_bytes.specs.declared.options.Strictness.{Strictness}
 use Rattle.cesu8_bytes.specs.declared.options.Strictness.TheVariants.{Strict}
 use Rattle.cesu8_text.proofs.encoding.Encodings.{encoding_nil, encoding_cons}
 use Rattle.cesu8_text.proofs.reading.EncodedTexts.{reading_text}
-use Rattle.cesu8_text.proofs.encoding.Lengths.{length_of_character}
-use Rattle.cesu8_decode.proofs.chunks.ReadChunks.{fault_of_whole}
-use Rattle.cesu8_decode.proofs.by_offset.Weights.{first_weighs, replaced_weighs}
 use Rattle.cesu8_text.proofs.reading.Stretches.{later, earlier, none_crosses_character}
 use Rattle.cesu8_text.proofs.reading.Splits.{begins_front}
 use Rattle.cesu8_text.proofs.reading.Cuttings.{greedy_cutting}
@@ -61,71 +58,36 @@ fault_later f c bytes scalar fault =
       none_begins = fault.none_begins;
     }
 
--- A character covers its bytes,
-pub character_covers : (f : Flavor) (c : ℕ) (front rest : List ℕ) → IsScalarValue c → encoding f (c ∷ []) ≡ front →
-    total_weight covered f (encoding f (c ∷ []) ++ rest) ≡ length front + total_weight covered f rest
-character_covers f c [] rest scalar same =
-    let long = length_of_character f c scalar in absurd (omega (arith, long.some, long.fits, ap length same))
-character_covers f c (b ∷ front) rest scalar same = first_weighs covered (λ b. refl) f c b front rest scalar same
-
--- so characters cover all bytes, or there is a fault and they cover fewer
-abbrev IsWhole : Flavor → List ℕ → List ℕ → Type 0
-IsWhole f bytes text = IsStrictReading f bytes text × (total_weight covered f bytes ≡ length bytes)
-
-abbrev IsFaulty : Flavor → List ℕ → Type 0
-IsFaulty f bytes = HasFault f bytes × (total_weight covered f bytes < length bytes)
-
+-- so bytes are the encoding of their pieces, or have a fault.
 by_pieces : (f : Flavor) (pieces : List Piece) → ArePieces pieces → IsGreedy f pieces →
-    IsWhole f (bytes_of f pieces) (text_of pieces) ⊎ IsFaulty f (bytes_of f pieces)
-unfolding total_weight
-by_pieces f [] are_pieces is_greedy = inl ((tt, encoding_nil f), refl)
+    IsStrictReading f (bytes_of f pieces) (text_of pieces) ⊎ HasFault f (bytes_of f pieces)
+by_pieces f [] are_pieces is_greedy = inl (tt, encoding_nil f)
 by_pieces f (Character c ∷ pieces) are_pieces is_greedy =
-    let covers = character_covers f c (encoding f (c ∷ [])) (bytes_of f pieces) are_pieces.0 refl in
-    let long = length-append (encoding f (c ∷ [])) (bytes_of f pieces) in
-    ⊎_elim (λ (whole : IsWhole f (bytes_of f pieces) (text_of pieces)). inl (
-      (
-        (are_pieces.0, whole.0.0),
-        encoding_cons f c (text_of pieces) ∙ ap (λ bs. encoding f (c ∷ []) ++ bs) whole.0.1,
-      ),
-      omega (arith, covers, long, whole.1),
+    ⊎_elim (λ (whole : IsStrictReading f (bytes_of f pieces) (text_of pieces)). inl (
+      (are_pieces.0, whole.0),
+      encoding_cons f c (text_of pieces) ∙ ap (λ bs. encoding f (c ∷ []) ++ bs) whole.1,
     ))
-    (λ (faulty : IsFaulty f (bytes_of f pieces)).
-    inr (fault_later f c (bytes_of f pieces) are_pieces.0 faulty.0, omega (arith, covers, long, faulty.1)))
+    (λ (faulty : HasFault f (bytes_of f pieces)). inr (fault_later f c (bytes_of f pieces) are_pieces.0 faulty))
     (by_pieces f pieces are_pieces.1 is_greedy)
 by_pieces f (Replaced b ∷ pieces) are_pieces is_greedy =
     let bytes = b ∷ bytes_of f pieces in
-    let fits : total_weight covered f (bytes_of f pieces) ≤ length (bytes_of f pieces) =
-    ⊎_elim (λ (whole : IsWhole f (bytes_of f pieces) (text_of pieces)). omega (arith, whole.1))
-    (λ (faulty : IsFaulty f (bytes_of f pieces)). omega (arith, faulty.1)) (by_pieces f pieces are_pieces.1 is_greedy.1) in
-    inr (
-      record {
-        rest = bytes;
-        chunk = [];
-        before = chunk_of_text f Strict bytes [] bytes tt (ap (λ bs. bs ++ bytes) (sym (encoding_nil f)));
-        some = omega arith;
-        none_begins = is_greedy.0;
-      },
-      omega (arith, fits, replaced_weighs covered (λ b. refl) f b (bytes_of f pieces) is_greedy.0),
-    )
+    inr (record {
+      rest = bytes;
+      chunk = [];
+      before = chunk_of_text f Strict bytes [] bytes tt (ap (λ bs. bs ++ bytes) (sym (encoding_nil f)));
+      some = omega arith;
+      none_begins = is_greedy.0;
+    })
 
 -- Bytes are the encoding of their lossy reading, or have a fault.
-whole_or_faulty : (f : Flavor) (bytes : List ℕ) → IsWhole f bytes (reading f bytes) ⊎ IsFaulty f bytes
+whole_or_faulty : (f : Flavor) (bytes : List ℕ) → IsStrictReading f bytes (reading f bytes) ⊎ HasFault f bytes
 whole_or_faulty f bytes =
     let cutting = greedy_cutting f bytes in
-    ⊎_elim (λ (whole : IsWhole f (bytes_of f cutting.pieces) (text_of cutting.pieces)).
-    inl (subst (IsWhole f bytes) (places f bytes cutting.pieces cutting.cuts cutting.greedy)
-    (subst (λ bs. IsWhole f bs (text_of cutting.pieces)) cutting.cuts.1 whole)))
-    (λ (faulty : IsFaulty f (bytes_of f cutting.pieces)). inr (subst (IsFaulty f) cutting.cuts.1 faulty))
+    ⊎_elim (λ (whole : IsStrictReading f (bytes_of f cutting.pieces) (text_of cutting.pieces)).
+    inl (subst (IsStrictReading f bytes) (places f bytes cutting.pieces cutting.cuts cutting.greedy)
+    (subst (λ bs. IsStrictReading f bs (text_of cutting.pieces)) cutting.cuts.1 whole)))
+    (λ (faulty : HasFault f (bytes_of f cutting.pieces)). inr (subst (HasFault f) cutting.cuts.1 faulty))
     (by_pieces f cutting.pieces cutting.cuts.0 cutting.greedy)
-
--- Characters cover no more bytes than there are.
-pub covered_fits : (f : Flavor) (bytes : List ℕ) → total_weight covered f bytes ≤ length bytes
-covered_fits f bytes = ⊎_elim (λ whole. omega (arith, whole.1)) (λ faulty. omega (arith, faulty.1)) (whole_or_faulty f bytes)
-
--- Where they cover fewer, they are the encoding of no text.
-pub fewer_covered : (f : Flavor) (bytes : List ℕ) → total_weight covered f bytes < length bytes → HasNoStrictReading f bytes
-fewer_covered f bytes fewer =
-    ⊎_elim (λ whole. absurd (omega (arith, whole.1))) (λ faulty. fault_of_whole f bytes faulty.0) (whole_or_faulty f bytes)
 
 -- ---- what is covered
 
@@ -175,9 +137,8 @@ fault_not_covered f text rest is_text none_begins covered =
 -- Bytes whose offsets are all covered are the encoding of their lossy reading.
 pub covered_read : (f : Flavor) (bytes : List ℕ) → ((i : ℕ) → i < length bytes → IsCovered f bytes i) → IsStrictReading f bytes (reading f bytes)
 covered_read f bytes covered =
-    ⊎_elim (λ whole. whole.0)
-    (λ (faulty : IsFaulty f bytes).
-    let fault = faulty.0 in
+    ⊎_elim (λ whole. whole)
+    (λ (fault : HasFault f bytes).
     let front = encoding f fault.before.text in
     let bytes_are = fault.before.strict_reading refl in
     absurd (fault_not_covered f fault.before.text fault.rest fault.before.scalars fault.none_begins
@@ -188,11 +149,10 @@ covered_read f bytes covered =
 -- Those with an offset that is not covered have a fault.
 pub uncovered_fault : (f : Flavor) (bytes : List ℕ) (i : ℕ) → i < length bytes → (IsCovered f bytes i → ⊥) → HasFault f bytes
 uncovered_fault f bytes i inside uncovered =
-    ⊎_elim (λ (whole : IsWhole f bytes (reading f bytes)).
-    let reads = whole.0 in
+    ⊎_elim (λ (reads : IsStrictReading f bytes (reading f bytes)).
     absurd (uncovered (subst (λ bs. IsCovered f bs i) reads.1
     (encoding_covered f (reading f bytes) i reads.0 (omega (arith, ap length reads.1))))))
-    (λ faulty. faulty.0)
+    (λ faulty. faulty)
     (whole_or_faulty f bytes)
 
 -- What a character covers that ends in the front, it covers there.

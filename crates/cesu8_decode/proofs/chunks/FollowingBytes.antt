@@ -15,7 +15,7 @@ use Rattle.cesu8_decode.proofs.chunks.ValidFronts.{none_valid, character_valid, 
 
 -- ---- what is wanted
 
-other_lead : (a b : ℕ) → ¬ (a ≡ 0xED) → is_high_surrogate a b ≡ false
+pub other_lead : (a b : ℕ) → ¬ (a ≡ 0xED) → is_high_surrogate a b ≡ false
 other_lead a b other = rw (ne_eqb a 0xED other) refl
 
 low_second : (a b : ℕ) → 0xB0 ≤ b → is_high_surrogate a b ≡ false
@@ -29,11 +29,11 @@ shown_is : (f : Flavor) (a b d e g n : ℕ) → follows f a b d e g ≡ true →
 shown_is f a b d e g n fits wants_n = eqb-true (shown f e g) (wanted a b d) fits ∙ wants_n
 
 -- No character crosses the boundary behind four bytes.
-record Ends (a b d e : ℕ) : Type 0 where
-  last : e < 0xC0
-  second_last : d < 0xE0
-  no_high : is_high_surrogate b d ≡ false
-  no_higher : is_high_surrogate a b ≡ false
+pub record Ends (a b d e : ℕ) : Type 0 where
+  pub last : e < 0xC0
+  pub second_last : d < 0xE0
+  pub no_high : is_high_surrogate b d ≡ false
+  pub no_higher : is_high_surrogate a b ≡ false
 
 begins_or_second : (f : Flavor) (a b d e g : ℕ) → is_high_surrogate a b ≡ false → d < 0xE0 → follows f a b d e g ≡ true →
     Begins f e g ⊎ IsSecond f e g

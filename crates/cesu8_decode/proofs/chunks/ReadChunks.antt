@@ -95,7 +95,7 @@ fault_after f which bytes rest old out so_far strict fault = record {
 }
 
 -- and leaves it no strict reading.
-pub fault_of_whole : (f : Flavor) (bytes : List ℕ) → HasFault f bytes → HasNoStrictReading f bytes
+fault_of_whole : (f : Flavor) (bytes : List ℕ) → HasFault f bytes → HasNoStrictReading f bytes
 fault_of_whole f bytes fault =
     no_reading f bytes fault.before.text fault.rest fault.before.scalars (fault.before.strict_reading refl) fault.some fault.none_begins
 
@@ -105,7 +105,7 @@ pub chunk_unless_refused : (f : Flavor) (which : Strictness) (bytes text : List 
 chunk_unless_refused f which bytes text read is_ill_formed first fine = first.chunk fine
 
 -- Strict reading refuses what is ill-formed, and no other does.
-pub if_refused : (which : Strictness) (is_ill_formed : Bool) → refuses which is_ill_formed ≡ true → (which ≡ Strict) × (is_ill_formed ≡ true)
+if_refused : (which : Strictness) (is_ill_formed : Bool) → refuses which is_ill_formed ≡ true → (which ≡ Strict) × (is_ill_formed ≡ true)
 if_refused Strict is_ill_formed refused = (refl, refused)
 if_refused Lossy is_ill_formed refused = absurd (false≢true refused)
 

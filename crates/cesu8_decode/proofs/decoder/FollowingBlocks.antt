@@ -1,5 +1,5 @@
 -- Which bytes of a block may follow those before them.
-use Rattle.std.proofs.Common.{◌≡◌, ℕ, suc, ◌+◌, ◌<◌, ◌≤◌, ⊎_elim, Bool, true, false, cond, List, [], ◌∷◌, map, length, get_or, replicate, eqb, leb, bit_or, refl, sym, ap, ◌∙◌, subst, arith, drop, ◌-◌, ◌++◌, not, true≢false, add-zero, take, append-nil}
+use Rattle.std.proofs.Common.{◌≡◌, ℕ, zero, suc, ◌+◌, ◌<◌, ◌≤◌, ⊎_elim, Bool, true, false, cond, List, [], ◌∷◌, map, length, get_or, replicate, eqb, leb, bit_or, refl, sym, ap, ◌∙◌, subst, arith, drop, ◌-◌, ◌++◌, not, true≢false, add-zero, take, append-nil}
 use Rattle.std.specs.List.{range_with_len}
 use Rattle.std.proofs.lemmas.Bool.{leb-false, lt-leb, ne_eqb, or_parts, cases_lt, cases_Bool}
 use Rattle.std.proofs.lemmas.List.{get_or_append_left, length-take-le, take-append-drop}
@@ -152,6 +152,17 @@ pub two_plain : (f : Flavor) (window : List ℕ) (at : ℕ) (xs ys : List ℕ) �
 two_plain f window at xs ys xs_are ys_are first none_first none_second =
     in_both f window at (all_plain f window at 32 xs xs_are first none_first)
     (all_plain f window (at + 32) 32 ys ys_are (λ i low inside. (low_bytes f window at 32 xs xs_are none_first i (omega arith) (omega arith)).0) none_second)
+
+-- Where each may follow, none is marked.
+pub no_marks : (f : Flavor) (window : List ℕ) (at n : ℕ) → AllFollow f window at n →
+    map (λ i. mask (not (follows_at f window i))) (range_with_len at n) ≡ replicate n 0
+no_marks f window at zero follow = refl
+no_marks f window at (suc n) follow =
+    let first = follow at (omega arith) (omega arith) in
+    (λ i. mask (not (first i)) ∷ no_marks f window (at + 1) n (λ k low inside. follow k (omega (arith, low)) (omega (arith, inside))) i)
+
+pub none_marked_in_two : (xs ys : List ℕ) → xs ≡ replicate 32 0 → ys ≡ replicate 32 0 → mask_l (map (leb 0x80) (zip2 bit_or xs ys)) ≡ 0
+none_marked_in_two xs ys xs_are ys_are = rw (xs_are, ys_are) refl
 
 -- ---- where a block stands
 

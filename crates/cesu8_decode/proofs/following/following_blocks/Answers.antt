@@ -12,7 +12,7 @@ loop-at-preserved g c =
       first =
           subst (FirstFollow g.F.Flavor.flavor c.args.bytes.now) end
           (follow_up_to g.F.Flavor.flavor c.args.bytes.now at (at - 4) 64 c.loop-at.invariant.first (omega (arith, behind))
-          (omega (arith, behind, c.loop-at-test.true)) (c.two_follow.ensures c.if-two_follow.true));
+          (omega (arith, behind, c.loop-at-test.true)) (c.two_follow.ensures.0 c.if-two_follow.true));
       before = λ more. omega arith;
     }
 
