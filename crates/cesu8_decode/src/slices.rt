@@ -50,8 +50,8 @@ pub fn put_text<F: Flavor>(
     }
 }
 
-/// Writes the text of a few bytes, one character after another, to an array first: in strict reading
-/// of as many bytes, since to clear more takes time.
+/// Writes the text of a few bytes, one character after another, to an array first. To clear a longer
+/// one than is needed takes time.
 #[inline(always)]
 pub fn put_few<F: Flavor>(
     strictness: Strictness,
@@ -61,9 +61,14 @@ pub fn put_few<F: Flavor>(
     requires { length bytes.now ≤ FEW_BYTES }
     ensures { PutsReading F.flavor strictness bytes.now result buf.old buf.new }
 {
-    match strictness {
-        Strictness::Strict => put_characters::<F, FEW_BYTES>(strictness, bytes, buf),
-        Strictness::Lossy => put_characters::<F, CHARACTERS_TEXT>(strictness, bytes, buf),
+    let most = match strictness {
+        Strictness::Strict => bytes.len(),
+        Strictness::Lossy => WIDEST * bytes.len(),
+    };
+    if most <= FEW_BYTES {
+        put_characters::<F, FEW_BYTES>(strictness, bytes, buf)
+    } else {
+        put_characters::<F, CHARACTERS_TEXT>(strictness, bytes, buf)
     }
 }
 

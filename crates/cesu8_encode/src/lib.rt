@@ -37,8 +37,9 @@ mod rows;
 mod way;
 
 use self::append::{append, make_room};
+use self::blocks::BLOCK_ENCODED;
 use self::blockwise::write;
-use self::way::{ON_STACK, is_for_stack};
+use self::way::{ON_STACK, is_block, is_for_stack};
 use cesu8_bytes::copies::copy;
 use cesu8_bytes::flavor::Flavor;
 use cesu8_bytes::lengths::encoded_len;
@@ -49,7 +50,8 @@ use std::alloc::{AllocError, Allocator};
 const ON_STACK_ENCODED: usize = 2 * ON_STACK;
 
 /// Returns the encoding of a text, after one request for exactly its length. It is not inlined: a
-/// text that is borrowed then uses no stack.
+/// text that is borrowed then uses no stack. The two functions below are, so that the length is
+/// compared once.
 #[inline(never)]
 pub fn encode<F: Flavor, A: Allocator + Copy>(
     alloc: A,
@@ -57,23 +59,26 @@ pub fn encode<F: Flavor, A: Allocator + Copy>(
 ) -> Result<Vec<u8, A>, AllocError>
     ensures { BuildsEncoding F.flavor text.now result }
 {
+    if is_block(text) {
+        return encode_on_stack::<F, A, BLOCK_ENCODED>(alloc, text);
+    }
     if is_for_stack(text) {
-        return encode_on_stack::<F, A>(alloc, text);
+        return encode_on_stack::<F, A, ON_STACK_ENCODED>(alloc, text);
     }
     encode_in_place::<F, A>(alloc, text)
 }
 
-/// Encodes a text to the stack, and returns a copy.
+/// Encodes a text to an array of this length on the stack, and returns a copy.
 #[inline(always)]
 #[tactic(auto, using(cesu8_text::proofs::encoding::Lengths::length_encoding_chars))]
-fn encode_on_stack<F: Flavor, A: Allocator + Copy>(
+fn encode_on_stack<F: Flavor, A: Allocator + Copy, const N: usize>(
     alloc: A,
     text: &str,
 ) -> Result<Vec<u8, A>, AllocError>
-    requires { length text.now ≤ ON_STACK }
+    requires { (2 * length text.now ≤ N) × (N ≤ ON_STACK_ENCODED) }
     ensures { BuildsEncoding F.flavor text.now result }
 {
-    let mut written = [0; ON_STACK_ENCODED];
+    let mut written = [0; N];
     let len = write::<F>(text, 0, &mut written);
     copy(alloc, &written[..len])
 }

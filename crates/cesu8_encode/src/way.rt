@@ -7,8 +7,9 @@
 //! | more              | blocks in turn           |
 //!
 //! An encoding has at most twice the bytes of its text. So `encode` writes one of at most 128 bytes to
-//! an array on the stack before its length is known, and copies it. Others are counted, and written
-//! where they stay. Where the length is known, as in `encode_into`, all are.
+//! an array on the stack before its length is known, and copies it. For a block or less that is an array
+//! of 64 bytes. Others are counted, and written where they stay. Where the length is known, as in
+//! `encode_into`, all are.
 //!
 //! To a slice, a text of more than a block is counted, and written in place. A few bytes are written in
 //! place too if twice as many fit, since that way writes none behind the encoding: other threads may
@@ -16,8 +17,8 @@
 //!
 //! Beside e8cb82e without the row, runs and changes in turn make texts of 1 to 6 bytes 1.1 to 1.4 times
 //! as fast, and to a slice up to 12 bytes 1.1 to 2.7 times. Longer ones they make slower, unless they
-//! have pairs alone. The stack makes texts of 33 to 128 bytes 1.04 to 1.12 times as fast. An array of
-//! its own for a block gained less than a tenth.
+//! have pairs alone. The stack makes texts of 33 to 128 bytes 1.04 to 1.12 times as fast. The smaller
+//! array makes those of at most a block 1.03 times as fast, and 1.07 times at x86-64-v2.
 //!
 //! These ways are tests and no enum: `encode` asked for the value of one, which cost 13
 //! instructions.
