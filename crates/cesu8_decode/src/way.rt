@@ -8,7 +8,7 @@
 //! | 24 and more, whose first lead byte is that of a lone surrogate, C0 of no null, or F0 and more | any | `Refused` | as below |
 //! | at most 1,024, of which none is ED or C0 | any | `Refused` | as below |
 //! | at most 256 | more | `ShortWindow` | `ShortWindow` |
-//! | more, and the first 64 show an ill-formed byte | any | `Refused` | as below |
+//! | more, and the first 68 show an ill-formed byte | any | `Refused` | as below |
 //! | at most 1,024 | any | `LongWindow` | `LongWindow` |
 //! | more | any | `Chunks` | `Chunks` |
 //!
@@ -36,12 +36,12 @@
 //! | | 300 to 1,024 bytes, to a slice | 1.3 | 1.4 |
 //! | `Refused`, by the first lead byte | surrogates alone, 24 to 48 bytes, to a `String` | 1.9 | 1.8 |
 //! | | the same, 300 to 1,024 bytes | 1.2 | 1.2 |
-//! | `Refused`, by the first 64 | the other encoding, 300 to 1,024 bytes, in lenient calls | 1.2 | 1.1 |
+//! | `Refused`, by the first 68 | the other encoding, 300 to 1,024 bytes, in lenient calls | 1.2 | 1.1 |
 //! | | ill-formed in front, 4,000 bytes and more, in lenient calls | 1.5 | 1.3 |
 //! | `Refused`, without ED and C0 | one FF in 24 to 96 bytes of text | 1.7 | 1.6 |
 //!
-//! Text that is built of 300 to 1,024 bytes takes 6 to 8% longer for the look at the first 64. An array
-//! of its own for 24 bytes gained less than a tenth, and so did a window of 96.
+//! Text that is built of 300 to 1,024 bytes takes 4 to 8% longer for the look at the first 68. A way of
+//! its own for 24 bytes gained less than a tenth, and so did a window of 96.
 //!
 //! A call on a slice that takes no UTF-8 as such reads characters before it looks at more than the
 //! first bytes, below 64 of them of which at most 6 are others: the looks take as long as reading
