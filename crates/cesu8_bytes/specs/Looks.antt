@@ -2,8 +2,8 @@
 use Rattle.std.specs.Prelude.{List, ℕ, Any, IsUtf8}
 use Rattle.cesu8_bytes.specs.declared.looks.FirstLook.{FirstLook}
 use Rattle.cesu8_bytes.specs.declared.looks.FirstLook.TheVariants.{Unchanged, Changed, NotUtf8, NoText}
-use Rattle.cesu8_bytes.specs.declared.looks.Look.{Look}
-use Rattle.cesu8_bytes.specs.declared.looks.Look.TheVariants.{Text, NoEncoding, Encoding, Unknown}
+use Rattle.cesu8_bytes.specs.declared.accepts.Look.{Look}
+use Rattle.cesu8_bytes.specs.declared.accepts.Look.TheVariants.{Text, NoEncoding, Encoding, Unknown}
 use Rattle.cesu8_text.specs.Encoding.{Flavor}
 use Rattle.cesu8_text.specs.Reading.{HasNoStrictReading}
 

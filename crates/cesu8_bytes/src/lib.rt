@@ -4,6 +4,7 @@
 //! The names of this crate are no promise to users. `simd_cesu8` has the public calls.
 #![tactic(auto)]
 
+pub mod accepts;
 mod ascii_front;
 pub mod continuation;
 pub mod copies;

@@ -5,8 +5,8 @@ ghost use Rattle.cesu8_decode.specs.PutReadings.{PutsText, ReadsAs};
 use crate::refusal::Unwritten;
 use crate::slices::{put_few, put_text};
 use crate::way::is_read_before_looks;
+use cesu8_bytes::accepts::{Accepts, Look};
 use cesu8_bytes::flavor::Flavor;
-use cesu8_bytes::looks::{Accepts, Look};
 use cesu8_bytes::options::Strictness;
 use cesu8_bytes::writers::{copy_to_slice, copy_to_slice_by_call};
 

@@ -7,8 +7,8 @@ ghost use Rattle.cesu8_text.specs.Slices.{ReadsAtLength};
 
 use super::ill_formed::is_ill_formed;
 use super::sums::sum_first;
+use cesu8_bytes::accepts::{Accepts, EncodingAlone, Look};
 use cesu8_bytes::flavor::Flavor;
-use cesu8_bytes::looks::{Accepts, EncodingAlone, Look};
 
 /// Returns the length of the strict reading, in bytes of UTF-8, if there is one.
 pub fn decoded_len<F: Flavor>(bytes: &[u8]) -> Option<usize>

@@ -45,8 +45,8 @@ mod whole_blocks;
 mod window;
 
 use crate::refusal::Refusal;
+use cesu8_bytes::accepts::Look;
 use cesu8_bytes::flavor::Flavor;
-use cesu8_bytes::looks::Look;
 use cesu8_bytes::utf8::known_string;
 pub use lengths::{decoded_len, lossy_len};
 use std::alloc::{AllocError, Allocator};

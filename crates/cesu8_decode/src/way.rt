@@ -59,10 +59,11 @@ ghost use Rattle.cesu8_decode.specs.Ways.{IsWayOf};
 
 use super::forms::{FirstLead, first_lead};
 use super::ill_formed::is_ill_formed_in_prefix;
+use cesu8_bytes::accepts::Look;
 use cesu8_bytes::flavor::Flavor;
 use cesu8_bytes::implementation::class::{Either, NonAscii, Null};
 use cesu8_bytes::implementation::short::count_in_ends;
-use cesu8_bytes::looks::{Look, may_be_encoding, shows_no_text};
+use cesu8_bytes::looks::{may_be_encoding, shows_no_text};
 use cesu8_bytes::options::Strictness;
 
 /// Which way bytes are decoded.

@@ -13,12 +13,12 @@ ghost use Rattle.simd_cesu8.specs.Outcomes.{IsFaultOf, IsAnswerOf, IsStrictOutco
 pub mod value;
 
 use crate::error::{DecodeFault, DecodeSliceFault, DecodingError, LossySliceFault, TooShort};
+pub use cesu8_bytes::accepts::{Accepts, EncodingAlone, Lenient, Look};
 pub use cesu8_bytes::copies::{copy, copy_text};
 pub use cesu8_bytes::flavor::{Cesu8Flavor, Flavor, Mutf8Flavor};
 pub use cesu8_bytes::lengths::{encoded_len, encoded_len_by_need, utf16_len};
 pub use cesu8_bytes::looks::{
-    Accepts, EncodingAlone, Lenient, Look, begins_with_unchanged_ascii, is_short_unchanged_ascii,
-    is_shown_at_once, needs_encoded,
+    begins_with_unchanged_ascii, is_short_unchanged_ascii, is_shown_at_once, needs_encoded,
 };
 use cesu8_bytes::options::Strictness;
 pub use cesu8_bytes::order::compare_as_utf16;

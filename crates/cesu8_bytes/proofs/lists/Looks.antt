@@ -7,8 +7,8 @@ use Rattle.cesu8_text.specs.Encoding.{Flavor}
 use Rattle.cesu8_text.specs.Reading.{HasNoStrictReading}
 use Rattle.cesu8_text.proofs.encoding.EncodedBytes.{none_changed}
 use Rattle.cesu8_bytes.specs.Looks.{IsLook}
-use Rattle.cesu8_bytes.specs.declared.looks.Look.{Look}
-use Rattle.cesu8_bytes.specs.declared.looks.Look.TheVariants.{Text, NoEncoding, Encoding, Unknown}
+use Rattle.cesu8_bytes.specs.declared.accepts.Look.{Look}
+use Rattle.cesu8_bytes.specs.declared.accepts.Look.TheVariants.{Text, NoEncoding, Encoding, Unknown}
 
 -- No encoding has a byte that changes, and UTF-8 with one is not kept by a call that takes that alone.
 pub changed_shown : (f : Flavor) (bytes : List ℕ) → Any (IsChangedByte f) bytes → (¬ (IsUnchangedUtf8 f bytes)) × HasNoStrictReading f bytes

@@ -1,4 +1,4 @@
-use Rattle.cesu8_bytes.proofs.looks.LenientAccepts.look_to_copy.Goals as goal
+use Rattle.cesu8_bytes.proofs.accepts.LenientAccepts.look_to_copy.Goals as goal
 
 pub returns-then-shows_no_text : goal.returns-then-shows_no_text
 returns-then-shows_no_text g c =

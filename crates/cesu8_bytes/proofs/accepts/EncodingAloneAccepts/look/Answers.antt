@@ -1,5 +1,5 @@
 use Rattle.cesu8_bytes.proofs.lists.Looks.{changed_shown, look_at_kept}
-use Rattle.cesu8_bytes.proofs.looks.EncodingAloneAccepts.look.Goals as goal
+use Rattle.cesu8_bytes.proofs.accepts.EncodingAloneAccepts.look.Goals as goal
 
 pub returns-in-Changed : goal.returns-in-Changed
 returns-in-Changed g c = changed_shown g.F.Flavor.flavor c.args.bytes.now c.in-Changed.ensures

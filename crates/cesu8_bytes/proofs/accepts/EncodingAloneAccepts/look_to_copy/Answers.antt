@@ -1,6 +1,6 @@
 use Rattle.std.proofs.lemmas.Bool.{iff_false}
 use Rattle.cesu8_bytes.proofs.lists.Looks.{changed_shown, look_at_kept}
-use Rattle.cesu8_bytes.proofs.looks.EncodingAloneAccepts.look_to_copy.Goals as goal
+use Rattle.cesu8_bytes.proofs.accepts.EncodingAloneAccepts.look_to_copy.Goals as goal
 
 pub returns-then-shows_no_text : goal.returns-then-shows_no_text
 returns-then-shows_no_text g c =
