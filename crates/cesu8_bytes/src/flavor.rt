@@ -64,7 +64,8 @@ pub fn nulls<F: Flavor>(bytes: u8x32) -> u8x32
     mask::<F::Null>(bytes)
 }
 
-/// Marks, with the highest bit, the second bytes of C0 80. The other bits are set.
+/// Marks, with the highest bit, the bytes that are the second of C0 80 if they follow C0. The other
+/// bits are set, so that a common bit of other tables stays.
 #[inline(always)]
 pub fn second_of_null<F: Flavor>(bytes: u8x32) -> u8x32
     ensures { result ≡ map (λ b. if null_at F.flavor 0xC0 b then 0xFF else 0x7F) bytes }

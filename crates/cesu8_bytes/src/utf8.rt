@@ -107,7 +107,7 @@ enum Prefix {
     Whole,
     /// They are not, and a character that the offset cuts may be why.
     Cut,
-    /// All of the bytes are not UTF-8.
+    /// The bytes as a whole are not UTF-8.
     Fault,
 }
 

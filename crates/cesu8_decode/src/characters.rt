@@ -47,8 +47,8 @@ pub fn write_characters<F: Flavor>(strictness: Strictness, bytes: &[u8], out: &m
     }
 }
 
-/// Writes some characters of one byte, or else the character that begins the bytes, or what replaces
-/// an ill-formed byte.
+/// Writes some characters of one byte, or else the character that begins the bytes, or what
+/// replaces an ill-formed byte.
 #[inline(always)]
 #[tactic(auto, using(crate::proofs::chunks::Characters::some_written))]
 fn write_next<F: Flavor>(
@@ -76,7 +76,7 @@ fn write_next<F: Flavor>(
     } else {
         0
     };
-    // This branch is mostly guessed, so the next step need not wait for the length of the run.
+    // A processor mostly guesses this branch, so the next step need not wait for the run's length.
     if run > 0 {
         return Decoded {
             read: run,

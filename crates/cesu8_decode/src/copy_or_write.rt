@@ -10,7 +10,8 @@ use cesu8_bytes::flavor::Flavor;
 use cesu8_bytes::options::Strictness;
 use cesu8_bytes::writers::{copy_to_slice, copy_to_slice_by_call};
 
-/// Writes the text of the bytes to a call of this kind.
+/// Writes what a call that takes `A` reads in the bytes to a caller's buffer, if it fits, and
+/// returns its length in bytes.
 #[inline(always)]
 pub fn put<F: Flavor, A: Accepts>(
     strictness: Strictness,
@@ -26,7 +27,8 @@ pub fn put<F: Flavor, A: Accepts>(
     put_other::<F, A>(strictness, bytes, buf)
 }
 
-/// The bytes are not short ASCII. It is never inlined, so that the test for that stays small.
+/// Does so for bytes that are not short ASCII. It is never inlined, so that the test for that stays
+/// small.
 #[inline(never)]
 fn put_other<F: Flavor, A: Accepts>(
     strictness: Strictness,

@@ -19,8 +19,8 @@ pub fn is_ill_formed<F: Flavor>(bytes: &[u8]) -> bool
     valid_up_to_other::<F>(bytes) < bytes.len()
 }
 
-/// Returns whether the first bytes show one that is in no encoded character. Of the first four, which
-/// other looks have seen, it shows none.
+/// Returns whether the first bytes show one that is in no encoded character. Of the first four,
+/// which other looks have seen, it shows none.
 #[inline(always)]
 pub fn is_ill_formed_in_prefix<F: Flavor>(bytes: &[u8]) -> bool
     requires { DECIDING + 2 * BLOCK ≤ length bytes.now }

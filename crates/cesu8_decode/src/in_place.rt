@@ -73,8 +73,8 @@ pub fn write_text<F: Flavor>(strictness: Strictness, bytes: &[u8], out: &mut [u8
     }
 }
 
-/// Does so: the pairs at the front first, and then block by block. It is not inlined, since many calls
-/// need it.
+/// Does so: the pairs at the front first, and then block by block. It is not inlined, since many
+/// calls need it.
 #[inline(never)]
 fn write_by_pairs_and_blocks<F: Flavor, S: LastBlocks>(bytes: &[u8], out: &mut [u8]) -> Decoded
     requires { HasRoom S.which (length bytes.now) (length out.old) }
@@ -105,8 +105,9 @@ fn has_room<S: Reading>(bytes: &[u8], out: &[u8]) -> bool
     }
 }
 
-/// Writes the surrogate pairs that begin the bytes, one after another, as long as there is room for as
-/// many bytes. Where most bytes are of pairs, that takes less time than to change all bytes of a block.
+/// Writes the surrogate pairs that begin the bytes, one after another, as long as there is room for
+/// as many bytes. Where most bytes are of pairs, that takes less time than to change all bytes of a
+/// block.
 #[inline(always)]
 fn write_pairs(bytes: &[u8], out: &mut [u8]) -> Decoded
     ensures read { (f : AnyFlavor) (which : Strictness) → IsReadSoFar f which bytes.now

@@ -1,6 +1,6 @@
 //! The last blocks of some bytes, or all if they are few. They are read from an array.
 
-ghost use Rattle.std.specs.Prelude.{◌≡◌, ◌++◌, ◌+◌, ◌-◌, ◌*◌, ◌/◌, ◌<◌, ◌≤◌, ℕ, true, false, length, take, slice_index};
+ghost use Rattle.std.specs.Prelude.{◌≡◌, ◌+◌, ◌-◌, ◌*◌, ◌/◌, ◌<◌, ◌≤◌, ℕ, true, false, length, take, slice_index};
 ghost use Rattle.cesu8_bytes.specs.declared.options.Strictness.TheVariants.{Strict, Lossy};
 ghost use Rattle.cesu8_decode.specs.Decoding.{ReadsFirst, IsWrittenUpTo, WritesWindow, HasRoomBehind, most_written};
 ghost use Rattle.cesu8_decode.specs.DecodedOffsets.{window_of, is_boundary_at};
@@ -18,7 +18,8 @@ use cesu8_bytes::flavor::Flavor;
 use cesu8_bytes::put::put;
 use std::simd::prelude::*;
 
-/// The length of an array for the last bytes, or for all if they are few. It takes `BLOCK` bytes less.
+/// The length of an array for the last bytes, or for all if they are few, with a block of zeros
+/// behind.
 const LAST: usize = FEW_BYTES + BLOCK;
 
 /// The length of an array for the text of these in strict reading.
@@ -66,8 +67,8 @@ pub fn write_last<F: Flavor, S: LastBlocks>(
     }
 }
 
-/// Returns how many of the bytes from an offset up to another are read: all if none follow them, and
-/// else those before the last boundary.
+/// Returns how many of the bytes from an offset up to another are read: all if none follow them,
+/// and else those before the last boundary.
 #[inline(always)]
 fn last_len<F: Flavor>(bytes: &[u8], window: &[u8], at: usize, most: usize) -> usize
     requires bytes { (at ≤ most) × (most ≤ length bytes.now) }
@@ -131,7 +132,7 @@ impl LastBlocks for StrictReading {
     }
 }
 
-/// Where they go.
+/// Where they go, since lossy reading has room behind the text.
 impl LastBlocks for LossyReading {
     #[inline(always)]
     fn write_last_blocks<F: Flavor>(

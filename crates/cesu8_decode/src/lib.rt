@@ -53,8 +53,8 @@ use std::alloc::{AllocError, Allocator};
 use strings::{build_lossily, write_strictly};
 pub use valid_front::valid_up_to;
 
-/// Returns the strict reading of bytes that are not UTF-8, after one request for their length. What a
-/// look shows of them chooses the way.
+/// Returns the strict reading of bytes that are not UTF-8, after one request for their length. What
+/// a look shows of them chooses the way.
 pub fn decode_strict<F: Flavor, A: Allocator + Copy>(
     alloc: A,
     look: Look,

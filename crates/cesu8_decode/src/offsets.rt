@@ -17,7 +17,7 @@ use std::simd::prelude::*;
 /// The kinds of characters of two bytes.
 const TWO: u8 = 0x03;
 
-/// Those of characters of three bytes: from E0 on, from ED, and from another byte.
+/// Those of characters of three bytes: led by E0, by ED, and by another byte.
 pub const THREE: u8 = 0x1C;
 
 /// That of a surrogate pair.

@@ -22,12 +22,12 @@ pub struct Block {
     pub kinds: u8x32,
 }
 
-/// One of the two.
+/// Strict or lossy reading.
 pub trait Reading {
-    /// The same as a value.
+    /// Which of the two, as a value.
     ghost which: { Strictness };
 
-    /// Returns that.
+    /// Returns which of the two.
     fn strictness() -> Strictness
         ensures { result ≡ which };
 

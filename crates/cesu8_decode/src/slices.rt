@@ -4,7 +4,7 @@
 //! passes find whether they are ill-formed and, if needed, how long their text is. Then it is
 //! written chunk by chunk where it stays.
 
-ghost use Rattle.std.specs.Prelude.{◌≡◌, ◌+◌, ◌*◌, ◌≤◌, List, ℕ, ◌<◌, length, take, IsUtf8};
+ghost use Rattle.std.specs.Prelude.{◌≡◌, ◌+◌, ◌≤◌, List, ℕ, ◌<◌, length, take, IsUtf8};
 ghost use Rattle.cesu8_text.specs.Encoding.{Flavor as AnyFlavor};
 ghost use Rattle.cesu8_text.specs.Reading.{reading, lossy_length};
 ghost use Rattle.cesu8_text.specs.Slices.{StandsAtFront};
@@ -50,8 +50,8 @@ pub fn put_text<F: Flavor>(
     }
 }
 
-/// Writes the text of a few bytes, one character after another, to an array first. To clear a longer
-/// one than is needed takes time.
+/// Writes the text of a few bytes, one character after another, to an array first. To clear a
+/// longer one than is needed takes time.
 #[inline(always)]
 pub fn put_few<F: Flavor>(
     strictness: Strictness,
@@ -72,7 +72,8 @@ pub fn put_few<F: Flavor>(
     }
 }
 
-/// Does so by an array of this length. It is not inlined, so that it is made only when it is called.
+/// Does so by an array of this length. It is not inlined, so that it is made only when it is
+/// called.
 #[inline(never)]
 fn put_characters<F: Flavor, const WRITTEN: usize>(
     strictness: Strictness,
@@ -87,8 +88,8 @@ fn put_characters<F: Flavor, const WRITTEN: usize>(
     put_decoded(strictness, decoded, &written, buf)
 }
 
-/// Writes the text of the bytes of one window, to an array first: in strict reading of as many bytes
-/// as the window has, and in lossy reading of this length.
+/// Writes the text of the bytes of one window, to an array first: in strict reading of as many
+/// bytes as the window has, and in lossy reading of this length.
 #[inline(always)]
 fn put_window<F: Flavor, const LEN: usize, const WRITTEN: usize>(
     strictness: Strictness,
@@ -104,7 +105,8 @@ fn put_window<F: Flavor, const LEN: usize, const WRITTEN: usize>(
     }
 }
 
-/// Does so by an array of this length. It is not inlined, so that it is made only when it is called.
+/// Does so by an array of this length. It is not inlined, so that it is made only when it is
+/// called.
 #[inline(never)]
 fn put_by_array<F: Flavor, const WRITTEN: usize>(
     strictness: Strictness,

@@ -4,7 +4,7 @@
 //! Lossy reading requests exactly what the text has, so a few bytes are decoded on the stack before
 //! that. Of more bytes the text is appended chunk by chunk.
 
-ghost use Rattle.std.specs.Prelude.{◌≡◌, ◌+◌, ◌*◌, ◌≤◌, [], length, vec_len, vec_capacity, IsUtf8};
+ghost use Rattle.std.specs.Prelude.{◌≡◌, ◌+◌, ◌≤◌, [], length, vec_len, vec_capacity, IsUtf8};
 ghost use Rattle.cesu8_text.specs.Reading.{lossy_length};
 ghost use Rattle.cesu8_bytes.specs.Puts.{Appends};
 ghost use Rattle.cesu8_bytes.specs.TextChunks.{IsReadSoFar};
@@ -14,7 +14,6 @@ ghost use Rattle.cesu8_decode.specs.Decoding.{BuildsReading, WritesStrictly, roo
 use crate::characters::write_characters;
 use crate::in_place::{LONG_TEXT, SHORT_TEXT, append_strictly, write_text};
 use crate::lengths::lossy_len;
-use crate::packing::WIDEST;
 use crate::slices::CHARACTERS_TEXT;
 use crate::way::{FEW_BYTES, Way, way_of};
 use cesu8_bytes::accepts::Look;
@@ -24,8 +23,8 @@ use cesu8_bytes::options::Strictness;
 use cesu8_bytes::zeros::append_zeros;
 use std::alloc::{AllocError, Allocator};
 
-/// Writes the strict reading of bytes that are not UTF-8 to an empty vector that has capacity for as
-/// many.
+/// Writes the strict reading of bytes that are not UTF-8 to an empty vector that has capacity for
+/// as many.
 #[inline(always)]
 pub fn write_strictly<F: Flavor, A: Allocator + Copy>(
     look: Look,

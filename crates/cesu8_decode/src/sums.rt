@@ -1,7 +1,7 @@
-//! What the offsets of some bytes save, summed up by vectors, where they stand and with no branch on a
-//! byte. The character that begins at an offset decides it.
+//! What the offsets of some bytes save, summed up by vectors, where they stand and with no branch
+//! on a byte. The character that begins at an offset decides it.
 
-ghost use Rattle.std.specs.Prelude.{◌≡◌, ℕ, ◌+◌, ◌-◌, ◌*◌, ◌<◌, ◌≤◌, length, drop, map};
+ghost use Rattle.std.specs.Prelude.{◌≡◌, ◌+◌, ◌-◌, ◌*◌, ◌<◌, ◌≤◌, length, drop, map};
 ghost use Rattle.std.specs.List.{range_with_len};
 ghost use Rattle.cesu8_decode.specs.DecodedOffsets.{saved, total_weight, weight_between};
 ghost use Rattle.cesu8_decode.specs.DecodedLanes.{weight_at};
@@ -11,8 +11,8 @@ use cesu8_bytes::flavor::{Flavor, nulls};
 use cesu8_bytes::implementation::class::{AtLeast, bits};
 use std::simd::prelude::*;
 
-/// What a character of one byte saves, and what others do, by the lower half of their kind or by its
-/// upper half.
+/// What a character of one byte saves, and what others do, by the lower half of their kind or by
+/// its upper half.
 const BY_ONE: u8 = 2;
 
 const BY_LOW: [u8; 16] = [0, 4, 4, 0, 6, 0, 0, 0, 6, 0, 0, 0, 0, 0, 0, 0];
@@ -22,8 +22,8 @@ const BY_HIGH: [u8; 16] = [0, 6, 14, 0, 0, 0, 0, 0, 5, 0, 0, 0, 0, 0, 0, 0];
 /// The most blocks of 32 offsets that each lane sums up: an offset saves at most 14.
 const BLOCKS: usize = 16;
 
-/// Returns what the first offsets save, of some blocks or of all if they are few, and the bytes from
-/// the next offset on.
+/// Returns what the first offsets save, of some blocks or of all if they are few, and the bytes
+/// from the next offset on.
 #[inline(always)]
 pub fn sum_first<F: Flavor>(bytes: &[u8]) -> (usize, &[u8])
     requires { 0 < length bytes.now }
@@ -43,7 +43,8 @@ pub fn sum_first<F: Flavor>(bytes: &[u8]) -> (usize, &[u8])
     (sum_of_blocks::<F>(bytes, count), &bytes[32 * count..])
 }
 
-/// Returns what the offsets of the first blocks save. It is not inlined, since it would stand twice.
+/// Returns what the offsets of the first blocks save. It is not inlined, since it would stand
+/// twice.
 #[inline(never)]
 fn sum_of_blocks<F: Flavor>(bytes: &[u8], count: usize) -> usize
     requires count { count ≤ BLOCKS }
@@ -57,8 +58,8 @@ fn sum_of_blocks<F: Flavor>(bytes: &[u8], count: usize) -> usize
     lanes.dot4(u8x32::splat(1)).strict_reduce_sum() as usize
 }
 
-/// Returns what the 32 offsets from `at` on save. If no byte can lead others, only characters of one
-/// byte save something.
+/// Returns what the 32 offsets from `at` on save. If no byte can lead others, only characters of
+/// one byte save something.
 #[inline(always)]
 fn saved_lanes<F: Flavor>(bytes: &[u8], at: usize) -> u8x32
     requires { at + REACH ≤ length bytes.now }

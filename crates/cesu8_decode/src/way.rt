@@ -24,7 +24,7 @@
 //!   found only later is refused at the end of its block: a window of strict reading goes no further.
 //!
 //! How many times as fast a row makes what it is for, in the median at x86-64-v3 and at v2, beside
-//! e8cb82e without it, where the next row that fits took its place:
+//! the code of e8cb82e without it, where the next row that fits took its place:
 //!
 //! | row | bytes | v3 | v2 |
 //! |---|---|---|---|
@@ -40,14 +40,14 @@
 //! | | ill-formed in front, 4,000 bytes and more, in lenient calls | 1.5 | 1.3 |
 //! | `Refused`, without ED and C0 | one FF in 24 to 96 bytes of text | 1.7 | 1.6 |
 //!
-//! Text that is built of 300 to 1,024 bytes takes 4 to 8% longer for the look at the first 68. A way of
-//! its own for 24 bytes gained less than a tenth, and so did a window of 96.
+//! Text that is built of 300 to 1,024 bytes takes 4 to 8% longer for the look at the first 68. A
+//! way of its own for 24 bytes gained less than a tenth, and so did a window of 96.
 //!
 //! A call on a slice that takes no UTF-8 as such reads characters before it looks at more than the
 //! first bytes, below 64 of them of which at most 6 are others: the looks take as long as reading
 //! these. It does so too with at most 24 bytes of which one is ED or C0, since they are mostly an
-//! encoding. With one emoji or null that is 1.3 to 1.8 times as fast, with pairs alone 1.4 to 2.2, and
-//! text that stays takes up to a quarter longer.
+//! encoding. With one emoji or null that is 1.3 to 1.8 times as fast, with pairs alone 1.4 to 2.2,
+//! and text that stays takes up to a quarter longer.
 //!
 //! Other lengths in this crate decide no way: `characters` pads the last bytes, and `in_place` and
 //! `sums` the last block. `looks` of `cesu8_bytes` says what is seen of the bytes before.
@@ -137,8 +137,8 @@ pub fn way_of<F: Flavor>(strictness: Strictness, look: Look, bytes: &[u8]) -> Wa
     Way::LongWindow
 }
 
-/// Returns whether bytes are read one character after another before anything is seen of them: a few
-/// of which hardly any are not ASCII, or fewer that are most likely an encoding.
+/// Returns whether bytes are read one character after another before anything is seen of them: a
+/// few of which hardly any are not ASCII, or fewer that are most likely an encoding.
 #[inline(always)]
 pub fn is_read_before_looks(bytes: &[u8]) -> bool
     ensures { IsTrue result → length bytes.now ≤ FEW_BYTES }
@@ -162,8 +162,8 @@ fn are_few_others(bytes: &[u8]) -> bool
     has_few_others(bytes, most)
 }
 
-/// Returns whether bytes that are not UTF-8 show that they are no encoding, by their first lead byte,
-/// or by a search for ED and C0 in all.
+/// Returns whether bytes that are not UTF-8 show that they are no encoding, by their first lead
+/// byte, or by a search for ED and C0 in all.
 #[inline(always)]
 fn shows_no_encoding<F: Flavor>(bytes: &[u8]) -> bool
     requires { ¬ (IsUtf8 bytes.now) }

@@ -41,8 +41,8 @@ pub fn whole_count(len: usize) -> usize
     (len - FOLLOWING) / BLOCK
 }
 
-/// Returns the greatest end of some text behind which there is room for what comes next: a block, or
-/// the last bytes.
+/// Returns the greatest end of some text behind which there is room for what comes next: a block,
+/// or the last bytes.
 #[inline(always)]
 pub fn last_end<S: Reading>(out: &[u8]) -> usize
     requires { S.which ≡ Lossy → SPARE ≤ length out.now }

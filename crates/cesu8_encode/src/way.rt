@@ -6,19 +6,21 @@
 //! | at most 32        | one block                |
 //! | more              | blocks in turn           |
 //!
-//! An encoding has at most twice the bytes of its text. So `encode` writes one of at most 128 bytes to
-//! an array on the stack before its length is known, and copies it. For a block or less that is an array
-//! of 64 bytes. Others are counted, and written where they stay. Where the length is known, as in
-//! `encode_into`, all are.
+//! An encoding has at most twice the bytes of its text. So `encode` writes one of at most 128 bytes
+//! to an array on the stack before its length is known, and copies it. For a block or less that is
+//! an array of 64 bytes. Others are counted, and written where they stay. Where the length is
+//! known, as in
+//! `encode_into`, all are written so.
 //!
-//! To a slice, a text of more than a block is counted, and written in place. A few bytes are written in
-//! place too if twice as many fit, since that way writes none behind the encoding: other threads may
-//! read what is there. Else a block or less goes to the stack, from where it is copied.
+//! To a slice, a text of more than a block is counted, and written in place. A few bytes are
+//! written in place too if twice as many fit, since that way writes none behind the encoding: other
+//! threads may read what is there. Else a block or less goes to the stack, from where it is copied.
 //!
-//! Beside e8cb82e without the row, runs and changes in turn make texts of 1 to 6 bytes 1.1 to 1.4 times
-//! as fast, and to a slice up to 12 bytes 1.1 to 2.7 times. Longer ones they make slower, unless they
-//! have pairs alone. The stack makes texts of 33 to 128 bytes 1.04 to 1.12 times as fast. The smaller
-//! array makes those of at most a block 1.03 times as fast, and 1.07 times at x86-64-v2.
+//! Beside the code of e8cb82e without this row, runs and changes in turn make texts of 1 to 6 bytes
+//! 1.1 to 1.4 times as fast, and to a slice up to 12 bytes 1.1 to 2.7 times. Longer ones they make
+//! slower, unless they have pairs alone. The stack makes texts of 33 to 128 bytes 1.04 to 1.12
+//! times as fast. The smaller array makes those of at most a block 1.03 times as fast, and 1.07
+//! times at x86-64-v2.
 //!
 //! These ways are tests and no enum: `encode` asked for the value of one, which cost 13
 //! instructions.
@@ -39,9 +41,10 @@
 //! average of the text decides: one that is dense with pairs in a part alone may have its other
 //! blocks written where they could be copied.
 //!
-//! Beside e8cb82e without the row, `NullChange` makes texts of 256 to 4,096 bytes with a null in 2 to
-//! 50 bytes 1.1 to 1.7 times as fast. `AnyChange` makes those of 1 KiB and more with a pair in 20 to 50
-//! bytes, or of all widths, 1.1 to 1.16 times as fast at x86-64-v3, and 1.02 to 1.09 at v2.
+//! Beside the code of e8cb82e without the row, `NullChange` makes texts of 256 to 4,096 bytes with
+//! a null in 2 to 50 bytes 1.1 to 1.7 times as fast. `AnyChange` makes those of 1 KiB and more with
+//! a pair in 20 to 50 bytes, or of all widths, 1.1 to 1.16 times as fast at x86-64-v3, and 1.02 to
+//! 1.09 at v2.
 //! `CopyUnchanged` makes those with a pair in 300 bytes or more 1.2 to 2.5 times as fast. A way of its
 //! own for nulls that are few gained nothing.
 //!
@@ -93,7 +96,8 @@ pub enum Middle {
 }
 
 /// Returns the way of the blocks between the first and the last of a text, by how many bytes more
-/// than the text its encoding has, or 0 if that is not known.
+/// than the text its encoding has, or 0 if that is not known, and by how many blocks come before
+/// the last.
 #[inline(always)]
 pub fn middle_of<F: Flavor>(text: &[u8], more: usize, blocks: usize) -> Middle
     ensures { FitsMiddle result text.now }

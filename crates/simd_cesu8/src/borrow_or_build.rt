@@ -149,8 +149,8 @@ fn decode_lossy_as<F: Flavor, A: Accepts>(
     decode_lossy_other::<F, A>(alloc, bytes)
 }
 
-/// Does so for bytes that are no short ASCII. All of them have a lossy reading, so nothing more need
-/// be known of those that are no text.
+/// Does so for bytes that are no short ASCII. All of them have a lossy reading, so nothing more
+/// need be known of those that are no text.
 #[inline(never)]
 fn decode_lossy_other<F: Flavor, A: Accepts>(
     alloc: Global,
