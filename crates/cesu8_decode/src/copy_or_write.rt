@@ -41,13 +41,12 @@ fn put_other<F: Flavor, A: Accepts>(
     if A::is_encoding_alone() && is_read_before_looks(bytes) {
         return put_few::<F>(strictness, bytes, buf);
     }
-    let look = A::look_to_copy::<F>(bytes);
-    match look {
+    match A::look_to_copy::<F>(bytes) {
         Look::Text => copy_to_slice_by_call(bytes, buf).map_err(Unwritten::NoRoom),
         Look::NoEncoding => match strictness {
             Strictness::Strict => Err(Unwritten::NoText),
-            Strictness::Lossy => put_text::<F>(strictness, look, bytes, buf),
+            Strictness::Lossy => put_text::<F>(strictness, bytes, buf),
         },
-        Look::Encoding | Look::Unknown => put_text::<F>(strictness, look, bytes, buf),
+        Look::Encoding | Look::Unknown => put_text::<F>(strictness, bytes, buf),
     }
 }

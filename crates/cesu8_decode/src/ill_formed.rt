@@ -19,12 +19,24 @@ pub fn is_ill_formed<F: Flavor>(bytes: &[u8]) -> bool
     valid_up_to_other::<F>(bytes) < bytes.len()
 }
 
-/// Returns whether the first bytes show one that is in no encoded character. Of the first four,
-/// which other looks have seen, it shows none.
-#[inline(always)]
-pub fn is_ill_formed_in_prefix<F: Flavor>(bytes: &[u8]) -> bool
-    requires { DECIDING + 2 * BLOCK ≤ length bytes.now }
+/// How many bytes are tested at once.
+const PART: usize = 2 * BLOCK;
+
+/// One of so many bytes at the front is tested.
+const SHARE: usize = 32;
+
+/// Returns whether one of the first bytes is in no encoded character: of 68, or of a 32nd if that
+/// is more, so that the test costs little of the time that decoding takes. Of the first four,
+/// which other looks have seen, it shows none. It is not inlined, since it would stand twice.
+#[inline(never)]
+pub fn is_ill_formed_in_front<F: Flavor>(bytes: &[u8]) -> bool
+    requires { DECIDING + 4 * BLOCK ≤ length bytes.now }
     ensures { IsTrue result → HasNoStrictReading F.flavor bytes.now }
 {
-    !two_follow::<F>(bytes, 0)
+    for part in 0..bytes.len() / (SHARE * PART) + 1 {
+        if !two_follow::<F>(bytes, PART * part) {
+            return true;
+        }
+    }
+    false
 }

@@ -18,8 +18,8 @@ use cesu8_bytes::flavor::Flavor;
 use cesu8_bytes::put::put;
 use std::simd::prelude::*;
 
-/// The length of an array for the last bytes, or for all if they are few, with a block of zeros
-/// behind.
+/// The length of an array for the last bytes, or for all if they are few, with those before them
+/// and zeros behind.
 const LAST: usize = FEW_BYTES + BLOCK;
 
 /// The length of an array for the text of these in strict reading.

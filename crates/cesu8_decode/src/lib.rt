@@ -88,7 +88,6 @@ pub fn refuse<A: Allocator>(alloc: A, len: usize) -> Refusal {
 #[inline(never)]
 pub fn decode_lossy<F: Flavor, A: Allocator + Copy>(
     alloc: A,
-    look: Look,
     bytes: &[u8],
 ) -> Result<String<A>, AllocError>
     ensures text { IfOk result (λ text.
@@ -96,6 +95,6 @@ pub fn decode_lossy<F: Flavor, A: Allocator + Copy>(
     ensures capacity { IfOk result (λ text.
         string_capacity text ≡ lossy_length F.flavor bytes.now) }
 {
-    let text = build_lossily::<F, A>(alloc, look, bytes)?;
+    let text = build_lossily::<F, A>(alloc, bytes)?;
     Ok(known_string(text))
 }

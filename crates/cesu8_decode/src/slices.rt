@@ -34,19 +34,20 @@ pub const CHARACTERS_TEXT: usize = WIDEST * FEW_BYTES;
 #[inline(never)]
 pub fn put_text<F: Flavor>(
     strictness: Strictness,
-    look: Look,
     bytes: &[u8],
     buf: &mut [u8],
 ) -> Result<usize, Unwritten>
     requires { strictness ≡ Strict → ¬ (IsUtf8 bytes.now) }
     ensures { PutsReading F.flavor strictness bytes.now result buf.old buf.new }
 {
-    match way_of::<F>(strictness, look, bytes) {
+    let Some(way) = way_of::<F>(strictness, Look::Unknown, bytes) else {
+        return Err(Unwritten::NoText);
+    };
+    match way {
         Way::Characters => put_few::<F>(strictness, bytes, buf),
         Way::ShortWindow => put_window::<F, SHORT_WINDOW, SHORT_TEXT>(strictness, bytes, buf),
         Way::LongWindow => put_window::<F, LONG_WINDOW, LONG_TEXT>(strictness, bytes, buf),
         Way::Chunks => put_chunks::<F>(strictness, bytes, buf),
-        Way::Refused => Err(Unwritten::NoText),
     }
 }
 

@@ -15,7 +15,7 @@ use crate::characters::write_characters;
 use crate::in_place::{LONG_TEXT, SHORT_TEXT, append_strictly, write_text};
 use crate::lengths::lossy_len;
 use crate::slices::CHARACTERS_TEXT;
-use crate::way::{FEW_BYTES, Way, way_of};
+use crate::way::{FEW_BYTES, Way, lossy_way, strict_way};
 use cesu8_bytes::accepts::Look;
 use cesu8_bytes::copies::copy;
 use cesu8_bytes::flavor::Flavor;
@@ -35,10 +35,9 @@ pub fn write_strictly<F: Flavor, A: Allocator + Copy>(
     requires empty { (empty.items ≡ []) × (length bytes.now ≤ vec_capacity empty) }
     ensures { WritesStrictly F.flavor bytes.now empty result }
 {
-    match way_of::<F>(Strictness::Strict, look, bytes) {
-        Way::Refused => None,
+    match strict_way::<F>(look, bytes)? {
         Way::Characters => write_few::<F, A>(bytes, empty),
-        _ => append_strictly::<F, A>(bytes, empty),
+        Way::ShortWindow | Way::LongWindow | Way::Chunks => append_strictly::<F, A>(bytes, empty),
     }
 }
 
@@ -46,16 +45,15 @@ pub fn write_strictly<F: Flavor, A: Allocator + Copy>(
 #[inline(always)]
 pub fn build_lossily<F: Flavor, A: Allocator + Copy>(
     alloc: A,
-    look: Look,
     bytes: &[u8],
 ) -> Result<Vec<u8, A>, AllocError>
     ensures { BuildsReading F.flavor bytes.now result }
 {
-    match way_of::<F>(Strictness::Lossy, look, bytes) {
+    match lossy_way(bytes) {
         Way::Characters => build_characters::<F, A>(alloc, bytes),
         Way::ShortWindow => build_window::<F, SHORT_TEXT, A>(alloc, bytes),
         Way::LongWindow => build_window::<F, LONG_TEXT, A>(alloc, bytes),
-        Way::Chunks | Way::Refused => build_chunks::<F, A>(alloc, bytes),
+        Way::Chunks => build_chunks::<F, A>(alloc, bytes),
     }
 }
 

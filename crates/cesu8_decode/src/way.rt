@@ -8,7 +8,7 @@
 //! | 24 and more, whose first lead byte is that of a lone surrogate, C0 of no null, or F0 and more | any | `Refused` | as below |
 //! | at most 1,024, of which none is ED or C0 | any | `Refused` | as below |
 //! | at most 256 | more | `ShortWindow` | `ShortWindow` |
-//! | more, and the first 68 show an ill-formed byte | any | `Refused` | as below |
+//! | more, and the first 68 or a 32nd of them show an ill-formed byte | any | `Refused` | as below |
 //! | at most 1,024 | any | `LongWindow` | `LongWindow` |
 //! | more | any | `Chunks` | `Chunks` |
 //!
@@ -36,7 +36,7 @@
 //! | | 300 to 1,024 bytes, to a slice | 1.3 | 1.4 |
 //! | `Refused`, by the first lead byte | surrogates alone, 24 to 48 bytes, to a `String` | 1.9 | 1.8 |
 //! | | the same, 300 to 1,024 bytes | 1.2 | 1.2 |
-//! | `Refused`, by the first 68 | the other encoding, 300 to 1,024 bytes, in lenient calls | 1.2 | 1.1 |
+//! | `Refused`, by the first bytes | the other encoding, 300 to 1,024 bytes, in lenient calls | 1.2 | 1.1 |
 //! | | ill-formed in front, 4,000 bytes and more, in lenient calls | 1.5 | 1.3 |
 //! | `Refused`, without ED and C0 | one FF in 24 to 96 bytes of text | 1.7 | 1.6 |
 //!
@@ -52,13 +52,13 @@
 //! Other lengths in this crate decide no way: `characters` pads the last bytes, and `in_place` and
 //! `sums` the last block. `looks` of `cesu8_bytes` says what is seen of the bytes before.
 
-ghost use Rattle.std.specs.Prelude.{◌≡◌, ◌≤◌, length, IsTrue, IsUtf8};
+ghost use Rattle.std.specs.Prelude.{◌≡◌, ◌≤◌, length, IfSome, IfNone, IsTrue, IsUtf8};
 ghost use Rattle.cesu8_text.specs.Reading.{HasNoStrictReading};
 ghost use Rattle.cesu8_bytes.specs.declared.options.Strictness.TheVariants.{Strict};
-ghost use Rattle.cesu8_decode.specs.Ways.{IsWayOf};
+ghost use Rattle.cesu8_decode.specs.Ways.{Takes};
 
 use super::forms::{FirstLead, first_lead};
-use super::ill_formed::is_ill_formed_in_prefix;
+use super::ill_formed::is_ill_formed_in_front;
 use cesu8_bytes::accepts::Look;
 use cesu8_bytes::flavor::Flavor;
 use cesu8_bytes::implementation::class::{Either, NonAscii, Null};
@@ -73,7 +73,6 @@ pub enum Way {
     ShortWindow,
     LongWindow,
     Chunks,
-    Refused,
 }
 
 /// The most bytes that are read one character after another, and that are left to the last blocks.
@@ -104,37 +103,70 @@ const READ_AT_ONCE: usize = 64;
 /// 00, or 80 (hexadecimal) or more.
 type NullOrNonAscii = Either<Null, NonAscii>;
 
-/// Returns which way the bytes go, by what a look has shown of them.
+/// Returns which way bytes go, by what a look has shown of them, or none if strict reading refuses
+/// them.
 #[inline(always)]
-pub fn way_of<F: Flavor>(strictness: Strictness, look: Look, bytes: &[u8]) -> Way
+pub fn way_of<F: Flavor>(strictness: Strictness, look: Look, bytes: &[u8]) -> Option<Way>
     requires { strictness ≡ Strict → ¬ (IsUtf8 bytes.now) }
-    ensures { IsWayOf F.flavor strictness bytes.now result }
+    ensures some { IfSome result (λ way. Takes way bytes.now) }
+    ensures none { IfNone result ((strictness ≡ Strict) × HasNoStrictReading F.flavor bytes.now) }
 {
-    let is_strict = matches!(strictness, Strictness::Strict);
-    let is_encoding = is_strict && matches!(look, Look::Encoding);
+    match strictness {
+        Strictness::Strict => strict_way::<F>(look, bytes),
+        Strictness::Lossy => Some(lossy_way(bytes)),
+    }
+}
+
+/// Returns which way bytes go that are not UTF-8 in strict reading, by what a look has shown of
+/// them. It returns none if they show that they have no text.
+#[inline(always)]
+pub fn strict_way<F: Flavor>(look: Look, bytes: &[u8]) -> Option<Way>
+    requires { ¬ (IsUtf8 bytes.now) }
+    ensures some { IfSome result (λ way. Takes way bytes.now) }
+    ensures none { IfNone result (HasNoStrictReading F.flavor bytes.now) }
+{
+    let is_encoding = matches!(look, Look::Encoding);
     if is_encoding && bytes.len() <= MOSTLY_ENCODING {
-        return Way::Characters;
+        return Some(Way::Characters);
     }
     if are_few_others(bytes) {
-        return if is_strict && !is_encoding && has_no_other_lead::<F>(bytes) {
-            Way::Refused
-        } else {
-            Way::Characters
-        };
+        if is_encoding || !has_no_other_lead::<F>(bytes) {
+            return Some(Way::Characters);
+        }
+        return None;
     }
-    if is_strict && shows_no_encoding::<F>(bytes) {
-        return Way::Refused;
+    if shows_no_encoding::<F>(bytes) {
+        return None;
     }
+    if bytes.len() > SHORT_WINDOW && is_ill_formed_in_front::<F>(bytes) {
+        return None;
+    }
+    Some(way_by_length(bytes))
+}
+
+/// Returns which way bytes go in lossy reading.
+#[inline(always)]
+pub fn lossy_way(bytes: &[u8]) -> Way
+    ensures { Takes result bytes.now }
+{
+    if are_few_others(bytes) {
+        return Way::Characters;
+    }
+    way_by_length(bytes)
+}
+
+/// Returns which way bytes go that are not read one character after another.
+#[inline(always)]
+fn way_by_length(bytes: &[u8]) -> Way
+    ensures { Takes result bytes.now }
+{
     if bytes.len() <= SHORT_WINDOW {
-        return Way::ShortWindow;
+        Way::ShortWindow
+    } else if bytes.len() <= LONG_WINDOW {
+        Way::LongWindow
+    } else {
+        Way::Chunks
     }
-    if is_strict && is_ill_formed_in_prefix::<F>(bytes) {
-        return Way::Refused;
-    }
-    if bytes.len() > LONG_WINDOW {
-        return Way::Chunks;
-    }
-    Way::LongWindow
 }
 
 /// Returns whether bytes are read one character after another before anything is seen of them: a

@@ -12,7 +12,7 @@ pub record ReadsEncoding (f : Flavor) (bytes : List ℕ) (reads reads_lossily : 
 
 -- What is known of the texts of bytes to such a call, and to one that replaces what is ill-formed.
 pub record KnowsTexts (f : Flavor) (bytes : List ℕ) (keeps : Type 0) (reads reads_lossily : List ℕ → Type 0) : Type 0 where
-  -- UTF-8 alone is kept, and all that is an encoding. Its characters are its text.
+  -- UTF-8 alone is kept, and all of it in which nothing changes. Its characters are its text.
   pub is_utf8 : keeps → IsUtf8 bytes
   pub unchanged : IsUnchangedUtf8 f bytes → keeps
   pub kept : (text : List ℕ) → keeps → reads text ↔ text ≡ chars bytes

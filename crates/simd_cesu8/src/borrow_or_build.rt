@@ -159,10 +159,9 @@ fn decode_lossy_other<F: Flavor, A: Accepts>(
     ensures { DecodesLossilyAs F.flavor (A.keeps F.flavor bytes.now)
         (A.reads_lossily F.flavor bytes.now) bytes.now result }
 {
-    let look = A::look::<F>(bytes);
-    if let Look::Text = look {
+    if let Look::Text = A::look::<F>(bytes) {
         return Ok(CowText::Borrowed(known_text(bytes)));
     }
-    let built = internal::decode_lossy::<F, Global>(alloc, look, bytes)?;
+    let built = internal::decode_lossy::<F, Global>(alloc, bytes)?;
     Ok(CowText::Owned(built))
 }

@@ -140,7 +140,7 @@ module _ (which : Strictness) (IsReading : List ℕ → Type 0) (text answer buf
   }
 
 -- One of both is told of a copy of the answer.
-pub text_put : (which : Strictness) (IsReading : List ℕ → Type 0) (text answer : List ℕ) (r : Result ℕ NoRoom) (told : Result ℕ Unwritten) (old new : List ℕ) →
+text_put : (which : Strictness) (IsReading : List ℕ → Type 0) (text answer : List ℕ) (r : Result ℕ NoRoom) (told : Result ℕ Unwritten) (old new : List ℕ) →
     IsOnlyText IsReading text answer → length answer < 2 ^ 64 →
     MatchResult r (λ len. told ≡ Ok len) (λ fault. IsErrAnd told (λ d. d ≡ unwritten.NoRoom fault)) →
     PutsAnswer answer r old new → PutsText which IsReading told old new
@@ -152,7 +152,16 @@ text_put which IsReading text answer (Err fault) (Err other) old new is small to
     rw (told_is, puts.unchanged) (room_lacks which IsReading text answer old is small fault puts.needed
     (⊎_elim (λ short. short) (λ fits. absurd (false≢true (puts.fits.1 fits))) (cases_lt (length old) (length answer))))
 
--- So are bytes of which all were decoded.
+-- So it is of bytes that a call keeps,
+pub kept_put : (f : Flavor) (bytes : List ℕ) (keeps : Type 0) (reads reads_lossily : List ℕ → Type 0) → KnowsTexts f bytes keeps reads reads_lossily →
+    (which : Strictness) → keeps → (r : Result ℕ NoRoom) (told : Result ℕ Unwritten) (old new : List ℕ) → length bytes < 2 ^ 64 →
+    MatchResult r (λ len. told ≡ Ok len) (λ fault. IsErrAnd told (λ d. d ≡ unwritten.NoRoom fault)) →
+    PutsAnswer bytes r old new → PutsText which (ReadsAs which reads reads_lossily) told old new
+kept_put f bytes keeps reads reads_lossily known which kept r told old new small told_is puts =
+    text_put which (ReadsAs which reads reads_lossily) (chars bytes) bytes r told old new
+    (only_kept f bytes keeps reads reads_lossily known which kept) small told_is puts
+
+-- and of those of which all were decoded.
 pub decoded_put : (f : Flavor) (which : Strictness) (bytes answer : List ℕ) (read : ℕ) (is_ill_formed : Bool) (r : Result ℕ NoRoom) (told : Result ℕ Unwritten) (old new : List ℕ) →
     ReadsAll f which bytes read answer is_ill_formed → refuses which is_ill_formed ≡ false → length answer < 2 ^ 64 →
     MatchResult r (λ len. told ≡ Ok len) (λ fault. IsErrAnd told (λ d. d ≡ unwritten.NoRoom fault)) →

@@ -1,14 +1,10 @@
 use Rattle.std.proofs.Common.{arith}
-use Rattle.cesu8_decode.specs.PutReadings.{ReadsAs}
-use Rattle.cesu8_decode.proofs.chunks.SliceReadings.{only_kept, text_put}
+use Rattle.cesu8_decode.proofs.chunks.SliceReadings.{kept_put}
 use Rattle.cesu8_decode.proofs.copy_or_write.put.Goals as goal
 
 pub returns-then-is_short_ascii : goal.returns-then-is_short_ascii
 returns-then-is_short_ascii g c =
     let f = g.F.Flavor.flavor in
-    let which = c.args.strictness in
     let bytes = c.args.bytes.now in
-    text_put which (ReadsAs which (g.A.Accepts.reads f bytes) (g.A.Accepts.reads_lossily f bytes)) _ _
-    c.copy_to_slice.result c.map_err.result c.args.buf.now c.copy_to_slice.new.buf
-    (only_kept f bytes _ _ _ (g.met.A.Accepts.known f bytes) which (c.is_short_ascii.ensures c.if-is_short_ascii.true))
-    (omega arith) c.map_err.ensures.cases c.copy_to_slice.ensures
+    kept_put f bytes _ _ _ (g.met.A.Accepts.known f bytes) c.args.strictness (c.is_short_ascii.ensures c.if-is_short_ascii.true) c.copy_to_slice.result
+    c.map_err.result c.args.buf.now c.copy_to_slice.new.buf (omega arith) c.map_err.ensures.cases c.copy_to_slice.ensures

@@ -1,18 +1,14 @@
 use Rattle.std.proofs.Common.{arith}
 use Rattle.cesu8_bytes.proofs.lists.Looks.{not_utf8_by}
-use Rattle.cesu8_decode.specs.PutReadings.{ReadsAs}
-use Rattle.cesu8_decode.proofs.chunks.SliceReadings.{only_kept, text_put, encoding_put}
+use Rattle.cesu8_decode.proofs.chunks.SliceReadings.{kept_put, encoding_put}
 use Rattle.cesu8_decode.proofs.copy_or_write.put_other.Goals as goal
 
 pub returns-in-Text : goal.returns-in-Text
 returns-in-Text g c =
     let f = g.F.Flavor.flavor in
-    let which = c.args.strictness in
     let bytes = c.args.bytes.now in
-    text_put which (ReadsAs which (g.A.Accepts.reads f bytes) (g.A.Accepts.reads_lossily f bytes)) _ _
-    c.copy_to_slice_by_call.result c.map_err.result c.args.buf.now c.copy_to_slice_by_call.new.buf
-    (only_kept f bytes _ _ _ (g.met.A.Accepts.known f bytes) which c.in-Text.ensures)
-    (omega arith) c.map_err.ensures.cases c.copy_to_slice_by_call.ensures
+    kept_put f bytes _ _ _ (g.met.A.Accepts.known f bytes) c.args.strictness c.in-Text.ensures c.copy_to_slice_by_call.result c.map_err.result
+    c.args.buf.now c.copy_to_slice_by_call.new.buf (omega arith) c.map_err.ensures.cases c.copy_to_slice_by_call.ensures
 
 -- It is an encoding alone that is read before it is looked at.
 pub returns-then-is_read_before_looks : goal.returns-then-is_read_before_looks
@@ -33,5 +29,5 @@ returns-in-Encoding g c =
     let f = g.F.Flavor.flavor in
     let bytes = c.args.bytes.now in
     let known = g.met.A.Accepts.known f bytes in
-    let not_utf8 = not_utf8_by f _ bytes c.look_to_copy-look.result c.look_to_copy-look.ensures c.in-Encoding.is in
+    let not_utf8 = not_utf8_by f _ bytes c.look_to_copy.result c.look_to_copy.ensures c.in-Encoding.is in
     encoding_put f bytes _ _ (known.other (λ kept. not_utf8 (known.is_utf8 kept))) c.args.strictness _ _ _ c.put_text-in-Encoding.ensures

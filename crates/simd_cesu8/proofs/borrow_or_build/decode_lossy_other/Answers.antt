@@ -33,7 +33,7 @@ returns g c =
     let built = string_bytes c.in_ok-built.built in
     let is_utf8 = IsUtf8-string_bytes c.in_ok-built.built in
     let known = g.met.A.Accepts.known f bytes in
-    let not_kept = not_kept_by f _ bytes c.look-look.result known.is_utf8 c.look-look.ensures c.in_default.not-Text in
+    let not_kept = not_kept_by f _ bytes c.look.result known.is_utf8 c.look.ensures c.in_default.not-Text in
     record {
       reading = ((known.other not_kept).lossily (chars built)).1 c.in_ok-built.ensures.text;
       text_length = λ exact. length_of_reading f bytes built is_utf8 c.in_ok-built.ensures.text;
