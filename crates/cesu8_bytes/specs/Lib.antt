@@ -1,5 +1,5 @@
 pub mod Kernels
-pub mod Joining
+pub mod Pairs
 pub mod TextChunks
 pub mod Puts
 pub mod Looks

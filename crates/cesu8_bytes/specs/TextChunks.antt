@@ -3,8 +3,8 @@ use Rattle.std.specs.Prelude.{◌≡◌, ℕ, List, [], ◌++◌}
 use Rattle.cesu8_text.specs.Text.{IsText, utf8}
 use Rattle.cesu8_text.specs.Encoding.{Flavor, encoding}
 use Rattle.cesu8_text.specs.Reading.{reading}
-use Rattle.cesu8_bytes.specs.declared.options.Strictness.{Strictness}
-use Rattle.cesu8_bytes.specs.declared.options.Strictness.TheVariants.{Strict}
+use Rattle.cesu8_bytes.specs.declared.strictness.Strictness.{Strictness}
+use Rattle.cesu8_bytes.specs.declared.strictness.Strictness.TheVariants.{Strict}
 
 -- The text so far, whose UTF-8 was written after old, and the bytes that are left.
 pub record IsReadSoFar (f : Flavor) (which : Strictness) (bytes rest old new : List ℕ) : Type 0 where

@@ -40,7 +40,7 @@ pub trait Accepts {
     ghost reads_lossily: { AnyFlavor → List ℕ → List ℕ → Type 0 };
 
     /// Returns whether the bytes are few, and all ASCII that stays.
-    fn is_short_ascii<F: Flavor>(bytes: &[u8]) -> bool
+    fn is_short_kept_ascii<F: Flavor>(bytes: &[u8]) -> bool
         ensures { IsTrue result → keeps F.flavor bytes.now };
 
     /// Returns what a look shows of bytes that are not so.
@@ -71,7 +71,7 @@ impl Accepts for Lenient {
     ghost reads_lossily = { IsLenientLossyReading };
 
     #[inline(always)]
-    fn is_short_ascii<F: Flavor>(bytes: &[u8]) -> bool {
+    fn is_short_kept_ascii<F: Flavor>(bytes: &[u8]) -> bool {
         is_short_ascii(bytes)
     }
 
@@ -114,7 +114,7 @@ impl Accepts for EncodingAlone {
     ghost reads_lossily = { λ f bytes text. text ≡ reading f bytes };
 
     #[inline(always)]
-    fn is_short_ascii<F: Flavor>(bytes: &[u8]) -> bool {
+    fn is_short_kept_ascii<F: Flavor>(bytes: &[u8]) -> bool {
         is_short_unchanged_ascii::<F>(bytes)
     }
 

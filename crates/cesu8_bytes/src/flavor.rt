@@ -3,7 +3,7 @@
 ghost use Rattle.std.specs.Prelude.{◌≡◌, ◌↔◌, IsTrue, refl, map, if◌then◌else◌};
 ghost use Rattle.cesu8_text.specs.Encoding.{Flavor as AnyFlavor, Cesu8, Mutf8};
 ghost use Rattle.cesu8_text.specs.Class.{is_null};
-ghost use Rattle.cesu8_bytes.specs.Joining.{null_at};
+ghost use Rattle.cesu8_bytes.specs.Pairs.{null_at};
 ghost use Rattle.cesu8_bytes.specs.Kernels.{mask};
 
 use crate::implementation::class::{NoByte, Null, mask};

@@ -14,7 +14,7 @@ use std::simd::prelude::*;
 pub const STORED: usize = 16;
 
 /// How many bytes are half a block.
-const HALF: usize = BLOCK / 2;
+pub const HALF: usize = BLOCK / 2;
 
 /// Stores those of 32 bytes that don't go, and returns their end. Bit `i` of the set tells whether
 /// byte `i` goes. Its bits above these tell nothing.

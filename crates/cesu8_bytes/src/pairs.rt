@@ -1,7 +1,7 @@
 //! Surrogate pairs, found and written in UTF-8 by words of eight bytes.
 
 ghost use Rattle.std.specs.Prelude.{◌≡◌, ◌+◌, ◌*◌, ◌≤◌, ◌↔◌, length, slice_index, IsTrue};
-ghost use Rattle.cesu8_bytes.specs.Joining.{HasPair, AreJoinedDigits, second_third_fifth_sixth, word_of};
+ghost use Rattle.cesu8_bytes.specs.Pairs.{HasPair, IsUtf8OfDigits, second_third_fifth_sixth, word_of};
 
 use std::simd::prelude::*;
 
@@ -40,7 +40,7 @@ fn pair_bits(bytes: &[u8]) -> u64
 #[inline(always)]
 pub fn utf8_of_pair(bytes: &[u8]) -> [u8; PAIR_UTF8]
     requires { PAIR_READ ≤ length bytes.now }
-    ensures { AreJoinedDigits (second_third_fifth_sixth bytes.now) result }
+    ensures { IsUtf8OfDigits (second_third_fifth_sixth bytes.now) result }
 {
     // The plane offset: one more than the last four bits of the second byte.
     let word = first_word(bytes).wrapping_add(0x100);

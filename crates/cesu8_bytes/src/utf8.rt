@@ -19,7 +19,7 @@ use std::simd::prelude::*;
 use std::str;
 
 /// So few bytes are tested one by one in less time than a block.
-const FEW: usize = 3;
+const ONE_BY_ONE: usize = 3;
 
 /// How many blocks the first part has, behind which the test looks whether it has met a fault. Most
 /// input that is not UTF-8 shows it early.
@@ -46,7 +46,7 @@ pub fn is_utf8(bytes: &[u8]) -> bool
     if bytes.len() >= QUARTER {
         return is_block_utf8(padded_block(bytes, 0));
     }
-    if bytes.len() > FEW {
+    if bytes.len() > ONE_BY_ONE {
         return is_block_utf8(block_of_quarter(bytes));
     }
     str::from_utf8(bytes).is_ok()

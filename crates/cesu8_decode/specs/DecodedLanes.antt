@@ -2,7 +2,7 @@
 use Rattle.std.specs.Prelude.{◌≡◌, ℕ, ◌+◌, ◌-◌, ◌*◌, ◌/◌, ◌%◌, ◌<◌, ◌≤◌, ◌&&◌, ◌||◌, ◌==◌, nat_le, nat_lt, if◌then◌else◌, Bool, true, false, List, [], ◌++◌, map, take, replicate, slice_index, slice_index_or, bit_and, bit_or}
 use Rattle.std.specs.List.{range_with_len}
 use Rattle.cesu8_text.specs.Encoding.{Flavor}
-use Rattle.cesu8_bytes.specs.Joining.{null_at}
+use Rattle.cesu8_bytes.specs.Pairs.{null_at}
 pub use Rattle.cesu8_bytes.specs.Packing.{written, written_for, kept_of, shuffle_keeping, shuffle_of_eight, AreShufflesOfEight}
 use Rattle.cesu8_decode.specs.DecodedOffsets.{two_at, three_at, pair_at, first_width_by, width_at, is_ill_formed_at}
 

@@ -3,8 +3,8 @@ use Rattle.std.specs.Prelude.{◌≡◌, ℕ, ◌+◌, ◌*◌, ◌/◌, ◌<◌
 use Rattle.cesu8_text.specs.Text.{IsText}
 use Rattle.cesu8_text.specs.Reading.{reading, NoneBegins, lossy_length, HasNoStrictReading}
 use Rattle.cesu8_text.specs.Encoding.{Flavor, encoding}
-use Rattle.cesu8_bytes.specs.declared.options.Strictness.{Strictness}
-use Rattle.cesu8_bytes.specs.declared.options.Strictness.TheVariants.{Strict, Lossy}
+use Rattle.cesu8_bytes.specs.declared.strictness.Strictness.{Strictness}
+use Rattle.cesu8_bytes.specs.declared.strictness.Strictness.TheVariants.{Strict, Lossy}
 use Rattle.cesu8_decode.specs.declared.whole_blocks.TheConstants.{SPARE}
 use Rattle.cesu8_decode.specs.DecodedOffsets.{window_of, decoded, is_ill_formed_at}
 use Rattle.cesu8_bytes.specs.TextChunks.{IsChunk}

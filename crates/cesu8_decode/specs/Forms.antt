@@ -1,7 +1,7 @@
 -- How a character of more than one byte is encoded at the front of bytes.
 use Rattle.std.specs.Prelude.{◌≡◌, ℕ, true, false, List, slice_index}
 use Rattle.cesu8_text.specs.Encoding.{Flavor}
-use Rattle.cesu8_bytes.specs.Joining.{null_at, HasPair}
+use Rattle.cesu8_bytes.specs.Pairs.{null_at, HasPair}
 use Rattle.cesu8_decode.specs.DecodedOffsets.{two_at, three_at}
 use Rattle.cesu8_decode.specs.declared.forms.Form.{Form}
 use Rattle.cesu8_decode.specs.declared.forms.Form.TheVariants.{Pair, Null, Two, Three}

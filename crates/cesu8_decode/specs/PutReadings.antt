@@ -3,8 +3,8 @@ use Rattle.std.specs.Prelude.{◌≡◌, ℕ, ◌^◌, ◌≤◌, ◌↔◌, ⊤
 use Rattle.cesu8_text.specs.Encoding.{Flavor}
 use Rattle.cesu8_text.specs.Reading.{IsStrictReading, reading}
 use Rattle.cesu8_text.specs.Slices.{ReadsAtLength, ReadingAtFront}
-use Rattle.cesu8_bytes.specs.declared.options.Strictness.{Strictness}
-use Rattle.cesu8_bytes.specs.declared.options.Strictness.TheVariants.{Strict, Lossy}
+use Rattle.cesu8_bytes.specs.declared.strictness.Strictness.{Strictness}
+use Rattle.cesu8_bytes.specs.declared.strictness.Strictness.TheVariants.{Strict, Lossy}
 use Rattle.cesu8_decode.specs.declared.refusal.Unwritten.{Unwritten}
 use Rattle.cesu8_decode.specs.declared.refusal.Unwritten.TheVariants.{NoText, TooLong, NoRoom}
 

@@ -6,18 +6,19 @@ ghost use Rattle.std.specs.Simd.Lanes.{mask_l, zip2};
 ghost use Rattle.cesu8_text.specs.Class.{is_null};
 ghost use Rattle.cesu8_text.specs.Encoding.{Flavor};
 ghost use Rattle.cesu8_bytes.specs.Kernels.{mask};
-ghost use Rattle.cesu8_bytes.specs.declared.options.Strictness.TheVariants.{Strict, Lossy};
+ghost use Rattle.cesu8_bytes.specs.declared.strictness.Strictness.TheVariants.{Strict, Lossy};
 ghost use Rattle.cesu8_decode.specs.Decoding.{most_written};
 ghost use Rattle.cesu8_decode.specs.DecodedOffsets.{decoded, is_ill_formed_at};
 ghost use Rattle.cesu8_decode.specs.DecodedLanes.{start_kind, AreFiveKinds, NoneBeginsChanged, is_high};
 
-use super::offsets::{BEHIND, BLOCK, FROM_27, LEAD, REACH, near, starts};
+use super::offsets::{BEHIND, FROM_27, LEAD, REACH, near, starts};
 use super::packing::{highest_bits, store_whole};
 use super::parts::{changed_parts, ill_formed, kept_ill_formed, kept_parts};
 use super::reading::{Block, Reading};
+use cesu8_bytes::BLOCK;
 use cesu8_bytes::flavor::{Flavor, nulls};
 use cesu8_bytes::implementation::class::{AtLeast, bits};
-use cesu8_bytes::options::Strictness;
+use cesu8_bytes::strictness::Strictness;
 use cesu8_bytes::packing::STORED;
 use std::simd::prelude::*;
 

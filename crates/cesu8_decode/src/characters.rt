@@ -4,8 +4,8 @@ ghost use Rattle.std.specs.Prelude.{◌≡◌, ◌+◌, ◌<◌, ◌≤◌, ◌+
 ghost use Rattle.cesu8_text.specs.Reading.{NoneBegins};
 ghost use Rattle.cesu8_bytes.specs.TextChunks.{IsReadSoFar};
 ghost use Rattle.cesu8_decode.specs.Decoding.{ReadsAll, most_written};
-ghost use Rattle.cesu8_bytes.specs.declared.options.Strictness.{Strictness};
-ghost use Rattle.cesu8_bytes.specs.declared.options.Strictness.TheVariants.{Lossy};
+ghost use Rattle.cesu8_bytes.specs.declared.strictness.Strictness.{Strictness};
+ghost use Rattle.cesu8_bytes.specs.declared.strictness.Strictness.TheVariants.{Lossy};
 
 use super::decoded::Decoded;
 use super::forms::{Form, form_of, is_one, len_of, prefix_of};
@@ -13,7 +13,7 @@ use super::packing::WIDEST;
 use super::refusal::is_refused;
 use cesu8_bytes::flavor::Flavor;
 use cesu8_bytes::implementation::class::{Either, NonAscii};
-use cesu8_bytes::options::Strictness;
+use cesu8_bytes::strictness::Strictness;
 use cesu8_bytes::pairs::{PAIR_READ, utf8_of_pair};
 use cesu8_bytes::put::put;
 use cesu8_bytes::runs::copy_run;

@@ -7,13 +7,13 @@ use crate::slices::{put_few, put_text};
 use crate::way::is_read_before_looks;
 use cesu8_bytes::accepts::{Accepts, Look};
 use cesu8_bytes::flavor::Flavor;
-use cesu8_bytes::options::Strictness;
+use cesu8_bytes::strictness::Strictness;
 use cesu8_bytes::writers::{copy_to_slice, copy_to_slice_by_call};
 
 /// Writes what a call that takes `A` reads in the bytes to a caller's buffer, if it fits, and
 /// returns its length in bytes.
 #[inline(always)]
-pub fn put<F: Flavor, A: Accepts>(
+pub fn decode_to_slice<F: Flavor, A: Accepts>(
     strictness: Strictness,
     bytes: &[u8],
     buf: &mut [u8],
@@ -21,16 +21,16 @@ pub fn put<F: Flavor, A: Accepts>(
     ensures { PutsText strictness (ReadsAs strictness (A.reads F.flavor bytes.now)
         (A.reads_lossily F.flavor bytes.now)) result buf.old buf.new }
 {
-    if A::is_short_ascii::<F>(bytes) {
+    if A::is_short_kept_ascii::<F>(bytes) {
         return copy_to_slice(bytes, buf).map_err(Unwritten::NoRoom);
     }
-    put_other::<F, A>(strictness, bytes, buf)
+    decode_other_to_slice::<F, A>(strictness, bytes, buf)
 }
 
 /// Does so for bytes that are not short ASCII. It is never inlined, so that the test for that stays
 /// small.
 #[inline(never)]
-fn put_other<F: Flavor, A: Accepts>(
+fn decode_other_to_slice<F: Flavor, A: Accepts>(
     strictness: Strictness,
     bytes: &[u8],
     buf: &mut [u8],

@@ -10,7 +10,8 @@ ghost use Rattle.std.specs.Simd.Lanes.{zip2};
 ghost use Rattle.cesu8_bytes.specs.Kernels.{mask};
 ghost use Rattle.cesu8_decode.specs.Following.{shown, wanted, follows_at, AllFollow, FirstFollow, marked_if_not_one};
 
-use super::offsets::{BLOCK, common_bits, equal};
+use super::offsets::{common_bits, equal};
+use cesu8_bytes::BLOCK;
 use cesu8_bytes::flavor::{Flavor, nulls};
 use cesu8_bytes::implementation::class::{NonAscii, bits};
 use std::simd::prelude::*;
@@ -25,15 +26,15 @@ pub const FILLER: u8 = 0x61;
 /// that `wanted_by` has. Each other is of a second byte that no character has there: 01 begins one
 /// behind a lead byte, and 02 is a continuation byte behind ASCII, 04 behind E0 in an overlong
 /// form, 08 behind C1, 10 behind C0, and 40 any byte behind F0 or more.
-const BY_HIGH: [u8; 16] = [
+const SHOWN_BY_HIGH: [u8; 16] = [
     0x02, 0x02, 0x02, 0x02, 0x02, 0x02, 0x02, 0x02, 0x80, 0x80, 0x80, 0x80, 0x19, 0x01, 0x25, 0x40,
 ];
 
-const BY_LOW: [u8; 16] = [
+const SHOWN_BY_LOW: [u8; 16] = [
     0xD7, 0xCB, 0xC3, 0xC3, 0xC3, 0xC3, 0xC3, 0xC3, 0xC3, 0xC3, 0xC3, 0xC3, 0xC3, 0xE3, 0xC3, 0xC3,
 ];
 
-const BY_NEXT: [u8; 16] = [
+const SHOWN_BY_NEXT: [u8; 16] = [
     0x41, 0x41, 0x41, 0x41, 0x41, 0x41, 0x41, 0x41, 0xDE, 0xDE, 0xDA, 0xFA, 0x41, 0x41, 0x41, 0x41,
 ];
 
@@ -158,7 +159,7 @@ fn misplaced<F: Flavor>(window: &[u8], at: usize) -> u8x32
 fn shown_by<F: Flavor>(first: u8x32, second: u8x32) -> u8x32
     ensures { result ≡ zip2 (shown F.flavor) first second }
 {
-    let of_two = common_bits(BY_HIGH, BY_LOW, BY_NEXT, first, second);
+    let of_two = common_bits(SHOWN_BY_HIGH, SHOWN_BY_LOW, SHOWN_BY_NEXT, first, second);
     // In MUTF-8 C0 80 is a character, and 00 is none.
     if F::has_long_null() {
         let of_null = second

@@ -2,7 +2,7 @@
 
 ghost use Rattle.std.specs.Prelude.{◌≡◌, ◌+◌, ◌<◌, ◌≤◌, length, replicate, slice_index, false, IsTrue, IfSome, IfNone};
 ghost use Rattle.cesu8_text.specs.Reading.{HasNoStrictReading};
-ghost use Rattle.cesu8_bytes.specs.Joining.{null_at};
+ghost use Rattle.cesu8_bytes.specs.Pairs.{null_at};
 ghost use Rattle.cesu8_decode.specs.DecodedOffsets.{IsPrefixOf, one_at, two_at, three_at};
 ghost use Rattle.cesu8_decode.specs.declared.forms.FirstLead.TheVariants.{IllFormed};
 ghost use Rattle.cesu8_decode.specs.Forms.{HasForm, HasNoForm, form_len};
@@ -61,7 +61,7 @@ pub fn len_of(form: Form) -> usize
 }
 
 /// How many bytes are looked at for the first character of more than a byte.
-const LOOKED_AT: usize = 16;
+const SEARCHED: usize = 16;
 
 /// What the first character of more than a byte shows of bytes, if it begins in the first ones.
 #[derive(Drop)]
@@ -81,10 +81,10 @@ pub enum FirstLead {
 pub fn first_lead<F: Flavor>(bytes: &[u8]) -> FirstLead
     ensures { result ≡ IllFormed → HasNoStrictReading F.flavor bytes.now }
 {
-    if bytes.len() < LOOKED_AT + PAIR_READ {
+    if bytes.len() < SEARCHED + PAIR_READ {
         return FirstLead::Other;
     }
-    let run = run_len::<Either<F::Null, NonAscii>>(&bytes[..LOOKED_AT]);
+    let run = run_len::<Either<F::Null, NonAscii>>(&bytes[..SEARCHED]);
     let rest = &bytes[run..];
     if has_lone_lead::<F>(rest) {
         return FirstLead::IllFormed;

@@ -4,8 +4,8 @@ ghost use Rattle.std.specs.Prelude.{◌≡◌, ◌+◌, ◌*◌, ◌≤◌, leng
 ghost use Rattle.cesu8_text.specs.Reading.{IsStrictReading, HasNoStrictReading, reading};
 
 use super::following::{DECIDING, two_follow};
-use super::offsets::BLOCK;
 use super::valid_front::valid_up_to_other;
+use cesu8_bytes::BLOCK;
 use cesu8_bytes::flavor::Flavor;
 
 /// Returns whether some byte is in no encoded character. It stops soon after the first ill-formed
@@ -20,7 +20,7 @@ pub fn is_ill_formed<F: Flavor>(bytes: &[u8]) -> bool
 }
 
 /// How many bytes are tested at once.
-const PART: usize = 2 * BLOCK;
+const TWO_BLOCKS: usize = 2 * BLOCK;
 
 /// One of so many bytes at the front is tested.
 const SHARE: usize = 32;
@@ -33,8 +33,8 @@ pub fn is_ill_formed_in_front<F: Flavor>(bytes: &[u8]) -> bool
     requires { DECIDING + 4 * BLOCK ≤ length bytes.now }
     ensures { IsTrue result → HasNoStrictReading F.flavor bytes.now }
 {
-    for part in 0..bytes.len() / (SHARE * PART) + 1 {
-        if !two_follow::<F>(bytes, PART * part) {
+    for part in 0..bytes.len() / (SHARE * TWO_BLOCKS) + 1 {
+        if !two_follow::<F>(bytes, TWO_BLOCKS * part) {
             return true;
         }
     }

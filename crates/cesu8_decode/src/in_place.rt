@@ -9,8 +9,8 @@
 ghost use Rattle.std.specs.Prelude.{◌≡◌, ◌↔◌, ◌≤◌, IsTrue, false, [], length, take, drop, vec_capacity};
 ghost use Rattle.cesu8_text.specs.Encoding.{Flavor as AnyFlavor};
 ghost use Rattle.cesu8_bytes.specs.TextChunks.{IsReadSoFar};
-ghost use Rattle.cesu8_bytes.specs.declared.options.Strictness.{Strictness};
-ghost use Rattle.cesu8_bytes.specs.declared.options.Strictness.TheVariants.{Lossy};
+ghost use Rattle.cesu8_bytes.specs.declared.strictness.Strictness.{Strictness};
+ghost use Rattle.cesu8_bytes.specs.declared.strictness.Strictness.TheVariants.{Lossy};
 ghost use Rattle.cesu8_decode.specs.Decoding.{WritesText, WritesStrictly, HasRoom, room_for};
 
 use super::decoded::{Decoded, refused};
@@ -20,7 +20,7 @@ use super::reading::{LossyReading, Reading, StrictReading};
 use super::way::{LONG_WINDOW, SHORT_WINDOW};
 use super::whole_blocks::{FOLLOWING, SPARE, last_end, whole_count, write_whole};
 use cesu8_bytes::flavor::Flavor;
-use cesu8_bytes::options::Strictness;
+use cesu8_bytes::strictness::Strictness;
 use cesu8_bytes::pairs::{PAIR, PAIR_READ, is_pair, utf8_of_pair};
 use cesu8_bytes::put::put;
 use cesu8_bytes::zeros::append_zeros;
@@ -33,7 +33,7 @@ pub const LONG_TEXT: usize = WIDEST * LONG_WINDOW + SPARE;
 
 /// So many bytes are cleared and written at once. More would be cleared for nothing where an
 /// ill-formed byte is near.
-const PART: usize = 4096;
+const CLEARED_AT_ONCE: usize = 4096;
 
 /// Writes the strict reading of the bytes to an empty vector that has capacity for as many.
 #[inline(never)]
@@ -48,7 +48,7 @@ pub fn append_strictly<F: Flavor, A: Allocator + Copy>(
     let mut rest = bytes;
     while !rest.is_empty() {
         let start = text.len();
-        append_zeros(rest.len().min(PART), &mut text);
+        append_zeros(rest.len().min(CLEARED_AT_ONCE), &mut text);
         let decoded = write_text::<F>(Strictness::Strict, rest, &mut text[start..]);
         if decoded.is_ill_formed {
             return None;

@@ -1,19 +1,20 @@
 //! The last blocks of some bytes, or all if they are few. They are read from an array.
 
 ghost use Rattle.std.specs.Prelude.{◌≡◌, ◌+◌, ◌-◌, ◌*◌, ◌/◌, ◌<◌, ◌≤◌, ℕ, true, false, length, take, slice_index};
-ghost use Rattle.cesu8_bytes.specs.declared.options.Strictness.TheVariants.{Strict, Lossy};
+ghost use Rattle.cesu8_bytes.specs.declared.strictness.Strictness.TheVariants.{Strict, Lossy};
 ghost use Rattle.cesu8_decode.specs.Decoding.{ReadsFirst, IsWrittenUpTo, WritesWindow, HasRoomBehind, most_written};
 ghost use Rattle.cesu8_decode.specs.DecodedOffsets.{window_of, is_boundary_at};
 ghost use Rattle.cesu8_decode.specs.DecodedLanes.{AreFiveKinds};
 
 use super::block::write_block;
 use super::decoded::{Decoded, refused};
-use super::offsets::{BEHIND, BLOCK};
+use super::offsets::BEHIND;
 use super::packing::WELL_FORMED_ROOM;
 use super::reading::{Block, LossyReading, Reading, StrictReading};
 use super::way::FEW_BYTES;
 use super::whole_blocks::{FOLLOWING, Whole};
 use super::window::{BEFORE, boundary, load};
+use cesu8_bytes::BLOCK;
 use cesu8_bytes::flavor::Flavor;
 use cesu8_bytes::put::put;
 use std::simd::prelude::*;

@@ -10,32 +10,33 @@ ghost use Rattle.cesu8_bytes.specs.Kernels.{mask};
 ghost use Rattle.cesu8_decode.specs.DecodedOffsets.{continues};
 ghost use Rattle.cesu8_decode.specs.DecodedLanes.{told, kind_of_two, start_kind, AreFiveKinds, AreKindsNear};
 
+use cesu8_bytes::BLOCK;
 use cesu8_bytes::flavor::{Flavor, second_of_null};
 use cesu8_bytes::implementation::class::{AtLeast, bits};
 use std::simd::prelude::*;
 
 /// The kinds of characters of two bytes.
-const TWO: u8 = 0x03;
+const KINDS_OF_TWO: u8 = 0x03;
 
 /// Those of characters of three bytes: led by E0, by ED, and by another byte.
-pub const THREE: u8 = 0x1C;
+pub const KINDS_OF_THREE: u8 = 0x1C;
 
 /// That of a surrogate pair.
-pub const PAIR: u8 = 0x20;
+pub const KIND_OF_PAIR: u8 = 0x20;
 
 /// That of C0 80 in MUTF-8.
-pub const NULL: u8 = 0x80;
+pub const KIND_OF_NULL: u8 = 0x80;
 
 /// The kinds of what two bytes begin are the common bits of three tables: by the upper half of the
-/// first byte, by its lower half, and by the upper half of the second. There `NULL` is the kind of
+/// first byte, by its lower half, and by the upper half of the second. There `KIND_OF_NULL` is the kind of
 /// C0 80 to C0 8F, and `second_of_null` then clears that bit alone, but for C0 80 in MUTF-8.
-const BY_HIGH: [u8; 16] = [0, 0, 0, 0, 0, 0, 0, 0, 0, 0, 0, 0, 0x81, 0x02, 0x3C, 0];
+const KINDS_BY_HIGH: [u8; 16] = [0, 0, 0, 0, 0, 0, 0, 0, 0, 0, 0, 0, 0x81, 0x02, 0x3C, 0];
 
-const BY_LOW: [u8; 16] = [
+const KINDS_BY_LOW: [u8; 16] = [
     0x86, 0x0A, 0x0B, 0x0B, 0x0B, 0x0B, 0x0B, 0x0B, 0x0B, 0x0B, 0x0B, 0x0B, 0x0B, 0x33, 0x0B, 0x0B,
 ];
 
-const BY_NEXT: [u8; 16] = [0, 0, 0, 0, 0, 0, 0, 0, 0x9B, 0x1B, 0x2F, 0x0F, 0, 0, 0, 0];
+const KINDS_BY_NEXT: [u8; 16] = [0, 0, 0, 0, 0, 0, 0, 0, 0x9B, 0x1B, 0x2F, 0x0F, 0, 0, 0, 0];
 
 /// The indices of sixteen lanes, twice.
 const TWICE: [usize; BLOCK] = [
@@ -69,9 +70,6 @@ const FROM_30: [usize; BLOCK] = numbers_from!(30);
 
 const FROM_31: [usize; BLOCK] = numbers_from!(31);
 
-/// How many offsets form a block: as many as a vector has lanes.
-pub const BLOCK: usize = 32;
-
 /// How many bytes after an offset decide what begins there. What begins at as many offsets before
 /// a byte decides what becomes of it.
 pub const BEHIND: usize = 5;
@@ -103,9 +101,9 @@ pub fn starts<F: Flavor>(bytes: &[u8], at: usize, tests_for_pairs: bool) -> u8x3
         return two;
     }
     let third = continuations(u8x32::from_slice(&bytes[at + 2..]));
-    // `PAIR` is two bits below the highest.
+    // `KIND_OF_PAIR` is two bits below the highest.
     if tests_for_pairs && bits::<AtLeast<0x80>, BLOCK>(two << u8x32::splat(2)) == 0 {
-        return two & ((third & u8x32::splat(THREE)) | u8x32::splat(TWO | NULL));
+        return two & ((third & u8x32::splat(KINDS_OF_THREE)) | u8x32::splat(KINDS_OF_TWO | KIND_OF_NULL));
     }
     let fourth = u8x32::from_slice(&bytes[at + 3..]);
     let fifth = u8x32::from_slice(&bytes[at + 4..]);
@@ -113,7 +111,7 @@ pub fn starts<F: Flavor>(bytes: &[u8], at: usize, tests_for_pairs: bool) -> u8x3
     let ends_pair = equal(fourth, 0xED)
         & equal(fifth & u8x32::splat(0xF0), 0xB0)
         & continuations(sixth);
-    two & ((third | u8x32::splat(TWO | NULL)) & (ends_pair | u8x32::splat(!PAIR)))
+    two & ((third | u8x32::splat(KINDS_OF_TWO | KIND_OF_NULL)) & (ends_pair | u8x32::splat(!KIND_OF_PAIR)))
 }
 
 /// The kinds of the offsets around a block: at index `d` those of the offsets `5 - d` before
@@ -144,7 +142,7 @@ pub fn near(before: u8x32, here: u8x32) -> Kinds
 fn by_two<F: Flavor>(first: u8x32, second: u8x32) -> u8x32
     ensures { result ≡ zip2 (kind_of_two F.flavor) first second }
 {
-    common_bits(BY_HIGH, BY_LOW, BY_NEXT, first, second) & second_of_null::<F>(second)
+    common_bits(KINDS_BY_HIGH, KINDS_BY_LOW, KINDS_BY_NEXT, first, second) & second_of_null::<F>(second)
 }
 
 /// Returns the common bits of three tables, for each two bytes: by the upper half of the first, by

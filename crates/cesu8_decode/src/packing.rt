@@ -6,10 +6,10 @@ ghost use Rattle.std.specs.Simd.Lanes.{chunk, mask_l};
 ghost use Rattle.cesu8_bytes.specs.Packing.{written};
 ghost use Rattle.cesu8_decode.specs.DecodedLanes.{is_high, written_lanes};
 
-use super::offsets::BLOCK;
 use super::rows::rows;
+use cesu8_bytes::BLOCK;
 use cesu8_bytes::implementation::class::{AtLeast, bits};
-use cesu8_bytes::packing::{STORED, picked, second_of, store_kept};
+use cesu8_bytes::packing::{HALF, STORED, picked, second_of, store_kept};
 use std::simd::prelude::*;
 
 /// The most bytes that are written for one byte: those of the replacement character.
@@ -20,9 +20,6 @@ pub const ROOM: usize = WIDEST * BLOCK + STORED;
 
 /// How long it must be for a block without an ill-formed byte.
 pub const WELL_FORMED_ROOM: usize = BLOCK + STORED;
-
-/// How many bytes are half a block.
-const HALF: usize = BLOCK / 2;
 
 /// What becomes of the bytes of a block. If a lane of `ill_formed` has its highest bit set, the
 /// replacement character is written; else if one of `gone` has it set, nothing is; else the lane of

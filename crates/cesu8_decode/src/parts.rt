@@ -17,8 +17,9 @@ ghost use Rattle.cesu8_bytes.specs.Kernels.{mask};
 ghost use Rattle.cesu8_decode.specs.DecodedOffsets.{is_ill_formed_at};
 ghost use Rattle.cesu8_decode.specs.DecodedLanes.{start_kind, AreKindsNear, NoneBeginsChanged, AreParts, is_high, goes_at, byte_at};
 
-use super::offsets::{BEHIND, BLOCK, Kinds, NUMBERS, PAIR, REACH, THREE, equal, look_up};
+use super::offsets::{BEHIND, KIND_OF_PAIR, KINDS_OF_THREE, Kinds, NUMBERS, REACH, equal, look_up};
 use super::packing::{Parts, highest_bits};
+use cesu8_bytes::BLOCK;
 use cesu8_bytes::flavor::{Flavor, nulls};
 use std::simd::prelude::*;
 
@@ -47,7 +48,7 @@ pub fn kept_ill_formed<F: Flavor>(window: &[u8], kinds: &Kinds, at: usize) -> u8
         ≡ map (is_ill_formed_at F.flavor window.now) (range_with_len at BLOCK) }
 {
     let near = kinds[5] | kinds[4];
-    let of_three = kinds[3] & u8x32::splat(PAIR | THREE);
+    let of_three = kinds[3] & u8x32::splat(KIND_OF_PAIR | KINDS_OF_THREE);
     let byte = u8x32::from_slice(&window[at + BEHIND..]);
     equal(near | of_three, 0) & (byte | nulls::<F>(byte))
 }
@@ -98,7 +99,7 @@ pub fn changed_parts<F: Flavor>(
 }
 
 /// Marks, with the highest bit, those of the first `count` bytes that go, and all later bytes. The
-/// highest bit of a kind is that of C0 80, whose first byte goes. `PAIR` is two bits below, and the
+/// highest bit of a kind is that of C0 80, whose first byte goes. `KIND_OF_PAIR` is two bits below, and the
 /// first two bytes of a pair go. No other kind has either bit.
 #[inline(always)]
 fn gone(kinds: &Kinds, count: usize) -> u8x32
@@ -122,9 +123,9 @@ pub fn ill_formed<F: Flavor>(window: &[u8], kinds: &Kinds, at: usize, count: usi
         ≡ map (is_ill_formed_at F.flavor window.now) (range_with_len at count)
         ++ replicate (BLOCK - count) false }
 {
-    let pair = u8x32::splat(PAIR);
+    let pair = u8x32::splat(KIND_OF_PAIR);
     let near = kinds[5] | kinds[4];
-    let of_three = kinds[3] & u8x32::splat(PAIR | THREE);
+    let of_three = kinds[3] & u8x32::splat(KIND_OF_PAIR | KINDS_OF_THREE);
     let of_pair = (kinds[2] & pair) | (kinds[1] & pair) | (kinds[0] & pair);
     let alone = equal(near | of_three | of_pair, 0);
     // A byte below 80 is a character of its own, but 00 is none in MUTF-8.
@@ -187,7 +188,7 @@ fn changed_nulls<F: Flavor>(before: u8x32, bytes: u8x32) -> u8x32
     bytes
 }
 
-/// Returns the lanes of `some` where those of kinds have the bit of `PAIR`, which is two bits below the
+/// Returns the lanes of `some` where those of kinds have the bit of `KIND_OF_PAIR`, which is two bits below the
 /// highest, and otherwise those of `other`.
 #[inline(always)]
 fn chosen(kinds: u8x32, some: u8x32, other: u8x32) -> u8x32

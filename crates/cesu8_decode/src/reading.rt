@@ -2,14 +2,14 @@
 //! reading it has nothing of what replaces ill-formed bytes.
 
 ghost use Rattle.std.specs.Prelude.{◌≡◌, ◌+◌, ◌≤◌, ◌++◌, true, false, length, take};
-ghost use Rattle.cesu8_bytes.specs.declared.options.Strictness.{Strictness};
-ghost use Rattle.cesu8_bytes.specs.declared.options.Strictness.TheVariants.{Strict, Lossy};
+ghost use Rattle.cesu8_bytes.specs.declared.strictness.Strictness.{Strictness};
+ghost use Rattle.cesu8_bytes.specs.declared.strictness.Strictness.TheVariants.{Strict, Lossy};
 ghost use Rattle.cesu8_decode.specs.Decoding.{most_written};
 ghost use Rattle.cesu8_decode.specs.DecodedLanes.{written_lanes};
 
-use super::offsets::BLOCK;
 use super::packing::{Parts, store};
-use cesu8_bytes::options::Strictness;
+use cesu8_bytes::BLOCK;
+use cesu8_bytes::strictness::Strictness;
 use cesu8_bytes::packing::STORED;
 use std::simd::prelude::*;
 

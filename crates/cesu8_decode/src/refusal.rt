@@ -3,7 +3,7 @@
 ghost use Rattle.std.specs.Prelude.{◌≡◌};
 ghost use Rattle.cesu8_decode.specs.Decoding.{refuses};
 
-use cesu8_bytes::options::Strictness;
+use cesu8_bytes::strictness::Strictness;
 use cesu8_bytes::writers::NoRoom;
 use std::alloc::AllocError;
 

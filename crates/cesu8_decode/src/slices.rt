@@ -9,7 +9,7 @@ ghost use Rattle.cesu8_text.specs.Encoding.{Flavor as AnyFlavor};
 ghost use Rattle.cesu8_text.specs.Reading.{reading, lossy_length};
 ghost use Rattle.cesu8_text.specs.Slices.{StandsAtFront};
 ghost use Rattle.cesu8_text.specs.Text.{utf8};
-ghost use Rattle.cesu8_bytes.specs.declared.options.Strictness.TheVariants.{Strict, Lossy};
+ghost use Rattle.cesu8_bytes.specs.declared.strictness.Strictness.TheVariants.{Strict, Lossy};
 ghost use Rattle.cesu8_decode.specs.Decoding.{ReadsAll, most_written, room_for};
 ghost use Rattle.cesu8_decode.specs.PutReadings.{PutsReading};
 
@@ -23,7 +23,7 @@ use crate::refusal::{Unwritten, is_refused};
 use crate::way::{FEW_BYTES, LONG_WINDOW, SHORT_WINDOW, Way, way_of};
 use cesu8_bytes::accepts::Look;
 use cesu8_bytes::flavor::Flavor;
-use cesu8_bytes::options::Strictness;
+use cesu8_bytes::strictness::Strictness;
 use cesu8_bytes::put::put;
 use cesu8_bytes::writers::{NoRoom, copy_to_slice};
 

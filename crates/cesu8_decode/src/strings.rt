@@ -8,7 +8,7 @@ ghost use Rattle.std.specs.Prelude.{◌≡◌, ◌+◌, ◌≤◌, [], length, v
 ghost use Rattle.cesu8_text.specs.Reading.{lossy_length};
 ghost use Rattle.cesu8_bytes.specs.Puts.{Appends};
 ghost use Rattle.cesu8_bytes.specs.TextChunks.{IsReadSoFar};
-ghost use Rattle.cesu8_bytes.specs.declared.options.Strictness.TheVariants.{Lossy};
+ghost use Rattle.cesu8_bytes.specs.declared.strictness.Strictness.TheVariants.{Lossy};
 ghost use Rattle.cesu8_decode.specs.Decoding.{BuildsReading, WritesStrictly, room_for};
 
 use crate::characters::write_characters;
@@ -19,7 +19,7 @@ use crate::way::{FEW_BYTES, Way, lossy_way, strict_way};
 use cesu8_bytes::accepts::Look;
 use cesu8_bytes::copies::copy;
 use cesu8_bytes::flavor::Flavor;
-use cesu8_bytes::options::Strictness;
+use cesu8_bytes::strictness::Strictness;
 use cesu8_bytes::zeros::append_zeros;
 use std::alloc::{AllocError, Allocator};
 

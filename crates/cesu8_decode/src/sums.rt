@@ -13,11 +13,11 @@ use std::simd::prelude::*;
 
 /// What a character of one byte saves, and what others do, by the lower half of their kind or by
 /// its upper half.
-const BY_ONE: u8 = 2;
+const SAVED_BY_ONE: u8 = 2;
 
-const BY_LOW: [u8; 16] = [0, 4, 4, 0, 6, 0, 0, 0, 6, 0, 0, 0, 0, 0, 0, 0];
+const SAVED_BY_LOW: [u8; 16] = [0, 4, 4, 0, 6, 0, 0, 0, 6, 0, 0, 0, 0, 0, 0, 0];
 
-const BY_HIGH: [u8; 16] = [0, 6, 14, 0, 0, 0, 0, 0, 5, 0, 0, 0, 0, 0, 0, 0];
+const SAVED_BY_HIGH: [u8; 16] = [0, 6, 14, 0, 0, 0, 0, 0, 5, 0, 0, 0, 0, 0, 0, 0];
 
 /// The most blocks of 32 offsets that each lane sums up: an offset saves at most 14.
 const BLOCKS: usize = 16;
@@ -69,11 +69,11 @@ fn saved_lanes<F: Flavor>(bytes: &[u8], at: usize) -> u8x32
     // A byte below 80 is a character of its own, but 00 is none in MUTF-8.
     let of_one = (byte | nulls::<F>(byte))
         .simd_lt(u8x32::splat(0x80))
-        .select(u8x32::splat(BY_ONE), u8x32::splat(0));
+        .select(u8x32::splat(SAVED_BY_ONE), u8x32::splat(0));
     if bits::<AtLeast<LEAD>, 32>(byte) == 0 {
         return of_one;
     }
     // Here the branch on pairs would be guessed wrong.
     let kinds = starts::<F>(bytes, at, false);
-    of_one | look_up(BY_LOW, kinds) | look_up(BY_HIGH, kinds >> u8x32::splat(4))
+    of_one | look_up(SAVED_BY_LOW, kinds) | look_up(SAVED_BY_HIGH, kinds >> u8x32::splat(4))
 }

@@ -54,7 +54,7 @@
 
 ghost use Rattle.std.specs.Prelude.{◌≡◌, ◌≤◌, length, IfSome, IfNone, IsTrue, IsUtf8};
 ghost use Rattle.cesu8_text.specs.Reading.{HasNoStrictReading};
-ghost use Rattle.cesu8_bytes.specs.declared.options.Strictness.TheVariants.{Strict};
+ghost use Rattle.cesu8_bytes.specs.declared.strictness.Strictness.TheVariants.{Strict};
 ghost use Rattle.cesu8_decode.specs.Ways.{Takes};
 
 use super::forms::{FirstLead, first_lead};
@@ -64,7 +64,7 @@ use cesu8_bytes::flavor::Flavor;
 use cesu8_bytes::implementation::class::{Either, NonAscii, Null};
 use cesu8_bytes::implementation::short::count_in_ends;
 use cesu8_bytes::looks::{may_be_encoding, shows_no_text};
-use cesu8_bytes::options::Strictness;
+use cesu8_bytes::strictness::Strictness;
 
 /// Which way bytes are decoded.
 #[derive(Clone, Copy)]

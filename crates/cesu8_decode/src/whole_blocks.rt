@@ -1,19 +1,20 @@
 //! The blocks that are read where they stand and written where they go.
 
 ghost use Rattle.std.specs.Prelude.{◌≡◌, ◌+◌, ◌-◌, ◌*◌, ◌<◌, ◌≤◌, IsTrue, false, length, take};
-ghost use Rattle.cesu8_bytes.specs.declared.options.Strictness.TheVariants.{Strict, Lossy};
+ghost use Rattle.cesu8_bytes.specs.declared.strictness.Strictness.TheVariants.{Strict, Lossy};
 ghost use Rattle.cesu8_decode.specs.Decoding.{IsWrittenUpTo, most_written};
 ghost use Rattle.cesu8_decode.specs.DecodedOffsets.{window_of};
 ghost use Rattle.cesu8_decode.specs.DecodedLanes.{AreFiveKinds};
 
 use super::block::write_block;
-use super::offsets::{BEHIND, BLOCK, REACH};
+use super::offsets::{BEHIND, REACH};
 use super::packing::WIDEST;
 use super::reading::{Block, Reading};
 use super::way::FEW_BYTES;
 use super::window::{BEFORE, load};
+use cesu8_bytes::BLOCK;
 use cesu8_bytes::flavor::Flavor;
-use cesu8_bytes::options::Strictness;
+use cesu8_bytes::strictness::Strictness;
 use cesu8_bytes::packing::STORED;
 use std::simd::prelude::*;
 

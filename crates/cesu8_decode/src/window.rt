@@ -5,7 +5,8 @@ ghost use Rattle.cesu8_text.specs.Encoding.{Flavor};
 ghost use Rattle.cesu8_decode.specs.DecodedOffsets.{window_of, is_boundary_at};
 ghost use Rattle.cesu8_decode.specs.DecodedLanes.{AreFiveKinds};
 
-use super::offsets::{BLOCK, PAIR, THREE, starts};
+use super::offsets::{KIND_OF_PAIR, KINDS_OF_THREE, starts};
+use cesu8_bytes::BLOCK;
 use cesu8_bytes::flavor::Flavor;
 
 /// How many offsets before a byte are read to decide what becomes of it.
@@ -53,6 +54,6 @@ fn is_boundary(kinds: &[u8; BLOCK], at: usize) -> bool
     ensures { (f : Flavor) (window : List ℕ) (n : ℕ) → AreFiveKinds f window n kinds.now at
         → result ≡ is_boundary_at f window n }
 {
-    let of_pair = kinds[at] & PAIR | kinds[at + 1] & PAIR | kinds[at + 2] & PAIR;
-    kinds[at + 4] | kinds[at + 3] & (PAIR | THREE) | of_pair == 0
+    let of_pair = kinds[at] & KIND_OF_PAIR | kinds[at + 1] & KIND_OF_PAIR | kinds[at + 2] & KIND_OF_PAIR;
+    kinds[at + 4] | kinds[at + 3] & (KIND_OF_PAIR | KINDS_OF_THREE) | of_pair == 0
 }

@@ -6,7 +6,7 @@ use Rattle.cesu8_bytes.specs.declared.writers.NoRoom.{NoRoom}
 use Rattle.cesu8_decode.specs.PutReadings.{PutsText}
 use Rattle.cesu8_decode.specs.declared.refusal.Unwritten.{Unwritten}
 use Rattle.cesu8_decode.specs.declared.refusal.Unwritten.TheVariants as unwritten
-use Rattle.cesu8_bytes.specs.declared.options.Strictness.TheVariants.{Strict, Lossy}
+use Rattle.cesu8_bytes.specs.declared.strictness.Strictness.TheVariants.{Strict, Lossy}
 use Rattle.simd_cesu8.specs.Slices.{WritesAnswer, WritesReading, WritesLossyReading}
 use Rattle.simd_cesu8.specs.Outcomes.{IsAnswerOf, IsStrictOutcome, IsLossyOutcome}
 use Rattle.simd_cesu8.specs.declared.error.TooShort.{TooShort}

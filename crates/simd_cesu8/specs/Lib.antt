@@ -15,7 +15,7 @@ pub mod Fault
 pub mod Slices
 pub mod Outcomes
 pub mod Internal
-pub use Rattle.cesu8_bytes.specs.Joining
+pub use Rattle.cesu8_bytes.specs.Pairs
 pub use Rattle.cesu8_bytes.specs.Packing
 pub use Rattle.cesu8_bytes.specs.TextChunks
 pub use Rattle.cesu8_text.specs.Order

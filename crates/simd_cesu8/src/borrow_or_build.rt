@@ -48,7 +48,7 @@ pub fn decode<F: Flavor>(alloc: Global, bytes: &[u8]) -> Result<CowText<'_>, Dec
 fn decode_as<F: Flavor, A: Accepts>(alloc: Global, bytes: &[u8]) -> Result<CowText<'_>, DecodeFault>
     ensures { DecodesAs (A.keeps F.flavor bytes.now) (A.reads F.flavor bytes.now) bytes.now result }
 {
-    if A::is_short_ascii::<F>(bytes) {
+    if A::is_short_kept_ascii::<F>(bytes) {
         return Ok(CowText::Borrowed(known_text(bytes)));
     }
     decode_other::<F, A>(alloc, bytes)
@@ -143,7 +143,7 @@ fn decode_lossy_as<F: Flavor, A: Accepts>(
     ensures { DecodesLossilyAs F.flavor (A.keeps F.flavor bytes.now)
         (A.reads_lossily F.flavor bytes.now) bytes.now result }
 {
-    if A::is_short_ascii::<F>(bytes) {
+    if A::is_short_kept_ascii::<F>(bytes) {
         return Ok(CowText::Borrowed(known_text(bytes)));
     }
     decode_lossy_other::<F, A>(alloc, bytes)

@@ -20,11 +20,11 @@ pub use cesu8_bytes::lengths::{encoded_len, encoded_len_by_need, utf16_len};
 pub use cesu8_bytes::looks::{
     begins_with_unchanged_ascii, is_short_unchanged_ascii, is_shown_at_once, needs_encoded,
 };
-use cesu8_bytes::options::Strictness;
+use cesu8_bytes::strictness::Strictness;
 pub use cesu8_bytes::order::compare_as_utf16;
 pub use cesu8_bytes::utf8::{is_utf8, known_text};
 use cesu8_bytes::writers::NoRoom;
-use cesu8_decode::copy_or_write::put;
+use cesu8_decode::copy_or_write;
 use cesu8_decode::refusal::{Refusal, Unwritten};
 pub use cesu8_decode::{decode_lossy, decoded_len, lossy_len, valid_up_to};
 pub use cesu8_encode::{encode, encode_into};
@@ -74,7 +74,7 @@ pub fn decode_strict_to_slice<F: Flavor>(
     ensures { WritesReading (λ text. IsStrictReading F.flavor bytes.now text)
         result buf.old buf.new }
 {
-    strict(put::<F, EncodingAlone>(Strictness::Strict, bytes, buf))
+    strict(copy_or_write::decode_to_slice::<F, EncodingAlone>(Strictness::Strict, bytes, buf))
 }
 
 /// Writes the lenient reading of the bytes to a caller's buffer, if it fits.
@@ -83,7 +83,7 @@ pub fn decode_to_slice<F: Flavor>(bytes: &[u8], buf: &mut [u8]) -> Result<usize,
     ensures { WritesReading (λ text. IsLenientReading F.flavor bytes.now text)
         result buf.old buf.new }
 {
-    strict(put::<F, Lenient>(Strictness::Strict, bytes, buf))
+    strict(copy_or_write::decode_to_slice::<F, Lenient>(Strictness::Strict, bytes, buf))
 }
 
 /// Writes the lossy reading of the bytes to a caller's buffer, if it fits.
@@ -95,7 +95,7 @@ pub fn decode_lossy_strict_to_slice<F: Flavor>(
     ensures { WritesLossyReading (λ text. text ≡ reading F.flavor bytes.now)
         result buf.old buf.new }
 {
-    lossy(put::<F, EncodingAlone>(Strictness::Lossy, bytes, buf))
+    lossy(copy_or_write::decode_to_slice::<F, EncodingAlone>(Strictness::Lossy, bytes, buf))
 }
 
 /// Writes the lenient lossy reading of the bytes to a caller's buffer, if it fits.
@@ -107,7 +107,7 @@ pub fn decode_lossy_to_slice<F: Flavor>(
     ensures { WritesLossyReading (λ text. IsLenientLossyReading F.flavor bytes.now text)
         result buf.old buf.new }
 {
-    lossy(put::<F, Lenient>(Strictness::Lossy, bytes, buf))
+    lossy(copy_or_write::decode_to_slice::<F, Lenient>(Strictness::Lossy, bytes, buf))
 }
 
 /// Returns a refusal of the decoder as a fault.

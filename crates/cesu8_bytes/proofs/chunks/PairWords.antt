@@ -5,7 +5,7 @@ use Rattle.std.proofs.lemmas.Bool.{agree_below_at, eq-eqb, eqb-true, and_parts, 
 use Rattle.std.proofs.lemmas.Nat.{and_mask, and_block, and_le_r}
 use Rattle.cesu8_text.specs.Text.{utf8_of}
 use Rattle.cesu8_text.specs.Patterns.{EndsPair}
-use Rattle.cesu8_bytes.specs.Joining.{word_of}
+use Rattle.cesu8_bytes.specs.Pairs.{word_of}
 use Rattle.cesu8_text.proofs.text.Shapes.{IsPair, utf8_of_pair}
 
 -- a word's mask is that of each of its bytes

@@ -6,7 +6,7 @@ use Rattle.cesu8_text.specs.Encoding.{Flavor, Cesu8, Mutf8}
 use Rattle.cesu8_text.specs.Reading.{StandsAt, width}
 use Rattle.cesu8_text.specs.Laws.{NoneCrosses}
 use Rattle.cesu8_decode.specs.DecodedOffsets.{first_width, first_width_by, width_at, is_boundary_at, one_at, two_at, three_at, pair_at}
-use Rattle.cesu8_bytes.specs.Joining.{null_at}
+use Rattle.cesu8_bytes.specs.Pairs.{null_at}
 use Rattle.cesu8_decode.proofs.by_offset.FirstWidths.{wide, width_of_first, width_fits}
 use Rattle.cesu8_text.proofs.reading.Stretches.{no_overlap}
 use Rattle.cesu8_decode.proofs.by_offset.WindowOffsets.{Follows, width_in}

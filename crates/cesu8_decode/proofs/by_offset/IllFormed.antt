@@ -10,8 +10,8 @@ use Rattle.cesu8_text.specs.Laws.{NoneCrosses}
 use Rattle.cesu8_decode.specs.DecodedOffsets.{width_at, is_ill_formed_at, is_boundary_at}
 use Rattle.cesu8_bytes.specs.TextChunks.{IsChunk}
 use Rattle.cesu8_decode.specs.Decoding.{HasFault}
-use Rattle.cesu8_bytes.specs.declared.options.Strictness.{Strictness}
-use Rattle.cesu8_bytes.specs.declared.options.Strictness.TheVariants.{Strict}
+use Rattle.cesu8_bytes.specs.declared.strictness.Strictness.{Strictness}
+use Rattle.cesu8_bytes.specs.declared.strictness.Strictness.TheVariants.{Strict}
 use Rattle.cesu8_text.proofs.encoding.Encodings.{encoding_nil, encoding_cons}
 use Rattle.cesu8_text.proofs.reading.EncodedTexts.{reading_text}
 use Rattle.cesu8_text.proofs.reading.Stretches.{later, earlier, none_crosses_character}

@@ -5,7 +5,7 @@ use Rattle.std.proofs.lemmas.List.{get_or_past}
 use Rattle.cesu8_text.specs.Encoding.{Flavor, Cesu8, Mutf8}
 use Rattle.cesu8_text.specs.Patterns.{IsContinuation}
 use Rattle.cesu8_decode.specs.DecodedOffsets.{first_width, continues, one_at, two_at, fits_three, three_at, pair_at, first_width_by, width_at, IsPrefixOf}
-use Rattle.cesu8_bytes.specs.Joining.{null_at, HasPair, second_third_fifth_sixth}
+use Rattle.cesu8_bytes.specs.Pairs.{null_at, HasPair, second_third_fifth_sixth}
 use Rattle.cesu8_text.proofs.encoding.Patterns.{Pattern, of_one, of_null, of_two, of_three, of_pair, pattern}
 use Rattle.cesu8_text.proofs.encoding.Found.{BeginsInLengths, found_one, found_null, found_two, found_three, found_pair}
 use Rattle.cesu8_text.proofs.encoding.Forms.{short_form_other}

@@ -6,11 +6,11 @@ use Rattle.cesu8_text.specs.Text.{utf8_of}
 use Rattle.cesu8_text.specs.Encoding.{Flavor, Cesu8, Mutf8, encoding}
 use Rattle.cesu8_text.specs.Reading.{NoneBegins, width, reading}
 use Rattle.cesu8_decode.specs.DecodedOffsets.{first_width, one_at, two_at, three_at, IsPrefixOf}
-use Rattle.cesu8_bytes.specs.Joining.{null_at, AreJoinedDigits, second_third_fifth_sixth, HasPair}
+use Rattle.cesu8_bytes.specs.Pairs.{null_at, IsUtf8OfDigits, second_third_fifth_sixth, HasPair}
 use Rattle.cesu8_bytes.specs.TextChunks.{IsReadSoFar, IsChunk}
 use Rattle.cesu8_decode.specs.Decoding.{HasFault, refuses, most_written}
-use Rattle.cesu8_bytes.specs.declared.options.Strictness.{Strictness}
-use Rattle.cesu8_bytes.specs.declared.options.Strictness.TheVariants.{Strict, Lossy}
+use Rattle.cesu8_bytes.specs.declared.strictness.Strictness.{Strictness}
+use Rattle.cesu8_bytes.specs.declared.strictness.Strictness.TheVariants.{Strict, Lossy}
 use Rattle.cesu8_text.proofs.text.Shapes.{Shape, one, two, three, pair, shape, utf8_of_one, utf8_of_two, utf8_of_three}
 use Rattle.cesu8_text.proofs.encoding.Forms.{encoding_one, encoding_two, encoding_three, encoding_pair, short_form_null, short_form_other}
 use Rattle.cesu8_text.proofs.encoding.Found.{found_pair}
@@ -126,7 +126,7 @@ null_read f which bytes old new null new_is =
 
 -- Six bytes are a surrogate pair, and what joins its digits is its UTF-8.
 pair_utf8 : (f : Flavor) (bytes four : List ℕ) (found : IsWide f bytes) → Shape found.character → first_width f bytes ≡ 6 →
-    AreJoinedDigits (second_third_fifth_sixth bytes) four → four ≡ utf8_of found.character
+    IsUtf8OfDigits (second_third_fifth_sixth bytes) four → four ≡ utf8_of found.character
 pair_utf8 f bytes four found (one ascii) width_is joins =
     absurd (omega (arith, width_is, found.wide, short_width f found.character ascii))
   where
@@ -152,7 +152,7 @@ pair_width f bytes long has_pair =
 
 -- So that is written for it.
 pub pair_read : (f : Flavor) (which : Strictness) (bytes old four new : List ℕ) → first_width f bytes ≡ 6 →
-    AreJoinedDigits (second_third_fifth_sixth bytes) four → new ≡ old ++ four → IsReadSoFar f which bytes (drop 6 bytes) old new
+    IsUtf8OfDigits (second_third_fifth_sixth bytes) four → new ≡ old ++ four → IsReadSoFar f which bytes (drop 6 bytes) old new
 pair_read f which bytes old four new width_is joins new_is =
     let found = wide f bytes (omega arith) in
     character_read f which bytes old new 6 width_is found

@@ -9,8 +9,8 @@ use Rattle.cesu8_text.specs.Cutting.{Piece, Character, Replaced, ArePieces, text
 use Rattle.cesu8_text.specs.Laws.{NoneCrosses}
 use Rattle.cesu8_bytes.specs.TextChunks.{IsChunk}
 use Rattle.cesu8_decode.specs.Decoding.{HasFault}
-use Rattle.cesu8_bytes.specs.declared.options.Strictness.{Strictness}
-use Rattle.cesu8_bytes.specs.declared.options.Strictness.TheVariants.{Strict, Lossy}
+use Rattle.cesu8_bytes.specs.declared.strictness.Strictness.{Strictness}
+use Rattle.cesu8_bytes.specs.declared.strictness.Strictness.TheVariants.{Strict, Lossy}
 use Rattle.cesu8_decode.specs.DecodedOffsets.{decoded, is_ill_formed_at, is_boundary_at}
 use Rattle.cesu8_text.proofs.reading.Cuttings.{greedy_cutting}
 use Rattle.cesu8_text.proofs.reading.Greedy.{places}

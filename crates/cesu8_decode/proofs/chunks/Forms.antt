@@ -4,9 +4,9 @@ use Rattle.std.proofs.lemmas.Bool.{and_from, and_parts, eqb-true, iff_false, le-
 use Rattle.cesu8_text.specs.Encoding.{Flavor, Cesu8, Mutf8}
 use Rattle.cesu8_text.specs.Class.{is_null}
 use Rattle.cesu8_text.specs.Reading.{NoneBegins}
-use Rattle.cesu8_bytes.specs.Joining.{null_at, HasPair, AreJoinedDigits, second_third_fifth_sixth}
+use Rattle.cesu8_bytes.specs.Pairs.{null_at, HasPair, IsUtf8OfDigits, second_third_fifth_sixth}
 use Rattle.cesu8_bytes.specs.TextChunks.{IsReadSoFar}
-use Rattle.cesu8_bytes.specs.declared.options.Strictness.{Strictness}
+use Rattle.cesu8_bytes.specs.declared.strictness.Strictness.{Strictness}
 use Rattle.cesu8_decode.specs.DecodedOffsets.{IsPrefixOf, first_width, one_at, two_at, three_at, continues, fits_three}
 use Rattle.cesu8_decode.specs.Forms.{HasForm, HasNoForm, form_len}
 use Rattle.cesu8_decode.specs.declared.forms.Form.{Form}
@@ -60,7 +60,7 @@ are_three a b d t =
 
 -- The character of this form that begins the bytes, in UTF-8.
 abbrev IsUtf8OfForm : Form → List ℕ → List ℕ → Type 0
-IsUtf8OfForm Pair bytes utf8 = AreJoinedDigits (second_third_fifth_sixth bytes) utf8
+IsUtf8OfForm Pair bytes utf8 = IsUtf8OfDigits (second_third_fifth_sixth bytes) utf8
 IsUtf8OfForm Null bytes utf8 = utf8 ≡ 0 ∷ []
 IsUtf8OfForm Two bytes utf8 = utf8 ≡ get_or bytes 0 0 ∷ get_or bytes 1 0 ∷ []
 IsUtf8OfForm Three bytes utf8 = utf8 ≡ get_or bytes 0 0 ∷ get_or bytes 1 0 ∷ get_or bytes 2 0 ∷ []

@@ -5,13 +5,13 @@ use Rattle.cesu8_text.specs.Encoding.{Flavor, encoding}
 use Rattle.cesu8_text.specs.Reading.{reading, lossy_length, IsStrictReading, HasNoStrictReading}
 use Rattle.cesu8_decode.specs.Decoding.{IsDecodedText, HasFault, refuses, ReadsFirst, ReadsAll, most_of_text}
 use Rattle.cesu8_bytes.specs.TextChunks.{IsReadSoFar, IsChunk}
-use Rattle.cesu8_bytes.specs.declared.options.Strictness.{Strictness}
+use Rattle.cesu8_bytes.specs.declared.strictness.Strictness.{Strictness}
 use Rattle.cesu8_text.proofs.encoding.Encodings.{encoding_nil, encoding_append}
 use Rattle.cesu8_text.proofs.reading.Steps.{reading_nil}
 use Rattle.std.specs.Str.{chars, IsUtf8}
 use Rattle.std.proofs.lemmas.Bool.{false≢true, cases_lt}
 use Rattle.std.proofs.lemmas.List.{drop-drop}
-use Rattle.cesu8_bytes.specs.declared.options.Strictness.TheVariants.{Strict, Lossy}
+use Rattle.cesu8_bytes.specs.declared.strictness.Strictness.TheVariants.{Strict, Lossy}
 use Rattle.cesu8_text.proofs.StdUtf8.{IsUtf8_utf8, chars_utf8}
 use Rattle.cesu8_text.proofs.encoding.Lengths.{length_bounds}
 use Rattle.cesu8_text.proofs.encoding.Unique.{no_reading}

@@ -7,8 +7,8 @@ use Rattle.cesu8_text.specs.Encoding.{Flavor}
 use Rattle.cesu8_text.specs.Kept.{KnowsTexts, ReadsEncoding}
 use Rattle.cesu8_text.specs.Reading.{IsStrictReading, HasNoStrictReading, reading, lossy_length}
 use Rattle.cesu8_bytes.specs.TextChunks.{IsChunk}
-use Rattle.cesu8_bytes.specs.declared.options.Strictness.{Strictness}
-use Rattle.cesu8_bytes.specs.declared.options.Strictness.TheVariants.{Strict, Lossy}
+use Rattle.cesu8_bytes.specs.declared.strictness.Strictness.{Strictness}
+use Rattle.cesu8_bytes.specs.declared.strictness.Strictness.TheVariants.{Strict, Lossy}
 use Rattle.cesu8_text.specs.Slices.{StandsAtFront, ReadsAtLength}
 use Rattle.cesu8_bytes.specs.Puts.{PutsAnswer}
 use Rattle.cesu8_decode.specs.Decoding.{IsDecodedText, ReadsAll, refuses}

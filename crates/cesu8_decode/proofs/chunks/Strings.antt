@@ -5,7 +5,7 @@ use Rattle.std.proofs.lemmas.List.{take-take, take-append-le, length-take-le}
 use Rattle.cesu8_text.specs.Slices.{StandsAtFront}
 use Rattle.cesu8_text.specs.Encoding.{Flavor}
 use Rattle.cesu8_bytes.specs.TextChunks.{IsChunk}
-use Rattle.cesu8_bytes.specs.declared.options.Strictness.TheVariants.{Lossy}
+use Rattle.cesu8_bytes.specs.declared.strictness.Strictness.TheVariants.{Lossy}
 use Rattle.cesu8_decode.specs.Decoding.{BuildsReading}
 
 -- What a slice of a vector has at its front is left where the vector is cut behind it.

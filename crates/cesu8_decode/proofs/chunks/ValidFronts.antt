@@ -7,7 +7,7 @@ use Rattle.cesu8_text.specs.Class.{IsUnchangedUtf8}
 use Rattle.cesu8_text.specs.Reading.{BeginsWith, NoneBegins, StandsAt, width, LiesWithin, Damaged, mark, HasNoStrictReading}
 use Rattle.cesu8_text.specs.Fronts.{IsValidUpTo}
 use Rattle.cesu8_bytes.specs.TextChunks.{IsReadSoFar}
-use Rattle.cesu8_bytes.specs.declared.options.Strictness.TheVariants.{Strict}
+use Rattle.cesu8_bytes.specs.declared.strictness.Strictness.TheVariants.{Strict}
 use Rattle.cesu8_decode.specs.DecodedOffsets.{first_width}
 use Rattle.cesu8_decode.specs.ValidFront.{IsValidFront}
 use Rattle.std.specs.Str.{chars}

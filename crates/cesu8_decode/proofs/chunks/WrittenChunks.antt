@@ -6,7 +6,7 @@ use Rattle.cesu8_text.specs.Encoding.{Flavor}
 use Rattle.cesu8_text.specs.Reading.{reading, lossy_length}
 use Rattle.cesu8_text.specs.Slices.{StandsAtFront}
 use Rattle.cesu8_decode.specs.Decoding.{ReadsFirst, IsWrittenSoFar}
-use Rattle.cesu8_bytes.specs.declared.options.Strictness.TheVariants.{Lossy}
+use Rattle.cesu8_bytes.specs.declared.strictness.Strictness.TheVariants.{Lossy}
 use Rattle.cesu8_bytes.proofs.lists.Ends.{stays_behind}
 use Rattle.cesu8_decode.proofs.chunks.ReadChunks.{nothing_read, all_read, more_read, chunk_appended, chunk_length}
 use Rattle.cesu8_text.proofs.reading.Decoding.{lossy_length_nil}

@@ -1,7 +1,7 @@
 use Rattle.std.proofs.Common.{[], ◌∙◌, refl, ap, arith}
 use Rattle.std.specs.Str.{chars}
 use Rattle.cesu8_text.proofs.reading.Decoding.{lossy_length_nil}
-use Rattle.cesu8_bytes.specs.declared.options.Strictness.TheVariants.{Lossy}
+use Rattle.cesu8_bytes.specs.declared.strictness.Strictness.TheVariants.{Lossy}
 use Rattle.cesu8_decode.proofs.chunks.ReadChunks.{chunk_utf8, chunk_length, whole_text}
 use Rattle.cesu8_decode.proofs.decode_lossy.Goals as goal
 

@@ -1,7 +1,7 @@
 use Rattle.std.proofs.Common.{[], sym, subst, refl}
 use Rattle.std.specs.Str.{chars}
 use Rattle.cesu8_text.specs.Reading.{IsStrictReading}
-use Rattle.cesu8_bytes.specs.declared.options.Strictness.TheVariants.{Strict}
+use Rattle.cesu8_bytes.specs.declared.strictness.Strictness.TheVariants.{Strict}
 use Rattle.cesu8_decode.proofs.chunks.ReadChunks.{chunk_utf8, whole_text}
 use Rattle.cesu8_decode.proofs.decode_strict.Goals as goal
 

@@ -9,8 +9,8 @@ use Rattle.std.proofs.Math.Seq.{take-length}
 use Rattle.std.proofs.lemmas.Bool.{cases_lt}
 use Rattle.cesu8_text.specs.Encoding.{Flavor}
 use Rattle.cesu8_bytes.specs.Packing.{written_for}
-use Rattle.cesu8_bytes.specs.declared.options.Strictness.{Strictness}
-use Rattle.cesu8_bytes.specs.declared.options.Strictness.TheVariants.{Strict, Lossy}
+use Rattle.cesu8_bytes.specs.declared.strictness.Strictness.{Strictness}
+use Rattle.cesu8_bytes.specs.declared.strictness.Strictness.TheVariants.{Strict, Lossy}
 use Rattle.cesu8_bytes.specs.TextChunks.{IsChunk}
 use Rattle.cesu8_bytes.proofs.vectors.Loads.{padded}
 use Rattle.cesu8_decode.specs.DecodedOffsets.{window_of, is_ill_formed_at, is_boundary_at, decoded_at, decoded}

@@ -4,7 +4,7 @@ use Rattle.std.proofs.lemmas.Bool.{and_parts, eqb-true, ltb-true, ne_eqb, or_cas
 use Rattle.std.proofs.lemmas.Bool.Decides.{nat_tests}
 use Rattle.cesu8_text.specs.Encoding.{Flavor}
 use Rattle.cesu8_decode.specs.DecodedOffsets.{first_width_by, width_at, one_at, two_at, three_at, pair_at, continues, decoded_byte, decoded_at, is_ill_formed_at}
-use Rattle.cesu8_bytes.specs.Joining.{null_at}
+use Rattle.cesu8_bytes.specs.Pairs.{null_at}
 use Rattle.cesu8_bytes.specs.Packing.{written_for}
 use Rattle.cesu8_decode.specs.DecodedLanes.{goes_at, byte_at}
 

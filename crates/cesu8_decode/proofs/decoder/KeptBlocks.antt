@@ -11,7 +11,7 @@ use lib.Lanes.{zip2, pick_l, mask_l, chunk, put_chunk, Each1}
 use Rattle.cesu8_text.specs.Encoding.{Flavor, Cesu8, Mutf8}
 use Rattle.cesu8_text.specs.Class.{is_null}
 use Rattle.cesu8_bytes.specs.Kernels.{mask}
-use Rattle.cesu8_bytes.specs.Joining.{null_at}
+use Rattle.cesu8_bytes.specs.Pairs.{null_at}
 use Rattle.cesu8_bytes.specs.Packing.{written_for}
 use Rattle.cesu8_bytes.proofs.vectors.Loads.{loaded}
 use Rattle.cesu8_decode.specs.DecodedOffsets.{one_at, two_at, three_at, pair_at, continues, first_width_by, width_at, is_ill_formed_at, decoded_at, decoded}

@@ -3,7 +3,7 @@ use Rattle.std.proofs.Common.{◌≡◌, ℕ, ◌+◌, ◌<◌, Bool, true, fals
 use Rattle.std.proofs.lemmas.Bool.{and_parts, eqb-true, leb-true, ltb-true, ne_eqb, lt-leb}
 use Rattle.cesu8_text.specs.Encoding.{Flavor, Cesu8, Mutf8}
 use Rattle.cesu8_decode.specs.DecodedOffsets.{one_at, two_at, three_at, pair_at, first_width_by, width_at}
-use Rattle.cesu8_bytes.specs.Joining.{null_at}
+use Rattle.cesu8_bytes.specs.Pairs.{null_at}
 use Rattle.cesu8_decode.specs.DecodedLanes.{start_kind_by, kind_of_two, start_kind}
 
 -- What begins at an offset with byte a: nothing, one byte, the null of MUTF-8, two bytes, three, or a

@@ -2,7 +2,7 @@ use Rattle.std.proofs.Common.{◌≡◌, ℕ, List, map, replicate, length, cond
 use Rattle.std.proofs.lemmas.Bool.{iff_false}
 use Rattle.std.proofs.lemmas.Simd.{splat_is_map}
 use Rattle.cesu8_text.specs.Encoding.{Flavor, Cesu8, Mutf8}
-use Rattle.cesu8_bytes.specs.Joining.{null_at}
+use Rattle.cesu8_bytes.specs.Pairs.{null_at}
 use Rattle.cesu8_bytes.proofs.lists.Lanes.{chosen_lanes}
 use Rattle.cesu8_bytes.proofs.flavor.second_of_null.Goals as goal
 

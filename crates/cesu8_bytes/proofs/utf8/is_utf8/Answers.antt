@@ -23,7 +23,7 @@ pub returns-then-bytes-ge-QUARTER : goal.returns-then-bytes-ge-QUARTER
 returns-then-bytes-ge-QUARTER c =
     without_zeros c.args.bytes.now c.padded_block.result (64 - length c.args.bytes.now) c.is_block_utf8.result c.padded_block.ensures c.is_block_utf8.ensures
 
-pub returns-then-bytes-gt-FEW : goal.returns-then-bytes-gt-FEW
-returns-then-bytes-gt-FEW c =
-    without_zeros c.args.bytes.now c.block_of_quarter.result (64 - length c.args.bytes.now) c.is_block_utf8-then-bytes-gt-FEW.result c.block_of_quarter.ensures
-    c.is_block_utf8-then-bytes-gt-FEW.ensures
+pub returns-then-bytes-gt-ONE_BY_ONE : goal.returns-then-bytes-gt-ONE_BY_ONE
+returns-then-bytes-gt-ONE_BY_ONE c =
+    without_zeros c.args.bytes.now c.block_of_quarter.result (64 - length c.args.bytes.now) c.is_block_utf8-then-bytes-gt-ONE_BY_ONE.result c.block_of_quarter.ensures
+    c.is_block_utf8-then-bytes-gt-ONE_BY_ONE.ensures

@@ -1,7 +1,7 @@
 use Rattle.std.proofs.Common.{◌≡◌, ◌+◌, ◌-◌, [], arith, ◌∙◌, sym, ap, refl, length, length-drop, drop}
 use Rattle.cesu8_decode.specs.Decoding.{most_written}
 use Rattle.std.proofs.lemmas.List.{take_rest, drop-drop}
-use Rattle.cesu8_bytes.specs.declared.options.Strictness.TheVariants.{Strict, Lossy}
+use Rattle.cesu8_bytes.specs.declared.strictness.Strictness.TheVariants.{Strict, Lossy}
 use Rattle.cesu8_decode.proofs.chunks.ReadChunks.{nothing_read}
 use Rattle.cesu8_decode.proofs.chunks.Characters.{more_written, more_lossy, more_strict, first_fault, read_unless_refused, read_some, read_all}
 use Rattle.cesu8_decode.proofs.characters.write_characters.Goals as goal

@@ -2,7 +2,7 @@
 use Rattle.std.proofs.Common.{◌≡◌, ℕ, ◌<◌, ◌≤◌, [], true, refl, subst, arith, length, take, drop, get_or}
 use Rattle.cesu8_decode.specs.DecodedOffsets.{one_at}
 use Rattle.std.proofs.lemmas.List.{get_or-take, length-drop, length-take-le, take_rest}
-use Rattle.cesu8_bytes.specs.declared.options.Strictness.TheVariants.{Strict}
+use Rattle.cesu8_bytes.specs.declared.strictness.Strictness.TheVariants.{Strict}
 use Rattle.cesu8_text.proofs.encoding.Unique.{no_reading}
 use Rattle.cesu8_decode.proofs.chunks.Characters.{ascii_read}
 use Rattle.cesu8_decode.proofs.chunks.Forms.{no_form, one_of_class}

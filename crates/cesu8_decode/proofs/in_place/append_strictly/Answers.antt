@@ -1,7 +1,7 @@
 use Rattle.std.proofs.Common.{[], ℕ, List, replicate, ◌≡◌, ◌++◌, ◌∙◌, refl, ap, arith, length, take}
 use Rattle.std.proofs.Math.Seq.{take-append_seam}
 use Rattle.std.proofs.lemmas.List.{take_rest, length-append, length-replicate}
-use Rattle.cesu8_bytes.specs.declared.options.Strictness.TheVariants.{Strict}
+use Rattle.cesu8_bytes.specs.declared.strictness.Strictness.TheVariants.{Strict}
 use Rattle.cesu8_decode.proofs.chunks.ReadChunks.{nothing_read, none_behind, more_read, chunk_appended, chunk_fits}
 use Rattle.cesu8_decode.proofs.chunks.Strings.{part_kept}
 use Rattle.cesu8_decode.proofs.in_place.append_strictly.Goals as goal

@@ -1,6 +1,6 @@
 use Rattle.std.proofs.Common.{◌≡◌, ◌+◌, ◌≤◌, [], length, vec_len, vec_capacity}
 use Rattle.cesu8_bytes.specs.TextChunks.{IsReadSoFar}
-use Rattle.cesu8_bytes.specs.declared.options.Strictness.TheVariants.{Strict}
+use Rattle.cesu8_bytes.specs.declared.strictness.Strictness.TheVariants.{Strict}
 use Rattle.cesu8_decode.proofs.in_place.append_strictly.Given as goal
 
 abbrev pub decreases-loop-rest : goal.decreases-loop-rest

@@ -2,8 +2,8 @@ use borrow.Rule.Slice.PartMut.{put_mid, post_of}
 use Rattle.std.proofs.Common.{arith, rules, ◌-◌, ◌≡◌, ℕ, ◌+◌, ◌≤◌, List, ◌++◌, drop, ◌∙◌, sym, ap, length, take}
 use Rattle.std.proofs.Math.Seq.{take-append-add}
 use Rattle.std.proofs.lemmas.List.{length-drop, length-take-le, take-append-le, take_rest}
-use Rattle.cesu8_bytes.specs.declared.options.Strictness.{Strictness}
-use Rattle.cesu8_bytes.specs.declared.options.Strictness.TheVariants.{Strict, Lossy}
+use Rattle.cesu8_bytes.specs.declared.strictness.Strictness.{Strictness}
+use Rattle.cesu8_bytes.specs.declared.strictness.Strictness.TheVariants.{Strict, Lossy}
 use Rattle.cesu8_decode.specs.Decoding.{room_for}
 use Rattle.cesu8_decode.proofs.chunks.ReadChunks.{first_after}
 use Rattle.cesu8_decode.proofs.in_place.write_by_pairs_and_blocks.Goals as goal

@@ -1,7 +1,7 @@
 use Rattle.std.proofs.Common.{◌-◌, ◌≤◌, ◌≡◌, [], length, take, drop}
 use Rattle.cesu8_text.specs.Encoding.{Flavor}
 use Rattle.cesu8_bytes.specs.TextChunks.{IsReadSoFar}
-use Rattle.cesu8_bytes.specs.declared.options.Strictness.{Strictness}
+use Rattle.cesu8_bytes.specs.declared.strictness.Strictness.{Strictness}
 use Rattle.cesu8_decode.proofs.in_place.write_pairs.Given as goal
 
 abbrev pub decreases-loop-read : goal.decreases-loop-read

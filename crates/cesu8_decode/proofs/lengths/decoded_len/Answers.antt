@@ -2,7 +2,7 @@ use Rattle.std.proofs.Common.{◌≡◌, ℕ, refl, arith, length, Option, Some,
 use Rattle.std.proofs.lemmas.Option.{IfSome_then}
 use Rattle.cesu8_text.specs.Reading.{IsStrictReading, reading, lossy_length}
 use Rattle.cesu8_text.proofs.reading.KeptTexts.{encoding_texts}
-use Rattle.cesu8_bytes.specs.declared.options.Strictness.TheVariants.{Strict}
+use Rattle.cesu8_bytes.specs.declared.strictness.Strictness.TheVariants.{Strict}
 use Rattle.cesu8_decode.proofs.chunks.SliceReadings.{only_kept, of_length, strict_no_longer}
 use Rattle.cesu8_decode.proofs.lengths.decoded_len.Goals as goal
 

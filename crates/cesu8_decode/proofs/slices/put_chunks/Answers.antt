@@ -1,6 +1,6 @@
 use Rattle.std.proofs.Common.{◌≡◌, ◌<◌, ◌^◌, rules, arith}
 use Rattle.cesu8_text.specs.Reading.{IsStrictReading, reading, lossy_length}
-use Rattle.cesu8_bytes.specs.declared.options.Strictness.TheVariants.{Strict}
+use Rattle.cesu8_bytes.specs.declared.strictness.Strictness.TheVariants.{Strict}
 use Rattle.cesu8_decode.proofs.chunks.SliceReadings.{strict_no_longer, no_strict_text, only_reading, answer_put, room_lacks, length_lacks}
 use Rattle.cesu8_decode.proofs.slices.put_chunks.Goals as goal
 use Rattle.cesu8_decode.proofs.slices.put_chunks.Goals.{in-Strict+else-is_ill_formed+else-bytes-buf, in_default}

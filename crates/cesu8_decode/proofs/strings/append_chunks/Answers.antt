@@ -1,7 +1,7 @@
 use Rattle.std.proofs.Common.{◌∙◌, refl, sym, arith}
 use Rattle.std.proofs.lemmas.Bool.{eqb-true}
 use Rattle.std.proofs.lemmas.List.{take_rest}
-use Rattle.cesu8_bytes.specs.declared.options.Strictness.TheVariants.{Lossy}
+use Rattle.cesu8_bytes.specs.declared.strictness.Strictness.TheVariants.{Lossy}
 use Rattle.cesu8_decode.proofs.chunks.ReadChunks.{nothing_read, none_left, more_read, chunk_appended, chunk_length}
 use Rattle.cesu8_decode.proofs.strings.append_chunks.Goals as goal
 

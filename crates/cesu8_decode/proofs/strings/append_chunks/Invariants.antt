@@ -1,7 +1,7 @@
 use Rattle.std.proofs.Common.{◌≡◌, ◌+◌, ◌≤◌, length, vec_len, vec_capacity}
 use Rattle.cesu8_bytes.specs.TextChunks.{IsReadSoFar}
 use Rattle.cesu8_text.specs.Reading.{lossy_length}
-use Rattle.cesu8_bytes.specs.declared.options.Strictness.TheVariants.{Lossy}
+use Rattle.cesu8_bytes.specs.declared.strictness.Strictness.TheVariants.{Lossy}
 use Rattle.cesu8_decode.proofs.strings.append_chunks.Given as goal
 
 abbrev pub decreases-loop-rest : goal.decreases-loop-rest

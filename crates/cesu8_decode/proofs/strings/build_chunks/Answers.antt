@@ -3,7 +3,7 @@ use Rattle.std.proofs.lemmas.List.{take_rest, length-take-le}
 use Rattle.cesu8_text.specs.Reading.{lossy_length}
 use Rattle.cesu8_text.proofs.reading.Decoding.{lossy_length_nil}
 use Rattle.cesu8_bytes.specs.TextChunks.{IsReadSoFar, IsChunk}
-use Rattle.cesu8_bytes.specs.declared.options.Strictness.TheVariants.{Lossy}
+use Rattle.cesu8_bytes.specs.declared.strictness.Strictness.TheVariants.{Lossy}
 use Rattle.cesu8_decode.proofs.chunks.ReadChunks.{chunk_length, more_read}
 use Rattle.cesu8_decode.proofs.strings.build_chunks.Goals as goal
 

@@ -1,5 +1,5 @@
 use Rattle.std.proofs.Common.{refl, arith}
-use Rattle.cesu8_bytes.specs.declared.options.Strictness.TheVariants.{Lossy}
+use Rattle.cesu8_bytes.specs.declared.strictness.Strictness.TheVariants.{Lossy}
 use Rattle.cesu8_decode.proofs.chunks.Strings.{built}
 use Rattle.cesu8_decode.proofs.chunks.ReadChunks.{all_chunk}
 use Rattle.cesu8_decode.proofs.strings.build_window.Goals as goal

@@ -1,7 +1,7 @@
 use Rattle.std.proofs.Common.{◌≡◌, ℕ, ◌≤◌, [], ◌∙◌, sym, subst, arith, length, replicate}
 use Rattle.std.proofs.lemmas.List.{length-replicate}
 use Rattle.cesu8_bytes.specs.TextChunks.{IsChunk}
-use Rattle.cesu8_bytes.specs.declared.options.Strictness.TheVariants.{Strict}
+use Rattle.cesu8_bytes.specs.declared.strictness.Strictness.TheVariants.{Strict}
 use Rattle.cesu8_decode.proofs.chunks.ReadChunks.{all_chunk, none_if_refused}
 use Rattle.cesu8_decode.proofs.chunks.Strings.{cut}
 use Rattle.cesu8_decode.proofs.strings.write_few.Goals as goal

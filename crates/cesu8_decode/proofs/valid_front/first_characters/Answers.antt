@@ -1,5 +1,5 @@
 use Rattle.std.proofs.Common.{[], refl, rules, take}
-use Rattle.cesu8_bytes.specs.declared.options.Strictness.TheVariants.{Strict}
+use Rattle.cesu8_bytes.specs.declared.strictness.Strictness.TheVariants.{Strict}
 use Rattle.cesu8_decode.proofs.chunks.Characters.{ascii_read}
 use Rattle.cesu8_decode.proofs.chunks.Forms.{form_some, form_width, no_form}
 use Rattle.cesu8_decode.proofs.chunks.ValidFronts.{none_valid, read_valid, character_valid}

@@ -2,7 +2,7 @@ use Rattle.std.proofs.Common.{◌≡◌, ◌+◌, ◌-◌, ◌*◌, ◌≤◌, f
 use Rattle.cesu8_decode.specs.Decoding.{IsWrittenUpTo, most_written}
 use Rattle.cesu8_decode.specs.DecodedOffsets.{window_of}
 use Rattle.cesu8_decode.specs.DecodedLanes.{AreFiveKinds}
-use Rattle.cesu8_bytes.specs.declared.options.Strictness.TheVariants.{Lossy}
+use Rattle.cesu8_bytes.specs.declared.strictness.Strictness.TheVariants.{Lossy}
 use Rattle.cesu8_decode.proofs.whole_blocks.write_whole.Given as goal
 
 abbrev pub decreases-loop-at : goal.decreases-loop-at

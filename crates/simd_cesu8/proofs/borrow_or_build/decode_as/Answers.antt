@@ -4,11 +4,11 @@ use Rattle.simd_cesu8.proofs.borrow_or_build.decode_as.Goals as goal
 
 pub known_text-requires : goal.known_text-requires
 known_text-requires g c =
-    (g.met.A.Accepts.known g.F.Flavor.flavor c.args.bytes.now).is_utf8 (c.is_short_ascii.ensures c.if-is_short_ascii.true)
+    (g.met.A.Accepts.known g.F.Flavor.flavor c.args.bytes.now).is_utf8 (c.is_short_kept_ascii.ensures c.if-is_short_kept_ascii.true)
 
-pub returns-then-is_short_ascii : goal.returns-then-is_short_ascii
-returns-then-is_short_ascii g c =
-    let kept = c.is_short_ascii.ensures c.if-is_short_ascii.true in
+pub returns-then-is_short_kept_ascii : goal.returns-then-is_short_kept_ascii
+returns-then-is_short_kept_ascii g c =
+    let kept = c.is_short_kept_ascii.ensures c.if-is_short_kept_ascii.true in
     record {
       text = ((g.met.A.Accepts.known g.F.Flavor.flavor c.args.bytes.now).kept _ kept).1 (ap chars c.known_text.ensures);
       invalid = search rules;

@@ -5,13 +5,13 @@ use Rattle.simd_cesu8.proofs.borrow_or_build.decode_lossy_as.Goals as goal
 
 pub known_text-requires : goal.known_text-requires
 known_text-requires g c =
-    (g.met.A.Accepts.known g.F.Flavor.flavor c.args.bytes.now).is_utf8 (c.is_short_ascii.ensures c.if-is_short_ascii.true)
+    (g.met.A.Accepts.known g.F.Flavor.flavor c.args.bytes.now).is_utf8 (c.is_short_kept_ascii.ensures c.if-is_short_kept_ascii.true)
 
-pub returns-then-is_short_ascii : goal.returns-then-is_short_ascii
-returns-then-is_short_ascii g c =
+pub returns-then-is_short_kept_ascii : goal.returns-then-is_short_kept_ascii
+returns-then-is_short_kept_ascii g c =
     let f = g.F.Flavor.flavor in
     let bytes = c.args.bytes.now in
-    let kept = c.is_short_ascii.ensures c.if-is_short_ascii.true in
+    let kept = c.is_short_kept_ascii.ensures c.if-is_short_kept_ascii.true in
     let known = g.met.A.Accepts.known f bytes in
     let reads = (known.kept_lossily (chars c.known_text.result.now) kept).1 (ap chars c.known_text.ensures) in
     record {

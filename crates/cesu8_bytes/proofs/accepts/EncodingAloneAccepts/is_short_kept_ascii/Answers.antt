@@ -1,5 +1,5 @@
 use Rattle.std.proofs.lemmas.Str.{IsUtf8-from_ascii}
-use Rattle.cesu8_bytes.proofs.accepts.EncodingAloneAccepts.is_short_ascii.Goals as goal
+use Rattle.cesu8_bytes.proofs.accepts.EncodingAloneAccepts.is_short_kept_ascii.Goals as goal
 
 pub returns : goal.returns
 returns g c shown =

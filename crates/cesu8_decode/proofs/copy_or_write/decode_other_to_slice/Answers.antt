@@ -1,7 +1,7 @@
 use Rattle.std.proofs.Common.{arith}
 use Rattle.cesu8_bytes.proofs.lists.Looks.{not_utf8_by}
 use Rattle.cesu8_decode.proofs.chunks.SliceReadings.{kept_put, encoding_put}
-use Rattle.cesu8_decode.proofs.copy_or_write.put_other.Goals as goal
+use Rattle.cesu8_decode.proofs.copy_or_write.decode_other_to_slice.Goals as goal
 
 pub returns-in-Text : goal.returns-in-Text
 returns-in-Text g c =
