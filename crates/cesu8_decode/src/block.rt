@@ -9,17 +9,17 @@ ghost use Rattle.cesu8_bytes.specs.Kernels.{mask};
 ghost use Rattle.cesu8_bytes.specs.declared.strictness.Strictness.TheVariants.{Strict, Lossy};
 ghost use Rattle.cesu8_decode.specs.Decoding.{most_written};
 ghost use Rattle.cesu8_decode.specs.DecodedOffsets.{decoded, is_ill_formed_at};
-ghost use Rattle.cesu8_decode.specs.DecodedLanes.{start_kind, AreFiveKinds, NoneBeginsChanged, is_high};
+ghost use Rattle.cesu8_decode.specs.DecodedLanes.{start_kind, AreFiveKinds, AreKindsNear, NoneBeginsChanged, is_high};
 
-use super::offsets::{BEHIND, FROM_27, LEAD, REACH, near, starts};
-use super::packing::{highest_bits, store_whole};
-use super::parts::{changed_parts, ill_formed, kept_ill_formed, kept_parts};
+use super::offsets::{BEHIND, Kinds, LEAD, REACH, near, starts};
+use super::packing::{HighestBit, store, store_whole};
+use super::parts::{changed_parts, ill_formed, kept_parts};
 use super::reading::{Block, Reading};
 use cesu8_bytes::BLOCK;
 use cesu8_bytes::flavor::{Flavor, nulls};
 use cesu8_bytes::implementation::class::{AtLeast, bits};
-use cesu8_bytes::strictness::Strictness;
 use cesu8_bytes::packing::STORED;
+use cesu8_bytes::strictness::Strictness;
 use std::simd::prelude::*;
 
 /// Writes what becomes of the first `count` bytes of a block, which follow `at` bytes of the window
@@ -58,15 +58,15 @@ pub fn write_block<F: Flavor, S: Reading>(
     }
     let here = starts::<F>(window, at + BEHIND, true);
     let kinds = near(before, here);
-    let parts = if changes_none(before, here) {
-        let marks = kept_ill_formed::<F>(window, &kinds, at);
-        if first_bits(marks, count) == 0 {
+    let parts = if changes_none(&kinds) {
+        let marks = ill_formed::<F>(window, &kinds, at, count, true);
+        if bits::<HighestBit, BLOCK>(marks) == 0 {
             return copy_block(bytes, here, count, out, end);
         }
         kept_parts(bytes, marks, count)
     } else {
-        let marks = ill_formed::<F>(window, &kinds, at, count);
-        let found = highest_bits(marks);
+        let marks = ill_formed::<F>(window, &kinds, at, count, false);
+        let found = bits::<HighestBit, BLOCK>(marks);
         // First the test, so that what it needs is not kept meanwhile.
         if found != 0 && matches!(S::strictness(), Strictness::Strict) {
             return Block {
@@ -85,7 +85,18 @@ pub fn write_block<F: Flavor, S: Reading>(
         }
         parts
     };
-    S::write_ill_formed(parts, here, out, end)
+    match S::strictness() {
+        Strictness::Strict => Block {
+            end,
+            is_refused: true,
+            kinds: here,
+        },
+        Strictness::Lossy => Block {
+            end: store(parts, out, end),
+            is_refused: false,
+            kinds: here,
+        },
+    }
 }
 
 /// Returns whether no byte leads others and the first `count` are characters of one byte.
@@ -125,19 +136,17 @@ fn first_bits(lanes: u8x32, count: usize) -> u64
     requires { count ≤ BLOCK }
     ensures { result ≡ mask_l (take count (map is_high lanes)) }
 {
-    highest_bits(lanes) & ((1 << count) - 1)
+    bits::<HighestBit, BLOCK>(lanes) & ((1 << count) - 1)
 }
 
 /// Returns whether neither a surrogate pair nor C0 80 begins at the offsets around a block. Then
-/// its bytes stay, but for those that are ill-formed. Of the kinds of the 32 bytes before, the last
-/// five count.
+/// its bytes stay, but for those that are ill-formed.
 #[inline(always)]
-fn changes_none(before: u8x32, here: u8x32) -> bool
-    ensures { (f : Flavor) (window : List ℕ) (at : ℕ)
-        → AreFiveKinds f window at before (BLOCK - BEHIND)
-        → here ≡ map (start_kind f window) (range_with_len (at + BEHIND) BLOCK)
+fn changes_none(kinds: &Kinds) -> bool
+    ensures { (f : Flavor) (window : List ℕ) (at : ℕ) → AreKindsNear f window at kinds.now
         → IsTrue result → NoneBeginsChanged f window at }
 {
-    let around = here | before.shuffle::<32>(u8x32::splat(0), FROM_27);
-    highest_bits(around | (around << u8x32::splat(2))) == 0
+    // The first and the last have all of these offsets.
+    let around = kinds[0] | kinds[5];
+    bits::<HighestBit, BLOCK>(around | (around << u8x32::splat(2))) == 0
 }

@@ -13,10 +13,10 @@ use super::packing::WIDEST;
 use super::refusal::is_refused;
 use cesu8_bytes::flavor::Flavor;
 use cesu8_bytes::implementation::class::{Either, NonAscii};
-use cesu8_bytes::strictness::Strictness;
 use cesu8_bytes::pairs::{PAIR_READ, utf8_of_pair};
 use cesu8_bytes::put::put;
 use cesu8_bytes::runs::copy_run;
+use cesu8_bytes::strictness::Strictness;
 
 /// U+FFFD, which replaces an ill-formed byte.
 const REPLACEMENT: [u8; WIDEST] = [0xEF, 0xBF, 0xBD];

@@ -10,10 +10,10 @@ ghost use Rattle.std.specs.Simd.Lanes.{zip2};
 ghost use Rattle.cesu8_bytes.specs.Kernels.{mask};
 ghost use Rattle.cesu8_decode.specs.Following.{shown, wanted, follows_at, AllFollow, FirstFollow, marked_if_not_one};
 
-use super::offsets::{common_bits, equal};
+use super::offsets::common_bits;
 use cesu8_bytes::BLOCK;
 use cesu8_bytes::flavor::{Flavor, nulls};
-use cesu8_bytes::implementation::class::{NonAscii, bits};
+use cesu8_bytes::implementation::class::{Equal, NonAscii, bits, mask};
 use std::simd::prelude::*;
 
 /// How many bytes before a byte decide whether it may follow them.
@@ -180,7 +180,7 @@ fn wanted_by(window: &[u8], at: usize) -> u8x32
 {
     let lead = u8x32::from_slice(&window[at..]);
     let second = u8x32::from_slice(&window[at + 1..]);
-    let is_high = equal(lead, 0xED) & equal(second & u8x32::splat(0xF0), 0xA0);
+    let is_high = mask::<Equal<0xED>>(lead) & mask::<Equal<0xA0>>(second & u8x32::splat(0xF0));
     leads_three(u8x32::from_slice(&window[at + 2..])) | (is_high & u8x32::splat(0x20))
 }
 

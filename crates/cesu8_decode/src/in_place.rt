@@ -14,15 +14,15 @@ ghost use Rattle.cesu8_bytes.specs.declared.strictness.Strictness.TheVariants.{L
 ghost use Rattle.cesu8_decode.specs.Decoding.{WritesText, WritesStrictly, HasRoom, room_for};
 
 use super::decoded::{Decoded, refused};
-use super::last_blocks::{LastBlocks, write_last};
+use super::last_blocks::write_last;
 use super::packing::WIDEST;
 use super::reading::{LossyReading, Reading, StrictReading};
 use super::way::{LONG_WINDOW, SHORT_WINDOW};
 use super::whole_blocks::{FOLLOWING, SPARE, last_end, whole_count, write_whole};
 use cesu8_bytes::flavor::Flavor;
-use cesu8_bytes::strictness::Strictness;
 use cesu8_bytes::pairs::{PAIR, PAIR_READ, is_pair, utf8_of_pair};
 use cesu8_bytes::put::put;
+use cesu8_bytes::strictness::Strictness;
 use cesu8_bytes::zeros::append_zeros;
 use std::alloc::Allocator;
 
@@ -76,7 +76,7 @@ pub fn write_text<F: Flavor>(strictness: Strictness, bytes: &[u8], out: &mut [u8
 /// Does so: the pairs at the front first, and then block by block. It is not inlined, since many
 /// calls need it.
 #[inline(never)]
-fn write_by_pairs_and_blocks<F: Flavor, S: LastBlocks>(bytes: &[u8], out: &mut [u8]) -> Decoded
+fn write_by_pairs_and_blocks<F: Flavor, S: Reading>(bytes: &[u8], out: &mut [u8]) -> Decoded
     requires { HasRoom S.which (length bytes.now) (length out.old) }
     ensures { WritesText F.flavor S.which bytes.now
         result.read result.end result.is_ill_formed out.old out.new }
@@ -133,7 +133,7 @@ fn write_pairs(bytes: &[u8], out: &mut [u8]) -> Decoded
 
 /// Writes the text of the bytes block by block, and as `write_text` does.
 #[inline(always)]
-fn write_by_blocks<F: Flavor, S: LastBlocks>(bytes: &[u8], out: &mut [u8]) -> Decoded
+fn write_by_blocks<F: Flavor, S: Reading>(bytes: &[u8], out: &mut [u8]) -> Decoded
     requires { HasRoom S.which (length bytes.now) (length out.old) }
     ensures { WritesText F.flavor S.which bytes.now
         result.read result.end result.is_ill_formed out.old out.new }

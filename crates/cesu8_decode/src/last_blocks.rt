@@ -10,13 +10,14 @@ use super::block::write_block;
 use super::decoded::{Decoded, refused};
 use super::offsets::BEHIND;
 use super::packing::WELL_FORMED_ROOM;
-use super::reading::{Block, LossyReading, Reading, StrictReading};
+use super::reading::{Block, Reading};
 use super::way::FEW_BYTES;
 use super::whole_blocks::{FOLLOWING, Whole};
 use super::window::{BEFORE, boundary, load};
 use cesu8_bytes::BLOCK;
 use cesu8_bytes::flavor::Flavor;
 use cesu8_bytes::put::put;
+use cesu8_bytes::strictness::Strictness;
 use std::simd::prelude::*;
 
 /// The length of an array for the last bytes, or for all if they are few, with those before them
@@ -29,7 +30,7 @@ const LAST_TEXT: usize = FEW_BYTES + WELL_FORMED_ROOM;
 /// Writes what becomes of the last of so many bytes, from an array and by an array. If more bytes
 /// follow, it ends at a character boundary.
 #[inline(always)]
-pub fn write_last<F: Flavor, S: LastBlocks>(
+pub fn write_last<F: Flavor, S: Reading>(
     bytes: &[u8],
     whole: Whole,
     most: usize,
@@ -57,7 +58,7 @@ pub fn write_last<F: Flavor, S: LastBlocks>(
     let mut window = [0; LAST];
     load(bytes, at, most - at, &mut window);
     let left = last_len::<F>(bytes, &window, at, most);
-    let last = S::write_last_blocks::<F>(&window, whole.last.kinds, left, out, end);
+    let last = write_last_blocks::<F, S>(&window, whole.last.kinds, left, out, end);
     if last.is_refused {
         return refused(bytes);
     }
@@ -90,60 +91,37 @@ fn last_len<F: Flavor>(bytes: &[u8], window: &[u8], at: usize, most: usize) -> u
     boundary::<F>(window, most - at - BEFORE)
 }
 
-/// How the last blocks are written.
-pub trait LastBlocks: Reading {
-    /// Writes what becomes of the first `count` bytes in an array.
-    fn write_last_blocks<F: Flavor>(
-        window: &[u8],
-        before: u8x32,
-        count: usize,
-        out: &mut [u8],
-        end: usize,
-    ) -> Block
-        requires window { BLOCK * ((count + BLOCK - 1) / BLOCK) + 2 * BEHIND ≤ length window.now }
-        requires before { AreFiveKinds F.flavor window.now 0 before (BLOCK - BEHIND) }
-        requires count { count ≤ FEW_BYTES }
-        requires strict { Self.which ≡ Strict → end + count ≤ length out.old }
-        requires lossy { Self.which ≡ Lossy → HasRoomBehind Lossy count end (length out.old) }
-        ensures text { WritesWindow F.flavor Self.which window.now count
-            out.old end out.new result.end result.is_refused }
-        ensures end { result.end ≤ length out.new };
-}
-
-/// By an array, since the text has no room behind it.
-impl LastBlocks for StrictReading {
-    #[inline(always)]
-    fn write_last_blocks<F: Flavor>(
-        window: &[u8],
-        before: u8x32,
-        count: usize,
-        out: &mut [u8],
-        end: usize,
-    ) -> Block {
-        let mut text = [0; LAST_TEXT];
-        let last = write_loaded::<F, StrictReading>(window, before, count, &mut text, 0);
-        if last.is_refused {
-            return last;
-        }
-        Block {
-            end: put(&text[..last.end], out, end),
-            is_refused: false,
-            kinds: last.kinds,
-        }
+/// Writes what becomes of the first `count` bytes in an array: where they go if there is room behind
+/// the text, as lossy reading has, and else by an array.
+#[inline(always)]
+fn write_last_blocks<F: Flavor, S: Reading>(
+    window: &[u8],
+    before: u8x32,
+    count: usize,
+    out: &mut [u8],
+    end: usize,
+) -> Block
+    requires window { BLOCK * ((count + BLOCK - 1) / BLOCK) + 2 * BEHIND ≤ length window.now }
+    requires before { AreFiveKinds F.flavor window.now 0 before (BLOCK - BEHIND) }
+    requires count { count ≤ FEW_BYTES }
+    requires strict { S.which ≡ Strict → end + count ≤ length out.old }
+    requires lossy { S.which ≡ Lossy → HasRoomBehind Lossy count end (length out.old) }
+    ensures text { WritesWindow F.flavor S.which window.now count
+        out.old end out.new result.end result.is_refused }
+    ensures end { result.end ≤ length out.new }
+{
+    if let Strictness::Lossy = S::strictness() {
+        return write_loaded::<F, S>(window, before, count, out, end);
     }
-}
-
-/// Where they go, since lossy reading has room behind the text.
-impl LastBlocks for LossyReading {
-    #[inline(always)]
-    fn write_last_blocks<F: Flavor>(
-        window: &[u8],
-        before: u8x32,
-        count: usize,
-        out: &mut [u8],
-        end: usize,
-    ) -> Block {
-        write_loaded::<F, LossyReading>(window, before, count, out, end)
+    let mut text = [0; LAST_TEXT];
+    let last = write_loaded::<F, S>(window, before, count, &mut text, 0);
+    if last.is_refused {
+        return last;
+    }
+    Block {
+        end: put(&text[..last.end], out, end),
+        is_refused: false,
+        kinds: last.kinds,
     }
 }
 

@@ -6,13 +6,12 @@ ghost use Rattle.std.specs.Prelude.{◌≡◌, ◌==◌, ◌+◌, ◌-◌, ◌%�
 ghost use Rattle.std.specs.List.{range_with_len};
 ghost use Rattle.std.specs.Simd.Lanes.{zip2};
 ghost use Rattle.cesu8_text.specs.Encoding.{Flavor};
-ghost use Rattle.cesu8_bytes.specs.Kernels.{mask};
-ghost use Rattle.cesu8_decode.specs.DecodedOffsets.{continues};
 ghost use Rattle.cesu8_decode.specs.DecodedLanes.{told, kind_of_two, start_kind, AreFiveKinds, AreKindsNear};
 
+use super::packing::HighestBit;
 use cesu8_bytes::BLOCK;
 use cesu8_bytes::flavor::{Flavor, second_of_null};
-use cesu8_bytes::implementation::class::{AtLeast, bits};
+use cesu8_bytes::implementation::class::{AtLeast, Continuation, Equal, bits, mask};
 use std::simd::prelude::*;
 
 /// The kinds of characters of two bytes.
@@ -100,18 +99,19 @@ pub fn starts<F: Flavor>(bytes: &[u8], at: usize, tests_for_pairs: bool) -> u8x3
     if bits::<AtLeast<LEAD_OF_THREE>, BLOCK>(first) == 0 {
         return two;
     }
-    let third = continuations(u8x32::from_slice(&bytes[at + 2..]));
+    let of_two = u8x32::splat(KINDS_OF_TWO | KIND_OF_NULL);
+    let third = mask::<Continuation>(u8x32::from_slice(&bytes[at + 2..]));
     // `KIND_OF_PAIR` is two bits below the highest.
-    if tests_for_pairs && bits::<AtLeast<0x80>, BLOCK>(two << u8x32::splat(2)) == 0 {
-        return two & ((third & u8x32::splat(KINDS_OF_THREE)) | u8x32::splat(KINDS_OF_TWO | KIND_OF_NULL));
+    if tests_for_pairs && bits::<HighestBit, BLOCK>(two << u8x32::splat(2)) == 0 {
+        return two & ((third & u8x32::splat(KINDS_OF_THREE)) | of_two);
     }
     let fourth = u8x32::from_slice(&bytes[at + 3..]);
     let fifth = u8x32::from_slice(&bytes[at + 4..]);
     let sixth = u8x32::from_slice(&bytes[at + 5..]);
-    let ends_pair = equal(fourth, 0xED)
-        & equal(fifth & u8x32::splat(0xF0), 0xB0)
-        & continuations(sixth);
-    two & ((third | u8x32::splat(KINDS_OF_TWO | KIND_OF_NULL)) & (ends_pair | u8x32::splat(!KIND_OF_PAIR)))
+    let ends_pair = mask::<Equal<0xED>>(fourth)
+        & mask::<Equal<0xB0>>(fifth & u8x32::splat(0xF0))
+        & mask::<Continuation>(sixth);
+    two & ((third | of_two) & (ends_pair | u8x32::splat(!KIND_OF_PAIR)))
 }
 
 /// The kinds of the offsets around a block: at index `d` those of the offsets `5 - d` before
@@ -142,7 +142,8 @@ pub fn near(before: u8x32, here: u8x32) -> Kinds
 fn by_two<F: Flavor>(first: u8x32, second: u8x32) -> u8x32
     ensures { result ≡ zip2 (kind_of_two F.flavor) first second }
 {
-    common_bits(KINDS_BY_HIGH, KINDS_BY_LOW, KINDS_BY_NEXT, first, second) & second_of_null::<F>(second)
+    common_bits(KINDS_BY_HIGH, KINDS_BY_LOW, KINDS_BY_NEXT, first, second)
+        & second_of_null::<F>(second)
 }
 
 /// Returns the common bits of three tables, for each two bytes: by the upper half of the first, by
@@ -170,22 +171,4 @@ pub fn look_up(table: [u8; 16], lanes: u8x32) -> u8x32
     u8x16::from_array(table)
         .swizzle::<32>(TWICE)
         .swizzle_dyn_within::<16>(lanes & u8x32::splat(15))
-}
-
-/// Returns all ones where a lane is equal to a byte, and otherwise zeros.
-#[inline(always)]
-pub fn equal(lanes: u8x32, byte: u8) -> u8x32
-    ensures { result ≡ map (λ lane. mask (lane == byte)) lanes }
-{
-    lanes
-        .simd_eq(u8x32::splat(byte))
-        .select(u8x32::splat(0xFF), u8x32::splat(0))
-}
-
-/// Returns all ones where a byte is a continuation byte, and otherwise zeros.
-#[inline(always)]
-fn continuations(bytes: u8x32) -> u8x32
-    ensures { result ≡ map (λ b. mask (continues b)) bytes }
-{
-    equal(bytes & u8x32::splat(0xC0), 0x80)
 }

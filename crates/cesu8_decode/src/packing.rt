@@ -21,6 +21,9 @@ pub const ROOM: usize = WIDEST * BLOCK + STORED;
 /// How long it must be for a block without an ill-formed byte.
 pub const WELL_FORMED_ROOM: usize = BLOCK + STORED;
 
+/// The lanes whose highest bit is set.
+pub type HighestBit = AtLeast<0x80>;
+
 /// What becomes of the bytes of a block. If a lane of `ill_formed` has its highest bit set, the
 /// replacement character is written; else if one of `gone` has it set, nothing is; else the lane of
 /// `bytes`.
@@ -66,21 +69,12 @@ pub fn store_whole(parts: Parts, out: &mut [u8], at: usize) -> usize
     ensures end { (at ≤ result) × (result ≤ at + BLOCK) }
     ensures len { length out.new ≡ length out.old }
 {
-    let gone = highest_bits(parts.gone) as usize;
+    let gone = bits::<HighestBit, BLOCK>(parts.gone) as usize;
     if gone == 0 {
         parts.bytes.copy_to_slice(&mut out[at..]);
         return at + BLOCK;
     }
     store_kept(parts.bytes, gone, out, at)
-}
-
-/// Returns a bit for each lane whose highest bit is set.
-#[inline(always)]
-pub fn highest_bits<const N: usize>(lanes: Simd<u8, N>) -> u64
-    requires { N ≤ u64.BITS }
-    ensures { result ≡ mask_l (map is_high lanes.entry) }
-{
-    bits::<AtLeast<0x80>, N>(lanes)
 }
 
 /// The replacement character, U+FFFD, twice, each in four lanes.
@@ -105,11 +99,11 @@ fn store_half(bytes: u8x16, gone: u8x16, ill_formed: u8x16, out: &mut [u8], at: 
         replacements,
         [8, 9, 10, 11, 16, 17, 18, 19, 12, 13, 14, 15, 20, 21, 22, 23],
     );
-    let front = highest_bits(gone.shuffle::<16>(
+    let front = bits::<HighestBit, HALF>(gone.shuffle::<16>(
         ill_formed,
         [0, 1, 2, 3, 16, 17, 18, 19, 4, 5, 6, 7, 20, 21, 22, 23],
     )) as usize;
-    let back = highest_bits(gone.shuffle::<16>(
+    let back = bits::<HighestBit, HALF>(gone.shuffle::<16>(
         ill_formed,
         [8, 9, 10, 11, 24, 25, 26, 27, 12, 13, 14, 15, 28, 29, 30, 31],
     )) as usize;

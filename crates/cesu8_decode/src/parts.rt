@@ -17,10 +17,11 @@ ghost use Rattle.cesu8_bytes.specs.Kernels.{mask};
 ghost use Rattle.cesu8_decode.specs.DecodedOffsets.{is_ill_formed_at};
 ghost use Rattle.cesu8_decode.specs.DecodedLanes.{start_kind, AreKindsNear, NoneBeginsChanged, AreParts, is_high, goes_at, byte_at};
 
-use super::offsets::{BEHIND, KIND_OF_PAIR, KINDS_OF_THREE, Kinds, NUMBERS, REACH, equal, look_up};
-use super::packing::{Parts, highest_bits};
+use super::offsets::{BEHIND, KIND_OF_PAIR, KINDS_OF_THREE, Kinds, NUMBERS, REACH, look_up};
+use super::packing::{HighestBit, Parts};
 use cesu8_bytes::BLOCK;
 use cesu8_bytes::flavor::{Flavor, nulls};
+use cesu8_bytes::implementation::class::{Equal, bits, mask};
 use std::simd::prelude::*;
 
 /// The first byte of the UTF-8 of a surrogate pair, by the lower half of the pair's second byte.
@@ -38,36 +39,21 @@ const THIRD_BY_THIRD: [u8; 16] = [
     0x80, 0x90, 0xA0, 0xB0, 0x80, 0x90, 0xA0, 0xB0, 0x80, 0x90, 0xA0, 0xB0, 0x80, 0x90, 0xA0, 0xB0,
 ];
 
-/// Marks, with the highest bit, the bytes that no encoded character covers, where none changes.
+/// Returns what becomes of the first `count` bytes of a block where none changes, of which those
+/// that are ill-formed are marked.
 #[inline(always)]
-pub fn kept_ill_formed<F: Flavor>(window: &[u8], kinds: &Kinds, at: usize) -> u8x32
-    requires window { at + REACH ≤ length window.now }
-    requires kinds { AreKindsNear F.flavor window.now at kinds.now }
-    requires kept { NoneBeginsChanged F.flavor window.now at }
-    ensures { map is_high result
-        ≡ map (is_ill_formed_at F.flavor window.now) (range_with_len at BLOCK) }
-{
-    let near = kinds[5] | kinds[4];
-    let of_three = kinds[3] & u8x32::splat(KIND_OF_PAIR | KINDS_OF_THREE);
-    let byte = u8x32::from_slice(&window[at + BEHIND..]);
-    equal(near | of_three, 0) & (byte | nulls::<F>(byte))
-}
-
-/// Returns what becomes of the first `count` bytes of a block where none changes. Those that are
-/// ill-formed are marked.
-#[inline(always)]
-pub fn kept_parts(bytes: u8x32, marks: u8x32, count: usize) -> Parts
+pub fn kept_parts(bytes: u8x32, ill_formed: u8x32, count: usize) -> Parts
     requires count { count ≤ BLOCK }
     ensures { (f : Flavor) (window : List ℕ) (at : ℕ) → NoneBeginsChanged f window at
         → bytes ≡ map (λ i. slice_index window (i + BEHIND)) (range_with_len at BLOCK)
-        → map is_high marks ≡ map (is_ill_formed_at f window) (range_with_len at BLOCK)
+        → map is_high ill_formed ≡ map (is_ill_formed_at f window) (range_with_len at count)
+        ++ replicate (BLOCK - count) false
         → AreParts f window at count result.gone result.ill_formed result.bytes }
 {
-    let behind = behind(count as u8);
     Parts {
         bytes,
-        gone: behind,
-        ill_formed: marks & (behind ^ u8x32::splat(0xFF)),
+        gone: behind(count as u8),
+        ill_formed,
     }
 }
 
@@ -114,11 +100,19 @@ fn gone(kinds: &Kinds, count: usize) -> u8x32
 }
 
 /// Marks, with the highest bit, those of the first `count` bytes that no encoded character covers.
+/// Where it is known that none changes, no surrogate pair is near.
 #[inline(always)]
-pub fn ill_formed<F: Flavor>(window: &[u8], kinds: &Kinds, at: usize, count: usize) -> u8x32
+pub fn ill_formed<F: Flavor>(
+    window: &[u8],
+    kinds: &Kinds,
+    at: usize,
+    count: usize,
+    is_kept: bool,
+) -> u8x32
     requires count { count ≤ BLOCK }
     requires window { at + REACH ≤ length window.now }
     requires kinds { AreKindsNear F.flavor window.now at kinds.now }
+    requires kept { is_kept ≡ true → NoneBeginsChanged F.flavor window.now at }
     ensures { map is_high result
         ≡ map (is_ill_formed_at F.flavor window.now) (range_with_len at count)
         ++ replicate (BLOCK - count) false }
@@ -126,8 +120,12 @@ pub fn ill_formed<F: Flavor>(window: &[u8], kinds: &Kinds, at: usize, count: usi
     let pair = u8x32::splat(KIND_OF_PAIR);
     let near = kinds[5] | kinds[4];
     let of_three = kinds[3] & u8x32::splat(KIND_OF_PAIR | KINDS_OF_THREE);
-    let of_pair = (kinds[2] & pair) | (kinds[1] & pair) | (kinds[0] & pair);
-    let alone = equal(near | of_three | of_pair, 0);
+    let of_pair = if is_kept {
+        u8x32::splat(0)
+    } else {
+        (kinds[2] & pair) | (kinds[1] & pair) | (kinds[0] & pair)
+    };
+    let alone = mask::<Equal<0>>(near | of_three | of_pair);
     // A byte below 80 is a character of its own, but 00 is none in MUTF-8.
     let byte = u8x32::from_slice(&window[at + BEHIND..]);
     alone & (byte | nulls::<F>(byte)) & (behind(count as u8) ^ u8x32::splat(0xFF))
@@ -138,9 +136,6 @@ pub fn ill_formed<F: Flavor>(window: &[u8], kinds: &Kinds, at: usize, count: usi
 fn behind(count: u8) -> u8x32
     ensures { result ≡ map (λ lane. mask (nat_le count lane)) (range_with_len 0 BLOCK) }
 {
-    if count == BLOCK as u8 {
-        return u8x32::splat(0);
-    }
     u8x32::from_array(NUMBERS)
         .simd_ge(u8x32::splat(count))
         .select(u8x32::splat(0xFF), u8x32::splat(0))
@@ -158,7 +153,7 @@ fn changed_bytes<F: Flavor>(window: &[u8], kinds: &Kinds, at: usize) -> u8x32
     let pairs = kinds[3] | kinds[2] | kinds[1];
     let byte = u8x32::from_slice(&window[at + BEHIND..]);
     let changed = changed_nulls::<F>(kinds[4], byte);
-    if F::has_long_null() && highest_bits(pairs << u8x32::splat(2)) == 0 {
+    if F::has_long_null() && bits::<HighestBit, BLOCK>(pairs << u8x32::splat(2)) == 0 {
         return changed;
     }
     let half = u8x32::splat(0x0F);

@@ -54,6 +54,8 @@ fn is_boundary(kinds: &[u8; BLOCK], at: usize) -> bool
     ensures { (f : Flavor) (window : List ℕ) (n : ℕ) → AreFiveKinds f window n kinds.now at
         → result ≡ is_boundary_at f window n }
 {
-    let of_pair = kinds[at] & KIND_OF_PAIR | kinds[at + 1] & KIND_OF_PAIR | kinds[at + 2] & KIND_OF_PAIR;
+    let of_pair = kinds[at] & KIND_OF_PAIR
+        | kinds[at + 1] & KIND_OF_PAIR
+        | kinds[at + 2] & KIND_OF_PAIR;
     kinds[at + 4] | kinds[at + 3] & (KIND_OF_PAIR | KINDS_OF_THREE) | of_pair == 0
 }

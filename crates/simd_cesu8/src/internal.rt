@@ -20,8 +20,8 @@ pub use cesu8_bytes::lengths::{encoded_len, encoded_len_by_need, utf16_len};
 pub use cesu8_bytes::looks::{
     begins_with_unchanged_ascii, is_short_unchanged_ascii, is_shown_at_once, needs_encoded,
 };
-use cesu8_bytes::strictness::Strictness;
 pub use cesu8_bytes::order::compare_as_utf16;
+use cesu8_bytes::strictness::Strictness;
 pub use cesu8_bytes::utf8::{is_utf8, known_text};
 use cesu8_bytes::writers::NoRoom;
 use cesu8_decode::copy_or_write;

@@ -47,20 +47,25 @@ pub below_marks : (least n : ℕ) (bytes : List ℕ) → length bytes ≡ n →
     map (to_z w8) (zip2 below bytes (replicate n least)) ≡ marks_of (λ b. ltb b least) bytes
 below_marks least n bytes long = marked (λ b. ltb b least) bytes _ (zip2_splat below bytes n least long)
 
--- A byte is F0 to F7 (hexadecimal) where its upper five bits are those of F0.
-four_by_mask : (b : ℕ) → b < 0x100 → eqb (bit_and b 0xF8) 0xF0 ≡ is_four b
-four_by_mask b h = agree_below_at (λ b. eqb (bit_and b 0xF8) 0xF0) is_four 0x100 b refl h
+-- A byte is F0 to F7 (hexadecimal) where its upper five bits are those of F0,
+pub four_by_bits : (b : ℕ) → b < 0x100 → eqb (bit_and b 0xF8) 0xF0 ≡ is_four b
+four_by_bits b h = agree_below_at (λ b. eqb (bit_and b 0xF8) 0xF0) is_four 0x100 b refl h
 
--- So a comparison of these marks them.
-pub four_marks : (n : ℕ) (bytes : List ℕ) → length bytes ≡ n → Each1 (Fits w8) bytes →
-    map (to_z w8) (zip2 equal (zip2 bit_and bytes (replicate n 0xF8)) (replicate n 0xF0)) ≡ marks_of is_four bytes
-four_marks n bytes long fits =
-    let upper = zip2_splat bit_and bytes n 0xF8 long in
-    marked is_four bytes _ (
-    zip2_splat equal _ n 0xF0 (ap length upper ∙ length-map bytes (λ b. bit_and b 0xF8) ∙ long)
-    ∙ ap (map (λ b. equal b 0xF0)) upper
-    ∙ map-map (λ b. equal b 0xF0) (λ b. bit_and b 0xF8) bytes
-    ∙ map_agree _ _ bytes (Each1-weaker (Fits w8) _ (λ b h. ap ones (four_by_mask b h.fits)) bytes fits)
+-- and it continues a character where its upper two bits are those of 80.
+pub continues_by_bits : (b : ℕ) → b < 0x100 → eqb (bit_and b 0xC0) 0x80 ≡ (leb 0x80 b && ltb b 0xC0)
+continues_by_bits b h = agree_below_at (λ b. eqb (bit_and b 0xC0) 0x80) (λ b. leb 0x80 b && ltb b 0xC0) 0x100 b refl h
+
+-- A comparison of some bits marks the class that they tell.
+pub masked_marks : (class : ℕ → Bool) (bits byte : ℕ) → ((b : ℕ) → b < 0x100 → eqb (bit_and b bits) byte ≡ class b) →
+    (n : ℕ) (bytes : List ℕ) → length bytes ≡ n → Each1 (Fits w8) bytes →
+    map (to_z w8) (zip2 equal (zip2 bit_and bytes (replicate n bits)) (replicate n byte)) ≡ marks_of class bytes
+masked_marks class bits byte told n bytes long fits =
+    let masked = zip2_splat bit_and bytes n bits long in
+    marked class bytes _ (
+    zip2_splat equal _ n byte (ap length masked ∙ length-map bytes (λ b. bit_and b bits) ∙ long)
+    ∙ ap (map (λ b. equal b byte)) masked
+    ∙ map-map (λ b. equal b byte) (λ b. bit_and b bits) bytes
+    ∙ map_agree _ _ bytes (Each1-weaker (Fits w8) _ (λ b h. ap ones (told b h.fits)) bytes fits)
     )
 
 either_ones : (s t : Bool) → bit_or (of_z w8 (lane s)) (of_z w8 (lane t)) ≡ ones (s || t)
@@ -78,23 +83,6 @@ either_marks p q bytes ps qs of_p of_q =
     (ap (map (of_z w8)) of_p ∙ map-map (of_z w8) (λ b. lane (p b)) bytes)
     (ap (map (of_z w8)) of_q ∙ map-map (of_z w8) (λ b. lane (q b)) bytes)
     ∙ map_agree _ _ bytes (Each1-all (λ b. bit_or (of_z w8 (lane (p b))) (of_z w8 (lane (q b))) ≡ ones (p b || q b)) (λ b. either_ones (p b) (q b)) bytes)
-    )
-
-both_ones : (s t : Bool) → bit_and (of_z w8 (lane s)) (of_z w8 (lane t)) ≡ ones (s && t)
-both_ones true true = refl
-both_ones true false = refl
-both_ones false true = refl
-both_ones false false = refl
-
--- What is in both marks of two classes is in both.
-pub both_marks : (p q : ℕ → Bool) (bytes : List ℕ) (ps qs : List ℤ) → ps ≡ marks_of p bytes → qs ≡ marks_of q bytes →
-    map (to_z w8) (zip2 bit_and (map (of_z w8) ps) (map (of_z w8) qs)) ≡ marks_of (λ b. p b && q b) bytes
-both_marks p q bytes ps qs of_p of_q =
-    marked (λ b. p b && q b) bytes _ (
-    zip2_of_maps bit_and (λ b. of_z w8 (lane (p b))) (λ b. of_z w8 (lane (q b))) bytes
-    (ap (map (of_z w8)) of_p ∙ map-map (of_z w8) (λ b. lane (p b)) bytes)
-    (ap (map (of_z w8)) of_q ∙ map-map (of_z w8) (λ b. lane (q b)) bytes)
-    ∙ map_agree _ _ bytes (Each1-all (λ b. bit_and (of_z w8 (lane (p b))) (of_z w8 (lane (q b))) ≡ ones (p b && q b)) (λ b. both_ones (p b) (q b)) bytes)
     )
 
 or_ones : (s t : Bool) → bit_or (ones s) (ones t) ≡ ones (s || t)

@@ -117,11 +117,8 @@ pub type Ascii = Below<0x80>;
 /// The bytes of one class or the other.
 pub struct Either<A, B>(PhantomData<(A, B)>);
 
-/// The bytes of both classes.
-pub struct Both<A, B>(PhantomData<(A, B)>);
-
 /// 80 to BF (hexadecimal): what continues a character.
-pub type Continuation = Both<NonAscii, Below<0xC0>>;
+pub struct Continuation;
 
 /// Any other byte.
 pub type NoContinuation = Either<Ascii, AtLeast<0xC0>>;
@@ -208,16 +205,16 @@ impl<A: InVectors<N>, B: InVectors<N>, const N: usize> InVectors<N> for Either<A
     }
 }
 
-impl<A: Class, B: Class> Class for Both<A, B> {
-    ghost class = { λ b. A.class b && B.class b };
+impl Class for Continuation {
+    ghost class = { λ b. nat_le 0x80 b && nat_lt b 0xC0 };
 }
 
-impl<A: InVectors<N>, B: InVectors<N>, const N: usize> InVectors<N> for Both<A, B> {
+impl<const N: usize> InVectors<N> for Continuation {
     #[inline(always)]
     fn marks(bytes: Simd<u8, N>) -> Mask<i8, N>
-        ensures { result ≡ map (λ b. lane (A.class b && B.class b)) bytes.entry }
+        ensures { result ≡ map (λ b. lane (nat_le 0x80 b && nat_lt b 0xC0)) bytes.entry }
     {
-        A::marks(bytes) & B::marks(bytes)
+        (bytes & Simd::splat(0xC0)).simd_eq(Simd::splat(0x80))
     }
 }
 

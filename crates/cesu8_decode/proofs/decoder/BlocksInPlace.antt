@@ -1,10 +1,7 @@
 -- Blocks that are read where they stand.
-use Rattle.std.proofs.Common.{◌≡◌, ◌≢◌, append-nil, ℕ, zero, suc, ◌+◌, ◌-◌, ◌<◌, ◌≤◌, ⊎_elim, Bool, true, false, true≢false, List, [], ◌++◌, refl, sym, ap, ◌∙◌, arith, map, get_or, length, take, drop, replicate, zero-add, add-zero}
+use Rattle.std.proofs.Common.{◌≡◌, ℕ, zero, suc, ◌+◌, ◌-◌, ◌<◌, ◌≤◌, ⊎_elim, Bool, true, false, true≢false, List, [], ◌++◌, refl, sym, ap, ◌∙◌, arith, map, get_or, length, take, drop, replicate, zero-add, add-zero}
 use Rattle.std.specs.List.{range_with_len}
 use Rattle.std.proofs.lemmas.List.{length-append, length-take-le, get_or-take, get_or-drop, drop-take}
-use lib.Lanes.{mask_l}
-use Rattle.std.proofs.lemmas.List.FromFn.{take-map-range_with_len}
-use Rattle.cesu8_decode.proofs.decoder.FirstLanes.{some_bit}
 use Rattle.std.proofs.Math.Seq.{take-length}
 use Rattle.std.proofs.lemmas.Bool.{cases_lt}
 use Rattle.cesu8_text.specs.Encoding.{Flavor}
@@ -14,7 +11,7 @@ use Rattle.cesu8_bytes.specs.declared.strictness.Strictness.TheVariants.{Strict,
 use Rattle.cesu8_bytes.specs.TextChunks.{IsChunk}
 use Rattle.cesu8_bytes.proofs.vectors.Loads.{padded}
 use Rattle.cesu8_decode.specs.DecodedOffsets.{window_of, is_ill_formed_at, is_boundary_at, decoded_at, decoded}
-use Rattle.cesu8_decode.specs.DecodedLanes.{start_kind_by, start_kind, AreFiveKinds, goes_at, byte_at, is_high}
+use Rattle.cesu8_decode.specs.DecodedLanes.{start_kind_by, start_kind, AreFiveKinds, goes_at, byte_at}
 use Rattle.cesu8_decode.specs.Decoding.{IsWrittenUpTo, ReadsFirst, most_written}
 use Rattle.cesu8_decode.proofs.by_offset.WindowOffsets.{Agree, follows_zeros, boundary_agrees, ill_formed_agrees, decoded_agrees, decoded_split}
 use Rattle.cesu8_decode.proofs.chunks.DecodedChunks.{IsPaddedFor, padded_for, fault_at, lossy_chunk, strict_chunk}
@@ -81,23 +78,6 @@ ends_within f which window old new at n end behind fine written fits inside =
       length-append (take end old) (decoded f window at n),
       no_longer f which window at n fine,
     )
-
--- Nor is it where ill-formed bytes are replaced, or nothing is written for them.
-pub ill_formed_within : (f : Flavor) (which : Strictness) (window old new : List ℕ) (at n end behind : ℕ) (is_refused : Bool) →
-    (which ≡ Strict → behind ≡ end) → (which ≡ Lossy → is_refused ≡ false) →
-    (is_refused ≡ false → take behind new ≡ take end old ++ decoded f window at n) → end ≤ length old → behind ≤ length new → behind ≤ end + most_written which n
-ill_formed_within f Strict window old new at n end behind is_refused strict lossy written fits inside = omega (arith, strict refl)
-ill_formed_within f Lossy window old new at n end behind is_refused strict lossy written fits inside =
-    ends_within f Lossy window old new at n end behind (λ strict. absurd (cc)) (written (lossy refl)) fits inside
-
--- Where some of the first marks are set, a byte is ill-formed.
-pub marked : (f : Flavor) (window : List ℕ) (at n : ℕ) → n ≤ 32 → (marks : List ℕ) →
-    map is_high marks ≡ map (is_ill_formed_at f window) (range_with_len at 32) → mask_l (take n (map is_high marks)) ≢ 0 →
-    (i : ℕ) × (at ≤ i) × (i < at + n) × (is_ill_formed_at f window i ≡ true)
-marked f window at n small marks are some =
-    let test = is_ill_formed_at f window in
-    some_bit test at n 0 (λ none. some (ap mask_l (ap (take n) are ∙ take-map-range_with_len test at 32 n small
-    ∙ sym (append-nil (map test (range_with_len at n)))) ∙ none))
 
 -- ---- windows that agree
 

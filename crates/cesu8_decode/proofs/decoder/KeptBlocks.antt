@@ -1,13 +1,12 @@
 -- Blocks whose bytes stay: characters of one byte, and those near no surrogate pair and no C0 80.
-use Rattle.std.proofs.Common.{◌≡◌, ℕ, zero, suc, ◌+◌, ◌-◌, ◌*◌, ◌^◌, ◌%◌, ◌<◌, ◌≤◌, ⊎_elim, Bool, true, false, true≢false, ◌&&◌, ◌||◌, not, cond, eqb, leb, ltb, List, [], ◌∷◌, ◌++◌, map, take, length, get_or, replicate, bit_and, bit_or, bit_xor, refl, sym, ap, ◌∙◌, arith, zero-add}
+use Rattle.std.proofs.Common.{◌≡◌, ℕ, zero, suc, ◌+◌, ◌-◌, ◌*◌, ◌^◌, ◌%◌, ◌<◌, ◌≤◌, ⊎_elim, Bool, true, false, true≢false, ◌&&◌, ◌||◌, not, cond, eqb, leb, ltb, List, [], ◌∷◌, ◌++◌, map, take, length, get_or, replicate, bit_and, bit_or, refl, sym, ap, ◌∙◌, arith}
 use Rattle.std.specs.List.{range_with_len}
-use Rattle.std.specs.Int.Bits.{or_zero_r}
 use Rattle.std.proofs.lemmas.Bool.{and_parts, eqb-true, leb-true, not-false, cases_lt, cases_Bool, ne_eqb}
-use Rattle.std.proofs.lemmas.List.{take-map, take-take, length-take-le, get_or_append_left}
+use Rattle.std.proofs.lemmas.List.{take-take, length-take-le}
 use Rattle.std.proofs.lemmas.List.FromFn.{take-map-range_with_len}
 use Rattle.std.proofs.lemmas.Simd.{map-map, take_more_put_chunk}
 use Rattle.std.proofs.Math.Seq.{take-append-add}
-use lib.Lanes.{zip2, pick_l, mask_l, chunk, put_chunk, Each1}
+use lib.Lanes.{zip2, mask_l, chunk, put_chunk}
 use Rattle.cesu8_text.specs.Encoding.{Flavor, Cesu8, Mutf8}
 use Rattle.cesu8_text.specs.Class.{is_null}
 use Rattle.cesu8_bytes.specs.Kernels.{mask}
@@ -15,12 +14,11 @@ use Rattle.cesu8_bytes.specs.Pairs.{null_at}
 use Rattle.cesu8_bytes.specs.Packing.{written_for}
 use Rattle.cesu8_bytes.proofs.vectors.Loads.{loaded}
 use Rattle.cesu8_decode.specs.DecodedOffsets.{one_at, two_at, three_at, pair_at, continues, first_width_by, width_at, is_ill_formed_at, decoded_at, decoded}
-use Rattle.cesu8_decode.specs.DecodedLanes.{start_kind, AreFiveKinds, AreKindsNear, NoneBeginsChanged, AreParts, is_high, goes_at, byte_at}
+use Rattle.cesu8_decode.specs.DecodedLanes.{start_kind, AreKindsNear, NoneBeginsChanged, AreParts, is_high, goes_at, byte_at}
 use Rattle.cesu8_decode.proofs.decoder.StartKinds.{Start, nothing, one, null, two_low, two_high, three_low, three_high, three_last, pair, start_at, low_one, no_start, one_by_first, pair_bit}
-use Rattle.cesu8_decode.proofs.decoder.LaneTests.{high_or, shifted_or, covered_lane, ill_formed_lane, lane_ill_formed, no_one}
-use Rattle.cesu8_decode.proofs.decoder.FirstLanes.{no_lane, on_range, behind_lanes, before_lanes, none_go, well_formed_behind}
+use Rattle.cesu8_decode.proofs.decoder.LaneTests.{high_or, shifted_or, no_one}
+use Rattle.cesu8_decode.proofs.decoder.FirstLanes.{no_bit, no_lane, on_range, behind_lanes, none_go}
 use Rattle.cesu8_decode.proofs.decoder.DecodedParts.{decoded_is_written, pair_or_less}
-use Rattle.cesu8_decode.proofs.decoder.DecodedBlocks.{map_ranges}
 
 -- ---- bytes that stay
 
@@ -30,7 +28,7 @@ pub record Stays (f : Flavor) (window : List ℕ) (i : ℕ) : Type 0 where
   pub well_formed : is_ill_formed_at f window i ≡ false
   pub byte : byte_at f window i ≡ get_or window (i + 5) 0
 
-abbrev AllStay : Flavor → List ℕ → ℕ → ℕ → Type 0
+abbrev pub AllStay : Flavor → List ℕ → ℕ → ℕ → Type 0
 AllStay f window at n = (i : ℕ) → at ≤ i → i < at + n → Stays f window i
 
 module _ (f : Flavor) (window : List ℕ) where
@@ -208,30 +206,21 @@ module _ (f : Flavor) (window : List ℕ) (at : ℕ) where
   abbrev kind : ℕ → ℕ
   kind i = start_kind f window i
 
-  -- The kinds of a block and the last five before tell that none changes.
-  pub none_changes : (before here : List ℕ) → length before ≡ 32 → AreFiveKinds f window at before 27 →
-      here ≡ map (start_kind f window) (range_with_len (at + 5) 32) →
-      let around = zip2 bit_or here (pick_l 0 (before ++ replicate 32 0) (range_with_len 27 32)) in
+  -- The kinds around a block tell that none changes.
+  pub none_changes : (kinds : List (List ℕ)) → AreKindsNear f window at kinds →
+      let around = zip2 bit_or (get_or kinds 0 []) (get_or kinds 5 []) in
       mask_l (map is_high (zip2 bit_or around (zip2 (λ a b. a * 2 ^ b % 2 ^ 8) around (replicate 32 2)))) ≡ 0 → NoneBeginsChanged f window at
-  none_changes before here long before_are here_are none i low inside =
-      let last : ℕ → ℕ = λ k. get_or (before ++ replicate 32 0) (27 + k) 0 in
-      let lane : ℕ → ℕ = λ k. around_lane (kind (at + 5 + k)) (last k) in
-      let here_by_lane : here ≡ map (λ k. kind (at + 5 + k)) (range_with_len 0 32) =
-      here_are ∙ map_ranges (start_kind f window) (λ k. kind (at + 5 + k)) (at + 5) 0 32 (λ k small. ap (λ j. kind (at + 5 + j)) (sym (zero-add k))) in
-      let lows = no_lane (λ k. is_high (lane k)) 0 32 (rw here_by_lane at none) in
-      ⊎_elim (λ (early : i < at + 5).
-      let k = i - at in
-      let there : at + k ≡ i = omega arith in
-      let same : last k ≡ kind i =
-      get_or_append_left before (replicate 32 0) 0 (27 + k) (omega (arith, long)) ∙ before_are k (omega arith) ∙ ap kind there in
-      let all = around_low _ _ (lows k (omega arith) (omega arith)) in
-      low_kind _ _ _ (start_at f window i) (ap (leb 0x80) (sym same) ∙ all.1) (ap (λ c. leb 0x80 (c * 2 ^ 2 % 2 ^ 8)) (sym same) ∙ all.3))
-      (λ (late : at + 5 ≤ i).
-      let k = i - (at + 5) in
-      let there : i ≡ at + 5 + k = omega arith in
-      let all = around_low _ _ (lows k (omega arith) (omega arith)) in
-      low_kind _ _ _ (start_at f window i) (ap (λ i. leb 0x80 (kind i)) there ∙ all.0) (ap (λ i. leb 0x80 (kind i * 2 ^ 2 % 2 ^ 8)) there ∙ all.2))
-      (cases_lt i (at + 5))
+  none_changes kinds near none i low inside =
+      let lows = no_lane (λ i. is_high (around_lane (kind (i + 0)) (kind (i + 5)))) at 32 (rw (near 0 (omega arith), near 5 (omega arith)) at none) in
+      ⊎_elim (λ (early : i < at + 32).
+      let here : i ≡ i + 0 = omega arith in
+      let all = around_low _ _ (lows i low early) in
+      low_kind _ _ _ (start_at f window i) (ap (λ i. leb 0x80 (kind i)) here ∙ all.0) (ap (λ i. leb 0x80 (kind i * 2 ^ 2 % 2 ^ 8)) here ∙ all.2))
+      (λ (late : at + 32 ≤ i).
+      let there : i ≡ i - 5 + 5 = omega arith in
+      let all = around_low _ _ (lows (i - 5) (omega arith) (omega arith)) in
+      low_kind _ _ _ (start_at f window i) (ap (λ i. leb 0x80 (kind i)) there ∙ all.1) (ap (λ i. leb 0x80 (kind i * 2 ^ 2 % 2 ^ 8)) there ∙ all.3))
+      (cases_lt i (at + 32))
 
   module _ (none : NoneBeginsChanged f window at) where
     other_at : (i d : ℕ) → at ≤ i → i < at + 32 → d < 6 →
@@ -252,59 +241,44 @@ module _ (f : Flavor) (window : List ℕ) (at : ℕ) where
     pub kept_stays : (i : ℕ) → at ≤ i → i < at + 32 → is_ill_formed_at f window i ≡ false → Stays f window i
     kept_stays i low inside fine = record { goes = kept_goes i low inside; well_formed = fine; byte = kept_byte i low inside }
 
-    abbrev kept_lane : ℕ → ℕ
-    kept_lane i = ill_formed_lane f (bit_or (bit_or (kind (i + 5)) (kind (i + 4))) (bit_and (kind (i + 3)) 0x3C)) (get_or window (i + 5) 0)
-
     no_pair_near : (i d : ℕ) → at ≤ i → i < at + 32 → d < 6 → bit_and (kind (i + d)) 0x20 ≡ 0
     no_pair_near i d low inside small = pair_bit _ _ _ (start_at f window (i + d)) ∙ ap (λ t. cond t 0x20 0) (other_at i d low inside small).0
 
-    kept_covered : (i : ℕ) → at ≤ i → i < at + 32 →
-        bit_or (bit_or (kind (i + 5)) (kind (i + 4))) (bit_and (kind (i + 3)) 0x3C)
-        ≡ covered_lane (kind (i + 5)) (kind (i + 4)) (kind (i + 3)) (kind (i + 2)) (kind (i + 1)) (kind i)
-    kept_covered i low inside =
-        let shorter = bit_or (bit_or (kind (i + 5)) (kind (i + 4))) (bit_and (kind (i + 3)) 0x3C) in
-        let offset : i + 0 ≡ i = omega arith in
-        let here = sym (ap (λ i. bit_and (kind i) 0x20) offset) ∙ no_pair_near i 0 low inside (omega arith) in
-        sym ((λ k. bit_or shorter (bit_or (bit_or (no_pair_near i 2 low inside (omega arith) k) (no_pair_near i 1 low inside (omega arith) k)) (here k))) ∙ or_zero_r shorter)
+    abbrev pair_near : ℕ → ℕ
+    pair_near i = bit_or (bit_or (bit_and (kind (i + 2)) 0x20) (bit_and (kind (i + 1)) 0x20)) (bit_and (kind (i + 0)) 0x20)
 
-    -- Their marks are told by the kinds at three offsets.
-    pub kept_marks : (kinds : List (List ℕ)) → AreKindsNear f window at kinds → at + 37 ≤ length window → ((i : ℕ) → get_or window i 0 < 0x100) →
-        (alone nulls : List ℕ) →
-        alone ≡ map (λ lane. mask (eqb lane 0))
-        (zip2 bit_or (zip2 bit_or (get_or kinds 5 []) (get_or kinds 4 [])) (zip2 bit_and (get_or kinds 3 []) (replicate 32 0x3C))) →
-        nulls ≡ map (λ b. mask (is_null f b)) (chunk (at + 5) 32 window) →
-        map is_high (zip2 bit_and alone (zip2 bit_or (chunk (at + 5) 32 window) nulls)) ≡ map (is_ill_formed_at f window) (range_with_len at 32)
-    kept_marks kinds near room fits alone nulls alone_is nulls_are =
-        let are : zip2 bit_and alone (zip2 bit_or (chunk (at + 5) 32 window) nulls) ≡ map kept_lane (range_with_len at 32) =
-        rw (alone_is, nulls_are, near 5 (omega arith), near 4 (omega arith), near 3 (omega arith), loaded window at 5 32 (omega arith)) refl in
-        ap (map is_high) are ∙ map-map is_high kept_lane (range_with_len at 32)
-        ∙ on_range _ _ at 32 (λ i low inside.
-        ap (λ c. is_high (ill_formed_lane f c (get_or window (i + 5) 0))) (kept_covered i low inside) ∙ lane_ill_formed f window i (fits (i + 5)))
+    -- No lane has the bit of a surrogate pair,
+    pub no_pairs : (kinds : List (List ℕ)) → AreKindsNear f window at kinds →
+        replicate 32 0 ≡ zip2 bit_or (zip2 bit_or (zip2 bit_and (get_or kinds 2 []) (replicate 32 0x20)) (zip2 bit_and (get_or kinds 1 []) (replicate 32 0x20)))
+        (zip2 bit_and (get_or kinds 0 []) (replicate 32 0x20))
+    no_pairs kinds near =
+        let lanes : zip2 bit_or (zip2 bit_or (zip2 bit_and (get_or kinds 2 []) (replicate 32 0x20)) (zip2 bit_and (get_or kinds 1 []) (replicate 32 0x20)))
+        (zip2 bit_and (get_or kinds 0 []) (replicate 32 0x20)) ≡ map pair_near (range_with_len at 32) =
+        rw (near 2 (omega arith), near 1 (omega arith), near 0 (omega arith)) refl in
+        on_range (λ i. 0) pair_near at 32 (λ i low inside.
+        sym (λ k. bit_or (bit_or (no_pair_near i 2 low inside (omega arith) k) (no_pair_near i 1 low inside (omega arith) k))
+        (no_pair_near i 0 low inside (omega arith) k)))
+        ∙ sym lanes
 
-    -- Where the marks of the first ones are not set, these stay,
-    pub first_kept : (n : ℕ) → n ≤ 32 → (marks : List ℕ) → map is_high marks ≡ map (is_ill_formed_at f window) (range_with_len at 32) →
-        mask_l (take n (map is_high marks)) ≡ 0 → AllStay f window at n
+    -- where no mark of the first ones is set, these stay,
+    pub first_kept : (n : ℕ) → n ≤ 32 → (marks : List ℕ) →
+        map is_high marks ≡ map (is_ill_formed_at f window) (range_with_len at n) ++ replicate (32 - n) false →
+        mask_l (map is_high marks) ≡ 0 → AllStay f window at n
     first_kept n small marks marks_are unset i low inside =
-        let test = is_ill_formed_at f window in
         kept_stays i low (omega arith)
-        (no_lane test at n (sym (ap mask_l (ap (take n) marks_are ∙ take-map-range_with_len test at 32 n small)) ∙ unset) i low inside)
+        (no_bit (is_ill_formed_at f window) at n (32 - n) (sym (ap mask_l marks_are) ∙ unset) i low inside)
 
     -- and else they stay but for those.
     pub kept_are_parts : (n : ℕ) → n ≤ 32 → (bytes marks behind : List ℕ) → bytes ≡ map (λ i. get_or window (i + 5) 0) (range_with_len at 32) →
-        length marks ≡ 32 → Each1 (λ x. x < 0x100) marks → map is_high marks ≡ map (is_ill_formed_at f window) (range_with_len at 32) →
-        behind ≡ behind_lanes n 0 32 → AreParts f window at n behind (zip2 bit_and marks (zip2 bit_xor behind (replicate 32 0xFF))) bytes
-    kept_are_parts n small bytes marks behind bytes_is long fits marks_are behind_is =
-        let test = is_ill_formed_at f window in
+        map is_high marks ≡ map (is_ill_formed_at f window) (range_with_len at n) ++ replicate (32 - n) false →
+        behind ≡ behind_lanes n 0 32 → AreParts f window at n behind marks bytes
+    kept_are_parts n small bytes marks behind bytes_is marks_are behind_is =
         let all : 32 ≡ n + (32 - n) = omega arith in
         record {
           gone_are =
               ap (map is_high) (behind_is ∙ ap (behind_lanes n 0) all)
               ∙ none_go (goes_at f window) at n 0 n (32 - n) (omega arith) (λ i low inside. kept_goes i low (omega arith));
-          ill_formed_are =
-              ap (λ m. map is_high (zip2 bit_and marks (zip2 bit_xor m (replicate 32 0xFF)))) behind_is
-              ∙ ap (λ k. map is_high (zip2 bit_and marks (before_lanes n 0 k))) (sym long)
-              ∙ well_formed_behind marks n 0 n (32 - n) fits (omega arith) (omega arith)
-              ∙ ap (λ l. l ++ replicate (32 - n) false) (sym (take-map is_high n marks) ∙ ap (take n) marks_are ∙ take-map-range_with_len test at 32 n small);
+          ill_formed_are = marks_are;
           bytes_are =
               ap (take n) bytes_is ∙ take-map-range_with_len (λ i. get_or window (i + 5) 0) at 32 n small
               ∙ on_range _ (byte_at f window) at n (λ i low inside. sym (kept_byte i low (omega arith)));

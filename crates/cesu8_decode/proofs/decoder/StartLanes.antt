@@ -6,14 +6,13 @@ use Rattle.std.specs.Int.Bits.{and_zero_l}
 use Rattle.std.proofs.lemmas.Grind.{same_number_lists}
 use Rattle.std.proofs.lemmas.List.{length-map, get_or-map, get_or_append_left}
 use Rattle.std.proofs.lemmas.Nat.{and_mask}
-use Rattle.std.proofs.lemmas.Simd.{SwzOk, swz_l, SwzOk-from_below, length-swz_l, get_or-swz_l_below, length-zip2, get_or-zip2, zip2_of_maps, pick_l-range_with_len, length-chunk, get_or-replicate, zip2_splat, map-map, Each1-from_get_or, Each1-weaker}
+use Rattle.std.proofs.lemmas.Simd.{SwzOk, swz_l, SwzOk-from_below, length-swz_l, get_or-swz_l_below, length-zip2, get_or-zip2, zip2_of_maps, pick_l-range_with_len, length-chunk, get_or-replicate, zip2_splat, map-map, Each1-from_get_or}
 use lib.Lanes.{zip2, mask_l, pick_l, Each1, chunk}
 use Rattle.cesu8_text.specs.Encoding.{Flavor}
 use Rattle.cesu8_bytes.specs.Kernels.{mask}
 use Rattle.cesu8_decode.specs.DecodedOffsets.{continues, two_at, fits_three}
 use Rattle.cesu8_bytes.specs.Pairs.{null_at}
 use Rattle.cesu8_decode.specs.DecodedLanes.{told, start_kind_by, kind_of_two, start_kind}
-use Rattle.cesu8_bytes.proofs.lists.Lanes.{map_agree}
 use Rattle.cesu8_bytes.proofs.vectors.Loads.{loaded, marks_at}
 use Rattle.cesu8_decode.proofs.decoder.StartKinds.{start, no_start, two_decide}
 use Rattle.cesu8_decode.proofs.decoder.LaneTests.{no_pair_begun}
@@ -68,19 +67,6 @@ module _ (lanes : List ℕ) (long : length lanes ≡ 32) where
         let found_long = length-swz_l w8 16 (pick_l 0 (table ++ table) twice) 0 (halves lanes) ∙ halves_long in
         same_number_lists found _ (found_long ∙ sym (length-map lanes (λ lane. get_or table (lane % 16) 0) ∙ long))
         (λ k small. entry_at k (omega (arith, small, found_long)))
-
--- ---- tests of one byte
-
-continuation : (b : ℕ) → Fits w8 b → mask (eqb (bit_and b 0xC0) 0x80) ≡ mask (continues b)
-continuation b fits = ap mask (agree_below_at (λ b. eqb (bit_and b 0xC0) 0x80) continues 0x100 b refl fits.fits)
-
--- A byte is a continuation byte by its upper two bits.
-pub continuation_lanes : (bytes : List ℕ) → length bytes ≡ 32 → Each1 (Fits w8) bytes →
-    map (λ lane. mask (eqb lane 0x80)) (zip2 bit_and bytes (replicate 32 0xC0)) ≡ map (λ b. mask (continues b)) bytes
-continuation_lanes bytes long fits =
-    ap (map (λ lane. mask (eqb lane 0x80))) (zip2_splat bit_and bytes 32 0xC0 long)
-    ∙ map-map (λ lane. mask (eqb lane 0x80)) (λ b. bit_and b 0xC0) bytes
-    ∙ map_agree _ _ bytes (Each1-weaker (Fits w8) _ continuation bytes fits)
 
 -- ---- what two bytes begin
 

@@ -4,5 +4,4 @@ use Rattle.cesu8_decode.proofs.decoder.KeptBlocks.{none_changes}
 use Rattle.cesu8_decode.proofs.block.changes_none.Goals as goal
 
 pub returns : goal.returns
-returns c f window at before_are here_are none =
-    none_changes f window at c.args.before c.args.here c.fits-before.0 before_are here_are (sym c.highest_bits.ensures ∙ eqb-true _ _ none)
+returns c f window at near none = none_changes f window at c.args.kinds.now near (sym c.bits.ensures ∙ eqb-true _ _ none)

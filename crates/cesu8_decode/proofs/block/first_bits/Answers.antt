@@ -6,4 +6,4 @@ use Rattle.cesu8_decode.proofs.block.first_bits.Goals as goal
 
 pub returns : goal.returns
 returns c =
-    first_bits_are (map is_high c.args.lanes) _ c.args.count c.requires (omega (arith, length-map c.args.lanes is_high, c.requires)) c.highest_bits.ensures
+    first_bits_are (map is_high c.args.lanes) _ c.args.count c.requires (omega (arith, length-map c.args.lanes is_high, c.requires)) c.bits.ensures

@@ -1,14 +1,16 @@
-use Rattle.std.proofs.Common.{refl, ◌+◌, ◌-◌, ◌≤◌, ◌++◌, take, length, subst, ap, ◌∙◌, sym, arith}
+use Rattle.std.proofs.Common.{◌≡◌, refl, ◌+◌, ◌-◌, ◌≤◌, ◌++◌, take, length, subst, ap, ◌∙◌, sym, arith}
 use lib.Lanes.{mask_l}
+use Rattle.cesu8_bytes.specs.declared.strictness.Strictness.TheVariants.{Lossy}
+use Rattle.cesu8_decode.specs.Decoding.{most_written}
 use Rattle.cesu8_bytes.proofs.vectors.Loads.{loaded}
 use Rattle.cesu8_decode.specs.DecodedOffsets.{is_ill_formed_at}
 use Rattle.cesu8_decode.specs.DecodedLanes.{AreParts}
-use Rattle.cesu8_decode.proofs.decoder.BlocksInPlace.{marked, most_is_more, ends_within, ill_formed_within}
+use Rattle.cesu8_decode.proofs.decoder.BlocksInPlace.{most_is_more, ends_within}
 use Rattle.cesu8_decode.proofs.decoder.DecodedBlocks.{block_written}
 use Rattle.cesu8_decode.proofs.decoder.FirstLanes.{some_bit, no_bit}
-use Rattle.cesu8_decode.proofs.decoder.KeptBlocks.{ones_stay, one_stays, kinds_of_ones, first_stay, first_kept}
+use Rattle.cesu8_decode.proofs.decoder.KeptBlocks.{AllStay, ones_stay, one_stays, kinds_of_ones, first_stay, first_kept}
 use Rattle.cesu8_decode.proofs.block.write_block.Goals as goal
-use Rattle.cesu8_decode.proofs.block.write_block.Goals.{then-changes_none+else-first_bits-eq0, else-changes_none+else-found-ne0+else-found-eq0}
+use Rattle.cesu8_decode.proofs.block.write_block.Goals.{then-changes_none+else-bits-eq0, else-changes_none+else-found-ne0+else-found-eq0}
 
 pub returns-then-are_ones-clause-bytes : goal.returns-then-are_ones-clause-bytes
 returns-then-are_ones-clause-bytes g c none =
@@ -36,38 +38,33 @@ returns-then-are_ones-clause-kinds g c all =
     ones_stay f window c.args.at c.args.count c.requires.count (omega (arith, c.requires.window)) _ refl
     (c.are_ones.ensures c.if-are_ones.true) i low (omega (arith, all)))
 
-pub kept_ill_formed-marks-requires-clause-kinds : goal.kept_ill_formed-marks-requires-clause-kinds
-kept_ill_formed-marks-requires-clause-kinds g c =
-    c.near-kinds.ensures g.F.Flavor.flavor c.args.window.now c.args.at c.requires.before c.starts-here.ensures
-
-pub kept_ill_formed-marks-requires-clause-kept : goal.kept_ill_formed-marks-requires-clause-kept
-kept_ill_formed-marks-requires-clause-kept g c =
+pub ill_formed-marks-requires-clause-kept : goal.ill_formed-marks-requires-clause-kept
+ill_formed-marks-requires-clause-kept g c _ =
     let f = g.F.Flavor.flavor in
     let window = c.args.window.now in
-    c.changes_none.ensures f window c.args.at c.requires.before c.starts-here.ensures c.if-changes_none.true
+    c.changes_none.ensures f window c.args.at (c.near-kinds.ensures f window c.args.at c.requires.before c.starts-here.ensures) c.if-changes_none.true
 
-pub returns-then-first_bits-eq0-clause-bytes : goal.returns-then-first_bits-eq0-clause-bytes
-returns-then-first_bits-eq0-clause-bytes g c none =
+-- The bytes of a block stay where none changes and none is marked.
+kept : (g : Rattle.cesu8_decode.proofs.block.write_block.Given.Over) (c : goal.After-slice_known-then-bits-eq0-1 g) → AllStay g.F.Flavor.flavor c.args.window.now c.args.at c.args.count
+kept g c =
     let f = g.F.Flavor.flavor in
     let window = c.args.window.now in
     let at = c.args.at in
-    c.copy_block-then-first_bits-eq0.ensures.bytes ∙ ap (λ bs. take c.args.end c.args.out.now ++ bs)
-    (first_stay f window at c.args.count c.requires.count (omega (arith, c.requires.window))
-    (first_kept f window at (c.changes_none.ensures f window at c.requires.before c.starts-here.ensures c.if-changes_none.true) c.args.count c.requires.count c.kept_ill_formed-marks.result
-    c.kept_ill_formed-marks.ensures (sym c.first_bits.ensures ∙ c.if-first_bits-eq0.true)))
+    first_kept f window at (c.changes_none.ensures f window at (c.near-kinds.ensures f window at c.requires.before c.starts-here.ensures) c.if-changes_none.true)
+    c.args.count c.requires.count c.ill_formed-marks.result c.ill_formed-marks.ensures (sym c.bits.ensures ∙ c.if-bits-eq0.true)
 
-pub returns-then-first_bits-eq0-clause-strict : goal.returns-then-first_bits-eq0-clause-strict
-returns-then-first_bits-eq0-clause-strict g c strict none i low inside =
-    let f = g.F.Flavor.flavor in
-    let window = c.args.window.now in
-    let at = c.args.at in
-    (first_kept f window at (c.changes_none.ensures f window at c.requires.before c.starts-here.ensures c.if-changes_none.true) c.args.count c.requires.count c.kept_ill_formed-marks.result
-    c.kept_ill_formed-marks.ensures (sym c.first_bits.ensures ∙ c.if-first_bits-eq0.true) i low inside).well_formed
+pub returns-then-bits-eq0-clause-bytes : goal.returns-then-bits-eq0-clause-bytes
+returns-then-bits-eq0-clause-bytes g c none =
+    c.copy_block-then-bits-eq0.ensures.bytes ∙ ap (λ bs. take c.args.end c.args.out.now ++ bs)
+    (first_stay g.F.Flavor.flavor c.args.window.now c.args.at c.args.count c.requires.count (omega (arith, c.requires.window)) (kept g c))
+
+pub returns-then-bits-eq0-clause-strict : goal.returns-then-bits-eq0-clause-strict
+returns-then-bits-eq0-clause-strict g c strict none i low inside = (kept g c i low inside).well_formed
 
 pub returns-then-matches-clause-refused : goal.returns-then-matches-clause-refused
 returns-then-matches-clause-refused g c some =
     some_bit (is_ill_formed_at g.F.Flavor.flavor c.args.window.now) c.args.at c.args.count (32 - c.args.count)
-    (λ none. c.if-found-ne0.true (c.highest_bits-found.ensures ∙ ap mask_l c.ill_formed-marks.ensures ∙ none))
+    (λ none. c.if-found-ne0.true (c.bits-found.ensures ∙ ap mask_l c.ill_formed-marks-else-changes_none.ensures ∙ none))
 
 pub returns-then-found-eq0-clause-bytes : goal.returns-then-found-eq0-clause-bytes
 returns-then-found-eq0-clause-bytes g c none =
@@ -78,20 +75,20 @@ returns-then-found-eq0-clause-bytes g c none =
 pub returns-then-found-eq0-clause-strict : goal.returns-then-found-eq0-clause-strict
 returns-then-found-eq0-clause-strict g c strict none =
     no_bit (is_ill_formed_at g.F.Flavor.flavor c.args.window.now) c.args.at c.args.count (32 - c.args.count)
-    (sym (c.highest_bits-found.ensures ∙ ap mask_l c.ill_formed-marks.ensures) ∙ c.if-found-eq0.true)
+    (sym (c.bits-found.ensures ∙ ap mask_l c.ill_formed-marks-else-changes_none.ensures) ∙ c.if-found-eq0.true)
 
 pub returns-then-found-eq0-clause-end : goal.returns-then-found-eq0-clause-end
 returns-then-found-eq0-clause-end g c =
     let parts = c.changed_parts-parts.ensures.parts in
     ends_within g.F.Flavor.flavor g.S.Reading.which c.args.window.now c.args.out.now c.store_whole.new.out c.args.at c.args.count c.args.end c.store_whole.result
     (λ strict. no_bit (is_ill_formed_at g.F.Flavor.flavor c.args.window.now) c.args.at c.args.count (32 - c.args.count)
-    (sym (c.highest_bits-found.ensures ∙ ap mask_l c.ill_formed-marks.ensures) ∙ c.if-found-eq0.true))
+    (sym (c.bits-found.ensures ∙ ap mask_l c.ill_formed-marks-else-changes_none.ensures) ∙ c.if-found-eq0.true))
     (c.store_whole.ensures.bytes ∙ ap (λ bs. take c.args.end c.args.out.now ++ bs)
     (block_written g.F.Flavor.flavor c.args.window.now c.args.at c.args.count _ _ _ _ _ parts.gone_are parts.ill_formed_are parts.bytes_are))
     (omega (arith, c.requires.room)) (omega (arith, c.requires.room, c.store_whole.ensures.end, c.store_whole.ensures.len, most_is_more g.S.Reading.which 32))
 
 -- What becomes of the block, whichever way the parts were found, and some byte of it is ill-formed.
-parts_are : (g : Rattle.cesu8_decode.proofs.block.write_block.Given.Over) (c : goal.After-slice_known-2-1 g) → AreParts g.F.Flavor.flavor c.args.window.now c.args.at c.args.count
+parts_are : (g : Rattle.cesu8_decode.proofs.block.write_block.Given.Over) (c : goal.After-slice_known-in-Lossy-1 g) → AreParts g.F.Flavor.flavor c.args.window.now c.args.at c.args.count
     c.if-changes_none.parts.gone c.if-changes_none.parts.ill_formed c.if-changes_none.parts.bytes
 parts_are g c =
     let f = g.F.Flavor.flavor in
@@ -99,37 +96,37 @@ parts_are g c =
     let at = c.args.at in
     let count = c.args.count in
     elim c.if-changes_none.branch [
-      | then-changes_none+else-first_bits-eq0 w ↦ subst (λ p. AreParts f window at count p.gone p.ill_formed p.bytes) (sym w.parts-is)
-          (w.kept_parts-parts.ensures f window at (c.changes_none.ensures f window at c.requires.before c.starts-here.ensures w.if-changes_none.true)
-          (loaded window at 5 32 (omega (arith, c.requires.window))) w.kept_ill_formed-marks.ensures)
+      | then-changes_none+else-bits-eq0 w ↦ subst (λ p. AreParts f window at count p.gone p.ill_formed p.bytes) (sym w.parts-is)
+          (w.kept_parts-parts.ensures f window at (c.changes_none.ensures f window at (c.near-kinds.ensures f window at c.requires.before c.starts-here.ensures) w.if-changes_none.true)
+          (loaded window at 5 32 (omega (arith, c.requires.window))) w.ill_formed-marks.ensures)
       | else-changes_none+else-found-ne0+else-found-eq0 w ↦ subst (λ p. AreParts f window at count p.gone p.ill_formed p.bytes) (sym w.parts-is) w.changed_parts-parts.ensures.parts
     ]
 
-pub returns-clause-bytes : goal.returns-clause-bytes
-returns-clause-bytes g c none =
-    let parts = parts_are g c in
-    c.write_ill_formed.ensures.bytes none ∙ ap (λ bs. take c.args.end c.args.out.now ++ bs)
-    (block_written g.F.Flavor.flavor c.args.window.now c.args.at c.args.count _ _ _ _ _ parts.gone_are parts.ill_formed_are parts.bytes_are)
-
-pub returns-clause-refused : goal.returns-clause-refused
-returns-clause-refused g c some =
+pub returns-in-Strict-strictness-clause-refused : goal.returns-in-Strict-strictness-clause-refused
+returns-in-Strict-strictness-clause-refused g c some =
     let f = g.F.Flavor.flavor in
     let window = c.args.window.now in
     let at = c.args.at in
     let count = c.args.count in
     elim c.if-changes_none.branch [
-      | then-changes_none+else-first_bits-eq0 w ↦ marked f window at count c.requires.count w.kept_ill_formed-marks.result w.kept_ill_formed-marks.ensures
-          (λ none. w.if-first_bits-eq0.false (w.first_bits.ensures ∙ none))
+      | then-changes_none+else-bits-eq0 w ↦ some_bit (is_ill_formed_at f window) at count (32 - count)
+          (λ none. w.if-bits-eq0.false (w.bits.ensures ∙ ap mask_l w.ill_formed-marks.ensures ∙ none))
       | else-changes_none+else-found-ne0+else-found-eq0 w ↦ some_bit (is_ill_formed_at f window) at count (32 - count)
-          (λ none. w.if-found-eq0.false (w.highest_bits-found.ensures ∙ ap mask_l w.ill_formed-marks.ensures ∙ none))
+          (λ none. w.if-found-eq0.false (w.bits-found.ensures ∙ ap mask_l w.ill_formed-marks-else-changes_none.ensures ∙ none))
     ]
 
-pub returns-clause-end : goal.returns-clause-end
-returns-clause-end g c =
-    let f = g.F.Flavor.flavor in
-    let block = c.write_ill_formed.ensures in
+pub returns-in-Lossy-clause-bytes : goal.returns-in-Lossy-clause-bytes
+returns-in-Lossy-clause-bytes g c none =
     let parts = parts_are g c in
-    ill_formed_within f g.S.Reading.which c.args.window.now c.args.out.now c.write_ill_formed.new.out c.args.at c.args.count c.args.end _ _ block.end block.lossy
-    (λ none. block.bytes none ∙ ap (λ bs. take c.args.end c.args.out.now ++ bs)
-    (block_written f c.args.window.now c.args.at c.args.count _ _ _ _ _ parts.gone_are parts.ill_formed_are parts.bytes_are))
-    (omega (arith, c.requires.room)) block.within
+    c.store.ensures.bytes ∙ ap (λ bs. take c.args.end c.args.out.now ++ bs)
+    (block_written g.F.Flavor.flavor c.args.window.now c.args.at c.args.count _ _ _ _ _ parts.gone_are parts.ill_formed_are parts.bytes_are)
+
+pub returns-in-Lossy-clause-end : goal.returns-in-Lossy-clause-end
+returns-in-Lossy-clause-end g c =
+    let parts = parts_are g c in
+    let lossy : g.S.Reading.which ≡ Lossy = sym c.strictness-2.ensures ∙ c.in-Lossy.is in
+    ends_within g.F.Flavor.flavor g.S.Reading.which c.args.window.now c.args.out.now c.store.new.out c.args.at c.args.count c.args.end c.store.result
+    (λ strict. absurd (cc))
+    (c.store.ensures.bytes ∙ ap (λ bs. take c.args.end c.args.out.now ++ bs)
+    (block_written g.F.Flavor.flavor c.args.window.now c.args.at c.args.count _ _ _ _ _ parts.gone_are parts.ill_formed_are parts.bytes_are))
+    (omega (arith, c.requires.room)) (omega (arith, c.requires.room, c.store.ensures.end, c.store.ensures.len, ap (λ w. most_written w 32) lossy))

@@ -14,10 +14,10 @@ returns-then-bits-eq0-2 g c =
 
 pub returns-then-bits-eq0-3 : goal.returns-then-bits-eq0-3
 returns-then-bits-eq0-3 g c =
-    three_are_starts g.F.Flavor.flavor c.args.bytes.now c.type_inv.bytes c.args.at c.requires _ c.by_two-two.ensures _ c.continuations-third.ensures
+    three_are_starts g.F.Flavor.flavor c.args.bytes.now c.type_inv.bytes c.args.at c.requires _ c.by_two-two.ensures _ c.mask-third.ensures
     (sym c.bits-then-tests_for_pairs.ensures ∙ c.if-bits-eq0-3.true)
 
 pub returns : goal.returns
 returns g c =
     starts_are g.F.Flavor.flavor c.args.bytes.now c.type_inv.bytes c.args.at c.requires _ c.by_two-two.ensures _ _ _ _
-    c.continuations-third.ensures c.equal.ensures c.equal-2.ensures c.continuations.ensures
+    c.mask-third.ensures c.mask.ensures c.mask-2.ensures c.mask-3.ensures

@@ -9,10 +9,10 @@ pub returns-then-gone-eq0-clause-bytes : goal.returns-then-gone-eq0-clause-bytes
 returns-then-gone-eq0-clause-bytes c =
     take_more_put_chunk c.args.at c.args.out.now c.args.parts.bytes _ (omega arith) (omega (arith, c.requires.room))
     ∙ ap (λ l. take c.args.at c.args.out.now ++ l) (sym (nothing_changes c.args.parts.gone c.args.parts.ill_formed c.args.parts.bytes
-    (omega arith) (omega arith) (sym c.highest_bits-gone.ensures ∙ c.if-gone-eq0.true) c.requires.whole))
+    (omega arith) (omega arith) (sym c.bits-gone.ensures ∙ c.if-gone-eq0.true) c.requires.whole))
 
 pub returns-clause-bytes : goal.returns-clause-bytes
 returns-clause-bytes c =
     let gone = c.args.parts.gone in
     written_whole _ _ gone c.args.parts.ill_formed c.args.parts.bytes (omega arith) (omega arith) c.requires.whole
-    (c.store_kept.ensures.bytes (map is_high gone) (omega (arith, length-map gone is_high)) c.highest_bits-gone.ensures)
+    (c.store_kept.ensures.bytes (map is_high gone) (omega (arith, length-map gone is_high)) c.bits-gone.ensures)
