@@ -8,11 +8,11 @@
 //! Where null characters alone change, no neighbour decides anything, and lanes take fewer steps.
 
 ghost use Rattle.std.specs.Prelude.{◌≡◌, List, Bool, ◌+◌, ◌*◌, ◌<◌, ◌≤◌, ◌++◌, length, take, IsTrue};
-ghost use Rattle.std.specs.Simd.Lanes.{chunk, zip2, mask_l};
+ghost use Rattle.std.specs.Simd.Lanes.{chunk, mask_l};
 ghost use Rattle.cesu8_text.specs.Class.{is_at_least_f0};
 ghost use Rattle.cesu8_bytes.specs.Kernels.{AnyIn};
 ghost use Rattle.cesu8_encode.specs.Encoded.{WritesAt};
-ghost use Rattle.cesu8_encode.specs.EncodedOffsets.{six_bits, packed, packed_len, encoded_bytes, AreLanes, WritesLanes};
+ghost use Rattle.cesu8_encode.specs.EncodedOffsets.{packed, packed_len, encoded_bytes, AreLanes, WritesLanes};
 
 use super::rows::rows;
 use cesu8_bytes::BLOCK;
@@ -105,7 +105,10 @@ fn encode_block<F: Flavor>(window: &[u8], at: usize) -> EncodedBlock
     let lead_two_before = mask::<AtLeastF0>(u8x32::from_slice(&window[at..]));
     let null = nulls::<F>(bytes);
 
-    let six_bits = six_bits(bytes, u8x32::from_slice(&window[at + 3..]));
+    let next = u8x32::from_slice(&window[at + 3..]);
+    // The last four bits of each byte and two of the next.
+    let six_bits = ((bytes << u8x32::splat(2)) & u8x32::splat(0x3C))
+        | ((next >> u8x32::splat(4)) & u8x32::splat(0x03));
     // For a lead byte 80 becomes 9F: A0, the least second byte of a pair, less the plane offset.
     let of_high = six_bits + (u8x32::splat(0x80) + (lead & u8x32::splat(0x1F)));
     let other = bytes | (lead_two_before & u8x32::splat(0x30)) | (null & u8x32::splat(0x80));
@@ -119,16 +122,6 @@ fn encode_block<F: Flavor>(window: &[u8], at: usize) -> EncodedBlock
             .select(u8x32::splat(0xED), u8x32::splat(0xC0)),
         doubled: doubled.simd_eq(u8x32::splat(0xFF)).to_bitmask(),
     }
-}
-
-/// Returns the last four bits of each byte and two of the next.
-#[inline(always)]
-fn six_bits(bytes: u8x32, next: u8x32) -> u8x32
-    ensures { result ≡ zip2 six_bits bytes next }
-{
-    let high = (bytes << u8x32::splat(2)) & u8x32::splat(0x3C);
-    let low = (next >> u8x32::splat(4)) & u8x32::splat(0x03);
-    high | low
 }
 
 /// Stores a row, packed, and returns the end of its content.

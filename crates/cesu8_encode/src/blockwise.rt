@@ -18,7 +18,8 @@ use cesu8_bytes::flavor::Flavor;
 use cesu8_bytes::implementation::short::copy_short;
 
 /// Writes the encoding of a text, and returns its end. It is told how many bytes more than the text
-/// the encoding has, or 0 if that is not known.
+/// the encoding has, or 0 if that is not known. It is inlined: where the slice is an array on the
+/// stack, no test is left whether the rows of a block fit.
 #[inline(always)]
 pub fn write<F: Flavor>(text: &str, more: usize, out: &mut [u8]) -> usize
     requires { length (encoding F.flavor (chars text.now)) ≤ length out.old }
@@ -27,20 +28,9 @@ pub fn write<F: Flavor>(text: &str, more: usize, out: &mut [u8]) -> usize
     if is_few(text) {
         return write_few::<F>(text, out);
     }
-    if is_block(text) {
-        return write_short::<F>(text, out);
+    if !is_block(text) {
+        return write_blocks::<F>(text, more, out);
     }
-    write_blocks::<F>(text, more, out)
-}
-
-/// Writes the encoding of a text of at most a block, and returns its end. It is inlined: where the
-/// slice is an array on the stack, no test is left whether the rows fit.
-#[inline(always)]
-fn write_short<F: Flavor>(text: &str, out: &mut [u8]) -> usize
-    requires short { length text.now ≤ BLOCK }
-    requires room { length (encoding F.flavor (chars text.now)) ≤ length out.old }
-    ensures { WritesEncoding F.flavor text.now out.old out.new result }
-{
     let bytes = text.as_bytes();
     let mut window = [0; BLOCK_READ];
     copy_short(bytes, &mut window[READ_BEFORE..]);
