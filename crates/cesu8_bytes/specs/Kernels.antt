@@ -1,5 +1,5 @@
 -- What the parts of the kernels require and promise, for every class of bytes.
-use Rattle.std.specs.Prelude.{ℕ, Bool, if◌then◌else◌, ◌<◌, List, [], ◌∷◌, length, ℤ, pos, negsuc, IsTrue, ◌^◌, ◌↔◌, Any}
+use Rattle.std.specs.Prelude.{ℕ, Bool, if◌then◌else◌, ◌<◌, List, length, ℤ, pos, negsuc, IsTrue, ◌^◌, ◌↔◌, Any}
 use Rattle.std.specs.Int.{to_le_bytes, w64}
 use Rattle.std.specs.Borrow.{Bor}
 use Rattle.std.specs.Fn.{Shared}
@@ -7,13 +7,6 @@ use Rattle.std.specs.Fn.{Shared}
 -- Some byte is in a class.
 abbrev pub AnyIn : (ℕ → Bool) → List ℕ → Type 0
 AnyIn class bytes = Any (λ b. IsTrue (class b)) bytes
-
--- Nowhere is a byte of one class, and the byte behind it of another.
-abbrev pub NoneAdjoin : (ℕ → Bool) → (ℕ → Bool) → List ℕ → Type 0
-NoneAdjoin first behind [] = Unit {0}
-NoneAdjoin first behind (b ∷ []) = Unit {0}
-NoneAdjoin first behind (b ∷ d ∷ bytes) =
-    (IsTrue (first b) → ¬ (IsTrue (behind d))) × NoneAdjoin first behind (d ∷ bytes)
 
 -- A lane of a mask: all ones if a test holds, and otherwise zeros.
 abbrev pub lane : Bool → ℤ

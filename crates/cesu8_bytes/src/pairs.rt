@@ -23,17 +23,7 @@ pub fn is_pair(bytes: &[u8]) -> bool
     requires { PAIR_READ ≤ length bytes.now }
     ensures { IsTrue result ↔ HasPair bytes.now }
 {
-    pair_bits(bytes) == PAIR_BITS
-}
-
-/// Returns the bits that show whether a surrogate pair begins the bytes. If it does, they are
-/// `PAIR_BITS`.
-#[inline(always)]
-fn pair_bits(bytes: &[u8]) -> u64
-    requires { PAIR_READ ≤ length bytes.now }
-    ensures { result ≡ PAIR_BITS ↔ HasPair bytes.now }
-{
-    first_word(bytes) & 0x0000_C0F0_FFC0_F0FF
+    first_word(bytes) & 0x0000_C0F0_FFC0_F0FF == PAIR_BITS
 }
 
 /// Returns the UTF-8 of the character whose surrogate pair begins the bytes.

@@ -55,7 +55,7 @@ fn copy_lanes<C: InVectors<N>, const N: usize>(bytes: &[u8], out: &mut [u8], at:
 
 /// Returns how many lanes precede the first one of the class.
 #[inline(always)]
-pub(crate) fn lanes_before<C: InVectors<N>, const N: usize>(lanes: Simd<u8, N>) -> usize
+pub fn lanes_before<C: InVectors<N>, const N: usize>(lanes: Simd<u8, N>) -> usize
     requires { N ≤ LANES }
     ensures { result ≡ prefix_len (λ b. not (C.class b)) lanes.entry }
 {

@@ -4,7 +4,6 @@
 ghost use Rattle.std.specs.Prelude.{◌≡◌, ◌*◌, ◌+◌, ◌<◌, ◌≤◌, ◌↔◌, IsTrue, IsUtf8, length};
 ghost use Rattle.cesu8_text.specs.Class.{is_other_lead};
 ghost use Rattle.cesu8_text.specs.Encoding.{Flavor as AnyFlavor};
-ghost use Rattle.cesu8_text.specs.Patterns.{AreFollowed};
 ghost use Rattle.cesu8_text.specs.Reading.{HasNoStrictReading};
 ghost use Rattle.cesu8_bytes.specs.Kernels.{AnyIn};
 
@@ -13,7 +12,7 @@ use crate::implementation::class::{
     AtLeast, Continuation, Equal, InVectors, LANES, NoContinuation, NonAscii, OtherLead,
 };
 use crate::implementation::search::any_in_bytes;
-use crate::implementation::short::{adjoin, any_in_ends};
+use crate::implementation::short::any_in_ends;
 use std::simd::prelude::*;
 
 /// Returns whether C0 or a surrogate shows that bytes are not UTF-8, by two vectors.
@@ -35,7 +34,9 @@ fn has_surrogate<const N: usize>(bytes: &[u8], at: usize) -> bool
     requires { (N ≤ LANES) × (at + N < length bytes.now) }
     ensures { IsTrue result → ¬ (IsUtf8 bytes.now) }
 {
-    adjoin::<Equal<0xED>, AtLeast<0xA0>, N>(bytes, at)
+    let first: Simd<u8, N> = Simd::from_slice(&bytes[at..]);
+    let behind: Simd<u8, N> = Simd::from_slice(&bytes[at + 1..]);
+    (Equal::<0xED>::marks(first) & AtLeast::<0xA0>::marks(behind)).any()
 }
 
 /// How many bytes at the front are looked at for one that is misplaced.
@@ -49,20 +50,11 @@ pub fn is_misplaced(bytes: &[u8]) -> bool
     ensures not_utf8 { IsTrue result → ¬ (IsUtf8 bytes.now) }
     ensures not_encoded { IsTrue result → (f : AnyFlavor) → HasNoStrictReading f bytes.now }
 {
-    is_continuation(bytes[0]) | has_misplaced(bytes)
-}
-
-/// Returns whether one of the first bytes is followed by what may not follow it.
-#[inline(always)]
-fn has_misplaced(bytes: &[u8]) -> bool
-    requires { FRONT < length bytes.now }
-    ensures { IsTrue result → ¬ (AreFollowed bytes.now) }
-{
     let first: Simd<u8, FRONT> = Simd::from_slice(bytes);
     let behind: Simd<u8, FRONT> = Simd::from_slice(&bytes[1..]);
     // Of what is no continuation byte, a lead byte has one behind it, and ASCII has none.
     let differ = NonAscii::marks(first) ^ Continuation::marks(behind);
-    (NoContinuation::marks(first) & differ).any()
+    is_continuation(bytes[0]) | (NoContinuation::marks(first) & differ).any()
 }
 
 /// Returns whether bytes that are not UTF-8 may be an encoding: whether some byte is ED, which leads

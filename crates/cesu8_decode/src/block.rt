@@ -108,7 +108,8 @@ fn are_ones<F: Flavor>(bytes: u8x32, count: usize) -> bool
 {
     // `starts` makes the same test, so the compiler makes it once.
     let leads = bits::<AtLeast<LEAD>, BLOCK>(bytes) != 0;
-    !leads && first_bits(bytes | nulls::<F>(bytes), count) == 0
+    // The second test is made only where it decides: both at once are one test more for others.
+    !leads && bits::<HighestBit, BLOCK>(bytes | nulls::<F>(bytes)) & ((1 << count) - 1) == 0
 }
 
 /// Copies the first `count` bytes of a block, which stay as they are.
@@ -128,15 +129,6 @@ fn copy_block(bytes: u8x32, kinds: u8x32, count: usize, out: &mut [u8], end: usi
         is_refused: false,
         kinds,
     }
-}
-
-/// Returns a bit for each of the first `count` lanes whose highest bit is set.
-#[inline(always)]
-fn first_bits(lanes: u8x32, count: usize) -> u64
-    requires { count ≤ BLOCK }
-    ensures { result ≡ mask_l (take count (map is_high lanes)) }
-{
-    bits::<HighestBit, BLOCK>(lanes) & ((1 << count) - 1)
 }
 
 /// Returns whether neither a surrogate pair nor C0 80 begins at the offsets around a block. Then

@@ -12,7 +12,8 @@ use cesu8_bytes::flavor::Flavor;
 use cesu8_bytes::implementation::class::{Either, NonAscii};
 use cesu8_bytes::implementation::short::copy_short;
 use cesu8_bytes::pairs::{PAIR, PAIR_READ, is_pair};
-use cesu8_bytes::runs::run_len;
+use cesu8_bytes::runs::lanes_before;
+use std::simd::prelude::*;
 
 /// How a character of more than one byte is encoded.
 #[derive(Clone, Copy)]
@@ -84,7 +85,7 @@ pub fn first_lead<F: Flavor>(bytes: &[u8]) -> FirstLead
     if bytes.len() < SEARCHED + PAIR_READ {
         return FirstLead::Other;
     }
-    let run = run_len::<Either<F::Null, NonAscii>>(&bytes[..SEARCHED]);
+    let run = lanes_before::<Either<F::Null, NonAscii>, SEARCHED>(Simd::from_slice(bytes));
     let rest = &bytes[run..];
     if has_lone_lead::<F>(rest) {
         return FirstLead::IllFormed;

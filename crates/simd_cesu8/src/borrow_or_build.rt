@@ -114,7 +114,7 @@ fn decode_strict_called<F: Flavor>(
     if is_shown {
         return decode_other::<F, EncodingAlone>(alloc, bytes);
     }
-    decode_strict::<F>(alloc, bytes)
+    decode_as::<F, EncodingAlone>(alloc, bytes)
 }
 
 #[inline(always)]

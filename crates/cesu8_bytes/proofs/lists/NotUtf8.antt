@@ -8,7 +8,7 @@ use lib.Lanes.{zip2, mask_l, top}
 use mir.Val.{of_z}
 use Rattle.cesu8_text.proofs.lists.Elements.{any_nil, none_cons}
 use Rattle.cesu8_text.proofs.text.Surrogates.{HasNeither, neither_in_utf8}
-use Rattle.cesu8_bytes.specs.Kernels.{AnyIn, NoneAdjoin, lane}
+use Rattle.cesu8_bytes.specs.Kernels.{AnyIn, lane}
 use Rattle.cesu8_text.specs.Patterns.{AreFollowed, IsContinuation}
 use Rattle.cesu8_bytes.proofs.lists.Classes.{marks_of}
 
@@ -20,6 +20,13 @@ neither_c0 (b ∷ bytes) none any =
 -- UTF-8 has no C0 (hexadecimal).
 pub no_c0 : (bytes : List ℕ) → IsUtf8 bytes → AnyIn (λ b. eqb b 0xC0) bytes → ⊥
 no_c0 bytes is_utf8 any = neither_c0 bytes (neither_in_utf8 bytes is_utf8) any
+
+-- Nowhere is a byte of one class, and the byte behind it of another.
+abbrev NoneAdjoin : (ℕ → Bool) → (ℕ → Bool) → List ℕ → Type 0
+NoneAdjoin first behind [] = Unit {0}
+NoneAdjoin first behind (b ∷ []) = Unit {0}
+NoneAdjoin first behind (b ∷ d ∷ bytes) =
+    (IsTrue (first b) → ¬ (IsTrue (behind d))) × NoneAdjoin first behind (d ∷ bytes)
 
 -- the bits of the bytes of one class of which the byte behind is in another, from marks of either
 abbrev bits_of_both : List ℤ → List ℤ → ℕ

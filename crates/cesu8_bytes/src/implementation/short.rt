@@ -4,7 +4,7 @@
 //! and twice that. They overlap where needed, so no byte is left out.
 
 ghost use Rattle.std.specs.Prelude.{◌≡◌, ◌≤◌, ◌<◌, ◌+◌, ◌*◌, ◌-◌, ◌↔◌, ◌++◌, IsTrue, length, drop};
-ghost use Rattle.cesu8_bytes.specs.Kernels.{AnyIn, NoneAdjoin};
+ghost use Rattle.cesu8_bytes.specs.Kernels.{AnyIn};
 
 use super::class::{InVectors, LANES, bits, has};
 use std::simd::prelude::*;
@@ -52,18 +52,6 @@ pub(crate) fn end_vector<const N: usize>(bytes: &[u8]) -> Simd<u8, N>
     ensures { result ≡ drop (length bytes.now - N) bytes.now }
 {
     Simd::from_slice(&bytes[bytes.len() - N..])
-}
-
-/// Returns whether one of `N` bytes from an index on is in a class, and the byte behind it in
-/// another.
-#[inline(always)]
-pub fn adjoin<P: InVectors<N>, Q: InVectors<N>, const N: usize>(bytes: &[u8], at: usize) -> bool
-    requires { (N ≤ LANES) × (at + N < length bytes.now) }
-    ensures { IsTrue result → ¬ (NoneAdjoin P.class Q.class bytes.now) }
-{
-    let first: Simd<u8, N> = Simd::from_slice(&bytes[at..]);
-    let behind: Simd<u8, N> = Simd::from_slice(&bytes[at + 1..]);
-    (P::marks(first) & Q::marks(behind)).any()
 }
 
 /// Counts the bytes in the class, in a vector at the front and one at the end. The bits of bytes in
