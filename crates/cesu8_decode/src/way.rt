@@ -2,7 +2,7 @@
 //!
 //! | bytes | of them other than 01 to 7F | in strict reading | in lossy reading |
 //! |---|---|---|---|
-//! | at most 24, where a look has shown C0 or a surrogate | any | `Characters` | as below |
+//! | at most 16, or 24 that begin with ED or C0, where a look has shown C0 or a surrogate | any | `Characters` | as below |
 //! | at most 16 | at most 12 | `Characters`, or `Refused` without ED and C0 | `Characters` |
 //! | at most 96 | at most 6 | the same | `Characters` |
 //! | 24 and more, whose first lead byte is that of a lone surrogate, C0 of no null, or F0 and more | any | `Refused` | as below |
@@ -45,9 +45,10 @@
 //!
 //! A call on a slice that takes no UTF-8 as such reads characters before it looks at more than the
 //! first bytes, below 64 of them of which at most 6 are others: the looks take as long as reading
-//! these. It does so too with at most 24 bytes of which one is ED or C0, since they are mostly an
-//! encoding. With one emoji or null that is 1.3 to 1.8 times as fast, with pairs alone 1.4 to 2.2,
-//! and text that stays takes up to a quarter longer.
+//! these. It does so too with at most 16 bytes of which one is ED or C0, and with 24 that begin with
+//! one, since they are mostly an encoding. With one emoji or null that is 1.3 to 1.8 times as fast,
+//! with pairs alone 1.4 to 2.2, and text that stays takes up to a quarter longer. Text of mixed
+//! widths of 17 to 24 bytes mostly begins otherwise: by blocks it takes 0.7 to 0.9 of the time.
 //!
 //! Other lengths in this crate decide no way: `characters` pads the last bytes, and `in_place` and
 //! `sums` the last block. `looks` of `cesu8_bytes` says what is seen of the bytes before.
@@ -93,9 +94,9 @@ const OTHERS: usize = 12;
 /// How many of more bytes may be: as many as a surrogate pair has.
 const FEWER_OTHERS: usize = 6;
 
-/// So few bytes of which one is ED or C0 are read one character after another in strict reading, or
-/// where nothing has been seen of them.
-const MOSTLY_ENCODING: usize = 24;
+/// So few bytes are read one character after another if they begin with ED or C0: most of them are
+/// surrogate pairs alone.
+const MOSTLY_PAIRS: usize = 24;
 
 /// Below this length bytes are read in no more time than the looks at them take.
 const READ_AT_ONCE: usize = 64;
@@ -126,7 +127,7 @@ pub fn strict_way<F: Flavor>(look: Look, bytes: &[u8]) -> Option<Way>
     ensures none { IfNone result (HasNoStrictReading F.flavor bytes.now) }
 {
     let is_encoding = matches!(look, Look::Encoding);
-    if is_encoding && bytes.len() <= MOSTLY_ENCODING {
+    if is_encoding && are_mostly_pairs(bytes) {
         return Some(Way::Characters);
     }
     if are_few_others(bytes) {
@@ -135,7 +136,7 @@ pub fn strict_way<F: Flavor>(look: Look, bytes: &[u8]) -> Option<Way>
         }
         return None;
     }
-    if shows_no_encoding::<F>(bytes) {
+    if shows_no_encoding::<F>(is_encoding, bytes) {
         return None;
     }
     if bytes.len() > SHORT_WINDOW && is_ill_formed_in_front::<F>(bytes) {
@@ -178,7 +179,7 @@ pub fn is_read_before_looks(bytes: &[u8]) -> bool
     bytes.len() < READ_AT_ONCE
         && !shows_no_text(bytes)
         && (has_few_others(bytes, FEWER_OTHERS)
-            || bytes.len() <= MOSTLY_ENCODING && may_be_encoding(bytes))
+            || are_mostly_pairs(bytes) && may_be_encoding(bytes))
 }
 
 /// Returns whether the bytes are few, and hardly any of them other than 01 to 7F.
@@ -194,18 +195,28 @@ fn are_few_others(bytes: &[u8]) -> bool
     has_few_others(bytes, most)
 }
 
-/// Returns whether bytes that are not UTF-8 show that they are no encoding, by their first lead
-/// byte, or by a search for ED and C0 in all.
+/// Returns whether bytes of which one is ED or C0 are read one character after another: the fewest,
+/// or a few that begin with it.
 #[inline(always)]
-fn shows_no_encoding<F: Flavor>(bytes: &[u8]) -> bool
+fn are_mostly_pairs(bytes: &[u8]) -> bool
+    ensures { IsTrue result → length bytes.now ≤ FEW_BYTES }
+{
+    bytes.len() <= FEWER_BYTES || bytes.len() <= MOSTLY_PAIRS && matches!(bytes[0], 0xED | 0xC0)
+}
+
+/// Returns whether bytes that are not UTF-8 show that they are no encoding, by their first lead
+/// byte, or by a search for ED and C0 in all, unless it is known that they have one.
+#[inline(always)]
+fn shows_no_encoding<F: Flavor>(has_other_lead: bool, bytes: &[u8]) -> bool
     requires { ¬ (IsUtf8 bytes.now) }
     ensures { IsTrue result → HasNoStrictReading F.flavor bytes.now }
 {
-    match first_lead::<F>(bytes) {
-        FirstLead::IllFormed => true,
-        FirstLead::OfEncoding => false,
-        FirstLead::Other => bytes.len() <= LONG_WINDOW && has_no_other_lead::<F>(bytes),
+    let first = first_lead::<F>(bytes);
+    if matches!(first, FirstLead::IllFormed) {
+        return true;
     }
+    let has_other_lead = has_other_lead || matches!(first, FirstLead::OfEncoding);
+    !has_other_lead && bytes.len() <= LONG_WINDOW && has_no_other_lead::<F>(bytes)
 }
 
 /// Returns whether bytes that are not UTF-8 have neither ED nor C0. An encoding has one of them.
@@ -220,7 +231,6 @@ fn has_no_other_lead<F: Flavor>(bytes: &[u8]) -> bool
 /// Returns whether the bytes are few, and at most so many of them other than 01 to 7F.
 #[inline(always)]
 fn has_few_others(bytes: &[u8], most: usize) -> bool
-    requires { most ≤ OTHERS }
     ensures { IsTrue result → length bytes.now ≤ FEW_BYTES }
 {
     // Two vectors of each width have all bytes. The count decides speed alone.
