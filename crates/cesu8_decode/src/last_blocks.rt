@@ -91,8 +91,8 @@ fn last_len<F: Flavor>(bytes: &[u8], window: &[u8], at: usize, most: usize) -> u
     boundary::<F>(window, most - at - BEFORE)
 }
 
-/// Writes what becomes of the first `count` bytes in an array: where they go if there is room behind
-/// the text, as lossy reading has, and else by an array.
+/// Writes what becomes of the first `count` bytes in an array: where they go if there is room
+/// behind the text, as lossy reading has, and else by an array.
 #[inline(always)]
 fn write_last_blocks<F: Flavor, S: Reading>(
     window: &[u8],

@@ -75,6 +75,8 @@ pub fn changed_parts<F: Flavor>(
         ++ replicate (BLOCK - count) false }
     ensures parts { AreParts F.flavor window.now at count
         result.gone result.ill_formed result.bytes }
+
+    // What is known of the marks, as that none is set, is known of these.
     ensures ill_formed { result.ill_formed ≡ ill_formed }
 {
     Parts {
@@ -85,8 +87,8 @@ pub fn changed_parts<F: Flavor>(
 }
 
 /// Marks, with the highest bit, those of the first `count` bytes that go, and all later bytes. The
-/// highest bit of a kind is that of C0 80, whose first byte goes. `KIND_OF_PAIR` is two bits below, and the
-/// first two bytes of a pair go. No other kind has either bit.
+/// highest bit of a kind is that of C0 80, whose first byte goes. `KIND_OF_PAIR` is two bits below,
+/// and the first two bytes of a pair go. No other kind has either bit.
 #[inline(always)]
 fn gone(kinds: &Kinds, count: usize) -> u8x32
     requires count { count ≤ BLOCK }
@@ -167,8 +169,8 @@ fn changed_bytes<F: Flavor>(window: &[u8], kinds: &Kinds, at: usize) -> u8x32
     chosen(kinds[3], first, changed)
 }
 
-/// Returns the bytes, with 00 for those that follow the first of C0 80, by the kinds one offset before.
-/// CESU-8 has none.
+/// Returns the bytes, with 00 for those that follow the first of C0 80, by the kinds one offset
+/// before. CESU-8 has none.
 #[inline(always)]
 fn changed_nulls<F: Flavor>(before: u8x32, bytes: u8x32) -> u8x32
     ensures { (window : List ℕ) (at : ℕ)
@@ -183,8 +185,8 @@ fn changed_nulls<F: Flavor>(before: u8x32, bytes: u8x32) -> u8x32
     bytes
 }
 
-/// Returns the lanes of `some` where those of kinds have the bit of `KIND_OF_PAIR`, which is two bits below the
-/// highest, and otherwise those of `other`.
+/// Returns the lanes of `some` where those of kinds have the bit of `KIND_OF_PAIR`, which is two bits
+/// below the highest, and otherwise those of `other`.
 #[inline(always)]
 fn chosen(kinds: u8x32, some: u8x32, other: u8x32) -> u8x32
     ensures { result ≡ sel_l (map (λ kind. nat_le 0x80 (kind * 2 ^ 2 % 2 ^ 8)) kinds) some other }

@@ -1,5 +1,6 @@
-//! What the offsets of some bytes save, summed up by vectors, where they stand and with no branch
-//! on a byte. The character that begins at an offset decides it.
+//! By how much a lossy text is shorter than three bytes for each byte that is read, summed up by
+//! vectors, where the bytes stand and with no branch on one. What an offset saves so, the character
+//! that begins there decides.
 
 ghost use Rattle.std.specs.Prelude.{◌≡◌, ◌+◌, ◌-◌, ◌*◌, ◌<◌, ◌≤◌, length, drop, map};
 ghost use Rattle.std.specs.List.{range_with_len};
@@ -11,12 +12,13 @@ use cesu8_bytes::flavor::{Flavor, nulls};
 use cesu8_bytes::implementation::class::{AtLeast, bits};
 use std::simd::prelude::*;
 
-/// What a character of one byte saves, and what others do, by the lower half of their kind or by
-/// its upper half.
+/// What a character of one byte saves.
 const SAVED_BY_ONE: u8 = 2;
 
+/// What another saves, by the lower half of its kind.
 const SAVED_BY_LOW: [u8; 16] = [0, 4, 4, 0, 6, 0, 0, 0, 6, 0, 0, 0, 0, 0, 0, 0];
 
+/// The same by the upper half.
 const SAVED_BY_HIGH: [u8; 16] = [0, 6, 14, 0, 0, 0, 0, 0, 5, 0, 0, 0, 0, 0, 0, 0];
 
 /// The most blocks of 32 offsets that each lane sums up: an offset saves at most 14.
@@ -33,7 +35,8 @@ pub fn sum_first<F: Flavor>(bytes: &[u8]) -> (usize, &[u8])
         ≡ total_weight saved F.flavor bytes.now }
 {
     if bytes.len() < REACH {
-        // They are followed by FF, which begins nothing and is in no character.
+        // They are followed by FF, which begins nothing and is in no character, as far as a second
+        // block reads.
         let mut padded = [0xFF; 32 + REACH];
         padded[..bytes.len()].copy_from_slice(bytes);
         let count = if bytes.len() > 32 { 2 } else { 1 };

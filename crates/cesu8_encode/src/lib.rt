@@ -13,8 +13,9 @@
 //!
 //! In MUTF-8 the byte 00 becomes C0 80, and every other byte stays. So a row of eight bytes becomes
 //! sixteen lanes, and one shuffle packs those that are written. `blocks` makes the lanes, `rows`
-//! has the shuffles, `blockwise` has the loop over the text, and `middle` what it does with a block
-//! within it. `few` encodes a few bytes without blocks, and `way` says which texts go which way.
+//! has the shuffles, `blockwise` the loop over the text, and `middle` what that loop does with a
+//! block inside the text. `few` encodes a few bytes without blocks, and `way` says which texts go
+//! which way.
 //!
 //! This file has what builds or appends an encoding, and `copy_or_write` what writes it to a
 //! caller's buffer. The names of this crate are no promise to users: `simd_cesu8` has the public
