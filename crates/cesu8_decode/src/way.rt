@@ -45,10 +45,12 @@
 //!
 //! A call on a slice that takes no UTF-8 as such reads characters before it looks at more than the
 //! first bytes, below 64 of them of which at most 6 are others: the looks take as long as reading
-//! these. It does so too with at most 16 bytes of which one is ED or C0, and with 24 that begin with
-//! one, since they are mostly an encoding. With one emoji or null that is 1.3 to 1.8 times as fast,
-//! with pairs alone 1.4 to 2.2, and text that stays takes up to a quarter longer. Text of mixed
-//! widths of 17 to 24 bytes mostly begins otherwise: by blocks it takes 0.7 to 0.9 of the time.
+//! these. It does so too with at most 24 bytes of which one is ED or C0, since they are mostly an
+//! encoding. With one emoji or null that is 1.3 to 1.8 times as fast, with pairs alone 1.4 to 2.2,
+//! and text that stays takes up to a quarter longer.
+//!
+//! Text of mixed widths of 17 to 24 bytes mostly begins with other bytes. To a `String` it takes 0.7
+//! to 0.9 of the time by blocks. To a slice 0.8 to 1.0, but 1.8 where few inputs come again.
 //!
 //! Other lengths in this crate decide no way: `characters` pads the last bytes, and `in_place` and
 //! `sums` the last block. `looks` of `cesu8_bytes` says what is seen of the bytes before.
@@ -94,8 +96,8 @@ const OTHERS: usize = 12;
 /// How many of more bytes may be: as many as a surrogate pair has.
 const FEWER_OTHERS: usize = 6;
 
-/// So few bytes are read one character after another if they begin with ED or C0: most of them are
-/// surrogate pairs alone.
+/// So few bytes are read one character after another if they begin with ED or C0, since most of them
+/// are surrogate pairs alone, and to a slice if any of them is ED or C0.
 const MOSTLY_PAIRS: usize = 24;
 
 /// Below this length bytes are read in no more time than the looks at them take.
@@ -179,7 +181,7 @@ pub fn is_read_before_looks(bytes: &[u8]) -> bool
     bytes.len() < READ_AT_ONCE
         && !shows_no_text(bytes)
         && (has_few_others(bytes, FEWER_OTHERS)
-            || are_mostly_pairs(bytes) && may_be_encoding(bytes))
+            || bytes.len() <= MOSTLY_PAIRS && may_be_encoding(bytes))
 }
 
 /// Returns whether the bytes are few, and hardly any of them other than 01 to 7F.
