@@ -1,9 +1,12 @@
 #!/bin/sh
 # Builds one archive with the code for x86-64-v2 and for x86-64-v3, with chooser.c, which picks one
 # of them as the program runs, and with plain.c:
-#   archive.sh FILE.a
+#   archive.sh [--target aarch64-unknown-linux-gnu] FILE.a
+# For aarch64 there is one level, ARMv8-A, to which chooser.c goes on.
+#
 # It proves the crate and the libraries below it where that is not done, by as many jobs as PROOF_JOBS
-# says, or else as rt chooses. It needs the kit's rt, cc, ar, ld, objcopy and nm.
+# says, or else as rt chooses. It needs the kit's rt, cc, ar, ld, objcopy and nm; for aarch64 the tools
+# that tests/cross.sh names.
 set -eu
 unset CDPATH
 # The members of the archive have the same order everywhere.
@@ -15,12 +18,36 @@ crate=$(cd "$(dirname "$0")" && pwd)
 scratch=$(mktemp -d)
 trap 'rm -rf "$scratch"' EXIT
 
-if [ $# -ne 1 ]; then
-    echo 'usage: archive.sh FILE.a' >&2
+refuse() {
+    echo 'usage: archive.sh [--target aarch64-unknown-linux-gnu] FILE.a' >&2
     exit 2
+}
+
+levels='v3 v2'
+if [ "${1-}" = --target ]; then
+    [ "${2-}" = aarch64-unknown-linux-gnu ] || refuse
+    levels=v8
+    shift 2
+    # The tools below are those for aarch64.
+    # shellcheck source=tests/cross.sh
+    . "$crate/../../tests/cross.sh"
+    cc() { "$AARCH64_CC" "$@"; }
+    objcopy() { "$AARCH64_OBJCOPY" "$@"; }
+    ar() { cross ar "$@"; }
+    ld() { cross ld "$@"; }
+    nm() { cross nm "$@"; }
 fi
+[ $# -eq 1 ] || refuse
 archive=$1
 rm -f "$archive"
+
+# What rt is told of a level: `option LEVEL`.
+option() {
+    case $1 in
+        v8) echo --target=aarch64-unknown-linux-gnu ;;
+        *) echo "--cpu=x86-64-$1" ;;
+    esac
+}
 
 # rt gives each function and each table a section of its own, so what describes the sections would
 # take a tenth of the archive. No program would be smaller by them, since the chooser calls every
@@ -36,8 +63,8 @@ SECTIONS
 SCRIPT
 
 # The code for x86-64-v2 comes last, and stays in out/, since it is what rt builds by default.
-for level in v3 v2; do
-    if ! (cd "$crate" && rt lib --cpu "x86-64-$level" ${PROOF_JOBS:+--jobs "$PROOF_JOBS"}) \
+for level in $levels; do
+    if ! (cd "$crate" && rt lib "$(option "$level")" ${PROOF_JOBS:+--jobs "$PROOF_JOBS"}) \
         >"$scratch/rt.log" 2>&1; then
         cat "$scratch/rt.log" >&2
         exit 1

@@ -1,6 +1,6 @@
 // The calls of the archive that archive.sh builds: each goes on to the code for x86-64-v3 where the
-// processor has it, and else to that for x86-64-v2. This file is plain C, and nothing of it is
-// proved.
+// processor has it, and else to that for x86-64-v2. For aarch64 there is one level, ARMv8-A. This file
+// is plain C, and nothing of it is proved.
 //
 // What the processor has is asked once, by the compiler's runtime, before main begins; a call reads
 // what was found. A call that comes before that takes the code for x86-64-v2.
@@ -11,6 +11,14 @@
 
 static uint8_t nothing;
 
+#ifdef __aarch64__
+#define CHOOSE(result, name, parameters, arguments)                                                \
+    result name##_v8 parameters;                                                                   \
+    result name parameters                                                                         \
+    {                                                                                              \
+        return name##_v8 arguments;                                                                \
+    }
+#else
 #define CHOOSE(result, name, parameters, arguments)                                                \
     result name##_v2 parameters;                                                                   \
     result name##_v3 parameters;                                                                   \
@@ -18,6 +26,7 @@ static uint8_t nothing;
     {                                                                                              \
         return __builtin_cpu_supports("x86-64-v3") ? name##_v3 arguments : name##_v2 arguments;    \
     }
+#endif
 
 #define CHOOSE_TOLD(result, name)                                                                  \
     CHOOSE(result, name, (const uint8_t *input, size_t length), (input ? input : &nothing, length))
