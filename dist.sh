@@ -9,6 +9,9 @@
 # Where dpkg-deb is there, FOLDER gets the Debian packages too, by packages.sh. Where python3 and its
 # header are there, as python3-dev of Debian has them, it gets the wheel, by python/wheel.py.
 #
+# Where the tools are there that tests/cross.sh names, FOLDER gets the same for aarch64, without the
+# program, since the kit has its parts in C for x86-64 alone.
+#
 # It needs the kit's `rt`, git, a C compiler `cc` with GNU ld 2.36 or later, ar, ld, nm, objcopy,
 # objdump, strip, GNU tar, gzip, bash, awk, grep, sed and the core utilities.
 set -euo pipefail
@@ -49,29 +52,41 @@ trap 'rm -rf "$scratch"' EXIT
 release=$scratch/$name
 # The files that FOLDER gets, by name.
 made=("$name.tar.gz")
+# The same for aarch64: the name, and the folder in which its library is built.
+cross_name=cesu8-$version-aarch64-linux
+cross_library=$scratch/aarch64
+has_cross=''
 
 # shellcheck source=tests/program.sh
 source "$top/tests/program.sh"
 # shellcheck source=tests/python_header.sh
 source "$top/tests/python_header.sh"
+# shellcheck source=tests/cross.sh
+source "$top/tests/cross.sh"
 
 # Puts a file into the release, with the version and the commit's day in place of their names:
-# `fill FILE TO`.
+# `fill FILE TO`. `program_lines` tells what becomes of lines about the program, and `others` are processors
+# that the library is not for.
+program_lines='/^@PROGRAM@$/d; /^@END@$/d'
+others='aarch64|arm64|ARM64'
 fill() {
     mkdir -p "$(dirname "$release/$2")"
-    sed "s/@VERSION@/$version/g; s/@MAJOR@/$major/g; s/@DATE@/$day/g" "$crate/package/$1" \
-        >"$release/$2"
+    sed "s/@VERSION@/$version/g; s/@MAJOR@/$major/g; s/@DATE@/$day/g; s/@OTHERS@/$others/g
+        $program_lines" "$crate/package/$1" >"$release/$2"
 }
 
 # The shared object shows the calls of the header alone: not the code for each level, which the
-# calls choose from, nor what the code calls. The loader refuses it on a processor before x86-64-v2.
+# calls choose from, nor what the code calls: `link_shared FOLDER COMPILER FLAG..`, the folder of the
+# static library.
 link_shared() {
-    cc -shared -o "$release/lib/libcesu8.so.$major" -Wl,-soname,"libcesu8.so.$major" \
+    local folder=$1
+    shift
+    "$@" -shared -o "$folder/libcesu8.so.$major" -Wl,-soname,"libcesu8.so.$major" \
         -Xlinker --version-script="$crate/package/cesu8.map" \
         -Wl,--no-undefined-version,--fatal-warnings \
-        -Wl,-z,defs,-z,relro,-z,now,-z,noexecstack,-z,x86-64-v2 \
-        -Wl,--whole-archive "$release/lib/libcesu8.a" -Wl,--no-whole-archive
-    ln -s "libcesu8.so.$major" "$release/lib/libcesu8.so"
+        -Wl,-z,defs,-z,relro,-z,now,-z,noexecstack \
+        -Wl,--whole-archive "$folder/libcesu8.a" -Wl,--no-whole-archive
+    ln -s "libcesu8.so.$major" "$folder/libcesu8.so"
 }
 
 # The pages of the repository that the release has, and what is in it of the names that they link to.
@@ -116,17 +131,74 @@ page() {
     ' "$top/$1" | cat -s >"$release/${1##*/}"
 }
 
-# The newest version of the C library whose symbols these files name: `c_library FILE..`.
+# The newest version of the C library whose symbols a file names: `c_library FILE`.
 c_library() {
-    objdump -T "$@" | grep -o 'GLIBC_[0-9.]*' | sed 's/^GLIBC_//' | sort -Vu | tail -n 1
+    objdump -T "$1" | grep -o 'GLIBC_[0-9.]*' | sed 's/^GLIBC_//' | sort -Vu | tail -n 1
 }
 
+# The lines of BUILT-FROM for a processor: `built_for PROCESSOR NEEDS COMPILER FILE..`, the files that
+# need the C library.
+built_for() {
+    local processor=$1 file
+    echo "$processor needs $2"
+    echo "$processor compiler $3"
+    shift 3
+    for file in "$@"; do
+        echo "$processor ${file##*/} needs the GNU C library $(c_library "$file")"
+    done
+}
+
+# Builds the library for aarch64, stripped.
+build_cross() {
+    mkdir "$cross_library"
+    sh "$crate/archive.sh" --target aarch64-unknown-linux-gnu "$cross_library/libcesu8.a"
+    "$AARCH64_OBJCOPY" -D --strip-unneeded "$cross_library/libcesu8.a"
+    link_shared "$cross_library" "$AARCH64_CC"
+    "$AARCH64_OBJCOPY" -D --strip-unneeded "$cross_library/libcesu8.so.$major"
+    chmod 644 "$cross_library"/*
+}
+
+# Makes the archive of the release.
+pack() {
+    tar --create --format=ustar --sort=name --owner=0 --group=0 --numeric-owner \
+        --mtime="@$seconds" -C "$scratch" "$name" |
+        gzip -n -9 >"$folder/$name.tar.gz"
+}
+
+# The release for aarch64 has what that for x86-64 has, with another library and without the program.
+make_cross() {
+    local release=$scratch/$cross_name name=$cross_name others='x86_64|amd64|AMD64'
+    local program_lines='/^@PROGRAM@$/,/^@END@$/d'
+    cp -R "$scratch/cesu8-$version-x86_64-linux" "$release"
+    (cd "$release" && rm -r bin share/man/man1 share/bash-completion PROGRAM.md examples/*.sh lib/libcesu8.*)
+    find "$release" -type d -empty -delete
+    cp -P "$cross_library"/* "$release/lib"
+    fill cesu8-config-version.cmake lib/cmake/cesu8/cesu8-config-version.cmake
+    fill README.md README.md
+    made+=("$name.tar.gz")
+    pack
+    make_more dpkg-deb 'the Debian packages for arm64' "$top/packages.sh"
+    if [[ -n $(cross_python_header) ]]; then
+        make_more python3 'the wheel for aarch64' "$top/python/wheel.py"
+    else
+        echo "Python.h for arm64 is missing in $AARCH64_ROOT: the wheel for aarch64 not built" >&2
+    fi
+}
+
+# This comes first, so that the code for x86-64-v2 stays in out/.
+if missing=$(can_cross); then
+    has_cross=yes
+    build_cross
+else
+    echo "$missing: the release for aarch64 not built" >&2
+fi
 mkdir -p "$release/bin" "$release/include" "$release/lib" "$release/examples"
 build
 cp "$program" "$release/bin/cesu8_cli"
 sh "$crate/archive.sh" "$release/lib/libcesu8.a"
 strip -D --strip-unneeded "$release/lib/libcesu8.a"
-link_shared
+# The loader refuses it on a processor before x86-64-v2.
+link_shared "$release/lib" cc -Wl,-z,x86-64-v2
 strip -D --strip-unneeded "$release/bin/cesu8_cli" "$release/lib/libcesu8.so.$major"
 cp "$crate/include/cesu8.h" "$release/include"
 cp "$crate/examples/"*.c "$crate/examples/"*.rs "$crate/examples/"*.sh "$release/examples"
@@ -144,20 +216,17 @@ done
 cp "$top/LICENSE-APACHE" "$top/LICENSE-MIT" "$release"
 # What the library uses of the kit is in it too.
 cp "$kit/rattle/simdutf8/LICENSE" "$release/LICENSE-simdutf8"
-needed=$(c_library "$release/bin/cesu8_cli" "$release/lib/libcesu8.so.$major")
-cat >"$release/BUILT-FROM" <<BUILT
-cesu8 $version
-commit $commit$changes
-kit $identity
-compiler $compiler
-needs Linux on x86-64-v2, and the GNU C library $needed
-BUILT
+{
+    printf '%s\n' "cesu8 $version" "commit $commit$changes" "kit $identity"
+    built_for x86-64 'Linux on x86-64-v2 or later' "$compiler" "$release"/bin/* \
+        "$release/lib/libcesu8.so.$major"
+    [[ -z $has_cross ]] || built_for aarch64 Linux "$("$AARCH64_CC" --version | sed -n 1p)" \
+        "$cross_library/libcesu8.so.$major"
+} >"$release/BUILT-FROM"
 
 find "$release" -type f -exec chmod 644 {} +
 chmod 755 "$release/bin/cesu8_cli" "$release/"*install.sh "$release/examples/"*.sh
-tar --create --format=ustar --sort=name --owner=0 --group=0 --numeric-owner \
-    --mtime="@$seconds" -C "$scratch" "$name" |
-    gzip -n -9 >"$folder/$name.tar.gz"
+pack
 
 # Makes more of the release, where the tool for it is there, by a script that prints what it has made:
 # `make_more TOOL WHAT SCRIPT`.
@@ -176,6 +245,7 @@ if ! command -v python3 >/dev/null || has_python_header; then
 else
     echo 'Python.h of Python 3.10 or later (python3-dev) is missing: the wheel not built' >&2
 fi
+[[ -z $has_cross ]] || make_cross
 
 (cd "$folder" && sha256sum "${made[@]}" >SHA256SUMS)
 printf '%s\n' "${made[@]/#/$folder/}"

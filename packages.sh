@@ -3,7 +3,8 @@
 #   SOURCE_DATE_EPOCH=SECONDS packages.sh RELEASE FOLDER
 # RELEASE is the folder that the archive of dist.sh holds, and its install.sh places the files. FOLDER
 # gets libcesu8-1, by the first number of the version, with the shared object; libcesu8-dev with what a
-# build needs; and cesu8-tools with the program. The names of the three are printed.
+# build needs; and cesu8-tools with the program, where RELEASE has it. The names of all are printed. They
+# are for amd64 or arm64, as the shared object is.
 #
 # The maintainer is DEBFULLNAME with DEBEMAIL, or the author of the last commit. Two runs give the same
 # bytes, with the same dpkg-deb and gzip: times are SOURCE_DATE_EPOCH, and owners are root.
@@ -27,7 +28,6 @@ version=$(<"$top/VERSION")
 major=${version%%.*}
 debian=$version-1
 library=libcesu8-$major
-libdir=usr/lib/x86_64-linux-gnu
 maintainer="${DEBFULLNAME:-$(git -C "$top" log -1 --format=%an)}"
 maintainer+=" <${DEBEMAIL:-$(git -C "$top" log -1 --format=%ae)}>"
 scratch=$(mktemp -d)
@@ -38,6 +38,15 @@ fail() {
     echo "packages.sh: $1" >&2
     exit 1
 }
+
+# Debian's name of the architecture for which the shared object is, and of the folder of its libraries, by
+# the machine in the object's head (62 and 183 by the ELF specification).
+case $(od -An -tu2 -j18 -N2 "$release/lib/libcesu8.so.$major" | tr -d ' ') in
+    62) architecture=amd64 triplet=x86_64-linux-gnu ;;
+    183) architecture=arm64 triplet=aarch64-linux-gnu ;;
+    *) fail 'the shared object is for another machine' ;;
+esac
+libdir=usr/lib/$triplet
 
 # Moves files of the installed release to a package, and fails where one is missing: `take PACKAGE PATH..`.
 take() {
@@ -59,15 +68,21 @@ take_pages() {
     done
 }
 
+has_program() {
+    [[ -d $release/bin ]]
+}
+
 # Installs the release, and splits it. What is left over is in no package on purpose, and is listed.
 split() {
     mkdir "$all"
-    DESTDIR=$all sh "$release/install.sh" /usr lib/x86_64-linux-gnu >/dev/null
+    DESTDIR=$all sh "$release/install.sh" /usr "lib/$triplet" >/dev/null
     take "$library" "$libdir/libcesu8.so.$major"
     take libcesu8-dev "$libdir"/{libcesu8.a,libcesu8.so,pkgconfig,cmake} usr/include
     take_pages libcesu8-dev C.md examples
-    take cesu8-tools usr/bin usr/share/man usr/share/bash-completion
-    take_pages cesu8-tools PROGRAM.md
+    if has_program; then
+        take cesu8-tools usr/bin usr/share/man usr/share/bash-completion
+        take_pages cesu8-tools PROGRAM.md
+    fi
     # The licences are in `copyright`, and the archive's own page is about the archive.
     (cd "$all/usr/share/doc/cesu8" && rm -f LICENSE-* README.md)
     diff <(printf '%s\n' BUILT-FROM CHANGELOG.md SECURITY.md) \
@@ -107,7 +122,7 @@ depends() {
     local needed
     while read -r needed; do
         case $needed in
-            libc.so.6 | libm.so.6 | ld-linux-x86-64.so.2) ;;
+            libc.so.6 | libm.so.6 | ld-linux-x86-64.so.2 | ld-linux-aarch64.so.1) ;;
             *) fail "$1 needs $needed, and no package is known that has it" ;;
         esac
     done < <(objdump -p "$1" | awk '$1 == "NEEDED" { print $2 }')
@@ -131,23 +146,25 @@ pack() {
     size=$(cd "$tree" && find . -mindepth 1 -printf '%y %s\n' |
         awk '{ sum += $1 == "f" ? int(($2 + 1023) / 1024) : 1 } END { print sum }')
     mkdir -p "$control"
-    sed -e "s/@MAJOR@/$major/; s/@VERSION@/$version/; s/@SIZE@/$size/" \
+    sed -e "s/@MAJOR@/$major/; s/@VERSION@/$version/; s/@SIZE@/$size/; s/@ARCHITECTURE@/$architecture/" \
         -e "s/@DEPENDS@/${3:+$(depends "$tree/$3")}/" \
         -e "s/@MAINTAINER@/$(sed 's/[\/&]/\\&/g' <<<"$maintainer")/" \
         "$templates/$1.control" >"$control/control"
     (cd "$tree" && find . -path ./DEBIAN -prune -o -type f -printf '%P\n' | sort |
         xargs -d '\n' md5sum) >"$control/md5sums"
     find "$tree" -exec touch -h -d "@$SOURCE_DATE_EPOCH" {} +
-    dpkg-deb --root-owner-group -Zgzip --build "$tree" "$folder/$2_${debian}_amd64.deb" >/dev/null
-    echo "$2_${debian}_amd64.deb"
+    dpkg-deb --root-owner-group -Zgzip --build "$tree" "$folder/$2_${debian}_$architecture.deb" >/dev/null
+    echo "$2_${debian}_$architecture.deb"
 }
 
 split
-gzip -9n "$scratch/cesu8-tools/usr/share/man/man1/cesu8_cli.1"
 mkdir "$scratch/$library/DEBIAN"
 symbols >"$scratch/$library/DEBIAN/symbols"
 echo "libcesu8 $major $library (>= $version)" >"$scratch/$library/DEBIAN/shlibs"
 echo 'activate-noawait ldconfig' >"$scratch/$library/DEBIAN/triggers"
 pack libcesu8 "$library" "$libdir/libcesu8.so.$major"
 pack libcesu8-dev libcesu8-dev
-pack cesu8-tools cesu8-tools usr/bin/cesu8_cli
+if has_program; then
+    gzip -9n "$scratch/cesu8-tools/usr/share/man/man1/cesu8_cli.1"
+    pack cesu8-tools cesu8-tools usr/bin/cesu8_cli
+fi

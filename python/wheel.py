@@ -6,7 +6,8 @@
 RELEASE is the folder that the archive of dist.sh holds. FOLDER gets the wheel, and its name is
 printed. Two runs give the same bytes, with the same Python and C compiler: names are sorted, and
 times are SOURCE_DATE_EPOCH. It needs Python 3.10 or later with its `Python.h`, and a C compiler
-`cc` with GNU ld.
+`cc` with GNU ld. For aarch64 the compiler is AARCH64_CC, and the header is in AARCH64_ROOT, which
+tests/cross.sh sets.
 """
 
 from __future__ import annotations
@@ -24,16 +25,13 @@ import zipfile
 from pathlib import Path
 
 SOURCES = Path(__file__).resolve().parent
-# Each Python from 3.10 on loads the module. The tag has no manylinux, which promises that any
-# x86-64 will do.
-TAG = "cp310-abi3-linux_x86_64"
 MODULE = "cesu8/_native.abi3.so"
 
-WHEEL = f"""\
+WHEEL = """\
 Wheel-Version: 1.0
 Generator: wheel.py
 Root-Is-Purelib: false
-Tag: {TAG}
+Tag: {tag}
 """
 
 METADATA = """\
@@ -54,15 +52,33 @@ Description-Content-Type: text/markdown
 {description}"""
 
 
-def module(release: Path) -> bytes:
-    """The module in C. The loader refuses it on a processor before x86-64-v2."""
+def is_for_aarch64(release: Path) -> bool:
+    """Whether the shared object is, by the machine in its head (183 by the ELF specification)."""
+    shared = next((release / "lib").glob("libcesu8.so.*"))
+    return int.from_bytes(shared.read_bytes()[18:20], "little") == 183
+
+
+def x86_64() -> list[str]:
+    """The C compiler with its flags. The loader refuses the module before x86-64-v2."""
+    return ["cc", "-Wl,-z,x86-64-v2", "-isystem", sysconfig.get_path("include")]
+
+
+def aarch64() -> list[str]:
+    """The same for aarch64. Debian's pyconfig.h includes another, by a path from usr/include."""
+    folder = Path(os.environ["AARCH64_ROOT"], "usr", "include")
+    header = next(folder.glob("python3.*/Python.h"))
+    return [os.environ["AARCH64_CC"], "-isystem", str(header.parent), "-idirafter", str(folder)]
+
+
+def module(release: Path, compiler: list[str]) -> bytes:
+    """The module in C."""
     with tempfile.TemporaryDirectory() as folder:
         path = Path(folder, "module.so")
-        command = ["cc", "-std=c11", "-O2", "-fPIC", "-Wall", "-Wextra", "-Werror", "-DNDEBUG"]
+        command = [*compiler, "-std=c11", "-O2", "-fPIC", "-Wall", "-Wextra", "-Werror", "-DNDEBUG"]
         command += ["-shared", "-s", "-o", str(path), str(SOURCES / "native.c")]
-        command += ["-isystem", sysconfig.get_path("include"), "-I", str(release / "include")]
+        command += ["-I", str(release / "include")]
         command += [str(release / "lib" / "libcesu8.a"), "-Wl,--exclude-libs,ALL,--fatal-warnings"]
-        command += ["-Wl,-z,relro,-z,now,-z,noexecstack,-z,x86-64-v2"]
+        command += ["-Wl,-z,relro,-z,now,-z,noexecstack"]
         subprocess.run(command, check=True)
         return path.read_bytes()
 
@@ -73,13 +89,22 @@ def c_library(module: bytes) -> str:
     return max(versions, key=lambda version: [int(part) for part in version.split(b".")]).decode()
 
 
+def tag(is_aarch64: bool, needed: str) -> str:
+    """Each Python from 3.10 on loads the module, and by manylinux_2_17 each C library from 2.17 on.
+    The tag for x86-64 has no manylinux, which promises that any x86-64 will do."""
+    if not is_aarch64:
+        return "cp310-abi3-linux_x86_64"
+    is_old = [int(part) for part in needed.split(".")] <= [2, 17]
+    return "cp310-abi3-manylinux_2_17_aarch64" if is_old else "cp310-abi3-linux_aarch64"
+
+
 def licences(release: Path) -> dict[str, bytes]:
     return {path.name: path.read_bytes() for path in release.glob("LICENSE-*")}
 
 
 def package(release: Path) -> dict[str, bytes]:
     """The files of the package, by their names in the wheel."""
-    files = {MODULE: module(release)}
+    files = {MODULE: module(release, aarch64() if is_for_aarch64(release) else x86_64())}
     files["cesu8/BUILT-FROM"] = (release / "BUILT-FROM").read_bytes()
     for path in (SOURCES / "cesu8").iterdir():
         if path.suffix == ".py" or path.name == "py.typed":
@@ -125,13 +150,14 @@ def main() -> None:
     information = f"cesu8-{version}.dist-info"
     files = package(release)
     given = licences(release)
-    for name, content in given.items():
-        files[f"{information}/licenses/{name}"] = content
+    for licence, content in given.items():
+        files[f"{information}/licenses/{licence}"] = content
     needed = c_library(files[MODULE])
     files[f"{information}/METADATA"] = metadata(version, needed, sorted(given))
-    files[f"{information}/WHEEL"] = WHEEL.encode()
+    name = tag(is_for_aarch64(release), needed)
+    files[f"{information}/WHEEL"] = WHEEL.format(tag=name).encode()
     files[f"{information}/RECORD"] = record(files, f"{information}/RECORD")
-    path = folder / f"cesu8-{version}-{TAG}.whl"
+    path = folder / f"cesu8-{version}-{name}.whl"
     write(path, files, int(os.environ["SOURCE_DATE_EPOCH"]))
     print(path.name)
 

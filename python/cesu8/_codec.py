@@ -10,7 +10,7 @@ try:
     from . import _native
 except ImportError as error:
     raise ImportError(
-        f"cesu8 needs Linux on x86-64-v2 or later, and the GNU C library: {error}",
+        f"cesu8 needs Linux on x86-64-v2 or aarch64, and the GNU C library: {error}",
         name="cesu8",
         path=error.path,
     ) from error

@@ -1,5 +1,5 @@
 # A version fits if its first number is the same and it is not older, and a range if it has this
-# version. The library is for 64 bits alone.
+# version. The library is for 64 bits alone, and for one kind of processor.
 set(PACKAGE_VERSION @VERSION@)
 set(PACKAGE_VERSION_COMPATIBLE FALSE)
 if(PACKAGE_FIND_VERSION_RANGE)
@@ -18,5 +18,9 @@ endif()
 # A project with no language knows no size of a pointer.
 if(CMAKE_SIZEOF_VOID_P AND NOT CMAKE_SIZEOF_VOID_P EQUAL 8)
     set(PACKAGE_VERSION "@VERSION@ (64 bits)")
+    set(PACKAGE_VERSION_UNSUITABLE TRUE)
+endif()
+if(CMAKE_SYSTEM_PROCESSOR MATCHES "^(@OTHERS@)$")
+    set(PACKAGE_VERSION "@VERSION@ (not for ${CMAKE_SYSTEM_PROCESSOR})")
     set(PACKAGE_VERSION_UNSUITABLE TRUE)
 endif()

@@ -96,6 +96,8 @@ put() {
     folder=$2
     shift 2
     for file in "$@"; do
+        # The release for aarch64 has no program, and nothing that is about it.
+        [ -f "$file" ] || continue
         install -D -m "$mode" "$file" "$to/$folder/${file##*/}"
         note "$folder/${file##*/}"
     done
