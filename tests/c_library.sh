@@ -22,10 +22,10 @@ mapped() {
 
 # Builds tests/exports.c with a library, and runs it: `call_exports FLAG..`, the library among them.
 call_exports() {
-    if ! quietly cc -std=c11 -O1 -Wall -Wextra -Werror -I "$crate/include" \
+    if ! quietly "$c_compiler" -std=c11 -O1 -Wall -Wextra -Werror -I "$crate/include" \
         -o "$scratch/exports" "$top/tests/exports.c" "$@"; then
         wrong 'tests/exports.c does not build'
         return
     fi
-    "$scratch/exports" || wrong 'tests/exports.c finds what it tells above'
+    "${emulator[@]}" "$scratch/exports" || wrong 'tests/exports.c finds what it tells above'
 }

@@ -4,7 +4,7 @@
 
 # Runs a built example, and compares what it prints: `example FILE WHAT`.
 example() {
-    if "$1" 2>&1 | diff - "$crate/examples/keys.stdout"; then
+    if "${emulator[@]}" "$1" 2>&1 | diff - "$crate/examples/keys.stdout"; then
         echo "$2 was built and run"
     else
         wrong "$2 prints other than examples/keys.stdout"
@@ -21,7 +21,7 @@ by_flags() {
     local what=$1
     shift
     rm -f "$scratch/example"
-    if quietly cc -std=c11 -Wall -Wextra -Wconversion -Werror -o "$scratch/example" \
+    if quietly "$c_compiler" -std=c11 -Wall -Wextra -Wconversion -Werror -o "$scratch/example" \
         "$crate/examples/keys.c" "$@"; then
         example "$scratch/example" "$what"
     else
@@ -44,11 +44,13 @@ by_both() {
     ! wants_shared "$scratch/example" || wrong "$what: the static library is not linked"
 }
 
-# Whether CMake builds for C, or else WHAT is skipped: `can_build_by_cmake WHAT`.
+# Whether CMake builds for C, or else WHAT is skipped: `can_build_by_cmake WHAT FLAG..`.
 can_build_by_cmake() {
-    mkdir "$scratch/probe_cmake" && echo 'project(probe C)' >"$scratch/probe_cmake/CMakeLists.txt" ||
-        exit 2
-    can_build "$1" cmake -S "$scratch/probe_cmake" -B "$scratch/probe_cmake/build"
+    local folder=$scratch/probe_cmake what=$1
+    shift
+    rm -rf "$folder"
+    mkdir "$folder" && echo 'project(probe C)' >"$folder/CMakeLists.txt" || exit 2
+    can_build "$what" cmake -S "$folder" -B "$folder/build" "$@"
 }
 
 # keys.c by CMake: `by_cmake WHAT FLAG..`, with which CMake finds the library.
@@ -75,6 +77,37 @@ CMAKE
     wants_shared "$folder/build/by_shared" || wrong "$what: the shared object is not linked"
     example "$folder/build/by_archive" "$what, static,"
     example "$folder/build/by_shared" "$what"
+}
+
+# A file of C++ with the static library: `in_cpp RELEASE`.
+in_cpp() {
+    cat >"$scratch/encode.cpp" <<'CPP'
+#include "cesu8.h"
+
+#include <cstdio>
+#include <cstring>
+
+int main()
+{
+    const uint8_t text[] = {0xF0, 0x9F, 0x92, 0x96};
+    const uint8_t wanted[] = {0xED, 0xA0, 0xBD, 0xED, 0xB2, 0x96};
+    uint8_t buffer[sizeof wanted];
+    cesu8_answer answer = cesu8_encode(text, sizeof text, buffer, sizeof buffer);
+    if (answer.status != CESU8_OK || answer.length != sizeof wanted)
+        return 1;
+    if (std::memcmp(buffer, wanted, sizeof wanted) != 0)
+        return 1;
+    std::printf("%s\n", CESU8_VERSION_STRING);
+}
+CPP
+    if ! quietly "$cpp_compiler" -std=c++11 -Wall -Wextra -Werror -pedantic -I "$1/include" \
+        -o "$scratch/encode" "$scratch/encode.cpp" "$1/lib/libcesu8.a"; then
+        wrong 'the file of C++ does not build'
+    elif [[ $("${emulator[@]}" "$scratch/encode") == "$version" ]]; then
+        echo 'a file of C++ was built and run'
+    else
+        wrong 'the file of C++ says something else'
+    fi
 }
 
 # Runs the program: `run_program FOLDER`.

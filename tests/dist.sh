@@ -7,6 +7,8 @@
 #   DESTDIR;
 # - the other examples, what the README shows, a file of C++ and a call from Python are run.
 #
+# Of the release for aarch64 it looks at the pages here; tests/aarch64.sh uses it.
+#
 # It also checks that two builds, in folders of different names, give the same bytes of every file;
 # that the sums are right; which files there are, and that the pages name no other; what the archive
 # and the shared object show and how this is marked; what install.sh refuses and prints, and that
@@ -143,6 +145,18 @@ look_at_pages() {
     ' "$unpacked"/*.md && wrong 'nothing stands before these headings'
 }
 
+# The same for the release for aarch64, if there is one.
+look_at_cross_pages() {
+    local cross=cesu8-$version-aarch64-linux unpacked=$scratch/empty/cesu8-$version-aarch64-linux
+    if [[ ! -f $scratch/first/$cross.tar.gz ]]; then
+        echo "dist.sh has left out the release for aarch64: its pages skipped"
+        return
+    fi
+    tar xzf "$scratch/first/$cross.tar.gz" -C "$scratch/empty" || exit 1
+    (cd "$unpacked" && find . ! -type d ! -name 'cesu8_*.3' -printf '%P\n' | sort) >"$scratch/files"
+    look_at_pages
+}
+
 # What the archive shows and what it asks for: the names of its calls, and functions that copy and
 # compare bytes. The chooser asks the compiler's runtime what the processor has.
 look_at_archive() {
@@ -206,36 +220,6 @@ look_at_mark() {
     fi
 }
 
-in_cpp() {
-    cat >"$scratch/encode.cpp" <<'CPP'
-#include "cesu8.h"
-
-#include <cstdio>
-#include <cstring>
-
-int main()
-{
-    const uint8_t text[] = {0xF0, 0x9F, 0x92, 0x96};
-    const uint8_t wanted[] = {0xED, 0xA0, 0xBD, 0xED, 0xB2, 0x96};
-    uint8_t buffer[sizeof wanted];
-    cesu8_answer answer = cesu8_encode(text, sizeof text, buffer, sizeof buffer);
-    if (answer.status != CESU8_OK || answer.length != sizeof wanted)
-        return 1;
-    if (std::memcmp(buffer, wanted, sizeof wanted) != 0)
-        return 1;
-    std::printf("%s\n", CESU8_VERSION_STRING);
-}
-CPP
-    if ! quietly c++ -std=c++11 -Wall -Wextra -Werror -pedantic -I "$unpacked/include" \
-        -o "$scratch/encode" "$scratch/encode.cpp" "$unpacked/lib/libcesu8.a"; then
-        wrong 'the file of C++ does not build'
-    elif [[ $("$scratch/encode") == "$version" ]]; then
-        echo 'a file of C++ was built and run'
-    else
-        wrong 'the file of C++ says something else'
-    fi
-}
-
 in_rust() {
     if quietly rustc --edition 2024 -D warnings -o "$scratch/example" "$unpacked/examples/keys.rs" \
         -L "native=$unpacked/lib" -l static=cesu8; then
@@ -288,6 +272,7 @@ mkdir "$scratch/empty" "$scratch/shown" || exit 2
 tar xzf "$scratch/first/$name.tar.gz" -C "$scratch/empty" || exit 1
 look_at_files
 look_at_pages
+look_at_cross_pages
 look_at_archive
 look_at_shared
 look_at_mark
@@ -305,7 +290,7 @@ if can_build_by_cmake 'keys.c by CMake'; then
     look_at_versions
 fi
 if can_build_cpp 'the file of C++'; then
-    in_cpp
+    in_cpp "$unpacked"
 fi
 if can_build_rust keys.rs; then
     in_rust

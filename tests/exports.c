@@ -35,6 +35,13 @@ HAS(cesu8_reading, status, enum cesu8_status);
 HAS(cesu8_reading, length, size_t);
 HAS(cesu8_reading, taken, size_t);
 
+// With these sizes and members, the records are passed as both calling conventions have them.
+_Static_assert(sizeof(enum cesu8_status) == 4, "enum cesu8_status");
+_Static_assert(sizeof(struct cesu8_answer) == 16, "struct cesu8_answer");
+_Static_assert(sizeof(struct cesu8_comparison) == 8, "struct cesu8_comparison");
+_Static_assert(sizeof(struct cesu8_decision) == 8, "struct cesu8_decision");
+_Static_assert(sizeof(struct cesu8_reading) == 24, "struct cesu8_reading");
+
 // The macros take an expression of any type, and multiply it as a size_t.
 _Static_assert(CESU8_MAX_ENCODED(INT_MAX - 1 + 1) == 2 * (size_t)INT_MAX, "CESU8_MAX_ENCODED");
 _Static_assert(CESU8_MAX_DECODED(INT_MAX - 1 + 1) == (size_t)INT_MAX, "CESU8_MAX_DECODED");

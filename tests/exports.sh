@@ -1,7 +1,7 @@
 #!/usr/bin/env bash
 # Tests the library for C, crates/cesu8_static, in these steps:
-# 1. It compares the names of the exports with those of the header, the chooser, the version map and
-#    the rows of tests/exports.c.
+# 1. It compares the names of the exports with those of the header, the chooser, the version map, the
+#    rows of tests/exports.c and tests/digest.c.
 # 2. It compiles tests/header.c, which uses all that the header declares, in each standard of C and of
 #    C++ and with most warnings of each compiler, and sees that the header's attributes warn.
 # 3. It tests the chooser with stubs behind it.
@@ -30,11 +30,15 @@ same_names() {
     diff "$scratch/wanted" "$scratch/found" || wrong "$1 has other names"
 }
 
-# That the rows of tests/exports.c, the header, the chooser and the version map have each call.
+# That the rows of tests/exports.c, tests/digest.c, the header, the chooser and the version map have each
+# call.
 all_are_named() {
     exports | sort >"$scratch/wanted"
     sed -n 's/^    {CALL(\([a-z0-9_]*\)).*/\1/p' "$top/tests/exports.c" | sort -u >"$scratch/found"
     same_names 'the table of tests/exports.c'
+    grep -oE '(struct )?cesu8_[a-z0-9_]+' "$top/tests/digest.c" | sed -n 's/^cesu8_//p' |
+        sort -u >"$scratch/found"
+    same_names tests/digest.c
     sed -n 's/^CHOOSE_.*, cesu8_\([a-z0-9_]*\))$/\1/p' "$crate/chooser.c" | sort >"$scratch/found"
     same_names chooser.c
     { exports; plain_calls; } | sort >"$scratch/wanted"

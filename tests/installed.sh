@@ -11,7 +11,7 @@ by_pkg_config() {
     unset PKG_CONFIG_PATH
 }
 
-# Which versions CMake takes, and that it takes no library of 64 bits for another processor.
+# Which versions CMake takes, and that it takes no library of 64 bits for other processors.
 look_at_versions() {
     local folder=$scratch/versions first=$major.0 next=$((major + 1))
     mkdir "$folder" || exit 2
@@ -41,6 +41,8 @@ look(0)
 look(0 $version)
 set(CMAKE_SIZEOF_VOID_P 8)
 look(1 $version)
+set(CMAKE_SYSTEM_PROCESSOR aarch64)
+look(0)
 CMAKE
     quietly cmake -S "$folder" -B "$folder/build" -DCMAKE_PREFIX_PATH="$unpacked" ||
         wrong 'CMake takes other versions'

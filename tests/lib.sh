@@ -17,6 +17,11 @@ source "$top/tests/program.sh" || exit 2
 passed=0
 failed=0
 
+# The compilers, and what runs what they build. For another processor than this a script sets others.
+c_compiler=cc
+cpp_compiler=c++
+emulator=()
+
 # Counts what is right.
 pass() {
     passed=$((passed + 1))
@@ -125,14 +130,29 @@ can_build() {
     fi
 }
 
+# Builds a program as `cc` does, and where an emulator has to run it, puts a script that does so in its
+# place: `compile ARGUMENT..`, with -o PROGRAM among them.
+compile() {
+    local word before='' program=''
+    for word in "$@"; do
+        [[ $before != -o ]] || program=$word
+        before=$word
+    done
+    quietly "$c_compiler" "$@" || return
+    ((${#emulator[@]} > 0)) || return 0
+    mv "$program" "$program.built" &&
+        printf '#!/usr/bin/env bash\nexec %s "$@"\n' "${emulator[*]@Q} ${program@Q}.built" >"$program" &&
+        chmod 755 "$program"
+}
+
 can_build_c() {
     printf '#include <stdio.h>\nint main(void) { return puts("") < 0; }\n' >"$scratch/probe.c"
-    can_build "$1" cc -o "$scratch/probe" "$scratch/probe.c"
+    can_build "$1" "$c_compiler" -o "$scratch/probe" "$scratch/probe.c"
 }
 
 can_build_cpp() {
     echo 'int main() {}' >"$scratch/probe.cpp"
-    can_build "$1" c++ -o "$scratch/probe" "$scratch/probe.cpp"
+    can_build "$1" "$cpp_compiler" -o "$scratch/probe" "$scratch/probe.cpp"
 }
 
 can_build_rust() {

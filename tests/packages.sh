@@ -7,6 +7,9 @@
 # sums, owners, modes and times; and the symbols and the C library that are needed, against the files
 # themselves and what dpkg-gensymbols and dpkg-shlibdeps find. `lintian` may name no error.
 #
+# The packages for arm64 are installed beside those for amd64, by apt too, and used there as C.md says, in
+# an emulator.
+#
 # RELEASE names the folder that dist.sh has filled; where it is not set, dist.sh is run. Without
 # dpkg-deb it says that it skipped everything, and which other tool is missing. The status is 0 if
 # nothing is wrong. It needs what tests/release.sh does.
@@ -247,6 +250,124 @@ look_by_lintian() {
     quietly lintian --allow-root --fail-on error "${files[@]}" || wrong 'lintian finds errors'
 }
 
+# The packages for arm64, beside those for amd64.
+cross_names=("libcesu8-$major" libcesu8-dev)
+cross_libdir=usr/lib/aarch64-linux-gnu
+
+# The file of a package for arm64: `cross_file_of NAME`.
+cross_file_of() {
+    echo "$release/$1_${debian}_arm64.deb"
+}
+
+# What the fields say, and that a package has the files of that for amd64, in the folders of arm64. dpkg
+# refuses two packages with one file that differs.
+look_at_cross_packages() {
+    local name field needed shared=$cross_libdir/libcesu8.so.$major
+    mkdir "$scratch/arm64" || exit 2
+    for name in "${cross_names[@]}"; do
+        dpkg-deb --raw-extract "$(cross_file_of "$name")" "$scratch/arm64/$name" ||
+            wrong "$name for arm64 can't be unpacked"
+        for field in Package Source Version Multi-Arch Section Maintainer Description; do
+            [[ $(dpkg-deb --field "$(cross_file_of "$name")" "$field") == \
+                "$(dpkg-deb --field "$(file_of "$name")" "$field")" ]] ||
+                wrong "$name for arm64 has another $field"
+        done
+        [[ $(dpkg-deb --field "$(cross_file_of "$name")" Architecture) == arm64 ]] ||
+            wrong "$name for arm64 is for another architecture"
+        diff <(files_of "$name" | grep -v '/examples/.*\.sh$' | sed "s,^$libdir/,$cross_libdir/," | sort) \
+            <(files_of "arm64/$name") || wrong "$name for arm64 has other files"
+        (cd "$scratch/arm64/$name" && quietly md5sum --strict --check DEBIAN/md5sums) ||
+            wrong "the sums of $name for arm64 do not fit"
+    done
+    needed=$(c_library "$scratch/arm64/${cross_names[0]}/$shared")
+    [[ $(dpkg-deb --field "$(cross_file_of "${cross_names[0]}")" Depends) == "libc6 (>= $needed)" ]] ||
+        wrong "the library for arm64 does not depend on the C library $needed"
+    diff "$scratch/${cross_names[0]}/DEBIAN/symbols" "$scratch/arm64/${cross_names[0]}/DEBIAN/symbols" ||
+        wrong 'the library for arm64 has other symbols'
+    tar xzf "$release/$cross_name.tar.gz" -C "$scratch/unpacked" || exit 2
+    cmp "$scratch/unpacked/$cross_name/lib/libcesu8.a" \
+        "$scratch/arm64/libcesu8-dev/$cross_libdir/libcesu8.a" || wrong 'the archive for arm64 is another'
+    cmp "$scratch/unpacked/$cross_name/lib/libcesu8.so.$major" \
+        "$scratch/arm64/${cross_names[0]}/$shared" || wrong 'the shared object for arm64 is another'
+}
+
+# The root of both, where only the C library is known, for each.
+new_root() {
+    local architecture
+    mkdir -p "$root"/{etc/apt/sources.list.d,etc/apt/preferences.d,var/cache/apt/archives/partial,var/log/apt} \
+        "$root"/var/lib/{apt/lists/partial,dpkg/info,dpkg/updates,dpkg/triggers} || exit 2
+    for architecture in amd64 arm64; do
+        printf '%s\n' 'Package: libc6' 'Status: install ok installed' 'Maintainer: nobody' \
+            "Architecture: $architecture" 'Multi-Arch: same' \
+            "Version: $(getconf GNU_LIBC_VERSION | sed 's/.* //')" 'Description: the C library' ''
+    done >"$root/var/lib/dpkg/status"
+    on_root --add-architecture arm64 || wrong 'dpkg knows no arm64'
+}
+
+# Runs apt-get on that root, which knows no packages but those that it is given, and reads nothing of this
+# machine's: `apt_on_root WORD..`.
+apt_on_root() {
+    cat >"$scratch/apt.conf" <<CONF
+Dir "$root";
+Dir::State::status "$root/var/lib/dpkg/status";
+APT { Architecture "amd64"; Architectures { "amd64"; "arm64"; }; Sandbox::User "root"; };
+Dpkg::Options { "--root=$root"; "--force-not-root"; "--log=/dev/null"; };
+CONF
+    APT_CONFIG=$scratch/apt.conf PATH=$PATH:/usr/sbin:/sbin quietly apt-get --yes "$@"
+}
+
+# Installs the packages for amd64, and beside them those for arm64, by apt where it is there.
+install_both() {
+    local name all=() cross=()
+    for name in "${names[@]}"; do all+=("$(file_of "$name")"); done
+    for name in "${cross_names[@]}"; do cross+=("$(cross_file_of "$name")"); done
+    if command -v apt-get >/dev/null; then
+        apt_on_root install "${all[@]}" || wrong 'apt does not install the packages'
+        apt_on_root install "${cross[@]}" || wrong 'apt does not install the packages for arm64'
+    else
+        echo 'apt-get is missing: dpkg installs the packages for arm64'
+        on_root --install "${all[@]}" "${cross[@]}" || wrong 'dpkg does not install all packages'
+    fi
+    names=(cesu8-tools "${cross_names[@]/%/:amd64}" "${cross_names[@]/%/:arm64}")
+    for name in "${names[@]}"; do
+        [[ $(dpkg-query --admindir="$root/var/lib/dpkg" --show --showformat='${db:Status-Abbrev}' "$name") \
+            == 'ii ' ]] || wrong "$name is not installed"
+    done
+}
+
+# keys.c for arm64 in that root, by pkg-config and by CMake.
+use_cross_packages() {
+    local flags=("-DCMAKE_PREFIX_PATH=$root/usr" -DCMAKE_SYSTEM_NAME=Linux -DCMAKE_SYSTEM_PROCESSOR=aarch64
+        "-DCMAKE_C_COMPILER=$AARCH64_CC")
+    # Where the loader finds the shared object.
+    emulator+=(-E "LD_LIBRARY_PATH=$root/$cross_libdir")
+    by_flags 'keys.c for arm64' -I "$root/usr/include" -L "$root/$cross_libdir" -lcesu8
+    wants_shared "$scratch/example" || wrong 'the shared object for arm64 is not linked'
+    if can_build 'keys.c by pkg-config for arm64' pkg-config --version; then
+        export PKG_CONFIG_SYSROOT_DIR=$root PKG_CONFIG_LIBDIR=$root/$cross_libdir/pkgconfig
+        export PKG_CONFIG_ALLOW_SYSTEM_CFLAGS=1 PKG_CONFIG_ALLOW_SYSTEM_LIBS=1
+        by_both 'keys.c by pkg-config for arm64'
+    fi
+    if can_build_by_cmake 'keys.c by CMake for arm64' "${flags[@]}"; then
+        by_cmake 'keys.c by CMake for arm64' "${flags[@]}"
+    fi
+}
+
+test_cross_packages() {
+    local name
+    for_aarch64 'the Debian packages for arm64' || return 0
+    for name in "${cross_names[@]}"; do
+        [[ -f $(cross_file_of "$name") ]] || { wrong "the release has no package $name for arm64"; return; }
+    done
+    unset LD_LIBRARY_PATH "${!PKG_CONFIG_@}"
+    root=$scratch/root_of_both
+    look_at_cross_packages
+    new_root
+    install_both
+    use_cross_packages
+    remove_packages
+}
+
 for tool in dpkg-deb dpkg readelf objdump; do
     if ! command -v "$tool" >/dev/null; then
         echo "$tool is missing: the Debian packages skipped"
@@ -267,4 +388,5 @@ install_packages
 use_packages
 remove_packages
 look_by_lintian
+test_cross_packages
 ((failed == 0))

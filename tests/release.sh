@@ -5,6 +5,7 @@
 version=$(<"$top/VERSION")
 major=${version%%.*}
 name=cesu8-$version-x86_64-linux
+cross_name=cesu8-$version-aarch64-linux
 
 # Sets `release`, the folder that dist.sh has filled, `unpacked`, the folder that its archive holds,
 # and `seconds`, when its commit was made. Where RELEASE names no such folder it runs dist.sh. If a
@@ -28,4 +29,24 @@ find_release() {
     mkdir "$scratch/unpacked" && tar xzf "$release/$name.tar.gz" -C "$scratch/unpacked" || exit 2
     unpacked=$scratch/unpacked/$name
     seconds=$(stat -c %Y "$unpacked/BUILT-FROM") || exit 2
+}
+
+# From here on builds for aarch64, and runs it in an emulator. If a tool for that is missing, WHAT is
+# skipped: `for_aarch64 WHAT`.
+for_aarch64() {
+    local missing
+    # shellcheck source=tests/cross.sh
+    source "$top/tests/cross.sh"
+    if ! missing=$(can_cross); then
+        echo "$missing: $1 skipped"
+        return 1
+    fi
+    if ! command -v "$AARCH64_EMULATOR" >/dev/null; then
+        echo "$AARCH64_EMULATOR is missing: $1 skipped"
+        return 1
+    fi
+    c_compiler=$AARCH64_CC
+    cpp_compiler=$AARCH64_CXX
+    # The C library for aarch64 is in the folder lib of this one.
+    emulator=("$AARCH64_EMULATOR" -L "$(dirname "$("$AARCH64_CC" -print-file-name=libc.so.6)")/..")
 }

@@ -38,7 +38,7 @@ shown_in_page() {
             [[ $first == bytes ]] || printf '    fputs(name, stdout);\n'
             printf '    return answer.status != CESU8_OK;\n}\n'
         } >"$file"
-        quietly cc -std=c99 -Wall -Wextra -Werror -pedantic -I "$unpacked/include" -o "$file.out" \
+        compile -std=c99 -Wall -Wextra -Werror -pedantic -I "$unpacked/include" -o "$file.out" \
             "$file" "$unpacked/lib/libcesu8.a" || wrong "what C.md shows of $first does not build"
         "$file.out" >>"$scratch/shown/printed" || wrong "what C.md shows of $first fails"
     done
@@ -59,7 +59,7 @@ class_file() {
 
 in_class_file() {
     local program=$scratch/class_constants
-    quietly cc -std=c99 -Wall -Wextra -Wconversion -pedantic -Werror -I "$unpacked/include" \
+    compile -std=c99 -Wall -Wextra -Wconversion -pedantic -Werror -I "$unpacked/include" \
         -o "$program" "$unpacked/examples/class_constants.c" "$unpacked/lib/libcesu8.a" ||
         { wrong 'class_constants.c does not build'; return; }
     class_file >"$scratch/constants.class"
@@ -85,7 +85,7 @@ in_class_file() {
 # behind it that is in no character, with a pair that is cut at the end, and with a zero byte in front.
 in_large_file() {
     local program=$scratch/find_damage pairs=$scratch/pairs
-    quietly cc -std=c99 -Wall -Wextra -Wconversion -pedantic -Werror -I "$unpacked/include" \
+    compile -std=c99 -Wall -Wextra -Wconversion -pedantic -Werror -I "$unpacked/include" \
         -o "$program" "$unpacked/examples/find_damage.c" "$unpacked/lib/libcesu8.a" ||
         { wrong 'find_damage.c does not build'; return; }
     {

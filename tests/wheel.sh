@@ -4,12 +4,13 @@
 # model, every error handler, every split of damaged bytes, files and streams, and Java's own bytes.
 # It also checks what the wheel holds, and that wheel.py writes the same bytes again. It then tests the
 # wheel once more in each other Python from 3.10 on that is there as python3.N, in the debug build that
-# Debian's python3-dbg has, and in python3 under valgrind.
+# Debian's python3-dbg has, and in python3 under valgrind; and that for aarch64 in the Python of
+# AARCH64_ROOT (tests/cross.sh), in an emulator.
 #
 # RELEASE names the folder that dist.sh has filled; where it is not set, dist.sh is run. Without
 # python3 with venv and the header that dist.sh needs, it says that it skipped everything; without Java,
-# a debug build or valgrind, what it skipped. The status is 0 if nothing is wrong. It needs what
-# tests/release.sh does.
+# a debug build, valgrind or what it needs for aarch64, what it skipped. The status is 0 if nothing is
+# wrong. It needs what tests/release.sh does.
 unset "${!PYTHON@}"
 # shellcheck source=tests/lib.sh
 source "$(dirname "${BASH_SOURCE[0]}")/lib.sh" || exit 2
@@ -18,13 +19,15 @@ source "$top/tests/release.sh" || exit 2
 # shellcheck source=tests/python_header.sh
 source "$top/tests/python_header.sh" || exit 2
 
-# What the wheel holds, and a second run of wheel.py, with another folder and umask.
+# What a wheel holds, and a second run of wheel.py, with another folder and umask: `look_at_wheel WHEEL
+# RELEASE FOLDER`, the folder that gets what the wheel holds.
 look_at_wheel() {
-    local again=$scratch/again needed
-    quietly python3 -m zipfile -e "$wheel" "$scratch/site-packages" || exit 1
-    needed=$(objdump -p "$scratch/site-packages/cesu8/_native.abi3.so" | grep -o 'GLIBC_[0-9.]*' | sort -V |
-        tail -n 1)
-    python3 - "$wheel" "${needed#GLIBC_}" "$seconds" <<'PYTHON' || wrong 'the wheel holds something else'
+    local wheel=$1 unpacked=$2 site=$3/site-packages again=$3/again needed
+    mkdir -p "$again" || exit 2
+    quietly python3 -m zipfile -e "$wheel" "$site" || exit 1
+    needed=$(objdump -T "$site/cesu8/_native.abi3.so" | grep -o 'GLIBC_[0-9.]*' | sort -V | tail -n 1)
+    look_at_tag "$wheel" "$site" "${needed#GLIBC_}"
+    python3 - "$wheel" "${needed#GLIBC_}" "$seconds" <<'PYTHON' || wrong "${wheel##*/} holds something else"
 import base64
 import csv
 import hashlib
@@ -58,13 +61,26 @@ for name, digest, length in csv.reader(io.StringIO(contents[f"{folder}/RECORD"].
 assert list(contents) == [f"{folder}/RECORD"]
 assert f"\nRequires-External: glibc (>={sys.argv[2]})\n".encode() in metadata
 PYTHON
-    mkdir "$again" || exit 2
     (
         umask 077
-        cp -R "$unpacked" "$scratch/moved" &&
-            SOURCE_DATE_EPOCH=$seconds quietly python3 "$top/python/wheel.py" "$scratch/moved" "$again"
+        cp -R "$unpacked" "$3/moved" &&
+            SOURCE_DATE_EPOCH=$seconds quietly python3 "$top/python/wheel.py" "$3/moved" "$again"
     ) || wrong 'wheel.py fails'
     cmp "$wheel" "$again/${wheel##*/}" || wrong 'wheel.py writes other bytes in a second run'
+}
+
+# That the name of a wheel promises manylinux_2_17 just where it is for aarch64 and needs no newer C library,
+# by the versions of the module's dynamic symbols, and no other library: `look_at_tag WHEEL SITE NEEDED`.
+look_at_tag() {
+    local tag=${1##*/cesu8-"$version"-} platform=linux_x86_64
+    if [[ $1 == *_aarch64.whl ]]; then
+        platform=manylinux_2_17_aarch64
+        printf '%s\n' "$3" 2.17 | sort -CV || platform=linux_aarch64
+    fi
+    [[ $tag == "cp310-abi3-$platform.whl" ]] || wrong "${1##*/} needs the C library $3"
+    grep -qx "Tag: ${tag%.whl}" "$2"/cesu8-*.dist-info/WHEEL || wrong "${1##*/} has another tag within"
+    objdump -p "$2/cesu8/_native.abi3.so" | grep NEEDED | grep -vw libc.so.6 &&
+        wrong "the module of ${1##*/} needs more than the C library"
 }
 
 # A fresh environment with the wheel, without a network.
@@ -100,18 +116,29 @@ run_java() {
 }
 
 # Runs the tests of some files, of what is installed, or of what SITE holds: `run_tests PATTERN SITE
-# PYTHON..`. An isolated Python sees the folders of the tests alone by what they say.
+# PYTHON..`. An isolated Python sees the folders of the tests alone by what they say. The tests that SLOW
+# names are left out.
 run_tests() {
     local arguments=("$top/tests/wheel" "$1" "$2")
     shift 2
     if ! (cd "$scratch" && CESU8_VERSION=$version "$@" -B -W error - "${arguments[@]}" <<'PYTHON'); then
+import os
 import sys
 import unittest
+
+
+def each(suite):
+    for test in suite:
+        yield from each(test) if isinstance(test, unittest.TestSuite) else [test]
+
 
 folder, pattern, site = sys.argv[1:]
 if site:
     sys.path.insert(0, site)
-suite = unittest.defaultTestLoader.discover(folder, pattern)
+tests = {test.id(): test for test in each(unittest.defaultTestLoader.discover(folder, pattern))}
+for name in os.environ.get("SLOW", "").split():
+    del tests[name]
+suite = unittest.TestSuite(tests.values())
 result = unittest.TextTestRunner(stream=sys.stdout, verbosity=1).run(suite)
 sys.exit(not result.wasSuccessful() or result.testsRun < (50 if "*" in pattern else 5))
 PYTHON
@@ -130,6 +157,35 @@ test_by() {
     fi
 }
 
+# Tests the wheel for aarch64 in an emulator, in a Python for arm64. It leaves out what takes minutes there,
+# and is about the Python of the package more than about the module.
+test_on_aarch64() {
+    local wheel folder=$scratch/aarch64 unpacked=$scratch/unpacked/$cross_name python
+    for_aarch64 'the wheel for aarch64' || return 0
+    python=$(find "$AARCH64_ROOT/usr/bin" -name 'python3.*[0-9]' 2>"$scratch/said" | head -n 1)
+    if [[ -z $python || -z $(cross_python_header) ]]; then
+        echo "$AARCH64_ROOT has no Python for arm64 with its header: the wheel for aarch64 skipped"
+        return
+    fi
+    wheel=$(find "$release" -name "cesu8-$version-*_aarch64.whl")
+    if [[ -z $wheel ]]; then
+        wrong 'the release has no wheel for aarch64'
+        return
+    fi
+    mkdir "$folder" && tar xzf "$release/$cross_name.tar.gz" -C "$scratch/unpacked" || exit 2
+    look_at_wheel "$wheel" "$unpacked" "$folder"
+    # By the first argument Python knows how it is called, and calls itself so.
+    # shellcheck disable=SC2016
+    printf '#!/bin/sh\nexec "%s" -0 "$0" -L "%s" "%s" "$@"\n' "$AARCH64_EMULATOR" "$AARCH64_ROOT" "$python" \
+        >"$folder/python"
+    chmod 755 "$folder/python"
+    echo "in $("$folder/python" -V) for aarch64:"
+    SLOW='test_calls.Tables.test_all_of_two_bytes test_calls.Tables.test_all_scalar_values
+        test_codecs.Decoding.test_handlers test_codecs.Decoding.test_escaped_bytes_come_back
+        test_codecs.Decoding.test_much_damage_is_linear test_streams.Incremental.test_what_is_kept' \
+        run_tests 'test_*.py' "$folder/site-packages" "$folder/python" -I
+}
+
 if ! python3 -c 'import venv' 2>/dev/null || ! has_python_header; then
     echo 'python3 3.10 with venv and Python.h is missing: the wheel skipped'
     exit 0
@@ -140,7 +196,7 @@ if [[ ! -f $wheel ]]; then
     wrong "the release has no ${wheel##*/}"
     exit 1
 fi
-look_at_wheel
+look_at_wheel "$wheel" "$unpacked" "$scratch"
 install_wheel
 run_java
 run_tests 'test_*.py' '' "$python" -I
@@ -159,4 +215,5 @@ if can_build 'the module under valgrind' valgrind --version; then
         END { exit found }
     ' "$scratch/valgrind" || wrong 'valgrind finds errors of the module'
 fi
+test_on_aarch64
 ((failed == 0))

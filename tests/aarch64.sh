@@ -1,0 +1,144 @@
+#!/usr/bin/env bash
+# Uses the release for aarch64, with a compiler for it and in an emulator:
+# - it looks at which files it has, and at what the archive and the shared object show and ask for;
+# - tests/exports.c calls each export of the archive and of the shared object;
+# - keys.c is built by pkg-config and by CMake, as C.md says; the other examples and a file of C++ are
+#   built and run;
+# - tests/digest.c prints the same as on this processor.
+# tests/packages.sh and tests/wheel.sh do so with the packages and the wheel for aarch64.
+#
+# RELEASE names the folder that dist.sh has filled; where it is not set, dist.sh is run. Without a tool
+# that tests/cross.sh names, it says that it skipped everything; without pkg-config, CMake or a compiler
+# for C++, what it skipped. The status is 0 if nothing is wrong. It needs what tests/release.sh does.
+# shellcheck source=tests/lib.sh
+source "$(dirname "${BASH_SOURCE[0]}")/lib.sh" || exit 2
+crate=$top/crates/cesu8_static
+# shellcheck source=tests/release.sh
+source "$top/tests/release.sh" || exit 2
+# shellcheck source=tests/c_library.sh
+source "$top/tests/c_library.sh" || exit 2
+# shellcheck source=tests/callers.sh
+source "$top/tests/callers.sh" || exit 2
+# shellcheck source=tests/shown.sh
+source "$top/tests/shown.sh" || exit 2
+
+# The release for aarch64 has the files of that for x86-64 but for the program and its pages, and they are
+# the same but for the library and two that name what it is for.
+look_at_files() {
+    local file others='^lib/libcesu8\.(a|so\..*)$|^README.md$|/cesu8-config-version.cmake$'
+    diff <(cd "$native" && find . ! -type d -printf '%P %M\n' | sort |
+        grep -vE '^(bin/|share/man/man1/|share/bash-completion/|PROGRAM.md |examples/.*\.sh )') \
+        <(cd "$unpacked" && find . ! -type d -printf '%P %M\n' | sort) ||
+        wrong 'the release for aarch64 has other files'
+    while read -r file; do
+        cmp "$native/$file" "$unpacked/$file" || wrong "$file differs from that for x86-64"
+    done < <(cd "$unpacked" && find . -type f -printf '%P\n' | grep -vE "$others")
+    grep -rlF -e "$scratch/" -e "$top/" "$unpacked" && wrong 'these name a folder of this machine'
+    grep -rlI '@[A-Z][A-Z]*@' "$unpacked" && wrong 'these are not filled in'
+    grep -nI 'cesu8_cli' "$unpacked"/{C,README,SECURITY}.md &&
+        wrong 'these are about the program'
+}
+
+# The names of the archive, and what it asks for, which is not what the processor has.
+look_at_archive() {
+    local archive=$unpacked/lib/libcesu8.a asked
+    diff <({ exports | sed 's/.*/&\n&_v8/'; plain_calls; } | sed 's/^/T cesu8_/' | sort) \
+        <(cross nm -g --defined-only "$archive" 2>/dev/null | awk 'NF == 3 { print $2, $3 }' | sort) ||
+        wrong 'the archive shows other names'
+    asked=$(cross nm -u "$archive" 2>/dev/null | awk 'NF == 2 { print $2 }' | sort -u |
+        grep -vxE 'mem(cpy|move|set|cmp)|cesu8_.*_v8')
+    [[ -z $asked ]] || wrong "the archive asks for other names: $asked"
+    cross readelf -SW "$archive" 2>/dev/null | grep -F ' .debug' && wrong 'the archive is not stripped'
+}
+
+look_at_shared() {
+    local file=$unpacked/lib/libcesu8.so.$major dynamic needed
+    diff <(mapped | sed 's/^/T /' | sort) \
+        <(cross nm -D --defined-only "$file" | awk '$2 != "A" { print $2, $3 }' | sort) ||
+        wrong 'the shared object shows other names than the version map'
+    dynamic=$(cross readelf -dW "$file")
+    grep -q "SONAME.*\[libcesu8.so.$major\]" <<<"$dynamic" || wrong 'the shared object has another name'
+    grep -q 'FLAGS.*BIND_NOW' <<<"$dynamic" || wrong 'the shared object binds its names late'
+    grep -q TEXTREL <<<"$dynamic" && wrong 'the loader would write to the code'
+    grep NEEDED <<<"$dynamic" | grep -v '\[libc.so.6\]' && wrong 'the shared object needs more than libc'
+    cross readelf -lW "$file" | grep -q 'GNU_STACK .* RW ' ||
+        wrong 'the shared object wants a stack that can be run'
+    cross readelf -SW "$file" | grep -E ' \.(symtab|debug)' && wrong 'the shared object is not stripped'
+    needed=$(cross objdump -T "$file" | grep -o 'GLIBC_[0-9.]*' | sort -V | tail -n 1)
+    grep -qx "aarch64 libcesu8.so.$major needs the GNU C library ${needed#GLIBC_}" "$unpacked/BUILT-FROM" ||
+        wrong "BUILT-FROM does not say that the shared object needs $needed"
+}
+
+# keys.c in a cross build by the lines that C.md has for it, of which the first three are a file for CMake.
+by_the_page() {
+    local lines
+    lines=$(sed -n '/^    set(CMAKE_SYSTEM_NAME/,/^$/s/^    //p' "$unpacked/C.md")
+    (($(grep -c . <<<"$lines") == 6)) || wrong 'C.md has not six lines for another processor'
+    grep '^set' <<<"$lines" | sed "s/aarch64-linux-gnu-gcc/${AARCH64_CC//\//\\/}/" >"$scratch/aarch64.cmake"
+    if can_build_by_cmake 'keys.c by CMake for aarch64' "-DCMAKE_TOOLCHAIN_FILE=$scratch/aarch64.cmake"; then
+        grep -qxF "cmake -DCMAKE_TOOLCHAIN_FILE=aarch64.cmake -DCMAKE_PREFIX_PATH=\$release -S . -B build" \
+            <<<"$lines" || wrong 'C.md calls CMake otherwise'
+        by_cmake 'keys.c by CMake for aarch64' "-DCMAKE_TOOLCHAIN_FILE=$scratch/aarch64.cmake" \
+            "-DCMAKE_PREFIX_PATH=$unpacked"
+        refuses_the_other "$native" "-DCMAKE_TOOLCHAIN_FILE=$scratch/aarch64.cmake"
+        refuses_the_other "$unpacked"
+    fi
+    if can_build 'keys.c by pkg-config for aarch64' pkg-config --version; then
+        grep -qxF "export PKG_CONFIG_LIBDIR=\"\$release/lib/pkgconfig\"" <<<"$lines" ||
+            wrong 'C.md names another folder for pkg-config'
+        export PKG_CONFIG_LIBDIR=$unpacked/lib/pkgconfig
+        by_both 'keys.c by pkg-config for aarch64' -Wl,-rpath,"$unpacked/lib"
+        unset PKG_CONFIG_LIBDIR
+    fi
+}
+
+# That CMake finds no library for another processor: `refuses_the_other RELEASE FLAG..`.
+refuses_the_other() {
+    local folder=$scratch/other release=$1
+    shift
+    rm -rf "$folder"
+    mkdir "$folder" && printf '%s\n' 'project(other C)' "find_package(cesu8 $version QUIET)" \
+        'if(cesu8_FOUND)' '    message(FATAL_ERROR found)' 'endif()' >"$folder/CMakeLists.txt" || exit 2
+    quietly cmake -S "$folder" -B "$folder/build" "-DCMAKE_PREFIX_PATH=$release" "$@" ||
+        wrong "CMake takes the library in ${release##*/} for another processor"
+}
+
+# What tests/digest.c prints here and on aarch64.
+compare_answers() {
+    local here there
+    if ! quietly cc -std=c11 -O2 -Wall -Wextra -Werror -I "$native/include" -o "$scratch/digest" \
+        "$top/tests/digest.c" "$native/lib/libcesu8.a" ||
+        ! quietly "$c_compiler" -std=c11 -O2 -Wall -Wextra -Werror -I "$unpacked/include" \
+            -o "$scratch/digest_aarch64" "$top/tests/digest.c" "$unpacked/lib/libcesu8.a"; then
+        wrong 'tests/digest.c does not build'
+        return
+    fi
+    here=$("$scratch/digest") || wrong 'tests/digest.c fails on x86-64'
+    there=$("${emulator[@]}" "$scratch/digest_aarch64") || wrong 'tests/digest.c fails on aarch64'
+    printf 'x86-64:  %s\naarch64: %s\n' "$here" "$there"
+    [[ $here == "$there" ]] || wrong 'the answers on aarch64 are others'
+}
+
+for_aarch64 'the release for aarch64' || exit 0
+find_release 'the release for aarch64' || exit 0
+native=$unpacked
+unpacked=$scratch/unpacked/$cross_name
+if ! tar xzf "$release/$cross_name.tar.gz" -C "$scratch/unpacked"; then
+    wrong "the release has no $cross_name.tar.gz"
+    exit 1
+fi
+look_at_files
+look_at_archive
+look_at_shared
+mkdir "$scratch/shown" || exit 2
+call_exports -DARCHIVE "$unpacked/lib/libcesu8.a"
+call_exports -DARCHIVE "$unpacked/lib/libcesu8.so.$major" -Wl,-rpath,"$unpacked/lib"
+by_the_page
+if can_build_cpp 'the file of C++ for aarch64'; then
+    in_cpp "$unpacked"
+fi
+shown_in_page
+in_class_file
+in_large_file
+compare_answers
+((failed == 0))
