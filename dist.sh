@@ -1,7 +1,7 @@
 #!/usr/bin/env bash
 # Builds the release, for users without the kit:
 #   dist.sh FOLDER
-# FOLDER gets cesu8-VERSION-x86_64-linux.tar.gz, with the library for C and the program, and
+# FOLDER gets cesu8-VERSION-x86_64-linux.tar.gz, with the library for C and the programs, and
 # SHA256SUMS, with the sum of each file that is made. It first proves what is not yet proved. Two runs
 # on one commit give the same bytes, with the same kit and C compiler: names are sorted, times are the
 # commit's, and owners are 0. BUILT-FROM in the archive says what it was built from and what it needs.
@@ -16,8 +16,13 @@ unset CDPATH
 export LC_ALL=C
 umask 022
 
-if (($# != 1)); then
-    echo 'usage: dist.sh FOLDER' >&2
+usage='usage: dist.sh FOLDER'
+if [[ $* == --help ]]; then
+    echo "$usage"
+    exit
+fi
+if (($# != 1)) || [[ -z $1 || $1 == -* ]]; then
+    echo "$usage" >&2
     exit 2
 fi
 for tool in rt git cc ar ld nm objcopy objdump strip tar gzip; do
@@ -74,12 +79,30 @@ link_shared() {
     ln -s "libcesu8.so.$major" "$release/lib/libcesu8.so"
 }
 
+# The program that tells where a file is damaged, in C over the static library.
+build_damage() {
+    cc -std=c99 -O2 -Wall -Wextra -Werror -I "$release/include" -o "$release/bin/cesu8_damage" \
+        "$crate/examples/cesu8_damage.c" "$release/lib/libcesu8.a" \
+        -Wl,--gc-sections,-z,relro,-z,now,-z,noexecstack,-z,x86-64-v2
+}
+
+# The man page of the calls, which the header's comments make, and for each call one that leads to it.
+write_call_pages() {
+    local call folder=$release/share/man/man3
+    mkdir -p "$folder"
+    awk -v version="$version" -v day="$day" -f "$crate/package/cesu8.3.awk" "$crate/include/cesu8.h" \
+        >"$folder/cesu8.3"
+    while read -r call; do
+        echo '.so man3/cesu8.3' >"$folder/$call.3"
+    done < <(sed -n 's/^    \(cesu8_[a-z0-9_]*\);$/\1/p' "$crate/package/cesu8.map")
+}
+
 # The pages of the repository that the release has, and what is in it of the names that they link to.
 pages=(docs/C.md docs/PROGRAM.md CHANGELOG.md SECURITY.md)
 there=" README.md cesu8.h ${pages[*]##*/} "
 
-# A page, without each sentence with a link to what is not in the release. Another link becomes its text:
-# `page FILE`.
+# A page, without each sentence with a link to what is not in the release. Another link becomes its text,
+# and the path of the program is that of an installed one: `page FILE`.
 page() {
     awk -v there="$there" '
         # A sentence with the text of its links, or nothing.
@@ -97,6 +120,7 @@ page() {
             return sentence
         }
         /^```/ { is_code = !is_code }
+        sub(/^program=crates\/.*/, "program=cesu8_cli      # in the unpacked archive: program=bin/cesu8_cli")
         is_code || /^(    .*)?$/ { print; next }
         {
             rest = $0
@@ -127,13 +151,16 @@ cp "$program" "$release/bin/cesu8_cli"
 sh "$crate/archive.sh" "$release/lib/libcesu8.a"
 strip -D --strip-unneeded "$release/lib/libcesu8.a"
 link_shared
-strip -D --strip-unneeded "$release/bin/cesu8_cli" "$release/lib/libcesu8.so.$major"
 cp "$crate/include/cesu8.h" "$release/include"
+build_damage
+strip -D --strip-unneeded "$release/bin"/* "$release/lib/libcesu8.so.$major"
 cp "$crate/examples/"*.c "$crate/examples/"*.rs "$crate/examples/"*.sh "$release/examples"
 fill cesu8.pc lib/pkgconfig/cesu8.pc
 fill cesu8-config.cmake lib/cmake/cesu8/cesu8-config.cmake
 fill cesu8-config-version.cmake lib/cmake/cesu8/cesu8-config-version.cmake
 fill cesu8_cli.1 share/man/man1/cesu8_cli.1
+fill cesu8_damage.1 share/man/man1/cesu8_damage.1
+write_call_pages
 fill cesu8_cli.bash share/bash-completion/completions/cesu8_cli
 fill install.sh install.sh
 fill uninstall.sh uninstall.sh
@@ -144,7 +171,7 @@ done
 cp "$top/LICENSE-APACHE" "$top/LICENSE-MIT" "$release"
 # What the library uses of the kit is in it too.
 cp "$kit/rattle/simdutf8/LICENSE" "$release/LICENSE-simdutf8"
-needed=$(c_library "$release/bin/cesu8_cli" "$release/lib/libcesu8.so.$major")
+needed=$(c_library "$release/bin"/* "$release/lib/libcesu8.so.$major")
 cat >"$release/BUILT-FROM" <<BUILT
 cesu8 $version
 commit $commit$changes
@@ -154,7 +181,7 @@ needs Linux on x86-64-v2, and the GNU C library $needed
 BUILT
 
 find "$release" -type f -exec chmod 644 {} +
-chmod 755 "$release/bin/cesu8_cli" "$release/"*install.sh "$release/examples/"*.sh
+chmod 755 "$release/bin"/* "$release/"*install.sh "$release/examples/"*.sh
 tar --create --format=ustar --sort=name --owner=0 --group=0 --numeric-owner \
     --mtime="@$seconds" -C "$scratch" "$name" |
     gzip -n -9 >"$folder/$name.tar.gz"

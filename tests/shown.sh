@@ -1,5 +1,5 @@
-# For tests/dist.sh: runs the examples and what the README and the man page show, and compares the man
-# page and the completion with the commands. It uses what that script sets.
+# For tests/dist.sh: runs the examples, cesu8_damage and what the pages and man pages show, and compares
+# the man pages and the completion with the commands and the calls. It uses what that script sets.
 # shellcheck shell=bash disable=SC2154
 
 # The lines of a shell in a page print what stands behind them: `shown_lines FILE`.
@@ -27,23 +27,43 @@ shown_c() {
     fi
 }
 
-# The two blocks of C that C.md shows, each as the body of a program: one prints what it has decoded, and
-# the other makes a name that is printed here.
+# The three blocks of C that C.md shows, each as the body of a program: one prints what it has decoded,
+# and the others make what is printed here, a name and a text of what mixes both encodings.
 shown_in_page() {
     local file=$scratch/shown/page.c first
-    for first in bytes text; do
+    for first in bytes text mixed; do
         {
             printf '#include <cesu8.h>\n#include <stdio.h>\nint main(void) {\n'
             sed -n "/^    static const uint8_t $first\[\]/,/^\$/p" "$unpacked/C.md"
-            [[ $first == bytes ]] || printf '    fputs(name, stdout);\n'
+            case $first in
+                text) printf '    fputs(name, stdout);\n' ;;
+                mixed) printf '    fwrite(all, 1, length, stdout);\n' ;;
+            esac
             printf '    return answer.status != CESU8_OK;\n}\n'
         } >"$file"
         quietly cc -std=c99 -Wall -Wextra -Werror -pedantic -I "$unpacked/include" -o "$file.out" \
             "$file" "$unpacked/lib/libcesu8.a" || wrong "what C.md shows of $first does not build"
         "$file.out" >>"$scratch/shown/printed" || wrong "what C.md shows of $first fails"
     done
-    printf 'a\0a\355\240\275\355\262\226' | cmp - "$scratch/shown/printed" ||
-        wrong 'what C.md shows prints something else'
+    printf 'a\0a\355\240\275\355\262\226a\360\237\222\226b\360\237\222\226' |
+        cmp - "$scratch/shown/printed" || wrong 'what C.md shows prints something else'
+}
+
+# The blocks of a shell in PROGRAM.md, as one script for the installed program: what it prints stands
+# behind the lines.
+shown_in_program_page() {
+    local folder=$scratch/shown/program
+    mkdir "$folder" || exit 2
+    printf '\355\240\275\355\262\226\n\0\n' >"$folder/dump"
+    # shellcheck disable=SC2016
+    sed -n '/^```sh$/,/^```$/{/^```/d;p;}' "$unpacked/PROGRAM.md" >"$folder/script"
+    grep -qx 'program=cesu8_cli  *# in the unpacked archive: program=bin/cesu8_cli' "$folder/script" ||
+        wrong 'PROGRAM.md sets another program'
+    (cd "$folder" && PATH=$unpacked/bin:$PATH bash ./script) 2>&1 | sed 's/^ //' >"$folder/printed"
+    sed -nE '/^(printf|tail|\)) /s/.*  # //p' "$folder/script" | sed 's/, and /\n/' |
+        diff - "$folder/printed" || wrong 'PROGRAM.md shows something else'
+    printf '\360\237\222\226\n\0\n' | cmp - "$folder/text" || wrong 'PROGRAM.md makes another text of a dump'
+    echo 'what PROGRAM.md shows was run'
 }
 
 # A class file as the Java Virtual Machine Specification has it (4.1, 4.4), up to its constants: each
@@ -72,35 +92,132 @@ in_class_file() {
     # The last string is at 112, and half of a pair behind its first byte.
     diff <(echo "$scratch/constants.class: constant 22, offset 113: invalid input") "$scratch/said" ||
         wrong 'class_constants.c does not tell a fault'
-    head -c -1 "$scratch/constants.class" >"$scratch/cut.class"
-    "$program" "$scratch/cut.class" >"$scratch/printed" 2>&1 &&
-        wrong 'class_constants.c takes what is cut off'
-    tail -c +2 "$scratch/constants.class" >"$scratch/cut.class"
-    "$program" "$scratch/cut.class" >"$scratch/printed" 2>&1 &&
-        wrong 'class_constants.c takes another file'
+    in_damaged_class_files "$program"
     echo 'class_constants.c was built and run'
 }
 
-# A file of more than one piece, of "a" and pairs, so that the end of a piece cuts a pair; then with a byte
-# behind it that is in no character, with a pair that is cut at the end, and with a zero byte in front.
-in_large_file() {
-    local program=$scratch/find_damage pairs=$scratch/pairs
-    quietly cc -std=c99 -Wall -Wextra -Wconversion -pedantic -Werror -I "$unpacked/include" \
-        -o "$program" "$unpacked/examples/find_damage.c" "$unpacked/lib/libcesu8.a" ||
-        { wrong 'find_damage.c does not build'; return; }
+# Files that class_constants.c has to refuse, with what it printed before: a string that is cut off, a pool
+# that is cut between two constants and within one, and files that begin otherwise. And one whose only string is as long
+# and as damaged as can be. The allocator fills new memory with 01, which would be read as more constants.
+in_damaged_class_files() {
+    local file=$scratch/damaged.class whole=$scratch/constants.class magic marks
+    export MALLOC_PERTURB_=254
+    head -c -1 "$whole" >"$file"
+    refuses_class "$1" "$file" 109 3
+    head -c 109 "$whole" >"$file"
+    refuses_class "$1" "$file" 109 3
+    head -c 20 "$whole" >"$file"
+    refuses_class "$1" "$file" 18 1
+    for magic in '\0' '\312\376\272\277' '\313\376\272\276' '\312\377\272\276' '\312\376\273\276'; do
+        { printf '%b' "${magic//\\/\\0}" && tail -c +5 "$whole"; } >"$file"
+        refuses_class "$1" "$file" 0 0
+    done
+    { printf '\312\376\272\276\0\0\0\101\0\2\1\377\377' && filled 65535 '\xFF'; } >"$file"
+    "$1" "$file" >"$scratch/printed" 2>"$scratch/said" || wrong 'class_constants.c refuses a damaged string'
+    marks=$(repeated 65535 '\xEF\xBF\xBD')
+    diff <(echo "1 $marks") "$scratch/printed" >/dev/null ||
+        wrong 'class_constants.c prints a damaged string otherwise'
+    unset MALLOC_PERTURB_
+}
+
+# That class_constants.c refuses a file at this offset, and prints so many of its strings:
+# `refuses_class PROGRAM FILE OFFSET COUNT`.
+refuses_class() {
+    "$1" "$2" >"$scratch/printed" 2>"$scratch/said"
+    [[ $? == 1 && $(<"$scratch/said") == "$2: no class file, from offset $3 on" ]] ||
+        { cat "$scratch/said"; wrong "class_constants.c does not refuse a file at $3"; }
+    printf '1 caf\303\251\n20 \n21 \0\360\237\222\226\n' | head -n "$4" | cmp - "$scratch/printed" ||
+        wrong "class_constants.c prints other strings of a file that it refuses at $3"
+}
+
+# What cesu8_damage prints of its input, and its status: `damage WORD..`.
+damage() {
+    "$unpacked/bin/cesu8_damage" "$@"
+    echo $?
+}
+
+# That cesu8_damage ends with this status, and prints nothing but one line that says why:
+# `damage_fails STATUS LINE WORD..`.
+damage_fails() {
+    local wanted=$1 line=$2
+    shift 2
+    diff <(damage "$@" 2>"$scratch/said") <(echo "$wanted") || wrong "cesu8_damage ends otherwise for: $*"
+    diff "$scratch/said" <(echo "$line") || wrong "cesu8_damage says something else for: $*"
+}
+
+# Files with no damage, with some of each kind, and of more than one piece, so that the end of a piece cuts
+# a pair in each way, and a stretch.
+in_damaged_file() {
+    local pairs=$scratch/pairs file=$scratch/damaged front
+    printf 'ab\n\377c\n\n\355\240\275d\300\200\0e\342\202' >"$file"
+    diff <(damage cesu8 "$file") <(printf '%s\t%s\t%s\t%s\n' 3 2 1 ff 7 4 3 'ed a0 bd' 11 4 2 'c0 80' \
+        15 4 2 'e2 82' && echo 1) || wrong 'cesu8_damage finds other damage in CESU-8'
+    diff <(damage mutf8 <"$file") <(printf '%s\t%s\t%s\t%s\n' 3 2 1 ff 7 4 3 'ed a0 bd' 13 4 1 00 \
+        15 4 2 'e2 82' && echo 1) || wrong 'cesu8_damage finds other damage in MUTF-8'
     {
-        printf a
-        printf '\355\240\275\355\262\226%.0s' {1..30000}
+        printf 'a\n'
+        repeated 30000 '\xED\xA0\xBD\xED\xB2\x96'
     } >"$pairs"
-    diff <("$program" cesu8 <"$pairs"; "$program" mutf8 <"$pairs"; echo $?) <(echo 0) ||
-        wrong 'find_damage.c finds damage where there is none'
-    diff <({ cat "$pairs"; printf '\377b'; } | "$program" cesu8) <(echo 180001) ||
-        wrong 'find_damage.c does not find a damaged byte'
-    diff <(head -c -1 "$pairs" | "$program" cesu8; head -c 100000 "$pairs" | "$program" mutf8) \
-        <(printf '179995\n99997\n') || wrong 'find_damage.c does not find a cut pair'
-    diff <({ printf '\0'; cat "$pairs"; } | "$program" mutf8) <(echo 0) ||
-        wrong 'find_damage.c does not find a zero byte'
-    echo 'find_damage.c was built and run'
+    diff <(damage cesu8 <"$pairs"; damage mutf8 "$pairs"; damage cesu8 </dev/null) <(printf '0\n0\n0\n') ||
+        wrong 'cesu8_damage finds damage where there is none'
+    for front in '' a aa aaa aaaa aaaaa; do
+        diff <({ printf '%s' "$front" && tail -c +3 "$pairs"; } | damage mutf8) <(echo 0) ||
+            wrong "cesu8_damage finds damage behind ${#front} letters"
+    done
+    diff <(head -c -1 "$pairs" | damage cesu8; head -c 100000 "$pairs" | damage mutf8) \
+        <(printf '179996\t2\t5\ted a0 bd ed b2\n1\n99998\t2\t2\ted a0\n1\n') ||
+        wrong 'cesu8_damage does not find a cut pair'
+    { cat "$pairs" && filled 100000 '\xFF' && cat "$pairs"; } >"$file"
+    diff <(damage mutf8 "$file") \
+        <(printf '180002\t2\t100000\tff%s ..\n1\n' "$(repeated 15 ' ff')") ||
+        wrong 'cesu8_damage does not find a long stretch'
+    damage_fails 2 'usage: cesu8_damage cesu8|mutf8 [FILE]'
+    damage_fails 2 'usage: cesu8_damage cesu8|mutf8 [FILE]' utf8 "$file"
+    damage_fails 2 'usage: cesu8_damage cesu8|mutf8 [FILE]' cesu8 "$file" more
+    damage_fails 4 'cesu8_damage: none: No such file or directory' cesu8 none
+    damage_fails 4 "cesu8_damage: $scratch: Is a directory" cesu8 "$scratch"
+    damage_fails 4 'cesu8_damage: standard input: Bad file descriptor' cesu8 <&-
+    "$unpacked/bin/cesu8_damage" cesu8 "$file" >/dev/full 2>"$scratch/said"
+    [[ $? == 4 && $(<"$scratch/said") == 'cesu8_damage: standard output: No space left on device' ]] ||
+        wrong 'cesu8_damage does not tell that it can not write'
+    refuse_memory "$file"
+    limit_memory
+    echo 'cesu8_damage was run'
+}
+
+# Where each of its requests for memory is refused in turn, cesu8_damage says so, or does without:
+# `refuse_memory FILE`.
+refuse_memory() {
+    local refused status told=0
+    quietly cc -shared -fPIC -o "$scratch/requests.so" "$top/tests/requests.c" -ldl ||
+        { wrong 'tests/requests.c does not build'; return; }
+    for refused in 1 2 3 4 5; do
+        status=0
+        REFUSED=$refused LD_PRELOAD=$scratch/requests.so "$unpacked/bin/cesu8_damage" mutf8 "$1" \
+            >"$scratch/printed" 2>"$scratch/said" 9>/dev/null || status=$?
+        case $status in
+            1) damage mutf8 "$1" | head -n -1 | cmp - "$scratch/printed" || wrong 'cesu8_damage loses a line' ;;
+            3)
+                told=1
+                diff <(echo "cesu8_damage: $1: Cannot allocate memory") "$scratch/said" ||
+                    wrong 'cesu8_damage says something else of memory'
+                ;;
+            *) wrong "cesu8_damage ends with status $status where memory is refused" ;;
+        esac
+    done
+    ((told)) || wrong 'cesu8_damage has no status for memory'
+}
+
+# A file of 100 MB in little memory, and in a time that a second look at the bytes of a piece would pass.
+limit_memory() {
+    local seconds=$SECONDS
+    filled 50000000 '\xFF' >"$scratch/long"
+    filled 50000000 'a' >>"$scratch/long"
+    diff <(ulimit -v 8000 && damage cesu8 "$scratch/long") \
+        <(printf '0\t1\t50000000\tff%s ..\n1\n' "$(repeated 15 ' ff')") ||
+        wrong 'cesu8_damage does not find a stretch in a large file'
+    ((SECONDS - seconds < 60)) || wrong 'cesu8_damage takes long for a large file'
+    rm "$scratch/long"
 }
 
 # The strings of a file, as writeUTF writes them: those of the class file above, the longest one, and
@@ -129,6 +246,80 @@ in_java_file() {
     echo 'java_strings.sh was run'
 }
 
+# The strings of a file to code units, which java_units.c keeps where a surrogate has no partner: the two
+# halves of a pair apart, the pair, the wrong way round, and before a pair. Then those of the JDK's own
+# class files, as `readUTF` reads them.
+in_java_units() {
+    local program=$scratch/java_units strings=$scratch/strings_of_units count
+    quietly cc -std=c99 -O2 -Wall -Wextra -Wconversion -pedantic -Werror -I "$unpacked/include" \
+        -o "$program" "$unpacked/examples/java_units.c" "$unpacked/lib/libcesu8.a" ||
+        { wrong 'java_units.c does not build'; return; }
+    {
+        printf '\0\4a\355\240\275\0\0\0\7\355\262\226\303\251\300\200'
+        printf '\0\6\355\240\275\355\262\226\0\6\355\262\226\355\240\275'
+        printf '\0\14\355\240\275\355\240\275\355\262\226\342\202\254'
+    } >"$strings"
+    diff <("$program" "$strings"; echo $?) \
+        <(printf '%s\n' '0061 D83D' '' 'DC96 00E9 0000' 'D83D DC96' 'DC96 D83D' 'D83D D83D DC96 20AC' 0) ||
+        wrong 'java_units.c prints other code units'
+    refuses_units '\0' 'input is truncated'
+    refuses_units '\0\4abc' 'input is truncated'
+    for damage in '\0\1\377' '\0\3a\355\240' '\0\1\0' '\0\2\301\201' '\0\3\340\201\201' \
+        '\0\4\360\237\222\226' '\0\3\355\240a' '\0\3\355\300\200'; do
+        refuses_units "$damage" 'invalid input'
+    done
+    if ! can_build 'java_units.c with the strings of a JDK' java -version; then return; fi
+    mkdir "$scratch/jdk" || exit 2
+    count=$(cd "$scratch/jdk" && java "$top/tests/peers/Constants.java" 2>"$scratch/said") ||
+        { cat "$scratch/said"; echo 'java runs no source: java_units.c with the strings of a JDK skipped'; return; }
+    ((${count% *} > 100000)) || wrong "the JDK has few strings: $count"
+    "$program" "$scratch/jdk/strings" | cmp - "$scratch/jdk/units" ||
+        wrong 'java_units.c reads the strings of the JDK otherwise'
+    echo "java_units.c read the ${count% *} strings of the JDK, ${count#* } with a surrogate alone"
+    rm -r "$scratch/jdk"
+}
+
+# That java_units.c refuses what is behind the strings of in_java_units: `refuses_units BYTES WHY`.
+refuses_units() {
+    { cat "$scratch/strings_of_units"; printf '%b' "${1//\\/\\0}"; } >"$scratch/damaged"
+    "$scratch/java_units" "$scratch/damaged" >"$scratch/printed" 2>"$scratch/said"
+    [[ $? == 1 && $(<"$scratch/said") == "$scratch/damaged: $2" ]] || wrong "java_units.c takes $1"
+    (($(wc -l <"$scratch/printed") == 6)) || wrong "java_units.c prints other strings before $1"
+}
+
+# That `man` reads a page without a warning, whose text is kept in $scratch/shown_page: `reads_page PAGE`.
+reads_page() {
+    (export LC_ALL=C.UTF-8 MANROFFSEQ='' MANWIDTH=200 && cd "$unpacked/share/man" &&
+        man --warnings -E UTF-8 -l "$1") >"$scratch/printed" 2>"$scratch/said" </dev/null ||
+        wrong "man does not read $1"
+    [[ ! -s $scratch/said ]] || { cat "$scratch/said"; wrong "man warns of $1"; }
+    sed 's/^ *//; s/\x1b\[[0-9;]*m//g; s/.\x08//g' "$scratch/printed" >"$scratch/shown_page"
+}
+
+# The man page of the calls names each and shows its declaration, and each has a page that leads to it.
+look_at_call_pages() {
+    local folder=$unpacked/share/man/man3 call
+    { exports; plain_calls; } | sed 's/^/cesu8_/' | sort >"$scratch/calls"
+    diff <(sed 's/$/.3/' "$scratch/calls") <(cd "$folder" && printf '%s\n' cesu8_* | sort) ||
+        wrong 'there are man pages of other calls'
+    diff <({ echo cesu8 && cat "$scratch/calls"; }) \
+        <(sed -n '/^\.SH NAME/{n;s/ .-.*//;s/, /\n/g;p;}' "$folder/cesu8.3" | sort) ||
+        wrong 'the man page of the calls names others'
+    grep -q "^\.TH CESU8 3 [0-9-]* \"cesu8 ${version//./\\.}\"" "$folder/cesu8.3" ||
+        wrong 'the man page of the calls has another version'
+    for call in "$folder"/cesu8_*; do
+        [[ $(<"$call") == '.so man3/cesu8.3' ]] || wrong "$call leads elsewhere"
+    done
+    if can_build 'the man pages of the calls' man --version; then
+        reads_page man3/cesu8_encode.3
+        while read -r call; do
+            grep -qE "^[a-z].*[ *]$call\(" "$scratch/shown_page" || wrong "man shows no $call"
+        done <"$scratch/calls"
+        grep -q 'U+FFFD for each byte that is in none' "$scratch/shown_page" ||
+            wrong 'man does not show what the header says'
+    fi
+}
+
 # The man page and the completion have the commands of the page PROGRAM.
 look_at_words() {
     local page=$unpacked/share/man/man1/cesu8_cli.1 words
@@ -148,12 +339,11 @@ look_at_words() {
             wrong "the completion has other flavors for $words"
     done <"$scratch/commands"
     [[ -z $(complete_words 3 cesu8_cli encode cesu8 '') ]] || wrong 'the completion has a third word'
-    if can_build 'the man page' man --version; then
-        (export LC_ALL=C.UTF-8 MANROFFSEQ='' MANWIDTH=200 && man --warnings -E UTF-8 -l "$page") \
-            >"$scratch/printed" 2>"$scratch/said" </dev/null || wrong 'man does not read the man page'
-        [[ ! -s $scratch/said ]] || { cat "$scratch/said"; wrong 'man warns of the man page'; }
-        sed 's/^ *//; s/\x1b\[[0-9;]*m//g; s/.\x08//g' "$scratch/printed" >"$scratch/shown_page"
-        shown_lines "$scratch/shown_page"
+    if can_build 'the man pages of the programs' man --version; then
+        for words in cesu8_cli cesu8_damage; do
+            reads_page "man1/$words.1"
+            shown_lines "$scratch/shown_page"
+        done
     fi
 }
 
