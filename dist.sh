@@ -120,7 +120,7 @@ page() {
             return sentence
         }
         /^```/ { is_code = !is_code }
-        sub(/^program=crates\/.*/, "program=cesu8_cli      # in the unpacked archive: program=bin/cesu8_cli")
+        { sub(/^program=crates\/.*/, "program=cesu8_cli      # in the unpacked archive: program=bin/cesu8_cli") }
         is_code || /^(    .*)?$/ { print; next }
         {
             rest = $0

@@ -57,7 +57,8 @@ shown_in_program_page() {
     printf '\355\240\275\355\262\226\n\0\n' >"$folder/dump"
     # shellcheck disable=SC2016
     sed -n '/^```sh$/,/^```$/{/^```/d;p;}' "$unpacked/PROGRAM.md" >"$folder/script"
-    grep -qx 'program=cesu8_cli  *# in the unpacked archive: program=bin/cesu8_cli' "$folder/script" ||
+    diff <(grep '^program=' "$folder/script" | tr -s ' ') \
+        <(echo 'program=cesu8_cli # in the unpacked archive: program=bin/cesu8_cli') ||
         wrong 'PROGRAM.md sets another program'
     (cd "$folder" && PATH=$unpacked/bin:$PATH bash ./script) 2>&1 | sed 's/^ //' >"$folder/printed"
     sed -nE '/^(printf|tail|\)) /s/.*  # //p' "$folder/script" | sed 's/, and /\n/' |
