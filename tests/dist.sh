@@ -40,6 +40,8 @@ source "$top/tests/callers.sh" || exit 2
 source "$top/tests/installed.sh" || exit 2
 # shellcheck source=tests/shown.sh
 source "$top/tests/shown.sh" || exit 2
+# shellcheck source=tests/run_examples.sh
+source "$top/tests/run_examples.sh" || exit 2
 
 # The tree with what is proved here, as a repository with one commit: `copy_tree FOLDER`.
 copy_tree() {
