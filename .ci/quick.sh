@@ -105,11 +105,13 @@ is_kept() {
 announce() {
     local seconds=0 again=() new=() crate lines tests lanes=$((processors < 3 ? processors : 3))
     for crate in "${needed[@]}"; do
-        if [[ ! -d crates/$crate/out/incremental ]]; then
+        if is_kept "$crate"; then
+            continue
+        elif [[ ! -d crates/$crate/out/incremental ]]; then
             new+=("$crate")
             lines=$(find "crates/$crate/src" -name '*.rt' -exec cat {} + | wc -l)
             seconds=$((seconds + 20 + lines / 5))
-        elif ! is_kept "$crate"; then
+        else
             again+=("$crate")
             seconds=$((seconds + 30))
         fi
