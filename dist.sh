@@ -1,7 +1,7 @@
 #!/usr/bin/env bash
 # Builds the release, for users without the kit:
 #   dist.sh FOLDER
-# FOLDER gets cesu8-VERSION-x86_64-linux.tar.gz, with the library for C and the program, and
+# FOLDER gets cesu8-VERSION-x86_64-linux.tar.gz, with the library for C and the programs, and
 # SHA256SUMS, with the sum of each file that is made. It first proves what is not yet proved. Two runs
 # on one commit give the same bytes, with the same kit and C compiler: names are sorted, times are the
 # commit's, and owners are 0. BUILT-FROM in the archive says what it was built from and what it needs.
@@ -10,7 +10,7 @@
 # header are there, as python3-dev of Debian has them, it gets the wheel, by python/wheel.py.
 #
 # Where the tools are there that tests/cross.sh names, FOLDER gets the same for aarch64, without the
-# program, since the kit has its parts in C for x86-64 alone.
+# programs, since the kit has the parts in C of cesu8_cli for x86-64 alone.
 #
 # It needs the kit's `rt`, git, a C compiler `cc` with GNU ld 2.36 or later, ar, ld, nm, objcopy,
 # objdump, strip, GNU tar, gzip, bash, awk, grep, sed and the core utilities.
@@ -19,8 +19,13 @@ unset CDPATH
 export LC_ALL=C
 umask 022
 
-if (($# != 1)); then
-    echo 'usage: dist.sh FOLDER' >&2
+usage='usage: dist.sh FOLDER'
+if [[ $* == --help ]]; then
+    echo "$usage"
+    exit
+fi
+if (($# != 1)) || [[ -z $1 || $1 == -* ]]; then
+    echo "$usage" >&2
     exit 2
 fi
 for tool in rt git cc ar ld nm objcopy objdump strip tar gzip; do
@@ -65,7 +70,7 @@ source "$top/tests/python_header.sh"
 source "$top/tests/cross.sh"
 
 # Puts a file into the release, with the version and the commit's day in place of their names:
-# `fill FILE TO`. `program_lines` tells what becomes of lines about the program, and `others` are processors
+# `fill FILE TO`. `program_lines` tells what becomes of lines about the programs, and `others` are processors
 # that the library is not for.
 program_lines='/^@PROGRAM@$/d; /^@END@$/d'
 others='aarch64|arm64|ARM64'
@@ -89,12 +94,30 @@ link_shared() {
     ln -s "libcesu8.so.$major" "$folder/libcesu8.so"
 }
 
+# The program that tells where a file is damaged, in C over the static library.
+build_damage() {
+    cc -std=c99 -O2 -Wall -Wextra -Werror -I "$release/include" -o "$release/bin/cesu8_damage" \
+        "$crate/examples/cesu8_damage.c" "$release/lib/libcesu8.a" \
+        -Wl,--gc-sections,-z,relro,-z,now,-z,noexecstack,-z,x86-64-v2
+}
+
+# The man page of the calls, which the header's comments make, and for each call one that leads to it.
+write_call_pages() {
+    local call folder=$release/share/man/man3
+    mkdir -p "$folder"
+    awk -v version="$version" -v day="$day" -f "$crate/package/cesu8.3.awk" "$crate/include/cesu8.h" \
+        >"$folder/cesu8.3"
+    while read -r call; do
+        echo '.so man3/cesu8.3' >"$folder/$call.3"
+    done < <(sed -n 's/^    \(cesu8_[a-z0-9_]*\);$/\1/p' "$crate/package/cesu8.map")
+}
+
 # The pages of the repository that the release has, and what is in it of the names that they link to.
 pages=(docs/C.md docs/PROGRAM.md CHANGELOG.md SECURITY.md)
 there=" README.md cesu8.h ${pages[*]##*/} "
 
-# A page, without each sentence with a link to what is not in the release. Another link becomes its text:
-# `page FILE`.
+# A page, without each sentence with a link to what is not in the release. Another link becomes its text,
+# and the path of the program is that of an installed one: `page FILE`.
 page() {
     awk -v there="$there" '
         # A sentence with the text of its links, or nothing.
@@ -112,6 +135,7 @@ page() {
             return sentence
         }
         /^```/ { is_code = !is_code }
+        { sub(/^program=crates\/.*/, "program=cesu8_cli      # in the unpacked archive: program=bin/cesu8_cli") }
         is_code || /^(    .*)?$/ { print; next }
         {
             rest = $0
@@ -165,7 +189,7 @@ pack() {
         gzip -n -9 >"$folder/$name.tar.gz"
 }
 
-# The release for aarch64 has what that for x86-64 has, with another library and without the program.
+# The release for aarch64 has what that for x86-64 has, with another library and without the programs.
 make_cross() {
     local release=$scratch/$cross_name name=$cross_name others='x86_64|amd64|AMD64'
     local program_lines='/^@PROGRAM@$/,/^@END@$/d'
@@ -199,13 +223,16 @@ sh "$crate/archive.sh" "$release/lib/libcesu8.a"
 strip -D --strip-unneeded "$release/lib/libcesu8.a"
 # The loader refuses it on a processor before x86-64-v2.
 link_shared "$release/lib" cc -Wl,-z,x86-64-v2
-strip -D --strip-unneeded "$release/bin/cesu8_cli" "$release/lib/libcesu8.so.$major"
 cp "$crate/include/cesu8.h" "$release/include"
+build_damage
+strip -D --strip-unneeded "$release/bin"/* "$release/lib/libcesu8.so.$major"
 cp "$crate/examples/"*.c "$crate/examples/"*.rs "$crate/examples/"*.sh "$release/examples"
 fill cesu8.pc lib/pkgconfig/cesu8.pc
 fill cesu8-config.cmake lib/cmake/cesu8/cesu8-config.cmake
 fill cesu8-config-version.cmake lib/cmake/cesu8/cesu8-config-version.cmake
 fill cesu8_cli.1 share/man/man1/cesu8_cli.1
+fill cesu8_damage.1 share/man/man1/cesu8_damage.1
+write_call_pages
 fill cesu8_cli.bash share/bash-completion/completions/cesu8_cli
 fill install.sh install.sh
 fill uninstall.sh uninstall.sh
@@ -225,7 +252,7 @@ cp "$kit/rattle/simdutf8/LICENSE" "$release/LICENSE-simdutf8"
 } >"$release/BUILT-FROM"
 
 find "$release" -type f -exec chmod 644 {} +
-chmod 755 "$release/bin/cesu8_cli" "$release/"*install.sh "$release/examples/"*.sh
+chmod 755 "$release/bin"/* "$release/"*install.sh "$release/examples/"*.sh
 pack
 
 # Makes more of the release, where the tool for it is there, by a script that prints what it has made:

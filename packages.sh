@@ -3,7 +3,7 @@
 #   SOURCE_DATE_EPOCH=SECONDS packages.sh RELEASE FOLDER
 # RELEASE is the folder that the archive of dist.sh holds, and its install.sh places the files. FOLDER
 # gets libcesu8-1, by the first number of the version, with the shared object; libcesu8-dev with what a
-# build needs; and cesu8-tools with the program, where RELEASE has it. The names of all are printed. They
+# build needs; and cesu8-tools with the programs, where RELEASE has them. The names of all are printed. They
 # are for amd64 or arm64, as the shared object is.
 #
 # The maintainer is DEBFULLNAME with DEBEMAIL, or the author of the last commit. Two runs give the same
@@ -68,7 +68,7 @@ take_pages() {
     done
 }
 
-has_program() {
+has_programs() {
     [[ -d $release/bin ]]
 }
 
@@ -77,9 +77,9 @@ split() {
     mkdir "$all"
     DESTDIR=$all sh "$release/install.sh" /usr "lib/$triplet" >/dev/null
     take "$library" "$libdir/libcesu8.so.$major"
-    take libcesu8-dev "$libdir"/{libcesu8.a,libcesu8.so,pkgconfig,cmake} usr/include
+    take libcesu8-dev "$libdir"/{libcesu8.a,libcesu8.so,pkgconfig,cmake} usr/include usr/share/man/man3
     take_pages libcesu8-dev C.md examples
-    if has_program; then
+    if has_programs; then
         take cesu8-tools usr/bin usr/share/man usr/share/bash-completion
         take_pages cesu8-tools PROGRAM.md
     fi
@@ -117,16 +117,16 @@ add_common() {
     cp "$from/BUILT-FROM" "$from/SECURITY.md" "$target"
 }
 
-# What a program or shared object needs, as Debian has it: `depends FILE`.
+# What programs or a shared object need, as Debian has it: `depends FILE..`.
 depends() {
     local needed
     while read -r needed; do
         case $needed in
             libc.so.6 | libm.so.6 | ld-linux-x86-64.so.2 | ld-linux-aarch64.so.1) ;;
-            *) fail "$1 needs $needed, and no package is known that has it" ;;
+            *) fail "$* needs $needed, and no package is known that has it" ;;
         esac
-    done < <(objdump -p "$1" | awk '$1 == "NEEDED" { print $2 }')
-    echo "libc6 (>= $(objdump -T "$1" | grep -o 'GLIBC_[0-9][0-9.]*' | sed 's/^GLIBC_//' |
+    done < <(objdump -p "$@" | awk '$1 == "NEEDED" { print $2 }')
+    echo "libc6 (>= $(objdump -T "$@" | grep -o 'GLIBC_[0-9][0-9.]*' | sed 's/^GLIBC_//' |
         sort -Vu | tail -n 1))"
 }
 
@@ -139,15 +139,15 @@ symbols() {
         sed -n 's/^\(.*@CESU8_\([0-9.]*\)\)$/ \1 \2.0/p'
 }
 
-# Builds one package: `pack TEMPLATE PACKAGE [FILE]`. FILE is the one in it that needs others.
+# Builds one package: `pack TEMPLATE PACKAGE [FILE..]`. The FILEs in it need others.
 pack() {
-    local tree=$scratch/$2 control=$scratch/$2/DEBIAN size
+    local tree=$scratch/$2 control=$scratch/$2/DEBIAN size files=("${@:3}")
     add_common "$2"
     size=$(cd "$tree" && find . -mindepth 1 -printf '%y %s\n' |
         awk '{ sum += $1 == "f" ? int(($2 + 1023) / 1024) : 1 } END { print sum }')
     mkdir -p "$control"
     sed -e "s/@MAJOR@/$major/; s/@VERSION@/$version/; s/@SIZE@/$size/; s/@ARCHITECTURE@/$architecture/" \
-        -e "s/@DEPENDS@/${3:+$(depends "$tree/$3")}/" \
+        -e "s/@DEPENDS@/${3:+$(depends "${files[@]/#/$tree/}")}/" \
         -e "s/@MAINTAINER@/$(sed 's/[\/&]/\\&/g' <<<"$maintainer")/" \
         "$templates/$1.control" >"$control/control"
     (cd "$tree" && find . -path ./DEBIAN -prune -o -type f -printf '%P\n' | sort |
@@ -158,13 +158,13 @@ pack() {
 }
 
 split
+gzip -9n "$scratch"/*/usr/share/man/man?/*
 mkdir "$scratch/$library/DEBIAN"
 symbols >"$scratch/$library/DEBIAN/symbols"
 echo "libcesu8 $major $library (>= $version)" >"$scratch/$library/DEBIAN/shlibs"
 echo 'activate-noawait ldconfig' >"$scratch/$library/DEBIAN/triggers"
 pack libcesu8 "$library" "$libdir/libcesu8.so.$major"
 pack libcesu8-dev libcesu8-dev
-if has_program; then
-    gzip -9n "$scratch/cesu8-tools/usr/share/man/man1/cesu8_cli.1"
-    pack cesu8-tools cesu8-tools usr/bin/cesu8_cli
+if has_programs; then
+    pack cesu8-tools cesu8-tools usr/bin/cesu8_cli usr/bin/cesu8_damage
 fi

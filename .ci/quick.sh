@@ -8,6 +8,9 @@
 # - the edits of files that differ are tried. All of these crates can be applied;
 # - where the program is among what is proved, it is linked, and cli.sh and requests.sh run.
 #
+# What it has proved of crates of which this clone had nothing, as `uses` or tests, it leaves in their `out`
+# folders, for the next look.
+#
 # It works in two copies of the tree: `tests` has all but the proofs, and `scripts`, which the edits begin
 # with, has the crates that are proved and what was kept of them. The first crate that has not its form, or
 # is not proved, ends it.
@@ -102,11 +105,13 @@ is_kept() {
 announce() {
     local seconds=0 again=() new=() crate lines tests lanes=$((processors < 3 ? processors : 3))
     for crate in "${needed[@]}"; do
-        if [[ ! -d crates/$crate/out/incremental ]]; then
+        if is_kept "$crate"; then
+            continue
+        elif [[ ! -d crates/$crate/out/incremental ]]; then
             new+=("$crate")
             lines=$(find "crates/$crate/src" -name '*.rt' -exec cat {} + | wc -l)
             seconds=$((seconds + 20 + lines / 5))
-        elif ! is_kept "$crate"; then
+        else
             again+=("$crate")
             seconds=$((seconds + 30))
         fi
@@ -192,6 +197,18 @@ prove_crate() {
     done
 }
 
+# Keeps in this clone what was proved of crates of which it had nothing. The folder appears at once, since
+# `rt` may look there.
+keep_proofs() {
+    local crate out
+    for crate in "${needed[@]}"; do
+        out=crates/$crate/out
+        [[ ! -e $out && -d $scratch/scripts/$out ]] || continue
+        rm -rf "$out.new"
+        cp -r "$scratch/scripts/$out" "$out.new" && mv -T "$out.new" "$out"
+    done
+}
+
 # Links the program, and compares what it writes with the file beside its sources.
 link_program() {
     local -a words
@@ -255,6 +272,7 @@ run_quick() {
     start_tries try_edits_and_tests
     for crate in "${differing[@]}"; do run_or_end "$crate: proof" prove_crate "$crate"; done
     ((${#above[@]} == 0)) || run_or_end 'proofs above' run_in scripts rt all check --jobs "$processors"
+    keep_proofs
     if is_needed cesu8_cli; then
         run_or_end 'cesu8_cli: link' run_in scripts/crates/cesu8_cli link_program
         export PROVED_PROGRAM=$scratch/scripts/crates/cesu8_cli/out/cesu8_cli

@@ -1,8 +1,16 @@
 #!/bin/sh
-# Proves and builds the static library, builds the driver and runs it:
-#   bench/run.sh [--cpu LEVEL] [--against LEVEL].. [--tables FILE] [the driver's arguments]
-# README.md says more. It needs the kit's rt, rustc and, for --against, cc.
+# Proves and builds the static library, builds the driver and runs it, as the usage below says. README.md
+# says more. Other words are refused with status 2, before anything is built. It needs the kit's rt, rustc
+# and, for --against, cc.
 set -eu
+
+usage() {
+    cat >&2 <<'USAGE'
+usage: bench/run.sh [--cpu LEVEL] [--against LEVEL].. [--rounds N] [--runs N] [--tables FILE]
+    [--picture FILE] [NAME=FILE ..]
+USAGE
+    exit 2
+}
 
 bench=$(cd "$(dirname "$0")" && pwd)
 # shellcheck source=tests/kit.sh
@@ -21,17 +29,21 @@ while [ "$left" -gt 0 ]; do
     shift
     left=$((left - 1))
     case $word in
-        --cpu | --against | --tables)
-            [ "$left" -gt 0 ] || { echo "$word needs a value" >&2; exit 2; }
-            case $word in
-                --cpu) cpu=$1 ;;
-                --against) against="$against $1" ;;
-                --tables) tables=$1 ;;
-            esac
+        --cpu | --against | --tables | --rounds | --runs | --picture)
+            [ "$left" -gt 0 ] || usage
+            value=$1
             shift
             left=$((left - 1))
+            case $word in
+                --cpu) cpu=$value ;;
+                --against) against="$against $value" ;;
+                --tables) tables=$value ;;
+                *) set -- "$@" "$word" "$value" ;;
+            esac
             ;;
-        *) set -- "$@" "$word" ;;
+        -*) usage ;;
+        *=*) set -- "$@" "$word" ;;
+        *) usage ;;
     esac
 done
 

@@ -21,8 +21,10 @@ source "$top/tests/c_library.sh" || exit 2
 source "$top/tests/callers.sh" || exit 2
 # shellcheck source=tests/shown.sh
 source "$top/tests/shown.sh" || exit 2
+# shellcheck source=tests/run_examples.sh
+source "$top/tests/run_examples.sh" || exit 2
 
-# The release for aarch64 has the files of that for x86-64 but for the program and its pages, and they are
+# The release for aarch64 has the files of that for x86-64 but for the programs and their pages, and they are
 # the same but for the library and two that name what it is for.
 look_at_files() {
     local file others='^lib/libcesu8\.(a|so\..*)$|^README.md$|/cesu8-config-version.cmake$'
@@ -35,8 +37,8 @@ look_at_files() {
     done < <(cd "$unpacked" && find . -type f -printf '%P\n' | grep -vE "$others")
     grep -rlF -e "$scratch/" -e "$top/" "$unpacked" && wrong 'these name a folder of this machine'
     grep -rlI '@[A-Z][A-Z]*@' "$unpacked" && wrong 'these are not filled in'
-    grep -nI 'cesu8_cli' "$unpacked"/{C,README,SECURITY}.md &&
-        wrong 'these are about the program'
+    grep -nIE 'cesu8_cli|bin/cesu8_damage' "$unpacked"/{C,README,SECURITY}.md &&
+        wrong 'these are about the programs'
 }
 
 # The names of the archive, and what it asks for, which is not what the processor has.
@@ -49,6 +51,8 @@ look_at_archive() {
         grep -vxE 'mem(cpy|move|set|cmp)|cesu8_.*_v8')
     [[ -z $asked ]] || wrong "the archive asks for other names: $asked"
     cross readelf -SW "$archive" 2>/dev/null | grep -F ' .debug' && wrong 'the archive is not stripped'
+    cross readelf -SW "$archive" 2>/dev/null | grep -F ' .text.' | grep -v ' 32$' &&
+        wrong 'these functions of the archive begin elsewhere than at multiples of 32 bytes'
 }
 
 look_at_shared() {
@@ -56,6 +60,8 @@ look_at_shared() {
     diff <(mapped | sed 's/^/T /' | sort) \
         <(cross nm -D --defined-only "$file" | awk '$2 != "A" { print $2, $3 }' | sort) ||
         wrong 'the shared object shows other names than the version map'
+    cross nm -D --defined-only "$file" | grep -E '([13579bdf]0|[^0]) T ' &&
+        wrong 'these functions of the shared object begin elsewhere than at multiples of 32 bytes'
     dynamic=$(cross readelf -dW "$file")
     grep -q "SONAME.*\[libcesu8.so.$major\]" <<<"$dynamic" || wrong 'the shared object has another name'
     grep -q 'FLAGS.*BIND_NOW' <<<"$dynamic" || wrong 'the shared object binds its names late'
@@ -139,6 +145,12 @@ if can_build_cpp 'the file of C++ for aarch64'; then
 fi
 shown_in_page
 in_class_file
-in_large_file
+if compile -std=c99 -O2 -Wall -Wextra -Werror -I "$unpacked/include" -o "$scratch/cesu8_damage" \
+    "$unpacked/examples/cesu8_damage.c" "$unpacked/lib/libcesu8.a"; then
+    in_damaged_file "$scratch/cesu8_damage"
+else
+    wrong 'cesu8_damage.c does not build'
+fi
+in_java_units
 compare_answers
 ((failed == 0))

@@ -4,7 +4,8 @@
 #   tests/clauses.sh --write    writes tests/clauses.txt again from the sources
 # These have to hold:
 # - docs/PROVED.md names each public clause, and none that is not in the sources;
-# - each clause and law that README.md names is in the sources;
+# - each clause and law that README.md names is in the sources, and each function that a page has `rt check`
+#   look at;
 # - a public function has an `ensures` and no `requires`;
 # - what is there twice, for each encoding or kernel, is the same;
 # - tests/clauses.txt has each public clause, signature and type, and the definitions that they
@@ -158,6 +159,7 @@ told() {
 texts() {
     local files
     echo '# What the public contracts say, a line each, and then the definitions that they cite.'
+    echo '# Of a definition the head, each equation, each field and each constructor has a line.'
     echo '# Written by tests/clauses.sh --write; docs/PROVED.md has the same in words.'
     awk -F '\t' '$3 !~ /^!(none|unread)$/ { print $1 " " $2 ": " $4 }' "$scratch/items"
     awk -F '\t' '$3 !~ /^!(fn|item)$/ { print $4 }' "$scratch/items" >"$scratch/cited"
@@ -209,6 +211,21 @@ readme() {
         none 'named in README.md, and no law'
 }
 
+# The functions that pages hand to `rt check`, as CRATE::MODULE::FUNCTION, are in the file of the module.
+checked() {
+    local name path
+    grep -ohE 'rt check --(only|start) [a-z0-9_]+(::[a-z0-9_]+)+' README.md docs/*.md bench/README.md |
+        sed 's/.* //' | sort -u >"$scratch/checked"
+    [[ -s $scratch/checked ]] || echo 'no function for rt check' | none 'not on a page'
+    while read -r name; do
+        path=${name%::*}
+        [[ $path == *::* ]] || path+=::lib
+        path=crates/${path%%::*}/src/${path#*::}
+        grep -qsE "^( *pub(\([a-z]+\))?)? *fn ${name##*::}[<(]" "${path//:://}.rt" ||
+            echo "$name" | none 'on a page for rt check, and not in the sources'
+    done <"$scratch/checked"
+}
+
 sources
 texts >"$scratch/clauses.txt"
 if [[ ${1-} == --write ]]; then
@@ -220,6 +237,7 @@ fi
 rules
 page
 readme
+checked
 diff tests/clauses.txt "$scratch/clauses.txt" | grep '^[<>]' |
     none 'tests/clauses.txt (<) is not what the sources say (>)'
 cmp -s tests/clauses.txt "$scratch/clauses.txt" ||

@@ -370,8 +370,8 @@ large_dump() {
     local in_parts pair='\xED\xA0\xBD\xED\xB2\x96'
     in_parts=$(grep '^split -C ' "$top/docs/PROGRAM.md")
     [[ $in_parts == *' dump >text' ]] || { wrong 'PROGRAM.md shows no run in parts'; return; }
-    repeated 1200000 "a$pair$pair\xC0\x80$pair\n" >"$scratch/dump"
-    repeated 1200000 'a\xF0\x9F\x92\x96\xF0\x9F\x92\x96\x00\xF0\x9F\x92\x96\n' >"$scratch/wanted"
+    repeated 1200000 "a$pair$pair\xC8\x85$pair\n" >"$scratch/dump"
+    repeated 1200000 'a\xF0\x9F\x92\x96\xF0\x9F\x92\x96\xC8\x85\xF0\x9F\x92\x96\n' >"$scratch/wanted"
     run_in_parts
     expect_run 'a dump in parts' 0 '' "$scratch/wanted"
     { printf a && repeated 2800000 "$pair"; } >"$scratch/dump"

@@ -1,5 +1,5 @@
-# The definitions that clauses cite, and those that these cite, a line each: the file and the whole
-# text, with ` | ` where a line of its own begins:
+# The definitions that clauses cite, and those that these cite: a line for each head, equation, field and
+# constructor, with the file, and two spaces before all but the head:
 #   awk -f definitions.awk TEXTS FILE.rt... FILE.antt...
 # TEXTS has the clauses; the names in them are those that the .rt files import. Each .antt file is a
 # module of definitions, and specs/Lib.antt of a crate says which modules of others it hands on.
@@ -45,7 +45,7 @@ FILENAME ~ /\.rt$/ { next }
     next
 }
 {
-    text[count] = text[count] (/^   / ? " " : " | ") substr($0, match($0, /[^ ]/))
+    text[count] = text[count] (/^   / ? " " : "\n  ") substr($0, match($0, /[^ ]/))
     if (/^  [A-Z]/) defines(substr($0, 3))
 }
 
@@ -133,6 +133,7 @@ END {
     }
     for (i = 1; i <= count; i++) {
         if (!is_reached[i]) continue
+        gsub(/\n/, "\n" file[i] "\t", text[i])
         print file[i] "\t" text[i]
         is_used[file[i]]
     }

@@ -5,18 +5,18 @@
 # - keys.c is built by pkg-config and by CMake, with the archive and with the shared object, where the
 #   release is unpacked, and where install.sh put it in lib, lib64 and lib/x86_64-linux-gnu and below
 #   DESTDIR;
-# - the other examples, what the README shows, a file of C++ and a call from Python are run.
+# - the other examples, cesu8_damage, what the pages show, a file of C++ and a call from Python are run.
 #
 # Of the release for aarch64 it looks at the pages here; tests/aarch64.sh uses it.
 #
 # It also checks that two builds, in folders of different names, give the same bytes of every file;
 # that the sums are right; which files there are, and that the pages name no other; what the archive
-# and the shared object show and how this is marked; what install.sh refuses and prints, and that
-# uninstall.sh leaves nothing of it; that the man page and the completion know the commands; and that no
-# file names a folder of this machine. It builds from a
+# and the shared object show and how this is marked; that a program has of the archive only what it calls;
+# what install.sh refuses and prints, and that uninstall.sh leaves nothing of it; that the man pages and the
+# completion know the commands and the calls; and that no file names a folder of this machine. It builds from a
 # commit of a copy of the tree, over what is proved here. In a clean clone that takes minutes.
 #
-# If pkg-config, CMake, c++, rustc, python3 or man is missing, it says what it skipped. If a tool that
+# If pkg-config, CMake, c++, rustc, python3, man or java is missing, it says what it skipped. If a tool that
 # dist.sh needs is missing, it skips everything. The status is 0 if nothing is wrong. It needs the
 # kit's `rt`, bash, awk, grep, sed, readelf and the core utilities.
 unset "${!GIT_@}"
@@ -42,6 +42,8 @@ source "$top/tests/callers.sh" || exit 2
 source "$top/tests/installed.sh" || exit 2
 # shellcheck source=tests/shown.sh
 source "$top/tests/shown.sh" || exit 2
+# shellcheck source=tests/run_examples.sh
+source "$top/tests/run_examples.sh" || exit 2
 
 # The tree with what is proved here, as a repository with one commit: `copy_tree FOLDER`.
 copy_tree() {
@@ -90,6 +92,17 @@ build_twice() {
         wrong 'SHA256SUMS has other files than there are'
 }
 
+# What dist.sh says of how it is called.
+look_at_usage() {
+    local word
+    [[ $(bash "$scratch/a_tree_of_another_name/dist.sh" --help) == 'usage: dist.sh FOLDER' ]] ||
+        wrong 'dist.sh does not say how it is called'
+    for word in '' -x --version; do
+        [[ $(bash "$scratch/a_tree_of_another_name/dist.sh" "$word" 2>&1; echo $?) == \
+            'usage: dist.sh FOLDER'$'\n2' ]] || wrong "dist.sh takes: $word"
+    done
+}
+
 # The path without the folders in which the kit is.
 path_without_kit() {
     local folder path=''
@@ -101,14 +114,16 @@ path_without_kit() {
 
 look_at_files() {
     local wanted=(BUILT-FROM C.md CHANGELOG.md LICENSE-APACHE LICENSE-MIT
-        LICENSE-simdutf8 PROGRAM.md README.md SECURITY.md bin/cesu8_cli
-        examples/class_constants.c examples/find_damage.c examples/java_strings.sh
-        examples/keys.c examples/keys.rs
+        LICENSE-simdutf8 PROGRAM.md README.md SECURITY.md bin/cesu8_cli bin/cesu8_damage
+        examples/cesu8_damage.c examples/class_constants.c examples/java_strings.sh
+        examples/java_units.c examples/keys.c examples/keys.rs
         include/cesu8.h install.sh
         lib/cmake/cesu8/cesu8-config-version.cmake lib/cmake/cesu8/cesu8-config.cmake
         lib/libcesu8.a lib/libcesu8.so "$shared" lib/pkgconfig/cesu8.pc
-        share/bash-completion/completions/cesu8_cli share/man/man1/cesu8_cli.1 uninstall.sh)
-    (cd "$unpacked" && find . ! -type d -printf '%P\n' | sort) >"$scratch/files"
+        share/bash-completion/completions/cesu8_cli share/man/man1/cesu8_cli.1
+        share/man/man1/cesu8_damage.1 share/man/man3/cesu8.3 uninstall.sh)
+    # The pages of single calls are looked at with the calls.
+    (cd "$unpacked" && find . ! -type d ! -name 'cesu8_*.3' -printf '%P\n' | sort) >"$scratch/files"
     diff <(printf '%s\n' "${wanted[@]}") "$scratch/files" || wrong 'the release has other files'
     [[ $(readlink "$unpacked/lib/libcesu8.so") == "libcesu8.so.$major" ]] ||
         wrong 'the link has another aim'
@@ -168,6 +183,8 @@ look_at_archive() {
         grep -vxE 'mem(cpy|move|set|cmp)|__cpu_(model|features2)|_GLOBAL_OFFSET_TABLE_|cesu8_.*_v[23]')
     [[ -z $asked ]] || wrong "the archive asks for other names: $asked"
     readelf -SW "$archive" 2>/dev/null | grep -F ' .debug' && wrong 'the archive is not stripped'
+    readelf -SW "$archive" 2>/dev/null | grep -F ' .text.' | grep -v ' 32$' &&
+        wrong 'these functions of the archive begin elsewhere than at multiples of 32 bytes'
 }
 
 # Calls each export at x86-64-v2 too: a processor with x86-64-v3 would never run that code.
@@ -182,6 +199,8 @@ look_at_shared() {
     diff <(mapped | sed 's/^/T /' | sort) \
         <(nm -D --defined-only "$file" | awk '$2 != "A" { print $2, $3 }' | sort) ||
         wrong 'the shared object shows other names than the version map'
+    nm -D --defined-only "$file" | grep -E '([13579bdf]0|[^0]) T ' &&
+        wrong 'these functions of the shared object begin elsewhere than at multiples of 32 bytes'
     objdump -p "$file" | grep -q "SONAME *libcesu8.so.$major\$" ||
         wrong 'the shared object has another name'
     readelf -nW "$file" | grep -q 'x86 ISA needed: x86-64-v2$' ||
@@ -190,9 +209,25 @@ look_at_shared() {
         wrong 'the shared object wants a stack that can be run'
     readelf -dW "$file" | grep -q 'FLAGS.*BIND_NOW' ||
         wrong 'the shared object binds its names late'
-    for file in "$file" "$unpacked/bin/cesu8_cli"; do
+    for file in "$file" "$unpacked/bin"/*; do
         readelf -SW "$file" | grep -E ' \.(symtab|debug)' && wrong "$file is not stripped"
     done
+}
+
+# A program that makes one call has nothing of another call, where it is linked with --gc-sections, and is
+# a tenth as long as the archive.
+look_at_sections() {
+    local program=$scratch/one_call
+    printf '%s\n' '#include <cesu8.h>' 'int main(void) {' \
+        '    return (int)cesu8_utf16_len(0, 0).status;' '}' >"$program.c"
+    quietly cc -I "$unpacked/include" -o "$program" "$program.c" "$unpacked/lib/libcesu8.a" \
+        -Wl,--gc-sections || { wrong 'a program with one call does not build'; return; }
+    "$program" || wrong 'a program with one call fails'
+    diff <(printf 'cesu8_utf16_len%s\n' '' _v2 _v3) \
+        <(nm --defined-only "$program" | sed -n 's/.* T \(cesu8_\)/\1/p' | sort) ||
+        wrong 'a program with one call has others'
+    (($(stat -c %s "$program") * 8 < $(stat -c %s "$unpacked/lib/libcesu8.a"))) ||
+        wrong 'a program with one call is long'
 }
 
 # That the loader reads the mark: a copy that is marked as code for what no processor has is refused
@@ -263,6 +298,7 @@ for tool in git cc ar ld nm objcopy objdump readelf strip tar gzip; do
 done
 can_build_c 'the release' || exit 0
 build_twice
+look_at_usage
 # The scripts that use more of the release take it from there.
 [[ -z ${RELEASE-} ]] || cp -R "$scratch/first" "$RELEASE" || exit 2
 
@@ -274,6 +310,7 @@ look_at_files
 look_at_pages
 look_at_cross_pages
 look_at_archive
+look_at_sections
 look_at_shared
 look_at_mark
 call_exports -DARCHIVE "$unpacked/lib/libcesu8.a"
@@ -302,14 +339,18 @@ run_program "$unpacked"
 shown_lines "$unpacked/README.md"
 shown_c
 shown_in_page
+shown_in_program_page
 in_class_file
-in_large_file
+in_damaged_file "$unpacked/bin/cesu8_damage"
 in_java_file
+in_java_units
 look_at_words
+look_at_call_pages
 look_at_refusals
 install_to lib ''
 install_to lib64 lib64/
 install_to lib/x86_64-linux-gnu PREFIX/lib/x86_64-linux-gnu
 install_twice
+install_half
 install_below
 ((failed == 0))

@@ -4,7 +4,7 @@
 # It reads README.md, docs/*.md and the doc comments of crates/*/src. A block that begins with three
 # backquotes and `rust` is an example. It runs as the body of a test with `rt`, the runtime,
 # `alloc`, its allocator, `bytes`, four letters, and the imports below; `?` takes any error. The
-# test is named after the file and the line. A block that begins with three backquotes, a language
+# test is named after the file and the line. CALLING shows the same as the `main` below. A block that begins with three backquotes, a language
 # and the path of a file is a quotation: its lines have to be in that file, one after the other.
 # Other blocks are skipped.
 #
@@ -109,7 +109,18 @@ while read -r name uses; do
 done < <(sed 's/#.*//' crates.txt)
 printf 'examples:%s\n' "$libraries" >>"$scratch/crates.txt"
 {
-    printf '//! The examples.\n#![tactic(auto)]\n\nfn main() {}\n\n#[cfg(test)]\nmod tests {\n'
+    printf '//! The examples.\n#![tactic(auto)]\n\n'
+    cat <<'FRAME'
+use std::test::Fail;
+
+fn main(rt: HostRuntime) -> Result<(), Fail> {
+    let (alloc, bytes) = (rt.alloc(), b"text".as_slice());
+    let text = simd_cesu8::decode_strict(alloc, bytes)?;
+    rt.println(text.as_str())?;
+    Ok(())
+}
+FRAME
+    printf '\n#[cfg(test)]\nmod tests {\n'
     printf '    use std::cmp::Ordering;\n    use std::collections::BTreeMap;\n    use std::test::Fail;\n'
     cat "$scratch/tests"
     printf '}\n'

@@ -49,6 +49,13 @@ _Static_assert(CESU8_MAX_DECODED_LOSSY(INT_MAX - 1 + 1) == 3 * (size_t)INT_MAX,
                "CESU8_MAX_DECODED_LOSSY");
 _Static_assert(CESU8_MAX_JAVA_WRITTEN(INT_MAX - 1 + 1) == 2 + 2 * (size_t)INT_MAX,
                "CESU8_MAX_JAVA_WRITTEN");
+// Each macro is one operand of what stands around it.
+_Static_assert(600 / CESU8_MAX_ENCODED(3) == 100, "CESU8_MAX_ENCODED");
+_Static_assert(600 / CESU8_MAX_DECODED(3) == 200, "CESU8_MAX_DECODED");
+_Static_assert(900 / CESU8_MAX_DECODED_LOSSY(3) == 100, "CESU8_MAX_DECODED_LOSSY");
+_Static_assert(5 * CESU8_MAX_JAVA_WRITTEN(3) == 40, "CESU8_MAX_JAVA_WRITTEN");
+_Static_assert(655350 / CESU8_MAX_JAVA_READ == 10, "CESU8_MAX_JAVA_READ");
+_Static_assert(1966050 / CESU8_MAX_JAVA_READ_LOSSY == 10, "CESU8_MAX_JAVA_READ_LOSSY");
 
 // What a call tells, in one form for all. What is decided is a length here, 1 for yes, and so is an
 // order, 0 for less, 1 for equal and 2 for greater.

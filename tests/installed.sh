@@ -96,6 +96,18 @@ install_twice() {
     uninstall "$prefix"
 }
 
+# What a run that fails on its way has installed is taken away. The folder of the man pages can't be made.
+install_half() {
+    local prefix=$scratch/half
+    mkdir -p "$prefix/share" && touch "$prefix/share/man" || exit 2
+    "$unpacked/install.sh" "$prefix" >"$scratch/said" 2>&1 && wrong 'install.sh does not fail on its way'
+    [[ -x $prefix/bin/cesu8_cli && ! -e $prefix/share/doc/cesu8/C.md ]] ||
+        wrong 'install.sh does not fail half-way'
+    quietly "$prefix/share/doc/cesu8/uninstall.sh" || wrong 'uninstall.sh fails after half of install.sh'
+    diff <(echo "$prefix/share/man") <(find "$prefix" '(' ! -type d -o -name cesu8 ')') ||
+        wrong 'uninstall.sh leaves something of half of install.sh'
+}
+
 # Installs below DESTDIR, as for a package, with a /lib that is a link to /usr/lib.
 install_below() {
     local root=$scratch/root libdir=lib/x86_64-linux-gnu files

@@ -7,6 +7,8 @@
 # Both come from the standards' table of encoded characters in crates/test_cases, and these rules:
 # - a result borrows, without a request, exactly where its bytes are the input's;
 # - what is built, copied or refused takes one, and so does what is appended if the buffer is full;
+# - what is appended leaves a full buffer with twice its capacity, with what is needed, or with 8 bytes,
+#   whichever is most, as `Vec::push` does; one with enough room keeps its capacity;
 # - an empty copy, a length, a comparison, and a Java string that is too long or cut short take none.
 #
 # The program of crates/memory_calls makes the calls that its standard input names, on one input. It
@@ -20,8 +22,9 @@
 # process asks both, of two calls on an input: the first makes all of its requests, and the next is
 # refused its own. Calls without a request come between. What several rows ask is asked once.
 #
-# Requests are counted. In which order a call makes them, and what it has read or written before, is not
-# seen, nor how large they are, which tests/requests.sh sees.
+# In which order a call makes its requests, and what it has read or written before, is not seen. The
+# capacity of what is built is stated by a clause, and tests/requests.sh sees how much is requested where
+# bytes are refused.
 #
 # It prints what is wrong, and counts the processes at the end. The status is 0 if nothing is wrong.
 # It needs the kit's `rt` (which builds here without proof), bash, sed and the core utilities.
@@ -107,10 +110,18 @@ text() {
     done
 }
 
+# Keeps in grown the capacity of a buffer of this one that so many bytes are needed of: `grow CAPACITY NEED`.
+grow() {
+    grown=$1
+    (($1 < $2)) || return 0
+    grown=$(($2 < 2 * $1 ? 2 * $1 : $2))
+    ((grown >= 8)) || grown=8
+}
+
 # The calls that take a text, of the text that is kept: `text_rows ENCODING..`. In CESU-8 each of its
 # code units has one byte that is not 80 to BF.
 text_rows() {
-    local encoding encoded length any less
+    local encoding encoded length any less grown
     measure "${cesu8//\\x[89AB]?/}"
     row 'utf16_len cesu8' "$utf8" "$length" 0 ''
     row 'compare_as_utf16 cesu8' "$utf8" yes 0 ''
@@ -128,11 +139,15 @@ text_rows() {
         fi
         row "encoded_len $encoding" "$utf8" "$length" 0 ''
         row "into_vec $encoding" "$utf8" owned "$any" "$encoded"
-        row "counted $encoding" "$utf8" appended "$any" "$encoded"
-        row "encode_into $encoding" "$utf8" appended "$any" "$encoded"
-        row "encode_into_room $encoding" "$utf8" appended "$any" "$encoded"
-        row "encode_into_less $encoding" "$utf8" appended "$less" "$encoded"
-        row "encode_into_full $encoding" "$utf8" appended "$((1 + any))" "\\x01\\x02$encoded"
+        row "encode_into_room $encoding" "$utf8" "appended, capacity $length" "$any" "$encoded"
+        grow 0 "$length"
+        row "counted $encoding" "$utf8" "appended, capacity $grown" "$any" "$encoded"
+        row "encode_into $encoding" "$utf8" "appended, capacity $grown" "$any" "$encoded"
+        grow 2 $((2 + length))
+        row "encode_into_full $encoding" "$utf8" "appended, capacity $grown" "$((1 + any))" \
+            "\\x01\\x02$encoded"
+        grow $((length - any)) "$length"
+        row "encode_into_less $encoding" "$utf8" "appended, capacity $grown" "$less" "$encoded"
     done
 }
 
@@ -219,7 +234,7 @@ form() {
 
 # Writing a Java string, of the text that is kept. One that is too long is told before any request.
 write_rows() {
-    local length written
+    local length written grown
     measure "$mutf8"
     if ((length > 65535)); then
         row 'write_utf mutf8' "$utf8" too_long 0 ''
@@ -227,10 +242,13 @@ write_rows() {
         return
     fi
     form "$mutf8" "$length"
-    row 'write_utf mutf8' "$utf8" written 1 "$written"
-    row 'write_utf_room mutf8' "$utf8" written 1 "$written"
-    row 'write_utf_less mutf8' "$utf8" written 2 "$written"
-    row 'write_utf_full mutf8' "$utf8" written 2 "\\x01\\x02$written"
+    row 'write_utf_room mutf8' "$utf8" "written, capacity $((2 + length))" 1 "$written"
+    grow 0 $((2 + length))
+    row 'write_utf mutf8' "$utf8" "written, capacity $grown" 1 "$written"
+    grow 2 $((4 + length))
+    row 'write_utf_full mutf8' "$utf8" "written, capacity $grown" 2 "\\x01\\x02$written"
+    grow $((1 + length)) $((2 + length))
+    row 'write_utf_less mutf8' "$utf8" "written, capacity $grown" 2 "$written"
 }
 
 # Reading one, of the text that is kept, with bytes after it; and one that counts a byte more.

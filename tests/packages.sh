@@ -1,7 +1,7 @@
 #!/usr/bin/env bash
 # Looks at the Debian packages of the release by dpkg-deb, installs them in an empty root by dpkg, and
 # uses them there: it links the example in C with the static library and with the shared object, by the
-# compiler, by pkg-config and by CMake, and runs the program. Then it removes them.
+# compiler, by pkg-config and by CMake, and runs the programs. Then it removes them.
 #
 # It also checks that packages.sh builds the same bytes again; that no file is in two packages; the
 # sums, owners, modes and times; and the symbols and the C library that are needed, against the files
@@ -40,9 +40,9 @@ expect_field() {
     [[ $found == "$3" ]] || wrong "$1 has $2 '$found', and not '$3'"
 }
 
-# The newest version of the C library that a file names: `c_library FILE`.
+# The newest version of the C library that files name: `c_library FILE..`.
 c_library() {
-    readelf --dyn-syms --wide "$1" | grep -o '@GLIBC_[0-9.]*' | sort -Vu | tail -n 1 |
+    readelf --dyn-syms --wide "$@" | grep -o '@GLIBC_[0-9.]*' | sort -Vu | tail -n 1 |
         sed 's/^@GLIBC_//'
 }
 
@@ -69,7 +69,7 @@ look_at_fields() {
     expect_field libcesu8-dev Section libdevel
     expect_field libcesu8-dev Depends "$library (= $debian)"
     expect_field "$library" Depends "libc6 (>= $(c_library "$scratch/$library/$shared"))"
-    expect_field cesu8-tools Depends "libc6 (>= $(c_library "$scratch/cesu8-tools/usr/bin/cesu8_cli"))"
+    expect_field cesu8-tools Depends "libc6 (>= $(c_library "$scratch/cesu8-tools/usr/bin"/*))"
 }
 
 # The files and links of a package: `files_of NAME`.
@@ -86,10 +86,12 @@ wanted_files() {
             printf '%s\n' usr/include/cesu8.h "$libdir"/libcesu8.{a,so} "$libdir/pkgconfig/cesu8.pc" \
                 "$libdir"/cmake/cesu8/cesu8-config{,-version}.cmake "$doc/C.md"
             for file in "$unpacked"/examples/*; do echo "$doc/examples/${file##*/}"; done
+            for file in "$unpacked"/share/man/man3/*; do echo "usr/share/man/man3/${file##*/}.gz"; done
             ;;
         cesu8-tools)
-            printf '%s\n' usr/bin/cesu8_cli usr/share/man/man1/cesu8_cli.1.gz \
-                usr/share/bash-completion/completions/cesu8_cli "$doc/PROGRAM.md"
+            printf '%s\n' usr/{bin/,share/man/man1/}cesu8_{cli,damage} \
+                usr/share/bash-completion/completions/cesu8_cli "$doc/PROGRAM.md" |
+                sed '/man1/s/$/.1.gz/'
             ;;
         *) echo "$shared" ;;
     esac | sort
@@ -107,7 +109,7 @@ look_at_files() {
         dpkg-deb --contents "$(file_of "$name")" |
             awk -v time="$(date -u -d "@$seconds" '+%F %R')" '
                 { mode = $1 == "drwxr-xr-x" || $1 == "-rw-r--r--" || $1 == "lrwxrwxrwx" }
-                $6 ~ /^\.\/usr\/bin\/cesu8_cli$|\/examples\/.*\.sh$/ { mode = $1 == "-rwxr-xr-x" }
+                $6 ~ /^\.\/usr\/bin\/cesu8_|\/examples\/.*\.sh$/ { mode = $1 == "-rwxr-xr-x" }
                 !mode || $2 != "root/root" || $4 " " $5 != time { print; found = 1 }
                 END { exit found }' || wrong "$name has another owner, mode or time"
         gzip -dc "$scratch/$name/usr/share/doc/$name/changelog.Debian.gz" |
@@ -238,6 +240,12 @@ use_packages() {
         by_cmake 'keys.c by CMake' "-DCMAKE_PREFIX_PATH=$root/usr"
     fi
     run_program "$root/usr"
+    [[ $(printf 'a\377' | "$root/usr/bin/cesu8_damage" cesu8 | cut -f 1) == 1 ]] ||
+        wrong 'cesu8_damage finds other damage'
+    if can_build 'the man pages' man --version; then
+        man -M "$root/usr/share/man" 3 cesu8_mutf8_encode 2>&1 | grep -q 'cesu8_mutf8_encode(' ||
+            wrong 'man finds no page of a call'
+    fi
 }
 
 look_by_lintian() {

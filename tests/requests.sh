@@ -6,8 +6,8 @@
 # of memory. Both times it writes nothing. The run without a refusal has to write its output. On
 # short inputs the requests are counted too: beside those for the arguments one for the input, and
 # one more if the output is built. On longer input, reading may make any number. Where the decoder
-# refuses bytes after its request, that has to ask for as many bytes as there are. (Of what is built
-# a clause states the capacity.)
+# refuses bytes after its request, that has to ask for as many bytes as there are, whatever their number,
+# the damage and its place. (Of what is built a clause states the capacity.)
 #
 # Then its whole memory is limited, from too little for 10 MB of input to enough, for each command.
 # The program has to write the whole output, or report out of memory and write nothing. Both have to
@@ -227,6 +227,37 @@ refused_long_rows() {
     done
 }
 
+# Runs a command that refuses the input, and compares how many bytes it requests: `expect_size COUNT WORD..`.
+expect_size() {
+    local count=$1
+    shift
+    run_refusing 0 "$@"
+    expect "$* on $count refused bytes, ${sizes[-1]} requested" \
+        [ "$status $(<"$scratch/error") ${sizes[-1]}" = "1 cesu8: invalid input $count" ]
+}
+
+# Letters with damage at the front, in the middle and at the end: what begins no character in both
+# encodings, half of a pair, and for the strict commands a character that is UTF-8 alone.
+refused_sizes() {
+    local count at part length
+    for count in 4 5 16 17 24 64 65 100 256 1024 4096 65534; do
+        for part in '\xFF' '\xED\xA0\xBD' '\xF0\x9F\x92\x96'; do
+            measure "$part"
+            for at in 0 $(((count - length) / 2)) $((count - length)); do
+                { filled "$at" a && printf '%b' "$part" && filled $((count - length - at)) a; } >"$scratch/form"
+                cp "$scratch/form" "$scratch/input"
+                expect_size "$count" decode-strict cesu8
+                expect_size "$count" decode-strict mutf8
+                ((length == 4)) || expect_size "$count" decode cesu8
+                ((length == 4)) || expect_size "$count" decode mutf8
+                printf '%b' "$(printf '\\x%02X\\x%02X' $((count / 256)) $((count % 256)))" |
+                    cat - "$scratch/form" >"$scratch/input"
+                expect_size "$count" java-read mutf8
+            done
+        done
+    done
+}
+
 refuse_requests() {
     if ! command -v cc >/dev/null; then
         echo 'cc is missing: the refusal of single requests skipped'
@@ -247,6 +278,7 @@ refuse_requests() {
     rows
     on_each 100000 long_row
     refused_long_rows
+    refused_sizes
     on_java_strings long_row
 }
 

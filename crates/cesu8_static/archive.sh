@@ -49,19 +49,10 @@ option() {
     esac
 }
 
-# rt gives each function and each table a section of its own, so what describes the sections would
-# take a tenth of the archive. No program would be smaller by them, since the chooser calls every
-# export. So a level gets one section of code and one of tables, where each row begins at a multiple
-# of 16 bytes. The constants of vectors stay in sections in which a linker keeps one of those that
-# are equal.
-cat >"$scratch/level.ld" <<'SCRIPT'
-SECTIONS
-{
-    .text : { *(.text .text.*) }
-    .rodata : SUBALIGN(16) { *(.rodata .rodata..L*) }
-}
-SCRIPT
-
+# rt gives each function and each table a section of its own, and they keep it, as do the calls of the
+# chooser. So a program that is linked with --gc-sections has only what its calls reach. Functions begin
+# at multiples of 32 bytes, or else what stands before a short call changes its time by a tenth.
+#
 # The code for x86-64-v2 comes last, and stays in out/, since it is what rt builds by default.
 for level in $levels; do
     if ! (cd "$crate" && rt lib "$(option "$level")" ${PROOF_JOBS:+--jobs "$PROOF_JOBS"}) \
@@ -71,15 +62,16 @@ for level in $levels; do
     fi
     mkdir "$scratch/$level"
     (cd "$scratch/$level" && ar x "$crate/out/libcesu8_static.a")
-    ld -r -T "$scratch/level.ld" -o "$scratch/$level.o" "$scratch/$level"/*.o
+    ld -r -o "$scratch/$level.o" "$scratch/$level"/*.o
     # Each export gets the level behind its name. What the code calls keeps its name.
     nm -g --defined-only "$scratch/$level.o" |
         awk -v level="$level" 'NF == 3 { print $3, $3 "_" level }' >"$scratch/$level/names"
-    objcopy --redefine-syms="$scratch/$level/names" "$scratch/$level.o"
+    objcopy --redefine-syms="$scratch/$level/names" --set-section-alignment '.text*=32' \
+        "$scratch/$level.o"
 done
 
 for file in chooser plain; do
-    cc -std=c11 -O2 -fPIC -Wall -Wextra -Werror -I "$crate/include" -c -o "$scratch/$file.o" \
-        "$crate/$file.c"
+    cc -std=c11 -O2 -fPIC -ffunction-sections -falign-functions=32 -Wall -Wextra -Werror \
+        -I "$crate/include" -c -o "$scratch/$file.o" "$crate/$file.c"
 done
 ar rcsD "$archive" "$scratch"/*.o

@@ -149,7 +149,8 @@ CESU8_WRITES struct cesu8_answer cesu8_mutf8_decode_strict(
     const uint8_t *bytes, size_t bytes_length, uint8_t *buffer, size_t buffer_length);
 
 // The lenient call: decodes what is UTF-8 as a whole, which stays as it is, or else the encoding,
-// as the calls above.
+// as the calls above. So it refuses bytes that have both a surrogate pair and a character of four
+// bytes, which are neither.
 CESU8_WRITES struct cesu8_answer cesu8_decode(
     const uint8_t *bytes, size_t bytes_length, uint8_t *buffer, size_t buffer_length);
 CESU8_WRITES struct cesu8_answer cesu8_mutf8_decode(
@@ -163,7 +164,8 @@ CESU8_WRITES struct cesu8_answer cesu8_mutf8_decode_lossy_strict(
     const uint8_t *bytes, size_t bytes_length, uint8_t *buffer, size_t buffer_length);
 
 // The lenient call for damage: decodes what is UTF-8 as a whole, which stays as it is, or else the
-// encoding with damage, as the calls above.
+// encoding with damage, as the calls above. So where one byte is not UTF-8, each character of four
+// bytes becomes four U+FFFD.
 CESU8_WRITES struct cesu8_answer cesu8_decode_lossy(
     const uint8_t *bytes, size_t bytes_length, uint8_t *buffer, size_t buffer_length);
 CESU8_WRITES struct cesu8_answer cesu8_mutf8_decode_lossy(

@@ -1,10 +1,11 @@
 #!/bin/sh
-# Installs the library, the program and the pages from this folder, and prints each file:
+# Installs the library, the programs and the pages from this folder, and prints each file:
 #   [DESTDIR=ROOT] ./install.sh PREFIX [LIBDIR]
 # LIBDIR is the folder for the libraries below PREFIX: lib, if it is left out, or for instance lib64 or
 # lib/x86_64-linux-gnu. It can also begin with PREFIX. What is installed names no other place, so
 # PREFIX can be moved afterwards. PREFIX/share/doc/cesu8/uninstall.sh takes all of it away again, by the
-# list beside it, INSTALLED, in which a second run keeps the lines of the first.
+# list beside it, INSTALLED, in which a second run keeps the lines of the first. The list is written first,
+# so that a run that fails on its way can be taken away too.
 #
 # With DESTDIR, all goes below that folder instead, as for a package, and the file for pkg-config names
 # PREFIX, which is absolute then. There is no uninstall.sh then, since a package knows its files.
@@ -83,64 +84,70 @@ if [ -d "$to/" ] && [ "$(cd "$to/" && pwd -P)" = "$here" ]; then
 fi
 cd "$here"
 
-# Notes a file that was installed: `note PATH`, below PREFIX.
-installed=
-note() {
-    installed="$installed$1
-"
-}
+# What is to be installed, a line for each file: how, the file here and its path below PREFIX.
+plan=
 
-# Copies files to a folder: `put MODE FOLDER FILE..`.
+# Adds files of a folder to the plan: `put HOW FOLDER FILE..`. HOW is a mode, or what `place` knows.
 put() {
-    mode=$1
+    how=$1
     folder=$2
     shift 2
     for file in "$@"; do
-        # The release for aarch64 has no program, and nothing that is about it.
+        # The release for aarch64 has no programs, and nothing that is about them.
         [ -f "$file" ] || continue
-        install -D -m "$mode" "$file" "$to/$folder/${file##*/}"
-        note "$folder/${file##*/}"
+        plan="$plan$how $file $folder/${file##*/}
+"
     done
 }
 
+[ -n "$root" ] || put 755 share/doc/cesu8 uninstall.sh
 put 644 include include/*
 put 755 bin bin/*
 put 644 "$libdir" lib/*.a lib/*.so.*
-for link in lib/*.so; do
-    ln -sf "$(readlink "$link")" "$to/$libdir/${link##*/}"
-    note "$libdir/${link##*/}"
-done
-put 644 share/man/man1 share/man/man1/*
+put link "$libdir" lib/*.so
+for number in 1 3; do put 644 "share/man/man$number" "share/man/man$number"/*; done
 put 644 share/bash-completion/completions share/bash-completion/completions/*
 put 644 share/doc/cesu8 BUILT-FROM LICENSE-* ./*.md
 put 644 share/doc/cesu8/examples examples/*.c examples/*.rs
 put 755 share/doc/cesu8/examples examples/*.sh
+put pkgconfig "$libdir/pkgconfig" lib/pkgconfig/*
+put cmake "$libdir/cmake/cesu8" lib/cmake/cesu8/*
 
-mkdir -p "$to/$libdir/pkgconfig" "$to/$libdir/cmake/cesu8"
-# The names in these are pkg-config's.
-# shellcheck disable=SC2016
-{
+# The file for pkg-config. The names in it are its own.
+pkgconfig() {
+    # shellcheck disable=SC2016
     if [ -n "$root" ]; then
         printf 'prefix=%s\n' "$prefix"
     else
         printf 'prefix=${pcfiledir}/../%s\n' "$up"
     fi
+    # shellcheck disable=SC2016
     printf 'libdir=${prefix}/%s\n' "$libdir"
-    grep -v -e '^prefix=' -e '^libdir=' lib/pkgconfig/cesu8.pc
-} >"$to/$libdir/pkgconfig/cesu8.pc"
-note "$libdir/pkgconfig/cesu8.pc"
-for file in lib/cmake/cesu8/*; do
-    sed "s|set(_cesu8_up .*|set(_cesu8_up $up)|" "$file" >"$to/$libdir/cmake/cesu8/${file##*/}"
-    note "$libdir/cmake/cesu8/${file##*/}"
-done
+    grep -v -e '^prefix=' -e '^libdir=' "$1"
+}
 
+# Installs a file: `place HOW FILE TO`.
+place() {
+    mkdir -p "${3%/*}"
+    case $1 in
+        link) ln -sf "$(readlink "$2")" "$3" ;;
+        pkgconfig) pkgconfig "$2" >"$3" ;;
+        cmake) sed "s|set(_cesu8_up .*|set(_cesu8_up $up)|" "$2" >"$3" ;;
+        *) install -m "$1" "$2" "$3" ;;
+    esac
+}
+
+# The list comes first, so that uninstall.sh also takes away what a run leaves that does not end.
+installed=$(printf '%s' "$plan" | cut -d ' ' -f 3-)
 if [ -z "$root" ]; then
-    put 755 share/doc/cesu8 uninstall.sh
     list=share/doc/cesu8/INSTALLED
-    note "$list"
-    { cat "$to/$list" 2>/dev/null || :; printf '%s' "$installed"; } | sort -u >"$to/$list.new"
+    installed="$installed
+$list"
+    mkdir -p "$to/${list%/*}"
+    { cat "$to/$list" 2>/dev/null || :; printf '%s\n' "$installed"; } | sort -u >"$to/$list.new"
     mv "$to/$list.new" "$to/$list"
 fi
+printf '%s' "$plan" | while read -r how file path; do place "$how" "$file" "$to/$path"; done
 
 # Whoever reads only the first lines, as head does, ends nothing but this.
-printf '%s' "$installed" | while IFS= read -r path; do printf '%s\n' "$to/$path"; done
+printf '%s\n' "$installed" | while IFS= read -r path; do printf '%s\n' "$to/$path"; done

@@ -1,5 +1,5 @@
 #!/bin/sh
-# Takes away what install.sh installed, and prints each file:
+# Takes away what install.sh installed, and prints each file that was there:
 #   PREFIX/share/doc/cesu8/uninstall.sh
 # It removes the files that the list beside it, INSTALLED, names below PREFIX, which may have been moved,
 # and then the folders named cesu8, and those in them, if they are empty. Folders that others share, as
@@ -30,8 +30,13 @@ prefix=${here%/share/doc/cesu8}
 
 list=$(cat "$here/INSTALLED")
 folders=
+removed=
 while IFS= read -r path; do
-    rm -f "$prefix/$path"
+    if [ -e "$prefix/$path" ] || [ -L "$prefix/$path" ]; then
+        rm -f "$prefix/$path"
+        removed="$removed$prefix/$path
+"
+    fi
     case $path in
         */cesu8/*)
             folders="${path%/*}
@@ -49,4 +54,4 @@ $folders
 FOLDERS
 
 # Whoever reads only the first lines, as head does, ends nothing but this.
-printf '%s\n' "$list" | while IFS= read -r path; do printf '%s\n' "$prefix/$path"; done
+printf '%s' "$removed" | while IFS= read -r path; do printf '%s\n' "$path"; done

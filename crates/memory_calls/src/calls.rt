@@ -209,12 +209,11 @@ fn write(rt: &HostRuntime, buf: Result<Vec<u8>, AllocError>, text: &str) -> io::
     let Ok(mut buf) = buf else {
         return tell(rt, "memory", &[]);
     };
-    let outcome = match write_utf(text, &mut buf) {
-        Ok(()) => "written",
-        Err(WriteFault::TooLong(_)) => "too_long",
-        Err(WriteFault::Memory) => "memory",
-    };
-    tell(rt, outcome, buf.as_slice())
+    match write_utf(text, &mut buf) {
+        Ok(()) => tell_grown(rt, "written", &buf),
+        Err(WriteFault::TooLong(_)) => tell(rt, "too_long", buf.as_slice()),
+        Err(WriteFault::Memory) => tell(rt, "memory", buf.as_slice()),
+    }
 }
 
 /// Makes a vector of an encoder's result.
@@ -265,9 +264,15 @@ fn tell_appended(
     buf: &Vec<u8>,
 ) -> io::Result<()> {
     match appended {
-        Ok(()) => tell(rt, "appended", buf.as_slice()),
+        Ok(()) => tell_grown(rt, "appended", buf),
         Err(_) => tell(rt, "memory", buf.as_slice()),
     }
+}
+
+/// Prints the outcome with the buffer's capacity, which shows how much was requested, and its bytes.
+fn tell_grown(rt: &HostRuntime, outcome: &str, buf: &Vec<u8>) -> io::Result<()> {
+    println!(rt; "{outcome}, capacity {}", buf.capacity())?;
+    tell_bytes(rt, buf.as_slice())
 }
 
 fn case_of(is_borrowed: bool) -> &'static str {

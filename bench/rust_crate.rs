@@ -1,0 +1,77 @@
+//! The calls of the Rust crate `simd_cesu8`, with the names of `measured.h`, for a shared object that
+//! bench measures beside this library. README.md has the lines that build it.
+
+use simd_cesu8::mutf8;
+use std::borrow::Cow;
+use std::slice;
+
+/// `measured_outcome` of `measured.h`.
+#[repr(C)]
+pub struct Outcome {
+    length: usize,
+    has_answer: bool,
+    is_borrowed: bool,
+    is_invalid: bool,
+}
+
+/// What a call answered, copied to the front of the buffer if it fits there.
+fn told(answer: Option<Cow<[u8]>>, buf: &mut [u8]) -> Outcome {
+    if let Some(bytes) = &answer
+        && let Some(front) = buf.get_mut(..bytes.len())
+    {
+        front.copy_from_slice(bytes);
+    }
+    Outcome {
+        length: answer.as_ref().map_or(0, |bytes| bytes.len()),
+        has_answer: answer.is_some(),
+        is_borrowed: matches!(answer, Some(Cow::Borrowed(_))),
+        is_invalid: answer.is_none(),
+    }
+}
+
+fn bytes_of(text: Cow<str>) -> Cow<[u8]> {
+    match text {
+        Cow::Borrowed(text) => Cow::Borrowed(text.as_bytes()),
+        Cow::Owned(text) => Cow::Owned(text.into_bytes()),
+    }
+}
+
+fn text_of(bytes: &[u8]) -> Option<&str> {
+    simdutf8::basic::from_utf8(bytes).ok()
+}
+
+/// An export for each name, whose answer is what the expression makes of the input.
+macro_rules! exports {
+    ($($name:ident: $answer:expr;)*) => {$(
+        /// # Safety
+        ///
+        /// The pointers are of so many bytes, and not null.
+        #[unsafe(no_mangle)]
+        pub unsafe extern "C" fn $name(
+            input: *const u8,
+            length: usize,
+            buf: *mut u8,
+            buf_length: usize,
+        ) -> Outcome {
+            let input = unsafe { slice::from_raw_parts(input, length) };
+            let buf = unsafe { slice::from_raw_parts_mut(buf, buf_length) };
+            let answer: fn(&[u8]) -> Option<Cow<[u8]>> = $answer;
+            told(answer(input), buf)
+        }
+    )*};
+}
+
+exports! {
+    measured_encode: |bytes| text_of(bytes).map(simd_cesu8::encode);
+    measured_mutf8_encode: |bytes| text_of(bytes).map(mutf8::encode);
+    measured_decode: |bytes| simd_cesu8::decode(bytes).ok().map(bytes_of);
+    measured_mutf8_decode: |bytes| mutf8::decode(bytes).ok().map(bytes_of);
+    measured_decode_strict: |bytes| simd_cesu8::decode_strict(bytes).ok().map(bytes_of);
+    measured_mutf8_decode_strict: |bytes| mutf8::decode_strict(bytes).ok().map(bytes_of);
+    measured_decode_lossy: |bytes| Some(bytes_of(simd_cesu8::decode_lossy(bytes)));
+    measured_mutf8_decode_lossy: |bytes| Some(bytes_of(mutf8::decode_lossy(bytes)));
+    measured_decode_lossy_strict: |bytes| Some(bytes_of(simd_cesu8::decode_lossy_strict(bytes)));
+    measured_mutf8_decode_lossy_strict: |bytes| Some(bytes_of(mutf8::decode_lossy_strict(bytes)));
+    measured_encode_text: |bytes| Some(simd_cesu8::encode(unsafe { str::from_utf8_unchecked(bytes) }));
+    measured_mutf8_encode_text: |bytes| Some(mutf8::encode(unsafe { str::from_utf8_unchecked(bytes) }));
+}

@@ -1,0 +1,227 @@
+# For tests/dist.sh and tests/aarch64.sh: runs the examples but keys.c, and cesu8_damage. It uses what these
+# scripts set.
+# shellcheck shell=bash disable=SC2154
+
+# A class file as the Java Virtual Machine Specification has it (4.1, 4.4), up to its constants: each
+# kind of them, a Long and a Double taking two places, and among them three strings: "caf" and U+00E9,
+# the empty one, and U+0000 with U+1F496. A last one has half of a surrogate pair.
+class_file() {
+    printf '\312\376\272\276\0\0\0\101\0\27'
+    printf '\1\0\5caf\303\251\3\0\0\0\1\4\0\0\0\0\5\0\0\0\0\0\0\0\1\6\0\0\0\0\0\0\0\0'
+    printf '\7\0\1\10\0\1\11\0\1\0\1\12\0\1\0\1\13\0\1\0\1\14\0\1\0\1\17\1\0\1\20\0\1'
+    printf '\21\0\1\0\1\22\0\1\0\1\23\0\1\24\0\1\1\0\0\1\0\10\300\200\355\240\275\355\262\226'
+    printf '\1\0\4a\355\240\275'
+}
+
+in_class_file() {
+    local program=$scratch/class_constants
+    compile -std=c99 -Wall -Wextra -Wconversion -pedantic -Werror -I "$unpacked/include" \
+        -o "$program" "$unpacked/examples/class_constants.c" "$unpacked/lib/libcesu8.a" ||
+        { wrong 'class_constants.c does not build'; return; }
+    class_file >"$scratch/constants.class"
+    "$program" "$scratch/constants.class" >"$scratch/printed" 2>"$scratch/said" ||
+        wrong 'class_constants.c fails'
+    {
+        printf '1 caf\303\251\n20 \n21 \0\360\237\222\226\n'
+        printf '22 a\357\277\275\357\277\275\357\277\275\n'
+    } | cmp - "$scratch/printed" || wrong 'class_constants.c prints other constants'
+    # The last string is at 112, and half of a pair behind its first byte.
+    diff <(echo "$scratch/constants.class: constant 22, offset 113: invalid input") "$scratch/said" ||
+        wrong 'class_constants.c does not tell a fault'
+    in_damaged_class_files "$program"
+    echo 'class_constants.c was built and run'
+}
+
+# Files that class_constants.c has to refuse, with what it printed before: a string that is cut off, a pool
+# that is cut between two constants and within one, and files that begin otherwise. And one whose only string is as long
+# and as damaged as can be. The allocator fills new memory with 01, which would be read as more constants.
+in_damaged_class_files() {
+    local file=$scratch/damaged.class whole=$scratch/constants.class magic marks
+    export MALLOC_PERTURB_=254
+    head -c -1 "$whole" >"$file"
+    refuses_class "$1" "$file" 109 3
+    head -c 109 "$whole" >"$file"
+    refuses_class "$1" "$file" 109 3
+    head -c 20 "$whole" >"$file"
+    refuses_class "$1" "$file" 18 1
+    for magic in '\0' '\312\376\272\277' '\313\376\272\276' '\312\377\272\276' '\312\376\273\276'; do
+        { printf '%b' "${magic//\\/\\0}" && tail -c +5 "$whole"; } >"$file"
+        refuses_class "$1" "$file" 0 0
+    done
+    { printf '\312\376\272\276\0\0\0\101\0\2\1\377\377' && filled 65535 '\xFF'; } >"$file"
+    "$1" "$file" >"$scratch/printed" 2>"$scratch/said" || wrong 'class_constants.c refuses a damaged string'
+    marks=$(repeated 65535 '\xEF\xBF\xBD')
+    diff <(echo "1 $marks") "$scratch/printed" >/dev/null ||
+        wrong 'class_constants.c prints a damaged string otherwise'
+    unset MALLOC_PERTURB_
+}
+
+# That class_constants.c refuses a file at this offset, and prints so many of its strings:
+# `refuses_class PROGRAM FILE OFFSET COUNT`.
+refuses_class() {
+    "$1" "$2" >"$scratch/printed" 2>"$scratch/said"
+    [[ $? == 1 && $(<"$scratch/said") == "$2: no class file, from offset $3 on" ]] ||
+        { cat "$scratch/said"; wrong "class_constants.c does not refuse a file at $3"; }
+    printf '1 caf\303\251\n20 \n21 \0\360\237\222\226\n' | head -n "$4" | cmp - "$scratch/printed" ||
+        wrong "class_constants.c prints other strings of a file that it refuses at $3"
+}
+
+# What cesu8_damage, the program in `teller`, prints of its input, and its status: `damage WORD..`.
+damage() {
+    "$teller" "$@"
+    echo $?
+}
+
+# That cesu8_damage ends with this status, and prints nothing but one line that says why:
+# `damage_fails STATUS LINE WORD..`.
+damage_fails() {
+    local wanted=$1 line=$2
+    shift 2
+    diff <(damage "$@" 2>"$scratch/said") <(echo "$wanted") || wrong "cesu8_damage ends otherwise for: $*"
+    diff "$scratch/said" <(echo "$line") || wrong "cesu8_damage says something else for: $*"
+}
+
+# Files with no damage, with some of each kind, and of more than one piece, so that the end of a piece cuts
+# a pair in each way, and a stretch: `in_damaged_file PROGRAM`.
+in_damaged_file() {
+    local teller=$1 pairs=$scratch/pairs file=$scratch/damaged front
+    printf 'ab\n\377c\n\n\355\240\275d\300\200\0e\342\202' >"$file"
+    diff <(damage cesu8 "$file") <(printf '%s\t%s\t%s\t%s\n' 3 2 1 ff 7 4 3 'ed a0 bd' 11 4 2 'c0 80' \
+        15 4 2 'e2 82' && echo 1) || wrong 'cesu8_damage finds other damage in CESU-8'
+    diff <(damage mutf8 <"$file") <(printf '%s\t%s\t%s\t%s\n' 3 2 1 ff 7 4 3 'ed a0 bd' 13 4 1 00 \
+        15 4 2 'e2 82' && echo 1) || wrong 'cesu8_damage finds other damage in MUTF-8'
+    {
+        printf 'a\n'
+        repeated 30000 '\xED\xA0\xBD\xED\xB2\x96'
+    } >"$pairs"
+    diff <(damage cesu8 <"$pairs"; damage mutf8 "$pairs"; damage cesu8 </dev/null) <(printf '0\n0\n0\n') ||
+        wrong 'cesu8_damage finds damage where there is none'
+    for front in '' a aa aaa aaaa aaaaa; do
+        diff <({ printf '%s' "$front" && tail -c +3 "$pairs"; } | damage mutf8) <(echo 0) ||
+            wrong "cesu8_damage finds damage behind ${#front} letters"
+    done
+    diff <(head -c -1 "$pairs" | damage cesu8; head -c 100000 "$pairs" | damage mutf8) \
+        <(printf '179996\t2\t5\ted a0 bd ed b2\n1\n99998\t2\t2\ted a0\n1\n') ||
+        wrong 'cesu8_damage does not find a cut pair'
+    { cat "$pairs" && filled 100000 '\xFF' && cat "$pairs"; } >"$file"
+    diff <(damage mutf8 "$file") \
+        <(printf '180002\t2\t100000\tff%s ..\n1\n' "$(repeated 15 ' ff')") ||
+        wrong 'cesu8_damage does not find a long stretch'
+    damage_fails 2 'usage: cesu8_damage cesu8|mutf8 [FILE]'
+    damage_fails 2 'usage: cesu8_damage cesu8|mutf8 [FILE]' utf8 "$file"
+    damage_fails 2 'usage: cesu8_damage cesu8|mutf8 [FILE]' cesu8 "$file" more
+    damage_fails 4 'cesu8_damage: none: No such file or directory' cesu8 none
+    damage_fails 4 "cesu8_damage: $scratch: Is a directory" cesu8 "$scratch"
+    damage_fails 4 'cesu8_damage: standard input: Bad file descriptor' cesu8 <&-
+    "$teller" cesu8 "$file" >/dev/full 2>"$scratch/said"
+    [[ $? == 4 && $(<"$scratch/said") == 'cesu8_damage: standard output: No space left on device' ]] ||
+        wrong 'cesu8_damage does not tell that it can not write'
+    # An emulator has memory of its own.
+    if ((${#emulator[@]} == 0)); then
+        refuse_memory "$file"
+        limit_memory
+    fi
+    echo 'cesu8_damage was run'
+}
+
+# Where each of its requests for memory is refused in turn, cesu8_damage says so, or does without:
+# `refuse_memory FILE`.
+refuse_memory() {
+    local refused status told=0
+    quietly cc -shared -fPIC -o "$scratch/requests.so" "$top/tests/requests.c" -ldl ||
+        { wrong 'tests/requests.c does not build'; return; }
+    for refused in 1 2 3 4 5; do
+        status=0
+        REFUSED=$refused LD_PRELOAD=$scratch/requests.so "$teller" mutf8 "$1" \
+            >"$scratch/printed" 2>"$scratch/said" 9>/dev/null || status=$?
+        case $status in
+            1) damage mutf8 "$1" | head -n -1 | cmp - "$scratch/printed" || wrong 'cesu8_damage loses a line' ;;
+            3)
+                told=1
+                diff <(echo "cesu8_damage: $1: Cannot allocate memory") "$scratch/said" ||
+                    wrong 'cesu8_damage says something else of memory'
+                ;;
+            *) wrong "cesu8_damage ends with status $status where memory is refused" ;;
+        esac
+    done
+    ((told)) || wrong 'cesu8_damage has no status for memory'
+}
+
+# A file of 100 MB in little memory, and in a time that a second look at the bytes of a piece would pass.
+limit_memory() {
+    local seconds=$SECONDS
+    filled 50000000 '\xFF' >"$scratch/long"
+    filled 50000000 'a' >>"$scratch/long"
+    diff <(ulimit -v 8000 && damage cesu8 "$scratch/long") \
+        <(printf '0\t1\t50000000\tff%s ..\n1\n' "$(repeated 15 ' ff')") ||
+        wrong 'cesu8_damage does not find a stretch in a large file'
+    ((SECONDS - seconds < 60)) || wrong 'cesu8_damage takes long for a large file'
+    rm "$scratch/long"
+}
+
+# The strings of a file, as writeUTF writes them: those of the class file above, the longest one, and
+# one with line ends. The last is cut off or damaged in some.
+in_java_file() {
+    local script=$unpacked/examples/java_strings.sh strings=$scratch/strings long
+    export CESU8_CLI=$unpacked/bin/cesu8_cli
+    long=$(printf '%65535s' '')
+    {
+        printf '\0\5caf\303\251\0\0\0\10\300\200\355\240\275\355\262\226'
+        printf '\377\377%s\0\2\n\n' "$long"
+    } >"$strings"
+    "$script" "$strings" >"$scratch/printed" || wrong 'java_strings.sh fails'
+    printf 'caf\303\251\n\n\0\360\237\222\226\n%s\n\n\n\n' "$long" | cmp - "$scratch/printed" ||
+        wrong 'java_strings.sh prints other strings'
+    "$script" /dev/stdin < <(cat "$strings") 2>&1 | cmp - "$scratch/printed" ||
+        wrong 'java_strings.sh prints other strings of a pipe'
+    for damage in '\0' '\0\4abc' '\0\1\377'; do
+        { cat "$strings"; printf '%b' "${damage//\\/\\0}"; } >"$scratch/damaged"
+        "$script" "$scratch/damaged" >"$scratch/seen" 2>"$scratch/said"
+        [[ $? == 1 && -s $scratch/said ]] || wrong "java_strings.sh takes $damage"
+        cmp "$scratch/printed" "$scratch/seen" ||
+            wrong "java_strings.sh prints other strings before $damage"
+    done
+    unset CESU8_CLI
+    echo 'java_strings.sh was run'
+}
+
+# The strings of a file to code units, which java_units.c keeps where a surrogate has no partner: the two
+# halves of a pair apart, the pair, the wrong way round, and before a pair. Then those of the JDK's own
+# class files, as `readUTF` reads them.
+in_java_units() {
+    local program=$scratch/java_units strings=$scratch/strings_of_units count
+    compile -std=c99 -O2 -Wall -Wextra -Wconversion -pedantic -Werror -I "$unpacked/include" \
+        -o "$program" "$unpacked/examples/java_units.c" "$unpacked/lib/libcesu8.a" ||
+        { wrong 'java_units.c does not build'; return; }
+    {
+        printf '\0\4a\355\240\275\0\0\0\7\355\262\226\303\251\300\200'
+        printf '\0\6\355\240\275\355\262\226\0\6\355\262\226\355\240\275'
+        printf '\0\14\355\240\275\355\240\275\355\262\226\342\202\254'
+    } >"$strings"
+    diff <("$program" "$strings"; echo $?) \
+        <(printf '%s\n' '0061 D83D' '' 'DC96 00E9 0000' 'D83D DC96' 'DC96 D83D' 'D83D D83D DC96 20AC' 0) ||
+        wrong 'java_units.c prints other code units'
+    refuses_units '\0' 'input is truncated'
+    refuses_units '\0\4abc' 'input is truncated'
+    for damage in '\0\1\377' '\0\3a\355\240' '\0\1\0' '\0\2\301\201' '\0\3\340\201\201' \
+        '\0\4\360\237\222\226' '\0\3\355\240a' '\0\3\355\300\200'; do
+        refuses_units "$damage" 'invalid input'
+    done
+    if ! can_build 'java_units.c with the strings of a JDK' java -version; then return; fi
+    mkdir "$scratch/jdk" || exit 2
+    count=$(cd "$scratch/jdk" && java "$top/tests/peers/Constants.java" 2>"$scratch/said") ||
+        { cat "$scratch/said"; echo 'java runs no source: java_units.c with the strings of a JDK skipped'; return; }
+    ((${count% *} > 100000)) || wrong "the JDK has few strings: $count"
+    "$program" "$scratch/jdk/strings" | cmp - "$scratch/jdk/units" ||
+        wrong 'java_units.c reads the strings of the JDK otherwise'
+    echo "java_units.c read the ${count% *} strings of the JDK, ${count#* } with a surrogate alone"
+    rm -r "$scratch/jdk"
+}
+
+# That java_units.c refuses what is behind the strings of in_java_units: `refuses_units BYTES WHY`.
+refuses_units() {
+    { cat "$scratch/strings_of_units"; printf '%b' "${1//\\/\\0}"; } >"$scratch/damaged"
+    "$scratch/java_units" "$scratch/damaged" >"$scratch/printed" 2>"$scratch/said"
+    [[ $? == 1 && $(<"$scratch/said") == "$scratch/damaged: $2" ]] || wrong "java_units.c takes $1"
+    (($(wc -l <"$scratch/printed") == 6)) || wrong "java_units.c prints other strings before $1"
+}
