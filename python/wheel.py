@@ -82,7 +82,7 @@ def package(release: Path) -> dict[str, bytes]:
     files = {MODULE: module(release)}
     files["cesu8/BUILT-FROM"] = (release / "BUILT-FROM").read_bytes()
     for path in (SOURCES / "cesu8").iterdir():
-        if path.suffix == ".py" or path.name == "py.typed":
+        if path.suffix in (".py", ".pyi") or path.name == "py.typed":
             files[f"cesu8/{path.name}"] = path.read_bytes()
     return files
 

@@ -43,7 +43,7 @@ folder = re.match(r"(cesu8-[0-9.]+\.dist-info)/", names[0])[1]
 licences = ["APACHE", "MIT", "simdutf8"]
 wanted = [f"{folder}/{name}" for name in ("METADATA", "RECORD", "WHEEL")]
 wanted += [f"{folder}/licenses/LICENSE-{name}" for name in licences]
-package = ["BUILT-FROM", "__init__.py", "_codec.py", "_native.abi3.so", "py.typed"]
+package = ["BUILT-FROM", "__init__.py", "_codec.py", "_native.abi3.so", "_native.pyi", "py.typed"]
 wanted += [f"cesu8/{name}" for name in package]
 assert names == wanted, names
 # An archive has even seconds alone.
