@@ -105,6 +105,8 @@ run_tests() {
     local arguments=("$top/tests/wheel" "$1" "$2")
     shift 2
     if ! (cd "$scratch" && CESU8_VERSION=$version "$@" -B -W error - "${arguments[@]}" <<'PYTHON'); then
+import pathlib
+import re
 import sys
 import unittest
 
@@ -112,8 +114,11 @@ folder, pattern, site = sys.argv[1:]
 if site:
     sys.path.insert(0, site)
 suite = unittest.defaultTestLoader.discover(folder, pattern)
+texts = [path.read_text(encoding="utf-8") for path in pathlib.Path(folder).glob(pattern)]
+there = sum(len(re.findall(r"^ +def test_", text, re.MULTILINE)) for text in texts)
+assert suite.countTestCases() == there > 0, f"{there} tests are there"
 result = unittest.TextTestRunner(stream=sys.stdout, verbosity=1).run(suite)
-sys.exit(not result.wasSuccessful() or result.testsRun < (50 if "*" in pattern else 5))
+sys.exit(not result.wasSuccessful())
 PYTHON
         wrong "the tests of the wheel by $*"
     fi
