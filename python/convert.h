@@ -112,11 +112,20 @@ static PyObject *text_with_surrogates(const uint8_t *utf8, size_t length)
     return text;
 }
 
+// An attribute by a name that is there once. Python keeps others in its cache of attributes.
+static PyObject *attribute(PyObject *object, const char *name)
+{
+    PyObject *interned = object == NULL ? NULL : PyUnicode_InternFromString(name);
+    PyObject *value = interned == NULL ? NULL : PyObject_GetAttr(object, interned);
+    Py_XDECREF(interned);
+    return value;
+}
+
 // What a function of the package in Python returns for these arguments.
 static PyObject *in_python(const char *name, PyObject *arguments)
 {
     PyObject *module = arguments == NULL ? NULL : PyImport_ImportModule("cesu8._codec");
-    PyObject *function = module == NULL ? NULL : PyObject_GetAttrString(module, name);
+    PyObject *function = attribute(module, name);
     PyObject *result = function == NULL ? NULL : PyObject_CallObject(function, arguments);
     Py_XDECREF(function);
     Py_XDECREF(module);

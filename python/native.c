@@ -70,23 +70,22 @@ static PyObject *row_of(PyObject *data)
 {
     if (PyBytes_CheckExact(data))
         return Py_NewRef(data);
-    PyObject *view = PyMemoryView_FromObject(data);
-    PyObject *size = view == NULL ? NULL : PyObject_GetAttrString(view, "nbytes");
-    if (size == NULL || PyLong_AsSsize_t(size) == PyObject_Size(view)) {
-        Py_XDECREF(size);
-        return view;
-    }
-    // Without dimensions there is no length.
-    PyErr_Clear();
-    PyObject *row = PyObject_CallMethod(view, "cast", "s", "B");
-    if (row == NULL) {
+    PyObject *view = PyMemoryView_FromObject(data), *size = attribute(view, "nbytes"), *row = view;
+    if (size != NULL && PyLong_AsSsize_t(size) != PyObject_Size(view)) {
+        // Without dimensions there is no length.
         PyErr_Clear();
-        PyObject *copy = PyBytes_FromObject(view);
-        row = copy == NULL ? NULL : PyMemoryView_FromObject(copy);
-        Py_XDECREF(copy);
+        PyObject *cast = attribute(view, "cast");
+        row = cast == NULL ? NULL : PyObject_CallFunction(cast, "s", "B");
+        if (row == NULL) {
+            PyErr_Clear();
+            PyObject *copy = PyBytes_FromObject(view);
+            row = copy == NULL ? NULL : PyMemoryView_FromObject(copy);
+            Py_XDECREF(copy);
+        }
+        Py_XDECREF(cast);
+        Py_DECREF(view);
     }
-    Py_DECREF(size);
-    Py_DECREF(view);
+    Py_XDECREF(size);
     return row;
 }
 

@@ -209,19 +209,19 @@ class Objects(unittest.TestCase):
                 call(*arguments)
 
     def assert_keeps_nothing(self, call: Callable[[], None]) -> None:
-        """In the first calls Python itself keeps something, so of five rounds the best counts."""
+        """In the first calls Python itself keeps something, so the best of some rounds counts."""
         tracemalloc.start()
         self.addCleanup(tracemalloc.stop)
         best = [sys.maxsize] * (len(TEXTS) + 2)
-        for _ in range(5):
+        for _ in range(4):
             before = self.kept()
-            for _ in range(4):
+            for _ in range(3):
                 call()
             after = self.kept()
             best = [min(least, abs(now - then)) for least, now, then in zip(best, after, before)]
         *references, memory = best
-        self.assertLess(max(references), 4)
-        self.assertLess(memory, 1000)
+        self.assertLess(max(references), 3)
+        self.assertLess(memory, 100)
 
     @staticmethod
     def kept() -> list[int]:
