@@ -1,5 +1,4 @@
-// The package's calls, by what Python's interface has in each version from 3.10 on. Nothing of this
-// is proved.
+// The package's calls, by what Python's interface has from 3.10 on. Nothing of this is proved.
 
 #define Py_LIMITED_API 0x030A0000
 #include "convert.h"
@@ -9,17 +8,22 @@
 static int take(const char *const *names, int needed, int strings, PyObject *const *given,
     Py_ssize_t count, PyObject *keywords, PyObject **found)
 {
-    Py_ssize_t all = count + (keywords == NULL ? 0 : PyTuple_Size(keywords)), place;
-    for (Py_ssize_t at = 0; at < all; at++) {
+    Py_ssize_t place, named = keywords == NULL ? 0 : PyTuple_Size(keywords);
+    for (place = 0; place < count && names[place] != NULL; place++)
+        found[place] = given[place];
+    int is_right = place == count;
+    for (Py_ssize_t at = 0; is_right && at < named; at++) {
+        PyObject *name = PyTuple_GetItem(keywords, at);
         for (place = 0; names[place] != NULL; place++)
-            if (at < count ? place == at : PyUnicode_CompareWithASCIIString(
-                    PyTuple_GetItem(keywords, at - count), names[place]) == 0)
+            if (PyUnicode_CompareWithASCIIString(name, names[place]) == 0)
                 break;
-        if (names[place] == NULL || found[place] != NULL) {
-            PyErr_SetString(PyExc_TypeError, "an argument too many, twice or of an unknown name");
-            return 0;
-        }
-        found[place] = given[at];
+        is_right = names[place] != NULL && found[place] == NULL;
+        if (is_right)
+            found[place] = given[count + at];
+    }
+    if (!is_right) {
+        PyErr_SetString(PyExc_TypeError, "an argument too many, twice or of an unknown name");
+        return 0;
     }
     for (place = 0; names[place] != NULL; place++) {
         if (found[place] == NULL && place < needed)
@@ -126,7 +130,7 @@ static int cut_string(PyObject *row, Py_ssize_t start, struct part *string)
         PyObject *keywords)
 #define TAKE(needed, strings, ...) \
     PyObject *with[4] = {NULL}; \
-    const char *const names[] = {__VA_ARGS__, NULL}; \
+    static const char *const names[] = {__VA_ARGS__, NULL}; \
     if (!take(names, needed, strings, given, count, keywords, with)) \
         return NULL
 
@@ -307,9 +311,8 @@ static PyMethodDef METHODS[] = {
         "Count the UTF-16 code units of a text, as `len` of a string in JavaScript does.\n\n"
         "Raises UnicodeEncodeError for surrogates, which are in no text."),
     METHOD(compare_as_utf16, "(text, other)\n--\n\n"
-        "Compare two texts by their UTF-16 code units: -1, 0 or 1 as the first is less, equal or\n"
-        "greater.\n\n"
-        "So do Java's `compareTo`, JavaScript and RFC 8785, and `cesu-8` compares so.\n"
+        "Compare two texts by their UTF-16 code units, as Java and JavaScript do: -1, 0 or 1 as\n"
+        "the first is less, equal or greater.\n\n"
         "`functools.cmp_to_key` makes a key of it, to sort by. Raises UnicodeEncodeError for\n"
         "surrogates, which are in no text."),
     METHOD(write_utf, "(text, errors='strict')\n--\n\n"

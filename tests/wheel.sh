@@ -3,8 +3,8 @@
 # tests/wheel: on the standards' tables, all inputs of two bytes and all scalar values beside a plain
 # model, every error handler, every split of damaged bytes, files and streams, and Java's own bytes.
 # It also checks what the wheel holds, and that wheel.py writes the same bytes again. It then tests the
-# wheel once more in each other Python from 3.10 on that is there as python3.N, in the debug build that
-# Debian's python3-dbg has, and in python3 under valgrind.
+# wheel once more in each other Python from 3.10 on that is there as python3.N and in the debug build
+# that Debian's python3-dbg has, and the module in C by itself under valgrind.
 #
 # RELEASE names the folder that dist.sh has filled; where it is not set, dist.sh is run. Without
 # python3 with venv and the header that dist.sh needs, it says that it skipped everything; without Java,

@@ -26,10 +26,15 @@ def by_threads(change: Callable[[], None], call: Callable[[], None], seconds: fl
     """Calls in a second thread until some seconds are over, while this one changes things."""
     interval = sys.getswitchinterval()
     is_over = threading.Event()
+    failures = []
 
     def go_on() -> None:
-        while not is_over.is_set():
-            call()
+        try:
+            while not is_over.is_set():
+                call()
+        except BaseException as error:
+            failures.append(error)
+            is_over.set()
 
     thread = threading.Thread(target=go_on)
     timer = threading.Timer(seconds, is_over.set)
@@ -44,6 +49,8 @@ def by_threads(change: Callable[[], None], call: Callable[[], None], seconds: fl
         timer.cancel()
         thread.join()
         sys.setswitchinterval(interval)
+    if failures:
+        raise failures[0]
 
 
 class Copies(unittest.TestCase):
