@@ -212,7 +212,7 @@ class Objects(unittest.TestCase):
         """In the first calls Python itself keeps something, so the best of some rounds counts."""
         tracemalloc.start()
         self.addCleanup(tracemalloc.stop)
-        best = [sys.maxsize] * (len(TEXTS) + 2)
+        best = [sys.maxsize] * len(self.kept())
         for _ in range(4):
             before = self.kept()
             for _ in range(3):
@@ -226,5 +226,7 @@ class Objects(unittest.TestCase):
     @staticmethod
     def kept() -> list[int]:
         gc.collect()
-        references = [sys.getrefcount(value) for value in (*TEXTS, DATA)]
+        # From 3.12 on Python does not count references to what it has for ever, as to a letter.
+        values = [text for text in TEXTS if len(text) > 99]
+        references = [sys.getrefcount(value) for value in (*values, DATA)]
         return [*references, tracemalloc.get_traced_memory()[0]]

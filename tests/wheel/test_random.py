@@ -12,7 +12,7 @@ import cesu8
 import model
 from test_codecs import ENCODE_HANDLERS, HANDLERS
 
-CASES = int(os.environ.get("CASES", "3000"))
+CASES = int(os.environ.get("CASES", "1000"))
 SEED = os.environ.get("SEED", "1")
 
 # Fragments of characters, and whole ones, as each encoding and UTF-8 have them.
