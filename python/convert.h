@@ -93,7 +93,7 @@ static PyObject *text_of(const uint8_t *utf8, size_t length)
     return PyUnicode_DecodeUTF8((const char *)utf8, (Py_ssize_t)length, NULL);
 }
 
-// The text of UTF-8 with surrogates, of which Python's own decoder takes ten times as long.
+// The text of UTF-8 with surrogates, with which Python's own decoder takes several times as long.
 static PyObject *text_with_surrogates(const uint8_t *utf8, size_t length)
 {
     wchar_t *wide = length > MOST ? NULL : PyMem_Malloc(length * sizeof *wide), *end = wide;

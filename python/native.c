@@ -217,7 +217,7 @@ static PyObject *codec_decode(
         part.stop = before_cut(&part, errors);
     PyObject *text = text_by(&part, 0, errors, &length);
     Py_DECREF(data);
-    return both(text, length);
+    return both(text, is_final ? part.end : length);
 }
 
 #define CODEC(name, does, is_mutf8) CALL(name) { return does(is_mutf8, given, count, keywords); }

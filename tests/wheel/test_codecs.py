@@ -168,6 +168,9 @@ class Decoding(unittest.TestCase):
         codecs.register_error("cesu8.mend", mend)
         for encoding in (*model.ENCODINGS, "utf-8"):
             self.assertEqual(b"A\xffB".decode(encoding, "cesu8.mend"), "A!mended")
+        for encoding in model.ENCODINGS:
+            found = codecs.lookup(encoding).decode(b"A\xffB", "cesu8.mend")
+            self.assertEqual(found, ("A!mended", 3))
 
     def test_handler_with_other_damaged_input(self) -> None:
         """Damage is searched for anew in other input, where the old one had a run of it."""
