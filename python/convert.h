@@ -208,7 +208,10 @@ static PyObject *front(const struct part *part, const char *errors, Py_ssize_t *
 {
     struct input left = between(part->data, part->start, part->stop);
     int is_strict = strcmp(errors, "strict") == 0, has_surrogates = strncmp(errors, "surr", 4) == 0;
-    size_t widest = strcmp(errors, "backslashreplace") == 0 ? 4 : is_strict ? 0 : 3;
+    // How many bytes at most come from one.
+    size_t widest = strcmp(errors, "backslashreplace") == 0 ? 4
+        : strcmp(errors, "surrogateescape") == 0            ? 3
+                                                            : !is_strict;
     uint8_t *buffer = left.length > MOST ? NULL : PyMem_Malloc(widest * left.length);
     uint8_t *output = buffer;
     if (buffer == NULL)
