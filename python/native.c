@@ -1,197 +1,287 @@
-// The calls of the library on Python's objects, by what Python's interface has in each version from
-// 3.10 on. Nothing of this is proved. None means refused input, which the package looks into.
+// The package's calls, by what Python's interface has from 3.10 on. Nothing of this is proved.
 
 #define Py_LIMITED_API 0x030A0000
-#include <Python.h>
-#include "cesu8.h"
+#include "convert.h"
 
-enum {
-    LONGEST = 6, // A surrogate pair.
-    // A result of so many bytes needs no request for memory.
-    FEW = 512,
-    // From so many bytes on, other threads run meanwhile. With fewer, a call would only wait.
-    MANY = 65536
-};
-
-typedef struct cesu8_answer tells(const uint8_t *, size_t);
-typedef struct cesu8_answer writes(const uint8_t *, size_t, uint8_t *, size_t);
-
-// By whether they are for MUTF-8; and the last by whether they are lenient, and lossy.
-static tells *const TELLS[2] = {cesu8_decoded_len, cesu8_mutf8_decoded_len};
-static tells *const LOOKS[2] = {cesu8_valid_up_to, cesu8_mutf8_valid_up_to};
-static writes *const ENCODES[2] = {cesu8_encode, cesu8_mutf8_encode};
-static writes *const DECODES[2][2][2] = {
-    {{cesu8_decode_strict, cesu8_decode_lossy_strict}, {cesu8_decode, cesu8_decode_lossy}},
-    {{cesu8_mutf8_decode_strict, cesu8_mutf8_decode_lossy_strict},
-     {cesu8_mutf8_decode, cesu8_mutf8_decode_lossy}},
-};
-
-struct input {
-    const uint8_t *bytes;
-    size_t length;
-};
-
-// What a bytes object, which nobody changes, has between two places, as far as they are in it.
-static struct input part_of(PyObject *data, Py_ssize_t start, Py_ssize_t stop)
+// Finds the arguments of a call by their places and names. The first ones are needed, and where
+// `strings` has a bit they are strings. The result is 0 with an exception.
+static int take(const char *const *names, int needed, int strings, PyObject *const *given,
+    Py_ssize_t count, PyObject *keywords, PyObject **found)
 {
-    Py_ssize_t length = PyBytes_Size(data);
-    stop = stop < 0 ? 0 : stop < length ? stop : length;
-    start = start < 0 ? 0 : start < stop ? start : stop;
-    return (struct input){(const uint8_t *)PyBytes_AsString(data) + start, (size_t)(stop - start)};
+    Py_ssize_t place, named = keywords == NULL ? 0 : PyTuple_Size(keywords);
+    for (place = 0; place < count && names[place] != NULL; place++)
+        found[place] = given[place];
+    int is_right = place == count;
+    for (Py_ssize_t at = 0; is_right && at < named; at++) {
+        PyObject *name = PyTuple_GetItem(keywords, at);
+        for (place = 0; names[place] != NULL; place++)
+            if (PyUnicode_CompareWithASCIIString(name, names[place]) == 0)
+                break;
+        is_right = names[place] != NULL && found[place] == NULL;
+        if (is_right)
+            found[place] = given[count + at];
+    }
+    if (!is_right) {
+        PyErr_SetString(PyExc_TypeError, "an argument too many, twice or of an unknown name");
+        return 0;
+    }
+    for (place = 0; names[place] != NULL; place++) {
+        if (found[place] == NULL && place < needed)
+            PyErr_Format(PyExc_TypeError, "argument '%s' is missing", names[place]);
+        else if (strings >> place & 1 && found[place] != NULL && !PyUnicode_Check(found[place]))
+            PyErr_Format(PyExc_TypeError, "argument '%s' must be str, not %R", names[place],
+                Py_TYPE(found[place]));
+        else
+            continue;
+        return 0;
+    }
+    return 1;
 }
 
-static struct input bytes_of(PyObject *data)
+// What a string says, which has no NUL. The result is null with an exception.
+static const char *said(PyObject *string)
 {
-    return part_of(data, 0, PY_SSIZE_T_MAX);
+    Py_ssize_t length;
+    const char *said = PyUnicode_AsUTF8AndSize(string, &length);
+    if (said == NULL || strlen(said) == (size_t)length)
+        return said;
+    PyErr_SetString(PyExc_ValueError, "embedded null character");
+    return NULL;
 }
 
-static struct cesu8_answer tell(tells *call, struct input input)
+static const char *handler(PyObject *errors)
 {
-    PyThreadState *state = input.length < MANY ? NULL : PyEval_SaveThread();
-    struct cesu8_answer answer = call(input.bytes, input.length);
-    if (state != NULL)
-        PyEval_RestoreThread(state);
-    return answer;
+    return errors == NULL ? "strict" : said(errors);
 }
 
-static struct cesu8_answer run(writes *call, struct input input, uint8_t *buffer, size_t room)
+// Whether an encoding is MUTF-8, or -1 with an exception.
+static int is_mutf8(PyObject *encoding)
 {
-    PyThreadState *state = input.length < MANY ? NULL : PyEval_SaveThread();
-    struct cesu8_answer answer = call(input.bytes, input.length, buffer, room);
-    if (state != NULL)
-        PyEval_RestoreThread(state);
-    return answer;
+    static const char *const SPELLINGS[8] = {
+        "cesu-8", "mutf-8", "cesu_8", "mutf_8", "cesu 8", "mutf 8", "cesu8", "mutf8"};
+    const char *name = said(encoding);
+    for (int at = 0; name != NULL && at < 8; at++)
+        if (PyOS_mystricmp(name, SPELLINGS[at]) == 0)
+            return at % 2;
+    if (name != NULL)
+        PyErr_Format(PyExc_LookupError, "cesu8 has no encoding %R", encoding);
+    return -1;
 }
 
-// What a call makes of a text, or None for surrogates.
-static PyObject *written(writes *call, PyObject *text)
+// Bytes themselves, or a view of other data, which is sliced by the byte and copies nothing. Only
+// items of more bytes that are not in a row are copied.
+static PyObject *row_of(PyObject *data)
 {
-    PyObject *utf8 = PyUnicode_AsUTF8String(text), *result = NULL;
-    if (utf8 == NULL) {
-        if (!PyErr_ExceptionMatches(PyExc_UnicodeEncodeError))
-            return NULL;
+    if (PyBytes_CheckExact(data))
+        return Py_NewRef(data);
+    PyObject *view = PyMemoryView_FromObject(data), *size = attribute(view, "nbytes"), *row = view;
+    if (size != NULL && PyLong_AsSsize_t(size) != PyObject_Size(view)) {
+        // Without dimensions there is no length.
         PyErr_Clear();
-        return Py_NewRef(Py_None);
+        PyObject *cast = attribute(view, "cast");
+        row = cast == NULL ? NULL : PyObject_CallFunction(cast, "s", "B");
+        if (row == NULL) {
+            PyErr_Clear();
+            PyObject *copy = PyBytes_FromObject(view);
+            row = copy == NULL ? NULL : PyMemoryView_FromObject(copy);
+            Py_XDECREF(copy);
+        }
+        Py_XDECREF(cast);
+        Py_DECREF(view);
     }
-    uint8_t few[FEW];
-    struct input input = bytes_of(utf8);
-    struct cesu8_answer answer = run(call, input, few, sizeof few);
-    // Each character that a call changes gets longer, so here none does.
-    if (answer.status == CESU8_TOO_SMALL && answer.length == input.length)
-        return utf8;
-    if (answer.status == CESU8_OK) {
-        result = PyBytes_FromStringAndSize((char *)few, (Py_ssize_t)answer.length);
-    } else if (answer.status == CESU8_TOO_SMALL) {
-        result = PyBytes_FromStringAndSize(NULL, (Py_ssize_t)answer.length);
-        if (result != NULL)
-            run(call, input, (uint8_t *)PyBytes_AsString(result), answer.length);
-    } else {
-        PyErr_SetString(PyExc_OverflowError, "the text has more than 65,535 bytes of MUTF-8");
-    }
-    Py_DECREF(utf8);
-    return result;
+    Py_XDECREF(size);
+    return row;
 }
 
-static PyObject *text_of(const uint8_t *utf8, size_t length)
+// Takes a part of MUTF-8 out of what row_of gives. The result is 0 with an exception.
+static int cut_out(PyObject *row, Py_ssize_t start, Py_ssize_t stop, struct part *part)
 {
-    return PyUnicode_DecodeUTF8((const char *)utf8, (Py_ssize_t)length, NULL);
+    if (PyBytes_CheckExact(row)) {
+        *part = (struct part){Py_NewRef(row), start, stop, stop, 1, 0};
+        return 1;
+    }
+    PyObject *slice = PySequence_GetSlice(row, start, stop);
+    PyObject *copy = slice == NULL ? NULL : PyBytes_FromObject(slice);
+    *part = (struct part){copy, 0, stop - start, stop - start, 1, 0};
+    Py_XDECREF(slice);
+    return part->data != NULL;
 }
 
-// The text that a call reads, or None.
-static PyObject *decoded(int is_mutf8, int is_lenient, int is_lossy, struct input input)
+// Takes out the string whose count is at a place of the row. The result is 0 with an exception.
+static int cut_string(PyObject *row, Py_ssize_t start, struct part *string)
 {
-    uint8_t few[FEW], *buffer = few;
-    writes *call = DECODES[is_mutf8][is_lenient][is_lossy];
-    // Where surrogate pairs are, a buffer is needed, so to count first would only take longer.
-    int is_counted = is_lossy || input.length <= FEW || memchr(input.bytes, 0xED, FEW) == NULL;
-    struct cesu8_answer answer = {CESU8_TOO_SMALL, input.length};
-    answer = is_counted ? run(call, input, few, sizeof few) : answer;
-    if (answer.status == CESU8_TOO_SMALL) {
-        // Each character that another than a lossy call changes gets shorter, so here none does.
-        if (is_counted && !is_lossy && answer.length == input.length)
-            return text_of(input.bytes, input.length);
-        buffer = PyMem_Malloc(answer.length);
-        if (buffer == NULL)
-            return PyErr_NoMemory();
-        answer = run(call, input, buffer, answer.length);
+    struct part count;
+    Py_ssize_t left = PyObject_Size(row) - start, length = left;
+    if (left >= 2) {
+        if (!cut_out(row, start, start + 2, &count))
+            return 0;
+        const uint8_t *bytes = between(count.data, count.start, count.stop).bytes;
+        length = 256 * bytes[0] + bytes[1];
+        Py_DECREF(count.data);
     }
-    PyObject *text = answer.status ? Py_NewRef(Py_None) : text_of(buffer, answer.length);
-    if (buffer != few)
-        PyMem_Free(buffer);
+    if (length <= left - 2)
+        return cut_out(row, start + 2, start + 2 + length, string);
+    PyErr_Format(PyExc_EOFError, "the string at %zd is cut: %zd bytes are there", start, left);
+    return 0;
+}
+
+#define CALL(name) \
+    static PyObject *name(PyObject *Py_UNUSED(module), PyObject *const *given, Py_ssize_t count, \
+        PyObject *keywords)
+#define TAKE(needed, strings, ...) \
+    PyObject *with[4] = {NULL}; \
+    static const char *const names[] = {__VA_ARGS__, NULL}; \
+    if (!take(names, needed, strings, given, count, keywords, with)) \
+        return NULL
+
+CALL(encode)
+{
+    TAKE(2, 7, "text", "encoding", "errors");
+    const char *errors = handler(with[2]);
+    int encoding = errors == NULL ? -1 : is_mutf8(with[1]);
+    return encoding < 0 ? NULL : bytes_by(ENCODES[encoding], encoding, with[0], errors);
+}
+
+CALL(decode)
+{
+    TAKE(2, 6, "data", "encoding", "errors", "lenient");
+    const char *errors = handler(with[2]);
+    int encoding = errors == NULL ? -1 : is_mutf8(with[1]);
+    int is_lenient = encoding < 0 || with[3] == NULL ? 0 : PyObject_IsTrue(with[3]);
+    PyObject *data = encoding < 0 || is_lenient < 0 ? NULL : bytes_of(with[0]);
+    if (data == NULL)
+        return NULL;
+    Py_ssize_t length = PyBytes_Size(data);
+    struct part part = {data, 0, length, length, encoding, 0};
+    PyObject *text = text_by(&part, is_lenient, errors, &length);
+    Py_DECREF(data);
     return text;
 }
 
-// encode(is_mutf8, text)
-static PyObject *encode(PyObject *Py_UNUSED(module), PyObject *arguments)
+CALL(write_utf)
 {
-    int is_mutf8;
-    PyObject *text;
-    int is_right = PyArg_ParseTuple(arguments, "pU", &is_mutf8, &text);
-    return is_right ? written(ENCODES[is_mutf8], text) : NULL;
+    TAKE(1, 3, "text", "errors");
+    const char *errors = handler(with[1]);
+    return errors == NULL ? NULL : bytes_by(cesu8_java_write, 1, with[0], errors);
 }
 
-// decode(is_mutf8, is_lenient, is_lossy, data), and with `start, stop` the bytes between
-static PyObject *decode(PyObject *Py_UNUSED(module), PyObject *arguments)
+CALL(read_utf)
 {
-    int is_mutf8, is_lenient, is_lossy;
-    Py_ssize_t start = 0, stop = PY_SSIZE_T_MAX;
-    PyObject *data;
+    TAKE(1, 4, "data", "start", "errors");
+    const char *errors = handler(with[2]);
+    Py_ssize_t start = errors == NULL || with[1] == NULL ? 0 : PyNumber_AsSsize_t(with[1], NULL);
+    PyObject *row = PyErr_Occurred() ? NULL : row_of(with[0]);
+    if (row == NULL)
+        return NULL;
+    struct part string;
+    int is_there = start >= 0 && start <= PyObject_Size(row);
+    if (!is_there)
+        PyErr_Format(PyExc_ValueError, "start is %R, and the data has %zd bytes", with[1],
+            PyObject_Size(row));
+    is_there = is_there && cut_string(row, start, &string);
+    // A handler may change the data, so nothing holds on to it.
+    Py_DECREF(row);
+    if (!is_there)
+        return NULL;
+    Py_ssize_t place;
+    PyObject *text = text_by(&string, 0, errors, &place);
+    Py_DECREF(string.data);
+    return both(text, start + 2 + string.stop - string.start);
+}
+
+// What a codec does also tells how much is read.
+static PyObject *codec_encode(
+    int is_mutf8, PyObject *const *given, Py_ssize_t count, PyObject *keywords)
+{
+    TAKE(1, 3, "input", "errors");
+    const char *errors = handler(with[1]);
+    if (errors == NULL)
+        return NULL;
+    PyObject *bytes = bytes_by(ENCODES[is_mutf8], is_mutf8, with[0], errors);
+    return both(bytes, PyUnicode_GetLength(with[0]));
+}
+
+static PyObject *codec_decode(
+    int is_mutf8, PyObject *const *given, Py_ssize_t count, PyObject *keywords)
+{
+    TAKE(1, 2, "input", "errors", "final");
+    const char *errors = handler(with[1]);
+    int is_final = errors == NULL || with[2] == NULL ? 1 : PyObject_IsTrue(with[2]);
+    PyObject *data = errors == NULL || is_final < 0 ? NULL : bytes_of(with[0]);
+    if (data == NULL)
+        return NULL;
+    // In the view that Python's own `decode` hands over, a caller's bytearray may be held.
+    Py_ssize_t length = PyBytes_Size(data);
+    struct part part = {data, 0, length, length, is_mutf8, PyMemoryView_Check(with[0])};
+    if (!is_final)
+        part.stop = before_cut(&part, errors);
+    PyObject *text = text_by(&part, 0, errors, &length);
+    Py_DECREF(data);
+    return both(text, is_final ? part.end : length);
+}
+
+#define CODEC(name, does, is_mutf8) CALL(name) { return does(is_mutf8, given, count, keywords); }
+CODEC(cesu_8_encode, codec_encode, 0)
+CODEC(cesu_8_decode, codec_decode, 0)
+CODEC(mutf_8_encode, codec_encode, 1)
+CODEC(mutf_8_decode, codec_decode, 1)
+
+// next_text(is_mutf8, data, start, stop): the whole characters in front of these bytes.
+static PyObject *next_text(PyObject *Py_UNUSED(module), PyObject *arguments)
+{
+    struct part part = {NULL, 0, 0, 0, 0, 0};
+    Py_ssize_t place;
     if (!PyArg_ParseTuple(
-            arguments, "pppS|nn", &is_mutf8, &is_lenient, &is_lossy, &data, &start, &stop))
+            arguments, "pSnn", &part.is_mutf8, &part.data, &part.start, &part.stop))
         return NULL;
-    return decoded(is_mutf8, is_lenient, is_lossy, part_of(data, start, stop));
+    PyObject *text = front(&part, "", &place);
+    return both(text, place);
 }
 
-// decoded_len(is_mutf8, data)
-static PyObject *decoded_len(PyObject *Py_UNUSED(module), PyObject *arguments)
+// next_error(is_mutf8, data, place, end): the exception for the byte there, which is in none.
+static PyObject *next_error(PyObject *Py_UNUSED(module), PyObject *arguments)
 {
-    int is_mutf8;
     PyObject *data;
-    if (!PyArg_ParseTuple(arguments, "pS", &is_mutf8, &data))
-        return NULL;
-    struct cesu8_answer answer = tell(TELLS[is_mutf8], bytes_of(data));
-    return answer.status == CESU8_OK ? PyLong_FromSize_t(answer.length) : Py_NewRef(Py_None);
-}
-
-// damage(is_mutf8, data, start, stop): where the first bytes in no character begin, and where some
-// of them end. Other threads wait, since in damaged data the next ones are mostly near.
-static PyObject *damage(PyObject *Py_UNUSED(module), PyObject *arguments)
-{
+    Py_ssize_t place, end;
     int is_mutf8;
-    PyObject *data;
-    Py_ssize_t start, stop;
-    if (!PyArg_ParseTuple(arguments, "pSnn", &is_mutf8, &data, &start, &stop))
-        return NULL;
-    tells *look = LOOKS[is_mutf8];
-    struct input input = part_of(data, start, stop);
-    size_t first = look(input.bytes, input.length).length, end = first;
-    for (size_t left; (left = input.length - end) > 0 && end - first < FEW; end++)
-        if (look(input.bytes + end, left < LONGEST ? left : LONGEST).length > 0)
-            break;
-    return Py_BuildValue("nn", start + (Py_ssize_t)first, start + (Py_ssize_t)end);
+    int is_right = PyArg_ParseTuple(arguments, "pSnn", &is_mutf8, &data, &place, &end);
+    return is_right ? error_at(is_mutf8, data, place, end) : NULL;
 }
 
-// utf16_len(text)
-static PyObject *utf16_len(PyObject *Py_UNUSED(module), PyObject *arguments)
+CALL(decoded_len)
 {
-    PyObject *text, *utf8;
-    if (!PyArg_ParseTuple(arguments, "U", &text) || (utf8 = PyUnicode_AsUTF8String(text)) == NULL)
+    TAKE(2, 2, "data", "encoding");
+    int encoding = is_mutf8(with[1]);
+    PyObject *data = encoding < 0 ? NULL : bytes_of(with[0]);
+    if (data == NULL)
         return NULL;
-    struct cesu8_answer answer = tell(cesu8_utf16_len, bytes_of(utf8));
+    struct input input = between(data, 0, PyBytes_Size(data));
+    // Without a buffer this counts.
+    struct cesu8_answer answer = run(DECODES[encoding][0][0], input, 0, NULL, 0);
+    Py_DECREF(data);
+    return answer.status == CESU8_INVALID ? Py_NewRef(Py_None) : PyLong_FromSize_t(answer.length);
+}
+
+CALL(utf16_len)
+{
+    TAKE(1, 1, "text");
+    PyObject *utf8 = PyUnicode_AsUTF8String(with[0]);
+    if (utf8 == NULL)
+        return NULL;
+    struct input input = between(utf8, 0, PyBytes_Size(utf8));
+    size_t length = cesu8_utf16_len(input.bytes, input.length).length;
     Py_DECREF(utf8);
-    return PyLong_FromSize_t(answer.length);
+    return PyLong_FromSize_t(length);
 }
 
-// compare_as_utf16(text, other)
-static PyObject *compare_as_utf16(PyObject *Py_UNUSED(module), PyObject *arguments)
+CALL(compare_as_utf16)
 {
-    PyObject *text, *other, *order = NULL;
-    if (!PyArg_ParseTuple(arguments, "UU", &text, &other))
-        return NULL;
-    text = PyUnicode_AsUTF8String(text);
-    other = text == NULL ? NULL : PyUnicode_AsUTF8String(other);
+    TAKE(2, 3, "text", "other");
+    PyObject *text = PyUnicode_AsUTF8String(with[0]), *order = NULL;
+    PyObject *other = text == NULL ? NULL : PyUnicode_AsUTF8String(with[1]);
     if (other != NULL) {
-        struct input left = bytes_of(text), right = bytes_of(other);
+        struct input left = between(text, 0, PyBytes_Size(text));
+        struct input right = between(other, 0, PyBytes_Size(other));
         order = PyLong_FromLong(
             cesu8_compare_as_utf16(left.bytes, left.length, right.bytes, right.length).order);
     }
@@ -200,50 +290,61 @@ static PyObject *compare_as_utf16(PyObject *Py_UNUSED(module), PyObject *argumen
     return order;
 }
 
-// write_utf(text)
-static PyObject *write_utf(PyObject *Py_UNUSED(module), PyObject *arguments)
-{
-    PyObject *text;
-    return PyArg_ParseTuple(arguments, "U", &text) ? written(cesu8_java_write, text) : NULL;
-}
-
-// read_utf(data, start, is_lossy): the text, or None, and the place behind the string, which is
-// `start` where the string is cut.
-static PyObject *read_utf(PyObject *Py_UNUSED(module), PyObject *arguments)
-{
-    PyObject *data, *from, *text;
-    int is_lossy;
-    if (!PyArg_ParseTuple(arguments, "SOp", &data, &from, &is_lossy))
-        return NULL;
-    Py_ssize_t start = PyNumber_AsSsize_t(from, NULL), length = PyBytes_Size(data);
-    if (!PyErr_Occurred() && (start < 0 || start > length))
-        PyErr_Format(PyExc_ValueError, "start is %S, and the data has %zd bytes", from, length);
-    if (PyErr_Occurred())
-        return NULL;
-    uint8_t few[FEW];
-    struct input input = part_of(data, start, length);
-    struct cesu8_reading reading = (is_lossy ? cesu8_java_read_lossy : cesu8_java_read)(
-        input.bytes, input.length, few, sizeof few);
-    if (reading.status == CESU8_OK)
-        text = text_of(few, reading.length);
-    else if (reading.status == CESU8_TOO_SMALL)
-        text = decoded(1, 0, is_lossy, (struct input){input.bytes + 2, reading.taken - 2});
-    else
-        text = Py_NewRef(Py_None);
-    return Py_BuildValue("Nn", text, start + (Py_ssize_t)reading.taken);
-}
-
-#define CALL(name) {#name, name, METH_VARARGS, NULL}
-static PyMethodDef FUNCTIONS[] = {
-    CALL(encode), CALL(decode), CALL(decoded_len), CALL(damage), CALL(utf16_len),
-    CALL(compare_as_utf16), CALL(write_utf), CALL(read_utf), {NULL, NULL, 0, NULL},
+#define METHOD(name, doc) \
+    {#name, (PyCFunction)(void (*)(void))name, METH_FASTCALL | METH_KEYWORDS, #name doc}
+static PyMethodDef METHODS[] = {
+    METHOD(encode, "(text, encoding, errors='strict')\n--\n\n"
+        "Encode a text to `cesu-8` or `mutf-8`, as `text.encode(encoding, errors)` does.\n\n"
+        "Raises UnicodeEncodeError for surrogates, which are in no text, and LookupError for\n"
+        "another encoding."),
+    METHOD(decode, "(data, encoding, errors='strict', lenient=False)\n--\n\n"
+        "Decode bytes of `cesu-8` or `mutf-8`, as `data.decode(encoding, errors)` does.\n\n"
+        "With `lenient`, data that is UTF-8 as a whole is decoded as UTF-8. Only other data has\n"
+        "to be of the encoding.\n\n"
+        "Raises UnicodeDecodeError for damage. Its `start` is the first byte in no encoded\n"
+        "character. Raises LookupError for another encoding."),
+    METHOD(decoded_len, "(data, encoding)\n--\n\n"
+        "Tell how many bytes of UTF-8 the text has whose `cesu-8` or `mutf-8` the data is, or\n"
+        "None where it is the encoding of no text.\n\n"
+        "So `decoded_len(...) is not None` tests data. Raises LookupError for another encoding."),
+    METHOD(utf16_len, "(text)\n--\n\n"
+        "Count the UTF-16 code units of a text, as `len` of a string in JavaScript does.\n\n"
+        "Raises UnicodeEncodeError for surrogates, which are in no text."),
+    METHOD(compare_as_utf16, "(text, other)\n--\n\n"
+        "Compare two texts by their UTF-16 code units, as Java and JavaScript do: -1, 0 or 1 as\n"
+        "the first is less, equal or greater.\n\n"
+        "`functools.cmp_to_key` makes a key of it, to sort by. Raises UnicodeEncodeError for\n"
+        "surrogates, which are in no text."),
+    METHOD(write_utf, "(text, errors='strict')\n--\n\n"
+        "Write a text as Java's `DataOutput.writeUTF` does: the count of its bytes of MUTF-8, in\n"
+        "two bytes, and then these.\n\n"
+        "Raises OverflowError if there are more than 65,535, and UnicodeEncodeError for\n"
+        "surrogates."),
+    METHOD(read_utf, "(data, start=0, errors='strict')\n--\n\n"
+        "Read the string at `start` that Java's `DataOutput.writeUTF` wrote: its text and the\n"
+        "place behind it.\n\n"
+        "Raises EOFError if the data ends within the string, ValueError if `start` is not in the\n"
+        "data, and UnicodeDecodeError for damage, with its place in the whole data; or in the\n"
+        "bytes of the string, of which alone it has a copy, if the data is not of bytes."),
+    METHOD(cesu_8_encode, "(input, errors='strict')\n--\n\n"),
+    METHOD(cesu_8_decode, "(input, errors='strict', final=True)\n--\n\n"),
+    METHOD(mutf_8_encode, "(input, errors='strict')\n--\n\n"),
+    METHOD(mutf_8_decode, "(input, errors='strict', final=True)\n--\n\n"),
+    {"next_text", next_text, METH_VARARGS, NULL},
+    {"next_error", next_error, METH_VARARGS, NULL},
+    {NULL, NULL, 0, NULL},
 };
-static PyModuleDef_Slot SLOTS[] = {{0, NULL}};
+
+// From 3.12 on, a slot of the number 3 and the value 2 says that the module works in interpreters
+// with a lock of their own.
+static PyModuleDef_Slot SLOTS[] = {{3, (void *)2}, {0, NULL}};
 static struct PyModuleDef MODULE = {
-    .m_base = PyModuleDef_HEAD_INIT, .m_name = "_native", .m_methods = FUNCTIONS, .m_slots = SLOTS,
+    .m_base = PyModuleDef_HEAD_INIT, .m_name = "_native", .m_methods = METHODS, .m_slots = SLOTS,
 };
 
 PyMODINIT_FUNC PyInit__native(void)
 {
+    if (atoi(Py_GetVersion() + strlen("3.")) < 12)
+        SLOTS[0].slot = 0;
     return PyModuleDef_Init(&MODULE);
 }

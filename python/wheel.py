@@ -74,7 +74,8 @@ def module(release: Path, compiler: list[str]) -> bytes:
     """The module in C."""
     with tempfile.TemporaryDirectory() as folder:
         path = Path(folder, "module.so")
-        command = [*compiler, "-std=c11", "-O2", "-fPIC", "-Wall", "-Wextra", "-Werror", "-DNDEBUG"]
+        command = [*compiler, "-std=c11", "-O2", "-fPIC", "-falign-functions=32", "-DNDEBUG"]
+        command += ["-Wall", "-Wextra", "-Werror"]
         command += ["-shared", "-s", "-o", str(path), str(SOURCES / "native.c")]
         command += ["-I", str(release / "include")]
         command += [str(release / "lib" / "libcesu8.a"), "-Wl,--exclude-libs,ALL,--fatal-warnings"]
@@ -107,7 +108,7 @@ def package(release: Path) -> dict[str, bytes]:
     files = {MODULE: module(release, aarch64() if is_for_aarch64(release) else x86_64())}
     files["cesu8/BUILT-FROM"] = (release / "BUILT-FROM").read_bytes()
     for path in (SOURCES / "cesu8").iterdir():
-        if path.suffix == ".py" or path.name == "py.typed":
+        if path.suffix in (".py", ".pyi") or path.name == "py.typed":
             files[f"cesu8/{path.name}"] = path.read_bytes()
     return files
 

@@ -3,9 +3,9 @@
 # tests/wheel: on the standards' tables, all inputs of two bytes and all scalar values beside a plain
 # model, every error handler, every split of damaged bytes, files and streams, and Java's own bytes.
 # It also checks what the wheel holds, and that wheel.py writes the same bytes again. It then tests the
-# wheel once more in each other Python from 3.10 on that is there as python3.N, in the debug build that
-# Debian's python3-dbg has, and in python3 under valgrind; and that for aarch64 in the Python of
-# AARCH64_ROOT (tests/cross.sh), in an emulator.
+# wheel once more in each other Python from 3.10 on that is there as python3.N and in the debug build
+# that Debian's python3-dbg has, and the module in C by itself under valgrind; and the wheel for aarch64 in
+# the Python of AARCH64_ROOT (tests/cross.sh), in an emulator.
 #
 # RELEASE names the folder that dist.sh has filled; where it is not set, dist.sh is run. Without
 # python3 with venv and the header that dist.sh needs, it says that it skipped everything; without Java,
@@ -46,7 +46,7 @@ folder = re.match(r"(cesu8-[0-9.]+\.dist-info)/", names[0])[1]
 licences = ["APACHE", "MIT", "simdutf8"]
 wanted = [f"{folder}/{name}" for name in ("METADATA", "RECORD", "WHEEL")]
 wanted += [f"{folder}/licenses/LICENSE-{name}" for name in licences]
-package = ["BUILT-FROM", "__init__.py", "_codec.py", "_native.abi3.so", "py.typed"]
+package = ["BUILT-FROM", "__init__.py", "_codec.py", "_native.abi3.so", "_native.pyi", "py.typed"]
 wanted += [f"cesu8/{name}" for name in package]
 assert names == wanted, names
 # An archive has even seconds alone.
@@ -123,6 +123,8 @@ run_tests() {
     shift 2
     if ! (cd "$scratch" && CESU8_VERSION=$version "$@" -B -W error - "${arguments[@]}" <<'PYTHON'); then
 import os
+import pathlib
+import re
 import sys
 import unittest
 
@@ -135,12 +137,16 @@ def each(suite):
 folder, pattern, site = sys.argv[1:]
 if site:
     sys.path.insert(0, site)
-tests = {test.id(): test for test in each(unittest.defaultTestLoader.discover(folder, pattern))}
+suite = unittest.defaultTestLoader.discover(folder, pattern)
+texts = [path.read_text(encoding="utf-8") for path in pathlib.Path(folder).glob(pattern)]
+there = sum(len(re.findall(r"^ +def test_", text, re.MULTILINE)) for text in texts)
+assert suite.countTestCases() == there > 0, f"{there} tests are there"
+tests = {test.id(): test for test in each(suite)}
 for name in os.environ.get("SLOW", "").split():
     del tests[name]
 suite = unittest.TestSuite(tests.values())
 result = unittest.TextTestRunner(stream=sys.stdout, verbosity=1).run(suite)
-sys.exit(not result.wasSuccessful() or result.testsRun < (50 if "*" in pattern else 5))
+sys.exit(not result.wasSuccessful())
 PYTHON
         wrong "the tests of the wheel by $*"
     fi

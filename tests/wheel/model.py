@@ -85,6 +85,54 @@ def damaged(data: bytes, encoding: str) -> list[int]:
     return [place for character, place in parts(data, encoding) if character is None]
 
 
+SURROGATES = {bytes(unit_bytes(unit, "cesu-8")): chr(unit) for unit in range(0xD800, 0xE000)}
+
+
+def surrogate_at(data: bytes, place: int) -> str | None:
+    """The surrogate that stands there as a character of three bytes."""
+    return SURROGATES.get(data[place : place + 3])
+
+
+def replaced(data: bytes, place: int, errors: str) -> tuple[str, int] | None:
+    """What one of Python's handlers gives for a damaged byte, and for how many bytes; or None where
+    it raises."""
+    byte = data[place]
+    if errors == "surrogatepass":
+        surrogate = surrogate_at(data, place)
+        return None if surrogate is None else (surrogate, 3)
+    if errors == "surrogateescape":
+        return (chr(0xDC00 + byte), 1) if byte >= 0x80 else None
+    texts = {"ignore": "", "replace": REPLACEMENT, "backslashreplace": f"\\x{byte:02x}"}
+    return (texts[errors], 1) if errors in texts else None
+
+
+def decoded(data: bytes, encoding: str, errors: str) -> str | int:
+    """The text by one of Python's handlers, or the place of the byte that is refused."""
+    text = ""
+    behind = 0
+    for character, place in parts(data, encoding):
+        if place < behind:
+            continue
+        if character is None:
+            answer = replaced(data, place, errors)
+            if answer is None:
+                return place
+            character, count = answer
+            behind = place + count
+        text += character
+    return text
+
+
+def encoded_by(text: str, encoding: str, errors: str) -> bytes:
+    """The encoding of a text with surrogates, for which a handler of Python's speaks to UTF-8."""
+    return b"".join(
+        character.encode("utf-8", errors)
+        if "\ud800" <= character <= "\udfff"
+        else encoded(character, encoding)
+        for character in text
+    )
+
+
 def fronts(encoding: str) -> set[bytes]:
     """The encoded characters without their last byte, or more."""
     # The last byte of two and more has 64 values in turn, so each 64th character has all fronts.

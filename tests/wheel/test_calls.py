@@ -3,6 +3,7 @@
 from __future__ import annotations
 
 import array
+import codecs
 import functools
 import mmap
 import threading
@@ -166,6 +167,7 @@ class JavaStrings(unittest.TestCase):
             ("a\ud800\0", "replace", "00 04 61 3F C0 80"),
             ("\ud800\U0001f496", "backslashreplace", "00 0C 5C 75 64 38 30 30 " + tables.PAIR),
             ("\udc80\udcff", "surrogateescape", "00 02 80 FF"),
+            ("\ud83d\0", "surrogatepass", "00 05 ED A0 BD C0 80"),
         ):
             self.assertEqual(cesu8.write_utf(text, errors), bytes.fromhex(row))
         self.assertEqual(cesu8.write_utf("\ud800" + 65534 * "a", "replace")[:3], b"\xff\xff?")
@@ -173,7 +175,6 @@ class JavaStrings(unittest.TestCase):
             cesu8.write_utf("\ud800" + 65535 * "a", "replace")
         for text, errors, error in (
             ("\ud800", "surrogateescape", UnicodeEncodeError),
-            ("\ud800", "surrogatepass", UnicodeEncodeError),
             ("\ud800", "cesu8.unknown", LookupError),
         ):
             with self.assertRaises(error):
@@ -186,6 +187,8 @@ class JavaStrings(unittest.TestCase):
             text, end = cesu8.read_utf(data, 0, "surrogateescape")
             self.assertEqual((len(text), end), (5, 8))
             self.assertEqual(cesu8.write_utf(text, "surrogateescape"), data)
+            self.assertEqual(cesu8.read_utf(data, 0, "surrogatepass"), (f"a{chr(unit)}\0", 8))
+            self.assertEqual(cesu8.write_utf(f"a{chr(unit)}\0", "surrogatepass"), data)
 
     def test_cut(self) -> None:
         for row in ("", "00", "00 01", "00 03 61 C0", "FF FF 61"):
@@ -217,6 +220,44 @@ class JavaStrings(unittest.TestCase):
         self.assertEqual(cesu8.read_utf(data, 0, "ignore"), ("", 5))
         self.assertEqual(cesu8.read_utf(data, 0, "surrogateescape"), ("\udced\udca0\udcbd", 5))
         self.assertEqual(cesu8.read_utf(b"x" + data, 1, "backslashreplace")[1], 6)
+
+    def test_long_strings(self) -> None:
+        """Results of more bytes than few, in a row, of which each reading gives something else."""
+        damaged = 100 * bytes.fromhex("41 C0 80 FF C2 A2")
+        utf8 = 150 * bytes.fromhex("41 F0 9F 92 96")
+        pairs = 120 * bytes.fromhex(tables.PAIR + "C0 80")
+        strings = [damaged, utf8, pairs, 513 * b"a", 600 * b"\xc0\x80", 65535 * b"b", damaged]
+        data = b"".join(len(string).to_bytes(2, "big") + string for string in strings)
+        for row in (data, bytearray(data)):
+            for errors in ("replace", "ignore", "backslashreplace"):
+                place = 0
+                for string in strings:
+                    text, behind = cesu8.read_utf(row, place, errors)
+                    self.assertEqual(text, model.decoded(string, "mutf-8", errors))
+                    self.assertEqual(behind, place + 2 + len(string))
+                    place = behind
+                self.assertEqual(place, len(data))
+
+    def test_handlers_stay_in_the_string(self) -> None:
+        """A character that the string cuts is cut, though the data goes on with its last byte."""
+        data = b"front" + bytes.fromhex("00 04 41 FF E2 82") + b"\xacrest"
+        for row, first in ((data, 7), (bytearray(data), 0)):
+            asked = []
+            answers = [first + 2, -1, first + 4]
+
+            def handler(error: UnicodeDecodeError) -> tuple[str, int]:
+                asked.append((error.start - first, error.reason))
+                return "!", answers[len(asked) - 1]
+
+            codecs.register_error("cesu8.own", handler)
+            self.assertEqual(cesu8.read_utf(row, 5, "cesu8.own"), ("A!!!", 11))
+            reasons = ["invalid start byte", "unexpected end of data", "invalid start byte"]
+            self.assertEqual(asked, list(enumerate(reasons, 1)))
+            for place in (first + 5, first - 1 if first else -5, -20):
+                asked.clear()
+                answers = [place]
+                with self.assertRaises(IndexError):
+                    cesu8.read_utf(row, 5, "cesu8.own")
 
     def test_places(self) -> None:
         self.assertEqual(cesu8.read_utf(bytes.fromhex("00 00 07")), ("", 2))

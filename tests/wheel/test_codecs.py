@@ -13,23 +13,23 @@ HANDLERS = ("strict", "ignore", "replace", "backslashreplace", "surrogateescape"
 ENCODE_HANDLERS = (*HANDLERS, "xmlcharrefreplace", "namereplace")
 
 
-def replaced(byte: int, errors: str) -> str | None:
-    """What a handler of Python's gives for a damaged byte, or None where it raises."""
-    if errors == "surrogateescape":
-        return chr(0xDC00 + byte) if byte >= 0x80 else None
-    return {"ignore": "", "replace": "\ufffd", "backslashreplace": f"\\x{byte:02x}"}.get(errors)
-
-
-def expected(data: bytes, encoding: str, errors: str) -> str | int:
-    """The text, or the place of the byte that is refused."""
-    text = ""
-    for character, place in model.parts(data, encoding):
-        if character is None:
-            character = replaced(data[place], errors)
-            if character is None:
-                return place
-        text += character
-    return text
+# In what `surrogatepass` takes as a whole, as far as the pairs are one character, and in what not.
+SURROGATES = (
+    "ED A0 80",
+    "ED BF BF",
+    "41 ED B2 96 ED A0 BD 42",
+    "ED A0 BD ED A0 BD ED B2 96 ED B2 96",
+    "ED A0 BD 41",
+    "ED B2 96 ED",
+    "ED B2 96 ED A0",
+    "ED A0 BD ED B2",
+    "ED A0 BD FF",
+    "ED A0 41",
+    "ED A0 C0",
+    "ED C0 80",
+    "ED B2",
+    "EC A0 ED A0 BD",
+)
 
 
 class Names(unittest.TestCase):
@@ -60,6 +60,8 @@ class Decoding(unittest.TestCase):
         rows += [b"a" * count + row for count in (4090, 4095, 4096, 4097) for row in rows[:12]]
         # A zero byte, which is damage in MUTF-8 alone, among other damage.
         rows += [b"\xff\0\xff\xed\0a", 600 * b"\xff" + b"\0" + 600 * b"\xff"]
+        # Surrogates without a partner, beside pairs and cut.
+        rows += [bytes.fromhex(row) for row in SURROGATES]
         for encoding in model.ENCODINGS:
             for errors in HANDLERS:
                 for data in rows:
@@ -84,7 +86,7 @@ class Decoding(unittest.TestCase):
                     self.assertEqual(escaped.encode(encoding, "surrogateescape"), data)
 
     def compare(self, data: bytes, encoding: str, errors: str) -> None:
-        wanted = expected(data, encoding, errors)
+        wanted = model.decoded(data, encoding, errors)
         with self.subTest(data=data[-20:].hex(), encoding=encoding, errors=errors):
             if isinstance(wanted, str):
                 self.assertEqual(data.decode(encoding, errors), wanted)
@@ -106,6 +108,13 @@ class Decoding(unittest.TestCase):
             b"\xff".decode("cesu-8", "cesu8.unknown")
         with self.assertRaises(LookupError):
             "\ud800".encode("cesu-8", "cesu8.unknown")
+
+    def test_all_surrogates(self) -> None:
+        for encoded, unit in model.SURROGATES.items():
+            for encoding in model.ENCODINGS:
+                self.assertEqual(encoded.decode(encoding, "surrogatepass"), unit)
+                self.assertEqual(unit.encode(encoding, "surrogatepass"), encoded)
+                self.assertEqual(encoded.decode("utf-8", "surrogatepass"), unit)
 
     def test_reasons(self) -> None:
         for row, encoding, reason in (
@@ -159,11 +168,37 @@ class Decoding(unittest.TestCase):
         codecs.register_error("cesu8.mend", mend)
         for encoding in (*model.ENCODINGS, "utf-8"):
             self.assertEqual(b"A\xffB".decode(encoding, "cesu8.mend"), "A!mended")
+        for encoding in model.ENCODINGS:
+            found = codecs.lookup(encoding).decode(b"A\xffB", "cesu8.mend")
+            self.assertEqual(found, ("A!mended", 3))
+
+    def test_handler_with_other_damaged_input(self) -> None:
+        """Damage is searched for anew in other input, where the old one had a run of it."""
+
+        def mend(error: UnicodeError) -> tuple[str, int]:
+            if len(error.object) == 9:
+                error.object = b"ab\xffcd"
+                return "!", 1
+            return "?", error.end
+
+        codecs.register_error("cesu8.mend", mend)
+        for encoding in (*model.ENCODINGS, "utf-8"):
+            data = b"\xff\xfe\xff\xfe\xff\xfe\xff\xfeA"
+            self.assertEqual(data.decode(encoding, "cesu8.mend"), "!b?cd")
+
+        def take(error: UnicodeError) -> tuple[str, int]:
+            error.object = "a text"  # type: ignore[assignment]
+            return "", 0
+
+        codecs.register_error("cesu8.take", take)
+        for encoding in (*model.ENCODINGS, "utf-8"):
+            with self.assertRaises(TypeError):
+                b"A\xffB".decode(encoding, "cesu8.take")
 
     def test_lenient(self) -> None:
         data = bytes.fromhex("F0 9F 92 96 FF")
         for errors in HANDLERS[1:5]:
-            wanted = expected(data, "mutf-8", errors)
+            wanted = model.decoded(data, "mutf-8", errors)
             self.assertEqual(cesu8.decode(data, "mutf-8", errors, lenient=True), wanted)
 
     def test_much_damage_is_linear(self) -> None:
@@ -198,10 +233,8 @@ class Encoding(unittest.TestCase):
                         self.compare(text, encoding, errors)
 
     def compare(self, text: str, encoding: str, errors: str) -> None:
-        # Python's UTF-8 knows what 'surrogatepass' means for itself.
-        peer_errors = "strict" if errors == "surrogatepass" else errors
         try:
-            wanted = text.encode("utf-8", peer_errors)
+            wanted = text.encode("utf-8", errors)
         except UnicodeEncodeError as peer:
             with self.assertRaises(UnicodeEncodeError) as caught:
                 text.encode(encoding, errors)

@@ -2,6 +2,7 @@
 
 from __future__ import annotations
 
+import codecs
 import gc
 import sys
 import tracemalloc
@@ -17,61 +18,79 @@ COUNTS = (0, 1, 100, 4000)
 TEXTS = [count * text for count in COUNTS for text in ("a", "\xe4", "\u20ac", tables.PATTERN[0])]
 
 DATA = b"\0\x02data"
+HANDLERS = ("replace", "ignore", "backslashreplace", "surrogateescape", "cesu8.own")
+CODECS = (
+    (_native.cesu_8_encode, _native.cesu_8_decode),
+    (_native.mutf_8_encode, _native.mutf_8_decode),
+)
 
+# Each call, its arguments by name, and how many of these it needs.
 CALLS = [
-    (_native.encode, 2),
-    (_native.decode, 4),
-    (_native.decoded_len, 2),
-    (_native.damage, 4),
-    (_native.utf16_len, 1),
-    (_native.compare_as_utf16, 2),
-    (_native.write_utf, 1),
-    (_native.read_utf, 3),
+    (_native.encode, {"text": "a", "encoding": "mutf-8", "errors": "strict"}, 2),
+    (_native.decode, {"data": b"a", "encoding": "mutf-8", "errors": "strict", "lenient": False}, 2),
+    (_native.decoded_len, {"data": b"a", "encoding": "mutf-8"}, 2),
+    (_native.utf16_len, {"text": "a"}, 1),
+    (_native.compare_as_utf16, {"text": "a", "other": "a"}, 2),
+    (_native.write_utf, {"text": "a", "errors": "strict"}, 1),
+    (_native.read_utf, {"data": b"\0\x01a", "start": 0, "errors": "strict"}, 1),
+    *((encode, {"input": "a", "errors": "strict"}, 1) for encode, _ in CODECS),
+    *((decode, {"input": b"a", "errors": "strict", "final": True}, 1) for _, decode in CODECS),
 ]
 
 
-class Refusals(unittest.TestCase):
-    def test_counts(self) -> None:
-        for call, count in CALLS:
-            for wrong in (0, count - 1, count + 3):
-                with self.assertRaises(TypeError):
-                    call(*wrong * [b""])
+class Arguments(unittest.TestCase):
+    def test_places_and_names(self) -> None:
+        for call, arguments, needed in CALLS:
+            values = list(arguments.values())
+            result = call(*values)
+            for count in range(len(values) + 1):
+                rest = dict(list(arguments.items())[count:])
+                self.assertEqual(call(*values[:count], **rest), result)
+                if count >= needed:
+                    self.assertEqual(call(*values[:count]), result)
+                else:
+                    with self.assertRaisesRegex(TypeError, f"'{list(arguments)[count]}'"):
+                        call(*values[:count])
+            with self.assertRaises(TypeError):
+                call(*values, values[0])
+            with self.assertRaises(TypeError):
+                call(*values, **{next(iter(arguments)): values[0]})
+            with self.assertRaises(TypeError):
+                call(*values[:needed], unknown=values[0])
 
     def test_types(self) -> None:
-        for data in (None, 5, "text", bytearray(b"data"), memoryview(b"data")):
-            with self.assertRaises(TypeError):
-                _native.decode(False, False, False, data)
-            with self.assertRaises(TypeError):
-                _native.decoded_len(False, data)
-            with self.assertRaises(TypeError):
-                _native.damage(False, data, 0, 0)
-            with self.assertRaises(TypeError):
-                _native.read_utf(data, 0, False)
-        for text in (None, 5, b"bytes"):
-            for call in (_native.utf16_len, _native.write_utf):
-                with self.assertRaises(TypeError):
-                    call(text)
-            for arguments in ((text, ""), ("", text)):
-                with self.assertRaises(TypeError):
-                    _native.compare_as_utf16(*arguments)
-            with self.assertRaises(TypeError):
-                _native.encode(False, text)
+        for call, arguments, _ in CALLS:
+            for name, value in arguments.items():
+                if type(value) is str:
+                    said, wrongs = f"'{name}' must be str", (None, 5, b"bytes", bytearray())
+                elif type(value) is bytes:
+                    said, wrongs = "bytes-like", (None, 5, "text", [65], object())
+                elif name == "start":
+                    said, wrongs = "integer", (None, 0.0, "0", b"0")
+                else:
+                    continue
+                for wrong in wrongs:
+                    with self.assertRaisesRegex(TypeError, said):
+                        call(**{**arguments, name: wrong})
 
-    def test_places(self) -> None:
-        for start in (-1, 5, 1 << 70):
-            with self.assertRaises(ValueError):
-                _native.read_utf(b"data", start, False)
-        for place in (0.0, "0", None):
-            with self.assertRaises(TypeError):
-                _native.decode(False, False, False, b"data", place, 4)
-            with self.assertRaises(TypeError):
-                _native.decode(False, False, False, b"data", 0, place)
-            with self.assertRaises(TypeError):
-                _native.damage(False, b"data", place, 4)
-            with self.assertRaises(TypeError):
-                _native.damage(False, b"data", 0, place)
-            with self.assertRaises(TypeError):
-                _native.read_utf(b"data", place, False)
+    def test_names_with_null(self) -> None:
+        for call, arguments, _ in CALLS:
+            for name in arguments.keys() & {"encoding", "errors"}:
+                with self.assertRaisesRegex(ValueError, "null"):
+                    call(**{**arguments, name: arguments[name] + "\0"})
+
+    def test_values_that_raise(self) -> None:
+        class Raises:
+            def __bool__(self) -> bool:
+                raise ZeroDivisionError
+
+            def __index__(self) -> int:
+                raise ZeroDivisionError
+
+        with self.assertRaises(ZeroDivisionError):
+            _native.decode(b"a", "mutf-8", "strict", Raises())  # type: ignore[arg-type]
+        with self.assertRaises(ZeroDivisionError):
+            _native.read_utf(DATA, Raises())  # type: ignore[arg-type]
 
 
 class Results(unittest.TestCase):
@@ -80,126 +99,134 @@ class Results(unittest.TestCase):
         for length in (*range(500, 530), *range(65530, 65545)):
             for character in ("a", "\0", "\xe4", "\u20ac", "\ud55c", "\U0001f496"):
                 text = (length * character)[: length // len(character.encode()) + 1]
-                for encoding, is_mutf8 in zip(model.ENCODINGS, (False, True)):
+                for encoding, (encode, decode) in zip(model.ENCODINGS, CODECS):
                     encoded = len(text) * model.encoded(character, encoding)
-                    self.assertEqual(_native.encode(is_mutf8, text), encoded)
-                    for is_lossy in (False, True):
-                        found = _native.decode(is_mutf8, False, is_lossy, encoded)
-                        self.assertEqual(found, text)
+                    self.assertEqual(encode(text), (encoded, len(text)))
+                    for errors in ("strict", "replace"):
+                        for data in (encoded, memoryview(encoded)):
+                            self.assertEqual(decode(data, errors), (text, len(encoded)))
 
     def test_changes_that_keep_the_length(self) -> None:
         data = 200 * (b"\xff" + bytes.fromhex(tables.PAIR))
-        for is_mutf8 in (False, True):
-            found = _native.decode(is_mutf8, False, True, data)
-            self.assertEqual(found, 200 * (tables.R + "\U0001f496"))
+        for _, decode in CODECS:
+            text = 200 * (tables.R + "\U0001f496")
+            self.assertEqual(decode(data, "replace"), (text, len(data)))
 
-    def test_places(self) -> None:
+    def test_next_text(self) -> None:
         data = b"\xffdata\xff"
-        self.assertEqual(_native.decode(False, False, False, data, 1, 5), "data")
-        self.assertIsNone(_native.decode(False, False, False, data, 0, 5))
-        self.assertIsNone(_native.decode(False, False, False, data, 1, 6))
-        for start in range(8):
-            for stop in (*range(8), sys.maxsize):
-                text = _native.decode(False, False, True, data, start, stop)
-                self.assertEqual(text, data[start:stop].decode("ascii", "replace"))
-                first, behind = _native.damage(False, data, start, stop)
-                found = range(start, start + len(data[start:stop]))
-                places = [place for place in found if data[place] == 0xFF]
-                self.assertEqual(list(range(first, behind)), places[:1])
-                self.assertEqual(first, places[0] if places else found.stop)
-        self.assertEqual(_native.decode(False, False, False, data, -1, -1), "")
-        self.assertEqual(_native.decode(False, False, False, data, -sys.maxsize, 0), "")
+        for start in range(-1, 8):
+            for stop in (-sys.maxsize, *range(-1, 8), sys.maxsize):
+                text, _ = _native.next_text(False, data, start, stop)
+                front = data[max(start, 0) : max(stop, 0)].split(b"\xff")[0]
+                self.assertEqual(text, front.decode())
+        self.assertEqual(_native.next_text(False, data, 0, 6), ("", 0))
+        self.assertEqual(_native.next_text(False, data, 1, 4), ("dat", 4))
+        self.assertEqual(_native.next_text(False, data, 1, 6), ("data", 5))
 
     def test_where_damage_is(self) -> None:
+        texts = ["", 70 * "a", 3000 * "\u20ac", 90 * "\U0001f496"]
         fills = [b"", 70 * b"a", 3000 * b"\xe2\x82\xac", 90 * bytes.fromhex(tables.PAIR)]
         for encoding, is_mutf8 in zip(model.ENCODINGS, (False, True)):
             for row in (bytes.fromhex(row) for row, *_ in tables.DAMAGE):
                 places = model.damaged(row, encoding)
-                # Those that follow the first without a gap.
-                run = [place for n, place in enumerate(places) if place == places[0] + n]
-                for fill in fills:
+                for fill, text in zip(fills, texts):
                     # No character that the row cuts goes on behind it.
                     data = b"\xff" + fill + row + b"a" + fill
                     place = 1 + len(fill) + places[0] if places else len(data)
-                    found = _native.damage(is_mutf8, data, 1, len(data))
-                    self.assertEqual(found, (place, place + len(run)))
-                    self.assertEqual(_native.damage(is_mutf8, data, 0, 1), (0, 1))
-
-    def test_much_damage(self) -> None:
-        """The end of many bytes of damage is found in steps."""
-        for count in (1, 6, 500, 511, 512, 513, 520, 5000):
-            for character in ("a", "\u20ac", "\U0001f496"):
-                encoded = model.encoded(character, "cesu-8")
-                data = count * b"\xed" + encoded
-                place = 0
-                while place < count:
-                    first, behind = _native.damage(False, data, place, len(data))
-                    self.assertEqual(first, place)
-                    self.assertLessEqual(behind, count)
-                    self.assertTrue(behind == count or behind >= place + 500)
-                    place = behind
-                self.assertEqual(
-                    _native.damage(False, data, place, len(data)), (len(data), len(data))
-                )
+                    rest = model.lossy(row[: places[0]] if places else row, encoding)
+                    text += rest if places else f"{rest}a{text}"
+                    found = _native.next_text(is_mutf8, data, 1, len(data))
+                    self.assertEqual(found, (text, place))
+                    if places:
+                        error = _native.next_error(is_mutf8, data, place, len(data))
+                        found = (error.encoding, error.object, error.start, error.end)
+                        self.assertEqual(found, (encoding, data, place, place + 1))
 
 
 class Objects(unittest.TestCase):
     def test_nothing_is_kept(self) -> None:
+        codecs.register_error("cesu8.own", lambda error: ("\xe4\U0001f496", error.end))
         for call in (self.convert, self.refuse):
             self.assert_keeps_nothing(call)
 
+    def test_none_is_counted(self) -> None:
+        before = sys.getrefcount(None)
+        for _ in range(2000):
+            _native.decoded_len(b"\xff", "mutf-8")
+        self.assertLess(abs(sys.getrefcount(None) - before), 1000)
+
     def convert(self) -> None:
         for text in TEXTS:
-            for is_mutf8 in (False, True):
-                encoded = _native.encode(is_mutf8, text)
-                for flags in ((False, False), (False, True), (True, False), (True, True)):
-                    _native.decode(is_mutf8, *flags, encoded)
-                    _native.decode(is_mutf8, *flags, encoded + b"\xff")
-                    _native.decode(is_mutf8, *flags, encoded, 1 if encoded else 0, len(encoded))
-                _native.decoded_len(is_mutf8, encoded)
-                _native.decoded_len(is_mutf8, encoded + b"\xff")
-                _native.damage(is_mutf8, encoded + b"\xff", 0, len(encoded) + 1)
+            for encoding, (encode, decode) in zip(model.ENCODINGS, CODECS):
+                encoded, _ = encode(text, errors="strict")
+                for data in (encoded, bytearray(encoded), memoryview(encoded)):
+                    decode(data, errors="strict")
+                    _native.decode(data, encoding, "replace", lenient=True)
+                for errors in HANDLERS:
+                    decode(encoded + b"\xff\xed", errors)
+                    _native.encode(text + "\udcff", encoding, errors)
+                decode(encoded + b"\xed\xa0\x80", "surrogatepass")
+                _native.decoded_len(bytearray(encoded + b"\xff"), encoding)
             _native.utf16_len(text)
             _native.compare_as_utf16(text, text + "a")
             if len(text) < 1000:
                 string = _native.write_utf(text)
-                _native.read_utf(string, 0, False)
-                _native.read_utf(string + b"\xff", 1, True)
+                reversed_view = memoryview(string[::-1])[::-1]
+                column = memoryview(string).cast("B", [len(string), 1])
+                for data in (string, bytearray(string), reversed_view, column):
+                    _native.read_utf(data, start=0, errors="ignore")
+                _native.write_utf(text + "\udcff", "ignore")
 
     def refuse(self) -> None:
-        for call, arguments in (
-            (_native.encode, (False, "a\ud800")),
-            (_native.write_utf, ("\ud800",)),
-            (_native.write_utf, (65536 * "a",)),
-            (_native.utf16_len, ("\ud800",)),
-            (_native.compare_as_utf16, ("\ud800", "a")),
-            (_native.compare_as_utf16, ("a", "\ud800")),
-            (_native.decode, (False, False, False, DATA, 3, 1 << 70)),
-            (_native.damage, (False, DATA, 3, 1 << 70)),
-            (_native.read_utf, (DATA, 7, False)),
-            (_native.read_utf, (DATA, 2, False)),
-            (_native.read_utf, (DATA, 0, False)),
-            (_native.read_utf, (b"\0\x01\xff", 0, False)),
+        wide = memoryview(bytes(8)).cast("I")
+        for error, call, *arguments in (
+            (UnicodeEncodeError, _native.encode, "a\ud800", "cesu-8"),
+            (UnicodeEncodeError, _native.mutf_8_encode, "a\ud800"),
+            (LookupError, _native.encode, "a\ud800", "cesu-8", "cesu8.unknown"),
+            (LookupError, _native.encode, "a", "utf-8"),
+            (TypeError, _native.encode, "a", None),
+            (ValueError, _native.encode, "a", "mutf-8", "strict\0"),
+            (UnicodeEncodeError, _native.write_utf, "\ud800"),
+            (OverflowError, _native.write_utf, 65536 * "a"),
+            (OverflowError, _native.write_utf, 65536 * "a" + "\ud800", "ignore"),
+            (UnicodeEncodeError, _native.utf16_len, "\ud800"),
+            (UnicodeEncodeError, _native.compare_as_utf16, "\ud800", "a"),
+            (UnicodeEncodeError, _native.compare_as_utf16, "a", "\ud800"),
+            (UnicodeDecodeError, _native.decode, b"a\xff", "mutf-8"),
+            (UnicodeDecodeError, _native.decode, b"a\0", "mutf-8", "surrogateescape"),
+            (UnicodeDecodeError, _native.mutf_8_decode, bytearray(b"a\xff")),
+            (LookupError, _native.decode, b"a\xff", "mutf-8", "cesu8.unknown"),
+            (LookupError, _native.decoded_len, b"a", "utf-8"),
+            (TypeError, _native.decode, "a", "mutf-8"),
+            (ValueError, _native.read_utf, DATA, 7),
+            (ValueError, _native.read_utf, wide, 9),
+            (EOFError, _native.read_utf, DATA, 2),
+            (EOFError, _native.read_utf, bytearray(DATA), 5),
+            (UnicodeDecodeError, _native.read_utf, b"\0\x01\xff"),
+            (UnicodeDecodeError, _native.read_utf, bytearray(b"\0\x01\xff")),
         ):
-            try:
+            with self.assertRaises(error):
                 call(*arguments)
-            except (OverflowError, UnicodeEncodeError, ValueError):
-                pass
 
     def assert_keeps_nothing(self, call: Callable[[], None]) -> None:
-        call()
+        """In the first calls Python itself keeps something, so the best of some rounds counts."""
         tracemalloc.start()
         self.addCleanup(tracemalloc.stop)
-        call()
-        before = self.references(), tracemalloc.get_traced_memory()[0]
-        for _ in range(20):
-            call()
-        after = self.references(), tracemalloc.get_traced_memory()[0]
-        for found, was in zip(after[0], before[0]):
-            self.assertLess(abs(found - was), 20)
-        self.assertLess(after[1] - before[1], 2000)
+        best = [sys.maxsize] * len(self.kept())
+        for _ in range(4):
+            before = self.kept()
+            for _ in range(3):
+                call()
+            after = self.kept()
+            best = [min(least, abs(now - then)) for least, now, then in zip(best, after, before)]
+        *references, memory = best
+        self.assertLess(max(references), 3)
+        self.assertLess(memory, 100)
 
     @staticmethod
-    def references() -> list[int]:
+    def kept() -> list[int]:
         gc.collect()
-        return [sys.getrefcount(value) for value in (None, *TEXTS, DATA)]
+        # From 3.12 on Python does not count references to what it has for ever, as to a letter.
+        values = [text for text in TEXTS if len(text) > 99]
+        references = [sys.getrefcount(value) for value in (*values, DATA)]
+        return [*references, tracemalloc.get_traced_memory()[0]]

@@ -6,6 +6,7 @@ import codecs
 import io
 import itertools
 import os
+import pickle
 import tempfile
 import unittest
 from collections.abc import Iterator
@@ -88,6 +89,25 @@ class Incremental(unittest.TestCase):
         decoder.decode(b"\xc0")
         decoder.reset()
         self.assertEqual(decoder.decode(b"a", True), "a")
+
+    def test_pickles(self) -> None:
+        for encoding in (*model.ENCODINGS, "utf-8"):
+            decoder = codecs.getincrementaldecoder(encoding)("replace")
+            self.assertEqual(decoder.decode(b"a\xe2\x82"), "a")
+            copy = pickle.loads(pickle.dumps(decoder))
+            self.assertEqual(copy.decode(b"\xac\xff"), "\u20ac" + tables.R)
+            self.assertEqual(decoder.decode(b"", final=True)[-1], tables.R)
+            encoder = pickle.loads(pickle.dumps(codecs.getincrementalencoder(encoding)("ignore")))
+            self.assertEqual(encoder.encode("a\ud800"), b"a")
+
+    def test_surrogates_in_pieces(self) -> None:
+        """With `surrogatepass` the front of each surrogate is kept, since it makes a character."""
+        data = bytes.fromhex("ED B2 96 ED A0 BD ED B2 96 ED A0 BD 41 ED A0 BD")
+        for encoding in model.ENCODINGS:
+            wanted = "\udc96\U0001f496\ud83dA\ud83d"
+            self.assertEqual(data.decode(encoding, "surrogatepass"), wanted)
+            for pieces in splits(data):
+                self.assertEqual(self.in_pieces(pieces, encoding, "surrogatepass"), wanted)
 
     def test_iterators(self) -> None:
         text, _, _, row = tables.PATTERN

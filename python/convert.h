@@ -1,0 +1,316 @@
+// Texts from bytes and back, by the library's calls, and what Python's own error handlers make of
+// damage. What a handler of a user's own makes of it, and of surrogates, is in cesu8/_codec.py.
+// Nothing of this is proved.
+
+#include <Python.h>
+#include "cesu8.h"
+
+enum {
+    LONGEST = 6, // A surrogate pair.
+    // A result of so many bytes needs no request for memory.
+    FEW = 512,
+    // From so many bytes on, other threads run meanwhile. With fewer, a call would only wait.
+    MANY = 65536
+};
+
+// No more bytes than this are there, with four for each.
+static const size_t MOST = PY_SSIZE_T_MAX / 4;
+
+typedef struct cesu8_answer tells(const uint8_t *, size_t);
+typedef struct cesu8_answer writes(const uint8_t *, size_t, uint8_t *, size_t);
+
+// By whether they are for MUTF-8; and the last by whether they are lenient, and lossy.
+static const char *const ENCODINGS[2] = {"cesu-8", "mutf-8"};
+static tells *const LOOKS[2] = {cesu8_valid_up_to, cesu8_mutf8_valid_up_to};
+static writes *const ENCODES[2] = {cesu8_encode, cesu8_mutf8_encode};
+static writes *const DECODES[2][2][2] = {
+    {{cesu8_decode_strict, cesu8_decode_lossy_strict}, {cesu8_decode, cesu8_decode_lossy}},
+    {{cesu8_mutf8_decode_strict, cesu8_mutf8_decode_lossy_strict},
+     {cesu8_mutf8_decode, cesu8_mutf8_decode_lossy}},
+};
+
+struct input {
+    const uint8_t *bytes;
+    size_t length;
+};
+
+// What to decode: of bytes, which nobody changes, those from `start` to `stop`. A handler may go on
+// up to `end`. Other threads wait where Python holds on to the caller's own data meanwhile.
+struct part {
+    PyObject *data;
+    Py_ssize_t start, stop, end;
+    int is_mutf8, is_held;
+};
+
+// Bytes themselves, or of other data one copy, of which all else is read.
+static PyObject *bytes_of(PyObject *data)
+{
+    if (PyBytes_CheckExact(data))
+        return Py_NewRef(data);
+    PyObject *view = PyMemoryView_Check(data) ? Py_NewRef(data) : PyMemoryView_FromObject(data);
+    PyObject *bytes = view == NULL ? NULL : PyBytes_FromObject(view);
+    Py_XDECREF(view);
+    return bytes;
+}
+
+// A result and a place, as a tuple.
+static PyObject *both(PyObject *result, Py_ssize_t place)
+{
+    PyObject *tuple = result == NULL ? NULL : PyTuple_New(2);
+    PyObject *number = tuple == NULL ? NULL : PyLong_FromSsize_t(place);
+    if (number == NULL) {
+        Py_XDECREF(result);
+        Py_XDECREF(tuple);
+        return NULL;
+    }
+    PyTuple_SetItem(tuple, 0, result);
+    PyTuple_SetItem(tuple, 1, number);
+    return tuple;
+}
+
+// What bytes have between two places, as far as these are in them.
+static struct input between(PyObject *data, Py_ssize_t start, Py_ssize_t stop)
+{
+    Py_ssize_t length = PyBytes_Size(data);
+    stop = stop < length ? stop : length;
+    start = start < 0 || stop < 0 ? 0 : start < stop ? start : stop;
+    const uint8_t *bytes = (uint8_t *)PyBytes_AsString(data);
+    return (struct input){bytes + start, stop < 0 ? 0 : (size_t)(stop - start)};
+}
+
+static struct cesu8_answer run(
+    writes *call, struct input input, int is_held, uint8_t *buffer, size_t room)
+{
+    PyThreadState *state = is_held || input.length < MANY ? NULL : PyEval_SaveThread();
+    struct cesu8_answer answer = call(input.bytes, input.length, buffer, room);
+    if (state != NULL)
+        PyEval_RestoreThread(state);
+    return answer;
+}
+
+static PyObject *text_of(const uint8_t *utf8, size_t length)
+{
+    return PyUnicode_DecodeUTF8((const char *)utf8, (Py_ssize_t)length, NULL);
+}
+
+// The text of UTF-8 with surrogates, with which Python's own decoder takes several times as long.
+static PyObject *text_with_surrogates(const uint8_t *utf8, size_t length)
+{
+    wchar_t *wide = length > MOST ? NULL : PyMem_Malloc(length * sizeof *wide), *end = wide;
+    if (wide == NULL)
+        return PyErr_NoMemory();
+    for (const uint8_t *stop = utf8 + length; utf8 < stop;) {
+        uint8_t lead = *utf8++;
+        int more = lead < 0x80 ? 0 : lead < 0xE0 ? 1 : lead < 0xF0 ? 2 : 3;
+        *end = more == 0 ? lead : lead & (0x3F >> more);
+        for (; more > 0; more--)
+            *end = *end << 6 | (*utf8++ & 0x3F);
+        end++;
+    }
+    PyObject *text = PyUnicode_FromWideChar(wide, end - wide);
+    PyMem_Free(wide);
+    return text;
+}
+
+// An attribute by a name that is there once. Python keeps others in its cache of attributes.
+static PyObject *attribute(PyObject *object, const char *name)
+{
+    PyObject *interned = object == NULL ? NULL : PyUnicode_InternFromString(name);
+    PyObject *value = interned == NULL ? NULL : PyObject_GetAttr(object, interned);
+    Py_XDECREF(interned);
+    return value;
+}
+
+// What a function of the package in Python returns for these arguments.
+static PyObject *in_python(const char *name, PyObject *arguments)
+{
+    PyObject *module = arguments == NULL ? NULL : PyImport_ImportModule("cesu8._codec");
+    PyObject *function = attribute(module, name);
+    PyObject *result = function == NULL ? NULL : PyObject_CallObject(function, arguments);
+    Py_XDECREF(function);
+    Py_XDECREF(module);
+    Py_XDECREF(arguments);
+    return result;
+}
+
+// Whether the input begins a character, and is not all of it.
+static int is_cut(int is_mutf8, struct input input)
+{
+    static const char *const ENDS[] = {
+        "\x80", "\x80\x80", "\xA0\x80", "\x80\xED\xB0\x80", "\xED\xB0\x80", "\xB0\x80", NULL};
+    uint8_t whole[2 * LONGEST];
+    if (input.length >= LONGEST || LOOKS[is_mutf8](input.bytes, input.length).length > 0)
+        return 0;
+    memcpy(whole, input.bytes, input.length);
+    for (const char *const *end = ENDS; *end != NULL; end++) {
+        size_t length = input.length + strlen(*end);
+        memcpy(whole + input.length, *end, strlen(*end));
+        if (LOOKS[is_mutf8](whole, length).length == length)
+            return 1;
+    }
+    return 0;
+}
+
+// Where a character begins that the part's end cuts, or the end. With `surrogatepass` the second of
+// two surrogates is a character too.
+static Py_ssize_t before_cut(const struct part *part, const char *errors)
+{
+    int is_passed = strcmp(errors, "surrogatepass") == 0;
+    for (Py_ssize_t at = part->end < LONGEST ? 0 : part->end - LONGEST + 1; at < part->end; at++) {
+        struct input left = between(part->data, at, part->end);
+        int is_second = left.length == 2 && left.bytes[0] == 0xED && left.bytes[1] >> 4 == 0xB;
+        if (is_cut(part->is_mutf8, left) || (is_passed && is_second))
+            return at;
+    }
+    return part->end;
+}
+
+// The exception for a byte that is in no character.
+static PyObject *error_at(int is_mutf8, PyObject *data, Py_ssize_t place, Py_ssize_t end)
+{
+    struct input left = between(data, place, end);
+    int is_lead = (*left.bytes >= 0xC2 && *left.bytes < 0xF0) || (is_mutf8 && *left.bytes == 0xC0);
+    const char *reason = "invalid start byte";
+    if (is_lead)
+        reason = is_cut(is_mutf8, left) ? "unexpected end of data" : "invalid continuation byte";
+    return PyObject_CallFunction(PyExc_UnicodeDecodeError, "sOnns", ENCODINGS[is_mutf8], data,
+        place, place + 1, reason);
+}
+
+// Writes what a handler of Python's gives for the first byte of what is left, at most four bytes,
+// and moves on in both. Where another has to be asked, or it would raise, the result is 0.
+static int replace(const char *errors, struct input *left, uint8_t **output)
+{
+    uint8_t byte = *left->bytes;
+    size_t taken = 1, written = 0;
+    if (strcmp(errors, "backslashreplace") == 0) {
+        written = 4;
+        const char *digits = "0123456789abcdef";
+        memcpy(*output, (char[]){'\\', 'x', digits[byte >> 4], digits[byte & 0xF]}, 4);
+    } else if (byte >= 0x80 && strcmp(errors, "surrogateescape") == 0) {
+        written = 3;
+        memcpy(*output, (uint8_t[]){0xED, 0xB0 | byte >> 6, 0x80 | (byte & 0x3F)}, 3);
+    } else if (strcmp(errors, "surrogatepass") == 0 && left->length > 2 && byte == 0xED &&
+        left->bytes[1] >> 5 == 5 && left->bytes[2] >> 6 == 2) {
+        written = taken = 3;
+        memcpy(*output, left->bytes, 3);
+    } else if (strcmp(errors, "ignore") != 0) {
+        return 0;
+    }
+    *output += written;
+    *left = (struct input){left->bytes + taken, left->length - taken};
+    return 1;
+}
+
+// The text of a part up to where another handler has to be asked, and that place. For `strict` it
+// is empty, since then nobody gets it.
+static PyObject *front(const struct part *part, const char *errors, Py_ssize_t *place)
+{
+    struct input left = between(part->data, part->start, part->stop);
+    int is_strict = strcmp(errors, "strict") == 0, has_surrogates = strncmp(errors, "surr", 4) == 0;
+    // How many bytes at most come from one.
+    size_t widest = strcmp(errors, "backslashreplace") == 0 ? 4
+        : strcmp(errors, "surrogateescape") == 0            ? 3
+                                                            : !is_strict;
+    uint8_t *buffer = left.length > MOST ? NULL : PyMem_Malloc(widest * left.length);
+    uint8_t *output = buffer;
+    if (buffer == NULL)
+        return PyErr_NoMemory();
+    do {
+        size_t whole = LOOKS[part->is_mutf8](left.bytes, left.length).length;
+        if (!is_strict)
+            output += DECODES[part->is_mutf8][0][0](left.bytes, whole, output, whole).length;
+        left = (struct input){left.bytes + whole, left.length - whole};
+    } while (left.length > 0 && replace(errors, &left, &output));
+    *place = part->stop - (Py_ssize_t)left.length;
+    size_t length = (size_t)(output - buffer);
+    PyObject *text = (has_surrogates ? text_with_surrogates : text_of)(buffer, length);
+    PyMem_Free(buffer);
+    return text;
+}
+
+// The text of a part up to where a handler of a user's own has to be asked, and that place.
+static PyObject *decoded(
+    const struct part *part, int is_lenient, const char *errors, Py_ssize_t *place)
+{
+    struct input input = between(part->data, part->start, part->stop);
+    uint8_t few[FEW], *buffer = few;
+    int is_lossy = strcmp(errors, "replace") == 0;
+    writes *call = DECODES[part->is_mutf8][is_lenient][is_lossy];
+    // Where surrogate pairs are, a buffer is needed, so to count first would only take longer.
+    int is_counted = is_lossy || input.length <= FEW || memchr(input.bytes, 0xED, FEW) == NULL;
+    struct cesu8_answer answer = {CESU8_TOO_SMALL, input.length};
+    if (is_counted)
+        answer = run(call, input, part->is_held, few, sizeof few);
+    *place = part->stop;
+    if (answer.status == CESU8_TOO_SMALL) {
+        // Each character that another than a lossy call changes gets shorter, so here none does.
+        if (is_counted && !is_lossy && answer.length == input.length)
+            return text_of(input.bytes, input.length);
+        buffer = PyMem_Malloc(answer.length);
+        if (buffer == NULL)
+            return PyErr_NoMemory();
+        answer = run(call, input, part->is_held, buffer, answer.length);
+    }
+    int is_whole = answer.status == CESU8_OK;
+    PyObject *text = is_whole ? text_of(buffer, answer.length) : NULL;
+    if (buffer != few)
+        PyMem_Free(buffer);
+    return is_whole ? text : front(part, errors, place);
+}
+
+// The text of a part, or what an error handler makes of it, and where that ends.
+static PyObject *text_by(
+    const struct part *part, int is_lenient, const char *errors, Py_ssize_t *place)
+{
+    PyObject *text = decoded(part, is_lenient, errors, place);
+    if (text == NULL || *place == part->stop)
+        return text;
+    if (strcmp(errors, "strict") == 0 || strcmp(errors, "surrogateescape") == 0 ||
+        strcmp(errors, "surrogatepass") == 0) {
+        PyObject *error = error_at(part->is_mutf8, part->data, *place, part->end);
+        if (error != NULL)
+            PyErr_SetObject(PyExc_UnicodeDecodeError, error);
+        Py_XDECREF(error);
+        Py_DECREF(text);
+        return NULL;
+    }
+    PyObject *answer = in_python("decode_by_handler", Py_BuildValue("sOnnnsNn",
+        ENCODINGS[part->is_mutf8], part->data, part->start, part->stop, part->end, errors, text,
+        *place));
+    text = NULL;
+    if (answer != NULL && PyArg_ParseTuple(answer, "Un", &text, place))
+        Py_INCREF(text);
+    Py_XDECREF(answer);
+    return text;
+}
+
+// What a call makes of a text, or an error handler of its surrogates.
+static PyObject *bytes_by(writes *call, int is_mutf8, PyObject *text, const char *errors)
+{
+    PyObject *utf8 = PyUnicode_AsUTF8String(text), *result = NULL;
+    if (utf8 == NULL && PyErr_ExceptionMatches(PyExc_UnicodeEncodeError)) {
+        PyErr_Clear();
+        return in_python(call == cesu8_java_write ? "write_by_handler" : "encode_by_handler",
+            Py_BuildValue("sNs", ENCODINGS[is_mutf8], PyUnicode_FromObject(text), errors));
+    }
+    if (utf8 == NULL)
+        return NULL;
+    uint8_t few[FEW];
+    struct input input = between(utf8, 0, PyBytes_Size(utf8));
+    struct cesu8_answer answer = run(call, input, 0, few, sizeof few);
+    // Each character that a call changes gets longer, so here none does.
+    if (answer.status == CESU8_TOO_SMALL && answer.length == input.length)
+        return utf8;
+    if (answer.status == CESU8_OK) {
+        result = PyBytes_FromStringAndSize((char *)few, (Py_ssize_t)answer.length);
+    } else if (answer.status == CESU8_TOO_SMALL) {
+        result = PyBytes_FromStringAndSize(NULL, (Py_ssize_t)answer.length);
+        if (result != NULL)
+            run(call, input, 0, (uint8_t *)PyBytes_AsString(result), answer.length);
+    } else {
+        PyErr_SetString(PyExc_OverflowError, "the text has more than 65,535 bytes of MUTF-8");
+    }
+    Py_DECREF(utf8);
+    return result;
+}
