@@ -51,8 +51,8 @@ look_at_archive() {
         grep -vxE 'mem(cpy|move|set|cmp)|cesu8_.*_v8')
     [[ -z $asked ]] || wrong "the archive asks for other names: $asked"
     cross readelf -SW "$archive" 2>/dev/null | grep -F ' .debug' && wrong 'the archive is not stripped'
-    cross readelf -SW "$archive" 2>/dev/null | grep -F ' .text.' | grep -v ' 32$' &&
-        wrong 'these functions of the archive begin elsewhere than at multiples of 32 bytes'
+    cross readelf -SW "$archive" 2>/dev/null | are_aligned ||
+        wrong 'these parts of the archive are aligned otherwise'
 }
 
 look_at_shared() {

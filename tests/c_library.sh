@@ -20,6 +20,12 @@ mapped() {
     ' "$crate/package/cesu8.map"
 }
 
+# Whether functions begin at multiples of 32 bytes and tables at multiples of 16, by the sections that
+# readelf tells of. It prints those that do not.
+are_aligned() {
+    awk '/ \.text\./ && $NF != 32 || / \.rodata\.\./ && $NF != 16 { print; found = 1 } END { exit found }'
+}
+
 # Builds tests/exports.c with a library, and runs it: `call_exports FLAG..`, the library among them.
 call_exports() {
     if ! quietly "$c_compiler" -std=c11 -O1 -Wall -Wextra -Werror -I "$crate/include" \

@@ -183,8 +183,7 @@ look_at_archive() {
         grep -vxE 'mem(cpy|move|set|cmp)|__cpu_(model|features2)|_GLOBAL_OFFSET_TABLE_|cesu8_.*_v[23]')
     [[ -z $asked ]] || wrong "the archive asks for other names: $asked"
     readelf -SW "$archive" 2>/dev/null | grep -F ' .debug' && wrong 'the archive is not stripped'
-    readelf -SW "$archive" 2>/dev/null | grep -F ' .text.' | grep -v ' 32$' &&
-        wrong 'these functions of the archive begin elsewhere than at multiples of 32 bytes'
+    readelf -SW "$archive" 2>/dev/null | are_aligned || wrong 'these parts of the archive are aligned otherwise'
 }
 
 # Calls each export at x86-64-v2 too: a processor with x86-64-v3 would never run that code.

@@ -51,7 +51,8 @@ option() {
 
 # rt gives each function and each table a section of its own, and they keep it, as do the calls of the
 # chooser. So a program that is linked with --gc-sections has only what its calls reach. Functions begin
-# at multiples of 32 bytes, or else what stands before a short call changes its time by a tenth.
+# at multiples of 32 bytes, or else what stands before a short call changes its time by a tenth. Rows of
+# tables begin at multiples of 16.
 #
 # The code for x86-64-v2 comes last, and stays in out/, since it is what rt builds by default.
 for level in $levels; do
@@ -67,7 +68,7 @@ for level in $levels; do
     nm -g --defined-only "$scratch/$level.o" |
         awk -v level="$level" 'NF == 3 { print $3, $3 "_" level }' >"$scratch/$level/names"
     objcopy --redefine-syms="$scratch/$level/names" --set-section-alignment '.text*=32' \
-        "$scratch/$level.o"
+        --set-section-alignment '.rodata..L*=16' "$scratch/$level.o"
 done
 
 for file in chooser plain; do
