@@ -4,9 +4,9 @@
 # It reads README.md, docs/*.md and the doc comments of crates/*/src. A block that begins with three
 # backquotes and `rust` is an example. It runs as the body of a test with `rt`, the runtime,
 # `alloc`, its allocator, `bytes`, four letters, and the imports below; `?` takes any error. The
-# test is named after the file and the line. CALLING shows the same as the `main` below. A block that begins with three backquotes, a language
-# and the path of a file is a quotation: its lines have to be in that file, one after the other.
-# Other blocks are skipped.
+# test is named after the file and the line. CALLING shows the same as the `main` below. A block that
+# begins with three backquotes, a language and the path of a file is a quotation: its lines have to be in
+# that file, one after the other. Other blocks are skipped.
 #
 # The examples are built without proof, in a repository of their own beside copies of the libraries.
 # It prints what is wrong, and the counts at the end. The status is 0 if nothing is wrong. It needs

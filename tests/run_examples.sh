@@ -33,8 +33,9 @@ in_class_file() {
 }
 
 # Files that class_constants.c has to refuse, with what it printed before: a string that is cut off, a pool
-# that is cut between two constants and within one, and files that begin otherwise. And one whose only string is as long
-# and as damaged as can be. The allocator fills new memory with 01, which would be read as more constants.
+# that is cut between two constants and within one, and files that begin otherwise. And one whose only string
+# is as long and as damaged as can be. The allocator fills new memory with 01, which would be read as more
+# constants.
 in_damaged_class_files() {
     local file=$scratch/damaged.class whole=$scratch/constants.class magic marks
     export MALLOC_PERTURB_=254
