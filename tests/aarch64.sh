@@ -1,15 +1,16 @@
 #!/usr/bin/env bash
 # Uses the release for aarch64, with a compiler for it and in an emulator:
-# - it looks at which files it has, and at what the archive and the shared object show and ask for;
+# - it looks at which files it has, and at what the archive and the shared object show and ask for, and
+#   how they are aligned;
 # - tests/exports.c calls each export of the archive and of the shared object;
-# - keys.c is built by pkg-config and by CMake, as C.md says; the other examples and a file of C++ are
-#   built and run;
+# - keys.c is built by pkg-config and by CMake, as C.md says; the other examples, cesu8_damage and a file
+#   of C++ are built and run;
 # - tests/digest.c prints the same as on this processor.
 # tests/packages.sh and tests/wheel.sh do so with the packages and the wheel for aarch64.
 #
 # RELEASE names the folder that dist.sh has filled; where it is not set, dist.sh is run. Without a tool
-# that tests/cross.sh names, it says that it skipped everything; without pkg-config, CMake or a compiler
-# for C++, what it skipped. The status is 0 if nothing is wrong. It needs what tests/release.sh does.
+# that tests/cross.sh names, it says that it skipped everything; without pkg-config, CMake, java or a
+# compiler for C++, what it skipped. The status is 0 if nothing is wrong. It needs what tests/release.sh does.
 # shellcheck source=tests/lib.sh
 source "$(dirname "${BASH_SOURCE[0]}")/lib.sh" || exit 2
 crate=$top/crates/cesu8_static

@@ -11,10 +11,11 @@
 #
 # It also checks that two builds, in folders of different names, give the same bytes of every file;
 # that the sums are right; which files there are, and that the pages name no other; what the archive
-# and the shared object show and how this is marked; that a program has of the archive only what it calls;
-# what install.sh refuses and prints, and that uninstall.sh leaves nothing of it; that the man pages and the
-# completion know the commands and the calls; and that no file names a folder of this machine. It builds from a
-# commit of a copy of the tree, over what is proved here. In a clean clone that takes minutes.
+# and the shared object show, how they are aligned and how this is marked; that a program has of the archive
+# only what it calls; what install.sh refuses and prints, and that uninstall.sh leaves nothing of it; that the
+# man pages and the completion know the commands and the calls; and that no file names a folder of this
+# machine. It builds from a commit of a copy of the tree, over what is proved here. In a clean clone that
+# takes minutes.
 #
 # If pkg-config, CMake, c++, rustc, python3, man or java is missing, it says what it skipped. If a tool that
 # dist.sh needs is missing, it skips everything. The status is 0 if nothing is wrong. It needs the
