@@ -3,7 +3,7 @@ use Rattle.std.specs.List.{Any}
 use Rattle.std.proofs.lemmas.Bool.{both_ways}
 use Rattle.cesu8_bytes.specs.Kernels.{AnyIn}
 use Rattle.cesu8_bytes.proofs.lists.Chunks.{group_listed}
-use Rattle.cesu8_bytes.proofs.implementation.groups.any_in_group.Goals as goal
+use Rattle.cesu8_bytes.proofs.implementation.search.any_in_group.Goals as goal
 
 pub returns-then-may_have : goal.returns-then-may_have
 returns-then-may_have g c = c.any_in_each.ensures

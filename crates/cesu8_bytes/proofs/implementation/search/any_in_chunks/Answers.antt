@@ -1,11 +1,7 @@
-use Rattle.std.proofs.Common.{refl, sym, ◌∙◌, eqb-true}
+use Rattle.std.proofs.Common.{refl}
 use Rattle.cesu8_bytes.specs.Kernels.{AnyIn}
-use Rattle.cesu8_bytes.proofs.lists.Chunks.{all_left, found_in_chunks, left_by_chunks, nothing_left}
-use Rattle.cesu8_bytes.proofs.implementation.groups.any_in_chunks.Goals as goal
-
-pub returns-then-is_empty : goal.returns-then-is_empty
-returns-then-is_empty g c =
-    nothing_left (AnyIn g.C.Class.class) c.args.chunks.now (eqb-true _ _ (sym c.is_empty.ensures ∙ c.if-is_empty.true))
+use Rattle.cesu8_bytes.proofs.lists.Chunks.{all_left, found_in_chunks, left_by_chunks}
+use Rattle.cesu8_bytes.proofs.implementation.search.any_in_chunks.Goals as goal
 
 pub returns-then-any_in_groups : goal.returns-then-any_in_groups
 returns-then-any_in_groups g c =
