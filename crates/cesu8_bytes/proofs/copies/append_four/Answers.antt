@@ -1,6 +1,6 @@
 use Rattle.std.proofs.Common.{◌≡◌, ◌++◌, ◌∙◌, ap, arith, length, append-nil, sym, rules}
 use Rattle.std.proofs.lemmas.List.{take_all}
-use Rattle.cesu8_encode.proofs.append.append_four.Goals as goal
+use Rattle.cesu8_bytes.proofs.copies.append_four.Goals as goal
 
 pub returns : goal.returns
 returns g c =

@@ -1,5 +1,5 @@
 use Rattle.std.proofs.Common.{◌≡◌, ◌+◌, ◌++◌, take, vec_len, vec_capacity}
-use Rattle.cesu8_encode.proofs.append.append_each.Given as goal
+use Rattle.cesu8_bytes.proofs.copies.append_each.Given as goal
 
 abbrev pub invariant-loop-byte : goal.invariant-loop-byte
 invariant-loop-byte g l = record {
