@@ -6,7 +6,7 @@
 # - code, definitions and proofs name no module of another crate's `proofs`, except
 #   simd_cesu8.proofs.StdUtf8, which is public. Within the library they may name those of the crates
 #   below. The proofs of std are public;
-# - no contract or definition takes a word from a proof, but for the proof of a trait's law;
+# - no contract, ghost item or definition takes a word from a proof, but for the proof of a trait's law;
 # - only the modules below import one another. That list is to become shorter.
 # The status is 0 if nothing is wrong. It needs bash, awk, sed and the core utilities.
 set -u
@@ -44,6 +44,39 @@ sed 's/#.*//; s/ staticlib:/:/' crates.txt | awk -F ':' '
 ' >"$scratch/crates" 2>"$scratch/wrong"
 read -r library < <(sed -n 's/^simd_cesu8 //p' "$scratch/crates")
 
+# The laws of the traits in these files, and those of std that something here proves, a line `TRAIT.LAW`
+# each: `laws FILE..`. A trait's ghost items below its last function are laws, and where it has no
+# function, those that name another of its items.
+laws() {
+    echo PartialEq.laws
+    awk '
+        FNR == 1 { trait = "" }
+        { sub(/\/\/.*/, "") }
+        /^(pub(\([a-z]+\))? )?trait / {
+            trait = $0
+            sub(/.*trait /, "", trait)
+            sub(/[^A-Za-z0-9_].*/, "", trait)
+            has_function = item = ""
+            delete type
+        }
+        trait == "" { next }
+        /^    fn / {
+            has_function = 1
+            item = ""
+            delete type
+        }
+        match($0, /^    ghost [a-z_]+: /) {
+            item = substr($0, 11, RLENGTH - 12)
+        }
+        item != "" { type[item] = type[item] " " $0 }
+        /;$/ { item = "" }
+        /^}/ {
+            for (name in type) if (has_function || type[name] ~ /Self\./) print trait "." name
+            trait = ""
+        }
+    ' "$@"
+}
+
 # What the files on standard input name of other crates and may not, a line each.
 wrong() {
     local file crate
@@ -51,18 +84,34 @@ wrong() {
         crate=${file#crates/}
         crate=${crate%%/*}
         awk -v file="$file" -v crate="$crate" -v library=" $library simd_cesu8 " \
-            -v below="$(sed -n "s/^$crate / /p" "$scratch/crates")" '
+            -v laws=" $laws " -v below="$(sed -n "s/^$crate / /p" "$scratch/crates")" '
             BEGIN { is_in_library = index(library, " " crate " ") > 0 }
+            function trait_of(head) {
+                sub(/ for .*/, "", head)
+                while (sub(/<[^<>]*>/, "", head));
+                sub(/.*[ :]/, "", head)
+                return head
+            }
+            function is_law(line) {
+                if (!match(line, /^ *ghost [a-z_]+ = /)) return 0
+                line = substr(line, 1, RLENGTH - 3)
+                sub(/.* /, "", line)
+                return index(laws, " " trait "." line " ") > 0
+            }
             { sub(/(--|\/\/).*/, "") }
             {
+                if (/^impl[ <].* for /) trait = trait_of($0)
                 is_word = file ~ /\/specs\// || /^ *ghost use /
                 # What is imported for the proof of a law stands in laws alone.
                 if (is_word && file !~ /\/specs\// && match($0, /\.proofs\..*\{.*\}/)) {
                     names = substr($0, RSTART, RLENGTH)
                     gsub(/.*\{|\}.*/, "", names)
-                    for (i = split(names, word, /, */); i > 0; i--) of_laws[word[i]] = 1
+                    for (i = split(names, word, /, */); i > 0; i--) {
+                        sub(/.* as /, "", word[i])
+                        of_laws[word[i]]
+                    }
                     is_word = 0
-                } else if (!/^ *ghost [a-z_]+ = /) {
+                } else if (!is_law($0)) {
                     for (name in of_laws)
                         if ($0 ~ "(^|[^A-Za-z0-9_])" name "([^A-Za-z0-9_]|$)")
                             print "a contract or definition names a proof: " file ": " name
@@ -104,6 +153,8 @@ cycles() {
 
 find crates -name out -prune -o \( -path '*/src/*.rt' -o -path '*/specs/*.antt' \
     -o -path '*/proofs/*.antt' \) -print | sort >"$scratch/files"
+mapfile -t sources < <(grep '\.rt$' "$scratch/files")
+laws=$(laws "${sources[@]}" | tr '\n' ' ')
 wrong <"$scratch/files" | sort -u >>"$scratch/wrong"
 known_cycles | sort >"$scratch/known"
 cycles | sort >"$scratch/cycles"

@@ -3,7 +3,13 @@ use Rattle.std.specs.Prelude.{◌≡◌, ℕ, ◌+◌, ◌≤◌, ◌↔◌, Lis
 use Rattle.cesu8_text.specs.Slices.{StandsAtFront}
 use Rattle.cesu8_bytes.specs.declared.writers.NoRoom.{NoRoom}
 
--- Bytes are written at an offset, up to their end, and those around them stay.
+-- Bytes are written behind what stands before an offset, and those after them may change.
+pub record WritesAt (written : List ℕ) (at : ℕ) (old new : List ℕ) (n : ℕ) : Type 0 where
+  pub bytes : take n new ≡ take at old ++ written
+  pub end : n ≡ at + length written
+  pub len : length new ≡ length old
+
+-- The same, and those after them stay too.
 pub record PutsAt (written : List ℕ) (at : ℕ) (old new : List ℕ) (n : ℕ) : Type 0 where
   pub bytes : take n new ≡ take at old ++ written
   pub end : n ≡ at + length written

@@ -1,21 +1,101 @@
-//! Copies that are owned, with one request each.
+//! Copies to a buffer with enough capacity, and copies that are owned, with one request each.
 
-ghost use Rattle.std.specs.Prelude.{◌≡◌, [], length, IfOk, IsOk, vec_capacity};
+ghost use Rattle.std.specs.Prelude.{◌≡◌, ℕ, List, ◌+◌, ◌*◌, ◌≤◌, ◌++◌, [], length, take, IfOk, IsOk, vec_len, vec_capacity};
 ghost use Rattle.std.specs.String.{string_bytes, string_capacity};
+ghost use Rattle.cesu8_bytes.specs.Puts.{Appends};
 
+use crate::implementation::class::LANES;
 use std::alloc::{AllocError, Allocator};
+use std::mem;
+use std::simd::prelude::*;
 
-/// Returns a copy of some bytes, after one request for their length. One call of `memcpy` copies
-/// them, as the loop is compiled: vectors would be longer, and so would not be inlined.
+/// The lanes of the vectors that append 17 to 64 bytes.
+const WIDE: usize = 16;
+
+/// The lanes of those that append 4 to 16 bytes.
+const NARROW: usize = 4;
+
+/// Appends bytes to a buffer with enough capacity. Short values have two widths of vectors alone,
+/// since a processor mostly guesses wrong which of many a length has.
+#[inline(always)]
+pub fn append<A: Allocator + Copy>(bytes: &[u8], out: &mut Vec<u8, A>)
+    requires { vec_len out.old + length bytes.now ≤ vec_capacity out.old }
+    ensures { Appends bytes.now out.old out.new }
+{
+    // The length of a local vector stays in a register; behind a reference, each byte that is
+    // written would store it.
+    let mut taken = mem::replace(out, Vec::new(*out.allocator()));
+    if bytes.len() > 4 * WIDE {
+        append_each(bytes, &mut taken);
+    } else if bytes.len() > WIDE {
+        append_four::<A, WIDE>(bytes, &mut taken);
+    } else if bytes.len() >= NARROW {
+        append_four::<A, NARROW>(bytes, &mut taken);
+    } else {
+        append_each(bytes, &mut taken);
+    }
+    *out = taken;
+}
+
+/// Appends `N` to `4 * N` bytes, by four vectors that overlap where needed.
+#[inline(always)]
+fn append_four<A: Allocator, const N: usize>(bytes: &[u8], out: &mut Vec<u8, A>)
+    requires lanes { (N ≤ LANES) × (N ≤ length bytes.now) × (length bytes.now ≤ 4 * N) }
+    requires room { vec_len out.old + length bytes.now ≤ vec_capacity out.old }
+    ensures { Appends bytes.now out.old out.new }
+{
+    let start = out.len();
+    let last = bytes.len() - N;
+    let step = last.min(N);
+    append_at::<A, N>(bytes, 0, start, out);
+    append_at::<A, N>(bytes, step, start, out);
+    append_at::<A, N>(bytes, last - step, start, out);
+    append_at::<A, N>(bytes, last, start, out);
+}
+
+/// Appends the `N` bytes at an offset, in place of what was appended behind it. Those before it
+/// were appended from the index `start` on.
+#[inline(always)]
+fn append_at<A: Allocator, const N: usize>(
+    bytes: &[u8],
+    at: usize,
+    start: usize,
+    out: &mut Vec<u8, A>,
+)
+    requires lanes { (N ≤ LANES) × (at + N ≤ length bytes.now) }
+    requires before { start + at ≤ vec_len out.old }
+    requires room { start + at + N ≤ vec_capacity out.old }
+    ensures bytes { (before : List ℕ) (written : ℕ) → length before ≡ start → at ≤ written
+        → out.old.items ≡ before ++ take written bytes.now
+        → out.new.items ≡ before ++ take (at + N) bytes.now }
+    ensures len { vec_len out.new ≡ start + at + N }
+    ensures capacity { vec_capacity out.new ≡ vec_capacity out.old }
+{
+    let lanes: Simd<u8, N> = Simd::from_slice(&bytes[at..]);
+    out.truncate(start + at);
+    append_each(&lanes.to_array(), out);
+}
+
+/// Appends bytes one by one, which is compiled to one call of `memcpy`, or for an array to a vector
+/// that is stored.
+#[inline(always)]
+fn append_each<A: Allocator>(bytes: &[u8], out: &mut Vec<u8, A>)
+    requires { vec_len out.old + length bytes.now ≤ vec_capacity out.old }
+    ensures { Appends bytes.now out.old out.new }
+{
+    for byte in bytes {
+        out.push_reserved(*byte);
+    }
+}
+
+/// Returns a copy of some bytes, after one request for their length.
 pub fn copy<A: Allocator + Copy>(alloc: A, bytes: &[u8]) -> Result<Vec<u8, A>, AllocError>
     ensures bytes { IfOk result (λ copied. copied.items ≡ bytes.now) }
     ensures capacity { IfOk result (λ copied. vec_capacity copied ≡ length bytes.now) }
     ensures empty { bytes.now ≡ [] → IsOk result }
 {
     let mut copied = Vec::with_capacity(alloc, bytes.len())?;
-    for byte in bytes {
-        copied.push_reserved(*byte);
-    }
+    append_each(bytes, &mut copied);
     Ok(copied)
 }
 

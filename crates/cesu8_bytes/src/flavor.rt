@@ -6,14 +6,15 @@ ghost use Rattle.cesu8_text.specs.Class.{is_null};
 ghost use Rattle.cesu8_bytes.specs.Pairs.{null_at};
 ghost use Rattle.cesu8_bytes.specs.Kernels.{mask};
 
-use crate::implementation::class::{NoByte, Null, mask};
+use crate::implementation::class::{LANES, NoByte, Null, mask};
 use crate::implementation::count::CountsOne;
+use crate::implementation::groups::InGroups;
 use std::simd::prelude::*;
 
 /// One of the two encodings.
 pub trait Flavor {
     /// The bytes 00 that are written as C0 80.
-    type Null: CountsOne;
+    type Null: CountsOne + InGroups<LANES>;
 
     ghost flavor: { AnyFlavor };
 

@@ -1,7 +1,5 @@
--- The encoder of a few bytes, and the one by vectors.
+-- The encoder, by vectors.
 pub mod EncodedLengths
-pub mod BytesInTurn
-pub mod ComputedPairs
 pub mod RecodedText
 pub mod UnchangedBytes
 pub mod LowBlocks

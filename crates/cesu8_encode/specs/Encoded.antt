@@ -9,12 +9,6 @@ pub record WritesEncoding (f : Flavor) (text old new : List ℕ) (n : ℕ) : Typ
   pub end : n ≤ length new
   pub len : length new ≡ length old
 
--- Bytes are written behind what stands before an offset, and those after them may change.
-pub record WritesAt (written : List ℕ) (at : ℕ) (old new : List ℕ) (n : ℕ) : Type 0 where
-  pub bytes : take n new ≡ take at old ++ written
-  pub end : n ≡ at + length written
-  pub len : length new ≡ length old
-
 -- It is built, with no more capacity than it needs.
 pub record BuildsEncoding {A E : Type 0} (f : Flavor) (text : List ℕ) (result : Result (Vec ℕ A) E) : Type 0 where
   pub bytes : IfOk result (λ encoded. encoded.items ≡ encoding f (chars text))

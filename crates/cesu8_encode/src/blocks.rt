@@ -11,7 +11,7 @@ ghost use Rattle.std.specs.Prelude.{◌≡◌, List, Bool, ◌+◌, ◌*◌, ◌
 ghost use Rattle.std.specs.Simd.Lanes.{chunk, mask_l};
 ghost use Rattle.cesu8_text.specs.Class.{is_at_least_f0};
 ghost use Rattle.cesu8_bytes.specs.Kernels.{AnyIn};
-ghost use Rattle.cesu8_encode.specs.Encoded.{WritesAt};
+ghost use Rattle.cesu8_bytes.specs.Puts.{WritesAt};
 ghost use Rattle.cesu8_encode.specs.EncodedOffsets.{packed, packed_len, encoded_bytes, AreLanes, WritesLanes};
 
 use super::rows::rows;

@@ -10,9 +10,8 @@ ghost use Rattle.cesu8_encode.specs.Encoded.{WritesEncoding};
 ghost use Rattle.cesu8_encode.specs.EncodedOffsets.{recoded, IsWritten, Writes};
 
 use super::blocks::{BLOCK_READ, READ_AFTER, READ_BEFORE, write_block};
-use super::few::write_few;
 use super::middle::{AnyChange, BlockWriter, CopyUnchanged, NullChange};
-use super::way::{Middle, is_block, is_few, middle_of};
+use super::way::{Middle, is_block, middle_of};
 use cesu8_bytes::BLOCK;
 use cesu8_bytes::flavor::Flavor;
 use cesu8_bytes::implementation::short::copy_short;
@@ -25,9 +24,6 @@ pub fn write<F: Flavor>(text: &str, more: usize, out: &mut [u8]) -> usize
     requires { length (encoding F.flavor (chars text.now)) ≤ length out.old }
     ensures { WritesEncoding F.flavor text.now out.old out.new result }
 {
-    if is_few(text) {
-        return write_few::<F>(text, out);
-    }
     if !is_block(text) {
         return write_blocks::<F>(text, more, out);
     }

@@ -7,8 +7,7 @@ ghost use Rattle.cesu8_bytes.specs.Puts.{PutsAnswer};
 
 use crate::blocks::BLOCK_ENCODED;
 use crate::blockwise::write;
-use crate::few::write_few;
-use crate::way::{is_block, is_few};
+use crate::way::is_block;
 use cesu8_bytes::BLOCK;
 use cesu8_bytes::flavor::Flavor;
 use cesu8_bytes::lengths::encoded_len;
@@ -39,10 +38,6 @@ fn put_short<F: Flavor>(text: &str, buf: &mut [u8]) -> Result<usize, NoRoom>
 {
     if !few_need_encoded::<F>(text) {
         return copy_to_slice(text.as_bytes(), buf);
-    }
-    if is_few(text) && 2 * text.len() <= buf.len() {
-        // It fits in any case, and what is behind it stays.
-        return Ok(write_few::<F>(text, buf));
     }
     put_on_stack::<F>(text, buf)
 }

@@ -14,34 +14,30 @@
 //! In MUTF-8 the byte 00 becomes C0 80, and every other byte stays. So a row of eight bytes becomes
 //! sixteen lanes, and one shuffle packs those that are written. `blocks` makes the lanes, `rows`
 //! has the shuffles, `blockwise` the loop over the text, and `middle` what that loop does with a
-//! block inside the text. `few` encodes a few bytes without blocks, and `way` says which texts go
-//! which way.
+//! block inside the text. `way` says which texts go which way.
 //!
 //! This file has what builds or appends an encoding, and `copy_or_write` what writes it to a
 //! caller's buffer. The names of this crate are no promise to users: `simd_cesu8` has the public
 //! calls.
 #![tactic(auto)]
 
-ghost use Rattle.std.specs.Prelude.{◌≡◌, ◌+◌, ◌*◌, ◌≤◌, length, vec_len, vec_capacity};
+ghost use Rattle.std.specs.Prelude.{◌≡◌, ◌+◌, ◌*◌, ◌<◌, ◌≤◌, length, OnOk, OnErr, vec_len, vec_capacity};
 ghost use Rattle.std.specs.Str.{chars};
 ghost use Rattle.cesu8_text.specs.Encoding.{encoding};
 ghost use Rattle.cesu8_bytes.specs.Puts.{Appends};
 ghost use Rattle.cesu8_encode.specs.Encoded.{BuildsEncoding, AppendsEncoding};
 
-mod append;
 mod blocks;
 mod blockwise;
 pub mod copy_or_write;
-mod few;
 mod middle;
 mod rows;
 mod way;
 
-use self::append::{append, make_room};
 use self::blocks::BLOCK_ENCODED;
 use self::blockwise::write;
 use self::way::{ON_STACK, is_block, is_for_stack};
-use cesu8_bytes::copies::copy;
+use cesu8_bytes::copies::{append, copy};
 use cesu8_bytes::flavor::Flavor;
 use cesu8_bytes::lengths::encoded_len;
 use cesu8_bytes::zeros::append_zeros;
@@ -117,6 +113,22 @@ pub fn encode_into<F: Flavor, A: Allocator + Copy>(
         append_changed::<F, A>(text, len, out);
     }
     Ok(())
+}
+
+/// Reserves capacity for so many bytes more, by one request if the buffer has too little.
+fn make_room<A: Allocator>(len: usize, out: &mut Vec<u8, A>) -> Result<(), AllocError>
+    ensures items { out.new.items ≡ out.old.items }
+    ensures ok { OnOk result (vec_len out.new + len ≤ vec_capacity out.new) }
+    ensures err { OnErr result (vec_capacity out.new ≡ vec_capacity out.old) }
+    ensures full { OnErr result (vec_capacity out.old < vec_len out.old + len) }
+    ensures stays { vec_len out.old + len ≤ vec_capacity out.old
+        → vec_capacity out.new ≡ vec_capacity out.old }
+    ensures grows { vec_capacity out.old ≤ vec_capacity out.new }
+{
+    if len <= out.capacity() - out.len() {
+        return Ok(());
+    }
+    out.reserve(len)
 }
 
 /// Appends the encoding of a text, which has this length, to a buffer with enough capacity.

@@ -4,7 +4,7 @@
 ghost use Rattle.std.specs.Prelude.{ℕ, List, ◌+◌, ◌≤◌, length};
 ghost use Rattle.cesu8_text.specs.Class.{is_at_least_f0};
 ghost use Rattle.cesu8_bytes.specs.Kernels.{AnyIn};
-ghost use Rattle.cesu8_encode.specs.Encoded.{WritesAt};
+ghost use Rattle.cesu8_bytes.specs.Puts.{WritesAt};
 ghost use Rattle.cesu8_encode.specs.EncodedOffsets.{encoded_bytes};
 
 use super::blocks::{BLOCK_READ, READ_BEFORE, is_unchanged, write_block, write_nulls};

@@ -1,26 +1,15 @@
 //! Which way a text is encoded. No other file of this crate decides that.
 //!
-//! | bytes of the text | what is done             |
-//! |-------------------|--------------------------|
-//! | at most 12        | runs and changes in turn |
-//! | at most 32        | one block                |
-//! | more              | blocks in turn           |
+//! A text of at most a block, 32 bytes, is encoded as one block, and a longer one by blocks in turn.
 //!
 //! An encoding has at most twice the bytes of its text. So `encode` writes one of at most 128 bytes
 //! to an array on the stack before its length is known, and copies it. For a block or less that is
-//! an array of 64 bytes. Others are counted, and written where they stay. Where the length is
-//! known, as in
-//! `encode_into`, all are written so.
+//! an array of 64 bytes, since a larger one takes longer to clear. Others are counted, and written
+//! where they stay. Where the length is known, as in `encode_into`, all are written so.
 //!
-//! To a slice, a text of more than a block is counted, and written in place. A few bytes are
-//! written in place too if twice as many fit, since that way writes none behind the encoding: other
-//! threads may read what is there. Else a block or less goes to the stack, from where it is copied.
-//!
-//! Beside the code of e8cb82e without this row, runs and changes in turn make texts of 1 to 6 bytes
-//! 1.1 to 1.4 times as fast, and to a slice up to 12 bytes 1.1 to 2.7 times. Longer ones they make
-//! slower, unless they have pairs alone. The stack makes texts of 33 to 128 bytes 1.04 to 1.12
-//! times as fast. The smaller array makes those of at most a block 1.03 times as fast, and 1.07
-//! times at x86-64-v2.
+//! To a slice, a text of more than a block is counted, and written in place. A block or less goes to
+//! the stack, from where it is copied: the rows of a block are stored whole, and what is behind the
+//! encoding in the slice has to stay, since other threads may read it.
 //!
 //! These ways are tests and no enum: `encode` asked for the value of one, which cost 13
 //! instructions.
@@ -61,15 +50,6 @@ use cesu8_bytes::implementation::search::any_in_bytes;
 
 /// The most bytes of a text that is encoded to the stack before its length is known.
 pub const ON_STACK: usize = 128;
-
-/// The most bytes of a text that is encoded one change after another.
-const FEW: usize = 12;
-
-/// Returns whether a text is encoded one change after another.
-#[inline(always)]
-pub fn is_few(text: &str) -> bool {
-    text.len() <= FEW
-}
 
 /// Returns whether a text is encoded as one block.
 #[inline(always)]

@@ -25,10 +25,6 @@ IsFour b = IsTrue (is_four b)
 abbrev pub IsNullFour : ℕ → Type 0
 IsNullFour b = IsTrue (is_null_four b)
 
--- 80 (hexadecimal) or more: what is not ASCII.
-abbrev pub is_non_ascii : ℕ → Bool
-is_non_ascii b = nat_le 0x80 b
-
 -- The class of a flavor: the bytes of UTF-8 that change in it.
 abbrev pub IsChangedByte : Flavor → ℕ → Type 0
 IsChangedByte Cesu8 = IsFour
@@ -50,8 +46,3 @@ is_other_lead b = b == 0xED || b == 0xC0
 -- What a byte weighs: one in the class, and two from F0 to F7, as lead of four bytes.
 abbrev pub weight_of : (ℕ → Bool) → ℕ → ℕ
 weight_of class b = (if class b then 1 else 0) + (if is_four b then 2 else 0)
-
--- How many bytes an encoding has more than the UTF-8, for one byte of this: two for F0 to F7, which
--- leads four bytes that become six, and in MUTF-8 one for 00.
-abbrev pub growth_of : Flavor → ℕ → ℕ
-growth_of f b = weight_of (is_null f) b

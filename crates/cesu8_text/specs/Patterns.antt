@@ -1,15 +1,9 @@
 -- Byte patterns of encoded characters.
-use Rattle.std.specs.Prelude.{◌≡◌, ℕ, ◌+◌, ◌*◌, ◌<◌, ◌≤◌, List, [], ◌∷◌, slice_index}
+use Rattle.std.specs.Prelude.{◌≡◌, ℕ, ◌+◌, ◌*◌, ◌<◌, ◌≤◌}
 
 -- A byte that follows a lead byte: 80 to BF (hexadecimal).
 abbrev pub IsContinuation : ℕ → Type 0
 IsContinuation b = (0x80 ≤ b) × (b < 0xC0)
-
--- Each lead byte is followed by a continuation byte, and no ASCII byte is.
-abbrev pub AreFollowed : List ℕ → Type 0
-AreFollowed [] = Unit {0}
-AreFollowed (b ∷ bytes) = (b < 0x80 → ¬ (IsContinuation (slice_index bytes 0)))
-    × (0xC0 ≤ b → IsContinuation (slice_index bytes 0)) × AreFollowed bytes
 
 -- The four bytes that make a surrogate pair of ED A0 to ED AF: the last of the high surrogate, and
 -- the three of the low one.

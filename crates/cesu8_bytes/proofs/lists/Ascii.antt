@@ -10,7 +10,11 @@ use Rattle.std.proofs.lemmas.Str.Ascii.{IsAscii-from_reads}
 use Rattle.cesu8_bytes.specs.Kernels.{AnyIn}
 use Rattle.cesu8_bytes.proofs.lists.Chunks.{group_elements}
 use Rattle.cesu8_text.specs.Encoding.{Flavor, Cesu8, Mutf8}
-use Rattle.cesu8_text.specs.Class.{is_four, is_null, is_non_ascii, IsChangedByte}
+use Rattle.cesu8_text.specs.Class.{is_four, is_null, IsChangedByte}
+
+-- 80 (hexadecimal) or more: what is not ASCII.
+abbrev pub is_non_ascii : ℕ → Bool
+is_non_ascii b = leb 0x80 b
 
 -- Bytes are ASCII where none is 80 or more.
 pub ascii_of_none : (xs : List ℕ) → (AnyIn is_non_ascii xs → ⊥) → IsAscii xs

@@ -112,11 +112,11 @@ lesser_keeps a b s = ⊎_elim
     (cases_lt a b)
 
 -- The least of four lanes is 00 where one of them is.
-pub null_in_least : (n : ℕ) (a b c d : List ℕ) → length a ≡ n → length b ≡ n → length c ≡ n → length d ≡ n →
-    Any (AnyIn (λ b. eqb b 0)) (a ∷ b ∷ c ∷ d ∷ []) → AnyIn (λ b. eqb b 0) (lesser_lanes (lesser_lanes a b) (lesser_lanes c d))
-null_in_least n a b c d long_a long_b long_c long_d some =
-    rw (lesser_each (lesser_lanes a b), lesser_each a b, lesser_each c d)
-    (kept_of_four (λ b. IsTrue (eqb b 0)) lesser lesser_keeps n a b c d long_a long_b long_c long_d some)
+pub null_in_least : (byte n : ℕ) (a b c d : List ℕ) → byte ≡ 0 → length a ≡ n → length b ≡ n → length c ≡ n → length d ≡ n →
+    Any (AnyIn (λ b. eqb b byte)) (a ∷ b ∷ c ∷ d ∷ []) → AnyIn (λ b. eqb b byte) (lesser_lanes (lesser_lanes a b) (lesser_lanes c d))
+null_in_least byte n a b c d null long_a long_b long_c long_d =
+    rw (null, lesser_each (lesser_lanes a b), lesser_each a b, lesser_each c d)
+    (kept_of_four (λ b. IsTrue (eqb b 0)) lesser lesser_keeps n a b c d long_a long_b long_c long_d)
 
 -- ---- a class by the greatest and the least
 

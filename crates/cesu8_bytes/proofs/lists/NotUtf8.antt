@@ -8,8 +8,9 @@ use lib.Lanes.{zip2, mask_l, top}
 use mir.Val.{of_z}
 use Rattle.cesu8_text.proofs.lists.Elements.{any_nil, none_cons}
 use Rattle.cesu8_text.proofs.text.Surrogates.{HasNeither, neither_in_utf8}
+use Rattle.cesu8_text.proofs.encoding.Followed.{AreFollowed}
 use Rattle.cesu8_bytes.specs.Kernels.{AnyIn, lane}
-use Rattle.cesu8_text.specs.Patterns.{AreFollowed, IsContinuation}
+use Rattle.cesu8_text.specs.Patterns.{IsContinuation}
 use Rattle.cesu8_bytes.proofs.lists.Classes.{marks_of}
 
 neither_c0 : (bytes : List ℕ) → HasNeither bytes → AnyIn (λ b. eqb b 0xC0) bytes → ⊥

@@ -14,16 +14,16 @@ module _ {X : Type 0} (P : X → Type 0) (xs : List X) where
   none_before_start i x l long e p = absurd (omega arith)
 
   -- Where P holds of none before an index and not of the one there, it holds of none before the next index.
-  pub none_with_next : (n : ℕ) (y : X) → n < length xs → y ≡ get_or xs n y → NoneBefore n → (P y → ⊥) → NoneBefore (n + 1)
-  none_with_next n y l at none this i x before long e p =
-      ⊎_elim (λ earlier. none i x earlier long e p)
+  pub none_with_next : (n : ℕ) (e : X) → n < length xs → NoneBefore n → (P (get_or xs n e) → ⊥) → NoneBefore (n + 1)
+  none_with_next n e l none this i x before long at p =
+      ⊎_elim (λ earlier. none i x earlier long at p)
       (λ from. (let here : i ≡ n = omega arith in
-      this (subst P (sym e ∙ ap (λ j. get_or xs j x) here ∙ get_or_default xs n x y l ∙ sym at) p))) (cases_lt i n)
+      this (subst P (sym at ∙ ap (λ j. get_or xs j x) here ∙ get_or_default xs n x e l) p))) (cases_lt i n)
 
   -- Where P holds of none before the end, it holds of no element, so the answer is no.
   pub none_at_end : (n : ℕ) → length xs ≤ n → NoneBefore n → IsTrue false ↔ Any P xs
   none_at_end n l none = ((λ t. absurd (false≢true t)), (λ h. absurd (none h.0 h.1 (omega (arith, h.2)) h.2 h.3 h.4)))
 
   -- Where P holds of the element at an index, it holds of an element.
-  pub any_at : (n : ℕ) (y : X) → n < length xs → y ≡ get_or xs n y → P y → Any P xs
-  any_at n y l at p = (n, y, l, sym at, p)
+  pub any_at : (n : ℕ) (e : X) → n < length xs → P (get_or xs n e) → Any P xs
+  any_at n e l p = (n, get_or xs n e, l, get_or_default xs n (get_or xs n e) e l, p)

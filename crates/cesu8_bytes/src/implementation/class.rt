@@ -1,6 +1,6 @@
 //! Classes of bytes, which vectors of each width mark.
 
-ghost use Rattle.std.specs.Prelude.{◌≡◌, ◌==◌, ◌||◌, ◌&&◌, ◌≤◌, ◌↔◌, ℕ, Bool, false, nat_le, nat_lt, IsTrue, Any, map};
+ghost use Rattle.std.specs.Prelude.{◌≡◌, ◌==◌, ◌||◌, ◌&&◌, ◌≤◌, ◌↔◌, ℕ, Bool, false, nat_le, nat_lt, IsTrue, map};
 ghost use Rattle.std.specs.Simd.Lanes.{mask_l};
 ghost use Rattle.cesu8_text.specs.Class.{is_four, is_one_unit};
 ghost use Rattle.cesu8_bytes.specs.Kernels.{AnyIn, lane, mask};
@@ -51,20 +51,6 @@ pub fn has<C: InVectors<N>, const N: usize>(bytes: Simd<u8, N>) -> bool
     ensures { IsTrue result ↔ AnyIn C.class bytes.entry }
 {
     C::marks(bytes).any()
-}
-
-/// Returns whether some byte of the chunks is in the class, by a test of each chunk.
-#[inline(always)]
-pub fn any_in_each<C: InVectors<N>, const N: usize>(chunks: &[[u8; N]]) -> bool
-    requires { N ≤ LANES }
-    ensures { IsTrue result ↔ Any (AnyIn C.class) chunks.now }
-{
-    for chunk in chunks {
-        if has::<C, N>(Simd::from_array(*chunk)) {
-            return true;
-        }
-    }
-    false
 }
 
 /// Returns a bit for each byte of the class, the lowest for the first byte.

@@ -1,31 +1,80 @@
-//! A search of any bytes for one of a class, at one call. The kernels are faster in many bytes, of
-//! which they test four vectors at once.
+//! The search of bytes for one of a class.
+//!
+//! Two vectors of one width cover at most 64 bytes. More are tested by four vectors of 64 bytes at
+//! once, and a last one that overlaps those before it, so no byte is left.
+//!
+//! Everything is inlined: a call would pass vectors through memory, and most values are short.
 
-ghost use Rattle.std.specs.Prelude.{◌≤◌, ◌↔◌, IsTrue, length};
+ghost use Rattle.std.specs.Prelude.{◌<◌, ◌↔◌, IsTrue, Any, length};
 ghost use Rattle.cesu8_bytes.specs.Kernels.{AnyIn};
 
-use super::class::{InAllVectors, InVectors, LANES, any_in_each, has};
+use super::class::{InAllVectors, InVectors, LANES, has};
+use super::groups::InGroups;
 use super::short::{any_in_ends, by_two_vectors, end_vector};
+use std::simd::prelude::*;
 
-/// Returns whether some byte is in the class, by two vectors, or in more than 64 bytes by blocks.
+/// Returns whether some byte is in the class.
 #[inline(always)]
-pub fn any_in_bytes<C: InAllVectors>(bytes: &[u8]) -> bool
+pub fn any_in_bytes<C: InAllVectors + InGroups<LANES>>(bytes: &[u8]) -> bool
     ensures { IsTrue result ↔ AnyIn C.class bytes.now }
 {
     if bytes.len() > LANES {
-        return any_in_blocks::<C>(bytes);
+        return any_in_long::<C>(bytes);
     }
     by_two_vectors!(bytes, any_in_ends[C](bytes), false)
 }
 
-/// Returns whether some byte of a block is in the class, or of the last 64 bytes, which overlap the
-/// last block.
+/// Returns whether some byte of a whole vector is in the class, or of the last 64 bytes.
 #[inline(always)]
-fn any_in_blocks<C: InVectors<LANES>>(bytes: &[u8]) -> bool
-    requires { LANES ≤ length bytes.now }
+fn any_in_long<C: InGroups<LANES>>(bytes: &[u8]) -> bool
+    requires { LANES < length bytes.now }
     ensures { IsTrue result ↔ AnyIn C.class bytes.now }
 {
-    let (blocks, _) = bytes.as_chunks::<LANES>();
+    let (chunks, _) = bytes.as_chunks::<LANES>();
     let end = end_vector::<LANES>(bytes);
-    any_in_each::<C, LANES>(blocks) || has::<C, LANES>(end)
+    any_in_chunks::<C>(chunks) || has::<C, LANES>(end)
+}
+
+#[inline(always)]
+fn any_in_chunks<C: InGroups<LANES>>(chunks: &[[u8; LANES]]) -> bool
+    ensures { IsTrue result ↔ Any (AnyIn C.class) chunks.now }
+{
+    let (groups, rest) = chunks.as_chunks::<4>();
+    any_in_groups::<C>(groups) || any_in_each::<C>(rest)
+}
+
+#[inline(always)]
+fn any_in_groups<C: InGroups<LANES>>(groups: &[[[u8; LANES]; 4]]) -> bool
+    ensures { IsTrue result ↔ Any (Any (AnyIn C.class)) groups.now }
+{
+    for group in groups {
+        if any_in_group::<C>(group) {
+            return true;
+        }
+    }
+    false
+}
+
+/// Most groups have no byte that may be in the class; the others are tested again.
+#[inline(always)]
+fn any_in_group<C: InGroups<LANES>>(group: &[[u8; LANES]; 4]) -> bool
+    ensures { IsTrue result ↔ Any (AnyIn C.class) group.now }
+{
+    let [a, b, c, d] = *group;
+    let (a, b) = (Simd::from_array(a), Simd::from_array(b));
+    let (c, d) = (Simd::from_array(c), Simd::from_array(d));
+    C::may_have(a, b, c, d) && any_in_each::<C>(group)
+}
+
+/// Returns whether some byte of the chunks is in the class, by a test of each chunk.
+#[inline(always)]
+fn any_in_each<C: InVectors<LANES>>(chunks: &[[u8; LANES]]) -> bool
+    ensures { IsTrue result ↔ Any (AnyIn C.class) chunks.now }
+{
+    for chunk in chunks {
+        if has::<C, LANES>(Simd::from_array(*chunk)) {
+            return true;
+        }
+    }
+    false
 }

@@ -8,10 +8,13 @@
 ghost use Rattle.std.specs.Prelude.{◌≡◌, ◌<◌, ◌≤◌, ◌+◌, ◌↔◌, ℕ, Bool, IsTrue, Any, length, slice_range};
 ghost use Rattle.std.specs.Int.{to_le_bytes, w64};
 ghost use Rattle.cesu8_text.specs.Class.{IsFour, IsNullFour};
-ghost use Rattle.cesu8_bytes.specs.Kernels.{AnyIn, MayTest, MayTestWords, Finds, FindsInWords};
+ghost use Rattle.cesu8_bytes.specs.Kernels.{AnyIn, MayTestWords, FindsInWords};
 
 use super::fallback;
 use std::simd::prelude::*;
+
+/// The bytes of a word.
+const WORD: usize = 8;
 
 /// Returns whether some byte is F0 to F7 (hexadecimal). In UTF-8 these are the lead bytes of
 /// characters of four bytes.
@@ -24,11 +27,10 @@ use std::simd::prelude::*;
 pub fn contains_utf8_4_byte_char_header(value: &[u8]) -> bool
     ensures { IsTrue result ↔ Any IsFour value.now }
 {
-    test_word_any(
-        value,
-        fallback::contains_utf8_4_byte_char_header,
-        contains_four,
-    )
+    if value.len() < WORD {
+        return fallback::contains_utf8_4_byte_char_header(value);
+    }
+    test_word_any(value, contains_four)
 }
 
 /// Returns whether some byte is 00, or F0 to F7 (hexadecimal).
@@ -41,46 +43,40 @@ pub fn contains_utf8_4_byte_char_header(value: &[u8]) -> bool
 pub fn contains_null_or_utf8_4_byte_char_header(value: &[u8]) -> bool
     ensures { IsTrue result ↔ Any IsNullFour value.now }
 {
-    test_word_any(
-        value,
-        fallback::contains_null_or_utf8_4_byte_char_header,
-        contains_null_or_four,
-    )
+    if value.len() < WORD {
+        return fallback::contains_null_or_utf8_4_byte_char_header(value);
+    }
+    test_word_any(value, contains_null_or_four)
 }
 
 /// Returns whether a word passes the test: that of the first eight bytes, of each eight that
-/// follow, or of the last eight, which may overlap. For fewer than eight bytes it calls the
-/// fallback.
-fn test_word_any<F, T>(value: &[u8], fallback: F, test: T) -> bool
+/// follow, or of the last eight, which may overlap.
+fn test_word_any<T>(value: &[u8], test: T) -> bool
 where
-    F: Fn(&[u8]) -> bool,
     T: Fn(u64) -> bool,
-    requires short { MayTest (λ len. len < 8) F.Fn fallback }
+    requires long { WORD ≤ length value.now }
     requires words { MayTestWords T.Fn test }
-    ensures { (class : ℕ → Bool) → Finds (λ len. len < 8) F.Fn fallback class
-        → FindsInWords T.Fn test class → IsTrue result ↔ AnyIn class value.now }
+    ensures { (class : ℕ → Bool) → FindsInWords T.Fn test class
+        → IsTrue result ↔ AnyIn class value.now }
 {
-    if value.len() < 8 {
-        return fallback(value);
-    }
     if test(word_at(value, 0)) {
         return true;
     }
-    let last = value.len() - 8;
-    let mut offset = 8;
+    let last = value.len() - WORD;
+    let mut offset = WORD;
     while offset < last {
         if test(word_at(value, offset)) {
             return true;
         }
-        offset += 8;
+        offset += WORD;
     }
     test(word_at(value, last))
 }
 
 /// Returns the eight bytes at an offset as a word, the first one lowest.
 fn word_at(value: &[u8], offset: usize) -> u64
-    requires { offset + 8 ≤ length value.now }
-    ensures { to_le_bytes w64 result ≡ slice_range value.now offset (offset + 8) }
+    requires { offset + WORD ≤ length value.now }
+    ensures { to_le_bytes w64 result ≡ slice_range value.now offset (offset + WORD) }
 {
     u64::from_le_bytes(u8x8::from_slice(&value[offset..]).to_array())
 }
@@ -108,8 +104,7 @@ fn contains_zero(word: u64) -> bool
 
 #[cfg(test)]
 mod tests {
-    use super::{contains_four, test_word_any};
-    use crate::implementation::fallback;
+    use super::{WORD, contains_four, test_word_any};
     use std::cell::Cell;
 
     /// The words are those of the first eight bytes, of each eight that follow, and of the last.
@@ -129,7 +124,6 @@ mod tests {
 
         // The number of bytes, and the words that are tested, followed by zeros.
         let cases = [
-            (7, 0, [0, 0, 0, 0]),
             (8, 2, [AT_0, AT_0, 0, 0]),
             (9, 2, [AT_0, AT_1, 0, 0]),
             (16, 2, [AT_0, AT_8, 0, 0]),
@@ -138,21 +132,18 @@ mod tests {
             (25, 4, [AT_0, AT_8, AT_16, AT_17]),
         ];
         for (len, count, words) in cases {
+            assert!(rt; len >= WORD);
             let tested = Cell::new(0usize);
             let seen = Cell::new([0u64; 4]);
-            let found = test_word_any(
-                &bytes[..len],
-                fallback::contains_utf8_4_byte_char_header,
-                |word| {
-                    let mut words = seen.get();
-                    if let Some(slot) = words.get_mut(tested.get()) {
-                        *slot = word;
-                    }
-                    seen.set(words);
-                    tested.set(tested.get().wrapping_add(1));
-                    contains_four(word)
-                },
-            );
+            let found = test_word_any(&bytes[..len], |word| {
+                let mut words = seen.get();
+                if let Some(slot) = words.get_mut(tested.get()) {
+                    *slot = word;
+                }
+                seen.set(words);
+                tested.set(tested.get().wrapping_add(1));
+                contains_four(word)
+            });
             assert_eq!(rt;
                 (found, tested.get(), seen.get()),
                 (false, count, words),

@@ -6,12 +6,17 @@ use Rattle.std.proofs.lemmas.Bool.{cases_eq, le-leb, lt-leb, ne_eqb}
 use Rattle.std.proofs.lemmas.List.Sums.{sum_by-cons, sum_by-append}
 use Rattle.cesu8_text.specs.Text.{IsText, utf8_of, utf8}
 use Rattle.cesu8_text.specs.Encoding.{Flavor, Cesu8, Mutf8, encoding}
-use Rattle.cesu8_text.specs.Class.{is_four, growth_of}
+use Rattle.cesu8_text.specs.Class.{is_four, is_null, weight_of}
 use Rattle.cesu8_text.proofs.StdUtf8.{IsUtf8Of_chars}
 use Rattle.cesu8_text.proofs.text.Shapes.{Shape, one, two, three, pair, shape, utf8_of_one, utf8_of_two, utf8_of_three, utf8_of_pair}
 use Rattle.cesu8_text.proofs.encoding.Forms.{encoding_one, encoding_two, encoding_three, encoding_pair, short_form_other, short_form_null}
 use Rattle.cesu8_text.proofs.encoding.Encodings.{encoding_nil, encoding_cons}
 use Rattle.cesu8_text.proofs.encoding.Lengths.{length_bounds}
+
+-- How many bytes an encoding has more than the UTF-8, for one byte of this: two for F0 to F7, which
+-- leads four bytes that become six, and in MUTF-8 one for 00.
+abbrev pub growth_of : Flavor → ℕ → ℕ
+growth_of f b = weight_of (is_null f) b
 
 not_four : (b : ℕ) → b < 0xF0 → is_four b ≡ false
 not_four b h = rw (lt-leb 0xF0 b h) refl

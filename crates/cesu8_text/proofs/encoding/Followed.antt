@@ -5,12 +5,18 @@ use Rattle.std.specs.Str.{chars, IsUtf8}
 use Rattle.std.proofs.lemmas.Bool.{cases_eq}
 use Rattle.cesu8_text.specs.Text.{IsText, utf8_of, utf8}
 use Rattle.cesu8_text.specs.Encoding.{Flavor, Cesu8, Mutf8, encoding}
-use Rattle.cesu8_text.specs.Patterns.{AreFollowed, IsContinuation}
+use Rattle.cesu8_text.specs.Patterns.{IsContinuation}
 use Rattle.cesu8_text.specs.Reading.{IsStrictReading}
 use Rattle.cesu8_text.proofs.StdUtf8.{IsUtf8Of_chars}
 use Rattle.cesu8_text.proofs.text.Shapes.{Shape, one, two, three, pair, shape, utf8_of_one, utf8_of_two, utf8_of_three, utf8_of_pair}
 use Rattle.cesu8_text.proofs.encoding.Forms.{encoding_one, encoding_two, encoding_three, encoding_pair, short_form_null, short_form_other}
 use Rattle.cesu8_text.proofs.encoding.Encodings.{encoding_nil, encoding_cons}
+
+-- Each lead byte is followed by a continuation byte, and no ASCII byte is.
+abbrev pub AreFollowed : List ℕ → Type 0
+AreFollowed [] = Unit {0}
+AreFollowed (b ∷ bytes) = (b < 0x80 → IsContinuation (get_or bytes 0 0) → ⊥)
+    × (0xC0 ≤ b → IsContinuation (get_or bytes 0 0)) × AreFollowed bytes
 
 -- The first byte follows none, and each is followed by what may follow it.
 abbrev pub AreWhole : List ℕ → Type 0
