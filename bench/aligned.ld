@@ -1,0 +1,4 @@
+SECTIONS
+{
+    .text : SUBALIGN(32) { *(.text .text.*) }
+}
