@@ -5,8 +5,7 @@
 #
 # An edit is refused if a goal of a function that it changes is false. The kit tells of a goal at a line
 # of the function's code, or in its file of answers or invariants. Any goal counts for an edit of what is
-# no function's body, since nothing else is changed in its round. A goal at which a tactic met a limit
-# counts for nothing: it may be true, as where an edit changes the code and not what it does.
+# no function's body, since nothing else is changed in its round.
 
 FNR == 1 { FS = FILENAME ~ /\.owners$/ ? "\t" : " "; $0 = $0 }
 
@@ -45,7 +44,6 @@ END {
     for (i = 1; i <= owners; i++) {
         if (all == "" && (i in goal)) refused[name[i]] = goal[i]
         else if (i in vanished) only_names[name[i]] = vanished[i]
-        else if (i in limit) only_limits[name[i]] = limit[i]
     }
     for (i = 1; i <= owners; i++) {
         it = name[i]
@@ -54,7 +52,6 @@ END {
         if (it in refused) print it "\trefused\t" refused[it]
         else if (all != "") print it "\tnot\t" all
         else if (it in only_names) print it "\tnot\tonly a name is missing: " only_names[it]
-        else if (it in only_limits) print it "\tnot\tnothing was shown, a limit was met: " only_limits[it]
         else print it "\tnot\tno goal of what it changes is told to be false"
     }
 }
@@ -74,7 +71,6 @@ function judge(    path, line, rest, i) {
     for (i = 1; i <= owners; i++)
         if (is_of(i, path, line + 0)) {
             if (text ~ /has no field|is not in scope|has no `|was not admitted/) vanished[i] = short(text)
-            else if (tells_limit(text)) limit[i] = short(text)
             else if (tells_goal(text) && !(i in goal)) goal[i] = short(text)
         }
 }
@@ -88,16 +84,7 @@ function is_of(i, path, line) {
 
 # Whether a message begins as the kit tells of a goal that is false.
 function tells_goal(text) {
-    return substr(text, 1, 160) ~ /it is not proved that|`[a-z]+`:? (the goal|(found )?no proof)|the two (types|sides differ)|: expected type/
-}
-
-# Whether a message tells that a tactic met a limit, and not that the goal is false.
-function tells_limit(text,    head) {
-    head = substr(text, 1, 160)
-    if (head ~ /it is not proved that/)
-        return text ~ /gave up at one of its limits/ && text !~ /at which this goal is false/
-    if (head ~ /`search`: no proof/) return text ~ /Not every way was tried|It stopped (after|when)/
-    return head ~ /`[a-z]+`:? stopped/
+    return substr(text, 1, 160) ~ /it is not proved that|`[a-z]+`:? (the goal|(found )?no proof|stopped)|the two (types|sides differ)|: expected type/
 }
 
 # Whether a message tells that code, a spec or an edited file can't be read. One of a goal begins with the
