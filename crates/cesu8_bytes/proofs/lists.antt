@@ -9,5 +9,3 @@ pub mod Classes
 pub mod Words
 pub mod Ascii
 pub mod Prefixes
-pub mod NotUtf8
-pub mod Looks

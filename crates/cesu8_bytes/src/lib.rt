@@ -4,8 +4,6 @@
 //! The names of this crate are no promise to users. `simd_cesu8` has the public calls.
 #![tactic(auto)]
 
-pub mod accepts;
-mod ascii_front;
 pub mod continuation;
 pub mod copies;
 pub mod flavor;
@@ -14,11 +12,10 @@ pub mod lengths;
 pub mod looks;
 pub mod order;
 pub mod packing;
-mod padded;
+pub mod padded;
 pub mod pairs;
 pub mod put;
 pub mod runs;
-mod signs;
 pub mod strictness;
 pub mod utf8;
 pub mod writers;

@@ -1,36 +1,23 @@
-//! The first looks at an input, and what they show. No other file chooses one by a length:
+//! The first looks at an input. No other file chooses one by a length, which is for speed alone:
 //!
 //! | bytes | look | for |
 //! |---|---|---|
 //! | at most 256 | are all ASCII that does not change? | what takes the encoding alone |
 //! | at most 1,024 | are all ASCII? | what takes UTF-8 as well |
 //! | at most 64, with more behind them | the first of these, by one vector | strings in a row |
-//! | 17 and more | is one of the first 17 misplaced? | all that decode |
-//! | 2 to 64 | has one changed, or are there C0 or surrogates? | what takes the encoding alone, but to a slice |
-//! | 16 to 64 | are there C0 or surrogates? | what takes UTF-8 as well, but to a slice |
-//! | below 256 | does a byte change? by the same vectors | all |
-//! | 256 and more | does a byte change? by the kernels, four vectors at once | all |
-//!
-//! Bytes of which these show nothing are tested for UTF-8. Fewer bytes than a look takes are tested
-//! in hardly more time. All lengths are for speed alone.
+//! | below 256 | does a byte change? by two vectors | what encodes |
+//! | 256 and more | does a byte change? by the kernels, four vectors at once | what encodes |
 
-ghost use Rattle.std.specs.Prelude.{◌≡◌, ◌↔◌, ◌*◌, ◌+◌, ◌<◌, ◌≤◌, IsTrue, Any, IsUtf8, length, take};
+ghost use Rattle.std.specs.Prelude.{◌↔◌, ◌≤◌, IsTrue, Any, length, take};
 ghost use Rattle.std.specs.Str.{chars, IsAscii};
 ghost use Rattle.cesu8_text.specs.Class.{IsChangedByte};
-ghost use Rattle.cesu8_text.specs.Encoding.{Flavor as AnyFlavor, NeedsEncoding};
-ghost use Rattle.cesu8_text.specs.Reading.{HasNoStrictReading};
-ghost use Rattle.cesu8_bytes.specs.Looks.{IsShown};
+ghost use Rattle.cesu8_text.specs.Encoding.{NeedsEncoding};
 
 use crate::flavor::Flavor;
 use crate::implementation::active;
-use crate::implementation::class::{
-    AtLeastF0, Either, FourByteLead, InVectors, LANES, NonAscii, OtherLead,
-};
+use crate::implementation::class::{AtLeastF0, Either, FourByteLead, LANES, NonAscii};
 use crate::implementation::search::any_in_bytes;
-use crate::implementation::short::{any_in_ends, by_two_vectors};
 use crate::runs::lanes_before;
-pub use crate::signs::may_be_encoding;
-use crate::signs::{FRONT, is_misplaced, is_no_utf8_by_ends};
 use std::simd::prelude::*;
 
 /// The most bytes that are tested for ASCII that does not change before anything is called. From
@@ -42,9 +29,6 @@ const TESTED_AT_ONCE: usize = 16 * LANES;
 
 /// How many bytes one look shows at the front of others.
 const SHOWN_AT_ONCE: usize = LANES;
-
-/// The least bytes that a lenient call looks at for C0 and surrogates.
-const LOOKED_AT: usize = 16;
 
 /// Returns whether the bytes are few and all ASCII. More are tested by `is_utf8`.
 #[inline(always)]
@@ -112,94 +96,4 @@ pub fn few_need_encoded<F: Flavor>(value: &str) -> bool
     ensures { NeedsEncoding F.flavor (chars value.now) → IsTrue result }
 {
     any_in_bytes::<Either<F::Null, AtLeastF0>>(value.as_bytes())
-}
-
-/// What a first look at bytes shows.
-#[derive(Drop)]
-pub enum FirstLook {
-    /// No byte changes.
-    Unchanged,
-    /// Some byte changes.
-    Changed,
-    /// The bytes are not UTF-8.
-    NotUtf8,
-    /// The bytes are neither UTF-8 nor an encoding.
-    NoText,
-}
-
-/// Returns what a first look shows. It finds encodings that are not UTF-8 among a few bytes alone.
-#[inline(always)]
-pub(crate) fn first_look<F: Flavor>(bytes: &[u8]) -> FirstLook
-    ensures { IsShown (IsChangedByte F.flavor) bytes.now result }
-{
-    if bytes.len() >= 2 && bytes.len() <= LANES {
-        let leads = &bytes[..bytes.len() - 1];
-        return by_two_vectors!(
-            leads,
-            look_at_ends[Either<F::Null, FourByteLead>](bytes),
-            FirstLook::Unchanged
-        );
-    }
-    if shows_no_text(bytes) {
-        return FirstLook::NoText;
-    }
-    if contains_changed::<F>(bytes) {
-        return FirstLook::Changed;
-    }
-    FirstLook::Unchanged
-}
-
-/// Does so by two vectors. The class has the bytes that change. UTF-8 has neither C0 nor a
-/// surrogate, and each encoding that is not UTF-8 has one of them.
-#[inline(always)]
-fn look_at_ends<C: InVectors<N>, const N: usize>(bytes: &[u8]) -> FirstLook
-    requires { (N ≤ LANES) × (N < length bytes.now) × (length bytes.now ≤ 2 * N) }
-    ensures { IsShown (λ b. IsTrue (C.class b)) bytes.now result }
-{
-    if any_in_ends::<C, N>(bytes) {
-        return FirstLook::Changed;
-    }
-    let is_no_text = N >= FRONT && is_misplaced(bytes);
-    if is_no_text | is_no_utf8_by_ends::<N>(bytes) {
-        return if is_no_text {
-            FirstLook::NoText
-        } else {
-            FirstLook::NotUtf8
-        };
-    }
-    FirstLook::Unchanged
-}
-
-/// Returns whether the first bytes show that all are no text: neither UTF-8 nor an encoding. In
-/// both a continuation byte follows each lead byte, and none comes first or follows ASCII.
-#[inline(always)]
-pub fn shows_no_text(bytes: &[u8]) -> bool
-    ensures not_utf8 { IsTrue result → ¬ (IsUtf8 bytes.now) }
-    ensures not_encoded { IsTrue result → (f : AnyFlavor) → HasNoStrictReading f bytes.now }
-{
-    bytes.len() > FRONT && is_misplaced(bytes)
-}
-
-/// Returns whether a few bytes show that they are not UTF-8. Those that are UTF-8 mostly have
-/// neither ED nor C0, so this costs them little.
-#[inline(always)]
-pub(crate) fn shows_no_utf8(bytes: &[u8]) -> bool
-    ensures { IsTrue result → ¬ (IsUtf8 bytes.now) }
-{
-    bytes.len() >= LOOKED_AT
-        && bytes.len() <= LANES
-        && any_in_bytes::<OtherLead>(bytes)
-        && has_no_utf8(bytes)
-}
-
-/// Does so where some byte is ED or C0. It is not inlined, so that the test for these stays small.
-#[inline(never)]
-fn has_no_utf8(bytes: &[u8]) -> bool
-    ensures { IsTrue result → ¬ (IsUtf8 bytes.now) }
-{
-    if bytes.len() < 2 || bytes.len() > LANES {
-        return false;
-    }
-    let leads = &bytes[..bytes.len() - 1];
-    by_two_vectors!(leads, is_no_utf8_by_ends[](bytes), false)
 }

@@ -5,7 +5,7 @@ ghost use Rattle.std.specs.Int.Count.{count_trailing_zeros};
 ghost use Rattle.std.specs.List.{prefix_len};
 
 use crate::implementation::class::{InAllVectors, InVectors, LANES, bits};
-use crate::implementation::short::{by_two_vectors, end_vector};
+use crate::implementation::groups::InGroups;
 use crate::put::{put, put_lanes};
 use std::simd::prelude::*;
 
@@ -75,30 +75,32 @@ pub(crate) fn first_bit<const N: usize>(marks: u64) -> usize
     }
 }
 
-/// Returns how many of the bytes precede the first one of the class, as far as the first 64 show.
+/// How many bytes are searched at once where none is expected to be in the class.
+const GROUP: usize = 4 * LANES;
+
+/// Returns how many bytes at the front are in whole groups of 256 without one of the class.
 #[inline(always)]
-pub fn run_len<C: InAllVectors>(bytes: &[u8]) -> usize
-    requires some { 0 < length bytes.now }
-    ensures within { result ≤ length bytes.now }
+pub fn run_of_groups<C: InGroups<LANES>>(bytes: &[u8]) -> usize
+    ensures within { (result ≤ length bytes.now) × (0 < result → GROUP ≤ result) }
     ensures run { (i : ℕ) → i < result → C.class (slice_index bytes.now i) ≡ false }
-    ensures none { result ≡ 0 → C.class (slice_index bytes.now 0) ≡ true }
 {
-    let first = &bytes[..bytes.len().min(LANES)];
-    by_two_vectors!(first, run_in_ends[C](first), 0)
+    let mut run = 0;
+    while bytes.len() - run >= GROUP && !group_may_have::<C>(&bytes[run..]) {
+        run += GROUP;
+    }
+    run
 }
 
-/// Returns how many of the bytes precede the first one of the class, by a vector at the front and
-/// one at the end, which together cover all.
+/// Returns whether one of the first 256 bytes may be in the class, and true if one is.
 #[inline(always)]
-fn run_in_ends<C: InVectors<N>, const N: usize>(bytes: &[u8]) -> usize
-    requires { (N ≤ LANES) × (N ≤ length bytes.now) × (length bytes.now ≤ 2 * N) }
-    ensures within { result ≤ length bytes.now }
-    ensures run { (i : ℕ) → i < result → C.class (slice_index bytes.now i) ≡ false }
-    ensures end { result < length bytes.now → C.class (slice_index bytes.now result) ≡ true }
+fn group_may_have<C: InGroups<LANES>>(bytes: &[u8]) -> bool
+    requires { GROUP ≤ length bytes.now }
+    ensures { result ≡ false → (i : ℕ) → i < GROUP → C.class (slice_index bytes.now i) ≡ false }
 {
-    let run = lanes_before::<C, N>(Simd::from_slice(bytes));
-    if run < N {
-        return run;
-    }
-    bytes.len() - N + lanes_before::<C, N>(end_vector::<N>(bytes))
+    C::may_have(
+        u8x64::from_slice(bytes),
+        u8x64::from_slice(&bytes[LANES..]),
+        u8x64::from_slice(&bytes[2 * LANES..]),
+        u8x64::from_slice(&bytes[3 * LANES..]),
+    )
 }

@@ -9,10 +9,10 @@ ghost use Rattle.std.specs.String.{string_bytes, string_capacity};
 ghost use Rattle.simdutf8.specs.Tracks.{HasRead};
 ghost use Rattle.cesu8_bytes.specs.declared.utf8.Prefix.TheVariants.{Fault};
 
-use crate::ascii_front::{GROUP, ascii_front};
 use crate::continuation::character_start;
-use crate::implementation::class::LANES;
+use crate::implementation::class::{LANES, NonAscii};
 use crate::padded::{QUARTER, block_of_quarter, padded_block};
+use crate::runs::run_of_groups;
 use simdutf8::Checker;
 use std::alloc::Allocator;
 use std::simd::prelude::*;
@@ -36,12 +36,8 @@ const PART_BEHIND_CUT: usize = 2;
 pub fn is_utf8(bytes: &[u8]) -> bool
     ensures { IsTrue result ↔ IsUtf8 bytes.now }
 {
-    if bytes.len() > GROUP {
-        let front = ascii_front(bytes);
-        return front == bytes.len() || are_blocks_utf8(bytes, front);
-    }
     if bytes.len() > LANES {
-        return are_blocks_utf8(bytes, 0);
+        return are_blocks_utf8(bytes, run_of_groups::<NonAscii>(bytes));
     }
     if bytes.len() >= QUARTER {
         return is_block_utf8(padded_block(bytes, 0));

@@ -6,7 +6,10 @@ pub mod Characters
 pub mod Forms
 pub mod SliceReadings
 pub mod Strings
-pub mod ValidFronts
+pub mod WholeBytes
 pub mod ShownBytes
 pub mod FollowingBytes
 pub mod EncodedFollow
+pub mod Fronts
+pub mod UnchangedFronts
+pub mod FrontReadings

@@ -7,7 +7,7 @@ use Rattle.cesu8_bytes.specs.declared.strictness.Strictness.{Strictness}
 use Rattle.cesu8_bytes.specs.declared.strictness.Strictness.TheVariants.{Strict, Lossy}
 use Rattle.cesu8_decode.specs.declared.whole_blocks.TheConstants.{SPARE}
 use Rattle.cesu8_decode.specs.DecodedOffsets.{window_of, decoded, is_ill_formed_at}
-use Rattle.cesu8_bytes.specs.TextChunks.{IsChunk}
+use Rattle.cesu8_bytes.specs.TextChunks.{IsReadSoFar, IsChunk}
 
 -- The text of the bytes: it is the lossy reading, and in strict reading the bytes are its encoding.
 abbrev pub IsDecodedText : Flavor → Strictness → List ℕ → List ℕ → Type 0
@@ -74,13 +74,13 @@ abbrev pub most_of_text : Flavor → Strictness → List ℕ → ℕ
 most_of_text f Strict bytes = length bytes
 most_of_text f Lossy bytes = lossy_length f bytes
 
--- The strict reading of the bytes is all that is written to an empty vector, if there is one.
-pub record WritesStrictly {Z : Type 0} (f : Flavor) (bytes : List ℕ) (empty : Vec ℕ Z) (result : Option (Vec ℕ Z)) : Type 0 where
-  pub text : IfSome result (λ text. IsChunk f Strict bytes [] text.items)
-  pub capacity : IfSome result (λ text. vec_capacity text ≡ vec_capacity empty)
+-- The strict reading of the bytes is appended to a vector, if there is one.
+pub record AppendsStrictly {Z : Type 0} (f : Flavor) (bytes : List ℕ) (before : Vec ℕ Z) (result : Option (Vec ℕ Z)) : Type 0 where
+  pub text : IfSome result (λ text. IsReadSoFar f Strict bytes [] before.items text.items)
+  pub capacity : IfSome result (λ text. vec_capacity text ≡ vec_capacity before)
   pub none : IfNone result (HasNoStrictReading f bytes)
 
--- The lossy reading is, and fills what was requested.
+-- The lossy reading is all that a vector has, and fills what was requested.
 pub record BuildsReading {Z E : Type 0} (f : Flavor) (bytes : List ℕ) (result : Result (Vec ℕ Z) E) : Type 0 where
   pub text : IfOk result (λ text. IsChunk f Lossy bytes [] text.items)
   pub capacity : IfOk result (λ text. vec_capacity text ≡ length text.items)

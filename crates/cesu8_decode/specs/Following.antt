@@ -1,44 +1,77 @@
 -- Which bytes may follow which in whole encoded characters.
-use Rattle.std.specs.Prelude.{◌≡◌, ℕ, ◌+◌, ◌<◌, ◌≤◌, ◌&&◌, ◌||◌, ◌==◌, nat_le, nat_lt, if◌then◌else◌, not, Bool, true, List, ◌∷◌, length, slice_index, bit_or}
+use Rattle.std.specs.Prelude.{◌≡◌, ℕ, ◌+◌, ◌<◌, ◌≤◌, ◌&&◌, ◌||◌, ◌==◌, nat_le, nat_lt, if◌then◌else◌, not, Bool, true, false, List, ◌∷◌, length, slice_index, bit_or}
+use Rattle.std.specs.Simd.Lanes.{chunk}
 use Rattle.cesu8_text.specs.Class.{is_null}
 use Rattle.cesu8_text.specs.Encoding.{Flavor}
 use Rattle.cesu8_bytes.specs.Pairs.{null_at}
 use Rattle.cesu8_decode.specs.DecodedOffsets.{continues}
+use Rattle.cesu8_decode.specs.declared.following.Block.{Block}
+use Rattle.cesu8_decode.specs.declared.following.TheConstants.{SHOWN_BY_NEXT, SHOWN_BY_NEXT_WITHOUT_PAIRS}
+
+-- The characters that are meant: all that are encoded, or those of them that are the same in UTF-8.
+pub data CharacterSet : Type 0 where
+  Encoded : CharacterSet
+  Unchanged : CharacterSet
+
+-- The others, surrogate pairs and C0 80, are meant too.
+abbrev pub has_changed : CharacterSet → Bool
+has_changed Encoded = true
+has_changed Unchanged = false
+
+-- From this second byte on a surrogate is none that begins a character.
+abbrev pub first_low : CharacterSet → ℕ
+first_low Encoded = 0xB0
+first_low Unchanged = 0xA0
 
 -- What byte b shows behind byte a: 80 (hexadecimal) behind a continuation byte, as the third byte of
--- a character has it, 20 as the second byte of a low surrogate, and 0 where it begins a character
--- or is the second byte of another. All else is in no encoded character, by a bit of its own.
-unfoldable pub shown : Flavor → ℕ → ℕ → ℕ
-shown f a b =
+-- a character has it, 20 as the second byte of a low surrogate, or of any where none is meant, and 0
+-- where it begins a character or is the second byte of another. All else is in no character that is
+-- meant, by a bit of its own.
+unfoldable pub shown : CharacterSet → Flavor → ℕ → ℕ → ℕ
+shown s f a b =
     if is_null f b then 0xFF
     else if nat_le 0xF0 a then 0x40
     else if not (continues b) then (if nat_le 0xC0 a then 0x01 else 0)
     else if nat_lt a 0x80 then 0x02
     else if nat_lt a 0xC0 then 0x80
-    else if a == 0xC0 then (if null_at f 0xC0 b then 0 else 0x10)
+    else if a == 0xC0 then (if has_changed s && null_at f 0xC0 b then 0 else 0x10)
     else if a == 0xC1 then 0x08
     else if a == 0xE0 && nat_lt b 0xA0 then 0x04
-    else if a == 0xED && nat_le 0xB0 b then 0x20
+    else if a == 0xED && nat_le (first_low s) b then 0x20
     else 0
 
--- Two bytes begin a high surrogate.
-abbrev pub is_high_surrogate : ℕ → ℕ → Bool
-is_high_surrogate a b = a == 0xED && (nat_le 0xA0 b && nat_lt b 0xB0)
+-- The table of what is shown by the upper half of the second byte.
+abbrev pub by_next : CharacterSet → List ℕ
+by_next Encoded = SHOWN_BY_NEXT
+by_next Unchanged = SHOWN_BY_NEXT_WITHOUT_PAIRS
+
+-- Two bytes begin a high surrogate, and pairs are meant.
+abbrev pub is_high_surrogate : CharacterSet → ℕ → ℕ → Bool
+is_high_surrogate s a b = has_changed s && (a == 0xED && (nat_le 0xA0 b && nat_lt b 0xB0))
 
 -- What a byte has to show that follows four others, of which a, b and d are the first three: the third
 -- byte of a character that d leads, and the second of a low surrogate behind a high one.
-abbrev pub wanted : (a b d : ℕ) → ℕ
-wanted a b d = (if nat_le 0xE0 d then 0x80 else 0) + (if is_high_surrogate a b then 0x20 else 0)
+abbrev pub wanted : CharacterSet → (a b d : ℕ) → ℕ
+wanted s a b d = (if nat_le 0xE0 d then 0x80 else 0) + (if is_high_surrogate s a b then 0x20 else 0)
 
 -- Byte g may follow four others.
-abbrev pub follows : Flavor → (a b d e g : ℕ) → Bool
-follows f a b d e g = shown f e g == wanted a b d
+abbrev pub follows : CharacterSet → Flavor → (a b d e g : ℕ) → Bool
+follows s f a b d e g = shown s f e g == wanted s a b d
 
 -- Byte i + 4 of a window may follow the four before it.
-abbrev pub follows_at : Flavor → List ℕ → ℕ → Bool
-follows_at f window i =
+abbrev pub follows_at : CharacterSet → Flavor → List ℕ → ℕ → Bool
+follows_at s f window i =
     let w = slice_index window in
-    follows f (w i) (w (i + 1)) (w (i + 2)) (w (i + 3)) (w (i + 4))
+    follows s f (w i) (w (i + 1)) (w (i + 2)) (w (i + 3)) (w (i + 4))
+
+-- A block has the 32 bytes of a window from byte i + 4 on, and those before each of them.
+pub record IsBlockAt (window : List ℕ) (i : ℕ) (block : Block) : Type 0 where
+  pub room : i + 36 ≤ length window
+  pub bytes : block.bytes ≡ chunk (i + 4) 32 window
+  pub one_before : block.one_before ≡ chunk (i + 3) 32 window
+  pub two_before : block.two_before ≡ chunk (i + 2) 32 window
+  pub three_before : block.three_before ≡ chunk (i + 1) 32 window
+  pub four_before : block.four_before ≡ chunk i 32 window
 
 -- A byte, below 80 (hexadecimal) only where it is a character of one byte.
 abbrev pub marked_if_not_one : Flavor → ℕ → ℕ
@@ -49,21 +82,26 @@ abbrev pub after_fillers : List ℕ → List ℕ
 after_fillers bytes = 0x61 ∷ 0x61 ∷ 0x61 ∷ 0x61 ∷ bytes
 
 -- Each of n bytes of a window, from byte i + 4 on, may follow the four before it.
-abbrev pub AllFollow : Flavor → List ℕ → ℕ → ℕ → Type 0
-AllFollow f window i n = (k : ℕ) → i ≤ k → k < i + n → follows_at f window k ≡ true
+abbrev pub AllFollow : CharacterSet → Flavor → List ℕ → ℕ → ℕ → Type 0
+AllFollow s f window i n = (k : ℕ) → i ≤ k → k < i + n → follows_at s f window k ≡ true
 
 -- So do the first n bytes, behind fillers.
-pub record FirstFollow (f : Flavor) (bytes : List ℕ) (n : ℕ) : Type 0 where
+pub record FirstFollow (s : CharacterSet) (f : Flavor) (bytes : List ℕ) (n : ℕ) : Type 0 where
   pub within : n ≤ length bytes
-  pub follow : (k : ℕ) → k < n → follows_at f (after_fillers bytes) k ≡ true
+  pub follow : (k : ℕ) → k < n → follows_at s f (after_fillers bytes) k ≡ true
+
+-- They do, and the next byte may not.
+pub record FollowUpTo (s : CharacterSet) (f : Flavor) (bytes : List ℕ) (n : ℕ) : Type 0 where
+  pub first : FirstFollow s f bytes n
+  pub stops : n < length bytes → follows_at s f (after_fillers bytes) n ≡ false
 
 -- By the four bytes before a boundary, a character may cross it, or a surrogate pair.
-abbrev pub crosses : (a b d e : ℕ) → Bool
-crosses a b d e =
-    nat_le 0xC0 e || (nat_le 0xE0 d || (is_high_surrogate b d || is_high_surrogate a b))
+abbrev pub crosses : CharacterSet → (a b d e : ℕ) → Bool
+crosses s a b d e =
+    nat_le 0xC0 e || (nat_le 0xE0 d || (is_high_surrogate s b d || is_high_surrogate s a b))
 
 -- The boundary behind so many bytes of the window's.
-abbrev pub crosses_at : List ℕ → ℕ → Bool
-crosses_at window i =
+abbrev pub crosses_at : CharacterSet → List ℕ → ℕ → Bool
+crosses_at s window i =
     let w = slice_index window in
-    crosses (w i) (w (i + 1)) (w (i + 2)) (w (i + 3))
+    crosses s (w i) (w (i + 1)) (w (i + 2)) (w (i + 3))

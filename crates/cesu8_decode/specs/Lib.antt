@@ -5,5 +5,5 @@ pub mod Forms
 pub mod Decoding
 pub mod PutReadings
 pub mod Ways
-pub mod ValidFront
+pub mod Front
 pub mod Following

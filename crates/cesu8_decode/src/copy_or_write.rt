@@ -2,10 +2,11 @@
 
 ghost use Rattle.cesu8_decode.specs.PutReadings.{PutsText, ReadsAs};
 
+use crate::accepts::Accepts;
+use crate::character_set::Unchanged;
+use crate::front::front;
 use crate::refusal::Unwritten;
-use crate::slices::{put_few, put_text};
-use crate::way::is_read_before_looks;
-use cesu8_bytes::accepts::{Accepts, Look};
+use crate::slices::{put_lossily, put_strictly};
 use cesu8_bytes::flavor::Flavor;
 use cesu8_bytes::strictness::Strictness;
 use cesu8_bytes::writers::{copy_to_slice, copy_to_slice_by_call};
@@ -38,15 +39,12 @@ fn decode_other_to_slice<F: Flavor, A: Accepts>(
     ensures { PutsText strictness (ReadsAs strictness (A.reads F.flavor bytes.now)
         (A.reads_lossily F.flavor bytes.now)) result buf.old buf.new }
 {
-    if A::is_encoding_alone() && is_read_before_looks(bytes) {
-        return put_few::<F>(strictness, bytes, buf);
+    let front = front::<F, Unchanged>(bytes);
+    if A::is_kept::<F>(bytes, front) {
+        return copy_to_slice_by_call(bytes, buf).map_err(Unwritten::NoRoom);
     }
-    match A::look_to_copy::<F>(bytes) {
-        Look::Text => copy_to_slice_by_call(bytes, buf).map_err(Unwritten::NoRoom),
-        Look::NoEncoding => match strictness {
-            Strictness::Strict => Err(Unwritten::NoText),
-            Strictness::Lossy => put_text::<F>(strictness, bytes, buf),
-        },
-        Look::Encoding | Look::Unknown => put_text::<F>(strictness, bytes, buf),
+    match strictness {
+        Strictness::Strict => put_strictly::<F>(bytes, front, buf),
+        Strictness::Lossy => put_lossily::<F>(bytes, buf),
     }
 }

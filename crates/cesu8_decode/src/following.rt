@@ -2,24 +2,28 @@
 //!
 //! What two bytes show is compared with what the three before them want: the third byte of a
 //! character, and the second half of a surrogate pair. Where both are the same for each byte, all
-//! are in encoded characters, but for those of the last one, which may be cut off.
+//! are in encoded characters, but for those of the last one, which may be cut off. Where only the
+//! characters are meant that are the same in UTF-8, a surrogate or C0 80 shows what nothing wants.
 
-ghost use Rattle.std.specs.Prelude.{◌≡◌, ◌↔◌, ℕ, ◌+◌, ◌*◌, ◌<◌, ◌≤◌, IsTrue, length, map, slice_index, min, nat_le, if◌then◌else◌, not, true};
+ghost use Rattle.std.specs.Prelude.{◌≡◌, ℕ, List, ◌+◌, ◌*◌, ◌-◌, ◌<◌, ◌≤◌, ◌++◌, ◌==◌, ◌&&◌, IsTrue, false, length, map, drop, slice_index, nat_le, if◌then◌else◌, not};
 ghost use Rattle.std.specs.List.{range_with_len};
 ghost use Rattle.std.specs.Simd.Lanes.{zip2};
 ghost use Rattle.cesu8_bytes.specs.Kernels.{mask};
-ghost use Rattle.cesu8_decode.specs.Following.{shown, wanted, follows_at, AllFollow, FirstFollow, marked_if_not_one};
+ghost use Rattle.cesu8_decode.specs.Following.{has_changed, by_next, shown, wanted, follows_at, AllFollow, IsBlockAt, marked_if_not_one};
 
-use super::offsets::common_bits;
+use super::character_set::CharacterSet;
+use super::offsets::{FROM_28, FROM_29, FROM_30, FROM_31, common_bits};
+use super::packing::HighestBit;
 use cesu8_bytes::BLOCK;
 use cesu8_bytes::flavor::{Flavor, nulls};
 use cesu8_bytes::implementation::class::{Equal, NonAscii, bits, mask};
+use cesu8_bytes::runs::lanes_before;
 use std::simd::prelude::*;
 
 /// How many bytes before a byte decide whether it may follow them.
 pub const DECIDING: usize = 4;
 
-/// What stands for bytes before the first and behind the last: some character of one byte.
+/// What stands for bytes before the first: some character of one byte.
 pub const FILLER: u8 = 0x61;
 
 /// What two bytes show is the common bits of three tables. Bits 80 and 20 (hexadecimal) are those
@@ -34,154 +38,165 @@ const SHOWN_BY_LOW: [u8; 16] = [
     0xD7, 0xCB, 0xC3, 0xC3, 0xC3, 0xC3, 0xC3, 0xC3, 0xC3, 0xC3, 0xC3, 0xC3, 0xC3, 0xE3, 0xC3, 0xC3,
 ];
 
+/// Where pairs are meant. A0 to AF behind ED begin a high surrogate.
 const SHOWN_BY_NEXT: [u8; 16] = [
     0x41, 0x41, 0x41, 0x41, 0x41, 0x41, 0x41, 0x41, 0xDE, 0xDE, 0xDA, 0xFA, 0x41, 0x41, 0x41, 0x41,
 ];
 
-/// Returns how many bytes at the front may follow each other: all, or those of some blocks.
+/// Where none are.
+const SHOWN_BY_NEXT_WITHOUT_PAIRS: [u8; 16] = [
+    0x41, 0x41, 0x41, 0x41, 0x41, 0x41, 0x41, 0x41, 0xDE, 0xDE, 0xFA, 0xFA, 0x41, 0x41, 0x41, 0x41,
+];
+
+/// 32 bytes, and those one to four before each of them.
+#[derive(Clone, Copy)]
+pub struct Block {
+    pub bytes: u8x32,
+    pub one_before: u8x32,
+    pub two_before: u8x32,
+    pub three_before: u8x32,
+    pub four_before: u8x32,
+}
+
+/// Returns 32 bytes of a slice, four behind an index.
 #[inline(always)]
-pub fn following_front<F: Flavor>(bytes: &[u8]) -> usize
-    ensures { FirstFollow F.flavor bytes.now result }
+pub fn block_at(bytes: &[u8], at: usize) -> Block
+    requires { at + DECIDING + BLOCK ≤ length bytes.now }
+    ensures { IsBlockAt bytes.now at result }
 {
-    if !first_follows::<F>(bytes) {
-        return 0;
-    }
-    let at = following_blocks::<F>(bytes, bytes.len().min(BLOCK));
-    let rest = bytes.len() - at;
-    if rest == 0 || rest >= BLOCK || bytes.len() < DECIDING + BLOCK {
-        return at;
-    }
-    // The last block begins in the one before.
-    let last = bytes.len() - BLOCK - DECIDING;
-    if block_follows::<F>(bytes, last) {
-        bytes.len()
-    } else {
-        at
+    Block {
+        bytes: u8x32::from_slice(&bytes[at + DECIDING..]),
+        one_before: u8x32::from_slice(&bytes[at + 3..]),
+        two_before: u8x32::from_slice(&bytes[at + 2..]),
+        three_before: u8x32::from_slice(&bytes[at + 1..]),
+        four_before: u8x32::from_slice(&bytes[at..]),
     }
 }
 
-/// Returns whether the bytes of the first block may follow each other.
+/// Returns 32 bytes, behind the last ones of as many.
 #[inline(always)]
-fn first_follows<F: Flavor>(bytes: &[u8]) -> bool
-    ensures { IsTrue result → FirstFollow F.flavor bytes.now (min (length bytes.now) BLOCK) }
+pub fn block_behind(before: u8x32, bytes: u8x32) -> Block
+    ensures { IsBlockAt (drop (BLOCK - DECIDING) (before ++ bytes)) 0 result }
 {
-    let mut window = [FILLER; DECIDING + BLOCK];
-    if bytes.len() >= BLOCK {
-        window[DECIDING..].copy_from_slice(&bytes[..BLOCK]);
-    } else {
-        window[DECIDING..DECIDING + bytes.len()].copy_from_slice(bytes);
+    Block {
+        bytes,
+        one_before: before.shuffle::<32>(bytes, FROM_31),
+        two_before: before.shuffle::<32>(bytes, FROM_30),
+        three_before: before.shuffle::<32>(bytes, FROM_29),
+        four_before: before.shuffle::<32>(bytes, FROM_28),
     }
-    block_follows::<F>(&window, 0)
 }
 
-/// Returns how many bytes may follow each other, by whole blocks from `start` on.
+/// Returns how many bytes of a block may follow those before them, up to the first that may not.
 #[inline(always)]
-fn following_blocks<F: Flavor>(bytes: &[u8], start: usize) -> usize
-    requires first { FirstFollow F.flavor bytes.now start }
-    requires before { start < length bytes.now → DECIDING ≤ start }
-    ensures { FirstFollow F.flavor bytes.now result }
+pub fn following_len<F: Flavor, S: CharacterSet>(block: Block) -> usize
+    ensures within { (window : List ℕ) (at : ℕ) → IsBlockAt window at block → result ≤ BLOCK }
+    ensures follow { (window : List ℕ) (at : ℕ) → IsBlockAt window at block
+        → AllFollow S.set F.flavor window at result }
+    ensures stops { (window : List ℕ) (at : ℕ) → IsBlockAt window at block → result < BLOCK
+        → follows_at S.set F.flavor window (at + result) ≡ false }
 {
-    let mut at = start;
-    while bytes.len() - at >= 2 * BLOCK && two_follow::<F>(bytes, at - DECIDING) {
-        at += 2 * BLOCK;
-    }
-    if bytes.len() - at >= BLOCK && block_follows::<F>(bytes, at - DECIDING) {
-        at += BLOCK;
-    }
-    at
+    lanes_before::<HighestBit, BLOCK>(misplaced::<F, S>(block))
 }
 
-/// Returns whether each of the 64 bytes behind `at` bytes and four more may follow those before it.
+/// Returns whether each of the 64 bytes four behind an index may follow those before it.
 #[inline(always)]
-pub fn two_follow<F: Flavor>(window: &[u8], at: usize) -> bool
-    requires { at + DECIDING + 2 * BLOCK ≤ length window.now }
-    ensures { IsTrue result ↔ AllFollow F.flavor window.now at (2 * BLOCK) }
+pub fn two_follow<F: Flavor, S: CharacterSet>(bytes: &[u8], at: usize) -> bool
+    requires { at + DECIDING + 2 * BLOCK ≤ length bytes.now }
+    ensures { IsTrue result → AllFollow S.set F.flavor bytes.now at (2 * BLOCK) }
 {
-    let above = above_ascii::<F>(window, at) | above_ascii::<F>(window, at + BLOCK);
-    if bits::<NonAscii, BLOCK>(above) == 0 && begins_with_ascii(window, at) {
+    let first = block_at(bytes, at);
+    let second = block_at(bytes, at + BLOCK);
+    let above = above_ascii::<F>(first.bytes) | above_ascii::<F>(second.bytes);
+    if bits::<NonAscii, BLOCK>(above) == 0 && begins_with_ascii(bytes, at) {
         return true;
     }
-    bits::<NonAscii, BLOCK>(misplaced::<F>(window, at) | misplaced::<F>(window, at + BLOCK)) == 0
+    bits::<HighestBit, BLOCK>(misplaced::<F, S>(first) | misplaced::<F, S>(second)) == 0
 }
 
-/// Returns whether each of the 32 bytes behind `at` bytes and four more may follow those before it.
+/// Marks, with the highest bit, the bytes that are no characters of one byte.
 #[inline(always)]
-fn block_follows<F: Flavor>(window: &[u8], at: usize) -> bool
-    requires { at + DECIDING + BLOCK ≤ length window.now }
-    ensures { IsTrue result → AllFollow F.flavor window.now at BLOCK }
+fn above_ascii<F: Flavor>(bytes: u8x32) -> u8x32
+    ensures { result ≡ map (marked_if_not_one F.flavor) bytes }
 {
-    let above = above_ascii::<F>(window, at);
-    if bits::<NonAscii, BLOCK>(above) == 0 && begins_with_ascii(window, at) {
-        return true;
-    }
-    bits::<NonAscii, BLOCK>(misplaced::<F>(window, at)) == 0
-}
-
-/// Marks, with the highest bit, those of the 32 bytes behind `at` bytes and four more that are no
-/// characters of one byte.
-#[inline(always)]
-fn above_ascii<F: Flavor>(window: &[u8], at: usize) -> u8x32
-    requires { at + DECIDING + BLOCK ≤ length window.now }
-    ensures { result ≡ map (λ i. marked_if_not_one F.flavor (slice_index window.now (i + DECIDING)))
-        (range_with_len at BLOCK) }
-{
-    let bytes = u8x32::from_slice(&window[at + DECIDING..]);
     bytes | nulls::<F>(bytes)
 }
 
-/// Returns whether the four bytes behind `at` bytes are ASCII.
+/// Returns whether the four bytes from an index on are ASCII.
 #[inline(always)]
-fn begins_with_ascii(window: &[u8], at: usize) -> bool
-    requires { at + DECIDING ≤ length window.now }
+fn begins_with_ascii(bytes: &[u8], at: usize) -> bool
+    requires { at + DECIDING ≤ length bytes.now }
     ensures { IsTrue result → (i : ℕ) → at ≤ i → i < at + DECIDING
-        → slice_index window.now i < 0x80 }
+        → slice_index bytes.now i < 0x80 }
 {
-    bits::<NonAscii, DECIDING>(u8x4::from_slice(&window[at..])) == 0
+    bits::<NonAscii, DECIDING>(u8x4::from_slice(&bytes[at..])) == 0
 }
 
-/// Returns all ones for each of the 32 bytes behind `at` bytes and four more that may not follow
-/// those before it, and zeros for the others.
+/// Returns all ones for each byte of a block that may not follow those before it, and zeros for the
+/// others.
 #[inline(always)]
-fn misplaced<F: Flavor>(window: &[u8], at: usize) -> u8x32
-    requires { at + DECIDING + BLOCK ≤ length window.now }
-    ensures { result ≡ map (λ i. mask (not (follows_at F.flavor window.now i)))
+fn misplaced<F: Flavor, S: CharacterSet>(block: Block) -> u8x32
+    ensures { (window : List ℕ) (at : ℕ) → IsBlockAt window at block
+        → result ≡ map (λ i. mask (not (follows_at S.set F.flavor window i)))
         (range_with_len at BLOCK) }
 {
-    let first = u8x32::from_slice(&window[at + 3..]);
-    let second = u8x32::from_slice(&window[at + DECIDING..]);
-    shown_by::<F>(first, second)
-        .simd_eq(wanted_by(window, at))
+    let wanted = wanted_by::<S>(block.four_before, block.three_before, block.two_before);
+    shown_by::<F, S>(block.one_before, block.bytes)
+        .simd_eq(wanted)
         .select(u8x32::splat(0), u8x32::splat(0xFF))
 }
 
 /// Returns what the second of each two bytes shows behind the first.
 #[inline(always)]
-fn shown_by<F: Flavor>(first: u8x32, second: u8x32) -> u8x32
-    ensures { result ≡ zip2 (shown F.flavor) first second }
+fn shown_by<F: Flavor, S: CharacterSet>(first: u8x32, second: u8x32) -> u8x32
+    ensures { result ≡ zip2 (shown S.set F.flavor) first second }
 {
-    let of_two = common_bits(SHOWN_BY_HIGH, SHOWN_BY_LOW, SHOWN_BY_NEXT, first, second);
-    // In MUTF-8 C0 80 is a character, and 00 is none.
+    let by_next = shown_by_next::<S>();
+    let of_two = common_bits(SHOWN_BY_HIGH, SHOWN_BY_LOW, by_next, first, second);
     if F::has_long_null() {
-        let of_null = second
-            .simd_eq(u8x32::splat(0x80))
-            .select(u8x32::splat(0xEF), u8x32::splat(0xFF));
-        return (of_two & of_null) | nulls::<F>(second);
+        return (of_two & kept_of_null::<S>(second)) | nulls::<F>(second);
     }
     of_two
 }
 
-/// Returns what the bytes have to show that follow `at` bytes and four more.
+/// Returns the third table.
 #[inline(always)]
-fn wanted_by(window: &[u8], at: usize) -> u8x32
-    requires { at + DECIDING + BLOCK ≤ length window.now }
-    ensures { result ≡ map (λ i. wanted (slice_index window.now i)
-        (slice_index window.now (i + 1)) (slice_index window.now (i + 2)))
-        (range_with_len at BLOCK) }
+fn shown_by_next<S: CharacterSet>() -> [u8; 16]
+    ensures { result ≡ by_next S.set }
 {
-    let lead = u8x32::from_slice(&window[at..]);
-    let second = u8x32::from_slice(&window[at + 1..]);
-    let is_high = mask::<Equal<0xED>>(lead) & mask::<Equal<0xA0>>(second & u8x32::splat(0xF0));
-    leads_three(u8x32::from_slice(&window[at + 2..])) | (is_high & u8x32::splat(0x20))
+    if S::has_changed() {
+        return SHOWN_BY_NEXT;
+    }
+    SHOWN_BY_NEXT_WITHOUT_PAIRS
+}
+
+/// Returns the bits that bytes of MUTF-8 keep of what they show: 80 may follow C0, where that is
+/// meant.
+#[inline(always)]
+fn kept_of_null<S: CharacterSet>(bytes: u8x32) -> u8x32
+    ensures { result ≡ map (λ b. if has_changed S.set && b == 0x80 then 0xEF else 0xFF) bytes }
+{
+    if S::has_changed() {
+        return bytes
+            .simd_eq(u8x32::splat(0x80))
+            .select(u8x32::splat(0xEF), u8x32::splat(0xFF));
+    }
+    u8x32::splat(0xFF)
+}
+
+/// Returns what bytes have to show, by those four, three and two before them.
+#[inline(always)]
+fn wanted_by<S: CharacterSet>(four_before: u8x32, three_before: u8x32, two_before: u8x32) -> u8x32
+    ensures { result ≡ zip2 (λ wants d. wants d)
+        (zip2 (wanted S.set) four_before three_before) two_before }
+{
+    let third = leads_three(two_before);
+    if !S::has_changed() {
+        return third;
+    }
+    let is_high = mask::<Equal<0xED>>(four_before)
+        & mask::<Equal<0xA0>>(three_before & u8x32::splat(0xF0));
+    third | (is_high & u8x32::splat(0x20))
 }
 
 /// Returns 80 (hexadecimal) for each byte that leads three bytes or more, and zeros for the others.

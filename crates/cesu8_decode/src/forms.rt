@@ -1,19 +1,14 @@
 //! How a character of more than one byte is encoded, and whether bytes begin with one.
 
-ghost use Rattle.std.specs.Prelude.{◌≡◌, ◌+◌, ◌<◌, ◌≤◌, length, replicate, slice_index, false, IsTrue, IfSome, IfNone};
-ghost use Rattle.cesu8_text.specs.Reading.{HasNoStrictReading};
+ghost use Rattle.std.specs.Prelude.{◌≡◌, ◌↔◌, ◌≤◌, length, replicate, IsTrue, IfSome, IfNone};
 ghost use Rattle.cesu8_bytes.specs.Pairs.{null_at};
 ghost use Rattle.cesu8_decode.specs.DecodedOffsets.{IsPrefixOf, one_at, two_at, three_at};
-ghost use Rattle.cesu8_decode.specs.declared.forms.FirstLead.TheVariants.{IllFormed};
-ghost use Rattle.cesu8_decode.specs.Forms.{HasForm, HasNoForm, form_len};
+ghost use Rattle.cesu8_decode.specs.Forms.{HasForm, HasNoForm, BeginsChanged, form_len};
 
 use cesu8_bytes::continuation::is_continuation;
 use cesu8_bytes::flavor::Flavor;
-use cesu8_bytes::implementation::class::{Either, NonAscii};
 use cesu8_bytes::implementation::short::copy_short;
 use cesu8_bytes::pairs::{PAIR, PAIR_READ, is_pair};
-use cesu8_bytes::runs::lanes_before;
-use std::simd::prelude::*;
 
 /// How a character of more than one byte is encoded.
 #[derive(Clone, Copy)]
@@ -61,54 +56,25 @@ pub fn len_of(form: Form) -> usize
     }
 }
 
-/// How many bytes are looked at for the first character of more than a byte.
-const SEARCHED: usize = 16;
-
-/// What the first character of more than a byte shows of bytes, if it begins in the first ones.
-#[derive(Drop)]
-pub enum FirstLead {
-    /// It is a surrogate without its pair, C0 without a null character, or a byte of F0 or more, so the
-    /// bytes have no text.
-    IllFormed,
-    /// It has a lead byte that each encoding has that is not UTF-8.
-    OfEncoding,
-    /// It is another, or was not looked at.
-    Other,
-}
-
-/// Returns what the first lead byte shows. Most input that has ED or C0, but is no encoding, shows it
-/// so. Fewer than a vector and a surrogate pair are not looked at.
-#[inline(never)]
-pub fn first_lead<F: Flavor>(bytes: &[u8]) -> FirstLead
-    ensures { result ≡ IllFormed → HasNoStrictReading F.flavor bytes.now }
-{
-    if bytes.len() < SEARCHED + PAIR_READ {
-        return FirstLead::Other;
-    }
-    let run = lanes_before::<Either<F::Null, NonAscii>, SEARCHED>(Simd::from_slice(bytes));
-    let rest = &bytes[run..];
-    if has_lone_lead::<F>(rest) {
-        return FirstLead::IllFormed;
-    }
-    match rest[0] {
-        0xC0 | 0xED => FirstLead::OfEncoding,
-        _ => FirstLead::Other,
-    }
-}
-
-/// Returns whether bytes begin with a surrogate without its pair, with C0 without a null character,
-/// or with a byte of F0 or more. No branch tells which, since it would be guessed wrong where
-/// characters are mixed.
+/// Returns whether the bytes begin with a character that has other bytes in UTF-8: with a surrogate
+/// pair, or with C0 80 in MUTF-8.
 #[inline(always)]
-fn has_lone_lead<F: Flavor>(bytes: &[u8]) -> bool
-    requires { PAIR_READ ≤ length bytes.now }
-    ensures form { IsTrue result → HasNoForm F.flavor bytes.now }
-    ensures more { IsTrue result → one_at F.flavor (slice_index bytes.now 0) ≡ false }
+pub fn begins_changed<F: Flavor>(bytes: &[u8]) -> bool
+    ensures { IsTrue result ↔ BeginsChanged F.flavor bytes.now }
 {
-    let (first, second) = (bytes[0], bytes[1]);
-    let is_unpaired = (first == 0xED) & (second >= 0xA0) & !is_pair(bytes);
-    let is_overlong = (first == 0xC0) & !is_null::<F>(first, second);
-    is_unpaired | is_overlong | (first >= 0xF0)
+    match bytes {
+        [
+            0xED,
+            0xA0..=0xAF,
+            0x80..=0xBF,
+            0xED,
+            0xB0..=0xBF,
+            0x80..=0xBF,
+            ..
+        ] => true,
+        [0xC0, 0x80, ..] => F::has_long_null(),
+        _ => false,
+    }
 }
 
 /// Returns whether a byte is a character of one byte.

@@ -6,12 +6,12 @@
 //! becomes three, so there is more room, and the pass ends where that is used up. Only the first
 //! block, which zeros go before, and the last ones, which zeros follow, are read from small arrays.
 
-ghost use Rattle.std.specs.Prelude.{◌≡◌, ◌↔◌, ◌≤◌, IsTrue, false, [], length, take, drop, vec_capacity};
+ghost use Rattle.std.specs.Prelude.{◌≡◌, ◌+◌, ◌↔◌, ◌≤◌, IsTrue, false, [], length, take, drop, vec_len, vec_capacity};
 ghost use Rattle.cesu8_text.specs.Encoding.{Flavor as AnyFlavor};
 ghost use Rattle.cesu8_bytes.specs.TextChunks.{IsReadSoFar};
 ghost use Rattle.cesu8_bytes.specs.declared.strictness.Strictness.{Strictness};
 ghost use Rattle.cesu8_bytes.specs.declared.strictness.Strictness.TheVariants.{Lossy};
-ghost use Rattle.cesu8_decode.specs.Decoding.{WritesText, WritesStrictly, HasRoom, room_for};
+ghost use Rattle.cesu8_decode.specs.Decoding.{WritesText, AppendsStrictly, HasRoom, room_for};
 
 use super::decoded::{Decoded, refused};
 use super::last_blocks::write_last;
@@ -35,16 +35,16 @@ pub const LONG_TEXT: usize = WIDEST * LONG_WINDOW + SPARE;
 /// ill-formed byte is near.
 const CLEARED_AT_ONCE: usize = 4096;
 
-/// Writes the strict reading of the bytes to an empty vector that has capacity for as many.
+/// Appends the strict reading of the bytes to a vector that has capacity for as many.
 #[inline(never)]
 pub fn append_strictly<F: Flavor, A: Allocator + Copy>(
     bytes: &[u8],
-    empty: Vec<u8, A>,
+    before: Vec<u8, A>,
 ) -> Option<Vec<u8, A>>
-    requires { (empty.items ≡ []) × (length bytes.now ≤ vec_capacity empty) }
-    ensures { WritesStrictly F.flavor bytes.now empty result }
+    requires { vec_len before + length bytes.now ≤ vec_capacity before }
+    ensures { AppendsStrictly F.flavor bytes.now before result }
 {
-    let mut text = empty;
+    let mut text = before;
     let mut rest = bytes;
     while !rest.is_empty() {
         let start = text.len();

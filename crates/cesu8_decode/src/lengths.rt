@@ -5,9 +5,11 @@ ghost use Rattle.std.specs.Prelude.{◌≡◌, ◌<◌, IfSome, IfNone};
 ghost use Rattle.cesu8_text.specs.Reading.{IsStrictReading, HasNoStrictReading, lossy_length};
 ghost use Rattle.cesu8_text.specs.Slices.{ReadsAtLength};
 
+use super::character_set::Unchanged;
+use super::forms::begins_changed;
+use super::front::front;
 use super::ill_formed::is_ill_formed;
 use super::sums::sum_first;
-use cesu8_bytes::accepts::{Accepts, EncodingAlone, Look};
 use cesu8_bytes::flavor::Flavor;
 
 /// Returns the length of the strict reading, in bytes of UTF-8, if there is one.
@@ -16,15 +18,16 @@ pub fn decoded_len<F: Flavor>(bytes: &[u8]) -> Option<usize>
         ReadsAtLength (IsStrictReading F.flavor bytes.now) (λ text_len. len ≡ text_len)) }
     ensures none { IfNone result (HasNoStrictReading F.flavor bytes.now) }
 {
-    match EncodingAlone::look::<F>(bytes) {
-        Look::Text => return Some(bytes.len()),
-        Look::NoEncoding => return None,
-        Look::Encoding | Look::Unknown => {}
+    let front = front::<F, Unchanged>(bytes);
+    let rest = &bytes[front..];
+    if rest.is_empty() {
+        return Some(front);
     }
-    if is_ill_formed::<F>(bytes) {
+    if !begins_changed::<F>(rest) || is_ill_formed::<F>(rest) {
         return None;
     }
-    lossy_len::<F>(bytes)
+    let rest_len = lossy_len::<F>(rest)?;
+    Some(front + rest_len)
 }
 
 /// Returns the length of the lossy reading, in bytes of UTF-8, if it fits.

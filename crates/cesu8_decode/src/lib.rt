@@ -4,33 +4,42 @@
 //! So the nearby bytes decide what becomes of a byte in the lossy reading: it stays, changes, goes,
 //! or is ill-formed and replaced. `offsets` and `parts` find this for 32 bytes at a time, with no
 //! branch on a single byte. In strict reading no byte may be ill-formed. `lengths` adds up the
-//! length of the text. `following` tests whole blocks of encoded characters without writing, for
-//! `valid_front` and `ill_formed`.
+//! length of the text.
 //!
-//! `way` decides which way bytes go. A few are read one character after another, by `characters`.
+//! Each call begins with `front`: how many bytes are whole characters that are the same in UTF-8.
+//! `following` tells by vectors which byte may follow which, for the characters of a `character_set`,
+//! and `valid_up_to` is the same test of all encoded characters. `accepts` has what a call takes.
+//!
+//! `way` decides which way other bytes go. A few are read one character after another, by `characters`.
 //! More are read in one pass, by `in_place`: `whole_blocks` reads blocks where they stand, and
 //! `last_blocks` the last ones from an array. `block` writes each, and `reading` has what strict and
 //! lossy reading make of an ill-formed byte. `slices` writes to a caller's slice, and `strings` for
 //! a `String`.
 #![tactic(auto)]
 
-ghost use Rattle.std.specs.Prelude.{◌≡◌, length, IfOk, IsUtf8};
+ghost use Rattle.std.specs.Prelude.{◌≡◌, ◌<◌, length, IfOk};
 ghost use Rattle.std.specs.String.{string_bytes, string_capacity};
 ghost use Rattle.std.specs.Str.{chars};
 ghost use Rattle.cesu8_text.specs.Reading.{IsStrictReading, HasNoStrictReading, reading, lossy_length};
+ghost use Rattle.cesu8_decode.specs.Following.{Unchanged as AllUnchanged};
+ghost use Rattle.cesu8_decode.specs.Front.{IsFront};
 ghost use Rattle.cesu8_decode.specs.Refusals.{OnNoText};
 
+pub mod accepts;
 mod block;
+pub mod character_set;
 mod characters;
 pub mod copy_or_write;
 mod decoded;
 mod following;
 mod forms;
+pub mod front;
 mod ill_formed;
 mod in_place;
 mod last_blocks;
 mod lengths;
 mod offsets;
+mod one_block;
 mod packing;
 mod parts;
 mod reading;
@@ -39,46 +48,34 @@ mod rows;
 mod slices;
 mod strings;
 mod sums;
-mod valid_front;
 mod way;
 mod whole_blocks;
 mod window;
 
 use crate::refusal::Refusal;
-use cesu8_bytes::accepts::Look;
 use cesu8_bytes::flavor::Flavor;
 use cesu8_bytes::utf8::known_string;
 pub use lengths::{decoded_len, lossy_len};
 use std::alloc::{AllocError, Allocator};
 use strings::{build_lossily, write_strictly};
-pub use valid_front::valid_up_to;
 
-/// Returns the strict reading of bytes that are not UTF-8, after one request for their length. What
-/// a look shows of them chooses the way.
+/// Returns the strict reading of bytes, after one request for their length. So many at the front, but
+/// not all, are whole characters that are the same in UTF-8.
 pub fn decode_strict<F: Flavor, A: Allocator + Copy>(
     alloc: A,
-    look: Look,
     bytes: &[u8],
+    front: usize,
 ) -> Result<String<A>, Refusal>
-    requires { ¬ (IsUtf8 bytes.now) }
+    requires { IsFront AllUnchanged F.flavor bytes.now front × (front < length bytes.now) }
     ensures text { IfOk result (λ text.
         IsStrictReading F.flavor bytes.now (chars (string_bytes text))) }
     ensures capacity { IfOk result (λ text. string_capacity text ≡ length bytes.now) }
     ensures invalid { OnNoText result (HasNoStrictReading F.flavor bytes.now) }
 {
     let empty = Vec::with_capacity(alloc, bytes.len()).map_err(Refusal::Memory)?;
-    match write_strictly::<F, A>(look, bytes, empty) {
+    match write_strictly::<F, A>(bytes, front, empty) {
         Some(text) => Ok(known_string(text)),
         None => Err(Refusal::NoText),
-    }
-}
-
-/// Returns the error of bytes that are known to have no strict reading. It first requests memory
-/// for their length, as for other bytes.
-pub fn refuse<A: Allocator>(alloc: A, len: usize) -> Refusal {
-    match String::with_capacity(alloc, len) {
-        Ok(_) => Refusal::NoText,
-        Err(error) => Refusal::Memory(error),
     }
 }
 

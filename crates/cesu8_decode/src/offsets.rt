@@ -61,13 +61,13 @@ pub const NUMBERS: [u8; BLOCK] = numbers_from!(0);
 // The indices of 32 lanes, from the number in the name on.
 pub const FROM_27: [usize; BLOCK] = numbers_from!(27);
 
-const FROM_28: [usize; BLOCK] = numbers_from!(28);
+pub const FROM_28: [usize; BLOCK] = numbers_from!(28);
 
-const FROM_29: [usize; BLOCK] = numbers_from!(29);
+pub const FROM_29: [usize; BLOCK] = numbers_from!(29);
 
-const FROM_30: [usize; BLOCK] = numbers_from!(30);
+pub const FROM_30: [usize; BLOCK] = numbers_from!(30);
 
-const FROM_31: [usize; BLOCK] = numbers_from!(31);
+pub const FROM_31: [usize; BLOCK] = numbers_from!(31);
 
 /// How many bytes after an offset decide what begins there. What begins at as many offsets before
 /// a byte decides what becomes of it.

@@ -4,25 +4,33 @@
 //! passes find whether they are ill-formed and, if needed, how long their text is. Then it is
 //! written chunk by chunk where it stays.
 
-ghost use Rattle.std.specs.Prelude.{◌≡◌, ◌+◌, ◌≤◌, List, ℕ, ◌<◌, length, take, IsUtf8};
+ghost use Rattle.std.specs.Prelude.{◌≡◌, ◌+◌, ◌≤◌, List, ℕ, ◌<◌, length, take};
 ghost use Rattle.cesu8_text.specs.Encoding.{Flavor as AnyFlavor};
 ghost use Rattle.cesu8_text.specs.Reading.{reading, lossy_length};
 ghost use Rattle.cesu8_text.specs.Slices.{StandsAtFront};
 ghost use Rattle.cesu8_text.specs.Text.{utf8};
 ghost use Rattle.cesu8_bytes.specs.declared.strictness.Strictness.TheVariants.{Strict, Lossy};
 ghost use Rattle.cesu8_decode.specs.Decoding.{ReadsAll, most_written, room_for};
+ghost use Rattle.cesu8_decode.specs.Following.{Unchanged};
+ghost use Rattle.cesu8_decode.specs.Front.{IsFront};
 ghost use Rattle.cesu8_decode.specs.PutReadings.{PutsReading};
+ghost use Rattle.cesu8_decode.specs.Ways.{Takes};
 
 use crate::characters::write_characters;
 use crate::decoded::Decoded;
+use crate::forms::begins_changed;
 use crate::ill_formed::is_ill_formed;
 use crate::in_place::{LONG_TEXT, SHORT_TEXT, write_text};
 use crate::lengths::lossy_len;
+use crate::one_block::{LOSSY_TEXT, STRICT_TEXT, write_one_block};
 use crate::packing::WIDEST;
+use crate::reading::{LossyReading, Reading, StrictReading};
 use crate::refusal::{Unwritten, is_refused};
-use crate::way::{FEW_BYTES, LONG_WINDOW, SHORT_WINDOW, Way, way_of};
-use cesu8_bytes::accepts::Look;
+use crate::way::{FEW_BYTES, LONG_WINDOW, SHORT_WINDOW, Way, strict_way, way_of};
+use cesu8_bytes::BLOCK;
 use cesu8_bytes::flavor::Flavor;
+use cesu8_bytes::implementation::short::copy_short;
+use cesu8_bytes::packing::STORED;
 use cesu8_bytes::put::put;
 use cesu8_bytes::strictness::Strictness;
 use cesu8_bytes::writers::{NoRoom, copy_to_slice};
@@ -30,20 +38,60 @@ use cesu8_bytes::writers::{NoRoom, copy_to_slice};
 /// The length of a buffer for the text of bytes that are read one character after another.
 pub const CHARACTERS_TEXT: usize = WIDEST * FEW_BYTES;
 
-/// Writes the text of the bytes to a caller's buffer, if it fits.
+/// Writes the strict reading of bytes to a caller's buffer, if it fits. So many at the front, but not
+/// all, are whole characters that are the same in UTF-8.
 #[inline(never)]
-pub fn put_text<F: Flavor>(
+pub fn put_strictly<F: Flavor>(
+    bytes: &[u8],
+    front: usize,
+    buf: &mut [u8],
+) -> Result<usize, Unwritten>
+    requires { IsFront Unchanged F.flavor bytes.now front × (front < length bytes.now) }
+    ensures { PutsReading F.flavor Strict bytes.now result buf.old buf.new }
+{
+    let rest = &bytes[front..];
+    if !begins_changed::<F>(rest) {
+        return Err(Unwritten::NoText);
+    }
+    // One block is read whole, in less time than its front is copied.
+    if bytes.len() <= BLOCK {
+        return put_text::<F>(Strictness::Strict, strict_way(bytes, front), bytes, buf);
+    }
+    let start = front.min(buf.len());
+    match put_text::<F>(Strictness::Strict, way_of(rest), rest, &mut buf[start..]) {
+        Ok(len) => {
+            copy_short(&bytes[..front], buf);
+            Ok(front + len)
+        }
+        Err(Unwritten::NoRoom(no_room)) => Err(Unwritten::NoRoom(NoRoom {
+            needed: front + no_room.needed,
+        })),
+        Err(Unwritten::NoText) => Err(Unwritten::NoText),
+        Err(Unwritten::TooLong) => Err(Unwritten::TooLong),
+    }
+}
+
+/// Writes the lossy reading of the bytes to a caller's buffer, if it fits.
+#[inline(never)]
+pub fn put_lossily<F: Flavor>(bytes: &[u8], buf: &mut [u8]) -> Result<usize, Unwritten>
+    ensures { PutsReading F.flavor Lossy bytes.now result buf.old buf.new }
+{
+    put_text::<F>(Strictness::Lossy, way_of(bytes), bytes, buf)
+}
+
+/// Writes the text of the bytes to a caller's buffer, if it fits.
+#[inline(always)]
+fn put_text<F: Flavor>(
     strictness: Strictness,
+    way: Way,
     bytes: &[u8],
     buf: &mut [u8],
 ) -> Result<usize, Unwritten>
-    requires { strictness ≡ Strict → ¬ (IsUtf8 bytes.now) }
+    requires { Takes way bytes.now }
     ensures { PutsReading F.flavor strictness bytes.now result buf.old buf.new }
 {
-    let Some(way) = way_of::<F>(strictness, Look::Unknown, bytes) else {
-        return Err(Unwritten::NoText);
-    };
     match way {
+        Way::OneBlock => put_one::<F>(strictness, bytes, buf),
         Way::Characters => put_few::<F>(strictness, bytes, buf),
         Way::ShortWindow => put_window::<F, SHORT_WINDOW, SHORT_TEXT>(strictness, bytes, buf),
         Way::LongWindow => put_window::<F, LONG_WINDOW, LONG_TEXT>(strictness, bytes, buf),
@@ -51,10 +99,41 @@ pub fn put_text<F: Flavor>(
     }
 }
 
+/// Writes the text of the bytes of one block, to an array first.
+#[inline(always)]
+fn put_one<F: Flavor>(
+    strictness: Strictness,
+    bytes: &[u8],
+    buf: &mut [u8],
+) -> Result<usize, Unwritten>
+    requires { length bytes.now ≤ BLOCK }
+    ensures { PutsReading F.flavor strictness bytes.now result buf.old buf.new }
+{
+    match strictness {
+        Strictness::Strict => put_block::<F, StrictReading, STRICT_TEXT>(bytes, buf),
+        Strictness::Lossy => put_block::<F, LossyReading, LOSSY_TEXT>(bytes, buf),
+    }
+}
+
+/// Does so by an array of this length.
+#[inline(never)]
+fn put_block<F: Flavor, S: Reading, const WRITTEN: usize>(
+    bytes: &[u8],
+    buf: &mut [u8],
+) -> Result<usize, Unwritten>
+    requires bytes { length bytes.now ≤ BLOCK }
+    requires room { (most_written S.which BLOCK + STORED ≤ WRITTEN) × (WRITTEN ≤ LONG_TEXT) }
+    ensures { PutsReading F.flavor S.which bytes.now result buf.old buf.new }
+{
+    let mut written = [0; WRITTEN];
+    let decoded = write_one_block::<F, S>(bytes, &mut written);
+    put_decoded(S::strictness(), decoded, &written, buf)
+}
+
 /// Writes the text of a few bytes, one character after another, to an array first. To clear a
 /// longer one than is needed takes time.
 #[inline(always)]
-pub fn put_few<F: Flavor>(
+fn put_few<F: Flavor>(
     strictness: Strictness,
     bytes: &[u8],
     buf: &mut [u8],

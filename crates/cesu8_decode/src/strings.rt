@@ -4,40 +4,49 @@
 //! Lossy reading requests exactly what the text has, so a few bytes are decoded on the stack before
 //! that. Of more bytes the text is appended chunk by chunk.
 
-ghost use Rattle.std.specs.Prelude.{◌≡◌, ◌+◌, ◌≤◌, [], length, vec_len, vec_capacity, IsUtf8};
+ghost use Rattle.std.specs.Prelude.{◌≡◌, ◌+◌, ◌<◌, ◌≤◌, [], length, vec_len, vec_capacity};
 ghost use Rattle.cesu8_text.specs.Reading.{lossy_length};
-ghost use Rattle.cesu8_bytes.specs.Puts.{Appends};
 ghost use Rattle.cesu8_bytes.specs.TextChunks.{IsReadSoFar};
 ghost use Rattle.cesu8_bytes.specs.declared.strictness.Strictness.TheVariants.{Lossy};
-ghost use Rattle.cesu8_decode.specs.Decoding.{BuildsReading, WritesStrictly, room_for};
+ghost use Rattle.cesu8_decode.specs.Decoding.{BuildsReading, AppendsStrictly, room_for};
+ghost use Rattle.cesu8_decode.specs.Following.{Unchanged};
+ghost use Rattle.cesu8_decode.specs.Front.{IsFront};
 
 use crate::characters::write_characters;
+use crate::forms::begins_changed;
 use crate::in_place::{LONG_TEXT, SHORT_TEXT, append_strictly, write_text};
 use crate::lengths::lossy_len;
+use crate::one_block::{LOSSY_TEXT, STRICT_TEXT, write_one_block};
+use crate::reading::{LossyReading, StrictReading};
 use crate::slices::CHARACTERS_TEXT;
-use crate::way::{FEW_BYTES, Way, lossy_way, strict_way};
-use cesu8_bytes::accepts::Look;
-use cesu8_bytes::copies::copy;
+use crate::way::{FEW_BYTES, Way, strict_way, way_of};
+use cesu8_bytes::BLOCK;
+use cesu8_bytes::copies::{append, copy};
 use cesu8_bytes::flavor::Flavor;
 use cesu8_bytes::strictness::Strictness;
-use cesu8_bytes::zeros::append_zeros;
 use std::alloc::{AllocError, Allocator};
 
-/// Writes the strict reading of bytes that are not UTF-8 to an empty vector that has capacity for
-/// as many.
+/// Writes the strict reading of bytes to an empty vector that has capacity for as many. So many at the
+/// front, but not all, are whole characters that are the same in UTF-8.
 #[inline(always)]
 pub fn write_strictly<F: Flavor, A: Allocator + Copy>(
-    look: Look,
     bytes: &[u8],
+    front: usize,
     empty: Vec<u8, A>,
 ) -> Option<Vec<u8, A>>
-    requires other { ¬ (IsUtf8 bytes.now) }
+    requires front { IsFront Unchanged F.flavor bytes.now front × (front < length bytes.now) }
     requires empty { (empty.items ≡ []) × (length bytes.now ≤ vec_capacity empty) }
-    ensures { WritesStrictly F.flavor bytes.now empty result }
+    ensures { AppendsStrictly F.flavor bytes.now empty result }
 {
-    match strict_way::<F>(look, bytes)? {
-        Way::Characters => write_few::<F, A>(bytes, empty),
-        Way::ShortWindow | Way::LongWindow | Way::Chunks => append_strictly::<F, A>(bytes, empty),
+    let rest = &bytes[front..];
+    if !begins_changed::<F>(rest) {
+        return None;
+    }
+    match strict_way(rest, front) {
+        Way::Characters => write_few::<F, A>(bytes, front, empty),
+        Way::OneBlock | Way::ShortWindow | Way::LongWindow | Way::Chunks => {
+            write_many::<F, A>(bytes, front, empty)
+        }
     }
 }
 
@@ -49,7 +58,8 @@ pub fn build_lossily<F: Flavor, A: Allocator + Copy>(
 ) -> Result<Vec<u8, A>, AllocError>
     ensures { BuildsReading F.flavor bytes.now result }
 {
-    match lossy_way(bytes) {
+    match way_of(bytes) {
+        Way::OneBlock => build_one::<F, A>(alloc, bytes),
         Way::Characters => build_characters::<F, A>(alloc, bytes),
         Way::ShortWindow => build_window::<F, SHORT_TEXT, A>(alloc, bytes),
         Way::LongWindow => build_window::<F, LONG_TEXT, A>(alloc, bytes),
@@ -57,19 +67,66 @@ pub fn build_lossily<F: Flavor, A: Allocator + Copy>(
     }
 }
 
-/// Writes the strict reading of a few bytes, one character after another.
+/// Writes the front as it is, and the strict reading of a few bytes behind it, one character after
+/// another.
 #[inline(never)]
-fn write_few<F: Flavor, A: Allocator + Copy>(bytes: &[u8], empty: Vec<u8, A>) -> Option<Vec<u8, A>>
-    requires { (empty.items ≡ []) × (length bytes.now ≤ vec_capacity empty) }
-    ensures { WritesStrictly F.flavor bytes.now empty result }
+fn write_few<F: Flavor, A: Allocator + Copy>(
+    bytes: &[u8],
+    front: usize,
+    empty: Vec<u8, A>,
+) -> Option<Vec<u8, A>>
+    requires front { IsFront Unchanged F.flavor bytes.now front }
+    requires empty { (empty.items ≡ []) × (length bytes.now ≤ vec_capacity empty) }
+    ensures { AppendsStrictly F.flavor bytes.now empty result }
 {
     let mut text = empty;
-    append_zeros(bytes.len(), &mut text);
-    let decoded = write_characters::<F>(Strictness::Strict, bytes, &mut text[..]);
+    append(bytes, &mut text);
+    let rest = &bytes[front..];
+    let decoded = write_characters::<F>(Strictness::Strict, rest, &mut text[front..]);
     if decoded.is_ill_formed {
         return None;
     }
-    text.truncate(decoded.end);
+    text.truncate(front + decoded.end);
+    Some(text)
+}
+
+/// Writes the front as it is, and the strict reading of the bytes behind it block by block. One block
+/// is read whole, in less time than its front is copied.
+#[inline(never)]
+fn write_many<F: Flavor, A: Allocator + Copy>(
+    bytes: &[u8],
+    front: usize,
+    empty: Vec<u8, A>,
+) -> Option<Vec<u8, A>>
+    requires front { IsFront Unchanged F.flavor bytes.now front }
+    requires empty { (empty.items ≡ []) × (length bytes.now ≤ vec_capacity empty) }
+    ensures { AppendsStrictly F.flavor bytes.now empty result }
+{
+    if bytes.len() <= BLOCK {
+        return append_one::<F, A>(bytes, empty);
+    }
+    let mut text = empty;
+    append(&bytes[..front], &mut text);
+    append_strictly::<F, A>(&bytes[front..], text)
+}
+
+/// Appends the strict reading of the bytes of one block, by an array.
+#[inline(always)]
+fn append_one<F: Flavor, A: Allocator + Copy>(
+    bytes: &[u8],
+    before: Vec<u8, A>,
+) -> Option<Vec<u8, A>>
+    requires bytes { length bytes.now ≤ BLOCK }
+    requires room { vec_len before + length bytes.now ≤ vec_capacity before }
+    ensures { AppendsStrictly F.flavor bytes.now before result }
+{
+    let mut written = [0; STRICT_TEXT];
+    let decoded = write_one_block::<F, StrictReading>(bytes, &mut written);
+    if decoded.is_ill_formed {
+        return None;
+    }
+    let mut text = before;
+    append(&written[..decoded.end], &mut text);
     Some(text)
 }
 
@@ -86,21 +143,23 @@ fn append_chunks<F: Flavor, A: Allocator + Copy>(bytes: &[u8], before: Vec<u8, A
     while !rest.is_empty() {
         let decoded = write_text::<F>(Strictness::Lossy, rest, &mut written);
         rest = &rest[decoded.read..];
-        put_behind(&written[..decoded.end], &mut text);
+        append(&written[..decoded.end], &mut text);
     }
     text
 }
 
-/// Writes bytes behind the others of a vector, over zeros: to clear and to copy are one call each,
-/// which costs less than to append by vectors.
-#[inline(always)]
-fn put_behind<A: Allocator + Copy>(bytes: &[u8], out: &mut Vec<u8, A>)
-    requires { vec_len out.old + length bytes.now ≤ vec_capacity out.old }
-    ensures { Appends bytes.now out.old out.new }
+/// Returns the lossy reading of the bytes of one block, by an array.
+#[inline(never)]
+fn build_one<F: Flavor, A: Allocator + Copy>(
+    alloc: A,
+    bytes: &[u8],
+) -> Result<Vec<u8, A>, AllocError>
+    requires { length bytes.now ≤ BLOCK }
+    ensures { BuildsReading F.flavor bytes.now result }
 {
-    let end = out.len();
-    append_zeros(bytes.len(), out);
-    out[end..].copy_from_slice(bytes);
+    let mut written = [0; LOSSY_TEXT];
+    let decoded = write_one_block::<F, LossyReading>(bytes, &mut written);
+    copy(alloc, &written[..decoded.end])
 }
 
 /// Returns the lossy reading of a few bytes, read one character after another to an array.
@@ -150,6 +209,6 @@ fn build_chunks<F: Flavor, A: Allocator + Copy>(
         return Err(AllocError);
     };
     let mut first = Vec::with_capacity(alloc, len)?;
-    put_behind(&written[..decoded.end], &mut first);
+    append(&written[..decoded.end], &mut first);
     Ok(append_chunks::<F, A>(rest, first))
 }

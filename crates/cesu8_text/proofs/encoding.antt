@@ -11,5 +11,3 @@ pub mod NoneFound
 pub mod Unique
 pub mod NeedsEncoding
 pub mod EncodedBytes
-pub mod OtherLeads
-pub mod Followed

@@ -38,11 +38,6 @@ IsUnchangedUtf8 f bytes = IsUtf8 bytes × (¬ (Any (IsChangedByte f) bytes))
 abbrev pub is_one_unit : ℕ → Bool
 is_one_unit b = nat_lt b 0x80 || (nat_le 0xC0 b && nat_lt b 0xF0)
 
--- ED, which leads surrogates, or C0, which UTF-8 never has (hexadecimal). Each encoding that is not
--- UTF-8 has one of them.
-abbrev pub is_other_lead : ℕ → Bool
-is_other_lead b = b == 0xED || b == 0xC0
-
 -- What a byte weighs: one in the class, and two from F0 to F7, as lead of four bytes.
 abbrev pub weight_of : (ℕ → Bool) → ℕ → ℕ
 weight_of class b = (if class b then 1 else 0) + (if is_four b then 2 else 0)

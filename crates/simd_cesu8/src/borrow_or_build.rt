@@ -2,8 +2,9 @@
 //!
 //! Decoding returns short ASCII first, in a function that is inlined into the public call. The
 //! rest of it, in a function whose name ends in `other` or `called`, is never inlined, so that this
-//! test stays small. At the front of enough bytes one look shows short ASCII, whatever its length.
-//! What a call takes is a type, `Lenient` or `EncodingAlone`, which has its looks.
+//! test stays small. It begins with the front, the characters that are the same in UTF-8: where that is
+//! all the result borrows, and else what stands behind it decides. What a call takes is a type,
+//! `Lenient` or `EncodingAlone`. Of strings in a row one look shows short ASCII, whatever its length.
 
 ghost use Rattle.std.specs.Prelude.{take};
 ghost use Rattle.simd_cesu8.specs.Calls.{Encodes, DecodesAs, DecodesLossilyAs, DecodesStrictly, DecodesLeniently, DecodesLossily, DecodesLenientlyLossily};
@@ -12,8 +13,8 @@ use crate::cow::{CowBytes, CowText};
 use crate::error::DecodeFault;
 use crate::internal;
 use crate::internal::{
-    Accepts, EncodingAlone, Flavor, Lenient, Look, begins_with_unchanged_ascii, is_shown_at_once,
-    known_text, needs_encoded,
+    Accepts, EncodingAlone, Flavor, Lenient, Unchanged, begins_with_unchanged_ascii, front,
+    is_shown_at_once, known_text, needs_encoded,
 };
 use std::alloc::{AllocError, Global};
 
@@ -62,13 +63,11 @@ fn decode_other<F: Flavor, A: Accepts>(
 ) -> Result<CowText<'_>, DecodeFault>
     ensures { DecodesAs (A.keeps F.flavor bytes.now) (A.reads F.flavor bytes.now) bytes.now result }
 {
-    let look = A::look::<F>(bytes);
-    match look {
-        Look::Text => return Ok(CowText::Borrowed(known_text(bytes))),
-        Look::NoEncoding => return Err(internal::refuse(alloc, bytes.len())),
-        Look::Encoding | Look::Unknown => {}
+    let front = front::<F, Unchanged>(bytes);
+    if A::is_kept::<F>(bytes, front) {
+        return Ok(CowText::Borrowed(known_text(bytes)));
     }
-    let built = internal::decode_strict::<F>(alloc, look, bytes)?;
+    let built = internal::decode_strict::<F>(alloc, bytes, front)?;
     Ok(CowText::Owned(built))
 }
 
@@ -149,8 +148,7 @@ fn decode_lossy_as<F: Flavor, A: Accepts>(
     decode_lossy_other::<F, A>(alloc, bytes)
 }
 
-/// Does so for bytes that are no short ASCII. All of them have a lossy reading, so nothing more
-/// need be known of those that are no text.
+/// Does so for bytes that are no short ASCII.
 #[inline(never)]
 fn decode_lossy_other<F: Flavor, A: Accepts>(
     alloc: Global,
@@ -159,7 +157,8 @@ fn decode_lossy_other<F: Flavor, A: Accepts>(
     ensures { DecodesLossilyAs F.flavor (A.keeps F.flavor bytes.now)
         (A.reads_lossily F.flavor bytes.now) bytes.now result }
 {
-    if let Look::Text = A::look::<F>(bytes) {
+    let front = front::<F, Unchanged>(bytes);
+    if A::is_kept::<F>(bytes, front) {
         return Ok(CowText::Borrowed(known_text(bytes)));
     }
     let built = internal::decode_lossy::<F, Global>(alloc, bytes)?;

@@ -1,11 +1,13 @@
 //! The one door to the codec, for both flavors: its options and its functions. What they return
 //! where there is no result becomes a fault of this crate here, and nowhere else.
 
-ghost use Rattle.std.specs.Prelude.{◌≡◌, length, IfOk, IsUtf8};
+ghost use Rattle.std.specs.Prelude.{◌≡◌, ◌<◌, length, IfOk};
 ghost use Rattle.std.specs.Str.{chars};
 ghost use Rattle.std.specs.String.{string_bytes, string_capacity};
 ghost use Rattle.simd_cesu8.specs.Encoding.{encoding};
 ghost use Rattle.simd_cesu8.specs.Reading.{IsStrictReading, HasNoStrictReading, IsLenientReading, reading, IsLenientLossyReading};
+ghost use Rattle.cesu8_decode.specs.Following.{Unchanged as AllUnchanged};
+ghost use Rattle.cesu8_decode.specs.Front.{IsFront};
 ghost use Rattle.simd_cesu8.specs.Fault.{OnInvalid};
 ghost use Rattle.simd_cesu8.specs.Slices.{WritesAnswer, WritesReading, WritesLossyReading};
 ghost use Rattle.simd_cesu8.specs.Outcomes.{IsFaultOf, IsAnswerOf, IsStrictOutcome, IsLossyOutcome};
@@ -13,7 +15,6 @@ ghost use Rattle.simd_cesu8.specs.Outcomes.{IsFaultOf, IsAnswerOf, IsStrictOutco
 pub mod value;
 
 use crate::error::{DecodeFault, DecodeSliceFault, DecodingError, LossySliceFault, TooShort};
-pub use cesu8_bytes::accepts::{Accepts, EncodingAlone, Lenient, Look};
 pub use cesu8_bytes::copies::{copy, copy_text};
 pub use cesu8_bytes::flavor::{Cesu8Flavor, Flavor, Mutf8Flavor};
 pub use cesu8_bytes::lengths::{encoded_len, encoded_len_by_need, utf16_len};
@@ -24,36 +25,33 @@ pub use cesu8_bytes::order::compare_as_utf16;
 use cesu8_bytes::strictness::Strictness;
 pub use cesu8_bytes::utf8::{is_utf8, known_text};
 use cesu8_bytes::writers::NoRoom;
+pub use cesu8_decode::accepts::{Accepts, EncodingAlone, Lenient};
+pub use cesu8_decode::character_set::Unchanged;
 use cesu8_decode::copy_or_write;
+pub use cesu8_decode::front::{front, valid_up_to};
 use cesu8_decode::refusal::{Refusal, Unwritten};
-pub use cesu8_decode::{decode_lossy, decoded_len, lossy_len, valid_up_to};
+pub use cesu8_decode::{decode_lossy, decoded_len, lossy_len};
 pub use cesu8_encode::{encode, encode_into};
 use std::alloc::Global;
 
-/// Returns the strict reading of bytes that are not UTF-8, after one request for their length.
+/// Returns the strict reading of bytes, after one request for their length. So many at the front, but
+/// not all, are whole characters that are the same in UTF-8.
 #[inline(always)]
 pub fn decode_strict<F: Flavor>(
     alloc: Global,
-    look: Look,
     bytes: &[u8],
+    front: usize,
 ) -> Result<String, DecodeFault>
-    requires { ¬ (IsUtf8 bytes.now) }
+    requires { IsFront AllUnchanged F.flavor bytes.now front × (front < length bytes.now) }
     ensures text { IfOk result (λ text.
         IsStrictReading F.flavor bytes.now (chars (string_bytes text))) }
     ensures capacity { IfOk result (λ text. string_capacity text ≡ length bytes.now) }
     ensures invalid { OnInvalid result (HasNoStrictReading F.flavor bytes.now) }
 {
-    match cesu8_decode::decode_strict::<F, Global>(alloc, look, bytes) {
+    match cesu8_decode::decode_strict::<F, Global>(alloc, bytes, front) {
         Ok(text) => Ok(text),
         Err(refusal) => Err(fault(refusal)),
     }
-}
-
-/// Returns the fault of bytes that are known to have no strict reading. It first requests memory
-/// for their length, as for other bytes.
-#[inline(always)]
-pub fn refuse(alloc: Global, len: usize) -> DecodeFault {
-    fault(cesu8_decode::refuse(alloc, len))
 }
 
 /// Writes the encoding of a text to a caller's buffer, if it fits.

@@ -1,14 +1,12 @@
 -- ASCII: bytes of which none is 80 (hexadecimal) or more.
-use Rattle.std.proofs.Common.{◌≡◌, ◌∙◌, ℕ, Bool, true, false, not, ◌||◌, ◌⊎◌, ◌<◌, ◌≤◌, List, [], ◌∷◌, refl, sym, ap, subst, ⊎_elim, arith, leb, length, take, drop, get_or, inl, inr, take-add}
+use Rattle.std.proofs.Common.{◌≡◌, ◌∙◌, ℕ, Bool, true, false, not, ◌||◌, ◌<◌, ◌≤◌, List, refl, sym, ap, ⊎_elim, arith, leb, length, take, get_or}
 use Rattle.std.specs.List.{Any, prefix_len}
 use Rattle.std.specs.Str.{IsAscii}
 use Rattle.std.proofs.lemmas.Bool.{and_parts, both_ways, cases_lt, le-leb, leb-true, not-true, or_cases, or_left, or_right}
-use Rattle.std.proofs.lemmas.List.{drop-drop, get_or_default, get_or-take, length-take}
+use Rattle.std.proofs.lemmas.List.{get_or_default, get_or-take, length-take}
 use Rattle.std.proofs.lemmas.List.Sums.{prefix_len-le-length, prefix_len_passes}
-use Rattle.std.proofs.lemmas.Str.{IsAscii-append}
 use Rattle.std.proofs.lemmas.Str.Ascii.{IsAscii-from_reads}
 use Rattle.cesu8_bytes.specs.Kernels.{AnyIn}
-use Rattle.cesu8_bytes.proofs.lists.Chunks.{group_elements}
 use Rattle.cesu8_text.specs.Encoding.{Flavor, Cesu8, Mutf8}
 use Rattle.cesu8_text.specs.Class.{is_four, is_null, IsChangedByte}
 
@@ -22,27 +20,6 @@ ascii_of_none xs none = IsAscii-from_reads xs (length xs) (omega arith) (λ k in
     ⊎_elim (λ low. low)
     (λ high. absurd (none (k, get_or xs k 0, inside, get_or_default xs k (get_or xs k 0) 0 inside, le-leb 0x80 (get_or xs k 0) high)))
     (cases_lt (get_or xs k 0) 128))
-
--- Four blocks in a row are ASCII where none of them has a byte of 80 or more.
-pub ascii_of_four : (xs : List ℕ) →
-    (Any (AnyIn is_non_ascii) (take 64 xs ∷ take 64 (drop 64 xs) ∷ take 64 (drop 128 xs) ∷ take 64 (drop 192 xs) ∷ []) → ⊥) →
-    IsAscii (take 256 xs)
-ascii_of_four xs none =
-    let a = take 64 xs in
-    let b = take 64 (drop 64 xs) in
-    let c = take 64 (drop 128 xs) in
-    let d = take 64 (drop 192 xs) in
-    let no : (AnyIn is_non_ascii a ⊎ AnyIn is_non_ascii b) ⊎ (AnyIn is_non_ascii c ⊎ AnyIn is_non_ascii d) → ⊥ =
-    λ some. none ((group_elements (AnyIn is_non_ascii) a b c d).1 some) in
-    let first = ascii_of_none a (λ any. no (inl (inl any))) in
-    let second = ascii_of_none b (λ any. no (inl (inr any))) in
-    let third = ascii_of_none c (λ any. no (inr (inl any))) in
-    let fourth = ascii_of_none d (λ any. no (inr (inr any))) in
-    subst IsAscii (sym (take-add 64 192 xs)) (IsAscii-append (take 64 xs) (take 192 (drop 64 xs)) first
-    (subst IsAscii (sym (take-add 64 128 (drop 64 xs))) (IsAscii-append (take 64 (drop 64 xs)) (take 128 (drop 64 (drop 64 xs))) second
-    (subst (λ l. IsAscii (take 128 l)) (sym (drop-drop 64 64 xs))
-    (subst IsAscii (sym (take-add 64 64 (drop 128 xs))) (IsAscii-append (take 64 (drop 128 xs)) (take 64 (drop 64 (drop 128 xs))) third
-    (subst (λ l. IsAscii (take 64 l)) (sym (drop-drop 64 128 xs)) fourth)))))))
 
 second_suffices : (s t : Bool) → t ≡ true → (s || t) ≡ true
 second_suffices true t e = refl

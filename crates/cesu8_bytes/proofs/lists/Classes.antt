@@ -42,11 +42,6 @@ pub least_marks : (least n : ℕ) (bytes : List ℕ) → length bytes ≡ n →
     map (to_z w8) (zip2 (λ a b. ones (leb a b)) (replicate n least) bytes) ≡ marks_of (leb least) bytes
 least_marks least n bytes long = marked (leb least) bytes _ (zip2_splat_left (λ a b. ones (leb a b)) least n bytes long)
 
--- A third marks those that are less.
-pub below_marks : (least n : ℕ) (bytes : List ℕ) → length bytes ≡ n →
-    map (to_z w8) (zip2 below bytes (replicate n least)) ≡ marks_of (λ b. ltb b least) bytes
-below_marks least n bytes long = marked (λ b. ltb b least) bytes _ (zip2_splat below bytes n least long)
-
 -- A byte is F0 to F7 (hexadecimal) where its upper five bits are those of F0,
 pub four_by_bits : (b : ℕ) → b < 0x100 → eqb (bit_and b 0xF8) 0xF0 ≡ is_four b
 four_by_bits b h = agree_below_at (λ b. eqb (bit_and b 0xF8) 0xF0) is_four 0x100 b refl h

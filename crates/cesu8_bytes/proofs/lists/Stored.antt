@@ -1,9 +1,11 @@
--- Vectors that are stored into a list of bytes.
-use Rattle.std.proofs.Common.{◌≡◌, ℕ, zero, suc, ◌+◌, ◌*◌, ◌-◌, ◌≤◌, List, [], ◌∷◌, ◌++◌, refl, sym, subst, ap, ◌∙◌, arith, length, take, drop}
+-- Bytes and vectors that are stored into a list of bytes.
+use Rattle.std.proofs.Common.{◌≡◌, ℕ, zero, suc, ◌+◌, ◌*◌, ◌-◌, ◌≤◌, List, [], ◌∷◌, ◌++◌, refl, sym, subst, ap, ◌∙◌, arith, length, length-append, take, drop}
 use lib.Lanes.{put_chunk}
 use Rattle.std.proofs.lemmas.List.{append_assoc, length-drop, length-take-le, take-append-drop, take-take}
 use Rattle.std.proofs.Math.Seq.{take-append-add, take-add}
 use Rattle.std.proofs.lemmas.Simd.{length-put_chunk, take_more_put_chunk}
+use Rattle.cesu8_bytes.specs.Puts.{PutsAt}
+use Rattle.cesu8_bytes.proofs.lists.Ends.{stays_behind}
 
 -- Of a vector that is put behind what was written, the first bytes stand there too,
 pub run_put : (at n run end : ℕ) (bytes out new : List ℕ) → at ≤ length out → n ≤ length bytes → run ≤ n → end ≡ at + length (take n bytes) →
@@ -61,3 +63,13 @@ appended_again before bytes at written n le =
     ∙ append_assoc before (take at (take written bytes)) (take n (drop at bytes))
     ∙ ap (λ xs. before ++ (xs ++ take n (drop at bytes))) (take-take at written bytes le)
     ∙ ap (λ xs. before ++ xs) (sym (take-add at n bytes))
+
+-- Bytes that are written behind others are written with them.
+pub put_behind : (first more old between new : List ℕ) (at end after : ℕ) → PutsAt first at old between end → PutsAt more end between new after →
+    PutsAt (first ++ more) at old new after
+put_behind first more old between new at end after so_far next = record {
+  bytes = next.bytes ∙ ap (λ bs. bs ++ more) so_far.bytes ∙ append_assoc (take at old) first more;
+  end = omega (arith, next.end, so_far.end, length-append first more);
+  behind = next.behind ∙ stays_behind old between end after (omega (arith, next.end)) so_far.behind;
+  len = next.len ∙ so_far.len;
+}

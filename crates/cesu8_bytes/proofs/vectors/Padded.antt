@@ -119,12 +119,12 @@ next_quarter block bytes quarter from i four long before room is =
     )
 
 -- What is from an index on is the bytes there with zeros behind them.
-pub last_block : (bytes : List ℕ) (from : ℕ) → from ≤ length bytes → length bytes ≤ from + 64 →
-    chunk from 64 (with_block_of_zeros bytes) ≡ drop from bytes ++ replicate (from + 64 - length bytes) 0
-last_block bytes from inside l =
+pub last_block : (bytes : List ℕ) (from n : ℕ) → from ≤ length bytes → length bytes ≤ from + n → n ≤ 64 →
+    chunk from n (with_block_of_zeros bytes) ≡ drop from bytes ++ replicate (from + n - length bytes) 0
+last_block bytes from n inside l fits =
     let rest = drop from bytes in
-    let many : length rest + (from + 64 - length bytes) ≡ 64 = omega (arith, length-drop from bytes, inside, l) in
-    ap (take 64) (drop-append-le from bytes (replicate 64 0) inside)
+    let many : length rest + (from + n - length bytes) ≡ n = omega (arith, length-drop from bytes, inside, l) in
+    ap (take n) (drop-append-le from bytes (replicate 64 0) inside)
     ∙ ap (λ n. take n (rest ++ replicate 64 0)) (sym many)
-    ∙ take-append-add rest (replicate 64 0) (from + 64 - length bytes)
-    ∙ ap (λ zeros. rest ++ zeros) (take-replicate (from + 64 - length bytes) 64 0 (omega (arith, inside)))
+    ∙ take-append-add rest (replicate 64 0) (from + n - length bytes)
+    ∙ ap (λ zeros. rest ++ zeros) (take-replicate (from + n - length bytes) 64 0 (omega (arith, inside, fits)))

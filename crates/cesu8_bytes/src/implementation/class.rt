@@ -79,9 +79,6 @@ pub struct Equal<const BYTE: u8>;
 /// 00.
 pub type Null = Equal<0>;
 
-/// ED or C0 (hexadecimal). Each encoding that is not UTF-8 has one of them.
-pub type OtherLead = Either<Equal<0xED>, Equal<0xC0>>;
-
 /// F0 to F7 (hexadecimal): those whose upper five bits are those of F0.
 pub struct FourByteLead;
 
@@ -94,20 +91,11 @@ pub type AtLeastF0 = AtLeast<0xF0>;
 /// 80 (hexadecimal) or more: what is not ASCII.
 pub type NonAscii = AtLeast<0x80>;
 
-/// What is less than a byte.
-pub struct Below<const BYTE: u8>;
-
-/// Below 80 (hexadecimal).
-pub type Ascii = Below<0x80>;
-
 /// The bytes of one class or the other.
 pub struct Either<A, B>(PhantomData<(A, B)>);
 
 /// 80 to BF (hexadecimal): what continues a character.
 pub struct Continuation;
-
-/// Any other byte.
-pub type NoContinuation = Either<Ascii, AtLeast<0xC0>>;
 
 /// 00 to 7F, or C0 to EF (hexadecimal): in UTF-8 the lead bytes of one UTF-16 code unit.
 pub struct OneUnit;
@@ -162,19 +150,6 @@ impl<const BYTE: u8, const N: usize> InVectors<N> for AtLeast<BYTE> {
         ensures { result ≡ map (λ b. lane (nat_le BYTE b)) bytes.entry }
     {
         bytes.simd_ge(Simd::splat(BYTE))
-    }
-}
-
-impl<const BYTE: u8> Class for Below<BYTE> {
-    ghost class = { λ b. nat_lt b BYTE };
-}
-
-impl<const BYTE: u8, const N: usize> InVectors<N> for Below<BYTE> {
-    #[inline(always)]
-    fn marks(bytes: Simd<u8, N>) -> Mask<i8, N>
-        ensures { result ≡ map (λ b. lane (nat_lt b BYTE)) bytes.entry }
-    {
-        bytes.simd_lt(Simd::splat(BYTE))
     }
 }
 

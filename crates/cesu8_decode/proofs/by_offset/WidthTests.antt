@@ -18,7 +18,7 @@ long_by bytes i some = ⊎_elim (λ h. h) (λ past. absurd (omega (arith, get_or
 pub continuation : (b : ℕ) → continues b ≡ true → IsContinuation b
 continuation b t = let h = and_parts (leb 0x80 b) (ltb b 0xC0) t in (leb-true 0x80 b h.0, ltb-true b 0xC0 h.1)
 
-is_continuation : (b : ℕ) → 0x80 ≤ b → b < 0xC0 → continues b ≡ true
+pub is_continuation : (b : ℕ) → 0x80 ≤ b → b < 0xC0 → continues b ≡ true
 is_continuation b low high = and_from (leb 0x80 b) (ltb b 0xC0) (le-leb 0x80 b low) (lt-ltb b 0xC0 high)
 
 by_found : (f : Flavor) (bytes : List ℕ) (m n : ℕ) → BeginsInLengths f bytes m n → first_width f bytes ≡ m
@@ -94,7 +94,7 @@ pair_of_test bytes t =
       );
     }
 
-pub pair_found : (f : Flavor) (bytes : List ℕ) →
+pair_found : (f : Flavor) (bytes : List ℕ) →
     pair_at (get_or bytes 0 0) (get_or bytes 1 0) (get_or bytes 2 0) (get_or bytes 3 0) (get_or bytes 4 0) (get_or bytes 5 0) ≡ true →
     first_width f bytes ≡ 6
 pair_found f bytes t =
@@ -112,24 +112,24 @@ null_test : (f : Flavor) (a b : ℕ) → f ≡ Mutf8 → a ≡ 0xC0 → b ≡ 0x
 null_test Cesu8 a b mutf8 lead last = absurd (cc)
 null_test Mutf8 a b mutf8 lead last = and_from (eqb a 0xC0) (eqb b 0x80) (eq-eqb a 0xC0 lead) (eq-eqb b 0x80 last)
 
-pub two_test : (a b : ℕ) → 0xC2 ≤ a → a < 0xE0 → 0x80 ≤ b → b < 0xC0 → two_at a b ≡ true
+two_test : (a b : ℕ) → 0xC2 ≤ a → a < 0xE0 → 0x80 ≤ b → b < 0xC0 → two_at a b ≡ true
 two_test a b low high first last =
     and_from (leb 0xC2 a) _ (le-leb 0xC2 a low) (and_from (ltb a 0xE0) (continues b) (lt-ltb a 0xE0 high) (is_continuation b first last))
 
-pub fits_test : (a b : ℕ) → (a ≡ 0xE0 → 0xA0 ≤ b) → (a ≡ 0xED → b < 0xA0) → fits_three a b ≡ true
+fits_test : (a b : ℕ) → (a ≡ 0xE0 → 0xA0 ≤ b) → (a ≡ 0xED → b < 0xA0) → fits_three a b ≡ true
 fits_test a b low high =
     ⊎_elim (λ e0. rw e0 (le-leb 0xA0 b (low e0)))
     (λ no_e0. ⊎_elim (λ ed. rw ed (lt-ltb b 0xA0 (high ed)))
     (λ no_ed. rw (ne_eqb a 0xE0 no_e0, ne_eqb a 0xED no_ed) refl) (cases_eq a 0xED)) (cases_eq a 0xE0)
 
-pub three_test : (a b d : ℕ) → 0xE0 ≤ a → a < 0xF0 → 0x80 ≤ b → b < 0xC0 → 0x80 ≤ d → d < 0xC0 → fits_three a b ≡ true →
+three_test : (a b d : ℕ) → 0xE0 ≤ a → a < 0xF0 → 0x80 ≤ b → b < 0xC0 → 0x80 ≤ d → d < 0xC0 → fits_three a b ≡ true →
     three_at a b d ≡ true
 three_test a b d low high b_low b_high d_low d_high fits =
     and_from (leb 0xE0 a) _ (le-leb 0xE0 a low) (and_from (ltb a 0xF0) _ (lt-ltb a 0xF0 high)
     (and_from (continues b) _ (is_continuation b b_low b_high)
     (and_from (continues d) (fits_three a b) (is_continuation d d_low d_high) fits)))
 
-pub pair_test : (a b d e g h : ℕ) → a ≡ 0xED → 0xA0 ≤ b → b < 0xB0 → 0x80 ≤ d → d < 0xC0 → e ≡ 0xED → 0xB0 ≤ g → g < 0xC0 →
+pair_test : (a b d e g h : ℕ) → a ≡ 0xED → 0xA0 ≤ b → b < 0xB0 → 0x80 ≤ d → d < 0xC0 → e ≡ 0xED → 0xB0 ≤ g → g < 0xC0 →
     0x80 ≤ h → h < 0xC0 → pair_at a b d e g h ≡ true
 pair_test a b d e g h lead b_low b_high d_low d_high second g_low g_high h_low h_high =
     and_from (eqb a 0xED) _ (eq-eqb a 0xED lead) (and_from (leb 0xA0 b) _ (le-leb 0xA0 b b_low)

@@ -1,17 +1,16 @@
 -- Characters of more than one byte, by how they are encoded at the front of bytes.
-use Rattle.std.proofs.Common.{◌≡◌, ℕ, ◌<◌, ◌≤◌, ◌↔◌, Bool, IsTrue, not, ◌||◌, List, [], ◌∷◌, ◌++◌, refl, sym, ap, ◌∙◌, ⊎_elim, true, false, arith, length, take, drop, get_or, eqb, leb, ltb, ◌&&◌}
-use Rattle.std.proofs.lemmas.Bool.{and_from, and_parts, eqb-true, iff_false, le-leb, le-ltb, leb-true, lt-ltb, ltb-true, ne_eqb, cases_eq, cases_lt, false≢true, not-true, or_cases, or_left, or_right}
+use Rattle.std.proofs.Common.{◌≡◌, ℕ, ◌<◌, ◌≤◌, List, [], ◌∷◌, ◌++◌, refl, sym, ap, ◌∙◌, true, false, arith, length, take, drop, get_or, eqb, leb, ltb, ◌&&◌}
+use Rattle.std.proofs.lemmas.Bool.{and_parts, eqb-true, leb-true, ltb-true}
 use Rattle.cesu8_text.specs.Encoding.{Flavor, Cesu8, Mutf8}
-use Rattle.cesu8_text.specs.Class.{is_null}
 use Rattle.cesu8_text.specs.Reading.{NoneBegins}
-use Rattle.cesu8_bytes.specs.Pairs.{null_at, HasPair, IsUtf8OfDigits, second_third_fifth_sixth}
+use Rattle.cesu8_bytes.specs.Pairs.{null_at, IsUtf8OfDigits, second_third_fifth_sixth}
 use Rattle.cesu8_bytes.specs.TextChunks.{IsReadSoFar}
 use Rattle.cesu8_bytes.specs.declared.strictness.Strictness.{Strictness}
-use Rattle.cesu8_decode.specs.DecodedOffsets.{IsPrefixOf, first_width, one_at, two_at, three_at, continues, fits_three}
+use Rattle.cesu8_decode.specs.DecodedOffsets.{IsPrefixOf, one_at, two_at, three_at, continues, fits_three}
 use Rattle.cesu8_decode.specs.Forms.{HasForm, HasNoForm, form_len}
 use Rattle.cesu8_decode.specs.declared.forms.Form.{Form}
 use Rattle.cesu8_decode.specs.declared.forms.Form.TheVariants.{Pair, Null, Two, Three}
-use Rattle.cesu8_decode.proofs.by_offset.WidthTests.{null_found, two_found, three_found, pair_by_prefix, same_digits, long_by, continuation, fits_low}
+use Rattle.cesu8_decode.proofs.by_offset.WidthTests.{two_found, three_found, pair_by_prefix, same_digits, long_by, continuation, fits_low}
 use Rattle.cesu8_decode.proofs.chunks.Characters.{kept_read, null_read, pair_read, pair_width, none_by_prefix}
 
 take_two : (bytes : List ℕ) → 2 ≤ length bytes → take 2 bytes ≡ get_or bytes 0 0 ∷ get_or bytes 1 0 ∷ []
@@ -65,12 +64,6 @@ IsUtf8OfForm Null bytes utf8 = utf8 ≡ 0 ∷ []
 IsUtf8OfForm Two bytes utf8 = utf8 ≡ get_or bytes 0 0 ∷ get_or bytes 1 0 ∷ []
 IsUtf8OfForm Three bytes utf8 = utf8 ≡ get_or bytes 0 0 ∷ get_or bytes 1 0 ∷ get_or bytes 2 0 ∷ []
 
-pub form_some : (form : Form) → 0 < form_len form
-form_some Pair = omega arith
-form_some Null = omega arith
-form_some Two = omega arith
-form_some Three = omega arith
-
 -- The null character's second byte.
 null_second : (f : Flavor) (a b : ℕ) → null_at f a b ≡ true → b ≡ 0x80
 null_second Cesu8 a b null = absurd (cc)
@@ -100,16 +93,6 @@ pub three_bytes : (bytes prefix : List ℕ) → IsPrefixOf bytes prefix → 3 �
 three_bytes bytes prefix same long =
     take_three bytes long ∙ (λ i. sym (same 0 (omega arith)) i ∷ sym (same 1 (omega arith)) i ∷ sym (same 2 (omega arith)) i ∷ [])
 
--- The character is as wide as its form.
-pub form_width : (f : Flavor) (bytes prefix : List ℕ) (form : Form) → IsPrefixOf bytes prefix → HasForm f prefix form →
-    first_width f bytes ≡ form_len form
-form_width f bytes prefix Pair same has =
-    let pair = pair_by_prefix bytes prefix same has in pair_width f bytes pair.0 pair.1
-form_width f bytes prefix Null same has = null_found f bytes (rw (sym (same 0 (omega arith)), sym (same 1 (omega arith))) has)
-form_width f bytes prefix Two same has = two_found f bytes (rw (sym (same 0 (omega arith)), sym (same 1 (omega arith))) has)
-form_width f bytes prefix Three same has =
-    three_found f bytes (rw (sym (same 0 (omega arith)), sym (same 1 (omega arith)), sym (same 2 (omega arith))) has)
-
 -- The UTF-8 of a character of this form is read, where the form was seen in a prefix of the bytes.
 pub form_read : (f : Flavor) (which : Strictness) (bytes prefix old new utf8 : List ℕ) (form : Form) → IsPrefixOf bytes prefix →
     HasForm f prefix form → IsUtf8OfForm form prefix utf8 → new ≡ old ++ utf8 → IsReadSoFar f which bytes (drop (form_len form) bytes) old new
@@ -135,98 +118,3 @@ pub no_form : (f : Flavor) (bytes prefix : List ℕ) → IsPrefixOf bytes prefix
 no_form f bytes prefix same no_one none =
     let first = same 0 (omega arith) in
     none_by_prefix f bytes prefix same no_one (rw (sym first) none.null) (rw (sym first) none.two) (rw (sym first) none.three) none.pair
-
-low_of_class : (null : ℕ → Bool) (b : ℕ) → (null b || leb 0x80 b) ≡ false → b < 0x80
-low_of_class null b none =
-    ⊎_elim (λ low. low) (λ high. absurd (false≢true (sym none ∙ or_right (null b) (leb 0x80 b) (le-leb 0x80 b high)))) (cases_lt b 0x80)
-
-null_of_surrogate : (f : Flavor) (b : ℕ) → null_at f 0xED b ≡ false
-null_of_surrogate Cesu8 b = refl
-null_of_surrogate Mutf8 b = refl
-
-never : (s t : Bool) → (s && (t && false)) ≡ false
-never true true = refl
-never true false = refl
-never false t = refl
-
-not_one : (f : Flavor) → one_at f 0xED ≡ false
-not_one Cesu8 = refl
-not_one Mutf8 = refl
-
-not_one_c0 : (f : Flavor) → one_at f 0xC0 ≡ false
-not_one_c0 Cesu8 = refl
-not_one_c0 Mutf8 = refl
-
--- A byte that is neither a null that changes nor 80 or more is a character of its own.
-pub one_of_class : (f : Flavor) (null : ℕ → Bool) → null ≡ is_null f → (b : ℕ) → (null b || leb 0x80 b) ≡ false → one_at f b ≡ true
-one_of_class Cesu8 null is b none = lt-ltb b 0x80 (low_of_class null b none)
-one_of_class Mutf8 null is b none =
-    ⊎_elim
-    (λ zero. absurd (false≢true (sym none ∙ or_left (null b) (leb 0x80 b) (ap (λ p. p b) is ∙ ap (is_null Mutf8) zero))))
-    (λ some. and_from (leb 1 b) (ltb b 0x80) (le-leb 1 b (omega (arith, some))) (lt-ltb b 0x80 (low_of_class null b none)))
-    (cases_eq b 0)
-
-high_no_null : (f : Flavor) (a b : ℕ) → 0xF0 ≤ a → null_at f a b ≡ false
-high_no_null Cesu8 a b high = refl
-high_no_null Mutf8 a b high = rw (ne_eqb a 0xC0 (λ same. omega (arith, high, same))) refl
-
-never_behind : (s : Bool) → (s && false) ≡ false
-never_behind true = refl
-never_behind false = refl
-
-high_not_one : (f : Flavor) (a : ℕ) → 0xF0 ≤ a → one_at f a ≡ false
-high_not_one Cesu8 a high = le-ltb a 0x80 (omega (arith, high))
-high_not_one Mutf8 a high = rw (le-ltb a 0x80 (omega (arith, high))) (never_behind (leb 1 a))
-
--- A surrogate without its pair begins no character,
-lone_surrogate : (f : Flavor) (bytes : List ℕ) → get_or bytes 0 0 ≡ 0xED → 0xA0 ≤ get_or bytes 1 0 → (HasPair bytes → ⊥) →
-    HasNoForm f bytes × (one_at f (get_or bytes 0 0) ≡ false)
-lone_surrogate f bytes first high no_pair = (
-  record {
-    pair = no_pair;
-    null = rw first (null_of_surrogate f (get_or bytes 1 0));
-    two = rw first refl;
-    three = rw (first, le-ltb (get_or bytes 1 0) 0xA0 high) (never (continues (get_or bytes 1 0)) (continues (get_or bytes 2 0)));
-  },
-  rw first (not_one f),
-)
-
--- and neither does C0 without a null.
-lone_c0 : (f : Flavor) (bytes : List ℕ) → get_or bytes 0 0 ≡ 0xC0 → null_at f (get_or bytes 0 0) (get_or bytes 1 0) ≡ false →
-    HasNoForm f bytes × (one_at f (get_or bytes 0 0) ≡ false)
-lone_c0 f bytes first no_null = (
-  record {
-    pair = λ pair. omega (arith, first, pair.lead);
-    null = no_null;
-    two = rw first refl;
-    three = rw first refl;
-  },
-  rw first (not_one_c0 f),
-)
-
--- nor does a byte of F0 or more.
-high_lead : (f : Flavor) (bytes : List ℕ) → 0xF0 ≤ get_or bytes 0 0 → HasNoForm f bytes × (one_at f (get_or bytes 0 0) ≡ false)
-high_lead f bytes high = (
-  record {
-    pair = λ pair. omega (arith, high, pair.lead);
-    null = high_no_null f (get_or bytes 0 0) (get_or bytes 1 0) high;
-    two = rw (le-ltb (get_or bytes 0 0) 0xE0 (omega (arith, high))) (never_behind (leb 0xC2 (get_or bytes 0 0)));
-    three = rw (le-ltb (get_or bytes 0 0) 0xF0 high) (never_behind (leb 0xE0 (get_or bytes 0 0)));
-  },
-  high_not_one f (get_or bytes 0 0) high,
-)
-
--- So none begins where one of them is seen.
-pub lone_lead : (f : Flavor) (bytes : List ℕ) (pair null : Bool) → IsTrue pair ↔ HasPair bytes → null ≡ null_at f (get_or bytes 0 0) (get_or bytes 1 0) →
-    IsTrue ((((eqb (get_or bytes 0 0) 0xED && leb 0xA0 (get_or bytes 1 0)) && not pair) || (eqb (get_or bytes 0 0) 0xC0 && not null)) || leb 0xF0 (get_or bytes 0 0)) →
-    HasNoForm f bytes × (one_at f (get_or bytes 0 0) ≡ false)
-lone_lead f bytes pair null tells_pair tells_null shown =
-    ⊎_elim
-    (λ low. ⊎_elim
-    (λ surrogate. let parts = and_parts _ _ surrogate in
-    let both = and_parts _ _ parts.0 in
-    lone_surrogate f bytes (eqb-true _ _ both.0) (leb-true _ _ both.1) (iff_false tells_pair (not-true _ parts.1)))
-    (λ c0. let parts = and_parts _ _ c0 in lone_c0 f bytes (eqb-true _ _ parts.0) (sym tells_null ∙ not-true _ parts.1))
-    (or_cases _ _ low))
-    (λ high. high_lead f bytes (leb-true _ _ high))
-    (or_cases _ _ shown)

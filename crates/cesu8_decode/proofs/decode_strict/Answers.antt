@@ -1,4 +1,4 @@
-use Rattle.std.proofs.Common.{[], sym, subst, refl}
+use Rattle.std.proofs.Common.{◌≡◌, [], sym, subst, refl, rules}
 use Rattle.std.specs.Str.{chars}
 use Rattle.cesu8_text.specs.Reading.{IsStrictReading}
 use Rattle.cesu8_bytes.specs.declared.strictness.Strictness.TheVariants.{Strict}
@@ -6,10 +6,13 @@ use Rattle.cesu8_decode.proofs.chunks.ReadChunks.{chunk_utf8, whole_text}
 use Rattle.cesu8_decode.proofs.decode_strict.Goals as goal
 
 pub known_string-requires : goal.known_string-requires
-known_string-requires g c = chunk_utf8 g.F.Flavor.flavor Strict c.args.bytes.now [] _ c.in-Some.ensures.text
+known_string-requires g c =
+    let none : c.in_ok-empty.empty.items ≡ [] = search rules in
+    chunk_utf8 g.F.Flavor.flavor Strict c.args.bytes.now [] _ (rw none at c.in-Some.ensures.text)
 
 pub returns-in-Some-clause-text : goal.returns-in-Some-clause-text
 returns-in-Some-clause-text g c =
-    let read = whole_text g.F.Flavor.flavor Strict c.args.bytes.now [] _ c.in-Some.ensures.text refl in
+    let none : c.in_ok-empty.empty.items ≡ [] = search rules in
+    let read = whole_text g.F.Flavor.flavor Strict c.args.bytes.now [] _ (rw none at c.in-Some.ensures.text) refl in
     subst (λ bytes. IsStrictReading g.F.Flavor.flavor c.args.bytes.now (chars bytes)) (sym c.known_string.ensures.bytes)
     (read.0, read.2 refl)

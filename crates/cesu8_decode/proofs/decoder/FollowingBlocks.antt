@@ -1,16 +1,19 @@
 -- Which bytes of a block may follow those before them.
-use Rattle.std.proofs.Common.{◌≡◌, ℕ, zero, suc, ◌+◌, ◌<◌, ◌≤◌, ⊎_elim, Bool, true, false, cond, List, [], ◌∷◌, map, length, get_or, replicate, eqb, leb, bit_or, refl, sym, ap, ◌∙◌, subst, arith, drop, ◌-◌, ◌++◌, not, true≢false, add-zero, take, append-nil}
-use Rattle.std.specs.List.{range_with_len}
-use Rattle.std.proofs.lemmas.Bool.{leb-false, lt-leb, ne_eqb, or_parts, cases_lt, cases_Bool}
-use Rattle.std.proofs.lemmas.List.{get_or_append_left, length-take-le, take-append-drop}
+use Rattle.std.proofs.Common.{◌≡◌, ℕ, zero, suc, ◌+◌, ◌<◌, ◌≤◌, ⊎_elim, Bool, true, false, cond, List, [], ◌∷◌, map, length, get_or, replicate, ◌&&◌, eqb, leb, bit_or, refl, sym, ap, ◌∙◌, subst, arith, drop, ◌-◌, ◌++◌, not, true≢false, add-zero, take, append_assoc, min}
+use Rattle.std.specs.List.{range_with_len, prefix_len}
+use Rattle.std.proofs.lemmas.Bool.{leb-false, lt-leb, ne_eqb, not-false, not-true, or_parts, cases_lt, cases_Bool}
+use Rattle.std.proofs.lemmas.List.{get_or_append_left, get_or-drop, length-take-le, take-append-drop}
+use Rattle.std.proofs.lemmas.List.FromFn.{get_or-map-range_with_len, length-map-range_with_len}
+use Rattle.std.proofs.lemmas.List.Sums.{prefix_len-le-length, prefix_len_passes, prefix_len_stops}
 use Rattle.std.proofs.lemmas.Simd.{zip2_of_maps, pick_l-range_with_len, map-map}
 use lib.Lanes.{zip2, sel_l, mask_l, top, chunk}
 use Rattle.cesu8_text.specs.Class.{is_null}
 use Rattle.cesu8_text.specs.Encoding.{Flavor}
 use Rattle.cesu8_bytes.specs.Kernels.{mask}
-use Rattle.cesu8_decode.specs.Following.{shown, wanted, follows, follows_at, after_fillers, AllFollow, FirstFollow, marked_if_not_one}
+use Rattle.cesu8_decode.specs.Following.{CharacterSet, has_changed, IsBlockAt, shown, wanted, follows, follows_at, after_fillers, AllFollow, FirstFollow, FollowUpTo, marked_if_not_one}
+use Rattle.cesu8_decode.specs.declared.following.Block.{Block}
 use Rattle.cesu8_bytes.proofs.lists.Lanes.{ones}
-use Rattle.cesu8_bytes.proofs.vectors.Loads.{loaded, marks_at}
+use Rattle.cesu8_bytes.proofs.vectors.Loads.{loaded}
 use Rattle.cesu8_decode.proofs.decoder.FirstLanes.{no_lane}
 use Rattle.cesu8_decode.proofs.decoder.LaneTests.{high_or}
 
@@ -32,6 +35,10 @@ none_marked : (t : Bool) → leb 0x80 (mask (not t)) ≡ false → t ≡ true
 none_marked true none = refl
 none_marked false none = absurd (true≢false none)
 
+not_marked : (t : Bool) → leb 0x80 (mask (not t)) ≡ true → t ≡ false
+not_marked true is = absurd (true≢false (sym is))
+not_marked false is = refl
+
 low_mask : (t : Bool) → leb 0x80 (mask t) ≡ false → t ≡ false
 low_mask true e = absurd (true≢false e)
 low_mask false e = refl
@@ -41,9 +48,14 @@ low_lane f b low =
     let parts = or_parts _ _ (sym (high_or b (mask (is_null f b))) ∙ low) in
     (leb-false 0x80 b parts.0, low_mask (is_null f b) parts.1)
 
-ascii_fits : (f : Flavor) (a b d e g : ℕ) → a < 0x80 → d < 0x80 → e < 0x80 → g < 0x80 → is_null f g ≡ false → follows f a b d e g ≡ true
+never : (t : Bool) → (t && false) ≡ false
+never true = refl
+never false = refl
+
+ascii_fits : (s : CharacterSet) (f : Flavor) (a b d e g : ℕ) → a < 0x80 → d < 0x80 → e < 0x80 → g < 0x80 → is_null f g ≡ false →
+    follows s f a b d e g ≡ true
 unfolding shown
-ascii_fits f a b d e g a_low d_low e_low g_low no_null =
+ascii_fits s f a b d e g a_low d_low e_low g_low no_null =
     rw (
       no_null,
       lt-leb 0xF0 e (omega arith),
@@ -51,35 +63,46 @@ ascii_fits f a b d e g a_low d_low e_low g_low no_null =
       lt-leb 0xC0 e (omega arith),
       lt-leb 0xE0 d (omega arith),
       ne_eqb a 0xED (λ same. omega arith),
+      never (has_changed s),
     ) refl
 
-marked_of : (f : Flavor) (byte : ℕ → ℕ) (vs : List ℕ) →
-    zip2 bit_or (map byte vs) (map (λ i. mask (is_null f (byte i))) vs) ≡ map (λ i. marked_if_not_one f (byte i)) vs
-marked_of f byte [] = refl
-marked_of f byte (v ∷ vs) = ap (λ l. marked_if_not_one f (byte v) ∷ l) (marked_of f byte vs)
+-- The vectors of a block tell which bytes may not follow those before them.
+pub misplaced_are : (s : CharacterSet) (f : Flavor) (window : List ℕ) (at : ℕ) (block : Block) → IsBlockAt window at block →
+    (here want : List ℕ) → here ≡ zip2 (shown s f) block.one_before block.bytes →
+    want ≡ zip2 (λ want d. want d) (zip2 (wanted s) block.four_before block.three_before) block.two_before →
+    sel_l (map (top 7) (zip2 (λ a b. ones (eqb a b)) here want)) (replicate 32 0) (replicate 32 0xFF)
+    ≡ map (λ i. mask (not (follows_at s f window i))) (range_with_len at 32)
+misplaced_are s f window at block is here want here_is by_bytes =
+    let four : block.four_before ≡ map (λ i. get_or window i 0) (range_with_len at 32) =
+    is.four_before ∙ sym (pick_l-range_with_len 0 window at 32 (omega (arith, is.room))) in
+    let want_is : want ≡ map (λ i. wanted s (get_or window i 0) (get_or window (i + 1) 0) (get_or window (i + 2) 0)) (range_with_len at 32) =
+    by_bytes ∙ zip2_of_maps (λ want d. want d) (λ i. wanted s (get_or window i 0) (get_or window (i + 1) 0)) (λ i. get_or window (i + 2) 0) (range_with_len at 32)
+    (zip2_of_maps (wanted s) (λ i. get_or window i 0) (λ i. get_or window (i + 1) 0) (range_with_len at 32) four
+    (is.three_before ∙ loaded window at 1 32 (omega (arith, is.room)))) (is.two_before ∙ loaded window at 2 32 (omega (arith, is.room))) in
+    let here_at : here ≡ map (λ i. shown s f (get_or window (i + 3) 0) (get_or window (i + 4) 0)) (range_with_len at 32) =
+    here_is ∙ zip2_of_maps (shown s f) (λ i. get_or window (i + 3) 0) (λ i. get_or window (i + 4) 0) (range_with_len at 32)
+    (is.one_before ∙ loaded window at 3 32 (omega (arith, is.room))) (is.bytes ∙ loaded window at 4 32 (omega (arith, is.room))) in
+    let long : length here ≡ 32 = ap length here_at in
+    subst (λ n. sel_l (map (top 7) (zip2 (λ a b. ones (eqb a b)) here want)) (replicate n 0) (replicate n 0xFF)
+    ≡ zip2 (λ a b. mask (not (eqb a b))) here want) long (unlike_of here want (ap length want_is ∙ sym long))
+    ∙ zip2_of_maps (λ a b. mask (not (eqb a b))) (λ i. shown s f (get_or window (i + 3) 0) (get_or window (i + 4) 0))
+    (λ i. wanted s (get_or window i 0) (get_or window (i + 1) 0) (get_or window (i + 2) 0)) (range_with_len at 32) here_at want_is
 
-module _ (f : Flavor) (window : List ℕ) (at : ℕ) (room : at + 36 ≤ length window) where
-  -- The vectors of a block tell which bytes may not follow those before them,
-  pub misplaced_are : (here want : List ℕ) → here ≡ zip2 (shown f) (chunk (at + 3) 32 window) (chunk (at + 4) 32 window) →
-      want ≡ map (λ i. wanted (get_or window i 0) (get_or window (i + 1) 0) (get_or window (i + 2) 0)) (range_with_len at 32) →
-      sel_l (map (top 7) (zip2 (λ a b. ones (eqb a b)) here want)) (replicate 32 0) (replicate 32 0xFF)
-      ≡ map (λ i. mask (not (follows_at f window i))) (range_with_len at 32)
-  misplaced_are here want here_is want_is =
-      let here_at : here ≡ map (λ i. shown f (get_or window (i + 3) 0) (get_or window (i + 4) 0)) (range_with_len at 32) =
-      here_is ∙ zip2_of_maps (shown f) (λ i. get_or window (i + 3) 0) (λ i. get_or window (i + 4) 0) (range_with_len at 32)
-      (loaded window at 3 32 (omega arith)) (loaded window at 4 32 (omega arith)) in
-      let long : length here ≡ 32 = ap length here_at in
-      subst (λ n. sel_l (map (top 7) (zip2 (λ a b. ones (eqb a b)) here want)) (replicate n 0) (replicate n 0xFF)
-      ≡ zip2 (λ a b. mask (not (eqb a b))) here want) long (unlike_of here want (ap length want_is ∙ sym long))
-      ∙ zip2_of_maps (λ a b. mask (not (eqb a b))) (λ i. shown f (get_or window (i + 3) 0) (get_or window (i + 4) 0))
-      (λ i. wanted (get_or window i 0) (get_or window (i + 1) 0) (get_or window (i + 2) 0)) (range_with_len at 32) here_at want_is
+-- Bytes that are marked where they are no characters of one byte,
+pub marked_are : (f : Flavor) (bytes nulls : List ℕ) → nulls ≡ map (λ b. mask (is_null f b)) bytes →
+    zip2 bit_or bytes nulls ≡ map (marked_if_not_one f) bytes
+marked_are f bytes nulls is = rw is (each bytes)
+  where
+    each : (bytes : List ℕ) → zip2 bit_or bytes (map (λ b. mask (is_null f b)) bytes) ≡ map (marked_if_not_one f) bytes
+    each [] = refl
+    each (b ∷ bytes) = ap (λ l. marked_if_not_one f b ∷ l) (each bytes)
 
-  -- and which are no characters of one byte.
-  pub marked_are : (nulls : List ℕ) → nulls ≡ map (λ b. mask (is_null f b)) (chunk (at + 4) 32 window) →
-      zip2 bit_or (chunk (at + 4) 32 window) nulls ≡ map (λ i. marked_if_not_one f (get_or window (i + 4) 0)) (range_with_len at 32)
-  marked_are nulls nulls_are =
-      rw (loaded window at 4 32 (omega arith), marks_at (is_null f) window at 4 nulls (omega arith) nulls_are)
-      (marked_of f (λ i. get_or window (i + 4) 0) (range_with_len at 32))
+-- by their offsets.
+pub marked_at : (f : Flavor) (window : List ℕ) (at : ℕ) (block : Block) → IsBlockAt window at block → (lanes : List ℕ) →
+    lanes ≡ map (marked_if_not_one f) block.bytes → lanes ≡ map (λ i. marked_if_not_one f (get_or window (i + 4) 0)) (range_with_len at 32)
+marked_at f window at block is lanes lanes_are =
+    lanes_are ∙ ap (map (marked_if_not_one f)) (is.bytes ∙ loaded window at 4 32 (omega (arith, is.room)))
+    ∙ map-map (marked_if_not_one f) (λ i. get_or window (i + 4) 0) (range_with_len at 32)
 
 -- The marks of four bytes tell whether they are ASCII.
 pub four_low : (window : List ℕ) (at : ℕ) → at + 4 ≤ length window → mask_l (map (leb 0x80) (chunk at 4 window)) ≡ 0 →
@@ -89,18 +112,18 @@ four_low window at room none i low inside =
     (ap (λ l. mask_l (map (leb 0x80) l)) (pick_l-range_with_len 0 window at 4 room) ∙ none) i low inside)
 
 -- Where none is marked, each may follow those before it:
-module _ (f : Flavor) (window : List ℕ) (at n : ℕ) where
+module _ (s : CharacterSet) (f : Flavor) (window : List ℕ) (at n : ℕ) where
   none_of : (lanes : List ℕ) (g : ℕ → ℕ) → lanes ≡ map g (range_with_len at n) → mask_l (map (leb 0x80) lanes) ≡ 0 →
       mask_l (map (λ i. leb 0x80 (g i)) (range_with_len at n)) ≡ 0
   none_of lanes g lanes_are none =
       sym (ap mask_l (map-map (leb 0x80) g (range_with_len at n))) ∙ ap (λ l. mask_l (map (leb 0x80) l)) (sym lanes_are) ∙ none
 
-  pub none_misplaced : (lanes : List ℕ) → lanes ≡ map (λ i. mask (not (follows_at f window i))) (range_with_len at n) →
-      mask_l (map (leb 0x80) lanes) ≡ 0 → AllFollow f window at n
+  pub none_misplaced : (lanes : List ℕ) → lanes ≡ map (λ i. mask (not (follows_at s f window i))) (range_with_len at n) →
+      mask_l (map (leb 0x80) lanes) ≡ 0 → AllFollow s f window at n
   none_misplaced lanes lanes_are none i low inside =
-      none_marked (follows_at f window i)
-      (no_lane (λ i. leb 0x80 (mask (not (follows_at f window i)))) at n
-      (none_of lanes (λ i. mask (not (follows_at f window i))) lanes_are none) i low inside)
+      none_marked (follows_at s f window i)
+      (no_lane (λ i. leb 0x80 (mask (not (follows_at s f window i)))) at n
+      (none_of lanes (λ i. mask (not (follows_at s f window i))) lanes_are none) i low inside)
 
   -- The bytes behind four of ASCII are ASCII too,
   pub low_bytes : (lanes : List ℕ) → lanes ≡ map (λ i. marked_if_not_one f (get_or window (i + 4) 0)) (range_with_len at n) →
@@ -113,12 +136,12 @@ module _ (f : Flavor) (window : List ℕ) (at n : ℕ) where
 
   -- and each may follow.
   pub all_plain : (lanes : List ℕ) → lanes ≡ map (λ i. marked_if_not_one f (get_or window (i + 4) 0)) (range_with_len at n) →
-      ((i : ℕ) → at ≤ i → i < at + 4 → get_or window i 0 < 0x80) → mask_l (map (leb 0x80) lanes) ≡ 0 → AllFollow f window at n
+      ((i : ℕ) → at ≤ i → i < at + 4 → get_or window i 0 < 0x80) → mask_l (map (leb 0x80) lanes) ≡ 0 → AllFollow s f window at n
   all_plain lanes lanes_are first none i low inside =
       let low_byte : (j : ℕ) → at ≤ j → j < at + n + 4 → get_or window j 0 < 0x80 = λ j from before.
       ⊎_elim (λ (near : j < at + 4). first j from near)
       (λ (later : at + 4 ≤ j). (low_bytes lanes lanes_are none j later before).0) (cases_lt j (at + 4)) in
-      ascii_fits f (get_or window i 0) (get_or window (i + 1) 0) (get_or window (i + 2) 0) (get_or window (i + 3) 0) (get_or window (i + 4) 0)
+      ascii_fits s f (get_or window i 0) (get_or window (i + 1) 0) (get_or window (i + 2) 0) (get_or window (i + 3) 0) (get_or window (i + 4) 0)
       (low_byte i low (omega arith)) (low_byte (i + 2) (omega arith) (omega arith)) (low_byte (i + 3) (omega arith) (omega arith))
       (low_byte (i + 4) (omega arith) (omega arith)) (low_bytes lanes lanes_are none (i + 4) (omega arith) (omega arith)).1
 
@@ -140,70 +163,186 @@ none_of_two (x ∷ xs) (y ∷ ys) e none =
     (cases_Bool (leb 0x80 x))
 
 -- What holds of two blocks holds of both together.
-pub in_both : (f : Flavor) (window : List ℕ) (at : ℕ) → AllFollow f window at 32 → AllFollow f window (at + 32) 32 → AllFollow f window at 64
-in_both f window at first second i low inside =
+pub in_both : (s : CharacterSet) (f : Flavor) (window : List ℕ) (at : ℕ) → AllFollow s f window at 32 → AllFollow s f window (at + 32) 32 →
+    AllFollow s f window at 64
+in_both s f window at first second i low inside =
     ⊎_elim (λ (before : i < at + 32). first i low before) (λ (later : at + 32 ≤ i). second i later (omega arith)) (cases_lt i (at + 32))
 
-pub two_plain : (f : Flavor) (window : List ℕ) (at : ℕ) (xs ys : List ℕ) →
+pub two_plain : (s : CharacterSet) (f : Flavor) (window : List ℕ) (at : ℕ) (xs ys : List ℕ) →
     xs ≡ map (λ i. marked_if_not_one f (get_or window (i + 4) 0)) (range_with_len at 32) →
     ys ≡ map (λ i. marked_if_not_one f (get_or window (i + 4) 0)) (range_with_len (at + 32) 32) →
     ((i : ℕ) → at ≤ i → i < at + 4 → get_or window i 0 < 0x80) → mask_l (map (leb 0x80) xs) ≡ 0 → mask_l (map (leb 0x80) ys) ≡ 0 →
-    AllFollow f window at 64
-two_plain f window at xs ys xs_are ys_are first none_first none_second =
-    in_both f window at (all_plain f window at 32 xs xs_are first none_first)
-    (all_plain f window (at + 32) 32 ys ys_are (λ i low inside. (low_bytes f window at 32 xs xs_are none_first i (omega arith) (omega arith)).0) none_second)
+    AllFollow s f window at 64
+two_plain s f window at xs ys xs_are ys_are first none_first none_second =
+    in_both s f window at (all_plain s f window at 32 xs xs_are first none_first)
+    (all_plain s f window (at + 32) 32 ys ys_are (λ i low inside. (low_bytes s f window at 32 xs xs_are none_first i (omega arith) (omega arith)).0) none_second)
 
--- Where each may follow, none is marked.
-pub no_marks : (f : Flavor) (window : List ℕ) (at n : ℕ) → AllFollow f window at n →
-    map (λ i. mask (not (follows_at f window i))) (range_with_len at n) ≡ replicate n 0
-no_marks f window at zero follow = refl
-no_marks f window at (suc n) follow =
-    let first = follow at (omega arith) (omega arith) in
-    (λ i. mask (not (first i)) ∷ no_marks f window (at + 1) n (λ k low inside. follow k (omega (arith, low)) (omega (arith, inside))) i)
+-- ---- the first that may not follow
 
-pub none_marked_in_two : (xs ys : List ℕ) → xs ≡ replicate 32 0 → ys ≡ replicate 32 0 → mask_l (map (leb 0x80) (zip2 bit_or xs ys)) ≡ 0
-none_marked_in_two xs ys xs_are ys_are = rw (xs_are, ys_are) refl
+-- The lanes before the first that is marked are those of bytes that may follow,
+module _ (s : CharacterSet) (f : Flavor) (window : List ℕ) (at n len : ℕ) (lanes : List ℕ)
+    (are : lanes ≡ map (λ i. mask (not (follows_at s f window i))) (range_with_len at n)) (is : len ≡ prefix_len (λ b. not (leb 0x80 b)) lanes) where
+  long : length lanes ≡ n
+  long = ap length are ∙ length-map-range_with_len (λ i. mask (not (follows_at s f window i))) at n
+
+  lane : (k : ℕ) → k < n → get_or lanes k 0 ≡ mask (not (follows_at s f window (at + k)))
+  lane k inside =
+      ap (λ lanes. get_or lanes k 0) are ∙ get_or-map-range_with_len (λ i. mask (not (follows_at s f window i))) at n k (at + k) 0 inside refl
+
+  pub within : len ≤ n
+  within = omega (arith, is, long, prefix_len-le-length (λ b. not (leb 0x80 b)) lanes)
+
+  pub passed : AllFollow s f window at len
+  passed i low before =
+      let k = i - at in
+      let place : at + k ≡ i = omega arith in
+      let lane_low = not-true _ (prefix_len_passes (λ b. not (leb 0x80 b)) lanes k 0 (omega (arith, is))) in
+      subst (λ i. follows_at s f window i ≡ true) place
+      (none_marked _ (sym (ap (leb 0x80) (lane k (omega (arith, within)))) ∙ lane_low))
+
+  -- and that lane is one of a byte that may not.
+  pub stopped : len < n → follows_at s f window (at + len) ≡ false
+  stopped more =
+      let high = not-false _ (ap (λ k. not (leb 0x80 (get_or lanes k 0))) is ∙ prefix_len_stops (λ b. not (leb 0x80 b)) lanes 0 (omega (arith, is, long, more))) in
+      not_marked _ (sym (ap (leb 0x80) (lane len more)) ∙ high)
 
 -- ---- where a block stands
 
 -- Whether a byte may follow those before it rests on five bytes.
-pub follows_agrees : (f : Flavor) (a b : List ℕ) (i : ℕ) → ((k : ℕ) → k < 5 → get_or a (i + k) 0 ≡ get_or b (i + k) 0) →
-    follows_at f a i ≡ follows_at f b i
-follows_agrees f a b i agree =
-    let first : get_or a i 0 ≡ get_or b i 0 = ap (λ p. get_or a p 0) (sym (add-zero i)) ∙ agree 0 (omega arith) ∙ ap (λ p. get_or b p 0) (add-zero i) in
-    (λ k. follows f (first k) (agree 1 (omega arith) k) (agree 2 (omega arith) k) (agree 3 (omega arith) k) (agree 4 (omega arith) k))
-
--- The fillers, and then some bytes, agree with the fillers and more bytes.
-pub first_agree : (bytes rest : List ℕ) (k : ℕ) → k < 4 + length bytes → get_or (after_fillers (bytes ++ rest)) k 0 ≡ get_or (after_fillers bytes) k 0
-first_agree bytes rest k inside = get_or_append_left (after_fillers bytes) rest 0 k (omega arith)
-
-pub block_agrees : (bytes : List ℕ) (k : ℕ) → 32 ≤ length bytes → k < 36 →
-    get_or (after_fillers (take 32 bytes ++ [])) k 0 ≡ get_or (after_fillers bytes) k 0
-block_agrees bytes k long inside =
-    ap (λ l. get_or (after_fillers l) k 0) (append-nil (take 32 bytes)) ∙ sym (first_agree (take 32 bytes) (drop 32 bytes) k (omega (arith, length-take-le 32 bytes long)))
-    ∙ ap (λ l. get_or (after_fillers l) k 0) (take-append-drop 32 bytes)
+pub follows_agrees : (s : CharacterSet) (f : Flavor) (a b : List ℕ) (i j : ℕ) → ((k : ℕ) → k < 5 → get_or a (i + k) 0 ≡ get_or b (j + k) 0) →
+    follows_at s f a i ≡ follows_at s f b j
+follows_agrees s f a b i j agree =
+    let first : get_or a i 0 ≡ get_or b j 0 = ap (λ p. get_or a p 0) (sym (add-zero i)) ∙ agree 0 (omega arith) ∙ ap (λ p. get_or b p 0) (add-zero j) in
+    (λ k. follows s f (first k) (agree 1 (omega arith) k) (agree 2 (omega arith) k) (agree 3 (omega arith) k) (agree 4 (omega arith) k))
 
 behind_fillers : (bytes : List ℕ) (i : ℕ) → get_or (after_fillers bytes) (i + 4) 0 ≡ get_or bytes i 0
 behind_fillers bytes i =
     let offset : i + 4 ≡ suc (suc (suc (suc i))) = omega arith in
     ap (λ p. get_or (after_fillers bytes) p 0) offset
 
--- What holds of a block where it stands holds of it behind the fillers.
-pub follow_behind : (f : Flavor) (bytes : List ℕ) (at n : ℕ) → AllFollow f bytes at n →
-    (i : ℕ) → at + 4 ≤ i → i < at + n + 4 → follows_at f (after_fillers bytes) i ≡ true
-follow_behind f bytes at n each i low inside =
-    let j = i - 4 in
-    let offset : j + 4 ≡ i = omega arith in
-    let moved : (k : ℕ) → get_or (after_fillers bytes) (j + 4 + k) 0 ≡ get_or bytes (j + k) 0 = λ k.
-    let there : j + 4 + k ≡ j + k + 4 = omega arith in ap (λ p. get_or (after_fillers bytes) p 0) there ∙ behind_fillers bytes (j + k) in
-    subst (λ p. follows_at f (after_fillers bytes) p ≡ true) offset
-    ((λ k. follows f (behind_fillers bytes j k) (moved 1 k) (moved 2 k) (moved 3 k) (moved 4 k)) ∙ each j (omega arith) (omega arith))
+-- What holds of a byte where it stands holds of it behind the fillers.
+pub follows_behind : (s : CharacterSet) (f : Flavor) (bytes : List ℕ) (i : ℕ) → follows_at s f (after_fillers bytes) (i + 4) ≡ follows_at s f bytes i
+follows_behind s f bytes i =
+    follows_agrees s f (after_fillers bytes) bytes (i + 4) i (λ k few.
+    let there : i + 4 + k ≡ i + k + 4 = omega arith in ap (λ p. get_or (after_fillers bytes) p 0) there ∙ behind_fillers bytes (i + k))
 
--- So it does up to the end of a block if it does up to its start.
-pub follow_up_to : (f : Flavor) (bytes : List ℕ) (start at n : ℕ) → FirstFollow f bytes start → at + 4 ≤ start → at + n + 4 ≤ length bytes →
-    AllFollow f bytes at n → FirstFollow f bytes (at + n + 4)
-follow_up_to f bytes start at n before near room each = record {
+-- ---- a front
+
+-- What holds of a block where it stands holds of the bytes behind the fillers.
+pub follow_behind : (s : CharacterSet) (f : Flavor) (bytes : List ℕ) (at n : ℕ) → AllFollow s f bytes at n →
+    (i : ℕ) → at + 4 ≤ i → i < at + n + 4 → follows_at s f (after_fillers bytes) i ≡ true
+follow_behind s f bytes at n each i low inside =
+    let place : i - 4 + 4 ≡ i = omega arith in
+    subst (λ k. follows_at s f (after_fillers bytes) k ≡ true) place
+    (follows_behind s f bytes (i - 4) ∙ each (i - 4) (omega arith) (omega arith))
+
+-- So they may follow each other up to the end of a block if they do up to its start.
+pub follow_up_to : (s : CharacterSet) (f : Flavor) (bytes : List ℕ) (start at n : ℕ) → FirstFollow s f bytes start → at + 4 ≤ start →
+    at + n + 4 ≤ length bytes → AllFollow s f bytes at n → FirstFollow s f bytes (at + n + 4)
+follow_up_to s f bytes start at n before near room each = record {
   within = room;
   follow = λ i inside.
-      ⊎_elim (λ (first : i < start). before.follow i first) (λ (later : start ≤ i). follow_behind f bytes at n each i (omega arith) inside) (cases_lt i start);
+      ⊎_elim (λ (first : i < start). before.follow i first) (λ (later : start ≤ i). follow_behind s f bytes at n each i (omega arith) inside) (cases_lt i start);
 }
+
+-- So does where they end, if the next byte may not follow.
+pub stop_behind : (s : CharacterSet) (f : Flavor) (bytes : List ℕ) (start at n : ℕ) → FirstFollow s f bytes start → at + 4 ≤ start →
+    at + n + 4 ≤ length bytes → AllFollow s f bytes at n → (at + n + 4 < length bytes → follows_at s f bytes (at + n) ≡ false) → FollowUpTo s f bytes (at + n + 4)
+stop_behind s f bytes start at n before near room each stops = record {
+  first = follow_up_to s f bytes start at n before near room each;
+  stops = λ more. follows_behind s f bytes (at + n) ∙ stops more;
+}
+
+-- Bytes with others behind them are the same behind the fillers.
+in_front : (bytes rest : List ℕ) (k : ℕ) → k < 4 + length bytes → get_or (after_fillers (bytes ++ rest)) k 0 ≡ get_or (after_fillers bytes) k 0
+in_front bytes rest k inside = get_or_append_left (after_fillers bytes) rest 0 k (omega arith)
+
+follows_in_front : (s : CharacterSet) (f : Flavor) (bytes rest : List ℕ) (k : ℕ) → k < length bytes →
+    follows_at s f (after_fillers (bytes ++ rest)) k ≡ follows_at s f (after_fillers bytes) k
+follows_in_front s f bytes rest k inside =
+    follows_agrees s f (after_fillers (bytes ++ rest)) (after_fillers bytes) k k (λ j few. in_front bytes rest (k + j) (omega arith))
+
+-- What is found of more bytes is found of those at their front,
+pub front_in_block : (s : CharacterSet) (f : Flavor) (bytes rest : List ℕ) (n : ℕ) → AllFollow s f (after_fillers (bytes ++ rest)) 0 n →
+    (n < length bytes → follows_at s f (after_fillers (bytes ++ rest)) n ≡ false) → FollowUpTo s f bytes (min n (length bytes))
+front_in_block s f bytes rest n follow stops = record {
+  first = record {
+    within = omega arith;
+    follow = λ k before. sym (follows_in_front s f bytes rest k (omega (arith, before))) ∙ follow k (omega arith) (omega (arith, before));
+  };
+  stops = λ more.
+      let here : min n (length bytes) ≡ n = omega (arith, more) in
+      subst (λ k. follows_at s f (after_fillers bytes) k ≡ false) (sym here)
+      (sym (follows_in_front s f bytes rest n (omega (arith, more))) ∙ stops (omega (arith, more)));
+}
+
+-- and the other way round.
+pub first_of_front : (s : CharacterSet) (f : Flavor) (bytes : List ℕ) (m n : ℕ) → m ≤ length bytes → FirstFollow s f (take m bytes) n → FirstFollow s f bytes n
+first_of_front s f bytes m n fits first =
+    let long = length-take-le m bytes fits in
+    record {
+      within = omega (arith, first.within, long);
+      follow = λ k before.
+          ap (λ bytes. follows_at s f (after_fillers bytes) k) (sym (take-append-drop m bytes))
+          ∙ follows_in_front s f (take m bytes) (drop m bytes) k (omega (arith, before, first.within)) ∙ first.follow k before;
+    }
+
+pub stop_in_front : (s : CharacterSet) (f : Flavor) (bytes : List ℕ) (m n : ℕ) → m ≤ length bytes → n < m → FollowUpTo s f (take m bytes) n → FollowUpTo s f bytes n
+stop_in_front s f bytes m n fits before up_to =
+    let long = length-take-le m bytes fits in
+    record {
+      first = first_of_front s f bytes m n fits up_to.first;
+      stops = λ more.
+          ap (λ bytes. follows_at s f (after_fillers bytes) n) (sym (take-append-drop m bytes))
+          ∙ follows_in_front s f (take m bytes) (drop m bytes) n (omega (arith, before, long)) ∙ up_to.stops (omega (arith, before, long));
+    }
+
+-- Characters of one byte may follow each other.
+pub ones_follow : (s : CharacterSet) (f : Flavor) (bytes : List ℕ) (n : ℕ) → n ≤ length bytes →
+    ((i : ℕ) → i < n → (get_or bytes i 0 < 0x80) × (is_null f (get_or bytes i 0) ≡ false)) → FirstFollow s f bytes n
+ones_follow s f bytes n fits ones = record {
+  within = fits;
+  follow = λ k before.
+      let w = get_or (after_fillers bytes) in
+      let last = ones k before in
+      let is_last : get_or (after_fillers bytes) (k + 4) 0 ≡ get_or bytes k 0 = behind_fillers bytes k in
+      ascii_fits s f (w k 0) (w (k + 1) 0) (w (k + 2) 0) (w (k + 3) 0) (w (k + 4) 0) (low k (omega (arith, before))) (low (k + 2) (omega (arith, before)))
+      (low (k + 3) (omega (arith, before))) (omega (arith, is_last, last.0)) (ap (is_null f) is_last ∙ last.1);
+}
+  where
+    low : (k : ℕ) → k < n + 4 → get_or (after_fillers bytes) k 0 < 0x80
+    low zero before = omega arith
+    low (suc zero) before = omega arith
+    low (suc (suc zero)) before = omega arith
+    low (suc (suc (suc zero))) before = omega arith
+    low (suc (suc (suc (suc k)))) before = (ones k (omega (arith, before))).0
+
+-- The bytes behind a block, in one of their own behind that.
+pub end_of_front : (s : CharacterSet) (f : Flavor) (bytes rest : List ℕ) (start n : ℕ) → FirstFollow s f bytes start → 32 ≤ start →
+    AllFollow s f (drop 28 (take 32 bytes ++ (drop 32 bytes ++ rest))) 0 n →
+    (n < length bytes - 32 → follows_at s f (drop 28 (take 32 bytes ++ (drop 32 bytes ++ rest))) n ≡ false) →
+    FollowUpTo s f bytes (32 + min n (length bytes - 32))
+end_of_front s f bytes rest start n before long follow stops =
+    let window = drop 28 (take 32 bytes ++ (drop 32 bytes ++ rest)) in
+    let whole : take 32 bytes ++ (drop 32 bytes ++ rest) ≡ bytes ++ rest =
+    sym (append_assoc (take 32 bytes) (drop 32 bytes) rest) ∙ ap (λ bytes. bytes ++ rest) (take-append-drop 32 bytes) in
+    let same : (j : ℕ) → 32 + j < length bytes → follows_at s f window j ≡ follows_at s f (after_fillers bytes) (32 + j) = λ j inside.
+    follows_agrees s f window (after_fillers bytes) j (32 + j) (λ k few.
+    let there : 32 + j + k ≡ 28 + (j + k) + 4 = omega arith in
+    get_or-drop 28 (take 32 bytes ++ (drop 32 bytes ++ rest)) (j + k) 0 ∙ ap (λ bytes. get_or bytes (28 + (j + k)) 0) whole
+    ∙ get_or_append_left bytes rest 0 (28 + (j + k)) (omega (arith, inside, few))
+    ∙ sym (behind_fillers bytes (28 + (j + k))) ∙ ap (λ p. get_or (after_fillers bytes) p 0) (sym there)) in
+    record {
+      first = record {
+        within = omega (arith, before.within, long);
+        follow = λ k inside. ⊎_elim (λ (early : k < 32). before.follow k (omega (arith, early, long)))
+            (λ (late : 32 ≤ k).
+            let place : 32 + (k - 32) ≡ k = omega (arith, late) in
+            subst (λ k. follows_at s f (after_fillers bytes) k ≡ true) place
+            (sym (same (k - 32) (omega (arith, inside, late))) ∙ follow (k - 32) (omega arith) (omega (arith, inside, late)))) (cases_lt k 32);
+      };
+      stops = λ more.
+          let here : min n (length bytes - 32) ≡ n = omega (arith, more) in
+          subst (λ k. follows_at s f (after_fillers bytes) (32 + k) ≡ false) (sym here)
+          (sym (same n (omega (arith, more))) ∙ stops (omega (arith, more)));
+    }

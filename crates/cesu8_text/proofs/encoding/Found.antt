@@ -17,6 +17,12 @@ pub record BeginsInLengths (f : Flavor) (bytes : List ℕ) (m n : ℕ) : Type 0 
   pub encoded : width f character ≡ m
   pub in_utf8 : length (utf8_of character) ≡ n
 
+-- The bytes after those that it takes are the rest.
+pub rest_is : (f : Flavor) (bytes : List ℕ) (m n : ℕ) → (found : BeginsInLengths f bytes m n) → drop m bytes ≡ found.rest
+rest_is f bytes m n found =
+    ap (λ i. drop i bytes) (sym found.encoded) ∙ ap (drop (width f found.character)) found.begins.bytes_are
+    ∙ drop-append_seam (encoding f (found.character ∷ [])) found.rest
+
 -- a character whose encoding and UTF-8 are these bytes
 unchanged : (f : Flavor) (c n : ℕ) (bytes front : List ℕ) → IsScalarValue c → bytes ≡ front ++ drop n bytes →
     length front ≡ n → encoding f (c ∷ []) ≡ front → utf8_of c ≡ front → BeginsInLengths f bytes n n

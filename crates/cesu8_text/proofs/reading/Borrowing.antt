@@ -1,7 +1,7 @@
 -- When a decoder may give its input as the text, and that it may not elsewhere.
-use Rattle.std.proofs.Common.{◌≡◌, ◌≢◌, ℕ, ◌↔◌, false, List, IsTrue, sym, subst}
+use Rattle.std.proofs.Common.{◌≡◌, ℕ, ◌↔◌, false, List, IsTrue, sym, subst}
 use Rattle.std.proofs.lemmas.Bool.{false≢true}
-use Rattle.std.specs.Str.{chars, IsUtf8}
+use Rattle.std.specs.Str.{chars}
 use Rattle.cesu8_text.specs.Encoding.{Flavor, NeedsEncoding}
 use Rattle.cesu8_text.specs.Reading.{IsStrictReading}
 use Rattle.cesu8_text.proofs.StdUtf8.{IsUtf8Of_chars}
@@ -16,10 +16,6 @@ unchanged_reading f bytes text equal unchanged =
     λ needs. unchanged.1 ((needs_by_bytes f bytes unchanged.0).1 needs) in
     subst (λ t. IsStrictReading f bytes (chars t)) (sym equal)
     ((IsUtf8Of_chars bytes unchanged.0).0, encoding_is_bytes f bytes unchanged.0 needs_none)
-
--- Where the bytes are no UTF-8, no text is the input.
-pub not_utf8_differs : (bytes text : List ℕ) → ¬ (IsUtf8 bytes) → IsUtf8 text → text ≢ bytes
-not_utf8_differs bytes text not_utf8 is_utf8 equal = not_utf8 (subst IsUtf8 equal is_utf8)
 
 -- What is built is not borrowed, which is right where a fact does not hold.
 pub never_borrowed : {P : Type 0} → ¬ P → IsTrue false ↔ P

@@ -17,7 +17,7 @@ strict_only f bytes text other reads also =
     sym (reading_encoding f other also.0) ∙ ap (reading f) (also.1 ∙ sym reads.1) ∙ reading_encoding f text reads.0
 
 -- A call that takes the encoding alone reads all bytes so.
-pub encoding_alone : (f : Flavor) (bytes : List ℕ) → ReadsEncoding f bytes (IsStrictReading f bytes) (λ text. text ≡ reading f bytes)
+encoding_alone : (f : Flavor) (bytes : List ℕ) → ReadsEncoding f bytes (IsStrictReading f bytes) (λ text. text ≡ reading f bytes)
 encoding_alone f bytes = record {
   strictly = λ text. ((λ reads. reads), (λ reads. reads));
   lossily = λ text. ((λ is. is), (λ is. is));

@@ -17,4 +17,4 @@ returns c =
     ∙ ap (λ n. take n c.loop-i.block) all
     ∙ c.loop-i.invariant.1
     ∙ ap (λ n. chunk c.args.from n (bytes ++ replicate 64 0)) (sym all)
-    ∙ last_block bytes c.args.from c.requires.from.0 c.requires.from.1
+    ∙ last_block bytes c.args.from 64 c.requires.from.0 c.requires.from.1 (omega arith)

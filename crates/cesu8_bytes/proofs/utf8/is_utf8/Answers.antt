@@ -1,22 +1,23 @@
 -- A block is the bytes with zeros behind them, and ASCII in front decides nothing.
-use Rattle.std.proofs.Common.{◌-◌, length, subst, arith, eq-eqb}
+use Rattle.std.proofs.Common.{◌-◌, ◌<◌, ◌∙◌, ap, sym, length, take, arith}
 use Rattle.std.specs.Str.{IsAscii}
-use Rattle.std.proofs.lemmas.List.{take_all}
+use Rattle.std.proofs.lemmas.Bool.{both_ways}
+use Rattle.std.proofs.lemmas.List.{get_or-take, get_or_default, length-take-le}
 use Rattle.std.proofs.lemmas.Str.{IsUtf8-from_ascii}
+use Rattle.cesu8_bytes.proofs.lists.Ascii.{is_non_ascii, ascii_of_none}
 use Rattle.cesu8_bytes.proofs.chunks.CutUtf8.{without_zeros, behind_text}
 use Rattle.cesu8_bytes.proofs.utf8.is_utf8.Goals as goal
 
-pub returns-then-front-bytes : goal.returns-then-front-bytes
-returns-then-front-bytes c = (
-  λ _. IsUtf8-from_ascii c.args.bytes.now
-      (subst IsAscii (take_all c.ascii_front-front.result c.args.bytes.now (omega (arith, c.if-front-bytes.true))) c.ascii_front-front.ensures.1),
-  λ _. eq-eqb c.ascii_front-front.result (length c.args.bytes.now) c.if-front-bytes.true,
-)
-
-pub returns-else-front-bytes : goal.returns-else-front-bytes
-returns-else-front-bytes c =
-    let front = c.ascii_front-front.ensures in
-    let same = behind_text c.args.bytes.now c.ascii_front-front.result front.0 (IsUtf8-from_ascii _ front.1) in
+pub returns-then-bytes-gt-LANES : goal.returns-then-bytes-gt-LANES
+returns-then-bytes-gt-LANES c =
+    let bytes = c.args.bytes.now in
+    let run = c.run_of_groups.result in
+    let within = c.run_of_groups.ensures.within.0 in
+    let ascii : IsAscii (take run bytes) = ascii_of_none (take run bytes) (λ any.
+    let before : any.0 < run = omega (arith, any.2, length-take-le run bytes within) in
+    let same = sym any.3 ∙ get_or-take run bytes any.0 any.1 before ∙ get_or_default bytes any.0 any.1 0 (omega (arith, before, within)) in
+    both_ways (is_non_ascii any.1) (ap is_non_ascii same ∙ c.run_of_groups.ensures.run any.0 before) any.4) in
+    let same = behind_text bytes run within (IsUtf8-from_ascii _ ascii) in
     (λ passed. same.0 (c.are_blocks_utf8.ensures.0 passed), λ text. c.are_blocks_utf8.ensures.1 (same.1 text))
 
 pub returns-then-bytes-ge-QUARTER : goal.returns-then-bytes-ge-QUARTER

@@ -6,12 +6,14 @@ use Rattle.cesu8_decode.proofs.following.shown_by.Goals as goal
 
 pub returns-then-has_long_null : goal.returns-then-has_long_null
 returns-then-has_long_null g c =
+    let s = g.S.CharacterSet.set in
     let is_mutf8 : g.F.Flavor.flavor ≡ Mutf8 = c.has_long_null.ensures.0 c.if-has_long_null.true in
-    rw (is_mutf8, c.common_bits-of_two.ensures)
-    (mutf8_lanes c.args.first c.args.second c.nulls.result c.fits-first.0 c.fits-second.0 c.fits-first.1 c.fits-second.1 (rw is_mutf8 at c.nulls.ensures))
+    rw (is_mutf8, c.common_bits-of_two.ensures, c.shown_by_next-by_next.ensures)
+    (mutf8_lanes s c.args.first c.args.second c.kept_of_null.result c.nulls.result c.fits-first.0 c.fits-second.0 c.fits-first.1 c.fits-second.1
+    c.kept_of_null.ensures (rw is_mutf8 at c.nulls.ensures))
 
 pub returns : goal.returns
 returns g c =
     let is_cesu8 : g.F.Flavor.flavor ≡ Cesu8 = cesu8_unless g.F.Flavor.flavor (iff_false c.has_long_null.ensures c.if-has_long_null.false) in
-    rw (is_cesu8, c.common_bits-of_two.ensures)
-    (cesu8_lanes c.args.first c.args.second c.fits-first.0 c.fits-second.0 c.fits-first.1 c.fits-second.1)
+    rw (is_cesu8, c.common_bits-of_two.ensures, c.shown_by_next-by_next.ensures)
+    (cesu8_lanes g.S.CharacterSet.set c.args.first c.args.second c.fits-first.0 c.fits-second.0 c.fits-first.1 c.fits-second.1)

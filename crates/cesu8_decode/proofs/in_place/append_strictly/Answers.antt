@@ -1,4 +1,4 @@
-use Rattle.std.proofs.Common.{[], ℕ, List, replicate, ◌≡◌, ◌++◌, ◌∙◌, refl, ap, arith, length, take}
+use Rattle.std.proofs.Common.{ℕ, List, replicate, ◌≡◌, ◌++◌, ◌∙◌, refl, ap, arith, length, take}
 use Rattle.std.proofs.Math.Seq.{take-append_seam}
 use Rattle.std.proofs.lemmas.List.{take_rest, length-append, length-replicate}
 use Rattle.cesu8_bytes.specs.declared.strictness.Strictness.TheVariants.{Strict}
@@ -8,8 +8,8 @@ use Rattle.cesu8_decode.proofs.in_place.append_strictly.Goals as goal
 
 pub loop-rest-init : goal.loop-rest-init
 loop-rest-init g c = record {
-  read = rw c.requires.0 (nothing_read g.F.Flavor.flavor Strict c.args.bytes.now []);
-  room = omega (arith, c.args.empty.ok, ap length c.requires.0, c.requires.1);
+  read = nothing_read g.F.Flavor.flavor Strict c.args.bytes.now c.args.before.items;
+  room = c.requires;
   capacity = refl;
 }
 

@@ -1,35 +1,77 @@
-use Rattle.std.proofs.Common.{◌≡◌, ℕ, refl, arith, length, Option, Some, None, IfNone}
-use Rattle.std.proofs.lemmas.Option.{IfSome_then}
+use Rattle.std.proofs.Common.{◌≡◌, ◌+◌, ◌<◌, ◌∙◌, sym, arith, length, take, drop, length-drop, length-append}
+use Rattle.std.proofs.lemmas.Bool.{eqb-true, eqb-false, both_ways}
+use Rattle.std.proofs.lemmas.List.{take_rest, length-take-le}
 use Rattle.cesu8_text.specs.Reading.{IsStrictReading, reading, lossy_length}
+use Rattle.cesu8_text.specs.Text.{utf8}
 use Rattle.cesu8_text.proofs.reading.KeptTexts.{encoding_texts}
 use Rattle.cesu8_bytes.specs.declared.strictness.Strictness.TheVariants.{Strict}
+use Rattle.cesu8_decode.proofs.chunks.FrontReadings.{front_of_all, unless_begun, none_before, only_behind}
 use Rattle.cesu8_decode.proofs.chunks.SliceReadings.{only_kept, of_length, strict_no_longer}
+use Rattle.cesu8_decode.proofs.chunks.UnchangedFronts.{unchanged_front_chunk}
 use Rattle.cesu8_decode.proofs.lengths.decoded_len.Goals as goal
+use Rattle.cesu8_decode.proofs.lengths.decoded_len.Goals.{then-not-begins_changed-via-then-not-begins_changed, then-not-begins_changed-via-else-not-begins_changed+then-is_ill_formed}
 
-pub returns-in-Text-clause-some : goal.returns-in-Text-clause-some
-returns-in-Text-clause-some g c =
+pub returns-then-is_empty-clause-some : goal.returns-then-is_empty-clause-some
+returns-then-is_empty-clause-some g c =
     let f = g.F.Flavor.flavor in
     let bytes = c.args.bytes.now in
-    of_length (IsStrictReading f bytes) (λ n. length bytes ≡ n) _ bytes
-    (only_kept f bytes _ _ _ (encoding_texts f bytes) Strict c.in-Text.ensures) refl
+    let n = c.front-front.result in
+    let none : length (drop n bytes) ≡ 0 = eqb-true _ _ (sym (rw take_rest at c.is_empty.ensures) ∙ c.if-is_empty.true) in
+    let all : n ≡ length bytes = omega (arith, none, length-drop n bytes, c.front-front.ensures.within) in
+    of_length (IsStrictReading f bytes) (λ len. n ≡ len) _ bytes
+    (only_kept f bytes _ _ _ (encoding_texts f bytes) Strict (front_of_all f bytes n c.front-front.ensures (omega (arith, all)))) all
 
--- The lossy reading is the strict one, and its length fits.
+pub returns-then-not-begins_changed-clause-none : goal.returns-then-not-begins_changed-clause-none
+returns-then-not-begins_changed-clause-none g c =
+    let f = g.F.Flavor.flavor in
+    let bytes = c.args.bytes.now in
+    let n = c.front-front.result in
+    let tells = rw take_rest at c.begins_changed.ensures in
+    let more : n < length bytes =
+    omega (arith, eqb-false _ _ (sym (rw take_rest at c.is_empty.ensures) ∙ c.if-is_empty.false), length-drop n bytes) in
+    elim c.then-not-begins_changed.branch [
+      | then-not-begins_changed-via-then-not-begins_changed w ↦
+          unless_begun f bytes n c.front-front.ensures
+          (λ begun. both_ways c.begins_changed.result w.if-not-begins_changed.true (tells.1 begun)) more
+      | then-not-begins_changed-via-else-not-begins_changed+then-is_ill_formed w ↦
+          none_before f bytes (drop n bytes) (take n bytes) (unchanged_front_chunk f bytes n c.front-front.ensures Strict)
+          (rw take_rest at (w.is_ill_formed.ensures.ill_formed w.if-is_ill_formed.true))
+    ]
+
+-- The length of the strict reading fits.
+pub returns-in_err-rest_len-clause-none : goal.returns-in_err-rest_len-clause-none
+returns-in_err-rest_len-clause-none g c =
+    let f = g.F.Flavor.flavor in
+    let rest = drop c.front-front.result c.args.bytes.now in
+    let short = strict_no_longer f rest (rw take_rest at (c.is_ill_formed.ensures.whole c.if-is_ill_formed.false)) in
+    absurd (omega (arith, short, rw take_rest at c.in_err-rest_len.ensures.none, length-drop c.front-front.result c.args.bytes.now))
+
+pub overflow_add-result : goal.overflow_add-result
+overflow_add-result g c =
+    let f = g.F.Flavor.flavor in
+    let rest = drop c.front-front.result c.args.bytes.now in
+    let short = strict_no_longer f rest (rw take_rest at (c.is_ill_formed.ensures.whole c.if-is_ill_formed.false)) in
+    omega (
+      arith,
+      short,
+      rw take_rest at c.in_ok-rest_len.ensures.some,
+      length-drop c.front-front.result c.args.bytes.now,
+      c.front-front.ensures.within,
+    )
+
 pub returns-clause-some : goal.returns-clause-some
 unfolding lossy_length
 returns-clause-some g c =
     let f = g.F.Flavor.flavor in
     let bytes = c.args.bytes.now in
-    IfSome_then c.lossy_len.result c.lossy_len.ensures.some
-    (λ len is. (reading f bytes, c.is_ill_formed.ensures.whole c.if-is_ill_formed.false, is))
-
--- So there is one.
-never_none : (P Q : Type 0) (r : Option ℕ) → ¬ P → IfNone r P → IfNone r Q
-never_none P Q (Some len) never none = tt
-never_none P Q None never none = absurd (never none)
-
-pub returns-clause-none : goal.returns-clause-none
-returns-clause-none g c =
-    let f = g.F.Flavor.flavor in
-    let bytes = c.args.bytes.now in
-    let short = strict_no_longer f bytes (c.is_ill_formed.ensures.whole c.if-is_ill_formed.false) in
-    never_none _ _ c.lossy_len.result (λ long. omega (arith, short)) c.lossy_len.ensures.none
+    let n = c.front-front.result in
+    let rest = drop n bytes in
+    let whole = rw take_rest at (c.is_ill_formed.ensures.whole c.if-is_ill_formed.false) in
+    of_length (IsStrictReading f bytes) (λ len. n + c.in_ok-rest_len.rest_len ≡ len) _ _
+    (only_behind f bytes rest (take n bytes) (unchanged_front_chunk f bytes n c.front-front.ensures Strict) (reading f rest) whole)
+    (omega (
+      arith,
+      rw take_rest at c.in_ok-rest_len.ensures.some,
+      length-append (take n bytes) (utf8 (reading f rest)),
+      length-take-le n bytes c.front-front.ensures.within,
+    ))

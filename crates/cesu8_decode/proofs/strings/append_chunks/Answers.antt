@@ -12,8 +12,8 @@ loop-rest-init g c = record {
   capacity = refl;
 }
 
-pub put_behind-requires : goal.put_behind-requires
-put_behind-requires g c =
+pub append-requires : goal.append-requires
+append-requires g c =
     omega (
       arith,
       c.loop-rest.invariant.room,
@@ -25,7 +25,7 @@ loop-rest-preserved g c =
     let f = g.F.Flavor.flavor in
     let rest = c.loop-rest.rest.now in
     let chunk = c.write_text-decoded.ensures.first.chunk refl in
-    let appended = c.put_behind.ensures in
+    let appended = c.append.ensures in
     rw take_rest (record {
       read = more_read f Lossy c.args.bytes.now rest _ _ _ _ c.loop-rest.invariant.read
           (chunk_appended f Lossy rest _ _ _ _ chunk appended.bytes);

@@ -16,9 +16,9 @@ returns g c =
     let rest = drop decoded.result.read bytes in
     let text = c.append_chunks.result in
     let one : IsChunk f Lossy bytes rest first = decoded.ensures.first.chunk refl in
-    let before : c.put_behind.new.out.items ≡ first =
-    c.put_behind.ensures.bytes ∙ ap (λ bs. bs ++ first) c.in_ok-first.ensures.items in
-    let read : IsReadSoFar f Lossy rest [] c.put_behind.new.out.items text.items = rw take_rest at c.append_chunks.ensures.text in
+    let before : c.append.new.out.items ≡ first =
+    c.append.ensures.bytes ∙ ap (λ bs. bs ++ first) c.in_ok-first.ensures.items in
+    let read : IsReadSoFar f Lossy rest [] c.append.new.out.items text.items = rw take_rest at c.append_chunks.ensures.text in
     let other = subst (λ old. IsReadSoFar f Lossy rest [] old text.items) before read in
     let chunk = more_read f Lossy bytes rest [] [] first text.items one other in
     let rest_len : c.in-Some.rest_len ≡ lossy_length f rest = rw take_rest at c.in-Some.ensures.some in
@@ -29,7 +29,7 @@ returns g c =
         rest_len,
         c.in-Some-checked_add.ensures,
         c.in_ok-first.ensures.exact,
-        c.put_behind.ensures.capacity,
+        c.append.ensures.capacity,
         c.append_chunks.ensures.capacity,
         length-take-le decoded.result.end decoded.new.out decoded.ensures.end,
         chunk_length f bytes rest first one,

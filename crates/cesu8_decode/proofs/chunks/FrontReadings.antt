@@ -1,0 +1,200 @@
+-- What bytes are read as behind a front in which nothing changes.
+use Rattle.std.proofs.Common.{◌≡◌, ℕ, ◌+◌, ◌^◌, ◌<◌, ◌≤◌, inl, inr, ⊎_elim, List, [], ◌∷◌, ◌++◌, refl, sym, ap, ◌∙◌, subst, arith, append_assoc, length, take, drop, length-drop, length-append, Ok, Err, Option, Some, None, Vec, vec_capacity}
+use Rattle.std.proofs.lemmas.Bool.{false≢true, cases_lt}
+use Rattle.std.proofs.lemmas.List.{take_all, drop-drop, length-take-le}
+use Rattle.cesu8_text.specs.Class.{IsUnchangedUtf8}
+use Rattle.cesu8_text.specs.Encoding.{Flavor, Cesu8, Mutf8, encoding, IsEncodedOtherwise}
+use Rattle.cesu8_text.specs.Reading.{BeginsWith, IsStrictReading, HasNoStrictReading}
+use Rattle.cesu8_text.specs.Text.{utf8}
+use Rattle.cesu8_text.proofs.text.Shapes.{Shape, one, two, three, pair, shape}
+use Rattle.cesu8_text.proofs.encoding.Encodings.{encoding_append}
+use Rattle.cesu8_text.proofs.encoding.Forms.{encoding_one, encoding_pair, short_form_null}
+use Rattle.cesu8_text.proofs.encoding.Lengths.{not_otherwise, length_bounds}
+use Rattle.cesu8_text.proofs.encoding.Unique.{after_text}
+use Rattle.cesu8_text.proofs.reading.Decoding.{IsText_append, utf8_append}
+use Rattle.cesu8_text.proofs.reading.KeptTexts.{strict_only}
+use Rattle.cesu8_bytes.specs.TextChunks.{IsReadSoFar, IsChunk}
+use Rattle.cesu8_bytes.specs.declared.strictness.Strictness.TheVariants.{Strict}
+use Rattle.cesu8_bytes.specs.declared.writers.NoRoom.{NoRoom}
+use Rattle.cesu8_decode.specs.declared.refusal.Unwritten.TheVariants as unwritten
+use Rattle.cesu8_decode.specs.Decoding.{AppendsStrictly}
+use Rattle.cesu8_decode.specs.Following.{Unchanged}
+use Rattle.cesu8_decode.specs.Forms.{BeginsChanged}
+use Rattle.cesu8_decode.specs.Front.{IsFront}
+use Rattle.cesu8_decode.specs.PutReadings.{PutsReading}
+use Rattle.cesu8_decode.proofs.chunks.ReadChunks.{more_read, chunk_appended}
+use Rattle.cesu8_decode.proofs.chunks.SliceReadings.{IsOnlyText, answer_put, room_lacks, no_strict_text}
+use Rattle.cesu8_decode.proofs.chunks.UnchangedFronts.{front_unchanged, unchanged_front_chunk, no_strict_reading}
+
+-- ---- what begins bytes
+
+-- A character that is encoded otherwise is a surrogate pair, or C0 80 in MUTF-8,
+otherwise_begins : (f : Flavor) (c : ℕ) (rest : List ℕ) → Shape c → IsEncodedOtherwise f c → BeginsChanged f (encoding f (c ∷ []) ++ rest)
+otherwise_begins Cesu8 c rest (one ascii) high = absurd (omega arith)
+otherwise_begins Mutf8 c rest (one ascii) (inl null) = rw (encoding_one Mutf8 c ascii, short_form_null c null) (inr refl)
+otherwise_begins Mutf8 c rest (one ascii) (inr high) = absurd (omega arith)
+otherwise_begins f c rest (two x y digits) needs = absurd (not_otherwise f c (omega arith) (omega arith) needs)
+otherwise_begins f c rest (three x y z digits) needs = absurd (not_otherwise f c (omega arith) (omega arith) needs)
+otherwise_begins f c rest (pair w x y z digits) needs =
+    rw (encoding_pair f c w x y z digits) (inl (record {
+      lead = refl;
+      high = (omega arith, omega arith);
+      ends = ((omega arith, omega arith), refl, (omega arith, omega arith), (omega arith, omega arith));
+    }))
+
+-- so none begins bytes that begin with neither.
+none_otherwise : (f : Flavor) (bytes : List ℕ) → ¬ (BeginsChanged f bytes) → (c : ℕ) (rest : List ℕ) → IsEncodedOtherwise f c →
+    ¬ (BeginsWith f bytes c rest)
+none_otherwise f bytes neither c rest needs begins =
+    neither (subst (BeginsChanged f) (sym begins.bytes_are) (otherwise_begins f c rest (shape c begins.scalar) needs))
+
+-- ---- what is read behind a chunk of text
+
+module _ (f : Flavor) (bytes rest chunk : List ℕ) (read : IsChunk f Strict bytes rest chunk) where
+  -- The text of the rest ends that of all bytes,
+  pub only_behind : (text : List ℕ) → IsStrictReading f rest text →
+      IsOnlyText (IsStrictReading f bytes) (read.text ++ text) (chunk ++ utf8 text)
+  only_behind text reads =
+      let whole : IsStrictReading f bytes (read.text ++ text) = (
+        IsText_append read.text text read.scalars reads.0,
+        encoding_append f read.text text ∙ ap (λ bs. encoding f read.text ++ bs) reads.1 ∙ sym (read.strict_reading refl),
+      ) in
+      record {
+        reads = whole;
+        only = λ other also. strict_only f bytes (read.text ++ text) other whole also;
+        utf8_is = utf8_append read.text text ∙ ap (λ bs. bs ++ utf8 text) (sym read.written);
+      }
+
+  -- and where the rest has none, they have none.
+  pub none_before : HasNoStrictReading f rest → HasNoStrictReading f bytes
+  none_before none whole reads =
+      let found = after_text f read.text whole rest read.scalars reads.0 (reads.1 ∙ read.strict_reading refl) in
+      none found.text found.reading
+
+-- Where the strict reading of the rest is appended behind a chunk, that of all bytes is.
+pub appended_behind : {Z : Type 0} (f : Flavor) (bytes rest chunk : List ℕ) (before between : Vec ℕ Z) (result : Option (Vec ℕ Z)) →
+    IsChunk f Strict bytes rest chunk → between.items ≡ before.items ++ chunk → vec_capacity between ≡ vec_capacity before →
+    AppendsStrictly f rest between result → AppendsStrictly f bytes before result
+appended_behind f bytes rest chunk before between None read is same appends =
+    record { text = tt; capacity = tt; none = none_before f bytes rest chunk read appends.none }
+appended_behind f bytes rest chunk before between (Some text) read is same appends = record {
+  text = more_read f Strict bytes rest [] before.items between.items text.items
+      (chunk_appended f Strict bytes rest chunk before.items between.items read is) appends.text;
+  capacity = appends.capacity ∙ same;
+  none = tt;
+}
+
+-- The text of some bytes has a byte at least, and no more than they.
+pub record HasLengthOf (rest : List ℕ) (len : ℕ) : Type 0 where
+  pub some : 0 < length rest → 0 < len
+  pub fits : len ≤ length rest
+
+pub text_length : (f : Flavor) (rest text : List ℕ) → IsStrictReading f rest text → HasLengthOf rest (length (utf8 text))
+text_length f rest text reads =
+    let bounds = length_bounds f text reads.0 in
+    record { some = λ more. omega (arith, bounds.high, ap length reads.1); fits = omega (arith, bounds.low, ap length reads.1) }
+
+-- ---- what is read behind a front
+
+module _ (f : Flavor) (bytes : List ℕ) (n : ℕ) (front : IsFront Unchanged f bytes n) where
+  -- If it is of all bytes, nothing changes in them.
+  pub front_of_all : length bytes ≤ n → IsUnchangedUtf8 f bytes
+  front_of_all all = subst (IsUnchangedUtf8 f) (take_all n bytes all) (front_unchanged f bytes n front)
+
+  -- Bytes with more have no strict reading where neither begins behind the front.
+  pub unless_begun : ¬ (BeginsChanged f (drop n bytes)) → n < length bytes → HasNoStrictReading f bytes
+  unless_begun neither more = no_strict_reading f bytes n front (none_otherwise f (drop n bytes) neither) more
+
+  -- The front is copied, and then the text of the others is written.
+  pub read_behind : (chunk old new : List ℕ) → old ≡ [] → IsChunk f Strict (drop n bytes) [] chunk → new ≡ take n bytes ++ chunk →
+      IsReadSoFar f Strict bytes [] old new
+  read_behind chunk old new empty read is =
+      subst (λ before. IsReadSoFar f Strict bytes [] before new) (sym empty)
+      (more_read f Strict bytes (drop n bytes) [] [] (take n bytes) new (unchanged_front_chunk f bytes n front Strict)
+      (chunk_appended f Strict (drop n bytes) [] chunk (take n bytes) new read is))
+
+-- ---- what is written behind it to a caller's buffer
+
+-- Where something is written of bytes that are some, there is room, and it is no longer than they are.
+pub written_length : (f : Flavor) (rest old new : List ℕ) (len : ℕ) → PutsReading f Strict rest (Ok len) old new →
+    (0 < length rest → 0 < length old) × (len ≤ length rest)
+written_length f rest old new len puts =
+    let found = puts.fits.0 refl in
+    let long = text_length f rest found.0 found.1 in
+    let fits = text_length f rest puts.written.0 puts.written.1 in
+    ((λ more. omega (arith, long.some more, found.2)), omega (arith, puts.written.2.0, fits.fits))
+
+-- So is the length that is needed, and more than there is room for.
+pub needed_length : (f : Flavor) (rest old new : List ℕ) (no_room : NoRoom) → PutsReading f Strict rest (Err (unwritten.NoRoom no_room)) old new →
+    (no_room.needed ≤ length rest) × (length old < no_room.needed)
+needed_length f rest old new no_room puts =
+    let found = puts.needed in
+    let long = text_length f rest found.0 found.1 in (
+      omega (arith, long.fits, found.2),
+      ⊎_elim (λ (short : length old < no_room.needed). short)
+          (λ (room : no_room.needed ≤ length old).
+          absurd (false≢true (puts.fits.1 (found.0, found.1, omega (arith, found.2, room)))))
+          (cases_lt (length old) no_room.needed),
+    )
+
+module _ (f : Flavor) (bytes buf : List ℕ) (n : ℕ) (front : IsFront Unchanged f bytes n) (small : length bytes < 2 ^ 64) where
+  read : IsChunk f Strict bytes (drop n bytes) (take n bytes)
+  read = unchanged_front_chunk f bytes n front Strict
+
+  -- The front is copied before what was written,
+  pub front_put : (start len : ℕ) (new out : List ℕ) → n ≤ length buf → start ≡ n →
+      PutsReading f Strict (drop n bytes) (Ok len) (drop start buf) new → out ≡ take n bytes ++ new → PutsReading f Strict bytes (Ok (n + len)) buf out
+  front_put start len new out room start_is puts is =
+      let found = puts.written in
+      let text = found.0 in
+      let whole = only_behind f bytes (drop n bytes) (take n bytes) read text found.1 in
+      let long = length-append (take n bytes) (utf8 text) in
+      let before = length-take-le n bytes front.within in
+      let fits = text_length f (drop n bytes) text found.1 in
+      let fit = puts.fits.0 refl in
+      answer_put Strict _ _ _ buf whole
+      (omega (arith, long, before, fits.fits, length-drop n bytes, small))
+      (n + len) out
+      (omega (
+        arith,
+        long,
+        before,
+        found.2.0,
+        fit.2,
+        length-drop start buf,
+        start_is,
+        room,
+        ap (λ t. length (utf8 t)) (strict_only f (drop n bytes) text fit.0 found.1 fit.1),
+      )) (
+        omega (arith, long, before, found.2.0),
+        is ∙ ap (λ bs. take n bytes ++ bs) (found.2.1 ∙ ap (λ bs. utf8 text ++ bs) (drop-drop len start buf ∙ ap (λ m. drop (m + len) buf) start_is))
+            ∙ sym (append_assoc (take n bytes) (utf8 text) (drop (n + len) buf)),
+      )
+
+  -- and its length is added to what is needed,
+  pub front_lacks_room : (start : ℕ) (new out : List ℕ) (no_room all : NoRoom) → (n ≤ length buf → start ≡ n) → n < length bytes →
+      PutsReading f Strict (drop n bytes) (Err (unwritten.NoRoom no_room)) (drop start buf) new → all.needed ≡ n + no_room.needed → out ≡ buf →
+      PutsReading f Strict bytes (Err (unwritten.NoRoom all)) buf out
+  front_lacks_room start new out no_room all start_is more puts all_is same =
+      let found = puts.needed in
+      let text = found.0 in
+      let whole = only_behind f bytes (drop n bytes) (take n bytes) read text found.1 in
+      let long = length-append (take n bytes) (utf8 text) in
+      let before = length-take-le n bytes front.within in
+      let fits = text_length f (drop n bytes) text found.1 in
+      let short = needed_length f (drop n bytes) (drop start buf) new no_room puts in
+      subst (PutsReading f Strict bytes (Err (unwritten.NoRoom all)) buf) (sym same)
+      (room_lacks Strict _ _ _ buf whole
+      (omega (arith, long, before, fits.fits, length-drop n bytes, small))
+      all
+      (omega (arith, long, before, found.2, all_is))
+      (⊎_elim (λ (less : length buf < n). omega (arith, long, before))
+      (λ (room : n ≤ length buf). omega (arith, long, before, found.2, short.1, length-drop start buf, start_is room))
+      (cases_lt (length buf) n)))
+
+  -- and where the others have no text, all have none.
+  pub front_lacks_text : (old new out : List ℕ) → PutsReading f Strict (drop n bytes) (Err unwritten.NoText) old new → out ≡ buf →
+      PutsReading f Strict bytes (Err unwritten.NoText) buf out
+  front_lacks_text old new out puts same =
+      subst (PutsReading f Strict bytes (Err unwritten.NoText) buf) (sym same)
+      (no_strict_text f Strict bytes buf (refl, none_before f bytes (drop n bytes) (take n bytes) read (puts.invalid.0 tt)))

@@ -1,0 +1,78 @@
+-- How many bytes at the front are whole characters of a set.
+use Rattle.std.proofs.Common.{◌≡◌, ℕ, ◌+◌, ◌<◌, ◌≤◌, ⊎_elim, true, false, List, [], ◌∷◌, ◌++◌, refl, sym, ap, ◌∙◌, subst, arith, length, take, drop, length-append, length-drop, true≢false}
+use Rattle.std.proofs.Math.Seq.{take-add, take-append_seam, take-length}
+use Rattle.std.proofs.lemmas.Bool.{cases_lt}
+use Rattle.std.proofs.lemmas.List.{take-append-drop, length-take-le}
+use Rattle.cesu8_text.specs.Encoding.{Flavor, encoding, IsEncodedOtherwise}
+use Rattle.cesu8_text.specs.Reading.{BeginsWith, NoneBegins, StandsAt, width, LiesWithin, Damaged}
+use Rattle.cesu8_text.specs.Fronts.{IsValidUpTo}
+use Rattle.cesu8_text.proofs.encoding.Lengths.{length_of_character}
+use Rattle.cesu8_text.proofs.reading.Marks.{mark_from}
+use Rattle.cesu8_decode.specs.Following.{CharacterSet, Encoded, Unchanged, after_fillers, FollowUpTo, crosses_at}
+use Rattle.cesu8_decode.specs.Front.{AreWhole, IsFront}
+use Rattle.cesu8_decode.proofs.by_offset.IllFormed.{none_crosses_encoding}
+use Rattle.cesu8_decode.proofs.chunks.WholeBytes.{not_unchanged, character_whole, parts_whole}
+use Rattle.cesu8_decode.proofs.chunks.FollowingBytes.{followed_whole}
+use Rattle.cesu8_decode.proofs.chunks.EncodedFollow.{whole_follow}
+
+-- The last boundary that none crosses is the front, if bytes follow up to a byte that may not.
+pub front_at : (s : CharacterSet) (f : Flavor) (bytes : List ℕ) (m n : ℕ) → FollowUpTo s f bytes m → n ≤ m →
+    crosses_at s (after_fillers bytes) n ≡ false → ((k : ℕ) → n < k → k ≤ m → crosses_at s (after_fillers bytes) k ≡ true) →
+    IsFront s f bytes n
+front_at s f bytes m n follow fits none crossed = record {
+  within = omega (arith, follow.first.within);
+  whole = followed_whole s f bytes m n follow.first fits none;
+  greatest = λ j longer within whole.
+      let found = whole_follow s f bytes j within whole in
+      ⊎_elim (λ (past : m < j). true≢false (sym (found.0 m past) ∙ follow.stops (omega arith)))
+      (λ (short : j ≤ m). true≢false (sym (crossed j longer short) ∙ found.1)) (cases_lt m j);
+}
+
+-- All bytes are one, if they are whole.
+pub all_front : (s : CharacterSet) (f : Flavor) (bytes : List ℕ) → AreWhole s f bytes → IsFront s f bytes (length bytes)
+all_front s f bytes whole = record {
+  within = omega arith;
+  whole = subst (AreWhole s f) (sym (take-length bytes)) whole;
+  greatest = λ m longer within. absurd (omega arith);
+}
+
+module _ (s : CharacterSet) (f : Flavor) (bytes : List ℕ) (n : ℕ) (front : IsFront s f bytes n) where
+  -- A front is the encoding of its text, at the front of all bytes.
+  pub bytes_are : bytes ≡ encoding f front.whole.text ++ drop n bytes
+  bytes_are = sym (take-append-drop n bytes) ∙ ap (λ bs. bs ++ drop n bytes) (sym front.whole.reads.1)
+
+  -- No character of the set begins behind a front, as it would make a longer one.
+  pub none_behind : (c : ℕ) (rest : List ℕ) → (s ≡ Unchanged → ¬ (IsEncodedOtherwise f c)) → ¬ (BeginsWith f (drop n bytes) c rest)
+  none_behind c rest stays begins =
+      let character = encoding f (c ∷ []) in
+      let k = width f c in
+      let long = length_of_character f c begins.scalar in
+      let fits = ap length begins.bytes_are ∙ length-append character rest in
+      let are : take (n + k) bytes ≡ take n bytes ++ character =
+      take-add n k bytes ∙ ap (λ bs. take n bytes ++ bs) (ap (take k) begins.bytes_are ∙ take-append_seam character rest) in
+      front.greatest (n + k) (omega (arith, long.some, long.fits)) (omega (arith, front.within, fits, length-drop n bytes))
+      (subst (AreWhole s f) (sym are) (parts_whole s f (take n bytes) character front.whole (character_whole s f c begins.scalar stays)))
+
+-- The front of all encoded characters is what `valid_up_to` gives: none begins behind it, so the lossy
+-- reading replaces the byte there.
+pub valid_up_to_of : (f : Flavor) (bytes : List ℕ) (n : ℕ) → IsFront Encoded f bytes n → IsValidUpTo f bytes n
+valid_up_to_of f bytes n front = record {
+  within = front.within;
+  valid = (text, front.whole.reads);
+  stops = λ _. none;
+  greatest = λ m longer fits other reads.
+      front.greatest m longer fits (record { text = other; reads = reads; unchanged = λ is. absurd (not_unchanged Encoded refl is) });
+  replaced = λ _. mark_from f bytes n (0xFFFD ∷ []) (Damaged none not_within);
+}
+  where
+    text : List ℕ
+    text = front.whole.text
+
+    none : NoneBegins f (drop n bytes)
+    none c rest = none_behind Encoded f bytes n front c rest (λ is. absurd (not_unchanged Encoded refl is))
+
+    not_within : ¬ (LiesWithin f bytes n)
+    not_within (j, c, stands, before, past) =
+        let long : length (encoding f text) ≡ n = ap length front.whole.reads.1 ∙ length-take-le n bytes front.within in
+        let there : StandsAt f (encoding f text ++ drop n bytes) j c = subst (λ bs. StandsAt f bs j c) (bytes_are Encoded f bytes n front) stands in
+        omega (arith, none_crosses_encoding f text (drop n bytes) front.whole.reads.0 j c there (omega arith))

@@ -1,0 +1,27 @@
+use Rattle.std.proofs.Common.{◌≡◌, ◌+◌, ◌∙◌, false, leb, get_or, refl, sym, ap, add-zero, arith}
+use Rattle.std.proofs.lemmas.Bool.{lt-leb, iff_false}
+use Rattle.cesu8_decode.specs.Following.{Encoded, Unchanged, is_high_surrogate, after_fillers}
+use Rattle.cesu8_decode.proofs.decoder.FollowingLanes.{unless_encoded}
+use Rattle.cesu8_decode.proofs.front.may_be_crossed.Goals as goal
+
+pub returns-then-not-has_changed : goal.returns-then-not-has_changed
+returns-then-not-has_changed g c =
+    let window = after_fillers c.args.bytes.now in
+    let at = c.args.at in
+    let last : leb 0xC0 (get_or window (at + 3) 0) ≡ false = lt-leb 0xC0 _ (omega (arith, c.if-last-ge192.false, c.byte_before-last.ensures)) in
+    let second_last : leb 0xE0 (get_or window (at + 2) 0) ≡ false = lt-leb 0xE0 _ (omega (arith, c.if-second_last-ge224.false, c.byte_before-second_last.ensures)) in
+    let is_unchanged : g.S.CharacterSet.set ≡ Unchanged = unless_encoded g.S.CharacterSet.set (iff_false c.has_changed.ensures c.if-not-has_changed.true) in
+    rw (is_unchanged, last, second_last) refl
+
+pub returns-else-begins_high_surrogate : goal.returns-else-begins_high_surrogate
+returns-else-begins_high_surrogate g c =
+    let window = after_fillers c.args.bytes.now in
+    let at = c.args.at in
+    let last : leb 0xC0 (get_or window (at + 3) 0) ≡ false = lt-leb 0xC0 _ (omega (arith, c.if-last-ge192.false, c.byte_before-last.ensures)) in
+    let second_last : leb 0xE0 (get_or window (at + 2) 0) ≡ false = lt-leb 0xE0 _ (omega (arith, c.if-second_last-ge224.false, c.byte_before-second_last.ensures)) in
+    let is_encoded : g.S.CharacterSet.set ≡ Encoded = c.has_changed.ensures.0 c.if-not-has_changed.false in
+    let no_high : is_high_surrogate Encoded (get_or window (at + 1) 0) (get_or window (at + 2) 0) ≡ false =
+    (λ i. is_high_surrogate Encoded (sym c.byte_before-third_last.ensures i) (sym c.byte_before-second_last.ensures i)) ∙ sym c.begins_high_surrogate.ensures ∙ c.if-begins_high_surrogate.false in
+    c.begins_high_surrogate-else-begins_high_surrogate.ensures
+    ∙ (λ i. is_high_surrogate Encoded ((c.byte_before.ensures ∙ ap (λ k. get_or window k 0) (add-zero at)) i) (c.byte_before-third_last.ensures i))
+    ∙ sym (rw (is_encoded, last, second_last, no_high) refl)

@@ -1,0 +1,15 @@
+use Rattle.std.proofs.Common.{take, drop}
+use Rattle.std.proofs.lemmas.List.{take_rest}
+use Rattle.cesu8_bytes.specs.declared.strictness.Strictness.TheVariants.{Strict}
+use Rattle.cesu8_decode.proofs.chunks.FrontReadings.{appended_behind}
+use Rattle.cesu8_decode.proofs.chunks.UnchangedFronts.{unchanged_front_chunk}
+use Rattle.cesu8_decode.proofs.strings.write_many.Goals as goal
+
+pub returns : goal.returns
+returns g c =
+    let f = g.F.Flavor.flavor in
+    let bytes = c.args.bytes.now in
+    let n = c.args.front in
+    appended_behind f bytes (drop n bytes) (take n bytes) c.args.empty c.append.new.out c.append_strictly.result
+    (unchanged_front_chunk f bytes n c.requires.front Strict) c.append.ensures.bytes c.append.ensures.capacity
+    (rw take_rest at c.append_strictly.ensures)

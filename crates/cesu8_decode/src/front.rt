@@ -1,0 +1,196 @@
+//! How many bytes at the front are whole encoded characters: all of these, or those that are the
+//! same in UTF-8. All ways of decoding begin with this test, and go on where it stopped.
+//!
+//! Vectors find the first byte that may not follow those before it. The front ends there, or at the
+//! last boundary before, if a character begins that the byte cuts off.
+
+ghost use Rattle.std.specs.Prelude.{◌≡◌, ℕ, ◌+◌, ◌-◌, ◌<◌, ◌≤◌, true, length, slice_index};
+ghost use Rattle.cesu8_text.specs.Fronts.{IsValidUpTo};
+ghost use Rattle.cesu8_decode.specs.Following.{FirstFollow, FollowUpTo, Encoded as AllEncoded, after_fillers, crosses_at, is_high_surrogate};
+ghost use Rattle.cesu8_decode.specs.Front.{IsFront};
+
+use super::character_set::{CharacterSet, Encoded};
+use super::following::{DECIDING, FILLER, block_at, block_behind, following_len, two_follow};
+use cesu8_bytes::BLOCK;
+use cesu8_bytes::flavor::Flavor;
+use cesu8_bytes::implementation::class::{Either, NonAscii};
+use cesu8_bytes::looks::is_short_unchanged_ascii;
+use cesu8_bytes::padded::padded_half;
+use cesu8_bytes::runs::run_of_groups;
+use std::simd::prelude::*;
+
+/// Returns how many bytes at the front are whole encoded characters.
+#[inline(always)]
+pub fn valid_up_to<F: Flavor>(bytes: &[u8]) -> usize
+    ensures { IsValidUpTo F.flavor bytes.now result }
+{
+    if is_short_unchanged_ascii::<F>(bytes) {
+        return bytes.len();
+    }
+    valid_up_to_other::<F>(bytes)
+}
+
+/// Does so for bytes that are not short ASCII. It is not inlined, so that the test for that stays
+/// small.
+#[inline(never)]
+pub fn valid_up_to_other<F: Flavor>(bytes: &[u8]) -> usize
+    ensures { IsValidUpTo F.flavor bytes.now result }
+{
+    front::<F, Encoded>(bytes)
+}
+
+/// Returns how many bytes at the front are whole characters of a set.
+#[inline(always)]
+pub fn front<F: Flavor, S: CharacterSet>(bytes: &[u8]) -> usize
+    ensures { IsFront S.set F.flavor bytes.now result }
+{
+    let at = if bytes.len() <= BLOCK {
+        following_few::<F, S>(bytes)
+    } else {
+        following_many::<F, S>(bytes)
+    };
+    last_boundary::<F, S>(bytes, at)
+}
+
+/// Returns how many bytes of a block may follow those before them, up to the first that may not.
+#[inline(always)]
+fn following_few<F: Flavor, S: CharacterSet>(bytes: &[u8]) -> usize
+    requires { length bytes.now ≤ BLOCK }
+    ensures { FollowUpTo S.set F.flavor bytes.now result }
+{
+    let block = block_behind(u8x32::splat(FILLER), padded_half(bytes));
+    following_len::<F, S>(block).min(bytes.len())
+}
+
+/// Returns how many of more bytes may follow those before them, up to the first that may not. It is
+/// not inlined, since it is long.
+#[inline(never)]
+fn following_many<F: Flavor, S: CharacterSet>(bytes: &[u8]) -> usize
+    requires { BLOCK < length bytes.now }
+    ensures { FollowUpTo S.set F.flavor bytes.now result }
+{
+    let start = following_first::<F, S>(bytes);
+    if start < BLOCK {
+        return start;
+    }
+    following_last::<F, S>(bytes, following_twos::<F, S>(bytes, start))
+}
+
+/// Returns how many bytes at the front are ASCII that stays, in whole groups, or else how many of the
+/// first block may follow those before them.
+#[inline(always)]
+fn following_first<F: Flavor, S: CharacterSet>(bytes: &[u8]) -> usize
+    requires { BLOCK < length bytes.now }
+    ensures follow { FirstFollow S.set F.flavor bytes.now result }
+    ensures stops { result < BLOCK → FollowUpTo S.set F.flavor bytes.now result }
+{
+    let run = run_of_groups::<Either<F::Null, NonAscii>>(bytes);
+    if run > 0 {
+        return run;
+    }
+    following_few::<F, S>(&bytes[..BLOCK])
+}
+
+/// Returns how many bytes may follow those before them, by two blocks at once from `start` on.
+#[inline(always)]
+fn following_twos<F: Flavor, S: CharacterSet>(bytes: &[u8], start: usize) -> usize
+    requires first { FirstFollow S.set F.flavor bytes.now start }
+    requires start { DECIDING ≤ start }
+    ensures follow { FirstFollow S.set F.flavor bytes.now result }
+    ensures start { start ≤ result }
+{
+    let mut at = start;
+    while bytes.len() - at >= 2 * BLOCK && two_follow::<F, S>(bytes, at - DECIDING) {
+        at += 2 * BLOCK;
+    }
+    at
+}
+
+/// Returns how many bytes may follow those before them, up to the first that may not, by blocks from
+/// `start` on, of which the last begins in the one before.
+#[inline(always)]
+fn following_last<F: Flavor, S: CharacterSet>(bytes: &[u8], start: usize) -> usize
+    requires first { FirstFollow S.set F.flavor bytes.now start }
+    requires start { BLOCK ≤ start }
+    ensures { FollowUpTo S.set F.flavor bytes.now result }
+{
+    let mut at = start;
+    while bytes.len() - at >= BLOCK {
+        let len = following_len::<F, S>(block_at(bytes, at - DECIDING));
+        at += len;
+        if len < BLOCK {
+            return at;
+        }
+    }
+    if at == bytes.len() {
+        return at;
+    }
+    following_end::<F, S>(bytes, at)
+}
+
+/// Does so for the bytes behind the last whole block.
+#[inline(always)]
+fn following_end<F: Flavor, S: CharacterSet>(bytes: &[u8], start: usize) -> usize
+    requires first { FirstFollow S.set F.flavor bytes.now start }
+    requires start { (BLOCK ≤ start) × (length bytes.now < start + BLOCK) }
+    ensures { FollowUpTo S.set F.flavor bytes.now result }
+{
+    if bytes.len() >= DECIDING + BLOCK {
+        let last = bytes.len() - BLOCK;
+        return last + following_len::<F, S>(block_at(bytes, last - DECIDING));
+    }
+    let block = block_behind(u8x32::from_slice(bytes), padded_half(&bytes[BLOCK..]));
+    BLOCK + following_len::<F, S>(block).min(bytes.len() - BLOCK)
+}
+
+/// Returns the last boundary up to `at` that no character crosses, if the bytes before it may follow
+/// each other, and the byte there may not.
+#[inline(always)]
+fn last_boundary<F: Flavor, S: CharacterSet>(bytes: &[u8], at: usize) -> usize
+    requires { FollowUpTo S.set F.flavor bytes.now at }
+    ensures { IsFront S.set F.flavor bytes.now result }
+{
+    let mut end = at;
+    while end > 0 && may_be_crossed::<S>(bytes, end) {
+        end -= 1;
+    }
+    end
+}
+
+/// Returns whether a character or a surrogate pair may cross a boundary, by the bytes before it.
+#[inline(always)]
+fn may_be_crossed<S: CharacterSet>(bytes: &[u8], at: usize) -> bool
+    requires { at ≤ length bytes.now }
+    ensures { result ≡ crosses_at S.set (after_fillers bytes.now) at }
+{
+    let last = byte_before(bytes, at, 1);
+    let second_last = byte_before(bytes, at, 2);
+    if last >= 0xC0 || second_last >= 0xE0 {
+        return true;
+    }
+    if !S::has_changed() {
+        return false;
+    }
+    let third_last = byte_before(bytes, at, 3);
+    begins_high_surrogate(third_last, second_last)
+        || begins_high_surrogate(byte_before(bytes, at, 4), third_last)
+}
+
+/// Returns whether two bytes begin a high surrogate.
+#[inline(always)]
+fn begins_high_surrogate(first: u8, second: u8) -> bool
+    ensures { result ≡ is_high_surrogate AllEncoded first second }
+{
+    first == 0xED && matches!(second, 0xA0..=0xAF)
+}
+
+/// Returns the byte so many before an offset, or the filler if there is none. The four before an
+/// offset decide whether a character may cross it.
+#[inline(always)]
+fn byte_before(bytes: &[u8], at: usize, back: usize) -> u8
+    requires at { at ≤ length bytes.now }
+    requires back { (0 < back) × (back ≤ 4) }
+    ensures { result ≡ slice_index (after_fillers bytes.now) (at + (4 - back)) }
+{
+    if back <= at { bytes[at - back] } else { FILLER }
+}
