@@ -355,6 +355,12 @@ static const struct row {
     {"quote-near-end", quote_near_end, 1900, 1900, 256, BORROWED, {ONE(decode_strict)}},
     {"quote-anywhere", quote_anywhere, 1900, 1900, 256, BORROWED, {ONE(decode_strict)}},
 
+    // The front: all bytes, or those before an emoji.
+    {"latin", all_latin, 24, 24, 256, BORROWED, {ONE(decode_strict), ONE(decode)}},
+    {"latin", all_latin, 200, 200, 256, BORROWED, {ONE(decode_strict), ONE(decode)}},
+    {"latin", all_latin, 1024, 1024, 64, BORROWED, {ONE(decode_strict), ONE(decode)}},
+    {"one-pair", one_pair, 200, 200, 256, OTHER, {ONE(decode_strict), WRITE(decode_strict)}},
+
     // Built.
     {"one-pair", one_pair, 24, 24, 256, OTHER, {ONE(decode_strict), ONE(decode)}},
     {"one-c0-80", one_c0_80, 40, 40, 256, OTHER, {ONE(mutf8_decode_strict)}},
