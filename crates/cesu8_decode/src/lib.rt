@@ -34,6 +34,7 @@ mod decoded;
 mod following;
 mod forms;
 pub mod front;
+mod fronts;
 mod ill_formed;
 mod in_place;
 mod last_blocks;

@@ -14,6 +14,7 @@ ghost use Rattle.cesu8_decode.specs.Front.{IsFront};
 
 use crate::characters::write_characters;
 use crate::forms::begins_changed;
+use crate::fronts::{LONG_FRONT, append_by_fronts};
 use crate::in_place::{LONG_TEXT, SHORT_TEXT, append_strictly, write_text};
 use crate::lengths::lossy_len;
 use crate::one_block::{LOSSY_TEXT, STRICT_TEXT, write_one_block};
@@ -42,10 +43,13 @@ pub fn write_strictly<F: Flavor, A: Allocator + Copy>(
     if !begins_changed::<F>(rest) {
         return None;
     }
+    if bytes.len() > BLOCK {
+        return write_many::<F, A>(bytes, front, empty);
+    }
     match strict_way(rest, front) {
         Way::Characters => write_few::<F, A>(bytes, front, empty),
         Way::OneBlock | Way::ShortWindow | Way::LongWindow | Way::Chunks => {
-            write_many::<F, A>(bytes, front, empty)
+            append_one::<F, A>(bytes, empty)
         }
     }
 }
@@ -90,8 +94,8 @@ fn write_few<F: Flavor, A: Allocator + Copy>(
     Some(text)
 }
 
-/// Writes the front as it is, and the strict reading of the bytes behind it block by block. One block
-/// is read whole, in less time than its front is copied.
+/// Writes the front as it is, and the strict reading of the bytes behind it: from one character that
+/// changes to the next where they seem to stand far apart, and else block by block.
 #[inline(never)]
 fn write_many<F: Flavor, A: Allocator + Copy>(
     bytes: &[u8],
@@ -102,16 +106,17 @@ fn write_many<F: Flavor, A: Allocator + Copy>(
     requires empty { (empty.items ≡ []) × (length bytes.now ≤ vec_capacity empty) }
     ensures { AppendsStrictly F.flavor bytes.now empty result }
 {
-    if bytes.len() <= BLOCK {
-        return append_one::<F, A>(bytes, empty);
+    if front >= LONG_FRONT || matches!(strict_way(&bytes[front..], front), Way::Characters) {
+        return append_by_fronts::<F, A>(bytes, front, empty);
     }
     let mut text = empty;
     append(&bytes[..front], &mut text);
     append_strictly::<F, A>(&bytes[front..], text)
 }
 
-/// Appends the strict reading of the bytes of one block, by an array.
-#[inline(always)]
+/// Appends the strict reading of the bytes of one block, by an array. It is read whole, in less time
+/// than its front is copied.
+#[inline(never)]
 fn append_one<F: Flavor, A: Allocator + Copy>(
     bytes: &[u8],
     before: Vec<u8, A>,

@@ -110,7 +110,7 @@ null_utf8 f bytes found (pair w x y z digits) width_is lead =
     absurd (omega (arith, width_is, found.wide, ap length (encoding_pair f found.character w x y z digits)))
 
 -- C0 leads the null of MUTF-8.
-null_lead : (f : Flavor) (a b : ℕ) → null_at f a b ≡ true → a ≡ 0xC0
+pub null_lead : (f : Flavor) (a b : ℕ) → null_at f a b ≡ true → a ≡ 0xC0
 null_lead Cesu8 a b null = absurd (cc)
 null_lead Mutf8 a b null = eqb-true a 0xC0 (and_parts (eqb a 0xC0) (eqb b 0x80) null).0
 

@@ -1,17 +1,17 @@
 -- Characters of more than one byte, by how they are encoded at the front of bytes.
-use Rattle.std.proofs.Common.{◌≡◌, ℕ, ◌<◌, ◌≤◌, List, [], ◌∷◌, ◌++◌, refl, sym, ap, ◌∙◌, true, false, arith, length, take, drop, get_or, eqb, leb, ltb, ◌&&◌}
+use Rattle.std.proofs.Common.{◌≡◌, ℕ, ◌<◌, ◌≤◌, List, [], ◌∷◌, ◌++◌, refl, sym, ap, ◌∙◌, inl, inr, true, false, arith, length, take, drop, get_or, eqb, leb, ltb, ◌&&◌}
 use Rattle.std.proofs.lemmas.Bool.{and_parts, eqb-true, leb-true, ltb-true}
 use Rattle.cesu8_text.specs.Encoding.{Flavor, Cesu8, Mutf8}
 use Rattle.cesu8_text.specs.Reading.{NoneBegins}
-use Rattle.cesu8_bytes.specs.Pairs.{null_at, IsUtf8OfDigits, second_third_fifth_sixth}
+use Rattle.cesu8_bytes.specs.Pairs.{null_at, HasPair, IsUtf8OfDigits, second_third_fifth_sixth}
 use Rattle.cesu8_bytes.specs.TextChunks.{IsReadSoFar}
 use Rattle.cesu8_bytes.specs.declared.strictness.Strictness.{Strictness}
 use Rattle.cesu8_decode.specs.DecodedOffsets.{IsPrefixOf, one_at, two_at, three_at, continues, fits_three}
-use Rattle.cesu8_decode.specs.Forms.{HasForm, HasNoForm, form_len}
+use Rattle.cesu8_decode.specs.Forms.{HasForm, HasNoForm, BeginsChanged, form_len}
 use Rattle.cesu8_decode.specs.declared.forms.Form.{Form}
 use Rattle.cesu8_decode.specs.declared.forms.Form.TheVariants.{Pair, Null, Two, Three}
 use Rattle.cesu8_decode.proofs.by_offset.WidthTests.{two_found, three_found, pair_by_prefix, same_digits, long_by, continuation, fits_low}
-use Rattle.cesu8_decode.proofs.chunks.Characters.{kept_read, null_read, pair_read, pair_width, none_by_prefix}
+use Rattle.cesu8_decode.proofs.chunks.Characters.{kept_read, null_lead, null_read, pair_read, pair_width, none_by_prefix}
 
 take_two : (bytes : List ℕ) → 2 ≤ length bytes → take 2 bytes ≡ get_or bytes 0 0 ∷ get_or bytes 1 0 ∷ []
 take_two [] long = absurd (omega arith)
@@ -82,6 +82,21 @@ form_within f bytes prefix Two same has =
 form_within f bytes prefix Three same has =
     let third = same 2 (omega arith) in
     long_by bytes 2 (omega (arith, third, (are_three (get_or prefix 0 0) (get_or prefix 1 0) (get_or prefix 2 0) has).last.0))
+
+-- Where a character that changes begins the bytes, it is the null character if they begin with C0, and
+-- else a surrogate pair.
+pub changed_null : (f : Flavor) (bytes : List ℕ) → BeginsChanged f bytes → get_or bytes 0 0 ≡ 0xC0 →
+    null_at f (get_or bytes 0 0) (get_or bytes 1 0) ≡ true
+changed_null f bytes (inl pair) lead = absurd (omega (arith, pair.lead, lead))
+changed_null f bytes (inr null) lead = null
+
+pub changed_pair : (f : Flavor) (bytes : List ℕ) → BeginsChanged f bytes → ¬ (get_or bytes 0 0 ≡ 0xC0) → HasPair bytes
+changed_pair f bytes (inl pair) other = pair
+changed_pair f bytes (inr null) other = absurd (other (null_lead f (get_or bytes 0 0) (get_or bytes 1 0) null))
+
+-- A pair is one in a prefix of the bytes too.
+pub pair_in_prefix : (bytes prefix : List ℕ) → IsPrefixOf bytes prefix → HasPair bytes → HasPair prefix
+pair_in_prefix bytes prefix same pair = (pair_by_prefix prefix bytes (λ i small. sym (same i small)) pair).1
 
 -- They are those of the prefix.
 pub two_bytes : (bytes prefix : List ℕ) → IsPrefixOf bytes prefix → 2 ≤ length bytes → take 2 bytes ≡ get_or prefix 0 0 ∷ get_or prefix 1 0 ∷ []

@@ -71,15 +71,27 @@ module _ (f : Flavor) (bytes rest chunk : List ℕ) (read : IsChunk f Strict byt
       let found = after_text f read.text whole rest read.scalars reads.0 (reads.1 ∙ read.strict_reading refl) in
       none found.text found.reading
 
--- Where the strict reading of the rest is appended behind a chunk, that of all bytes is.
-pub appended_behind : {Z : Type 0} (f : Flavor) (bytes rest chunk : List ℕ) (before between : Vec ℕ Z) (result : Option (Vec ℕ Z)) →
-    IsChunk f Strict bytes rest chunk → between.items ≡ before.items ++ chunk → vec_capacity between ≡ vec_capacity before →
+-- What is read so far is a chunk of its own.
+chunk_of : (f : Flavor) (bytes rest old new : List ℕ) (so_far : IsReadSoFar f Strict bytes rest old new) → IsChunk f Strict bytes rest (utf8 so_far.text)
+chunk_of f bytes rest old new so_far = record {
+  text = so_far.text;
+  scalars = so_far.scalars;
+  lossy_reading = so_far.lossy_reading;
+  strict_reading = so_far.strict_reading;
+  written = refl;
+}
+
+-- Where the strict reading of the rest is appended behind what is read so far, that of all bytes is.
+pub appended_behind : {Z : Type 0} (f : Flavor) (bytes rest : List ℕ) (before between : Vec ℕ Z) (result : Option (Vec ℕ Z)) →
+    IsReadSoFar f Strict bytes rest before.items between.items → vec_capacity between ≡ vec_capacity before →
     AppendsStrictly f rest between result → AppendsStrictly f bytes before result
-appended_behind f bytes rest chunk before between None read is same appends =
-    record { text = tt; capacity = tt; none = none_before f bytes rest chunk read appends.none }
-appended_behind f bytes rest chunk before between (Some text) read is same appends = record {
-  text = more_read f Strict bytes rest [] before.items between.items text.items
-      (chunk_appended f Strict bytes rest chunk before.items between.items read is) appends.text;
+appended_behind f bytes rest before between None read same appends = record {
+  text = tt;
+  capacity = tt;
+  none = none_before f bytes rest _ (chunk_of f bytes rest before.items between.items read) appends.none;
+}
+appended_behind f bytes rest before between (Some text) read same appends = record {
+  text = more_read f Strict bytes rest [] before.items between.items text.items read appends.text;
   capacity = appends.capacity ∙ same;
   none = tt;
 }
@@ -100,6 +112,13 @@ module _ (f : Flavor) (bytes : List ℕ) (n : ℕ) (front : IsFront Unchanged f 
   -- If it is of all bytes, nothing changes in them.
   pub front_of_all : length bytes ≤ n → IsUnchangedUtf8 f bytes
   front_of_all all = subst (IsUnchangedUtf8 f) (take_all n bytes all) (front_unchanged f bytes n front)
+
+  -- The front is appended behind what is read so far.
+  pub front_appended : (whole before old new : List ℕ) → IsReadSoFar f Strict whole bytes before old → new ≡ old ++ take n bytes →
+      IsReadSoFar f Strict whole (drop n bytes) before new
+  front_appended whole before old new so_far is =
+      more_read f Strict whole bytes (drop n bytes) before old new so_far
+      (chunk_appended f Strict bytes (drop n bytes) (take n bytes) old new (unchanged_front_chunk f bytes n front Strict) is)
 
   -- Bytes with more have no strict reading where neither begins behind the front.
   pub unless_begun : ¬ (BeginsChanged f (drop n bytes)) → n < length bytes → HasNoStrictReading f bytes
