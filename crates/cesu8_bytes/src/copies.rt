@@ -5,7 +5,7 @@ ghost use Rattle.std.specs.String.{string_bytes, string_capacity};
 ghost use Rattle.cesu8_bytes.specs.Puts.{Appends};
 
 use crate::implementation::class::LANES;
-use std::alloc::{AllocError, Allocator};
+use std::alloc::{AllocError, Global};
 use std::mem;
 use std::simd::prelude::*;
 
@@ -18,7 +18,7 @@ const NARROW: usize = 4;
 /// Appends bytes to a buffer with enough capacity. Short values have two widths of vectors alone,
 /// since a processor mostly guesses wrong which of many a length has.
 #[inline(always)]
-pub fn append<A: Allocator + Copy>(bytes: &[u8], out: &mut Vec<u8, A>)
+pub fn append(bytes: &[u8], out: &mut Vec<u8>)
     requires { vec_len out.old + length bytes.now ≤ vec_capacity out.old }
     ensures { Appends bytes.now out.old out.new }
 {
@@ -26,20 +26,37 @@ pub fn append<A: Allocator + Copy>(bytes: &[u8], out: &mut Vec<u8, A>)
     // written would store it.
     let mut taken = mem::replace(out, Vec::new(*out.allocator()));
     if bytes.len() > 4 * WIDE {
-        append_each(bytes, &mut taken);
+        append_many(bytes, &mut taken);
     } else if bytes.len() > WIDE {
-        append_four::<A, WIDE>(bytes, &mut taken);
+        append_four::<WIDE>(bytes, &mut taken);
     } else if bytes.len() >= NARROW {
-        append_four::<A, NARROW>(bytes, &mut taken);
+        append_four::<NARROW>(bytes, &mut taken);
     } else {
         append_each(bytes, &mut taken);
     }
     *out = taken;
 }
 
+/// Appends 64 bytes or more by vectors in turn, the last of which overlaps where needed.
+#[inline(always)]
+fn append_many(bytes: &[u8], out: &mut Vec<u8>)
+    requires lanes { LANES ≤ length bytes.now }
+    requires room { vec_len out.old + length bytes.now ≤ vec_capacity out.old }
+    ensures { Appends bytes.now out.old out.new }
+{
+    let start = out.len();
+    let last = bytes.len() - LANES;
+    let mut at = 0;
+    while at < last {
+        append_at::<LANES>(bytes, at, start, out);
+        at += LANES;
+    }
+    append_at::<LANES>(bytes, last, start, out);
+}
+
 /// Appends `N` to `4 * N` bytes, by four vectors that overlap where needed.
 #[inline(always)]
-fn append_four<A: Allocator, const N: usize>(bytes: &[u8], out: &mut Vec<u8, A>)
+fn append_four<const N: usize>(bytes: &[u8], out: &mut Vec<u8>)
     requires lanes { (N ≤ LANES) × (N ≤ length bytes.now) × (length bytes.now ≤ 4 * N) }
     requires room { vec_len out.old + length bytes.now ≤ vec_capacity out.old }
     ensures { Appends bytes.now out.old out.new }
@@ -47,21 +64,16 @@ fn append_four<A: Allocator, const N: usize>(bytes: &[u8], out: &mut Vec<u8, A>)
     let start = out.len();
     let last = bytes.len() - N;
     let step = last.min(N);
-    append_at::<A, N>(bytes, 0, start, out);
-    append_at::<A, N>(bytes, step, start, out);
-    append_at::<A, N>(bytes, last - step, start, out);
-    append_at::<A, N>(bytes, last, start, out);
+    append_at::<N>(bytes, 0, start, out);
+    append_at::<N>(bytes, step, start, out);
+    append_at::<N>(bytes, last - step, start, out);
+    append_at::<N>(bytes, last, start, out);
 }
 
 /// Appends the `N` bytes at an offset, in place of what was appended behind it. Those before it
 /// were appended from the index `start` on.
 #[inline(always)]
-fn append_at<A: Allocator, const N: usize>(
-    bytes: &[u8],
-    at: usize,
-    start: usize,
-    out: &mut Vec<u8, A>,
-)
+fn append_at<const N: usize>(bytes: &[u8], at: usize, start: usize, out: &mut Vec<u8>)
     requires lanes { (N ≤ LANES) × (at + N ≤ length bytes.now) }
     requires before { start + at ≤ vec_len out.old }
     requires room { start + at + N ≤ vec_capacity out.old }
@@ -76,10 +88,10 @@ fn append_at<A: Allocator, const N: usize>(
     append_each(&lanes.to_array(), out);
 }
 
-/// Appends bytes one by one, which is compiled to one call of `memcpy`, or for an array to a vector
-/// that is stored.
+/// Appends bytes one by one. That is compiled to a call of `memcpy` where the buffer is known to be
+/// apart from the bytes, as a new one is, and for an array to a vector that is stored.
 #[inline(always)]
-fn append_each<A: Allocator>(bytes: &[u8], out: &mut Vec<u8, A>)
+fn append_each(bytes: &[u8], out: &mut Vec<u8>)
     requires { vec_len out.old + length bytes.now ≤ vec_capacity out.old }
     ensures { Appends bytes.now out.old out.new }
 {
@@ -89,7 +101,7 @@ fn append_each<A: Allocator>(bytes: &[u8], out: &mut Vec<u8, A>)
 }
 
 /// Returns a copy of some bytes, after one request for their length.
-pub fn copy<A: Allocator + Copy>(alloc: A, bytes: &[u8]) -> Result<Vec<u8, A>, AllocError>
+pub fn copy(alloc: Global, bytes: &[u8]) -> Result<Vec<u8>, AllocError>
     ensures bytes { IfOk result (λ copied. copied.items ≡ bytes.now) }
     ensures capacity { IfOk result (λ copied. vec_capacity copied ≡ length bytes.now) }
     ensures empty { bytes.now ≡ [] → IsOk result }
@@ -100,7 +112,7 @@ pub fn copy<A: Allocator + Copy>(alloc: A, bytes: &[u8]) -> Result<Vec<u8, A>, A
 }
 
 /// Returns a copy of a text, after one request for its length.
-pub fn copy_text<A: Allocator>(alloc: A, text: &str) -> Result<String<A>, AllocError>
+pub fn copy_text(alloc: Global, text: &str) -> Result<String, AllocError>
     ensures text { IfOk result (λ copied. string_bytes copied ≡ text.now) }
     ensures capacity { IfOk result (λ copied. string_capacity copied ≡ length text.now) }
     ensures empty { text.now ≡ [] → IsOk result }
@@ -116,7 +128,7 @@ pub fn copy_text<A: Allocator>(alloc: A, text: &str) -> Result<String<A>, AllocE
 
 /// Returns the text, whose capacity must be what was requested. All of it fitted, so the capacity
 /// has not grown; std's contracts leave that open, and this one does not.
-fn exactly<A: Allocator>(text: String<A>, capacity: usize) -> Result<String<A>, AllocError>
+fn exactly(text: String, capacity: usize) -> Result<String, AllocError>
     ensures text { IfOk result (λ exact. string_bytes exact ≡ string_bytes text) }
     ensures capacity { IfOk result (λ exact. string_capacity exact ≡ capacity) }
 {

@@ -3,12 +3,11 @@
 ghost use Rattle.std.specs.Prelude.{◌+◌, ◌≤◌, replicate, vec_len, vec_capacity};
 ghost use Rattle.cesu8_bytes.specs.Puts.{Appends};
 
-use std::alloc::Allocator;
 use std::mem;
 
 /// Appends so many zeros to a buffer with enough capacity.
 #[inline(always)]
-pub fn append_zeros<A: Allocator + Copy>(count: usize, out: &mut Vec<u8, A>)
+pub fn append_zeros(count: usize, out: &mut Vec<u8>)
     requires { vec_len out.old + count ≤ vec_capacity out.old }
     ensures { Appends (replicate count 0) out.old out.new }
 {

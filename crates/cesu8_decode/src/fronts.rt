@@ -16,7 +16,6 @@ use super::in_place::append_strictly;
 use cesu8_bytes::copies::append;
 use cesu8_bytes::flavor::Flavor;
 use cesu8_bytes::pairs::{PAIR, PAIR_READ, utf8_of_pair};
-use std::alloc::Allocator;
 
 /// The least front behind which another is looked for. Where the characters that change stand closer
 /// together, blocks take less time.
@@ -25,36 +24,36 @@ pub const LONG_FRONT: usize = 16;
 /// Appends the strict reading of bytes, of which so many at the front are whole characters that are the
 /// same in UTF-8.
 #[inline(always)]
-pub fn append_by_fronts<F: Flavor, A: Allocator + Copy>(
+pub fn append_by_fronts<F: Flavor>(
     bytes: &[u8],
     len: usize,
-    before: Vec<u8, A>,
-) -> Option<Vec<u8, A>>
+    before: Vec<u8>,
+) -> Option<Vec<u8>>
     requires front { IsFront AllUnchanged F.flavor bytes.now len }
     requires room { vec_len before + length bytes.now ≤ vec_capacity before }
     ensures { AppendsStrictly F.flavor bytes.now before result }
 {
     let mut text = before;
-    let mut rest = append_to_next::<F, A>(bytes, len, &mut text);
+    let mut rest = append_to_next::<F>(bytes, len, &mut text);
     let mut len = front::<F, Unchanged>(rest);
     while LONG_FRONT <= len && len < rest.len() {
-        rest = append_to_next::<F, A>(rest, len, &mut text);
+        rest = append_to_next::<F>(rest, len, &mut text);
         len = front::<F, Unchanged>(rest);
     }
     append(&rest[..len], &mut text);
     if len == rest.len() {
         return Some(text);
     }
-    append_strictly::<F, A>(&rest[len..], text)
+    append_strictly::<F>(&rest[len..], text)
 }
 
 /// Appends the front, and the characters behind it that change, in UTF-8. Returns the bytes behind
 /// these.
 #[inline(always)]
-fn append_to_next<'a, F: Flavor, A: Allocator + Copy>(
+fn append_to_next<'a, F: Flavor>(
     bytes: &'a [u8],
     len: usize,
-    out: &mut Vec<u8, A>,
+    out: &mut Vec<u8>,
 ) -> &'a [u8]
     requires front { IsFront AllUnchanged F.flavor bytes.now len }
     requires room { vec_len out.old + length bytes.now ≤ vec_capacity out.old }
@@ -66,16 +65,16 @@ fn append_to_next<'a, F: Flavor, A: Allocator + Copy>(
     append(&bytes[..len], out);
     let mut rest = &bytes[len..];
     while begins_changed::<F>(rest) {
-        rest = append_changed::<F, A>(rest, out);
+        rest = append_changed::<F>(rest, out);
     }
     rest
 }
 
 /// Appends the character that begins the bytes, in UTF-8, and returns the bytes behind it.
 #[inline(always)]
-fn append_changed<'a, F: Flavor, A: Allocator + Copy>(
+fn append_changed<'a, F: Flavor>(
     bytes: &'a [u8],
-    out: &mut Vec<u8, A>,
+    out: &mut Vec<u8>,
 ) -> &'a [u8]
     requires begins { BeginsChanged F.flavor bytes.now }
     requires room { vec_len out.old + length bytes.now ≤ vec_capacity out.old }

@@ -24,7 +24,6 @@ use cesu8_bytes::pairs::{PAIR, PAIR_READ, is_pair, utf8_of_pair};
 use cesu8_bytes::put::put;
 use cesu8_bytes::strictness::Strictness;
 use cesu8_bytes::zeros::append_zeros;
-use std::alloc::Allocator;
 
 // The lengths of buffers for the lossy reading of so many bytes.
 pub const SHORT_TEXT: usize = WIDEST * SHORT_WINDOW + SPARE;
@@ -37,10 +36,7 @@ const CLEARED_AT_ONCE: usize = 4096;
 
 /// Appends the strict reading of the bytes to a vector that has capacity for as many.
 #[inline(never)]
-pub fn append_strictly<F: Flavor, A: Allocator + Copy>(
-    bytes: &[u8],
-    before: Vec<u8, A>,
-) -> Option<Vec<u8, A>>
+pub fn append_strictly<F: Flavor>(bytes: &[u8], before: Vec<u8>) -> Option<Vec<u8>>
     requires { vec_len before + length bytes.now ≤ vec_capacity before }
     ensures { AppendsStrictly F.flavor bytes.now before result }
 {

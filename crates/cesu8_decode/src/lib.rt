@@ -57,16 +57,16 @@ use crate::refusal::Refusal;
 use cesu8_bytes::flavor::Flavor;
 use cesu8_bytes::utf8::known_string;
 pub use lengths::{decoded_len, lossy_len};
-use std::alloc::{AllocError, Allocator};
+use std::alloc::{AllocError, Global};
 use strings::{build_lossily, write_strictly};
 
 /// Returns the strict reading of bytes, after one request for their length. So many at the front, but
 /// not all, are whole characters that are the same in UTF-8.
-pub fn decode_strict<F: Flavor, A: Allocator + Copy>(
-    alloc: A,
+pub fn decode_strict<F: Flavor>(
+    alloc: Global,
     bytes: &[u8],
     front: usize,
-) -> Result<String<A>, Refusal>
+) -> Result<String, Refusal>
     requires { IsFront AllUnchanged F.flavor bytes.now front × (front < length bytes.now) }
     ensures text { IfOk result (λ text.
         IsStrictReading F.flavor bytes.now (chars (string_bytes text))) }
@@ -74,7 +74,7 @@ pub fn decode_strict<F: Flavor, A: Allocator + Copy>(
     ensures invalid { OnNoText result (HasNoStrictReading F.flavor bytes.now) }
 {
     let empty = Vec::with_capacity(alloc, bytes.len()).map_err(Refusal::Memory)?;
-    match write_strictly::<F, A>(bytes, front, empty) {
+    match write_strictly::<F>(bytes, front, empty) {
         Some(text) => Ok(known_string(text)),
         None => Err(Refusal::NoText),
     }
@@ -84,15 +84,12 @@ pub fn decode_strict<F: Flavor, A: Allocator + Copy>(
 /// fit counts as refused. That of a few bytes, or of the first window of many, is decoded on the
 /// stack before that, so that it needs no pass for the length.
 #[inline(never)]
-pub fn decode_lossy<F: Flavor, A: Allocator + Copy>(
-    alloc: A,
-    bytes: &[u8],
-) -> Result<String<A>, AllocError>
+pub fn decode_lossy<F: Flavor>(alloc: Global, bytes: &[u8]) -> Result<String, AllocError>
     ensures text { IfOk result (λ text.
         chars (string_bytes text) ≡ reading F.flavor bytes.now) }
     ensures capacity { IfOk result (λ text.
         string_capacity text ≡ lossy_length F.flavor bytes.now) }
 {
-    let text = build_lossily::<F, A>(alloc, bytes)?;
+    let text = build_lossily::<F>(alloc, bytes)?;
     Ok(known_string(text))
 }

@@ -25,16 +25,12 @@ use cesu8_bytes::BLOCK;
 use cesu8_bytes::copies::{append, copy};
 use cesu8_bytes::flavor::Flavor;
 use cesu8_bytes::strictness::Strictness;
-use std::alloc::{AllocError, Allocator};
+use std::alloc::{AllocError, Global};
 
 /// Writes the strict reading of bytes to an empty vector that has capacity for as many. So many at the
 /// front, but not all, are whole characters that are the same in UTF-8.
 #[inline(always)]
-pub fn write_strictly<F: Flavor, A: Allocator + Copy>(
-    bytes: &[u8],
-    front: usize,
-    empty: Vec<u8, A>,
-) -> Option<Vec<u8, A>>
+pub fn write_strictly<F: Flavor>(bytes: &[u8], front: usize, empty: Vec<u8>) -> Option<Vec<u8>>
     requires front { IsFront Unchanged F.flavor bytes.now front × (front < length bytes.now) }
     requires empty { (empty.items ≡ []) × (length bytes.now ≤ vec_capacity empty) }
     ensures { AppendsStrictly F.flavor bytes.now empty result }
@@ -44,41 +40,34 @@ pub fn write_strictly<F: Flavor, A: Allocator + Copy>(
         return None;
     }
     if bytes.len() > BLOCK {
-        return write_many::<F, A>(bytes, front, empty);
+        return write_many::<F>(bytes, front, empty);
     }
     match strict_way(rest, front) {
-        Way::Characters => write_few::<F, A>(bytes, front, empty),
+        Way::Characters => write_few::<F>(bytes, front, empty),
         Way::OneBlock | Way::ShortWindow | Way::LongWindow | Way::Chunks => {
-            append_one::<F, A>(bytes, empty)
+            append_one::<F>(bytes, empty)
         }
     }
 }
 
 /// Returns the lossy reading of the bytes, after one request for its length.
 #[inline(always)]
-pub fn build_lossily<F: Flavor, A: Allocator + Copy>(
-    alloc: A,
-    bytes: &[u8],
-) -> Result<Vec<u8, A>, AllocError>
+pub fn build_lossily<F: Flavor>(alloc: Global, bytes: &[u8]) -> Result<Vec<u8>, AllocError>
     ensures { BuildsReading F.flavor bytes.now result }
 {
     match way_of(bytes) {
-        Way::OneBlock => build_one::<F, A>(alloc, bytes),
-        Way::Characters => build_characters::<F, A>(alloc, bytes),
-        Way::ShortWindow => build_window::<F, SHORT_TEXT, A>(alloc, bytes),
-        Way::LongWindow => build_window::<F, LONG_TEXT, A>(alloc, bytes),
-        Way::Chunks => build_chunks::<F, A>(alloc, bytes),
+        Way::OneBlock => build_one::<F>(alloc, bytes),
+        Way::Characters => build_characters::<F>(alloc, bytes),
+        Way::ShortWindow => build_window::<F, SHORT_TEXT>(alloc, bytes),
+        Way::LongWindow => build_window::<F, LONG_TEXT>(alloc, bytes),
+        Way::Chunks => build_chunks::<F>(alloc, bytes),
     }
 }
 
 /// Writes the front as it is, and the strict reading of a few bytes behind it, one character after
 /// another.
 #[inline(never)]
-fn write_few<F: Flavor, A: Allocator + Copy>(
-    bytes: &[u8],
-    front: usize,
-    empty: Vec<u8, A>,
-) -> Option<Vec<u8, A>>
+fn write_few<F: Flavor>(bytes: &[u8], front: usize, empty: Vec<u8>) -> Option<Vec<u8>>
     requires front { IsFront Unchanged F.flavor bytes.now front }
     requires empty { (empty.items ≡ []) × (length bytes.now ≤ vec_capacity empty) }
     ensures { AppendsStrictly F.flavor bytes.now empty result }
@@ -97,30 +86,26 @@ fn write_few<F: Flavor, A: Allocator + Copy>(
 /// Writes the front as it is, and the strict reading of the bytes behind it: from one character that
 /// changes to the next where they seem to stand far apart, and else block by block.
 #[inline(never)]
-fn write_many<F: Flavor, A: Allocator + Copy>(
-    bytes: &[u8],
-    front: usize,
-    empty: Vec<u8, A>,
-) -> Option<Vec<u8, A>>
+fn write_many<F: Flavor>(bytes: &[u8], front: usize, empty: Vec<u8>) -> Option<Vec<u8>>
     requires front { IsFront Unchanged F.flavor bytes.now front }
     requires empty { (empty.items ≡ []) × (length bytes.now ≤ vec_capacity empty) }
     ensures { AppendsStrictly F.flavor bytes.now empty result }
 {
     if front >= LONG_FRONT || matches!(strict_way(&bytes[front..], front), Way::Characters) {
-        return append_by_fronts::<F, A>(bytes, front, empty);
+        return append_by_fronts::<F>(bytes, front, empty);
     }
     let mut text = empty;
     append(&bytes[..front], &mut text);
-    append_strictly::<F, A>(&bytes[front..], text)
+    append_strictly::<F>(&bytes[front..], text)
 }
 
 /// Appends the strict reading of the bytes of one block, by an array. It is read whole, in less time
 /// than its front is copied.
 #[inline(never)]
-fn append_one<F: Flavor, A: Allocator + Copy>(
+fn append_one<F: Flavor>(
     bytes: &[u8],
-    before: Vec<u8, A>,
-) -> Option<Vec<u8, A>>
+    before: Vec<u8>,
+) -> Option<Vec<u8>>
     requires bytes { length bytes.now ≤ BLOCK }
     requires room { vec_len before + length bytes.now ≤ vec_capacity before }
     ensures { AppendsStrictly F.flavor bytes.now before result }
@@ -137,7 +122,7 @@ fn append_one<F: Flavor, A: Allocator + Copy>(
 
 /// Appends the lossy reading of the bytes chunk by chunk.
 #[inline(never)]
-fn append_chunks<F: Flavor, A: Allocator + Copy>(bytes: &[u8], before: Vec<u8, A>) -> Vec<u8, A>
+fn append_chunks<F: Flavor>(bytes: &[u8], before: Vec<u8>) -> Vec<u8>
     requires { vec_len before + lossy_length F.flavor bytes.now ≤ vec_capacity before }
     ensures text { IsReadSoFar F.flavor Lossy bytes.now [] before.items result.items }
     ensures capacity { vec_capacity result ≡ vec_capacity before }
@@ -155,10 +140,7 @@ fn append_chunks<F: Flavor, A: Allocator + Copy>(bytes: &[u8], before: Vec<u8, A
 
 /// Returns the lossy reading of the bytes of one block, by an array.
 #[inline(never)]
-fn build_one<F: Flavor, A: Allocator + Copy>(
-    alloc: A,
-    bytes: &[u8],
-) -> Result<Vec<u8, A>, AllocError>
+fn build_one<F: Flavor>(alloc: Global, bytes: &[u8]) -> Result<Vec<u8>, AllocError>
     requires { length bytes.now ≤ BLOCK }
     ensures { BuildsReading F.flavor bytes.now result }
 {
@@ -169,10 +151,7 @@ fn build_one<F: Flavor, A: Allocator + Copy>(
 
 /// Returns the lossy reading of a few bytes, read one character after another to an array.
 #[inline(never)]
-fn build_characters<F: Flavor, A: Allocator + Copy>(
-    alloc: A,
-    bytes: &[u8],
-) -> Result<Vec<u8, A>, AllocError>
+fn build_characters<F: Flavor>(alloc: Global, bytes: &[u8]) -> Result<Vec<u8>, AllocError>
     requires { length bytes.now ≤ FEW_BYTES }
     ensures { BuildsReading F.flavor bytes.now result }
 {
@@ -183,10 +162,10 @@ fn build_characters<F: Flavor, A: Allocator + Copy>(
 
 /// Returns the lossy reading of the bytes of one window, decoded to an array of this length.
 #[inline(never)]
-fn build_window<F: Flavor, const WRITTEN: usize, A: Allocator + Copy>(
-    alloc: A,
+fn build_window<F: Flavor, const WRITTEN: usize>(
+    alloc: Global,
     bytes: &[u8],
-) -> Result<Vec<u8, A>, AllocError>
+) -> Result<Vec<u8>, AllocError>
     requires { (room_for Lossy (length bytes.now) ≤ WRITTEN) × (WRITTEN ≤ LONG_TEXT) }
     ensures { BuildsReading F.flavor bytes.now result }
 {
@@ -198,10 +177,7 @@ fn build_window<F: Flavor, const WRITTEN: usize, A: Allocator + Copy>(
 /// Returns the lossy reading of more bytes. The first of them are decoded on the stack before the
 /// request, so that they need no pass for the length. A length that does not fit counts as refused.
 #[inline(never)]
-fn build_chunks<F: Flavor, A: Allocator + Copy>(
-    alloc: A,
-    bytes: &[u8],
-) -> Result<Vec<u8, A>, AllocError>
+fn build_chunks<F: Flavor>(alloc: Global, bytes: &[u8]) -> Result<Vec<u8>, AllocError>
     ensures { BuildsReading F.flavor bytes.now result }
 {
     let mut written = [0; LONG_TEXT];
@@ -215,5 +191,5 @@ fn build_chunks<F: Flavor, A: Allocator + Copy>(
     };
     let mut first = Vec::with_capacity(alloc, len)?;
     append(&written[..decoded.end], &mut first);
-    Ok(append_chunks::<F, A>(rest, first))
+    Ok(append_chunks::<F>(rest, first))
 }

@@ -41,7 +41,7 @@ use cesu8_bytes::copies::{append, copy};
 use cesu8_bytes::flavor::Flavor;
 use cesu8_bytes::lengths::encoded_len;
 use cesu8_bytes::zeros::append_zeros;
-use std::alloc::{AllocError, Allocator};
+use std::alloc::{AllocError, Global};
 
 /// The most bytes that the encoding of any text has that goes to the stack.
 const ON_STACK_ENCODED: usize = 2 * ON_STACK;
@@ -50,28 +50,25 @@ const ON_STACK_ENCODED: usize = 2 * ON_STACK;
 /// text that is borrowed then uses no stack. The two functions below are, so that the length is
 /// compared once.
 #[inline(never)]
-pub fn encode<F: Flavor, A: Allocator + Copy>(
-    alloc: A,
-    text: &str,
-) -> Result<Vec<u8, A>, AllocError>
+pub fn encode<F: Flavor>(alloc: Global, text: &str) -> Result<Vec<u8>, AllocError>
     ensures { BuildsEncoding F.flavor text.now result }
 {
     if is_block(text) {
-        return encode_on_stack::<F, A, BLOCK_ENCODED>(alloc, text);
+        return encode_on_stack::<F, BLOCK_ENCODED>(alloc, text);
     }
     if is_for_stack(text) {
-        return encode_on_stack::<F, A, ON_STACK_ENCODED>(alloc, text);
+        return encode_on_stack::<F, ON_STACK_ENCODED>(alloc, text);
     }
-    encode_in_place::<F, A>(alloc, text)
+    encode_in_place::<F>(alloc, text)
 }
 
 /// Encodes a text to an array of this length on the stack, and returns a copy.
 #[inline(always)]
 #[tactic(auto, using(cesu8_text::proofs::encoding::Lengths::length_encoding_chars))]
-fn encode_on_stack<F: Flavor, A: Allocator + Copy, const N: usize>(
-    alloc: A,
+fn encode_on_stack<F: Flavor, const N: usize>(
+    alloc: Global,
     text: &str,
-) -> Result<Vec<u8, A>, AllocError>
+) -> Result<Vec<u8>, AllocError>
     requires { (2 * length text.now ≤ N) × (N ≤ ON_STACK_ENCODED) }
     ensures { BuildsEncoding F.flavor text.now result }
 {
@@ -82,26 +79,19 @@ fn encode_on_stack<F: Flavor, A: Allocator + Copy, const N: usize>(
 
 /// Counts the encoding, and writes it where it stays.
 #[inline(always)]
-fn encode_in_place<F: Flavor, A: Allocator + Copy>(
-    alloc: A,
-    text: &str,
-) -> Result<Vec<u8, A>, AllocError>
+fn encode_in_place<F: Flavor>(alloc: Global, text: &str) -> Result<Vec<u8>, AllocError>
     ensures { BuildsEncoding F.flavor text.now result }
 {
     let len = encoded_len::<F>(text);
     let mut encoded = Vec::with_capacity(alloc, len)?;
-    append_changed::<F, A>(text, len, &mut encoded);
+    append_changed::<F>(text, len, &mut encoded);
     Ok(encoded)
 }
 
 /// Appends the encoding of a text, which has this length. It makes one request if the capacity is
 /// too small.
 #[tactic(auto, using(cesu8_text::proofs::encoding::NeedsEncoding::encoding_as_long))]
-pub fn encode_into<F: Flavor, A: Allocator + Copy>(
-    text: &str,
-    len: usize,
-    out: &mut Vec<u8, A>,
-) -> Result<(), AllocError>
+pub fn encode_into<F: Flavor>(text: &str, len: usize, out: &mut Vec<u8>) -> Result<(), AllocError>
     requires { len ≡ length (encoding F.flavor (chars text.now)) }
     ensures { AppendsEncoding F.flavor text.now result out.old out.new }
 {
@@ -110,13 +100,13 @@ pub fn encode_into<F: Flavor, A: Allocator + Copy>(
         // An encoding that differs from the UTF-8 is longer.
         append(text.as_bytes(), out);
     } else {
-        append_changed::<F, A>(text, len, out);
+        append_changed::<F>(text, len, out);
     }
     Ok(())
 }
 
 /// Reserves capacity for so many bytes more, by one request if the buffer has too little.
-fn make_room<A: Allocator>(len: usize, out: &mut Vec<u8, A>) -> Result<(), AllocError>
+fn make_room(len: usize, out: &mut Vec<u8>) -> Result<(), AllocError>
     ensures items { out.new.items ≡ out.old.items }
     ensures ok { OnOk result (vec_len out.new + len ≤ vec_capacity out.new) }
     ensures err { OnErr result (vec_capacity out.new ≡ vec_capacity out.old) }
@@ -134,7 +124,7 @@ fn make_room<A: Allocator>(len: usize, out: &mut Vec<u8, A>) -> Result<(), Alloc
 /// Appends the encoding of a text, which has this length, to a buffer with enough capacity.
 #[inline(always)]
 #[tactic(auto, using(crate::proofs::encoder::EncodedLengths::no_shorter))]
-fn append_changed<F: Flavor, A: Allocator + Copy>(text: &str, len: usize, out: &mut Vec<u8, A>)
+fn append_changed<F: Flavor>(text: &str, len: usize, out: &mut Vec<u8>)
     requires len { len ≡ length (encoding F.flavor (chars text.now)) }
     requires room { vec_len out.old + len ≤ vec_capacity out.old }
     ensures { Appends (encoding F.flavor (chars text.now)) out.old out.new }

@@ -26,7 +26,7 @@ pub fn encode<F: Flavor>(alloc: Global, value: &str) -> Result<CowBytes<'_>, All
     if !needs_encoded::<F>(value) {
         return Ok(CowBytes::Borrowed(value.as_bytes()));
     }
-    let encoded = internal::encode::<F, Global>(alloc, value)?;
+    let encoded = internal::encode::<F>(alloc, value)?;
     Ok(CowBytes::Owned(encoded))
 }
 
@@ -161,6 +161,6 @@ fn decode_lossy_other<F: Flavor, A: Accepts>(
     if A::is_kept::<F>(bytes, front) {
         return Ok(CowText::Borrowed(known_text(bytes)));
     }
-    let built = internal::decode_lossy::<F, Global>(alloc, bytes)?;
+    let built = internal::decode_lossy::<F>(alloc, bytes)?;
     Ok(CowText::Owned(built))
 }

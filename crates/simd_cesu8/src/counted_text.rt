@@ -75,8 +75,8 @@ impl<'a> CountedText<'a> {
         ensures grows { vec_capacity buf.old ≤ vec_capacity buf.new }
     {
         match self.flavor {
-            Flavor::Cesu8 => encode_into::<Cesu8Flavor, Global>(self.text, self.len, buf),
-            Flavor::Mutf8 => encode_into::<Mutf8Flavor, Global>(self.text, self.len, buf),
+            Flavor::Cesu8 => encode_into::<Cesu8Flavor>(self.text, self.len, buf),
+            Flavor::Mutf8 => encode_into::<Mutf8Flavor>(self.text, self.len, buf),
         }
     }
 }

@@ -48,7 +48,7 @@ pub fn decode_strict<F: Flavor>(
     ensures capacity { IfOk result (λ text. string_capacity text ≡ length bytes.now) }
     ensures invalid { OnInvalid result (HasNoStrictReading F.flavor bytes.now) }
 {
-    match cesu8_decode::decode_strict::<F, Global>(alloc, bytes, front) {
+    match cesu8_decode::decode_strict::<F>(alloc, bytes, front) {
         Ok(text) => Ok(text),
         Err(refusal) => Err(fault(refusal)),
     }

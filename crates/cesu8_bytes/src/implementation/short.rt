@@ -75,10 +75,28 @@ pub fn copy_short(bytes: &[u8], buf: &mut [u8])
     ensures { buf.new ≡ bytes.now ++ drop (length bytes.now) buf.old }
 {
     if bytes.len() > LANES {
-        buf[..bytes.len()].copy_from_slice(bytes);
+        copy_many(bytes, buf);
     } else {
         by_two_vectors!(bytes, copy_ends[](bytes, buf), ());
     }
+}
+
+/// Copies 64 bytes or more by vectors in turn, the last of which overlaps where needed. A copy of all
+/// is compiled to a loop over bytes where the two may overlap, for all that the compiler knows.
+#[inline(always)]
+fn copy_many(bytes: &[u8], buf: &mut [u8])
+    requires lanes { LANES ≤ length bytes.now }
+    requires room { length bytes.now ≤ length buf.old }
+    ensures { buf.new ≡ bytes.now ++ drop (length bytes.now) buf.old }
+{
+    let last = bytes.len() - LANES;
+    let mut at = 0;
+    while at < last {
+        let lanes: Simd<u8, LANES> = Simd::from_slice(&bytes[at..]);
+        lanes.copy_to_slice(&mut buf[at..]);
+        at += LANES;
+    }
+    end_vector::<LANES>(bytes).copy_to_slice(&mut buf[last..]);
 }
 
 /// Copies by a vector at the front and one at the end, which together cover all.

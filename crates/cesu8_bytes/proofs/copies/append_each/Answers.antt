@@ -3,7 +3,7 @@ use Rattle.std.proofs.lemmas.List.{take_more}
 use Rattle.cesu8_bytes.proofs.copies.append_each.Goals as goal
 
 pub loop-byte-preserved : goal.loop-byte-preserved
-loop-byte-preserved g c =
+loop-byte-preserved c =
     let inv = c.loop-byte.invariant in
     let pushed = c.push_reserved.ensures in
     record {

@@ -3,7 +3,7 @@ use Rattle.std.proofs.lemmas.List.{replicate_more}
 use Rattle.cesu8_bytes.proofs.zeros.append_zeros.Goals as goal
 
 pub loop-preserved : goal.loop-preserved
-loop-preserved g c =
+loop-preserved c =
     let inv = c.loop.invariant in
     let pushed = c.push_reserved.ensures in
     record {
