@@ -7,6 +7,7 @@ ghost use Rattle.std.specs.Prelude.{◌≡◌, ◌≤◌, ◌<◌, ◌+◌, ◌*
 ghost use Rattle.cesu8_bytes.specs.Kernels.{AnyIn};
 
 use super::class::{InVectors, LANES, bits, has};
+use crate::put::put_lanes;
 use std::simd::prelude::*;
 
 /// Calls a function at the greatest width of which two vectors cover at most 64 bytes, or returns
@@ -93,10 +94,9 @@ fn copy_many(bytes: &[u8], buf: &mut [u8])
     let mut at = 0;
     while at < last {
         let lanes: Simd<u8, LANES> = Simd::from_slice(&bytes[at..]);
-        lanes.copy_to_slice(&mut buf[at..]);
-        at += LANES;
+        at = put_lanes(lanes, buf, at);
     }
-    end_vector::<LANES>(bytes).copy_to_slice(&mut buf[last..]);
+    put_lanes(end_vector::<LANES>(bytes), buf, last);
 }
 
 /// Copies by a vector at the front and one at the end, which together cover all.
