@@ -4,7 +4,7 @@
 //! Vectors find the first byte that may not follow those before it. The front ends there, or at the
 //! last boundary before, if a character begins that the byte cuts off.
 
-ghost use Rattle.std.specs.Prelude.{◌≡◌, ℕ, ◌+◌, ◌-◌, ◌<◌, ◌≤◌, true, length, slice_index};
+ghost use Rattle.std.specs.Prelude.{◌≡◌, ℕ, ◌+◌, ◌-◌, ◌<◌, ◌≤◌, true, length, slice_index, IfOk, IfErr};
 ghost use Rattle.cesu8_text.specs.Fronts.{IsValidUpTo};
 ghost use Rattle.cesu8_decode.specs.Following.{FirstFollow, FollowUpTo, Encoded as AllEncoded, after_fillers, crosses_at, is_high_surrogate};
 ghost use Rattle.cesu8_decode.specs.Front.{IsFront};
@@ -69,26 +69,27 @@ fn following_many<F: Flavor, S: CharacterSet>(bytes: &[u8]) -> usize
     requires { BLOCK < length bytes.now }
     ensures { FollowUpTo S.set F.flavor bytes.now result }
 {
-    let start = following_first::<F, S>(bytes);
-    if start < BLOCK {
-        return start;
+    match following_first::<F, S>(bytes) {
+        Ok(start) => following_last::<F, S>(bytes, following_twos::<F, S>(bytes, start)),
+        Err(stop) => stop,
     }
-    following_last::<F, S>(bytes, following_twos::<F, S>(bytes, start))
 }
 
-/// Returns how many bytes at the front are ASCII that stays, in whole groups, or else how many of the
-/// first block may follow those before them.
+/// Returns how many bytes at the front are ASCII that stays, in whole groups, or else one block, if its
+/// bytes may follow those before them. If not, it fails with how many may.
 #[inline(always)]
-fn following_first<F: Flavor, S: CharacterSet>(bytes: &[u8]) -> usize
+fn following_first<F: Flavor, S: CharacterSet>(bytes: &[u8]) -> Result<usize, usize>
     requires { BLOCK < length bytes.now }
-    ensures follow { FirstFollow S.set F.flavor bytes.now result }
-    ensures stops { result < BLOCK → FollowUpTo S.set F.flavor bytes.now result }
+    ensures follow { IfOk result (λ start.
+        FirstFollow S.set F.flavor bytes.now start × (BLOCK ≤ start)) }
+    ensures stops { IfErr result (FollowUpTo S.set F.flavor bytes.now) }
 {
     let run = run_of_groups::<Either<F::Null, NonAscii>>(bytes);
     if run > 0 {
-        return run;
+        return Ok(run);
     }
-    following_few::<F, S>(&bytes[..BLOCK])
+    let len = following_few::<F, S>(&bytes[..BLOCK]);
+    if len < BLOCK { Err(len) } else { Ok(BLOCK) }
 }
 
 /// Returns how many bytes may follow those before them, by two blocks at once from `start` on.
@@ -117,10 +118,11 @@ fn following_last<F: Flavor, S: CharacterSet>(bytes: &[u8], start: usize) -> usi
     let mut at = start;
     while bytes.len() - at >= BLOCK {
         let len = following_len::<F, S>(block_at(bytes, at - DECIDING));
-        at += len;
         if len < BLOCK {
-            return at;
+            return at + len;
         }
+        // Where the next block begins does not wait for the length.
+        at += BLOCK;
     }
     if at == bytes.len() {
         return at;

@@ -1,27 +1,43 @@
-use Rattle.std.proofs.Common.{get_or, ap, ◌∙◌, sym, arith}
+use Rattle.std.proofs.Common.{◌≡◌, get_or, ap, ◌∙◌, sym, subst, arith}
 use Rattle.std.proofs.lemmas.Bool.{leb-false, or_parts}
 use Rattle.std.proofs.lemmas.List.{length-take-le}
+use Rattle.cesu8_decode.specs.Following.{FirstFollow}
 use Rattle.cesu8_decode.proofs.decoder.FollowingBlocks.{ones_follow, first_of_front, stop_in_front}
 use Rattle.cesu8_decode.proofs.front.following_first.Goals as goal
 
 pub slice_bounds-following_few-end : goal.slice_bounds-following_few-end
 slice_bounds-following_few-end g c = sym (length-take-le 32 c.args.bytes.now (omega (arith, c.requires)))
 
-pub following_few-requires : goal.following_few-requires
-following_few-requires g c = omega (arith, length-take-le 32 c.args.bytes.now (omega (arith, c.requires)))
+pub following_few-len-requires : goal.following_few-len-requires
+following_few-len-requires g c = omega (arith, length-take-le 32 c.args.bytes.now (omega (arith, c.requires)))
 
-pub returns-then-run-gt0-clause-follow : goal.returns-then-run-gt0-clause-follow
-returns-then-run-gt0-clause-follow g c =
+pub returns-then-run-gt0 : goal.returns-then-run-gt0
+returns-then-run-gt0 g c =
     let f = g.F.Flavor.flavor in
     let bytes = c.args.bytes.now in
-    ones_follow g.S.CharacterSet.set f bytes c.run_of_groups-run.result c.run_of_groups-run.ensures.within.0 (λ i before.
-    let none = or_parts _ _ (c.run_of_groups-run.ensures.run i before) in
-    (leb-false 0x80 _ none.1, sym (ap (λ class. class (get_or bytes i 0)) g.met.F.Flavor.are_null) ∙ none.0))
+    let run = c.run_of_groups-run.ensures in
+    record {
+      follow = (
+        ones_follow g.S.CharacterSet.set f bytes c.run_of_groups-run.result run.within.0 (λ i before.
+        let none = or_parts _ _ (run.run i before) in
+        (leb-false 0x80 _ none.1, sym (ap (λ class. class (get_or bytes i 0)) g.met.F.Flavor.are_null) ∙ none.0)),
+        omega (arith, run.within.1 c.if-run-gt0.true),
+      );
+      stops = tt;
+    }
 
-pub returns-clause-follow : goal.returns-clause-follow
-returns-clause-follow g c =
-    first_of_front g.S.CharacterSet.set g.F.Flavor.flavor c.args.bytes.now 32 c.following_few.result (omega (arith, c.requires)) c.following_few.ensures.first
+pub returns-then-len-lt-BLOCK-clause-stops : goal.returns-then-len-lt-BLOCK-clause-stops
+returns-then-len-lt-BLOCK-clause-stops g c =
+    stop_in_front g.S.CharacterSet.set g.F.Flavor.flavor c.args.bytes.now 32 c.following_few-len.result (omega (arith, c.requires))
+    c.if-len-lt-BLOCK.true c.following_few-len.ensures
 
-pub returns-clause-stops : goal.returns-clause-stops
-returns-clause-stops g c before =
-    stop_in_front g.S.CharacterSet.set g.F.Flavor.flavor c.args.bytes.now 32 c.following_few.result (omega (arith, c.requires)) before c.following_few.ensures
+pub returns-else-len-lt-BLOCK-clause-follow : goal.returns-else-len-lt-BLOCK-clause-follow
+returns-else-len-lt-BLOCK-clause-follow g c =
+    let s = g.S.CharacterSet.set in
+    let f = g.F.Flavor.flavor in
+    let bytes = c.args.bytes.now in
+    let few = c.following_few-len.ensures.first in
+    let first = first_of_front s f bytes 32 c.following_few-len.result (omega (arith, c.requires)) few in
+    let all : c.following_few-len.result ≡ 32 =
+    omega (arith, c.if-len-lt-BLOCK.false, few.within, length-take-le 32 bytes (omega (arith, c.requires))) in
+    (subst (FirstFollow s f bytes) all first, omega arith)

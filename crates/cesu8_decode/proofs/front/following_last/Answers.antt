@@ -26,7 +26,7 @@ loop-at-preserved g c =
     let len = c.following_len-len.result in
     let is = c.block_at.ensures in
     let within = c.following_len-len.ensures.within bytes (at - 4) is in
-    let end : at - 4 + len + 4 ≡ at + len = omega (arith, c.loop-at.invariant.start) in
+    let end : at - 4 + len + 4 ≡ at + 32 = omega (arith, c.loop-at.invariant.start, c.if-len-lt-BLOCK.false, within) in
     record {
       first =
           subst (FirstFollow s f bytes) end
