@@ -19,7 +19,7 @@ use cesu8_bytes::pairs::{PAIR, PAIR_READ, utf8_of_pair};
 
 /// The least front behind which another is looked for. Where the characters that change stand closer
 /// together, blocks take less time.
-pub const LONG_FRONT: usize = 16;
+pub const LONG_FRONT: usize = 64;
 
 /// Appends the strict reading of bytes, of which so many at the front are whole characters that are the
 /// same in UTF-8.

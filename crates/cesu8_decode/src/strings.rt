@@ -39,13 +39,10 @@ pub fn write_strictly<F: Flavor>(bytes: &[u8], front: usize, empty: Vec<u8>) -> 
     if !begins_changed::<F>(rest) {
         return None;
     }
-    if bytes.len() > BLOCK {
-        return write_many::<F>(bytes, front, empty);
-    }
     match strict_way(rest, front) {
         Way::Characters => write_few::<F>(bytes, front, empty),
         Way::OneBlock | Way::ShortWindow | Way::LongWindow | Way::Chunks => {
-            append_one::<F>(bytes, empty)
+            write_many::<F>(bytes, front, empty)
         }
     }
 }
@@ -84,14 +81,18 @@ fn write_few<F: Flavor>(bytes: &[u8], front: usize, empty: Vec<u8>) -> Option<Ve
 }
 
 /// Writes the front as it is, and the strict reading of the bytes behind it: from one character that
-/// changes to the next where they seem to stand far apart, and else block by block.
+/// changes to the next where they seem to stand far apart, and else block by block. One block is read
+/// whole, in less time than its front is copied.
 #[inline(never)]
 fn write_many<F: Flavor>(bytes: &[u8], front: usize, empty: Vec<u8>) -> Option<Vec<u8>>
     requires front { IsFront Unchanged F.flavor bytes.now front }
     requires empty { (empty.items ≡ []) × (length bytes.now ≤ vec_capacity empty) }
     ensures { AppendsStrictly F.flavor bytes.now empty result }
 {
-    if front >= LONG_FRONT || matches!(strict_way(&bytes[front..], front), Way::Characters) {
+    if bytes.len() <= BLOCK {
+        return append_one::<F>(bytes, empty);
+    }
+    if front >= LONG_FRONT {
         return append_by_fronts::<F>(bytes, front, empty);
     }
     let mut text = empty;
@@ -99,9 +100,8 @@ fn write_many<F: Flavor>(bytes: &[u8], front: usize, empty: Vec<u8>) -> Option<V
     append_strictly::<F>(&bytes[front..], text)
 }
 
-/// Appends the strict reading of the bytes of one block, by an array. It is read whole, in less time
-/// than its front is copied.
-#[inline(never)]
+/// Appends the strict reading of the bytes of one block, by an array.
+#[inline(always)]
 fn append_one<F: Flavor>(
     bytes: &[u8],
     before: Vec<u8>,

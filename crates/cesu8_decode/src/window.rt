@@ -8,6 +8,7 @@ ghost use Rattle.cesu8_decode.specs.DecodedLanes.{AreFiveKinds};
 use super::offsets::{KIND_OF_PAIR, KINDS_OF_THREE, starts};
 use cesu8_bytes::BLOCK;
 use cesu8_bytes::flavor::Flavor;
+use cesu8_bytes::implementation::short::copy_short;
 
 /// How many offsets before a byte are read to decide what becomes of it.
 pub const BEFORE: usize = 5;
@@ -24,9 +25,9 @@ pub fn load(bytes: &[u8], at: usize, len: usize, window: &mut [u8])
     ensures len { length window.new ≡ length window.old }
 {
     if at < BEFORE {
-        window[BEFORE..BEFORE + len].copy_from_slice(&bytes[..len]);
+        copy_short(&bytes[..len], &mut window[BEFORE..BEFORE + len]);
     } else {
-        window[..BEFORE + len].copy_from_slice(&bytes[at - BEFORE..at + len]);
+        copy_short(&bytes[at - BEFORE..at + len], &mut window[..BEFORE + len]);
     }
 }
 
