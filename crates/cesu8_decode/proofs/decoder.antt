@@ -10,9 +10,8 @@ pub mod DecodedRows
 pub mod KeptBlocks
 pub mod WholeBlocks
 pub mod Shuffles
-pub mod WeightLanes
-pub mod Savings
-pub mod WeightRest
+pub mod SavedLanes
+pub mod SavedRest
 pub mod FollowingLanes
 pub mod FollowingBlocks
 pub mod DecodedWindows

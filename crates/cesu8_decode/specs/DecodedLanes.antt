@@ -4,7 +4,7 @@ use Rattle.std.specs.List.{range_with_len}
 use Rattle.cesu8_text.specs.Encoding.{Flavor}
 use Rattle.cesu8_bytes.specs.Pairs.{null_at}
 pub use Rattle.cesu8_bytes.specs.Packing.{written, written_for, kept_of, shuffle_keeping, shuffle_of_eight, AreShufflesOfEight}
-use Rattle.cesu8_decode.specs.DecodedOffsets.{two_at, three_at, pair_at, first_width_by, width_at, is_ill_formed_at}
+use Rattle.cesu8_decode.specs.DecodedOffsets.{two_at, three_at, pair_at, width_at, is_ill_formed_at, saved}
 
 -- The kind of the character that begins at an offset, by the six bytes there: a bit, or 0 if none
 -- begins or one of one byte.
@@ -95,18 +95,6 @@ shuffle_of_four set = shuffle_keeping (kept_of (set % 0x10) (set / 0x10) 0 4)
 abbrev pub AreShufflesOfFour : List (List ℕ) → Type 0
 AreShufflesOfFour rows = (set : ℕ) → set < 0x100 → slice_index_or rows set [] ≡ shuffle_of_four set
 
--- The weight of offset i of a window.
-abbrev pub weight_at : (ℕ → ℕ → ℕ) → Flavor → List ℕ → ℕ → ℕ
-weight_at weight f window i = weight (width_at f window i) (slice_index window i)
-
--- A number tells the weight of a character of one byte. Two tables tell that of others, by the lower
--- half of their kind and by its upper half.
-abbrev pub weight_told : (one : ℕ) → (low high : List ℕ) → (width kind : ℕ) → ℕ
-weight_told one low high width kind =
-    bit_or (bit_or (if width == 1 then one else 0) (slice_index low (kind % 0x10))) (slice_index high (kind / 0x10 % 0x10))
-
--- They do so at each offset, by the six bytes there.
-abbrev pub TellWeights : (ℕ → ℕ → ℕ) → ℕ → List ℕ → List ℕ → Type 0
-TellWeights weight one low high =
-    (f : Flavor) (a b d e g h : ℕ) →
-    weight_told one low high (first_width_by f a b d e g h) (start_kind_by f a b d e g h) ≡ weight (first_width_by f a b d e g h) a
+-- What offset i of a window saves.
+abbrev pub saved_at : Flavor → List ℕ → ℕ → ℕ
+saved_at f window i = saved (width_at f window i) (slice_index window i)

@@ -119,14 +119,12 @@ saved w b =
     else if w == 6 then 14
     else 0
 
--- The weight of an offset follows from the width of the character that begins there, or 0, and
--- from the byte there. The weight of all offsets,
-unfoldable pub total_weight : (ℕ → ℕ → ℕ) → Flavor → List ℕ → ℕ
-total_weight weight f [] = 0
-total_weight weight f (b ∷ bytes) = weight (first_width f (b ∷ bytes)) b + total_weight weight f bytes
+-- What all offsets save,
+unfoldable pub total_saved : Flavor → List ℕ → ℕ
+total_saved f [] = 0
+total_saved f (b ∷ bytes) = saved (first_width f (b ∷ bytes)) b + total_saved f bytes
 
--- and of n offsets, from offset i of a window on.
-unfoldable pub weight_between : (ℕ → ℕ → ℕ) → Flavor → List ℕ → ℕ → ℕ → ℕ
-weight_between weight f window i zero = 0
-weight_between weight f window i (suc n) =
-    weight (width_at f window i) (slice_index window i) + weight_between weight f window (i + 1) n
+-- and n offsets, from offset i of a window on.
+unfoldable pub saved_between : Flavor → List ℕ → ℕ → ℕ → ℕ
+saved_between f window i zero = 0
+saved_between f window i (suc n) = saved (width_at f window i) (slice_index window i) + saved_between f window (i + 1) n
