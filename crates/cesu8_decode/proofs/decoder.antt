@@ -4,7 +4,6 @@ pub mod StartKinds
 pub mod LaneTests
 pub mod FirstLanes
 pub mod StartLanes
-pub mod DecodedParts
 pub mod DecodedBlocks
 pub mod DecodedRows
 pub mod KeptBlocks

@@ -13,12 +13,11 @@ use Rattle.cesu8_bytes.specs.Kernels.{mask}
 use Rattle.cesu8_bytes.specs.Pairs.{null_at}
 use Rattle.cesu8_bytes.specs.Packing.{written_for}
 use Rattle.cesu8_bytes.proofs.vectors.Loads.{loaded}
-use Rattle.cesu8_decode.specs.DecodedOffsets.{one_at, two_at, three_at, pair_at, continues, first_width_by, width_at, is_ill_formed_at, decoded_at, decoded}
+use Rattle.cesu8_decode.specs.DecodedOffsets.{one_at, two_at, three_at, pair_at, continues, first_width_by, width_at, is_ill_formed_at, decoded_byte, decoded_at, decoded}
 use Rattle.cesu8_decode.specs.DecodedLanes.{start_kind, AreKindsNear, NoneBeginsChanged, AreParts, is_high, goes_at, byte_at}
 use Rattle.cesu8_decode.proofs.decoder.StartKinds.{Start, nothing, one, null, two_low, two_high, three_low, three_high, three_last, pair, start_at, low_one, no_start, one_by_first, pair_bit}
 use Rattle.cesu8_decode.proofs.decoder.LaneTests.{high_or, shifted_or, no_one}
 use Rattle.cesu8_decode.proofs.decoder.FirstLanes.{no_bit, no_lane, on_range, behind_lanes, none_go}
-use Rattle.cesu8_decode.proofs.decoder.DecodedParts.{decoded_is_written, pair_or_less}
 
 -- ---- bytes that stay
 
@@ -33,7 +32,8 @@ AllStay f window at n = (i : ℕ) → at ≤ i → i < at + n → Stays f window
 
 module _ (f : Flavor) (window : List ℕ) where
   becomes_itself : (i : ℕ) → Stays f window i → decoded_at f window i ≡ get_or window (i + 5) 0 ∷ []
-  becomes_itself i stays = decoded_is_written f window i ∙ (λ k. written_for (stays.goes k) (stays.well_formed k) (stays.byte k))
+  unfolding decoded_byte
+  becomes_itself i stays = (λ k. written_for (stays.goes k) (stays.well_formed k) (stays.byte k))
 
   -- Bytes that stay become themselves.
   pub stay_decoded : (at n : ℕ) → AllStay f window at n → map (λ i. get_or window (i + 5) 0) (range_with_len at n) ≡ decoded f window at n
@@ -73,6 +73,16 @@ pair_high a b d e g h begun =
       omega (arith, leb-true 0xB0 g h6.0),
       leb-true 0x80 h last.0,
     )
+
+-- A width of 6 is that of a pair.
+pair_or_less : (is_one is_null is_two is_three is_pair : Bool) →
+    ◌≡◌ {A = ℕ} (cond is_one 1 (cond is_null 2 (cond is_two 2 (cond is_three 3 (cond is_pair 6 0))))) 6 → is_pair ≡ true
+pair_or_less true is_null is_two is_three is_pair six = absurd (omega arith)
+pair_or_less false true is_two is_three is_pair six = absurd (omega arith)
+pair_or_less false false true is_three is_pair six = absurd (omega arith)
+pair_or_less false false false true is_pair six = absurd (omega arith)
+pair_or_less false false false false true six = refl
+pair_or_less false false false false false six = absurd (omega arith)
 
 six_high : (f : Flavor) (a b d e g h : ℕ) → first_width_by f a b d e g h ≡ 6 → (0x80 ≤ b) × (0x80 ≤ d) × (0x80 ≤ e) × (0x80 ≤ g) × (0x80 ≤ h)
 unfolding first_width_by
