@@ -15,7 +15,7 @@ use Rattle.cesu8_bytes.specs.Packing.{written_for}
 use Rattle.cesu8_bytes.proofs.vectors.Loads.{loaded}
 use Rattle.cesu8_decode.specs.DecodedOffsets.{one_at, two_at, three_at, pair_at, continues, first_width_by, width_at, is_ill_formed_at, decoded_byte, decoded_at, decoded}
 use Rattle.cesu8_decode.specs.DecodedLanes.{start_kind, AreKindsNear, NoneBeginsChanged, AreParts, is_high, goes_at, byte_at}
-use Rattle.cesu8_decode.proofs.decoder.StartKinds.{Start, nothing, one, null, two_low, two_high, three_low, three_high, three_last, pair, start_at, low_one, no_start, one_by_first, pair_bit}
+use Rattle.cesu8_decode.proofs.decoder.StartKinds.{Start, by_kind, start_at, low_one, no_start, one_by_first, pair_bit}
 use Rattle.cesu8_decode.proofs.decoder.LaneTests.{high_or, shifted_or, no_one}
 use Rattle.cesu8_decode.proofs.decoder.FirstLanes.{no_bit, no_lane, on_range, behind_lanes, none_go}
 
@@ -172,26 +172,20 @@ module _ (f : Flavor) (window : List ℕ) where
 -- ---- blocks where none changes
 
 other_start : (a w c : ℕ) → Start a w c → (eqb c 0x20 || eqb c 0x80) ≡ false → (eqb w 6 ≡ false) × ((eqb w 2 && eqb a 0xC0) ≡ false)
-other_start a w c nothing none = (refl, refl)
-other_start a w c (one low) none = (refl, refl)
-other_start a w c (null first) none = absurd (true≢false none)
-other_start a w c (two_low other) none = (refl, other)
-other_start a w c (two_high other) none = (refl, other)
-other_start a w c three_low none = (refl, refl)
-other_start a w c three_high none = (refl, refl)
-other_start a w c three_last none = (refl, refl)
-other_start a w c pair none = absurd (true≢false none)
+other_start = by_kind (λ t w c. (eqb c 0x20 || eqb c 0x80) ≡ false → (eqb w 6 ≡ false) × ((eqb w 2 && t) ≡ false)) (
+  λ set. absurd (true≢false set),
+  λ _. (refl, refl),
+  λ _. (refl, refl),
+  λ t. (λ _. (refl, refl), λ _. (refl, refl), λ _. (refl, refl), λ _. (refl, refl), λ _. (refl, refl), λ set. absurd (true≢false set)),
+)
 
 low_kind : (a w c : ℕ) → Start a w c → leb 0x80 c ≡ false → leb 0x80 (c * 2 ^ 2 % 2 ^ 8) ≡ false → (eqb c 0x20 || eqb c 0x80) ≡ false
-low_kind a w c nothing low unset = refl
-low_kind a w c (one first) low unset = refl
-low_kind a w c (null first) low unset = absurd (true≢false low)
-low_kind a w c (two_low other) low unset = refl
-low_kind a w c (two_high other) low unset = refl
-low_kind a w c three_low low unset = refl
-low_kind a w c three_high low unset = refl
-low_kind a w c three_last low unset = refl
-low_kind a w c pair low unset = absurd (true≢false unset)
+low_kind = by_kind (λ t w c. leb 0x80 c ≡ false → leb 0x80 (c * 2 ^ 2 % 2 ^ 8) ≡ false → (eqb c 0x20 || eqb c 0x80) ≡ false) (
+  λ set _. absurd (true≢false set),
+  λ _ _. refl,
+  λ _ _. refl,
+  λ t. (λ _ _. refl, λ _ _. refl, λ _ _. refl, λ _ _. refl, λ _ _. refl, λ _ set. absurd (true≢false set)),
+)
 
 none_of : (p q r s : Bool) → ((p || q) || (r || s)) ≡ false → (p ≡ false) × (q ≡ false) × (r ≡ false) × (s ≡ false)
 none_of false false false false e = (refl, refl, refl, refl)

@@ -10,7 +10,7 @@ use Rattle.cesu8_decode.specs.DecodedOffsets.{one_at, two_at, three_at, pair_at,
 use Rattle.cesu8_bytes.specs.Pairs.{null_at}
 use Rattle.cesu8_decode.specs.DecodedLanes.{start_kind, is_high, byte_at}
 use Rattle.cesu8_decode.specs.declared.parts.TheConstants.{FIRST_BY_SECOND, SECOND_BY_SECOND, THIRD_BY_THIRD}
-use Rattle.cesu8_decode.proofs.decoder.StartKinds.{Start, nothing, one, null, two_low, two_high, three_low, three_high, three_last, pair, start_at, pair_bit, over_two, over_one, null_bit}
+use Rattle.cesu8_decode.proofs.decoder.StartKinds.{Start, by_kind, start_at, shifted_pair, over_two, over_one, null_bit}
 
 -- ---- bits of two numbers
 
@@ -52,28 +52,14 @@ shifted_or a b =
 abbrev pub gone_lane : (here before : ℕ) → ℕ
 gone_lane here before = bit_or here (bit_or here before * 2 ^ 2 % 2 ^ 8)
 
-shifted_pair : (a w c : ℕ) → Start a w c → leb 0x80 (c * 2 ^ 2 % 2 ^ 8) ≡ eqb w 6
-shifted_pair a w c nothing = refl
-shifted_pair a w c (one low) = refl
-shifted_pair a w c (null first) = refl
-shifted_pair a w c (two_low other) = refl
-shifted_pair a w c (two_high other) = refl
-shifted_pair a w c three_low = refl
-shifted_pair a w c three_high = refl
-shifted_pair a w c three_last = refl
-shifted_pair a w c pair = refl
-
 -- Without a pair's bit it makes no difference whether a mask has that, nor one that no kind has.
 pub no_pair_begun : (a w c : ℕ) → Start a w c → leb 0x80 (c * 2 ^ 2 % 2 ^ 8) ≡ false → (bit_and c 0x9F ≡ bit_and c 0xDF) × (bit_and c 0x9F ≡ bit_and c 0xFF)
-no_pair_begun a w c nothing unset = (refl, refl)
-no_pair_begun a w c (one low) unset = (refl, refl)
-no_pair_begun a w c (null first) unset = (refl, refl)
-no_pair_begun a w c (two_low other) unset = (refl, refl)
-no_pair_begun a w c (two_high other) unset = (refl, refl)
-no_pair_begun a w c three_low unset = (refl, refl)
-no_pair_begun a w c three_high unset = (refl, refl)
-no_pair_begun a w c three_last unset = (refl, refl)
-no_pair_begun a w c pair unset = absurd (true≢false unset)
+no_pair_begun = by_kind
+    (λ t w c. leb 0x80 (c * 2 ^ 2 % 2 ^ 8) ≡ false → (bit_and c 0x9F ≡ bit_and c 0xDF) × (bit_and c 0x9F ≡ bit_and c 0xFF))
+    (same, same, same, λ t. (same, same, same, same, same, λ set. absurd (true≢false set)))
+  where
+    same : {n : ℕ} → false ≡ false → (n ≡ n) × (n ≡ n)
+    same _ = (refl, refl)
 
 last_first : (n p q : Bool) → (n || (p || q)) ≡ (p || (q || n))
 last_first true true q = refl
@@ -98,11 +84,7 @@ covered_lane c0 c1 c2 c3 c4 c5 =
     bit_or (bit_or (bit_or c0 c1) (bit_and c2 0x3C)) (bit_or (bit_or (bit_and c3 0x20) (bit_and c4 0x20)) (bit_and c5 0x20))
 
 pub no_pair : (a w c : ℕ) → Start a w c → eqb (bit_and c 0x20) 0 ≡ not (eqb w 6)
-no_pair a w c what = ap (λ n. eqb n 0) (pair_bit a w c what) ∙ by_test (eqb w 6)
-  where
-    by_test : (t : Bool) → eqb (cond t 0x20 0) 0 ≡ not t
-    by_test true = refl
-    by_test false = refl
+no_pair = by_kind (λ t w c. eqb (bit_and c 0x20) 0 ≡ not (eqb w 6)) (refl, refl, refl, λ t. (refl, refl, refl, refl, refl, refl))
 
 -- It has no bit where nothing of two bytes or more covers the byte.
 covered_is : (f : Flavor) (window : List ℕ) (i : ℕ) →

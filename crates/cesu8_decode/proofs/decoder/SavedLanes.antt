@@ -13,7 +13,7 @@ use Rattle.cesu8_bytes.specs.Kernels.{mask}
 use Rattle.cesu8_decode.specs.DecodedOffsets.{one_at, width_at, saved, saved_between}
 use Rattle.cesu8_decode.specs.DecodedLanes.{start_kind, saved_at}
 use Rattle.cesu8_decode.specs.declared.sums.TheConstants.{SAVED_BY_ONE, SAVED_BY_LOW, SAVED_BY_HIGH}
-use Rattle.cesu8_decode.proofs.decoder.StartKinds.{Start, nothing, one, null, two_low, two_high, three_low, three_high, three_last, pair, start_at, no_start, one_by_first}
+use Rattle.cesu8_decode.proofs.decoder.StartKinds.{Start, by_kind, start_at, no_start, one_by_first}
 use Rattle.cesu8_decode.proofs.decoder.FirstLanes.{on_range}
 use Rattle.cesu8_bytes.proofs.lists.Lanes.{chosen}
 use Rattle.cesu8_decode.proofs.by_offset.CharacterBoundaries.{width_bounds}
@@ -40,15 +40,8 @@ abbrev told : Bool → ℕ → ℕ
 told is_one kind = bit_or (bit_or (cond is_one SAVED_BY_ONE 0) (entry SAVED_BY_LOW kind)) (entry SAVED_BY_HIGH (kind / 2 ^ 4))
 
 told_by_start : (b w c : ℕ) → Start b w c → told (eqb w 1) c ≡ saved w b
-told_by_start b w c nothing = refl
-told_by_start b w c (one low) = refl
-told_by_start b w c (null first) = rw first refl
-told_by_start b w c (two_low other) = rw other refl
-told_by_start b w c (two_high other) = rw other refl
-told_by_start b w c three_low = refl
-told_by_start b w c three_high = refl
-told_by_start b w c three_last = refl
-told_by_start b w c pair = refl
+told_by_start = by_kind (λ t w c. told (eqb w 1) c ≡ cond (eqb w 1) 2 (cond (eqb w 2) (cond t 5 4) (cond (eqb w 3) 6 (cond (eqb w 6) 14 0))))
+    (refl, refl, refl, λ t. (refl, refl, refl, refl, refl, refl))
 
 abbrev shr : ℕ → ℕ → ℕ
 shr a b = a / 2 ^ b
