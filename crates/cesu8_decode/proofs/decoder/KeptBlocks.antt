@@ -7,6 +7,7 @@ use Rattle.std.proofs.lemmas.List.FromFn.{take-map-range_with_len}
 use Rattle.std.proofs.lemmas.Simd.{map-map, take_more_put_chunk}
 use Rattle.std.proofs.Math.Seq.{take-append-add}
 use lib.Lanes.{zip2, mask_l, chunk, put_chunk}
+use Rattle.std.proofs.lemmas.Bool.Decides.{nat_tests}
 use Rattle.cesu8_text.specs.Encoding.{Flavor, Cesu8, Mutf8}
 use Rattle.cesu8_text.specs.Class.{is_null}
 use Rattle.cesu8_bytes.specs.Kernels.{mask}
@@ -77,12 +78,7 @@ pair_high a b d e g h begun =
 -- A width of 6 is that of a pair.
 pair_or_less : (is_one is_null is_two is_three is_pair : Bool) →
     ◌≡◌ {A = ℕ} (cond is_one 1 (cond is_null 2 (cond is_two 2 (cond is_three 3 (cond is_pair 6 0))))) 6 → is_pair ≡ true
-pair_or_less true is_null is_two is_three is_pair six = absurd (omega arith)
-pair_or_less false true is_two is_three is_pair six = absurd (omega arith)
-pair_or_less false false true is_three is_pair six = absurd (omega arith)
-pair_or_less false false false true is_pair six = absurd (omega arith)
-pair_or_less false false false false true six = refl
-pair_or_less false false false false false six = absurd (omega arith)
+pair_or_less is_one is_null is_two is_three is_pair six = grind (arith, nat_tests)
 
 six_high : (f : Flavor) (a b d e g h : ℕ) → first_width_by f a b d e g h ≡ 6 → (0x80 ≤ b) × (0x80 ≤ d) × (0x80 ≤ e) × (0x80 ≤ g) × (0x80 ≤ h)
 unfolding first_width_by
@@ -188,11 +184,7 @@ low_kind = by_kind (λ t w c. leb 0x80 c ≡ false → leb 0x80 (c * 2 ^ 2 % 2 ^
 )
 
 none_of : (p q r s : Bool) → ((p || q) || (r || s)) ≡ false → (p ≡ false) × (q ≡ false) × (r ≡ false) × (s ≡ false)
-none_of false false false false e = (refl, refl, refl, refl)
-none_of false false false true e = absurd (true≢false e)
-none_of false false true s e = absurd (true≢false e)
-none_of false true r s e = absurd (true≢false e)
-none_of true q r s e = absurd (true≢false e)
+none_of p q r s e = grind (arith, nat_tests)
 
 abbrev around_lane : (c c' : ℕ) → ℕ
 around_lane c c' = bit_or (bit_or c c') (bit_or c c' * 2 ^ 2 % 2 ^ 8)

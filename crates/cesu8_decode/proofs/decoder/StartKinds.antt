@@ -1,6 +1,7 @@
 -- What the kind of an offset says: how wide the character is that begins there, and its lead byte.
 use Rattle.std.proofs.Common.{◌≡◌, ℕ, ◌+◌, ◌*◌, ◌^◌, ◌%◌, ◌<◌, Bool, true, false, ◌&&◌, cond, eqb, leb, ltb, List, refl, arith, get_or, bit_and}
 use Rattle.std.proofs.lemmas.Bool.{and_parts, leb-true, ltb-true, ne_eqb, lt-leb}
+use Rattle.std.proofs.lemmas.Bool.Decides.{nat_tests}
 use Rattle.cesu8_text.specs.Encoding.{Flavor, Cesu8, Mutf8}
 use Rattle.cesu8_decode.specs.DecodedOffsets.{one_at, two_at, three_at, pair_at, first_width_by, width_at}
 use Rattle.cesu8_bytes.specs.Pairs.{null_at}
@@ -96,12 +97,7 @@ two_decide f a b d e g h low = rw (lt-leb 0xE0 a low, ne_eqb a 0xED (λ same. om
 
 one_by : (is_one is_null is_two is_three is_pair : Bool) →
     eqb (cond is_one 1 (cond is_null 2 (cond is_two 2 (cond is_three 3 (cond is_pair 6 0))))) 1 ≡ is_one
-one_by true is_null is_two is_three is_pair = refl
-one_by false true is_two is_three is_pair = refl
-one_by false false true is_three is_pair = refl
-one_by false false false true is_pair = refl
-one_by false false false false true = refl
-one_by false false false false false = refl
+one_by is_one is_null is_two is_three is_pair = grind (arith, nat_tests)
 
 -- The first of them tells whether it is one byte.
 pub one_by_first : (f : Flavor) (a b d e g h : ℕ) → eqb (first_width_by f a b d e g h) 1 ≡ one_at f a
