@@ -1,5 +1,5 @@
--- What the lossy reading makes of each byte, from its neighbours alone: the two bytes before it,
--- and the widths of the characters that begin at its offset and at the five before it.
+-- What the bytes of a window tell of each offset: how wide the character is that begins there, what
+-- the lossy reading makes of the byte, whether a boundary is before it, and what the offset saves.
 use Rattle.std.specs.Prelude.{◌≡◌, ℕ, zero, suc, ◌+◌, ◌*◌, ◌/◌, ◌%◌, ◌<◌, ◌&&◌, ◌||◌, ◌==◌, nat_le, nat_lt, if◌then◌else◌, not, Bool, true, List, [], ◌∷◌, slice_index}
 use Rattle.std.specs.List.{flat_map, range_with_len}
 use Rattle.cesu8_text.specs.Encoding.{Flavor, Cesu8, Mutf8}

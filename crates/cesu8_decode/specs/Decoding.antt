@@ -1,4 +1,4 @@
--- What decoding a chunk at a time promises.
+-- What decoding promises: a chunk of text at the front of bytes, all of it, and what is written for a window.
 use Rattle.std.specs.Prelude.{◌≡◌, ℕ, ◌+◌, ◌*◌, ◌/◌, ◌<◌, ◌≤◌, Bool, true, false, List, [], ◌++◌, Vec, length, take, drop, vec_capacity, Option, IfSome, IfNone, Result, IfOk}
 use Rattle.cesu8_text.specs.Reading.{NoneBegins, HasNoStrictReading}
 use Rattle.cesu8_text.specs.Encoding.{Flavor}
