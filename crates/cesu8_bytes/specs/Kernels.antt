@@ -1,4 +1,4 @@
--- What the kernels find, for every class of bytes, and the lanes that mark it.
+-- What the kernels find, for every class of bytes: in words by a test, in vectors by lanes that mark it.
 use Rattle.std.specs.Prelude.{ℕ, Bool, if◌then◌else◌, ◌<◌, List, ℤ, pos, negsuc, IsTrue, ◌^◌, ◌↔◌, Any}
 use Rattle.std.specs.Int.{to_le_bytes, w64}
 use Rattle.std.specs.Fn.{Shared}
@@ -7,11 +7,11 @@ use Rattle.std.specs.Fn.{Shared}
 abbrev pub AnyIn : (ℕ → Bool) → List ℕ → Type 0
 AnyIn class bytes = Any (λ b. IsTrue (class b)) bytes
 
--- A lane of a mask, a number with a sign: all ones if a test holds, and otherwise zeros.
+-- A lane of a mask is a number with a sign: -1, whose bits are all ones, if a test holds, and otherwise 0.
 abbrev pub lane : Bool → ℤ
 lane t = if t then negsuc 0 else pos 0
 
--- The same as a byte.
+-- A byte that is FF if a test holds, and otherwise 00.
 abbrev pub mask : Bool → ℕ
 mask t = if t then 0xFF else 0
 

@@ -5,6 +5,6 @@ pub mod WindowOffsets
 pub mod CharacterBoundaries
 pub mod DecodedBytes
 pub mod DecodedText
-pub mod Weights
+pub mod SavedTotals
 pub mod Savings
 pub mod IllFormed

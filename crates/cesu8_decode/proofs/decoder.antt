@@ -4,15 +4,13 @@ pub mod StartKinds
 pub mod LaneTests
 pub mod FirstLanes
 pub mod StartLanes
-pub mod DecodedParts
 pub mod DecodedBlocks
 pub mod DecodedRows
 pub mod KeptBlocks
 pub mod WholeBlocks
 pub mod Shuffles
-pub mod WeightLanes
-pub mod Savings
-pub mod WeightRest
+pub mod SavedLanes
+pub mod SavedRest
 pub mod FollowingLanes
 pub mod FollowingBlocks
 pub mod DecodedWindows

@@ -1,10 +1,10 @@
 -- The lanes of the decoder's vectors.
-use Rattle.std.specs.Prelude.{◌≡◌, ℕ, ◌+◌, ◌-◌, ◌*◌, ◌/◌, ◌%◌, ◌<◌, ◌≤◌, ◌&&◌, ◌||◌, ◌==◌, nat_le, nat_lt, if◌then◌else◌, Bool, true, false, List, [], ◌++◌, map, take, replicate, slice_index, slice_index_or, bit_and, bit_or}
+use Rattle.std.specs.Prelude.{◌≡◌, ℕ, ◌+◌, ◌-◌, ◌/◌, ◌%◌, ◌<◌, ◌≤◌, ◌||◌, ◌==◌, nat_le, nat_lt, if◌then◌else◌, Bool, true, false, List, [], ◌++◌, map, take, replicate, slice_index, slice_index_or, bit_and}
 use Rattle.std.specs.List.{range_with_len}
 use Rattle.cesu8_text.specs.Encoding.{Flavor}
 use Rattle.cesu8_bytes.specs.Pairs.{null_at}
 pub use Rattle.cesu8_bytes.specs.Packing.{written, written_for, kept_of, shuffle_keeping, shuffle_of_eight, AreShufflesOfEight}
-use Rattle.cesu8_decode.specs.DecodedOffsets.{two_at, three_at, pair_at, first_width_by, width_at, is_ill_formed_at}
+use Rattle.cesu8_decode.specs.DecodedOffsets.{two_at, three_at, pair_at, width_at, goes_by, byte_by, is_ill_formed_at, saved}
 
 -- The kind of the character that begins at an offset, by the six bytes there: a bit, or 0 if none
 -- begins or one of one byte.
@@ -41,23 +41,11 @@ abbrev pub AreKindsNear : Flavor → List ℕ → ℕ → List (List ℕ) → Ty
 AreKindsNear f window at kinds =
     (d : ℕ) → d < 6 → slice_index_or kinds d [] ≡ map (λ i. start_kind f window (i + d)) (range_with_len at 32)
 
--- Whether a byte goes, and the byte that is written for one that stays. The widths at its offset
--- and at the five before it, and the two bytes before it, decide this.
-abbrev pub goes_by : (w0 w1 before b : ℕ) → Bool
-goes_by w0 w1 before b = w0 == 6 || (w1 == 6 || (w0 == 2 && b == 0xC0))
-
-abbrev pub byte_by : (w1 w2 w3 w4 two_before before b : ℕ) → ℕ
-byte_by w1 w2 w3 w4 two_before before b =
-    if w2 == 6 then 0xF0 + (before % 0x10 + 1) / 4
-    else if w3 == 6 then 0x80 + ((two_before % 0x10 + 1) % 4 * 0x10 + before / 4 % 0x10)
-    else if w4 == 6 then 0x80 + (two_before % 4 * 0x10 + b % 0x10)
-    else if w1 == 2 && before == 0xC0 then 0
-    else b
-
--- The same for the byte of a window that follows the first i bytes and five more.
+-- Whether the byte of a window goes that follows the first i bytes and five more, and the byte that is
+-- written if it stays.
 abbrev pub goes_at : Flavor → List ℕ → ℕ → Bool
 goes_at f window i =
-    goes_by (width_at f window (i + 5)) (width_at f window (i + 4)) (slice_index window (i + 4)) (slice_index window (i + 5))
+    goes_by (width_at f window (i + 5)) (width_at f window (i + 4)) (slice_index window (i + 5))
 
 abbrev pub byte_at : Flavor → List ℕ → ℕ → ℕ
 byte_at f window i =
@@ -95,18 +83,6 @@ shuffle_of_four set = shuffle_keeping (kept_of (set % 0x10) (set / 0x10) 0 4)
 abbrev pub AreShufflesOfFour : List (List ℕ) → Type 0
 AreShufflesOfFour rows = (set : ℕ) → set < 0x100 → slice_index_or rows set [] ≡ shuffle_of_four set
 
--- The weight of offset i of a window.
-abbrev pub weight_at : (ℕ → ℕ → ℕ) → Flavor → List ℕ → ℕ → ℕ
-weight_at weight f window i = weight (width_at f window i) (slice_index window i)
-
--- A number tells the weight of a character of one byte. Two tables tell that of others, by the lower
--- half of their kind and by its upper half.
-abbrev pub weight_told : (one : ℕ) → (low high : List ℕ) → (width kind : ℕ) → ℕ
-weight_told one low high width kind =
-    bit_or (bit_or (if width == 1 then one else 0) (slice_index low (kind % 0x10))) (slice_index high (kind / 0x10 % 0x10))
-
--- They do so at each offset, by the six bytes there.
-abbrev pub TellWeights : (ℕ → ℕ → ℕ) → ℕ → List ℕ → List ℕ → Type 0
-TellWeights weight one low high =
-    (f : Flavor) (a b d e g h : ℕ) →
-    weight_told one low high (first_width_by f a b d e g h) (start_kind_by f a b d e g h) ≡ weight (first_width_by f a b d e g h) a
+-- What offset i of a window saves.
+abbrev pub saved_at : Flavor → List ℕ → ℕ → ℕ
+saved_at f window i = saved (width_at f window i) (slice_index window i)

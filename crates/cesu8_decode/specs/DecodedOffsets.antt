@@ -1,10 +1,11 @@
--- What the lossy reading makes of each byte, from its neighbours alone: the two bytes before it,
--- and the widths of the characters that begin at its offset and at the five before it.
+-- What the bytes of a window tell of each offset: how wide the character is that begins there, what
+-- the lossy reading makes of the byte, whether a boundary is before it, and what the offset saves.
 use Rattle.std.specs.Prelude.{◌≡◌, ℕ, zero, suc, ◌+◌, ◌*◌, ◌/◌, ◌%◌, ◌<◌, ◌&&◌, ◌||◌, ◌==◌, nat_le, nat_lt, if◌then◌else◌, not, Bool, true, List, [], ◌∷◌, slice_index}
 use Rattle.std.specs.List.{flat_map, range_with_len}
 use Rattle.cesu8_text.specs.Encoding.{Flavor, Cesu8, Mutf8}
 use Rattle.cesu8_text.specs.Reading.{standing, width_of}
 use Rattle.cesu8_bytes.specs.Pairs.{null_at}
+use Rattle.cesu8_bytes.specs.Packing.{written_for}
 
 -- How many bytes the encoded character has that begins the bytes, or 0.
 abbrev pub first_width : Flavor → List ℕ → ℕ
@@ -56,24 +57,30 @@ width_at f window i =
     let w = slice_index window in
     first_width_by f (w i) (w (i + 1)) (w (i + 2)) (w (i + 3)) (w (i + 4)) (w (i + 5))
 
--- What a byte becomes that is neither of a surrogate pair nor of the null of MUTF-8: in a character
--- it stays, and otherwise it is replaced.
-abbrev pub kept : ℕ → ℕ → ℕ → ℕ → List ℕ
-kept w0 w1 w2 b = if nat_le 1 w0 || (nat_le 2 w1 || nat_le 3 w2) then b ∷ [] else 0xEF ∷ 0xBF ∷ 0xBD ∷ []
+-- Whether a byte goes, by the widths at its offset and at the one before it. The first two bytes of
+-- a surrogate pair do, and the first of C0 80 in MUTF-8.
+abbrev pub goes_by : (w0 w1 b : ℕ) → Bool
+goes_by w0 w1 b = w0 == 6 || (w1 == 6 || (w0 == 2 && b == 0xC0))
 
--- What a byte becomes, by the widths at its offset and at the five before it, and by the two
--- bytes before it. The six bytes of a surrogate pair become four, and C0 80 in MUTF-8 becomes 00.
+-- No encoded character covers a byte, by the widths at its offset and at the five before it.
+abbrev pub ill_formed_by : (w0 w1 w2 w3 w4 w5 : ℕ) → Bool
+ill_formed_by w0 w1 w2 w3 w4 w5 =
+    not (nat_le 1 w0 || (nat_le 2 w1 || (nat_le 3 w2 || (w3 == 6 || (w4 == 6 || w5 == 6)))))
+
+-- The byte that is written for one that stays, by the widths at four offsets before it, and by the
+-- two bytes before it. The last four bytes of a pair become others, and the last of C0 80 00.
+abbrev pub byte_by : (w1 w2 w3 w4 two_before before b : ℕ) → ℕ
+byte_by w1 w2 w3 w4 two_before before b =
+    if w2 == 6 then 0xF0 + (before % 0x10 + 1) / 4
+    else if w3 == 6 then 0x80 + ((two_before % 0x10 + 1) % 4 * 0x10 + before / 4 % 0x10)
+    else if w4 == 6 then 0x80 + (two_before % 4 * 0x10 + b % 0x10)
+    else if w1 == 2 && before == 0xC0 then 0
+    else b
+
+-- What a byte becomes by all these.
 unfoldable pub decoded_byte : (w0 w1 w2 w3 w4 w5 two_before before b : ℕ) → List ℕ
 decoded_byte w0 w1 w2 w3 w4 w5 two_before before b =
-    if w0 == 6 then []
-    else if w1 == 6 then []
-    else if w2 == 6 then (0xF0 + (before % 0x10 + 1) / 4) ∷ []
-    else if w3 == 6 then (0x80 + ((two_before % 0x10 + 1) % 4 * 0x10 + before / 4 % 0x10)) ∷ []
-    else if w4 == 6 then (0x80 + (two_before % 4 * 0x10 + b % 0x10)) ∷ []
-    else if w5 == 6 then b ∷ []
-    else if w0 == 2 && b == 0xC0 then []
-    else if w1 == 2 && before == 0xC0 then 0 ∷ []
-    else kept w0 w1 w2 b
+    written_for (goes_by w0 w1 b) (ill_formed_by w0 w1 w2 w3 w4 w5) (byte_by w1 w2 w3 w4 two_before before b)
 
 -- What the byte of a window becomes that follows the first i bytes and five more.
 abbrev pub decoded_at : Flavor → List ℕ → ℕ → List ℕ
@@ -89,12 +96,7 @@ window_of bytes = 0 ∷ 0 ∷ 0 ∷ 0 ∷ 0 ∷ bytes
 unfoldable pub decoded : Flavor → List ℕ → ℕ → ℕ → List ℕ
 decoded f window i n = flat_map (decoded_at f window) (range_with_len i n)
 
--- No encoded character covers a byte, by the widths at its offset and at the five before it.
-abbrev pub ill_formed_by : (w0 w1 w2 w3 w4 w5 : ℕ) → Bool
-ill_formed_by w0 w1 w2 w3 w4 w5 =
-    not (nat_le 1 w0 || (nat_le 2 w1 || (nat_le 3 w2 || (w3 == 6 || (w4 == 6 || w5 == 6)))))
-
--- The same for the byte of a window that follows the first i bytes and five more.
+-- No encoded character covers the byte of a window that follows the first i bytes and five more.
 abbrev pub is_ill_formed_at : Flavor → List ℕ → ℕ → Bool
 is_ill_formed_at f window i =
     ill_formed_by (width_at f window (i + 5)) (width_at f window (i + 4)) (width_at f window (i + 3)) (width_at f window (i + 2))
@@ -119,14 +121,12 @@ saved w b =
     else if w == 6 then 14
     else 0
 
--- The weight of an offset follows from the width of the character that begins there, or 0, and
--- from the byte there. The weight of all offsets,
-unfoldable pub total_weight : (ℕ → ℕ → ℕ) → Flavor → List ℕ → ℕ
-total_weight weight f [] = 0
-total_weight weight f (b ∷ bytes) = weight (first_width f (b ∷ bytes)) b + total_weight weight f bytes
+-- What all offsets save,
+unfoldable pub total_saved : Flavor → List ℕ → ℕ
+total_saved f [] = 0
+total_saved f (b ∷ bytes) = saved (first_width f (b ∷ bytes)) b + total_saved f bytes
 
--- and of n offsets, from offset i of a window on.
-unfoldable pub weight_between : (ℕ → ℕ → ℕ) → Flavor → List ℕ → ℕ → ℕ → ℕ
-weight_between weight f window i zero = 0
-weight_between weight f window i (suc n) =
-    weight (width_at f window i) (slice_index window i) + weight_between weight f window (i + 1) n
+-- and n offsets, from offset i of a window on.
+unfoldable pub saved_between : Flavor → List ℕ → ℕ → ℕ → ℕ
+saved_between f window i zero = 0
+saved_between f window i (suc n) = saved (width_at f window i) (slice_index window i) + saved_between f window (i + 1) n

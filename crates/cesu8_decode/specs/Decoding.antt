@@ -1,18 +1,12 @@
--- What decoding a chunk at a time promises.
+-- What decoding promises: a chunk of text at the front of bytes, all of it, and what is written for a window.
 use Rattle.std.specs.Prelude.{◌≡◌, ℕ, ◌+◌, ◌*◌, ◌/◌, ◌<◌, ◌≤◌, Bool, true, false, List, [], ◌++◌, Vec, length, take, drop, vec_capacity, Option, IfSome, IfNone, Result, IfOk}
-use Rattle.cesu8_text.specs.Text.{IsText}
-use Rattle.cesu8_text.specs.Reading.{reading, NoneBegins, lossy_length, HasNoStrictReading}
-use Rattle.cesu8_text.specs.Encoding.{Flavor, encoding}
+use Rattle.cesu8_text.specs.Reading.{NoneBegins, HasNoStrictReading}
+use Rattle.cesu8_text.specs.Encoding.{Flavor}
 use Rattle.cesu8_bytes.specs.declared.strictness.Strictness.{Strictness}
 use Rattle.cesu8_bytes.specs.declared.strictness.Strictness.TheVariants.{Strict, Lossy}
 use Rattle.cesu8_decode.specs.declared.whole_blocks.TheConstants.{SPARE}
 use Rattle.cesu8_decode.specs.DecodedOffsets.{window_of, decoded, is_ill_formed_at}
 use Rattle.cesu8_bytes.specs.TextChunks.{IsReadSoFar, IsChunk}
-
--- The text of the bytes: it is the lossy reading, and in strict reading the bytes are its encoding.
-abbrev pub IsDecodedText : Flavor → Strictness → List ℕ → List ℕ → Type 0
-IsDecodedText f which bytes text =
-    IsText text × (text ≡ reading f bytes) × (which ≡ Strict → encoding f text ≡ bytes)
 
 -- Only strict reading refuses ill-formed bytes.
 abbrev pub refuses : Strictness → Bool → Bool
@@ -69,11 +63,6 @@ pub record ReadsAll (f : Flavor) (which : Strictness) (bytes : List ℕ) (read :
   pub first : ReadsFirst f which bytes read text is_ill_formed
   pub all : refuses which is_ill_formed ≡ false → read ≡ length bytes
 
--- No text of the bytes is longer.
-abbrev pub most_of_text : Flavor → Strictness → List ℕ → ℕ
-most_of_text f Strict bytes = length bytes
-most_of_text f Lossy bytes = lossy_length f bytes
-
 -- The strict reading of the bytes is appended to a vector, if there is one.
 pub record AppendsStrictly {Z : Type 0} (f : Flavor) (bytes : List ℕ) (before : Vec ℕ Z) (result : Option (Vec ℕ Z)) : Type 0 where
   pub text : IfSome result (λ text. IsReadSoFar f Strict bytes [] before.items text.items)
@@ -84,14 +73,6 @@ pub record AppendsStrictly {Z : Type 0} (f : Flavor) (bytes : List ℕ) (before 
 pub record BuildsReading {Z E : Type 0} (f : Flavor) (bytes : List ℕ) (result : Result (Vec ℕ Z) E) : Type 0 where
   pub text : IfOk result (λ text. IsChunk f Lossy bytes [] text.items)
   pub capacity : IfOk result (λ text. vec_capacity text ≡ length text.items)
-
--- The lossy reading of some bytes is written to the front of a slice, up to an end, and the bytes
--- after it stay.
-pub record IsWrittenSoFar (f : Flavor) (bytes rest : List ℕ) (end : ℕ) (old new : List ℕ) : Type 0 where
-  pub so_far : IsChunk f Lossy bytes rest (take end new)
-  pub room : end + lossy_length f rest ≡ lossy_length f bytes
-  pub behind : drop end new ≡ drop end old
-  pub len : length new ≡ length old
 
 -- The first n bytes are written, or strict reading refuses some byte.
 pub record IsWrittenUpTo (f : Flavor) (which : Strictness) (bytes : List ℕ) (n : ℕ) (text : List ℕ) (is_refused : Bool) : Type 0 where

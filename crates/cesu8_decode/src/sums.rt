@@ -4,8 +4,8 @@
 
 ghost use Rattle.std.specs.Prelude.{◌≡◌, ◌+◌, ◌-◌, ◌*◌, ◌<◌, ◌≤◌, length, drop, map};
 ghost use Rattle.std.specs.List.{range_with_len};
-ghost use Rattle.cesu8_decode.specs.DecodedOffsets.{saved, total_weight, weight_between};
-ghost use Rattle.cesu8_decode.specs.DecodedLanes.{weight_at};
+ghost use Rattle.cesu8_decode.specs.DecodedOffsets.{total_saved, saved_between};
+ghost use Rattle.cesu8_decode.specs.DecodedLanes.{saved_at};
 
 use super::offsets::{BEHIND, LEAD, REACH, look_up, starts};
 use cesu8_bytes::flavor::{Flavor, nulls};
@@ -31,8 +31,8 @@ pub fn sum_first<F: Flavor>(bytes: &[u8]) -> (usize, &[u8])
     requires { 0 < length bytes.now }
     ensures less { length result.1.now < length bytes.now }
     ensures behind { result.1.now ≡ drop (length bytes.now - length result.1.now) bytes.now }
-    ensures sum { result.0 + total_weight saved F.flavor result.1.now
-        ≡ total_weight saved F.flavor bytes.now }
+    ensures sum { result.0 + total_saved F.flavor result.1.now
+        ≡ total_saved F.flavor bytes.now }
 {
     if bytes.len() < REACH {
         // They are followed by FF, which begins nothing and is in no character, as far as a second
@@ -52,7 +52,7 @@ pub fn sum_first<F: Flavor>(bytes: &[u8]) -> (usize, &[u8])
 fn sum_of_blocks<F: Flavor>(bytes: &[u8], count: usize) -> usize
     requires count { count ≤ BLOCKS }
     requires bytes { 32 * count + BEHIND ≤ length bytes.now }
-    ensures { result ≡ weight_between saved F.flavor bytes.now 0 (32 * count) }
+    ensures { result ≡ saved_between F.flavor bytes.now 0 (32 * count) }
 {
     let mut lanes = u8x32::splat(0);
     for i in 0..count {
@@ -66,7 +66,7 @@ fn sum_of_blocks<F: Flavor>(bytes: &[u8], count: usize) -> usize
 #[inline(always)]
 fn saved_lanes<F: Flavor>(bytes: &[u8], at: usize) -> u8x32
     requires { at + REACH ≤ length bytes.now }
-    ensures { result ≡ map (weight_at saved F.flavor bytes.now) (range_with_len at 32) }
+    ensures { result ≡ map (saved_at F.flavor bytes.now) (range_with_len at 32) }
 {
     let byte = u8x32::from_slice(&bytes[at..]);
     // A byte below 80 is a character of its own, but 00 is none in MUTF-8.

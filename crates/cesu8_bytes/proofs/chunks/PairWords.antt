@@ -89,9 +89,9 @@ pair_is_word a b d e g h more a_byte b_byte d_byte e_byte g_byte h_byte pair =
     let h_top : bit_and h 0xC0 ≡ 0x80 = eqb-true _ _ (continuation_test h h_byte ∙ within 0x80 0xC0 h pair.ends.3) in
     masked a b d e g h more a_byte b_byte d_byte e_byte g_byte h_byte ∙ rw (b_top, d_top, g_top, h_top) (omega (arith, pair.lead, pair.ends.1))
 
--- The word of the UTF-8 that the word of a surrogate pair is joined to.
-abbrev joined_word : ℕ → ℕ
-joined_word word =
+-- The word of the UTF-8 that is written for the word of a surrogate pair.
+abbrev utf8_word : ℕ → ℕ
+utf8_word word =
     0x808080F0 + bit_and ((word + 0x100) % 2 ^ 64 / 2 ^ 10) 0x0F07
     + bit_and ((word + 0x100) % 2 ^ 64) 0x30300 * 2 ^ 4 % 2 ^ 64
     + bit_and ((word + 0x100) % 2 ^ 64 / 2 ^ 16) 0x3F0F0000
@@ -155,9 +155,9 @@ module _ (a w x e y z more : ℕ) (a_byte : a < 0x100) (w_low : w < 0x10) (x_low
       ) (omega arith)
 
 -- Its bytes are the UTF-8 of the character.
-pub joined_word_is : (c w x y z a e more word : ℕ) → IsPair c w x y z → a < 0x100 → e < 0x100 → more < 0x10000 →
-    word ≡ word_of a (0xA0 + w) (0x80 + x) e (0xB0 + y) (0x80 + z) more → to_le_bytes w32 (joined_word word) ≡ utf8_of c
-joined_word_is c w x y z a e more word digits a_byte e_byte more_low word_is =
+pub utf8_word_is : (c w x y z a e more word : ℕ) → IsPair c w x y z → a < 0x100 → e < 0x100 → more < 0x10000 →
+    word ≡ word_of a (0xA0 + w) (0x80 + x) e (0xB0 + y) (0x80 + z) more → to_le_bytes w32 (utf8_word word) ≡ utf8_of c
+utf8_word_is c w x y z a e more word digits a_byte e_byte more_low word_is =
     let w_low = digits.first in
     let x_low = digits.second in
     let y_low = digits.third in

@@ -1,7 +1,8 @@
 -- Offsets that no encoded character reaches over, told by the widths at the five before.
-use Rattle.std.proofs.Common.{◌≡◌, ℕ, zero, suc, ◌+◌, ◌-◌, ◌<◌, ◌≤◌, ◌⊎◌, ⊎_elim, Bool, true, false, leb, List, ◌∷◌, refl, ap, ◌∙◌, subst, inl, inr, arith, length, take, drop, get_or, cond, add-zero, zero-add, length-drop}
+use Rattle.std.proofs.Common.{◌≡◌, ℕ, zero, suc, ◌+◌, ◌-◌, ◌<◌, ◌≤◌, ◌⊎◌, ⊎_elim, Bool, true, false, leb, List, ◌∷◌, refl, ap, ◌∙◌, subst, arith, length, take, drop, get_or, cond, add-zero, zero-add, length-drop}
 use Rattle.std.proofs.lemmas.Bool.{and_parts, and_from, and_cases, leb-true, leb-false, le-leb, cases_lt, cases_Bool}
 use Rattle.std.proofs.lemmas.List.{take-append-drop, length-take-le}
+use Rattle.std.proofs.lemmas.Bool.Decides.{nat_tests}
 use Rattle.cesu8_text.specs.Encoding.{Flavor, Cesu8, Mutf8}
 use Rattle.cesu8_text.specs.Reading.{StandsAt, width}
 use Rattle.cesu8_text.specs.Laws.{NoneCrosses}
@@ -15,12 +16,7 @@ use Rattle.cesu8_decode.proofs.by_offset.WindowOffsets.{Follows, width_in}
 
 width_or_none : (one null two three pair : Bool) →
     let w : ℕ = cond one 1 (cond null 2 (cond two 2 (cond three 3 (cond pair 6 0)))) in (w ≤ 3) ⊎ (w ≡ 6)
-width_or_none true null two three pair = inl (omega arith)
-width_or_none false true two three pair = inl (omega arith)
-width_or_none false false true three pair = inl (omega arith)
-width_or_none false false false true pair = inl (omega arith)
-width_or_none false false false false true = inr refl
-width_or_none false false false false false = inl (omega arith)
+width_or_none one null two three pair = grind (arith, nat_tests)
 
 -- A width is 3 at most, or 6.
 pub width_bounds : (f : Flavor) (window : List ℕ) (i : ℕ) → (width_at f window i ≤ 3) ⊎ (width_at f window i ≡ 6)

@@ -7,18 +7,18 @@ use Rattle.cesu8_text.specs.Text.{IsScalarValue, utf8_of, utf8}
 use Rattle.cesu8_text.specs.Encoding.{Flavor, Cesu8, Mutf8, encoding}
 use Rattle.cesu8_text.specs.Reading.{width, lossy_length}
 use Rattle.cesu8_text.specs.Cutting.{Piece, Character, Replaced, ArePieces, bytes_of, text_of, IsGreedy}
-use Rattle.cesu8_decode.specs.DecodedOffsets.{saved, total_weight}
+use Rattle.cesu8_decode.specs.DecodedOffsets.{saved, total_saved}
 use Rattle.cesu8_text.proofs.text.Shapes.{Shape, one, two, three, pair, shape, utf8_of_one, utf8_of_two, utf8_of_three, utf8_of_pair}
 use Rattle.cesu8_text.proofs.encoding.Forms.{encoding_one, encoding_two, encoding_three, encoding_pair, short_form_null, short_form_other}
 use Rattle.cesu8_text.proofs.reading.Decoding.{length_utf8_replaced}
-use Rattle.cesu8_decode.proofs.by_offset.Weights.{first_weighs, replaced_weighs}
+use Rattle.cesu8_decode.proofs.by_offset.SavedTotals.{first_saves, replaced_saves}
 use Rattle.cesu8_text.proofs.reading.Cuttings.{greedy_cutting}
 use Rattle.cesu8_text.proofs.reading.Greedy.{places}
 
 -- what a character saves, and its UTF-8 and three times its bytes
 record Saves (f : Flavor) (c : ℕ) (rest : List ℕ) : Type 0 where
   pub some : ℕ
-  pub saves : total_weight saved f (encoding f (c ∷ []) ++ rest) ≡ some + total_weight saved f rest
+  pub saves : total_saved f (encoding f (c ∷ []) ++ rest) ≡ some + total_saved f rest
   pub fits : length (utf8_of c) + some ≡ 3 * width f c
 
 -- one whose UTF-8 has n bytes
@@ -26,7 +26,7 @@ by_lengths : (f : Flavor) (c b n : ℕ) (prefix rest : List ℕ) → IsScalarVal
     length (utf8_of c) ≡ n → n + saved (length (b ∷ prefix)) b ≡ 3 * length (b ∷ prefix) → Saves f c rest
 by_lengths f c b n prefix rest scalar same in_utf8 fits = record {
   some = saved (length (b ∷ prefix)) b;
-  saves = first_weighs saved (λ b. refl) f c b prefix rest scalar same;
+  saves = first_saves f c b prefix rest scalar same;
   fits = rw (in_utf8, ap length same) fits;
 }
 
@@ -50,8 +50,8 @@ character_saves f c rest scalar (pair w x y z digits) =
     (encoding_pair f c w x y z digits) (ap length (utf8_of_pair c w x y z digits)) refl
 
 pieces_save : (f : Flavor) (pieces : List Piece) → ArePieces pieces → IsGreedy f pieces →
-    length (utf8 (text_of pieces)) + total_weight saved f (bytes_of f pieces) ≡ 3 * length (bytes_of f pieces)
-unfolding total_weight
+    length (utf8 (text_of pieces)) + total_saved f (bytes_of f pieces) ≡ 3 * length (bytes_of f pieces)
+unfolding total_saved
 pieces_save f [] are_pieces is_greedy = refl
 pieces_save f (Character c ∷ pieces) are_pieces is_greedy =
     let first = character_saves f c (bytes_of f pieces) are_pieces.0 (shape c are_pieces.0) in
@@ -66,13 +66,13 @@ pieces_save f (Character c ∷ pieces) are_pieces is_greedy =
 pieces_save f (Replaced b ∷ pieces) are_pieces is_greedy =
     omega (
       arith,
-      replaced_weighs saved (λ b. refl) f b (bytes_of f pieces) is_greedy.0,
+      replaced_saves f b (bytes_of f pieces) is_greedy.0,
       pieces_save f pieces are_pieces.1 is_greedy.1,
       length_utf8_replaced (text_of pieces),
     )
 
 -- The lossy length is three times the bytes, less what all offsets save,
-pub lossy_length_by_savings : (f : Flavor) (bytes : List ℕ) → lossy_length f bytes + total_weight saved f bytes ≡ 3 * length bytes
+pub lossy_length_by_savings : (f : Flavor) (bytes : List ℕ) → lossy_length f bytes + total_saved f bytes ≡ 3 * length bytes
 unfolding lossy_length
 lossy_length_by_savings f bytes =
     let cutting = greedy_cutting f bytes in
@@ -80,7 +80,7 @@ lossy_length_by_savings f bytes =
       arith,
       pieces_save f cutting.pieces cutting.cuts.0 cutting.greedy,
       ap length cutting.cuts.1,
-      ap (total_weight saved f) cutting.cuts.1,
+      ap (total_saved f) cutting.cuts.1,
       ap (λ text. length (utf8 text)) (places f bytes cutting.pieces cutting.cuts cutting.greedy),
     )
 

@@ -1,7 +1,7 @@
 -- What is told of the offsets of a window rests on its bytes there and a few more.
 use Rattle.std.proofs.Common.{◌≡◌, ℕ, zero, suc, ◌+◌, ◌<◌, ◌≤◌, List, ◌++◌, refl, sym, ap, ◌∙◌, arith, get_or, append_assoc, add-zero, zero-add, suc-add, length, drop, length-drop, get_or-drop, ◌∷◌}
 use Rattle.cesu8_text.specs.Encoding.{Flavor}
-use Rattle.cesu8_decode.specs.DecodedOffsets.{first_width, first_width_by, width_at, decoded_byte, decoded_at, decoded, is_ill_formed_at, ill_formed_by, is_boundary_at, boundary_by, weight_between}
+use Rattle.cesu8_decode.specs.DecodedOffsets.{first_width, first_width_by, width_at, decoded_byte, decoded_at, decoded, is_ill_formed_at, ill_formed_by, is_boundary_at, boundary_by, saved_between}
 use Rattle.cesu8_decode.proofs.by_offset.WidthTests.{width_by_six}
 
 -- Two windows have the same n bytes, one from i on and the other from j on.
@@ -70,14 +70,14 @@ decoded_split f window i (suc m) n =
     let offset : i + 1 + m ≡ i + suc m = omega arith in
     rw (suc-add m n, decoded_split f window (i + 1) m n, offset) (sym (append_assoc (decoded_at f window i) _ _))
 
--- More offsets weigh what the first weigh and the others.
-pub weight_split : (weight : ℕ → ℕ → ℕ) (f : Flavor) (window : List ℕ) (i m n : ℕ) →
-    weight_between weight f window i (m + n) ≡ weight_between weight f window i m + weight_between weight f window (i + m) n
-unfolding weight_between
-weight_split weight f window i zero n = rw (add-zero i, zero-add n) (sym (zero-add (weight_between weight f window i n)))
-weight_split weight f window i (suc m) n =
+-- More offsets save what the first save and the others.
+pub saved_split : (f : Flavor) (window : List ℕ) (i m n : ℕ) →
+    saved_between f window i (m + n) ≡ saved_between f window i m + saved_between f window (i + m) n
+unfolding saved_between
+saved_split f window i zero n = rw (add-zero i, zero-add n) (sym (zero-add (saved_between f window i n)))
+saved_split f window i (suc m) n =
     let offset : i + 1 + m ≡ i + suc m = omega arith in
-    rw (suc-add m n, weight_split weight f window (i + 1) m n, offset) (omega arith)
+    rw (suc-add m n, saved_split f window (i + 1) m n, offset) (omega arith)
 
 -- From an offset on a window has the bytes, and zeros behind them.
 abbrev pub Follows : (window bytes : List ℕ) (i : ℕ) → Type 0

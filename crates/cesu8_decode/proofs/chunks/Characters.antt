@@ -124,10 +124,10 @@ null_read f which bytes old new null new_is =
     (new_is ∙ ap (λ bs. old ++ bs) (null_utf8 f bytes found (shape found.character found.begins.scalar) width_is
     (null_lead f (get_or bytes 0 0) (get_or bytes 1 0) null)))
 
--- Six bytes are a surrogate pair, and what joins its digits is its UTF-8.
+-- Six bytes are a surrogate pair, and what is written for its digits is its UTF-8.
 pair_utf8 : (f : Flavor) (bytes four : List ℕ) (found : IsWide f bytes) → Shape found.character → first_width f bytes ≡ 6 →
     IsUtf8OfDigits (second_third_fifth_sixth bytes) four → four ≡ utf8_of found.character
-pair_utf8 f bytes four found (one ascii) width_is joins =
+pair_utf8 f bytes four found (one ascii) width_is is_utf8 =
     absurd (omega (arith, width_is, found.wide, short_width f found.character ascii))
   where
     short_width : (f : Flavor) (c : ℕ) → c < 0x80 → width f c ≤ 2
@@ -135,12 +135,12 @@ pair_utf8 f bytes four found (one ascii) width_is joins =
     short_width Mutf8 c ascii =
         ⊎_elim (λ null. omega (arith, ap length (encoding_one Mutf8 c ascii ∙ short_form_null c null)))
         (λ some. omega (arith, ap length (encoding_one Mutf8 c ascii ∙ short_form_other Mutf8 c some))) (cases_eq c 0)
-pair_utf8 f bytes four found (two x y digits) width_is joins =
+pair_utf8 f bytes four found (two x y digits) width_is is_utf8 =
     absurd (omega (arith, width_is, found.wide, ap length (encoding_two f found.character x y digits)))
-pair_utf8 f bytes four found (three x y z digits) width_is joins =
+pair_utf8 f bytes four found (three x y z digits) width_is is_utf8 =
     absurd (omega (arith, width_is, found.wide, ap length (encoding_three f found.character x y z digits)))
-pair_utf8 f bytes four found (pair w x y z digits) width_is joins =
-    joins found.character w x y z digits
+pair_utf8 f bytes four found (pair w x y z digits) width_is is_utf8 =
+    is_utf8 found.character w x y z digits
     (ap second_third_fifth_sixth
     (found.begins.bytes_are ∙ ap (λ bs. bs ++ found.rest) (encoding_pair f found.character w x y z digits)))
 
@@ -153,10 +153,10 @@ pair_width f bytes long has_pair =
 -- So that is written for it.
 pub pair_read : (f : Flavor) (which : Strictness) (bytes old four new : List ℕ) → first_width f bytes ≡ 6 →
     IsUtf8OfDigits (second_third_fifth_sixth bytes) four → new ≡ old ++ four → IsReadSoFar f which bytes (drop 6 bytes) old new
-pair_read f which bytes old four new width_is joins new_is =
+pair_read f which bytes old four new width_is is_utf8 new_is =
     let found = wide f bytes (omega arith) in
     character_read f which bytes old new 6 width_is found
-    (new_is ∙ ap (λ bs. old ++ bs) (pair_utf8 f bytes four found (shape found.character found.begins.scalar) width_is joins))
+    (new_is ∙ ap (λ bs. old ++ bs) (pair_utf8 f bytes four found (shape found.character found.begins.scalar) width_is is_utf8))
 
 -- Where the width is 0, no character begins the bytes,
 none_of_width : (f : Flavor) (bytes : List ℕ) → first_width f bytes ≡ 0 → NoneBegins f bytes

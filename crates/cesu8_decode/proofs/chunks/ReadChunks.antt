@@ -1,9 +1,9 @@
 -- Text that is read a chunk at a time.
 use Rattle.std.proofs.Common.{◌≡◌, ℕ, ◌+◌, ◌<◌, ◌≤◌, List, ⊎_elim, [], ◌∷◌, ◌++◌, refl, sym, ap, ◌∙◌, arith, length, append-nil, length-append, true, false, Bool, subst, drop, append_assoc, length-drop}
-use Rattle.cesu8_text.specs.Text.{utf8}
+use Rattle.cesu8_text.specs.Text.{IsText, utf8}
 use Rattle.cesu8_text.specs.Encoding.{Flavor, encoding}
-use Rattle.cesu8_text.specs.Reading.{reading, lossy_length, IsStrictReading, HasNoStrictReading}
-use Rattle.cesu8_decode.specs.Decoding.{IsDecodedText, HasFault, refuses, ReadsFirst, ReadsAll, most_of_text}
+use Rattle.cesu8_text.specs.Reading.{reading, lossy_length, HasNoStrictReading}
+use Rattle.cesu8_decode.specs.Decoding.{HasFault, refuses, ReadsFirst, ReadsAll}
 use Rattle.cesu8_bytes.specs.TextChunks.{IsReadSoFar, IsChunk}
 use Rattle.cesu8_bytes.specs.declared.strictness.Strictness.{Strictness}
 use Rattle.cesu8_text.proofs.encoding.Encodings.{encoding_nil, encoding_append}
@@ -15,8 +15,12 @@ use Rattle.cesu8_bytes.specs.declared.strictness.Strictness.TheVariants.{Strict,
 use Rattle.cesu8_text.proofs.StdUtf8.{IsUtf8_utf8, chars_utf8}
 use Rattle.cesu8_text.proofs.encoding.Lengths.{length_bounds}
 use Rattle.cesu8_text.proofs.encoding.Unique.{no_reading}
-use Rattle.cesu8_text.proofs.reading.EncodedTexts.{reading_encoding}
 use Rattle.cesu8_text.proofs.reading.Decoding.{IsText_append, utf8_append}
+
+-- The text of the bytes: it is the lossy reading, and in strict reading the bytes are its encoding.
+abbrev pub IsDecodedText : Flavor → Strictness → List ℕ → List ℕ → Type 0
+IsDecodedText f which bytes text =
+    IsText text × (text ≡ reading f bytes) × (which ≡ Strict → encoding f text ≡ bytes)
 
 -- Before the first chunk nothing is read, and all bytes are left.
 pub nothing_read : (f : Flavor) (which : Strictness) (bytes old : List ℕ) → IsReadSoFar f which bytes bytes old old
@@ -136,6 +140,11 @@ chunk_length f bytes rest chunk read =
     ap (λ text. length (utf8 text)) read.lossy_reading ∙ ap length (utf8_append read.text (reading f rest))
     ∙ length-append (utf8 read.text) (utf8 (reading f rest)) ∙ ap (λ bs. length bs + length (utf8 (reading f rest))) (sym read.written)
 
+-- No text of the bytes is longer.
+abbrev pub most_of_text : Flavor → Strictness → List ℕ → ℕ
+most_of_text f Strict bytes = length bytes
+most_of_text f Lossy bytes = lossy_length f bytes
+
 -- No text that is left is longer than what the chunk leaves room for.
 pub chunk_fits : (f : Flavor) (which : Strictness) (bytes rest chunk : List ℕ) → IsChunk f which bytes rest chunk →
     length chunk + most_of_text f which rest ≤ most_of_text f which bytes
@@ -167,17 +176,6 @@ pub all_chunk : (f : Flavor) (which : Strictness) (bytes text : List ℕ) (read 
     refuses which is_ill_formed ≡ false → IsChunk f which bytes [] text
 all_chunk f which bytes text read is_ill_formed reads fine =
     none_left f which bytes (drop read bytes) [] text (reads.first.chunk fine) (omega (arith, length-drop read bytes, reads.all fine))
-
--- So is a strict reading that was written.
-pub strict_chunk : (f : Flavor) (bytes text : List ℕ) → IsStrictReading f bytes text → IsChunk f Strict bytes [] (utf8 text)
-strict_chunk f bytes text reads = record {
-  text = text;
-  scalars = reads.0;
-  lossy_reading = sym (ap (reading f) reads.1) ∙ reading_encoding f text reads.0
-      ∙ sym (ap (λ cs. text ++ cs) (reading_nil f) ∙ append-nil text);
-  strict_reading = λ _. sym (append-nil (encoding f text) ∙ reads.1);
-  written = refl;
-}
 
 -- Where encoded characters were read from the front, and then what is left, the first of all bytes are read.
 pub first_after : (f : Flavor) (which : Strictness) (bytes front text whole : List ℕ) (read more : ℕ) (is_ill_formed : Bool) → read ≤ length bytes →

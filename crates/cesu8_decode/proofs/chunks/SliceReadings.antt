@@ -11,7 +11,7 @@ use Rattle.cesu8_bytes.specs.declared.strictness.Strictness.{Strictness}
 use Rattle.cesu8_bytes.specs.declared.strictness.Strictness.TheVariants.{Strict, Lossy}
 use Rattle.cesu8_text.specs.Slices.{StandsAtFront, ReadsAtLength}
 use Rattle.cesu8_bytes.specs.Puts.{PutsAnswer}
-use Rattle.cesu8_decode.specs.Decoding.{IsDecodedText, ReadsAll, refuses}
+use Rattle.cesu8_decode.specs.Decoding.{ReadsAll, refuses}
 use Rattle.cesu8_decode.specs.PutReadings.{PutsText, ReadsAs, IsReadingOf}
 use Rattle.cesu8_decode.specs.declared.refusal.Unwritten.{Unwritten}
 use Rattle.cesu8_decode.specs.declared.refusal.Unwritten.TheVariants as unwritten
@@ -19,7 +19,7 @@ use Rattle.cesu8_bytes.specs.declared.writers.NoRoom.{NoRoom}
 use Rattle.cesu8_text.proofs.StdUtf8.{IsUtf8Of_chars}
 use Rattle.cesu8_text.proofs.encoding.Lengths.{length_bounds}
 use Rattle.cesu8_text.proofs.reading.KeptTexts.{strict_only}
-use Rattle.cesu8_decode.proofs.chunks.ReadChunks.{chunk_utf8, whole_text, chunk_unless_refused}
+use Rattle.cesu8_decode.proofs.chunks.ReadChunks.{IsDecodedText, chunk_utf8, whole_text, chunk_unless_refused}
 
 -- ---- the only text
 

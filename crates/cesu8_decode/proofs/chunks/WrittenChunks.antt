@@ -5,11 +5,20 @@ use Rattle.cesu8_text.specs.Text.{utf8}
 use Rattle.cesu8_text.specs.Encoding.{Flavor}
 use Rattle.cesu8_text.specs.Reading.{reading, lossy_length}
 use Rattle.cesu8_text.specs.Slices.{StandsAtFront}
-use Rattle.cesu8_decode.specs.Decoding.{ReadsFirst, IsWrittenSoFar}
+use Rattle.cesu8_decode.specs.Decoding.{ReadsFirst}
+use Rattle.cesu8_bytes.specs.TextChunks.{IsChunk}
 use Rattle.cesu8_bytes.specs.declared.strictness.Strictness.TheVariants.{Lossy}
 use Rattle.cesu8_bytes.proofs.lists.Ends.{stays_behind}
 use Rattle.cesu8_decode.proofs.chunks.ReadChunks.{nothing_read, all_read, more_read, chunk_appended, chunk_length}
 use Rattle.cesu8_text.proofs.reading.Decoding.{lossy_length_nil}
+
+-- The lossy reading of some bytes is written to the front of a slice, up to an end, and the bytes
+-- after it stay.
+pub record IsWrittenSoFar (f : Flavor) (bytes rest : List ℕ) (end : ℕ) (old new : List ℕ) : Type 0 where
+  pub so_far : IsChunk f Lossy bytes rest (take end new)
+  pub room : end + lossy_length f rest ≡ lossy_length f bytes
+  pub behind : drop end new ≡ drop end old
+  pub len : length new ≡ length old
 
 -- Before the first chunk nothing is written.
 pub nothing_written : (f : Flavor) (bytes old : List ℕ) → IsWrittenSoFar f bytes bytes 0 old old

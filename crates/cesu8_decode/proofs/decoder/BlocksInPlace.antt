@@ -10,12 +10,11 @@ use Rattle.cesu8_bytes.specs.declared.strictness.Strictness.{Strictness}
 use Rattle.cesu8_bytes.specs.declared.strictness.Strictness.TheVariants.{Strict, Lossy}
 use Rattle.cesu8_bytes.specs.TextChunks.{IsChunk}
 use Rattle.cesu8_bytes.proofs.vectors.Loads.{padded}
-use Rattle.cesu8_decode.specs.DecodedOffsets.{window_of, is_ill_formed_at, is_boundary_at, decoded_at, decoded}
+use Rattle.cesu8_decode.specs.DecodedOffsets.{window_of, is_ill_formed_at, is_boundary_at, decoded_byte, decoded_at, decoded}
 use Rattle.cesu8_decode.specs.DecodedLanes.{start_kind_by, start_kind, AreFiveKinds, goes_at, byte_at}
 use Rattle.cesu8_decode.specs.Decoding.{IsWrittenUpTo, ReadsFirst, most_written}
 use Rattle.cesu8_decode.proofs.by_offset.WindowOffsets.{Agree, follows_zeros, boundary_agrees, ill_formed_agrees, decoded_agrees, decoded_split}
 use Rattle.cesu8_decode.proofs.chunks.DecodedChunks.{IsPaddedFor, padded_for, fault_at, lossy_chunk, strict_chunk}
-use Rattle.cesu8_decode.proofs.decoder.DecodedParts.{decoded_is_written}
 use Rattle.cesu8_decode.proofs.decoder.DecodedWindows.{five_kinds, kinds_of_zeros}
 use Rattle.cesu8_decode.proofs.by_offset.CharacterBoundaries.{boundary_of_zeros, boundary_at_end, boundary_near}
 
@@ -34,12 +33,12 @@ at_most_three false false b = omega arith
 -- Bytes become no more bytes where none is ill-formed, and else at most three for each.
 pub no_longer : (f : Flavor) (which : Strictness) (window : List ℕ) (at n : ℕ) →
     (which ≡ Strict → (i : ℕ) → at ≤ i → i < at + n → is_ill_formed_at f window i ≡ false) → length (decoded f window at n) ≤ most_written which n
-unfolding decoded
+unfolding decoded decoded_byte
 no_longer f Strict window at zero fine = omega arith
 no_longer f Lossy window at zero fine = omega arith
 no_longer f Strict window at (suc n) fine =
     let is : decoded_at f window at ≡ written_for (goes_at f window at) false (byte_at f window at) =
-    decoded_is_written f window at ∙ ap (λ t. written_for (goes_at f window at) t (byte_at f window at)) (fine refl at (omega arith) (omega arith)) in
+    ap (λ t. written_for (goes_at f window at) t (byte_at f window at)) (fine refl at (omega arith) (omega arith)) in
     omega (
       arith,
       ap length is,
@@ -50,7 +49,6 @@ no_longer f Strict window at (suc n) fine =
 no_longer f Lossy window at (suc n) fine =
     omega (
       arith,
-      ap length (decoded_is_written f window at),
       at_most_three (goes_at f window at) (is_ill_formed_at f window at) (byte_at f window at),
       no_longer f Lossy window (at + 1) n (λ strict i low inside. fine strict i (omega arith) (omega arith)),
       length-append (decoded_at f window at) (decoded f window (at + 1) n),

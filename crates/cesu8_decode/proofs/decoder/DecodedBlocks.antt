@@ -10,12 +10,11 @@ use lib.Lanes.{zip2, sel_l, pick_l, mask_l, chunk, Each1}
 use Rattle.cesu8_text.specs.Encoding.{Flavor, Cesu8, Mutf8}
 use Rattle.cesu8_text.specs.Class.{is_null}
 use Rattle.cesu8_bytes.specs.Kernels.{mask}
-use Rattle.cesu8_decode.specs.DecodedOffsets.{first_width_by, is_ill_formed_at, decoded_at, decoded}
+use Rattle.cesu8_decode.specs.DecodedOffsets.{first_width_by, is_ill_formed_at, decoded_byte, decoded_at, decoded}
 use Rattle.cesu8_bytes.specs.Packing.{written}
 use Rattle.cesu8_decode.specs.DecodedLanes.{start_kind, AreFiveKinds, AreKindsNear, is_high, goes_at, byte_at, written_lanes}
 use Rattle.cesu8_decode.specs.declared.parts.TheConstants.{FIRST_BY_SECOND, SECOND_BY_SECOND, THIRD_BY_THIRD}
 use Rattle.cesu8_bytes.proofs.vectors.Loads.{loaded}
-use Rattle.cesu8_decode.proofs.decoder.DecodedParts.{decoded_is_written}
 use Rattle.cesu8_decode.proofs.decoder.StartKinds.{start_at, null_bit}
 use Rattle.cesu8_decode.proofs.decoder.LaneTests.{gone_lane, lane_goes, covered_lane, ill_formed_lane, lane_ill_formed, mask_fits, byte_lane, lane_byte, paired_lane, byte_unpaired}
 use Rattle.cesu8_decode.proofs.decoder.FirstLanes.{behind_lanes, before_lanes, gone_behind, well_formed_behind, written_first, no_lane, on_range}
@@ -237,8 +236,9 @@ none_null f window at before bytes other are long =
 
 written_offsets : (f : Flavor) (window : List ℕ) (offsets : List ℕ) →
     written (map (goes_at f window) offsets) (map (is_ill_formed_at f window) offsets) (map (byte_at f window) offsets) ≡ flat_map (decoded_at f window) offsets
+unfolding decoded_byte
 written_offsets f window [] = refl
-written_offsets f window (i ∷ offsets) = λ k. sym (decoded_is_written f window i) k ++ written_offsets f window offsets k
+written_offsets f window (i ∷ offsets) = ap (λ bs. decoded_at f window i ++ bs) (written_offsets f window offsets)
 
 -- What is written for the lanes is what the first bytes become.
 pub block_written : (f : Flavor) (window : List ℕ) (at count m n : ℕ) (gone ill_formed bytes : List ℕ) →

@@ -1,6 +1,6 @@
 -- What is read and written by windows.
-use Rattle.std.proofs.Common.{append_assoc, ◌≡◌, ℕ, ◌+◌, ◌<◌, ◌≤◌, ◌⊎◌, ⊎_elim, Bool, true, false, ◌&&◌, not, eqb, leb, List, [], ◌∷◌, ◌++◌, refl, sym, ap, ◌∙◌, arith, map, get_or, length, take, drop, replicate, zero-add, add-zero, bit_and, bit_or}
-use Rattle.std.proofs.lemmas.Bool.{ne_eqb, eq-eqb, le-leb, lt-leb}
+use Rattle.std.proofs.Common.{append_assoc, ◌≡◌, ℕ, ◌+◌, ◌<◌, ◌≤◌, ◌⊎◌, Bool, ◌&&◌, not, eqb, leb, List, [], ◌∷◌, ◌++◌, sym, ap, ◌∙◌, arith, map, get_or, length, take, drop, replicate, zero-add, add-zero, bit_and, bit_or}
+use Rattle.std.proofs.lemmas.Bool.Decides.{nat_tests}
 use Rattle.cesu8_text.specs.Encoding.{Flavor}
 use Rattle.cesu8_decode.specs.DecodedOffsets.{width_at, is_boundary_at, decoded}
 use Rattle.cesu8_decode.specs.DecodedLanes.{start_kind, AreFiveKinds}
@@ -19,21 +19,10 @@ use Rattle.cesu8_decode.proofs.decoder.LaneTests.{no_bit_or, no_pair}
 
 -- a pair reaches over two offsets more, and nothing else does
 by_bounds : (w n : ℕ) → (w ≤ 3) ⊎ (w ≡ 6) → 3 ≤ n → n < 6 → not (eqb w 6) ≡ leb w n
-by_bounds w n bounds low high =
-    ⊎_elim (λ (small : w ≤ 3). ap not (ne_eqb w 6 (λ six. omega arith)) ∙ sym (le-leb w n (omega arith)))
-    (λ (six : w ≡ 6). ap not (eq-eqb w 6 six) ∙ sym (lt-leb w n (omega arith))) bounds
+by_bounds w n bounds low high = grind (arith, nat_tests)
 
 regroup : (a b c d e : Bool) → ((a && b) && ((e && d) && c)) ≡ (a && (b && (c && (d && e))))
-regroup false b c d e = refl
-regroup true false c d e = refl
-regroup true true false false false = refl
-regroup true true false false true = refl
-regroup true true false true false = refl
-regroup true true false true true = refl
-regroup true true true false false = refl
-regroup true true true false true = refl
-regroup true true true true false = refl
-regroup true true true true true = refl
+regroup a b c d e = grind (arith, nat_tests)
 
 -- The kinds of five offsets tell whether there is a boundary behind them.
 pub boundary_told : (f : Flavor) (window kinds : List ℕ) (n at : ℕ) → AreFiveKinds f window n kinds at →

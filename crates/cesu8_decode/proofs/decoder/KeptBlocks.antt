@@ -7,18 +7,18 @@ use Rattle.std.proofs.lemmas.List.FromFn.{take-map-range_with_len}
 use Rattle.std.proofs.lemmas.Simd.{map-map, take_more_put_chunk}
 use Rattle.std.proofs.Math.Seq.{take-append-add}
 use lib.Lanes.{zip2, mask_l, chunk, put_chunk}
+use Rattle.std.proofs.lemmas.Bool.Decides.{nat_tests}
 use Rattle.cesu8_text.specs.Encoding.{Flavor, Cesu8, Mutf8}
 use Rattle.cesu8_text.specs.Class.{is_null}
 use Rattle.cesu8_bytes.specs.Kernels.{mask}
 use Rattle.cesu8_bytes.specs.Pairs.{null_at}
 use Rattle.cesu8_bytes.specs.Packing.{written_for}
 use Rattle.cesu8_bytes.proofs.vectors.Loads.{loaded}
-use Rattle.cesu8_decode.specs.DecodedOffsets.{one_at, two_at, three_at, pair_at, continues, first_width_by, width_at, is_ill_formed_at, decoded_at, decoded}
+use Rattle.cesu8_decode.specs.DecodedOffsets.{one_at, two_at, three_at, pair_at, continues, first_width_by, width_at, is_ill_formed_at, decoded_byte, decoded_at, decoded}
 use Rattle.cesu8_decode.specs.DecodedLanes.{start_kind, AreKindsNear, NoneBeginsChanged, AreParts, is_high, goes_at, byte_at}
-use Rattle.cesu8_decode.proofs.decoder.StartKinds.{Start, nothing, one, null, two_low, two_high, three_low, three_high, three_last, pair, start_at, low_one, no_start, one_by_first, pair_bit}
+use Rattle.cesu8_decode.proofs.decoder.StartKinds.{Start, by_kind, start_at, low_one, no_start, one_by_first, pair_bit}
 use Rattle.cesu8_decode.proofs.decoder.LaneTests.{high_or, shifted_or, no_one}
 use Rattle.cesu8_decode.proofs.decoder.FirstLanes.{no_bit, no_lane, on_range, behind_lanes, none_go}
-use Rattle.cesu8_decode.proofs.decoder.DecodedParts.{decoded_is_written, pair_or_less}
 
 -- ---- bytes that stay
 
@@ -33,7 +33,8 @@ AllStay f window at n = (i : ℕ) → at ≤ i → i < at + n → Stays f window
 
 module _ (f : Flavor) (window : List ℕ) where
   becomes_itself : (i : ℕ) → Stays f window i → decoded_at f window i ≡ get_or window (i + 5) 0 ∷ []
-  becomes_itself i stays = decoded_is_written f window i ∙ (λ k. written_for (stays.goes k) (stays.well_formed k) (stays.byte k))
+  unfolding decoded_byte
+  becomes_itself i stays = (λ k. written_for (stays.goes k) (stays.well_formed k) (stays.byte k))
 
   -- Bytes that stay become themselves.
   pub stay_decoded : (at n : ℕ) → AllStay f window at n → map (λ i. get_or window (i + 5) 0) (range_with_len at n) ≡ decoded f window at n
@@ -73,6 +74,11 @@ pair_high a b d e g h begun =
       omega (arith, leb-true 0xB0 g h6.0),
       leb-true 0x80 h last.0,
     )
+
+-- A width of 6 is that of a pair.
+pair_or_less : (is_one is_null is_two is_three is_pair : Bool) →
+    ◌≡◌ {A = ℕ} (cond is_one 1 (cond is_null 2 (cond is_two 2 (cond is_three 3 (cond is_pair 6 0))))) 6 → is_pair ≡ true
+pair_or_less is_one is_null is_two is_three is_pair six = grind (arith, nat_tests)
 
 six_high : (f : Flavor) (a b d e g h : ℕ) → first_width_by f a b d e g h ≡ 6 → (0x80 ≤ b) × (0x80 ≤ d) × (0x80 ≤ e) × (0x80 ≤ g) × (0x80 ≤ h)
 unfolding first_width_by
@@ -162,33 +168,23 @@ module _ (f : Flavor) (window : List ℕ) where
 -- ---- blocks where none changes
 
 other_start : (a w c : ℕ) → Start a w c → (eqb c 0x20 || eqb c 0x80) ≡ false → (eqb w 6 ≡ false) × ((eqb w 2 && eqb a 0xC0) ≡ false)
-other_start a w c nothing none = (refl, refl)
-other_start a w c (one low) none = (refl, refl)
-other_start a w c (null first) none = absurd (true≢false none)
-other_start a w c (two_low other) none = (refl, other)
-other_start a w c (two_high other) none = (refl, other)
-other_start a w c three_low none = (refl, refl)
-other_start a w c three_high none = (refl, refl)
-other_start a w c three_last none = (refl, refl)
-other_start a w c pair none = absurd (true≢false none)
+other_start = by_kind (λ t w c. (eqb c 0x20 || eqb c 0x80) ≡ false → (eqb w 6 ≡ false) × ((eqb w 2 && t) ≡ false)) (
+  λ set. absurd (true≢false set),
+  λ _. (refl, refl),
+  λ _. (refl, refl),
+  λ t. (λ _. (refl, refl), λ _. (refl, refl), λ _. (refl, refl), λ _. (refl, refl), λ _. (refl, refl), λ set. absurd (true≢false set)),
+)
 
 low_kind : (a w c : ℕ) → Start a w c → leb 0x80 c ≡ false → leb 0x80 (c * 2 ^ 2 % 2 ^ 8) ≡ false → (eqb c 0x20 || eqb c 0x80) ≡ false
-low_kind a w c nothing low unset = refl
-low_kind a w c (one first) low unset = refl
-low_kind a w c (null first) low unset = absurd (true≢false low)
-low_kind a w c (two_low other) low unset = refl
-low_kind a w c (two_high other) low unset = refl
-low_kind a w c three_low low unset = refl
-low_kind a w c three_high low unset = refl
-low_kind a w c three_last low unset = refl
-low_kind a w c pair low unset = absurd (true≢false unset)
+low_kind = by_kind (λ t w c. leb 0x80 c ≡ false → leb 0x80 (c * 2 ^ 2 % 2 ^ 8) ≡ false → (eqb c 0x20 || eqb c 0x80) ≡ false) (
+  λ set _. absurd (true≢false set),
+  λ _ _. refl,
+  λ _ _. refl,
+  λ t. (λ _ _. refl, λ _ _. refl, λ _ _. refl, λ _ _. refl, λ _ _. refl, λ _ set. absurd (true≢false set)),
+)
 
 none_of : (p q r s : Bool) → ((p || q) || (r || s)) ≡ false → (p ≡ false) × (q ≡ false) × (r ≡ false) × (s ≡ false)
-none_of false false false false e = (refl, refl, refl, refl)
-none_of false false false true e = absurd (true≢false e)
-none_of false false true s e = absurd (true≢false e)
-none_of false true r s e = absurd (true≢false e)
-none_of true q r s e = absurd (true≢false e)
+none_of p q r s e = grind (arith, nat_tests)
 
 abbrev around_lane : (c c' : ℕ) → ℕ
 around_lane c c' = bit_or (bit_or c c') (bit_or c c' * 2 ^ 2 % 2 ^ 8)

@@ -1,6 +1,6 @@
 -- What the decoder's vectors say of one byte, by the kinds of what begins at its offset and before.
-use Rattle.std.proofs.Common.{◌≡◌, ℕ, ◌+◌, ◌*◌, ◌/◌, ◌%◌, ◌^◌, ◌<◌, ◌≤◌, ⊎_elim, Bool, true, false, ◌&&◌, ◌||◌, not, eqb, leb, ltb, List, refl, sym, ap, ◌∙◌, arith, cond, get_or, bit_and, bit_or, add-zero, true≢false}
-use Rattle.std.proofs.lemmas.Bool.{agree_below_at, cases_lt, eqb-true, le-leb, lt-leb, eq-eqb, ne_eqb, cases_eq}
+use Rattle.std.proofs.Common.{◌≡◌, ℕ, ◌+◌, ◌*◌, ◌/◌, ◌%◌, ◌^◌, ◌<◌, Bool, true, false, ◌&&◌, ◌||◌, not, eqb, leb, ltb, List, refl, sym, ap, ◌∙◌, arith, cond, get_or, bit_and, bit_or, add-zero, true≢false}
+use Rattle.std.proofs.lemmas.Bool.{agree_below_at, eqb-true}
 use Rattle.std.proofs.lemmas.Bool.Decides.{nat_tests}
 use Rattle.std.proofs.lemmas.Nat.{and_mask, le_or_l, le_or_r, or_lt, or_mod, or_block, or_shifted}
 use Rattle.cesu8_text.specs.Encoding.{Flavor, Cesu8, Mutf8}
@@ -10,34 +10,20 @@ use Rattle.cesu8_decode.specs.DecodedOffsets.{one_at, two_at, three_at, pair_at,
 use Rattle.cesu8_bytes.specs.Pairs.{null_at}
 use Rattle.cesu8_decode.specs.DecodedLanes.{start_kind, is_high, byte_at}
 use Rattle.cesu8_decode.specs.declared.parts.TheConstants.{FIRST_BY_SECOND, SECOND_BY_SECOND, THIRD_BY_THIRD}
-use Rattle.cesu8_decode.proofs.decoder.StartKinds.{Start, nothing, one, null, two_low, two_high, three_low, three_high, three_last, pair, start_at, pair_bit, over_two, over_one, null_bit}
+use Rattle.cesu8_decode.proofs.decoder.StartKinds.{Start, by_kind, start_at, shifted_pair, over_two, over_one, null_bit}
 
 -- ---- bits of two numbers
 
 -- The highest bit is set where one of two has it,
 pub high_or : (a b : ℕ) → leb 0x80 (bit_or a b) ≡ (leb 0x80 a || leb 0x80 b)
-high_or a b =
-    ⊎_elim (λ (low : a < 0x80). ⊎_elim
-    (λ (low' : b < 0x80). lt-leb 0x80 (bit_or a b) (or_lt 7 a b low low')
-    ∙ sym ((λ i. lt-leb 0x80 a low i || lt-leb 0x80 b low' i)))
-    (λ (high : 0x80 ≤ b). le-leb 0x80 (bit_or a b) (omega (arith, le_or_r a b))
-    ∙ sym ((λ i. lt-leb 0x80 a low i || le-leb 0x80 b high i)))
-    (cases_lt b 0x80))
-    (λ (high : 0x80 ≤ a). le-leb 0x80 (bit_or a b) (omega (arith, le_or_l a b)) ∙ sym (ap (λ t. t || leb 0x80 b) (le-leb 0x80 a high)))
-    (cases_lt a 0x80)
+high_or a b = grind (arith, nat_tests, or_lt 7 a b, le_or_l a b, le_or_r a b)
 
 zero_or_less : (a b : ℕ) → a ≡ 0 → b ≡ 0 → bit_or a b ≡ 0
 zero_or_less a b e e' = rw (e, e') refl
 
 -- and no bit where none of them has one.
 pub no_bit_or : (a b : ℕ) → eqb (bit_or a b) 0 ≡ (eqb a 0 && eqb b 0)
-no_bit_or a b =
-    ⊎_elim (λ (none : a ≡ 0). ⊎_elim
-    (λ (none' : b ≡ 0). eq-eqb (bit_or a b) 0 (zero_or_less a b none none') ∙ sym ((λ i. eq-eqb a 0 none i && eq-eqb b 0 none' i)))
-    (λ some. ne_eqb (bit_or a b) 0 (λ e. some (omega (arith, le_or_r a b))) ∙ sym ((λ i. eq-eqb a 0 none i && ne_eqb b 0 some i)))
-    (cases_eq b 0))
-    (λ some. ne_eqb (bit_or a b) 0 (λ e. some (omega (arith, le_or_l a b))) ∙ sym (ap (λ t. t && eqb b 0) (ne_eqb a 0 some)))
-    (cases_eq a 0)
+no_bit_or a b = grind (arith, nat_tests, le_or_l a b, le_or_r a b, zero_or_less a b)
 
 -- A shift shifts both.
 pub shifted_or : (a b : ℕ) → bit_or a b * 2 ^ 2 % 2 ^ 8 ≡ bit_or (a * 2 ^ 2 % 2 ^ 8) (b * 2 ^ 2 % 2 ^ 8)
@@ -52,36 +38,17 @@ shifted_or a b =
 abbrev pub gone_lane : (here before : ℕ) → ℕ
 gone_lane here before = bit_or here (bit_or here before * 2 ^ 2 % 2 ^ 8)
 
-shifted_pair : (a w c : ℕ) → Start a w c → leb 0x80 (c * 2 ^ 2 % 2 ^ 8) ≡ eqb w 6
-shifted_pair a w c nothing = refl
-shifted_pair a w c (one low) = refl
-shifted_pair a w c (null first) = refl
-shifted_pair a w c (two_low other) = refl
-shifted_pair a w c (two_high other) = refl
-shifted_pair a w c three_low = refl
-shifted_pair a w c three_high = refl
-shifted_pair a w c three_last = refl
-shifted_pair a w c pair = refl
-
 -- Without a pair's bit it makes no difference whether a mask has that, nor one that no kind has.
 pub no_pair_begun : (a w c : ℕ) → Start a w c → leb 0x80 (c * 2 ^ 2 % 2 ^ 8) ≡ false → (bit_and c 0x9F ≡ bit_and c 0xDF) × (bit_and c 0x9F ≡ bit_and c 0xFF)
-no_pair_begun a w c nothing unset = (refl, refl)
-no_pair_begun a w c (one low) unset = (refl, refl)
-no_pair_begun a w c (null first) unset = (refl, refl)
-no_pair_begun a w c (two_low other) unset = (refl, refl)
-no_pair_begun a w c (two_high other) unset = (refl, refl)
-no_pair_begun a w c three_low unset = (refl, refl)
-no_pair_begun a w c three_high unset = (refl, refl)
-no_pair_begun a w c three_last unset = (refl, refl)
-no_pair_begun a w c pair unset = absurd (true≢false unset)
+no_pair_begun = by_kind
+    (λ t w c. leb 0x80 (c * 2 ^ 2 % 2 ^ 8) ≡ false → (bit_and c 0x9F ≡ bit_and c 0xDF) × (bit_and c 0x9F ≡ bit_and c 0xFF))
+    (same, same, same, λ t. (same, same, same, same, same, λ set. absurd (true≢false set)))
+  where
+    same : {n : ℕ} → false ≡ false → (n ≡ n) × (n ≡ n)
+    same _ = (refl, refl)
 
 last_first : (n p q : Bool) → (n || (p || q)) ≡ (p || (q || n))
-last_first true true q = refl
-last_first true false true = refl
-last_first true false false = refl
-last_first false true q = refl
-last_first false false true = refl
-last_first false false false = refl
+last_first n p q = grind (arith, nat_tests)
 
 -- It says whether the byte goes.
 pub lane_goes : (a w c a' w' c' : ℕ) → Start a w c → Start a' w' c' →
@@ -98,11 +65,7 @@ covered_lane c0 c1 c2 c3 c4 c5 =
     bit_or (bit_or (bit_or c0 c1) (bit_and c2 0x3C)) (bit_or (bit_or (bit_and c3 0x20) (bit_and c4 0x20)) (bit_and c5 0x20))
 
 pub no_pair : (a w c : ℕ) → Start a w c → eqb (bit_and c 0x20) 0 ≡ not (eqb w 6)
-no_pair a w c what = ap (λ n. eqb n 0) (pair_bit a w c what) ∙ by_test (eqb w 6)
-  where
-    by_test : (t : Bool) → eqb (cond t 0x20 0) 0 ≡ not t
-    by_test true = refl
-    by_test false = refl
+no_pair = by_kind (λ t w c. eqb (bit_and c 0x20) 0 ≡ not (eqb w 6)) (refl, refl, refl, λ t. (refl, refl, refl, refl, refl, refl))
 
 -- It has no bit where nothing of two bytes or more covers the byte.
 covered_is : (f : Flavor) (window : List ℕ) (i : ℕ) →
@@ -127,12 +90,7 @@ covered_is f window i =
 
 one_or_more : (is_one is_null is_two is_three is_pair : Bool) →
     let w : ℕ = cond is_one 1 (cond is_null 2 (cond is_two 2 (cond is_three 3 (cond is_pair 6 0)))) in leb 1 w ≡ cond (leb w 1) is_one true
-one_or_more true is_null is_two is_three is_pair = refl
-one_or_more false true is_two is_three is_pair = refl
-one_or_more false false true is_three is_pair = refl
-one_or_more false false false true is_pair = refl
-one_or_more false false false false true = refl
-one_or_more false false false false false = refl
+one_or_more is_one is_null is_two is_three is_pair = grind (arith, nat_tests)
 
 -- What begins at an offset and has no two bytes is one byte.
 begins_one : (f : Flavor) (window : List ℕ) (i : ℕ) →
@@ -165,19 +123,7 @@ masked true x small = agree_below_at (λ x. leb 0x80 (bit_and 0xFF x)) (λ x. le
 ill_formed_by_tests : (t s0 s1 s2 p3 p4 p5 : Bool) →
     ((((s0 && s1) && s2) && ((not p3 && not p4) && not p5)) && not t)
     ≡ not (cond s0 t true || (not s1 || (not s2 || (p3 || (p4 || p5)))))
-ill_formed_by_tests t false s1 s2 p3 p4 p5 = refl
-ill_formed_by_tests true true false s2 p3 p4 p5 = refl
-ill_formed_by_tests false true false s2 p3 p4 p5 = refl
-ill_formed_by_tests true true true false p3 p4 p5 = refl
-ill_formed_by_tests false true true false p3 p4 p5 = refl
-ill_formed_by_tests true true true true true p4 p5 = refl
-ill_formed_by_tests false true true true true p4 p5 = refl
-ill_formed_by_tests true true true true false true p5 = refl
-ill_formed_by_tests false true true true false true p5 = refl
-ill_formed_by_tests true true true true false false true = refl
-ill_formed_by_tests false true true true false false true = refl
-ill_formed_by_tests true true true true false false false = refl
-ill_formed_by_tests false true true true false false false = refl
+ill_formed_by_tests t s0 s1 s2 p3 p4 p5 = grind (arith, nat_tests)
 
 over : (n w : ℕ) → not (leb w n) ≡ leb (n + 1) w
 over n w = grind (arith, nat_tests)
@@ -239,11 +185,7 @@ byte_lane c1 c2 c3 c4 two_before before b =
     (cond (leb 0x80 (c4 * 2 ^ 2 % 2 ^ 8)) (third_byte two_before b) (cond (leb 0x80 c1) 0 b)))
 
 none_of : (n p q r : Bool) → (n || ((p || q) || r)) ≡ false → (n ≡ false) × (p ≡ false) × (q ≡ false) × (r ≡ false)
-none_of false false false false e = (refl, refl, refl, refl)
-none_of false false false true e = absurd (true≢false e)
-none_of false false true r e = absurd (true≢false e)
-none_of false true q r e = absurd (true≢false e)
-none_of true p q r e = absurd (true≢false e)
+none_of n p q r e = grind (arith, nat_tests)
 
 -- It is the byte that is written.
 pub lane_byte : (f : Flavor) (window : List ℕ) (i : ℕ) →

@@ -1,6 +1,7 @@
 -- What the kind of an offset says: how wide the character is that begins there, and its lead byte.
-use Rattle.std.proofs.Common.{◌≡◌, ℕ, ◌+◌, ◌<◌, Bool, true, false, ◌&&◌, cond, eqb, leb, ltb, List, refl, sym, arith, get_or, bit_and}
-use Rattle.std.proofs.lemmas.Bool.{and_parts, eqb-true, leb-true, ltb-true, ne_eqb, lt-leb}
+use Rattle.std.proofs.Common.{◌≡◌, ℕ, ◌+◌, ◌*◌, ◌^◌, ◌%◌, ◌<◌, Bool, true, false, ◌&&◌, cond, eqb, leb, ltb, List, refl, arith, get_or, bit_and}
+use Rattle.std.proofs.lemmas.Bool.{and_parts, leb-true, ltb-true, ne_eqb, lt-leb}
+use Rattle.std.proofs.lemmas.Bool.Decides.{nat_tests}
 use Rattle.cesu8_text.specs.Encoding.{Flavor, Cesu8, Mutf8}
 use Rattle.cesu8_decode.specs.DecodedOffsets.{one_at, two_at, three_at, pair_at, first_width_by, width_at}
 use Rattle.cesu8_bytes.specs.Pairs.{null_at}
@@ -10,14 +11,31 @@ use Rattle.cesu8_decode.specs.DecodedLanes.{start_kind_by, kind_of_two, start_ki
 -- surrogate pair; with the width and the kind of each.
 pub data Start (a : ℕ) : ℕ → ℕ → Type 0 where
   nothing : Start a 0 0
-  one : a < 0x80 → Start a 1 0
-  null : a ≡ 0xC0 → Start a 2 0x80
+  one : Start a 1 0
+  null : eqb a 0xC0 ≡ true → Start a 2 0x80
   two_low : eqb a 0xC0 ≡ false → Start a 2 0x01
   two_high : eqb a 0xC0 ≡ false → Start a 2 0x02
   three_low : Start a 3 0x04
   three_high : Start a 3 0x08
   three_last : Start a 3 0x10
   pair : Start a 6 0x20
+
+-- What holds of each width and its kind, and of whether the byte is C0,
+abbrev Holds : (Bool → ℕ → ℕ → Type 0) → Type 0
+Holds P =
+    P true 2 0x80 × P false 2 0x01 × P false 2 0x02 × ((t : Bool) → P t 0 0 × P t 1 0 × P t 3 0x04 × P t 3 0x08 × P t 3 0x10 × P t 6 0x20)
+
+-- holds of what begins.
+pub by_kind : (P : Bool → ℕ → ℕ → Type 0) → Holds P → (a w c : ℕ) → Start a w c → P (eqb a 0xC0) w c
+by_kind P holds a w c nothing = (holds.3 (eqb a 0xC0)).0
+by_kind P holds a w c one = (holds.3 (eqb a 0xC0)).1
+by_kind P holds a w c (null first) = rw first holds.0
+by_kind P holds a w c (two_low other) = rw other holds.1
+by_kind P holds a w c (two_high other) = rw other holds.2
+by_kind P holds a w c three_low = (holds.3 (eqb a 0xC0)).2
+by_kind P holds a w c three_high = (holds.3 (eqb a 0xC0)).3
+by_kind P holds a w c three_last = (holds.3 (eqb a 0xC0)).4
+by_kind P holds a w c pair = (holds.3 (eqb a 0xC0)).5
 
 two_by : (a : ℕ) (t : Bool) → eqb a 0xC0 ≡ false → Start a 2 (cond t 0x01 0x02)
 two_by a true other = two_low other
@@ -28,28 +46,26 @@ three_by a true u = three_low
 three_by a false true = three_last
 three_by a false false = three_high
 
-start_by : (a : ℕ) (is_one is_null is_two is_three is_pair : Bool) → (is_one ≡ true → a < 0x80) → (is_null ≡ true → a ≡ 0xC0) →
-    (is_two ≡ true → eqb a 0xC0 ≡ false) →
+start_by : (a : ℕ) (is_one is_null is_two is_three is_pair : Bool) → (is_null ≡ true → eqb a 0xC0 ≡ true) → (is_two ≡ true → eqb a 0xC0 ≡ false) →
     (is_one ≡ true → (is_null ≡ false) × (is_two ≡ false) × (is_three ≡ false) × (is_pair ≡ false)) →
     Start a (cond is_one 1 (cond is_null 2 (cond is_two 2 (cond is_three 3 (cond is_pair 6 0)))))
     (cond is_null 0x80 (cond is_two (cond (ltb a 0xD0) 0x01 0x02)
     (cond is_three (cond (eqb a 0xE0) 0x04 (cond (eqb a 0xED) 0x10 0x08)) (cond is_pair 0x20 0))))
-start_by a true is_null is_two is_three is_pair low first other alone =
-    let only = alone refl in rw (only.0, only.1, only.2, only.3) (one (low refl))
-start_by a false true is_two is_three is_pair low first other alone = null (first refl)
-start_by a false false true is_three is_pair low first other alone = two_by a (ltb a 0xD0) (other refl)
-start_by a false false false true is_pair low first other alone = three_by a (eqb a 0xE0) (eqb a 0xED)
-start_by a false false false false true low first other alone = pair
-start_by a false false false false false low first other alone = nothing
+start_by a true is_null is_two is_three is_pair first other alone = let only = alone refl in rw (only.0, only.1, only.2, only.3) one
+start_by a false true is_two is_three is_pair first other alone = null (first refl)
+start_by a false false true is_three is_pair first other alone = two_by a (ltb a 0xD0) (other refl)
+start_by a false false false true is_pair first other alone = three_by a (eqb a 0xE0) (eqb a 0xED)
+start_by a false false false false true first other alone = pair
+start_by a false false false false false first other alone = nothing
 
 -- A character of one byte is below 80.
 pub low_one : (f : Flavor) (a : ℕ) → one_at f a ≡ true → a < 0x80
 low_one Cesu8 a t = ltb-true a 0x80 t
 low_one Mutf8 a t = ltb-true a 0x80 (and_parts (leb 1 a) (ltb a 0x80) t).1
 
-first_null : (f : Flavor) (a b : ℕ) → null_at f a b ≡ true → a ≡ 0xC0
+first_null : (f : Flavor) (a b : ℕ) → null_at f a b ≡ true → eqb a 0xC0 ≡ true
 first_null Cesu8 a b t = absurd (cc)
-first_null Mutf8 a b t = eqb-true a 0xC0 (and_parts (eqb a 0xC0) (eqb b 0x80) t).0
+first_null Mutf8 a b t = (and_parts (eqb a 0xC0) (eqb b 0x80) t).0
 
 low_is_no_null : (f : Flavor) (a b : ℕ) → a < 0xC0 → null_at f a b ≡ false
 low_is_no_null Cesu8 a b low = refl
@@ -59,8 +75,7 @@ low_is_no_null Mutf8 a b low = rw (ne_eqb a 0xC0 (λ e. omega arith)) refl
 pub start : (f : Flavor) (a b d e g h : ℕ) → Start a (first_width_by f a b d e g h) (start_kind_by f a b d e g h)
 unfolding first_width_by start_kind_by
 start f a b d e g h =
-    start_by a (one_at f a) (null_at f a b) (two_at a b) (three_at a b d) (pair_at a b d e g h)
-    (low_one f a) (first_null f a b)
+    start_by a (one_at f a) (null_at f a b) (two_at a b) (three_at a b d) (pair_at a b d e g h) (first_null f a b)
     (λ t. let low = leb-true 0xC2 a (and_parts (leb 0xC2 a) _ t).0 in ne_eqb a 0xC0 (λ same. omega arith))
     (λ t. let low = low_one f a t in (
       low_is_no_null f a b (omega arith),
@@ -82,12 +97,7 @@ two_decide f a b d e g h low = rw (lt-leb 0xE0 a low, ne_eqb a 0xED (λ same. om
 
 one_by : (is_one is_null is_two is_three is_pair : Bool) →
     eqb (cond is_one 1 (cond is_null 2 (cond is_two 2 (cond is_three 3 (cond is_pair 6 0))))) 1 ≡ is_one
-one_by true is_null is_two is_three is_pair = refl
-one_by false true is_two is_three is_pair = refl
-one_by false false true is_three is_pair = refl
-one_by false false false true is_pair = refl
-one_by false false false false true = refl
-one_by false false false false false = refl
+one_by is_one is_null is_two is_three is_pair = grind (arith, nat_tests)
 
 -- The first of them tells whether it is one byte.
 pub one_by_first : (f : Flavor) (a b d e g h : ℕ) → eqb (first_width_by f a b d e g h) 1 ≡ one_at f a
@@ -103,48 +113,20 @@ start_at f window i =
 
 -- The bit of a pair is set where one begins,
 pub pair_bit : (a w c : ℕ) → Start a w c → bit_and c 0x20 ≡ cond (eqb w 6) 0x20 0
-pair_bit a w c nothing = refl
-pair_bit a w c (one low) = refl
-pair_bit a w c (null first) = refl
-pair_bit a w c (two_low other) = refl
-pair_bit a w c (two_high other) = refl
-pair_bit a w c three_low = refl
-pair_bit a w c three_high = refl
-pair_bit a w c three_last = refl
-pair_bit a w c pair = refl
+pair_bit = by_kind (λ t w c. bit_and c 0x20 ≡ cond (eqb w 6) 0x20 0) (refl, refl, refl, λ t. (refl, refl, refl, refl, refl, refl))
 
--- one of these or that of three bytes where there are more than two bytes,
+-- and shifted to the highest.
+pub shifted_pair : (a w c : ℕ) → Start a w c → leb 0x80 (c * 2 ^ 2 % 2 ^ 8) ≡ eqb w 6
+shifted_pair = by_kind (λ t w c. leb 0x80 (c * 2 ^ 2 % 2 ^ 8) ≡ eqb w 6) (refl, refl, refl, λ t. (refl, refl, refl, refl, refl, refl))
+
+-- One of these or that of three bytes is where there are more than two bytes,
 pub over_two : (a w c : ℕ) → Start a w c → eqb (bit_and c 0x3C) 0 ≡ leb w 2
-over_two a w c nothing = refl
-over_two a w c (one low) = refl
-over_two a w c (null first) = refl
-over_two a w c (two_low other) = refl
-over_two a w c (two_high other) = refl
-over_two a w c three_low = refl
-over_two a w c three_high = refl
-over_two a w c three_last = refl
-over_two a w c pair = refl
+over_two = by_kind (λ t w c. eqb (bit_and c 0x3C) 0 ≡ leb w 2) (refl, refl, refl, λ t. (refl, refl, refl, refl, refl, refl))
 
 -- some bit where there is more than one byte,
 pub over_one : (a w c : ℕ) → Start a w c → eqb c 0 ≡ leb w 1
-over_one a w c nothing = refl
-over_one a w c (one low) = refl
-over_one a w c (null first) = refl
-over_one a w c (two_low other) = refl
-over_one a w c (two_high other) = refl
-over_one a w c three_low = refl
-over_one a w c three_high = refl
-over_one a w c three_last = refl
-over_one a w c pair = refl
+over_one = by_kind (λ t w c. eqb c 0 ≡ leb w 1) (refl, refl, refl, λ t. (refl, refl, refl, refl, refl, refl))
 
 -- and the highest where C0 begins two bytes.
 pub null_bit : (a w c : ℕ) → Start a w c → leb 0x80 c ≡ (eqb w 2 && eqb a 0xC0)
-null_bit a w c nothing = refl
-null_bit a w c (one low) = refl
-null_bit a w c (null first) = rw first refl
-null_bit a w c (two_low other) = sym other
-null_bit a w c (two_high other) = sym other
-null_bit a w c three_low = refl
-null_bit a w c three_high = refl
-null_bit a w c three_last = refl
-null_bit a w c pair = refl
+null_bit = by_kind (λ t w c. leb 0x80 c ≡ (eqb w 2 && t)) (refl, refl, refl, λ t. (refl, refl, refl, refl, refl, refl))

@@ -1,5 +1,5 @@
 use Rattle.std.proofs.Common.{◌≡◌, ◌∙◌, ◌+◌, ◌*◌, ◌<◌, ℕ, refl, get_or, arith}
-use Rattle.cesu8_bytes.proofs.chunks.PairWords.{joined_word_is}
+use Rattle.cesu8_bytes.proofs.chunks.PairWords.{utf8_word_is}
 use Rattle.cesu8_bytes.proofs.pairs.utf8_of_pair.Goals as goal
 
 pub returns : goal.returns
@@ -11,5 +11,5 @@ returns c scalar w x y z digits four_is =
     let fifth : b 4 0 ≡ 0xB0 + y = cc in
     let sixth : b 5 0 ≡ 0x80 + z = cc in
     c.to_le_bytes.ensures
-    ∙ joined_word_is scalar w x y z (b 0 0) (b 3 0) (b 6 0 + b 7 0 * 0x100) c.first_word-word.result digits
+    ∙ utf8_word_is scalar w x y z (b 0 0) (b 3 0) (b 6 0 + b 7 0 * 0x100) c.first_word-word.result digits
     (byte 0) (byte 3) (omega (arith, byte 6, byte 7)) (c.first_word-word.ensures ∙ rw (second, third, fifth, sixth) refl)

@@ -1,8 +1,7 @@
 use Rattle.std.proofs.Common.{◌≡◌, ◌∙◌, sym, arith, length}
 use Rattle.std.proofs.lemmas.Bool.{eqb-true}
-use Rattle.cesu8_decode.specs.DecodedOffsets.{saved}
 use Rattle.cesu8_decode.proofs.by_offset.Savings.{lossy_length_by_savings, length_given}
-use Rattle.cesu8_decode.proofs.by_offset.Weights.{no_weight}
+use Rattle.cesu8_decode.proofs.by_offset.SavedTotals.{empty_saves}
 use Rattle.cesu8_decode.proofs.lengths.lossy_len.Goals as goal
 
 pub overflow_sub-len : goal.overflow_sub-len
@@ -15,7 +14,7 @@ returns g c =
     let none : length c.loop-rest.rest.now ≡ 0 = eqb-true _ _ (sym c.is_empty.ensures ∙ c.loop-rest-test.false) in
     let whole = lossy_length_by_savings f c.args.bytes.now in
     let given = length_given c.try_from.result _ _ c.try_from.ensures
-    (omega (arith, whole, c.loop-rest.invariant, no_weight saved f c.loop-rest.rest.now none)) in
+    (omega (arith, whole, c.loop-rest.invariant, empty_saves f c.loop-rest.rest.now none)) in
     rw c.ok.ensures.value (record { some = given.0; none = given.1 })
 
 pub loop-rest-preserved : goal.loop-rest-preserved

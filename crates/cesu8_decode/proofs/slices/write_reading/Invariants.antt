@@ -1,5 +1,5 @@
 use Rattle.std.proofs.Common.{length}
-use Rattle.cesu8_decode.specs.Decoding.{IsWrittenSoFar}
+use Rattle.cesu8_decode.proofs.chunks.WrittenChunks.{IsWrittenSoFar}
 use Rattle.cesu8_decode.proofs.slices.write_reading.Given as goal
 
 abbrev pub decreases-loop-rest : goal.decreases-loop-rest

@@ -3,11 +3,8 @@ use Rattle.std.specs.List.{range_with_len}
 use Rattle.std.proofs.lemmas.Simd.{pick_l-range_with_len}
 use Rattle.cesu8_text.specs.Class.{is_null}
 use Rattle.cesu8_bytes.proofs.vectors.Loads.{marks_here}
-use Rattle.cesu8_decode.specs.declared.sums.TheConstants.{SAVED_BY_ONE, SAVED_BY_LOW, SAVED_BY_HIGH}
 use Rattle.cesu8_decode.proofs.decoder.StartLanes.{all_below}
-use Rattle.cesu8_decode.proofs.decoder.WeightLanes.{weight_lanes_are, no_lead_weigh}
-use Rattle.cesu8_decode.specs.DecodedOffsets.{saved}
-use Rattle.cesu8_decode.proofs.decoder.Savings.{savings_told, nothing_saved}
+use Rattle.cesu8_decode.proofs.decoder.SavedLanes.{saved_lanes_are, no_lead_save}
 use Rattle.cesu8_decode.proofs.sums.saved_lanes.Goals as goal
 
 pub returns-then-bits-eq0 : goal.returns-then-bits-eq0
@@ -18,7 +15,7 @@ returns-then-bits-eq0 g c =
     let room : at + 32 ≤ length bytes = omega arith in
     let none = sym c.bits.ensures ∙ c.if-bits-eq0.true in
     rw (marks_here (is_null f) bytes at c.nulls.result room c.nulls.ensures, sym (pick_l-range_with_len 0 bytes at 32 room))
-    (no_lead_weigh saved SAVED_BY_ONE SAVED_BY_LOW SAVED_BY_HIGH savings_told f bytes nothing_saved at (all_below f bytes c.type_inv.bytes 0xC0 at room none))
+    (no_lead_save f bytes at (all_below f bytes c.type_inv.bytes 0xC0 at room none))
 
 pub returns : goal.returns
 returns g c =
@@ -31,4 +28,4 @@ returns g c =
       c.look_up.ensures,
       c.look_up-2.ensures,
       c.starts-kinds.ensures,
-    ) (weight_lanes_are saved SAVED_BY_ONE SAVED_BY_LOW SAVED_BY_HIGH savings_told f bytes (range_with_len c.args.at 32))
+    ) (saved_lanes_are f bytes (range_with_len c.args.at 32))

@@ -1,19 +1,17 @@
 use Rattle.std.proofs.Common.{◌≡◌, arith, ◌∙◌}
 use Rattle.std.proofs.lemmas.Simd.{dot4_Fits}
 use Rattle.cesu8_bytes.proofs.vectors.Counts.{dots_sum_fits, dots_sum}
-use Rattle.cesu8_decode.proofs.decoder.WeightLanes.{block_fits, block_summed, no_sum}
-use Rattle.cesu8_decode.specs.DecodedOffsets.{saved}
-use Rattle.cesu8_decode.proofs.decoder.Savings.{saves_little}
+use Rattle.cesu8_decode.proofs.decoder.SavedLanes.{block_fits, block_summed, no_sum}
 use Rattle.cesu8_decode.proofs.sums.sum_of_blocks.Goals as goal
 
 pub overflow_add-lanes : goal.overflow_add-lanes
-overflow_add-lanes g c = block_fits _ saves_little _ _ _ _ _ c.loop-i.invariant c.saved_lanes-lanes.ensures (omega arith)
+overflow_add-lanes g c = block_fits _ _ _ _ _ c.loop-i.invariant c.saved_lanes-lanes.ensures (omega arith)
 
 pub loop-i-init : goal.loop-i-init
-loop-i-init g c = no_sum saved g.F.Flavor.flavor c.args.bytes.now
+loop-i-init g c = no_sum g.F.Flavor.flavor c.args.bytes.now
 
 pub loop-i-preserved : goal.loop-i-preserved
-loop-i-preserved g c = block_summed _ saves_little _ _ _ _ _ c.loop-i.invariant c.saved_lanes-lanes.ensures
+loop-i-preserved g c = block_summed _ _ _ _ _ c.loop-i.invariant c.saved_lanes-lanes.ensures
 
 pub dot4 : goal.dot4
 dot4 g c = (dot4_Fits c.loop-i.lanes _ c.loop-i.auto.lanes.1 tt, tt)

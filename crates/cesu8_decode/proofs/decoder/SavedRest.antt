@@ -1,12 +1,12 @@
--- What the last offsets of bytes weigh, where FF stands behind them.
+-- What the last offsets of bytes save, where FF stands behind them.
 use Rattle.std.proofs.Common.{◌≡◌, ℕ, zero, suc, ◌+◌, ◌-◌, ◌*◌, ◌<◌, ◌≤◌, ◌⊎◌, ⊎_elim, List, ◌++◌, length, get_or, replicate, refl, sym, ap, ◌∙◌, inl, inr, arith}
 use Rattle.std.proofs.lemmas.Bool.{cases_lt}
 use Rattle.std.proofs.lemmas.List.{get_or_past, get_or_append_left, get_or-append_right, get_or-replicate}
 use Rattle.cesu8_text.specs.Encoding.{Flavor, Cesu8, Mutf8}
-use Rattle.cesu8_decode.specs.DecodedOffsets.{first_width_by, weight_between, total_weight}
-use Rattle.cesu8_decode.specs.DecodedLanes.{weight_at}
-use Rattle.cesu8_decode.proofs.by_offset.WindowOffsets.{weight_split}
-use Rattle.cesu8_decode.proofs.by_offset.Weights.{all_offsets}
+use Rattle.cesu8_decode.specs.DecodedOffsets.{first_width_by, saved, saved_between, total_saved}
+use Rattle.cesu8_decode.specs.DecodedLanes.{saved_at}
+use Rattle.cesu8_decode.proofs.by_offset.WindowOffsets.{saved_split}
+use Rattle.cesu8_decode.proofs.by_offset.SavedTotals.{all_offsets}
 
 -- ---- FF instead of 00 changes no width, but at the first offset
 
@@ -28,27 +28,27 @@ unfolding first_width_by
 none_begins Cesu8 b d e g h = refl
 none_begins Mutf8 b d e g h = refl
 
--- ---- sums over offsets that weigh alike
+-- ---- sums over offsets that save alike
 
-weigh_alike : (weight : ℕ → ℕ → ℕ) (f : Flavor) (a b : List ℕ) (i n : ℕ) → ((k : ℕ) → k < i + n → weight_at weight f a k ≡ weight_at weight f b k) →
-    weight_between weight f a i n ≡ weight_between weight f b i n
-unfolding weight_between
-weigh_alike weight f a b i zero same = refl
-weigh_alike weight f a b i (suc n) same =
-    let rest = weigh_alike weight f a b (i + 1) n (λ k small. same k (omega arith)) in
+saved_alike : (f : Flavor) (a b : List ℕ) (i n : ℕ) → ((k : ℕ) → k < i + n → saved_at f a k ≡ saved_at f b k) →
+    saved_between f a i n ≡ saved_between f b i n
+unfolding saved_between
+saved_alike f a b i zero same = refl
+saved_alike f a b i (suc n) same =
+    let rest = saved_alike f a b (i + 1) n (λ k small. same k (omega arith)) in
     (λ j. same i (omega arith) j + rest j)
 
-weigh_nothing : (weight : ℕ → ℕ → ℕ) (f : Flavor) (a : List ℕ) (i n : ℕ) → ((k : ℕ) → i ≤ k → k < i + n → weight_at weight f a k ≡ 0) →
-    weight_between weight f a i n ≡ 0
-unfolding weight_between
-weigh_nothing weight f a i zero none = refl
-weigh_nothing weight f a i (suc n) none =
-    let rest = weigh_nothing weight f a (i + 1) n (λ k low small. none k (omega arith) (omega arith)) in
+none_saved : (f : Flavor) (a : List ℕ) (i n : ℕ) → ((k : ℕ) → i ≤ k → k < i + n → saved_at f a k ≡ 0) →
+    saved_between f a i n ≡ 0
+unfolding saved_between
+none_saved f a i zero none = refl
+none_saved f a i (suc n) none =
+    let rest = none_saved f a (i + 1) n (λ k low small. none k (omega arith) (omega arith)) in
     (λ j. none i (omega arith) (omega arith) j + rest j)
 
 -- ---- bytes with FF behind them
 
-module _ (weight : ℕ → ℕ → ℕ) (nothing : (b : ℕ) → weight 0 b ≡ 0) (f : Flavor) (bytes : List ℕ) (n : ℕ) where
+module _ (f : Flavor) (bytes : List ℕ) (n : ℕ) where
   abbrev padded : List ℕ
   padded = bytes ++ replicate n 0xFF
 
@@ -65,9 +65,9 @@ module _ (weight : ℕ → ℕ → ℕ) (nothing : (b : ℕ) → weight 0 b ≡ 
       ⊎_elim (λ (inside : k < length bytes). inl (here k inside))
       (λ (past : length bytes ≤ k). inr (behind k past small, get_or_past bytes k 0 past)) (cases_lt k (length bytes))
 
-  weight_here : (k : ℕ) → k < length bytes → 5 ≤ n → weight_at weight f padded k ≡ weight_at weight f bytes k
+  saved_here : (k : ℕ) → k < length bytes → 5 ≤ n → saved_at f padded k ≡ saved_at f bytes k
   unfolding first_width_by
-  weight_here k inside room =
+  saved_here k inside room =
       let p = λ (j : ℕ). get_or padded j 0 in
       let b = λ (j : ℕ). get_or bytes j 0 in
       let width =
@@ -78,29 +78,29 @@ module _ (weight : ℕ → ℕ → ℕ) (nothing : (b : ℕ) → weight 0 b ≡ 
       ∙ alike (λ n. first_width_by f (p k) (b (k + 1)) (b (k + 2)) (b (k + 3)) n (p (k + 5))) (p (k + 4)) (b (k + 4)) refl (filled (k + 4) (omega arith))
       ∙ alike (λ n. first_width_by f (p k) (b (k + 1)) (b (k + 2)) (b (k + 3)) (b (k + 4)) n) (p (k + 5)) (b (k + 5)) refl (filled (k + 5) (omega arith))
       ∙ ap (λ a. first_width_by f a (b (k + 1)) (b (k + 2)) (b (k + 3)) (b (k + 4)) (b (k + 5))) (here k inside) in
-      (λ j. weight (width j) (here k inside j))
+      (λ j. saved (width j) (here k inside j))
 
-  weight_behind : (k : ℕ) → length bytes ≤ k → k < length bytes + n → weight_at weight f padded k ≡ 0
-  weight_behind k past small =
+  saved_behind : (k : ℕ) → length bytes ≤ k → k < length bytes + n → saved_at f padded k ≡ 0
+  saved_behind k past small =
       let p = λ (j : ℕ). get_or padded j 0 in
       let width =
       ap (λ a. first_width_by f a (p (k + 1)) (p (k + 2)) (p (k + 3)) (p (k + 4)) (p (k + 5))) (behind k past small)
       ∙ none_begins f (p (k + 1)) (p (k + 2)) (p (k + 3)) (p (k + 4)) (p (k + 5)) in
-      ap (λ w. weight w (p k)) width ∙ nothing (p k)
+      ap (λ w. saved w (p k)) width
 
-  -- They weigh what the bytes weigh.
-  pub weight_with_end : (m : ℕ) → length bytes ≤ m → m + 5 ≤ length bytes + n → weight_between weight f padded 0 m ≡ total_weight weight f bytes
-  weight_with_end m some room =
+  -- They save what the bytes save.
+  pub saved_with_end : (m : ℕ) → length bytes ≤ m → m + 5 ≤ length bytes + n → saved_between f padded 0 m ≡ total_saved f bytes
+  saved_with_end m some room =
       let parts : m ≡ length bytes + (m - length bytes) = omega arith in
-      let split = ap (weight_between weight f padded 0) parts ∙ weight_split weight f padded 0 (length bytes) (m - length bytes) in
-      let front = weigh_alike weight f padded bytes 0 (length bytes) (λ k small. weight_here k (omega arith) (omega arith)) in
-      let back = weigh_nothing weight f padded (0 + length bytes) (m - length bytes) (λ k low small. weight_behind k (omega arith) (omega arith)) in
-      omega (arith, split, front, back, all_offsets weight f bytes)
+      let split = ap (saved_between f padded 0) parts ∙ saved_split f padded 0 (length bytes) (m - length bytes) in
+      let front = saved_alike f padded bytes 0 (length bytes) (λ k small. saved_here k (omega arith) (omega arith)) in
+      let back = none_saved f padded (0 + length bytes) (m - length bytes) (λ k low small. saved_behind k (omega arith) (omega arith)) in
+      omega (arith, split, front, back, all_offsets f bytes)
 
--- The blocks that have all of a few bytes, with FF behind them, weigh what the bytes weigh.
-pub weight_filled : (weight : ℕ → ℕ → ℕ) → ((b : ℕ) → weight 0 b ≡ 0) → (f : Flavor) (bytes padded : List ℕ) (count : ℕ) →
+-- The blocks that have all of a few bytes, with FF behind them, save what the bytes save.
+pub saved_filled : (f : Flavor) (bytes padded : List ℕ) (count : ℕ) →
     length bytes ≤ 32 * count → count ≤ 2 → padded ≡ bytes ++ replicate (69 - length bytes) 0xFF →
-    weight_between weight f padded 0 (32 * count) ≡ total_weight weight f bytes
-weight_filled weight nothing f bytes padded count all few is =
-    ap (λ p. weight_between weight f p 0 (32 * count)) is
-    ∙ weight_with_end weight nothing f bytes (69 - length bytes) (32 * count) (omega arith) (omega arith)
+    saved_between f padded 0 (32 * count) ≡ total_saved f bytes
+saved_filled f bytes padded count all few is =
+    ap (λ p. saved_between f p 0 (32 * count)) is
+    ∙ saved_with_end f bytes (69 - length bytes) (32 * count) (omega arith) (omega arith)

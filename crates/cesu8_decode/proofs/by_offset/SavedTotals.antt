@@ -1,0 +1,64 @@
+-- What bytes save, which is what the characters save that begin in them.
+use Rattle.std.proofs.Common.{◌≡◌, ℕ, ◌+◌, ◌<◌, ◌≤◌, List, [], ◌∷◌, ◌++◌, refl, sym, ap, ◌∙◌, arith, length, zero-add, add-zero, subst, get_or, drop, suc, length-drop, get_or-drop}
+use Rattle.cesu8_text.specs.Text.{IsScalarValue}
+use Rattle.cesu8_text.specs.Encoding.{Flavor, encoding}
+use Rattle.cesu8_text.specs.Reading.{NoneBegins}
+use Rattle.cesu8_decode.specs.DecodedOffsets.{first_width, saved, total_saved, saved_between}
+use Rattle.cesu8_decode.proofs.by_offset.FirstWidths.{begins_encoded, width_of_first, width_of_none, width_inside}
+use Rattle.cesu8_decode.proofs.by_offset.WindowOffsets.{Follows, follows_later, width_following, saved_split}
+
+-- No bytes save nothing.
+pub empty_saves : (f : Flavor) (bytes : List ℕ) → length bytes ≡ 0 → total_saved f bytes ≡ 0
+unfolding total_saved
+empty_saves f [] none = refl
+empty_saves f (b ∷ bytes) none = absurd (omega arith)
+
+module _ (f : Flavor) where
+  -- offsets where none begins save nothing
+  free : (prefix rest : List ℕ) → ((j : ℕ) → j < length prefix → first_width f (drop j (prefix ++ rest)) ≡ 0) →
+      total_saved f (prefix ++ rest) ≡ total_saved f rest
+  unfolding total_saved
+  free [] rest none = refl
+  free (b ∷ prefix) rest none =
+      rw (none 0 (omega arith)) (zero-add (total_saved f (prefix ++ rest)) ∙ free prefix rest (λ j small. none (suc j) (omega arith)))
+
+  -- A character saves what its first offset does,
+  pub first_saves : (c b : ℕ) (prefix rest : List ℕ) → IsScalarValue c → encoding f (c ∷ []) ≡ b ∷ prefix →
+      total_saved f (encoding f (c ∷ []) ++ rest) ≡ saved (length (b ∷ prefix)) b + total_saved f rest
+  unfolding total_saved
+  first_saves c b prefix rest scalar same =
+      let bytes = b ∷ prefix ++ rest in
+      let begins = begins_encoded f c (b ∷ prefix) rest scalar same in
+      let inside = free prefix rest (λ j small. width_inside f bytes c (suc j) rest begins (omega arith) (omega (arith, ap length same))) in
+      rw (same, width_of_first f bytes c rest begins, ap length same) (ap (λ n. saved (length (b ∷ prefix)) b + n) inside)
+
+  -- and a byte that is replaced nothing.
+  pub replaced_saves : (b : ℕ) (rest : List ℕ) → NoneBegins f (b ∷ rest) → total_saved f (b ∷ rest) ≡ total_saved f rest
+  unfolding total_saved
+  replaced_saves b rest none_begins = rw (width_of_none f (b ∷ rest) none_begins) (zero-add (total_saved f rest))
+
+  -- What all bytes save is what their offsets save in a window,
+  pub all_between : (window bytes : List ℕ) (i : ℕ) → Follows window bytes i →
+      saved_between f window i (length bytes) ≡ total_saved f bytes
+  unfolding saved_between total_saved
+  all_between window [] i follows = refl
+  all_between window (b ∷ bytes) i follows =
+      let width = width_following f window (b ∷ bytes) i follows (omega arith) in
+      let first : get_or window i 0 ≡ b = ap (λ p. get_or window p 0) (sym (add-zero i)) ∙ follows 0 in
+      let offset : 1 + i ≡ i + 1 = omega arith in
+      let rest = all_between window bytes (i + 1) (subst (Follows window bytes) offset (follows_later window (b ∷ bytes) i 1 follows)) in
+      (λ k. saved (width k) (first k) + rest k)
+
+  -- and in themselves;
+  pub all_offsets : (bytes : List ℕ) → saved_between f bytes 0 (length bytes) ≡ total_saved f bytes
+  all_offsets bytes = all_between bytes bytes 0 (λ k. ap (λ p. get_or bytes p 0) (zero-add k))
+
+  -- it is what the first n save, and what is left.
+  pub saved_by_parts : (bytes : List ℕ) (n : ℕ) → n ≤ length bytes →
+      saved_between f bytes 0 n + total_saved f (drop n bytes) ≡ total_saved f bytes
+  saved_by_parts bytes n fits =
+      let count : length bytes ≡ n + length (drop n bytes) = omega (arith, length-drop n bytes) in
+      let rest = all_between bytes (drop n bytes) n (λ k. sym (get_or-drop n bytes k 0)) in
+      let split = ap (saved_between f bytes 0) count ∙ saved_split f bytes 0 n (length (drop n bytes)) in
+      let offset = ap (λ i. saved_between f bytes i (length (drop n bytes))) (zero-add n) in
+      omega (arith, rest, all_offsets bytes, split, offset)
