@@ -5,7 +5,7 @@ ghost use Rattle.std.specs.Prelude.{◌≡◌, ◌<◌, length, IfOk};
 ghost use Rattle.std.specs.Str.{chars};
 ghost use Rattle.std.specs.String.{string_bytes, string_capacity};
 ghost use Rattle.simd_cesu8.specs.Encoding.{encoding};
-ghost use Rattle.simd_cesu8.specs.Reading.{IsStrictReading, HasNoStrictReading, IsLenientReading, reading, IsLenientLossyReading};
+ghost use Rattle.simd_cesu8.specs.Reading.{IsStrictReading, HasNoStrictReading};
 ghost use Rattle.cesu8_decode.specs.Following.{Unchanged as AllUnchanged};
 ghost use Rattle.cesu8_decode.specs.Front.{IsFront};
 ghost use Rattle.simd_cesu8.specs.Fault.{OnInvalid};
@@ -63,49 +63,26 @@ pub fn encode_to_slice<F: Flavor>(value: &str, buf: &mut [u8]) -> Result<usize, 
     answer(cesu8_encode::copy_or_write::encode_to_slice::<F>(value, buf))
 }
 
-/// Writes the strict reading of the bytes to a caller's buffer, if it fits.
+/// Writes what a call that takes `A` reads in the bytes to a caller's buffer, if it fits.
 #[inline(always)]
-pub fn decode_strict_to_slice<F: Flavor>(
+pub fn decode_to_slice<F: Flavor, A: Accepts>(
     bytes: &[u8],
     buf: &mut [u8],
 ) -> Result<usize, DecodeSliceFault>
-    ensures { WritesReading (λ text. IsStrictReading F.flavor bytes.now text)
-        result buf.old buf.new }
+    ensures { WritesReading (A.reads F.flavor bytes.now) result buf.old buf.new }
 {
-    strict(copy_or_write::decode_to_slice::<F, EncodingAlone>(Strictness::Strict, bytes, buf))
+    strict(copy_or_write::decode_to_slice::<F, A>(Strictness::Strict, bytes, buf))
 }
 
-/// Writes the lenient reading of the bytes to a caller's buffer, if it fits.
+/// Does so, and replaces what is ill-formed.
 #[inline(always)]
-pub fn decode_to_slice<F: Flavor>(bytes: &[u8], buf: &mut [u8]) -> Result<usize, DecodeSliceFault>
-    ensures { WritesReading (λ text. IsLenientReading F.flavor bytes.now text)
-        result buf.old buf.new }
-{
-    strict(copy_or_write::decode_to_slice::<F, Lenient>(Strictness::Strict, bytes, buf))
-}
-
-/// Writes the lossy reading of the bytes to a caller's buffer, if it fits.
-#[inline(always)]
-pub fn decode_lossy_strict_to_slice<F: Flavor>(
+pub fn decode_lossy_to_slice<F: Flavor, A: Accepts>(
     bytes: &[u8],
     buf: &mut [u8],
 ) -> Result<usize, LossySliceFault>
-    ensures { WritesLossyReading (λ text. text ≡ reading F.flavor bytes.now)
-        result buf.old buf.new }
+    ensures { WritesLossyReading (A.reads_lossily F.flavor bytes.now) result buf.old buf.new }
 {
-    lossy(copy_or_write::decode_to_slice::<F, EncodingAlone>(Strictness::Lossy, bytes, buf))
-}
-
-/// Writes the lenient lossy reading of the bytes to a caller's buffer, if it fits.
-#[inline(always)]
-pub fn decode_lossy_to_slice<F: Flavor>(
-    bytes: &[u8],
-    buf: &mut [u8],
-) -> Result<usize, LossySliceFault>
-    ensures { WritesLossyReading (λ text. IsLenientLossyReading F.flavor bytes.now text)
-        result buf.old buf.new }
-{
-    lossy(copy_or_write::decode_to_slice::<F, Lenient>(Strictness::Lossy, bytes, buf))
+    lossy(copy_or_write::decode_to_slice::<F, A>(Strictness::Lossy, bytes, buf))
 }
 
 /// Returns a refusal of the decoder as a fault.
