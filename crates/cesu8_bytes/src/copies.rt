@@ -123,17 +123,10 @@ pub fn copy_text(alloc: Global, text: &str) -> Result<String, AllocError>
     }
     let mut copied = String::with_capacity(alloc, text.len())?;
     copied.push_str(text)?;
-    exactly(copied, text.len())
-}
-
-/// Returns the text, whose capacity must be what was requested. All of it fitted, so the capacity
-/// has not grown; std's contracts leave that open, and this one does not.
-fn exactly(text: String, capacity: usize) -> Result<String, AllocError>
-    ensures text { IfOk result (λ exact. string_bytes exact ≡ string_bytes text) }
-    ensures capacity { IfOk result (λ exact. string_capacity exact ≡ capacity) }
-{
-    if text.capacity() != capacity {
+    // All of it fitted, so the capacity has not grown; std's contracts leave that open, and this one
+    // does not.
+    if copied.capacity() != text.len() {
         return Err(AllocError);
     }
-    Ok(text)
+    Ok(copied)
 }

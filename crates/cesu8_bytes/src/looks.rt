@@ -5,8 +5,7 @@
 //! | at most 256 | are all ASCII that does not change? | what takes the encoding alone |
 //! | at most 1,024 | are all ASCII? | what takes UTF-8 as well |
 //! | at most 64, with more behind them | the first of these, by one vector | strings in a row |
-//! | below 256 | does a byte change? by two vectors | what encodes |
-//! | 256 and more | does a byte change? by the kernels, four vectors at once | what encodes |
+//! | any | does a byte change? as the kernels search | what encodes |
 
 ghost use Rattle.std.specs.Prelude.{◌↔◌, ◌≤◌, IsTrue, Any, length, take};
 ghost use Rattle.std.specs.Str.{chars, IsAscii};
@@ -14,14 +13,12 @@ ghost use Rattle.cesu8_text.specs.Class.{IsChangedByte};
 ghost use Rattle.cesu8_text.specs.Encoding.{NeedsEncoding};
 
 use crate::flavor::Flavor;
-use crate::implementation::active;
 use crate::implementation::class::{AtLeastF0, Either, FourByteLead, LANES, NonAscii};
 use crate::implementation::search::any_in_bytes;
 use crate::runs::lanes_before;
 use std::simd::prelude::*;
 
-/// The most bytes that are tested for ASCII that does not change before anything is called. From
-/// this length on the kernels search for what changes.
+/// The most bytes that are tested for ASCII that does not change before anything is called.
 const SHORT: usize = 4 * LANES;
 
 /// The most bytes that are tested for all ASCII before anything is called.
@@ -68,25 +65,12 @@ pub fn begins_with_unchanged_ascii<F: Flavor>(bytes: &[u8], len: usize) -> bool
     lanes_before::<Either<F::Null, NonAscii>, SHOWN_AT_ONCE>(Simd::from_slice(bytes)) >= len
 }
 
-/// Returns whether some byte of the UTF-8 changes in the flavor.
-#[inline(always)]
-pub fn contains_changed<F: Flavor>(bytes: &[u8]) -> bool
-    ensures { IsTrue result ↔ Any (IsChangedByte F.flavor) bytes.now }
-{
-    if bytes.len() < SHORT {
-        any_in_bytes::<Either<F::Null, FourByteLead>>(bytes)
-    } else if F::has_long_null() {
-        active::contains_null_or_utf8_4_byte_char_header(bytes)
-    } else {
-        active::contains_utf8_4_byte_char_header(bytes)
-    }
-}
-
+/// Returns whether some byte of a text changes in the flavor.
 #[inline(always)]
 pub fn needs_encoded<F: Flavor>(value: &str) -> bool
     ensures { IsTrue result ↔ NeedsEncoding F.flavor (chars value.now) }
 {
-    contains_changed::<F>(value.as_bytes())
+    any_in_bytes::<Either<F::Null, FourByteLead>>(value.as_bytes())
 }
 
 /// Returns whether a few bytes of a text change. It has no way for many, so it is short enough to

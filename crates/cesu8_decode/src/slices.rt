@@ -55,10 +55,10 @@ pub fn put_strictly<F: Flavor>(
     }
     // One block is read whole, in less time than its front is copied.
     if bytes.len() <= BLOCK {
-        return put_text::<F>(Strictness::Strict, strict_way(bytes, front), bytes, buf);
+        return put_strictly_by::<F>(strict_way(bytes, front), bytes, buf);
     }
     let start = front.min(buf.len());
-    match put_text::<F>(Strictness::Strict, way_of(rest), rest, &mut buf[start..]) {
+    match put_strictly_by::<F>(way_of(rest), rest, &mut buf[start..]) {
         Ok(len) => {
             copy_short(&bytes[..front], buf);
             Ok(front + len)
@@ -71,51 +71,42 @@ pub fn put_strictly<F: Flavor>(
     }
 }
 
-/// Writes the lossy reading of the bytes to a caller's buffer, if it fits.
+/// Writes the lossy reading of the bytes to a caller's buffer, if it fits. To clear a longer array
+/// than is needed takes time.
 #[inline(never)]
 pub fn put_lossily<F: Flavor>(bytes: &[u8], buf: &mut [u8]) -> Result<usize, Unwritten>
     ensures { PutsReading F.flavor Lossy bytes.now result buf.old buf.new }
 {
-    put_text::<F>(Strictness::Lossy, way_of(bytes), bytes, buf)
+    let lossy = Strictness::Lossy;
+    match way_of(bytes) {
+        Way::OneBlock => put_block::<F, LossyReading, LOSSY_TEXT>(bytes, buf),
+        Way::Characters if WIDEST * bytes.len() <= FEW_BYTES => {
+            put_characters::<F, FEW_BYTES>(lossy, bytes, buf)
+        }
+        Way::Characters => put_characters::<F, CHARACTERS_TEXT>(lossy, bytes, buf),
+        Way::ShortWindow => put_by_array::<F, SHORT_TEXT>(lossy, bytes, buf),
+        Way::LongWindow => put_by_array::<F, LONG_TEXT>(lossy, bytes, buf),
+        Way::Chunks => put_chunks::<F>(lossy, bytes, buf),
+    }
 }
 
-/// Writes the text of the bytes to a caller's buffer, if it fits.
+/// Writes the strict reading of the bytes, which is no longer than they are, in one way.
 #[inline(always)]
-fn put_text<F: Flavor>(
-    strictness: Strictness,
-    way: Way,
-    bytes: &[u8],
-    buf: &mut [u8],
-) -> Result<usize, Unwritten>
+fn put_strictly_by<F: Flavor>(way: Way, bytes: &[u8], buf: &mut [u8]) -> Result<usize, Unwritten>
     requires { Takes way bytes.now }
-    ensures { PutsReading F.flavor strictness bytes.now result buf.old buf.new }
+    ensures { PutsReading F.flavor Strict bytes.now result buf.old buf.new }
 {
+    let strict = Strictness::Strict;
     match way {
-        Way::OneBlock => put_one::<F>(strictness, bytes, buf),
-        Way::Characters => put_few::<F>(strictness, bytes, buf),
-        Way::ShortWindow => put_window::<F, SHORT_WINDOW, SHORT_TEXT>(strictness, bytes, buf),
-        Way::LongWindow => put_window::<F, LONG_WINDOW, LONG_TEXT>(strictness, bytes, buf),
-        Way::Chunks => put_chunks::<F>(strictness, bytes, buf),
+        Way::OneBlock => put_block::<F, StrictReading, STRICT_TEXT>(bytes, buf),
+        Way::Characters => put_characters::<F, FEW_BYTES>(strict, bytes, buf),
+        Way::ShortWindow => put_by_array::<F, SHORT_WINDOW>(strict, bytes, buf),
+        Way::LongWindow => put_by_array::<F, LONG_WINDOW>(strict, bytes, buf),
+        Way::Chunks => put_chunks::<F>(strict, bytes, buf),
     }
 }
 
-/// Writes the text of the bytes of one block, to an array first.
-#[inline(always)]
-fn put_one<F: Flavor>(
-    strictness: Strictness,
-    bytes: &[u8],
-    buf: &mut [u8],
-) -> Result<usize, Unwritten>
-    requires { length bytes.now ≤ BLOCK }
-    ensures { PutsReading F.flavor strictness bytes.now result buf.old buf.new }
-{
-    match strictness {
-        Strictness::Strict => put_block::<F, StrictReading, STRICT_TEXT>(bytes, buf),
-        Strictness::Lossy => put_block::<F, LossyReading, LOSSY_TEXT>(bytes, buf),
-    }
-}
-
-/// Does so by an array of this length.
+/// Writes the text of the bytes of one block, by an array of this length.
 #[inline(never)]
 fn put_block<F: Flavor, S: Reading, const WRITTEN: usize>(
     bytes: &[u8],
@@ -130,30 +121,8 @@ fn put_block<F: Flavor, S: Reading, const WRITTEN: usize>(
     put_decoded(S::strictness(), decoded, &written, buf)
 }
 
-/// Writes the text of a few bytes, one character after another, to an array first. To clear a
-/// longer one than is needed takes time.
-#[inline(always)]
-fn put_few<F: Flavor>(
-    strictness: Strictness,
-    bytes: &[u8],
-    buf: &mut [u8],
-) -> Result<usize, Unwritten>
-    requires { length bytes.now ≤ FEW_BYTES }
-    ensures { PutsReading F.flavor strictness bytes.now result buf.old buf.new }
-{
-    let most = match strictness {
-        Strictness::Strict => bytes.len(),
-        Strictness::Lossy => WIDEST * bytes.len(),
-    };
-    if most <= FEW_BYTES {
-        put_characters::<F, FEW_BYTES>(strictness, bytes, buf)
-    } else {
-        put_characters::<F, CHARACTERS_TEXT>(strictness, bytes, buf)
-    }
-}
-
-/// Does so by an array of this length. It is not inlined, so that it is made only when it is
-/// called.
+/// Does so for a few, one character after another. It is not inlined, so that the array is made only
+/// when it is called.
 #[inline(never)]
 fn put_characters<F: Flavor, const WRITTEN: usize>(
     strictness: Strictness,
@@ -168,25 +137,7 @@ fn put_characters<F: Flavor, const WRITTEN: usize>(
     put_decoded(strictness, decoded, &written, buf)
 }
 
-/// Writes the text of the bytes of one window, to an array first: in strict reading of as many
-/// bytes as the window has, and in lossy reading of this length.
-#[inline(always)]
-fn put_window<F: Flavor, const LEN: usize, const WRITTEN: usize>(
-    strictness: Strictness,
-    bytes: &[u8],
-    buf: &mut [u8],
-) -> Result<usize, Unwritten>
-    requires { (length bytes.now ≤ LEN) × (room_for Lossy LEN ≤ WRITTEN) × (WRITTEN ≤ LONG_TEXT) }
-    ensures { PutsReading F.flavor strictness bytes.now result buf.old buf.new }
-{
-    match strictness {
-        Strictness::Strict => put_by_array::<F, LEN>(strictness, bytes, buf),
-        Strictness::Lossy => put_by_array::<F, WRITTEN>(strictness, bytes, buf),
-    }
-}
-
-/// Does so by an array of this length. It is not inlined, so that it is made only when it is
-/// called.
+/// Does so for the bytes of one window.
 #[inline(never)]
 fn put_by_array<F: Flavor, const WRITTEN: usize>(
     strictness: Strictness,

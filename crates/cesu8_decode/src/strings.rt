@@ -39,11 +39,10 @@ pub fn write_strictly<F: Flavor>(bytes: &[u8], front: usize, empty: Vec<u8>) -> 
     if !begins_changed::<F>(rest) {
         return None;
     }
-    match strict_way(rest, front) {
-        Way::Characters => write_few::<F>(bytes, front, empty),
-        Way::OneBlock | Way::ShortWindow | Way::LongWindow | Way::Chunks => {
-            write_many::<F>(bytes, front, empty)
-        }
+    if let Way::Characters = strict_way(rest, front) {
+        write_few::<F>(bytes, front, empty)
+    } else {
+        write_many::<F>(bytes, front, empty)
     }
 }
 

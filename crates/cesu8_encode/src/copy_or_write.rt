@@ -21,25 +21,16 @@ pub fn encode_to_slice<F: Flavor>(text: &str, buf: &mut [u8]) -> Result<usize, N
     ensures { PutsAnswer (encoding F.flavor (chars text.now)) result buf.old buf.new }
 {
     if is_block(text) {
-        return put_short::<F>(text, buf);
+        // The test and the copy ask for no greater length.
+        if !few_need_encoded::<F>(text) {
+            return copy_to_slice(text.as_bytes(), buf);
+        }
+        return put_on_stack::<F>(text, buf);
     }
     if !needs_encoded::<F>(text) {
         return copy_to_slice(text.as_bytes(), buf);
     }
     put_in_place::<F>(text, buf)
-}
-
-/// Does so for a block or less, of which the test and the copy then ask for no greater length.
-#[inline(always)]
-#[tactic(auto, using(cesu8_text::proofs::encoding::Lengths::length_encoding_chars))]
-fn put_short<F: Flavor>(text: &str, buf: &mut [u8]) -> Result<usize, NoRoom>
-    requires { length text.now ≤ BLOCK }
-    ensures { PutsAnswer (encoding F.flavor (chars text.now)) result buf.old buf.new }
-{
-    if !few_need_encoded::<F>(text) {
-        return copy_to_slice(text.as_bytes(), buf);
-    }
-    put_on_stack::<F>(text, buf)
 }
 
 /// Encodes a block or less to the stack, and copies that.

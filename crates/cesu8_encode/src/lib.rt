@@ -47,8 +47,8 @@ use std::alloc::{AllocError, Global};
 const ON_STACK_ENCODED: usize = 2 * ON_STACK;
 
 /// Returns the encoding of a text, after one request for exactly its length. It is not inlined: a
-/// text that is borrowed then uses no stack. The two functions below are, so that the length is
-/// compared once.
+/// text that is borrowed then uses no stack. The function below is, so that the length is compared
+/// once.
 #[inline(never)]
 pub fn encode<F: Flavor>(alloc: Global, text: &str) -> Result<Vec<u8>, AllocError>
     ensures { BuildsEncoding F.flavor text.now result }
@@ -59,7 +59,10 @@ pub fn encode<F: Flavor>(alloc: Global, text: &str) -> Result<Vec<u8>, AllocErro
     if is_for_stack(text) {
         return encode_on_stack::<F, ON_STACK_ENCODED>(alloc, text);
     }
-    encode_in_place::<F>(alloc, text)
+    let len = encoded_len::<F>(text);
+    let mut encoded = Vec::with_capacity(alloc, len)?;
+    append_changed::<F>(text, len, &mut encoded);
+    Ok(encoded)
 }
 
 /// Encodes a text to an array of this length on the stack, and returns a copy.
@@ -77,17 +80,6 @@ fn encode_on_stack<F: Flavor, const N: usize>(
     copy(alloc, &written[..len])
 }
 
-/// Counts the encoding, and writes it where it stays.
-#[inline(always)]
-fn encode_in_place<F: Flavor>(alloc: Global, text: &str) -> Result<Vec<u8>, AllocError>
-    ensures { BuildsEncoding F.flavor text.now result }
-{
-    let len = encoded_len::<F>(text);
-    let mut encoded = Vec::with_capacity(alloc, len)?;
-    append_changed::<F>(text, len, &mut encoded);
-    Ok(encoded)
-}
-
 /// Appends the encoding of a text, which has this length. It makes one request if the capacity is
 /// too small.
 #[tactic(auto, using(cesu8_text::proofs::encoding::NeedsEncoding::encoding_as_long))]
@@ -95,7 +87,9 @@ pub fn encode_into<F: Flavor>(text: &str, len: usize, out: &mut Vec<u8>) -> Resu
     requires { len ≡ length (encoding F.flavor (chars text.now)) }
     ensures { AppendsEncoding F.flavor text.now result out.old out.new }
 {
-    make_room(len, out)?;
+    if out.capacity() - out.len() < len {
+        out.reserve(len)?;
+    }
     if len == text.len() {
         // An encoding that differs from the UTF-8 is longer.
         append(text.as_bytes(), out);
@@ -103,22 +97,6 @@ pub fn encode_into<F: Flavor>(text: &str, len: usize, out: &mut Vec<u8>) -> Resu
         append_changed::<F>(text, len, out);
     }
     Ok(())
-}
-
-/// Reserves capacity for so many bytes more, by one request if the buffer has too little.
-fn make_room(len: usize, out: &mut Vec<u8>) -> Result<(), AllocError>
-    ensures items { out.new.items ≡ out.old.items }
-    ensures ok { OnOk result (vec_len out.new + len ≤ vec_capacity out.new) }
-    ensures err { OnErr result (vec_capacity out.new ≡ vec_capacity out.old) }
-    ensures full { OnErr result (vec_capacity out.old < vec_len out.old + len) }
-    ensures stays { vec_len out.old + len ≤ vec_capacity out.old
-        → vec_capacity out.new ≡ vec_capacity out.old }
-    ensures grows { vec_capacity out.old ≤ vec_capacity out.new }
-{
-    if len <= out.capacity() - out.len() {
-        return Ok(());
-    }
-    out.reserve(len)
 }
 
 /// Appends the encoding of a text, which has this length, to a buffer with enough capacity.

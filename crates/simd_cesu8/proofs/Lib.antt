@@ -1,3 +1,2 @@
 pub use Rattle.cesu8_text.proofs.StdUtf8
 pub mod Faults
-pub mod Outcomes

@@ -26,33 +26,16 @@ pub record DecodesAs (keeps : Type 0) (reads : List ℕ → Type 0) (bytes : Lis
   pub succeeds : keeps → IsOk result
   pub capacity : BuildsTextOfCapacity result (length bytes)
 
--- `decode_strict`: the strict reading of bytes, borrowed where its UTF-8 is the bytes.
+-- One of the strict reading: it borrows where its UTF-8 is the bytes.
 abbrev pub DecodesStrictly : Flavor → List ℕ → Result CowText DecodeFault → Type 0
 DecodesStrictly f bytes = DecodesAs (IsUnchangedUtf8 f bytes) (IsStrictReading f bytes) bytes
 
--- `decode`: the lenient reading, borrowed where the bytes are UTF-8.
-abbrev pub DecodesLeniently : Flavor → List ℕ → Result CowText DecodeFault → Type 0
-DecodesLeniently f bytes = DecodesAs (IsUtf8 bytes) (IsLenientReading f bytes) bytes
-
 -- A call that decodes and replaces what is ill-formed. If its text is the lossy reading alone, so is
 -- its length.
-pub record DecodesLossilyAs {E : Type 0} (f : Flavor) (keeps : Type 0) (reads : List ℕ → Type 0) (bytes : List ℕ) (result : Result CowText E) : Type 0 where
+pub record DecodesLossily {E : Type 0} (f : Flavor) (keeps : Type 0) (reads : List ℕ → Type 0) (bytes : List ℕ) (result : Result CowText E) : Type 0 where
   pub reading : IfText result (λ text. reads text)
   pub text_length : ((text : List ℕ) → reads text → text ≡ reading_of f bytes) → AnswersTextOfLength result (lossy_length f bytes)
   pub borrowed : BorrowsTextWhere result (λ utf8. utf8 ≡ bytes)
   pub borrowed_where : BorrowsTextWhere result (λ _. keeps)
   pub succeeds : keeps → IsOk result
   pub capacity : BuildsTextOfCapacity result (lossy_length f bytes)
-
--- `decode_lossy_strict`: the lossy reading, borrowed where its UTF-8 is the bytes.
-pub record DecodesLossily {E : Type 0} (f : Flavor) (bytes : List ℕ) (result : Result CowText E) : Type 0 where
-  pub reading : IfText result (λ text. text ≡ reading_of f bytes)
-  pub text_length : AnswersTextOfLength result (lossy_length f bytes)
-  pub borrowed : BorrowsTextWhere result (λ utf8. utf8 ≡ bytes)
-  pub borrowed_where : BorrowsTextWhere result (λ _. IsUnchangedUtf8 f bytes)
-  pub succeeds : IsUnchangedUtf8 f bytes → IsOk result
-  pub capacity : BuildsTextOfCapacity result (lossy_length f bytes)
-
--- `decode_lossy`: the lenient lossy reading, borrowed where the bytes are UTF-8.
-abbrev pub DecodesLenientlyLossily : {E : Type 0} → Flavor → List ℕ → Result CowText E → Type 0
-DecodesLenientlyLossily f bytes = DecodesLossilyAs f (IsUtf8 bytes) (IsLenientLossyReading f bytes) bytes

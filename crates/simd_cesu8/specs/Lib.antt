@@ -13,7 +13,6 @@ pub mod Cow
 pub mod Counted
 pub mod Fault
 pub mod Slices
-pub mod Outcomes
 pub mod Internal
 pub use Rattle.cesu8_bytes.specs.Pairs
 pub use Rattle.cesu8_bytes.specs.Packing

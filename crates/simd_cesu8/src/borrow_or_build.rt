@@ -7,7 +7,7 @@
 //! `Lenient` or `EncodingAlone`. Of strings in a row one look shows short ASCII, whatever its length.
 
 ghost use Rattle.std.specs.Prelude.{take};
-ghost use Rattle.simd_cesu8.specs.Calls.{Encodes, DecodesAs, DecodesLossilyAs, DecodesStrictly, DecodesLeniently, DecodesLossily, DecodesLenientlyLossily};
+ghost use Rattle.simd_cesu8.specs.Calls.{Encodes, DecodesAs, DecodesLossily, DecodesStrictly};
 
 use crate::cow::{CowBytes, CowText};
 use crate::error::DecodeFault;
@@ -30,23 +30,12 @@ pub fn encode<F: Flavor>(alloc: Global, value: &str) -> Result<CowBytes<'_>, All
     Ok(CowBytes::Owned(encoded))
 }
 
-#[inline(always)]
-pub fn decode_strict<F: Flavor>(alloc: Global, bytes: &[u8]) -> Result<CowText<'_>, DecodeFault>
-    ensures { DecodesStrictly F.flavor bytes.now result }
-{
-    decode_as::<F, EncodingAlone>(alloc, bytes)
-}
-
-#[inline(always)]
-pub fn decode<F: Flavor>(alloc: Global, bytes: &[u8]) -> Result<CowText<'_>, DecodeFault>
-    ensures { DecodesLeniently F.flavor bytes.now result }
-{
-    decode_as::<F, Lenient>(alloc, bytes)
-}
-
 /// Decodes what a call of this kind takes.
 #[inline(always)]
-fn decode_as<F: Flavor, A: Accepts>(alloc: Global, bytes: &[u8]) -> Result<CowText<'_>, DecodeFault>
+pub fn decode_as<F: Flavor, A: Accepts>(
+    alloc: Global,
+    bytes: &[u8],
+) -> Result<CowText<'_>, DecodeFault>
     ensures { DecodesAs (A.keeps F.flavor bytes.now) (A.reads F.flavor bytes.now) bytes.now result }
 {
     if A::is_short_kept_ascii::<F>(bytes) {
@@ -116,30 +105,13 @@ fn decode_strict_called<F: Flavor>(
     decode_as::<F, EncodingAlone>(alloc, bytes)
 }
 
-#[inline(always)]
-pub fn decode_lossy_strict<F: Flavor>(
-    alloc: Global,
-    bytes: &[u8],
-) -> Result<CowText<'_>, AllocError>
-    ensures { DecodesLossily F.flavor bytes.now result }
-{
-    decode_lossy_as::<F, EncodingAlone>(alloc, bytes)
-}
-
-#[inline(always)]
-pub fn decode_lossy<F: Flavor>(alloc: Global, bytes: &[u8]) -> Result<CowText<'_>, AllocError>
-    ensures { DecodesLenientlyLossily F.flavor bytes.now result }
-{
-    decode_lossy_as::<F, Lenient>(alloc, bytes)
-}
-
 /// Decodes what a call of this kind takes, and replaces what is ill-formed.
 #[inline(always)]
-fn decode_lossy_as<F: Flavor, A: Accepts>(
+pub fn decode_lossy_as<F: Flavor, A: Accepts>(
     alloc: Global,
     bytes: &[u8],
 ) -> Result<CowText<'_>, AllocError>
-    ensures { DecodesLossilyAs F.flavor (A.keeps F.flavor bytes.now)
+    ensures { DecodesLossily F.flavor (A.keeps F.flavor bytes.now)
         (A.reads_lossily F.flavor bytes.now) bytes.now result }
 {
     if A::is_short_kept_ascii::<F>(bytes) {
@@ -154,7 +126,7 @@ fn decode_lossy_other<F: Flavor, A: Accepts>(
     alloc: Global,
     bytes: &[u8],
 ) -> Result<CowText<'_>, AllocError>
-    ensures { DecodesLossilyAs F.flavor (A.keeps F.flavor bytes.now)
+    ensures { DecodesLossily F.flavor (A.keeps F.flavor bytes.now)
         (A.reads_lossily F.flavor bytes.now) bytes.now result }
 {
     let front = front::<F, Unchanged>(bytes);

@@ -5,12 +5,11 @@ ghost use Rattle.std.specs.Prelude.{◌≡◌, ◌<◌, length, IfOk};
 ghost use Rattle.std.specs.Str.{chars};
 ghost use Rattle.std.specs.String.{string_bytes, string_capacity};
 ghost use Rattle.simd_cesu8.specs.Encoding.{encoding};
-ghost use Rattle.simd_cesu8.specs.Reading.{IsStrictReading, HasNoStrictReading, IsLenientReading, reading, IsLenientLossyReading};
+ghost use Rattle.simd_cesu8.specs.Reading.{IsStrictReading, HasNoStrictReading};
 ghost use Rattle.cesu8_decode.specs.Following.{Unchanged as AllUnchanged};
 ghost use Rattle.cesu8_decode.specs.Front.{IsFront};
 ghost use Rattle.simd_cesu8.specs.Fault.{OnInvalid};
 ghost use Rattle.simd_cesu8.specs.Slices.{WritesAnswer, WritesReading, WritesLossyReading};
-ghost use Rattle.simd_cesu8.specs.Outcomes.{IsFaultOf, IsAnswerOf, IsStrictOutcome, IsLossyOutcome};
 
 pub mod value;
 
@@ -24,7 +23,6 @@ pub use cesu8_bytes::looks::{
 pub use cesu8_bytes::order::compare_as_utf16;
 use cesu8_bytes::strictness::Strictness;
 pub use cesu8_bytes::utf8::{is_utf8, known_text};
-use cesu8_bytes::writers::NoRoom;
 pub use cesu8_decode::accepts::{Accepts, EncodingAlone, Lenient};
 pub use cesu8_decode::character_set::Unchanged;
 use cesu8_decode::copy_or_write;
@@ -50,93 +48,33 @@ pub fn decode_strict<F: Flavor>(
 {
     match cesu8_decode::decode_strict::<F>(alloc, bytes, front) {
         Ok(text) => Ok(text),
-        Err(refusal) => Err(fault(refusal)),
+        Err(Refusal::NoText) => Err(DecodeFault::Invalid(DecodingError(()))),
+        Err(Refusal::Memory(error)) => Err(DecodeFault::Memory(error)),
     }
 }
 
 /// Writes the encoding of a text to a caller's buffer, if it fits.
 #[inline(always)]
-#[tactic(auto, using(crate::proofs::Outcomes::answer_told))]
 pub fn encode_to_slice<F: Flavor>(value: &str, buf: &mut [u8]) -> Result<usize, TooShort>
     ensures { WritesAnswer (encoding F.flavor (chars value.now)) result buf.old buf.new }
 {
-    answer(cesu8_encode::copy_or_write::encode_to_slice::<F>(value, buf))
-}
-
-/// Writes the strict reading of the bytes to a caller's buffer, if it fits.
-#[inline(always)]
-pub fn decode_strict_to_slice<F: Flavor>(
-    bytes: &[u8],
-    buf: &mut [u8],
-) -> Result<usize, DecodeSliceFault>
-    ensures { WritesReading (λ text. IsStrictReading F.flavor bytes.now text)
-        result buf.old buf.new }
-{
-    strict(copy_or_write::decode_to_slice::<F, EncodingAlone>(Strictness::Strict, bytes, buf))
-}
-
-/// Writes the lenient reading of the bytes to a caller's buffer, if it fits.
-#[inline(always)]
-pub fn decode_to_slice<F: Flavor>(bytes: &[u8], buf: &mut [u8]) -> Result<usize, DecodeSliceFault>
-    ensures { WritesReading (λ text. IsLenientReading F.flavor bytes.now text)
-        result buf.old buf.new }
-{
-    strict(copy_or_write::decode_to_slice::<F, Lenient>(Strictness::Strict, bytes, buf))
-}
-
-/// Writes the lossy reading of the bytes to a caller's buffer, if it fits.
-#[inline(always)]
-pub fn decode_lossy_strict_to_slice<F: Flavor>(
-    bytes: &[u8],
-    buf: &mut [u8],
-) -> Result<usize, LossySliceFault>
-    ensures { WritesLossyReading (λ text. text ≡ reading F.flavor bytes.now)
-        result buf.old buf.new }
-{
-    lossy(copy_or_write::decode_to_slice::<F, EncodingAlone>(Strictness::Lossy, bytes, buf))
-}
-
-/// Writes the lenient lossy reading of the bytes to a caller's buffer, if it fits.
-#[inline(always)]
-pub fn decode_lossy_to_slice<F: Flavor>(
-    bytes: &[u8],
-    buf: &mut [u8],
-) -> Result<usize, LossySliceFault>
-    ensures { WritesLossyReading (λ text. IsLenientLossyReading F.flavor bytes.now text)
-        result buf.old buf.new }
-{
-    lossy(copy_or_write::decode_to_slice::<F, Lenient>(Strictness::Lossy, bytes, buf))
-}
-
-/// Returns a refusal of the decoder as a fault.
-#[inline(always)]
-fn fault(refusal: Refusal) -> DecodeFault
-    ensures { IsFaultOf refusal result }
-{
-    match refusal {
-        Refusal::NoText => DecodeFault::Invalid(DecodingError(())),
-        Refusal::Memory(error) => DecodeFault::Memory(error),
-    }
-}
-
-/// Returns how many bytes of an encoding were written, or the fault.
-#[inline(always)]
-fn answer(outcome: Result<usize, NoRoom>) -> Result<usize, TooShort>
-    ensures { IsAnswerOf outcome result }
-{
-    match outcome {
+    match cesu8_encode::copy_or_write::encode_to_slice::<F>(value, buf) {
         Ok(len) => Ok(len),
         Err(no_room) => Err(TooShort::new(no_room.needed)),
     }
 }
 
-/// Returns how many bytes of a strict reading were written, or the fault. It is never too long.
+/// Writes what a call that takes `A` reads in the bytes to a caller's buffer, if it fits.
 #[inline(always)]
-fn strict(outcome: Result<usize, Unwritten>) -> Result<usize, DecodeSliceFault>
-    ensures { IsStrictOutcome outcome result }
+pub fn decode_to_slice<F: Flavor, A: Accepts>(
+    bytes: &[u8],
+    buf: &mut [u8],
+) -> Result<usize, DecodeSliceFault>
+    ensures { WritesReading (A.reads F.flavor bytes.now) result buf.old buf.new }
 {
-    match outcome {
+    match copy_or_write::decode_to_slice::<F, A>(Strictness::Strict, bytes, buf) {
         Ok(len) => Ok(len),
+        // A strict reading is never too long.
         Err(Unwritten::NoText) | Err(Unwritten::TooLong) => {
             Err(DecodeSliceFault::Invalid(DecodingError(())))
         }
@@ -146,13 +84,17 @@ fn strict(outcome: Result<usize, Unwritten>) -> Result<usize, DecodeSliceFault>
     }
 }
 
-/// Returns how many bytes of a lossy reading were written, or the fault. All bytes have one.
+/// Does so, and replaces what is ill-formed.
 #[inline(always)]
-fn lossy(outcome: Result<usize, Unwritten>) -> Result<usize, LossySliceFault>
-    ensures { IsLossyOutcome outcome result }
+pub fn decode_lossy_to_slice<F: Flavor, A: Accepts>(
+    bytes: &[u8],
+    buf: &mut [u8],
+) -> Result<usize, LossySliceFault>
+    ensures { WritesLossyReading (A.reads_lossily F.flavor bytes.now) result buf.old buf.new }
 {
-    match outcome {
+    match copy_or_write::decode_to_slice::<F, A>(Strictness::Lossy, bytes, buf) {
         Ok(len) => Ok(len),
+        // All bytes have a lossy reading.
         Err(Unwritten::NoText) | Err(Unwritten::TooLong) => Err(LossySliceFault::TooLong),
         Err(Unwritten::NoRoom(no_room)) => {
             Err(LossySliceFault::TooShort(TooShort::new(no_room.needed)))

@@ -68,11 +68,12 @@ mod internal;
 pub mod laws;
 pub mod mutf8;
 
+use crate::borrow_or_build::{decode_as, decode_lossy_as};
 pub use crate::counted_text::CountedText;
 pub use crate::cow::{CowBytes, CowText};
 pub use crate::error::{DecodeFault, DecodeSliceFault, DecodingError, LossySliceFault, TooShort};
 use crate::internal::value::Flavor;
-use crate::internal::{Cesu8Flavor, encoded_len_by_need};
+use crate::internal::{Cesu8Flavor, EncodingAlone, Lenient, encoded_len_by_need};
 use std::alloc::{AllocError, Global};
 use std::cmp::Ordering;
 
@@ -223,7 +224,7 @@ pub fn decode_strict(alloc: Global, bytes: &[u8]) -> Result<CowText<'_>, DecodeF
     ensures succeeds { IsUnchangedUtf8 Cesu8 bytes.now → IsOk result }
     ensures capacity { BuildsTextOfCapacity result (length bytes.now) }
 {
-    borrow_or_build::decode_strict::<Cesu8Flavor>(alloc, bytes)
+    decode_as::<Cesu8Flavor, EncodingAlone>(alloc, bytes)
 }
 
 /// Decodes the CESU-8 (Unicode Technical Report 26) at the front of the bytes strictly: returns
@@ -281,7 +282,7 @@ pub fn decode(alloc: Global, bytes: &[u8]) -> Result<CowText<'_>, DecodeFault>
     ensures succeeds { IsUtf8 bytes.now → IsOk result }
     ensures capacity { BuildsTextOfCapacity result (length bytes.now) }
 {
-    borrow_or_build::decode::<Cesu8Flavor>(alloc, bytes)
+    decode_as::<Cesu8Flavor, Lenient>(alloc, bytes)
 }
 
 /// Decodes CESU-8 (Unicode Technical Report 26) that may be damaged: returns each encoded character
@@ -306,7 +307,7 @@ pub fn decode_lossy_strict(alloc: Global, bytes: &[u8]) -> Result<CowText<'_>, A
     ensures succeeds { IsUnchangedUtf8 Cesu8 bytes.now → IsOk result }
     ensures capacity { BuildsTextOfCapacity result (lossy_length Cesu8 bytes.now) }
 {
-    borrow_or_build::decode_lossy_strict::<Cesu8Flavor>(alloc, bytes)
+    decode_lossy_as::<Cesu8Flavor, EncodingAlone>(alloc, bytes)
 }
 
 /// Decodes bytes that are UTF-8 as a whole, or else CESU-8 (Unicode Technical Report 26) that may
@@ -332,7 +333,7 @@ pub fn decode_lossy(alloc: Global, bytes: &[u8]) -> Result<CowText<'_>, AllocErr
     ensures succeeds { IsUtf8 bytes.now → IsOk result }
     ensures capacity { BuildsTextOfCapacity result (lossy_length Cesu8 bytes.now) }
 {
-    borrow_or_build::decode_lossy::<Cesu8Flavor>(alloc, bytes)
+    decode_lossy_as::<Cesu8Flavor, Lenient>(alloc, bytes)
 }
 
 /// Returns the length in bytes of the text that [`decode_strict`] returns, which decodes CESU-8
@@ -437,7 +438,7 @@ pub fn encode_to_slice(value: &str, buf: &mut [u8]) -> Result<usize, TooShort>
 pub fn decode_strict_to_slice(bytes: &[u8], buf: &mut [u8]) -> Result<usize, DecodeSliceFault>
     ensures { WritesReading (λ text. IsStrictReading Cesu8 bytes.now text) result buf.old buf.new }
 {
-    internal::decode_strict_to_slice::<Cesu8Flavor>(bytes, buf)
+    internal::decode_to_slice::<Cesu8Flavor, EncodingAlone>(bytes, buf)
 }
 
 /// Decodes bytes that are UTF-8 as a whole, or else CESU-8 (Unicode Technical Report 26), and
@@ -458,7 +459,7 @@ pub fn decode_strict_to_slice(bytes: &[u8], buf: &mut [u8]) -> Result<usize, Dec
 pub fn decode_to_slice(bytes: &[u8], buf: &mut [u8]) -> Result<usize, DecodeSliceFault>
     ensures { WritesReading (λ text. IsLenientReading Cesu8 bytes.now text) result buf.old buf.new }
 {
-    internal::decode_to_slice::<Cesu8Flavor>(bytes, buf)
+    internal::decode_to_slice::<Cesu8Flavor, Lenient>(bytes, buf)
 }
 
 /// Decodes CESU-8 (Unicode Technical Report 26) that may be damaged, and writes to the caller's
@@ -480,7 +481,7 @@ pub fn decode_lossy_strict_to_slice(bytes: &[u8], buf: &mut [u8]) -> Result<usiz
     ensures { WritesLossyReading (λ text. text ≡ reading Cesu8 bytes.now)
         result buf.old buf.new }
 {
-    internal::decode_lossy_strict_to_slice::<Cesu8Flavor>(bytes, buf)
+    internal::decode_lossy_to_slice::<Cesu8Flavor, EncodingAlone>(bytes, buf)
 }
 
 /// Decodes bytes that are UTF-8 as a whole, or else CESU-8 (Unicode Technical Report 26) that may
@@ -502,5 +503,5 @@ pub fn decode_lossy_to_slice(bytes: &[u8], buf: &mut [u8]) -> Result<usize, Loss
     ensures { WritesLossyReading (λ text. IsLenientLossyReading Cesu8 bytes.now text)
         result buf.old buf.new }
 {
-    internal::decode_lossy_to_slice::<Cesu8Flavor>(bytes, buf)
+    internal::decode_lossy_to_slice::<Cesu8Flavor, Lenient>(bytes, buf)
 }

@@ -17,11 +17,12 @@ ghost use Rattle.simd_cesu8.specs.Counted.{counted_encoding};
 ghost use Rattle.simd_cesu8.specs.Fault.{OnInvalid};
 ghost use Rattle.simd_cesu8.specs.Slices.{ReadsAtLength, WritesAnswer, WritesReading, WritesLossyReading};
 
+use crate::borrow_or_build::{decode_as, decode_lossy_as};
 use crate::counted_text::CountedText;
 use crate::cow::{CowBytes, CowText};
 use crate::error::{DecodeFault, DecodeSliceFault, LossySliceFault, TooShort};
 use crate::internal::value::Flavor;
-use crate::internal::{Mutf8Flavor, encoded_len_by_need};
+use crate::internal::{EncodingAlone, Lenient, Mutf8Flavor, encoded_len_by_need};
 use crate::{borrow_or_build, internal};
 use std::alloc::{AllocError, Global};
 
@@ -145,7 +146,7 @@ pub fn decode_strict(alloc: Global, bytes: &[u8]) -> Result<CowText<'_>, DecodeF
     ensures succeeds { IsUnchangedUtf8 Mutf8 bytes.now → IsOk result }
     ensures capacity { BuildsTextOfCapacity result (length bytes.now) }
 {
-    borrow_or_build::decode_strict::<Mutf8Flavor>(alloc, bytes)
+    decode_as::<Mutf8Flavor, EncodingAlone>(alloc, bytes)
 }
 
 /// Decodes the MUTF-8 (Java's `DataInput`, without a length in front) at the front of the bytes
@@ -204,7 +205,7 @@ pub fn decode(alloc: Global, bytes: &[u8]) -> Result<CowText<'_>, DecodeFault>
     ensures succeeds { IsUtf8 bytes.now → IsOk result }
     ensures capacity { BuildsTextOfCapacity result (length bytes.now) }
 {
-    borrow_or_build::decode::<Mutf8Flavor>(alloc, bytes)
+    decode_as::<Mutf8Flavor, Lenient>(alloc, bytes)
 }
 
 /// Decodes MUTF-8 (Java's `DataInput`) that may be damaged: returns each encoded character in the
@@ -229,7 +230,7 @@ pub fn decode_lossy_strict(alloc: Global, bytes: &[u8]) -> Result<CowText<'_>, A
     ensures succeeds { IsUnchangedUtf8 Mutf8 bytes.now → IsOk result }
     ensures capacity { BuildsTextOfCapacity result (lossy_length Mutf8 bytes.now) }
 {
-    borrow_or_build::decode_lossy_strict::<Mutf8Flavor>(alloc, bytes)
+    decode_lossy_as::<Mutf8Flavor, EncodingAlone>(alloc, bytes)
 }
 
 /// Decodes bytes that are UTF-8 as a whole, or else MUTF-8 (Java's `DataInput`) that may be
@@ -255,7 +256,7 @@ pub fn decode_lossy(alloc: Global, bytes: &[u8]) -> Result<CowText<'_>, AllocErr
     ensures succeeds { IsUtf8 bytes.now → IsOk result }
     ensures capacity { BuildsTextOfCapacity result (lossy_length Mutf8 bytes.now) }
 {
-    borrow_or_build::decode_lossy::<Mutf8Flavor>(alloc, bytes)
+    decode_lossy_as::<Mutf8Flavor, Lenient>(alloc, bytes)
 }
 
 /// Returns the length in bytes of the text that [`decode_strict`] returns, which decodes MUTF-8
@@ -360,7 +361,7 @@ pub fn encode_to_slice(value: &str, buf: &mut [u8]) -> Result<usize, TooShort>
 pub fn decode_strict_to_slice(bytes: &[u8], buf: &mut [u8]) -> Result<usize, DecodeSliceFault>
     ensures { WritesReading (λ text. IsStrictReading Mutf8 bytes.now text) result buf.old buf.new }
 {
-    internal::decode_strict_to_slice::<Mutf8Flavor>(bytes, buf)
+    internal::decode_to_slice::<Mutf8Flavor, EncodingAlone>(bytes, buf)
 }
 
 /// Decodes bytes that are UTF-8 as a whole, or else MUTF-8 (Java's `DataInput`), and writes the
@@ -381,7 +382,7 @@ pub fn decode_strict_to_slice(bytes: &[u8], buf: &mut [u8]) -> Result<usize, Dec
 pub fn decode_to_slice(bytes: &[u8], buf: &mut [u8]) -> Result<usize, DecodeSliceFault>
     ensures { WritesReading (λ text. IsLenientReading Mutf8 bytes.now text) result buf.old buf.new }
 {
-    internal::decode_to_slice::<Mutf8Flavor>(bytes, buf)
+    internal::decode_to_slice::<Mutf8Flavor, Lenient>(bytes, buf)
 }
 
 /// Decodes MUTF-8 (Java's `DataInput`) that may be damaged, and writes to the caller's buffer: the
@@ -403,7 +404,7 @@ pub fn decode_lossy_strict_to_slice(bytes: &[u8], buf: &mut [u8]) -> Result<usiz
     ensures { WritesLossyReading (λ text. text ≡ reading Mutf8 bytes.now)
         result buf.old buf.new }
 {
-    internal::decode_lossy_strict_to_slice::<Mutf8Flavor>(bytes, buf)
+    internal::decode_lossy_to_slice::<Mutf8Flavor, EncodingAlone>(bytes, buf)
 }
 
 /// Decodes bytes that are UTF-8 as a whole, or else MUTF-8 (Java's `DataInput`) that may be
@@ -425,5 +426,5 @@ pub fn decode_lossy_to_slice(bytes: &[u8], buf: &mut [u8]) -> Result<usize, Loss
     ensures { WritesLossyReading (λ text. IsLenientLossyReading Mutf8 bytes.now text)
         result buf.old buf.new }
 {
-    internal::decode_lossy_to_slice::<Mutf8Flavor>(bytes, buf)
+    internal::decode_lossy_to_slice::<Mutf8Flavor, Lenient>(bytes, buf)
 }

@@ -1,5 +1,5 @@
 use Rattle.std.proofs.Common.{arith}
-use Rattle.cesu8_encode.proofs.encode_in_place.Goals as goal
+use Rattle.cesu8_encode.proofs.encode.Goals as goal
 
 pub append_changed-requires-clause-room : goal.append_changed-requires-clause-room
 append_changed-requires-clause-room g c = omega (arith, c.in_ok-encoded.ensures.capacity, c.in_ok-encoded.ensures.len)
