@@ -1,7 +1,7 @@
 #!/bin/sh
 # Proves and builds the static library, builds the driver and runs it, as the usage below says. README.md
 # says more. Other words are refused with status 2, before anything is built. It needs the kit's rt, rustc,
-# ar, ld and, for --against, cc.
+# objcopy and, for --against, cc.
 set -eu
 
 usage() {
@@ -50,16 +50,13 @@ done
 # The archive for one processor level, proved and built. Its functions begin at multiples of 32 bytes,
 # as those of the release do: otherwise what stands before a call moves it by up to a tenth.
 build() {
-    rm -rf "$out/$1"
-    mkdir -p "$out/$1/objects"
+    mkdir -p "$out/$1"
     if ! (cd "$crate" && rt lib --cpu "$1" ${PROOF_JOBS:+--jobs "$PROOF_JOBS"}) >"$out/$1/rt.log" 2>&1; then
         cat "$out/$1/rt.log" >&2
         exit 1
     fi
     tail -n 1 "$out/$1/rt.log" >&2
-    (cd "$out/$1/objects" && ar x "$crate/out/libmeasured.a")
-    ld -r -T "$bench/aligned.ld" -o "$out/$1/measured.o" "$out/$1/objects"/*.o
-    ar rcsD "$out/$1/libmeasured.a" "$out/$1/measured.o"
+    objcopy --set-section-alignment '.text*=32' "$crate/out/libmeasured.a" "$out/$1/libmeasured.a"
 }
 
 for level in $against; do

@@ -3,9 +3,10 @@
 //! A text of at most a block, 32 bytes, is encoded as one block, and a longer one by blocks in turn.
 //!
 //! An encoding has at most twice the bytes of its text. So `encode` writes one of at most 128 bytes
-//! to an array on the stack before its length is known, and copies it. For a block or less that is
-//! an array of 64 bytes, since a larger one takes longer to clear. Others are counted, and written
-//! where they stay. Where the length is known, as in `encode_into`, all are written so.
+//! to an array on the stack before its length is known, and copies it: to count it first takes
+//! longer. For a block or less that is an array of 64 bytes, since a larger one takes longer to
+//! clear. Others are counted, and written where they stay. Where the length is known, as in
+//! `encode_into`, all are written so.
 //!
 //! To a slice, a text of more than a block is counted, and written in place. A block or less goes to
 //! the stack, from where it is copied: the rows of a block are stored whole, and what is behind the
@@ -30,12 +31,9 @@
 //! average of the text decides: one that is dense with pairs in a part alone may have its other
 //! blocks written where they could be copied.
 //!
-//! Beside the code of e8cb82e without the row, `NullChange` makes texts of 256 to 4,096 bytes with
-//! a null in 2 to 50 bytes 1.1 to 1.7 times as fast. `AnyChange` makes those of 1 KiB and more with
-//! a pair in 20 to 50 bytes, or of all widths, 1.1 to 1.16 times as fast at x86-64-v3, and 1.02 to
-//! 1.09 at v2.
-//! `CopyUnchanged` makes those with a pair in 300 bytes or more 1.2 to 2.5 times as fast. A way of its
-//! own for nulls that are few gained nothing.
+//! `NullChange` makes texts with a null in 2 to 50 bytes faster, `AnyChange` those of 512 bytes and
+//! more with a pair in 20 to 50 bytes or of all widths, and `CopyUnchanged` those with a pair in 300
+//! bytes or more. A way of its own for nulls that are few gained nothing.
 //!
 //! Other lengths choose no way: `append` and the vectors of `cesu8_bytes` have widths, and `looks`
 //! there sees whether a byte changes.

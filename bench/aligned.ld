@@ -1,4 +1,0 @@
-SECTIONS
-{
-    .text : SUBALIGN(32) { *(.text .text.*) }
-}
