@@ -53,18 +53,18 @@ static PyObject *bytes_of(PyObject *data)
     return bytes;
 }
 
+// The bytes of a view, by a call in the stable interface of each Python 3, which has Py_buffer from
+// 3.11 on alone. Headers up to 3.12 warn of the call, since it does not hold the data. A view does.
+PyAPI_FUNC(int) PyObject_AsReadBuffer(PyObject *data, const void **bytes, Py_ssize_t *length);
+#pragma GCC diagnostic ignored "-Wdeprecated-declarations"
+
 // A result and a place, as a tuple.
 static PyObject *both(PyObject *result, Py_ssize_t place)
 {
-    PyObject *tuple = result == NULL ? NULL : PyTuple_New(2);
-    PyObject *number = tuple == NULL ? NULL : PyLong_FromSsize_t(place);
-    if (number == NULL) {
-        Py_XDECREF(result);
-        Py_XDECREF(tuple);
-        return NULL;
-    }
-    PyTuple_SetItem(tuple, 0, result);
-    PyTuple_SetItem(tuple, 1, number);
+    PyObject *number = result == NULL ? NULL : PyLong_FromSsize_t(place);
+    PyObject *tuple = number == NULL ? NULL : PyTuple_Pack(2, result, number);
+    Py_XDECREF(result);
+    Py_XDECREF(number);
     return tuple;
 }
 
@@ -91,6 +91,29 @@ static struct cesu8_answer run(
 static PyObject *text_of(const uint8_t *utf8, size_t length)
 {
     return PyUnicode_DecodeUTF8((const char *)utf8, (Py_ssize_t)length, NULL);
+}
+
+// The text where Python's own `decode` hands over a view alone, of few bytes without damage. Their
+// copy is no object, which would take longer. Else the result is null.
+static PyObject *text_of_few(
+    int is_mutf8, PyObject *const *given, Py_ssize_t count, Py_ssize_t *length)
+{
+    uint8_t copy[FEW], few[FEW];
+    const void *bytes;
+    *length = 0;
+    if (count != 1 || !PyMemoryView_Check(*given))
+        return NULL;
+    if (PyObject_AsReadBuffer(*given, &bytes, length) < 0) {
+        // They are not in a row.
+        PyErr_Clear();
+        return NULL;
+    }
+    if (*length > FEW)
+        return NULL;
+    // What has no lock of Python's may write there meanwhile.
+    memcpy(copy, bytes, (size_t)*length);
+    struct cesu8_answer answer = DECODES[is_mutf8][0][0](copy, (size_t)*length, few, sizeof few);
+    return answer.status == CESU8_OK ? text_of(few, answer.length) : NULL;
 }
 
 // The text of UTF-8 with surrogates, with which Python's own decoder takes several times as long.
@@ -300,7 +323,7 @@ static PyObject *bytes_by(writes *call, int is_mutf8, PyObject *text, const char
     struct input input = between(utf8, 0, PyBytes_Size(utf8));
     struct cesu8_answer answer = run(call, input, 0, few, sizeof few);
     // Each character that a call changes gets longer, so here none does.
-    if (answer.status == CESU8_TOO_SMALL && answer.length == input.length)
+    if (answer.length == input.length)
         return utf8;
     if (answer.status == CESU8_OK) {
         result = PyBytes_FromStringAndSize((char *)few, (Py_ssize_t)answer.length);

@@ -3,38 +3,34 @@
 #define Py_LIMITED_API 0x030A0000
 #include "convert.h"
 
+// The place of a name, or of the null behind the names.
+static Py_ssize_t place_of(const char *const *names, PyObject *name)
+{
+    Py_ssize_t place = 0;
+    while (names[place] != NULL && PyUnicode_CompareWithASCIIString(name, names[place]) != 0)
+        place++;
+    return place;
+}
+
+#define REFUSE(...) return PyErr_Format(PyExc_TypeError, __VA_ARGS__), 0
+
 // Finds the arguments of a call by their places and names. The first ones are needed, and where
 // `strings` has a bit they are strings. The result is 0 with an exception.
 static int take(const char *const *names, int needed, int strings, PyObject *const *given,
     Py_ssize_t count, PyObject *keywords, PyObject **found)
 {
-    Py_ssize_t place, named = keywords == NULL ? 0 : PyTuple_Size(keywords);
-    for (place = 0; place < count && names[place] != NULL; place++)
-        found[place] = given[place];
-    int is_right = place == count;
-    for (Py_ssize_t at = 0; is_right && at < named; at++) {
-        PyObject *name = PyTuple_GetItem(keywords, at);
-        for (place = 0; names[place] != NULL; place++)
-            if (PyUnicode_CompareWithASCIIString(name, names[place]) == 0)
-                break;
-        is_right = names[place] != NULL && found[place] == NULL;
-        if (is_right)
-            found[place] = given[count + at];
+    Py_ssize_t named = keywords == NULL ? 0 : PyTuple_Size(keywords);
+    for (Py_ssize_t at = 0; at < count + named; at++) {
+        Py_ssize_t place = at < count ? at : place_of(names, PyTuple_GetItem(keywords, at - count));
+        if (names[place] == NULL || found[place] != NULL)
+            REFUSE("an argument too many, twice or of an unknown name");
+        if (strings >> place & 1 && !PyUnicode_Check(given[at]))
+            REFUSE("argument '%s' must be str, not %R", names[place], Py_TYPE(given[at]));
+        found[place] = given[at];
     }
-    if (!is_right) {
-        PyErr_SetString(PyExc_TypeError, "an argument too many, twice or of an unknown name");
-        return 0;
-    }
-    for (place = 0; names[place] != NULL; place++) {
-        if (found[place] == NULL && place < needed)
-            PyErr_Format(PyExc_TypeError, "argument '%s' is missing", names[place]);
-        else if (strings >> place & 1 && found[place] != NULL && !PyUnicode_Check(found[place]))
-            PyErr_Format(PyExc_TypeError, "argument '%s' must be str, not %R", names[place],
-                Py_TYPE(found[place]));
-        else
-            continue;
-        return 0;
-    }
+    for (; count < needed; count++)
+        if (found[count] == NULL)
+            REFUSE("argument '%s' is missing", names[count]);
     return 1;
 }
 
@@ -195,27 +191,30 @@ static PyObject *codec_encode(
 {
     TAKE(1, 3, "input", "errors");
     const char *errors = handler(with[1]);
-    if (errors == NULL)
-        return NULL;
-    PyObject *bytes = bytes_by(ENCODES[is_mutf8], is_mutf8, with[0], errors);
+    writes *call = ENCODES[is_mutf8];
+    PyObject *bytes = errors == NULL ? NULL : bytes_by(call, is_mutf8, with[0], errors);
     return both(bytes, PyUnicode_GetLength(with[0]));
 }
 
 static PyObject *codec_decode(
     int is_mutf8, PyObject *const *given, Py_ssize_t count, PyObject *keywords)
 {
+    Py_ssize_t length;
+    PyObject *text = text_of_few(is_mutf8, given, keywords == NULL ? count : 0, &length);
+    if (text != NULL || PyErr_Occurred())
+        return both(text, length);
     TAKE(1, 2, "input", "errors", "final");
     const char *errors = handler(with[1]);
     int is_final = errors == NULL || with[2] == NULL ? 1 : PyObject_IsTrue(with[2]);
     PyObject *data = errors == NULL || is_final < 0 ? NULL : bytes_of(with[0]);
     if (data == NULL)
         return NULL;
-    // In the view that Python's own `decode` hands over, a caller's bytearray may be held.
-    Py_ssize_t length = PyBytes_Size(data);
+    // In such a view a caller's bytearray may be held.
+    length = PyBytes_Size(data);
     struct part part = {data, 0, length, length, is_mutf8, PyMemoryView_Check(with[0])};
     if (!is_final)
         part.stop = before_cut(&part, errors);
-    PyObject *text = text_by(&part, 0, errors, &length);
+    text = text_by(&part, 0, errors, &length);
     Py_DECREF(data);
     return both(text, is_final ? part.end : length);
 }

@@ -381,7 +381,7 @@ large_dump() {
     expect_run 'a line longer than a part' 1 'cesu8: invalid input' "$scratch/wanted"
 }
 
-# No length as such is want of memory.
+# No length as such runs out of memory.
 very_long_text() {
     repeated $((4 << 20)) '\xC8\x85\xE2\x82\xAC a\n' >"$scratch/input"
     expect_same '32 MiB of text that stays' encode cesu8

@@ -166,6 +166,14 @@ class Copies(unittest.TestCase):
             self.assertEqual(cesu8.read_utf(data), ("abc", 5))
             self.assertEqual(cesu8.read_utf(data, 5), ("z", 8))
             self.assertEqual(cesu8.decode(data, "cesu-8")[:8], row.decode())
+            self.assertEqual(codecs.decode(data, "cesu-8")[:8], row.decode())
+
+    def test_a_view_that_is_released(self) -> None:
+        with memoryview(b"data") as view:
+            self.assertEqual(codecs.decode(view, "mutf-8"), "data")
+        for call in (codecs.decode, cesu8.decode):
+            with self.assertRaises(ValueError):
+                call(view, "mutf-8")
 
     def test_subclasses(self) -> None:
         class Bytes(bytes):
