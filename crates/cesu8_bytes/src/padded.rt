@@ -109,18 +109,6 @@ fn ends(bytes: &[u8]) -> u8x16
     u8x16::splat(bytes[0])
 }
 
-/// Returns less than 16 bytes with zeros behind them, as a block of 64.
-#[inline(always)]
-pub fn block_of_quarter(bytes: &[u8]) -> u8x64
-    requires { length bytes.now < QUARTER }
-    ensures { result ≡ bytes.now ++ replicate (LANES - length bytes.now) 0 }
-{
-    let quarter = padded_few(bytes).to_array();
-    let mut block = [0; LANES];
-    block[..QUARTER].copy_from_slice(&quarter);
-    u8x64::from_array(block)
-}
-
 /// Returns at most 32 bytes with zeros behind them.
 #[inline(always)]
 pub fn padded_half(bytes: &[u8]) -> u8x32
@@ -145,21 +133,6 @@ fn joined(first: u8x16, second: u8x16) -> u8x32
             24, 25, 26, 27, 28, 29, 30, 31,
         ],
     )
-}
-
-/// Returns the bytes from an index on, of which there are at most 64, with zeros behind them.
-#[inline(always)]
-pub fn padded_block(bytes: &[u8], from: usize) -> u8x64
-    requires quarter { QUARTER ≤ length bytes.now }
-    requires from { (from ≤ length bytes.now) × (length bytes.now ≤ from + LANES) }
-    ensures { result ≡ drop from bytes.now ++ replicate (from + LANES - length bytes.now) 0 }
-{
-    let mut block = [0; LANES];
-    for i in 0..LANES / QUARTER {
-        let quarter = padded_quarter(bytes, from + QUARTER * i);
-        quarter.copy_to_slice(&mut block[QUARTER * i..QUARTER * (i + 1)]);
-    }
-    u8x64::from_array(block)
 }
 
 /// Returns the bytes of a quarter from an index on, with zeros for those behind the end.

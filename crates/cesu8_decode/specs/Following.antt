@@ -6,22 +6,33 @@ use Rattle.cesu8_text.specs.Encoding.{Flavor}
 use Rattle.cesu8_bytes.specs.Pairs.{null_at}
 use Rattle.cesu8_decode.specs.DecodedOffsets.{continues}
 use Rattle.cesu8_decode.specs.declared.following.Block.{Block}
-use Rattle.cesu8_decode.specs.declared.following.TheConstants.{SHOWN_BY_NEXT, SHOWN_BY_NEXT_WITHOUT_PAIRS}
+use Rattle.cesu8_decode.specs.declared.character_set.Rule.{Rule}
+use Rattle.cesu8_decode.specs.declared.character_set.TheConstants.{ENCODED, UNCHANGED, UTF8}
 
--- The characters that are meant: all that are encoded, or those of them that are the same in UTF-8.
+-- The characters that are meant: all that are encoded, those of them that are the same in UTF-8, or all
+-- of UTF-8, but for 00 in MUTF-8.
 pub data CharacterSet : Type 0 where
   Encoded : CharacterSet
   Unchanged : CharacterSet
+  Utf8 : CharacterSet
 
--- The others, surrogate pairs and C0 80, are meant too.
+-- What tells them: whether surrogate pairs and C0 80 are meant, and characters of four bytes, and tables.
+abbrev pub rule : CharacterSet → Rule
+rule Encoded = ENCODED
+rule Unchanged = UNCHANGED
+rule Utf8 = UTF8
+
 abbrev pub has_changed : CharacterSet → Bool
-has_changed Encoded = true
-has_changed Unchanged = false
+has_changed s = (rule s).has_changed
+
+abbrev pub has_four : CharacterSet → Bool
+has_four s = (rule s).has_four
 
 -- From this second byte on a surrogate is none that begins a character.
 abbrev pub first_low : CharacterSet → ℕ
 first_low Encoded = 0xB0
 first_low Unchanged = 0xA0
+first_low Utf8 = 0xA0
 
 -- What byte b shows behind byte a: 80 (hexadecimal) behind a continuation byte, as the third byte of
 -- a character has it, 20 as the second byte of a low surrogate, or of any where none is meant, and 0
@@ -30,29 +41,34 @@ first_low Unchanged = 0xA0
 unfoldable pub shown : CharacterSet → Flavor → ℕ → ℕ → ℕ
 shown s f a b =
     if is_null f b then 0xFF
-    else if nat_le 0xF0 a then 0x40
+    else if nat_le 0xF0 a && not (has_four s) then 0x40
     else if not (continues b) then (if nat_le 0xC0 a then 0x01 else 0)
     else if nat_lt a 0x80 then 0x02
     else if nat_lt a 0xC0 then 0x80
-    else if a == 0xC0 then (if has_changed s && null_at f 0xC0 b then 0 else 0x10)
+    else if a == 0xC0 then (if has_changed s && null_at f 0xC0 b then 0 else if has_four s then 0x08 else 0x10)
     else if a == 0xC1 then 0x08
     else if a == 0xE0 && nat_lt b 0xA0 then 0x04
     else if a == 0xED && nat_le (first_low s) b then 0x20
+    else if nat_le 0xF4 a && nat_le 0x90 b then 0x10
+    else if (nat_le 0xF5 a || a == 0xF0) && nat_lt b 0x90 then 0x40
     else 0
-
--- The table of what is shown by the upper half of the second byte.
-abbrev pub by_next : CharacterSet → List ℕ
-by_next Encoded = SHOWN_BY_NEXT
-by_next Unchanged = SHOWN_BY_NEXT_WITHOUT_PAIRS
 
 -- Two bytes begin a high surrogate, and pairs are meant.
 abbrev pub is_high_surrogate : CharacterSet → ℕ → ℕ → Bool
 is_high_surrogate s a b = has_changed s && (a == 0xED && (nat_le 0xA0 b && nat_lt b 0xB0))
 
--- What a byte has to show that follows four others, of which a, b and d are the first three: the third
--- byte of a character that d leads, and the second of a low surrogate behind a high one.
+-- A byte leads four, and such characters are meant.
+abbrev pub leads_four : CharacterSet → ℕ → Bool
+leads_four s b = has_four s && nat_le 0xF0 b
+
+-- What a byte has to show by those three and two before it, b and d: the third byte of a character that
+-- d leads, and the fourth of one that b leads.
+abbrev pub later : CharacterSet → (b d : ℕ) → ℕ
+later s b d = if leads_four s b || nat_le 0xE0 d then 0x80 else 0
+
+-- The same by the one before these too: the second byte of a low surrogate behind a high one.
 abbrev pub wanted : CharacterSet → (a b d : ℕ) → ℕ
-wanted s a b d = (if nat_le 0xE0 d then 0x80 else 0) + (if is_high_surrogate s a b then 0x20 else 0)
+wanted s a b d = later s b d + (if is_high_surrogate s a b then 0x20 else 0)
 
 -- Byte g may follow four others.
 abbrev pub follows : CharacterSet → Flavor → (a b d e g : ℕ) → Bool
@@ -98,7 +114,7 @@ pub record FollowUpTo (s : CharacterSet) (f : Flavor) (bytes : List ℕ) (n : �
 -- By the four bytes before a boundary, a character may cross it, or a surrogate pair.
 abbrev pub crosses : CharacterSet → (a b d e : ℕ) → Bool
 crosses s a b d e =
-    nat_le 0xC0 e || (nat_le 0xE0 d || (is_high_surrogate s b d || is_high_surrogate s a b))
+    nat_le 0xC0 e || (nat_le 0xE0 d || (leads_four s b || (is_high_surrogate s b d || is_high_surrogate s a b)))
 
 -- The boundary behind so many bytes of the window's.
 abbrev pub crosses_at : CharacterSet → List ℕ → ℕ → Bool

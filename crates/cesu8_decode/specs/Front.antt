@@ -1,14 +1,27 @@
 -- Bytes at the front that are whole characters of a set.
-use Rattle.std.specs.Prelude.{◌≡◌, ℕ, ◌<◌, ◌≤◌, List, length, take}
-use Rattle.cesu8_text.specs.Encoding.{Flavor, NeedsEncoding}
-use Rattle.cesu8_text.specs.Reading.{IsStrictReading}
-use Rattle.cesu8_decode.specs.Following.{CharacterSet, Unchanged}
+use Rattle.std.specs.Prelude.{◌≡◌, ℕ, ◌<◌, ◌≤◌, List, length, take, Any, IsTrue}
+use Rattle.cesu8_text.specs.Class.{is_null}
+use Rattle.cesu8_text.specs.Encoding.{Flavor, encoding, IsEncodedOtherwise}
+use Rattle.cesu8_text.specs.Text.{IsText, utf8}
+use Rattle.cesu8_decode.specs.Following.{CharacterSet, Encoded, Unchanged, Utf8}
 
--- The bytes are the encoding of a text with no other characters.
+-- The bytes of a text in a set.
+abbrev pub written : CharacterSet → Flavor → List ℕ → List ℕ
+written Encoded f text = encoding f text
+written Unchanged f text = encoding f text
+written Utf8 f text = utf8 text
+
+-- A scalar value is none of the set.
+abbrev pub IsOutside : CharacterSet → Flavor → ℕ → Type 0
+IsOutside Encoded f = λ c. ⊥
+IsOutside Unchanged f = IsEncodedOtherwise f
+IsOutside Utf8 f = λ c. IsTrue (is_null f c)
+
+-- The bytes are those of a text in the set.
 pub record AreWhole (s : CharacterSet) (f : Flavor) (bytes : List ℕ) : Type 0 where
   pub text : List ℕ
-  pub reads : IsStrictReading f bytes text
-  pub unchanged : s ≡ Unchanged → ¬ (NeedsEncoding f text)
+  pub reads : IsText text × (written s f text ≡ bytes)
+  pub inside : ¬ (Any (IsOutside s f) text)
 
 -- So many bytes at the front are, and no more.
 pub record IsFront (s : CharacterSet) (f : Flavor) (bytes : List ℕ) (n : ℕ) : Type 0 where

@@ -1,17 +1,18 @@
 //! What a call that decodes takes, as types.
 
-ghost use Rattle.std.specs.Prelude.{◌≡◌, ◌↔◌, ◌||◌, ℕ, nat_le, List, IsTrue, IsUtf8};
-ghost use Rattle.cesu8_text.specs.Class.{IsUnchangedUtf8, is_null};
-ghost use Rattle.cesu8_text.specs.Encoding.{Flavor as AnyFlavor};
+ghost use Rattle.std.specs.Prelude.{◌≡◌, ◌↔◌, ℕ, List, IsTrue, IsUtf8, length};
+ghost use Rattle.cesu8_text.specs.Class.{IsUnchangedUtf8};
+ghost use Rattle.cesu8_text.specs.Encoding.{Flavor as AnyFlavor, Cesu8};
 ghost use Rattle.cesu8_text.specs.Reading.{IsStrictReading, IsLenientReading, reading, IsLenientLossyReading};
 ghost use Rattle.cesu8_text.specs.Kept.{KnowsTexts};
 ghost use Rattle.cesu8_text.proofs.reading.KeptTexts.{encoding_texts, lenient_texts};
-ghost use Rattle.cesu8_decode.specs.Following.{Unchanged};
+ghost use Rattle.cesu8_decode.specs.Following.{Unchanged, Utf8};
 ghost use Rattle.cesu8_decode.specs.Front.{IsFront};
 
-use cesu8_bytes::flavor::Flavor;
-use cesu8_bytes::looks::{is_short_ascii, is_short_unchanged_ascii};
-use cesu8_bytes::utf8::is_utf8;
+use crate::character_set;
+use crate::front::front;
+use cesu8_bytes::flavor::{Cesu8Flavor, Flavor};
+use cesu8_bytes::looks::{contains_changed, is_short_ascii, is_short_unchanged_ascii};
 
 /// What a call takes.
 pub trait Accepts {
@@ -23,15 +24,22 @@ pub trait Accepts {
 
     ghost reads_lossily: { AnyFlavor → List ℕ → List ℕ → Type 0 };
 
+    /// So many bytes at the front are whole characters that it keeps, and no more.
+    ghost ends_kept: { AnyFlavor → List ℕ → ℕ → Type 0 };
+
     /// Returns whether the bytes are few, and all ASCII that stays.
     fn is_short_kept_ascii<F: Flavor>(bytes: &[u8]) -> bool
         ensures { IsTrue result → keeps F.flavor bytes.now };
 
-    /// Returns whether the bytes are kept, of which so many at the front are whole characters that
-    /// are the same in UTF-8.
-    fn is_kept<F: Flavor>(bytes: &[u8], front: usize) -> bool
-        requires { IsFront Unchanged F.flavor bytes.now front }
-        ensures { IsTrue result ↔ keeps F.flavor bytes.now };
+    /// Returns how many bytes at the front are whole characters that are kept.
+    fn kept_front<F: Flavor>(bytes: &[u8]) -> usize
+        ensures front { ends_kept F.flavor bytes.now result }
+        ensures all { result ≡ length bytes.now ↔ keeps F.flavor bytes.now };
+
+    /// Returns how many of these are the same in UTF-8.
+    fn unchanged_front<F: Flavor>(bytes: &[u8], front: usize) -> usize
+        requires { ends_kept F.flavor bytes.now front }
+        ensures { IsFront Unchanged F.flavor bytes.now result };
 
     ghost known: { (f : AnyFlavor) (bytes : List ℕ)
         → KnowsTexts f bytes (keeps f bytes) (reads f bytes) (reads_lossily f bytes) };
@@ -47,26 +55,28 @@ impl Accepts for Lenient {
 
     ghost reads_lossily = { IsLenientLossyReading };
 
+    ghost ends_kept = { λ f. IsFront Utf8 Cesu8 };
+
     #[inline(always)]
     fn is_short_kept_ascii<F: Flavor>(bytes: &[u8]) -> bool {
         is_short_ascii(bytes)
     }
 
     #[inline(always)]
-    fn is_kept<F: Flavor>(bytes: &[u8], front: usize) -> bool {
-        let rest = &bytes[front..];
-        rest.is_empty() || changes::<F>(rest[0]) && is_utf8(rest)
+    fn kept_front<F: Flavor>(bytes: &[u8]) -> usize {
+        // In CESU-8 no ASCII changes.
+        front::<Cesu8Flavor, character_set::Utf8>(bytes)
+    }
+
+    #[inline(always)]
+    fn unchanged_front<F: Flavor>(bytes: &[u8], front: usize) -> usize {
+        if contains_changed::<F>(&bytes[..front]) {
+            return crate::front::front::<F, character_set::Unchanged>(bytes);
+        }
+        front
     }
 
     ghost known = { lenient_texts };
-}
-
-/// Returns whether a byte of UTF-8 begins a character that changes.
-#[inline(always)]
-fn changes<F: Flavor>(byte: u8) -> bool
-    ensures { result ≡ (nat_le 0xF0 byte || is_null F.flavor byte) }
-{
-    byte >= 0xF0 || F::has_long_null() && byte == 0
 }
 
 /// The encoding alone. UTF-8 is one if no byte of it changes.
@@ -79,14 +89,21 @@ impl Accepts for EncodingAlone {
 
     ghost reads_lossily = { λ f bytes text. text ≡ reading f bytes };
 
+    ghost ends_kept = { IsFront Unchanged };
+
     #[inline(always)]
     fn is_short_kept_ascii<F: Flavor>(bytes: &[u8]) -> bool {
         is_short_unchanged_ascii::<F>(bytes)
     }
 
     #[inline(always)]
-    fn is_kept<F: Flavor>(bytes: &[u8], front: usize) -> bool {
-        front == bytes.len()
+    fn kept_front<F: Flavor>(bytes: &[u8]) -> usize {
+        front::<F, character_set::Unchanged>(bytes)
+    }
+
+    #[inline(always)]
+    fn unchanged_front<F: Flavor>(bytes: &[u8], front: usize) -> usize {
+        front
     }
 
     ghost known = { encoding_texts };

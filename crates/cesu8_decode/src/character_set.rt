@@ -1,15 +1,81 @@
-//! Which encoded characters a test of the front passes over, as types.
+//! Which characters a test of the front passes over, as types.
 
-ghost use Rattle.std.specs.Prelude.{◌≡◌, ◌↔◌, IsTrue};
-ghost use Rattle.cesu8_decode.specs.Following.{CharacterSet as AnySet, Encoded as AllEncoded, Unchanged as AllUnchanged};
+ghost use Rattle.std.specs.Prelude.{◌≡◌};
+ghost use Rattle.cesu8_decode.specs.Following.{CharacterSet as AnySet, Encoded as AllEncoded, Unchanged as AllUnchanged, Utf8 as AllUtf8, rule};
 
-/// All encoded characters, or those that are the same in UTF-8.
+/// What a set has beside characters of one, two and three bytes, and what two bytes show, as the
+/// common bits of three tables: by the upper half of the first, by its lower half, and by the upper
+/// half of the second.
+///
+/// Bits 80 and 20 (hexadecimal) are those that `wanted_by` has. Each other is of a second byte that
+/// no character has there: 01 begins one behind a lead byte, and 02 is a continuation byte behind
+/// ASCII, 04 behind E0 in an overlong form, and 08 behind C1. Behind C0 it is 10, or 08 where four
+/// bytes are led, which 40 and 10 are behind that lead none, and 40 where no byte leads four.
+#[derive(Clone, Copy)]
+pub struct Rule {
+    /// Surrogate pairs and C0 80 are passed over too.
+    pub has_changed: bool,
+    /// Characters of four bytes are, as in UTF-8.
+    pub has_four: bool,
+    pub by_high: [u8; 16],
+    pub by_low: [u8; 16],
+    pub by_next: [u8; 16],
+}
+
+const BY_HIGH: [u8; 16] = [
+    0x02, 0x02, 0x02, 0x02, 0x02, 0x02, 0x02, 0x02, 0x80, 0x80, 0x80, 0x80, 0x19, 0x01, 0x25, 0x40,
+];
+
+const BY_LOW: [u8; 16] = [
+    0xD7, 0xCB, 0xC3, 0xC3, 0xC3, 0xC3, 0xC3, 0xC3, 0xC3, 0xC3, 0xC3, 0xC3, 0xC3, 0xE3, 0xC3, 0xC3,
+];
+
+/// A0 to AF behind ED begin a high surrogate.
+const ENCODED: Rule = Rule {
+    has_changed: true,
+    has_four: false,
+    by_high: BY_HIGH,
+    by_low: BY_LOW,
+    by_next: [
+        0x41, 0x41, 0x41, 0x41, 0x41, 0x41, 0x41, 0x41, 0xDE, 0xDE, 0xDA, 0xFA, 0x41, 0x41, 0x41,
+        0x41,
+    ],
+};
+
+const UNCHANGED: Rule = Rule {
+    has_changed: false,
+    has_four: false,
+    by_high: BY_HIGH,
+    by_low: BY_LOW,
+    by_next: [
+        0x41, 0x41, 0x41, 0x41, 0x41, 0x41, 0x41, 0x41, 0xDE, 0xDE, 0xFA, 0xFA, 0x41, 0x41, 0x41,
+        0x41,
+    ],
+};
+
+const UTF8: Rule = Rule {
+    has_changed: false,
+    has_four: true,
+    by_high: [
+        0x02, 0x02, 0x02, 0x02, 0x02, 0x02, 0x02, 0x02, 0x80, 0x80, 0x80, 0x80, 0x09, 0x01, 0x25,
+        0x51,
+    ],
+    by_low: [
+        0xCF, 0x8B, 0x83, 0x83, 0x93, 0xD3, 0xD3, 0xD3, 0xD3, 0xD3, 0xD3, 0xD3, 0xD3, 0xF3, 0xD3,
+        0xD3,
+    ],
+    by_next: [
+        0x01, 0x01, 0x01, 0x01, 0x01, 0x01, 0x01, 0x01, 0xCE, 0x9E, 0xBA, 0xBA, 0x01, 0x01, 0x01,
+        0x01,
+    ],
+};
+
+/// A set of characters, which its rule tells.
 pub trait CharacterSet {
     ghost set: { AnySet };
 
-    /// Returns whether surrogate pairs and C0 80 are passed over too.
-    fn has_changed() -> bool
-        ensures { IsTrue result ↔ set ≡ AllEncoded };
+    fn rule() -> Rule
+        ensures { result ≡ rule set };
 }
 
 /// All encoded characters.
@@ -19,8 +85,8 @@ impl CharacterSet for Encoded {
     ghost set = { AllEncoded };
 
     #[inline(always)]
-    fn has_changed() -> bool {
-        true
+    fn rule() -> Rule {
+        ENCODED
     }
 }
 
@@ -31,7 +97,19 @@ impl CharacterSet for Unchanged {
     ghost set = { AllUnchanged };
 
     #[inline(always)]
-    fn has_changed() -> bool {
-        false
+    fn rule() -> Rule {
+        UNCHANGED
+    }
+}
+
+/// All of UTF-8, but for 00 in MUTF-8.
+pub struct Utf8;
+
+impl CharacterSet for Utf8 {
+    ghost set = { AllUtf8 };
+
+    #[inline(always)]
+    fn rule() -> Rule {
+        UTF8
     }
 }

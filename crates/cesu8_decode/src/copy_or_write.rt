@@ -3,8 +3,6 @@
 ghost use Rattle.cesu8_decode.specs.PutReadings.{PutsText, ReadsAs};
 
 use crate::accepts::Accepts;
-use crate::character_set::Unchanged;
-use crate::front::front;
 use crate::refusal::Unwritten;
 use crate::slices::{put_lossily, put_strictly};
 use cesu8_bytes::flavor::Flavor;
@@ -39,12 +37,14 @@ fn decode_other_to_slice<F: Flavor, A: Accepts>(
     ensures { PutsText strictness (ReadsAs strictness (A.reads F.flavor bytes.now)
         (A.reads_lossily F.flavor bytes.now)) result buf.old buf.new }
 {
-    let front = front::<F, Unchanged>(bytes);
-    if A::is_kept::<F>(bytes, front) {
+    let kept = A::kept_front::<F>(bytes);
+    if kept == bytes.len() {
         return copy_to_slice_by_call(bytes, buf).map_err(Unwritten::NoRoom);
     }
     match strictness {
-        Strictness::Strict => put_strictly::<F>(bytes, front, buf),
+        Strictness::Strict => {
+            put_strictly::<F>(bytes, A::unchanged_front::<F>(bytes, kept), buf)
+        }
         Strictness::Lossy => put_lossily::<F>(bytes, buf),
     }
 }

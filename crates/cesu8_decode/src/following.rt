@@ -1,15 +1,15 @@
-//! Which bytes may follow which in whole encoded characters, by vectors.
+//! Which bytes may follow which in whole characters, by vectors.
 //!
-//! What two bytes show is compared with what the three before them want: the third byte of a
-//! character, and the second half of a surrogate pair. Where both are the same for each byte, all
-//! are in encoded characters, but for those of the last one, which may be cut off. Where only the
-//! characters are meant that are the same in UTF-8, a surrogate or C0 80 shows what nothing wants.
+//! What two bytes show is compared with what the three before them want: the third or fourth byte of
+//! a character, and the second half of a surrogate pair. Where both are the same for each byte, all
+//! are in characters, but for those of the last one, which may be cut off. What is in no character of
+//! a set shows what nothing wants.
 
-ghost use Rattle.std.specs.Prelude.{◌≡◌, ℕ, List, ◌+◌, ◌*◌, ◌-◌, ◌<◌, ◌≤◌, ◌++◌, ◌==◌, ◌&&◌, IsTrue, false, length, map, drop, slice_index, nat_le, if◌then◌else◌, not};
+ghost use Rattle.std.specs.Prelude.{◌≡◌, ◌⊎◌, ℕ, List, ◌+◌, ◌*◌, ◌-◌, ◌<◌, ◌≤◌, ◌++◌, ◌==◌, ◌&&◌, IsTrue, false, length, map, drop, slice_index, nat_le, if◌then◌else◌, not};
 ghost use Rattle.std.specs.List.{range_with_len};
 ghost use Rattle.std.specs.Simd.Lanes.{zip2};
 ghost use Rattle.cesu8_bytes.specs.Kernels.{mask};
-ghost use Rattle.cesu8_decode.specs.Following.{has_changed, by_next, shown, wanted, follows_at, AllFollow, IsBlockAt, marked_if_not_one};
+ghost use Rattle.cesu8_decode.specs.Following.{has_changed, shown, later, wanted, follows_at, AllFollow, IsBlockAt, marked_if_not_one};
 
 use super::character_set::CharacterSet;
 use super::offsets::{FROM_28, FROM_29, FROM_30, FROM_31, common_bits};
@@ -25,28 +25,6 @@ pub const DECIDING: usize = 4;
 
 /// What stands for bytes before the first: some character of one byte.
 pub const FILLER: u8 = 0x61;
-
-/// What two bytes show is the common bits of three tables. Bits 80 and 20 (hexadecimal) are those
-/// that `wanted_by` has. Each other is of a second byte that no character has there: 01 begins one
-/// behind a lead byte, and 02 is a continuation byte behind ASCII, 04 behind E0 in an overlong
-/// form, 08 behind C1, 10 behind C0, and 40 any byte behind F0 or more.
-const SHOWN_BY_HIGH: [u8; 16] = [
-    0x02, 0x02, 0x02, 0x02, 0x02, 0x02, 0x02, 0x02, 0x80, 0x80, 0x80, 0x80, 0x19, 0x01, 0x25, 0x40,
-];
-
-const SHOWN_BY_LOW: [u8; 16] = [
-    0xD7, 0xCB, 0xC3, 0xC3, 0xC3, 0xC3, 0xC3, 0xC3, 0xC3, 0xC3, 0xC3, 0xC3, 0xC3, 0xE3, 0xC3, 0xC3,
-];
-
-/// Where pairs are meant. A0 to AF behind ED begin a high surrogate.
-const SHOWN_BY_NEXT: [u8; 16] = [
-    0x41, 0x41, 0x41, 0x41, 0x41, 0x41, 0x41, 0x41, 0xDE, 0xDE, 0xDA, 0xFA, 0x41, 0x41, 0x41, 0x41,
-];
-
-/// Where none are.
-const SHOWN_BY_NEXT_WITHOUT_PAIRS: [u8; 16] = [
-    0x41, 0x41, 0x41, 0x41, 0x41, 0x41, 0x41, 0x41, 0xDE, 0xDE, 0xFA, 0xFA, 0x41, 0x41, 0x41, 0x41,
-];
 
 /// 32 bytes, and those one to four before each of them.
 #[derive(Clone, Copy)]
@@ -151,23 +129,12 @@ fn misplaced<F: Flavor, S: CharacterSet>(block: Block) -> u8x32
 fn shown_by<F: Flavor, S: CharacterSet>(first: u8x32, second: u8x32) -> u8x32
     ensures { result ≡ zip2 (shown S.set F.flavor) first second }
 {
-    let by_next = shown_by_next::<S>();
-    let of_two = common_bits(SHOWN_BY_HIGH, SHOWN_BY_LOW, by_next, first, second);
+    let rule = S::rule();
+    let of_two = common_bits(rule.by_high, rule.by_low, rule.by_next, first, second);
     if F::has_long_null() {
         return (of_two & kept_of_null::<S>(second)) | nulls::<F>(second);
     }
     of_two
-}
-
-/// Returns the third table.
-#[inline(always)]
-fn shown_by_next<S: CharacterSet>() -> [u8; 16]
-    ensures { result ≡ by_next S.set }
-{
-    if S::has_changed() {
-        return SHOWN_BY_NEXT;
-    }
-    SHOWN_BY_NEXT_WITHOUT_PAIRS
 }
 
 /// Returns the bits that bytes of MUTF-8 keep of what they show: 80 may follow C0, where that is
@@ -176,7 +143,7 @@ fn shown_by_next<S: CharacterSet>() -> [u8; 16]
 fn kept_of_null<S: CharacterSet>(bytes: u8x32) -> u8x32
     ensures { result ≡ map (λ b. if has_changed S.set && b == 0x80 then 0xEF else 0xFF) bytes }
 {
-    if S::has_changed() {
+    if S::rule().has_changed {
         return bytes
             .simd_eq(u8x32::splat(0x80))
             .select(u8x32::splat(0xEF), u8x32::splat(0xFF));
@@ -190,20 +157,35 @@ fn wanted_by<S: CharacterSet>(four_before: u8x32, three_before: u8x32, two_befor
     ensures { result ≡ zip2 (λ wants d. wants d)
         (zip2 (wanted S.set) four_before three_before) two_before }
 {
-    let third = leads_three(two_before);
-    if !S::has_changed() {
-        return third;
+    let later = later_by::<S>(three_before, two_before);
+    if !S::rule().has_changed {
+        return later;
     }
     let is_high = mask::<Equal<0xED>>(four_before)
         & mask::<Equal<0xA0>>(three_before & u8x32::splat(0xF0));
-    third | (is_high & u8x32::splat(0x20))
+    later | (is_high & u8x32::splat(0x20))
 }
 
-/// Returns 80 (hexadecimal) for each byte that leads three bytes or more, and zeros for the others.
+/// Returns 80 (hexadecimal) for each third or fourth byte of a character, and zeros for the others,
+/// by the bytes three and two before them.
 #[inline(always)]
-fn leads_three(bytes: u8x32) -> u8x32
-    ensures { result ≡ map (λ b. if nat_le 0xE0 b then 0x80 else 0) bytes }
+fn later_by<S: CharacterSet>(three_before: u8x32, two_before: u8x32) -> u8x32
+    ensures { result ≡ zip2 (later S.set) three_before two_before }
 {
-    // The highest bit is left from E0 on.
-    bytes.saturating_sub(u8x32::splat(0x60)) & u8x32::splat(0x80)
+    let third = led_from(two_before, 0xE0);
+    if S::rule().has_four {
+        return third | led_from(three_before, 0xF0);
+    }
+    third
+}
+
+/// Returns 80 (hexadecimal) for each byte from a lead byte of three or four on, and zeros for the
+/// others.
+#[inline(always)]
+fn led_from(bytes: u8x32, lead: u8) -> u8x32
+    requires { (lead ≡ 0xE0) ⊎ (lead ≡ 0xF0) }
+    ensures { result ≡ map (λ b. if nat_le lead b then 0x80 else 0) bytes }
+{
+    // The highest bit is left from the lead byte on.
+    bytes.saturating_sub(u8x32::splat(lead - 0x80)) & u8x32::splat(0x80)
 }

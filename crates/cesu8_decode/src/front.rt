@@ -1,18 +1,19 @@
-//! How many bytes at the front are whole encoded characters: all of these, or those that are the
-//! same in UTF-8. All ways of decoding begin with this test, and go on where it stopped.
+//! How many bytes at the front are whole characters: all that are encoded, those of them that are the
+//! same in UTF-8, or all of UTF-8. All ways of decoding begin with this test, and go on where it
+//! stopped.
 //!
 //! Vectors find the first byte that may not follow those before it. The front ends there, or at the
 //! last boundary before, if a character begins that the byte cuts off.
 
-ghost use Rattle.std.specs.Prelude.{◌≡◌, ℕ, ◌+◌, ◌-◌, ◌<◌, ◌≤◌, true, length, slice_index, IfOk, IfErr};
+ghost use Rattle.std.specs.Prelude.{◌≡◌, ℕ, ◌+◌, ◌-◌, ◌<◌, ◌≤◌, ◌↔◌, IsTrue, IsUtf8, true, length, slice_index, IfOk, IfErr};
 ghost use Rattle.cesu8_text.specs.Fronts.{IsValidUpTo};
 ghost use Rattle.cesu8_decode.specs.Following.{FirstFollow, FollowUpTo, Encoded as AllEncoded, after_fillers, crosses_at, is_high_surrogate};
 ghost use Rattle.cesu8_decode.specs.Front.{IsFront};
 
-use super::character_set::{CharacterSet, Encoded};
+use super::character_set::{CharacterSet, Encoded, Utf8};
 use super::following::{DECIDING, FILLER, block_at, block_behind, following_len, two_follow};
 use cesu8_bytes::BLOCK;
-use cesu8_bytes::flavor::Flavor;
+use cesu8_bytes::flavor::{Cesu8Flavor, Flavor};
 use cesu8_bytes::implementation::class::{Either, NonAscii};
 use cesu8_bytes::looks::is_short_unchanged_ascii;
 use cesu8_bytes::padded::padded_half;
@@ -50,6 +51,15 @@ pub fn front<F: Flavor, S: CharacterSet>(bytes: &[u8]) -> usize
         following_many::<F, S>(bytes)
     };
     last_boundary::<F, S>(bytes, at)
+}
+
+/// Returns whether the bytes are UTF-8.
+#[inline(always)]
+pub fn is_utf8(bytes: &[u8]) -> bool
+    ensures { IsTrue result ↔ IsUtf8 bytes.now }
+{
+    // In CESU-8 no ASCII changes.
+    front::<Cesu8Flavor, Utf8>(bytes) == bytes.len()
 }
 
 /// Returns how many bytes of a block may follow those before them, up to the first that may not.
@@ -170,10 +180,13 @@ fn may_be_crossed<S: CharacterSet>(bytes: &[u8], at: usize) -> bool
     if last >= 0xC0 || second_last >= 0xE0 {
         return true;
     }
-    if !S::has_changed() {
+    let third_last = byte_before(bytes, at, 3);
+    if S::rule().has_four {
+        return third_last >= 0xF0;
+    }
+    if !S::rule().has_changed {
         return false;
     }
-    let third_last = byte_before(bytes, at, 3);
     begins_high_surrogate(third_last, second_last)
         || begins_high_surrogate(byte_before(bytes, at, 4), third_last)
 }

@@ -13,8 +13,8 @@ use crate::cow::{CowBytes, CowText};
 use crate::error::DecodeFault;
 use crate::internal;
 use crate::internal::{
-    Accepts, EncodingAlone, Flavor, Lenient, Unchanged, begins_with_unchanged_ascii, front,
-    is_shown_at_once, known_text, needs_encoded,
+    Accepts, EncodingAlone, Flavor, Lenient, begins_with_unchanged_ascii, is_shown_at_once,
+    known_text, needs_encoded,
 };
 use std::alloc::{AllocError, Global};
 
@@ -52,10 +52,11 @@ fn decode_other<F: Flavor, A: Accepts>(
 ) -> Result<CowText<'_>, DecodeFault>
     ensures { DecodesAs (A.keeps F.flavor bytes.now) (A.reads F.flavor bytes.now) bytes.now result }
 {
-    let front = front::<F, Unchanged>(bytes);
-    if A::is_kept::<F>(bytes, front) {
+    let kept = A::kept_front::<F>(bytes);
+    if kept == bytes.len() {
         return Ok(CowText::Borrowed(known_text(bytes)));
     }
+    let front = A::unchanged_front::<F>(bytes, kept);
     let built = internal::decode_strict::<F>(alloc, bytes, front)?;
     Ok(CowText::Owned(built))
 }
@@ -129,8 +130,8 @@ fn decode_lossy_other<F: Flavor, A: Accepts>(
     ensures { DecodesLossily F.flavor (A.keeps F.flavor bytes.now)
         (A.reads_lossily F.flavor bytes.now) bytes.now result }
 {
-    let front = front::<F, Unchanged>(bytes);
-    if A::is_kept::<F>(bytes, front) {
+    let kept = A::kept_front::<F>(bytes);
+    if kept == bytes.len() {
         return Ok(CowText::Borrowed(known_text(bytes)));
     }
     let built = internal::decode_lossy::<F>(alloc, bytes)?;

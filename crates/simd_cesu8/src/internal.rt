@@ -22,11 +22,10 @@ pub use cesu8_bytes::looks::{
 };
 pub use cesu8_bytes::order::compare_as_utf16;
 use cesu8_bytes::strictness::Strictness;
-pub use cesu8_bytes::utf8::{is_utf8, known_text};
+pub use cesu8_bytes::utf8::known_text;
 pub use cesu8_decode::accepts::{Accepts, EncodingAlone, Lenient};
-pub use cesu8_decode::character_set::Unchanged;
 use cesu8_decode::copy_or_write;
-pub use cesu8_decode::front::{front, valid_up_to};
+pub use cesu8_decode::front::{is_utf8, valid_up_to};
 use cesu8_decode::refusal::{Refusal, Unwritten};
 pub use cesu8_decode::{decode_lossy, decoded_len, lossy_len};
 pub use cesu8_encode::{encode, encode_into};

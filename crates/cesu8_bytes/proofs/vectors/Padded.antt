@@ -1,13 +1,11 @@
 -- Bytes with zeros behind them: a shuffle by sixteen of the indices makes a quarter of these.
-use Rattle.std.proofs.Common.{◌≡◌, ℕ, ◌+◌, ◌*◌, ◌/◌, ◌-◌, ◌<◌, ◌≤◌, true, ◌||◌, cond, List, ◌++◌, length, take, drop, get_or, replicate, eqb, refl, sym, ap, ◌∙◌, subst, arith, w8, length-append, take-add, ◌⊎◌, inl, inr, min}
+use Rattle.std.proofs.Common.{◌≡◌, ℕ, ◌+◌, ◌*◌, ◌/◌, ◌-◌, ◌<◌, ◌≤◌, true, ◌||◌, cond, List, ◌++◌, length, take, drop, get_or, replicate, eqb, refl, sym, ap, ◌∙◌, subst, arith, w8, length-append, ◌⊎◌, inl, inr, min}
 use Rattle.std.proofs.Math.Seq.{take-append-add}
 use Rattle.std.proofs.lemmas.Bool.{agree_below_at, cases_lt, eqb-true}
-use Rattle.std.proofs.lemmas.List.{ext_get_or, get_or_append_left, get_or-append_right, length-drop, length-take-le, drop-drop, drop-append-le, take-replicate}
-use Rattle.std.proofs.lemmas.Simd.{swz_l, SwzOk, SwzOk-from_Each1, length-swz_l, get_or-swz_l, get_or-swz_l_below, length-chunk, get_or-chunk, get_or-replicate, length-replicate, put_chunk_whole, Each1-from_get_or}
+use Rattle.std.proofs.lemmas.List.{ext_get_or, get_or_append_left, get_or-append_right, length-drop, drop-append-le, take-replicate}
+use Rattle.std.proofs.lemmas.Simd.{swz_l, SwzOk, SwzOk-from_Each1, length-swz_l, get_or-swz_l, get_or-swz_l_below, length-chunk, get_or-chunk, get_or-replicate, length-replicate, Each1-from_get_or}
 use lib.Dec.{T, ltb}
-use Rattle.std.proofs.lemmas.Slice.{take-put_mid}
-use borrow.Rule.Slice.PartMut.{put_mid}
-use lib.Lanes.{chunk, put_chunk}
+use lib.Lanes.{chunk}
 use mir.Val.{zeroes}
 use Rattle.cesu8_bytes.specs.declared.padded.TheConstants.{INDICES}
 
@@ -85,38 +83,6 @@ quarter_is bytes from start behind long room starts is =
     ext_get_or 0 _ _ (many ∙ sym (length-chunk from 16 (with_block_of_zeros bytes) rest)) (λ m l.
     let small : m < 16 = omega (arith, l, many) in
     lane_is bytes from start behind m long room starts is small (cases_lt (behind + m) 16) ∙ sym (get_or-chunk from 16 (with_block_of_zeros bytes) m 0 small))
-
--- ---- a block of four quarters
-
--- A quarter that is stored behind others is the next.
-pub next_quarter : (block bytes quarter : List ℕ) (from i : ℕ) → i < 4 → length block ≡ 64 → take (16 * i) block ≡ chunk from (16 * i) (with_block_of_zeros bytes) →
-    from + 16 * (i + 1) ≤ length bytes + 64 → quarter ≡ chunk (from + 16 * i) 16 (with_block_of_zeros bytes) →
-    let stored = put_mid (16 * i) (16 * (i + 1) - 16 * i) block (put_chunk 0 (chunk (16 * i) (16 * (i + 1) - 16 * i) block) quarter) in
-    (length stored ≡ 64) × (take (16 * (i + 1)) stored ≡ chunk from (16 * (i + 1)) (with_block_of_zeros bytes))
-next_quarter block bytes quarter from i four long before room is =
-    let wide : 16 * (i + 1) - 16 * i ≡ 16 = omega arith in
-    let short : length quarter ≡ 16 = ap length is ∙ length-chunk (from + 16 * i) 16 (with_block_of_zeros bytes) (omega (arith, room, length-append bytes (replicate 64 0), length-replicate {A = ℕ} 64 0)) in
-    let mid : put_chunk 0 (chunk (16 * i) (16 * (i + 1) - 16 * i) block) quarter ≡ quarter =
-    put_chunk_whole _ quarter (length-chunk (16 * i) (16 * (i + 1) - 16 * i) block (omega (arith, four, long)) ∙ wide ∙ sym short) in (
-      ap (λ p. length (put_mid (16 * i) (16 * (i + 1) - 16 * i) block p)) mid
-          ∙ omega (
-            arith,
-            length-append (take (16 * i) block) (quarter ++ drop (16 * (i + 1) - 16 * i) (drop (16 * i) block)),
-            length-append quarter (drop (16 * (i + 1) - 16 * i) (drop (16 * i) block)),
-            length-drop (16 * (i + 1) - 16 * i) (drop (16 * i) block),
-            length-drop (16 * i) block,
-            length-take-le (16 * i) block (omega (arith, four, long)),
-            short,
-            long,
-            four,
-          ),
-      ap (λ p. take (16 * (i + 1)) (put_mid (16 * i) (16 * (i + 1) - 16 * i) block p)) mid
-          ∙ take-put_mid (16 * i) (16 * (i + 1) - 16 * i) block quarter (16 * (i + 1)) (omega (arith, short)) (omega (arith, four, long))
-          ∙ (λ j. before j ++ is j)
-          ∙ ap (λ rest. chunk from (16 * i) (with_block_of_zeros bytes) ++ take 16 rest) (sym (drop-drop (16 * i) from (with_block_of_zeros bytes)))
-          ∙ sym (take-add (16 * i) 16 (drop from (with_block_of_zeros bytes)))
-          ∙ ap (λ n. take n (drop from (with_block_of_zeros bytes))) (omega arith),
-    )
 
 -- What is from an index on is the bytes there with zeros behind them.
 pub last_block : (bytes : List ℕ) (from n : ℕ) → from ≤ length bytes → length bytes ≤ from + n → n ≤ 64 →

@@ -1,8 +1,7 @@
 -- What bytes are read as behind a front in which nothing changes.
 use Rattle.std.proofs.Common.{◌≡◌, ℕ, ◌+◌, ◌^◌, ◌<◌, ◌≤◌, inl, inr, ⊎_elim, List, [], ◌∷◌, ◌++◌, refl, sym, ap, ◌∙◌, subst, arith, append_assoc, length, take, drop, length-drop, length-append, Ok, Err, Option, Some, None, Vec, vec_capacity}
 use Rattle.std.proofs.lemmas.Bool.{false≢true, cases_lt}
-use Rattle.std.proofs.lemmas.List.{take_all, drop-drop, length-take-le}
-use Rattle.cesu8_text.specs.Class.{IsUnchangedUtf8}
+use Rattle.std.proofs.lemmas.List.{drop-drop, length-take-le}
 use Rattle.cesu8_text.specs.Encoding.{Flavor, Cesu8, Mutf8, encoding, IsEncodedOtherwise}
 use Rattle.cesu8_text.specs.Reading.{BeginsWith, IsStrictReading, HasNoStrictReading}
 use Rattle.cesu8_text.specs.Text.{utf8}
@@ -24,7 +23,7 @@ use Rattle.cesu8_decode.specs.Front.{IsFront}
 use Rattle.cesu8_decode.specs.PutReadings.{PutsReading}
 use Rattle.cesu8_decode.proofs.chunks.ReadChunks.{more_read, chunk_appended}
 use Rattle.cesu8_decode.proofs.chunks.SliceReadings.{IsOnlyText, answer_put, room_lacks, no_strict_text}
-use Rattle.cesu8_decode.proofs.chunks.UnchangedFronts.{front_unchanged, unchanged_front_chunk, no_strict_reading}
+use Rattle.cesu8_decode.proofs.chunks.UnchangedFronts.{unchanged_front_chunk, no_strict_reading}
 
 -- ---- what begins bytes
 
@@ -109,10 +108,6 @@ text_length f rest text reads =
 -- ---- what is read behind a front
 
 module _ (f : Flavor) (bytes : List ℕ) (n : ℕ) (front : IsFront Unchanged f bytes n) where
-  -- If it is of all bytes, nothing changes in them.
-  pub front_of_all : length bytes ≤ n → IsUnchangedUtf8 f bytes
-  front_of_all all = subst (IsUnchangedUtf8 f) (take_all n bytes all) (front_unchanged f bytes n front)
-
   -- The front is appended behind what is read so far.
   pub front_appended : (whole before old new : List ℕ) → IsReadSoFar f Strict whole bytes before old → new ≡ old ++ take n bytes →
       IsReadSoFar f Strict whole (drop n bytes) before new

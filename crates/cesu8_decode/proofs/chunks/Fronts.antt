@@ -1,17 +1,17 @@
 -- How many bytes at the front are whole characters of a set.
-use Rattle.std.proofs.Common.{◌≡◌, ℕ, ◌+◌, ◌<◌, ◌≤◌, ⊎_elim, true, false, List, [], ◌∷◌, ◌++◌, refl, sym, ap, ◌∙◌, subst, arith, length, take, drop, length-append, length-drop, true≢false}
+use Rattle.std.proofs.Common.{◌≡◌, ℕ, ◌+◌, ◌<◌, ◌≤◌, ◌↔◌, ⊎_elim, true, false, List, [], ◌∷◌, ◌++◌, refl, sym, ap, ◌∙◌, subst, arith, length, take, drop, length-append, length-drop, true≢false}
 use Rattle.std.proofs.Math.Seq.{take-add, take-append_seam, take-length}
 use Rattle.std.proofs.lemmas.Bool.{cases_lt}
-use Rattle.std.proofs.lemmas.List.{take-append-drop, length-take-le}
-use Rattle.cesu8_text.specs.Encoding.{Flavor, encoding, IsEncodedOtherwise}
+use Rattle.std.proofs.lemmas.List.{take_all, take-append-drop, length-take-le}
+use Rattle.cesu8_text.specs.Encoding.{Flavor, encoding}
 use Rattle.cesu8_text.specs.Reading.{BeginsWith, NoneBegins, StandsAt, width, LiesWithin, Damaged}
 use Rattle.cesu8_text.specs.Fronts.{IsValidUpTo}
 use Rattle.cesu8_text.proofs.encoding.Lengths.{length_of_character}
 use Rattle.cesu8_text.proofs.reading.Marks.{mark_from}
-use Rattle.cesu8_decode.specs.Following.{CharacterSet, Encoded, Unchanged, after_fillers, FollowUpTo, crosses_at}
-use Rattle.cesu8_decode.specs.Front.{AreWhole, IsFront}
+use Rattle.cesu8_decode.specs.Following.{CharacterSet, Encoded, after_fillers, FollowUpTo, crosses_at}
+use Rattle.cesu8_decode.specs.Front.{AreWhole, IsFront, written, IsOutside}
 use Rattle.cesu8_decode.proofs.by_offset.IllFormed.{none_crosses_encoding}
-use Rattle.cesu8_decode.proofs.chunks.WholeBytes.{not_unchanged, character_whole, parts_whole}
+use Rattle.cesu8_decode.proofs.chunks.WholeBytes.{none_outside, character_whole, parts_whole}
 use Rattle.cesu8_decode.proofs.chunks.FollowingBytes.{followed_whole}
 use Rattle.cesu8_decode.proofs.chunks.EncodedFollow.{whole_follow}
 
@@ -37,13 +37,26 @@ all_front s f bytes whole = record {
 }
 
 module _ (s : CharacterSet) (f : Flavor) (bytes : List ℕ) (n : ℕ) (front : IsFront s f bytes n) where
-  -- A front is the encoding of its text, at the front of all bytes.
-  pub bytes_are : bytes ≡ encoding f front.whole.text ++ drop n bytes
+  -- It is of all bytes exactly if they are whole.
+  pub front_of_all : (n ≡ length bytes) ↔ AreWhole s f bytes
+  front_of_all = (
+    λ all. subst (AreWhole s f) (take_all n bytes (omega (arith, all))) front.whole,
+    λ whole. ⊎_elim
+        (λ (more : n < length bytes). absurd (front.greatest (length bytes) more (omega arith) (subst (AreWhole s f) (sym (take-length bytes)) whole)))
+        (λ (all : length bytes ≤ n). omega (arith, front.within)) (cases_lt n (length bytes)),
+  )
+
+  -- There are more bytes where they are not whole.
+  pub more_behind : ¬ (n ≡ length bytes) → n < length bytes
+  more_behind other = omega (arith, front.within, other)
+
+  -- A front is its text as it is written, at the front of all bytes.
+  pub bytes_are : bytes ≡ written s f front.whole.text ++ drop n bytes
   bytes_are = sym (take-append-drop n bytes) ∙ ap (λ bs. bs ++ drop n bytes) (sym front.whole.reads.1)
 
   -- No character of the set begins behind a front, as it would make a longer one.
-  pub none_behind : (c : ℕ) (rest : List ℕ) → (s ≡ Unchanged → ¬ (IsEncodedOtherwise f c)) → ¬ (BeginsWith f (drop n bytes) c rest)
-  none_behind c rest stays begins =
+  pub none_behind : (c : ℕ) (rest : List ℕ) → written s f (c ∷ []) ≡ encoding f (c ∷ []) → ¬ (IsOutside s f c) → ¬ (BeginsWith f (drop n bytes) c rest)
+  none_behind c rest encoded inside begins =
       let character = encoding f (c ∷ []) in
       let k = width f c in
       let long = length_of_character f c begins.scalar in
@@ -51,7 +64,8 @@ module _ (s : CharacterSet) (f : Flavor) (bytes : List ℕ) (n : ℕ) (front : I
       let are : take (n + k) bytes ≡ take n bytes ++ character =
       take-add n k bytes ∙ ap (λ bs. take n bytes ++ bs) (ap (take k) begins.bytes_are ∙ take-append_seam character rest) in
       front.greatest (n + k) (omega (arith, long.some, long.fits)) (omega (arith, front.within, fits, length-drop n bytes))
-      (subst (AreWhole s f) (sym are) (parts_whole s f (take n bytes) character front.whole (character_whole s f c begins.scalar stays)))
+      (subst (AreWhole s f) (sym are)
+      (parts_whole s f (take n bytes) character front.whole (subst (AreWhole s f) encoded (character_whole s f c begins.scalar inside))))
 
 -- The front of all encoded characters is what `valid_up_to` gives: none begins behind it, so the lossy
 -- reading replaces the byte there.
@@ -61,7 +75,7 @@ valid_up_to_of f bytes n front = record {
   valid = (text, front.whole.reads);
   stops = λ _. none;
   greatest = λ m longer fits other reads.
-      front.greatest m longer fits (record { text = other; reads = reads; unchanged = λ is. absurd (not_unchanged Encoded refl is) });
+      front.greatest m longer fits (record { text = other; reads = reads; inside = none_outside _ (λ c none. none) other });
   replaced = λ _. mark_from f bytes n (0xFFFD ∷ []) (Damaged none not_within);
 }
   where
@@ -69,7 +83,7 @@ valid_up_to_of f bytes n front = record {
     text = front.whole.text
 
     none : NoneBegins f (drop n bytes)
-    none c rest = none_behind Encoded f bytes n front c rest (λ is. absurd (not_unchanged Encoded refl is))
+    none c rest = none_behind Encoded f bytes n front c rest refl (λ none. none)
 
     not_within : ¬ (LiesWithin f bytes n)
     not_within (j, c, stands, before, past) =

@@ -10,7 +10,7 @@ use lib.Lanes.{zip2, sel_l, mask_l, top, chunk}
 use Rattle.cesu8_text.specs.Class.{is_null}
 use Rattle.cesu8_text.specs.Encoding.{Flavor}
 use Rattle.cesu8_bytes.specs.Kernels.{mask}
-use Rattle.cesu8_decode.specs.Following.{CharacterSet, has_changed, IsBlockAt, shown, wanted, follows, follows_at, after_fillers, AllFollow, FirstFollow, FollowUpTo, marked_if_not_one}
+use Rattle.cesu8_decode.specs.Following.{CharacterSet, has_changed, has_four, IsBlockAt, shown, wanted, follows, follows_at, after_fillers, AllFollow, FirstFollow, FollowUpTo, marked_if_not_one}
 use Rattle.cesu8_decode.specs.declared.following.Block.{Block}
 use Rattle.cesu8_bytes.proofs.lists.Lanes.{ones}
 use Rattle.cesu8_bytes.proofs.vectors.Loads.{loaded}
@@ -52,16 +52,18 @@ never : (t : Bool) → (t && false) ≡ false
 never true = refl
 never false = refl
 
-ascii_fits : (s : CharacterSet) (f : Flavor) (a b d e g : ℕ) → a < 0x80 → d < 0x80 → e < 0x80 → g < 0x80 → is_null f g ≡ false →
+ascii_fits : (s : CharacterSet) (f : Flavor) (a b d e g : ℕ) → a < 0x80 → b < 0x80 → d < 0x80 → e < 0x80 → g < 0x80 → is_null f g ≡ false →
     follows s f a b d e g ≡ true
 unfolding shown
-ascii_fits s f a b d e g a_low d_low e_low g_low no_null =
+ascii_fits s f a b d e g a_low b_low d_low e_low g_low no_null =
     rw (
       no_null,
       lt-leb 0xF0 e (omega arith),
       lt-leb 0x80 g g_low,
       lt-leb 0xC0 e (omega arith),
       lt-leb 0xE0 d (omega arith),
+      lt-leb 0xF0 b (omega arith),
+      never (has_four s),
       ne_eqb a 0xED (λ same. omega arith),
       never (has_changed s),
     ) refl
@@ -142,7 +144,7 @@ module _ (s : CharacterSet) (f : Flavor) (window : List ℕ) (at n : ℕ) where
       ⊎_elim (λ (near : j < at + 4). first j from near)
       (λ (later : at + 4 ≤ j). (low_bytes lanes lanes_are none j later before).0) (cases_lt j (at + 4)) in
       ascii_fits s f (get_or window i 0) (get_or window (i + 1) 0) (get_or window (i + 2) 0) (get_or window (i + 3) 0) (get_or window (i + 4) 0)
-      (low_byte i low (omega arith)) (low_byte (i + 2) (omega arith) (omega arith)) (low_byte (i + 3) (omega arith) (omega arith))
+      (low_byte i low (omega arith)) (low_byte (i + 1) (omega arith) (omega arith)) (low_byte (i + 2) (omega arith) (omega arith)) (low_byte (i + 3) (omega arith) (omega arith))
       (low_byte (i + 4) (omega arith) (omega arith)) (low_bytes lanes lanes_are none (i + 4) (omega arith) (omega arith)).1
 
 -- No lane of two is marked if none of both together is.
@@ -306,7 +308,7 @@ ones_follow s f bytes n fits ones = record {
       let w = get_or (after_fillers bytes) in
       let last = ones k before in
       let is_last : get_or (after_fillers bytes) (k + 4) 0 ≡ get_or bytes k 0 = behind_fillers bytes k in
-      ascii_fits s f (w k 0) (w (k + 1) 0) (w (k + 2) 0) (w (k + 3) 0) (w (k + 4) 0) (low k (omega (arith, before))) (low (k + 2) (omega (arith, before)))
+      ascii_fits s f (w k 0) (w (k + 1) 0) (w (k + 2) 0) (w (k + 3) 0) (w (k + 4) 0) (low k (omega (arith, before))) (low (k + 1) (omega (arith, before))) (low (k + 2) (omega (arith, before)))
       (low (k + 3) (omega (arith, before))) (omega (arith, is_last, last.0)) (ap (is_null f) is_last ∙ last.1);
 }
   where

@@ -1,17 +1,14 @@
-use Rattle.std.proofs.Common.{◌≡◌}
-use Rattle.std.proofs.lemmas.Bool.{iff_false}
-use Rattle.cesu8_decode.specs.Following.{Encoded, Unchanged}
-use Rattle.cesu8_decode.proofs.decoder.FollowingLanes.{wanted_are, third_are, unless_encoded}
+use Rattle.std.proofs.Common.{◌∙◌, sym, ap}
+use Rattle.std.proofs.lemmas.Bool.{not-true, not-false}
+use Rattle.cesu8_decode.proofs.decoder.FollowingLanes.{alone_are, wanted_are}
 use Rattle.cesu8_decode.proofs.following.wanted_by.Goals as goal
 
-pub returns-then-not-has_changed : goal.returns-then-not-has_changed
-returns-then-not-has_changed g c =
-    let is_unchanged : g.S.CharacterSet.set ≡ Unchanged = unless_encoded g.S.CharacterSet.set (iff_false c.has_changed.ensures c.if-not-has_changed.true) in
-    rw is_unchanged (third_are c.args.four_before c.args.three_before c.args.two_before c.leads_three-third.result
-    c.fits-four_before.0 c.fits-three_before.0 c.fits-two_before.0 c.leads_three-third.ensures)
+pub returns-then-not-rule : goal.returns-then-not-rule
+returns-then-not-rule g c =
+    alone_are g.S.CharacterSet.set (ap (λ r. r.has_changed) (sym c.rule.ensures) ∙ not-true _ c.if-not-rule.true) c.args.four_before c.args.three_before c.args.two_before c.later_by-later.result
+    c.fits-four_before.0 c.fits-three_before.0 c.fits-two_before.0 c.later_by-later.ensures
 
 pub returns : goal.returns
 returns g c =
-    let is_encoded : g.S.CharacterSet.set ≡ Encoded = c.has_changed.ensures.0 c.if-not-has_changed.false in
-    rw is_encoded (wanted_are c.args.four_before c.args.three_before c.args.two_before c.leads_three-third.result c.mask.result c.mask-2.result
-    c.fits-four_before.0 c.fits-three_before.0 c.fits-two_before.0 c.fits-three_before.1 c.leads_three-third.ensures c.mask.ensures c.mask-2.ensures)
+    wanted_are g.S.CharacterSet.set (ap (λ r. r.has_changed) (sym c.rule.ensures) ∙ not-false _ c.if-not-rule.false) c.args.four_before c.args.three_before c.args.two_before c.later_by-later.result
+    c.mask.result c.mask-2.result c.fits-four_before.0 c.fits-three_before.0 c.fits-two_before.0 c.fits-three_before.1 c.later_by-later.ensures c.mask.ensures c.mask-2.ensures

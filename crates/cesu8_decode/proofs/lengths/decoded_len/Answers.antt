@@ -5,9 +5,9 @@ use Rattle.cesu8_text.specs.Reading.{IsStrictReading, reading, lossy_length}
 use Rattle.cesu8_text.specs.Text.{utf8}
 use Rattle.cesu8_text.proofs.reading.KeptTexts.{encoding_texts}
 use Rattle.cesu8_bytes.specs.declared.strictness.Strictness.TheVariants.{Strict}
-use Rattle.cesu8_decode.proofs.chunks.FrontReadings.{front_of_all, unless_begun, none_before, only_behind}
+use Rattle.cesu8_decode.proofs.chunks.FrontReadings.{unless_begun, none_before, only_behind}
 use Rattle.cesu8_decode.proofs.chunks.SliceReadings.{only_kept, of_length, strict_no_longer}
-use Rattle.cesu8_decode.proofs.chunks.UnchangedFronts.{unchanged_front_chunk}
+use Rattle.cesu8_decode.proofs.chunks.UnchangedFronts.{all_unchanged, unchanged_front_chunk}
 use Rattle.cesu8_decode.proofs.lengths.decoded_len.Goals as goal
 use Rattle.cesu8_decode.proofs.lengths.decoded_len.Goals.{then-not-begins_changed-via-then-not-begins_changed, then-not-begins_changed-via-else-not-begins_changed+then-is_ill_formed}
 
@@ -19,7 +19,7 @@ returns-then-is_empty-clause-some g c =
     let none : length (drop n bytes) ≡ 0 = eqb-true _ _ (sym (rw take_rest at c.is_empty.ensures) ∙ c.if-is_empty.true) in
     let all : n ≡ length bytes = omega (arith, none, length-drop n bytes, c.front-front.ensures.within) in
     of_length (IsStrictReading f bytes) (λ len. n ≡ len) _ bytes
-    (only_kept f bytes _ _ _ (encoding_texts f bytes) Strict (front_of_all f bytes n c.front-front.ensures (omega (arith, all)))) all
+    (only_kept f bytes _ _ _ (encoding_texts f bytes) Strict ((all_unchanged f bytes n c.front-front.ensures).0 all)) all
 
 pub returns-then-not-begins_changed-clause-none : goal.returns-then-not-begins_changed-clause-none
 returns-then-not-begins_changed-clause-none g c =

@@ -1,21 +1,20 @@
 use Rattle.std.proofs.Common.{rules, ap, sym, subst}
 use Rattle.std.specs.Str.{chars, IsUtf8}
 use Rattle.std.specs.String.{string_bytes}
-use Rattle.std.proofs.lemmas.Bool.{iff_false}
 use Rattle.std.proofs.lemmas.Str.{IsUtf8-string_bytes}
 use Rattle.cesu8_text.proofs.reading.Borrowing.{never_borrowed}
 use Rattle.cesu8_text.proofs.reading.LossyBorrowing.{length_of_reading, changed_reading}
 use Rattle.simd_cesu8.proofs.borrow_or_build.decode_lossy_other.Goals as goal
 
 pub known_text-requires : goal.known_text-requires
-known_text-requires g c = (g.met.A.Accepts.known g.F.Flavor.flavor c.args.bytes.now).is_utf8 (c.is_kept.ensures.0 c.if-is_kept.true)
+known_text-requires g c = (g.met.A.Accepts.known g.F.Flavor.flavor c.args.bytes.now).is_utf8 (c.kept_front-kept.ensures.all.0 c.if-kept-bytes.true)
 
-pub returns-then-is_kept : goal.returns-then-is_kept
-returns-then-is_kept g c =
+pub returns-then-kept-bytes : goal.returns-then-kept-bytes
+returns-then-kept-bytes g c =
     let f = g.F.Flavor.flavor in
     let bytes = c.args.bytes.now in
     let known = g.met.A.Accepts.known f bytes in
-    let kept = c.is_kept.ensures.0 c.if-is_kept.true in
+    let kept = c.kept_front-kept.ensures.all.0 c.if-kept-bytes.true in
     let reads = (known.kept_lossily (chars c.known_text.result.now) kept).1 (ap chars c.known_text.ensures) in
     record {
       reading = reads;
@@ -34,7 +33,7 @@ returns g c =
     let built = string_bytes c.in_ok-built.built in
     let is_utf8 = IsUtf8-string_bytes c.in_ok-built.built in
     let known = g.met.A.Accepts.known f bytes in
-    let not_kept = iff_false c.is_kept.ensures c.if-is_kept.false in
+    let not_kept : ¬ (g.A.Accepts.keeps f bytes) = λ keeps. c.if-kept-bytes.false (c.kept_front-kept.ensures.all.1 keeps) in
     record {
       reading = ((known.other not_kept).lossily (chars built)).1 c.in_ok-built.ensures.text;
       text_length = λ exact. length_of_reading f bytes built is_utf8 c.in_ok-built.ensures.text;

@@ -1,7 +1,0 @@
-use Rattle.std.proofs.Common.{◌-◌, ◌<◌, ℕ, get_or}
-use Rattle.cesu8_text.specs.Patterns.{IsContinuation}
-use Rattle.cesu8_bytes.proofs.continuation.character_start.Given as goal
-
-abbrev pub invariant-loop-back : goal.invariant-loop-back
-invariant-loop-back l =
-    (k : ℕ) → k < l.back → IsContinuation (get_or l.bytes (l.offset - k) 0)
