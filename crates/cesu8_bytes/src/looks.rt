@@ -65,12 +65,19 @@ pub fn begins_with_unchanged_ascii<F: Flavor>(bytes: &[u8], len: usize) -> bool
     lanes_before::<Either<F::Null, NonAscii>, SHOWN_AT_ONCE>(Simd::from_slice(bytes)) >= len
 }
 
-/// Returns whether some byte of a text changes in the flavor.
+/// Returns whether some byte of the UTF-8 changes in the flavor.
+#[inline(always)]
+pub fn contains_changed<F: Flavor>(bytes: &[u8]) -> bool
+    ensures { IsTrue result ↔ Any (IsChangedByte F.flavor) bytes.now }
+{
+    any_in_bytes::<Either<F::Null, FourByteLead>>(bytes)
+}
+
 #[inline(always)]
 pub fn needs_encoded<F: Flavor>(value: &str) -> bool
     ensures { IsTrue result ↔ NeedsEncoding F.flavor (chars value.now) }
 {
-    any_in_bytes::<Either<F::Null, FourByteLead>>(value.as_bytes())
+    contains_changed::<F>(value.as_bytes())
 }
 
 /// Returns whether a few bytes of a text change. It has no way for many, so it is short enough to

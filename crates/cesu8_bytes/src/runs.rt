@@ -4,7 +4,7 @@ ghost use Rattle.std.specs.Prelude.{◌≡◌, ◌==◌, if◌then◌else◌, �
 ghost use Rattle.std.specs.Int.Count.{count_trailing_zeros};
 ghost use Rattle.std.specs.List.{prefix_len};
 
-use crate::implementation::class::{InAllVectors, InVectors, LANES, bits};
+use crate::implementation::class::{InAllVectors, InVectors, LANES, bits, has};
 use crate::implementation::groups::InGroups;
 use crate::put::{put, put_lanes};
 use std::simd::prelude::*;
@@ -78,12 +78,16 @@ pub(crate) fn first_bit<const N: usize>(marks: u64) -> usize
 /// How many bytes are searched at once where none is expected to be in the class.
 const GROUP: usize = 4 * LANES;
 
-/// Returns how many bytes at the front are in whole groups of 256 without one of the class.
+/// Returns how many bytes at the front are in whole groups of 256 without one of the class. Where one
+/// is, it is mostly found in the first 64.
 #[inline(always)]
 pub fn run_of_groups<C: InGroups<LANES>>(bytes: &[u8]) -> usize
     ensures within { (result ≤ length bytes.now) × (0 < result → GROUP ≤ result) }
     ensures run { (i : ℕ) → i < result → C.class (slice_index bytes.now i) ≡ false }
 {
+    if bytes.len() < GROUP || has::<C, LANES>(u8x64::from_slice(bytes)) {
+        return 0;
+    }
     let mut run = 0;
     while bytes.len() - run >= GROUP && !group_may_have::<C>(&bytes[run..]) {
         run += GROUP;

@@ -1,7 +1,6 @@
 //! Copies to a caller's buffer, which may be too short.
 
-ghost use Rattle.std.specs.Prelude.{◌+◌, ◌≤◌, length};
-ghost use Rattle.cesu8_bytes.specs.Puts.{PutsAt, PutsAnswer};
+ghost use Rattle.cesu8_bytes.specs.Puts.{PutsAnswer};
 
 use crate::implementation::short::copy_short;
 
@@ -9,17 +8,6 @@ use crate::implementation::short::copy_short;
 #[derive(Clone, Copy)]
 pub struct NoRoom {
     pub needed: usize,
-}
-
-/// Copies bytes to an offset of a slice, mostly few of them, and returns where they end.
-#[inline(always)]
-pub fn put_short(bytes: &[u8], out: &mut [u8], at: usize) -> usize
-    requires { at + length bytes.now ≤ length out.old }
-    ensures { PutsAt bytes.now at out.old out.new result }
-{
-    let end = at + bytes.len();
-    copy_short(bytes, &mut out[at..end]);
-    end
 }
 
 /// Copies bytes to the front of a caller's buffer, if they fit.

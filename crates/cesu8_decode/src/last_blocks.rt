@@ -16,7 +16,7 @@ use super::whole_blocks::{FOLLOWING, Whole};
 use super::window::{BEFORE, boundary, load};
 use cesu8_bytes::BLOCK;
 use cesu8_bytes::flavor::Flavor;
-use cesu8_bytes::writers::put_short;
+use cesu8_bytes::put::put;
 use cesu8_bytes::strictness::Strictness;
 use std::simd::prelude::*;
 
@@ -119,7 +119,7 @@ fn write_last_blocks<F: Flavor, S: Reading>(
         return last;
     }
     Block {
-        end: put_short(&text[..last.end], out, end),
+        end: put(&text[..last.end], out, end),
         is_refused: false,
         kinds: last.kinds,
     }

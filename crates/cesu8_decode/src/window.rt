@@ -8,7 +8,6 @@ ghost use Rattle.cesu8_decode.specs.DecodedLanes.{AreFiveKinds};
 use super::offsets::{KIND_OF_PAIR, KINDS_OF_THREE, starts};
 use cesu8_bytes::BLOCK;
 use cesu8_bytes::flavor::Flavor;
-use cesu8_bytes::implementation::short::copy_short;
 
 /// How many offsets before a byte are read to decide what becomes of it.
 pub const BEFORE: usize = 5;
@@ -25,9 +24,9 @@ pub fn load(bytes: &[u8], at: usize, len: usize, window: &mut [u8])
     ensures len { length window.new ≡ length window.old }
 {
     if at < BEFORE {
-        copy_short(&bytes[..len], &mut window[BEFORE..BEFORE + len]);
+        window[BEFORE..BEFORE + len].copy_from_slice(&bytes[..len]);
     } else {
-        copy_short(&bytes[at - BEFORE..at + len], &mut window[..BEFORE + len]);
+        window[..BEFORE + len].copy_from_slice(&bytes[at - BEFORE..at + len]);
     }
 }
 

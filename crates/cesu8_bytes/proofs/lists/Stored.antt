@@ -1,7 +1,7 @@
 -- Bytes and vectors that are stored into a list of bytes.
 use Rattle.std.proofs.Common.{◌≡◌, ℕ, zero, suc, ◌+◌, ◌*◌, ◌-◌, ◌≤◌, List, [], ◌∷◌, ◌++◌, refl, sym, subst, ap, ◌∙◌, arith, length, length-append, take, drop}
 use lib.Lanes.{put_chunk}
-use Rattle.std.proofs.lemmas.List.{append_assoc, append-nil, drop_all, length-drop, length-take-le, take-append-drop, take-take}
+use Rattle.std.proofs.lemmas.List.{append_assoc, length-drop, length-take-le, take-append-drop, take-take}
 use Rattle.std.proofs.Math.Seq.{take-append-add, take-add}
 use Rattle.std.proofs.lemmas.Simd.{length-put_chunk, take_more_put_chunk}
 use Rattle.cesu8_bytes.specs.Puts.{PutsAt}
@@ -32,10 +32,6 @@ behind_stored zero zero (x ∷ out) (y ∷ lanes) le = absurd (omega arith)
 behind_stored zero (suc m) (x ∷ out) (y ∷ lanes) le = behind_stored zero m out lanes (omega arith)
 behind_stored (suc at) zero (x ∷ out) lanes le = absurd (omega arith)
 behind_stored (suc at) (suc m) (x ∷ out) lanes le = behind_stored at m out lanes (omega arith)
-
--- What is copied over all of a slice is all of it.
-pub stored_whole : (bytes old : List ℕ) → length old ≤ length bytes → bytes ++ drop (length bytes) old ≡ bytes
-stored_whole bytes old fits = ap (λ rest. bytes ++ rest) (drop_all (length bytes) old fits) ∙ append-nil bytes
 
 -- Vectors at both ends of some bytes, which together cover them, store all of them.
 pub ends_stored : (n : ℕ) (bytes out : List ℕ) → n ≤ length bytes → length bytes ≤ 2 * n → length bytes ≤ length out →

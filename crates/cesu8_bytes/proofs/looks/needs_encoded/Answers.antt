@@ -1,20 +1,11 @@
-use Rattle.std.proofs.Common.{◌≡◌, ◌↔◌, ◌||◌, ℕ, Bool, List, IsTrue, subst}
+use Rattle.std.proofs.Common.{◌↔◌, IsTrue, subst}
 use Rattle.std.specs.List.{Any}
-use Rattle.cesu8_text.specs.Class.{IsChangedByte, is_null, is_four}
-use Rattle.cesu8_text.specs.Encoding.{Flavor, Cesu8, Mutf8}
+use Rattle.cesu8_text.specs.Class.{IsChangedByte}
 use Rattle.cesu8_text.proofs.encoding.NeedsEncoding.{needs_by_test}
-use Rattle.cesu8_bytes.specs.Kernels.{AnyIn}
 use Rattle.cesu8_bytes.proofs.looks.needs_encoded.Goals as goal
-
--- The nulls that change and F0 to F7 are all bytes that change.
-by_class : (f : Flavor) (null : ℕ → Bool) (R : Type 0) (bytes : List ℕ) → null ≡ is_null f →
-    R ↔ AnyIn (λ b. null b || is_four b) bytes → R ↔ Any (IsChangedByte f) bytes
-by_class Cesu8 null R bytes is test = subst (λ class. R ↔ AnyIn (λ b. class b || is_four b) bytes) is test
-by_class Mutf8 null R bytes is test = subst (λ class. R ↔ AnyIn (λ b. class b || is_four b) bytes) is test
 
 pub returns : goal.returns
 returns g c =
-    let f = g.F.Flavor.flavor in
-    needs_by_test f c.args.value.now c.utf8.value _
-    (subst (λ bytes. IsTrue c.any_in_bytes.result ↔ Any (IsChangedByte f) bytes) c.as_bytes.ensures.value
-    (by_class f g.F.Null.Class.class _ c.as_bytes.result.now g.met.F.Flavor.are_null c.any_in_bytes.ensures))
+    needs_by_test g.F.Flavor.flavor c.args.value.now c.utf8.value _
+    (subst (λ bytes. IsTrue c.contains_changed.result ↔ Any (IsChangedByte g.F.Flavor.flavor) bytes)
+    c.as_bytes.ensures.value c.contains_changed.ensures)
