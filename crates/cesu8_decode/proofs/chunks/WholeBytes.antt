@@ -1,9 +1,11 @@
 -- Bytes that are whole characters of a set.
-use Rattle.std.proofs.Common.{◌≡◌, ℕ, List, [], ◌∷◌, ◌++◌, true, refl, sym, ap, ◌∙◌, subst, ⊎_elim, arith, length, drop, true≢false}
+use Rattle.std.proofs.lemmas.Bool.Decides.{nat_tests}
+use Rattle.std.proofs.lemmas.Grind.{common_steps}
+use Rattle.std.proofs.Common.{◌≡◌, ℕ, List, [], ◌∷◌, ◌++◌, true, sym, ap, ◌∙◌, ⊎_elim, arith, length, drop, true≢false}
 use Rattle.cesu8_text.specs.Text.{IsScalarValue, utf8_of}
 use Rattle.cesu8_text.specs.Encoding.{Flavor, encoding, IsEncodedOtherwise}
 use Rattle.cesu8_text.specs.Reading.{width}
-use Rattle.cesu8_text.proofs.lists.Elements.{any_nil, any_append, none_cons}
+use Rattle.cesu8_text.proofs.lists.Elements.{any_nil, any_append}
 use Rattle.cesu8_text.proofs.encoding.Encodings.{encoding_nil, encoding_append}
 use Rattle.cesu8_text.proofs.encoding.Found.{BeginsInLengths, rest_is}
 use Rattle.cesu8_text.proofs.encoding.Lengths.{Change, same, longer, change}
@@ -22,11 +24,7 @@ none_whole s f = record { text = []; reads = (tt, encoding_nil f); unchanged = �
 -- and so are those of a character,
 pub character_whole : (s : CharacterSet) (f : Flavor) (c : ℕ) → IsScalarValue c → (s ≡ Unchanged → ¬ (IsEncodedOtherwise f c)) →
     AreWhole s f (encoding f (c ∷ []))
-character_whole s f c scalar stays = record {
-  text = c ∷ [];
-  reads = ((scalar, tt), refl);
-  unchanged = λ is. none_cons (IsEncodedOtherwise f) c [] (stays is) (any_nil _);
-}
+character_whole s f c scalar stays = grind (arith, nat_tests)
 
 -- and those of both parts.
 pub parts_whole : (s : CharacterSet) (f : Flavor) (front back : List ℕ) → AreWhole s f front → AreWhole s f back → AreWhole s f (front ++ back)
@@ -47,10 +45,4 @@ stays_by f c (longer _ more _) long needs = omega arith
 -- Bytes are whole that begin with a character and are whole behind it.
 pub whole_with : (s : CharacterSet) (f : Flavor) (bytes : List ℕ) (m n : ℕ) → BeginsInLengths f bytes m n → (s ≡ Unchanged → m ≡ n) →
     AreWhole s f (drop m bytes) → AreWhole s f bytes
-whole_with s f bytes m n found as_long rest =
-    let c = found.character in
-    let scalar = found.begins.scalar in
-    subst (AreWhole s f) (sym found.begins.bytes_are)
-    (parts_whole s f (encoding f (c ∷ [])) found.rest
-    (character_whole s f c scalar (λ is. stays_by f c (change f c scalar) (found.encoded ∙ as_long is ∙ sym found.in_utf8)))
-    (subst (AreWhole s f) (rest_is f bytes m n found) rest))
+whole_with s f bytes m n found as_long rest = grind (arith, nat_tests, common_steps, change, character_whole, parts_whole, rest_is, stays_by)
