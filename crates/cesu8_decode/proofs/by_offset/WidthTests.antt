@@ -1,7 +1,7 @@
 -- How wide the character is that begins bytes, by tests of the first six of them.
 use Rattle.std.proofs.lemmas.Bool.Decides.{nat_tests}
 use Rattle.std.proofs.Common.{◌≡◌, ℕ, ◌<◌, ◌≤◌, ⊎_elim, true, false, ◌&&◌, eqb, leb, ltb, List, [], ◌∷◌, refl, ◌∙◌, arith, length, get_or}
-use Rattle.std.proofs.lemmas.Bool.{and_parts, and_from, eqb-true, leb-true, ltb-true, eq-eqb, le-leb, lt-ltb, ne_eqb, cases_eq, cases_lt, cases_Bool}
+use Rattle.std.proofs.lemmas.Bool.{and_parts, and_from, eqb-true, leb-true, ltb-true, le-leb, lt-ltb, cases_lt, cases_Bool}
 use Rattle.std.proofs.lemmas.List.{get_or_past}
 use Rattle.cesu8_text.specs.Encoding.{Flavor, Cesu8, Mutf8}
 use Rattle.cesu8_text.specs.Patterns.{IsContinuation}
@@ -86,36 +86,7 @@ pair_found f bytes t =
     let long = long_by bytes 5 (omega (arith, pair.ends.3.0)) in
     by_found f bytes 6 4 (found_pair f bytes (omega arith) pair.lead pair.high.0 pair.high.1 pair.ends)
 
--- ---- each character passes a test
-
-one_test : (f : Flavor) (a : ℕ) → a < 0x80 → (f ≡ Mutf8 → 0 < a) → one_at f a ≡ true
-one_test Cesu8 a low some = lt-ltb a 0x80 low
-one_test Mutf8 a low some = and_from (leb 1 a) (ltb a 0x80) (le-leb 1 a (some refl)) (lt-ltb a 0x80 low)
-
-null_test : (f : Flavor) (a b : ℕ) → f ≡ Mutf8 → a ≡ 0xC0 → b ≡ 0x80 → null_at f a b ≡ true
-null_test Cesu8 a b mutf8 lead last = absurd (cc)
-null_test Mutf8 a b mutf8 lead last = and_from (eqb a 0xC0) (eqb b 0x80) (eq-eqb a 0xC0 lead) (eq-eqb b 0x80 last)
-
-two_test : (a b : ℕ) → 0xC2 ≤ a → a < 0xE0 → 0x80 ≤ b → b < 0xC0 → two_at a b ≡ true
-two_test a b low high first last =
-    and_from (leb 0xC2 a) _ (le-leb 0xC2 a low) (and_from (ltb a 0xE0) (continues b) (lt-ltb a 0xE0 high) (is_continuation b first last))
-
-fits_test : (a b : ℕ) → (a ≡ 0xE0 → 0xA0 ≤ b) → (a ≡ 0xED → b < 0xA0) → fits_three a b ≡ true
-fits_test a b low high =
-    ⊎_elim (λ e0. rw e0 (le-leb 0xA0 b (low e0)))
-    (λ no_e0. ⊎_elim (λ ed. rw ed (lt-ltb b 0xA0 (high ed)))
-    (λ no_ed. rw (ne_eqb a 0xE0 no_e0, ne_eqb a 0xED no_ed) refl) (cases_eq a 0xED)) (cases_eq a 0xE0)
-
-three_test : (a b d : ℕ) → 0xE0 ≤ a → a < 0xF0 → 0x80 ≤ b → b < 0xC0 → 0x80 ≤ d → d < 0xC0 → fits_three a b ≡ true →
-    three_at a b d ≡ true
-three_test a b d low high b_low b_high d_low d_high fits =
-    and_from (leb 0xE0 a) _ (le-leb 0xE0 a low) (and_from (ltb a 0xF0) _ (lt-ltb a 0xF0 high)
-    (and_from (continues b) _ (is_continuation b b_low b_high)
-    (and_from (continues d) (fits_three a b) (is_continuation d d_low d_high) fits)))
-
-pair_test : (a b d e g h : ℕ) → a ≡ 0xED → 0xA0 ≤ b → b < 0xB0 → 0x80 ≤ d → d < 0xC0 → e ≡ 0xED → 0xB0 ≤ g → g < 0xC0 →
-    0x80 ≤ h → h < 0xC0 → pair_at a b d e g h ≡ true
-pair_test a b d e g h lead b_low b_high d_low d_high second g_low g_high h_low h_high = grind (arith, nat_tests)
+-- ---- where no test passes
 
 -- where all tests fail, none begins the bytes
 pub record AllFail (f : Flavor) (a b d e g h : ℕ) : Type 0 where

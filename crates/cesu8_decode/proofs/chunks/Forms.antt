@@ -1,11 +1,10 @@
 -- Characters of more than one byte, by how they are encoded at the front of bytes.
-use Rattle.std.proofs.lemmas.Bool.Decides.{nat_tests}
 use Rattle.std.proofs.lemmas.Grind.{common_steps}
-use Rattle.std.proofs.Common.{◌≡◌, ℕ, ◌<◌, ◌≤◌, List, [], ◌∷◌, ◌++◌, refl, sym, ap, ◌∙◌, true, false, arith, length, take, drop, get_or, eqb, leb, ltb, ◌&&◌}
-use Rattle.std.proofs.lemmas.Bool.{and_parts, eqb-true, leb-true, ltb-true}
-use Rattle.cesu8_text.specs.Encoding.{Flavor, Cesu8, Mutf8}
+use Rattle.std.proofs.Common.{◌≡◌, ℕ, ◌<◌, ◌≤◌, List, [], ◌∷◌, ◌++◌, refl, sym, ap, ◌∙◌, true, false, arith, length, take, drop, get_or, leb, ltb, ◌&&◌}
+use Rattle.std.proofs.lemmas.Bool.{and_parts, leb-true, ltb-true}
+use Rattle.cesu8_text.specs.Encoding.{Flavor}
 use Rattle.cesu8_text.specs.Reading.{NoneBegins}
-use Rattle.cesu8_bytes.specs.Pairs.{null_at, IsUtf8OfDigits, second_third_fifth_sixth}
+use Rattle.cesu8_bytes.specs.Pairs.{IsUtf8OfDigits, second_third_fifth_sixth}
 use Rattle.cesu8_bytes.specs.TextChunks.{IsReadSoFar}
 use Rattle.cesu8_bytes.specs.declared.strictness.Strictness.{Strictness}
 use Rattle.cesu8_decode.specs.DecodedOffsets.{IsPrefixOf, one_at, two_at, three_at, continues}
@@ -26,7 +25,7 @@ take_three (a ∷ []) long = absurd (omega arith)
 take_three (a ∷ b ∷ []) long = absurd (omega arith)
 take_three (a ∷ b ∷ d ∷ bytes) long = refl
 
--- What is known of the bytes of a character of two bytes, and of three.
+-- What is known of the bytes of a character of two bytes.
 record AreTwo (a b : ℕ) : Type 0 where
   low : 0xC2 ≤ a
   high : a < 0xE0
@@ -38,27 +37,12 @@ are_two a b t =
     let h2 = and_parts (ltb a 0xE0) (continues b) h.1 in
     record { low = leb-true 0xC2 a h.0; high = ltb-true a 0xE0 h2.0; last = continuation b h2.1 }
 
-record AreThree (a b d : ℕ) : Type 0 where
-  low : 0xE0 ≤ a
-  high : a < 0xF0
-  middle : (0x80 ≤ b) × (b < 0xC0)
-  last : (0x80 ≤ d) × (d < 0xC0)
-  fits : a ≡ 0xE0 → 0xA0 ≤ b
-
-are_three : (a b d : ℕ) → three_at a b d ≡ true → AreThree a b d
-are_three a b d t = grind (arith, nat_tests)
-
 -- The character of this form that begins the bytes, in UTF-8.
 abbrev IsUtf8OfForm : Form → List ℕ → List ℕ → Type 0
 IsUtf8OfForm Pair bytes utf8 = IsUtf8OfDigits (second_third_fifth_sixth bytes) utf8
 IsUtf8OfForm Null bytes utf8 = utf8 ≡ 0 ∷ []
 IsUtf8OfForm Two bytes utf8 = utf8 ≡ get_or bytes 0 0 ∷ get_or bytes 1 0 ∷ []
 IsUtf8OfForm Three bytes utf8 = utf8 ≡ get_or bytes 0 0 ∷ get_or bytes 1 0 ∷ get_or bytes 2 0 ∷ []
-
--- The null character's second byte.
-null_second : (f : Flavor) (a b : ℕ) → null_at f a b ≡ true → b ≡ 0x80
-null_second Cesu8 a b null = absurd (cc)
-null_second Mutf8 a b null = eqb-true b 0x80 (and_parts (eqb a 0xC0) (eqb b 0x80) null).1
 
 -- The bytes have all of the character whose form was seen in a prefix.
 pub form_within : (f : Flavor) (bytes prefix : List ℕ) (form : Form) → IsPrefixOf bytes prefix → HasForm f prefix form →

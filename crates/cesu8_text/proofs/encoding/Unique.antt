@@ -1,7 +1,6 @@
 -- Bytes begin with one encoded character at most, and are the encoding of one text at most.
 use Rattle.std.proofs.lemmas.Bool.Decides.{nat_tests}
-use Rattle.std.proofs.Common.{◌≡◌, ℕ, ◌+◌, ◌<◌, ◌&&◌, List, [], ◌∷◌, ◌++◌, refl, sym, ap, ◌∙◌, false, ⊎_elim, arith, cond, eqb, ltb, leb, length, get_or, append_assoc, length-append}
-use Rattle.std.proofs.lemmas.Bool.{and_left, and_right, ne_eqb, lt-leb, cases_eq}
+use Rattle.std.proofs.Common.{◌≡◌, ℕ, ◌<◌, ◌&&◌, List, [], ◌∷◌, ◌++◌, refl, sym, ap, ◌∙◌, arith, cond, eqb, ltb, leb, length, get_or, append_assoc, length-append}
 use Rattle.std.proofs.lemmas.List.{append_cancel_left}
 use Rattle.cesu8_text.specs.Text.{IsScalarValue, IsText}
 use Rattle.cesu8_text.specs.Encoding.{Flavor, encoding}
@@ -18,11 +17,6 @@ value bytes =
     (cond (eqb (get_or bytes 0 0) 0xED && leb 0xA0 (get_or bytes 1 0))
     (pair_value (get_or bytes 1 0) (get_or bytes 2 0) (get_or bytes 4 0) (get_or bytes 5 0))
     (three_byte_value (get_or bytes 0 0) (get_or bytes 1 0) (get_or bytes 2 0))))
-
-no_pair : (a b x y : ℕ) → a ≡ 0xE0 + x → b ≡ 0x80 + y → (x ≡ 0x0D → y < 0x20) → (eqb a 0xED && leb 0xA0 b) ≡ false
-no_pair a b x y first second no_surrogate =
-    ⊎_elim (λ same. and_right (eqb a 0xED) (leb 0xA0 b) (lt-leb 0xA0 b (omega (arith, no_surrogate (omega arith)))))
-    (λ differs. and_left (eqb a 0xED) (leb 0xA0 b) (ne_eqb a 0xED differs)) (cases_eq a 0xED)
 
 has_value : (f : Flavor) (bytes : List ℕ) (c : ℕ) → Pattern f bytes c → value bytes ≡ c
 unfolding value
