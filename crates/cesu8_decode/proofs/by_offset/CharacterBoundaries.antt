@@ -1,6 +1,6 @@
 -- Offsets that no encoded character reaches over, told by the widths at the five before.
 use Rattle.std.proofs.Common.{◌≡◌, ℕ, zero, suc, ◌+◌, ◌-◌, ◌<◌, ◌≤◌, ◌⊎◌, ⊎_elim, Bool, true, false, leb, List, ◌∷◌, refl, ap, ◌∙◌, subst, arith, length, take, drop, get_or, cond, add-zero, zero-add, length-drop}
-use Rattle.std.proofs.lemmas.Bool.{and_parts, and_from, and_cases, leb-true, leb-false, le-leb, cases_lt, cases_Bool}
+use Rattle.std.proofs.lemmas.Bool.{and_from, and_cases, leb-false, le-leb, cases_lt, cases_Bool}
 use Rattle.std.proofs.lemmas.List.{take-append-drop, length-take-le}
 use Rattle.std.proofs.lemmas.Bool.Decides.{nat_tests}
 use Rattle.cesu8_text.specs.Encoding.{Flavor, Cesu8, Mutf8}
@@ -37,23 +37,7 @@ zero_width Mutf8 window i null = rw null (omega arith)
 -- A character that begins before a boundary, in the five offsets there, ends before it.
 pub boundary_ends : (f : Flavor) (window : List ℕ) (i : ℕ) → is_boundary_at f window i ≡ true → (s : ℕ) → s < 5 →
     width_at f window (i + s) + s ≤ 5
-boundary_ends f window i boundary s small =
-    let w = width_at f window in
-    let h1 = and_parts (leb (w (i + 4)) 1) _ boundary in
-    let h2 = and_parts (leb (w (i + 3)) 2) _ h1.1 in
-    let h3 = and_parts (leb (w (i + 2)) 3) _ h2.1 in
-    let h4 = and_parts (leb (w (i + 1)) 4) (leb (w i) 5) h3.1 in
-    five s small (leb-true (w (i + 4)) 1 h1.0) (leb-true (w (i + 3)) 2 h2.0) (leb-true (w (i + 2)) 3 h3.0)
-    (leb-true (w (i + 1)) 4 h4.0) (leb-true (w i) 5 h4.1)
-  where
-    five : (s : ℕ) → s < 5 → width_at f window (i + 4) ≤ 1 → width_at f window (i + 3) ≤ 2 → width_at f window (i + 2) ≤ 3 →
-        width_at f window (i + 1) ≤ 4 → width_at f window i ≤ 5 → width_at f window (i + s) + s ≤ 5
-    five zero small h1 h2 h3 h4 h5 = omega (arith, ap (width_at f window) (add-zero i))
-    five (suc zero) small h1 h2 h3 h4 h5 = omega arith
-    five (suc (suc zero)) small h1 h2 h3 h4 h5 = omega arith
-    five (suc (suc (suc zero))) small h1 h2 h3 h4 h5 = omega arith
-    five (suc (suc (suc (suc zero)))) small h1 h2 h3 h4 h5 = omega arith
-    five (suc (suc (suc (suc (suc s))))) small h1 h2 h3 h4 h5 = absurd (omega arith)
+boundary_ends f window i boundary s small = grind (arith, nat_tests)
 
 -- Where each does, there is a boundary.
 boundary_where : (f : Flavor) (window : List ℕ) (i : ℕ) → ((s : ℕ) → s < 5 → width_at f window (i + s) + s ≤ 5) →

@@ -29,17 +29,7 @@ Alike n v w = (m : ℕ) → n < m → (eqb v m ≡ eqb w m) × (leb m v ≡ leb 
 byte_alike : (w0 v1 v2 v3 v4 v5 w1 w2 w3 w4 w5 p q b : ℕ) → Alike 1 v1 w1 → Alike 2 v2 w2 → Alike 3 v3 w3 → Alike 4 v4 w4 → Alike 5 v5 w5 →
     decoded_byte w0 v1 v2 v3 v4 v5 p q b ≡ decoded_byte w0 w1 w2 w3 w4 w5 p q b
 unfolding decoded_byte
-byte_alike w0 v1 v2 v3 v4 v5 w1 w2 w3 w4 w5 p q b h1 h2 h3 h4 h5 =
-    rw (
-      (h1 6 (omega arith)).0,
-      (h2 6 (omega arith)).0,
-      (h3 6 (omega arith)).0,
-      (h4 6 (omega arith)).0,
-      (h5 6 (omega arith)).0,
-      (h1 2 (omega arith)).0,
-      (h1 2 (omega arith)).1,
-      (h2 3 (omega arith)).1,
-    ) refl
+byte_alike w0 v1 v2 v3 v4 v5 w1 w2 w3 w4 w5 p q b h1 h2 h3 h4 h5 = grind arith
 
 after_alike : (f : Flavor) (bytes : List ℕ) (v1 v2 v3 v4 v5 w1 w2 w3 w4 w5 p q : ℕ) →
     Alike 1 v1 w1 → Alike 2 v2 w2 → Alike 3 v3 w3 → Alike 4 v4 w4 → Alike 5 v5 w5 →

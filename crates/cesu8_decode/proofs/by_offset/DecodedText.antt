@@ -1,4 +1,5 @@
 -- What the bytes of a window become, between boundaries, is the UTF-8 of their lossy reading.
+use Rattle.std.proofs.lemmas.Bool.Decides.{nat_tests}
 use Rattle.std.proofs.Common.{◌≡◌, ℕ, ◌+◌, ◌≤◌, true, List, [], ◌∷◌, ◌++◌, refl, sym, ap, ◌∙◌, arith, length, take, drop, get_or, length-drop, zero-add, add-zero, subst}
 use Rattle.std.specs.Prelude.{slice_index}
 use Rattle.std.proofs.lemmas.List.{take-append-drop, append_cancel_right}
@@ -36,12 +37,7 @@ by_index f window (b ∷ bytes) i follows =
 -- From a boundary on, all bytes become the UTF-8 of their lossy reading.
 decoded_from_boundary : (f : Flavor) (window bytes : List ℕ) (i : ℕ) → Follows window bytes (i + 5) → is_boundary_at f window i ≡ true →
     decoded f window i (length bytes) ≡ utf8 (reading f bytes)
-decoded_from_boundary f window bytes i follows boundary =
-    let ends = boundary_ends f window i boundary in
-    by_index f window bytes i follows
-    ∙ decoded_after_ended f bytes _ _ _ _ _ (get_or window (i + 3) 0) (get_or window (i + 4) 0)
-    (omega (arith, ends 4 (omega arith))) (omega (arith, ends 3 (omega arith))) (omega (arith, ends 2 (omega arith)))
-    (omega (arith, ends 1 (omega arith))) (omega (arith, ends 0 (omega arith), ap (width_at f window) (add-zero i)))
+decoded_from_boundary f window bytes i follows boundary = grind (arith, nat_tests, boundary_ends, by_index, decoded_after_ended)
 
 -- Between two boundaries they become that of theirs.
 pub decoded_between : (f : Flavor) (window bytes : List ℕ) (n : ℕ) → Follows window bytes 5 → n ≤ length bytes →

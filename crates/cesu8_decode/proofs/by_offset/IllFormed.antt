@@ -35,13 +35,7 @@ pub record IsCovered (f : Flavor) (bytes : List ℕ) (i : ℕ) : Type 0 where
 -- A text whose encoding begins bytes is a chunk of them.
 pub chunk_of_text : (f : Flavor) (which : Strictness) (bytes text rest : List ℕ) → IsText text → bytes ≡ encoding f text ++ rest →
     IsChunk f which bytes rest (utf8 text)
-chunk_of_text f which bytes text rest is_text bytes_are = record {
-  text = text;
-  scalars = is_text;
-  lossy_reading = ap (reading f) bytes_are ∙ reading_text f text rest is_text;
-  strict_reading = λ _. bytes_are;
-  written = refl;
-}
+chunk_of_text f which bytes text rest is_text bytes_are = grind (arith, reading_text)
 
 -- after a character a fault is one of the whole
 fault_later : (f : Flavor) (c : ℕ) (bytes : List ℕ) → IsScalarValue c → HasFault f bytes → HasFault f (encoding f (c ∷ []) ++ bytes)

@@ -1,12 +1,13 @@
 -- How wide the character is that begins bytes, by tests of the first six of them.
-use Rattle.std.proofs.Common.{◌≡◌, ℕ, ◌<◌, ◌≤◌, ⊎_elim, true, false, ◌&&◌, eqb, leb, ltb, List, [], ◌∷◌, refl, sym, ◌∙◌, arith, length, get_or}
-use Rattle.std.proofs.lemmas.Bool.{and_parts, and_from, eqb-true, leb-true, ltb-true, eq-eqb, le-leb, lt-ltb, ne_eqb, cases_eq, cases_lt, cases_Bool, both_ways}
+use Rattle.std.proofs.lemmas.Bool.Decides.{nat_tests}
+use Rattle.std.proofs.Common.{◌≡◌, ℕ, ◌<◌, ◌≤◌, ⊎_elim, true, false, ◌&&◌, eqb, leb, ltb, List, [], ◌∷◌, refl, ◌∙◌, arith, length, get_or}
+use Rattle.std.proofs.lemmas.Bool.{and_parts, and_from, eqb-true, leb-true, ltb-true, le-leb, lt-ltb, cases_lt, cases_Bool}
 use Rattle.std.proofs.lemmas.List.{get_or_past}
 use Rattle.cesu8_text.specs.Encoding.{Flavor, Cesu8, Mutf8}
 use Rattle.cesu8_text.specs.Patterns.{IsContinuation}
 use Rattle.cesu8_decode.specs.DecodedOffsets.{first_width, continues, one_at, two_at, fits_three, three_at, pair_at, first_width_by, width_at, IsPrefixOf}
 use Rattle.cesu8_bytes.specs.Pairs.{null_at, HasPair, second_third_fifth_sixth}
-use Rattle.cesu8_text.proofs.encoding.Patterns.{Pattern, of_one, of_null, of_two, of_three, of_pair, pattern}
+use Rattle.cesu8_text.proofs.encoding.Patterns.{Pattern, pattern}
 use Rattle.cesu8_text.proofs.encoding.Found.{BeginsInLengths, found_one, found_null, found_two, found_three, found_pair}
 use Rattle.cesu8_text.proofs.encoding.Forms.{short_form_other}
 use Rattle.cesu8_decode.proofs.by_offset.FirstWidths.{width_of_first, width_of_none}
@@ -75,24 +76,7 @@ three_found f bytes t =
 -- bytes that pass the test of a pair begin with one
 pair_of_test : (bytes : List ℕ) →
     pair_at (get_or bytes 0 0) (get_or bytes 1 0) (get_or bytes 2 0) (get_or bytes 3 0) (get_or bytes 4 0) (get_or bytes 5 0) ≡ true → HasPair bytes
-pair_of_test bytes t =
-    let h0 = and_parts (eqb (get_or bytes 0 0) 0xED) _ t in
-    let h1 = and_parts (leb 0xA0 (get_or bytes 1 0)) _ h0.1 in
-    let h2 = and_parts (ltb (get_or bytes 1 0) 0xB0) _ h1.1 in
-    let h3 = and_parts (continues (get_or bytes 2 0)) _ h2.1 in
-    let h4 = and_parts (eqb (get_or bytes 3 0) 0xED) _ h3.1 in
-    let h5 = and_parts (leb 0xB0 (get_or bytes 4 0)) _ h4.1 in
-    let h6 = and_parts (ltb (get_or bytes 4 0) 0xC0) (continues (get_or bytes 5 0)) h5.1 in
-    record {
-      lead = eqb-true (get_or bytes 0 0) 0xED h0.0;
-      high = (leb-true 0xA0 (get_or bytes 1 0) h1.0, ltb-true (get_or bytes 1 0) 0xB0 h2.0);
-      ends = (
-        continuation (get_or bytes 2 0) h3.0,
-        eqb-true (get_or bytes 3 0) 0xED h4.0,
-        (leb-true 0xB0 (get_or bytes 4 0) h5.0, ltb-true (get_or bytes 4 0) 0xC0 h6.0),
-        continuation (get_or bytes 5 0) h6.1,
-      );
-    }
+pair_of_test bytes t = grind (arith, and_parts, continuation, eqb-true, leb-true, ltb-true)
 
 pair_found : (f : Flavor) (bytes : List ℕ) →
     pair_at (get_or bytes 0 0) (get_or bytes 1 0) (get_or bytes 2 0) (get_or bytes 3 0) (get_or bytes 4 0) (get_or bytes 5 0) ≡ true →
@@ -102,40 +86,7 @@ pair_found f bytes t =
     let long = long_by bytes 5 (omega (arith, pair.ends.3.0)) in
     by_found f bytes 6 4 (found_pair f bytes (omega arith) pair.lead pair.high.0 pair.high.1 pair.ends)
 
--- ---- each character passes a test
-
-one_test : (f : Flavor) (a : ℕ) → a < 0x80 → (f ≡ Mutf8 → 0 < a) → one_at f a ≡ true
-one_test Cesu8 a low some = lt-ltb a 0x80 low
-one_test Mutf8 a low some = and_from (leb 1 a) (ltb a 0x80) (le-leb 1 a (some refl)) (lt-ltb a 0x80 low)
-
-null_test : (f : Flavor) (a b : ℕ) → f ≡ Mutf8 → a ≡ 0xC0 → b ≡ 0x80 → null_at f a b ≡ true
-null_test Cesu8 a b mutf8 lead last = absurd (cc)
-null_test Mutf8 a b mutf8 lead last = and_from (eqb a 0xC0) (eqb b 0x80) (eq-eqb a 0xC0 lead) (eq-eqb b 0x80 last)
-
-two_test : (a b : ℕ) → 0xC2 ≤ a → a < 0xE0 → 0x80 ≤ b → b < 0xC0 → two_at a b ≡ true
-two_test a b low high first last =
-    and_from (leb 0xC2 a) _ (le-leb 0xC2 a low) (and_from (ltb a 0xE0) (continues b) (lt-ltb a 0xE0 high) (is_continuation b first last))
-
-fits_test : (a b : ℕ) → (a ≡ 0xE0 → 0xA0 ≤ b) → (a ≡ 0xED → b < 0xA0) → fits_three a b ≡ true
-fits_test a b low high =
-    ⊎_elim (λ e0. rw e0 (le-leb 0xA0 b (low e0)))
-    (λ no_e0. ⊎_elim (λ ed. rw ed (lt-ltb b 0xA0 (high ed)))
-    (λ no_ed. rw (ne_eqb a 0xE0 no_e0, ne_eqb a 0xED no_ed) refl) (cases_eq a 0xED)) (cases_eq a 0xE0)
-
-three_test : (a b d : ℕ) → 0xE0 ≤ a → a < 0xF0 → 0x80 ≤ b → b < 0xC0 → 0x80 ≤ d → d < 0xC0 → fits_three a b ≡ true →
-    three_at a b d ≡ true
-three_test a b d low high b_low b_high d_low d_high fits =
-    and_from (leb 0xE0 a) _ (le-leb 0xE0 a low) (and_from (ltb a 0xF0) _ (lt-ltb a 0xF0 high)
-    (and_from (continues b) _ (is_continuation b b_low b_high)
-    (and_from (continues d) (fits_three a b) (is_continuation d d_low d_high) fits)))
-
-pair_test : (a b d e g h : ℕ) → a ≡ 0xED → 0xA0 ≤ b → b < 0xB0 → 0x80 ≤ d → d < 0xC0 → e ≡ 0xED → 0xB0 ≤ g → g < 0xC0 →
-    0x80 ≤ h → h < 0xC0 → pair_at a b d e g h ≡ true
-pair_test a b d e g h lead b_low b_high d_low d_high second g_low g_high h_low h_high =
-    and_from (eqb a 0xED) _ (eq-eqb a 0xED lead) (and_from (leb 0xA0 b) _ (le-leb 0xA0 b b_low)
-    (and_from (ltb b 0xB0) _ (lt-ltb b 0xB0 b_high) (and_from (continues d) _ (is_continuation d d_low d_high)
-    (and_from (eqb e 0xED) _ (eq-eqb e 0xED second) (and_from (leb 0xB0 g) _ (le-leb 0xB0 g g_low)
-    (and_from (ltb g 0xC0) (continues h) (lt-ltb g 0xC0 g_high) (is_continuation h h_low h_high)))))))
+-- ---- where no test passes
 
 -- where all tests fail, none begins the bytes
 pub record AllFail (f : Flavor) (a b d e g h : ℕ) : Type 0 where
@@ -148,31 +99,7 @@ pub record AllFail (f : Flavor) (a b d e g h : ℕ) : Type 0 where
 no_pattern : (f : Flavor) (bytes : List ℕ) (c : ℕ) →
     AllFail f (get_or bytes 0 0) (get_or bytes 1 0) (get_or bytes 2 0) (get_or bytes 3 0) (get_or bytes 4 0) (get_or bytes 5 0) →
     Pattern f bytes c → ⊥
-no_pattern f bytes c fail (of_one first ascii some) =
-    both_ways _ fail.one (one_test f (get_or bytes 0 0) (omega arith) (λ mutf8. omega (arith, some mutf8)))
-no_pattern f bytes c fail (of_null mutf8 _ first second _) =
-    both_ways _ fail.null (null_test f (get_or bytes 0 0) (get_or bytes 1 0) mutf8 first second)
-no_pattern f bytes c fail (of_two x y digits first second _) =
-    let low = digits.low in
-    let high = digits.high in
-    let last = digits.last in
-    both_ways _ fail.two (two_test (get_or bytes 0 0) (get_or bytes 1 0) (omega arith) (omega arith) (omega arith) (omega arith))
-no_pattern f bytes c fail (of_three x y z digits no_surrogate first second third _) =
-    let value = digits.value in
-    let low = digits.low in
-    let high = digits.high in
-    let middle = digits.middle in
-    let last = digits.last in
-    both_ways _ fail.three (three_test (get_or bytes 0 0) (get_or bytes 1 0) (get_or bytes 2 0)
-    (omega arith) (omega arith) (omega arith) (omega arith) (omega arith) (omega arith)
-    (fits_test (get_or bytes 0 0) (get_or bytes 1 0) (λ e. omega arith) (λ e. omega (arith, no_surrogate (omega arith)))))
-no_pattern f bytes c fail (of_pair w x y z digits first second third fourth fifth sixth _) =
-    let h_w = digits.first in
-    let h_x = digits.second in
-    let h_y = digits.third in
-    let h_z = digits.last in
-    both_ways _ fail.pair (pair_test (get_or bytes 0 0) (get_or bytes 1 0) (get_or bytes 2 0) (get_or bytes 3 0) (get_or bytes 4 0) (get_or bytes 5 0)
-    first (omega arith) (omega arith) (omega arith) (omega arith) fourth (omega arith) (omega arith) (omega arith) (omega arith))
+no_pattern f bytes c fail h2 = grind (arith, nat_tests)
 
 pub none_found : (f : Flavor) (bytes : List ℕ) →
     AllFail f (get_or bytes 0 0) (get_or bytes 1 0) (get_or bytes 2 0) (get_or bytes 3 0) (get_or bytes 4 0) (get_or bytes 5 0) →
@@ -217,13 +144,7 @@ width_by_six f bytes some =
 -- A pair in the prefix of bytes is one of theirs,
 module _ (bytes prefix : List ℕ) (same : IsPrefixOf bytes prefix) where
   pub pair_by_prefix : HasPair prefix → (6 ≤ length bytes) × HasPair bytes
-  pair_by_prefix pair =
-      let theirs : HasPair bytes = record {
-        lead = sym (same 0 (omega arith)) ∙ pair.lead;
-        high = rw (sym (same 1 (omega arith))) pair.high;
-        ends = rw (sym (same 2 (omega arith)), sym (same 3 (omega arith)), sym (same 4 (omega arith)), sym (same 5 (omega arith))) pair.ends;
-      } in
-      (omega (arith, long_by bytes 5 (omega (arith, theirs.ends.3.0))), theirs)
+  pair_by_prefix pair = grind (arith, long_by)
 
   -- and has their digits.
   pub same_digits : second_third_fifth_sixth prefix ≡ second_third_fifth_sixth bytes

@@ -1,6 +1,7 @@
 -- Text that is read a character at a time.
-use Rattle.std.proofs.Common.{◌≡◌, ℕ, zero, suc, ◌+◌, ◌<◌, ◌≤◌, ◌⊎◌, List, [], ◌∷◌, ◌++◌, refl, sym, ap, ◌∙◌, inl, inr, ⊎_elim, Bool, true, false, not, ◌&&◌, ◌||◌, eqb, ltb, true≢false, arith, length, take, drop, get_or, append-nil, append_assoc, subst}
-use Rattle.std.proofs.lemmas.Bool.{and_parts, eqb-true, cases_eq, cases_Bool, ltb-false}
+use Rattle.std.proofs.lemmas.Bool.Decides.{nat_tests}
+use Rattle.std.proofs.Common.{◌≡◌, ℕ, zero, suc, ◌+◌, ◌<◌, ◌≤◌, ◌⊎◌, List, [], ◌∷◌, ◌++◌, refl, sym, ap, ◌∙◌, inr, ⊎_elim, Bool, true, false, not, ◌&&◌, ◌||◌, eqb, ltb, true≢false, arith, length, take, drop, get_or, append-nil, append_assoc, subst}
+use Rattle.std.proofs.lemmas.Bool.{and_parts, eqb-true, cases_eq}
 use Rattle.std.proofs.Math.Seq.{take-append_seam, drop-append_seam}
 use Rattle.cesu8_text.specs.Text.{utf8_of}
 use Rattle.cesu8_text.specs.Encoding.{Flavor, Cesu8, Mutf8, encoding}
@@ -53,14 +54,7 @@ first_byte f bytes prefix found encoded =
 ascii_kept : (f : Flavor) (bytes : List ℕ) (found : IsWide f bytes) → found.character < 0x80 →
     (found.character ≡ 0) ⊎ (found.character ≡ 0 → ⊥) → (first_width f bytes ≡ 2 → get_or bytes 0 0 ≡ 0xC0 → ⊥) →
     encoding f (found.character ∷ []) ≡ utf8_of found.character
-ascii_kept Cesu8 bytes found ascii _ no_null =
-    encoding_one Cesu8 found.character ascii ∙ sym (utf8_of_one found.character ascii)
-ascii_kept Mutf8 bytes found ascii (inl null) no_null =
-    let same = encoding_one Mutf8 found.character ascii ∙ short_form_null found.character null in
-    absurd (no_null (found.wide ∙ ap length same) (first_byte Mutf8 bytes _ found same))
-ascii_kept Mutf8 bytes found ascii (inr some) no_null =
-    encoding_one Mutf8 found.character ascii ∙ short_form_other Mutf8 found.character some
-    ∙ sym (utf8_of_one found.character ascii)
+ascii_kept f bytes found ascii h2 no_null = grind (arith, encoding_one, first_byte, short_form_null, short_form_other, utf8_of_one, wide)
 
 -- A character of up to three bytes is its UTF-8, but C0 80.
 kept : (f : Flavor) (bytes : List ℕ) (found : IsWide f bytes) → Shape found.character → first_width f bytes ≤ 3 →
@@ -223,14 +217,7 @@ more_strict f bytes rest after chunk old new false here so_far whole fine =
 -- The first ill-formed byte is a fault of the bytes.
 pub first_fault : (f : Flavor) (bytes rest chunk : List ℕ) (before here : Bool) → (before ≡ false → IsChunk f Strict bytes rest chunk) →
     (before ≡ true → HasFault f bytes) → 0 < length rest → (here ≡ true → NoneBegins f rest) → (before || here) ≡ true → HasFault f bytes
-first_fault f bytes rest chunk true here so_far fault some none_begins ill_formed = fault refl
-first_fault f bytes rest chunk false here so_far fault some none_begins ill_formed = record {
-  rest = rest;
-  chunk = chunk;
-  before = so_far refl;
-  some = some;
-  none_begins = none_begins ill_formed;
-}
+first_fault f bytes rest chunk before here so_far fault some none_begins ill_formed = grind arith
 
 -- What was read is a chunk unless an ill-formed byte in it is refused.
 pub read_unless_refused : (f : Flavor) (which : Strictness) (bytes rest chunk : List ℕ) (is_ill_formed : Bool) → (which ≡ Lossy → IsChunk f Lossy bytes rest chunk) →
@@ -241,18 +228,9 @@ read_unless_refused f Lossy bytes rest chunk is_ill_formed lossy strict fine = l
 -- Reading stops at the end, or behind an ill-formed byte that is refused: then something was read,
 pub read_some : (which : Strictness) (n len : ℕ) (is_ill_formed : Bool) → (ltb n len && not (refuses which is_ill_formed)) ≡ false →
     0 < len → (is_ill_formed ≡ true → 0 < n) → 0 < n
-read_some Strict n len true stopped nonempty some = some refl
-read_some Strict n len false stopped nonempty some =
-    omega (arith, ltb-false n len (⊎_elim (λ (less : ltb n len ≡ true). absurd (true≢false (sym (ap (λ t. t && true) less) ∙ stopped))) (λ past. past) (cases_Bool (ltb n len))))
-read_some Lossy n len is_ill_formed stopped nonempty some =
-    omega (arith, ltb-false n len (⊎_elim (λ (less : ltb n len ≡ true). absurd (true≢false (sym (ap (λ t. t && true) less) ∙ stopped))) (λ past. past) (cases_Bool (ltb n len))))
+read_some which n len is_ill_formed stopped nonempty some = grind (arith, nat_tests)
 
 -- and otherwise all.
 pub read_all : (which : Strictness) (n len : ℕ) (is_ill_formed : Bool) → (ltb n len && not (refuses which is_ill_formed)) ≡ false →
     refuses which is_ill_formed ≡ false → n ≤ len → n ≡ len
-read_all which n len is_ill_formed stopped fine inside =
-    omega (
-      arith,
-      ltb-false n len (⊎_elim (λ (less : ltb n len ≡ true).
-          absurd (true≢false (sym ((λ i. less i && not (fine i))) ∙ stopped))) (λ past. past) (cases_Bool (ltb n len))),
-    )
+read_all which n len is_ill_formed stopped fine inside = grind (arith, nat_tests)

@@ -1,16 +1,17 @@
 -- Characters of more than one byte, by how they are encoded at the front of bytes.
-use Rattle.std.proofs.Common.{◌≡◌, ℕ, ◌<◌, ◌≤◌, List, [], ◌∷◌, ◌++◌, refl, sym, ap, ◌∙◌, inl, inr, true, false, arith, length, take, drop, get_or, eqb, leb, ltb, ◌&&◌}
-use Rattle.std.proofs.lemmas.Bool.{and_parts, eqb-true, leb-true, ltb-true}
-use Rattle.cesu8_text.specs.Encoding.{Flavor, Cesu8, Mutf8}
+use Rattle.std.proofs.lemmas.Grind.{common_steps}
+use Rattle.std.proofs.Common.{◌≡◌, ℕ, ◌<◌, ◌≤◌, List, [], ◌∷◌, ◌++◌, refl, sym, ap, ◌∙◌, inl, inr, true, false, arith, length, take, drop, get_or, leb, ltb, ◌&&◌}
+use Rattle.std.proofs.lemmas.Bool.{and_parts, leb-true, ltb-true}
+use Rattle.cesu8_text.specs.Encoding.{Flavor}
 use Rattle.cesu8_text.specs.Reading.{NoneBegins}
 use Rattle.cesu8_bytes.specs.Pairs.{null_at, HasPair, IsUtf8OfDigits, second_third_fifth_sixth}
 use Rattle.cesu8_bytes.specs.TextChunks.{IsReadSoFar}
 use Rattle.cesu8_bytes.specs.declared.strictness.Strictness.{Strictness}
-use Rattle.cesu8_decode.specs.DecodedOffsets.{IsPrefixOf, one_at, two_at, three_at, continues, fits_three}
+use Rattle.cesu8_decode.specs.DecodedOffsets.{IsPrefixOf, one_at, two_at, three_at, continues}
 use Rattle.cesu8_decode.specs.Forms.{HasForm, HasNoForm, BeginsChanged, form_len}
 use Rattle.cesu8_decode.specs.declared.forms.Form.{Form}
 use Rattle.cesu8_decode.specs.declared.forms.Form.TheVariants.{Pair, Null, Two, Three}
-use Rattle.cesu8_decode.proofs.by_offset.WidthTests.{two_found, three_found, pair_by_prefix, same_digits, long_by, continuation, fits_low}
+use Rattle.cesu8_decode.proofs.by_offset.WidthTests.{two_found, three_found, pair_by_prefix, same_digits, continuation}
 use Rattle.cesu8_decode.proofs.chunks.Characters.{kept_read, null_lead, null_read, pair_read, pair_width, none_by_prefix}
 
 take_two : (bytes : List ℕ) → 2 ≤ length bytes → take 2 bytes ≡ get_or bytes 0 0 ∷ get_or bytes 1 0 ∷ []
@@ -24,7 +25,7 @@ take_three (a ∷ []) long = absurd (omega arith)
 take_three (a ∷ b ∷ []) long = absurd (omega arith)
 take_three (a ∷ b ∷ d ∷ bytes) long = refl
 
--- What is known of the bytes of a character of two bytes, and of three.
+-- What is known of the bytes of a character of two bytes.
 record AreTwo (a b : ℕ) : Type 0 where
   low : 0xC2 ≤ a
   high : a < 0xE0
@@ -36,27 +37,6 @@ are_two a b t =
     let h2 = and_parts (ltb a 0xE0) (continues b) h.1 in
     record { low = leb-true 0xC2 a h.0; high = ltb-true a 0xE0 h2.0; last = continuation b h2.1 }
 
-record AreThree (a b d : ℕ) : Type 0 where
-  low : 0xE0 ≤ a
-  high : a < 0xF0
-  middle : (0x80 ≤ b) × (b < 0xC0)
-  last : (0x80 ≤ d) × (d < 0xC0)
-  fits : a ≡ 0xE0 → 0xA0 ≤ b
-
-are_three : (a b d : ℕ) → three_at a b d ≡ true → AreThree a b d
-are_three a b d t =
-    let h = and_parts (leb 0xE0 a) (ltb a 0xF0 && (continues b && (continues d && fits_three a b))) t in
-    let h2 = and_parts (ltb a 0xF0) (continues b && (continues d && fits_three a b)) h.1 in
-    let h3 = and_parts (continues b) (continues d && fits_three a b) h2.1 in
-    let h4 = and_parts (continues d) (fits_three a b) h3.1 in
-    record {
-      low = leb-true 0xE0 a h.0;
-      high = ltb-true a 0xF0 h2.0;
-      middle = continuation b h3.0;
-      last = continuation d h4.0;
-      fits = fits_low a b h4.1;
-    }
-
 -- The character of this form that begins the bytes, in UTF-8.
 abbrev IsUtf8OfForm : Form → List ℕ → List ℕ → Type 0
 IsUtf8OfForm Pair bytes utf8 = IsUtf8OfDigits (second_third_fifth_sixth bytes) utf8
@@ -64,24 +44,10 @@ IsUtf8OfForm Null bytes utf8 = utf8 ≡ 0 ∷ []
 IsUtf8OfForm Two bytes utf8 = utf8 ≡ get_or bytes 0 0 ∷ get_or bytes 1 0 ∷ []
 IsUtf8OfForm Three bytes utf8 = utf8 ≡ get_or bytes 0 0 ∷ get_or bytes 1 0 ∷ get_or bytes 2 0 ∷ []
 
--- The null character's second byte.
-null_second : (f : Flavor) (a b : ℕ) → null_at f a b ≡ true → b ≡ 0x80
-null_second Cesu8 a b null = absurd (cc)
-null_second Mutf8 a b null = eqb-true b 0x80 (and_parts (eqb a 0xC0) (eqb b 0x80) null).1
-
 -- The bytes have all of the character whose form was seen in a prefix.
 pub form_within : (f : Flavor) (bytes prefix : List ℕ) (form : Form) → IsPrefixOf bytes prefix → HasForm f prefix form →
     form_len form ≤ length bytes
-form_within f bytes prefix Pair same has = (pair_by_prefix bytes prefix same has).0
-form_within f bytes prefix Null same has =
-    let second = same 1 (omega arith) in
-    long_by bytes 1 (omega (arith, second, null_second f (get_or prefix 0 0) (get_or prefix 1 0) has))
-form_within f bytes prefix Two same has =
-    let second = same 1 (omega arith) in
-    long_by bytes 1 (omega (arith, second, (are_two (get_or prefix 0 0) (get_or prefix 1 0) has).last.0))
-form_within f bytes prefix Three same has =
-    let third = same 2 (omega arith) in
-    long_by bytes 2 (omega (arith, third, (are_three (get_or prefix 0 0) (get_or prefix 1 0) (get_or prefix 2 0) has).last.0))
+form_within f bytes prefix form same has = grind (arith, common_steps)
 
 -- Where a character that changes begins the bytes, it is the null character if they begin with C0, and
 -- else a surrogate pair.

@@ -1,5 +1,7 @@
 -- Text that is read a chunk at a time.
-use Rattle.std.proofs.Common.{◌≡◌, ℕ, ◌+◌, ◌<◌, ◌≤◌, List, ⊎_elim, [], ◌∷◌, ◌++◌, refl, sym, ap, ◌∙◌, arith, length, append-nil, length-append, true, false, Bool, subst, drop, append_assoc, length-drop}
+use Rattle.std.proofs.lemmas.Bool.Decides.{nat_tests}
+use Rattle.std.proofs.lemmas.Grind.{common_steps}
+use Rattle.std.proofs.Common.{◌≡◌, ℕ, ◌+◌, ◌<◌, ◌≤◌, List, ⊎_elim, [], ◌∷◌, ◌++◌, refl, sym, ap, ◌∙◌, arith, length, length-append, true, false, Bool, subst, drop, append_assoc, length-drop}
 use Rattle.cesu8_text.specs.Text.{IsText, utf8}
 use Rattle.cesu8_text.specs.Encoding.{Flavor, encoding}
 use Rattle.cesu8_text.specs.Reading.{reading, lossy_length, HasNoStrictReading}
@@ -24,55 +26,22 @@ IsDecodedText f which bytes text =
 
 -- Before the first chunk nothing is read, and all bytes are left.
 pub nothing_read : (f : Flavor) (which : Strictness) (bytes old : List ℕ) → IsReadSoFar f which bytes bytes old old
-nothing_read f which bytes old = record {
-  text = [];
-  scalars = tt;
-  lossy_reading = refl;
-  strict_reading = λ _. rw (encoding_nil f) refl;
-  written = sym (append-nil old);
-}
+nothing_read f which bytes old = grind (arith, nat_tests, common_steps, encoding_nil)
 
 -- Where no bytes are left, the text so far is the decoded text.
 pub all_read : (f : Flavor) (which : Strictness) (bytes rest old new : List ℕ) → IsReadSoFar f which bytes rest old new →
     length rest ≡ 0 → (text : List ℕ) × IsDecodedText f which bytes text × (new ≡ old ++ utf8 text)
-all_read f which bytes [] old new so_far empty = (
-  so_far.text,
-  (
-    so_far.scalars,
-    sym (so_far.lossy_reading ∙ ap (λ cs. so_far.text ++ cs) (reading_nil f) ∙ append-nil so_far.text),
-    λ strict. sym (so_far.strict_reading strict ∙ append-nil (encoding f so_far.text)),
-  ),
-  so_far.written,
-)
-all_read f which bytes (b ∷ rest) old new so_far empty = absurd (omega arith)
+all_read f which bytes rest old new so_far empty = grind (arith, nat_tests, common_steps, reading_nil)
 
 -- What is read after what was read so far adds its text.
 pub more_read : (f : Flavor) (which : Strictness) (bytes rest after old out new : List ℕ) →
     IsReadSoFar f which bytes rest old out → IsReadSoFar f which rest after out new → IsReadSoFar f which bytes after old new
-more_read f which bytes rest after old out new so_far next = record {
-  text = so_far.text ++ next.text;
-  scalars = IsText_append so_far.text next.text so_far.scalars next.scalars;
-  lossy_reading = so_far.lossy_reading ∙ ap (λ cs. so_far.text ++ cs) next.lossy_reading
-      ∙ sym (append_assoc so_far.text next.text (reading f after));
-  strict_reading = λ strict. so_far.strict_reading strict
-      ∙ ap (λ bs. encoding f so_far.text ++ bs) (next.strict_reading strict)
-      ∙ rw (encoding_append f so_far.text next.text)
-      (sym (append_assoc (encoding f so_far.text) (encoding f next.text) after));
-  written = next.written ∙ ap (λ bs. bs ++ utf8 next.text) so_far.written
-      ∙ append_assoc old (utf8 so_far.text) (utf8 next.text)
-      ∙ ap (λ bs. old ++ bs) (sym (utf8_append so_far.text next.text));
-}
+more_read f which bytes rest after old out new so_far next = grind (arith, nat_tests, common_steps, IsText_append, encoding_append, utf8_append)
 
 -- A chunk that is appended is read after what was there.
 pub chunk_appended : (f : Flavor) (which : Strictness) (bytes rest chunk old new : List ℕ) → IsChunk f which bytes rest chunk →
     new ≡ old ++ chunk → IsReadSoFar f which bytes rest old new
-chunk_appended f which bytes rest chunk old new is_chunk new_is = record {
-  text = is_chunk.text;
-  scalars = is_chunk.scalars;
-  lossy_reading = is_chunk.lossy_reading;
-  strict_reading = is_chunk.strict_reading;
-  written = new_is ∙ ap (λ bs. old ++ bs) is_chunk.written;
-}
+chunk_appended f which bytes rest chunk old new is_chunk new_is = grind arith
 
 -- What is read is UTF-8.
 pub chunk_utf8 : (f : Flavor) (which : Strictness) (bytes rest chunk : List ℕ) → IsChunk f which bytes rest chunk → IsUtf8 chunk

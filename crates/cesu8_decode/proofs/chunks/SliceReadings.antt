@@ -1,6 +1,8 @@
 -- What a call may say of a text that it writes into a caller's buffer.
-use Rattle.std.proofs.Common.{◌≡◌, ℕ, ◌^◌, ◌<◌, ◌≤◌, ◌↔◌, ⊎_elim, List, refl, sym, ap, ◌∙◌, subst, arith, length, length-drop, drop, Bool, false, Result, Ok, Err, MatchResult, IsErrAnd}
-use Rattle.std.proofs.lemmas.Bool.{false≢true, cases_lt}
+use Rattle.std.proofs.lemmas.Bool.Decides.{nat_tests}
+use Rattle.std.proofs.lemmas.Grind.{common_steps}
+use Rattle.std.proofs.Common.{◌≡◌, ℕ, ◌^◌, ◌<◌, ◌≤◌, ◌↔◌, List, refl, sym, ap, ◌∙◌, subst, arith, length, Bool, false, Result, Ok, Err, MatchResult, IsErrAnd}
+use Rattle.std.proofs.lemmas.Bool.{false≢true}
 use Rattle.std.specs.Str.{chars}
 use Rattle.cesu8_text.specs.Text.{utf8}
 use Rattle.cesu8_text.specs.Encoding.{Flavor}
@@ -74,83 +76,31 @@ only_reading f Lossy bytes whole = record { reads = refl; only = λ other same. 
 -- and that of bytes that a call keeps is of their characters.
 module _ (f : Flavor) (bytes : List ℕ) (keeps : Type 0) (reads reads_lossily : List ℕ → Type 0) (known : KnowsTexts f bytes keeps reads reads_lossily) where
   pub only_kept : (which : Strictness) → keeps → IsOnlyText (ReadsAs which reads reads_lossily) (chars bytes) bytes
-  only_kept Strict kept = record {
-    reads = (known.kept (chars bytes) kept).1 refl;
-    only = λ other also. (known.kept other kept).0 also;
-    utf8_is = (IsUtf8Of_chars bytes (known.is_utf8 kept)).1;
-  }
-  only_kept Lossy kept = record {
-    reads = (known.kept_lossily (chars bytes) kept).1 refl;
-    only = λ other also. (known.kept_lossily other kept).0 also;
-    utf8_is = (IsUtf8Of_chars bytes (known.is_utf8 kept)).1;
-  }
+  only_kept which kept = grind (arith, IsUtf8Of_chars)
 
 -- ---- where it is written or not
 
 -- In strict reading the input has no text.
 pub no_strict_text : (f : Flavor) (which : Strictness) (bytes buf : List ℕ) → (which ≡ Strict) × HasNoStrictReading f bytes →
     PutsText which (IsReadingOf f which bytes) (Err unwritten.NoText) buf buf
-no_strict_text f Strict bytes buf (strictly, none) = record {
-  written = tt;
-  fits = ((λ ok. absurd (false≢true ok)), (λ found. absurd (none found.0 found.1)));
-  invalid = ((λ _. none), (λ _. tt));
-  too_long = ((λ never. absurd never), (λ found. absurd (none found.0 found.1)));
-  needed = tt;
-  unchanged = refl;
-  strict = λ _. strictly;
-  lossy = λ never. absurd never;
-}
-no_strict_text f Lossy bytes buf refused = absurd (let no : Lossy ≡ Strict = refused.0 in cc)
+no_strict_text f which bytes buf refused = grind (arith, nat_tests)
 
 module _ (which : Strictness) (IsReading : List ℕ → Type 0) (text answer buf : List ℕ) (is : IsOnlyText IsReading text answer) (small : length answer < 2 ^ 64) where
   -- The answer is written to a buffer that is long enough,
   pub answer_put : (len : ℕ) (new : List ℕ) → length answer ≤ length buf → StandsAtFront answer len buf new → PutsText which IsReading (Ok len) buf new
-  answer_put len new room stands = record {
-    written = (text, is.reads, subst (λ a. StandsAtFront a len buf new) (sym is.utf8_is) stands);
-    fits = ((λ _. of_length IsReading (λ len. len ≤ length buf) text answer is room), (λ _. refl));
-    invalid = ((λ never. absurd never), (λ none. absurd (none text is.reads)));
-    too_long = (
-      (λ never. absurd never),
-      (λ found. absurd (omega (arith, small, at_length IsReading (λ len. 2 ^ 64 ≤ len) text answer is found))),
-    );
-    needed = tt;
-    unchanged = tt;
-    strict = λ never. absurd never;
-    lossy = λ never. absurd never;
-  }
+  answer_put len new room stands = grind (arith, nat_tests)
 
   -- and its length is returned if the buffer is shorter.
   pub room_lacks : (no_room : NoRoom) → no_room.needed ≡ length answer → length buf < length answer →
       PutsText which IsReading (Err (unwritten.NoRoom no_room)) buf buf
-  room_lacks no_room needed short = record {
-    written = tt;
-    fits = (
-      (λ ok. absurd (false≢true ok)),
-      (λ found. absurd (omega (arith, short, at_length IsReading (λ len. len ≤ length buf) text answer is found))),
-    );
-    invalid = ((λ never. absurd never), (λ none. absurd (none text is.reads)));
-    too_long = (
-      (λ never. absurd never),
-      (λ found. absurd (omega (arith, small, at_length IsReading (λ len. 2 ^ 64 ≤ len) text answer is found))),
-    );
-    needed = of_length IsReading (λ len. no_room.needed ≡ len) text answer is needed;
-    unchanged = refl;
-    strict = λ never. absurd never;
-    lossy = λ never. absurd never;
-  }
+  room_lacks no_room needed short = grind (arith, nat_tests)
 
 -- One of both is told of a copy of the answer.
 text_put : (which : Strictness) (IsReading : List ℕ → Type 0) (text answer : List ℕ) (r : Result ℕ NoRoom) (told : Result ℕ Unwritten) (old new : List ℕ) →
     IsOnlyText IsReading text answer → length answer < 2 ^ 64 →
     MatchResult r (λ len. told ≡ Ok len) (λ fault. IsErrAnd told (λ d. d ≡ unwritten.NoRoom fault)) →
     PutsAnswer answer r old new → PutsText which IsReading told old new
-text_put which IsReading text answer (Ok len) told old new is small told_is puts =
-    subst (λ t. PutsText which IsReading t old new) (sym told_is)
-    (answer_put which IsReading text answer old is small len new (puts.fits.0 refl) puts.written)
-text_put which IsReading text answer (Err fault) (Ok len) old new is small told_is puts = absurd told_is
-text_put which IsReading text answer (Err fault) (Err other) old new is small told_is puts =
-    rw (told_is, puts.unchanged) (room_lacks which IsReading text answer old is small fault puts.needed
-    (⊎_elim (λ short. short) (λ fits. absurd (false≢true (puts.fits.1 fits))) (cases_lt (length old) (length answer))))
+text_put which IsReading text answer r told old new is small told_is puts = grind (arith, nat_tests)
 
 -- So it is of bytes that a call keeps,
 pub kept_put : (f : Flavor) (bytes : List ℕ) (keeps : Type 0) (reads reads_lossily : List ℕ → Type 0) → KnowsTexts f bytes keeps reads reads_lossily →
@@ -166,11 +116,7 @@ pub decoded_put : (f : Flavor) (which : Strictness) (bytes answer : List ℕ) (r
     ReadsAll f which bytes read answer is_ill_formed → refuses which is_ill_formed ≡ false → length answer < 2 ^ 64 →
     MatchResult r (λ len. told ≡ Ok len) (λ fault. IsErrAnd told (λ d. d ≡ unwritten.NoRoom fault)) →
     PutsAnswer answer r old new → PutsText which (IsReadingOf f which bytes) told old new
-decoded_put f which bytes answer read is_ill_formed r told old new reads fine small told_is puts =
-    text_put which (IsReadingOf f which bytes) (chars answer) answer r told old new
-    (only_chunk f which bytes (drop read bytes) answer (chunk_unless_refused f which bytes answer read is_ill_formed reads.first fine)
-    (omega (arith, length-drop read bytes, reads.all fine)))
-    small told_is puts
+decoded_put f which bytes answer read is_ill_formed r told old new reads fine small told_is puts = grind (arith, nat_tests, common_steps, chunk_unless_refused, only_chunk, text_put)
 
 -- No `usize` is its length, so that it fits into no buffer.
 pub length_lacks : (f : Flavor) (which : Strictness) (bytes buf : List ℕ) → (which ≡ Strict → IsStrictReading f bytes (reading f bytes)) →

@@ -1,5 +1,7 @@
 -- Text that is written into a slice a chunk at a time.
-use Rattle.std.proofs.Common.{◌≡◌, ℕ, ◌+◌, List, [], ◌++◌, refl, sym, ap, ◌∙◌, arith, length, take, drop, Bool}
+use Rattle.std.proofs.lemmas.Bool.Decides.{nat_tests}
+use Rattle.std.proofs.lemmas.Grind.{common_steps}
+use Rattle.std.proofs.Common.{◌≡◌, ℕ, ◌+◌, List, [], ◌++◌, refl, ◌∙◌, arith, length, take, drop, Bool}
 use Rattle.std.proofs.lemmas.List.{take-append-drop}
 use Rattle.cesu8_text.specs.Text.{utf8}
 use Rattle.cesu8_text.specs.Encoding.{Flavor}
@@ -9,7 +11,7 @@ use Rattle.cesu8_decode.specs.Decoding.{ReadsFirst}
 use Rattle.cesu8_bytes.specs.TextChunks.{IsChunk}
 use Rattle.cesu8_bytes.specs.declared.strictness.Strictness.TheVariants.{Lossy}
 use Rattle.cesu8_bytes.proofs.lists.Ends.{stays_behind}
-use Rattle.cesu8_decode.proofs.chunks.ReadChunks.{nothing_read, all_read, more_read, chunk_appended, chunk_length}
+use Rattle.cesu8_decode.proofs.chunks.ReadChunks.{all_read, more_read, chunk_appended, chunk_length}
 use Rattle.cesu8_text.proofs.reading.Decoding.{lossy_length_nil}
 
 -- The lossy reading of some bytes is written to the front of a slice, up to an end, and the bytes
@@ -22,12 +24,7 @@ pub record IsWrittenSoFar (f : Flavor) (bytes rest : List ℕ) (end : ℕ) (old 
 
 -- Before the first chunk nothing is written.
 pub nothing_written : (f : Flavor) (bytes old : List ℕ) → IsWrittenSoFar f bytes bytes 0 old old
-nothing_written f bytes old = record {
-  so_far = nothing_read f Lossy bytes [];
-  room = omega arith;
-  behind = refl;
-  len = refl;
-}
+nothing_written f bytes old = grind (arith, nat_tests)
 
 -- A chunk that is put behind what was written so far adds to it.
 pub chunk_written : (f : Flavor) (bytes rest chunk : List ℕ) (read : ℕ) (is_ill_formed : Bool) (at end : ℕ) (old between new : List ℕ) →
@@ -46,9 +43,4 @@ chunk_written f bytes rest chunk read is_ill_formed at end old between new so_fa
 pub all_written : (f : Flavor) (bytes rest : List ℕ) (end : ℕ) (old new : List ℕ) → IsWrittenSoFar f bytes rest end old new →
     length rest ≡ 0 → StandsAtFront (utf8 (reading f bytes)) end old new
 unfolding lossy_length
-all_written f bytes rest end old new written empty =
-    let read = all_read f Lossy bytes rest [] (take end new) written.so_far empty in (
-      omega (arith, written.room, lossy_length_nil f rest empty),
-      sym (take-append-drop end new) ∙ ap (λ bs. bs ++ drop end new) (read.2 ∙ ap utf8 read.1.1)
-          ∙ ap (λ bs. utf8 (reading f bytes) ++ bs) written.behind,
-    )
+all_written f bytes rest end old new written empty = grind (arith, nat_tests, common_steps, all_read, lossy_length_nil, take-append-drop)

@@ -173,23 +173,13 @@ first_kinds f bytes = kinds_of_zeros f (window_of bytes) (replicate 32 0) refl z
 -- and nothing is written.
 pub none_written : (f : Flavor) (which : Strictness) (bytes text : List ℕ) → text ≡ [] → IsWrittenUpTo f which bytes 0 text false
 unfolding decoded
-none_written f which bytes text empty = record {
-  decoded_text = λ _. empty;
-  well_formed = λ _ _ i small. absurd (omega arith);
-  refused = λ some. absurd (true≢false (sym some));
-  lossy = λ _. refl;
-}
+none_written f which bytes text empty = grind arith
 
 -- ---- bytes that are copied to zeros
 
 -- The first n bytes have a window in common with all.
 pub first_in_window : (bytes : List ℕ) (n k : ℕ) → k < n + 5 → get_or (window_of (take n bytes)) k 0 ≡ get_or (window_of bytes) k 0
-first_in_window bytes n zero small = refl
-first_in_window bytes n (suc zero) small = refl
-first_in_window bytes n (suc (suc zero)) small = refl
-first_in_window bytes n (suc (suc (suc zero))) small = refl
-first_in_window bytes n (suc (suc (suc (suc zero)))) small = refl
-first_in_window bytes n (suc (suc (suc (suc (suc k))))) small = get_or-take n bytes k 0 (omega arith)
+first_in_window bytes n k small = grind (arith, get_or-take)
 
 -- An array that they are copied to has them from an offset on.
 pub loaded_agrees : (bytes window : List ℕ) (at n m : ℕ) → ((k : ℕ) → get_or window k 0 ≡ get_or (window_of (take n bytes)) (at + k) 0) →

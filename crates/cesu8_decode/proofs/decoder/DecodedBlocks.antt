@@ -1,13 +1,14 @@
 -- What the decoder's vectors say of the bytes of a block, by their offsets.
-use Rattle.std.proofs.Common.{◌≡◌, ℕ, zero, suc, ◌+◌, ◌-◌, ◌*◌, ◌/◌, ◌%◌, ◌^◌, ◌<◌, ◌≤◌, ◌&&◌, Bool, true, false, eqb, leb, List, [], ◌∷◌, ◌++◌, refl, sym, ap, ◌∙◌, subst, arith, cond, ⊎_elim, add-zero, get_or, map, take, length, replicate, bit_and, bit_or, bit_xor, Fits, w8}
+use Rattle.std.proofs.lemmas.Bool.Decides.{nat_tests}
+use Rattle.std.proofs.Common.{◌≡◌, ℕ, zero, suc, ◌+◌, ◌-◌, ◌*◌, ◌/◌, ◌%◌, ◌^◌, ◌<◌, ◌≤◌, ◌&&◌, true, false, eqb, leb, List, [], ◌∷◌, ◌++◌, refl, sym, ap, ◌∙◌, subst, arith, cond, ⊎_elim, add-zero, get_or, map, take, length, replicate, bit_and, bit_or, bit_xor, Fits, w8}
 use Rattle.std.specs.List.{flat_map, range_with_len}
 use Rattle.std.proofs.lemmas.Nat.{and_le_l}
-use Rattle.std.proofs.lemmas.Bool.{cases_lt, cases_Bool, eqb-true}
+use Rattle.std.proofs.lemmas.Bool.{cases_lt}
 use Rattle.std.proofs.lemmas.List.{take-map, get_or_append_left, get_or-append_right}
 use Rattle.std.proofs.lemmas.List.FromFn.{take-map-range_with_len, length-map-range_with_len, get_or-map-range_with_len}
 use Rattle.std.proofs.lemmas.Simd.{map-map}
 use lib.Lanes.{zip2, sel_l, pick_l, mask_l, chunk, Each1}
-use Rattle.cesu8_text.specs.Encoding.{Flavor, Cesu8, Mutf8}
+use Rattle.cesu8_text.specs.Encoding.{Flavor, Mutf8}
 use Rattle.cesu8_text.specs.Class.{is_null}
 use Rattle.cesu8_bytes.specs.Kernels.{mask}
 use Rattle.cesu8_decode.specs.DecodedOffsets.{first_width_by, is_ill_formed_at, decoded_byte, decoded_at, decoded}
@@ -203,15 +204,7 @@ module _ (f : Flavor) (window : List ℕ) where
 -- Only MUTF-8 has C0 80.
 no_null : (f : Flavor) → (f ≡ Mutf8 → ⊥) → (a b d e g h : ℕ) → (eqb (first_width_by f a b d e g h) 2 && eqb a 0xC0) ≡ false
 unfolding first_width_by
-no_null Mutf8 other a b d e g h = absurd (other refl)
-no_null Cesu8 other a b d e g h =
-    ⊎_elim (λ (lead : eqb a 0xC0 ≡ true). rw (eqb-true a 0xC0 lead) refl)
-    (λ (none : eqb a 0xC0 ≡ false). ap (λ t. eqb (first_width_by Cesu8 a b d e g h) 2 && t) none ∙ and_no (eqb (first_width_by Cesu8 a b d e g h) 2))
-    (cases_Bool (eqb a 0xC0))
-  where
-    and_no : (t : Bool) → (t && false) ≡ false
-    and_no true = refl
-    and_no false = refl
+no_null f other a b d e g h = grind (arith, nat_tests)
 
 none_chosen : (n : ℕ) (some bytes : List ℕ) → length some ≡ n → length bytes ≡ n → sel_l (replicate n false) some bytes ≡ bytes
 none_chosen zero [] [] s b = refl
@@ -247,11 +240,4 @@ pub block_written : (f : Flavor) (window : List ℕ) (at count m n : ℕ) (gone 
     take count bytes ≡ map (byte_at f window) (range_with_len at count) →
     written_lanes gone ill_formed bytes ≡ decoded f window at count
 unfolding decoded
-block_written f window at count m n gone ill_formed bytes gone_are ill_formed_are bytes_are =
-    let goes = map (goes_at f window) (range_with_len at count) in
-    let ill_formed_here = map (is_ill_formed_at f window) (range_with_len at count) in
-    (λ k. written (gone_are k) (ill_formed_are k) bytes)
-    ∙ written_first goes ill_formed_here m n count bytes
-    (length-map-range_with_len (goes_at f window) at count) (length-map-range_with_len (is_ill_formed_at f window) at count)
-    ∙ ap (written goes ill_formed_here) bytes_are
-    ∙ written_offsets f window (range_with_len at count)
+block_written f window at count m n gone ill_formed bytes gone_are ill_formed_are bytes_are = grind (arith, length-map-range_with_len, written_first, written_offsets)

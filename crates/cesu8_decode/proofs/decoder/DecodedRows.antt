@@ -1,8 +1,9 @@
 -- How what becomes of four bytes is packed by a shuffle, and what that is for the lanes of three vectors.
+use Rattle.std.proofs.lemmas.Grind.{common_steps}
 use Rattle.std.proofs.Common.{◌≡◌, ℕ, ◌+◌, ◌/◌, ◌%◌, ◌^◌, ◌<◌, ◌≤◌, Bool, List, [], ◌∷◌, ◌++◌, map, length, take, drop, get_or, refl, sym, ap, ◌∙◌, arith, length-append, append_assoc, bit_and}
 use Rattle.std.specs.List.{range_with_len}
 use Rattle.std.proofs.lemmas.List.{length-map, take-map, drop-map, take_at, drop_at}
-use Rattle.std.proofs.lemmas.Simd.{length-chunk, pick_l-range_with_len}
+use Rattle.std.proofs.lemmas.Simd.{pick_l-range_with_len}
 use lib.Lanes.{mask_l, put_chunk, chunk, pick_l}
 use Rattle.cesu8_bytes.specs.Packing.{written, kept_of}
 use Rattle.cesu8_decode.specs.DecodedLanes.{is_high, written_lanes, shuffle_of_four}
@@ -75,11 +76,7 @@ module _ (gone ill_formed bytes : List ℕ) where
     upper_set a set le is = row_mask 8 (map is_high (lanes_of_eight a)) set (omega arith) is ∙ ap mask_l (tests_are (a + 4) (omega arith))
 
     adds : (x y lanes : List ℕ) (a set : ℕ) → a + 4 ≤ 16 → lanes ≡ chunk a 4 bytes → set ≡ mask_l (tests a) → AddsFour x y lanes set → y ≡ x ++ part a 4
-    adds x y lanes a set le lanes_are set_is add =
-        let flags : List ℕ → List Bool = λ l. map is_high (chunk a 4 l) in
-        add (flags gone) (flags ill_formed)
-        (length-map (chunk a 4 gone) is_high ∙ length-chunk a 4 gone (omega arith)) (length-map (chunk a 4 ill_formed) is_high ∙ length-chunk a 4 ill_formed (omega arith)) set_is
-        ∙ ap (λ l. x ++ written (flags gone) (flags ill_formed) l) lanes_are
+    adds x y lanes a set le lanes_are set_is add = grind (arith, common_steps)
 
     -- Four calls write sixteen bytes.
     pub stored_half : (x0 x1 x2 x3 x4 v0 v1 v2 v3 : List ℕ) (front back : ℕ) →

@@ -1,7 +1,7 @@
 -- Blocks whose bytes stay: characters of one byte, and those near no surrogate pair and no C0 80.
-use Rattle.std.proofs.Common.{◌≡◌, ℕ, zero, suc, ◌+◌, ◌-◌, ◌*◌, ◌^◌, ◌%◌, ◌<◌, ◌≤◌, ⊎_elim, Bool, true, false, true≢false, ◌&&◌, ◌||◌, not, cond, eqb, leb, ltb, List, [], ◌∷◌, ◌++◌, map, take, length, get_or, replicate, bit_and, bit_or, refl, sym, ap, ◌∙◌, arith}
+use Rattle.std.proofs.Common.{◌≡◌, ℕ, zero, suc, ◌+◌, ◌-◌, ◌*◌, ◌^◌, ◌%◌, ◌<◌, ◌≤◌, ⊎_elim, Bool, true, false, true≢false, ◌&&◌, ◌||◌, not, cond, eqb, leb, List, [], ◌∷◌, ◌++◌, map, take, length, get_or, replicate, bit_and, bit_or, refl, sym, ap, ◌∙◌, arith}
 use Rattle.std.specs.List.{range_with_len}
-use Rattle.std.proofs.lemmas.Bool.{and_parts, eqb-true, leb-true, not-false, cases_lt, cases_Bool, ne_eqb}
+use Rattle.std.proofs.lemmas.Bool.{eqb-true, not-false, cases_lt, cases_Bool, ne_eqb}
 use Rattle.std.proofs.lemmas.List.{take-take, length-take-le}
 use Rattle.std.proofs.lemmas.List.FromFn.{take-map-range_with_len}
 use Rattle.std.proofs.lemmas.Simd.{map-map, take_more_put_chunk}
@@ -14,7 +14,7 @@ use Rattle.cesu8_bytes.specs.Kernels.{mask}
 use Rattle.cesu8_bytes.specs.Pairs.{null_at}
 use Rattle.cesu8_bytes.specs.Packing.{written_for}
 use Rattle.cesu8_bytes.proofs.vectors.Loads.{loaded}
-use Rattle.cesu8_decode.specs.DecodedOffsets.{one_at, two_at, three_at, pair_at, continues, first_width_by, width_at, is_ill_formed_at, decoded_byte, decoded_at, decoded}
+use Rattle.cesu8_decode.specs.DecodedOffsets.{one_at, two_at, three_at, pair_at, first_width_by, width_at, is_ill_formed_at, decoded_byte, decoded_at, decoded}
 use Rattle.cesu8_decode.specs.DecodedLanes.{start_kind, AreKindsNear, NoneBeginsChanged, AreParts, is_high, goes_at, byte_at}
 use Rattle.cesu8_decode.proofs.decoder.StartKinds.{Start, by_kind, start_at, low_one, no_start, one_by_first, pair_bit}
 use Rattle.cesu8_decode.proofs.decoder.LaneTests.{high_or, shifted_or, no_one}
@@ -58,22 +58,7 @@ copied_first at n out lanes long small room =
 
 -- The bytes behind the first of a surrogate pair are 80 or more.
 pair_high : (a b d e g h : ℕ) → pair_at a b d e g h ≡ true → (0x80 ≤ b) × (0x80 ≤ d) × (0x80 ≤ e) × (0x80 ≤ g) × (0x80 ≤ h)
-pair_high a b d e g h begun =
-    let h1 = and_parts (eqb a 0xED) _ begun in
-    let h2 = and_parts (leb 0xA0 b) _ h1.1 in
-    let h3 = and_parts (ltb b 0xB0) _ h2.1 in
-    let h4 = and_parts (continues d) _ h3.1 in
-    let h5 = and_parts (eqb e 0xED) _ h4.1 in
-    let h6 = and_parts (leb 0xB0 g) _ h5.1 in
-    let h7 = and_parts (ltb g 0xC0) (continues h) h6.1 in
-    let third = and_parts (leb 0x80 d) (ltb d 0xC0) h4.0 in
-    let last = and_parts (leb 0x80 h) (ltb h 0xC0) h7.1 in (
-      omega (arith, leb-true 0xA0 b h2.0),
-      leb-true 0x80 d third.0,
-      omega (arith, eqb-true e 0xED h5.0),
-      omega (arith, leb-true 0xB0 g h6.0),
-      leb-true 0x80 h last.0,
-    )
+pair_high a b d e g h begun = grind (arith, nat_tests)
 
 -- A width of 6 is that of a pair.
 pair_or_less : (is_one is_null is_two is_three is_pair : Bool) →
@@ -92,28 +77,11 @@ no_second Cesu8 b d e g h low = refl
 no_second Mutf8 b d e g h low = rw (ne_eqb b 0x80 (λ same. omega arith)) refl
 
 no_null_before : (f : Flavor) (a b d e g h : ℕ) → b < 0x80 → (eqb (first_width_by f a b d e g h) 2 && eqb a 0xC0) ≡ false
-no_null_before f a b d e g h low =
-    ⊎_elim (λ (same : eqb a 0xC0 ≡ true). rw (eqb-true a 0xC0 same) (ap (λ t. t && true) (no_second f b d e g h low)))
-    (λ (other : eqb a 0xC0 ≡ false). ap (λ t. eqb (first_width_by f a b d e g h) 2 && t) other ∙ and_no (eqb (first_width_by f a b d e g h) 2))
-    (cases_Bool (eqb a 0xC0))
-  where
-    and_no : (t : Bool) → (t && false) ≡ false
-    and_no true = refl
-    and_no false = refl
+no_null_before f a b d e g h low = grind (arith, cases_Bool, eqb-true, no_second)
 
 module _ (f : Flavor) (window : List ℕ) where
   no_pair_over : (j d k : ℕ) → 1 ≤ d → d ≤ 5 → j + d ≡ k → get_or window k 0 < 0x80 → eqb (width_at f window j) 6 ≡ false
-  no_pair_over j d k some small there low =
-      ne_eqb (width_at f window j) 6 (λ six. omega (arith, low, high d some small six, ap (λ p. get_or window p 0) there))
-    where
-      high : (d : ℕ) → 1 ≤ d → d ≤ 5 → width_at f window j ≡ 6 → 0x80 ≤ get_or window (j + d) 0
-      high zero some small six = absurd (omega arith)
-      high (suc zero) some small six = (six_high f _ _ _ _ _ _ six).0
-      high (suc (suc zero)) some small six = (six_high f _ _ _ _ _ _ six).1
-      high (suc (suc (suc zero))) some small six = (six_high f _ _ _ _ _ _ six).2
-      high (suc (suc (suc (suc zero)))) some small six = (six_high f _ _ _ _ _ _ six).3
-      high (suc (suc (suc (suc (suc zero))))) some small six = (six_high f _ _ _ _ _ _ six).4
-      high (suc (suc (suc (suc (suc (suc d)))))) some small six = absurd (omega arith)
+  no_pair_over j d k some small there low = grind (arith, ne_eqb, six_high)
 
   -- A byte that is a character of its own stays.
   pub one_stays : (i : ℕ) → one_at f (get_or window (i + 5) 0) ≡ true → Stays f window i
@@ -192,11 +160,7 @@ around_lane c c' = bit_or (bit_or c c') (bit_or c c' * 2 ^ 2 % 2 ^ 8)
 -- where a lane of two kinds is not high, none of them is, nor shifted
 around_low : (c c' : ℕ) → is_high (around_lane c c') ≡ false →
     (leb 0x80 c ≡ false) × (leb 0x80 c' ≡ false) × (leb 0x80 (c * 2 ^ 2 % 2 ^ 8) ≡ false) × (leb 0x80 (c' * 2 ^ 2 % 2 ^ 8) ≡ false)
-around_low c c' low =
-    let shifted : ℕ → ℕ = λ c. c * 2 ^ 2 % 2 ^ 8 in
-    none_of (leb 0x80 c) (leb 0x80 c') (leb 0x80 (shifted c)) (leb 0x80 (shifted c'))
-    (sym (high_or (bit_or c c') (bit_or c c' * 2 ^ 2 % 2 ^ 8)
-    ∙ (λ k. high_or c c' k || (ap (leb 0x80) (shifted_or c c') ∙ high_or (shifted c) (shifted c')) k)) ∙ low)
+around_low c c' low = grind (arith, high_or, none_of, shifted_or)
 
 module _ (f : Flavor) (window : List ℕ) (at : ℕ) where
   abbrev kind : ℕ → ℕ

@@ -1,9 +1,9 @@
 -- What the decoder's vectors say of one byte, by the kinds of what begins at its offset and before.
-use Rattle.std.proofs.Common.{◌≡◌, ℕ, ◌+◌, ◌*◌, ◌/◌, ◌%◌, ◌^◌, ◌<◌, Bool, true, false, ◌&&◌, ◌||◌, not, eqb, leb, ltb, List, refl, sym, ap, ◌∙◌, arith, cond, get_or, bit_and, bit_or, add-zero, true≢false}
+use Rattle.std.proofs.Common.{◌≡◌, ℕ, ◌+◌, ◌*◌, ◌/◌, ◌%◌, ◌^◌, ◌<◌, Bool, true, false, ◌&&◌, ◌||◌, not, eqb, leb, List, refl, sym, ap, ◌∙◌, arith, cond, get_or, bit_and, bit_or, add-zero, true≢false}
 use Rattle.std.proofs.lemmas.Bool.{agree_below_at, eqb-true}
 use Rattle.std.proofs.lemmas.Bool.Decides.{nat_tests}
 use Rattle.std.proofs.lemmas.Nat.{and_mask, le_or_l, le_or_r, or_lt, or_mod, or_block, or_shifted}
-use Rattle.cesu8_text.specs.Encoding.{Flavor, Cesu8, Mutf8}
+use Rattle.cesu8_text.specs.Encoding.{Flavor}
 use Rattle.cesu8_text.specs.Class.{is_null}
 use Rattle.cesu8_bytes.specs.Kernels.{mask}
 use Rattle.cesu8_decode.specs.DecodedOffsets.{one_at, two_at, three_at, pair_at, first_width_by, width_at, is_ill_formed_at}
@@ -53,12 +53,7 @@ last_first n p q = grind (arith, nat_tests)
 -- It says whether the byte goes.
 pub lane_goes : (a w c a' w' c' : ℕ) → Start a w c → Start a' w' c' →
     is_high (gone_lane c c') ≡ (eqb w 6 || (eqb w' 6 || (eqb w 2 && eqb a 0xC0)))
-lane_goes a w c a' w' c' here before =
-    high_or c (bit_or c c' * 2 ^ 2 % 2 ^ 8)
-    ∙ ap (λ (n : ℕ). leb 0x80 c || leb 0x80 n) (shifted_or c c')
-    ∙ ap (λ (t : Bool). leb 0x80 c || t) (high_or (c * 2 ^ 2 % 2 ^ 8) (c' * 2 ^ 2 % 2 ^ 8))
-    ∙ (λ i. null_bit a w c here i || (shifted_pair a w c here i || shifted_pair a' w' c' before i))
-    ∙ last_first (eqb w 2 && eqb a 0xC0) (eqb w 6) (eqb w' 6)
+lane_goes a w c a' w' c' here before = grind (arith, high_or, last_first, null_bit, shifted_or, shifted_pair)
 
 abbrev pub covered_lane : (c0 c1 c2 c3 c4 c5 : ℕ) → ℕ
 covered_lane c0 c1 c2 c3 c4 c5 =
@@ -103,18 +98,7 @@ begins_one f window i =
 
 -- A byte is marked that is no character.
 pub no_one : (f : Flavor) (b : ℕ) → leb 0x80 (bit_or b (mask (is_null f b))) ≡ not (one_at f b)
-no_one Cesu8 b = high_or b 0 ∙ low b
-  where
-    low : (b : ℕ) → (leb 0x80 b || false) ≡ not (ltb b 0x80)
-    low b = grind (arith, nat_tests)
-no_one Mutf8 b = high_or b (mask (eqb b 0)) ∙ ap (λ (t : Bool). leb 0x80 b || t) (marks (eqb b 0)) ∙ some b
-  where
-    marks : (t : Bool) → leb 0x80 (mask t) ≡ t
-    marks true = refl
-    marks false = refl
-
-    some : (b : ℕ) → (leb 0x80 b || eqb b 0) ≡ not (leb 1 b && ltb b 0x80)
-    some b = grind (arith, nat_tests)
+no_one f b = grind (arith, high_or)
 
 masked : (t : Bool) (x : ℕ) → x < 0x100 → leb 0x80 (bit_and (mask t) x) ≡ (t && leb 0x80 x)
 masked false x small = refl

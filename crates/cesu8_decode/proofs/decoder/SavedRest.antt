@@ -81,12 +81,7 @@ module _ (f : Flavor) (bytes : List ℕ) (n : ℕ) where
       (λ j. saved (width j) (here k inside j))
 
   saved_behind : (k : ℕ) → length bytes ≤ k → k < length bytes + n → saved_at f padded k ≡ 0
-  saved_behind k past small =
-      let p = λ (j : ℕ). get_or padded j 0 in
-      let width =
-      ap (λ a. first_width_by f a (p (k + 1)) (p (k + 2)) (p (k + 3)) (p (k + 4)) (p (k + 5))) (behind k past small)
-      ∙ none_begins f (p (k + 1)) (p (k + 2)) (p (k + 3)) (p (k + 4)) (p (k + 5)) in
-      ap (λ w. saved w (p k)) width
+  saved_behind k past small = grind (arith, behind, none_begins)
 
   -- They save what the bytes save.
   pub saved_with_end : (m : ℕ) → length bytes ≤ m → m + 5 ≤ length bytes + n → saved_between f padded 0 m ≡ total_saved f bytes

@@ -74,15 +74,7 @@ low_is_no_null Mutf8 a b low = rw (ne_eqb a 0xC0 (λ e. omega arith)) refl
 -- What begins by six bytes.
 pub start : (f : Flavor) (a b d e g h : ℕ) → Start a (first_width_by f a b d e g h) (start_kind_by f a b d e g h)
 unfolding first_width_by start_kind_by
-start f a b d e g h =
-    start_by a (one_at f a) (null_at f a b) (two_at a b) (three_at a b d) (pair_at a b d e g h) (first_null f a b)
-    (λ t. let low = leb-true 0xC2 a (and_parts (leb 0xC2 a) _ t).0 in ne_eqb a 0xC0 (λ same. omega arith))
-    (λ t. let low = low_one f a t in (
-      low_is_no_null f a b (omega arith),
-      rw (lt-leb 0xC2 a (omega arith)) refl,
-      rw (lt-leb 0xE0 a (omega arith)) refl,
-      rw (ne_eqb a 0xED (λ same. omega arith)) refl,
-    ))
+start f a b d e g h = grind (arith, and_parts, first_null, leb-true, low_is_no_null, low_one, lt-leb, ne_eqb, start_by)
 
 -- Below C0 nothing of two bytes or more begins.
 pub no_start : (f : Flavor) (a b d e g h : ℕ) → a < 0xC0 → start_kind_by f a b d e g h ≡ 0

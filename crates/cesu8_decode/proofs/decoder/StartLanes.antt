@@ -153,16 +153,7 @@ three third = bit_or (bit_and (mask third) 0x1C) 0x83
 
 ends_alike : (c : ℕ) → bit_and c 0x9F ≡ bit_and c 0xDF → bit_and c 0x9F ≡ bit_and c 0xFF → (third fourth fifth sixth : Bool) →
     bit_and c (three third) ≡ bit_and c (behind third fourth fifth sixth)
-ends_alike c no_end same true true true true = same
-ends_alike c no_end same true true true false = no_end
-ends_alike c no_end same true true false sixth = no_end ∙ ap (λ n. bit_and c (bit_and 0xFF (bit_or n 0xDF))) (sym (and_zero_l (mask sixth)))
-ends_alike c no_end same true false true sixth = no_end ∙ ap (λ n. bit_and c (bit_and 0xFF (bit_or n 0xDF))) (sym (and_zero_l (mask sixth)))
-ends_alike c no_end same true false false sixth = no_end ∙ ap (λ n. bit_and c (bit_and 0xFF (bit_or n 0xDF))) (sym (and_zero_l (mask sixth)))
-ends_alike c no_end same false true true true = refl
-ends_alike c no_end same false true true false = refl
-ends_alike c no_end same false true false sixth = ap (λ n. bit_and c (bit_and 0x83 (bit_or n 0xDF))) (sym (and_zero_l (mask sixth)))
-ends_alike c no_end same false false true sixth = ap (λ n. bit_and c (bit_and 0x83 (bit_or n 0xDF))) (sym (and_zero_l (mask sixth)))
-ends_alike c no_end same false false false sixth = ap (λ n. bit_and c (bit_and 0x83 (bit_or n 0xDF))) (sym (and_zero_l (mask sixth)))
+ends_alike c no_end same third fourth fifth sixth = grind arith
 
 three_decide : (f : Flavor) (a b d e g h : ℕ) → g < 0x100 → leb 0x80 (kind_of_two f a b * 2 ^ 2 % 2 ^ 8) ≡ false →
     bit_and (kind_of_two f a b) (three (continues d)) ≡ start_kind_by f a b d e g h

@@ -1,10 +1,10 @@
 -- The bytes of an encoding: below F0 (hexadecimal), and in MUTF-8 none is 0.
-use Rattle.std.proofs.Common.{◌≡◌, ◌≢◌, ℕ, ◌+◌, ◌<◌, ◌⊎◌, List, [], ◌∷◌, sym, ◌∙◌, subst, inl, inr, arith}
+use Rattle.std.proofs.Common.{◌≡◌, ◌≢◌, ℕ, ◌+◌, ◌<◌, ◌⊎◌, List, [], ◌∷◌, sym, ◌∙◌, subst, arith}
 use Rattle.std.specs.List.{All, Any}
 use Rattle.std.proofs.lemmas.List.Elements.{All-nil, All-cons, All-append}
 use Rattle.std.proofs.lemmas.Bool.{cases_eq}
 use Rattle.cesu8_text.specs.Text.{IsText, utf8}
-use Rattle.cesu8_text.specs.Encoding.{Flavor, Cesu8, Mutf8, encoding}
+use Rattle.cesu8_text.specs.Encoding.{Flavor, Mutf8, encoding}
 use Rattle.cesu8_text.specs.Laws.{SameText}
 use Rattle.cesu8_text.specs.Class.{IsChangedByte}
 use Rattle.cesu8_text.proofs.text.Shapes.{Shape, one, two, three, pair, shape}
@@ -23,18 +23,7 @@ byte : (f : Flavor) (b : ℕ) → 0 < b → b < 0xF0 → IsEncodedByte f b
 byte f b some low = record { low = low; some = λ _ null. omega arith }
 
 bytes_one : (f : Flavor) (c : ℕ) → c < 0x80 → (c ≡ 0) ⊎ (c ≡ 0 → ⊥) → All (IsEncodedByte f) (encoding f (c ∷ []))
-bytes_one Cesu8 c ascii _ =
-    rw (encoding_one Cesu8 c ascii)
-    (All-cons (IsEncodedByte Cesu8) c [] (record { low = omega arith; some = λ mutf8. absurd (cc) })
-    (All-nil (IsEncodedByte Cesu8)))
-bytes_one Mutf8 c ascii (inl null) =
-    rw (encoding_one Mutf8 c ascii, short_form_null c null)
-    (All-cons (IsEncodedByte Mutf8) 0xC0 (0x80 ∷ []) (byte Mutf8 0xC0 (omega arith) (omega arith))
-    (All-cons (IsEncodedByte Mutf8) 0x80 [] (byte Mutf8 0x80 (omega arith) (omega arith)) (All-nil (IsEncodedByte Mutf8))))
-bytes_one Mutf8 c ascii (inr not_null) =
-    rw (encoding_one Mutf8 c ascii, short_form_other Mutf8 c not_null)
-    (All-cons (IsEncodedByte Mutf8) c [] (record { low = omega arith; some = λ _. not_null })
-    (All-nil (IsEncodedByte Mutf8)))
+bytes_one f c ascii h2 = grind (arith, All-cons, All-nil, byte, encoding_one, short_form_null, short_form_other)
 
 three_bytes : (f : Flavor) (a b d : ℕ) (rest : List ℕ) → 0 < a → a < 0xF0 → 0 < b → b < 0xF0 → 0 < d → d < 0xF0 →
     All (IsEncodedByte f) rest → All (IsEncodedByte f) (a ∷ b ∷ d ∷ rest)

@@ -1,6 +1,6 @@
 -- The length of an encoding, from the text's UTF-8: a character of four bytes takes two more, and in
 -- MUTF-8 the character U+0000 one more.
-use Rattle.std.proofs.Common.{◌≡◌, ℕ, ◌+◌, ◌*◌, ◌/◌, ◌%◌, ◌<◌, ◌≤◌, ◌⊎◌, false, List, [], ◌∷◌, refl, sym, ap, ◌∙◌, subst, inl, inr, arith, length, length-append, sum_by}
+use Rattle.std.proofs.Common.{◌≡◌, ℕ, ◌+◌, ◌*◌, ◌/◌, ◌%◌, ◌<◌, ◌≤◌, ◌⊎◌, false, List, [], ◌∷◌, refl, ap, arith, length, length-append, sum_by}
 use Rattle.std.specs.Str.{chars, IsUtf8}
 use Rattle.std.proofs.lemmas.Bool.{cases_eq, le-leb, lt-leb, ne_eqb}
 use Rattle.std.proofs.lemmas.List.Sums.{sum_by-cons, sum_by-append}
@@ -47,16 +47,7 @@ grows_from : (f : Flavor) (c : ℕ) (bytes encoded : List ℕ) → utf8_of c ≡
 grows_from f c bytes encoded utf8_is encoded_is longer = rw (utf8_is, encoded_is) longer
 
 grows_one : (f : Flavor) (c : ℕ) → c < 0x80 → (c ≡ 0) ⊎ (c ≡ 0 → ⊥) → Grows f c
-grows_one Cesu8 c ascii _ =
-    grows_from Cesu8 c _ _ (utf8_of_one c ascii) (encoding_one Cesu8 c ascii)
-    (omega (arith, sum_by-cons (growth_of Cesu8) c [], stays Cesu8 c (omega arith) (λ mutf8. absurd (cc))))
-grows_one Mutf8 c ascii (inl null) =
-    grows_from Mutf8 c _ _ (utf8_of_one c ascii) (encoding_one Mutf8 c ascii ∙ short_form_null c null)
-    (rw null refl)
-grows_one Mutf8 c ascii (inr not_null) =
-    grows_from Mutf8 c _ _ (utf8_of_one c ascii)
-    (encoding_one Mutf8 c ascii ∙ short_form_other Mutf8 c not_null)
-    (omega (arith, sum_by-cons (growth_of Mutf8) c [], stays Mutf8 c (omega arith) (λ _. not_null)))
+grows_one f c ascii h2 = grind (arith, encoding_one, grows_from, short_form_null, short_form_other, stays, sum_by-cons, utf8_of_one)
 
 grows_by : (f : Flavor) (c : ℕ) → Shape c → Grows f c
 grows_by f c (one ascii) = grows_one f c ascii (cases_eq c 0)
@@ -107,9 +98,4 @@ pub record LengthByBytes (f : Flavor) (text bytes : List ℕ) : Type 0 where
   pub most : length (encoding f (chars text)) ≤ 2 * length bytes
 
 pub length_by_bytes : (f : Flavor) (text bytes : List ℕ) → bytes ≡ text → IsUtf8 text → LengthByBytes f text bytes
-length_by_bytes f text bytes same is_utf8 =
-    let of_chars = IsUtf8Of_chars text is_utf8 in
-    subst (LengthByBytes f text) (of_chars.1 ∙ sym same) (record {
-      sum = sym (length_encoding f (chars text) of_chars.0);
-      most = (length_bounds f (chars text) of_chars.0).high;
-    })
+length_by_bytes f text bytes same is_utf8 = grind (arith, IsUtf8Of_chars, length_bounds, length_encoding)

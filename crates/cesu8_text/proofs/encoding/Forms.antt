@@ -25,11 +25,7 @@ form_two f c x y digits =
 pub form_three : (f : Flavor) (c x y z : ℕ) → IsThree c x y z →
     form f c ≡ (0xE0 + x) ∷ (0x80 + y) ∷ (0x80 + z) ∷ []
 unfolding form
-form_three f c x y z digits =
-    let e0 : c / 0x1000 ≡ x = omega arith in
-    let e1 : c / 0x40 % 0x40 ≡ y = omega arith in
-    let e2 : c % 0x40 ≡ z = omega arith in
-    rw (le-ltb c 0x80 (omega arith), le-ltb c 0x800 (omega arith), e0, e1, e2) refl
+form_three f c x y z digits = grind (arith, le-ltb)
 
 -- A code unit of at most FFFF (hexadecimal) and at least 800 has the digits of a three-byte form.
 three_digits : (u x y z : ℕ) → u ≡ x * 0x1000 + y * 0x40 + z → 0x800 ≤ u → x < 0x10 → y < 0x40 → z < 0x40 → IsThree u x y z

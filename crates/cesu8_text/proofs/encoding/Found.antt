@@ -1,6 +1,7 @@
 -- Bytes that look like an encoded character begin with one.
+use Rattle.std.proofs.lemmas.Bool.Decides.{nat_tests}
 use Rattle.std.proofs.Common.{◌≡◌, ℕ, ◌+◌, ◌-◌, ◌<◌, ◌≤◌, List, [], ◌∷◌, ◌++◌, refl, sym, ap, ◌∙◌, subst, inl, inr, ⊎_elim, arith, length, drop, get_or}
-use Rattle.std.proofs.lemmas.Bool.{cases_eq, cases_lt}
+use Rattle.std.proofs.lemmas.Bool.{cases_eq}
 use Rattle.std.proofs.Math.Seq.{drop-append_seam}
 use Rattle.cesu8_text.specs.Text.{IsScalarValue, utf8_of}
 use Rattle.cesu8_text.specs.Encoding.{Flavor, Mutf8, encoding, short_form}
@@ -26,13 +27,7 @@ rest_is f bytes m n found =
 -- a character whose encoding and UTF-8 are these bytes
 unchanged : (f : Flavor) (c n : ℕ) (bytes front : List ℕ) → IsScalarValue c → bytes ≡ front ++ drop n bytes →
     length front ≡ n → encoding f (c ∷ []) ≡ front → utf8_of c ≡ front → BeginsInLengths f bytes n n
-unchanged f c n bytes front scalar split long encoded in_utf8 = record {
-  character = c;
-  rest = drop n bytes;
-  begins = record { scalar = scalar; bytes_are = split ∙ ap (λ bs. bs ++ drop n bytes) (sym encoded) };
-  encoded = ap length encoded ∙ long;
-  in_utf8 = ap length in_utf8 ∙ long;
-}
+unchanged f c n bytes front scalar split long encoded in_utf8 = grind arith
 
 -- A byte below 80 (hexadecimal) that is its own short form is a character.
 pub found_one : (f : Flavor) (bytes : List ℕ) → 0 < length bytes → get_or bytes 0 0 < 0x80 →
@@ -90,11 +85,7 @@ low_of_three a b d low middle needs_three =
 
 scalar_of_three : (a b d : ℕ) → 0xE0 ≤ a → a < 0xF0 → IsContinuation b → IsContinuation d → (a ≡ 0xED → b < 0xA0) →
     IsScalarValue (three_byte_value a b d)
-scalar_of_three a b d low high middle last no_surrogate =
-    ⊎_elim (λ (below : a < 0xED). inl (omega (arith, middle.1, last.1)))
-    (λ (above : 0xED ≤ a). ⊎_elim (λ same. inl (omega (arith, no_surrogate same, last.1)))
-    (λ differs. inr (omega (arith, middle.0), omega (arith, middle.1, last.1))) (cases_eq a 0xED))
-    (cases_lt a 0xED)
+scalar_of_three a b d low high middle last no_surrogate = grind (arith, nat_tests)
 
 -- A lead byte of three and two continuation bytes are a character that needs three and is no surrogate.
 pub found_three : (f : Flavor) (bytes : List ℕ) → 3 ≤ length bytes → 0xE0 ≤ get_or bytes 0 0 → get_or bytes 0 0 < 0xF0 →

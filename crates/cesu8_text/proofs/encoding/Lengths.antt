@@ -1,5 +1,7 @@
 -- How long an encoding is, against UTF-8, and when it is the UTF-8.
-use Rattle.std.proofs.Common.{◌≡◌, ℕ, ◌+◌, ◌*◌, ◌<◌, ◌≤◌, ◌⊎◌, List, [], ◌∷◌, refl, sym, ap, ◌∙◌, inl, inr, arith, length, length-append}
+use Rattle.std.proofs.lemmas.Bool.Decides.{nat_tests}
+use Rattle.std.proofs.lemmas.Grind.{common_steps}
+use Rattle.std.proofs.Common.{◌≡◌, ℕ, ◌*◌, ◌<◌, ◌≤◌, ◌⊎◌, List, [], ◌∷◌, sym, ap, ◌∙◌, inl, inr, arith, length}
 use Rattle.std.specs.Str.{chars, IsUtf8}
 use Rattle.std.proofs.lemmas.Bool.{cases_eq}
 use Rattle.cesu8_text.specs.Text.{IsScalarValue, IsText, utf8_of, utf8}
@@ -27,16 +29,7 @@ otherwise Cesu8 c h = h
 otherwise Mutf8 c h = inr h
 
 change_one : (f : Flavor) (c : ℕ) → c < 0x80 → (c ≡ 0) ⊎ (c ≡ 0 → ⊥) → Change f c
-change_one Cesu8 c ascii _ =
-    same (λ high. omega arith) (encoding_one Cesu8 c ascii ∙ sym (utf8_of_one c ascii))
-change_one Mutf8 c ascii (inl null) =
-    let utf : length (utf8_of c) ≡ 1 = ap length (utf8_of_one c ascii) in
-    let long : length (encoding Mutf8 (c ∷ [])) ≡ 2 =
-    ap length (encoding_one Mutf8 c ascii ∙ short_form_null c null) in
-    longer (inl null) (omega arith) (omega arith)
-change_one Mutf8 c ascii (inr not_null) =
-    same (not_otherwise Mutf8 c (omega arith) (omega arith))
-    (encoding_one Mutf8 c ascii ∙ short_form_other Mutf8 c not_null ∙ sym (utf8_of_one c ascii))
+change_one f c ascii h2 = grind (arith, encoding_one, not_otherwise, short_form_null, short_form_other, utf8_of_one)
 
 change_by : (f : Flavor) (c : ℕ) → Shape c → Change f c
 change_by f c (one ascii) = change_one f c ascii (cases_eq c 0)
@@ -61,16 +54,7 @@ pub record LengthBounds (f : Flavor) (text : List ℕ) : Type 0 where
   pub high : length (encoding f text) ≤ 2 * length (utf8 text)
 
 length_bounds_cons : (f : Flavor) (c : ℕ) (text : List ℕ) → Change f c → LengthBounds f text → LengthBounds f (c ∷ text)
-length_bounds_cons f c text (same _ encoded) bounds =
-    let sum : length (encoding f (c ∷ text)) ≡ length (utf8_of c) + length (encoding f text) =
-    ap length (rw (encoding_cons f c text, encoded) refl) ∙ length-append (utf8_of c) (encoding f text) in
-    let sum' : length (utf8 (c ∷ text)) ≡ length (utf8_of c) + length (utf8 text) = length-append (utf8_of c) (utf8 text) in
-    record { low = omega arith; high = omega arith }
-length_bounds_cons f c text (longer _ low high) bounds =
-    let sum : length (encoding f (c ∷ text)) ≡ length (encoding f (c ∷ [])) + length (encoding f text) =
-    ap length (encoding_cons f c text) ∙ length-append (encoding f (c ∷ [])) (encoding f text) in
-    let sum' : length (utf8 (c ∷ text)) ≡ length (utf8_of c) + length (utf8 text) = length-append (utf8_of c) (utf8 text) in
-    record { low = omega arith; high = omega arith }
+length_bounds_cons f c text h1 bounds = grind (arith, nat_tests, common_steps, encoding_cons)
 
 -- Each text has an encoding within these bounds.
 pub length_bounds : (f : Flavor) (text : List ℕ) → IsText text → LengthBounds f text

@@ -1,11 +1,13 @@
 -- When a text needs encoding: by its UTF-8, and by its encoding.
-use Rattle.std.proofs.Common.{◌≡◌, ◌≢◌, ℕ, ◌+◌, ◌*◌, ◌/◌, ◌%◌, ◌<◌, ◌≤◌, ◌⊎◌, ◌↔◌, List, [], ◌∷◌, refl, ap, ◌∙◌, subst, inl, inr, ⊎_elim, arith, length, length-append}
+use Rattle.std.proofs.lemmas.Bool.Decides.{nat_tests}
+use Rattle.std.proofs.lemmas.Grind.{common_steps}
+use Rattle.std.proofs.Common.{◌≡◌, ◌≢◌, ℕ, ◌+◌, ◌*◌, ◌/◌, ◌%◌, ◌<◌, ◌≤◌, ◌⊎◌, ◌↔◌, List, [], ◌∷◌, refl, ap, ◌∙◌, subst, inl, inr, ⊎_elim, arith, length}
 use Rattle.std.specs.Str.{chars, IsUtf8}
 use Rattle.std.specs.List.{Any}
-use Rattle.std.proofs.lemmas.Bool.{and_parts, and_from, le-leb, leb-true, eqb-true, eq-eqb, or_cases, or_left, or_right}
+use Rattle.std.proofs.lemmas.Bool.{and_parts, and_from, le-leb, leb-true, eqb-true, or_cases, or_right}
 use Rattle.cesu8_text.specs.Text.{IsText, utf8_of, utf8}
 use Rattle.cesu8_text.specs.Encoding.{Flavor, Cesu8, Mutf8, encoding, IsEncodedOtherwise, NeedsEncoding}
-use Rattle.cesu8_text.specs.Class.{IsFour, IsNullFour}
+use Rattle.cesu8_text.specs.Class.{IsFour}
 pub use Rattle.cesu8_text.specs.Class.{IsChangedByte}
 use Rattle.cesu8_text.proofs.StdUtf8.{IsUtf8Of_chars}
 use Rattle.cesu8_text.proofs.text.Shapes.{Shape, one, two, three, pair, shape, utf8_of_one, utf8_of_two, utf8_of_three, utf8_of_pair}
@@ -34,16 +36,7 @@ neither : (P Q : Type 0) → (P → ⊥) → (Q → ⊥) → P ↔ Q
 neither P Q not_p not_q = ((λ p. absurd (not_p p)), (λ q. absurd (not_q q)))
 
 shows_one : (f : Flavor) (c : ℕ) → c < 0x80 → Any (IsChangedByte f) (c ∷ []) ↔ IsEncodedOtherwise f c
-shows_one Cesu8 c ascii =
-    neither _ _ (none_cons _ c [] (not_four c (omega arith)) (any_nil _)) (λ high. omega arith)
-shows_one Mutf8 c ascii = (
-  (λ changed. ⊎_elim
-      (λ here. ⊎_elim (λ null. inl (eqb-true c 0 null)) (λ four. absurd (not_four c (omega arith) four))
-      (or_cases _ _ here))
-      (λ there. absurd (any_nil IsNullFour there)) (any_cons IsNullFour c [] changed)),
-  (λ otherwise. any_here IsNullFour c []
-      (⊎_elim (λ null. or_left _ _ (eq-eqb c 0 null)) (λ high. absurd (omega arith)) otherwise)),
-)
+shows_one f c ascii = grind (arith, nat_tests)
 
 none_of_two : (f : Flavor) (a b : ℕ) → 0 < a → a < 0xF0 → 0 < b → b < 0xF0 → Any (IsChangedByte f) (a ∷ b ∷ []) → ⊥
 none_of_two f a b a_some a_low b_some b_low =
@@ -97,12 +90,7 @@ encoding_same f (c ∷ text) is_text no_need =
 encoding_longer_by : (f : Flavor) (c : ℕ) (text : List ℕ) → Change f c → LengthBounds f text →
     IsEncodedOtherwise f c ⊎ (length (utf8 text) < length (encoding f text)) →
     length (utf8 (c ∷ text)) < length (encoding f (c ∷ text))
-encoding_longer_by f c text (same usual encoded) bounds (inl otherwise) = absurd (usual otherwise)
-encoding_longer_by f c text (same usual encoded) bounds (inr more) =
-    rw (encoding_cons f c text, encoded, length-append (utf8_of c) (encoding f text), length-append (utf8_of c) (utf8 text)) (omega arith)
-encoding_longer_by f c text (longer otherwise more _) bounds _ =
-    rw (encoding_cons f c text, length-append (encoding f (c ∷ [])) (encoding f text), length-append (utf8_of c) (utf8 text))
-    (omega (arith, bounds.low))
+encoding_longer_by f c text h1 bounds h3 = grind (arith, nat_tests, common_steps, encoding_cons, longer, otherwise, same)
 
 -- The encoding of a text that needs it is longer than the UTF-8.
 pub encoding_longer : (f : Flavor) (text : List ℕ) → IsText text → NeedsEncoding f text →

@@ -1,8 +1,8 @@
 -- The byte patterns of encoded characters: what bytes that begin with one look like.
-use Rattle.std.proofs.Common.{◌≡◌, ℕ, ◌+◌, ◌<◌, ◌≤◌, ◌⊎◌, List, [], ◌∷◌, ◌++◌, refl, ap, ◌∙◌, inl, inr, arith, length, get_or}
+use Rattle.std.proofs.Common.{◌≡◌, ℕ, ◌+◌, ◌<◌, ◌≤◌, ◌⊎◌, List, [], ◌∷◌, ◌++◌, ap, ◌∙◌, inl, inr, arith, length, get_or}
 use Rattle.std.proofs.lemmas.Bool.{cases_eq}
 use Rattle.cesu8_text.specs.Text.{IsScalarValue}
-use Rattle.cesu8_text.specs.Encoding.{Flavor, Cesu8, Mutf8, encoding}
+use Rattle.cesu8_text.specs.Encoding.{Flavor, Mutf8, encoding}
 use Rattle.cesu8_text.specs.Reading.{BeginsWith}
 use Rattle.cesu8_text.proofs.text.Shapes.{IsTwo, IsThree, IsPair, Shape, one, two, three, pair, shape}
 use Rattle.cesu8_text.proofs.encoding.Forms.{encoding_one, encoding_two, encoding_three, encoding_pair, short_form_null, short_form_other}
@@ -30,15 +30,7 @@ at i bytes bytes' same = ap (λ bs. get_or bs i 0) same
 -- by the number of bytes, where e says what the bytes are
 by_one : (f : Flavor) (bytes rest : List ℕ) (c : ℕ) → c < 0x80 → bytes ≡ encoding f (c ∷ []) ++ rest →
     (c ≡ 0) ⊎ (c ≡ 0 → ⊥) → Pattern f bytes c
-by_one Cesu8 bytes rest c ascii bytes_are _ =
-    of_one (at 0 bytes _ (bytes_are ∙ ap (λ bs. bs ++ rest) (encoding_one Cesu8 c ascii))) ascii
-    (λ mutf8. absurd (cc))
-by_one Mutf8 bytes rest c ascii bytes_are (inl null) =
-    let same = bytes_are ∙ ap (λ bs. bs ++ rest) (encoding_one Mutf8 c ascii ∙ short_form_null c null) in
-    of_null refl null (at 0 bytes _ same) (at 1 bytes _ same) (omega (arith, ap length same))
-by_one Mutf8 bytes rest c ascii bytes_are (inr not_null) =
-    let same = bytes_are ∙ ap (λ bs. bs ++ rest) (encoding_one Mutf8 c ascii ∙ short_form_other Mutf8 c not_null) in
-    of_one (at 0 bytes _ same) ascii (λ mutf8. omega arith)
+by_one f bytes rest c ascii bytes_are h3 = grind (arith, at, encoding_one, short_form_null, short_form_other)
 
 pattern_by_shape : (f : Flavor) (bytes rest : List ℕ) (c : ℕ) → IsScalarValue c → Shape c →
     bytes ≡ encoding f (c ∷ []) ++ rest → Pattern f bytes c

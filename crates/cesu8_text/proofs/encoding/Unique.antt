@@ -1,11 +1,11 @@
 -- Bytes begin with one encoded character at most, and are the encoding of one text at most.
-use Rattle.std.proofs.Common.{◌≡◌, ℕ, ◌+◌, ◌<◌, ◌&&◌, List, [], ◌∷◌, ◌++◌, refl, sym, ap, ◌∙◌, false, ⊎_elim, arith, cond, eqb, ltb, leb, length, get_or, append_assoc, length-append}
-use Rattle.std.proofs.lemmas.Bool.{lt-ltb, le-ltb, le-leb, eq-eqb, and_from, and_left, and_right, ne_eqb, lt-leb, cases_eq}
+use Rattle.std.proofs.lemmas.Bool.Decides.{nat_tests}
+use Rattle.std.proofs.Common.{◌≡◌, ℕ, ◌<◌, ◌&&◌, List, [], ◌∷◌, ◌++◌, refl, sym, ap, ◌∙◌, arith, cond, eqb, ltb, leb, length, get_or, append_assoc, length-append}
 use Rattle.std.proofs.lemmas.List.{append_cancel_left}
 use Rattle.cesu8_text.specs.Text.{IsScalarValue, IsText}
 use Rattle.cesu8_text.specs.Encoding.{Flavor, encoding}
 use Rattle.cesu8_text.specs.Reading.{NoneBegins, BeginsWith, IsStrictReading, HasNoStrictReading, two_byte_value, three_byte_value, pair_value}
-use Rattle.cesu8_text.proofs.encoding.Patterns.{Pattern, of_one, of_null, of_two, of_three, of_pair, pattern}
+use Rattle.cesu8_text.proofs.encoding.Patterns.{Pattern, pattern}
 use Rattle.cesu8_text.proofs.encoding.Encodings.{encoding_nil, encoding_cons}
 use Rattle.cesu8_text.proofs.encoding.Lengths.{length_of_character}
 
@@ -18,29 +18,9 @@ value bytes =
     (pair_value (get_or bytes 1 0) (get_or bytes 2 0) (get_or bytes 4 0) (get_or bytes 5 0))
     (three_byte_value (get_or bytes 0 0) (get_or bytes 1 0) (get_or bytes 2 0))))
 
-no_pair : (a b x y : ℕ) → a ≡ 0xE0 + x → b ≡ 0x80 + y → (x ≡ 0x0D → y < 0x20) → (eqb a 0xED && leb 0xA0 b) ≡ false
-no_pair a b x y first second no_surrogate =
-    ⊎_elim (λ same. and_right (eqb a 0xED) (leb 0xA0 b) (lt-leb 0xA0 b (omega (arith, no_surrogate (omega arith)))))
-    (λ differs. and_left (eqb a 0xED) (leb 0xA0 b) (ne_eqb a 0xED differs)) (cases_eq a 0xED)
-
 has_value : (f : Flavor) (bytes : List ℕ) (c : ℕ) → Pattern f bytes c → value bytes ≡ c
 unfolding value
-has_value f bytes c (of_one first ascii _) = rw (lt-ltb (get_or bytes 0 0) 0x80 (omega arith)) first
-has_value f bytes c (of_null _ null first second _) = rw (first, second) (sym null)
-has_value f bytes c (of_two x y digits first second _) =
-    rw (le-ltb (get_or bytes 0 0) 0x80 (omega arith), lt-ltb (get_or bytes 0 0) 0xE0 (omega arith)) (omega arith)
-has_value f bytes c (of_three x y z digits no_surrogate first second third _) =
-    rw (
-      le-ltb (get_or bytes 0 0) 0x80 (omega arith),
-      le-ltb (get_or bytes 0 0) 0xE0 (omega arith),
-      no_pair (get_or bytes 0 0) (get_or bytes 1 0) x y first second no_surrogate,
-    ) (omega arith)
-has_value f bytes c (of_pair w x y z digits first second third fourth fifth sixth _) =
-    rw (
-      le-ltb (get_or bytes 0 0) 0x80 (omega arith),
-      le-ltb (get_or bytes 0 0) 0xE0 (omega arith),
-      and_from _ _ (eq-eqb (get_or bytes 0 0) 0xED first) (le-leb 0xA0 (get_or bytes 1 0) (omega arith)),
-    ) (omega arith)
+has_value f bytes c h1 = grind (arith, nat_tests)
 
 -- One character at most begins the bytes, and what follows it is one too.
 pub same_character : (f : Flavor) (bytes : List ℕ) (c d : ℕ) (r q : List ℕ) → BeginsWith f bytes c r → BeginsWith f bytes d q →

@@ -4,7 +4,7 @@ use Rattle.std.specs.Ordering.{MatchOrdering, ordering_then, nat_cmp}
 use Rattle.std.specs.Cmp.{nat_cmp_is, one_rank}
 use Rattle.std.specs.Cmp.Lexicographic.{slice_cmp}
 use Rattle.std.proofs.lemmas.Bool.{cases_order}
-use Rattle.cesu8_text.specs.Order.{IsBelow, ExactlyOne, ComparesAs}
+use Rattle.cesu8_text.specs.Order.{IsBelow, ComparesAs}
 use Rattle.cesu8_text.specs.Laws.{Trichotomy, Transitivity, SliceOrder}
 
 -- No list is below itself.
@@ -47,46 +47,12 @@ compared (x ∷ xs) (y ∷ ys) = by (cases_order x y) (compared xs ys)
 
 -- Exactly one of the three holds.
 pub trichotomy : Trichotomy
-trichotomy xs ys = by (compared xs ys)
-  where
-    by : IsBelow xs ys ⊎ ((xs ≡ ys) ⊎ IsBelow ys xs) → ExactlyOne (IsBelow xs ys) (xs ≡ ys) (IsBelow ys xs)
-    by (inl below) = inl (
-      below,
-      (λ equal. not_below_equal xs ys equal below),
-      (λ above. not_below_itself xs (transitive xs ys xs below above)),
-    )
-    by (inr (inl equal)) = inr (inl (
-      (λ below. not_below_equal xs ys equal below),
-      equal,
-      (λ above. not_below_equal ys xs (sym equal) above),
-    ))
-    by (inr (inr above)) = inr (inr (
-      (λ below. not_below_itself xs (transitive xs ys xs below above)),
-      (λ equal. not_below_equal ys xs (sym equal) above),
-      above,
-    ))
+trichotomy = grind (arith, compared, not_below_equal, not_below_itself, transitive)
 
 -- Where two lists are below, equal and above as two others are, they compare as those do.
 pub compares_as : (xs ys us vs : List ℕ) → (IsBelow us vs → IsBelow xs ys) → (us ≡ vs → xs ≡ ys) → (IsBelow vs us → IsBelow ys xs) →
     ComparesAs xs ys us vs
-compares_as xs ys us vs below equal above = by (compared us vs)
-  where
-    by : IsBelow us vs ⊎ ((us ≡ vs) ⊎ IsBelow vs us) → ComparesAs xs ys us vs
-    by (inl less) = (
-      ((λ _. less), below),
-      ((λ same. absurd (not_below_equal xs ys same (below less))), equal),
-      ((λ greater. absurd (not_below_itself xs (transitive xs ys xs (below less) greater))), above),
-    )
-    by (inr (inl same)) = (
-      ((λ less. absurd (not_below_equal xs ys (equal same) less)), below),
-      ((λ _. same), equal),
-      ((λ greater. absurd (not_below_equal ys xs (sym (equal same)) greater)), above),
-    )
-    by (inr (inr greater)) = (
-      ((λ less. absurd (not_below_itself xs (transitive xs ys xs less (above greater)))), below),
-      ((λ same. absurd (not_below_equal ys xs (sym same) (above greater))), equal),
-      ((λ _. greater), above),
-    )
+compares_as xs ys us vs below equal above = grind (arith, compared, not_below_equal, not_below_itself, transitive)
 
 -- What follows a common prefix decides.
 pub below_after : (front xs ys : List ℕ) → IsBelow xs ys → IsBelow (front ++ xs) (front ++ ys)

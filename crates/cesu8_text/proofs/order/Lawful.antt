@@ -17,11 +17,7 @@ use Rattle.cesu8_text.proofs.encoding.Unique.{encoding_injective}
 
 -- the text of an encoding is the one that was encoded
 pub round_trip_law : RoundTrip
-round_trip_law f text is_text = (
-  (is_text, refl),
-  (λ other reads. sym (encoding_injective f text other is_text reads.0 (sym reads.1))),
-  (λ other reads same. encoding_injective f text other is_text reads same),
-)
+round_trip_law = grind (arith, encoding_injective)
 
 -- the characters of a string are a text,
 pub chars_are_text_law : CharsAreText

@@ -47,43 +47,7 @@ below_at xs ys us vs same other_same below =
 
 precedes_by : (c d : ℕ) (us vs : List ℕ) → IsScalarValue c → IsScalarValue d → c ≢ d →
     (c < 0x10000) ⊎ (0x10000 ≤ c) → (d < 0x10000) ⊎ (0x10000 ≤ d) → IsBelow (units_of c ++ us) (units_of d ++ vs) → Precedes c d
-precedes_by c d us vs scalar other_scalar differ (inl low) (inl other_low) below =
-    by (below_at (units_of c ++ us) (units_of d ++ vs) (c ∷ us) (d ∷ vs) (rw (units_of_low c low) refl) (rw (units_of_low d other_low) refl) below)
-  where
-    by : (c < d) ⊎ ((c ≡ d) × IsBelow us vs) → Precedes c d
-    by (inl smaller) = less smaller (inr (inl other_low))
-    by (inr same) = absurd (differ same.0)
-precedes_by c d us vs scalar other_scalar differ (inl low) (inr high) below =
-    let h = 0xD800 + (d - 0x10000) / 0x400 in
-    let l = 0xDC00 + (d - 0x10000) % 0x400 in
-    by h l (omega (arith, other_scalar)) (below_at (units_of c ++ us) (units_of d ++ vs) (c ∷ us) (h ∷ l ∷ vs) (rw (units_of_low c low) refl) (rw (units_of_high d high) refl) below)
-  where
-    by : (h l : ℕ) → h < 0xDC00 → (c < h) ⊎ ((c ≡ h) × IsBelow us (l ∷ vs)) → Precedes c d
-    by h l surrogate (inl smaller) = less (omega arith) (inl (omega arith))
-    by h l surrogate (inr same) = less (omega arith) (inl (omega (arith, same.0)))
-precedes_by c d us vs scalar other_scalar differ (inr high) (inl other_low) below =
-    let h = 0xD800 + (c - 0x10000) / 0x400 in
-    let l = 0xDC00 + (c - 0x10000) % 0x400 in
-    by h l (omega arith) (below_at (units_of c ++ us) (units_of d ++ vs) (h ∷ l ∷ us) (d ∷ vs) (rw (units_of_high c high) refl) (rw (units_of_low d other_low) refl) below) other_scalar
-  where
-    by : (h l : ℕ) → 0xD800 ≤ h → (h < d) ⊎ ((h ≡ d) × IsBelow (l ∷ us) vs) → IsScalarValue d → Precedes c d
-    by h l surrogate (inl smaller) (inl under) = absurd (omega arith)
-    by h l surrogate (inr same) (inl under) = absurd (omega (arith, same.0))
-    by h l surrogate _ (inr over) = above high over.0 other_low
-precedes_by c d us vs scalar other_scalar differ (inr high) (inr other_high) below =
-    let h = 0xD800 + (c - 0x10000) / 0x400 in
-    let l = 0xDC00 + (c - 0x10000) % 0x400 in
-    let h' = 0xD800 + (d - 0x10000) / 0x400 in
-    let l' = 0xDC00 + (d - 0x10000) % 0x400 in
-    by (below_at (units_of c ++ us) (units_of d ++ vs) (h ∷ l ∷ us) (h' ∷ l' ∷ vs) (rw (units_of_high c high) refl) (rw (units_of_high d other_high) refl) below)
-  where
-    by : (0xD800 + (c - 0x10000) / 0x400 < 0xD800 + (d - 0x10000) / 0x400)
-        ⊎ ((0xD800 + (c - 0x10000) / 0x400 ≡ 0xD800 + (d - 0x10000) / 0x400)
-        × ((0xDC00 + (c - 0x10000) % 0x400 < 0xDC00 + (d - 0x10000) % 0x400) ⊎ ((0xDC00 + (c - 0x10000) % 0x400 ≡ 0xDC00 + (d - 0x10000) % 0x400) × IsBelow us vs)))
-        → Precedes c d
-    by (inl smaller) = less (omega arith) (inr (inr high))
-    by (inr (same, inl smaller)) = less (omega arith) (inr (inr high))
-    by (inr (same, inr (also, _))) = absurd (differ (omega arith))
+precedes_by c d us vs scalar other_scalar differ h4 h5 below = grind (arith, below_at, units_of_high, units_of_low)
 
 -- ---- the bytes of two characters
 
@@ -222,12 +186,7 @@ same_units s t is_text other_is_text same =
 
 -- So the ranks compare as the code units.
 rank_order : (s t : List ℕ) → IsText s → IsText t → slice_cmp nat_cmp (ranks (utf8 s)) (ranks (utf8 t)) ≡ slice_cmp nat_cmp (units s) (units t)
-rank_order s t is_text other_is_text =
-    same_answer (ranks (utf8 s)) (ranks (utf8 t)) (units s) (units t)
-    (compares_as (ranks (utf8 s)) (ranks (utf8 t)) (units s) (units t)
-    (ranks_below s t is_text other_is_text)
-    (λ same. ap (λ text. ranks (utf8 text)) (same_units s t is_text other_is_text same))
-    (ranks_below t s other_is_text is_text))
+rank_order s t is_text other_is_text = grind (arith, compares_as, ranks_below, same_answer, same_units)
 
 -- The same of the texts that std's UTF-8 has, by its bytes.
 pub rank_order_by_bytes : (text other bytes other_bytes : List ℕ) → bytes ≡ text → other_bytes ≡ other → IsUtf8 text → IsUtf8 other →

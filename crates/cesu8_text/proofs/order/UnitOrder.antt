@@ -1,5 +1,5 @@
 -- Encodings compare as the code units do.
-use Rattle.std.proofs.Common.{◌≡◌, ◌≢◌, ℕ, ◌+◌, ◌/◌, ◌%◌, ◌<◌, ◌≤◌, ◌⊎◌, List, [], ◌∷◌, ◌++◌, refl, ap, ◌∙◌, subst, inl, inr, ⊎_elim, arith}
+use Rattle.std.proofs.Common.{◌≡◌, ◌≢◌, ℕ, ◌+◌, ◌/◌, ◌%◌, ◌<◌, ◌≤◌, ◌⊎◌, List, [], ◌∷◌, ◌++◌, refl, ap, ◌∙◌, subst, inl, inr, arith}
 use Rattle.std.specs.List.{All, flat_map}
 use Rattle.std.proofs.lemmas.List.Elements.{All-head, All-tail}
 use Rattle.std.proofs.lemmas.Bool.{cases_lt}
@@ -54,23 +54,7 @@ written f u ordered = by (cases_lt u 0x80) (cases_lt u 0x800)
 
 -- The form of the smaller code unit is below, whatever follows.
 form_below : (f : Flavor) (u v : ℕ) (us vs : List ℕ) → u < v → Written f u → Written f v → IsBelow (form f u ++ us) (form f v ++ vs)
-form_below f u v us vs less (in_one low u_is) (in_one low' v_is) = rw (u_is, v_is) (inl less)
-form_below f u v us vs less (in_one low u_is) (in_two x y digits v_is) = rw (u_is, v_is) (inl (omega arith))
-form_below f u v us vs less (in_one low u_is) (in_three x y z digits v_is) =
-    rw (u_is, v_is) (inl (omega arith))
-form_below f u v us vs less (in_two x y digits u_is) (in_one low v_is) = absurd (omega arith)
-form_below f u v us vs less (in_two x y digits u_is) (in_two x' y' digits' v_is) =
-    rw (u_is, v_is)
-    (⊎_elim (λ below. inl (omega arith)) (λ level. inr (omega arith, inl (omega arith))) (cases_lt x x'))
-form_below f u v us vs less (in_two x y digits u_is) (in_three x' y' z' digits' v_is) =
-    rw (u_is, v_is) (inl (omega arith))
-form_below f u v us vs less (in_three x y z digits u_is) (in_one low v_is) = absurd (omega arith)
-form_below f u v us vs less (in_three x y z digits u_is) (in_two x' y' digits' v_is) = absurd (omega arith)
-form_below f u v us vs less (in_three x y z digits u_is) (in_three x' y' z' digits' v_is) =
-    rw (u_is, v_is) (⊎_elim (λ below. inl (omega arith))
-    (λ level. ⊎_elim (λ below. inr (omega arith, inl (omega arith)))
-    (λ level'. inr (omega arith, inr (omega arith, inl (omega arith)))) (cases_lt y y'))
-    (cases_lt x x'))
+form_below f u v us vs less h2 h3 = grind (arith, cases_lt)
 
 -- no form is empty
 below_form : (f : Flavor) (v : ℕ) (vs : List ℕ) → Written f v → IsBelow [] (form f v ++ vs)

@@ -1,5 +1,7 @@
 -- No encoded character begins inside another.
-use Rattle.std.proofs.Common.{◌≡◌, ℕ, suc, zero, ◌<◌, ◌≤◌, ◌⊎◌, List, refl, sym, ap, ◌∙◌, subst, inl, inr, arith, length, drop, get_or, get_or-drop, add-zero, add-one}
+use Rattle.std.proofs.lemmas.Bool.Decides.{nat_tests}
+use Rattle.std.proofs.lemmas.Grind.{common_steps}
+use Rattle.std.proofs.Common.{◌≡◌, ℕ, suc, zero, ◌<◌, ◌≤◌, ◌⊎◌, List, refl, sym, ap, ◌∙◌, subst, inl, inr, arith, length, drop, get_or}
 use Rattle.cesu8_text.specs.Encoding.{Flavor, Cesu8, Mutf8}
 use Rattle.cesu8_text.specs.Reading.{BeginsWith, StandsAt, width}
 use Rattle.cesu8_text.specs.Patterns.{IsContinuation}
@@ -12,20 +14,7 @@ IsInner bytes j = IsContinuation (get_or bytes j 0) ⊎ ((get_or bytes j 0 ≡ 0
 
 -- no pattern begins with one
 inner_begins_none : (f : Flavor) (bytes : List ℕ) (c : ℕ) → IsInner bytes 0 → Pattern f bytes c → ⊥
-inner_begins_none f bytes c (inl continuation) (of_one first ascii _) = omega (arith, continuation.0)
-inner_begins_none f bytes c (inl continuation) (of_null _ _ first _ _) = omega (arith, continuation.1)
-inner_begins_none f bytes c (inl continuation) (of_two x y digits first _ _) = omega (arith, continuation.1)
-inner_begins_none f bytes c (inl continuation) (of_three x y z digits _ first _ _ _) =
-    omega (arith, continuation.1)
-inner_begins_none f bytes c (inl continuation) (of_pair w x y z digits first _ _ _ _ _ _) =
-    omega (arith, continuation.1)
-inner_begins_none f bytes c (inr surrogate) (of_one first ascii _) = omega (arith, surrogate.0)
-inner_begins_none f bytes c (inr surrogate) (of_null _ _ first _ _) = omega (arith, surrogate.0)
-inner_begins_none f bytes c (inr surrogate) (of_two x y digits first _ _) = omega (arith, surrogate.0)
-inner_begins_none f bytes c (inr surrogate) (of_three x y z digits no_surrogate first second _ _) =
-    omega (arith, surrogate.0, surrogate.1, no_surrogate (omega (arith, surrogate.0)))
-inner_begins_none f bytes c (inr surrogate) (of_pair w x y z digits first second _ _ _ _ _) =
-    omega (arith, surrogate.1)
+inner_begins_none f bytes c h1 h2 = grind (arith, nat_tests)
 
 width_one : (f : Flavor) (c : ℕ) → c < 0x80 → (f ≡ Mutf8 → 0 < c) → width f c ≡ 1
 width_one Cesu8 c ascii not_null = ap length (encoding_one Cesu8 c ascii)
@@ -68,12 +57,7 @@ inner_at f bytes c (suc (suc (suc (suc (suc (suc j)))))) (of_pair w x y z digits
     absurd (omega (arith, ap length (encoding_pair f c w x y z digits)))
 
 moved : (bytes : List ℕ) (j : ℕ) → IsInner bytes j → IsInner (drop j bytes) 0
-moved bytes j (inl continuation) = inl (rw (get_or-drop j bytes 0 0, add-zero j) continuation)
-moved bytes j (inr surrogate) =
-    inr (
-      rw (get_or-drop j bytes 0 0, add-zero j) surrogate.0,
-      rw (get_or-drop j bytes 1 0, add-one j) surrogate.1,
-    )
+moved bytes j h1 = grind (arith, common_steps)
 
 -- Where a character stands at the front, none stands at a later offset of its stretch.
 pub none_inside : (f : Flavor) (bytes : List ℕ) (c d j : ℕ) (rest : List ℕ) → BeginsWith f bytes c rest → StandsAt f bytes j d →

@@ -1,5 +1,6 @@
 -- What is known of the texts of bytes, by what a call takes.
-use Rattle.std.proofs.Common.{◌≡◌, ℕ, ◌↔◌, ◌⊎◌, inl, inr, ⊎_elim, List, refl, sym, ap, ◌∙◌, subst}
+use Rattle.std.proofs.Common.{arith}
+use Rattle.std.proofs.Common.{◌≡◌, ℕ, ◌↔◌, ◌⊎◌, inr, ⊎_elim, List, refl, sym, ap, ◌∙◌, subst}
 use Rattle.std.specs.Str.{chars, IsUtf8}
 use Rattle.cesu8_text.specs.Text.{IsUtf8Of}
 use Rattle.cesu8_text.specs.Encoding.{Flavor}
@@ -41,11 +42,7 @@ encoding_texts f bytes = record {
 -- Either the text of bytes that are UTF-8, or of others what else they are read as.
 module _ (bytes text : List ℕ) (P : Type 0) where
   by_chars : IsUtf8 bytes → (IsUtf8Of text bytes ⊎ (((other : List ℕ) → ¬ (IsUtf8Of other bytes)) × P)) ↔ text ≡ chars bytes
-  by_chars is_utf8 =
-      let of_chars = IsUtf8Of_chars bytes is_utf8 in (
-        (λ reads. ⊎_elim (λ of. sym (chars_utf8 text of.0) ∙ ap chars of.1) (λ other. absurd (other.0 (chars bytes) of_chars)) reads),
-        (λ same. inl (subst (λ t. IsUtf8Of t bytes) (sym same) of_chars)),
-      )
+  by_chars is_utf8 = grind (arith, IsUtf8Of_chars, chars_utf8)
 
   by_other : ¬ (IsUtf8 bytes) → (IsUtf8Of text bytes ⊎ (((other : List ℕ) → ¬ (IsUtf8Of other bytes)) × P)) ↔ P
   by_other not_utf8 = (

@@ -31,14 +31,7 @@ none_begins f b bytes high (inr four) = none_by_lead f (b ∷ bytes) high (λ nu
 
 four_add : (f : Flavor) (a b d e : ℕ) (bytes : List ℕ) → 0xF0 ≤ a → 0x80 ≤ b → b < 0xC0 → 0x80 ≤ d → d < 0xC0 → 0x80 ≤ e → e < 0xC0 →
     lossy_length f (a ∷ b ∷ d ∷ e ∷ bytes) ≡ 12 + lossy_length f bytes
-four_add f a b d e bytes lead b_low b_high d_low d_high e_low e_high =
-    omega (
-      arith,
-      lossy_length_replaced f a (b ∷ d ∷ e ∷ bytes) (none_begins f a _ (omega arith) (inr lead)),
-      lossy_length_replaced f b (d ∷ e ∷ bytes) (none_begins f b _ b_low (inl b_high)),
-      lossy_length_replaced f d (e ∷ bytes) (none_begins f d _ d_low (inl d_high)),
-      lossy_length_replaced f e bytes (none_begins f e _ e_low (inl e_high)),
-    )
+four_add f a b d e bytes lead b_low b_high d_low d_high e_low e_high = grind (arith, lossy_length_replaced, none_begins)
 
 -- A scalar value that is encoded otherwise is longer in the reading of its UTF-8, and the others are as long.
 null_longer : (f : Flavor) (c : ℕ) (bytes : List ℕ) → c < 0x80 → IsEncodedOtherwise f c →

@@ -1,22 +1,19 @@
 -- What stands at the front of bytes: the function finds it, and nothing stands inside it.
-use Rattle.std.proofs.Common.{◌≡◌, ℕ, Bool, true, ◌&&◌, ◌⊎◌, List, [], ◌∷◌, ◌++◌, Some, None, cond, sym, ap, ◌∙◌, subst, inl, inr, ⊎_elim, arith, take, drop, eqb, leb, ltb}
+use Rattle.std.proofs.lemmas.Bool.Decides.{nat_tests}
+use Rattle.std.proofs.Common.{◌≡◌, ℕ, Bool, true, ◌&&◌, ◌⊎◌, List, [], ◌∷◌, Some, None, cond, sym, ap, ◌∙◌, subst, inl, inr, ⊎_elim, arith, take, drop, eqb, leb, ltb}
 use Rattle.std.specs.List.{find, starts_with}
 use Rattle.std.proofs.Math.Seq.{take-append_seam}
 use Rattle.std.proofs.lemmas.List.{take-append-drop}
 use Rattle.std.proofs.lemmas.Slice.Eq.{bytes_eq-Decides}
-use Rattle.std.proofs.lemmas.Bool.{and_parts, and_from, or_cases, or_left, or_right, ltb-true, leb-true, lt-ltb, le-leb, cases_Bool}
+use Rattle.std.proofs.lemmas.Bool.{and_parts, and_from, or_left, or_right, lt-ltb, le-leb, cases_Bool}
 use Rattle.cesu8_text.specs.Text.{IsScalarValue}
 use Rattle.cesu8_text.specs.Encoding.{Flavor, encoding}
 use Rattle.cesu8_text.specs.Reading.{BeginsWith, NoneBegins, width, candidates, is_scalar_value, standing}
-use Rattle.cesu8_text.proofs.encoding.Patterns.{Pattern, of_one, of_null, of_two, of_three, of_pair, pattern}
+use Rattle.cesu8_text.proofs.encoding.Patterns.{Pattern, pattern}
 
 -- the two tests say what they are to say
 scalar_from_test : (c : ℕ) → is_scalar_value c ≡ true → IsScalarValue c
-scalar_from_test c passes =
-    ⊎_elim (λ low. inl (ltb-true c 0xD800 low))
-    (λ high. let parts = and_parts (leb 0xE000 c) (ltb c 0x110000) high in
-    inr (leb-true 0xE000 c parts.0, ltb-true c 0x110000 parts.1))
-    (or_cases (ltb c 0xD800) (leb 0xE000 c && ltb c 0x110000) passes)
+scalar_from_test c passes = grind (arith, nat_tests)
 
 test_from_scalar : (c : ℕ) → IsScalarValue c → is_scalar_value c ≡ true
 test_from_scalar c (inl low) = or_left (ltb c 0xD800) _ (lt-ltb c 0xD800 low)
@@ -29,13 +26,7 @@ abbrev begins : Flavor → List ℕ → ℕ → Bool
 begins f bytes c = is_scalar_value c && starts_with eqb bytes (encoding f (c ∷ []))
 
 begins_from_test : (f : Flavor) (bytes : List ℕ) (c : ℕ) → begins f bytes c ≡ true → BeginsWith f bytes c (drop (width f c) bytes)
-begins_from_test f bytes c passes =
-    let parts = and_parts (is_scalar_value c) (starts_with eqb bytes (encoding f (c ∷ []))) passes in
-    let front = (bytes_eq-Decides (encoding f (c ∷ [])) (take (width f c) bytes)).0 parts.1 in
-    record {
-      scalar = scalar_from_test c parts.0;
-      bytes_are = sym (take-append-drop (width f c) bytes) ∙ ap (λ bs. bs ++ drop (width f c) bytes) (sym front);
-    }
+begins_from_test f bytes c passes = grind (arith, and_parts, bytes_eq-Decides, scalar_from_test, take-append-drop)
 
 test_from_begins : (f : Flavor) (bytes : List ℕ) (c : ℕ) (rest : List ℕ) → BeginsWith f bytes c rest → begins f bytes c ≡ true
 test_from_begins f bytes c rest h =
@@ -70,12 +61,7 @@ none_found p (y ∷ ys) nothing x among passes =
 
 -- the character that begins the bytes is among the candidates
 is_candidate : (f : Flavor) (bytes : List ℕ) (c : ℕ) → Pattern f bytes c → Among (candidates bytes) c
-is_candidate f bytes c (of_one first _ _) = inl (sym first)
-is_candidate f bytes c (of_null _ null first second _) = inr (inl (omega arith))
-is_candidate f bytes c (of_two x y digits first second _) = inr (inl (omega arith))
-is_candidate f bytes c (of_three x y z digits _ first second third _) = inr (inr (inl (omega arith)))
-is_candidate f bytes c (of_pair w x y z digits first second third fourth fifth sixth _) =
-    inr (inr (inr (inl (omega arith))))
+is_candidate f bytes c h1 = grind (arith, nat_tests)
 
 -- The character that the function finds begins the bytes.
 pub standing_begins : (f : Flavor) (bytes : List ℕ) (c : ℕ) → standing f bytes ≡ Some c → BeginsWith f bytes c (drop (width f c) bytes)

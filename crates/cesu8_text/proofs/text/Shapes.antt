@@ -1,4 +1,5 @@
 -- How one scalar value is written, with the digits as variables.
+use Rattle.std.proofs.lemmas.Bool.Decides.{nat_tests}
 use Rattle.std.proofs.Common.{◌≡◌, ℕ, ◌+◌, ◌-◌, ◌*◌, ◌/◌, ◌%◌, ◌<◌, ◌≤◌, ◌⊎◌, [], ◌∷◌, refl, inl, inr, arith}
 use Rattle.std.proofs.lemmas.Bool.{lt-ltb, le-ltb, cases_lt}
 use Rattle.cesu8_text.specs.Text.{IsScalarValue, utf8_of}
@@ -33,13 +34,7 @@ below_top c (inr h) = h.1
 -- A scalar value from 10000 (hexadecimal) on has the digits of a surrogate pair.
 pair_digits : (c : ℕ) → 0x10000 ≤ c → c < 0x110000 →
     IsPair c ((c - 0x10000) / 0x10000) ((c - 0x10000) / 0x400 % 0x40) ((c - 0x10000) / 0x40 % 0x10) ((c - 0x10000) % 0x40)
-pair_digits c low high = record {
-  value = omega arith;
-  first = omega arith;
-  second = omega arith;
-  third = omega arith;
-  last = omega arith;
-}
+pair_digits c low high = grind arith
 
 -- Each scalar value has a shape.
 pub shape : (c : ℕ) → IsScalarValue c → Shape c
@@ -73,18 +68,9 @@ utf8_of_two c x y digits =
 
 pub utf8_of_three : (c x y z : ℕ) → IsThree c x y z → utf8_of c ≡ (0xE0 + x) ∷ (0x80 + y) ∷ (0x80 + z) ∷ []
 unfolding utf8_of
-utf8_of_three c x y z digits =
-    let e0 : c / 0x1000 ≡ x = omega arith in
-    let e1 : c / 0x40 % 0x40 ≡ y = omega arith in
-    let e2 : c % 0x40 ≡ z = omega arith in
-    rw (le-ltb c 0x80 (omega arith), le-ltb c 0x800 (omega arith), lt-ltb c 0x10000 (omega arith), e0, e1, e2) refl
+utf8_of_three c x y z digits = grind (arith, nat_tests)
 
 pub utf8_of_pair : (c w x y z : ℕ) → IsPair c w x y z →
     utf8_of c ≡ (0xF0 + (w + 1) / 4) ∷ (0x80 + ((w + 1) % 4 * 0x10 + x / 4)) ∷ (0x80 + (x % 4 * 0x10 + y)) ∷ (0x80 + z) ∷ []
 unfolding utf8_of
-utf8_of_pair c w x y z digits =
-    let e0 : c / 0x40000 ≡ (w + 1) / 4 = omega arith in
-    let e1 : c / 0x1000 % 0x40 ≡ (w + 1) % 4 * 0x10 + x / 4 = omega arith in
-    let e2 : c / 0x40 % 0x40 ≡ x % 4 * 0x10 + y = omega arith in
-    let e3 : c % 0x40 ≡ z = omega arith in
-    rw (le-ltb c 0x80 (omega arith), le-ltb c 0x800 (omega arith), le-ltb c 0x10000 (omega arith), e0, e1, e2, e3) refl
+utf8_of_pair c w x y z digits = grind (arith, le-ltb)
