@@ -4,7 +4,8 @@ use Rattle.cesu8_text.specs.Reading.{NoneBegins, HasNoStrictReading}
 use Rattle.cesu8_text.specs.Encoding.{Flavor}
 use Rattle.cesu8_bytes.specs.declared.strictness.Strictness.{Strictness}
 use Rattle.cesu8_bytes.specs.declared.strictness.Strictness.TheVariants.{Strict, Lossy}
-use Rattle.cesu8_decode.specs.declared.whole_blocks.TheConstants.{SPARE}
+use Rattle.cesu8_decode.specs.declared.way.TheConstants.{FEW_BYTES}
+use Rattle.cesu8_decode.specs.declared.whole_blocks.TheConstants.{FOLLOWING, SPARE}
 use Rattle.cesu8_decode.specs.DecodedOffsets.{window_of, decoded, is_ill_formed_at}
 use Rattle.cesu8_bytes.specs.TextChunks.{IsReadSoFar, IsChunk}
 
@@ -23,10 +24,11 @@ abbrev pub room_for : Strictness → ℕ → ℕ
 room_for Strict n = n
 room_for Lossy n = 3 * n + SPARE
 
--- It must have so many where it has not room for all.
+-- Where it has not room for all, it has room for what follows a block that is read where it stands, and
+-- in lossy reading for more bytes than are left to the last blocks, so that whole ones come first.
 abbrev pub least_room : Strictness → ℕ
-least_room Strict = 48
-least_room Lossy = 592
+least_room Strict = FOLLOWING
+least_room Lossy = room_for Lossy FEW_BYTES
 
 -- A buffer of a length has room for the text of n bytes, or of enough of them.
 abbrev pub HasRoom : Strictness → ℕ → ℕ → Type 0

@@ -4,6 +4,7 @@
 ghost use Rattle.std.specs.Prelude.{◌≡◌, List, Bool, ◌+◌, ◌*◌, ◌<◌, ◌≤◌, ◌∷◌, [], ◌++◌, length, map, take};
 ghost use Rattle.std.specs.Simd.Lanes.{chunk, mask_l};
 ghost use Rattle.cesu8_bytes.specs.Packing.{written};
+ghost use Rattle.cesu8_bytes.specs.Puts.{WritesAt};
 ghost use Rattle.cesu8_decode.specs.DecodedLanes.{is_high, written_lanes};
 
 use super::rows::rows;
@@ -37,11 +38,9 @@ pub struct Parts {
 /// Stores what becomes of a block, and returns its end.
 #[inline(always)]
 pub fn store(parts: Parts, out: &mut [u8], at: usize) -> usize
-    requires room { at + ROOM ≤ length out.old }
-    ensures bytes { take result out.new
-        ≡ take at out.old ++ written_lanes parts.gone parts.ill_formed parts.bytes }
-    ensures end { (at ≤ result) × (result ≤ at + WIDEST * BLOCK) }
-    ensures len { length out.new ≡ length out.old }
+    requires { at + ROOM ≤ length out.old }
+    ensures { WritesAt (written_lanes parts.gone parts.ill_formed parts.bytes)
+        at out.old out.new result }
 {
     let at = store_half(
         parts.bytes.extract::<0, HALF>(),
@@ -64,10 +63,8 @@ pub fn store(parts: Parts, out: &mut [u8], at: usize) -> usize
 pub fn store_whole(parts: Parts, out: &mut [u8], at: usize) -> usize
     requires whole { mask_l (map is_high parts.ill_formed) ≡ 0 }
     requires room { at + BLOCK + STORED ≤ length out.old }
-    ensures bytes { take result out.new
-        ≡ take at out.old ++ written_lanes parts.gone parts.ill_formed parts.bytes }
-    ensures end { (at ≤ result) × (result ≤ at + BLOCK) }
-    ensures len { length out.new ≡ length out.old }
+    ensures { WritesAt (written_lanes parts.gone parts.ill_formed parts.bytes)
+        at out.old out.new result }
 {
     let gone = bits::<HighestBit, BLOCK>(parts.gone) as usize;
     if gone == 0 {

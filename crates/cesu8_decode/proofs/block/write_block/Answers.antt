@@ -1,13 +1,13 @@
 use Rattle.std.proofs.Common.{◌≡◌, refl, ◌+◌, ◌-◌, ◌≤◌, ◌++◌, take, length, subst, ap, ◌∙◌, sym, arith}
 use lib.Lanes.{mask_l}
 use Rattle.cesu8_bytes.specs.declared.strictness.Strictness.TheVariants.{Lossy}
-use Rattle.cesu8_decode.specs.Decoding.{most_written}
 use Rattle.cesu8_bytes.proofs.vectors.Loads.{loaded}
 use Rattle.cesu8_decode.specs.DecodedOffsets.{is_ill_formed_at}
 use Rattle.cesu8_decode.specs.DecodedLanes.{AreParts}
-use Rattle.cesu8_decode.proofs.decoder.BlocksInPlace.{most_is_more, ends_within}
+use Rattle.cesu8_decode.proofs.decoder.BlocksInPlace.{ends_within}
 use Rattle.cesu8_decode.proofs.decoder.DecodedBlocks.{block_written}
 use Rattle.cesu8_decode.proofs.decoder.FirstLanes.{some_bit, no_bit}
+use Rattle.cesu8_decode.proofs.decoder.WholeBlocks.{end_inside}
 use Rattle.cesu8_decode.proofs.decoder.KeptBlocks.{AllStay, ones_stay, one_stays, kinds_of_ones, first_stay, first_kept}
 use Rattle.cesu8_decode.proofs.block.write_block.Goals as goal
 use Rattle.cesu8_decode.proofs.block.write_block.Goals.{then-changes_none+else-bits-eq0, else-changes_none+else-found-ne0+else-found-eq0}
@@ -85,7 +85,7 @@ returns-then-found-eq0-clause-end g c =
     (sym (c.bits-found.ensures ∙ ap mask_l c.ill_formed-marks-else-changes_none.ensures) ∙ c.if-found-eq0.true))
     (c.store_whole.ensures.bytes ∙ ap (λ bs. take c.args.end c.args.out.now ++ bs)
     (block_written g.F.Flavor.flavor c.args.window.now c.args.at c.args.count _ _ _ _ _ parts.gone_are parts.ill_formed_are parts.bytes_are))
-    (omega (arith, c.requires.room)) (omega (arith, c.requires.room, c.store_whole.ensures.end, c.store_whole.ensures.len, most_is_more g.S.Reading.which 32))
+    (omega (arith, c.requires.room)) (end_inside _ _ _ _ _ (omega (arith, c.requires.room)) c.store_whole.ensures)
 
 -- What becomes of the block, whichever way the parts were found, and some byte of it is ill-formed.
 parts_are : (g : Rattle.cesu8_decode.proofs.block.write_block.Given.Over) (c : goal.After-slice_known-in-Lossy-1 g) → AreParts g.F.Flavor.flavor c.args.window.now c.args.at c.args.count
@@ -129,4 +129,4 @@ returns-in-Lossy-clause-end g c =
     (λ strict. absurd (cc))
     (c.store.ensures.bytes ∙ ap (λ bs. take c.args.end c.args.out.now ++ bs)
     (block_written g.F.Flavor.flavor c.args.window.now c.args.at c.args.count _ _ _ _ _ parts.gone_are parts.ill_formed_are parts.bytes_are))
-    (omega (arith, c.requires.room)) (omega (arith, c.requires.room, c.store.ensures.end, c.store.ensures.len, ap (λ w. most_written w 32) lossy))
+    (omega (arith, c.requires.room)) (end_inside _ _ _ _ _ (omega (arith, c.requires.room)) c.store.ensures)
