@@ -101,7 +101,7 @@ wrong() {
             { sub(/(--|\/\/).*/, "") }
             {
                 if (/^impl[ <].* for /) trait = trait_of($0)
-                is_word = file ~ /\/specs\// || /^ *ghost use /
+                is_word = file ~ /\/specs\// || file ~ /\/src\// && !/^ *#!?\[tactic/ && !is_law($0)
                 # What is imported for the proof of a law stands in laws alone.
                 if (is_word && file !~ /\/specs\// && match($0, /\.proofs\..*\{.*\}/)) {
                     names = substr($0, RSTART, RLENGTH)

@@ -1,10 +1,14 @@
--- This goal is also found with no answer. Where an edit of must-fail makes it false, this gives up
--- sooner than the searches that are tried there.
-use Rattle.std.proofs.Common.{arith}
+-- This goal is also found with no answer. Where an edit of must-fail makes it false, a search for its
+-- proof meets a limit, and tells nothing.
+use Rattle.std.proofs.Common.{arith, rules, ◌∙◌}
+use Rattle.std.specs.Str.{chars}
 use Rattle.std.proofs.lemmas.Grind.{common_steps}
-use Rattle.java_text.specs.Form.{java_form}
+use Rattle.java_text.specs.Form.{mutf8_len, java_form}
+use Rattle.java_text.proofs.FormSlices.{count_of}
 use Rattle.java_text.proofs.write_utf.Goals as goal
 
 pub returns-clause-ok : goal.returns-clause-ok
 unfolding java_form
-returns-clause-ok c = grind (arith, common_steps)
+returns-clause-ok c =
+    let counts = c.to_be_bytes.ensures ∙ count_of c.in-Ok.count (mutf8_len (chars c.args.text.now)) (search rules) (search rules) in
+    grind (arith, common_steps)
