@@ -39,7 +39,6 @@ mkdir -p "$1"
 folder=$(cd "$1" && pwd)
 top=$(cd "$(dirname "${BASH_SOURCE[0]}")" && pwd)
 crate=$top/crates/cesu8_static
-kit=$(dirname "$(dirname "$(readlink -f "$(command -v rt)")")")
 version=$(<"$top/VERSION")
 major=${version%%.*}
 name=cesu8-$version-x86_64-linux
@@ -241,8 +240,6 @@ for file in "${pages[@]}"; do
     page "$file"
 done
 cp "$top/LICENSE-APACHE" "$top/LICENSE-MIT" "$release"
-# What the library uses of the kit is in it too.
-cp "$kit/rattle/simdutf8/LICENSE" "$release/LICENSE-simdutf8"
 {
     printf '%s\n' "cesu8 $version" "commit $commit$changes" "kit $identity"
     built_for x86-64 'Linux on x86-64-v2 or later' "$compiler" "$release"/bin/* \
