@@ -6,6 +6,11 @@
 # An edit is refused if a goal of a function that it changes is false. The kit tells of a goal at a line
 # of the function's code, or in its file of answers or invariants. Any goal counts for an edit of what is
 # no function's body, since nothing else is changed in its round.
+#
+# That a goal is false is told by values that break it, by a search that tried every way in vain, or by the
+# type of a proof by hand, where it is not the goal's. A goal at which a search met a limit counts for
+# nothing, since it may be true. An edit that only exchanges what is in its lines, as the operands of a test,
+# may leave it true too. So there the type of a proof counts only if it has another constant.
 
 FNR == 1 { FS = FILENAME ~ /\.owners$/ ? "\t" : " "; $0 = $0 }
 
@@ -16,6 +21,7 @@ FILENAME ~ /\.owners$/ {
     first[owners] = $3
     last[owners] = $4
     folder[owners] = $5
+    is_exchange[owners] = $6 != ""
     is_changed[$2]
     next
 }
@@ -44,6 +50,7 @@ END {
     for (i = 1; i <= owners; i++) {
         if (all == "" && (i in goal)) refused[name[i]] = goal[i]
         else if (i in vanished) only_names[name[i]] = vanished[i]
+        else if (i in vague) only_vague[name[i]] = vague[i]
     }
     for (i = 1; i <= owners; i++) {
         it = name[i]
@@ -52,6 +59,7 @@ END {
         if (it in refused) print it "\trefused\t" refused[it]
         else if (all != "") print it "\tnot\t" all
         else if (it in only_names) print it "\tnot\tonly a name is missing: " only_names[it]
+        else if (it in only_vague) print it "\tnot\tnothing was shown: " only_vague[it]
         else print it "\tnot\tno goal of what it changes is told to be false"
     }
 }
@@ -71,7 +79,10 @@ function judge(    path, line, rest, i) {
     for (i = 1; i <= owners; i++)
         if (is_of(i, path, line + 0)) {
             if (text ~ /has no field|is not in scope|has no `|was not admitted/) vanished[i] = short(text)
-            else if (tells_goal(text) && !(i in goal)) goal[i] = short(text)
+            else if (!tells_goal(text)) continue
+            else if (tells_types(text) ? is_exchange[i] && !tells_constant(text) : tells_limit(text))
+                vague[i] = short(text)
+            else if (!(i in goal)) goal[i] = short(text)
         }
 }
 
@@ -82,9 +93,26 @@ function is_of(i, path, line) {
     return path == folder[i] "/Answers.antt" || path == folder[i] "/Invariants.antt"
 }
 
-# Whether a message begins as the kit tells of a goal that is false.
+# Whether a message begins as the kit tells of a goal that is not proved.
 function tells_goal(text) {
-    return substr(text, 1, 160) ~ /it is not proved that|`[a-z]+`:? (the goal|(found )?no proof|stopped)|the two (types|sides differ)|: expected type/
+    return substr(text, 1, 160) ~ /it is not proved that|`[a-z]+`:? (the goal|(found )?no proof|stopped)|the two (types|sides)|: expected type/
+}
+
+# Whether a message tells that the search for a proof met a limit, and has no values that break the goal.
+# `omega` and `grind` have such values where they say that it does not follow.
+function tells_limit(text) {
+    if (text ~ /at which this goal is false|`(omega|grind)`: .*does not follow|Every way was tried/) return 0
+    return text ~ /at one of its limits|Not every way was tried|was found\. It stopped|may (hold|not break the goal)/
+}
+
+# Whether a message tells of a proof by hand with another type than its goal.
+function tells_types(text) {
+    return substr(text, 1, 160) ~ /the two (types|sides)|: expected type/
+}
+
+# Whether such a message shows a constant on one side that the other has not.
+function tells_constant(text) {
+    return text ~ / has `\(?(mathlib\.Core\.Bool\.)?(true|false|[0-9]+)\)?`/
 }
 
 # Whether a message tells that code, a spec or an edited file can't be read. One of a goal begins with the

@@ -1,0 +1,12 @@
+-- This goal is also found with no answer. Where an edit of must-fail makes it false, a search for its
+-- proof meets a limit, and tells nothing.
+use Rattle.std.proofs.Common.{◌≡◌, [], ◌∷◌, map, arith}
+use Rattle.std.specs.Prelude.{codes}
+use Rattle.std.proofs.lemmas.Grind.{common_steps}
+use Rattle.cesu8_cli.specs.Command.{word_of}
+use Rattle.cesu8_cli.proofs.command.parse.Goals as goal
+
+pub returns-in-lossy-default : goal.returns-in-lossy-default
+returns-in-lossy-default c =
+    let told : map (λ word. word.now) c.args.words.now ≡ codes "lossy" ∷ word_of c.match-flavor.flavor ∷ [] = grind (arith, common_steps) in
+    told
