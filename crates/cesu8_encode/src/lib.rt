@@ -87,9 +87,7 @@ pub fn encode_into<F: Flavor>(text: &str, len: usize, out: &mut Vec<u8>) -> Resu
     requires { len ≡ length (encoding F.flavor (chars text.now)) }
     ensures { AppendsEncoding F.flavor text.now result out.old out.new }
 {
-    if out.capacity() - out.len() < len {
-        out.reserve(len)?;
-    }
+    make_room(len, out)?;
     if len == text.len() {
         // An encoding that differs from the UTF-8 is longer.
         append(text.as_bytes(), out);
@@ -97,6 +95,22 @@ pub fn encode_into<F: Flavor>(text: &str, len: usize, out: &mut Vec<u8>) -> Resu
         append_changed::<F>(text, len, out);
     }
     Ok(())
+}
+
+/// Reserves capacity for so many bytes more, by one request if the buffer has too little.
+fn make_room(len: usize, out: &mut Vec<u8>) -> Result<(), AllocError>
+    ensures items { out.new.items ≡ out.old.items }
+    ensures ok { OnOk result (vec_len out.new + len ≤ vec_capacity out.new) }
+    ensures err { OnErr result (vec_capacity out.new ≡ vec_capacity out.old) }
+    ensures full { OnErr result (vec_capacity out.old < vec_len out.old + len) }
+    ensures stays { vec_len out.old + len ≤ vec_capacity out.old
+        → vec_capacity out.new ≡ vec_capacity out.old }
+    ensures grows { vec_capacity out.old ≤ vec_capacity out.new }
+{
+    if len <= out.capacity() - out.len() {
+        return Ok(());
+    }
+    out.reserve(len)
 }
 
 /// Appends the encoding of a text, which has this length, to a buffer with enough capacity.

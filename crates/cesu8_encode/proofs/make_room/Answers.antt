@@ -3,7 +3,7 @@
 use Rattle.cesu8_encode.proofs.make_room.Goals as goal
 
 pub returns-then-len-capacity-clause-full : goal.returns-then-len-capacity-clause-full
-returns-then-len-capacity-clause-full g c = tt
+returns-then-len-capacity-clause-full c = tt
 
 pub returns-clause-items : goal.returns-clause-items
-returns-clause-items g c = c.reserve.ensures.items
+returns-clause-items c = c.reserve.ensures.items
