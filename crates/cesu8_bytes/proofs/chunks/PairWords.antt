@@ -1,4 +1,6 @@
 -- The words by which a surrogate pair is found and written in UTF-8: its six bytes and two more.
+use Rattle.std.proofs.lemmas.Bool.Decides.{nat_tests}
+use Rattle.std.proofs.lemmas.Grind.{common_steps}
 use Rattle.std.proofs.Common.{◌≡◌, ℕ, true, ◌&&◌, ◌+◌, ◌*◌, ◌/◌, ◌%◌, ◌^◌, ◌<◌, ◌≤◌, [], ◌∷◌, refl, sym, ap, ◌∙◌, arith, bit_and, eqb, leb, ltb, w32}
 use Rattle.std.specs.Int.{to_le_bytes}
 use Rattle.std.proofs.lemmas.Bool.{agree_below_at, eq-eqb, eqb-true, and_parts, and_from, le-leb, lt-ltb, leb-true, ltb-true}
@@ -55,26 +57,7 @@ pub record IsPairBytes (a b d e g h : ℕ) : Type 0 where
 pub word_is_pair : (a b d e g h more : ℕ) → a < 0x100 → b < 0x100 → d < 0x100 → e < 0x100 → g < 0x100 → h < 0x100 →
     bit_and (word_of a b d e g h more) 0xC0F0FFC0F0FF
     ≡ 0x80B0ED80A0ED → IsPairBytes a b d e g h
-word_is_pair a b d e g h more a_byte b_byte d_byte e_byte g_byte h_byte passes =
-    let sum = sym (masked a b d e g h more a_byte b_byte d_byte e_byte g_byte h_byte) ∙ passes in
-    let b_low : bit_and b 0xF0 ≤ 0xF0 = and_le_r b 0xF0 in
-    let d_low : bit_and d 0xC0 ≤ 0xC0 = and_le_r d 0xC0 in
-    let g_low : bit_and g 0xF0 ≤ 0xF0 = and_le_r g 0xF0 in
-    let h_low : bit_and h 0xC0 ≤ 0xC0 = and_le_r h 0xC0 in
-    let b_top : bit_and b 0xF0 ≡ 0xA0 = omega arith in
-    let d_top : bit_and d 0xC0 ≡ 0x80 = omega arith in
-    let g_top : bit_and g 0xF0 ≡ 0xB0 = omega arith in
-    let h_top : bit_and h 0xC0 ≡ 0x80 = omega arith in
-    record {
-      lead = omega arith;
-      high = between 0xA0 0xB0 b (sym (high_surrogate_test b b_byte) ∙ eq-eqb _ _ b_top);
-      ends = (
-        between 0x80 0xC0 d (sym (continuation_test d d_byte) ∙ eq-eqb _ _ d_top),
-        omega arith,
-        between 0xB0 0xC0 g (sym (low_surrogate_test g g_byte) ∙ eq-eqb _ _ g_top),
-        between 0x80 0xC0 h (sym (continuation_test h h_byte) ∙ eq-eqb _ _ h_top),
-      );
-    }
+word_is_pair a b d e g h more a_byte b_byte d_byte e_byte g_byte h_byte passes = grind (arith, nat_tests, common_steps, and_le_r, between, continuation_test, eq-eqb, high_surrogate_test, low_surrogate_test, masked)
 
 within : (low high x : ℕ) → (low ≤ x) × (x < high) → (leb low x && ltb x high) ≡ true
 within low high x inside = and_from (leb low x) (ltb x high) (le-leb low x inside.0) (lt-ltb x high inside.1)
@@ -82,12 +65,7 @@ within low high x inside = and_from (leb low x) (ltb x high) (le-leb low x insid
 -- The word of these bytes passes.
 pub pair_is_word : (a b d e g h more : ℕ) → a < 0x100 → b < 0x100 → d < 0x100 → e < 0x100 → g < 0x100 → h < 0x100 →
     IsPairBytes a b d e g h → bit_and (word_of a b d e g h more) 0xC0F0FFC0F0FF ≡ 0x80B0ED80A0ED
-pair_is_word a b d e g h more a_byte b_byte d_byte e_byte g_byte h_byte pair =
-    let b_top : bit_and b 0xF0 ≡ 0xA0 = eqb-true _ _ (high_surrogate_test b b_byte ∙ within 0xA0 0xB0 b pair.high) in
-    let d_top : bit_and d 0xC0 ≡ 0x80 = eqb-true _ _ (continuation_test d d_byte ∙ within 0x80 0xC0 d pair.ends.0) in
-    let g_top : bit_and g 0xF0 ≡ 0xB0 = eqb-true _ _ (low_surrogate_test g g_byte ∙ within 0xB0 0xC0 g pair.ends.2) in
-    let h_top : bit_and h 0xC0 ≡ 0x80 = eqb-true _ _ (continuation_test h h_byte ∙ within 0x80 0xC0 h pair.ends.3) in
-    masked a b d e g h more a_byte b_byte d_byte e_byte g_byte h_byte ∙ rw (b_top, d_top, g_top, h_top) (omega (arith, pair.lead, pair.ends.1))
+pair_is_word a b d e g h more a_byte b_byte d_byte e_byte g_byte h_byte pair = grind (arith, nat_tests, common_steps, continuation_test, eqb-true, high_surrogate_test, low_surrogate_test, masked, within)
 
 -- The word of the UTF-8 that is written for the word of a surrogate pair.
 abbrev utf8_word : ℕ → ℕ
@@ -99,12 +77,7 @@ utf8_word word =
 -- A word has its bytes.
 bytes_of_word : (p q r s : ℕ) → p < 0x100 → q < 0x100 → r < 0x100 → s < 0x100 →
     to_le_bytes w32 (p + q * 0x100 + r * 0x10000 + s * 0x1000000) ≡ p ∷ q ∷ r ∷ s ∷ []
-bytes_of_word p q r s p_byte q_byte r_byte s_byte =
-    let p_is : (p + q * 0x100 + r * 0x10000 + s * 0x1000000) % 0x100 ≡ p = omega arith in
-    let q_is : (p + q * 0x100 + r * 0x10000 + s * 0x1000000) / 0x100 % 0x100 ≡ q = omega arith in
-    let r_is : (p + q * 0x100 + r * 0x10000 + s * 0x1000000) / 0x10000 % 0x100 ≡ r = omega arith in
-    let s_is : (p + q * 0x100 + r * 0x10000 + s * 0x1000000) / 0x1000000 % 0x100 ≡ s = omega arith in
-    rw (p_is, q_is, r_is, s_is) refl
+bytes_of_word p q r s p_byte q_byte r_byte s_byte = grind (arith, nat_tests, common_steps)
 
 -- The digits that move by ten bits, by four the other way, and by sixteen.
 module _ (a w x e y z more : ℕ) (a_byte : a < 0x100) (w_low : w < 0x10) (x_low : x < 0x40)

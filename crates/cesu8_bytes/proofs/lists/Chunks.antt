@@ -1,4 +1,6 @@
 -- Lists cut into chunks of one length.
+use Rattle.std.proofs.lemmas.Bool.Decides.{nat_tests}
+use Rattle.std.proofs.lemmas.Grind.{common_steps}
 use Rattle.std.proofs.Common.{◌≡◌, ℕ, Bool, true, false, IsTrue, ◌+◌, ◌*◌, ◌/◌, ◌↔◌, ◌⊎◌, List, [], ◌∷◌, length, take, drop, get_or, refl, sym, ap, ◌∙◌, subst, zero, suc, inl, inr, ⊎_elim, arith}
 use Rattle.std.specs.List.{Any}
 use Rattle.std.specs.Simd.{first_chunks}
@@ -77,9 +79,4 @@ group_elements P a b c d = (
 -- A list of four elements is that of its elements.
 pub group_listed : {X : Type 0} (xs : List X) (e : X) → length xs ≡ 4 →
     xs ≡ get_or xs 0 e ∷ get_or xs 1 e ∷ get_or xs 2 e ∷ get_or xs 3 e ∷ []
-group_listed [] e l = absurd (omega arith)
-group_listed (a ∷ []) e l = absurd (omega arith)
-group_listed (a ∷ b ∷ []) e l = absurd (omega arith)
-group_listed (a ∷ b ∷ c ∷ []) e l = absurd (omega arith)
-group_listed (a ∷ b ∷ c ∷ d ∷ []) e l = refl
-group_listed (a ∷ b ∷ c ∷ d ∷ x ∷ xs) e l = absurd (omega arith)
+group_listed xs e l = grind (arith, nat_tests, common_steps)

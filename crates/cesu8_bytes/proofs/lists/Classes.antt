@@ -1,4 +1,6 @@
 -- Vectors that mark the bytes of a class.
+use Rattle.std.proofs.lemmas.Bool.Decides.{nat_tests}
+use Rattle.std.proofs.lemmas.Grind.{common_steps}
 use Rattle.std.proofs.Common.{◌≡◌, ℕ, Bool, true, false, not, cond, ◌||◌, ◌&&◌, ◌%◌, ◌^◌, ◌≤◌, ◌<◌, List, [], ◌∷◌, map, length, replicate, eqb, leb, ltb, refl, ap, ◌∙◌, subst, arith, bit_and, bit_or, w8, Fits}
 use Rattle.std.specs.Prelude.{ℤ}
 use Rattle.std.proofs.lemmas.Bool.{agree_below_at}
@@ -64,10 +66,7 @@ masked_marks class bits byte told n bytes long fits =
     )
 
 either_ones : (s t : Bool) → bit_or (of_z w8 (lane s)) (of_z w8 (lane t)) ≡ ones (s || t)
-either_ones true true = refl
-either_ones true false = refl
-either_ones false true = refl
-either_ones false false = refl
+either_ones s t = grind (arith, nat_tests, common_steps)
 
 -- The marks of two classes, joined, are those of both.
 pub either_marks : (p q : ℕ → Bool) (bytes : List ℕ) (ps qs : List ℤ) → ps ≡ marks_of p bytes → qs ≡ marks_of q bytes →
@@ -81,16 +80,10 @@ either_marks p q bytes ps qs of_p of_q =
     )
 
 or_ones : (s t : Bool) → bit_or (ones s) (ones t) ≡ ones (s || t)
-or_ones true true = refl
-or_ones true false = refl
-or_ones false true = refl
-or_ones false false = refl
+or_ones s t = grind (arith, nat_tests, common_steps)
 
 and_ones : (s t : Bool) → bit_and (ones s) (ones t) ≡ ones (s && t)
-and_ones true true = refl
-and_ones true false = refl
-and_ones false true = refl
-and_ones false false = refl
+and_ones s t = grind (arith, nat_tests, common_steps)
 
 -- Three comparisons mark the bytes that are below one number, or from a second on below a third.
 pub range_marks : (x y z n : ℕ) (bytes : List ℕ) → length bytes ≡ n →
@@ -114,11 +107,7 @@ top_of_lane false = refl
 -- The highest bits of the marks tell of each byte whether it is of the class.
 tops_of_marks : (p : ℕ → Bool) (bytes : List ℕ) (marks : List ℤ) → marks ≡ marks_of p bytes →
     map (top 7) (map (of_z w8) marks) ≡ map p bytes
-tops_of_marks p bytes marks are =
-    ap (λ ms. map (top 7) (map (of_z w8) ms)) are
-    ∙ ap (map (top 7)) (map-map (of_z w8) (λ b. lane (p b)) bytes)
-    ∙ map-map (top 7) (λ b. of_z w8 (lane (p b))) bytes
-    ∙ map_agree _ _ bytes (Each1-all (λ b. top 7 (of_z w8 (lane (p b))) ≡ p b) (λ b. top_of_lane (p b)) bytes)
+tops_of_marks p bytes marks are = grind (arith, nat_tests, common_steps, Each1-all, map-map, map_agree, top_of_lane)
 
 -- So do the bits.
 pub bits_of_marks : (p : ℕ → Bool) (n : ℕ) (bytes : List ℕ) (marks : List ℤ) → marks ≡ marks_of p bytes → length bytes ≡ n → n ≤ 64 →

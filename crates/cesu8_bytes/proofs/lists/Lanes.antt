@@ -1,4 +1,6 @@
 -- Vectors of bytes, lane by lane.
+use Rattle.std.proofs.lemmas.Bool.Decides.{nat_tests}
+use Rattle.std.proofs.lemmas.Grind.{common_steps}
 use Rattle.std.proofs.Common.{◌≡◌, ℕ, Bool, not, cond, ◌&&◌, ◌||◌, IsTrue, ◌↔◌, ◌⊎◌, List, [], ◌∷◌, map, length, replicate, true, false, ◌+◌, ◌*◌, eqb, ltb, leb, refl, sym, ap, ◌∙◌, subst, inl, inr, ⊎_elim, arith}
 use Rattle.std.specs.List.{Any}
 use Rattle.std.proofs.lemmas.Bool.{both_ways, cases_lt, eq-eqb, eqb-false, eqb-true, le-leb, le-ltb, leb-true, lt-ltb, ne_eqb, not-true}
@@ -78,12 +80,7 @@ greater_each (x ∷ xs) [] = refl
 greater_each (x ∷ xs) (y ∷ ys) = ap (λ l. greater x y ∷ l) (greater_each xs ys)
 
 greater_keeps : (least a b : ℕ) → IsTrue (leb least a) ⊎ IsTrue (leb least b) → IsTrue (leb least (greater a b))
-greater_keeps least a b s = ⊎_elim
-    (λ l. (let is : greater a b ≡ b = ap (λ t. cond (top 7 (ones t)) b a) (lt-ltb a b l) in
-    subst (λ x. IsTrue (leb least x)) (sym is) (⊎_elim (λ m. le-leb least b (omega (arith, leb-true least a m, l))) (λ m. m) s)))
-    (λ l. (let is : greater a b ≡ a = ap (λ t. cond (top 7 (ones t)) b a) (le-ltb a b l) in
-    subst (λ x. IsTrue (leb least x)) (sym is) (⊎_elim (λ m. m) (λ m. le-leb least a (omega (arith, leb-true least b m, l))) s)))
-    (cases_lt a b)
+greater_keeps least a b s = grind (arith, nat_tests, common_steps, cases_lt, le-leb, le-ltb, leb-true, lt-ltb)
 
 -- The greatest of four lanes is at least what one of them is at least.
 pub least_in_greatest : (least n : ℕ) (a b c d : List ℕ) → length a ≡ n → length b ≡ n → length c ≡ n → length d ≡ n →
@@ -104,12 +101,7 @@ lesser_each (x ∷ xs) [] = refl
 lesser_each (x ∷ xs) (y ∷ ys) = ap (λ l. lesser x y ∷ l) (lesser_each xs ys)
 
 lesser_keeps : (a b : ℕ) → IsTrue (eqb a 0) ⊎ IsTrue (eqb b 0) → IsTrue (eqb (lesser a b) 0)
-lesser_keeps a b s = ⊎_elim
-    (λ l. (let is : lesser a b ≡ a = ap (λ t. cond (top 7 (ones t)) a b) (lt-ltb a b l) in
-    subst (λ x. IsTrue (eqb x 0)) (sym is) (⊎_elim (λ m. m) (λ m. eq-eqb a 0 (omega (arith, eqb-true b 0 m, l))) s)))
-    (λ l. (let is : lesser a b ≡ b = ap (λ t. cond (top 7 (ones t)) a b) (le-ltb a b l) in
-    subst (λ x. IsTrue (eqb x 0)) (sym is) (⊎_elim (λ m. eq-eqb b 0 (omega (arith, eqb-true a 0 m, l))) (λ m. m) s)))
-    (cases_lt a b)
+lesser_keeps a b s = grind (arith, nat_tests, common_steps, cases_lt, eq-eqb, eqb-true, le-ltb, lt-ltb)
 
 -- The least of four lanes is 00 where one of them is.
 pub null_in_least : (byte n : ℕ) (a b c d : List ℕ) → byte ≡ 0 → length a ≡ n → length b ≡ n → length c ≡ n → length d ≡ n →
@@ -134,10 +126,7 @@ lead_of_four chunks h = (h.0, h.1, h.2, h.3, (h.4.0, h.4.1, h.4.2, h.4.3, first_
 
 -- A byte of one class or another is of the one or of the other.
 pub either_of_any : (p q : ℕ → Bool) (chunks : List (List ℕ)) → Any (AnyIn (λ b. p b || q b)) chunks → Any (AnyIn p) chunks ⊎ Any (AnyIn q) chunks
-either_of_any p q chunks h = ⊎_elim
-    (λ one. inl (h.0, h.1, h.2, h.3, (h.4.0, h.4.1, h.4.2, h.4.3, one)))
-    (λ other. inr (h.0, h.1, h.2, h.3, (h.4.0, h.4.1, h.4.2, h.4.3, other)))
-    (either_holds (p h.4.1) (q h.4.1) h.4.4)
+either_of_any p q chunks h = grind (arith, nat_tests, common_steps, either_holds)
 
 -- ---- the test for a lane
 
@@ -156,8 +145,4 @@ some_passes p (x ∷ lanes) = some_passes_by p x lanes (p x) refl (some_passes p
 
 -- Bits that tell of each lane whether it passes a test tell whether some lane does.
 pub any_passes : (p : ℕ → Bool) (lanes : List ℕ) (bits : ℕ) → bits ≡ mask_l (map p lanes) → IsTrue (not (eqb bits 0)) ↔ AnyIn p lanes
-any_passes p lanes bits is =
-    let tells = some_passes p lanes in (
-      (λ t. tells.0 (λ e. eqb-false _ _ (not-true _ t) (is ∙ e))),
-      (λ q. ap not (ne_eqb _ _ (λ e. tells.1 q (sym is ∙ e)))),
-    )
+any_passes p lanes bits is = grind (arith, nat_tests, common_steps, eqb-false, ne_eqb, not-true, some_passes)

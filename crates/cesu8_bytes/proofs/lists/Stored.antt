@@ -1,4 +1,6 @@
 -- Bytes and vectors that are stored into a list of bytes.
+use Rattle.std.proofs.lemmas.Bool.Decides.{nat_tests}
+use Rattle.std.proofs.lemmas.Grind.{common_steps}
 use Rattle.std.proofs.Common.{◌≡◌, ℕ, zero, suc, ◌+◌, ◌*◌, ◌-◌, ◌≤◌, List, [], ◌∷◌, ◌++◌, refl, sym, subst, ap, ◌∙◌, arith, length, length-append, take, drop}
 use lib.Lanes.{put_chunk}
 use Rattle.std.proofs.lemmas.List.{append_assoc, length-drop, length-take-le, take-append-drop, take-take}
@@ -58,11 +60,7 @@ ends_stored n bytes out many few room =
 -- Bytes that were appended, cut back to an index and appended again from there on, stand there once.
 pub appended_again : (before bytes : List ℕ) (at written n : ℕ) → at ≤ written →
     take (length before + at) (before ++ take written bytes) ++ take n (drop at bytes) ≡ before ++ take (at + n) bytes
-appended_again before bytes at written n le =
-    ap (λ xs. xs ++ take n (drop at bytes)) (take-append-add before (take written bytes) at)
-    ∙ append_assoc before (take at (take written bytes)) (take n (drop at bytes))
-    ∙ ap (λ xs. before ++ (xs ++ take n (drop at bytes))) (take-take at written bytes le)
-    ∙ ap (λ xs. before ++ xs) (sym (take-add at n bytes))
+appended_again before bytes at written n le = grind (arith, nat_tests, common_steps, append_assoc, take-add, take-append-add, take-take)
 
 -- Bytes that are written behind others are written with them.
 pub put_behind : (first more old between new : List ℕ) (at end after : ℕ) → PutsAt first at old between end → PutsAt more end between new after →

@@ -1,4 +1,6 @@
 -- A walk over a list that finds no element of a kind.
+use Rattle.std.proofs.lemmas.Bool.Decides.{nat_tests}
+use Rattle.std.proofs.lemmas.Grind.{common_steps}
 use Rattle.std.proofs.Common.{◌≡◌, ℕ, false, IsTrue, ◌+◌, ◌<◌, ◌≤◌, ◌↔◌, List, sym, ap, ◌∙◌, subst, ⊎_elim, arith, length, get_or}
 use Rattle.std.specs.List.{Any}
 use Rattle.std.proofs.lemmas.Bool.{cases_lt, false≢true}
@@ -15,10 +17,7 @@ module _ {X : Type 0} (P : X → Type 0) (xs : List X) where
 
   -- Where P holds of none before an index and not of the one there, it holds of none before the next index.
   pub none_with_next : (n : ℕ) (e : X) → n < length xs → NoneBefore n → (P (get_or xs n e) → ⊥) → NoneBefore (n + 1)
-  none_with_next n e l none this i x before long at p =
-      ⊎_elim (λ earlier. none i x earlier long at p)
-      (λ from. (let here : i ≡ n = omega arith in
-      this (subst P (sym at ∙ ap (λ j. get_or xs j x) here ∙ get_or_default xs n x e l) p))) (cases_lt i n)
+  none_with_next n e l none this = grind (arith, nat_tests, common_steps, cases_lt, get_or_default)
 
   -- Where P holds of none before the end, it holds of no element, so the answer is no.
   pub none_at_end : (n : ℕ) → length xs ≤ n → NoneBefore n → IsTrue false ↔ Any P xs

@@ -1,4 +1,6 @@
 -- How bytes are packed by a shuffle that leaves out those that go, and 32 by four of these.
+use Rattle.std.proofs.lemmas.Bool.Decides.{nat_tests}
+use Rattle.std.proofs.lemmas.Grind.{common_steps}
 use Rattle.std.proofs.Common.{◌≡◌, ℕ, zero, suc, ◌+◌, ◌*◌, ◌/◌, ◌%◌, ◌-◌, ◌^◌, ◌<◌, ◌≤◌, Bool, true, false, cond, List, [], ◌∷◌, ◌++◌, map, length, take, drop, get_or, replicate, leb, refl, sym, ap, ◌∙◌, arith, w8, length-append, append-nil, append_assoc, bit_and}
 use Rattle.std.specs.List.{range_with_len}
 use Rattle.std.proofs.lemmas.Bool.{agree_below, agree_below_at, leb-true}
@@ -98,19 +100,7 @@ module _ (n gone_set ill_formed_set most : ℕ) (row : List ℕ) (row_is : row �
     pub stored_row : (gone ill_formed : List Bool) → length gone ≡ n → length ill_formed ≡ n → gone_set ≡ mask_l gone → ill_formed_set ≡ mask_l ill_formed →
         map lane (range_with_len 0 n) ≡ chunk 0 n lanes → HasReplacement lane ill_formed_set →
         take (at + get_or row 15 0) (put_chunk at out (map lane row)) ≡ take at out ++ written gone ill_formed (chunk 0 n lanes)
-    stored_row gone ill_formed g d gone_is ill_formed_is front replacement =
-        let padding = zeros ++ length kept ∷ [] in
-        let parts : row ≡ kept ++ padding = row_is ∙ append_assoc kept zeros (length kept ∷ []) in
-        let long : length kept + length padding ≡ 16 = omega (arith, prefix_long, length-append kept zeros, length-append zeros (length kept ∷ [])) in
-        let kept_is : map lane kept ≡ written gone ill_formed (chunk 0 n lanes) =
-        (λ i. map lane (kept_of (gone_is i) (ill_formed_is i) 0 (sym g i)))
-        ∙ kept_written lane gone ill_formed 0 (omega arith) (λ some. replacement (omega (arith, some)))
-        ∙ ap (λ m. written gone ill_formed (map lane (range_with_len 0 m))) g
-        ∙ ap (written gone ill_formed) front in
-        ap (λ v. take (at + get_or row 15 0) (put_chunk at out v)) (ap (map lane) parts ∙ map-append lane kept padding)
-        ∙ stored_prefix out (map lane kept) (map lane padding) at (at + get_or row 15 0)
-        (omega (arith, long, length-map kept lane, length-map padding lane)) (omega (arith, last_is, length-map kept lane))
-        ∙ ap (λ l. take at out ++ l) kept_is
+    stored_row gone ill_formed g d gone_is ill_formed_is front replacement = grind (arith, nat_tests, common_steps, kept_written, last_is, length-map, map-append, prefix_long, stored_prefix)
 
 -- ---- eight bytes
 

@@ -1,4 +1,6 @@
 -- Rows of eight lanes: their masks, and how they are shuffled and stored.
+use Rattle.std.proofs.lemmas.Bool.Decides.{nat_tests}
+use Rattle.std.proofs.lemmas.Grind.{common_steps}
 use Rattle.std.proofs.Common.{◌≡◌, ℕ, zero, suc, ◌+◌, ◌*◌, ◌/◌, ◌%◌, ◌^◌, ◌<◌, ◌≤◌, Bool, true, false, cond, List, [], ◌∷◌, ◌++◌, map, length, take, drop, get_or, eqb, refl, sym, ap, ◌∙◌, subst, arith, w8, length-append, append_assoc, bit_and}
 use Rattle.std.specs.List.{range_with_len}
 use Rattle.std.proofs.lemmas.List.{ext_get_or, get_or-map, length-map, length-take-le, length-drop, take_at, drop_at, drop-drop, take-append-le, drop-append-le}
@@ -9,12 +11,7 @@ use lib.Lanes.{mask_l, put_chunk, chunk, pick_l, Each1}
 
 -- the lowest bit of a mask, and the others
 pub lowest : (t : Bool) (m : ℕ) → (eqb ((cond t 1 0 + 2 * m) % 2) 1 ≡ t) × ((cond t 1 0 + 2 * m) / 2 ≡ m)
-lowest true m =
-    let odd : (1 + 2 * m) % 2 ≡ 1 = omega arith in
-    (rw odd refl, omega arith)
-lowest false m =
-    let even : (0 + 2 * m) % 2 ≡ 0 = omega arith in
-    (rw even refl, omega arith)
+lowest t m = grind (arith, nat_tests, common_steps)
 
 -- It takes the lanes at its indices.
 pub shuffled : (lanes js : List ℕ) → length js ≡ 16 → Each1 (λ j. j < 16) js → swz_l w8 16 lanes 0 js ≡ map (λ j. get_or lanes j 0) js
@@ -29,11 +26,7 @@ shuffled lanes js long small =
 -- A vector that is stored leaves what stood before it, and its own prefix up to there.
 pub stored_prefix : (out prefix padding : List ℕ) (at m : ℕ) → at + (length prefix + length padding) ≤ length out → m ≡ at + length prefix →
     take m (put_chunk at out (prefix ++ padding)) ≡ take at out ++ prefix
-stored_prefix out prefix padding at m room end =
-    let behind = drop (length (prefix ++ padding)) (drop at out) in
-    let parts : take at out ++ ((prefix ++ padding) ++ behind) ≡ (take at out ++ prefix) ++ (padding ++ behind) = simp append_assoc in
-    ap (take m) (put_chunk_is at out (prefix ++ padding) (omega (arith, length-append prefix padding)) ∙ parts)
-    ∙ take_at (take at out ++ prefix) (padding ++ behind) m (omega (arith, length-append (take at out) prefix, length-take-le at out (omega arith)))
+stored_prefix out prefix padding at m room end = grind (arith, nat_tests, common_steps, length-take-le, put_chunk_is, take_at)
 
 -- A mask is that of its first n tests, and above them that of the others.
 mask_parts : (n : ℕ) (ts : List Bool) → mask_l ts ≡ mask_l (take n ts) + 2 ^ n * mask_l (drop n ts)

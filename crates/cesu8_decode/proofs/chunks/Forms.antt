@@ -1,4 +1,5 @@
 -- Characters of more than one byte, by how they are encoded at the front of bytes.
+use Rattle.std.proofs.lemmas.Bool.Decides.{nat_tests}
 use Rattle.std.proofs.lemmas.Grind.{common_steps}
 use Rattle.std.proofs.Common.{◌≡◌, ℕ, ◌<◌, ◌≤◌, List, [], ◌∷◌, ◌++◌, refl, sym, ap, ◌∙◌, inl, inr, true, false, arith, length, take, drop, get_or, leb, ltb, ◌&&◌}
 use Rattle.std.proofs.lemmas.Bool.{and_parts, leb-true, ltb-true}
@@ -20,10 +21,7 @@ take_two (a ∷ []) long = absurd (omega arith)
 take_two (a ∷ b ∷ bytes) long = refl
 
 take_three : (bytes : List ℕ) → 3 ≤ length bytes → take 3 bytes ≡ get_or bytes 0 0 ∷ get_or bytes 1 0 ∷ get_or bytes 2 0 ∷ []
-take_three [] long = absurd (omega arith)
-take_three (a ∷ []) long = absurd (omega arith)
-take_three (a ∷ b ∷ []) long = absurd (omega arith)
-take_three (a ∷ b ∷ d ∷ bytes) long = refl
+take_three bytes long = grind (arith, nat_tests, common_steps)
 
 -- What is known of the bytes of a character of two bytes.
 record AreTwo (a b : ℕ) : Type 0 where
@@ -32,10 +30,7 @@ record AreTwo (a b : ℕ) : Type 0 where
   last : (0x80 ≤ b) × (b < 0xC0)
 
 are_two : (a b : ℕ) → two_at a b ≡ true → AreTwo a b
-are_two a b t =
-    let h = and_parts (leb 0xC2 a) (ltb a 0xE0 && continues b) t in
-    let h2 = and_parts (ltb a 0xE0) (continues b) h.1 in
-    record { low = leb-true 0xC2 a h.0; high = ltb-true a 0xE0 h2.0; last = continuation b h2.1 }
+are_two a b t = grind (arith, nat_tests, common_steps, and_parts, continuation, leb-true, ltb-true)
 
 -- The character of this form that begins the bytes, in UTF-8.
 abbrev IsUtf8OfForm : Form → List ℕ → List ℕ → Type 0

@@ -1,4 +1,6 @@
 -- Blocks that are read where they stand.
+use Rattle.std.proofs.lemmas.Bool.Decides.{nat_tests}
+use Rattle.std.proofs.lemmas.Grind.{common_steps}
 use Rattle.std.proofs.Common.{◌≡◌, ℕ, zero, suc, ◌+◌, ◌-◌, ◌<◌, ◌≤◌, ⊎_elim, Bool, true, false, true≢false, List, [], ◌++◌, refl, sym, ap, ◌∙◌, arith, map, get_or, length, take, drop, replicate, zero-add, add-zero}
 use Rattle.std.specs.List.{range_with_len}
 use Rattle.std.proofs.lemmas.List.{length-append, length-take-le, get_or-take, get_or-drop, drop-take}
@@ -25,10 +27,7 @@ one_or_none true b = omega arith
 one_or_none false b = omega arith
 
 at_most_three : (goes ill_formed : Bool) (b : ℕ) → length (written_for goes ill_formed b) ≤ 3
-at_most_three true true b = omega arith
-at_most_three true false b = omega arith
-at_most_three false true b = omega arith
-at_most_three false false b = omega arith
+at_most_three goes ill_formed b = grind (arith, nat_tests, common_steps)
 
 -- Bytes become no more bytes where none is ill-formed, and else at most three for each.
 pub no_longer : (f : Flavor) (which : Strictness) (window : List ℕ) (at n : ℕ) →

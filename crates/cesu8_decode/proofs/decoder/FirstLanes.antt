@@ -1,4 +1,6 @@
 -- The first lanes of the decoder's vectors, of which the others go and are not ill-formed.
+use Rattle.std.proofs.lemmas.Bool.Decides.{nat_tests}
+use Rattle.std.proofs.lemmas.Grind.{common_steps}
 use Rattle.std.proofs.Common.{◌≡◌, ◌≢◌, ℕ, zero, suc, ◌+◌, ◌-◌, ◌*◌, ◌^◌, ◌%◌, ◌<◌, ◌≤◌, ⊎_elim, Bool, true, false, ◌||◌, leb, List, [], ◌∷◌, ◌++◌, refl, sym, ap, ◌∙◌, arith, map, take, length, replicate, bit_and, bit_or, bit_xor, zero-add, append-nil}
 use Rattle.std.specs.List.{range_with_len}
 use Rattle.std.proofs.lemmas.Bool.{agree_below_at, cases_Bool, le-leb, lt-leb, cases_eq}
@@ -108,10 +110,7 @@ written_first (g ∷ gone) (d ∷ ill_formed) m n (suc count) (b ∷ bytes) e e'
 -- ---- the bits of the first lanes
 
 ones_are : (n : ℕ) → n ≤ 32 → 1 * 2 ^ n % 0x10000000000000000 - 1 ≡ 2 ^ n - 1
-ones_are n le =
-    let small : 2 ^ n ≤ 2 ^ 32 = pow_mono le in
-    let fits : 1 * 2 ^ n < 0x10000000000000000 = omega arith in
-    ap (λ k. k - 1) (mod-eq_of_lt fits ∙ omega arith)
+ones_are n le = grind (arith, nat_tests, common_steps, mod-eq_of_lt, pow_mono)
 
 -- So many ones leave the bits of the first tests.
 pub first_bits_are : (tests : List Bool) (bits n : ℕ) → n ≤ 32 → n ≤ length tests → bits ≡ mask_l tests →

@@ -1,4 +1,5 @@
 -- What the decoder's vectors say of one byte, by the kinds of what begins at its offset and before.
+use Rattle.std.proofs.lemmas.Grind.{common_steps}
 use Rattle.std.proofs.Common.{◌≡◌, ℕ, ◌+◌, ◌*◌, ◌/◌, ◌%◌, ◌^◌, ◌<◌, Bool, true, false, ◌&&◌, ◌||◌, not, eqb, leb, List, refl, sym, ap, ◌∙◌, arith, cond, get_or, bit_and, bit_or, add-zero, true≢false}
 use Rattle.std.proofs.lemmas.Bool.{agree_below_at, eqb-true}
 use Rattle.std.proofs.lemmas.Bool.Decides.{nat_tests}
@@ -91,10 +92,7 @@ one_or_more is_one is_null is_two is_three is_pair = grind (arith, nat_tests)
 begins_one : (f : Flavor) (window : List ℕ) (i : ℕ) →
     leb 1 (width_at f window i) ≡ cond (leb (width_at f window i) 1) (one_at f (get_or window i 0)) true
 unfolding first_width_by
-begins_one f window i =
-    let w : ℕ → ℕ = λ k. get_or window k 0 in
-    one_or_more (one_at f (w i)) (null_at f (w i) (w (i + 1))) (two_at (w i) (w (i + 1))) (three_at (w i) (w (i + 1)) (w (i + 2)))
-    (pair_at (w i) (w (i + 1)) (w (i + 2)) (w (i + 3)) (w (i + 4)) (w (i + 5)))
+begins_one f window i = grind (arith, nat_tests, common_steps, one_or_more)
 
 -- A byte is marked that is no character.
 pub no_one : (f : Flavor) (b : ℕ) → leb 0x80 (bit_or b (mask (is_null f b))) ≡ not (one_at f b)

@@ -1,4 +1,6 @@
 -- The kinds of what begins at the offsets of a block, lane by lane.
+use Rattle.std.proofs.lemmas.Bool.Decides.{nat_tests}
+use Rattle.std.proofs.lemmas.Grind.{common_steps}
 use Rattle.std.proofs.Common.{◌≡◌, ℕ, ◌+◌, ◌*◌, ◌/◌, ◌%◌, ◌^◌, ◌<◌, ◌≤◌, Bool, true, false, cond, ◌&&◌, List, [], ◌∷◌, ◌++◌, map, length, get_or, replicate, eqb, leb, ltb, bit_and, bit_or, refl, sym, ap, ◌∙◌, subst, arith, Fits, w8}
 use Rattle.std.specs.List.{range_with_len}
 use Rattle.std.proofs.lemmas.Bool.{agree_below_at, eqb-true, leb-false}
@@ -142,10 +144,7 @@ low_second b h = agree_below_at (λ b. eqb (bit_and b 0xF0) 0xB0) (λ b. leb 0xB
 six : (f : Flavor) (a b d e g h : ℕ) → g < 0x100 →
     bit_and (kind_of_two f a b) (behind (continues d) (eqb e 0xED) (eqb (bit_and g 0xF0) 0xB0) (continues h)) ≡ start_kind_by f a b d e g h
 unfolding start_kind_by
-six f a b d e g h small =
-    rw (low_second g small)
-    (with_others (null_at f a b) (two_at a b) (ltb a 0xD0) (eqb a 0xE0) (eqb a 0xED) (leb 0xE0 a) (ltb a 0xF0) (continues b) (fits_three a b)
-    (eqb a 0xED) (leb 0xA0 b) (ltb b 0xB0) (continues d) (eqb e 0xED) (leb 0xB0 g) (ltb g 0xC0) (continues h))
+six f a b d e g h small = grind (arith, nat_tests, common_steps, low_second, with_others)
 
 -- what three bytes tell, where no pair's bit is set
 abbrev three : Bool → ℕ

@@ -1,4 +1,6 @@
 -- The bytes of an encoding: below F0 (hexadecimal), and in MUTF-8 none is 0.
+use Rattle.std.proofs.lemmas.Bool.Decides.{nat_tests}
+use Rattle.std.proofs.lemmas.Grind.{common_steps}
 use Rattle.std.proofs.Common.{◌≡◌, ◌≢◌, ℕ, ◌+◌, ◌<◌, ◌⊎◌, List, [], ◌∷◌, sym, ◌∙◌, subst, arith}
 use Rattle.std.specs.List.{All, Any}
 use Rattle.std.proofs.lemmas.List.Elements.{All-nil, All-cons, All-append}
@@ -27,10 +29,7 @@ bytes_one f c ascii h2 = grind (arith, All-cons, All-nil, byte, encoding_one, sh
 
 three_bytes : (f : Flavor) (a b d : ℕ) (rest : List ℕ) → 0 < a → a < 0xF0 → 0 < b → b < 0xF0 → 0 < d → d < 0xF0 →
     All (IsEncodedByte f) rest → All (IsEncodedByte f) (a ∷ b ∷ d ∷ rest)
-three_bytes f a b d rest a_some a_low b_some b_low d_some d_low others =
-    All-cons (IsEncodedByte f) a (b ∷ d ∷ rest) (byte f a a_some a_low)
-    (All-cons (IsEncodedByte f) b (d ∷ rest) (byte f b b_some b_low)
-    (All-cons (IsEncodedByte f) d rest (byte f d d_some d_low) others))
+three_bytes f a b d rest a_some a_low b_some b_low d_some d_low others = grind (arith, nat_tests, common_steps, All-cons, byte)
 
 bytes_by : (f : Flavor) (c : ℕ) → Shape c → All (IsEncodedByte f) (encoding f (c ∷ []))
 bytes_by f c (one ascii) = bytes_one f c ascii (cases_eq c 0)

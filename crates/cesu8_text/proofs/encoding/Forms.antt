@@ -1,4 +1,6 @@
 -- The encoding of one scalar value, by its digits.
+use Rattle.std.proofs.lemmas.Bool.Decides.{nat_tests}
+use Rattle.std.proofs.lemmas.Grind.{common_steps}
 use Rattle.std.proofs.Common.{◌≡◌, ℕ, ◌+◌, ◌-◌, ◌*◌, ◌/◌, ◌%◌, ◌<◌, ◌≤◌, [], ◌∷◌, ◌++◌, refl, ◌∙◌, arith, append-nil}
 use Rattle.std.proofs.lemmas.Bool.{lt-ltb, le-ltb, ne_eqb}
 use Rattle.cesu8_text.specs.Utf16.{units_of}
@@ -17,10 +19,7 @@ form_short f u h = rw (lt-ltb u 0x80 h) refl
 
 pub form_two : (f : Flavor) (c x y : ℕ) → IsTwo c x y → form f c ≡ (0xC0 + x) ∷ (0x80 + y) ∷ []
 unfolding form
-form_two f c x y digits =
-    let e0 : c / 0x40 ≡ x = omega arith in
-    let e1 : c % 0x40 ≡ y = omega arith in
-    rw (le-ltb c 0x80 (omega arith), lt-ltb c 0x800 (omega arith), e0, e1) refl
+form_two f c x y digits = grind (arith, nat_tests, common_steps, le-ltb, lt-ltb)
 
 pub form_three : (f : Flavor) (c x y z : ℕ) → IsThree c x y z →
     form f c ≡ (0xE0 + x) ∷ (0x80 + y) ∷ (0x80 + z) ∷ []
@@ -36,10 +35,7 @@ three_digits u x y z value low high middle last =
 pub units_of_pair : (c w x y z : ℕ) → IsPair c w x y z →
     units_of c ≡ (0xD800 + (w * 0x40 + x)) ∷ (0xDC00 + (y * 0x40 + z)) ∷ []
 unfolding units_of
-units_of_pair c w x y z digits =
-    let e0 : (c - 0x10000) / 0x400 ≡ w * 0x40 + x = omega arith in
-    let e1 : (c - 0x10000) % 0x400 ≡ y * 0x40 + z = omega arith in
-    rw (le-ltb c 0x10000 (omega arith), e0, e1) refl
+units_of_pair c w x y z digits = grind (arith, nat_tests, common_steps, le-ltb)
 
 -- below that it has the form of its one code unit
 one_unit : (f : Flavor) (c : ℕ) → c < 0x10000 → encoding f (c ∷ []) ≡ form f c ++ []

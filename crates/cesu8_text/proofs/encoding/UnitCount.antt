@@ -1,5 +1,6 @@
 -- How many UTF-16 code units a text has, from its UTF-8: one for each lead byte, and two for that of
 -- four bytes.
+use Rattle.std.proofs.lemmas.Grind.{common_steps}
 use Rattle.std.proofs.Common.{◌≡◌, ℕ, ◌+◌, ◌*◌, ◌/◌, ◌%◌, ◌<◌, ◌≤◌, List, [], ◌∷◌, refl, sym, ap, ◌∙◌, arith, length, length-append, sum_by}
 use Rattle.std.specs.Str.{chars, IsUtf8}
 use Rattle.std.proofs.lemmas.Bool.Decides.{nat_tests}
@@ -84,7 +85,4 @@ length_units (c ∷ text) is_text =
 -- The same of the text that std's UTF-8 has, by its bytes.
 pub units_by_bytes : (text bytes : List ℕ) (sum : ℕ) → bytes ≡ text → IsUtf8 text → sum ≡ sum_by (weight_of is_one_unit) bytes →
     sum ≡ length (units (chars text))
-units_by_bytes text bytes sum same is_utf8 summed =
-    let of_chars = IsUtf8Of_chars text is_utf8 in
-    summed ∙ ap (sum_by (weight_of is_one_unit)) (same ∙ sym of_chars.1)
-    ∙ sym (length_units (chars text) of_chars.0)
+units_by_bytes text bytes sum same is_utf8 summed = grind (arith, nat_tests, common_steps, IsUtf8Of_chars, length_units)

@@ -1,4 +1,6 @@
 -- The laws that are put together from several lemmas.
+use Rattle.std.proofs.lemmas.Bool.Decides.{nat_tests}
+use Rattle.std.proofs.lemmas.Grind.{common_steps}
 use Rattle.std.proofs.Common.{refl, sym, ap, ◌∙◌, subst, arith, length}
 use Rattle.std.specs.Str.{chars, IsUtf8}
 use Rattle.cesu8_text.specs.Text.{utf8}
@@ -74,10 +76,7 @@ unchanged_encoding_law f text is_text = (
 
 -- no byte of MUTF-8 is 0, and none of an encoding is F0 (hexadecimal) or more
 pub no_zero_law : NoZero
-no_zero_law text is_text = (
-  (λ k d inside. (encoded_bytes Mutf8 text is_text k d inside).some refl),
-  (λ f k d inside. (encoded_bytes f text is_text k d inside).low),
-)
+no_zero_law = grind (arith, nat_tests, common_steps, encoded_bytes)
 
 -- a lossy reading is read again as itself
 pub read_again_law : ReadAgain

@@ -1,4 +1,5 @@
 -- The ranks of the bytes of UTF-8 compare as the UTF-16 code units do.
+use Rattle.std.proofs.lemmas.Grind.{common_steps}
 use Rattle.std.proofs.Common.{◌≡◌, ◌≢◌, ℕ, ◌+◌, ◌-◌, ◌*◌, ◌/◌, ◌%◌, ◌<◌, ◌≤◌, ◌⊎◌, List, [], ◌∷◌, ◌++◌, map, refl, sym, ap, ◌∙◌, subst, inl, inr, ⊎_elim, arith}
 use Rattle.std.specs.Str.{chars, IsUtf8}
 use Rattle.std.specs.List.{flat_map}
@@ -191,7 +192,4 @@ rank_order s t is_text other_is_text = grind (arith, compares_as, ranks_below, s
 -- The same of the texts that std's UTF-8 has, by its bytes.
 pub rank_order_by_bytes : (text other bytes other_bytes : List ℕ) → bytes ≡ text → other_bytes ≡ other → IsUtf8 text → IsUtf8 other →
     slice_cmp nat_cmp (map utf16_rank bytes) (map utf16_rank other_bytes) ≡ slice_cmp nat_cmp (units (chars text)) (units (chars other))
-rank_order_by_bytes text other bytes other_bytes same other_same is_utf8 other_is_utf8 =
-    let of_chars = IsUtf8Of_chars text is_utf8 in
-    let of_other = IsUtf8Of_chars other other_is_utf8 in
-    rw (same ∙ sym of_chars.1, other_same ∙ sym of_other.1) (rank_order (chars text) (chars other) of_chars.0 of_other.0)
+rank_order_by_bytes text other bytes other_bytes same other_same is_utf8 other_is_utf8 = grind (arith, nat_tests, common_steps, IsUtf8Of_chars, rank_order)

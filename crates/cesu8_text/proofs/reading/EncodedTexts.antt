@@ -1,4 +1,6 @@
 -- The lossy reading of bytes with encoded texts among them.
+use Rattle.std.proofs.lemmas.Bool.Decides.{nat_tests}
+use Rattle.std.proofs.lemmas.Grind.{common_steps}
 use Rattle.std.proofs.Common.{◌≡◌, ℕ, ◌+◌, ◌≤◌, ◌⊎◌, List, [], ◌∷◌, ◌++◌, refl, sym, ap, ◌∙◌, ⊎_elim, arith, length, append_assoc, append-nil}
 use Rattle.cesu8_text.specs.Text.{IsText}
 use Rattle.cesu8_text.specs.Encoding.{Flavor, encoding}
@@ -12,10 +14,7 @@ use Rattle.cesu8_text.proofs.reading.Splits.{split}
 -- the encoding of a text, and more, begins with its first character
 begins_text : (f : Flavor) (c : ℕ) (text rest : List ℕ) → IsText (c ∷ text) →
     BeginsWith f (encoding f (c ∷ text) ++ rest) c (encoding f text ++ rest)
-begins_text f c text rest is_text = record {
-  scalar = is_text.0;
-  bytes_are = ap (λ bs. bs ++ rest) (encoding_cons f c text) ∙ append_assoc (encoding f (c ∷ [])) (encoding f text) rest;
-}
+begins_text f c text rest is_text = grind (arith, nat_tests, common_steps, encoding_cons)
 
 -- The lossy reading of an encoded text and more is the text and the reading of what follows.
 pub reading_text : (f : Flavor) (text rest : List ℕ) → IsText text → reading f (encoding f text ++ rest) ≡ text ++ reading f rest
@@ -65,7 +64,4 @@ before_text f w (c ∷ text) is_text =
 
 -- Encoded texts around bytes change nothing of their reading, and stay what they are.
 pub around : Around
-around f s w t is_text other_is_text =
-    ap (reading f) (append_assoc (encoding f s) w (encoding f t))
-    ∙ reading_text f s (w ++ encoding f t) is_text
-    ∙ ap (λ cs. s ++ cs) (before_text f w t other_is_text) ∙ sym (append_assoc s (reading f w) t)
+around = grind (arith, nat_tests, common_steps, before_text, reading_text)

@@ -1,4 +1,6 @@
 -- What is known of the texts of bytes, by what a call takes.
+use Rattle.std.proofs.lemmas.Bool.Decides.{nat_tests}
+use Rattle.std.proofs.lemmas.Grind.{common_steps}
 use Rattle.std.proofs.Common.{arith}
 use Rattle.std.proofs.Common.{◌≡◌, ℕ, ◌↔◌, ◌⊎◌, inr, ⊎_elim, List, refl, sym, ap, ◌∙◌, subst}
 use Rattle.std.specs.Str.{chars, IsUtf8}
@@ -19,10 +21,7 @@ strict_only f bytes text other reads also =
 
 -- A call that takes the encoding alone reads all bytes so.
 encoding_alone : (f : Flavor) (bytes : List ℕ) → ReadsEncoding f bytes (IsStrictReading f bytes) (λ text. text ≡ reading f bytes)
-encoding_alone f bytes = record {
-  strictly = λ text. ((λ reads. reads), (λ reads. reads));
-  lossily = λ text. ((λ is. is), (λ is. is));
-}
+encoding_alone f bytes = grind (arith, nat_tests, common_steps)
 
 -- To it UTF-8 in which nothing changes is that of its characters.
 pub encoding_texts : (f : Flavor) (bytes : List ℕ) →

@@ -1,4 +1,5 @@
 -- What stands at the front of bytes: the function finds it, and nothing stands inside it.
+use Rattle.std.proofs.lemmas.Grind.{common_steps}
 use Rattle.std.proofs.lemmas.Bool.Decides.{nat_tests}
 use Rattle.std.proofs.Common.{◌≡◌, ℕ, Bool, true, ◌&&◌, ◌⊎◌, List, [], ◌∷◌, Some, None, cond, sym, ap, ◌∙◌, subst, inl, inr, ⊎_elim, arith, take, drop, eqb, leb, ltb}
 use Rattle.std.specs.List.{find, starts_with}
@@ -16,10 +17,7 @@ scalar_from_test : (c : ℕ) → is_scalar_value c ≡ true → IsScalarValue c
 scalar_from_test c passes = grind (arith, nat_tests)
 
 test_from_scalar : (c : ℕ) → IsScalarValue c → is_scalar_value c ≡ true
-test_from_scalar c (inl low) = or_left (ltb c 0xD800) _ (lt-ltb c 0xD800 low)
-test_from_scalar c (inr high) =
-    or_right (ltb c 0xD800) _
-    (and_from (leb 0xE000 c) (ltb c 0x110000) (le-leb 0xE000 c high.0) (lt-ltb c 0x110000 high.1))
+test_from_scalar c h1 = grind (arith, nat_tests, common_steps, and_from, le-leb, lt-ltb, or_left, or_right)
 
 -- the test of one candidate
 abbrev begins : Flavor → List ℕ → ℕ → Bool
@@ -29,10 +27,7 @@ begins_from_test : (f : Flavor) (bytes : List ℕ) (c : ℕ) → begins f bytes 
 begins_from_test f bytes c passes = grind (arith, and_parts, bytes_eq-Decides, scalar_from_test, take-append-drop)
 
 test_from_begins : (f : Flavor) (bytes : List ℕ) (c : ℕ) (rest : List ℕ) → BeginsWith f bytes c rest → begins f bytes c ≡ true
-test_from_begins f bytes c rest h =
-    and_from (is_scalar_value c) (starts_with eqb bytes (encoding f (c ∷ []))) (test_from_scalar c h.scalar)
-    ((bytes_eq-Decides (encoding f (c ∷ [])) (take (width f c) bytes)).1
-    (sym (ap (take (width f c)) h.bytes_are ∙ take-append_seam (encoding f (c ∷ [])) rest)))
+test_from_begins f bytes c rest h = grind (arith, nat_tests, common_steps, and_from, bytes_eq-Decides, take-append_seam, test_from_scalar)
 
 -- the first of a list that passes
 found_passes : (p : ℕ → Bool) (xs : List ℕ) (c : ℕ) → find p xs ≡ Some c → p c ≡ true

@@ -1,4 +1,5 @@
 -- How one scalar value is written, with the digits as variables.
+use Rattle.std.proofs.lemmas.Grind.{common_steps}
 use Rattle.std.proofs.lemmas.Bool.Decides.{nat_tests}
 use Rattle.std.proofs.Common.{◌≡◌, ℕ, ◌+◌, ◌-◌, ◌*◌, ◌/◌, ◌%◌, ◌<◌, ◌≤◌, ◌⊎◌, [], ◌∷◌, refl, inl, inr, arith}
 use Rattle.std.proofs.lemmas.Bool.{lt-ltb, le-ltb, cases_lt}
@@ -61,10 +62,7 @@ utf8_of_one c h = rw (lt-ltb c 0x80 h) refl
 
 pub utf8_of_two : (c x y : ℕ) → IsTwo c x y → utf8_of c ≡ (0xC0 + x) ∷ (0x80 + y) ∷ []
 unfolding utf8_of
-utf8_of_two c x y digits =
-    let e0 : c / 0x40 ≡ x = omega arith in
-    let e1 : c % 0x40 ≡ y = omega arith in
-    rw (le-ltb c 0x80 (omega arith), lt-ltb c 0x800 (omega arith), e0, e1) refl
+utf8_of_two c x y digits = grind (arith, nat_tests, common_steps, le-ltb, lt-ltb)
 
 pub utf8_of_three : (c x y z : ℕ) → IsThree c x y z → utf8_of c ≡ (0xE0 + x) ∷ (0x80 + y) ∷ (0x80 + z) ∷ []
 unfolding utf8_of
