@@ -1,28 +1,26 @@
-//! The last bytes of a slice as a block, with zeros behind them.
+//! A few bytes as a block, with zeros behind them.
 //!
 //! A block that is copied to a buffer and read from there at once waits for its bytes to be stored.
 //! So shuffles make it in registers.
 
-ghost use Rattle.std.specs.Prelude.{◌≡◌, ◌<◌, ◌≤◌, ◌+◌, ◌-◌, ◌++◌, length, drop, replicate};
-ghost use Rattle.std.specs.Simd.Lanes.{chunk};
+ghost use Rattle.std.specs.Prelude.{◌≡◌, ◌<◌, ◌≤◌, ◌-◌, ◌++◌, length, drop, replicate};
 ghost use Rattle.cesu8_bytes.specs.Padded.{ends_of};
 
 use crate::BLOCK;
-use crate::implementation::class::LANES;
 use crate::implementation::short::end_vector;
 use std::simd::prelude::*;
 
-/// How many bytes are a quarter of a block.
-pub const QUARTER: usize = LANES / 4;
+/// How many bytes are half a block.
+const HALF: usize = BLOCK / 2;
 
-/// The indices of a quarter, then as many that give 0.
-const INDICES: [u8; 2 * QUARTER] = [
+/// The indices of a half, then as many that give 0.
+const INDICES: [u8; 2 * HALF] = [
     0, 1, 2, 3, 4, 5, 6, 7, 8, 9, 10, 11, 12, 13, 14, 15, //
     128, 128, 128, 128, 128, 128, 128, 128, 128, 128, 128, 128, 128, 128, 128, 128,
 ];
 
-/// By length, which lanes of `ends` are less than a quarter of bytes, in their order. Others give 0.
-const IN_ENDS: [[u8; QUARTER]; QUARTER] = [
+/// By length, which lanes of `ends` are less than half a block, in their order. Others give 0.
+const IN_ENDS: [[u8; HALF]; HALF] = [
     [
         128, 128, 128, 128, 128, 128, 128, 128, 128, 128, 128, 128, 128, 128, 128, 128,
     ],
@@ -63,26 +61,26 @@ const IN_ENDS: [[u8; QUARTER]; QUARTER] = [
 
 /// Returns that table. Indexed as a constant, it would be copied to the stack.
 #[inline(always)]
-fn in_ends() -> &'static [[u8; QUARTER]; QUARTER]
+fn in_ends() -> &'static [[u8; HALF]; HALF]
     ensures { result.now ≡ IN_ENDS }
 {
     &IN_ENDS
 }
 
-/// Returns less than a quarter of bytes, with zeros behind them.
+/// Returns less than half a block, with zeros behind them.
 #[inline(always)]
 fn padded_few(bytes: &[u8]) -> u8x16
-    requires { length bytes.now < QUARTER }
-    ensures { result ≡ bytes.now ++ replicate (QUARTER - length bytes.now) 0 }
+    requires { length bytes.now < HALF }
+    ensures { result ≡ bytes.now ++ replicate (HALF - length bytes.now) 0 }
 {
     ends(bytes).swizzle_dyn_within::<16>(u8x16::from_array(in_ends()[bytes.len()]))
 }
 
-/// Returns the first of less than a quarter of bytes, and behind them the last ones, which together
+/// Returns the first of less than half a block, and behind them the last ones, which together
 /// are all: eight of each, or else four, two or one.
 #[inline(always)]
 fn ends(bytes: &[u8]) -> u8x16
-    requires { length bytes.now < QUARTER }
+    requires { length bytes.now < HALF }
     ensures { result ≡ ends_of bytes.now }
 {
     if bytes.len() >= 8 {
@@ -115,13 +113,13 @@ pub fn padded_half(bytes: &[u8]) -> u8x32
     requires { length bytes.now ≤ BLOCK }
     ensures { result ≡ bytes.now ++ replicate (BLOCK - length bytes.now) 0 }
 {
-    if bytes.len() < QUARTER {
+    if bytes.len() < HALF {
         return joined(padded_few(bytes), u8x16::splat(0));
     }
-    joined(u8x16::from_slice(bytes), padded_quarter(bytes, QUARTER))
+    joined(u8x16::from_slice(bytes), second_half(bytes))
 }
 
-/// Returns two quarters, one behind the other.
+/// Returns two halves, one behind the other.
 #[inline(always)]
 fn joined(first: u8x16, second: u8x16) -> u8x32
     ensures { result ≡ first ++ second }
@@ -135,17 +133,13 @@ fn joined(first: u8x16, second: u8x16) -> u8x32
     )
 }
 
-/// Returns the bytes of a quarter from an index on, with zeros for those behind the end.
+/// Returns the bytes behind the first half of a block, with zeros behind them.
 #[inline(always)]
-fn padded_quarter(bytes: &[u8], from: usize) -> u8x16
-    requires quarter { QUARTER ≤ length bytes.now }
-    requires from { from + QUARTER ≤ length bytes.now + LANES }
-    ensures { result ≡ chunk from QUARTER (bytes.now ++ replicate LANES 0) }
+fn second_half(bytes: &[u8]) -> u8x16
+    requires { (HALF ≤ length bytes.now) × (length bytes.now ≤ BLOCK) }
+    ensures { result ≡ drop HALF bytes.now ++ replicate (BLOCK - length bytes.now) 0 }
 {
-    // A load lies in the slice, so near the end it begins before the index, and the shuffle moves
-    // its bytes to the front.
-    let start = from.min(bytes.len() - QUARTER);
-    let behind = (from - start).min(QUARTER);
-    let indices = u8x16::from_slice(&INDICES[behind..]);
-    u8x16::from_slice(&bytes[start..]).swizzle_dyn_within::<16>(indices)
+    // A load lies in the slice, so it begins before them, and the shuffle moves them to the front.
+    let indices = u8x16::from_slice(&INDICES[BLOCK - bytes.len()..]);
+    end_vector::<HALF>(bytes).swizzle_dyn_within::<16>(indices)
 }

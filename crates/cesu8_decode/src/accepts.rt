@@ -1,7 +1,7 @@
 //! What a call that decodes takes, as types.
 
-ghost use Rattle.std.specs.Prelude.{◌≡◌, ◌↔◌, ℕ, List, IsTrue, IsUtf8, length};
-ghost use Rattle.cesu8_text.specs.Class.{IsUnchangedUtf8};
+ghost use Rattle.std.specs.Prelude.{◌≡◌, ◌↔◌, ◌≤◌, ℕ, Any, List, IsTrue, IsUtf8, length, take};
+ghost use Rattle.cesu8_text.specs.Class.{IsChangedByte, IsUnchangedUtf8};
 ghost use Rattle.cesu8_text.specs.Encoding.{Flavor as AnyFlavor, Cesu8};
 ghost use Rattle.cesu8_text.specs.Reading.{IsStrictReading, IsLenientReading, reading, IsLenientLossyReading};
 ghost use Rattle.cesu8_text.specs.Kept.{KnowsTexts};
@@ -11,6 +11,7 @@ ghost use Rattle.cesu8_decode.specs.Front.{IsFront};
 
 use crate::character_set;
 use crate::front::front;
+use crate::way::SHORT_WINDOW;
 use cesu8_bytes::flavor::{Cesu8Flavor, Flavor};
 use cesu8_bytes::looks::{contains_changed, is_short_ascii, is_short_unchanged_ascii};
 
@@ -64,19 +65,33 @@ impl Accepts for Lenient {
 
     #[inline(always)]
     fn kept_front<F: Flavor>(bytes: &[u8]) -> usize {
-        // In CESU-8 no ASCII changes.
+        // In CESU-8 no ASCII changes, so 00 is passed over too.
         front::<Cesu8Flavor, character_set::Utf8>(bytes)
     }
 
     #[inline(always)]
     fn unchanged_front<F: Flavor>(bytes: &[u8], front: usize) -> usize {
-        if contains_changed::<F>(&bytes[..front]) {
+        // What has a character that changes is refused.
+        if may_change::<F>(bytes, front) {
             return crate::front::front::<F, character_set::Unchanged>(bytes);
         }
         front
     }
 
     ghost known = { lenient_texts };
+}
+
+/// Returns whether a byte of the front may change. Of fewer bytes it is one of all, so that no branch
+/// depends on how long the front is, which would be guessed wrong.
+#[inline(always)]
+fn may_change<F: Flavor>(bytes: &[u8], front: usize) -> bool
+    requires { front ≤ length bytes.now }
+    ensures { Any (IsChangedByte F.flavor) (take front bytes.now) → IsTrue result }
+{
+    if bytes.len() < SHORT_WINDOW {
+        return contains_changed::<F>(bytes);
+    }
+    contains_changed::<F>(&bytes[..front])
 }
 
 /// The encoding alone. UTF-8 is one if no byte of it changes.

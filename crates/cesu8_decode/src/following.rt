@@ -83,12 +83,14 @@ pub fn two_follow<F: Flavor, S: CharacterSet>(bytes: &[u8], at: usize) -> bool
     requires { at + DECIDING + 2 * BLOCK ≤ length bytes.now }
     ensures { IsTrue result → AllFollow S.set F.flavor bytes.now at (2 * BLOCK) }
 {
-    let first = block_at(bytes, at);
-    let second = block_at(bytes, at + BLOCK);
-    let above = above_ascii::<F>(first.bytes) | above_ascii::<F>(second.bytes);
+    // What stands before each byte is loaded only behind this test.
+    let above = above_ascii::<F>(block_at(bytes, at).bytes)
+        | above_ascii::<F>(block_at(bytes, at + BLOCK).bytes);
     if bits::<NonAscii, BLOCK>(above) == 0 && begins_with_ascii(bytes, at) {
         return true;
     }
+    let first = block_at(bytes, at);
+    let second = block_at(bytes, at + BLOCK);
     bits::<HighestBit, BLOCK>(misplaced::<F, S>(first) | misplaced::<F, S>(second)) == 0
 }
 

@@ -6,9 +6,10 @@
 //! branch on a single byte. In strict reading no byte may be ill-formed. `lengths` adds up the
 //! length of the text.
 //!
-//! Each call begins with `front`: how many bytes are whole characters that are the same in UTF-8.
-//! `following` tells by vectors which byte may follow which, for the characters of a `character_set`,
-//! and `valid_up_to` is the same test of all encoded characters. `accepts` has what a call takes.
+//! Each call begins with `front`: how many bytes are whole characters that are the same in UTF-8, or
+//! in a lenient call all of UTF-8. `following` tells by vectors which byte may follow which, for the
+//! characters of a `character_set`, and `valid_up_to` is the same test of all encoded characters.
+//! `accepts` has what a call takes.
 //!
 //! `way` decides which way other bytes go. A few are read one character after another, by `characters`.
 //! More are read in one pass, by `in_place`: `whole_blocks` reads blocks where they stand, and

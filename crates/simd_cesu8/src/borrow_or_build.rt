@@ -2,9 +2,9 @@
 //!
 //! Decoding returns short ASCII first, in a function that is inlined into the public call. The
 //! rest of it, in a function whose name ends in `other` or `called`, is never inlined, so that this
-//! test stays small. It begins with the front, the characters that are the same in UTF-8: where that is
-//! all the result borrows, and else what stands behind it decides. What a call takes is a type,
-//! `Lenient` or `EncodingAlone`. Of strings in a row one look shows short ASCII, whatever its length.
+//! test stays small. It begins with the front, the characters that the call keeps: where that is all the
+//! result borrows, and else what stands behind it decides. What a call takes is a type, `Lenient` or
+//! `EncodingAlone`. Of strings in a row one look shows short ASCII, whatever its length.
 
 ghost use Rattle.std.specs.Prelude.{take};
 ghost use Rattle.simd_cesu8.specs.Calls.{Encodes, DecodesAs, DecodesLossily, DecodesStrictly};

@@ -1,8 +1,7 @@
--- Bytes with zeros behind them: a shuffle by sixteen of the indices makes a quarter of these.
-use Rattle.std.proofs.Common.{◌≡◌, ℕ, ◌+◌, ◌*◌, ◌/◌, ◌-◌, ◌<◌, ◌≤◌, true, ◌||◌, cond, List, ◌++◌, length, take, drop, get_or, replicate, eqb, refl, sym, ap, ◌∙◌, subst, arith, w8, length-append, ◌⊎◌, inl, inr, min}
-use Rattle.std.proofs.Math.Seq.{take-append-add}
+-- Bytes with zeros behind them: a shuffle by sixteen of the indices makes half a block of these.
+use Rattle.std.proofs.Common.{◌≡◌, ℕ, ◌+◌, ◌*◌, ◌/◌, ◌-◌, ◌<◌, ◌≤◌, true, ◌||◌, cond, List, ◌++◌, length, drop, get_or, replicate, eqb, refl, sym, ap, ◌∙◌, subst, arith, w8, length-append, ◌⊎◌, inl, inr}
 use Rattle.std.proofs.lemmas.Bool.{agree_below_at, cases_lt, eqb-true}
-use Rattle.std.proofs.lemmas.List.{ext_get_or, get_or_append_left, get_or-append_right, length-drop, drop-append-le, take-replicate}
+use Rattle.std.proofs.lemmas.List.{ext_get_or, get_or_append_left, get_or-append_right, get_or-drop, length-drop}
 use Rattle.std.proofs.lemmas.Simd.{swz_l, SwzOk, SwzOk-from_Each1, length-swz_l, get_or-swz_l, get_or-swz_l_below, length-chunk, get_or-chunk, get_or-replicate, length-replicate, Each1-from_get_or}
 use lib.Dec.{T, ltb}
 use lib.Lanes.{chunk}
@@ -22,7 +21,7 @@ index_at behind m low l =
 long_indices : (behind : ℕ) → behind ≤ 16 → length (indices_from behind) ≡ 16
 long_indices behind low = length-chunk 0 16 (chunk behind (32 - behind) INDICES) (omega (arith, length-chunk behind (32 - behind) INDICES (omega (arith, low))))
 
--- An index is one of a quarter, or gives zero.
+-- An index is one of a half, or gives zero.
 pub indices_ok : (behind : ℕ) → behind ≤ 16 → SwzOk w8 16 16 0 (indices_from behind)
 indices_ok behind low =
     SwzOk-from_Each1 w8 16 1 16 0 (indices_from behind) refl (omega (arith, long_indices behind low))
@@ -31,66 +30,42 @@ indices_ok behind low =
     subst (λ j. T (zeroes 16 w8 j || ltb j 16)) (sym (index_at behind m low small))
     (subst T (sym (agree_below_at (λ k. zeroes 16 w8 (get_or INDICES k 0) || ltb (get_or INDICES k 0) 16) (λ _. true) 32 (behind + m) refl (omega (arith, low, small)))) _)))
 
--- The first sixteen indices are those of a quarter,
-index_of_quarter : (j : ℕ) → j < 16 → get_or INDICES j 0 ≡ j
-index_of_quarter j l = eqb-true _ _ (agree_below_at (λ k. eqb (get_or INDICES k 0) k) (λ _. true) 16 j refl l)
+-- The first sixteen indices are those of a half,
+index_of_half : (j : ℕ) → j < 16 → get_or INDICES j 0 ≡ j
+index_of_half j l = eqb-true _ _ (agree_below_at (λ k. eqb (get_or INDICES k 0) k) (λ _. true) 16 j refl l)
 
 -- and the others give zero.
 index_behind : (k : ℕ) → k < 16 → zeroes 16 w8 (get_or INDICES (16 + k) 0) ≡ true
 index_behind k l = agree_below_at (λ k. zeroes 16 w8 (get_or INDICES (16 + k) 0)) (λ _. true) 16 k refl l
 
-abbrev with_block_of_zeros : List ℕ → List ℕ
-with_block_of_zeros bytes = bytes ++ replicate 64 0
-
--- A lane is that of the quarter, or zero behind the bytes.
-lane_is : (bytes : List ℕ) (from start behind m : ℕ) → 16 ≤ length bytes → from + 16 ≤ length bytes + 64 → start ≡ min from (length bytes - 16) →
-    behind ≡ min (from - start) 16 → m < 16 → (behind + m < 16) ⊎ (16 ≤ behind + m) →
-    get_or (swz_l w8 16 (chunk start 16 bytes) 0 (indices_from behind)) m 0 ≡ get_or (with_block_of_zeros bytes) (from + m) 0
-lane_is bytes from start behind m long room starts is l (inl below) =
+-- A lane is that of the bytes behind some, or zero behind them all.
+lane_is : (last : List ℕ) (behind m : ℕ) → length last ≡ 16 → behind ≤ 16 → m < 16 → (behind + m < 16) ⊎ (16 ≤ behind + m) →
+    get_or (swz_l w8 16 last 0 (indices_from behind)) m 0 ≡ get_or (drop behind last ++ replicate behind 0) m 0
+lane_is last behind m long low l (inl below) =
     let js = indices_from behind in
-    let low : behind ≤ 16 = omega (arith, is) in
-    let index : get_or js m 0 ≡ behind + m = index_at behind m low l ∙ index_of_quarter (behind + m) below in
+    let index : get_or js m 0 ≡ behind + m = index_at behind m low l ∙ index_of_half (behind + m) below in
     let lane : 16 * ((0 + m) / 16) + get_or js m 0 ≡ behind + m = omega (arith, index) in
-    let here : start + (behind + m) ≡ from + m = omega (arith, starts, is, below) in
-    let inside : from + m < length bytes = omega (arith, starts, here, below) in
-    get_or-swz_l_below w8 16 (chunk start 16 bytes) 0 js m (omega (arith, l, long_indices behind low)) (omega (arith, index, below))
-    ∙ ap (λ k. get_or (chunk start 16 bytes) k 0) lane
-    ∙ get_or-chunk start 16 bytes (behind + m) 0 below
-    ∙ ap (λ k. get_or bytes k 0) here
-    ∙ sym (get_or_append_left bytes (replicate 64 0) 0 (from + m) inside)
-lane_is bytes from start behind m long room starts is l (inr above) =
+    get_or-swz_l_below w8 16 last 0 js m (omega (arith, l, long_indices behind low)) (omega (arith, index, below))
+    ∙ ap (λ k. get_or last k 0) lane
+    ∙ sym (get_or_append_left (drop behind last) (replicate behind 0) 0 m (omega (arith, length-drop behind last, below, long)) ∙ get_or-drop behind last m 0)
+lane_is last behind m long low l (inr above) =
     let js = indices_from behind in
-    let low : behind ≤ 16 = omega (arith, is) in
     let place : 16 + (behind + m - 16) ≡ behind + m = omega (arith, above) in
     let zero_here : zeroes 16 w8 (get_or js m 0) ≡ true =
     ap (zeroes 16 w8) (index_at behind m low l) ∙ ap (λ k. zeroes 16 w8 (get_or INDICES k 0)) (sym place)
     ∙ index_behind (behind + m - 16) (omega (arith, low, l, above)) in
-    let outside : length bytes ≤ from + m = omega (arith, starts, is, above, long) in
-    get_or-swz_l w8 16 (chunk start 16 bytes) 0 js m (omega (arith, l, long_indices behind low))
-    ∙ ap (λ t. cond t 0 (get_or (chunk start 16 bytes) (16 * ((0 + m) / 16) + get_or js m 0) 0)) zero_here
-    ∙ sym (get_or-append_right bytes (replicate 64 0) (length bytes) (from + m) 0 refl outside
-    ∙ get_or-replicate {A = ℕ} 64 (from + m - length bytes) 0 0 (omega (arith, room, l, outside)))
+    let rest = length-drop behind last in
+    get_or-swz_l w8 16 last 0 js m (omega (arith, l, long_indices behind low))
+    ∙ ap (λ t. cond t 0 (get_or last (16 * ((0 + m) / 16) + get_or js m 0) 0)) zero_here
+    ∙ sym (get_or-append_right (drop behind last) (replicate behind 0) (length (drop behind last)) m 0 refl (omega (arith, rest, long, above))
+    ∙ get_or-replicate {A = ℕ} behind (m - length (drop behind last)) 0 0 (omega (arith, rest, long, l, low, above)))
 
--- The shuffle makes the quarter.
-pub quarter_is : (bytes : List ℕ) (from start behind : ℕ) → 16 ≤ length bytes → from + 16 ≤ length bytes + 64 → start ≡ min from (length bytes - 16) →
-    behind ≡ min (from - start) 16 → swz_l w8 16 (chunk start 16 bytes) 0 (indices_from behind) ≡ chunk from 16 (with_block_of_zeros bytes)
-quarter_is bytes from start behind long room starts is =
-    let js = indices_from behind in
-    let low : behind ≤ 16 = omega (arith, is) in
-    let whole = length-append bytes (replicate 64 0) in
-    let many : length (swz_l w8 16 (chunk start 16 bytes) 0 js) ≡ 16 = length-swz_l w8 16 (chunk start 16 bytes) 0 js ∙ long_indices behind low in
-    let rest : from + 16 ≤ length (with_block_of_zeros bytes) = omega (arith, whole, length-replicate {A = ℕ} 64 0, room) in
-    ext_get_or 0 _ _ (many ∙ sym (length-chunk from 16 (with_block_of_zeros bytes) rest)) (λ m l.
+-- The shuffle moves the last ones to the front.
+pub moved : (last : List ℕ) (behind : ℕ) → length last ≡ 16 → behind ≤ 16 → swz_l w8 16 last 0 (indices_from behind) ≡ drop behind last ++ replicate behind 0
+moved last behind long low =
+    let many : length (swz_l w8 16 last 0 (indices_from behind)) ≡ 16 = length-swz_l w8 16 last 0 (indices_from behind) ∙ long_indices behind low in
+    let whole : length (drop behind last ++ replicate behind 0) ≡ 16 =
+    length-append (drop behind last) (replicate behind 0) ∙ omega (arith, length-drop behind last, length-replicate {A = ℕ} behind 0, long, low) in
+    ext_get_or 0 _ _ (many ∙ sym whole) (λ m l.
     let small : m < 16 = omega (arith, l, many) in
-    lane_is bytes from start behind m long room starts is small (cases_lt (behind + m) 16) ∙ sym (get_or-chunk from 16 (with_block_of_zeros bytes) m 0 small))
-
--- What is from an index on is the bytes there with zeros behind them.
-pub last_block : (bytes : List ℕ) (from n : ℕ) → from ≤ length bytes → length bytes ≤ from + n → n ≤ 64 →
-    chunk from n (with_block_of_zeros bytes) ≡ drop from bytes ++ replicate (from + n - length bytes) 0
-last_block bytes from n inside l fits =
-    let rest = drop from bytes in
-    let many : length rest + (from + n - length bytes) ≡ n = omega (arith, length-drop from bytes, inside, l) in
-    ap (take n) (drop-append-le from bytes (replicate 64 0) inside)
-    ∙ ap (λ n. take n (rest ++ replicate 64 0)) (sym many)
-    ∙ take-append-add rest (replicate 64 0) (from + n - length bytes)
-    ∙ ap (λ zeros. rest ++ zeros) (take-replicate (from + n - length bytes) 64 0 (omega (arith, inside, fits)))
+    lane_is last behind m long low small (cases_lt (behind + m) 16))

@@ -8,8 +8,8 @@ returns-then-begins_with_ascii g c _ =
     let f = g.F.Flavor.flavor in
     let bytes = c.args.bytes.now in
     let at = c.args.at in
-    let first = marked_at f bytes at _ c.block_at-first.ensures c.above_ascii.result c.above_ascii.ensures in
-    let second = marked_at f bytes (at + 32) _ c.block_at-second.ensures c.above_ascii-2.result c.above_ascii-2.ensures in
+    let first = marked_at f bytes at _ c.block_at.ensures c.above_ascii.result c.above_ascii.ensures in
+    let second = marked_at f bytes (at + 32) _ c.block_at-2.ensures c.above_ascii-2.result c.above_ascii-2.ensures in
     let none = none_of_two c.above_ascii.result c.above_ascii-2.result (ap length first ∙ sym (ap length second)) (sym c.bits.ensures ∙ c.if-bits-eq0.true) in
     two_plain g.S.CharacterSet.set f bytes at c.above_ascii.result c.above_ascii-2.result first second
     (c.begins_with_ascii.ensures c.if-begins_with_ascii.true) none.0 none.1
