@@ -16,4 +16,5 @@ pub mod WeightRest
 pub mod FollowingLanes
 pub mod FollowingBlocks
 pub mod DecodedWindows
+pub mod ToldChanges
 pub mod BlocksInPlace

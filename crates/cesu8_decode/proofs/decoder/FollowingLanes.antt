@@ -126,7 +126,7 @@ all_kept bytes long = subst (λ n. replicate {A = ℕ} n 0xFF ≡ map (kept_of U
 
 -- ---- what three bytes want
 
-is_high_lane : (b : ℕ) → b < 0x100 → eqb (bit_and b 0xF0) 0xA0 ≡ (leb 0xA0 b && ltb b 0xB0)
+pub is_high_lane : (b : ℕ) → b < 0x100 → eqb (bit_and b 0xF0) 0xA0 ≡ (leb 0xA0 b && ltb b 0xB0)
 is_high_lane b h = agree_below_at (λ b. eqb (bit_and b 0xF0) 0xA0) (λ b. leb 0xA0 b && ltb b 0xB0) 0x100 b refl h
 
 -- What is left of a byte less 60 has the highest bit from E0 on.
