@@ -14,4 +14,5 @@ pub mod SavedRest
 pub mod FollowingLanes
 pub mod FollowingBlocks
 pub mod DecodedWindows
+pub mod ToldChanges
 pub mod BlocksInPlace

@@ -1,5 +1,5 @@
 -- The lanes of the decoder's vectors.
-use Rattle.std.specs.Prelude.{◌≡◌, ℕ, ◌+◌, ◌-◌, ◌/◌, ◌%◌, ◌<◌, ◌≤◌, ◌||◌, ◌==◌, nat_le, nat_lt, if◌then◌else◌, Bool, true, false, List, [], ◌++◌, map, take, replicate, slice_index, slice_index_or, bit_and}
+use Rattle.std.specs.Prelude.{◌≡◌, ℕ, ◌+◌, ◌-◌, ◌*◌, ◌^◌, ◌/◌, ◌%◌, ◌<◌, ◌≤◌, ◌&&◌, ◌||◌, ◌==◌, nat_le, nat_lt, if◌then◌else◌, Bool, true, false, List, [], ◌++◌, map, take, replicate, slice_index, slice_index_or, bit_and, bit_or}
 use Rattle.std.specs.List.{range_with_len}
 use Rattle.cesu8_text.specs.Encoding.{Flavor}
 use Rattle.cesu8_bytes.specs.Pairs.{null_at}
@@ -37,9 +37,11 @@ abbrev pub AreFiveKinds : Flavor → List ℕ → ℕ → List ℕ → ℕ → T
 AreFiveKinds f window n kinds p = (k : ℕ) → k < 5 → slice_index kinds (p + k) ≡ start_kind f window (n + k)
 
 -- Vector d of six has the kinds of the 32 offsets that follow the first `at` + d.
+abbrev pub AreNear : (ℕ → ℕ) → ℕ → List (List ℕ) → Type 0
+AreNear kind at kinds = (d : ℕ) → d < 6 → slice_index_or kinds d [] ≡ map (λ i. kind (i + d)) (range_with_len at 32)
+
 abbrev pub AreKindsNear : Flavor → List ℕ → ℕ → List (List ℕ) → Type 0
-AreKindsNear f window at kinds =
-    (d : ℕ) → d < 6 → slice_index_or kinds d [] ≡ map (λ i. start_kind f window (i + d)) (range_with_len at 32)
+AreKindsNear f window = AreNear (start_kind f window)
 
 -- Whether the byte of a window goes that follows the first i bytes and five more, and the byte that is
 -- written if it stays.
@@ -59,6 +61,21 @@ is_high lane = nat_le 0x80 lane
 -- A surrogate pair begins at an offset, or C0 80 in MUTF-8. UTF-8 has other bytes for these.
 abbrev pub begins_changed : Flavor → List ℕ → ℕ → Bool
 begins_changed f window i = start_kind f window i == 0x20 || start_kind f window i == 0x80
+
+-- A kind tells of an offset whether a surrogate pair begins there, or C0 80 in MUTF-8.
+pub record TellsChange (f : Flavor) (window : List ℕ) (i kind : ℕ) : Type 0 where
+  pub pair : is_high (kind * 2 ^ 2 % 2 ^ 8) ≡ (width_at f window i == 6)
+  pub null : is_high kind ≡ (width_at f window i == 2 && slice_index window i == 0xC0)
+
+-- The kinds of the offsets around a block do.
+abbrev pub TellChanges : Flavor → List ℕ → ℕ → (ℕ → ℕ) → Type 0
+TellChanges f window at kind = (i : ℕ) → at ≤ i → i < at + 37 → TellsChange f window i (kind i)
+
+-- The kind that two bytes tell where all are in encoded characters: of a surrogate pair, or of C0 80
+-- in MUTF-8.
+abbrev pub change_kind : Flavor → ℕ → ℕ → ℕ
+change_kind f a b =
+    bit_or (if a == 0xED && (nat_le 0xA0 b && nat_lt b 0xB0) then 0x20 else 0) (if null_at f a 0x80 then 0x80 else 0)
 
 -- None does at the 32 offsets of a block that follow `at` offsets and five more, nor at those five.
 abbrev pub NoneBeginsChanged : Flavor → List ℕ → ℕ → Type 0

@@ -11,6 +11,7 @@ ghost use Rattle.cesu8_decode.specs.Decoding.{most_written};
 ghost use Rattle.cesu8_decode.specs.DecodedOffsets.{decoded, is_ill_formed_at};
 ghost use Rattle.cesu8_decode.specs.DecodedLanes.{start_kind, AreFiveKinds, AreKindsNear, NoneBeginsChanged, is_high};
 
+use super::following::block_at;
 use super::offsets::{BEHIND, Kinds, LEAD, REACH, near, starts};
 use super::packing::{HighestBit, store, store_whole};
 use super::parts::{changed_parts, ill_formed, kept_parts};
@@ -75,7 +76,7 @@ pub fn write_block<F: Flavor, S: Reading>(
                 kinds: here,
             };
         }
-        let parts = changed_parts::<F>(window, &kinds, at, count, marks);
+        let parts = changed_parts::<F>(block_at(window, at + 1), &kinds, count, marks);
         if found == 0 {
             return Block {
                 end: store_whole(parts, out, end),

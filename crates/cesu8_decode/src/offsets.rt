@@ -2,11 +2,11 @@
 //!
 //! The six bytes from the offset on decide this. The result is one bit, or none.
 
-ghost use Rattle.std.specs.Prelude.{◌≡◌, ◌==◌, ◌+◌, ◌-◌, ◌%◌, ◌≤◌, ℕ, List, length, map, slice_index};
+ghost use Rattle.std.specs.Prelude.{◌≡◌, ◌==◌, ◌+◌, ◌-◌, ◌%◌, ◌<◌, ◌≤◌, ℕ, List, length, map, slice_index};
 ghost use Rattle.std.specs.List.{range_with_len};
 ghost use Rattle.std.specs.Simd.Lanes.{zip2};
 ghost use Rattle.cesu8_text.specs.Encoding.{Flavor};
-ghost use Rattle.cesu8_decode.specs.DecodedLanes.{told, kind_of_two, start_kind, AreFiveKinds, AreKindsNear};
+ghost use Rattle.cesu8_decode.specs.DecodedLanes.{told, kind_of_two, start_kind, AreNear};
 
 use super::packing::HighestBit;
 use cesu8_bytes::BLOCK;
@@ -59,6 +59,8 @@ macro_rules! numbers_from {
 pub const NUMBERS: [u8; BLOCK] = numbers_from!(0);
 
 // The indices of 32 lanes, from the number in the name on.
+pub const FROM_1: [usize; BLOCK] = numbers_from!(1);
+
 pub const FROM_27: [usize; BLOCK] = numbers_from!(27);
 
 pub const FROM_28: [usize; BLOCK] = numbers_from!(28);
@@ -122,10 +124,10 @@ pub type Kinds = [u8x32; 6];
 /// the last five count. Before the first block they are zeros. `parts` reads them by their index.
 #[inline(always)]
 pub fn near(before: u8x32, here: u8x32) -> Kinds
-    ensures { (f : Flavor) (window : List ℕ) (at : ℕ)
-        → AreFiveKinds f window at before (BLOCK - BEHIND)
-        → here ≡ map (start_kind f window) (range_with_len (at + BEHIND) BLOCK)
-        → AreKindsNear f window at result }
+    ensures { (kind : ℕ → ℕ) (at : ℕ)
+        → ((k : ℕ) → k < BEHIND → slice_index before (BLOCK - BEHIND + k) ≡ kind (at + k))
+        → here ≡ map kind (range_with_len (at + BEHIND) BLOCK)
+        → AreNear kind at result }
 {
     [
         before.shuffle::<32>(here, FROM_27),

@@ -1,18 +1,27 @@
 //! Up to 32 bytes, read as one block: no branch depends on where in them a character changes.
+//!
+//! In strict reading nothing is written before all are known to be in encoded characters. Two bytes
+//! then tell where a surrogate pair begins, and the block stays in registers.
 
-ghost use Rattle.std.specs.Prelude.{◌≡◌, ℕ, ◌≤◌, ◌+◌, length, take, slice_index};
+ghost use Rattle.std.specs.Prelude.{◌≡◌, ℕ, ◌≤◌, ◌*◌, length, take, slice_index};
+ghost use Rattle.std.specs.Simd.Lanes.{zip2};
+ghost use Rattle.cesu8_bytes.specs.declared.strictness.Strictness.TheVariants.{Strict, Lossy};
+ghost use Rattle.cesu8_decode.specs.DecodedLanes.{change_kind};
 ghost use Rattle.cesu8_decode.specs.DecodedOffsets.{window_of};
-ghost use Rattle.cesu8_decode.specs.Decoding.{ReadsAll, most_written};
+ghost use Rattle.cesu8_decode.specs.Decoding.{ReadsAll};
 
 use super::block::write_block;
 use super::decoded::{Decoded, refused};
-use super::offsets::REACH;
-use super::packing::{ROOM, WELL_FORMED_ROOM};
-use super::reading::Reading;
+use super::following::block_behind;
+use super::ill_formed::is_ill_formed;
+use super::offsets::{FROM_1, KIND_OF_NULL, KIND_OF_PAIR, REACH, near};
+use super::packing::{ROOM, WELL_FORMED_ROOM, store_whole};
+use super::parts::changed_parts;
+use super::reading::LossyReading;
 use super::window::BEFORE;
 use cesu8_bytes::BLOCK;
 use cesu8_bytes::flavor::Flavor;
-use cesu8_bytes::packing::STORED;
+use cesu8_bytes::implementation::class::{Equal, mask};
 use cesu8_bytes::padded::padded_half;
 use std::simd::prelude::*;
 
@@ -25,20 +34,57 @@ pub const STRICT_TEXT: usize = WELL_FORMED_ROOM;
 /// The same in lossy reading.
 pub const LOSSY_TEXT: usize = ROOM;
 
-/// Writes the text of at most 32 bytes to the front of an array.
+/// Writes the strict reading of at most 32 bytes to the front of an array.
 #[inline(always)]
-pub fn write_one_block<F: Flavor, S: Reading>(bytes: &[u8], out: &mut [u8]) -> Decoded
+pub fn write_one_strictly<F: Flavor>(bytes: &[u8], out: &mut [u8]) -> Decoded
     requires bytes { length bytes.now ≤ BLOCK }
-    requires room { most_written S.which BLOCK + STORED ≤ length out.old }
-    ensures read { ReadsAll F.flavor S.which bytes.now
+    requires room { STRICT_TEXT ≤ length out.old }
+    ensures read { ReadsAll F.flavor Strict bytes.now
         result.read (take result.end out.new) result.is_ill_formed }
-    ensures end { result.end ≤ most_written S.which (length bytes.now) }
+    ensures end { result.end ≤ length bytes.now }
     ensures len { length out.new ≡ length out.old }
 {
-    let block = write_block::<F, S>(&window_on(bytes), u8x32::splat(0), 0, bytes.len(), out, 0);
-    if block.is_refused {
+    if is_ill_formed::<F>(bytes) {
         return refused(bytes);
     }
+    let zeros = u8x32::splat(0);
+    let block = block_behind(zeros, padded_half(bytes));
+    let next = block.bytes.shuffle::<32>(zeros, FROM_1);
+    let kinds = near(zeros, changes::<F>(block.bytes, next));
+    let parts = changed_parts::<F>(block, &kinds, bytes.len(), zeros);
+    Decoded {
+        read: bytes.len(),
+        end: store_whole(parts, out, 0),
+        is_ill_formed: false,
+    }
+}
+
+/// Returns what each two bytes tell where all are in encoded characters.
+#[inline(always)]
+fn changes<F: Flavor>(bytes: u8x32, next: u8x32) -> u8x32
+    ensures { result ≡ zip2 (change_kind F.flavor) bytes next }
+{
+    let pairs = mask::<Equal<0xED>>(bytes)
+        & mask::<Equal<0xA0>>(next & u8x32::splat(0xF0))
+        & u8x32::splat(KIND_OF_PAIR);
+    if F::has_long_null() {
+        return pairs | (mask::<Equal<0xC0>>(bytes) & u8x32::splat(KIND_OF_NULL));
+    }
+    pairs
+}
+
+/// Writes the lossy reading of at most 32 bytes to the front of an array.
+#[inline(always)]
+pub fn write_one_block<F: Flavor>(bytes: &[u8], out: &mut [u8]) -> Decoded
+    requires bytes { length bytes.now ≤ BLOCK }
+    requires room { LOSSY_TEXT ≤ length out.old }
+    ensures read { ReadsAll F.flavor Lossy bytes.now
+        result.read (take result.end out.new) result.is_ill_formed }
+    ensures end { result.end ≤ 3 * length bytes.now }
+    ensures len { length out.new ≡ length out.old }
+{
+    let window = window_on(bytes);
+    let block = write_block::<F, LossyReading>(&window, u8x32::splat(0), 0, bytes.len(), out, 0);
     Decoded {
         read: bytes.len(),
         end: block.end,

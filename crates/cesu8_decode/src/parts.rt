@@ -15,8 +15,10 @@ ghost use Rattle.std.specs.Simd.Lanes.{sel_l};
 ghost use Rattle.cesu8_text.specs.Encoding.{Flavor};
 ghost use Rattle.cesu8_bytes.specs.Kernels.{mask};
 ghost use Rattle.cesu8_decode.specs.DecodedOffsets.{is_ill_formed_at};
-ghost use Rattle.cesu8_decode.specs.DecodedLanes.{start_kind, AreKindsNear, NoneBeginsChanged, AreParts, is_high, goes_at, byte_at};
+ghost use Rattle.cesu8_decode.specs.Following.{IsBlockAt};
+ghost use Rattle.cesu8_decode.specs.DecodedLanes.{AreKindsNear, AreNear, TellChanges, NoneBeginsChanged, AreParts, is_high, goes_at, byte_at};
 
+use super::following::Block;
 use super::offsets::{BEHIND, KIND_OF_PAIR, KINDS_OF_THREE, Kinds, NUMBERS, REACH, look_up};
 use super::packing::{HighestBit, Parts};
 use cesu8_bytes::BLOCK;
@@ -58,29 +60,26 @@ pub fn kept_parts(bytes: u8x32, ill_formed: u8x32, count: usize) -> Parts
 }
 
 /// Returns what becomes of the first `count` bytes of a block, of which those that are ill-formed
-/// are marked.
+/// are marked. Of the kinds only those of surrogate pairs and of C0 80 count.
 #[inline(always)]
 pub fn changed_parts<F: Flavor>(
-    window: &[u8],
+    block: Block,
     kinds: &Kinds,
-    at: usize,
     count: usize,
     ill_formed: u8x32,
 ) -> Parts
-    requires count { count ≤ BLOCK }
-    requires window { at + REACH ≤ length window.now }
-    requires kinds { AreKindsNear F.flavor window.now at kinds.now }
-    requires marks { map is_high ill_formed
-        ≡ map (is_ill_formed_at F.flavor window.now) (range_with_len at count)
-        ++ replicate (BLOCK - count) false }
-    ensures parts { AreParts F.flavor window.now at count
-        result.gone result.ill_formed result.bytes }
+    requires { count ≤ BLOCK }
+    ensures parts { (window : List ℕ) (at : ℕ) (kind : ℕ → ℕ) → IsBlockAt window (at + 1) block
+        → TellChanges F.flavor window at kind → AreNear kind at kinds.now
+        → map is_high ill_formed ≡ map (is_ill_formed_at F.flavor window) (range_with_len at count)
+        ++ replicate (BLOCK - count) false
+        → AreParts F.flavor window at count result.gone result.ill_formed result.bytes }
 
     // What is known of the marks, as that none is set, is known of these.
     ensures ill_formed { result.ill_formed ≡ ill_formed }
 {
     Parts {
-        bytes: changed_bytes::<F>(window, kinds, at),
+        bytes: changed_bytes::<F>(block, kinds),
         gone: gone(kinds, count),
         ill_formed,
     }
@@ -92,7 +91,8 @@ pub fn changed_parts<F: Flavor>(
 #[inline(always)]
 fn gone(kinds: &Kinds, count: usize) -> u8x32
     requires count { count ≤ BLOCK }
-    ensures { (f : Flavor) (window : List ℕ) (at : ℕ) → AreKindsNear f window at kinds.now
+    ensures { (f : Flavor) (window : List ℕ) (at : ℕ) (kind : ℕ → ℕ)
+        → TellChanges f window at kind → AreNear kind at kinds.now
         → map is_high result
         ≡ map (goes_at f window) (range_with_len at count) ++ replicate (BLOCK - count) true }
 {
@@ -146,24 +146,22 @@ fn behind(count: u8) -> u8x32
 /// Returns the bytes, with those of surrogate pairs and of C0 80 replaced by what they become. Most
 /// texts of MUTF-8 have only one of the two.
 #[inline(always)]
-fn changed_bytes<F: Flavor>(window: &[u8], kinds: &Kinds, at: usize) -> u8x32
-    requires window { at + REACH ≤ length window.now }
-    requires kinds { AreKindsNear F.flavor window.now at kinds.now }
-    ensures { (count : ℕ) → count ≤ BLOCK
-        → take count result ≡ map (byte_at F.flavor window.now) (range_with_len at count) }
+fn changed_bytes<F: Flavor>(block: Block, kinds: &Kinds) -> u8x32
+    ensures { (window : List ℕ) (at : ℕ) (kind : ℕ → ℕ) → IsBlockAt window (at + 1) block
+        → TellChanges F.flavor window at kind → AreNear kind at kinds.now
+        → (count : ℕ) → count ≤ BLOCK
+        → take count result ≡ map (byte_at F.flavor window) (range_with_len at count) }
 {
     let pairs = kinds[3] | kinds[2] | kinds[1];
-    let byte = u8x32::from_slice(&window[at + BEHIND..]);
-    let changed = changed_nulls::<F>(kinds[4], byte);
+    let changed = changed_nulls::<F>(kinds[4], block.bytes);
     if F::has_long_null() && bits::<HighestBit, BLOCK>(pairs << u8x32::splat(2)) == 0 {
         return changed;
     }
     let half = u8x32::splat(0x0F);
-    let before = u8x32::from_slice(&window[at + 4..]);
-    let two_before = u8x32::from_slice(&window[at + 3..]);
-    let first = look_up(FIRST_BY_SECOND, before);
-    let second = look_up(SECOND_BY_SECOND, two_before) | ((before >> u8x32::splat(2)) & half);
-    let third = look_up(THIRD_BY_THIRD, two_before) | (byte & half);
+    let first = look_up(FIRST_BY_SECOND, block.one_before);
+    let second = look_up(SECOND_BY_SECOND, block.two_before)
+        | ((block.one_before >> u8x32::splat(2)) & half);
+    let third = look_up(THIRD_BY_THIRD, block.two_before) | (block.bytes & half);
     let changed = chosen(kinds[1], third, changed);
     let changed = chosen(kinds[2], second, changed);
     chosen(kinds[3], first, changed)
@@ -173,8 +171,8 @@ fn changed_bytes<F: Flavor>(window: &[u8], kinds: &Kinds, at: usize) -> u8x32
 /// before. CESU-8 has none.
 #[inline(always)]
 fn changed_nulls<F: Flavor>(before: u8x32, bytes: u8x32) -> u8x32
-    ensures { (window : List ℕ) (at : ℕ)
-        → before ≡ map (λ i. start_kind F.flavor window (i + 4)) (range_with_len at BLOCK)
+    ensures { (window : List ℕ) (at : ℕ) (kind : ℕ → ℕ) → TellChanges F.flavor window at kind
+        → before ≡ map (λ i. kind (i + 4)) (range_with_len at BLOCK)
         → result ≡ sel_l (map (nat_le 0x80) before) (replicate BLOCK 0) bytes }
 {
     if F::has_long_null() {

@@ -22,15 +22,13 @@ use crate::forms::begins_changed;
 use crate::ill_formed::is_ill_formed;
 use crate::in_place::{LONG_TEXT, SHORT_TEXT, write_text};
 use crate::lengths::lossy_len;
-use crate::one_block::{LOSSY_TEXT, STRICT_TEXT, write_one_block};
+use crate::one_block::{LOSSY_TEXT, STRICT_TEXT, write_one_block, write_one_strictly};
 use crate::packing::WIDEST;
-use crate::reading::{LossyReading, Reading, StrictReading};
 use crate::refusal::{Unwritten, is_refused};
-use crate::way::{FEW_BYTES, LONG_WINDOW, SHORT_WINDOW, Way, strict_way, way_of};
+use crate::way::{FEW_BYTES, LONG_WINDOW, SHORT_WINDOW, Way, way_of};
 use cesu8_bytes::BLOCK;
 use cesu8_bytes::flavor::Flavor;
 use cesu8_bytes::implementation::short::copy_short;
-use cesu8_bytes::packing::STORED;
 use cesu8_bytes::put::put;
 use cesu8_bytes::strictness::Strictness;
 use cesu8_bytes::writers::{NoRoom, copy_to_slice};
@@ -55,7 +53,7 @@ pub fn put_strictly<F: Flavor>(
     }
     // One block is read whole, in less time than its front is copied.
     if bytes.len() <= BLOCK {
-        return put_strictly_by::<F>(strict_way(bytes, front), bytes, buf);
+        return put_one_strictly::<F>(bytes, buf);
     }
     let start = front.min(buf.len());
     match put_strictly_by::<F>(way_of(rest), rest, &mut buf[start..]) {
@@ -79,7 +77,7 @@ pub fn put_lossily<F: Flavor>(bytes: &[u8], buf: &mut [u8]) -> Result<usize, Unw
 {
     let lossy = Strictness::Lossy;
     match way_of(bytes) {
-        Way::OneBlock => put_block::<F, LossyReading, LOSSY_TEXT>(bytes, buf),
+        Way::OneBlock => put_one_lossily::<F>(bytes, buf),
         Way::Characters if WIDEST * bytes.len() <= FEW_BYTES => {
             put_characters::<F, FEW_BYTES>(lossy, bytes, buf)
         }
@@ -98,7 +96,7 @@ fn put_strictly_by<F: Flavor>(way: Way, bytes: &[u8], buf: &mut [u8]) -> Result<
 {
     let strict = Strictness::Strict;
     match way {
-        Way::OneBlock => put_block::<F, StrictReading, STRICT_TEXT>(bytes, buf),
+        Way::OneBlock => put_one_strictly::<F>(bytes, buf),
         Way::Characters => put_characters::<F, FEW_BYTES>(strict, bytes, buf),
         Way::ShortWindow => put_by_array::<F, SHORT_WINDOW>(strict, bytes, buf),
         Way::LongWindow => put_by_array::<F, LONG_WINDOW>(strict, bytes, buf),
@@ -106,19 +104,26 @@ fn put_strictly_by<F: Flavor>(way: Way, bytes: &[u8], buf: &mut [u8]) -> Result<
     }
 }
 
-/// Writes the text of the bytes of one block, by an array of this length.
+/// Writes the strict reading of the bytes of one block, to an array first.
 #[inline(never)]
-fn put_block<F: Flavor, S: Reading, const WRITTEN: usize>(
-    bytes: &[u8],
-    buf: &mut [u8],
-) -> Result<usize, Unwritten>
-    requires bytes { length bytes.now ≤ BLOCK }
-    requires room { (most_written S.which BLOCK + STORED ≤ WRITTEN) × (WRITTEN ≤ LONG_TEXT) }
-    ensures { PutsReading F.flavor S.which bytes.now result buf.old buf.new }
+fn put_one_strictly<F: Flavor>(bytes: &[u8], buf: &mut [u8]) -> Result<usize, Unwritten>
+    requires { length bytes.now ≤ BLOCK }
+    ensures { PutsReading F.flavor Strict bytes.now result buf.old buf.new }
 {
-    let mut written = [0; WRITTEN];
-    let decoded = write_one_block::<F, S>(bytes, &mut written);
-    put_decoded(S::strictness(), decoded, &written, buf)
+    let mut written = [0; STRICT_TEXT];
+    let decoded = write_one_strictly::<F>(bytes, &mut written);
+    put_decoded(Strictness::Strict, decoded, &written, buf)
+}
+
+/// Does so in lossy reading.
+#[inline(never)]
+fn put_one_lossily<F: Flavor>(bytes: &[u8], buf: &mut [u8]) -> Result<usize, Unwritten>
+    requires { length bytes.now ≤ BLOCK }
+    ensures { PutsReading F.flavor Lossy bytes.now result buf.old buf.new }
+{
+    let mut written = [0; LOSSY_TEXT];
+    let decoded = write_one_block::<F>(bytes, &mut written);
+    put_decoded(Strictness::Lossy, decoded, &written, buf)
 }
 
 /// Does so for a few, one character after another. It is not inlined, so that the array is made only

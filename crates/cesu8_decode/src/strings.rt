@@ -17,10 +17,9 @@ use crate::forms::begins_changed;
 use crate::fronts::{LONG_FRONT, append_by_fronts};
 use crate::in_place::{LONG_TEXT, SHORT_TEXT, append_strictly, write_text};
 use crate::lengths::lossy_len;
-use crate::one_block::{LOSSY_TEXT, STRICT_TEXT, write_one_block};
-use crate::reading::{LossyReading, StrictReading};
+use crate::one_block::{LOSSY_TEXT, STRICT_TEXT, write_one_block, write_one_strictly};
 use crate::slices::CHARACTERS_TEXT;
-use crate::way::{FEW_BYTES, Way, strict_way, way_of};
+use crate::way::{FEW_BYTES, Way, way_of};
 use cesu8_bytes::BLOCK;
 use cesu8_bytes::copies::{append, copy};
 use cesu8_bytes::flavor::Flavor;
@@ -39,7 +38,10 @@ pub fn write_strictly<F: Flavor>(bytes: &[u8], front: usize, empty: Vec<u8>) -> 
     if !begins_changed::<F>(rest) {
         return None;
     }
-    if let Way::Characters = strict_way(rest, front) {
+    if bytes.len() <= BLOCK {
+        return append_one::<F>(bytes, empty);
+    }
+    if let Way::Characters = way_of(rest) {
         write_few::<F>(bytes, front, empty)
     } else {
         write_many::<F>(bytes, front, empty)
@@ -80,17 +82,13 @@ fn write_few<F: Flavor>(bytes: &[u8], front: usize, empty: Vec<u8>) -> Option<Ve
 }
 
 /// Writes the front as it is, and the strict reading of the bytes behind it: from one character that
-/// changes to the next where they seem to stand far apart, and else block by block. One block is read
-/// whole, in less time than its front is copied.
+/// changes to the next where they seem to stand far apart, and else block by block.
 #[inline(never)]
 fn write_many<F: Flavor>(bytes: &[u8], front: usize, empty: Vec<u8>) -> Option<Vec<u8>>
     requires front { IsFront Unchanged F.flavor bytes.now front }
     requires empty { (empty.items ≡ []) × (length bytes.now ≤ vec_capacity empty) }
     ensures { AppendsStrictly F.flavor bytes.now empty result }
 {
-    if bytes.len() <= BLOCK {
-        return append_one::<F>(bytes, empty);
-    }
     if front >= LONG_FRONT {
         return append_by_fronts::<F>(bytes, front, empty);
     }
@@ -110,7 +108,7 @@ fn append_one<F: Flavor>(
     ensures { AppendsStrictly F.flavor bytes.now before result }
 {
     let mut written = [0; STRICT_TEXT];
-    let decoded = write_one_block::<F, StrictReading>(bytes, &mut written);
+    let decoded = write_one_strictly::<F>(bytes, &mut written);
     if decoded.is_ill_formed {
         return None;
     }
@@ -144,7 +142,7 @@ fn build_one<F: Flavor>(alloc: Global, bytes: &[u8]) -> Result<Vec<u8>, AllocErr
     ensures { BuildsReading F.flavor bytes.now result }
 {
     let mut written = [0; LOSSY_TEXT];
-    let decoded = write_one_block::<F, LossyReading>(bytes, &mut written);
+    let decoded = write_one_block::<F>(bytes, &mut written);
     copy(alloc, &written[..decoded.end])
 }
 

@@ -27,7 +27,7 @@ width_bounds f window i =
     (pair_at (w i) (w (i + 1)) (w (i + 2)) (w (i + 3)) (w (i + 4)) (w (i + 5)))
 
 -- A zero is no character of two bytes or more.
-zero_width : (f : Flavor) (window : List ℕ) (i : ℕ) → get_or window i 0 ≡ 0 → width_at f window i ≤ 1
+pub zero_width : (f : Flavor) (window : List ℕ) (i : ℕ) → get_or window i 0 ≡ 0 → width_at f window i ≤ 1
 unfolding first_width_by
 zero_width Cesu8 window i null = rw null (omega arith)
 zero_width Mutf8 window i null = rw null (omega arith)

@@ -74,7 +74,7 @@ by_pieces f (Replaced b ∷ pieces) are_pieces is_greedy =
     })
 
 -- Bytes are the encoding of their lossy reading, or have a fault.
-whole_or_faulty : (f : Flavor) (bytes : List ℕ) → IsStrictReading f bytes (reading f bytes) ⊎ HasFault f bytes
+pub whole_or_faulty : (f : Flavor) (bytes : List ℕ) → IsStrictReading f bytes (reading f bytes) ⊎ HasFault f bytes
 whole_or_faulty f bytes =
     let cutting = greedy_cutting f bytes in
     ⊎_elim (λ (whole : IsStrictReading f (bytes_of f cutting.pieces) (text_of cutting.pieces)).
@@ -86,7 +86,7 @@ whole_or_faulty f bytes =
 -- ---- what is covered
 
 -- Each offset of an encoding is covered.
-encoding_covered : (f : Flavor) (text : List ℕ) (i : ℕ) → IsText text → i < length (encoding f text) → IsCovered f (encoding f text) i
+pub encoding_covered : (f : Flavor) (text : List ℕ) (i : ℕ) → IsText text → i < length (encoding f text) → IsCovered f (encoding f text) i
 encoding_covered f [] i is_text inside = absurd (omega (arith, ap length (encoding_nil f)))
 encoding_covered f (c ∷ text) i is_text inside =
     subst (λ bs. IsCovered f bs i) (sym (encoding_cons f c text))
@@ -168,7 +168,7 @@ covered_in_front f front back i crosses inside covered =
 -- ---- by widths
 
 -- a byte that is not ill-formed is in reach of a character
-reached : (f : Flavor) (window : List ℕ) (i : ℕ) → is_ill_formed_at f window i ≡ false →
+pub reached : (f : Flavor) (window : List ℕ) (i : ℕ) → is_ill_formed_at f window i ≡ false →
     (s : ℕ) × (s < 6) × (6 ≤ width_at f window (i + s) + s)
 reached f window i fine =
     let w = width_at f window in

@@ -128,7 +128,7 @@ all_kept s none bytes long =
 
 -- ---- what three bytes want
 
-is_high_lane : (b : ℕ) → b < 0x100 → eqb (bit_and b 0xF0) 0xA0 ≡ (leb 0xA0 b && ltb b 0xB0)
+pub is_high_lane : (b : ℕ) → b < 0x100 → eqb (bit_and b 0xF0) 0xA0 ≡ (leb 0xA0 b && ltb b 0xB0)
 is_high_lane b h = agree_below_at (λ b. eqb (bit_and b 0xF0) 0xA0) (λ b. leb 0xA0 b && ltb b 0xB0) 0x100 b refl h
 
 -- What is left of a byte has the highest bit from a lead byte on.

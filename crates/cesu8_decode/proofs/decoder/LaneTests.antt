@@ -9,7 +9,7 @@ use Rattle.cesu8_text.specs.Class.{is_null}
 use Rattle.cesu8_bytes.specs.Kernels.{mask}
 use Rattle.cesu8_decode.specs.DecodedOffsets.{one_at, two_at, three_at, pair_at, first_width_by, width_at, is_ill_formed_at}
 use Rattle.cesu8_bytes.specs.Pairs.{null_at}
-use Rattle.cesu8_decode.specs.DecodedLanes.{start_kind, is_high, byte_at}
+use Rattle.cesu8_decode.specs.DecodedLanes.{start_kind, TellsChange, is_high, byte_at}
 use Rattle.cesu8_decode.specs.declared.parts.TheConstants.{FIRST_BY_SECOND, SECOND_BY_SECOND, THIRD_BY_THIRD}
 use Rattle.cesu8_decode.proofs.decoder.StartKinds.{Start, by_kind, start_at, shifted_pair, over_two, over_one, null_bit}
 
@@ -51,10 +51,22 @@ no_pair_begun = by_kind
 last_first : (n p q : Bool) → (n || (p || q)) ≡ (p || (q || n))
 last_first n p q = grind (arith, nat_tests)
 
+-- The kind of an offset tells whether it changes.
+pub kind_tells : (f : Flavor) (window : List ℕ) (i : ℕ) → TellsChange f window i (start_kind f window i)
+kind_tells f window i =
+    let start = start_at f window i in
+    record { pair = shifted_pair _ _ _ start; null = null_bit _ _ _ start }
+
 -- It says whether the byte goes.
-pub lane_goes : (a w c a' w' c' : ℕ) → Start a w c → Start a' w' c' →
-    is_high (gone_lane c c') ≡ (eqb w 6 || (eqb w' 6 || (eqb w 2 && eqb a 0xC0)))
-lane_goes a w c a' w' c' here before = grind (arith, high_or, last_first, null_bit, shifted_or, shifted_pair)
+pub lane_goes : (f : Flavor) (window : List ℕ) (i j c c' : ℕ) → TellsChange f window i c → TellsChange f window j c' →
+    is_high (gone_lane c c')
+    ≡ (eqb (width_at f window i) 6 || (eqb (width_at f window j) 6 || (eqb (width_at f window i) 2 && eqb (get_or window i 0) 0xC0)))
+lane_goes f window i j c c' here before =
+    high_or c (bit_or c c' * 2 ^ 2 % 2 ^ 8)
+    ∙ ap (λ (n : ℕ). leb 0x80 c || leb 0x80 n) (shifted_or c c')
+    ∙ ap (λ (t : Bool). leb 0x80 c || t) (high_or (c * 2 ^ 2 % 2 ^ 8) (c' * 2 ^ 2 % 2 ^ 8))
+    ∙ (λ k. here.null k || (here.pair k || before.pair k))
+    ∙ last_first (eqb (width_at f window i) 2 && eqb (get_or window i 0) 0xC0) (eqb (width_at f window i) 6) (eqb (width_at f window j) 6)
 
 abbrev pub covered_lane : (c0 c1 c2 c3 c4 c5 : ℕ) → ℕ
 covered_lane c0 c1 c2 c3 c4 c5 =
@@ -170,30 +182,31 @@ none_of : (n p q r : Bool) → (n || ((p || q) || r)) ≡ false → (n ≡ false
 none_of n p q r e = grind (arith, nat_tests)
 
 -- It is the byte that is written.
-pub lane_byte : (f : Flavor) (window : List ℕ) (i : ℕ) →
-    let c = start_kind f window in
+pub lane_byte : (f : Flavor) (window : List ℕ) (c : ℕ → ℕ) (i : ℕ) → ((d : ℕ) → d < 6 → TellsChange f window (i + d) (c (i + d))) →
     byte_lane (c (i + 4)) (c (i + 3)) (c (i + 2)) (c (i + 1)) (get_or window (i + 3) 0) (get_or window (i + 4) 0) (get_or window (i + 5) 0)
     ≡ byte_at f window i
-lane_byte f window i =
-    let s = start_at f window in
+lane_byte f window c i tells =
     let b = get_or window (i + 5) 0 in
     let before = get_or window (i + 4) 0 in
     let two_before = get_or window (i + 3) 0 in
-    λ k. cond (shifted_pair _ _ _ (s (i + 3)) k) (first_is before k)
-    (cond (shifted_pair _ _ _ (s (i + 2)) k) (second_is two_before before k)
-    (cond (shifted_pair _ _ _ (s (i + 1)) k) (third_is two_before b k) (cond (null_bit _ _ _ (s (i + 4)) k) 0 b)))
+    let third = tells 3 (omega arith) in
+    let second = tells 2 (omega arith) in
+    let first = tells 1 (omega arith) in
+    let null = tells 4 (omega arith) in
+    λ k. cond (third.pair k) (first_is before k)
+    (cond (second.pair k) (second_is two_before before k) (cond (first.pair k) (third_is two_before b k) (cond (null.null k) 0 b)))
 
 -- It is high where a pair changes the byte,
 abbrev pub paired_lane : (c2 c3 c4 : ℕ) → ℕ
 paired_lane c2 c3 c4 = bit_or (bit_or c2 c3) c4 * 2 ^ 2 % 2 ^ 8
 
 -- and else only a null does.
-pub byte_unpaired : (f : Flavor) (window : List ℕ) (i : ℕ) →
-    let c = start_kind f window in
+pub byte_unpaired : (f : Flavor) (window : List ℕ) (c : ℕ → ℕ) (i : ℕ) → ((d : ℕ) → d < 6 → TellsChange f window (i + d) (c (i + d))) →
     is_high (paired_lane (c (i + 3)) (c (i + 2)) (c (i + 1))) ≡ false → cond (leb 0x80 (c (i + 4))) 0 (get_or window (i + 5) 0) ≡ byte_at f window i
-byte_unpaired f window i low =
-    let c = start_kind f window in
-    let s = start_at f window in
+byte_unpaired f window c i tells low =
+    let t3 = tells 3 (omega arith) in
+    let t2 = tells 2 (omega arith) in
+    let t1 = tells 1 (omega arith) in
     let shifted : ℕ → ℕ = λ c. c * 2 ^ 2 % 2 ^ 8 in
     let c2 = c (i + 3) in
     let c3 = c (i + 2) in
@@ -206,12 +219,12 @@ byte_unpaired f window i low =
     (sym (ap (λ (n : ℕ). leb 0x80 n) (shifted_or (bit_or c2 c3) c4 ∙ ap (λ (n : ℕ). bit_or n (shifted c4)) (shifted_or c2 c3))
     ∙ high_or (bit_or (shifted c2) (shifted c3)) (shifted c4)
     ∙ ap (λ (t : Bool). t || leb 0x80 (shifted c4)) (high_or (shifted c2) (shifted c3))
-    ∙ (λ k. (shifted_pair _ _ _ (s (i + 3)) k || shifted_pair _ _ _ (s (i + 2)) k) || shifted_pair _ _ _ (s (i + 1)) k))
+    ∙ (λ k. (t3.pair k || t2.pair k) || t1.pair k))
     ∙ low) in
-    let third = shifted_pair _ _ _ (s (i + 3)) ∙ all.1 in
-    let second = shifted_pair _ _ _ (s (i + 2)) ∙ all.2 in
-    let first = shifted_pair _ _ _ (s (i + 1)) ∙ all.3 in
+    let third = t3.pair ∙ all.1 in
+    let second = t2.pair ∙ all.2 in
+    let first = t1.pair ∙ all.3 in
     sym (λ k. cond (third k) (first_byte before)
     (cond (second k) (second_byte two_before before)
     (cond (first k) (third_byte two_before b) (cond (leb 0x80 (c (i + 4))) 0 b))))
-    ∙ lane_byte f window i
+    ∙ lane_byte f window c i tells

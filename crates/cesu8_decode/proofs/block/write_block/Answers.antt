@@ -3,9 +3,9 @@ use lib.Lanes.{mask_l}
 use Rattle.cesu8_bytes.specs.declared.strictness.Strictness.TheVariants.{Lossy}
 use Rattle.cesu8_bytes.proofs.vectors.Loads.{loaded}
 use Rattle.cesu8_decode.specs.DecodedOffsets.{is_ill_formed_at}
-use Rattle.cesu8_decode.specs.DecodedLanes.{AreParts}
+use Rattle.cesu8_decode.specs.DecodedLanes.{start_kind, AreParts}
 use Rattle.cesu8_decode.proofs.decoder.BlocksInPlace.{ends_within}
-use Rattle.cesu8_decode.proofs.decoder.DecodedBlocks.{block_written}
+use Rattle.cesu8_decode.proofs.decoder.DecodedBlocks.{block_written, kinds_tell}
 use Rattle.cesu8_decode.proofs.decoder.FirstLanes.{some_bit, no_bit}
 use Rattle.cesu8_decode.proofs.decoder.WholeBlocks.{end_inside}
 use Rattle.cesu8_decode.proofs.decoder.KeptBlocks.{AllStay, ones_stay, one_stays, kinds_of_ones, first_stay, first_kept}
@@ -38,11 +38,19 @@ returns-then-are_ones-clause-kinds g c all =
     ones_stay f window c.args.at c.args.count c.requires.count (omega (arith, c.requires.window)) _ refl
     (c.are_ones.ensures c.if-are_ones.true) i low (omega (arith, all)))
 
+pub ill_formed-marks-requires-clause-kinds : goal.ill_formed-marks-requires-clause-kinds
+ill_formed-marks-requires-clause-kinds g c =
+    c.near-kinds.ensures (start_kind g.F.Flavor.flavor c.args.window.now) c.args.at c.requires.before c.starts-here.ensures
+
+pub ill_formed-marks-requires-else-changes_none-clause-kinds : goal.ill_formed-marks-requires-else-changes_none-clause-kinds
+ill_formed-marks-requires-else-changes_none-clause-kinds g c =
+    c.near-kinds.ensures (start_kind g.F.Flavor.flavor c.args.window.now) c.args.at c.requires.before c.starts-here.ensures
+
 pub ill_formed-marks-requires-clause-kept : goal.ill_formed-marks-requires-clause-kept
 ill_formed-marks-requires-clause-kept g c _ =
     let f = g.F.Flavor.flavor in
     let window = c.args.window.now in
-    c.changes_none.ensures f window c.args.at (c.near-kinds.ensures f window c.args.at c.requires.before c.starts-here.ensures) c.if-changes_none.true
+    c.changes_none.ensures f window c.args.at (c.near-kinds.ensures (start_kind f window) c.args.at c.requires.before c.starts-here.ensures) c.if-changes_none.true
 
 -- The bytes of a block stay where none changes and none is marked.
 kept : (g : Rattle.cesu8_decode.proofs.block.write_block.Given.Over) (c : goal.After-slice_known-then-bits-eq0-1 g) → AllStay g.F.Flavor.flavor c.args.window.now c.args.at c.args.count
@@ -50,7 +58,7 @@ kept g c =
     let f = g.F.Flavor.flavor in
     let window = c.args.window.now in
     let at = c.args.at in
-    first_kept f window at (c.changes_none.ensures f window at (c.near-kinds.ensures f window at c.requires.before c.starts-here.ensures) c.if-changes_none.true)
+    first_kept f window at (c.changes_none.ensures f window at (c.near-kinds.ensures (start_kind f window) at c.requires.before c.starts-here.ensures) c.if-changes_none.true)
     c.args.count c.requires.count c.ill_formed-marks.result c.ill_formed-marks.ensures (sym c.bits.ensures ∙ c.if-bits-eq0.true)
 
 pub returns-then-bits-eq0-clause-bytes : goal.returns-then-bits-eq0-clause-bytes
@@ -68,7 +76,10 @@ returns-then-matches-clause-refused g c some =
 
 pub returns-then-found-eq0-clause-bytes : goal.returns-then-found-eq0-clause-bytes
 returns-then-found-eq0-clause-bytes g c none =
-    let parts = c.changed_parts-parts.ensures.parts in
+    let f = g.F.Flavor.flavor in
+    let window = c.args.window.now in
+    let parts = c.changed_parts-parts.ensures.parts window c.args.at (start_kind f window) c.block_at.ensures (kinds_tell f window c.args.at)
+    (c.near-kinds.ensures (start_kind f window) c.args.at c.requires.before c.starts-here.ensures) c.ill_formed-marks-else-changes_none.ensures in
     c.store_whole.ensures.bytes ∙ ap (λ bs. take c.args.end c.args.out.now ++ bs)
     (block_written g.F.Flavor.flavor c.args.window.now c.args.at c.args.count _ _ _ _ _ parts.gone_are parts.ill_formed_are parts.bytes_are)
 
@@ -79,7 +90,10 @@ returns-then-found-eq0-clause-strict g c strict none =
 
 pub returns-then-found-eq0-clause-end : goal.returns-then-found-eq0-clause-end
 returns-then-found-eq0-clause-end g c =
-    let parts = c.changed_parts-parts.ensures.parts in
+    let f = g.F.Flavor.flavor in
+    let window = c.args.window.now in
+    let parts = c.changed_parts-parts.ensures.parts window c.args.at (start_kind f window) c.block_at.ensures (kinds_tell f window c.args.at)
+    (c.near-kinds.ensures (start_kind f window) c.args.at c.requires.before c.starts-here.ensures) c.ill_formed-marks-else-changes_none.ensures in
     ends_within g.F.Flavor.flavor g.S.Reading.which c.args.window.now c.args.out.now c.store_whole.new.out c.args.at c.args.count c.args.end c.store_whole.result
     (λ strict. no_bit (is_ill_formed_at g.F.Flavor.flavor c.args.window.now) c.args.at c.args.count (32 - c.args.count)
     (sym (c.bits-found.ensures ∙ ap mask_l c.ill_formed-marks-else-changes_none.ensures) ∙ c.if-found-eq0.true))
@@ -97,9 +111,11 @@ parts_are g c =
     let count = c.args.count in
     elim c.if-changes_none.branch [
       | then-changes_none+else-bits-eq0 w ↦ subst (λ p. AreParts f window at count p.gone p.ill_formed p.bytes) (sym w.parts-is)
-          (w.kept_parts-parts.ensures f window at (c.changes_none.ensures f window at (c.near-kinds.ensures f window at c.requires.before c.starts-here.ensures) w.if-changes_none.true)
+          (w.kept_parts-parts.ensures f window at (c.changes_none.ensures f window at (c.near-kinds.ensures (start_kind f window) at c.requires.before c.starts-here.ensures) w.if-changes_none.true)
           (loaded window at 5 32 (omega (arith, c.requires.window))) w.ill_formed-marks.ensures)
-      | else-changes_none+else-found-ne0+else-found-eq0 w ↦ subst (λ p. AreParts f window at count p.gone p.ill_formed p.bytes) (sym w.parts-is) w.changed_parts-parts.ensures.parts
+      | else-changes_none+else-found-ne0+else-found-eq0 w ↦ subst (λ p. AreParts f window at count p.gone p.ill_formed p.bytes) (sym w.parts-is)
+          (w.changed_parts-parts.ensures.parts window at (start_kind f window) w.block_at.ensures (kinds_tell f window at)
+          (c.near-kinds.ensures (start_kind f window) at c.requires.before c.starts-here.ensures) w.ill_formed-marks-else-changes_none.ensures)
     ]
 
 pub returns-in-Strict-strictness-clause-refused : goal.returns-in-Strict-strictness-clause-refused

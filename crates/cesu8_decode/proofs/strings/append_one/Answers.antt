@@ -7,14 +7,14 @@ pub returns-then-decoded : goal.returns-then-decoded
 returns-then-decoded g c = record {
   text = tt;
   capacity = tt;
-  none = (none_if_refused g.F.Flavor.flavor Strict c.args.bytes.now _ _ _ c.write_one_block-decoded.ensures.read.first c.if-decoded.true).1;
+  none = (none_if_refused g.F.Flavor.flavor Strict c.args.bytes.now _ _ _ c.write_one_strictly-decoded.ensures.read.first c.if-decoded.true).1;
 }
 
 pub returns : goal.returns
 returns g c =
     let f = g.F.Flavor.flavor in
     let bytes = c.args.bytes.now in
-    let decoded = c.write_one_block-decoded in
+    let decoded = c.write_one_strictly-decoded in
     record {
       text =
           chunk_appended f Strict bytes [] (take decoded.result.end decoded.new.out) c.args.before.items _
