@@ -12,6 +12,7 @@ use Rattle.cesu8_bytes.specs.declared.strictness.Strictness.TheVariants.{Strict}
 use Rattle.cesu8_decode.proofs.decoder.BlocksInPlace.{ends_within}
 use Rattle.cesu8_decode.proofs.decoder.DecodedBlocks.{block_written}
 use Rattle.cesu8_decode.proofs.decoder.ToldChanges.{told_at, block_tells, none_ill_formed, block_read, block_refused, told_before, told_in_window, none_marked}
+use Rattle.cesu8_decode.proofs.decoder.WholeBlocks.{end_inside}
 use Rattle.cesu8_decode.proofs.one_block.write_one_strictly.Goals as goal
 
 pub returns-then-is_ill_formed-clause-read : goal.returns-then-is_ill_formed-clause-read
@@ -74,5 +75,5 @@ returns-clause-end g c =
       arith,
       ends_within f Strict (window_of (bytes ++ replicate (32 - length bytes) 0)) c.args.out.now c.store_whole.new.out 0 (length bytes) 0 c.store_whole.result
           (λ strict i low inside. none_ill_formed f bytes _ _ written.reads (zeros_at (32 - length bytes)) i (omega (arith, inside)))
-          written.is (omega arith) (omega (arith, c.requires.room, c.store_whole.ensures.end, c.store_whole.ensures.len)),
+          written.is (omega arith) (end_inside _ _ _ 0 _ (omega arith) c.store_whole.ensures),
     )
