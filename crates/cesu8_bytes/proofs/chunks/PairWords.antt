@@ -77,7 +77,7 @@ utf8_word word =
 -- A word has its bytes.
 bytes_of_word : (p q r s : ℕ) → p < 0x100 → q < 0x100 → r < 0x100 → s < 0x100 →
     to_le_bytes w32 (p + q * 0x100 + r * 0x10000 + s * 0x1000000) ≡ p ∷ q ∷ r ∷ s ∷ []
-bytes_of_word p q r s p_byte q_byte r_byte s_byte = grind (arith, nat_tests, common_steps)
+bytes_of_word p q r s p_byte q_byte r_byte s_byte = grind arith
 
 -- The digits that move by ten bits, by four the other way, and by sixteen.
 module _ (a w x e y z more : ℕ) (a_byte : a < 0x100) (w_low : w < 0x10) (x_low : x < 0x40)

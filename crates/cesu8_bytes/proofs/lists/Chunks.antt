@@ -79,4 +79,4 @@ group_elements P a b c d = (
 -- A list of four elements is that of its elements.
 pub group_listed : {X : Type 0} (xs : List X) (e : X) → length xs ≡ 4 →
     xs ≡ get_or xs 0 e ∷ get_or xs 1 e ∷ get_or xs 2 e ∷ get_or xs 3 e ∷ []
-group_listed xs e l = grind (arith, nat_tests, common_steps)
+group_listed xs e l = grind (arith, common_steps)

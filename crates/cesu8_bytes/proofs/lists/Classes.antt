@@ -66,7 +66,7 @@ masked_marks class bits byte told n bytes long fits =
     )
 
 either_ones : (s t : Bool) → bit_or (of_z w8 (lane s)) (of_z w8 (lane t)) ≡ ones (s || t)
-either_ones s t = grind (arith, nat_tests, common_steps)
+either_ones s t = grind arith
 
 -- The marks of two classes, joined, are those of both.
 pub either_marks : (p q : ℕ → Bool) (bytes : List ℕ) (ps qs : List ℤ) → ps ≡ marks_of p bytes → qs ≡ marks_of q bytes →
@@ -80,10 +80,10 @@ either_marks p q bytes ps qs of_p of_q =
     )
 
 or_ones : (s t : Bool) → bit_or (ones s) (ones t) ≡ ones (s || t)
-or_ones s t = grind (arith, nat_tests, common_steps)
+or_ones s t = grind arith
 
 and_ones : (s t : Bool) → bit_and (ones s) (ones t) ≡ ones (s && t)
-and_ones s t = grind (arith, nat_tests, common_steps)
+and_ones s t = grind arith
 
 -- Three comparisons mark the bytes that are below one number, or from a second on below a third.
 pub range_marks : (x y z n : ℕ) (bytes : List ℕ) → length bytes ≡ n →
@@ -107,7 +107,7 @@ top_of_lane false = refl
 -- The highest bits of the marks tell of each byte whether it is of the class.
 tops_of_marks : (p : ℕ → Bool) (bytes : List ℕ) (marks : List ℤ) → marks ≡ marks_of p bytes →
     map (top 7) (map (of_z w8) marks) ≡ map p bytes
-tops_of_marks p bytes marks are = grind (arith, nat_tests, common_steps, Each1-all, map-map, map_agree, top_of_lane)
+tops_of_marks p bytes marks are = grind (arith, Each1-all, map-map, map_agree, top_of_lane)
 
 -- So do the bits.
 pub bits_of_marks : (p : ℕ → Bool) (n : ℕ) (bytes : List ℕ) (marks : List ℤ) → marks ≡ marks_of p bytes → length bytes ≡ n → n ≤ 64 →

@@ -80,7 +80,7 @@ greater_each (x ∷ xs) [] = refl
 greater_each (x ∷ xs) (y ∷ ys) = ap (λ l. greater x y ∷ l) (greater_each xs ys)
 
 greater_keeps : (least a b : ℕ) → IsTrue (leb least a) ⊎ IsTrue (leb least b) → IsTrue (leb least (greater a b))
-greater_keeps least a b s = grind (arith, nat_tests, common_steps, cases_lt, le-leb, le-ltb, leb-true, lt-ltb)
+greater_keeps least a b s = grind (arith, nat_tests)
 
 -- The greatest of four lanes is at least what one of them is at least.
 pub least_in_greatest : (least n : ℕ) (a b c d : List ℕ) → length a ≡ n → length b ≡ n → length c ≡ n → length d ≡ n →
@@ -101,7 +101,7 @@ lesser_each (x ∷ xs) [] = refl
 lesser_each (x ∷ xs) (y ∷ ys) = ap (λ l. lesser x y ∷ l) (lesser_each xs ys)
 
 lesser_keeps : (a b : ℕ) → IsTrue (eqb a 0) ⊎ IsTrue (eqb b 0) → IsTrue (eqb (lesser a b) 0)
-lesser_keeps a b s = grind (arith, nat_tests, common_steps, cases_lt, eq-eqb, eqb-true, le-ltb, lt-ltb)
+lesser_keeps a b s = grind (arith, nat_tests)
 
 -- The least of four lanes is 00 where one of them is.
 pub null_in_least : (byte n : ℕ) (a b c d : List ℕ) → byte ≡ 0 → length a ≡ n → length b ≡ n → length c ≡ n → length d ≡ n →
@@ -126,7 +126,7 @@ lead_of_four chunks h = (h.0, h.1, h.2, h.3, (h.4.0, h.4.1, h.4.2, h.4.3, first_
 
 -- A byte of one class or another is of the one or of the other.
 pub either_of_any : (p q : ℕ → Bool) (chunks : List (List ℕ)) → Any (AnyIn (λ b. p b || q b)) chunks → Any (AnyIn p) chunks ⊎ Any (AnyIn q) chunks
-either_of_any p q chunks h = grind (arith, nat_tests, common_steps, either_holds)
+either_of_any p q chunks h = grind (arith, nat_tests)
 
 -- ---- the test for a lane
 
@@ -145,4 +145,4 @@ some_passes p (x ∷ lanes) = some_passes_by p x lanes (p x) refl (some_passes p
 
 -- Bits that tell of each lane whether it passes a test tell whether some lane does.
 pub any_passes : (p : ℕ → Bool) (lanes : List ℕ) (bits : ℕ) → bits ≡ mask_l (map p lanes) → IsTrue (not (eqb bits 0)) ↔ AnyIn p lanes
-any_passes p lanes bits is = grind (arith, nat_tests, common_steps, eqb-false, ne_eqb, not-true, some_passes)
+any_passes p lanes bits is = grind (arith, eqb-false, ne_eqb, not-true, some_passes)

@@ -60,7 +60,7 @@ ends_stored n bytes out many few room =
 -- Bytes that were appended, cut back to an index and appended again from there on, stand there once.
 pub appended_again : (before bytes : List ℕ) (at written n : ℕ) → at ≤ written →
     take (length before + at) (before ++ take written bytes) ++ take n (drop at bytes) ≡ before ++ take (at + n) bytes
-appended_again before bytes at written n le = grind (arith, nat_tests, common_steps, append_assoc, take-add, take-append-add, take-take)
+appended_again before bytes at written n le = grind (arith, append_assoc, take-add, take-append-add, take-take)
 
 -- Bytes that are written behind others are written with them.
 pub put_behind : (first more old between new : List ℕ) (at end after : ℕ) → PutsAt first at old between end → PutsAt more end between new after →

@@ -17,7 +17,7 @@ module _ {X : Type 0} (P : X → Type 0) (xs : List X) where
 
   -- Where P holds of none before an index and not of the one there, it holds of none before the next index.
   pub none_with_next : (n : ℕ) (e : X) → n < length xs → NoneBefore n → (P (get_or xs n e) → ⊥) → NoneBefore (n + 1)
-  none_with_next n e l none this = grind (arith, nat_tests, common_steps, cases_lt, get_or_default)
+  none_with_next n e l none this = grind (arith, common_steps)
 
   -- Where P holds of none before the end, it holds of no element, so the answer is no.
   pub none_at_end : (n : ℕ) → length xs ≤ n → NoneBefore n → IsTrue false ↔ Any P xs

@@ -52,17 +52,17 @@ sum_by_parts f xs n front back front_is back_is = omega (arith, front_is, back_i
 
 -- With n elements more.
 pub sum_by_next : (f : ℕ → ℕ) (xs : List ℕ) (a n : ℕ) → sum_by f (take a xs) + sum_by f (chunk a n xs) ≡ sum_by f (take (a + n) xs)
-sum_by_next f xs a n = grind (arith, nat_tests, common_steps, drop-drop, sum_by-take-drop)
+sum_by_next f xs a n = grind (arith, drop-drop, sum_by-take-drop)
 
 -- The last n elements without those before the last k.
 pub last_of_last : {X : Type 0} (xs : List X) (n k : ℕ) → k ≤ n → n ≤ length xs → drop (n - k) (chunk (length xs - n) n xs) ≡ drop (length xs - k) xs
-last_of_last xs n k few within = grind (arith, nat_tests, common_steps, drop-drop, length-drop, take_all)
+last_of_last xs n k few within = grind (arith, common_steps)
 
 -- ---- bits of marks
 
 -- The bits of a mask behind the first n are as many as the elements behind these that pass.
 pub bits_behind : (p : ℕ → Bool) (xs : List ℕ) (n bits : ℕ) → n ≤ length xs → bits ≡ mask_l (map p xs) → count_ones (bits / 2 ^ n) ≡ count_by p (drop n xs)
-bits_behind p xs n bits le is = grind (arith, nat_tests, common_steps, drop-map, length-map, mask_rest, ones-mask_l)
+bits_behind p xs n bits le is = grind (arith, drop-map, length-map, mask_rest, ones-mask_l)
 
 -- ---- lanes that count their own bytes
 
@@ -139,7 +139,7 @@ module _ (p : ℕ → Bool) (block : List ℕ) (n : ℕ) (lanes : List ℕ) (mar
 pub block_counted : (class : ℕ → Bool) (block : List ℕ) (n : ℕ) (ones fours : List ℕ) →
     length block ≤ 64 * n → HaveCounted class block n ones → HaveCounted is_four block n fours →
     sum_l ones + 2 * sum_l fours ≡ sum_by (weight_of class) block
-block_counted class block n ones fours whole of_class of_four = grind (arith, nat_tests, common_steps, take_all, weight_by_counts)
+block_counted class block n ones fours whole of_class of_four = grind (arith, take_all, weight_by_counts)
 
 -- The sum of dot products with ones is the sum of the lanes, which fits.
 module _ (n : ℕ) (few : n ≤ 16) (lanes : List ℕ) (long : length lanes ≡ 4 * n) (fits : Each1 (Fits w8) lanes) where

@@ -11,7 +11,7 @@ use lib.Lanes.{mask_l, put_chunk, chunk, pick_l, Each1}
 
 -- the lowest bit of a mask, and the others
 pub lowest : (t : Bool) (m : ℕ) → (eqb ((cond t 1 0 + 2 * m) % 2) 1 ≡ t) × ((cond t 1 0 + 2 * m) / 2 ≡ m)
-lowest t m = grind (arith, nat_tests, common_steps)
+lowest t m = grind arith
 
 -- It takes the lanes at its indices.
 pub shuffled : (lanes js : List ℕ) → length js ≡ 16 → Each1 (λ j. j < 16) js → swz_l w8 16 lanes 0 js ≡ map (λ j. get_or lanes j 0) js

@@ -1,4 +1,5 @@
 -- What the vectors of the encoder hold, lane by lane.
+use Rattle.std.proofs.lemmas.Grind.{common_steps}
 use Rattle.std.proofs.Common.{◌≡◌, ℕ, ◌+◌, ◌*◌, ◌/◌, ◌%◌, ◌^◌, Bool, true, false, cond, ◌||◌, ◌&&◌, List, [], ◌∷◌, ◌++◌, map, length, replicate, eqb, bit_and, bit_or, refl, sym, ap, ◌∙◌, subst, arith, w8}
 use Rattle.std.specs.List.{flat_map}
 use Rattle.std.proofs.lemmas.Bool.{false≢true}
@@ -51,13 +52,7 @@ second_lane : (lead before two_before null : Bool) (b six : ℕ) →
     (bit_or (bit_or b (bit_and (mask two_before) 0x30)) (bit_and (mask null) 0x80))
     ((six + (0x80 + bit_and (mask lead) 0x1F) % 2 ^ 8) % 2 ^ 8)
     ≡ second lead before two_before null b six
-second_lane true true two_before null b six = refl
-second_lane true false two_before null b six = refl
-second_lane false true two_before null b six = refl
-second_lane false false true true b six = refl
-second_lane false false true false b six = refl
-second_lane false false false true b six = refl
-second_lane false false false false b six = refl
+second_lane lead before two_before null b six = grind (arith, nat_tests, common_steps)
 
 module _ (lead before two_before null : ℕ → Bool) (byte six : ℕ → ℕ) where
   -- The lanes of the seconds are the second bytes.

@@ -1,5 +1,7 @@
 -- How a row of eight bytes is packed by a shuffle.
-use Rattle.std.proofs.Common.{◌≡◌, ℕ, zero, suc, ◌+◌, ◌-◌, ◌<◌, ◌≤◌, Bool, true, false, cond, List, [], ◌∷◌, ◌++◌, map, length, take, drop, get_or, replicate, eqb, refl, sym, ap, ◌∙◌, subst, arith, w8, T, count_ones, eqb-true, length-append, append-nil}
+use Rattle.std.proofs.lemmas.Bool.Decides.{nat_tests}
+use Rattle.std.proofs.lemmas.Grind.{common_steps}
+use Rattle.std.proofs.Common.{◌≡◌, ℕ, zero, suc, ◌+◌, ◌<◌, ◌≤◌, Bool, true, false, cond, List, [], ◌∷◌, ◌++◌, map, length, take, drop, get_or, eqb, refl, sym, ap, ◌∙◌, subst, arith, w8, T, count_ones, eqb-true, append-nil}
 use Rattle.std.specs.List.{range_with_len}
 use Rattle.std.proofs.lemmas.Bool.{agree_below_at}
 use Rattle.std.proofs.lemmas.List.{length-map, length-drop, map-append, drop_all, drop-drop}
@@ -82,15 +84,7 @@ module _ (out lanes row : List ℕ) (at d : ℕ) (ts : List Bool)
   -- After a row is stored, what is up to its end is what was there, and the row packed.
   pub stored_row : (end : ℕ) → end ≡ at + 8 + count_ones d →
       take end (put_chunk at out (swz_l w8 16 lanes 0 row)) ≡ take at out ++ packed ts (chunk 8 8 lanes) (chunk 0 8 lanes)
-  stored_row end end_is =
-      let padding : List ℕ = replicate (16 - length kept) 0 in
-      ap (λ n. take n (put_chunk at out (swz_l w8 16 lanes 0 row))) end_is
-      ∙ ap (λ v. take (at + 8 + count_ones d) (put_chunk at out v))
-      (ap (swz_l w8 16 lanes 0) row_is ∙ shuffled lanes (shuffle_of d) (shuffle_long d small) (shuffle_below d small) ∙ map-append lane kept padding)
-      ∙ stored_prefix out (map lane kept) (map lane padding) at (at + 8 + count_ones d)
-      (omega (arith, shuffle_long d small, length-append kept padding, length-map kept lane, length-map padding lane))
-      (omega (arith, length-map kept lane, kept_long))
-      ∙ ap (λ l. take at out ++ l) kept_is
+  stored_row end end_is = grind (arith, nat_tests, common_steps, kept_is, kept_long, length-map, map-append, shuffle_below, shuffle_long, shuffled, stored_prefix, swz_l)
 
 -- ---- four rows
 

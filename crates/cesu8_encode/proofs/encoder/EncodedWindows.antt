@@ -1,4 +1,6 @@
 -- What is written for parts of a text.
+use Rattle.std.proofs.lemmas.Bool.Decides.{nat_tests}
+use Rattle.std.proofs.lemmas.Grind.{common_steps}
 use Rattle.std.proofs.Common.{◌≡◌, ℕ, zero, suc, ◌+◌, ◌-◌, ◌*◌, ◌%◌, ◌^◌, ◌<◌, ◌≤◌, Bool, true, false, cond, List, [], ◌∷◌, ◌++◌, map, refl, sym, ap, ◌∙◌, arith, length, take, drop, get_or, replicate, bit_and, length-append, append_assoc, count_ones}
 use Rattle.std.specs.List.{flat_map, range_with_len}
 use Rattle.std.proofs.lemmas.List.{append-nil, get_or-drop, get_or-take, length-drop, length-take-le, take_all, take_at, take-take}
@@ -100,10 +102,7 @@ packed_block f window i n = packed_offsets (is_doubled_at f window) (inserted_at
 
 -- The number of n set bits, as the code makes it.
 ones_are : (n : ℕ) → n ≤ 32 → 1 * 2 ^ n % 0x10000000000000000 - 1 ≡ 2 ^ n - 1
-ones_are n le =
-    let small : 2 ^ n ≤ 2 ^ 32 = pow_mono le in
-    let fits : 1 * 2 ^ n < 0x10000000000000000 = omega arith in
-    ap (λ k. k - 1) (mod-eq_of_lt fits ∙ omega arith)
+ones_are n le = grind (arith, nat_tests, common_steps, mod-eq_of_lt, pow_mono)
 
 -- The bits that the code counts are those of the first n bytes.
 pub counted : (n doubled : ℕ) → n ≤ 32 →
@@ -231,9 +230,4 @@ module _ (f : Flavor) (text : List ℕ) where
   -- With n bytes more.
   pub written_behind : (i n end after : ℕ) (old out piece : List ℕ) → IsWritten f text i old end →
       take after out ≡ take end old ++ piece → piece ≡ encoded_bytes f around i n → after ≤ length out → IsWritten f text (i + n) out after
-  written_behind i n end after old out piece written is piece_is within =
-      let start : i ≡ 0 + i = omega arith in (
-        is ∙ ap (λ l. l ++ piece) written.0 ∙ ap (λ l. encoded_bytes f around 0 i ++ l) (piece_is ∙ ap (λ k. encoded_bytes f around k n) start)
-            ∙ sym (encoded_bytes_append f around 0 i n),
-        within,
-      )
+  written_behind i n end after old out piece written is piece_is within = grind (arith, nat_tests, common_steps, encoded_bytes_append)

@@ -1,5 +1,7 @@
 -- What is written for the bytes of UTF-8, each by its neighbours, is the encoding.
-use Rattle.std.proofs.Common.{◌≡◌, ℕ, zero, suc, ◌+◌, ◌*◌, ◌/◌, ◌%◌, ◌<◌, ◌≤◌, true, false, List, [], ◌∷◌, ◌++◌, refl, sym, ap, ◌∙◌, ⊎_elim, arith, length, get_or, eqb, bit_and, bit_or, eqb-true}
+use Rattle.std.proofs.lemmas.Bool.Decides.{nat_tests}
+use Rattle.std.proofs.lemmas.Grind.{common_steps}
+use Rattle.std.proofs.Common.{◌≡◌, ℕ, zero, suc, ◌+◌, ◌*◌, ◌/◌, ◌%◌, ◌<◌, ◌≤◌, true, false, List, [], ◌∷◌, ◌++◌, refl, sym, ap, ◌∙◌, arith, length, get_or, eqb, bit_and, bit_or, eqb-true}
 use Rattle.std.specs.Str.{chars, IsUtf8}
 use Rattle.std.specs.List.{flat_map, range_with_len}
 use Rattle.std.proofs.lemmas.Bool.{agree_below_at, lt-leb, le-leb, ne_eqb, cases_eq}
@@ -47,11 +49,7 @@ or_zero a = omega (arith, or_add_and a 0, and_zero_r a)
 
 -- A byte with no lead byte of four near it is written as its short form.
 plain : (f : Flavor) (x y b n : ℕ) → x < 0xF0 → y < 0xF0 → b < 0xF0 → encoded_byte f x y b n ≡ short_form f b
-plain Cesu8 x y b n hx hy hb = rw (lt-leb 0xF0 x hx, lt-leb 0xF0 y hy, lt-leb 0xF0 b hb, or_zero b, or_zero b) refl
-plain Mutf8 x y b n hx hy hb = rw (lt-leb 0xF0 x hx, lt-leb 0xF0 y hy, lt-leb 0xF0 b hb) (⊎_elim
-    (λ null. rw null refl)
-    (λ some. rw (ne_eqb b 0 some, or_zero b, or_zero b) refl)
-    (cases_eq b 0))
+plain f x y b n hx hy hb = grind (arith, nat_tests, common_steps, cases_eq, lt-leb, ne_eqb, or_zero)
 
 -- Any other than 0 stays.
 same : (f : Flavor) (x y b n : ℕ) → x < 0xF0 → y < 0xF0 → b < 0xF0 → 0 < b → encoded_byte f x y b n ≡ b ∷ []
@@ -89,27 +87,7 @@ pair_written : (f : Flavor) (c w x y z p q : ℕ) (rest encoded : List ℕ) → 
     written f p q ((0xF0 + (w + 1) / 4) ∷ (0x80 + ((w + 1) % 4 * 0x10 + x / 4)) ∷ (0x80 + (x % 4 * 0x10 + y)) ∷ (0x80 + z) ∷ rest)
     ≡ 0xED ∷ (0xA0 + w) ∷ (0x80 + x) ∷ 0xED ∷ (0xB0 + y) ∷ (0x80 + z) ∷ encoded
 unfolding written
-pair_written f c w x y z p q rest encoded digits hp hq continues =
-    let a = 0xF0 + (w + 1) / 4 in
-    let b = 0x80 + ((w + 1) % 4 * 0x10 + x / 4) in
-    let d = 0x80 + (x % 4 * 0x10 + y) in
-    let h_w = digits.first in
-    let h_x = digits.second in
-    let h_y = digits.third in
-    let h_z = digits.last in
-    let high : (six_bits a b + 0x9F) % 0x100 ≡ 0xA0 + w = omega (arith, six_bits_by_digits a b (omega arith)) in
-    let middle : (six_bits b d + 0x80) % 0x100 ≡ 0x80 + x = omega (arith, six_bits_by_digits b d (omega arith)) in
-    let low : bit_or d 0x30 ≡ 0xB0 + y = omega (arith, low_surrogate (x % 4 * 0x10 + y) (omega arith)) in
-    rw (
-      lead_offset f p q a b (omega arith),
-      second_offset f q a b d hq (omega arith) (omega arith) (omega arith),
-      third_offset f a b d (0x80 + z) (omega arith) (omega arith) (omega arith) (omega arith),
-      same f b d (0x80 + z) (get_or rest 0 0) (omega arith) (omega arith) (omega arith) (omega arith),
-      continues d (0x80 + z) (omega arith) (omega arith),
-      high,
-      middle,
-      low,
-    ) refl
+pair_written f c w x y z p q rest encoded digits hp hq continues = grind (arith, nat_tests, common_steps, lead_offset, low_surrogate, same, second_offset, six_bits_by_digits, third_offset)
 
 character_written : (f : Flavor) (c p q : ℕ) (rest encoded : List ℕ) → Shape c → p < 0xF0 → q < 0xF0 →
     ((p q : ℕ) → p < 0xF0 → q < 0xF0 → written f p q rest ≡ encoded) →

@@ -1,4 +1,6 @@
 -- Bytes of a window that stay, since none near them changes.
+use Rattle.std.proofs.lemmas.Bool.Decides.{nat_tests}
+use Rattle.std.proofs.lemmas.Grind.{common_steps}
 use Rattle.std.proofs.Common.{◌≡◌, ℕ, zero, suc, ◌+◌, ◌<◌, ◌≤◌, Bool, false, ◌||◌, List, [], ◌∷◌, map, refl, sym, ap, ◌∙◌, arith, length, get_or}
 use Rattle.std.specs.List.{flat_map, range_with_len}
 use Rattle.std.proofs.lemmas.Bool.{or_parts, false_from_ne_true}
@@ -17,12 +19,7 @@ abbrev changes : Flavor → ℕ → Bool
 changes f b = is_null f b || is_at_least_f0 b
 
 stays : (f : Flavor) (x y b n : ℕ) → changes f x ≡ false → changes f y ≡ false → changes f b ≡ false → encoded_byte f x y b n ≡ b ∷ []
-stays f x y b n hx hy hb =
-    let x_low : is_at_least_f0 x ≡ false = (or_parts (is_null f x) (is_at_least_f0 x) hx).1 in
-    let y_low : is_at_least_f0 y ≡ false = (or_parts (is_null f y) (is_at_least_f0 y) hy).1 in
-    let b_low : is_at_least_f0 b ≡ false = (or_parts (is_null f b) (is_at_least_f0 b) hb).1 in
-    let some : is_null f b ≡ false = (or_parts (is_null f b) (is_at_least_f0 b) hb).0 in
-    rw (x_low, y_low, b_low, some, or_zero b, or_zero b) refl
+stays f x y b n hx hy hb = grind (arith, nat_tests, common_steps, or_parts, or_zero)
 
 all_stay : (f : Flavor) (window : List ℕ) (i n : ℕ) → ((k : ℕ) → k < n + 2 → changes f (get_or window (i + k) 0) ≡ false) →
     flat_map (encoded_byte_at f window) (range_with_len i n) ≡ map (λ j. get_or window (j + 2) 0) (range_with_len i n)

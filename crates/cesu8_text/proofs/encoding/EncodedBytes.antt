@@ -29,7 +29,7 @@ bytes_one f c ascii h2 = grind (arith, All-cons, All-nil, byte, encoding_one, sh
 
 three_bytes : (f : Flavor) (a b d : ℕ) (rest : List ℕ) → 0 < a → a < 0xF0 → 0 < b → b < 0xF0 → 0 < d → d < 0xF0 →
     All (IsEncodedByte f) rest → All (IsEncodedByte f) (a ∷ b ∷ d ∷ rest)
-three_bytes f a b d rest a_some a_low b_some b_low d_some d_low others = grind (arith, nat_tests, common_steps, All-cons, byte)
+three_bytes f a b d rest a_some a_low b_some b_low d_some d_low others = grind (arith, nat_tests)
 
 bytes_by : (f : Flavor) (c : ℕ) → Shape c → All (IsEncodedByte f) (encoding f (c ∷ []))
 bytes_by f c (one ascii) = bytes_one f c ascii (cases_eq c 0)

@@ -19,7 +19,7 @@ form_short f u h = rw (lt-ltb u 0x80 h) refl
 
 pub form_two : (f : Flavor) (c x y : ℕ) → IsTwo c x y → form f c ≡ (0xC0 + x) ∷ (0x80 + y) ∷ []
 unfolding form
-form_two f c x y digits = grind (arith, nat_tests, common_steps, le-ltb, lt-ltb)
+form_two f c x y digits = grind (arith, nat_tests)
 
 pub form_three : (f : Flavor) (c x y z : ℕ) → IsThree c x y z →
     form f c ≡ (0xE0 + x) ∷ (0x80 + y) ∷ (0x80 + z) ∷ []
@@ -35,7 +35,7 @@ three_digits u x y z value low high middle last =
 pub units_of_pair : (c w x y z : ℕ) → IsPair c w x y z →
     units_of c ≡ (0xD800 + (w * 0x40 + x)) ∷ (0xDC00 + (y * 0x40 + z)) ∷ []
 unfolding units_of
-units_of_pair c w x y z digits = grind (arith, nat_tests, common_steps, le-ltb)
+units_of_pair c w x y z digits = grind (arith, le-ltb)
 
 -- below that it has the form of its one code unit
 one_unit : (f : Flavor) (c : ℕ) → c < 0x10000 → encoding f (c ∷ []) ≡ form f c ++ []

@@ -127,7 +127,7 @@ module _ (f : Flavor) (bytes : List ℕ) (is_utf8 : IsUtf8 bytes) where
 
   -- an encoding that is as long as the bytes is the bytes
   pub encoding_as_long : length (encoding f (chars bytes)) ≡ length bytes → encoding f (chars bytes) ≡ bytes
-  encoding_as_long as_long = grind (arith, nat_tests, common_steps, IsUtf8Of_chars, encoding_is_bytes, encoding_longer)
+  encoding_as_long as_long = grind (arith, IsUtf8Of_chars, encoding_is_bytes, encoding_longer)
 
 -- Whether the encoding is the bytes, by whether the text needs it.
 pub ruleset encoding_by_need = (encoding_is_bytes, encoding_is_not_bytes)

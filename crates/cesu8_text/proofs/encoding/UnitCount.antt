@@ -85,4 +85,4 @@ length_units (c ∷ text) is_text =
 -- The same of the text that std's UTF-8 has, by its bytes.
 pub units_by_bytes : (text bytes : List ℕ) (sum : ℕ) → bytes ≡ text → IsUtf8 text → sum ≡ sum_by (weight_of is_one_unit) bytes →
     sum ≡ length (units (chars text))
-units_by_bytes text bytes sum same is_utf8 summed = grind (arith, nat_tests, common_steps, IsUtf8Of_chars, length_units)
+units_by_bytes text bytes sum same is_utf8 summed = grind (arith, IsUtf8Of_chars, length_units)

@@ -76,7 +76,7 @@ unchanged_encoding_law f text is_text = (
 
 -- no byte of MUTF-8 is 0, and none of an encoding is F0 (hexadecimal) or more
 pub no_zero_law : NoZero
-no_zero_law = grind (arith, nat_tests, common_steps, encoded_bytes)
+no_zero_law = grind (arith, encoded_bytes)
 
 -- a lossy reading is read again as itself
 pub read_again_law : ReadAgain

@@ -192,4 +192,4 @@ rank_order s t is_text other_is_text = grind (arith, compares_as, ranks_below, s
 -- The same of the texts that std's UTF-8 has, by its bytes.
 pub rank_order_by_bytes : (text other bytes other_bytes : List ℕ) → bytes ≡ text → other_bytes ≡ other → IsUtf8 text → IsUtf8 other →
     slice_cmp nat_cmp (map utf16_rank bytes) (map utf16_rank other_bytes) ≡ slice_cmp nat_cmp (units (chars text)) (units (chars other))
-rank_order_by_bytes text other bytes other_bytes same other_same is_utf8 other_is_utf8 = grind (arith, nat_tests, common_steps, IsUtf8Of_chars, rank_order)
+rank_order_by_bytes text other bytes other_bytes same other_same is_utf8 other_is_utf8 = grind (arith, IsUtf8Of_chars, rank_order)

@@ -64,4 +64,4 @@ before_text f w (c ∷ text) is_text =
 
 -- Encoded texts around bytes change nothing of their reading, and stay what they are.
 pub around : Around
-around = grind (arith, nat_tests, common_steps, before_text, reading_text)
+around = grind (arith, before_text, reading_text)

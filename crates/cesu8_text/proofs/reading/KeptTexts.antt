@@ -21,7 +21,7 @@ strict_only f bytes text other reads also =
 
 -- A call that takes the encoding alone reads all bytes so.
 encoding_alone : (f : Flavor) (bytes : List ℕ) → ReadsEncoding f bytes (IsStrictReading f bytes) (λ text. text ≡ reading f bytes)
-encoding_alone f bytes = grind (arith, nat_tests, common_steps)
+encoding_alone f bytes = grind arith
 
 -- To it UTF-8 in which nothing changes is that of its characters.
 pub encoding_texts : (f : Flavor) (bytes : List ℕ) →

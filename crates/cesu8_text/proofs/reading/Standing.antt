@@ -17,7 +17,7 @@ scalar_from_test : (c : ℕ) → is_scalar_value c ≡ true → IsScalarValue c
 scalar_from_test c passes = grind (arith, nat_tests)
 
 test_from_scalar : (c : ℕ) → IsScalarValue c → is_scalar_value c ≡ true
-test_from_scalar c h1 = grind (arith, nat_tests, common_steps, and_from, le-leb, lt-ltb, or_left, or_right)
+test_from_scalar c h1 = grind (arith, nat_tests)
 
 -- the test of one candidate
 abbrev begins : Flavor → List ℕ → ℕ → Bool
@@ -27,7 +27,7 @@ begins_from_test : (f : Flavor) (bytes : List ℕ) (c : ℕ) → begins f bytes 
 begins_from_test f bytes c passes = grind (arith, and_parts, bytes_eq-Decides, scalar_from_test, take-append-drop)
 
 test_from_begins : (f : Flavor) (bytes : List ℕ) (c : ℕ) (rest : List ℕ) → BeginsWith f bytes c rest → begins f bytes c ≡ true
-test_from_begins f bytes c rest h = grind (arith, nat_tests, common_steps, and_from, bytes_eq-Decides, take-append_seam, test_from_scalar)
+test_from_begins f bytes c rest h = grind (arith, and_from, bytes_eq-Decides, take-append_seam, test_from_scalar)
 
 -- the first of a list that passes
 found_passes : (p : ℕ → Bool) (xs : List ℕ) (c : ℕ) → find p xs ≡ Some c → p c ≡ true

@@ -62,7 +62,7 @@ utf8_of_one c h = rw (lt-ltb c 0x80 h) refl
 
 pub utf8_of_two : (c x y : ℕ) → IsTwo c x y → utf8_of c ≡ (0xC0 + x) ∷ (0x80 + y) ∷ []
 unfolding utf8_of
-utf8_of_two c x y digits = grind (arith, nat_tests, common_steps, le-ltb, lt-ltb)
+utf8_of_two c x y digits = grind (arith, nat_tests)
 
 pub utf8_of_three : (c x y z : ℕ) → IsThree c x y z → utf8_of c ≡ (0xE0 + x) ∷ (0x80 + y) ∷ (0x80 + z) ∷ []
 unfolding utf8_of
