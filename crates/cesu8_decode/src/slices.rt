@@ -121,8 +121,8 @@ fn put_block<F: Flavor, S: Reading, const WRITTEN: usize>(
     put_decoded(S::strictness(), decoded, &written, buf)
 }
 
-/// Does so for a few, one character after another. It is not inlined, so that the array is made only
-/// when it is called.
+/// Does so for a few, one character after another. It is not inlined, so that the array is made
+/// only when it is called.
 #[inline(never)]
 fn put_characters<F: Flavor, const WRITTEN: usize>(
     strictness: Strictness,
