@@ -123,8 +123,8 @@ pub fn copy_text(alloc: Global, text: &str) -> Result<String, AllocError>
     }
     let mut copied = String::with_capacity(alloc, text.len())?;
     copied.push_str(text)?;
-    // All of it fitted, so the capacity has not grown; std's contracts leave that open, and this one
-    // does not.
+    // All of it fitted, so the capacity has not grown; std's contracts leave that open, and this
+    // one does not.
     if copied.capacity() != text.len() {
         return Err(AllocError);
     }

@@ -1,6 +1,6 @@
 //! Runs of bytes without one of a class, found and copied by vectors.
 
-ghost use Rattle.std.specs.Prelude.{◌≡◌, ◌==◌, if◌then◌else◌, ℕ, ◌+◌, ◌*◌, ◌<◌, ◌≤◌, ◌++◌, not, true, false, length, take, drop, slice_index};
+ghost use Rattle.std.specs.Prelude.{◌≡◌, ◌==◌, if◌then◌else◌, ℕ, ◌+◌, ◌*◌, ◌<◌, ◌≤◌, ◌++◌, not, true, false, length, take, slice_index};
 ghost use Rattle.std.specs.Int.Count.{count_trailing_zeros};
 ghost use Rattle.std.specs.List.{prefix_len};
 
@@ -20,7 +20,6 @@ pub fn copy_run<C: InAllVectors>(bytes: &[u8], out: &mut [u8], at: usize) -> usi
     ensures within { result ≤ length bytes.now }
     ensures run { (i : ℕ) → i < result → C.class (slice_index bytes.now i) ≡ false }
     ensures bytes { take (at + result) out.new ≡ take at out.old ++ take result bytes.now }
-    ensures behind { drop (at + length bytes.now) out.new ≡ drop (at + length bytes.now) out.old }
     ensures len { length out.new ≡ length out.old }
 {
     if bytes.len() >= 16 {
@@ -45,7 +44,6 @@ fn copy_lanes<C: InVectors<N>, const N: usize>(bytes: &[u8], out: &mut [u8], at:
     ensures within { result ≤ N }
     ensures run { (i : ℕ) → i < result → C.class (slice_index bytes.now i) ≡ false }
     ensures bytes { take (at + result) out.new ≡ take at out.old ++ take result bytes.now }
-    ensures behind { (m : ℕ) → at + N ≤ m → drop m out.new ≡ drop m out.old }
     ensures len { length out.new ≡ length out.old }
 {
     let lanes: Simd<u8, N> = Simd::from_slice(bytes);

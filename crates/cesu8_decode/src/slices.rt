@@ -126,8 +126,8 @@ fn put_one_lossily<F: Flavor>(bytes: &[u8], buf: &mut [u8]) -> Result<usize, Unw
     put_decoded(Strictness::Lossy, decoded, &written, buf)
 }
 
-/// Does so for a few, one character after another. It is not inlined, so that the array is made only
-/// when it is called.
+/// Does so for a few, one character after another. It is not inlined, so that the array is made
+/// only when it is called.
 #[inline(never)]
 fn put_characters<F: Flavor, const WRITTEN: usize>(
     strictness: Strictness,

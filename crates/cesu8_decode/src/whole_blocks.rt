@@ -24,8 +24,8 @@ pub const FOLLOWING: usize = STORED;
 /// The length of an array for the first block.
 const FIRST: usize = BEFORE + REACH;
 
-/// Lossy reading needs so many bytes besides three for each byte that is read, to write the last two
-/// blocks where they go, and what is stored behind them.
+/// Lossy reading needs so many bytes besides three for each byte that is read, to write the last
+/// two blocks where they go, and what is stored behind them.
 pub const SPARE: usize = 2 * WIDEST * BLOCK + STORED;
 
 /// Returns how many of the blocks in so many bytes are read where they stand and written where they

@@ -3,7 +3,6 @@ use Rattle.std.specs.List.{prefix_len}
 use Rattle.std.proofs.lemmas.Bool.{both_ways, cases_lt, not-true}
 use Rattle.std.proofs.lemmas.List.{length-take-le, get_or-take}
 use Rattle.std.proofs.lemmas.List.Sums.{prefix_len-le-length, prefix_len_passes, prefix_len_stops}
-use Rattle.cesu8_bytes.proofs.lists.Ends.{stays_behind}
 use Rattle.cesu8_bytes.proofs.lists.Stored.{run_put}
 use Rattle.cesu8_bytes.proofs.runs.copy_lanes.Goals as goal
 
@@ -44,8 +43,3 @@ returns-clause-bytes g c =
     let bytes = c.args.bytes.now in
     run_put c.args.at g.row.N c.lanes_before.result _ bytes c.args.out.now c.put_lanes.new.out (omega (arith, c.requires.room)) c.requires.lanes.2
     (few g.C.Class.class bytes g.row.N c.lanes_before.result c.requires.lanes.2 c.lanes_before.ensures) c.put_lanes.ensures.end c.put_lanes.ensures.bytes
-
-pub returns-clause-behind : goal.returns-clause-behind
-returns-clause-behind g c m later =
-    stays_behind c.args.out.now c.put_lanes.new.out _ m
-    (omega (arith, later, c.put_lanes.ensures.end, length-take-le g.row.N c.args.bytes.now c.requires.lanes.2)) c.put_lanes.ensures.behind
