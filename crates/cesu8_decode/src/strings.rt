@@ -19,7 +19,7 @@ use crate::in_place::{LONG_TEXT, SHORT_TEXT, append_strictly, write_text};
 use crate::lengths::lossy_len;
 use crate::one_block::{LOSSY_TEXT, STRICT_TEXT, write_one_block, write_one_strictly};
 use crate::slices::CHARACTERS_TEXT;
-use crate::way::{FEW_BYTES, Way, way_of};
+use crate::way::{FEW_BYTES, Way, strict_way, way_of};
 use cesu8_bytes::BLOCK;
 use cesu8_bytes::copies::{append, copy};
 use cesu8_bytes::flavor::Flavor;
@@ -45,7 +45,12 @@ pub fn write_strictly<F: Flavor, A: Allocator + Copy>(
     if bytes.len() > BLOCK {
         return write_many::<F, A>(bytes, front, empty);
     }
-    append_one::<F, A>(bytes, empty)
+    match strict_way(rest, front) {
+        Way::Characters => write_few::<F, A>(bytes, front, empty),
+        Way::OneBlock | Way::ShortWindow | Way::LongWindow | Way::Chunks => {
+            append_one::<F, A>(bytes, empty)
+        }
+    }
 }
 
 /// Returns the lossy reading of the bytes, after one request for its length.
@@ -65,6 +70,29 @@ pub fn build_lossily<F: Flavor, A: Allocator + Copy>(
     }
 }
 
+/// Writes the front as it is, and the strict reading of a few bytes behind it, one character after
+/// another.
+#[inline(never)]
+fn write_few<F: Flavor, A: Allocator + Copy>(
+    bytes: &[u8],
+    front: usize,
+    empty: Vec<u8, A>,
+) -> Option<Vec<u8, A>>
+    requires front { IsFront Unchanged F.flavor bytes.now front }
+    requires empty { (empty.items ≡ []) × (length bytes.now ≤ vec_capacity empty) }
+    ensures { AppendsStrictly F.flavor bytes.now empty result }
+{
+    let mut text = empty;
+    append(bytes, &mut text);
+    let rest = &bytes[front..];
+    let decoded = write_characters::<F>(Strictness::Strict, rest, &mut text[front..]);
+    if decoded.is_ill_formed {
+        return None;
+    }
+    text.truncate(front + decoded.end);
+    Some(text)
+}
+
 /// Writes the front as it is, and the strict reading of the bytes behind it: from one character that
 /// changes to the next where they seem to stand far apart, and else block by block.
 #[inline(never)]
@@ -77,7 +105,7 @@ fn write_many<F: Flavor, A: Allocator + Copy>(
     requires empty { (empty.items ≡ []) × (length bytes.now ≤ vec_capacity empty) }
     ensures { AppendsStrictly F.flavor bytes.now empty result }
 {
-    if front >= LONG_FRONT || matches!(way_of(&bytes[front..]), Way::Characters) {
+    if front >= LONG_FRONT || matches!(strict_way(&bytes[front..], front), Way::Characters) {
         return append_by_fronts::<F, A>(bytes, front, empty);
     }
     let mut text = empty;
