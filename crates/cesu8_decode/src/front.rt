@@ -5,10 +5,10 @@
 //! Vectors find the first byte that may not follow those before it. The front ends there, or at the
 //! last boundary before, if a character begins that the byte cuts off.
 
-ghost use Rattle.std.specs.Prelude.{◌≡◌, ℕ, ◌+◌, ◌-◌, ◌<◌, ◌≤◌, ◌↔◌, IsTrue, IsUtf8, true, length, slice_index, IfOk, IfErr};
+ghost use Rattle.std.specs.Prelude.{◌≡◌, ℕ, ◌+◌, ◌-◌, ◌<◌, ◌≤◌, ◌↔◌, ◌++◌, IsTrue, IsUtf8, true, false, length, replicate, slice_index, IfOk, IfErr};
 ghost use Rattle.cesu8_text.specs.Fronts.{IsValidUpTo};
 ghost use Rattle.cesu8_decode.specs.Following.{FirstFollow, FollowUpTo, Encoded as AllEncoded, after_fillers, crosses_at, is_high_surrogate};
-ghost use Rattle.cesu8_decode.specs.Front.{IsFront};
+ghost use Rattle.cesu8_decode.specs.Front.{AreWhole, IsFront};
 
 use super::character_set::{CharacterSet, Encoded, Utf8};
 use super::following::{DECIDING, FILLER, block_at, block_behind, following_len, two_follow};
@@ -62,13 +62,39 @@ pub fn is_utf8(bytes: &[u8]) -> bool
     front::<Cesu8Flavor, Utf8>(bytes) == bytes.len()
 }
 
+/// Returns whether at most 32 bytes, which stand in a block with zeros behind them, are encoded
+/// characters.
+#[inline(always)]
+pub fn are_whole<F: Flavor>(bytes: &[u8], padded: u8x32) -> bool
+    requires len { length bytes.now ≤ BLOCK }
+    requires padded { padded ≡ bytes.now ++ replicate (BLOCK - length bytes.now) 0 }
+    ensures whole { IsTrue result → AreWhole AllEncoded F.flavor bytes.now }
+    ensures not_whole { result ≡ false → ¬ (AreWhole AllEncoded F.flavor bytes.now) }
+{
+    let at = following_padded::<F, Encoded>(bytes, padded);
+    if at < bytes.len() {
+        return false;
+    }
+    !may_be_crossed::<Encoded>(bytes, at)
+}
+
 /// Returns how many bytes of a block may follow those before them, up to the first that may not.
 #[inline(always)]
 fn following_few<F: Flavor, S: CharacterSet>(bytes: &[u8]) -> usize
     requires { length bytes.now ≤ BLOCK }
     ensures { FollowUpTo S.set F.flavor bytes.now result }
 {
-    let block = block_behind(u8x32::splat(FILLER), padded_half(bytes));
+    following_padded::<F, S>(bytes, padded_half(bytes))
+}
+
+/// Does so by the block that they stand in, with zeros behind them.
+#[inline(always)]
+fn following_padded<F: Flavor, S: CharacterSet>(bytes: &[u8], padded: u8x32) -> usize
+    requires len { length bytes.now ≤ BLOCK }
+    requires padded { padded ≡ bytes.now ++ replicate (BLOCK - length bytes.now) 0 }
+    ensures { FollowUpTo S.set F.flavor bytes.now result }
+{
+    let block = block_behind(u8x32::splat(FILLER), padded);
     following_len::<F, S>(block).min(bytes.len())
 }
 

@@ -3,8 +3,7 @@
 ghost use Rattle.std.specs.Prelude.{◌≡◌, IsTrue, false};
 ghost use Rattle.cesu8_text.specs.Reading.{IsStrictReading, HasNoStrictReading, reading};
 
-use super::character_set::Encoded;
-use super::front::front;
+use super::front::valid_up_to_other;
 use cesu8_bytes::flavor::Flavor;
 
 /// Returns whether some byte is in no encoded character. It stops soon after the first ill-formed
@@ -15,5 +14,5 @@ pub fn is_ill_formed<F: Flavor>(bytes: &[u8]) -> bool
     ensures whole { result ≡ false → IsStrictReading F.flavor bytes.now
         (reading F.flavor bytes.now) }
 {
-    front::<F, Encoded>(bytes) < bytes.len()
+    valid_up_to_other::<F>(bytes) < bytes.len()
 }

@@ -13,7 +13,7 @@ ghost use Rattle.cesu8_decode.specs.Decoding.{ReadsAll};
 use super::block::write_block;
 use super::decoded::{Decoded, refused};
 use super::following::block_behind;
-use super::ill_formed::is_ill_formed;
+use super::front::are_whole;
 use super::offsets::{FROM_1, KIND_OF_NULL, KIND_OF_PAIR, REACH, near};
 use super::packing::{ROOM, WELL_FORMED_ROOM, store_whole};
 use super::parts::changed_parts;
@@ -44,11 +44,12 @@ pub fn write_one_strictly<F: Flavor>(bytes: &[u8], out: &mut [u8]) -> Decoded
     ensures end { result.end ≤ length bytes.now }
     ensures len { length out.new ≡ length out.old }
 {
-    if is_ill_formed::<F>(bytes) {
+    let padded = padded_half(bytes);
+    if !are_whole::<F>(bytes, padded) {
         return refused(bytes);
     }
     let zeros = u8x32::splat(0);
-    let block = block_behind(zeros, padded_half(bytes));
+    let block = block_behind(zeros, padded);
     let next = block.bytes.shuffle::<32>(zeros, FROM_1);
     let kinds = near(zeros, changes::<F>(block.bytes, next));
     let parts = changed_parts::<F>(block, &kinds, bytes.len(), zeros);

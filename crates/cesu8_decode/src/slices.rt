@@ -25,7 +25,7 @@ use crate::lengths::lossy_len;
 use crate::one_block::{LOSSY_TEXT, STRICT_TEXT, write_one_block, write_one_strictly};
 use crate::packing::WIDEST;
 use crate::refusal::{Unwritten, is_refused};
-use crate::way::{FEW_BYTES, LONG_WINDOW, SHORT_WINDOW, Way, way_of};
+use crate::way::{FEW_BYTES, LONG_WINDOW, SHORT_WINDOW, Way, strict_way, way_of};
 use cesu8_bytes::BLOCK;
 use cesu8_bytes::flavor::Flavor;
 use cesu8_bytes::implementation::short::copy_short;
@@ -53,7 +53,7 @@ pub fn put_strictly<F: Flavor>(
     }
     // One block is read whole, in less time than its front is copied.
     if bytes.len() <= BLOCK {
-        return put_one_strictly::<F>(bytes, buf);
+        return put_strictly_by::<F>(strict_way(bytes, front), bytes, buf);
     }
     let start = front.min(buf.len());
     match put_strictly_by::<F>(way_of(rest), rest, &mut buf[start..]) {

@@ -19,7 +19,7 @@ use crate::in_place::{LONG_TEXT, SHORT_TEXT, append_strictly, write_text};
 use crate::lengths::lossy_len;
 use crate::one_block::{LOSSY_TEXT, STRICT_TEXT, write_one_block, write_one_strictly};
 use crate::slices::CHARACTERS_TEXT;
-use crate::way::{FEW_BYTES, Way, way_of};
+use crate::way::{FEW_BYTES, Way, strict_way, way_of};
 use cesu8_bytes::BLOCK;
 use cesu8_bytes::copies::{append, copy};
 use cesu8_bytes::flavor::Flavor;
@@ -38,10 +38,7 @@ pub fn write_strictly<F: Flavor>(bytes: &[u8], front: usize, empty: Vec<u8>) -> 
     if !begins_changed::<F>(rest) {
         return None;
     }
-    if bytes.len() <= BLOCK {
-        return append_one::<F>(bytes, empty);
-    }
-    if let Way::Characters = way_of(rest) {
+    if let Way::Characters = strict_way(rest, front) {
         write_few::<F>(bytes, front, empty)
     } else {
         write_many::<F>(bytes, front, empty)
@@ -82,13 +79,17 @@ fn write_few<F: Flavor>(bytes: &[u8], front: usize, empty: Vec<u8>) -> Option<Ve
 }
 
 /// Writes the front as it is, and the strict reading of the bytes behind it: from one character that
-/// changes to the next where they seem to stand far apart, and else block by block.
+/// changes to the next where they seem to stand far apart, and else block by block. One block is read
+/// whole, in less time than its front is copied.
 #[inline(never)]
 fn write_many<F: Flavor>(bytes: &[u8], front: usize, empty: Vec<u8>) -> Option<Vec<u8>>
     requires front { IsFront Unchanged F.flavor bytes.now front }
     requires empty { (empty.items ≡ []) × (length bytes.now ≤ vec_capacity empty) }
     ensures { AppendsStrictly F.flavor bytes.now empty result }
 {
+    if bytes.len() <= BLOCK {
+        return append_one::<F>(bytes, empty);
+    }
     if front >= LONG_FRONT {
         return append_by_fronts::<F>(bytes, front, empty);
     }

@@ -3,6 +3,7 @@
 //!
 //! | bytes | of them other than 01 to 7F | way |
 //! |---|---|---|
+//! | at most 16 (`FEWER_BYTES`) in strict reading, or 24 (`MOSTLY_PAIRS`) with no front | any | `Characters` |
 //! | at most 16 (`FEWER_BYTES`) | at most 12 (`OTHERS`) | `Characters` |
 //! | at most 96 (`FEW_BYTES`) | at most 6 (`FEWER_OTHERS`) | `Characters` |
 //! | at most 32 (`BLOCK` of `cesu8_bytes`) | more | `OneBlock` |
@@ -46,6 +47,9 @@ pub const SHORT_WINDOW: usize = 256;
 /// The most bytes that are read in any window.
 pub const LONG_WINDOW: usize = 1024;
 
+/// So few bytes are read one character after another if they begin with a character that changes.
+const MOSTLY_PAIRS: usize = 24;
+
 /// So few bytes are read one character after another with more others among them.
 const FEWER_BYTES: usize = 16;
 
@@ -57,6 +61,18 @@ const FEWER_OTHERS: usize = 6;
 
 /// 00, or 80 (hexadecimal) or more.
 type NullOrNonAscii = Either<Null, NonAscii>;
+
+/// Returns which way bytes go in strict reading that begin with a character that changes, behind so
+/// many that do not.
+#[inline(always)]
+pub fn strict_way(bytes: &[u8], front: usize) -> Way
+    ensures { Takes result bytes.now }
+{
+    if bytes.len() <= FEWER_BYTES || front == 0 && bytes.len() <= MOSTLY_PAIRS {
+        return Way::Characters;
+    }
+    way_of(bytes)
+}
 
 /// Returns which way bytes go.
 #[inline(always)]
