@@ -9,8 +9,9 @@ ghost use Rattle.cesu8_decode.specs.Following.{CharacterSet as AnySet, Encoded a
 ///
 /// Bits 80 and 20 (hexadecimal) are those that `wanted_by` has. Each other is of a second byte that
 /// no character has there: 01 begins one behind a lead byte, and 02 is a continuation byte behind
-/// ASCII, 04 behind E0 in an overlong form, and 08 behind C1. Behind C0 it is 10, or 08 where four
-/// bytes are led, which 40 and 10 are behind that lead none, and 40 where no byte leads four.
+/// ASCII, 04 behind E0 in an overlong form, 08 behind C1, 10 behind C0, and 40 any byte behind F0 or
+/// more. In UTF-8 it is 08 behind C0, and behind F0 or more it is of what no character of four bytes
+/// has: 40 below 90, and 10 from there on.
 #[derive(Clone, Copy)]
 pub struct Rule {
     /// Surrogate pairs and C0 80 are passed over too.
