@@ -8,8 +8,9 @@ use Rattle.cesu8_bytes.proofs.vectors.Loads.{zeros_at}
 use Rattle.cesu8_decode.specs.Following.{IsBlockAt, Encoded}
 use Rattle.cesu8_decode.specs.DecodedLanes.{is_high, change_kind}
 use Rattle.cesu8_decode.specs.DecodedOffsets.{window_of, is_ill_formed_at, decoded}
+use Rattle.cesu8_decode.specs.Front.{IsOutside}
 use Rattle.cesu8_bytes.specs.declared.strictness.Strictness.TheVariants.{Strict}
-use Rattle.cesu8_decode.proofs.chunks.WholeBytes.{not_unchanged}
+use Rattle.cesu8_decode.proofs.chunks.WholeBytes.{none_outside}
 use Rattle.cesu8_decode.proofs.decoder.BlocksInPlace.{ends_within}
 use Rattle.cesu8_decode.proofs.decoder.DecodedBlocks.{block_written}
 use Rattle.cesu8_decode.proofs.decoder.ToldChanges.{told_at, block_tells, none_ill_formed, block_read, block_refused, told_before, told_in_window, none_marked}
@@ -22,7 +23,7 @@ returns-then-not-are_whole-clause-read g c =
     (λ text reads. c.are_whole.ensures.not_whole c.if-not-are_whole.true (record {
       text = text;
       reads = reads;
-      unchanged = λ is. absurd (not_unchanged Encoded refl is);
+      inside = none_outside (IsOutside Encoded g.F.Flavor.flavor) (λ c none. none) text;
     })) c.refused.ensures.0 c.refused.ensures.2
 
 -- What is written is what the bytes become behind five zeros.
