@@ -5,6 +5,7 @@ ghost use Rattle.std.specs.String.{string_bytes, string_capacity};
 ghost use Rattle.cesu8_bytes.specs.Puts.{Appends};
 
 use crate::implementation::class::LANES;
+use crate::implementation::short::LONG;
 use std::alloc::{AllocError, Global};
 use std::mem;
 use std::simd::prelude::*;
@@ -25,7 +26,9 @@ pub fn append(bytes: &[u8], out: &mut Vec<u8>)
     // The length of a local vector stays in a register; behind a reference, each byte that is
     // written would store it.
     let mut taken = mem::replace(out, Vec::new(*out.allocator()));
-    if bytes.len() > 4 * WIDE {
+    if bytes.len() >= LONG {
+        append_each(bytes, &mut taken);
+    } else if bytes.len() > 4 * WIDE {
         append_many(bytes, &mut taken);
     } else if bytes.len() > WIDE {
         append_four::<WIDE>(bytes, &mut taken);
@@ -89,7 +92,8 @@ fn append_at<const N: usize>(bytes: &[u8], at: usize, start: usize, out: &mut Ve
 }
 
 /// Appends bytes one by one. That is compiled to a call of `memcpy` where the buffer is known to be
-/// apart from the bytes, as a new one is, and for an array to a vector that is stored.
+/// apart from the bytes, as a new one is, for an array to a vector that is stored, and else to larger
+/// steps with the last bytes one by one.
 #[inline(always)]
 fn append_each(bytes: &[u8], out: &mut Vec<u8>)
     requires { vec_len out.old + length bytes.now ≤ vec_capacity out.old }

@@ -24,11 +24,7 @@ pub const LONG_FRONT: usize = 64;
 /// Appends the strict reading of bytes, of which so many at the front are whole characters that are the
 /// same in UTF-8.
 #[inline(always)]
-pub fn append_by_fronts<F: Flavor>(
-    bytes: &[u8],
-    len: usize,
-    before: Vec<u8>,
-) -> Option<Vec<u8>>
+pub fn append_by_fronts<F: Flavor>(bytes: &[u8], len: usize, before: Vec<u8>) -> Option<Vec<u8>>
     requires front { IsFront AllUnchanged F.flavor bytes.now len }
     requires room { vec_len before + length bytes.now ≤ vec_capacity before }
     ensures { AppendsStrictly F.flavor bytes.now before result }
@@ -50,11 +46,7 @@ pub fn append_by_fronts<F: Flavor>(
 /// Appends the front, and the characters behind it that change, in UTF-8. Returns the bytes behind
 /// these.
 #[inline(always)]
-fn append_to_next<'a, F: Flavor>(
-    bytes: &'a [u8],
-    len: usize,
-    out: &mut Vec<u8>,
-) -> &'a [u8]
+fn append_to_next<'a, F: Flavor>(bytes: &'a [u8], len: usize, out: &mut Vec<u8>) -> &'a [u8]
     requires front { IsFront AllUnchanged F.flavor bytes.now len }
     requires room { vec_len out.old + length bytes.now ≤ vec_capacity out.old }
     ensures read { IsReadSoFar F.flavor Strict bytes.now result.now out.old.items out.new.items }
@@ -72,10 +64,7 @@ fn append_to_next<'a, F: Flavor>(
 
 /// Appends the character that begins the bytes, in UTF-8, and returns the bytes behind it.
 #[inline(always)]
-fn append_changed<'a, F: Flavor>(
-    bytes: &'a [u8],
-    out: &mut Vec<u8>,
-) -> &'a [u8]
+fn append_changed<'a, F: Flavor>(bytes: &'a [u8], out: &mut Vec<u8>) -> &'a [u8]
     requires begins { BeginsChanged F.flavor bytes.now }
     requires room { vec_len out.old + length bytes.now ≤ vec_capacity out.old }
     ensures read { IsReadSoFar F.flavor Strict bytes.now result.now out.old.items out.new.items }

@@ -100,10 +100,7 @@ fn write_many<F: Flavor>(bytes: &[u8], front: usize, empty: Vec<u8>) -> Option<V
 
 /// Appends the strict reading of the bytes of one block, by an array.
 #[inline(always)]
-fn append_one<F: Flavor>(
-    bytes: &[u8],
-    before: Vec<u8>,
-) -> Option<Vec<u8>>
+fn append_one<F: Flavor>(bytes: &[u8], before: Vec<u8>) -> Option<Vec<u8>>
     requires bytes { length bytes.now ≤ BLOCK }
     requires room { vec_len before + length bytes.now ≤ vec_capacity before }
     ensures { AppendsStrictly F.flavor bytes.now before result }

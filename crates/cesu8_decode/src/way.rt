@@ -17,7 +17,7 @@
 //! - The windows: one pass, 32 bytes at a time with no branch on a byte. In strict reading to a
 //!   `String` the text is written where it stays, and else to an array, from which it is copied. A
 //!   smaller array is made in less time.
-//! - `Chunks`: in strict reading to a `String` as before, `CLEARED_AT_ONCE` of `in_place` at a time,
+//! - `Chunks`: in strict reading to a `String` `CLEARED_AT_ONCE` of `in_place` at a time,
 //!   and to a slice after a test of all. In lossy reading the same pass reads as many bytes as an array
 //!   has room for, and the next ones to the same array.
 

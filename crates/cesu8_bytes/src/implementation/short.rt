@@ -10,6 +10,10 @@ use super::class::{InVectors, LANES, bits, has};
 use crate::put::put_lanes;
 use std::simd::prelude::*;
 
+/// From this length on bytes are copied as one slice. Where both may overlap, for all that the compiler
+/// knows, that is larger steps, and up to 127 bytes one by one.
+pub(crate) const LONG: usize = 16 * LANES;
+
 /// Calls a function at the greatest width of which two vectors cover at most 64 bytes, or returns
 /// what is right of none: `by_two_vectors!(value, function[Class](value), of_none)`.
 macro_rules! by_two_vectors {
@@ -75,15 +79,16 @@ pub fn copy_short(bytes: &[u8], buf: &mut [u8])
     requires { length bytes.now ≤ length buf.old }
     ensures { buf.new ≡ bytes.now ++ drop (length bytes.now) buf.old }
 {
-    if bytes.len() > LANES {
+    if bytes.len() >= LONG {
+        buf[..bytes.len()].copy_from_slice(bytes);
+    } else if bytes.len() > LANES {
         copy_many(bytes, buf);
     } else {
         by_two_vectors!(bytes, copy_ends[](bytes, buf), ());
     }
 }
 
-/// Copies 64 bytes or more by vectors in turn, the last of which overlaps where needed. A copy of all
-/// is compiled to a loop over bytes where the two may overlap, for all that the compiler knows.
+/// Copies 64 bytes or more by vectors in turn, the last of which overlaps where needed.
 #[inline(always)]
 fn copy_many(bytes: &[u8], buf: &mut [u8])
     requires lanes { LANES ≤ length bytes.now }
