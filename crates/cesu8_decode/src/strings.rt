@@ -19,7 +19,7 @@ use crate::in_place::{LONG_TEXT, SHORT_TEXT, append_strictly, write_text};
 use crate::lengths::lossy_len;
 use crate::one_block::{LOSSY_TEXT, STRICT_TEXT, write_one_block, write_one_strictly};
 use crate::slices::CHARACTERS_TEXT;
-use crate::way::{FEW_BYTES, Way, strict_way, way_of};
+use crate::way::{FEW_BYTES, FEWER_BYTES, Way, strict_way, way_of};
 use cesu8_bytes::BLOCK;
 use cesu8_bytes::copies::{append, copy};
 use cesu8_bytes::flavor::Flavor;
@@ -45,12 +45,10 @@ pub fn write_strictly<F: Flavor, A: Allocator + Copy>(
     if bytes.len() > BLOCK {
         return write_many::<F, A>(bytes, front, empty);
     }
-    match strict_way(rest, front) {
-        Way::Characters => write_few::<F, A>(bytes, front, empty),
-        Way::OneBlock | Way::ShortWindow | Way::LongWindow | Way::Chunks => {
-            append_one::<F, A>(bytes, empty)
-        }
+    if rest.len() <= FEWER_BYTES || matches!(strict_way(rest, front), Way::Characters) {
+        return write_few::<F, A>(bytes, front, empty);
     }
+    append_one::<F, A>(bytes, empty)
 }
 
 /// Returns the lossy reading of the bytes, after one request for its length.
