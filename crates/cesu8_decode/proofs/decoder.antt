@@ -16,5 +16,6 @@ pub mod WeightRest
 pub mod FollowingLanes
 pub mod FollowingBlocks
 pub mod DecodedWindows
+pub mod ToldPairs
 pub mod ToldChanges
 pub mod BlocksInPlace

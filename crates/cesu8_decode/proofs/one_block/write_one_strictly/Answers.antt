@@ -12,7 +12,8 @@ use Rattle.cesu8_bytes.specs.declared.strictness.Strictness.TheVariants.{Strict}
 use Rattle.cesu8_decode.proofs.chunks.WholeBytes.{not_unchanged}
 use Rattle.cesu8_decode.proofs.decoder.BlocksInPlace.{ends_within}
 use Rattle.cesu8_decode.proofs.decoder.DecodedBlocks.{block_written}
-use Rattle.cesu8_decode.proofs.decoder.ToldChanges.{told_at, block_tells, none_ill_formed, block_read, block_refused, told_before, told_in_window, none_marked}
+use Rattle.cesu8_decode.proofs.decoder.ToldPairs.{told_at}
+use Rattle.cesu8_decode.proofs.decoder.ToldChanges.{block_tells, none_ill_formed, block_read, block_refused, told_before, told_in_window, none_marked}
 use Rattle.cesu8_decode.proofs.one_block.write_one_strictly.Goals as goal
 
 pub returns-then-not-are_whole-clause-read : goal.returns-then-not-are_whole-clause-read
