@@ -14,5 +14,6 @@ pub mod SavedRest
 pub mod FollowingLanes
 pub mod FollowingBlocks
 pub mod DecodedWindows
+pub mod ToldPairs
 pub mod ToldChanges
 pub mod BlocksInPlace

@@ -19,7 +19,7 @@ use crate::in_place::{LONG_TEXT, SHORT_TEXT, append_strictly, write_text};
 use crate::lengths::lossy_len;
 use crate::one_block::{LOSSY_TEXT, STRICT_TEXT, write_one_block, write_one_strictly};
 use crate::slices::CHARACTERS_TEXT;
-use crate::way::{FEW_BYTES, Way, strict_way, way_of};
+use crate::way::{FEW_BYTES, FEWER_BYTES, Way, strict_way, way_of};
 use cesu8_bytes::BLOCK;
 use cesu8_bytes::copies::{append, copy};
 use cesu8_bytes::flavor::Flavor;
@@ -38,7 +38,7 @@ pub fn write_strictly<F: Flavor>(bytes: &[u8], front: usize, empty: Vec<u8>) -> 
     if !begins_changed::<F>(rest) {
         return None;
     }
-    if let Way::Characters = strict_way(rest, front) {
+    if rest.len() <= FEWER_BYTES || matches!(strict_way(rest, front), Way::Characters) {
         write_few::<F>(bytes, front, empty)
     } else {
         write_many::<F>(bytes, front, empty)

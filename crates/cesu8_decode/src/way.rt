@@ -3,8 +3,8 @@
 //!
 //! | bytes | of them other than 01 to 7F | way |
 //! |---|---|---|
-//! | at most 16 (`FEWER_BYTES`) in strict reading, or 24 (`MOSTLY_PAIRS`) with no front | any | `Characters` |
-//! | at most 16 (`FEWER_BYTES`) | at most 12 (`OTHERS`) | `Characters` |
+//! | in strict reading at most 12 (`OTHERS`), or 24 (`MOSTLY_PAIRS`) that begin with two pairs | any | `Characters` |
+//! | in lossy reading at most 16 (`FEWER_BYTES`) | at most 12 (`OTHERS`) | `Characters` |
 //! | at most 96 (`FEW_BYTES`) | at most 6 (`FEWER_OTHERS`) | `Characters` |
 //! | at most 32 (`BLOCK` of `cesu8_bytes`) | more | `OneBlock` |
 //! | at most 256 (`SHORT_WINDOW`) | more | `ShortWindow` |
@@ -12,7 +12,7 @@
 //! | more | any | `Chunks` |
 //!
 //! - `Characters`: one character after another. A branch on a byte costs little while few bytes are
-//!   not ASCII, or hardly any in all. A few that begin with a pair are mostly pairs.
+//!   not ASCII, or hardly any in all. In strict reading to a `String`, 16 bytes behind the front are few.
 //! - `OneBlock`: with no branch on where a character changes, which would be guessed wrong.
 //! - The windows: one pass, 32 bytes at a time with no branch on a byte. In strict reading to a
 //!   `String` the text is written where it stays, and else to an array, from which it is copied. A
@@ -27,6 +27,7 @@ ghost use Rattle.cesu8_decode.specs.Ways.{Takes};
 use cesu8_bytes::BLOCK;
 use cesu8_bytes::implementation::class::{Either, NonAscii, Null};
 use cesu8_bytes::implementation::short::count_in_ends;
+use cesu8_bytes::pairs::PAIR;
 
 /// Which way bytes are decoded.
 #[derive(Clone, Copy)]
@@ -47,11 +48,11 @@ pub const SHORT_WINDOW: usize = 256;
 /// The most bytes that are read in any window.
 pub const LONG_WINDOW: usize = 1024;
 
-/// So few bytes are read one character after another if they begin with a character that changes.
+/// So few bytes are read one character after another if they begin with two surrogate pairs.
 const MOSTLY_PAIRS: usize = 24;
 
 /// So few bytes are read one character after another with more others among them.
-const FEWER_BYTES: usize = 16;
+pub const FEWER_BYTES: usize = 16;
 
 /// How many of these may be other than 01 to 7F. Each may be a step of its own.
 const OTHERS: usize = 12;
@@ -68,18 +69,34 @@ type NullOrNonAscii = Either<Null, NonAscii>;
 pub fn strict_way(bytes: &[u8], front: usize) -> Way
     ensures { Takes result bytes.now }
 {
-    if bytes.len() <= FEWER_BYTES || front == 0 && bytes.len() <= MOSTLY_PAIRS {
+    if bytes.len() <= OTHERS || front == 0 && are_mostly_pairs(bytes) {
         return Way::Characters;
     }
-    way_of(bytes)
+    way_by(bytes, FEWER_OTHERS)
 }
 
-/// Returns which way bytes go.
+/// Returns whether bytes are few, and two surrogate pairs seem to begin them.
+#[inline(always)]
+fn are_mostly_pairs(bytes: &[u8]) -> bool
+    ensures { IsTrue result → length bytes.now ≤ MOSTLY_PAIRS }
+{
+    matches!(bytes.len(), 7..=MOSTLY_PAIRS) && bytes[0] == 0xED && bytes[PAIR] == 0xED
+}
+
+/// Returns which way bytes go in lossy reading, and more than a block to a slice.
 #[inline(always)]
 pub fn way_of(bytes: &[u8]) -> Way
     ensures { Takes result bytes.now }
 {
-    if are_few_others(bytes) {
+    way_by(bytes, OTHERS)
+}
+
+/// Returns which way bytes go, if so many of few may be other than 01 to 7F.
+#[inline(always)]
+fn way_by(bytes: &[u8], others: usize) -> Way
+    ensures { Takes result bytes.now }
+{
+    if are_few_others(bytes, others) {
         Way::Characters
     } else if bytes.len() <= BLOCK {
         Way::OneBlock
@@ -94,14 +111,13 @@ pub fn way_of(bytes: &[u8]) -> Way
 
 /// Returns whether the bytes are few, and hardly any of them other than 01 to 7F.
 #[inline(always)]
-fn are_few_others(bytes: &[u8]) -> bool
+fn are_few_others(bytes: &[u8], others: usize) -> bool
     ensures { IsTrue result → length bytes.now ≤ FEW_BYTES }
 {
     // Two vectors of each width have all bytes. The counts decide speed alone.
     match bytes.len() {
-        0..=FEWER_OTHERS => true,
-        7..=8 => count_in_ends::<NullOrNonAscii, 4>(bytes) <= OTHERS,
-        9..=FEWER_BYTES => count_in_ends::<NullOrNonAscii, 8>(bytes) <= OTHERS,
+        0..=8 => true,
+        9..=FEWER_BYTES => count_in_ends::<NullOrNonAscii, 8>(bytes) <= others,
         17..=32 => count_in_ends::<NullOrNonAscii, 16>(bytes) <= FEWER_OTHERS,
         33..=64 => count_in_ends::<NullOrNonAscii, 32>(bytes) <= FEWER_OTHERS,
         65..=FEW_BYTES => count_in_ends::<NullOrNonAscii, 64>(bytes) <= FEWER_OTHERS,

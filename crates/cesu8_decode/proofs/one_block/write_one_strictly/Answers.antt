@@ -13,7 +13,8 @@ use Rattle.cesu8_bytes.specs.declared.strictness.Strictness.TheVariants.{Strict}
 use Rattle.cesu8_decode.proofs.chunks.WholeBytes.{none_outside}
 use Rattle.cesu8_decode.proofs.decoder.BlocksInPlace.{ends_within}
 use Rattle.cesu8_decode.proofs.decoder.DecodedBlocks.{block_written}
-use Rattle.cesu8_decode.proofs.decoder.ToldChanges.{told_at, block_tells, none_ill_formed, block_read, block_refused, told_before, told_in_window, none_marked}
+use Rattle.cesu8_decode.proofs.decoder.ToldPairs.{told_at}
+use Rattle.cesu8_decode.proofs.decoder.ToldChanges.{block_tells, none_ill_formed, block_read, block_refused, told_before, told_in_window, none_marked}
 use Rattle.cesu8_decode.proofs.decoder.WholeBlocks.{end_inside}
 use Rattle.cesu8_decode.proofs.one_block.write_one_strictly.Goals as goal
 

@@ -1,4 +1,4 @@
-use Rattle.std.proofs.Common.{take, drop}
+use Rattle.std.proofs.Common.{drop}
 use Rattle.std.proofs.lemmas.List.{take_rest}
 use Rattle.cesu8_bytes.specs.declared.strictness.Strictness.TheVariants.{Strict}
 use Rattle.cesu8_decode.proofs.chunks.FrontReadings.{appended_behind, front_appended}
