@@ -12,7 +12,8 @@
 //! | more | any | `Chunks` |
 //!
 //! - `Characters`: one character after another. A branch on a byte costs little while few bytes are
-//!   not ASCII, or hardly any in all. In strict reading to a `String`, 16 bytes behind the front are few.
+//!   not ASCII, or hardly any in all. In strict reading to a `String`, 16 bytes behind the front are
+//!   few.
 //! - `OneBlock`: with no branch on where a character changes, which would be guessed wrong.
 //! - The windows: one pass, 32 bytes at a time with no branch on a byte. In strict reading to a
 //!   `String` the text is written where it stays, and else to an array, from which it is copied. A
