@@ -3,8 +3,8 @@
 ghost use Rattle.cesu8_decode.specs.PutReadings.{PutsText, ReadsAs};
 
 use crate::accepts::Accepts;
+use crate::destinations::slices::{put_lossily, put_strictly};
 use crate::refusal::Unwritten;
-use crate::slices::{put_lossily, put_strictly};
 use cesu8_bytes::flavor::Flavor;
 use cesu8_bytes::strictness::Strictness;
 use cesu8_bytes::writers::{copy_to_slice, copy_to_slice_by_call};

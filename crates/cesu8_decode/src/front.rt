@@ -10,8 +10,12 @@ ghost use Rattle.cesu8_text.specs.Fronts.{IsValidUpTo};
 ghost use Rattle.cesu8_decode.specs.Following.{FirstFollow, FollowUpTo, Encoded as AllEncoded, after_fillers, crosses_at, is_high_surrogate};
 ghost use Rattle.cesu8_decode.specs.Front.{IsFront};
 
-use super::character_set::{CharacterSet, Encoded, Utf8};
-use super::following::{DECIDING, FILLER, block_at, block_behind, following_len, two_follow};
+pub(crate) mod ill_formed;
+
+use crate::lanes::character_set::{CharacterSet, Encoded, Utf8};
+use crate::lanes::following::{
+    DECIDING, FILLER, block_at, block_behind, following_len, two_follow,
+};
 use cesu8_bytes::BLOCK;
 use cesu8_bytes::flavor::{Cesu8Flavor, Flavor};
 use cesu8_bytes::implementation::class::{Either, NonAscii};

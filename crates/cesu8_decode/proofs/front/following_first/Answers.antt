@@ -19,8 +19,8 @@ returns-then-run-gt0 g c =
     record {
       follow = (
         ones_follow g.S.CharacterSet.set f bytes c.run_of_groups-run.result run.within.0 (λ i before.
-        let none = or_parts _ _ (run.run i before) in
-        (leb-false 0x80 _ none.1, sym (ap (λ class. class (get_or bytes i 0)) g.met.F.Flavor.are_null) ∙ none.0)),
+            let none = or_parts _ _ (run.run i before) in
+            (leb-false 0x80 _ none.1, sym (ap (λ class. class (get_or bytes i 0)) g.met.F.Flavor.are_null) ∙ none.0)),
         omega (arith, run.within.1 c.if-run-gt0.true),
       );
       stops = tt;
