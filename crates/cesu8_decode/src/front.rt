@@ -18,10 +18,10 @@ use crate::lanes::following::{
 };
 use cesu8_bytes::BLOCK;
 use cesu8_bytes::flavor::{Cesu8Flavor, Flavor};
-use cesu8_bytes::implementation::class::{Either, NonAscii};
+use cesu8_bytes::lanes::class::{Either, NonAscii};
+use cesu8_bytes::lanes::padded::padded_half;
+use cesu8_bytes::lanes::runs::run_of_groups;
 use cesu8_bytes::looks::is_short_unchanged_ascii;
-use cesu8_bytes::padded::padded_half;
-use cesu8_bytes::runs::run_of_groups;
 use std::simd::prelude::*;
 
 /// Returns how many bytes at the front are whole encoded characters.

@@ -7,7 +7,7 @@ ghost use Rattle.cesu8_decode.specs.Forms.{HasForm, HasNoForm, BeginsChanged, fo
 
 use cesu8_bytes::continuation::is_continuation;
 use cesu8_bytes::flavor::Flavor;
-use cesu8_bytes::implementation::short::copy_short;
+use cesu8_bytes::lanes::short::copy_short;
 use cesu8_bytes::pairs::{PAIR, PAIR_READ, is_pair};
 
 /// How a character of more than one byte is encoded.

@@ -13,9 +13,9 @@ use crate::characters::forms::{begins_changed, prefix_of};
 use crate::front::front;
 use crate::lanes::character_set::Unchanged;
 use crate::pass::in_place::append_strictly;
-use cesu8_bytes::copies::append;
 use cesu8_bytes::flavor::Flavor;
 use cesu8_bytes::pairs::{PAIR, PAIR_READ, utf8_of_pair};
+use cesu8_bytes::writing::copies::append;
 
 /// The least front behind which another is looked for. Where the characters that change stand closer
 /// together, blocks take less time.

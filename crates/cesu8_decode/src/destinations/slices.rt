@@ -28,10 +28,10 @@ use crate::refusal::{Unwritten, is_refused};
 use crate::way::{FEW_BYTES, LONG_WINDOW, SHORT_WINDOW, Way, way_of};
 use cesu8_bytes::BLOCK;
 use cesu8_bytes::flavor::Flavor;
-use cesu8_bytes::implementation::short::copy_short;
-use cesu8_bytes::put::put;
+use cesu8_bytes::lanes::short::copy_short;
 use cesu8_bytes::strictness::Strictness;
-use cesu8_bytes::writers::{NoRoom, copy_to_slice};
+use cesu8_bytes::writing::put::put;
+use cesu8_bytes::writing::writers::{NoRoom, copy_to_slice};
 
 /// The length of a buffer for the text of bytes that are read one character after another.
 pub const CHARACTERS_TEXT: usize = WIDEST * FEW_BYTES;

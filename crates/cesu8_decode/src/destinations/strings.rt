@@ -21,9 +21,9 @@ use crate::pass::in_place::{LONG_TEXT, SHORT_TEXT, append_strictly, write_text};
 use crate::pass::one_block::{LOSSY_TEXT, STRICT_TEXT, write_one_block, write_one_strictly};
 use crate::way::{FEW_BYTES, Way, way_of};
 use cesu8_bytes::BLOCK;
-use cesu8_bytes::copies::{append, copy};
 use cesu8_bytes::flavor::Flavor;
 use cesu8_bytes::strictness::Strictness;
+use cesu8_bytes::writing::copies::{append, copy};
 use std::alloc::{AllocError, Global};
 
 /// Writes the strict reading of bytes to an empty vector that has capacity for as many. So many at the

@@ -16,8 +16,8 @@ use super::offsets::{FROM_28, FROM_29, FROM_30, FROM_31, common_bits};
 use super::packing::HighestBit;
 use cesu8_bytes::BLOCK;
 use cesu8_bytes::flavor::{Flavor, nulls};
-use cesu8_bytes::implementation::class::{Equal, NonAscii, bits, mask};
-use cesu8_bytes::runs::lanes_before;
+use cesu8_bytes::lanes::class::{Equal, NonAscii, bits, mask};
+use cesu8_bytes::lanes::runs::lanes_before;
 use std::simd::prelude::*;
 
 /// How many bytes before a byte decide whether it may follow them.

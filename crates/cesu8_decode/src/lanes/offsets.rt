@@ -11,7 +11,7 @@ ghost use Rattle.cesu8_decode.specs.DecodedLanes.{told, kind_of_two, start_kind,
 use super::packing::HighestBit;
 use cesu8_bytes::BLOCK;
 use cesu8_bytes::flavor::{Flavor, second_of_null};
-use cesu8_bytes::implementation::class::{AtLeast, Continuation, Equal, bits, mask};
+use cesu8_bytes::lanes::class::{AtLeast, Continuation, Equal, bits, mask};
 use std::simd::prelude::*;
 
 /// The kinds of characters of two bytes.

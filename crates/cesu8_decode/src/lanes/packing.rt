@@ -9,8 +9,8 @@ ghost use Rattle.cesu8_decode.specs.DecodedLanes.{is_high, written_lanes};
 
 use super::rows::rows;
 use cesu8_bytes::BLOCK;
-use cesu8_bytes::implementation::class::{AtLeast, bits};
-use cesu8_bytes::packing::{HALF, STORED, picked, second_of, store_kept};
+use cesu8_bytes::lanes::class::{AtLeast, bits};
+use cesu8_bytes::writing::packing::{HALF, STORED, picked, second_of, store_kept};
 use std::simd::prelude::*;
 
 /// The most bytes that are written for one byte: those of the replacement character.

@@ -23,7 +23,7 @@ use super::offsets::{BEHIND, KIND_OF_PAIR, KINDS_OF_THREE, Kinds, NUMBERS, REACH
 use super::packing::{HighestBit, Parts};
 use cesu8_bytes::BLOCK;
 use cesu8_bytes::flavor::{Flavor, nulls};
-use cesu8_bytes::implementation::class::{Equal, bits, mask};
+use cesu8_bytes::lanes::class::{Equal, bits, mask};
 use std::simd::prelude::*;
 
 /// The first byte of the UTF-8 of a surrogate pair, by the lower half of the pair's second byte.

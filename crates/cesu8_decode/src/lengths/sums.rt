@@ -9,7 +9,7 @@ ghost use Rattle.cesu8_decode.specs.DecodedLanes.{saved_at};
 
 use crate::lanes::offsets::{BEHIND, LEAD, REACH, look_up, starts};
 use cesu8_bytes::flavor::{Flavor, nulls};
-use cesu8_bytes::implementation::class::{AtLeast, bits};
+use cesu8_bytes::lanes::class::{AtLeast, bits};
 use std::simd::prelude::*;
 
 /// What a character of one byte saves.

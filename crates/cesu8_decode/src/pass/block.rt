@@ -18,9 +18,9 @@ use crate::lanes::packing::{HighestBit, store, store_whole};
 use crate::lanes::parts::{changed_parts, ill_formed, kept_parts};
 use cesu8_bytes::BLOCK;
 use cesu8_bytes::flavor::{Flavor, nulls};
-use cesu8_bytes::implementation::class::{AtLeast, bits};
-use cesu8_bytes::packing::STORED;
+use cesu8_bytes::lanes::class::{AtLeast, bits};
 use cesu8_bytes::strictness::Strictness;
+use cesu8_bytes::writing::packing::STORED;
 use std::simd::prelude::*;
 
 /// Writes what becomes of the first `count` bytes of a block, which follow `at` bytes of the window

@@ -21,9 +21,9 @@ use crate::lanes::packing::WIDEST;
 use crate::way::{LONG_WINDOW, SHORT_WINDOW};
 use cesu8_bytes::flavor::Flavor;
 use cesu8_bytes::pairs::{PAIR, PAIR_READ, is_pair, utf8_of_pair};
-use cesu8_bytes::put::put;
 use cesu8_bytes::strictness::Strictness;
-use cesu8_bytes::zeros::append_zeros;
+use cesu8_bytes::writing::put::put;
+use cesu8_bytes::writing::zeros::append_zeros;
 
 // The lengths of buffers for the lossy reading of so many bytes.
 pub const SHORT_TEXT: usize = WIDEST * SHORT_WINDOW + SPARE;

@@ -16,8 +16,8 @@ use crate::lanes::packing::WELL_FORMED_ROOM;
 use crate::way::FEW_BYTES;
 use cesu8_bytes::BLOCK;
 use cesu8_bytes::flavor::Flavor;
-use cesu8_bytes::put::put;
 use cesu8_bytes::strictness::Strictness;
+use cesu8_bytes::writing::put::put;
 use std::simd::prelude::*;
 
 /// The length of an array for the last bytes, or for all if they are few, with those before them

@@ -21,8 +21,8 @@ use crate::lanes::packing::{ROOM, WELL_FORMED_ROOM, store_whole};
 use crate::lanes::parts::changed_parts;
 use cesu8_bytes::BLOCK;
 use cesu8_bytes::flavor::Flavor;
-use cesu8_bytes::implementation::class::{Equal, mask};
-use cesu8_bytes::padded::padded_half;
+use cesu8_bytes::lanes::class::{Equal, mask};
+use cesu8_bytes::lanes::padded::padded_half;
 use std::simd::prelude::*;
 
 /// The length of an array for the bytes, with zeros around them.

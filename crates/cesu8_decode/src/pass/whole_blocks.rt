@@ -14,8 +14,8 @@ use crate::lanes::packing::WIDEST;
 use crate::way::FEW_BYTES;
 use cesu8_bytes::BLOCK;
 use cesu8_bytes::flavor::Flavor;
-use cesu8_bytes::packing::STORED;
 use cesu8_bytes::strictness::Strictness;
+use cesu8_bytes::writing::packing::STORED;
 use std::simd::prelude::*;
 
 /// At least so many bytes follow a block that is read where it stands and written where it goes.
