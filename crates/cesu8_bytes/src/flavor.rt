@@ -6,9 +6,9 @@ ghost use Rattle.cesu8_text.specs.Class.{is_null};
 ghost use Rattle.cesu8_bytes.specs.Pairs.{null_at};
 ghost use Rattle.cesu8_bytes.specs.Kernels.{mask};
 
-use crate::implementation::class::{LANES, NoByte, Null, mask};
-use crate::implementation::count::CountsOne;
-use crate::implementation::groups::InGroups;
+use crate::lanes::class::{LANES, NoByte, Null, mask};
+use crate::lanes::count::CountsOne;
+use crate::lanes::groups::InGroups;
 use std::simd::prelude::*;
 
 /// One of the two encodings.

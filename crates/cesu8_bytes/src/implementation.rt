@@ -1,11 +1,6 @@
-//! The kernels, which find whether bytes have one that encoding changes, and the classes of bytes.
+//! The kernels, which find whether bytes have one that encoding changes.
 
-pub mod class;
-pub mod count;
 pub mod fallback;
-pub mod groups;
-pub mod search;
-pub mod short;
 pub mod simd;
 pub mod word;
 

@@ -6,8 +6,8 @@ ghost use Rattle.cesu8_text.specs.Encoding.{encoding};
 ghost use Rattle.cesu8_text.specs.Utf16.{units};
 
 use crate::flavor::Flavor;
-use crate::implementation::class::OneUnit;
-use crate::implementation::count::weight;
+use crate::lanes::class::OneUnit;
+use crate::lanes::count::weight;
 use crate::looks::needs_encoded;
 
 /// Returns the length of a text's encoding, in bytes. A character of four bytes becomes six, and in

@@ -13,9 +13,9 @@ ghost use Rattle.cesu8_text.specs.Class.{IsChangedByte};
 ghost use Rattle.cesu8_text.specs.Encoding.{NeedsEncoding};
 
 use crate::flavor::Flavor;
-use crate::implementation::class::{AtLeastF0, Either, FourByteLead, LANES, NonAscii};
-use crate::implementation::search::any_in_bytes;
-use crate::runs::lanes_before;
+use crate::lanes::class::{AtLeastF0, Either, FourByteLead, LANES, NonAscii};
+use crate::lanes::runs::lanes_before;
+use crate::lanes::search::any_in_bytes;
 use std::simd::prelude::*;
 
 /// The most bytes that are tested for ASCII that does not change before anything is called.

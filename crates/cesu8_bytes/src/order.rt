@@ -12,8 +12,8 @@ ghost use Rattle.cesu8_text.specs.Order.{utf16_rank};
 ghost use Rattle.cesu8_text.specs.Utf16.{units};
 ghost use Rattle.cesu8_bytes.specs.Differences.{IsFirstDifference};
 
-use crate::implementation::class::LANES;
-use crate::runs::first_bit;
+use crate::lanes::class::LANES;
+use crate::lanes::runs::first_bit;
 use std::cmp::Ordering;
 use std::simd::prelude::*;
 

@@ -5,7 +5,7 @@ use Rattle.cesu8_text.specs.Encoding.{Flavor}
 use Rattle.cesu8_bytes.specs.declared.strictness.Strictness.{Strictness}
 use Rattle.cesu8_bytes.specs.declared.strictness.Strictness.TheVariants.{Strict, Lossy}
 use Rattle.cesu8_decode.specs.declared.way.TheConstants.{FEW_BYTES}
-use Rattle.cesu8_decode.specs.declared.whole_blocks.TheConstants.{FOLLOWING, SPARE}
+use Rattle.cesu8_decode.specs.declared.pass.whole_blocks.TheConstants.{FOLLOWING, SPARE}
 use Rattle.cesu8_decode.specs.DecodedOffsets.{window_of, decoded, is_ill_formed_at}
 use Rattle.cesu8_bytes.specs.TextChunks.{IsReadSoFar, IsChunk}
 

@@ -5,9 +5,9 @@ use Rattle.cesu8_text.specs.Class.{is_null}
 use Rattle.cesu8_text.specs.Encoding.{Flavor}
 use Rattle.cesu8_bytes.specs.Pairs.{null_at}
 use Rattle.cesu8_decode.specs.DecodedOffsets.{continues}
-use Rattle.cesu8_decode.specs.declared.following.Block.{Block}
-use Rattle.cesu8_decode.specs.declared.character_set.Rule.{Rule}
-use Rattle.cesu8_decode.specs.declared.character_set.TheConstants.{ENCODED, UNCHANGED, UTF8}
+use Rattle.cesu8_decode.specs.declared.lanes.following.Block.{Block}
+use Rattle.cesu8_decode.specs.declared.lanes.character_set.Rule.{Rule}
+use Rattle.cesu8_decode.specs.declared.lanes.character_set.TheConstants.{ENCODED, UNCHANGED, UTF8}
 
 -- The characters that are meant: all that are encoded, those of them that are the same in UTF-8, or all
 -- of UTF-8, but for 00 in MUTF-8.

@@ -3,8 +3,8 @@ use Rattle.std.specs.Prelude.{◌≡◌, ◌⊎◌, ℕ, true, false, List, slic
 use Rattle.cesu8_text.specs.Encoding.{Flavor}
 use Rattle.cesu8_bytes.specs.Pairs.{null_at, HasPair}
 use Rattle.cesu8_decode.specs.DecodedOffsets.{two_at, three_at}
-use Rattle.cesu8_decode.specs.declared.forms.Form.{Form}
-use Rattle.cesu8_decode.specs.declared.forms.Form.TheVariants.{Pair, Null, Two, Three}
+use Rattle.cesu8_decode.specs.declared.characters.forms.Form.{Form}
+use Rattle.cesu8_decode.specs.declared.characters.forms.Form.TheVariants.{Pair, Null, Two, Three}
 
 -- The bytes begin with a character of this form.
 abbrev pub HasForm : Flavor → List ℕ → Form → Type 0

@@ -9,8 +9,8 @@ ghost use Rattle.cesu8_text.proofs.reading.KeptTexts.{encoding_texts, lenient_te
 ghost use Rattle.cesu8_decode.specs.Following.{Unchanged, Utf8};
 ghost use Rattle.cesu8_decode.specs.Front.{IsFront};
 
-use crate::character_set;
 use crate::front::front;
+use crate::lanes::character_set;
 use crate::way::SHORT_WINDOW;
 use cesu8_bytes::flavor::{Cesu8Flavor, Flavor};
 use cesu8_bytes::looks::{contains_changed, is_short_ascii, is_short_unchanged_ascii};

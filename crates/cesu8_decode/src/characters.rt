@@ -7,16 +7,18 @@ ghost use Rattle.cesu8_decode.specs.Decoding.{ReadsAll, most_written};
 ghost use Rattle.cesu8_bytes.specs.declared.strictness.Strictness.{Strictness};
 ghost use Rattle.cesu8_bytes.specs.declared.strictness.Strictness.TheVariants.{Lossy};
 
-use super::decoded::Decoded;
-use super::forms::{Form, form_of, is_one, len_of, prefix_of};
-use super::packing::WIDEST;
-use super::refusal::is_refused;
+pub mod forms;
+
+use crate::decoded::Decoded;
+use crate::lanes::packing::WIDEST;
+use crate::refusal::is_refused;
 use cesu8_bytes::flavor::Flavor;
-use cesu8_bytes::implementation::class::{Either, NonAscii};
+use cesu8_bytes::lanes::class::{Either, NonAscii};
+use cesu8_bytes::lanes::runs::copy_run;
 use cesu8_bytes::pairs::{PAIR_READ, utf8_of_pair};
-use cesu8_bytes::put::put;
-use cesu8_bytes::runs::copy_run;
 use cesu8_bytes::strictness::Strictness;
+use cesu8_bytes::writing::put::put;
+use forms::{Form, form_of, is_one, len_of, prefix_of};
 
 /// U+FFFD, which replaces an ill-formed byte.
 const REPLACEMENT: [u8; WIDEST] = [0xEF, 0xBF, 0xBD];

@@ -3,11 +3,11 @@
 ghost use Rattle.cesu8_decode.specs.PutReadings.{PutsText, ReadsAs};
 
 use crate::accepts::Accepts;
+use crate::destinations::slices::{put_lossily, put_strictly};
 use crate::refusal::Unwritten;
-use crate::slices::{put_lossily, put_strictly};
 use cesu8_bytes::flavor::Flavor;
 use cesu8_bytes::strictness::Strictness;
-use cesu8_bytes::writers::{copy_to_slice, copy_to_slice_by_call};
+use cesu8_bytes::writing::writers::{copy_to_slice, copy_to_slice_by_call};
 
 /// Writes what a call that takes `A` reads in the bytes to a caller's buffer, if it fits, and
 /// returns its length in bytes.

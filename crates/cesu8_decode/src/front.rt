@@ -10,14 +10,18 @@ ghost use Rattle.cesu8_text.specs.Fronts.{IsValidUpTo};
 ghost use Rattle.cesu8_decode.specs.Following.{FirstFollow, FollowUpTo, Encoded as AllEncoded, after_fillers, crosses_at, is_high_surrogate};
 ghost use Rattle.cesu8_decode.specs.Front.{AreWhole, IsFront};
 
-use super::character_set::{CharacterSet, Encoded, Utf8};
-use super::following::{DECIDING, FILLER, block_at, block_behind, following_len, two_follow};
+pub(crate) mod ill_formed;
+
+use crate::lanes::character_set::{CharacterSet, Encoded, Utf8};
+use crate::lanes::following::{
+    DECIDING, FILLER, block_at, block_behind, following_len, two_follow,
+};
 use cesu8_bytes::BLOCK;
 use cesu8_bytes::flavor::{Cesu8Flavor, Flavor};
-use cesu8_bytes::implementation::class::{Either, NonAscii};
+use cesu8_bytes::lanes::class::{Either, NonAscii};
+use cesu8_bytes::lanes::padded::padded_half;
+use cesu8_bytes::lanes::runs::run_of_groups;
 use cesu8_bytes::looks::is_short_unchanged_ascii;
-use cesu8_bytes::padded::padded_half;
-use cesu8_bytes::runs::run_of_groups;
 use std::simd::prelude::*;
 
 /// Returns how many bytes at the front are whole encoded characters.

@@ -5,12 +5,14 @@ ghost use Rattle.std.specs.Prelude.{◌≡◌, ◌<◌, IfSome, IfNone};
 ghost use Rattle.cesu8_text.specs.Reading.{IsStrictReading, HasNoStrictReading, lossy_length};
 ghost use Rattle.cesu8_text.specs.Slices.{ReadsAtLength};
 
-use super::character_set::Unchanged;
-use super::forms::begins_changed;
-use super::front::front;
-use super::ill_formed::is_ill_formed;
-use super::sums::sum_first;
+mod sums;
+
+use crate::characters::forms::begins_changed;
+use crate::front::front;
+use crate::front::ill_formed::is_ill_formed;
+use crate::lanes::character_set::Unchanged;
 use cesu8_bytes::flavor::Flavor;
+use sums::sum_first;
 
 /// Returns the length of the strict reading, in bytes of UTF-8, if there is one.
 pub fn decoded_len<F: Flavor>(bytes: &[u8]) -> Option<usize>

@@ -2,20 +2,21 @@
 //!
 //! At most six bytes decide whether an encoded character begins at an offset, and no two overlap.
 //! So the nearby bytes decide what becomes of a byte in the lossy reading: it stays, changes, goes,
-//! or is ill-formed and replaced. `offsets` and `parts` find this for 32 bytes at a time, with no
-//! branch on a single byte. In strict reading no byte may be ill-formed. `lengths` adds up the
-//! length of the text.
+//! or is ill-formed and replaced. In strict reading no byte may be ill-formed.
 //!
-//! Each call begins with `front`: how many bytes are whole characters that are the same in UTF-8, or
-//! in a lenient call all of UTF-8. `following` tells by vectors which byte may follow which, for the
-//! characters of a `character_set`, and `valid_up_to` is the same test of all encoded characters.
-//! `accepts` has what a call takes.
+//! In the order of the data:
 //!
-//! `way` decides which way other bytes go. A few are read one character after another, by `characters`.
-//! More are read in one pass, by `in_place`: `whole_blocks` reads blocks where they stand, and
-//! `last_blocks` the last ones from an array. `block` writes each, and `reading` has what strict and
-//! lossy reading make of an ill-formed byte. `slices` writes to a caller's slice, and `strings` for
-//! a `String`.
+//! - `accepts`: what a call takes
+//! - `lanes`: what vectors tell of 32 bytes, with no branch on a single byte
+//! - `front`: how many bytes are whole characters of a set, with which each call begins
+//! - `lengths`: the lengths of the readings
+//! - `way`: which way other bytes go
+//! - `characters`: a few bytes, one character after another
+//! - `pass`: more bytes, in one pass by blocks
+//! - `destinations`: the text of a `String` or of a caller's slice
+//! - `copy_or_write`: a slice again, with what stays copied
+//!
+//! `decoded` has what is told of bytes that were read, and `refusal` why there is no text.
 #![tactic(auto)]
 
 ghost use Rattle.std.specs.Prelude.{◌≡◌, ◌<◌, length, IfOk};
@@ -27,39 +28,23 @@ ghost use Rattle.cesu8_decode.specs.Front.{IsFront};
 ghost use Rattle.cesu8_decode.specs.Refusals.{OnNoText};
 
 pub mod accepts;
-mod block;
-pub mod character_set;
 mod characters;
 pub mod copy_or_write;
 mod decoded;
-mod following;
-mod forms;
+mod destinations;
 pub mod front;
-mod fronts;
-mod ill_formed;
-mod in_place;
-mod last_blocks;
+mod lanes;
 mod lengths;
-mod offsets;
-mod one_block;
-mod packing;
-mod parts;
-mod reading;
+mod pass;
 pub mod refusal;
-mod rows;
-mod slices;
-mod strings;
-mod sums;
 mod way;
-mod whole_blocks;
-mod window;
 
 use crate::refusal::Refusal;
 use cesu8_bytes::flavor::Flavor;
 use cesu8_bytes::utf8::known_string;
+use destinations::strings::{build_lossily, write_strictly};
 pub use lengths::{decoded_len, lossy_len};
 use std::alloc::{AllocError, Global};
-use strings::{build_lossily, write_strictly};
 
 /// Returns the strict reading of bytes, after one request for their length. So many at the front, but
 /// not all, are whole characters that are the same in UTF-8.

@@ -4,7 +4,7 @@ ghost use Rattle.std.specs.Prelude.{◌≡◌};
 ghost use Rattle.cesu8_decode.specs.Decoding.{refuses};
 
 use cesu8_bytes::strictness::Strictness;
-use cesu8_bytes::writers::NoRoom;
+use cesu8_bytes::writing::writers::NoRoom;
 use std::alloc::AllocError;
 
 /// Why no text is built.

@@ -26,8 +26,8 @@ ghost use Rattle.std.specs.Prelude.{◌≤◌, IsTrue, length};
 ghost use Rattle.cesu8_decode.specs.Ways.{Takes};
 
 use cesu8_bytes::BLOCK;
-use cesu8_bytes::implementation::class::{Either, NonAscii, Null};
-use cesu8_bytes::implementation::short::count_in_ends;
+use cesu8_bytes::lanes::class::{Either, NonAscii, Null};
+use cesu8_bytes::lanes::short::count_in_ends;
 use cesu8_bytes::pairs::PAIR;
 
 /// Which way bytes are decoded.

@@ -17,9 +17,9 @@ ghost use Rattle.cesu8_encode.specs.EncodedOffsets.{packed, packed_len, encoded_
 use super::rows::rows;
 use cesu8_bytes::BLOCK;
 use cesu8_bytes::flavor::{Flavor, nulls};
-use cesu8_bytes::implementation::class::{AtLeastF0, Either, bits, mask};
-use cesu8_bytes::implementation::short::any_in_ends;
-use cesu8_bytes::put::put;
+use cesu8_bytes::lanes::class::{AtLeastF0, Either, bits, mask};
+use cesu8_bytes::lanes::short::any_in_ends;
+use cesu8_bytes::writing::put::put;
 use std::simd::prelude::*;
 
 /// How many bytes before a block are read with it, since they decide what its bytes become.

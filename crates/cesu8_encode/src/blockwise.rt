@@ -14,7 +14,7 @@ use super::middle::{AnyChange, BlockWriter, CopyUnchanged, NullChange};
 use super::way::{Middle, is_block, middle_of};
 use cesu8_bytes::BLOCK;
 use cesu8_bytes::flavor::Flavor;
-use cesu8_bytes::implementation::short::copy_short;
+use cesu8_bytes::lanes::short::copy_short;
 
 /// Writes the encoding of a text, and returns its end. It is told how many bytes more than the text
 /// the encoding has, or 0 if that is not known. It is inlined: where the slice is an array on the

@@ -10,7 +10,7 @@ ghost use Rattle.cesu8_encode.specs.EncodedOffsets.{encoded_bytes};
 use super::blocks::{BLOCK_READ, READ_BEFORE, is_unchanged, write_block, write_nulls};
 use cesu8_bytes::BLOCK;
 use cesu8_bytes::flavor::Flavor;
-use cesu8_bytes::put::put_lanes;
+use cesu8_bytes::writing::put::put_lanes;
 use std::simd::prelude::*;
 
 /// A way to write a block.

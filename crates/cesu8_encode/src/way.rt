@@ -43,8 +43,8 @@ ghost use Rattle.cesu8_encode.specs.Ways.{FitsMiddle};
 
 use cesu8_bytes::BLOCK;
 use cesu8_bytes::flavor::Flavor;
-use cesu8_bytes::implementation::class::AtLeastF0;
-use cesu8_bytes::implementation::search::any_in_bytes;
+use cesu8_bytes::lanes::class::AtLeastF0;
+use cesu8_bytes::lanes::search::any_in_bytes;
 
 /// The most bytes of a text that is encoded to the stack before its length is known.
 pub const ON_STACK: usize = 128;

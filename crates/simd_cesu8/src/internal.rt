@@ -14,7 +14,6 @@ ghost use Rattle.simd_cesu8.specs.Slices.{WritesAnswer, WritesReading, WritesLos
 pub mod value;
 
 use crate::error::{DecodeFault, DecodeSliceFault, DecodingError, LossySliceFault, TooShort};
-pub use cesu8_bytes::copies::{copy, copy_text};
 pub use cesu8_bytes::flavor::{Cesu8Flavor, Flavor, Mutf8Flavor};
 pub use cesu8_bytes::lengths::{encoded_len, encoded_len_by_need, utf16_len};
 pub use cesu8_bytes::looks::{
@@ -23,6 +22,7 @@ pub use cesu8_bytes::looks::{
 pub use cesu8_bytes::order::compare_as_utf16;
 use cesu8_bytes::strictness::Strictness;
 pub use cesu8_bytes::utf8::known_text;
+pub use cesu8_bytes::writing::copies::{copy, copy_text};
 pub use cesu8_decode::accepts::{Accepts, EncodingAlone, Lenient};
 use cesu8_decode::copy_or_write;
 pub use cesu8_decode::front::{is_utf8, valid_up_to};

@@ -9,7 +9,7 @@ use Rattle.std.proofs.lemmas.Nat.{and_mask, and_le_r}
 use Rattle.std.proofs.lemmas.Simd.{swz_l, SwzOk, SwzOk-from_below, zip2_splat, length-zip2, length-chunk, map-map, pick_l-range_with_len, Each1-all, Each1-zip2, Each2-splat}
 use lib.Lanes.{zip2, mask_l, put_chunk, chunk, Each1}
 use Rattle.cesu8_bytes.specs.Packing.{written_for, written, kept_of, shuffle_keeping, shuffle_of_eight}
-use Rattle.cesu8_bytes.specs.declared.packing.rows_of_eight.TheConstants.{ROWS}
+use Rattle.cesu8_bytes.specs.declared.writing.packing.rows_of_eight.TheConstants.{ROWS}
 use Rattle.cesu8_bytes.proofs.vectors.Rows.{lowest, shuffled, stored_prefix, first_mask, row_mask, four_calls}
 use Rattle.cesu8_bytes.proofs.vectors.Tables.{same_list, same_rows, rows_by}
 

@@ -6,7 +6,7 @@ use Rattle.std.proofs.lemmas.Simd.{swz_l, SwzOk, SwzOk-from_Each1, length-swz_l,
 use lib.Dec.{T, ltb}
 use lib.Lanes.{chunk}
 use mir.Val.{zeroes}
-use Rattle.cesu8_bytes.specs.declared.padded.TheConstants.{INDICES}
+use Rattle.cesu8_bytes.specs.declared.lanes.padded.TheConstants.{INDICES}
 
 -- Sixteen neighbouring indices.
 abbrev pub indices_from : ℕ → List ℕ

@@ -3,8 +3,8 @@
 ghost use Rattle.std.specs.Prelude.{◌↔◌, IsTrue, Any};
 ghost use Rattle.cesu8_text.specs.Class.{IsFour, IsNullFour};
 
-use super::class::{Either, FourByteLead, Null};
-use super::search::any_in_bytes;
+use crate::lanes::class::{Either, FourByteLead, Null};
+use crate::lanes::search::any_in_bytes;
 
 /// Returns whether some byte is F0 to F7 (hexadecimal). In UTF-8 these are the lead bytes of
 /// characters of four bytes.

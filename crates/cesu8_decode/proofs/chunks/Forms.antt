@@ -10,8 +10,8 @@ use Rattle.cesu8_bytes.specs.TextChunks.{IsReadSoFar}
 use Rattle.cesu8_bytes.specs.declared.strictness.Strictness.{Strictness}
 use Rattle.cesu8_decode.specs.DecodedOffsets.{IsPrefixOf, one_at, two_at, three_at, continues}
 use Rattle.cesu8_decode.specs.Forms.{HasForm, HasNoForm, BeginsChanged, form_len}
-use Rattle.cesu8_decode.specs.declared.forms.Form.{Form}
-use Rattle.cesu8_decode.specs.declared.forms.Form.TheVariants.{Pair, Null, Two, Three}
+use Rattle.cesu8_decode.specs.declared.characters.forms.Form.{Form}
+use Rattle.cesu8_decode.specs.declared.characters.forms.Form.TheVariants.{Pair, Null, Two, Three}
 use Rattle.cesu8_decode.proofs.by_offset.WidthTests.{two_found, three_found, pair_by_prefix, same_digits, continuation}
 use Rattle.cesu8_decode.proofs.chunks.Characters.{kept_read, null_lead, null_read, pair_read, pair_width, none_by_prefix}
 

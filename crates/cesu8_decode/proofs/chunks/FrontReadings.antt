@@ -14,7 +14,7 @@ use Rattle.cesu8_text.proofs.reading.Decoding.{IsText_append, utf8_append}
 use Rattle.cesu8_text.proofs.reading.KeptTexts.{strict_only}
 use Rattle.cesu8_bytes.specs.TextChunks.{IsReadSoFar, IsChunk}
 use Rattle.cesu8_bytes.specs.declared.strictness.Strictness.TheVariants.{Strict}
-use Rattle.cesu8_bytes.specs.declared.writers.NoRoom.{NoRoom}
+use Rattle.cesu8_bytes.specs.declared.writing.writers.NoRoom.{NoRoom}
 use Rattle.cesu8_decode.specs.declared.refusal.Unwritten.TheVariants as unwritten
 use Rattle.cesu8_decode.specs.Decoding.{AppendsStrictly}
 use Rattle.cesu8_decode.specs.Following.{Unchanged}

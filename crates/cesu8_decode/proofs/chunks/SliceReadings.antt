@@ -17,7 +17,7 @@ use Rattle.cesu8_decode.specs.Decoding.{ReadsAll, refuses}
 use Rattle.cesu8_decode.specs.PutReadings.{PutsText, ReadsAs, IsReadingOf}
 use Rattle.cesu8_decode.specs.declared.refusal.Unwritten.{Unwritten}
 use Rattle.cesu8_decode.specs.declared.refusal.Unwritten.TheVariants as unwritten
-use Rattle.cesu8_bytes.specs.declared.writers.NoRoom.{NoRoom}
+use Rattle.cesu8_bytes.specs.declared.writing.writers.NoRoom.{NoRoom}
 use Rattle.cesu8_text.proofs.StdUtf8.{IsUtf8Of_chars}
 use Rattle.cesu8_text.proofs.encoding.Lengths.{length_bounds}
 use Rattle.cesu8_text.proofs.reading.KeptTexts.{strict_only}

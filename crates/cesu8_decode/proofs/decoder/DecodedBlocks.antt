@@ -14,7 +14,7 @@ use Rattle.cesu8_bytes.specs.Kernels.{mask}
 use Rattle.cesu8_decode.specs.DecodedOffsets.{first_width_by, is_ill_formed_at, decoded_byte, decoded_at, decoded}
 use Rattle.cesu8_bytes.specs.Packing.{written}
 use Rattle.cesu8_decode.specs.DecodedLanes.{start_kind, AreNear, TellsChange, TellChanges, is_high, goes_at, byte_at, written_lanes}
-use Rattle.cesu8_decode.specs.declared.parts.TheConstants.{FIRST_BY_SECOND, SECOND_BY_SECOND, THIRD_BY_THIRD}
+use Rattle.cesu8_decode.specs.declared.lanes.parts.TheConstants.{FIRST_BY_SECOND, SECOND_BY_SECOND, THIRD_BY_THIRD}
 use Rattle.cesu8_bytes.proofs.vectors.Loads.{loaded}
 use Rattle.cesu8_decode.proofs.decoder.StartKinds.{start_at, null_bit}
 use Rattle.cesu8_decode.proofs.decoder.LaneTests.{kind_tells, gone_lane, lane_goes, covered_lane, ill_formed_lane, lane_ill_formed, mask_fits, byte_lane, lane_byte, paired_lane, byte_unpaired}

@@ -11,7 +11,7 @@ use Rattle.cesu8_text.specs.Class.{is_null}
 use Rattle.cesu8_text.specs.Encoding.{Flavor}
 use Rattle.cesu8_bytes.specs.Kernels.{mask}
 use Rattle.cesu8_decode.specs.Following.{CharacterSet, has_changed, has_four, IsBlockAt, shown, wanted, follows, follows_at, after_fillers, AllFollow, FirstFollow, FollowUpTo, marked_if_not_one}
-use Rattle.cesu8_decode.specs.declared.following.Block.{Block}
+use Rattle.cesu8_decode.specs.declared.lanes.following.Block.{Block}
 use Rattle.cesu8_bytes.proofs.lists.Lanes.{ones}
 use Rattle.cesu8_bytes.proofs.vectors.Loads.{loaded}
 use Rattle.cesu8_decode.proofs.decoder.FirstLanes.{no_lane}

@@ -8,8 +8,8 @@ use Rattle.cesu8_bytes.specs.Kernels.{mask}
 use Rattle.cesu8_decode.specs.DecodedLanes.{told}
 use Rattle.cesu8_decode.proofs.decoder.Kinds.{half, told_alike}
 use Rattle.cesu8_decode.specs.Following.{CharacterSet, Encoded, Unchanged, Utf8, has_changed, has_four, first_low, rule, shown, leads_four, later}
-use Rattle.cesu8_decode.specs.declared.character_set.Rule.{Rule}
-use Rattle.cesu8_decode.specs.declared.character_set.TheConstants.{ENCODED, UNCHANGED, UTF8}
+use Rattle.cesu8_decode.specs.declared.lanes.character_set.Rule.{Rule}
+use Rattle.cesu8_decode.specs.declared.lanes.character_set.TheConstants.{ENCODED, UNCHANGED, UTF8}
 use Rattle.cesu8_bytes.proofs.lists.Lanes.{ones}
 
 -- ---- what two bytes show, by three look-ups

@@ -12,7 +12,7 @@ use Rattle.cesu8_text.specs.Class.{is_null}
 use Rattle.cesu8_bytes.specs.Kernels.{mask}
 use Rattle.cesu8_decode.specs.DecodedOffsets.{one_at, width_at, saved, saved_between}
 use Rattle.cesu8_decode.specs.DecodedLanes.{start_kind, saved_at}
-use Rattle.cesu8_decode.specs.declared.sums.TheConstants.{SAVED_BY_ONE, SAVED_BY_LOW, SAVED_BY_HIGH}
+use Rattle.cesu8_decode.specs.declared.lengths.sums.TheConstants.{SAVED_BY_ONE, SAVED_BY_LOW, SAVED_BY_HIGH}
 use Rattle.cesu8_decode.proofs.decoder.StartKinds.{Start, by_kind, start_at, no_start, one_by_first}
 use Rattle.cesu8_decode.proofs.decoder.FirstLanes.{on_range}
 use Rattle.cesu8_bytes.proofs.lists.Lanes.{chosen}

@@ -1,5 +1,5 @@
 use Rattle.std.proofs.Common.{◌≡◌, ◌≤◌, [], ◌∷◌, rules, arith, refl, length, take}
-use Rattle.cesu8_decode.specs.declared.forms.Form.TheVariants.{Pair}
+use Rattle.cesu8_decode.specs.declared.characters.forms.Form.TheVariants.{Pair}
 use Rattle.cesu8_decode.proofs.chunks.Characters.{ascii_read, replaced_read, some_written}
 use Rattle.cesu8_decode.proofs.chunks.Forms.{form_read, form_within, no_form, two_bytes, three_bytes}
 use Rattle.cesu8_decode.proofs.characters.write_next.Goals as goal

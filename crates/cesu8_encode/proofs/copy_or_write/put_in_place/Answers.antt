@@ -11,7 +11,7 @@ returns g c =
       written = (
         c.encoded_len-len.ensures,
         ap (λ bytes. bytes ++ drop c.encoded_len-len.result c.args.buf.now)
-        (sym (take_all c.write.result c.write.new.out whole) ∙ c.write.ensures.bytes),
+            (sym (take_all c.write.result c.write.new.out whole) ∙ c.write.ensures.bytes),
       );
       fits = search rules;
       needed = tt;

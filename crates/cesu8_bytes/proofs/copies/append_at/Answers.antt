@@ -1,7 +1,0 @@
-use Rattle.cesu8_bytes.proofs.lists.Stored.{appended_again}
-use Rattle.cesu8_bytes.proofs.copies.append_at.Goals as goal
-
-pub returns-clause-bytes : goal.returns-clause-bytes
-returns-clause-bytes g c = λ before written start le was.
-    rw (c.append_each.ensures.bytes, c.truncate.ensures.items, was, ← start)
-    (appended_again before c.args.bytes.now c.args.at written g.row.N le)

@@ -1,5 +1,0 @@
-use Rattle.cesu8_bytes.proofs.lists.Classes.{equal_marks}
-use Rattle.cesu8_bytes.proofs.implementation.class.EqualInVectors.marks.Goals as goal
-
-pub returns : goal.returns
-returns g c = equal_marks g.row.BYTE g.row.N c.args.bytes c.fits-bytes.0

@@ -1,9 +1,0 @@
-use Rattle.std.proofs.Common.{◌≡◌, ◌+◌, length, sum_by}
-use Rattle.cesu8_text.specs.Class.{weight_of}
-use Rattle.cesu8_bytes.proofs.implementation.count.long_weight.Given as goal
-
-abbrev pub invariant-loop-block : goal.invariant-loop-block
-invariant-loop-block g l = l.weight + sum_by (weight_of g.C.Class.class) l.rest ≡ sum_by (weight_of g.C.Class.class) l.fn.value
-
-abbrev pub decreases-loop-block : goal.decreases-loop-block
-decreases-loop-block g l = length l.rest

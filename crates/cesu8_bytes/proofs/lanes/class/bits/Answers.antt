@@ -1,0 +1,5 @@
+use Rattle.cesu8_bytes.proofs.lists.Classes.{bits_of_marks}
+use Rattle.cesu8_bytes.proofs.lanes.class.bits.Goals as goal
+
+pub returns : goal.returns
+returns g c = bits_of_marks g.C.Class.class g.row.N c.args.bytes _ c.marks.ensures c.fits-bytes.0 c.requires

@@ -1,0 +1,28 @@
+use Rattle.std.proofs.Common.{◌≡◌, ℕ, ◌-◌, ◌<◌, List, [], ◌∷◌, ◌++◌, length, get_or, replicate, refl, arith, w8}
+use Rattle.std.proofs.lemmas.Simd.{swz_l}
+use Rattle.cesu8_bytes.specs.Padded.{ends_of}
+use Rattle.cesu8_bytes.specs.declared.lanes.padded.TheConstants.{IN_ENDS}
+use Rattle.cesu8_bytes.proofs.lanes.padded.padded_few.Goals as goal
+
+-- The shuffle by the row of their number puts them one behind the other.
+in_order : (bytes : List ℕ) → length bytes < 16 → swz_l w8 16 (ends_of bytes) 0 (get_or IN_ENDS (length bytes) []) ≡ bytes ++ replicate (16 - length bytes) 0
+in_order [] few = refl
+in_order (a ∷ []) few = refl
+in_order (a ∷ b ∷ []) few = refl
+in_order (a ∷ b ∷ d ∷ []) few = refl
+in_order (a ∷ b ∷ d ∷ e ∷ []) few = refl
+in_order (a ∷ b ∷ d ∷ e ∷ g ∷ []) few = refl
+in_order (a ∷ b ∷ d ∷ e ∷ g ∷ h ∷ []) few = refl
+in_order (a ∷ b ∷ d ∷ e ∷ g ∷ h ∷ i ∷ []) few = refl
+in_order (a ∷ b ∷ d ∷ e ∷ g ∷ h ∷ i ∷ j ∷ []) few = refl
+in_order (a ∷ b ∷ d ∷ e ∷ g ∷ h ∷ i ∷ j ∷ k ∷ []) few = refl
+in_order (a ∷ b ∷ d ∷ e ∷ g ∷ h ∷ i ∷ j ∷ k ∷ l ∷ []) few = refl
+in_order (a ∷ b ∷ d ∷ e ∷ g ∷ h ∷ i ∷ j ∷ k ∷ l ∷ m ∷ []) few = refl
+in_order (a ∷ b ∷ d ∷ e ∷ g ∷ h ∷ i ∷ j ∷ k ∷ l ∷ m ∷ n ∷ []) few = refl
+in_order (a ∷ b ∷ d ∷ e ∷ g ∷ h ∷ i ∷ j ∷ k ∷ l ∷ m ∷ n ∷ o ∷ []) few = refl
+in_order (a ∷ b ∷ d ∷ e ∷ g ∷ h ∷ i ∷ j ∷ k ∷ l ∷ m ∷ n ∷ o ∷ p ∷ []) few = refl
+in_order (a ∷ b ∷ d ∷ e ∷ g ∷ h ∷ i ∷ j ∷ k ∷ l ∷ m ∷ n ∷ o ∷ p ∷ q ∷ []) few = refl
+in_order (a ∷ b ∷ d ∷ e ∷ g ∷ h ∷ i ∷ j ∷ k ∷ l ∷ m ∷ n ∷ o ∷ p ∷ q ∷ r ∷ bytes) few = absurd (omega (arith, few))
+
+pub returns : goal.returns
+returns c = rw (c.ends.ensures, c.in_ends.ensures) (in_order c.args.bytes.now c.requires)

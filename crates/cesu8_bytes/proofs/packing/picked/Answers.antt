@@ -1,8 +1,0 @@
-use Rattle.cesu8_bytes.proofs.vectors.Packing.{low_ok, low_picked}
-use Rattle.cesu8_bytes.proofs.packing.picked.Goals as goal
-
-pub swizzle : goal.swizzle
-swizzle c = low_ok c.args.row c.fits-row.0
-
-pub returns : goal.returns
-returns c = low_picked c.args.lanes c.args.row c.fits-row.0

@@ -1,0 +1,12 @@
+use Rattle.std.proofs.Common.{length, ap, arith, rules}
+use Rattle.std.proofs.lemmas.Grind.{common_steps}
+use Rattle.std.proofs.lemmas.Slice.{drop-put_mid}
+use Rattle.cesu8_bytes.proofs.writing.put.put.Goals as goal
+
+pub returns : goal.returns
+returns c = record {
+  bytes = grind (arith, common_steps);
+  end = search rules;
+  behind = drop-put_mid c.args.at _ _ _ _ (omega arith) (omega arith) (omega (arith, ap length c.copy_from_slice.ensures.after));
+  len = search rules;
+}

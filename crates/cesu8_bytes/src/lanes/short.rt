@@ -1,0 +1,118 @@
+//! Short values, for which a loop for each vector width would cost more than the tests.
+//!
+//! Two vectors of one width, one at the front and one at the end, cover a value between that width
+//! and twice that. They overlap where needed, so no byte is left out.
+
+ghost use Rattle.std.specs.Prelude.{◌≡◌, ◌≤◌, ◌<◌, ◌+◌, ◌*◌, ◌-◌, ◌↔◌, ◌++◌, IsTrue, length, drop};
+ghost use Rattle.cesu8_bytes.specs.Kernels.{AnyIn};
+
+use super::class::{InVectors, LANES, bits, has};
+use crate::writing::put::put_lanes;
+use std::simd::prelude::*;
+
+/// From this length on bytes are copied as one slice. Where both may overlap, for all that the compiler
+/// knows, that is larger steps, and up to 127 bytes one by one.
+pub(crate) const LONG: usize = 16 * LANES;
+
+/// Calls a function at the greatest width of which two vectors cover at most 64 bytes, or returns
+/// what is right of none: `by_two_vectors!(value, function[Class](value), of_none)`.
+macro_rules! by_two_vectors {
+    ($value:expr, $function:ident[$($class:ty),*]($($argument:expr),*), $of_none:expr) => {
+        if $value.len() >= 32 {
+            $function::<$($class,)* 32>($($argument),*)
+        } else if $value.len() >= 16 {
+            $function::<$($class,)* 16>($($argument),*)
+        } else if $value.len() >= 8 {
+            $function::<$($class,)* 8>($($argument),*)
+        } else if $value.len() >= 4 {
+            $function::<$($class,)* 4>($($argument),*)
+        } else if $value.len() >= 2 {
+            $function::<$($class,)* 2>($($argument),*)
+        } else if $value.is_empty() {
+            $of_none
+        } else {
+            $function::<$($class,)* 1>($($argument),*)
+        }
+    };
+}
+
+pub(crate) use by_two_vectors;
+
+/// Returns whether some byte is in the class, by a vector at the front and one at the end, which
+/// together cover all.
+#[inline(always)]
+pub fn any_in_ends<C: InVectors<N>, const N: usize>(bytes: &[u8]) -> bool
+    requires { (N ≤ LANES) × (N ≤ length bytes.now) × (length bytes.now ≤ 2 * N) }
+    ensures { IsTrue result ↔ AnyIn C.class bytes.now }
+{
+    let front: Simd<u8, N> = Simd::from_slice(bytes);
+    let end = end_vector::<N>(bytes);
+    has::<C, N>(front) | has::<C, N>(end)
+}
+
+/// Returns the vector that ends where the bytes do.
+#[inline(always)]
+pub(crate) fn end_vector<const N: usize>(bytes: &[u8]) -> Simd<u8, N>
+    requires { (N ≤ LANES) × (N ≤ length bytes.now) }
+    ensures { result ≡ drop (length bytes.now - N) bytes.now }
+{
+    Simd::from_slice(&bytes[bytes.len() - N..])
+}
+
+/// Counts the bytes in the class, in a vector at the front and one at the end. The bits of bytes in
+/// both are shifted out of the second mask, so they count once. No clause has the count: a decoder
+/// chooses its way by it, for speed alone.
+#[inline(always)]
+pub fn count_in_ends<C: InVectors<N>, const N: usize>(bytes: &[u8]) -> usize
+    requires { (N ≤ LANES) × (N < length bytes.now) × (length bytes.now ≤ 2 * N) }
+{
+    let front: Simd<u8, N> = Simd::from_slice(bytes);
+    let end = end_vector::<N>(bytes);
+    let behind = bits::<C, N>(end) >> (2 * N - bytes.len());
+    (bits::<C, N>(front).count_ones() + behind.count_ones()) as usize
+}
+
+/// Copies bytes to the front of a buffer. It is correct for every length, and for short ones it takes
+/// less time than a call of `memmove`.
+#[inline(always)]
+pub fn copy_short(bytes: &[u8], buf: &mut [u8])
+    requires { length bytes.now ≤ length buf.old }
+    ensures { buf.new ≡ bytes.now ++ drop (length bytes.now) buf.old }
+{
+    if bytes.len() >= LONG {
+        buf[..bytes.len()].copy_from_slice(bytes);
+    } else if bytes.len() > LANES {
+        copy_many(bytes, buf);
+    } else {
+        by_two_vectors!(bytes, copy_ends[](bytes, buf), ());
+    }
+}
+
+/// Copies 64 bytes or more by vectors in turn, the last of which overlaps where needed.
+#[inline(always)]
+fn copy_many(bytes: &[u8], buf: &mut [u8])
+    requires lanes { LANES ≤ length bytes.now }
+    requires room { length bytes.now ≤ length buf.old }
+    ensures { buf.new ≡ bytes.now ++ drop (length bytes.now) buf.old }
+{
+    let last = bytes.len() - LANES;
+    let mut at = 0;
+    while at < last {
+        let lanes: Simd<u8, LANES> = Simd::from_slice(&bytes[at..]);
+        at = put_lanes(lanes, buf, at);
+    }
+    put_lanes(end_vector::<LANES>(bytes), buf, last);
+}
+
+/// Copies by a vector at the front and one at the end, which together cover all.
+#[inline(always)]
+fn copy_ends<const N: usize>(bytes: &[u8], buf: &mut [u8])
+    requires lanes { (N ≤ LANES) × (N ≤ length bytes.now) × (length bytes.now ≤ 2 * N) }
+    requires room { length bytes.now ≤ length buf.old }
+    ensures { buf.new ≡ bytes.now ++ drop (length bytes.now) buf.old }
+{
+    let front: Simd<u8, N> = Simd::from_slice(bytes);
+    let end = end_vector::<N>(bytes);
+    front.copy_to_slice(buf);
+    end.copy_to_slice(&mut buf[bytes.len() - N..]);
+}

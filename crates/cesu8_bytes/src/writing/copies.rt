@@ -1,0 +1,136 @@
+//! Copies to a buffer with enough capacity, and copies that are owned, with one request each.
+
+ghost use Rattle.std.specs.Prelude.{◌≡◌, ℕ, List, ◌+◌, ◌*◌, ◌≤◌, ◌++◌, [], length, take, IfOk, IsOk, vec_len, vec_capacity};
+ghost use Rattle.std.specs.String.{string_bytes, string_capacity};
+ghost use Rattle.cesu8_bytes.specs.Puts.{Appends};
+
+use crate::lanes::class::LANES;
+use crate::lanes::short::LONG;
+use std::alloc::{AllocError, Global};
+use std::mem;
+use std::simd::prelude::*;
+
+/// The lanes of the vectors that append 17 to 64 bytes.
+const WIDE: usize = 16;
+
+/// The lanes of those that append 4 to 16 bytes.
+const NARROW: usize = 4;
+
+/// Appends bytes to a buffer with enough capacity. Short values have two widths of vectors alone,
+/// since a processor mostly guesses wrong which of many a length has.
+#[inline(always)]
+pub fn append(bytes: &[u8], out: &mut Vec<u8>)
+    requires { vec_len out.old + length bytes.now ≤ vec_capacity out.old }
+    ensures { Appends bytes.now out.old out.new }
+{
+    // The length of a local vector stays in a register; behind a reference, each byte that is
+    // written would store it.
+    let mut taken = mem::replace(out, Vec::new(*out.allocator()));
+    if bytes.len() >= LONG {
+        append_each(bytes, &mut taken);
+    } else if bytes.len() > 4 * WIDE {
+        append_many(bytes, &mut taken);
+    } else if bytes.len() > WIDE {
+        append_four::<WIDE>(bytes, &mut taken);
+    } else if bytes.len() >= NARROW {
+        append_four::<NARROW>(bytes, &mut taken);
+    } else {
+        append_each(bytes, &mut taken);
+    }
+    *out = taken;
+}
+
+/// Appends 64 bytes or more by vectors in turn, the last of which overlaps where needed.
+#[inline(always)]
+fn append_many(bytes: &[u8], out: &mut Vec<u8>)
+    requires lanes { LANES ≤ length bytes.now }
+    requires room { vec_len out.old + length bytes.now ≤ vec_capacity out.old }
+    ensures { Appends bytes.now out.old out.new }
+{
+    let start = out.len();
+    let last = bytes.len() - LANES;
+    let mut at = 0;
+    while at < last {
+        append_at::<LANES>(bytes, at, start, out);
+        at += LANES;
+    }
+    append_at::<LANES>(bytes, last, start, out);
+}
+
+/// Appends `N` to `4 * N` bytes, by four vectors that overlap where needed.
+#[inline(always)]
+fn append_four<const N: usize>(bytes: &[u8], out: &mut Vec<u8>)
+    requires lanes { (N ≤ LANES) × (N ≤ length bytes.now) × (length bytes.now ≤ 4 * N) }
+    requires room { vec_len out.old + length bytes.now ≤ vec_capacity out.old }
+    ensures { Appends bytes.now out.old out.new }
+{
+    let start = out.len();
+    let last = bytes.len() - N;
+    let step = last.min(N);
+    append_at::<N>(bytes, 0, start, out);
+    append_at::<N>(bytes, step, start, out);
+    append_at::<N>(bytes, last - step, start, out);
+    append_at::<N>(bytes, last, start, out);
+}
+
+/// Appends the `N` bytes at an offset, in place of what was appended behind it. Those before it
+/// were appended from the index `start` on.
+#[inline(always)]
+fn append_at<const N: usize>(bytes: &[u8], at: usize, start: usize, out: &mut Vec<u8>)
+    requires lanes { (N ≤ LANES) × (at + N ≤ length bytes.now) }
+    requires before { start + at ≤ vec_len out.old }
+    requires room { start + at + N ≤ vec_capacity out.old }
+    ensures bytes { (before : List ℕ) (written : ℕ) → length before ≡ start → at ≤ written
+        → out.old.items ≡ before ++ take written bytes.now
+        → out.new.items ≡ before ++ take (at + N) bytes.now }
+    ensures len { vec_len out.new ≡ start + at + N }
+    ensures capacity { vec_capacity out.new ≡ vec_capacity out.old }
+{
+    let lanes: Simd<u8, N> = Simd::from_slice(&bytes[at..]);
+    out.truncate(start + at);
+    append_each(&lanes.to_array(), out);
+}
+
+/// Appends bytes one by one. That is compiled to a call of `memcpy` where the buffer is known to be
+/// apart from the bytes, as a new one is, for an array to a vector that is stored, and else to larger
+/// steps with the last bytes one by one.
+#[inline(always)]
+fn append_each(bytes: &[u8], out: &mut Vec<u8>)
+    requires { vec_len out.old + length bytes.now ≤ vec_capacity out.old }
+    ensures { Appends bytes.now out.old out.new }
+{
+    for byte in bytes {
+        out.push_reserved(*byte);
+    }
+}
+
+/// Returns a copy of some bytes, after one request for their length.
+pub fn copy(alloc: Global, bytes: &[u8]) -> Result<Vec<u8>, AllocError>
+    ensures bytes { IfOk result (λ copied. copied.items ≡ bytes.now) }
+    ensures capacity { IfOk result (λ copied. vec_capacity copied ≡ length bytes.now) }
+    ensures empty { bytes.now ≡ [] → IsOk result }
+{
+    let mut copied = Vec::with_capacity(alloc, bytes.len())?;
+    append_each(bytes, &mut copied);
+    Ok(copied)
+}
+
+/// Returns a copy of a text, after one request for its length.
+pub fn copy_text(alloc: Global, text: &str) -> Result<String, AllocError>
+    ensures text { IfOk result (λ copied. string_bytes copied ≡ text.now) }
+    ensures capacity { IfOk result (λ copied. string_capacity copied ≡ length text.now) }
+    ensures empty { text.now ≡ [] → IsOk result }
+{
+    if text.is_empty() {
+        // No request is made, so none is refused.
+        return String::with_capacity(alloc, 0);
+    }
+    let mut copied = String::with_capacity(alloc, text.len())?;
+    copied.push_str(text)?;
+    // All of it fitted, so the capacity has not grown; std's contracts leave that open, and this
+    // one does not.
+    if copied.capacity() != text.len() {
+        return Err(AllocError);
+    }
+    Ok(copied)
+}

@@ -1,0 +1,85 @@
+use Rattle.std.proofs.Common.{◌∙◌, sym, arith, drop, length-drop}
+use Rattle.std.proofs.lemmas.List.{length-take-le, take_rest}
+use Rattle.cesu8_bytes.specs.declared.strictness.Strictness.TheVariants.{Strict}
+use Rattle.cesu8_decode.proofs.chunks.FrontReadings.{appended_behind, front_appended}
+use Rattle.cesu8_decode.proofs.chunks.ReadChunks.{more_read, none_left}
+use Rattle.cesu8_decode.proofs.destinations.fronts.append_by_fronts.Goals as goal
+
+pub loop-len-init : goal.loop-len-init
+loop-len-init g c =
+    let step = c.append_to_next-rest.ensures in
+    record { read = step.read; front = c.front-len.ensures; room = step.room; capacity = step.capacity }
+
+pub append_to_next-rest-requires-in-loop-len-clause-front : goal.append_to_next-rest-requires-in-loop-len-clause-front
+append_to_next-rest-requires-in-loop-len-clause-front g c = c.loop-len.invariant.front
+
+pub append_to_next-rest-requires-in-loop-len-clause-room : goal.append_to_next-rest-requires-in-loop-len-clause-room
+append_to_next-rest-requires-in-loop-len-clause-room g c = c.loop-len.invariant.room
+
+pub loop-len-smaller : goal.loop-len-smaller
+loop-len-smaller g c = omega (arith, c.append_to_next-rest-in-loop-len.ensures.within, c.loop-len-test.true)
+
+pub loop-len-preserved : goal.loop-len-preserved
+loop-len-preserved g c =
+    let inv = c.loop-len.invariant in
+    let step = c.append_to_next-rest-in-loop-len.ensures in
+    record {
+      read = more_read g.F.Flavor.flavor Strict c.args.bytes.now _ _ _ _ _ inv.read step.read;
+      front = c.front-len-in-loop-len.ensures;
+      room = step.room;
+      capacity = step.capacity ∙ inv.capacity;
+    }
+
+pub slice_bounds-append-end : goal.slice_bounds-append-end
+slice_bounds-append-end g c = sym (length-take-le c.loop-len.len c.loop-len.rest.now c.loop-len.invariant.front.within)
+
+pub append-requires : goal.append-requires
+append-requires g c =
+    let inv = c.loop-len.invariant in
+    omega (arith, inv.room, length-take-le c.loop-len.len c.loop-len.rest.now inv.front.within, inv.front.within)
+
+pub returns-then-len-rest-2 : goal.returns-then-len-rest-2
+returns-then-len-rest-2 g c =
+    let f = g.F.Flavor.flavor in
+    let inv = c.loop-len.invariant in
+    let rest = c.loop-len.rest.now in
+    let n = c.loop-len.len in
+    record {
+      text = none_left f Strict c.args.bytes.now (drop n rest) _ _
+          (front_appended f rest n inv.front c.args.bytes.now _ _ _ inv.read c.append.ensures.bytes)
+          (omega (arith, length-drop n rest, c.if-len-rest-2.true));
+      capacity = c.append.ensures.capacity ∙ inv.capacity;
+      none = tt;
+    }
+
+pub slice_bounds-append_strictly-count : goal.slice_bounds-append_strictly-count
+slice_bounds-append_strictly-count g c = omega (arith, c.loop-len.invariant.front.within)
+
+pub slice_bounds-append_strictly-start : goal.slice_bounds-append_strictly-start
+slice_bounds-append_strictly-start g c = omega (arith, c.loop-len.invariant.front.within)
+
+pub append_strictly-requires : goal.append_strictly-requires
+append_strictly-requires g c =
+    let inv = c.loop-len.invariant in
+    let rest = c.loop-len.rest.now in
+    let n = c.loop-len.len in
+    rw take_rest (omega (
+      arith,
+      inv.room,
+      c.append.ensures.len,
+      c.append.ensures.capacity,
+      length-take-le n rest inv.front.within,
+      length-drop n rest,
+      inv.front.within,
+    ))
+
+pub returns : goal.returns
+returns g c =
+    let f = g.F.Flavor.flavor in
+    let inv = c.loop-len.invariant in
+    let rest = c.loop-len.rest.now in
+    let n = c.loop-len.len in
+    appended_behind f c.args.bytes.now (drop n rest) c.args.before c.append.new.out c.append_strictly.result
+    (front_appended f rest n inv.front c.args.bytes.now _ _ _ inv.read c.append.ensures.bytes)
+    (c.append.ensures.capacity ∙ inv.capacity)
+    (rw take_rest at c.append_strictly.ensures)

@@ -1,0 +1,8 @@
+use Rattle.std.proofs.Common.{arith}
+use Rattle.cesu8_decode.proofs.destinations.slices.put_by_array.Goals as goal
+
+pub returns : goal.returns
+returns g c =
+    let decoded = c.write_text-decoded.ensures in
+    c.put_decoded.ensures g.F.Flavor.flavor c.args.bytes.now
+    (record { first = decoded.first; all = λ _. decoded.all (omega (arith, c.requires)) })

@@ -1,0 +1,36 @@
+use Rattle.std.proofs.Common.{◌≡◌, ◌+◌, [], false, refl, ap, ◌∙◌, subst, take, length, replicate, get_or, arith}
+use Rattle.std.proofs.lemmas.Bool.{false≢true}
+use Rattle.cesu8_bytes.specs.declared.strictness.Strictness.TheVariants.{Lossy}
+use Rattle.cesu8_decode.specs.DecodedOffsets.{window_of}
+use Rattle.cesu8_decode.proofs.by_offset.WindowOffsets.{follows_zeros}
+use Rattle.cesu8_decode.proofs.by_offset.CharacterBoundaries.{boundary_of_zeros, boundary_at_end}
+use Rattle.cesu8_decode.specs.Decoding.{IsWrittenUpTo}
+use Rattle.cesu8_decode.proofs.decoder.BlocksInPlace.{around_agrees, first_kinds, kinds_agree, none_written, block_added, read_in_place}
+use Rattle.cesu8_decode.proofs.pass.one_block.write_one_block.Goals as goal
+
+pub write_block-block-requires-clause-before : goal.write_block-block-requires-clause-before
+write_block-block-requires-clause-before g c =
+    let bytes = c.args.bytes.now in
+    kinds_agree g.F.Flavor.flavor c.window_on-window.result (window_of bytes) 0 0 (replicate 32 0) 27
+    (around_agrees c.window_on-window.result (window_of bytes) 0 10 (λ k inside. c.window_on-window.ensures k ∙ ap (λ p. get_or (window_of bytes) p 0) (omega arith)))
+    (first_kinds g.F.Flavor.flavor bytes)
+
+-- What a block writes is what the bytes become.
+pub returns-clause-read : goal.returns-clause-read
+returns-clause-read g c =
+    let f = g.F.Flavor.flavor in
+    let bytes = c.args.bytes.now in
+    let block = c.write_block-block.ensures in
+    let none = block.lossy refl in
+    let here : 0 + length bytes ≡ length bytes = omega arith in
+    let text = take c.write_block-block.result.end c.write_block-block.new.out in
+    record {
+      first =
+          read_in_place f Lossy bytes (length bytes) (length bytes) text
+          (subst (λ n. IsWrittenUpTo f Lossy bytes n text false) here
+          (block_added f Lossy bytes c.window_on-window.result 0 0 (length bytes) [] text false (none_written f Lossy bytes [] refl)
+          (around_agrees c.window_on-window.result (window_of bytes) 0 (length bytes + 10) (λ k inside. c.window_on-window.ensures k ∙ ap (λ p. get_or (window_of bytes) p 0) (omega arith)))
+          (omega arith) (λ _. block.bytes none) (λ some. absurd (false≢true some)) (λ lossy. refl) (λ strict _. block.strict strict none)))
+          (λ some. some) (omega arith) (boundary_at_end f (window_of bytes) bytes (follows_zeros bytes) (boundary_of_zeros f bytes)) refl;
+      all = λ _. refl;
+    }

@@ -1,0 +1,190 @@
+//! Decodes to a vector, whose bytes are then known to be UTF-8.
+//!
+//! Strict reading has requested as many bytes as it was given, and decodes to the vector itself.
+//! Lossy reading requests exactly what the text has, so a few bytes are decoded on the stack before
+//! that. Of more bytes the text is appended chunk by chunk.
+
+ghost use Rattle.std.specs.Prelude.{◌≡◌, ◌+◌, ◌<◌, ◌≤◌, [], length, vec_len, vec_capacity};
+ghost use Rattle.cesu8_text.specs.Reading.{lossy_length};
+ghost use Rattle.cesu8_bytes.specs.TextChunks.{IsReadSoFar};
+ghost use Rattle.cesu8_bytes.specs.declared.strictness.Strictness.TheVariants.{Lossy};
+ghost use Rattle.cesu8_decode.specs.Decoding.{BuildsReading, AppendsStrictly, room_for};
+ghost use Rattle.cesu8_decode.specs.Following.{Unchanged};
+ghost use Rattle.cesu8_decode.specs.Front.{IsFront};
+
+use super::fronts::{LONG_FRONT, append_by_fronts};
+use super::slices::CHARACTERS_TEXT;
+use crate::characters::forms::begins_changed;
+use crate::characters::write_characters;
+use crate::lengths::lossy_len;
+use crate::pass::in_place::{LONG_TEXT, SHORT_TEXT, append_strictly, write_text};
+use crate::pass::one_block::{LOSSY_TEXT, STRICT_TEXT, write_one_block, write_one_strictly};
+use crate::way::{FEW_BYTES, FEWER_BYTES, Way, strict_way, way_of};
+use cesu8_bytes::BLOCK;
+use cesu8_bytes::flavor::Flavor;
+use cesu8_bytes::strictness::Strictness;
+use cesu8_bytes::writing::copies::{append, copy};
+use std::alloc::{AllocError, Global};
+
+/// Writes the strict reading of bytes to an empty vector that has capacity for as many. So many at the
+/// front, but not all, are whole characters that are the same in UTF-8.
+#[inline(always)]
+pub fn write_strictly<F: Flavor>(bytes: &[u8], front: usize, empty: Vec<u8>) -> Option<Vec<u8>>
+    requires front { IsFront Unchanged F.flavor bytes.now front × (front < length bytes.now) }
+    requires empty { (empty.items ≡ []) × (length bytes.now ≤ vec_capacity empty) }
+    ensures { AppendsStrictly F.flavor bytes.now empty result }
+{
+    let rest = &bytes[front..];
+    if !begins_changed::<F>(rest) {
+        return None;
+    }
+    if rest.len() <= FEWER_BYTES || matches!(strict_way(rest, front), Way::Characters) {
+        write_few::<F>(bytes, front, empty)
+    } else {
+        write_many::<F>(bytes, front, empty)
+    }
+}
+
+/// Returns the lossy reading of the bytes, after one request for its length.
+#[inline(always)]
+pub fn build_lossily<F: Flavor>(alloc: Global, bytes: &[u8]) -> Result<Vec<u8>, AllocError>
+    ensures { BuildsReading F.flavor bytes.now result }
+{
+    match way_of(bytes) {
+        Way::OneBlock => build_one::<F>(alloc, bytes),
+        Way::Characters => build_characters::<F>(alloc, bytes),
+        Way::ShortWindow => build_window::<F, SHORT_TEXT>(alloc, bytes),
+        Way::LongWindow => build_window::<F, LONG_TEXT>(alloc, bytes),
+        Way::Chunks => build_chunks::<F>(alloc, bytes),
+    }
+}
+
+/// Writes the front as it is, and the strict reading of a few bytes behind it, one character after
+/// another.
+#[inline(never)]
+fn write_few<F: Flavor>(bytes: &[u8], front: usize, empty: Vec<u8>) -> Option<Vec<u8>>
+    requires front { IsFront Unchanged F.flavor bytes.now front }
+    requires empty { (empty.items ≡ []) × (length bytes.now ≤ vec_capacity empty) }
+    ensures { AppendsStrictly F.flavor bytes.now empty result }
+{
+    let mut text = empty;
+    append(bytes, &mut text);
+    let rest = &bytes[front..];
+    let decoded = write_characters::<F>(Strictness::Strict, rest, &mut text[front..]);
+    if decoded.is_ill_formed {
+        return None;
+    }
+    text.truncate(front + decoded.end);
+    Some(text)
+}
+
+/// Writes the front as it is, and the strict reading of the bytes behind it: from one character that
+/// changes to the next where they seem to stand far apart, and else block by block. One block is read
+/// whole, in less time than its front is copied.
+#[inline(never)]
+fn write_many<F: Flavor>(bytes: &[u8], front: usize, empty: Vec<u8>) -> Option<Vec<u8>>
+    requires front { IsFront Unchanged F.flavor bytes.now front }
+    requires empty { (empty.items ≡ []) × (length bytes.now ≤ vec_capacity empty) }
+    ensures { AppendsStrictly F.flavor bytes.now empty result }
+{
+    if bytes.len() <= BLOCK {
+        return append_one::<F>(bytes, empty);
+    }
+    if front >= LONG_FRONT {
+        return append_by_fronts::<F>(bytes, front, empty);
+    }
+    let mut text = empty;
+    append(&bytes[..front], &mut text);
+    append_strictly::<F>(&bytes[front..], text)
+}
+
+/// Appends the strict reading of the bytes of one block, by an array.
+#[inline(always)]
+fn append_one<F: Flavor>(bytes: &[u8], before: Vec<u8>) -> Option<Vec<u8>>
+    requires bytes { length bytes.now ≤ BLOCK }
+    requires room { vec_len before + length bytes.now ≤ vec_capacity before }
+    ensures { AppendsStrictly F.flavor bytes.now before result }
+{
+    let mut written = [0; STRICT_TEXT];
+    let decoded = write_one_strictly::<F>(bytes, &mut written);
+    if decoded.is_ill_formed {
+        return None;
+    }
+    let mut text = before;
+    append(&written[..decoded.end], &mut text);
+    Some(text)
+}
+
+/// Appends the lossy reading of the bytes chunk by chunk.
+#[inline(never)]
+fn append_chunks<F: Flavor>(bytes: &[u8], before: Vec<u8>) -> Vec<u8>
+    requires { vec_len before + lossy_length F.flavor bytes.now ≤ vec_capacity before }
+    ensures text { IsReadSoFar F.flavor Lossy bytes.now [] before.items result.items }
+    ensures capacity { vec_capacity result ≡ vec_capacity before }
+{
+    let mut text = before;
+    let mut written = [0; LONG_TEXT];
+    let mut rest = bytes;
+    while !rest.is_empty() {
+        let decoded = write_text::<F>(Strictness::Lossy, rest, &mut written);
+        rest = &rest[decoded.read..];
+        append(&written[..decoded.end], &mut text);
+    }
+    text
+}
+
+/// Returns the lossy reading of the bytes of one block, by an array.
+#[inline(never)]
+fn build_one<F: Flavor>(alloc: Global, bytes: &[u8]) -> Result<Vec<u8>, AllocError>
+    requires { length bytes.now ≤ BLOCK }
+    ensures { BuildsReading F.flavor bytes.now result }
+{
+    let mut written = [0; LOSSY_TEXT];
+    let decoded = write_one_block::<F>(bytes, &mut written);
+    copy(alloc, &written[..decoded.end])
+}
+
+/// Returns the lossy reading of a few bytes, read one character after another to an array.
+#[inline(never)]
+fn build_characters<F: Flavor>(alloc: Global, bytes: &[u8]) -> Result<Vec<u8>, AllocError>
+    requires { length bytes.now ≤ FEW_BYTES }
+    ensures { BuildsReading F.flavor bytes.now result }
+{
+    let mut written = [0; CHARACTERS_TEXT];
+    let decoded = write_characters::<F>(Strictness::Lossy, bytes, &mut written);
+    copy(alloc, &written[..decoded.end])
+}
+
+/// Returns the lossy reading of the bytes of one window, decoded to an array of this length.
+#[inline(never)]
+fn build_window<F: Flavor, const WRITTEN: usize>(
+    alloc: Global,
+    bytes: &[u8],
+) -> Result<Vec<u8>, AllocError>
+    requires { (room_for Lossy (length bytes.now) ≤ WRITTEN) × (WRITTEN ≤ LONG_TEXT) }
+    ensures { BuildsReading F.flavor bytes.now result }
+{
+    let mut written = [0; WRITTEN];
+    let decoded = write_text::<F>(Strictness::Lossy, bytes, &mut written);
+    copy(alloc, &written[..decoded.end])
+}
+
+/// Returns the lossy reading of more bytes. The first of them are decoded on the stack before the
+/// request, so that they need no pass for the length. A length that does not fit counts as refused.
+#[inline(never)]
+fn build_chunks<F: Flavor>(alloc: Global, bytes: &[u8]) -> Result<Vec<u8>, AllocError>
+    ensures { BuildsReading F.flavor bytes.now result }
+{
+    let mut written = [0; LONG_TEXT];
+    let decoded = write_text::<F>(Strictness::Lossy, bytes, &mut written);
+    let rest = &bytes[decoded.read..];
+    let Some(rest_len) = lossy_len::<F>(rest) else {
+        return Err(AllocError);
+    };
+    let Some(len) = rest_len.checked_add(decoded.end) else {
+        return Err(AllocError);
+    };
+    let mut first = Vec::with_capacity(alloc, len)?;
+    append(&written[..decoded.end], &mut first);
+    Ok(append_chunks::<F>(rest, first))
+}

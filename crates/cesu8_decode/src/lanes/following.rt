@@ -1,0 +1,193 @@
+//! Which bytes may follow which in whole characters, by vectors.
+//!
+//! What two bytes show is compared with what the three before them want: the third or fourth byte of
+//! a character, and the second half of a surrogate pair. Where both are the same for each byte, all
+//! are in characters, but for those of the last one, which may be cut off. What is in no character of
+//! a set shows what nothing wants.
+
+ghost use Rattle.std.specs.Prelude.{◌≡◌, ◌⊎◌, ℕ, List, ◌+◌, ◌*◌, ◌-◌, ◌<◌, ◌≤◌, ◌++◌, ◌==◌, ◌&&◌, IsTrue, false, length, map, drop, slice_index, nat_le, if◌then◌else◌, not};
+ghost use Rattle.std.specs.List.{range_with_len};
+ghost use Rattle.std.specs.Simd.Lanes.{zip2};
+ghost use Rattle.cesu8_bytes.specs.Kernels.{mask};
+ghost use Rattle.cesu8_decode.specs.Following.{has_changed, shown, later, wanted, follows_at, AllFollow, IsBlockAt, marked_if_not_one};
+
+use super::character_set::CharacterSet;
+use super::offsets::{FROM_28, FROM_29, FROM_30, FROM_31, common_bits};
+use super::packing::HighestBit;
+use cesu8_bytes::BLOCK;
+use cesu8_bytes::flavor::{Flavor, nulls};
+use cesu8_bytes::lanes::class::{Equal, NonAscii, bits, mask};
+use cesu8_bytes::lanes::runs::lanes_before;
+use std::simd::prelude::*;
+
+/// How many bytes before a byte decide whether it may follow them.
+pub const DECIDING: usize = 4;
+
+/// What stands for bytes before the first: some character of one byte.
+pub const FILLER: u8 = 0x61;
+
+/// 32 bytes, and those one to four before each of them.
+#[derive(Clone, Copy)]
+pub struct Block {
+    pub bytes: u8x32,
+    pub one_before: u8x32,
+    pub two_before: u8x32,
+    pub three_before: u8x32,
+    pub four_before: u8x32,
+}
+
+/// Returns 32 bytes of a slice, four behind an index.
+#[inline(always)]
+pub fn block_at(bytes: &[u8], at: usize) -> Block
+    requires { at + DECIDING + BLOCK ≤ length bytes.now }
+    ensures { IsBlockAt bytes.now at result }
+{
+    Block {
+        bytes: u8x32::from_slice(&bytes[at + DECIDING..]),
+        one_before: u8x32::from_slice(&bytes[at + 3..]),
+        two_before: u8x32::from_slice(&bytes[at + 2..]),
+        three_before: u8x32::from_slice(&bytes[at + 1..]),
+        four_before: u8x32::from_slice(&bytes[at..]),
+    }
+}
+
+/// Returns 32 bytes, behind the last ones of as many.
+#[inline(always)]
+pub fn block_behind(before: u8x32, bytes: u8x32) -> Block
+    ensures { IsBlockAt (drop (BLOCK - DECIDING) (before ++ bytes)) 0 result }
+{
+    Block {
+        bytes,
+        one_before: before.shuffle::<32>(bytes, FROM_31),
+        two_before: before.shuffle::<32>(bytes, FROM_30),
+        three_before: before.shuffle::<32>(bytes, FROM_29),
+        four_before: before.shuffle::<32>(bytes, FROM_28),
+    }
+}
+
+/// Returns how many bytes of a block may follow those before them, up to the first that may not.
+#[inline(always)]
+pub fn following_len<F: Flavor, S: CharacterSet>(block: Block) -> usize
+    ensures within { (window : List ℕ) (at : ℕ) → IsBlockAt window at block → result ≤ BLOCK }
+    ensures follow { (window : List ℕ) (at : ℕ) → IsBlockAt window at block
+        → AllFollow S.set F.flavor window at result }
+    ensures stops { (window : List ℕ) (at : ℕ) → IsBlockAt window at block → result < BLOCK
+        → follows_at S.set F.flavor window (at + result) ≡ false }
+{
+    lanes_before::<HighestBit, BLOCK>(misplaced::<F, S>(block))
+}
+
+/// Returns whether each of the 64 bytes four behind an index may follow those before it.
+#[inline(always)]
+pub fn two_follow<F: Flavor, S: CharacterSet>(bytes: &[u8], at: usize) -> bool
+    requires { at + DECIDING + 2 * BLOCK ≤ length bytes.now }
+    ensures { IsTrue result → AllFollow S.set F.flavor bytes.now at (2 * BLOCK) }
+{
+    // What stands before each byte is loaded only behind this test.
+    let above = above_ascii::<F>(block_at(bytes, at).bytes)
+        | above_ascii::<F>(block_at(bytes, at + BLOCK).bytes);
+    if bits::<NonAscii, BLOCK>(above) == 0 && begins_with_ascii(bytes, at) {
+        return true;
+    }
+    let first = block_at(bytes, at);
+    let second = block_at(bytes, at + BLOCK);
+    bits::<HighestBit, BLOCK>(misplaced::<F, S>(first) | misplaced::<F, S>(second)) == 0
+}
+
+/// Marks, with the highest bit, the bytes that are no characters of one byte.
+#[inline(always)]
+fn above_ascii<F: Flavor>(bytes: u8x32) -> u8x32
+    ensures { result ≡ map (marked_if_not_one F.flavor) bytes }
+{
+    bytes | nulls::<F>(bytes)
+}
+
+/// Returns whether the four bytes from an index on are ASCII.
+#[inline(always)]
+fn begins_with_ascii(bytes: &[u8], at: usize) -> bool
+    requires { at + DECIDING ≤ length bytes.now }
+    ensures { IsTrue result → (i : ℕ) → at ≤ i → i < at + DECIDING
+        → slice_index bytes.now i < 0x80 }
+{
+    bits::<NonAscii, DECIDING>(u8x4::from_slice(&bytes[at..])) == 0
+}
+
+/// Returns all ones for each byte of a block that may not follow those before it, and zeros for the
+/// others.
+#[inline(always)]
+fn misplaced<F: Flavor, S: CharacterSet>(block: Block) -> u8x32
+    ensures { (window : List ℕ) (at : ℕ) → IsBlockAt window at block
+        → result ≡ map (λ i. mask (not (follows_at S.set F.flavor window i)))
+        (range_with_len at BLOCK) }
+{
+    let wanted = wanted_by::<S>(block.four_before, block.three_before, block.two_before);
+    shown_by::<F, S>(block.one_before, block.bytes)
+        .simd_eq(wanted)
+        .select(u8x32::splat(0), u8x32::splat(0xFF))
+}
+
+/// Returns what the second of each two bytes shows behind the first.
+#[inline(always)]
+fn shown_by<F: Flavor, S: CharacterSet>(first: u8x32, second: u8x32) -> u8x32
+    ensures { result ≡ zip2 (shown S.set F.flavor) first second }
+{
+    let rule = S::rule();
+    let of_two = common_bits(rule.by_high, rule.by_low, rule.by_next, first, second);
+    if F::has_long_null() {
+        return (of_two & kept_of_null::<S>(second)) | nulls::<F>(second);
+    }
+    of_two
+}
+
+/// Returns the bits that bytes of MUTF-8 keep of what they show: 80 may follow C0, where that is
+/// meant.
+#[inline(always)]
+fn kept_of_null<S: CharacterSet>(bytes: u8x32) -> u8x32
+    ensures { result ≡ map (λ b. if has_changed S.set && b == 0x80 then 0xEF else 0xFF) bytes }
+{
+    if S::rule().has_changed {
+        return bytes
+            .simd_eq(u8x32::splat(0x80))
+            .select(u8x32::splat(0xEF), u8x32::splat(0xFF));
+    }
+    u8x32::splat(0xFF)
+}
+
+/// Returns what bytes have to show, by those four, three and two before them.
+#[inline(always)]
+fn wanted_by<S: CharacterSet>(four_before: u8x32, three_before: u8x32, two_before: u8x32) -> u8x32
+    ensures { result ≡ zip2 (λ wants d. wants d)
+        (zip2 (wanted S.set) four_before three_before) two_before }
+{
+    let later = later_by::<S>(three_before, two_before);
+    if !S::rule().has_changed {
+        return later;
+    }
+    let is_high = mask::<Equal<0xED>>(four_before)
+        & mask::<Equal<0xA0>>(three_before & u8x32::splat(0xF0));
+    later | (is_high & u8x32::splat(0x20))
+}
+
+/// Returns 80 (hexadecimal) for each third or fourth byte of a character, and zeros for the others,
+/// by the bytes three and two before them.
+#[inline(always)]
+fn later_by<S: CharacterSet>(three_before: u8x32, two_before: u8x32) -> u8x32
+    ensures { result ≡ zip2 (later S.set) three_before two_before }
+{
+    let third = led_from(two_before, 0xE0);
+    if S::rule().has_four {
+        return third | led_from(three_before, 0xF0);
+    }
+    third
+}
+
+/// Returns 80 (hexadecimal) for each byte from a lead byte of three or four on, and zeros for the
+/// others.
+#[inline(always)]
+fn led_from(bytes: u8x32, lead: u8) -> u8x32
+    requires { (lead ≡ 0xE0) ⊎ (lead ≡ 0xF0) }
+    ensures { result ≡ map (λ b. if nat_le lead b then 0x80 else 0) bytes }
+{
+    // The highest bit is left from the lead byte on.
+    bytes.saturating_sub(u8x32::splat(lead - 0x80)) & u8x32::splat(0x80)
+}

@@ -1,0 +1,145 @@
+//! Writes what becomes of 32 bytes, a block.
+
+ghost use Rattle.std.specs.Prelude.{◌≡◌, ℕ, List, ◌+◌, ◌-◌, ◌<◌, ◌≤◌, ◌++◌, IsTrue, true, false, length, take, map, bit_or};
+ghost use Rattle.std.specs.List.{range_with_len};
+ghost use Rattle.std.specs.Simd.Lanes.{mask_l, zip2};
+ghost use Rattle.cesu8_text.specs.Class.{is_null};
+ghost use Rattle.cesu8_text.specs.Encoding.{Flavor};
+ghost use Rattle.cesu8_bytes.specs.Kernels.{mask};
+ghost use Rattle.cesu8_bytes.specs.declared.strictness.Strictness.TheVariants.{Strict, Lossy};
+ghost use Rattle.cesu8_decode.specs.Decoding.{most_written};
+ghost use Rattle.cesu8_decode.specs.DecodedOffsets.{decoded, is_ill_formed_at};
+ghost use Rattle.cesu8_decode.specs.DecodedLanes.{start_kind, AreFiveKinds, AreKindsNear, NoneBeginsChanged, is_high};
+
+use super::reading::{Block, Reading};
+use crate::lanes::following::block_at;
+use crate::lanes::offsets::{BEHIND, Kinds, LEAD, REACH, near, starts};
+use crate::lanes::packing::{HighestBit, store, store_whole};
+use crate::lanes::parts::{changed_parts, ill_formed, kept_parts};
+use cesu8_bytes::BLOCK;
+use cesu8_bytes::flavor::{Flavor, nulls};
+use cesu8_bytes::lanes::class::{AtLeast, bits};
+use cesu8_bytes::strictness::Strictness;
+use cesu8_bytes::writing::packing::STORED;
+use std::simd::prelude::*;
+
+/// Writes what becomes of the first `count` bytes of a block, which follow `at` bytes of the window
+/// and five more. The kinds of these five come last in `before`. The other bytes go.
+///
+/// Most blocks are copied: those of characters of one byte, whatever comes before, and those that
+/// are well-formed and near no surrogate pair and no C0 80.
+#[inline(always)]
+pub fn write_block<F: Flavor, S: Reading>(
+    window: &[u8],
+    before: u8x32,
+    at: usize,
+    count: usize,
+    out: &mut [u8],
+    end: usize,
+) -> Block
+    requires count { count ≤ BLOCK }
+    requires window { at + BEHIND + REACH ≤ length window.now }
+    requires before { AreFiveKinds F.flavor window.now at before (BLOCK - BEHIND) }
+    requires room { end + most_written S.which BLOCK + STORED ≤ length out.old }
+    ensures bytes { result.is_refused ≡ false → take result.end out.new
+        ≡ take end out.old ++ decoded F.flavor window.now at count }
+    ensures refused { result.is_refused ≡ true → (i : ℕ) × (at ≤ i) × (i < at + count)
+        × (is_ill_formed_at F.flavor window.now i ≡ true) }
+    ensures lossy { S.which ≡ Lossy → result.is_refused ≡ false }
+    ensures strict { S.which ≡ Strict → result.is_refused ≡ false
+        → (i : ℕ) → at ≤ i → i < at + count → is_ill_formed_at F.flavor window.now i ≡ false }
+    ensures kinds { count ≡ BLOCK → result.kinds
+        ≡ map (start_kind F.flavor window.now) (range_with_len (at + BEHIND) BLOCK) }
+    ensures end { result.end ≤ end + most_written S.which count }
+    ensures len { length out.new ≡ length out.old }
+{
+    let bytes = u8x32::from_slice(&window[at + BEHIND..]);
+    if are_ones::<F>(bytes, count) {
+        return copy_block(bytes, u8x32::splat(0), count, out, end);
+    }
+    let here = starts::<F>(window, at + BEHIND, true);
+    let kinds = near(before, here);
+    let parts = if changes_none(&kinds) {
+        let marks = ill_formed::<F>(window, &kinds, at, count, true);
+        if bits::<HighestBit, BLOCK>(marks) == 0 {
+            return copy_block(bytes, here, count, out, end);
+        }
+        kept_parts(bytes, marks, count)
+    } else {
+        let marks = ill_formed::<F>(window, &kinds, at, count, false);
+        let found = bits::<HighestBit, BLOCK>(marks);
+        // First the test, so that what it needs is not kept meanwhile.
+        if found != 0 && matches!(S::strictness(), Strictness::Strict) {
+            return Block {
+                end,
+                is_refused: true,
+                kinds: here,
+            };
+        }
+        let parts = changed_parts::<F>(block_at(window, at + 1), &kinds, count, marks);
+        if found == 0 {
+            return Block {
+                end: store_whole(parts, out, end),
+                is_refused: false,
+                kinds: here,
+            };
+        }
+        parts
+    };
+    match S::strictness() {
+        Strictness::Strict => Block {
+            end,
+            is_refused: true,
+            kinds: here,
+        },
+        Strictness::Lossy => Block {
+            end: store(parts, out, end),
+            is_refused: false,
+            kinds: here,
+        },
+    }
+}
+
+/// Returns whether no byte leads others and the first `count` are characters of one byte.
+#[inline(always)]
+fn are_ones<F: Flavor>(bytes: u8x32, count: usize) -> bool
+    requires { count ≤ BLOCK }
+    ensures { IsTrue result → mask_l (take count (map is_high
+        (zip2 bit_or bytes (map (λ b. mask (is_null F.flavor b)) bytes)))) ≡ 0 }
+{
+    // `starts` makes the same test, so the compiler makes it once.
+    let leads = bits::<AtLeast<LEAD>, BLOCK>(bytes) != 0;
+    // The second test is made only where it decides: both at once are one test more for others.
+    !leads && bits::<HighestBit, BLOCK>(bytes | nulls::<F>(bytes)) & ((1 << count) - 1) == 0
+}
+
+/// Copies the first `count` bytes of a block, which stay as they are.
+#[inline(always)]
+fn copy_block(bytes: u8x32, kinds: u8x32, count: usize, out: &mut [u8], end: usize) -> Block
+    requires count { count ≤ BLOCK }
+    requires room { end + BLOCK ≤ length out.old }
+    ensures bytes { take result.end out.new ≡ take end out.old ++ take count bytes }
+    ensures kept { result.is_refused ≡ false }
+    ensures kinds { result.kinds ≡ kinds }
+    ensures end { result.end ≡ end + count }
+    ensures len { length out.new ≡ length out.old }
+{
+    bytes.copy_to_slice(&mut out[end..]);
+    Block {
+        end: end + count,
+        is_refused: false,
+        kinds,
+    }
+}
+
+/// Returns whether neither a surrogate pair nor C0 80 begins at the offsets around a block. Then
+/// its bytes stay, but for those that are ill-formed.
+#[inline(always)]
+fn changes_none(kinds: &Kinds) -> bool
+    ensures { (f : Flavor) (window : List ℕ) (at : ℕ) → AreKindsNear f window at kinds.now
+        → IsTrue result → NoneBeginsChanged f window at }
+{
+    // The first and the last have all of these offsets.
+    let around = kinds[0] | kinds[5];
+    bits::<HighestBit, BLOCK>(around | (around << u8x32::splat(2))) == 0
+}
