@@ -4,7 +4,7 @@ pub mod fallback;
 pub mod simd;
 pub mod word;
 
-/// The kernels that search as the calls of the crate do.
+/// The kernels that the calls of the crate use.
 pub mod active {
     pub use super::simd::{
         contains_null_or_utf8_4_byte_char_header, contains_utf8_4_byte_char_header,

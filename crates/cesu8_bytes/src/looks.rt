@@ -5,7 +5,8 @@
 //! | at most 256 | are all ASCII that does not change? | what takes the encoding alone |
 //! | at most 1,024 | are all ASCII? | what takes UTF-8 as well |
 //! | at most 64, with more behind them | the first of these, by one vector | strings in a row |
-//! | any | does a byte change? as the kernels search | what encodes |
+//! | below 256 | does a byte change? by two vectors | what encodes, and lenient calls |
+//! | 256 and more | the same, by a call of the kernels, so that the short way has few registers to save | the same |
 
 ghost use Rattle.std.specs.Prelude.{◌↔◌, ◌≤◌, IsTrue, Any, length, take};
 ghost use Rattle.std.specs.Str.{chars, IsAscii};
@@ -13,12 +14,14 @@ ghost use Rattle.cesu8_text.specs.Class.{IsChangedByte};
 ghost use Rattle.cesu8_text.specs.Encoding.{NeedsEncoding};
 
 use crate::flavor::Flavor;
+use crate::implementation::active;
 use crate::lanes::class::{AtLeastF0, Either, FourByteLead, LANES, NonAscii};
 use crate::lanes::runs::lanes_before;
 use crate::lanes::search::any_in_bytes;
 use std::simd::prelude::*;
 
-/// The most bytes that are tested for ASCII that does not change before anything is called.
+/// The most bytes that are tested for ASCII that does not change before anything is called. From
+/// this length on the kernels search for what changes.
 const SHORT: usize = 4 * LANES;
 
 /// The most bytes that are tested for all ASCII before anything is called.
@@ -70,7 +73,13 @@ pub fn begins_with_unchanged_ascii<F: Flavor>(bytes: &[u8], len: usize) -> bool
 pub fn contains_changed<F: Flavor>(bytes: &[u8]) -> bool
     ensures { IsTrue result ↔ Any (IsChangedByte F.flavor) bytes.now }
 {
-    any_in_bytes::<Either<F::Null, FourByteLead>>(bytes)
+    if bytes.len() < SHORT {
+        any_in_bytes::<Either<F::Null, FourByteLead>>(bytes)
+    } else if F::has_long_null() {
+        active::contains_null_or_utf8_4_byte_char_header(bytes)
+    } else {
+        active::contains_utf8_4_byte_char_header(bytes)
+    }
 }
 
 #[inline(always)]

@@ -1,9 +1,9 @@
 -- What the calls that return a `CowBytes` or a `CowText` promise: each field is a clause of theirs.
-use Rattle.std.specs.Prelude.{◌≡◌, ℕ, List, length, Result, IsOk, IsUtf8}
+use Rattle.std.specs.Prelude.{◌≡◌, ℕ, List, length, Result, IsOk}
 use Rattle.std.specs.Str.{chars}
 use Rattle.simd_cesu8.specs.Encoding.{Flavor, encoding as encoding_of, NeedsEncoding}
 use Rattle.simd_cesu8.specs.Class.{IsUnchangedUtf8}
-use Rattle.simd_cesu8.specs.Reading.{IsStrictReading, IsLenientReading, reading as reading_of, lossy_length, IsLenientLossyReading}
+use Rattle.simd_cesu8.specs.Reading.{IsStrictReading, reading as reading_of, lossy_length}
 use Rattle.simd_cesu8.specs.Cow.{IfBytes, BorrowsBytesWhere, BuildsBytesOfCapacity, IfText, BorrowsTextWhere, BuildsTextOfCapacity, AnswersTextOfLength}
 use Rattle.simd_cesu8.specs.Fault.{OnInvalid}
 use Rattle.simd_cesu8.specs.declared.cow.CowText.{CowText}

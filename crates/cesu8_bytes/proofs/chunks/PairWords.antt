@@ -1,7 +1,7 @@
 -- The words by which a surrogate pair is found and written in UTF-8: its six bytes and two more.
 use Rattle.std.proofs.lemmas.Bool.Decides.{nat_tests}
 use Rattle.std.proofs.lemmas.Grind.{common_steps}
-use Rattle.std.proofs.Common.{◌≡◌, ℕ, true, ◌&&◌, ◌+◌, ◌*◌, ◌/◌, ◌%◌, ◌^◌, ◌<◌, ◌≤◌, [], ◌∷◌, refl, sym, ap, ◌∙◌, arith, bit_and, eqb, leb, ltb, w32}
+use Rattle.std.proofs.Common.{◌≡◌, ℕ, true, ◌&&◌, ◌+◌, ◌*◌, ◌/◌, ◌%◌, ◌^◌, ◌<◌, ◌≤◌, [], ◌∷◌, refl, ap, ◌∙◌, arith, bit_and, eqb, leb, ltb, w32}
 use Rattle.std.specs.Int.{to_le_bytes}
 use Rattle.std.proofs.lemmas.Bool.{agree_below_at, eq-eqb, eqb-true, and_parts, and_from, le-leb, lt-ltb, leb-true, ltb-true}
 use Rattle.std.proofs.lemmas.Nat.{and_mask, and_block, and_le_r}

@@ -1,5 +1,4 @@
 -- Lists cut into chunks of one length.
-use Rattle.std.proofs.lemmas.Bool.Decides.{nat_tests}
 use Rattle.std.proofs.lemmas.Grind.{common_steps}
 use Rattle.std.proofs.Common.{◌≡◌, ℕ, Bool, true, false, IsTrue, ◌+◌, ◌*◌, ◌/◌, ◌↔◌, ◌⊎◌, List, [], ◌∷◌, length, take, drop, get_or, refl, sym, ap, ◌∙◌, subst, zero, suc, inl, inr, ⊎_elim, arith}
 use Rattle.std.specs.List.{Any}

@@ -1,9 +1,8 @@
 -- Vectors of bytes, lane by lane.
 use Rattle.std.proofs.lemmas.Bool.Decides.{nat_tests}
-use Rattle.std.proofs.lemmas.Grind.{common_steps}
 use Rattle.std.proofs.Common.{◌≡◌, ℕ, Bool, not, cond, ◌&&◌, ◌||◌, IsTrue, ◌↔◌, ◌⊎◌, List, [], ◌∷◌, map, length, replicate, true, false, ◌+◌, ◌*◌, eqb, ltb, leb, refl, sym, ap, ◌∙◌, subst, inl, inr, ⊎_elim, arith}
 use Rattle.std.specs.List.{Any}
-use Rattle.std.proofs.lemmas.Bool.{both_ways, cases_lt, eq-eqb, eqb-false, eqb-true, le-leb, le-ltb, leb-true, lt-ltb, ne_eqb, not-true}
+use Rattle.std.proofs.lemmas.Bool.{both_ways, eqb-false, ne_eqb, not-true}
 use Rattle.std.proofs.lemmas.Simd.{length-zip2}
 use lib.Lanes.{zip2, sel_l, mask_l, top, Each1}
 use Rattle.cesu8_text.specs.Class.{is_four, is_at_least_f0}

@@ -1,9 +1,8 @@
 -- A walk over a list that finds no element of a kind.
-use Rattle.std.proofs.lemmas.Bool.Decides.{nat_tests}
 use Rattle.std.proofs.lemmas.Grind.{common_steps}
-use Rattle.std.proofs.Common.{◌≡◌, ℕ, false, IsTrue, ◌+◌, ◌<◌, ◌≤◌, ◌↔◌, List, sym, ap, ◌∙◌, subst, ⊎_elim, arith, length, get_or}
+use Rattle.std.proofs.Common.{◌≡◌, ℕ, false, IsTrue, ◌+◌, ◌<◌, ◌≤◌, ◌↔◌, List, arith, length, get_or}
 use Rattle.std.specs.List.{Any}
-use Rattle.std.proofs.lemmas.Bool.{cases_lt, false≢true}
+use Rattle.std.proofs.lemmas.Bool.{false≢true}
 use Rattle.std.proofs.lemmas.List.{get_or_default}
 
 module _ {X : Type 0} (P : X → Type 0) (xs : List X) where

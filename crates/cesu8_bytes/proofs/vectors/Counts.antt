@@ -1,11 +1,10 @@
 -- What bytes weigh: by parts, and by marks.
-use Rattle.std.proofs.lemmas.Bool.Decides.{nat_tests}
 use Rattle.std.proofs.lemmas.Grind.{common_steps}
 use Rattle.std.proofs.Common.{◌≡◌, ℕ, ◌+◌, ◌-◌, ◌*◌, ◌<◌, ◌≤◌, Bool, true, false, cond, List, [], ◌∷◌, length, map, take, drop, replicate, refl, sym, ap, ◌∙◌, subst, arith, count_by, sum_by, count_ones, ◌/◌, ◌^◌, Fits, w8, w32}
 use lib.Lanes.{zip2, sel_l, top, mask_l, sum_l, fold_l, chunk, products, dots, Each1, Each2, Steps}
 use mir.Val.{of_z}
 use Rattle.std.specs.Prelude.{ℤ}
-use Rattle.std.proofs.lemmas.List.{length-map, length-drop, drop-drop, drop-map, take_all}
+use Rattle.std.proofs.lemmas.List.{length-map, drop-drop, drop-map, take_all}
 use Rattle.std.proofs.lemmas.Simd.{length-replicate, Each2-of, Each1-zip2, sum-zip2, length-zip2, length-chunk, sum_bound, sum_dots, sum_by-ones, sum_fits, fold-sum, bytes_below, ones-mask_l}
 use Rattle.std.proofs.lemmas.List.Sums.{sum_by-cons, sum_by-take-drop}
 use Rattle.cesu8_text.specs.Class.{is_four, weight_of}

@@ -1,7 +1,7 @@
 -- Rows of eight lanes: their masks, and how they are shuffled and stored.
 use Rattle.std.proofs.lemmas.Bool.Decides.{nat_tests}
 use Rattle.std.proofs.lemmas.Grind.{common_steps}
-use Rattle.std.proofs.Common.{◌≡◌, ℕ, zero, suc, ◌+◌, ◌*◌, ◌/◌, ◌%◌, ◌^◌, ◌<◌, ◌≤◌, Bool, true, false, cond, List, [], ◌∷◌, ◌++◌, map, length, take, drop, get_or, eqb, refl, sym, ap, ◌∙◌, subst, arith, w8, length-append, append_assoc, bit_and}
+use Rattle.std.proofs.Common.{◌≡◌, ℕ, zero, suc, ◌+◌, ◌*◌, ◌/◌, ◌%◌, ◌^◌, ◌<◌, ◌≤◌, Bool, cond, List, [], ◌∷◌, ◌++◌, map, length, take, drop, get_or, eqb, sym, ap, ◌∙◌, subst, arith, w8, length-append, append_assoc, bit_and}
 use Rattle.std.specs.List.{range_with_len}
 use Rattle.std.proofs.lemmas.List.{ext_get_or, get_or-map, length-map, length-take-le, length-drop, take_at, drop_at, drop-drop, take-append-le, drop-append-le}
 use Rattle.std.proofs.lemmas.Nat.{and_mask}

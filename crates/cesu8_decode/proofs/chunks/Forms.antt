@@ -1,14 +1,14 @@
 -- Characters of more than one byte, by how they are encoded at the front of bytes.
 use Rattle.std.proofs.lemmas.Bool.Decides.{nat_tests}
 use Rattle.std.proofs.lemmas.Grind.{common_steps}
-use Rattle.std.proofs.Common.{◌≡◌, ℕ, ◌<◌, ◌≤◌, List, [], ◌∷◌, ◌++◌, refl, sym, ap, ◌∙◌, inl, inr, true, false, arith, length, take, drop, get_or, leb, ltb, ◌&&◌}
+use Rattle.std.proofs.Common.{◌≡◌, ℕ, ◌<◌, ◌≤◌, List, [], ◌∷◌, ◌++◌, refl, sym, ap, ◌∙◌, inl, inr, true, false, arith, length, take, drop, get_or}
 use Rattle.std.proofs.lemmas.Bool.{and_parts, leb-true, ltb-true}
 use Rattle.cesu8_text.specs.Encoding.{Flavor}
 use Rattle.cesu8_text.specs.Reading.{NoneBegins}
 use Rattle.cesu8_bytes.specs.Pairs.{null_at, HasPair, IsUtf8OfDigits, second_third_fifth_sixth}
 use Rattle.cesu8_bytes.specs.TextChunks.{IsReadSoFar}
 use Rattle.cesu8_bytes.specs.declared.strictness.Strictness.{Strictness}
-use Rattle.cesu8_decode.specs.DecodedOffsets.{IsPrefixOf, one_at, two_at, three_at, continues}
+use Rattle.cesu8_decode.specs.DecodedOffsets.{IsPrefixOf, one_at, two_at, three_at}
 use Rattle.cesu8_decode.specs.Forms.{HasForm, HasNoForm, BeginsChanged, form_len}
 use Rattle.cesu8_decode.specs.declared.characters.forms.Form.{Form}
 use Rattle.cesu8_decode.specs.declared.characters.forms.Form.TheVariants.{Pair, Null, Two, Three}

@@ -1,6 +1,6 @@
 -- What the decoder's vectors say of the bytes of a block, by their offsets.
 use Rattle.std.proofs.lemmas.Bool.Decides.{nat_tests}
-use Rattle.std.proofs.Common.{◌≡◌, ℕ, zero, suc, ◌+◌, ◌-◌, ◌*◌, ◌/◌, ◌%◌, ◌^◌, ◌<◌, ◌≤◌, ◌&&◌, Bool, true, false, eqb, leb, List, [], ◌∷◌, ◌++◌, refl, sym, ap, ◌∙◌, subst, arith, cond, ⊎_elim, add-zero, get_or, map, take, length, replicate, bit_and, bit_or, bit_xor, Fits, w8}
+use Rattle.std.proofs.Common.{◌≡◌, ℕ, zero, suc, ◌+◌, ◌-◌, ◌*◌, ◌/◌, ◌%◌, ◌^◌, ◌<◌, ◌≤◌, ◌&&◌, true, false, eqb, leb, List, [], ◌∷◌, ◌++◌, refl, sym, ap, ◌∙◌, subst, arith, cond, ⊎_elim, add-zero, get_or, map, take, length, replicate, bit_and, bit_or, bit_xor}
 use Rattle.std.specs.List.{flat_map, range_with_len}
 use Rattle.std.proofs.lemmas.Nat.{and_le_l}
 use Rattle.std.proofs.lemmas.Bool.{cases_lt}
@@ -16,8 +16,7 @@ use Rattle.cesu8_bytes.specs.Packing.{written}
 use Rattle.cesu8_decode.specs.DecodedLanes.{start_kind, AreNear, TellsChange, TellChanges, is_high, goes_at, byte_at, written_lanes}
 use Rattle.cesu8_decode.specs.declared.lanes.parts.TheConstants.{FIRST_BY_SECOND, SECOND_BY_SECOND, THIRD_BY_THIRD}
 use Rattle.cesu8_bytes.proofs.vectors.Loads.{loaded}
-use Rattle.cesu8_decode.proofs.decoder.StartKinds.{start_at, null_bit}
-use Rattle.cesu8_decode.proofs.decoder.LaneTests.{kind_tells, gone_lane, lane_goes, covered_lane, ill_formed_lane, lane_ill_formed, mask_fits, byte_lane, lane_byte, paired_lane, byte_unpaired}
+use Rattle.cesu8_decode.proofs.decoder.LaneTests.{kind_tells, gone_lane, lane_goes, covered_lane, ill_formed_lane, mask_fits, byte_lane, lane_byte, paired_lane, byte_unpaired}
 use Rattle.cesu8_decode.proofs.decoder.FirstLanes.{behind_lanes, before_lanes, gone_behind, well_formed_behind, written_first, no_lane, on_range}
 
 -- ---- kinds near a block

@@ -7,8 +7,7 @@ use Rattle.std.proofs.lemmas.Nat.{and_mask, le_or_l, le_or_r, or_lt, or_mod, or_
 use Rattle.cesu8_text.specs.Encoding.{Flavor}
 use Rattle.cesu8_text.specs.Class.{is_null}
 use Rattle.cesu8_bytes.specs.Kernels.{mask}
-use Rattle.cesu8_decode.specs.DecodedOffsets.{one_at, two_at, three_at, pair_at, first_width_by, width_at, is_ill_formed_at}
-use Rattle.cesu8_bytes.specs.Pairs.{null_at}
+use Rattle.cesu8_decode.specs.DecodedOffsets.{one_at, first_width_by, width_at, is_ill_formed_at}
 use Rattle.cesu8_decode.specs.DecodedLanes.{start_kind, TellsChange, is_high, byte_at}
 use Rattle.cesu8_decode.specs.declared.lanes.parts.TheConstants.{FIRST_BY_SECOND, SECOND_BY_SECOND, THIRD_BY_THIRD}
 use Rattle.cesu8_decode.proofs.decoder.StartKinds.{Start, by_kind, start_at, shifted_pair, over_two, over_one, null_bit}

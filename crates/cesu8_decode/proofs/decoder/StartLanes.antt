@@ -12,7 +12,7 @@ use Rattle.std.proofs.lemmas.Simd.{SwzOk, swz_l, SwzOk-from_below, length-swz_l,
 use lib.Lanes.{zip2, mask_l, pick_l, Each1, chunk}
 use Rattle.cesu8_text.specs.Encoding.{Flavor}
 use Rattle.cesu8_bytes.specs.Kernels.{mask}
-use Rattle.cesu8_decode.specs.DecodedOffsets.{continues, two_at, fits_three}
+use Rattle.cesu8_decode.specs.DecodedOffsets.{continues}
 use Rattle.cesu8_bytes.specs.Pairs.{null_at}
 use Rattle.cesu8_decode.specs.DecodedLanes.{told, start_kind_by, kind_of_two, start_kind}
 use Rattle.cesu8_bytes.proofs.vectors.Loads.{loaded, marks_at}

@@ -1,10 +1,8 @@
 -- The laws that are put together from several lemmas.
-use Rattle.std.proofs.lemmas.Bool.Decides.{nat_tests}
-use Rattle.std.proofs.lemmas.Grind.{common_steps}
 use Rattle.std.proofs.Common.{refl, sym, ap, ◌∙◌, subst, arith, length}
 use Rattle.std.specs.Str.{chars, IsUtf8}
 use Rattle.cesu8_text.specs.Text.{utf8}
-use Rattle.cesu8_text.specs.Encoding.{Mutf8, encoding}
+use Rattle.cesu8_text.specs.Encoding.{encoding}
 use Rattle.cesu8_text.specs.Reading.{reading}
 use Rattle.cesu8_text.specs.Laws.{RoundTrip, CharsAreText, CharsInUtf8, SameBytes, DecodedBack, NotRefused, EncodedBack, Needs, UnchangedEncoding, UnchangedString, NoZero, Bounds, OneMark, HasGreedyCutting, ReadAgain, LossyIsStrict}
 use Rattle.cesu8_text.proofs.StdUtf8.{IsUtf8Of_chars, IsUtf8_utf8}
