@@ -3,7 +3,6 @@
 ghost use Rattle.std.specs.Prelude.{◌≡◌, IsUtf8, vec_capacity};
 ghost use Rattle.std.specs.String.{string_bytes, string_capacity};
 
-use std::alloc::Allocator;
 use std::str;
 
 /// Returns bytes that are known to be UTF-8 as a text, with no test.
@@ -18,7 +17,7 @@ pub fn known_text(bytes: &[u8]) -> &str
 
 /// Returns bytes that are known to be UTF-8 as a `String`, with no test.
 #[inline(always)]
-pub fn known_string<A: Allocator>(bytes: Vec<u8, A>) -> String<A>
+pub fn known_string(bytes: Vec<u8>) -> String
     requires { IsUtf8 bytes.items }
     ensures bytes { string_bytes result ≡ bytes.items }
     ensures capacity { string_capacity result ≡ vec_capacity bytes }

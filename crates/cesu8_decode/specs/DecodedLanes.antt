@@ -4,7 +4,8 @@ use Rattle.std.specs.List.{range_with_len}
 use Rattle.cesu8_text.specs.Encoding.{Flavor}
 use Rattle.cesu8_bytes.specs.Pairs.{null_at}
 pub use Rattle.cesu8_bytes.specs.Packing.{written, written_for, kept_of, shuffle_keeping, shuffle_of_eight, AreShufflesOfEight}
-use Rattle.cesu8_decode.specs.DecodedOffsets.{two_at, three_at, pair_at, width_at, goes_by, byte_by, is_ill_formed_at, saved}
+use Rattle.cesu8_decode.specs.DecodedOffsets.{two_at, three_at, pair_at, width_at, is_ill_formed_at, saved}
+pub use Rattle.cesu8_decode.specs.DecodedOffsets.{goes_by, byte_by}
 
 -- The kind of the character that begins at an offset, by the six bytes there: a bit, or 0 if none
 -- begins or one of one byte.
