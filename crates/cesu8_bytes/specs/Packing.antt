@@ -1,5 +1,5 @@
 -- Lanes that are packed: which of them go, and the shuffles that leave these out.
-use Rattle.std.specs.Prelude.{◌≡◌, ℕ, zero, suc, ◌+◌, ◌/◌, ◌%◌, ◌-◌, ◌<◌, ◌==◌, if◌then◌else◌, Bool, List, [], ◌∷◌, ◌++◌, length, slice_index_or, replicate}
+use Rattle.std.specs.Prelude.{◌≡◌, ℕ, zero, suc, ◌+◌, ◌/◌, ◌%◌, ◌-◌, ◌<◌, ◌==◌, if◌then◌else◌, Bool, List, [], ◌∷◌, ◌++◌, length, map, slice_index, slice_index_or, replicate}
 
 -- What is written for bytes in a row: the replacement character for one that is ill-formed, nothing
 -- for one that goes, and otherwise the byte.
@@ -20,6 +20,10 @@ kept_of gone ill_formed i zero = []
 kept_of gone ill_formed i (suc n) =
     (if ill_formed % 2 == 1 then 4 ∷ 5 ∷ 6 ∷ [] else if gone % 2 == 1 then [] else i ∷ [])
     ++ kept_of (gone / 2) (ill_formed / 2) (i + 1) n
+
+-- The lanes at the indices in the lower halves of numbers.
+abbrev pub lanes_at : List ℕ → List ℕ → List ℕ
+lanes_at lanes numbers = map (λ j. slice_index lanes (j % 0x10)) numbers
 
 -- A shuffle of sixteen lanes that keeps these. Its last number is their count; those between are
 -- not used.

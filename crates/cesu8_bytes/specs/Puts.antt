@@ -11,10 +11,8 @@ pub record WritesAt (written : List ℕ) (at : ℕ) (old new : List ℕ) (n : �
 
 -- The same, and those after them stay too.
 pub record PutsAt (written : List ℕ) (at : ℕ) (old new : List ℕ) (n : ℕ) : Type 0 where
-  pub bytes : take n new ≡ take at old ++ written
-  pub end : n ≡ at + length written
+  pub writes : WritesAt written at old new n
   pub behind : drop n new ≡ drop n old
-  pub len : length new ≡ length old
 
 -- Bytes are appended, within the capacity.
 pub record Appends {A : Type 0} (appended : List ℕ) (old new : Vec ℕ A) : Type 0 where

@@ -1,30 +1,24 @@
 -- Bytes and vectors that are stored into a list of bytes.
-use Rattle.std.proofs.Common.{◌≡◌, ℕ, zero, suc, ◌+◌, ◌*◌, ◌-◌, ◌≤◌, List, [], ◌∷◌, ◌++◌, refl, sym, subst, ap, ◌∙◌, arith, length, length-append, take, drop}
+use Rattle.std.proofs.Common.{◌≡◌, ℕ, zero, suc, ◌+◌, ◌*◌, ◌-◌, ◌≤◌, List, [], ◌∷◌, ◌++◌, refl, sym, ap, ◌∙◌, arith, length, length-append, take, drop}
 use lib.Lanes.{put_chunk}
 use Rattle.std.proofs.lemmas.List.{append_assoc, length-drop, length-take-le, take-append-drop, take-take}
 use Rattle.std.proofs.Math.Seq.{take-append-add, take-add}
 use Rattle.std.proofs.lemmas.Simd.{length-put_chunk, take_more_put_chunk}
-use Rattle.cesu8_bytes.specs.Puts.{PutsAt}
-use Rattle.cesu8_bytes.proofs.lists.Ends.{stays_behind}
+use Rattle.cesu8_bytes.specs.Puts.{WritesAt}
 
--- Of a vector that is put behind what was written, the first bytes stand there too,
-pub run_put : (at n run end : ℕ) (bytes out new : List ℕ) → at ≤ length out → n ≤ length bytes → run ≤ n → end ≡ at + length (take n bytes) →
-    take end new ≡ take at out ++ take n bytes → take (at + run) new ≡ take at out ++ take run bytes
-run_put at n run end bytes out new room long le end_is put =
-    sym (take-take (at + run) end new (omega (arith, le, end_is, length-take-le n bytes long)))
-    ∙ ap (take (at + run)) put
-    ∙ ap (λ i. take (i + run) (take at out ++ take n bytes)) (sym (length-take-le at out room))
-    ∙ take-append-add (take at out) (take n bytes) run
-    ∙ ap (λ bs. take at out ++ bs) (take-take run n bytes le)
+-- Of bytes that are written the first ones stand there too.
+pub first_written : (run at n : ℕ) (bytes old new : List ℕ) → run ≤ length bytes → at ≤ length old → WritesAt bytes at old new n →
+    WritesAt (take run bytes) at old new (at + run)
+first_written run at n bytes old new le room put = record {
+  bytes = sym (take-take (at + run) n new (omega (arith, le, put.end)))
+      ∙ ap (take (at + run)) put.bytes
+      ∙ ap (λ i. take (i + run) (take at old ++ bytes)) (sym (length-take-le at old room))
+      ∙ take-append-add (take at old) bytes run;
+  end = omega (arith, length-take-le run bytes le);
+  len = put.len;
+}
 
-run_stored : (at n run : ℕ) (bytes out : List ℕ) → at + n ≤ length out → n ≤ length bytes → run ≤ n →
-    take (at + run) (put_chunk at out (take n bytes)) ≡ take at out ++ take run bytes
-run_stored at n run bytes out room long le =
-    let len = length-take-le n bytes long in
-    run_put at n run (at + n) bytes out (put_chunk at out (take n bytes)) (omega (arith, room)) long le (omega (arith, len))
-    (take_more_put_chunk at out (take n bytes) (at + n) (omega (arith, len)) (omega (arith, room)))
-
--- and the bytes behind the vector stay.
+-- The bytes behind a vector that is stored stay.
 pub behind_stored : (at m : ℕ) (out lanes : List ℕ) → at + length lanes ≤ m → drop m (put_chunk at out lanes) ≡ drop m out
 behind_stored at m [] lanes le = refl
 behind_stored zero m (x ∷ out) [] le = refl
@@ -43,16 +37,17 @@ ends_stored n bytes out many few room =
     let first = put_chunk 0 out (take n bytes) in
     let second = put_chunk at first end in
     let end_len = length-drop at bytes in
+    let first_len = length-take-le n bytes many in
     let before : take at first ≡ take at bytes =
-    subst (λ i. take i first ≡ take at bytes) (let none : 0 + at ≡ at = omega arith in none)
-    (run_stored 0 n at bytes out (omega arith) many (omega arith)) in
+    sym (take-take at n first (omega arith)) ∙ ap (take at) (take_more_put_chunk 0 out (take n bytes) n (omega (arith, first_len)) (omega arith))
+    ∙ take-take at n bytes (omega arith) in
     let prefix : take len second ≡ bytes =
     take_more_put_chunk at first end len (omega (arith, end_len)) (omega (arith, room, length-put_chunk 0 out (take n bytes)))
     ∙ ap (λ bs. bs ++ end) before
     ∙ take-append-drop at bytes in
     let behind : drop len second ≡ drop len out =
     behind_stored at len first end (omega (arith, end_len))
-    ∙ behind_stored 0 len out (take n bytes) (omega (arith, length-take-le n bytes many)) in
+    ∙ behind_stored 0 len out (take n bytes) (omega (arith, first_len)) in
     sym (take-append-drop len second) ∙ ap (λ bs. bs ++ drop len second) prefix ∙ ap (λ bs. bytes ++ bs) behind
 
 -- Bytes that were appended, cut back to an index and appended again from there on, stand there once.
@@ -60,12 +55,18 @@ pub appended_again : (before bytes : List ℕ) (at written n : ℕ) → at ≤ w
     take (length before + at) (before ++ take written bytes) ++ take n (drop at bytes) ≡ before ++ take (at + n) bytes
 appended_again before bytes at written n le = grind (arith, append_assoc, take-add, take-append-add, take-take)
 
--- Bytes that are written behind others are written with them.
-pub put_behind : (first more old between new : List ℕ) (at end after : ℕ) → PutsAt first at old between end → PutsAt more end between new after →
-    PutsAt (first ++ more) at old new after
-put_behind first more old between new at end after so_far next = record {
+-- Bytes that are written behind others are written with them,
+pub written_behind : (first more old between new : List ℕ) (at end after : ℕ) → WritesAt first at old between end → WritesAt more end between new after →
+    WritesAt (first ++ more) at old new after
+written_behind first more old between new at end after so_far next = record {
   bytes = next.bytes ∙ ap (λ bs. bs ++ more) so_far.bytes ∙ append_assoc (take at old) first more;
   end = omega (arith, next.end, so_far.end, length-append first more);
-  behind = next.behind ∙ stays_behind old between end after (omega (arith, next.end)) so_far.behind;
   len = next.len ∙ so_far.len;
 }
+
+-- and what is written by four calls as well.
+pub written_by_four : (a b c d x0 x1 x2 x3 x4 : List ℕ) (n0 n1 n2 n3 n4 : ℕ) → WritesAt a n0 x0 x1 n1 → WritesAt b n1 x1 x2 n2 → WritesAt c n2 x2 x3 n3 →
+    WritesAt d n3 x3 x4 n4 → WritesAt (a ++ (b ++ (c ++ d))) n0 x0 x4 n4
+written_by_four a b c d x0 x1 x2 x3 x4 n0 n1 n2 n3 n4 wa wb wc wd =
+    written_behind a (b ++ (c ++ d)) x0 x1 x4 n0 n1 n4 wa
+    (written_behind b (c ++ d) x1 x2 x4 n1 n2 n4 wb (written_behind c d x2 x3 x4 n2 n3 n4 wc wd))

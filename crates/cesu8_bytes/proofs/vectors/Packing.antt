@@ -1,16 +1,17 @@
 -- How bytes are packed by a shuffle that leaves out those that go, and 32 by four of these.
-use Rattle.std.proofs.lemmas.Bool.Decides.{nat_tests}
 use Rattle.std.proofs.lemmas.Grind.{common_steps}
-use Rattle.std.proofs.Common.{◌≡◌, ℕ, zero, suc, ◌+◌, ◌*◌, ◌/◌, ◌%◌, ◌-◌, ◌^◌, ◌<◌, ◌≤◌, Bool, true, false, cond, List, [], ◌∷◌, ◌++◌, map, length, take, drop, get_or, replicate, leb, refl, sym, ap, ◌∙◌, arith, w8, length-append, append-nil, append_assoc, bit_and}
+use Rattle.std.proofs.Common.{◌≡◌, ℕ, zero, suc, ◌+◌, ◌*◌, ◌/◌, ◌%◌, ◌-◌, ◌^◌, ◌<◌, ◌≤◌, Bool, true, false, cond, List, [], ◌∷◌, ◌++◌, map, length, take, drop, get_or, replicate, leb, refl, sym, ap, ◌∙◌, subst, arith, w8, length-append, append-nil, append_assoc, bit_and}
 use Rattle.std.specs.List.{range_with_len}
 use Rattle.std.proofs.lemmas.Bool.{agree_below, agree_below_at, leb-true}
-use Rattle.std.proofs.lemmas.List.{length-map, length-drop, length-replicate, map-append, drop_all, drop-drop, drop-replicate, take-replicate, take-take, drop-take, length-take-le, get_or_at}
+use Rattle.std.proofs.lemmas.List.{length-map, length-drop, length-replicate, map-append, drop_all, drop-drop, drop-replicate, take-replicate, take-take, take_at, drop-take, length-take, length-take-le, get_or_at}
 use Rattle.std.proofs.lemmas.Nat.{and_mask, and_le_r}
 use Rattle.std.proofs.lemmas.Simd.{swz_l, SwzOk, SwzOk-from_below, zip2_splat, length-zip2, length-chunk, map-map, pick_l-range_with_len, Each1-all, Each1-zip2, Each2-splat}
-use lib.Lanes.{zip2, mask_l, put_chunk, chunk, Each1}
-use Rattle.cesu8_bytes.specs.Packing.{written_for, written, kept_of, shuffle_keeping, shuffle_of_eight}
+use lib.Lanes.{zip2, mask_l, chunk, Each1}
+use Rattle.cesu8_bytes.specs.Packing.{written_for, written, kept_of, lanes_at, shuffle_keeping, shuffle_of_eight}
+use Rattle.cesu8_bytes.specs.Puts.{WritesAt}
 use Rattle.cesu8_bytes.specs.declared.writing.packing.rows_of_eight.TheConstants.{ROWS}
-use Rattle.cesu8_bytes.proofs.vectors.Rows.{lowest, shuffled, stored_prefix, first_mask, row_mask, four_calls}
+use Rattle.cesu8_bytes.proofs.lists.Stored.{first_written}
+use Rattle.cesu8_bytes.proofs.vectors.Rows.{lowest, shuffled, first_mask, row_mask}
 use Rattle.cesu8_bytes.proofs.vectors.Tables.{same_list, same_rows, rows_by}
 
 -- ---- a shuffle by the lower halves of numbers
@@ -63,6 +64,13 @@ kept_written g (s ∷ gone) (d ∷ ill_formed) i e r =
     let behind = λ (some : 0 < mask_l ill_formed). r (omega (arith, some)) in
     rw (goes.0, goes.1, fails.0, fails.1) (kept_one g i s d _ _ here (kept_written g gone ill_formed (i + 1) (omega arith) behind))
 
+-- So they are for some tests whose sets they are kept by.
+pub lanes_written : (n gone_set ill_formed_set : ℕ) (lanes : List ℕ) (gone ill_formed : List Bool) → length gone ≡ n → length ill_formed ≡ n →
+    gone_set ≡ mask_l gone → ill_formed_set ≡ mask_l ill_formed → lanes_at lanes (range_with_len 0 n) ≡ chunk 0 n lanes →
+    HasReplacement (λ j. get_or lanes (j % 0x10) 0) ill_formed_set →
+    lanes_at lanes (kept_of gone_set ill_formed_set 0 n) ≡ written gone ill_formed (chunk 0 n lanes)
+lanes_written n gone_set ill_formed_set lanes gone ill_formed g d gone_is ill_formed_is front replacement = grind (arith, common_steps, kept_written)
+
 -- ---- a row that keeps some lanes
 
 unfoldable pub is_short : (ℕ → List ℕ) → ℕ → ℕ → Bool
@@ -92,15 +100,17 @@ module _ (n gone_set ill_formed_set most : ℕ) (row : List ℕ) (row_is : row �
   pub end_of_row : get_or row 15 0 ≤ most
   end_of_row = omega (arith, last_is, few)
 
-  module _ (out lanes : List ℕ) (at : ℕ) (lanes_long : length lanes ≡ 16) (room : at + 16 ≤ length out) where
-    abbrev lane : ℕ → ℕ
-    lane j = get_or lanes (j % 0x10) 0
-
-    -- After the lanes are stored, what is up to their end is what was there, and what is written.
-    pub stored_row : (gone ill_formed : List Bool) → length gone ≡ n → length ill_formed ≡ n → gone_set ≡ mask_l gone → ill_formed_set ≡ mask_l ill_formed →
-        map lane (range_with_len 0 n) ≡ chunk 0 n lanes → HasReplacement lane ill_formed_set →
-        take (at + get_or row 15 0) (put_chunk at out (map lane row)) ≡ take at out ++ written gone ill_formed (chunk 0 n lanes)
-    stored_row gone ill_formed g d gone_is ill_formed_is front replacement = grind (arith, nat_tests, common_steps, kept_written, last_is, length-map, map-append, prefix_long, stored_prefix)
+  -- Where all lanes of the row are stored, those that it keeps are written.
+  pub row_written : (lanes old new : List ℕ) (at end : ℕ) → at ≤ length old → WritesAt (lanes_at lanes row) at old new end →
+      WritesAt (lanes_at lanes kept) at old new (at + get_or row 15 0)
+  row_written lanes old new at end room put =
+      let long = length-map row (λ j. get_or lanes (j % 0x10) 0) in
+      let all : get_or row 15 0 ≤ length row = omega (arith, end_of_row, ap length row_is, length-append (kept ++ zeros) (length kept ∷ []), prefix_long, fits) in
+      subst (λ bs. WritesAt bs at old new (at + get_or row 15 0)) (front_is lanes)
+      (first_written (get_or row 15 0) at end (lanes_at lanes row) old new (omega (arith, long, all)) room put)
+    where
+      front_is : (lanes : List ℕ) → take (get_or row 15 0) (lanes_at lanes row) ≡ lanes_at lanes kept
+      front_is lanes = grind (arith, common_steps, last_is, length-map, map-append, take_at, append_assoc)
 
 -- ---- eight bytes
 
@@ -116,12 +126,9 @@ module _ (row : List ℕ) (gone : ℕ) (small : gone < 0x100) (row_is : row ≡ 
   pub end_of_eight : get_or row 15 0 ≤ 8
   end_of_eight = end_of_row 8 gone 0 8 row row_is (few_of_eight gone small) (omega arith)
 
-  pub stored_eight : (out lanes : List ℕ) (at : ℕ) → length lanes ≡ 16 → at + 16 ≤ length out → (tests : List Bool) → length tests ≡ 8 → gone ≡ mask_l tests →
-      take (at + get_or row 15 0) (put_chunk at out (map (λ j. get_or lanes (j % 0x10) 0) row))
-      ≡ take at out ++ written tests (replicate 8 false) (chunk 0 8 lanes)
-  stored_eight out lanes at lanes_long room tests long gone_is =
-      stored_row 8 gone 0 8 row row_is (few_of_eight gone small) (omega arith) out lanes at lanes_long room tests (replicate 8 false) long refl gone_is refl
-      (pick_l-range_with_len 0 lanes 0 8 (omega arith)) (λ some. absurd (omega (arith, some)))
+  pub eight_written : (lanes old new : List ℕ) (at end : ℕ) → at ≤ length old → WritesAt (lanes_at lanes row) at old new end →
+      WritesAt (lanes_at lanes (kept_of_eight gone)) at old new (at + get_or row 15 0)
+  eight_written = row_written 8 gone 0 8 row row_is (few_of_eight gone small) (omega arith)
 
 -- Row d of the table is that for the eight bytes that go.
 pub rows_are : (gone : ℕ) → gone < 0x100 → get_or ROWS gone [] ≡ shuffle_of_eight gone
@@ -177,10 +184,6 @@ chunk_take : {X : Type 0} (a n m : ℕ) (xs : List X) → a + n ≤ m → chunk 
 chunk_take a n m xs le =
     ap (λ k. chunk a n (take k xs)) (omega (arith, le)) ∙ ap (take n) (drop-take a (m - a) xs) ∙ take-take n (m - a) (drop a xs) (omega (arith, le))
 
--- what stands behind x, with eight bytes written of which none is ill-formed
-abbrev AddsEight : (x y lanes : List ℕ) → ℕ → Type 0
-AddsEight x y lanes set = (tests : List Bool) → length tests ≡ 8 → set ≡ mask_l tests → y ≡ x ++ written tests (replicate 8 false) lanes
-
 module _ (tests : List Bool) (bytes : List ℕ) (t : 32 ≤ length tests) (b : length bytes ≡ 32) where
   abbrev none : List Bool
   none = replicate 32 false
@@ -188,24 +191,27 @@ module _ (tests : List Bool) (bytes : List ℕ) (t : 32 ≤ length tests) (b : l
   abbrev eight : ℕ → List ℕ
   eight a = part (take 32 tests) none bytes a 8
 
-  adds : (x y lanes : List ℕ) (a set : ℕ) → a + 8 ≤ 32 → lanes ≡ chunk a 8 bytes → set ≡ mask_l (chunk a 8 tests) →
-      AddsEight x y lanes set → y ≡ x ++ eight a
-  adds x y lanes a set le lanes_are set_is add =
-      let whole : chunk a 8 none ≡ replicate 8 false = ap (take 8) (drop-replicate a 32 false) ∙ take-replicate 8 (32 - a) false (omega arith) in
-      add (chunk a 8 tests) (length-chunk a 8 tests (omega arith)) set_is
-      ∙ (λ i. x ++ written (sym (chunk_take a 8 32 tests le) i) (sym whole i) (lanes_are i))
+  abbrev kept_by : List ℕ → ℕ → List ℕ
+  kept_by lanes set = lanes_at lanes (kept_of_eight set)
 
-  -- Four calls write 32 bytes.
-  pub stored_kept : (x0 x1 x2 x3 x4 v0 v1 v2 v3 : List ℕ) (set : ℕ) → set ≡ mask_l tests →
-      v0 ≡ chunk 0 8 bytes → v1 ≡ chunk 8 8 bytes → v2 ≡ chunk 16 8 bytes → v3 ≡ chunk 24 8 bytes →
-      AddsEight x0 x1 v0 (bit_and set 0xFF) → AddsEight x1 x2 v1 (bit_and (set / 2 ^ 8) 0xFF) →
-      AddsEight x2 x3 v2 (bit_and (set / 2 ^ 16) 0xFF) → AddsEight x3 x4 v3 (bit_and (set / 2 ^ 24) 0xFF) →
-      x4 ≡ x0 ++ written (take 32 tests) none bytes
-  stored_kept x0 x1 x2 x3 x4 v0 v1 v2 v3 set is is0 is1 is2 is3 add0 add1 add2 add3 =
+  kept_is : (lanes : List ℕ) (a set : ℕ) → a + 8 ≤ 32 → chunk 0 8 lanes ≡ chunk a 8 bytes → set ≡ mask_l (chunk a 8 tests) → kept_by lanes set ≡ eight a
+  kept_is lanes a set le lanes_are set_is =
+      let whole : chunk a 8 none ≡ replicate 8 false = ap (take 8) (drop-replicate a 32 false) ∙ take-replicate 8 (32 - a) false (omega arith) in
+      let long : 8 ≤ length lanes = omega (arith, ap length lanes_are, length-chunk a 8 bytes (omega arith), length-take 8 lanes) in
+      lanes_written 8 set 0 lanes (chunk a 8 tests) (replicate 8 false) (length-chunk a 8 tests (omega arith)) refl set_is refl
+      (pick_l-range_with_len 0 lanes 0 8 (omega arith)) (λ some. absurd (omega (arith, some)))
+      ∙ (λ i. written (sym (chunk_take a 8 32 tests le) i) (sym whole i) (lanes_are i))
+
+  -- What is kept of four times eight bytes is what is written for 32.
+  pub kept_of_four : (v0 v1 v2 v3 : List ℕ) (set : ℕ) → set ≡ mask_l tests →
+      chunk 0 8 v0 ≡ chunk 0 8 bytes → chunk 0 8 v1 ≡ chunk 8 8 bytes → chunk 0 8 v2 ≡ chunk 16 8 bytes → chunk 0 8 v3 ≡ chunk 24 8 bytes →
+      kept_by v0 (bit_and set 0xFF) ++ (kept_by v1 (bit_and (set / 2 ^ 8) 0xFF)
+      ++ (kept_by v2 (bit_and (set / 2 ^ 16) 0xFF) ++ kept_by v3 (bit_and (set / 2 ^ 24) 0xFF))) ≡ written (take 32 tests) none bytes
+  kept_of_four v0 v1 v2 v3 set is is0 is1 is2 is3 =
       let row = λ (a : ℕ) (le : a + 8 ≤ 32). row_mask a tests set (omega arith) is in
-      four_calls x0 x1 x2 x3 x4 (eight 0) (eight 8) (eight 16) (eight 24)
-      (adds x0 x1 v0 0 _ (omega arith) is0 (first_mask tests set (omega arith) is) add0)
-      (adds x1 x2 v1 8 _ (omega arith) is1 (row 8 (omega arith)) add1)
-      (adds x2 x3 v2 16 _ (omega arith) is2 (row 16 (omega arith)) add2)
-      (adds x3 x4 v3 24 _ (omega arith) is3 (row 24 (omega arith)) add3)
-      ∙ ap (λ l. x0 ++ l) (sym (in_four (take 32 tests) none bytes 32 (length-take-le 32 tests t) refl b 8 refl))
+      let k0 = kept_is v0 0 (bit_and set 0xFF) (omega arith) is0 (first_mask tests set (omega arith) is) in
+      let k1 = kept_is v1 8 (bit_and (set / 2 ^ 8) 0xFF) (omega arith) is1 (row 8 (omega arith)) in
+      let k2 = kept_is v2 16 (bit_and (set / 2 ^ 16) 0xFF) (omega arith) is2 (row 16 (omega arith)) in
+      let k3 = kept_is v3 24 (bit_and (set / 2 ^ 24) 0xFF) (omega arith) is3 (row 24 (omega arith)) in
+      (λ i. k0 i ++ (k1 i ++ (k2 i ++ k3 i)))
+      ∙ sym (in_four (take 32 tests) none bytes 32 (length-take-le 32 tests t) refl b 8 refl)

@@ -1,8 +1,9 @@
 //! Runs of bytes without one of a class, found and copied by vectors.
 
-ghost use Rattle.std.specs.Prelude.{◌≡◌, ◌==◌, if◌then◌else◌, ℕ, ◌+◌, ◌*◌, ◌<◌, ◌≤◌, ◌++◌, not, true, false, length, take, slice_index};
+ghost use Rattle.std.specs.Prelude.{◌≡◌, ◌==◌, if◌then◌else◌, ℕ, ◌+◌, ◌*◌, ◌<◌, ◌≤◌, not, true, false, length, take, slice_index};
 ghost use Rattle.std.specs.Int.Count.{count_trailing_zeros};
 ghost use Rattle.std.specs.List.{prefix_len};
+ghost use Rattle.cesu8_bytes.specs.Puts.{WritesAt};
 
 use super::class::{InAllVectors, InVectors, LANES, bits, has};
 use super::groups::InGroups;
@@ -19,8 +20,7 @@ pub fn copy_run<C: InAllVectors>(bytes: &[u8], out: &mut [u8], at: usize) -> usi
     ensures some { 0 < result }
     ensures within { result ≤ length bytes.now }
     ensures run { (i : ℕ) → i < result → C.class (slice_index bytes.now i) ≡ false }
-    ensures bytes { take (at + result) out.new ≡ take at out.old ++ take result bytes.now }
-    ensures len { length out.new ≡ length out.old }
+    ensures copied { WritesAt (take result bytes.now) at out.old out.new (at + result) }
 {
     if bytes.len() >= 16 {
         return copy_lanes::<C, 16>(bytes, out, at);
@@ -43,8 +43,7 @@ fn copy_lanes<C: InVectors<N>, const N: usize>(bytes: &[u8], out: &mut [u8], at:
     ensures some { C.class (slice_index bytes.now 0) ≡ false → 0 < result }
     ensures within { result ≤ N }
     ensures run { (i : ℕ) → i < result → C.class (slice_index bytes.now i) ≡ false }
-    ensures bytes { take (at + result) out.new ≡ take at out.old ++ take result bytes.now }
-    ensures len { length out.new ≡ length out.old }
+    ensures copied { WritesAt (take result bytes.now) at out.old out.new (at + result) }
 {
     let lanes: Simd<u8, N> = Simd::from_slice(bytes);
     put_lanes(lanes, out, at);

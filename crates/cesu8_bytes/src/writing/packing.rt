@@ -1,11 +1,13 @@
 //! Packs the lanes of a vector of which some go, by a shuffle for each eight.
 
-ghost use Rattle.std.specs.Prelude.{◌≡◌, List, Bool, ◌+◌, ◌%◌, ◌<◌, ◌≤◌, ◌++◌, false, length, map, take, replicate, slice_index};
+ghost use Rattle.std.specs.Prelude.{◌≡◌, List, Bool, ◌+◌, ◌<◌, ◌≤◌, ◌++◌, false, length, take, replicate};
 ghost use Rattle.std.specs.Simd.Lanes.{chunk, mask_l};
-ghost use Rattle.cesu8_bytes.specs.Packing.{written};
+ghost use Rattle.cesu8_bytes.specs.Packing.{written, kept_of, lanes_at};
+ghost use Rattle.cesu8_bytes.specs.Puts.{WritesAt};
 
 mod rows_of_eight;
 
+use super::put::put_lanes;
 use crate::BLOCK;
 use rows_of_eight::rows_of_eight;
 use std::simd::prelude::*;
@@ -20,12 +22,10 @@ pub const HALF: usize = BLOCK / 2;
 /// byte `i` goes. Its bits above these tell nothing.
 #[inline(always)]
 pub fn store_kept(bytes: u8x32, gone: usize, out: &mut [u8], at: usize) -> usize
-    requires room { at + BLOCK + STORED ≤ length out.old }
-    ensures bytes { (tests : List Bool) → BLOCK ≤ length tests → gone ≡ mask_l tests
-        → take result out.new
-        ≡ take at out.old ++ written (take BLOCK tests) (replicate BLOCK false) bytes }
-    ensures end { (at ≤ result) × (result ≤ at + BLOCK) }
-    ensures len { length out.new ≡ length out.old }
+    requires { at + BLOCK + STORED ≤ length out.old }
+    ensures { (tests : List Bool) → BLOCK ≤ length tests → gone ≡ mask_l tests
+        → WritesAt (written (take BLOCK tests) (replicate BLOCK false) bytes)
+        at out.old out.new result }
 {
     let first = bytes.extract::<0, HALF>();
     let third = bytes.extract::<HALF, HALF>();
@@ -40,15 +40,11 @@ pub fn store_kept(bytes: u8x32, gone: usize, out: &mut [u8], at: usize) -> usize
 fn store_eight(lanes: u8x16, gone: usize, out: &mut [u8], at: usize) -> usize
     requires small { gone < 0x100 }
     requires room { at + STORED ≤ length out.old }
-    ensures bytes { (tests : List Bool) → length tests ≡ 8 → gone ≡ mask_l tests
-        → take result out.new
-        ≡ take at out.old ++ written tests (replicate 8 false) (chunk 0 8 lanes) }
-    ensures end { (at ≤ result) × (result ≤ at + 8) }
-    ensures len { length out.new ≡ length out.old }
+    ensures kept { WritesAt (lanes_at lanes (kept_of gone 0 0 8)) at out.old out.new result }
+    ensures few { result ≤ at + 8 }
 {
     let row = &rows_of_eight()[gone];
-    let packed = picked(lanes, u8x16::from_array(*row));
-    packed.copy_to_slice(&mut out[at..]);
+    put_lanes(picked(lanes, u8x16::from_array(*row)), out, at);
     at + row[15] as usize
 }
 
@@ -63,7 +59,7 @@ pub fn second_of(lanes: u8x16) -> u8x16
 /// Returns the lanes at the indices in the lower halves of a row's numbers.
 #[inline(always)]
 pub fn picked(lanes: u8x16, row: u8x16) -> u8x16
-    ensures { result ≡ map (λ j. slice_index lanes (j % 0x10)) row }
+    ensures { result ≡ lanes_at lanes row }
 {
     lanes.swizzle_dyn_within::<16>(row & u8x16::splat(0x0F))
 }

@@ -1,13 +1,14 @@
 -- Text that is written into a slice a chunk at a time.
 use Rattle.std.proofs.lemmas.Bool.Decides.{nat_tests}
 use Rattle.std.proofs.lemmas.Grind.{common_steps}
-use Rattle.std.proofs.Common.{◌≡◌, ℕ, ◌+◌, List, [], ◌++◌, refl, ◌∙◌, arith, length, take, drop, Bool}
+use Rattle.std.proofs.Common.{◌≡◌, ℕ, ◌+◌, List, [], refl, ◌∙◌, arith, length, take, drop, Bool}
 use Rattle.std.proofs.lemmas.List.{take-append-drop}
 use Rattle.cesu8_text.specs.Text.{utf8}
 use Rattle.cesu8_text.specs.Encoding.{Flavor}
 use Rattle.cesu8_text.specs.Reading.{reading, lossy_length}
 use Rattle.cesu8_text.specs.Slices.{StandsAtFront}
 use Rattle.cesu8_decode.specs.Decoding.{ReadsFirst}
+use Rattle.cesu8_bytes.specs.Puts.{PutsAt}
 use Rattle.cesu8_bytes.specs.TextChunks.{IsChunk}
 use Rattle.cesu8_bytes.specs.declared.strictness.Strictness.TheVariants.{Lossy}
 use Rattle.cesu8_bytes.proofs.lists.Ends.{stays_behind}
@@ -29,14 +30,13 @@ nothing_written f bytes old = grind (arith, nat_tests)
 -- A chunk that is put behind what was written so far adds to it.
 pub chunk_written : (f : Flavor) (bytes rest chunk : List ℕ) (read : ℕ) (is_ill_formed : Bool) (at end : ℕ) (old between new : List ℕ) →
     IsWrittenSoFar f bytes rest at old between → ReadsFirst f Lossy rest read chunk is_ill_formed →
-    take end new ≡ take at between ++ chunk → end ≡ at + length chunk → drop end new ≡ drop end between → length new ≡ length between →
-    IsWrittenSoFar f bytes (drop read rest) end old new
-chunk_written f bytes rest chunk read is_ill_formed at end old between new so_far first put end_is behind len = record {
+    PutsAt chunk at between new end → IsWrittenSoFar f bytes (drop read rest) end old new
+chunk_written f bytes rest chunk read is_ill_formed at end old between new so_far first put = record {
   so_far = more_read f Lossy bytes rest (drop read rest) [] (take at between) (take end new) so_far.so_far
-      (chunk_appended f Lossy rest (drop read rest) chunk (take at between) (take end new) (first.chunk refl) put);
-  room = omega (arith, end_is, so_far.room, chunk_length f rest (drop read rest) chunk (first.chunk refl));
-  behind = behind ∙ stays_behind old between at end (omega (arith, end_is)) so_far.behind;
-  len = len ∙ so_far.len;
+      (chunk_appended f Lossy rest (drop read rest) chunk (take at between) (take end new) (first.chunk refl) put.writes.bytes);
+  room = omega (arith, put.writes.end, so_far.room, chunk_length f rest (drop read rest) chunk (first.chunk refl));
+  behind = put.behind ∙ stays_behind old between at end (omega (arith, put.writes.end)) so_far.behind;
+  len = put.writes.len ∙ so_far.len;
 }
 
 -- Where no bytes are left, their lossy reading stands at the front.

@@ -1,14 +1,14 @@
 -- How what becomes of four bytes is packed by a shuffle, and what that is for the lanes of three vectors.
-use Rattle.std.proofs.lemmas.Grind.{common_steps}
-use Rattle.std.proofs.Common.{◌≡◌, ℕ, ◌+◌, ◌/◌, ◌%◌, ◌^◌, ◌<◌, ◌≤◌, Bool, List, [], ◌∷◌, ◌++◌, map, length, take, drop, get_or, refl, sym, ap, ◌∙◌, arith, length-append, append_assoc, bit_and}
+use Rattle.std.proofs.Common.{◌≡◌, ℕ, ◌+◌, ◌/◌, ◌%◌, ◌^◌, ◌<◌, ◌≤◌, Bool, List, [], ◌∷◌, ◌++◌, map, length, take, drop, get_or, refl, sym, ap, ◌∙◌, arith, length-append, bit_and}
 use Rattle.std.specs.List.{range_with_len}
-use Rattle.std.proofs.lemmas.List.{length-map, take-map, drop-map, take_at, drop_at}
-use Rattle.std.proofs.lemmas.Simd.{pick_l-range_with_len}
-use lib.Lanes.{mask_l, put_chunk, chunk, pick_l}
-use Rattle.cesu8_bytes.specs.Packing.{written, kept_of}
+use Rattle.std.proofs.lemmas.List.{length-map, length-take, length-drop, take-map, drop-map, take_at, drop_at}
+use Rattle.std.proofs.lemmas.Simd.{pick_l-range_with_len, length-chunk}
+use lib.Lanes.{mask_l, chunk, pick_l}
+use Rattle.cesu8_bytes.specs.Packing.{written, kept_of, lanes_at}
+use Rattle.cesu8_bytes.specs.Puts.{WritesAt}
 use Rattle.cesu8_decode.specs.DecodedLanes.{is_high, written_lanes, shuffle_of_four}
-use Rattle.cesu8_bytes.proofs.vectors.Packing.{at_most, is_short, end_of_row, stored_row, part as part_of, in_four, in_two}
-use Rattle.cesu8_bytes.proofs.vectors.Rows.{mask_prefix, mask_rest, first_mask, row_mask, lanes_of_first, lanes_of_second, four_calls}
+use Rattle.cesu8_bytes.proofs.vectors.Packing.{at_most, is_short, end_of_row, row_written, lanes_written, part as part_of, in_four, in_two}
+use Rattle.cesu8_bytes.proofs.vectors.Rows.{mask_prefix, mask_rest, first_mask, row_mask, lanes_of_first, lanes_of_second}
 
 -- ---- four bytes
 
@@ -24,21 +24,27 @@ module _ (row : List ℕ) (set : ℕ) (small : set < 0x100) (row_is : row ≡ sh
   pub end_of_four : get_or row 15 0 ≤ 12
   end_of_four = end_of_row 4 (set % 0x10) (set / 0x10) 12 row row_is (few_of_four set small) (omega arith)
 
-  pub stored_four : (out lanes : List ℕ) (at : ℕ) → length lanes ≡ 16 → at + 16 ≤ length out → chunk 4 3 lanes ≡ 0xEF ∷ 0xBF ∷ 0xBD ∷ [] →
-      (gone ill_formed : List Bool) → length gone ≡ 4 → length ill_formed ≡ 4 → set ≡ mask_l (gone ++ ill_formed) →
-      take (at + get_or row 15 0) (put_chunk at out (map (λ j. get_or lanes (j % 0x10) 0) row)) ≡ take at out ++ written gone ill_formed (chunk 0 4 lanes)
-  stored_four out lanes at lanes_long room replacement gone ill_formed g d set_is =
-      let long : 4 ≤ length (gone ++ ill_formed) = omega (arith, length-append gone ill_formed) in
-      stored_row 4 (set % 0x10) (set / 0x10) 12 row row_is (few_of_four set small) (omega arith) out lanes at lanes_long room gone ill_formed g d
-      (ap (λ m. m % 0x10) set_is ∙ mask_prefix 4 (gone ++ ill_formed) long ∙ ap mask_l (take_at gone ill_formed 4 g))
-      (ap (λ m. m / 0x10) set_is ∙ mask_rest 4 (gone ++ ill_formed) long ∙ ap mask_l (drop_at gone ill_formed 4 g))
-      (pick_l-range_with_len 0 lanes 0 4 (omega arith)) (λ _. pick_l-range_with_len 0 lanes 4 3 (omega arith) ∙ replacement)
+  pub four_written : (lanes old new : List ℕ) (at end : ℕ) → at ≤ length old → WritesAt (lanes_at lanes row) at old new end →
+      WritesAt (lanes_at lanes (kept_of_four set)) at old new (at + get_or row 15 0)
+  four_written = row_written 4 (set % 0x10) (set / 0x10) 12 row row_is (few_of_four set small) (omega arith)
+
+-- Lanes of four bytes, which a replacement character follows.
+abbrev HasFour : (lanes four : List ℕ) → Type 0
+HasFour lanes four = (chunk 0 4 lanes ≡ four) × (chunk 4 3 lanes ≡ 0xEF ∷ 0xBF ∷ 0xBD ∷ [])
+
+-- What is kept of them is what is written for the bytes.
+kept_is : (lanes four : List ℕ) (set : ℕ) (gone ill_formed : List Bool) → HasFour lanes four → length gone ≡ 4 → length ill_formed ≡ 4 →
+    set ≡ mask_l (gone ++ ill_formed) → lanes_at lanes (kept_of_four set) ≡ written gone ill_formed four
+kept_is lanes four set gone ill_formed has g d set_is =
+    let long : 4 ≤ length (gone ++ ill_formed) = omega (arith, length-append gone ill_formed) in
+    let room : 7 ≤ length lanes = omega (arith, ap length has.1, length-take 3 (drop 4 lanes), length-drop 4 lanes) in
+    lanes_written 4 (set % 0x10) (set / 0x10) lanes gone ill_formed g d
+    (ap (λ m. m % 0x10) set_is ∙ mask_prefix 4 (gone ++ ill_formed) long ∙ ap mask_l (take_at gone ill_formed 4 g))
+    (ap (λ m. m / 0x10) set_is ∙ mask_rest 4 (gone ++ ill_formed) long ∙ ap mask_l (drop_at gone ill_formed 4 g))
+    (pick_l-range_with_len 0 lanes 0 4 (omega arith)) (λ _. pick_l-range_with_len 0 lanes 4 3 (omega arith) ∙ has.1)
+    ∙ ap (written gone ill_formed) has.0
 
 -- ---- the lanes of three vectors
-
--- what stands behind x, with four bytes written
-abbrev AddsFour : (x y lanes : List ℕ) → ℕ → Type 0
-AddsFour x y lanes set = (gone ill_formed : List Bool) → length gone ≡ 4 → length ill_formed ≡ 4 → set ≡ mask_l (gone ++ ill_formed) → y ≡ x ++ written gone ill_formed lanes
 
 chunk-map : (p : ℕ → Bool) (a n : ℕ) (xs : List ℕ) → map p (chunk a n xs) ≡ chunk a n (map p xs)
 chunk-map p a n xs = sym (take-map p n (drop a xs)) ∙ ap (take n) (sym (drop-map p a xs))
@@ -75,25 +81,31 @@ module _ (gone ill_formed bytes : List ℕ) where
     upper_set : (a set : ℕ) → a + 8 ≤ 16 → set ≡ mask_l (map is_high (lanes_of_eight a)) → bit_and (set / 2 ^ 8) 0xFF ≡ mask_l (tests (a + 4))
     upper_set a set le is = row_mask 8 (map is_high (lanes_of_eight a)) set (omega arith) is ∙ ap mask_l (tests_are (a + 4) (omega arith))
 
-    adds : (x y lanes : List ℕ) (a set : ℕ) → a + 4 ≤ 16 → lanes ≡ chunk a 4 bytes → set ≡ mask_l (tests a) → AddsFour x y lanes set → y ≡ x ++ part a 4
-    adds x y lanes a set le lanes_are set_is add = grind (arith, common_steps)
+    abbrev kept_by : List ℕ → ℕ → List ℕ
+    kept_by lanes set = lanes_at lanes (kept_of_four set)
 
-    -- Four calls write sixteen bytes.
-    pub stored_half : (x0 x1 x2 x3 x4 v0 v1 v2 v3 : List ℕ) (front back : ℕ) →
+    part_kept : (lanes : List ℕ) (a set : ℕ) → a + 4 ≤ 16 → HasFour lanes (chunk a 4 bytes) → set ≡ mask_l (tests a) →
+        kept_by lanes set ≡ part_of (map is_high gone) (map is_high ill_formed) bytes a 4
+    part_kept lanes a set le has set_is =
+        kept_is lanes (chunk a 4 bytes) set (map is_high (chunk a 4 gone)) (map is_high (chunk a 4 ill_formed)) has
+        (length-map (chunk a 4 gone) is_high ∙ length-chunk a 4 gone (omega arith))
+        (length-map (chunk a 4 ill_formed) is_high ∙ length-chunk a 4 ill_formed (omega arith)) set_is
+        ∙ part_is a 4
+
+    -- What is kept of four times four lanes is what is written for sixteen.
+    pub kept_of_half : (v0 v1 v2 v3 : List ℕ) (front back : ℕ) →
         front ≡ mask_l (map is_high (lanes_of_eight 0)) → back ≡ mask_l (map is_high (lanes_of_eight 8)) →
-        v0 ≡ chunk 0 4 bytes → v1 ≡ chunk 4 4 bytes → v2 ≡ chunk 8 4 bytes → v3 ≡ chunk 12 4 bytes →
-        AddsFour x0 x1 v0 (bit_and front 0xFF) → AddsFour x1 x2 v1 (bit_and (front / 2 ^ 8) 0xFF) →
-        AddsFour x2 x3 v2 (bit_and back 0xFF) → AddsFour x3 x4 v3 (bit_and (back / 2 ^ 8) 0xFF) →
-        x4 ≡ x0 ++ written_lanes gone ill_formed bytes
-    stored_half x0 x1 x2 x3 x4 v0 v1 v2 v3 front back f k is0 is1 is2 is3 add0 add1 add2 add3 =
-        four_calls x0 x1 x2 x3 x4 (part 0 4) (part 4 4) (part 8 4) (part 12 4)
-        (adds x0 x1 v0 0 _ (omega arith) is0 (lower_set 0 front (omega arith) f) add0)
-        (adds x1 x2 v1 4 _ (omega arith) is1 (upper_set 0 front (omega arith) f) add1)
-        (adds x2 x3 v2 8 _ (omega arith) is2 (lower_set 8 back (omega arith) k) add2)
-        (adds x3 x4 v3 12 _ (omega arith) is3 (upper_set 8 back (omega arith) k) add3)
-        ∙ ap (λ l. x0 ++ l) ((λ i. part_is 0 4 i ++ (part_is 4 4 i ++ (part_is 8 4 i ++ part_is 12 4 i)))
+        HasFour v0 (chunk 0 4 bytes) → HasFour v1 (chunk 4 4 bytes) → HasFour v2 (chunk 8 4 bytes) → HasFour v3 (chunk 12 4 bytes) →
+        kept_by v0 (bit_and front 0xFF) ++ (kept_by v1 (bit_and (front / 2 ^ 8) 0xFF)
+        ++ (kept_by v2 (bit_and back 0xFF) ++ kept_by v3 (bit_and (back / 2 ^ 8) 0xFF))) ≡ written_lanes gone ill_formed bytes
+    kept_of_half v0 v1 v2 v3 front back f k is0 is1 is2 is3 =
+        let k0 = part_kept v0 0 (bit_and front 0xFF) (omega arith) is0 (lower_set 0 front (omega arith) f) in
+        let k1 = part_kept v1 4 (bit_and (front / 2 ^ 8) 0xFF) (omega arith) is1 (upper_set 0 front (omega arith) f) in
+        let k2 = part_kept v2 8 (bit_and back 0xFF) (omega arith) is2 (lower_set 8 back (omega arith) k) in
+        let k3 = part_kept v3 12 (bit_and (back / 2 ^ 8) 0xFF) (omega arith) is3 (upper_set 8 back (omega arith) k) in
+        (λ i. k0 i ++ (k1 i ++ (k2 i ++ k3 i)))
         ∙ sym (in_four (map is_high gone) (map is_high ill_formed) bytes 16
-        (length-map gone is_high ∙ g) (length-map ill_formed is_high ∙ d) b 4 refl))
+        (length-map gone is_high ∙ g) (length-map ill_formed is_high ∙ d) b 4 refl)
 
   -- ---- two halves
 
@@ -112,10 +124,9 @@ module _ (gone ill_formed bytes : List ℕ) where
         λ i. written_lanes (gone_are i) (ill_formed_are i) (bytes_are i)
 
     -- Two halves, one behind the other, are all.
-    pub stored_halves : (x0 x1 x2 : List ℕ) → x1 ≡ x0 ++ half 0 → x2 ≡ x1 ++ half 16 → x2 ≡ x0 ++ written_lanes gone ill_formed bytes
-    stored_halves x0 x1 x2 e1 e2 =
-        e2 ∙ ap (λ l. l ++ half 16) e1 ∙ append_assoc x0 (half 0) (half 16)
-        ∙ ap (λ l. x0 ++ l) ((λ i. half_is 0 (omega arith) i ++ half_is 16 (omega arith) i)
+    pub halves_are : half 0 ++ half 16 ≡ written_lanes gone ill_formed bytes
+    halves_are =
+        (λ i. half_is 0 (omega arith) i ++ half_is 16 (omega arith) i)
         ∙ (λ i. part_is 0 16 i ++ part_is 16 16 i)
         ∙ sym (in_two (map is_high gone) (map is_high ill_formed) bytes 32
-        (length-map gone is_high ∙ g) (length-map ill_formed is_high ∙ d) b 16 refl))
+        (length-map gone is_high ∙ g) (length-map ill_formed is_high ∙ d) b 16 refl)

@@ -2,11 +2,9 @@
 use Rattle.std.proofs.Common.{◌≡◌, ℕ, zero, suc, ◌+◌, ◌-◌, ◌*◌, ◌^◌, ◌%◌, ◌<◌, ◌≤◌, ⊎_elim, Bool, true, false, true≢false, ◌&&◌, ◌||◌, not, cond, eqb, leb, List, [], ◌∷◌, ◌++◌, map, take, length, get_or, replicate, bit_and, bit_or, refl, sym, ap, ◌∙◌, arith}
 use Rattle.std.specs.List.{range_with_len}
 use Rattle.std.proofs.lemmas.Bool.{eqb-true, not-false, cases_lt, cases_Bool, ne_eqb}
-use Rattle.std.proofs.lemmas.List.{take-take, length-take-le}
 use Rattle.std.proofs.lemmas.List.FromFn.{take-map-range_with_len}
-use Rattle.std.proofs.lemmas.Simd.{map-map, take_more_put_chunk}
-use Rattle.std.proofs.Math.Seq.{take-append-add}
-use lib.Lanes.{zip2, mask_l, chunk, put_chunk}
+use Rattle.std.proofs.lemmas.Simd.{map-map}
+use lib.Lanes.{zip2, mask_l, chunk}
 use Rattle.std.proofs.lemmas.Bool.Decides.{nat_tests}
 use Rattle.cesu8_text.specs.Encoding.{Flavor, Cesu8, Mutf8}
 use Rattle.cesu8_text.specs.Class.{is_null}
@@ -43,16 +41,6 @@ module _ (f : Flavor) (window : List ℕ) where
   stay_decoded at (suc n) stay =
       let rest = stay_decoded (at + 1) n (λ i low inside. stay i (omega arith) (omega arith)) in
       λ k. sym (becomes_itself at (stay at (omega arith) (omega arith))) k ++ rest k
-
--- The first of the lanes that are copied stand behind what was written.
-pub copied_first : (at n : ℕ) (out lanes : List ℕ) → length lanes ≡ 32 → n ≤ 32 → at + 32 ≤ length out →
-    take (at + n) (put_chunk at out lanes) ≡ take at out ++ take n lanes
-copied_first at n out lanes long small room =
-    let front : length (take at out) ≡ at = length-take-le at out (omega arith) in
-    sym (take-take (at + n) (at + 32) (put_chunk at out lanes) (omega arith))
-    ∙ ap (take (at + n)) (take_more_put_chunk at out lanes (at + 32) (omega (arith, long)) room)
-    ∙ ap (λ k. take (k + n) (take at out ++ lanes)) (sym front)
-    ∙ take-append-add (take at out) lanes n
 
 -- ---- characters of one byte
 

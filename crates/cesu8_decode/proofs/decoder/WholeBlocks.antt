@@ -1,5 +1,5 @@
 -- What 32 bytes become of which none is ill-formed.
-use Rattle.std.proofs.Common.{◌≡◌, ℕ, ◌+◌, ◌*◌, ◌≤◌, Bool, true, false, cond, List, [], ◌∷◌, ◌++◌, map, length, take, replicate, refl, sym, ap, ◌∙◌, arith}
+use Rattle.std.proofs.Common.{◌≡◌, ℕ, ◌+◌, ◌*◌, ◌≤◌, Bool, true, false, cond, List, [], ◌∷◌, map, length, take, replicate, refl, sym, ap, ◌∙◌, arith}
 use Rattle.std.proofs.lemmas.List.{length-append, length-map, length-take, length-take-le}
 use Rattle.std.proofs.Math.Seq.{take-length}
 use lib.Lanes.{mask_l}
@@ -18,13 +18,13 @@ none_high (d ∷ lanes) none =
     λ i. here.0 i ∷ none_high lanes here.1 i
 
 -- They are written but for those that go.
-pub written_whole : (x y gone ill_formed bytes : List ℕ) → length gone ≡ 32 → length ill_formed ≡ 32 → mask_l (map is_high ill_formed) ≡ 0 →
-    y ≡ x ++ written (take 32 (map is_high gone)) (replicate 32 false) bytes → y ≡ x ++ written_lanes gone ill_formed bytes
-written_whole x y gone ill_formed bytes g d none is =
+pub written_whole : (gone ill_formed bytes : List ℕ) → length gone ≡ 32 → length ill_formed ≡ 32 → mask_l (map is_high ill_formed) ≡ 0 →
+    written (take 32 (map is_high gone)) (replicate 32 false) bytes ≡ written_lanes gone ill_formed bytes
+written_whole gone ill_formed bytes g d none =
     let flags = map is_high gone in
     let all : take 32 flags ≡ flags = ap (λ n. take n flags) (sym (length-map gone is_high ∙ g)) ∙ take-length flags in
     let whole : replicate 32 false ≡ map is_high ill_formed = ap (λ n. replicate n false) (sym d) ∙ sym (none_high ill_formed none) in
-    is ∙ (λ i. x ++ written (all i) (whole i) bytes)
+    λ i. written (all i) (whole i) bytes
 
 -- Where no lane is gone or ill-formed, the bytes are written as they are.
 pub nothing_changes : (gone ill_formed bytes : List ℕ) → length gone ≡ length ill_formed → length gone ≡ length bytes →
@@ -38,16 +38,7 @@ nothing_changes (g ∷ gone) (d ∷ ill_formed) (b ∷ bytes) e f none whole =
     let unharmed = unset (is_high d) (mask_l (map is_high ill_formed)) whole in
     rw (stays.0, unharmed.0) (ap (λ l. b ∷ l) (nothing_changes gone ill_formed bytes (omega arith) (omega arith) stays.1 unharmed.1))
 
--- Bytes are written behind an offset where they end within the slice,
-pub writes_to : (bytes old new : List ℕ) (at n : ℕ) → at ≤ length old → n ≤ length new → take n new ≡ take at old ++ bytes →
-    length new ≡ length old → WritesAt bytes at old new n
-writes_to bytes old new at n fits inside is same = record {
-  bytes = is;
-  end = omega (arith, ap length is, length-take-le n new inside, length-take-le at old fits, length-append (take at old) bytes);
-  len = same;
-}
-
--- as they do.
+-- Bytes that are written end within the slice.
 pub end_inside : (bytes old new : List ℕ) (at n : ℕ) → at ≤ length old → WritesAt bytes at old new n → n ≤ length new
 end_inside bytes old new at n fits w =
     omega (arith, ap length w.bytes, w.end, length-take n new, length-take-le at old fits, length-append (take at old) bytes)

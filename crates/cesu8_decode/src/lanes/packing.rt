@@ -1,9 +1,9 @@
 //! Packs what becomes of 32 bytes: by a shuffle for each four bytes, or for each eight if no byte
 //! is ill-formed.
 
-ghost use Rattle.std.specs.Prelude.{◌≡◌, List, Bool, ◌+◌, ◌*◌, ◌<◌, ◌≤◌, ◌∷◌, [], ◌++◌, length, map, take};
-ghost use Rattle.std.specs.Simd.Lanes.{chunk, mask_l};
-ghost use Rattle.cesu8_bytes.specs.Packing.{written};
+ghost use Rattle.std.specs.Prelude.{◌≡◌, ◌+◌, ◌*◌, ◌/◌, ◌%◌, ◌<◌, ◌≤◌, length, map};
+ghost use Rattle.std.specs.Simd.Lanes.{mask_l};
+ghost use Rattle.cesu8_bytes.specs.Packing.{kept_of, lanes_at};
 ghost use Rattle.cesu8_bytes.specs.Puts.{WritesAt};
 ghost use Rattle.cesu8_decode.specs.DecodedLanes.{is_high, written_lanes};
 
@@ -11,6 +11,7 @@ use super::rows::rows;
 use cesu8_bytes::BLOCK;
 use cesu8_bytes::lanes::class::{AtLeast, bits};
 use cesu8_bytes::writing::packing::{HALF, STORED, picked, second_of, store_kept};
+use cesu8_bytes::writing::put::put_lanes;
 use std::simd::prelude::*;
 
 /// The most bytes that are written for one byte: those of the replacement character.
@@ -68,8 +69,7 @@ pub fn store_whole(parts: Parts, out: &mut [u8], at: usize) -> usize
 {
     let gone = bits::<HighestBit, BLOCK>(parts.gone) as usize;
     if gone == 0 {
-        parts.bytes.copy_to_slice(&mut out[at..]);
-        return at + BLOCK;
+        return put_lanes(parts.bytes, out, at);
     }
     store_kept(parts.bytes, gone, out, at)
 }
@@ -82,10 +82,9 @@ const REPLACEMENTS: [u8; 16] = [
 /// Stores what becomes of sixteen bytes.
 #[inline(always)]
 fn store_half(bytes: u8x16, gone: u8x16, ill_formed: u8x16, out: &mut [u8], at: usize) -> usize
-    requires room { at + WIDEST * HALF + STORED ≤ length out.old }
-    ensures bytes { take result out.new ≡ take at out.old ++ written_lanes gone ill_formed bytes }
-    ensures end { (at ≤ result) × (result ≤ at + WIDEST * HALF) }
-    ensures len { length out.new ≡ length out.old }
+    requires { at + WIDEST * HALF + STORED ≤ length out.old }
+    ensures stored { WritesAt (written_lanes gone ill_formed bytes) at out.old out.new result }
+    ensures few { result ≤ at + WIDEST * HALF }
 {
     let replacements = u8x16::from_array(REPLACEMENTS);
     let first = bytes.shuffle::<16>(
@@ -110,22 +109,17 @@ fn store_half(bytes: u8x16, gone: u8x16, ill_formed: u8x16, out: &mut [u8], at: 
     store_four(second_of(third), back >> 8 & 0xFF, out, at)
 }
 
-/// Stores what becomes of four bytes, which the replacement character follows in the lanes, and
-/// returns its end. The lower four bits of the set mark those that go, and the others those that
-/// are ill-formed.
+/// Stores what becomes of four bytes, and returns its end. The lower four bits of the set mark those
+/// that go, and the others those for which the next three lanes are stored.
 #[inline(always)]
 fn store_four(lanes: u8x16, set: usize, out: &mut [u8], at: usize) -> usize
     requires small { set < 0x100 }
-    requires replacement { chunk 4 3 lanes ≡ 0xEF ∷ 0xBF ∷ 0xBD ∷ [] }
     requires room { at + STORED ≤ length out.old }
-    ensures bytes { (gone ill_formed : List Bool) → length gone ≡ 4 → length ill_formed ≡ 4
-        → set ≡ mask_l (gone ++ ill_formed)
-        → take result out.new ≡ take at out.old ++ written gone ill_formed (chunk 0 4 lanes) }
-    ensures end { (at ≤ result) × (result ≤ at + WIDEST * 4) }
-    ensures len { length out.new ≡ length out.old }
+    ensures kept { WritesAt (lanes_at lanes (kept_of (set % 0x10) (set / 0x10) 0 4))
+        at out.old out.new result }
+    ensures few { result ≤ at + WIDEST * 4 }
 {
     let row = &rows()[set];
-    let packed = picked(lanes, u8x16::from_array(*row));
-    packed.copy_to_slice(&mut out[at..]);
+    put_lanes(picked(lanes, u8x16::from_array(*row)), out, at);
     at + row[15] as usize
 }

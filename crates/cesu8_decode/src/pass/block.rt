@@ -6,6 +6,7 @@ ghost use Rattle.std.specs.Simd.Lanes.{mask_l, zip2};
 ghost use Rattle.cesu8_text.specs.Class.{is_null};
 ghost use Rattle.cesu8_text.specs.Encoding.{Flavor};
 ghost use Rattle.cesu8_bytes.specs.Kernels.{mask};
+ghost use Rattle.cesu8_bytes.specs.Puts.{WritesAt};
 ghost use Rattle.cesu8_bytes.specs.declared.strictness.Strictness.TheVariants.{Strict, Lossy};
 ghost use Rattle.cesu8_decode.specs.Decoding.{most_written};
 ghost use Rattle.cesu8_decode.specs.DecodedOffsets.{decoded, is_ill_formed_at};
@@ -21,6 +22,7 @@ use cesu8_bytes::flavor::{Flavor, nulls};
 use cesu8_bytes::lanes::class::{AtLeast, bits};
 use cesu8_bytes::strictness::Strictness;
 use cesu8_bytes::writing::packing::STORED;
+use cesu8_bytes::writing::put::put_lanes;
 use std::simd::prelude::*;
 
 /// Writes what becomes of the first `count` bytes of a block, which follow `at` bytes of the window
@@ -118,13 +120,11 @@ fn are_ones<F: Flavor>(bytes: u8x32, count: usize) -> bool
 fn copy_block(bytes: u8x32, kinds: u8x32, count: usize, out: &mut [u8], end: usize) -> Block
     requires count { count ≤ BLOCK }
     requires room { end + BLOCK ≤ length out.old }
-    ensures bytes { take result.end out.new ≡ take end out.old ++ take count bytes }
+    ensures copied { WritesAt (take count bytes) end out.old out.new result.end }
     ensures kept { result.is_refused ≡ false }
     ensures kinds { result.kinds ≡ kinds }
-    ensures end { result.end ≡ end + count }
-    ensures len { length out.new ≡ length out.old }
 {
-    bytes.copy_to_slice(&mut out[end..]);
+    put_lanes(bytes, out, end);
     Block {
         end: end + count,
         is_refused: false,

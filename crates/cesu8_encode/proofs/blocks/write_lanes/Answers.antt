@@ -21,13 +21,13 @@ put-requires c =
 
 pub returns : goal.returns
 returns c = record {
-  bytes = λ f window at lanes. c.put.ensures.bytes
+  bytes = λ f window at lanes. c.put.ensures.writes.bytes
       ∙ ap (λ l. take c.args.end c.args.out.now ++ l) (c.store_block-len.ensures.bytes f window at lanes);
   end = omega (
     arith,
     stored_long c.store_block-len.new.out c.args.count c.args.block.now.doubled _ c.requires.count c.store_block-len.ensures.len c.store_block-len.ensures.end,
-    c.put.ensures.end,
+    c.put.ensures.writes.end,
     c.store_block-len.ensures.end,
   );
-  len = c.put.ensures.len;
+  len = c.put.ensures.writes.len;
 }

@@ -1,9 +1,9 @@
 use Rattle.std.proofs.Common.{◌≡◌, ℕ, Bool, true, List, ◌<◌, ◌≤◌, not, length, take, get_or, arith, ◌∙◌, sym, ap, ⊎_elim}
 use Rattle.std.specs.List.{prefix_len}
 use Rattle.std.proofs.lemmas.Bool.{both_ways, cases_lt, not-true}
-use Rattle.std.proofs.lemmas.List.{length-take-le, get_or-take}
+use Rattle.std.proofs.lemmas.List.{take-take, length-take-le, get_or-take}
 use Rattle.std.proofs.lemmas.List.Sums.{prefix_len-le-length, prefix_len_passes, prefix_len_stops}
-use Rattle.cesu8_bytes.proofs.lists.Stored.{run_put}
+use Rattle.cesu8_bytes.proofs.lists.Stored.{first_written}
 use Rattle.cesu8_bytes.proofs.lanes.runs.copy_lanes.Goals as goal
 
 -- No more lanes precede one than there are.
@@ -38,8 +38,10 @@ returns-clause-run g c i before =
     (ap (λ b. not (class b)) (sym (get_or-take g.row.N bytes i 0 within))
     ∙ prefix_len_passes (λ b. not (class b)) (take g.row.N bytes) i 0 (omega (arith, c.lanes_before.ensures)))
 
-pub returns-clause-bytes : goal.returns-clause-bytes
-returns-clause-bytes g c =
+pub returns-clause-copied : goal.returns-clause-copied
+returns-clause-copied g c =
     let bytes = c.args.bytes.now in
-    run_put c.args.at g.row.N c.lanes_before.result _ bytes c.args.out.now c.put_lanes.new.out (omega (arith, c.requires.room)) c.requires.lanes.2
-    (few g.C.Class.class bytes g.row.N c.lanes_before.result c.requires.lanes.2 c.lanes_before.ensures) c.put_lanes.ensures.end c.put_lanes.ensures.bytes
+    let run = c.lanes_before.result in
+    let inside = few g.C.Class.class bytes g.row.N run c.requires.lanes.2 c.lanes_before.ensures in
+    rw (← take-take run g.row.N bytes inside) (first_written run c.args.at _ _ _ _
+    (omega (arith, inside, length-take-le g.row.N bytes c.requires.lanes.2)) (omega (arith, c.requires.room)) c.put_lanes.ensures.writes)

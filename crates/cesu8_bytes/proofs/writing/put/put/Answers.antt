@@ -5,8 +5,6 @@ use Rattle.cesu8_bytes.proofs.writing.put.put.Goals as goal
 
 pub returns : goal.returns
 returns c = record {
-  bytes = grind (arith, common_steps);
-  end = search rules;
+  writes = record { bytes = grind (arith, common_steps); end = search rules; len = search rules };
   behind = drop-put_mid c.args.at _ _ _ _ (omega arith) (omega arith) (omega (arith, ap length c.copy_from_slice.ensures.after));
-  len = search rules;
 }

@@ -5,8 +5,10 @@ use Rattle.cesu8_bytes.proofs.writing.put.put_lanes.Goals as goal
 
 pub returns : goal.returns
 returns g c = record {
-  bytes = take_more_put_chunk c.args.at c.args.out.now c.args.lanes (c.args.at + g.row.N) (omega arith) (omega arith);
-  end = search rules;
+  writes = record {
+    bytes = take_more_put_chunk c.args.at c.args.out.now c.args.lanes (c.args.at + g.row.N) (omega arith) (omega arith);
+    end = search rules;
+    len = search rules;
+  };
   behind = behind_stored c.args.at (c.args.at + g.row.N) c.args.out.now c.args.lanes (omega arith);
-  len = search rules;
 }

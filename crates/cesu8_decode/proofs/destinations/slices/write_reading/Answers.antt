@@ -20,9 +20,8 @@ put-end-requires g c =
 
 pub loop-rest-preserved : goal.loop-rest-preserved
 loop-rest-preserved g c =
-    let put = c.put-end.ensures in
     rw take_rest (chunk_written g.F.Flavor.flavor c.args.bytes.now c.loop-rest.rest.now _ _ _ _ _ _ _ _
-    c.loop-rest.invariant c.write_text-decoded.ensures.first put.bytes put.end put.behind put.len)
+    c.loop-rest.invariant c.write_text-decoded.ensures.first c.put-end.ensures)
 
 pub returns : goal.returns
 returns g c =

@@ -1,7 +1,7 @@
 use Rattle.std.proofs.Common.{arith}
-use Rattle.cesu8_decode.proofs.decoder.KeptBlocks.{copied_first}
+use Rattle.cesu8_bytes.proofs.lists.Stored.{first_written}
 use Rattle.cesu8_decode.proofs.pass.block.copy_block.Goals as goal
 
-pub returns-clause-bytes : goal.returns-clause-bytes
-returns-clause-bytes c =
-    copied_first c.args.end c.args.count c.args.out.now c.args.bytes (omega arith) c.requires.count (omega (arith, c.requires.room))
+pub returns-clause-copied : goal.returns-clause-copied
+returns-clause-copied c =
+    first_written c.args.count c.args.end _ c.args.bytes _ _ (omega arith) (omega (arith, c.requires.room)) c.put_lanes.ensures.writes

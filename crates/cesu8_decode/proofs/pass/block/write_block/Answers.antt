@@ -19,7 +19,7 @@ returns-then-are_ones-clause-bytes g c none =
     let room : c.args.at + 37 ≤ length window = omega (arith, c.requires.window) in
     let ones = ones_stay f window c.args.at c.args.count c.requires.count room _ refl
     (c.are_ones.ensures c.if-are_ones.true) in
-    c.copy_block.ensures.bytes ∙ ap (λ bs. take c.args.end c.args.out.now ++ bs)
+    c.copy_block.ensures.copied.bytes ∙ ap (λ bs. take c.args.end c.args.out.now ++ bs)
     (first_stay f window c.args.at c.args.count c.requires.count room (λ i low inside. one_stays f window i (ones i low inside)))
 
 pub returns-then-are_ones-clause-strict : goal.returns-then-are_ones-clause-strict
@@ -63,7 +63,7 @@ kept g c =
 
 pub returns-then-bits-eq0-clause-bytes : goal.returns-then-bits-eq0-clause-bytes
 returns-then-bits-eq0-clause-bytes g c none =
-    c.copy_block-then-bits-eq0.ensures.bytes ∙ ap (λ bs. take c.args.end c.args.out.now ++ bs)
+    c.copy_block-then-bits-eq0.ensures.copied.bytes ∙ ap (λ bs. take c.args.end c.args.out.now ++ bs)
     (first_stay g.F.Flavor.flavor c.args.window.now c.args.at c.args.count c.requires.count (omega (arith, c.requires.window)) (kept g c))
 
 pub returns-then-bits-eq0-clause-strict : goal.returns-then-bits-eq0-clause-strict

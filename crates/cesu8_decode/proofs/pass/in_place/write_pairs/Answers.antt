@@ -16,7 +16,7 @@ loop-read-preserved c =
     let bytes = c.args.bytes.now in
     let n = c.loop-read.read in
     let inv = c.loop-read.invariant in
-    let put = c.put-end.ensures in
+    let put = c.put-end.ensures.writes in
     let long : 6 ≤ length (drop n bytes) = omega (arith, c.loop-read-test.true, c.min-most.ensures, length-drop n bytes) in
     record {
       inside = (omega (arith, c.loop-read-test.true), omega (arith, inv.inside.1, put.end));

@@ -1,4 +1,4 @@
-use Rattle.std.proofs.Common.{◌+◌, ◌++◌, ◌∙◌, ap, sym, arith, length, take}
+use Rattle.std.proofs.Common.{◌+◌, ap, arith, length}
 use Rattle.std.proofs.lemmas.Simd.{length-chunk}
 use Rattle.cesu8_encode.proofs.middle.CopyUnchangedBlockWriter.write.Goals as goal
 
@@ -13,9 +13,4 @@ put_lanes-requires g c =
 
 pub returns-then-is_unchanged : goal.returns-then-is_unchanged
 returns-then-is_unchanged g c =
-    let same = sym (c.is_unchanged.ensures c.if-is_unchanged.true) in
-    record {
-      bytes = c.put_lanes.ensures.bytes ∙ ap (λ bytes. take c.args.end c.args.out.now ++ bytes) same;
-      end = c.put_lanes.ensures.end ∙ ap (λ bytes. c.args.end + length bytes) same;
-      len = c.put_lanes.ensures.len;
-    }
+    rw (c.is_unchanged.ensures c.if-is_unchanged.true) c.put_lanes.ensures.writes
