@@ -6,7 +6,7 @@ use Rattle.cesu8_bytes.specs.declared.strictness.Strictness.{Strictness}
 use Rattle.cesu8_bytes.specs.declared.strictness.Strictness.TheVariants.{Strict, Lossy}
 use Rattle.cesu8_decode.specs.declared.way.TheConstants.{FEW_BYTES}
 use Rattle.cesu8_decode.specs.declared.pass.whole_blocks.TheConstants.{FOLLOWING, SPARE}
-use Rattle.cesu8_decode.specs.DecodedOffsets.{window_of, decoded, is_ill_formed_at}
+use Rattle.cesu8_decode.specs.DecodedOffsets.{decoded, is_ill_formed_at}
 use Rattle.cesu8_bytes.specs.TextChunks.{IsReadSoFar, IsChunk}
 
 -- Only strict reading refuses ill-formed bytes.
@@ -76,18 +76,16 @@ pub record BuildsReading {Z E : Type 0} (f : Flavor) (bytes : List ℕ) (result 
   pub text : IfOk result (λ text. IsChunk f Lossy bytes [] text.items)
   pub capacity : IfOk result (λ text. vec_capacity text ≡ length text.items)
 
--- The first n bytes are written, or strict reading refuses some byte.
-pub record IsWrittenUpTo (f : Flavor) (which : Strictness) (bytes : List ℕ) (n : ℕ) (text : List ℕ) (is_refused : Bool) : Type 0 where
-  pub decoded_text : is_refused ≡ false → text ≡ decoded f (window_of bytes) 0 n
-  pub well_formed : which ≡ Strict → is_refused ≡ false → (i : ℕ) → i < n → is_ill_formed_at f (window_of bytes) i ≡ false
-  pub refused : is_refused ≡ true → (i : ℕ) × (i < length bytes) × (is_ill_formed_at f (window_of bytes) i ≡ true)
+-- A text ends with what n bytes of a window become, from an offset on, or strict reading refuses one of
+-- them.
+pub record IsDecoded (f : Flavor) (which : Strictness) (window : List ℕ) (at n : ℕ) (before text : List ℕ) (is_refused : Bool) : Type 0 where
+  pub bytes : is_refused ≡ false → text ≡ before ++ decoded f window at n
+  pub refused : is_refused ≡ true → (i : ℕ) × (at ≤ i) × (i < at + n) × (is_ill_formed_at f window i ≡ true)
   pub lossy : which ≡ Lossy → is_refused ≡ false
+  pub strict : which ≡ Strict → is_refused ≡ false → (i : ℕ) → at ≤ i → i < at + n → is_ill_formed_at f window i ≡ false
 
--- What becomes of the first n bytes of a window is written behind an end, or strict reading refuses
--- some byte.
-pub record WritesWindow (f : Flavor) (which : Strictness) (window : List ℕ) (n : ℕ) (old : List ℕ) (end : ℕ) (new : List ℕ) (new_end : ℕ) (is_refused : Bool) : Type 0 where
-  pub bytes : is_refused ≡ false → take new_end new ≡ take end old ++ decoded f window 0 n
-  pub refused : is_refused ≡ true → (i : ℕ) × (i < n) × (is_ill_formed_at f window i ≡ true)
-  pub lossy : which ≡ Lossy → is_refused ≡ false
-  pub strict : which ≡ Strict → is_refused ≡ false → (i : ℕ) → i < n → is_ill_formed_at f window i ≡ false
+-- It is written behind what stands before an offset.
+pub record WritesDecoded (f : Flavor) (which : Strictness) (window : List ℕ) (at n start : ℕ) (old new : List ℕ) (new_end : ℕ) (is_refused : Bool) : Type 0 where
+  pub text : IsDecoded f which window at n (take start old) (take new_end new) is_refused
+  pub end : new_end ≤ start + most_written which n
   pub len : length new ≡ length old

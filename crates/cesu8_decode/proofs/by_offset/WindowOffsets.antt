@@ -9,7 +9,7 @@ abbrev pub Agree : (a b : List ℕ) (i j n : ℕ) → Type 0
 Agree a b i j n = (k : ℕ) → k < n → get_or a (i + k) 0 ≡ get_or b (j + k) 0
 
 -- So they have from later offsets on.
-agree_later : (a b : List ℕ) (i j n s m : ℕ) → s + m ≤ n → Agree a b i j n → Agree a b (i + s) (j + s) m
+pub agree_later : (a b : List ℕ) (i j n s m : ℕ) → s + m ≤ n → Agree a b i j n → Agree a b (i + s) (j + s) m
 agree_later a b i j n s m fits agree k small =
     let here : i + s + k ≡ i + (s + k) = omega arith in
     let there : j + s + k ≡ j + (s + k) = omega arith in

@@ -1,23 +1,24 @@
 -- Blocks that are read where they stand.
 use Rattle.std.proofs.lemmas.Bool.Decides.{nat_tests}
 use Rattle.std.proofs.lemmas.Grind.{common_steps}
-use Rattle.std.proofs.Common.{◌≡◌, ℕ, zero, suc, ◌+◌, ◌-◌, ◌<◌, ◌≤◌, ⊎_elim, Bool, true, false, true≢false, List, [], ◌++◌, refl, sym, ap, ◌∙◌, arith, map, get_or, length, take, drop, replicate, zero-add, add-zero}
+use Rattle.std.proofs.Common.{◌≡◌, ℕ, zero, suc, ◌+◌, ◌-◌, ◌<◌, ◌≤◌, ⊎_elim, Bool, true, false, true≢false, List, [], ◌++◌, refl, sym, ap, ◌∙◌, arith, map, get_or, length, take, drop, replicate, zero-add, add-zero, append-nil}
 use Rattle.std.specs.List.{range_with_len}
-use Rattle.std.proofs.lemmas.List.{length-append, length-take-le, get_or-take, get_or-drop, drop-take}
+use Rattle.std.proofs.lemmas.List.{length-append, get_or-take, get_or-drop, drop-take}
 use Rattle.std.proofs.Math.Seq.{take-length}
-use Rattle.std.proofs.lemmas.Bool.{cases_lt}
+use Rattle.std.proofs.lemmas.Bool.{false≢true, cases_lt}
 use Rattle.cesu8_text.specs.Encoding.{Flavor}
 use Rattle.cesu8_bytes.specs.Packing.{written_for}
 use Rattle.cesu8_bytes.specs.declared.strictness.Strictness.{Strictness}
 use Rattle.cesu8_bytes.specs.declared.strictness.Strictness.TheVariants.{Strict, Lossy}
+use Rattle.cesu8_bytes.specs.Puts.{WritesAt}
 use Rattle.cesu8_bytes.specs.TextChunks.{IsChunk}
 use Rattle.cesu8_bytes.proofs.vectors.Loads.{padded}
 use Rattle.cesu8_decode.specs.DecodedOffsets.{window_of, is_ill_formed_at, is_boundary_at, decoded_byte, decoded_at, decoded}
 use Rattle.cesu8_decode.specs.DecodedLanes.{start_kind_by, start_kind, AreFiveKinds, goes_at, byte_at}
-use Rattle.cesu8_decode.specs.Decoding.{IsWrittenUpTo, ReadsFirst, most_written}
-use Rattle.cesu8_decode.proofs.by_offset.WindowOffsets.{Agree, follows_zeros, boundary_agrees, ill_formed_agrees, decoded_agrees, decoded_split}
+use Rattle.cesu8_decode.specs.Decoding.{IsDecoded, WritesDecoded, ReadsFirst, most_written}
+use Rattle.cesu8_decode.proofs.by_offset.WindowOffsets.{Agree, agree_later, follows_zeros, boundary_agrees, ill_formed_agrees, decoded_agrees}
 use Rattle.cesu8_decode.proofs.chunks.DecodedChunks.{IsPaddedFor, padded_for, fault_at, lossy_chunk, strict_chunk}
-use Rattle.cesu8_decode.proofs.decoder.DecodedWindows.{five_kinds, kinds_of_zeros}
+use Rattle.cesu8_decode.proofs.decoder.DecodedWindows.{five_kinds, kinds_of_zeros, more_written}
 use Rattle.cesu8_decode.proofs.by_offset.CharacterBoundaries.{boundary_of_zeros, boundary_at_end, boundary_near}
 
 -- ---- lengths
@@ -53,36 +54,11 @@ no_longer f Lossy window at (suc n) fine =
       length-append (decoded_at f window at) (decoded f window (at + 1) n),
     )
 
--- More bytes become as many more.
-pub most_adds : (which : Strictness) (a b : ℕ) → most_written which a + most_written which b ≡ most_written which (a + b)
-most_adds Strict a b = refl
-most_adds Lossy a b = omega arith
-
 pub most_is_more : (which : Strictness) (n : ℕ) → n ≤ most_written which n
 most_is_more Strict n = omega arith
 most_is_more Lossy n = omega arith
 
--- So the end of what is written for them is no further on.
-pub ends_within : (f : Flavor) (which : Strictness) (window old new : List ℕ) (at n end behind : ℕ) →
-    (which ≡ Strict → (i : ℕ) → at ≤ i → i < at + n → is_ill_formed_at f window i ≡ false) →
-    take behind new ≡ take end old ++ decoded f window at n → end ≤ length old → behind ≤ length new → behind ≤ end + most_written which n
-ends_within f which window old new at n end behind fine written fits inside =
-    omega (
-      arith,
-      ap length written,
-      length-take-le behind new inside,
-      length-take-le end old fits,
-      length-append (take end old) (decoded f window at n),
-      no_longer f which window at n fine,
-    )
-
 -- ---- windows that agree
-
-agree_from : (a b : List ℕ) (i j n s m : ℕ) → s + m ≤ n → Agree a b i j n → Agree a b (i + s) (j + s) m
-agree_from a b i j n s m fits agree k small =
-    let here : i + s + k ≡ i + (s + k) = omega arith in
-    let there : j + s + k ≡ j + (s + k) = omega arith in
-    ap (λ p. get_or a p 0) here ∙ agree (s + k) (omega arith) ∙ ap (λ p. get_or b p 0) (sym there)
 
 agree_at : (a b : List ℕ) (j n s m : ℕ) → s + m ≤ n → Agree a b 0 j n → Agree a b s (j + s) m
 agree_at a b j n s m fits agree k small =
@@ -102,13 +78,13 @@ kind_agrees f a b i j agree =
 -- So the kinds of five offsets are those of a window that has ten bytes in common.
 pub kinds_agree : (f : Flavor) (a b : List ℕ) (i j : ℕ) (kinds : List ℕ) (p : ℕ) → Agree a b i j 10 → AreFiveKinds f b j kinds p → AreFiveKinds f a i kinds p
 kinds_agree f a b i j kinds p agree told k small =
-    told k small ∙ sym (kind_agrees f a b (i + k) (j + k) (agree_from a b i j 10 k 6 (omega arith) agree))
+    told k small ∙ sym (kind_agrees f a b (i + k) (j + k) (agree_later a b i j 10 k 6 (omega arith) agree))
 
 -- The last kinds of a block are those before the next one.
 pub kinds_behind : (f : Flavor) (a b : List ℕ) (i j : ℕ) (kinds : List ℕ) → Agree a b i j 42 →
     kinds ≡ map (start_kind f a) (range_with_len (i + 5) 32) → AreFiveKinds f b (j + 32) kinds 27
 kinds_behind f a b i j kinds agree are =
-    kinds_agree f b a (j + 32) (i + 32) kinds 27 (turned a b (i + 32) (j + 32) 10 (agree_from a b i j 42 32 10 (omega arith) agree))
+    kinds_agree f b a (j + 32) (i + 32) kinds 27 (turned a b (i + 32) (j + 32) 10 (agree_later a b i j 42 32 10 (omega arith) agree))
     (five_kinds f a kinds (i + 5) 27 (i + 32) are (omega arith) (omega arith))
 
 -- Behind five bytes, they stand in their window.
@@ -119,45 +95,89 @@ stands_in_window bytes at n some k small =
 
 -- ---- what is written
 
--- A block adds what its bytes become.
-pub block_added : (f : Flavor) (which : Strictness) (bytes window : List ℕ) (p at n : ℕ) (old text : List ℕ) (is_refused : Bool) →
-    IsWrittenUpTo f which bytes at old false → Agree window (window_of bytes) p at (n + 10) → at + n ≤ length bytes →
-    (is_refused ≡ false → text ≡ old ++ decoded f window p n) →
-    (is_refused ≡ true → (i : ℕ) × (p ≤ i) × (i < p + n) × (is_ill_formed_at f window i ≡ true)) →
-    (which ≡ Lossy → is_refused ≡ false) →
-    (which ≡ Strict → is_refused ≡ false → (i : ℕ) → p ≤ i → i < p + n → is_ill_formed_at f window i ≡ false) →
-    IsWrittenUpTo f which bytes (at + n) text is_refused
-block_added f which bytes window p at n old text is_refused before agree inside added refused lossy fine = record {
-  decoded_text = λ none.
-      added none
-      ∙ (λ k. before.decoded_text refl k ++ decoded_agrees f window (window_of bytes) p at n agree k)
-      ∙ ap (λ i. decoded f (window_of bytes) 0 at ++ decoded f (window_of bytes) i n) (sym (zero-add at))
-      ∙ sym (decoded_split f (window_of bytes) 0 at n);
-  well_formed = λ strict none i small. by_cases strict i small none;
+-- Nothing is written for no bytes.
+pub none_decoded : (f : Flavor) (which : Strictness) (window before : List ℕ) → IsDecoded f which window 0 0 before before false
+unfolding decoded
+none_decoded f which window before = record {
+  bytes = λ none. sym (append-nil before);
+  refused = λ some. absurd (false≢true some);
+  lossy = λ lossy. refl;
+  strict = λ strict none i low inside. absurd (omega arith);
+}
+
+-- What more bytes become adds to what the first ones do.
+pub more_decoded : (f : Flavor) (which : Strictness) (window before old text : List ℕ) (at n : ℕ) (is_refused : Bool) →
+    IsDecoded f which window 0 at before old false → IsDecoded f which window at n old text is_refused →
+    IsDecoded f which window 0 (at + n) before text is_refused
+more_decoded f which window before old text at n is_refused first next = record {
+  bytes = λ none. more_written f window before old text at n (first.bytes refl) (next.bytes none);
+  refused = λ some. let found = next.refused some in (found.0, omega arith, omega (arith, found.2), found.3);
+  lossy = next.lossy;
+  strict = λ strict none i low inside.
+      ⊎_elim (λ (early : i < at). first.strict strict refl i low (omega arith))
+      (λ (late : at ≤ i). next.strict strict none i late (omega arith)) (cases_lt i at);
+}
+
+-- It rests on ten bytes more.
+pub decoded_in : (f : Flavor) (which : Strictness) (a b before text : List ℕ) (i j n : ℕ) (is_refused : Bool) → Agree a b i j (n + 10) →
+    IsDecoded f which a i n before text is_refused → IsDecoded f which b j n before text is_refused
+decoded_in f which a b before text i j n is_refused agree is = record {
+  bytes = λ none. is.bytes none ∙ ap (λ bs. before ++ bs) (decoded_agrees f a b i j n agree);
   refused = λ some.
-      let found = refused some in
-      let i = found.0 in
-      let here : p + (i - p) ≡ i = omega (arith, found.1) in (
-        at + (i - p),
+      let found = is.refused some in
+      let here : i + (found.0 - i) ≡ found.0 = omega (arith, found.1) in (
+        j + (found.0 - i),
+        omega arith,
         omega (arith, found.1, found.2),
-        sym (same (i - p) (omega (arith, found.1, found.2))) ∙ ap (is_ill_formed_at f window) here ∙ found.3,
+        sym (same (found.0 - i) (omega (arith, found.1, found.2))) ∙ ap (is_ill_formed_at f a) here ∙ found.3,
       );
-  lossy = lossy;
+  lossy = is.lossy;
+  strict = λ strict none k low inside.
+      let there : j + (k - j) ≡ k = omega arith in
+      sym (ap (is_ill_formed_at f b) there) ∙ sym (same (k - j) (omega arith)) ∙ is.strict strict none (i + (k - j)) (omega arith) (omega arith);
 }
   where
-    same : (s : ℕ) → s < n → is_ill_formed_at f window (p + s) ≡ is_ill_formed_at f (window_of bytes) (at + s)
-    same s small = ill_formed_agrees f window (window_of bytes) (p + s) (at + s) (agree_from window (window_of bytes) p at (n + 10) s 11 (omega arith) agree)
+    same : (s : ℕ) → s < n → is_ill_formed_at f a (i + s) ≡ is_ill_formed_at f b (j + s)
+    same s small = ill_formed_agrees f a b (i + s) (j + s) (agree_later a b i j (n + 10) s 11 (omega arith) agree)
 
-    by_cases : which ≡ Strict → (i : ℕ) → i < at + n → is_refused ≡ false → is_ill_formed_at f (window_of bytes) i ≡ false
-    by_cases strict i small none =
-        ⊎_elim (λ (early : i < at). before.well_formed strict refl i early)
-        (λ (late : at ≤ i).
-        let there : at + (i - at) ≡ i = omega arith in
-        sym (ap (is_ill_formed_at f (window_of bytes)) there) ∙ sym (same (i - at) (omega arith))
-        ∙ fine strict none (p + (i - at)) (omega arith) (omega arith))
-        (cases_lt i at)
+-- A block adds what its bytes become.
+pub block_added : (f : Flavor) (which : Strictness) (bytes window : List ℕ) (p at n : ℕ) (old text : List ℕ) (is_refused : Bool) →
+    IsDecoded f which (window_of bytes) 0 at [] old false → Agree window (window_of bytes) p at (n + 10) →
+    IsDecoded f which window p n old text is_refused → IsDecoded f which (window_of bytes) 0 (at + n) [] text is_refused
+block_added f which bytes window p at n old text is_refused before agree block =
+    more_decoded f which (window_of bytes) [] old text at n is_refused before
+    (decoded_in f which window (window_of bytes) old text p at n is_refused agree block)
 
--- Nothing begins in the zeros before the first block,
+-- What the bytes become is written where none of them is refused,
+pub writes_decoded : (f : Flavor) (which : Strictness) (window bytes old new : List ℕ) (at n end new_end : ℕ) (is_refused : Bool) →
+    bytes ≡ decoded f window at n → (which ≡ Strict → (i : ℕ) → at ≤ i → i < at + n → is_ill_formed_at f window i ≡ false) →
+    is_refused ≡ false → WritesAt bytes end old new new_end → WritesDecoded f which window at n end old new new_end is_refused
+writes_decoded f which window bytes old new at n end new_end is_refused is fine none writes = record {
+  text = record {
+    bytes = λ _. writes.bytes ∙ ap (λ bs. take end old ++ bs) is;
+    refused = λ some. absurd (false≢true (sym none ∙ some));
+    lossy = λ lossy. none;
+    strict = λ strict _. fine strict;
+  };
+  end = omega (arith, writes.end, ap length is, no_longer f which window at n fine);
+  len = writes.len;
+}
+
+-- and nothing where strict reading refuses one.
+pub writes_none : (f : Flavor) (which : Strictness) (window old : List ℕ) (at n end : ℕ) → which ≡ Strict →
+    (i : ℕ) × (at ≤ i) × (i < at + n) × (is_ill_formed_at f window i ≡ true) → WritesDecoded f which window at n end old old end true
+writes_none f which window old at n end strict found = record {
+  text = record {
+    bytes = λ none. absurd (true≢false none);
+    refused = λ _. found;
+    lossy = λ lossy. absurd (cc);
+    strict = λ _ none. absurd (true≢false none);
+  };
+  end = omega arith;
+  len = refl;
+}
+
+-- Nothing begins in the zeros before the first block.
 pub first_kinds : (f : Flavor) (bytes : List ℕ) → AreFiveKinds f (window_of bytes) 0 (replicate 32 0) 27
 first_kinds f bytes = kinds_of_zeros f (window_of bytes) (replicate 32 0) refl zeros
   where
@@ -168,11 +188,6 @@ first_kinds f bytes = kinds_of_zeros f (window_of bytes) (replicate 32 0) refl z
     zeros (suc (suc (suc zero))) small = refl
     zeros (suc (suc (suc (suc zero)))) small = refl
     zeros (suc (suc (suc (suc (suc k))))) small = absurd (omega arith)
-
--- and nothing is written.
-pub none_written : (f : Flavor) (which : Strictness) (bytes text : List ℕ) → text ≡ [] → IsWrittenUpTo f which bytes 0 text false
-unfolding decoded
-none_written f which bytes text empty = grind arith
 
 -- ---- bytes that are copied to zeros
 
@@ -242,31 +257,31 @@ copied_behind bytes copied rest at n some is zeros k =
 -- ---- what was read
 
 -- The first n bytes are a chunk of text up to a boundary, unless strict reading refuses one.
-pub read_in_place : (f : Flavor) (which : Strictness) (bytes : List ℕ) (n read : ℕ) (text : List ℕ) → IsWrittenUpTo f which bytes n text false →
+pub read_in_place : (f : Flavor) (which : Strictness) (bytes : List ℕ) (n read : ℕ) (text : List ℕ) → IsDecoded f which (window_of bytes) 0 n [] text false →
     (0 < length bytes → 0 < n) → n ≤ length bytes → is_boundary_at f (window_of bytes) n ≡ true → read ≡ n → ReadsFirst f which bytes read text false
 read_in_place f which bytes n read text written some inside boundary read_is = record {
   some = λ more. omega (arith, some more);
   within = omega arith;
-  chunk = λ _. rw (read_is, written.decoded_text refl) (chunk which written);
+  chunk = λ _. rw (read_is, written.bytes refl) (chunk which written);
   ill_formed = λ ill_formed. absurd (true≢false (sym ill_formed));
 }
   where
     padded : IsPaddedFor n bytes (window_of bytes)
     padded = padded_for bytes (window_of bytes) n (λ k. refl)
 
-    chunk : (w : Strictness) → IsWrittenUpTo f w bytes n text false → IsChunk f w bytes (drop n bytes) (decoded f (window_of bytes) 0 n)
-    chunk Strict written = strict_chunk f bytes (window_of bytes) n padded inside boundary Strict (written.well_formed refl refl)
+    chunk : (w : Strictness) → IsDecoded f w (window_of bytes) 0 n [] text false → IsChunk f w bytes (drop n bytes) (decoded f (window_of bytes) 0 n)
+    chunk Strict written = strict_chunk f bytes (window_of bytes) n padded inside boundary Strict (λ i small. written.strict refl refl i (omega arith) (omega arith))
     chunk Lossy written = lossy_chunk f bytes (window_of bytes) n padded inside boundary
 
 -- Where it does, they have a fault.
 pub refused_in_place : (f : Flavor) (which : Strictness) (bytes : List ℕ) (n read : ℕ) (text written : List ℕ) (is_ill_formed : Bool) →
-    IsWrittenUpTo f which bytes n written true → read ≡ length bytes → is_ill_formed ≡ true → ReadsFirst f which bytes read text is_ill_formed
-refused_in_place f Strict bytes n read text written is_ill_formed is read_is some = record {
+    IsDecoded f which (window_of bytes) 0 n [] written true → n ≤ length bytes → read ≡ length bytes → is_ill_formed ≡ true → ReadsFirst f which bytes read text is_ill_formed
+refused_in_place f Strict bytes n read text written is_ill_formed is inside read_is some = record {
   some = λ more. omega arith;
   within = omega arith;
   chunk = λ none. absurd (true≢false (sym some ∙ none));
   ill_formed = λ _.
       let found = is.refused refl in
-      fault_at f bytes (window_of bytes) (length bytes) (padded_for bytes (window_of bytes) (length bytes) (λ k. refl)) (omega arith) found.0 found.1 found.2;
+      fault_at f bytes (window_of bytes) (length bytes) (padded_for bytes (window_of bytes) (length bytes) (λ k. refl)) (omega arith) found.0 (omega (arith, found.2)) found.3;
 }
-refused_in_place f Lossy bytes n read text written is_ill_formed is read_is some = absurd (true≢false (is.lossy refl))
+refused_in_place f Lossy bytes n read text written is_ill_formed is inside read_is some = absurd (true≢false (is.lossy refl))

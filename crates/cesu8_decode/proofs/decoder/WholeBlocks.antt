@@ -1,10 +1,9 @@
 -- What 32 bytes become of which none is ill-formed.
-use Rattle.std.proofs.Common.{◌≡◌, ℕ, ◌+◌, ◌*◌, ◌≤◌, Bool, true, false, cond, List, [], ◌∷◌, map, length, take, replicate, refl, sym, ap, ◌∙◌, arith}
-use Rattle.std.proofs.lemmas.List.{length-append, length-map, length-take, length-take-le}
+use Rattle.std.proofs.Common.{◌≡◌, ℕ, ◌+◌, ◌*◌, Bool, true, false, cond, List, [], ◌∷◌, map, length, take, replicate, refl, sym, ap, ◌∙◌, arith}
+use Rattle.std.proofs.lemmas.List.{length-map}
 use Rattle.std.proofs.Math.Seq.{take-length}
 use lib.Lanes.{mask_l}
 use Rattle.cesu8_bytes.specs.Packing.{written}
-use Rattle.cesu8_bytes.specs.Puts.{WritesAt}
 use Rattle.cesu8_decode.specs.DecodedLanes.{is_high, written_lanes}
 
 unset : (t : Bool) (m : ℕ) → cond t 1 0 + 2 * m ≡ 0 → (t ≡ false) × (m ≡ 0)
@@ -37,8 +36,3 @@ nothing_changes (g ∷ gone) (d ∷ ill_formed) (b ∷ bytes) e f none whole =
     let stays = unset (is_high g) (mask_l (map is_high gone)) none in
     let unharmed = unset (is_high d) (mask_l (map is_high ill_formed)) whole in
     rw (stays.0, unharmed.0) (ap (λ l. b ∷ l) (nothing_changes gone ill_formed bytes (omega arith) (omega arith) stays.1 unharmed.1))
-
--- Bytes that are written end within the slice.
-pub end_inside : (bytes old new : List ℕ) (at n : ℕ) → at ≤ length old → WritesAt bytes at old new n → n ≤ length new
-end_inside bytes old new at n fits w =
-    omega (arith, ap length w.bytes, w.end, length-take n new, length-take-le at old fits, length-append (take at old) bytes)

@@ -1,15 +1,13 @@
 //! Writes what becomes of 32 bytes, a block.
 
-ghost use Rattle.std.specs.Prelude.{◌≡◌, ℕ, List, ◌+◌, ◌-◌, ◌<◌, ◌≤◌, ◌++◌, IsTrue, true, false, length, take, map, bit_or};
+ghost use Rattle.std.specs.Prelude.{◌≡◌, ℕ, List, ◌+◌, ◌-◌, ◌≤◌, IsTrue, false, length, take, map, bit_or};
 ghost use Rattle.std.specs.List.{range_with_len};
 ghost use Rattle.std.specs.Simd.Lanes.{mask_l, zip2};
 ghost use Rattle.cesu8_text.specs.Class.{is_null};
 ghost use Rattle.cesu8_text.specs.Encoding.{Flavor};
 ghost use Rattle.cesu8_bytes.specs.Kernels.{mask};
 ghost use Rattle.cesu8_bytes.specs.Puts.{WritesAt};
-ghost use Rattle.cesu8_bytes.specs.declared.strictness.Strictness.TheVariants.{Strict, Lossy};
-ghost use Rattle.cesu8_decode.specs.Decoding.{most_written};
-ghost use Rattle.cesu8_decode.specs.DecodedOffsets.{decoded, is_ill_formed_at};
+ghost use Rattle.cesu8_decode.specs.Decoding.{WritesDecoded, most_written};
 ghost use Rattle.cesu8_decode.specs.DecodedLanes.{start_kind, AreFiveKinds, AreKindsNear, NoneBeginsChanged, is_high};
 
 use super::reading::{Block, Reading};
@@ -43,17 +41,10 @@ pub fn write_block<F: Flavor, S: Reading>(
     requires window { at + BEHIND + REACH ≤ length window.now }
     requires before { AreFiveKinds F.flavor window.now at before (BLOCK - BEHIND) }
     requires room { end + most_written S.which BLOCK + STORED ≤ length out.old }
-    ensures bytes { result.is_refused ≡ false → take result.end out.new
-        ≡ take end out.old ++ decoded F.flavor window.now at count }
-    ensures refused { result.is_refused ≡ true → (i : ℕ) × (at ≤ i) × (i < at + count)
-        × (is_ill_formed_at F.flavor window.now i ≡ true) }
-    ensures lossy { S.which ≡ Lossy → result.is_refused ≡ false }
-    ensures strict { S.which ≡ Strict → result.is_refused ≡ false
-        → (i : ℕ) → at ≤ i → i < at + count → is_ill_formed_at F.flavor window.now i ≡ false }
+    ensures written { WritesDecoded F.flavor S.which window.now at count
+        end out.old out.new result.end result.is_refused }
     ensures kinds { count ≡ BLOCK → result.kinds
         ≡ map (start_kind F.flavor window.now) (range_with_len (at + BEHIND) BLOCK) }
-    ensures end { result.end ≤ end + most_written S.which count }
-    ensures len { length out.new ≡ length out.old }
 {
     let bytes = u8x32::from_slice(&window[at + BEHIND..]);
     if are_ones::<F>(bytes, count) {

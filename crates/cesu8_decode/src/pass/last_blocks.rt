@@ -1,8 +1,8 @@
 //! The last blocks of some bytes, or all if they are few. They are read from an array.
 
-ghost use Rattle.std.specs.Prelude.{◌≡◌, ◌+◌, ◌-◌, ◌*◌, ◌/◌, ◌<◌, ◌≤◌, ℕ, true, false, length, take, slice_index};
+ghost use Rattle.std.specs.Prelude.{◌≡◌, ◌+◌, ◌-◌, ◌*◌, ◌/◌, ◌<◌, ◌≤◌, ℕ, [], true, false, length, take, slice_index};
 ghost use Rattle.cesu8_bytes.specs.declared.strictness.Strictness.TheVariants.{Strict, Lossy};
-ghost use Rattle.cesu8_decode.specs.Decoding.{ReadsFirst, IsWrittenUpTo, WritesWindow, HasRoomBehind, most_written};
+ghost use Rattle.cesu8_decode.specs.Decoding.{ReadsFirst, IsDecoded, WritesDecoded, HasRoomBehind};
 ghost use Rattle.cesu8_decode.specs.DecodedOffsets.{window_of, is_boundary_at};
 ghost use Rattle.cesu8_decode.specs.DecodedLanes.{AreFiveKinds};
 
@@ -40,8 +40,8 @@ pub fn write_last<F: Flavor, S: Reading>(
         × (most ≤ length bytes.now) }
     requires before { whole.read < BEFORE → whole.read ≡ 0 }
     requires following { most < length bytes.now → whole.read + FOLLOWING ≤ most }
-    requires text { IsWrittenUpTo F.flavor S.which bytes.now whole.read
-        (take whole.last.end out.old) false }
+    requires text { IsDecoded F.flavor S.which (window_of bytes.now) 0 whole.read
+        [] (take whole.last.end out.old) false }
     requires kinds { AreFiveKinds F.flavor (window_of bytes.now) whole.read
         whole.last.kinds (BLOCK - BEHIND) }
     requires strict { S.which ≡ Strict
@@ -106,9 +106,9 @@ fn write_last_blocks<F: Flavor, S: Reading>(
     requires count { count ≤ FEW_BYTES }
     requires strict { S.which ≡ Strict → end + count ≤ length out.old }
     requires lossy { S.which ≡ Lossy → HasRoomBehind Lossy count end (length out.old) }
-    ensures text { WritesWindow F.flavor S.which window.now count
-        out.old end out.new result.end result.is_refused }
-    ensures end { result.end ≤ length out.new }
+    ensures written { WritesDecoded F.flavor S.which window.now 0 count
+        end out.old out.new result.end result.is_refused }
+    ensures inside { result.end ≤ length out.new }
 {
     if let Strictness::Lossy = S::strictness() {
         return write_loaded::<F, S>(window, before, count, out, end);
@@ -137,9 +137,8 @@ fn write_loaded<F: Flavor, S: Reading>(
     requires window { BLOCK * ((count + BLOCK - 1) / BLOCK) + 2 * BEHIND ≤ length window.now }
     requires before { AreFiveKinds F.flavor window.now 0 before (BLOCK - BEHIND) }
     requires room { HasRoomBehind S.which count end (length out.old) }
-    ensures text { WritesWindow F.flavor S.which window.now count
-        out.old end out.new result.end result.is_refused }
-    ensures end { result.end ≤ end + most_written S.which count }
+    ensures { WritesDecoded F.flavor S.which window.now 0 count
+        end out.old out.new result.end result.is_refused }
 {
     let mut at = 0;
     let mut block = Block {

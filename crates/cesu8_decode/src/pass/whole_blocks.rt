@@ -1,8 +1,8 @@
 //! The blocks that are read where they stand and written where they go.
 
-ghost use Rattle.std.specs.Prelude.{◌≡◌, ◌+◌, ◌-◌, ◌*◌, ◌<◌, ◌≤◌, IsTrue, false, length, take};
+ghost use Rattle.std.specs.Prelude.{◌≡◌, ◌+◌, ◌-◌, ◌*◌, ◌<◌, ◌≤◌, IsTrue, false, length};
 ghost use Rattle.cesu8_bytes.specs.declared.strictness.Strictness.TheVariants.{Strict, Lossy};
-ghost use Rattle.cesu8_decode.specs.Decoding.{IsWrittenUpTo, most_written};
+ghost use Rattle.cesu8_decode.specs.Decoding.{WritesDecoded, most_written};
 ghost use Rattle.cesu8_decode.specs.DecodedOffsets.{window_of};
 ghost use Rattle.cesu8_decode.specs.DecodedLanes.{AreFiveKinds};
 
@@ -76,17 +76,15 @@ pub fn write_whole<F: Flavor, S: Reading>(
     requires room { 0 < count → BLOCK * count + FOLLOWING ≤ length out.old }
     requires strict { S.which ≡ Strict → limit ≡ length out.old }
     requires lossy { S.which ≡ Lossy → limit + SPARE ≡ length out.old }
-    ensures text { IsWrittenUpTo F.flavor S.which bytes.now result.read
-        (take result.last.end out.new) result.last.is_refused }
+    ensures written { WritesDecoded F.flavor S.which (window_of bytes.now) 0 result.read
+        0 out.old out.new result.last.end result.last.is_refused }
     ensures kinds { result.last.is_refused ≡ false
         → AreFiveKinds F.flavor (window_of bytes.now) result.read
         result.last.kinds (BLOCK - BEHIND) }
     ensures within { (result.read ≤ BLOCK * count) × (result.read < BEFORE → result.read ≡ 0) }
     ensures all { result.last.is_refused ≡ false → result.last.end ≤ limit
         → result.read ≡ BLOCK * count }
-    ensures end { result.last.end ≤ most_written S.which result.read }
     ensures beyond { S.which ≡ Lossy → result.last.end ≤ limit + WIDEST * BLOCK }
-    ensures len { length out.new ≡ length out.old }
 {
     if count == 0 {
         return Whole {
@@ -134,12 +132,10 @@ fn is_within<S: Reading>(end: usize, limit: usize) -> bool
 fn write_first<F: Flavor, S: Reading>(bytes: &[u8], out: &mut [u8]) -> Block
     requires bytes { REACH ≤ length bytes.now }
     requires room { most_written S.which BLOCK + STORED ≤ length out.old }
-    ensures text { IsWrittenUpTo F.flavor S.which bytes.now BLOCK
-        (take result.end out.new) result.is_refused }
+    ensures written { WritesDecoded F.flavor S.which (window_of bytes.now) 0 BLOCK
+        0 out.old out.new result.end result.is_refused }
     ensures kinds { AreFiveKinds F.flavor (window_of bytes.now) BLOCK
         result.kinds (BLOCK - BEHIND) }
-    ensures end { result.end ≤ most_written S.which BLOCK }
-    ensures len { length out.new ≡ length out.old }
 {
     let mut window = [0; FIRST];
     load(bytes, 0, REACH, &mut window);

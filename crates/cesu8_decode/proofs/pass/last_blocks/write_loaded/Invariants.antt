@@ -1,5 +1,5 @@
-use Rattle.std.proofs.Common.{◌≡◌, ◌+◌, ◌-◌, ◌*◌, ◌<◌, ◌≤◌, ℕ}
-use Rattle.cesu8_decode.specs.Decoding.{WritesWindow, most_written}
+use Rattle.std.proofs.Common.{◌≡◌, ◌-◌, ◌*◌, ◌<◌, ◌≤◌, ℕ}
+use Rattle.cesu8_decode.specs.Decoding.{WritesDecoded}
 use Rattle.cesu8_decode.specs.DecodedLanes.{AreFiveKinds}
 use Rattle.cesu8_decode.proofs.pass.last_blocks.write_loaded.Given as goal
 
@@ -11,6 +11,5 @@ invariant-loop-at g l = record {
   within : l.at ≤ l.fn.count;
   whole : l.at < l.fn.count → (k : ℕ) × (l.at ≡ 32 * k);
   before : l.at < l.fn.count → AreFiveKinds g.F.Flavor.flavor l.fn.window l.at l.block.kinds 27;
-  text : WritesWindow g.F.Flavor.flavor g.S.Reading.which l.fn.window l.at l.initial.out l.fn.end l.out l.block.end l.block.is_refused;
-  end : l.block.end ≤ l.fn.end + most_written g.S.Reading.which l.at;
+  written : WritesDecoded g.F.Flavor.flavor g.S.Reading.which l.fn.window 0 l.at l.fn.end l.initial.out l.out l.block.end l.block.is_refused;
 }

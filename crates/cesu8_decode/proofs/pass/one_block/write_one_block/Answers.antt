@@ -1,11 +1,10 @@
-use Rattle.std.proofs.Common.{◌≡◌, ◌+◌, [], false, refl, ap, ◌∙◌, subst, take, length, replicate, get_or, arith}
-use Rattle.std.proofs.lemmas.Bool.{false≢true}
+use Rattle.std.proofs.Common.{◌+◌, [], refl, ap, ◌∙◌, subst, take, length, replicate, get_or, arith}
 use Rattle.cesu8_bytes.specs.declared.strictness.Strictness.TheVariants.{Lossy}
 use Rattle.cesu8_decode.specs.DecodedOffsets.{window_of}
 use Rattle.cesu8_decode.proofs.by_offset.WindowOffsets.{follows_zeros}
 use Rattle.cesu8_decode.proofs.by_offset.CharacterBoundaries.{boundary_of_zeros, boundary_at_end}
-use Rattle.cesu8_decode.specs.Decoding.{IsWrittenUpTo}
-use Rattle.cesu8_decode.proofs.decoder.BlocksInPlace.{around_agrees, first_kinds, kinds_agree, none_written, block_added, read_in_place}
+use Rattle.cesu8_decode.specs.Decoding.{IsDecoded}
+use Rattle.cesu8_decode.proofs.decoder.BlocksInPlace.{around_agrees, first_kinds, kinds_agree, decoded_in, read_in_place}
 use Rattle.cesu8_decode.proofs.pass.one_block.write_one_block.Goals as goal
 
 pub write_block-block-requires-clause-before : goal.write_block-block-requires-clause-before
@@ -20,17 +19,15 @@ pub returns-clause-read : goal.returns-clause-read
 returns-clause-read g c =
     let f = g.F.Flavor.flavor in
     let bytes = c.args.bytes.now in
-    let block = c.write_block-block.ensures in
-    let none = block.lossy refl in
-    let here : 0 + length bytes ≡ length bytes = omega arith in
+    let block = c.write_block-block.ensures.written.text in
     let text = take c.write_block-block.result.end c.write_block-block.new.out in
     record {
       first =
           read_in_place f Lossy bytes (length bytes) (length bytes) text
-          (subst (λ n. IsWrittenUpTo f Lossy bytes n text false) here
-          (block_added f Lossy bytes c.window_on-window.result 0 0 (length bytes) [] text false (none_written f Lossy bytes [] refl)
+          (subst (IsDecoded f Lossy (window_of bytes) 0 (length bytes) [] text) (block.lossy refl)
+          (decoded_in f Lossy c.window_on-window.result (window_of bytes) [] text 0 0 (length bytes) _
           (around_agrees c.window_on-window.result (window_of bytes) 0 (length bytes + 10) (λ k inside. c.window_on-window.ensures k ∙ ap (λ p. get_or (window_of bytes) p 0) (omega arith)))
-          (omega arith) (λ _. block.bytes none) (λ some. absurd (false≢true some)) (λ lossy. refl) (λ strict _. block.strict strict none)))
+          block))
           (λ some. some) (omega arith) (boundary_at_end f (window_of bytes) bytes (follows_zeros bytes) (boundary_of_zeros f bytes)) refl;
       all = λ _. refl;
     }

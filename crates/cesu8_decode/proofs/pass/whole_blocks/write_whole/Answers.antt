@@ -2,12 +2,17 @@ use Rattle.std.proofs.Common.{[], refl, ◌∙◌, ◌≡◌, ◌+◌, ◌-◌, 
 use Rattle.std.proofs.lemmas.Bool.{and_parts, ltb-true, not-true}
 use Rattle.cesu8_decode.specs.DecodedOffsets.{window_of}
 use Rattle.cesu8_decode.specs.DecodedLanes.{AreFiveKinds}
-use Rattle.cesu8_decode.specs.Decoding.{IsWrittenUpTo, most_written}
-use Rattle.cesu8_decode.proofs.decoder.BlocksInPlace.{first_kinds, none_written, stands_in_window, kinds_agree, kinds_behind, block_added, most_adds}
+use Rattle.cesu8_decode.specs.Decoding.{IsDecoded, most_written}
+use Rattle.cesu8_decode.proofs.chunks.Characters.{more_written}
+use Rattle.cesu8_decode.proofs.decoder.BlocksInPlace.{first_kinds, none_decoded, stands_in_window, kinds_agree, kinds_behind, block_added}
 use Rattle.cesu8_decode.proofs.pass.whole_blocks.write_whole.Goals as goal
 
-pub returns-then-count-eq0-clause-text : goal.returns-then-count-eq0-clause-text
-returns-then-count-eq0-clause-text g c = none_written g.F.Flavor.flavor g.S.Reading.which c.args.bytes.now [] refl
+pub returns-then-count-eq0-clause-written : goal.returns-then-count-eq0-clause-written
+returns-then-count-eq0-clause-written g c = record {
+  text = none_decoded g.F.Flavor.flavor g.S.Reading.which (window_of c.args.bytes.now) [];
+  end = omega arith;
+  len = refl;
+}
 
 pub returns-then-count-eq0-clause-kinds : goal.returns-then-count-eq0-clause-kinds
 returns-then-count-eq0-clause-kinds g c none = first_kinds g.F.Flavor.flavor c.args.bytes.now
@@ -26,30 +31,33 @@ loop-at-preserved g c =
     let bytes = c.args.bytes.now in
     let inv = c.loop-at.invariant in
     let block = c.write_block-block.ensures in
+    let so_far = inv.written in
     let at = 32 * c.loop-at.at in
     let tests = and_parts _ _ c.loop-at-test.true in
     let more = and_parts _ _ tests.0 in
     let inside : c.loop-at.at < c.args.count = ltb-true _ _ more.1 in
     let fine : c.loop-at.block.is_refused ≡ false = not-true _ tests.1 in
+    let old = take c.loop-at.block.end c.loop-at.out in
     let new = take c.write_block-block.result.end c.write_block-block.new.out in
     let next : at + 32 ≡ 32 * (c.loop-at.at + 1) = omega arith in
     let stands = stands_in_window bytes at 42 (omega (arith, inv.low)) in
     record {
       low = omega (arith, inv.low);
       within = omega (arith, inside);
-      text =
-          subst (λ n. IsWrittenUpTo f which bytes n new c.write_block-block.result.is_refused) next
-          (block_added f which bytes bytes (at - 5) at 32 (take c.loop-at.block.end c.loop-at.out) new c.write_block-block.result.is_refused (subst (λ t. IsWrittenUpTo f which bytes at (take c.loop-at.block.end c.loop-at.out) t) fine inv.text)
-          stands (omega (arith, inside, c.requires.bytes)) block.bytes block.refused block.lossy block.strict);
+      written = record {
+        text = subst (λ n. IsDecoded f which (window_of bytes) 0 n [] new c.write_block-block.result.is_refused) next
+            (block_added f which bytes bytes (at - 5) at 32 old new c.write_block-block.result.is_refused
+            (subst (IsDecoded f which (window_of bytes) 0 at [] old) fine so_far.text) stands block.written.text);
+        end = omega (arith, so_far.end, block.written.end, more_written which at 32, ap (most_written which) next);
+        len = block.written.len ∙ so_far.len;
+      };
       kinds = λ none.
           subst (λ n. AreFiveKinds f (window_of bytes) n c.write_block-block.result.kinds 27) next
           (kinds_behind f bytes (window_of bytes) (at - 5) at _ stands (block.kinds refl));
-      end = omega (arith, inv.end, block.end, most_adds which at 32, ap (most_written which) next);
       beyond = λ lossy.
           omega (
             arith,
             c.is_within.ensures.within more.0 lossy,
-            subst (λ w. c.write_block-block.result.end ≤ c.loop-at.block.end + most_written w 32) lossy block.end,
+            subst (λ w. c.write_block-block.result.end ≤ c.loop-at.block.end + most_written w 32) lossy block.written.end,
           );
-      len = block.len ∙ inv.len;
     }

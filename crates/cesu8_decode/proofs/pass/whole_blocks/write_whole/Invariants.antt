@@ -1,5 +1,5 @@
-use Rattle.std.proofs.Common.{◌≡◌, ◌+◌, ◌-◌, ◌*◌, ◌≤◌, false, length, take}
-use Rattle.cesu8_decode.specs.Decoding.{IsWrittenUpTo, most_written}
+use Rattle.std.proofs.Common.{◌≡◌, ◌+◌, ◌-◌, ◌*◌, ◌≤◌, false}
+use Rattle.cesu8_decode.specs.Decoding.{WritesDecoded}
 use Rattle.cesu8_decode.specs.DecodedOffsets.{window_of}
 use Rattle.cesu8_decode.specs.DecodedLanes.{AreFiveKinds}
 use Rattle.cesu8_bytes.specs.declared.strictness.Strictness.TheVariants.{Lossy}
@@ -12,9 +12,7 @@ abbrev pub invariant-loop-at : goal.invariant-loop-at
 invariant-loop-at g l = record {
   low : 1 ≤ l.at;
   within : l.at ≤ l.fn.count;
-  text : IsWrittenUpTo g.F.Flavor.flavor g.S.Reading.which l.fn.bytes (32 * l.at) (take l.block.end l.out) l.block.is_refused;
+  written : WritesDecoded g.F.Flavor.flavor g.S.Reading.which (window_of l.fn.bytes) 0 (32 * l.at) 0 l.fn.out l.out l.block.end l.block.is_refused;
   kinds : l.block.is_refused ≡ false → AreFiveKinds g.F.Flavor.flavor (window_of l.fn.bytes) (32 * l.at) l.block.kinds 27;
-  end : l.block.end ≤ most_written g.S.Reading.which (32 * l.at);
   beyond : g.S.Reading.which ≡ Lossy → l.block.end ≤ l.fn.limit + 96;
-  len : length l.out ≡ length l.initial.out;
 }
