@@ -6,7 +6,7 @@ use Rattle.std.proofs.lemmas.Bool.{false≢true}
 use Rattle.std.specs.Str.{chars}
 use Rattle.cesu8_text.specs.Text.{utf8}
 use Rattle.cesu8_text.specs.Encoding.{Flavor}
-use Rattle.cesu8_text.specs.Kept.{KnowsTexts, ReadsEncoding}
+use Rattle.cesu8_text.specs.Kept.{KnowsTexts}
 use Rattle.cesu8_text.specs.Reading.{IsStrictReading, HasNoStrictReading, reading, lossy_length}
 use Rattle.cesu8_bytes.specs.TextChunks.{IsChunk}
 use Rattle.cesu8_bytes.specs.declared.strictness.Strictness.{Strictness}
@@ -139,63 +139,7 @@ length_lacks f Lossy bytes buf whole few small long =
       lossy = λ _. refl;
     }
 
--- ---- other words for the reading
-
-module _ (P Q : List ℕ → Type 0) (same : (text : List ℕ) → P text ↔ Q text) where
-  there : (F : ℕ → Type 0) → ReadsAtLength P F → ReadsAtLength Q F
-  there F found = (found.0, (same found.0).0 found.1, found.2)
-
-  back : (F : ℕ → Type 0) → ReadsAtLength Q F → ReadsAtLength P F
-  back F found = (found.0, (same found.0).1 found.1, found.2)
-
-  -- What is said by one reading is said by another that has the same texts.
-  same_reading : (which : Strictness) (r : Result ℕ Unwritten) (old new : List ℕ) → PutsText which P r old new → PutsText which Q r old new
-  same_reading which (Ok len) old new puts = record {
-    written = (puts.written.0, (same puts.written.0).0 puts.written.1, puts.written.2);
-    fits = ((λ ok. there (λ len. len ≤ length old) (puts.fits.0 ok)), (λ _. refl));
-    invalid = ((λ never. absurd never), (λ none. absurd (none puts.written.0 ((same puts.written.0).0 puts.written.1))));
-    too_long = ((λ never. absurd never), (λ found. puts.too_long.1 (back (λ len. 2 ^ 64 ≤ len) found)));
-    needed = tt;
-    unchanged = tt;
-    strict = puts.strict;
-    lossy = puts.lossy;
-  }
-  same_reading which (Err unwritten.NoText) old new puts = record {
-    written = tt;
-    fits = ((λ ok. absurd (false≢true ok)), (λ found. puts.fits.1 (back (λ len. len ≤ length old) found)));
-    invalid = ((λ _ text reads. puts.invalid.0 tt text ((same text).1 reads)), (λ _. tt));
-    too_long = ((λ never. absurd never), (λ found. puts.too_long.1 (back (λ len. 2 ^ 64 ≤ len) found)));
-    needed = tt;
-    unchanged = puts.unchanged;
-    strict = puts.strict;
-    lossy = puts.lossy;
-  }
-  same_reading which (Err unwritten.TooLong) old new puts = record {
-    written = tt;
-    fits = ((λ ok. absurd (false≢true ok)), (λ found. puts.fits.1 (back (λ len. len ≤ length old) found)));
-    invalid = ((λ never. absurd never), (λ none. puts.invalid.1 (λ text reads. none text ((same text).0 reads))));
-    too_long = ((λ _. there (λ len. 2 ^ 64 ≤ len) (puts.too_long.0 tt)), (λ _. tt));
-    needed = tt;
-    unchanged = puts.unchanged;
-    strict = puts.strict;
-    lossy = puts.lossy;
-  }
-  same_reading which (Err (unwritten.NoRoom fault)) old new puts = record {
-    written = tt;
-    fits = ((λ ok. absurd (false≢true ok)), (λ found. puts.fits.1 (back (λ len. len ≤ length old) found)));
-    invalid = ((λ never. absurd never), (λ none. puts.invalid.1 (λ text reads. none text ((same text).0 reads))));
-    too_long = ((λ never. absurd never), (λ found. puts.too_long.1 (back (λ len. 2 ^ 64 ≤ len) found)));
-    needed = there (λ len. fault.needed ≡ len) puts.needed;
-    unchanged = puts.unchanged;
-    strict = puts.strict;
-    lossy = puts.lossy;
-  }
-
--- What is put of the encoding is put of what a call reads as that.
-pub encoding_put : (f : Flavor) (bytes : List ℕ) (reads reads_lossily : List ℕ → Type 0) → ReadsEncoding f bytes reads reads_lossily →
-    (which : Strictness) (r : Result ℕ Unwritten) (old new : List ℕ) → PutsText which (IsReadingOf f which bytes) r old new →
-    PutsText which (ReadsAs which reads reads_lossily) r old new
-encoding_put f bytes reads reads_lossily so Strict r old new puts =
-    same_reading (IsStrictReading f bytes) reads (λ text. ((so.strictly text).1, (so.strictly text).0)) Strict r old new puts
-encoding_put f bytes reads reads_lossily so Lossy r old new puts =
-    same_reading (λ text. text ≡ reading f bytes) reads_lossily (λ text. ((so.lossily text).1, (so.lossily text).0)) Lossy r old new puts
+-- What is said by one reading is said by another that has the same texts.
+pub same_reading : (P Q : List ℕ → Type 0) → ((text : List ℕ) → Q text ↔ P text) → (which : Strictness) (r : Result ℕ Unwritten) (old new : List ℕ) →
+    PutsText which P r old new → PutsText which Q r old new
+same_reading P Q same which r old new puts = grind (arith, nat_tests)

@@ -2,7 +2,7 @@ use Rattle.std.proofs.Common.{arith}
 use Rattle.cesu8_decode.specs.Following.{Unchanged}
 use Rattle.cesu8_decode.proofs.chunks.Fronts.{more_behind}
 use Rattle.cesu8_decode.proofs.chunks.UnchangedFronts.{all_unchanged}
-use Rattle.cesu8_decode.proofs.chunks.SliceReadings.{kept_put, encoding_put}
+use Rattle.cesu8_decode.proofs.chunks.SliceReadings.{kept_put, same_reading}
 use Rattle.cesu8_decode.proofs.copy_or_write.decode_other_to_slice.Goals as goal
 
 pub returns-then-kept-bytes : goal.returns-then-kept-bytes
@@ -28,11 +28,11 @@ returns-in-Strict g c =
     let f = g.F.Flavor.flavor in
     let bytes = c.args.bytes.now in
     let read = (g.met.A.Accepts.known f bytes).other (λ keeps. c.if-kept-bytes.false (c.kept_front-kept.ensures.all.1 keeps)) in
-    rw c.in-Strict.is (encoding_put f bytes _ _ read _ _ _ _ c.put_strictly.ensures)
+    rw c.in-Strict.is (same_reading _ _ read.strictly _ _ _ _ c.put_strictly.ensures)
 
 pub returns-in-Lossy : goal.returns-in-Lossy
 returns-in-Lossy g c =
     let f = g.F.Flavor.flavor in
     let bytes = c.args.bytes.now in
     let read = (g.met.A.Accepts.known f bytes).other (λ keeps. c.if-kept-bytes.false (c.kept_front-kept.ensures.all.1 keeps)) in
-    rw c.in-Lossy.is (encoding_put f bytes _ _ read _ _ _ _ c.put_lossily.ensures)
+    rw c.in-Lossy.is (same_reading _ _ read.lossily _ _ _ _ c.put_lossily.ensures)
