@@ -1,31 +1,35 @@
 -- What decoding promises: a chunk of text at the front of bytes, all of it, and what is written for a window.
-use Rattle.std.specs.Prelude.{◌≡◌, ℕ, ◌+◌, ◌*◌, ◌/◌, ◌<◌, ◌≤◌, Bool, true, false, List, [], ◌++◌, Vec, length, take, drop, vec_capacity, Option, IfSome, IfNone, Result, IfOk}
+use Rattle.std.specs.Prelude.{◌≡◌, ℕ, ◌+◌, ◌-◌, ◌*◌, ◌/◌, ◌<◌, ◌≤◌, Bool, true, false, List, [], ◌++◌, Vec, length, take, drop, vec_capacity, Option, IfSome, IfNone, Result, IfOk}
 use Rattle.cesu8_text.specs.Reading.{NoneBegins, HasNoStrictReading}
 use Rattle.cesu8_text.specs.Encoding.{Flavor}
 use Rattle.cesu8_bytes.specs.declared.strictness.Strictness.{Strictness}
 use Rattle.cesu8_bytes.specs.declared.strictness.Strictness.TheVariants.{Strict, Lossy}
+use Rattle.cesu8_bytes.specs.declared.TheConstants.{BLOCK}
+use Rattle.cesu8_bytes.specs.declared.writing.packing.TheConstants.{STORED}
+use Rattle.cesu8_decode.specs.declared.lanes.packing.TheConstants.{WIDEST}
 use Rattle.cesu8_decode.specs.declared.way.TheConstants.{FEW_BYTES}
 use Rattle.cesu8_decode.specs.declared.pass.whole_blocks.TheConstants.{FOLLOWING, SPARE}
 use Rattle.cesu8_decode.specs.DecodedOffsets.{decoded, is_ill_formed_at}
-use Rattle.cesu8_bytes.specs.TextChunks.{IsReadSoFar, IsChunk}
+use Rattle.cesu8_bytes.specs.TextChunks.{IsReadSoFar}
 
 -- Only strict reading refuses ill-formed bytes.
 abbrev pub refuses : Strictness → Bool → Bool
 refuses Strict is_ill_formed = is_ill_formed
 refuses Lossy is_ill_formed = false
 
--- No more is written for so many bytes, if they are read one after another.
+-- Strict reading writes no more bytes than it reads, and lossy reading U+FFFD for a byte at most.
 abbrev pub most_written : Strictness → ℕ → ℕ
 most_written Strict n = n
-most_written Lossy n = 3 * n
+most_written Lossy n = WIDEST * n
 
--- A buffer has room for the text of n bytes, and for what is stored behind it.
+-- A buffer has room for the text of n bytes. Lossy reading writes the last blocks where they go, which
+-- takes more; strict reading writes them by an array.
 abbrev pub room_for : Strictness → ℕ → ℕ
 room_for Strict n = n
-room_for Lossy n = 3 * n + SPARE
+room_for Lossy n = WIDEST * n + SPARE
 
 -- Where it has not room for all, it has room for what follows a block that is read where it stands, and
--- in lossy reading for more bytes than are left to the last blocks, so that whole ones come first.
+-- in lossy reading for as many bytes as are left to the last blocks, so that whole ones come first.
 abbrev pub least_room : Strictness → ℕ
 least_room Strict = FOLLOWING
 least_room Lossy = room_for Lossy FEW_BYTES
@@ -36,13 +40,13 @@ HasRoom which n len = len < room_for which n → least_room which ≤ len
 
 -- It has room behind an end for the text of the blocks that n bytes have, and for what is stored behind it.
 abbrev pub HasRoomBehind : Strictness → ℕ → ℕ → ℕ → Type 0
-HasRoomBehind which n end len = end + most_written which (32 * ((n + 31) / 32)) + 16 ≤ len
+HasRoomBehind which n end len = end + most_written which (BLOCK * ((n + BLOCK - 1) / BLOCK)) + STORED ≤ len
 
 -- After some text no encoded character begins the bytes that are left.
 pub record HasFault (f : Flavor) (bytes : List ℕ) : Type 0 where
   pub rest : List ℕ
   pub chunk : List ℕ
-  pub before : IsChunk f Strict bytes rest chunk
+  pub before : IsReadSoFar f Strict bytes rest [] chunk
   pub some : 0 < length rest
   pub none_begins : NoneBegins f rest
 
@@ -50,7 +54,7 @@ pub record HasFault (f : Flavor) (bytes : List ℕ) : Type 0 where
 pub record ReadsFirst (f : Flavor) (which : Strictness) (bytes : List ℕ) (read : ℕ) (text : List ℕ) (is_ill_formed : Bool) : Type 0 where
   pub some : 0 < length bytes → 0 < read
   pub within : read ≤ length bytes
-  pub chunk : refuses which is_ill_formed ≡ false → IsChunk f which bytes (drop read bytes) text
+  pub chunk : refuses which is_ill_formed ≡ false → IsReadSoFar f which bytes (drop read bytes) [] text
   pub ill_formed : is_ill_formed ≡ true → HasFault f bytes
 
 -- Such text is written at the front of a slice, and it is of all bytes if there is room for that.
@@ -61,9 +65,9 @@ pub record WritesText (f : Flavor) (which : Strictness) (bytes : List ℕ) (read
   pub len : length new ≡ length old
 
 -- All of the bytes are.
-pub record ReadsAll (f : Flavor) (which : Strictness) (bytes : List ℕ) (read : ℕ) (text : List ℕ) (is_ill_formed : Bool) : Type 0 where
-  pub first : ReadsFirst f which bytes read text is_ill_formed
-  pub all : refuses which is_ill_formed ≡ false → read ≡ length bytes
+pub record ReadsAll (f : Flavor) (which : Strictness) (bytes text : List ℕ) (is_ill_formed : Bool) : Type 0 where
+  pub all : refuses which is_ill_formed ≡ false → IsReadSoFar f which bytes [] [] text
+  pub ill_formed : is_ill_formed ≡ true → HasFault f bytes
 
 -- The strict reading of the bytes is appended to a vector, if there is one.
 pub record AppendsStrictly {Z : Type 0} (f : Flavor) (bytes : List ℕ) (before : Vec ℕ Z) (result : Option (Vec ℕ Z)) : Type 0 where
@@ -73,7 +77,7 @@ pub record AppendsStrictly {Z : Type 0} (f : Flavor) (bytes : List ℕ) (before 
 
 -- The lossy reading is all that a vector has, and fills what was requested.
 pub record BuildsReading {Z E : Type 0} (f : Flavor) (bytes : List ℕ) (result : Result (Vec ℕ Z) E) : Type 0 where
-  pub text : IfOk result (λ text. IsChunk f Lossy bytes [] text.items)
+  pub text : IfOk result (λ text. IsReadSoFar f Lossy bytes [] [] text.items)
   pub capacity : IfOk result (λ text. vec_capacity text ≡ length text.items)
 
 -- A text ends with what n bytes of a window become, from an offset on, or strict reading refuses one of

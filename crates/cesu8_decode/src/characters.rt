@@ -29,7 +29,7 @@ const REPLACEMENT: [u8; WIDEST] = [0xEF, 0xBF, 0xBD];
 pub fn write_characters<F: Flavor>(strictness: Strictness, bytes: &[u8], out: &mut [u8]) -> Decoded
     requires { most_written strictness (length bytes.now) ≤ length out.old }
     ensures read { ReadsAll F.flavor strictness bytes.now
-        result.read (take result.end out.new) result.is_ill_formed }
+        (take result.end out.new) result.is_ill_formed }
     ensures end { result.end ≤ most_written strictness (length bytes.now) }
     ensures len { length out.new ≡ length out.old }
 {

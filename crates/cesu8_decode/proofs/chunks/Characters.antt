@@ -225,12 +225,7 @@ pub read_unless_refused : (f : Flavor) (which : Strictness) (bytes rest chunk : 
 read_unless_refused f Strict bytes rest chunk is_ill_formed lossy strict fine = strict fine
 read_unless_refused f Lossy bytes rest chunk is_ill_formed lossy strict fine = lossy refl
 
--- Reading stops at the end, or behind an ill-formed byte that is refused: then something was read,
-pub read_some : (which : Strictness) (n len : ℕ) (is_ill_formed : Bool) → (ltb n len && not (refuses which is_ill_formed)) ≡ false →
-    0 < len → (is_ill_formed ≡ true → 0 < n) → 0 < n
-read_some which n len is_ill_formed stopped nonempty some = grind (arith, nat_tests)
-
--- and otherwise all.
+-- Reading stops at the end, or behind an ill-formed byte that is refused.
 pub read_all : (which : Strictness) (n len : ℕ) (is_ill_formed : Bool) → (ltb n len && not (refuses which is_ill_formed)) ≡ false →
     refuses which is_ill_formed ≡ false → n ≤ len → n ≡ len
 read_all which n len is_ill_formed stopped fine inside = grind (arith, nat_tests)

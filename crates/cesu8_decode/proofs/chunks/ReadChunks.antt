@@ -72,34 +72,23 @@ fault_of_whole : (f : Flavor) (bytes : List ℕ) → HasFault f bytes → HasNoS
 fault_of_whole f bytes fault =
     no_reading f bytes fault.before.text fault.rest fault.before.scalars (fault.before.strict_reading refl) fault.some fault.none_begins
 
--- What was read first is a chunk, or a fault where an ill-formed byte in it is refused.
-pub chunk_unless_refused : (f : Flavor) (which : Strictness) (bytes text : List ℕ) (read : ℕ) (is_ill_formed : Bool) →
-    ReadsFirst f which bytes read text is_ill_formed → refuses which is_ill_formed ≡ false → IsChunk f which bytes (drop read bytes) text
-chunk_unless_refused f which bytes text read is_ill_formed first fine = first.chunk fine
-
 -- Strict reading refuses what is ill-formed, and no other does.
 if_refused : (which : Strictness) (is_ill_formed : Bool) → refuses which is_ill_formed ≡ true → (which ≡ Strict) × (is_ill_formed ≡ true)
 if_refused Strict is_ill_formed refused = (refl, refused)
 if_refused Lossy is_ill_formed refused = absurd (false≢true refused)
 
-fault_if_refused : (f : Flavor) (which : Strictness) (bytes text : List ℕ) (read : ℕ) (is_ill_formed : Bool) →
-    ReadsFirst f which bytes read text is_ill_formed → refuses which is_ill_formed ≡ true → (which ≡ Strict) × HasFault f bytes
-fault_if_refused f which bytes text read is_ill_formed first refused =
-    let is = if_refused which is_ill_formed refused in (is.0, first.ill_formed is.1)
-
 -- So bytes have no text where that of a chunk of them is refused,
-pub none_behind : (f : Flavor) (which : Strictness) (bytes rest text old out : List ℕ) (read : ℕ) (is_ill_formed : Bool) →
-    IsReadSoFar f which bytes rest old out → ReadsFirst f which rest read text is_ill_formed → refuses which is_ill_formed ≡ true →
-    (which ≡ Strict) × HasNoStrictReading f bytes
-none_behind f which bytes rest text old out read is_ill_formed so_far first refused =
-    let found = fault_if_refused f which rest text read is_ill_formed first refused in
-    (found.0, fault_of_whole f bytes (fault_after f which bytes rest old out so_far found.0 found.1))
+pub none_behind : (f : Flavor) (which : Strictness) (bytes rest old out : List ℕ) (is_ill_formed : Bool) → IsReadSoFar f which bytes rest old out →
+    (is_ill_formed ≡ true → HasFault f rest) → refuses which is_ill_formed ≡ true → (which ≡ Strict) × HasNoStrictReading f bytes
+none_behind f which bytes rest old out is_ill_formed so_far fault refused =
+    let is = if_refused which is_ill_formed refused in
+    (is.0, fault_of_whole f bytes (fault_after f which bytes rest old out so_far is.0 (fault is.1)))
 
 -- or of the first one.
-pub none_if_refused : (f : Flavor) (which : Strictness) (bytes text : List ℕ) (read : ℕ) (is_ill_formed : Bool) →
-    ReadsFirst f which bytes read text is_ill_formed → refuses which is_ill_formed ≡ true → (which ≡ Strict) × HasNoStrictReading f bytes
-none_if_refused f which bytes text read is_ill_formed first refused =
-    none_behind f which bytes bytes text [] [] read is_ill_formed (nothing_read f which bytes []) first refused
+pub none_if_refused : (f : Flavor) (which : Strictness) (bytes : List ℕ) (is_ill_formed : Bool) → (is_ill_formed ≡ true → HasFault f bytes) →
+    refuses which is_ill_formed ≡ true → (which ≡ Strict) × HasNoStrictReading f bytes
+none_if_refused f which bytes is_ill_formed fault refused =
+    none_behind f which bytes bytes [] [] is_ill_formed (nothing_read f which bytes []) fault refused
 
 -- A chunk adds its length to that of the lossy reading.
 pub chunk_length : (f : Flavor) (bytes rest chunk : List ℕ) → IsChunk f Lossy bytes rest chunk →
@@ -134,17 +123,18 @@ none_left f which bytes [] old new so_far empty = so_far
 none_left f which bytes (b ∷ rest) old new so_far empty = absurd (omega arith)
 
 -- A chunk that leaves nothing is the text of the whole.
-pub whole_text : (f : Flavor) (which : Strictness) (bytes rest chunk : List ℕ) → IsChunk f which bytes rest chunk →
-    length rest ≡ 0 → IsDecodedText f which bytes (chars chunk)
-whole_text f which bytes rest chunk read empty =
-    let all = all_read f which bytes rest [] chunk read empty in
+pub whole_text : (f : Flavor) (which : Strictness) (bytes chunk : List ℕ) → IsChunk f which bytes [] chunk → IsDecodedText f which bytes (chars chunk)
+whole_text f which bytes chunk read =
+    let all = all_read f which bytes [] [] chunk read refl in
     subst (IsDecodedText f which bytes) (sym (ap chars all.2 ∙ chars_utf8 all.0 all.1.0)) all.1
 
--- What was read of all bytes is such a chunk.
-pub all_chunk : (f : Flavor) (which : Strictness) (bytes text : List ℕ) (read : ℕ) (is_ill_formed : Bool) → ReadsAll f which bytes read text is_ill_formed →
-    refuses which is_ill_formed ≡ false → IsChunk f which bytes [] text
-all_chunk f which bytes text read is_ill_formed reads fine =
-    none_left f which bytes (drop read bytes) [] text (reads.first.chunk fine) (omega (arith, length-drop read bytes, reads.all fine))
+-- What was read first is of all bytes where none are left.
+pub reads_all : (f : Flavor) (which : Strictness) (bytes text : List ℕ) (read : ℕ) (is_ill_formed : Bool) → ReadsFirst f which bytes read text is_ill_formed →
+    (refuses which is_ill_formed ≡ false → read ≡ length bytes) → ReadsAll f which bytes text is_ill_formed
+reads_all f which bytes text read is_ill_formed first whole = record {
+  all = λ fine. none_left f which bytes (drop read bytes) [] text (first.chunk fine) (omega (arith, length-drop read bytes, whole fine));
+  ill_formed = first.ill_formed;
+}
 
 -- Where encoded characters were read from the front, and then what is left, the first of all bytes are read.
 pub first_after : (f : Flavor) (which : Strictness) (bytes front text whole : List ℕ) (read more : ℕ) (is_ill_formed : Bool) → read ≤ length bytes →

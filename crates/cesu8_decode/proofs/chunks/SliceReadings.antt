@@ -1,7 +1,6 @@
 -- What a call may say of a text that it writes into a caller's buffer.
 use Rattle.std.proofs.lemmas.Bool.Decides.{nat_tests}
-use Rattle.std.proofs.lemmas.Grind.{common_steps}
-use Rattle.std.proofs.Common.{◌≡◌, ℕ, ◌^◌, ◌<◌, ◌≤◌, ◌↔◌, List, refl, sym, ap, ◌∙◌, subst, arith, length, Bool, false, Result, Ok, Err, MatchResult, IsErrAnd}
+use Rattle.std.proofs.Common.{[], ◌≡◌, ℕ, ◌^◌, ◌<◌, ◌≤◌, ◌↔◌, List, refl, sym, ap, ◌∙◌, subst, arith, length, Bool, false, Result, Ok, Err, MatchResult, IsErrAnd}
 use Rattle.std.proofs.lemmas.Bool.{false≢true}
 use Rattle.std.specs.Str.{chars}
 use Rattle.cesu8_text.specs.Text.{utf8}
@@ -21,7 +20,7 @@ use Rattle.cesu8_bytes.specs.declared.writing.writers.NoRoom.{NoRoom}
 use Rattle.cesu8_text.proofs.StdUtf8.{IsUtf8Of_chars}
 use Rattle.cesu8_text.proofs.encoding.Lengths.{length_bounds}
 use Rattle.cesu8_text.proofs.reading.KeptTexts.{strict_only}
-use Rattle.cesu8_decode.proofs.chunks.ReadChunks.{IsDecodedText, chunk_utf8, whole_text, chunk_unless_refused}
+use Rattle.cesu8_decode.proofs.chunks.ReadChunks.{IsDecodedText, chunk_utf8, whole_text}
 
 -- ---- the only text
 
@@ -55,12 +54,11 @@ pub only_decoded : (f : Flavor) (which : Strictness) (bytes text : List ℕ) →
 only_decoded f Strict bytes text is = only_strict f bytes text (is.0, is.2 refl)
 only_decoded f Lossy bytes text is = record { reads = is.1; only = λ other same. same ∙ sym is.1; utf8_is = refl }
 
-only_chunk : (f : Flavor) (which : Strictness) (bytes rest chunk : List ℕ) → IsChunk f which bytes rest chunk → length rest ≡ 0 →
+only_chunk : (f : Flavor) (which : Strictness) (bytes chunk : List ℕ) → IsChunk f which bytes [] chunk →
     IsOnlyText (IsReadingOf f which bytes) (chars chunk) chunk
-only_chunk f which bytes rest chunk is_chunk empty =
-    subst (IsOnlyText (IsReadingOf f which bytes) (chars chunk))
-    (IsUtf8Of_chars chunk (chunk_utf8 f which bytes rest chunk is_chunk)).1
-    (only_decoded f which bytes (chars chunk) (whole_text f which bytes rest chunk is_chunk empty))
+only_chunk f which bytes chunk is_chunk =
+    subst (IsOnlyText (IsReadingOf f which bytes) (chars chunk)) (IsUtf8Of_chars chunk (chunk_utf8 f which bytes [] chunk is_chunk)).1
+    (only_decoded f which bytes (chars chunk) (whole_text f which bytes chunk is_chunk))
 
 -- The strict reading is no longer than the bytes.
 pub strict_no_longer : (f : Flavor) (bytes : List ℕ) → IsStrictReading f bytes (reading f bytes) → lossy_length f bytes ≤ length bytes
@@ -112,11 +110,12 @@ kept_put f bytes keeps reads reads_lossily known which kept r told old new small
     (only_kept f bytes keeps reads reads_lossily known which kept) small told_is puts
 
 -- and of those of which all were decoded.
-pub decoded_put : (f : Flavor) (which : Strictness) (bytes answer : List ℕ) (read : ℕ) (is_ill_formed : Bool) (r : Result ℕ NoRoom) (told : Result ℕ Unwritten) (old new : List ℕ) →
-    ReadsAll f which bytes read answer is_ill_formed → refuses which is_ill_formed ≡ false → length answer < 2 ^ 64 →
+pub decoded_put : (f : Flavor) (which : Strictness) (bytes answer : List ℕ) (is_ill_formed : Bool) (r : Result ℕ NoRoom) (told : Result ℕ Unwritten) (old new : List ℕ) →
+    ReadsAll f which bytes answer is_ill_formed → refuses which is_ill_formed ≡ false → length answer < 2 ^ 64 →
     MatchResult r (λ len. told ≡ Ok len) (λ fault. IsErrAnd told (λ d. d ≡ unwritten.NoRoom fault)) →
     PutsAnswer answer r old new → PutsText which (IsReadingOf f which bytes) told old new
-decoded_put f which bytes answer read is_ill_formed r told old new reads fine small told_is puts = grind (arith, nat_tests, common_steps, chunk_unless_refused, only_chunk, text_put)
+decoded_put f which bytes answer is_ill_formed r told old new reads fine small told_is puts =
+    text_put which (IsReadingOf f which bytes) (chars answer) answer r told old new (only_chunk f which bytes answer (reads.all fine)) small told_is puts
 
 -- No `usize` is its length, so that it fits into no buffer.
 pub length_lacks : (f : Flavor) (which : Strictness) (bytes buf : List ℕ) → (which ≡ Strict → IsStrictReading f bytes (reading f bytes)) →

@@ -10,7 +10,7 @@ known_string-requires g c = chunk_utf8 g.F.Flavor.flavor Lossy c.args.bytes.now 
 
 pub returns-clause-text : goal.returns-clause-text
 returns-clause-text g c =
-    ap chars c.known_string.ensures.bytes ∙ (whole_text g.F.Flavor.flavor Lossy c.args.bytes.now [] _ c.in_ok-text.ensures.text refl).1
+    ap chars c.known_string.ensures.bytes ∙ (whole_text g.F.Flavor.flavor Lossy c.args.bytes.now _ c.in_ok-text.ensures.text).1
 
 pub returns-clause-capacity : goal.returns-clause-capacity
 returns-clause-capacity g c =

@@ -13,6 +13,6 @@ known_string-requires g c =
 pub returns-in-Some-clause-text : goal.returns-in-Some-clause-text
 returns-in-Some-clause-text g c =
     let none : c.in_ok-empty.empty.items ≡ [] = search rules in
-    let read = whole_text g.F.Flavor.flavor Strict c.args.bytes.now [] _ (rw none at c.in-Some.ensures.text) refl in
+    let read = whole_text g.F.Flavor.flavor Strict c.args.bytes.now _ (rw none at c.in-Some.ensures.text) in
     subst (λ bytes. IsStrictReading g.F.Flavor.flavor c.args.bytes.now (chars bytes)) (sym c.known_string.ensures.bytes)
     (read.0, read.2 refl)

@@ -1,5 +1,5 @@
 -- What the bytes of a block become, by what two of them tell.
-use Rattle.std.proofs.Common.{◌≡◌, ℕ, zero, suc, ◌+◌, ◌-◌, ◌<◌, ◌≤◌, ⊎_elim, Bool, true, false, true≢false, ◌&&◌, eqb, List, [], ◌∷◌, ◌++◌, refl, sym, ap, ◌∙◌, subst, arith, cond, get_or, take_all, zero-add, map, length, replicate, bit_and, bit_or, Fits, w8}
+use Rattle.std.proofs.Common.{◌≡◌, ℕ, zero, suc, ◌+◌, ◌-◌, ◌<◌, ◌≤◌, ⊎_elim, Bool, true, false, true≢false, ◌&&◌, eqb, List, [], ◌∷◌, ◌++◌, refl, sym, ap, ◌∙◌, subst, arith, cond, get_or, take_all, zero-add, map, length, length-drop, drop, replicate, bit_and, bit_or, Fits, w8}
 use lib.Lanes.{zip2, pick_l, Each1}
 use Rattle.std.specs.List.{range_with_len}
 use Rattle.std.proofs.lemmas.Bool.{cases_Bool, cases_lt}
@@ -14,6 +14,7 @@ use Rattle.cesu8_decode.specs.DecodedLanes.{TellsChange, TellChanges, change_kin
 use Rattle.cesu8_decode.proofs.by_offset.WindowOffsets.{Follows, follows_zeros}
 use Rattle.cesu8_decode.proofs.by_offset.CharacterBoundaries.{boundary_of_zeros, boundary_at_end}
 use Rattle.cesu8_decode.proofs.by_offset.IllFormed.{IsCovered, encoding_covered, not_covered_where, whole_or_faulty}
+use Rattle.cesu8_decode.proofs.chunks.ReadChunks.{none_left}
 use Rattle.cesu8_decode.proofs.chunks.DecodedChunks.{strict_chunk}
 use Rattle.cesu8_decode.proofs.decoder.DecodedBlocks.{map_ranges}
 use Rattle.cesu8_decode.proofs.decoder.ToldPairs.{told_at, tells, begun_where}
@@ -73,30 +74,20 @@ module _ (f : Flavor) (bytes rest text : List ℕ) (reads : IsStrictReading f by
       none i is = tells f window i (λ high lead. absurd (omega (arith, is, high)))
 
   -- What the bytes become there is their strict reading.
-  pub block_read : (read : ℕ) (written : List ℕ) → read ≡ length bytes → written ≡ decoded f window 0 (length bytes) →
-      ReadsAll f Strict bytes read written false
-  block_read read written all is = record {
-    first = record {
-      some = λ more. omega (arith, all, more);
-      within = omega (arith, all);
-      chunk = λ _. rw (all, is) (strict_chunk f bytes window (length bytes) (λ k small. in_window k) (omega arith)
-          (boundary_at_end f window bytes follows (boundary_of_zeros f (bytes ++ rest))) Strict none_ill_formed);
-      ill_formed = λ some. absurd (true≢false (sym some));
-    };
-    all = λ _. all;
+  pub block_read : (written : List ℕ) → written ≡ decoded f window 0 (length bytes) → ReadsAll f Strict bytes written false
+  block_read written is = record {
+    all = λ _. none_left f Strict bytes (drop (length bytes) bytes) [] written
+        (rw is (strict_chunk f bytes window (length bytes) (λ k small. in_window k) (omega arith)
+        (boundary_at_end f window bytes follows (boundary_of_zeros f (bytes ++ rest))) Strict none_ill_formed)) (omega (arith, length-drop (length bytes) bytes));
+    ill_formed = λ some. absurd (true≢false (sym some));
   }
 
 -- Bytes that are no encoding are refused.
-pub block_refused : (f : Flavor) (bytes text : List ℕ) (read : ℕ) (is_ill_formed : Bool) → HasNoStrictReading f bytes → read ≡ length bytes → is_ill_formed ≡ true →
-    ReadsAll f Strict bytes read text is_ill_formed
-block_refused f bytes text read is_ill_formed none all some = record {
-  first = record {
-    some = λ more. omega (arith, all, more);
-    within = omega (arith, all);
-    chunk = λ fine. absurd (true≢false (sym some ∙ fine));
-    ill_formed = λ _. ⊎_elim (λ whole. absurd (none (reading f bytes) whole)) (λ fault. fault) (whole_or_faulty f bytes);
-  };
-  all = λ _. all;
+pub block_refused : (f : Flavor) (bytes text : List ℕ) (is_ill_formed : Bool) → HasNoStrictReading f bytes → is_ill_formed ≡ true →
+    ReadsAll f Strict bytes text is_ill_formed
+block_refused f bytes text is_ill_formed none some = record {
+  all = λ fine. absurd (true≢false (sym some ∙ fine));
+  ill_formed = λ _. ⊎_elim (λ whole. absurd (none (reading f bytes) whole)) (λ fault. fault) (whole_or_faulty f bytes);
 }
 
 -- Nothing is told of what begins in the zeros before.

@@ -168,8 +168,7 @@ fn put_decoded(
 ) -> Result<usize, Unwritten>
     requires { decoded.end ≤ length written.now }
     ensures { (f : AnyFlavor) (bytes : List ℕ)
-        → ReadsAll f strictness bytes decoded.read
-        (take decoded.end written.now) decoded.is_ill_formed
+        → ReadsAll f strictness bytes (take decoded.end written.now) decoded.is_ill_formed
         → PutsReading f strictness bytes result buf.old buf.new }
 {
     if is_refused(strictness, decoded.is_ill_formed) {

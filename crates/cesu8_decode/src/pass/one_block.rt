@@ -40,7 +40,7 @@ pub fn write_one_strictly<F: Flavor>(bytes: &[u8], out: &mut [u8]) -> Decoded
     requires bytes { length bytes.now ≤ BLOCK }
     requires room { STRICT_TEXT ≤ length out.old }
     ensures read { ReadsAll F.flavor Strict bytes.now
-        result.read (take result.end out.new) result.is_ill_formed }
+        (take result.end out.new) result.is_ill_formed }
     ensures end { result.end ≤ length bytes.now }
     ensures len { length out.new ≡ length out.old }
 {
@@ -80,7 +80,7 @@ pub fn write_one_block<F: Flavor>(bytes: &[u8], out: &mut [u8]) -> Decoded
     requires bytes { length bytes.now ≤ BLOCK }
     requires room { LOSSY_TEXT ≤ length out.old }
     ensures read { ReadsAll F.flavor Lossy bytes.now
-        result.read (take result.end out.new) result.is_ill_formed }
+        (take result.end out.new) result.is_ill_formed }
     ensures end { result.end ≤ 3 * length bytes.now }
     ensures len { length out.new ≡ length out.old }
 {

@@ -2,8 +2,8 @@ use Rattle.std.proofs.Common.{◌≡◌, ◌+◌, ◌-◌, [], arith, ◌∙◌,
 use Rattle.cesu8_decode.specs.Decoding.{most_written}
 use Rattle.std.proofs.lemmas.List.{take_rest, drop-drop}
 use Rattle.cesu8_bytes.specs.declared.strictness.Strictness.TheVariants.{Strict, Lossy}
-use Rattle.cesu8_decode.proofs.chunks.ReadChunks.{nothing_read}
-use Rattle.cesu8_decode.proofs.chunks.Characters.{more_written, more_lossy, more_strict, first_fault, read_unless_refused, read_some, read_all}
+use Rattle.cesu8_decode.proofs.chunks.ReadChunks.{nothing_read, none_left}
+use Rattle.cesu8_decode.proofs.chunks.Characters.{more_written, more_lossy, more_strict, first_fault, read_unless_refused, read_all}
 use Rattle.cesu8_decode.proofs.characters.write_characters.Goals as goal
 
 pub loop-read-init : goal.loop-read-init
@@ -12,7 +12,6 @@ loop-read-init g c =
     record {
       inside = omega arith;
       room = omega arith;
-      some = λ ill_formed. cc;
       lossy = λ _. nothing_read f Lossy c.args.bytes.now [];
       strict = λ _. nothing_read f Strict c.args.bytes.now [];
       ill_formed = λ ill_formed. cc;
@@ -41,7 +40,6 @@ loop-read-preserved g c =
     rw (sym (drop-drop m n bytes)) (record {
       inside = omega (arith, step.within.1, length-drop n bytes);
       room = omega (arith, inv.room, step.within.2, more_written c.args.strictness n m);
-      some = λ _. omega (arith, step.within.0);
       lossy = λ lossy. more_lossy f bytes rest _ [] _ _ c.write_next-step.result.is_ill_formed (inv.lossy lossy) step.character (step.replaced lossy);
       strict = more_strict f bytes rest _ [] _ _ c.loop-read.is_ill_formed c.write_next-step.result.is_ill_formed inv.strict step.character;
       ill_formed = first_fault f bytes rest _ c.loop-read.is_ill_formed c.write_next-step.result.is_ill_formed inv.strict inv.ill_formed
@@ -51,15 +49,13 @@ loop-read-preserved g c =
 
 pub returns-clause-read : goal.returns-clause-read
 returns-clause-read g c =
+    let f = g.F.Flavor.flavor in
     let which = c.args.strictness in
+    let bytes = c.args.bytes.now in
+    let n = c.loop-read.read in
     let inv = c.loop-read.invariant in
-    let stopped = c.loop-read-test.false in
     record {
-      first = record {
-        some = λ nonempty. read_some which c.loop-read.read _ c.loop-read.is_ill_formed (rw c.is_refused.ensures at stopped) nonempty inv.some;
-        within = inv.inside;
-        chunk = read_unless_refused g.F.Flavor.flavor which c.args.bytes.now _ _ c.loop-read.is_ill_formed inv.lossy inv.strict;
-        ill_formed = inv.ill_formed;
-      };
-      all = λ fine. read_all which c.loop-read.read _ c.loop-read.is_ill_formed (rw c.is_refused.ensures at stopped) fine inv.inside;
+      all = λ fine. none_left f which bytes (drop n bytes) [] _ (read_unless_refused f which bytes _ _ c.loop-read.is_ill_formed inv.lossy inv.strict fine)
+          (omega (arith, length-drop n bytes, read_all which n _ c.loop-read.is_ill_formed (rw c.is_refused.ensures at c.loop-read-test.false) fine inv.inside));
+      ill_formed = inv.ill_formed;
     }

@@ -1,4 +1,4 @@
-use Rattle.std.proofs.Common.{◌≡◌, ◌-◌, ◌<◌, ◌≤◌, length, take, drop, true, false}
+use Rattle.std.proofs.Common.{◌≡◌, ◌-◌, ◌≤◌, length, take, drop, true, false}
 use Rattle.cesu8_bytes.specs.TextChunks.{IsChunk}
 use Rattle.cesu8_decode.specs.Decoding.{HasFault, most_written}
 use Rattle.cesu8_bytes.specs.declared.strictness.Strictness.TheVariants.{Strict, Lossy}
@@ -11,7 +11,6 @@ abbrev pub invariant-loop-read : goal.invariant-loop-read
 invariant-loop-read g l = record {
   inside : l.read ≤ length l.fn.bytes;
   room : l.end ≤ most_written l.strictness l.read;
-  some : l.is_ill_formed ≡ true → 0 < l.read;
   lossy : l.strictness ≡ Lossy → IsChunk g.F.Flavor.flavor Lossy l.fn.bytes (drop l.read l.fn.bytes) (take l.end l.out);
   strict : l.is_ill_formed ≡ false → IsChunk g.F.Flavor.flavor Strict l.fn.bytes (drop l.read l.fn.bytes) (take l.end l.out);
   ill_formed : l.is_ill_formed ≡ true → HasFault g.F.Flavor.flavor l.fn.bytes;

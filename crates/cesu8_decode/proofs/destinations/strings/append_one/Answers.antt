@@ -1,13 +1,13 @@
 use Rattle.std.proofs.Common.{[], take}
 use Rattle.cesu8_bytes.specs.declared.strictness.Strictness.TheVariants.{Strict}
-use Rattle.cesu8_decode.proofs.chunks.ReadChunks.{all_chunk, chunk_appended, none_if_refused}
+use Rattle.cesu8_decode.proofs.chunks.ReadChunks.{chunk_appended, none_if_refused}
 use Rattle.cesu8_decode.proofs.destinations.strings.append_one.Goals as goal
 
 pub returns-then-decoded : goal.returns-then-decoded
 returns-then-decoded g c = record {
   text = tt;
   capacity = tt;
-  none = (none_if_refused g.F.Flavor.flavor Strict c.args.bytes.now _ _ _ c.write_one_strictly-decoded.ensures.read.first c.if-decoded.true).1;
+  none = (none_if_refused g.F.Flavor.flavor Strict c.args.bytes.now _ c.write_one_strictly-decoded.ensures.read.ill_formed c.if-decoded.true).1;
 }
 
 pub returns : goal.returns
@@ -18,7 +18,7 @@ returns g c =
     record {
       text =
           chunk_appended f Strict bytes [] (take decoded.result.end decoded.new.out) c.args.before.items _
-          (all_chunk f Strict bytes _ _ _ decoded.ensures.read c.if-decoded.false) c.append.ensures.bytes;
+          (decoded.ensures.read.all c.if-decoded.false) c.append.ensures.bytes;
       capacity = c.append.ensures.capacity;
       none = tt;
     }

@@ -1,7 +1,7 @@
 use Rattle.std.proofs.Common.{refl, arith}
 use Rattle.cesu8_bytes.specs.declared.strictness.Strictness.TheVariants.{Lossy}
 use Rattle.cesu8_decode.proofs.chunks.Strings.{built}
-use Rattle.cesu8_decode.proofs.chunks.ReadChunks.{all_chunk}
+use Rattle.cesu8_decode.proofs.chunks.ReadChunks.{reads_all}
 use Rattle.cesu8_decode.proofs.destinations.strings.build_window.Goals as goal
 
 pub returns : goal.returns
@@ -10,5 +10,5 @@ returns g c =
     let bytes = c.args.bytes.now in
     let decoded = c.write_text-decoded.ensures in
     built f bytes _ c.copy.result
-    (all_chunk f Lossy bytes _ _ _ (record { first = decoded.first; all = λ _. decoded.all (omega (arith, c.requires)) }) refl)
+    ((reads_all f Lossy bytes _ _ _ decoded.first (λ _. decoded.all (omega (arith, c.requires)))).all refl)
     c.copy.ensures.bytes c.copy.ensures.capacity

@@ -2,7 +2,7 @@ use Rattle.std.proofs.Common.{◌≡◌, ◌≤◌, ◌++◌, ◌∙◌, ap, ari
 use Rattle.std.proofs.lemmas.List.{take_rest}
 use Rattle.cesu8_bytes.specs.declared.strictness.Strictness.TheVariants.{Strict}
 use Rattle.cesu8_decode.proofs.chunks.FrontReadings.{none_before, read_behind}
-use Rattle.cesu8_decode.proofs.chunks.ReadChunks.{all_chunk, none_if_refused}
+use Rattle.cesu8_decode.proofs.chunks.ReadChunks.{none_if_refused}
 use Rattle.cesu8_decode.proofs.chunks.Strings.{part_kept}
 use Rattle.cesu8_decode.proofs.chunks.UnchangedFronts.{unchanged_front_chunk}
 use Rattle.cesu8_decode.proofs.destinations.strings.write_few.Goals as goal
@@ -16,7 +16,7 @@ returns-then-decoded g c =
       text = tt;
       capacity = tt;
       none = none_before f bytes (drop c.args.front bytes) (take c.args.front bytes) (unchanged_front_chunk f bytes c.args.front c.requires.front Strict)
-          (none_if_refused f Strict (drop c.args.front bytes) _ _ _ reads.first c.if-decoded.true).1;
+          (none_if_refused f Strict (drop c.args.front bytes) _ reads.ill_formed c.if-decoded.true).1;
     }
 
 pub returns : goal.returns
@@ -40,7 +40,7 @@ returns g c =
     ∙ ap (λ bs. take n bs ++ take end decoded.new.out) copied in
     record {
       text = read_behind f bytes n c.requires.front (take end decoded.new.out) _ _ c.requires.empty.0
-          (all_chunk f Strict (drop n bytes) _ _ _ reads c.if-decoded.false) items;
+          (reads.all c.if-decoded.false) items;
       capacity = c.truncate.ensures.capacity ∙ c.append.ensures.capacity;
       none = tt;
     }

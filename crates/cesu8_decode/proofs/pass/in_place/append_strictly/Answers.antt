@@ -17,8 +17,8 @@ pub returns-then-decoded : goal.returns-then-decoded
 returns-then-decoded g c = record {
   text = tt;
   capacity = tt;
-  none = (none_behind g.F.Flavor.flavor Strict c.args.bytes.now c.loop-rest.rest.now _ _ _ _ _
-      c.loop-rest.invariant.read c.write_text-decoded.ensures.first c.if-decoded.true).1;
+  none = (none_behind g.F.Flavor.flavor Strict c.args.bytes.now c.loop-rest.rest.now _ _ _
+      c.loop-rest.invariant.read c.write_text-decoded.ensures.first.ill_formed c.if-decoded.true).1;
 }
 
 pub loop-rest-preserved : goal.loop-rest-preserved

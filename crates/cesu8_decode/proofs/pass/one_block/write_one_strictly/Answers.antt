@@ -20,12 +20,12 @@ use Rattle.cesu8_decode.proofs.pass.one_block.write_one_strictly.Goals as goal
 
 pub returns-then-not-are_whole-clause-read : goal.returns-then-not-are_whole-clause-read
 returns-then-not-are_whole-clause-read g c =
-    block_refused g.F.Flavor.flavor c.args.bytes.now _ _ _
+    block_refused g.F.Flavor.flavor c.args.bytes.now _ _
     (λ text reads. c.are_whole.ensures.not_whole c.if-not-are_whole.true (record {
       text = text;
       reads = reads;
       inside = none_outside (IsOutside Encoded g.F.Flavor.flavor) (λ c none. none) text;
-    })) c.refused.ensures.0 c.refused.ensures.2
+    })) c.refused.ensures.2
 
 -- What is written is what the bytes become behind five zeros.
 record IsWritten (f : Flavor) (bytes rest : List ℕ) (end : ℕ) (old new : List ℕ) : Type 0 where
@@ -75,7 +75,7 @@ pub returns-clause-read : goal.returns-clause-read
 returns-clause-read g c =
     let bytes = c.args.bytes.now in
     let written = written_is g c in
-    block_read g.F.Flavor.flavor bytes _ _ written.reads (zeros_at (32 - length bytes)) _ _ refl (written.is.text.bytes refl)
+    block_read g.F.Flavor.flavor bytes _ _ written.reads (zeros_at (32 - length bytes)) _ (written.is.text.bytes refl)
 
 pub returns-clause-end : goal.returns-clause-end
 returns-clause-end g c =
