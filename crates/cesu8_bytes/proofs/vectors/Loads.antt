@@ -40,7 +40,3 @@ pub padded : (xs rest : List ℕ) → ((i : ℕ) → ◌≡◌ {A = ℕ} (get_or
 padded [] rest zeros k = zeros k
 padded (x ∷ xs) rest zeros zero = refl
 padded (x ∷ xs) rest zeros (suc k) = padded xs rest zeros k
-
--- ---- the lanes of a load, by their offsets in the window
-
--- ---- a window with zeros around it

@@ -17,7 +17,7 @@ use Rattle.cesu8_decode.specs.DecodedLanes.{start_kind, AreNear, TellsChange, Te
 use Rattle.cesu8_decode.specs.declared.lanes.parts.TheConstants.{FIRST_BY_SECOND, SECOND_BY_SECOND, THIRD_BY_THIRD}
 use Rattle.cesu8_bytes.proofs.vectors.Loads.{loaded}
 use Rattle.cesu8_decode.proofs.decoder.LaneTests.{kind_tells, gone_lane, lane_goes, covered_lane, ill_formed_lane, mask_fits, byte_lane, lane_byte, paired_lane, byte_unpaired}
-use Rattle.cesu8_decode.proofs.decoder.FirstLanes.{behind_lanes, before_lanes, gone_behind, well_formed_behind, written_first, no_lane, on_range}
+use Rattle.cesu8_decode.proofs.decoder.FirstLanes.{behind_lanes, before_lanes, gone_behind, well_formed_behind, written_first, no_lane, on_range, lanes_are}
 
 -- ---- kinds near a block
 
@@ -209,14 +209,6 @@ pub no_null : (f : Flavor) → (f ≡ Mutf8 → ⊥) → (a b d e g h : ℕ) →
 unfolding first_width_by
 no_null f other a b d e g h = grind (arith, nat_tests)
 
-none_chosen : (n : ℕ) (some bytes : List ℕ) → length some ≡ n → length bytes ≡ n → sel_l (replicate n false) some bytes ≡ bytes
-none_chosen zero [] [] s b = refl
-none_chosen zero [] (y ∷ bytes) s b = absurd (omega arith)
-none_chosen zero (x ∷ some) bytes s b = absurd (omega arith)
-none_chosen (suc n) [] bytes s b = absurd (omega arith)
-none_chosen (suc n) (x ∷ some) [] s b = absurd (omega arith)
-none_chosen (suc n) (x ∷ some) (y ∷ bytes) s b = ap (λ l. y ∷ l) (none_chosen n some bytes (omega arith) (omega arith))
-
 -- So no byte of CESU-8 becomes 00.
 pub none_null : (f : Flavor) (window : List ℕ) (at : ℕ) (kind : ℕ → ℕ) (before bytes : List ℕ) → (f ≡ Mutf8 → ⊥) →
     TellChanges f window at kind → before ≡ map (λ i. kind (i + 4)) (range_with_len at 32) → length bytes ≡ 32 →
@@ -226,7 +218,7 @@ none_null f window at kind before bytes other tells are long =
     ap (map (leb 0x80)) are ∙ map-map (leb 0x80) (λ i. kind (i + 4)) (range_with_len at 32)
     ∙ on_range (λ i. leb 0x80 (kind (i + 4))) (λ i. false) at 32
     (λ i low inside. (tells (i + 4) (omega arith) (omega arith)).null ∙ no_null f other _ _ _ _ _ _) in
-    sym (ap (λ t. sel_l t (replicate 32 0) bytes) tests ∙ none_chosen 32 (replicate 32 0) bytes refl long)
+    rw (tests, lanes_are bytes long) refl
 
 -- ---- what is written for a block
 

@@ -1,12 +1,14 @@
 -- The first lanes of the decoder's vectors, of which the others go and are not ill-formed.
 use Rattle.std.proofs.lemmas.Bool.Decides.{nat_tests}
 use Rattle.std.proofs.lemmas.Grind.{common_steps}
-use Rattle.std.proofs.Common.{◌≡◌, ◌≢◌, ℕ, zero, suc, ◌+◌, ◌-◌, ◌*◌, ◌^◌, ◌%◌, ◌<◌, ◌≤◌, ⊎_elim, Bool, true, false, ◌||◌, leb, List, [], ◌∷◌, ◌++◌, refl, sym, ap, ◌∙◌, arith, map, take, length, replicate, bit_and, bit_or, bit_xor, zero-add, append-nil}
+use Rattle.std.proofs.Common.{◌≡◌, ◌≢◌, ℕ, zero, suc, ◌+◌, ◌-◌, ◌*◌, ◌^◌, ◌%◌, ◌<◌, ◌≤◌, ⊎_elim, Bool, true, false, ◌||◌, leb, List, [], ◌∷◌, ◌++◌, refl, sym, ap, ◌∙◌, arith, map, take, length, replicate, bit_and, bit_or, bit_xor, zero-add, append-nil, get_or, take_all, Fits, w8}
 use Rattle.std.specs.List.{range_with_len}
 use Rattle.std.proofs.lemmas.Bool.{agree_below_at, cases_Bool, le-leb, lt-leb, cases_eq}
 use Rattle.std.proofs.lemmas.Nat.{le_or_r, and_mask}
 use Rattle.std.proofs.Math.Nat.{mod-eq_of_lt}
 use lib.Pow.{pow_mono}
+use Rattle.std.proofs.lemmas.Simd.{Each1-get_or}
+use Rattle.cesu8_bytes.proofs.vectors.Loads.{loaded}
 use Rattle.cesu8_bytes.proofs.vectors.Rows.{mask_prefix}
 use Rattle.std.specs.Int.Bits.{and_zero_r}
 use lib.Lanes.{zip2, mask_l, Each1}
@@ -157,3 +159,13 @@ on_range g h a (suc n) same =
     let first = same a (omega arith) (omega arith) in
     let rest = on_range g h (a + 1) n (λ i low inside. same i (omega arith) (omega arith)) in
     λ k. first k ∷ rest k
+
+-- ---- the lanes of a vector
+
+-- They are those at its indices,
+pub lanes_are : (lanes : List ℕ) → length lanes ≡ 32 → lanes ≡ map (λ i. get_or lanes i 0) (range_with_len 0 32)
+lanes_are lanes long = sym (take_all 32 lanes (omega (arith, long))) ∙ loaded lanes 0 0 32 (omega (arith, long))
+
+-- and bytes.
+pub lane_fits : (lanes : List ℕ) → length lanes ≡ 32 → Each1 (Fits w8) lanes → (i : ℕ) → i < 0 + 32 → get_or lanes i 0 < 0x100
+lane_fits lanes long fits i inside = (Each1-get_or (Fits w8) lanes i 0 (omega (arith, long, inside)) fits).fits

@@ -1,11 +1,11 @@
 -- Which bytes of a block may follow those before them.
-use Rattle.std.proofs.Common.{◌≡◌, ℕ, zero, suc, ◌+◌, ◌<◌, ◌≤◌, ⊎_elim, Bool, true, false, cond, List, [], ◌∷◌, map, length, get_or, replicate, ◌&&◌, eqb, leb, bit_or, refl, sym, ap, ◌∙◌, subst, arith, drop, ◌-◌, ◌++◌, not, true≢false, add-zero, take, append_assoc, min}
+use Rattle.std.proofs.Common.{◌≡◌, ℕ, zero, suc, ◌+◌, ◌<◌, ◌≤◌, ⊎_elim, Bool, true, false, cond, List, [], ◌∷◌, map, length, get_or, replicate, eqb, leb, bit_or, refl, sym, ap, ◌∙◌, subst, arith, drop, ◌-◌, ◌++◌, not, true≢false, add-zero, take, append_assoc, min}
 use Rattle.std.specs.List.{range_with_len, prefix_len}
 use Rattle.std.proofs.lemmas.Bool.{leb-false, lt-leb, ne_eqb, not-false, not-true, or_parts, cases_lt, cases_Bool}
 use Rattle.std.proofs.lemmas.List.{get_or_append_left, get_or-drop, length-take-le, take-append-drop}
 use Rattle.std.proofs.lemmas.List.FromFn.{get_or-map-range_with_len, length-map-range_with_len}
 use Rattle.std.proofs.lemmas.List.Sums.{prefix_len-le-length, prefix_len_passes, prefix_len_stops}
-use Rattle.std.proofs.lemmas.Simd.{zip2_of_maps, pick_l-range_with_len, map-map}
+use Rattle.std.proofs.lemmas.Simd.{pick_l-range_with_len, map-map}
 use lib.Lanes.{zip2, sel_l, mask_l, top, chunk}
 use Rattle.cesu8_text.specs.Class.{is_null}
 use Rattle.cesu8_text.specs.Encoding.{Flavor}
@@ -14,22 +14,15 @@ use Rattle.cesu8_decode.specs.Following.{CharacterSet, has_changed, has_four, Is
 use Rattle.cesu8_decode.specs.declared.lanes.following.Block.{Block}
 use Rattle.cesu8_bytes.proofs.lists.Lanes.{ones}
 use Rattle.cesu8_bytes.proofs.vectors.Loads.{loaded}
-use Rattle.cesu8_decode.proofs.decoder.FirstLanes.{no_lane}
+use Rattle.cesu8_decode.proofs.decoder.Kinds.{and_false}
+use Rattle.cesu8_decode.proofs.decoder.FirstLanes.{no_lane, on_range}
 use Rattle.cesu8_decode.proofs.decoder.LaneTests.{high_or}
 
 -- ---- whether they show it
 
-unlike_of : (xs ys : List ℕ) → length ys ≡ length xs →
-    sel_l (map (top 7) (zip2 (λ a b. ones (eqb a b)) xs ys)) (replicate (length xs) 0) (replicate (length xs) 0xFF)
-    ≡ zip2 (λ a b. mask (not (eqb a b))) xs ys
-unlike_of [] [] e = refl
-unlike_of [] (y ∷ ys) e = absurd (omega arith)
-unlike_of (x ∷ xs) [] e = absurd (omega arith)
-unlike_of (x ∷ xs) (y ∷ ys) e = λ i. unlike (eqb x y) i ∷ unlike_of xs ys (omega arith) i
-  where
-    unlike : (t : Bool) → cond (top 7 (ones t)) 0 0xFF ≡ mask (not t)
-    unlike true = refl
-    unlike false = refl
+unlike : (t : Bool) → cond (top 7 (ones t)) 0 0xFF ≡ mask (not t)
+unlike true = refl
+unlike false = refl
 
 none_marked : (t : Bool) → leb 0x80 (mask (not t)) ≡ false → t ≡ true
 none_marked true none = refl
@@ -48,10 +41,6 @@ low_lane f b low =
     let parts = or_parts _ _ (sym (high_or b (mask (is_null f b))) ∙ low) in
     (leb-false 0x80 b parts.0, low_mask (is_null f b) parts.1)
 
-never : (t : Bool) → (t && false) ≡ false
-never true = refl
-never false = refl
-
 ascii_fits : (s : CharacterSet) (f : Flavor) (a b d e g : ℕ) → a < 0x80 → b < 0x80 → d < 0x80 → e < 0x80 → g < 0x80 → is_null f g ≡ false →
     follows s f a b d e g ≡ true
 unfolding shown
@@ -63,9 +52,9 @@ ascii_fits s f a b d e g a_low b_low d_low e_low g_low no_null =
       lt-leb 0xC0 e (omega arith),
       lt-leb 0xE0 d (omega arith),
       lt-leb 0xF0 b (omega arith),
-      never (has_four s),
+      and_false (has_four s),
       ne_eqb a 0xED (λ same. omega arith),
-      never (has_changed s),
+      and_false (has_changed s),
     ) refl
 
 -- The vectors of a block tell which bytes may not follow those before them.
@@ -77,18 +66,16 @@ pub misplaced_are : (s : CharacterSet) (f : Flavor) (window : List ℕ) (at : �
 misplaced_are s f window at block is here want here_is by_bytes =
     let four : block.four_before ≡ map (λ i. get_or window i 0) (range_with_len at 32) =
     is.four_before ∙ sym (pick_l-range_with_len 0 window at 32 (omega (arith, is.room))) in
-    let want_is : want ≡ map (λ i. wanted s (get_or window i 0) (get_or window (i + 1) 0) (get_or window (i + 2) 0)) (range_with_len at 32) =
-    by_bytes ∙ zip2_of_maps (λ want d. want d) (λ i. wanted s (get_or window i 0) (get_or window (i + 1) 0)) (λ i. get_or window (i + 2) 0) (range_with_len at 32)
-    (zip2_of_maps (wanted s) (λ i. get_or window i 0) (λ i. get_or window (i + 1) 0) (range_with_len at 32) four
-    (is.three_before ∙ loaded window at 1 32 (omega (arith, is.room)))) (is.two_before ∙ loaded window at 2 32 (omega (arith, is.room))) in
-    let here_at : here ≡ map (λ i. shown s f (get_or window (i + 3) 0) (get_or window (i + 4) 0)) (range_with_len at 32) =
-    here_is ∙ zip2_of_maps (shown s f) (λ i. get_or window (i + 3) 0) (λ i. get_or window (i + 4) 0) (range_with_len at 32)
-    (is.one_before ∙ loaded window at 3 32 (omega (arith, is.room))) (is.bytes ∙ loaded window at 4 32 (omega (arith, is.room))) in
-    let long : length here ≡ 32 = ap length here_at in
-    subst (λ n. sel_l (map (top 7) (zip2 (λ a b. ones (eqb a b)) here want)) (replicate n 0) (replicate n 0xFF)
-    ≡ zip2 (λ a b. mask (not (eqb a b))) here want) long (unlike_of here want (ap length want_is ∙ sym long))
-    ∙ zip2_of_maps (λ a b. mask (not (eqb a b))) (λ i. shown s f (get_or window (i + 3) 0) (get_or window (i + 4) 0))
-    (λ i. wanted s (get_or window i 0) (get_or window (i + 1) 0) (get_or window (i + 2) 0)) (range_with_len at 32) here_at want_is
+    rw (
+      here_is,
+      by_bytes,
+      four,
+      is.three_before ∙ loaded window at 1 32 (omega (arith, is.room)),
+      is.two_before ∙ loaded window at 2 32 (omega (arith, is.room)),
+      is.one_before ∙ loaded window at 3 32 (omega (arith, is.room)),
+      is.bytes ∙ loaded window at 4 32 (omega (arith, is.room)),
+    ) (on_range (λ i. cond (top 7 (ones (follows_at s f window i))) 0 0xFF) (λ i. mask (not (follows_at s f window i))) at 32
+    (λ i low inside. unlike (follows_at s f window i)))
 
 -- Bytes that are marked where they are no characters of one byte,
 pub marked_are : (f : Flavor) (bytes nulls : List ℕ) → nulls ≡ map (λ b. mask (is_null f b)) bytes →

@@ -12,6 +12,10 @@ pub cond_same : {X : Type 0} (t : Bool) (x : X) → cond t x x ≡ x
 cond_same true x = refl
 cond_same false x = refl
 
+pub and_false : (t : Bool) → (t && false) ≡ false
+and_false true = refl
+and_false false = refl
+
 pub and_cond : (t : Bool) (x y m : ℕ) → bit_and (cond t x y) m ≡ cond t (bit_and x m) (bit_and y m)
 and_cond true x y m = refl
 and_cond false x y m = refl

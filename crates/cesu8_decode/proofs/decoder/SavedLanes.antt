@@ -87,17 +87,12 @@ module _ (f : Flavor) (window : List ℕ) where
       ∙ or_zero_r (bit_or (one_lane i) 0) ∙ or_zero_r (one_lane i))
       ∙ saved_lane i
 
-  one_lanes : (vs : List ℕ) →
-      one_vector (length vs) (map (λ i. get_or window i 0) vs) (map (λ i. mask (is_null f (get_or window i 0))) vs) ≡ map one_lane vs
-  one_lanes [] = refl
-  one_lanes (v ∷ vs) = ap (λ l. one_lane v ∷ l) (one_lanes vs)
-
   -- Where no byte leads others, characters of one byte are all that save something.
   pub no_lead_save : (at : ℕ) → ((i : ℕ) → at ≤ i → i < at + 32 → get_or window i 0 < 0xC0) →
       let offsets = range_with_len at 32 in
       one_vector 32 (map (λ i. get_or window i 0) offsets) (map (λ i. mask (is_null f (get_or window i 0))) offsets) ≡ map (saved_at f window) offsets
   no_lead_save at low =
-      one_lanes (range_with_len at 32) ∙ on_range one_lane (saved_at f window) at 32 (λ i from before. no_lead_saves i (low i from before))
+      on_range one_lane (saved_at f window) at 32 (λ i from before. no_lead_saves i (low i from before))
 
 -- ---- sums of lanes
 

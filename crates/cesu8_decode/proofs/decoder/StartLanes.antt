@@ -1,7 +1,7 @@
 -- The kinds of what begins at the offsets of a block, lane by lane.
 use Rattle.std.proofs.lemmas.Bool.Decides.{nat_tests}
 use Rattle.std.proofs.lemmas.Grind.{common_steps}
-use Rattle.std.proofs.Common.{◌≡◌, ℕ, ◌+◌, ◌*◌, ◌/◌, ◌%◌, ◌^◌, ◌<◌, ◌≤◌, Bool, true, false, cond, ◌&&◌, List, [], ◌∷◌, ◌++◌, map, length, get_or, replicate, eqb, leb, ltb, bit_and, bit_or, refl, sym, ap, ◌∙◌, subst, arith, Fits, w8}
+use Rattle.std.proofs.Common.{◌≡◌, ℕ, ◌+◌, ◌*◌, ◌/◌, ◌%◌, ◌^◌, ◌<◌, ◌≤◌, Bool, true, false, cond, ◌&&◌, List, ◌++◌, map, length, get_or, replicate, eqb, leb, ltb, bit_and, bit_or, refl, sym, ap, ◌∙◌, arith, Fits, w8}
 use Rattle.std.specs.List.{range_with_len}
 use Rattle.std.proofs.lemmas.Bool.{agree_below_at, eqb-true, leb-false}
 use Rattle.std.specs.Int.Bits.{and_zero_l}
@@ -18,8 +18,8 @@ use Rattle.cesu8_decode.specs.DecodedLanes.{told, start_kind_by, kind_of_two, st
 use Rattle.cesu8_bytes.proofs.vectors.Loads.{loaded, marks_at}
 use Rattle.cesu8_decode.proofs.decoder.StartKinds.{start, no_start, two_decide}
 use Rattle.cesu8_decode.proofs.decoder.LaneTests.{no_pair_begun}
-use Rattle.cesu8_decode.proofs.decoder.FirstLanes.{no_lane, on_range}
-use Rattle.cesu8_decode.proofs.decoder.Kinds.{cond_same, and_cond, by_high, by_low, by_next, looked_up}
+use Rattle.cesu8_decode.proofs.decoder.FirstLanes.{no_lane, on_range, lanes_are, lane_fits}
+use Rattle.cesu8_decode.proofs.decoder.Kinds.{cond_same, and_cond, by_high, by_low, by_next, looked_up, and_false}
 
 -- ---- a look-up by the lower half of each lane
 
@@ -75,48 +75,28 @@ module _ (lanes : List ℕ) (long : length lanes ≡ 32) where
 abbrev shr : ℕ → ℕ → ℕ
 shr a b = a / 2 ^ b
 
-told_of : (by_high by_low by_next first second : List ℕ) → length second ≡ length first →
-    zip2 bit_and (zip2 bit_and (map (λ lane. get_or by_high (lane % 16) 0) (zip2 shr first (replicate (length first) 4)))
-    (map (λ lane. get_or by_low (lane % 16) 0) first)) (map (λ lane. get_or by_next (lane % 16) 0) (zip2 shr second (replicate (length first) 4)))
-    ≡ zip2 (told by_high by_low by_next) first second
-told_of by_high by_low by_next [] [] e = refl
-told_of by_high by_low by_next [] (b ∷ second) e = absurd (omega arith)
-told_of by_high by_low by_next (a ∷ first) [] e = absurd (omega arith)
-told_of by_high by_low by_next (a ∷ first) (b ∷ second) e =
-    ap (λ l. told by_high by_low by_next a b ∷ l) (told_of by_high by_low by_next first second (omega arith))
-
 -- Three look-ups give what the tables tell of two bytes each,
 pub told_are : (by_high by_low by_next first second : List ℕ) → length first ≡ 32 → length second ≡ 32 →
     zip2 bit_and (zip2 bit_and (map (λ lane. get_or by_high (lane % 16) 0) (zip2 shr first (replicate 32 4)))
     (map (λ lane. get_or by_low (lane % 16) 0) first)) (map (λ lane. get_or by_next (lane % 16) 0) (zip2 shr second (replicate 32 4)))
     ≡ zip2 (told by_high by_low by_next) first second
-told_are by_high by_low by_next first second long long_second =
-    subst (λ n. zip2 bit_and (zip2 bit_and (map (λ lane. get_or by_high (lane % 16) 0) (zip2 shr first (replicate n 4)))
-    (map (λ lane. get_or by_low (lane % 16) 0) first)) (map (λ lane. get_or by_next (lane % 16) 0) (zip2 shr second (replicate n 4)))
-    ≡ zip2 (told by_high by_low by_next) first second) long (told_of by_high by_low by_next first second (long_second ∙ sym long))
-
-two_of : (f : Flavor) (first second : List ℕ) → length second ≡ length first → Each1 (Fits w8) first → Each1 (Fits w8) second →
-    zip2 bit_and (zip2 (told by_high by_low by_next) first second) (map (λ b. cond (null_at f 0xC0 b) 0xFF 0x7F) second) ≡ zip2 (kind_of_two f) first second
-two_of f [] [] e fits_first fits_second = refl
-two_of f [] (b ∷ second) e fits_first fits_second = absurd (omega arith)
-two_of f (a ∷ first) [] e fits_first fits_second = absurd (omega arith)
-two_of f (a ∷ first) (b ∷ second) e fits_first fits_second =
-    λ i. looked_up f a b fits_first.0.fits fits_second.0.fits i ∷ two_of f first second (omega arith) fits_first.1 fits_second.1 i
+told_are by_high by_low by_next first second long long_second = rw (lanes_are first long, lanes_are second long_second) refl
 
 -- and with a mask the kinds.
 pub two_are : (f : Flavor) (first second : List ℕ) → length first ≡ 32 → length second ≡ 32 → Each1 (Fits w8) first → Each1 (Fits w8) second →
     zip2 bit_and (zip2 (told by_high by_low by_next) first second) (map (λ b. cond (null_at f 0xC0 b) 0xFF 0x7F) second) ≡ zip2 (kind_of_two f) first second
-two_are f first second long long_second fits_first fits_second = two_of f first second (long_second ∙ sym long) fits_first fits_second
+two_are f first second long long_second fits_first fits_second =
+    let a = λ (i : ℕ). get_or first i 0 in
+    let b = λ (i : ℕ). get_or second i 0 in
+    rw (lanes_are first long, lanes_are second long_second)
+    (on_range (λ i. bit_and (told by_high by_low by_next (a i) (b i)) (cond (null_at f 0xC0 (b i)) 0xFF 0x7F)) (λ i. kind_of_two f (a i) (b i)) 0 32
+    (λ i low inside. looked_up f (a i) (b i) (lane_fits first long fits_first i inside) (lane_fits second long_second fits_second i inside)))
 
 -- ---- and the bytes behind them
 
 abbrev kinds : (null two low three first last pair : Bool) → ℕ
 kinds null two low three first last pair =
     cond null 0x80 (cond two (cond low 0x01 0x02) (cond three (cond first 0x04 (cond last 0x10 0x08)) (cond pair 0x20 0)))
-
-and_false : (t : Bool) → (t && false) ≡ false
-and_false true = refl
-and_false false = refl
 
 abbrev behind : (third fourth fifth sixth : Bool) → ℕ
 behind third fourth fifth sixth =
@@ -175,16 +155,6 @@ module _ (f : Flavor) (window : List ℕ) (fits : (k : ℕ) → Fits w8 (get_or 
       leb-false least (get_or window i 0)
       (no_lane (λ i. leb least (get_or window i 0)) at 32 (ap (λ l. mask_l (map (leb least) l)) lanes ∙ none) i low inside)
 
-  kinds_of : (vs : List ℕ) →
-      start_lanes (length vs) (map (λ i. kind_of_two f (get_or window i 0) (get_or window (i + 1) 0)) vs)
-      (map (λ i. mask (continues (get_or window (i + 2) 0))) vs) (map (λ i. mask (eqb (get_or window (i + 3) 0) 0xED)) vs)
-      (map (λ i. mask (eqb (bit_and (get_or window (i + 4) 0) 0xF0) 0xB0)) vs) (map (λ i. mask (continues (get_or window (i + 5) 0))) vs)
-      ≡ map (start_kind f window) vs
-  kinds_of [] = refl
-  kinds_of (v ∷ vs) =
-      λ i. six f (get_or window v 0) (get_or window (v + 1) 0) (get_or window (v + 2) 0) (get_or window (v + 3) 0) (get_or window (v + 4) 0)
-      (get_or window (v + 5) 0) (fits (v + 4)).fits i ∷ kinds_of vs i
-
   module _ (at : ℕ) (room : at + 37 ≤ length window) (two : List ℕ)
       (two_is : two ≡ zip2 (kind_of_two f) (chunk at 32 window) (chunk (at + 1) 32 window)) where
     two_at_offsets : two ≡ map (λ i. kind_of_two f (get_or window i 0) (get_or window (i + 1) 0)) (range_with_len at 32)
@@ -204,13 +174,16 @@ module _ (f : Flavor) (window : List ℕ) (fits : (k : ℕ) → Fits w8 (get_or 
 
       pub starts_are : start_lanes 32 two third fourth fifth sixth ≡ map (start_kind f window) (range_with_len at 32)
       starts_are =
+          let w = λ (i : ℕ). get_or window i 0 in
           rw (
             two_at_offsets,
             marks_at continues window at 2 third (omega arith) third_is,
             marks_at (λ b. eqb b 0xED) window at 3 fourth (omega arith) fourth_is,
             marks_at (λ b. eqb (bit_and b 0xF0) 0xB0) window at 4 fifth (omega arith) fifth_by_mask,
             marks_at continues window at 5 sixth (omega arith) sixth_is,
-          ) (kinds_of (range_with_len at 32))
+          ) (on_range (λ i. bit_and (kind_of_two f (w i) (w (i + 1)))
+          (behind (continues (w (i + 2))) (eqb (w (i + 3)) 0xED) (eqb (bit_and (w (i + 4)) 0xF0) 0xB0) (continues (w (i + 5)))))
+          (start_kind f window) at 32 (λ i low inside. six f _ _ _ _ _ _ (fits (i + 4)).fits))
 
     -- Where no two bytes can begin a pair, three do.
     pub three_are_starts : (third : List ℕ) → third ≡ map (λ b. mask (continues b)) (chunk (at + 2) 32 window) →

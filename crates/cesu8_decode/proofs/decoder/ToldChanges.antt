@@ -16,6 +16,7 @@ use Rattle.cesu8_decode.proofs.by_offset.CharacterBoundaries.{boundary_of_zeros,
 use Rattle.cesu8_decode.proofs.by_offset.IllFormed.{IsCovered, encoding_covered, not_covered_where, whole_or_faulty}
 use Rattle.cesu8_decode.proofs.chunks.ReadChunks.{none_left}
 use Rattle.cesu8_decode.proofs.chunks.DecodedChunks.{strict_chunk}
+use Rattle.cesu8_decode.proofs.decoder.FirstLanes.{on_range, lanes_are, lane_fits}
 use Rattle.cesu8_decode.proofs.decoder.DecodedBlocks.{map_ranges}
 use Rattle.cesu8_decode.proofs.decoder.ToldPairs.{told_at, tells, begun_where}
 use Rattle.cesu8_decode.proofs.decoder.FollowingLanes.{is_high_lane}
@@ -135,28 +136,22 @@ pair_lanes n first second =
 abbrev null_lanes : ℕ → (first : List ℕ) → List ℕ
 null_lanes n first = zip2 bit_and (map (λ b. mask (eqb b 0xC0)) first) (replicate n 0x80)
 
-told_of : (first second : List ℕ) → length second ≡ length first → Each1 (Fits w8) second →
-    (pair_lanes (length first) first second ≡ zip2 (change_kind Cesu8) first second)
-    × (zip2 bit_or (pair_lanes (length first) first second) (null_lanes (length first) first) ≡ zip2 (change_kind Mutf8) first second)
-told_of [] [] e fits = (refl, refl)
-told_of [] (b ∷ second) e fits = absurd (omega arith)
-told_of (a ∷ first) [] e fits = absurd (omega arith)
-told_of (a ∷ first) (b ∷ second) e fits =
-    let bits = told_bits (eqb a 0xED) (eqb (bit_and b 0xF0) 0xA0) (eqb a 0xC0) in
-    let high = is_high_lane b fits.0.fits in
-    let rest = told_of first second (omega arith) fits.1 in (
-      λ k. (bits.0 ∙ ap (λ t. bit_or (cond (eqb a 0xED && t) 0x20 0) 0) high) k ∷ rest.0 k,
-      λ k. (bits.1 ∙ ap (λ t. bit_or (cond (eqb a 0xED && t) 0x20 0) (cond (eqb a 0xC0 && true) 0x80 0)) high) k ∷ rest.1 k,
-    )
-
 -- They have what two bytes tell, in CESU-8 and in MUTF-8.
 pub told_lanes : (first second : List ℕ) → length first ≡ 32 → length second ≡ 32 → Each1 (Fits w8) second →
     (pair_lanes 32 first second ≡ zip2 (change_kind Cesu8) first second)
     × (zip2 bit_or (pair_lanes 32 first second) (null_lanes 32 first) ≡ zip2 (change_kind Mutf8) first second)
 told_lanes first second long long_second fits =
-    subst (λ n. (pair_lanes n first second ≡ zip2 (change_kind Cesu8) first second)
-    × (zip2 bit_or (pair_lanes n first second) (null_lanes n first) ≡ zip2 (change_kind Mutf8) first second)) long
-    (told_of first second (long_second ∙ sym long) fits)
+    let a = λ (i : ℕ). get_or first i 0 in
+    let b = λ (i : ℕ). get_or second i 0 in
+    let pair = λ (i : ℕ). bit_and (bit_and (mask (eqb (a i) 0xED)) (mask (eqb (bit_and (b i) 0xF0) 0xA0))) 0x20 in
+    let bits = λ (i : ℕ). told_bits (eqb (a i) 0xED) (eqb (bit_and (b i) 0xF0) 0xA0) (eqb (a i) 0xC0) in
+    let high = λ (i : ℕ) (inside : i < 0 + 32). is_high_lane (b i) (lane_fits second long_second fits i inside) in (
+      rw (lanes_are first long, lanes_are second long_second) (on_range pair (λ i. change_kind Cesu8 (a i) (b i)) 0 32
+          (λ i low inside. (bits i).0 ∙ ap (λ t. bit_or (cond (eqb (a i) 0xED && t) 0x20 0) 0) (high i inside))),
+      rw (lanes_are first long, lanes_are second long_second)
+          (on_range (λ i. bit_or (pair i) (bit_and (mask (eqb (a i) 0xC0)) 0x80)) (λ i. change_kind Mutf8 (a i) (b i)) 0 32
+          (λ i low inside. (bits i).1 ∙ ap (λ t. bit_or (cond (eqb (a i) 0xED && t) 0x20 0) (cond (eqb (a i) 0xC0 && true) 0x80 0)) (high i inside))),
+    )
 
 -- Bytes and those behind them are told in their window.
 pub told_in_window : (f : Flavor) (bytes : List ℕ) → length bytes ≡ 32 →

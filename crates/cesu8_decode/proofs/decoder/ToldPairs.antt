@@ -6,6 +6,7 @@ use Rattle.cesu8_bytes.specs.Pairs.{null_at}
 use Rattle.cesu8_decode.specs.DecodedOffsets.{one_at, two_at, three_at, pair_at, continues, first_width_by, width_at, is_ill_formed_at}
 use Rattle.cesu8_decode.specs.DecodedLanes.{TellsChange, change_kind, is_high}
 use Rattle.cesu8_decode.proofs.by_offset.IllFormed.{reached}
+use Rattle.cesu8_decode.proofs.decoder.Kinds.{and_false}
 use Rattle.cesu8_decode.proofs.decoder.DecodedBlocks.{no_null}
 
 -- ---- bytes of a character behind its first
@@ -103,16 +104,12 @@ wide_pair f a b d e g h wide =
 
 -- ---- what two bytes tell
 
-and_no : (t : Bool) → (t && false) ≡ false
-and_no true = refl
-and_no false = refl
-
 -- ED before A0 or more begins a pair or nothing,
 begins_pair : (f : Flavor) (b d e g h : ℕ) → 0xA0 ≤ b → first_width_by f 0xED b d e g h ≡ cond (pair_at 0xED b d e g h) 6 0
 unfolding first_width_by
 begins_pair f b d e g h high =
     let three : three_at 0xED b d ≡ false =
-    ap (λ (t : Bool). continues b && (continues d && t)) (le-ltb b 0xA0 high) ∙ ap (λ (t : Bool). continues b && t) (and_no (continues d)) ∙ and_no (continues b) in
+    ap (λ (t : Bool). continues b && (continues d && t)) (le-ltb b 0xA0 high) ∙ ap (λ (t : Bool). continues b && t) (and_false (continues d)) ∙ and_false (continues b) in
     by_flavor f (ap (λ (t : Bool). cond {A = ℕ} t 3 (cond (pair_at 0xED b d e g h) 6 0)) three)
   where
     by_flavor : (f : Flavor) → cond {A = ℕ} (three_at 0xED b d) 3 (cond (pair_at 0xED b d e g h) 6 0) ≡ cond (pair_at 0xED b d e g h) 6 0 →
@@ -168,7 +165,7 @@ null_told Mutf8 a b d e g h begun =
     let width = ap (λ a. first_width_by Mutf8 a b d e g h) is ∙ begins_null b d e g h in
     let two = eq-eqb w 2 (width ∙ two_if_some (eqb b 0x80) (omega (arith, width, begun (omega (arith, is)) (λ lead. absurd (omega (arith, is, lead)))))) in
     (λ k. first k && true) ∙ sym (λ k. two k && first k))
-    (λ (other : eqb a 0xC0 ≡ false). (λ k. other k && true) ∙ sym (ap (λ (t : Bool). eqb w 2 && t) other ∙ and_no (eqb w 2)))
+    (λ (other : eqb a 0xC0 ≡ false). (λ k. other k && true) ∙ sym (ap (λ (t : Bool). eqb w 2 && t) other ∙ and_false (eqb w 2)))
     (cases_Bool (eqb a 0xC0))
 
 kind_bits : (pair null : Bool) →

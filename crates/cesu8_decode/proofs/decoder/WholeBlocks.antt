@@ -5,6 +5,7 @@ use Rattle.std.proofs.Math.Seq.{take-length}
 use lib.Lanes.{mask_l}
 use Rattle.cesu8_bytes.specs.Packing.{written}
 use Rattle.cesu8_decode.specs.DecodedLanes.{is_high, written_lanes}
+use Rattle.cesu8_decode.proofs.decoder.FirstLanes.{lanes_are}
 
 unset : (t : Bool) (m : ℕ) → cond t 1 0 + 2 * m ≡ 0 → (t ≡ false) × (m ≡ 0)
 unset true m e = absurd (omega arith)
@@ -26,13 +27,6 @@ written_whole gone ill_formed bytes g d none =
     λ i. written (all i) (whole i) bytes
 
 -- Where no lane is gone or ill-formed, the bytes are written as they are.
-pub nothing_changes : (gone ill_formed bytes : List ℕ) → length gone ≡ length ill_formed → length gone ≡ length bytes →
+pub nothing_changes : (gone ill_formed bytes : List ℕ) → length gone ≡ 32 → length ill_formed ≡ 32 → length bytes ≡ 32 →
     mask_l (map is_high gone) ≡ 0 → mask_l (map is_high ill_formed) ≡ 0 → written_lanes gone ill_formed bytes ≡ bytes
-nothing_changes [] ill_formed [] e f none whole = refl
-nothing_changes [] ill_formed (b ∷ bytes) e f none whole = absurd (omega arith)
-nothing_changes (g ∷ gone) [] bytes e f none whole = absurd (omega arith)
-nothing_changes (g ∷ gone) (d ∷ ill_formed) [] e f none whole = absurd (omega arith)
-nothing_changes (g ∷ gone) (d ∷ ill_formed) (b ∷ bytes) e f none whole =
-    let stays = unset (is_high g) (mask_l (map is_high gone)) none in
-    let unharmed = unset (is_high d) (mask_l (map is_high ill_formed)) whole in
-    rw (stays.0, unharmed.0) (ap (λ l. b ∷ l) (nothing_changes gone ill_formed bytes (omega arith) (omega arith) stays.1 unharmed.1))
+nothing_changes gone ill_formed bytes g d b none whole = rw (none_high gone none, none_high ill_formed whole, g, d, lanes_are bytes b) refl

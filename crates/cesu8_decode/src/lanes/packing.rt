@@ -109,8 +109,8 @@ fn store_half(bytes: u8x16, gone: u8x16, ill_formed: u8x16, out: &mut [u8], at: 
     store_four(second_of(third), back >> 8 & 0xFF, out, at)
 }
 
-/// Stores what becomes of four bytes, and returns its end. The lower four bits of the set mark those
-/// that go, and the others those for which the next three lanes are stored.
+/// Stores what becomes of four bytes, and returns its end. The lower four bits of the set mark
+/// those that go, and the others those that the three lanes behind the four replace.
 #[inline(always)]
 fn store_four(lanes: u8x16, set: usize, out: &mut [u8], at: usize) -> usize
     requires small { set < 0x100 }

@@ -8,7 +8,7 @@ use Rattle.cesu8_decode.proofs.lanes.packing.store_whole.Goals as goal
 pub returns-then-gone-eq0 : goal.returns-then-gone-eq0
 returns-then-gone-eq0 c =
     rw (nothing_changes c.args.parts.gone c.args.parts.ill_formed c.args.parts.bytes
-    (omega arith) (omega arith) (sym c.bits-gone.ensures ∙ c.if-gone-eq0.true) c.requires.whole) c.put_lanes.ensures.writes
+    (omega arith) (omega arith) (omega arith) (sym c.bits-gone.ensures ∙ c.if-gone-eq0.true) c.requires.whole) c.put_lanes.ensures.writes
 
 pub returns : goal.returns
 returns c =
