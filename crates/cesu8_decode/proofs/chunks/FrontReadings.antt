@@ -1,6 +1,7 @@
 -- What bytes are read as behind a front in which nothing changes.
 use Rattle.std.proofs.Common.{◌≡◌, ℕ, ◌+◌, ◌^◌, ◌<◌, ◌≤◌, inl, inr, ⊎_elim, List, [], ◌∷◌, ◌++◌, refl, sym, ap, ◌∙◌, subst, arith, append_assoc, length, take, drop, length-drop, length-append, Ok, Err, Option, Some, None, Vec, vec_capacity}
-use Rattle.std.proofs.lemmas.Bool.{false≢true, cases_lt}
+use Rattle.std.proofs.lemmas.Bool.{cases_lt}
+use Rattle.std.proofs.lemmas.Bool.Decides.{nat_tests}
 use Rattle.std.proofs.lemmas.List.{drop-drop, length-take-le}
 use Rattle.cesu8_text.specs.Encoding.{Flavor, Cesu8, Mutf8, encoding, IsEncodedOtherwise}
 use Rattle.cesu8_text.specs.Reading.{BeginsWith, IsStrictReading, HasNoStrictReading}
@@ -72,13 +73,7 @@ module _ (f : Flavor) (bytes rest chunk : List ℕ) (read : IsChunk f Strict byt
 
 -- What is read so far is a chunk of its own.
 chunk_of : (f : Flavor) (bytes rest old new : List ℕ) (so_far : IsReadSoFar f Strict bytes rest old new) → IsChunk f Strict bytes rest (utf8 so_far.text)
-chunk_of f bytes rest old new so_far = record {
-  text = so_far.text;
-  scalars = so_far.scalars;
-  lossy_reading = so_far.lossy_reading;
-  strict_reading = so_far.strict_reading;
-  written = refl;
-}
+chunk_of f bytes rest old new so_far = grind arith
 
 -- Where the strict reading of the rest is appended behind what is read so far, that of all bytes is.
 pub appended_behind : {Z : Type 0} (f : Flavor) (bytes rest : List ℕ) (before between : Vec ℕ Z) (result : Option (Vec ℕ Z)) →
@@ -132,24 +127,12 @@ module _ (f : Flavor) (bytes : List ℕ) (n : ℕ) (front : IsFront Unchanged f 
 -- Where something is written of bytes that are some, there is room, and it is no longer than they are.
 pub written_length : (f : Flavor) (rest old new : List ℕ) (len : ℕ) → PutsReading f Strict rest (Ok len) old new →
     (0 < length rest → 0 < length old) × (len ≤ length rest)
-written_length f rest old new len puts =
-    let found = puts.fits.0 refl in
-    let long = text_length f rest found.0 found.1 in
-    let fits = text_length f rest puts.written.0 puts.written.1 in
-    ((λ more. omega (arith, long.some more, found.2)), omega (arith, puts.written.2.0, fits.fits))
+written_length f rest old new len puts = grind (arith, nat_tests, text_length)
 
 -- So is the length that is needed, and more than there is room for.
 pub needed_length : (f : Flavor) (rest old new : List ℕ) (no_room : NoRoom) → PutsReading f Strict rest (Err (unwritten.NoRoom no_room)) old new →
     (no_room.needed ≤ length rest) × (length old < no_room.needed)
-needed_length f rest old new no_room puts =
-    let found = puts.needed in
-    let long = text_length f rest found.0 found.1 in (
-      omega (arith, long.fits, found.2),
-      ⊎_elim (λ (short : length old < no_room.needed). short)
-          (λ (room : no_room.needed ≤ length old).
-          absurd (false≢true (puts.fits.1 (found.0, found.1, omega (arith, found.2, room)))))
-          (cases_lt (length old) no_room.needed),
-    )
+needed_length f rest old new no_room puts = grind (arith, nat_tests, text_length)
 
 module _ (f : Flavor) (bytes buf : List ℕ) (n : ℕ) (front : IsFront Unchanged f bytes n) (small : length bytes < 2 ^ 64) where
   read : IsChunk f Strict bytes (drop n bytes) (take n bytes)

@@ -131,10 +131,7 @@ whole_text f which bytes chunk read =
 -- What was read first is of all bytes where none are left.
 pub reads_all : (f : Flavor) (which : Strictness) (bytes text : List ℕ) (read : ℕ) (is_ill_formed : Bool) → ReadsFirst f which bytes read text is_ill_formed →
     (refuses which is_ill_formed ≡ false → read ≡ length bytes) → ReadsAll f which bytes text is_ill_formed
-reads_all f which bytes text read is_ill_formed first whole = record {
-  all = λ fine. none_left f which bytes (drop read bytes) [] text (first.chunk fine) (omega (arith, length-drop read bytes, whole fine));
-  ill_formed = first.ill_formed;
-}
+reads_all f which bytes text read is_ill_formed first whole = grind (arith, nat_tests, common_steps, none_left)
 
 -- Where encoded characters were read from the front, and then what is left, the first of all bytes are read.
 pub first_after : (f : Flavor) (which : Strictness) (bytes front text whole : List ℕ) (read more : ℕ) (is_ill_formed : Bool) → read ≤ length bytes →

@@ -1,11 +1,11 @@
 -- Blocks that are read where they stand.
 use Rattle.std.proofs.lemmas.Bool.Decides.{nat_tests}
 use Rattle.std.proofs.lemmas.Grind.{common_steps}
-use Rattle.std.proofs.Common.{◌≡◌, ℕ, zero, suc, ◌+◌, ◌-◌, ◌<◌, ◌≤◌, ⊎_elim, Bool, true, false, true≢false, List, [], ◌++◌, refl, sym, ap, ◌∙◌, arith, map, get_or, length, take, drop, replicate, zero-add, add-zero, append-nil}
+use Rattle.std.proofs.Common.{◌≡◌, ℕ, zero, suc, ◌+◌, ◌-◌, ◌<◌, ◌≤◌, Bool, true, false, true≢false, List, [], ◌++◌, refl, sym, ap, ◌∙◌, arith, map, get_or, length, take, drop, replicate, zero-add, add-zero}
 use Rattle.std.specs.List.{range_with_len}
 use Rattle.std.proofs.lemmas.List.{length-append, get_or-take, get_or-drop, drop-take}
 use Rattle.std.proofs.Math.Seq.{take-length}
-use Rattle.std.proofs.lemmas.Bool.{false≢true, cases_lt}
+use Rattle.std.proofs.lemmas.Bool.{cases_lt}
 use Rattle.cesu8_text.specs.Encoding.{Flavor}
 use Rattle.cesu8_bytes.specs.Packing.{written_for}
 use Rattle.cesu8_bytes.specs.declared.strictness.Strictness.{Strictness}
@@ -98,25 +98,13 @@ stands_in_window bytes at n some k small =
 -- Nothing is written for no bytes.
 pub none_decoded : (f : Flavor) (which : Strictness) (window before : List ℕ) → IsDecoded f which window 0 0 before before false
 unfolding decoded
-none_decoded f which window before = record {
-  bytes = λ none. sym (append-nil before);
-  refused = λ some. absurd (false≢true some);
-  lossy = λ lossy. refl;
-  strict = λ strict none i low inside. absurd (omega arith);
-}
+none_decoded f which window before = grind (arith, nat_tests, common_steps)
 
 -- What more bytes become adds to what the first ones do.
 pub more_decoded : (f : Flavor) (which : Strictness) (window before old text : List ℕ) (at n : ℕ) (is_refused : Bool) →
     IsDecoded f which window 0 at before old false → IsDecoded f which window at n old text is_refused →
     IsDecoded f which window 0 (at + n) before text is_refused
-more_decoded f which window before old text at n is_refused first next = record {
-  bytes = λ none. more_written f window before old text at n (first.bytes refl) (next.bytes none);
-  refused = λ some. let found = next.refused some in (found.0, omega arith, omega (arith, found.2), found.3);
-  lossy = next.lossy;
-  strict = λ strict none i low inside.
-      ⊎_elim (λ (early : i < at). first.strict strict refl i low (omega arith))
-      (λ (late : at ≤ i). next.strict strict none i late (omega arith)) (cases_lt i at);
-}
+more_decoded f which window before old text at n is_refused first next = grind (arith, nat_tests, more_written, cases_lt)
 
 -- It rests on ten bytes more.
 pub decoded_in : (f : Flavor) (which : Strictness) (a b before text : List ℕ) (i j n : ℕ) (is_refused : Bool) → Agree a b i j (n + 10) →
@@ -152,30 +140,12 @@ block_added f which bytes window p at n old text is_refused before agree block =
 pub writes_decoded : (f : Flavor) (which : Strictness) (window bytes old new : List ℕ) (at n end new_end : ℕ) (is_refused : Bool) →
     bytes ≡ decoded f window at n → (which ≡ Strict → (i : ℕ) → at ≤ i → i < at + n → is_ill_formed_at f window i ≡ false) →
     is_refused ≡ false → WritesAt bytes end old new new_end → WritesDecoded f which window at n end old new new_end is_refused
-writes_decoded f which window bytes old new at n end new_end is_refused is fine none writes = record {
-  text = record {
-    bytes = λ _. writes.bytes ∙ ap (λ bs. take end old ++ bs) is;
-    refused = λ some. absurd (false≢true (sym none ∙ some));
-    lossy = λ lossy. none;
-    strict = λ strict _. fine strict;
-  };
-  end = omega (arith, writes.end, ap length is, no_longer f which window at n fine);
-  len = writes.len;
-}
+writes_decoded f which window bytes old new at n end new_end is_refused is fine none writes = grind (arith, nat_tests, no_longer)
 
 -- and nothing where strict reading refuses one.
 pub writes_none : (f : Flavor) (which : Strictness) (window old : List ℕ) (at n end : ℕ) → which ≡ Strict →
     (i : ℕ) × (at ≤ i) × (i < at + n) × (is_ill_formed_at f window i ≡ true) → WritesDecoded f which window at n end old old end true
-writes_none f which window old at n end strict found = record {
-  text = record {
-    bytes = λ none. absurd (true≢false none);
-    refused = λ _. found;
-    lossy = λ lossy. absurd (cc);
-    strict = λ _ none. absurd (true≢false none);
-  };
-  end = omega arith;
-  len = refl;
-}
+writes_none f which window old at n end strict found = grind (arith, nat_tests)
 
 -- Nothing begins in the zeros before the first block.
 pub first_kinds : (f : Flavor) (bytes : List ℕ) → AreFiveKinds f (window_of bytes) 0 (replicate 32 0) 27
