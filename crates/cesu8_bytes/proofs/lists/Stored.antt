@@ -6,6 +6,14 @@ use Rattle.std.proofs.Math.Seq.{take-append-add, take-add}
 use Rattle.std.proofs.lemmas.Simd.{length-put_chunk, take_more_put_chunk}
 use Rattle.cesu8_bytes.specs.Puts.{WritesAt}
 
+-- A vector that is stored is written.
+pub vector_written : (at n : ℕ) (lanes out : List ℕ) → n ≡ at + length lanes → n ≤ length out → WritesAt lanes at out (put_chunk at out lanes) n
+vector_written at n lanes out end room = record {
+  bytes = take_more_put_chunk at out lanes n end room;
+  end = end;
+  len = length-put_chunk at out lanes;
+}
+
 -- Of bytes that are written the first ones stand there too.
 pub first_written : (run at n : ℕ) (bytes old new : List ℕ) → run ≤ length bytes → at ≤ length old → WritesAt bytes at old new n →
     WritesAt (take run bytes) at old new (at + run)

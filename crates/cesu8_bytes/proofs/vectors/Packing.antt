@@ -6,11 +6,11 @@ use Rattle.std.proofs.lemmas.Bool.{agree_below, agree_below_at, leb-true}
 use Rattle.std.proofs.lemmas.List.{length-map, length-drop, length-replicate, map-append, drop_all, drop-drop, drop-replicate, take-replicate, take-take, take_at, drop-take, length-take, length-take-le, get_or_at}
 use Rattle.std.proofs.lemmas.Nat.{and_mask, and_le_r}
 use Rattle.std.proofs.lemmas.Simd.{swz_l, SwzOk, SwzOk-from_below, zip2_splat, length-zip2, length-chunk, map-map, pick_l-range_with_len, Each1-all, Each1-zip2, Each2-splat}
-use lib.Lanes.{zip2, mask_l, chunk, Each1}
+use lib.Lanes.{zip2, mask_l, put_chunk, chunk, Each1}
 use Rattle.cesu8_bytes.specs.Packing.{written_for, written, kept_of, lanes_at, shuffle_keeping, shuffle_of_eight}
 use Rattle.cesu8_bytes.specs.Puts.{WritesAt}
 use Rattle.cesu8_bytes.specs.declared.writing.packing.rows_of_eight.TheConstants.{ROWS}
-use Rattle.cesu8_bytes.proofs.lists.Stored.{first_written}
+use Rattle.cesu8_bytes.proofs.lists.Stored.{vector_written, first_written}
 use Rattle.cesu8_bytes.proofs.vectors.Rows.{lowest, shuffled, first_mask, row_mask}
 use Rattle.cesu8_bytes.proofs.vectors.Tables.{same_list, same_rows, rows_by}
 
@@ -101,13 +101,14 @@ module _ (n gone_set ill_formed_set most : ℕ) (row : List ℕ) (row_is : row �
   end_of_row = omega (arith, last_is, few)
 
   -- Where all lanes of the row are stored, those that it keeps are written.
-  pub row_written : (lanes old new : List ℕ) (at end : ℕ) → at ≤ length old → WritesAt (lanes_at lanes row) at old new end →
-      WritesAt (lanes_at lanes kept) at old new (at + get_or row 15 0)
-  row_written lanes old new at end room put =
-      let long = length-map row (λ j. get_or lanes (j % 0x10) 0) in
-      let all : get_or row 15 0 ≤ length row = omega (arith, end_of_row, ap length row_is, length-append (kept ++ zeros) (length kept ∷ []), prefix_long, fits) in
-      subst (λ bs. WritesAt bs at old new (at + get_or row 15 0)) (front_is lanes)
-      (first_written (get_or row 15 0) at end (lanes_at lanes row) old new (omega (arith, long, all)) room put)
+  pub row_written : (lanes out packed : List ℕ) (at : ℕ) → at + 16 ≤ length out → packed ≡ lanes_at lanes row →
+      WritesAt (lanes_at lanes kept) at out (put_chunk at out packed) (at + get_or row 15 0)
+  row_written lanes out packed at room is =
+      let long : length (lanes_at lanes row) ≡ 16 =
+      omega (arith, length-map row (λ j. get_or lanes (j % 0x10) 0), ap length row_is, length-append (kept ++ zeros) (length kept ∷ []), prefix_long) in
+      rw is (subst (λ bs. WritesAt bs at out (put_chunk at out (lanes_at lanes row)) (at + get_or row 15 0)) (front_is lanes)
+      (first_written (get_or row 15 0) at (at + 16) (lanes_at lanes row) out _ (omega (arith, long, end_of_row, fits)) (omega (arith, room))
+      (vector_written at (at + 16) (lanes_at lanes row) out (omega (arith, long)) room)))
     where
       front_is : (lanes : List ℕ) → take (get_or row 15 0) (lanes_at lanes row) ≡ lanes_at lanes kept
       front_is lanes = grind (arith, common_steps, last_is, length-map, map-append, take_at, append_assoc)
@@ -126,8 +127,8 @@ module _ (row : List ℕ) (gone : ℕ) (small : gone < 0x100) (row_is : row ≡ 
   pub end_of_eight : get_or row 15 0 ≤ 8
   end_of_eight = end_of_row 8 gone 0 8 row row_is (few_of_eight gone small) (omega arith)
 
-  pub eight_written : (lanes old new : List ℕ) (at end : ℕ) → at ≤ length old → WritesAt (lanes_at lanes row) at old new end →
-      WritesAt (lanes_at lanes (kept_of_eight gone)) at old new (at + get_or row 15 0)
+  pub eight_written : (lanes out packed : List ℕ) (at : ℕ) → at + 16 ≤ length out → packed ≡ lanes_at lanes row →
+      WritesAt (lanes_at lanes (kept_of_eight gone)) at out (put_chunk at out packed) (at + get_or row 15 0)
   eight_written = row_written 8 gone 0 8 row row_is (few_of_eight gone small) (omega arith)
 
 -- Row d of the table is that for the eight bytes that go.

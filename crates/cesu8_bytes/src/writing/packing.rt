@@ -7,7 +7,6 @@ ghost use Rattle.cesu8_bytes.specs.Puts.{WritesAt};
 
 mod rows_of_eight;
 
-use super::put::put_lanes;
 use crate::BLOCK;
 use rows_of_eight::rows_of_eight;
 use std::simd::prelude::*;
@@ -44,7 +43,8 @@ fn store_eight(lanes: u8x16, gone: usize, out: &mut [u8], at: usize) -> usize
     ensures few { result ≤ at + 8 }
 {
     let row = &rows_of_eight()[gone];
-    put_lanes(picked(lanes, u8x16::from_array(*row)), out, at);
+    let packed = picked(lanes, u8x16::from_array(*row));
+    packed.copy_to_slice(&mut out[at..]);
     at + row[15] as usize
 }
 

@@ -3,7 +3,7 @@ use Rattle.std.proofs.Common.{◌≡◌, ℕ, ◌+◌, ◌/◌, ◌%◌, ◌^◌
 use Rattle.std.specs.List.{range_with_len}
 use Rattle.std.proofs.lemmas.List.{length-map, length-take, length-drop, take-map, drop-map, take_at, drop_at}
 use Rattle.std.proofs.lemmas.Simd.{pick_l-range_with_len, length-chunk}
-use lib.Lanes.{mask_l, chunk, pick_l}
+use lib.Lanes.{mask_l, put_chunk, chunk, pick_l}
 use Rattle.cesu8_bytes.specs.Packing.{written, kept_of, lanes_at}
 use Rattle.cesu8_bytes.specs.Puts.{WritesAt}
 use Rattle.cesu8_decode.specs.DecodedLanes.{is_high, written_lanes, shuffle_of_four}
@@ -24,8 +24,8 @@ module _ (row : List ℕ) (set : ℕ) (small : set < 0x100) (row_is : row ≡ sh
   pub end_of_four : get_or row 15 0 ≤ 12
   end_of_four = end_of_row 4 (set % 0x10) (set / 0x10) 12 row row_is (few_of_four set small) (omega arith)
 
-  pub four_written : (lanes old new : List ℕ) (at end : ℕ) → at ≤ length old → WritesAt (lanes_at lanes row) at old new end →
-      WritesAt (lanes_at lanes (kept_of_four set)) at old new (at + get_or row 15 0)
+  pub four_written : (lanes out packed : List ℕ) (at : ℕ) → at + 16 ≤ length out → packed ≡ lanes_at lanes row →
+      WritesAt (lanes_at lanes (kept_of_four set)) at out (put_chunk at out packed) (at + get_or row 15 0)
   four_written = row_written 4 (set % 0x10) (set / 0x10) 12 row row_is (few_of_four set small) (omega arith)
 
 -- Lanes of four bytes, which a replacement character follows.

@@ -11,7 +11,6 @@ use super::rows::rows;
 use cesu8_bytes::BLOCK;
 use cesu8_bytes::lanes::class::{AtLeast, bits};
 use cesu8_bytes::writing::packing::{HALF, STORED, picked, second_of, store_kept};
-use cesu8_bytes::writing::put::put_lanes;
 use std::simd::prelude::*;
 
 /// The most bytes that are written for one byte: those of the replacement character.
@@ -69,7 +68,8 @@ pub fn store_whole(parts: Parts, out: &mut [u8], at: usize) -> usize
 {
     let gone = bits::<HighestBit, BLOCK>(parts.gone) as usize;
     if gone == 0 {
-        return put_lanes(parts.bytes, out, at);
+        parts.bytes.copy_to_slice(&mut out[at..]);
+        return at + BLOCK;
     }
     store_kept(parts.bytes, gone, out, at)
 }
@@ -120,6 +120,7 @@ fn store_four(lanes: u8x16, set: usize, out: &mut [u8], at: usize) -> usize
     ensures few { result ≤ at + WIDEST * 4 }
 {
     let row = &rows()[set];
-    put_lanes(picked(lanes, u8x16::from_array(*row)), out, at);
+    let packed = picked(lanes, u8x16::from_array(*row));
+    packed.copy_to_slice(&mut out[at..]);
     at + row[15] as usize
 }

@@ -20,7 +20,6 @@ use cesu8_bytes::flavor::{Flavor, nulls};
 use cesu8_bytes::lanes::class::{AtLeast, bits};
 use cesu8_bytes::strictness::Strictness;
 use cesu8_bytes::writing::packing::STORED;
-use cesu8_bytes::writing::put::put_lanes;
 use std::simd::prelude::*;
 
 /// Writes what becomes of the first `count` bytes of a block, which follow `at` bytes of the window
@@ -115,7 +114,7 @@ fn copy_block(bytes: u8x32, kinds: u8x32, count: usize, out: &mut [u8], end: usi
     ensures kept { result.is_refused ≡ false }
     ensures kinds { result.kinds ≡ kinds }
 {
-    put_lanes(bytes, out, end);
+    bytes.copy_to_slice(&mut out[end..]);
     Block {
         end: end + count,
         is_refused: false,

@@ -5,8 +5,8 @@ use Rattle.cesu8_decode.proofs.lanes.packing.store_four.Goals as goal
 pub returns-clause-kept : goal.returns-clause-kept
 returns-clause-kept c =
     let row = get_or c.rows.result.now c.args.set [] in
-    four_written row c.args.set c.requires.small (c.rows.ensures c.args.set c.requires.small) c.args.lanes _ _ _ _
-    (omega (arith, c.requires.room)) (rw c.picked.ensures at c.put_lanes.ensures.writes)
+    four_written row c.args.set c.requires.small (c.rows.ensures c.args.set c.requires.small) c.args.lanes
+    c.args.out.now _ c.args.at c.requires.room c.picked-packed.ensures
 
 pub returns-clause-few : goal.returns-clause-few
 returns-clause-few c = omega (arith, end_of_four _ c.args.set c.requires.small (c.rows.ensures c.args.set c.requires.small))
