@@ -5,7 +5,7 @@
 //! | at most 256 | are all ASCII that does not change? | what takes the encoding alone |
 //! | at most 1,024 | are all ASCII? | what takes UTF-8 as well |
 //! | at most 64, with more behind them | the first of these, by one vector | strings in a row |
-//! | below 256 | does a byte change? by two vectors | what encodes, and lenient calls |
+//! | below 256 | does a byte change? by two vectors | what encodes |
 //! | 256 and more | the same, by a call of the kernels, so that the short way has few registers to save | the same |
 
 ghost use Rattle.std.specs.Prelude.{◌↔◌, ◌≤◌, IsTrue, Any, length, take};
@@ -30,7 +30,7 @@ const TESTED_AT_ONCE: usize = 16 * LANES;
 /// How many bytes one look shows at the front of others.
 const SHOWN_AT_ONCE: usize = LANES;
 
-/// Returns whether the bytes are few and all ASCII. More are tested by the front of UTF-8.
+/// Returns whether the bytes are few and all ASCII. More are tested by the front.
 #[inline(always)]
 pub fn is_short_ascii(bytes: &[u8]) -> bool
     ensures { IsTrue result → IsAscii bytes.now }
@@ -70,7 +70,7 @@ pub fn begins_with_unchanged_ascii<F: Flavor>(bytes: &[u8], len: usize) -> bool
 
 /// Returns whether some byte of the UTF-8 changes in the flavor.
 #[inline(always)]
-pub fn contains_changed<F: Flavor>(bytes: &[u8]) -> bool
+fn contains_changed<F: Flavor>(bytes: &[u8]) -> bool
     ensures { IsTrue result ↔ Any (IsChangedByte F.flavor) bytes.now }
 {
     if bytes.len() < SHORT {

@@ -1,19 +1,18 @@
 //! What a call that decodes takes, as types.
 
-ghost use Rattle.std.specs.Prelude.{◌≡◌, ◌↔◌, ◌≤◌, ℕ, Any, List, IsTrue, IsUtf8, length, take};
+ghost use Rattle.std.specs.Prelude.{◌≡◌, ◌↔◌, ◌<◌, ℕ, ◌≤◌, List, IsTrue, IsUtf8, length, drop, IfSome, IfNone};
 ghost use Rattle.cesu8_text.specs.Class.{IsChangedByte, IsUnchangedUtf8};
-ghost use Rattle.cesu8_text.specs.Encoding.{Flavor as AnyFlavor, Cesu8};
+ghost use Rattle.cesu8_text.specs.Encoding.{Flavor as AnyFlavor};
 ghost use Rattle.cesu8_text.specs.Reading.{IsStrictReading, IsLenientReading, reading, IsLenientLossyReading};
 ghost use Rattle.cesu8_text.specs.Kept.{KnowsTexts};
 ghost use Rattle.cesu8_text.proofs.reading.KeptTexts.{encoding_texts, lenient_texts};
-ghost use Rattle.cesu8_decode.specs.Following.{Unchanged, Utf8};
+ghost use Rattle.cesu8_decode.specs.Following.{Unchanged as AllUnchanged};
 ghost use Rattle.cesu8_decode.specs.Front.{IsFront};
 
-use crate::front::front;
-use crate::lanes::character_set;
-use crate::way::SHORT_WINDOW;
-use cesu8_bytes::flavor::{Cesu8Flavor, Flavor};
-use cesu8_bytes::looks::{contains_changed, is_short_ascii, is_short_unchanged_ascii};
+use crate::front::{front, is_utf8};
+use crate::lanes::character_set::Unchanged;
+use cesu8_bytes::flavor::Flavor;
+use cesu8_bytes::looks::{is_short_ascii, is_short_unchanged_ascii};
 
 /// What a call takes.
 pub trait Accepts {
@@ -25,25 +24,33 @@ pub trait Accepts {
 
     ghost reads_lossily: { AnyFlavor → List ℕ → List ℕ → Type 0 };
 
-    /// So many bytes at the front are whole characters that it keeps, and no more.
-    ghost ends_kept: { AnyFlavor → List ℕ → ℕ → Type 0 };
-
     /// Returns whether the bytes are few, and all ASCII that stays.
     fn is_short_kept_ascii<F: Flavor>(bytes: &[u8]) -> bool
         ensures { IsTrue result → keeps F.flavor bytes.now };
 
-    /// Returns how many bytes at the front are whole characters that are kept.
-    fn kept_front<F: Flavor>(bytes: &[u8]) -> usize
-        ensures front { ends_kept F.flavor bytes.now result }
-        ensures all { result ≡ length bytes.now ↔ keeps F.flavor bytes.now };
-
-    /// Returns how many of these are the same in UTF-8.
-    fn unchanged_front<F: Flavor>(bytes: &[u8], front: usize) -> usize
-        requires { ends_kept F.flavor bytes.now front }
-        ensures { IsFront Unchanged F.flavor bytes.now result };
+    /// Returns whether all bytes are kept, of which so many at the front are the same in UTF-8.
+    fn keeps_all<F: Flavor>(bytes: &[u8], front: usize) -> bool
+        requires { IsFront AllUnchanged F.flavor bytes.now front }
+        ensures { IsTrue result ↔ keeps F.flavor bytes.now };
 
     ghost known: { (f : AnyFlavor) (bytes : List ℕ)
         → KnowsTexts f bytes (keeps f bytes) (reads f bytes) (reads_lossily f bytes) };
+}
+
+/// Returns how many bytes at the front are whole characters that are the same in UTF-8, unless a
+/// call that takes `A` keeps all bytes.
+#[inline(always)]
+pub fn front_unless_kept<F: Flavor, A: Accepts>(bytes: &[u8]) -> Option<usize>
+    ensures kept { IfNone result (A.keeps F.flavor bytes.now) }
+    ensures unkept { IfSome result (λ _. ¬ (A.keeps F.flavor bytes.now)) }
+    ensures front { IfSome result (λ front.
+        IsFront AllUnchanged F.flavor bytes.now front × (front < length bytes.now)) }
+{
+    let front = front::<F, Unchanged>(bytes);
+    if A::keeps_all::<F>(bytes, front) {
+        return None;
+    }
+    Some(front)
 }
 
 /// UTF-8 as a whole, or else the encoding.
@@ -56,42 +63,36 @@ impl Accepts for Lenient {
 
     ghost reads_lossily = { IsLenientLossyReading };
 
-    ghost ends_kept = { λ f. IsFront Utf8 Cesu8 };
-
     #[inline(always)]
     fn is_short_kept_ascii<F: Flavor>(bytes: &[u8]) -> bool {
         is_short_ascii(bytes)
     }
 
     #[inline(always)]
-    fn kept_front<F: Flavor>(bytes: &[u8]) -> usize {
-        // In CESU-8 no ASCII changes, so 00 is passed over too.
-        front::<Cesu8Flavor, character_set::Utf8>(bytes)
-    }
-
-    #[inline(always)]
-    fn unchanged_front<F: Flavor>(bytes: &[u8], front: usize) -> usize {
-        // What has a character that changes is refused.
-        if may_change::<F>(bytes, front) {
-            return crate::front::front::<F, character_set::Unchanged>(bytes);
-        }
-        front
+    fn keeps_all<F: Flavor>(bytes: &[u8], front: usize) -> bool {
+        front == bytes.len() || may_change::<F>(bytes[front]) && is_utf8_from(bytes, front)
     }
 
     ghost known = { lenient_texts };
 }
 
-/// Returns whether a byte of the front may change. Of fewer bytes it is one of all, so that no branch
-/// depends on how long the front is, which would be guessed wrong.
+/// Returns whether a byte changes, if it is one of UTF-8. UTF-8 behind a front that is the same
+/// there begins with such a byte.
 #[inline(always)]
-fn may_change<F: Flavor>(bytes: &[u8], front: usize) -> bool
-    requires { front ≤ length bytes.now }
-    ensures { Any (IsChangedByte F.flavor) (take front bytes.now) → IsTrue result }
+fn may_change<F: Flavor>(byte: u8) -> bool
+    ensures { IsChangedByte F.flavor byte → IsTrue result }
 {
-    if bytes.len() < SHORT_WINDOW {
-        return contains_changed::<F>(bytes);
-    }
-    contains_changed::<F>(&bytes[..front])
+    matches!(byte, 0xF0..=0xF7) || F::has_long_null() && byte == 0
+}
+
+/// Returns whether the bytes from an offset on are UTF-8. It is not inlined, so that the way of
+/// other bytes stays short.
+#[inline(never)]
+fn is_utf8_from(bytes: &[u8], at: usize) -> bool
+    requires { at ≤ length bytes.now }
+    ensures { IsTrue result ↔ IsUtf8 (drop at bytes.now) }
+{
+    is_utf8(&bytes[at..])
 }
 
 /// The encoding alone. UTF-8 is one if no byte of it changes.
@@ -104,21 +105,14 @@ impl Accepts for EncodingAlone {
 
     ghost reads_lossily = { λ f bytes text. text ≡ reading f bytes };
 
-    ghost ends_kept = { IsFront Unchanged };
-
     #[inline(always)]
     fn is_short_kept_ascii<F: Flavor>(bytes: &[u8]) -> bool {
         is_short_unchanged_ascii::<F>(bytes)
     }
 
     #[inline(always)]
-    fn kept_front<F: Flavor>(bytes: &[u8]) -> usize {
-        front::<F, character_set::Unchanged>(bytes)
-    }
-
-    #[inline(always)]
-    fn unchanged_front<F: Flavor>(bytes: &[u8], front: usize) -> usize {
-        front
+    fn keeps_all<F: Flavor>(bytes: &[u8], front: usize) -> bool {
+        front == bytes.len()
     }
 
     ghost known = { encoding_texts };

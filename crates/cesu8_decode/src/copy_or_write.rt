@@ -2,7 +2,7 @@
 
 ghost use Rattle.cesu8_decode.specs.PutReadings.{PutsText, ReadsAs};
 
-use crate::accepts::Accepts;
+use crate::accepts::{Accepts, front_unless_kept};
 use crate::destinations::slices::{put_lossily, put_strictly};
 use crate::refusal::Unwritten;
 use cesu8_bytes::flavor::Flavor;
@@ -37,14 +37,11 @@ fn decode_other_to_slice<F: Flavor, A: Accepts>(
     ensures { PutsText strictness (ReadsAs strictness (A.reads F.flavor bytes.now)
         (A.reads_lossily F.flavor bytes.now)) result buf.old buf.new }
 {
-    let kept = A::kept_front::<F>(bytes);
-    if kept == bytes.len() {
+    let Some(front) = front_unless_kept::<F, A>(bytes) else {
         return copy_to_slice_by_call(bytes, buf).map_err(Unwritten::NoRoom);
-    }
+    };
     match strictness {
-        Strictness::Strict => {
-            put_strictly::<F>(bytes, A::unchanged_front::<F>(bytes, kept), buf)
-        }
+        Strictness::Strict => put_strictly::<F>(bytes, front, buf),
         Strictness::Lossy => put_lossily::<F>(bytes, buf),
     }
 }

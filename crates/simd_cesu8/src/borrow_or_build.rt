@@ -2,9 +2,9 @@
 //!
 //! Decoding returns short ASCII first, in a function that is inlined into the public call. The
 //! rest of it, in a function whose name ends in `other` or `called`, is never inlined, so that this
-//! test stays small. It begins with the front, the characters that the call keeps: where that is all the
-//! result borrows, and else what stands behind it decides. What a call takes is a type, `Lenient` or
-//! `EncodingAlone`. Of strings in a row one look shows short ASCII, whatever its length.
+//! test stays small. It begins with the front, the characters that are the same in UTF-8. A call
+//! borrows if it keeps all bytes, and else what stands behind the front decides. What it takes is a
+//! type, `Lenient` or `EncodingAlone`. Of strings in a row one look shows short ASCII.
 
 ghost use Rattle.std.specs.Prelude.{take};
 ghost use Rattle.simd_cesu8.specs.Calls.{Encodes, DecodesAs, DecodesLossily, DecodesStrictly};
@@ -13,8 +13,8 @@ use crate::cow::{CowBytes, CowText};
 use crate::error::DecodeFault;
 use crate::internal;
 use crate::internal::{
-    Accepts, EncodingAlone, Flavor, Lenient, begins_with_unchanged_ascii, is_shown_at_once,
-    known_text, needs_encoded,
+    Accepts, EncodingAlone, Flavor, Lenient, begins_with_unchanged_ascii, front_unless_kept,
+    is_shown_at_once, known_text, needs_encoded,
 };
 use std::alloc::{AllocError, Global};
 
@@ -52,11 +52,9 @@ fn decode_other<F: Flavor, A: Accepts>(
 ) -> Result<CowText<'_>, DecodeFault>
     ensures { DecodesAs (A.keeps F.flavor bytes.now) (A.reads F.flavor bytes.now) bytes.now result }
 {
-    let kept = A::kept_front::<F>(bytes);
-    if kept == bytes.len() {
+    let Some(front) = front_unless_kept::<F, A>(bytes) else {
         return Ok(CowText::Borrowed(known_text(bytes)));
-    }
-    let front = A::unchanged_front::<F>(bytes, kept);
+    };
     let built = internal::decode_strict::<F>(alloc, bytes, front)?;
     Ok(CowText::Owned(built))
 }
@@ -130,10 +128,9 @@ fn decode_lossy_other<F: Flavor, A: Accepts>(
     ensures { DecodesLossily F.flavor (A.keeps F.flavor bytes.now)
         (A.reads_lossily F.flavor bytes.now) bytes.now result }
 {
-    let kept = A::kept_front::<F>(bytes);
-    if kept == bytes.len() {
+    let Some(_) = front_unless_kept::<F, A>(bytes) else {
         return Ok(CowText::Borrowed(known_text(bytes)));
-    }
+    };
     let built = internal::decode_lossy::<F>(alloc, bytes)?;
     Ok(CowText::Owned(built))
 }

@@ -23,7 +23,7 @@ pub use cesu8_bytes::order::compare_as_utf16;
 use cesu8_bytes::strictness::Strictness;
 pub use cesu8_bytes::utf8::known_text;
 pub use cesu8_bytes::writing::copies::{copy, copy_text};
-pub use cesu8_decode::accepts::{Accepts, EncodingAlone, Lenient};
+pub use cesu8_decode::accepts::{Accepts, EncodingAlone, Lenient, front_unless_kept};
 use cesu8_decode::copy_or_write;
 pub use cesu8_decode::front::{is_utf8, valid_up_to};
 use cesu8_decode::refusal::{Refusal, Unwritten};

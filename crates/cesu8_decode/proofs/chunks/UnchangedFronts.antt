@@ -1,14 +1,17 @@
 -- Characters at the front that are the same in UTF-8, and what stops them.
-use Rattle.std.proofs.Common.{◌≡◌, ℕ, ◌<◌, ◌↔◌, List, refl, sym, ap, ◌∙◌, subst, arith, length, take, drop, length-drop, true≢false}
-use Rattle.std.specs.List.{Any}
+use Rattle.std.proofs.Common.{◌≡◌, ℕ, ◌+◌, ◌/◌, ◌<◌, ◌↔◌, List, [], ◌∷◌, ◌++◌, refl, sym, ap, ◌∙◌, subst, arith, add-zero, length, get_or, take, drop, length-drop, true≢false}
 use Rattle.std.specs.Str.{chars, IsUtf8}
+use Rattle.std.proofs.lemmas.Bool.Decides.{nat_tests}
+use Rattle.std.proofs.lemmas.List.{get_or-drop, take-append-drop}
+use Rattle.std.proofs.lemmas.Str.{IsUtf8-append, IsUtf8-drop, IsCharBoundary-from_take}
 use Rattle.cesu8_text.specs.Class.{IsChangedByte, IsUnchangedUtf8}
 use Rattle.cesu8_text.specs.Encoding.{Flavor, Cesu8, IsEncodedOtherwise, NeedsEncoding}
 use Rattle.cesu8_text.specs.Reading.{BeginsWith, NoneBegins, HasNoStrictReading}
-use Rattle.cesu8_text.specs.Text.{utf8}
+use Rattle.cesu8_text.specs.Text.{IsText, utf8_of, utf8}
 use Rattle.cesu8_text.proofs.StdUtf8.{IsUtf8Of_chars, IsUtf8_utf8, chars_utf8}
-use Rattle.cesu8_text.proofs.encoding.Lengths.{Change, same, longer, change}
-use Rattle.cesu8_text.proofs.encoding.NeedsEncoding.{encoding_same, needs_by_bytes}
+use Rattle.cesu8_text.proofs.text.Shapes.{Shape, one, two, three, pair, shape, utf8_of_one, utf8_of_pair}
+use Rattle.cesu8_text.proofs.encoding.Lengths.{Change, same, longer, change, not_otherwise}
+use Rattle.cesu8_text.proofs.encoding.NeedsEncoding.{encoding_same, needs_by_bytes, changed_by_four, four_from}
 use Rattle.cesu8_text.proofs.encoding.Unique.{no_reading}
 use Rattle.cesu8_text.proofs.reading.Borrowing.{unchanged_reading}
 use Rattle.cesu8_bytes.specs.TextChunks.{IsChunk}
@@ -52,6 +55,16 @@ utf8_whole bytes = (
   λ is_utf8. record { text = chars bytes; reads = IsUtf8Of_chars bytes is_utf8; inside = none_outside _ (λ c null. true≢false (sym null)) (chars bytes) },
 )
 
+-- ---- characters
+
+-- UTF-8 that begins with a character that changes begins with a byte that does.
+first_changed : (f : Flavor) (c : ℕ) (rest : List ℕ) → Shape c → IsEncodedOtherwise f c → IsChangedByte f (get_or (utf8_of c ++ rest) 0 0)
+first_changed f c rest (one ascii) needs = grind (arith, nat_tests, utf8_of_one)
+first_changed f c rest (two x y digits) needs = absurd (not_otherwise f c (omega arith) (omega arith) needs)
+first_changed f c rest (three x y z digits) needs = absurd (not_otherwise f c (omega arith) (omega arith) needs)
+first_changed f c rest (pair w x y z digits) needs =
+    rw (utf8_of_pair c w x y z digits) (changed_by_four f _ (four_from (0xF0 + (w + 1) / 4) (omega arith) (omega arith)))
+
 -- ---- fronts
 
 -- The front of UTF-8 is of all bytes exactly if they are UTF-8.
@@ -60,14 +73,6 @@ module _ (bytes : List ℕ) (n : ℕ) (front : IsFront Utf8 Cesu8 bytes n) where
   all_utf8 =
       let of_all = front_of_all Utf8 Cesu8 bytes n front in
       (λ all. (utf8_whole bytes).0 (of_all.0 all), λ is_utf8. of_all.1 ((utf8_whole bytes).1 is_utf8))
-
-  -- Where nothing changes in it, it is that of unchanged characters.
-  pub front_same : (f : Flavor) → ¬ (Any (IsChangedByte f) (take n bytes)) → IsFront Unchanged f bytes n
-  front_same f none = record {
-    within = front.within;
-    whole = unchanged_whole f (take n bytes) ((utf8_whole (take n bytes)).0 front.whole, none);
-    greatest = λ m longer within whole. front.greatest m longer within ((utf8_whole (take m bytes)).1 (whole_unchanged f (take m bytes) whole).0);
-  }
 
 -- That of unchanged characters is UTF-8 in which nothing changes,
 module _ (f : Flavor) (bytes : List ℕ) (n : ℕ) (front : IsFront Unchanged f bytes n) where
@@ -79,6 +84,28 @@ module _ (f : Flavor) (bytes : List ℕ) (n : ℕ) (front : IsFront Unchanged f 
   all_unchanged =
       let of_all = front_of_all Unchanged f bytes n front in
       (λ all. whole_unchanged f bytes (of_all.0 all), λ unchanged. of_all.1 (unchanged_whole f bytes unchanged))
+
+  -- All bytes are UTF-8 exactly if those behind it are,
+  pub utf8_by_rest : IsUtf8 bytes ↔ IsUtf8 (drop n bytes)
+  utf8_by_rest = (
+    λ is_utf8. IsUtf8-drop bytes n is_utf8 (IsCharBoundary-from_take bytes n is_utf8 front.within front_unchanged.0),
+    λ rest. subst IsUtf8 (take-append-drop n bytes) (IsUtf8-append (take n bytes) (drop n bytes) front_unchanged.0 rest),
+  )
+
+  by_text : (text : List ℕ) → IsText text → utf8 text ≡ drop n bytes → n < length bytes → IsChangedByte f (get_or (drop n bytes) 0 0)
+  by_text [] is_text are more = absurd (omega (arith, ap length are, length-drop n bytes))
+  by_text (c ∷ text) is_text are more = by_first (change f c is_text.0)
+    where
+      by_first : Change f c → IsChangedByte f (get_or (drop n bytes) 0 0)
+      by_first (same stays encoded) =
+          absurd (none_behind Unchanged f bytes n front c (utf8 text) refl stays (record { scalar = is_text.0; bytes_are = sym are ∙ ap (λ bs. bs ++ utf8 text) (sym encoded) }))
+      by_first (longer needs _ _) = subst (λ bs. IsChangedByte f (get_or bs 0 0)) are (first_changed f c (utf8 text) (shape c is_text.0) needs)
+
+  -- and these begin with a byte that changes.
+  pub changed_behind : n < length bytes → IsUtf8 bytes → IsChangedByte f (get_or bytes n 0)
+  changed_behind more is_utf8 =
+      let rest = IsUtf8Of_chars (drop n bytes) (utf8_by_rest.0 is_utf8) in
+      subst (IsChangedByte f) (get_or-drop n bytes 0 0 ∙ ap (λ k. get_or bytes k 0) (add-zero n)) (by_text (chars (drop n bytes)) rest.0 rest.1 more)
 
   -- It is a chunk of the text, as it stands.
   pub unchanged_front_chunk : (which : Strictness) → IsChunk f which bytes (drop n bytes) (take n bytes)

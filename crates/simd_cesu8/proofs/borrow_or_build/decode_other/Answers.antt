@@ -6,18 +6,15 @@ use Rattle.cesu8_text.specs.Reading.{HasNoStrictReading}
 use Rattle.cesu8_text.proofs.order.Lawful.{lossy_is_strict_law}
 use Rattle.cesu8_text.proofs.reading.Borrowing.{never_borrowed}
 use Rattle.cesu8_text.proofs.reading.LossyBorrowing.{changed_reading}
-use Rattle.cesu8_decode.specs.Following.{Unchanged}
-use Rattle.cesu8_decode.proofs.chunks.Fronts.{more_behind}
-use Rattle.cesu8_decode.proofs.chunks.UnchangedFronts.{all_unchanged}
 use Rattle.simd_cesu8.proofs.Faults.{refused_as}
 use Rattle.simd_cesu8.proofs.borrow_or_build.decode_other.Goals as goal
 
 pub known_text-requires : goal.known_text-requires
-known_text-requires g c = (g.met.A.Accepts.known g.F.Flavor.flavor c.args.bytes.now).is_utf8 (c.kept_front-kept.ensures.all.0 c.if-kept-bytes.true)
+known_text-requires g c = (g.met.A.Accepts.known g.F.Flavor.flavor c.args.bytes.now).is_utf8 c.in_default.ensures.kept
 
-pub returns-then-kept-bytes : goal.returns-then-kept-bytes
-returns-then-kept-bytes g c =
-    let kept = c.kept_front-kept.ensures.all.0 c.if-kept-bytes.true in
+pub returns-in_default : goal.returns-in_default
+returns-in_default g c =
+    let kept = c.in_default.ensures.kept in
     record {
       text = ((g.met.A.Accepts.known g.F.Flavor.flavor c.args.bytes.now).kept _ kept).1 (ap chars c.known_text.ensures);
       invalid = search rules;
@@ -27,23 +24,13 @@ returns-then-kept-bytes g c =
       capacity = search rules;
     }
 
-pub decode_strict-requires : goal.decode_strict-requires
-decode_strict-requires g c =
-    let f = g.F.Flavor.flavor in
-    let bytes = c.args.bytes.now in
-    let front = c.unchanged_front-front.ensures in (
-      front,
-      more_behind Unchanged f bytes _ front (λ all. c.if-kept-bytes.false
-          (c.kept_front-kept.ensures.all.1 ((g.met.A.Accepts.known f bytes).unchanged ((all_unchanged f bytes _ front).0 all)))),
-    )
-
 pub returns : goal.returns
 returns g c =
     let f = g.F.Flavor.flavor in
     let bytes = c.args.bytes.now in
     let built = string_bytes c.in_ok-built.built in
     let known = g.met.A.Accepts.known f bytes in
-    let not_kept : ¬ (g.A.Accepts.keeps f bytes) = λ keeps. c.if-kept-bytes.false (c.kept_front-kept.ensures.all.1 keeps) in
+    let not_kept = c.in-Some.ensures.unkept in
     let reads = c.in_ok-built.ensures.text in
     record {
       text = ((known.other not_kept).strictly (chars built)).1 reads;
@@ -60,7 +47,7 @@ returns-in_err-built g c =
     let f = g.F.Flavor.flavor in
     let bytes = c.args.bytes.now in
     let known = g.met.A.Accepts.known f bytes in
-    let not_kept : ¬ (g.A.Accepts.keeps f bytes) = λ keeps. c.if-kept-bytes.false (c.kept_front-kept.ensures.all.1 keeps) in
+    let not_kept = c.in-Some.ensures.unkept in
     let unread : HasNoStrictReading f bytes → (text : List ℕ) → ¬ (g.A.Accepts.reads f bytes text) =
     λ none text reads. none text (((known.other not_kept).strictly text).0 reads) in
     let refused = refused_as c.in_err-built.field-0.0 unread c.in_err-built.ensures.invalid in
