@@ -13,3 +13,4 @@ pub mod EncodedFollow
 pub mod Fronts
 pub mod UnchangedFronts
 pub mod FrontReadings
+pub mod Stops

@@ -14,6 +14,4 @@ pub mod SavedRest
 pub mod FollowingLanes
 pub mod FollowingBlocks
 pub mod DecodedWindows
-pub mod ToldPairs
-pub mod ToldChanges
 pub mod BlocksInPlace

@@ -1,5 +1,5 @@
 -- The lanes of the decoder's vectors.
-use Rattle.std.specs.Prelude.{◌≡◌, ℕ, ◌+◌, ◌-◌, ◌*◌, ◌^◌, ◌/◌, ◌%◌, ◌<◌, ◌≤◌, ◌&&◌, ◌||◌, ◌==◌, nat_le, nat_lt, if◌then◌else◌, Bool, true, false, List, [], ◌++◌, map, take, replicate, slice_index, slice_index_or, bit_and, bit_or}
+use Rattle.std.specs.Prelude.{◌≡◌, ℕ, ◌+◌, ◌-◌, ◌*◌, ◌^◌, ◌/◌, ◌%◌, ◌<◌, ◌≤◌, ◌&&◌, ◌||◌, ◌==◌, nat_le, nat_lt, if◌then◌else◌, Bool, true, false, List, [], ◌++◌, map, take, replicate, slice_index, slice_index_or, bit_and}
 use Rattle.std.specs.List.{range_with_len}
 use Rattle.cesu8_text.specs.Encoding.{Flavor}
 use Rattle.cesu8_bytes.specs.Pairs.{null_at}
@@ -71,12 +71,6 @@ pub record TellsChange (f : Flavor) (window : List ℕ) (i kind : ℕ) : Type 0 
 -- The kinds of the offsets around a block do.
 abbrev pub TellChanges : Flavor → List ℕ → ℕ → (ℕ → ℕ) → Type 0
 TellChanges f window at kind = (i : ℕ) → at ≤ i → i < at + 37 → TellsChange f window i (kind i)
-
--- The kind that two bytes tell where all are in encoded characters: of a surrogate pair, or of C0 80
--- in MUTF-8.
-abbrev pub change_kind : Flavor → ℕ → ℕ → ℕ
-change_kind f a b =
-    bit_or (if a == 0xED && (nat_le 0xA0 b && nat_lt b 0xB0) then 0x20 else 0) (if null_at f a 0x80 then 0x80 else 0)
 
 -- None does at the 32 offsets of a block that follow `at` offsets and five more, nor at those five.
 abbrev pub NoneBeginsChanged : Flavor → List ℕ → ℕ → Type 0

@@ -1,6 +1,7 @@
 -- Which bytes may follow which in whole encoded characters.
-use Rattle.std.specs.Prelude.{◌≡◌, ℕ, ◌+◌, ◌<◌, ◌≤◌, ◌&&◌, ◌||◌, ◌==◌, nat_le, nat_lt, if◌then◌else◌, not, Bool, true, false, List, ◌∷◌, length, slice_index, bit_or}
-use Rattle.std.specs.Simd.Lanes.{chunk}
+use Rattle.std.specs.Prelude.{◌≡◌, ℕ, ◌+◌, map, drop, ◌<◌, ◌≤◌, ◌&&◌, ◌||◌, ◌==◌, nat_le, nat_lt, if◌then◌else◌, not, Bool, true, false, List, ◌∷◌, length, slice_index, bit_or}
+use Rattle.std.specs.List.{range_with_len}
+use Rattle.std.specs.Simd.Lanes.{chunk, mask_l}
 use Rattle.cesu8_text.specs.Class.{is_null}
 use Rattle.cesu8_text.specs.Encoding.{Flavor}
 use Rattle.cesu8_bytes.specs.Pairs.{null_at}
@@ -97,9 +98,17 @@ marked_if_not_one f b = bit_or b (if is_null f b then 0xFF else 0)
 abbrev pub after_fillers : List ℕ → List ℕ
 after_fillers bytes = 0x61 ∷ 0x61 ∷ 0x61 ∷ 0x61 ∷ bytes
 
+-- The bits of a set are those of the 32 bytes of a window from byte i + 4 on that may not follow.
+pub record AreStops (s : CharacterSet) (f : Flavor) (window : List ℕ) (i set : ℕ) : Type 0 where
+  pub bits : set ≡ mask_l (map (λ k. not (follows_at s f window k)) (range_with_len i 32))
+
 -- Each of n bytes of a window, from byte i + 4 on, may follow the four before it.
 abbrev pub AllFollow : CharacterSet → Flavor → List ℕ → ℕ → ℕ → Type 0
 AllFollow s f window i n = (k : ℕ) → i ≤ k → k < i + n → follows_at s f window k ≡ true
+
+-- What may follow from byte n on is as if the bytes began there.
+abbrev pub IsSeam : CharacterSet → Flavor → List ℕ → ℕ → Type 0
+IsSeam s f bytes n = (k : ℕ) → follows_at s f (after_fillers (drop n bytes)) k ≡ follows_at s f (after_fillers bytes) (n + k)
 
 -- So do the first n bytes, behind fillers.
 pub record FirstFollow (s : CharacterSet) (f : Flavor) (bytes : List ℕ) (n : ℕ) : Type 0 where

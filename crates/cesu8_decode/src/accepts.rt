@@ -1,6 +1,6 @@
 //! What a call that decodes takes, as types.
 
-ghost use Rattle.std.specs.Prelude.{◌≡◌, ◌↔◌, ◌<◌, ℕ, ◌≤◌, List, IsTrue, IsUtf8, length, drop, IfSome, IfNone};
+ghost use Rattle.std.specs.Prelude.{◌≡◌, ◌↔◌, ◌<◌, ℕ, ◌≤◌, List, IsTrue, IsUtf8, length, drop};
 ghost use Rattle.cesu8_text.specs.Class.{IsChangedByte, IsUnchangedUtf8};
 ghost use Rattle.cesu8_text.specs.Encoding.{Flavor as AnyFlavor};
 ghost use Rattle.cesu8_text.specs.Reading.{IsStrictReading, IsLenientReading, reading, IsLenientLossyReading};
@@ -11,6 +11,7 @@ ghost use Rattle.cesu8_decode.specs.Front.{IsFront};
 
 use crate::front::{front, is_utf8};
 use crate::lanes::character_set::Unchanged;
+use cesu8_bytes::BLOCK;
 use cesu8_bytes::flavor::Flavor;
 use cesu8_bytes::looks::{is_short_ascii, is_short_unchanged_ascii};
 
@@ -37,20 +38,19 @@ pub trait Accepts {
         → KnowsTexts f bytes (keeps f bytes) (reads f bytes) (reads_lossily f bytes) };
 }
 
-/// Returns how many bytes at the front are whole characters that are the same in UTF-8, unless a
-/// call that takes `A` keeps all bytes.
+/// Returns how many bytes at the front are whole characters that are the same in UTF-8, or the length
+/// if a call that takes `A` keeps all bytes.
 #[inline(always)]
-pub fn front_unless_kept<F: Flavor, A: Accepts>(bytes: &[u8]) -> Option<usize>
-    ensures kept { IfNone result (A.keeps F.flavor bytes.now) }
-    ensures unkept { IfSome result (λ _. ¬ (A.keeps F.flavor bytes.now)) }
-    ensures front { IfSome result (λ front.
-        IsFront AllUnchanged F.flavor bytes.now front × (front < length bytes.now)) }
+pub fn front_unless_kept<F: Flavor, A: Accepts>(bytes: &[u8]) -> usize
+    ensures kept { result ≡ length bytes.now ↔ A.keeps F.flavor bytes.now }
+    ensures front { ¬ (result ≡ length bytes.now) →
+        IsFront AllUnchanged F.flavor bytes.now result × (result < length bytes.now) }
 {
     let front = front::<F, Unchanged>(bytes);
     if A::keeps_all::<F>(bytes, front) {
-        return None;
+        return bytes.len();
     }
-    Some(front)
+    front
 }
 
 /// UTF-8 as a whole, or else the encoding.
@@ -70,7 +70,7 @@ impl Accepts for Lenient {
 
     #[inline(always)]
     fn keeps_all<F: Flavor>(bytes: &[u8], front: usize) -> bool {
-        front == bytes.len() || may_change::<F>(bytes[front]) && is_utf8_from(bytes, front)
+        front == bytes.len() || may_change::<F>(bytes[front]) && is_utf8_behind(bytes, front)
     }
 
     ghost known = { lenient_texts };
@@ -85,13 +85,18 @@ fn may_change<F: Flavor>(byte: u8) -> bool
     matches!(byte, 0xF0..=0xF7) || F::has_long_null() && byte == 0
 }
 
-/// Returns whether the bytes from an offset on are UTF-8. It is not inlined, so that the way of
-/// other bytes stays short.
+/// Returns whether the bytes are UTF-8, as they are exactly if those from an offset on are. It is not
+/// inlined, so that the way of other bytes stays short.
 #[inline(never)]
-fn is_utf8_from(bytes: &[u8], at: usize) -> bool
-    requires { at ≤ length bytes.now }
-    ensures { IsTrue result ↔ IsUtf8 (drop at bytes.now) }
+fn is_utf8_behind(bytes: &[u8], at: usize) -> bool
+    requires at { at ≤ length bytes.now }
+    requires front { IsUtf8 bytes.now ↔ IsUtf8 (drop at bytes.now) }
+    ensures { IsTrue result ↔ IsUtf8 bytes.now }
 {
+    // Of one block all is tested, so that no branch depends on the offset.
+    if bytes.len() <= BLOCK {
+        return is_utf8(bytes);
+    }
     is_utf8(&bytes[at..])
 }
 

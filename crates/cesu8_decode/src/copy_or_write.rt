@@ -37,9 +37,10 @@ fn decode_other_to_slice<F: Flavor, A: Accepts>(
     ensures { PutsText strictness (ReadsAs strictness (A.reads F.flavor bytes.now)
         (A.reads_lossily F.flavor bytes.now)) result buf.old buf.new }
 {
-    let Some(front) = front_unless_kept::<F, A>(bytes) else {
+    let front = front_unless_kept::<F, A>(bytes);
+    if front == bytes.len() {
         return copy_to_slice_by_call(bytes, buf).map_err(Unwritten::NoRoom);
-    };
+    }
     match strictness {
         Strictness::Strict => put_strictly::<F>(bytes, front, buf),
         Strictness::Lossy => put_lossily::<F>(bytes, buf),

@@ -66,39 +66,13 @@ pub fn is_utf8(bytes: &[u8]) -> bool
     front::<Cesu8Flavor, Utf8>(bytes) == bytes.len()
 }
 
-/// Returns whether at most 32 bytes, which stand in a block with zeros behind them, are encoded
-/// characters.
-#[inline(always)]
-pub fn are_whole<F: Flavor>(bytes: &[u8], padded: u8x32) -> bool
-    requires len { length bytes.now ≤ BLOCK }
-    requires padded { padded ≡ bytes.now ++ replicate (BLOCK - length bytes.now) 0 }
-    ensures whole { IsTrue result → AreWhole AllEncoded F.flavor bytes.now }
-    ensures not_whole { result ≡ false → ¬ (AreWhole AllEncoded F.flavor bytes.now) }
-{
-    let at = following_padded::<F, Encoded>(bytes, padded);
-    if at < bytes.len() {
-        return false;
-    }
-    !may_be_crossed::<Encoded>(bytes, at)
-}
-
 /// Returns how many bytes of a block may follow those before them, up to the first that may not.
 #[inline(always)]
 fn following_few<F: Flavor, S: CharacterSet>(bytes: &[u8]) -> usize
     requires { length bytes.now ≤ BLOCK }
     ensures { FollowUpTo S.set F.flavor bytes.now result }
 {
-    following_padded::<F, S>(bytes, padded_half(bytes))
-}
-
-/// Does so by the block that they stand in, with zeros behind them.
-#[inline(always)]
-fn following_padded<F: Flavor, S: CharacterSet>(bytes: &[u8], padded: u8x32) -> usize
-    requires len { length bytes.now ≤ BLOCK }
-    requires padded { padded ≡ bytes.now ++ replicate (BLOCK - length bytes.now) 0 }
-    ensures { FollowUpTo S.set F.flavor bytes.now result }
-{
-    let block = block_behind(u8x32::splat(FILLER), padded);
+    let block = block_behind(u8x32::splat(FILLER), padded_half(bytes));
     following_len::<F, S>(block).min(bytes.len())
 }
 
@@ -186,9 +160,33 @@ fn following_end<F: Flavor, S: CharacterSet>(bytes: &[u8], start: usize) -> usiz
 }
 
 /// Returns the last boundary up to `at` that no character crosses, if the bytes before it may follow
-/// each other, and the byte there may not.
+/// each other, and the byte there may not. Where no character changes, one test finds it without a
+/// branch, which would be guessed wrong.
 #[inline(always)]
 fn last_boundary<F: Flavor, S: CharacterSet>(bytes: &[u8], at: usize) -> usize
+    requires { FollowUpTo S.set F.flavor bytes.now at }
+    ensures { IsFront S.set F.flavor bytes.now result }
+{
+    if S::rule().has_changed {
+        return last_uncrossed::<F, S>(bytes, at);
+    }
+    let last = byte_before(bytes, at, 1);
+    let second = byte_before(bytes, at, 2);
+    let third = byte_before(bytes, at, 3);
+    if last >= 0xC0 {
+        at - 1
+    } else if second >= 0xE0 {
+        at - 2
+    } else if S::rule().has_four && third >= 0xF0 {
+        at - 3
+    } else {
+        at
+    }
+}
+
+/// Does so by one boundary after another.
+#[inline(always)]
+fn last_uncrossed<F: Flavor, S: CharacterSet>(bytes: &[u8], at: usize) -> usize
     requires { FollowUpTo S.set F.flavor bytes.now at }
     ensures { IsFront S.set F.flavor bytes.now result }
 {
@@ -201,7 +199,7 @@ fn last_boundary<F: Flavor, S: CharacterSet>(bytes: &[u8], at: usize) -> usize
 
 /// Returns whether a character or a surrogate pair may cross a boundary, by the bytes before it.
 #[inline(always)]
-fn may_be_crossed<S: CharacterSet>(bytes: &[u8], at: usize) -> bool
+pub fn may_be_crossed<S: CharacterSet>(bytes: &[u8], at: usize) -> bool
     requires { at ≤ length bytes.now }
     ensures { result ≡ crosses_at S.set (after_fillers bytes.now) at }
 {

@@ -48,6 +48,7 @@ use std::alloc::{AllocError, Global};
 
 /// Returns the strict reading of bytes, after one request for their length. So many at the front, but
 /// not all, are whole characters that are the same in UTF-8.
+#[inline(never)]
 pub fn decode_strict<F: Flavor>(
     alloc: Global,
     bytes: &[u8],

@@ -52,9 +52,10 @@ fn decode_other<F: Flavor, A: Accepts>(
 ) -> Result<CowText<'_>, DecodeFault>
     ensures { DecodesAs (A.keeps F.flavor bytes.now) (A.reads F.flavor bytes.now) bytes.now result }
 {
-    let Some(front) = front_unless_kept::<F, A>(bytes) else {
+    let front = front_unless_kept::<F, A>(bytes);
+    if front == bytes.len() {
         return Ok(CowText::Borrowed(known_text(bytes)));
-    };
+    }
     let built = internal::decode_strict::<F>(alloc, bytes, front)?;
     Ok(CowText::Owned(built))
 }
@@ -128,9 +129,9 @@ fn decode_lossy_other<F: Flavor, A: Accepts>(
     ensures { DecodesLossily F.flavor (A.keeps F.flavor bytes.now)
         (A.reads_lossily F.flavor bytes.now) bytes.now result }
 {
-    let Some(_) = front_unless_kept::<F, A>(bytes) else {
+    if front_unless_kept::<F, A>(bytes) == bytes.len() {
         return Ok(CowText::Borrowed(known_text(bytes)));
-    };
+    }
     let built = internal::decode_lossy::<F>(alloc, bytes)?;
     Ok(CowText::Owned(built))
 }

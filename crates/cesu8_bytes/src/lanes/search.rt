@@ -1,6 +1,6 @@
 //! The search of bytes for one of a class.
 //!
-//! Two vectors of one width cover at most 64 bytes. More are tested by four vectors of 64 bytes at
+//! Two vectors of one width cover at most 128 bytes. More are tested by four vectors of 64 bytes at
 //! once, and a last one that overlaps those before it, so no byte is left.
 //!
 //! Everything is inlined: a call would pass vectors through memory, and most values are short.
@@ -18,10 +18,13 @@ use std::simd::prelude::*;
 pub fn any_in_bytes<C: InAllVectors + InGroups<LANES>>(bytes: &[u8]) -> bool
     ensures { IsTrue result ↔ AnyIn C.class bytes.now }
 {
-    if bytes.len() > LANES {
-        return any_in_long::<C>(bytes);
+    if bytes.len() <= LANES {
+        return by_two_vectors!(bytes, any_in_ends[C](bytes), false);
     }
-    by_two_vectors!(bytes, any_in_ends[C](bytes), false)
+    if bytes.len() <= 2 * LANES {
+        return any_in_ends::<C, LANES>(bytes);
+    }
+    any_in_long::<C>(bytes)
 }
 
 /// Returns whether some byte of a whole vector is in the class, or of the last 64 bytes.

@@ -28,16 +28,28 @@ pub fn append(bytes: &[u8], out: &mut Vec<u8>)
     let mut taken = mem::replace(out, Vec::new(*out.allocator()));
     if bytes.len() >= LONG {
         append_each(bytes, &mut taken);
-    } else if bytes.len() > 4 * WIDE {
+    } else if bytes.len() > LANES {
         append_many(bytes, &mut taken);
-    } else if bytes.len() > WIDE {
-        append_four::<WIDE>(bytes, &mut taken);
-    } else if bytes.len() >= NARROW {
-        append_four::<NARROW>(bytes, &mut taken);
     } else {
-        append_each(bytes, &mut taken);
+        append_few(bytes, &mut taken);
     }
     *out = taken;
+}
+
+/// Appends at most 64 bytes.
+#[inline(always)]
+pub fn append_few(bytes: &[u8], out: &mut Vec<u8>)
+    requires few { length bytes.now ≤ LANES }
+    requires room { vec_len out.old + length bytes.now ≤ vec_capacity out.old }
+    ensures { Appends bytes.now out.old out.new }
+{
+    if bytes.len() > WIDE {
+        append_four::<WIDE>(bytes, out);
+    } else if bytes.len() >= NARROW {
+        append_four::<NARROW>(bytes, out);
+    } else {
+        append_each(bytes, out);
+    }
 }
 
 /// Appends 64 bytes or more by vectors in turn, the last of which overlaps where needed.

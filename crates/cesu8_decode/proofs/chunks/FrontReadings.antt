@@ -114,14 +114,6 @@ module _ (f : Flavor) (bytes : List ℕ) (n : ℕ) (front : IsFront Unchanged f 
   pub unless_begun : ¬ (BeginsChanged f (drop n bytes)) → n < length bytes → HasNoStrictReading f bytes
   unless_begun neither more = no_strict_reading f bytes n front (none_otherwise f (drop n bytes) neither) more
 
-  -- The front is copied, and then the text of the others is written.
-  pub read_behind : (chunk old new : List ℕ) → old ≡ [] → IsChunk f Strict (drop n bytes) [] chunk → new ≡ take n bytes ++ chunk →
-      IsReadSoFar f Strict bytes [] old new
-  read_behind chunk old new empty read is =
-      subst (λ before. IsReadSoFar f Strict bytes [] before new) (sym empty)
-      (more_read f Strict bytes (drop n bytes) [] [] (take n bytes) new (unchanged_front_chunk f bytes n front Strict)
-      (chunk_appended f Strict (drop n bytes) [] chunk (take n bytes) new read is))
-
 -- ---- what is written behind it to a caller's buffer
 
 -- Where something is written of bytes that are some, there is room, and it is no longer than they are.

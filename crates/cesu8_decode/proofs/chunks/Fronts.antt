@@ -1,14 +1,15 @@
 -- How many bytes at the front are whole characters of a set.
-use Rattle.std.proofs.Common.{◌≡◌, ℕ, ◌+◌, ◌<◌, ◌≤◌, ◌↔◌, ⊎_elim, true, false, List, [], ◌∷◌, ◌++◌, refl, sym, ap, ◌∙◌, subst, arith, length, take, drop, length-append, length-drop, true≢false}
+use Rattle.std.proofs.Common.{◌≡◌, ℕ, zero, suc, ◌+◌, ◌<◌, ◌≤◌, ◌↔◌, ⊎_elim, Bool, true, false, true≢false, not, cond, eqb, leb, ◌&&◌, ◌||◌, get_or, List, [], ◌∷◌, ◌++◌, refl, sym, ap, ◌∙◌, subst, arith, length, take, drop, length-append, length-drop}
 use Rattle.std.proofs.Math.Seq.{take-add, take-append_seam, take-length}
-use Rattle.std.proofs.lemmas.Bool.{cases_lt}
+use Rattle.std.proofs.lemmas.Bool.{cases_lt, le-leb, le-ltb, ne_eqb, or_parts, or_right}
 use Rattle.std.proofs.lemmas.List.{take_all, take-append-drop, length-take-le}
-use Rattle.cesu8_text.specs.Encoding.{Flavor, encoding}
+use Rattle.cesu8_text.specs.Class.{is_null}
+use Rattle.cesu8_text.specs.Encoding.{Flavor, Cesu8, Mutf8, encoding}
 use Rattle.cesu8_text.specs.Reading.{BeginsWith, NoneBegins, StandsAt, width, LiesWithin, Damaged}
 use Rattle.cesu8_text.specs.Fronts.{IsValidUpTo}
 use Rattle.cesu8_text.proofs.encoding.Lengths.{length_of_character}
 use Rattle.cesu8_text.proofs.reading.Marks.{mark_from}
-use Rattle.cesu8_decode.specs.Following.{CharacterSet, Encoded, after_fillers, FollowUpTo, crosses_at}
+use Rattle.cesu8_decode.specs.Following.{CharacterSet, Encoded, has_changed, has_four, leads_four, shown, follows, crosses, after_fillers, FollowUpTo, crosses_at}
 use Rattle.cesu8_decode.specs.Front.{AreWhole, IsFront, written, IsOutside}
 use Rattle.cesu8_decode.proofs.by_offset.IllFormed.{none_crosses_encoding}
 use Rattle.cesu8_decode.proofs.chunks.WholeBytes.{none_outside, character_whole, parts_whole}
@@ -27,6 +28,67 @@ front_at s f bytes m n follow fits none crossed = record {
       ⊎_elim (λ (past : m < j). true≢false (sym (found.0 m past) ∙ follow.stops (omega arith)))
       (λ (short : j ≤ m). true≢false (sym (crossed j longer short) ∙ found.1)) (cases_lt m j);
 }
+
+-- A byte from C0 on shows whether a lead byte stands before it.
+pub lead_shown : (s : CharacterSet) (f : Flavor) (e g : ℕ) → 0xC0 ≤ g →
+    shown s f e g ≡ cond (leb 0xF0 e && not (has_four s)) 0x40 (cond (leb 0xC0 e) 0x01 0)
+unfolding shown
+lead_shown s f e g high = rw (no_null f, le-ltb g 0xC0 high, le-leb 0x80 g (omega (arith, high))) refl
+  where
+    no_null : (f : Flavor) → is_null f g ≡ false
+    no_null Cesu8 = refl
+    no_null Mutf8 = ne_eqb g 0 (λ same. omega (arith, same, high))
+
+-- Where it may follow and no character changes, none crosses the boundary before it.
+pub before_lead : (s : CharacterSet) (f : Flavor) → has_changed s ≡ false → (a b d e g : ℕ) → 0xC0 ≤ g → follows s f a b d e g ≡ true →
+    crosses s a b d e ≡ false
+before_lead s f none a b d e g high fits =
+    let tests = rw (lead_shown s f e g high, none) at fits in
+    let found = by_tests (leb 0xF0 e && not (has_four s)) (leb 0xC0 e) (leads_four s b || leb 0xE0 d) tests in
+    let parts = or_parts (leads_four s b) (leb 0xE0 d) found.1 in
+    rw (none, found.0, parts.0, parts.1) refl
+  where
+    by_tests : (t u v : Bool) → eqb (cond t 0x40 (cond u 0x01 0)) (cond v 0x80 0 + 0) ≡ true → (u ≡ false) × (v ≡ false)
+    by_tests true u true is = absurd (true≢false (sym is))
+    by_tests true u false is = absurd (true≢false (sym is))
+    by_tests false true true is = absurd (true≢false (sym is))
+    by_tests false true false is = absurd (true≢false (sym is))
+    by_tests false false true is = absurd (true≢false (sym is))
+    by_tests false false false is = (refl, refl)
+
+-- There the front ends, if the character that the byte leads is cut off.
+pub cut_at : (s : CharacterSet) (f : Flavor) (bytes : List ℕ) (m n : ℕ) → has_changed s ≡ false → FollowUpTo s f bytes m → n < m →
+    0xC0 ≤ get_or (after_fillers bytes) (n + 4) 0 → ((k : ℕ) → n < k → k ≤ m → crosses_at s (after_fillers bytes) k ≡ true) → IsFront s f bytes n
+cut_at s f bytes m n none up_to before high crossed =
+    let w : ℕ → ℕ = λ i. get_or (after_fillers bytes) i 0 in
+    front_at s f bytes m n up_to (omega (arith, before))
+    (before_lead s f none (w n) (w (n + 1)) (w (n + 2)) (w (n + 3)) (w (n + 4)) high (up_to.first.follow n before)) crossed
+
+-- A lead byte crosses the boundaries that its character has within,
+module _ (s : CharacterSet) (bytes : List ℕ) (n : ℕ) where
+  byte : (i : ℕ) → i ≡ n + 4 → get_or (after_fillers bytes) i 0 ≡ get_or (after_fillers bytes) (n + 4) 0
+  byte i = ap (λ i. get_or (after_fillers bytes) i 0)
+
+  pub crosses_next : 0xC0 ≤ get_or (after_fillers bytes) (n + 4) 0 → crosses_at s (after_fillers bytes) (n + 1) ≡ true
+  crosses_next high = rw (le-leb 0xC0 (get_or (after_fillers bytes) (n + 1 + 3) 0) (omega (arith, high, byte (n + 1 + 3) (omega arith)))) refl
+
+  pub crosses_second : 0xE0 ≤ get_or (after_fillers bytes) (n + 4) 0 → crosses_at s (after_fillers bytes) (n + 2) ≡ true
+  crosses_second high =
+      or_right (leb 0xC0 (get_or (after_fillers bytes) (n + 2 + 3) 0)) _
+      (rw (le-leb 0xE0 (get_or (after_fillers bytes) (n + 2 + 2) 0) (omega (arith, high, byte (n + 2 + 2) (omega arith)))) refl)
+
+  pub crosses_third : has_four s ≡ true → 0xF0 ≤ get_or (after_fillers bytes) (n + 4) 0 → crosses_at s (after_fillers bytes) (n + 3) ≡ true
+  crosses_third four high =
+      or_right (leb 0xC0 (get_or (after_fillers bytes) (n + 3 + 3) 0)) _ (or_right (leb 0xE0 (get_or (after_fillers bytes) (n + 3 + 2) 0)) _
+      (rw (four, le-leb 0xF0 (get_or (after_fillers bytes) (n + 3 + 1) 0) (omega (arith, high, byte (n + 3 + 1) (omega arith)))) refl))
+
+-- and is none of the fillers.
+pub behind_fillers : (bytes : List ℕ) (i : ℕ) → 0xC0 ≤ get_or (after_fillers bytes) i 0 → 4 ≤ i
+behind_fillers bytes zero high = absurd (omega (arith, high))
+behind_fillers bytes (suc zero) high = absurd (omega (arith, high))
+behind_fillers bytes (suc (suc zero)) high = absurd (omega (arith, high))
+behind_fillers bytes (suc (suc (suc zero))) high = absurd (omega (arith, high))
+behind_fillers bytes (suc (suc (suc (suc i)))) high = omega arith
 
 -- All bytes are one, if they are whole.
 pub all_front : (s : CharacterSet) (f : Flavor) (bytes : List ℕ) → AreWhole s f bytes → IsFront s f bytes (length bytes)

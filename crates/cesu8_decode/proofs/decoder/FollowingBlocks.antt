@@ -57,6 +57,15 @@ ascii_fits s f a b d e g a_low b_low d_low e_low g_low no_null =
       and_false (has_changed s),
     ) refl
 
+-- What marks lanes are tests that they pass.
+pub marks_are : (t : ℕ → Bool) (lanes ns : List ℕ) → lanes ≡ map (λ i. mask (t i)) ns → map (leb 0x80) lanes ≡ map t ns
+marks_are t lanes ns is =
+    ap (map (leb 0x80)) is ∙ map-map (leb 0x80) (λ i. mask (t i)) ns ∙ ap (λ test. map test ns) (λ i k. of_mask (t k) i)
+  where
+    of_mask : (t : Bool) → leb 0x80 (mask t) ≡ t
+    of_mask true = refl
+    of_mask false = refl
+
 -- The vectors of a block tell which bytes may not follow those before them.
 pub misplaced_are : (s : CharacterSet) (f : Flavor) (window : List ℕ) (at : ℕ) (block : Block) → IsBlockAt window at block →
     (here want : List ℕ) → here ≡ zip2 (shown s f) block.one_before block.bytes →
@@ -204,7 +213,7 @@ follows_agrees s f a b i j agree =
     let first : get_or a i 0 ≡ get_or b j 0 = ap (λ p. get_or a p 0) (sym (add-zero i)) ∙ agree 0 (omega arith) ∙ ap (λ p. get_or b p 0) (add-zero j) in
     (λ k. follows s f (first k) (agree 1 (omega arith) k) (agree 2 (omega arith) k) (agree 3 (omega arith) k) (agree 4 (omega arith) k))
 
-behind_fillers : (bytes : List ℕ) (i : ℕ) → get_or (after_fillers bytes) (i + 4) 0 ≡ get_or bytes i 0
+pub behind_fillers : (bytes : List ℕ) (i : ℕ) → get_or (after_fillers bytes) (i + 4) 0 ≡ get_or bytes i 0
 behind_fillers bytes i =
     let offset : i + 4 ≡ suc (suc (suc (suc i))) = omega arith in
     ap (λ p. get_or (after_fillers bytes) p 0) offset
@@ -246,7 +255,7 @@ stop_behind s f bytes start at n before near room each stops = record {
 in_front : (bytes rest : List ℕ) (k : ℕ) → k < 4 + length bytes → get_or (after_fillers (bytes ++ rest)) k 0 ≡ get_or (after_fillers bytes) k 0
 in_front bytes rest k inside = get_or_append_left (after_fillers bytes) rest 0 k (omega arith)
 
-follows_in_front : (s : CharacterSet) (f : Flavor) (bytes rest : List ℕ) (k : ℕ) → k < length bytes →
+pub follows_in_front : (s : CharacterSet) (f : Flavor) (bytes rest : List ℕ) (k : ℕ) → k < length bytes →
     follows_at s f (after_fillers (bytes ++ rest)) k ≡ follows_at s f (after_fillers bytes) k
 follows_in_front s f bytes rest k inside =
     follows_agrees s f (after_fillers (bytes ++ rest)) (after_fillers bytes) k k (λ j few. in_front bytes rest (k + j) (omega arith))

@@ -13,18 +13,40 @@ use crate::characters::forms::{begins_changed, prefix_of};
 use crate::front::front;
 use crate::lanes::character_set::Unchanged;
 use crate::pass::in_place::append_strictly;
+use crate::pass::strict_block::{STRICT_TEXT, write_one_strictly};
+use crate::way::{Way, way_of};
+use cesu8_bytes::BLOCK;
 use cesu8_bytes::flavor::Flavor;
 use cesu8_bytes::pairs::{PAIR, PAIR_READ, utf8_of_pair};
-use cesu8_bytes::writing::copies::append;
+use cesu8_bytes::writing::copies::{append, append_few};
 
-/// The least front behind which another is looked for. Where the characters that change stand closer
+/// Behind a front of so many bytes a first character that changes seems to stand alone.
+const FRONT: usize = 16;
+
+/// The least front between two of them behind which another is looked for. Where they stand closer
 /// together, blocks take less time.
-pub const LONG_FRONT: usize = 64;
+const LONG_FRONT: usize = 64;
 
-/// Appends the strict reading of bytes, of which so many at the front are whole characters that are the
-/// same in UTF-8.
+/// Appends the strict reading of more than a few bytes, of which so many at the front are whole
+/// characters that are the same in UTF-8. It is not inlined, so that few bytes have few registers to
+/// save.
+#[inline(never)]
+pub fn append_many<F: Flavor>(bytes: &[u8], front: usize, before: Vec<u8>) -> Option<Vec<u8>>
+    requires front { IsFront AllUnchanged F.flavor bytes.now front }
+    requires room { vec_len before + length bytes.now ≤ vec_capacity before }
+    ensures { AppendsStrictly F.flavor bytes.now before result }
+{
+    if front >= FRONT || matches!(way_of(&bytes[front..]), Way::Characters) {
+        return append_by_fronts::<F>(bytes, front, before);
+    }
+    let mut text = before;
+    append(&bytes[..front], &mut text);
+    append_blocks::<F>(&bytes[front..], text)
+}
+
+/// Does so from one character that changes to the next, as long as they stand far apart.
 #[inline(always)]
-pub fn append_by_fronts<F: Flavor>(bytes: &[u8], len: usize, before: Vec<u8>) -> Option<Vec<u8>>
+fn append_by_fronts<F: Flavor>(bytes: &[u8], len: usize, before: Vec<u8>) -> Option<Vec<u8>>
     requires front { IsFront AllUnchanged F.flavor bytes.now len }
     requires room { vec_len before + length bytes.now ≤ vec_capacity before }
     ensures { AppendsStrictly F.flavor bytes.now before result }
@@ -40,10 +62,39 @@ pub fn append_by_fronts<F: Flavor>(bytes: &[u8], len: usize, before: Vec<u8>) ->
     if len == rest.len() {
         return Some(text);
     }
-    append_strictly::<F>(&rest[len..], text)
+    append_blocks::<F>(&rest[len..], text)
 }
 
-/// Appends the front, and the characters behind it that change, in UTF-8. Returns the bytes behind
+/// Appends the strict reading of the bytes block by block.
+#[inline(always)]
+fn append_blocks<F: Flavor>(bytes: &[u8], before: Vec<u8>) -> Option<Vec<u8>>
+    requires { vec_len before + length bytes.now ≤ vec_capacity before }
+    ensures { AppendsStrictly F.flavor bytes.now before result }
+{
+    if bytes.len() <= BLOCK {
+        return append_one::<F>(bytes, before);
+    }
+    append_strictly::<F>(bytes, before)
+}
+
+/// Appends the strict reading of the bytes of one block, by an array.
+#[inline(always)]
+pub fn append_one<F: Flavor>(bytes: &[u8], before: Vec<u8>) -> Option<Vec<u8>>
+    requires bytes { length bytes.now ≤ BLOCK }
+    requires room { vec_len before + length bytes.now ≤ vec_capacity before }
+    ensures { AppendsStrictly F.flavor bytes.now before result }
+{
+    let mut written = [0; STRICT_TEXT];
+    let decoded = write_one_strictly::<F>(bytes, &mut written);
+    if decoded.is_ill_formed {
+        return None;
+    }
+    let mut text = before;
+    append_few(&written[..decoded.end], &mut text);
+    Some(text)
+}
+
+/// Appends the front, and the character behind it in UTF-8, if it changes. Returns the bytes behind
 /// these.
 #[inline(always)]
 fn append_to_next<'a, F: Flavor>(bytes: &'a [u8], len: usize, out: &mut Vec<u8>) -> &'a [u8]
@@ -51,15 +102,16 @@ fn append_to_next<'a, F: Flavor>(bytes: &'a [u8], len: usize, out: &mut Vec<u8>)
     requires room { vec_len out.old + length bytes.now ≤ vec_capacity out.old }
     ensures read { IsReadSoFar F.flavor Strict bytes.now result.now out.old.items out.new.items }
     ensures room { vec_len out.new + length result.now ≤ vec_capacity out.new }
-    ensures within { length result.now + len ≤ length bytes.now }
+    ensures within { (length result.now ≤ length bytes.now)
+        × (0 < len → length result.now < length bytes.now) }
     ensures capacity { vec_capacity out.new ≡ vec_capacity out.old }
 {
     append(&bytes[..len], out);
-    let mut rest = &bytes[len..];
-    while begins_changed::<F>(rest) {
-        rest = append_changed::<F>(rest, out);
+    let rest = &bytes[len..];
+    if !begins_changed::<F>(rest) {
+        return rest;
     }
-    rest
+    append_changed::<F>(rest, out)
 }
 
 /// Appends the character that begins the bytes, in UTF-8, and returns the bytes behind it.

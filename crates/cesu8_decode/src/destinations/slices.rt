@@ -23,9 +23,10 @@ use crate::front::ill_formed::is_ill_formed;
 use crate::lanes::packing::WIDEST;
 use crate::lengths::lossy_len;
 use crate::pass::in_place::{LONG_TEXT, SHORT_TEXT, write_text};
-use crate::pass::one_block::{LOSSY_TEXT, STRICT_TEXT, write_one_block, write_one_strictly};
+use crate::pass::one_block::{LOSSY_TEXT, write_one_block};
+use crate::pass::strict_block::{STRICT_TEXT, write_one_strictly};
 use crate::refusal::{Unwritten, is_refused};
-use crate::way::{FEW_BYTES, LONG_WINDOW, SHORT_WINDOW, Way, strict_way, way_of};
+use crate::way::{FEW_BYTES, LONG_WINDOW, SHORT_WINDOW, Way, way_of};
 use cesu8_bytes::BLOCK;
 use cesu8_bytes::flavor::Flavor;
 use cesu8_bytes::lanes::short::copy_short;
@@ -53,7 +54,7 @@ pub fn put_strictly<F: Flavor>(
     }
     // One block is read whole, in less time than its front is copied.
     if bytes.len() <= BLOCK {
-        return put_strictly_by::<F>(strict_way(bytes, front), bytes, buf);
+        return put_strictly_by::<F>(way_of(bytes), bytes, buf);
     }
     let start = front.min(buf.len());
     match put_strictly_by::<F>(way_of(rest), rest, &mut buf[start..]) {

@@ -12,14 +12,14 @@ ghost use Rattle.cesu8_decode.specs.Decoding.{BuildsReading, AppendsStrictly, ro
 ghost use Rattle.cesu8_decode.specs.Following.{Unchanged};
 ghost use Rattle.cesu8_decode.specs.Front.{IsFront};
 
-use super::fronts::{LONG_FRONT, append_by_fronts};
+use super::fronts::{append_many, append_one};
 use super::slices::CHARACTERS_TEXT;
 use crate::characters::forms::begins_changed;
 use crate::characters::write_characters;
 use crate::lengths::lossy_len;
-use crate::pass::in_place::{LONG_TEXT, SHORT_TEXT, append_strictly, write_text};
-use crate::pass::one_block::{LOSSY_TEXT, STRICT_TEXT, write_one_block, write_one_strictly};
-use crate::way::{FEW_BYTES, FEWER_BYTES, Way, strict_way, way_of};
+use crate::pass::in_place::{LONG_TEXT, SHORT_TEXT, write_text};
+use crate::pass::one_block::{LOSSY_TEXT, write_one_block};
+use crate::way::{FEW_BYTES, Way, way_of};
 use cesu8_bytes::BLOCK;
 use cesu8_bytes::flavor::Flavor;
 use cesu8_bytes::strictness::Strictness;
@@ -38,11 +38,12 @@ pub fn write_strictly<F: Flavor>(bytes: &[u8], front: usize, empty: Vec<u8>) -> 
     if !begins_changed::<F>(rest) {
         return None;
     }
-    if rest.len() <= FEWER_BYTES || matches!(strict_way(rest, front), Way::Characters) {
-        write_few::<F>(bytes, front, empty)
-    } else {
-        write_many::<F>(bytes, front, empty)
+    if bytes.len() <= BLOCK {
+        // It is read whole, in less time than its front is copied.
+        return append_one::<F>(bytes, empty);
     }
+    let text = append_many::<F>(bytes, front, empty)?;
+    Some(text)
 }
 
 /// Returns the lossy reading of the bytes, after one request for its length.
@@ -57,62 +58,6 @@ pub fn build_lossily<F: Flavor>(alloc: Global, bytes: &[u8]) -> Result<Vec<u8>, 
         Way::LongWindow => build_window::<F, LONG_TEXT>(alloc, bytes),
         Way::Chunks => build_chunks::<F>(alloc, bytes),
     }
-}
-
-/// Writes the front as it is, and the strict reading of a few bytes behind it, one character after
-/// another.
-#[inline(never)]
-fn write_few<F: Flavor>(bytes: &[u8], front: usize, empty: Vec<u8>) -> Option<Vec<u8>>
-    requires front { IsFront Unchanged F.flavor bytes.now front }
-    requires empty { (empty.items ≡ []) × (length bytes.now ≤ vec_capacity empty) }
-    ensures { AppendsStrictly F.flavor bytes.now empty result }
-{
-    let mut text = empty;
-    append(bytes, &mut text);
-    let rest = &bytes[front..];
-    let decoded = write_characters::<F>(Strictness::Strict, rest, &mut text[front..]);
-    if decoded.is_ill_formed {
-        return None;
-    }
-    text.truncate(front + decoded.end);
-    Some(text)
-}
-
-/// Writes the front as it is, and the strict reading of the bytes behind it: from one character that
-/// changes to the next where they seem to stand far apart, and else block by block. One block is read
-/// whole, in less time than its front is copied.
-#[inline(never)]
-fn write_many<F: Flavor>(bytes: &[u8], front: usize, empty: Vec<u8>) -> Option<Vec<u8>>
-    requires front { IsFront Unchanged F.flavor bytes.now front }
-    requires empty { (empty.items ≡ []) × (length bytes.now ≤ vec_capacity empty) }
-    ensures { AppendsStrictly F.flavor bytes.now empty result }
-{
-    if bytes.len() <= BLOCK {
-        return append_one::<F>(bytes, empty);
-    }
-    if front >= LONG_FRONT {
-        return append_by_fronts::<F>(bytes, front, empty);
-    }
-    let mut text = empty;
-    append(&bytes[..front], &mut text);
-    append_strictly::<F>(&bytes[front..], text)
-}
-
-/// Appends the strict reading of the bytes of one block, by an array.
-#[inline(always)]
-fn append_one<F: Flavor>(bytes: &[u8], before: Vec<u8>) -> Option<Vec<u8>>
-    requires bytes { length bytes.now ≤ BLOCK }
-    requires room { vec_len before + length bytes.now ≤ vec_capacity before }
-    ensures { AppendsStrictly F.flavor bytes.now before result }
-{
-    let mut written = [0; STRICT_TEXT];
-    let decoded = write_one_strictly::<F>(bytes, &mut written);
-    if decoded.is_ill_formed {
-        return None;
-    }
-    let mut text = before;
-    append(&written[..decoded.end], &mut text);
-    Some(text)
 }
 
 /// Appends the lossy reading of the bytes chunk by chunk.

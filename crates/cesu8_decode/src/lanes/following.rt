@@ -9,7 +9,7 @@ ghost use Rattle.std.specs.Prelude.{◌≡◌, ◌⊎◌, ℕ, List, ◌+◌, �
 ghost use Rattle.std.specs.List.{range_with_len};
 ghost use Rattle.std.specs.Simd.Lanes.{zip2};
 ghost use Rattle.cesu8_bytes.specs.Kernels.{mask};
-ghost use Rattle.cesu8_decode.specs.Following.{has_changed, shown, later, wanted, follows_at, AllFollow, IsBlockAt, marked_if_not_one};
+ghost use Rattle.cesu8_decode.specs.Following.{has_changed, shown, later, wanted, follows_at, AllFollow, AreStops, IsBlockAt, marked_if_not_one};
 
 use super::character_set::CharacterSet;
 use super::offsets::{FROM_28, FROM_29, FROM_30, FROM_31, common_bits};
@@ -75,6 +75,15 @@ pub fn following_len<F: Flavor, S: CharacterSet>(block: Block) -> usize
         → follows_at S.set F.flavor window (at + result) ≡ false }
 {
     lanes_before::<HighestBit, BLOCK>(misplaced::<F, S>(block))
+}
+
+/// Returns the set of a block's bytes that may not follow those before them.
+#[inline(always)]
+pub fn stops<F: Flavor, S: CharacterSet>(block: Block) -> u64
+    ensures { (window : List ℕ) (at : ℕ) → IsBlockAt window at block
+        → AreStops S.set F.flavor window at result }
+{
+    bits::<HighestBit, BLOCK>(misplaced::<F, S>(block))
 }
 
 /// Returns whether each of the 64 bytes four behind an index may follow those before it.

@@ -59,8 +59,6 @@ macro_rules! numbers_from {
 pub const NUMBERS: [u8; BLOCK] = numbers_from!(0);
 
 // The indices of 32 lanes, from the number in the name on.
-pub const FROM_1: [usize; BLOCK] = numbers_from!(1);
-
 pub const FROM_27: [usize; BLOCK] = numbers_from!(27);
 
 pub const FROM_28: [usize; BLOCK] = numbers_from!(28);

@@ -1,16 +1,23 @@
+use Rattle.std.proofs.Common.{refl}
 use Rattle.std.proofs.lemmas.Bool.{both_ways}
 use Rattle.cesu8_decode.specs.Following.{Unchanged}
 use Rattle.cesu8_decode.proofs.chunks.Fronts.{more_behind}
 use Rattle.cesu8_decode.proofs.chunks.UnchangedFronts.{all_unchanged}
 use Rattle.cesu8_decode.proofs.accepts.front_unless_kept.Goals as goal
 
+pub returns-then-keeps_all-clause-kept : goal.returns-then-keeps_all-clause-kept
+returns-then-keeps_all-clause-kept g c = ((λ all. c.keeps_all.ensures.0 c.if-keeps_all.true), (λ keeps. refl))
+
 -- Where the front is of all bytes, they are kept.
-pub returns-clause-front : goal.returns-clause-front
-returns-clause-front g c =
+pub returns-clause-kept : goal.returns-clause-kept
+returns-clause-kept g c =
     let f = g.F.Flavor.flavor in
-    let bytes = c.args.bytes.now in
-    let front = c.front-front.ensures in (
-      front,
-      more_behind Unchanged f bytes _ front (λ all. both_ways _ c.if-keeps_all.false
-          (c.keeps_all.ensures.1 ((g.met.A.Accepts.known f bytes).unchanged ((all_unchanged f bytes _ front).0 all)))),
+    let bytes = c.args.bytes.now in (
+      λ all. (g.met.A.Accepts.known f bytes).unchanged ((all_unchanged f bytes _ c.front-front.ensures).0 all),
+      λ keeps. absurd (both_ways _ c.if-keeps_all.false (c.keeps_all.ensures.1 keeps)),
     )
+
+pub returns-clause-front : goal.returns-clause-front
+returns-clause-front g c other =
+    let front = c.front-front.ensures in
+    (front, more_behind Unchanged g.F.Flavor.flavor c.args.bytes.now _ front other)

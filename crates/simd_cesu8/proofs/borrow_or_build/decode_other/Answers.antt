@@ -10,11 +10,11 @@ use Rattle.simd_cesu8.proofs.Faults.{refused_as}
 use Rattle.simd_cesu8.proofs.borrow_or_build.decode_other.Goals as goal
 
 pub known_text-requires : goal.known_text-requires
-known_text-requires g c = (g.met.A.Accepts.known g.F.Flavor.flavor c.args.bytes.now).is_utf8 c.in_default.ensures.kept
+known_text-requires g c = (g.met.A.Accepts.known g.F.Flavor.flavor c.args.bytes.now).is_utf8 (c.front_unless_kept-front.ensures.kept.0 c.if-front-bytes.true)
 
-pub returns-in_default : goal.returns-in_default
-returns-in_default g c =
-    let kept = c.in_default.ensures.kept in
+pub returns-then-front-bytes : goal.returns-then-front-bytes
+returns-then-front-bytes g c =
+    let kept = c.front_unless_kept-front.ensures.kept.0 c.if-front-bytes.true in
     record {
       text = ((g.met.A.Accepts.known g.F.Flavor.flavor c.args.bytes.now).kept _ kept).1 (ap chars c.known_text.ensures);
       invalid = search rules;
@@ -24,13 +24,16 @@ returns-in_default g c =
       capacity = search rules;
     }
 
+pub decode_strict-requires : goal.decode_strict-requires
+decode_strict-requires g c = c.front_unless_kept-front.ensures.front c.if-front-bytes.false
+
 pub returns : goal.returns
 returns g c =
     let f = g.F.Flavor.flavor in
     let bytes = c.args.bytes.now in
     let built = string_bytes c.in_ok-built.built in
     let known = g.met.A.Accepts.known f bytes in
-    let not_kept = c.in-Some.ensures.unkept in
+    let not_kept : ¬ (g.A.Accepts.keeps f bytes) = λ keeps. c.if-front-bytes.false (c.front_unless_kept-front.ensures.kept.1 keeps) in
     let reads = c.in_ok-built.ensures.text in
     record {
       text = ((known.other not_kept).strictly (chars built)).1 reads;
@@ -47,7 +50,7 @@ returns-in_err-built g c =
     let f = g.F.Flavor.flavor in
     let bytes = c.args.bytes.now in
     let known = g.met.A.Accepts.known f bytes in
-    let not_kept = c.in-Some.ensures.unkept in
+    let not_kept : ¬ (g.A.Accepts.keeps f bytes) = λ keeps. c.if-front-bytes.false (c.front_unless_kept-front.ensures.kept.1 keeps) in
     let unread : HasNoStrictReading f bytes → (text : List ℕ) → ¬ (g.A.Accepts.reads f bytes text) =
     λ none text reads. none text (((known.other not_kept).strictly text).0 reads) in
     let refused = refused_as c.in_err-built.field-0.0 unread c.in_err-built.ensures.invalid in

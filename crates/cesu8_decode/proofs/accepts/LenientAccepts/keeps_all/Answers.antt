@@ -10,10 +10,8 @@ returns-then-front-bytes g c =
     let all = c.if-front-bytes.true in
     ((λ _. ((all_unchanged g.F.Flavor.flavor c.args.bytes.now c.args.front c.requires).0 all).0), (λ _. eq-eqb _ _ all))
 
-pub returns-then-may_change : goal.returns-then-may_change
-returns-then-may_change g c =
-    let tells = utf8_by_rest g.F.Flavor.flavor c.args.bytes.now c.args.front c.requires in
-    ((λ test. tells.1 (c.is_utf8_from.ensures.0 test)), (λ is_utf8. c.is_utf8_from.ensures.1 (tells.0 is_utf8)))
+pub is_utf8_behind-requires-clause-front : goal.is_utf8_behind-requires-clause-front
+is_utf8_behind-requires-clause-front g c = utf8_by_rest g.F.Flavor.flavor c.args.bytes.now c.args.front c.requires
 
 pub returns-else-may_change : goal.returns-else-may_change
 returns-else-may_change g c =

@@ -1,7 +1,7 @@
 use Rattle.std.proofs.Common.{[], take}
 use Rattle.cesu8_bytes.specs.declared.strictness.Strictness.TheVariants.{Strict}
 use Rattle.cesu8_decode.proofs.chunks.ReadChunks.{chunk_appended, none_if_refused}
-use Rattle.cesu8_decode.proofs.destinations.strings.append_one.Goals as goal
+use Rattle.cesu8_decode.proofs.destinations.fronts.append_one.Goals as goal
 
 pub returns-then-decoded : goal.returns-then-decoded
 returns-then-decoded g c = record {
@@ -18,7 +18,7 @@ returns g c =
     record {
       text =
           chunk_appended f Strict bytes [] (take decoded.result.end decoded.new.out) c.args.before.items _
-          (decoded.ensures.read.all c.if-decoded.false) c.append.ensures.bytes;
-      capacity = c.append.ensures.capacity;
+          (decoded.ensures.read.all c.if-decoded.false) c.append_few.ensures.bytes;
+      capacity = c.append_few.ensures.capacity;
       none = tt;
     }

@@ -1,6 +1,6 @@
 use Rattle.std.proofs.Common.{◌≡◌, ℕ, ◌<◌, ◌≤◌, true}
 use Rattle.cesu8_decode.specs.Following.{after_fillers, crosses_at}
-use Rattle.cesu8_decode.proofs.front.last_boundary.Given as goal
+use Rattle.cesu8_decode.proofs.front.last_uncrossed.Given as goal
 
 abbrev pub decreases-loop-end : goal.decreases-loop-end
 decreases-loop-end g l = l.end
