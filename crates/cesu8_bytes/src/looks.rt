@@ -17,7 +17,7 @@ use crate::flavor::Flavor;
 use crate::implementation::active;
 use crate::lanes::class::{AtLeastF0, Either, FourByteLead, LANES, NonAscii};
 use crate::lanes::runs::lanes_before;
-use crate::lanes::search::any_in_bytes;
+use crate::lanes::search::{any_in_bytes, any_in_first_look};
 use std::simd::prelude::*;
 
 /// The most bytes that are tested for ASCII that does not change before anything is called. From
@@ -45,7 +45,7 @@ pub fn is_short_unchanged_ascii<F: Flavor>(bytes: &[u8]) -> bool
     ensures ascii { IsTrue result → IsAscii bytes.now }
     ensures unchanged { IsTrue result → ¬ (Any (IsChangedByte F.flavor) bytes.now) }
 {
-    bytes.len() <= SHORT && !any_in_bytes::<Either<F::Null, NonAscii>>(bytes)
+    bytes.len() <= SHORT && !any_in_first_look::<Either<F::Null, NonAscii>>(bytes)
 }
 
 /// Returns whether one look shows the first `len` bytes, and there are enough for its vector.

@@ -85,9 +85,8 @@ fn may_change<F: Flavor>(byte: u8) -> bool
     matches!(byte, 0xF0..=0xF7) || F::has_long_null() && byte == 0
 }
 
-/// Returns whether the bytes are UTF-8, as they are exactly if those from an offset on are. It is not
-/// inlined, so that the way of other bytes stays short.
-#[inline(never)]
+/// Returns whether the bytes are UTF-8, as they are exactly if those from an offset on are.
+#[inline(always)]
 fn is_utf8_behind(bytes: &[u8], at: usize) -> bool
     requires at { at ≤ length bytes.now }
     requires front { IsUtf8 bytes.now ↔ IsUtf8 (drop at bytes.now) }

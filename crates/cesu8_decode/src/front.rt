@@ -57,8 +57,8 @@ pub fn front<F: Flavor, S: CharacterSet>(bytes: &[u8]) -> usize
     last_boundary::<F, S>(bytes, at)
 }
 
-/// Returns whether the bytes are UTF-8.
-#[inline(always)]
+/// Returns whether the bytes are UTF-8. It is not inlined, so that the way of other bytes stays short.
+#[inline(never)]
 pub fn is_utf8(bytes: &[u8]) -> bool
     ensures { IsTrue result ↔ IsUtf8 bytes.now }
 {

@@ -1,6 +1,6 @@
 //! The search of bytes for one of a class.
 //!
-//! Two vectors of one width cover at most 128 bytes. More are tested by four vectors of 64 bytes at
+//! Two vectors of one width cover at most 64 bytes. More are tested by four vectors of 64 bytes at
 //! once, and a last one that overlaps those before it, so no byte is left.
 //!
 //! Everything is inlined: a call would pass vectors through memory, and most values are short.
@@ -16,6 +16,17 @@ use std::simd::prelude::*;
 /// Returns whether some byte is in the class.
 #[inline(always)]
 pub fn any_in_bytes<C: InAllVectors + InGroups<LANES>>(bytes: &[u8]) -> bool
+    ensures { IsTrue result ↔ AnyIn C.class bytes.now }
+{
+    if bytes.len() > LANES {
+        return any_in_long::<C>(bytes);
+    }
+    by_two_vectors!(bytes, any_in_ends[C](bytes), false)
+}
+
+/// Does so, with 65 to 128 bytes by two vectors too. It is longer, so one look alone has it.
+#[inline(always)]
+pub fn any_in_first_look<C: InAllVectors + InGroups<LANES>>(bytes: &[u8]) -> bool
     ensures { IsTrue result ↔ AnyIn C.class bytes.now }
 {
     if bytes.len() <= LANES {

@@ -1,5 +1,6 @@
-//! Text in which characters that change stand far apart. What is between them is found by the test of
-//! the front, and copied.
+//! The strict reading that is appended to a vector: that of one block, and of more bytes. Where the
+//! characters that change stand far apart, what is between them is found by the test of the front, and
+//! copied.
 
 ghost use Rattle.std.specs.Prelude.{◌≡◌, ◌+◌, ◌<◌, ◌≤◌, length, vec_len, vec_capacity};
 ghost use Rattle.cesu8_bytes.specs.TextChunks.{IsReadSoFar};

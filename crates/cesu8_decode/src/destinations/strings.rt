@@ -42,6 +42,7 @@ pub fn write_strictly<F: Flavor>(bytes: &[u8], front: usize, empty: Vec<u8>) -> 
         // It is read whole, in less time than its front is copied.
         return append_one::<F>(bytes, empty);
     }
+    // Taken apart, so that what the block above returns stays in registers.
     let text = append_many::<F>(bytes, front, empty)?;
     Some(text)
 }
