@@ -5,14 +5,13 @@
 //! - `implementation`: the kernels, by a search, a word or a byte at a time
 //! - `looks`: the first looks at an input
 //! - `lengths`, `order`: what is told of a text without encoding it
-//! - `continuation`, `pairs`: the bytes of a character
+//! - `pairs`: the bytes of a character
 //! - `writing`: what copies, packs and appends
 //! - `utf8`: what is known to be UTF-8, as a text
 //!
 //! The names of this crate are no promise to users. `simd_cesu8` has the public calls.
 #![tactic(auto)]
 
-pub mod continuation;
 pub mod flavor;
 pub mod implementation;
 pub mod lanes;

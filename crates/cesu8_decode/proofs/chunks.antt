@@ -2,8 +2,7 @@
 pub mod ReadChunks
 pub mod DecodedChunks
 pub mod WrittenChunks
-pub mod Characters
-pub mod Forms
+pub mod Changed
 pub mod SliceReadings
 pub mod Strings
 pub mod WholeBytes

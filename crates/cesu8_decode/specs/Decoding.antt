@@ -1,15 +1,14 @@
 -- What decoding promises: a chunk of text at the front of bytes, all of it, and what is written for a window.
-use Rattle.std.specs.Prelude.{◌≡◌, ℕ, ◌+◌, ◌-◌, ◌*◌, ◌/◌, ◌<◌, ◌≤◌, Bool, true, false, List, [], ◌++◌, Vec, length, take, drop, vec_capacity, Option, IfSome, IfNone, Result, IfOk}
+use Rattle.std.specs.Prelude.{◌≡◌, ℕ, ◌+◌, ◌*◌, ◌<◌, ◌≤◌, Bool, true, false, List, [], ◌++◌, Vec, length, take, drop, vec_capacity, Option, IfSome, IfNone, Result, IfOk}
 use Rattle.cesu8_text.specs.Reading.{NoneBegins, HasNoStrictReading}
 use Rattle.cesu8_text.specs.Encoding.{Flavor}
 use Rattle.cesu8_bytes.specs.declared.strictness.Strictness.{Strictness}
 use Rattle.cesu8_bytes.specs.declared.strictness.Strictness.TheVariants.{Strict, Lossy}
-use Rattle.cesu8_bytes.specs.declared.TheConstants.{BLOCK}
 use Rattle.cesu8_bytes.specs.declared.writing.packing.TheConstants.{STORED}
 use Rattle.cesu8_decode.specs.declared.lanes.packing.TheConstants.{WIDEST}
-use Rattle.cesu8_decode.specs.declared.way.TheConstants.{FEW_BYTES}
-use Rattle.cesu8_decode.specs.declared.pass.whole_blocks.TheConstants.{FOLLOWING, SPARE}
+use Rattle.cesu8_decode.specs.declared.pass.whole_blocks.TheConstants.{FOLLOWING, LAST_BYTES, SPARE}
 use Rattle.cesu8_decode.specs.DecodedOffsets.{decoded, is_ill_formed_at}
+use Rattle.cesu8_decode.specs.Following.{whole_blocks}
 use Rattle.cesu8_bytes.specs.TextChunks.{IsReadSoFar}
 
 -- Only strict reading refuses ill-formed bytes.
@@ -32,7 +31,7 @@ room_for Lossy n = WIDEST * n + SPARE
 -- in lossy reading for as many bytes as are left to the last blocks, so that whole ones come first.
 abbrev pub least_room : Strictness → ℕ
 least_room Strict = FOLLOWING
-least_room Lossy = room_for Lossy FEW_BYTES
+least_room Lossy = room_for Lossy LAST_BYTES
 
 -- A buffer of a length has room for the text of n bytes, or of enough of them.
 abbrev pub HasRoom : Strictness → ℕ → ℕ → Type 0
@@ -40,7 +39,7 @@ HasRoom which n len = len < room_for which n → least_room which ≤ len
 
 -- It has room behind an end for the text of the blocks that n bytes have, and for what is stored behind it.
 abbrev pub HasRoomBehind : Strictness → ℕ → ℕ → ℕ → Type 0
-HasRoomBehind which n end len = end + most_written which (BLOCK * ((n + BLOCK - 1) / BLOCK)) + STORED ≤ len
+HasRoomBehind which n end len = end + most_written which (whole_blocks n) + STORED ≤ len
 
 -- After some text no encoded character begins the bytes that are left.
 pub record HasFault (f : Flavor) (bytes : List ℕ) : Type 0 where

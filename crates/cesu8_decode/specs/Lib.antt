@@ -1,9 +1,9 @@
 pub mod DecodedOffsets
 pub mod DecodedLanes
 pub mod Refusals
-pub mod Forms
+pub mod Changed
+pub mod Following
 pub mod Decoding
 pub mod PutReadings
 pub mod Ways
 pub mod Front
-pub mod Following

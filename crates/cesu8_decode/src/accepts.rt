@@ -11,7 +11,7 @@ ghost use Rattle.cesu8_decode.specs.Front.{IsFront};
 
 use crate::front::{front, is_utf8};
 use crate::lanes::character_set::Unchanged;
-use cesu8_bytes::BLOCK;
+use crate::way::is_one_block;
 use cesu8_bytes::flavor::Flavor;
 use cesu8_bytes::looks::{is_short_ascii, is_short_unchanged_ascii};
 
@@ -93,7 +93,7 @@ fn is_utf8_behind(bytes: &[u8], at: usize) -> bool
     ensures { IsTrue result ↔ IsUtf8 bytes.now }
 {
     // Of one block all is tested, so that no branch depends on the offset.
-    if bytes.len() <= BLOCK {
+    if is_one_block(bytes) {
         return is_utf8(bytes);
     }
     is_utf8(&bytes[at..])

@@ -43,6 +43,6 @@ fn decode_other_to_slice<F: Flavor, A: Accepts>(
     }
     match strictness {
         Strictness::Strict => put_strictly::<F>(bytes, front, buf),
-        Strictness::Lossy => put_lossily::<F>(bytes, buf),
+        Strictness::Lossy => put_lossily::<F>(bytes, front, buf),
     }
 }

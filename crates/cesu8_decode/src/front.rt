@@ -7,15 +7,15 @@
 
 ghost use Rattle.std.specs.Prelude.{◌≡◌, ℕ, ◌+◌, ◌-◌, ◌<◌, ◌≤◌, ◌↔◌, ◌++◌, IsTrue, IsUtf8, true, false, length, replicate, slice_index, IfOk, IfErr};
 ghost use Rattle.cesu8_text.specs.Fronts.{IsValidUpTo};
+ghost use Rattle.cesu8_text.specs.Reading.{IsStrictReading, HasNoStrictReading, reading};
 ghost use Rattle.cesu8_decode.specs.Following.{FirstFollow, FollowUpTo, Encoded as AllEncoded, after_fillers, crosses_at, is_high_surrogate};
 ghost use Rattle.cesu8_decode.specs.Front.{AreWhole, IsFront};
-
-pub(crate) mod ill_formed;
 
 use crate::lanes::character_set::{CharacterSet, Encoded, Utf8};
 use crate::lanes::following::{
     DECIDING, FILLER, block_at, block_behind, following_len, two_follow,
 };
+use crate::way::is_one_block;
 use cesu8_bytes::BLOCK;
 use cesu8_bytes::flavor::{Cesu8Flavor, Flavor};
 use cesu8_bytes::lanes::class::{Either, NonAscii};
@@ -49,12 +49,23 @@ pub fn valid_up_to_other<F: Flavor>(bytes: &[u8]) -> usize
 pub fn front<F: Flavor, S: CharacterSet>(bytes: &[u8]) -> usize
     ensures { IsFront S.set F.flavor bytes.now result }
 {
-    let at = if bytes.len() <= BLOCK {
+    let at = if is_one_block(bytes) {
         following_few::<F, S>(bytes)
     } else {
         following_many::<F, S>(bytes)
     };
     last_boundary::<F, S>(bytes, at)
+}
+
+/// Returns whether some byte is in no encoded character. It stops soon after the first ill-formed
+/// byte.
+#[inline(always)]
+pub fn is_ill_formed<F: Flavor>(bytes: &[u8]) -> bool
+    ensures ill_formed { IsTrue result → HasNoStrictReading F.flavor bytes.now }
+    ensures whole { result ≡ false → IsStrictReading F.flavor bytes.now
+        (reading F.flavor bytes.now) }
+{
+    valid_up_to_other::<F>(bytes) < bytes.len()
 }
 
 /// Returns whether the bytes are UTF-8. It is not inlined, so that the way of other bytes stays short.
@@ -103,7 +114,7 @@ fn following_first<F: Flavor, S: CharacterSet>(bytes: &[u8]) -> Result<usize, us
         return Ok(run);
     }
     let len = following_few::<F, S>(&bytes[..BLOCK]);
-    if len < BLOCK { Err(len) } else { Ok(BLOCK) }
+    if len == BLOCK { Ok(BLOCK) } else { Err(len) }
 }
 
 /// Returns how many bytes may follow those before them, by two blocks at once from `start` on.
@@ -132,7 +143,7 @@ fn following_last<F: Flavor, S: CharacterSet>(bytes: &[u8], start: usize) -> usi
     let mut at = start;
     while bytes.len() - at >= BLOCK {
         let len = following_len::<F, S>(block_at(bytes, at - DECIDING));
-        if len < BLOCK {
+        if len != BLOCK {
             return at + len;
         }
         // Where the next block begins does not wait for the length.
@@ -151,9 +162,8 @@ fn following_end<F: Flavor, S: CharacterSet>(bytes: &[u8], start: usize) -> usiz
     requires start { (BLOCK ≤ start) × (length bytes.now < start + BLOCK) }
     ensures { FollowUpTo S.set F.flavor bytes.now result }
 {
-    if bytes.len() >= DECIDING + BLOCK {
-        let last = bytes.len() - BLOCK;
-        return last + following_len::<F, S>(block_at(bytes, last - DECIDING));
+    if let Some(before) = bytes.len().checked_sub(DECIDING + BLOCK) {
+        return before + DECIDING + following_len::<F, S>(block_at(bytes, before));
     }
     let block = block_behind(u8x32::from_slice(bytes), padded_half(&bytes[BLOCK..]));
     BLOCK + following_len::<F, S>(block).min(bytes.len() - BLOCK)

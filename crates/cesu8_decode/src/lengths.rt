@@ -7,9 +7,8 @@ ghost use Rattle.cesu8_text.specs.Slices.{ReadsAtLength};
 
 mod sums;
 
-use crate::characters::forms::begins_changed;
-use crate::front::front;
-use crate::front::ill_formed::is_ill_formed;
+use crate::changed::begins_changed;
+use crate::front::{front, is_ill_formed};
 use crate::lanes::character_set::Unchanged;
 use cesu8_bytes::flavor::Flavor;
 use sums::sum_first;

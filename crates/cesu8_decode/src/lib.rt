@@ -11,8 +11,8 @@
 //! - `front`: how many bytes are whole characters of a set, with which each call begins
 //! - `lengths`: the lengths of the readings
 //! - `way`: which way other bytes go
-//! - `characters`: a few bytes, one character after another
-//! - `pass`: more bytes, in one pass by blocks
+//! - `changed`: whether bytes begin with a character that changes
+//! - `pass`: a few bytes by the first that may not follow, and more in one pass by blocks
 //! - `destinations`: the text of a `String` or of a caller's slice
 //! - `copy_or_write`: a slice again, with what stays copied
 //!
@@ -28,7 +28,7 @@ ghost use Rattle.cesu8_decode.specs.Front.{IsFront};
 ghost use Rattle.cesu8_decode.specs.Refusals.{OnNoText};
 
 pub mod accepts;
-mod characters;
+mod changed;
 pub mod copy_or_write;
 mod decoded;
 mod destinations;
@@ -67,16 +67,22 @@ pub fn decode_strict<F: Flavor>(
     }
 }
 
-/// Returns the lossy reading of the bytes, after one request for its length. A length that does not
-/// fit counts as refused. That of a few bytes, or of the first window of many, is decoded on the
-/// stack before that, so that it needs no pass for the length.
+/// Returns the lossy reading of the bytes, after one request for its length. So many at the front, but
+/// not all, are whole characters that are the same in UTF-8. A length that does not fit counts as
+/// refused. The text of a few bytes, or of the first window of many, is decoded on the stack before
+/// that, so that it needs no pass for the length.
 #[inline(never)]
-pub fn decode_lossy<F: Flavor>(alloc: Global, bytes: &[u8]) -> Result<String, AllocError>
+pub fn decode_lossy<F: Flavor>(
+    alloc: Global,
+    bytes: &[u8],
+    front: usize,
+) -> Result<String, AllocError>
+    requires { IsFront AllUnchanged F.flavor bytes.now front × (front < length bytes.now) }
     ensures text { IfOk result (λ text.
         chars (string_bytes text) ≡ reading F.flavor bytes.now) }
     ensures capacity { IfOk result (λ text.
         string_capacity text ≡ lossy_length F.flavor bytes.now) }
 {
-    let text = build_lossily::<F>(alloc, bytes)?;
+    let text = build_lossily::<F>(alloc, bytes, front)?;
     Ok(known_string(text))
 }

@@ -5,13 +5,13 @@
 //! - `block`: one block
 //! - `whole_blocks`, `last_blocks`: blocks where they stand, and the last ones from an array
 //! - `in_place`: all of some bytes
-//! - `strict_block`, `one_block`: up to 32 bytes in strict and in lossy reading, without the pass
+//! - `strict_few`, `one_block`: up to 64 bytes in strict and 32 in lossy reading, without the pass
 
 mod block;
 pub mod in_place;
 mod last_blocks;
 pub mod one_block;
-mod reading;
-pub mod strict_block;
+pub mod reading;
+pub mod strict_few;
 mod whole_blocks;
 mod window;

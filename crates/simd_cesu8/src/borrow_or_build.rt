@@ -129,9 +129,10 @@ fn decode_lossy_other<F: Flavor, A: Accepts>(
     ensures { DecodesLossily F.flavor (A.keeps F.flavor bytes.now)
         (A.reads_lossily F.flavor bytes.now) bytes.now result }
 {
-    if front_unless_kept::<F, A>(bytes) == bytes.len() {
+    let front = front_unless_kept::<F, A>(bytes);
+    if front == bytes.len() {
         return Ok(CowText::Borrowed(known_text(bytes)));
     }
-    let built = internal::decode_lossy::<F>(alloc, bytes)?;
+    let built = internal::decode_lossy::<F>(alloc, bytes, front)?;
     Ok(CowText::Owned(built))
 }

@@ -115,10 +115,6 @@ first_holds : (s t : Bool) → (s && t) ≡ true → s ≡ true
 first_holds true t e = refl
 first_holds false t e = e
 
-either_holds : (s t : Bool) → (s || t) ≡ true → (s ≡ true) ⊎ (t ≡ true)
-either_holds true t e = inl refl
-either_holds false t e = inr e
-
 -- F0 to F7 is F0 or more.
 pub lead_of_four : (chunks : List (List ℕ)) → Any (AnyIn is_four) chunks → Any (AnyIn is_at_least_f0) chunks
 lead_of_four chunks h = (h.0, h.1, h.2, h.3, (h.4.0, h.4.1, h.4.2, h.4.3, first_holds (leb 0xF0 h.4.1) (leb h.4.1 0xF7) h.4.4))

@@ -27,10 +27,10 @@ const WORD: usize = 8;
 pub fn contains_utf8_4_byte_char_header(value: &[u8]) -> bool
     ensures { IsTrue result ↔ Any IsFour value.now }
 {
-    if value.len() < WORD {
-        return fallback::contains_utf8_4_byte_char_header(value);
+    match value.len() {
+        0..WORD => fallback::contains_utf8_4_byte_char_header(value),
+        _ => test_word_any(value, contains_four),
     }
-    test_word_any(value, contains_four)
 }
 
 /// Returns whether some byte is 00, or F0 to F7 (hexadecimal).
@@ -43,10 +43,10 @@ pub fn contains_utf8_4_byte_char_header(value: &[u8]) -> bool
 pub fn contains_null_or_utf8_4_byte_char_header(value: &[u8]) -> bool
     ensures { IsTrue result ↔ Any IsNullFour value.now }
 {
-    if value.len() < WORD {
-        return fallback::contains_null_or_utf8_4_byte_char_header(value);
+    match value.len() {
+        0..WORD => fallback::contains_null_or_utf8_4_byte_char_header(value),
+        _ => test_word_any(value, contains_null_or_four),
     }
-    test_word_any(value, contains_null_or_four)
 }
 
 /// Returns whether a word passes the test: that of the first eight bytes, of each eight that
@@ -132,7 +132,7 @@ mod tests {
             (25, 4, [AT_0, AT_8, AT_16, AT_17]),
         ];
         for (len, count, words) in cases {
-            assert!(rt; len >= WORD);
+            assert!(rt; WORD <= len);
             let tested = Cell::new(0usize);
             let seen = Cell::new([0u64; 4]);
             let found = test_word_any(&bytes[..len], |word| {

@@ -44,10 +44,10 @@ const BYTES_IN_LANES: usize = VECTORS_IN_LANES * LANES;
 pub fn weight<C: CountsOne>(value: &[u8]) -> usize
     ensures { result ≡ sum_by (weight_of C.class) value.now }
 {
-    if value.len() <= LANES {
-        return short_weight::<C>(value);
+    match value.len() {
+        0..=LANES => short_weight::<C>(value),
+        _ => long_weight::<C>(value),
     }
-    long_weight::<C>(value)
 }
 
 #[inline(never)]
@@ -92,10 +92,10 @@ fn lane_sum(lanes: u8x64) -> usize
 fn rest_weight<C: CountsOne>(value: &[u8]) -> usize
     ensures { result ≡ sum_by (weight_of C.class) value.now }
 {
-    if value.len() < LANES {
+    let whole = value.len() / LANES;
+    if whole == 0 {
         return short_weight::<C>(value);
     }
-    let whole = value.len() / LANES;
     let mut weight = 0;
     for i in 0..whole {
         weight += lanes_weight::<C, LANES>(u8x64::from_slice(&value[LANES * i..]), 0);

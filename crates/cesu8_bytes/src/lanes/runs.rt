@@ -1,54 +1,12 @@
-//! Runs of bytes without one of a class, found and copied by vectors.
+//! Runs of bytes without one of a class, found by vectors.
 
-ghost use Rattle.std.specs.Prelude.{◌≡◌, ◌==◌, if◌then◌else◌, ℕ, ◌+◌, ◌*◌, ◌<◌, ◌≤◌, not, true, false, length, take, slice_index};
+ghost use Rattle.std.specs.Prelude.{◌≡◌, ◌==◌, if◌then◌else◌, ℕ, ◌*◌, ◌<◌, ◌≤◌, not, false, length, slice_index};
 ghost use Rattle.std.specs.Int.Count.{count_trailing_zeros};
 ghost use Rattle.std.specs.List.{prefix_len};
-ghost use Rattle.cesu8_bytes.specs.Puts.{WritesAt};
 
-use super::class::{InAllVectors, InVectors, LANES, bits, has};
+use super::class::{InVectors, LANES, bits, has};
 use super::groups::InGroups;
-use crate::writing::put::{put, put_lanes};
 use std::simd::prelude::*;
-
-/// Copies the first byte, which is not in the class, and the next ones up to one that is, as far as a
-/// vector reaches, and returns how many. The rest of the vector is stored too.
-#[inline(always)]
-pub fn copy_run<C: InAllVectors>(bytes: &[u8], out: &mut [u8], at: usize) -> usize
-    requires some { 0 < length bytes.now }
-    requires first { C.class (slice_index bytes.now 0) ≡ false }
-    requires room { at + length bytes.now ≤ length out.old }
-    ensures some { 0 < result }
-    ensures within { result ≤ length bytes.now }
-    ensures run { (i : ℕ) → i < result → C.class (slice_index bytes.now i) ≡ false }
-    ensures copied { WritesAt (take result bytes.now) at out.old out.new (at + result) }
-{
-    if bytes.len() >= 16 {
-        return copy_lanes::<C, 16>(bytes, out, at);
-    }
-    if bytes.len() >= 8 {
-        return copy_lanes::<C, 8>(bytes, out, at);
-    }
-    if bytes.len() >= 4 {
-        return copy_lanes::<C, 4>(bytes, out, at);
-    }
-    put(&bytes[..1], out, at);
-    1
-}
-
-/// Copies a vector of bytes, and returns how many of them precede one of the class.
-#[inline(always)]
-fn copy_lanes<C: InVectors<N>, const N: usize>(bytes: &[u8], out: &mut [u8], at: usize) -> usize
-    requires lanes { (0 < N) × (N ≤ LANES) × (N ≤ length bytes.now) }
-    requires room { at + N ≤ length out.old }
-    ensures some { C.class (slice_index bytes.now 0) ≡ false → 0 < result }
-    ensures within { result ≤ N }
-    ensures run { (i : ℕ) → i < result → C.class (slice_index bytes.now i) ≡ false }
-    ensures copied { WritesAt (take result bytes.now) at out.old out.new (at + result) }
-{
-    let lanes: Simd<u8, N> = Simd::from_slice(bytes);
-    put_lanes(lanes, out, at);
-    lanes_before::<C, N>(lanes)
-}
 
 /// Returns how many lanes precede the first one of the class.
 #[inline(always)]

@@ -10,7 +10,7 @@ ghost use Rattle.cesu8_bytes.specs.Kernels.{AnyIn};
 
 use super::class::{InAllVectors, InVectors, LANES, has};
 use super::groups::InGroups;
-use super::short::{any_in_ends, by_two_vectors, end_vector};
+use super::short::{any_in_ends, are_short, by_two_vectors, end_vector};
 use std::simd::prelude::*;
 
 /// Returns whether some byte is in the class.
@@ -18,7 +18,7 @@ use std::simd::prelude::*;
 pub fn any_in_bytes<C: InAllVectors + InGroups<LANES>>(bytes: &[u8]) -> bool
     ensures { IsTrue result ↔ AnyIn C.class bytes.now }
 {
-    if bytes.len() > LANES {
+    if !are_short(bytes) {
         return any_in_long::<C>(bytes);
     }
     by_two_vectors!(bytes, any_in_ends[C](bytes), false)
@@ -29,7 +29,7 @@ pub fn any_in_bytes<C: InAllVectors + InGroups<LANES>>(bytes: &[u8]) -> bool
 pub fn any_in_first_look<C: InAllVectors + InGroups<LANES>>(bytes: &[u8]) -> bool
     ensures { IsTrue result ↔ AnyIn C.class bytes.now }
 {
-    if bytes.len() <= LANES {
+    if are_short(bytes) {
         return by_two_vectors!(bytes, any_in_ends[C](bytes), false);
     }
     if bytes.len() <= 2 * LANES {

@@ -3,16 +3,24 @@
 //! Two vectors of one width, one at the front and one at the end, cover a value between that width
 //! and twice that. They overlap where needed, so no byte is left out.
 
-ghost use Rattle.std.specs.Prelude.{◌≡◌, ◌≤◌, ◌<◌, ◌+◌, ◌*◌, ◌-◌, ◌↔◌, ◌++◌, IsTrue, length, drop};
+ghost use Rattle.std.specs.Prelude.{◌≡◌, ◌≤◌, ◌+◌, ◌*◌, ◌-◌, ◌↔◌, ◌++◌, IsTrue, length, drop};
 ghost use Rattle.cesu8_bytes.specs.Kernels.{AnyIn};
 
-use super::class::{InVectors, LANES, bits, has};
+use super::class::{InVectors, LANES, has};
 use crate::writing::put::put_lanes;
 use std::simd::prelude::*;
 
 /// From this length on bytes are copied as one slice. Where both may overlap, for all that the compiler
 /// knows, that is larger steps, and up to 127 bytes one by one.
 pub(crate) const LONG: usize = 16 * LANES;
+
+/// Returns whether two vectors of one width cover the bytes.
+#[inline(always)]
+pub fn are_short(bytes: &[u8]) -> bool
+    ensures { IsTrue result ↔ length bytes.now ≤ LANES }
+{
+    bytes.len() <= LANES
+}
 
 /// Calls a function at the greatest width of which two vectors cover at most 64 bytes, or returns
 /// what is right of none: `by_two_vectors!(value, function[Class](value), of_none)`.
@@ -59,19 +67,6 @@ pub(crate) fn end_vector<const N: usize>(bytes: &[u8]) -> Simd<u8, N>
     Simd::from_slice(&bytes[bytes.len() - N..])
 }
 
-/// Counts the bytes in the class, in a vector at the front and one at the end. The bits of bytes in
-/// both are shifted out of the second mask, so they count once. No clause has the count: a decoder
-/// chooses its way by it, for speed alone.
-#[inline(always)]
-pub fn count_in_ends<C: InVectors<N>, const N: usize>(bytes: &[u8]) -> usize
-    requires { (N ≤ LANES) × (N < length bytes.now) × (length bytes.now ≤ 2 * N) }
-{
-    let front: Simd<u8, N> = Simd::from_slice(bytes);
-    let end = end_vector::<N>(bytes);
-    let behind = bits::<C, N>(end) >> (2 * N - bytes.len());
-    (bits::<C, N>(front).count_ones() + behind.count_ones()) as usize
-}
-
 /// Copies bytes to the front of a buffer. It is correct for every length, and for short ones it takes
 /// less time than a call of `memmove`.
 #[inline(always)]
@@ -81,10 +76,10 @@ pub fn copy_short(bytes: &[u8], buf: &mut [u8])
 {
     if bytes.len() >= LONG {
         buf[..bytes.len()].copy_from_slice(bytes);
-    } else if bytes.len() > LANES {
-        copy_many(bytes, buf);
-    } else {
+    } else if are_short(bytes) {
         by_two_vectors!(bytes, copy_ends[](bytes, buf), ());
+    } else {
+        copy_many(bytes, buf);
     }
 }
 

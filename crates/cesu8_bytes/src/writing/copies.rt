@@ -26,12 +26,10 @@ pub fn append(bytes: &[u8], out: &mut Vec<u8>)
     // The length of a local vector stays in a register; behind a reference, each byte that is
     // written would store it.
     let mut taken = mem::replace(out, Vec::new(*out.allocator()));
-    if bytes.len() >= LONG {
-        append_each(bytes, &mut taken);
-    } else if bytes.len() > LANES {
-        append_many(bytes, &mut taken);
-    } else {
-        append_few(bytes, &mut taken);
+    match bytes.len() {
+        0..=LANES => append_few(bytes, &mut taken),
+        0..LONG => append_many(bytes, &mut taken),
+        _ => append_each(bytes, &mut taken),
     }
     *out = taken;
 }
@@ -43,12 +41,10 @@ pub fn append_few(bytes: &[u8], out: &mut Vec<u8>)
     requires room { vec_len out.old + length bytes.now ≤ vec_capacity out.old }
     ensures { Appends bytes.now out.old out.new }
 {
-    if bytes.len() > WIDE {
-        append_four::<WIDE>(bytes, out);
-    } else if bytes.len() >= NARROW {
-        append_four::<NARROW>(bytes, out);
-    } else {
-        append_each(bytes, out);
+    match bytes.len() {
+        0..NARROW => append_each(bytes, out),
+        0..=WIDE => append_four::<NARROW>(bytes, out),
+        _ => append_four::<WIDE>(bytes, out),
     }
 }
 

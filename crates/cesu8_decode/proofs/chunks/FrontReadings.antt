@@ -19,7 +19,7 @@ use Rattle.cesu8_bytes.specs.declared.writing.writers.NoRoom.{NoRoom}
 use Rattle.cesu8_decode.specs.declared.refusal.Unwritten.TheVariants as unwritten
 use Rattle.cesu8_decode.specs.Decoding.{AppendsStrictly}
 use Rattle.cesu8_decode.specs.Following.{Unchanged}
-use Rattle.cesu8_decode.specs.Forms.{BeginsChanged}
+use Rattle.cesu8_decode.specs.Changed.{BeginsChanged}
 use Rattle.cesu8_decode.specs.Front.{IsFront}
 use Rattle.cesu8_decode.specs.PutReadings.{PutsReading}
 use Rattle.cesu8_decode.proofs.chunks.ReadChunks.{more_read, chunk_appended}

@@ -146,3 +146,25 @@ first_after f which bytes front text whole read more is_ill_formed inside so_far
       (chunk_appended f which (drop read bytes) _ text front whole (next.chunk fine) whole_is));
   ill_formed = λ ill_formed. fault_after f Strict bytes (drop read bytes) [] front (so_far Strict) refl (next.ill_formed ill_formed);
 }
+
+-- The strict reading, where there is one, is the lossy one too.
+pub reads_lossily : (f : Flavor) (bytes text : List ℕ) (is_ill_formed : Bool) → is_ill_formed ≡ false → ReadsAll f Strict bytes text is_ill_formed →
+    ReadsAll f Lossy bytes text is_ill_formed
+reads_lossily f bytes text is_ill_formed fine reads =
+    let read = reads.all fine in
+    record {
+      all = λ _. record {
+        text = read.text;
+        scalars = read.scalars;
+        lossy_reading = read.lossy_reading;
+        strict_reading = λ (strict : Lossy ≡ Strict). absurd (cc);
+        written = read.written;
+      };
+      ill_formed = reads.ill_formed;
+    }
+
+-- In either reading they are read so, where lossy reading found nothing ill-formed.
+pub reads_either : (f : Flavor) (which : Strictness) (bytes text : List ℕ) (is_ill_formed : Bool) → (which ≡ Lossy → is_ill_formed ≡ false) →
+    ReadsAll f Strict bytes text is_ill_formed → ReadsAll f which bytes text is_ill_formed
+reads_either f Strict bytes text is_ill_formed fine reads = reads
+reads_either f Lossy bytes text is_ill_formed fine reads = reads_lossily f bytes text is_ill_formed (fine refl) reads

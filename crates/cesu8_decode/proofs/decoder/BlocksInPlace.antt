@@ -54,9 +54,10 @@ no_longer f Lossy window at (suc n) fine =
       length-append (decoded_at f window at) (decoded f window (at + 1) n),
     )
 
-pub most_is_more : (which : Strictness) (n : ℕ) → n ≤ most_written which n
-most_is_more Strict n = omega arith
-most_is_more Lossy n = omega arith
+-- That of more bytes may be written behind that of some.
+pub most_of_more : (which : Strictness) (n m : ℕ) → most_written which (n + m) ≡ most_written which n + most_written which m
+most_of_more Strict n m = refl
+most_of_more Lossy n m = omega arith
 
 -- ---- windows that agree
 

@@ -1,4 +1,4 @@
-//! The strict reading that is appended to a vector: that of one block, and of more bytes. Where the
+//! The strict reading that is appended to a vector: that of a few bytes, and of more. Where the
 //! characters that change stand far apart, what is between them is found by the test of the front, and
 //! copied.
 
@@ -7,16 +7,14 @@ ghost use Rattle.cesu8_bytes.specs.TextChunks.{IsReadSoFar};
 ghost use Rattle.cesu8_bytes.specs.declared.strictness.Strictness.TheVariants.{Strict};
 ghost use Rattle.cesu8_decode.specs.Decoding.{AppendsStrictly};
 ghost use Rattle.cesu8_decode.specs.Following.{Unchanged as AllUnchanged};
-ghost use Rattle.cesu8_decode.specs.Forms.{BeginsChanged};
 ghost use Rattle.cesu8_decode.specs.Front.{IsFront};
 
-use crate::characters::forms::{begins_changed, prefix_of};
+use crate::changed::{begins_changed, prefix_of};
 use crate::front::front;
 use crate::lanes::character_set::Unchanged;
 use crate::pass::in_place::append_strictly;
-use crate::pass::strict_block::{STRICT_TEXT, write_one_strictly};
-use crate::way::{Way, way_of};
-use cesu8_bytes::BLOCK;
+use crate::pass::strict_few::{STRICT_TEXT, write_few_strictly};
+use crate::way::{FEW_BYTES, are_few};
 use cesu8_bytes::flavor::Flavor;
 use cesu8_bytes::pairs::{PAIR, PAIR_READ, utf8_of_pair};
 use cesu8_bytes::writing::copies::{append, append_few};
@@ -37,12 +35,12 @@ pub fn append_many<F: Flavor>(bytes: &[u8], front: usize, before: Vec<u8>) -> Op
     requires room { vec_len before + length bytes.now ≤ vec_capacity before }
     ensures { AppendsStrictly F.flavor bytes.now before result }
 {
-    if front >= FRONT || matches!(way_of(&bytes[front..]), Way::Characters) {
+    if front >= FRONT {
         return append_by_fronts::<F>(bytes, front, before);
     }
     let mut text = before;
     append(&bytes[..front], &mut text);
-    append_blocks::<F>(&bytes[front..], text)
+    append_rest::<F>(&bytes[front..], text)
 }
 
 /// Does so from one character that changes to the next, as long as they stand far apart.
@@ -63,30 +61,30 @@ fn append_by_fronts<F: Flavor>(bytes: &[u8], len: usize, before: Vec<u8>) -> Opt
     if len == rest.len() {
         return Some(text);
     }
-    append_blocks::<F>(&rest[len..], text)
+    append_rest::<F>(&rest[len..], text)
 }
 
-/// Appends the strict reading of the bytes block by block.
+/// Appends the strict reading of what is left.
 #[inline(always)]
-fn append_blocks<F: Flavor>(bytes: &[u8], before: Vec<u8>) -> Option<Vec<u8>>
+fn append_rest<F: Flavor>(bytes: &[u8], before: Vec<u8>) -> Option<Vec<u8>>
     requires { vec_len before + length bytes.now ≤ vec_capacity before }
     ensures { AppendsStrictly F.flavor bytes.now before result }
 {
-    if bytes.len() <= BLOCK {
-        return append_one::<F>(bytes, before);
+    if are_few(bytes) {
+        return append_few_strictly::<F>(bytes, before);
     }
     append_strictly::<F>(bytes, before)
 }
 
-/// Appends the strict reading of the bytes of one block, by an array.
+/// Appends the strict reading of a few bytes, by an array.
 #[inline(always)]
-pub fn append_one<F: Flavor>(bytes: &[u8], before: Vec<u8>) -> Option<Vec<u8>>
-    requires bytes { length bytes.now ≤ BLOCK }
+pub fn append_few_strictly<F: Flavor>(bytes: &[u8], before: Vec<u8>) -> Option<Vec<u8>>
+    requires bytes { length bytes.now ≤ FEW_BYTES }
     requires room { vec_len before + length bytes.now ≤ vec_capacity before }
     ensures { AppendsStrictly F.flavor bytes.now before result }
 {
     let mut written = [0; STRICT_TEXT];
-    let decoded = write_one_strictly::<F>(bytes, &mut written);
+    let decoded = write_few_strictly::<F>(bytes, &mut written);
     if decoded.is_ill_formed {
         return None;
     }
@@ -112,24 +110,11 @@ fn append_to_next<'a, F: Flavor>(bytes: &'a [u8], len: usize, out: &mut Vec<u8>)
     if !begins_changed::<F>(rest) {
         return rest;
     }
-    append_changed::<F>(rest, out)
-}
-
-/// Appends the character that begins the bytes, in UTF-8, and returns the bytes behind it.
-#[inline(always)]
-fn append_changed<'a, F: Flavor>(bytes: &'a [u8], out: &mut Vec<u8>) -> &'a [u8]
-    requires begins { BeginsChanged F.flavor bytes.now }
-    requires room { vec_len out.old + length bytes.now ≤ vec_capacity out.old }
-    ensures read { IsReadSoFar F.flavor Strict bytes.now result.now out.old.items out.new.items }
-    ensures room { vec_len out.new + length result.now ≤ vec_capacity out.new }
-    ensures within { length result.now < length bytes.now }
-    ensures capacity { vec_capacity out.new ≡ vec_capacity out.old }
-{
-    if bytes[0] == 0xC0 {
+    if rest[0] == 0xC0 {
         append(&[0], out);
-        return &bytes[2..];
+        return &rest[2..];
     }
     let mut padded = [0; PAIR_READ];
-    append(&utf8_of_pair(prefix_of(bytes, &mut padded)), out);
-    &bytes[PAIR..]
+    append(&utf8_of_pair(prefix_of(rest, &mut padded)), out);
+    &rest[PAIR..]
 }

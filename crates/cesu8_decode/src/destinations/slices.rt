@@ -10,32 +10,27 @@ ghost use Rattle.cesu8_text.specs.Reading.{reading, lossy_length};
 ghost use Rattle.cesu8_text.specs.Slices.{StandsAtFront};
 ghost use Rattle.cesu8_text.specs.Text.{utf8};
 ghost use Rattle.cesu8_bytes.specs.declared.strictness.Strictness.TheVariants.{Strict, Lossy};
-ghost use Rattle.cesu8_decode.specs.Decoding.{ReadsAll, most_written, room_for};
+ghost use Rattle.cesu8_decode.specs.Decoding.{ReadsAll, room_for};
 ghost use Rattle.cesu8_decode.specs.Following.{Unchanged};
 ghost use Rattle.cesu8_decode.specs.Front.{IsFront};
 ghost use Rattle.cesu8_decode.specs.PutReadings.{PutsReading};
-ghost use Rattle.cesu8_decode.specs.Ways.{Takes};
 
-use crate::characters::forms::begins_changed;
-use crate::characters::write_characters;
+use crate::changed::begins_changed;
 use crate::decoded::Decoded;
-use crate::front::ill_formed::is_ill_formed;
-use crate::lanes::packing::WIDEST;
+use crate::front::is_ill_formed;
 use crate::lengths::lossy_len;
 use crate::pass::in_place::{LONG_TEXT, SHORT_TEXT, write_text};
 use crate::pass::one_block::{LOSSY_TEXT, write_one_block};
-use crate::pass::strict_block::{STRICT_TEXT, write_one_strictly};
+use crate::pass::reading::{LossyReading, Reading, StrictReading};
+use crate::pass::strict_few::{STRICT_TEXT, write_few_strictly};
 use crate::refusal::{Unwritten, is_refused};
-use crate::way::{FEW_BYTES, LONG_WINDOW, SHORT_WINDOW, Way, way_of};
+use crate::way::{FEW_BYTES, LONG_WINDOW, SHORT_WINDOW, Way, are_few, way_of};
 use cesu8_bytes::BLOCK;
 use cesu8_bytes::flavor::Flavor;
 use cesu8_bytes::lanes::short::copy_short;
 use cesu8_bytes::strictness::Strictness;
 use cesu8_bytes::writing::put::put;
 use cesu8_bytes::writing::writers::{NoRoom, copy_to_slice};
-
-/// The length of a buffer for the text of bytes that are read one character after another.
-pub const CHARACTERS_TEXT: usize = WIDEST * FEW_BYTES;
 
 /// Writes the strict reading of bytes to a caller's buffer, if it fits. So many at the front, but not
 /// all, are whole characters that are the same in UTF-8.
@@ -52,12 +47,12 @@ pub fn put_strictly<F: Flavor>(
     if !begins_changed::<F>(rest) {
         return Err(Unwritten::NoText);
     }
-    // One block is read whole, in less time than its front is copied.
-    if bytes.len() <= BLOCK {
-        return put_strictly_by::<F>(way_of(bytes), bytes, buf);
+    // A few bytes are read whole, in less time than their front is copied.
+    if are_few(bytes) {
+        return put_few::<F>(Strictness::Strict, bytes, buf);
     }
     let start = front.min(buf.len());
-    match put_strictly_by::<F>(way_of(rest), rest, &mut buf[start..]) {
+    match put_strictly_whole::<F>(rest, &mut buf[start..]) {
         Ok(len) => {
             copy_short(&bytes[..front], buf);
             Ok(front + len)
@@ -70,55 +65,75 @@ pub fn put_strictly<F: Flavor>(
     }
 }
 
-/// Writes the lossy reading of the bytes to a caller's buffer, if it fits. To clear a longer array
-/// than is needed takes time.
+/// Writes the lossy reading of the bytes to a caller's buffer, if it fits. So many at the front, but
+/// not all, are whole characters that are the same in UTF-8.
 #[inline(never)]
-pub fn put_lossily<F: Flavor>(bytes: &[u8], buf: &mut [u8]) -> Result<usize, Unwritten>
+pub fn put_lossily<F: Flavor>(
+    bytes: &[u8],
+    front: usize,
+    buf: &mut [u8],
+) -> Result<usize, Unwritten>
+    requires { IsFront Unchanged F.flavor bytes.now front × (front < length bytes.now) }
     ensures { PutsReading F.flavor Lossy bytes.now result buf.old buf.new }
 {
-    let lossy = Strictness::Lossy;
-    match way_of(bytes) {
-        Way::OneBlock => put_one_lossily::<F>(bytes, buf),
-        Way::Characters if WIDEST * bytes.len() <= FEW_BYTES => {
-            put_characters::<F, FEW_BYTES>(lossy, bytes, buf)
-        }
-        Way::Characters => put_characters::<F, CHARACTERS_TEXT>(lossy, bytes, buf),
-        Way::ShortWindow => put_by_array::<F, SHORT_TEXT>(lossy, bytes, buf),
-        Way::LongWindow => put_by_array::<F, LONG_TEXT>(lossy, bytes, buf),
-        Way::Chunks => put_chunks::<F>(lossy, bytes, buf),
+    if are_few(bytes) && begins_changed::<F>(&bytes[front..]) {
+        return put_few::<F>(Strictness::Lossy, bytes, buf);
     }
+    put_by_blocks::<F>(bytes, buf)
 }
 
-/// Writes the strict reading of the bytes, which is no longer than they are, in one way.
+/// Writes the strict reading of the bytes, which is no longer than they are.
 #[inline(always)]
-fn put_strictly_by<F: Flavor>(way: Way, bytes: &[u8], buf: &mut [u8]) -> Result<usize, Unwritten>
-    requires { Takes way bytes.now }
+fn put_strictly_whole<F: Flavor>(bytes: &[u8], buf: &mut [u8]) -> Result<usize, Unwritten>
     ensures { PutsReading F.flavor Strict bytes.now result buf.old buf.new }
 {
-    let strict = Strictness::Strict;
-    match way {
-        Way::OneBlock => put_one_strictly::<F>(bytes, buf),
-        Way::Characters => put_characters::<F, FEW_BYTES>(strict, bytes, buf),
-        Way::ShortWindow => put_by_array::<F, SHORT_WINDOW>(strict, bytes, buf),
-        Way::LongWindow => put_by_array::<F, LONG_WINDOW>(strict, bytes, buf),
-        Way::Chunks => put_chunks::<F>(strict, bytes, buf),
+    match way_of(bytes) {
+        Way::OneBlock | Way::Few => put_few::<F>(Strictness::Strict, bytes, buf),
+        Way::ShortWindow => put_by_array::<F, StrictReading, SHORT_WINDOW>(bytes, buf),
+        Way::LongWindow => put_by_array::<F, StrictReading, LONG_WINDOW>(bytes, buf),
+        Way::Chunks => put_chunks::<F>(Strictness::Strict, bytes, buf),
     }
 }
 
-/// Writes the strict reading of the bytes of one block, to an array first.
+/// Writes the lossy reading of the bytes, read block by block. To clear a longer array than is needed
+/// takes time.
+#[inline(always)]
+fn put_by_blocks<F: Flavor>(bytes: &[u8], buf: &mut [u8]) -> Result<usize, Unwritten>
+    ensures { PutsReading F.flavor Lossy bytes.now result buf.old buf.new }
+{
+    match way_of(bytes) {
+        Way::OneBlock => put_one::<F>(bytes, buf),
+        Way::Few | Way::ShortWindow => put_by_array::<F, LossyReading, SHORT_TEXT>(bytes, buf),
+        Way::LongWindow => put_by_array::<F, LossyReading, LONG_TEXT>(bytes, buf),
+        Way::Chunks => put_chunks::<F>(Strictness::Lossy, bytes, buf),
+    }
+}
+
+/// Writes the text of a few bytes, to an array first. Lossy reading takes the time of the strict one
+/// where none is ill-formed.
 #[inline(never)]
-fn put_one_strictly<F: Flavor>(bytes: &[u8], buf: &mut [u8]) -> Result<usize, Unwritten>
-    requires { length bytes.now ≤ BLOCK }
-    ensures { PutsReading F.flavor Strict bytes.now result buf.old buf.new }
+fn put_few<F: Flavor>(
+    strictness: Strictness,
+    bytes: &[u8],
+    buf: &mut [u8],
+) -> Result<usize, Unwritten>
+    requires { length bytes.now ≤ FEW_BYTES }
+    ensures { PutsReading F.flavor strictness bytes.now result buf.old buf.new }
 {
     let mut written = [0; STRICT_TEXT];
-    let decoded = write_one_strictly::<F>(bytes, &mut written);
-    put_decoded(Strictness::Strict, decoded, &written, buf)
+    let decoded = write_few_strictly::<F>(bytes, &mut written);
+    if decoded.is_ill_formed {
+        return match strictness {
+            Strictness::Strict => Err(Unwritten::NoText),
+            Strictness::Lossy => put_by_blocks::<F>(bytes, buf),
+        };
+    }
+    put_decoded(strictness, decoded, &written, buf)
 }
 
-/// Does so in lossy reading.
+/// Writes the lossy reading of the bytes of one block, to an array first.
 #[inline(never)]
-fn put_one_lossily<F: Flavor>(bytes: &[u8], buf: &mut [u8]) -> Result<usize, Unwritten>
+fn put_one<F: Flavor>(bytes: &[u8], buf: &mut [u8]) -> Result<usize, Unwritten>
     requires { length bytes.now ≤ BLOCK }
     ensures { PutsReading F.flavor Lossy bytes.now result buf.old buf.new }
 {
@@ -127,35 +142,19 @@ fn put_one_lossily<F: Flavor>(bytes: &[u8], buf: &mut [u8]) -> Result<usize, Unw
     put_decoded(Strictness::Lossy, decoded, &written, buf)
 }
 
-/// Does so for a few, one character after another. It is not inlined, so that the array is made
-/// only when it is called.
+/// Writes the reading of the bytes of one window, to an array first. It is not inlined, so that the
+/// array is made only when it is called.
 #[inline(never)]
-fn put_characters<F: Flavor, const WRITTEN: usize>(
-    strictness: Strictness,
+fn put_by_array<F: Flavor, S: Reading, const WRITTEN: usize>(
     bytes: &[u8],
     buf: &mut [u8],
 ) -> Result<usize, Unwritten>
-    requires { (most_written strictness (length bytes.now) ≤ WRITTEN) × (WRITTEN ≤ LONG_TEXT) }
-    ensures { PutsReading F.flavor strictness bytes.now result buf.old buf.new }
+    requires { (room_for S.which (length bytes.now) ≤ WRITTEN) × (WRITTEN ≤ LONG_TEXT) }
+    ensures { PutsReading F.flavor S.which bytes.now result buf.old buf.new }
 {
     let mut written = [0; WRITTEN];
-    let decoded = write_characters::<F>(strictness, bytes, &mut written);
-    put_decoded(strictness, decoded, &written, buf)
-}
-
-/// Does so for the bytes of one window.
-#[inline(never)]
-fn put_by_array<F: Flavor, const WRITTEN: usize>(
-    strictness: Strictness,
-    bytes: &[u8],
-    buf: &mut [u8],
-) -> Result<usize, Unwritten>
-    requires { (room_for strictness (length bytes.now) ≤ WRITTEN) × (WRITTEN ≤ LONG_TEXT) }
-    ensures { PutsReading F.flavor strictness bytes.now result buf.old buf.new }
-{
-    let mut written = [0; WRITTEN];
-    let decoded = write_text::<F>(strictness, bytes, &mut written);
-    put_decoded(strictness, decoded, &written, buf)
+    let decoded = write_text::<F, S>(bytes, &mut written);
+    put_decoded(S::strictness(), decoded, &written, buf)
 }
 
 /// Copies the text that was decoded of all bytes, unless an ill-formed byte in them is refused. The
@@ -215,7 +214,7 @@ fn write_reading<F: Flavor>(bytes: &[u8], out: &mut [u8]) -> usize
     let mut rest = bytes;
     let mut end = 0;
     while !rest.is_empty() {
-        let decoded = write_text::<F>(Strictness::Lossy, rest, &mut written);
+        let decoded = write_text::<F, LossyReading>(rest, &mut written);
         rest = &rest[decoded.read..];
         end = put(&written[..decoded.end], out, end);
     }

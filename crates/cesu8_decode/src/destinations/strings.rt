@@ -1,7 +1,7 @@
 //! Decodes to a vector, whose bytes are then known to be UTF-8.
 //!
 //! Strict reading has requested as many bytes as it was given, and decodes to the vector itself.
-//! Lossy reading requests exactly what the text has, so a few bytes are decoded on the stack before
+//! Lossy reading requests exactly what the text has, so up to a window is decoded on the stack before
 //! that. Of more bytes the text is appended chunk by chunk.
 
 ghost use Rattle.std.specs.Prelude.{◌≡◌, ◌+◌, ◌<◌, ◌≤◌, [], length, vec_len, vec_capacity};
@@ -12,17 +12,16 @@ ghost use Rattle.cesu8_decode.specs.Decoding.{BuildsReading, AppendsStrictly, ro
 ghost use Rattle.cesu8_decode.specs.Following.{Unchanged};
 ghost use Rattle.cesu8_decode.specs.Front.{IsFront};
 
-use super::fronts::{append_many, append_one};
-use super::slices::CHARACTERS_TEXT;
-use crate::characters::forms::begins_changed;
-use crate::characters::write_characters;
+use super::fronts::{append_few_strictly, append_many};
+use crate::changed::begins_changed;
 use crate::lengths::lossy_len;
 use crate::pass::in_place::{LONG_TEXT, SHORT_TEXT, write_text};
 use crate::pass::one_block::{LOSSY_TEXT, write_one_block};
-use crate::way::{FEW_BYTES, Way, way_of};
+use crate::pass::reading::LossyReading;
+use crate::pass::strict_few::{STRICT_TEXT, write_few_strictly};
+use crate::way::{FEW_BYTES, Way, are_few, way_of};
 use cesu8_bytes::BLOCK;
 use cesu8_bytes::flavor::Flavor;
-use cesu8_bytes::strictness::Strictness;
 use cesu8_bytes::writing::copies::{append, copy};
 use std::alloc::{AllocError, Global};
 
@@ -38,24 +37,54 @@ pub fn write_strictly<F: Flavor>(bytes: &[u8], front: usize, empty: Vec<u8>) -> 
     if !begins_changed::<F>(rest) {
         return None;
     }
-    if bytes.len() <= BLOCK {
-        // It is read whole, in less time than its front is copied.
-        return append_one::<F>(bytes, empty);
+    if are_few(bytes) {
+        // They are read whole, in less time than their front is copied.
+        return append_few_strictly::<F>(bytes, empty);
     }
-    // Taken apart, so that what the block above returns stays in registers.
+    // Taken apart, so that what is returned above stays in registers.
     let text = append_many::<F>(bytes, front, empty)?;
     Some(text)
 }
 
-/// Returns the lossy reading of the bytes, after one request for its length.
+/// Returns the lossy reading of the bytes, after one request for its length. So many at the front, but
+/// not all, are whole characters that are the same in UTF-8.
 #[inline(always)]
-pub fn build_lossily<F: Flavor>(alloc: Global, bytes: &[u8]) -> Result<Vec<u8>, AllocError>
+pub fn build_lossily<F: Flavor>(
+    alloc: Global,
+    bytes: &[u8],
+    front: usize,
+) -> Result<Vec<u8>, AllocError>
+    requires { IsFront Unchanged F.flavor bytes.now front × (front < length bytes.now) }
+    ensures { BuildsReading F.flavor bytes.now result }
+{
+    if are_few(bytes) && begins_changed::<F>(&bytes[front..]) {
+        return build_few::<F>(alloc, bytes);
+    }
+    build_by_blocks::<F>(alloc, bytes)
+}
+
+/// Returns the lossy reading of a few bytes, in the time of the strict one where none is ill-formed.
+#[inline(never)]
+fn build_few<F: Flavor>(alloc: Global, bytes: &[u8]) -> Result<Vec<u8>, AllocError>
+    requires { length bytes.now ≤ FEW_BYTES }
+    ensures { BuildsReading F.flavor bytes.now result }
+{
+    let mut written = [0; STRICT_TEXT];
+    let decoded = write_few_strictly::<F>(bytes, &mut written);
+    if decoded.is_ill_formed {
+        return build_by_blocks::<F>(alloc, bytes);
+    }
+    copy(alloc, &written[..decoded.end])
+}
+
+/// Returns the lossy reading of the bytes, read block by block.
+#[inline(always)]
+fn build_by_blocks<F: Flavor>(alloc: Global, bytes: &[u8]) -> Result<Vec<u8>, AllocError>
     ensures { BuildsReading F.flavor bytes.now result }
 {
     match way_of(bytes) {
         Way::OneBlock => build_one::<F>(alloc, bytes),
-        Way::Characters => build_characters::<F>(alloc, bytes),
-        Way::ShortWindow => build_window::<F, SHORT_TEXT>(alloc, bytes),
+        Way::Few | Way::ShortWindow => build_window::<F, SHORT_TEXT>(alloc, bytes),
         Way::LongWindow => build_window::<F, LONG_TEXT>(alloc, bytes),
         Way::Chunks => build_chunks::<F>(alloc, bytes),
     }
@@ -72,7 +101,7 @@ fn append_chunks<F: Flavor>(bytes: &[u8], before: Vec<u8>) -> Vec<u8>
     let mut written = [0; LONG_TEXT];
     let mut rest = bytes;
     while !rest.is_empty() {
-        let decoded = write_text::<F>(Strictness::Lossy, rest, &mut written);
+        let decoded = write_text::<F, LossyReading>(rest, &mut written);
         rest = &rest[decoded.read..];
         append(&written[..decoded.end], &mut text);
     }
@@ -90,17 +119,6 @@ fn build_one<F: Flavor>(alloc: Global, bytes: &[u8]) -> Result<Vec<u8>, AllocErr
     copy(alloc, &written[..decoded.end])
 }
 
-/// Returns the lossy reading of a few bytes, read one character after another to an array.
-#[inline(never)]
-fn build_characters<F: Flavor>(alloc: Global, bytes: &[u8]) -> Result<Vec<u8>, AllocError>
-    requires { length bytes.now ≤ FEW_BYTES }
-    ensures { BuildsReading F.flavor bytes.now result }
-{
-    let mut written = [0; CHARACTERS_TEXT];
-    let decoded = write_characters::<F>(Strictness::Lossy, bytes, &mut written);
-    copy(alloc, &written[..decoded.end])
-}
-
 /// Returns the lossy reading of the bytes of one window, decoded to an array of this length.
 #[inline(never)]
 fn build_window<F: Flavor, const WRITTEN: usize>(
@@ -111,7 +129,7 @@ fn build_window<F: Flavor, const WRITTEN: usize>(
     ensures { BuildsReading F.flavor bytes.now result }
 {
     let mut written = [0; WRITTEN];
-    let decoded = write_text::<F>(Strictness::Lossy, bytes, &mut written);
+    let decoded = write_text::<F, LossyReading>(bytes, &mut written);
     copy(alloc, &written[..decoded.end])
 }
 
@@ -122,7 +140,7 @@ fn build_chunks<F: Flavor>(alloc: Global, bytes: &[u8]) -> Result<Vec<u8>, Alloc
     ensures { BuildsReading F.flavor bytes.now result }
 {
     let mut written = [0; LONG_TEXT];
-    let decoded = write_text::<F>(Strictness::Lossy, bytes, &mut written);
+    let decoded = write_text::<F, LossyReading>(bytes, &mut written);
     let rest = &bytes[decoded.read..];
     let Some(rest_len) = lossy_len::<F>(rest) else {
         return Err(AllocError);

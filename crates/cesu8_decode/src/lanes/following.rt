@@ -81,7 +81,7 @@ pub fn following_len<F: Flavor, S: CharacterSet>(block: Block) -> usize
 #[inline(always)]
 pub fn stops<F: Flavor, S: CharacterSet>(block: Block) -> u64
     ensures { (window : List ℕ) (at : ℕ) → IsBlockAt window at block
-        → AreStops S.set F.flavor window at result }
+        → AreStops S.set F.flavor window at BLOCK result }
 {
     bits::<HighestBit, BLOCK>(misplaced::<F, S>(block))
 }

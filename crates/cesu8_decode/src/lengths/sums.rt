@@ -34,7 +34,8 @@ pub fn sum_first<F: Flavor>(bytes: &[u8]) -> (usize, &[u8])
     ensures sum { result.0 + total_saved F.flavor result.1.now
         ≡ total_saved F.flavor bytes.now }
 {
-    if bytes.len() < REACH {
+    let count = (bytes.len().saturating_sub(BEHIND) / 32).min(BLOCKS);
+    if count == 0 {
         // They are followed by FF, which begins nothing and is in no character, as far as a second
         // block reads.
         let mut padded = [0xFF; 32 + REACH];
@@ -42,7 +43,6 @@ pub fn sum_first<F: Flavor>(bytes: &[u8]) -> (usize, &[u8])
         let count = if bytes.len() > 32 { 2 } else { 1 };
         return (sum_of_blocks::<F>(&padded, count), &[]);
     }
-    let count = ((bytes.len() - BEHIND) / 32).min(BLOCKS);
     (sum_of_blocks::<F>(bytes, count), &bytes[32 * count..])
 }
 

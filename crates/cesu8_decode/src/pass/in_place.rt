@@ -14,7 +14,7 @@ ghost use Rattle.cesu8_bytes.specs.declared.strictness.Strictness.TheVariants.{L
 ghost use Rattle.cesu8_decode.specs.Decoding.{WritesText, AppendsStrictly, HasRoom, room_for};
 
 use super::last_blocks::write_last;
-use super::reading::{LossyReading, Reading, StrictReading};
+use super::reading::{Reading, StrictReading};
 use super::whole_blocks::{FOLLOWING, SPARE, last_end, whole_count, write_whole};
 use crate::decoded::{Decoded, refused};
 use crate::lanes::packing::WIDEST;
@@ -45,7 +45,7 @@ pub fn append_strictly<F: Flavor>(bytes: &[u8], before: Vec<u8>) -> Option<Vec<u
     while !rest.is_empty() {
         let start = text.len();
         append_zeros(rest.len().min(CLEARED_AT_ONCE), &mut text);
-        let decoded = write_text::<F>(Strictness::Strict, rest, &mut text[start..]);
+        let decoded = write_text::<F, StrictReading>(rest, &mut text[start..]);
         if decoded.is_ill_formed {
             return None;
         }
@@ -55,24 +55,11 @@ pub fn append_strictly<F: Flavor>(bytes: &[u8], before: Vec<u8>) -> Option<Vec<u
     Some(text)
 }
 
-/// Writes the text of the bytes, or of the first of them if there is no room for so many. If strict
-/// reading refuses one, no text is left, and it ends soon after that byte.
-#[inline(always)]
-pub fn write_text<F: Flavor>(strictness: Strictness, bytes: &[u8], out: &mut [u8]) -> Decoded
-    requires { HasRoom strictness (length bytes.now) (length out.old) }
-    ensures { WritesText F.flavor strictness bytes.now
-        result.read result.end result.is_ill_formed out.old out.new }
-{
-    match strictness {
-        Strictness::Strict => write_by_pairs_and_blocks::<F, StrictReading>(bytes, out),
-        Strictness::Lossy => write_by_pairs_and_blocks::<F, LossyReading>(bytes, out),
-    }
-}
-
-/// Does so: the pairs at the front first, and then block by block. It is not inlined, since many
-/// calls need it.
+/// Writes the text of the bytes, or of the first of them if there is no room for so many: the pairs
+/// at the front first, and then block by block. If strict reading refuses a byte, no text is left, and
+/// it ends soon after that byte. It is not inlined, since many calls need it.
 #[inline(never)]
-fn write_by_pairs_and_blocks<F: Flavor, S: Reading>(bytes: &[u8], out: &mut [u8]) -> Decoded
+pub fn write_text<F: Flavor, S: Reading>(bytes: &[u8], out: &mut [u8]) -> Decoded
     requires { HasRoom S.which (length bytes.now) (length out.old) }
     ensures { WritesText F.flavor S.which bytes.now
         result.read result.end result.is_ill_formed out.old out.new }

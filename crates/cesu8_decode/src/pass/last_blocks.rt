@@ -1,19 +1,19 @@
 //! The last blocks of some bytes, or all if they are few. They are read from an array.
 
-ghost use Rattle.std.specs.Prelude.{◌≡◌, ◌+◌, ◌-◌, ◌*◌, ◌/◌, ◌<◌, ◌≤◌, ℕ, [], true, false, length, take, slice_index};
+ghost use Rattle.std.specs.Prelude.{◌≡◌, ◌+◌, ◌-◌, ◌*◌, ◌<◌, ◌≤◌, ℕ, [], true, false, length, take, slice_index};
 ghost use Rattle.cesu8_bytes.specs.declared.strictness.Strictness.TheVariants.{Strict, Lossy};
 ghost use Rattle.cesu8_decode.specs.Decoding.{ReadsFirst, IsDecoded, WritesDecoded, HasRoomBehind};
 ghost use Rattle.cesu8_decode.specs.DecodedOffsets.{window_of, is_boundary_at};
 ghost use Rattle.cesu8_decode.specs.DecodedLanes.{AreFiveKinds};
+ghost use Rattle.cesu8_decode.specs.Following.{whole_blocks};
 
 use super::block::write_block;
 use super::reading::{Block, Reading};
-use super::whole_blocks::{FOLLOWING, Whole};
+use super::whole_blocks::{FOLLOWING, LAST_BYTES, Whole};
 use super::window::{BEFORE, boundary, load};
 use crate::decoded::{Decoded, refused};
 use crate::lanes::offsets::BEHIND;
 use crate::lanes::packing::WELL_FORMED_ROOM;
-use crate::way::FEW_BYTES;
 use cesu8_bytes::BLOCK;
 use cesu8_bytes::flavor::Flavor;
 use cesu8_bytes::strictness::Strictness;
@@ -22,10 +22,10 @@ use std::simd::prelude::*;
 
 /// The length of an array for the last bytes, or for all if they are few, with those before them
 /// and zeros behind.
-const LAST: usize = FEW_BYTES + BLOCK;
+const LAST: usize = LAST_BYTES + BLOCK;
 
 /// The length of an array for the text of these in strict reading.
-const LAST_TEXT: usize = FEW_BYTES + WELL_FORMED_ROOM;
+const LAST_TEXT: usize = LAST_BYTES + WELL_FORMED_ROOM;
 
 /// Writes what becomes of the last of so many bytes, from an array and by an array. If more bytes
 /// follow, it ends at a character boundary.
@@ -36,7 +36,7 @@ pub fn write_last<F: Flavor, S: Reading>(
     most: usize,
     out: &mut [u8],
 ) -> Decoded
-    requires bytes { (whole.read ≤ most) × (most ≤ whole.read + FEW_BYTES)
+    requires bytes { (whole.read ≤ most) × (most ≤ whole.read + LAST_BYTES)
         × (most ≤ length bytes.now) }
     requires before { whole.read < BEFORE → whole.read ≡ 0 }
     requires following { most < length bytes.now → whole.read + FOLLOWING ≤ most }
@@ -101,9 +101,9 @@ fn write_last_blocks<F: Flavor, S: Reading>(
     out: &mut [u8],
     end: usize,
 ) -> Block
-    requires window { BLOCK * ((count + BLOCK - 1) / BLOCK) + 2 * BEHIND ≤ length window.now }
+    requires window { whole_blocks count + 2 * BEHIND ≤ length window.now }
     requires before { AreFiveKinds F.flavor window.now 0 before (BLOCK - BEHIND) }
-    requires count { count ≤ FEW_BYTES }
+    requires count { count ≤ LAST_BYTES }
     requires strict { S.which ≡ Strict → end + count ≤ length out.old }
     requires lossy { S.which ≡ Lossy → HasRoomBehind Lossy count end (length out.old) }
     ensures written { WritesDecoded F.flavor S.which window.now 0 count
@@ -134,7 +134,7 @@ fn write_loaded<F: Flavor, S: Reading>(
     out: &mut [u8],
     end: usize,
 ) -> Block
-    requires window { BLOCK * ((count + BLOCK - 1) / BLOCK) + 2 * BEHIND ≤ length window.now }
+    requires window { whole_blocks count + 2 * BEHIND ≤ length window.now }
     requires before { AreFiveKinds F.flavor window.now 0 before (BLOCK - BEHIND) }
     requires room { HasRoomBehind S.which count end (length out.old) }
     ensures { WritesDecoded F.flavor S.which window.now 0 count

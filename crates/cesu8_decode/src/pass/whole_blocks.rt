@@ -11,7 +11,6 @@ use super::reading::{Block, Reading};
 use super::window::{BEFORE, load};
 use crate::lanes::offsets::{BEHIND, REACH};
 use crate::lanes::packing::WIDEST;
-use crate::way::FEW_BYTES;
 use cesu8_bytes::BLOCK;
 use cesu8_bytes::flavor::Flavor;
 use cesu8_bytes::strictness::Strictness;
@@ -21,6 +20,9 @@ use std::simd::prelude::*;
 /// At least so many bytes follow a block that is read where it stands and written where it goes.
 pub const FOLLOWING: usize = STORED;
 
+/// The most bytes that are left to the last blocks. Of no more, all are copied once in less time.
+pub const LAST_BYTES: usize = 3 * BLOCK;
+
 /// The length of an array for the first block.
 const FIRST: usize = BEFORE + REACH;
 
@@ -29,14 +31,14 @@ const FIRST: usize = BEFORE + REACH;
 pub const SPARE: usize = 2 * WIDEST * BLOCK + STORED;
 
 /// Returns how many of the blocks in so many bytes are read where they stand and written where they
-/// go. A few bytes are copied once in less time.
+/// go.
 #[inline(always)]
 pub fn whole_count(len: usize) -> usize
     ensures some { 0 < result → BLOCK * result + FOLLOWING ≤ len }
-    ensures few { result ≡ 0 → len ≤ FEW_BYTES }
+    ensures few { result ≡ 0 → len ≤ LAST_BYTES }
     ensures rest { 0 < result → len < BLOCK * result + BLOCK + FOLLOWING }
 {
-    if len <= FEW_BYTES {
+    if len <= LAST_BYTES {
         return 0;
     }
     (len - FOLLOWING) / BLOCK
@@ -47,11 +49,12 @@ pub fn whole_count(len: usize) -> usize
 #[inline(always)]
 pub fn last_end<S: Reading>(out: &[u8]) -> usize
     requires { S.which ≡ Lossy → SPARE ≤ length out.now }
-    ensures strict { S.which ≡ Strict → result ≡ length out.now }
+    ensures strict { S.which ≡ Strict → result ≡ usize.MAX }
     ensures lossy { S.which ≡ Lossy → result + SPARE ≡ length out.now }
 {
     match S::strictness() {
-        Strictness::Strict => out.len(),
+        // It always has room, and the test for that is left out.
+        Strictness::Strict => usize::MAX,
         Strictness::Lossy => out.len() - SPARE,
     }
 }
@@ -74,7 +77,6 @@ pub fn write_whole<F: Flavor, S: Reading>(
 ) -> Whole
     requires bytes { 0 < count → BLOCK * count + FOLLOWING ≤ length bytes.now }
     requires room { 0 < count → BLOCK * count + FOLLOWING ≤ length out.old }
-    requires strict { S.which ≡ Strict → limit ≡ length out.old }
     requires lossy { S.which ≡ Lossy → limit + SPARE ≡ length out.old }
     ensures written { WritesDecoded F.flavor S.which (window_of bytes.now) 0 result.read
         0 out.old out.new result.last.end result.last.is_refused }
@@ -98,7 +100,7 @@ pub fn write_whole<F: Flavor, S: Reading>(
     }
     let mut block = write_first::<F, S>(bytes, out);
     let mut at = 1;
-    while is_within::<S>(block.end, limit) & (at < count) & !block.is_refused {
+    while (block.end <= limit) & (at < count) & !block.is_refused {
         block = write_block::<F, S>(
             bytes,
             block.kinds,
@@ -112,18 +114,6 @@ pub fn write_whole<F: Flavor, S: Reading>(
     Whole {
         read: BLOCK * at,
         last: block,
-    }
-}
-
-/// Returns whether a text ends at most at the limit, as it always does in strict reading.
-#[inline(always)]
-fn is_within<S: Reading>(end: usize, limit: usize) -> bool
-    ensures within { IsTrue result → S.which ≡ Lossy → end ≤ limit }
-    ensures beyond { end ≤ limit → IsTrue result }
-{
-    match S::strictness() {
-        Strictness::Strict => true,
-        Strictness::Lossy => end <= limit,
     }
 }
 

@@ -4,20 +4,20 @@ use Rattle.cesu8_decode.specs.Following.{FollowUpTo, IsBlockAt, follows_at}
 use Rattle.cesu8_decode.proofs.decoder.FollowingBlocks.{stop_behind, end_of_front}
 use Rattle.cesu8_decode.proofs.front.following_end.Goals as goal
 
-pub returns-then-bytes : goal.returns-then-bytes
-returns-then-bytes g c =
+pub returns-in-Some : goal.returns-in-Some
+returns-in-Some g c =
     let s = g.S.CharacterSet.set in
     let f = g.F.Flavor.flavor in
     let bytes = c.args.bytes.now in
-    let at = length bytes - 32 - 4 in
+    let at = c.in-Some.before in
     let len = c.following_len.result in
     let is = c.block_at.ensures in
     let within = c.following_len.ensures.within bytes at is in
-    let end : at + len + 4 ≡ length bytes - 32 + len = omega (arith, c.if-bytes.true) in
+    let end : at + len + 4 ≡ at + 4 + len = omega arith in
     subst (FollowUpTo s f bytes) end
-    (stop_behind s f bytes c.args.start at len c.requires.first (omega (arith, c.if-bytes.true, c.requires.start))
-    (omega (arith, c.if-bytes.true, within)) (c.following_len.ensures.follow bytes at is)
-    (λ more. c.following_len.ensures.stops bytes at is (omega (arith, c.if-bytes.true, more))))
+    (stop_behind s f bytes c.args.start at len c.requires.first (omega (arith, c.in-Some.ensures, c.requires.start))
+    (omega (arith, c.in-Some.ensures, within)) (c.following_len.ensures.follow bytes at is)
+    (λ more. c.following_len.ensures.stops bytes at is (omega (arith, c.in-Some.ensures, more))))
 
 pub returns : goal.returns
 returns g c =
@@ -33,4 +33,4 @@ returns g c =
     let here : 0 + len ≡ len = omega arith in
     subst (λ n. FollowUpTo s f bytes (32 + n)) (sym c.min.ensures)
     (end_of_front s f bytes zeros c.args.start len c.requires.first (omega (arith, c.requires.start)) (c.following_len-2.ensures.follow window 0 is)
-    (λ more. subst (λ k. follows_at s f window k ≡ false) here (c.following_len-2.ensures.stops window 0 is (omega (arith, more, c.if-bytes.false)))))
+    (λ more. subst (λ k. follows_at s f window k ≡ false) here (c.following_len-2.ensures.stops window 0 is (omega (arith, more, c.in_default.ensures)))))

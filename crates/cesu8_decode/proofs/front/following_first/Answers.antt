@@ -1,4 +1,4 @@
-use Rattle.std.proofs.Common.{◌≡◌, get_or, ap, ◌∙◌, sym, subst, arith}
+use Rattle.std.proofs.Common.{get_or, ap, ◌∙◌, sym, subst, arith}
 use Rattle.std.proofs.lemmas.Bool.{leb-false, or_parts}
 use Rattle.std.proofs.lemmas.List.{length-take-le}
 use Rattle.cesu8_decode.specs.Following.{FirstFollow}
@@ -26,18 +26,16 @@ returns-then-run-gt0 g c =
       stops = tt;
     }
 
-pub returns-then-len-lt-BLOCK-clause-stops : goal.returns-then-len-lt-BLOCK-clause-stops
-returns-then-len-lt-BLOCK-clause-stops g c =
+pub returns-else-len-eq-BLOCK-clause-stops : goal.returns-else-len-eq-BLOCK-clause-stops
+returns-else-len-eq-BLOCK-clause-stops g c =
     stop_in_front g.S.CharacterSet.set g.F.Flavor.flavor c.args.bytes.now 32 c.following_few-len.result (omega (arith, c.requires))
-    c.if-len-lt-BLOCK.true c.following_few-len.ensures
+    (omega (arith, c.if-len-eq-BLOCK.false, c.following_few-len.ensures.first.within, length-take-le 32 c.args.bytes.now (omega (arith, c.requires)))) c.following_few-len.ensures
 
-pub returns-else-len-lt-BLOCK-clause-follow : goal.returns-else-len-lt-BLOCK-clause-follow
-returns-else-len-lt-BLOCK-clause-follow g c =
+pub returns-then-len-eq-BLOCK-clause-follow : goal.returns-then-len-eq-BLOCK-clause-follow
+returns-then-len-eq-BLOCK-clause-follow g c =
     let s = g.S.CharacterSet.set in
     let f = g.F.Flavor.flavor in
     let bytes = c.args.bytes.now in
     let few = c.following_few-len.ensures.first in
     let first = first_of_front s f bytes 32 c.following_few-len.result (omega (arith, c.requires)) few in
-    let all : c.following_few-len.result ≡ 32 =
-    omega (arith, c.if-len-lt-BLOCK.false, few.within, length-take-le 32 bytes (omega (arith, c.requires))) in
-    (subst (FirstFollow s f bytes) all first, omega arith)
+    (subst (FirstFollow s f bytes) c.if-len-eq-BLOCK.true first, omega arith)

@@ -1,21 +1,22 @@
-use Rattle.std.proofs.Common.{◌≡◌, ◌+◌, ◌-◌, subst, arith}
+use Rattle.std.proofs.Common.{◌≡◌, ◌+◌, ◌-◌, ◌<◌, subst, arith}
 use Rattle.cesu8_decode.specs.Following.{FirstFollow, FollowUpTo}
 use Rattle.cesu8_decode.proofs.decoder.FollowingBlocks.{follow_up_to, stop_behind}
 use Rattle.cesu8_decode.proofs.front.following_last.Goals as goal
 
-pub returns-then-len-lt-BLOCK : goal.returns-then-len-lt-BLOCK
-returns-then-len-lt-BLOCK g c =
+pub returns-then-len-ne-BLOCK : goal.returns-then-len-ne-BLOCK
+returns-then-len-ne-BLOCK g c =
     let s = g.S.CharacterSet.set in
     let f = g.F.Flavor.flavor in
     let bytes = c.args.bytes.now in
     let at = c.loop-at.at in
     let len = c.following_len-len.result in
     let is = c.block_at.ensures in
+    let less : len < 32 = omega (arith, c.following_len-len.ensures.within bytes (at - 4) is, c.if-len-ne-BLOCK.true) in
     let end : at - 4 + len + 4 ≡ at + len = omega (arith, c.loop-at.invariant.start) in
     subst (FollowUpTo s f bytes) end
     (stop_behind s f bytes at (at - 4) len c.loop-at.invariant.first (omega (arith, c.loop-at.invariant.start))
-    (omega (arith, c.loop-at.invariant.start, c.loop-at-test.true, c.if-len-lt-BLOCK.true)) (c.following_len-len.ensures.follow bytes (at - 4) is)
-    (λ more. c.following_len-len.ensures.stops bytes (at - 4) is c.if-len-lt-BLOCK.true))
+    (omega (arith, c.loop-at.invariant.start, c.loop-at-test.true, less)) (c.following_len-len.ensures.follow bytes (at - 4) is)
+    (λ more. c.following_len-len.ensures.stops bytes (at - 4) is less))
 
 pub loop-at-preserved : goal.loop-at-preserved
 loop-at-preserved g c =
@@ -26,7 +27,7 @@ loop-at-preserved g c =
     let len = c.following_len-len.result in
     let is = c.block_at.ensures in
     let within = c.following_len-len.ensures.within bytes (at - 4) is in
-    let end : at - 4 + len + 4 ≡ at + 32 = omega (arith, c.loop-at.invariant.start, c.if-len-lt-BLOCK.false, within) in
+    let end : at - 4 + len + 4 ≡ at + 32 = omega (arith, c.loop-at.invariant.start, c.if-len-ne-BLOCK.false, within) in
     record {
       first =
           subst (FirstFollow s f bytes) end

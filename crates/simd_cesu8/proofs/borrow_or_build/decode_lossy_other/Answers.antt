@@ -7,14 +7,14 @@ use Rattle.cesu8_text.proofs.reading.LossyBorrowing.{length_of_reading, changed_
 use Rattle.simd_cesu8.proofs.borrow_or_build.decode_lossy_other.Goals as goal
 
 pub known_text-requires : goal.known_text-requires
-known_text-requires g c = (g.met.A.Accepts.known g.F.Flavor.flavor c.args.bytes.now).is_utf8 (c.front_unless_kept.ensures.kept.0 c.if-front_unless_kept-bytes.true)
+known_text-requires g c = (g.met.A.Accepts.known g.F.Flavor.flavor c.args.bytes.now).is_utf8 (c.front_unless_kept-front.ensures.kept.0 c.if-front-bytes.true)
 
-pub returns-then-front_unless_kept-bytes : goal.returns-then-front_unless_kept-bytes
-returns-then-front_unless_kept-bytes g c =
+pub returns-then-front-bytes : goal.returns-then-front-bytes
+returns-then-front-bytes g c =
     let f = g.F.Flavor.flavor in
     let bytes = c.args.bytes.now in
     let known = g.met.A.Accepts.known f bytes in
-    let kept = (c.front_unless_kept.ensures.kept.0 c.if-front_unless_kept-bytes.true) in
+    let kept = (c.front_unless_kept-front.ensures.kept.0 c.if-front-bytes.true) in
     let reads = (known.kept_lossily (chars c.known_text.result.now) kept).1 (ap chars c.known_text.ensures) in
     record {
       reading = reads;
@@ -26,6 +26,9 @@ returns-then-front_unless_kept-bytes g c =
       capacity = search rules;
     }
 
+pub decode_lossy-requires : goal.decode_lossy-requires
+decode_lossy-requires g c = c.front_unless_kept-front.ensures.front c.if-front-bytes.false
+
 pub returns : goal.returns
 returns g c =
     let f = g.F.Flavor.flavor in
@@ -34,7 +37,7 @@ returns g c =
     let is_utf8 = IsUtf8-string_bytes c.in_ok-built.built in
     let known = g.met.A.Accepts.known f bytes in
     let not_kept : ¬ (g.A.Accepts.keeps f bytes) =
-    λ keeps. c.if-front_unless_kept-bytes.false (c.front_unless_kept.ensures.kept.1 keeps) in
+    λ keeps. c.if-front-bytes.false (c.front_unless_kept-front.ensures.kept.1 keeps) in
     record {
       reading = ((known.other not_kept).lossily (chars built)).1 c.in_ok-built.ensures.text;
       text_length = λ exact. length_of_reading f bytes built is_utf8 c.in_ok-built.ensures.text;

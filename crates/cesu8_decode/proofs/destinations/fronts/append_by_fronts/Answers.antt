@@ -52,14 +52,14 @@ returns-then-len-rest-2 g c =
       none = tt;
     }
 
-pub slice_bounds-append_blocks-count : goal.slice_bounds-append_blocks-count
-slice_bounds-append_blocks-count g c = omega (arith, c.loop-len.invariant.front.within)
+pub slice_bounds-append_rest-count : goal.slice_bounds-append_rest-count
+slice_bounds-append_rest-count g c = omega (arith, c.loop-len.invariant.front.within)
 
-pub slice_bounds-append_blocks-start : goal.slice_bounds-append_blocks-start
-slice_bounds-append_blocks-start g c = omega (arith, c.loop-len.invariant.front.within)
+pub slice_bounds-append_rest-start : goal.slice_bounds-append_rest-start
+slice_bounds-append_rest-start g c = omega (arith, c.loop-len.invariant.front.within)
 
-pub append_blocks-requires : goal.append_blocks-requires
-append_blocks-requires g c =
+pub append_rest-requires : goal.append_rest-requires
+append_rest-requires g c =
     let inv = c.loop-len.invariant in
     let rest = c.loop-len.rest.now in
     let n = c.loop-len.len in
@@ -79,7 +79,7 @@ returns g c =
     let inv = c.loop-len.invariant in
     let rest = c.loop-len.rest.now in
     let n = c.loop-len.len in
-    appended_behind f c.args.bytes.now (drop n rest) c.args.before c.append.new.out c.append_blocks.result
+    appended_behind f c.args.bytes.now (drop n rest) c.args.before c.append.new.out c.append_rest.result
     (front_appended f rest n inv.front c.args.bytes.now _ _ _ inv.read c.append.ensures.bytes)
     (c.append.ensures.capacity ∙ inv.capacity)
-    (rw take_rest at c.append_blocks.ensures)
+    (rw take_rest at c.append_rest.ensures)

@@ -11,7 +11,7 @@ returns g c =
     let bytes = c.args.bytes.now in
     let n = c.args.front in
     let before = c.args.before.items in
-    appended_behind f bytes (drop n bytes) c.args.before c.append.new.out c.append_blocks.result
+    appended_behind f bytes (drop n bytes) c.args.before c.append.new.out c.append_rest.result
     (front_appended f bytes n c.requires.front bytes before before _ (nothing_read f Strict bytes before) c.append.ensures.bytes)
     c.append.ensures.capacity
-    (rw take_rest at c.append_blocks.ensures)
+    (rw take_rest at c.append_rest.ensures)

@@ -36,8 +36,8 @@ copy_short-requires g c =
     let room = (written_length _ (drop n bytes) (drop start buf) _ _ (simp take_rest at c.in-Ok.ensures)).0 (omega (arith, length-drop n bytes, c.requires.1)) in
     omega (
       arith,
-      ap length (to_end start buf c.put_strictly_by-2.new.buf),
-      length-append (take start buf) c.put_strictly_by-2.new.buf,
+      ap length (to_end start buf c.put_strictly_whole.new.buf),
+      length-append (take start buf) c.put_strictly_whole.new.buf,
       room,
       length-drop start buf,
       c.min-start.ensures,
@@ -52,7 +52,7 @@ returns-in-Ok g c =
     let buf = c.args.buf.now in
     let n = c.args.front in
     let start = c.min-start.result in
-    let new = c.put_strictly_by-2.new.buf in
+    let new = c.put_strictly_whole.new.buf in
     let puts = simp take_rest at c.in-Ok.ensures in
     let room = (written_length f (drop n bytes) (drop start buf) _ _ puts).0 (omega (arith, length-drop n bytes, c.requires.1)) in
     let is : start ≡ n = omega (arith, room, length-drop start buf, c.min-start.ensures) in
@@ -76,8 +76,8 @@ returns-in-Err-NoRoom g c =
     let buf = c.args.buf.now in
     let start = c.min-start.result in
     let puts = rw c.in-Err-NoRoom.field-0-is at (simp take_rest at c.in-Err-NoRoom.ensures) in
-    front_lacks_room f c.args.bytes.now buf c.args.front c.requires.0 (omega arith) start c.put_strictly_by-2.new.buf _ c.in-Err-NoRoom.no_room _
-    (λ (fits : c.args.front ≤ length buf). omega (arith, c.min-start.ensures)) c.requires.1 puts refl (stays start buf c.put_strictly_by-2.new.buf puts.unchanged)
+    front_lacks_room f c.args.bytes.now buf c.args.front c.requires.0 (omega arith) start c.put_strictly_whole.new.buf _ c.in-Err-NoRoom.no_room _
+    (λ (fits : c.args.front ≤ length buf). omega (arith, c.min-start.ensures)) c.requires.1 puts refl (stays start buf c.put_strictly_whole.new.buf puts.unchanged)
 
 pub returns-in-Err-NoText : goal.returns-in-Err-NoText
 returns-in-Err-NoText g c =
@@ -85,8 +85,8 @@ returns-in-Err-NoText g c =
     let buf = c.args.buf.now in
     let start = c.min-start.result in
     let puts = rw c.in-Err-NoText.field-0-is at (simp take_rest at c.in-Err-NoText.ensures) in
-    front_lacks_text f c.args.bytes.now buf c.args.front c.requires.0 (omega arith) (drop start buf) c.put_strictly_by-2.new.buf _ puts
-    (stays start buf c.put_strictly_by-2.new.buf puts.unchanged)
+    front_lacks_text f c.args.bytes.now buf c.args.front c.requires.0 (omega arith) (drop start buf) c.put_strictly_whole.new.buf _ puts
+    (stays start buf c.put_strictly_whole.new.buf puts.unchanged)
 
 -- A strict reading is not too long.
 pub returns-in-Err-TooLong : goal.returns-in-Err-TooLong

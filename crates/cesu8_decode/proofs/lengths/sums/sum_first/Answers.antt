@@ -6,8 +6,8 @@ use Rattle.cesu8_decode.proofs.decoder.SavedRest.{saved_filled}
 use Rattle.cesu8_decode.proofs.lengths.sums.sum_first.Goals.{then-bytes-gt32, else-bytes-gt32}
 use Rattle.cesu8_decode.proofs.lengths.sums.sum_first.Goals as goal
 
-pub returns-then-bytes-lt-REACH-clause-sum : goal.returns-then-bytes-lt-REACH-clause-sum
-returns-then-bytes-lt-REACH-clause-sum g c =
+pub returns-then-count-eq0-clause-sum : goal.returns-then-count-eq0-clause-sum
+returns-then-count-eq0-clause-sum g c =
     let f = g.F.Flavor.flavor in
     let bytes = c.args.bytes.now in
     let count = c.if-bytes-gt32.count in

@@ -1,6 +1,6 @@
 use Rattle.std.proofs.Common.{[], ◌≤◌, ◌∙◌, refl, arith, length, drop}
 use Rattle.std.proofs.lemmas.List.{length-drop, drop-drop, take_rest}
-use Rattle.cesu8_decode.proofs.chunks.Characters.{pair_read, pair_width}
+use Rattle.cesu8_decode.proofs.chunks.Changed.{pair_read, pair_width}
 use Rattle.cesu8_decode.proofs.chunks.ReadChunks.{nothing_read, more_read}
 use Rattle.cesu8_decode.proofs.pass.in_place.write_pairs.Goals as goal
 

@@ -1,8 +1,7 @@
 use Rattle.std.proofs.Common.{◌≡◌, ◌+◌, ◌<◌, false, take, refl, ◌∙◌, subst, arith}
 use Rattle.std.proofs.lemmas.Bool.{and_parts, ltb-true, not-true}
 use Rattle.cesu8_decode.specs.Decoding.{IsDecoded}
-use Rattle.cesu8_decode.proofs.chunks.Characters.{more_written}
-use Rattle.cesu8_decode.proofs.decoder.BlocksInPlace.{none_decoded, more_decoded}
+use Rattle.cesu8_decode.proofs.decoder.BlocksInPlace.{none_decoded, more_decoded, most_of_more}
 use Rattle.cesu8_decode.proofs.decoder.DecodedWindows.{five_kinds}
 use Rattle.cesu8_decode.proofs.pass.last_blocks.write_loaded.Goals as goal
 
@@ -39,7 +38,7 @@ loop-at-preserved g c =
           five_kinds f window _ (at + 5) 27 _ (block.kinds (omega (arith, more, c.min-len.ensures))) (omega arith) (omega (arith, more, c.min-len.ensures));
       written = record {
         text = more_decoded f which window (take c.args.end c.args.out.now) old _ at len _ (subst (IsDecoded f which window 0 at _ old) fine so_far.text) block.written.text;
-        end = omega (arith, so_far.end, block.written.end, more_written which at len);
+        end = omega (arith, so_far.end, block.written.end, most_of_more which at len);
         len = block.written.len ∙ so_far.len;
       };
     }

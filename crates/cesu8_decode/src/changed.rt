@@ -1,0 +1,53 @@
+//! Characters that have other bytes in UTF-8, at the front of bytes: surrogate pairs, and C0 80 in
+//! MUTF-8.
+
+ghost use Rattle.std.specs.Prelude.{◌≡◌, ◌↔◌, ◌≤◌, length, replicate, IsTrue};
+ghost use Rattle.cesu8_decode.specs.Changed.{BeginsChanged};
+ghost use Rattle.cesu8_decode.specs.DecodedOffsets.{IsPrefixOf};
+
+use cesu8_bytes::flavor::Flavor;
+use cesu8_bytes::lanes::short::copy_short;
+use cesu8_bytes::pairs::{PAIR_READ, is_pair};
+
+/// Returns whether the bytes begin with a character that has other bytes in UTF-8.
+#[inline(always)]
+pub fn begins_changed<F: Flavor>(bytes: &[u8]) -> bool
+    ensures { IsTrue result ↔ BeginsChanged F.flavor bytes.now }
+{
+    match bytes {
+        [
+            0xED,
+            0xA0..=0xAF,
+            0x80..=0xBF,
+            0xED,
+            0xB0..=0xBF,
+            0x80..=0xBF,
+            ..
+        ] => true,
+        [0xC0, 0x80, ..] => F::has_long_null(),
+        _ => false,
+    }
+}
+
+/// Does so for eight bytes or more, in less time.
+#[inline(always)]
+pub fn changes<F: Flavor>(bytes: &[u8]) -> bool
+    requires { PAIR_READ ≤ length bytes.now }
+    ensures { IsTrue result ↔ BeginsChanged F.flavor bytes.now }
+{
+    is_pair(bytes) || F::has_long_null() && bytes[0] == 0xC0 && bytes[1] == 0x80
+}
+
+/// Returns the first eight bytes, or a copy with zeros after the last if they are fewer.
+#[inline(always)]
+pub fn prefix_of<'a>(bytes: &'a [u8], padded: &'a mut [u8; PAIR_READ]) -> &'a [u8]
+    requires { padded.old ≡ replicate PAIR_READ 0 }
+    ensures prefix { IsPrefixOf bytes.now result.now }
+    ensures long { PAIR_READ ≤ length result.now }
+{
+    if let Some(prefix) = bytes.get(..PAIR_READ) {
+        return prefix;
+    }
+    copy_short(bytes, padded);
+    padded
+}

@@ -1,0 +1,178 @@
+//! Up to 64 bytes in strict reading, from one character that changes to the next.
+//!
+//! One test finds the bytes that may not follow those before them where no character changes. In
+//! encoded text all of them are in characters that do, and the first in each is its second byte. So
+//! they tell where the next one begins, and what is before it is copied.
+
+ghost use Rattle.std.specs.Prelude.{◌≡◌, ℕ, List, ◌+◌, ◌-◌, ◌<◌, ◌≤◌, length, take, drop, replicate};
+ghost use Rattle.cesu8_bytes.specs.Puts.{WritesAt};
+ghost use Rattle.cesu8_bytes.specs.TextChunks.{IsReadSoFar};
+ghost use Rattle.cesu8_bytes.specs.declared.strictness.Strictness.TheVariants.{Strict};
+ghost use Rattle.cesu8_decode.specs.Decoding.{ReadsAll};
+ghost use Rattle.cesu8_decode.specs.DecodedOffsets.{IsPrefixOf};
+ghost use Rattle.cesu8_decode.specs.Following.{Unchanged as AllUnchanged, FollowUpTo, HasStops, IsSeam, before_zeros};
+ghost use Rattle.cesu8_decode.specs.Changed.{BeginsChanged};
+
+use crate::changed::changes;
+use crate::decoded::{Decoded, refused};
+use crate::front::may_be_crossed;
+use crate::lanes::character_set::Unchanged;
+use crate::lanes::following::{FILLER, block_behind, stops};
+use crate::way::{FEW_BYTES, is_one_block};
+use cesu8_bytes::BLOCK;
+use cesu8_bytes::flavor::Flavor;
+use cesu8_bytes::lanes::padded::padded_half;
+use cesu8_bytes::pairs::{PAIR, PAIR_READ, PAIR_UTF8, is_pair, utf8_of_pair};
+use cesu8_bytes::writing::put::{put, put_lanes};
+use std::simd::prelude::*;
+
+/// The length of an array for the text. A block may be stored behind any of it.
+pub const STRICT_TEXT: usize = FEW_BYTES + BLOCK;
+
+/// Writes the strict reading of at most 64 bytes to the front of an array. It is not inlined, so that
+/// a caller's vector stays in registers.
+#[inline(never)]
+pub fn write_few_strictly<F: Flavor>(bytes: &[u8], out: &mut [u8]) -> Decoded
+    requires bytes { length bytes.now ≤ FEW_BYTES }
+    requires room { STRICT_TEXT ≤ length out.old }
+    ensures read { ReadsAll F.flavor Strict bytes.now
+        (take result.end out.new) result.is_ill_formed }
+    ensures end { result.end ≤ length bytes.now }
+    ensures len { length out.new ≡ length out.old }
+{
+    let mut source = [0; FEW_BYTES + BLOCK];
+    let stops = load::<F>(bytes, &mut source);
+    write_by_stops::<F>(bytes, stops, &source, out)
+}
+
+/// Copies the bytes to zeros, so that a block can be loaded from any of them, and returns the set of
+/// those that may not follow those before them.
+#[inline(always)]
+fn load<F: Flavor>(bytes: &[u8], source: &mut [u8]) -> u64
+    requires bytes { length bytes.now ≤ FEW_BYTES }
+    requires zeros { source.old ≡ replicate (FEW_BYTES + BLOCK) 0 }
+    ensures stops { HasStops F.flavor bytes.now result }
+    ensures source { source.new ≡ before_zeros bytes.now }
+{
+    let fillers = u8x32::splat(FILLER);
+    if is_one_block(bytes) {
+        let block = padded_half(bytes);
+        put_lanes(block, source, 0);
+        return stops::<F, Unchanged>(block_behind(fillers, block));
+    }
+    let first = u8x32::from_slice(bytes);
+    let second = padded_half(&bytes[BLOCK..]);
+    put_lanes(first, source, 0);
+    put_lanes(second, source, BLOCK);
+    let behind = stops::<F, Unchanged>(block_behind(first, second));
+    stops::<F, Unchanged>(block_behind(fillers, first)) + (behind << BLOCK)
+}
+
+/// Does so by the set of the bytes that may not follow. The source has the bytes, and zeros behind.
+#[inline(always)]
+fn write_by_stops<F: Flavor>(bytes: &[u8], stops: u64, source: &[u8], out: &mut [u8]) -> Decoded
+    requires bytes { length bytes.now ≤ FEW_BYTES }
+    requires stops { HasStops F.flavor bytes.now stops }
+    requires source { source.now ≡ before_zeros bytes.now }
+    requires room { STRICT_TEXT ≤ length out.old }
+    ensures read { ReadsAll F.flavor Strict bytes.now
+        (take result.end out.new) result.is_ill_formed }
+    ensures end { result.end ≤ length bytes.now }
+    ensures len { length out.new ≡ length out.old }
+{
+    let mut read = 0;
+    let mut end = 0;
+    let mut stop = next_stop::<F>(bytes, stops, source, 0);
+    while stop < bytes.len() {
+        if stop == read {
+            return refused(bytes);
+        }
+        let changed = &source[stop - 1..];
+        if !changes::<F>(changed) {
+            return refused(bytes);
+        }
+        let copied = put_blocks(source, read, stop - 1 - read, out, end);
+        let written = write_changed::<F>(changed, out, copied);
+        read = stop - 1 + written.read;
+        end = written.end;
+        stop = next_stop::<F>(bytes, stops, source, read);
+    }
+    let rest = &bytes[read..];
+    if may_be_crossed::<Unchanged>(rest, rest.len()) {
+        return refused(bytes);
+    }
+    Decoded {
+        read: bytes.len(),
+        end: put_blocks(source, read, rest.len(), out, end),
+        is_ill_formed: false,
+    }
+}
+
+/// Returns the index of the first byte from a seam on that may not follow, by the set of these, or
+/// the length.
+#[inline(always)]
+fn next_stop<F: Flavor>(bytes: &[u8], stops: u64, source: &[u8], read: usize) -> usize
+    requires bytes { length bytes.now ≤ FEW_BYTES }
+    requires stops { HasStops F.flavor bytes.now stops }
+    requires source { source.now ≡ before_zeros bytes.now }
+    requires seam { IsSeam AllUnchanged F.flavor bytes.now read × (read ≤ length bytes.now) }
+    ensures within { (read ≤ result) × (result ≤ length bytes.now) }
+    ensures up_to { FollowUpTo AllUnchanged F.flavor (drop read bytes.now) (result - read) }
+{
+    // Where one pair follows another, this does not wait for the set.
+    if is_pair(&source[read..]) {
+        return read + 1;
+    }
+    // A shift by all bits is none.
+    if read == bytes.len() {
+        return read;
+    }
+    // With no bit left, the zeros end behind the bytes.
+    (read + (stops >> read).trailing_zeros() as usize).min(bytes.len())
+}
+
+/// Writes some bytes of the source block by block, and others behind them, and returns the end of
+/// these.
+#[inline(always)]
+fn put_blocks(source: &[u8], read: usize, count: usize, out: &mut [u8], end: usize) -> usize
+    requires source { read + count + BLOCK ≤ length source.now }
+    requires room { end + count + BLOCK ≤ length out.old }
+    ensures { WritesAt (take count (drop read source.now)) end out.old out.new result }
+{
+    let mut copied = 0;
+    while copied < count {
+        let block = u8x32::from_slice(&source[read + copied..]);
+        put_lanes(block, out, end + copied);
+        copied += BLOCK;
+    }
+    end + count
+}
+
+/// Writes the character that begins the bytes, in UTF-8.
+#[inline(always)]
+fn write_changed<F: Flavor>(bytes: &[u8], out: &mut [u8], end: usize) -> Decoded
+    requires bytes { PAIR_READ ≤ length bytes.now }
+    requires begins { BeginsChanged F.flavor bytes.now }
+    requires room { end + PAIR_UTF8 ≤ length out.old }
+    ensures read { (whole : List ℕ) → IsPrefixOf whole bytes.now
+        → IsReadSoFar F.flavor Strict whole (drop result.read whole)
+        (take end out.old) (take result.end out.new) }
+    ensures inside { (whole : List ℕ) → IsPrefixOf whole bytes.now → result.read ≤ length whole }
+    ensures within { (0 < result.read) × (result.end + 1 ≤ end + result.read) }
+    ensures seam { (whole : List ℕ) (at : ℕ) → IsPrefixOf (drop at whole) bytes.now
+        → IsSeam AllUnchanged F.flavor whole (at + result.read) }
+    ensures len { length out.new ≡ length out.old }
+{
+    if bytes[0] == 0xC0 {
+        return Decoded {
+            read: 2,
+            end: put(&[0], out, end),
+            is_ill_formed: false,
+        };
+    }
+    Decoded {
+        read: PAIR,
+        end: put(&utf8_of_pair(bytes), out, end),
+        is_ill_formed: false,
+    }
+}
