@@ -50,7 +50,7 @@ pub fn front<F: Flavor, S: CharacterSet>(bytes: &[u8]) -> usize
     ensures { IsFront S.set F.flavor bytes.now result }
 {
     let at = if is_one_block(bytes) {
-        following_few::<F, S>(bytes)
+        following_in_block::<F, S>(bytes)
     } else {
         following_many::<F, S>(bytes)
     };
@@ -79,7 +79,7 @@ pub fn is_utf8(bytes: &[u8]) -> bool
 
 /// Returns how many bytes of a block may follow those before them, up to the first that may not.
 #[inline(always)]
-fn following_few<F: Flavor, S: CharacterSet>(bytes: &[u8]) -> usize
+fn following_in_block<F: Flavor, S: CharacterSet>(bytes: &[u8]) -> usize
     requires { length bytes.now ≤ BLOCK }
     ensures { FollowUpTo S.set F.flavor bytes.now result }
 {
@@ -113,7 +113,7 @@ fn following_first<F: Flavor, S: CharacterSet>(bytes: &[u8]) -> Result<usize, us
     if run > 0 {
         return Ok(run);
     }
-    let len = following_few::<F, S>(&bytes[..BLOCK]);
+    let len = following_in_block::<F, S>(&bytes[..BLOCK]);
     if len == BLOCK { Ok(BLOCK) } else { Err(len) }
 }
 

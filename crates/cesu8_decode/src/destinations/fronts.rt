@@ -27,35 +27,22 @@ const FRONT: usize = 16;
 const LONG_FRONT: usize = 64;
 
 /// Appends the strict reading of more than a few bytes, of which so many at the front are whole
-/// characters that are the same in UTF-8. It is not inlined, so that few bytes have few registers to
-/// save.
+/// characters that are the same in UTF-8: from one character that changes to the next, as long as they
+/// stand far apart. It is not inlined, so that few bytes have few registers to save.
 #[inline(never)]
-pub fn append_many<F: Flavor>(bytes: &[u8], front: usize, before: Vec<u8>) -> Option<Vec<u8>>
-    requires front { IsFront AllUnchanged F.flavor bytes.now front }
-    requires room { vec_len before + length bytes.now ≤ vec_capacity before }
-    ensures { AppendsStrictly F.flavor bytes.now before result }
-{
-    if front >= FRONT {
-        return append_by_fronts::<F>(bytes, front, before);
-    }
-    let mut text = before;
-    append(&bytes[..front], &mut text);
-    append_rest::<F>(&bytes[front..], text)
-}
-
-/// Does so from one character that changes to the next, as long as they stand far apart.
-#[inline(always)]
-fn append_by_fronts<F: Flavor>(bytes: &[u8], len: usize, before: Vec<u8>) -> Option<Vec<u8>>
+pub fn append_many<F: Flavor>(bytes: &[u8], len: usize, before: Vec<u8>) -> Option<Vec<u8>>
     requires front { IsFront AllUnchanged F.flavor bytes.now len }
     requires room { vec_len before + length bytes.now ≤ vec_capacity before }
     ensures { AppendsStrictly F.flavor bytes.now before result }
 {
     let mut text = before;
-    let mut rest = append_to_next::<F>(bytes, len, &mut text);
-    let mut len = front::<F, Unchanged>(rest);
-    while LONG_FRONT <= len && len < rest.len() {
+    let mut rest = bytes;
+    let mut len = len;
+    let mut least = FRONT;
+    while least <= len && len < rest.len() {
         rest = append_to_next::<F>(rest, len, &mut text);
         len = front::<F, Unchanged>(rest);
+        least = LONG_FRONT;
     }
     append(&rest[..len], &mut text);
     if len == rest.len() {

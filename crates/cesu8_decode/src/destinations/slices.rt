@@ -111,7 +111,7 @@ fn put_by_blocks<F: Flavor>(bytes: &[u8], buf: &mut [u8]) -> Result<usize, Unwri
 
 /// Writes the text of a few bytes, to an array first. Lossy reading takes the time of the strict one
 /// where none is ill-formed.
-#[inline(never)]
+#[inline(always)]
 fn put_few<F: Flavor>(
     strictness: Strictness,
     bytes: &[u8],

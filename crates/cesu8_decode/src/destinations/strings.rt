@@ -19,7 +19,7 @@ use crate::pass::in_place::{LONG_TEXT, SHORT_TEXT, write_text};
 use crate::pass::one_block::{LOSSY_TEXT, write_one_block};
 use crate::pass::reading::LossyReading;
 use crate::pass::strict_few::{STRICT_TEXT, write_few_strictly};
-use crate::way::{FEW_BYTES, Way, are_few, way_of};
+use crate::way::{Way, are_few, way_of};
 use cesu8_bytes::BLOCK;
 use cesu8_bytes::flavor::Flavor;
 use cesu8_bytes::writing::copies::{append, copy};
@@ -57,24 +57,15 @@ pub fn build_lossily<F: Flavor>(
     requires { IsFront Unchanged F.flavor bytes.now front × (front < length bytes.now) }
     ensures { BuildsReading F.flavor bytes.now result }
 {
+    // A few bytes take the time of strict reading where none is ill-formed.
     if are_few(bytes) && begins_changed::<F>(&bytes[front..]) {
-        return build_few::<F>(alloc, bytes);
+        let mut written = [0; STRICT_TEXT];
+        let decoded = write_few_strictly::<F>(bytes, &mut written);
+        if !decoded.is_ill_formed {
+            return copy(alloc, &written[..decoded.end]);
+        }
     }
     build_by_blocks::<F>(alloc, bytes)
-}
-
-/// Returns the lossy reading of a few bytes, in the time of the strict one where none is ill-formed.
-#[inline(never)]
-fn build_few<F: Flavor>(alloc: Global, bytes: &[u8]) -> Result<Vec<u8>, AllocError>
-    requires { length bytes.now ≤ FEW_BYTES }
-    ensures { BuildsReading F.flavor bytes.now result }
-{
-    let mut written = [0; STRICT_TEXT];
-    let decoded = write_few_strictly::<F>(bytes, &mut written);
-    if decoded.is_ill_formed {
-        return build_by_blocks::<F>(alloc, bytes);
-    }
-    copy(alloc, &written[..decoded.end])
 }
 
 /// Returns the lossy reading of the bytes, read block by block.

@@ -1,7 +1,7 @@
 use Rattle.std.proofs.Common.{◌≡◌, ◌+◌, ◌-◌, false, ◌++◌, ℕ, length, replicate, sym, subst, arith}
 use Rattle.cesu8_decode.specs.Following.{FollowUpTo, IsBlockAt, follows_at, after_fillers}
 use Rattle.cesu8_decode.proofs.decoder.FollowingBlocks.{front_in_block}
-use Rattle.cesu8_decode.proofs.front.following_few.Goals as goal
+use Rattle.cesu8_decode.proofs.front.following_in_block.Goals as goal
 
 pub returns : goal.returns
 returns g c =
