@@ -13,3 +13,4 @@ pub mod Fronts
 pub mod UnchangedFronts
 pub mod FrontReadings
 pub mod Stops
+pub mod StopSets

@@ -112,19 +112,15 @@ whole_blocks n = BLOCK * ((n + BLOCK - 1) / BLOCK)
 abbrev pub before_zeros : List ℕ → List ℕ
 before_zeros bytes = bytes ++ replicate (FEW_BYTES + BLOCK - length bytes) 0
 
--- A set has the bytes that may not follow where no character changes, and perhaps zeros behind them.
-pub record HasStops (f : Flavor) (bytes : List ℕ) (set : ℕ) : Type 0 where
+-- A set has the bytes that may not follow, and perhaps zeros behind them.
+pub record HasStops (s : CharacterSet) (f : Flavor) (bytes : List ℕ) (set : ℕ) : Type 0 where
   pub n : ℕ
   pub within : (length bytes ≤ n) × (n ≤ 64)
-  pub stops : AreStops Unchanged f (after_fillers bytes) 0 n set
+  pub stops : AreStops s f (after_fillers bytes) 0 n set
 
 -- Each of n bytes of a window, from byte i + 4 on, may follow the four before it.
 abbrev pub AllFollow : CharacterSet → Flavor → List ℕ → ℕ → ℕ → Type 0
 AllFollow s f window i n = (k : ℕ) → i ≤ k → k < i + n → follows_at s f window k ≡ true
-
--- What may follow from byte n on is as if the bytes began there.
-abbrev pub IsSeam : CharacterSet → Flavor → List ℕ → ℕ → Type 0
-IsSeam s f bytes n = (k : ℕ) → follows_at s f (after_fillers (drop n bytes)) k ≡ follows_at s f (after_fillers bytes) (n + k)
 
 -- So do the first n bytes, behind fillers.
 pub record FirstFollow (s : CharacterSet) (f : Flavor) (bytes : List ℕ) (n : ℕ) : Type 0 where
@@ -146,3 +142,8 @@ abbrev pub crosses_at : CharacterSet → List ℕ → ℕ → Bool
 crosses_at s window i =
     let w = slice_index window in
     crosses s (w i) (w (i + 1)) (w (i + 2)) (w (i + 3))
+
+-- What may follow from byte n on, and which boundary is crossed, is as if the bytes began there.
+pub record IsSeam (s : CharacterSet) (f : Flavor) (bytes : List ℕ) (n : ℕ) : Type 0 where
+  pub follows : (k : ℕ) → follows_at s f (after_fillers (drop n bytes)) k ≡ follows_at s f (after_fillers bytes) (n + k)
+  pub crosses : (k : ℕ) → crosses_at s (after_fillers (drop n bytes)) k ≡ crosses_at s (after_fillers bytes) (n + k)

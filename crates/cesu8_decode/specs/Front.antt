@@ -3,7 +3,9 @@ use Rattle.std.specs.Prelude.{◌≡◌, ℕ, ◌<◌, ◌≤◌, List, length, 
 use Rattle.cesu8_text.specs.Class.{is_null}
 use Rattle.cesu8_text.specs.Encoding.{Flavor, encoding, IsEncodedOtherwise}
 use Rattle.cesu8_text.specs.Text.{IsText, utf8}
-use Rattle.cesu8_decode.specs.Following.{CharacterSet, Encoded, Unchanged, Utf8}
+use Rattle.cesu8_decode.specs.Following.{CharacterSet, Encoded, Unchanged, Utf8, HasStops}
+use Rattle.cesu8_decode.specs.declared.front.FoundFront.{FoundFront}
+use Rattle.cesu8_decode.specs.declared.way.TheConstants.{FEW_BYTES}
 
 -- The bytes of a text in a set.
 abbrev pub written : CharacterSet → Flavor → List ℕ → List ℕ
@@ -28,3 +30,13 @@ pub record IsFront (s : CharacterSet) (f : Flavor) (bytes : List ℕ) (n : ℕ) 
   pub within : n ≤ length bytes
   pub whole : AreWhole s f (take n bytes)
   pub greatest : (m : ℕ) → n < m → m ≤ length bytes → ¬ (AreWhole s f (take m bytes))
+
+-- A front has their length, and of a few bytes the set of those that may not follow.
+pub record IsFrontOf (s : CharacterSet) (f : Flavor) (bytes : List ℕ) (front : FoundFront) : Type 0 where
+  pub len : IsFront s f bytes front.len
+  pub stops : length bytes ≤ FEW_BYTES → HasStops s f bytes front.stops
+
+-- Where it is that of the characters that are the same in UTF-8, not all bytes are such characters.
+pub record IsPartialFront (f : Flavor) (bytes : List ℕ) (front : FoundFront) : Type 0 where
+  pub found : IsFrontOf Unchanged f bytes front
+  pub more : front.len < length bytes

@@ -7,9 +7,9 @@ ghost use Rattle.cesu8_text.specs.Reading.{IsStrictReading, IsLenientReading, re
 ghost use Rattle.cesu8_text.specs.Kept.{KnowsTexts};
 ghost use Rattle.cesu8_text.proofs.reading.KeptTexts.{encoding_texts, lenient_texts};
 ghost use Rattle.cesu8_decode.specs.Following.{Unchanged as AllUnchanged};
-ghost use Rattle.cesu8_decode.specs.Front.{IsFront};
+ghost use Rattle.cesu8_decode.specs.Front.{IsFront, IsPartialFront};
 
-use crate::front::{front, is_utf8};
+use crate::front::{FoundFront, front, is_utf8};
 use crate::lanes::character_set::Unchanged;
 use crate::way::is_one_block;
 use cesu8_bytes::flavor::Flavor;
@@ -38,17 +38,19 @@ pub trait Accepts {
         → KnowsTexts f bytes (keeps f bytes) (reads f bytes) (reads_lossily f bytes) };
 }
 
-/// Returns how many bytes at the front are whole characters that are the same in UTF-8, or the length
-/// if a call that takes `A` keeps all bytes.
+/// Returns the bytes at the front that are whole characters that are the same in UTF-8, or all bytes
+/// if a call that takes `A` keeps them.
 #[inline(always)]
-pub fn front_unless_kept<F: Flavor, A: Accepts>(bytes: &[u8]) -> usize
-    ensures kept { result ≡ length bytes.now ↔ A.keeps F.flavor bytes.now }
-    ensures front { ¬ (result ≡ length bytes.now) →
-        IsFront AllUnchanged F.flavor bytes.now result × (result < length bytes.now) }
+pub fn front_unless_kept<F: Flavor, A: Accepts>(bytes: &[u8]) -> FoundFront
+    ensures kept { result.len ≡ length bytes.now ↔ A.keeps F.flavor bytes.now }
+    ensures front { ¬ (result.len ≡ length bytes.now) → IsPartialFront F.flavor bytes.now result }
 {
     let front = front::<F, Unchanged>(bytes);
-    if A::keeps_all::<F>(bytes, front) {
-        return bytes.len();
+    if A::keeps_all::<F>(bytes, front.len) {
+        return FoundFront {
+            len: bytes.len(),
+            stops: front.stops,
+        };
     }
     front
 }

@@ -38,7 +38,7 @@ fn decode_other_to_slice<F: Flavor, A: Accepts>(
         (A.reads_lossily F.flavor bytes.now)) result buf.old buf.new }
 {
     let front = front_unless_kept::<F, A>(bytes);
-    if front == bytes.len() {
+    if front.len == bytes.len() {
         return copy_to_slice_by_call(bytes, buf).map_err(Unwritten::NoRoom);
     }
     match strictness {

@@ -9,20 +9,25 @@ ghost use Rattle.std.specs.Prelude.{◌≡◌, ℕ, ◌+◌, ◌-◌, ◌<◌, �
 ghost use Rattle.cesu8_text.specs.Fronts.{IsValidUpTo};
 ghost use Rattle.cesu8_text.specs.Reading.{IsStrictReading, HasNoStrictReading, reading};
 ghost use Rattle.cesu8_decode.specs.Following.{FirstFollow, FollowUpTo, Encoded as AllEncoded, after_fillers, crosses_at, is_high_surrogate};
-ghost use Rattle.cesu8_decode.specs.Front.{AreWhole, IsFront};
+ghost use Rattle.cesu8_decode.specs.Front.{AreWhole, IsFront, IsFrontOf};
 
 use crate::lanes::character_set::{CharacterSet, Encoded, Utf8};
-use crate::lanes::following::{
-    DECIDING, FILLER, block_at, block_behind, following_len, two_follow,
-};
-use crate::way::is_one_block;
+use crate::lanes::following::{DECIDING, FILLER, block_at, following_len, two_follow};
+use crate::lanes::stops::{next_stop, stops_of_few};
+use crate::way::{FEW_BYTES, are_few};
 use cesu8_bytes::BLOCK;
 use cesu8_bytes::flavor::{Cesu8Flavor, Flavor};
 use cesu8_bytes::lanes::class::{Either, NonAscii};
-use cesu8_bytes::lanes::padded::padded_half;
 use cesu8_bytes::lanes::runs::run_of_groups;
 use cesu8_bytes::looks::is_short_unchanged_ascii;
-use std::simd::prelude::*;
+
+/// How many bytes at the front are whole characters of a set, and of a few bytes the set of those that
+/// may not follow.
+#[derive(Clone, Copy)]
+pub struct FoundFront {
+    pub len: usize,
+    pub stops: u64,
+}
 
 /// Returns how many bytes at the front are whole encoded characters.
 #[inline(always)]
@@ -41,20 +46,24 @@ pub fn valid_up_to<F: Flavor>(bytes: &[u8]) -> usize
 pub fn valid_up_to_other<F: Flavor>(bytes: &[u8]) -> usize
     ensures { IsValidUpTo F.flavor bytes.now result }
 {
-    front::<F, Encoded>(bytes)
+    front::<F, Encoded>(bytes).len
 }
 
-/// Returns how many bytes at the front are whole characters of a set.
+/// Returns the bytes at the front that are whole characters of a set.
 #[inline(always)]
-pub fn front<F: Flavor, S: CharacterSet>(bytes: &[u8]) -> usize
-    ensures { IsFront S.set F.flavor bytes.now result }
+pub fn front<F: Flavor, S: CharacterSet>(bytes: &[u8]) -> FoundFront
+    ensures { IsFrontOf S.set F.flavor bytes.now result }
 {
-    let at = if is_one_block(bytes) {
-        following_in_block::<F, S>(bytes)
+    let (at, stops) = if are_few(bytes) {
+        let stops = stops_of_few::<F, S>(bytes);
+        (next_stop::<F, S>(bytes, stops, 0), stops)
     } else {
-        following_many::<F, S>(bytes)
+        (following_many::<F, S>(bytes), 0)
     };
-    last_boundary::<F, S>(bytes, at)
+    FoundFront {
+        len: last_boundary::<F, S>(bytes, at),
+        stops,
+    }
 }
 
 /// Returns whether some byte is in no encoded character. It stops soon after the first ill-formed
@@ -74,24 +83,14 @@ pub fn is_utf8(bytes: &[u8]) -> bool
     ensures { IsTrue result ↔ IsUtf8 bytes.now }
 {
     // In CESU-8 no ASCII changes.
-    front::<Cesu8Flavor, Utf8>(bytes) == bytes.len()
-}
-
-/// Returns how many bytes of a block may follow those before them, up to the first that may not.
-#[inline(always)]
-fn following_in_block<F: Flavor, S: CharacterSet>(bytes: &[u8]) -> usize
-    requires { length bytes.now ≤ BLOCK }
-    ensures { FollowUpTo S.set F.flavor bytes.now result }
-{
-    let block = block_behind(u8x32::splat(FILLER), padded_half(bytes));
-    following_len::<F, S>(block).min(bytes.len())
+    front::<Cesu8Flavor, Utf8>(bytes).len == bytes.len()
 }
 
 /// Returns how many of more bytes may follow those before them, up to the first that may not. It is
 /// not inlined, since it is long.
 #[inline(never)]
 fn following_many<F: Flavor, S: CharacterSet>(bytes: &[u8]) -> usize
-    requires { BLOCK < length bytes.now }
+    requires { FEW_BYTES < length bytes.now }
     ensures { FollowUpTo S.set F.flavor bytes.now result }
 {
     match following_first::<F, S>(bytes) {
@@ -113,7 +112,8 @@ fn following_first<F: Flavor, S: CharacterSet>(bytes: &[u8]) -> Result<usize, us
     if run > 0 {
         return Ok(run);
     }
-    let len = following_in_block::<F, S>(&bytes[..BLOCK]);
+    let first = &bytes[..BLOCK];
+    let len = next_stop::<F, S>(first, stops_of_few::<F, S>(first), 0);
     if len == BLOCK { Ok(BLOCK) } else { Err(len) }
 }
 
@@ -137,7 +137,7 @@ fn following_twos<F: Flavor, S: CharacterSet>(bytes: &[u8], start: usize) -> usi
 #[inline(always)]
 fn following_last<F: Flavor, S: CharacterSet>(bytes: &[u8], start: usize) -> usize
     requires first { FirstFollow S.set F.flavor bytes.now start }
-    requires start { BLOCK ≤ start }
+    requires start { (BLOCK ≤ start) × (FEW_BYTES < length bytes.now) }
     ensures { FollowUpTo S.set F.flavor bytes.now result }
 {
     let mut at = start;
@@ -152,21 +152,8 @@ fn following_last<F: Flavor, S: CharacterSet>(bytes: &[u8], start: usize) -> usi
     if at == bytes.len() {
         return at;
     }
-    following_end::<F, S>(bytes, at)
-}
-
-/// Does so for the bytes behind the last whole block.
-#[inline(always)]
-fn following_end<F: Flavor, S: CharacterSet>(bytes: &[u8], start: usize) -> usize
-    requires first { FirstFollow S.set F.flavor bytes.now start }
-    requires start { (BLOCK ≤ start) × (length bytes.now < start + BLOCK) }
-    ensures { FollowUpTo S.set F.flavor bytes.now result }
-{
-    if let Some(before) = bytes.len().checked_sub(DECIDING + BLOCK) {
-        return before + DECIDING + following_len::<F, S>(block_at(bytes, before));
-    }
-    let block = block_behind(u8x32::from_slice(bytes), padded_half(&bytes[BLOCK..]));
-    BLOCK + following_len::<F, S>(block).min(bytes.len() - BLOCK)
+    let before = bytes.len() - (DECIDING + BLOCK);
+    before + DECIDING + following_len::<F, S>(block_at(bytes, before))
 }
 
 /// Returns the last boundary up to `at` that no character crosses, if the bytes before it may follow

@@ -19,7 +19,7 @@ pub fn decoded_len<F: Flavor>(bytes: &[u8]) -> Option<usize>
         ReadsAtLength (IsStrictReading F.flavor bytes.now) (λ text_len. len ≡ text_len)) }
     ensures none { IfNone result (HasNoStrictReading F.flavor bytes.now) }
 {
-    let front = front::<F, Unchanged>(bytes);
+    let front = front::<F, Unchanged>(bytes).len;
     let rest = &bytes[front..];
     if rest.is_empty() {
         return Some(front);

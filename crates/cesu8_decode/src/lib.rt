@@ -23,8 +23,7 @@ ghost use Rattle.std.specs.Prelude.{◌≡◌, ◌<◌, length, IfOk};
 ghost use Rattle.std.specs.String.{string_bytes, string_capacity};
 ghost use Rattle.std.specs.Str.{chars};
 ghost use Rattle.cesu8_text.specs.Reading.{IsStrictReading, HasNoStrictReading, reading, lossy_length};
-ghost use Rattle.cesu8_decode.specs.Following.{Unchanged as AllUnchanged};
-ghost use Rattle.cesu8_decode.specs.Front.{IsFront};
+ghost use Rattle.cesu8_decode.specs.Front.{IsPartialFront};
 ghost use Rattle.cesu8_decode.specs.Refusals.{OnNoText};
 
 pub mod accepts;
@@ -39,6 +38,7 @@ mod pass;
 pub mod refusal;
 mod way;
 
+use crate::front::FoundFront;
 use crate::refusal::Refusal;
 use cesu8_bytes::flavor::Flavor;
 use cesu8_bytes::utf8::known_string;
@@ -52,9 +52,9 @@ use std::alloc::{AllocError, Global};
 pub fn decode_strict<F: Flavor>(
     alloc: Global,
     bytes: &[u8],
-    front: usize,
+    front: FoundFront,
 ) -> Result<String, Refusal>
-    requires { IsFront AllUnchanged F.flavor bytes.now front × (front < length bytes.now) }
+    requires { IsPartialFront F.flavor bytes.now front }
     ensures text { IfOk result (λ text.
         IsStrictReading F.flavor bytes.now (chars (string_bytes text))) }
     ensures capacity { IfOk result (λ text. string_capacity text ≡ length bytes.now) }
@@ -67,17 +67,16 @@ pub fn decode_strict<F: Flavor>(
     }
 }
 
-/// Returns the lossy reading of the bytes, after one request for its length. So many at the front, but
-/// not all, are whole characters that are the same in UTF-8. A length that does not fit counts as
-/// refused. The text of a few bytes, or of the first window of many, is decoded on the stack before
+/// Returns the lossy reading of the bytes, after one request for its length. Not all of them are whole
+/// characters that are the same in UTF-8, but the front. A length that does not fit counts as refused. The text of a few bytes, or of the first window of many, is decoded on the stack before
 /// that, so that it needs no pass for the length.
 #[inline(never)]
 pub fn decode_lossy<F: Flavor>(
     alloc: Global,
     bytes: &[u8],
-    front: usize,
+    front: FoundFront,
 ) -> Result<String, AllocError>
-    requires { IsFront AllUnchanged F.flavor bytes.now front × (front < length bytes.now) }
+    requires { IsPartialFront F.flavor bytes.now front }
     ensures text { IfOk result (λ text.
         chars (string_bytes text) ≡ reading F.flavor bytes.now) }
     ensures capacity { IfOk result (λ text.

@@ -53,7 +53,7 @@ fn decode_other<F: Flavor, A: Accepts>(
     ensures { DecodesAs (A.keeps F.flavor bytes.now) (A.reads F.flavor bytes.now) bytes.now result }
 {
     let front = front_unless_kept::<F, A>(bytes);
-    if front == bytes.len() {
+    if front.len == bytes.len() {
         return Ok(CowText::Borrowed(known_text(bytes)));
     }
     let built = internal::decode_strict::<F>(alloc, bytes, front)?;
@@ -130,7 +130,7 @@ fn decode_lossy_other<F: Flavor, A: Accepts>(
         (A.reads_lossily F.flavor bytes.now) bytes.now result }
 {
     let front = front_unless_kept::<F, A>(bytes);
-    if front == bytes.len() {
+    if front.len == bytes.len() {
         return Ok(CowText::Borrowed(known_text(bytes)));
     }
     let built = internal::decode_lossy::<F>(alloc, bytes, front)?;

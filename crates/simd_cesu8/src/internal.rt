@@ -1,13 +1,12 @@
 //! The one door to the codec, for both flavors: its options and its functions. What they return
 //! where there is no result becomes a fault of this crate here, and nowhere else.
 
-ghost use Rattle.std.specs.Prelude.{◌≡◌, ◌<◌, length, IfOk};
+ghost use Rattle.std.specs.Prelude.{◌≡◌, length, IfOk};
 ghost use Rattle.std.specs.Str.{chars};
 ghost use Rattle.std.specs.String.{string_bytes, string_capacity};
 ghost use Rattle.simd_cesu8.specs.Encoding.{encoding};
 ghost use Rattle.simd_cesu8.specs.Reading.{IsStrictReading, HasNoStrictReading};
-ghost use Rattle.cesu8_decode.specs.Following.{Unchanged as AllUnchanged};
-ghost use Rattle.cesu8_decode.specs.Front.{IsFront};
+ghost use Rattle.cesu8_decode.specs.Front.{IsPartialFront};
 ghost use Rattle.simd_cesu8.specs.Fault.{OnInvalid};
 ghost use Rattle.simd_cesu8.specs.Slices.{WritesAnswer, WritesReading, WritesLossyReading};
 
@@ -25,21 +24,22 @@ pub use cesu8_bytes::utf8::known_text;
 pub use cesu8_bytes::writing::copies::{copy, copy_text};
 pub use cesu8_decode::accepts::{Accepts, EncodingAlone, Lenient, front_unless_kept};
 use cesu8_decode::copy_or_write;
+use cesu8_decode::front::FoundFront;
 pub use cesu8_decode::front::{is_utf8, valid_up_to};
 use cesu8_decode::refusal::{Refusal, Unwritten};
 pub use cesu8_decode::{decode_lossy, decoded_len, lossy_len};
 pub use cesu8_encode::{encode, encode_into};
 use std::alloc::Global;
 
-/// Returns the strict reading of bytes, after one request for their length. So many at the front, but
-/// not all, are whole characters that are the same in UTF-8.
+/// Returns the strict reading of bytes, after one request for their length. Not all of them are
+/// whole characters that are the same in UTF-8, but the front.
 #[inline(always)]
 pub fn decode_strict<F: Flavor>(
     alloc: Global,
     bytes: &[u8],
-    front: usize,
+    front: FoundFront,
 ) -> Result<String, DecodeFault>
-    requires { IsFront AllUnchanged F.flavor bytes.now front × (front < length bytes.now) }
+    requires { IsPartialFront F.flavor bytes.now front }
     ensures text { IfOk result (λ text.
         IsStrictReading F.flavor bytes.now (chars (string_bytes text))) }
     ensures capacity { IfOk result (λ text. string_capacity text ≡ length bytes.now) }

@@ -1,16 +1,7 @@
 -- Where characters that change begin, by the bytes that may not follow where none changes.
-use Rattle.std.proofs.Common.{◌≡◌, ℕ, zero, suc, ◌+◌, ◌-◌, ◌*◌, ◌/◌, ◌%◌, ◌^◌, ◌<◌, ◌≤◌, ◌↔◌, inl, inr, ⊎_elim, Bool, true, false, true≢false, not, cond, eqb, leb, List, ◌∷◌, ◌++◌, refl, sym, ap, ◌∙◌, subst, arith, length, take, drop, get_or, map, replicate, length-append, length-drop, pow-suc}
-use Rattle.std.specs.Int.Count.{count_trailing_zeros}
-use Rattle.std.specs.List.{range_with_len, prefix_len}
-use Rattle.std.specs.Simd.Lanes.{mask_l}
-use Rattle.std.proofs.lemmas.Bool.{cases_Bool, cases_lt, le-leb, lt-leb, le-ltb, lt-ltb, leb-false, ne_eqb, not-true, not-false, or_parts, and_parts, eqb-true, cases_eq}
-use Rattle.std.proofs.Math.ListN.{get_or-append}
-use Rattle.std.proofs.lemmas.List.{get_or-append_right, get_or-drop, drop-drop, drop-map, drop-replicate, append_assoc, length-replicate, replicate-append-replicate, take-append-drop, take-append-le, drop-append-le}
-use Rattle.std.proofs.lemmas.List.FromFn.{get_or-range_with_len, length-range_with_len, length-map-range_with_len}
-use Rattle.std.proofs.lemmas.List.Sums.{prefix_len_passes, prefix_len_stops}
-use Rattle.std.proofs.lemmas.Simd.{mask_l-lt, trailing_mask_l}
-use Rattle.std.proofs.Math.Nat.{mul_assoc, mul_comm}
-use Rattle.std.proofs.Math.Pow.{pow_mono}
+use Rattle.std.proofs.Common.{◌||◌, ◌≡◌, ℕ, zero, suc, ◌+◌, ◌-◌, ◌<◌, ◌≤◌, ◌↔◌, inl, inr, ⊎_elim, Bool, true, false, true≢false, not, cond, eqb, leb, List, ◌++◌, refl, sym, ap, ◌∙◌, subst, arith, length, take, drop, get_or, replicate, length-append, length-drop}
+use Rattle.std.proofs.lemmas.Bool.{cases_Bool, cases_lt, le-leb, lt-leb, le-ltb, lt-ltb, leb-false, ne_eqb, or_parts, and_parts, eqb-true, cases_eq}
+use Rattle.std.proofs.lemmas.List.{get_or-drop, drop-drop, drop-replicate, append_assoc, length-replicate, replicate-append-replicate, take-append-drop, take-append-le, drop-append-le}
 use Rattle.cesu8_text.specs.Class.{is_null}
 use Rattle.cesu8_text.specs.Encoding.{Flavor, Cesu8, Mutf8}
 use Rattle.cesu8_text.specs.Reading.{HasNoStrictReading, reading}
@@ -18,10 +9,9 @@ use Rattle.cesu8_bytes.specs.Pairs.{null_at, HasPair}
 use Rattle.cesu8_bytes.specs.Puts.{PutsAt}
 use Rattle.cesu8_bytes.specs.declared.strictness.Strictness.TheVariants.{Strict}
 use Rattle.cesu8_bytes.proofs.vectors.Loads.{padded}
-use Rattle.cesu8_bytes.proofs.vectors.Rows.{mask_rest}
 use Rattle.cesu8_decode.specs.Decoding.{ReadsAll}
 use Rattle.cesu8_decode.specs.DecodedOffsets.{continues, IsPrefixOf}
-use Rattle.cesu8_decode.specs.Following.{Unchanged, shown, follows, follows_at, crosses, crosses_at, after_fillers, before_zeros, AreStops, IsSeam, FollowUpTo}
+use Rattle.cesu8_decode.specs.Following.{Unchanged, shown, follows, follows_at, crosses, crosses_at, after_fillers, before_zeros, IsSeam, FollowUpTo}
 use Rattle.cesu8_decode.specs.Changed.{BeginsChanged}
 use Rattle.cesu8_decode.specs.Front.{IsFront}
 use Rattle.cesu8_decode.proofs.by_offset.IllFormed.{whole_or_faulty}
@@ -29,8 +19,7 @@ use Rattle.cesu8_decode.proofs.by_offset.WidthTests.{pair_by_prefix}
 use Rattle.cesu8_decode.proofs.chunks.Changed.{null_lead, null_within, pair_in_prefix, pair_within}
 use Rattle.cesu8_decode.proofs.chunks.FrontReadings.{unless_begun}
 use Rattle.cesu8_decode.proofs.chunks.Fronts.{before_lead, front_at, lead_shown}
-use Rattle.cesu8_decode.proofs.decoder.FirstLanes.{no_lane}
-use Rattle.cesu8_decode.proofs.decoder.FollowingBlocks.{behind_fillers, follows_agrees}
+use Rattle.cesu8_decode.proofs.decoder.FollowingBlocks.{behind_fillers}
 
 -- ---- a byte that may follow
 
@@ -147,20 +136,6 @@ module _ (f : Flavor) (bytes : List ℕ) (n : ℕ) (begins : BeginsChanged f (dr
       front_at Unchanged f bytes m n up_to (omega (arith, next)) (uncrossed (up_to.first.follow n (omega (arith, next))))
       (λ k past inside. let here : k ≡ n + 1 = omega (arith, next, past, inside) in ap (crosses_at Unchanged window) here ∙ crossed)
 
--- At the front of bytes its second byte is the first that may not follow.
-pub stops_second : (f : Flavor) (bytes : List ℕ) → BeginsChanged f bytes → FollowUpTo Unchanged f bytes 1
-stops_second f bytes begins =
-    let long = two_at_least f bytes begins in
-    record {
-      first = record {
-        within = omega (arith, long);
-        follow = λ k before.
-            let here : 0 ≡ k = omega (arith, before) in
-            subst (λ k. follows_at Unchanged f (after_fillers bytes) k ≡ true) here (first_follows f bytes 0 begins refl);
-      };
-      stops = λ more. second_stops f bytes 0 begins;
-    }
-
 -- ---- no such character
 
 -- The last boundary that no character crosses.
@@ -267,7 +242,7 @@ begins_in_prefix f bytes prefix same = (
 -- What follows two bytes, the last of which continues a character, is as if the bytes began there.
 pub seam_behind : (f : Flavor) (bytes : List ℕ) (n : ℕ) → 0x80 ≤ get_or bytes (n + 1) 0 → get_or bytes (n + 1) 0 < 0xC0 → get_or bytes n 0 < 0xE0 →
     IsSeam Unchanged f bytes (n + 2)
-seam_behind f bytes n low high second = by_offset
+seam_behind f bytes n low high second = record { follows = by_offset; crosses = by_boundary }
   where
     rest : List ℕ
     rest = drop (n + 2) bytes
@@ -298,6 +273,17 @@ seam_behind f bytes n low high second = by_offset
         (same (suc (suc k) + 3) (n + 2 + suc (suc k) + 3) (suc k) (omega arith) (omega arith) i)
         (same (suc (suc k) + 4) (n + 2 + suc (suc k) + 4) (suc (suc k)) (omega arith) (omega arith) i)
 
+    by_boundary : (k : ℕ) → crosses_at Unchanged (after_fillers rest) k ≡ crosses_at Unchanged (after_fillers bytes) (n + 2 + k)
+    by_boundary zero =
+        sym (rw (lt-leb 0xC0 (w (n + 2 + 0 + 3)) (omega (arith, at (n + 2 + 0 + 3) (n + 1) (omega arith), high)),
+        lt-leb 0xE0 (w (n + 2 + 0 + 2)) (omega (arith, at (n + 2 + 0 + 2) n (omega arith), second))) refl)
+    by_boundary (suc zero) =
+        rw (lt-leb 0xE0 (w (n + 2 + 1 + 2)) (omega (arith, at (n + 2 + 1 + 2) (n + 1) (omega arith), high)))
+        (λ i. leb 0xC0 (there (n + 2 + 1 + 3) 0 (omega arith) i) || false)
+    by_boundary (suc (suc k)) =
+        λ i. crosses Unchanged 0 0 (same (suc (suc k) + 2) (n + 2 + suc (suc k) + 2) k (omega arith) (omega arith) i)
+        (same (suc (suc k) + 3) (n + 2 + suc (suc k) + 3) (suc k) (omega arith) (omega arith) i)
+
 -- So is what follows a character that changes.
 module _ (f : Flavor) (whole prefix : List ℕ) (n : ℕ) (same : IsPrefixOf (drop n whole) prefix) where
   there : (k : ℕ) → k < 8 → get_or whole (n + k) 0 ≡ get_or prefix k 0
@@ -320,145 +306,3 @@ module _ (f : Flavor) (whole prefix : List ℕ) (n : ℕ) (same : IsPrefixOf (dr
       subst (IsSeam Unchanged f whole) here
       (seam_behind f whole (n + 4) (omega (arith, place, there 5 (omega arith), ends.3)) (omega (arith, place, there 5 (omega arith), ends.3))
       (omega (arith, there 4 (omega arith), ends.2)))
-
--- ---- the next one
-
-drop_range : (n a m : ℕ) → drop n (range_with_len a m) ≡ range_with_len (n + a) (m - n)
-drop_range zero a m =
-    let first : a ≡ 0 + a = omega arith in
-    let many : m ≡ m - 0 = omega arith in
-    (λ i. range_with_len (first i) (many i))
-drop_range (suc n) a zero = let none : 0 ≡ 0 - suc n = omega arith in ap (range_with_len (suc n + a)) none
-drop_range (suc n) a (suc m) =
-    let first : n + (a + 1) ≡ suc n + a = omega arith in
-    let many : m - n ≡ suc m - suc n = omega arith in
-    drop_range n (a + 1) m ∙ (λ i. range_with_len (first i) (many i))
-
--- The set of those of n numbers that pass a test, with the set of those behind them.
-pub joined_sets : (t : ℕ → Bool) (a n m : ℕ) →
-    mask_l (map t (range_with_len a (n + m))) ≡ mask_l (map t (range_with_len a n)) + 2 ^ n * mask_l (map t (range_with_len (n + a) m))
-joined_sets t a zero m =
-    let none : 0 + m ≡ m = omega arith in
-    let first : 0 + a ≡ a = omega arith in
-    omega (arith, ap (λ n. mask_l (map t (range_with_len a n))) none, ap (λ b. mask_l (map t (range_with_len b m))) first)
-joined_sets t a (suc n) m =
-    let more : suc n + m ≡ suc (n + m) = omega arith in
-    let here : n + (a + 1) ≡ suc n + a = omega arith in
-    let behind = mask_l (map t (range_with_len (suc n + a) m)) in
-    let twice : 2 ^ suc n * behind ≡ 2 ^ n * (2 * behind) = ap (λ p. p * behind) (pow-suc 2 n) ∙ mul_assoc (2 ^ n) 2 behind in
-    let even : 2 ^ n * (2 * behind) ≡ 2 * (2 ^ n * behind) = grind arith in
-    omega (
-      arith,
-      joined_sets t (a + 1) n m,
-      twice,
-      even,
-      ap (λ k. mask_l (map t (range_with_len a k))) more,
-      ap (λ b. 2 ^ n * mask_l (map t (range_with_len b m))) here,
-    )
-
--- A set of at most 64 of them has as many bits.
-pub small_set : (t : ℕ → Bool) (a n : ℕ) → n ≤ 64 → mask_l (map t (range_with_len a n)) < 2 ^ 64
-small_set t a n few =
-    let bits = ap (λ k. 2 ^ k) (length-map-range_with_len t a n) in
-    omega (arith, mask_l-lt (map t (range_with_len a n)), bits, pow_mono few)
-
--- Where two tests agree, so do their sets.
-agreeing_tests : (t u : ℕ → Bool) (a b n : ℕ) → ((k : ℕ) → k < n → t (a + k) ≡ u (b + k)) → map t (range_with_len a n) ≡ map u (range_with_len b n)
-agreeing_tests t u a b zero agree = refl
-agreeing_tests t u a b (suc n) agree =
-    let here_a : a + 0 ≡ a = omega arith in
-    let here_b : b + 0 ≡ b = omega arith in
-    let first : t a ≡ u b = ap t (sym here_a) ∙ agree 0 (omega arith) ∙ ap u here_b in
-    let rest = agreeing_tests t u (a + 1) (b + 1) n (λ k few.
-    let there_a : a + 1 + k ≡ a + suc k = omega arith in
-    let there_b : b + 1 + k ≡ b + suc k = omega arith in
-    ap t there_a ∙ agree (suc k) (omega (arith, few)) ∙ ap u (sym there_b)) in
-    (λ i. first i ∷ rest i)
-
--- ---- the set of the bytes that may not follow
-
--- A block behind others shows which of its bytes may not.
-module _ (f : Flavor) (bytes before block : List ℕ) (at : ℕ) (long : length before ≡ 32)
-    (behind : (j : ℕ) → j < 4 → get_or before (28 + j) 0 ≡ get_or (after_fillers bytes) (at + j) 0)
-    (here : (j : ℕ) → j < 32 → get_or block j 0 ≡ get_or bytes (at + j) 0) where
-  same : (j : ℕ) → j < 36 → get_or (drop 28 (before ++ block)) j 0 ≡ get_or (after_fillers bytes) (at + j) 0
-  same j few =
-      get_or-drop 28 (before ++ block) j 0
-      ∙ ⊎_elim (λ (low : j < 4). get_or-append before block 0 (28 + j) (omega (arith, long, low)) ∙ behind j low)
-      (λ (high : 4 ≤ j).
-      let place : 28 + j - 32 ≡ j - 4 = omega (arith, high) in
-      let there : at + (j - 4) + 4 ≡ at + j = omega (arith, high) in
-      get_or-append_right before block 32 (28 + j) 0 long (omega (arith, high)) ∙ ap (λ k. get_or block k 0) place ∙ here (j - 4) (omega (arith, few, high))
-      ∙ sym (behind_fillers bytes (at + (j - 4))) ∙ ap (λ k. get_or (after_fillers bytes) k 0) there) (cases_lt j 4)
-
-  pub stops_here : (own : ℕ) → AreStops Unchanged f (drop 28 (before ++ block)) 0 32 own → AreStops Unchanged f (after_fillers bytes) (at + 0) 32 own
-  stops_here own stops =
-      let t : ℕ → Bool = λ k. not (follows_at Unchanged f (after_fillers bytes) k) in
-      let u : ℕ → Bool = λ k. not (follows_at Unchanged f (drop 28 (before ++ block)) k) in
-      record {
-        bits = stops.bits ∙ ap mask_l (agreeing_tests u t 0 (at + 0) 32 (λ k few. ap not (follows_agrees Unchanged f (drop 28 (before ++ block)) (after_fillers bytes) (0 + k) (at + 0 + k) (λ i five.
-            let a : 0 + k + i ≡ k + i = omega arith in
-            let b : at + (k + i) ≡ at + 0 + k + i = omega arith in
-            ap (λ n. get_or (drop 28 (before ++ block)) n 0) a ∙ same (k + i) (omega (arith, few, five)) ∙ ap (λ n. get_or (after_fillers bytes) n 0) b))));
-      }
-
--- The set of those up to a block, with its own, is that of those up to its end, and small.
-pub joined_stops : (f : Flavor) (window : List ℕ) (at set own : ℕ) → at + 32 ≤ 64 → AreStops Unchanged f window 0 at set → AreStops Unchanged f window (at + 0) 32 own →
-    AreStops Unchanged f window 0 (at + 32) (set + own * 2 ^ at % 2 ^ 64) × (set + own * 2 ^ at % 2 ^ 64 < 2 ^ 64)
-joined_stops f window at set own few up_to stops =
-    let t : ℕ → Bool = λ k. not (follows_at Unchanged f window k) in
-    let whole = mask_l (map t (range_with_len 0 (at + 32))) in
-    let sum : set + own * 2 ^ at ≡ whole =
-    omega (arith, up_to.bits, joined_sets t 0 at 32, mul_comm own (2 ^ at), ap (λ m. 2 ^ at * m) stops.bits) in
-    let small : whole < 2 ^ 64 = small_set t 0 (at + 32) few in
-    (record { bits = omega (arith, sum, small) }, omega (arith, sum, small))
-
--- By the set of those of the first numbers that pass a test,
-module _ (t : ℕ → Bool) (set from n : ℕ) (small : from ≤ n) (bits : n ≤ 64) (is : set ≡ mask_l (map t (range_with_len 0 n))) where
-  abbrev numbers : List ℕ
-  numbers = range_with_len from (n - from)
-
-  rest_are : set / 2 ^ from ≡ mask_l (map t numbers)
-  rest_are =
-      let here : from + 0 ≡ from = omega arith in
-      ap (λ m. m / 2 ^ from) is ∙ mask_rest from (map t (range_with_len 0 n)) (omega (arith, small, length-map-range_with_len t 0 n))
-      ∙ ap mask_l (drop-map t from (range_with_len 0 n) ∙ ap (map t) (drop_range from 0 n ∙ ap (λ a. range_with_len a (n - from)) here))
-
-  -- none from a number on passes where no bit is left,
-  pub none_passes : set / 2 ^ from ≡ 0 → (k : ℕ) → from ≤ k → k < n → t k ≡ false
-  none_passes none k low high = no_lane t from (n - from) (sym rest_are ∙ none) k low (omega (arith, small, high))
-
-  first_is : ¬ (set / 2 ^ from ≡ 0) → count_trailing_zeros 64 (set / 2 ^ from) ≡ prefix_len (λ k. not (t k)) numbers
-  first_is some =
-      ap (count_trailing_zeros 64) rest_are
-      ∙ trailing_mask_l t 64 numbers (omega (arith, bits, length-range_with_len from (n - from))) (omega (arith, some, rest_are))
-
-  -- and none before the first bit,
-  pub none_before_first : ¬ (set / 2 ^ from ≡ 0) → (k : ℕ) → from ≤ k → k < from + count_trailing_zeros 64 (set / 2 ^ from) → k < n → t k ≡ false
-  none_before_first some k low before high =
-      let here : from + (k - from) ≡ k = omega (arith, low) in
-      let passes = prefix_len_passes (λ k. not (t k)) numbers (k - from) 0 (omega (arith, low, before, first_is some)) in
-      not-true (t k) (sym (ap (λ k. not (t k)) (get_or-range_with_len from (n - from) (k - from) 0 (omega (arith, low, high)) ∙ here)) ∙ passes)
-
-  -- and that one does.
-  pub first_passes : ¬ (set / 2 ^ from ≡ 0) → from + count_trailing_zeros 64 (set / 2 ^ from) < n → t (from + count_trailing_zeros 64 (set / 2 ^ from)) ≡ true
-  first_passes some inside =
-      let first = first_is some in
-      let stops = prefix_len_stops (λ k. not (t k)) numbers 0 (omega (arith, inside, first, length-range_with_len from (n - from))) in
-      not-false _ (ap (λ k. not (t k)) (ap (λ k. from + k) first ∙ sym (get_or-range_with_len from (n - from) (prefix_len (λ k. not (t k)) numbers) 0 (omega (arith, inside, first)))) ∙ stops)
-
--- The bytes from a seam on follow each other up to an index where the set has the first bit from there on.
-pub follow_to_next : (f : Flavor) (bytes : List ℕ) (from n : ℕ) → from ≤ n → n ≤ length bytes → IsSeam Unchanged f bytes from →
-    ((k : ℕ) → from ≤ k → k < n → not (follows_at Unchanged f (after_fillers bytes) k) ≡ false) →
-    (n < length bytes → not (follows_at Unchanged f (after_fillers bytes) n) ≡ true) →
-    FollowUpTo Unchanged f (drop from bytes) (n - from)
-follow_to_next f bytes from n low inside seam before there = record {
-  first = record {
-    within = omega (arith, low, inside, length-drop from bytes);
-    follow = λ k early. seam k ∙ not-false _ (before (from + k) (omega arith) (omega (arith, low, early)));
-  };
-  stops = λ more.
-      let here : from + (n - from) ≡ n = omega (arith, low) in
-      let less : n < length bytes = omega (arith, more, low, length-drop from bytes) in
-      seam (n - from) ∙ ap (follows_at Unchanged f (after_fillers bytes)) here ∙ not-true _ (there less);
-}

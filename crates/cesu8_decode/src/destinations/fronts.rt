@@ -6,12 +6,13 @@ ghost use Rattle.std.specs.Prelude.{◌≡◌, ◌+◌, ◌<◌, ◌≤◌, leng
 ghost use Rattle.cesu8_bytes.specs.TextChunks.{IsReadSoFar};
 ghost use Rattle.cesu8_bytes.specs.declared.strictness.Strictness.TheVariants.{Strict};
 ghost use Rattle.cesu8_decode.specs.Decoding.{AppendsStrictly};
-ghost use Rattle.cesu8_decode.specs.Following.{Unchanged as AllUnchanged};
+ghost use Rattle.cesu8_decode.specs.Following.{Unchanged as AllUnchanged, HasStops};
 ghost use Rattle.cesu8_decode.specs.Front.{IsFront};
 
 use crate::changed::{begins_changed, prefix_of};
 use crate::front::front;
 use crate::lanes::character_set::Unchanged;
+use crate::lanes::stops::stops_of_few;
 use crate::pass::in_place::append_strictly;
 use crate::pass::strict_few::{STRICT_TEXT, write_few_strictly};
 use crate::way::{FEW_BYTES, are_few};
@@ -41,7 +42,7 @@ pub fn append_many<F: Flavor>(bytes: &[u8], len: usize, before: Vec<u8>) -> Opti
     let mut least = FRONT;
     while least <= len && len < rest.len() {
         rest = append_to_next::<F>(rest, len, &mut text);
-        len = front::<F, Unchanged>(rest);
+        len = front::<F, Unchanged>(rest).len;
         least = LONG_FRONT;
     }
     append(&rest[..len], &mut text);
@@ -58,20 +59,25 @@ fn append_rest<F: Flavor>(bytes: &[u8], before: Vec<u8>) -> Option<Vec<u8>>
     ensures { AppendsStrictly F.flavor bytes.now before result }
 {
     if are_few(bytes) {
-        return append_few_strictly::<F>(bytes, before);
+        return append_few_strictly::<F>(bytes, stops_of_few::<F, Unchanged>(bytes), before);
     }
     append_strictly::<F>(bytes, before)
 }
 
-/// Appends the strict reading of a few bytes, by an array.
+/// Appends the strict reading of a few bytes, by the set of those that may not follow, and by an array.
 #[inline(always)]
-pub fn append_few_strictly<F: Flavor>(bytes: &[u8], before: Vec<u8>) -> Option<Vec<u8>>
+pub fn append_few_strictly<F: Flavor>(
+    bytes: &[u8],
+    stops: u64,
+    before: Vec<u8>,
+) -> Option<Vec<u8>>
     requires bytes { length bytes.now ≤ FEW_BYTES }
+    requires stops { HasStops AllUnchanged F.flavor bytes.now stops }
     requires room { vec_len before + length bytes.now ≤ vec_capacity before }
     ensures { AppendsStrictly F.flavor bytes.now before result }
 {
     let mut written = [0; STRICT_TEXT];
-    let decoded = write_few_strictly::<F>(bytes, &mut written);
+    let decoded = write_few_strictly::<F>(bytes, stops, &mut written);
     if decoded.is_ill_formed {
         return None;
     }

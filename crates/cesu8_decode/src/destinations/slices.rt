@@ -11,13 +11,15 @@ ghost use Rattle.cesu8_text.specs.Slices.{StandsAtFront};
 ghost use Rattle.cesu8_text.specs.Text.{utf8};
 ghost use Rattle.cesu8_bytes.specs.declared.strictness.Strictness.TheVariants.{Strict, Lossy};
 ghost use Rattle.cesu8_decode.specs.Decoding.{ReadsAll, room_for};
-ghost use Rattle.cesu8_decode.specs.Following.{Unchanged};
-ghost use Rattle.cesu8_decode.specs.Front.{IsFront};
+ghost use Rattle.cesu8_decode.specs.Following.{Unchanged as AllUnchanged, HasStops};
+ghost use Rattle.cesu8_decode.specs.Front.{IsPartialFront};
 ghost use Rattle.cesu8_decode.specs.PutReadings.{PutsReading};
 
 use crate::changed::begins_changed;
 use crate::decoded::Decoded;
-use crate::front::is_ill_formed;
+use crate::front::{FoundFront, is_ill_formed};
+use crate::lanes::character_set::Unchanged;
+use crate::lanes::stops::stops_of_few;
 use crate::lengths::lossy_len;
 use crate::pass::in_place::{LONG_TEXT, SHORT_TEXT, write_text};
 use crate::pass::one_block::{LOSSY_TEXT, write_one_block};
@@ -32,52 +34,50 @@ use cesu8_bytes::strictness::Strictness;
 use cesu8_bytes::writing::put::put;
 use cesu8_bytes::writing::writers::{NoRoom, copy_to_slice};
 
-/// Writes the strict reading of bytes to a caller's buffer, if it fits. So many at the front, but not
-/// all, are whole characters that are the same in UTF-8.
+/// Writes the strict reading of bytes to a caller's buffer, if it fits.
 #[inline(never)]
 pub fn put_strictly<F: Flavor>(
     bytes: &[u8],
-    front: usize,
+    front: FoundFront,
     buf: &mut [u8],
 ) -> Result<usize, Unwritten>
-    requires { IsFront Unchanged F.flavor bytes.now front × (front < length bytes.now) }
+    requires { IsPartialFront F.flavor bytes.now front }
     ensures { PutsReading F.flavor Strict bytes.now result buf.old buf.new }
 {
-    let rest = &bytes[front..];
+    // A few bytes are read whole, in less time than their front is copied.
+    if are_few(bytes) {
+        return put_few::<F>(Strictness::Strict, bytes, front.stops, buf);
+    }
+    let rest = &bytes[front.len..];
     if !begins_changed::<F>(rest) {
         return Err(Unwritten::NoText);
     }
-    // A few bytes are read whole, in less time than their front is copied.
-    if are_few(bytes) {
-        return put_few::<F>(Strictness::Strict, bytes, buf);
-    }
-    let start = front.min(buf.len());
+    let start = front.len.min(buf.len());
     match put_strictly_whole::<F>(rest, &mut buf[start..]) {
         Ok(len) => {
-            copy_short(&bytes[..front], buf);
-            Ok(front + len)
+            copy_short(&bytes[..front.len], buf);
+            Ok(front.len + len)
         }
         Err(Unwritten::NoRoom(no_room)) => Err(Unwritten::NoRoom(NoRoom {
-            needed: front + no_room.needed,
+            needed: front.len + no_room.needed,
         })),
         Err(Unwritten::NoText) => Err(Unwritten::NoText),
         Err(Unwritten::TooLong) => Err(Unwritten::TooLong),
     }
 }
 
-/// Writes the lossy reading of the bytes to a caller's buffer, if it fits. So many at the front, but
-/// not all, are whole characters that are the same in UTF-8.
+/// Writes the lossy reading of the bytes to a caller's buffer, if it fits.
 #[inline(never)]
 pub fn put_lossily<F: Flavor>(
     bytes: &[u8],
-    front: usize,
+    front: FoundFront,
     buf: &mut [u8],
 ) -> Result<usize, Unwritten>
-    requires { IsFront Unchanged F.flavor bytes.now front × (front < length bytes.now) }
+    requires { IsPartialFront F.flavor bytes.now front }
     ensures { PutsReading F.flavor Lossy bytes.now result buf.old buf.new }
 {
-    if are_few(bytes) && begins_changed::<F>(&bytes[front..]) {
-        return put_few::<F>(Strictness::Lossy, bytes, buf);
+    if are_few(bytes) && begins_changed::<F>(&bytes[front.len..]) {
+        return put_few::<F>(Strictness::Lossy, bytes, front.stops, buf);
     }
     put_by_blocks::<F>(bytes, buf)
 }
@@ -88,7 +88,10 @@ fn put_strictly_whole<F: Flavor>(bytes: &[u8], buf: &mut [u8]) -> Result<usize, 
     ensures { PutsReading F.flavor Strict bytes.now result buf.old buf.new }
 {
     match way_of(bytes) {
-        Way::OneBlock | Way::Few => put_few::<F>(Strictness::Strict, bytes, buf),
+        Way::OneBlock | Way::Few => {
+            let stops = stops_of_few::<F, Unchanged>(bytes);
+            put_few::<F>(Strictness::Strict, bytes, stops, buf)
+        }
         Way::ShortWindow => put_by_array::<F, StrictReading, SHORT_WINDOW>(bytes, buf),
         Way::LongWindow => put_by_array::<F, StrictReading, LONG_WINDOW>(bytes, buf),
         Way::Chunks => put_chunks::<F>(Strictness::Strict, bytes, buf),
@@ -109,19 +112,21 @@ fn put_by_blocks<F: Flavor>(bytes: &[u8], buf: &mut [u8]) -> Result<usize, Unwri
     }
 }
 
-/// Writes the text of a few bytes, to an array first. Lossy reading takes the time of the strict one
-/// where none is ill-formed.
+/// Writes the text of a few bytes, by the set of those that may not follow, to an array first. Lossy
+/// reading takes the time of the strict one where none is ill-formed.
 #[inline(always)]
 fn put_few<F: Flavor>(
     strictness: Strictness,
     bytes: &[u8],
+    stops: u64,
     buf: &mut [u8],
 ) -> Result<usize, Unwritten>
-    requires { length bytes.now ≤ FEW_BYTES }
+    requires bytes { length bytes.now ≤ FEW_BYTES }
+    requires stops { HasStops AllUnchanged F.flavor bytes.now stops }
     ensures { PutsReading F.flavor strictness bytes.now result buf.old buf.new }
 {
     let mut written = [0; STRICT_TEXT];
-    let decoded = write_few_strictly::<F>(bytes, &mut written);
+    let decoded = write_few_strictly::<F>(bytes, stops, &mut written);
     if decoded.is_ill_formed {
         return match strictness {
             Strictness::Strict => Err(Unwritten::NoText),

@@ -9,11 +9,11 @@ ghost use Rattle.cesu8_text.specs.Reading.{lossy_length};
 ghost use Rattle.cesu8_bytes.specs.TextChunks.{IsReadSoFar};
 ghost use Rattle.cesu8_bytes.specs.declared.strictness.Strictness.TheVariants.{Lossy};
 ghost use Rattle.cesu8_decode.specs.Decoding.{BuildsReading, AppendsStrictly, room_for};
-ghost use Rattle.cesu8_decode.specs.Following.{Unchanged};
-ghost use Rattle.cesu8_decode.specs.Front.{IsFront};
+ghost use Rattle.cesu8_decode.specs.Front.{IsPartialFront};
 
 use super::fronts::{append_few_strictly, append_many};
 use crate::changed::begins_changed;
+use crate::front::FoundFront;
 use crate::lengths::lossy_len;
 use crate::pass::in_place::{LONG_TEXT, SHORT_TEXT, write_text};
 use crate::pass::one_block::{LOSSY_TEXT, write_one_block};
@@ -25,42 +25,39 @@ use cesu8_bytes::flavor::Flavor;
 use cesu8_bytes::writing::copies::{append, copy};
 use std::alloc::{AllocError, Global};
 
-/// Writes the strict reading of bytes to an empty vector that has capacity for as many. So many at the
-/// front, but not all, are whole characters that are the same in UTF-8.
+/// Writes the strict reading of bytes to an empty vector that has capacity for as many.
 #[inline(always)]
-pub fn write_strictly<F: Flavor>(bytes: &[u8], front: usize, empty: Vec<u8>) -> Option<Vec<u8>>
-    requires front { IsFront Unchanged F.flavor bytes.now front × (front < length bytes.now) }
+pub fn write_strictly<F: Flavor>(bytes: &[u8], front: FoundFront, empty: Vec<u8>) -> Option<Vec<u8>>
+    requires front { IsPartialFront F.flavor bytes.now front }
     requires empty { (empty.items ≡ []) × (length bytes.now ≤ vec_capacity empty) }
     ensures { AppendsStrictly F.flavor bytes.now empty result }
 {
-    let rest = &bytes[front..];
-    if !begins_changed::<F>(rest) {
-        return None;
-    }
     if are_few(bytes) {
         // They are read whole, in less time than their front is copied.
-        return append_few_strictly::<F>(bytes, empty);
+        return append_few_strictly::<F>(bytes, front.stops, empty);
+    }
+    if !begins_changed::<F>(&bytes[front.len..]) {
+        return None;
     }
     // Taken apart, so that what is returned above stays in registers.
-    let text = append_many::<F>(bytes, front, empty)?;
+    let text = append_many::<F>(bytes, front.len, empty)?;
     Some(text)
 }
 
-/// Returns the lossy reading of the bytes, after one request for its length. So many at the front, but
-/// not all, are whole characters that are the same in UTF-8.
+/// Returns the lossy reading of the bytes, after one request for its length.
 #[inline(always)]
 pub fn build_lossily<F: Flavor>(
     alloc: Global,
     bytes: &[u8],
-    front: usize,
+    front: FoundFront,
 ) -> Result<Vec<u8>, AllocError>
-    requires { IsFront Unchanged F.flavor bytes.now front × (front < length bytes.now) }
+    requires { IsPartialFront F.flavor bytes.now front }
     ensures { BuildsReading F.flavor bytes.now result }
 {
     // A few bytes take the time of strict reading where none is ill-formed.
-    if are_few(bytes) && begins_changed::<F>(&bytes[front..]) {
+    if are_few(bytes) && begins_changed::<F>(&bytes[front.len..]) {
         let mut written = [0; STRICT_TEXT];
-        let decoded = write_few_strictly::<F>(bytes, &mut written);
+        let decoded = write_few_strictly::<F>(bytes, front.stops, &mut written);
         if !decoded.is_ill_formed {
             return copy(alloc, &written[..decoded.end]);
         }

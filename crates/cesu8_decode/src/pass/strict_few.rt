@@ -17,23 +17,24 @@ use crate::changed::changes;
 use crate::decoded::{Decoded, refused};
 use crate::front::may_be_crossed;
 use crate::lanes::character_set::Unchanged;
-use crate::lanes::following::{FILLER, block_behind, stops};
+use crate::lanes::stops::next_stop;
 use crate::way::{FEW_BYTES, is_one_block};
 use cesu8_bytes::BLOCK;
 use cesu8_bytes::flavor::Flavor;
 use cesu8_bytes::lanes::padded::padded_half;
-use cesu8_bytes::pairs::{PAIR, PAIR_READ, PAIR_UTF8, is_pair, utf8_of_pair};
+use cesu8_bytes::pairs::{PAIR, PAIR_READ, PAIR_UTF8, utf8_of_pair};
 use cesu8_bytes::writing::put::{put, put_lanes};
 use std::simd::prelude::*;
 
 /// The length of an array for the text. A block may be stored behind any of it.
 pub const STRICT_TEXT: usize = FEW_BYTES + BLOCK;
 
-/// Writes the strict reading of at most 64 bytes to the front of an array. It is not inlined, so that
-/// a caller's vector stays in registers.
-#[inline(never)]
-pub fn write_few_strictly<F: Flavor>(bytes: &[u8], out: &mut [u8]) -> Decoded
+/// Writes the strict reading of at most 64 bytes to the front of an array, by the set of those that may
+/// not follow.
+#[inline(always)]
+pub fn write_few_strictly<F: Flavor>(bytes: &[u8], stops: u64, out: &mut [u8]) -> Decoded
     requires bytes { length bytes.now ≤ FEW_BYTES }
+    requires stops { HasStops AllUnchanged F.flavor bytes.now stops }
     requires room { STRICT_TEXT ≤ length out.old }
     ensures read { ReadsAll F.flavor Strict bytes.now
         (take result.end out.new) result.is_ill_formed }
@@ -41,38 +42,30 @@ pub fn write_few_strictly<F: Flavor>(bytes: &[u8], out: &mut [u8]) -> Decoded
     ensures len { length out.new ≡ length out.old }
 {
     let mut source = [0; FEW_BYTES + BLOCK];
-    let stops = load::<F>(bytes, &mut source);
+    load(bytes, &mut source);
     write_by_stops::<F>(bytes, stops, &source, out)
 }
 
-/// Copies the bytes to zeros, so that a block can be loaded from any of them, and returns the set of
-/// those that may not follow those before them.
+/// Copies the bytes to zeros, so that a block can be loaded from any of them.
 #[inline(always)]
-fn load<F: Flavor>(bytes: &[u8], source: &mut [u8]) -> u64
+fn load(bytes: &[u8], source: &mut [u8])
     requires bytes { length bytes.now ≤ FEW_BYTES }
     requires zeros { source.old ≡ replicate (FEW_BYTES + BLOCK) 0 }
-    ensures stops { HasStops F.flavor bytes.now result }
-    ensures source { source.new ≡ before_zeros bytes.now }
+    ensures { source.new ≡ before_zeros bytes.now }
 {
-    let fillers = u8x32::splat(FILLER);
     if is_one_block(bytes) {
-        let block = padded_half(bytes);
-        put_lanes(block, source, 0);
-        return stops::<F, Unchanged>(block_behind(fillers, block));
+        put_lanes(padded_half(bytes), source, 0);
+        return;
     }
-    let first = u8x32::from_slice(bytes);
-    let second = padded_half(&bytes[BLOCK..]);
-    put_lanes(first, source, 0);
-    put_lanes(second, source, BLOCK);
-    let behind = stops::<F, Unchanged>(block_behind(first, second));
-    stops::<F, Unchanged>(block_behind(fillers, first)) + (behind << BLOCK)
+    put_lanes(u8x32::from_slice(bytes), source, 0);
+    put_lanes(padded_half(&bytes[BLOCK..]), source, BLOCK);
 }
 
 /// Does so by the set of the bytes that may not follow. The source has the bytes, and zeros behind.
 #[inline(always)]
 fn write_by_stops<F: Flavor>(bytes: &[u8], stops: u64, source: &[u8], out: &mut [u8]) -> Decoded
     requires bytes { length bytes.now ≤ FEW_BYTES }
-    requires stops { HasStops F.flavor bytes.now stops }
+    requires stops { HasStops AllUnchanged F.flavor bytes.now stops }
     requires source { source.now ≡ before_zeros bytes.now }
     requires room { STRICT_TEXT ≤ length out.old }
     ensures read { ReadsAll F.flavor Strict bytes.now
@@ -82,7 +75,7 @@ fn write_by_stops<F: Flavor>(bytes: &[u8], stops: u64, source: &[u8], out: &mut 
 {
     let mut read = 0;
     let mut end = 0;
-    let mut stop = next_stop::<F>(bytes, stops, source, 0);
+    let mut stop = next_stop::<F, Unchanged>(bytes, stops, 0);
     while stop < bytes.len() {
         if stop == read {
             return refused(bytes);
@@ -91,59 +84,34 @@ fn write_by_stops<F: Flavor>(bytes: &[u8], stops: u64, source: &[u8], out: &mut 
         if !changes::<F>(changed) {
             return refused(bytes);
         }
-        let copied = put_blocks(source, read, stop - 1 - read, out, end);
+        let copied = put_few(source, read, stop - 1 - read, out, end);
         let written = write_changed::<F>(changed, out, copied);
         read = stop - 1 + written.read;
         end = written.end;
-        stop = next_stop::<F>(bytes, stops, source, read);
+        stop = next_stop::<F, Unchanged>(bytes, stops, read);
     }
-    let rest = &bytes[read..];
-    if may_be_crossed::<Unchanged>(rest, rest.len()) {
+    if may_be_crossed::<Unchanged>(bytes, bytes.len()) {
         return refused(bytes);
     }
     Decoded {
         read: bytes.len(),
-        end: put_blocks(source, read, rest.len(), out, end),
+        end: put_few(source, read, bytes.len() - read, out, end),
         is_ill_formed: false,
     }
 }
 
-/// Returns the index of the first byte from a seam on that may not follow, by the set of these, or
-/// the length.
+/// Writes at most 64 bytes of the source, and others behind them, and returns the end of these.
 #[inline(always)]
-fn next_stop<F: Flavor>(bytes: &[u8], stops: u64, source: &[u8], read: usize) -> usize
-    requires bytes { length bytes.now ≤ FEW_BYTES }
-    requires stops { HasStops F.flavor bytes.now stops }
-    requires source { source.now ≡ before_zeros bytes.now }
-    requires seam { IsSeam AllUnchanged F.flavor bytes.now read × (read ≤ length bytes.now) }
-    ensures within { (read ≤ result) × (result ≤ length bytes.now) }
-    ensures up_to { FollowUpTo AllUnchanged F.flavor (drop read bytes.now) (result - read) }
-{
-    // Where one pair follows another, this does not wait for the set.
-    if is_pair(&source[read..]) {
-        return read + 1;
-    }
-    // A shift by all bits is none.
-    if read == bytes.len() {
-        return read;
-    }
-    // With no bit left, the zeros end behind the bytes.
-    (read + (stops >> read).trailing_zeros() as usize).min(bytes.len())
-}
-
-/// Writes some bytes of the source block by block, and others behind them, and returns the end of
-/// these.
-#[inline(always)]
-fn put_blocks(source: &[u8], read: usize, count: usize, out: &mut [u8], end: usize) -> usize
+fn put_few(source: &[u8], read: usize, count: usize, out: &mut [u8], end: usize) -> usize
+    requires count { count ≤ FEW_BYTES }
     requires source { read + count + BLOCK ≤ length source.now }
     requires room { end + count + BLOCK ≤ length out.old }
     ensures { WritesAt (take count (drop read source.now)) end out.old out.new result }
 {
-    let mut copied = 0;
-    while copied < count {
-        let block = u8x32::from_slice(&source[read + copied..]);
-        put_lanes(block, out, end + copied);
-        copied += BLOCK;
+    // No branch depends on a few less, which would be guessed wrong.
+    put_lanes(u8x32::from_slice(&source[read..]), out, end);
+    if count > BLOCK {
+        put_lanes(u8x32::from_slice(&source[read + BLOCK..]), out, end + BLOCK);
     }
     end + count
 }

@@ -13,11 +13,11 @@ pub returns-clause-kept : goal.returns-clause-kept
 returns-clause-kept g c =
     let f = g.F.Flavor.flavor in
     let bytes = c.args.bytes.now in (
-      λ all. (g.met.A.Accepts.known f bytes).unchanged ((all_unchanged f bytes _ c.front-front.ensures).0 all),
+      λ all. (g.met.A.Accepts.known f bytes).unchanged ((all_unchanged f bytes _ c.front-front.ensures.len).0 all),
       λ keeps. absurd (both_ways _ c.if-keeps_all.false (c.keeps_all.ensures.1 keeps)),
     )
 
 pub returns-clause-front : goal.returns-clause-front
 returns-clause-front g c other =
     let front = c.front-front.ensures in
-    (front, more_behind Unchanged g.F.Flavor.flavor c.args.bytes.now _ front other)
+    record { found = front; more = more_behind Unchanged g.F.Flavor.flavor c.args.bytes.now _ front.len other }

@@ -1,4 +1,4 @@
-use Rattle.std.proofs.Common.{◌≡◌, ◌+◌, ◌-◌, ◌<◌, subst, arith}
+use Rattle.std.proofs.Common.{◌≡◌, ◌+◌, ◌-◌, ◌<◌, length, subst, arith}
 use Rattle.cesu8_decode.specs.Following.{FirstFollow, FollowUpTo}
 use Rattle.cesu8_decode.proofs.decoder.FollowingBlocks.{follow_up_to, stop_behind}
 use Rattle.cesu8_decode.proofs.front.following_last.Goals as goal
@@ -35,3 +35,19 @@ loop-at-preserved g c =
           (omega (arith, c.loop-at.invariant.start, c.loop-at-test.true, within)) (c.following_len-len.ensures.follow bytes (at - 4) is));
       start = omega (arith, c.loop-at.invariant.start);
     }
+
+pub returns : goal.returns
+returns g c =
+    let s = g.S.CharacterSet.set in
+    let f = g.F.Flavor.flavor in
+    let bytes = c.args.bytes.now in
+    let at = length bytes - 36 in
+    let len = c.following_len.result in
+    let is = c.block_at-2.ensures in
+    let within = c.following_len.ensures.within bytes at is in
+    let long = c.requires.start.1 in
+    let end : at + len + 4 ≡ at + 4 + len = omega (arith, long) in
+    subst (FollowUpTo s f bytes) end
+    (stop_behind s f bytes c.loop-at.at at len c.loop-at.invariant.first (omega (arith, c.loop-at-test.false, long, c.loop-at.invariant.start))
+    (omega (arith, long, within)) (c.following_len.ensures.follow bytes at is)
+    (λ more. c.following_len.ensures.stops bytes at is (omega (arith, long, more))))

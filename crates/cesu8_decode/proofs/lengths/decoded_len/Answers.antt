@@ -15,26 +15,26 @@ pub returns-then-is_empty-clause-some : goal.returns-then-is_empty-clause-some
 returns-then-is_empty-clause-some g c =
     let f = g.F.Flavor.flavor in
     let bytes = c.args.bytes.now in
-    let n = c.front-front.result in
+    let n = c.front-front.result.len in
     let none : length (drop n bytes) ≡ 0 = eqb-true _ _ (sym (rw take_rest at c.is_empty.ensures) ∙ c.if-is_empty.true) in
-    let all : n ≡ length bytes = omega (arith, none, length-drop n bytes, c.front-front.ensures.within) in
+    let all : n ≡ length bytes = omega (arith, none, length-drop n bytes, c.front-front.ensures.len.within) in
     of_length (IsStrictReading f bytes) (λ len. n ≡ len) _ bytes
-    (only_kept f bytes _ _ _ (encoding_texts f bytes) Strict ((all_unchanged f bytes n c.front-front.ensures).0 all)) all
+    (only_kept f bytes _ _ _ (encoding_texts f bytes) Strict ((all_unchanged f bytes n c.front-front.ensures.len).0 all)) all
 
 pub returns-then-not-begins_changed-clause-none : goal.returns-then-not-begins_changed-clause-none
 returns-then-not-begins_changed-clause-none g c =
     let f = g.F.Flavor.flavor in
     let bytes = c.args.bytes.now in
-    let n = c.front-front.result in
+    let n = c.front-front.result.len in
     let tells = rw take_rest at c.begins_changed.ensures in
     let more : n < length bytes =
     omega (arith, eqb-false _ _ (sym (rw take_rest at c.is_empty.ensures) ∙ c.if-is_empty.false), length-drop n bytes) in
     elim c.then-not-begins_changed.branch [
       | then-not-begins_changed-via-then-not-begins_changed w ↦
-          unless_begun f bytes n c.front-front.ensures
+          unless_begun f bytes n c.front-front.ensures.len
           (λ begun. both_ways c.begins_changed.result w.if-not-begins_changed.true (tells.1 begun)) more
       | then-not-begins_changed-via-else-not-begins_changed+then-is_ill_formed w ↦
-          none_before f bytes (drop n bytes) (take n bytes) (unchanged_front_chunk f bytes n c.front-front.ensures Strict)
+          none_before f bytes (drop n bytes) (take n bytes) (unchanged_front_chunk f bytes n c.front-front.ensures.len Strict)
           (rw take_rest at (w.is_ill_formed.ensures.ill_formed w.if-is_ill_formed.true))
     ]
 
@@ -42,21 +42,21 @@ returns-then-not-begins_changed-clause-none g c =
 pub returns-in_err-rest_len-clause-none : goal.returns-in_err-rest_len-clause-none
 returns-in_err-rest_len-clause-none g c =
     let f = g.F.Flavor.flavor in
-    let rest = drop c.front-front.result c.args.bytes.now in
+    let rest = drop c.front-front.result.len c.args.bytes.now in
     let short = strict_no_longer f rest (rw take_rest at (c.is_ill_formed.ensures.whole c.if-is_ill_formed.false)) in
-    absurd (omega (arith, short, rw take_rest at c.in_err-rest_len.ensures.none, length-drop c.front-front.result c.args.bytes.now))
+    absurd (omega (arith, short, rw take_rest at c.in_err-rest_len.ensures.none, length-drop c.front-front.result.len c.args.bytes.now))
 
 pub overflow_add-result : goal.overflow_add-result
 overflow_add-result g c =
     let f = g.F.Flavor.flavor in
-    let rest = drop c.front-front.result c.args.bytes.now in
+    let rest = drop c.front-front.result.len c.args.bytes.now in
     let short = strict_no_longer f rest (rw take_rest at (c.is_ill_formed.ensures.whole c.if-is_ill_formed.false)) in
     omega (
       arith,
       short,
       rw take_rest at c.in_ok-rest_len.ensures.some,
-      length-drop c.front-front.result c.args.bytes.now,
-      c.front-front.ensures.within,
+      length-drop c.front-front.result.len c.args.bytes.now,
+      c.front-front.ensures.len.within,
     )
 
 pub returns-clause-some : goal.returns-clause-some
@@ -64,14 +64,14 @@ unfolding lossy_length
 returns-clause-some g c =
     let f = g.F.Flavor.flavor in
     let bytes = c.args.bytes.now in
-    let n = c.front-front.result in
+    let n = c.front-front.result.len in
     let rest = drop n bytes in
     let whole = rw take_rest at (c.is_ill_formed.ensures.whole c.if-is_ill_formed.false) in
     of_length (IsStrictReading f bytes) (λ len. n + c.in_ok-rest_len.rest_len ≡ len) _ _
-    (only_behind f bytes rest (take n bytes) (unchanged_front_chunk f bytes n c.front-front.ensures Strict) (reading f rest) whole)
+    (only_behind f bytes rest (take n bytes) (unchanged_front_chunk f bytes n c.front-front.ensures.len Strict) (reading f rest) whole)
     (omega (
       arith,
       rw take_rest at c.in_ok-rest_len.ensures.some,
       length-append (take n bytes) (utf8 (reading f rest)),
-      length-take-le n bytes c.front-front.ensures.within,
+      length-take-le n bytes c.front-front.ensures.len.within,
     ))

@@ -29,7 +29,7 @@ loop-least-preserved g c =
     let step = c.append_to_next-rest.ensures in
     record {
       read = more_read g.F.Flavor.flavor Strict c.args.bytes.now _ _ _ _ _ inv.read step.read;
-      front = c.front-len.ensures;
+      front = c.front-len.ensures.len;
       room = step.room;
       least = omega arith;
       capacity = step.capacity ∙ inv.capacity;

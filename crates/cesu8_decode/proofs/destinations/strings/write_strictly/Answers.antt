@@ -9,6 +9,6 @@ returns-then-not-begins_changed g c =
     record {
       text = tt;
       capacity = tt;
-      none = unless_begun g.F.Flavor.flavor c.args.bytes.now c.args.front c.requires.front.0
-          (λ begun. both_ways c.begins_changed.result c.if-not-begins_changed.true (tells.1 begun)) c.requires.front.1;
+      none = unless_begun g.F.Flavor.flavor c.args.bytes.now c.args.front.len c.requires.front.found.len
+          (λ begun. both_ways c.begins_changed.result c.if-not-begins_changed.true (tells.1 begun)) c.requires.front.more;
     }

@@ -1,14 +1,15 @@
-use Rattle.std.proofs.Common.{◌≡◌, ◌+◌, ◌-◌, ◌<◌, ◌≤◌, ◌++◌, [], ◌∙◌, refl, sym, ap, subst, arith, true≢false, length, take, drop, length-drop}
+use Rattle.std.proofs.Common.{ℕ, ◌≡◌, ◌+◌, ◌-◌, ◌<◌, ◌≤◌, ◌++◌, [], ◌∙◌, refl, sym, ap, subst, arith, true≢false, length, take, drop, length-drop}
 use Rattle.std.proofs.lemmas.Bool.{both_ways}
 use Rattle.std.proofs.lemmas.List.{take_rest, drop-drop, length-take-le}
 use Rattle.cesu8_bytes.specs.TextChunks.{IsReadSoFar}
 use Rattle.cesu8_bytes.specs.declared.strictness.Strictness.TheVariants.{Strict}
-use Rattle.cesu8_decode.specs.Following.{Unchanged, after_fillers, crosses_at}
+use Rattle.cesu8_decode.specs.Following.{Unchanged, FollowUpTo}
 use Rattle.cesu8_decode.specs.Changed.{BeginsChanged}
 use Rattle.cesu8_decode.specs.Front.{IsFront}
 use Rattle.cesu8_decode.proofs.chunks.ReadChunks.{none_left, nothing_read, more_read}
 use Rattle.cesu8_decode.proofs.chunks.FrontReadings.{none_before, front_appended}
 use Rattle.cesu8_decode.proofs.chunks.Fronts.{front_at}
+use Rattle.cesu8_decode.proofs.chunks.StopSets.{crossed_from_seam, seam_at_front}
 use Rattle.cesu8_decode.proofs.chunks.Stops.{begins_in_prefix, block_refused, copied_from, front_before, no_reading_from, prefix_from, zeros_of}
 use Rattle.cesu8_bytes.proofs.vectors.Loads.{zeros_at}
 use Rattle.cesu8_decode.proofs.pass.strict_few.write_by_stops.Goals as goal
@@ -19,6 +20,7 @@ loop-stop-init g c =
     record {
       end = omega arith;
       so_far = nothing_read g.F.Flavor.flavor Strict c.args.bytes.now [];
+      seam = seam_at_front Unchanged g.F.Flavor.flavor c.args.bytes.now;
       within = from.within;
       up_to = from.up_to;
       len = refl;
@@ -99,16 +101,17 @@ loop-stop-preserved g c =
     front_before f rest n (subst (BeginsChanged f) (sym place) begins) (stop - read) inv.up_to (omega (arith, some)) in
     let copy = copied_from bytes (zeros_of bytes) source (zeros_at _) c.requires.source read n (omega (arith, here, c.loop-stop-test.true)) in
     let long = length-take-le n rest front.within in
-    let put = c.put_blocks-copied.ensures in
+    let put = c.put_few-copied.ensures in
     let copied = front_appended f rest n front bytes [] _ _ inv.so_far (put.bytes ∙ ap (λ bs. take c.loop-stop.end c.loop-stop.out ++ bs) copy) in
     let read_on = written.read (drop (stop - 1) bytes) same in
     let next = c.next_stop-stop-in-loop-stop.ensures in
-    let before = take c.put_blocks-copied.result c.put_blocks-copied.new.out in
+    let before = take c.put_few-copied.result c.put_few-copied.new.out in
     let after = take c.write_changed-written.result.end c.write_changed-written.new.out in
     record {
       end = omega (arith, written.within, put.end, ap length copy, long, inv.end, here);
       so_far = subst (λ rest. IsReadSoFar f Strict bytes rest [] after) (drop-drop c.write_changed-written.result.read (stop - 1) bytes)
           (more_read f Strict bytes (drop (stop - 1) bytes) _ [] _ _ (subst (λ rest. IsReadSoFar f Strict bytes rest [] before) place copied) read_on);
+      seam = written.seam bytes (stop - 1) same;
       within = next.within;
       up_to = next.up_to;
       len = written.len ∙ put.len ∙ inv.len;
@@ -121,10 +124,10 @@ returns-then-may_be_crossed-clause-read g c =
     let read = c.loop-stop.read in
     let rest = drop read bytes in
     let inv = c.loop-stop.invariant in
-    let crosses = rw take_rest at c.may_be_crossed.ensures in
     let none = no_reading_from f rest (c.loop-stop.stop - read) inv.up_to
     (λ more some. absurd (omega (arith, more, c.loop-stop-test.false, length-drop read bytes)))
-    (λ all. ap (crosses_at Unchanged (after_fillers rest)) all ∙ sym crosses ∙ c.if-may_be_crossed.true) in
+    (λ all. crossed_from_seam Unchanged f bytes read (c.loop-stop.stop - read) inv.seam (omega (arith, all, length-drop read bytes, inv.within))
+    ∙ sym c.may_be_crossed.ensures ∙ c.if-may_be_crossed.true) in
     block_refused f bytes _ _ (none_before f bytes rest _ inv.so_far none) c.refused-then-may_be_crossed.ensures.2
 
 pub returns-clause-read : goal.returns-clause-read
@@ -132,17 +135,17 @@ returns-clause-read g c =
     let f = g.F.Flavor.flavor in
     let bytes = c.args.bytes.now in
     let read = c.loop-stop.read in
-    let m = c.loop-stop.stop - read in
+    let m = length bytes - read in
     let rest = drop read bytes in
     let inv = c.loop-stop.invariant in
-    let all : m ≡ length rest = omega (arith, inv.up_to.first.within, inv.within, c.loop-stop-test.false, length-drop read bytes) in
-    let crosses = rw take_rest at c.may_be_crossed.ensures in
-    let none = ap (crosses_at Unchanged (after_fillers rest)) all ∙ sym crosses ∙ c.if-may_be_crossed.false in
-    let front = front_at Unchanged f rest m m inv.up_to (omega arith) none (λ k past inside. absurd (omega (arith, past, inside))) in
-    let copy = copied_from bytes (zeros_of bytes) c.args.source.now (zeros_at _) c.requires.source read m (omega (arith, all, inv.within, length-drop read bytes)) in
-    let put = rw (take_rest, sym all) at c.put_blocks.ensures in
-    let text = take c.put_blocks.result c.put_blocks.new.out in
-    let chunk = front_appended f rest m front bytes [] _ text inv.so_far (put.bytes ∙ ap (λ bs. take c.loop-stop.end c.loop-stop.out ++ bs) copy) in
+    let end : c.loop-stop.stop - read ≡ m = omega (arith, inv.within, c.loop-stop-test.false) in
+    let up_to = subst (FollowUpTo Unchanged f rest) end inv.up_to in
+    let all = length-drop read bytes in
+    let none = crossed_from_seam Unchanged f bytes read m inv.seam (omega (arith, inv.within)) ∙ sym c.may_be_crossed.ensures ∙ c.if-may_be_crossed.false in
+    let front = front_at Unchanged f rest m m up_to (omega arith) none (λ k past inside. absurd (omega (arith, past, inside))) in
+    let copy = copied_from bytes (zeros_of bytes) c.args.source.now (zeros_at _) c.requires.source read m (omega (arith, inv.within)) in
+    let text = take c.put_few.result c.put_few.new.out in
+    let chunk = front_appended f rest m front bytes [] _ text inv.so_far (c.put_few.ensures.bytes ∙ ap (λ bs. take c.loop-stop.end c.loop-stop.out ++ bs) copy) in
     record {
       all = λ _. none_left f Strict bytes (drop m rest) _ _ chunk (omega (arith, length-drop m rest, all));
       ill_formed = λ ill_formed. absurd (true≢false (sym ill_formed));
