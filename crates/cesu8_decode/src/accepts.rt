@@ -1,6 +1,6 @@
 //! What a call that decodes takes, as types.
 
-ghost use Rattle.std.specs.Prelude.{◌≡◌, ◌↔◌, ◌<◌, ℕ, ◌≤◌, List, IsTrue, IsUtf8, length, drop};
+ghost use Rattle.std.specs.Prelude.{◌≡◌, ◌↔◌, ℕ, ◌≤◌, List, IsTrue, IfNone, IfSome, IsUtf8, length, drop};
 ghost use Rattle.cesu8_text.specs.Class.{IsChangedByte, IsUnchangedUtf8};
 ghost use Rattle.cesu8_text.specs.Encoding.{Flavor as AnyFlavor};
 ghost use Rattle.cesu8_text.specs.Reading.{IsStrictReading, IsLenientReading, reading, IsLenientLossyReading};
@@ -38,10 +38,28 @@ pub trait Accepts {
         → KnowsTexts f bytes (keeps f bytes) (reads f bytes) (reads_lossily f bytes) };
 }
 
-/// Returns the bytes at the front that are whole characters that are the same in UTF-8, or all bytes
-/// if a call that takes `A` keeps them.
+/// Returns the bytes at the front that are whole characters that are the same in UTF-8, unless a call
+/// that takes `A` keeps all bytes.
 #[inline(always)]
-pub fn front_unless_kept<F: Flavor, A: Accepts>(bytes: &[u8]) -> FoundFront
+pub fn front_unless_kept<F: Flavor, A: Accepts>(bytes: &[u8]) -> Option<FoundFront>
+    ensures kept { IfNone result (A.keeps F.flavor bytes.now) }
+    ensures other { IfSome result (λ _. ¬ (A.keeps F.flavor bytes.now)) }
+    ensures front { IfSome result (IsPartialFront F.flavor bytes.now) }
+{
+    if A::is_short_kept_ascii::<F>(bytes) {
+        return None;
+    }
+    let front = front_of_other::<F, A>(bytes);
+    if front.len == bytes.len() {
+        return None;
+    }
+    Some(front)
+}
+
+/// Returns that front, or all bytes if they are kept. It is not inlined, so that the test for short
+/// ASCII stays small, and returns two words, which stay in registers.
+#[inline(never)]
+pub fn front_of_other<F: Flavor, A: Accepts>(bytes: &[u8]) -> FoundFront
     ensures kept { result.len ≡ length bytes.now ↔ A.keeps F.flavor bytes.now }
     ensures front { ¬ (result.len ≡ length bytes.now) → IsPartialFront F.flavor bytes.now result }
 {

@@ -1,13 +1,14 @@
 //! Decodes to a caller's buffer: copies bytes that a call keeps, and writes the text of others.
 
+ghost use Rattle.std.specs.Prelude.{◌≡◌};
 ghost use Rattle.cesu8_decode.specs.PutReadings.{PutsText, ReadsAs};
 
-use crate::accepts::{Accepts, front_unless_kept};
+use crate::accepts::{Accepts, front_of_other};
 use crate::destinations::slices::{put_lossily, put_strictly};
 use crate::refusal::Unwritten;
 use cesu8_bytes::flavor::Flavor;
 use cesu8_bytes::strictness::Strictness;
-use cesu8_bytes::writing::writers::{copy_to_slice, copy_to_slice_by_call};
+use cesu8_bytes::writing::writers::copy_to_slice;
 
 /// Writes what a call that takes `A` reads in the bytes to a caller's buffer, if it fits, and
 /// returns its length in bytes.
@@ -26,8 +27,8 @@ pub fn decode_to_slice<F: Flavor, A: Accepts>(
     decode_other_to_slice::<F, A>(strictness, bytes, buf)
 }
 
-/// Does so for bytes that are not short ASCII. It is never inlined, so that the test for that stays
-/// small.
+/// Does so for bytes that are no short ASCII. It is not inlined, so that these have few registers to
+/// save.
 #[inline(never)]
 fn decode_other_to_slice<F: Flavor, A: Accepts>(
     strictness: Strictness,
@@ -37,12 +38,24 @@ fn decode_other_to_slice<F: Flavor, A: Accepts>(
     ensures { PutsText strictness (ReadsAs strictness (A.reads F.flavor bytes.now)
         (A.reads_lossily F.flavor bytes.now)) result buf.old buf.new }
 {
-    let front = front_unless_kept::<F, A>(bytes);
+    let front = front_of_other::<F, A>(bytes);
     if front.len == bytes.len() {
-        return copy_to_slice_by_call(bytes, buf).map_err(Unwritten::NoRoom);
+        return copy_to_slice(bytes, buf).map_err(Unwritten::NoRoom);
     }
     match strictness {
-        Strictness::Strict => put_strictly::<F>(bytes, front, buf),
-        Strictness::Lossy => put_lossily::<F>(bytes, front, buf),
+        Strictness::Strict => by_parts(put_strictly::<F>(bytes, front, buf)),
+        Strictness::Lossy => by_parts(put_lossily::<F>(bytes, front, buf)),
+    }
+}
+
+/// Returns what it is given, copied part by part. A copy of the whole would wait until the parts, which
+/// were stored by themselves, are in memory.
+#[inline(always)]
+fn by_parts(put: Result<usize, Unwritten>) -> Result<usize, Unwritten>
+    ensures { result ≡ put }
+{
+    match put {
+        Ok(len) => Ok(len),
+        Err(unwritten) => Err(unwritten),
     }
 }

@@ -1,10 +1,8 @@
 //! The calls for both flavors: each borrows if no byte changes, and builds otherwise.
 //!
-//! Decoding returns short ASCII first, in a function that is inlined into the public call. The
-//! rest of it, in a function whose name ends in `other` or `called`, is never inlined, so that this
-//! test stays small. It begins with the front, the characters that are the same in UTF-8. A call
-//! borrows if it keeps all bytes, and else what stands behind the front decides. What it takes is a
-//! type, `Lenient` or `EncodingAlone`. Of strings in a row one look shows short ASCII.
+//! Decoding begins with the front, the characters that are the same in UTF-8. A call borrows if it
+//! keeps all bytes, and else what stands behind the front decides. What it takes is a type, `Lenient`
+//! or `EncodingAlone`. Of strings in a row one look shows short ASCII.
 
 ghost use Rattle.std.specs.Prelude.{take};
 ghost use Rattle.simd_cesu8.specs.Calls.{Encodes, DecodesAs, DecodesLossily, DecodesStrictly};
@@ -38,24 +36,9 @@ pub fn decode_as<F: Flavor, A: Accepts>(
 ) -> Result<CowText<'_>, DecodeFault>
     ensures { DecodesAs (A.keeps F.flavor bytes.now) (A.reads F.flavor bytes.now) bytes.now result }
 {
-    if A::is_short_kept_ascii::<F>(bytes) {
+    let Some(front) = front_unless_kept::<F, A>(bytes) else {
         return Ok(CowText::Borrowed(known_text(bytes)));
-    }
-    decode_other::<F, A>(alloc, bytes)
-}
-
-/// Decodes bytes that are no short ASCII.
-#[inline(never)]
-fn decode_other<F: Flavor, A: Accepts>(
-    alloc: Global,
-    bytes: &[u8],
-) -> Result<CowText<'_>, DecodeFault>
-    ensures { DecodesAs (A.keeps F.flavor bytes.now) (A.reads F.flavor bytes.now) bytes.now result }
-{
-    let front = front_unless_kept::<F, A>(bytes);
-    if front.len == bytes.len() {
-        return Ok(CowText::Borrowed(known_text(bytes)));
-    }
+    };
     let built = internal::decode_strict::<F>(alloc, bytes, front)?;
     Ok(CowText::Owned(built))
 }
@@ -70,38 +53,26 @@ pub fn decode_strict_front<F: Flavor>(
 {
     let len = len.min(bytes.len());
     let front = &bytes[..len];
-    let is_shown = is_shown_at_once(bytes, len);
-    if is_shown && begins_with_unchanged_ascii::<F>(bytes, len) {
+    if is_shown_at_once(bytes, len) && begins_with_unchanged_ascii::<F>(bytes, len) {
         return Ok(CowText::Borrowed(known_text(front)));
     }
-    decode_strict_by_call::<F>(alloc, front, is_shown)
+    decode_strict_by_call::<F>(alloc, front)
 }
 
 /// Makes the call below. The room for its result is cleared at the start of the function that makes
 /// it, so this is one of its own, and the look at the front clears nothing.
 #[inline(always)]
-fn decode_strict_by_call<F: Flavor>(
-    alloc: Global,
-    bytes: &[u8],
-    is_shown: bool,
-) -> Result<CowText<'_>, DecodeFault>
+fn decode_strict_by_call<F: Flavor>(alloc: Global, bytes: &[u8]) -> Result<CowText<'_>, DecodeFault>
     ensures { DecodesStrictly F.flavor bytes.now result }
 {
-    decode_strict_called::<F>(alloc, bytes, is_shown)
+    decode_strict_called::<F>(alloc, bytes)
 }
 
-/// Returns the strict reading of bytes that are no short ASCII, or have not been looked at.
+/// Returns the strict reading. It is not inlined, so that the look at the front stays small.
 #[inline(never)]
-fn decode_strict_called<F: Flavor>(
-    alloc: Global,
-    bytes: &[u8],
-    is_shown: bool,
-) -> Result<CowText<'_>, DecodeFault>
+fn decode_strict_called<F: Flavor>(alloc: Global, bytes: &[u8]) -> Result<CowText<'_>, DecodeFault>
     ensures { DecodesStrictly F.flavor bytes.now result }
 {
-    if is_shown {
-        return decode_other::<F, EncodingAlone>(alloc, bytes);
-    }
     decode_as::<F, EncodingAlone>(alloc, bytes)
 }
 
@@ -114,25 +85,9 @@ pub fn decode_lossy_as<F: Flavor, A: Accepts>(
     ensures { DecodesLossily F.flavor (A.keeps F.flavor bytes.now)
         (A.reads_lossily F.flavor bytes.now) bytes.now result }
 {
-    if A::is_short_kept_ascii::<F>(bytes) {
+    let Some(front) = front_unless_kept::<F, A>(bytes) else {
         return Ok(CowText::Borrowed(known_text(bytes)));
-    }
-    decode_lossy_other::<F, A>(alloc, bytes)
-}
-
-/// Does so for bytes that are no short ASCII.
-#[inline(never)]
-fn decode_lossy_other<F: Flavor, A: Accepts>(
-    alloc: Global,
-    bytes: &[u8],
-) -> Result<CowText<'_>, AllocError>
-    ensures { DecodesLossily F.flavor (A.keeps F.flavor bytes.now)
-        (A.reads_lossily F.flavor bytes.now) bytes.now result }
-{
-    let front = front_unless_kept::<F, A>(bytes);
-    if front.len == bytes.len() {
-        return Ok(CowText::Borrowed(known_text(bytes)));
-    }
+    };
     let built = internal::decode_lossy::<F>(alloc, bytes, front)?;
     Ok(CowText::Owned(built))
 }

@@ -22,11 +22,3 @@ pub fn copy_to_slice(bytes: &[u8], buf: &mut [u8]) -> Result<usize, NoRoom>
     copy_short(bytes, buf);
     Ok(len)
 }
-
-/// Copies in the same way. It is not inlined: the copy is long, and only short ones need it at hand.
-#[inline(never)]
-pub fn copy_to_slice_by_call(bytes: &[u8], buf: &mut [u8]) -> Result<usize, NoRoom>
-    ensures { PutsAnswer bytes.now result buf.old buf.new }
-{
-    copy_to_slice(bytes, buf)
-}

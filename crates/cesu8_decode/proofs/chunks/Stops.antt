@@ -275,8 +275,10 @@ seam_behind f bytes n low high second = record { follows = by_offset; crosses = 
 
     by_boundary : (k : ℕ) → crosses_at Unchanged (after_fillers rest) k ≡ crosses_at Unchanged (after_fillers bytes) (n + 2 + k)
     by_boundary zero =
-        sym (rw (lt-leb 0xC0 (w (n + 2 + 0 + 3)) (omega (arith, at (n + 2 + 0 + 3) (n + 1) (omega arith), high)),
-        lt-leb 0xE0 (w (n + 2 + 0 + 2)) (omega (arith, at (n + 2 + 0 + 2) n (omega arith), second))) refl)
+        sym (rw (
+          lt-leb 0xC0 (w (n + 2 + 0 + 3)) (omega (arith, at (n + 2 + 0 + 3) (n + 1) (omega arith), high)),
+          lt-leb 0xE0 (w (n + 2 + 0 + 2)) (omega (arith, at (n + 2 + 0 + 2) n (omega arith), second)),
+        ) refl)
     by_boundary (suc zero) =
         rw (lt-leb 0xE0 (w (n + 2 + 1 + 2)) (omega (arith, at (n + 2 + 1 + 2) (n + 1) (omega arith), high)))
         (λ i. leb 0xC0 (there (n + 2 + 1 + 3) 0 (omega arith) i) || false)

@@ -9,7 +9,8 @@ ghost use Rattle.cesu8_text.specs.Reading.{lossy_length};
 ghost use Rattle.cesu8_bytes.specs.TextChunks.{IsReadSoFar};
 ghost use Rattle.cesu8_bytes.specs.declared.strictness.Strictness.TheVariants.{Lossy};
 ghost use Rattle.cesu8_decode.specs.Decoding.{BuildsReading, AppendsStrictly, room_for};
-ghost use Rattle.cesu8_decode.specs.Front.{IsPartialFront};
+ghost use Rattle.cesu8_decode.specs.Following.{Unchanged};
+ghost use Rattle.cesu8_decode.specs.Front.{IsFront, IsPartialFront};
 
 use super::fronts::{append_few_strictly, append_many};
 use crate::changed::begins_changed;
@@ -36,12 +37,21 @@ pub fn write_strictly<F: Flavor>(bytes: &[u8], front: FoundFront, empty: Vec<u8>
         // They are read whole, in less time than their front is copied.
         return append_few_strictly::<F>(bytes, front.stops, empty);
     }
-    if !begins_changed::<F>(&bytes[front.len..]) {
+    write_many::<F>(bytes, front.len, empty)
+}
+
+/// Does so for more than a few bytes. The room for what is returned is cleared at the start of the
+/// function that makes the call, so this is one of its own, and few bytes clear nothing.
+#[inline(always)]
+fn write_many<F: Flavor>(bytes: &[u8], front: usize, empty: Vec<u8>) -> Option<Vec<u8>>
+    requires front { IsFront Unchanged F.flavor bytes.now front × (front < length bytes.now) }
+    requires empty { (empty.items ≡ []) × (length bytes.now ≤ vec_capacity empty) }
+    ensures { AppendsStrictly F.flavor bytes.now empty result }
+{
+    if !begins_changed::<F>(&bytes[front..]) {
         return None;
     }
-    // Taken apart, so that what is returned above stays in registers.
-    let text = append_many::<F>(bytes, front.len, empty)?;
-    Some(text)
+    append_many::<F>(bytes, front, empty)
 }
 
 /// Returns the lossy reading of the bytes, after one request for its length.

@@ -1,4 +1,4 @@
-use Rattle.std.proofs.Common.{◌≡◌, ℕ, ◌++◌, refl, arith, drop, replicate}
+use Rattle.std.proofs.Common.{ℕ, ◌++◌, refl, arith, drop, replicate}
 use Rattle.cesu8_decode.proofs.chunks.StopSets.{behind_none, stops_here, with_zeros}
 use Rattle.cesu8_decode.proofs.lanes.stops.stops_of_few.Goals as goal
 

@@ -1,4 +1,4 @@
-use Rattle.std.proofs.Common.{ℕ, ◌≡◌, ◌+◌, ◌-◌, ◌<◌, ◌≤◌, ◌++◌, [], ◌∙◌, refl, sym, ap, subst, arith, true≢false, length, take, drop, length-drop}
+use Rattle.std.proofs.Common.{◌≡◌, ◌+◌, ◌-◌, ◌<◌, ◌≤◌, ◌++◌, [], ◌∙◌, refl, sym, ap, subst, arith, true≢false, length, take, drop, length-drop}
 use Rattle.std.proofs.lemmas.Bool.{both_ways}
 use Rattle.std.proofs.lemmas.List.{take_rest, drop-drop, length-take-le}
 use Rattle.cesu8_bytes.specs.TextChunks.{IsReadSoFar}
