@@ -1,13 +1,23 @@
 //! Characters that have other bytes in UTF-8, at the front of bytes: surrogate pairs, and C0 80 in
 //! MUTF-8.
 
-ghost use Rattle.std.specs.Prelude.{◌≡◌, ◌↔◌, ◌≤◌, length, replicate, IsTrue};
+ghost use Rattle.std.specs.Prelude.{◌≡◌, ◌↔◌, ◌≤◌, ℕ, List, length, replicate, slice_index, IsTrue};
+ghost use Rattle.cesu8_text.specs.Encoding.{Flavor as AnyFlavor};
 ghost use Rattle.cesu8_decode.specs.Changed.{BeginsChanged};
 ghost use Rattle.cesu8_decode.specs.DecodedOffsets.{IsPrefixOf};
 
 use cesu8_bytes::flavor::Flavor;
 use cesu8_bytes::lanes::short::copy_short;
 use cesu8_bytes::pairs::{PAIR_READ, is_pair};
+
+/// Returns whether a byte may begin such a character.
+#[inline(always)]
+pub fn may_lead_changed(byte: u8) -> bool
+    ensures { (f : AnyFlavor) (bytes : List ℕ) → BeginsChanged f bytes
+        → slice_index bytes 0 ≡ byte → IsTrue result }
+{
+    (byte == 0xED) | (byte == 0xC0)
+}
 
 /// Returns whether the bytes begin with a character that has other bytes in UTF-8.
 #[inline(always)]

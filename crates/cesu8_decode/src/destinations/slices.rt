@@ -15,7 +15,7 @@ ghost use Rattle.cesu8_decode.specs.Following.{Unchanged as AllUnchanged, HasSto
 ghost use Rattle.cesu8_decode.specs.Front.{IsPartialFront};
 ghost use Rattle.cesu8_decode.specs.PutReadings.{PutsReading};
 
-use crate::changed::begins_changed;
+use crate::changed::{begins_changed, may_lead_changed};
 use crate::decoded::Decoded;
 use crate::front::{FoundFront, is_ill_formed};
 use crate::lanes::character_set::Unchanged;
@@ -44,6 +44,9 @@ pub fn put_strictly<F: Flavor>(
     requires { IsPartialFront F.flavor bytes.now front }
     ensures { PutsReading F.flavor Strict bytes.now result buf.old buf.new }
 {
+    if !may_lead_changed(bytes[front.len]) {
+        return Err(Unwritten::NoText);
+    }
     // A few bytes are read whole, in less time than their front is copied.
     if are_few(bytes) {
         return put_few::<F>(Strictness::Strict, bytes, front.stops, buf);
@@ -76,7 +79,7 @@ pub fn put_lossily<F: Flavor>(
     requires { IsPartialFront F.flavor bytes.now front }
     ensures { PutsReading F.flavor Lossy bytes.now result buf.old buf.new }
 {
-    if are_few(bytes) && begins_changed::<F>(&bytes[front.len..]) {
+    if are_few(bytes) && may_lead_changed(bytes[front.len]) {
         return put_few::<F>(Strictness::Lossy, bytes, front.stops, buf);
     }
     put_by_blocks::<F>(bytes, buf)

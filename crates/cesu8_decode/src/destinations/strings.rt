@@ -13,7 +13,7 @@ ghost use Rattle.cesu8_decode.specs.Following.{Unchanged};
 ghost use Rattle.cesu8_decode.specs.Front.{IsFront, IsPartialFront};
 
 use super::fronts::{append_few_strictly, append_many};
-use crate::changed::begins_changed;
+use crate::changed::{begins_changed, may_lead_changed};
 use crate::front::FoundFront;
 use crate::lengths::lossy_len;
 use crate::pass::in_place::{LONG_TEXT, SHORT_TEXT, write_text};
@@ -33,6 +33,9 @@ pub fn write_strictly<F: Flavor>(bytes: &[u8], front: FoundFront, empty: Vec<u8>
     requires empty { (empty.items ≡ []) × (length bytes.now ≤ vec_capacity empty) }
     ensures { AppendsStrictly F.flavor bytes.now empty result }
 {
+    if !may_lead_changed(bytes[front.len]) {
+        return None;
+    }
     if are_few(bytes) {
         // They are read whole, in less time than their front is copied.
         return append_few_strictly::<F>(bytes, front.stops, empty);
@@ -65,7 +68,7 @@ pub fn build_lossily<F: Flavor>(
     ensures { BuildsReading F.flavor bytes.now result }
 {
     // A few bytes take the time of strict reading where none is ill-formed.
-    if are_few(bytes) && begins_changed::<F>(&bytes[front.len..]) {
+    if are_few(bytes) && may_lead_changed(bytes[front.len]) {
         let mut written = [0; STRICT_TEXT];
         let decoded = write_few_strictly::<F>(bytes, front.stops, &mut written);
         if !decoded.is_ill_formed {
