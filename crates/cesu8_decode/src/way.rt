@@ -10,8 +10,7 @@
 //! | more | `Chunks` | chunks | chunks |
 //!
 //! - By stops: `strict_few` goes from one character that changes to the next. Up to 64 bytes go so in
-//!   lossy reading too, where the first that does not stay begins such a character, and none is
-//!   ill-formed.
+//!   lossy reading too, where ED or C0 stands behind the front, and none is ill-formed.
 //! - One block: with no branch on each byte, which would be guessed wrong.
 //! - The windows: one pass, 32 bytes at a time with no branch on a byte, to an array, from which the
 //!   text is copied. A smaller array is made in less time.

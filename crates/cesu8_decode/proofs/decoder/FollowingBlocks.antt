@@ -1,8 +1,8 @@
 -- Which bytes of a block may follow those before them.
-use Rattle.std.proofs.Common.{◌≡◌, ℕ, zero, suc, ◌+◌, ◌<◌, ◌≤◌, ⊎_elim, Bool, true, false, cond, List, [], ◌∷◌, map, length, get_or, replicate, eqb, leb, bit_or, refl, sym, ap, ◌∙◌, subst, arith, drop, ◌-◌, ◌++◌, not, true≢false, add-zero, take, append_assoc, min}
+use Rattle.std.proofs.Common.{◌≡◌, ℕ, zero, suc, ◌+◌, ◌<◌, ◌≤◌, ⊎_elim, Bool, true, false, cond, List, [], ◌∷◌, map, length, get_or, replicate, eqb, leb, bit_or, refl, sym, ap, ◌∙◌, subst, arith, drop, ◌-◌, ◌++◌, not, true≢false, add-zero, take}
 use Rattle.std.specs.List.{range_with_len, prefix_len}
 use Rattle.std.proofs.lemmas.Bool.{leb-false, lt-leb, ne_eqb, not-false, not-true, or_parts, cases_lt, cases_Bool}
-use Rattle.std.proofs.lemmas.List.{get_or_append_left, get_or-drop, length-take-le, take-append-drop}
+use Rattle.std.proofs.lemmas.List.{get_or_append_left, length-take-le, take-append-drop}
 use Rattle.std.proofs.lemmas.List.FromFn.{get_or-map-range_with_len, length-map-range_with_len}
 use Rattle.std.proofs.lemmas.List.Sums.{prefix_len-le-length, prefix_len_passes, prefix_len_stops}
 use Rattle.std.proofs.lemmas.Simd.{pick_l-range_with_len, map-map}
@@ -260,21 +260,7 @@ pub follows_in_front : (s : CharacterSet) (f : Flavor) (bytes rest : List ℕ) (
 follows_in_front s f bytes rest k inside =
     follows_agrees s f (after_fillers (bytes ++ rest)) (after_fillers bytes) k k (λ j few. in_front bytes rest (k + j) (omega arith))
 
--- What is found of more bytes is found of those at their front,
-pub front_in_block : (s : CharacterSet) (f : Flavor) (bytes rest : List ℕ) (n : ℕ) → AllFollow s f (after_fillers (bytes ++ rest)) 0 n →
-    (n < length bytes → follows_at s f (after_fillers (bytes ++ rest)) n ≡ false) → FollowUpTo s f bytes (min n (length bytes))
-front_in_block s f bytes rest n follow stops = record {
-  first = record {
-    within = omega arith;
-    follow = λ k before. sym (follows_in_front s f bytes rest k (omega (arith, before))) ∙ follow k (omega arith) (omega (arith, before));
-  };
-  stops = λ more.
-      let here : min n (length bytes) ≡ n = omega (arith, more) in
-      subst (λ k. follows_at s f (after_fillers bytes) k ≡ false) (sym here)
-      (sym (follows_in_front s f bytes rest n (omega (arith, more))) ∙ stops (omega (arith, more)));
-}
-
--- and the other way round.
+-- What is found of bytes at the front is found of more,
 pub first_of_front : (s : CharacterSet) (f : Flavor) (bytes : List ℕ) (m n : ℕ) → m ≤ length bytes → FirstFollow s f (take m bytes) n → FirstFollow s f bytes n
 first_of_front s f bytes m n fits first =
     let long = length-take-le m bytes fits in
@@ -314,33 +300,3 @@ ones_follow s f bytes n fits ones = record {
     low (suc (suc zero)) before = omega arith
     low (suc (suc (suc zero))) before = omega arith
     low (suc (suc (suc (suc k)))) before = (ones k (omega (arith, before))).0
-
--- The bytes behind a block, in one of their own behind that.
-pub end_of_front : (s : CharacterSet) (f : Flavor) (bytes rest : List ℕ) (start n : ℕ) → FirstFollow s f bytes start → 32 ≤ start →
-    AllFollow s f (drop 28 (take 32 bytes ++ (drop 32 bytes ++ rest))) 0 n →
-    (n < length bytes - 32 → follows_at s f (drop 28 (take 32 bytes ++ (drop 32 bytes ++ rest))) n ≡ false) →
-    FollowUpTo s f bytes (32 + min n (length bytes - 32))
-end_of_front s f bytes rest start n before long follow stops =
-    let window = drop 28 (take 32 bytes ++ (drop 32 bytes ++ rest)) in
-    let whole : take 32 bytes ++ (drop 32 bytes ++ rest) ≡ bytes ++ rest =
-    sym (append_assoc (take 32 bytes) (drop 32 bytes) rest) ∙ ap (λ bytes. bytes ++ rest) (take-append-drop 32 bytes) in
-    let same : (j : ℕ) → 32 + j < length bytes → follows_at s f window j ≡ follows_at s f (after_fillers bytes) (32 + j) = λ j inside.
-    follows_agrees s f window (after_fillers bytes) j (32 + j) (λ k few.
-    let there : 32 + j + k ≡ 28 + (j + k) + 4 = omega arith in
-    get_or-drop 28 (take 32 bytes ++ (drop 32 bytes ++ rest)) (j + k) 0 ∙ ap (λ bytes. get_or bytes (28 + (j + k)) 0) whole
-    ∙ get_or_append_left bytes rest 0 (28 + (j + k)) (omega (arith, inside, few))
-    ∙ sym (behind_fillers bytes (28 + (j + k))) ∙ ap (λ p. get_or (after_fillers bytes) p 0) (sym there)) in
-    record {
-      first = record {
-        within = omega (arith, before.within, long);
-        follow = λ k inside. ⊎_elim (λ (early : k < 32). before.follow k (omega (arith, early, long)))
-            (λ (late : 32 ≤ k).
-            let place : 32 + (k - 32) ≡ k = omega (arith, late) in
-            subst (λ k. follows_at s f (after_fillers bytes) k ≡ true) place
-            (sym (same (k - 32) (omega (arith, inside, late))) ∙ follow (k - 32) (omega arith) (omega (arith, inside, late)))) (cases_lt k 32);
-      };
-      stops = λ more.
-          let here : min n (length bytes - 32) ≡ n = omega (arith, more) in
-          subst (λ k. follows_at s f (after_fillers bytes) (32 + k) ≡ false) (sym here)
-          (sym (same n (omega (arith, more))) ∙ stops (omega (arith, more)));
-    }

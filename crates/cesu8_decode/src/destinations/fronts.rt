@@ -67,7 +67,6 @@ fn append_rest<F: Flavor>(bytes: &[u8], before: Vec<u8>) -> Option<Vec<u8>>
 /// Appends the strict reading of a few bytes, by the set of those that may not follow, and by an array.
 #[inline(always)]
 pub fn append_few_strictly<F: Flavor>(bytes: &[u8], stops: u64, before: Vec<u8>) -> Option<Vec<u8>>
-    requires bytes { length bytes.now ≤ FEW_BYTES }
     requires stops { HasStops AllUnchanged F.flavor bytes.now stops }
     requires room { vec_len before + length bytes.now ≤ vec_capacity before }
     ensures { AppendsStrictly F.flavor bytes.now before result }

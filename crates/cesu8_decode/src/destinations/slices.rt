@@ -124,7 +124,6 @@ fn put_few<F: Flavor>(
     stops: u64,
     buf: &mut [u8],
 ) -> Result<usize, Unwritten>
-    requires bytes { length bytes.now ≤ FEW_BYTES }
     requires stops { HasStops AllUnchanged F.flavor bytes.now stops }
     ensures { PutsReading F.flavor strictness bytes.now result buf.old buf.new }
 {

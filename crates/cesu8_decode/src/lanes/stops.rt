@@ -40,7 +40,6 @@ fn stops_of_two<F: Flavor, S: CharacterSet>(bytes: &[u8]) -> u64
 /// the length.
 #[inline(always)]
 pub fn next_stop<F: Flavor, S: CharacterSet>(bytes: &[u8], stops: u64, read: usize) -> usize
-    requires bytes { length bytes.now ≤ FEW_BYTES }
     requires stops { HasStops S.set F.flavor bytes.now stops }
     requires seam { IsSeam S.set F.flavor bytes.now read × (read ≤ length bytes.now) }
     ensures within { (read ≤ result) × (result ≤ length bytes.now) }

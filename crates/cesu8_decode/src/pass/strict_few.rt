@@ -33,7 +33,6 @@ pub const STRICT_TEXT: usize = FEW_BYTES + BLOCK;
 /// not follow.
 #[inline(always)]
 pub fn write_few_strictly<F: Flavor>(bytes: &[u8], stops: u64, out: &mut [u8]) -> Decoded
-    requires bytes { length bytes.now ≤ FEW_BYTES }
     requires stops { HasStops AllUnchanged F.flavor bytes.now stops }
     requires room { STRICT_TEXT ≤ length out.old }
     ensures read { ReadsAll F.flavor Strict bytes.now
@@ -64,7 +63,6 @@ fn load(bytes: &[u8], source: &mut [u8])
 /// Does so by the set of the bytes that may not follow. The source has the bytes, and zeros behind.
 #[inline(always)]
 fn write_by_stops<F: Flavor>(bytes: &[u8], stops: u64, source: &[u8], out: &mut [u8]) -> Decoded
-    requires bytes { length bytes.now ≤ FEW_BYTES }
     requires stops { HasStops AllUnchanged F.flavor bytes.now stops }
     requires source { source.now ≡ before_zeros bytes.now }
     requires room { STRICT_TEXT ≤ length out.old }

@@ -20,7 +20,7 @@ returns-clause-up_to g c =
     (follow_to_next s f bytes read read (omega arith) c.requires.seam.1 c.requires.seam.0
     (λ k low before. absurd (omega (arith, low, before))) (λ more. absurd (omega (arith, more, all)))))
     (λ (some : ¬ (read ≡ length bytes)).
-    let shift : read % 64 ≡ read = omega (arith, some, c.requires.seam.1, c.requires.bytes) in
+    let shift : read % 64 ≡ read = omega (arith, some, c.requires.seam.1, has.within) in
     let behind = c.args.stops / 2 ^ read in
     let same : c.args.stops / 2 ^ (read % 64) ≡ behind = ap (λ n. c.args.stops / 2 ^ n) shift in
     let first = read + count_trailing_zeros 64 behind in
@@ -33,7 +33,7 @@ returns-clause-up_to g c =
     none_before_first stops c.args.stops read has.n small has.within.1 has.stops.bits left k low (omega (arith, before, is)) (omega (arith, before, is, has.within)))
     (cases_eq behind 0))
     (λ more.
-    ⊎_elim (λ (none : behind ≡ 0). absurd (omega (arith, more, is, ap (count_trailing_zeros 64) none, trailing_of_zero 64, c.requires.bytes)))
+    ⊎_elim (λ (none : behind ≡ 0). absurd (omega (arith, more, is, ap (count_trailing_zeros 64) none, trailing_of_zero 64, has.within)))
     (λ (left : ¬ (behind ≡ 0)).
     let here : c.min.result ≡ first = omega (arith, more, is) in
     ap stops here ∙ first_passes stops c.args.stops read has.n small has.within.1 has.stops.bits left (omega (arith, here, more, has.within)))

@@ -71,7 +71,7 @@ inside g c =
     )
 
 pub overflow_add-read : goal.overflow_add-read
-overflow_add-read g c = omega (arith, inside g c, c.requires.bytes)
+overflow_add-read g c = omega (arith, inside g c, c.requires.stops.within)
 
 pub next_stop-stop-requires-in-loop-stop-clause-seam : goal.next_stop-stop-requires-in-loop-stop-clause-seam
 next_stop-stop-requires-in-loop-stop-clause-seam g c =
