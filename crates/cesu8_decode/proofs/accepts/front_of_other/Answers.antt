@@ -1,4 +1,4 @@
-use Rattle.std.proofs.Common.{refl}
+use Rattle.std.proofs.Common.{arith}
 use Rattle.std.proofs.lemmas.Bool.{both_ways}
 use Rattle.cesu8_decode.specs.Following.{Unchanged}
 use Rattle.cesu8_decode.proofs.chunks.Fronts.{more_behind}
@@ -6,7 +6,7 @@ use Rattle.cesu8_decode.proofs.chunks.UnchangedFronts.{all_unchanged}
 use Rattle.cesu8_decode.proofs.accepts.front_of_other.Goals as goal
 
 pub returns-then-keeps_all-clause-kept : goal.returns-then-keeps_all-clause-kept
-returns-then-keeps_all-clause-kept g c = ((λ all. c.keeps_all.ensures.0 c.if-keeps_all.true), (λ keeps. refl))
+returns-then-keeps_all-clause-kept g c = ((λ all. c.keeps_all.ensures.0 c.if-keeps_all.true), (λ keeps. omega arith))
 
 -- Where the front is of all bytes, they are kept.
 pub returns-clause-kept : goal.returns-clause-kept
