@@ -11,7 +11,7 @@ ghost use Rattle.cesu8_decode.specs.Front.{IsFront, IsPartialFront};
 
 use crate::front::{FoundFront, front, is_utf8};
 use crate::lanes::character_set::Unchanged;
-use crate::way::is_one_block;
+use crate::way::are_few;
 use cesu8_bytes::flavor::Flavor;
 use cesu8_bytes::looks::{is_short_ascii, is_short_unchanged_ascii};
 
@@ -112,8 +112,8 @@ fn is_utf8_behind(bytes: &[u8], at: usize) -> bool
     requires front { IsUtf8 bytes.now ↔ IsUtf8 (drop at bytes.now) }
     ensures { IsTrue result ↔ IsUtf8 bytes.now }
 {
-    // Of one block all is tested, so that no branch depends on the offset.
-    if is_one_block(bytes) {
+    // Of a few bytes all are tested, so that no branch depends on the offset.
+    if are_few(bytes) {
         return is_utf8(bytes);
     }
     is_utf8(&bytes[at..])
