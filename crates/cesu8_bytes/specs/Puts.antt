@@ -1,7 +1,7 @@
 -- What a function promises that writes to a slice, or appends to a buffer.
 use Rattle.std.specs.Prelude.{◌≡◌, ℕ, ◌+◌, ◌≤◌, ◌↔◌, List, Vec, ◌++◌, length, take, drop, Result, IfOk, IfErr, IsOk, OnErr, vec_len, vec_capacity}
 use Rattle.cesu8_text.specs.Slices.{StandsAtFront}
-use Rattle.cesu8_bytes.specs.declared.writing.writers.NoRoom.{NoRoom}
+use Rattle.cesu8_bytes.specs.declared.writing.copies.NoRoom.{NoRoom}
 
 -- Bytes are written behind what stands before an offset, and those after them may change.
 pub record WritesAt (written : List ℕ) (at : ℕ) (old new : List ℕ) (n : ℕ) : Type 0 where

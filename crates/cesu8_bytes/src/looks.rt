@@ -48,24 +48,17 @@ pub fn is_short_unchanged_ascii<F: Flavor>(bytes: &[u8]) -> bool
     bytes.len() <= SHORT && !any_in_first_look::<Either<F::Null, NonAscii>>(bytes)
 }
 
-/// Returns whether one look shows the first `len` bytes, and there are enough for its vector.
-#[inline(always)]
-pub fn is_shown_at_once(bytes: &[u8], len: usize) -> bool
-    ensures { IsTrue result → SHOWN_AT_ONCE ≤ length bytes.now }
-{
-    len <= SHOWN_AT_ONCE && bytes.len() >= SHOWN_AT_ONCE
-}
-
-/// Returns whether the first bytes are all ASCII that does not change, as far as one vector shows.
-/// It may have more bytes than these, so no branch depends on how many they are, which a processor
-/// could guess wrong.
+/// Returns whether the first bytes are few, and all ASCII that does not change, as far as one vector
+/// shows. It may have more bytes than these, so no branch depends on how many they are, which a
+/// processor could guess wrong.
 #[inline(always)]
 pub fn begins_with_unchanged_ascii<F: Flavor>(bytes: &[u8], len: usize) -> bool
-    requires { SHOWN_AT_ONCE ≤ length bytes.now }
     ensures ascii { IsTrue result → IsAscii (take len bytes.now) }
     ensures unchanged { IsTrue result → ¬ (Any (IsChangedByte F.flavor) (take len bytes.now)) }
 {
-    lanes_before::<Either<F::Null, NonAscii>, SHOWN_AT_ONCE>(Simd::from_slice(bytes)) >= len
+    len <= SHOWN_AT_ONCE
+        && bytes.len() >= SHOWN_AT_ONCE
+        && lanes_before::<Either<F::Null, NonAscii>, SHOWN_AT_ONCE>(Simd::from_slice(bytes)) >= len
 }
 
 /// Returns whether some byte of the UTF-8 changes in the flavor.

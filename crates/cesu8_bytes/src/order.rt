@@ -38,30 +38,13 @@ fn first_difference(bytes: &[u8], other: &[u8], len: usize) -> usize
     requires { (len ≤ length bytes.now) × (len ≤ length other.now) }
     ensures { IsFirstDifference bytes.now other.now len result }
 {
-    if len < 8 {
-        difference_by_bytes(bytes, other, len)
-    } else if len < 16 {
-        difference_by::<8>(bytes, other, len)
-    } else {
-        difference_by::<16>(bytes, other, len)
+    match len {
+        0 => 0,
+        // The choice of a wider vector would cost more.
+        1..8 => difference_by::<1>(bytes, other, len),
+        8..16 => difference_by::<8>(bytes, other, len),
+        _ => difference_by::<16>(bytes, other, len),
     }
-}
-
-/// Returns the offset of the first byte that differs, or the length up to which it looks, byte by
-/// byte. For fewer than eight bytes the choice of a vector would cost more.
-#[inline(always)]
-fn difference_by_bytes(bytes: &[u8], other: &[u8], len: usize) -> usize
-    requires { (len ≤ length bytes.now) × (len ≤ length other.now) }
-    ensures { IsFirstDifference bytes.now other.now len result }
-{
-    let mut offset = 0;
-    while offset < len {
-        if bytes[offset] != other[offset] {
-            return offset;
-        }
-        offset += 1;
-    }
-    len
 }
 
 /// Returns the offset of the first byte that differs, or the length up to which it looks, by

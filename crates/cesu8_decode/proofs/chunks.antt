@@ -3,6 +3,7 @@ pub mod ReadChunks
 pub mod DecodedChunks
 pub mod WrittenChunks
 pub mod Changed
+pub mod DecodedPairs
 pub mod SliceReadings
 pub mod Strings
 pub mod WholeBytes

@@ -15,3 +15,4 @@ pub mod FollowingLanes
 pub mod FollowingBlocks
 pub mod DecodedWindows
 pub mod BlocksInPlace
+pub mod Passes

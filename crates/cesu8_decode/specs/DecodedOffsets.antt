@@ -1,10 +1,10 @@
 -- What the bytes of a window tell of each offset: how wide the character is that begins there, what
--- the lossy reading makes of the byte, whether a boundary is before it, and what the offset saves.
-use Rattle.std.specs.Prelude.{◌≡◌, ℕ, zero, suc, ◌+◌, ◌*◌, ◌/◌, ◌%◌, ◌<◌, ◌&&◌, ◌||◌, ◌==◌, nat_le, nat_lt, if◌then◌else◌, not, Bool, true, List, [], ◌∷◌, slice_index}
+-- the lossy reading makes of the byte, and what the offset saves.
+use Rattle.std.specs.Prelude.{◌≡◌, ℕ, zero, suc, ◌+◌, ◌*◌, ◌/◌, ◌%◌, ◌<◌, ◌&&◌, ◌||◌, ◌==◌, nat_le, nat_lt, if◌then◌else◌, not, Bool, true, List, [], ◌∷◌, slice_index, ◌⊎◌}
 use Rattle.std.specs.List.{flat_map, range_with_len}
 use Rattle.cesu8_text.specs.Encoding.{Flavor, Cesu8, Mutf8}
 use Rattle.cesu8_text.specs.Reading.{standing, width_of}
-use Rattle.cesu8_bytes.specs.Pairs.{null_at}
+use Rattle.cesu8_bytes.specs.Pairs.{null_at, HasPair}
 use Rattle.cesu8_bytes.specs.Packing.{written_for}
 
 -- How many bytes the encoded character has that begins the bytes, or 0.
@@ -14,6 +14,10 @@ first_width f bytes = width_of f (standing f bytes)
 -- The first eight bytes. Zeros follow the last.
 abbrev pub IsPrefixOf : List ℕ → List ℕ → Type 0
 IsPrefixOf bytes prefix = (i : ℕ) → i < 8 → slice_index prefix i ≡ slice_index bytes i
+
+-- The bytes begin with a surrogate pair, or with C0 80 in MUTF-8.
+abbrev pub BeginsChanged : Flavor → List ℕ → Type 0
+BeginsChanged f bytes = HasPair bytes ⊎ (null_at f (slice_index bytes 0) (slice_index bytes 1) ≡ true)
 
 -- Tests of the first six bytes. A continuation byte:
 abbrev pub continues : ℕ → Bool
@@ -101,15 +105,6 @@ abbrev pub is_ill_formed_at : Flavor → List ℕ → ℕ → Bool
 is_ill_formed_at f window i =
     ill_formed_by (width_at f window (i + 5)) (width_at f window (i + 4)) (width_at f window (i + 3)) (width_at f window (i + 2))
     (width_at f window (i + 1)) (width_at f window i)
-
--- No encoded character crosses a boundary from the five offsets before it, by their widths.
-abbrev pub boundary_by : (w1 w2 w3 w4 w5 : ℕ) → Bool
-boundary_by w1 w2 w3 w4 w5 = nat_le w1 1 && (nat_le w2 2 && (nat_le w3 3 && (nat_le w4 4 && nat_le w5 5)))
-
--- The boundary before the byte of a window that follows the first i bytes and five more.
-abbrev pub is_boundary_at : Flavor → List ℕ → ℕ → Bool
-is_boundary_at f window i =
-    boundary_by (width_at f window (i + 4)) (width_at f window (i + 3)) (width_at f window (i + 2)) (width_at f window (i + 1)) (width_at f window i)
 
 -- How many bytes an offset saves: three times the bytes of the character that begins there, less
 -- those of its UTF-8. An ill-formed byte saves none.

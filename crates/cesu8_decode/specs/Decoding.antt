@@ -1,78 +1,54 @@
 -- What decoding promises: a chunk of text at the front of bytes, all of it, and what is written for a window.
-use Rattle.std.specs.Prelude.{◌≡◌, ℕ, ◌+◌, ◌*◌, ◌<◌, ◌≤◌, Bool, true, false, List, [], ◌++◌, Vec, length, take, drop, vec_capacity, Option, IfSome, IfNone, Result, IfOk}
-use Rattle.cesu8_text.specs.Reading.{NoneBegins, HasNoStrictReading}
+use Rattle.std.specs.Prelude.{◌≡◌, ℕ, ◌+◌, ◌*◌, ◌<◌, ◌≤◌, Bool, true, false, List, [], ◌++◌, Vec, length, take, vec_capacity, Option, IfSome, IfNone, Result, IfOk, ⊤}
+use Rattle.cesu8_text.specs.Reading.{HasNoStrictReading, lossy_length}
 use Rattle.cesu8_text.specs.Encoding.{Flavor}
 use Rattle.cesu8_bytes.specs.declared.strictness.Strictness.{Strictness}
 use Rattle.cesu8_bytes.specs.declared.strictness.Strictness.TheVariants.{Strict, Lossy}
-use Rattle.cesu8_bytes.specs.declared.writing.packing.TheConstants.{STORED}
-use Rattle.cesu8_decode.specs.declared.lanes.packing.TheConstants.{WIDEST}
-use Rattle.cesu8_decode.specs.declared.pass.whole_blocks.TheConstants.{FOLLOWING, LAST_BYTES, SPARE}
-use Rattle.cesu8_decode.specs.DecodedOffsets.{decoded, is_ill_formed_at}
-use Rattle.cesu8_decode.specs.Following.{whole_blocks}
+use Rattle.cesu8_bytes.specs.declared.TheConstants.{BLOCK}
+use Rattle.cesu8_decode.specs.declared.way.TheConstants.{FEW_BYTES, SMALL_ARRAY, LARGE_ARRAY, LARGEST_ARRAY}
+use Rattle.cesu8_decode.specs.declared.way.Way.{Way}
+use Rattle.cesu8_decode.specs.declared.way.Way.TheVariants.{OneBlock, Few, SmallArray, LargeArray, LargestArray, Chunks}
+use Rattle.cesu8_decode.specs.declared.lanes.packing.TheConstants.{WIDEST, ROOM}
+use Rattle.cesu8_decode.specs.declared.pass.blocks.Pass.{Pass}
+use Rattle.cesu8_decode.specs.DecodedOffsets.{window_of, decoded, is_ill_formed_at}
+use Rattle.cesu8_decode.specs.DecodedLanes.{AreFiveKinds}
 use Rattle.cesu8_bytes.specs.TextChunks.{IsReadSoFar}
 
--- Only strict reading refuses ill-formed bytes.
-abbrev pub refuses : Strictness → Bool → Bool
-refuses Strict is_ill_formed = is_ill_formed
-refuses Lossy is_ill_formed = false
+-- Bytes are no more than the way takes that they go.
+abbrev pub Takes : Way → List ℕ → Type 0
+Takes OneBlock bytes = length bytes ≤ BLOCK
+Takes Few bytes = length bytes ≤ FEW_BYTES
+Takes SmallArray bytes = length bytes ≤ SMALL_ARRAY
+Takes LargeArray bytes = length bytes ≤ LARGE_ARRAY
+Takes LargestArray bytes = length bytes ≤ LARGEST_ARRAY
+Takes Chunks bytes = ⊤
 
 -- Strict reading writes no more bytes than it reads, and lossy reading U+FFFD for a byte at most.
 abbrev pub most_written : Strictness → ℕ → ℕ
 most_written Strict n = n
 most_written Lossy n = WIDEST * n
 
--- A buffer has room for the text of n bytes. Lossy reading writes the last blocks where they go, which
--- takes more; strict reading writes them by an array.
+-- A buffer has room for the text of n bytes, and behind it for that of a block.
 abbrev pub room_for : Strictness → ℕ → ℕ
-room_for Strict n = n
-room_for Lossy n = WIDEST * n + SPARE
+room_for which n = most_written which n + ROOM
 
--- Where it has not room for all, it has room for what follows a block that is read where it stands, and
--- in lossy reading for as many bytes as are left to the last blocks, so that whole ones come first.
-abbrev pub least_room : Strictness → ℕ
-least_room Strict = FOLLOWING
-least_room Lossy = room_for Lossy LAST_BYTES
+-- No text of the bytes is longer.
+abbrev pub most_of_text : Flavor → Strictness → List ℕ → ℕ
+most_of_text f Strict bytes = length bytes
+most_of_text f Lossy bytes = lossy_length f bytes
 
--- A buffer of a length has room for the text of n bytes, or of enough of them.
-abbrev pub HasRoom : Strictness → ℕ → ℕ → Type 0
-HasRoom which n len = len < room_for which n → least_room which ≤ len
-
--- It has room behind an end for the text of the blocks that n bytes have, and for what is stored behind it.
-abbrev pub HasRoomBehind : Strictness → ℕ → ℕ → ℕ → Type 0
-HasRoomBehind which n end len = end + most_written which (whole_blocks n) + STORED ≤ len
-
--- After some text no encoded character begins the bytes that are left.
-pub record HasFault (f : Flavor) (bytes : List ℕ) : Type 0 where
-  pub rest : List ℕ
-  pub chunk : List ℕ
-  pub before : IsReadSoFar f Strict bytes rest [] chunk
-  pub some : 0 < length rest
-  pub none_begins : NoneBegins f rest
-
--- The first bytes are a chunk of text, unless an ill-formed one among them is refused.
-pub record ReadsFirst (f : Flavor) (which : Strictness) (bytes : List ℕ) (read : ℕ) (text : List ℕ) (is_ill_formed : Bool) : Type 0 where
-  pub some : 0 < length bytes → 0 < read
-  pub within : read ≤ length bytes
-  pub chunk : refuses which is_ill_formed ≡ false → IsReadSoFar f which bytes (drop read bytes) [] text
-  pub ill_formed : is_ill_formed ≡ true → HasFault f bytes
-
--- Such text is written at the front of a slice, and it is of all bytes if there is room for that.
-pub record WritesText (f : Flavor) (which : Strictness) (bytes : List ℕ) (read written : ℕ) (is_ill_formed : Bool) (old new : List ℕ) : Type 0 where
-  pub first : ReadsFirst f which bytes read (take written new) is_ill_formed
-  pub all : room_for which (length bytes) ≤ length old → read ≡ length bytes
-  pub end : written ≤ length new
+-- The text of the bytes is written to the front of a slice, unless strict reading refuses one of them.
+pub record WritesReading (f : Flavor) (which : Strictness) (bytes : List ℕ) (result : Option ℕ) (old new : List ℕ) : Type 0 where
+  pub text : IfSome result (λ end. IsReadSoFar f which bytes [] [] (take end new))
+  pub end : IfSome result (λ end. end ≤ most_written which (length bytes))
+  pub none : IfNone result ((which ≡ Strict) × HasNoStrictReading f bytes)
   pub len : length new ≡ length old
 
--- All of the bytes are.
-pub record ReadsAll (f : Flavor) (which : Strictness) (bytes text : List ℕ) (is_ill_formed : Bool) : Type 0 where
-  pub all : refuses which is_ill_formed ≡ false → IsReadSoFar f which bytes [] [] text
-  pub ill_formed : is_ill_formed ≡ true → HasFault f bytes
-
--- The strict reading of the bytes is appended to a vector, if there is one.
-pub record AppendsStrictly {Z : Type 0} (f : Flavor) (bytes : List ℕ) (before : Vec ℕ Z) (result : Option (Vec ℕ Z)) : Type 0 where
-  pub text : IfSome result (λ text. IsReadSoFar f Strict bytes [] before.items text.items)
+-- The text of the bytes is appended to a vector, unless strict reading refuses one of them.
+pub record AppendsReading {Z : Type 0} (f : Flavor) (which : Strictness) (bytes : List ℕ) (before : Vec ℕ Z) (result : Option (Vec ℕ Z)) : Type 0 where
+  pub text : IfSome result (λ text. IsReadSoFar f which bytes [] before.items text.items)
   pub capacity : IfSome result (λ text. vec_capacity text ≡ vec_capacity before)
-  pub none : IfNone result (HasNoStrictReading f bytes)
+  pub none : IfNone result ((which ≡ Strict) × HasNoStrictReading f bytes)
 
 -- The lossy reading is all that a vector has, and fills what was requested.
 pub record BuildsReading {Z E : Type 0} (f : Flavor) (bytes : List ℕ) (result : Result (Vec ℕ Z) E) : Type 0 where
@@ -91,4 +67,24 @@ pub record IsDecoded (f : Flavor) (which : Strictness) (window : List ℕ) (at n
 pub record WritesDecoded (f : Flavor) (which : Strictness) (window : List ℕ) (at n start : ℕ) (old new : List ℕ) (new_end : ℕ) (is_refused : Bool) : Type 0 where
   pub text : IsDecoded f which window at n (take start old) (take new_end new) is_refused
   pub end : new_end ≤ start + most_written which n
+  pub len : length new ≡ length old
+
+-- The pass goes on behind some bytes, where the kinds of the five offsets before are known,
+pub record IsPass (f : Flavor) (bytes : List ℕ) (read : ℕ) (kinds : List ℕ) : Type 0 where
+  pub within : read ≤ length bytes
+  pub start : read < length bytes → read < 5 → read ≡ 0
+  pub before : read < length bytes → AreFiveKinds f (window_of bytes) read kinds 27
+
+-- and nothing is in the buffer.
+abbrev pub pass_from : ℕ → List ℕ → Pass
+pass_from read kinds = record { read = read; end = 0; is_refused = false; kinds = kinds }
+
+-- It came further, and the text of what was read meanwhile is written behind that of what was read before.
+pub record GoesOn (f : Flavor) (which : Strictness) (bytes : List ℕ) (before after : Pass) (old new : List ℕ) : Type 0 where
+  pub pass : after.is_refused ≡ false → IsPass f bytes after.read after.kinds
+  pub within : (before.read ≤ after.read) × (after.read ≤ length bytes)
+  pub text : (start text : List ℕ) → IsDecoded f which (window_of bytes) 0 before.read start (text ++ take before.end old) false →
+      IsDecoded f which (window_of bytes) 0 after.read start (text ++ take after.end new) after.is_refused
+  pub end : after.end + most_written which before.read ≤ before.end + most_written which after.read
+  pub inside : after.end ≤ length new
   pub len : length new ≡ length old

@@ -1,5 +1,5 @@
 -- Which bytes may follow which in whole encoded characters.
-use Rattle.std.specs.Prelude.{◌≡◌, ℕ, ◌+◌, ◌-◌, ◌*◌, ◌/◌, ◌++◌, map, drop, replicate, ◌<◌, ◌≤◌, ◌&&◌, ◌||◌, ◌==◌, nat_le, nat_lt, if◌then◌else◌, not, Bool, true, false, List, ◌∷◌, length, slice_index, bit_or}
+use Rattle.std.specs.Prelude.{◌≡◌, ℕ, ◌+◌, ◌-◌, ◌++◌, map, drop, replicate, ◌<◌, ◌≤◌, ◌&&◌, ◌||◌, ◌==◌, nat_le, nat_lt, if◌then◌else◌, not, Bool, true, false, List, ◌∷◌, length, slice_index, bit_or}
 use Rattle.std.specs.List.{range_with_len}
 use Rattle.std.specs.Simd.Lanes.{chunk, mask_l}
 use Rattle.cesu8_text.specs.Class.{is_null}
@@ -103,10 +103,6 @@ after_fillers bytes = 0x61 ∷ 0x61 ∷ 0x61 ∷ 0x61 ∷ bytes
 -- The bits of a set are those of the n bytes of a window from byte i + 4 on that may not follow.
 pub record AreStops (s : CharacterSet) (f : Flavor) (window : List ℕ) (i n set : ℕ) : Type 0 where
   pub bits : set ≡ mask_l (map (λ k. not (follows_at s f window k)) (range_with_len i n))
-
--- So many bytes in whole blocks.
-abbrev pub whole_blocks : ℕ → ℕ
-whole_blocks n = BLOCK * ((n + BLOCK - 1) / BLOCK)
 
 -- A few bytes, with zeros behind them as far as a block is loaded.
 abbrev pub before_zeros : List ℕ → List ℕ

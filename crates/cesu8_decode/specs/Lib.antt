@@ -1,9 +1,7 @@
 pub mod DecodedOffsets
 pub mod DecodedLanes
 pub mod Refusals
-pub mod Changed
 pub mod Following
 pub mod Decoding
 pub mod PutReadings
-pub mod Ways
 pub mod Front

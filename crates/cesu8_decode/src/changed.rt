@@ -3,7 +3,7 @@
 
 ghost use Rattle.std.specs.Prelude.{◌≡◌, ◌↔◌, ◌≤◌, ℕ, List, length, replicate, slice_index, IsTrue};
 ghost use Rattle.cesu8_text.specs.Encoding.{Flavor as AnyFlavor};
-ghost use Rattle.cesu8_decode.specs.Changed.{BeginsChanged};
+ghost use Rattle.cesu8_decode.specs.DecodedOffsets.{BeginsChanged};
 ghost use Rattle.cesu8_decode.specs.DecodedOffsets.{IsPrefixOf};
 
 use cesu8_bytes::flavor::Flavor;

@@ -8,7 +8,7 @@ use crate::destinations::slices::{put_lossily, put_strictly};
 use crate::refusal::Unwritten;
 use cesu8_bytes::flavor::Flavor;
 use cesu8_bytes::strictness::Strictness;
-use cesu8_bytes::writing::writers::copy_to_slice;
+use cesu8_bytes::writing::copies::copy_to_slice;
 
 /// Writes what a call that takes `A` reads in the bytes to a caller's buffer, if it fits, and
 /// returns its length in bytes.

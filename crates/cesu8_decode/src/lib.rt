@@ -16,7 +16,7 @@
 //! - `destinations`: the text of a `String` or of a caller's slice
 //! - `copy_or_write`: a slice again, with what stays copied
 //!
-//! `decoded` has what is told of bytes that were read, and `refusal` why there is no text.
+//! `refusal` has why there is no text.
 #![tactic(auto)]
 
 ghost use Rattle.std.specs.Prelude.{◌≡◌, ◌<◌, length, IfOk};
@@ -29,7 +29,6 @@ ghost use Rattle.cesu8_decode.specs.Refusals.{OnNoText};
 pub mod accepts;
 mod changed;
 pub mod copy_or_write;
-mod decoded;
 mod destinations;
 pub mod front;
 mod lanes;
@@ -68,8 +67,8 @@ pub fn decode_strict<F: Flavor>(
 }
 
 /// Returns the lossy reading of the bytes, after one request for its length. Not all of them are whole
-/// characters that are the same in UTF-8, but the front. A length that does not fit counts as refused. The text of a few bytes, or of the first window of many, is decoded on the stack before
-/// that, so that it needs no pass for the length.
+/// characters that are the same in UTF-8, but the front. A length that does not fit counts as refused.
+/// The text of up to 4,096 bytes is decoded before that, so that it needs no pass for the length.
 #[inline(never)]
 pub fn decode_lossy<F: Flavor>(
     alloc: Global,

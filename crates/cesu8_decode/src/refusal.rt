@@ -1,10 +1,6 @@
 //! Why the decoder returns or writes no text. `simd_cesu8` turns these into the faults of its calls.
 
-ghost use Rattle.std.specs.Prelude.{◌≡◌};
-ghost use Rattle.cesu8_decode.specs.Decoding.{refuses};
-
-use cesu8_bytes::strictness::Strictness;
-use cesu8_bytes::writing::writers::NoRoom;
+use cesu8_bytes::writing::copies::NoRoom;
 use std::alloc::AllocError;
 
 /// Why no text is built.
@@ -25,15 +21,4 @@ pub enum Unwritten {
     TooLong,
     /// The buffer is shorter than the text.
     NoRoom(NoRoom),
-}
-
-/// Returns whether an ill-formed byte leaves no text.
-#[inline(always)]
-pub fn is_refused(strictness: Strictness, is_ill_formed: bool) -> bool
-    ensures { result ≡ refuses strictness is_ill_formed }
-{
-    match strictness {
-        Strictness::Strict => is_ill_formed,
-        Strictness::Lossy => false,
-    }
 }

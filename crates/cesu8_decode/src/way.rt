@@ -3,27 +3,27 @@
 //!
 //! | bytes | way | strict | lossy |
 //! |---|---|---|---|
-//! | at most 32 (`BLOCK` of `cesu8_bytes`) | `OneBlock` | by stops | one block |
-//! | at most 64 (`FEW_BYTES`) | `Few` | by stops | a short window |
-//! | at most 256 (`SHORT_WINDOW`) | `ShortWindow` | a short window | a short window |
-//! | at most 1,024 (`LONG_WINDOW`) | `LongWindow` | a long window | a long window |
+//! | at most 32 (`BLOCK` of `cesu8_bytes`) | `OneBlock` | by stops | an array of one block |
+//! | at most 64 (`FEW_BYTES`) | `Few` | by stops | a small array |
+//! | at most 256 (`SMALL_ARRAY`) | `SmallArray` | a small array | a small array |
+//! | at most 1,024 (`LARGE_ARRAY`) | `LargeArray` | a large array | a large array |
+//! | at most 4,096 (`LARGEST_ARRAY`) | `LargestArray` | chunks | the largest array |
 //! | more | `Chunks` | chunks | chunks |
 //!
 //! - By stops: `strict_few` goes from one character that changes to the next. Up to 64 bytes go so in
 //!   lossy reading too, where ED or C0 stands behind the front, and none is ill-formed.
-//! - One block: with no branch on each byte, which would be guessed wrong.
-//! - The windows: one pass, 32 bytes at a time with no branch on a byte, to an array, from which the
-//!   text is copied. A smaller array is made in less time.
-//! - Chunks: in lossy reading the same pass reads as many bytes as an array has room for, and the
-//!   next ones to the same array; in strict reading to a slice after a test of all.
+//! - The arrays: one pass, 32 bytes at a time with no branch on a byte, which would be guessed wrong.
+//!   The text is copied from the array. A smaller one is made in less time.
+//! - Chunks: the same pass goes on as long as the large array has room, and then with an empty one: in
+//!   lossy reading after its length is known, in strict reading to a slice after a test of all.
 //!
 //! In strict reading to a `String`, `fronts` of `destinations` goes from one character that changes to
 //! the next in more than 64 bytes, where the first stands behind 16 bytes (`FRONT`), and on as long as
-//! 64 (`LONG_FRONT`) are between them. Else the pass writes the text where it stays, `CLEARED_AT_ONCE`
-//! of `in_place` at a time.
+//! 64 (`LONG_FRONT`) are between them. Else the pass appends the text chunk by chunk, by one of the
+//! arrays.
 
 ghost use Rattle.std.specs.Prelude.{◌≤◌, ◌↔◌, IsTrue, length};
-ghost use Rattle.cesu8_decode.specs.Ways.{Takes};
+ghost use Rattle.cesu8_decode.specs.Decoding.{Takes};
 
 use cesu8_bytes::BLOCK;
 
@@ -31,19 +31,23 @@ use cesu8_bytes::BLOCK;
 pub enum Way {
     OneBlock,
     Few,
-    ShortWindow,
-    LongWindow,
+    SmallArray,
+    LargeArray,
+    LargestArray,
     Chunks,
 }
 
 /// The most bytes that are read from one character that changes to the next, by the bits of a word.
 pub const FEW_BYTES: usize = 2 * BLOCK;
 
-/// The most bytes that are read in a short window.
-pub const SHORT_WINDOW: usize = 256;
+/// The most bytes whose text goes to the small array.
+pub const SMALL_ARRAY: usize = 256;
 
-/// The most bytes that are read in any window.
-pub const LONG_WINDOW: usize = 1024;
+/// The most bytes whose text goes to the large array at once.
+pub const LARGE_ARRAY: usize = 1024;
+
+/// The most bytes whose lossy text goes to an array, so that it needs no pass for its length.
+pub const LARGEST_ARRAY: usize = 4096;
 
 /// Returns which way bytes go.
 #[inline(always)]
@@ -53,8 +57,9 @@ pub fn way_of(bytes: &[u8]) -> Way
     match bytes.len() {
         0..=BLOCK => Way::OneBlock,
         0..=FEW_BYTES => Way::Few,
-        0..=SHORT_WINDOW => Way::ShortWindow,
-        0..=LONG_WINDOW => Way::LongWindow,
+        0..=SMALL_ARRAY => Way::SmallArray,
+        0..=LARGE_ARRAY => Way::LargeArray,
+        0..=LARGEST_ARRAY => Way::LargestArray,
         _ => Way::Chunks,
     }
 }

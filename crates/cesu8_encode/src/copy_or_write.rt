@@ -12,7 +12,7 @@ use cesu8_bytes::BLOCK;
 use cesu8_bytes::flavor::Flavor;
 use cesu8_bytes::lengths::encoded_len;
 use cesu8_bytes::looks::{few_need_encoded, needs_encoded};
-use cesu8_bytes::writing::writers::{NoRoom, copy_to_slice};
+use cesu8_bytes::writing::copies::{NoRoom, copy_to_slice};
 
 /// Writes the encoding of a text to a caller's buffer, if it fits. What changes is not inlined: a
 /// text that stays as it is then uses no stack.

@@ -39,8 +39,7 @@ use self::blockwise::write;
 use self::way::{ON_STACK, is_block, is_for_stack};
 use cesu8_bytes::flavor::Flavor;
 use cesu8_bytes::lengths::encoded_len;
-use cesu8_bytes::writing::copies::{append, copy};
-use cesu8_bytes::writing::zeros::append_zeros;
+use cesu8_bytes::writing::copies::{append, append_zeros, copy};
 use std::alloc::{AllocError, Global};
 
 /// The most bytes that the encoding of any text has that goes to the stack.

@@ -12,7 +12,7 @@ use crate::error::DecodeFault;
 use crate::internal;
 use crate::internal::{
     Accepts, EncodingAlone, Flavor, Lenient, begins_with_unchanged_ascii, front_unless_kept,
-    is_shown_at_once, known_text, needs_encoded,
+    known_text, needs_encoded,
 };
 use std::alloc::{AllocError, Global};
 
@@ -53,7 +53,7 @@ pub fn decode_strict_front<F: Flavor>(
 {
     let len = len.min(bytes.len());
     let front = &bytes[..len];
-    if is_shown_at_once(bytes, len) && begins_with_unchanged_ascii::<F>(bytes, len) {
+    if begins_with_unchanged_ascii::<F>(bytes, len) {
         return Ok(CowText::Borrowed(known_text(front)));
     }
     decode_strict_by_call::<F>(alloc, front)

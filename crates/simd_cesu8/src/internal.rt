@@ -16,7 +16,7 @@ use crate::error::{DecodeFault, DecodeSliceFault, DecodingError, LossySliceFault
 pub use cesu8_bytes::flavor::{Cesu8Flavor, Flavor, Mutf8Flavor};
 pub use cesu8_bytes::lengths::{encoded_len, encoded_len_by_need, utf16_len};
 pub use cesu8_bytes::looks::{
-    begins_with_unchanged_ascii, is_short_unchanged_ascii, is_shown_at_once, needs_encoded,
+    begins_with_unchanged_ascii, is_short_unchanged_ascii, needs_encoded,
 };
 pub use cesu8_bytes::order::compare_as_utf16;
 use cesu8_bytes::strictness::Strictness;

@@ -115,38 +115,31 @@ mod tests {
             0, 1, 2, 3, 4, 5, 6, 7, 8, 9, 10, 11, 12, 13, 14, 15, 16, 17, 18, 19, 20, 21, 22, 23,
             24,
         ];
-        const AT_0: u64 = 0x0706_0504_0302_0100;
-        const AT_1: u64 = 0x0807_0605_0403_0201;
-        const AT_8: u64 = 0x0F0E_0D0C_0B0A_0908;
-        const AT_9: u64 = 0x100F_0E0D_0C0B_0A09;
-        const AT_16: u64 = 0x1716_1514_1312_1110;
-        const AT_17: u64 = 0x1817_1615_1413_1211;
-
-        // The number of bytes, and the words that are tested, followed by zeros.
+        // The number of bytes, and the first bytes of the words that are tested, followed by zeros.
         let cases = [
-            (8, 2, [AT_0, AT_0, 0, 0]),
-            (9, 2, [AT_0, AT_1, 0, 0]),
-            (16, 2, [AT_0, AT_8, 0, 0]),
-            (17, 3, [AT_0, AT_8, AT_9, 0]),
-            (24, 3, [AT_0, AT_8, AT_16, 0]),
-            (25, 4, [AT_0, AT_8, AT_16, AT_17]),
+            (8, 2, [0, 0, 0, 0]),
+            (9, 2, [0, 1, 0, 0]),
+            (16, 2, [0, 8, 0, 0]),
+            (17, 3, [0, 8, 9, 0]),
+            (24, 3, [0, 8, 16, 0]),
+            (25, 4, [0, 8, 16, 17]),
         ];
-        for (len, count, words) in cases {
+        for (len, count, offsets) in cases {
             assert!(rt; WORD <= len);
             let tested = Cell::new(0usize);
-            let seen = Cell::new([0u64; 4]);
+            let seen = Cell::new([0u8; 4]);
             let found = test_word_any(&bytes[..len], |word| {
-                let mut words = seen.get();
-                if let Some(slot) = words.get_mut(tested.get()) {
-                    *slot = word;
+                let mut offsets = seen.get();
+                if let Some(slot) = offsets.get_mut(tested.get()) {
+                    *slot = word as u8;
                 }
-                seen.set(words);
+                seen.set(offsets);
                 tested.set(tested.get().wrapping_add(1));
                 contains_four(word)
             });
             assert_eq!(rt;
                 (found, tested.get(), seen.get()),
-                (false, count, words),
+                (false, count, offsets),
                 "{len} bytes"
             );
         }

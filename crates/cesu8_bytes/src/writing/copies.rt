@@ -1,11 +1,13 @@
-//! Copies to a buffer with enough capacity, and copies that are owned, with one request each.
+//! Copies to the end of a buffer with enough capacity, or to a caller's, which may be too short, and
+//! copies that are owned, with one request each.
 
-ghost use Rattle.std.specs.Prelude.{◌≡◌, ℕ, List, ◌+◌, ◌*◌, ◌≤◌, ◌++◌, [], length, take, IfOk, IsOk, vec_len, vec_capacity};
+ghost use Rattle.std.specs.Prelude.{◌≡◌, ℕ, List, ◌+◌, ◌*◌, ◌≤◌, ◌++◌, [], length, replicate, take, IfOk, IsOk, vec_len, vec_capacity};
 ghost use Rattle.std.specs.String.{string_bytes, string_capacity};
-ghost use Rattle.cesu8_bytes.specs.Puts.{Appends};
+ghost use Rattle.cesu8_bytes.specs.Puts.{Appends, PutsAnswer};
 
 use crate::lanes::class::LANES;
-use crate::lanes::short::LONG;
+use crate::lanes::short::{LONG, copy_short};
+use crate::utf8::known_string;
 use std::alloc::{AllocError, Global};
 use std::mem;
 use std::simd::prelude::*;
@@ -112,6 +114,20 @@ fn append_each(bytes: &[u8], out: &mut Vec<u8>)
     }
 }
 
+/// Appends so many zeros to a buffer with enough capacity, in whose place a slice of it is written.
+#[inline(always)]
+pub fn append_zeros(count: usize, out: &mut Vec<u8>)
+    requires { vec_len out.old + count ≤ vec_capacity out.old }
+    ensures { Appends (replicate count 0) out.old out.new }
+{
+    // As above.
+    let mut taken = mem::replace(out, Vec::new(*out.allocator()));
+    for _ in 0..count {
+        taken.push_reserved(0);
+    }
+    *out = taken;
+}
+
 /// Returns a copy of some bytes, after one request for their length.
 pub fn copy(alloc: Global, bytes: &[u8]) -> Result<Vec<u8>, AllocError>
     ensures bytes { IfOk result (λ copied. copied.items ≡ bytes.now) }
@@ -129,16 +145,25 @@ pub fn copy_text(alloc: Global, text: &str) -> Result<String, AllocError>
     ensures capacity { IfOk result (λ copied. string_capacity copied ≡ length text.now) }
     ensures empty { text.now ≡ [] → IsOk result }
 {
-    if text.is_empty() {
-        // No request is made, so none is refused.
-        return String::with_capacity(alloc, 0);
+    let copied = copy(alloc, text.as_bytes())?;
+    Ok(known_string(copied))
+}
+
+/// The buffer is shorter than what is to be written: so many bytes are needed.
+#[derive(Clone, Copy)]
+pub struct NoRoom {
+    pub needed: usize,
+}
+
+/// Copies bytes to the front of a caller's buffer, if they fit.
+#[inline(always)]
+pub fn copy_to_slice(bytes: &[u8], buf: &mut [u8]) -> Result<usize, NoRoom>
+    ensures { PutsAnswer bytes.now result buf.old buf.new }
+{
+    let len = bytes.len();
+    if buf.len() < len {
+        return Err(NoRoom { needed: len });
     }
-    let mut copied = String::with_capacity(alloc, text.len())?;
-    copied.push_str(text)?;
-    // All of it fitted, so the capacity has not grown; std's contracts leave that open, and this
-    // one does not.
-    if copied.capacity() != text.len() {
-        return Err(AllocError);
-    }
-    Ok(copied)
+    copy_short(bytes, buf);
+    Ok(len)
 }

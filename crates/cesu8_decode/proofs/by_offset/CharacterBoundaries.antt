@@ -1,16 +1,16 @@
 -- Offsets that no encoded character reaches over, told by the widths at the five before.
-use Rattle.std.proofs.Common.{◌≡◌, ℕ, zero, suc, ◌+◌, ◌-◌, ◌<◌, ◌≤◌, ◌⊎◌, ⊎_elim, Bool, true, false, leb, List, ◌∷◌, refl, ap, ◌∙◌, subst, arith, length, take, drop, get_or, cond, add-zero, zero-add, length-drop}
-use Rattle.std.proofs.lemmas.Bool.{and_from, and_cases, leb-false, le-leb, cases_lt, cases_Bool}
+use Rattle.std.proofs.Common.{◌≡◌, ℕ, zero, suc, ◌+◌, ◌-◌, ◌<◌, ◌≤◌, ◌⊎◌, ⊎_elim, Bool, true, leb, List, ◌∷◌, refl, ap, ◌∙◌, subst, arith, length, take, drop, get_or, cond, add-zero, zero-add, length-drop}
+use Rattle.std.proofs.lemmas.Bool.{and_from, le-leb, cases_lt}
 use Rattle.std.proofs.lemmas.List.{take-append-drop, length-take-le}
 use Rattle.std.proofs.lemmas.Bool.Decides.{nat_tests}
 use Rattle.cesu8_text.specs.Encoding.{Flavor, Cesu8, Mutf8}
 use Rattle.cesu8_text.specs.Reading.{StandsAt, width}
 use Rattle.cesu8_text.specs.Laws.{NoneCrosses}
-use Rattle.cesu8_decode.specs.DecodedOffsets.{first_width, first_width_by, width_at, is_boundary_at, one_at, two_at, three_at, pair_at}
+use Rattle.cesu8_decode.specs.DecodedOffsets.{first_width, first_width_by, width_at, one_at, two_at, three_at, pair_at}
 use Rattle.cesu8_bytes.specs.Pairs.{null_at}
 use Rattle.cesu8_decode.proofs.by_offset.FirstWidths.{wide, width_of_first, width_fits}
 use Rattle.cesu8_text.proofs.reading.Stretches.{no_overlap}
-use Rattle.cesu8_decode.proofs.by_offset.WindowOffsets.{Follows, width_in}
+use Rattle.cesu8_decode.proofs.by_offset.WindowOffsets.{is_boundary_at, Follows, width_in}
 
 -- ---- the widths there are
 
@@ -40,7 +40,7 @@ pub boundary_ends : (f : Flavor) (window : List ℕ) (i : ℕ) → is_boundary_a
 boundary_ends f window i boundary s small = grind (arith, nat_tests)
 
 -- Where each does, there is a boundary.
-boundary_where : (f : Flavor) (window : List ℕ) (i : ℕ) → ((s : ℕ) → s < 5 → width_at f window (i + s) + s ≤ 5) →
+pub boundary_where : (f : Flavor) (window : List ℕ) (i : ℕ) → ((s : ℕ) → s < 5 → width_at f window (i + s) + s ≤ 5) →
     is_boundary_at f window i ≡ true
 boundary_where f window i ends =
     let w = width_at f window in
@@ -85,7 +85,7 @@ none_crosses_boundary f window bytes n follows fits boundary i c stands inside =
     (cases_lt n (i + 6))
 
 -- A character is behind those before it.
-ends_before : (f : Flavor) (window bytes : List ℕ) (p i : ℕ) → Follows window bytes 5 → p < i → i < length bytes →
+pub ends_before : (f : Flavor) (window bytes : List ℕ) (p i : ℕ) → Follows window bytes 5 → p < i → i < length bytes →
     0 < width_at f window (i + 5) → p + width_at f window (p + 5) ≤ i
 ends_before f window bytes p i follows before inside some =
     let there = width_in f window bytes 5 p follows (omega arith) in
@@ -101,17 +101,6 @@ ends_before f window bytes p i follows before inside some =
     (λ (none : first_width f (drop p bytes) ≤ 0). omega arith)
     (cases_lt 0 (first_width f (drop p bytes)))
 
--- Where a character begins is a boundary.
-boundary_at_character : (f : Flavor) (window bytes : List ℕ) (i : ℕ) → Follows window bytes 5 → is_boundary_at f window 0 ≡ true →
-    i < length bytes → 0 < width_at f window (i + 5) → is_boundary_at f window i ≡ true
-boundary_at_character f window bytes i follows first inside some =
-    boundary_where f window i (λ s small. ⊎_elim
-    (λ (early : i + s < 5). omega (arith, boundary_ends f window 0 first (i + s) early, ap (width_at f window) (zero-add (i + s))))
-    (λ (later : 5 ≤ i + s).
-    let offset : i + s - 5 + 5 ≡ i + s = omega arith in
-    omega (arith, ends_before f window bytes (i + s - 5) i follows (omega arith) inside some, ap (width_at f window) offset))
-    (cases_lt (i + s) 5))
-
 -- The end of the bytes is a boundary.
 pub boundary_at_end : (f : Flavor) (window bytes : List ℕ) → Follows window bytes 5 → is_boundary_at f window 0 ≡ true →
     is_boundary_at f window (length bytes) ≡ true
@@ -125,37 +114,3 @@ boundary_at_end f window bytes follows first =
     let there = width_in f window bytes 5 p follows (omega arith) in
     omega (arith, width_fits f (drop p bytes), length-drop p bytes, ap (width_at f window) offset))
     (cases_lt (length bytes + s) 5))
-
--- where there is none, a character reaches over the offset
-reaching : (f : Flavor) (window : List ℕ) (i : ℕ) → is_boundary_at f window i ≡ false →
-    (s : ℕ) × (s < 5) × (5 < width_at f window (i + s) + s)
-reaching f window i over =
-    let w = width_at f window in
-    ⊎_elim (λ h. (4, omega arith, omega (arith, leb-false (w (i + 4)) 1 h)))
-    (λ h. ⊎_elim (λ h. (3, omega arith, omega (arith, leb-false (w (i + 3)) 2 h)))
-    (λ h. ⊎_elim (λ h. (2, omega arith, omega (arith, leb-false (w (i + 2)) 3 h)))
-    (λ h. ⊎_elim (λ h. (1, omega arith, omega (arith, leb-false (w (i + 1)) 4 h)))
-    (λ h. (0, omega arith, omega (arith, leb-false (w i) 5 h, ap w (add-zero i))))
-    (and_cases (leb (w (i + 1)) 4) (leb (w i) 5) h))
-    (and_cases (leb (w (i + 2)) 3) _ h))
-    (and_cases (leb (w (i + 3)) 2) _ h))
-    (and_cases (leb (w (i + 4)) 1) _ over)
-
--- Each offset is a boundary, or one of the five before it is: where a character begins that reaches over it.
-pub boundary_near : (f : Flavor) (window bytes : List ℕ) (n : ℕ) → Follows window bytes 5 → is_boundary_at f window 0 ≡ true →
-    n ≤ length bytes → (m : ℕ) × (m ≤ n) × (n ≤ m + 5) × (is_boundary_at f window m ≡ true)
-boundary_near f window bytes n follows first fits =
-    ⊎_elim (λ (boundary : is_boundary_at f window n ≡ true). (n, omega arith, omega arith, boundary))
-    (λ (over : is_boundary_at f window n ≡ false). let reach = reaching f window n over in by_reach reach.0 reach.1 reach.2)
-    (cases_Bool (is_boundary_at f window n))
-  where
-    by_reach : (s : ℕ) → s < 5 → 5 < width_at f window (n + s) + s → (m : ℕ) × (m ≤ n) × (n ≤ m + 5) × (is_boundary_at f window m ≡ true)
-    by_reach s small far =
-        ⊎_elim (λ (early : n + s < 5).
-        absurd (omega (arith, boundary_ends f window 0 first (n + s) early, ap (width_at f window) (zero-add (n + s)))))
-        (λ (later : 5 ≤ n + s).
-        let m = n + s - 5 in
-        let offset : m + 5 ≡ n + s = omega arith in
-        let same = ap (width_at f window) offset in
-        (m, omega arith, omega arith, boundary_at_character f window bytes m follows first (omega arith) (omega arith)))
-        (cases_lt (n + s) 5)

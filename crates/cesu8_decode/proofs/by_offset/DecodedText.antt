@@ -6,11 +6,11 @@ use Rattle.std.proofs.lemmas.List.{take-append-drop, append_cancel_right}
 use Rattle.cesu8_text.specs.Text.{utf8}
 use Rattle.cesu8_text.specs.Encoding.{Flavor}
 use Rattle.cesu8_text.specs.Reading.{reading}
-use Rattle.cesu8_decode.specs.DecodedOffsets.{width_at, decoded_byte, decoded, is_boundary_at}
+use Rattle.cesu8_decode.specs.DecodedOffsets.{width_at, decoded_byte, decoded}
 use Rattle.cesu8_text.proofs.reading.Decoding.{utf8_append}
 use Rattle.cesu8_text.proofs.reading.Splits.{split}
 use Rattle.cesu8_decode.proofs.by_offset.DecodedBytes.{decoded_after, decoded_after_ended}
-use Rattle.cesu8_decode.proofs.by_offset.WindowOffsets.{Follows, follows_later, width_following, decoded_split}
+use Rattle.cesu8_decode.proofs.by_offset.WindowOffsets.{is_boundary_at, Follows, follows_later, width_following, decoded_split}
 use Rattle.cesu8_decode.proofs.by_offset.CharacterBoundaries.{boundary_ends, none_crosses_boundary}
 
 -- by the bytes, from the first on
@@ -35,7 +35,7 @@ by_index f window (b ∷ bytes) i follows =
     (get_or window (e3 k) 0) ((ap (λ p. get_or window p 0) e4 ∙ first) k) bytes)) k)
 
 -- From a boundary on, all bytes become the UTF-8 of their lossy reading.
-decoded_from_boundary : (f : Flavor) (window bytes : List ℕ) (i : ℕ) → Follows window bytes (i + 5) → is_boundary_at f window i ≡ true →
+pub decoded_from_boundary : (f : Flavor) (window bytes : List ℕ) (i : ℕ) → Follows window bytes (i + 5) → is_boundary_at f window i ≡ true →
     decoded f window i (length bytes) ≡ utf8 (reading f bytes)
 decoded_from_boundary f window bytes i follows boundary = grind (arith, nat_tests, boundary_ends, by_index, decoded_after_ended)
 

@@ -7,9 +7,8 @@ use Rattle.cesu8_text.specs.Encoding.{Flavor, encoding}
 use Rattle.cesu8_text.specs.Reading.{BeginsWith, NoneBegins, StandsAt, width, reading, IsStrictReading}
 use Rattle.cesu8_text.specs.Cutting.{Piece, Character, Replaced, ArePieces, bytes_of, text_of, IsGreedy}
 use Rattle.cesu8_text.specs.Laws.{NoneCrosses}
-use Rattle.cesu8_decode.specs.DecodedOffsets.{width_at, is_ill_formed_at, is_boundary_at}
+use Rattle.cesu8_decode.specs.DecodedOffsets.{width_at, is_ill_formed_at}
 use Rattle.cesu8_bytes.specs.TextChunks.{IsChunk}
-use Rattle.cesu8_decode.specs.Decoding.{HasFault}
 use Rattle.cesu8_bytes.specs.declared.strictness.Strictness.{Strictness}
 use Rattle.cesu8_bytes.specs.declared.strictness.Strictness.TheVariants.{Strict}
 use Rattle.cesu8_text.proofs.encoding.Encodings.{encoding_nil, encoding_cons}
@@ -19,8 +18,16 @@ use Rattle.cesu8_text.proofs.reading.Splits.{begins_front}
 use Rattle.cesu8_text.proofs.reading.Cuttings.{greedy_cutting}
 use Rattle.cesu8_text.proofs.reading.Greedy.{places}
 use Rattle.cesu8_decode.proofs.by_offset.FirstWidths.{wide}
-use Rattle.cesu8_decode.proofs.by_offset.WindowOffsets.{Follows, width_in}
+use Rattle.cesu8_decode.proofs.by_offset.WindowOffsets.{is_boundary_at, Follows, width_in}
 use Rattle.cesu8_decode.proofs.by_offset.CharacterBoundaries.{width_bounds, boundary_ends, width_of_standing}
+
+-- After some text no encoded character begins the bytes that are left.
+pub record HasFault (f : Flavor) (bytes : List ℕ) : Type 0 where
+  pub rest : List ℕ
+  pub chunk : List ℕ
+  pub before : IsChunk f Strict bytes rest chunk
+  pub some : 0 < length rest
+  pub none_begins : NoneBegins f rest
 
 -- A character covers an offset.
 pub record IsCovered (f : Flavor) (bytes : List ℕ) (i : ℕ) : Type 0 where

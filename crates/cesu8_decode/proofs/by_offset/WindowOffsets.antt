@@ -1,8 +1,18 @@
 -- What is told of the offsets of a window rests on its bytes there and a few more.
+use Rattle.std.specs.Prelude.{Bool, ◌&&◌, nat_le}
 use Rattle.std.proofs.Common.{◌≡◌, ℕ, zero, suc, ◌+◌, ◌<◌, ◌≤◌, List, ◌++◌, refl, sym, ap, ◌∙◌, arith, get_or, append_assoc, add-zero, zero-add, suc-add, length, drop, length-drop, get_or-drop, ◌∷◌}
 use Rattle.cesu8_text.specs.Encoding.{Flavor}
-use Rattle.cesu8_decode.specs.DecodedOffsets.{first_width, first_width_by, width_at, decoded_byte, decoded_at, decoded, is_ill_formed_at, ill_formed_by, is_boundary_at, boundary_by, saved_between}
+use Rattle.cesu8_decode.specs.DecodedOffsets.{first_width, first_width_by, width_at, decoded_byte, decoded_at, decoded, is_ill_formed_at, ill_formed_by, saved_between}
 use Rattle.cesu8_decode.proofs.by_offset.WidthTests.{width_by_six}
+
+-- No encoded character crosses a boundary from the five offsets before it, by their widths.
+abbrev pub boundary_by : (w1 w2 w3 w4 w5 : ℕ) → Bool
+boundary_by w1 w2 w3 w4 w5 = nat_le w1 1 && (nat_le w2 2 && (nat_le w3 3 && (nat_le w4 4 && nat_le w5 5)))
+
+-- The boundary before the byte of a window that follows the first i bytes and five more.
+abbrev pub is_boundary_at : Flavor → List ℕ → ℕ → Bool
+is_boundary_at f window i =
+    boundary_by (width_at f window (i + 4)) (width_at f window (i + 3)) (width_at f window (i + 2)) (width_at f window (i + 1)) (width_at f window i)
 
 -- Two windows have the same n bytes, one from i on and the other from j on.
 abbrev pub Agree : (a b : List ℕ) (i j n : ℕ) → Type 0

@@ -16,7 +16,7 @@ use Rattle.cesu8_text.proofs.encoding.Found.{found_pair}
 use Rattle.cesu8_decode.proofs.by_offset.FirstWidths.{IsWide, wide, width_of_first}
 use Rattle.cesu8_decode.proofs.by_offset.WidthTests.{null_found}
 use Rattle.cesu8_text.proofs.reading.Steps.{reading_character}
-use Rattle.cesu8_decode.specs.Changed.{BeginsChanged}
+use Rattle.cesu8_decode.specs.DecodedOffsets.{BeginsChanged}
 use Rattle.cesu8_decode.proofs.by_offset.WidthTests.{pair_by_prefix, same_digits}
 
 -- What a character of some width writes is read, if it is the UTF-8 of the character.

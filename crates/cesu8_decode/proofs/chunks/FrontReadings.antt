@@ -15,11 +15,11 @@ use Rattle.cesu8_text.proofs.reading.Decoding.{IsText_append, utf8_append}
 use Rattle.cesu8_text.proofs.reading.KeptTexts.{strict_only}
 use Rattle.cesu8_bytes.specs.TextChunks.{IsReadSoFar, IsChunk}
 use Rattle.cesu8_bytes.specs.declared.strictness.Strictness.TheVariants.{Strict}
-use Rattle.cesu8_bytes.specs.declared.writing.writers.NoRoom.{NoRoom}
+use Rattle.cesu8_bytes.specs.declared.writing.copies.NoRoom.{NoRoom}
 use Rattle.cesu8_decode.specs.declared.refusal.Unwritten.TheVariants as unwritten
-use Rattle.cesu8_decode.specs.Decoding.{AppendsStrictly}
+use Rattle.cesu8_decode.specs.Decoding.{AppendsReading}
 use Rattle.cesu8_decode.specs.Following.{Unchanged}
-use Rattle.cesu8_decode.specs.Changed.{BeginsChanged}
+use Rattle.cesu8_decode.specs.DecodedOffsets.{BeginsChanged}
 use Rattle.cesu8_decode.specs.Front.{IsFront}
 use Rattle.cesu8_decode.specs.PutReadings.{PutsReading}
 use Rattle.cesu8_decode.proofs.chunks.ReadChunks.{more_read, chunk_appended}
@@ -78,11 +78,11 @@ chunk_of f bytes rest old new so_far = grind arith
 -- Where the strict reading of the rest is appended behind what is read so far, that of all bytes is.
 pub appended_behind : {Z : Type 0} (f : Flavor) (bytes rest : List ℕ) (before between : Vec ℕ Z) (result : Option (Vec ℕ Z)) →
     IsReadSoFar f Strict bytes rest before.items between.items → vec_capacity between ≡ vec_capacity before →
-    AppendsStrictly f rest between result → AppendsStrictly f bytes before result
+    AppendsReading f Strict rest between result → AppendsReading f Strict bytes before result
 appended_behind f bytes rest before between None read same appends = record {
   text = tt;
   capacity = tt;
-  none = none_before f bytes rest _ (chunk_of f bytes rest before.items between.items read) appends.none;
+  none = (refl, none_before f bytes rest _ (chunk_of f bytes rest before.items between.items read) appends.none.1);
 }
 appended_behind f bytes rest before between (Some text) read same appends = record {
   text = more_read f Strict bytes rest [] before.items between.items text.items read appends.text;

@@ -1,6 +1,6 @@
 -- What a call may say of a text that it writes into a caller's buffer.
 use Rattle.std.proofs.lemmas.Bool.Decides.{nat_tests}
-use Rattle.std.proofs.Common.{[], ◌≡◌, ℕ, ◌^◌, ◌<◌, ◌≤◌, ◌↔◌, List, refl, sym, ap, ◌∙◌, subst, arith, length, Bool, false, Result, Ok, Err, MatchResult, IsErrAnd}
+use Rattle.std.proofs.Common.{[], ◌≡◌, ℕ, ◌^◌, ◌<◌, ◌≤◌, ◌↔◌, List, refl, sym, ap, ◌∙◌, subst, arith, length, Result, Ok, Err, MatchResult, IsErrAnd}
 use Rattle.std.proofs.lemmas.Bool.{false≢true}
 use Rattle.std.specs.Str.{chars}
 use Rattle.cesu8_text.specs.Text.{utf8}
@@ -12,11 +12,10 @@ use Rattle.cesu8_bytes.specs.declared.strictness.Strictness.{Strictness}
 use Rattle.cesu8_bytes.specs.declared.strictness.Strictness.TheVariants.{Strict, Lossy}
 use Rattle.cesu8_text.specs.Slices.{StandsAtFront, ReadsAtLength}
 use Rattle.cesu8_bytes.specs.Puts.{PutsAnswer}
-use Rattle.cesu8_decode.specs.Decoding.{ReadsAll, refuses}
 use Rattle.cesu8_decode.specs.PutReadings.{PutsText, ReadsAs, IsReadingOf}
 use Rattle.cesu8_decode.specs.declared.refusal.Unwritten.{Unwritten}
 use Rattle.cesu8_decode.specs.declared.refusal.Unwritten.TheVariants as unwritten
-use Rattle.cesu8_bytes.specs.declared.writing.writers.NoRoom.{NoRoom}
+use Rattle.cesu8_bytes.specs.declared.writing.copies.NoRoom.{NoRoom}
 use Rattle.cesu8_text.proofs.StdUtf8.{IsUtf8Of_chars}
 use Rattle.cesu8_text.proofs.encoding.Lengths.{length_bounds}
 use Rattle.cesu8_text.proofs.reading.KeptTexts.{strict_only}
@@ -110,12 +109,12 @@ kept_put f bytes keeps reads reads_lossily known which kept r told old new small
     (only_kept f bytes keeps reads reads_lossily known which kept) small told_is puts
 
 -- and of those of which all were decoded.
-pub decoded_put : (f : Flavor) (which : Strictness) (bytes answer : List ℕ) (is_ill_formed : Bool) (r : Result ℕ NoRoom) (told : Result ℕ Unwritten) (old new : List ℕ) →
-    ReadsAll f which bytes answer is_ill_formed → refuses which is_ill_formed ≡ false → length answer < 2 ^ 64 →
+pub decoded_put : (f : Flavor) (which : Strictness) (bytes answer : List ℕ) (r : Result ℕ NoRoom) (told : Result ℕ Unwritten) (old new : List ℕ) →
+    IsChunk f which bytes [] answer → length answer < 2 ^ 64 →
     MatchResult r (λ len. told ≡ Ok len) (λ fault. IsErrAnd told (λ d. d ≡ unwritten.NoRoom fault)) →
     PutsAnswer answer r old new → PutsText which (IsReadingOf f which bytes) told old new
-decoded_put f which bytes answer is_ill_formed r told old new reads fine small told_is puts =
-    text_put which (IsReadingOf f which bytes) (chars answer) answer r told old new (only_chunk f which bytes answer (reads.all fine)) small told_is puts
+decoded_put f which bytes answer r told old new read small told_is puts =
+    text_put which (IsReadingOf f which bytes) (chars answer) answer r told old new (only_chunk f which bytes answer read) small told_is puts
 
 -- No `usize` is its length, so that it fits into no buffer.
 pub length_lacks : (f : Flavor) (which : Strictness) (bytes buf : List ℕ) → (which ≡ Strict → IsStrictReading f bytes (reading f bytes)) →

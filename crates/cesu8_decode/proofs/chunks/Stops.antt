@@ -4,17 +4,14 @@ use Rattle.std.proofs.lemmas.Bool.{cases_Bool, cases_lt, le-leb, lt-leb, le-ltb,
 use Rattle.std.proofs.lemmas.List.{get_or-drop, drop-drop, drop-replicate, append_assoc, length-replicate, replicate-append-replicate, take-append-drop, take-append-le, drop-append-le}
 use Rattle.cesu8_text.specs.Class.{is_null}
 use Rattle.cesu8_text.specs.Encoding.{Flavor, Cesu8, Mutf8}
-use Rattle.cesu8_text.specs.Reading.{HasNoStrictReading, reading}
+use Rattle.cesu8_text.specs.Reading.{HasNoStrictReading}
 use Rattle.cesu8_bytes.specs.Pairs.{null_at, HasPair}
 use Rattle.cesu8_bytes.specs.Puts.{PutsAt}
-use Rattle.cesu8_bytes.specs.declared.strictness.Strictness.TheVariants.{Strict}
 use Rattle.cesu8_bytes.proofs.vectors.Loads.{padded}
-use Rattle.cesu8_decode.specs.Decoding.{ReadsAll}
 use Rattle.cesu8_decode.specs.DecodedOffsets.{continues, IsPrefixOf}
 use Rattle.cesu8_decode.specs.Following.{Unchanged, shown, follows, follows_at, crosses, crosses_at, after_fillers, before_zeros, IsSeam, FollowUpTo}
-use Rattle.cesu8_decode.specs.Changed.{BeginsChanged}
+use Rattle.cesu8_decode.specs.DecodedOffsets.{BeginsChanged}
 use Rattle.cesu8_decode.specs.Front.{IsFront}
-use Rattle.cesu8_decode.proofs.by_offset.IllFormed.{whole_or_faulty}
 use Rattle.cesu8_decode.proofs.by_offset.WidthTests.{pair_by_prefix}
 use Rattle.cesu8_decode.proofs.chunks.Changed.{null_lead, null_within, pair_in_prefix, pair_within}
 use Rattle.cesu8_decode.proofs.chunks.FrontReadings.{unless_begun}
@@ -175,14 +172,6 @@ no_reading_from f bytes m up_to neither cut =
     let long : n + 2 ≤ length bytes = omega (arith, two_at_least f (drop n bytes) begins, length-drop n bytes) in
     let here : n ≡ m - 1 = omega (arith, next) in
     neither (omega (arith, next, long)) (omega (arith, next)) (subst (λ k. BeginsChanged f (drop k bytes)) here begins)) more
-
--- Bytes without a strict reading are refused.
-pub block_refused : (f : Flavor) (bytes text : List ℕ) (is_ill_formed : Bool) → HasNoStrictReading f bytes → is_ill_formed ≡ true →
-    ReadsAll f Strict bytes text is_ill_formed
-block_refused f bytes text is_ill_formed none some = record {
-  all = λ fine. absurd (true≢false (sym some ∙ fine));
-  ill_formed = λ _. ⊎_elim (λ whole. absurd (none (reading f bytes) whole)) (λ fault. fault) (whole_or_faulty f bytes);
-}
 
 -- ---- bytes that zeros follow
 

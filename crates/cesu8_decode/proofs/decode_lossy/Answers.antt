@@ -1,8 +1,7 @@
-use Rattle.std.proofs.Common.{[], ◌∙◌, refl, ap, arith}
+use Rattle.std.proofs.Common.{[], ◌∙◌, ap, arith}
 use Rattle.std.specs.Str.{chars}
-use Rattle.cesu8_text.proofs.reading.Decoding.{lossy_length_nil}
 use Rattle.cesu8_bytes.specs.declared.strictness.Strictness.TheVariants.{Lossy}
-use Rattle.cesu8_decode.proofs.chunks.ReadChunks.{chunk_utf8, chunk_length, whole_text}
+use Rattle.cesu8_decode.proofs.chunks.ReadChunks.{chunk_utf8, lossy_text_length, whole_text}
 use Rattle.cesu8_decode.proofs.decode_lossy.Goals as goal
 
 pub known_string-requires : goal.known_string-requires
@@ -18,6 +17,5 @@ returns-clause-capacity g c =
       arith,
       c.known_string.ensures.capacity,
       c.in_ok-text.ensures.capacity,
-      chunk_length g.F.Flavor.flavor c.args.bytes.now [] _ c.in_ok-text.ensures.text,
-      lossy_length_nil g.F.Flavor.flavor [] refl,
+      lossy_text_length g.F.Flavor.flavor c.args.bytes.now _ c.in_ok-text.ensures.text,
     )

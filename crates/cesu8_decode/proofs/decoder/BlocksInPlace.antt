@@ -3,23 +3,26 @@ use Rattle.std.proofs.lemmas.Bool.Decides.{nat_tests}
 use Rattle.std.proofs.lemmas.Grind.{common_steps}
 use Rattle.std.proofs.Common.{◌≡◌, ℕ, zero, suc, ◌+◌, ◌-◌, ◌<◌, ◌≤◌, Bool, true, false, true≢false, List, [], ◌++◌, refl, sym, ap, ◌∙◌, arith, map, get_or, length, take, drop, replicate, zero-add, add-zero}
 use Rattle.std.specs.List.{range_with_len}
-use Rattle.std.proofs.lemmas.List.{length-append, get_or-take, get_or-drop, drop-take}
+use Rattle.std.proofs.lemmas.List.{length-append, length-drop, get_or-take}
 use Rattle.std.proofs.Math.Seq.{take-length}
 use Rattle.std.proofs.lemmas.Bool.{cases_lt}
 use Rattle.cesu8_text.specs.Encoding.{Flavor}
+use Rattle.cesu8_text.specs.Text.{utf8}
+use Rattle.cesu8_text.specs.Reading.{HasNoStrictReading, reading, lossy_length}
 use Rattle.cesu8_bytes.specs.Packing.{written_for}
 use Rattle.cesu8_bytes.specs.declared.strictness.Strictness.{Strictness}
 use Rattle.cesu8_bytes.specs.declared.strictness.Strictness.TheVariants.{Strict, Lossy}
 use Rattle.cesu8_bytes.specs.Puts.{WritesAt}
-use Rattle.cesu8_bytes.specs.TextChunks.{IsChunk}
-use Rattle.cesu8_bytes.proofs.vectors.Loads.{padded}
-use Rattle.cesu8_decode.specs.DecodedOffsets.{window_of, is_ill_formed_at, is_boundary_at, decoded_byte, decoded_at, decoded}
+use Rattle.cesu8_bytes.specs.TextChunks.{IsReadSoFar, IsChunk}
+use Rattle.cesu8_decode.specs.DecodedOffsets.{window_of, is_ill_formed_at, decoded_byte, decoded_at, decoded}
 use Rattle.cesu8_decode.specs.DecodedLanes.{start_kind_by, start_kind, AreFiveKinds, goes_at, byte_at}
-use Rattle.cesu8_decode.specs.Decoding.{IsDecoded, WritesDecoded, ReadsFirst, most_written}
-use Rattle.cesu8_decode.proofs.by_offset.WindowOffsets.{Agree, agree_later, follows_zeros, boundary_agrees, ill_formed_agrees, decoded_agrees}
+use Rattle.cesu8_decode.specs.Decoding.{IsDecoded, WritesDecoded, most_written, most_of_text}
+use Rattle.cesu8_decode.proofs.by_offset.WindowOffsets.{is_boundary_at, Agree, agree_later, follows_zeros, ill_formed_agrees, decoded_agrees, decoded_split}
+use Rattle.cesu8_decode.proofs.by_offset.DecodedText.{decoded_between}
+use Rattle.cesu8_decode.proofs.chunks.ReadChunks.{fault_of_whole, none_left, chunk_appended}
 use Rattle.cesu8_decode.proofs.chunks.DecodedChunks.{IsPaddedFor, padded_for, fault_at, lossy_chunk, strict_chunk}
 use Rattle.cesu8_decode.proofs.decoder.DecodedWindows.{five_kinds, kinds_of_zeros, more_written}
-use Rattle.cesu8_decode.proofs.by_offset.CharacterBoundaries.{boundary_of_zeros, boundary_at_end, boundary_near}
+use Rattle.cesu8_decode.proofs.by_offset.CharacterBoundaries.{boundary_of_zeros, boundary_at_end}
 
 -- ---- lengths
 
@@ -129,14 +132,6 @@ decoded_in f which a b before text i j n is_refused agree is = record {
     same : (s : ℕ) → s < n → is_ill_formed_at f a (i + s) ≡ is_ill_formed_at f b (j + s)
     same s small = ill_formed_agrees f a b (i + s) (j + s) (agree_later a b i j (n + 10) s 11 (omega arith) agree)
 
--- A block adds what its bytes become.
-pub block_added : (f : Flavor) (which : Strictness) (bytes window : List ℕ) (p at n : ℕ) (old text : List ℕ) (is_refused : Bool) →
-    IsDecoded f which (window_of bytes) 0 at [] old false → Agree window (window_of bytes) p at (n + 10) →
-    IsDecoded f which window p n old text is_refused → IsDecoded f which (window_of bytes) 0 (at + n) [] text is_refused
-block_added f which bytes window p at n old text is_refused before agree block =
-    more_decoded f which (window_of bytes) [] old text at n is_refused before
-    (decoded_in f which window (window_of bytes) old text p at n is_refused agree block)
-
 -- What the bytes become is written where none of them is refused,
 pub writes_decoded : (f : Flavor) (which : Strictness) (window bytes old new : List ℕ) (at n end new_end : ℕ) (is_refused : Bool) →
     bytes ≡ decoded f window at n → (which ≡ Strict → (i : ℕ) → at ≤ i → i < at + n → is_ill_formed_at f window i ≡ false) →
@@ -166,93 +161,55 @@ first_kinds f bytes = kinds_of_zeros f (window_of bytes) (replicate 32 0) refl z
 pub first_in_window : (bytes : List ℕ) (n k : ℕ) → k < n + 5 → get_or (window_of (take n bytes)) k 0 ≡ get_or (window_of bytes) k 0
 first_in_window bytes n k small = grind (arith, get_or-take)
 
--- An array that they are copied to has them from an offset on.
-pub loaded_agrees : (bytes window : List ℕ) (at n m : ℕ) → ((k : ℕ) → get_or window k 0 ≡ get_or (window_of (take n bytes)) (at + k) 0) →
-    at + m ≤ n + 5 → Agree window (window_of bytes) 0 at m
-loaded_agrees bytes window at n m is fits k small =
-    ap (λ p. get_or window p 0) (zero-add k) ∙ is k ∙ first_in_window bytes n (at + k) (omega arith)
-
--- The last bytes that are read: those that an array has before a boundary.
-pub record IsLast (f : Flavor) (bytes window : List ℕ) (at left : ℕ) : Type 0 where
-  pub around : (k : ℕ) → k < left + 10 → get_or window k 0 ≡ get_or (window_of bytes) (at + k) 0
-  pub boundary : is_boundary_at f (window_of bytes) (at + left) ≡ true
-
--- These are all that are left,
-pub all_last : (f : Flavor) (bytes window : List ℕ) (at n left : ℕ) → ((k : ℕ) → get_or window k 0 ≡ get_or (window_of (take n bytes)) (at + k) 0) →
-    n ≡ length bytes → at + left ≡ n → IsLast f bytes window at left
-all_last f bytes window at n left is all there = record {
-  around = λ k small.
-      is k ∙ ap (λ m. get_or (window_of (take m bytes)) (at + k) 0) all ∙ ap (λ bs. get_or (window_of bs) (at + k) 0) (take-length bytes);
-  boundary =
-      ap (is_boundary_at f (window_of bytes)) (there ∙ all)
-      ∙ boundary_at_end f (window_of bytes) bytes (follows_zeros bytes) (boundary_of_zeros f bytes);
-}
-
--- or the first of them, up to the last boundary that is told.
-pub part_last : (f : Flavor) (bytes window : List ℕ) (at n left : ℕ) → ((k : ℕ) → get_or window k 0 ≡ get_or (window_of (take n bytes)) (at + k) 0) →
-    n ≤ length bytes → at + 16 ≤ n → left ≤ n - at - 5 → n - at - 5 ≤ left + 5 →
-    ((m : ℕ) → m ≤ n - at - 5 → n - at - 5 ≤ m + 5 → is_boundary_at f window m ≡ true → is_boundary_at f window left ≡ true) → IsLast f bytes window at left
-part_last f bytes window at n left is inside some low high last =
-    let all = window_of bytes in
-    let agree = loaded_agrees bytes window at n (n - at + 5) is (omega arith) in
-    let near = boundary_near f all bytes (n - 5) (follows_zeros bytes) (boundary_of_zeros f bytes) (omega arith) in
-    let there : at + (near.0 - at) ≡ near.0 = omega (arith, near.1, near.2) in
-    let told = last (near.0 - at) (omega (arith, near.1)) (omega (arith, near.2))
-    (boundary_agrees f window all (near.0 - at) (at + (near.0 - at)) (agree_at window all at (n - at + 5) (near.0 - at) 10 (omega (arith, near.1)) agree)
-    ∙ ap (is_boundary_at f all) there ∙ near.3) in
-    record {
-      around = λ k small. is k ∙ first_in_window bytes n (at + k) (omega arith);
-      boundary = sym (boundary_agrees f window all left (at + left) (agree_at window all at (n - at + 5) left 10 (omega arith) agree)) ∙ told;
-    }
-
 -- An array agrees with the window on all bytes as far as it has them.
 pub around_agrees : (a b : List ℕ) (at n : ℕ) → ((k : ℕ) → k < n → get_or a k 0 ≡ get_or b (at + k) 0) → Agree a b 0 at n
 around_agrees a b at n around k small = ap (λ p. get_or a p 0) (zero-add k) ∙ around k small
 
--- Bytes that are copied with the five before them stand there.
-pub copied_behind : (bytes copied rest : List ℕ) (at n : ℕ) → 5 ≤ at → copied ≡ take (n + 5) (drop (at - 5) bytes) →
-    ((k : ℕ) → get_or rest k 0 ≡ 0) → (k : ℕ) → get_or (copied ++ rest) k 0 ≡ get_or (window_of (take (at + n) bytes)) (at + k) 0
-copied_behind bytes copied rest at n some is zeros k =
-    padded copied rest zeros k ∙ ap (λ l. get_or l k 0) (is ∙ sym moved)
-    ∙ get_or-drop (at - 5) (take (at + n) bytes) k 0 ∙ sym (follows_zeros (take (at + n) bytes) (at - 5 + k))
-    ∙ ap (λ p. get_or (window_of (take (at + n) bytes)) p 0) there
-  where
-    there : 5 + (at - 5 + k) ≡ at + k
-    there = omega arith
-
-    moved : drop (at - 5) (take (at + n) bytes) ≡ take (n + 5) (drop (at - 5) bytes)
-    moved =
-        let long : at + n ≡ at - 5 + (n + 5) = omega arith in
-        ap (λ m. drop (at - 5) (take m bytes)) long ∙ drop-take (at - 5) (n + 5) bytes
-
 -- ---- what was read
 
--- The first n bytes are a chunk of text up to a boundary, unless strict reading refuses one.
-pub read_in_place : (f : Flavor) (which : Strictness) (bytes : List ℕ) (n read : ℕ) (text : List ℕ) → IsDecoded f which (window_of bytes) 0 n [] text false →
-    (0 < length bytes → 0 < n) → n ≤ length bytes → is_boundary_at f (window_of bytes) n ≡ true → read ≡ n → ReadsFirst f which bytes read text false
-read_in_place f which bytes n read text written some inside boundary read_is = record {
-  some = λ more. omega (arith, some more);
-  within = omega arith;
-  chunk = λ _. rw (read_is, written.bytes refl) (chunk which written);
-  ill_formed = λ ill_formed. absurd (true≢false (sym ill_formed));
-}
+-- The text of all bytes is read where none of them is refused,
+pub all_decoded : (f : Flavor) (which : Strictness) (bytes start text : List ℕ) (n : ℕ) → IsDecoded f which (window_of bytes) 0 n start text false →
+    n ≡ length bytes → IsReadSoFar f which bytes [] start text
+all_decoded f which bytes start text n is all =
+    chunk_appended f which bytes [] _ start text (none_left f which bytes _ [] _ (chunk which is) (omega (arith, all, length-drop n bytes))) (is.bytes refl)
   where
     padded : IsPaddedFor n bytes (window_of bytes)
     padded = padded_for bytes (window_of bytes) n (λ k. refl)
 
-    chunk : (w : Strictness) → IsDecoded f w (window_of bytes) 0 n [] text false → IsChunk f w bytes (drop n bytes) (decoded f (window_of bytes) 0 n)
-    chunk Strict written = strict_chunk f bytes (window_of bytes) n padded inside boundary Strict (λ i small. written.strict refl refl i (omega arith) (omega arith))
-    chunk Lossy written = lossy_chunk f bytes (window_of bytes) n padded inside boundary
+    boundary : is_boundary_at f (window_of bytes) n ≡ true
+    boundary = ap (is_boundary_at f (window_of bytes)) all ∙ boundary_at_end f (window_of bytes) bytes (follows_zeros bytes) (boundary_of_zeros f bytes)
 
--- Where it does, they have a fault.
-pub refused_in_place : (f : Flavor) (which : Strictness) (bytes : List ℕ) (n read : ℕ) (text written : List ℕ) (is_ill_formed : Bool) →
-    IsDecoded f which (window_of bytes) 0 n [] written true → n ≤ length bytes → read ≡ length bytes → is_ill_formed ≡ true → ReadsFirst f which bytes read text is_ill_formed
-refused_in_place f Strict bytes n read text written is_ill_formed is inside read_is some = record {
-  some = λ more. omega arith;
-  within = omega arith;
-  chunk = λ none. absurd (true≢false (sym some ∙ none));
-  ill_formed = λ _.
-      let found = is.refused refl in
-      fault_at f bytes (window_of bytes) (length bytes) (padded_for bytes (window_of bytes) (length bytes) (λ k. refl)) (omega arith) found.0 (omega (arith, found.2)) found.3;
-}
-refused_in_place f Lossy bytes n read text written is_ill_formed is inside read_is some = absurd (true≢false (is.lossy refl))
+    chunk : (w : Strictness) → IsDecoded f w (window_of bytes) 0 n start text false → IsChunk f w bytes (drop n bytes) (decoded f (window_of bytes) 0 n)
+    chunk Strict is = strict_chunk f bytes (window_of bytes) n padded (omega arith) boundary Strict (λ i small. is.strict refl refl i (omega arith) (omega arith))
+    chunk Lossy is = lossy_chunk f bytes (window_of bytes) n padded (omega arith) boundary
+
+-- and they have no strict reading where one is.
+pub refused_decoded : (f : Flavor) (which : Strictness) (bytes start text : List ℕ) (n : ℕ) → IsDecoded f which (window_of bytes) 0 n start text true →
+    n ≤ length bytes → (which ≡ Strict) × HasNoStrictReading f bytes
+refused_decoded f Strict bytes start text n is inside =
+    let found = is.refused refl in
+    (refl, fault_of_whole f bytes (fault_at f bytes (window_of bytes) n (padded_for bytes (window_of bytes) n (λ k. refl)) inside found.0 (omega (arith, found.2)) found.3))
+refused_decoded f Lossy bytes start text n is inside = absurd (true≢false (is.lossy refl))
+
+-- The text of some of them is no longer than that of all can be.
+pub decoded_fits : (f : Flavor) (which : Strictness) (bytes start text : List ℕ) (n : ℕ) → IsDecoded f which (window_of bytes) 0 n start text false →
+    n ≤ length bytes → length text ≤ length start + most_of_text f which bytes
+unfolding lossy_length
+decoded_fits f Strict bytes start text n is inside =
+    omega (arith, ap length (is.bytes refl), length-append start (decoded f (window_of bytes) 0 n), no_longer f Strict (window_of bytes) 0 n (λ s i low small. is.strict refl refl i low small))
+decoded_fits f Lossy bytes start text n is inside =
+    let w = window_of bytes in
+    let m = length bytes - n in
+    let whole : n + m ≡ length bytes = omega arith in
+    let all = decoded_between f w bytes (length bytes) (follows_zeros bytes) (omega arith) (boundary_of_zeros f bytes)
+    (boundary_at_end f w bytes (follows_zeros bytes) (boundary_of_zeros f bytes)) in
+    omega (
+      arith,
+      ap length (is.bytes refl),
+      length-append start (decoded f w 0 n),
+      ap length (decoded_split f w 0 n m),
+      length-append (decoded f w 0 n) (decoded f w (0 + n) m),
+      ap (λ k. length (decoded f w 0 k)) whole,
+      ap length all,
+      ap (λ bs. length (utf8 (reading f bs))) (take-length bytes),
+    )

@@ -1,8 +1,7 @@
 -- What is read and written by windows.
-use Rattle.std.proofs.Common.{append_assoc, ◌≡◌, ℕ, ◌+◌, ◌<◌, ◌≤◌, ◌⊎◌, Bool, ◌&&◌, not, eqb, leb, List, [], ◌∷◌, ◌++◌, sym, ap, ◌∙◌, arith, map, get_or, length, take, drop, replicate, zero-add, add-zero, bit_and, bit_or}
-use Rattle.std.proofs.lemmas.Bool.Decides.{nat_tests}
+use Rattle.std.proofs.Common.{append_assoc, ◌≡◌, ℕ, ◌+◌, ◌<◌, ◌≤◌, List, [], ◌∷◌, ◌++◌, sym, ap, ◌∙◌, arith, map, get_or, length, take, drop, replicate, zero-add}
 use Rattle.cesu8_text.specs.Encoding.{Flavor}
-use Rattle.cesu8_decode.specs.DecodedOffsets.{width_at, is_boundary_at, decoded}
+use Rattle.cesu8_decode.specs.DecodedOffsets.{decoded}
 use Rattle.cesu8_decode.specs.DecodedLanes.{start_kind, AreFiveKinds}
 use Rattle.std.specs.List.{range_with_len}
 use Rattle.std.proofs.lemmas.List.FromFn.{get_or-map-range_with_len}
@@ -10,44 +9,10 @@ use Rattle.cesu8_decode.proofs.by_offset.WindowOffsets.{decoded_split}
 use borrow.Rule.Slice.PartMut.{put_mid, post_of}
 use Rattle.std.proofs.lemmas.List.{get_or-drop, take-replicate}
 use Rattle.cesu8_bytes.proofs.vectors.Loads.{zeros_at, padded}
-use Rattle.cesu8_decode.proofs.decoder.StartKinds.{start_at, no_start, over_one, over_two}
-use Rattle.cesu8_decode.proofs.by_offset.CharacterBoundaries.{width_bounds}
+use Rattle.cesu8_decode.proofs.decoder.StartKinds.{no_start}
 use Rattle.cesu8_decode.proofs.by_offset.DecodedText.{IsPadded}
-use Rattle.cesu8_decode.proofs.decoder.LaneTests.{no_bit_or, no_pair}
 
--- ---- boundaries
-
--- a pair reaches over two offsets more, and nothing else does
-by_bounds : (w n : ℕ) → (w ≤ 3) ⊎ (w ≡ 6) → 3 ≤ n → n < 6 → not (eqb w 6) ≡ leb w n
-by_bounds w n bounds low high = grind (arith, nat_tests)
-
-regroup : (a b c d e : Bool) → ((a && b) && ((e && d) && c)) ≡ (a && (b && (c && (d && e))))
-regroup a b c d e = grind (arith, nat_tests)
-
--- The kinds of five offsets tell whether there is a boundary behind them.
-pub boundary_told : (f : Flavor) (window kinds : List ℕ) (n at : ℕ) → AreFiveKinds f window n kinds at →
-    eqb (bit_or (bit_or (get_or kinds (at + 4) 0) (bit_and (get_or kinds (at + 3) 0) 0x3C))
-    (bit_or (bit_or (bit_and (get_or kinds at 0) 0x20) (bit_and (get_or kinds (at + 1) 0) 0x20)) (bit_and (get_or kinds (at + 2) 0) 0x20))) 0
-    ≡ is_boundary_at f window n
-boundary_told f window kinds n at told =
-    let w = width_at f window in
-    let c : ℕ → ℕ = λ k. get_or kinds k 0 in
-    let s = start_at f window in
-    let two = bit_and (c (at + 3)) 0x3C in
-    let p0 = bit_and (c at) 0x20 in
-    let p1 = bit_and (c (at + 1)) 0x20 in
-    let p2 = bit_and (c (at + 2)) 0x20 in
-    let first : c at ≡ start_kind f window n = ap c (sym (add-zero at)) ∙ told 0 (omega arith) ∙ ap (start_kind f window) (add-zero n) in
-    let reach = λ (x p k : ℕ) (is : x ≡ start_kind f window p) (low : 3 ≤ k) (high : k < 6).
-    ap (λ x. eqb (bit_and x 0x20) 0) is ∙ no_pair _ _ _ (s p) ∙ by_bounds (w p) k (width_bounds f window p) low high in
-    no_bit_or (bit_or (c (at + 4)) two) (bit_or (bit_or p0 p1) p2)
-    ∙ (λ i. no_bit_or (c (at + 4)) two i && no_bit_or (bit_or p0 p1) p2 i)
-    ∙ (λ i. (eqb (c (at + 4)) 0 && eqb two 0) && (no_bit_or p0 p1 i && eqb p2 0))
-    ∙ (λ i. ((ap (λ x. eqb x 0) (told 4 (omega arith)) ∙ over_one _ _ _ (s (n + 4))) i
-    && (ap (λ x. eqb (bit_and x 0x3C) 0) (told 3 (omega arith)) ∙ over_two _ _ _ (s (n + 3))) i)
-    && ((reach (c at) n 5 first (omega arith) (omega arith) i && reach (c (at + 1)) (n + 1) 4 (told 1 (omega arith)) (omega arith) (omega arith) i)
-    && reach (c (at + 2)) (n + 2) 3 (told 2 (omega arith)) (omega arith) (omega arith) i))
-    ∙ regroup (leb (w (n + 4)) 1) (leb (w (n + 3)) 2) (leb (w (n + 2)) 3) (leb (w (n + 1)) 4) (leb (w n) 5)
+-- ---- kinds
 
 -- Five of the kinds of a block are those of five offsets.
 pub five_kinds : (f : Flavor) (window kinds : List ℕ) (from p n : ℕ) → kinds ≡ map (start_kind f window) (range_with_len from 32) → p ≤ 27 →

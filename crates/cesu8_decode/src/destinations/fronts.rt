@@ -5,17 +5,19 @@
 ghost use Rattle.std.specs.Prelude.{◌≡◌, ◌+◌, ◌<◌, ◌≤◌, length, vec_len, vec_capacity};
 ghost use Rattle.cesu8_bytes.specs.TextChunks.{IsReadSoFar};
 ghost use Rattle.cesu8_bytes.specs.declared.strictness.Strictness.TheVariants.{Strict};
-ghost use Rattle.cesu8_decode.specs.Decoding.{AppendsStrictly};
+ghost use Rattle.cesu8_decode.specs.Decoding.{AppendsReading};
 ghost use Rattle.cesu8_decode.specs.Following.{Unchanged as AllUnchanged, HasStops};
 ghost use Rattle.cesu8_decode.specs.Front.{IsFront};
 
+use super::chunks::append_chunks;
 use crate::changed::{begins_changed, prefix_of};
 use crate::front::front;
 use crate::lanes::character_set::Unchanged;
 use crate::lanes::stops::stops_of_few;
-use crate::pass::in_place::append_strictly;
+use crate::pass::blocks::{LARGE_STRICT, SMALL_STRICT};
+use crate::pass::reading::StrictReading;
 use crate::pass::strict_few::{STRICT_TEXT, write_few_strictly};
-use crate::way::{FEW_BYTES, are_few};
+use crate::way::{FEW_BYTES, Way, way_of};
 use cesu8_bytes::flavor::Flavor;
 use cesu8_bytes::pairs::{PAIR, PAIR_READ, utf8_of_pair};
 use cesu8_bytes::writing::copies::{append, append_few};
@@ -34,7 +36,7 @@ const LONG_FRONT: usize = 64;
 pub fn append_many<F: Flavor>(bytes: &[u8], len: usize, before: Vec<u8>) -> Option<Vec<u8>>
     requires front { IsFront AllUnchanged F.flavor bytes.now len }
     requires room { vec_len before + length bytes.now ≤ vec_capacity before }
-    ensures { AppendsStrictly F.flavor bytes.now before result }
+    ensures { AppendsReading F.flavor Strict bytes.now before result }
 {
     let mut text = before;
     let mut rest = bytes;
@@ -56,12 +58,17 @@ pub fn append_many<F: Flavor>(bytes: &[u8], len: usize, before: Vec<u8>) -> Opti
 #[inline(always)]
 fn append_rest<F: Flavor>(bytes: &[u8], before: Vec<u8>) -> Option<Vec<u8>>
     requires { vec_len before + length bytes.now ≤ vec_capacity before }
-    ensures { AppendsStrictly F.flavor bytes.now before result }
+    ensures { AppendsReading F.flavor Strict bytes.now before result }
 {
-    if are_few(bytes) {
-        return append_few_strictly::<F>(bytes, stops_of_few::<F, Unchanged>(bytes), before);
+    match way_of(bytes) {
+        Way::OneBlock | Way::Few => {
+            append_few_strictly::<F>(bytes, stops_of_few::<F, Unchanged>(bytes), before)
+        }
+        Way::SmallArray => append_chunks::<F, StrictReading, SMALL_STRICT>(bytes, before),
+        Way::LargeArray | Way::LargestArray | Way::Chunks => {
+            append_chunks::<F, StrictReading, LARGE_STRICT>(bytes, before)
+        }
     }
-    append_strictly::<F>(bytes, before)
 }
 
 /// Appends the strict reading of a few bytes, by the set of those that may not follow, and by an array.
@@ -69,15 +76,12 @@ fn append_rest<F: Flavor>(bytes: &[u8], before: Vec<u8>) -> Option<Vec<u8>>
 pub fn append_few_strictly<F: Flavor>(bytes: &[u8], stops: u64, before: Vec<u8>) -> Option<Vec<u8>>
     requires stops { HasStops AllUnchanged F.flavor bytes.now stops }
     requires room { vec_len before + length bytes.now ≤ vec_capacity before }
-    ensures { AppendsStrictly F.flavor bytes.now before result }
+    ensures { AppendsReading F.flavor Strict bytes.now before result }
 {
     let mut written = [0; STRICT_TEXT];
-    let decoded = write_few_strictly::<F>(bytes, stops, &mut written);
-    if decoded.is_ill_formed {
-        return None;
-    }
+    let end = write_few_strictly::<F>(bytes, stops, &mut written)?;
     let mut text = before;
-    append_few(&written[..decoded.end], &mut text);
+    append_few(&written[..end], &mut text);
     Some(text)
 }
 

@@ -1,38 +1,38 @@
 //! Decodes to a caller's buffer, with no request.
 //!
-//! Up to a window is decoded to an array on the stack and copied from there. Of more bytes, first
-//! passes find whether they are ill-formed and, if needed, how long their text is. Then it is
-//! written chunk by chunk where it stays.
+//! What an array on the stack has room for is decoded to it, and copied. Of more bytes, first passes
+//! find whether they are ill-formed and, if needed, how long their text is.
 
-ghost use Rattle.std.specs.Prelude.{◌≡◌, ◌+◌, ◌≤◌, List, ℕ, ◌<◌, length, take};
+ghost use Rattle.std.specs.Prelude.{◌≡◌, ◌+◌, ◌≤◌, [], List, ℕ, ◌<◌, length};
 ghost use Rattle.cesu8_text.specs.Encoding.{Flavor as AnyFlavor};
 ghost use Rattle.cesu8_text.specs.Reading.{reading, lossy_length};
 ghost use Rattle.cesu8_text.specs.Slices.{StandsAtFront};
 ghost use Rattle.cesu8_text.specs.Text.{utf8};
 ghost use Rattle.cesu8_bytes.specs.declared.strictness.Strictness.TheVariants.{Strict, Lossy};
-ghost use Rattle.cesu8_decode.specs.Decoding.{ReadsAll, room_for};
+ghost use Rattle.cesu8_decode.specs.Decoding.{room_for};
+ghost use Rattle.cesu8_bytes.specs.TextChunks.{IsReadSoFar};
+ghost use Rattle.cesu8_bytes.specs.declared.strictness.Strictness.{Strictness as AnyStrictness};
 ghost use Rattle.cesu8_decode.specs.Following.{Unchanged as AllUnchanged, HasStops};
 ghost use Rattle.cesu8_decode.specs.Front.{IsPartialFront};
 ghost use Rattle.cesu8_decode.specs.PutReadings.{PutsReading};
 
+use super::chunks::put_chunks;
 use crate::changed::{begins_changed, may_lead_changed};
-use crate::decoded::Decoded;
 use crate::front::{FoundFront, is_ill_formed};
 use crate::lanes::character_set::Unchanged;
 use crate::lanes::stops::stops_of_few;
 use crate::lengths::lossy_len;
-use crate::pass::in_place::{LONG_TEXT, SHORT_TEXT, write_text};
-use crate::pass::one_block::{LOSSY_TEXT, write_one_block};
+use crate::pass::blocks::{
+    BLOCK_LOSSY, LARGE_LOSSY, LARGE_STRICT, LARGEST_LOSSY, SMALL_LOSSY, SMALL_STRICT, write_all,
+};
 use crate::pass::reading::{LossyReading, Reading, StrictReading};
 use crate::pass::strict_few::{STRICT_TEXT, write_few_strictly};
-use crate::refusal::{Unwritten, is_refused};
-use crate::way::{FEW_BYTES, LONG_WINDOW, SHORT_WINDOW, Way, are_few, way_of};
-use cesu8_bytes::BLOCK;
+use crate::refusal::Unwritten;
+use crate::way::{FEW_BYTES, Way, are_few, way_of};
 use cesu8_bytes::flavor::Flavor;
 use cesu8_bytes::lanes::short::copy_short;
 use cesu8_bytes::strictness::Strictness;
-use cesu8_bytes::writing::put::put;
-use cesu8_bytes::writing::writers::{NoRoom, copy_to_slice};
+use cesu8_bytes::writing::copies::{NoRoom, copy_to_slice};
 
 /// Writes the strict reading of bytes to a caller's buffer, if it fits.
 #[inline(never)]
@@ -95,9 +95,9 @@ fn put_strictly_whole<F: Flavor>(bytes: &[u8], buf: &mut [u8]) -> Result<usize, 
             let stops = stops_of_few::<F, Unchanged>(bytes);
             put_few::<F>(Strictness::Strict, bytes, stops, buf)
         }
-        Way::ShortWindow => put_by_array::<F, StrictReading, SHORT_WINDOW>(bytes, buf),
-        Way::LongWindow => put_by_array::<F, StrictReading, LONG_WINDOW>(bytes, buf),
-        Way::Chunks => put_chunks::<F>(Strictness::Strict, bytes, buf),
+        Way::SmallArray => put_by_array::<F, StrictReading, SMALL_STRICT>(bytes, buf),
+        Way::LargeArray => put_by_array::<F, StrictReading, LARGE_STRICT>(bytes, buf),
+        Way::LargestArray | Way::Chunks => put_many::<F>(Strictness::Strict, bytes, buf),
     }
 }
 
@@ -108,10 +108,11 @@ fn put_by_blocks<F: Flavor>(bytes: &[u8], buf: &mut [u8]) -> Result<usize, Unwri
     ensures { PutsReading F.flavor Lossy bytes.now result buf.old buf.new }
 {
     match way_of(bytes) {
-        Way::OneBlock => put_one::<F>(bytes, buf),
-        Way::Few | Way::ShortWindow => put_by_array::<F, LossyReading, SHORT_TEXT>(bytes, buf),
-        Way::LongWindow => put_by_array::<F, LossyReading, LONG_TEXT>(bytes, buf),
-        Way::Chunks => put_chunks::<F>(Strictness::Lossy, bytes, buf),
+        Way::OneBlock => put_by_array::<F, LossyReading, BLOCK_LOSSY>(bytes, buf),
+        Way::Few | Way::SmallArray => put_by_array::<F, LossyReading, SMALL_LOSSY>(bytes, buf),
+        Way::LargeArray => put_by_array::<F, LossyReading, LARGE_LOSSY>(bytes, buf),
+        Way::LargestArray => put_by_array::<F, LossyReading, LARGEST_LOSSY>(bytes, buf),
+        Way::Chunks => put_many::<F>(Strictness::Lossy, bytes, buf),
     }
 }
 
@@ -128,66 +129,36 @@ fn put_few<F: Flavor>(
     ensures { PutsReading F.flavor strictness bytes.now result buf.old buf.new }
 {
     let mut written = [0; STRICT_TEXT];
-    let decoded = write_few_strictly::<F>(bytes, stops, &mut written);
-    if decoded.is_ill_formed {
-        return match strictness {
+    match write_few_strictly::<F>(bytes, stops, &mut written) {
+        Some(end) => copy_to_slice(&written[..end], buf).map_err(Unwritten::NoRoom),
+        None => match strictness {
             Strictness::Strict => Err(Unwritten::NoText),
             Strictness::Lossy => put_by_blocks::<F>(bytes, buf),
-        };
+        },
     }
-    put_decoded(strictness, decoded, &written, buf)
 }
 
-/// Writes the lossy reading of the bytes of one block, to an array first.
-#[inline(never)]
-fn put_one<F: Flavor>(bytes: &[u8], buf: &mut [u8]) -> Result<usize, Unwritten>
-    requires { length bytes.now ≤ BLOCK }
-    ensures { PutsReading F.flavor Lossy bytes.now result buf.old buf.new }
-{
-    let mut written = [0; LOSSY_TEXT];
-    let decoded = write_one_block::<F>(bytes, &mut written);
-    put_decoded(Strictness::Lossy, decoded, &written, buf)
-}
-
-/// Writes the reading of the bytes of one window, to an array first. It is not inlined, so that the
+/// Writes the reading of bytes to an array first, which has room for it. It is not inlined, so that the
 /// array is made only when it is called.
 #[inline(never)]
 fn put_by_array<F: Flavor, S: Reading, const WRITTEN: usize>(
     bytes: &[u8],
     buf: &mut [u8],
 ) -> Result<usize, Unwritten>
-    requires { (room_for S.which (length bytes.now) ≤ WRITTEN) × (WRITTEN ≤ LONG_TEXT) }
+    requires { (room_for S.which (length bytes.now) ≤ WRITTEN) × (WRITTEN ≤ LARGEST_LOSSY) }
     ensures { PutsReading F.flavor S.which bytes.now result buf.old buf.new }
 {
     let mut written = [0; WRITTEN];
-    let decoded = write_text::<F, S>(bytes, &mut written);
-    put_decoded(S::strictness(), decoded, &written, buf)
-}
-
-/// Copies the text that was decoded of all bytes, unless an ill-formed byte in them is refused. The
-/// bytes are no argument, so that they were read is a premise of what it ensures.
-#[inline(always)]
-fn put_decoded(
-    strictness: Strictness,
-    decoded: Decoded,
-    written: &[u8],
-    buf: &mut [u8],
-) -> Result<usize, Unwritten>
-    requires { decoded.end ≤ length written.now }
-    ensures { (f : AnyFlavor) (bytes : List ℕ)
-        → ReadsAll f strictness bytes (take decoded.end written.now) decoded.is_ill_formed
-        → PutsReading f strictness bytes result buf.old buf.new }
-{
-    if is_refused(strictness, decoded.is_ill_formed) {
+    let Some(end) = write_all::<F, S>(bytes, &mut written) else {
         return Err(Unwritten::NoText);
-    }
-    copy_to_slice(&written[..decoded.end], buf).map_err(Unwritten::NoRoom)
+    };
+    copy_to_slice(&written[..end], buf).map_err(Unwritten::NoRoom)
 }
 
-/// Writes the text of still more bytes, chunk by chunk, where it stays. First passes find whether
-/// there is one, and how long it is: in strict reading it is no longer than the bytes.
+/// Writes the text of still more bytes, chunk by chunk. First passes find whether there is one, and
+/// how long it is: in strict reading it is no longer than the bytes.
 #[inline(never)]
-fn put_chunks<F: Flavor>(
+fn put_many<F: Flavor>(
     strictness: Strictness,
     bytes: &[u8],
     buf: &mut [u8],
@@ -199,31 +170,12 @@ fn put_chunks<F: Flavor>(
             return Err(Unwritten::NoText);
         }
         if bytes.len() <= buf.len() {
-            return Ok(write_reading::<F>(bytes, buf));
+            return Ok(put_chunks::<F>(bytes, buf));
         }
     }
     match lossy_len::<F>(bytes) {
-        Some(len) if len <= buf.len() => Ok(write_reading::<F>(bytes, buf)),
+        Some(len) if len <= buf.len() => Ok(put_chunks::<F>(bytes, buf)),
         Some(len) => Err(Unwritten::NoRoom(NoRoom { needed: len })),
         None => Err(Unwritten::TooLong),
     }
-}
-
-/// Writes the lossy reading of the bytes at the front of a slice that is long enough, and returns
-/// its length.
-#[inline(never)]
-fn write_reading<F: Flavor>(bytes: &[u8], out: &mut [u8]) -> usize
-    requires { lossy_length F.flavor bytes.now ≤ length out.old }
-    ensures { StandsAtFront (utf8 (reading F.flavor bytes.now))
-        result out.old out.new }
-{
-    let mut written = [0; LONG_TEXT];
-    let mut rest = bytes;
-    let mut end = 0;
-    while !rest.is_empty() {
-        let decoded = write_text::<F, LossyReading>(rest, &mut written);
-        rest = &rest[decoded.read..];
-        end = put(&written[..decoded.end], out, end);
-    }
-    end
 }

@@ -95,7 +95,8 @@ pub fn two_follow<F: Flavor, S: CharacterSet>(bytes: &[u8], at: usize) -> bool
     // What stands before each byte is loaded only behind this test.
     let above = above_ascii::<F>(block_at(bytes, at).bytes)
         | above_ascii::<F>(block_at(bytes, at + BLOCK).bytes);
-    if bits::<NonAscii, BLOCK>(above) == 0 && begins_with_ascii(bytes, at) {
+    let deciding = u8x4::from_slice(&bytes[at..]);
+    if bits::<NonAscii, BLOCK>(above) == 0 && bits::<NonAscii, DECIDING>(deciding) == 0 {
         return true;
     }
     let first = block_at(bytes, at);
@@ -109,16 +110,6 @@ fn above_ascii<F: Flavor>(bytes: u8x32) -> u8x32
     ensures { result ≡ map (marked_if_not_one F.flavor) bytes }
 {
     bytes | nulls::<F>(bytes)
-}
-
-/// Returns whether the four bytes from an index on are ASCII.
-#[inline(always)]
-fn begins_with_ascii(bytes: &[u8], at: usize) -> bool
-    requires { at + DECIDING ≤ length bytes.now }
-    ensures { IsTrue result → (i : ℕ) → at ≤ i → i < at + DECIDING
-        → slice_index bytes.now i < 0x80 }
-{
-    bits::<NonAscii, DECIDING>(u8x4::from_slice(&bytes[at..])) == 0
 }
 
 /// Returns all ones for each byte of a block that may not follow those before it, and zeros for the

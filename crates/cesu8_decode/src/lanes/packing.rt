@@ -19,9 +19,6 @@ pub const WIDEST: usize = 3;
 /// How long the buffer for a block must be.
 pub const ROOM: usize = WIDEST * BLOCK + STORED;
 
-/// How long it must be for a block without an ill-formed byte.
-pub const WELL_FORMED_ROOM: usize = BLOCK + STORED;
-
 /// The lanes whose highest bit is set.
 pub type HighestBit = AtLeast<0x80>;
 

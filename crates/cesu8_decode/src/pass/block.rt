@@ -10,7 +10,7 @@ ghost use Rattle.cesu8_bytes.specs.Puts.{WritesAt};
 ghost use Rattle.cesu8_decode.specs.Decoding.{WritesDecoded, most_written};
 ghost use Rattle.cesu8_decode.specs.DecodedLanes.{start_kind, AreFiveKinds, AreKindsNear, NoneBeginsChanged, is_high};
 
-use super::reading::{Block, Reading};
+use super::reading::Reading;
 use crate::lanes::following::block_at;
 use crate::lanes::offsets::{BEHIND, Kinds, LEAD, REACH, near, starts};
 use crate::lanes::packing::{HighestBit, store, store_whole};
@@ -21,6 +21,15 @@ use cesu8_bytes::lanes::class::{AtLeast, bits};
 use cesu8_bytes::strictness::Strictness;
 use cesu8_bytes::writing::packing::STORED;
 use std::simd::prelude::*;
+
+/// What came of a block: the end of what is written for it, whether strict reading refuses one of its
+/// bytes, and the kinds of their offsets.
+#[derive(Drop)]
+pub struct Written {
+    pub end: usize,
+    pub is_refused: bool,
+    pub kinds: u8x32,
+}
 
 /// Writes what becomes of the first `count` bytes of a block, which follow `at` bytes of the window
 /// and five more. The kinds of these five come last in `before`. The other bytes go.
@@ -35,7 +44,7 @@ pub fn write_block<F: Flavor, S: Reading>(
     count: usize,
     out: &mut [u8],
     end: usize,
-) -> Block
+) -> Written
     requires count { count ≤ BLOCK }
     requires window { at + BEHIND + REACH ≤ length window.now }
     requires before { AreFiveKinds F.flavor window.now at before (BLOCK - BEHIND) }
@@ -62,7 +71,7 @@ pub fn write_block<F: Flavor, S: Reading>(
         let found = bits::<HighestBit, BLOCK>(marks);
         // First the test, so that what it needs is not kept meanwhile.
         if found != 0 && matches!(S::strictness(), Strictness::Strict) {
-            return Block {
+            return Written {
                 end,
                 is_refused: true,
                 kinds: here,
@@ -70,7 +79,7 @@ pub fn write_block<F: Flavor, S: Reading>(
         }
         let parts = changed_parts::<F>(block_at(window, at + 1), &kinds, count, marks);
         if found == 0 {
-            return Block {
+            return Written {
                 end: store_whole(parts, out, end),
                 is_refused: false,
                 kinds: here,
@@ -79,12 +88,12 @@ pub fn write_block<F: Flavor, S: Reading>(
         parts
     };
     match S::strictness() {
-        Strictness::Strict => Block {
+        Strictness::Strict => Written {
             end,
             is_refused: true,
             kinds: here,
         },
-        Strictness::Lossy => Block {
+        Strictness::Lossy => Written {
             end: store(parts, out, end),
             is_refused: false,
             kinds: here,
@@ -107,7 +116,7 @@ fn are_ones<F: Flavor>(bytes: u8x32, count: usize) -> bool
 
 /// Copies the first `count` bytes of a block, which stay as they are.
 #[inline(always)]
-fn copy_block(bytes: u8x32, kinds: u8x32, count: usize, out: &mut [u8], end: usize) -> Block
+fn copy_block(bytes: u8x32, kinds: u8x32, count: usize, out: &mut [u8], end: usize) -> Written
     requires count { count ≤ BLOCK }
     requires room { end + BLOCK ≤ length out.old }
     ensures copied { WritesAt (take count bytes) end out.old out.new result.end }
@@ -115,7 +124,7 @@ fn copy_block(bytes: u8x32, kinds: u8x32, count: usize, out: &mut [u8], end: usi
     ensures kinds { result.kinds ≡ kinds }
 {
     bytes.copy_to_slice(&mut out[end..]);
-    Block {
+    Written {
         end: end + count,
         is_refused: false,
         kinds,

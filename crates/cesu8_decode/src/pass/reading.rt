@@ -6,16 +6,6 @@ ghost use Rattle.cesu8_bytes.specs.declared.strictness.Strictness.{Strictness};
 ghost use Rattle.cesu8_bytes.specs.declared.strictness.Strictness.TheVariants.{Strict, Lossy};
 
 use cesu8_bytes::strictness::Strictness;
-use std::simd::prelude::*;
-
-/// The end of what is written for a block, whether strict reading refuses one of its bytes, and the
-/// kinds of their offsets.
-#[derive(Drop)]
-pub struct Block {
-    pub end: usize,
-    pub is_refused: bool,
-    pub kinds: u8x32,
-}
 
 /// Strict or lossy reading.
 pub trait Reading {

@@ -8,13 +8,12 @@ ghost use Rattle.std.specs.Prelude.{◌≡◌, ℕ, List, ◌+◌, ◌-◌, ◌<
 ghost use Rattle.cesu8_bytes.specs.Puts.{WritesAt};
 ghost use Rattle.cesu8_bytes.specs.TextChunks.{IsReadSoFar};
 ghost use Rattle.cesu8_bytes.specs.declared.strictness.Strictness.TheVariants.{Strict};
-ghost use Rattle.cesu8_decode.specs.Decoding.{ReadsAll};
+ghost use Rattle.cesu8_decode.specs.Decoding.{WritesReading};
 ghost use Rattle.cesu8_decode.specs.DecodedOffsets.{IsPrefixOf};
 ghost use Rattle.cesu8_decode.specs.Following.{Unchanged as AllUnchanged, FollowUpTo, HasStops, IsSeam, before_zeros};
-ghost use Rattle.cesu8_decode.specs.Changed.{BeginsChanged};
+ghost use Rattle.cesu8_decode.specs.DecodedOffsets.{BeginsChanged};
 
 use crate::changed::changes;
-use crate::decoded::{Decoded, refused};
 use crate::front::may_be_crossed;
 use crate::lanes::character_set::Unchanged;
 use crate::lanes::stops::next_stop;
@@ -32,17 +31,32 @@ pub const STRICT_TEXT: usize = FEW_BYTES + BLOCK;
 /// Writes the strict reading of at most 64 bytes to the front of an array, by the set of those that may
 /// not follow.
 #[inline(always)]
-pub fn write_few_strictly<F: Flavor>(bytes: &[u8], stops: u64, out: &mut [u8]) -> Decoded
+pub fn write_few_strictly<F: Flavor>(bytes: &[u8], stops: u64, out: &mut [u8]) -> Option<usize>
     requires stops { HasStops AllUnchanged F.flavor bytes.now stops }
     requires room { STRICT_TEXT ≤ length out.old }
-    ensures read { ReadsAll F.flavor Strict bytes.now
-        (take result.end out.new) result.is_ill_formed }
-    ensures end { result.end ≤ length bytes.now }
-    ensures len { length out.new ≡ length out.old }
+    ensures { WritesReading F.flavor Strict bytes.now result out.old out.new }
 {
     let mut source = [0; FEW_BYTES + BLOCK];
     load(bytes, &mut source);
-    write_by_stops::<F>(bytes, stops, &source, out)
+    let (mut read, mut end) = (0, 0);
+    let mut stop = next_stop::<F, Unchanged>(bytes, stops, 0);
+    while stop < bytes.len() {
+        if stop == read {
+            return None;
+        }
+        let changed = &source[stop - 1..];
+        if !changes::<F>(changed) {
+            return None;
+        }
+        let copied = put_between(&source, read, stop - 1 - read, out, end);
+        let (len, behind) = write_changed::<F>(changed, out, copied);
+        (read, end) = (stop - 1 + len, behind);
+        stop = next_stop::<F, Unchanged>(bytes, stops, read);
+    }
+    if may_be_crossed::<Unchanged>(bytes, bytes.len()) {
+        return None;
+    }
+    Some(put_between(&source, read, bytes.len() - read, out, end))
 }
 
 /// Copies the bytes to zeros, so that a block can be loaded from any of them.
@@ -60,47 +74,9 @@ fn load(bytes: &[u8], source: &mut [u8])
     put_lanes(padded_half(&bytes[BLOCK..]), source, BLOCK);
 }
 
-/// Does so by the set of the bytes that may not follow. The source has the bytes, and zeros behind.
-#[inline(always)]
-fn write_by_stops<F: Flavor>(bytes: &[u8], stops: u64, source: &[u8], out: &mut [u8]) -> Decoded
-    requires stops { HasStops AllUnchanged F.flavor bytes.now stops }
-    requires source { source.now ≡ before_zeros bytes.now }
-    requires room { STRICT_TEXT ≤ length out.old }
-    ensures read { ReadsAll F.flavor Strict bytes.now
-        (take result.end out.new) result.is_ill_formed }
-    ensures end { result.end ≤ length bytes.now }
-    ensures len { length out.new ≡ length out.old }
-{
-    let mut read = 0;
-    let mut end = 0;
-    let mut stop = next_stop::<F, Unchanged>(bytes, stops, 0);
-    while stop < bytes.len() {
-        if stop == read {
-            return refused(bytes);
-        }
-        let changed = &source[stop - 1..];
-        if !changes::<F>(changed) {
-            return refused(bytes);
-        }
-        let copied = put_few(source, read, stop - 1 - read, out, end);
-        let written = write_changed::<F>(changed, out, copied);
-        read = stop - 1 + written.read;
-        end = written.end;
-        stop = next_stop::<F, Unchanged>(bytes, stops, read);
-    }
-    if may_be_crossed::<Unchanged>(bytes, bytes.len()) {
-        return refused(bytes);
-    }
-    Decoded {
-        read: bytes.len(),
-        end: put_few(source, read, bytes.len() - read, out, end),
-        is_ill_formed: false,
-    }
-}
-
 /// Writes at most 64 bytes of the source, and others behind them, and returns the end of these.
 #[inline(always)]
-fn put_few(source: &[u8], read: usize, count: usize, out: &mut [u8], end: usize) -> usize
+fn put_between(source: &[u8], read: usize, count: usize, out: &mut [u8], end: usize) -> usize
     requires count { count ≤ FEW_BYTES }
     requires source { read + count + BLOCK ≤ length source.now }
     requires room { end + count + BLOCK ≤ length out.old }
@@ -114,31 +90,23 @@ fn put_few(source: &[u8], read: usize, count: usize, out: &mut [u8], end: usize)
     end + count
 }
 
-/// Writes the character that begins the bytes, in UTF-8.
+/// Writes the character that begins the bytes, in UTF-8, and returns its length and the end of that.
 #[inline(always)]
-fn write_changed<F: Flavor>(bytes: &[u8], out: &mut [u8], end: usize) -> Decoded
+fn write_changed<F: Flavor>(bytes: &[u8], out: &mut [u8], end: usize) -> (usize, usize)
     requires bytes { PAIR_READ ≤ length bytes.now }
     requires begins { BeginsChanged F.flavor bytes.now }
     requires room { end + PAIR_UTF8 ≤ length out.old }
     ensures read { (whole : List ℕ) → IsPrefixOf whole bytes.now
-        → IsReadSoFar F.flavor Strict whole (drop result.read whole)
-        (take end out.old) (take result.end out.new) }
-    ensures inside { (whole : List ℕ) → IsPrefixOf whole bytes.now → result.read ≤ length whole }
-    ensures within { (0 < result.read) × (result.end + 1 ≤ end + result.read) }
+        → IsReadSoFar F.flavor Strict whole (drop result.0 whole)
+        (take end out.old) (take result.1 out.new) }
+    ensures inside { (whole : List ℕ) → IsPrefixOf whole bytes.now → result.0 ≤ length whole }
+    ensures within { (0 < result.0) × (result.1 + 1 ≤ end + result.0) }
     ensures seam { (whole : List ℕ) (at : ℕ) → IsPrefixOf (drop at whole) bytes.now
-        → IsSeam AllUnchanged F.flavor whole (at + result.read) }
+        → IsSeam AllUnchanged F.flavor whole (at + result.0) }
     ensures len { length out.new ≡ length out.old }
 {
     if bytes[0] == 0xC0 {
-        return Decoded {
-            read: 2,
-            end: put(&[0], out, end),
-            is_ill_formed: false,
-        };
+        return (2, put(&[0], out, end));
     }
-    Decoded {
-        read: PAIR,
-        end: put(&utf8_of_pair(bytes), out, end),
-        is_ill_formed: false,
-    }
+    (PAIR, put(&utf8_of_pair(bytes), out, end))
 }

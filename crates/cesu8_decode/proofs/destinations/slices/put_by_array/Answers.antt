@@ -1,11 +1,9 @@
-use Rattle.std.proofs.Common.{arith, sym}
-use Rattle.cesu8_decode.proofs.chunks.ReadChunks.{reads_all}
+use Rattle.std.proofs.Common.{arith}
+use Rattle.std.proofs.lemmas.List.{length-take}
+use Rattle.cesu8_decode.proofs.chunks.SliceReadings.{decoded_put}
 use Rattle.cesu8_decode.proofs.destinations.slices.put_by_array.Goals as goal
 
 pub returns : goal.returns
 returns g c =
-    let f = g.F.Flavor.flavor in
-    let which = g.S.Reading.which in
-    let decoded = c.write_text-decoded.ensures in
-    rw (sym c.strictness.ensures) (c.put_decoded.ensures f c.args.bytes.now
-    (rw c.strictness.ensures (reads_all f which c.args.bytes.now _ _ _ decoded.first (λ _. decoded.all (omega (arith, c.requires))))))
+    decoded_put g.F.Flavor.flavor g.S.Reading.which c.args.bytes.now _ c.copy_to_slice.result c.map_err.result c.args.buf.now c.copy_to_slice.new.buf c.in-Some.ensures.text
+    (omega (arith, length-take c.in-Some.end c.write_all.new.out, c.write_all.auto.out, g.WRITTEN.fits)) c.map_err.ensures.cases c.copy_to_slice.ensures

@@ -1,4 +1,4 @@
-use Rattle.std.proofs.Common.{◌∙◌, ap, add-zero, get_or, drop}
+use Rattle.std.proofs.Common.{refl, ◌∙◌, ap, add-zero, get_or, drop}
 use Rattle.std.proofs.lemmas.Bool.{both_ways}
 use Rattle.std.proofs.lemmas.List.{get_or-drop}
 use Rattle.cesu8_decode.proofs.chunks.FrontReadings.{unless_begun}
@@ -12,7 +12,10 @@ returns-then-not-may_lead_changed g c =
     record {
       text = tt;
       capacity = tt;
-      none = unless_begun f bytes n c.requires.front.found.len
-          (λ begun. both_ways c.may_lead_changed.result c.if-not-may_lead_changed.true
-          (c.may_lead_changed.ensures f (drop n bytes) begun (get_or-drop n bytes 0 0 ∙ ap (λ k. get_or bytes k 0) (add-zero n)))) c.requires.front.more;
+      none = (
+        refl,
+        unless_begun f bytes n c.requires.front.found.len
+            (λ begun. both_ways c.may_lead_changed.result c.if-not-may_lead_changed.true
+            (c.may_lead_changed.ensures f (drop n bytes) begun (get_or-drop n bytes 0 0 ∙ ap (λ k. get_or bytes k 0) (add-zero n)))) c.requires.front.more,
+      );
     }

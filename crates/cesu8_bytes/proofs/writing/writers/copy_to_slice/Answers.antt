@@ -1,6 +1,0 @@
-use Rattle.std.proofs.Common.{refl, rules}
-use Rattle.cesu8_bytes.proofs.writing.writers.copy_to_slice.Goals as goal
-
--- Nothing is written before the room is known.
-pub returns-then-buf-len : goal.returns-then-buf-len
-returns-then-buf-len c = record { written = tt; fits = search rules; needed = refl; unchanged = refl }

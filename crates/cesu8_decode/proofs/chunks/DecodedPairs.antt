@@ -1,0 +1,73 @@
+-- What a surrogate pair becomes where no character of two bytes or more begins shortly before.
+use Rattle.std.proofs.Common.{◌≡◌, ℕ, zero, suc, ◌+◌, ◌-◌, ◌<◌, ◌≤◌, true, false, List, [], ◌++◌, ⊎_elim, refl, sym, ap, ◌∙◌, arith, length, drop, length-drop}
+use Rattle.std.proofs.lemmas.Bool.{cases_lt}
+use Rattle.std.proofs.lemmas.Bool.Decides.{nat_tests}
+use Rattle.std.proofs.lemmas.List.{drop-drop, append_cancel_right}
+use Rattle.cesu8_text.specs.Text.{utf8}
+use Rattle.cesu8_text.specs.Encoding.{Flavor}
+use Rattle.cesu8_text.specs.Reading.{reading}
+use Rattle.cesu8_text.proofs.reading.Decoding.{utf8_append}
+use Rattle.cesu8_bytes.specs.Pairs.{IsUtf8OfDigits, second_third_fifth_sixth, HasPair}
+use Rattle.cesu8_bytes.specs.declared.strictness.Strictness.TheVariants.{Lossy}
+use Rattle.cesu8_decode.specs.DecodedOffsets.{window_of, width_at, decoded, is_ill_formed_at}
+use Rattle.cesu8_decode.proofs.by_offset.CharacterBoundaries.{boundary_where, ends_before}
+use Rattle.cesu8_decode.proofs.by_offset.DecodedText.{decoded_from_boundary}
+use Rattle.cesu8_decode.proofs.by_offset.WindowOffsets.{is_boundary_at, follows_zeros, follows_later, width_in, decoded_split}
+use Rattle.cesu8_decode.proofs.chunks.Changed.{pair_width, pair_read}
+
+module _ (f : Flavor) (bytes : List ℕ) (at : ℕ) (has : HasPair (drop at bytes)) (long : 6 ≤ length (drop at bytes)) where
+  abbrev w : ℕ → ℕ
+  w = width_at f (window_of bytes)
+
+  -- It has six bytes,
+  six : w (at + 5) ≡ 6
+  six = width_in f (window_of bytes) bytes 5 at (follows_zeros bytes) (omega (arith, length-drop at bytes, long)) ∙ pair_width f (drop at bytes) long has
+
+  -- and nothing begins in it.
+  pub none_inside : (s : ℕ) → s < 5 → w (at + 6 + s) ≡ 0
+  none_inside s small =
+      let there : at + 1 + s + 5 ≡ at + 6 + s = omega arith in
+      ⊎_elim (λ (begun : 0 < w (at + 6 + s)).
+      absurd (omega (
+        arith,
+        six,
+        ends_before f (window_of bytes) bytes at (at + 1 + s) (follows_zeros bytes) (omega arith)
+            (omega (arith, length-drop at bytes, long)) (omega (arith, ap w there)),
+      )))
+      (λ (none : w (at + 6 + s) ≤ 0). omega arith)
+      (cases_lt 0 (w (at + 6 + s)))
+
+  -- So none of its bytes is ill-formed.
+  pub pair_fine : (i : ℕ) → at ≤ i → i < at + 6 → is_ill_formed_at f (window_of bytes) i ≡ false
+  pair_fine i low inside =
+      let there : at + (i - at) ≡ i = omega arith in
+      sym (ap (is_ill_formed_at f (window_of bytes)) there) ∙ fine (i - at) (omega arith)
+    where
+      fine : (j : ℕ) → j < 6 → is_ill_formed_at f (window_of bytes) (at + j) ≡ false
+      fine zero small = let is = six in grind (arith, nat_tests)
+      fine (suc zero) small = let is : w (at + 1 + 4) ≡ 6 = ap w (omega arith) ∙ six in grind (arith, nat_tests)
+      fine (suc (suc zero)) small = let is : w (at + 2 + 3) ≡ 6 = ap w (omega arith) ∙ six in grind (arith, nat_tests)
+      fine (suc (suc (suc zero))) small = let is : w (at + 3 + 2) ≡ 6 = ap w (omega arith) ∙ six in grind (arith, nat_tests)
+      fine (suc (suc (suc (suc zero)))) small = let is : w (at + 4 + 1) ≡ 6 = ap w (omega arith) ∙ six in grind (arith, nat_tests)
+      fine (suc (suc (suc (suc (suc zero))))) small = let is = six in grind (arith, nat_tests)
+      fine (suc (suc (suc (suc (suc (suc j)))))) small = absurd (omega arith)
+
+  -- They become its UTF-8.
+  pub pair_decoded : ((s : ℕ) → s < 5 → w (at + s) ≤ 1) → (four : List ℕ) → IsUtf8OfDigits (second_third_fifth_sixth (drop at bytes)) four →
+      decoded f (window_of bytes) at 6 ≡ four
+  pair_decoded before four is_utf8 =
+      let window = window_of bytes in
+      let rest = drop at bytes in
+      let behind = drop (at + 6) bytes in
+      let here : is_boundary_at f window at ≡ true = boundary_where f window at (λ s small. omega (arith, before s small)) in
+      let there : is_boundary_at f window (at + 6) ≡ true = boundary_where f window (at + 6) (λ s small. omega (arith, none_inside s small)) in
+      let read = pair_read f Lossy rest [] four four (pair_width f rest long has) is_utf8 refl in
+      let all : 6 + length behind ≡ length rest = omega (arith, length-drop at bytes, length-drop (at + 6) bytes, long) in
+      append_cancel_right (decoded f window at 6) four (utf8 (reading f behind))
+      (ap (λ bs. decoded f window at 6 ++ bs) (sym (decoded_from_boundary f window behind (at + 6) (follows_later window bytes 5 (at + 6) (follows_zeros bytes)) there))
+      ∙ sym (decoded_split f window at 6 (length behind))
+      ∙ ap (decoded f window at) all
+      ∙ decoded_from_boundary f window rest at (follows_later window bytes 5 at (follows_zeros bytes)) here
+      ∙ ap utf8 read.lossy_reading ∙ utf8_append read.text (reading f (drop 6 rest))
+      ∙ ap (λ bs. bs ++ utf8 (reading f (drop 6 rest))) (sym read.written)
+      ∙ ap (λ bs. four ++ utf8 (reading f bs)) (drop-drop 6 at bytes))

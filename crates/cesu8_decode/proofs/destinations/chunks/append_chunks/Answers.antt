@@ -1,0 +1,55 @@
+use Rattle.std.proofs.Common.{◌≡◌, false, true, refl, arith, take, length, length-append}
+use Rattle.cesu8_decode.specs.DecodedOffsets.{window_of}
+use Rattle.cesu8_decode.proofs.decoder.BlocksInPlace.{all_decoded, decoded_fits, none_decoded, refused_decoded}
+use Rattle.cesu8_decode.proofs.decoder.Passes.{at_start, reads_on}
+use Rattle.cesu8_decode.proofs.destinations.chunks.append_chunks.Goals as goal
+
+pub loop-read-init : goal.loop-read-init
+loop-read-init g c =
+    let f = g.F.Flavor.flavor in
+    let bytes = c.args.bytes.now in
+    let start = c.args.before.items in
+    record {
+      pass = at_start f bytes;
+      text = none_decoded f g.S.Reading.which (window_of bytes) start;
+      capacity = refl;
+    }
+
+pub returns-then-pass : goal.returns-then-pass
+returns-then-pass g c =
+    let f = g.F.Flavor.flavor in
+    let which = g.S.Reading.which in
+    let bytes = c.args.bytes.now in
+    let more = c.write_blocks-pass.ensures.more in
+    record {
+      text = tt;
+      capacity = tt;
+      none = refused_decoded f which bytes _ _ _ (reads_on f which bytes _ _ _ _ _ _ true more refl c.if-pass.true c.loop-read.invariant.text) more.within.1;
+    }
+
+pub append-requires : goal.append-requires
+append-requires g c =
+    let f = g.F.Flavor.flavor in
+    let which = g.S.Reading.which in
+    let bytes = c.args.bytes.now in
+    let more = c.write_blocks-pass.ensures.more in
+    let text = c.loop-read.text.items in
+    let chunk = take c.write_blocks-pass.result.end c.write_blocks-pass.new.out in
+    omega (
+      arith,
+      decoded_fits f which bytes _ _ _ (reads_on f which bytes _ _ _ _ _ _ false more refl c.if-pass.false c.loop-read.invariant.text) more.within.1,
+      length-append text chunk,
+      c.requires.room,
+      c.loop-read.invariant.capacity,
+      c.args.before.ok,
+      c.loop-read.text.ok,
+    )
+
+pub returns : goal.returns
+returns g c =
+    let f = g.F.Flavor.flavor in
+    let which = g.S.Reading.which in
+    let bytes = c.args.bytes.now in
+    let inv = c.loop-read.invariant in
+    let all : c.loop-read.read ≡ length bytes = omega (arith, inv.pass.within, c.loop-read-test.false) in
+    record { text = all_decoded f which bytes _ _ c.loop-read.read inv.text all; capacity = inv.capacity; none = tt }
