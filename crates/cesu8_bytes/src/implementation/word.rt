@@ -127,11 +127,11 @@ mod tests {
         for (len, count, offsets) in cases {
             assert!(rt; WORD <= len);
             let tested = Cell::new(0usize);
-            let seen = Cell::new([0u8; 4]);
+            let seen = Cell::new([0u64; 4]);
             let found = test_word_any(&bytes[..len], |word| {
                 let mut offsets = seen.get();
                 if let Some(slot) = offsets.get_mut(tested.get()) {
-                    *slot = word as u8;
+                    *slot = word & 0xFF;
                 }
                 seen.set(offsets);
                 tested.set(tested.get().wrapping_add(1));
