@@ -93,9 +93,15 @@ function is_of(i, path, line) {
     return path == folder[i] "/Answers.antt" || path == folder[i] "/Invariants.antt"
 }
 
+# The beginning of a message: what stands before it, which may have a name of any length, and a little more.
+function beginning(text) {
+    match(text, /^(note: )?[^ ]+ (error: `[^`]*`: )?/)
+    return substr(text, 1, RLENGTH + 60)
+}
+
 # Whether a message begins as the kit tells of a goal that is not proved.
 function tells_goal(text) {
-    return substr(text, 1, 240) ~ /it is not proved that|`[a-z]+`:? (the goal|(found )?no proof|stopped)|the two (types|sides)|: expected type/
+    return beginning(text) ~ /it is not proved that|`[a-z]+`:? (the goal|(found )?no proof|stopped)|the two (types|sides)|: expected type/
 }
 
 # Whether a message tells that the search for a proof met a limit, and has no values that break the goal.
@@ -107,7 +113,7 @@ function tells_limit(text) {
 
 # Whether a message tells of a proof by hand with another type than its goal.
 function tells_types(text) {
-    return substr(text, 1, 240) ~ /the two (types|sides)|: expected type/
+    return beginning(text) ~ /the two (types|sides)|: expected type/
 }
 
 # Whether such a message shows a constant on one side that the other has not.
