@@ -8,7 +8,7 @@
 //! | below 256 | does a byte change? by two vectors | what encodes |
 //! | 256 and more | the same, by a call of the kernels, so that the short way has few registers to save | the same |
 
-ghost use Rattle.std.specs.Prelude.{◌↔◌, ◌≤◌, IsTrue, Any, length, take};
+ghost use Rattle.std.specs.Prelude.{◌↔◌, IsTrue, Any, length, take};
 ghost use Rattle.std.specs.Str.{chars, IsAscii};
 ghost use Rattle.cesu8_text.specs.Class.{IsChangedByte};
 ghost use Rattle.cesu8_text.specs.Encoding.{NeedsEncoding};

@@ -5,11 +5,11 @@
 //! Vectors find the first byte that may not follow those before it. The front ends there, or at the
 //! last boundary before, if a character begins that the byte cuts off.
 
-ghost use Rattle.std.specs.Prelude.{◌≡◌, ℕ, ◌+◌, ◌-◌, ◌<◌, ◌≤◌, ◌↔◌, ◌++◌, IsTrue, IsUtf8, true, false, length, replicate, slice_index, IfOk, IfErr};
+ghost use Rattle.std.specs.Prelude.{◌≡◌, ◌+◌, ◌-◌, ◌<◌, ◌≤◌, ◌↔◌, IsTrue, IsUtf8, true, false, length, slice_index, IfOk, IfErr};
 ghost use Rattle.cesu8_text.specs.Fronts.{IsValidUpTo};
 ghost use Rattle.cesu8_text.specs.Reading.{IsStrictReading, HasNoStrictReading, reading};
 ghost use Rattle.cesu8_decode.specs.Following.{FirstFollow, FollowUpTo, Encoded as AllEncoded, after_fillers, crosses_at, is_high_surrogate};
-ghost use Rattle.cesu8_decode.specs.Front.{AreWhole, IsFront, IsFrontOf};
+ghost use Rattle.cesu8_decode.specs.Front.{IsFront, IsFrontOf};
 
 use crate::lanes::character_set::{CharacterSet, Encoded, Utf8};
 use crate::lanes::following::{DECIDING, FILLER, block_at, following_len, two_follow};

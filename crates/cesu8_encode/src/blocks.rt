@@ -113,7 +113,7 @@ fn encode_block<F: Flavor>(window: &[u8], at: usize) -> EncodedBlock
     let of_high = six_bits + (u8x32::splat(0x80) + (lead & u8x32::splat(0x1F)));
     let other = bytes | (lead_two_before & u8x32::splat(0x30)) | (null & u8x32::splat(0x80));
     let is_of_high = lead | lead_before;
-    // No byte is both a lead byte and null. Joined by `|`, the two tests would become a third.
+    // No byte is both, so `+` joins the tests. `|` would do so too, but compiles to a third test.
     let doubled = (lead + null) | lead_two_before;
     EncodedBlock {
         seconds: is_of_high.simd_eq(u8x32::splat(0)).select(other, of_high),

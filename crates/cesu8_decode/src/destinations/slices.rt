@@ -3,15 +3,10 @@
 //! What an array on the stack has room for is decoded to it, and copied. Of more bytes, first passes
 //! find whether they are ill-formed and, if needed, how long their text is.
 
-ghost use Rattle.std.specs.Prelude.{◌≡◌, ◌+◌, ◌≤◌, [], List, ℕ, ◌<◌, length};
-ghost use Rattle.cesu8_text.specs.Encoding.{Flavor as AnyFlavor};
-ghost use Rattle.cesu8_text.specs.Reading.{reading, lossy_length};
-ghost use Rattle.cesu8_text.specs.Slices.{StandsAtFront};
-ghost use Rattle.cesu8_text.specs.Text.{utf8};
+ghost use Rattle.std.specs.Prelude.{◌+◌, ◌≤◌, ◌<◌, length};
+ghost use Rattle.cesu8_text.specs.Reading.{reading};
 ghost use Rattle.cesu8_bytes.specs.declared.strictness.Strictness.TheVariants.{Strict, Lossy};
 ghost use Rattle.cesu8_decode.specs.Decoding.{room_for};
-ghost use Rattle.cesu8_bytes.specs.TextChunks.{IsReadSoFar};
-ghost use Rattle.cesu8_bytes.specs.declared.strictness.Strictness.{Strictness as AnyStrictness};
 ghost use Rattle.cesu8_decode.specs.Following.{Unchanged as AllUnchanged, HasStops};
 ghost use Rattle.cesu8_decode.specs.Front.{IsPartialFront};
 ghost use Rattle.cesu8_decode.specs.PutReadings.{PutsReading};

@@ -1,6 +1,6 @@
 //! Which of a few bytes may not follow those before them, as the bits of a word: the stops.
 
-ghost use Rattle.std.specs.Prelude.{◌≡◌, ◌+◌, ◌-◌, ◌<◌, ◌≤◌, length, drop};
+ghost use Rattle.std.specs.Prelude.{◌+◌, ◌-◌, ◌<◌, ◌≤◌, length, drop};
 ghost use Rattle.cesu8_decode.specs.Following.{FollowUpTo, HasStops, IsSeam};
 
 use super::character_set::CharacterSet;

@@ -4,7 +4,7 @@
 //! bytes become. So the pass stops behind any block, where the buffer is full, and goes on from there.
 //! The first block and the last ones are read from an array, with zeros before and behind them.
 
-ghost use Rattle.std.specs.Prelude.{◌≡◌, ℕ, ◌+◌, ◌<◌, ◌≤◌, false, [], length, take, replicate, slice_index};
+ghost use Rattle.std.specs.Prelude.{◌≡◌, ℕ, ◌+◌, ◌<◌, ◌≤◌, false, length, replicate, slice_index};
 ghost use Rattle.cesu8_decode.specs.Decoding.{IsPass, GoesOn, WritesReading, pass_from, room_for};
 ghost use Rattle.cesu8_decode.specs.DecodedOffsets.{window_of};
 

@@ -10,7 +10,7 @@ ghost use Rattle.cesu8_bytes.specs.TextChunks.{IsReadSoFar};
 ghost use Rattle.cesu8_bytes.specs.declared.strictness.Strictness.TheVariants.{Strict};
 ghost use Rattle.cesu8_decode.specs.Decoding.{WritesReading};
 ghost use Rattle.cesu8_decode.specs.DecodedOffsets.{IsPrefixOf};
-ghost use Rattle.cesu8_decode.specs.Following.{Unchanged as AllUnchanged, FollowUpTo, HasStops, IsSeam, before_zeros};
+ghost use Rattle.cesu8_decode.specs.Following.{Unchanged as AllUnchanged, HasStops, IsSeam, before_zeros};
 ghost use Rattle.cesu8_decode.specs.DecodedOffsets.{BeginsChanged};
 
 use crate::changed::changes;
@@ -90,7 +90,7 @@ fn put_between(source: &[u8], read: usize, count: usize, out: &mut [u8], end: us
     end + count
 }
 
-/// Writes the character that begins the bytes, in UTF-8, and returns its length and the end of that.
+/// Writes the C0 80 or surrogate pair that begins the bytes, in UTF-8; returns its length and the end.
 #[inline(always)]
 fn write_changed<F: Flavor>(bytes: &[u8], out: &mut [u8], end: usize) -> (usize, usize)
     requires bytes { PAIR_READ ≤ length bytes.now }

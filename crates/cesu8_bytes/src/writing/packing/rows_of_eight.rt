@@ -4,8 +4,8 @@ ghost use Rattle.cesu8_bytes.specs.Packing.{AreShufflesOfEight};
 
 use crate::Rows;
 
-/// In row `gone` byte `i` goes if bit `i` of `gone` is set. The last number of a row is how many
-/// bytes are written.
+/// In row `gone` byte `i` goes if bit `i` of `gone` is set. The last number is how many bytes are
+/// written. The zeros before it are what the contract has; what they pack is written over.
 const ROWS: Rows = [
     [0, 1, 2, 3, 4, 5, 6, 7, 0, 0, 0, 0, 0, 0, 0, 8],
     [1, 2, 3, 4, 5, 6, 7, 0, 0, 0, 0, 0, 0, 0, 0, 7],
