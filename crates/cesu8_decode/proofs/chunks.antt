@@ -7,6 +7,7 @@ pub mod DecodedPairs
 pub mod SliceReadings
 pub mod Strings
 pub mod WholeBytes
+pub mod ShownBoundaries
 pub mod ShownBytes
 pub mod FollowingBytes
 pub mod EncodedFollow

@@ -1,5 +1,5 @@
 -- What decoding promises: a chunk of text at the front of bytes, all of it, and what is written for a window.
-use Rattle.std.specs.Prelude.{◌≡◌, ℕ, ◌+◌, ◌*◌, ◌<◌, ◌≤◌, Bool, true, false, List, [], ◌++◌, Vec, length, take, vec_capacity, Option, IfSome, IfNone, Result, IfOk, ⊤}
+use Rattle.std.specs.Prelude.{◌≡◌, ℕ, ◌+◌, ◌*◌, ◌<◌, ◌≤◌, Bool, true, false, List, [], ◌++◌, Vec, length, take, vec_capacity, Option, IfSome, IfNone, Result, IfOk}
 use Rattle.cesu8_text.specs.Reading.{HasNoStrictReading, lossy_length}
 use Rattle.cesu8_text.specs.Encoding.{Flavor}
 use Rattle.cesu8_bytes.specs.declared.strictness.Strictness.{Strictness}
@@ -14,14 +14,14 @@ use Rattle.cesu8_decode.specs.DecodedOffsets.{window_of, decoded, is_ill_formed_
 use Rattle.cesu8_decode.specs.DecodedLanes.{AreFiveKinds}
 use Rattle.cesu8_bytes.specs.TextChunks.{IsReadSoFar}
 
--- Bytes are no more than the way takes that they go.
+-- Bytes are no more than the way takes that they go, and by chunks more than all others take.
 abbrev pub Takes : Way → List ℕ → Type 0
 Takes OneBlock bytes = length bytes ≤ BLOCK
 Takes Few bytes = length bytes ≤ FEW_BYTES
 Takes SmallArray bytes = length bytes ≤ SMALL_ARRAY
 Takes LargeArray bytes = length bytes ≤ LARGE_ARRAY
 Takes LargestArray bytes = length bytes ≤ LARGEST_ARRAY
-Takes Chunks bytes = ⊤
+Takes Chunks bytes = LARGEST_ARRAY < length bytes
 
 -- Strict reading writes no more bytes than it reads, and lossy reading U+FFFD for a byte at most.
 abbrev pub most_written : Strictness → ℕ → ℕ
@@ -88,3 +88,11 @@ pub record GoesOn (f : Flavor) (which : Strictness) (bytes : List ℕ) (before a
   pub end : after.end + most_written which before.read ≤ before.end + most_written which after.read
   pub inside : after.end ≤ length new
   pub len : length new ≡ length old
+
+-- A vector gets what the pass writes next to some buffer.
+pub record AppendsNext {Z : Type 0} (f : Flavor) (which : Strictness) (bytes : List ℕ) (read : ℕ) (kinds : List ℕ) (after : Pass) (before out : Vec ℕ Z) : Type 0 where
+  pub old : List ℕ
+  pub new : List ℕ
+  pub more : GoesOn f which bytes (pass_from read kinds) after old new
+  pub text : after.is_refused ≡ false → out.items ≡ before.items ++ take after.end new
+  pub capacity : vec_capacity out ≡ vec_capacity before

@@ -1,7 +1,7 @@
 //! What a call that decodes takes, as types.
 
 ghost use Rattle.std.specs.Prelude.{◌≡◌, ◌↔◌, ℕ, ◌≤◌, List, IsTrue, IfNone, IfSome, IsUtf8, length, drop};
-ghost use Rattle.cesu8_text.specs.Class.{IsChangedByte, IsUnchangedUtf8};
+ghost use Rattle.cesu8_text.specs.Class.{IsUnchangedUtf8};
 ghost use Rattle.cesu8_text.specs.Encoding.{Flavor as AnyFlavor};
 ghost use Rattle.cesu8_text.specs.Reading.{IsStrictReading, IsLenientReading, reading, IsLenientLossyReading};
 ghost use Rattle.cesu8_text.specs.Kept.{KnowsTexts};
@@ -90,19 +90,12 @@ impl Accepts for Lenient {
 
     #[inline(always)]
     fn keeps_all<F: Flavor>(bytes: &[u8], front: usize) -> bool {
-        front == bytes.len() || may_change::<F>(bytes[front]) && is_utf8_behind(bytes, front)
+        // UTF-8 behind a front that is the same there begins with a byte that changes.
+        front == bytes.len()
+            || matches!(bytes[front], 0 | 0xF0..=0xF7) && is_utf8_behind(bytes, front)
     }
 
     ghost known = { lenient_texts };
-}
-
-/// Returns whether a byte changes, if it is one of UTF-8. UTF-8 behind a front that is the same
-/// there begins with such a byte.
-#[inline(always)]
-fn may_change<F: Flavor>(byte: u8) -> bool
-    ensures { IsChangedByte F.flavor byte → IsTrue result }
-{
-    matches!(byte, 0xF0..=0xF7) || F::has_long_null() && byte == 0
 }
 
 /// Returns whether the bytes are UTF-8, as they are exactly if those from an offset on are.

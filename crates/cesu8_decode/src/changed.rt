@@ -3,8 +3,7 @@
 
 ghost use Rattle.std.specs.Prelude.{◌≡◌, ◌↔◌, ◌≤◌, ℕ, List, length, replicate, slice_index, IsTrue};
 ghost use Rattle.cesu8_text.specs.Encoding.{Flavor as AnyFlavor};
-ghost use Rattle.cesu8_decode.specs.DecodedOffsets.{BeginsChanged};
-ghost use Rattle.cesu8_decode.specs.DecodedOffsets.{IsPrefixOf};
+ghost use Rattle.cesu8_decode.specs.DecodedOffsets.{BeginsChanged, IsPrefixOf};
 
 use cesu8_bytes::flavor::Flavor;
 use cesu8_bytes::lanes::short::copy_short;

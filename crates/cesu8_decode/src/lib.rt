@@ -68,7 +68,7 @@ pub fn decode_strict<F: Flavor>(
 
 /// Returns the lossy reading of the bytes, after one request for its length. Not all of them are whole
 /// characters that are the same in UTF-8, but the front. A length that does not fit counts as refused.
-/// The text of up to 4,096 bytes is decoded before that, so that it needs no pass for the length.
+/// The text of the first 4,096 is decoded before that, so that these need no pass for their length.
 #[inline(never)]
 pub fn decode_lossy<F: Flavor>(
     alloc: Global,

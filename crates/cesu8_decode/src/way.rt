@@ -14,13 +14,12 @@
 //!   lossy reading too, where ED or C0 stands behind the front, and none is ill-formed.
 //! - The arrays: one pass, 32 bytes at a time with no branch on a byte, which would be guessed wrong.
 //!   The text is copied from the array. A smaller one is made in less time.
-//! - Chunks: the same pass goes on as long as the large array has room, and then with an empty one: in
-//!   lossy reading after its length is known, in strict reading to a slice after a test of all.
+//! - Chunks: the pass stops where a buffer is full, and goes on from there: to a `String` in place, and
+//!   to a slice from a large array, behind a test of all or their length. In lossy reading to a `String`
+//!   the first 4,096 bytes go by the largest array, and only of the others the length is found.
 //!
-//! In strict reading to a `String`, `fronts` of `destinations` goes from one character that changes to
-//! the next in more than 64 bytes, where the first stands behind 16 bytes (`FRONT`), and on as long as
-//! 64 (`LONG_FRONT`) are between them. Else the pass appends the text chunk by chunk, by one of the
-//! arrays.
+//! In strict reading to a `String`, `fronts` of `destinations` reads more than 64 bytes, as long as the
+//! changes stand far apart: behind 16 bytes (`FRONT`), and then 64 (`LONG_FRONT`). Others go by chunks.
 
 ghost use Rattle.std.specs.Prelude.{◌≤◌, ◌↔◌, IsTrue, length};
 ghost use Rattle.cesu8_decode.specs.Decoding.{Takes};

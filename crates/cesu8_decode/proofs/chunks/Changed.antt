@@ -6,7 +6,7 @@ use Rattle.std.proofs.Math.Seq.{drop-append_seam}
 use Rattle.cesu8_text.specs.Text.{utf8_of}
 use Rattle.cesu8_text.specs.Encoding.{Flavor, Cesu8, Mutf8, encoding}
 use Rattle.cesu8_text.specs.Reading.{width, reading}
-use Rattle.cesu8_decode.specs.DecodedOffsets.{first_width, IsPrefixOf}
+use Rattle.cesu8_decode.specs.DecodedOffsets.{first_width, IsPrefixOf, BeginsChanged}
 use Rattle.cesu8_bytes.specs.Pairs.{null_at, IsUtf8OfDigits, second_third_fifth_sixth, HasPair}
 use Rattle.cesu8_bytes.specs.TextChunks.{IsReadSoFar}
 use Rattle.cesu8_bytes.specs.declared.strictness.Strictness.{Strictness}
@@ -14,10 +14,8 @@ use Rattle.cesu8_text.proofs.text.Shapes.{Shape, one, two, three, pair, shape, u
 use Rattle.cesu8_text.proofs.encoding.Forms.{encoding_one, encoding_two, encoding_three, encoding_pair, short_form_null, short_form_other}
 use Rattle.cesu8_text.proofs.encoding.Found.{found_pair}
 use Rattle.cesu8_decode.proofs.by_offset.FirstWidths.{IsWide, wide, width_of_first}
-use Rattle.cesu8_decode.proofs.by_offset.WidthTests.{null_found}
+use Rattle.cesu8_decode.proofs.by_offset.WidthTests.{null_found, pair_by_prefix, same_digits}
 use Rattle.cesu8_text.proofs.reading.Steps.{reading_character}
-use Rattle.cesu8_decode.specs.DecodedOffsets.{BeginsChanged}
-use Rattle.cesu8_decode.proofs.by_offset.WidthTests.{pair_by_prefix, same_digits}
 
 -- What a character of some width writes is read, if it is the UTF-8 of the character.
 character_read : (f : Flavor) (which : Strictness) (bytes old new : List ℕ) (n : ℕ) → first_width f bytes ≡ n → (found : IsWide f bytes) →

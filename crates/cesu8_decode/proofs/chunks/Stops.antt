@@ -8,9 +8,8 @@ use Rattle.cesu8_text.specs.Reading.{HasNoStrictReading}
 use Rattle.cesu8_bytes.specs.Pairs.{null_at, HasPair}
 use Rattle.cesu8_bytes.specs.Puts.{PutsAt}
 use Rattle.cesu8_bytes.proofs.vectors.Loads.{padded}
-use Rattle.cesu8_decode.specs.DecodedOffsets.{continues, IsPrefixOf}
+use Rattle.cesu8_decode.specs.DecodedOffsets.{continues, IsPrefixOf, BeginsChanged}
 use Rattle.cesu8_decode.specs.Following.{Unchanged, shown, follows, follows_at, crosses, crosses_at, after_fillers, before_zeros, IsSeam, FollowUpTo}
-use Rattle.cesu8_decode.specs.DecodedOffsets.{BeginsChanged}
 use Rattle.cesu8_decode.specs.Front.{IsFront}
 use Rattle.cesu8_decode.proofs.by_offset.WidthTests.{pair_by_prefix}
 use Rattle.cesu8_decode.proofs.chunks.Changed.{null_lead, null_within, pair_in_prefix, pair_within}

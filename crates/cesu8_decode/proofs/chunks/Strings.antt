@@ -1,25 +1,53 @@
 -- Text that a vector has.
-use Rattle.std.proofs.Common.{arith}
-use Rattle.std.proofs.Common.{◌≡◌, ◌∙◌, subst, ℕ, List, [], length, Vec, vec_capacity, Option, None, Some, Result, IfOk}
+use Rattle.std.proofs.Common.{◌≡◌, ◌∙◌, refl, sym, ap, arith, ℕ, ◌+◌, List, [], ◌++◌, length, length-append, append-nil, Vec, vec_capacity, Option, None, Some, Result, IfOk}
 use Rattle.cesu8_text.specs.Encoding.{Flavor}
-use Rattle.cesu8_bytes.specs.TextChunks.{IsChunk}
-use Rattle.cesu8_bytes.specs.declared.strictness.Strictness.TheVariants.{Lossy}
-use Rattle.cesu8_text.specs.Reading.{lossy_length}
+use Rattle.cesu8_bytes.specs.TextChunks.{IsChunk, IsReadSoFar}
+use Rattle.cesu8_text.specs.Laws.{NoneCrosses}
+use Rattle.cesu8_text.specs.Text.{utf8}
+use Rattle.cesu8_bytes.specs.declared.strictness.Strictness.TheVariants.{Strict, Lossy}
+use Rattle.cesu8_text.specs.Reading.{reading, lossy_length}
+use Rattle.cesu8_text.proofs.reading.Splits.{split}
+use Rattle.cesu8_text.proofs.reading.Steps.{reading_nil}
 use Rattle.std.specs.Option.{ok_or}
-use Rattle.cesu8_bytes.specs.TextChunks.{IsReadSoFar}
 use Rattle.cesu8_decode.specs.Decoding.{AppendsReading, BuildsReading}
-use Rattle.cesu8_decode.proofs.chunks.ReadChunks.{lossy_text_length}
+use Rattle.cesu8_decode.proofs.chunks.ReadChunks.{lossy_text_length, more_read}
 
 -- A copy of the lossy reading is built.
 pub built : {Z E : Type 0} (f : Flavor) (bytes answer : List ℕ) (result : Result (Vec ℕ Z) E) → IsChunk f Lossy bytes [] answer →
     IfOk result (λ copied. copied.items ≡ answer) → IfOk result (λ copied. vec_capacity copied ≡ length answer) → BuildsReading f bytes result
 built f bytes answer result is same long = grind arith
 
--- It is where it is appended to a new vector with capacity for it.
-pub built_behind : {Z E : Type 0} (f : Flavor) (bytes : List ℕ) (empty : Vec ℕ Z) (appended : Option (Vec ℕ Z)) (fault : E) (result : Result (Vec ℕ Z) E) →
-    empty.items ≡ [] → vec_capacity empty ≡ lossy_length f bytes → AppendsReading f Lossy bytes empty appended →
+-- The reading of the first bytes is read of all of them, where no character crosses their end.
+read_apart : (f : Flavor) (bytes first rest text : List ℕ) → first ++ rest ≡ bytes → NoneCrosses f first rest → IsChunk f Lossy first [] text →
+    IsChunk f Lossy bytes rest text
+read_apart f bytes first rest text whole apart read = record {
+  text = read.text;
+  scalars = read.scalars;
+  lossy_reading = ap (reading f) (sym whole) ∙ (split f first rest).1 apart
+      ∙ ap (λ t. t ++ reading f rest) (read.lossy_reading ∙ ap (λ t. read.text ++ t) (reading_nil f) ∙ append-nil read.text);
+  strict_reading = λ (strict : Lossy ≡ Strict). absurd (cc);
+  written = read.written;
+}
+
+-- What is appended has the length of its reading.
+appended_length : (f : Flavor) (bytes old new : List ℕ) → IsReadSoFar f Lossy bytes [] old new → length new ≡ length old + lossy_length f bytes
+appended_length f bytes old new read =
+    let chunk : IsChunk f Lossy bytes [] (utf8 read.text) = record {
+      text = read.text;
+      scalars = read.scalars;
+      lossy_reading = read.lossy_reading;
+      strict_reading = read.strict_reading;
+      written = refl;
+    } in
+    ap length read.written ∙ length-append old (utf8 read.text) ∙ ap (λ n. length old + n) (sym (lossy_text_length f bytes (utf8 read.text) chunk))
+
+-- The whole is built where the rest is appended to that, in a vector with capacity for both.
+pub built_behind : {Z E : Type 0} (f : Flavor) (bytes first rest : List ℕ) (before : Vec ℕ Z) (appended : Option (Vec ℕ Z)) (fault : E)
+    (result : Result (Vec ℕ Z) E) → first ++ rest ≡ bytes → NoneCrosses f first rest → IsChunk f Lossy first [] before.items →
+    vec_capacity before ≡ length before.items + lossy_length f rest → AppendsReading f Lossy rest before appended →
     result ≡ ok_or appended fault → BuildsReading f bytes result
-built_behind f bytes empty None fault result none exact appends is = rw is (record { text = tt; capacity = tt })
-built_behind f bytes empty (Some text) fault result none exact appends is =
-    let read : IsChunk f Lossy bytes [] text.items = subst (λ old. IsReadSoFar f Lossy bytes [] old text.items) none appends.text in
-    rw is (record { text = read; capacity = appends.capacity ∙ exact ∙ lossy_text_length f bytes text.items read })
+built_behind f bytes first rest before None fault result whole apart read exact appends is = rw is (record { text = tt; capacity = tt })
+built_behind f bytes first rest before (Some text) fault result whole apart read exact appends is = rw is (record {
+  text = more_read f Lossy bytes rest [] [] before.items text.items (read_apart f bytes first rest before.items whole apart read) appends.text;
+  capacity = appends.capacity ∙ exact ∙ sym (appended_length f rest before.items text.items appends.text);
+})

@@ -1,42 +1,70 @@
-//! The text of many bytes, which the pass writes to an array on the stack, chunk by chunk.
+//! The text of many bytes, which the pass writes chunk by chunk, in place or to an array on the stack.
 
-ghost use Rattle.std.specs.Prelude.{◌+◌, ◌≤◌, length, vec_len, vec_capacity};
+ghost use Rattle.std.specs.Prelude.{◌≡◌, ℕ, List, ◌+◌, ◌<◌, ◌≤◌, false, length, vec_len, vec_capacity};
+ghost use Rattle.cesu8_decode.specs.declared.pass.blocks.Pass.{Pass};
 ghost use Rattle.cesu8_text.specs.Reading.{reading, lossy_length};
 ghost use Rattle.cesu8_text.specs.Slices.{StandsAtFront};
 ghost use Rattle.cesu8_text.specs.Text.{utf8};
-ghost use Rattle.cesu8_decode.specs.Decoding.{AppendsReading, most_of_text};
+ghost use Rattle.cesu8_decode.specs.Decoding.{AppendsReading, AppendsNext, GoesOn, IsPass, pass_from, most_of_text};
 
-use crate::lanes::packing::ROOM;
-use crate::pass::blocks::{LARGE_LOSSY, write_blocks};
+use crate::pass::blocks::{LARGE_LOSSY, Pass, SMALL_STRICT, write_blocks};
 use crate::pass::reading::{LossyReading, Reading};
+use crate::way::LARGEST_ARRAY;
 use cesu8_bytes::flavor::Flavor;
-use cesu8_bytes::writing::copies::append;
+use cesu8_bytes::writing::copies::{append, append_zeros};
 use cesu8_bytes::writing::put::put;
 use std::simd::prelude::*;
 
-/// Appends the text of the bytes to a vector, by an array of this length, unless strict reading refuses
-/// one of them.
+/// Appends the text of the bytes to a vector, unless strict reading refuses one of them.
 #[inline(never)]
-pub fn append_chunks<F: Flavor, S: Reading, const WRITTEN: usize>(
-    bytes: &[u8],
-    before: Vec<u8>,
-) -> Option<Vec<u8>>
-    requires array { (ROOM ≤ WRITTEN) × (WRITTEN ≤ LARGE_LOSSY) }
-    requires room { vec_len before + most_of_text F.flavor S.which bytes.now ≤ vec_capacity before }
+pub fn append_chunks<F: Flavor, S: Reading>(bytes: &[u8], before: Vec<u8>) -> Option<Vec<u8>>
+    requires { vec_len before + most_of_text F.flavor S.which bytes.now ≤ vec_capacity before }
     ensures { AppendsReading F.flavor S.which bytes.now before result }
 {
     let mut text = before;
-    let mut written = [0; WRITTEN];
+    let mut written = [0; SMALL_STRICT];
     let (mut read, mut kinds) = (0, u8x32::splat(0));
     while read < bytes.len() {
-        let pass = write_blocks::<F, S>(bytes, read, kinds, &mut written);
+        let pass = append_next::<F, S>(bytes, read, kinds, &mut written, &mut text);
         if pass.is_refused {
             return None;
         }
-        append(&written[..pass.end], &mut text);
         (read, kinds) = (pass.read, pass.kinds);
     }
     Some(text)
+}
+
+/// Appends the text of the next bytes. It is written over zeros, of which those behind it go; where few
+/// would fit, it comes from an array, since a block may be written behind its text.
+#[inline(always)]
+fn append_next<F: Flavor, S: Reading>(
+    bytes: &[u8],
+    read: usize,
+    kinds: u8x32,
+    written: &mut [u8],
+    out: &mut Vec<u8>,
+) -> Pass
+    requires pass { IsPass F.flavor bytes.now read kinds × (read < length bytes.now) }
+    requires array { SMALL_STRICT ≤ length written.old }
+    requires fits { (after : Pass) (old : List ℕ) (new : List ℕ) → after.is_refused ≡ false
+        → GoesOn F.flavor S.which bytes.now (pass_from read kinds) after old new
+        → vec_len out.old + after.end ≤ vec_capacity out.old }
+    ensures next { AppendsNext F.flavor S.which bytes.now read kinds result out.old out.new }
+    ensures some { read < result.read }
+{
+    let start = out.len();
+    let spare = out.capacity() - start;
+    if spare < SMALL_STRICT {
+        let pass = write_blocks::<F, S>(bytes, read, kinds, written);
+        if !pass.is_refused {
+            append(&written[..pass.end], out);
+        }
+        return pass;
+    }
+    append_zeros(spare.min(LARGEST_ARRAY), out);
+    let pass = write_blocks::<F, S>(bytes, read, kinds, &mut out[start..]);
+    out.truncate(start + pass.end);
+    pass
 }
 
 /// Writes the lossy reading of the bytes at the front of a slice that is long enough, and returns
@@ -48,8 +76,7 @@ pub fn put_chunks<F: Flavor>(bytes: &[u8], out: &mut [u8]) -> usize
         result out.old out.new }
 {
     let mut written = [0; LARGE_LOSSY];
-    let (mut read, mut kinds) = (0, u8x32::splat(0));
-    let mut end = 0;
+    let (mut read, mut kinds, mut end) = (0, u8x32::splat(0), 0);
     while read < bytes.len() {
         let pass = write_blocks::<F, LossyReading>(bytes, read, kinds, &mut written);
         end = put(&written[..pass.end], out, end);

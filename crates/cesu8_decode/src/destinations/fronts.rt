@@ -14,10 +14,9 @@ use crate::changed::{begins_changed, prefix_of};
 use crate::front::front;
 use crate::lanes::character_set::Unchanged;
 use crate::lanes::stops::stops_of_few;
-use crate::pass::blocks::{LARGE_STRICT, SMALL_STRICT};
 use crate::pass::reading::StrictReading;
 use crate::pass::strict_few::{STRICT_TEXT, write_few_strictly};
-use crate::way::{FEW_BYTES, Way, way_of};
+use crate::way::{FEW_BYTES, are_few};
 use cesu8_bytes::flavor::Flavor;
 use cesu8_bytes::pairs::{PAIR, PAIR_READ, utf8_of_pair};
 use cesu8_bytes::writing::copies::{append, append_few};
@@ -48,27 +47,14 @@ pub fn append_many<F: Flavor>(bytes: &[u8], len: usize, before: Vec<u8>) -> Opti
         least = LONG_FRONT;
     }
     append(&rest[..len], &mut text);
-    if len == rest.len() {
+    let rest = &rest[len..];
+    if rest.is_empty() {
         return Some(text);
     }
-    append_rest::<F>(&rest[len..], text)
-}
-
-/// Appends the strict reading of what is left.
-#[inline(always)]
-fn append_rest<F: Flavor>(bytes: &[u8], before: Vec<u8>) -> Option<Vec<u8>>
-    requires { vec_len before + length bytes.now ≤ vec_capacity before }
-    ensures { AppendsReading F.flavor Strict bytes.now before result }
-{
-    match way_of(bytes) {
-        Way::OneBlock | Way::Few => {
-            append_few_strictly::<F>(bytes, stops_of_few::<F, Unchanged>(bytes), before)
-        }
-        Way::SmallArray => append_chunks::<F, StrictReading, SMALL_STRICT>(bytes, before),
-        Way::LargeArray | Way::LargestArray | Way::Chunks => {
-            append_chunks::<F, StrictReading, LARGE_STRICT>(bytes, before)
-        }
+    if are_few(rest) {
+        return append_few_strictly::<F>(rest, stops_of_few::<F, Unchanged>(rest), text);
     }
+    append_chunks::<F, StrictReading>(rest, text)
 }
 
 /// Appends the strict reading of a few bytes, by the set of those that may not follow, and by an array.

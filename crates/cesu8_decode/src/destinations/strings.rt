@@ -2,9 +2,11 @@
 //!
 //! Strict reading has requested as many bytes as it was given, and appends to the vector. Lossy
 //! reading requests exactly what the text has. So what an array on the stack has room for is decoded
-//! before that, and of more bytes the length is found first.
+//! before that, and only of more bytes the length is found.
 
-ghost use Rattle.std.specs.Prelude.{◌≡◌, ◌<◌, ◌≤◌, [], length, vec_capacity};
+ghost use Rattle.std.specs.Prelude.{◌≡◌, ◌<◌, ◌≤◌, ◌++◌, [], length, vec_capacity};
+ghost use Rattle.cesu8_text.specs.Encoding.{Flavor as AnyFlavor};
+ghost use Rattle.cesu8_text.specs.Laws.{NoneCrosses};
 ghost use Rattle.cesu8_bytes.specs.declared.strictness.Strictness.TheVariants.{Strict, Lossy};
 ghost use Rattle.cesu8_decode.specs.Decoding.{BuildsReading, AppendsReading, room_for};
 ghost use Rattle.cesu8_decode.specs.Following.{Unchanged};
@@ -18,9 +20,10 @@ use crate::lengths::lossy_len;
 use crate::pass::blocks::{BLOCK_LOSSY, LARGE_LOSSY, LARGEST_LOSSY, SMALL_LOSSY, write_all};
 use crate::pass::reading::LossyReading;
 use crate::pass::strict_few::{STRICT_TEXT, write_few_strictly};
-use crate::way::{Way, are_few, way_of};
+use crate::way::{LARGEST_ARRAY, Way, are_few, way_of};
+use cesu8_bytes::BLOCK;
 use cesu8_bytes::flavor::Flavor;
-use cesu8_bytes::writing::copies::copy;
+use cesu8_bytes::writing::copies::{append, copy};
 use std::alloc::{AllocError, Global};
 
 /// Writes the strict reading of bytes to an empty vector that has capacity for as many.
@@ -103,15 +106,41 @@ fn build_by_array<F: Flavor, const WRITTEN: usize>(
     copy(alloc, &written[..end])
 }
 
-/// Returns the lossy reading of more bytes. A length that does not fit counts as refused.
+/// Returns the lossy reading of more bytes. A length that does not fit counts as refused. The text of the
+/// first ones is decoded before the length of the others' is found.
 #[inline(never)]
 fn build_chunks<F: Flavor>(alloc: Global, bytes: &[u8]) -> Result<Vec<u8>, AllocError>
+    requires { LARGEST_ARRAY < length bytes.now }
     ensures { BuildsReading F.flavor bytes.now result }
 {
-    let Some(len) = lossy_len::<F>(bytes) else {
-        return Err(AllocError);
-    };
-    let empty = Vec::with_capacity(alloc, len)?;
+    let (first, rest) = first_part(bytes);
+    let mut written = [0; LARGEST_LOSSY];
     // Lossy reading refuses no byte.
-    append_chunks::<F, LossyReading, LARGE_LOSSY>(bytes, empty).ok_or(AllocError)
+    let end = write_all::<F, LossyReading>(first, &mut written).ok_or(AllocError)?;
+    let rest_len = lossy_len::<F>(rest).ok_or(AllocError)?;
+    let len = end.checked_add(rest_len).ok_or(AllocError)?;
+    let mut text = Vec::with_capacity(alloc, len)?;
+    append(&written[..end], &mut text);
+    append_chunks::<F, LossyReading>(rest, text).ok_or(AllocError)
+}
+
+/// Returns the first of many bytes, up to an offset that no encoded character crosses, and the others.
+/// That is looked for in the last of those that an array takes; where they show none, none are first.
+#[inline(always)]
+fn first_part(bytes: &[u8]) -> (&[u8], &[u8])
+    requires { LARGEST_ARRAY < length bytes.now }
+    ensures first { length result.0.now ≤ LARGEST_ARRAY }
+    ensures parts { result.0.now ++ result.1.now ≡ bytes.now }
+    ensures apart { (f : AnyFlavor) → NoneCrosses f result.0.now result.1.now }
+{
+    let mut at = LARGEST_ARRAY;
+    while at > LARGEST_ARRAY - BLOCK {
+        // ED may begin the second half of a surrogate pair.
+        let byte = bytes[at];
+        if (byte < 0x80 || byte >= 0xC0) && byte != 0xED {
+            return bytes.split_at(at);
+        }
+        at -= 1;
+    }
+    bytes.split_at(0)
 }

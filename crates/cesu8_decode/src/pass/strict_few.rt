@@ -9,9 +9,8 @@ ghost use Rattle.cesu8_bytes.specs.Puts.{WritesAt};
 ghost use Rattle.cesu8_bytes.specs.TextChunks.{IsReadSoFar};
 ghost use Rattle.cesu8_bytes.specs.declared.strictness.Strictness.TheVariants.{Strict};
 ghost use Rattle.cesu8_decode.specs.Decoding.{WritesReading};
-ghost use Rattle.cesu8_decode.specs.DecodedOffsets.{IsPrefixOf};
+ghost use Rattle.cesu8_decode.specs.DecodedOffsets.{IsPrefixOf, BeginsChanged};
 ghost use Rattle.cesu8_decode.specs.Following.{Unchanged as AllUnchanged, HasStops, IsSeam, before_zeros};
-ghost use Rattle.cesu8_decode.specs.DecodedOffsets.{BeginsChanged};
 
 use crate::changed::changes;
 use crate::front::may_be_crossed;

@@ -1,6 +1,5 @@
 -- What is known of the texts of bytes, by what a call takes.
-use Rattle.std.proofs.Common.{arith}
-use Rattle.std.proofs.Common.{◌≡◌, ℕ, ◌↔◌, ◌⊎◌, inr, ⊎_elim, List, refl, sym, ap, ◌∙◌, subst}
+use Rattle.std.proofs.Common.{arith, ◌≡◌, ℕ, ◌↔◌, ◌⊎◌, inr, ⊎_elim, List, refl, sym, ap, ◌∙◌, subst}
 use Rattle.std.specs.Str.{chars, IsUtf8}
 use Rattle.cesu8_text.specs.Text.{IsUtf8Of}
 use Rattle.cesu8_text.specs.Encoding.{Flavor}

@@ -1,9 +1,15 @@
-use Rattle.std.proofs.Common.{◌∙◌, refl, sym, arith, drop, length-drop}
+use Rattle.std.proofs.Common.{◌≡◌, ◌≤◌, ◌∙◌, ℕ, ◌+◌, List, refl, sym, arith, length, take, drop, length-drop, Vec, vec_len, vec_capacity}
+use Rattle.std.proofs.lemmas.Bool.{eqb-true}
 use Rattle.std.proofs.lemmas.List.{length-take-le, take_rest}
 use Rattle.cesu8_bytes.specs.declared.strictness.Strictness.TheVariants.{Strict}
 use Rattle.cesu8_decode.proofs.chunks.FrontReadings.{appended_behind, front_appended}
 use Rattle.cesu8_decode.proofs.chunks.ReadChunks.{more_read, none_left, nothing_read}
 use Rattle.cesu8_decode.proofs.destinations.fronts.append_many.Goals as goal
+
+-- What is left of the bytes has room behind the front.
+room_left : {Z : Type 0} (rest front : List ℕ) (n : ℕ) (before out : Vec ℕ Z) → n ≤ length rest → length front ≡ n → vec_len before + length rest ≤ vec_capacity before →
+    vec_len out ≡ vec_len before + length front → vec_capacity out ≡ vec_capacity before → vec_len out + length (drop n rest) ≤ vec_capacity out
+room_left rest front n before out within long room len capacity = omega (arith, within, long, room, len, capacity, length-drop n rest)
 
 pub loop-least-init : goal.loop-least-init
 loop-least-init g c = record {
@@ -43,40 +49,49 @@ append-requires g c =
     let inv = c.loop-least.invariant in
     omega (arith, inv.room, length-take-le c.loop-least.len c.loop-least.rest.now inv.front.within, inv.front.within)
 
-pub returns-then-len-rest-2 : goal.returns-then-len-rest-2
-returns-then-len-rest-2 g c =
+pub slice_bounds-rest-count : goal.slice_bounds-rest-count
+slice_bounds-rest-count g c = omega (arith, c.loop-least.invariant.front.within)
+
+pub slice_bounds-rest-start : goal.slice_bounds-rest-start
+slice_bounds-rest-start g c = omega (arith, c.loop-least.invariant.front.within)
+
+pub returns-then-is_empty : goal.returns-then-is_empty
+returns-then-is_empty g c =
     let f = g.F.Flavor.flavor in
     let inv = c.loop-least.invariant in
     let rest = c.loop-least.rest.now in
     let n = c.loop-least.len in
+    let empty = eqb-true _ 0 (sym c.is_empty.ensures ∙ c.if-is_empty.true) in
     record {
       text = none_left f Strict c.args.bytes.now (drop n rest) _ _
           (front_appended f rest n inv.front c.args.bytes.now _ _ _ inv.read c.append.ensures.bytes)
-          (omega (arith, length-drop n rest, c.if-len-rest-2.true));
+          (rw take_rest at empty);
       capacity = c.append.ensures.capacity ∙ inv.capacity;
       none = tt;
     }
 
-pub slice_bounds-append_rest-count : goal.slice_bounds-append_rest-count
-slice_bounds-append_rest-count g c = omega (arith, c.loop-least.invariant.front.within)
+pub append_few_strictly-requires-clause-room : goal.append_few_strictly-requires-clause-room
+append_few_strictly-requires-clause-room g c =
+    let inv = c.loop-least.invariant in
+    rw take_rest (room_left c.loop-least.rest.now (take c.loop-least.len c.loop-least.rest.now) c.loop-least.len c.loop-least.text c.append.new.out inv.front.within
+    (length-take-le c.loop-least.len c.loop-least.rest.now inv.front.within) inv.room c.append.ensures.len c.append.ensures.capacity)
 
-pub slice_bounds-append_rest-start : goal.slice_bounds-append_rest-start
-slice_bounds-append_rest-start g c = omega (arith, c.loop-least.invariant.front.within)
+pub append_chunks-requires : goal.append_chunks-requires
+append_chunks-requires g c =
+    let inv = c.loop-least.invariant in
+    rw take_rest (room_left c.loop-least.rest.now (take c.loop-least.len c.loop-least.rest.now) c.loop-least.len c.loop-least.text c.append.new.out inv.front.within
+    (length-take-le c.loop-least.len c.loop-least.rest.now inv.front.within) inv.room c.append.ensures.len c.append.ensures.capacity)
 
-pub append_rest-requires : goal.append_rest-requires
-append_rest-requires g c =
+pub returns-then-are_few : goal.returns-then-are_few
+returns-then-are_few g c =
+    let f = g.F.Flavor.flavor in
     let inv = c.loop-least.invariant in
     let rest = c.loop-least.rest.now in
     let n = c.loop-least.len in
-    rw take_rest (omega (
-      arith,
-      inv.room,
-      c.append.ensures.len,
-      c.append.ensures.capacity,
-      length-take-le n rest inv.front.within,
-      length-drop n rest,
-      inv.front.within,
-    ))
+    appended_behind f c.args.bytes.now (drop n rest) c.args.before c.append.new.out c.append_few_strictly.result
+    (front_appended f rest n inv.front c.args.bytes.now _ _ _ inv.read c.append.ensures.bytes)
+    (c.append.ensures.capacity ∙ inv.capacity)
+    (rw take_rest at c.append_few_strictly.ensures)
 
 pub returns : goal.returns
 returns g c =
@@ -84,7 +99,7 @@ returns g c =
     let inv = c.loop-least.invariant in
     let rest = c.loop-least.rest.now in
     let n = c.loop-least.len in
-    appended_behind f c.args.bytes.now (drop n rest) c.args.before c.append.new.out c.append_rest.result
+    appended_behind f c.args.bytes.now (drop n rest) c.args.before c.append.new.out c.append_chunks.result
     (front_appended f rest n inv.front c.args.bytes.now _ _ _ inv.read c.append.ensures.bytes)
     (c.append.ensures.capacity ∙ inv.capacity)
-    (rw take_rest at c.append_rest.ensures)
+    (rw take_rest at c.append_chunks.ensures)

@@ -1,8 +1,7 @@
 use Rattle.std.proofs.Common.{arith, drop, length-drop}
 use Rattle.std.proofs.lemmas.List.{length-take-le, take_rest}
 use Rattle.cesu8_bytes.specs.declared.strictness.Strictness.TheVariants.{Strict}
-use Rattle.cesu8_decode.specs.DecodedOffsets.{BeginsChanged}
-use Rattle.cesu8_decode.specs.DecodedOffsets.{IsPrefixOf}
+use Rattle.cesu8_decode.specs.DecodedOffsets.{BeginsChanged, IsPrefixOf}
 use Rattle.cesu8_decode.proofs.chunks.Changed.{changed_null, changed_pair, null_read, pair_in_prefix, seen_pair_read}
 use Rattle.cesu8_decode.proofs.chunks.FrontReadings.{front_appended}
 use Rattle.cesu8_decode.proofs.chunks.ReadChunks.{nothing_read, more_read}
