@@ -13,7 +13,3 @@ pub record IsReadSoFar (f : Flavor) (which : Strictness) (bytes rest old new : L
   pub lossy_reading : reading f bytes ≡ text ++ reading f rest
   pub strict_reading : which ≡ Strict → bytes ≡ encoding f text ++ rest
   pub written : new ≡ old ++ utf8 text
-
--- A chunk of text, in UTF-8, is read before the rest.
-abbrev pub IsChunk : Flavor → Strictness → List ℕ → List ℕ → List ℕ → Type 0
-IsChunk f which bytes rest chunk = IsReadSoFar f which bytes rest [] chunk

@@ -3,7 +3,7 @@
 use cesu8_bytes::writing::copies::NoRoom;
 use std::alloc::AllocError;
 
-/// Why no text is built.
+/// Why strict reading builds no text. Lossy reading always has one, and fails by `AllocError` alone.
 #[derive(Drop)]
 pub enum Refusal {
     /// The bytes have no text.

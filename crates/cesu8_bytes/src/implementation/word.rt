@@ -107,6 +107,8 @@ mod tests {
     use super::{WORD, contains_four, test_word_any};
     use std::cell::Cell;
 
+    const ONES: u64 = 0x0101_0101_0101_0101;
+
     /// The words are those of the first eight bytes, of each eight that follow, and of the last.
     #[test]
     fn tests_each_word(rt: HostRuntime) {
@@ -115,31 +117,31 @@ mod tests {
             0, 1, 2, 3, 4, 5, 6, 7, 8, 9, 10, 11, 12, 13, 14, 15, 16, 17, 18, 19, 20, 21, 22, 23,
             24,
         ];
-        // The number of bytes, and the first bytes of the words that are tested, followed by zeros.
+        // The number of bytes, and the words that are tested, less that at 0, followed by zeros.
         let cases = [
             (8, 2, [0, 0, 0, 0]),
-            (9, 2, [0, 1, 0, 0]),
-            (16, 2, [0, 8, 0, 0]),
-            (17, 3, [0, 8, 9, 0]),
-            (24, 3, [0, 8, 16, 0]),
-            (25, 4, [0, 8, 16, 17]),
+            (9, 2, [0, ONES, 0, 0]),
+            (16, 2, [0, 8 * ONES, 0, 0]),
+            (17, 3, [0, 8 * ONES, 9 * ONES, 0]),
+            (24, 3, [0, 8 * ONES, 16 * ONES, 0]),
+            (25, 4, [0, 8 * ONES, 16 * ONES, 17 * ONES]),
         ];
-        for (len, count, offsets) in cases {
+        for (len, count, words) in cases {
             assert!(rt; WORD <= len);
             let tested = Cell::new(0usize);
             let seen = Cell::new([0u64; 4]);
             let found = test_word_any(&bytes[..len], |word| {
-                let mut offsets = seen.get();
-                if let Some(slot) = offsets.get_mut(tested.get()) {
-                    *slot = word & 0xFF;
+                let mut words = seen.get();
+                if let Some(slot) = words.get_mut(tested.get()) {
+                    *slot = word.wrapping_sub(0x0706_0504_0302_0100);
                 }
-                seen.set(offsets);
+                seen.set(words);
                 tested.set(tested.get().wrapping_add(1));
                 contains_four(word)
             });
             assert_eq!(rt;
                 (found, tested.get(), seen.get()),
-                (false, count, offsets),
+                (false, count, words),
                 "{len} bytes"
             );
         }

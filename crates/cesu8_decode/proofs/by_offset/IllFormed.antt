@@ -8,7 +8,7 @@ use Rattle.cesu8_text.specs.Reading.{BeginsWith, NoneBegins, StandsAt, width, re
 use Rattle.cesu8_text.specs.Cutting.{Piece, Character, Replaced, ArePieces, bytes_of, text_of, IsGreedy}
 use Rattle.cesu8_text.specs.Laws.{NoneCrosses}
 use Rattle.cesu8_decode.specs.DecodedOffsets.{width_at, is_ill_formed_at}
-use Rattle.cesu8_bytes.specs.TextChunks.{IsChunk}
+use Rattle.cesu8_bytes.specs.TextChunks.{IsReadSoFar}
 use Rattle.cesu8_bytes.specs.declared.strictness.Strictness.{Strictness}
 use Rattle.cesu8_bytes.specs.declared.strictness.Strictness.TheVariants.{Strict}
 use Rattle.cesu8_text.proofs.encoding.Encodings.{encoding_nil, encoding_cons}
@@ -20,6 +20,10 @@ use Rattle.cesu8_text.proofs.reading.Greedy.{places}
 use Rattle.cesu8_decode.proofs.by_offset.FirstWidths.{wide}
 use Rattle.cesu8_decode.proofs.by_offset.WindowOffsets.{is_boundary_at, Follows, width_in}
 use Rattle.cesu8_decode.proofs.by_offset.CharacterBoundaries.{width_bounds, boundary_ends, width_of_standing}
+
+-- A chunk of text, in UTF-8, is read before the rest.
+abbrev pub IsChunk : Flavor → Strictness → List ℕ → List ℕ → List ℕ → Type 0
+IsChunk f which bytes rest chunk = IsReadSoFar f which bytes rest [] chunk
 
 -- After some text no encoded character begins the bytes that are left.
 pub record HasFault (f : Flavor) (bytes : List ℕ) : Type 0 where

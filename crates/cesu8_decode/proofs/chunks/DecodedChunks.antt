@@ -7,7 +7,6 @@ use Rattle.cesu8_text.specs.Encoding.{Flavor}
 use Rattle.cesu8_text.specs.Reading.{reading, IsStrictReading}
 use Rattle.cesu8_text.specs.Cutting.{Piece, Character, Replaced, ArePieces, text_of}
 use Rattle.cesu8_text.specs.Laws.{NoneCrosses}
-use Rattle.cesu8_bytes.specs.TextChunks.{IsChunk}
 use Rattle.cesu8_bytes.specs.declared.strictness.Strictness.{Strictness}
 use Rattle.cesu8_bytes.specs.declared.strictness.Strictness.TheVariants.{Strict, Lossy}
 use Rattle.cesu8_decode.specs.DecodedOffsets.{decoded, is_ill_formed_at}
@@ -16,7 +15,7 @@ use Rattle.cesu8_text.proofs.reading.Greedy.{places}
 use Rattle.cesu8_text.proofs.reading.Splits.{split}
 use Rattle.cesu8_decode.proofs.by_offset.WindowOffsets.{is_boundary_at, Agree, follows_zeros, boundary_agrees, ill_formed_agrees, decoded_agrees}
 use Rattle.cesu8_decode.proofs.by_offset.CharacterBoundaries.{boundary_of_zeros, none_crosses_boundary}
-use Rattle.cesu8_decode.proofs.by_offset.IllFormed.{HasFault, IsCovered, chunk_of_text, covered_read, uncovered_fault, covered_where, not_covered_where, covered_in_front}
+use Rattle.cesu8_decode.proofs.by_offset.IllFormed.{IsChunk, HasFault, IsCovered, chunk_of_text, covered_read, uncovered_fault, covered_where, not_covered_where, covered_in_front}
 use Rattle.cesu8_decode.proofs.by_offset.DecodedText.{IsPadded, decoded_between}
 
 -- ---- chunks

@@ -13,7 +13,7 @@ use Rattle.cesu8_text.proofs.encoding.Lengths.{not_otherwise, length_bounds}
 use Rattle.cesu8_text.proofs.encoding.Unique.{after_text}
 use Rattle.cesu8_text.proofs.reading.Decoding.{IsText_append, utf8_append}
 use Rattle.cesu8_text.proofs.reading.KeptTexts.{strict_only}
-use Rattle.cesu8_bytes.specs.TextChunks.{IsReadSoFar, IsChunk}
+use Rattle.cesu8_bytes.specs.TextChunks.{IsReadSoFar}
 use Rattle.cesu8_bytes.specs.declared.strictness.Strictness.TheVariants.{Strict}
 use Rattle.cesu8_bytes.specs.declared.writing.copies.NoRoom.{NoRoom}
 use Rattle.cesu8_decode.specs.declared.refusal.Unwritten.TheVariants as unwritten
@@ -22,6 +22,7 @@ use Rattle.cesu8_decode.specs.Following.{Unchanged}
 use Rattle.cesu8_decode.specs.DecodedOffsets.{BeginsChanged}
 use Rattle.cesu8_decode.specs.Front.{IsFront}
 use Rattle.cesu8_decode.specs.PutReadings.{PutsReading}
+use Rattle.cesu8_decode.proofs.by_offset.IllFormed.{IsChunk}
 use Rattle.cesu8_decode.proofs.chunks.ReadChunks.{more_read, chunk_appended}
 use Rattle.cesu8_decode.proofs.chunks.SliceReadings.{IsOnlyText, answer_put, room_lacks, no_strict_text}
 use Rattle.cesu8_decode.proofs.chunks.UnchangedFronts.{unchanged_front_chunk, no_strict_reading}

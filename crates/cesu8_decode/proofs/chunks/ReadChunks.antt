@@ -5,8 +5,8 @@ use Rattle.std.proofs.Common.{◌≡◌, ℕ, List, [], ◌∷◌, ◌++◌, ref
 use Rattle.cesu8_text.specs.Text.{IsText, utf8}
 use Rattle.cesu8_text.specs.Encoding.{Flavor, encoding}
 use Rattle.cesu8_text.specs.Reading.{reading, lossy_length, HasNoStrictReading}
-use Rattle.cesu8_decode.proofs.by_offset.IllFormed.{HasFault}
-use Rattle.cesu8_bytes.specs.TextChunks.{IsReadSoFar, IsChunk}
+use Rattle.cesu8_decode.proofs.by_offset.IllFormed.{IsChunk, HasFault}
+use Rattle.cesu8_bytes.specs.TextChunks.{IsReadSoFar}
 use Rattle.cesu8_bytes.specs.declared.strictness.Strictness.{Strictness}
 use Rattle.cesu8_text.proofs.encoding.Encodings.{encoding_nil, encoding_append}
 use Rattle.cesu8_text.proofs.reading.Steps.{reading_nil}

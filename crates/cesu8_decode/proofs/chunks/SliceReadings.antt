@@ -7,7 +7,6 @@ use Rattle.cesu8_text.specs.Text.{utf8}
 use Rattle.cesu8_text.specs.Encoding.{Flavor}
 use Rattle.cesu8_text.specs.Kept.{KnowsTexts}
 use Rattle.cesu8_text.specs.Reading.{IsStrictReading, HasNoStrictReading, reading, lossy_length}
-use Rattle.cesu8_bytes.specs.TextChunks.{IsChunk}
 use Rattle.cesu8_bytes.specs.declared.strictness.Strictness.{Strictness}
 use Rattle.cesu8_bytes.specs.declared.strictness.Strictness.TheVariants.{Strict, Lossy}
 use Rattle.cesu8_text.specs.Slices.{StandsAtFront, ReadsAtLength}
@@ -19,6 +18,7 @@ use Rattle.cesu8_bytes.specs.declared.writing.copies.NoRoom.{NoRoom}
 use Rattle.cesu8_text.proofs.StdUtf8.{IsUtf8Of_chars}
 use Rattle.cesu8_text.proofs.encoding.Lengths.{length_bounds}
 use Rattle.cesu8_text.proofs.reading.KeptTexts.{strict_only}
+use Rattle.cesu8_decode.proofs.by_offset.IllFormed.{IsChunk}
 use Rattle.cesu8_decode.proofs.chunks.ReadChunks.{IsDecodedText, chunk_utf8, whole_text}
 
 -- ---- the only text

@@ -1,7 +1,7 @@
 -- Text that a vector has.
 use Rattle.std.proofs.Common.{◌≡◌, ◌∙◌, refl, sym, ap, arith, ℕ, ◌+◌, List, [], ◌++◌, length, length-append, append-nil, Vec, vec_capacity, Option, None, Some, Result, IfOk}
 use Rattle.cesu8_text.specs.Encoding.{Flavor}
-use Rattle.cesu8_bytes.specs.TextChunks.{IsChunk, IsReadSoFar}
+use Rattle.cesu8_bytes.specs.TextChunks.{IsReadSoFar}
 use Rattle.cesu8_text.specs.Laws.{NoneCrosses}
 use Rattle.cesu8_text.specs.Text.{utf8}
 use Rattle.cesu8_bytes.specs.declared.strictness.Strictness.TheVariants.{Strict, Lossy}
@@ -10,6 +10,7 @@ use Rattle.cesu8_text.proofs.reading.Splits.{split}
 use Rattle.cesu8_text.proofs.reading.Steps.{reading_nil}
 use Rattle.std.specs.Option.{ok_or}
 use Rattle.cesu8_decode.specs.Decoding.{AppendsReading, BuildsReading}
+use Rattle.cesu8_decode.proofs.by_offset.IllFormed.{IsChunk}
 use Rattle.cesu8_decode.proofs.chunks.ReadChunks.{lossy_text_length, more_read}
 
 -- A copy of the lossy reading is built.

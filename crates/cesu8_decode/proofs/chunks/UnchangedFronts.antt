@@ -14,11 +14,10 @@ use Rattle.cesu8_text.proofs.encoding.Lengths.{Change, same, longer, change, not
 use Rattle.cesu8_text.proofs.encoding.NeedsEncoding.{encoding_same, needs_by_bytes, changed_by_four, four_from}
 use Rattle.cesu8_text.proofs.encoding.Unique.{no_reading}
 use Rattle.cesu8_text.proofs.reading.Borrowing.{unchanged_reading}
-use Rattle.cesu8_bytes.specs.TextChunks.{IsChunk}
 use Rattle.cesu8_bytes.specs.declared.strictness.Strictness.{Strictness}
 use Rattle.cesu8_decode.specs.Following.{Encoded, Unchanged, Utf8}
 use Rattle.cesu8_decode.specs.Front.{AreWhole, IsFront}
-use Rattle.cesu8_decode.proofs.by_offset.IllFormed.{chunk_of_text}
+use Rattle.cesu8_decode.proofs.by_offset.IllFormed.{IsChunk, chunk_of_text}
 use Rattle.cesu8_decode.proofs.chunks.WholeBytes.{none_outside}
 use Rattle.cesu8_decode.proofs.chunks.Fronts.{all_front, front_of_all, bytes_are, none_behind}
 

@@ -5,8 +5,8 @@ use Rattle.cesu8_text.specs.Text.{utf8}
 use Rattle.cesu8_text.specs.Encoding.{Flavor}
 use Rattle.cesu8_text.specs.Reading.{reading}
 use Rattle.cesu8_text.specs.Slices.{StandsAtFront}
-use Rattle.cesu8_bytes.specs.TextChunks.{IsChunk}
 use Rattle.cesu8_bytes.specs.declared.strictness.Strictness.TheVariants.{Lossy}
+use Rattle.cesu8_decode.proofs.by_offset.IllFormed.{IsChunk}
 use Rattle.cesu8_decode.proofs.chunks.ReadChunks.{all_read}
 
 -- Where all bytes are read, their lossy reading stands at the front of the slice.

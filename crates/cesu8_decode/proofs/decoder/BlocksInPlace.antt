@@ -13,10 +13,11 @@ use Rattle.cesu8_bytes.specs.Packing.{written_for}
 use Rattle.cesu8_bytes.specs.declared.strictness.Strictness.{Strictness}
 use Rattle.cesu8_bytes.specs.declared.strictness.Strictness.TheVariants.{Strict, Lossy}
 use Rattle.cesu8_bytes.specs.Puts.{WritesAt}
-use Rattle.cesu8_bytes.specs.TextChunks.{IsReadSoFar, IsChunk}
+use Rattle.cesu8_bytes.specs.TextChunks.{IsReadSoFar}
 use Rattle.cesu8_decode.specs.DecodedOffsets.{window_of, is_ill_formed_at, decoded_byte, decoded_at, decoded}
 use Rattle.cesu8_decode.specs.DecodedLanes.{start_kind_by, start_kind, AreFiveKinds, goes_at, byte_at}
 use Rattle.cesu8_decode.specs.Decoding.{IsDecoded, WritesDecoded, most_written, most_of_text}
+use Rattle.cesu8_decode.proofs.by_offset.IllFormed.{IsChunk}
 use Rattle.cesu8_decode.proofs.by_offset.WindowOffsets.{is_boundary_at, Agree, agree_later, follows_zeros, ill_formed_agrees, decoded_agrees, decoded_split}
 use Rattle.cesu8_decode.proofs.by_offset.DecodedText.{decoded_between}
 use Rattle.cesu8_decode.proofs.chunks.ReadChunks.{fault_of_whole, none_left, chunk_appended}
@@ -63,11 +64,6 @@ most_of_more Strict n m = refl
 most_of_more Lossy n m = omega arith
 
 -- ---- windows that agree
-
-agree_at : (a b : List ℕ) (j n s m : ℕ) → s + m ≤ n → Agree a b 0 j n → Agree a b s (j + s) m
-agree_at a b j n s m fits agree k small =
-    let there : j + (s + k) ≡ j + s + k = omega arith in
-    ap (λ p. get_or a p 0) (sym (zero-add (s + k))) ∙ agree (s + k) (omega arith) ∙ ap (λ p. get_or b p 0) there
 
 turned : (a b : List ℕ) (i j n : ℕ) → Agree a b i j n → Agree b a j i n
 turned a b i j n agree k small = sym (agree k small)

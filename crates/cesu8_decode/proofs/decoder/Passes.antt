@@ -5,7 +5,6 @@ use lib.Lanes.{mask_l}
 use Rattle.cesu8_text.specs.Encoding.{Flavor}
 use Rattle.cesu8_bytes.specs.Pairs.{IsUtf8OfDigits, second_third_fifth_sixth, HasPair}
 use Rattle.cesu8_bytes.specs.Puts.{PutsAt}
-use Rattle.cesu8_bytes.specs.TextChunks.{IsChunk}
 use Rattle.cesu8_text.specs.Reading.{HasNoStrictReading}
 use Rattle.cesu8_bytes.specs.declared.strictness.Strictness.{Strictness}
 use Rattle.cesu8_bytes.specs.declared.strictness.Strictness.TheVariants.{Strict, Lossy}
@@ -13,6 +12,7 @@ use Rattle.cesu8_decode.specs.Decoding.{IsDecoded, WritesDecoded, IsPass, GoesOn
 use Rattle.cesu8_decode.specs.DecodedOffsets.{window_of, width_at}
 use Rattle.cesu8_decode.specs.DecodedLanes.{start_kind}
 use Rattle.cesu8_decode.specs.declared.pass.blocks.Pass.{Pass}
+use Rattle.cesu8_decode.proofs.by_offset.IllFormed.{IsChunk}
 use Rattle.cesu8_decode.proofs.by_offset.WindowOffsets.{Agree}
 use Rattle.cesu8_decode.proofs.chunks.DecodedPairs.{none_inside, pair_fine, pair_decoded}
 use Rattle.cesu8_decode.proofs.decoder.BlocksInPlace.{first_kinds, none_decoded, more_decoded, decoded_in, most_of_more, all_decoded, refused_decoded}
@@ -105,11 +105,6 @@ module _ (f : Flavor) (which : Strictness) (bytes : List ℕ) where
       (which ≡ Strict) × HasNoStrictReading f bytes
   refuses_at_once after old new kinds more refused =
       refused_decoded f which bytes [] _ after.read (reads_on _ after old new [] [] true more refl refused (none_decoded f which (window_of bytes) [])) more.within.1
-
--- Lossy reading refuses none.
-pub never_refused : (f : Flavor) (bytes : List ℕ) (after : Pass) (old new kinds : List ℕ) → GoesOn f Lossy bytes (pass_from 0 kinds) after old new →
-    after.is_refused ≡ false
-never_refused f bytes after old new kinds more = (more.text [] [] (none_decoded f Lossy (window_of bytes) [])).lossy refl
 
 -- ---- pairs
 

@@ -72,8 +72,7 @@ fn append_next<F: Flavor, S: Reading>(
 #[inline(never)]
 pub fn put_chunks<F: Flavor>(bytes: &[u8], out: &mut [u8]) -> usize
     requires { lossy_length F.flavor bytes.now ≤ length out.old }
-    ensures { StandsAtFront (utf8 (reading F.flavor bytes.now))
-        result out.old out.new }
+    ensures { StandsAtFront (utf8 (reading F.flavor bytes.now)) result out.old out.new }
 {
     let mut written = [0; LARGE_LOSSY];
     let (mut read, mut kinds, mut end) = (0, u8x32::splat(0), 0);

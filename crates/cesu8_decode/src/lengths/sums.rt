@@ -31,8 +31,7 @@ pub fn sum_first<F: Flavor>(bytes: &[u8]) -> (usize, &[u8])
     requires { 0 < length bytes.now }
     ensures less { length result.1.now < length bytes.now }
     ensures behind { result.1.now ≡ drop (length bytes.now - length result.1.now) bytes.now }
-    ensures sum { result.0 + total_saved F.flavor result.1.now
-        ≡ total_saved F.flavor bytes.now }
+    ensures sum { result.0 + total_saved F.flavor result.1.now ≡ total_saved F.flavor bytes.now }
 {
     let count = (bytes.len().saturating_sub(BEHIND) / 32).min(BLOCKS);
     if count == 0 {

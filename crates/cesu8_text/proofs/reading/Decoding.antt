@@ -37,15 +37,9 @@ unfolding lossy_length
 lossy_length_character f bytes rest c begins =
     rw (reading_character f bytes c rest begins) (length-append (utf8_of c) (utf8 (reading f rest)))
 
--- a byte that begins none adds three,
+-- and a byte that begins none adds three.
 pub lossy_length_replaced : (f : Flavor) (b : ℕ) (bytes : List ℕ) → NoneBegins f (b ∷ bytes) →
     lossy_length f (b ∷ bytes) ≡ 3 + lossy_length f bytes
 unfolding lossy_length
 lossy_length_replaced f b bytes none_begins =
     rw (reading_replaced f b bytes none_begins) (length_utf8_replaced (reading f bytes))
-
--- and no bytes add nothing.
-pub lossy_length_nil : (f : Flavor) (bytes : List ℕ) → length bytes ≡ 0 → lossy_length f bytes ≡ 0
-unfolding lossy_length
-lossy_length_nil f [] empty = ap (λ text. length (utf8 text)) (reading_nil f)
-lossy_length_nil f (b ∷ bytes) empty = absurd (omega arith)
