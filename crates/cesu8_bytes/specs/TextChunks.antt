@@ -1,5 +1,5 @@
 -- Text that is read a chunk at a time.
-use Rattle.std.specs.Prelude.{◌≡◌, ℕ, List, [], ◌++◌}
+use Rattle.std.specs.Prelude.{◌≡◌, ℕ, List, ◌++◌}
 use Rattle.cesu8_text.specs.Text.{IsText, utf8}
 use Rattle.cesu8_text.specs.Encoding.{Flavor, encoding}
 use Rattle.cesu8_text.specs.Reading.{reading}

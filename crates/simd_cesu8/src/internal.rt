@@ -19,7 +19,7 @@ pub use cesu8_bytes::looks::{
     begins_with_unchanged_ascii, is_short_unchanged_ascii, needs_encoded,
 };
 pub use cesu8_bytes::order::compare_as_utf16;
-use cesu8_bytes::strictness::Strictness;
+use cesu8_bytes::strictness::{LossyReading, StrictReading};
 pub use cesu8_bytes::utf8::known_text;
 pub use cesu8_bytes::writing::copies::{copy, copy_text};
 pub use cesu8_decode::accepts::{Accepts, EncodingAlone, Lenient, front_unless_kept};
@@ -71,7 +71,7 @@ pub fn decode_to_slice<F: Flavor, A: Accepts>(
 ) -> Result<usize, DecodeSliceFault>
     ensures { WritesReading (A.reads F.flavor bytes.now) result buf.old buf.new }
 {
-    match copy_or_write::decode_to_slice::<F, A>(Strictness::Strict, bytes, buf) {
+    match copy_or_write::decode_to_slice::<F, A, StrictReading>(bytes, buf) {
         Ok(len) => Ok(len),
         // A strict reading is never too long.
         Err(Unwritten::NoText) | Err(Unwritten::TooLong) => {
@@ -91,7 +91,7 @@ pub fn decode_lossy_to_slice<F: Flavor, A: Accepts>(
 ) -> Result<usize, LossySliceFault>
     ensures { WritesLossyReading (A.reads_lossily F.flavor bytes.now) result buf.old buf.new }
 {
-    match copy_or_write::decode_to_slice::<F, A>(Strictness::Lossy, bytes, buf) {
+    match copy_or_write::decode_to_slice::<F, A, LossyReading>(bytes, buf) {
         Ok(len) => Ok(len),
         // All bytes have a lossy reading.
         Err(Unwritten::NoText) | Err(Unwritten::TooLong) => Err(LossySliceFault::TooLong),

@@ -1,6 +1,7 @@
 -- What is told of the offsets of a window rests on its bytes there and a few more.
 use Rattle.std.specs.Prelude.{Bool, ◌&&◌, nat_le}
 use Rattle.std.proofs.Common.{◌≡◌, ℕ, zero, suc, ◌+◌, ◌<◌, ◌≤◌, List, ◌++◌, refl, sym, ap, ◌∙◌, arith, get_or, append_assoc, add-zero, zero-add, suc-add, length, drop, length-drop, get_or-drop, ◌∷◌}
+use lib.Lanes.{chunk}
 use Rattle.cesu8_text.specs.Encoding.{Flavor}
 use Rattle.cesu8_decode.specs.DecodedOffsets.{first_width, first_width_by, width_at, decoded_byte, decoded_at, decoded, is_ill_formed_at, ill_formed_by, saved_between}
 use Rattle.cesu8_decode.proofs.by_offset.WidthTests.{width_by_six}
@@ -117,3 +118,9 @@ pub follows_zeros : (bytes : List ℕ) → Follows (0 ∷ 0 ∷ 0 ∷ 0 ∷ 0 �
 follows_zeros bytes k =
     let offset : 5 + k ≡ suc (suc (suc (suc (suc k)))) = omega arith in
     ap (λ p. get_or (0 ∷ 0 ∷ 0 ∷ 0 ∷ 0 ∷ bytes) p 0) offset
+
+-- So what stands at an offset stands in their window five bytes further on,
+pub chunk_in_window : (bytes : List ℕ) (at n : ℕ) → chunk at n bytes ≡ chunk (at + 5) n (0 ∷ 0 ∷ 0 ∷ 0 ∷ 0 ∷ bytes)
+chunk_in_window bytes at n =
+    let offset : suc (suc (suc (suc (suc at)))) ≡ at + 5 = omega arith in
+    ap (λ p. chunk p n (0 ∷ 0 ∷ 0 ∷ 0 ∷ 0 ∷ bytes)) offset

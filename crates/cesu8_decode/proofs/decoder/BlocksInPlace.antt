@@ -1,7 +1,7 @@
 -- Blocks that are read where they stand.
 use Rattle.std.proofs.lemmas.Bool.Decides.{nat_tests}
 use Rattle.std.proofs.lemmas.Grind.{common_steps}
-use Rattle.std.proofs.Common.{◌≡◌, ℕ, zero, suc, ◌+◌, ◌-◌, ◌<◌, ◌≤◌, Bool, true, false, true≢false, List, [], ◌++◌, refl, sym, ap, ◌∙◌, arith, map, get_or, length, take, drop, replicate, zero-add, add-zero}
+use Rattle.std.proofs.Common.{◌≡◌, ℕ, zero, suc, ◌+◌, ◌-◌, ◌<◌, ◌≤◌, Bool, true, false, true≢false, List, [], ◌++◌, refl, sym, ap, ◌∙◌, arith, map, get_or, length, take, drop, replicate, add-zero}
 use Rattle.std.specs.List.{range_with_len}
 use Rattle.std.proofs.lemmas.List.{length-append, length-drop, get_or-take}
 use Rattle.std.proofs.Math.Seq.{take-length}
@@ -22,6 +22,7 @@ use Rattle.cesu8_decode.proofs.by_offset.WindowOffsets.{is_boundary_at, Agree, a
 use Rattle.cesu8_decode.proofs.by_offset.DecodedText.{decoded_between}
 use Rattle.cesu8_decode.proofs.chunks.ReadChunks.{fault_of_whole, none_left, chunk_appended}
 use Rattle.cesu8_decode.proofs.chunks.DecodedChunks.{IsPaddedFor, padded_for, fault_at, lossy_chunk, strict_chunk}
+use Rattle.cesu8_decode.proofs.decoder.DecodedBlocks.{map_ranges}
 use Rattle.cesu8_decode.proofs.decoder.DecodedWindows.{five_kinds, kinds_of_zeros, more_written}
 use Rattle.cesu8_decode.proofs.by_offset.CharacterBoundaries.{boundary_of_zeros, boundary_at_end}
 
@@ -87,11 +88,12 @@ kinds_behind f a b i j kinds agree are =
     kinds_agree f b a (j + 32) (i + 32) kinds 27 (turned a b (i + 32) (j + 32) 10 (agree_later a b i j 42 32 10 (omega arith) agree))
     (five_kinds f a kinds (i + 5) 27 (i + 32) are (omega arith) (omega arith))
 
--- Behind five bytes, they stand in their window.
-pub stands_in_window : (bytes : List ℕ) (at n : ℕ) → 5 ≤ at → Agree bytes (window_of bytes) (at - 5) at n
-stands_in_window bytes at n some k small =
-    let there : at + k ≡ 5 + (at - 5 + k) = omega arith in
-    sym (ap (λ p. get_or (window_of bytes) p 0) there ∙ follows_zeros bytes (at - 5 + k))
+-- The kinds of bytes are those of their window, five offsets further on.
+pub kinds_in_window : (f : Flavor) (bytes : List ℕ) (at n : ℕ) →
+    map (start_kind f bytes) (range_with_len at n) ≡ map (start_kind f (window_of bytes)) (range_with_len (at + 5) n)
+kinds_in_window f bytes at n = map_ranges _ _ at (at + 5) n (λ k small. kind_agrees f bytes (window_of bytes) (at + k) (at + 5 + k) (λ j near.
+    let there : 5 + (at + k + j) ≡ at + 5 + k + j = omega arith in
+    sym (follows_zeros bytes (at + k + j)) ∙ ap (λ p. get_or (window_of bytes) p 0) there))
 
 -- ---- what is written
 
@@ -157,9 +159,9 @@ first_kinds f bytes = kinds_of_zeros f (window_of bytes) (replicate 32 0) refl z
 pub first_in_window : (bytes : List ℕ) (n k : ℕ) → k < n + 5 → get_or (window_of (take n bytes)) k 0 ≡ get_or (window_of bytes) k 0
 first_in_window bytes n k small = grind (arith, get_or-take)
 
--- An array agrees with the window on all bytes as far as it has them.
-pub around_agrees : (a b : List ℕ) (at n : ℕ) → ((k : ℕ) → k < n → get_or a k 0 ≡ get_or b (at + k) 0) → Agree a b 0 at n
-around_agrees a b at n around k small = ap (λ p. get_or a p 0) (zero-add k) ∙ around k small
+-- The window on an array agrees with that on all bytes as far as the array has what is there.
+pub around_agrees : (a b : List ℕ) (at n : ℕ) → ((k : ℕ) → k < n → get_or a k 0 ≡ get_or b (at + k) 0) → Agree (window_of a) b 5 at n
+around_agrees a b at n around k small = follows_zeros a k ∙ around k small
 
 -- ---- what was read
 

@@ -1,21 +1,20 @@
 -- The pass from block to block.
-use Rattle.std.proofs.Common.{◌≡◌, ℕ, zero, suc, ◌+◌, ◌*◌, ◌<◌, ◌≤◌, Bool, true, false, true≢false, cond, eqb, leb, List, [], ◌∷◌, ◌++◌, refl, sym, ap, ◌∙◌, subst, arith, map, get_or, length, take, drop, replicate, append-nil, append_assoc, length-drop}
+use Rattle.std.proofs.Common.{◌≡◌, ℕ, zero, suc, ◌+◌, ◌*◌, ◌<◌, ◌≤◌, Bool, true, false, true≢false, cond, not, eqb, leb, List, [], ◌∷◌, ◌++◌, refl, sym, ap, ◌∙◌, subst, arith, map, get_or, length, take, drop, replicate, append-nil, append_assoc, length-drop}
 use Rattle.std.proofs.lemmas.Bool.{eqb-true, leb-true, leb-false}
+use Rattle.std.specs.Bool.{then_some}
 use lib.Lanes.{mask_l}
 use Rattle.cesu8_text.specs.Encoding.{Flavor}
 use Rattle.cesu8_bytes.specs.Pairs.{IsUtf8OfDigits, second_third_fifth_sixth, HasPair}
 use Rattle.cesu8_bytes.specs.Puts.{PutsAt}
-use Rattle.cesu8_text.specs.Reading.{HasNoStrictReading}
 use Rattle.cesu8_bytes.specs.declared.strictness.Strictness.{Strictness}
 use Rattle.cesu8_bytes.specs.declared.strictness.Strictness.TheVariants.{Strict, Lossy}
-use Rattle.cesu8_decode.specs.Decoding.{IsDecoded, WritesDecoded, IsPass, GoesOn, pass_from, most_written}
+use Rattle.cesu8_decode.specs.Decoding.{IsDecoded, WritesDecoded, WritesReading, IsPass, GoesOn, most_written}
 use Rattle.cesu8_decode.specs.DecodedOffsets.{window_of, width_at}
 use Rattle.cesu8_decode.specs.DecodedLanes.{start_kind}
 use Rattle.cesu8_decode.specs.declared.pass.blocks.Pass.{Pass}
-use Rattle.cesu8_decode.proofs.by_offset.IllFormed.{IsChunk}
 use Rattle.cesu8_decode.proofs.by_offset.WindowOffsets.{Agree}
 use Rattle.cesu8_decode.proofs.chunks.DecodedPairs.{none_inside, pair_fine, pair_decoded}
-use Rattle.cesu8_decode.proofs.decoder.BlocksInPlace.{first_kinds, none_decoded, more_decoded, decoded_in, most_of_more, all_decoded, refused_decoded}
+use Rattle.cesu8_decode.proofs.decoder.BlocksInPlace.{first_kinds, more_decoded, decoded_in, most_of_more, all_decoded, refused_decoded}
 use Rattle.cesu8_decode.proofs.decoder.StartKinds.{start_at, over_one}
 
 -- A pass that came so far.
@@ -94,17 +93,14 @@ module _ (f : Flavor) (which : Strictness) (bytes : List ℕ) where
       subst (IsDecoded f which (window_of bytes) 0 after.read start (text ++ take after.end new)) refused
       (more.text start text (subst (λ bs. IsDecoded f which (window_of bytes) 0 before.read start bs false) none so_far))
 
-  -- So it is the text of all bytes, from the first on,
-  pub reads_at_once : (after : Pass) (old new kinds : List ℕ) → GoesOn f which bytes (pass_from 0 kinds) after old new → after.is_refused ≡ false →
-      after.read ≡ length bytes → IsChunk f which bytes [] (take after.end new)
-  reads_at_once after old new kinds more fine all =
-      all_decoded f which bytes [] _ after.read (reads_on _ after old new [] [] false more refl fine (none_decoded f which (window_of bytes) [])) all
-
-  -- or one of them is refused.
-  pub refuses_at_once : (after : Pass) (old new kinds : List ℕ) → GoesOn f which bytes (pass_from 0 kinds) after old new → after.is_refused ≡ true →
-      (which ≡ Strict) × HasNoStrictReading f bytes
-  refuses_at_once after old new kinds more refused =
-      refused_decoded f which bytes [] _ after.read (reads_on _ after old new [] [] true more refl refused (none_decoded f which (window_of bytes) [])) more.within.1
+-- The text of all bytes is written, or strict reading refuses one of them.
+pub writes_reading : (f : Flavor) (which : Strictness) (bytes old new : List ℕ) (n end : ℕ) (is_refused : Bool) →
+    IsDecoded f which (window_of bytes) 0 n [] (take end new) is_refused → n ≤ length bytes → (is_refused ≡ false → n ≡ length bytes) →
+    end ≤ most_written which n → length new ≡ length old → WritesReading f which bytes (then_some (not is_refused) end) old new
+writes_reading f which bytes old new n end true is inside all fits long =
+    record { text = tt; end = tt; none = refused_decoded f which bytes [] _ n is inside; len = long }
+writes_reading f which bytes old new n end false is inside all fits long =
+    record { text = all_decoded f which bytes [] _ n is (all refl); end = omega (arith, fits, ap (most_written which) (all refl)); none = tt; len = long }
 
 -- ---- pairs
 

@@ -8,12 +8,15 @@ ghost use Rattle.cesu8_text.specs.Text.{utf8};
 ghost use Rattle.cesu8_decode.specs.Decoding.{AppendsReading, AppendsNext, GoesOn, IsPass, pass_from, most_of_text};
 
 use crate::pass::blocks::{LARGE_LOSSY, Pass, SMALL_STRICT, write_blocks};
-use crate::pass::reading::{LossyReading, Reading};
-use crate::way::LARGEST_ARRAY;
 use cesu8_bytes::flavor::Flavor;
+use cesu8_bytes::strictness::{LossyReading, Reading};
 use cesu8_bytes::writing::copies::{append, append_zeros};
 use cesu8_bytes::writing::put::put;
 use std::simd::prelude::*;
+
+/// So many bytes of a vector are cleared and written at once. More would be cleared for nothing where
+/// an ill-formed byte is near.
+const CLEARED_AT_ONCE: usize = 4096;
 
 /// Appends the text of the bytes to a vector, unless strict reading refuses one of them.
 #[inline(never)]
@@ -22,10 +25,9 @@ pub fn append_chunks<F: Flavor, S: Reading>(bytes: &[u8], before: Vec<u8>) -> Op
     ensures { AppendsReading F.flavor S.which bytes.now before result }
 {
     let mut text = before;
-    let mut written = [0; SMALL_STRICT];
     let (mut read, mut kinds) = (0, u8x32::splat(0));
     while read < bytes.len() {
-        let pass = append_next::<F, S>(bytes, read, kinds, &mut written, &mut text);
+        let pass = append_next::<F, S>(bytes, read, kinds, &mut text);
         if pass.is_refused {
             return None;
         }
@@ -41,11 +43,9 @@ fn append_next<F: Flavor, S: Reading>(
     bytes: &[u8],
     read: usize,
     kinds: u8x32,
-    written: &mut [u8],
     out: &mut Vec<u8>,
 ) -> Pass
     requires pass { IsPass F.flavor bytes.now read kinds × (read < length bytes.now) }
-    requires array { SMALL_STRICT ≤ length written.old }
     requires fits { (after : Pass) (old : List ℕ) (new : List ℕ) → after.is_refused ≡ false
         → GoesOn F.flavor S.which bytes.now (pass_from read kinds) after old new
         → vec_len out.old + after.end ≤ vec_capacity out.old }
@@ -55,13 +55,14 @@ fn append_next<F: Flavor, S: Reading>(
     let start = out.len();
     let spare = out.capacity() - start;
     if spare < SMALL_STRICT {
-        let pass = write_blocks::<F, S>(bytes, read, kinds, written);
+        let mut written = [0; SMALL_STRICT];
+        let pass = write_blocks::<F, S>(bytes, read, kinds, &mut written);
         if !pass.is_refused {
             append(&written[..pass.end], out);
         }
         return pass;
     }
-    append_zeros(spare.min(LARGEST_ARRAY), out);
+    append_zeros(spare.min(CLEARED_AT_ONCE), out);
     let pass = write_blocks::<F, S>(bytes, read, kinds, &mut out[start..]);
     out.truncate(start + pass.end);
     pass

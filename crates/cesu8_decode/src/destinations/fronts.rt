@@ -14,11 +14,11 @@ use crate::changed::{begins_changed, prefix_of};
 use crate::front::front;
 use crate::lanes::character_set::Unchanged;
 use crate::lanes::stops::stops_of_few;
-use crate::pass::reading::StrictReading;
 use crate::pass::strict_few::{STRICT_TEXT, write_few_strictly};
 use crate::way::{FEW_BYTES, are_few};
 use cesu8_bytes::flavor::Flavor;
 use cesu8_bytes::pairs::{PAIR, PAIR_READ, utf8_of_pair};
+use cesu8_bytes::strictness::StrictReading;
 use cesu8_bytes::writing::copies::{append, append_few};
 
 /// Behind a front of so many bytes a first character that changes seems to stand alone.

@@ -18,15 +18,15 @@ use crate::lanes::character_set::Unchanged;
 use crate::lanes::stops::stops_of_few;
 use crate::lengths::lossy_len;
 use crate::pass::blocks::{
-    BLOCK_LOSSY, LARGE_LOSSY, LARGE_STRICT, LARGEST_LOSSY, SMALL_LOSSY, SMALL_STRICT, write_all,
+    BLOCK_LOSSY, FEW_LOSSY, LARGE_LOSSY, LARGE_STRICT, LARGEST_LOSSY, SMALL_LOSSY, SMALL_STRICT,
+    write_all,
 };
-use crate::pass::reading::{LossyReading, Reading, StrictReading};
 use crate::pass::strict_few::{STRICT_TEXT, write_few_strictly};
 use crate::refusal::Unwritten;
 use crate::way::{FEW_BYTES, Way, are_few, way_of};
 use cesu8_bytes::flavor::Flavor;
 use cesu8_bytes::lanes::short::copy_short;
-use cesu8_bytes::strictness::Strictness;
+use cesu8_bytes::strictness::{LossyReading, Reading, StrictReading, Strictness};
 use cesu8_bytes::writing::copies::{NoRoom, copy_to_slice};
 
 /// Writes the strict reading of bytes to a caller's buffer, if it fits.
@@ -44,7 +44,7 @@ pub fn put_strictly<F: Flavor>(
     }
     // A few bytes are read whole, in less time than their front is copied.
     if are_few(bytes) {
-        return put_few::<F>(Strictness::Strict, bytes, front.stops, buf);
+        return put_few::<F, StrictReading>(bytes, front.stops, buf);
     }
     let rest = &bytes[front.len..];
     if !begins_changed::<F>(rest) {
@@ -75,7 +75,7 @@ pub fn put_lossily<F: Flavor>(
     ensures { PutsReading F.flavor Lossy bytes.now result buf.old buf.new }
 {
     if are_few(bytes) && may_lead_changed(bytes[front.len]) {
-        return put_few::<F>(Strictness::Lossy, bytes, front.stops, buf);
+        return put_few::<F, LossyReading>(bytes, front.stops, buf);
     }
     put_by_blocks::<F>(bytes, buf)
 }
@@ -88,11 +88,11 @@ fn put_strictly_whole<F: Flavor>(bytes: &[u8], buf: &mut [u8]) -> Result<usize, 
     match way_of(bytes) {
         Way::OneBlock | Way::Few => {
             let stops = stops_of_few::<F, Unchanged>(bytes);
-            put_few::<F>(Strictness::Strict, bytes, stops, buf)
+            put_few::<F, StrictReading>(bytes, stops, buf)
         }
         Way::SmallArray => put_by_array::<F, StrictReading, SMALL_STRICT>(bytes, buf),
         Way::LargeArray => put_by_array::<F, StrictReading, LARGE_STRICT>(bytes, buf),
-        Way::LargestArray | Way::Chunks => put_many::<F>(Strictness::Strict, bytes, buf),
+        Way::LargestArray | Way::Chunks => put_many::<F, StrictReading>(bytes, buf),
     }
 }
 
@@ -104,29 +104,29 @@ fn put_by_blocks<F: Flavor>(bytes: &[u8], buf: &mut [u8]) -> Result<usize, Unwri
 {
     match way_of(bytes) {
         Way::OneBlock => put_by_array::<F, LossyReading, BLOCK_LOSSY>(bytes, buf),
-        Way::Few | Way::SmallArray => put_by_array::<F, LossyReading, SMALL_LOSSY>(bytes, buf),
+        Way::Few => put_by_array::<F, LossyReading, FEW_LOSSY>(bytes, buf),
+        Way::SmallArray => put_by_array::<F, LossyReading, SMALL_LOSSY>(bytes, buf),
         Way::LargeArray => put_by_array::<F, LossyReading, LARGE_LOSSY>(bytes, buf),
         Way::LargestArray => put_by_array::<F, LossyReading, LARGEST_LOSSY>(bytes, buf),
-        Way::Chunks => put_many::<F>(Strictness::Lossy, bytes, buf),
+        Way::Chunks => put_many::<F, LossyReading>(bytes, buf),
     }
 }
 
 /// Writes the text of a few bytes, by the set of those that may not follow, to an array first. Lossy
 /// reading takes the time of the strict one where none is ill-formed.
 #[inline(always)]
-fn put_few<F: Flavor>(
-    strictness: Strictness,
+fn put_few<F: Flavor, S: Reading>(
     bytes: &[u8],
     stops: u64,
     buf: &mut [u8],
 ) -> Result<usize, Unwritten>
     requires stops { HasStops AllUnchanged F.flavor bytes.now stops }
-    ensures { PutsReading F.flavor strictness bytes.now result buf.old buf.new }
+    ensures { PutsReading F.flavor S.which bytes.now result buf.old buf.new }
 {
     let mut written = [0; STRICT_TEXT];
     match write_few_strictly::<F>(bytes, stops, &mut written) {
         Some(end) => copy_to_slice(&written[..end], buf).map_err(Unwritten::NoRoom),
-        None => match strictness {
+        None => match S::strictness() {
             Strictness::Strict => Err(Unwritten::NoText),
             Strictness::Lossy => put_by_blocks::<F>(bytes, buf),
         },
@@ -153,14 +153,10 @@ fn put_by_array<F: Flavor, S: Reading, const WRITTEN: usize>(
 /// Writes the text of still more bytes, chunk by chunk. First passes find whether there is one, and
 /// how long it is: in strict reading it is no longer than the bytes.
 #[inline(never)]
-fn put_many<F: Flavor>(
-    strictness: Strictness,
-    bytes: &[u8],
-    buf: &mut [u8],
-) -> Result<usize, Unwritten>
-    ensures { PutsReading F.flavor strictness bytes.now result buf.old buf.new }
+fn put_many<F: Flavor, S: Reading>(bytes: &[u8], buf: &mut [u8]) -> Result<usize, Unwritten>
+    ensures { PutsReading F.flavor S.which bytes.now result buf.old buf.new }
 {
-    if let Strictness::Strict = strictness {
+    if let Strictness::Strict = S::strictness() {
         if is_ill_formed::<F>(bytes) {
             return Err(Unwritten::NoText);
         }

@@ -17,12 +17,14 @@ use super::fronts::{append_few_strictly, append_many};
 use crate::changed::{begins_changed, may_lead_changed};
 use crate::front::FoundFront;
 use crate::lengths::lossy_len;
-use crate::pass::blocks::{BLOCK_LOSSY, LARGE_LOSSY, LARGEST_LOSSY, SMALL_LOSSY, write_all};
-use crate::pass::reading::LossyReading;
+use crate::pass::blocks::{
+    BLOCK_LOSSY, FEW_LOSSY, LARGE_LOSSY, LARGEST_LOSSY, SMALL_LOSSY, write_all,
+};
 use crate::pass::strict_few::{STRICT_TEXT, write_few_strictly};
 use crate::way::{LARGEST_ARRAY, Way, are_few, way_of};
 use cesu8_bytes::BLOCK;
 use cesu8_bytes::flavor::Flavor;
+use cesu8_bytes::strictness::LossyReading;
 use cesu8_bytes::writing::copies::{append, copy};
 use std::alloc::{AllocError, Global};
 
@@ -74,17 +76,10 @@ pub fn build_lossily<F: Flavor>(
             return copy(alloc, &written[..end]);
         }
     }
-    build_by_blocks::<F>(alloc, bytes)
-}
-
-/// Returns the lossy reading of the bytes, read block by block.
-#[inline(always)]
-fn build_by_blocks<F: Flavor>(alloc: Global, bytes: &[u8]) -> Result<Vec<u8>, AllocError>
-    ensures { BuildsReading F.flavor bytes.now result }
-{
     match way_of(bytes) {
         Way::OneBlock => build_by_array::<F, BLOCK_LOSSY>(alloc, bytes),
-        Way::Few | Way::SmallArray => build_by_array::<F, SMALL_LOSSY>(alloc, bytes),
+        Way::Few => build_by_array::<F, FEW_LOSSY>(alloc, bytes),
+        Way::SmallArray => build_by_array::<F, SMALL_LOSSY>(alloc, bytes),
         Way::LargeArray => build_by_array::<F, LARGE_LOSSY>(alloc, bytes),
         Way::LargestArray => build_by_array::<F, LARGEST_LOSSY>(alloc, bytes),
         Way::Chunks => build_chunks::<F>(alloc, bytes),

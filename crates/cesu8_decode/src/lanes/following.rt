@@ -5,10 +5,11 @@
 //! are in characters, but for those of the last one, which may be cut off. What is in no character of
 //! a set shows what nothing wants.
 
-ghost use Rattle.std.specs.Prelude.{◌≡◌, ◌⊎◌, ℕ, List, ◌+◌, ◌*◌, ◌-◌, ◌<◌, ◌≤◌, ◌++◌, ◌==◌, ◌&&◌, IsTrue, false, length, map, drop, nat_le, if◌then◌else◌, not};
+ghost use Rattle.std.specs.Prelude.{◌≡◌, ◌⊎◌, ℕ, List, ◌+◌, ◌*◌, ◌-◌, ◌<◌, ◌≤◌, ◌++◌, ◌==◌, ◌&&◌, IsTrue, false, length, take, map, drop, nat_le, if◌then◌else◌, not};
 ghost use Rattle.std.specs.List.{range_with_len};
 ghost use Rattle.std.specs.Simd.Lanes.{zip2};
 ghost use Rattle.cesu8_bytes.specs.Kernels.{mask};
+ghost use Rattle.cesu8_decode.specs.DecodedOffsets.{window_of};
 ghost use Rattle.cesu8_decode.specs.Following.{has_changed, shown, later, wanted, follows_at, AllFollow, AreStops, IsBlockAt, marked_if_not_one};
 
 use super::character_set::CharacterSet;
@@ -49,6 +50,19 @@ pub fn block_at(bytes: &[u8], at: usize) -> Block
         three_before: u8x32::from_slice(&bytes[at + 1..]),
         four_before: u8x32::from_slice(&bytes[at..]),
     }
+}
+
+/// Returns a block of a slice by what it loaded at its offset. Before the first block stand zeros.
+#[inline(always)]
+pub fn block_around(block: u8x32, bytes: &[u8], at: usize) -> Block
+    requires at { (at + BLOCK ≤ length bytes.now) × (at < DECIDING → at ≡ 0) }
+    requires block { block ≡ take BLOCK (drop at bytes.now) }
+    ensures { IsBlockAt (window_of bytes.now) (at + 1) result }
+{
+    if at < DECIDING {
+        return block_behind(u8x32::splat(0), block);
+    }
+    block_at(bytes, at - DECIDING)
 }
 
 /// Returns 32 bytes, behind the last ones of as many.

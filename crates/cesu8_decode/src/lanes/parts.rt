@@ -9,17 +9,16 @@
 //! fourth ──► two bits of the second, four of the third
 //! ```
 
-ghost use Rattle.std.specs.Prelude.{◌≡◌, ℕ, List, ◌+◌, ◌-◌, ◌*◌, ◌^◌, ◌%◌, ◌≤◌, ◌++◌, nat_le, true, false, length, take, map, replicate, slice_index};
+ghost use Rattle.std.specs.Prelude.{◌≡◌, ℕ, List, ◌+◌, ◌-◌, ◌*◌, ◌^◌, ◌%◌, ◌<◌, ◌≤◌, ◌++◌, nat_le, true, false, length, take, map, replicate, slice_index};
 ghost use Rattle.std.specs.List.{range_with_len};
 ghost use Rattle.std.specs.Simd.Lanes.{sel_l};
 ghost use Rattle.cesu8_text.specs.Encoding.{Flavor};
 ghost use Rattle.cesu8_bytes.specs.Kernels.{mask};
-ghost use Rattle.cesu8_decode.specs.DecodedOffsets.{is_ill_formed_at};
-ghost use Rattle.cesu8_decode.specs.Following.{IsBlockAt};
+ghost use Rattle.cesu8_decode.specs.DecodedOffsets.{window_of, is_ill_formed_at};
 ghost use Rattle.cesu8_decode.specs.DecodedLanes.{AreKindsNear, AreNear, TellChanges, NoneBeginsChanged, AreParts, is_high, goes_at, byte_at};
 
-use super::following::Block;
-use super::offsets::{BEHIND, KIND_OF_PAIR, KINDS_OF_THREE, Kinds, NUMBERS, REACH, look_up};
+use super::following::{DECIDING, block_around};
+use super::offsets::{BEHIND, KIND_OF_PAIR, KINDS_OF_THREE, Kinds, NUMBERS, look_up};
 use super::packing::{HighestBit, Parts};
 use cesu8_bytes::BLOCK;
 use cesu8_bytes::flavor::{Flavor, nulls};
@@ -60,26 +59,28 @@ pub fn kept_parts(bytes: u8x32, ill_formed: u8x32, count: usize) -> Parts
 }
 
 /// Returns what becomes of the first `count` bytes of a block, of which those that are ill-formed
-/// are marked. Of the kinds only those of surrogate pairs and of C0 80 count.
+/// are marked.
 #[inline(always)]
 pub fn changed_parts<F: Flavor>(
-    block: Block,
+    bytes: &[u8],
+    at: usize,
     kinds: &Kinds,
     count: usize,
     ill_formed: u8x32,
 ) -> Parts
-    requires { count ≤ BLOCK }
-    ensures parts { (window : List ℕ) (at : ℕ) (kind : ℕ → ℕ) → IsBlockAt window (at + 1) block
-        → TellChanges F.flavor window at kind → AreNear kind at kinds.now
-        → map is_high ill_formed ≡ map (is_ill_formed_at F.flavor window) (range_with_len at count)
+    requires count { count ≤ BLOCK }
+    requires block { (at + BLOCK ≤ length bytes.now) × (at < DECIDING → at ≡ 0) }
+    requires kinds { AreKindsNear F.flavor (window_of bytes.now) at kinds.now }
+    ensures parts { map is_high ill_formed
+        ≡ map (is_ill_formed_at F.flavor (window_of bytes.now)) (range_with_len at count)
         ++ replicate (BLOCK - count) false
-        → AreParts F.flavor window at count result.gone result.ill_formed result.bytes }
+        → AreParts F.flavor (window_of bytes.now) at count result.gone result.ill_formed result.bytes }
 
     // What is known of the marks, as that none is set, is known of these.
     ensures ill_formed { result.ill_formed ≡ ill_formed }
 {
     Parts {
-        bytes: changed_bytes::<F>(block, kinds),
+        bytes: changed_bytes::<F>(bytes, at, kinds),
         gone: gone(kinds, count),
         ill_formed,
     }
@@ -105,18 +106,18 @@ fn gone(kinds: &Kinds, count: usize) -> u8x32
 /// Where it is known that none changes, no surrogate pair is near.
 #[inline(always)]
 pub fn ill_formed<F: Flavor>(
-    window: &[u8],
+    bytes: &[u8],
     kinds: &Kinds,
     at: usize,
     count: usize,
     is_kept: bool,
 ) -> u8x32
     requires count { count ≤ BLOCK }
-    requires window { at + REACH ≤ length window.now }
-    requires kinds { AreKindsNear F.flavor window.now at kinds.now }
-    requires kept { is_kept ≡ true → NoneBeginsChanged F.flavor window.now at }
+    requires block { at + BLOCK ≤ length bytes.now }
+    requires kinds { AreKindsNear F.flavor (window_of bytes.now) at kinds.now }
+    requires kept { is_kept ≡ true → NoneBeginsChanged F.flavor (window_of bytes.now) at }
     ensures { map is_high result
-        ≡ map (is_ill_formed_at F.flavor window.now) (range_with_len at count)
+        ≡ map (is_ill_formed_at F.flavor (window_of bytes.now)) (range_with_len at count)
         ++ replicate (BLOCK - count) false }
 {
     let pair = u8x32::splat(KIND_OF_PAIR);
@@ -129,7 +130,7 @@ pub fn ill_formed<F: Flavor>(
     };
     let alone = mask::<Equal<0>>(near | of_three | of_pair);
     // A byte below 80 is a character of its own, but 00 is none in MUTF-8.
-    let byte = u8x32::from_slice(&window[at + BEHIND..]);
+    let byte = u8x32::from_slice(&bytes[at..]);
     alone & (byte | nulls::<F>(byte)) & (behind(count as u8) ^ u8x32::splat(0xFF))
 }
 
@@ -146,17 +147,19 @@ fn behind(count: u8) -> u8x32
 /// Returns the bytes, with those of surrogate pairs and of C0 80 replaced by what they become. Most
 /// texts of MUTF-8 have only one of the two.
 #[inline(always)]
-fn changed_bytes<F: Flavor>(block: Block, kinds: &Kinds) -> u8x32
-    ensures { (window : List ℕ) (at : ℕ) (kind : ℕ → ℕ) → IsBlockAt window (at + 1) block
-        → TellChanges F.flavor window at kind → AreNear kind at kinds.now
-        → (count : ℕ) → count ≤ BLOCK
-        → take count result ≡ map (byte_at F.flavor window) (range_with_len at count) }
+fn changed_bytes<F: Flavor>(bytes: &[u8], at: usize, kinds: &Kinds) -> u8x32
+    requires block { (at + BLOCK ≤ length bytes.now) × (at < DECIDING → at ≡ 0) }
+    requires kinds { AreKindsNear F.flavor (window_of bytes.now) at kinds.now }
+    ensures { (count : ℕ) → count ≤ BLOCK → take count result
+        ≡ map (byte_at F.flavor (window_of bytes.now)) (range_with_len at count) }
 {
     let pairs = kinds[3] | kinds[2] | kinds[1];
-    let changed = changed_nulls::<F>(kinds[4], block.bytes);
+    let here = u8x32::from_slice(&bytes[at..]);
+    let changed = changed_nulls::<F>(kinds[4], here);
     if F::has_long_null() && bits::<HighestBit, BLOCK>(pairs << u8x32::splat(2)) == 0 {
         return changed;
     }
+    let block = block_around(here, bytes, at);
     let half = u8x32::splat(0x0F);
     let first = look_up(FIRST_BY_SECOND, block.one_before);
     let second = look_up(SECOND_BY_SECOND, block.two_before)

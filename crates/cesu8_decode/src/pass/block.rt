@@ -1,6 +1,6 @@
 //! Writes what becomes of 32 bytes, a block.
 
-ghost use Rattle.std.specs.Prelude.{◌≡◌, ℕ, List, ◌+◌, ◌-◌, ◌≤◌, IsTrue, false, length, take, map, bit_or};
+ghost use Rattle.std.specs.Prelude.{◌≡◌, ℕ, List, ◌+◌, ◌-◌, ◌<◌, ◌≤◌, IsTrue, false, length, take, map, bit_or};
 ghost use Rattle.std.specs.List.{range_with_len};
 ghost use Rattle.std.specs.Simd.Lanes.{mask_l, zip2};
 ghost use Rattle.cesu8_text.specs.Class.{is_null};
@@ -8,17 +8,17 @@ ghost use Rattle.cesu8_text.specs.Encoding.{Flavor};
 ghost use Rattle.cesu8_bytes.specs.Kernels.{mask};
 ghost use Rattle.cesu8_bytes.specs.Puts.{WritesAt};
 ghost use Rattle.cesu8_decode.specs.Decoding.{WritesDecoded, most_written};
+ghost use Rattle.cesu8_decode.specs.DecodedOffsets.{window_of};
 ghost use Rattle.cesu8_decode.specs.DecodedLanes.{start_kind, AreFiveKinds, AreKindsNear, NoneBeginsChanged, is_high};
 
-use super::reading::Reading;
-use crate::lanes::following::block_at;
+use crate::lanes::following::DECIDING;
 use crate::lanes::offsets::{BEHIND, Kinds, LEAD, REACH, near, starts};
 use crate::lanes::packing::{HighestBit, store, store_whole};
 use crate::lanes::parts::{changed_parts, ill_formed, kept_parts};
 use cesu8_bytes::BLOCK;
 use cesu8_bytes::flavor::{Flavor, nulls};
 use cesu8_bytes::lanes::class::{AtLeast, bits};
-use cesu8_bytes::strictness::Strictness;
+use cesu8_bytes::strictness::{Reading, Strictness};
 use cesu8_bytes::writing::packing::STORED;
 use std::simd::prelude::*;
 
@@ -31,43 +31,43 @@ pub struct Written {
     pub kinds: u8x32,
 }
 
-/// Writes what becomes of the first `count` bytes of a block, which follow `at` bytes of the window
-/// and five more. The kinds of these five come last in `before`. The other bytes go.
+/// Writes what becomes of the first `count` bytes of the block at an offset. The kinds of the five
+/// offsets before it come last in `before`. The other bytes go.
 ///
 /// Most blocks are copied: those of characters of one byte, whatever comes before, and those that
 /// are well-formed and near no surrogate pair and no C0 80.
 #[inline(always)]
 pub fn write_block<F: Flavor, S: Reading>(
-    window: &[u8],
-    before: u8x32,
+    bytes: &[u8],
     at: usize,
+    before: u8x32,
     count: usize,
     out: &mut [u8],
     end: usize,
 ) -> Written
     requires count { count ≤ BLOCK }
-    requires window { at + BEHIND + REACH ≤ length window.now }
-    requires before { AreFiveKinds F.flavor window.now at before (BLOCK - BEHIND) }
+    requires block { (at + REACH ≤ length bytes.now) × (at < DECIDING → at ≡ 0) }
+    requires before { AreFiveKinds F.flavor (window_of bytes.now) at before (BLOCK - BEHIND) }
     requires room { end + most_written S.which BLOCK + STORED ≤ length out.old }
-    ensures written { WritesDecoded F.flavor S.which window.now at count
+    ensures written { WritesDecoded F.flavor S.which (window_of bytes.now) at count
         end out.old out.new result.end result.is_refused }
     ensures kinds { count ≡ BLOCK → result.kinds
-        ≡ map (start_kind F.flavor window.now) (range_with_len (at + BEHIND) BLOCK) }
+        ≡ map (start_kind F.flavor bytes.now) (range_with_len at BLOCK) }
 {
-    let bytes = u8x32::from_slice(&window[at + BEHIND..]);
-    if are_ones::<F>(bytes, count) {
-        return copy_block(bytes, u8x32::splat(0), count, out, end);
+    let block = u8x32::from_slice(&bytes[at..]);
+    if are_ones::<F>(block, count) {
+        return copy_block(block, u8x32::splat(0), count, out, end);
     }
-    let here = starts::<F>(window, at + BEHIND, true);
+    let here = starts::<F>(bytes, at, true);
     let kinds = near(before, here);
     let parts = if changes_none(&kinds) {
-        let marks = ill_formed::<F>(window, &kinds, at, count, true);
+        let marks = ill_formed::<F>(bytes, &kinds, at, count, true);
         if bits::<HighestBit, BLOCK>(marks) == 0 {
-            return copy_block(bytes, here, count, out, end);
+            return copy_block(block, here, count, out, end);
         }
-        kept_parts(bytes, marks, count)
+        kept_parts(block, marks, count)
     } else {
-        let marks = ill_formed::<F>(window, &kinds, at, count, false);
+        let marks = ill_formed::<F>(bytes, &kinds, at, count, false);
         let found = bits::<HighestBit, BLOCK>(marks);
         // First the test, so that what it needs is not kept meanwhile.
         if found != 0 && matches!(S::strictness(), Strictness::Strict) {
@@ -77,7 +77,7 @@ pub fn write_block<F: Flavor, S: Reading>(
                 kinds: here,
             };
         }
-        let parts = changed_parts::<F>(block_at(window, at + 1), &kinds, count, marks);
+        let parts = changed_parts::<F>(bytes, at, &kinds, count, marks);
         if found == 0 {
             return Written {
                 end: store_whole(parts, out, end),

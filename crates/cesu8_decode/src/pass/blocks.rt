@@ -2,23 +2,23 @@
 //!
 //! What begins at the five offsets before a block, and the five bytes behind it, decide too what its
 //! bytes become. So the pass stops behind any block, where the buffer is full, and goes on from there.
-//! The first block and the last ones are read from an array, with zeros before and behind them.
+//! The last bytes are read from an array, with zeros behind them.
 
 ghost use Rattle.std.specs.Prelude.{◌≡◌, ℕ, ◌+◌, ◌<◌, ◌≤◌, false, length, replicate, slice_index};
 ghost use Rattle.cesu8_decode.specs.Decoding.{IsPass, GoesOn, WritesReading, pass_from, room_for};
 ghost use Rattle.cesu8_decode.specs.DecodedOffsets.{window_of};
 
 use super::block::{Written, write_block};
-use super::reading::Reading;
 use crate::lanes::offsets::{BEHIND, REACH};
 use crate::lanes::packing::{ROOM, WIDEST};
-use crate::way::{LARGE_ARRAY, LARGEST_ARRAY, SMALL_ARRAY, is_one_block};
+use crate::way::{FEW_BYTES, LARGE_ARRAY, LARGEST_ARRAY, SMALL_ARRAY, is_one_block};
 use cesu8_bytes::BLOCK;
 use cesu8_bytes::flavor::Flavor;
 use cesu8_bytes::lanes::class::{AtLeast, bits};
 use cesu8_bytes::lanes::padded::padded_half;
 use cesu8_bytes::lanes::short::copy_short;
 use cesu8_bytes::pairs::{PAIR, PAIR_READ, PAIR_UTF8, is_pair, utf8_of_pair};
+use cesu8_bytes::strictness::Reading;
 use cesu8_bytes::writing::put::{put, put_lanes};
 use std::simd::prelude::*;
 
@@ -28,6 +28,8 @@ pub const SMALL_STRICT: usize = SMALL_ARRAY + ROOM;
 pub const LARGE_STRICT: usize = LARGE_ARRAY + ROOM;
 
 pub const BLOCK_LOSSY: usize = WIDEST * BLOCK + ROOM;
+
+pub const FEW_LOSSY: usize = WIDEST * FEW_BYTES + ROOM;
 
 pub const SMALL_LOSSY: usize = WIDEST * SMALL_ARRAY + ROOM;
 
@@ -66,12 +68,10 @@ pub fn write_blocks<F: Flavor, S: Reading>(
         → result.is_refused ≡ false → result.read ≡ length bytes.now }
 {
     let limit = out.len() - ROOM;
-    let mut pass = write_pairs::<F, S>(bytes, read, kinds, limit, out);
+    let pairs = write_pairs::<F, S>(bytes, read, kinds, limit, out);
+    let mut pass = write_in_place::<F, S>(bytes, pairs, limit, out);
     while (pass.read < bytes.len()) & (pass.end <= limit) & !pass.is_refused {
-        pass = write_loaded::<F, S>(bytes, pass, out);
-        if !pass.is_refused {
-            pass = write_in_place::<F, S>(bytes, pass, limit, out);
-        }
+        pass = write_last::<F, S>(bytes, pass, out);
     }
     pass
 }
@@ -84,22 +84,16 @@ pub fn write_all<F: Flavor, S: Reading>(bytes: &[u8], out: &mut [u8]) -> Option<
     ensures { WritesReading F.flavor S.which bytes.now result out.old out.new }
 {
     let none = u8x32::splat(0);
-    if !is_one_block(bytes) || out.len() > BLOCK_LOSSY {
-        let pass = write_blocks::<F, S>(bytes, 0, none, out);
-        return if pass.is_refused {
-            None
-        } else {
-            Some(pass.end)
-        };
-    }
-    let mut window = [0; AROUND];
-    load(bytes, 0, &mut window);
-    let block = write_block::<F, S>(&window, none, 0, bytes.len(), out, 0);
-    if block.is_refused {
-        None
+    let (end, is_refused) = if is_one_block(bytes) && out.len() <= BLOCK_LOSSY {
+        let mut window = [0; AROUND];
+        load(bytes, 0, &mut window);
+        let block = write_block::<F, S>(&window, BEHIND, none, bytes.len(), out, 0);
+        (block.end, block.is_refused)
     } else {
-        Some(block.end)
-    }
+        let pass = write_blocks::<F, S>(bytes, 0, none, out);
+        (pass.end, pass.is_refused)
+    };
+    (!is_refused).then_some(end)
 }
 
 /// Writes the surrogate pairs that come next, one after another, if no character begins shortly before.
@@ -121,9 +115,10 @@ fn write_pairs<F: Flavor, S: Reading>(
     let is_boundary = bits::<AtLeast<1>, BLOCK>(kinds) == 0;
     // No more pairs are looked at than there is room for, so that it is not asked for each.
     let stop = read + (bytes.len() - read).min(limit / PAIR_UTF8 * PAIR + PAIR_READ);
+    let last = stop.saturating_sub(PAIR_READ - 1);
     let mut at = read;
     let mut end = 0;
-    while is_boundary && stop - at >= PAIR_READ && is_pair(&bytes[at..]) {
+    while is_boundary && at < last && is_pair(&bytes[at..]) {
         end = put(&utf8_of_pair(&bytes[at..]), out, end);
         at += PAIR;
     }
@@ -136,9 +131,9 @@ fn write_pairs<F: Flavor, S: Reading>(
     }
 }
 
-/// Writes what becomes of the next block, or of the last bytes, which are copied to an array.
+/// Writes what becomes of the last bytes, of 32 at most, which are copied to an array.
 #[inline(always)]
-fn write_loaded<F: Flavor, S: Reading>(bytes: &[u8], before: Pass, out: &mut [u8]) -> Pass
+fn write_last<F: Flavor, S: Reading>(bytes: &[u8], before: Pass, out: &mut [u8]) -> Pass
     requires pass { IsPass F.flavor bytes.now before.read before.kinds × (before.read < length bytes.now) }
     requires fine { before.is_refused ≡ false }
     requires room { before.end + ROOM ≤ length out.old }
@@ -149,7 +144,7 @@ fn write_loaded<F: Flavor, S: Reading>(bytes: &[u8], before: Pass, out: &mut [u8
     let mut window = [0; AROUND];
     load(bytes, at, &mut window);
     let count = (bytes.len() - at).min(BLOCK);
-    let block = write_block::<F, S>(&window, before.kinds, 0, count, out, before.end);
+    let block = write_block::<F, S>(&window, BEHIND, before.kinds, count, out, before.end);
     Pass {
         read: at + count,
         end: block.end,
@@ -167,22 +162,23 @@ fn write_in_place<F: Flavor, S: Reading>(
     limit: usize,
     out: &mut [u8],
 ) -> Pass
-    requires pass { IsPass F.flavor bytes.now before.read before.kinds × (0 < before.read) }
+    requires pass { IsPass F.flavor bytes.now before.read before.kinds }
     requires fine { before.is_refused ≡ false }
     requires end { before.end ≤ length out.old }
     requires room { limit + ROOM ≤ length out.old }
-    ensures { GoesOn F.flavor S.which bytes.now before result out.old out.new }
+    ensures more { GoesOn F.flavor S.which bytes.now before result out.old out.new }
+    ensures fresh { result.read ≡ before.read → result.is_refused ≡ false }
 {
-    // The last bytes have no whole window.
-    let last = bytes.len().saturating_sub(REACH);
+    // So many bytes have a whole block behind them, and what decides it.
+    let stop = bytes.len().saturating_sub(REACH - 1);
     let mut at = before.read;
     let mut block = Written {
         end: before.end,
         is_refused: before.is_refused,
         kinds: before.kinds,
     };
-    while !block.is_refused && at <= last && block.end <= limit {
-        block = write_block::<F, S>(bytes, block.kinds, at - BEHIND, BLOCK, out, block.end);
+    while !block.is_refused && at < stop && block.end <= limit {
+        block = write_block::<F, S>(bytes, at, block.kinds, BLOCK, out, block.end);
         at += BLOCK;
     }
     Pass {

@@ -6,5 +6,5 @@ pub returns-then-is_short_kept_ascii : goal.returns-then-is_short_kept_ascii
 returns-then-is_short_kept_ascii g c =
     let f = g.F.Flavor.flavor in
     let bytes = c.args.bytes.now in
-    kept_put f bytes _ _ _ (g.met.A.Accepts.known f bytes) c.args.strictness (c.is_short_kept_ascii.ensures c.if-is_short_kept_ascii.true) c.copy_to_slice.result
+    kept_put f bytes _ _ _ (g.met.A.Accepts.known f bytes) g.S.Reading.which (c.is_short_kept_ascii.ensures c.if-is_short_kept_ascii.true) c.copy_to_slice.result
     c.map_err.result c.args.buf.now c.copy_to_slice.new.buf (omega arith) c.map_err.ensures.cases c.copy_to_slice.ensures

@@ -8,5 +8,5 @@ pub returns-in-Some : goal.returns-in-Some
 returns-in-Some g c =
     let f = g.F.Flavor.flavor in
     let bytes = c.args.bytes.now in
-    decoded_put f c.args.strictness bytes _ c.copy_to_slice.result c.map_err.result c.args.buf.now c.copy_to_slice.new.buf
-    (reads_either f c.args.strictness bytes _ c.in-Some.ensures.text) (omega (arith, length-take c.in-Some.end c.write_few_strictly.new.out, c.write_few_strictly.auto.out)) c.map_err.ensures.cases c.copy_to_slice.ensures
+    decoded_put f g.S.Reading.which bytes _ c.copy_to_slice.result c.map_err.result c.args.buf.now c.copy_to_slice.new.buf
+    (reads_either f g.S.Reading.which bytes _ c.in-Some.ensures.text) (omega (arith, length-take c.in-Some.end c.write_few_strictly.new.out, c.write_few_strictly.auto.out)) c.map_err.ensures.cases c.copy_to_slice.ensures

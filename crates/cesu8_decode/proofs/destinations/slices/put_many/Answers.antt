@@ -1,4 +1,4 @@
-use Rattle.std.proofs.Common.{◌≡◌, ◌<◌, ◌^◌, rules, arith}
+use Rattle.std.proofs.Common.{◌≡◌, ◌<◌, ◌^◌, ◌∙◌, sym, rules, arith}
 use Rattle.cesu8_text.specs.Reading.{IsStrictReading, reading, lossy_length}
 use Rattle.cesu8_bytes.specs.declared.strictness.Strictness.TheVariants.{Strict}
 use Rattle.cesu8_decode.proofs.chunks.SliceReadings.{strict_no_longer, no_strict_text, only_reading, answer_put, room_lacks, length_lacks}
@@ -7,8 +7,8 @@ use Rattle.cesu8_decode.proofs.destinations.slices.put_many.Goals.{in-Strict+els
 
 pub returns-then-is_ill_formed : goal.returns-then-is_ill_formed
 returns-then-is_ill_formed g c =
-    no_strict_text g.F.Flavor.flavor c.args.strictness c.args.bytes.now c.args.buf.now
-    (c.in-Strict.is, c.is_ill_formed.ensures.ill_formed c.if-is_ill_formed.true)
+    no_strict_text g.F.Flavor.flavor g.S.Reading.which c.args.bytes.now c.args.buf.now
+    (sym c.strictness.ensures ∙ c.in-Strict.is, c.is_ill_formed.ensures.ill_formed c.if-is_ill_formed.true)
 
 pub put_chunks-requires : goal.put_chunks-requires
 put_chunks-requires g c =
@@ -21,7 +21,7 @@ returns-then-bytes-buf g c =
     let bytes = c.args.bytes.now in
     let whole = c.is_ill_formed.ensures.whole c.if-is_ill_formed.false in
     let room = strict_no_longer f bytes whole in
-    answer_put c.args.strictness _ _ _ c.args.buf.now (only_reading f c.args.strictness bytes (λ _. whole)) (omega (arith, room)) _ _
+    answer_put g.S.Reading.which _ _ _ c.args.buf.now (only_reading f g.S.Reading.which bytes (λ _. whole)) (omega (arith, room)) _ _
     (omega (arith, room)) c.put_chunks.ensures
 
 pub returns-in-Some : goal.returns-in-Some
@@ -29,9 +29,9 @@ unfolding lossy_length
 returns-in-Some g c =
     let f = g.F.Flavor.flavor in
     let bytes = c.args.bytes.now in
-    let whole : c.args.strictness ≡ Strict → IsStrictReading f bytes (reading f bytes) = search rules in
+    let whole : g.S.Reading.which ≡ Strict → IsStrictReading f bytes (reading f bytes) = search rules in
     let len = c.in-Some.ensures.some in
-    answer_put c.args.strictness _ _ _ c.args.buf.now (only_reading f c.args.strictness bytes whole) (omega (arith, len)) _ _
+    answer_put g.S.Reading.which _ _ _ c.args.buf.now (only_reading f g.S.Reading.which bytes whole) (omega (arith, len)) _ _
     (omega (arith, len)) c.put_chunks-in-Some.ensures
 
 pub returns-in-Some-2 : goal.returns-in-Some-2
@@ -39,14 +39,14 @@ unfolding lossy_length
 returns-in-Some-2 g c =
     let f = g.F.Flavor.flavor in
     let bytes = c.args.bytes.now in
-    let whole : c.args.strictness ≡ Strict → IsStrictReading f bytes (reading f bytes) = search rules in
+    let whole : g.S.Reading.which ≡ Strict → IsStrictReading f bytes (reading f bytes) = search rules in
     let fits : c.in-Some.len < 2 ^ 64 = search rules in
-    room_lacks c.args.strictness _ _ _ c.args.buf.now (only_reading f c.args.strictness bytes whole) (omega (arith, c.in-Some.ensures.some)) _
+    room_lacks g.S.Reading.which _ _ _ c.args.buf.now (only_reading f g.S.Reading.which bytes whole) (omega (arith, c.in-Some.ensures.some)) _
     c.in-Some.ensures.some (omega (arith, c.in-Some.ensures.some))
 
 pub returns-in-None : goal.returns-in-None
 returns-in-None g c =
     let f = g.F.Flavor.flavor in
     let bytes = c.args.bytes.now in
-    let whole : c.args.strictness ≡ Strict → IsStrictReading f bytes (reading f bytes) = search rules in
-    length_lacks f c.args.strictness bytes c.args.buf.now whole (omega arith) (omega arith) (omega (arith, c.in-None.ensures.none))
+    let whole : g.S.Reading.which ≡ Strict → IsStrictReading f bytes (reading f bytes) = search rules in
+    length_lacks f g.S.Reading.which bytes c.args.buf.now whole (omega arith) (omega arith) (omega (arith, c.in-None.ensures.none))

@@ -7,7 +7,7 @@ use Rattle.cesu8_decode.proofs.pass.blocks.write_pairs.Goals as goal
 
 pub loop-out-init : goal.loop-out-init
 loop-out-init g c = record {
-  used = (omega arith, omega arith);
+  used = omega arith;
   more = goes_nowhere g.F.Flavor.flavor g.S.Reading.which c.args.bytes.now (pass_from c.args.read c.args.kinds) false c.args.out.now
       c.requires.pass refl (omega arith);
 }
@@ -21,16 +21,15 @@ loop-out-preserved g c =
     let at = c.loop-out.at in
     let so_far = c.loop-out.invariant.more in
     let put = c.put-end.ensures in
-    let used = c.loop-out.invariant.used in
     let room : c.loop-out.end ≤ c.args.limit =
-    omega (arith, used.0, used.1, c.if-stop-at-ge-PAIR_READ.true, c.min.ensures, mul-div-le c.args.limit 4) in
+    omega (arith, c.loop-out.invariant.used, c.if-at-last.true, c.saturating_sub-last.ensures, c.min.ensures, mul-div-le c.args.limit 4) in
     record {
-      used = (omega (arith, used.0, put.writes.end), omega (arith, c.if-stop-at-ge-PAIR_READ.true));
+      used = omega (arith, c.loop-out.invariant.used, put.writes.end);
       more =
           goes_further f which bytes (pass_from c.args.read kinds) (pass_at at c.loop-out.end kinds) _ _ _ _ so_far refl
           (pair_goes_on f which bytes at c.loop-out.end c.put-end.result kinds (so_far.pass refl)
           (all_zero kinds (sym c.bits-is_boundary.ensures ∙ c.loop-out-test.true))
-          (omega (arith, c.if-stop-at-ge-PAIR_READ.true, length-drop at bytes))
+          (omega (arith, c.if-at-last.true, c.saturating_sub-last.ensures, c.min.ensures, length-drop at bytes))
           (rw take_rest at (c.is_pair.ensures.0 c.if-is_pair.true))
           c.utf8_of_pair.result _ _ (rw take_rest at c.utf8_of_pair.ensures) (omega arith) put
           (omega (arith, put.writes.end, put.writes.len, so_far.len, room, c.requires.room)));
