@@ -1,13 +1,11 @@
 -- Which bytes may follow which in whole encoded characters.
-use Rattle.std.specs.Prelude.{◌≡◌, ℕ, ◌+◌, ◌-◌, ◌++◌, map, drop, replicate, ◌<◌, ◌≤◌, ◌&&◌, ◌||◌, ◌==◌, nat_le, nat_lt, if◌then◌else◌, not, Bool, true, false, List, ◌∷◌, length, slice_index, bit_or}
+use Rattle.std.specs.Prelude.{◌≡◌, ℕ, ◌+◌, map, drop, ◌<◌, ◌≤◌, ◌&&◌, ◌||◌, ◌==◌, nat_le, nat_lt, if◌then◌else◌, not, Bool, true, false, List, ◌∷◌, length, slice_index, bit_or}
 use Rattle.std.specs.List.{range_with_len}
 use Rattle.std.specs.Simd.Lanes.{chunk, mask_l}
 use Rattle.cesu8_text.specs.Class.{is_null}
 use Rattle.cesu8_text.specs.Encoding.{Flavor}
 use Rattle.cesu8_bytes.specs.Pairs.{null_at}
-use Rattle.cesu8_bytes.specs.declared.TheConstants.{BLOCK}
 use Rattle.cesu8_decode.specs.DecodedOffsets.{continues}
-use Rattle.cesu8_decode.specs.declared.way.TheConstants.{FEW_BYTES}
 use Rattle.cesu8_decode.specs.declared.lanes.following.Block.{Block}
 use Rattle.cesu8_decode.specs.declared.lanes.character_set.Rule.{Rule}
 use Rattle.cesu8_decode.specs.declared.lanes.character_set.TheConstants.{ENCODED, UNCHANGED, UTF8}
@@ -103,10 +101,6 @@ after_fillers bytes = 0x61 ∷ 0x61 ∷ 0x61 ∷ 0x61 ∷ bytes
 -- The bits of a set are those of the n bytes of a window from byte i + 4 on that may not follow.
 pub record AreStops (s : CharacterSet) (f : Flavor) (window : List ℕ) (i n set : ℕ) : Type 0 where
   pub bits : set ≡ mask_l (map (λ k. not (follows_at s f window k)) (range_with_len i n))
-
--- A few bytes, with zeros behind them as far as a block is loaded.
-abbrev pub before_zeros : List ℕ → List ℕ
-before_zeros bytes = bytes ++ replicate (FEW_BYTES + BLOCK - length bytes) 0
 
 -- A set has the bytes that may not follow, and perhaps zeros behind them.
 pub record HasStops (s : CharacterSet) (f : Flavor) (bytes : List ℕ) (set : ℕ) : Type 0 where

@@ -1,15 +1,14 @@
 -- Where characters that change begin, by the bytes that may not follow where none changes.
-use Rattle.std.proofs.Common.{◌||◌, ◌≡◌, ℕ, zero, suc, ◌+◌, ◌-◌, ◌<◌, ◌≤◌, ◌↔◌, inl, inr, ⊎_elim, Bool, true, false, true≢false, not, cond, eqb, leb, List, ◌++◌, refl, sym, ap, ◌∙◌, subst, arith, length, take, drop, get_or, replicate, length-append, length-drop}
+use Rattle.std.proofs.Common.{◌||◌, ◌≡◌, ℕ, zero, suc, ◌+◌, ◌-◌, ◌<◌, ◌≤◌, ◌↔◌, inl, inr, ⊎_elim, Bool, true, false, true≢false, not, cond, eqb, leb, List, ◌++◌, refl, sym, ap, ◌∙◌, subst, arith, length, take, drop, get_or, replicate, length-drop}
 use Rattle.std.proofs.lemmas.Bool.{cases_Bool, cases_lt, le-leb, lt-leb, le-ltb, lt-ltb, leb-false, ne_eqb, or_parts, and_parts, eqb-true, cases_eq}
-use Rattle.std.proofs.lemmas.List.{get_or-drop, drop-drop, drop-replicate, append_assoc, length-replicate, replicate-append-replicate, take-append-drop, take-append-le, drop-append-le}
+use Rattle.std.proofs.lemmas.List.{get_or-drop, take-append-le, drop-append-le}
 use Rattle.cesu8_text.specs.Class.{is_null}
 use Rattle.cesu8_text.specs.Encoding.{Flavor, Cesu8, Mutf8}
 use Rattle.cesu8_text.specs.Reading.{HasNoStrictReading}
 use Rattle.cesu8_bytes.specs.Pairs.{null_at, HasPair}
-use Rattle.cesu8_bytes.specs.Puts.{PutsAt}
 use Rattle.cesu8_bytes.proofs.vectors.Loads.{padded}
 use Rattle.cesu8_decode.specs.DecodedOffsets.{continues, IsPrefixOf, BeginsChanged}
-use Rattle.cesu8_decode.specs.Following.{Unchanged, shown, follows, follows_at, crosses, crosses_at, after_fillers, before_zeros, IsSeam, FollowUpTo}
+use Rattle.cesu8_decode.specs.Following.{Unchanged, shown, follows, follows_at, crosses, crosses_at, after_fillers, IsSeam, FollowUpTo}
 use Rattle.cesu8_decode.specs.Front.{IsFront}
 use Rattle.cesu8_decode.proofs.by_offset.WidthTests.{pair_by_prefix}
 use Rattle.cesu8_decode.proofs.chunks.Changed.{null_lead, null_within, pair_in_prefix, pair_within}
@@ -177,32 +176,6 @@ no_reading_from f bytes m up_to neither cut =
 -- Those behind a few bytes.
 abbrev pub zeros_of : List ℕ → List ℕ
 zeros_of bytes = replicate (96 - length bytes) 0
-
--- Zeros are left behind a block.
-pub zeros_behind : (source : List ℕ) (at : ℕ) → drop at source ≡ replicate (96 - at) 0 → drop (at + 32) source ≡ replicate (96 - (at + 32)) 0
-zeros_behind source at zeros =
-    let here : 96 - at - 32 ≡ 96 - (at + 32) = omega arith in
-    sym (drop-drop 32 at source) ∙ ap (drop 32) zeros ∙ drop-replicate 32 (96 - at) 0 ∙ ap (λ n. replicate n 0) here
-
--- The last block is put behind those before it.
-pub filled : (bytes source block new : List ℕ) (at n : ℕ) → at ≤ length bytes → length bytes ≤ at + 32 → length bytes ≤ 64 →
-    take at source ≡ take at bytes → drop at source ≡ replicate (96 - at) 0 →
-    block ≡ drop at bytes ++ replicate (32 - length (drop at bytes)) 0 → PutsAt block at source new n → new ≡ before_zeros bytes
-filled bytes source block new at n low high few copied zeros is put =
-    let rest = drop at bytes in
-    let own = replicate {A = ℕ} (32 - length rest) 0 in
-    let others = replicate {A = ℕ} (96 - (at + 32)) 0 in
-    let end : n ≡ at + 32 =
-    omega (arith, put.writes.end, ap length is, length-append rest own, length-replicate {A = ℕ} (32 - length rest) 0, length-drop at bytes) in
-    let first : take (at + 32) new ≡ take at bytes ++ (rest ++ own) =
-    ap (λ n. take n new) (sym end) ∙ put.writes.bytes ∙ (λ i. copied i ++ is i) in
-    let behind : drop (at + 32) new ≡ others =
-    ap (λ n. drop n new) (sym end) ∙ put.behind ∙ ap (λ n. drop n source) end ∙ zeros_behind source at zeros in
-    let all : 32 - length rest + (96 - (at + 32)) ≡ 96 - length bytes = omega (arith, length-drop at bytes) in
-    sym (take-append-drop (at + 32) new) ∙ (λ i. first i ++ behind i)
-    ∙ append_assoc (take at bytes) (rest ++ own) others ∙ ap (λ bs. take at bytes ++ bs) (append_assoc rest own others)
-    ∙ sym (append_assoc (take at bytes) rest (own ++ others))
-    ∙ (λ i. take-append-drop at bytes i ++ replicate-append-replicate (32 - length rest) (96 - (at + 32)) 0 i) ∙ ap (λ n. bytes ++ replicate n 0) all
 
 module _ (bytes zeros source : List ℕ) (none : (k : ℕ) → get_or zeros k 0 ≡ 0) (is : source ≡ bytes ++ zeros) where
   -- They stand there too,

@@ -1,9 +1,9 @@
 -- Blocks that are read where they stand.
 use Rattle.std.proofs.lemmas.Bool.Decides.{nat_tests}
 use Rattle.std.proofs.lemmas.Grind.{common_steps}
-use Rattle.std.proofs.Common.{◌≡◌, ℕ, zero, suc, ◌+◌, ◌-◌, ◌<◌, ◌≤◌, Bool, true, false, true≢false, List, [], ◌++◌, refl, sym, ap, ◌∙◌, arith, map, get_or, length, take, drop, replicate, add-zero}
+use Rattle.std.proofs.Common.{◌≡◌, ℕ, zero, suc, ◌+◌, ◌-◌, ◌<◌, ◌≤◌, Bool, true, false, true≢false, List, [], ◌++◌, refl, sym, ap, ◌∙◌, arith, map, get_or, length, drop, replicate, add-zero}
 use Rattle.std.specs.List.{range_with_len}
-use Rattle.std.proofs.lemmas.List.{length-append, length-drop, get_or-take}
+use Rattle.std.proofs.lemmas.List.{length-append, length-drop}
 use Rattle.std.proofs.Math.Seq.{take-length}
 use Rattle.std.proofs.lemmas.Bool.{cases_lt}
 use Rattle.cesu8_text.specs.Encoding.{Flavor}
@@ -154,10 +154,6 @@ first_kinds f bytes = kinds_of_zeros f (window_of bytes) (replicate 32 0) refl z
     zeros (suc (suc (suc (suc (suc k))))) small = absurd (omega arith)
 
 -- ---- bytes that are copied to zeros
-
--- The first n bytes have a window in common with all.
-pub first_in_window : (bytes : List ℕ) (n k : ℕ) → k < n + 5 → get_or (window_of (take n bytes)) k 0 ≡ get_or (window_of bytes) k 0
-first_in_window bytes n k small = grind (arith, get_or-take)
 
 -- The window on an array agrees with that on all bytes as far as the array has what is there.
 pub around_agrees : (a b : List ℕ) (at n : ℕ) → ((k : ℕ) → k < n → get_or a k 0 ≡ get_or b (at + k) 0) → Agree (window_of a) b 5 at n

@@ -1,16 +1,13 @@
 -- What is read and written by windows.
-use Rattle.std.proofs.Common.{append_assoc, ◌≡◌, ℕ, ◌+◌, ◌<◌, ◌≤◌, List, [], ◌∷◌, ◌++◌, sym, ap, ◌∙◌, arith, map, get_or, length, take, drop, replicate, zero-add}
+use Rattle.std.proofs.Common.{append_assoc, ◌≡◌, ℕ, ◌+◌, ◌<◌, ◌≤◌, List, ◌++◌, sym, ap, ◌∙◌, arith, map, get_or, replicate, zero-add}
 use Rattle.cesu8_text.specs.Encoding.{Flavor}
 use Rattle.cesu8_decode.specs.DecodedOffsets.{decoded}
 use Rattle.cesu8_decode.specs.DecodedLanes.{start_kind, AreFiveKinds}
 use Rattle.std.specs.List.{range_with_len}
 use Rattle.std.proofs.lemmas.List.FromFn.{get_or-map-range_with_len}
 use Rattle.cesu8_decode.proofs.by_offset.WindowOffsets.{decoded_split}
-use borrow.Rule.Slice.PartMut.{put_mid, post_of}
-use Rattle.std.proofs.lemmas.List.{get_or-drop, take-replicate}
-use Rattle.cesu8_bytes.proofs.vectors.Loads.{zeros_at, padded}
+use Rattle.cesu8_bytes.proofs.vectors.Loads.{zeros_at}
 use Rattle.cesu8_decode.proofs.decoder.StartKinds.{no_start}
-use Rattle.cesu8_decode.proofs.by_offset.DecodedText.{IsPadded}
 
 -- ---- kinds
 
@@ -27,18 +24,6 @@ pub kinds_of_zeros : (f : Flavor) (window kinds : List ℕ) → kinds ≡ replic
 kinds_of_zeros f window kinds are zeros k small =
     ap (λ l. get_or l (27 + k) 0) are ∙ zeros_at 32 (27 + k)
     ∙ sym (no_start f _ _ _ _ _ _ (omega (arith, ap (λ p. get_or window p 0) (zero-add k), zeros k small)))
-
--- ---- a window between zeros
-
--- Bytes that are copied into zeros, behind five of them.
-pub between_zeros : (window bytes copied : List ℕ) (n : ℕ) → 5 ≤ length window →
-    window ≡ replicate (length window) 0 → copied ≡ bytes → IsPadded bytes (put_mid 5 n window copied)
-between_zeros window bytes copied n fits zeros copied_is k =
-    let all : List ℕ = replicate (length window) 0 in
-    let prefix : take 5 window ≡ 0 ∷ 0 ∷ 0 ∷ 0 ∷ 0 ∷ [] = ap (take 5) zeros ∙ take-replicate 5 (length window) 0 (omega arith) in
-    (λ i. get_or (prefix i ++ (copied_is i ++ post_of 5 n window)) k 0)
-    ∙ padded (0 ∷ 0 ∷ 0 ∷ 0 ∷ 0 ∷ bytes) (post_of 5 n window)
-    (λ i. ap (λ w. get_or (drop n (drop 5 w)) i 0) zeros ∙ get_or-drop n (drop 5 all) i 0 ∙ get_or-drop 5 all (n + i) 0 ∙ zeros_at (length window) (5 + (n + i))) k
 
 -- ---- blocks
 

@@ -1,6 +1,6 @@
 //! Writes what becomes of 32 bytes, a block.
 
-ghost use Rattle.std.specs.Prelude.{◌≡◌, ℕ, List, ◌+◌, ◌-◌, ◌<◌, ◌≤◌, IsTrue, false, length, take, map, bit_or};
+ghost use Rattle.std.specs.Prelude.{◌≡◌, ℕ, List, ◌+◌, ◌-◌, ◌<◌, ◌≤◌, ◌++◌, IsTrue, false, length, take, map, replicate, bit_or};
 ghost use Rattle.std.specs.List.{range_with_len};
 ghost use Rattle.std.specs.Simd.Lanes.{mask_l, zip2};
 ghost use Rattle.cesu8_text.specs.Class.{is_null};
@@ -15,11 +15,14 @@ use crate::lanes::following::DECIDING;
 use crate::lanes::offsets::{BEHIND, Kinds, LEAD, REACH, near, starts};
 use crate::lanes::packing::{HighestBit, store, store_whole};
 use crate::lanes::parts::{changed_parts, ill_formed, kept_parts};
+use crate::way::{FEW_BYTES, is_one_block};
 use cesu8_bytes::BLOCK;
 use cesu8_bytes::flavor::{Flavor, nulls};
 use cesu8_bytes::lanes::class::{AtLeast, bits};
+use cesu8_bytes::lanes::padded::padded_half;
 use cesu8_bytes::strictness::{Reading, Strictness};
 use cesu8_bytes::writing::packing::STORED;
+use cesu8_bytes::writing::put::put_lanes;
 use std::simd::prelude::*;
 
 /// What came of a block: the end of what is written for it, whether strict reading refuses one of its
@@ -29,6 +32,23 @@ pub struct Written {
     pub end: usize,
     pub is_refused: bool,
     pub kinds: u8x32,
+}
+
+/// Copies at most 64 bytes to zeros, so that a block can be loaded from any of them.
+#[inline(always)]
+pub fn load(bytes: &[u8], source: &mut [u8])
+    requires bytes { length bytes.now ≤ FEW_BYTES }
+    requires zeros { source.old ≡ replicate (length source.old) 0 }
+    requires room { FEW_BYTES ≤ length source.old }
+    ensures { source.new ≡ bytes.now ++ replicate (length source.old - length bytes.now) 0 }
+{
+    // Up to 32 bytes are stored at once, so that a load of them need not wait for two stores.
+    if is_one_block(bytes) {
+        put_lanes(padded_half(bytes), source, 0);
+        return;
+    }
+    put_lanes(u8x32::from_slice(bytes), source, 0);
+    put_lanes(padded_half(&bytes[BLOCK..]), source, BLOCK);
 }
 
 /// Writes what becomes of the first `count` bytes of the block at an offset. The kinds of the five

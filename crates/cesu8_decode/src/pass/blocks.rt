@@ -8,18 +8,16 @@ ghost use Rattle.std.specs.Prelude.{◌≡◌, ℕ, ◌+◌, ◌<◌, ◌≤◌,
 ghost use Rattle.cesu8_decode.specs.Decoding.{IsPass, GoesOn, WritesReading, pass_from, room_for};
 ghost use Rattle.cesu8_decode.specs.DecodedOffsets.{window_of};
 
-use super::block::{Written, write_block};
+use super::block::{Written, load, write_block};
 use crate::lanes::offsets::{BEHIND, REACH};
 use crate::lanes::packing::{ROOM, WIDEST};
 use crate::way::{FEW_BYTES, LARGE_ARRAY, LARGEST_ARRAY, SMALL_ARRAY, is_one_block};
 use cesu8_bytes::BLOCK;
 use cesu8_bytes::flavor::Flavor;
 use cesu8_bytes::lanes::class::{AtLeast, bits};
-use cesu8_bytes::lanes::padded::padded_half;
-use cesu8_bytes::lanes::short::copy_short;
 use cesu8_bytes::pairs::{PAIR, PAIR_READ, PAIR_UTF8, is_pair, utf8_of_pair};
 use cesu8_bytes::strictness::Reading;
-use cesu8_bytes::writing::put::{put, put_lanes};
+use cesu8_bytes::writing::put::put;
 use std::simd::prelude::*;
 
 // The lengths of buffers for the strict and for the lossy reading of so many bytes.
@@ -37,8 +35,8 @@ pub const LARGE_LOSSY: usize = WIDEST * LARGE_ARRAY + ROOM;
 
 pub const LARGEST_LOSSY: usize = WIDEST * LARGEST_ARRAY + ROOM;
 
-/// How many bytes are read to write a block: those that decide what becomes of its bytes.
-const AROUND: usize = BEHIND + REACH;
+/// The length of an array for the last bytes, the five before them and zeros behind.
+const AROUND: usize = BEHIND + FEW_BYTES;
 
 /// How far the pass came: how many bytes were read, and of the last block what `Written` has.
 #[derive(Drop)]
@@ -86,7 +84,7 @@ pub fn write_all<F: Flavor, S: Reading>(bytes: &[u8], out: &mut [u8]) -> Option<
     let none = u8x32::splat(0);
     let (end, is_refused) = if is_one_block(bytes) && out.len() <= BLOCK_LOSSY {
         let mut window = [0; AROUND];
-        load(bytes, 0, &mut window);
+        load_last(bytes, 0, &mut window);
         let block = write_block::<F, S>(&window, BEHIND, none, bytes.len(), out, 0);
         (block.end, block.is_refused)
     } else {
@@ -135,6 +133,7 @@ fn write_pairs<F: Flavor, S: Reading>(
 #[inline(always)]
 fn write_last<F: Flavor, S: Reading>(bytes: &[u8], before: Pass, out: &mut [u8]) -> Pass
     requires pass { IsPass F.flavor bytes.now before.read before.kinds × (before.read < length bytes.now) }
+    requires last { length bytes.now < before.read + REACH }
     requires fine { before.is_refused ≡ false }
     requires room { before.end + ROOM ≤ length out.old }
     ensures more { GoesOn F.flavor S.which bytes.now before result out.old out.new }
@@ -142,7 +141,7 @@ fn write_last<F: Flavor, S: Reading>(bytes: &[u8], before: Pass, out: &mut [u8])
 {
     let at = before.read;
     let mut window = [0; AROUND];
-    load(bytes, at, &mut window);
+    load_last(bytes, at, &mut window);
     let count = (bytes.len() - at).min(BLOCK);
     let block = write_block::<F, S>(&window, BEHIND, before.kinds, count, out, before.end);
     Pass {
@@ -168,6 +167,8 @@ fn write_in_place<F: Flavor, S: Reading>(
     requires room { limit + ROOM ≤ length out.old }
     ensures more { GoesOn F.flavor S.which bytes.now before result out.old out.new }
     ensures fresh { result.read ≡ before.read → result.is_refused ≡ false }
+    ensures last { result.is_refused ≡ false → result.end ≤ limit
+        → length bytes.now < result.read + REACH }
 {
     // So many bytes have a whole block behind them, and what decides it.
     let stop = bytes.len().saturating_sub(REACH - 1);
@@ -189,22 +190,17 @@ fn write_in_place<F: Flavor, S: Reading>(
     }
 }
 
-/// Copies the bytes around the block at an offset to zeros.
+/// Copies the last bytes, and the five before them, to zeros.
 #[inline(always)]
-fn load(bytes: &[u8], at: usize, window: &mut [u8])
-    requires bytes { (at ≤ length bytes.now) × (at < BEHIND → at ≡ 0) }
+fn load_last(bytes: &[u8], at: usize, window: &mut [u8])
+    requires at { (at ≤ length bytes.now) × (at < BEHIND → at ≡ 0) }
+    requires last { length bytes.now < at + REACH }
     requires zeros { window.old ≡ replicate AROUND 0 }
-    ensures bytes { (k : ℕ) → k < AROUND
+    ensures bytes { (k : ℕ) → k < BEHIND + REACH
         → slice_index window.new k ≡ slice_index (window_of bytes.now) (at + k) }
     ensures len { length window.new ≡ AROUND }
 {
-    let rest = &bytes[at..];
-    if rest.len() <= BLOCK {
-        // In one vector, so that a load of it need not wait for two.
-        put_lanes(padded_half(rest), window, BEHIND);
-    } else {
-        copy_short(&rest[..rest.len().min(REACH)], &mut window[BEHIND..]);
-    }
+    load(&bytes[at..], &mut window[BEHIND..]);
     if at >= BEHIND {
         window[..BEHIND].copy_from_slice(&bytes[at - BEHIND..at]);
     }

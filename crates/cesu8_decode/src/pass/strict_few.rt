@@ -10,16 +10,16 @@ ghost use Rattle.cesu8_bytes.specs.TextChunks.{IsReadSoFar};
 ghost use Rattle.cesu8_bytes.specs.declared.strictness.Strictness.TheVariants.{Strict};
 ghost use Rattle.cesu8_decode.specs.Decoding.{WritesReading};
 ghost use Rattle.cesu8_decode.specs.DecodedOffsets.{IsPrefixOf, BeginsChanged};
-ghost use Rattle.cesu8_decode.specs.Following.{Unchanged as AllUnchanged, HasStops, IsSeam, before_zeros};
+ghost use Rattle.cesu8_decode.specs.Following.{Unchanged as AllUnchanged, HasStops, IsSeam};
 
+use super::block::load;
 use crate::changed::changes;
 use crate::front::may_be_crossed;
 use crate::lanes::character_set::Unchanged;
 use crate::lanes::stops::next_stop;
-use crate::way::{FEW_BYTES, is_one_block};
+use crate::way::FEW_BYTES;
 use cesu8_bytes::BLOCK;
 use cesu8_bytes::flavor::Flavor;
-use cesu8_bytes::lanes::padded::padded_half;
 use cesu8_bytes::pairs::{PAIR, PAIR_READ, PAIR_UTF8, utf8_of_pair};
 use cesu8_bytes::writing::put::{put, put_lanes};
 use std::simd::prelude::*;
@@ -56,21 +56,6 @@ pub fn write_few_strictly<F: Flavor>(bytes: &[u8], stops: u64, out: &mut [u8]) -
         return None;
     }
     Some(put_between(&source, read, bytes.len() - read, out, end))
-}
-
-/// Copies the bytes to zeros, so that a block can be loaded from any of them.
-#[inline(always)]
-fn load(bytes: &[u8], source: &mut [u8])
-    requires bytes { length bytes.now ≤ FEW_BYTES }
-    requires zeros { source.old ≡ replicate (FEW_BYTES + BLOCK) 0 }
-    ensures { source.new ≡ before_zeros bytes.now }
-{
-    if is_one_block(bytes) {
-        put_lanes(padded_half(bytes), source, 0);
-        return;
-    }
-    put_lanes(u8x32::from_slice(bytes), source, 0);
-    put_lanes(padded_half(&bytes[BLOCK..]), source, BLOCK);
 }
 
 /// Writes at most 64 bytes of the source, and others behind them, and returns the end of these.

@@ -14,8 +14,8 @@ write_blocks-pass-requires-clause-pass g c = at_start g.F.Flavor.flavor c.args.b
 pub write_block-block-requires-clause-before : goal.write_block-block-requires-clause-before
 write_block-block-requires-clause-before g c =
     let bytes = c.args.bytes.now in
-    kinds_agree g.F.Flavor.flavor (window_of c.load.new.window) (window_of bytes) 5 0 (replicate 32 0) 27
-    (around_agrees c.load.new.window (window_of bytes) 0 10 (λ k small. c.load.ensures.bytes k (omega arith))) (first_kinds g.F.Flavor.flavor bytes)
+    kinds_agree g.F.Flavor.flavor (window_of c.load_last.new.window) (window_of bytes) 5 0 (replicate 32 0) 27
+    (around_agrees c.load_last.new.window (window_of bytes) 0 10 (λ k small. c.load_last.ensures.bytes k (omega arith))) (first_kinds g.F.Flavor.flavor bytes)
 
 -- What the bytes of the block become there, they do where they stand.
 of_all : (f : Flavor) (which : Strictness) (bytes window text : List ℕ) (is_refused : Bool) → length bytes ≤ 32 →
@@ -34,7 +34,7 @@ returns g c =
       | then-is_one_block+then-out-le-BLOCK_LOSSY w ↦
           let block = w.write_block-block.ensures.written in
           rw (w.out-is, w.end-is) (writes_reading f which bytes _ _ (length bytes) _ _
-          (of_all f which bytes w.load.new.window _ _ (c.is_one_block.ensures.0 w.if-is_one_block.true) w.load.ensures.bytes block.text)
+          (of_all f which bytes w.load_last.new.window _ _ (c.is_one_block.ensures.0 w.if-is_one_block.true) w.load_last.ensures.bytes block.text)
           (omega arith) (λ _. refl) (omega (arith, block.end)) block.len)
       | else-is_one_block w ↦
           let pass = w.write_blocks-pass.ensures in

@@ -8,8 +8,8 @@ pub write_block-block-requires-clause-before : goal.write_block-block-requires-c
 write_block-block-requires-clause-before g c =
     let bytes = c.args.bytes.now in
     let at = c.args.before.read in
-    kinds_agree g.F.Flavor.flavor (window_of c.load.new.window) (window_of bytes) 5 at _ 27
-    (around_agrees c.load.new.window (window_of bytes) at 10 (λ k small. c.load.ensures.bytes k (omega arith)))
+    kinds_agree g.F.Flavor.flavor (window_of c.load_last.new.window) (window_of bytes) 5 at _ 27
+    (around_agrees c.load_last.new.window (window_of bytes) at 10 (λ k small. c.load_last.ensures.bytes k (omega arith)))
     (c.requires.pass.0.before c.requires.pass.1)
 
 pub returns-clause-more : goal.returns-clause-more
@@ -21,15 +21,15 @@ returns-clause-more g c =
     let n = c.min-count.result in
     let few = c.min-count.ensures in
     let block = c.write_block-block.ensures in
-    goes_on_by f which bytes c.args.before _ (window_of c.load.new.window) _ _ 5 n refl (omega (arith, few, c.requires.pass.1))
+    goes_on_by f which bytes c.args.before _ (window_of c.load_last.new.window) _ _ 5 n refl (omega (arith, few, c.requires.pass.1))
     (λ fine. record {
       within = omega (arith, few, c.requires.pass.1);
       start = λ more small. absurd (omega (arith, few, more, small));
       before = λ more.
           let all : n ≡ 32 = omega (arith, few, more) in
-          rw all (kinds_behind f (window_of c.load.new.window) (window_of bytes) 5 at _
-          (around_agrees c.load.new.window (window_of bytes) at 42 (λ k small. c.load.ensures.bytes k small))
-          (block.kinds all ∙ kinds_in_window f c.load.new.window 5 32));
+          rw all (kinds_behind f (window_of c.load_last.new.window) (window_of bytes) 5 at _
+          (around_agrees c.load_last.new.window (window_of bytes) at 42 (λ k small. c.load_last.ensures.bytes k small))
+          (block.kinds all ∙ kinds_in_window f c.load_last.new.window 5 32));
     })
-    (around_agrees c.load.new.window (window_of bytes) at (n + 10) (λ k small. c.load.ensures.bytes k (omega (arith, few, small))))
+    (around_agrees c.load_last.new.window (window_of bytes) at (n + 10) (λ k small. c.load_last.ensures.bytes k (omega (arith, few, small))))
     block.written (omega (arith, block.written.end, most_of_block which n (omega (arith, few)), c.requires.room, block.written.len))
