@@ -7,4 +7,3 @@ pub mod EncodedLanes
 pub mod EncodedBlocks
 pub mod EncodedRows
 pub mod EncodedWindows
-pub mod Shuffles

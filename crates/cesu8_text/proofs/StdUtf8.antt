@@ -1,8 +1,9 @@
 -- The UTF-8 of std is the UTF-8 of this crate's definitions.
-use Rattle.std.proofs.Common.{◌≡◌, ℕ, true, List, [], ◌∷◌, ◌↔◌, refl, sym, ◌∙◌, subst, inl, inr, arith}
+use Rattle.std.proofs.Common.{◌≡◌, ℕ, true, List, [], ◌∷◌, ◌↔◌, refl, sym, ◌∙◌, arith}
 use Rattle.std.specs.Str.{chars, IsUtf8}
 use Rattle.std.proofs.Math.Utf8.{encode, encodes, scalar, scalars, scalar_cases, low_scalar}
-use Rattle.std.proofs.lemmas.Bool.{and_parts, and_from, le-leb, lt-ltb, le-ltb}
+use Rattle.std.proofs.lemmas.Bool.{and_parts, and_from}
+use Rattle.std.proofs.lemmas.Bool.Decides.{nat_tests}
 use Rattle.std.proofs.lemmas.Str.{encodes-chars, scalars-chars, chars-encodes}
 use Rattle.cesu8_text.specs.Text.{IsScalarValue, IsText, utf8_of, utf8, IsUtf8Of}
 
@@ -18,22 +19,18 @@ utf8_encodes (c ∷ text) = rw (utf8_of_encode c, utf8_encodes text) refl
 
 -- Both have the same scalar values.
 pub scalar_from_IsScalarValue : (c : ℕ) → IsScalarValue c → scalar c ≡ true
-scalar_from_IsScalarValue c (inl low) = low_scalar c low
-scalar_from_IsScalarValue c (inr high) =
-    rw (le-ltb c 0xD800 (omega arith), le-leb 0xE000 c high.0, lt-ltb c 0x110000 high.1) refl
+scalar_from_IsScalarValue c h = grind (arith, nat_tests, low_scalar)
 
 -- So what std takes for scalar values is a text.
 pub IsText_from_scalars : (text : List ℕ) → scalars text ≡ true → IsText text
 IsText_from_scalars [] e = tt
-IsText_from_scalars (c ∷ text) e =
-    let parts = and_parts (scalar c) (scalars text) e in
-    (scalar_cases c parts.0, IsText_from_scalars text parts.1)
+IsText_from_scalars (c ∷ text) e = grind (arith, and_parts, scalar_cases, IsText_from_scalars text)
 
 -- A text is what std takes for scalar values.
 pub scalars_from_IsText : (text : List ℕ) → IsText text → scalars text ≡ true
 scalars_from_IsText [] h = refl
 scalars_from_IsText (c ∷ text) h =
-    and_from (scalar c) (scalars text) (scalar_from_IsScalarValue c h.0) (scalars_from_IsText text h.1)
+    grind (arith, and_from (scalar c) (scalars text), scalar_from_IsScalarValue, scalars_from_IsText text)
 
 -- The characters of UTF-8 are the text of which it is the UTF-8.
 pub IsUtf8Of_chars : (bytes : List ℕ) → IsUtf8 bytes → IsUtf8Of (chars bytes) bytes
@@ -42,8 +39,7 @@ IsUtf8Of_chars bytes h =
 
 -- The same, where the bytes have another name.
 pub IsUtf8Of_chars_at : (bytes text : List ℕ) → text ≡ bytes → IsUtf8 bytes → IsUtf8Of (chars text) bytes
-IsUtf8Of_chars_at bytes text same is_utf8 =
-    subst (λ bs. IsUtf8Of (chars bs) bytes) (sym same) (IsUtf8Of_chars bytes is_utf8)
+IsUtf8Of_chars_at bytes text same is_utf8 = rw same (IsUtf8Of_chars bytes is_utf8)
 
 -- The UTF-8 of a text is UTF-8.
 pub IsUtf8_utf8 : (text : List ℕ) → IsText text → IsUtf8 (utf8 text)
@@ -56,9 +52,8 @@ chars_utf8 text h = rw (utf8_encodes text) (chars-encodes text (scalars_from_IsT
 -- The whole of it: bytes are std's UTF-8 exactly where they are the UTF-8 of some text.
 pub std_utf8 : (bytes : List ℕ) → IsUtf8 bytes ↔ ((text : List ℕ) × IsUtf8Of text bytes)
 std_utf8 bytes = (
-  (λ (is_utf8 : IsUtf8 bytes). (chars bytes, IsUtf8Of_chars bytes is_utf8)),
-  (λ (of_text : (text : List ℕ) × IsUtf8Of text bytes).
-      subst IsUtf8 of_text.1.1 (IsUtf8_utf8 of_text.0 of_text.1.0)),
+  λ is_utf8. (chars bytes, IsUtf8Of_chars bytes is_utf8),
+  λ of_text. rw of_text.1.1 at (IsUtf8_utf8 of_text.0 of_text.1.0),
 )
 
 -- So what std takes for no UTF-8 is the UTF-8 of no text.

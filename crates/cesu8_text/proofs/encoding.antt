@@ -1,5 +1,5 @@
--- Encodings: of one scalar value, of a text, how long, also in code units, and that only one text has
--- them.
+-- Encodings: of one scalar value, of a text, how long, also in code units, and that bytes begin with one
+-- character at most.
 pub mod Forms
 pub mod Encodings
 pub mod Lengths
@@ -7,7 +7,5 @@ pub mod EncodedLength
 pub mod UnitCount
 pub mod Patterns
 pub mod Found
-pub mod NoneFound
 pub mod Unique
 pub mod NeedsEncoding
-pub mod EncodedBytes

@@ -10,6 +10,7 @@ pub mod Cuttings
 pub mod Costs
 pub mod Splits
 pub mod EncodedTexts
+pub mod EncodedBytes
 pub mod LossyTexts
 pub mod Borrowing
 pub mod LossyBorrowing

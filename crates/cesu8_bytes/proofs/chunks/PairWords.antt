@@ -1,14 +1,14 @@
 -- The words by which a surrogate pair is found and written in UTF-8: its six bytes and two more.
 use Rattle.std.proofs.lemmas.Bool.Decides.{nat_tests}
 use Rattle.std.proofs.lemmas.Grind.{common_steps}
-use Rattle.std.proofs.Common.{◌≡◌, ℕ, true, ◌&&◌, ◌+◌, ◌*◌, ◌/◌, ◌%◌, ◌^◌, ◌<◌, ◌≤◌, [], ◌∷◌, refl, ap, ◌∙◌, arith, bit_and, eqb, leb, ltb, w32}
+use Rattle.std.proofs.Common.{◌≡◌, ℕ, ◌&&◌, ◌+◌, ◌*◌, ◌/◌, ◌%◌, ◌^◌, ◌<◌, ◌↔◌, List, [], ◌∷◌, get_or, refl, ap, ◌∙◌, arith, bit_and, eqb, leb, ltb, w32}
 use Rattle.std.specs.Int.{to_le_bytes}
-use Rattle.std.proofs.lemmas.Bool.{agree_below_at, eq-eqb, eqb-true, and_parts, and_from, le-leb, lt-ltb, leb-true, ltb-true}
+use Rattle.std.proofs.lemmas.Bool.{agree_below_at, eq-eqb, eqb-true}
 use Rattle.std.proofs.lemmas.Nat.{and_mask, and_block, and_le_r}
 use Rattle.cesu8_text.specs.Text.{utf8_of}
-use Rattle.cesu8_text.specs.Patterns.{EndsPair}
-use Rattle.cesu8_bytes.specs.Pairs.{word_of}
+use Rattle.cesu8_bytes.specs.Pairs.{HasPair, word_of}
 use Rattle.cesu8_text.proofs.text.Shapes.{IsPair, utf8_of_pair}
+use Rattle.cesu8_bytes.proofs.lists.Classes.{continues_by_bits}
 
 -- a word's mask is that of each of its bytes
 masked : (a b d e g h more : ℕ) → a < 0x100 → b < 0x100 → d < 0x100 → e < 0x100 → g < 0x100 → h < 0x100 →
@@ -17,9 +17,6 @@ masked : (a b d e g h more : ℕ) → a < 0x100 → b < 0x100 → d < 0x100 → 
 masked a b d e g h more a_byte b_byte d_byte e_byte g_byte h_byte =
     let whole : word_of a b d e g h more
     ≡ more * 2 ^ 48 + (h * 2 ^ 40 + (g * 2 ^ 32 + (e * 2 ^ 24 + (d * 2 ^ 16 + (b * 2 ^ 8 + a))))) = omega arith in
-    let all_a : bit_and a 0xFF ≡ a = omega (arith, and_mask a 8) in
-    let all_e : bit_and e 0xFF ≡ e = omega (arith, and_mask e 8) in
-    let none : bit_and more 0 ≡ 0 = omega (arith, and_le_r more 0) in
     rw (
       whole,
       and_block 48 more 0 (h * 2 ^ 40 + (g * 2 ^ 32 + (e * 2 ^ 24 + (d * 2 ^ 16 + (b * 2 ^ 8 + a))))) 0xC0F0FFC0F0FF (omega arith) (omega arith),
@@ -28,44 +25,28 @@ masked a b d e g h more a_byte b_byte d_byte e_byte g_byte h_byte =
       and_block 24 e 0xFF (d * 2 ^ 16 + (b * 2 ^ 8 + a)) 0xC0F0FF (omega arith) (omega arith),
       and_block 16 d 0xC0 (b * 2 ^ 8 + a) 0xF0FF (omega arith) (omega arith),
       and_block 8 b 0xF0 a 0xFF (omega arith) (omega arith),
-      all_a,
-      all_e,
-      none,
-    ) (omega arith)
+    ) (omega (arith, and_mask a 8, and_mask e 8, and_le_r more 0))
 
 -- a mask tests a range
-continuation_test : (x : ℕ) → x < 0x100 → eqb (bit_and x 0xC0) 0x80 ≡ (leb 0x80 x && ltb x 0xC0)
-continuation_test x h = agree_below_at (λ x. eqb (bit_and x 0xC0) 0x80) (λ x. leb 0x80 x && ltb x 0xC0) 0x100 x refl h
-
 low_surrogate_test : (x : ℕ) → x < 0x100 → eqb (bit_and x 0xF0) 0xB0 ≡ (leb 0xB0 x && ltb x 0xC0)
 low_surrogate_test x h = agree_below_at (λ x. eqb (bit_and x 0xF0) 0xB0) (λ x. leb 0xB0 x && ltb x 0xC0) 0x100 x refl h
 
 high_surrogate_test : (x : ℕ) → x < 0x100 → eqb (bit_and x 0xF0) 0xA0 ≡ (leb 0xA0 x && ltb x 0xB0)
 high_surrogate_test x h = agree_below_at (λ x. eqb (bit_and x 0xF0) 0xA0) (λ x. leb 0xA0 x && ltb x 0xB0) 0x100 x refl h
 
-between : (low high x : ℕ) → (leb low x && ltb x high) ≡ true → (low ≤ x) × (x < high)
-between low high x passes =
-    let parts = and_parts (leb low x) (ltb x high) passes in
-    (leb-true low x parts.0, ltb-true x high parts.1)
-
--- The six bytes of a surrogate pair, if their word passes the test.
-pub record IsPairBytes (a b d e g h : ℕ) : Type 0 where
-  pub lead : a ≡ 0xED
-  pub high : (0xA0 ≤ b) × (b < 0xB0)
-  pub ends : EndsPair d e g h
-
-pub word_is_pair : (a b d e g h more : ℕ) → a < 0x100 → b < 0x100 → d < 0x100 → e < 0x100 → g < 0x100 → h < 0x100 →
-    bit_and (word_of a b d e g h more) 0xC0F0FFC0F0FF
-    ≡ 0x80B0ED80A0ED → IsPairBytes a b d e g h
-word_is_pair a b d e g h more a_byte b_byte d_byte e_byte g_byte h_byte passes = grind (arith, nat_tests, common_steps, and_le_r, between, continuation_test, eq-eqb, high_surrogate_test, low_surrogate_test, masked)
-
-within : (low high x : ℕ) → (low ≤ x) × (x < high) → (leb low x && ltb x high) ≡ true
-within low high x inside = and_from (leb low x) (ltb x high) (le-leb low x inside.0) (lt-ltb x high inside.1)
-
--- The word of these bytes passes.
-pub pair_is_word : (a b d e g h more : ℕ) → a < 0x100 → b < 0x100 → d < 0x100 → e < 0x100 → g < 0x100 → h < 0x100 →
-    IsPairBytes a b d e g h → bit_and (word_of a b d e g h more) 0xC0F0FFC0F0FF ≡ 0x80B0ED80A0ED
-pair_is_word a b d e g h more a_byte b_byte d_byte e_byte g_byte h_byte pair = grind (arith, nat_tests, common_steps, continuation_test, eqb-true, high_surrogate_test, low_surrogate_test, masked, within)
+-- The word of bytes passes the test exactly where they begin with a surrogate pair.
+pub word_tells : (bytes : List ℕ) (more : ℕ) → ((i : ℕ) → get_or bytes i 0 < 0x100) →
+    (bit_and (word_of (get_or bytes 0 0) (get_or bytes 1 0) (get_or bytes 2 0) (get_or bytes 3 0) (get_or bytes 4 0) (get_or bytes 5 0) more) 0xC0F0FFC0F0FF
+    ≡ 0x80B0ED80A0ED) ↔ HasPair bytes
+word_tells bytes more byte =
+    let is = masked _ _ _ _ _ _ more (byte 0) (byte 1) (byte 2) (byte 3) (byte 4) (byte 5) in
+    let second = high_surrogate_test _ (byte 1) in
+    let third = continues_by_bits _ (byte 2) in
+    let fifth = low_surrogate_test _ (byte 4) in
+    let last = continues_by_bits _ (byte 5) in (
+      (λ passes. grind (arith, nat_tests, common_steps, and_le_r, eq-eqb, byte, is, second, third, fifth, last)),
+      (λ pair. grind (arith, nat_tests, common_steps, eqb-true, byte, is, second, third, fifth, last)),
+    )
 
 -- The word of the UTF-8 that is written for the word of a surrogate pair.
 abbrev utf8_word : ℕ → ℕ
@@ -90,51 +71,33 @@ module _ (a w x e y z more : ℕ) (a_byte : a < 0x100) (w_low : w < 0x10) (x_low
       let high = (0x80 + x) / 4 + e * 0x40 + (0xB0 + y) * 0x4000 + (0x80 + z) * 0x400000 + more * 0x40000000 in
       let low = (0xA1 + w) / 4 + x % 4 * 0x40 in
       let parts : word / 2 ^ 10 ≡ high * 2 ^ 8 + low = omega arith in
-      let x_is : bit_and high 0x0F ≡ x / 4 = omega (arith, and_mask high 4) in
-      let w_is : bit_and low 7 ≡ (w + 1) / 4 = omega (arith, and_mask low 3) in
-      rw (parts, and_block 8 high 0x0F low 7 (omega arith) (omega arith), x_is, w_is) (omega arith)
+      rw (parts, and_block 8 high 0x0F low 7 (omega arith) (omega arith)) (omega (arith, and_mask high 4, and_mask low 3))
 
   by_four : bit_and word 0x30300 ≡ (w + 1) % 4 * 0x100 + x % 4 * 0x10000
   by_four =
       let high = (0x80 + x) + e * 0x100 + (0xB0 + y) * 0x10000 + (0x80 + z) * 0x1000000 + more * 0x100000000 in
       let parts : word ≡ high * 2 ^ 16 + ((0xA1 + w) * 2 ^ 8 + a) = omega arith in
-      let x_is : bit_and high 3 ≡ x % 4 = omega (arith, and_mask high 2) in
-      let w_is : bit_and (0xA1 + w) 3 ≡ (w + 1) % 4 = omega (arith, and_mask (0xA1 + w) 2) in
-      let none : bit_and a 0 ≡ 0 = omega (arith, and_le_r a 0) in
       rw (
         parts,
         and_block 16 high 3 ((0xA1 + w) * 2 ^ 8 + a) 0x300 (omega arith) (omega arith),
         and_block 8 (0xA1 + w) 3 a 0 (omega arith) (omega arith),
-        x_is,
-        w_is,
-        none,
-      ) (omega arith)
+      ) (omega (arith, and_mask high 2, and_mask (0xA1 + w) 2, and_le_r a 0))
 
   by_sixteen : bit_and (word / 2 ^ 16) 0x3F0F0000 ≡ y * 0x10000 + z * 0x1000000
   by_sixteen =
       let high = (0x80 + z) + more * 0x100 in
       let low = (0x80 + x) + e * 0x100 in
       let parts : word / 2 ^ 16 ≡ high * 2 ^ 24 + ((0xB0 + y) * 2 ^ 16 + low) = omega arith in
-      let z_is : bit_and high 0x3F ≡ z = omega (arith, and_mask high 6) in
-      let y_is : bit_and (0xB0 + y) 0x0F ≡ y = omega (arith, and_mask (0xB0 + y) 4) in
-      let none : bit_and low 0 ≡ 0 = omega (arith, and_le_r low 0) in
       rw (
         parts,
         and_block 24 high 0x3F ((0xB0 + y) * 2 ^ 16 + low) 0x0F0000 (omega arith) (omega arith),
         and_block 16 (0xB0 + y) 0x0F low 0 (omega arith) (omega arith),
-        z_is,
-        y_is,
-        none,
-      ) (omega arith)
+      ) (omega (arith, and_mask high 6, and_mask (0xB0 + y) 4, and_le_r low 0))
 
 -- Its bytes are the UTF-8 of the character.
 pub utf8_word_is : (c w x y z a e more word : ℕ) → IsPair c w x y z → a < 0x100 → e < 0x100 → more < 0x10000 →
     word ≡ word_of a (0xA0 + w) (0x80 + x) e (0xB0 + y) (0x80 + z) more → to_le_bytes w32 (utf8_word word) ≡ utf8_of c
 utf8_word_is c w x y z a e more word digits a_byte e_byte more_low word_is =
-    let w_low = digits.first in
-    let x_low = digits.second in
-    let y_low = digits.third in
-    let z_low = digits.last in
     let next : (word + 0x100) % 2 ^ 64 ≡ word_of a (0xA1 + w) (0x80 + x) e (0xB0 + y) (0x80 + z) more = omega arith in
     let moved : ((w + 1) % 4 * 0x100 + x % 4 * 0x10000) * 2 ^ 4 % 2 ^ 64 ≡ (w + 1) % 4 * 0x1000 + x % 4 * 0x100000 = omega arith in
     let flat : 0x808080F0 + ((w + 1) / 4 + x / 4 * 0x100) + ((w + 1) % 4 * 0x1000 + x % 4 * 0x100000) + (y * 0x10000 + z * 0x1000000)
@@ -142,9 +105,9 @@ utf8_word_is c w x y z a e more word digits a_byte e_byte more_low word_is =
     omega arith in
     rw (
       next,
-      by_ten a w x e y z more a_byte w_low x_low e_byte y_low z_low,
-      by_four a w x e y z more a_byte w_low x_low e_byte y_low z_low,
-      by_sixteen a w x e y z more a_byte w_low x_low e_byte y_low z_low,
+      by_ten a w x e y z more a_byte digits.first digits.second e_byte digits.third digits.last,
+      by_four a w x e y z more a_byte digits.first digits.second e_byte digits.third digits.last,
+      by_sixteen a w x e y z more a_byte digits.first digits.second e_byte digits.third digits.last,
       moved,
       utf8_of_pair c w x y z digits,
     ) (ap (to_le_bytes w32) flat ∙ bytes_of_word _ _ _ _ (omega arith) (omega arith) (omega arith) (omega arith))

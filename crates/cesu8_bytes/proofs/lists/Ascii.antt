@@ -1,14 +1,15 @@
 -- ASCII: bytes of which none is 80 (hexadecimal) or more.
-use Rattle.std.proofs.Common.{◌≡◌, ◌∙◌, ℕ, Bool, true, false, not, ◌||◌, ◌<◌, ◌≤◌, List, refl, sym, ap, ⊎_elim, arith, leb, length, take, get_or}
+use Rattle.std.proofs.lemmas.Bool.Decides.{nat_tests}
+use Rattle.std.proofs.Common.{◌≡◌, ◌∙◌, ℕ, Bool, true, not, ◌||◌, ◌<◌, ◌≤◌, List, sym, ap, arith, leb, length, take, get_or}
 use Rattle.std.specs.List.{Any, prefix_len}
 use Rattle.std.specs.Str.{IsAscii}
-use Rattle.std.proofs.lemmas.Bool.{and_parts, both_ways, cases_lt, le-leb, leb-true, not-true, or_cases, or_left, or_right}
+use Rattle.std.proofs.lemmas.Bool.{both_ways, leb-false, false_from_ne_true, not-true, or_right}
 use Rattle.std.proofs.lemmas.List.{get_or_default, get_or-take, length-take}
 use Rattle.std.proofs.lemmas.List.Sums.{prefix_len-le-length, prefix_len_passes}
 use Rattle.std.proofs.lemmas.Str.Ascii.{IsAscii-from_reads}
 use Rattle.cesu8_bytes.specs.Kernels.{AnyIn}
 use Rattle.cesu8_text.specs.Encoding.{Flavor, Cesu8, Mutf8}
-use Rattle.cesu8_text.specs.Class.{is_four, is_null, IsChangedByte}
+use Rattle.cesu8_text.specs.Class.{is_null, IsChangedByte}
 
 -- 80 (hexadecimal) or more: what is not ASCII.
 abbrev pub is_non_ascii : ℕ → Bool
@@ -17,26 +18,17 @@ is_non_ascii b = leb 0x80 b
 -- Bytes are ASCII where none is 80 or more.
 pub ascii_of_none : (xs : List ℕ) → (AnyIn is_non_ascii xs → ⊥) → IsAscii xs
 ascii_of_none xs none = IsAscii-from_reads xs (length xs) (omega arith) (λ k inside.
-    ⊎_elim (λ low. low)
-    (λ high. absurd (none (k, get_or xs k 0, inside, get_or_default xs k (get_or xs k 0) 0 inside, le-leb 0x80 (get_or xs k 0) high)))
-    (cases_lt (get_or xs k 0) 128))
-
-second_suffices : (s t : Bool) → t ≡ true → (s || t) ≡ true
-second_suffices true t e = refl
-second_suffices false t e = e
+    leb-false 0x80 (get_or xs k 0) (false_from_ne_true _ (λ high.
+    none (k, get_or xs k 0, inside, get_or_default xs k (get_or xs k 0) 0 inside, high))))
 
 -- So are they where none is of another class either.
 pub ascii_of_neither : (other : ℕ → Bool) (xs : List ℕ) → (AnyIn (λ b. other b || is_non_ascii b) xs → ⊥) → IsAscii xs
 ascii_of_neither other xs none = ascii_of_none xs (λ any.
-    none (any.0, any.1, any.2, any.3, second_suffices (other any.1) (is_non_ascii any.1) any.4))
-
-four_is_other : (n b : ℕ) → n ≤ 0xF0 → is_four b ≡ true → leb n b ≡ true
-four_is_other n b low four = le-leb n b (omega (arith, low, leb-true 0xF0 b (and_parts _ _ four).0))
+    none (any.0, any.1, any.2, any.3, or_right (other any.1) (is_non_ascii any.1) any.4))
 
 changed_is_either : (f : Flavor) (n b : ℕ) → n ≤ 0xF0 → IsChangedByte f b → (is_null f b || leb n b) ≡ true
-changed_is_either Cesu8 n b low four = four_is_other n b low four
-changed_is_either Mutf8 n b low changed =
-    ⊎_elim (λ null. or_left _ _ null) (λ four. or_right _ _ (four_is_other n b low four)) (or_cases _ _ changed)
+changed_is_either Cesu8 n b low four = grind (arith, nat_tests)
+changed_is_either Mutf8 n b low changed = grind (arith, nat_tests)
 
 -- A byte that changes is a null that does, or F0 or more, and so a number below that or more.
 pub either_of_changed : (f : Flavor) (null : ℕ → Bool) → null ≡ is_null f → (n : ℕ) → n ≤ 0xF0 → (xs : List ℕ) →
@@ -48,10 +40,10 @@ either_of_changed f null is n low xs any =
 pub none_in_front : (class : ℕ → Bool) (xs : List ℕ) (n len run : ℕ) → run ≡ prefix_len (λ b. not (class b)) (take n xs) → len ≤ run →
     AnyIn class (take len xs) → ⊥
 none_in_front class xs n len run is enough any =
-    let before : any.0 < len = omega (arith, any.2, length-take len xs) in
-    let here : any.0 < n = omega (arith, before, enough, is, prefix_len-le-length (λ b. not (class b)) (take n xs), length-take n xs) in
+    let before : any.0 < len = omega (arith, length-take len xs) in
+    let here : any.0 < n = omega (arith, prefix_len-le-length (λ b. not (class b)) (take n xs), length-take n xs) in
     let same : get_or (take n xs) any.0 any.1 ≡ any.1 =
     get_or-take n xs any.0 any.1 here ∙ sym (get_or-take len xs any.0 any.1 before) ∙ any.3 in
     both_ways (class any.1)
     (not-true _ (ap (λ b. not (class b)) (sym same)
-    ∙ prefix_len_passes (λ b. not (class b)) (take n xs) any.0 any.1 (omega (arith, before, enough, is)))) any.4
+    ∙ prefix_len_passes (λ b. not (class b)) (take n xs) any.0 any.1 (omega arith))) any.4

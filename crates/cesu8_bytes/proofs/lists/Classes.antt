@@ -1,5 +1,5 @@
 -- Vectors that mark the bytes of a class.
-use Rattle.std.proofs.Common.{◌≡◌, ℕ, Bool, true, false, not, cond, ◌||◌, ◌&&◌, ◌%◌, ◌^◌, ◌≤◌, ◌<◌, List, [], ◌∷◌, map, length, replicate, eqb, leb, ltb, refl, ap, ◌∙◌, subst, arith, bit_and, bit_or, w8, Fits}
+use Rattle.std.proofs.Common.{◌≡◌, ℕ, Bool, false, not, cond, ◌||◌, ◌&&◌, ◌%◌, ◌^◌, ◌≤◌, ◌<◌, List, map, length, replicate, eqb, leb, ltb, refl, ap, ◌∙◌, arith, bit_and, bit_or, w8, Fits}
 use Rattle.std.specs.Prelude.{ℤ}
 use Rattle.std.proofs.lemmas.Bool.{agree_below_at}
 use Rattle.std.proofs.lemmas.List.{length-map}
@@ -8,15 +8,14 @@ use lib.Lanes.{zip2, sel_l, mask_l, top, Each1}
 use mir.Val.{to_z, of_z}
 use Rattle.cesu8_text.specs.Class.{is_four}
 use Rattle.cesu8_bytes.specs.Kernels.{lane}
-use Rattle.cesu8_bytes.proofs.lists.Lanes.{ones, equal, below, map_agree}
+use Rattle.cesu8_bytes.proofs.lists.Lanes.{ones, equal, below, map_agree, chosen_of}
 
 -- the lanes of the mask that marks the bytes of a class
 abbrev pub marks_of : (ℕ → Bool) → List ℕ → List ℤ
 marks_of class bytes = map (λ b. lane (class b)) bytes
 
 lane_of_ones : (t : Bool) → to_z w8 (ones t) ≡ lane t
-lane_of_ones true = refl
-lane_of_ones false = refl
+lane_of_ones t = grind arith
 
 -- Lanes that are all ones where the byte is of a class are its mask.
 pub marked : (class : ℕ → Bool) (bytes lanes : List ℕ) → lanes ≡ map (λ b. ones (class b)) bytes → map (to_z w8) lanes ≡ marks_of class bytes
@@ -77,11 +76,8 @@ either_marks p q bytes ps qs of_p of_q =
     ∙ map_agree _ _ bytes (Each1-all (λ b. bit_or (of_z w8 (lane (p b))) (of_z w8 (lane (q b))) ≡ ones (p b || q b)) (λ b. either_ones (p b) (q b)) bytes)
     )
 
-or_ones : (s t : Bool) → bit_or (ones s) (ones t) ≡ ones (s || t)
-or_ones s t = grind arith
-
-and_ones : (s t : Bool) → bit_and (ones s) (ones t) ≡ ones (s && t)
-and_ones s t = grind arith
+range_ones : (s t u : Bool) → bit_or (ones s) (bit_and (ones t) (ones u)) ≡ ones (s || (t && u))
+range_ones s t u = grind arith
 
 -- Three comparisons mark the bytes that are below one number, or from a second on below a third.
 pub range_marks : (x y z n : ℕ) (bytes : List ℕ) → length bytes ≡ n →
@@ -95,12 +91,11 @@ range_marks x y z n bytes long =
     (zip2_of_maps bit_and (λ b. ones (leb y b)) (λ b. ones (ltb b z)) bytes
     (zip2_splat_left (λ a b. ones (leb a b)) y n bytes long) (zip2_splat below bytes n z long))
     ∙ map_agree _ _ bytes (Each1-all (λ b. bit_or (ones (ltb b x)) (bit_and (ones (leb y b)) (ones (ltb b z))) ≡ ones (ltb b x || (leb y b && ltb b z)))
-    (λ b. ap (bit_or (ones (ltb b x))) (and_ones (leb y b) (ltb b z)) ∙ or_ones (ltb b x) (leb y b && ltb b z)) bytes)
+    (λ b. range_ones (ltb b x) (leb y b) (ltb b z)) bytes)
     )
 
 top_of_lane : (t : Bool) → top 7 (of_z w8 (lane t)) ≡ t
-top_of_lane true = refl
-top_of_lane false = refl
+top_of_lane t = grind arith
 
 -- The highest bits of the marks tell of each byte whether it is of the class.
 tops_of_marks : (p : ℕ → Bool) (bytes : List ℕ) (marks : List ℤ) → marks ≡ marks_of p bytes →
@@ -112,17 +107,11 @@ pub bits_of_marks : (p : ℕ → Bool) (n : ℕ) (bytes : List ℕ) (marks : Lis
     mask_l (map (top 7) (map (of_z w8) marks)) % 2 ^ 64 ≡ mask_l (map p bytes)
 bits_of_marks p n bytes marks are long small =
     ap (λ ts. mask_l ts % 2 ^ 64) (tops_of_marks p bytes marks are)
-    ∙ mask_l-mod (map p bytes) 64 (omega (arith, long, small, length-map bytes p))
-
-chosen_of : (p : ℕ → Bool) (some other : ℕ) (bytes : List ℕ) →
-    sel_l (map p bytes) (replicate (length bytes) some) (replicate (length bytes) other) ≡ map (λ b. cond (p b) some other) bytes
-chosen_of p some other [] = refl
-chosen_of p some other (b ∷ bytes) = ap (λ l. cond (p b) some other ∷ l) (chosen_of p some other bytes)
+    ∙ mask_l-mod (map p bytes) 64 (omega (arith, length-map bytes p))
 
 -- Marks choose between two numbers.
 pub chosen_by_marks : (p : ℕ → Bool) (n some other : ℕ) (bytes : List ℕ) (marks : List ℤ) → marks ≡ marks_of p bytes → length bytes ≡ n →
     sel_l (map (top 7) (map (of_z w8) marks)) (replicate n some) (replicate n other) ≡ map (λ b. cond (p b) some other) bytes
 chosen_by_marks p n some other bytes marks are long =
     ap (λ ts. sel_l ts (replicate n some) (replicate n other)) (tops_of_marks p bytes marks are)
-    ∙ subst (λ k. sel_l (map p bytes) (replicate k some) (replicate k other) ≡ map (λ b. cond (p b) some other) bytes) long
-    (chosen_of p some other bytes)
+    ∙ chosen_of p n some other bytes long

@@ -1,12 +1,11 @@
 -- What the first difference of two lists tells, and what vectors tell of it.
-use Rattle.std.proofs.Common.{◌≡◌, ◌≢◌, ℕ, Bool, false, not, cond, List, [], ◌∷◌, ◌++◌, map, take, length, get_or, eqb, min, zero, suc, Less, Equal, Greater, refl, sym, ap, ◌∙◌, ◌+◌, ◌<◌, ◌≤◌, ◌^◌, ◌%◌, ◌/◌, ◌*◌, ◌-◌, subst, ◌⊎◌, inl, inr, ⊎_elim, arith, w8, Fits}
+use Rattle.std.proofs.Common.{◌≡◌, ◌≢◌, ℕ, Bool, false, not, cond, List, [], ◌∷◌, ◌++◌, map, take, length, get_or, eqb, min, zero, suc, refl, sym, ap, ◌∙◌, ◌+◌, ◌<◌, ◌≤◌, ◌^◌, ◌%◌, ◌-◌, ◌⊎◌, ⊎_elim, arith, w8, Fits}
 use Rattle.std.specs.List.{prefix_len, All}
-use Rattle.std.specs.Ordering.{nat_cmp, ordering_then}
-use Rattle.std.specs.Cmp.{nat_cmp_is}
+use Rattle.std.specs.Ordering.{nat_cmp}
 use Rattle.std.specs.Cmp.Lexicographic.{slice_cmp}
 use Rattle.std.specs.Str.{chars, IsUtf8}
 use Rattle.std.proofs.Math.ListN.{get_or-eq_default}
-use Rattle.std.proofs.lemmas.Bool.{cases_lt, cases_order, not-true, not-false, eqb-true, eqb-false}
+use Rattle.std.proofs.lemmas.Bool.{cases_lt, not-true, not-false, eqb-true, eqb-false}
 use Rattle.std.proofs.lemmas.Bool.Decides.{nat_tests}
 use Rattle.std.proofs.lemmas.List.{get_or-take, get_or-append-add, length-take, map-id}
 use Rattle.std.proofs.lemmas.List.Elements.{All-nil, All-cons, All-append, All-get_or}
@@ -24,7 +23,7 @@ pub word_fits : (bytes prefix rest word : List ℕ) → ((i : ℕ) → Fits w8 (
     (i : ℕ) → get_or word i 0 < 0x100
 word_fits bytes prefix rest word fits bytes_are word_is i = rw word_is (⊎_elim
     (λ (l : i < 8). (let e = get_or-take 8 rest i 0 l ∙ sym (get_or-append-add prefix rest i 0) ∙ ap (λ bs. get_or bs (length prefix + i) 0) (sym bytes_are) in
-    omega (arith, e, (fits (length prefix + i)).fits)))
+    omega (arith, (fits (length prefix + i)).fits)))
     (λ (l : 8 ≤ i). omega (arith, get_or-eq_default (take 8 rest) 0 {n = i} (omega (arith, length-take 8 rest))))
     (cases_lt i 8))
 
@@ -34,38 +33,24 @@ pub compare_at : (f : ℕ → ℕ) (xs ys : List ℕ) (i : ℕ) → ((j : ℕ) �
     nat_cmp (f (get_or xs i 0)) (f (get_or ys i 0)) ≡ slice_cmp nat_cmp (map f xs) (map f ys)
 compare_at f [] ys i same long other_long differ = absurd (omega arith)
 compare_at f (x ∷ xs) [] i same long other_long differ = absurd (omega arith)
-compare_at f (x ∷ xs) (y ∷ ys) zero same long other_long differ = by (cases_order (f x) (f y))
-  where
-    by : (f x ≡ f y) ⊎ ((f x < f y) ⊎ (f y < f x)) →
-        nat_cmp (f x) (f y) ≡ ordering_then (nat_cmp (f x) (f y)) (slice_cmp nat_cmp (map f xs) (map f ys))
-    by (inl equal) = absurd (differ equal)
-    by (inr (inl less)) = rw (sym (nat_cmp_is (f x) (f y) Less less)) refl
-    by (inr (inr greater)) = rw (sym (nat_cmp_is (f x) (f y) Greater greater)) refl
+compare_at f (x ∷ xs) (y ∷ ys) zero same long other_long differ = grind (arith, nat_tests)
 compare_at f (x ∷ xs) (y ∷ ys) (suc i) same long other_long differ =
-    compare_at f xs ys i (λ j before. same (suc j) (omega arith)) (omega arith) (omega arith) differ
-    ∙ ap (λ o. ordering_then o (slice_cmp nat_cmp (map f xs) (map f ys))) (nat_cmp_is (f x) (f y) Equal (ap f (same 0 (omega arith))))
+    grind (arith, nat_tests, same 0 (omega arith), compare_at f xs ys i (λ j before. same (suc j) (omega arith)) (omega arith) (omega arith) differ)
 
 -- If there are none, the lengths decide.
 pub compare_lengths : (f : ℕ → ℕ) (xs ys : List ℕ) (i : ℕ) → ((j : ℕ) → j < i → get_or xs j 0 ≡ get_or ys j 0) →
     (length xs ≤ i) ⊎ (length ys ≤ i) →
     nat_cmp (length xs) (length ys) ≡ slice_cmp nat_cmp (map f xs) (map f ys)
 compare_lengths f [] [] i same ended = refl
-compare_lengths f [] (y ∷ ys) i same ended = sym (nat_cmp_is 0 (suc (length ys)) Less (omega arith))
-compare_lengths f (x ∷ xs) [] i same ended = sym (nat_cmp_is (suc (length xs)) 0 Greater (omega arith))
-compare_lengths f (x ∷ xs) (y ∷ ys) zero same ended = absurd (⊎_elim (λ (e : suc (length xs) ≤ 0). omega arith) (λ (e : suc (length ys) ≤ 0). omega arith) ended)
+compare_lengths f [] (y ∷ ys) i same ended = grind (arith, nat_tests)
+compare_lengths f (x ∷ xs) [] i same ended = grind (arith, nat_tests)
+compare_lengths f (x ∷ xs) (y ∷ ys) zero same ended = grind arith
 compare_lengths f (x ∷ xs) (y ∷ ys) (suc i) same ended =
-    longer
-    ∙ compare_lengths f xs ys i (λ j before. same (suc j) (omega arith))
-    (⊎_elim (λ (e : suc (length xs) ≤ suc i). inl (omega arith)) (λ (e : suc (length ys) ≤ suc i). inr (omega arith)) ended)
-    ∙ ap (λ o. ordering_then o (slice_cmp nat_cmp (map f xs) (map f ys))) (nat_cmp_is (f x) (f y) Equal (ap f (same 0 (omega arith))))
-  where
-    longer : nat_cmp (suc (length xs)) (suc (length ys)) ≡ nat_cmp (length xs) (length ys)
-    longer = grind (arith, nat_tests)
+    grind (arith, nat_tests, same 0 (omega arith), compare_lengths f xs ys i (λ j before. same (suc j) (omega arith)) (grind arith))
 
 -- Up to the length of the shorter list one has ended.
 pub ended : (n m least i : ℕ) → least ≡ min n m → least ≤ i → (n ≤ i) ⊎ (m ≤ i)
-ended n m least i is reached =
-    ⊎_elim (λ (less : n < m). inl (omega (arith, is, reached, less))) (λ (more : m ≤ n). inr (omega (arith, is, reached, more))) (cases_lt n m)
+ended n m least i is reached = grind arith
 
 -- The lanes in which two vectors differ.
 abbrev pub differ : ℕ → ℕ → List ℕ → List ℕ → List Bool
@@ -79,28 +64,25 @@ module _ (at n : ℕ) (xs ys : List ℕ) (long : at + n ≤ length xs) (other_lo
 
   differ_at : (i : ℕ) → i < n → get_or (differ at n xs ys) i false ≡ not (eqb (get_or xs (at + i) 0) (get_or ys (at + i) 0))
   differ_at i inside =
-      get_or-zip2 (λ a b. not (eqb a b)) (chunk at n xs) (chunk at n ys) i 0 0 false
-      (omega (arith, inside, length-chunk at n xs long)) (omega (arith, inside, length-chunk at n ys other_long))
-      ∙ ap (λ a. not (eqb a (get_or (chunk at n ys) i 0))) (get_or-chunk at n xs i 0 inside)
-      ∙ ap (λ b. not (eqb (get_or xs (at + i) 0) b)) (get_or-chunk at n ys i 0 inside)
+      grind (arith, length-chunk, get_or-chunk, get_or-zip2 (λ a b. not (eqb a b)) (chunk at n xs) (chunk at n ys) i 0 0 false)
 
   -- The lanes before the first such one are the same,
   pub same_before : (run : ℕ) → run ≡ prefix_len (λ b. not b) (differ at n xs ys) → (i : ℕ) → i < run →
       get_or xs (at + i) 0 ≡ get_or ys (at + i) 0
   same_before run is i before =
-      let inside : i < n = omega (arith, before, is, prefix_len-le-length (λ b. not b) (differ at n xs ys), differ_long) in
+      let inside : i < n = omega (arith, prefix_len-le-length (λ b. not b) (differ at n xs ys), differ_long) in
       eqb-true _ _ (not-false _ (sym (differ_at i inside)
-      ∙ not-true _ (prefix_len_passes (λ b. not b) (differ at n xs ys) i false (omega (arith, before, is)))))
+      ∙ not-true _ (prefix_len_passes (λ b. not b) (differ at n xs ys) i false (omega arith))))
 
   -- and that one differs.
   pub differs_there : (run : ℕ) → run ≡ prefix_len (λ b. not b) (differ at n xs ys) → run < n →
       get_or xs (at + run) 0 ≢ get_or ys (at + run) 0
   differs_there run is inside =
       eqb-false _ _ (not-true _ (sym (differ_at run inside) ∙ ap (λ k. get_or (differ at n xs ys) k false) is
-      ∙ not-false _ (prefix_len_stops (λ b. not b) (differ at n xs ys) false (omega (arith, inside, is, differ_long)))))
+      ∙ not-false _ (prefix_len_stops (λ b. not b) (differ at n xs ys) false (omega (arith, differ_long)))))
 
   pub run_within : (run : ℕ) → run ≡ prefix_len (λ b. not b) (differ at n xs ys) → run ≤ n
-  run_within run is = omega (arith, is, prefix_len-le-length (λ b. not b) (differ at n xs ys), differ_long)
+  run_within run is = omega (arith, prefix_len-le-length (λ b. not b) (differ at n xs ys), differ_long)
 
   abbrev pub marks : ℕ
   marks = mask_l (map (top 7) (zip2 (λ a b. cond (not (eqb a b)) 255 0) (chunk at n xs) (chunk at n ys))) % 2 ^ 64
@@ -109,7 +91,7 @@ module _ (at n : ℕ) (xs ys : List ℕ) (long : at + n ≤ length xs) (other_lo
   marks_are : n ≤ 64 → marks ≡ mask_l (differ at n xs ys)
   marks_are few =
       ap (λ ms. mask_l ms % 2 ^ 64) (tops_compared w8 (λ a b. not (eqb a b)) (chunk at n xs) (chunk at n ys))
-      ∙ mask_l-mod (differ at n xs ys) 64 (omega (arith, few, differ_long))
+      ∙ mask_l-mod (differ at n xs ys) 64 (omega (arith, differ_long))
 
   -- so its first one tells the first that differs.
   pub first_of_marks : n ≤ 64 → cond (eqb marks 0) n (count_trailing_zeros 64 marks) ≡ prefix_len (λ b. not b) (differ at n xs ys)
@@ -120,35 +102,14 @@ module _ (at n : ℕ) (xs ys : List ℕ) (long : at + n ≤ length xs) (other_lo
 -- Where two lists are the same up to an index, and from one that is no greater, they are both.
 pub same_further : (xs ys : List ℕ) (known at more : ℕ) → at ≤ known → ((i : ℕ) → i < known → get_or xs i 0 ≡ get_or ys i 0) →
     ((i : ℕ) → i < more → get_or xs (at + i) 0 ≡ get_or ys (at + i) 0) → (i : ℕ) → i < at + more → get_or xs i 0 ≡ get_or ys i 0
-same_further xs ys known at more covered same later i before =
-    ⊎_elim (λ (l : i < known). same i l)
-    (λ (l : known ≤ i).
-    let there : at + (i - at) ≡ i = omega (arith, covered, l) in
-    subst (λ k. get_or xs k 0 ≡ get_or ys k 0) there (later (i - at) (omega (arith, covered, l, before)))) (cases_lt i known)
+same_further xs ys known at more covered same later i before = grind (arith, same i, later (i - at))
 
 -- A byte of UTF-8 is below F8 (hexadecimal).
-low_last : (b : ℕ) → b < 0xF8 → All (λ b. b < 0xF8) (b ∷ [])
-low_last b low = All-cons (λ b. b < 0xF8) b [] low (All-nil (λ b. b < 0xF8))
-
 low_of : (c : ℕ) → Shape c → All (λ b. b < 0xF8) (utf8_of c)
-low_of c (one ascii) =
-    rw (utf8_of_one c ascii) (low_last c (omega arith))
-low_of c (two x y digits) =
-    rw (utf8_of_two c x y digits)
-    (All-cons (λ b. b < 0xF8) (0xC0 + x) ((0x80 + y) ∷ []) (omega arith) (low_last (0x80 + y) (omega arith)))
-low_of c (three x y z digits) =
-    rw (utf8_of_three c x y z digits)
-    (All-cons (λ b. b < 0xF8) (0xE0 + x) ((0x80 + y) ∷ (0x80 + z) ∷ []) (omega arith)
-    (All-cons (λ b. b < 0xF8) (0x80 + y) ((0x80 + z) ∷ []) (omega arith) (low_last (0x80 + z) (omega arith))))
-low_of c (pair w x y z digits) =
-    let a = 0xF0 + (w + 1) / 4 in
-    let b = 0x80 + ((w + 1) % 4 * 0x10 + x / 4) in
-    let d = 0x80 + (x % 4 * 0x10 + y) in
-    let e = 0x80 + z in
-    rw (utf8_of_pair c w x y z digits)
-    (All-cons (λ b. b < 0xF8) a (b ∷ d ∷ e ∷ []) (omega arith)
-    (All-cons (λ b. b < 0xF8) b (d ∷ e ∷ []) (omega arith)
-    (All-cons (λ b. b < 0xF8) d (e ∷ []) (omega arith) (low_last e (omega arith)))))
+low_of c (one ascii) = rw (utf8_of_one c ascii) (search (arith, All-cons, All-nil))
+low_of c (two x y digits) = rw (utf8_of_two c x y digits) (search (arith, All-cons, All-nil))
+low_of c (three x y z digits) = rw (utf8_of_three c x y z digits) (search (arith, All-cons, All-nil))
+low_of c (pair w x y z digits) = rw (utf8_of_pair c w x y z digits) (search (arith, All-cons, All-nil))
 
 low_in : (text : List ℕ) → IsText text → All (λ b. b < 0xF8) (utf8 text)
 low_in [] is_text = All-nil (λ b. b < 0xF8)

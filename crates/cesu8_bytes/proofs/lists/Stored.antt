@@ -18,7 +18,7 @@ vector_written at n lanes out end room = record {
 pub first_written : (run at n : ℕ) (bytes old new : List ℕ) → run ≤ length bytes → at ≤ length old → WritesAt bytes at old new n →
     WritesAt (take run bytes) at old new (at + run)
 first_written run at n bytes old new le room put = record {
-  bytes = sym (take-take (at + run) n new (omega (arith, le, put.end)))
+  bytes = sym (take-take (at + run) n new (omega arith))
       ∙ ap (take (at + run)) put.bytes
       ∙ ap (λ i. take (i + run) (take at old ++ bytes)) (sym (length-take-le at old room))
       ∙ take-append-add (take at old) bytes run;
@@ -47,16 +47,10 @@ ends_stored n bytes out many few room =
     let end_len = length-drop at bytes in
     let first_len = length-take-le n bytes many in
     let before : take at first ≡ take at bytes =
-    sym (take-take at n first (omega arith)) ∙ ap (take at) (take_more_put_chunk 0 out (take n bytes) n (omega (arith, first_len)) (omega arith))
-    ∙ take-take at n bytes (omega arith) in
-    let prefix : take len second ≡ bytes =
-    take_more_put_chunk at first end len (omega (arith, end_len)) (omega (arith, room, length-put_chunk 0 out (take n bytes)))
-    ∙ ap (λ bs. bs ++ end) before
-    ∙ take-append-drop at bytes in
-    let behind : drop len second ≡ drop len out =
-    behind_stored at len first end (omega (arith, end_len))
-    ∙ behind_stored 0 len out (take n bytes) (omega (arith, first_len)) in
-    sym (take-append-drop len second) ∙ ap (λ bs. bs ++ drop len second) prefix ∙ ap (λ bs. bytes ++ bs) behind
+    grind (arith, take-take at n first (omega arith), take-take at n bytes (omega arith), take_more_put_chunk 0 out (take n bytes) n (omega arith) (omega arith)) in
+    let prefix = take_more_put_chunk at first end len (omega arith) (omega (arith, length-put_chunk 0 out (take n bytes))) in
+    let behind = behind_stored at len first end (omega arith) ∙ behind_stored 0 len out (take n bytes) (omega arith) in
+    grind (arith, take-append-drop at bytes, take-append-drop len second, before, prefix, behind)
 
 -- Bytes that were appended, cut back to an index and appended again from there on, stand there once.
 pub appended_again : (before bytes : List ℕ) (at written n : ℕ) → at ≤ written →
@@ -68,7 +62,7 @@ pub written_behind : (first more old between new : List ℕ) (at end after : ℕ
     WritesAt (first ++ more) at old new after
 written_behind first more old between new at end after so_far next = record {
   bytes = next.bytes ∙ ap (λ bs. bs ++ more) so_far.bytes ∙ append_assoc (take at old) first more;
-  end = omega (arith, next.end, so_far.end, length-append first more);
+  end = omega (arith, length-append first more);
   len = next.len ∙ so_far.len;
 }
 

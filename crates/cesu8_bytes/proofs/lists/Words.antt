@@ -1,12 +1,13 @@
 -- Words as their bytes, the lowest first: a mask acts on each byte, and taking 1 from each byte tells
 -- whether one is 0.
-use Rattle.std.proofs.Common.{◌≡◌, ℕ, Bool, true, not, IsTrue, ◌+◌, ◌-◌, ◌*◌, ◌/◌, ◌%◌, ◌^◌, ◌<◌, ◌↔◌, ◌||◌, List, [], ◌∷◌, refl, sym, ap, ◌∙◌, subst, zero, suc, get_or, ⊎_elim, arith, bit_and, eqb, map}
+use Rattle.std.proofs.Common.{◌≡◌, ℕ, Bool, true, not, IsTrue, ◌+◌, ◌-◌, ◌*◌, ◌/◌, ◌%◌, ◌^◌, ◌<◌, ◌↔◌, ◌||◌, List, [], ◌∷◌, refl, sym, ap, ◌∙◌, subst, zero, suc, length, get_or, ⊎_elim, arith, bit_and, eqb, map}
 use Rattle.std.specs.List.{Any}
 use Rattle.std.specs.Int.{to_le_bytes, w64}
 use Rattle.std.specs.Int.Bits.{bit_xor, and_lt, and_zero_r}
 use Rattle.cesu8_text.specs.Class.{is_four, IsFour}
 use Rattle.cesu8_bytes.specs.Kernels.{AnyIn}
 use Rattle.std.proofs.lemmas.Bool.{agree_below_at, cases_eq, eqb-true, eqb-false, eq-eqb, ne_eqb, not-true, or_cases}
+use Rattle.std.proofs.lemmas.List.{get_or_default, get_or-map, length-map}
 use Rattle.std.proofs.lemmas.Nat.{and_block, xor_block, xor_of_8, le_bytes_8}
 use Rattle.cesu8_text.proofs.lists.Elements.{any_nil, any_here, any_there, any_cons}
 
@@ -41,10 +42,8 @@ marked d bytes = bit_and (bit_and d (inverted bytes)) (each 0x80 bytes)
 marked_cons : (d q r b : ℕ) (bytes : List ℕ) → d ≡ q * 2 ^ 8 + r → r < 2 ^ 8 →
     marked d (b ∷ bytes) ≡ marked q bytes * 2 ^ 8 + bit_and (bit_and r (0xFF - b)) 0x80
 marked_cons d q r b bytes e l =
-    ap (λ x. bit_and (bit_and x (inverted (b ∷ bytes))) (each 0x80 (b ∷ bytes))) e
-    ∙ ap (λ x. bit_and x (each 0x80 (b ∷ bytes))) (and_block 8 q (inverted bytes) r (0xFF - b) l (omega arith))
-    ∙ and_block 8 (bit_and q (inverted bytes)) (each 0x80 bytes) (bit_and r (0xFF - b)) 0x80
-    (and_lt 8 r (0xFF - b) l (omega arith)) (omega arith)
+    rw (e, and_block 8 q (inverted bytes) r (0xFF - b) l (omega arith))
+    (and_block 8 (bit_and q (inverted bytes)) (each 0x80 bytes) (bit_and r (0xFF - b)) 0x80 (and_lt 8 r (0xFF - b) l (omega arith)) (omega arith))
 
 -- a byte other than 0, less 1, has no high bit that the byte has not
 unmarked_byte : (b : ℕ) → b < 0x100 → (b ≡ 0 → ⊥) → bit_and (bit_and (b - 1) (0xFF - b)) 0x80 ≡ 0
@@ -61,21 +60,19 @@ IsMarked bytes = (d k : ℕ) → word_of bytes + above k bytes ≡ each 1 bytes 
 marks_zero : (b : ℕ) (bytes : List ℕ) → b < 0x100 → b ≡ 0 → IsMarked (b ∷ bytes)
 marks_zero b bytes l z d k e =
     let step = marked_cons d (d / 0x100) (d % 0x100) b bytes (omega arith) (omega arith) in
-    let r : d % 0x100 ≡ 0xFF = omega (arith, e) in
-    let i : 0xFF - b ≡ 0xFF = omega (arith, z) in
-    let low : bit_and (bit_and (d % 0x100) (0xFF - b)) 0x80 ≡ 0x80 =
-    ap (λ x. bit_and (bit_and x (0xFF - b)) 0x80) r ∙ ap (λ x. bit_and (bit_and 0xFF x) 0x80) i in
-    ((λ _. any_here (λ b. b ≡ 0) b bytes z), (λ _ none. omega (arith, step, low, none)))
+    let r : d % 0x100 ≡ 0xFF = omega arith in
+    let low : bit_and (bit_and (d % 0x100) (0xFF - b)) 0x80 ≡ 0x80 = rw (r, z) refl in
+    ((λ _. any_here (λ b. b ≡ 0) b bytes z), (λ _ none. omega arith))
 
 -- with another byte in front, which is not
 marks_later : (b : ℕ) (bytes : List ℕ) → b < 0x100 → (b ≡ 0 → ⊥) → IsMarked bytes → IsMarked (b ∷ bytes)
 marks_later b bytes l n h d k e =
     let step = marked_cons d (d / 0x100) (d % 0x100) b bytes (omega arith) (omega arith) in
-    let r : d % 0x100 ≡ b - 1 = omega (arith, e) in
+    let r : d % 0x100 ≡ b - 1 = omega arith in
     let low = ap (λ x. bit_and (bit_and x (0xFF - b)) 0x80) r ∙ unmarked_byte b l n in
-    let later = h (d / 0x100) k (omega (arith, e)) in (
-      (λ some. any_there (λ b. b ≡ 0) b bytes (later.0 (λ none. some (omega (arith, step, low, none))))),
-      (λ p none. ⊎_elim n (λ q. later.1 q (omega (arith, step, low, none))) (any_cons (λ b. b ≡ 0) b bytes p)),
+    let later = h (d / 0x100) k (omega arith) in (
+      (λ some. any_there (λ b. b ≡ 0) b bytes (later.0 (λ none. some (omega arith)))),
+      (λ p none. ⊎_elim n (λ q. later.1 q (omega arith)) (any_cons (λ b. b ≡ 0) b bytes p)),
     )
 
 -- Some byte is 0 exactly where the difference has a mark.
@@ -106,8 +103,8 @@ zero_test w l =
     let d = (w + 0xFEFEFEFEFEFEFEFF) % 2 ^ 64 in
     let bytes = to_le_bytes w64 w in
     let word = word_of_bytes w l in
-    let flipped : inverted bytes ≡ 0xFFFFFFFFFFFFFFFF - w = omega (arith, inverse bytes (are_bytes w), word) in
-    let tells = zero_marks bytes (are_bytes w) d (1 - (w + 0xFEFEFEFEFEFEFEFF) / 2 ^ 64) (omega (arith, word)) in
+    let flipped : inverted bytes ≡ 0xFFFFFFFFFFFFFFFF - w = omega (arith, inverse bytes (are_bytes w)) in
+    let tells = zero_marks bytes (are_bytes w) d (1 - (w + 0xFEFEFEFEFEFEFEFF) / 2 ^ 64) (omega arith) in
     let same : marked d bytes ≡ bit_and (bit_and d (0xFFFFFFFFFFFFFFFF - w)) 0x8080808080808080 =
     ap (λ x. bit_and (bit_and d x) 0x8080808080808080) flipped in (
       (λ t. tells.0 (λ none. eqb-false _ _ (not-true _ t) (sym same ∙ none))),
@@ -157,14 +154,18 @@ four_masked b l =
     ((λ e. sym same ∙ eq-eqb _ _ e), (λ t. eqb-true _ _ (same ∙ t)))
 
 fours_masked : (bytes : List ℕ) → AreBytes bytes → Any (λ b. b ≡ 0) (map masked bytes) ↔ Any IsFour bytes
-fours_masked [] h = ((λ p. absurd (any_nil (λ b. b ≡ 0) p)), (λ p. absurd (any_nil IsFour p)))
-fours_masked (b ∷ bytes) h =
-    let here = four_masked b h.0 in
-    let there = fours_masked bytes h.1 in (
-      (λ p. ⊎_elim (λ z. any_here IsFour b bytes (here.0 z)) (λ q. any_there IsFour b bytes (there.0 q))
-          (any_cons (λ b. b ≡ 0) (masked b) (map masked bytes) p)),
-      (λ p. ⊎_elim (λ f. any_here (λ b. b ≡ 0) (masked b) (map masked bytes) (here.1 f))
-          (λ q. any_there (λ b. b ≡ 0) (masked b) (map masked bytes) (there.1 q)) (any_cons IsFour b bytes p)),
+fours_masked bytes h =
+    let here = λ (i : ℕ). four_masked (get_or bytes i 0) (byte_at bytes h i) in
+    let long = length-map bytes masked in (
+      (λ p. let inside : p.0 < length bytes = omega (arith, p.2) in (
+        p.0,
+        _,
+        inside,
+        get_or_default bytes p.0 (get_or bytes p.0 0) 0 inside,
+        (here p.0).0 (sym (get_or-map masked bytes p.0 0 p.1 inside) ∙ p.3 ∙ p.4),
+      )),
+      (λ p. let same = sym (get_or_default bytes p.0 p.1 0 p.2) ∙ p.3 in
+          (p.0, 0, omega (arith, p.2), get_or-map masked bytes p.0 0 0 p.2 ∙ (here p.0).1 (ap is_four same ∙ p.4), refl)),
     )
 
 -- Some byte of a word is F0 to F7 where one of the masked word is 0.

@@ -1,6 +1,7 @@
 -- What bytes weigh: by parts, and by marks.
+use Rattle.std.proofs.lemmas.Bool.Decides.{nat_tests}
 use Rattle.std.proofs.lemmas.Grind.{common_steps}
-use Rattle.std.proofs.Common.{◌≡◌, ℕ, ◌+◌, ◌-◌, ◌*◌, ◌<◌, ◌≤◌, Bool, true, false, cond, List, [], ◌∷◌, length, map, take, drop, replicate, refl, sym, ap, ◌∙◌, subst, arith, count_by, sum_by, count_ones, ◌/◌, ◌^◌, Fits, w8, w32}
+use Rattle.std.proofs.Common.{◌≡◌, ℕ, ◌+◌, ◌*◌, ◌<◌, ◌≤◌, Bool, cond, List, [], ◌∷◌, length, map, take, drop, replicate, refl, sym, ap, ◌∙◌, subst, arith, count_by, sum_by, count_ones, ◌/◌, ◌^◌, Fits, w8, w32}
 use lib.Lanes.{zip2, sel_l, top, mask_l, sum_l, fold_l, chunk, products, dots, Each1, Each2, Steps}
 use mir.Val.{of_z}
 use Rattle.std.specs.Prelude.{ℤ}
@@ -13,22 +14,10 @@ use Rattle.cesu8_bytes.proofs.lists.Classes.{marks_of, chosen_by_marks}
 
 -- ---- what bytes add
 
-doubled_one : (t : Bool) → 2 * cond t 1 0 ≡ cond t 2 0
-doubled_one true = refl
-doubled_one false = refl
-
 -- Those of the class add one each, and those that lead four add two.
 pub weight_by_counts : (class : ℕ → Bool) (bytes : List ℕ) → count_by class bytes + 2 * count_by is_four bytes ≡ sum_by (weight_of class) bytes
 weight_by_counts class [] = refl
-weight_by_counts class (b ∷ bytes) =
-    omega (
-      arith,
-      sum_by-cons (λ b. cond (class b) 1 0) b bytes,
-      sum_by-cons (λ b. cond (is_four b) 1 0) b bytes,
-      sum_by-cons (weight_of class) b bytes,
-      doubled_one (is_four b),
-      weight_by_counts class bytes,
-    )
+weight_by_counts class (b ∷ bytes) = grind (arith, nat_tests, common_steps, sum_by-cons, weight_by_counts class bytes)
 
 -- If none adds more than two, all add at most twice their number.
 pub weight_bound : (class : ℕ → Bool) → ((b : ℕ) → weight_of class b ≤ 2) → (bytes : List ℕ) → sum_by (weight_of class) bytes ≤ 2 * length bytes
@@ -44,18 +33,9 @@ pub sum_by_chunk : (f : ℕ → ℕ) (n : ℕ) (xs chunk after : List ℕ) (so_f
 sum_by_chunk f n xs chunk after so_far here whole front back summed known =
     omega (arith, sum_by-take-drop f xs n, summed ∙ ap (sum_by f) front, ap (sum_by f) back)
 
--- The sum of the first n elements and that of the others make up the sum of all.
-pub sum_by_parts : (f : ℕ → ℕ) (xs : List ℕ) (n front back : ℕ) → front ≡ sum_by f (take n xs) → back ≡ sum_by f (drop n xs) →
-    front + back ≡ sum_by f xs
-sum_by_parts f xs n front back front_is back_is = omega (arith, front_is, back_is, sum_by-take-drop f xs n)
-
 -- With n elements more.
 pub sum_by_next : (f : ℕ → ℕ) (xs : List ℕ) (a n : ℕ) → sum_by f (take a xs) + sum_by f (chunk a n xs) ≡ sum_by f (take (a + n) xs)
 sum_by_next f xs a n = grind (arith, drop-drop, sum_by-take-drop)
-
--- The last n elements without those before the last k.
-pub last_of_last : {X : Type 0} (xs : List X) (n k : ℕ) → k ≤ n → n ≤ length xs → drop (n - k) (chunk (length xs - n) n xs) ≡ drop (length xs - k) xs
-last_of_last xs n k few within = grind (arith, common_steps)
 
 -- ---- bits of marks
 
@@ -69,17 +49,13 @@ bits_behind p xs n bits le is = grind (arith, drop-map, length-map, mask_rest, o
 abbrev pub ones : (ℕ → Bool) → List ℕ → List ℕ
 ones p xs = map (λ x. cond (p x) 1 0) xs
 
-one_low : (t : Bool) → cond t 1 0 ≤ 1
-one_low true = omega arith
-one_low false = omega arith
-
 ones_low : (p : ℕ → Bool) (xs : List ℕ) → Each1 (λ a. a ≤ 1) (ones p xs)
 ones_low p [] = tt
-ones_low p (x ∷ xs) = (one_low (p x), ones_low p xs)
+ones_low p (x ∷ xs) = (grind arith, ones_low p xs)
 
 ones_total : (p : ℕ → Bool) (xs : List ℕ) → sum_l (ones p xs) ≡ count_by p xs
 ones_total p [] = refl
-ones_total p (x ∷ xs) = ap (λ n. cond (p x) 1 0 + n) (ones_total p xs) ∙ sym (sum_by-cons (λ y. cond (p y) 1 0) x xs)
+ones_total p (x ∷ xs) = grind (arith, common_steps, ones_total p xs)
 
 -- After n vectors of a block each lane has counted at most n bytes, and all lanes those of the class.
 pub record HaveCounted (p : ℕ → Bool) (block : List ℕ) (n : ℕ) (lanes : List ℕ) : Type 0 where
@@ -104,35 +80,21 @@ module _ (p : ℕ → Bool) (block : List ℕ) (n : ℕ) (lanes : List ℕ) (mar
   -- A lane has room for one more.
   pub one_more_fits : n < 255 → Each2 (λ a b. Fits w8 (a + b)) lanes more
   one_more_fits few =
-      Each2-of (λ a. a ≤ n) (λ b. b ≤ 1) (λ a b. Fits w8 (a + b)) (λ a b h k. record { fits = omega (arith, h, k, few) }) lanes more have.low more_low
+      Each2-of (λ a. a ≤ n) (λ b. b ≤ 1) (λ a b. Fits w8 (a + b)) (λ a b h k. record { fits = omega arith }) lanes more have.low more_low
 
   total_more : sum_l (zip2 (λ a b. a + b) lanes more) ≡ count_by p (take (64 * n + 64) block)
   total_more =
-      let here = sum_by-take-drop (λ y. cond (p y) 1 0) block (64 * n) in
-      let next = sum_by-take-drop (λ y. cond (p y) 1 0) (drop (64 * n) block) 64 in
-      let past = sum_by-take-drop (λ y. cond (p y) 1 0) block (64 * n + 64) in
       let more_total : sum_l more ≡ count_by p (chunk (64 * n) 64 block) = ap sum_l ones_of_next ∙ ones_total p (chunk (64 * n) 64 block) in
-      omega (
-        arith,
-        sum-zip2 lanes more (have.long ∙ sym more_long),
-        have.total,
-        more_total,
-        here,
-        next,
-        past,
-        ap (count_by p) (drop-drop 64 (64 * n) block),
-      )
+      omega (arith, sum-zip2 lanes more (have.long ∙ sym more_long), sum_by_next (λ y. cond (p y) 1 0) block (64 * n) 64)
 
   -- One vector more is counted.
   pub counted_more : HaveCounted p block (n + 1) (zip2 (λ a b. a + b) lanes more)
-  counted_more =
-      let next : 64 * n + 64 ≡ 64 * (n + 1) = omega arith in
-      record {
-        long = length-zip2 (λ a b. a + b) lanes more (have.long ∙ sym more_long) ∙ have.long;
-        low = Each1-zip2 (λ a b. a + b) (λ a. a ≤ n + 1) lanes more
-            (Each2-of (λ a. a ≤ n) (λ b. b ≤ 1) (λ a b. a + b ≤ n + 1) (λ a b h k. omega (arith, h, k)) lanes more have.low more_low);
-        total = total_more ∙ ap (λ m. count_by p (take m block)) next;
-      }
+  counted_more = record {
+    long = length-zip2 (λ a b. a + b) lanes more (have.long ∙ sym more_long) ∙ have.long;
+    low = Each1-zip2 (λ a b. a + b) (λ a. a ≤ n + 1) lanes more
+        (Each2-of (λ a. a ≤ n) (λ b. b ≤ 1) (λ a b. a + b ≤ n + 1) (λ a b h k. omega arith) lanes more have.low more_low);
+    total = grind (arith, total_more);
+  }
 
 -- All vectors of a block have counted all that its bytes add.
 pub block_counted : (class : ℕ → Bool) (block : List ℕ) (n : ℕ) (ones fours : List ℕ) →

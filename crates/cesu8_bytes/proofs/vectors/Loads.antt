@@ -1,6 +1,9 @@
 -- Vectors that are loaded from a window, by offsets, and zeros around it.
 use Rattle.std.proofs.Common.{◌≡◌, ℕ, ◌+◌, ◌≤◌, Bool, List, map, length, get_or, sym, ap, ◌∙◌, arith, zero, suc, [], ◌∷◌, ◌++◌, replicate, refl}
 use Rattle.std.specs.List.{range_with_len}
+use Rattle.std.proofs.lemmas.Bool.{cases_lt}
+use Rattle.std.proofs.lemmas.Grind.{common_steps}
+use Rattle.std.proofs.lemmas.List.{get_or_past, length-replicate}
 use Rattle.std.proofs.lemmas.Simd.{map-map, pick_l-range_with_len}
 use lib.Lanes.{chunk}
 use Rattle.cesu8_bytes.specs.Kernels.{mask}
@@ -31,9 +34,7 @@ marks_here t window at lanes room is =
     is ∙ ap (map (λ b. mask (t b))) (sym (pick_l-range_with_len 0 window at 32 room)) ∙ map-map (λ b. mask (t b)) (λ i. get_or window i 0) (range_with_len at 32)
 
 pub zeros_at : (n i : ℕ) → ◌≡◌ {A = ℕ} (get_or (replicate n 0) i 0) 0
-zeros_at zero i = refl
-zeros_at (suc n) zero = refl
-zeros_at (suc n) (suc i) = zeros_at n i
+zeros_at n i = grind (arith, common_steps, get_or_past, length-replicate, cases_lt i n)
 
 -- Zeros behind a list change none of its elements, nor what is read past its end.
 pub padded : (xs rest : List ℕ) → ((i : ℕ) → ◌≡◌ {A = ℕ} (get_or rest i 0) 0) → (k : ℕ) → get_or (xs ++ rest) k 0 ≡ get_or xs k 0

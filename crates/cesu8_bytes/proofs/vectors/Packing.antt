@@ -1,18 +1,16 @@
 -- How bytes are packed by a shuffle that leaves out those that go, and 32 by four of these.
 use Rattle.std.proofs.lemmas.Grind.{common_steps}
-use Rattle.std.proofs.Common.{◌≡◌, ℕ, zero, suc, ◌+◌, ◌*◌, ◌/◌, ◌%◌, ◌-◌, ◌^◌, ◌<◌, ◌≤◌, Bool, true, false, cond, List, [], ◌∷◌, ◌++◌, map, length, take, drop, get_or, replicate, leb, refl, sym, ap, ◌∙◌, subst, arith, w8, length-append, append-nil, append_assoc, bit_and}
+use Rattle.std.proofs.Common.{◌≡◌, ℕ, zero, suc, ◌+◌, ◌/◌, ◌%◌, ◌-◌, ◌^◌, ◌<◌, ◌≤◌, Bool, true, false, cond, List, [], ◌∷◌, ◌++◌, map, length, take, drop, get_or, replicate, leb, refl, sym, ap, ◌∙◌, subst, arith, w8, length-append, append-nil, append_assoc, bit_and}
 use Rattle.std.specs.List.{range_with_len}
 use Rattle.std.proofs.lemmas.Bool.{agree_below, agree_below_at, leb-true}
 use Rattle.std.proofs.lemmas.List.{length-map, length-drop, length-replicate, map-append, drop_all, drop-drop, drop-replicate, take-replicate, take-take, take_at, drop-take, length-take, length-take-le, get_or_at}
 use Rattle.std.proofs.lemmas.Nat.{and_mask, and_le_r}
 use Rattle.std.proofs.lemmas.Simd.{swz_l, SwzOk, SwzOk-from_below, zip2_splat, length-zip2, length-chunk, map-map, pick_l-range_with_len, Each1-all, Each1-zip2, Each2-splat}
 use lib.Lanes.{zip2, mask_l, put_chunk, chunk, Each1}
-use Rattle.cesu8_bytes.specs.Packing.{written_for, written, kept_of, lanes_at, shuffle_keeping, shuffle_of_eight}
+use Rattle.cesu8_bytes.specs.Packing.{written_for, written, kept_of, lanes_at, shuffle_keeping}
 use Rattle.cesu8_bytes.specs.Puts.{WritesAt}
-use Rattle.cesu8_bytes.specs.declared.writing.packing.rows_of_eight.TheConstants.{ROWS}
 use Rattle.cesu8_bytes.proofs.lists.Stored.{vector_written, first_written}
 use Rattle.cesu8_bytes.proofs.vectors.Rows.{lowest, shuffled, first_mask, row_mask}
-use Rattle.cesu8_bytes.proofs.vectors.Tables.{same_list, same_rows, rows_by}
 
 -- ---- a shuffle by the lower halves of numbers
 
@@ -42,15 +40,9 @@ low_picked lanes row long =
 abbrev HasReplacement : (ℕ → ℕ) → ℕ → Type 0
 HasReplacement lane ill_formed = 0 < ill_formed → map lane (4 ∷ 5 ∷ 6 ∷ []) ≡ 0xEF ∷ 0xBF ∷ 0xBD ∷ []
 
-some_set : (t : Bool) (m : ℕ) → t ≡ true → 0 < cond t 1 0 + 2 * m
-some_set true m is = omega arith
-some_set false m is = absurd (cc)
-
 kept_one : (g : ℕ → ℕ) (i : ℕ) (s d : Bool) (xs ys : List ℕ) → (d ≡ true → map g (4 ∷ 5 ∷ 6 ∷ []) ≡ 0xEF ∷ 0xBF ∷ 0xBD ∷ []) → map g xs ≡ ys →
     map g (cond d (4 ∷ 5 ∷ 6 ∷ []) (cond s [] (i ∷ [])) ++ xs) ≡ written_for s d (g i) ++ ys
-kept_one g i s true xs ys r e = λ j. r refl j ++ e j
-kept_one g i true false xs ys r e = e
-kept_one g i false false xs ys r e = ap (λ l. g i ∷ l) e
+kept_one g i s d xs ys r e = grind (arith, common_steps)
 
 -- The lanes that are kept are what is written.
 kept_written : (g : ℕ → ℕ) (gone ill_formed : List Bool) (i : ℕ) → length ill_formed ≡ length gone → HasReplacement g (mask_l ill_formed) →
@@ -60,8 +52,8 @@ kept_written g (s ∷ gone) [] i e r = absurd (omega arith)
 kept_written g (s ∷ gone) (d ∷ ill_formed) i e r =
     let goes = lowest s (mask_l gone) in
     let fails = lowest d (mask_l ill_formed) in
-    let here = λ (is : d ≡ true). r (some_set d (mask_l ill_formed) is) in
-    let behind = λ (some : 0 < mask_l ill_formed). r (omega (arith, some)) in
+    let here = λ (is : d ≡ true). r (grind arith) in
+    let behind = λ (some : 0 < mask_l ill_formed). r (omega arith) in
     rw (goes.0, goes.1, fails.0, fails.1) (kept_one g i s d _ _ here (kept_written g gone ill_formed (i + 1) (omega arith) behind))
 
 -- So they are for some tests whose sets they are kept by.
@@ -91,14 +83,14 @@ module _ (n gone_set ill_formed_set most : ℕ) (row : List ℕ) (row_is : row �
   zeros = replicate (15 - length kept) 0
 
   prefix_long : length (kept ++ zeros) ≡ 15
-  prefix_long = omega (arith, length-append kept zeros, length-replicate {A = ℕ} (15 - length kept) 0, few, fits)
+  prefix_long = omega (arith, length-append kept zeros, length-replicate {A = ℕ} (15 - length kept) 0)
 
   -- The last number of a row is how many lanes are kept.
   last_is : get_or row 15 0 ≡ length kept
   last_is = ap (λ r. get_or r 15 0) row_is ∙ get_or_at (kept ++ zeros) (length kept) [] 0 15 prefix_long
 
   pub end_of_row : get_or row 15 0 ≤ most
-  end_of_row = omega (arith, last_is, few)
+  end_of_row = omega (arith, last_is)
 
   -- Where all lanes of the row are stored, those that it keeps are written.
   pub row_written : (lanes out packed : List ℕ) (at : ℕ) → at + 16 ≤ length out → packed ≡ lanes_at lanes row →
@@ -107,8 +99,8 @@ module _ (n gone_set ill_formed_set most : ℕ) (row : List ℕ) (row_is : row �
       let long : length (lanes_at lanes row) ≡ 16 =
       omega (arith, length-map row (λ j. get_or lanes (j % 0x10) 0), ap length row_is, length-append (kept ++ zeros) (length kept ∷ []), prefix_long) in
       rw is (subst (λ bs. WritesAt bs at out (put_chunk at out (lanes_at lanes row)) (at + get_or row 15 0)) (front_is lanes)
-      (first_written (get_or row 15 0) at (at + 16) (lanes_at lanes row) out _ (omega (arith, long, end_of_row, fits)) (omega (arith, room))
-      (vector_written at (at + 16) (lanes_at lanes row) out (omega (arith, long)) room)))
+      (first_written (get_or row 15 0) at (at + 16) (lanes_at lanes row) out _ (omega (arith, end_of_row)) (omega arith)
+      (vector_written at (at + 16) (lanes_at lanes row) out (omega arith) room)))
     where
       front_is : (lanes : List ℕ) → take (get_or row 15 0) (lanes_at lanes row) ≡ lanes_at lanes kept
       front_is lanes = grind (arith, common_steps, last_is, length-map, map-append, take_at, append_assoc)
@@ -118,23 +110,9 @@ module _ (n gone_set ill_formed_set most : ℕ) (row : List ℕ) (row_is : row �
 abbrev kept_of_eight : ℕ → List ℕ
 kept_of_eight gone = kept_of gone 0 0 8
 
-few_of_eight : (gone : ℕ) → gone < 0x100 → length (kept_of_eight gone) ≤ 8
+pub few_of_eight : (gone : ℕ) → gone < 0x100 → length (kept_of_eight gone) ≤ 8
 unfolding is_short
 few_of_eight = at_most kept_of_eight 8 refl
-
-module _ (row : List ℕ) (gone : ℕ) (small : gone < 0x100) (row_is : row ≡ shuffle_of_eight gone) where
-  -- the end of what a row packs
-  pub end_of_eight : get_or row 15 0 ≤ 8
-  end_of_eight = end_of_row 8 gone 0 8 row row_is (few_of_eight gone small) (omega arith)
-
-  pub eight_written : (lanes out packed : List ℕ) (at : ℕ) → at + 16 ≤ length out → packed ≡ lanes_at lanes row →
-      WritesAt (lanes_at lanes (kept_of_eight gone)) at out (put_chunk at out packed) (at + get_or row 15 0)
-  eight_written = row_written 8 gone 0 8 row row_is (few_of_eight gone small) (omega arith)
-
--- Row d of the table is that for the eight bytes that go.
-pub rows_are : (gone : ℕ) → gone < 0x100 → get_or ROWS gone [] ≡ shuffle_of_eight gone
-unfolding same_list same_rows
-rows_are = rows_by ROWS shuffle_of_eight refl
 
 -- ---- bytes in parts
 
@@ -146,9 +124,7 @@ written_parts (suc n) [] ill_formed bytes e f = refl
 written_parts (suc n) (g ∷ gone) [] bytes e f = absurd (omega arith)
 written_parts (suc n) (g ∷ gone) (d ∷ ill_formed) [] e f = absurd (omega arith)
 written_parts (suc n) (g ∷ gone) (d ∷ ill_formed) (b ∷ bytes) e f =
-    let this = written_for g d b in
-    ap (λ l. this ++ l) (written_parts n gone ill_formed bytes (omega arith) (omega arith))
-    ∙ sym (append_assoc this (written (take n gone) (take n ill_formed) (take n bytes)) (written (drop n gone) (drop n ill_formed) (drop n bytes)))
+    grind (arith, append_assoc, written_parts n gone ill_formed bytes)
 
 module _ (gone ill_formed : List Bool) (bytes : List ℕ) where
   -- what is written for n bytes from a on, and for all from there on
@@ -170,20 +146,18 @@ module _ (gone ill_formed : List Bool) (bytes : List ℕ) where
 
     -- What is written for all is what is written for each of four parts.
     pub in_four : (n : ℕ) → 0 + n + n + n + n ≡ long → rest 0 ≡ part 0 n ++ (part (0 + n) n ++ (part (0 + n + n) n ++ part (0 + n + n + n) n))
-    in_four n e =
-        next 0 n ∙ ap (λ l. part 0 n ++ l) (next (0 + n) n ∙ ap (λ l. part (0 + n) n ++ l) (next (0 + n + n) n
-        ∙ ap (λ l. part (0 + n + n) n ++ l) (last (0 + n + n + n) n e)))
+    in_four n e = rw (next 0 n, next (0 + n) n, next (0 + n + n) n, last (0 + n + n + n) n e) refl
 
     -- The same for two parts.
     pub in_two : (n : ℕ) → 0 + n + n ≡ long → rest 0 ≡ part 0 n ++ part (0 + n) n
-    in_two n e = next 0 n ∙ ap (λ l. part 0 n ++ l) (last (0 + n) n e)
+    in_two n e = rw (next 0 n, last (0 + n) n e) refl
 
 -- ---- 32 bytes
 
 -- Lanes of a prefix are lanes of the whole.
 chunk_take : {X : Type 0} (a n m : ℕ) (xs : List X) → a + n ≤ m → chunk a n (take m xs) ≡ chunk a n xs
 chunk_take a n m xs le =
-    ap (λ k. chunk a n (take k xs)) (omega (arith, le)) ∙ ap (take n) (drop-take a (m - a) xs) ∙ take-take n (m - a) (drop a xs) (omega (arith, le))
+    ap (λ k. chunk a n (take k xs)) (omega arith) ∙ ap (take n) (drop-take a (m - a) xs) ∙ take-take n (m - a) (drop a xs) (omega arith)
 
 module _ (tests : List Bool) (bytes : List ℕ) (t : 32 ≤ length tests) (b : length bytes ≡ 32) where
   abbrev none : List Bool
@@ -200,7 +174,7 @@ module _ (tests : List Bool) (bytes : List ℕ) (t : 32 ≤ length tests) (b : l
       let whole : chunk a 8 none ≡ replicate 8 false = ap (take 8) (drop-replicate a 32 false) ∙ take-replicate 8 (32 - a) false (omega arith) in
       let long : 8 ≤ length lanes = omega (arith, ap length lanes_are, length-chunk a 8 bytes (omega arith), length-take 8 lanes) in
       lanes_written 8 set 0 lanes (chunk a 8 tests) (replicate 8 false) (length-chunk a 8 tests (omega arith)) refl set_is refl
-      (pick_l-range_with_len 0 lanes 0 8 (omega arith)) (λ some. absurd (omega (arith, some)))
+      (pick_l-range_with_len 0 lanes 0 8 (omega arith)) (λ some. absurd (omega arith))
       ∙ (λ i. written (sym (chunk_take a 8 32 tests le) i) (sym whole i) (lanes_are i))
 
   -- What is kept of four times eight bytes is what is written for 32.

@@ -1,5 +1,5 @@
 -- Bytes with zeros behind them: a shuffle by sixteen of the indices makes half a block of these.
-use Rattle.std.proofs.Common.{◌≡◌, ℕ, ◌+◌, ◌*◌, ◌/◌, ◌-◌, ◌<◌, ◌≤◌, true, ◌||◌, cond, List, ◌++◌, length, drop, get_or, replicate, eqb, refl, sym, ap, ◌∙◌, subst, arith, w8, length-append, ◌⊎◌, inl, inr}
+use Rattle.std.proofs.Common.{◌≡◌, ℕ, ◌+◌, ◌-◌, ◌<◌, ◌≤◌, true, ◌||◌, List, ◌++◌, length, drop, get_or, replicate, eqb, refl, sym, ap, ◌∙◌, subst, arith, w8, length-append, ◌⊎◌, inl, inr}
 use Rattle.std.proofs.lemmas.Bool.{agree_below_at, cases_lt, eqb-true}
 use Rattle.std.proofs.lemmas.List.{ext_get_or, get_or_append_left, get_or-append_right, get_or-drop, length-drop}
 use Rattle.std.proofs.lemmas.Simd.{swz_l, SwzOk, SwzOk-from_Each1, length-swz_l, get_or-swz_l, get_or-swz_l_below, length-chunk, get_or-chunk, get_or-replicate, length-replicate, Each1-from_get_or}
@@ -16,19 +16,19 @@ index_at : (behind m : ℕ) → behind ≤ 16 → m < 16 → get_or (indices_fro
 index_at behind m low l =
     let here : 0 + m ≡ m = omega arith in
     get_or-chunk 0 16 (chunk behind (32 - behind) INDICES) m 0 l ∙ ap (λ k. get_or (chunk behind (32 - behind) INDICES) k 0) here
-    ∙ get_or-chunk behind (32 - behind) INDICES m 0 (omega (arith, low, l))
+    ∙ get_or-chunk behind (32 - behind) INDICES m 0 (omega arith)
 
 long_indices : (behind : ℕ) → behind ≤ 16 → length (indices_from behind) ≡ 16
-long_indices behind low = length-chunk 0 16 (chunk behind (32 - behind) INDICES) (omega (arith, length-chunk behind (32 - behind) INDICES (omega (arith, low))))
+long_indices behind low = length-chunk 0 16 (chunk behind (32 - behind) INDICES) (omega (arith, length-chunk behind (32 - behind) INDICES (omega arith)))
 
 -- An index is one of a half, or gives zero.
 pub indices_ok : (behind : ℕ) → behind ≤ 16 → SwzOk w8 16 16 0 (indices_from behind)
 indices_ok behind low =
     SwzOk-from_Each1 w8 16 1 16 0 (indices_from behind) refl (omega (arith, long_indices behind low))
     (Each1-from_get_or (λ j. T (zeroes 16 w8 j || ltb j 16)) (indices_from behind) 0 (λ m l.
-    let small : m < 16 = omega (arith, l, long_indices behind low) in
+    let small : m < 16 = omega (arith, long_indices behind low) in
     subst (λ j. T (zeroes 16 w8 j || ltb j 16)) (sym (index_at behind m low small))
-    (subst T (sym (agree_below_at (λ k. zeroes 16 w8 (get_or INDICES k 0) || ltb (get_or INDICES k 0) 16) (λ _. true) 32 (behind + m) refl (omega (arith, low, small)))) _)))
+    (subst T (sym (agree_below_at (λ k. zeroes 16 w8 (get_or INDICES k 0) || ltb (get_or INDICES k 0) 16) (λ _. true) 32 (behind + m) refl (omega arith))) _)))
 
 -- The first sixteen indices are those of a half,
 index_of_half : (j : ℕ) → j < 16 → get_or INDICES j 0 ≡ j
@@ -44,28 +44,24 @@ lane_is : (last : List ℕ) (behind m : ℕ) → length last ≡ 16 → behind �
 lane_is last behind m long low l (inl below) =
     let js = indices_from behind in
     let index : get_or js m 0 ≡ behind + m = index_at behind m low l ∙ index_of_half (behind + m) below in
-    let lane : 16 * ((0 + m) / 16) + get_or js m 0 ≡ behind + m = omega (arith, index) in
-    get_or-swz_l_below w8 16 last 0 js m (omega (arith, l, long_indices behind low)) (omega (arith, index, below))
-    ∙ ap (λ k. get_or last k 0) lane
-    ∙ sym (get_or_append_left (drop behind last) (replicate behind 0) 0 m (omega (arith, length-drop behind last, below, long)) ∙ get_or-drop behind last m 0)
+    let rest = get_or_append_left (drop behind last) (replicate behind 0) 0 m (omega (arith, length-drop behind last)) in
+    let within : m < length js = omega (arith, long_indices behind low) in
+    grind (arith, index, rest, get_or-drop behind last m 0, get_or-swz_l_below w8 16 last 0 js m within (omega arith))
 lane_is last behind m long low l (inr above) =
     let js = indices_from behind in
-    let place : 16 + (behind + m - 16) ≡ behind + m = omega (arith, above) in
-    let zero_here : zeroes 16 w8 (get_or js m 0) ≡ true =
-    ap (zeroes 16 w8) (index_at behind m low l) ∙ ap (λ k. zeroes 16 w8 (get_or INDICES k 0)) (sym place)
-    ∙ index_behind (behind + m - 16) (omega (arith, low, l, above)) in
+    let place : 16 + (behind + m - 16) ≡ behind + m = omega arith in
+    let zero_here : zeroes 16 w8 (get_or js m 0) ≡ true = rw (index_at behind m low l, ← place) (index_behind (behind + m - 16) (omega arith)) in
     let rest = length-drop behind last in
-    get_or-swz_l w8 16 last 0 js m (omega (arith, l, long_indices behind low))
-    ∙ ap (λ t. cond t 0 (get_or last (16 * ((0 + m) / 16) + get_or js m 0) 0)) zero_here
-    ∙ sym (get_or-append_right (drop behind last) (replicate behind 0) (length (drop behind last)) m 0 refl (omega (arith, rest, long, above))
-    ∙ get_or-replicate {A = ℕ} behind (m - length (drop behind last)) 0 0 (omega (arith, rest, long, l, low, above)))
+    rw (get_or-swz_l w8 16 last 0 js m (omega (arith, long_indices behind low)), zero_here)
+    (sym (get_or-append_right (drop behind last) (replicate behind 0) (length (drop behind last)) m 0 refl (omega arith)
+    ∙ get_or-replicate {A = ℕ} behind (m - length (drop behind last)) 0 0 (omega arith)))
 
 -- The shuffle moves the last ones to the front.
 pub moved : (last : List ℕ) (behind : ℕ) → length last ≡ 16 → behind ≤ 16 → swz_l w8 16 last 0 (indices_from behind) ≡ drop behind last ++ replicate behind 0
 moved last behind long low =
     let many : length (swz_l w8 16 last 0 (indices_from behind)) ≡ 16 = length-swz_l w8 16 last 0 (indices_from behind) ∙ long_indices behind low in
     let whole : length (drop behind last ++ replicate behind 0) ≡ 16 =
-    length-append (drop behind last) (replicate behind 0) ∙ omega (arith, length-drop behind last, length-replicate {A = ℕ} behind 0, long, low) in
+    length-append (drop behind last) (replicate behind 0) ∙ omega (arith, length-drop behind last, length-replicate {A = ℕ} behind 0) in
     ext_get_or 0 _ _ (many ∙ sym whole) (λ m l.
-    let small : m < 16 = omega (arith, l, many) in
+    let small : m < 16 = omega arith in
     lane_is last behind m long low small (cases_lt (behind + m) 16))

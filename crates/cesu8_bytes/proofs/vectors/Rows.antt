@@ -1,7 +1,7 @@
 -- Rows of eight lanes: their masks, and how they are shuffled and stored.
 use Rattle.std.proofs.lemmas.Bool.Decides.{nat_tests}
 use Rattle.std.proofs.lemmas.Grind.{common_steps}
-use Rattle.std.proofs.Common.{◌≡◌, ℕ, zero, suc, ◌+◌, ◌*◌, ◌/◌, ◌%◌, ◌^◌, ◌<◌, ◌≤◌, Bool, cond, List, [], ◌∷◌, ◌++◌, map, length, take, drop, get_or, eqb, sym, ap, ◌∙◌, subst, arith, w8, length-append, append_assoc, bit_and}
+use Rattle.std.proofs.Common.{◌≡◌, ℕ, zero, suc, ◌+◌, ◌*◌, ◌/◌, ◌%◌, ◌^◌, ◌<◌, ◌≤◌, Bool, cond, List, [], ◌∷◌, ◌++◌, map, length, take, drop, get_or, eqb, sym, ap, ◌∙◌, subst, arith, w8, length-append, bit_and}
 use Rattle.std.specs.List.{range_with_len}
 use Rattle.std.proofs.lemmas.List.{ext_get_or, get_or-map, length-map, length-take-le, length-drop, take_at, drop_at, drop-drop, take-append-le, drop-append-le}
 use Rattle.std.proofs.lemmas.Nat.{and_mask}
@@ -35,7 +35,7 @@ mask_parts (suc n) [] = omega (arith, mul-zero (2 ^ suc n))
 mask_parts (suc n) (t ∷ ts) =
     let times : 2 ^ suc n * mask_l (drop n ts) ≡ 2 * (2 ^ n * mask_l (drop n ts)) =
     ap (λ k. k * mask_l (drop n ts)) (pow-succ' 2 n) ∙ mul_assoc 2 (2 ^ n) (mask_l (drop n ts)) in
-    omega (arith, mask_parts n ts, times)
+    omega (arith, mask_parts n ts)
 
 prefix_below : (n : ℕ) (ts : List Bool) → n ≤ length ts → mask_l (take n ts) < 2 ^ n
 prefix_below n ts le = subst (λ k. mask_l (take n ts) < 2 ^ k) (length-take-le n ts le) (mask_l-lt (take n ts))
@@ -52,7 +52,7 @@ mask_rest n ts le =
     let first : mask_l (take n ts) / 2 ^ n ≡ 0 = div-eq_of_lt (prefix_below n ts le) in
     ap (λ m. m / 2 ^ n) (mask_parts n ts)
     ∙ add-mul-div_left (mask_l (take n ts)) (mask_l (drop n ts)) (one-le-pow n 2 (omega arith))
-    ∙ omega (arith, first)
+    ∙ omega arith
 
 -- The tests of the row from a on are eight bits of the mask.
 pub row_mask : (a : ℕ) (ts : List Bool) (d : ℕ) → a + 8 ≤ length ts → d ≡ mask_l ts →
@@ -76,8 +76,3 @@ pub lanes_of_second : (xs ys : List ℕ) (k a n : ℕ) → length xs ≡ k → a
 lanes_of_second xs ys k a n e le =
     pick_l-range_with_len 0 (xs ++ ys) (k + a) n (omega (arith, length-append xs ys))
     ∙ ap (take n) (sym (drop-drop a k (xs ++ ys)) ∙ ap (drop a) (drop_at xs ys k e))
-
--- What four calls write, one behind the other.
-pub four_calls : (x0 x1 x2 x3 x4 a b c d : List ℕ) → x1 ≡ x0 ++ a → x2 ≡ x1 ++ b → x3 ≡ x2 ++ c → x4 ≡ x3 ++ d →
-    x4 ≡ x0 ++ (a ++ (b ++ (c ++ d)))
-four_calls x0 x1 x2 x3 x4 a b c d e1 e2 e3 e4 = rw (e4, e3, e2, e1) (simp append_assoc)

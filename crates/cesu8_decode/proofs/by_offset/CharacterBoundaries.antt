@@ -1,36 +1,27 @@
 -- Offsets that no encoded character reaches over, told by the widths at the five before.
-use Rattle.std.proofs.Common.{◌≡◌, ℕ, zero, suc, ◌+◌, ◌-◌, ◌<◌, ◌≤◌, ◌⊎◌, ⊎_elim, Bool, true, leb, List, ◌∷◌, refl, ap, ◌∙◌, subst, arith, length, take, drop, get_or, cond, add-zero, zero-add, length-drop}
-use Rattle.std.proofs.lemmas.Bool.{and_from, le-leb, cases_lt}
+use Rattle.std.proofs.Common.{◌≡◌, ℕ, ◌+◌, ◌-◌, ◌<◌, ◌≤◌, ◌⊎◌, ⊎_elim, true, List, ◌∷◌, refl, ap, ◌∙◌, subst, arith, length, take, drop, get_or, zero-add, length-drop, eqb}
+use Rattle.std.proofs.lemmas.Bool.{agree_below_at, eqb-true, cases_lt}
 use Rattle.std.proofs.lemmas.List.{take-append-drop, length-take-le}
 use Rattle.std.proofs.lemmas.Bool.Decides.{nat_tests}
-use Rattle.cesu8_text.specs.Encoding.{Flavor, Cesu8, Mutf8}
+use Rattle.cesu8_text.specs.Encoding.{Flavor}
 use Rattle.cesu8_text.specs.Reading.{StandsAt, width}
 use Rattle.cesu8_text.specs.Laws.{NoneCrosses}
-use Rattle.cesu8_decode.specs.DecodedOffsets.{first_width, first_width_by, width_at, one_at, two_at, three_at, pair_at}
-use Rattle.cesu8_bytes.specs.Pairs.{null_at}
+use Rattle.cesu8_decode.specs.DecodedOffsets.{first_width, first_width_by, width_at}
 use Rattle.cesu8_decode.proofs.by_offset.FirstWidths.{wide, width_of_first, width_fits}
 use Rattle.cesu8_text.proofs.reading.Stretches.{no_overlap}
+use Rattle.cesu8_decode.proofs.by_offset.WidthTests.{width_tells}
 use Rattle.cesu8_decode.proofs.by_offset.WindowOffsets.{is_boundary_at, Follows, width_in}
 
 -- ---- the widths there are
 
-width_or_none : (one null two three pair : Bool) →
-    let w : ℕ = cond one 1 (cond null 2 (cond two 2 (cond three 3 (cond pair 6 0)))) in (w ≤ 3) ⊎ (w ≡ 6)
-width_or_none one null two three pair = grind (arith, nat_tests)
-
 -- A width is 3 at most, or 6.
 pub width_bounds : (f : Flavor) (window : List ℕ) (i : ℕ) → (width_at f window i ≤ 3) ⊎ (width_at f window i ≡ 6)
-unfolding first_width_by
-width_bounds f window i =
-    let w : ℕ → ℕ = λ k. get_or window k 0 in
-    width_or_none (one_at f (w i)) (null_at f (w i) (w (i + 1))) (two_at (w i) (w (i + 1))) (three_at (w i) (w (i + 1)) (w (i + 2)))
-    (pair_at (w i) (w (i + 1)) (w (i + 2)) (w (i + 3)) (w (i + 4)) (w (i + 5)))
+width_bounds f window i = (width_tells f _ _ _ _ _ _).0
 
 -- A zero is no character of two bytes or more.
 pub zero_width : (f : Flavor) (window : List ℕ) (i : ℕ) → get_or window i 0 ≡ 0 → width_at f window i ≤ 1
 unfolding first_width_by
-zero_width Cesu8 window i null = rw null (omega arith)
-zero_width Mutf8 window i null = rw null (omega arith)
+zero_width f window i null = grind (arith, nat_tests)
 
 -- ---- boundaries
 
@@ -42,26 +33,17 @@ boundary_ends f window i boundary s small = grind (arith, nat_tests)
 -- Where each does, there is a boundary.
 pub boundary_where : (f : Flavor) (window : List ℕ) (i : ℕ) → ((s : ℕ) → s < 5 → width_at f window (i + s) + s ≤ 5) →
     is_boundary_at f window i ≡ true
-boundary_where f window i ends =
-    let w = width_at f window in
-    let last : w i ≤ 5 = omega (arith, ends 0 (omega arith), ap w (add-zero i)) in
-    and_from (leb (w (i + 4)) 1) _ (le-leb (w (i + 4)) 1 (omega (arith, ends 4 (omega arith))))
-    (and_from (leb (w (i + 3)) 2) _ (le-leb (w (i + 3)) 2 (omega (arith, ends 3 (omega arith))))
-    (and_from (leb (w (i + 2)) 3) _ (le-leb (w (i + 2)) 3 (omega (arith, ends 2 (omega arith))))
-    (and_from (leb (w (i + 1)) 4) _ (le-leb (w (i + 1)) 4 (omega (arith, ends 1 (omega arith)))) (le-leb (w i) 5 last))))
+boundary_where f window i ends = grind (arith, nat_tests)
 
 -- There is one behind five zeros.
 pub boundary_of_zeros : (f : Flavor) (bytes : List ℕ) → is_boundary_at f (0 ∷ 0 ∷ 0 ∷ 0 ∷ 0 ∷ bytes) 0 ≡ true
 boundary_of_zeros f bytes =
-    boundary_where f (0 ∷ 0 ∷ 0 ∷ 0 ∷ 0 ∷ bytes) 0 (λ s small. omega (arith, zero_width f (0 ∷ 0 ∷ 0 ∷ 0 ∷ 0 ∷ bytes) (0 + s) (five s small)))
-  where
-    five : (s : ℕ) → s < 5 → get_or (0 ∷ 0 ∷ 0 ∷ 0 ∷ 0 ∷ bytes) (0 + s) 0 ≡ 0
-    five zero small = refl
-    five (suc zero) small = refl
-    five (suc (suc zero)) small = refl
-    five (suc (suc (suc zero))) small = refl
-    five (suc (suc (suc (suc zero)))) small = refl
-    five (suc (suc (suc (suc (suc s))))) small = absurd (omega arith)
+    let w : ℕ → ℕ = λ i. get_or (0 ∷ 0 ∷ 0 ∷ 0 ∷ 0 ∷ bytes) i 0 in
+    boundary_where f (0 ∷ 0 ∷ 0 ∷ 0 ∷ 0 ∷ bytes) 0 (λ s small. omega (
+      arith,
+      zero_width f (0 ∷ 0 ∷ 0 ∷ 0 ∷ 0 ∷ bytes) (0 + s)
+          (eqb-true _ _ (agree_below_at (λ s. eqb (w (0 + s)) 0) (λ _. true) 5 s refl small)),
+    ))
 
 -- ---- boundaries in bytes
 
@@ -81,7 +63,7 @@ none_crosses_boundary f window bytes n follows fits boundary i c stands inside =
     ⊎_elim (λ (near : n < i + 6).
     let offset : n + (i + 5 - n) ≡ i + 5 = omega arith in
     omega (arith, boundary_ends f window n boundary (i + 5 - n) (omega arith), ap (width_at f window) offset))
-    (λ (far : i + 6 ≤ n). ⊎_elim (λ small. omega arith) (λ six. omega arith) (width_bounds f window (i + 5)))
+    (λ (far : i + 6 ≤ n). omega (arith, width_bounds f window (i + 5)))
     (cases_lt n (i + 6))
 
 -- A character is behind those before it.
@@ -92,12 +74,8 @@ ends_before f window bytes p i follows before inside some =
     ⊎_elim (λ (begun : 0 < first_width f (drop p bytes)).
     let earlier = wide f (drop p bytes) begun in
     let later = wide f (drop i bytes) (omega (arith, width_in f window bytes 5 i follows inside)) in
-    let same = earlier.wide in
-    ⊎_elim (λ (same : (p ≡ i) × (earlier.character ≡ later.character)). absurd (omega (arith, same.0)))
-    (λ (apart : (p + width f earlier.character ≤ i) ⊎ (i + width f later.character ≤ p)). ⊎_elim
-    (λ (done : p + width f earlier.character ≤ i). omega arith)
-    (λ (past : i + width f later.character ≤ p). absurd (omega arith)) apart)
-    (no_overlap f bytes p i earlier.character later.character (earlier.rest, earlier.begins) (later.rest, later.begins)))
+    let apart = no_overlap f bytes p i earlier.character later.character (earlier.rest, earlier.begins) (later.rest, later.begins) in
+    omega (arith, apart, earlier.wide))
     (λ (none : first_width f (drop p bytes) ≤ 0). omega arith)
     (cases_lt 0 (first_width f (drop p bytes)))
 

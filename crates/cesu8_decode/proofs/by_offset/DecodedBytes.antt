@@ -1,14 +1,14 @@
 -- What the bytes become, each by its neighbours, is the UTF-8 of the lossy reading.
-use Rattle.std.proofs.Common.{◌≡◌, ℕ, ◌+◌, ◌*◌, ◌/◌, ◌%◌, ◌<◌, ◌≤◌, ◌⊎◌, eqb, leb, List, [], ◌∷◌, ◌++◌, refl, sym, ap, ◌∙◌, subst, inl, inr, arith, length}
-use Rattle.std.proofs.lemmas.Bool.{ne_eqb, lt-leb, cases_eq}
+use Rattle.std.proofs.Common.{◌≡◌, ℕ, ◌+◌, ◌*◌, ◌/◌, ◌%◌, ◌<◌, ◌≤◌, eqb, leb, List, [], ◌∷◌, ◌++◌, refl, sym, ap, ◌∙◌, ⊎_elim, arith}
+use Rattle.std.proofs.lemmas.Bool.{ne_eqb, lt-leb}
 use Rattle.cesu8_text.specs.Text.{IsScalarValue, utf8_of, utf8}
-use Rattle.cesu8_text.specs.Encoding.{Flavor, Cesu8, Mutf8, encoding}
-use Rattle.cesu8_text.specs.Reading.{NoneBegins, width, reading}
+use Rattle.cesu8_text.specs.Encoding.{Flavor, encoding}
+use Rattle.cesu8_text.specs.Reading.{NoneBegins, reading}
 use Rattle.cesu8_text.specs.Cutting.{Piece, Character, Replaced, ArePieces, bytes_of, text_of, IsGreedy}
 use Rattle.cesu8_decode.specs.DecodedOffsets.{first_width, decoded_byte}
 use Rattle.cesu8_text.proofs.text.Shapes.{Shape, IsTwo, IsThree, IsPair, one, two, three, pair, shape, utf8_of_one, utf8_of_two, utf8_of_three, utf8_of_pair}
-use Rattle.cesu8_text.proofs.encoding.Forms.{encoding_one, encoding_two, encoding_three, encoding_pair, short_form_null, short_form_other}
-use Rattle.cesu8_decode.proofs.by_offset.FirstWidths.{begins_encoded, width_of_first, width_of_none, width_inside}
+use Rattle.cesu8_text.proofs.encoding.Forms.{encoding_two, encoding_three, encoding_pair}
+use Rattle.cesu8_decode.proofs.by_offset.FirstWidths.{ascii_forms, encoded_widths, width_of_none}
 use Rattle.cesu8_text.proofs.reading.Cuttings.{greedy_cutting}
 use Rattle.cesu8_text.proofs.reading.Greedy.{places}
 
@@ -69,60 +69,38 @@ one_read : (f : Flavor) (c : ℕ) (rest text : List ℕ) → IsScalarValue c →
     Become f rest text → Become f (c ∷ rest) (c ∷ text)
 unfolding decoded_after decoded_byte
 one_read f c rest text scalar same become p q =
-    let begins = begins_encoded f c (c ∷ []) rest scalar same in
-    rw (
-      width_of_first f (c ∷ rest) c rest begins,
-      ap length same,
-      continued f rest text 1 0 0 q c become (omega arith) (omega arith) (omega arith),
-    ) refl
+    rw ((encoded_widths f c c [] rest scalar same).0, continued f rest text 1 0 0 q c become (omega arith) (omega arith) (omega arith)) refl
 
 two_read : (f : Flavor) (c x y : ℕ) (rest text : List ℕ) → IsScalarValue c → IsTwo c x y → Become f rest text →
     Become f ((0xC0 + x) ∷ (0x80 + y) ∷ rest) ((0xC0 + x) ∷ (0x80 + y) ∷ text)
 unfolding decoded_after decoded_byte
 two_read f c x y rest text scalar digits become p q =
-    let a = 0xC0 + x in
-    let b = 0x80 + y in
-    let same = encoding_two f c x y digits in
-    let begins = begins_encoded f c (a ∷ b ∷ []) rest scalar same in
-    let long : width f c ≡ 2 = ap length same in
+    let widths = encoded_widths f c (0xC0 + x) ((0x80 + y) ∷ []) rest scalar (encoding_two f c x y digits) in
     rw (
-      width_of_first f (a ∷ b ∷ rest) c rest begins,
-      width_inside f (a ∷ b ∷ rest) c 1 rest begins (omega arith) (omega (arith, long)),
-      long,
-      ne_eqb a 0xC0 (λ e. omega (arith, digits.low)),
-      continued f rest text 0 2 0 a b become (omega arith) (omega arith) (omega arith),
+      widths.0,
+      widths.1 1 (omega arith) (omega arith),
+      ne_eqb (0xC0 + x) 0xC0 (λ e. omega (arith, digits.low)),
+      continued f rest text 0 2 0 (0xC0 + x) (0x80 + y) become (omega arith) (omega arith) (omega arith),
     ) refl
 
 three_read : (f : Flavor) (c x y z : ℕ) (rest text : List ℕ) → IsScalarValue c → IsThree c x y z → Become f rest text →
     Become f ((0xE0 + x) ∷ (0x80 + y) ∷ (0x80 + z) ∷ rest) ((0xE0 + x) ∷ (0x80 + y) ∷ (0x80 + z) ∷ text)
 unfolding decoded_after decoded_byte
 three_read f c x y z rest text scalar digits become p q =
-    let a = 0xE0 + x in
-    let b = 0x80 + y in
-    let d = 0x80 + z in
-    let same = encoding_three f c x y z digits in
-    let begins = begins_encoded f c (a ∷ b ∷ d ∷ []) rest scalar same in
-    let long : width f c ≡ 3 = ap length same in
+    let widths = encoded_widths f c (0xE0 + x) ((0x80 + y) ∷ (0x80 + z) ∷ []) rest scalar (encoding_three f c x y z digits) in
     rw (
-      width_of_first f (a ∷ b ∷ d ∷ rest) c rest begins,
-      width_inside f (a ∷ b ∷ d ∷ rest) c 1 rest begins (omega arith) (omega (arith, long)),
-      width_inside f (a ∷ b ∷ d ∷ rest) c 2 rest begins (omega arith) (omega (arith, long)),
-      long,
-      continued f rest text 0 0 3 b d become (omega arith) (omega arith) (omega arith),
+      widths.0,
+      widths.1 1 (omega arith) (omega arith),
+      widths.1 2 (omega arith) (omega arith),
+      continued f rest text 0 0 3 (0x80 + y) (0x80 + z) become (omega arith) (omega arith) (omega arith),
     ) refl
 
 null_read : (f : Flavor) (c : ℕ) (rest text : List ℕ) → IsScalarValue c → encoding f (c ∷ []) ≡ 0xC0 ∷ 0x80 ∷ [] → Become f rest text →
     Become f (0xC0 ∷ 0x80 ∷ rest) (0 ∷ text)
 unfolding decoded_after decoded_byte
 null_read f c rest text scalar same become p q =
-    let begins = begins_encoded f c (0xC0 ∷ 0x80 ∷ []) rest scalar same in
-    let long : width f c ≡ 2 = ap length same in
-    rw (
-      width_of_first f (0xC0 ∷ 0x80 ∷ rest) c rest begins,
-      width_inside f (0xC0 ∷ 0x80 ∷ rest) c 1 rest begins (omega arith) (omega (arith, long)),
-      long,
-      continued f rest text 0 2 0 0xC0 0x80 become (omega arith) (omega arith) (omega arith),
-    ) refl
+    let widths = encoded_widths f c 0xC0 (0x80 ∷ []) rest scalar same in
+    rw (widths.0, widths.1 1 (omega arith) (omega arith), continued f rest text 0 2 0 0xC0 0x80 become (omega arith) (omega arith) (omega arith)) refl
 
 pair_read : (f : Flavor) (c w x y z : ℕ) (rest text : List ℕ) → IsScalarValue c → IsPair c w x y z → Become f rest text →
     Become f (0xED ∷ (0xA0 + w) ∷ (0x80 + x) ∷ 0xED ∷ (0xB0 + y) ∷ (0x80 + z) ∷ rest)
@@ -133,10 +111,7 @@ pair_read f c w x y z rest text scalar digits become p q =
     let d = 0x80 + x in
     let g = 0xB0 + y in
     let h = 0x80 + z in
-    let bytes = 0xED ∷ b ∷ d ∷ 0xED ∷ g ∷ h ∷ rest in
-    let same = encoding_pair f c w x y z digits in
-    let begins = begins_encoded f c (0xED ∷ b ∷ d ∷ 0xED ∷ g ∷ h ∷ []) rest scalar same in
-    let long : width f c ≡ 6 = ap length same in
+    let widths = encoded_widths f c 0xED (b ∷ d ∷ 0xED ∷ g ∷ h ∷ []) rest scalar (encoding_pair f c w x y z digits) in
     let h_w = digits.first in
     let h_x = digits.second in
     let h_y = digits.third in
@@ -144,13 +119,12 @@ pair_read f c w x y z rest text scalar digits become p q =
     let e1 : (b % 0x10 + 1) % 4 * 0x10 + d / 4 % 0x10 ≡ (w + 1) % 4 * 0x10 + x / 4 = omega arith in
     let e2 : d % 4 * 0x10 + g % 0x10 ≡ x % 4 * 0x10 + y = omega arith in
     rw (
-      width_of_first f bytes c rest begins,
-      width_inside f bytes c 1 rest begins (omega arith) (omega (arith, long)),
-      width_inside f bytes c 2 rest begins (omega arith) (omega (arith, long)),
-      width_inside f bytes c 3 rest begins (omega arith) (omega (arith, long)),
-      width_inside f bytes c 4 rest begins (omega arith) (omega (arith, long)),
-      width_inside f bytes c 5 rest begins (omega arith) (omega (arith, long)),
-      long,
+      widths.0,
+      widths.1 1 (omega arith) (omega arith),
+      widths.1 2 (omega arith) (omega arith),
+      widths.1 3 (omega arith) (omega arith),
+      widths.1 4 (omega arith) (omega arith),
+      widths.1 5 (omega arith) (omega arith),
       e0,
       e1,
       e2,
@@ -159,23 +133,11 @@ pair_read f c w x y z rest text scalar digits become p q =
 
 -- ---- by the pieces, from the first on
 
-ascii_read : (f : Flavor) (c : ℕ) (rest text : List ℕ) → IsScalarValue c → c < 0x80 → (c ≡ 0) ⊎ (c ≡ 0 → ⊥) → Become f rest text →
-    Become f (encoding f (c ∷ []) ++ rest) (c ∷ text)
-ascii_read Cesu8 c rest text scalar ascii _ become =
-    let same = encoding_one Cesu8 c ascii in
-    subst (λ bs. Become Cesu8 (bs ++ rest) (c ∷ text)) (sym same) (one_read Cesu8 c rest text scalar same become)
-ascii_read Mutf8 c rest text scalar ascii (inl null) become =
-    let same = encoding_one Mutf8 c ascii ∙ short_form_null c null in
-    subst (λ bs. Become Mutf8 (bs ++ rest) (c ∷ text)) (sym same)
-    (subst (λ d. Become Mutf8 (0xC0 ∷ 0x80 ∷ rest) (d ∷ text)) (sym null) (null_read Mutf8 c rest text scalar same become))
-ascii_read Mutf8 c rest text scalar ascii (inr some) become =
-    let same = encoding_one Mutf8 c ascii ∙ short_form_other Mutf8 c some in
-    subst (λ bs. Become Mutf8 (bs ++ rest) (c ∷ text)) (sym same) (one_read Mutf8 c rest text scalar same become)
-
 character_read : (f : Flavor) (c : ℕ) (rest text : List ℕ) → IsScalarValue c → Shape c → Become f rest text →
     Become f (encoding f (c ∷ []) ++ rest) (utf8_of c ++ text)
 character_read f c rest text scalar (one ascii) become =
-    rw (utf8_of_one c ascii) (ascii_read f c rest text scalar ascii (cases_eq c 0) become)
+    rw (utf8_of_one c ascii) (⊎_elim (λ same. rw same (one_read f c rest text scalar same become))
+    (λ null. rw (null.1, null.0) (null_read f c rest text scalar null.1 become)) (ascii_forms f c ascii))
 character_read f c rest text scalar (two x y digits) become =
     rw (encoding_two f c x y digits, utf8_of_two c x y digits) (two_read f c x y rest text scalar digits become)
 character_read f c rest text scalar (three x y z digits) become =

@@ -1,13 +1,21 @@
 -- How wide the character is that begins bytes.
-use Rattle.std.proofs.Common.{◌≡◌, ℕ, ◌<◌, ◌≤◌, List, [], ◌∷◌, ◌++◌, Option, Some, None, refl, sym, ap, ⊎_elim, arith, drop, length, length-append}
-use Rattle.std.proofs.lemmas.Bool.{cases_lt}
+use Rattle.std.proofs.Common.{◌≡◌, ℕ, ◌<◌, ◌≤◌, List, [], ◌∷◌, ◌++◌, Option, Some, None, ◌⊎◌, inl, inr, refl, sym, ap, ◌∙◌, ⊎_elim, arith, drop, length, length-append}
+use Rattle.std.proofs.lemmas.Bool.{cases_eq, cases_lt}
 use Rattle.cesu8_text.specs.Text.{IsScalarValue}
-use Rattle.cesu8_text.specs.Encoding.{Flavor, encoding}
+use Rattle.cesu8_text.specs.Encoding.{Flavor, Cesu8, Mutf8, encoding}
 use Rattle.cesu8_text.specs.Reading.{BeginsWith, NoneBegins, width, width_of, standing}
 use Rattle.cesu8_decode.specs.DecodedOffsets.{first_width}
+use Rattle.cesu8_text.proofs.encoding.Forms.{encoding_one, short_form_null, short_form_other}
 use Rattle.cesu8_text.proofs.reading.Inside.{none_inside}
 use Rattle.cesu8_text.proofs.reading.Marks.{standing_is}
 use Rattle.cesu8_text.proofs.reading.Standing.{standing_begins}
+
+-- ASCII is encoded as its byte, or as C0 80.
+pub ascii_forms : (f : Flavor) (c : ℕ) → c < 0x80 → (encoding f (c ∷ []) ≡ c ∷ []) ⊎ ((c ≡ 0) × (encoding f (c ∷ []) ≡ 0xC0 ∷ 0x80 ∷ []))
+ascii_forms Cesu8 c ascii = inl (encoding_one Cesu8 c ascii)
+ascii_forms Mutf8 c ascii =
+    ⊎_elim (λ null. inr (null, encoding_one Mutf8 c ascii ∙ short_form_null c null))
+    (λ some. inl (encoding_one Mutf8 c ascii ∙ short_form_other Mutf8 c some)) (cases_eq c 0)
 
 -- An encoding and what follows begin with its character.
 pub begins_encoded : (f : Flavor) (c : ℕ) (prefix rest : List ℕ) → IsScalarValue c → encoding f (c ∷ []) ≡ prefix →
@@ -56,3 +64,12 @@ pub width_inside : (f : Flavor) (bytes : List ℕ) (c j : ℕ) (rest : List ℕ)
     first_width f (drop j bytes) ≡ 0
 width_inside f bytes c j rest begins later inside =
     width_of_none f (drop j bytes) (λ d more other. none_inside f bytes c d j rest begins (more, other) later inside)
+
+-- So it is with the offsets of an encoded character: all its bytes begin at the first, and none at another.
+pub encoded_widths : (f : Flavor) (c b : ℕ) (prefix rest : List ℕ) → IsScalarValue c → encoding f (c ∷ []) ≡ b ∷ prefix →
+    (first_width f (b ∷ prefix ++ rest) ≡ length (b ∷ prefix)) × ((j : ℕ) → 0 < j → j ≤ length prefix → first_width f (drop j (b ∷ prefix ++ rest)) ≡ 0)
+encoded_widths f c b prefix rest scalar same =
+    let begins = begins_encoded f c (b ∷ prefix) rest scalar same in (
+      width_of_first f (b ∷ prefix ++ rest) c rest begins ∙ ap length same,
+      λ j later inside. width_inside f (b ∷ prefix ++ rest) c j rest begins later (omega (arith, ap length same)),
+    )

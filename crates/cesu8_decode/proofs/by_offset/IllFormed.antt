@@ -1,13 +1,14 @@
 -- Bytes have a strict reading exactly where encoded characters cover them all.
-use Rattle.std.proofs.Common.{◌≡◌, ℕ, ◌+◌, ◌-◌, ◌<◌, ◌≤◌, ◌⊎◌, ⊎_elim, true, false, eqb, leb, zero, suc, List, [], ◌∷◌, ◌++◌, refl, sym, ap, ◌∙◌, subst, inl, inr, arith, length, drop, length-append, append_assoc, add-zero, zero-add, length-drop}
-use Rattle.std.proofs.lemmas.Bool.{cases_lt, leb-true, leb-false, eqb-true, eqb-false, or_cases, or_parts, not-true, not-false}
+use Rattle.std.proofs.Common.{◌≡◌, ℕ, ◌+◌, ◌-◌, ◌<◌, ◌≤◌, ◌⊎◌, ⊎_elim, true, false, List, [], ◌∷◌, ◌++◌, refl, sym, ap, ◌∙◌, subst, inl, inr, arith, length, drop, length-append, append_assoc, add-zero, zero-add, length-drop}
+use Rattle.std.proofs.lemmas.Bool.{cases_lt}
+use Rattle.std.proofs.lemmas.Bool.Decides.{nat_tests}
 use Rattle.std.proofs.lemmas.List.{drop-append-le}
 use Rattle.cesu8_text.specs.Text.{IsScalarValue, IsText, utf8}
 use Rattle.cesu8_text.specs.Encoding.{Flavor, encoding}
 use Rattle.cesu8_text.specs.Reading.{BeginsWith, NoneBegins, StandsAt, width, reading, IsStrictReading}
 use Rattle.cesu8_text.specs.Cutting.{Piece, Character, Replaced, ArePieces, bytes_of, text_of, IsGreedy}
 use Rattle.cesu8_text.specs.Laws.{NoneCrosses}
-use Rattle.cesu8_decode.specs.DecodedOffsets.{width_at, is_ill_formed_at}
+use Rattle.cesu8_decode.specs.DecodedOffsets.{width_at, ill_formed_by, is_ill_formed_at}
 use Rattle.cesu8_bytes.specs.TextChunks.{IsReadSoFar}
 use Rattle.cesu8_bytes.specs.declared.strictness.Strictness.{Strictness}
 use Rattle.cesu8_bytes.specs.declared.strictness.Strictness.TheVariants.{Strict}
@@ -67,13 +68,7 @@ fault_later f c bytes scalar fault =
 by_pieces : (f : Flavor) (pieces : List Piece) → ArePieces pieces → IsGreedy f pieces →
     IsStrictReading f (bytes_of f pieces) (text_of pieces) ⊎ HasFault f (bytes_of f pieces)
 by_pieces f [] are_pieces is_greedy = inl (tt, encoding_nil f)
-by_pieces f (Character c ∷ pieces) are_pieces is_greedy =
-    ⊎_elim (λ (whole : IsStrictReading f (bytes_of f pieces) (text_of pieces)). inl (
-      (are_pieces.0, whole.0),
-      encoding_cons f c (text_of pieces) ∙ ap (λ bs. encoding f (c ∷ []) ++ bs) whole.1,
-    ))
-    (λ (faulty : HasFault f (bytes_of f pieces)). inr (fault_later f c (bytes_of f pieces) are_pieces.0 faulty))
-    (by_pieces f pieces are_pieces.1 is_greedy)
+by_pieces f (Character c ∷ pieces) are_pieces is_greedy = grind (arith, encoding_cons, fault_later, by_pieces f pieces are_pieces.1 is_greedy)
 by_pieces f (Replaced b ∷ pieces) are_pieces is_greedy =
     let bytes = b ∷ bytes_of f pieces in
     inr (record {
@@ -88,11 +83,8 @@ by_pieces f (Replaced b ∷ pieces) are_pieces is_greedy =
 pub whole_or_faulty : (f : Flavor) (bytes : List ℕ) → IsStrictReading f bytes (reading f bytes) ⊎ HasFault f bytes
 whole_or_faulty f bytes =
     let cutting = greedy_cutting f bytes in
-    ⊎_elim (λ (whole : IsStrictReading f (bytes_of f cutting.pieces) (text_of cutting.pieces)).
-    inl (subst (IsStrictReading f bytes) (places f bytes cutting.pieces cutting.cuts cutting.greedy)
-    (subst (λ bs. IsStrictReading f bs (text_of cutting.pieces)) cutting.cuts.1 whole)))
-    (λ (faulty : HasFault f (bytes_of f cutting.pieces)). inr (subst (HasFault f) cutting.cuts.1 faulty))
-    (by_pieces f cutting.pieces cutting.cuts.0 cutting.greedy)
+    let text_is = places f bytes cutting.pieces cutting.cuts cutting.greedy in
+    grind (arith, by_pieces f cutting.pieces cutting.cuts.0 cutting.greedy)
 
 -- ---- what is covered
 
@@ -100,8 +92,8 @@ whole_or_faulty f bytes =
 pub encoding_covered : (f : Flavor) (text : List ℕ) (i : ℕ) → IsText text → i < length (encoding f text) → IsCovered f (encoding f text) i
 encoding_covered f [] i is_text inside = absurd (omega (arith, ap length (encoding_nil f)))
 encoding_covered f (c ∷ text) i is_text inside =
-    subst (λ bs. IsCovered f bs i) (sym (encoding_cons f c text))
-    (⊎_elim (λ (first : i < width f c). record {
+    let long = length-append (encoding f (c ∷ [])) (encoding f text) in
+    rw (encoding_cons f c text) (⊎_elim (λ (first : i < width f c). record {
       offset = 0;
       character = c;
       stands = (encoding f text, record { scalar = is_text.0; bytes_are = refl });
@@ -109,7 +101,6 @@ encoding_covered f (c ∷ text) i is_text inside =
       ends = omega arith;
     })
     (λ (after : width f c ≤ i).
-    let long = length-append (encoding f (c ∷ [])) (encoding f text) in
     let covered = encoding_covered f text (i - width f c) is_text.1 (omega (arith, ap length (encoding_cons f c text))) in record {
       offset = width f c + covered.offset;
       character = covered.character;
@@ -146,19 +137,13 @@ covered_read f bytes covered =
     (λ (fault : HasFault f bytes).
     let front = encoding f fault.before.text in
     let bytes_are = fault.before.strict_reading refl in
-    absurd (fault_not_covered f fault.before.text fault.rest fault.before.scalars fault.none_begins
-    (subst (λ bs. IsCovered f bs (length front)) bytes_are
-    (covered (length front) (omega (arith, ap length bytes_are, length-append front fault.rest, fault.some))))))
+    let there = subst (λ bs. (i : ℕ) → i < length bs → IsCovered f bs i) bytes_are covered (length front) (omega (arith, length-append front fault.rest, fault.some)) in
+    absurd (fault_not_covered f fault.before.text fault.rest fault.before.scalars fault.none_begins there))
     (whole_or_faulty f bytes)
 
 -- Those with an offset that is not covered have a fault.
 pub uncovered_fault : (f : Flavor) (bytes : List ℕ) (i : ℕ) → i < length bytes → (IsCovered f bytes i → ⊥) → HasFault f bytes
-uncovered_fault f bytes i inside uncovered =
-    ⊎_elim (λ (reads : IsStrictReading f bytes (reading f bytes)).
-    absurd (uncovered (subst (λ bs. IsCovered f bs i) reads.1
-    (encoding_covered f (reading f bytes) i reads.0 (omega (arith, ap length reads.1))))))
-    (λ faulty. faulty)
-    (whole_or_faulty f bytes)
+uncovered_fault f bytes i inside uncovered = grind (arith, whole_or_faulty f bytes, encoding_covered)
 
 -- What a character covers that ends in the front, it covers there.
 pub covered_in_front : (f : Flavor) (front back : List ℕ) (i : ℕ) → NoneCrosses f front back → i < length front →
@@ -179,55 +164,25 @@ covered_in_front f front back i crosses inside covered =
 -- ---- by widths
 
 -- a byte that is not ill-formed is in reach of a character
-pub reached : (f : Flavor) (window : List ℕ) (i : ℕ) → is_ill_formed_at f window i ≡ false →
-    (s : ℕ) × (s < 6) × (6 ≤ width_at f window (i + s) + s)
-reached f window i fine =
-    let w = width_at f window in
-    ⊎_elim (λ h. (5, omega arith, omega (arith, leb-true 1 (w (i + 5)) h)))
-    (λ h. ⊎_elim (λ h. (4, omega arith, omega (arith, leb-true 2 (w (i + 4)) h)))
-    (λ h. ⊎_elim (λ h. (3, omega arith, omega (arith, leb-true 3 (w (i + 3)) h)))
-    (λ h. ⊎_elim (λ h. (2, omega arith, omega (arith, eqb-true (w (i + 2)) 6 h)))
-    (λ h. ⊎_elim (λ h. (1, omega arith, omega (arith, eqb-true (w (i + 1)) 6 h)))
-    (λ h. (0, omega arith, omega (arith, eqb-true (w i) 6 h, ap w (add-zero i))))
-    (or_cases (eqb (w (i + 1)) 6) (eqb (w i) 6) h))
-    (or_cases (eqb (w (i + 2)) 6) _ h))
-    (or_cases (leb 3 (w (i + 3))) _ h))
-    (or_cases (leb 2 (w (i + 4))) _ h))
-    (or_cases (leb 1 (w (i + 5))) _ (not-false _ fine))
+reached : (w0 w1 w2 w3 w4 w5 : ℕ) → ill_formed_by w0 w1 w2 w3 w4 w5 ≡ false →
+    (1 ≤ w0) ⊎ ((2 ≤ w1) ⊎ ((3 ≤ w2) ⊎ ((w3 ≡ 6) ⊎ ((w4 ≡ 6) ⊎ (w5 ≡ 6)))))
+reached w0 w1 w2 w3 w4 w5 fine = grind (arith, nat_tests)
 
 -- and an ill-formed one of none
-not_six : (f : Flavor) (window : List ℕ) (i : ℕ) → eqb (width_at f window i) 6 ≡ false → width_at f window i ≤ 3
-not_six f window i differs =
-    ⊎_elim (λ small. small) (λ (six : width_at f window i ≡ 6). absurd (eqb-false (width_at f window i) 6 differs six)) (width_bounds f window i)
-
-not_reached : (f : Flavor) (window : List ℕ) (i : ℕ) → is_ill_formed_at f window i ≡ true → (s : ℕ) → s < 6 →
+pub not_reached : (f : Flavor) (window : List ℕ) (i : ℕ) → is_ill_formed_at f window i ≡ true → (s : ℕ) → s < 6 →
     width_at f window (i + s) + s < 6
-not_reached f window i ill_formed s small =
-    let w = width_at f window in
-    let h5 = or_parts (leb 1 (w (i + 5))) _ (not-true _ ill_formed) in
-    let h4 = or_parts (leb 2 (w (i + 4))) _ h5.1 in
-    let h3 = or_parts (leb 3 (w (i + 3))) _ h4.1 in
-    let h2 = or_parts (eqb (w (i + 2)) 6) _ h3.1 in
-    let h1 = or_parts (eqb (w (i + 1)) 6) (eqb (w i) 6) h2.1 in
-    six s small (leb-false 1 (w (i + 5)) h5.0) (leb-false 2 (w (i + 4)) h4.0) (leb-false 3 (w (i + 3)) h3.0)
-    (not_six f window (i + 2) h2.0) (not_six f window (i + 1) h1.0) (not_six f window i h1.1)
-  where
-    six : (s : ℕ) → s < 6 → width_at f window (i + 5) < 1 → width_at f window (i + 4) < 2 → width_at f window (i + 3) < 3 →
-        width_at f window (i + 2) ≤ 3 → width_at f window (i + 1) ≤ 3 → width_at f window i ≤ 3 → width_at f window (i + s) + s < 6
-    six zero small h5 h4 h3 h2 h1 h0 = omega (arith, ap (width_at f window) (add-zero i))
-    six (suc zero) small h5 h4 h3 h2 h1 h0 = omega arith
-    six (suc (suc zero)) small h5 h4 h3 h2 h1 h0 = omega arith
-    six (suc (suc (suc zero))) small h5 h4 h3 h2 h1 h0 = omega arith
-    six (suc (suc (suc (suc zero)))) small h5 h4 h3 h2 h1 h0 = omega arith
-    six (suc (suc (suc (suc (suc zero))))) small h5 h4 h3 h2 h1 h0 = omega arith
-    six (suc (suc (suc (suc (suc (suc s)))))) small h5 h4 h3 h2 h1 h0 = absurd (omega arith)
+not_reached f window i ill_formed s small = grind (arith, nat_tests, width_bounds)
 
 module _ (f : Flavor) (window bytes : List ℕ) (follows : Follows window bytes 5) (first : is_boundary_at f window 0 ≡ true) where
   -- A byte that is not ill-formed is covered,
   pub covered_where : (i : ℕ) → i < length bytes → is_ill_formed_at f window i ≡ false → IsCovered f bytes i
   covered_where i inside fine =
-      let reach = reached f window i fine in
-      by_offset reach.0 reach.1 reach.2
+      let w = width_at f window in
+      let here : w (i + 0) ≡ w i = ap w (add-zero i) in
+      ⊎_elim (λ h. by_offset 5 (omega arith) (omega (arith, h))) (⊎_elim (λ h. by_offset 4 (omega arith) (omega (arith, h)))
+      (⊎_elim (λ h. by_offset 3 (omega arith) (omega (arith, h))) (⊎_elim (λ h. by_offset 2 (omega arith) (omega (arith, h)))
+      (⊎_elim (λ h. by_offset 1 (omega arith) (omega (arith, h))) (λ h. by_offset 0 (omega arith) (omega (arith, h, here)))))))
+      (reached (w (i + 5)) (w (i + 4)) (w (i + 3)) (w (i + 2)) (w (i + 1)) (w i) fine)
     where
       by_offset : (s : ℕ) → s < 6 → 6 ≤ width_at f window (i + s) + s → IsCovered f bytes i
       by_offset s small far =
@@ -257,5 +212,5 @@ module _ (f : Flavor) (window bytes : List ℕ) (follows : Follows window bytes 
       ⊎_elim (λ (near : i < p + 6).
       let offset : i + (p + 5 - i) ≡ p + 5 = omega arith in
       omega (arith, not_reached f window i ill_formed (p + 5 - i) (omega arith), ap (width_at f window) offset))
-      (λ (far : p + 6 ≤ i). ⊎_elim (λ small. omega arith) (λ six. omega arith) (width_bounds f window (p + 5)))
+      (λ (far : p + 6 ≤ i). omega (arith, width_bounds f window (p + 5)))
       (cases_lt i (p + 6))

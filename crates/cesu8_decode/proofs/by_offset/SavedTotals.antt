@@ -4,7 +4,7 @@ use Rattle.cesu8_text.specs.Text.{IsScalarValue}
 use Rattle.cesu8_text.specs.Encoding.{Flavor, encoding}
 use Rattle.cesu8_text.specs.Reading.{NoneBegins}
 use Rattle.cesu8_decode.specs.DecodedOffsets.{first_width, saved, total_saved, saved_between}
-use Rattle.cesu8_decode.proofs.by_offset.FirstWidths.{begins_encoded, width_of_first, width_of_none, width_inside}
+use Rattle.cesu8_decode.proofs.by_offset.FirstWidths.{encoded_widths, width_of_none}
 use Rattle.cesu8_decode.proofs.by_offset.WindowOffsets.{Follows, follows_later, width_following, saved_split}
 
 -- No bytes save nothing.
@@ -27,10 +27,8 @@ module _ (f : Flavor) where
       total_saved f (encoding f (c ∷ []) ++ rest) ≡ saved (length (b ∷ prefix)) b + total_saved f rest
   unfolding total_saved
   first_saves c b prefix rest scalar same =
-      let bytes = b ∷ prefix ++ rest in
-      let begins = begins_encoded f c (b ∷ prefix) rest scalar same in
-      let inside = free prefix rest (λ j small. width_inside f bytes c (suc j) rest begins (omega arith) (omega (arith, ap length same))) in
-      rw (same, width_of_first f bytes c rest begins, ap length same) (ap (λ n. saved (length (b ∷ prefix)) b + n) inside)
+      let widths = encoded_widths f c b prefix rest scalar same in
+      rw (same, widths.0) (ap (λ n. saved (length (b ∷ prefix)) b + n) (free prefix rest (λ j small. widths.1 (suc j) (omega arith) (omega arith))))
 
   -- and a byte that is replaced nothing.
   pub replaced_saves : (b : ℕ) (rest : List ℕ) → NoneBegins f (b ∷ rest) → total_saved f (b ∷ rest) ≡ total_saved f rest

@@ -1,16 +1,17 @@
 -- The length of the lossy reading, by what each offset saves of three bytes.
-use Rattle.std.proofs.Common.{◌≡◌, ℕ, ◌+◌, ◌*◌, ◌^◌, ◌-◌, ◌<◌, ◌≤◌, ◌⊎◌, ⊎_elim, List, [], ◌∷◌, ◌++◌, refl, ap, ◌∙◌, inl, inr, arith, length, length-append, Result, Ok, Err}
+use Rattle.std.proofs.Common.{◌≡◌, ℕ, ◌+◌, ◌*◌, ◌^◌, ◌-◌, ◌<◌, ◌≤◌, ⊎_elim, List, [], ◌∷◌, ◌++◌, refl, ap, ◌∙◌, arith, length, length-append, Result, Ok, Err}
 use Rattle.std.specs.Option.{IfSome, IfNone}
 use Rattle.std.specs.Result.{OkIff, result_ok}
-use Rattle.std.proofs.lemmas.Bool.{ne_eqb, cases_eq, cases_lt}
+use Rattle.std.proofs.lemmas.Bool.{ne_eqb, cases_lt}
 use Rattle.cesu8_text.specs.Text.{IsScalarValue, utf8_of, utf8}
-use Rattle.cesu8_text.specs.Encoding.{Flavor, Cesu8, Mutf8, encoding}
+use Rattle.cesu8_text.specs.Encoding.{Flavor, encoding}
 use Rattle.cesu8_text.specs.Reading.{width, lossy_length}
 use Rattle.cesu8_text.specs.Cutting.{Piece, Character, Replaced, ArePieces, bytes_of, text_of, IsGreedy}
 use Rattle.cesu8_decode.specs.DecodedOffsets.{saved, total_saved}
 use Rattle.cesu8_text.proofs.text.Shapes.{Shape, one, two, three, pair, shape, utf8_of_one, utf8_of_two, utf8_of_three, utf8_of_pair}
-use Rattle.cesu8_text.proofs.encoding.Forms.{encoding_one, encoding_two, encoding_three, encoding_pair, short_form_null, short_form_other}
+use Rattle.cesu8_text.proofs.encoding.Forms.{encoding_two, encoding_three, encoding_pair}
 use Rattle.cesu8_text.proofs.reading.Decoding.{length_utf8_replaced}
+use Rattle.cesu8_decode.proofs.by_offset.FirstWidths.{ascii_forms}
 use Rattle.cesu8_decode.proofs.by_offset.SavedTotals.{first_saves, replaced_saves}
 use Rattle.cesu8_text.proofs.reading.Cuttings.{greedy_cutting}
 use Rattle.cesu8_text.proofs.reading.Greedy.{places}
@@ -30,16 +31,11 @@ by_lengths f c b n prefix rest scalar same in_utf8 fits = record {
   fits = rw (in_utf8, ap length same) fits;
 }
 
-ascii_saves : (f : Flavor) (c : ℕ) (rest : List ℕ) → IsScalarValue c → c < 0x80 → (c ≡ 0) ⊎ (c ≡ 0 → ⊥) → Saves f c rest
-ascii_saves Cesu8 c rest scalar ascii _ =
-    by_lengths Cesu8 c c 1 [] rest scalar (encoding_one Cesu8 c ascii) (ap length (utf8_of_one c ascii)) refl
-ascii_saves Mutf8 c rest scalar ascii (inl null) =
-    by_lengths Mutf8 c 0xC0 1 (0x80 ∷ []) rest scalar (encoding_one Mutf8 c ascii ∙ short_form_null c null) (ap length (utf8_of_one c ascii)) refl
-ascii_saves Mutf8 c rest scalar ascii (inr some) =
-    by_lengths Mutf8 c c 1 [] rest scalar (encoding_one Mutf8 c ascii ∙ short_form_other Mutf8 c some) (ap length (utf8_of_one c ascii)) refl
-
 character_saves : (f : Flavor) (c : ℕ) (rest : List ℕ) → IsScalarValue c → Shape c → Saves f c rest
-character_saves f c rest scalar (one ascii) = ascii_saves f c rest scalar ascii (cases_eq c 0)
+character_saves f c rest scalar (one ascii) =
+    let in_utf8 = ap length (utf8_of_one c ascii) in
+    ⊎_elim (λ same. by_lengths f c c 1 [] rest scalar same in_utf8 refl)
+    (λ null. by_lengths f c 0xC0 1 (0x80 ∷ []) rest scalar null.1 in_utf8 refl) (ascii_forms f c ascii)
 character_saves f c rest scalar (two x y digits) =
     by_lengths f c (0xC0 + x) 2 ((0x80 + y) ∷ []) rest scalar (encoding_two f c x y digits) (ap length (utf8_of_two c x y digits))
     (rw (ne_eqb (0xC0 + x) 0xC0 (λ e. omega (arith, digits.low))) refl)

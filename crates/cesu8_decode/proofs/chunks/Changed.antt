@@ -1,19 +1,19 @@
 -- Characters that change: how they are read, and by a prefix of the bytes that they begin.
+use Rattle.std.proofs.lemmas.Bool.Decides.{nat_tests}
 use Rattle.std.proofs.lemmas.Grind.{common_steps}
-use Rattle.std.proofs.Common.{◌≡◌, ℕ, ◌<◌, ◌≤◌, List, [], ◌∷◌, ◌++◌, sym, ap, ◌∙◌, inl, inr, ⊎_elim, true, eqb, arith, length, drop, get_or, append-nil}
-use Rattle.std.proofs.lemmas.Bool.{and_parts, eqb-true, cases_eq}
+use Rattle.std.proofs.Common.{◌≡◌, ℕ, ◌≤◌, List, [], ◌∷◌, ◌++◌, sym, ap, ◌∙◌, ⊎_elim, true, arith, length, drop, get_or, append-nil}
 use Rattle.std.proofs.Math.Seq.{drop-append_seam}
 use Rattle.cesu8_text.specs.Text.{utf8_of}
-use Rattle.cesu8_text.specs.Encoding.{Flavor, Cesu8, Mutf8, encoding}
+use Rattle.cesu8_text.specs.Encoding.{Flavor, encoding}
 use Rattle.cesu8_text.specs.Reading.{width, reading}
 use Rattle.cesu8_decode.specs.DecodedOffsets.{first_width, IsPrefixOf, BeginsChanged}
 use Rattle.cesu8_bytes.specs.Pairs.{null_at, IsUtf8OfDigits, second_third_fifth_sixth, HasPair}
 use Rattle.cesu8_bytes.specs.TextChunks.{IsReadSoFar}
 use Rattle.cesu8_bytes.specs.declared.strictness.Strictness.{Strictness}
 use Rattle.cesu8_text.proofs.text.Shapes.{Shape, one, two, three, pair, shape, utf8_of_one}
-use Rattle.cesu8_text.proofs.encoding.Forms.{encoding_one, encoding_two, encoding_three, encoding_pair, short_form_null, short_form_other}
+use Rattle.cesu8_text.proofs.encoding.Forms.{encoding_two, encoding_three, encoding_pair}
 use Rattle.cesu8_text.proofs.encoding.Found.{found_pair}
-use Rattle.cesu8_decode.proofs.by_offset.FirstWidths.{IsWide, wide, width_of_first}
+use Rattle.cesu8_decode.proofs.by_offset.FirstWidths.{IsWide, ascii_forms, wide, width_of_first}
 use Rattle.cesu8_decode.proofs.by_offset.WidthTests.{null_found, pair_by_prefix, same_digits}
 use Rattle.cesu8_text.proofs.reading.Steps.{reading_character}
 
@@ -43,9 +43,8 @@ first_byte f bytes prefix found encoded =
 null_utf8 : (f : Flavor) (bytes : List ℕ) (found : IsWide f bytes) → Shape found.character → first_width f bytes ≡ 2 →
     get_or bytes 0 0 ≡ 0xC0 → 0 ∷ [] ≡ utf8_of found.character
 null_utf8 f bytes found (one ascii) width_is lead =
-    ⊎_elim (λ null. sym (utf8_of_one found.character ascii ∙ ap (λ c. c ∷ []) null))
-    (λ some. absurd (omega (arith, width_is, found.wide, ap length (encoding_one f found.character ascii ∙ short_form_other f found.character some))))
-    (cases_eq found.character 0)
+    ⊎_elim (λ same. absurd (omega (arith, width_is, found.wide, ap length same)))
+    (λ null. sym (utf8_of_one found.character ascii ∙ ap (λ c. c ∷ []) null.0)) (ascii_forms f found.character ascii)
 null_utf8 f bytes found (two x y digits) width_is lead =
     absurd (omega (arith, lead, digits.low, first_byte f bytes _ found (encoding_two f found.character x y digits)))
 null_utf8 f bytes found (three x y z digits) width_is lead =
@@ -55,8 +54,7 @@ null_utf8 f bytes found (pair w x y z digits) width_is lead =
 
 -- C0 leads the null of MUTF-8.
 pub null_lead : (f : Flavor) (a b : ℕ) → null_at f a b ≡ true → a ≡ 0xC0
-null_lead Cesu8 a b null = absurd (cc)
-null_lead Mutf8 a b null = eqb-true a 0xC0 (and_parts (eqb a 0xC0) (eqb b 0x80) null).0
+null_lead f a b null = grind (arith, nat_tests)
 
 -- So 00 is written for it.
 pub null_read : (f : Flavor) (which : Strictness) (bytes old new : List ℕ) → null_at f (get_or bytes 0 0) (get_or bytes 1 0) ≡ true →
@@ -72,13 +70,8 @@ null_read f which bytes old new null new_is =
 pair_utf8 : (f : Flavor) (bytes four : List ℕ) (found : IsWide f bytes) → Shape found.character → first_width f bytes ≡ 6 →
     IsUtf8OfDigits (second_third_fifth_sixth bytes) four → four ≡ utf8_of found.character
 pair_utf8 f bytes four found (one ascii) width_is is_utf8 =
-    absurd (omega (arith, width_is, found.wide, short_width f found.character ascii))
-  where
-    short_width : (f : Flavor) (c : ℕ) → c < 0x80 → width f c ≤ 2
-    short_width Cesu8 c ascii = omega (arith, ap length (encoding_one Cesu8 c ascii))
-    short_width Mutf8 c ascii =
-        ⊎_elim (λ null. omega (arith, ap length (encoding_one Mutf8 c ascii ∙ short_form_null c null)))
-        (λ some. omega (arith, ap length (encoding_one Mutf8 c ascii ∙ short_form_other Mutf8 c some))) (cases_eq c 0)
+    ⊎_elim (λ same. absurd (omega (arith, width_is, found.wide, ap length same)))
+    (λ null. absurd (omega (arith, width_is, found.wide, ap length null.1))) (ascii_forms f found.character ascii)
 pair_utf8 f bytes four found (two x y digits) width_is is_utf8 =
     absurd (omega (arith, width_is, found.wide, ap length (encoding_two f found.character x y digits)))
 pair_utf8 f bytes four found (three x y z digits) width_is is_utf8 =
@@ -107,12 +100,10 @@ pair_read f which bytes old four new width_is is_utf8 new_is =
 -- A character that changes is the null character if the bytes begin with C0, and else a surrogate pair.
 pub changed_null : (f : Flavor) (bytes : List ℕ) → BeginsChanged f bytes → get_or bytes 0 0 ≡ 0xC0 →
     null_at f (get_or bytes 0 0) (get_or bytes 1 0) ≡ true
-changed_null f bytes (inl has) lead = absurd (omega (arith, has.lead, lead))
-changed_null f bytes (inr null) lead = null
+changed_null f bytes begins lead = grind arith
 
 pub changed_pair : (f : Flavor) (bytes : List ℕ) → BeginsChanged f bytes → ¬ (get_or bytes 0 0 ≡ 0xC0) → HasPair bytes
-changed_pair f bytes (inl has) other = has
-changed_pair f bytes (inr null) other = absurd (other (null_lead f (get_or bytes 0 0) (get_or bytes 1 0) null))
+changed_pair f bytes begins other = grind (arith, null_lead)
 
 -- A pair is one in a prefix of the bytes too.
 pub pair_in_prefix : (bytes prefix : List ℕ) → IsPrefixOf bytes prefix → HasPair bytes → HasPair prefix

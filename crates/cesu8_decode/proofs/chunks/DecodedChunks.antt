@@ -1,6 +1,7 @@
 -- What a window of bytes becomes is a chunk of their text, or an ill-formed byte in it is their fault.
-use Rattle.std.proofs.Common.{◌≡◌, ℕ, ◌+◌, ◌<◌, ◌≤◌, true, false, List, [], ◌∷◌, ◌++◌, refl, sym, ap, ◌∙◌, subst, inr, arith, length, take, drop}
+use Rattle.std.proofs.Common.{◌≡◌, ℕ, ◌+◌, ◌<◌, ◌≤◌, true, false, List, [], ◌∷◌, ◌++◌, sym, ap, ◌∙◌, subst, inr, arith, length, take, drop}
 use Rattle.std.specs.Prelude.{slice_index}
+use Rattle.std.proofs.lemmas.Bool.Decides.{nat_tests}
 use Rattle.std.proofs.lemmas.List.{take-append-drop, length-take-le}
 use Rattle.cesu8_text.specs.Text.{IsText, utf8}
 use Rattle.cesu8_text.specs.Encoding.{Flavor}
@@ -8,7 +9,7 @@ use Rattle.cesu8_text.specs.Reading.{reading, IsStrictReading}
 use Rattle.cesu8_text.specs.Cutting.{Piece, Character, Replaced, ArePieces, text_of}
 use Rattle.cesu8_text.specs.Laws.{NoneCrosses}
 use Rattle.cesu8_bytes.specs.declared.strictness.Strictness.{Strictness}
-use Rattle.cesu8_bytes.specs.declared.strictness.Strictness.TheVariants.{Strict, Lossy}
+use Rattle.cesu8_bytes.specs.declared.strictness.Strictness.TheVariants.{Lossy}
 use Rattle.cesu8_decode.specs.DecodedOffsets.{decoded, is_ill_formed_at}
 use Rattle.cesu8_text.proofs.reading.Cuttings.{greedy_cutting}
 use Rattle.cesu8_text.proofs.reading.Greedy.{places}
@@ -34,13 +35,7 @@ reading_is_text f bytes =
 -- Before an offset that no character crosses, the lossy reading is a chunk in lossy reading,
 first_chunk : (f : Flavor) (bytes : List ℕ) (n : ℕ) → NoneCrosses f (take n bytes) (drop n bytes) →
     IsChunk f Lossy bytes (drop n bytes) (utf8 (reading f (take n bytes)))
-first_chunk f bytes n crosses = record {
-  text = reading f (take n bytes);
-  scalars = reading_is_text f (take n bytes);
-  lossy_reading = ap (reading f) (sym (take-append-drop n bytes)) ∙ (split f (take n bytes) (drop n bytes)).1 crosses;
-  strict_reading = λ (strict : Lossy ≡ Strict). absurd (cc);
-  written = refl;
-}
+first_chunk f bytes n crosses = grind (arith, nat_tests, reading_is_text, split, take-append-drop {A = ℕ})
 
 -- and in both where it is the strict reading.
 strict_first_chunk : (f : Flavor) (which : Strictness) (bytes : List ℕ) (n : ℕ) → IsStrictReading f (take n bytes) (reading f (take n bytes)) →

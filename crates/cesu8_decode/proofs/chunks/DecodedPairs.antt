@@ -1,7 +1,6 @@
 -- What a surrogate pair becomes where no character of two bytes or more begins shortly before.
-use Rattle.std.proofs.Common.{◌≡◌, ℕ, zero, suc, ◌+◌, ◌-◌, ◌<◌, ◌≤◌, true, false, List, [], ◌++◌, ⊎_elim, refl, sym, ap, ◌∙◌, arith, length, drop, length-drop}
-use Rattle.std.proofs.lemmas.Bool.{cases_lt}
-use Rattle.std.proofs.lemmas.Bool.Decides.{nat_tests}
+use Rattle.std.proofs.Common.{◌≡◌, ℕ, ◌+◌, ◌-◌, ◌<◌, ◌≤◌, true, false, List, [], ◌++◌, ⊎_elim, refl, sym, ap, ◌∙◌, arith, length, drop, length-drop}
+use Rattle.std.proofs.lemmas.Bool.{cases_Bool}
 use Rattle.std.proofs.lemmas.List.{drop-drop, append_cancel_right}
 use Rattle.cesu8_text.specs.Text.{utf8}
 use Rattle.cesu8_text.specs.Encoding.{Flavor}
@@ -12,6 +11,7 @@ use Rattle.cesu8_bytes.specs.declared.strictness.Strictness.TheVariants.{Lossy}
 use Rattle.cesu8_decode.specs.DecodedOffsets.{window_of, width_at, decoded, is_ill_formed_at}
 use Rattle.cesu8_decode.proofs.by_offset.CharacterBoundaries.{boundary_where, ends_before}
 use Rattle.cesu8_decode.proofs.by_offset.DecodedText.{decoded_from_boundary}
+use Rattle.cesu8_decode.proofs.by_offset.IllFormed.{not_reached}
 use Rattle.cesu8_decode.proofs.by_offset.WindowOffsets.{is_boundary_at, follows_zeros, follows_later, width_in, decoded_split}
 use Rattle.cesu8_decode.proofs.chunks.Changed.{pair_width, pair_read}
 
@@ -27,30 +27,18 @@ module _ (f : Flavor) (bytes : List ℕ) (at : ℕ) (has : HasPair (drop at byte
   pub none_inside : (s : ℕ) → s < 5 → w (at + 6 + s) ≡ 0
   none_inside s small =
       let there : at + 1 + s + 5 ≡ at + 6 + s = omega arith in
-      ⊎_elim (λ (begun : 0 < w (at + 6 + s)).
-      absurd (omega (
-        arith,
-        six,
-        ends_before f (window_of bytes) bytes at (at + 1 + s) (follows_zeros bytes) (omega arith)
-            (omega (arith, length-drop at bytes, long)) (omega (arith, ap w there)),
-      )))
-      (λ (none : w (at + 6 + s) ≤ 0). omega arith)
-      (cases_lt 0 (w (at + 6 + s)))
+      let same = ap w there in
+      let begun = six in
+      let ends = ends_before f (window_of bytes) bytes at (at + 1 + s) (follows_zeros bytes) (omega arith) (omega (arith, length-drop at bytes, long)) in
+      grind arith
 
   -- So none of its bytes is ill-formed.
   pub pair_fine : (i : ℕ) → at ≤ i → i < at + 6 → is_ill_formed_at f (window_of bytes) i ≡ false
   pair_fine i low inside =
-      let there : at + (i - at) ≡ i = omega arith in
-      sym (ap (is_ill_formed_at f (window_of bytes)) there) ∙ fine (i - at) (omega arith)
-    where
-      fine : (j : ℕ) → j < 6 → is_ill_formed_at f (window_of bytes) (at + j) ≡ false
-      fine zero small = let is = six in grind (arith, nat_tests)
-      fine (suc zero) small = let is : w (at + 1 + 4) ≡ 6 = ap w (omega arith) ∙ six in grind (arith, nat_tests)
-      fine (suc (suc zero)) small = let is : w (at + 2 + 3) ≡ 6 = ap w (omega arith) ∙ six in grind (arith, nat_tests)
-      fine (suc (suc (suc zero))) small = let is : w (at + 3 + 2) ≡ 6 = ap w (omega arith) ∙ six in grind (arith, nat_tests)
-      fine (suc (suc (suc (suc zero)))) small = let is : w (at + 4 + 1) ≡ 6 = ap w (omega arith) ∙ six in grind (arith, nat_tests)
-      fine (suc (suc (suc (suc (suc zero))))) small = let is = six in grind (arith, nat_tests)
-      fine (suc (suc (suc (suc (suc (suc j)))))) small = absurd (omega arith)
+      let there : i + (at + 5 - i) ≡ at + 5 = omega arith in
+      ⊎_elim (λ (ill_formed : is_ill_formed_at f (window_of bytes) i ≡ true).
+      absurd (omega (arith, six, not_reached f (window_of bytes) i ill_formed (at + 5 - i) (omega arith), ap w there))) (λ fine. fine)
+      (cases_Bool (is_ill_formed_at f (window_of bytes) i))
 
   -- They become its UTF-8.
   pub pair_decoded : ((s : ℕ) → s < 5 → w (at + s) ≤ 1) → (four : List ℕ) → IsUtf8OfDigits (second_third_fifth_sixth (drop at bytes)) four →

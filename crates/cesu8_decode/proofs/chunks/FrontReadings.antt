@@ -37,11 +37,7 @@ otherwise_begins Mutf8 c rest (one ascii) (inr high) = absurd (omega arith)
 otherwise_begins f c rest (two x y digits) needs = absurd (not_otherwise f c (omega arith) (omega arith) needs)
 otherwise_begins f c rest (three x y z digits) needs = absurd (not_otherwise f c (omega arith) (omega arith) needs)
 otherwise_begins f c rest (pair w x y z digits) needs =
-    rw (encoding_pair f c w x y z digits) (inl (record {
-      lead = refl;
-      high = (omega arith, omega arith);
-      ends = ((omega arith, omega arith), refl, (omega arith, omega arith), (omega arith, omega arith));
-    }))
+    rw (encoding_pair f c w x y z digits) (inl (grind arith))
 
 -- so none begins bytes that begin with neither.
 none_otherwise : (f : Flavor) (bytes : List ℕ) → ¬ (BeginsChanged f bytes) → (c : ℕ) (rest : List ℕ) → IsEncodedOtherwise f c →

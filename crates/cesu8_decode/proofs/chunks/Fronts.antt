@@ -1,15 +1,15 @@
 -- How many bytes at the front are whole characters of a set.
-use Rattle.std.proofs.Common.{◌≡◌, ℕ, zero, suc, ◌+◌, ◌<◌, ◌≤◌, ◌↔◌, ⊎_elim, Bool, true, false, true≢false, not, cond, eqb, leb, ◌&&◌, ◌||◌, get_or, List, [], ◌∷◌, ◌++◌, refl, sym, ap, ◌∙◌, subst, arith, length, take, drop, length-append, length-drop}
+use Rattle.std.proofs.Common.{◌≡◌, ℕ, ◌+◌, ◌<◌, ◌≤◌, ◌↔◌, ⊎_elim, true, false, true≢false, not, cond, leb, ◌&&◌, get_or, ltb, List, [], ◌∷◌, ◌++◌, refl, sym, ap, ◌∙◌, subst, arith, length, take, drop, length-append, length-drop}
 use Rattle.std.proofs.Math.Seq.{take-add, take-append_seam, take-length}
-use Rattle.std.proofs.lemmas.Bool.{cases_lt, le-leb, le-ltb, ne_eqb, or_parts, or_right}
+use Rattle.std.proofs.lemmas.Bool.{agree_below_at, cases_lt, ltb-true}
+use Rattle.std.proofs.lemmas.Bool.Decides.{nat_tests}
 use Rattle.std.proofs.lemmas.List.{take_all, take-append-drop, length-take-le}
-use Rattle.cesu8_text.specs.Class.{is_null}
-use Rattle.cesu8_text.specs.Encoding.{Flavor, Cesu8, Mutf8, encoding}
+use Rattle.cesu8_text.specs.Encoding.{Flavor, encoding}
 use Rattle.cesu8_text.specs.Reading.{BeginsWith, NoneBegins, StandsAt, width, LiesWithin, Damaged}
 use Rattle.cesu8_text.specs.Fronts.{IsValidUpTo}
 use Rattle.cesu8_text.proofs.encoding.Lengths.{length_of_character}
 use Rattle.cesu8_text.proofs.reading.Marks.{mark_from}
-use Rattle.cesu8_decode.specs.Following.{CharacterSet, Encoded, has_changed, has_four, leads_four, shown, follows, crosses, after_fillers, FollowUpTo, crosses_at}
+use Rattle.cesu8_decode.specs.Following.{CharacterSet, Encoded, has_changed, has_four, shown, follows, crosses, after_fillers, FollowUpTo, crosses_at}
 use Rattle.cesu8_decode.specs.Front.{AreWhole, IsFront, written, IsOutside}
 use Rattle.cesu8_decode.proofs.by_offset.IllFormed.{none_crosses_encoding}
 use Rattle.cesu8_decode.proofs.chunks.WholeBytes.{none_outside, character_whole, parts_whole}
@@ -33,28 +33,12 @@ front_at s f bytes m n follow fits none crossed = record {
 pub lead_shown : (s : CharacterSet) (f : Flavor) (e g : ℕ) → 0xC0 ≤ g →
     shown s f e g ≡ cond (leb 0xF0 e && not (has_four s)) 0x40 (cond (leb 0xC0 e) 0x01 0)
 unfolding shown
-lead_shown s f e g high = rw (no_null f, le-ltb g 0xC0 high, le-leb 0x80 g (omega (arith, high))) refl
-  where
-    no_null : (f : Flavor) → is_null f g ≡ false
-    no_null Cesu8 = refl
-    no_null Mutf8 = ne_eqb g 0 (λ same. omega (arith, same, high))
+lead_shown s f e g high = grind (arith, nat_tests)
 
 -- Where it may follow and no character changes, none crosses the boundary before it.
 pub before_lead : (s : CharacterSet) (f : Flavor) → has_changed s ≡ false → (a b d e g : ℕ) → 0xC0 ≤ g → follows s f a b d e g ≡ true →
     crosses s a b d e ≡ false
-before_lead s f none a b d e g high fits =
-    let tests = rw (lead_shown s f e g high, none) at fits in
-    let found = by_tests (leb 0xF0 e && not (has_four s)) (leb 0xC0 e) (leads_four s b || leb 0xE0 d) tests in
-    let parts = or_parts (leads_four s b) (leb 0xE0 d) found.1 in
-    rw (none, found.0, parts.0, parts.1) refl
-  where
-    by_tests : (t u v : Bool) → eqb (cond t 0x40 (cond u 0x01 0)) (cond v 0x80 0 + 0) ≡ true → (u ≡ false) × (v ≡ false)
-    by_tests true u true is = absurd (true≢false (sym is))
-    by_tests true u false is = absurd (true≢false (sym is))
-    by_tests false true true is = absurd (true≢false (sym is))
-    by_tests false true false is = absurd (true≢false (sym is))
-    by_tests false false true is = absurd (true≢false (sym is))
-    by_tests false false false is = (refl, refl)
+before_lead s f none a b d e g high fits = let tests = rw (lead_shown s f e g high, none) at fits in grind (arith, nat_tests)
 
 -- There the front ends, if the character that the byte leads is cut off.
 pub cut_at : (s : CharacterSet) (f : Flavor) (bytes : List ℕ) (m n : ℕ) → has_changed s ≡ false → FollowUpTo s f bytes m → n < m →
@@ -70,25 +54,19 @@ module _ (s : CharacterSet) (bytes : List ℕ) (n : ℕ) where
   byte i = ap (λ i. get_or (after_fillers bytes) i 0)
 
   pub crosses_next : 0xC0 ≤ get_or (after_fillers bytes) (n + 4) 0 → crosses_at s (after_fillers bytes) (n + 1) ≡ true
-  crosses_next high = rw (le-leb 0xC0 (get_or (after_fillers bytes) (n + 1 + 3) 0) (omega (arith, high, byte (n + 1 + 3) (omega arith)))) refl
+  crosses_next high = let lead = byte (n + 1 + 3) (omega arith) in grind (arith, nat_tests)
 
   pub crosses_second : 0xE0 ≤ get_or (after_fillers bytes) (n + 4) 0 → crosses_at s (after_fillers bytes) (n + 2) ≡ true
-  crosses_second high =
-      or_right (leb 0xC0 (get_or (after_fillers bytes) (n + 2 + 3) 0)) _
-      (rw (le-leb 0xE0 (get_or (after_fillers bytes) (n + 2 + 2) 0) (omega (arith, high, byte (n + 2 + 2) (omega arith)))) refl)
+  crosses_second high = let lead = byte (n + 2 + 2) (omega arith) in grind (arith, nat_tests)
 
   pub crosses_third : has_four s ≡ true → 0xF0 ≤ get_or (after_fillers bytes) (n + 4) 0 → crosses_at s (after_fillers bytes) (n + 3) ≡ true
-  crosses_third four high =
-      or_right (leb 0xC0 (get_or (after_fillers bytes) (n + 3 + 3) 0)) _ (or_right (leb 0xE0 (get_or (after_fillers bytes) (n + 3 + 2) 0)) _
-      (rw (four, le-leb 0xF0 (get_or (after_fillers bytes) (n + 3 + 1) 0) (omega (arith, high, byte (n + 3 + 1) (omega arith)))) refl))
+  crosses_third four high = let lead = byte (n + 3 + 1) (omega arith) in grind (arith, nat_tests)
 
 -- and is none of the fillers.
 pub behind_fillers : (bytes : List ℕ) (i : ℕ) → 0xC0 ≤ get_or (after_fillers bytes) i 0 → 4 ≤ i
-behind_fillers bytes zero high = absurd (omega (arith, high))
-behind_fillers bytes (suc zero) high = absurd (omega (arith, high))
-behind_fillers bytes (suc (suc zero)) high = absurd (omega (arith, high))
-behind_fillers bytes (suc (suc (suc zero))) high = absurd (omega (arith, high))
-behind_fillers bytes (suc (suc (suc (suc i)))) high = omega arith
+behind_fillers bytes i high =
+    ⊎_elim (λ (near : i < 4). let filler = agree_below_at (λ i. ltb (get_or (after_fillers bytes) i 0) 0xC0) (λ _. true) 4 i refl near in
+    absurd (omega (arith, ltb-true _ 0xC0 filler))) (λ far. far) (cases_lt i 4)
 
 -- All bytes are one, if they are whole.
 pub all_front : (s : CharacterSet) (f : Flavor) (bytes : List ℕ) → AreWhole s f bytes → IsFront s f bytes (length bytes)
@@ -103,9 +81,7 @@ module _ (s : CharacterSet) (f : Flavor) (bytes : List ℕ) (n : ℕ) (front : I
   pub front_of_all : (n ≡ length bytes) ↔ AreWhole s f bytes
   front_of_all = (
     λ all. subst (AreWhole s f) (take_all n bytes (omega (arith, all))) front.whole,
-    λ whole. ⊎_elim
-        (λ (more : n < length bytes). absurd (front.greatest (length bytes) more (omega arith) (subst (AreWhole s f) (sym (take-length bytes)) whole)))
-        (λ (all : length bytes ≤ n). omega (arith, front.within)) (cases_lt n (length bytes)),
+    λ whole. let all = subst (AreWhole s f) (sym (take-length bytes)) whole in grind (arith, front.greatest (length bytes)),
   )
 
   -- There are more bytes where they are not whole.

@@ -1,7 +1,7 @@
 -- Text that is read a chunk at a time.
 use Rattle.std.proofs.lemmas.Bool.Decides.{nat_tests}
 use Rattle.std.proofs.lemmas.Grind.{common_steps}
-use Rattle.std.proofs.Common.{◌≡◌, ℕ, List, [], ◌∷◌, ◌++◌, refl, sym, ap, ◌∙◌, arith, length, subst}
+use Rattle.std.proofs.Common.{◌≡◌, ℕ, List, [], ◌++◌, refl, sym, ap, ◌∙◌, arith, length, subst}
 use Rattle.cesu8_text.specs.Text.{IsText, utf8}
 use Rattle.cesu8_text.specs.Encoding.{Flavor, encoding}
 use Rattle.cesu8_text.specs.Reading.{reading, lossy_length, HasNoStrictReading}
@@ -58,8 +58,7 @@ fault_of_whole f bytes fault =
 -- Where no bytes are left, that can be said of the empty list.
 pub none_left : (f : Flavor) (which : Strictness) (bytes rest old new : List ℕ) → IsReadSoFar f which bytes rest old new →
     length rest ≡ 0 → IsReadSoFar f which bytes [] old new
-none_left f which bytes [] old new so_far empty = so_far
-none_left f which bytes (b ∷ rest) old new so_far empty = absurd (omega arith)
+none_left f which bytes rest old new so_far empty = grind (arith, common_steps)
 
 -- A chunk that leaves nothing is the text of the whole.
 pub whole_text : (f : Flavor) (which : Strictness) (bytes chunk : List ℕ) → IsChunk f which bytes [] chunk → IsDecodedText f which bytes (chars chunk)
@@ -69,11 +68,4 @@ whole_text f which bytes chunk read =
 
 -- What is read strictly is read so in either reading.
 pub reads_either : (f : Flavor) (which : Strictness) (bytes text : List ℕ) → IsChunk f Strict bytes [] text → IsChunk f which bytes [] text
-reads_either f Strict bytes text read = read
-reads_either f Lossy bytes text read = record {
-  text = read.text;
-  scalars = read.scalars;
-  lossy_reading = read.lossy_reading;
-  strict_reading = λ (strict : Lossy ≡ Strict). absurd (cc);
-  written = read.written;
-}
+reads_either f which bytes text read = grind arith

@@ -1,13 +1,14 @@
 -- Where a byte shows that no encoded character crosses the boundary before it.
-use Rattle.std.proofs.Common.{◌≡◌, ℕ, zero, suc, ◌+◌, ◌-◌, ◌<◌, ◌≤◌, ◌⊎◌, inl, inr, ⊎_elim, List, [], ◌∷◌, ◌++◌, refl, sym, ap, ◌∙◌, subst, arith, length, take, drop, get_or}
+use Rattle.std.proofs.Common.{◌≡◌, ℕ, zero, suc, ◌+◌, ◌-◌, ◌<◌, ◌≤◌, ◌⊎◌, inl, ⊎_elim, List, [], ◌∷◌, ◌++◌, sym, ap, ◌∙◌, subst, arith, length, take, drop, get_or}
 use Rattle.std.specs.Prelude.{⊤}
-use Rattle.std.proofs.lemmas.Bool.{cases_eq, cases_lt}
+use Rattle.std.proofs.lemmas.Bool.{cases_lt}
 use Rattle.std.proofs.lemmas.List.{get_or-drop, take-append-drop, length-take-le}
-use Rattle.cesu8_text.specs.Encoding.{Flavor, Cesu8, Mutf8, encoding}
+use Rattle.cesu8_text.specs.Encoding.{Flavor, encoding}
 use Rattle.cesu8_text.specs.Laws.{NoneCrosses}
 use Rattle.cesu8_text.specs.Patterns.{IsContinuation}
 use Rattle.cesu8_text.specs.Reading.{StandsAt, width}
-use Rattle.cesu8_text.proofs.encoding.Forms.{encoding_one, encoding_two, encoding_three, encoding_pair, short_form_null, short_form_other}
+use Rattle.cesu8_text.proofs.encoding.Forms.{encoding_two, encoding_three, encoding_pair}
+use Rattle.cesu8_decode.proofs.by_offset.FirstWidths.{ascii_forms}
 use Rattle.cesu8_text.proofs.text.Shapes.{Shape, one, two, three, pair, shape}
 
 -- A byte may be one of a character behind the first,
@@ -28,27 +29,20 @@ each_may (b ∷ bytes) rest (suc k) all less = each_may bytes rest k all.1 (omeg
 -- So it is with those of a character.
 later_byte : (f : Flavor) (c : ℕ) (rest : List ℕ) (k : ℕ) → Shape c → suc k < width f c → MayBeLater (get_or (encoding f (c ∷ []) ++ rest) (suc k) 0)
 unfolding MayAllBe
-later_byte Cesu8 c rest k (one ascii) less = absurd (omega (arith, less, ap length (encoding_one Cesu8 c ascii)))
-later_byte Mutf8 c rest k (one ascii) less =
-    let is = encoding_one Mutf8 c ascii in
-    ⊎_elim (λ null. let long = is ∙ short_form_null c null in
-    rw long (each_may (0x80 ∷ []) rest k (inl (omega arith, omega arith), tt) (omega (arith, less, ap length long))))
-    (λ other. absurd (omega (arith, less, ap length (is ∙ short_form_other Mutf8 c other)))) (cases_eq c 0)
+later_byte f c rest k (one ascii) less =
+    ⊎_elim (λ same. absurd (omega (arith, less, ap length same)))
+    (λ null. rw null.1 (each_may (0x80 ∷ []) rest k (inl (omega arith, omega arith), tt) (omega (arith, less, ap length null.1)))) (ascii_forms f c ascii)
 later_byte f c rest k (two x y digits) less =
     let is = encoding_two f c x y digits in
     rw is (each_may ((0x80 + y) ∷ []) rest k (inl (omega arith, omega (arith, digits)), tt) (omega (arith, less, ap length is)))
 later_byte f c rest k (three x y z digits) less =
     let is = encoding_three f c x y z digits in
-    let all : MayAllBe ((0x80 + y) ∷ (0x80 + z) ∷ []) = (inl (omega arith, omega (arith, digits)), (inl (omega arith, omega (arith, digits)), tt)) in
+    let all : MayAllBe ((0x80 + y) ∷ (0x80 + z) ∷ []) = grind arith in
     rw is (each_may ((0x80 + y) ∷ (0x80 + z) ∷ []) rest k all (omega (arith, less, ap length is)))
 later_byte f c rest k (pair w x y z digits) less =
     let is = encoding_pair f c w x y z digits in
     let later = (0xA0 + w) ∷ (0x80 + x) ∷ 0xED ∷ (0xB0 + y) ∷ (0x80 + z) ∷ [] in
-    let second : MayBeLater (0xA0 + w) = inl (omega arith, omega (arith, digits)) in
-    let third : MayBeLater (0x80 + x) = inl (omega arith, omega (arith, digits)) in
-    let fifth : MayBeLater (0xB0 + y) = inl (omega arith, omega (arith, digits)) in
-    let sixth : MayBeLater (0x80 + z) = inl (omega arith, omega (arith, digits)) in
-    let all : MayAllBe later = (second, (third, (inr refl, (fifth, (sixth, tt))))) in
+    let all : MayAllBe later = grind arith in
     rw is (each_may later rest k all (omega (arith, less, ap length is)))
 
 -- None crosses the boundary before another byte.

@@ -1,11 +1,11 @@
 -- The set of a few bytes that may not follow, as the bits of a word.
-use Rattle.std.proofs.Common.{replicate, subst, ◌≡◌, ℕ, zero, suc, ◌+◌, ◌-◌, ◌*◌, ◌/◌, ◌%◌, ◌^◌, ◌<◌, ◌≤◌, ⊎_elim, Bool, true, false, not, List, ◌∷◌, ◌++◌, refl, sym, ap, ◌∙◌, arith, length, drop, get_or, map, length-drop, pow-suc}
+use Rattle.std.proofs.Common.{replicate, subst, eqb, ◌≡◌, ℕ, zero, suc, ◌+◌, ◌-◌, ◌*◌, ◌/◌, ◌%◌, ◌^◌, ◌<◌, ◌≤◌, ⊎_elim, Bool, true, false, not, List, ◌++◌, refl, sym, ap, ◌∙◌, arith, length, drop, get_or, map, length-drop, pow-suc}
 use Rattle.std.specs.Int.Count.{count_trailing_zeros}
 use Rattle.std.specs.List.{range_with_len, prefix_len}
 use Rattle.std.specs.Simd.Lanes.{mask_l}
-use Rattle.std.proofs.lemmas.Bool.{cases_lt, not-true, not-false}
+use Rattle.std.proofs.lemmas.Bool.{agree_below_at, eqb-true, cases_lt, not-true, not-false}
 use Rattle.std.proofs.Math.ListN.{get_or-append}
-use Rattle.std.proofs.lemmas.List.{get_or-append_right, get_or-drop, drop-map}
+use Rattle.std.proofs.lemmas.List.{get_or-append_right, get_or-drop}
 use Rattle.std.proofs.lemmas.List.FromFn.{get_or-range_with_len, length-range_with_len, length-map-range_with_len}
 use Rattle.std.proofs.lemmas.List.Sums.{prefix_len_passes, prefix_len_stops}
 use Rattle.std.proofs.lemmas.Simd.{mask_l-lt, trailing_mask_l}
@@ -13,21 +13,11 @@ use Rattle.std.proofs.Math.Nat.{mul_assoc, mul_comm}
 use Rattle.std.proofs.Math.Pow.{pow_mono}
 use Rattle.cesu8_text.specs.Encoding.{Flavor}
 use Rattle.cesu8_bytes.proofs.vectors.Loads.{padded, zeros_at}
-use Rattle.cesu8_bytes.proofs.vectors.Rows.{mask_rest}
+use Rattle.std.proofs.lemmas.Nat.{div-mul-add}
 use Rattle.cesu8_decode.specs.Following.{CharacterSet, follows_at, crosses_at, after_fillers, AreStops, IsSeam, FollowUpTo}
+use Rattle.cesu8_decode.proofs.decoder.DecodedBlocks.{map_ranges}
 use Rattle.cesu8_decode.proofs.decoder.FirstLanes.{no_lane}
 use Rattle.cesu8_decode.proofs.decoder.FollowingBlocks.{behind_fillers, follows_agrees}
-
-drop_range : (n a m : ℕ) → drop n (range_with_len a m) ≡ range_with_len (n + a) (m - n)
-drop_range zero a m =
-    let first : a ≡ 0 + a = omega arith in
-    let many : m ≡ m - 0 = omega arith in
-    (λ i. range_with_len (first i) (many i))
-drop_range (suc n) a zero = let none : 0 ≡ 0 - suc n = omega arith in ap (range_with_len (suc n + a)) none
-drop_range (suc n) a (suc m) =
-    let first : n + (a + 1) ≡ suc n + a = omega arith in
-    let many : m - n ≡ suc m - suc n = omega arith in
-    drop_range n (a + 1) m ∙ (λ i. range_with_len (first i) (many i))
 
 -- The set of those of n numbers that pass a test, with the set of those behind them.
 pub joined_sets : (t : ℕ → Bool) (a n m : ℕ) →
@@ -57,19 +47,6 @@ small_set t a n few =
     let bits = ap (λ k. 2 ^ k) (length-map-range_with_len t a n) in
     omega (arith, mask_l-lt (map t (range_with_len a n)), bits, pow_mono few)
 
--- Where two tests agree, so do their sets.
-agreeing_tests : (t u : ℕ → Bool) (a b n : ℕ) → ((k : ℕ) → k < n → t (a + k) ≡ u (b + k)) → map t (range_with_len a n) ≡ map u (range_with_len b n)
-agreeing_tests t u a b zero agree = refl
-agreeing_tests t u a b (suc n) agree =
-    let here_a : a + 0 ≡ a = omega arith in
-    let here_b : b + 0 ≡ b = omega arith in
-    let first : t a ≡ u b = ap t (sym here_a) ∙ agree 0 (omega arith) ∙ ap u here_b in
-    let rest = agreeing_tests t u (a + 1) (b + 1) n (λ k few.
-    let there_a : a + 1 + k ≡ a + suc k = omega arith in
-    let there_b : b + 1 + k ≡ b + suc k = omega arith in
-    ap t there_a ∙ agree (suc k) (omega (arith, few)) ∙ ap u (sym there_b)) in
-    (λ i. first i ∷ rest i)
-
 -- ---- the set of the bytes that may not follow
 
 -- A block behind others shows which of its bytes may not.
@@ -91,7 +68,7 @@ module _ (s : CharacterSet) (f : Flavor) (bytes before block : List ℕ) (at : �
       let t : ℕ → Bool = λ k. not (follows_at s f (after_fillers bytes) k) in
       let u : ℕ → Bool = λ k. not (follows_at s f (drop 28 (before ++ block)) k) in
       record {
-        bits = stops.bits ∙ ap mask_l (agreeing_tests u t 0 (at + 0) 32 (λ k few. ap not (follows_agrees s f (drop 28 (before ++ block)) (after_fillers bytes) (0 + k) (at + 0 + k) (λ i five.
+        bits = stops.bits ∙ ap mask_l (map_ranges u t 0 (at + 0) 32 (λ k few. ap not (follows_agrees s f (drop 28 (before ++ block)) (after_fillers bytes) (0 + k) (at + 0 + k) (λ i five.
             let a : 0 + k + i ≡ k + i = omega arith in
             let b : at + (k + i) ≡ at + 0 + k + i = omega arith in
             ap (λ n. get_or (drop 28 (before ++ block)) n 0) a ∙ same (k + i) (omega (arith, few, five)) ∙ ap (λ n. get_or (after_fillers bytes) n 0) b))));
@@ -99,11 +76,8 @@ module _ (s : CharacterSet) (f : Flavor) (bytes before block : List ℕ) (at : �
 
 -- Behind fillers a block begins as the bytes do.
 pub behind_none : (bytes : List ℕ) (j : ℕ) → j < 4 → get_or (replicate 32 0x61) (28 + j) 0 ≡ get_or (after_fillers bytes) (0 + j) 0
-behind_none bytes zero few = refl
-behind_none bytes (suc zero) few = refl
-behind_none bytes (suc (suc zero)) few = refl
-behind_none bytes (suc (suc (suc zero))) few = refl
-behind_none bytes (suc (suc (suc (suc j)))) few = absurd (omega (arith, few))
+behind_none bytes j few =
+    eqb-true _ _ (agree_below_at (λ j. eqb (get_or (replicate 32 0x61) (28 + j) 0) (get_or (after_fillers bytes) (0 + j) 0)) (λ _. true) 4 j refl few)
 
 -- The bytes behind an offset with zeros have each of them.
 pub with_zeros : (bytes block : List ℕ) (at : ℕ) → block ≡ drop at bytes ++ replicate (32 - length (drop at bytes)) 0 → (j : ℕ) → j < 32 →
@@ -130,9 +104,12 @@ module _ (t : ℕ → Bool) (set from n : ℕ) (small : from ≤ n) (bits : n �
 
   rest_are : set / 2 ^ from ≡ mask_l (map t numbers)
   rest_are =
+      let all : from + (n - from) ≡ n = omega (arith, small) in
       let here : from + 0 ≡ from = omega arith in
-      ap (λ m. m / 2 ^ from) is ∙ mask_rest from (map t (range_with_len 0 n)) (omega (arith, small, length-map-range_with_len t 0 n))
-      ∙ ap mask_l (drop-map t from (range_with_len 0 n) ∙ ap (map t) (drop_range from 0 n ∙ ap (λ a. range_with_len a (n - from)) here))
+      let front = mask_l (map t (range_with_len 0 from)) in
+      let low : front < 2 ^ from = omega (arith, mask_l-lt (map t (range_with_len 0 from)), ap (λ k. 2 ^ k) (length-map-range_with_len t 0 from)) in
+      let parts = is ∙ ap (λ k. mask_l (map t (range_with_len 0 k))) (sym all) ∙ joined_sets t 0 from (n - from) ∙ ap (λ a. front + 2 ^ from * mask_l (map t (range_with_len a (n - from)))) here in
+      ap (λ m. m / 2 ^ from) (parts ∙ grind arith) ∙ div-mul-add (mask_l (map t numbers)) (2 ^ from) front low
 
   -- none from a number on passes where no bit is left,
   pub none_passes : set / 2 ^ from ≡ 0 → (k : ℕ) → from ≤ k → k < n → t k ≡ false

@@ -1,82 +1,54 @@
 -- Where characters that change begin, by the bytes that may not follow where none changes.
-use Rattle.std.proofs.Common.{◌||◌, ◌≡◌, ℕ, zero, suc, ◌+◌, ◌-◌, ◌<◌, ◌≤◌, ◌↔◌, inl, inr, ⊎_elim, Bool, true, false, true≢false, not, cond, eqb, leb, List, ◌++◌, refl, sym, ap, ◌∙◌, subst, arith, length, take, drop, get_or, replicate, length-drop}
-use Rattle.std.proofs.lemmas.Bool.{cases_Bool, cases_lt, le-leb, lt-leb, le-ltb, lt-ltb, leb-false, ne_eqb, or_parts, and_parts, eqb-true, cases_eq}
+use Rattle.std.proofs.Common.{◌≡◌, ℕ, zero, suc, ◌+◌, ◌-◌, ◌<◌, ◌≤◌, ◌↔◌, ◌⊎◌, ⊎_elim, true, false, eqb, List, ◌++◌, refl, sym, ap, ◌∙◌, subst, arith, length, take, drop, get_or, replicate, length-drop}
+use Rattle.std.proofs.lemmas.Bool.Decides.{nat_tests}
+use Rattle.std.proofs.lemmas.Bool.{cases_Bool, lt-leb}
 use Rattle.std.proofs.lemmas.List.{get_or-drop, take-append-le, drop-append-le}
-use Rattle.cesu8_text.specs.Class.{is_null}
-use Rattle.cesu8_text.specs.Encoding.{Flavor, Cesu8, Mutf8}
+use Rattle.cesu8_text.specs.Encoding.{Flavor}
 use Rattle.cesu8_text.specs.Reading.{HasNoStrictReading}
 use Rattle.cesu8_bytes.specs.Pairs.{null_at, HasPair}
 use Rattle.cesu8_bytes.proofs.vectors.Loads.{padded}
-use Rattle.cesu8_decode.specs.DecodedOffsets.{continues, IsPrefixOf, BeginsChanged}
+use Rattle.cesu8_decode.specs.DecodedOffsets.{IsPrefixOf, BeginsChanged}
 use Rattle.cesu8_decode.specs.Following.{Unchanged, shown, follows, follows_at, crosses, crosses_at, after_fillers, IsSeam, FollowUpTo}
 use Rattle.cesu8_decode.specs.Front.{IsFront}
-use Rattle.cesu8_decode.proofs.by_offset.WidthTests.{pair_by_prefix}
-use Rattle.cesu8_decode.proofs.chunks.Changed.{null_lead, null_within, pair_in_prefix, pair_within}
+use Rattle.cesu8_decode.proofs.by_offset.WidthTests.{long_by, pair_by_prefix}
+use Rattle.cesu8_decode.proofs.chunks.Changed.{null_lead, pair_in_prefix}
 use Rattle.cesu8_decode.proofs.chunks.FrontReadings.{unless_begun}
-use Rattle.cesu8_decode.proofs.chunks.Fronts.{before_lead, front_at, lead_shown}
+use Rattle.cesu8_decode.proofs.chunks.Fronts.{crosses_next, cut_at, front_at, lead_shown}
 use Rattle.cesu8_decode.proofs.decoder.FollowingBlocks.{behind_fillers}
 
 -- ---- a byte that may follow
 
 -- Where no character crosses the boundary before a byte from C0 on, it may follow.
 lead_follows : (f : Flavor) (a b d e g : ℕ) → 0xC0 ≤ g → crosses Unchanged a b d e ≡ false → follows Unchanged f a b d e g ≡ true
-lead_follows f a b d e g high none =
-    let parts = or_parts (leb 0xC0 e) _ none in
-    let second = or_parts (leb 0xE0 d) _ parts.1 in
-    let low = leb-false 0xC0 e parts.0 in
-    rw (lead_shown Unchanged f e g high, lt-leb 0xF0 e (omega (arith, low)), parts.0, second.0) refl
+lead_follows f a b d e g high none = rw (lead_shown Unchanged f e g high) (grind (arith, nat_tests))
 
 -- The second byte of a surrogate pair, or of C0 80, may not follow.
-second_of_pair : (f : Flavor) (a b d e g : ℕ) → e ≡ 0xED → 0xA0 ≤ g → g < 0xC0 → follows Unchanged f a b d e g ≡ false
+second_of_changed : (f : Flavor) (x y a b d e g : ℕ) → ((x ≡ 0xED) × (0xA0 ≤ y) × (y < 0xC0)) ⊎ ((x ≡ 0xC0) × (y ≡ 0x80)) → e ≡ x → g ≡ y →
+    follows Unchanged f a b d e g ≡ false
 unfolding shown
-second_of_pair f a b d e g lead low high =
-    rw (lead, no_null f, le-leb 0x80 g (omega (arith, low)), lt-ltb g 0xC0 high, le-leb 0xA0 g low) (by_third (leb 0xE0 d))
-  where
-    no_null : (f : Flavor) → is_null f g ≡ false
-    no_null Cesu8 = refl
-    no_null Mutf8 = ne_eqb g 0 (λ same. omega (arith, same, low))
-
-    by_third : (t : Bool) → eqb 0x20 (cond t 0x80 0 + 0) ≡ false
-    by_third true = refl
-    by_third false = refl
-
-second_of_null : (f : Flavor) (a b d e g : ℕ) → e ≡ 0xC0 → g ≡ 0x80 → follows Unchanged f a b d e g ≡ false
-unfolding shown
-second_of_null f a b d e g lead second = rw (lead, second, no_null f) (by_third (leb 0xE0 d))
-  where
-    no_null : (f : Flavor) → is_null f 0x80 ≡ false
-    no_null Cesu8 = refl
-    no_null Mutf8 = refl
-
-    by_third : (t : Bool) → eqb 0x10 (cond t 0x80 0 + 0) ≡ false
-    by_third true = refl
-    by_third false = refl
+second_of_changed f x y a b d e g begins first second = grind (arith, nat_tests)
 
 -- A continuation byte before it decides as a filler does.
 behind_continuation : (f : Flavor) (e g : ℕ) → 0x80 ≤ e → e < 0xC0 → eqb (shown Unchanged f 0x61 g) 0 ≡ eqb (shown Unchanged f e g) 0
 unfolding shown
-behind_continuation f e g low high =
-    rw (lt-leb 0xF0 e (omega (arith, high)), lt-leb 0xC0 e high, le-ltb e 0x80 low, lt-ltb e 0xC0 high) (by_tests (is_null f g) (continues g))
-  where
-    by_tests : (t u : Bool) → eqb (cond t 0xFF (cond (not u) 0 0x02)) 0 ≡ eqb (cond t 0xFF (cond (not u) 0 0x80)) 0
-    by_tests true u = refl
-    by_tests false true = refl
-    by_tests false false = refl
+behind_continuation f e g low high = grind (arith, nat_tests)
 
 -- ---- a character that changes
 
 -- It begins with a byte from C0 on, and has two bytes or more.
 lead_of : (f : Flavor) (bytes : List ℕ) → BeginsChanged f bytes → 0xC0 ≤ get_or bytes 0 0
-lead_of f bytes (inl pair) = omega (arith, pair.lead)
-lead_of f bytes (inr null) = omega (arith, null_lead f _ _ null)
-
-two_at_least : (f : Flavor) (bytes : List ℕ) → BeginsChanged f bytes → 2 ≤ length bytes
-two_at_least f bytes (inl pair) = omega (arith, pair_within f bytes bytes (λ i small. refl) pair)
-two_at_least f bytes (inr null) = null_within f bytes bytes (λ i small. refl) null
+lead_of f bytes begins = grind (arith, null_lead)
 
 null_second : (f : Flavor) (a b : ℕ) → null_at f a b ≡ true → b ≡ 0x80
-null_second Cesu8 a b null = absurd (true≢false (sym null))
-null_second Mutf8 a b null = eqb-true b 0x80 (and_parts (eqb a 0xC0) (eqb b 0x80) null).1
+null_second f a b null = grind (arith, nat_tests)
+
+two_at_least : (f : Flavor) (bytes : List ℕ) → BeginsChanged f bytes → 2 ≤ length bytes
+two_at_least f bytes begins = grind (arith, long_by, null_second)
+
+-- It begins as a surrogate pair does, or with C0 80.
+first_two : (f : Flavor) (bytes : List ℕ) → BeginsChanged f bytes →
+    ((get_or bytes 0 0 ≡ 0xED) × (0xA0 ≤ get_or bytes 1 0) × (get_or bytes 1 0 < 0xC0)) ⊎ ((get_or bytes 0 0 ≡ 0xC0) × (get_or bytes 1 0 ≡ 0x80))
+first_two f bytes begins = grind (arith, null_lead, null_second)
 
 -- Where it begins, behind bytes that follow each other up to one that may not,
 module _ (f : Flavor) (bytes : List ℕ) (n : ℕ) (begins : BeginsChanged f (drop n bytes)) where
@@ -86,50 +58,37 @@ module _ (f : Flavor) (bytes : List ℕ) (n : ℕ) (begins : BeginsChanged f (dr
   byte : (k : ℕ) → get_or window (n + k + 4) 0 ≡ get_or (drop n bytes) k 0
   byte k = behind_fillers bytes (n + k) ∙ sym (get_or-drop n bytes k 0)
 
-  -- its first byte may follow exactly if no character crosses the boundary there,
+  -- its first byte may follow if no character crosses the boundary there,
   lead : 0xC0 ≤ get_or window (n + 4) 0
   lead =
       let here : n + 0 + 4 ≡ n + 4 = omega arith in
       omega (arith, lead_of f (drop n bytes) begins, ap (λ p. get_or window p 0) here, byte 0)
 
-  uncrossed : follows_at Unchanged f window n ≡ true → crosses_at Unchanged window n ≡ false
-  uncrossed = before_lead Unchanged f refl (get_or window n 0) (get_or window (n + 1) 0) (get_or window (n + 2) 0) (get_or window (n + 3) 0) (get_or window (n + 4) 0) lead
-
   first_follows : crosses_at Unchanged window n ≡ false → follows_at Unchanged f window n ≡ true
   first_follows = lead_follows f (get_or window n 0) (get_or window (n + 1) 0) (get_or window (n + 2) 0) (get_or window (n + 3) 0) (get_or window (n + 4) 0) lead
-
-  crossed : crosses_at Unchanged window (n + 1) ≡ true
-  crossed =
-      let here : n + 1 + 3 ≡ n + 4 = omega arith in
-      rw (le-leb 0xC0 (get_or window (n + 1 + 3) 0) (omega (arith, lead, ap (λ p. get_or window p 0) here))) refl
 
   -- and its second may not.
   second_stops : follows_at Unchanged f window (n + 1) ≡ false
   second_stops =
-      let here : n + 0 + 4 ≡ n + 1 + 3 = omega arith in
-      let first = ap (λ p. get_or window p 0) (sym here) ∙ byte 0 in
-      ⊎_elim (λ (pair : HasPair (drop n bytes)).
-      second_of_pair f (get_or window (n + 1) 0) (get_or window (n + 1 + 1) 0) (get_or window (n + 1 + 2) 0) (get_or window (n + 1 + 3) 0) (get_or window (n + 1 + 4) 0)
-      (first ∙ pair.lead) (omega (arith, byte 1, pair.high.0)) (omega (arith, byte 1, pair.high.1)))
-      (λ (null : null_at f (get_or (drop n bytes) 0 0) (get_or (drop n bytes) 1 0) ≡ true).
-      second_of_null f (get_or window (n + 1) 0) (get_or window (n + 1 + 1) 0) (get_or window (n + 1 + 2) 0) (get_or window (n + 1 + 3) 0) (get_or window (n + 1 + 4) 0)
-      (first ∙ null_lead f _ _ null) (byte 1 ∙ null_second f _ _ null)) begins
+      let w : ℕ → ℕ = λ i. get_or window i 0 in
+      let here : n + 1 + 3 ≡ n + 0 + 4 = omega arith in
+      second_of_changed f _ _ (w (n + 1)) (w (n + 1 + 1)) (w (n + 1 + 2)) (w (n + 1 + 3)) (w (n + 1 + 4)) (first_two f (drop n bytes) begins) (ap w here ∙ byte 0) (byte 1)
 
   -- So it begins one byte before that byte,
   pub begins_before : (m : ℕ) → FollowUpTo Unchanged f bytes m → n ≤ m → crosses_at Unchanged window n ≡ false → m ≡ n + 1
   begins_before m up_to from none =
       let long : n + 2 ≤ length bytes = omega (arith, two_at_least f (drop n bytes) begins, length-drop n bytes) in
-      ⊎_elim (λ (past : n + 1 < m). absurd (true≢false (sym (up_to.first.follow (n + 1) past) ∙ second_stops)))
-      (λ (near : m ≤ n + 1). ⊎_elim (λ (short : m < n + 1).
-      let here : m ≡ n = omega (arith, from, short) in
-      absurd (true≢false (sym (first_follows none) ∙ ap (follows_at Unchanged f window) (sym here) ∙ up_to.stops (omega (arith, here, long)))))
-      (λ (all : n + 1 ≤ m). omega (arith, near, all)) (cases_lt m (n + 1))) (cases_lt (n + 1) m)
+      let first = first_follows none in
+      let second = second_stops in
+      let follow = up_to.first.follow in
+      let stops = up_to.stops in
+      grind arith
 
   -- and what is before it is the front.
   pub front_before : (m : ℕ) → FollowUpTo Unchanged f bytes m → n + 1 ≡ m → IsFront Unchanged f bytes n
   front_before m up_to next =
-      front_at Unchanged f bytes m n up_to (omega (arith, next)) (uncrossed (up_to.first.follow n (omega (arith, next))))
-      (λ k past inside. let here : k ≡ n + 1 = omega (arith, next, past, inside) in ap (crosses_at Unchanged window) here ∙ crossed)
+      cut_at Unchanged f bytes m n refl up_to (omega (arith, next)) lead
+      (λ k past inside. let here : k ≡ n + 1 = omega (arith, next, past, inside) in ap (crosses_at Unchanged window) here ∙ crosses_next Unchanged bytes n lead)
 
 -- ---- no such character
 
@@ -141,9 +100,7 @@ last_uncrossed : (f : Flavor) (bytes : List ℕ) (m k : ℕ) → k ≤ m →
 last_uncrossed f bytes m zero within above = (zero, within, refl, above)
 last_uncrossed f bytes m (suc k) within above =
     ⊎_elim (λ (is : crosses_at Unchanged (after_fillers bytes) (suc k) ≡ true).
-    last_uncrossed f bytes m k (omega (arith, within)) (λ j past inside.
-    ⊎_elim (λ (here : j ≡ suc k). ap (crosses_at Unchanged (after_fillers bytes)) here ∙ is)
-    (λ other. above j (omega (arith, past, other)) inside) (cases_eq j (suc k))))
+    last_uncrossed f bytes m k (omega (arith, within)) (λ j past inside. grind arith))
     (λ (none : crosses_at Unchanged (after_fillers bytes) (suc k) ≡ false). (suc k, within, none, above))
     (cases_Bool (crosses_at Unchanged (after_fillers bytes) (suc k)))
 
@@ -158,13 +115,7 @@ no_reading_from f bytes m up_to neither cut =
     let within = found.1 in
     let none = found.2 in
     let front = front_at Unchanged f bytes m n up_to within none found.3 in
-    let more : n < length bytes =
-    ⊎_elim (λ (less : n < length bytes). less)
-    (λ (all : length bytes ≤ n).
-    let end : m ≡ length bytes = omega (arith, all, within, up_to.first.within) in
-    let here : m ≡ n = omega (arith, all, within, end) in
-    absurd (true≢false (sym (cut end) ∙ ap (crosses_at Unchanged (after_fillers bytes)) here ∙ none)))
-    (cases_lt n (length bytes)) in
+    let more : n < length bytes = grind (arith, front.within) in
     unless_begun f bytes n front (λ begins.
     let next = begins_before f bytes n begins m up_to within none in
     let long : n + 2 ≤ length bytes = omega (arith, two_at_least f (drop n bytes) begins, length-drop n bytes) in
@@ -192,10 +143,8 @@ module _ (bytes zeros source : List ℕ) (none : (k : ℕ) → get_or zeros k 0 
 -- What changes begins bytes exactly if it begins a prefix.
 pub begins_in_prefix : (f : Flavor) (bytes prefix : List ℕ) → IsPrefixOf bytes prefix → BeginsChanged f bytes ↔ BeginsChanged f prefix
 begins_in_prefix f bytes prefix same = (
-  λ begins. ⊎_elim (λ (pair : HasPair bytes). inl (pair_in_prefix bytes prefix same pair))
-      (λ (null : null_at f (get_or bytes 0 0) (get_or bytes 1 0) ≡ true). inr (rw (same 0 (omega arith), same 1 (omega arith)) null)) begins,
-  λ begins. ⊎_elim (λ (pair : HasPair prefix). inl (pair_by_prefix bytes prefix same pair).1)
-      (λ (null : null_at f (get_or prefix 0 0) (get_or prefix 1 0) ≡ true). inr (rw (same 0 (omega arith), same 1 (omega arith)) at null)) begins,
+  λ begins. grind (arith, pair_in_prefix),
+  λ begins. grind (arith, pair_by_prefix),
 )
 
 -- ---- behind a character that changes
@@ -236,13 +185,11 @@ seam_behind f bytes n low high second = record { follows = by_offset; crosses = 
 
     by_boundary : (k : ℕ) → crosses_at Unchanged (after_fillers rest) k ≡ crosses_at Unchanged (after_fillers bytes) (n + 2 + k)
     by_boundary zero =
-        sym (rw (
-          lt-leb 0xC0 (w (n + 2 + 0 + 3)) (omega (arith, at (n + 2 + 0 + 3) (n + 1) (omega arith), high)),
-          lt-leb 0xE0 (w (n + 2 + 0 + 2)) (omega (arith, at (n + 2 + 0 + 2) n (omega arith), second)),
-        ) refl)
+        let last = at (n + 2 + 0 + 3) (n + 1) (omega arith) in
+        let second_last = at (n + 2 + 0 + 2) n (omega arith) in grind (arith, nat_tests)
     by_boundary (suc zero) =
-        rw (lt-leb 0xE0 (w (n + 2 + 1 + 2)) (omega (arith, at (n + 2 + 1 + 2) (n + 1) (omega arith), high)))
-        (λ i. leb 0xC0 (there (n + 2 + 1 + 3) 0 (omega arith) i) || false)
+        let last = there (n + 2 + 1 + 3) 0 (omega arith) in
+        let second_last = at (n + 2 + 1 + 2) (n + 1) (omega arith) in grind (arith, nat_tests)
     by_boundary (suc (suc k)) =
         λ i. crosses Unchanged 0 0 (same (suc (suc k) + 2) (n + 2 + suc (suc k) + 2) k (omega arith) (omega arith) i)
         (same (suc (suc k) + 3) (n + 2 + suc (suc k) + 3) (suc k) (omega arith) (omega arith) i)

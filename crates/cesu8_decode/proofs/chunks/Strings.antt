@@ -1,11 +1,12 @@
 -- Text that a vector has.
-use Rattle.std.proofs.Common.{◌≡◌, ◌∙◌, refl, sym, ap, arith, ℕ, ◌+◌, List, [], ◌++◌, length, length-append, append-nil, Vec, vec_capacity, Option, None, Some, Result, IfOk}
+use Rattle.std.proofs.Common.{◌≡◌, ◌∙◌, sym, ap, arith, ℕ, ◌+◌, List, [], ◌++◌, length, length-append, append-nil, Vec, vec_capacity, Option, None, Some, Result, IfOk}
+use Rattle.std.proofs.lemmas.Bool.Decides.{nat_tests}
 use Rattle.cesu8_text.specs.Encoding.{Flavor}
 use Rattle.cesu8_bytes.specs.TextChunks.{IsReadSoFar}
 use Rattle.cesu8_text.specs.Laws.{NoneCrosses}
 use Rattle.cesu8_text.specs.Text.{utf8}
-use Rattle.cesu8_bytes.specs.declared.strictness.Strictness.TheVariants.{Strict, Lossy}
-use Rattle.cesu8_text.specs.Reading.{reading, lossy_length}
+use Rattle.cesu8_bytes.specs.declared.strictness.Strictness.TheVariants.{Lossy}
+use Rattle.cesu8_text.specs.Reading.{lossy_length}
 use Rattle.cesu8_text.proofs.reading.Splits.{split}
 use Rattle.cesu8_text.proofs.reading.Steps.{reading_nil}
 use Rattle.std.specs.Option.{ok_or}
@@ -21,25 +22,12 @@ built f bytes answer result is same long = grind arith
 -- The reading of the first bytes is read of all of them, where no character crosses their end.
 read_apart : (f : Flavor) (bytes first rest text : List ℕ) → first ++ rest ≡ bytes → NoneCrosses f first rest → IsChunk f Lossy first [] text →
     IsChunk f Lossy bytes rest text
-read_apart f bytes first rest text whole apart read = record {
-  text = read.text;
-  scalars = read.scalars;
-  lossy_reading = ap (reading f) (sym whole) ∙ (split f first rest).1 apart
-      ∙ ap (λ t. t ++ reading f rest) (read.lossy_reading ∙ ap (λ t. read.text ++ t) (reading_nil f) ∙ append-nil read.text);
-  strict_reading = λ (strict : Lossy ≡ Strict). absurd (cc);
-  written = read.written;
-}
+read_apart f bytes first rest text whole apart read = grind (arith, nat_tests, split, reading_nil, append-nil)
 
 -- What is appended has the length of its reading.
 appended_length : (f : Flavor) (bytes old new : List ℕ) → IsReadSoFar f Lossy bytes [] old new → length new ≡ length old + lossy_length f bytes
 appended_length f bytes old new read =
-    let chunk : IsChunk f Lossy bytes [] (utf8 read.text) = record {
-      text = read.text;
-      scalars = read.scalars;
-      lossy_reading = read.lossy_reading;
-      strict_reading = read.strict_reading;
-      written = refl;
-    } in
+    let chunk : IsChunk f Lossy bytes [] (utf8 read.text) = grind arith in
     ap length read.written ∙ length-append old (utf8 read.text) ∙ ap (λ n. length old + n) (sym (lossy_text_length f bytes (utf8 read.text) chunk))
 
 -- The whole is built where the rest is appended to that, in a vector with capacity for both.

@@ -1,11 +1,12 @@
 -- Bytes that are whole characters of a set.
 use Rattle.std.proofs.Common.{◌≡◌, ℕ, ◌+◌, ◌-◌, ◌*◌, ◌/◌, ◌%◌, ◌<◌, ◌≤◌, ◌⊎◌, inl, inr, List, [], ◌∷◌, ◌++◌, true, refl, sym, ap, ◌∙◌, subst, ⊎_elim, arith, drop, true≢false}
 use Rattle.std.specs.List.{Any}
-use Rattle.std.proofs.lemmas.Bool.{eqb-true, le-ltb, cases_eq}
+use Rattle.std.proofs.lemmas.Bool.{le-ltb}
+use Rattle.std.proofs.lemmas.Bool.Decides.{nat_tests}
 use Rattle.std.proofs.lemmas.List.{append-nil}
 use Rattle.cesu8_text.specs.Class.{is_null}
 use Rattle.cesu8_text.specs.Text.{IsScalarValue, utf8_of}
-use Rattle.cesu8_text.specs.Encoding.{Flavor, Cesu8, Mutf8, encoding, IsEncodedOtherwise}
+use Rattle.cesu8_text.specs.Encoding.{Flavor, encoding, IsEncodedOtherwise}
 use Rattle.cesu8_text.specs.Patterns.{IsContinuation}
 use Rattle.cesu8_text.proofs.lists.Elements.{any_nil, any_append, none_cons}
 use Rattle.cesu8_text.proofs.encoding.Encodings.{encoding_nil, encoding_append}
@@ -17,31 +18,26 @@ use Rattle.cesu8_decode.specs.Front.{AreWhole, written, IsOutside}
 
 -- ---- what is written
 
-written_nil : (s : CharacterSet) (f : Flavor) → written s f [] ≡ []
+pub written_nil : (s : CharacterSet) (f : Flavor) → written s f [] ≡ []
 written_nil Encoded f = encoding_nil f
 written_nil Unchanged f = encoding_nil f
 written_nil Utf8 f = refl
 
-written_append : (s : CharacterSet) (f : Flavor) (front back : List ℕ) → written s f (front ++ back) ≡ written s f front ++ written s f back
+pub written_append : (s : CharacterSet) (f : Flavor) (front back : List ℕ) → written s f (front ++ back) ≡ written s f front ++ written s f back
 written_append Encoded f front back = encoding_append f front back
 written_append Unchanged f front back = encoding_append f front back
 written_append Utf8 f front back = utf8_append front back
 
 -- A character that is encoded as in UTF-8 is the same in each set,
 written_same : (s : CharacterSet) (f : Flavor) (c : ℕ) → encoding f (c ∷ []) ≡ utf8_of c → written s f (c ∷ []) ≡ encoding f (c ∷ [])
-written_same Encoded f c encoded = refl
-written_same Unchanged f c encoded = refl
-written_same Utf8 f c encoded = append-nil (utf8_of c) ∙ sym encoded
+written_same s f c encoded = grind (arith, append-nil (utf8_of c))
 
 pub null_otherwise : (f : Flavor) (c : ℕ) → is_null f c ≡ true → IsEncodedOtherwise f c
-null_otherwise Cesu8 c null = absurd (true≢false (sym null))
-null_otherwise Mutf8 c null = inl (eqb-true c 0 null)
+null_otherwise f c null = grind (arith, nat_tests)
 
 -- and is in each.
 inside_each : (s : CharacterSet) (f : Flavor) (c : ℕ) → ¬ (IsEncodedOtherwise f c) → ¬ (IsOutside s f c)
-inside_each Encoded f c usual none = none
-inside_each Unchanged f c usual needs = usual needs
-inside_each Utf8 f c usual null = usual (null_otherwise f c null)
+inside_each s f c usual outside = grind (arith, null_otherwise)
 
 -- No text has what nothing is.
 pub none_outside : (P : ℕ → Type 0) → ((c : ℕ) → ¬ (P c)) → (text : List ℕ) → ¬ (Any P text)
@@ -102,12 +98,10 @@ abbrev four_value : (a b d e : ℕ) → ℕ
 four_value a b d e = (a - 0xF0) * 0x40000 + (b - 0x80) * 0x1000 + (d - 0x80) * 0x40 + (e - 0x80)
 
 needs_four : (a b d e : ℕ) → 0xF0 ≤ a → IsContinuation b → (a ≡ 0xF0 → 0x90 ≤ b) → 0x10000 ≤ four_value a b d e
-needs_four a b d e lead second needs =
-    ⊎_elim (λ same. omega (arith, needs same)) (λ differs. omega (arith, second.0)) (cases_eq a 0xF0)
+needs_four a b d e lead second needs = grind arith
 
 below_last : (a b d e : ℕ) → a < 0xF5 → IsContinuation b → IsContinuation d → IsContinuation e → (a ≡ 0xF4 → b < 0x90) → four_value a b d e < 0x110000
-below_last a b d e low second third fourth last =
-    ⊎_elim (λ same. omega (arith, last same, third.1, fourth.1)) (λ differs. omega (arith, second.1, third.1, fourth.1)) (cases_eq a 0xF4)
+below_last a b d e low second third fourth last = grind arith
 
 utf8_of_four : (a b d e : ℕ) → 0xF0 ≤ a → IsContinuation b → IsContinuation d → IsContinuation e → 0x10000 ≤ four_value a b d e →
     utf8_of (four_value a b d e) ≡ a ∷ b ∷ d ∷ e ∷ []
@@ -121,8 +115,7 @@ utf8_of_four a b d e lead second third fourth low =
     rw (le-ltb c 0x80 (omega arith), le-ltb c 0x800 (omega arith), le-ltb c 0x10000 low, e0, e1, e2, e3) refl
 
 not_null : (f : Flavor) (c : ℕ) → 0 < c → ¬ (is_null f c ≡ true)
-not_null Cesu8 c some null = true≢false (sym null)
-not_null Mutf8 c some null = omega (arith, eqb-true c 0 null)
+not_null f c some null = grind (arith, nat_tests)
 
 -- So bytes that begin so are whole that are whole behind it, where such characters are meant.
 pub whole_with_four : (s : CharacterSet) (f : Flavor) (a b d e : ℕ) (rest : List ℕ) → has_four s ≡ true → 0xF0 ≤ a → a < 0xF5 →

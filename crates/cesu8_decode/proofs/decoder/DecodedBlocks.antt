@@ -1,13 +1,14 @@
 -- What the decoder's vectors say of the bytes of a block, by their offsets.
 use Rattle.std.proofs.lemmas.Bool.Decides.{nat_tests}
-use Rattle.std.proofs.Common.{◌≡◌, ℕ, zero, suc, ◌+◌, ◌-◌, ◌*◌, ◌/◌, ◌%◌, ◌^◌, ◌<◌, ◌≤◌, ◌&&◌, true, false, eqb, leb, List, [], ◌∷◌, ◌++◌, refl, sym, ap, ◌∙◌, subst, arith, cond, ⊎_elim, add-zero, get_or, map, take, length, replicate, bit_and, bit_or, bit_xor}
+use Rattle.std.proofs.Common.{◌≡◌, ℕ, zero, suc, ◌+◌, ◌-◌, ◌*◌, ◌/◌, ◌%◌, ◌^◌, ◌<◌, ◌≤◌, ◌&&◌, true, false, eqb, leb, List, [], ◌∷◌, ◌++◌, refl, sym, ap, ◌∙◌, arith, cond, ⊎_elim, add-zero, get_or, map, take, length, replicate, bit_and, bit_or, bit_xor}
 use Rattle.std.specs.List.{flat_map, range_with_len}
 use Rattle.std.proofs.lemmas.Nat.{and_le_l}
-use Rattle.std.proofs.lemmas.Bool.{cases_lt}
-use Rattle.std.proofs.lemmas.List.{take-map, get_or_append_left, get_or-append_right}
+use Rattle.std.specs.Int.Bits.{and_zero_r}
+use Rattle.std.proofs.lemmas.Bool.{agree_below_at, cases_lt}
+use Rattle.std.proofs.lemmas.List.{get_or_append_left, get_or-append_right}
 use Rattle.std.proofs.lemmas.List.FromFn.{take-map-range_with_len, length-map-range_with_len, get_or-map-range_with_len}
 use Rattle.std.proofs.lemmas.Simd.{map-map}
-use lib.Lanes.{zip2, sel_l, pick_l, mask_l, chunk, Each1}
+use lib.Lanes.{zip2, sel_l, pick_l, mask_l, chunk}
 use Rattle.cesu8_text.specs.Encoding.{Flavor, Mutf8}
 use Rattle.cesu8_text.specs.Class.{is_null}
 use Rattle.cesu8_bytes.specs.Kernels.{mask}
@@ -17,7 +18,7 @@ use Rattle.cesu8_decode.specs.DecodedLanes.{start_kind, AreNear, TellsChange, Te
 use Rattle.cesu8_decode.specs.declared.lanes.parts.TheConstants.{FIRST_BY_SECOND, SECOND_BY_SECOND, THIRD_BY_THIRD}
 use Rattle.cesu8_bytes.proofs.vectors.Loads.{loaded}
 use Rattle.cesu8_decode.proofs.decoder.LaneTests.{kind_tells, gone_lane, lane_goes, covered_lane, ill_formed_lane, mask_fits, byte_lane, lane_byte, paired_lane, byte_unpaired}
-use Rattle.cesu8_decode.proofs.decoder.FirstLanes.{behind_lanes, before_lanes, gone_behind, well_formed_behind, written_first, no_lane, on_range, lanes_are}
+use Rattle.cesu8_decode.proofs.decoder.FirstLanes.{behind_lanes, first_marked, or_no, or_all, written_first, no_lane, on_range, lanes_are}
 
 -- ---- kinds near a block
 
@@ -57,16 +58,11 @@ module _ (kind : ℕ → ℕ) (at : ℕ) (before here : List ℕ) (long : length
   pub near_are : AreNear kind at (pick_l 0 (before ++ here) (range_with_len 27 32) ∷ pick_l 0 (before ++ here) (range_with_len 28 32)
       ∷ pick_l 0 (before ++ here) (range_with_len 29 32) ∷ pick_l 0 (before ++ here) (range_with_len 30 32)
       ∷ pick_l 0 (before ++ here) (range_with_len 31 32) ∷ here ∷ [])
-  near_are zero small = picked_from 0 small
-  near_are (suc zero) small = picked_from 1 small
-  near_are (suc (suc zero)) small = picked_from 2 small
-  near_are (suc (suc (suc zero))) small = picked_from 3 small
-  near_are (suc (suc (suc (suc zero)))) small = picked_from 4 small
-  near_are (suc (suc (suc (suc (suc zero))))) small =
-      here_are ∙ map_ranges kind (λ i. kind (i + 5)) (at + 5) at 32 (λ k inside.
+  near_are d small =
+      let last = here_are ∙ map_ranges kind (λ i. kind (i + 5)) (at + 5) at 32 (λ k inside.
       let there : at + 5 + k ≡ at + k + 5 = omega arith in
-      ap kind there)
-  near_are (suc (suc (suc (suc (suc (suc d)))))) small = absurd (omega arith)
+      ap kind there) in
+      grind (arith, picked_from)
 
 -- ---- the lanes of a block, by offsets
 
@@ -82,14 +78,14 @@ module _ (f : Flavor) (window : List ℕ) (kind : ℕ → ℕ) where
   ill_formed_of i =
       ill_formed_lane f (covered_lane (kind (i + 5)) (kind (i + 4)) (kind (i + 3)) (kind (i + 2)) (kind (i + 1)) (kind i)) (get_or window (i + 5) 0)
 
-  ill_formed_bytes : (offsets : List ℕ) → Each1 (λ x. x < 0x100) (map ill_formed_of offsets)
-  ill_formed_bytes [] = tt
-  ill_formed_bytes (i ∷ offsets) =
+  -- Marks that are turned leave of a lane what it is, or nothing.
+  turned : (i : ℕ) → (is_high (bit_and (ill_formed_of i) 0xFF) ≡ is_high (ill_formed_of i)) × (is_high (bit_and (ill_formed_of i) 0) ≡ false)
+  turned i =
       let covered = covered_lane (kind (i + 5)) (kind (i + 4)) (kind (i + 3)) (kind (i + 2)) (kind (i + 1)) (kind i) in
       let b = get_or window (i + 5) 0 in
-      let first : ill_formed_of i < 0x100 =
+      let small : ill_formed_of i < 0x100 =
       omega (arith, and_le_l (mask (eqb covered 0)) (bit_or b (mask (is_null f b))), mask_fits (eqb covered 0)) in
-      (first, ill_formed_bytes offsets)
+      (agree_below_at (λ x. leb 0x80 (bit_and x 0xFF)) (λ x. leb 0x80 x) 0x100 (ill_formed_of i) refl small, ap (leb 0x80) (and_zero_r (ill_formed_of i)))
 
   module _ (kinds : List (List ℕ)) (at : ℕ) (near : AreNear kind at kinds) where
     abbrev near_by : ℕ → List ℕ
@@ -112,12 +108,9 @@ module _ (f : Flavor) (window : List ℕ) (kind : ℕ → ℕ) where
     first_gone tells count small marks marks_are =
         let lanes = zip2 bit_or (near_by 5) (zip2 (λ a b. a * 2 ^ b % 2 ^ 8) (zip2 bit_or (near_by 5) (near_by 4)) (replicate 32 2)) in
         let are : lanes ≡ map gone_of (range_with_len at 32) = rw (near 5 (omega arith), near 4 (omega arith)) refl in
-        let long = ap length are ∙ length-map-range_with_len gone_of at 32 in
-        ap (λ m. map is_high (zip2 bit_or lanes m)) (marks_are ∙ ap (behind_lanes count 0) (sym long))
-        ∙ gone_behind lanes count 0 count (32 - count) (omega arith) (omega arith)
-        ∙ ap (λ l. l ++ replicate (32 - count) true) (sym (take-map is_high count lanes)
-        ∙ first_lanes (goes_at f window) count small (map is_high lanes) (ap (map is_high) are ∙ map-map is_high gone_of (range_with_len at 32)
-        ∙ on_range _ _ at 32 (λ i low inside. lane_goes f window (i + 5) (i + 4) _ _ (around tells i low inside 5 (omega arith)) (around tells i low inside 4 (omega arith)))))
+        (λ k. map is_high (zip2 bit_or (are k) (marks_are k)))
+        ∙ first_marked bit_or gone_of (goes_at f window) true count at small (λ i low inside.
+        (or_no _ ∙ lane_goes f window (i + 5) (i + 4) _ _ (around tells i low inside 5 (omega arith)) (around tells i low inside 4 (omega arith)), or_all _))
 
     module _ (window_room : at + 37 ≤ length window) where
       byte_behind : (d : ℕ) → d ≤ 5 → chunk (at + d) 32 window ≡ map (λ i. get_or window (i + d) 0) (range_with_len at 32)
@@ -148,14 +141,9 @@ module _ (f : Flavor) (window : List ℕ) (kind : ℕ → ℕ) where
             kind_here,
             byte_behind 5 (omega arith),
           ) refl in
-          let long = ap length are ∙ length-map-range_with_len ill_formed_of at 32 in
-          ap (λ m. map is_high (zip2 bit_and lanes (zip2 bit_xor m (replicate 32 0xFF)))) marks_are
-          ∙ ap (λ n. map is_high (zip2 bit_and lanes (before_lanes count 0 n))) (sym long)
-          ∙ well_formed_behind lanes count 0 count (32 - count)
-          (subst (Each1 (λ x. x < 0x100)) (sym are) (ill_formed_bytes (range_with_len at 32))) (omega arith) (omega arith)
-          ∙ ap (λ l. l ++ replicate (32 - count) false) (sym (take-map is_high count lanes)
-          ∙ first_lanes (is_ill_formed_at f window) count small (map is_high lanes) (ap (map is_high) are ∙ map-map is_high ill_formed_of (range_with_len at 32)
-          ∙ on_range _ _ at 32 (λ i low inside. tells i)))
+          (λ k. map is_high (zip2 bit_and (are k) (zip2 bit_xor (marks_are k) (replicate 32 0xFF))))
+          ∙ first_marked (λ x y. bit_and x (bit_xor y 0xFF)) ill_formed_of (is_ill_formed_at f window) false count at small
+          (λ i low inside. ((turned i).0 ∙ tells i, (turned i).1))
 
       abbrev pub null_lanes : List ℕ
       null_lanes = sel_l (map (leb 0x80) (near_by 4)) (replicate 32 0) (chunk (at + 5) 32 window)

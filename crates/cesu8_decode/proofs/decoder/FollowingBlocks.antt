@@ -1,70 +1,45 @@
 -- Which bytes of a block may follow those before them.
-use Rattle.std.proofs.Common.{◌≡◌, ℕ, zero, suc, ◌+◌, ◌<◌, ◌≤◌, ⊎_elim, Bool, true, false, cond, List, [], ◌∷◌, map, length, get_or, replicate, eqb, leb, bit_or, refl, sym, ap, ◌∙◌, subst, arith, drop, ◌-◌, ◌++◌, not, true≢false, add-zero, take}
+use Rattle.std.proofs.Common.{◌≡◌, ℕ, suc, ◌+◌, ◌<◌, ◌≤◌, ⊎_elim, Bool, true, false, cond, List, [], ◌∷◌, map, length, get_or, replicate, eqb, leb, ltb, bit_or, refl, sym, ap, ◌∙◌, subst, arith, drop, ◌-◌, ◌++◌, not, add-zero, take}
 use Rattle.std.specs.List.{range_with_len, prefix_len}
-use Rattle.std.proofs.lemmas.Bool.{leb-false, lt-leb, ne_eqb, not-false, not-true, or_parts, cases_lt, cases_Bool}
+use Rattle.std.proofs.lemmas.Bool.{agree_below_at, leb-false, ltb-true, not-false, not-true, or_parts, cases_lt}
+use Rattle.std.proofs.lemmas.Bool.Decides.{nat_tests}
 use Rattle.std.proofs.lemmas.List.{get_or_append_left, length-take-le, take-append-drop}
 use Rattle.std.proofs.lemmas.List.FromFn.{get_or-map-range_with_len, length-map-range_with_len}
 use Rattle.std.proofs.lemmas.List.Sums.{prefix_len-le-length, prefix_len_passes, prefix_len_stops}
 use Rattle.std.proofs.lemmas.Simd.{pick_l-range_with_len, map-map}
-use lib.Lanes.{zip2, sel_l, mask_l, top, chunk}
+use lib.Lanes.{zip2, sel_l, mask_l, top}
 use Rattle.cesu8_text.specs.Class.{is_null}
 use Rattle.cesu8_text.specs.Encoding.{Flavor}
 use Rattle.cesu8_bytes.specs.Kernels.{mask}
-use Rattle.cesu8_decode.specs.Following.{CharacterSet, has_changed, has_four, IsBlockAt, shown, wanted, follows, follows_at, after_fillers, AllFollow, FirstFollow, FollowUpTo, marked_if_not_one}
+use Rattle.cesu8_decode.specs.Following.{CharacterSet, IsBlockAt, shown, wanted, follows, follows_at, after_fillers, AllFollow, FirstFollow, FollowUpTo, marked_if_not_one}
 use Rattle.cesu8_decode.specs.declared.lanes.following.Block.{Block}
 use Rattle.cesu8_bytes.proofs.lists.Lanes.{ones}
 use Rattle.cesu8_bytes.proofs.vectors.Loads.{loaded}
-use Rattle.cesu8_decode.proofs.decoder.Kinds.{and_false}
 use Rattle.cesu8_decode.proofs.decoder.FirstLanes.{no_lane, on_range}
 use Rattle.cesu8_decode.proofs.decoder.LaneTests.{high_or}
 
 -- ---- whether they show it
 
 unlike : (t : Bool) → cond (top 7 (ones t)) 0 0xFF ≡ mask (not t)
-unlike true = refl
-unlike false = refl
+unlike t = grind arith
 
-none_marked : (t : Bool) → leb 0x80 (mask (not t)) ≡ false → t ≡ true
-none_marked true none = refl
-none_marked false none = absurd (true≢false none)
-
-not_marked : (t : Bool) → leb 0x80 (mask (not t)) ≡ true → t ≡ false
-not_marked true is = absurd (true≢false (sym is))
-not_marked false is = refl
-
-low_mask : (t : Bool) → leb 0x80 (mask t) ≡ false → t ≡ false
-low_mask true e = absurd (true≢false e)
-low_mask false e = refl
+of_mask : (t : Bool) → leb 0x80 (mask t) ≡ t
+of_mask t = grind arith
 
 low_lane : (f : Flavor) (b : ℕ) → leb 0x80 (marked_if_not_one f b) ≡ false → (b < 0x80) × (is_null f b ≡ false)
 low_lane f b low =
     let parts = or_parts _ _ (sym (high_or b (mask (is_null f b))) ∙ low) in
-    (leb-false 0x80 b parts.0, low_mask (is_null f b) parts.1)
+    (leb-false 0x80 b parts.0, sym (of_mask (is_null f b)) ∙ parts.1)
 
 ascii_fits : (s : CharacterSet) (f : Flavor) (a b d e g : ℕ) → a < 0x80 → b < 0x80 → d < 0x80 → e < 0x80 → g < 0x80 → is_null f g ≡ false →
     follows s f a b d e g ≡ true
 unfolding shown
-ascii_fits s f a b d e g a_low b_low d_low e_low g_low no_null =
-    rw (
-      no_null,
-      lt-leb 0xF0 e (omega arith),
-      lt-leb 0x80 g g_low,
-      lt-leb 0xC0 e (omega arith),
-      lt-leb 0xE0 d (omega arith),
-      lt-leb 0xF0 b (omega arith),
-      and_false (has_four s),
-      ne_eqb a 0xED (λ same. omega arith),
-      and_false (has_changed s),
-    ) refl
+ascii_fits s f a b d e g a_low b_low d_low e_low g_low no_null = grind (arith, nat_tests)
 
 -- What marks lanes are tests that they pass.
 pub marks_are : (t : ℕ → Bool) (lanes ns : List ℕ) → lanes ≡ map (λ i. mask (t i)) ns → map (leb 0x80) lanes ≡ map t ns
 marks_are t lanes ns is =
     ap (map (leb 0x80)) is ∙ map-map (leb 0x80) (λ i. mask (t i)) ns ∙ ap (λ test. map test ns) (λ i k. of_mask (t k) i)
-  where
-    of_mask : (t : Bool) → leb 0x80 (mask t) ≡ t
-    of_mask true = refl
-    of_mask false = refl
 
 -- The vectors of a block tell which bytes may not follow those before them.
 pub misplaced_are : (s : CharacterSet) (f : Flavor) (window : List ℕ) (at : ℕ) (block : Block) → IsBlockAt window at block →
@@ -102,46 +77,28 @@ marked_at f window at block is lanes lanes_are =
     lanes_are ∙ ap (map (marked_if_not_one f)) (is.bytes ∙ loaded window at 4 32 (omega (arith, is.room)))
     ∙ map-map (marked_if_not_one f) (λ i. get_or window (i + 4) 0) (range_with_len at 32)
 
--- The marks of four bytes tell whether they are ASCII.
-pub four_low : (window : List ℕ) (at : ℕ) → at + 4 ≤ length window → mask_l (map (leb 0x80) (chunk at 4 window)) ≡ 0 →
-    (i : ℕ) → at ≤ i → i < at + 4 → get_or window i 0 < 0x80
-four_low window at room none i low inside =
-    leb-false 0x80 _ (no_lane (λ i. leb 0x80 (get_or window i 0)) at 4
-    (ap (λ l. mask_l (map (leb 0x80) l)) (pick_l-range_with_len 0 window at 4 room) ∙ none) i low inside)
-
 -- Where none is marked, each may follow those before it:
 module _ (s : CharacterSet) (f : Flavor) (window : List ℕ) (at n : ℕ) where
-  none_of : (lanes : List ℕ) (g : ℕ → ℕ) → lanes ≡ map g (range_with_len at n) → mask_l (map (leb 0x80) lanes) ≡ 0 →
-      mask_l (map (λ i. leb 0x80 (g i)) (range_with_len at n)) ≡ 0
-  none_of lanes g lanes_are none =
-      sym (ap mask_l (map-map (leb 0x80) g (range_with_len at n))) ∙ ap (λ l. mask_l (map (leb 0x80) l)) (sym lanes_are) ∙ none
-
   pub none_misplaced : (lanes : List ℕ) → lanes ≡ map (λ i. mask (not (follows_at s f window i))) (range_with_len at n) →
       mask_l (map (leb 0x80) lanes) ≡ 0 → AllFollow s f window at n
   none_misplaced lanes lanes_are none i low inside =
-      none_marked (follows_at s f window i)
-      (no_lane (λ i. leb 0x80 (mask (not (follows_at s f window i)))) at n
-      (none_of lanes (λ i. mask (not (follows_at s f window i))) lanes_are none) i low inside)
+      not-false _ (no_lane (λ i. not (follows_at s f window i)) at n (sym (ap mask_l (marks_are _ lanes (range_with_len at n) lanes_are)) ∙ none) i low inside)
 
   -- The bytes behind four of ASCII are ASCII too,
   pub low_bytes : (lanes : List ℕ) → lanes ≡ map (λ i. marked_if_not_one f (get_or window (i + 4) 0)) (range_with_len at n) →
       mask_l (map (leb 0x80) lanes) ≡ 0 → (i : ℕ) → at + 4 ≤ i → i < at + n + 4 → (get_or window i 0 < 0x80) × (is_null f (get_or window i 0) ≡ false)
   low_bytes lanes lanes_are none i low inside =
+      let g : ℕ → ℕ = λ i. marked_if_not_one f (get_or window (i + 4) 0) in
       let offset : i - 4 + 4 ≡ i = omega arith in
+      let bits = sym (map-map (leb 0x80) g (range_with_len at n)) ∙ ap (map (leb 0x80)) (sym lanes_are) in
       subst (λ k. (get_or window k 0 < 0x80) × (is_null f (get_or window k 0) ≡ false)) offset
-      (low_lane f _ (no_lane (λ i. leb 0x80 (marked_if_not_one f (get_or window (i + 4) 0))) at n
-      (none_of lanes (λ i. marked_if_not_one f (get_or window (i + 4) 0)) lanes_are none) (i - 4) (omega arith) (omega arith)))
+      (low_lane f _ (no_lane (λ i. leb 0x80 (g i)) at n (ap mask_l bits ∙ none) (i - 4) (omega arith) (omega arith)))
 
   -- and each may follow.
   pub all_plain : (lanes : List ℕ) → lanes ≡ map (λ i. marked_if_not_one f (get_or window (i + 4) 0)) (range_with_len at n) →
       ((i : ℕ) → at ≤ i → i < at + 4 → get_or window i 0 < 0x80) → mask_l (map (leb 0x80) lanes) ≡ 0 → AllFollow s f window at n
   all_plain lanes lanes_are first none i low inside =
-      let low_byte : (j : ℕ) → at ≤ j → j < at + n + 4 → get_or window j 0 < 0x80 = λ j from before.
-      ⊎_elim (λ (near : j < at + 4). first j from near)
-      (λ (later : at + 4 ≤ j). (low_bytes lanes lanes_are none j later before).0) (cases_lt j (at + 4)) in
-      ascii_fits s f (get_or window i 0) (get_or window (i + 1) 0) (get_or window (i + 2) 0) (get_or window (i + 3) 0) (get_or window (i + 4) 0)
-      (low_byte i low (omega arith)) (low_byte (i + 1) (omega arith) (omega arith)) (low_byte (i + 2) (omega arith) (omega arith)) (low_byte (i + 3) (omega arith) (omega arith))
-      (low_byte (i + 4) (omega arith) (omega arith)) (low_bytes lanes lanes_are none (i + 4) (omega arith) (omega arith)).1
+      let others = low_bytes lanes lanes_are none in grind (arith, ascii_fits)
 
 -- No lane of two is marked if none of both together is.
 pub none_of_two : (xs ys : List ℕ) → length xs ≡ length ys → mask_l (map (leb 0x80) (zip2 bit_or xs ys)) ≡ 0 →
@@ -149,16 +106,7 @@ pub none_of_two : (xs ys : List ℕ) → length xs ≡ length ys → mask_l (map
 none_of_two [] [] e none = (refl, refl)
 none_of_two [] (y ∷ ys) e none = absurd (omega arith)
 none_of_two (x ∷ xs) [] e none = absurd (omega arith)
-none_of_two (x ∷ xs) (y ∷ ys) e none =
-    ⊎_elim (λ (first : leb 0x80 x ≡ true). let bits = rw (high_or x y, first) at none in absurd (omega (arith, bits)))
-    (λ (first : leb 0x80 x ≡ false).
-    ⊎_elim (λ (second : leb 0x80 y ≡ true). let bits = rw (high_or x y, first, second) at none in absurd (omega (arith, bits)))
-    (λ (second : leb 0x80 y ≡ false).
-    let bits = rw (high_or x y, first, second) at none in
-    let rest = none_of_two xs ys (omega arith) (omega (arith, bits)) in
-    (rw first (omega (arith, rest.0)), rw second (omega (arith, rest.1))))
-    (cases_Bool (leb 0x80 y)))
-    (cases_Bool (leb 0x80 x))
+none_of_two (x ∷ xs) (y ∷ ys) e none = grind (arith, high_or x y, none_of_two xs ys (omega arith))
 
 -- What holds of two blocks holds of both together.
 pub in_both : (s : CharacterSet) (f : Flavor) (window : List ℕ) (at : ℕ) → AllFollow s f window at 32 → AllFollow s f window (at + 32) 32 →
@@ -196,13 +144,13 @@ module _ (s : CharacterSet) (f : Flavor) (window : List ℕ) (at n len : ℕ) (l
       let place : at + k ≡ i = omega arith in
       let lane_low = not-true _ (prefix_len_passes (λ b. not (leb 0x80 b)) lanes k 0 (omega (arith, is))) in
       subst (λ i. follows_at s f window i ≡ true) place
-      (none_marked _ (sym (ap (leb 0x80) (lane k (omega (arith, within)))) ∙ lane_low))
+      (not-false _ (sym (ap (leb 0x80) (lane k (omega (arith, within))) ∙ of_mask _) ∙ lane_low))
 
   -- and that lane is one of a byte that may not.
   pub stopped : len < n → follows_at s f window (at + len) ≡ false
   stopped more =
       let high = not-false _ (ap (λ k. not (leb 0x80 (get_or lanes k 0))) is ∙ prefix_len_stops (λ b. not (leb 0x80 b)) lanes 0 (omega (arith, is, long, more))) in
-      not_marked _ (sym (ap (leb 0x80) (lane len more)) ∙ high)
+      not-true _ (sym (ap (leb 0x80) (lane len more) ∙ of_mask _) ∙ high)
 
 -- ---- where a block stands
 
@@ -251,14 +199,14 @@ stop_behind s f bytes start at n before near room each stops = record {
   stops = λ more. follows_behind s f bytes (at + n) ∙ stops more;
 }
 
--- Bytes with others behind them are the same behind the fillers.
-in_front : (bytes rest : List ℕ) (k : ℕ) → k < 4 + length bytes → get_or (after_fillers (bytes ++ rest)) k 0 ≡ get_or (after_fillers bytes) k 0
-in_front bytes rest k inside = get_or_append_left (after_fillers bytes) rest 0 k (omega arith)
-
-pub follows_in_front : (s : CharacterSet) (f : Flavor) (bytes rest : List ℕ) (k : ℕ) → k < length bytes →
-    follows_at s f (after_fillers (bytes ++ rest)) k ≡ follows_at s f (after_fillers bytes) k
-follows_in_front s f bytes rest k inside =
-    follows_agrees s f (after_fillers (bytes ++ rest)) (after_fillers bytes) k k (λ j few. in_front bytes rest (k + j) (omega arith))
+-- Bytes at the front are the same with others behind them.
+follows_in_front : (s : CharacterSet) (f : Flavor) (bytes : List ℕ) (m k : ℕ) → m ≤ length bytes → k < m →
+    follows_at s f (after_fillers bytes) k ≡ follows_at s f (after_fillers (take m bytes)) k
+follows_in_front s f bytes m k fits inside =
+    let long = length-take-le m bytes fits in
+    ap (λ bytes. follows_at s f (after_fillers bytes) k) (sym (take-append-drop m bytes))
+    ∙ follows_agrees s f (after_fillers (take m bytes ++ drop m bytes)) (after_fillers (take m bytes)) k k
+    (λ j few. get_or_append_left (after_fillers (take m bytes)) (drop m bytes) 0 (k + j) (omega arith))
 
 -- What is found of bytes at the front is found of more,
 pub first_of_front : (s : CharacterSet) (f : Flavor) (bytes : List ℕ) (m n : ℕ) → m ≤ length bytes → FirstFollow s f (take m bytes) n → FirstFollow s f bytes n
@@ -266,20 +214,14 @@ first_of_front s f bytes m n fits first =
     let long = length-take-le m bytes fits in
     record {
       within = omega (arith, first.within, long);
-      follow = λ k before.
-          ap (λ bytes. follows_at s f (after_fillers bytes) k) (sym (take-append-drop m bytes))
-          ∙ follows_in_front s f (take m bytes) (drop m bytes) k (omega (arith, before, first.within)) ∙ first.follow k before;
+      follow = λ k before. follows_in_front s f bytes m k fits (omega (arith, before, first.within)) ∙ first.follow k before;
     }
 
 pub stop_in_front : (s : CharacterSet) (f : Flavor) (bytes : List ℕ) (m n : ℕ) → m ≤ length bytes → n < m → FollowUpTo s f (take m bytes) n → FollowUpTo s f bytes n
-stop_in_front s f bytes m n fits before up_to =
-    let long = length-take-le m bytes fits in
-    record {
-      first = first_of_front s f bytes m n fits up_to.first;
-      stops = λ more.
-          ap (λ bytes. follows_at s f (after_fillers bytes) n) (sym (take-append-drop m bytes))
-          ∙ follows_in_front s f (take m bytes) (drop m bytes) n (omega (arith, before, long)) ∙ up_to.stops (omega (arith, before, long));
-    }
+stop_in_front s f bytes m n fits before up_to = record {
+  first = first_of_front s f bytes m n fits up_to.first;
+  stops = λ more. follows_in_front s f bytes m n fits before ∙ up_to.stops (omega (arith, before, length-take-le m bytes fits));
+}
 
 -- Characters of one byte may follow each other.
 pub ones_follow : (s : CharacterSet) (f : Flavor) (bytes : List ℕ) (n : ℕ) → n ≤ length bytes →
@@ -295,8 +237,7 @@ ones_follow s f bytes n fits ones = record {
 }
   where
     low : (k : ℕ) → k < n + 4 → get_or (after_fillers bytes) k 0 < 0x80
-    low zero before = omega arith
-    low (suc zero) before = omega arith
-    low (suc (suc zero)) before = omega arith
-    low (suc (suc (suc zero))) before = omega arith
-    low (suc (suc (suc (suc k)))) before = (ones k (omega (arith, before))).0
+    low k before =
+        let behind = behind_fillers bytes (k - 4) in
+        ⊎_elim (λ (near : k < 4). ltb-true _ 0x80 (agree_below_at (λ k. ltb (get_or (after_fillers bytes) k 0) 0x80) (λ _. true) 4 k refl near))
+        (λ (far : 4 ≤ k). let there : k - 4 + 4 ≡ k = omega arith in grind arith) (cases_lt k 4)

@@ -1,12 +1,12 @@
 -- What bytes show behind others, and what these want, lane by lane.
-use Rattle.std.proofs.Common.{◌≡◌, ℕ, ◌+◌, ◌%◌, ◌^◌, ◌<◌, ⊎_elim, Bool, true, false, cond, ◌&&◌, ◌||◌, List, map, length, replicate, eqb, leb, ltb, bit_and, bit_or, refl, sym, ap, ◌∙◌, Fits, w8, ◌-◌, add-zero, get_or}
-use Rattle.std.proofs.lemmas.Bool.{agree_below, agree_below_at, eqb-true, ne_eqb, cases_eq}
+use Rattle.std.proofs.Common.{◌≡◌, ℕ, ◌+◌, ◌%◌, ◌^◌, ◌<◌, ⊎_elim, Bool, true, false, cond, ◌&&◌, ◌||◌, List, map, length, replicate, eqb, leb, ltb, bit_and, bit_or, refl, sym, ap, ◌∙◌, arith, Fits, w8, ◌-◌, add-zero, get_or}
+use Rattle.std.proofs.lemmas.Bool.{agree_below, agree_below_at, and_parts, eqb-true, ne_eqb, cases_eq, cases_Bool}
 use lib.Lanes.{zip2, sel_l, top, Each1}
 use Rattle.cesu8_text.specs.Class.{is_null}
 use Rattle.cesu8_text.specs.Encoding.{Flavor, Cesu8, Mutf8}
 use Rattle.cesu8_bytes.specs.Kernels.{mask}
 use Rattle.cesu8_decode.specs.DecodedLanes.{told}
-use Rattle.cesu8_decode.proofs.decoder.Kinds.{half, told_alike, and_false}
+use Rattle.cesu8_decode.proofs.decoder.Kinds.{half, half_tests, told_alike, and_false}
 use Rattle.cesu8_decode.proofs.decoder.FirstLanes.{on_range, lanes_are, lane_fits}
 use Rattle.cesu8_decode.specs.Following.{CharacterSet, Encoded, Unchanged, Utf8, has_changed, has_four, first_low, rule, shown, leads_four, later}
 use Rattle.cesu8_decode.specs.declared.lanes.character_set.Rule.{Rule}
@@ -19,20 +19,16 @@ use Rattle.cesu8_bytes.proofs.lists.Lanes.{ones}
 abbrev pub told_by : Rule → ℕ → ℕ → ℕ
 told_by t = told t.by_high t.by_low t.by_next
 
-low_half : (s : CharacterSet) (b : ℕ) → b < 0x100 → leb (first_low s) (half b) ≡ leb (first_low s) b
-low_half Encoded b h = agree_below_at (λ b. leb 0xB0 (half b)) (λ b. leb 0xB0 b) 0x100 b refl h
-low_half Unchanged b h = agree_below_at (λ b. leb 0xA0 (half b)) (λ b. leb 0xA0 b) 0x100 b refl h
-low_half Utf8 b h = agree_below_at (λ b. leb 0xA0 (half b)) (λ b. leb 0xA0 b) 0x100 b refl h
+low_half : (s : CharacterSet) (b : ℕ) → leb (first_low s) (half b) ≡ leb (first_low s) b
+low_half Encoded b = (half_tests b 0xB).0
+low_half Unchanged b = (half_tests b 0xA).0
+low_half Utf8 b = (half_tests b 0xA).0
 
-by_half : (s : CharacterSet) (a b : ℕ) → b < 0x100 → shown s Cesu8 a (half b) ≡ shown s Cesu8 a b
+by_half : (s : CharacterSet) (a b : ℕ) → shown s Cesu8 a (half b) ≡ shown s Cesu8 a b
 unfolding shown
-by_half s a b h =
-    let e80 : leb 0x80 (half b) ≡ leb 0x80 b = agree_below_at (λ b. leb 0x80 (half b)) (λ b. leb 0x80 b) 0x100 b refl h in
-    let e90 : leb 0x90 (half b) ≡ leb 0x90 b = agree_below_at (λ b. leb 0x90 (half b)) (λ b. leb 0x90 b) 0x100 b refl h in
-    let l90 : ltb (half b) 0x90 ≡ ltb b 0x90 = agree_below_at (λ b. ltb (half b) 0x90) (λ b. ltb b 0x90) 0x100 b refl h in
-    let lA0 : ltb (half b) 0xA0 ≡ ltb b 0xA0 = agree_below_at (λ b. ltb (half b) 0xA0) (λ b. ltb b 0xA0) 0x100 b refl h in
-    let lC0 : ltb (half b) 0xC0 ≡ ltb b 0xC0 = agree_below_at (λ b. ltb (half b) 0xC0) (λ b. ltb b 0xC0) 0x100 b refl h in
-    rw (e80, e90, low_half s b h, l90, lA0, lC0) refl
+by_half s a b =
+    let test = half_tests b in
+    rw ((test 8).0, (test 9).0, low_half s b, (test 9).1, (test 0xA).1, (test 0xC).1) refl
 
 told_is : (s : CharacterSet) (a b : ℕ) → a < 0x100 → b < 0x100 → told_by (rule s) a b ≡ shown s Cesu8 a b
 unfolding shown
@@ -48,32 +44,25 @@ abbrev in_mutf8 : CharacterSet → ℕ → ℕ → ℕ
 in_mutf8 s n b = bit_or (bit_and n (kept_of s b)) (mask (eqb b 0))
 
 or_cond : (t : Bool) (x y m : ℕ) → bit_or (bit_and (cond t x y) 0xFF) m ≡ cond t (bit_or (bit_and x 0xFF) m) (bit_or (bit_and y 0xFF) m)
-or_cond true x y m = refl
-or_cond false x y m = refl
+or_cond t x y m = grind arith
 
-null_agrees : CharacterSet → ℕ → ℕ → Bool
-null_agrees s b a = eqb (in_mutf8 s (shown s Cesu8 a b) b) (shown s Mutf8 a b)
+-- behind each byte 00 and 80 show that
+null_agrees : CharacterSet → ℕ → Bool
+null_agrees s a =
+    eqb (in_mutf8 s (shown s Cesu8 a 0) 0) (shown s Mutf8 a 0) && eqb (in_mutf8 s (shown s Cesu8 a 0x80) 0x80) (shown s Mutf8 a 0x80)
 
-nulls_agree : (s : CharacterSet) (a : ℕ) → a < 0x100 → (null_agrees s 0 a ≡ true) × (null_agrees s 0x80 a ≡ true)
+nulls_agree : (s : CharacterSet) (a : ℕ) → a < 0x100 → null_agrees s a ≡ true
 unfolding shown null_agrees
-nulls_agree Encoded a h = (
-  agree_below_at (null_agrees Encoded 0) (λ _. true) 0x100 a refl h,
-  agree_below_at (null_agrees Encoded 0x80) (λ _. true) 0x100 a refl h,
-)
-nulls_agree Unchanged a h = (
-  agree_below_at (null_agrees Unchanged 0) (λ _. true) 0x100 a refl h,
-  agree_below_at (null_agrees Unchanged 0x80) (λ _. true) 0x100 a refl h,
-)
-nulls_agree Utf8 a h = (
-  agree_below_at (null_agrees Utf8 0) (λ _. true) 0x100 a refl h,
-  agree_below_at (null_agrees Utf8 0x80) (λ _. true) 0x100 a refl h,
-)
+nulls_agree Encoded a h = agree_below_at (null_agrees Encoded) (λ _. true) 0x100 a refl h
+nulls_agree Unchanged a h = agree_below_at (null_agrees Unchanged) (λ _. true) 0x100 a refl h
+nulls_agree Utf8 a h = agree_below_at (null_agrees Utf8) (λ _. true) 0x100 a refl h
 
 mutf8_is : (s : CharacterSet) (a b : ℕ) → a < 0x100 → in_mutf8 s (shown s Cesu8 a b) b ≡ shown s Mutf8 a b
 unfolding shown null_agrees
 mutf8_is s a b ha =
-    ⊎_elim (λ (null : b ≡ 0). rw null (eqb-true _ _ (nulls_agree s a ha).0))
-    (λ some. ⊎_elim (λ (long : b ≡ 0x80). rw long (eqb-true _ _ (nulls_agree s a ha).1))
+    let agree = and_parts _ _ (nulls_agree s a ha) in
+    ⊎_elim (λ (null : b ≡ 0). rw null (eqb-true _ _ agree.0))
+    (λ some. ⊎_elim (λ (long : b ≡ 0x80). rw long (eqb-true _ _ agree.1))
     (λ other. rw (ne_eqb b 0 some, ne_eqb b 0x80 other, and_false (has_changed s)) (simp or_cond)) (cases_eq b 0x80))
     (cases_eq b 0)
 
@@ -91,8 +80,7 @@ cesu8_lanes s first second long long_second fits_first fits_second =
 
 -- Either encoding is one of two.
 pub cesu8_unless : (f : Flavor) → ¬ (f ≡ Mutf8) → f ≡ Cesu8
-cesu8_unless Cesu8 other = refl
-cesu8_unless Mutf8 other = absurd (other refl)
+cesu8_unless f other = grind arith
 
 -- and, changed where the second is 00 or 80, in MUTF-8.
 pub mutf8_lanes : (s : CharacterSet) (first second kept nulls : List ℕ) → length first ≡ 32 → length second ≡ 32 →
@@ -141,10 +129,7 @@ module _ (s : CharacterSet) where
       (on_range (λ i. cond (leb 0xE0 (get_or two i 0)) 0x80 0) (λ i. later s (get_or three i 0) (get_or two i 0)) 0 32 (λ i low inside. rw none refl))
 
   either : (leads third : Bool) → bit_or (cond third 0x80 0) (cond leads 0x80 0) ≡ cond (leads || third) 0x80 0
-  either true true = refl
-  either true false = refl
-  either false true = refl
-  either false false = refl
+  either leads third = grind (arith, cases_Bool)
 
   pub later_are : has_four s ≡ true → (three two third fourth : List ℕ) → length three ≡ 32 → length two ≡ 32 → third ≡ led_lanes 0xE0 two → fourth ≡ led_lanes 0xF0 three →
       zip2 bit_or third fourth ≡ zip2 (later s) three two
@@ -157,14 +142,7 @@ module _ (s : CharacterSet) where
 
 both : (third lead second : Bool) →
     bit_or (cond third 0x80 0) (bit_and (bit_and (mask lead) (mask second)) 0x20) ≡ cond third 0x80 0 + cond (lead && second) 0x20 0
-both true true true = refl
-both true true false = refl
-both true false true = refl
-both true false false = refl
-both false true true = refl
-both false true false = refl
-both false false true = refl
-both false false false = refl
+both third lead second = grind (arith, cases_Bool)
 
 abbrev wanted_lanes : ℕ → (later lead second : List ℕ) → List ℕ
 wanted_lanes n later lead second =

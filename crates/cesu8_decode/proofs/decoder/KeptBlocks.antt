@@ -1,22 +1,22 @@
 -- Blocks whose bytes stay: characters of one byte, and those near no surrogate pair and no C0 80.
-use Rattle.std.proofs.Common.{◌≡◌, ℕ, zero, suc, ◌+◌, ◌-◌, ◌*◌, ◌^◌, ◌%◌, ◌<◌, ◌≤◌, ⊎_elim, Bool, true, false, true≢false, ◌&&◌, ◌||◌, not, cond, eqb, leb, List, [], ◌∷◌, ◌++◌, map, take, length, get_or, replicate, bit_and, bit_or, refl, sym, ap, ◌∙◌, arith}
+use Rattle.std.proofs.Common.{◌≡◌, ℕ, zero, suc, ◌+◌, ◌-◌, ◌*◌, ◌^◌, ◌%◌, ◌<◌, ◌≤◌, ⊎_elim, Bool, true, false, ◌&&◌, ◌||◌, not, cond, eqb, leb, List, [], ◌∷◌, ◌++◌, map, take, length, get_or, replicate, bit_and, bit_or, refl, sym, ap, ◌∙◌, arith}
 use Rattle.std.specs.List.{range_with_len}
-use Rattle.std.proofs.lemmas.Bool.{eqb-true, not-false, cases_lt, cases_Bool, ne_eqb}
+use Rattle.std.proofs.lemmas.Bool.{eqb-true, not-false, cases_lt, ne_eqb}
 use Rattle.std.proofs.lemmas.List.FromFn.{take-map-range_with_len}
 use Rattle.std.proofs.lemmas.Simd.{map-map}
 use lib.Lanes.{zip2, mask_l, chunk}
 use Rattle.std.proofs.lemmas.Bool.Decides.{nat_tests}
-use Rattle.cesu8_text.specs.Encoding.{Flavor, Cesu8, Mutf8}
+use Rattle.cesu8_text.specs.Encoding.{Flavor}
 use Rattle.cesu8_text.specs.Class.{is_null}
 use Rattle.cesu8_bytes.specs.Kernels.{mask}
-use Rattle.cesu8_bytes.specs.Pairs.{null_at}
 use Rattle.cesu8_bytes.specs.Packing.{written_for}
 use Rattle.cesu8_bytes.proofs.vectors.Loads.{loaded}
-use Rattle.cesu8_decode.specs.DecodedOffsets.{one_at, two_at, three_at, pair_at, first_width_by, width_at, is_ill_formed_at, decoded_byte, decoded_at, decoded}
+use Rattle.cesu8_decode.specs.DecodedOffsets.{one_at, pair_at, first_width_by, width_at, is_ill_formed_at, decoded_byte, decoded_at, decoded}
 use Rattle.cesu8_decode.specs.DecodedLanes.{start_kind, AreKindsNear, NoneBeginsChanged, AreParts, is_high, goes_at, byte_at}
+use Rattle.cesu8_decode.proofs.by_offset.WidthTests.{width_tells}
 use Rattle.cesu8_decode.proofs.decoder.StartKinds.{Start, by_kind, start_at, low_one, no_start, one_by_first, pair_bit}
 use Rattle.cesu8_decode.proofs.decoder.LaneTests.{high_or, shifted_or, no_one}
-use Rattle.cesu8_decode.proofs.decoder.FirstLanes.{no_bit, no_lane, on_range, behind_lanes, none_go}
+use Rattle.cesu8_decode.proofs.decoder.FirstLanes.{no_bit, no_lane, on_range, behind_lanes, first_marked}
 
 -- ---- bytes that stay
 
@@ -48,24 +48,13 @@ module _ (f : Flavor) (window : List ℕ) where
 pair_high : (a b d e g h : ℕ) → pair_at a b d e g h ≡ true → (0x80 ≤ b) × (0x80 ≤ d) × (0x80 ≤ e) × (0x80 ≤ g) × (0x80 ≤ h)
 pair_high a b d e g h begun = grind (arith, nat_tests)
 
--- A width of 6 is that of a pair.
-pair_or_less : (is_one is_null is_two is_three is_pair : Bool) →
-    ◌≡◌ {A = ℕ} (cond is_one 1 (cond is_null 2 (cond is_two 2 (cond is_three 3 (cond is_pair 6 0))))) 6 → is_pair ≡ true
-pair_or_less is_one is_null is_two is_three is_pair six = grind (arith, nat_tests)
-
 six_high : (f : Flavor) (a b d e g h : ℕ) → first_width_by f a b d e g h ≡ 6 → (0x80 ≤ b) × (0x80 ≤ d) × (0x80 ≤ e) × (0x80 ≤ g) × (0x80 ≤ h)
-unfolding first_width_by
-six_high f a b d e g h six =
-    pair_high a b d e g h (pair_or_less (one_at f a) (null_at f a b) (two_at a b) (three_at a b d) (pair_at a b d e g h) six)
+six_high f a b d e g h six = pair_high a b d e g h ((width_tells f a b d e g h).3 six)
 
 -- below 80 is no second byte of C0
-no_second : (f : Flavor) (b d e g h : ℕ) → b < 0x80 → eqb (first_width_by f 0xC0 b d e g h) 2 ≡ false
-unfolding first_width_by
-no_second Cesu8 b d e g h low = refl
-no_second Mutf8 b d e g h low = rw (ne_eqb b 0x80 (λ same. omega arith)) refl
-
 no_null_before : (f : Flavor) (a b d e g h : ℕ) → b < 0x80 → (eqb (first_width_by f a b d e g h) 2 && eqb a 0xC0) ≡ false
-no_null_before f a b d e g h low = grind (arith, cases_Bool, eqb-true, no_second)
+unfolding first_width_by
+no_null_before f a b d e g h low = grind (arith, nat_tests)
 
 module _ (f : Flavor) (window : List ℕ) where
   no_pair_over : (j d k : ℕ) → 1 ≤ d → d ≤ 5 → j + d ≡ k → get_or window k 0 < 0x80 → eqb (width_at f window j) 6 ≡ false
@@ -124,20 +113,10 @@ module _ (f : Flavor) (window : List ℕ) where
 -- ---- blocks where none changes
 
 other_start : (a w c : ℕ) → Start a w c → (eqb c 0x20 || eqb c 0x80) ≡ false → (eqb w 6 ≡ false) × ((eqb w 2 && eqb a 0xC0) ≡ false)
-other_start = by_kind (λ t w c. (eqb c 0x20 || eqb c 0x80) ≡ false → (eqb w 6 ≡ false) × ((eqb w 2 && t) ≡ false)) (
-  λ set. absurd (true≢false set),
-  λ _. (refl, refl),
-  λ _. (refl, refl),
-  λ t. (λ _. (refl, refl), λ _. (refl, refl), λ _. (refl, refl), λ _. (refl, refl), λ _. (refl, refl), λ set. absurd (true≢false set)),
-)
+other_start = by_kind (λ t w c. (eqb c 0x20 || eqb c 0x80) ≡ false → (eqb w 6 ≡ false) × ((eqb w 2 && t) ≡ false)) (grind arith)
 
 low_kind : (a w c : ℕ) → Start a w c → leb 0x80 c ≡ false → leb 0x80 (c * 2 ^ 2 % 2 ^ 8) ≡ false → (eqb c 0x20 || eqb c 0x80) ≡ false
-low_kind = by_kind (λ t w c. leb 0x80 c ≡ false → leb 0x80 (c * 2 ^ 2 % 2 ^ 8) ≡ false → (eqb c 0x20 || eqb c 0x80) ≡ false) (
-  λ set _. absurd (true≢false set),
-  λ _ _. refl,
-  λ _ _. refl,
-  λ t. (λ _ _. refl, λ _ _. refl, λ _ _. refl, λ _ _. refl, λ _ _. refl, λ _ set. absurd (true≢false set)),
-)
+low_kind = by_kind (λ t w c. leb 0x80 c ≡ false → leb 0x80 (c * 2 ^ 2 % 2 ^ 8) ≡ false → (eqb c 0x20 || eqb c 0x80) ≡ false) (grind arith)
 
 none_of : (p q r s : Bool) → ((p || q) || (r || s)) ≡ false → (p ≡ false) × (q ≡ false) × (r ≡ false) × (s ≡ false)
 none_of p q r s e = grind (arith, nat_tests)
@@ -221,11 +200,8 @@ module _ (f : Flavor) (window : List ℕ) (at : ℕ) where
         map is_high marks ≡ map (is_ill_formed_at f window) (range_with_len at n) ++ replicate (32 - n) false →
         behind ≡ behind_lanes n 0 32 → AreParts f window at n behind marks bytes
     kept_are_parts n small bytes marks behind bytes_is marks_are behind_is =
-        let all : 32 ≡ n + (32 - n) = omega arith in
         record {
-          gone_are =
-              ap (map is_high) (behind_is ∙ ap (behind_lanes n 0) all)
-              ∙ none_go (goes_at f window) at n 0 n (32 - n) (omega arith) (λ i low inside. kept_goes i low (omega arith));
+          gone_are = ap (map is_high) behind_is ∙ first_marked (λ _ mark. mark) (λ _. 0) (goes_at f window) true n at small (λ i low inside. (sym (kept_goes i low inside), refl));
           ill_formed_are = marks_are;
           bytes_are =
               ap (take n) bytes_is ∙ take-map-range_with_len (λ i. get_or window (i + 5) 0) at 32 n small

@@ -1,6 +1,7 @@
 -- The kind of what two bytes begin, by three look-ups.
 use Rattle.std.proofs.Common.{◌≡◌, ℕ, ◌+◌, ◌*◌, ◌/◌, ◌%◌, ◌<◌, ◌⊎◌, Bool, true, false, ◌&&◌, cond, eqb, leb, ltb, List, [], ◌∷◌, refl, ap, ◌∙◌, inl, inr, arith, bit_and}
 use Rattle.std.proofs.lemmas.Bool.{agree_below, agree_below_at, eqb-true, and_right, cases_Bool}
+use Rattle.std.proofs.lemmas.Bool.Decides.{nat_tests}
 use Rattle.cesu8_text.specs.Encoding.{Flavor, Cesu8, Mutf8}
 use Rattle.cesu8_bytes.specs.Pairs.{null_at}
 use Rattle.cesu8_decode.specs.DecodedOffsets.{two_at, three_at, pair_at}
@@ -9,16 +10,13 @@ use Rattle.cesu8_decode.specs.DecodedLanes.{told, start_kind_by, kind_of_two}
 -- ---- tests before a mask
 
 pub cond_same : {X : Type 0} (t : Bool) (x : X) → cond t x x ≡ x
-cond_same true x = refl
-cond_same false x = refl
+cond_same t x = grind arith
 
 pub and_false : (t : Bool) → (t && false) ≡ false
-and_false true = refl
-and_false false = refl
+and_false t = grind arith
 
 pub and_cond : (t : Bool) (x y m : ℕ) → bit_and (cond t x y) m ≡ cond t (bit_and x m) (bit_and y m)
-and_cond true x y m = refl
-and_cond false x y m = refl
+and_cond t x y m = grind arith
 
 -- ---- the three tables
 
@@ -48,7 +46,7 @@ abbrev tells_at : (high low next : List ℕ) → (ℕ → ℕ → ℕ) → ℕ �
 tells_at high low next tells i = eqb (told high low next (i / 0x10) (i % 0x10 * 0x10)) (tells (i / 0x10) (i % 0x10 * 0x10))
 
 pub told_alike : (high low next : List ℕ) (tells : ℕ → ℕ → ℕ) → agree_below (tells_at high low next tells) (λ _. true) 0x1000 ≡ true →
-    ((a b : ℕ) → b < 0x100 → tells a (half b) ≡ tells a b) → (a b : ℕ) → a < 0x100 → b < 0x100 → told high low next a b ≡ tells a b
+    ((a b : ℕ) → tells a (half b) ≡ tells a b) → (a b : ℕ) → a < 0x100 → b < 0x100 → told high low next a b ≡ tells a b
 told_alike high low next tells agree by_half a b ha hb =
     let n = b / 0x10 in
     let i = a * 0x10 + n in
@@ -57,18 +55,17 @@ told_alike high low next tells agree by_half a b ha hb =
     let e2 : n * 0x10 / 0x10 % 0x10 ≡ b / 0x10 % 0x10 = omega arith in
     let at_half : told high low next a (half b) ≡ tells a (half b) =
     eqb-true _ _ (rw (e0, e1) at (agree_below_at (tells_at high low next tells) (λ _. true) 0x1000 i agree (omega arith))) in
-    rw e2 at at_half ∙ by_half a b hb
+    rw e2 at at_half ∙ by_half a b
 
-by_half : (a b : ℕ) → b < 0x100 → kind_by a (half b) ≡ kind_by a b
+-- An upper half tells whether a byte is before a multiple of 10 (hexadecimal).
+pub half_tests : (b k : ℕ) → (leb (k * 0x10) (half b) ≡ leb (k * 0x10) b) × (ltb (half b) (k * 0x10) ≡ ltb b (k * 0x10))
+half_tests b k = grind (arith, nat_tests)
+
+by_half : (a b : ℕ) → kind_by a (half b) ≡ kind_by a b
 unfolding kind_by
-by_half a b h =
-    let e80 : leb 0x80 (half b) ≡ leb 0x80 b = agree_below_at (λ b. leb 0x80 (half b)) (λ b. leb 0x80 b) 0x100 b refl h in
-    let eA0 : leb 0xA0 (half b) ≡ leb 0xA0 b = agree_below_at (λ b. leb 0xA0 (half b)) (λ b. leb 0xA0 b) 0x100 b refl h in
-    let l90 : ltb (half b) 0x90 ≡ ltb b 0x90 = agree_below_at (λ b. ltb (half b) 0x90) (λ b. ltb b 0x90) 0x100 b refl h in
-    let lA0 : ltb (half b) 0xA0 ≡ ltb b 0xA0 = agree_below_at (λ b. ltb (half b) 0xA0) (λ b. ltb b 0xA0) 0x100 b refl h in
-    let lB0 : ltb (half b) 0xB0 ≡ ltb b 0xB0 = agree_below_at (λ b. ltb (half b) 0xB0) (λ b. ltb b 0xB0) 0x100 b refl h in
-    let lC0 : ltb (half b) 0xC0 ≡ ltb b 0xC0 = agree_below_at (λ b. ltb (half b) 0xC0) (λ b. ltb b 0xC0) 0x100 b refl h in
-    rw (e80, eA0, l90, lA0, lB0, lC0) refl
+by_half a b =
+    let test = half_tests b in
+    rw ((test 8).0, (test 0xA).0, (test 9).1, (test 0xA).1, (test 0xB).1, (test 0xC).1) refl
 
 kind_is : (a b : ℕ) → a < 0x100 → b < 0x100 → told by_high by_low by_next a b ≡ kind_by a b
 unfolding kind_by

@@ -1,19 +1,19 @@
 -- What the offsets of a block save, lane by lane.
-use Rattle.std.proofs.Common.{◌≡◌, ℕ, zero, suc, ◌+◌, ◌*◌, ◌/◌, ◌%◌, ◌^◌, ◌<◌, ◌≤◌, ◌⊎◌, ⊎_elim, Bool, true, false, cond, List, [], ◌∷◌, map, length, get_or, replicate, eqb, ltb, bit_or, refl, sym, ap, ◌∙◌, subst, inl, inr, arith, Fits, w8, zero-add}
+use Rattle.std.proofs.Common.{◌≡◌, ℕ, zero, suc, ◌+◌, ◌*◌, ◌/◌, ◌%◌, ◌^◌, ◌<◌, ◌≤◌, Bool, cond, List, [], ◌∷◌, map, length, get_or, replicate, eqb, ltb, bit_or, refl, sym, ap, ◌∙◌, subst, arith, Fits, w8, zero-add}
 use Rattle.std.specs.Int.Bits.{or_zero_r}
 use Rattle.std.specs.List.{range_with_len}
 use Rattle.std.proofs.lemmas.Bool.Decides.{nat_tests}
-use Rattle.std.proofs.lemmas.Bool.{cases_Bool, eqb-true, eqb-false, le-leb}
 use Rattle.std.proofs.lemmas.List.FromFn.{length-map-range_with_len}
 use Rattle.std.proofs.lemmas.Simd.{Each1-replicate, length-zip2, sum-zip2, Each1-zip2, Each2-of}
 use lib.Lanes.{zip2, sel_l, top, sum_l, Each1, Each2}
-use Rattle.cesu8_text.specs.Encoding.{Flavor, Cesu8, Mutf8}
+use Rattle.cesu8_text.specs.Encoding.{Flavor}
 use Rattle.cesu8_text.specs.Class.{is_null}
 use Rattle.cesu8_bytes.specs.Kernels.{mask}
 use Rattle.cesu8_decode.specs.DecodedOffsets.{one_at, width_at, saved, saved_between}
 use Rattle.cesu8_decode.specs.DecodedLanes.{start_kind, saved_at}
 use Rattle.cesu8_decode.specs.declared.lengths.sums.TheConstants.{SAVED_BY_ONE, SAVED_BY_LOW, SAVED_BY_HIGH}
 use Rattle.cesu8_decode.proofs.decoder.StartKinds.{Start, by_kind, start_at, no_start, one_by_first}
+use Rattle.cesu8_decode.proofs.decoder.LaneTests.{no_one}
 use Rattle.cesu8_decode.proofs.decoder.FirstLanes.{on_range}
 use Rattle.cesu8_bytes.proofs.lists.Lanes.{chosen}
 use Rattle.cesu8_decode.proofs.by_offset.CharacterBoundaries.{width_bounds}
@@ -21,16 +21,9 @@ use Rattle.cesu8_decode.proofs.by_offset.WindowOffsets.{saved_split}
 
 -- ---- one lane
 
-one_of_mutf8 : (b : ℕ) → (eqb b 0 ≡ true) ⊎ (eqb b 0 ≡ false) → ltb (bit_or b (mask (eqb b 0))) 0x80 ≡ one_at Mutf8 b
-one_of_mutf8 b (inl zero_byte) = rw (eqb-true b 0 zero_byte) refl
-one_of_mutf8 b (inr some) =
-    let low : 1 ≤ b = omega (arith, eqb-false b 0 some) in
-    rw (some, le-leb 1 b low) (ap (λ n. ltb n 0x80) (or_zero_r b))
-
 -- a byte below 80 that is not null is a character
 one_by_byte : (f : Flavor) (b : ℕ) → ltb (bit_or b (mask (is_null f b))) 0x80 ≡ one_at f b
-one_by_byte Cesu8 b = ap (λ n. ltb n 0x80) (or_zero_r b)
-one_by_byte Mutf8 b = one_of_mutf8 b (cases_Bool (eqb b 0))
+one_by_byte f b = grind (arith, nat_tests, no_one f b)
 
 abbrev entry : List ℕ → ℕ → ℕ
 entry table lane = get_or table (lane % 16) 0
@@ -83,9 +76,7 @@ module _ (f : Flavor) (window : List ℕ) where
   no_lead_saves : (i : ℕ) → get_or window i 0 < 0xC0 → one_lane i ≡ saved_at f window i
   no_lead_saves i low =
       let kind : start_kind f window i ≡ 0 = no_start f _ _ _ _ _ _ low in
-      sym ((λ k. bit_or (bit_or (one_lane i) (entry SAVED_BY_LOW (kind k))) (entry SAVED_BY_HIGH (kind k / 2 ^ 4)))
-      ∙ or_zero_r (bit_or (one_lane i) 0) ∙ or_zero_r (one_lane i))
-      ∙ saved_lane i
+      simp or_zero_r at (rw kind at (saved_lane i))
 
   -- Where no byte leads others, characters of one byte are all that save something.
   pub no_lead_save : (at : ℕ) → ((i : ℕ) → at ≤ i → i < at + 32 → get_or window i 0 < 0xC0) →
@@ -118,9 +109,7 @@ module _ (f : Flavor) (bytes : List ℕ) where
 
   each_light : (vs : List ℕ) → Each1 (λ a. a ≤ 14) (map (saved_at f bytes) vs)
   each_light [] = tt
-  each_light (v ∷ vs) =
-      let few : width_at f bytes v ≤ 6 = ⊎_elim (λ small. omega arith) (λ six. omega arith) (width_bounds f bytes v) in
-      (saves_little (width_at f bytes v) (get_or bytes v 0) few, each_light vs)
+  each_light (v ∷ vs) = (saves_little (width_at f bytes v) (get_or bytes v 0) (omega (arith, width_bounds f bytes v)), each_light vs)
 
   module _ (n : ℕ) (lanes more : List ℕ) (have : HaveSum f bytes n lanes)
       (next : more ≡ map (saved_at f bytes) (range_with_len (32 * n) 32)) where

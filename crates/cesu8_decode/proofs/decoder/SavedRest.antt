@@ -2,7 +2,7 @@
 use Rattle.std.proofs.Common.{◌≡◌, ℕ, zero, suc, ◌+◌, ◌-◌, ◌*◌, ◌<◌, ◌≤◌, ◌⊎◌, ⊎_elim, List, ◌++◌, length, get_or, replicate, refl, sym, ap, ◌∙◌, inl, inr, arith}
 use Rattle.std.proofs.lemmas.Bool.{cases_lt}
 use Rattle.std.proofs.lemmas.List.{get_or_past, get_or_append_left, get_or-append_right, get_or-replicate}
-use Rattle.cesu8_text.specs.Encoding.{Flavor, Cesu8, Mutf8}
+use Rattle.cesu8_text.specs.Encoding.{Flavor}
 use Rattle.cesu8_decode.specs.DecodedOffsets.{first_width_by, saved, saved_between, total_saved}
 use Rattle.cesu8_decode.specs.DecodedLanes.{saved_at}
 use Rattle.cesu8_decode.proofs.by_offset.WindowOffsets.{saved_split}
@@ -19,14 +19,12 @@ alike g x y same (inr end) = ap g end.0 ∙ same ∙ sym (ap g end.1)
 
 second_alike : (f : Flavor) (a d e g h : ℕ) → first_width_by f a 0xFF d e g h ≡ first_width_by f a 0 d e g h
 unfolding first_width_by
-second_alike Cesu8 a d e g h = refl
-second_alike Mutf8 a d e g h = refl
+second_alike f a d e g h = grind arith
 
 -- FF begins nothing.
 none_begins : (f : Flavor) (b d e g h : ℕ) → first_width_by f 0xFF b d e g h ≡ 0
 unfolding first_width_by
-none_begins Cesu8 b d e g h = refl
-none_begins Mutf8 b d e g h = refl
+none_begins f b d e g h = grind arith
 
 -- ---- sums over offsets that save alike
 

@@ -1,11 +1,12 @@
 -- What the kind of an offset says: how wide the character is that begins there, and its lead byte.
 use Rattle.std.proofs.Common.{◌≡◌, ℕ, ◌+◌, ◌*◌, ◌^◌, ◌%◌, ◌<◌, Bool, true, false, ◌&&◌, cond, eqb, leb, ltb, List, refl, arith, get_or, bit_and}
-use Rattle.std.proofs.lemmas.Bool.{and_parts, leb-true, ltb-true, ne_eqb, lt-leb}
+use Rattle.std.proofs.lemmas.Bool.{and_parts, leb-true, ne_eqb, lt-leb}
 use Rattle.std.proofs.lemmas.Bool.Decides.{nat_tests}
-use Rattle.cesu8_text.specs.Encoding.{Flavor, Cesu8, Mutf8}
-use Rattle.cesu8_decode.specs.DecodedOffsets.{one_at, two_at, three_at, pair_at, first_width_by, width_at}
+use Rattle.cesu8_text.specs.Encoding.{Flavor}
+use Rattle.cesu8_decode.specs.DecodedOffsets.{one_at, first_width_by, width_at}
 use Rattle.cesu8_bytes.specs.Pairs.{null_at}
 use Rattle.cesu8_decode.specs.DecodedLanes.{start_kind_by, kind_of_two, start_kind}
+use Rattle.cesu8_decode.proofs.by_offset.WidthTests.{width_tells}
 
 -- What begins at an offset with byte a: nothing, one byte, the null of MUTF-8, two bytes, three, or a
 -- surrogate pair; with the width and the kind of each.
@@ -37,39 +38,22 @@ by_kind P holds a w c three_high = (holds.3 (eqb a 0xC0)).3
 by_kind P holds a w c three_last = (holds.3 (eqb a 0xC0)).4
 by_kind P holds a w c pair = (holds.3 (eqb a 0xC0)).5
 
-two_by : (a : ℕ) (t : Bool) → eqb a 0xC0 ≡ false → Start a 2 (cond t 0x01 0x02)
-two_by a true other = two_low other
-two_by a false other = two_high other
-
-three_by : (a : ℕ) (t u : Bool) → Start a 3 (cond t 0x04 (cond u 0x10 0x08))
-three_by a true u = three_low
-three_by a false true = three_last
-three_by a false false = three_high
-
 start_by : (a : ℕ) (is_one is_null is_two is_three is_pair : Bool) → (is_null ≡ true → eqb a 0xC0 ≡ true) → (is_two ≡ true → eqb a 0xC0 ≡ false) →
     (is_one ≡ true → (is_null ≡ false) × (is_two ≡ false) × (is_three ≡ false) × (is_pair ≡ false)) →
     Start a (cond is_one 1 (cond is_null 2 (cond is_two 2 (cond is_three 3 (cond is_pair 6 0)))))
     (cond is_null 0x80 (cond is_two (cond (ltb a 0xD0) 0x01 0x02)
     (cond is_three (cond (eqb a 0xE0) 0x04 (cond (eqb a 0xED) 0x10 0x08)) (cond is_pair 0x20 0))))
-start_by a true is_null is_two is_three is_pair first other alone = let only = alone refl in rw (only.0, only.1, only.2, only.3) one
-start_by a false true is_two is_three is_pair first other alone = null (first refl)
-start_by a false false true is_three is_pair first other alone = two_by a (ltb a 0xD0) (other refl)
-start_by a false false false true is_pair first other alone = three_by a (eqb a 0xE0) (eqb a 0xED)
-start_by a false false false false true first other alone = pair
-start_by a false false false false false first other alone = nothing
+start_by a is_one is_null is_two is_three is_pair first other alone = grind (arith, nothing, one, null, two_low, two_high, three_low, three_high, three_last, pair)
 
 -- A character of one byte is below 80.
 pub low_one : (f : Flavor) (a : ℕ) → one_at f a ≡ true → a < 0x80
-low_one Cesu8 a t = ltb-true a 0x80 t
-low_one Mutf8 a t = ltb-true a 0x80 (and_parts (leb 1 a) (ltb a 0x80) t).1
+low_one f a t = grind (arith, nat_tests)
 
 first_null : (f : Flavor) (a b : ℕ) → null_at f a b ≡ true → eqb a 0xC0 ≡ true
-first_null Cesu8 a b t = absurd (cc)
-first_null Mutf8 a b t = (and_parts (eqb a 0xC0) (eqb b 0x80) t).0
+first_null f a b t = grind (arith, nat_tests)
 
 low_is_no_null : (f : Flavor) (a b : ℕ) → a < 0xC0 → null_at f a b ≡ false
-low_is_no_null Cesu8 a b low = refl
-low_is_no_null Mutf8 a b low = rw (ne_eqb a 0xC0 (λ e. omega arith)) refl
+low_is_no_null f a b low = grind (arith, nat_tests)
 
 -- What begins by six bytes.
 pub start : (f : Flavor) (a b d e g h : ℕ) → Start a (first_width_by f a b d e g h) (start_kind_by f a b d e g h)
@@ -87,14 +71,9 @@ pub two_decide : (f : Flavor) (a b d e g h : ℕ) → a < 0xE0 → kind_of_two f
 unfolding start_kind_by
 two_decide f a b d e g h low = rw (lt-leb 0xE0 a low, ne_eqb a 0xED (λ same. omega arith)) refl
 
-one_by : (is_one is_null is_two is_three is_pair : Bool) →
-    eqb (cond is_one 1 (cond is_null 2 (cond is_two 2 (cond is_three 3 (cond is_pair 6 0))))) 1 ≡ is_one
-one_by is_one is_null is_two is_three is_pair = grind (arith, nat_tests)
-
 -- The first of them tells whether it is one byte.
 pub one_by_first : (f : Flavor) (a b d e g h : ℕ) → eqb (first_width_by f a b d e g h) 1 ≡ one_at f a
-unfolding first_width_by
-one_by_first f a b d e g h = one_by (one_at f a) (null_at f a b) (two_at a b) (three_at a b d) (pair_at a b d e g h)
+one_by_first f a b d e g h = (width_tells f a b d e g h).1
 
 -- What begins at an offset of a window.
 pub start_at : (f : Flavor) (window : List ℕ) (i : ℕ) → Start (get_or window i 0) (width_at f window i) (start_kind f window i)

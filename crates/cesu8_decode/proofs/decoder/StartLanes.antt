@@ -3,7 +3,7 @@ use Rattle.std.proofs.lemmas.Bool.Decides.{nat_tests}
 use Rattle.std.proofs.lemmas.Grind.{common_steps, same_number_lists}
 use Rattle.std.proofs.Common.{◌≡◌, ℕ, ◌+◌, ◌*◌, ◌/◌, ◌%◌, ◌^◌, ◌<◌, ◌≤◌, Bool, true, false, cond, ◌&&◌, List, ◌++◌, map, length, get_or, replicate, eqb, leb, ltb, bit_and, bit_or, refl, sym, ap, ◌∙◌, arith, Fits, w8}
 use Rattle.std.specs.List.{range_with_len}
-use Rattle.std.proofs.lemmas.Bool.{agree_below_at, eqb-true, leb-false}
+use Rattle.std.proofs.lemmas.Bool.{agree_below_at, eqb-true}
 use Rattle.std.specs.Int.Bits.{and_zero_l}
 use Rattle.std.proofs.lemmas.List.{length-map, get_or-map, get_or_append_left}
 use Rattle.std.proofs.lemmas.Nat.{and_mask}
@@ -17,7 +17,7 @@ use Rattle.cesu8_decode.specs.DecodedLanes.{told, start_kind_by, kind_of_two, st
 use Rattle.cesu8_bytes.proofs.vectors.Loads.{loaded, marks_at}
 use Rattle.cesu8_decode.proofs.decoder.StartKinds.{start, no_start, two_decide}
 use Rattle.cesu8_decode.proofs.decoder.LaneTests.{no_pair_begun}
-use Rattle.cesu8_decode.proofs.decoder.FirstLanes.{no_lane, on_range, lanes_are, lane_fits}
+use Rattle.cesu8_decode.proofs.decoder.FirstLanes.{all_below, no_lane, on_range, lanes_are, lane_fits}
 use Rattle.cesu8_decode.proofs.decoder.Kinds.{cond_same, and_cond, by_high, by_low, by_next, looked_up, and_false}
 
 -- ---- a look-up by the lower half of each lane
@@ -146,14 +146,6 @@ start_lanes n two third fourth fifth sixth =
     (zip2 bit_or (zip2 bit_and (zip2 bit_and fourth fifth) sixth) (replicate n 0xDF)))
 
 module _ (f : Flavor) (window : List ℕ) (fits : (k : ℕ) → Fits w8 (get_or window k 0)) where
-  -- The bytes of a block are below one that no lane reaches.
-  pub all_below : (least at : ℕ) → at + 32 ≤ length window → mask_l (map (leb least) (chunk at 32 window)) ≡ 0 →
-      (i : ℕ) → at ≤ i → i < at + 32 → get_or window i 0 < least
-  all_below least at room none i low inside =
-      let lanes = pick_l-range_with_len 0 window at 32 room in
-      leb-false least (get_or window i 0)
-      (no_lane (λ i. leb least (get_or window i 0)) at 32 (ap (λ l. mask_l (map (leb least) l)) lanes ∙ none) i low inside)
-
   module _ (at : ℕ) (room : at + 37 ≤ length window) (two : List ℕ)
       (two_is : two ≡ zip2 (kind_of_two f) (chunk at 32 window) (chunk (at + 1) 32 window)) where
     two_at_offsets : two ≡ map (λ i. kind_of_two f (get_or window i 0) (get_or window (i + 1) 0)) (range_with_len at 32)
@@ -200,11 +192,11 @@ module _ (f : Flavor) (window : List ℕ) (fits : (k : ℕ) → Fits w8 (get_or 
     pub two_are_starts : mask_l (map (leb 0xE0) (chunk at 32 window)) ≡ 0 → two ≡ map (start_kind f window) (range_with_len at 32)
     two_are_starts none =
         two_at_offsets ∙ on_range _ (start_kind f window) at 32
-        (λ i low inside. two_decide f _ _ _ _ _ _ (all_below 0xE0 at (omega arith) none i low inside))
+        (λ i low inside. two_decide f _ _ _ _ _ _ (all_below window 0xE0 at 32 (omega arith) none i low inside))
 
   -- Where none is C0 or more, the kinds are 0.
   pub none_start : (at : ℕ) → at + 32 ≤ length window → mask_l (map (leb 0xC0) (chunk at 32 window)) ≡ 0 →
       replicate 32 0 ≡ map (start_kind f window) (range_with_len at 32)
   none_start at room none =
       on_range (λ i. 0) (start_kind f window) at 32
-      (λ i low inside. sym (no_start f _ _ _ _ _ _ (all_below 0xC0 at room none i low inside)))
+      (λ i low inside. sym (no_start f _ _ _ _ _ _ (all_below window 0xC0 at 32 room none i low inside)))

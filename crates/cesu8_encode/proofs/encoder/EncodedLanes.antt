@@ -1,8 +1,7 @@
 -- What the vectors of the encoder hold, lane by lane.
 use Rattle.std.proofs.lemmas.Grind.{common_steps}
-use Rattle.std.proofs.Common.{◌≡◌, ℕ, ◌+◌, ◌*◌, ◌/◌, ◌%◌, ◌^◌, Bool, true, false, cond, ◌||◌, ◌&&◌, List, [], ◌∷◌, ◌++◌, map, length, replicate, eqb, bit_and, bit_or, refl, sym, ap, ◌∙◌, subst, arith, w8}
+use Rattle.std.proofs.Common.{◌≡◌, ℕ, ◌+◌, ◌*◌, ◌/◌, ◌%◌, ◌^◌, Bool, false, cond, ◌||◌, ◌&&◌, List, [], ◌∷◌, map, length, replicate, eqb, bit_and, bit_or, refl, sym, ap, ◌∙◌, subst, arith, w8}
 use Rattle.std.specs.List.{flat_map}
-use Rattle.std.proofs.lemmas.Bool.{false≢true}
 use Rattle.std.proofs.lemmas.Bool.Decides.{nat_tests}
 use Rattle.std.proofs.lemmas.List.{length-map}
 use Rattle.std.proofs.lemmas.Simd.{bitmask_splat}
@@ -67,8 +66,7 @@ abbrev pub first_vector : ℕ → List ℕ → List ℕ
 first_vector n null = sel_l (map (top 7) (zip2 equal null (replicate n 0))) (replicate n 0xED) (replicate n 0xC0)
 
 first_lane : (null : Bool) → ◌≡◌ {A = ℕ} (cond (top 7 (equal (mask null) 0)) 0xED 0xC0) (cond null 0xC0 0xED)
-first_lane true = refl
-first_lane false = refl
+first_lane null = grind arith
 
 -- Those of the firsts are the first bytes.
 pub first_lanes : (null : ℕ → Bool) (vs : List ℕ) →
@@ -77,13 +75,7 @@ first_lanes null [] = refl
 first_lanes null (v ∷ vs) = λ i. first_lane (null v) i ∷ first_lanes null vs i
 
 doubled_lane : (a b c : Bool) → (a && c) ≡ false → eqb (bit_or ((mask a + mask c) % 2 ^ 8) (mask b)) 0xFF ≡ ((a || b) || c)
-doubled_lane true b true h = absurd (false≢true (sym h))
-doubled_lane true true false h = refl
-doubled_lane true false false h = refl
-doubled_lane false true true h = refl
-doubled_lane false true false h = refl
-doubled_lane false false true h = refl
-doubled_lane false false false h = refl
+doubled_lane a b c apart = grind (arith, nat_tests)
 
 abbrev pub doubled_vector : List ℕ → List ℕ → List ℕ → List ℕ
 doubled_vector lead two_before null = zip2 bit_or (zip2 (λ a b. (a + b) % 2 ^ 8) lead null) two_before
@@ -104,25 +96,13 @@ doubled_bits a b c apart vs long =
     let all = sym (length-map lanes (λ x. eqb x 0xFF)) ∙ ap length tell ∙ length-map vs (λ v. (a v || b v) || c v) ∙ long in
     bitmask_splat w8 eqb lanes 32 255 all (omega arith) ∙ ap mask_l tell
 
-lead_is_not_null : (b : ℕ) → (is_at_least_f0 b && is_null Mutf8 b) ≡ false
-lead_is_not_null b = grind (arith, nat_tests)
-
-neither : (t : Bool) → (t && false) ≡ false
-neither true = refl
-neither false = refl
-
 -- No lead byte is null.
 pub lead_or_null : (f : Flavor) (b : ℕ) → (is_at_least_f0 b && is_null f b) ≡ false
-lead_or_null Cesu8 b = neither (is_at_least_f0 b)
-lead_or_null Mutf8 b = lead_is_not_null b
-
-packed_one : (t : Bool) (a b : ℕ) (ts : List Bool) (firsts seconds rest : List ℕ) → packed ts firsts seconds ≡ rest →
-    packed (t ∷ ts) (a ∷ firsts) (b ∷ seconds) ≡ cond t (a ∷ b ∷ []) (b ∷ []) ++ rest
-packed_one true a b ts firsts seconds rest e = ap (λ l. a ∷ b ∷ l) e
-packed_one false a b ts firsts seconds rest e = ap (λ l. b ∷ l) e
+lead_or_null Cesu8 b = grind (arith, nat_tests)
+lead_or_null Mutf8 b = grind (arith, nat_tests)
 
 -- Packing the lanes writes what is written for each offset.
 pub packed_offsets : (t : ℕ → Bool) (g h : ℕ → ℕ) (vs : List ℕ) →
     packed (map t vs) (map g vs) (map h vs) ≡ flat_map (λ v. cond (t v) (g v ∷ h v ∷ []) (h v ∷ [])) vs
 packed_offsets t g h [] = refl
-packed_offsets t g h (v ∷ vs) = packed_one (t v) (g v) (h v) _ _ _ _ (packed_offsets t g h vs)
+packed_offsets t g h (v ∷ vs) = grind (arith, common_steps, packed_offsets t g h vs)

@@ -1,21 +1,16 @@
 -- How a row of eight bytes is packed by a shuffle.
 use Rattle.std.proofs.lemmas.Bool.Decides.{nat_tests}
 use Rattle.std.proofs.lemmas.Grind.{common_steps}
-use Rattle.std.proofs.Common.{◌≡◌, ℕ, zero, suc, ◌+◌, ◌<◌, ◌≤◌, Bool, true, false, cond, List, [], ◌∷◌, ◌++◌, map, length, take, drop, get_or, eqb, refl, sym, ap, ◌∙◌, subst, arith, w8, T, count_ones, eqb-true, append-nil}
-use Rattle.std.specs.List.{range_with_len}
-use Rattle.std.proofs.lemmas.Bool.{agree_below_at}
+use Rattle.std.proofs.Common.{◌≡◌, ℕ, zero, suc, ◌+◌, ◌<◌, ◌≤◌, Bool, true, List, [], ◌∷◌, ◌++◌, map, length, take, drop, get_or, append_assoc, eqb, ltb, refl, sym, ◌∙◌, subst, arith, w8, count_ones, eqb-true, append-nil}
+use Rattle.std.specs.List.{range_with_len, list_all}
+use Rattle.std.proofs.lemmas.Bool.{agree_below_at, ltb-true}
+use Rattle.std.proofs.lemmas.List.Elements.{All-get_or}
+use Rattle.std.proofs.lemmas.List.Sums.{AllPass-from_list_all}
 use Rattle.std.proofs.lemmas.List.{length-map, length-drop, map-append, drop_all, drop-drop}
 use Rattle.std.proofs.lemmas.Simd.{swz_l, SwzOk, SwzOk-from_below, pick_l-range_with_len, ones-mask_l_cons, Each1-from_get_or}
-use lib.Dec.{ltb→lt}
-use mir.ValLaws.{and_both}
-use lib.Lanes.{mask_l, put_chunk, chunk, pick_l, all_below, Each1}
+use lib.Lanes.{mask_l, put_chunk, chunk, pick_l, Each1}
 use Rattle.cesu8_encode.specs.EncodedOffsets.{packed, kept_lanes, shuffle_of}
-use Rattle.cesu8_bytes.proofs.vectors.Rows.{lowest, shuffled, stored_prefix, lanes_of_first, lanes_of_second, four_calls}
-
-kept_one : (g : ℕ → ℕ) (i : ℕ) (t : Bool) (xs ys : List ℕ) → map g xs ≡ ys →
-    map g (cond t ((8 + i) ∷ i ∷ xs) (i ∷ xs)) ≡ cond t (g (8 + i) ∷ g i ∷ ys) (g i ∷ ys)
-kept_one g i true xs ys e = ap (λ l. g (8 + i) ∷ g i ∷ l) e
-kept_one g i false xs ys e = ap (λ l. g i ∷ l) e
+use Rattle.cesu8_bytes.proofs.vectors.Rows.{lowest, shuffled, stored_prefix, lanes_of_first, lanes_of_second}
 
 -- The lanes that are kept are those that are packed.
 kept_packed : (g : ℕ → ℕ) (ts : List Bool) (i : ℕ) →
@@ -24,12 +19,7 @@ kept_packed g [] i = refl
 kept_packed g (t ∷ ts) i =
     let low = lowest t (mask_l ts) in
     let next : 8 + i + 1 ≡ 8 + (i + 1) = omega arith in
-    rw (low.0, low.1, next) (kept_one g i t _ _ (kept_packed g ts (i + 1)))
-
-length_one : (i : ℕ) (t : Bool) (xs : List ℕ) (n m k : ℕ) → length xs ≡ n + m → k ≡ cond t 1 0 + m →
-    length (cond t ((8 + i) ∷ i ∷ xs) (i ∷ xs)) ≡ suc n + k
-length_one i true xs n m k e f = omega (arith, e, f)
-length_one i false xs n m k e f = omega (arith, e, f)
+    rw (low.0, low.1, next) (grind (arith, common_steps, kept_packed g ts (i + 1)))
 
 -- They are as many as bytes and set bits.
 length_kept : (ts : List Bool) (i : ℕ) → length (kept_lanes (mask_l ts) i (length ts)) ≡ length ts + count_ones (mask_l ts)
@@ -37,20 +27,15 @@ unfolding lib.Count.ones
 length_kept [] i = refl
 length_kept (t ∷ ts) i =
     let low = lowest t (mask_l ts) in
-    rw (low.0, low.1) (length_one i t _ (length ts) _ _ (length_kept ts (i + 1)) (ones-mask_l_cons t ts))
+    rw (low.0, low.1) (grind (arith, common_steps, ones-mask_l_cons t ts, length_kept ts (i + 1)))
 
 -- ---- shuffles
-
-below_at : (n : ℕ) (js : List ℕ) → T (all_below n js) → (m : ℕ) → m < length js → get_or js m 0 < n
-below_at n [] h m l = absurd (omega arith)
-below_at n (j ∷ js) h zero l = ltb→lt j n (and_both _ _ h).0
-below_at n (j ∷ js) h (suc m) l = below_at n js (and_both _ _ h).1 m (omega arith)
 
 -- Each lane of a shuffle is below 16, and they are sixteen.
 shuffle_below : (d : ℕ) → d < 0x100 → Each1 (λ j. j < 16) (shuffle_of d)
 shuffle_below d l =
-    Each1-from_get_or (λ j. j < 16) (shuffle_of d) 0 (below_at 16 (shuffle_of d)
-    (subst T (sym (agree_below_at (λ d. all_below 16 (shuffle_of d)) (λ d. true) 0x100 d refl l)) tt))
+    let low = AllPass-from_list_all (λ j. ltb j 16) (shuffle_of d) (agree_below_at (λ d. list_all (λ j. ltb j 16) (shuffle_of d)) (λ d. true) 0x100 d refl l) in
+    Each1-from_get_or (λ j. j < 16) (shuffle_of d) 0 (λ m within. ltb-true _ _ (All-get_or (λ j. ltb j 16 ≡ true) (shuffle_of d) m 0 within low))
 
 shuffle_long : (d : ℕ) → d < 0x100 → length (shuffle_of d) ≡ 16
 shuffle_long d l = eqb-true _ _ (agree_below_at (λ d. eqb (length (shuffle_of d)) 16) (λ d. true) 0x100 d refl l)
@@ -69,17 +54,13 @@ module _ (out lanes row : List ℕ) (at d : ℕ) (ts : List Bool)
   abbrev kept : List ℕ
   kept = kept_lanes d 0 8
 
-  eight : (n : ℕ) → n ≡ 8 → mask_l ts ≡ d → kept_lanes (mask_l ts) 0 n ≡ kept
-  eight n e m = rw (e, m) refl
-
   kept_is : map lane kept ≡ packed ts (chunk 8 8 lanes) (chunk 0 8 lanes)
   kept_is =
-      ap (map lane) (sym (eight (length ts) ts_long (sym d_is)))
-      ∙ kept_packed lane ts 0
-      ∙ rw ts_long (rw (pick_l-range_with_len 0 lanes 8 8 (omega arith), pick_l-range_with_len 0 lanes 0 8 (omega arith)) refl)
+      rw (← d_is, ts_long) at (kept_packed lane ts 0)
+      ∙ rw (pick_l-range_with_len 0 lanes 8 8 (omega arith), pick_l-range_with_len 0 lanes 0 8 (omega arith)) refl
 
   kept_long : length kept ≡ 8 + count_ones d
-  kept_long = ap length (sym (eight (length ts) ts_long (sym d_is))) ∙ length_kept ts 0 ∙ rw (ts_long, sym d_is) refl
+  kept_long = rw (← d_is, ts_long) at (length_kept ts 0)
 
   -- After a row is stored, what is up to its end is what was there, and the row packed.
   pub stored_row : (end : ℕ) → end ≡ at + 8 + count_ones d →
@@ -95,8 +76,7 @@ packed_parts zero ts firsts seconds e f = refl
 packed_parts (suc n) [] firsts seconds e f = refl
 packed_parts (suc n) (t ∷ ts) [] seconds e f = absurd (omega arith)
 packed_parts (suc n) (t ∷ ts) (a ∷ firsts) [] e f = absurd (omega arith)
-packed_parts (suc n) (true ∷ ts) (a ∷ firsts) (b ∷ seconds) e f = ap (λ l. a ∷ b ∷ l) (packed_parts n ts firsts seconds (omega arith) (omega arith))
-packed_parts (suc n) (false ∷ ts) (a ∷ firsts) (b ∷ seconds) e f = ap (λ l. b ∷ l) (packed_parts n ts firsts seconds (omega arith) (omega arith))
+packed_parts (suc n) (t ∷ ts) (a ∷ firsts) (b ∷ seconds) e f = grind (arith, common_steps, packed_parts n ts firsts seconds)
 
 module _ (firsts seconds : List ℕ) (ts : List Bool) (f : length firsts ≡ 32) (s : length seconds ≡ 32) (t : length ts ≡ 32) where
   -- the vector of a row
@@ -109,17 +89,12 @@ module _ (firsts seconds : List ℕ) (ts : List Bool) (f : length firsts ≡ 32)
   part : (a : ℕ) → a + 8 ≤ 32 → packed (drop a ts) (drop a firsts) (drop a seconds) ≡ row a ++ packed (drop (a + 8) ts) (drop (a + 8) firsts) (drop (a + 8) seconds)
   part a le =
       packed_parts 8 (drop a ts) (drop a firsts) (drop a seconds)
-      (omega (arith, length-drop a ts, length-drop a firsts, f, t)) (omega (arith, length-drop a ts, length-drop a seconds, s, t))
-      ∙ rw (drop-drop 8 a ts, drop-drop 8 a firsts, drop-drop 8 a seconds, lanes_of_first seconds firsts a 8 (omega (arith, s)), lanes_of_second seconds firsts 32 a 8 s (omega (arith, f))) refl
-
-  last : packed (drop 32 ts) (drop 32 firsts) (drop 32 seconds) ≡ []
-  last = rw (drop_all 32 ts (omega (arith, t))) refl
+      (omega (arith, length-drop a ts, length-drop a firsts)) (omega (arith, length-drop a ts, length-drop a seconds))
+      ∙ rw (drop-drop 8 a ts, drop-drop 8 a firsts, drop-drop 8 a seconds, lanes_of_first seconds firsts a 8 (omega arith), lanes_of_second seconds firsts 32 a 8 s (omega arith)) refl
 
   -- The four rows, one behind the other, are the block.
   pub four_rows : (x0 x1 x2 x3 x4 : List ℕ) → x1 ≡ x0 ++ row 0 → x2 ≡ x1 ++ row 8 → x3 ≡ x2 ++ row 16 → x4 ≡ x3 ++ row 24 →
       x4 ≡ x0 ++ packed ts firsts seconds
   four_rows x0 x1 x2 x3 x4 e1 e2 e3 e4 =
-      four_calls x0 x1 x2 x3 x4 (row 0) (row 8) (row 16) (row 24) e1 e2 e3 e4
-      ∙ ap (λ l. x0 ++ l) (sym (part 0 (omega arith) ∙ ap (λ l. row 0 ++ l) (part 8 (omega arith)
-      ∙ ap (λ l. row 8 ++ l) (part 16 (omega arith)
-      ∙ ap (λ l. row 16 ++ l) (part 24 (omega arith) ∙ ap (λ l. row 24 ++ l) last ∙ append-nil (row 24))))))
+      let last : packed (drop 32 ts) (drop 32 firsts) (drop 32 seconds) ≡ [] = rw (drop_all 32 ts (omega arith)) refl in
+      grind (arith, append_assoc, append-nil, part 0 (omega arith), part 8 (omega arith), part 16 (omega arith), part 24 (omega arith), last)

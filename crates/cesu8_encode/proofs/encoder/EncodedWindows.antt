@@ -1,29 +1,26 @@
 -- What is written for parts of a text.
 use Rattle.std.proofs.lemmas.Bool.Decides.{nat_tests}
 use Rattle.std.proofs.lemmas.Grind.{common_steps}
-use Rattle.std.proofs.Common.{◌≡◌, ℕ, zero, suc, ◌+◌, ◌-◌, ◌*◌, ◌%◌, ◌^◌, ◌<◌, ◌≤◌, Bool, true, false, cond, List, [], ◌∷◌, ◌++◌, map, refl, sym, ap, ◌∙◌, arith, length, take, drop, get_or, replicate, bit_and, length-append, append_assoc, count_ones}
+use Rattle.std.proofs.Common.{◌≡◌, ℕ, zero, suc, ◌+◌, ◌-◌, ◌*◌, ◌%◌, ◌^◌, ◌<◌, ◌≤◌, Bool, cond, List, [], ◌∷◌, ◌++◌, map, refl, sym, ap, ◌∙◌, arith, length, take, drop, get_or, replicate, bit_and, length-append, append_assoc, count_ones}
 use Rattle.std.specs.List.{flat_map, range_with_len}
 use Rattle.std.proofs.lemmas.List.{append-nil, get_or-drop, get_or-take, length-drop, length-take-le, take_all, take_at, take-take}
 use Rattle.std.proofs.lemmas.List.Concat.{flat_map-append}
 use Rattle.std.proofs.lemmas.List.FromFn.{length-range_with_len, length-map-range_with_len, take-map-range_with_len}
-use Rattle.std.proofs.lemmas.Nat.{and_mask, ones-le}
-use Rattle.std.proofs.Math.Nat.{mod-eq_of_lt, mod-lt, one-le-pow}
+use Rattle.std.proofs.lemmas.Nat.{and_mask}
+use Rattle.std.proofs.Math.Nat.{mod-eq_of_lt}
 use lib.Pow.{pow_mono}
 use Rattle.std.proofs.lemmas.Simd.{ones-mask_l_cons}
 use lib.Lanes.{mask_l}
 use Rattle.std.specs.Str.{IsUtf8, chars}
 use Rattle.cesu8_text.specs.Encoding.{Flavor, encoding}
 use Rattle.cesu8_encode.specs.EncodedOffsets.{encoded_byte_at, encoded_bytes, recoded, is_doubled_at, inserted_at, changed_at, packed, packed_len, IsWritten, AreLanes, ArePackedTo}
-use Rattle.cesu8_encode.proofs.encoder.RecodedText.{recoded_chars}
+use Rattle.cesu8_encode.proofs.encoder.RecodedText.{encoded_bytes_agree, recoded_chars}
 use Rattle.cesu8_encode.proofs.encoder.EncodedLanes.{packed_offsets}
 use Rattle.cesu8_bytes.proofs.vectors.Rows.{mask_prefix}
 use Rattle.cesu8_bytes.proofs.vectors.Loads.{zeros_at, padded}
 
 range_parts : (i n m : ℕ) → range_with_len i (n + m) ≡ range_with_len i n ++ range_with_len (i + n) m
-range_parts i zero m =
-    let e : 0 + m ≡ m = omega arith in
-    let e' : i + 0 ≡ i = omega arith in
-    rw (e, e') refl
+range_parts i zero m = grind arith
 range_parts i (suc n) m =
     let e : suc n + m ≡ suc (n + m) = omega arith in
     let e' : i + suc n ≡ i + 1 + n = omega arith in
@@ -35,41 +32,16 @@ unfolding encoded_bytes
 encoded_bytes_append f window i n m =
     ap (flat_map (encoded_byte_at f window)) (range_parts i n m) ∙ flat_map-append (encoded_byte_at f window) (range_with_len i n) (range_with_len (i + n) m)
 
--- Two windows with the same bytes have the same written for them.
-agree : (f : Flavor) (v w : List ℕ) (i j n : ℕ) → ((k : ℕ) → k < n + 3 → get_or v (i + k) 0 ≡ get_or w (j + k) 0) →
-    flat_map (encoded_byte_at f v) (range_with_len i n) ≡ flat_map (encoded_byte_at f w) (range_with_len j n)
-agree f v w i j zero h = refl
-agree f v w i j (suc n) h =
-    let i0 : i ≡ i + 0 = omega arith in
-    let j0 : j + 0 ≡ j = omega arith in
-    let first : get_or v i 0 ≡ get_or w j 0 = ap (λ k. get_or v k 0) i0 ∙ h 0 (omega arith) ∙ ap (λ k. get_or w k 0) j0 in
-    let rest : (k : ℕ) → k < n + 3 → get_or v (i + 1 + k) 0 ≡ get_or w (j + 1 + k) 0 = λ k l.
-    (let ik : i + 1 + k ≡ i + (k + 1) = omega arith in
-    let jk : j + (k + 1) ≡ j + 1 + k = omega arith in
-    ap (λ m. get_or v m 0) ik ∙ h (k + 1) (omega arith) ∙ ap (λ m. get_or w m 0) jk) in
-    rw (first, h 1 (omega arith), h 2 (omega arith), h 3 (omega arith), agree f v w (i + 1) (j + 1) n rest) refl
-
-encoded_bytes_agree : (f : Flavor) (v w : List ℕ) (i j n : ℕ) → ((k : ℕ) → k < n + 3 → get_or v (i + k) 0 ≡ get_or w (j + k) 0) →
-    encoded_bytes f v i n ≡ encoded_bytes f w j n
-unfolding encoded_bytes
-encoded_bytes_agree f v w i j n h = agree f v w i j n h
-
--- A window from i on in the text, i being its byte behind two, has the text's bytes.
-from_drop : (f : Flavor) (text : List ℕ) (i n : ℕ) → 2 ≤ i → encoded_bytes f (drop (i - 2) text) 0 n ≡ encoded_bytes f (0 ∷ 0 ∷ text) i n
-from_drop f text i n le = encoded_bytes_agree f (drop (i - 2) text) (0 ∷ 0 ∷ text) 0 i n (λ k l.
-    let here : 0 + k ≡ k = omega arith in
-    let there : suc (suc (i - 2 + k)) ≡ i + k = omega arith in
-    ap (λ m. get_or (drop (i - 2) text) m 0) here ∙ get_or-drop (i - 2) text k 0 ∙ ap (λ m. get_or (0 ∷ 0 ∷ text) m 0) there)
-
 -- a part up to the end, as the code takes it
 abbrev part_from : ℕ → List ℕ → List ℕ
 part_from i text = take (length text - i) (drop i text)
 
-whole_part : (i : ℕ) (text : List ℕ) → part_from i text ≡ drop i text
-whole_part i text = take_all (length text - i) (drop i text) (omega (arith, length-drop i text))
-
+-- What is written for that part, behind its first two bytes, is what is written for the text there.
 encoded_bytes_drop : (f : Flavor) (text : List ℕ) (i n : ℕ) → 2 ≤ i → encoded_bytes f (part_from (i - 2) text) 0 n ≡ encoded_bytes f (0 ∷ 0 ∷ text) i n
-encoded_bytes_drop f text i n le = ap (λ window. encoded_bytes f window 0 n) (whole_part (i - 2) text) ∙ from_drop f text i n le
+encoded_bytes_drop f text i n le = rw (take_all (length text - (i - 2)) (drop (i - 2) text) (omega (arith, length-drop (i - 2) text)))
+    (encoded_bytes_agree f (drop (i - 2) text) (0 ∷ 0 ∷ text) 0 i n (λ k l.
+    let there : suc (suc (i - 2 + k)) ≡ i + k = omega arith in
+    grind (arith, get_or-drop (i - 2) text k 0, ap (λ m. get_or (0 ∷ 0 ∷ text) m 0) there)))
 
 -- ---- a block of which fewer bytes count
 
@@ -78,12 +50,7 @@ length_written : (t : ℕ → Bool) (g h : ℕ → ℕ) (vs : List ℕ) →
 unfolding lib.Count.ones
 length_written t g h [] = refl
 length_written t g h (v ∷ vs) =
-    length_one (t v) (g v) (h v) _ (length vs) _ _ (length_written t g h vs) (ones-mask_l_cons (t v) (map t vs))
-  where
-    length_one : (s : Bool) (a b : ℕ) (xs : List ℕ) (n m k : ℕ) → length xs ≡ n + m → k ≡ cond s 1 0 + m →
-        length (cond s (a ∷ b ∷ []) (b ∷ []) ++ xs) ≡ suc n + k
-    length_one true a b xs n m k e f = omega (arith, e, f)
-    length_one false a b xs n m k e f = omega (arith, e, f)
+    grind (arith, common_steps, ones-mask_l_cons (t v) (map t vs), length_written t g h vs)
 
 -- What is written for n bytes has as many bytes as they and the bits of those that become two.
 length_offsets : (f : Flavor) (window : List ℕ) (i n : ℕ) →
@@ -109,12 +76,6 @@ pub counted : (n doubled : ℕ) → n ≤ 32 →
     n + count_ones (bit_and doubled (1 * 2 ^ n % 0x10000000000000000 - 1)) ≡ packed_len doubled n
 counted n doubled le = ap (λ k. n + count_ones (bit_and doubled k)) (ones_are n le) ∙ ap (λ b. n + count_ones b) (and_mask doubled n)
 
--- So 64 bytes hold what is written for a block.
-pub stored_long : (out : List ℕ) (n doubled end : ℕ) → n ≤ 32 → length out ≡ 64 → end ≡ 0 + packed_len doubled n → length (take end out) ≡ end
-stored_long out n doubled end le long end_is =
-    let below : doubled % 2 ^ n < 2 ^ n = mod-lt doubled (one-le-pow n 2 (omega arith)) in
-    length-take-le end out (omega (arith, ones-le n (doubled % 2 ^ n) below, le, long, end_is))
-
 -- The bits of the first n bytes of a block tell how long what is written for them is.
 pub prefix_long : (f : Flavor) (window : List ℕ) (i n doubled : ℕ) → n ≤ 32 →
     doubled ≡ mask_l (map (is_doubled_at f window) (range_with_len i 32)) →
@@ -132,14 +93,11 @@ pub prefix_of_block : (f : Flavor) (window before out : List ℕ) (i n stored en
     take stored out ≡ before ++ encoded_bytes f window i 32 → end ≡ length before + length (encoded_bytes f window i n) →
     take end out ≡ before ++ encoded_bytes f window i n
 prefix_of_block f window before out i n stored end le within is end_is =
-    let sum : 32 ≡ n + (32 - n) = omega arith in
     let prefix = encoded_bytes f window i n in
     let others = encoded_bytes f window (i + n) (32 - n) in
-    let parts : take stored out ≡ (before ++ prefix) ++ others =
-    is ∙ ap (λ l. before ++ l) (ap (encoded_bytes f window i) sum ∙ encoded_bytes_append f window i n (32 - n)) ∙ sym (append_assoc before prefix others) in
-    let whole = length-append before prefix in
-    let ends : end ≤ stored = omega (arith, end_is, whole, ap length parts, length-append (before ++ prefix) others, length-take-le stored out within) in
-    sym (take-take end stored out ends) ∙ ap (take end) parts ∙ take_at (before ++ prefix) others end (whole ∙ sym end_is)
+    let parts : take stored out ≡ (before ++ prefix) ++ others = grind (arith, append_assoc, encoded_bytes_append f window i n (32 - n)) in
+    let ends : end ≤ stored = omega (arith, ap length parts, length-append {A = ℕ}, length-take-le stored out within) in
+    sym (take-take end stored out ends) ∙ ap (take end) parts ∙ take_at (before ++ prefix) others end (omega (arith, length-append before prefix))
 
 -- The lanes of a block are packed to what is written for it.
 pub lanes_packed : (f : Flavor) (window : List ℕ) (i : ℕ) (seconds firsts : List ℕ) (doubled : ℕ) → AreLanes f window i seconds firsts doubled →
@@ -172,9 +130,9 @@ pub encoded_short : (f : Flavor) (bytes text near : List ℕ) → near ≡ bytes
     bytes ≡ text → IsUtf8 text → length text ≤ 32 →
     encoded_bytes f (0 ∷ 0 ∷ (near ++ [])) 0 (length bytes) ≡ encoding f (chars text)
 encoded_short f bytes text near near_is same is_utf8 short =
-    let le : length bytes ≤ 32 = omega (arith, short, ap length same) in
+    let le : length bytes ≤ 32 = omega (arith, ap length same) in
     ap (λ window. encoded_bytes f (0 ∷ 0 ∷ window) 0 (length bytes)) (append-nil near ∙ near_is)
-    ∙ encoded_bytes_first f bytes bytes 33 (length bytes) (length bytes) le (sym (take_all 33 bytes (omega (arith, le))))
+    ∙ encoded_bytes_first f bytes bytes 33 (length bytes) (length bytes) le (sym (take_all 33 bytes (omega arith)))
     ∙ recoded_chars f text bytes same is_utf8
 
 -- and of that in which zeros follow its last bytes, those from i on.
@@ -190,16 +148,8 @@ encoded_bytes_last f text near i n le is =
 pub room_for_parts : (f : Flavor) (window : List ℕ) (i n m whole : ℕ) → n + m ≤ whole →
     length (encoded_bytes f window i n) + length (encoded_bytes f window (i + n) m) ≤ length (encoded_bytes f window i whole)
 room_for_parts f window i n m whole le =
-    let sum : whole ≡ n + (m + (whole - (n + m))) = omega arith in
     let rest = whole - (n + m) in
-    omega (
-      arith,
-      ap (λ k. length (encoded_bytes f window i k)) sum,
-      ap length (encoded_bytes_append f window i n (m + rest)),
-      length-append (encoded_bytes f window i n) (encoded_bytes f window (i + n) (m + rest)),
-      ap length (encoded_bytes_append f window (i + n) m rest),
-      length-append (encoded_bytes f window (i + n) m) (encoded_bytes f window (i + n + m) rest),
-    )
+    grind (arith, length-append, encoded_bytes_append f window i n (m + rest), encoded_bytes_append f window (i + n) m rest)
 
 -- ---- a text by blocks
 
@@ -213,19 +163,11 @@ module _ (f : Flavor) (text : List ℕ) where
       let there : suc (suc (i - 2 + k)) ≡ i + k = omega arith in
       ap (λ m. get_or around m 0) there)
 
-  -- There is room for n bytes more, behind what is written for the first i.
-  pub room_behind : (i n end : ℕ) (out : List ℕ) → i + n ≤ length text → IsWritten f text i out end →
-      length (recoded f text) ≤ length out → end + length (encoded_bytes f around i n) ≤ length out
-  room_behind i n end out le written room =
-      let start : 0 + i ≡ i = omega arith in
-      omega (
-        arith,
-        ap length written.0,
-        length-take-le end out written.1,
-        ap (λ k. length (encoded_bytes f around k n)) start,
-        room_for_parts f around 0 i n (length text) le,
-        room,
-      )
+  -- There is room for what is written for n bytes more, behind what is written for the first i.
+  pub room_behind : (i n end : ℕ) (out piece : List ℕ) → piece ≡ encoded_bytes f around i n → i + n ≤ length text → IsWritten f text i out end →
+      length (recoded f text) ≤ length out → end + length piece ≤ length out
+  room_behind i n end out piece same le written room =
+      grind (arith, same, written.0, length-take-le end out written.1, room_for_parts f around 0 i n (length text) le)
 
   -- With n bytes more.
   pub written_behind : (i n end after : ℕ) (old out piece : List ℕ) → IsWritten f text i old end →

@@ -3,18 +3,32 @@ use Rattle.std.proofs.lemmas.Bool.Decides.{nat_tests}
 use Rattle.std.proofs.lemmas.Grind.{common_steps}
 use Rattle.std.proofs.Common.{◌≡◌, ℕ, zero, suc, ◌+◌, ◌*◌, ◌/◌, ◌%◌, ◌<◌, ◌≤◌, true, false, List, [], ◌∷◌, ◌++◌, refl, sym, ap, ◌∙◌, arith, length, get_or, eqb, bit_and, bit_or, eqb-true}
 use Rattle.std.specs.Str.{chars, IsUtf8}
-use Rattle.std.specs.List.{flat_map, range_with_len}
 use Rattle.std.proofs.lemmas.Bool.{agree_below_at, lt-leb, le-leb, ne_eqb, cases_eq}
 use Rattle.std.proofs.lemmas.Nat.{and_mask, or_shifted}
 use lib.Bits.{or_add_and, and_zero_r}
 use Rattle.cesu8_text.specs.Text.{IsText, utf8_of, utf8}
 use Rattle.cesu8_text.specs.Encoding.{Flavor, Cesu8, Mutf8, encoding, short_form}
 use Rattle.cesu8_text.specs.Class.{is_null}
-use Rattle.cesu8_encode.specs.EncodedOffsets.{six_bits, encoded_byte, encoded_byte_at, encoded_bytes, recoded}
+use Rattle.cesu8_encode.specs.EncodedOffsets.{six_bits, encoded_byte, encoded_bytes, recoded}
 use Rattle.cesu8_text.proofs.StdUtf8.{IsUtf8Of_chars}
 use Rattle.cesu8_text.proofs.text.Shapes.{Shape, IsPair, one, two, three, pair, shape, utf8_of_one, utf8_of_two, utf8_of_three, utf8_of_pair}
 use Rattle.cesu8_text.proofs.encoding.Forms.{encoding_one, encoding_two, encoding_three, encoding_pair, short_form_other}
 use Rattle.cesu8_text.proofs.encoding.Encodings.{encoding_nil, encoding_cons}
+
+-- Two windows with the same bytes have the same written for them.
+pub encoded_bytes_agree : (f : Flavor) (v w : List ℕ) (i j n : ℕ) → ((k : ℕ) → k < n + 3 → get_or v (i + k) 0 ≡ get_or w (j + k) 0) →
+    encoded_bytes f v i n ≡ encoded_bytes f w j n
+unfolding encoded_bytes
+encoded_bytes_agree f v w i j zero h = refl
+encoded_bytes_agree f v w i j (suc n) h =
+    let i0 : i ≡ i + 0 = omega arith in
+    let j0 : j + 0 ≡ j = omega arith in
+    let first : get_or v i 0 ≡ get_or w j 0 = ap (λ k. get_or v k 0) i0 ∙ h 0 (omega arith) ∙ ap (λ k. get_or w k 0) j0 in
+    let rest : (k : ℕ) → k < n + 3 → get_or v (i + 1 + k) 0 ≡ get_or w (j + 1 + k) 0 = λ k l.
+    (let ik : i + 1 + k ≡ i + (k + 1) = omega arith in
+    let jk : j + (k + 1) ≡ j + 1 + k = omega arith in
+    ap (λ m. get_or v m 0) ik ∙ h (k + 1) (omega arith) ∙ ap (λ m. get_or w m 0) jk) in
+    rw (first, h 1 (omega arith), h 2 (omega arith), h 3 (omega arith), encoded_bytes_agree f v w (i + 1) (j + 1) n rest) refl
 
 -- What is written for a list of bytes, behind two others.
 written : Flavor → ℕ → ℕ → List ℕ → List ℕ
@@ -23,21 +37,13 @@ written f x y (b ∷ bytes) = encoded_byte f x y b (get_or bytes 0 0) ++ written
 
 -- ---- by encoded_bytes, and down the list
 
-later : (f : Flavor) (x : ℕ) (window : List ℕ) (i : ℕ) → encoded_byte_at f (x ∷ window) (i + 1) ≡ encoded_byte_at f window i
-later f x window i =
-    let e0 : i + 1 ≡ suc i = omega arith in
-    let e1 : i + 1 + 1 ≡ suc (i + 1) = omega arith in
-    let e2 : i + 1 + 2 ≡ suc (i + 2) = omega arith in
-    let e3 : i + 1 + 3 ≡ suc (i + 3) = omega arith in
-    (λ k. encoded_byte f (get_or (x ∷ window) (e0 k) 0) (get_or (x ∷ window) (e1 k) 0) (get_or (x ∷ window) (e2 k) 0) (get_or (x ∷ window) (e3 k) 0))
+all_later : (f : Flavor) (x : ℕ) (window : List ℕ) (i n : ℕ) → encoded_bytes f (x ∷ window) (i + 1) n ≡ encoded_bytes f window i n
+all_later f x window i n = encoded_bytes_agree f (x ∷ window) window (i + 1) i n (λ k l.
+    let next : i + 1 + k ≡ suc (i + k) = omega arith in
+    ap (λ m. get_or (x ∷ window) m 0) next)
 
-all_later : (f : Flavor) (x : ℕ) (window : List ℕ) (i n : ℕ) →
-    flat_map (encoded_byte_at f (x ∷ window)) (range_with_len (i + 1) n) ≡ flat_map (encoded_byte_at f window) (range_with_len i n)
-all_later f x window i zero = refl
-all_later f x window i (suc n) = rw (later f x window i, all_later f x window (i + 1) n) refl
-
-by_offsets : (f : Flavor) (x y : ℕ) (bytes : List ℕ) → flat_map (encoded_byte_at f (x ∷ y ∷ bytes)) (range_with_len 0 (length bytes)) ≡ written f x y bytes
-unfolding written
+by_offsets : (f : Flavor) (x y : ℕ) (bytes : List ℕ) → encoded_bytes f (x ∷ y ∷ bytes) 0 (length bytes) ≡ written f x y bytes
+unfolding written encoded_bytes
 by_offsets f x y [] = refl
 by_offsets f x y (b ∷ bytes) =
     ap (λ l. encoded_byte f x y b (get_or bytes 0 0) ++ l) (all_later f x (y ∷ b ∷ bytes) 0 (length bytes) ∙ by_offsets f y b bytes)
@@ -53,11 +59,11 @@ plain f x y b n hx hy hb = grind (arith, nat_tests, common_steps, cases_eq, lt-l
 
 -- Any other than 0 stays.
 same : (f : Flavor) (x y b n : ℕ) → x < 0xF0 → y < 0xF0 → b < 0xF0 → 0 < b → encoded_byte f x y b n ≡ b ∷ []
-same f x y b n hx hy hb some = plain f x y b n hx hy hb ∙ short_form_other f b (λ null. omega (arith, null, some))
+same f x y b n hx hy hb some = plain f x y b n hx hy hb ∙ short_form_other f b (λ null. omega arith)
 
 not_null : (f : Flavor) (b : ℕ) → 0 < b → is_null f b ≡ false
 not_null Cesu8 b some = refl
-not_null Mutf8 b some = ne_eqb b 0 (λ null. omega (arith, null, some))
+not_null Mutf8 b some = ne_eqb b 0 (λ null. omega arith)
 
 six_bits_by_digits : (b n : ℕ) → b < 0x100 → six_bits b n ≡ b % 0x10 * 4 + n / 0x10 % 4
 six_bits_by_digits b n h =
@@ -94,39 +100,11 @@ character_written : (f : Flavor) (c p q : ℕ) (rest encoded : List ℕ) → Sha
     written f p q (utf8_of c ++ rest) ≡ encoding f (c ∷ []) ++ encoded
 unfolding written
 character_written f c p q rest encoded (one ascii) hp hq continues =
-    rw (
-      utf8_of_one c ascii,
-      encoding_one f c ascii,
-      plain f p q c (get_or rest 0 0) hp hq (omega arith),
-      continues q c hq (omega arith),
-    ) refl
+    grind (arith, nat_tests, common_steps, utf8_of_one, encoding_one, plain)
 character_written f c p q rest encoded (two x y digits) hp hq continues =
-    let a = 0xC0 + x in
-    let b = 0x80 + y in
-    let h_x = digits.high in
-    let h_y = digits.last in
-    rw (
-      utf8_of_two c x y digits,
-      encoding_two f c x y digits,
-      same f p q a b hp hq (omega arith) (omega arith),
-      same f q a b (get_or rest 0 0) hq (omega arith) (omega arith) (omega arith),
-      continues a b (omega arith) (omega arith),
-    ) refl
+    rw (utf8_of_two c x y digits, encoding_two f c x y digits) (grind (arith, nat_tests, common_steps, same))
 character_written f c p q rest encoded (three x y z digits) hp hq continues =
-    let a = 0xE0 + x in
-    let b = 0x80 + y in
-    let d = 0x80 + z in
-    let h_x = digits.high in
-    let h_y = digits.middle in
-    let h_z = digits.last in
-    rw (
-      utf8_of_three c x y z digits,
-      encoding_three f c x y z digits,
-      same f p q a b hp hq (omega arith) (omega arith),
-      same f q a b d hq (omega arith) (omega arith) (omega arith),
-      same f a b d (get_or rest 0 0) (omega arith) (omega arith) (omega arith) (omega arith),
-      continues b d (omega arith) (omega arith),
-    ) refl
+    rw (utf8_of_three c x y z digits, encoding_three f c x y z digits) (grind (arith, nat_tests, common_steps, same))
 character_written f c p q rest encoded (pair w x y z digits) hp hq continues =
     rw (utf8_of_pair c w x y z digits, encoding_pair f c w x y z digits)
     (pair_written f c w x y z p q rest encoded digits hp hq continues)
@@ -140,7 +118,6 @@ text_written f (c ∷ text) is_text p q hp hq =
 
 -- What is written for the UTF-8 of a text is its encoding.
 recoded_utf8 : (f : Flavor) (text : List ℕ) → IsText text → recoded f (utf8 text) ≡ encoding f text
-unfolding encoded_bytes
 recoded_utf8 f text is_text = by_offsets f 0 0 (utf8 text) ∙ text_written f text is_text 0 0 (omega arith) (omega arith)
 
 -- The same of the text that std's UTF-8 has.

@@ -3,14 +3,13 @@ use Rattle.std.proofs.lemmas.Bool.Decides.{nat_tests}
 use Rattle.std.proofs.lemmas.Grind.{common_steps}
 use Rattle.std.proofs.Common.{◌≡◌, ℕ, zero, suc, ◌+◌, ◌<◌, ◌≤◌, Bool, false, ◌||◌, List, [], ◌∷◌, map, refl, sym, ap, ◌∙◌, arith, length, get_or}
 use Rattle.std.specs.List.{flat_map, range_with_len}
-use Rattle.std.proofs.lemmas.Bool.{or_parts, false_from_ne_true}
-use Rattle.std.proofs.lemmas.List.{get_or_default}
-use Rattle.std.proofs.lemmas.Simd.{get_or-chunk, length-chunk}
+use Rattle.std.proofs.lemmas.Bool.{or_parts}
 use lib.Lanes.{chunk}
 use Rattle.cesu8_bytes.specs.Kernels.{AnyIn}
 use Rattle.cesu8_text.specs.Encoding.{Flavor}
 use Rattle.cesu8_text.specs.Class.{is_null, is_at_least_f0}
 use Rattle.cesu8_encode.specs.EncodedOffsets.{encoded_byte, encoded_byte_at, encoded_bytes}
+use Rattle.cesu8_bytes.proofs.lists.Lanes.{none_loaded}
 use Rattle.cesu8_bytes.proofs.vectors.Loads.{loaded}
 use Rattle.cesu8_encode.proofs.encoder.RecodedText.{or_zero}
 
@@ -21,30 +20,15 @@ changes f b = is_null f b || is_at_least_f0 b
 stays : (f : Flavor) (x y b n : ℕ) → changes f x ≡ false → changes f y ≡ false → changes f b ≡ false → encoded_byte f x y b n ≡ b ∷ []
 stays f x y b n hx hy hb = grind (arith, nat_tests, common_steps, or_parts, or_zero)
 
-all_stay : (f : Flavor) (window : List ℕ) (i n : ℕ) → ((k : ℕ) → k < n + 2 → changes f (get_or window (i + k) 0) ≡ false) →
+all_stay : (f : Flavor) (window : List ℕ) (i n : ℕ) → ((k : ℕ) → i ≤ k → k < i + (n + 2) → changes f (get_or window k 0) ≡ false) →
     flat_map (encoded_byte_at f window) (range_with_len i n) ≡ map (λ j. get_or window (j + 2) 0) (range_with_len i n)
 all_stay f window i zero h = refl
 all_stay f window i (suc n) h =
-    let here : i + 0 ≡ i = omega arith in
-    let first : changes f (get_or window i 0) ≡ false = ap (λ k. changes f (get_or window k 0)) (sym here) ∙ h 0 (omega arith) in
-    let rest : (k : ℕ) → k < n + 2 → changes f (get_or window (i + 1 + k) 0) ≡ false = λ k l.
-    (let next : i + 1 + k ≡ i + (k + 1) = omega arith in
-    ap (λ m. changes f (get_or window m 0)) next ∙ h (k + 1) (omega arith)) in
     rw (
       stays f (get_or window i 0) (get_or window (i + 1) 0) (get_or window (i + 2) 0) (get_or window (i + 3) 0)
-          first (h 1 (omega arith)) (h 2 (omega arith)),
-      all_stay f window (i + 1) n rest,
+          (h i (omega arith) (omega arith)) (h (i + 1) (omega arith) (omega arith)) (h (i + 2) (omega arith) (omega arith)),
+      all_stay f window (i + 1) n (λ k from to. h k (omega arith) (omega arith)),
     ) refl
-
--- Each byte of a load is not in a class that none of the load is in.
-none_changes : (f : Flavor) (window : List ℕ) (i n : ℕ) → i + n ≤ length window → (AnyIn (changes f) (chunk i n window) → ⊥) →
-    (k : ℕ) → k < n → changes f (get_or window (i + k) 0) ≡ false
-none_changes f window i n room none k less =
-    let near = chunk i n window in
-    let within : k < length near = omega (arith, less, length-chunk i n window room) in
-    ap (changes f) (sym (get_or-chunk i n window k 0 less))
-    ∙ false_from_ne_true (changes f (get_or near k 0))
-    (λ is. none (k, get_or near k 0, within, get_or_default near k (get_or near k 0) 0 within, is))
 
 -- A block stays where none of its bytes changes, nor one of the two before it.
 pub unchanged_block : (f : Flavor) (null : ℕ → Bool) (window : List ℕ) (at n : ℕ) → null ≡ is_null f → at + 2 + n ≤ length window →
@@ -54,4 +38,4 @@ unfolding encoded_bytes
 unchanged_block f null window at n are room none =
     let none_here : AnyIn (changes f) (chunk at (n + 2) window) → ⊥ = λ any.
     none (any.0, any.1, any.2, any.3, ap (λ (p : ℕ → Bool). p any.1 || is_at_least_f0 any.1) are ∙ any.4) in
-    all_stay f window at n (none_changes f window at (n + 2) (omega (arith, room)) none_here) ∙ sym (loaded window at 2 n room)
+    all_stay f window at n (none_loaded (changes f) window at (n + 2) (omega arith) none_here) ∙ sym (loaded window at 2 n room)

@@ -1,6 +1,7 @@
 -- `Any` of a list by its parts.
-use Rattle.std.proofs.Common.{◌≡◌, ℕ, zero, suc, ◌<◌, ◌⊎◌, List, [], ◌∷◌, ◌++◌, refl, sym, subst, inl, inr, ⊎_elim, arith, length, get_or}
+use Rattle.std.proofs.Common.{zero, suc, ◌+◌, ◌⊎◌, ◌∙◌, List, [], ◌∷◌, ◌++◌, refl, sym, subst, inl, inr, ⊎_elim, arith, length}
 use Rattle.std.specs.List.{Any}
+use Rattle.std.proofs.lemmas.List.{length-append, get_or_append_left, get_or-append-add}
 
 -- P holds of no element of the empty list.
 pub any_nil : {X : Type 0} (P : X → Type 0) → Any P [] → ⊥
@@ -14,35 +15,25 @@ any_here P x xs p = (0, x, omega arith, refl, p)
 pub any_there : {X : Type 0} (P : X → Type 0) (x : X) (xs : List X) → Any P xs → Any P (x ∷ xs)
 any_there P x xs any = (suc any.0, any.1, omega (arith, any.2), any.3, any.4)
 
--- by the index of the element
-at_front : {X : Type 0} (P : X → Type 0) (x : X) (xs : List X) (k : ℕ) (y : X) → k < suc (length xs) →
-    get_or (x ∷ xs) k y ≡ y → P y → P x ⊎ Any P xs
-at_front P x xs zero y inside same holds = inl (subst P (sym same) holds)
-at_front P x xs (suc k) y inside same holds = inr (k, y, omega arith, same, holds)
-
 -- Where P holds of an element, it holds of the first or of one after it.
 pub any_cons : {X : Type 0} (P : X → Type 0) (x : X) (xs : List X) → Any P (x ∷ xs) → P x ⊎ Any P xs
-any_cons P x xs h = at_front P x xs h.0 h.1 h.2 h.3 h.4
+any_cons P x xs (zero, y, inside, same, holds) = inl (subst P (sym same) holds)
+any_cons P x xs (suc k, y, inside, same, holds) = inr (k, y, omega arith, same, holds)
 
 -- P holds of an element of the whole where it holds of one of the front.
 pub any_left : {X : Type 0} (P : X → Type 0) (xs ys : List X) → Any P xs → Any P (xs ++ ys)
-any_left P [] ys any = absurd (any_nil P any)
-any_left P (x ∷ xs) ys any =
-    ⊎_elim (λ first. any_here P x (xs ++ ys) first)
-    (λ later. any_there P x (xs ++ ys) (any_left P xs ys later)) (any_cons P x xs any)
+any_left P xs ys (k, y, inside, same, holds) =
+    (k, y, omega (arith, length-append xs ys), get_or_append_left xs ys y k inside ∙ same, holds)
 
 -- P holds of an element of the whole where it holds of one of the back.
 pub any_right : {X : Type 0} (P : X → Type 0) (xs ys : List X) → Any P ys → Any P (xs ++ ys)
-any_right P [] ys any = any
-any_right P (x ∷ xs) ys any = any_there P x (xs ++ ys) (any_right P xs ys any)
+any_right P xs ys (k, y, inside, same, holds) =
+    (length xs + k, y, omega (arith, length-append xs ys), get_or-append-add xs ys k y ∙ same, holds)
 
 -- Where P holds of an element of the whole, it holds of one of the front or of one of the back.
 pub any_append : {X : Type 0} (P : X → Type 0) (xs ys : List X) → Any P (xs ++ ys) → Any P xs ⊎ Any P ys
 any_append P [] ys any = inr any
-any_append P (x ∷ xs) ys any =
-    ⊎_elim (λ first. inl (any_here P x xs first))
-    (λ later. ⊎_elim (λ front. inl (any_there P x xs front)) (λ back. inr back) (any_append P xs ys later))
-    (any_cons P x (xs ++ ys) any)
+any_append P (x ∷ xs) ys any = grind (arith, any_cons, any_here, any_there, any_append P xs ys)
 
 -- Where P holds neither of the first nor of one after it, it holds of none.
 pub none_cons : {X : Type 0} (P : X → Type 0) (x : X) (xs : List X) → (P x → ⊥) → (Any P xs → ⊥) → Any P (x ∷ xs) → ⊥

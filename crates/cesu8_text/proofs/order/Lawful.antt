@@ -1,19 +1,17 @@
 -- The laws that are put together from several lemmas.
-use Rattle.std.proofs.Common.{refl, sym, ap, ◌∙◌, subst, arith, length}
-use Rattle.std.specs.Str.{chars, IsUtf8}
-use Rattle.cesu8_text.specs.Text.{utf8}
+use Rattle.std.proofs.Common.{◌∙◌, arith}
+use Rattle.std.specs.Str.{chars}
 use Rattle.cesu8_text.specs.Encoding.{encoding}
 use Rattle.cesu8_text.specs.Reading.{reading}
 use Rattle.cesu8_text.specs.Laws.{RoundTrip, CharsAreText, CharsInUtf8, SameBytes, DecodedBack, NotRefused, EncodedBack, Needs, UnchangedEncoding, UnchangedString, NoZero, Bounds, OneMark, HasGreedyCutting, ReadAgain, LossyIsStrict}
 use Rattle.cesu8_text.proofs.StdUtf8.{IsUtf8Of_chars, IsUtf8_utf8}
-use Rattle.cesu8_text.proofs.encoding.EncodedBytes.{encoded_bytes, none_changed, same_in_both}
-use Rattle.cesu8_text.proofs.reading.EncodedTexts.{reading_encoding}
+use Rattle.cesu8_text.proofs.reading.EncodedBytes.{encoded_bytes, none_changed, same_in_both}
+use Rattle.cesu8_text.proofs.reading.EncodedTexts.{reading_encoding, encoding_injective}
 use Rattle.cesu8_text.proofs.reading.LossyTexts.{reading_is_text}
 use Rattle.cesu8_text.proofs.encoding.Lengths.{length_bounds}
 use Rattle.cesu8_text.proofs.reading.Cuttings.{cutting_length, greedy_cutting, reading_length}
 use Rattle.cesu8_text.proofs.reading.Marks.{mark_is, mark_from}
 use Rattle.cesu8_text.proofs.encoding.NeedsEncoding.{encoding_same, encoding_longer, needs_by_bytes}
-use Rattle.cesu8_text.proofs.encoding.Unique.{encoding_injective}
 
 -- the text of an encoding is the one that was encoded
 pub round_trip_law : RoundTrip
@@ -29,19 +27,15 @@ chars_in_utf8_law string is_utf8 = (IsUtf8Of_chars string is_utf8).1
 
 -- so equal characters have equal bytes
 pub same_bytes_law : SameBytes
-same_bytes_law string other is_utf8 other_is_utf8 same =
-    sym (chars_in_utf8_law string is_utf8) ∙ ap utf8 same ∙ chars_in_utf8_law other other_is_utf8
+same_bytes_law string other is_utf8 other_is_utf8 same = grind (arith, IsUtf8Of_chars)
 
 -- an encoded string is decoded as itself,
 pub decoded_back_law : DecodedBack
-decoded_back_law f string bytes back is_utf8 back_is_utf8 encoded reads =
-    same_bytes_law back string back_is_utf8 is_utf8
-    (encoding_injective f (chars back) (chars string) reads.0 (chars_are_text_law string is_utf8) (reads.1 ∙ encoded))
+decoded_back_law f string bytes back is_utf8 back_is_utf8 encoded reads = grind (arith, IsUtf8Of_chars, encoding_injective)
 
 -- and is not refused
 pub not_refused_law : NotRefused
-not_refused_law f string bytes is_utf8 encoded none =
-    none (chars string) (chars_are_text_law string is_utf8, sym encoded)
+not_refused_law f string bytes is_utf8 encoded none = grind (arith, IsUtf8Of_chars, none (chars string))
 
 -- decoded bytes are encoded as themselves
 pub encoded_back_law : EncodedBack
@@ -49,27 +43,17 @@ encoded_back_law f bytes string back reads encoded = encoded ∙ reads.1
 
 -- nothing needs encoding exactly where the encoding is the UTF-8
 pub needs_law : Needs
-needs_law f text is_text = (
-  (λ needs. encoding_same f text is_text needs),
-  (λ same needs. omega (arith, encoding_longer f text is_text needs, ap length same)),
-)
+needs_law f text is_text = grind (arith, encoding_same f text is_text, encoding_longer f text is_text)
 
 -- and exactly where a string has no byte of the class,
 pub unchanged_string_law : UnchangedString
-unchanged_string_law f string is_utf8 =
-    let by_bytes = needs_by_bytes f string is_utf8 in
-    ((λ usual. (is_utf8, λ changed. usual (by_bytes.0 changed))), (λ same needs. same.1 (by_bytes.1 needs)))
+unchanged_string_law f string is_utf8 = grind (arith, needs_by_bytes f string is_utf8)
 
 -- or where the encoding is UTF-8, since that has no such byte
 pub unchanged_encoding_law : UnchangedEncoding
 unchanged_encoding_law f text is_text = (
-  (λ usual.
-      let encoded = encoding_same f text is_text usual in
-      (subst IsUtf8 (sym encoded) (IsUtf8_utf8 text is_text), none_changed f text is_text)),
-  (λ same.
-      let bytes = encoding f text in
-      let own = same_in_both f bytes (chars bytes) text (IsUtf8Of_chars bytes same.0) (is_text, refl) in
-      (needs_law f text is_text).1 (sym (chars_in_utf8_law bytes same.0) ∙ ap utf8 own)),
+  λ usual. grind (arith, encoding_same f text is_text usual, IsUtf8_utf8, none_changed f text is_text),
+  λ same. grind (arith, needs_law f text is_text, IsUtf8Of_chars, same_in_both f (encoding f text) (chars (encoding f text)) text),
 )
 
 -- no byte of MUTF-8 is 0, and none of an encoding is F0 (hexadecimal) or more
@@ -82,23 +66,16 @@ read_again_law f bytes = reading_encoding f (reading f bytes) (reading_is_text f
 
 -- where bytes have a strict reading, the lossy reading is it
 pub lossy_is_strict_law : LossyIsStrict
-lossy_is_strict_law f bytes text reads = ap (reading f) (sym reads.1) ∙ reading_encoding f text reads.0
+lossy_is_strict_law f bytes text reads = grind (arith, reading_encoding)
 
 -- how long an encoding and the readings can be
 pub bounds_law : Bounds
-bounds_law = (
-  (λ f text is_text. (length_bounds f text is_text).high),
-  (λ f bytes text is_text. omega (arith, (length_bounds f text is_text.0).low, ap length is_text.1)),
-  cutting_length,
-  reading_length,
-)
+bounds_law = (grind (arith, length_bounds), grind (arith, length_bounds), cutting_length, reading_length)
 
 -- an offset has one mark, which the function computes
 pub one_mark_law : OneMark
-one_mark_law f bytes i = (mark_is f bytes i, (λ other is_mark. sym (mark_from f bytes i other is_mark)))
+one_mark_law = grind (arith, mark_is, mark_from)
 
 -- every list of bytes has a greedy cutting
 pub has_greedy_cutting_law : HasGreedyCutting
-has_greedy_cutting_law f bytes =
-    let cutting = greedy_cutting f bytes in
-    (cutting.pieces, cutting.cuts, cutting.greedy)
+has_greedy_cutting_law f bytes = let cutting = greedy_cutting f bytes in (cutting.pieces, cutting.cuts, cutting.greedy)

@@ -1,5 +1,5 @@
 -- When a decoder may give its input as the text, and that it may not elsewhere.
-use Rattle.std.proofs.Common.{◌≡◌, ℕ, ◌↔◌, false, List, IsTrue, sym, subst}
+use Rattle.std.proofs.Common.{◌≡◌, ℕ, ◌↔◌, false, List, IsTrue}
 use Rattle.std.proofs.lemmas.Bool.{false≢true}
 use Rattle.std.specs.Str.{chars}
 use Rattle.cesu8_text.specs.Encoding.{Flavor, NeedsEncoding}
@@ -12,10 +12,8 @@ use Rattle.cesu8_text.proofs.encoding.NeedsEncoding.{needs_by_bytes, encoding_is
 pub unchanged_reading : (f : Flavor) (bytes text : List ℕ) → text ≡ bytes → IsUnchangedUtf8 f bytes →
     IsStrictReading f bytes (chars text)
 unchanged_reading f bytes text equal unchanged =
-    let needs_none : NeedsEncoding f (chars bytes) → ⊥ =
-    λ needs. unchanged.1 ((needs_by_bytes f bytes unchanged.0).1 needs) in
-    subst (λ t. IsStrictReading f bytes (chars t)) (sym equal)
-    ((IsUtf8Of_chars bytes unchanged.0).0, encoding_is_bytes f bytes unchanged.0 needs_none)
+    let needs_none : NeedsEncoding f (chars bytes) → ⊥ = λ needs. unchanged.1 ((needs_by_bytes f bytes unchanged.0).1 needs) in
+    rw equal ((IsUtf8Of_chars bytes unchanged.0).0, encoding_is_bytes f bytes unchanged.0 needs_none)
 
 -- What is built is not borrowed, which is right where a fact does not hold.
 pub never_borrowed : {P : Type 0} → ¬ P → IsTrue false ↔ P

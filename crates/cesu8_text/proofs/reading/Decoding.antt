@@ -1,11 +1,11 @@
 -- What reading adds: to the text that was read, and to the length of the lossy reading.
-use Rattle.std.proofs.Common.{◌≡◌, ℕ, ◌+◌, ◌<◌, List, [], ◌∷◌, ◌++◌, refl, ap, arith, length, length-append}
+use Rattle.std.proofs.Common.{◌≡◌, ℕ, ◌+◌, ◌<◌, List, [], ◌∷◌, ◌++◌, arith, length, length-append}
 use Rattle.std.proofs.lemmas.List.Concat.{flat_map-append}
 use Rattle.cesu8_text.specs.Text.{IsText, utf8_of, utf8}
-use Rattle.cesu8_text.specs.Encoding.{Flavor, encoding}
+use Rattle.cesu8_text.specs.Encoding.{Flavor}
 use Rattle.cesu8_text.specs.Reading.{BeginsWith, NoneBegins, reading, lossy_length}
 use Rattle.cesu8_text.proofs.encoding.Lengths.{length_of_character}
-use Rattle.cesu8_text.proofs.reading.Steps.{reading_nil, reading_character, reading_replaced}
+use Rattle.cesu8_text.proofs.reading.Steps.{reading_character, reading_replaced}
 
 pub IsText_append : (s t : List ℕ) → IsText s → IsText t → IsText (s ++ t)
 IsText_append [] t is_text other_is_text = other_is_text
@@ -17,18 +17,12 @@ utf8_append s t = flat_map-append utf8_of s t
 
 -- A character takes some of the bytes.
 pub shorter : (f : Flavor) (bytes rest : List ℕ) (c : ℕ) → BeginsWith f bytes c rest → length rest < length bytes
-shorter f bytes rest c begins =
-    let long = length_of_character f c begins.scalar in
-    omega (arith, long.some, long.fits, ap length begins.bytes_are, length-append (encoding f (c ∷ [])) rest)
+shorter f bytes rest c begins = grind (arith, length_of_character, length-append)
 
 -- The replacement character takes three bytes of UTF-8.
-length_of_replacement : length (utf8_of 0xFFFD) ≡ 3
-unfolding utf8_of
-length_of_replacement = refl
-
--- So it does at the front of a text.
 pub length_utf8_replaced : (text : List ℕ) → length (utf8 (0xFFFD ∷ text)) ≡ 3 + length (utf8 text)
-length_utf8_replaced text = omega (arith, length-append (utf8_of 0xFFFD) (utf8 text), length_of_replacement)
+unfolding utf8_of
+length_utf8_replaced text = omega arith
 
 -- The character that begins the bytes adds its UTF-8 to the length of the lossy reading,
 pub lossy_length_character : (f : Flavor) (bytes rest : List ℕ) (c : ℕ) → BeginsWith f bytes c rest →

@@ -1,8 +1,8 @@
 -- Every greedy cutting has the lossy reading for its text.
-use Rattle.std.proofs.Common.{◌≡◌, List, [], ◌∷◌, ◌++◌, refl, sym, ap, ◌∙◌}
-use Rattle.cesu8_text.specs.Encoding.{Flavor, encoding}
+use Rattle.std.proofs.Common.{◌≡◌, List, [], ◌∷◌, sym, ap, ◌∙◌, arith}
+use Rattle.cesu8_text.specs.Encoding.{Flavor}
 use Rattle.cesu8_text.specs.Reading.{reading}
-use Rattle.cesu8_text.specs.Cutting.{Piece, Character, Replaced, ArePieces, bytes_of, text_of, IsGreedy}
+use Rattle.cesu8_text.specs.Cutting.{Piece, ArePieces, bytes_of, text_of, IsGreedy}
 use Rattle.cesu8_text.specs.Laws.{Places}
 use Rattle.cesu8_text.proofs.reading.Steps.{reading_nil, reading_character, reading_replaced}
 
@@ -10,13 +10,13 @@ use Rattle.cesu8_text.proofs.reading.Steps.{reading_nil, reading_character, read
 greedy_reading : (f : Flavor) (pieces : List Piece) → ArePieces pieces → IsGreedy f pieces →
     text_of pieces ≡ reading f (bytes_of f pieces)
 greedy_reading f [] are_pieces is_greedy = sym (reading_nil f)
-greedy_reading f (Character c ∷ pieces) are_pieces is_greedy =
-    rw (reading_character f (encoding f (c ∷ []) ++ bytes_of f pieces) c (bytes_of f pieces)
-    (record { scalar = are_pieces.0; bytes_are = refl }))
-    (ap (λ text. c ∷ text) (greedy_reading f pieces are_pieces.1 is_greedy))
-greedy_reading f (Replaced byte ∷ pieces) are_pieces is_greedy =
-    rw (reading_replaced f byte (bytes_of f pieces) is_greedy.0)
-    (ap (λ text. 0xFFFD ∷ text) (greedy_reading f pieces are_pieces.1 is_greedy.1))
+greedy_reading f (piece ∷ pieces) are_pieces is_greedy =
+    grind (
+      arith,
+      reading_character f (bytes_of f (piece ∷ pieces)),
+      reading_replaced f,
+      greedy_reading f pieces are_pieces.1,
+    )
 
 -- The text of a greedy cutting is the lossy reading.
 pub places : Places

@@ -1,38 +1,30 @@
 -- What is known of the texts of bytes, by what a call takes.
-use Rattle.std.proofs.Common.{arith, ◌≡◌, ℕ, ◌↔◌, ◌⊎◌, inr, ⊎_elim, List, refl, sym, ap, ◌∙◌, subst}
+use Rattle.std.proofs.Common.{arith, ◌≡◌, ℕ, ◌↔◌, ◌⊎◌, List, refl, sym, ◌∙◌}
 use Rattle.std.specs.Str.{chars, IsUtf8}
 use Rattle.cesu8_text.specs.Text.{IsUtf8Of}
 use Rattle.cesu8_text.specs.Encoding.{Flavor}
 use Rattle.cesu8_text.specs.Class.{IsUnchangedUtf8}
 use Rattle.cesu8_text.specs.Reading.{IsStrictReading, IsLenientReading, reading, IsLenientLossyReading}
-use Rattle.cesu8_text.specs.Kept.{KnowsTexts, ReadsEncoding}
+use Rattle.cesu8_text.specs.Kept.{KnowsTexts}
 use Rattle.cesu8_text.proofs.StdUtf8.{IsUtf8Of_chars, chars_utf8, not_utf8_of}
-use Rattle.cesu8_text.proofs.reading.EncodedTexts.{reading_encoding}
+use Rattle.cesu8_text.proofs.reading.EncodedTexts.{encoding_injective}
 use Rattle.cesu8_text.proofs.reading.Borrowing.{unchanged_reading}
 use Rattle.cesu8_text.proofs.reading.LossyBorrowing.{unchanged_lossy}
 
 -- Bytes have one strict reading.
 pub strict_only : (f : Flavor) (bytes text other : List ℕ) → IsStrictReading f bytes text → IsStrictReading f bytes other → other ≡ text
 strict_only f bytes text other reads also =
-    sym (reading_encoding f other also.0) ∙ ap (reading f) (also.1 ∙ sym reads.1) ∙ reading_encoding f text reads.0
+    encoding_injective f other text also.0 reads.0 (also.1 ∙ sym reads.1)
 
--- A call that takes the encoding alone reads all bytes so.
-encoding_alone : (f : Flavor) (bytes : List ℕ) → ReadsEncoding f bytes (IsStrictReading f bytes) (λ text. text ≡ reading f bytes)
-encoding_alone f bytes = grind arith
-
--- To it UTF-8 in which nothing changes is that of its characters.
+-- To a call that takes the encoding alone, UTF-8 in which nothing changes is that of its characters.
 pub encoding_texts : (f : Flavor) (bytes : List ℕ) →
     KnowsTexts f bytes (IsUnchangedUtf8 f bytes) (IsStrictReading f bytes) (λ text. text ≡ reading f bytes)
 encoding_texts f bytes = record {
   is_utf8 = λ kept. kept.0;
   unchanged = λ unchanged. unchanged;
-  kept = λ text kept.
-      let reads = unchanged_reading f bytes bytes refl kept in
-      (strict_only f bytes (chars bytes) text reads, λ same. subst (IsStrictReading f bytes) (sym same) reads);
-  kept_lossily = λ text kept.
-      let reads = unchanged_lossy f bytes bytes refl kept in
-      ((λ is. is ∙ sym reads), (λ same. same ∙ reads));
-  other = λ not_kept. encoding_alone f bytes;
+  kept = λ text kept. grind (arith, unchanged_reading f bytes bytes refl kept, strict_only f bytes);
+  kept_lossily = λ text kept. grind (arith, unchanged_lossy f bytes bytes refl kept);
+  other = λ not_kept. grind arith;
 }
 
 -- Either the text of bytes that are UTF-8, or of others what else they are read as.
@@ -41,10 +33,7 @@ module _ (bytes text : List ℕ) (P : Type 0) where
   by_chars is_utf8 = grind (arith, IsUtf8Of_chars, chars_utf8)
 
   by_other : ¬ (IsUtf8 bytes) → (IsUtf8Of text bytes ⊎ (((other : List ℕ) → ¬ (IsUtf8Of other bytes)) × P)) ↔ P
-  by_other not_utf8 = (
-    (λ reads. ⊎_elim (λ of. absurd (not_utf8_of bytes not_utf8 text of)) (λ other. other.1) reads),
-    (λ holds. inr (not_utf8_of bytes not_utf8, holds)),
-  )
+  by_other not_utf8 = grind (arith, not_utf8_of bytes not_utf8)
 
 -- To a call that takes UTF-8 as a whole, or else the encoding, so is all UTF-8.
 pub lenient_texts : (f : Flavor) (bytes : List ℕ) →

@@ -1,5 +1,5 @@
 -- What text a lossy reading is.
-use Rattle.std.proofs.Common.{◌≡◌, ◌≢◌, zero, suc, inr, List, [], ◌∷◌, ◌++◌, refl, sym, ap, ◌∙◌, subst, arith}
+use Rattle.std.proofs.Common.{◌≡◌, ◌≢◌, zero, suc, List, [], ◌∷◌, refl, sym, ap, ◌∙◌, subst, arith}
 use Rattle.std.specs.List.{All}
 use Rattle.cesu8_text.specs.Text.{IsText}
 use Rattle.cesu8_text.specs.Encoding.{Flavor, encoding}
@@ -11,22 +11,19 @@ use Rattle.cesu8_text.proofs.reading.Costs.{fewest}
 -- the text of a cutting is a text, since U+FFFD is a scalar value
 text_of_pieces : (pieces : List Piece) → ArePieces pieces → IsText (text_of pieces)
 text_of_pieces [] are_pieces = tt
-text_of_pieces (Character c ∷ pieces) are_pieces = (are_pieces.0, text_of_pieces pieces are_pieces.1)
-text_of_pieces (Replaced byte ∷ pieces) are_pieces =
-    (inr (omega arith, omega arith), text_of_pieces pieces are_pieces.1)
+text_of_pieces (piece ∷ pieces) are_pieces = grind (arith, text_of_pieces pieces are_pieces.1)
 
 -- The lossy reading is a text: it is that of a cutting.
 pub reading_is_text : ReadingIsText
 reading_is_text f bytes =
-    let cutting = fewest f bytes in subst IsText cutting.3 (text_of_pieces cutting.0 cutting.1.0)
+    let cutting = fewest f bytes in rw cutting.3 at (text_of_pieces cutting.0 cutting.1.0)
 
 -- a cutting whose text holds no U+FFFD replaces nothing, so its bytes are the encoding of the text
 none_replaced : (f : Flavor) (pieces : List Piece) → All (λ c. c ≢ 0xFFFD) (text_of pieces) →
     encoding f (text_of pieces) ≡ bytes_of f pieces
 none_replaced f [] none = encoding_nil f
 none_replaced f (Character c ∷ pieces) none =
-    encoding_cons f c (text_of pieces)
-    ∙ ap (λ bs. encoding f (c ∷ []) ++ bs) (none_replaced f pieces (λ k d inside. none (suc k) d (omega arith)))
+    rw (encoding_cons, none_replaced f pieces (λ k d inside. none (suc k) d (omega arith)))
 none_replaced f (Replaced byte ∷ pieces) none = absurd (none zero 0 (omega arith) refl)
 
 -- Where it holds no U+FFFD, the lossy reading is the strict one.

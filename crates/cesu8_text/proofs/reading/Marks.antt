@@ -1,24 +1,31 @@
 -- The relation of an offset to what the lossy reading has for it, and the function that computes it.
-use Rattle.std.proofs.Common.{◌≡◌, ℕ, Bool, true, false, ◌+◌, ◌<◌, List, Option, Some, None, refl, sym, ap, ◌∙◌, subst, arith, drop, get_or, ltb}
+use Rattle.std.proofs.Common.{◌≡◌, ℕ, Bool, true, false, ◌+◌, ◌<◌, List, Option, Some, None, refl, ap, arith, drop, ltb}
 use Rattle.std.specs.List.{range_with_len}
-use Rattle.std.proofs.lemmas.List.Folds.{Any-from_list_any, list_any_at}
+use Rattle.std.proofs.lemmas.List.Folds.{Any-from_list_any, list_any-from_Any}
 use Rattle.std.proofs.lemmas.List.FromFn.{length-range_with_len, get_or-range_with_len}
-use Rattle.std.proofs.lemmas.Bool.{ltb-true, lt-ltb, both_ways}
+use Rattle.std.proofs.lemmas.Bool.{both_ways}
+use Rattle.std.proofs.lemmas.Bool.Decides.{nat_tests}
 use Rattle.cesu8_text.specs.Encoding.{Flavor}
-use Rattle.cesu8_text.specs.Reading.{BeginsWith, LiesWithin, width, IsMark, Stands, Within, Damaged, standing, width_of, lies_within, mark_by, mark}
+use Rattle.cesu8_text.specs.Reading.{BeginsWith, NoneBegins, LiesWithin, width, IsMark, Stands, Within, Damaged, standing, width_of, lies_within, mark_by, mark}
 use Rattle.cesu8_text.proofs.encoding.Unique.{same_character}
 use Rattle.cesu8_text.proofs.reading.Standing.{standing_begins, standing_none}
 
--- what stands at an offset is what the function finds there
-by_standing : (f : Flavor) (bytes : List ℕ) (o : Option ℕ) → standing f bytes ≡ o → (c : ℕ) (rest : List ℕ) →
-    BeginsWith f bytes c rest → o ≡ Some c
-by_standing f bytes None found c rest begins = absurd (standing_none f bytes found c rest begins)
-by_standing f bytes (Some d) found c rest begins =
-    ap Some (same_character f bytes d c (drop (width f d) bytes) rest (standing_begins f bytes d found) begins).0
-
 -- The function finds the character that begins the bytes.
 pub standing_is : (f : Flavor) (bytes : List ℕ) (c : ℕ) (rest : List ℕ) → BeginsWith f bytes c rest → standing f bytes ≡ Some c
-standing_is f bytes c rest begins = by_standing f bytes (standing f bytes) refl c rest begins
+standing_is f bytes c rest begins = by (standing f bytes) refl
+  where
+    by : (o : Option ℕ) → standing f bytes ≡ o → o ≡ Some c
+    by None found = absurd (standing_none f bytes found c rest begins)
+    by (Some d) found =
+        ap Some (same_character f bytes d c (drop (width f d) bytes) rest (standing_begins f bytes d found) begins).0
+
+-- It finds none where none begins them.
+nothing_stands : (f : Flavor) (bytes : List ℕ) → NoneBegins f bytes → standing f bytes ≡ None
+nothing_stands f bytes none_begins = by (standing f bytes) refl
+  where
+    by : (o : Option ℕ) → standing f bytes ≡ o → o ≡ None
+    by None found = refl
+    by (Some c) found = absurd (none_begins c (drop (width f c) bytes) (standing_begins f bytes c found))
 
 -- the test whether an offset lies within a stretch
 reaches_stands : (f : Flavor) (bytes : List ℕ) (i j : ℕ) (o : Option ℕ) → standing f (drop j bytes) ≡ o → j < i →
@@ -33,23 +40,16 @@ unfolding lies_within
 within_from_test f bytes i passes =
     let found =
     Any-from_list_any (λ j. ltb i (j + width_of f (standing f (drop j bytes)))) (range_with_len 0 i) passes in
-    let below : found.0 < i = omega (arith, found.2, length-range_with_len 0 i) in
-    let offset : found.1 ≡ 0 + found.0 = sym found.3 ∙ get_or-range_with_len 0 i found.0 found.1 below in
-    reaches_stands f bytes i found.1 (standing f (drop found.1 bytes)) refl (omega arith)
-    (ltb-true i (found.1 + width_of f (standing f (drop found.1 bytes))) found.4)
+    reaches_stands f bytes i found.1 (standing f (drop found.1 bytes)) refl
+    (grind (arith, length-range_with_len, get_or-range_with_len)) (grind (arith, nat_tests))
 
 -- An offset that lies within a stretch passes the test.
 test_from_within : (f : Flavor) (bytes : List ℕ) (i : ℕ) → LiesWithin f bytes i → lies_within f bytes i ≡ true
 unfolding lies_within
-test_from_within f bytes i within =
-    let j = within.0 in
-    let reaches : ltb i (j + width_of f (standing f (drop j bytes))) ≡ true =
-    lt-ltb i (j + width_of f (standing f (drop j bytes)))
-    (rw (standing_is f (drop j bytes) within.1 within.2.0 within.2.1) within.4) in
-    let offset : get_or (range_with_len 0 i) j 0 ≡ j = get_or-range_with_len 0 i j 0 within.3 ∙ omega arith in
-    list_any_at (λ j. ltb i (j + width_of f (standing f (drop j bytes)))) (range_with_len 0 i) j 0
-    (omega (arith, within.3, length-range_with_len 0 i))
-    (subst (λ k. ltb i (k + width_of f (standing f (drop k bytes))) ≡ true) (sym offset) reaches)
+test_from_within f bytes i (j, c, stands, before, reaches) =
+    let found = standing_is f (drop j bytes) c stands.0 stands.1 in
+    list_any-from_Any (λ k. ltb i (k + width_of f (standing f (drop k bytes)))) (range_with_len 0 i)
+    (j, j, grind (arith, length-range_with_len), grind (arith, get_or-range_with_len), grind (arith, nat_tests, found))
 
 -- by what stands there, and whether the offset lies within a stretch
 mark_by_is : (f : Flavor) (bytes : List ℕ) (i : ℕ) (o : Option ℕ) (w : Bool) → standing f (drop i bytes) ≡ o →
@@ -67,19 +67,11 @@ pub mark_is : (f : Flavor) (bytes : List ℕ) (i : ℕ) → IsMark f bytes i (ma
 unfolding mark
 mark_is f bytes i = mark_by_is f bytes i (standing f (drop i bytes)) (lies_within f bytes i) refl refl
 
--- An offset has one mark.
-one_mark : (f : Flavor) (bytes : List ℕ) (i : ℕ) (m n : List ℕ) → IsMark f bytes i m → IsMark f bytes i n → m ≡ n
-one_mark f bytes i m n (Stands c stands) (Stands d other) =
-    rw ((same_character f (drop i bytes) c d stands.0 other.0 stands.1 other.1).0) refl
-one_mark f bytes i m n (Stands c stands) (Within none_begins _) = absurd (none_begins c stands.0 stands.1)
-one_mark f bytes i m n (Stands c stands) (Damaged none_begins _) = absurd (none_begins c stands.0 stands.1)
-one_mark f bytes i m n (Within none_begins _) (Stands d other) = absurd (none_begins d other.0 other.1)
-one_mark f bytes i m n (Within _ _) (Within _ _) = refl
-one_mark f bytes i m n (Within _ within) (Damaged _ not_within) = absurd (not_within within)
-one_mark f bytes i m n (Damaged none_begins _) (Stands d other) = absurd (none_begins d other.0 other.1)
-one_mark f bytes i m n (Damaged _ not_within) (Within _ within) = absurd (not_within within)
-one_mark f bytes i m n (Damaged _ _) (Damaged _ _) = refl
-
--- So the function has for an offset whatever is its mark.
+-- The function has for an offset whatever is its mark.
 pub mark_from : (f : Flavor) (bytes : List ℕ) (i : ℕ) (m : List ℕ) → IsMark f bytes i m → mark f bytes i ≡ m
-mark_from f bytes i m is_mark = one_mark f bytes i (mark f bytes i) m (mark_is f bytes i) is_mark
+unfolding mark
+mark_from f bytes i m (Stands c stands) = rw (standing_is f (drop i bytes) c stands.0 stands.1) refl
+mark_from f bytes i m (Within none_begins within) =
+    grind (arith, nothing_stands f (drop i bytes) none_begins, test_from_within f bytes i within)
+mark_from f bytes i m (Damaged none_begins not_within) =
+    grind (arith, nothing_stands f (drop i bytes) none_begins, within_from_test f bytes i)

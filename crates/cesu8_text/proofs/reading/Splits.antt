@@ -1,11 +1,11 @@
 -- Where bytes can be split: two greedy cuttings, joined, are greedy exactly where no character crosses.
-use Rattle.std.proofs.Common.{◌≡◌, ℕ, suc, zero, ◌≤◌, List, [], ◌∷◌, ◌++◌, sym, ap, ◌∙◌, subst, arith, length, take, drop}
+use Rattle.std.proofs.Common.{◌≡◌, ℕ, suc, zero, ◌≤◌, ◌↔◌, refl, List, [], ◌∷◌, ◌++◌, sym, ◌∙◌, arith, length, drop}
 use Rattle.std.proofs.lemmas.List.{take-append-le, take-append-drop, map-append}
 use Rattle.std.proofs.lemmas.List.Concat.{flat_map-append}
 use Rattle.std.proofs.Math.Seq.{take-append_seam}
 use Rattle.cesu8_text.specs.Encoding.{Flavor, encoding}
 use Rattle.cesu8_text.specs.Reading.{BeginsWith, width, reading}
-use Rattle.cesu8_text.specs.Cutting.{Piece, Character, Replaced, bytes_of_piece, bytes_of, character_of, text_of, ArePieces, IsCutting, IsGreedy}
+use Rattle.cesu8_text.specs.Cutting.{Piece, Character, Replaced, bytes_of_piece, bytes_of, text_of, ArePieces, IsCutting, IsGreedy}
 use Rattle.cesu8_text.specs.Laws.{NoneCrosses, Split}
 use Rattle.cesu8_text.proofs.reading.Stretches.{none_crosses_later, none_crosses_character}
 use Rattle.cesu8_text.proofs.reading.Greedy.{places}
@@ -23,13 +23,13 @@ joined_pieces (piece ∷ p) q are_pieces others = (are_pieces.0, joined_pieces p
 -- A character that ends in the front begins the front alone.
 pub begins_front : (f : Flavor) (front back rest : List ℕ) (c : ℕ) → BeginsWith f (front ++ back) c rest → width f c ≤ length front →
     BeginsWith f front c (drop (width f c) front)
-begins_front f front back rest c begins inside = record {
-  scalar = begins.scalar;
-  bytes_are = sym (take-append-drop (width f c) front)
-      ∙ ap (λ bs. bs ++ drop (width f c) front)
-      (sym (take-append-le (width f c) front back inside) ∙ ap (take (width f c)) begins.bytes_are
-      ∙ take-append_seam (encoding f (c ∷ [])) rest);
-}
+begins_front f front back rest c begins inside =
+    grind (
+      arith,
+      take-append-drop (width f c) front,
+      take-append-le (width f c) front back,
+      take-append_seam (encoding f (c ∷ [])) rest,
+    )
 
 -- Two greedy cuttings, joined, are greedy where no character crosses.
 joined_greedy : (f : Flavor) (p q : List Piece) → IsGreedy f p → IsGreedy f q → NoneCrosses f (bytes_of f p) (bytes_of f q) →
@@ -38,16 +38,17 @@ joined_greedy f [] q is_greedy other_is_greedy crosses = other_is_greedy
 joined_greedy f (Character c ∷ p) q is_greedy other_is_greedy crosses =
     joined_greedy f p q is_greedy other_is_greedy
     (none_crosses_later f (encoding f (c ∷ [])) (bytes_of f p) (bytes_of f q) crosses)
-joined_greedy f (Replaced b ∷ p) q is_greedy other_is_greedy crosses =
-    let whole = ap (λ bs. b ∷ bs) (bytes_of_joined f p q) in (
-      λ c rest stands.
-          let begins = subst (λ bs. BeginsWith f bs c rest) whole stands in
-          let inside = crosses 0 c (rest, begins) (omega arith) in
-          is_greedy.0 c (drop (width f c) (b ∷ bytes_of f p))
-          (begins_front f (b ∷ bytes_of f p) (bytes_of f q) rest c begins (omega arith)),
-      joined_greedy f p q is_greedy.1 other_is_greedy
-          (none_crosses_later f (b ∷ []) (bytes_of f p) (bytes_of f q) crosses),
-    )
+joined_greedy f (Replaced b ∷ p) q is_greedy other_is_greedy crosses = (
+  λ c rest stands. grind (
+    arith,
+    bytes_of_joined f p q,
+    crosses 0 c,
+    begins_front f (b ∷ bytes_of f p) (bytes_of f q) rest c,
+    is_greedy.0 c (drop (width f c) (b ∷ bytes_of f p)),
+  ),
+  joined_greedy f p q is_greedy.1 other_is_greedy
+      (none_crosses_later f (b ∷ []) (bytes_of f p) (bytes_of f q) crosses),
+)
 
 -- Where two cuttings, joined, are greedy, no character crosses.
 none_crosses_joined : (f : Flavor) (p q : List Piece) → ArePieces p → IsGreedy f (p ++ q) → NoneCrosses f (bytes_of f p) (bytes_of f q)
@@ -56,30 +57,30 @@ none_crosses_joined f (Character d ∷ p) q are_pieces is_greedy i c stands befo
     none_crosses_character f d (bytes_of f p) (bytes_of f q) are_pieces.0
     (none_crosses_joined f p q are_pieces.1 is_greedy) i c stands before
 none_crosses_joined f (Replaced b ∷ p) q are_pieces is_greedy zero c stands before =
-    absurd (is_greedy.0 c stands.0
-    (subst (λ bs. BeginsWith f (b ∷ bs) c stands.0) (sym (bytes_of_joined f p q)) stands.1))
+    grind (arith, is_greedy.0 c stands.0, bytes_of_joined f p q)
 none_crosses_joined f (Replaced b ∷ p) q are_pieces is_greedy (suc i) c stands before =
     omega (arith, none_crosses_joined f p q are_pieces.1 is_greedy.1 i c stands (omega arith))
+
+-- by two greedy cuttings
+split_pieces : (f : Flavor) (p q : List Piece) → ArePieces p → ArePieces q → IsGreedy f p → IsGreedy f q →
+    (reading f (bytes_of f p ++ bytes_of f q) ≡ reading f (bytes_of f p) ++ reading f (bytes_of f q)) ↔ NoneCrosses f (bytes_of f p) (bytes_of f q)
+split_pieces f p q are_pieces others is_greedy other_is_greedy =
+    let whole = bytes_of f p ++ bytes_of f q in
+    let cuts : IsCutting f whole (p ++ q) = (joined_pieces p q are_pieces others, bytes_of_joined f p q) in
+    let text : text_of (p ++ q) ≡ reading f (bytes_of f p) ++ reading f (bytes_of f q) =
+    rw (
+      map-append,
+      places f (bytes_of f p) p (are_pieces, refl) is_greedy,
+      places f (bytes_of f q) q (others, refl) other_is_greedy,
+    ) in (
+      λ same. none_crosses_joined f p q are_pieces (greedy_by_text f whole (p ++ q) cuts (text ∙ sym same)),
+      λ crosses. sym (places f whole (p ++ q) cuts (joined_greedy f p q is_greedy other_is_greedy crosses)) ∙ text,
+    )
 
 -- The reading of a whole is that of its parts exactly where no character crosses.
 pub split : Split
 split f a b =
     let front = greedy_cutting f a in
     let back = greedy_cutting f b in
-    let joined = front.pieces ++ back.pieces in
-    let cuts : IsCutting f (a ++ b) joined = (
-      joined_pieces front.pieces back.pieces front.cuts.0 back.cuts.0,
-      bytes_of_joined f front.pieces back.pieces ∙ ap (λ bs. bs ++ bytes_of f back.pieces) front.cuts.1 ∙ ap (λ bs. a ++ bs) back.cuts.1,
-    ) in
-    let text : text_of joined ≡ reading f a ++ reading f b =
-    map-append character_of front.pieces back.pieces
-    ∙ ap (λ cs. cs ++ text_of back.pieces) (places f a front.pieces front.cuts front.greedy)
-    ∙ ap (λ cs. reading f a ++ cs) (places f b back.pieces back.cuts back.greedy) in
-    let here : NoneCrosses f (bytes_of f front.pieces) (bytes_of f back.pieces) → NoneCrosses f a b =
-    λ crosses. subst (λ bs. NoneCrosses f bs b) front.cuts.1 (subst (NoneCrosses f (bytes_of f front.pieces)) back.cuts.1 crosses) in
-    let there : NoneCrosses f a b → NoneCrosses f (bytes_of f front.pieces) (bytes_of f back.pieces) =
-    λ crosses. subst (λ bs. NoneCrosses f bs (bytes_of f back.pieces)) (sym front.cuts.1) (subst (NoneCrosses f a) (sym back.cuts.1) crosses) in (
-      λ same. here (none_crosses_joined f front.pieces back.pieces front.cuts.0
-          (greedy_by_text f (a ++ b) joined cuts (text ∙ sym same))),
-      λ crosses. sym (places f (a ++ b) joined cuts (joined_greedy f front.pieces back.pieces front.greedy back.greedy (there crosses))) ∙ text,
-    )
+    let by_pieces = split_pieces f front.pieces back.pieces front.cuts.0 back.cuts.0 front.greedy back.greedy in
+    rw (front.cuts.1, back.cuts.1) at by_pieces

@@ -1,7 +1,7 @@
 -- How one scalar value is written, with the digits as variables.
 use Rattle.std.proofs.lemmas.Bool.Decides.{nat_tests}
-use Rattle.std.proofs.Common.{◌≡◌, ℕ, ◌+◌, ◌-◌, ◌*◌, ◌/◌, ◌%◌, ◌<◌, ◌≤◌, ◌⊎◌, [], ◌∷◌, refl, inl, inr, arith}
-use Rattle.std.proofs.lemmas.Bool.{lt-ltb, le-ltb, cases_lt}
+use Rattle.std.proofs.Common.{◌≡◌, ℕ, ◌+◌, ◌-◌, ◌*◌, ◌/◌, ◌%◌, ◌<◌, ◌≤◌, ◌⊎◌, [], ◌∷◌, inl, inr, arith}
+use Rattle.std.proofs.lemmas.Bool.{cases_lt}
 use Rattle.cesu8_text.specs.Text.{IsScalarValue, utf8_of}
 pub use Rattle.cesu8_text.specs.Patterns.{IsPair}
 
@@ -27,37 +27,22 @@ pub data Shape (c : ℕ) : Type 0 where
   three : (x y z : ℕ) → IsThree c x y z → Shape c
   pair : (w x y z : ℕ) → IsPair c w x y z → Shape c
 
-below_top : (c : ℕ) → IsScalarValue c → c < 0x110000
-below_top c (inl h) = omega arith
-below_top c (inr h) = h.1
-
--- A scalar value from 10000 (hexadecimal) on has the digits of a surrogate pair.
-pair_digits : (c : ℕ) → 0x10000 ≤ c → c < 0x110000 →
-    IsPair c ((c - 0x10000) / 0x10000) ((c - 0x10000) / 0x400 % 0x40) ((c - 0x10000) / 0x40 % 0x10) ((c - 0x10000) % 0x40)
-pair_digits c low high = grind arith
-
 -- Each scalar value has a shape.
 pub shape : (c : ℕ) → IsScalarValue c → Shape c
 shape c scalar = by (cases_lt c 0x80) (cases_lt c 0x800) (cases_lt c 0x10000)
   where
     by : (c < 0x80) ⊎ (0x80 ≤ c) → (c < 0x800) ⊎ (0x800 ≤ c) → (c < 0x10000) ⊎ (0x10000 ≤ c) → Shape c
     by (inl ascii) _ _ = one ascii
-    by (inr low) (inl high) _ =
-        two (c / 0x40) (c % 0x40) (record { value = omega arith; low = omega arith; high = omega arith; last = omega arith })
-    by (inr _) (inr low) (inl high) =
-        three (c / 0x1000) (c / 0x40 % 0x40) (c % 0x40) (record {
-          value = omega arith;
-          low = low;
-          high = omega arith;
-          middle = omega arith;
-          last = omega arith;
-        })
-    by (inr _) (inr _) (inr low) = pair _ _ _ _ (pair_digits c low (below_top c scalar))
+    by (inr low) (inl high) _ = two (c / 0x40) (c % 0x40) (grind arith)
+    by (inr _) (inr low) (inl high) = three (c / 0x1000) (c / 0x40 % 0x40) (c % 0x40) (grind arith)
+    by (inr _) (inr _) (inr low) =
+        pair ((c - 0x10000) / 0x10000) ((c - 0x10000) / 0x400 % 0x40) ((c - 0x10000) / 0x40 % 0x10) ((c - 0x10000) % 0x40)
+        (grind arith)
 
 -- The UTF-8 of a scalar value, by its digits: one byte, two, three, and four.
 pub utf8_of_one : (c : ℕ) → c < 0x80 → utf8_of c ≡ c ∷ []
 unfolding utf8_of
-utf8_of_one c h = rw (lt-ltb c 0x80 h) refl
+utf8_of_one c low = grind (arith, nat_tests)
 
 pub utf8_of_two : (c x y : ℕ) → IsTwo c x y → utf8_of c ≡ (0xC0 + x) ∷ (0x80 + y) ∷ []
 unfolding utf8_of
@@ -70,4 +55,4 @@ utf8_of_three c x y z digits = grind (arith, nat_tests)
 pub utf8_of_pair : (c w x y z : ℕ) → IsPair c w x y z →
     utf8_of c ≡ (0xF0 + (w + 1) / 4) ∷ (0x80 + ((w + 1) % 4 * 0x10 + x / 4)) ∷ (0x80 + (x % 4 * 0x10 + y)) ∷ (0x80 + z) ∷ []
 unfolding utf8_of
-utf8_of_pair c w x y z digits = grind (arith, le-ltb)
+utf8_of_pair c w x y z digits = grind (arith, nat_tests)

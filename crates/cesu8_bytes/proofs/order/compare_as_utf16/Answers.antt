@@ -10,8 +10,8 @@ returns-then-offset-len c =
     let offset = c.first_difference-offset.result in
     let bytes = c.as_bytes-bytes.result.now in
     let other = c.as_bytes-other_bytes.result.now in
-    let long : offset < length bytes = omega (arith, c.if-offset-len.true, c.min-len.ensures) in
-    let other_long : offset < length other = omega (arith, c.if-offset-len.true, c.min-len.ensures) in
+    let long : offset < length bytes = omega arith in
+    let other_long : offset < length other = omega arith in
     c.cmp.ensures
     ∙ ap (λ r. nat_cmp r c.rank-then-offset-len.result) c.rank.ensures
     ∙ ap (nat_cmp _) c.rank-then-offset-len.ensures

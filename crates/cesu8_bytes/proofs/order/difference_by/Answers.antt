@@ -13,12 +13,12 @@ returns-then-same g c = record {
 pub loop-offset-preserved : goal.loop-offset-preserved
 loop-offset-preserved g c =
     same_further c.args.bytes.now c.args.other.now c.loop-offset.offset c.loop-offset.offset g.row.N (omega arith)
-    c.loop-offset.invariant (λ i before. c.same_in_front-same.ensures.same i (omega (arith, before, c.if-same.false)))
+    c.loop-offset.invariant (λ i before. c.same_in_front-same.ensures.same i (omega arith))
 
 pub returns : goal.returns
 returns g c = record {
-  within = omega (arith, c.same_in_front.ensures.within);
+  within = omega arith;
   same = same_further c.args.bytes.now c.args.other.now c.loop-offset.offset (c.args.len - g.row.N) c.same_in_front.result
-      (omega (arith, c.loop-offset-test.false)) c.loop-offset.invariant c.same_in_front.ensures.same;
-  end = λ less. c.same_in_front.ensures.end (omega (arith, less));
+      (omega arith) c.loop-offset.invariant c.same_in_front.ensures.same;
+  end = λ less. c.same_in_front.ensures.end (omega arith);
 }

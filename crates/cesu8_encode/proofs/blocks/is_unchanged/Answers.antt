@@ -11,6 +11,6 @@ returns g c none =
     let at = c.args.at in
     let window = c.args.window.now in
     let long : 34 ≡ at + 2 + 32 - at = omega arith in
-    unchanged_block g.F.Flavor.flavor g.F.Null.Class.class window at 32 g.met.F.Flavor.are_null (omega (arith, c.requires))
+    unchanged_block g.F.Flavor.flavor g.F.Null.Class.class window at 32 g.met.F.Flavor.are_null (omega arith)
     (λ any. iff_false c.any_in_ends.ensures (not-true _ none)
     (subst (λ n. AnyIn (λ b. g.F.Null.Class.class b || is_at_least_f0 b) (chunk at n window)) long any))

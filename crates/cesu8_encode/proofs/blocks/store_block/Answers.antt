@@ -19,15 +19,15 @@ returns c = record {
       let long = length-map-range_with_len (is_doubled_at f window) at 32 in
       let rows = four_rows c.args.block.now.firsts c.args.block.now.seconds tests
       lanes.firsts_long lanes.seconds_long long _ _ _ _ _
-      (c.store_row-at.ensures.bytes (chunk 0 8 tests) (length-chunk 0 8 tests (omega (arith, long))) (first_mask tests doubled (omega (arith, long)) lanes.doubled_is))
-      (c.store_row-at-2.ensures.bytes (chunk 8 8 tests) (length-chunk 8 8 tests (omega (arith, long))) (row_mask 8 tests doubled (omega (arith, long)) lanes.doubled_is))
-      (c.store_row-at-3.ensures.bytes (chunk 16 8 tests) (length-chunk 16 8 tests (omega (arith, long))) (row_mask 16 tests doubled (omega (arith, long)) lanes.doubled_is))
-      (c.store_row.ensures.bytes (chunk 24 8 tests) (length-chunk 24 8 tests (omega (arith, long))) (row_mask 24 tests doubled (omega (arith, long)) lanes.doubled_is)) in
+      (c.store_row-at.ensures.bytes (chunk 0 8 tests) (length-chunk 0 8 tests (omega arith)) (first_mask tests doubled (omega arith) lanes.doubled_is))
+      (c.store_row-at-2.ensures.bytes (chunk 8 8 tests) (length-chunk 8 8 tests (omega arith)) (row_mask 8 tests doubled (omega arith) lanes.doubled_is))
+      (c.store_row-at-3.ensures.bytes (chunk 16 8 tests) (length-chunk 16 8 tests (omega arith)) (row_mask 16 tests doubled (omega arith) lanes.doubled_is))
+      (c.store_row.ensures.bytes (chunk 24 8 tests) (length-chunk 24 8 tests (omega arith)) (row_mask 24 tests doubled (omega arith) lanes.doubled_is)) in
       let stored = rows ∙ ap (λ l. before ++ l) lanes.packed_to in
       let counted_is = counted c.args.count doubled c.requires.count in
       prefix_of_block f window before c.store_row.new.out at c.args.count c.store_row.result _ c.requires.count
-      (omega (arith, c.store_row.ensures.end, c.store_row.ensures.len, c.requires.room)) stored
-      (omega (arith, counted_is, prefix_long f window at c.args.count _ c.requires.count lanes.doubled_is, length-take-le c.args.end c.args.out.now (omega (arith, c.requires.room))));
+      (omega arith) stored
+      (omega (arith, prefix_long f window at c.args.count _ c.requires.count lanes.doubled_is, length-take-le c.args.end c.args.out.now (omega arith)));
   end = omega (arith, counted c.args.count c.args.block.now.doubled c.requires.count);
   len = search rules;
 }

@@ -7,7 +7,6 @@ write_block-requires-clause-room g c =
     omega (
       arith,
       ap length (encoded_short g.F.Flavor.flavor _ _ _ c.copy_short.ensures c.as_bytes-bytes.ensures.value c.utf8.text (c.is_block.ensures.0 c.if-not-is_block.false)),
-      c.requires,
     )
 
 pub returns : goal.returns
@@ -15,6 +14,6 @@ returns g c =
     let same = encoded_short g.F.Flavor.flavor _ _ _ c.copy_short.ensures c.as_bytes-bytes.ensures.value c.utf8.text (c.is_block.ensures.0 c.if-not-is_block.false) in
     record {
       bytes = c.write_block.ensures.bytes ∙ same;
-      end = omega (arith, c.write_block.ensures.end, c.write_block.ensures.len, ap length same, c.requires);
+      end = omega (arith, ap length same);
       len = c.write_block.ensures.len;
     }

@@ -4,26 +4,15 @@ use Rattle.cesu8_encode.proofs.blockwise.write_blocks.Goals as goal
 
 pub write_first-end-requires-clause-room : goal.write_first-end-requires-clause-room
 write_first-end-requires-clause-room g c =
-    omega (arith, ap length (recoded_chars g.F.Flavor.flavor c.args.text.now _ c.as_bytes-bytes.ensures.value c.utf8.text), c.requires.room)
+    omega (arith, ap length (recoded_chars g.F.Flavor.flavor c.args.text.now _ c.as_bytes-bytes.ensures.value c.utf8.text))
 
 pub write_middle-end-requires-clause-room : goal.write_middle-end-requires-clause-room
 write_middle-end-requires-clause-room g c =
-    omega (
-      arith,
-      ap length (recoded_chars g.F.Flavor.flavor c.args.text.now _ c.as_bytes-bytes.ensures.value c.utf8.text),
-      c.requires.room,
-      c.write_first-end.ensures.len,
-    )
+    omega (arith, ap length (recoded_chars g.F.Flavor.flavor c.args.text.now _ c.as_bytes-bytes.ensures.value c.utf8.text))
 
 pub write_last-requires-clause-room : goal.write_last-requires-clause-room
 write_last-requires-clause-room g c =
-    omega (
-      arith,
-      ap length (recoded_chars g.F.Flavor.flavor c.args.text.now _ c.as_bytes-bytes.ensures.value c.utf8.text),
-      c.requires.room,
-      c.write_first-end.ensures.len,
-      c.write_middle-end.ensures.len,
-    )
+    omega (arith, ap length (recoded_chars g.F.Flavor.flavor c.args.text.now _ c.as_bytes-bytes.ensures.value c.utf8.text))
 
 pub returns : goal.returns
 returns g c = record {

@@ -9,8 +9,7 @@ write_block-requires-clause-room g c =
     omega (
       arith,
       ap length (encoded_bytes_first f text c.copy_from_slice.new.self 0 0 32 (omega arith) c.copy_from_slice.ensures.after),
-      room_for_parts f (0 ∷ 0 ∷ text) 0 32 (length text - 32) (length text) (omega (arith, c.requires.long)),
-      c.requires.room,
+      room_for_parts f (0 ∷ 0 ∷ text) 0 32 (length text - 32) (length text) (omega arith),
     )
 
 pub returns : goal.returns
@@ -18,8 +17,8 @@ returns g c =
     let f = g.F.Flavor.flavor in
     let text = c.args.text.now in
     let same = encoded_bytes_first f text c.copy_from_slice.new.self 0 0 32 (omega arith) c.copy_from_slice.ensures.after in
-    let room = room_for_parts f (0 ∷ 0 ∷ text) 0 32 (length text - 32) (length text) (omega (arith, c.requires.long)) in
+    let room = room_for_parts f (0 ∷ 0 ∷ text) 0 32 (length text - 32) (length text) (omega arith) in
     record {
-      written = (c.write_block.ensures.bytes ∙ same, omega (arith, c.write_block.ensures.end, c.write_block.ensures.len, ap length same, room, c.requires.room));
+      written = (c.write_block.ensures.bytes ∙ same, omega (arith, ap length same));
       len = c.write_block.ensures.len;
     }

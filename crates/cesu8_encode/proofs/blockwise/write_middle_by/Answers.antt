@@ -1,4 +1,4 @@
-use Rattle.std.proofs.Common.{◌≡◌, ◌+◌, ◌*◌, ap, subst, ◌∙◌, arith, length}
+use Rattle.std.proofs.Common.{◌≡◌, ◌+◌, ◌*◌, subst, ◌∙◌, arith}
 use Rattle.cesu8_encode.specs.EncodedOffsets.{IsWritten}
 use Rattle.cesu8_encode.proofs.encoder.EncodedWindows.{encoded_bytes_here, room_behind, written_behind}
 use Rattle.cesu8_encode.proofs.blockwise.write_middle_by.Goals as goal
@@ -7,13 +7,8 @@ pub write-end-requires-clause-room : goal.write-end-requires-clause-room
 write-end-requires-clause-room g c =
     let f = g.F.Flavor.flavor in
     let text = c.args.text.now in
-    let inv = c.loop-i.invariant in
-    omega (
-      arith,
-      ap length (encoded_bytes_here f text (32 * c.loop-i.i) 32 (omega arith)),
-      room_behind f text (32 * c.loop-i.i) 32 c.loop-i.end c.loop-i.out (omega (arith, c.requires.blocks)) inv.written
-          (omega (arith, inv.len, c.requires.room)),
-    )
+    let same = encoded_bytes_here f text (32 * c.loop-i.i) 32 (omega arith) in
+    omega (arith, room_behind f text (32 * c.loop-i.i) 32 c.loop-i.end c.loop-i.out _ same (omega arith) c.loop-i.invariant.written (omega arith))
 
 pub loop-i-preserved : goal.loop-i-preserved
 loop-i-preserved g c =
@@ -22,11 +17,10 @@ loop-i-preserved g c =
     let inv = c.loop-i.invariant in
     let sum : 32 * c.loop-i.i + 32 ≡ 32 * (c.loop-i.i + 1) = omega arith in
     let same = encoded_bytes_here f text (32 * c.loop-i.i) 32 (omega arith) in
-    let room = room_behind f text (32 * c.loop-i.i) 32 c.loop-i.end c.loop-i.out (omega (arith, c.requires.blocks)) inv.written
-    (omega (arith, inv.len, c.requires.room)) in
+    let room = room_behind f text (32 * c.loop-i.i) 32 c.loop-i.end c.loop-i.out _ same (omega arith) inv.written (omega arith) in
     record {
       written = subst (λ n. IsWritten f text n c.write-end.new.out c.write-end.result) sum
           (written_behind f text (32 * c.loop-i.i) 32 _ _ _ _ _ inv.written c.write-end.ensures.bytes same
-          (omega (arith, c.write-end.ensures.end, c.write-end.ensures.len, ap length same, room)));
+          (omega arith));
       len = c.write-end.ensures.len ∙ inv.len;
     }

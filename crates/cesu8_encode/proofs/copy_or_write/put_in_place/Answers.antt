@@ -6,7 +6,7 @@ use Rattle.cesu8_encode.proofs.copy_or_write.put_in_place.Goals as goal
 pub returns : goal.returns
 returns g c =
     let whole : length c.write.new.out ≤ c.write.result =
-    omega (arith, ap length c.write.ensures.bytes, c.write.ensures.end, c.write.ensures.len, length-take {A = ℕ}) in
+    omega (arith, ap length c.write.ensures.bytes, length-take {A = ℕ}) in
     record {
       written = (
         c.encoded_len-len.ensures,

@@ -1,5 +1,10 @@
-use Rattle.cesu8_encode.proofs.encoder.Shuffles.{rows_are}
+use Rattle.std.proofs.Common.{refl}
+use Rattle.cesu8_encode.specs.EncodedOffsets.{shuffle_of}
+use Rattle.cesu8_encode.specs.declared.rows.TheConstants.{ROWS}
+use Rattle.cesu8_bytes.proofs.vectors.Tables.{same_list, same_rows, rows_by}
 use Rattle.cesu8_encode.proofs.rows.rows.Goals as goal
 
+-- Row d is the shuffle for the tests that are the bits of d.
 pub returns : goal.returns
-returns c d l = rows_are d l
+unfolding same_list same_rows
+returns c = rows_by ROWS shuffle_of refl

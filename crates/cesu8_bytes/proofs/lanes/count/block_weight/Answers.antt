@@ -1,6 +1,6 @@
 use Rattle.std.proofs.Common.{arith}
 use Rattle.cesu8_text.specs.Class.{is_four}
-use Rattle.cesu8_bytes.proofs.vectors.Counts.{block_counted, weight_bound, one_more_fits, counted_more}
+use Rattle.cesu8_bytes.proofs.vectors.Counts.{block_counted, one_more_fits, counted_more}
 use Rattle.cesu8_bytes.proofs.lanes.count.block_weight.Goals as goal
 
 pub overflow_add-ones : goal.overflow_add-ones
@@ -16,15 +16,6 @@ loop-i-preserved g c = record {
   ones = counted_more g.C.Class.class c.args.block.now c.loop-i.i _ _ c.loop-i.invariant.ones c.marks.ensures (omega arith);
   fours = counted_more is_four c.args.block.now c.loop-i.i _ _ c.loop-i.invariant.fours c.marks-in-loop-i.ensures (omega arith);
 }
-
-pub overflow_add-result : goal.overflow_add-result
-overflow_add-result g c =
-    omega (
-      arith,
-      block_counted g.C.Class.class c.args.block.now c.loop-i.i _ _ (omega arith)
-          c.loop-i.invariant.ones c.loop-i.invariant.fours,
-      weight_bound g.C.Class.class g.met.C.CountsOne.at_most_two c.args.block.now,
-    )
 
 pub returns : goal.returns
 returns g c =

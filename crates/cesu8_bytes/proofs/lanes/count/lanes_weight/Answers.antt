@@ -5,7 +5,7 @@ use Rattle.cesu8_bytes.proofs.lanes.count.lanes_weight.Goals as goal
 
 pub returns : goal.returns
 returns g c =
-    let within : c.args.skipped ≤ length c.args.lanes = omega (arith, c.fits-lanes.0, c.requires) in
+    let within : c.args.skipped ≤ length c.args.lanes = omega arith in
     omega (
       arith,
       bits_behind g.C.Class.class c.args.lanes c.args.skipped _ within c.bits.ensures,

@@ -19,4 +19,4 @@ loop-block-preserved g c =
 
 pub overflow_add-result : goal.overflow_add-result
 overflow_add-result g c =
-    omega (arith, c.loop-block.invariant, c.rest_weight.ensures, weight_bound g.C.Class.class g.met.C.CountsOne.at_most_two c.args.value.now)
+    omega (arith, weight_bound g.C.Class.class g.met.C.CountsOne.at_most_two c.args.value.now)

@@ -6,5 +6,5 @@ pub returns : goal.returns
 returns c =
     let both = c.args.first ++ c.args.second in
     let long = length-append c.args.first c.args.second in
-    pick_l-range_with_len 0 both 0 32 (omega (arith, long, c.fits-first.0, c.fits-second.0))
-    ∙ take_all 32 both (omega (arith, long, c.fits-first.0, c.fits-second.0))
+    pick_l-range_with_len 0 both 0 32 (omega arith)
+    ∙ take_all 32 both (omega arith)

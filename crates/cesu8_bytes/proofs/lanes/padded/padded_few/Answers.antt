@@ -22,7 +22,7 @@ in_order (a ∷ b ∷ d ∷ e ∷ g ∷ h ∷ i ∷ j ∷ k ∷ l ∷ m ∷ n �
 in_order (a ∷ b ∷ d ∷ e ∷ g ∷ h ∷ i ∷ j ∷ k ∷ l ∷ m ∷ n ∷ o ∷ []) few = refl
 in_order (a ∷ b ∷ d ∷ e ∷ g ∷ h ∷ i ∷ j ∷ k ∷ l ∷ m ∷ n ∷ o ∷ p ∷ []) few = refl
 in_order (a ∷ b ∷ d ∷ e ∷ g ∷ h ∷ i ∷ j ∷ k ∷ l ∷ m ∷ n ∷ o ∷ p ∷ q ∷ []) few = refl
-in_order (a ∷ b ∷ d ∷ e ∷ g ∷ h ∷ i ∷ j ∷ k ∷ l ∷ m ∷ n ∷ o ∷ p ∷ q ∷ r ∷ bytes) few = absurd (omega (arith, few))
+in_order (a ∷ b ∷ d ∷ e ∷ g ∷ h ∷ i ∷ j ∷ k ∷ l ∷ m ∷ n ∷ o ∷ p ∷ q ∷ r ∷ bytes) few = absurd (omega arith)
 
 pub returns : goal.returns
 returns c = rw (c.ends.ensures, c.in_ends.ensures) (in_order c.args.bytes.now c.requires)

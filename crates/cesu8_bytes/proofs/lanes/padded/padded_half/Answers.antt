@@ -9,7 +9,7 @@ returns-then-bytes-lt-HALF c =
     c.joined.ensures ∙ ap (λ quarter. quarter ++ replicate {A = ℕ} 16 0) c.padded_few.ensures
     ∙ append_assoc bytes (replicate rest 0) (replicate 16 0)
     ∙ ap (λ zs. bytes ++ zs) (replicate-append-replicate rest 16 0)
-    ∙ ap (λ n. bytes ++ replicate n 0) (omega (arith, c.if-bytes-lt-HALF.true))
+    ∙ ap (λ n. bytes ++ replicate n 0) (omega arith)
 
 pub returns : goal.returns
 returns c =

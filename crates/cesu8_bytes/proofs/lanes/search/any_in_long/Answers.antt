@@ -1,22 +1,21 @@
-use Rattle.std.proofs.Common.{ℕ, refl, subst, ◌↔◌, IsTrue, ◌-◌, ◌*◌, ◌/◌, length, arith}
+use Rattle.std.proofs.Common.{ℕ, subst, ◌↔◌, IsTrue, ◌-◌, ◌*◌, ◌/◌, length, arith}
 use Rattle.std.specs.List.{Any}
-use Rattle.cesu8_bytes.proofs.lists.Chunks.{all_left, found_in_chunks, left_by_chunks}
+use Rattle.cesu8_bytes.proofs.lists.Chunks.{found_in_chunks, left_by_chunks}
 use Rattle.cesu8_bytes.proofs.lists.Ends.{any_drop, any_later}
 use Rattle.cesu8_bytes.proofs.lanes.search.any_in_long.Goals as goal
 
 pub returns-then-any_in_chunks : goal.returns-then-any_in_chunks
 returns-then-any_in_chunks g c =
-    let found = found_in_chunks (λ b. IsTrue (g.C.Class.class b)) c.args.bytes.now 64 c.args.bytes.now _ _ c.any_in_chunks.result
-    c.as_chunks.ensures.front c.as_chunks.ensures.back c.any_in_chunks.ensures
-    (all_left (λ b. IsTrue (g.C.Class.class b)) c.args.bytes.now) c.if-any_in_chunks.true in
-    ((λ t. found.0 refl), (λ any. c.if-any_in_chunks.true))
+    let found = found_in_chunks (λ b. IsTrue (g.C.Class.class b)) 64 c.args.bytes.now _ _ c.any_in_chunks.result
+    c.as_chunks.ensures.front c.as_chunks.ensures.back c.any_in_chunks.ensures c.if-any_in_chunks.true in
+    ((λ _. found), (λ _. c.if-any_in_chunks.true))
 
 pub returns-else-any_in_chunks : goal.returns-else-any_in_chunks
 returns-else-any_in_chunks g c =
     let InClass : ℕ → Type 0 = λ b. IsTrue (g.C.Class.class b) in
     let bytes = c.args.bytes.now in
-    let left = left_by_chunks InClass bytes 64 bytes _ _ c.any_in_chunks.result
-    c.as_chunks.ensures.front c.as_chunks.ensures.back c.any_in_chunks.ensures (all_left InClass bytes) c.if-any_in_chunks.false in
+    let left = left_by_chunks InClass 64 bytes _ _ c.any_in_chunks.result
+    c.as_chunks.ensures.front c.as_chunks.ensures.back c.any_in_chunks.ensures c.if-any_in_chunks.false in
     let last = subst (λ end. IsTrue c.has.result ↔ Any InClass end) c.end_vector-end.ensures c.has.ensures in (
       (λ t. any_drop InClass (length bytes - 64) bytes (last.0 t)),
       (λ any. last.1 (any_later InClass (length bytes - 64) (length bytes / 64 * 64) bytes (omega arith)

@@ -4,5 +4,5 @@ use Rattle.cesu8_bytes.proofs.writing.packing.second_of.Goals as goal
 
 pub returns : goal.returns
 returns c =
-    let half = lanes_of_first c.args.lanes c.args.lanes 8 8 (omega (arith, c.fits-lanes.0)) in
+    let half = lanes_of_first c.args.lanes c.args.lanes 8 8 (omega arith) in
     λ i. half i ++ half i

@@ -10,7 +10,7 @@ use Rattle.cesu8_bytes.proofs.writing.packing.store_kept.Goals as goal
 pub returns : goal.returns
 returns c tests long is =
     let bytes = c.args.bytes in
-    let eight = λ (a : ℕ) (le : a + 8 ≤ 32). lanes_of_first bytes bytes a 8 (omega (arith, c.fits-bytes.0)) in
+    let eight = λ (a : ℕ) (le : a + 8 ≤ 32). lanes_of_first bytes bytes a 8 (omega arith) in
     let half = λ (a : ℕ). pick_l 0 (bytes ++ bytes) (range_with_len a 16) in
     subst (λ bs. WritesAt bs c.args.at c.args.out.now c.store_eight.new.out c.store_eight.result)
     (kept_of_four tests bytes long c.fits-bytes.0 (half 0) _ (half 16) _ c.args.gone is

@@ -1,7 +1,6 @@
-use Rattle.std.proofs.Common.{◌≡◌, ◌∙◌, false, true, refl, sym, subst, arith, take, length, length-append}
+use Rattle.std.proofs.Common.{◌≡◌, false, true, refl, arith, take, length, length-append}
 use Rattle.std.proofs.lemmas.List.{length-take-le}
 use Rattle.cesu8_decode.specs.DecodedOffsets.{window_of}
-use Rattle.cesu8_decode.specs.Decoding.{IsDecoded}
 use Rattle.cesu8_decode.proofs.decoder.BlocksInPlace.{all_decoded, decoded_fits, none_decoded, refused_decoded}
 use Rattle.cesu8_decode.proofs.decoder.Passes.{at_start, reads_on}
 use Rattle.cesu8_decode.proofs.destinations.chunks.append_chunks.Goals as goal
@@ -45,20 +44,6 @@ returns-then-pass g c =
       text = tt;
       capacity = tt;
       none = refused_decoded f which bytes _ _ _ (reads_on f which bytes _ _ _ _ _ _ true more refl c.if-pass.true c.loop-read.invariant.text) more.within.1;
-    }
-
-pub loop-read-preserved : goal.loop-read-preserved
-loop-read-preserved g c =
-    let f = g.F.Flavor.flavor in
-    let which = g.S.Reading.which in
-    let bytes = c.args.bytes.now in
-    let inv = c.loop-read.invariant in
-    let next = c.append_next-pass.ensures.next in
-    record {
-      pass = next.more.pass c.if-pass.false;
-      text = subst (λ items. IsDecoded f which (window_of bytes) 0 c.append_next-pass.result.read c.args.before.items items false)
-          (sym (next.text c.if-pass.false)) (reads_on f which bytes _ _ _ _ _ _ false next.more refl c.if-pass.false inv.text);
-      capacity = next.capacity ∙ inv.capacity;
     }
 
 pub returns : goal.returns

@@ -1,6 +1,6 @@
-use Rattle.std.proofs.Common.{◌≡◌, ◌≤◌, ◌∙◌, ℕ, ◌+◌, List, refl, sym, arith, length, take, drop, length-drop, Vec, vec_len, vec_capacity}
+use Rattle.std.proofs.Common.{◌≡◌, ◌≤◌, ◌∙◌, ℕ, ◌+◌, List, refl, sym, arith, length, drop, length-drop, Vec, vec_len, vec_capacity}
 use Rattle.std.proofs.lemmas.Bool.{eqb-true}
-use Rattle.std.proofs.lemmas.List.{length-take-le, take_rest}
+use Rattle.std.proofs.lemmas.List.{take_rest}
 use Rattle.cesu8_bytes.specs.declared.strictness.Strictness.TheVariants.{Strict}
 use Rattle.cesu8_decode.proofs.chunks.FrontReadings.{appended_behind, front_appended}
 use Rattle.cesu8_decode.proofs.chunks.ReadChunks.{more_read, none_left, nothing_read}
@@ -20,15 +20,6 @@ loop-least-init g c = record {
   capacity = refl;
 }
 
-pub append_to_next-rest-requires-clause-front : goal.append_to_next-rest-requires-clause-front
-append_to_next-rest-requires-clause-front g c = c.loop-least.invariant.front
-
-pub append_to_next-rest-requires-clause-room : goal.append_to_next-rest-requires-clause-room
-append_to_next-rest-requires-clause-room g c = c.loop-least.invariant.room
-
-pub loop-least-smaller : goal.loop-least-smaller
-loop-least-smaller g c = omega (arith, c.append_to_next-rest.ensures.within, c.loop-least-test.true, c.loop-least.invariant.least)
-
 pub loop-least-preserved : goal.loop-least-preserved
 loop-least-preserved g c =
     let inv = c.loop-least.invariant in
@@ -40,20 +31,6 @@ loop-least-preserved g c =
       least = omega arith;
       capacity = step.capacity ∙ inv.capacity;
     }
-
-pub slice_bounds-append-end : goal.slice_bounds-append-end
-slice_bounds-append-end g c = sym (length-take-le c.loop-least.len c.loop-least.rest.now c.loop-least.invariant.front.within)
-
-pub append-requires : goal.append-requires
-append-requires g c =
-    let inv = c.loop-least.invariant in
-    omega (arith, inv.room, length-take-le c.loop-least.len c.loop-least.rest.now inv.front.within, inv.front.within)
-
-pub slice_bounds-rest-count : goal.slice_bounds-rest-count
-slice_bounds-rest-count g c = omega (arith, c.loop-least.invariant.front.within)
-
-pub slice_bounds-rest-start : goal.slice_bounds-rest-start
-slice_bounds-rest-start g c = omega (arith, c.loop-least.invariant.front.within)
 
 pub returns-then-is_empty : goal.returns-then-is_empty
 returns-then-is_empty g c =
@@ -69,18 +46,6 @@ returns-then-is_empty g c =
       capacity = c.append.ensures.capacity ∙ inv.capacity;
       none = tt;
     }
-
-pub append_few_strictly-requires-clause-room : goal.append_few_strictly-requires-clause-room
-append_few_strictly-requires-clause-room g c =
-    let inv = c.loop-least.invariant in
-    rw take_rest (room_left c.loop-least.rest.now (take c.loop-least.len c.loop-least.rest.now) c.loop-least.len c.loop-least.text c.append.new.out inv.front.within
-    (length-take-le c.loop-least.len c.loop-least.rest.now inv.front.within) inv.room c.append.ensures.len c.append.ensures.capacity)
-
-pub append_chunks-requires : goal.append_chunks-requires
-append_chunks-requires g c =
-    let inv = c.loop-least.invariant in
-    rw take_rest (room_left c.loop-least.rest.now (take c.loop-least.len c.loop-least.rest.now) c.loop-least.len c.loop-least.text c.append.new.out inv.front.within
-    (length-take-le c.loop-least.len c.loop-least.rest.now inv.front.within) inv.room c.append.ensures.len c.append.ensures.capacity)
 
 pub returns-then-are_few : goal.returns-then-are_few
 returns-then-are_few g c =

@@ -1,5 +1,5 @@
-use Rattle.std.proofs.Common.{arith, drop, length-drop}
-use Rattle.std.proofs.lemmas.List.{length-take-le, take_rest}
+use Rattle.std.proofs.Common.{drop}
+use Rattle.std.proofs.lemmas.List.{take_rest}
 use Rattle.cesu8_bytes.specs.declared.strictness.Strictness.TheVariants.{Strict}
 use Rattle.cesu8_decode.specs.DecodedOffsets.{BeginsChanged, IsPrefixOf}
 use Rattle.cesu8_decode.proofs.chunks.Changed.{changed_null, changed_pair, null_read, pair_in_prefix, seen_pair_read}
@@ -13,13 +13,6 @@ returns-then-not-begins_changed-clause-read g c =
     let bytes = c.args.bytes.now in
     let before = c.args.out.now.items in
     rw take_rest (front_appended f bytes c.args.len c.requires.front bytes before before c.append.new.out.items (nothing_read f Strict bytes before) c.append.ensures.bytes)
-
-pub returns-then-not-begins_changed-clause-room : goal.returns-then-not-begins_changed-clause-room
-returns-then-not-begins_changed-clause-room g c =
-    let bytes = c.args.bytes.now in
-    let n = c.args.len in
-    let front = c.requires.front in
-    rw take_rest (omega (arith, c.append.ensures.len, c.append.ensures.capacity, c.requires.room, length-take-le n bytes front.within, length-drop n bytes, front.within))
 
 pub returns-then-rest-clause-read : goal.returns-then-rest-clause-read
 returns-then-rest-clause-read g c =

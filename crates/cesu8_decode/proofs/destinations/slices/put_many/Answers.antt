@@ -1,14 +1,9 @@
-use Rattle.std.proofs.Common.{◌≡◌, ◌<◌, ◌^◌, ◌∙◌, sym, rules, arith}
+use Rattle.std.proofs.Common.{◌≡◌, ◌<◌, ◌^◌, rules, arith}
 use Rattle.cesu8_text.specs.Reading.{IsStrictReading, reading, lossy_length}
 use Rattle.cesu8_bytes.specs.declared.strictness.Strictness.TheVariants.{Strict}
-use Rattle.cesu8_decode.proofs.chunks.SliceReadings.{strict_no_longer, no_strict_text, only_reading, answer_put, room_lacks, length_lacks}
+use Rattle.cesu8_decode.proofs.chunks.SliceReadings.{strict_no_longer, only_reading, answer_put, room_lacks, length_lacks}
 use Rattle.cesu8_decode.proofs.destinations.slices.put_many.Goals as goal
 use Rattle.cesu8_decode.proofs.destinations.slices.put_many.Goals.{in-Strict+else-is_ill_formed+else-bytes-buf, in_default}
-
-pub returns-then-is_ill_formed : goal.returns-then-is_ill_formed
-returns-then-is_ill_formed g c =
-    no_strict_text g.F.Flavor.flavor g.S.Reading.which c.args.bytes.now c.args.buf.now
-    (sym c.strictness.ensures ∙ c.in-Strict.is, c.is_ill_formed.ensures.ill_formed c.if-is_ill_formed.true)
 
 pub put_chunks-requires : goal.put_chunks-requires
 put_chunks-requires g c =

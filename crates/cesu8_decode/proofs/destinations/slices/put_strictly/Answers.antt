@@ -3,7 +3,7 @@ use Rattle.std.proofs.Common.{add-zero, get_or, ◌≡◌, ℕ, ◌-◌, ◌≤�
 use Rattle.std.proofs.Math.Seq.{drop-append_seam}
 use Rattle.std.proofs.lemmas.Bool.{both_ways}
 use Rattle.std.proofs.lemmas.List.{get_or-drop, take_rest, drop_all, take-append-drop, length-take-le}
-use Rattle.cesu8_bytes.specs.declared.strictness.Strictness.TheVariants.{Strict, Lossy}
+use Rattle.cesu8_bytes.specs.declared.strictness.Strictness.TheVariants.{Strict}
 use Rattle.cesu8_decode.proofs.chunks.FrontReadings.{unless_begun, written_length, needed_length, front_put, front_lacks_room, front_lacks_text}
 use Rattle.cesu8_decode.proofs.chunks.SliceReadings.{no_strict_text}
 use Rattle.cesu8_decode.proofs.destinations.slices.put_strictly.Goals as goal
@@ -99,9 +99,3 @@ returns-in-Err-NoText g c =
     let puts = rw c.in-Err-NoText.field-0-is at (simp take_rest at c.in-Err-NoText.ensures) in
     front_lacks_text f c.args.bytes.now buf c.args.front.len c.requires.found.len (omega arith) (drop start buf) c.put_strictly_whole.new.buf _ puts
     (stays start buf c.put_strictly_whole.new.buf puts.unchanged)
-
--- A strict reading is not too long.
-pub returns-in-Err-TooLong : goal.returns-in-Err-TooLong
-returns-in-Err-TooLong g c =
-    let puts = rw c.in-Err-TooLong.field-0-is at (simp take_rest at c.in-Err-TooLong.ensures) in
-    absurd (let no : Strict ≡ Lossy = puts.lossy tt in cc)

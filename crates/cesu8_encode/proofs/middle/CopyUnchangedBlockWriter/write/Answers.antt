@@ -4,12 +4,7 @@ use Rattle.cesu8_encode.proofs.middle.CopyUnchangedBlockWriter.write.Goals as go
 
 pub put_lanes-requires : goal.put_lanes-requires
 put_lanes-requires g c =
-    omega (
-      arith,
-      ap length (c.is_unchanged.ensures c.if-is_unchanged.true),
-      length-chunk (c.args.at + 2) 32 c.args.text.now (omega (arith, c.requires.window)),
-      c.requires.room,
-    )
+    omega (arith, ap length (c.is_unchanged.ensures c.if-is_unchanged.true), length-chunk (c.args.at + 2) 32 c.args.text.now (omega arith))
 
 pub returns-then-is_unchanged : goal.returns-then-is_unchanged
 returns-then-is_unchanged g c =

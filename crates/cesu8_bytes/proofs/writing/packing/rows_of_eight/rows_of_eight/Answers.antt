@@ -1,5 +1,10 @@
-use Rattle.cesu8_bytes.proofs.vectors.Packing.{rows_are}
+use Rattle.std.proofs.Common.{refl}
+use Rattle.cesu8_bytes.specs.Packing.{shuffle_of_eight}
+use Rattle.cesu8_bytes.specs.declared.writing.packing.rows_of_eight.TheConstants.{ROWS}
+use Rattle.cesu8_bytes.proofs.vectors.Tables.{same_list, same_rows, rows_by}
 use Rattle.cesu8_bytes.proofs.writing.packing.rows_of_eight.rows_of_eight.Goals as goal
 
+-- Row d of the table is that for the eight bytes that go.
 pub returns : goal.returns
-returns c gone l = rows_are gone l
+unfolding same_list same_rows
+returns c = rows_by ROWS shuffle_of_eight refl
