@@ -30,7 +30,7 @@ const TESTED_AT_ONCE: usize = 16 * LANES;
 /// How many bytes one look shows at the front of others.
 const SHOWN_AT_ONCE: usize = LANES;
 
-/// Returns whether the bytes are few and all ASCII. More are tested by the front.
+/// Returns whether the bytes are few and all ASCII. More have no first look.
 #[inline(always)]
 pub fn is_short_ascii(bytes: &[u8]) -> bool
     ensures { IsTrue result → IsAscii bytes.now }

@@ -45,8 +45,8 @@ use destinations::strings::{build_lossily, write_strictly};
 pub use lengths::{decoded_len, lossy_len};
 use std::alloc::{AllocError, Global};
 
-/// Returns the strict reading of bytes, after one request for their length. So many at the front, but
-/// not all, are whole characters that are the same in UTF-8.
+/// Returns the strict reading of bytes, after one request for their length. `front` tells where the test
+/// of the front stopped: before are whole characters that are the same in UTF-8, but these are not all.
 #[inline(never)]
 pub fn decode_strict<F: Flavor>(
     alloc: Global,
@@ -66,9 +66,9 @@ pub fn decode_strict<F: Flavor>(
     }
 }
 
-/// Returns the lossy reading of the bytes, after one request for its length. Not all of them are whole
-/// characters that are the same in UTF-8, but the front. A length that does not fit counts as refused.
-/// The text of the first 4,096 is decoded before that, so that these need no pass for their length.
+/// Returns the lossy reading of the bytes, behind a front as above, after one request for its length. A
+/// length that does not fit counts as refused. The text of the first 4,096 bytes is decoded before that,
+/// so that these need no pass for their length.
 #[inline(never)]
 pub fn decode_lossy<F: Flavor>(
     alloc: Global,

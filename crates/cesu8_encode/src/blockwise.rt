@@ -62,8 +62,8 @@ fn write_first<F: Flavor>(text: &[u8], out: &mut [u8]) -> usize
     write_block::<F>(&window, 0, BLOCK, out, 0)
 }
 
-/// Writes what the blocks between the first and the last become, and returns its end, in the way
-/// that fits the text.
+/// Writes what the blocks between the first and the last become, and returns its end. `middle_of`
+/// chooses the writer: `NullChange` is right where no byte is F0 or more, the others for any text.
 #[inline(always)]
 fn write_middle<F: Flavor>(
     text: &[u8],

@@ -5,9 +5,9 @@
 //! writes U+0000 as C0 80. CESU-8 is the one of Unicode Technical Report 26, MUTF-8 the one of
 //! Java's `DataInput`.
 //!
-//! A result borrows from the input exactly where its bytes are the input's bytes. Otherwise it is
-//! built after one request for memory. If that is refused, the call returns `AllocError`, or
-//! `DecodeFault::Memory` where it can return `Invalid` too.
+//! A result borrows from the input exactly where its bytes are the input's bytes, and exactly where
+//! `BorrowsTextWhere` says. Otherwise it is built after one request for memory. If that is refused, the
+//! call returns `AllocError`, or `DecodeFault::Memory` where it can return `Invalid` too.
 //!
 //! | you have | you want | call |
 //! |---|---|---|
@@ -405,14 +405,14 @@ pub fn valid_up_to(bytes: &[u8]) -> usize
 ///
 /// It returns how many bytes it wrote at the front of the buffer; the rest stays as it was. If the
 /// buffer is too short, it returns [`TooShort`] with the needed length in bytes, and the whole
-/// buffer stays as it was. So a call with an empty buffer reports the length. It requests no
-/// memory.
+/// buffer stays as it was. So a call with an empty buffer reports the length. It requests no memory.
 ///
 /// ```rust
 /// let mut buf = [0xEE; 8];
 /// assert_eq!(rt; simd_cesu8::encode_to_slice("\u{10400}", &mut buf)?, 6);
 /// assert_eq!(rt; buf.as_slice(), b"\xED\xA0\x81\xED\xB0\x80\xEE\xEE".as_slice());
 /// ```
+// Inlined, as each call on a slice is: a result that is returned by memory would be copied on its way.
 #[inline(always)]
 pub fn encode_to_slice(value: &str, buf: &mut [u8]) -> Result<usize, TooShort>
     ensures { WritesAnswer (encoding Cesu8 (chars value.now)) result buf.old buf.new }

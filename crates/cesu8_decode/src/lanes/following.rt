@@ -153,8 +153,8 @@ fn shown_by<F: Flavor, S: CharacterSet>(first: u8x32, second: u8x32) -> u8x32
     of_two
 }
 
-/// Returns the bits that bytes of MUTF-8 keep of what they show: 80 may follow C0, where that is
-/// meant.
+/// Returns the bits that bytes of MUTF-8 keep of what they show. Behind C0 alone bit 10 (hexadecimal)
+/// is shown, so 80 clears it where C0 80 is a character of the set.
 #[inline(always)]
 fn kept_of_null<S: CharacterSet>(bytes: u8x32) -> u8x32
     ensures { result ≡ map (λ b. if has_changed S.set && b == 0x80 then 0xEF else 0xFF) bytes }

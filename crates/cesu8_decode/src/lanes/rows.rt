@@ -1,13 +1,12 @@
-//! The shuffles that pack four bytes, one for each set of those that go and those that are
-//! ill-formed.
+//! The shuffles that pack four bytes, one for each set of those that go or are ill-formed.
 
 ghost use Rattle.cesu8_decode.specs.DecodedLanes.{AreShufflesOfFour};
 
 use cesu8_bytes::Rows;
 
 /// Lanes 0 to 3 have the bytes, and lanes 4 to 6 the replacement character. In row `d` byte `i` is
-/// replaced if bit `4 + i` of `d` is set, and else goes if bit `i` is. The last number of a row is
-/// not for the shuffle: it is how many bytes are written.
+/// replaced if bit `4 + i` of `d` is set, and else goes if bit `i` is. The last number is how many bytes
+/// are written. The zeros before it are what the contract has; what they pack is written over.
 const ROWS: Rows = [
     [0, 1, 2, 3, 0, 0, 0, 0, 0, 0, 0, 0, 0, 0, 0, 4],
     [1, 2, 3, 0, 0, 0, 0, 0, 0, 0, 0, 0, 0, 0, 0, 3],

@@ -55,7 +55,8 @@ pub fn load(bytes: &[u8], source: &mut [u8])
 /// offsets before it come last in `before`. The other bytes go.
 ///
 /// Most blocks are copied: those of characters of one byte, whatever comes before, and those that
-/// are well-formed and near no surrogate pair and no C0 80.
+/// are well-formed and near no surrogate pair and no C0 80. Others are packed, by more bytes at once if
+/// they are well-formed.
 #[inline(always)]
 pub fn write_block<F: Flavor, S: Reading>(
     bytes: &[u8],
