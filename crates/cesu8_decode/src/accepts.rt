@@ -1,6 +1,6 @@
 //! What a call that decodes takes, as types.
 
-ghost use Rattle.std.specs.Prelude.{◌≡◌, ◌↔◌, ℕ, ◌≤◌, List, IsTrue, IfNone, IfSome, IsUtf8, length, drop};
+ghost use Rattle.std.specs.Prelude.{◌≡◌, ◌↔◌, ℕ, ◌≤◌, List, IsTrue, IfNone, IfSome, IsUtf8, length};
 ghost use Rattle.cesu8_text.specs.Class.{IsUnchangedUtf8};
 ghost use Rattle.cesu8_text.specs.Encoding.{Flavor as AnyFlavor};
 ghost use Rattle.cesu8_text.specs.Reading.{IsStrictReading, IsLenientReading, reading, IsLenientLossyReading};
@@ -9,8 +9,9 @@ ghost use Rattle.cesu8_text.proofs.reading.KeptTexts.{encoding_texts, lenient_te
 ghost use Rattle.cesu8_decode.specs.Following.{Unchanged as AllUnchanged};
 ghost use Rattle.cesu8_decode.specs.Front.{IsFront, IsPartialFront};
 
-use crate::front::{FoundFront, front, is_utf8};
+use crate::front::{FoundFront, front, is_utf8, is_utf8_from};
 use crate::lanes::character_set::Unchanged;
+use crate::lanes::following::DECIDING;
 use crate::way::are_few;
 use cesu8_bytes::flavor::Flavor;
 use cesu8_bytes::looks::{is_short_ascii, is_short_unchanged_ascii};
@@ -92,24 +93,24 @@ impl Accepts for Lenient {
     fn keeps_all<F: Flavor>(bytes: &[u8], front: usize) -> bool {
         // UTF-8 behind a front that is the same there begins with a byte that changes.
         front == bytes.len()
-            || matches!(bytes[front], 0 | 0xF0..=0xF7) && is_utf8_behind(bytes, front)
+            || matches!(bytes[front], 0 | 0xF0..=0xF7) && is_utf8_behind::<F>(bytes, front)
     }
 
     ghost known = { lenient_texts };
 }
 
-/// Returns whether the bytes are UTF-8, as they are exactly if those from an offset on are.
+/// Returns whether the bytes are UTF-8, of which so many at the front are whole characters that are the
+/// same there.
 #[inline(always)]
-fn is_utf8_behind(bytes: &[u8], at: usize) -> bool
-    requires at { at ≤ length bytes.now }
-    requires front { IsUtf8 bytes.now ↔ IsUtf8 (drop at bytes.now) }
+fn is_utf8_behind<F: Flavor>(bytes: &[u8], front: usize) -> bool
+    requires { IsFront AllUnchanged F.flavor bytes.now front }
     ensures { IsTrue result ↔ IsUtf8 bytes.now }
 {
-    // Of a few bytes all are tested, so that no branch depends on the offset.
-    if are_few(bytes) {
+    // Of a few bytes all are tested, so that no branch depends on the front.
+    if are_few(bytes) || front < DECIDING {
         return is_utf8(bytes);
     }
-    is_utf8(&bytes[at..])
+    is_utf8_from(bytes, front)
 }
 
 /// The encoding alone. UTF-8 is one if no byte of it changes.

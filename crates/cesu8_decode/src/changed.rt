@@ -23,22 +23,10 @@ pub fn may_lead_changed(byte: u8) -> bool
 pub fn begins_changed<F: Flavor>(bytes: &[u8]) -> bool
     ensures { IsTrue result ↔ BeginsChanged F.flavor bytes.now }
 {
-    match bytes {
-        [
-            0xED,
-            0xA0..=0xAF,
-            0x80..=0xBF,
-            0xED,
-            0xB0..=0xBF,
-            0x80..=0xBF,
-            ..
-        ] => true,
-        [0xC0, 0x80, ..] => F::has_long_null(),
-        _ => false,
-    }
+    changes::<F>(prefix_of(bytes, &mut [0; PAIR_READ]))
 }
 
-/// Does so for eight bytes or more, in less time.
+/// Does so for eight bytes or more.
 #[inline(always)]
 pub fn changes<F: Flavor>(bytes: &[u8]) -> bool
     requires { PAIR_READ ≤ length bytes.now }

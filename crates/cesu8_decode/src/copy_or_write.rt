@@ -1,6 +1,5 @@
 //! Decodes to a caller's buffer: copies bytes that a call keeps, and writes the text of others.
 
-ghost use Rattle.std.specs.Prelude.{◌≡◌};
 ghost use Rattle.cesu8_decode.specs.PutReadings.{PutsText, ReadsAs};
 
 use crate::accepts::{Accepts, front_of_other};
@@ -40,20 +39,9 @@ fn decode_other_to_slice<F: Flavor, A: Accepts, S: Reading>(
     if front.len == bytes.len() {
         return copy_to_slice(bytes, buf).map_err(Unwritten::NoRoom);
     }
+    // The parts of what comes back were stored by themselves, and a copy of the whole would wait for them.
     match S::strictness() {
-        Strictness::Strict => by_parts(put_strictly::<F>(bytes, front, buf)),
-        Strictness::Lossy => by_parts(put_lossily::<F>(bytes, front, buf)),
-    }
-}
-
-/// Returns what it is given, copied part by part. A copy of the whole would wait until the parts, which
-/// were stored by themselves, are in memory.
-#[inline(always)]
-fn by_parts(put: Result<usize, Unwritten>) -> Result<usize, Unwritten>
-    ensures { result ≡ put }
-{
-    match put {
-        Ok(len) => Ok(len),
-        Err(unwritten) => Err(unwritten),
+        Strictness::Strict => Ok(put_strictly::<F>(bytes, front, buf)?),
+        Strictness::Lossy => Ok(put_lossily::<F>(bytes, front, buf)?),
     }
 }

@@ -6,9 +6,10 @@
 //! last boundary before, if a character begins that the byte cuts off.
 
 ghost use Rattle.std.specs.Prelude.{◌≡◌, ◌+◌, ◌-◌, ◌<◌, ◌≤◌, ◌↔◌, IsTrue, IsUtf8, true, false, length, slice_index, IfOk, IfErr};
+ghost use Rattle.cesu8_text.specs.Encoding.{Cesu8};
 ghost use Rattle.cesu8_text.specs.Fronts.{IsValidUpTo};
 ghost use Rattle.cesu8_text.specs.Reading.{IsStrictReading, HasNoStrictReading, reading};
-ghost use Rattle.cesu8_decode.specs.Following.{FirstFollow, FollowUpTo, Encoded as AllEncoded, after_fillers, crosses_at, is_high_surrogate};
+ghost use Rattle.cesu8_decode.specs.Following.{FirstFollow, FollowUpTo, Encoded as AllEncoded, Utf8 as AllUtf8, after_fillers, crosses_at, is_high_surrogate};
 ghost use Rattle.cesu8_decode.specs.Front.{IsFront, IsFrontOf};
 
 use crate::lanes::character_set::{CharacterSet, Encoded, Utf8};
@@ -86,6 +87,19 @@ pub fn is_utf8(bytes: &[u8]) -> bool
     front::<Cesu8Flavor, Utf8>(bytes).len == bytes.len()
 }
 
+/// Returns whether more bytes are UTF-8, of which those before an offset may follow each other. It is not
+/// inlined, as above.
+#[inline(never)]
+pub fn is_utf8_from(bytes: &[u8], start: usize) -> bool
+    requires first { FirstFollow AllUtf8 Cesu8 bytes.now start }
+    requires start { (DECIDING ≤ start) × (FEW_BYTES < length bytes.now) }
+    ensures { IsTrue result ↔ IsUtf8 bytes.now }
+{
+    let twos = following_twos::<Cesu8Flavor, Utf8>(bytes, start);
+    let stop = following_last::<Cesu8Flavor, Utf8>(bytes, twos);
+    last_boundary::<Cesu8Flavor, Utf8>(bytes, stop) == bytes.len()
+}
+
 /// Returns how many of more bytes may follow those before them, up to the first that may not. It is
 /// not inlined, since it is long.
 #[inline(never)]
@@ -137,7 +151,7 @@ fn following_twos<F: Flavor, S: CharacterSet>(bytes: &[u8], start: usize) -> usi
 #[inline(always)]
 fn following_last<F: Flavor, S: CharacterSet>(bytes: &[u8], start: usize) -> usize
     requires first { FirstFollow S.set F.flavor bytes.now start }
-    requires start { (BLOCK ≤ start) × (FEW_BYTES < length bytes.now) }
+    requires start { (DECIDING ≤ start) × (FEW_BYTES < length bytes.now) }
     ensures { FollowUpTo S.set F.flavor bytes.now result }
 {
     let mut at = start;

@@ -1,6 +1,6 @@
 -- What a call may say of a text that it writes into a caller's buffer.
 use Rattle.std.proofs.lemmas.Bool.Decides.{nat_tests}
-use Rattle.std.proofs.Common.{[], ◌≡◌, ℕ, ◌^◌, ◌<◌, ◌≤◌, ◌↔◌, List, refl, sym, ap, ◌∙◌, subst, arith, length, Result, Ok, Err, MatchResult, IsErrAnd}
+use Rattle.std.proofs.Common.{[], ◌≡◌, ℕ, ◌^◌, ◌<◌, ◌≤◌, ◌↔◌, List, refl, sym, ap, ◌∙◌, subst, arith, length, Result, Ok, Err, MatchResult, IsErr, IsErrAnd}
 use Rattle.std.proofs.lemmas.Bool.{false≢true}
 use Rattle.std.specs.Str.{chars}
 use Rattle.cesu8_text.specs.Text.{utf8}
@@ -141,3 +141,9 @@ length_lacks f Lossy bytes buf whole few small long =
 pub same_reading : (P Q : List ℕ → Type 0) → ((text : List ℕ) → Q text ↔ P text) → (which : Strictness) (r : Result ℕ Unwritten) (old new : List ℕ) →
     PutsText which P r old new → PutsText which Q r old new
 same_reading P Q same which r old new puts = grind (arith, nat_tests)
+
+-- So is the fault that `?` returns.
+pub same_fault : (P Q : List ℕ → Type 0) → ((text : List ℕ) → Q text ↔ P text) → (which : Strictness) (fault : Unwritten) (r : Result ℕ Unwritten) (old new : List ℕ) →
+    IsErr r × IsErrAnd r (λ other. other ≡ fault) → PutsText which P (Err fault) old new → PutsText which Q r old new
+same_fault P Q same which fault (Ok n) old new is puts = absurd is.1
+same_fault P Q same which fault (Err other) old new is puts = rw is.1 (same_reading P Q same which (Err fault) old new puts)

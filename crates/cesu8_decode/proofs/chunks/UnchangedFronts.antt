@@ -15,9 +15,10 @@ use Rattle.cesu8_text.proofs.encoding.NeedsEncoding.{encoding_same, needs_by_byt
 use Rattle.cesu8_text.proofs.encoding.Unique.{no_reading}
 use Rattle.cesu8_text.proofs.reading.Borrowing.{unchanged_reading}
 use Rattle.cesu8_bytes.specs.declared.strictness.Strictness.{Strictness}
-use Rattle.cesu8_decode.specs.Following.{Encoded, Unchanged, Utf8}
+use Rattle.cesu8_decode.specs.Following.{Encoded, Unchanged, Utf8, FirstFollow}
 use Rattle.cesu8_decode.specs.Front.{AreWhole, IsFront}
 use Rattle.cesu8_decode.proofs.by_offset.IllFormed.{IsChunk, chunk_of_text}
+use Rattle.cesu8_decode.proofs.chunks.EncodedFollow.{whole_follow}
 use Rattle.cesu8_decode.proofs.chunks.WholeBytes.{none_outside}
 use Rattle.cesu8_decode.proofs.chunks.Fronts.{all_front, front_of_all, bytes_are, none_behind}
 
@@ -77,6 +78,13 @@ module _ (bytes : List ℕ) (n : ℕ) (front : IsFront Utf8 Cesu8 bytes n) where
 module _ (f : Flavor) (bytes : List ℕ) (n : ℕ) (front : IsFront Unchanged f bytes n) where
   pub front_unchanged : IsUnchangedUtf8 f (take n bytes)
   front_unchanged = whole_unchanged f (take n bytes) front.whole
+
+  -- whose bytes may follow each other there,
+  pub followed_in_utf8 : FirstFollow Utf8 Cesu8 bytes n
+  followed_in_utf8 = record {
+    within = front.within;
+    follow = (whole_follow Utf8 Cesu8 bytes n front.within ((utf8_whole (take n bytes)).1 front_unchanged.0)).0;
+  }
 
   -- and is of all bytes exactly if they are.
   pub all_unchanged : (n ≡ length bytes) ↔ IsUnchangedUtf8 f bytes

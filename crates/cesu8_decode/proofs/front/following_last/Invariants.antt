@@ -8,5 +8,5 @@ decreases-loop-at g l = length l.bytes - l.at
 abbrev pub invariant-loop-at : goal.invariant-loop-at
 invariant-loop-at g l = record {
   first : FirstFollow g.S.CharacterSet.set g.F.Flavor.flavor l.bytes l.at;
-  start : 32 ≤ l.at;
+  start : 4 ≤ l.at;
 }

@@ -5,7 +5,7 @@ use Rattle.cesu8_text.specs.Encoding.{Flavor, Cesu8, Mutf8}
 use Rattle.std.proofs.lemmas.Bool.{both_ways}
 use Rattle.cesu8_decode.specs.Following.{Unchanged}
 use Rattle.cesu8_decode.proofs.chunks.Fronts.{more_behind}
-use Rattle.cesu8_decode.proofs.chunks.UnchangedFronts.{all_unchanged, utf8_by_rest, changed_behind}
+use Rattle.cesu8_decode.proofs.chunks.UnchangedFronts.{all_unchanged, changed_behind}
 use Rattle.cesu8_decode.proofs.accepts.LenientAccepts.keeps_all.Goals as goal
 use Rattle.cesu8_decode.proofs.accepts.LenientAccepts.keeps_all.Goals.{in_default, in_default-2, in-0, in-0-2}
 
@@ -13,9 +13,6 @@ pub returns-then-front-bytes : goal.returns-then-front-bytes
 returns-then-front-bytes g c =
     let all = c.if-front-bytes.true in
     ((λ _. ((all_unchanged g.F.Flavor.flavor c.args.bytes.now c.args.front c.requires).0 all).0), (λ _. eq-eqb _ _ all))
-
-pub is_utf8_behind-requires-clause-front : goal.is_utf8_behind-requires-clause-front
-is_utf8_behind-requires-clause-front g c = utf8_by_rest g.F.Flavor.flavor c.args.bytes.now c.args.front c.requires
 
 -- A byte that changes is 0, or leads four.
 changed_is : (f : Flavor) (b : ℕ) → IsChangedByte f b → (b ≡ 0) ⊎ ((0xF0 ≤ b) × (b ≤ 0xF7))
