@@ -1,10 +1,11 @@
 -- Which bytes may follow which in whole encoded characters.
-use Rattle.std.specs.Prelude.{◌≡◌, ℕ, ◌+◌, map, drop, ◌<◌, ◌≤◌, ◌&&◌, ◌||◌, ◌==◌, nat_le, nat_lt, if◌then◌else◌, not, Bool, true, false, List, ◌∷◌, length, slice_index, bit_or}
+use Rattle.std.specs.Prelude.{◌≡◌, ℕ, ◌+◌, ◌%◌, map, drop, ◌<◌, ◌≤◌, ◌&&◌, ◌||◌, ◌==◌, nat_le, nat_lt, if◌then◌else◌, not, Bool, true, false, List, ◌∷◌, length, slice_index, bit_or}
 use Rattle.std.specs.List.{range_with_len}
 use Rattle.std.specs.Simd.Lanes.{chunk, mask_l}
 use Rattle.cesu8_text.specs.Class.{is_null}
 use Rattle.cesu8_text.specs.Encoding.{Flavor}
 use Rattle.cesu8_bytes.specs.Pairs.{null_at}
+use Rattle.cesu8_bytes.specs.declared.TheConstants.{BLOCK}
 use Rattle.cesu8_decode.specs.DecodedOffsets.{continues}
 use Rattle.cesu8_decode.specs.declared.lanes.following.Block.{Block}
 use Rattle.cesu8_decode.specs.declared.lanes.character_set.Rule.{Rule}
@@ -102,10 +103,11 @@ after_fillers bytes = 0x61 ∷ 0x61 ∷ 0x61 ∷ 0x61 ∷ bytes
 pub record AreStops (s : CharacterSet) (f : Flavor) (window : List ℕ) (i n set : ℕ) : Type 0 where
   pub bits : set ≡ mask_l (map (λ k. not (follows_at s f window k)) (range_with_len i n))
 
--- A set has the bytes that may not follow, and perhaps zeros behind them.
+-- A set has the bytes that may not follow, and zeros behind them up to the end of a block.
 pub record HasStops (s : CharacterSet) (f : Flavor) (bytes : List ℕ) (set : ℕ) : Type 0 where
   pub n : ℕ
   pub within : (length bytes ≤ n) × (n ≤ 64)
+  pub behind : ¬ (length bytes % BLOCK ≡ 0) → length bytes < n
   pub stops : AreStops s f (after_fillers bytes) 0 n set
 
 -- Each of n bytes of a window, from byte i + 4 on, may follow the four before it.

@@ -57,6 +57,13 @@ pub fn front<F: Flavor, S: CharacterSet>(bytes: &[u8]) -> FoundFront
 {
     let (at, stops) = if are_few(bytes) {
         let stops = stops_of_few::<F, S>(bytes);
+        // The zeros behind them may follow too, so no character is cut off. In MUTF-8 00 never may.
+        if stops == 0 && bytes.len() % BLOCK != 0 && !S::rule().has_changed {
+            return FoundFront {
+                len: bytes.len(),
+                stops,
+            };
+        }
         (next_stop::<F, S>(bytes, stops, 0), stops)
     } else {
         (following_many::<F, S>(bytes), 0)

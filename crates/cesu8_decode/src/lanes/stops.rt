@@ -11,8 +11,8 @@ use cesu8_bytes::flavor::Flavor;
 use cesu8_bytes::lanes::padded::padded_half;
 use std::simd::prelude::*;
 
-/// Returns the set of those of a few bytes that may not follow those before them. It may have zeros
-/// behind the bytes too.
+/// Returns the set of those of a few bytes that may not follow those before them. It has the zeros too
+/// that fill the last block.
 #[inline(always)]
 pub fn stops_of_few<F: Flavor, S: CharacterSet>(bytes: &[u8]) -> u64
     requires { length bytes.now ≤ FEW_BYTES }

@@ -31,4 +31,4 @@ pub overflow_add-result : goal.overflow_add-result
 overflow_add-result g c = omega (arith, (joined g c).1)
 
 pub returns : goal.returns
-returns g c = record { n = 64; within = (omega (arith, c.requires), omega arith); stops = (joined g c).0 }
+returns g c = record { n = 64; within = (omega (arith, c.requires), omega arith); behind = λ part. omega (arith, part, c.requires); stops = (joined g c).0 }
