@@ -26,11 +26,11 @@ pub trait Accepts {
 
     ghost reads_lossily: { AnyFlavor → List ℕ → List ℕ → Type 0 };
 
-    /// Returns whether the bytes are few, and all ASCII that stays.
+    /// Returns whether the bytes are short, and all ASCII that stays.
     fn is_short_kept_ascii<F: Flavor>(bytes: &[u8]) -> bool
         ensures { IsTrue result → keeps F.flavor bytes.now };
 
-    /// Returns whether all bytes are kept, of which so many at the front are the same in UTF-8.
+    /// Returns whether all bytes are kept. So many at the front, and no more, stay in UTF-8.
     fn keeps_all<F: Flavor>(bytes: &[u8], front: usize) -> bool
         requires { IsFront AllUnchanged F.flavor bytes.now front }
         ensures { IsTrue result ↔ keeps F.flavor bytes.now };
@@ -39,8 +39,7 @@ pub trait Accepts {
         → KnowsTexts f bytes (keeps f bytes) (reads f bytes) (reads_lossily f bytes) };
 }
 
-/// Returns the bytes at the front that are whole characters that are the same in UTF-8, unless a call
-/// that takes `A` keeps all bytes.
+/// Returns how many bytes at the front stay in UTF-8, or `None` where `A` keeps all bytes.
 #[inline(always)]
 pub fn front_unless_kept<F: Flavor, A: Accepts>(bytes: &[u8]) -> Option<FoundFront>
     ensures kept { IfNone result (A.keeps F.flavor bytes.now) }
@@ -91,7 +90,7 @@ impl Accepts for Lenient {
 
     #[inline(always)]
     fn keeps_all<F: Flavor>(bytes: &[u8], front: usize) -> bool {
-        // UTF-8 behind a front that is the same there begins with a byte that changes.
+        // Where all is UTF-8, a character that changes begins there: of four bytes, or 00.
         front == bytes.len()
             || matches!(bytes[front], 0 | 0xF0..=0xF7) && is_utf8_behind::<F>(bytes, front)
     }
@@ -99,14 +98,15 @@ impl Accepts for Lenient {
     ghost known = { lenient_texts };
 }
 
-/// Returns whether the bytes are UTF-8, of which so many at the front are whole characters that are the
-/// same there.
+/// Returns whether the bytes are UTF-8, where so many at the front are whole characters that stay
+/// in it.
 #[inline(always)]
 fn is_utf8_behind<F: Flavor>(bytes: &[u8], front: usize) -> bool
     requires { IsFront AllUnchanged F.flavor bytes.now front }
     ensures { IsTrue result ↔ IsUtf8 bytes.now }
 {
-    // Of a few bytes all are tested, so that no branch depends on the front.
+    // A few bytes are tested whole, so that no branch depends on the front. So are more, where less
+    // stands before the others than decides about the first of them.
     if are_few(bytes) || front < DECIDING {
         return is_utf8(bytes);
     }

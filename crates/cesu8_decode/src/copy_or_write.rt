@@ -25,8 +25,8 @@ pub fn decode_to_slice<F: Flavor, A: Accepts, S: Reading>(
     decode_other_to_slice::<F, A, S>(bytes, buf)
 }
 
-/// Does so for bytes that are no short ASCII. It is not inlined, so that these have few registers to
-/// save.
+/// Does so for bytes that are not short ASCII. It is not inlined, so that short ASCII has few
+/// registers to save.
 #[inline(never)]
 fn decode_other_to_slice<F: Flavor, A: Accepts, S: Reading>(
     bytes: &[u8],
@@ -39,7 +39,7 @@ fn decode_other_to_slice<F: Flavor, A: Accepts, S: Reading>(
     if front.len == bytes.len() {
         return copy_to_slice(bytes, buf).map_err(Unwritten::NoRoom);
     }
-    // The parts of what comes back were stored by themselves, and a copy of the whole would wait for them.
+    // `Ok` and `?` copy a result part by part: a copy of the whole would wait for the stores.
     match S::strictness() {
         Strictness::Strict => Ok(put_strictly::<F>(bytes, front, buf)?),
         Strictness::Lossy => Ok(put_lossily::<F>(bytes, front, buf)?),

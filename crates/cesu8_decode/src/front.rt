@@ -1,9 +1,9 @@
-//! How many bytes at the front are whole characters: all that are encoded, those of them that are the
-//! same in UTF-8, or all of UTF-8. All ways of decoding begin with this test, and go on where it
-//! stopped.
+//! How many bytes at the front are whole characters: all that are encoded, those of them that are
+//! the same in UTF-8, or all of UTF-8. Decoding begins with this test, unless it is short ASCII.
+//! Strict reading of more than 64 bytes goes on where it stopped; other reading begins again.
 //!
 //! Vectors find the first byte that may not follow those before it. The front ends there, or at the
-//! last boundary before, if a character begins that the byte cuts off.
+//! last boundary before, if a character is cut off there.
 
 ghost use Rattle.std.specs.Prelude.{◌≡◌, ◌+◌, ◌-◌, ◌<◌, ◌≤◌, ◌↔◌, IsTrue, IsUtf8, true, false, length, slice_index, IfOk, IfErr};
 ghost use Rattle.cesu8_text.specs.Encoding.{Cesu8};
@@ -22,8 +22,8 @@ use cesu8_bytes::lanes::class::{Either, NonAscii};
 use cesu8_bytes::lanes::runs::run_of_groups;
 use cesu8_bytes::looks::is_short_unchanged_ascii;
 
-/// How many bytes at the front are whole characters of a set, and of a few bytes the set of those that
-/// may not follow.
+/// How many bytes at the front are whole characters of a set. If all bytes are at most 64, `stops`
+/// has a bit for each that may not follow those before it; otherwise it means nothing.
 #[derive(Clone, Copy)]
 pub struct FoundFront {
     pub len: usize,
@@ -50,14 +50,15 @@ pub fn valid_up_to_other<F: Flavor>(bytes: &[u8]) -> usize
     front::<F, Encoded>(bytes).len
 }
 
-/// Returns the bytes at the front that are whole characters of a set.
+/// Returns how many bytes at the front are whole characters of a set, with the stops of a few.
 #[inline(always)]
 pub fn front<F: Flavor, S: CharacterSet>(bytes: &[u8]) -> FoundFront
     ensures { IsFrontOf S.set F.flavor bytes.now result }
 {
     let (at, stops) = if are_few(bytes) {
         let stops = stops_of_few::<F, S>(bytes);
-        // The zeros behind them may follow too, so no character is cut off. In MUTF-8 00 never may.
+        // A zero behind them may follow too, so no character is cut off; but of a pair one may
+        // follow the first half. In MUTF-8 no zero may follow anything, so this is for CESU-8.
         if stops == 0 && bytes.len() % BLOCK != 0 && !S::rule().has_changed {
             return FoundFront {
                 len: bytes.len(),
@@ -74,8 +75,7 @@ pub fn front<F: Flavor, S: CharacterSet>(bytes: &[u8]) -> FoundFront
     }
 }
 
-/// Returns whether some byte is in no encoded character. It stops soon after the first ill-formed
-/// byte.
+/// Returns whether some byte is in no encoded character. It stops soon after the first such byte.
 #[inline(always)]
 pub fn is_ill_formed<F: Flavor>(bytes: &[u8]) -> bool
     ensures ill_formed { IsTrue result → HasNoStrictReading F.flavor bytes.now }
@@ -85,7 +85,7 @@ pub fn is_ill_formed<F: Flavor>(bytes: &[u8]) -> bool
     valid_up_to_other::<F>(bytes) < bytes.len()
 }
 
-/// Returns whether the bytes are UTF-8. It is not inlined, so that the way of other bytes stays short.
+/// Returns whether the bytes are UTF-8. It is not inlined, so that what calls it stays short.
 #[inline(never)]
 pub fn is_utf8(bytes: &[u8]) -> bool
     ensures { IsTrue result ↔ IsUtf8 bytes.now }
@@ -94,8 +94,8 @@ pub fn is_utf8(bytes: &[u8]) -> bool
     front::<Cesu8Flavor, Utf8>(bytes).len == bytes.len()
 }
 
-/// Returns whether more bytes are UTF-8, of which those before an offset may follow each other. It is not
-/// inlined, as above.
+/// Returns whether more than 64 bytes are UTF-8, of which those before an offset may follow each
+/// other. It is not inlined, as above.
 #[inline(never)]
 pub fn is_utf8_from(bytes: &[u8], start: usize) -> bool
     requires first { FirstFollow AllUtf8 Cesu8 bytes.now start }
@@ -107,8 +107,8 @@ pub fn is_utf8_from(bytes: &[u8], start: usize) -> bool
     last_boundary::<Cesu8Flavor, Utf8>(bytes, stop) == bytes.len()
 }
 
-/// Returns how many of more bytes may follow those before them, up to the first that may not. It is
-/// not inlined, since it is long.
+/// Returns how many of more than 64 bytes may follow those before them, up to the first that may
+/// not. It is not inlined, since it is long.
 #[inline(never)]
 fn following_many<F: Flavor, S: CharacterSet>(bytes: &[u8]) -> usize
     requires { FEW_BYTES < length bytes.now }
@@ -120,8 +120,8 @@ fn following_many<F: Flavor, S: CharacterSet>(bytes: &[u8]) -> usize
     }
 }
 
-/// Returns how many bytes at the front are ASCII that stays, in whole groups, or else one block, if its
-/// bytes may follow those before them. If not, it fails with how many may.
+/// Returns how many bytes at the front are ASCII that stays, in whole groups, or else one block, if
+/// its bytes may follow those before them. If not, it fails with how many may.
 #[inline(always)]
 fn following_first<F: Flavor, S: CharacterSet>(bytes: &[u8]) -> Result<usize, usize>
     requires { BLOCK < length bytes.now }
@@ -138,7 +138,8 @@ fn following_first<F: Flavor, S: CharacterSet>(bytes: &[u8]) -> Result<usize, us
     if len == BLOCK { Ok(BLOCK) } else { Err(len) }
 }
 
-/// Returns how many bytes may follow those before them, by two blocks at once from `start` on.
+/// Returns an offset before which all bytes may follow those before them. It goes on from `start`
+/// by two blocks at once, as long as all bytes of both may follow.
 #[inline(always)]
 fn following_twos<F: Flavor, S: CharacterSet>(bytes: &[u8], start: usize) -> usize
     requires first { FirstFollow S.set F.flavor bytes.now start }
@@ -153,8 +154,8 @@ fn following_twos<F: Flavor, S: CharacterSet>(bytes: &[u8], start: usize) -> usi
     at
 }
 
-/// Returns how many bytes may follow those before them, up to the first that may not, by blocks from
-/// `start` on, of which the last begins in the one before.
+/// Returns how many bytes may follow those before them, up to the first that may not, by blocks
+/// from `start` on, of which the last begins in the one before.
 #[inline(always)]
 fn following_last<F: Flavor, S: CharacterSet>(bytes: &[u8], start: usize) -> usize
     requires first { FirstFollow S.set F.flavor bytes.now start }
@@ -167,7 +168,7 @@ fn following_last<F: Flavor, S: CharacterSet>(bytes: &[u8], start: usize) -> usi
         if len != BLOCK {
             return at + len;
         }
-        // Where the next block begins does not wait for the length.
+        // That is `at + len`, but the next block need not wait for `len`.
         at += BLOCK;
     }
     if at == bytes.len() {
@@ -177,9 +178,9 @@ fn following_last<F: Flavor, S: CharacterSet>(bytes: &[u8], start: usize) -> usi
     before + DECIDING + following_len::<F, S>(block_at(bytes, before))
 }
 
-/// Returns the last boundary up to `at` that no character crosses, if the bytes before it may follow
-/// each other, and the byte there may not. Where no character changes, one test finds it without a
-/// branch, which would be guessed wrong.
+/// Returns the last boundary up to `at` that no character crosses. The bytes before may follow each
+/// other, and the one at `at`, if there is one, may not. Where no character changes, a lead byte of
+/// the last three is cut off. These are read first, so that fewer branches may be guessed wrong.
 #[inline(always)]
 fn last_boundary<F: Flavor, S: CharacterSet>(bytes: &[u8], at: usize) -> usize
     requires { FollowUpTo S.set F.flavor bytes.now at }
@@ -202,7 +203,7 @@ fn last_boundary<F: Flavor, S: CharacterSet>(bytes: &[u8], at: usize) -> usize
     }
 }
 
-/// Does so by one boundary after another.
+/// Does so by one boundary after another, from `at` back.
 #[inline(always)]
 fn last_uncrossed<F: Flavor, S: CharacterSet>(bytes: &[u8], at: usize) -> usize
     requires { FollowUpTo S.set F.flavor bytes.now at }
@@ -227,6 +228,7 @@ pub fn may_be_crossed<S: CharacterSet>(bytes: &[u8], at: usize) -> bool
         return true;
     }
     let third_last = byte_before(bytes, at, 3);
+    // No set has characters of four bytes and those that change.
     if S::rule().has_four {
         return third_last >= 0xF0;
     }

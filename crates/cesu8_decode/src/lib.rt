@@ -66,9 +66,9 @@ pub fn decode_strict<F: Flavor>(
     }
 }
 
-/// Returns the lossy reading of the bytes, behind a front as above, after one request for its length. A
-/// length that does not fit counts as refused. The text of the first 4,096 bytes is decoded before that,
-/// so that these need no pass for their length.
+/// Returns the lossy reading of the bytes, behind a front as above, after one request for its
+/// length. A length that does not fit counts as refused. The text of the first 4,096 bytes is
+/// decoded before that, so that these need no pass for their length.
 #[inline(never)]
 pub fn decode_lossy<F: Flavor>(
     alloc: Global,

@@ -55,7 +55,7 @@ pub fn write_block<F: Flavor>(
     write_lanes(&block, count, out, end)
 }
 
-/// Returns whether the block at an offset stays as it is. The byte after it decides nothing then.
+/// Returns true only where the block at an offset stays as it is, whatever byte comes after it.
 #[inline(always)]
 pub fn is_unchanged<F: Flavor>(window: &[u8], at: usize) -> bool
     requires { at + BLOCK_READ ≤ length window.now }

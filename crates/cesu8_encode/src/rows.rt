@@ -4,9 +4,9 @@ ghost use Rattle.cesu8_encode.specs.EncodedOffsets.{AreShuffles};
 
 use cesu8_bytes::Rows;
 
-/// A row for each set of eight bytes. Lane `i` has the last byte that is written for byte `i`, and lane
-/// `8 + i` the one before it, which row `doubled` keeps if bit `i` of `doubled` is set. The zeros behind
-/// are what the contract has; what they pack stands behind what is written.
+/// A row for each set of eight bytes. Lane `i` has the last byte that is written for byte `i`, and
+/// lane `8 + i` the one before it, which row `doubled` keeps if bit `i` of `doubled` is set. The
+/// zeros behind are what the contract has; what they pack stands behind what is written.
 const ROWS: Rows = [
     [0, 1, 2, 3, 4, 5, 6, 7, 0, 0, 0, 0, 0, 0, 0, 0],
     [8, 0, 1, 2, 3, 4, 5, 6, 7, 0, 0, 0, 0, 0, 0, 0],

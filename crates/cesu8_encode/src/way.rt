@@ -8,9 +8,9 @@
 //! clear. Others are counted, and written where they stay. Where the length is known, as in
 //! `encode_into`, all are written so.
 //!
-//! To a slice, a text of more than a block is counted, and written in place. A block or less goes to
-//! the stack, from where it is copied: the rows of a block are stored whole, and what is behind the
-//! encoding in the slice has to stay, since other threads may read it.
+//! To a slice, a text of more than a block is counted, and written in place. A block or less goes
+//! to the stack, from where it is copied: the rows of a block are stored whole, and what is behind
+//! the encoding in the slice has to stay, since other threads may read it.
 //!
 //! These ways are tests and no enum: `encode` asked for the value of one, which cost 13
 //! instructions.
@@ -32,8 +32,8 @@
 //! blocks written where they could be copied.
 //!
 //! `NullChange` makes texts with a null in 2 to 50 bytes faster, `AnyChange` those of 512 bytes and
-//! more with a pair in 20 to 50 bytes or of all widths, and `CopyUnchanged` those with a pair in 300
-//! bytes or more. A way of its own for nulls that are few gained nothing.
+//! more with a pair in 20 to 50 bytes or of all widths, and `CopyUnchanged` those with a pair in
+//! 300 bytes or more. A way of its own for nulls that are few gained nothing.
 //!
 //! Other lengths choose no way: `append` and the vectors of `cesu8_bytes` have widths, and `looks`
 //! there sees whether a byte changes.

@@ -9,7 +9,7 @@ use std::marker::PhantomData;
 use std::simd::Mask;
 use std::simd::prelude::*;
 
-/// The most bytes that a vector has.
+/// The most bytes that a vector has, and not more than the `u64` of `bits` has bits.
 pub const LANES: usize = 64;
 
 /// A class of bytes.

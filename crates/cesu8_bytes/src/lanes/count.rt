@@ -127,7 +127,7 @@ fn pair_weight<C: CountsOne + InVectors<N>, const N: usize>(value: &[u8]) -> usi
     first + end_weight::<C, N>(value, value.len() - N)
 }
 
-/// Counts in the last `len` bytes, by a vector of the last `N`.
+/// Counts in the last `len` bytes, by a vector of the last `N`. Less than 64 bits are shifted out.
 #[inline(always)]
 fn end_weight<C: CountsOne + InVectors<N>, const N: usize>(value: &[u8], len: usize) -> usize
     requires lanes { N ≤ LANES }

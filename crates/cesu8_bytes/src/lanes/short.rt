@@ -22,8 +22,8 @@ pub fn are_short(bytes: &[u8]) -> bool
     bytes.len() <= LANES
 }
 
-/// Calls a function at the greatest width of which two vectors cover at most 64 bytes, or returns
-/// what is right of none: `by_two_vectors!(value, function[Class](value), of_none)`.
+/// Calls a function for at most 64 bytes, at the greatest width that is no longer than they are, or
+/// returns what is right of none: `by_two_vectors!(value, function[Class](value), of_none)`.
 macro_rules! by_two_vectors {
     ($value:expr, $function:ident[$($class:ty),*]($($argument:expr),*), $of_none:expr) => {
         if $value.len() >= 32 {

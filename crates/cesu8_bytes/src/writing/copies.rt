@@ -36,7 +36,7 @@ pub fn append(bytes: &[u8], out: &mut Vec<u8>)
     *out = taken;
 }
 
-/// Appends at most 64 bytes.
+/// Appends at most 64 bytes: for `append`, and for callers that know that there are no more.
 #[inline(always)]
 pub fn append_few(bytes: &[u8], out: &mut Vec<u8>)
     requires few { length bytes.now ≤ LANES }

@@ -1,6 +1,6 @@
 //! The strict reading that is appended to a vector: that of a few bytes, and of more. Where the
-//! characters that change stand far apart, what is between them is found by the test of the front, and
-//! copied.
+//! characters that change stand far apart, what is between them is found by the test of the front,
+//! and copied.
 
 ghost use Rattle.std.specs.Prelude.{◌≡◌, ◌+◌, ◌<◌, ◌≤◌, length, vec_len, vec_capacity};
 ghost use Rattle.cesu8_bytes.specs.TextChunks.{IsReadSoFar};
@@ -29,8 +29,8 @@ const FRONT: usize = 16;
 const LONG_FRONT: usize = 64;
 
 /// Appends the strict reading of more than a few bytes, of which so many at the front are whole
-/// characters that are the same in UTF-8: from one character that changes to the next, as long as they
-/// stand far apart. It is not inlined, so that few bytes have few registers to save.
+/// characters that are the same in UTF-8: from one character that changes to the next, as long as
+/// they stand far apart. It is not inlined, so that few bytes have few registers to save.
 #[inline(never)]
 pub fn append_many<F: Flavor>(bytes: &[u8], len: usize, before: Vec<u8>) -> Option<Vec<u8>>
     requires front { IsFront AllUnchanged F.flavor bytes.now len }

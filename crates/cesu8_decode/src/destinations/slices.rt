@@ -1,7 +1,7 @@
 //! Decodes to a caller's buffer, with no request.
 //!
-//! What an array on the stack has room for is decoded to it, and copied. Of more bytes, first passes
-//! find whether they are ill-formed and, if needed, how long their text is.
+//! What an array on the stack has room for is decoded to it, and copied. Of more bytes, first
+//! passes find whether they are ill-formed and, if needed, how long their text is.
 
 ghost use Rattle.std.specs.Prelude.{◌+◌, ◌≤◌, ◌<◌, length};
 ghost use Rattle.cesu8_text.specs.Reading.{reading};
@@ -96,8 +96,8 @@ fn put_strictly_whole<F: Flavor>(bytes: &[u8], buf: &mut [u8]) -> Result<usize, 
     }
 }
 
-/// Writes the lossy reading of the bytes, read block by block. To clear a longer array than is needed
-/// takes time.
+/// Writes the lossy reading of the bytes, read block by block. To clear a longer array than is
+/// needed takes time.
 #[inline(always)]
 fn put_by_blocks<F: Flavor>(bytes: &[u8], buf: &mut [u8]) -> Result<usize, Unwritten>
     ensures { PutsReading F.flavor Lossy bytes.now result buf.old buf.new }
@@ -112,8 +112,8 @@ fn put_by_blocks<F: Flavor>(bytes: &[u8], buf: &mut [u8]) -> Result<usize, Unwri
     }
 }
 
-/// Writes the text of a few bytes, by the set of those that may not follow, to an array first. Lossy
-/// reading takes the time of the strict one where none is ill-formed.
+/// Writes the text of a few bytes, by the set of those that may not follow, to an array first.
+/// Lossy reading takes the time of the strict one where none is ill-formed.
 #[inline(always)]
 fn put_few<F: Flavor, S: Reading>(
     bytes: &[u8],
@@ -133,8 +133,8 @@ fn put_few<F: Flavor, S: Reading>(
     }
 }
 
-/// Writes the reading of bytes to an array first, which has room for it. It is not inlined, so that the
-/// array is made only when it is called.
+/// Writes the reading of bytes to an array first, which has room for it. It is not inlined, so that
+/// the array is made only when it is called.
 #[inline(never)]
 fn put_by_array<F: Flavor, S: Reading, const WRITTEN: usize>(
     bytes: &[u8],

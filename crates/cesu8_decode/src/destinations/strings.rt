@@ -1,8 +1,8 @@
 //! Decodes to a vector, whose bytes are then known to be UTF-8.
 //!
 //! Strict reading has requested as many bytes as it was given, and appends to the vector. Lossy
-//! reading requests exactly what the text has. So what an array on the stack has room for is decoded
-//! before that, and only of more bytes the length is found.
+//! reading requests exactly what the text has. So what an array on the stack has room for is
+//! decoded before that, and only of more bytes the length is found.
 
 ghost use Rattle.std.specs.Prelude.{◌≡◌, ◌<◌, ◌≤◌, ◌++◌, [], length, vec_capacity};
 ghost use Rattle.cesu8_text.specs.Encoding.{Flavor as AnyFlavor};
@@ -45,8 +45,8 @@ pub fn write_strictly<F: Flavor>(bytes: &[u8], front: FoundFront, empty: Vec<u8>
     write_many::<F>(bytes, front.len, empty)
 }
 
-/// Does so for more than a few bytes. The room for what is returned is cleared at the start of the
-/// function that makes the call, so this is one of its own, and few bytes clear nothing.
+/// Does so for more than a few bytes, of which the first `front` stay. The room for the result is
+/// cleared where the calling function starts, so this is its own, and few bytes clear nothing.
 #[inline(always)]
 fn write_many<F: Flavor>(bytes: &[u8], front: usize, empty: Vec<u8>) -> Option<Vec<u8>>
     requires front { IsFront Unchanged F.flavor bytes.now front × (front < length bytes.now) }
@@ -101,8 +101,8 @@ fn build_by_array<F: Flavor, const WRITTEN: usize>(
     copy(alloc, &written[..end])
 }
 
-/// Returns the lossy reading of more bytes. A length that does not fit counts as refused. The text of the
-/// first ones is decoded before the length of the others' is found.
+/// Returns the lossy reading of more bytes. A length that does not fit counts as refused. The text
+/// of the first ones is decoded before the length of the others' is found.
 #[inline(never)]
 fn build_chunks<F: Flavor>(alloc: Global, bytes: &[u8]) -> Result<Vec<u8>, AllocError>
     requires { LARGEST_ARRAY < length bytes.now }

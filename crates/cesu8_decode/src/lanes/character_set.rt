@@ -8,10 +8,10 @@ ghost use Rattle.cesu8_decode.specs.Following.{CharacterSet as AnySet, Encoded a
 /// half of the second.
 ///
 /// Bits 80 and 20 (hexadecimal) are those of `wanted_by` in `following`. Each other is of a second
-/// byte that no character has there: 01 begins one behind a lead byte, and 02 is a continuation byte
-/// behind ASCII, 04 behind E0 in an overlong form, 08 behind C1, 10 behind C0 but where C0 80 is 00,
-/// and 40 any byte behind F0 or more. In UTF-8 it is 08 behind C0, and behind F0 or more it is of
-/// what no character of four bytes has: 40 below 90, and 10 from there on.
+/// byte that no character has there: 01 begins one behind a lead byte, and 02 is a continuation
+/// byte behind ASCII, 04 behind E0 in an overlong form, 08 behind C1, 10 behind C0 but where C0 80
+/// is 00, and 40 any byte behind F0 or more. In UTF-8 it is 08 behind C0, and behind F0 or more it
+/// is of what no character of four bytes has: 40 below 90, and 10 from there on.
 #[derive(Clone, Copy)]
 pub struct Rule {
     /// Surrogate pairs and C0 80 are passed over too.

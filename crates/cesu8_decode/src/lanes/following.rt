@@ -1,9 +1,9 @@
 //! Which bytes may follow which in whole characters, by vectors.
 //!
-//! What two bytes show is compared with what the three before them want: the third or fourth byte of
-//! a character, and the second half of a surrogate pair. Where both are the same for each byte, all
-//! are in characters, but for those of the last one, which may be cut off. What is in no character of
-//! a set shows what nothing wants.
+//! What two bytes show is compared with what the three before them want: the third or fourth byte
+//! of a character, and the second half of a surrogate pair. Where both are the same for each byte,
+//! all are in characters, but for those of the last one, which may be cut off. What is in no
+//! character of a set shows what nothing wants.
 
 ghost use Rattle.std.specs.Prelude.{◌≡◌, ◌⊎◌, ℕ, List, ◌+◌, ◌*◌, ◌-◌, ◌<◌, ◌≤◌, ◌++◌, ◌==◌, ◌&&◌, IsTrue, false, length, take, map, drop, nat_le, if◌then◌else◌, not};
 ghost use Rattle.std.specs.List.{range_with_len};
@@ -153,8 +153,8 @@ fn shown_by<F: Flavor, S: CharacterSet>(first: u8x32, second: u8x32) -> u8x32
     of_two
 }
 
-/// Returns the bits that bytes of MUTF-8 keep of what they show. Behind C0 alone bit 10 (hexadecimal)
-/// is shown, so 80 clears it where C0 80 is a character of the set.
+/// Returns the bits that bytes of MUTF-8 keep of what they show. Behind C0 alone bit 10
+/// (hexadecimal) is shown, so 80 clears it where C0 80 is a character of the set.
 #[inline(always)]
 fn kept_of_null<S: CharacterSet>(bytes: u8x32) -> u8x32
     ensures { result ≡ map (λ b. if has_changed S.set && b == 0x80 then 0xEF else 0xFF) bytes }

@@ -186,8 +186,8 @@ fn changed_nulls<F: Flavor>(before: u8x32, bytes: u8x32) -> u8x32
     bytes
 }
 
-/// Returns the lanes of `some` where those of kinds have the bit of `KIND_OF_PAIR`, which is two bits
-/// below the highest, and otherwise those of `other`.
+/// Returns the lanes of `some` where those of kinds have the bit of `KIND_OF_PAIR`, which is two
+/// bits below the highest, and otherwise those of `other`.
 #[inline(always)]
 fn chosen(kinds: u8x32, some: u8x32, other: u8x32) -> u8x32
     ensures { result ≡ sel_l (map (λ kind. nat_le 0x80 (kind * 2 ^ 2 % 2 ^ 8)) kinds) some other }

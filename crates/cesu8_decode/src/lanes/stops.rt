@@ -11,7 +11,7 @@ use cesu8_bytes::flavor::Flavor;
 use cesu8_bytes::lanes::padded::padded_half;
 use std::simd::prelude::*;
 
-/// Returns the set of those of a few bytes that may not follow those before them. It has the zeros too
+/// Returns the set of those of a few bytes that may not follow those before them, and of the zeros
 /// that fill the last block.
 #[inline(always)]
 pub fn stops_of_few<F: Flavor, S: CharacterSet>(bytes: &[u8]) -> u64
@@ -36,8 +36,8 @@ fn stops_of_two<F: Flavor, S: CharacterSet>(bytes: &[u8]) -> u64
     stops::<F, S>(block_behind(u8x32::splat(FILLER), first)) + (behind << BLOCK)
 }
 
-/// Returns the index of the first byte from a seam on that may not follow, by the set of these, or
-/// the length.
+/// Returns the index of the first byte from a seam on that may not follow, or the length. At a seam
+/// it is as if the bytes began there. `stops` is the set of all that may not.
 #[inline(always)]
 pub fn next_stop<F: Flavor, S: CharacterSet>(bytes: &[u8], stops: u64, read: usize) -> usize
     requires stops { HasStops S.set F.flavor bytes.now stops }

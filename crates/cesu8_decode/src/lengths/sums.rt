@@ -45,8 +45,8 @@ pub fn sum_first<F: Flavor>(bytes: &[u8]) -> (usize, &[u8])
     (sum_of_blocks::<F>(bytes, count), &bytes[32 * count..])
 }
 
-/// Returns what the offsets of the first blocks save, of which the last reads `BEHIND` bytes more. It
-/// is not inlined, since it would stand twice.
+/// Returns what the offsets of the first blocks save, of which the last reads `BEHIND` bytes more.
+/// It is not inlined, since it would stand twice.
 #[inline(never)]
 fn sum_of_blocks<F: Flavor>(bytes: &[u8], count: usize) -> usize
     requires count { count ≤ BLOCKS }

@@ -25,8 +25,8 @@ use cesu8_bytes::writing::packing::STORED;
 use cesu8_bytes::writing::put::put_lanes;
 use std::simd::prelude::*;
 
-/// What came of a block: the end of what is written for it, whether strict reading refuses one of its
-/// bytes, and the kinds of their offsets.
+/// What came of a block: the end of what is written for it, whether strict reading refuses one of
+/// its bytes, and the kinds of their offsets.
 #[derive(Drop)]
 pub struct Written {
     pub end: usize,
@@ -55,8 +55,8 @@ pub fn load(bytes: &[u8], source: &mut [u8])
 /// offsets before it come last in `before`. The other bytes go.
 ///
 /// Most blocks are copied: those of characters of one byte, whatever comes before, and those that
-/// are well-formed and near no surrogate pair and no C0 80. Others are packed, by more bytes at once if
-/// they are well-formed.
+/// are well-formed and near no surrogate pair and no C0 80. Others are packed, by more bytes at
+/// once if they are well-formed.
 #[inline(always)]
 pub fn write_block<F: Flavor, S: Reading>(
     bytes: &[u8],

@@ -1,8 +1,8 @@
 //! Blocks in turn: each is read where it stands, and its text is written to a buffer.
 //!
-//! What begins at the five offsets before a block, and the five bytes behind it, decide too what its
-//! bytes become. So the pass stops behind any block, where the buffer is full, and goes on from there.
-//! The last bytes are read from an array, with zeros behind them.
+//! What begins at the five offsets before a block, and the five bytes behind it, decide too what
+//! its bytes become. So the pass stops behind any block, where the buffer is full, and goes on from
+//! there. The last bytes are read from an array, with zeros behind them.
 
 ghost use Rattle.std.specs.Prelude.{◌≡◌, ℕ, ◌+◌, ◌<◌, ◌≤◌, false, length, replicate, slice_index};
 ghost use Rattle.cesu8_decode.specs.Decoding.{IsPass, GoesOn, WritesReading, pass_from, room_for};
@@ -48,8 +48,8 @@ pub struct Pass {
 }
 
 /// Goes on with the pass behind some bytes, by the kinds of the offsets before, as long as there is
-/// room behind the text for that of a block. It ends at a block that strict reading refuses. It is not
-/// inlined, since many calls need it.
+/// room behind the text for that of a block. It ends at a block that strict reading refuses. It is
+/// not inlined, since many calls need it.
 #[inline(never)]
 pub fn write_blocks<F: Flavor, S: Reading>(
     bytes: &[u8],
@@ -74,8 +74,8 @@ pub fn write_blocks<F: Flavor, S: Reading>(
     pass
 }
 
-/// Writes the text of all bytes to a buffer that has room for it, unless strict reading refuses one of
-/// them. One block takes no loop, if the buffer is one for it.
+/// Writes the text of all bytes to a buffer that has room for it, unless strict reading refuses one
+/// of them. One block takes no loop, if the buffer is one for it.
 #[inline(always)]
 pub fn write_all<F: Flavor, S: Reading>(bytes: &[u8], out: &mut [u8]) -> Option<usize>
     requires { room_for S.which (length bytes.now) ≤ length out.old }
@@ -94,8 +94,8 @@ pub fn write_all<F: Flavor, S: Reading>(bytes: &[u8], out: &mut [u8]) -> Option<
     (!is_refused).then_some(end)
 }
 
-/// Writes the surrogate pairs that come next, one after another, if no character begins shortly before.
-/// Where most bytes are of pairs, that takes less time than to change all bytes of a block.
+/// Writes the surrogate pairs that come next, one after another, if no character begins shortly
+/// before. Where most bytes are of pairs, that takes less time than to change all bytes of a block.
 #[inline(always)]
 fn write_pairs<F: Flavor, S: Reading>(
     bytes: &[u8],
@@ -152,8 +152,8 @@ fn write_last<F: Flavor, S: Reading>(bytes: &[u8], before: Pass, out: &mut [u8])
     }
 }
 
-/// Writes what becomes of the next blocks, which are read where they stand, up to the last bytes or as
-/// long as there is room.
+/// Writes what becomes of the next blocks, which are read where they stand, up to the last bytes or
+/// as long as there is room.
 #[inline(always)]
 fn write_in_place<F: Flavor, S: Reading>(
     bytes: &[u8],

@@ -27,8 +27,8 @@ use std::simd::prelude::*;
 /// The length of an array for the text. A block may be stored behind any of it.
 pub const STRICT_TEXT: usize = FEW_BYTES + BLOCK;
 
-/// Writes the strict reading of at most 64 bytes to the front of an array, by the set of those that may
-/// not follow.
+/// Writes the strict reading of at most 64 bytes to the front of an array, by the set of those that
+/// may not follow.
 #[inline(always)]
 pub fn write_few_strictly<F: Flavor>(bytes: &[u8], stops: u64, out: &mut [u8]) -> Option<usize>
     requires stops { HasStops AllUnchanged F.flavor bytes.now stops }
