@@ -14,10 +14,10 @@
 //!   in lossy reading too, where ED or C0 stands behind the front, and none is ill-formed.
 //! - The arrays: one pass, 32 bytes at a time with no branch on a byte, which would be guessed
 //!   wrong. The text is copied from the array. A smaller one is made in less time.
-//! - Chunks: the pass stops where a buffer is full, and goes on from there: to a `String` in place,
-//!   as many bytes at once as `CLEARED_AT_ONCE` of `chunks`, and to a slice from a large array,
-//!   behind a test of all or their length. In lossy reading to a `String` the first 4,096 bytes go
-//!   by the largest array, and only of the others the length is found.
+//! - Chunks: the pass stops where a buffer is full, and goes on from there. A `String` is written in
+//!   place, over as many zeros at once as `CLEARED_AT_ONCE` of `chunks`. A slice, which may be too
+//!   short, is copied from a large array, after a test of all in strict reading, and their length if
+//!   needed. In lossy reading to a `String` only what is behind 4,096 bytes is counted.
 //!
 //! In strict reading to a `String`, `fronts` of `destinations` reads more than 64 bytes, as long as the
 //! changes stand far apart: behind 16 bytes (`FRONT`), and then 64 (`LONG_FRONT`). Others go by chunks.

@@ -45,9 +45,9 @@ use std::alloc::{AllocError, Global};
 /// The most bytes that the encoding of any text has that goes to the stack.
 const ON_STACK_ENCODED: usize = 2 * ON_STACK;
 
-/// Returns the encoding of a text, after one request for exactly its length. It is not inlined: a
-/// text that is borrowed then uses no stack. The function below is, so that the length is compared
-/// once.
+/// Returns the encoding of a text, after one request for exactly its length. A short text goes to an
+/// array, and is not counted; a block to a smaller one, which is made in less time. It is not
+/// inlined: a text that is borrowed then uses no stack. The function below is, for one comparison.
 #[inline(never)]
 pub fn encode<F: Flavor>(alloc: Global, text: &str) -> Result<Vec<u8>, AllocError>
     ensures { BuildsEncoding F.flavor text.now result }
@@ -96,7 +96,7 @@ pub fn encode_into<F: Flavor>(text: &str, len: usize, out: &mut Vec<u8>) -> Resu
     Ok(())
 }
 
-/// Reserves capacity for so many bytes more, by one request if the buffer has too little.
+/// Requests capacity for so many bytes more, but nothing where it is there, as `stays` promises.
 fn make_room(len: usize, out: &mut Vec<u8>) -> Result<(), AllocError>
     ensures items { out.new.items ≡ out.old.items }
     ensures ok { OnOk result (vec_len out.new + len ≤ vec_capacity out.new) }
