@@ -65,8 +65,8 @@ pub fn nulls<F: Flavor>(bytes: u8x32) -> u8x32
     mask::<F::Null>(bytes)
 }
 
-/// Marks, with the highest bit, the bytes that are the second of C0 80 if they follow C0. The other
-/// bits are set, so that a common bit of other tables stays.
+/// Marks, with the highest bit, bytes that end C0 80 if they follow C0. `cesu8_decode` ANDs this
+/// with kinds, of which that bit is C0 80's: the other bits are set, and so keep the other kinds.
 #[inline(always)]
 pub fn second_of_null<F: Flavor>(bytes: u8x32) -> u8x32
     ensures { result ≡ map (λ b. if null_at F.flavor 0xC0 b then 0xFF else 0x7F) bytes }

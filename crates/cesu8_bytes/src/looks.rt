@@ -1,11 +1,12 @@
-//! The first looks at an input. No other file chooses one by a length, which is for speed alone:
+//! The first looks at an input. Each length is for speed alone: a look spares ASCII a call, but is
+//! lost time for others. `cesu8_encode` alone chooses one by a length too, of texts up to a block.
 //!
 //! | bytes | look | for |
 //! |---|---|---|
 //! | at most 256 | are all ASCII that does not change? | what takes the encoding alone |
 //! | at most 1,024 | are all ASCII? | what takes UTF-8 as well |
-//! | at most 64, with more behind them | the first of these, by one vector | strings in a row |
-//! | below 256 | does a byte change? by two vectors | what encodes |
+//! | at most 64, with more behind them | that of the first row, by one vector | strings in a row |
+//! | below 256 | does a byte change? up to 64 by two vectors, else by more | what encodes |
 //! | 256 and more | the same, by a call of the kernels, so that the short way has few registers to save | the same |
 
 ghost use Rattle.std.specs.Prelude.{◌↔◌, IsTrue, Any, length, take};

@@ -38,9 +38,9 @@ fn first_difference(bytes: &[u8], other: &[u8], len: usize) -> usize
     requires { (len ≤ length bytes.now) × (len ≤ length other.now) }
     ensures { IsFirstDifference bytes.now other.now len result }
 {
+    // The choice of a wider vector would cost more.
     match len {
         0 => 0,
-        // The choice of a wider vector would cost more.
         1..8 => difference_by::<1>(bytes, other, len),
         8..16 => difference_by::<8>(bytes, other, len),
         _ => difference_by::<16>(bytes, other, len),

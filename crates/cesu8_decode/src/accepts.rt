@@ -90,27 +90,22 @@ impl Accepts for Lenient {
 
     #[inline(always)]
     fn keeps_all<F: Flavor>(bytes: &[u8], front: usize) -> bool {
+        if front == bytes.len() {
+            return true;
+        }
         // Where all is UTF-8, a character that changes begins there: of four bytes, or 00.
-        front == bytes.len()
-            || matches!(bytes[front], 0 | 0xF0..=0xF7) && is_utf8_behind::<F>(bytes, front)
+        if !matches!(bytes[front], 0 | 0xF0..=0xF7) {
+            return false;
+        }
+        // A few bytes are tested whole, so that no branch depends on the front. So are more, where
+        // less stands before the others than decides about the first of them.
+        if are_few(bytes) || front < DECIDING {
+            return is_utf8(bytes);
+        }
+        is_utf8_from(bytes, front)
     }
 
     ghost known = { lenient_texts };
-}
-
-/// Returns whether the bytes are UTF-8, where so many at the front are whole characters that stay
-/// in it.
-#[inline(always)]
-fn is_utf8_behind<F: Flavor>(bytes: &[u8], front: usize) -> bool
-    requires { IsFront AllUnchanged F.flavor bytes.now front }
-    ensures { IsTrue result ↔ IsUtf8 bytes.now }
-{
-    // A few bytes are tested whole, so that no branch depends on the front. So are more, where less
-    // stands before the others than decides about the first of them.
-    if are_few(bytes) || front < DECIDING {
-        return is_utf8(bytes);
-    }
-    is_utf8_from(bytes, front)
 }
 
 /// The encoding alone. UTF-8 is one if no byte of it changes.

@@ -22,8 +22,8 @@ use cesu8_bytes::lanes::class::{Either, NonAscii};
 use cesu8_bytes::lanes::runs::run_of_groups;
 use cesu8_bytes::looks::is_short_unchanged_ascii;
 
-/// How many bytes at the front are whole characters of a set. If all bytes are at most 64, `stops`
-/// has a bit for each that may not follow those before it; otherwise it means nothing.
+/// How many bytes at the front are whole characters of a set. Of at most 64 bytes `stops` has a bit
+/// for each that may not follow those before it, as for the zeros that fill their last block.
 #[derive(Clone, Copy)]
 pub struct FoundFront {
     pub len: usize,
@@ -57,8 +57,8 @@ pub fn front<F: Flavor, S: CharacterSet>(bytes: &[u8]) -> FoundFront
 {
     let (at, stops) = if are_few(bytes) {
         let stops = stops_of_few::<F, S>(bytes);
-        // A zero behind them may follow too, so no character is cut off; but of a pair one may
-        // follow the first half. In MUTF-8 no zero may follow anything, so this is for CESU-8.
+        // The zeros that fill the block may follow too, so no character is cut off; but of a pair
+        // one may follow the first half. In MUTF-8 no zero may follow anything, so this is false.
         if stops == 0 && bytes.len() % BLOCK != 0 && !S::rule().has_changed {
             return FoundFront {
                 len: bytes.len(),
@@ -102,8 +102,7 @@ pub fn is_utf8_from(bytes: &[u8], start: usize) -> bool
     requires start { (DECIDING ≤ start) × (FEW_BYTES < length bytes.now) }
     ensures { IsTrue result ↔ IsUtf8 bytes.now }
 {
-    let twos = following_twos::<Cesu8Flavor, Utf8>(bytes, start);
-    let stop = following_last::<Cesu8Flavor, Utf8>(bytes, twos);
+    let stop = following_from::<Cesu8Flavor, Utf8>(bytes, start);
     last_boundary::<Cesu8Flavor, Utf8>(bytes, stop) == bytes.len()
 }
 
@@ -115,7 +114,7 @@ fn following_many<F: Flavor, S: CharacterSet>(bytes: &[u8]) -> usize
     ensures { FollowUpTo S.set F.flavor bytes.now result }
 {
     match following_first::<F, S>(bytes) {
-        Ok(start) => following_last::<F, S>(bytes, following_twos::<F, S>(bytes, start)),
+        Ok(start) => following_from::<F, S>(bytes, start),
         Err(stop) => stop,
     }
 }
@@ -138,6 +137,30 @@ fn following_first<F: Flavor, S: CharacterSet>(bytes: &[u8]) -> Result<usize, us
     if len == BLOCK { Ok(BLOCK) } else { Err(len) }
 }
 
+/// Returns how many bytes may follow those before them, up to the first that may not. It goes on
+/// from `start` by two blocks at once, and then by one, of which the last begins in the one before.
+#[inline(always)]
+fn following_from<F: Flavor, S: CharacterSet>(bytes: &[u8], start: usize) -> usize
+    requires first { FirstFollow S.set F.flavor bytes.now start }
+    requires start { (DECIDING ≤ start) × (FEW_BYTES < length bytes.now) }
+    ensures { FollowUpTo S.set F.flavor bytes.now result }
+{
+    let mut at = following_twos::<F, S>(bytes, start);
+    while bytes.len() - at >= BLOCK {
+        let len = following_len::<F, S>(block_at(bytes, at - DECIDING));
+        if len != BLOCK {
+            return at + len;
+        }
+        // That is `at + len`, but the next block need not wait for `len`.
+        at += BLOCK;
+    }
+    if at == bytes.len() {
+        return at;
+    }
+    let before = bytes.len() - (DECIDING + BLOCK);
+    before + DECIDING + following_len::<F, S>(block_at(bytes, before))
+}
+
 /// Returns an offset before which all bytes may follow those before them. It goes on from `start`
 /// by two blocks at once, as long as all bytes of both may follow.
 #[inline(always)]
@@ -154,33 +177,9 @@ fn following_twos<F: Flavor, S: CharacterSet>(bytes: &[u8], start: usize) -> usi
     at
 }
 
-/// Returns how many bytes may follow those before them, up to the first that may not, by blocks
-/// from `start` on, of which the last begins in the one before.
-#[inline(always)]
-fn following_last<F: Flavor, S: CharacterSet>(bytes: &[u8], start: usize) -> usize
-    requires first { FirstFollow S.set F.flavor bytes.now start }
-    requires start { (DECIDING ≤ start) × (FEW_BYTES < length bytes.now) }
-    ensures { FollowUpTo S.set F.flavor bytes.now result }
-{
-    let mut at = start;
-    while bytes.len() - at >= BLOCK {
-        let len = following_len::<F, S>(block_at(bytes, at - DECIDING));
-        if len != BLOCK {
-            return at + len;
-        }
-        // That is `at + len`, but the next block need not wait for `len`.
-        at += BLOCK;
-    }
-    if at == bytes.len() {
-        return at;
-    }
-    let before = bytes.len() - (DECIDING + BLOCK);
-    before + DECIDING + following_len::<F, S>(block_at(bytes, before))
-}
-
 /// Returns the last boundary up to `at` that no character crosses. The bytes before may follow each
-/// other, and the one at `at`, if there is one, may not. Where no character changes, a lead byte of
-/// the last three is cut off. These are read first, so that fewer branches may be guessed wrong.
+/// other, and the one at `at`, if there is one, may not. Where no character changes, one that is
+/// cut off begins in the last three. They are read first, so fewer branches may be guessed wrong.
 #[inline(always)]
 fn last_boundary<F: Flavor, S: CharacterSet>(bytes: &[u8], at: usize) -> usize
     requires { FollowUpTo S.set F.flavor bytes.now at }
@@ -189,9 +188,13 @@ fn last_boundary<F: Flavor, S: CharacterSet>(bytes: &[u8], at: usize) -> usize
     if S::rule().has_changed {
         return last_uncrossed::<F, S>(bytes, at);
     }
-    let last = byte_before(bytes, at, 1);
-    let second = byte_before(bytes, at, 2);
-    let third = byte_before(bytes, at, 3);
+    if at == 0 {
+        return at;
+    }
+    // Where fewer stand before, the first of them is read again, which is no lead byte by then.
+    let last = bytes[at - 1];
+    let second = bytes[at.max(2) - 2];
+    let third = bytes[at.max(3) - 3];
     if last >= 0xC0 {
         at - 1
     } else if second >= 0xE0 {

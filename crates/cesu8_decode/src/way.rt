@@ -19,8 +19,8 @@
 //!   short, is copied from a large array, after a test of all in strict reading, and their length if
 //!   needed. In lossy reading to a `String` only what is behind 4,096 bytes is counted.
 //!
-//! In strict reading to a `String`, `fronts` of `destinations` reads more than 64 bytes, as long as the
-//! changes stand far apart: behind 16 bytes (`FRONT`), and then 64 (`LONG_FRONT`). Others go by chunks.
+//! In strict reading to a `String`, `fronts` of `destinations` reads more than 64 bytes, as long as
+//! changes stand far apart: 16 bytes (`FRONT`), then 64 (`LONG_FRONT`). A rest goes as above.
 
 ghost use Rattle.std.specs.Prelude.{◌≤◌, ◌↔◌, IsTrue, length};
 ghost use Rattle.cesu8_decode.specs.Decoding.{Takes};

@@ -3,7 +3,7 @@
 //! The two bytes before a byte of UTF-8 and the one after it decide what is written for it. So
 //! vectors encode 32 bytes at a time. Between the first block and the last, one branch copies those
 //! of which no byte changes. It is left out where many change, as the length of the encoding shows.
-//! In MUTF-8 one test of the whole text comes before. There is no other branch on what a byte is.
+//! Where many change, MUTF-8 tests the whole text once. No other branch depends on what a byte is.
 //! The four bytes `a b c d` of one character become a surrogate pair, ED and two bytes each:
 //!
 //! ```text
@@ -45,9 +45,9 @@ use std::alloc::{AllocError, Global};
 /// The most bytes that the encoding of any text has that goes to the stack.
 const ON_STACK_ENCODED: usize = 2 * ON_STACK;
 
-/// Returns the encoding of a text, after one request for exactly its length. A short text goes to an
-/// array, and is not counted; a block to a smaller one, which is made in less time. It is not
-/// inlined: a text that is borrowed then uses no stack. The function below is, for one comparison.
+/// Returns the encoding of a text, after one request for exactly its length. A short text goes to
+/// an array, and is not counted; a block to a smaller one, cleared in less time. It is not inlined:
+/// to borrow then uses no stack. `encode_on_stack` is, so that `write` asks for no block again.
 #[inline(never)]
 pub fn encode<F: Flavor>(alloc: Global, text: &str) -> Result<Vec<u8>, AllocError>
     ensures { BuildsEncoding F.flavor text.now result }

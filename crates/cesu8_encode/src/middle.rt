@@ -18,7 +18,7 @@ pub trait BlockWriter {
     /// What must be known of the text.
     ghost knows: { List ℕ → Type 0 };
 
-    /// Writes what the whole block at an offset becomes, and returns its end.
+    /// Writes what a whole block becomes, `READ_BEFORE` bytes behind `at`, and returns its end.
     fn write<F: Flavor>(text: &[u8], at: usize, out: &mut [u8], end: usize) -> usize
         requires window { at + BLOCK_READ ≤ length text.now }
         requires known { Self.knows text.now }

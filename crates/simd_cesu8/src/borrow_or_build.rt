@@ -1,8 +1,8 @@
 //! The calls for both flavors: each borrows if no byte changes, and builds otherwise.
 //!
 //! Decoding begins with the front, the characters that are the same in UTF-8. A call borrows if it
-//! keeps all bytes, and else what stands behind the front decides. What it takes is a type, `Lenient`
-//! or `EncodingAlone`. Of strings in a row one look shows short ASCII.
+//! keeps all bytes, and else what stands behind the front decides. What it takes is a type,
+//! `Lenient` or `EncodingAlone`. Of strings in a row one look shows short ASCII.
 
 ghost use Rattle.std.specs.Prelude.{take};
 ghost use Rattle.simd_cesu8.specs.Calls.{Encodes, DecodesAs, DecodesLossily, DecodesStrictly};
@@ -60,7 +60,7 @@ pub fn decode_strict_front<F: Flavor>(
 }
 
 /// Makes the call below. The room for its result is cleared at the start of the function that makes
-/// it, so this is one of its own, and the look at the front clears nothing.
+/// it. Inlined, that is here, and behind the look at the front, which so clears nothing.
 #[inline(always)]
 fn decode_strict_by_call<F: Flavor>(alloc: Global, bytes: &[u8]) -> Result<CowText<'_>, DecodeFault>
     ensures { DecodesStrictly F.flavor bytes.now result }

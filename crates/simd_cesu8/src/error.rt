@@ -109,7 +109,7 @@ impl Display for DecodeFault {
 
 impl Error for DecodeFault {}
 
-/// The caller's buffer is shorter than the result. It has the length of the result.
+/// The caller's buffer is shorter than the result, whose length this has.
 ///
 /// It displays as `buffer too short`, whatever width is given.
 ///
@@ -190,7 +190,7 @@ impl Display for DecodeSliceFault {
 
 impl Error for DecodeSliceFault {}
 
-/// Why a call that decodes damaged bytes writes no text to the caller's buffer.
+/// Why a call that decodes bytes, maybe damaged, writes no text to the caller's buffer.
 ///
 /// It displays as `text is too long` or `buffer too short`, whatever width is given.
 ///

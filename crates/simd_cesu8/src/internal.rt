@@ -1,5 +1,5 @@
-//! The one door to the codec, for both flavors: its options and its functions. What they return
-//! where there is no result becomes a fault of this crate here, and nowhere else.
+//! The one door to the codec, for both flavors, but for the kernels in `implementation`: its
+//! options and its functions. What they return where there is no result becomes a fault here.
 
 ghost use Rattle.std.specs.Prelude.{◌≡◌, length, IfOk};
 ghost use Rattle.std.specs.Str.{chars};
@@ -31,8 +31,8 @@ pub use cesu8_decode::{decode_lossy, decoded_len, lossy_len};
 pub use cesu8_encode::{encode, encode_into};
 use std::alloc::Global;
 
-/// Returns the strict reading of bytes, after one request for their length. Not all of them are
-/// whole characters that are the same in UTF-8, but the front.
+/// Returns the strict reading of bytes, after one request for their length. `front` tells where a
+/// test stopped: before are whole characters that are the same in UTF-8, but not all bytes.
 #[inline(always)]
 pub fn decode_strict<F: Flavor>(
     alloc: Global,

@@ -1,13 +1,13 @@
 //! CESU-8 and Modified UTF-8 (MUTF-8).
 //!
 //! Both write each UTF-16 code unit of a text separately, as UTF-8 would write a number. So a
-//! character with four bytes in UTF-8 becomes a surrogate pair of three bytes each, and MUTF-8
+//! character with four bytes in UTF-8 becomes a surrogate pair of three bytes each. MUTF-8 also
 //! writes U+0000 as C0 80. CESU-8 is the one of Unicode Technical Report 26, MUTF-8 the one of
 //! Java's `DataInput`.
 //!
-//! A result borrows from the input exactly where its bytes are the input's bytes, and exactly where
-//! `BorrowsTextWhere` says. Otherwise it is built after one request for memory. If that is refused, the
-//! call returns `AllocError`, or `DecodeFault::Memory` where it can return `Invalid` too.
+//! A result borrows from the input exactly where its bytes are the input's bytes: each call says
+//! where that is. Otherwise it is built after one request for memory. If that is refused, the call
+//! returns `AllocError`, or `DecodeFault::Memory` where it can return `Invalid` too.
 //!
 //! | you have | you want | call |
 //! |---|---|---|
@@ -131,8 +131,8 @@ pub fn utf16_len(text: &str) -> usize
     internal::utf16_len(text)
 }
 
-/// Compares two texts by their UTF-16 code units, as Java's `compareTo`, JavaScript and the canonical
-/// JSON of RFC 8785 do. Their encodings in CESU-8 compare so too. It requests no memory.
+/// Compares two texts by their UTF-16 code units, as Java's `compareTo`, JavaScript and the
+/// canonical JSON of RFC 8785 do. Their encodings in CESU-8 compare so too. It requests no memory.
 ///
 /// ```rust
 /// use std::cmp::Ordering;
@@ -404,15 +404,15 @@ pub fn valid_up_to(bytes: &[u8]) -> usize
 /// Encodes a text to CESU-8 (Unicode Technical Report 26), in the caller's buffer.
 ///
 /// It returns how many bytes it wrote at the front of the buffer; the rest stays as it was. If the
-/// buffer is too short, it returns [`TooShort`] with the needed length in bytes, and the whole
-/// buffer stays as it was. So a call with an empty buffer reports the length. It requests no memory.
+/// buffer is too short, it returns [`TooShort`] with the needed length in bytes, and all of it
+/// stays as it was. So a call with an empty buffer reports the length. It requests no memory.
 ///
 /// ```rust
 /// let mut buf = [0xEE; 8];
 /// assert_eq!(rt; simd_cesu8::encode_to_slice("\u{10400}", &mut buf)?, 6);
 /// assert_eq!(rt; buf.as_slice(), b"\xED\xA0\x81\xED\xB0\x80\xEE\xEE".as_slice());
 /// ```
-// Inlined, as each call on a slice is: a result that is returned by memory would be copied on its way.
+// Inlined, as each call on a slice is: a result returned by memory would be copied on its way.
 #[inline(always)]
 pub fn encode_to_slice(value: &str, buf: &mut [u8]) -> Result<usize, TooShort>
     ensures { WritesAnswer (encoding Cesu8 (chars value.now)) result buf.old buf.new }

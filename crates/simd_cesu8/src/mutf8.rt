@@ -260,8 +260,8 @@ pub fn decode_lossy(alloc: Global, bytes: &[u8]) -> Result<CowText<'_>, AllocErr
 }
 
 /// Returns the length in bytes of the text that [`decode_strict`] returns, which decodes MUTF-8
-/// (Java's `DataInput`, without a length in front). It returns `None` exactly where the bytes are the
-/// encoding of no text, so it also tests whether they are valid. It requests no memory.
+/// (Java's `DataInput`, without a length in front). It returns `None` exactly where the bytes are
+/// the encoding of no text, so it also tests whether they are valid. It requests no memory.
 ///
 /// [`lossy_len`] has a length for damaged bytes too.
 ///
@@ -327,15 +327,15 @@ pub fn valid_up_to(bytes: &[u8]) -> usize
 /// buffer.
 ///
 /// It returns how many bytes it wrote at the front of the buffer; the rest stays as it was. If the
-/// buffer is too short, it returns [`TooShort`] with the needed length in bytes, and the whole
-/// buffer stays as it was. So a call with an empty buffer reports the length. It requests no
-/// memory.
+/// buffer is too short, it returns [`TooShort`] with the needed length in bytes, and all of it
+/// stays as it was. So a call with an empty buffer reports the length. It requests no memory.
 ///
 /// ```rust
 /// let mut buf = [0xEE; 4];
 /// assert_eq!(rt; simd_cesu8::mutf8::encode_to_slice("a\0", &mut buf)?, 3);
 /// assert_eq!(rt; buf.as_slice(), b"a\xC0\x80\xEE".as_slice());
 /// ```
+// Inlined, as each call on a slice is: a result returned by memory would be copied on its way.
 #[inline(always)]
 pub fn encode_to_slice(value: &str, buf: &mut [u8]) -> Result<usize, TooShort>
     ensures { WritesAnswer (encoding Mutf8 (chars value.now)) result buf.old buf.new }

@@ -2,7 +2,7 @@
 //!
 //! The greatest and the least byte of each lane show most of four vectors: if the greatest are below
 //! F0 (hexadecimal), none leads four bytes, and if the least are above 00, none is null. Otherwise a
-//! byte may be in a class or not, since bytes above F7 are in none. UTF-8 has none of these.
+//! byte may lead four or not, since F8 to FF are F0 or more and lead none. UTF-8 has none of these.
 
 ghost use Rattle.std.specs.Prelude.{◌==◌, ◌||◌, ◌≤◌, [], ◌∷◌, false, IsTrue, Any, nat_le};
 ghost use Rattle.cesu8_text.specs.Class.{is_four};
@@ -13,7 +13,8 @@ use super::class::{
 };
 use std::simd::prelude::*;
 
-/// A class that four vectors at once may be tested for.
+/// A class that four vectors at once may be tested for. If they may have one, `search` tests each
+/// again and `runs` ends its run, so a wrong answer costs time alone. Both go by four of 64 bytes.
 pub trait InGroups<const N: usize>: InVectors<N> {
     /// Returns whether some byte of four vectors may be in the class, and true if one is.
     fn may_have(a: Simd<u8, N>, b: Simd<u8, N>, c: Simd<u8, N>, d: Simd<u8, N>) -> bool

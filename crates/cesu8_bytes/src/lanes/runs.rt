@@ -33,8 +33,8 @@ pub(crate) fn first_bit<const N: usize>(marks: u64) -> usize
 /// How many bytes are searched at once where none is expected to be in the class.
 const GROUP: usize = 4 * LANES;
 
-/// Returns how many bytes at the front are in whole groups of 256 without one of the class. Where one
-/// is, it is mostly found in the first 64.
+/// Returns the length of whole groups of 256 bytes at the front without one of the class; one that
+/// may have one ends them. Mostly the first 64 have one, so these are tested alone before.
 #[inline(always)]
 pub fn run_of_groups<C: InGroups<LANES>>(bytes: &[u8]) -> usize
     ensures within { (result ≤ length bytes.now) × (0 < result → GROUP ≤ result) }

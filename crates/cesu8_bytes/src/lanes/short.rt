@@ -10,11 +10,11 @@ use super::class::{InVectors, LANES, has};
 use crate::writing::put::put_lanes;
 use std::simd::prelude::*;
 
-/// From this length on bytes are copied as one slice. Where both may overlap, for all that the compiler
-/// knows, that is larger steps, and up to 127 bytes one by one.
+/// From this length on bytes are copied as one slice. Where both may overlap, for all that the
+/// compiler knows, that is larger steps, and up to 127 bytes one by one.
 pub(crate) const LONG: usize = 16 * LANES;
 
-/// Returns whether two vectors of one width cover the bytes.
+/// Returns whether there are at most 64 bytes, which two vectors of one width up to 32 cover.
 #[inline(always)]
 pub fn are_short(bytes: &[u8]) -> bool
     ensures { IsTrue result ↔ length bytes.now ≤ LANES }
@@ -22,7 +22,7 @@ pub fn are_short(bytes: &[u8]) -> bool
     bytes.len() <= LANES
 }
 
-/// Calls a function for at most 64 bytes, at the greatest width that is no longer than they are, or
+/// Calls a function for at most 64 bytes, at the greatest width up to 32 that they fill, or
 /// returns what is right of none: `by_two_vectors!(value, function[Class](value), of_none)`.
 macro_rules! by_two_vectors {
     ($value:expr, $function:ident[$($class:ty),*]($($argument:expr),*), $of_none:expr) => {
@@ -67,8 +67,8 @@ pub(crate) fn end_vector<const N: usize>(bytes: &[u8]) -> Simd<u8, N>
     Simd::from_slice(&bytes[bytes.len() - N..])
 }
 
-/// Copies bytes to the front of a buffer. It is correct for every length, and for short ones it takes
-/// less time than a call of `memmove`.
+/// Copies bytes to the front of a buffer. It is correct for every length, and for short ones it
+/// takes less time than a call of `memmove`.
 #[inline(always)]
 pub fn copy_short(bytes: &[u8], buf: &mut [u8])
     requires { length bytes.now ≤ length buf.old }

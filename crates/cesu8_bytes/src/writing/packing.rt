@@ -11,7 +11,7 @@ use crate::BLOCK;
 use rows_of_eight::rows_of_eight;
 use std::simd::prelude::*;
 
-/// How many bytes are stored at once. The last of them may not be used.
+/// How many bytes are stored at once. The last of them may be of no use.
 pub const STORED: usize = 16;
 
 /// How many bytes are half a block.
@@ -48,7 +48,7 @@ fn store_eight(lanes: u8x16, gone: usize, out: &mut [u8], at: usize) -> usize
     at + row[15] as usize
 }
 
-/// Returns the upper half of some lanes, twice.
+/// Returns the upper half of some lanes, and again, which only fills the vector.
 #[inline(always)]
 pub fn second_of(lanes: u8x16) -> u8x16
     ensures { result ≡ chunk 8 8 lanes ++ chunk 8 8 lanes }

@@ -2,8 +2,8 @@
 use Rattle.std.proofs.Common.{◌≡◌, ℕ, ◌+◌, ◌/◌, ◌<◌, ◌↔◌, List, [], ◌∷◌, ◌++◌, refl, sym, ap, ◌∙◌, subst, arith, add-zero, length, get_or, take, drop, length-drop, true≢false}
 use Rattle.std.specs.Str.{chars, IsUtf8}
 use Rattle.std.proofs.lemmas.Bool.Decides.{nat_tests}
-use Rattle.std.proofs.lemmas.List.{get_or-drop, take-append-drop}
-use Rattle.std.proofs.lemmas.Str.{IsUtf8-append, IsUtf8-drop, IsCharBoundary-from_take}
+use Rattle.std.proofs.lemmas.List.{get_or-drop}
+use Rattle.std.proofs.lemmas.Str.{IsUtf8-drop, IsCharBoundary-from_take}
 use Rattle.cesu8_text.specs.Class.{IsChangedByte, IsUnchangedUtf8}
 use Rattle.cesu8_text.specs.Encoding.{Flavor, Cesu8, IsEncodedOtherwise, NeedsEncoding}
 use Rattle.cesu8_text.specs.Reading.{BeginsWith, NoneBegins, HasNoStrictReading}
@@ -92,12 +92,9 @@ module _ (f : Flavor) (bytes : List ℕ) (n : ℕ) (front : IsFront Unchanged f 
       let of_all = front_of_all Unchanged f bytes n front in
       (λ all. whole_unchanged f bytes (of_all.0 all), λ unchanged. of_all.1 (unchanged_whole f bytes unchanged))
 
-  -- All bytes are UTF-8 exactly if those behind it are,
-  pub utf8_by_rest : IsUtf8 bytes ↔ IsUtf8 (drop n bytes)
-  utf8_by_rest = (
-    λ is_utf8. IsUtf8-drop bytes n is_utf8 (IsCharBoundary-from_take bytes n is_utf8 front.within front_unchanged.0),
-    λ rest. subst IsUtf8 (take-append-drop n bytes) (IsUtf8-append (take n bytes) (drop n bytes) front_unchanged.0 rest),
-  )
+  -- If all bytes are UTF-8, those behind it are too,
+  rest_utf8 : IsUtf8 bytes → IsUtf8 (drop n bytes)
+  rest_utf8 is_utf8 = IsUtf8-drop bytes n is_utf8 (IsCharBoundary-from_take bytes n is_utf8 front.within front_unchanged.0)
 
   by_text : (text : List ℕ) → IsText text → utf8 text ≡ drop n bytes → n < length bytes → IsChangedByte f (get_or (drop n bytes) 0 0)
   by_text [] is_text are more = absurd (omega (arith, ap length are, length-drop n bytes))
@@ -111,7 +108,7 @@ module _ (f : Flavor) (bytes : List ℕ) (n : ℕ) (front : IsFront Unchanged f 
   -- and these begin with a byte that changes.
   pub changed_behind : n < length bytes → IsUtf8 bytes → IsChangedByte f (get_or bytes n 0)
   changed_behind more is_utf8 =
-      let rest = IsUtf8Of_chars (drop n bytes) (utf8_by_rest.0 is_utf8) in
+      let rest = IsUtf8Of_chars (drop n bytes) (rest_utf8 is_utf8) in
       subst (IsChangedByte f) (get_or-drop n bytes 0 0 ∙ ap (λ k. get_or bytes k 0) (add-zero n)) (by_text (chars (drop n bytes)) rest.0 rest.1 more)
 
   -- It is a chunk of the text, as it stands.

@@ -1,4 +1,4 @@
-//! The text of many bytes, which the pass writes chunk by chunk, in place or to an array on the stack.
+//! The text of many bytes, which the pass writes chunk by chunk, in place or to a stack array.
 
 ghost use Rattle.std.specs.Prelude.{◌≡◌, ℕ, List, ◌+◌, ◌<◌, ◌≤◌, false, length, vec_len, vec_capacity};
 ghost use Rattle.cesu8_decode.specs.declared.pass.blocks.Pass.{Pass};
@@ -68,8 +68,8 @@ fn append_next<F: Flavor, S: Reading>(
     pass
 }
 
-/// Writes the lossy reading of the bytes at the front of a slice that is long enough, and returns
-/// its length.
+/// Writes the lossy reading at the front of a slice that is long enough, and returns its length. It
+/// goes by an array: a block is stored beyond its text, where a caller's bytes have to stay.
 #[inline(never)]
 pub fn put_chunks<F: Flavor>(bytes: &[u8], out: &mut [u8]) -> usize
     requires { lossy_length F.flavor bytes.now ≤ length out.old }

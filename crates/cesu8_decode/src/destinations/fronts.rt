@@ -1,8 +1,9 @@
 //! The strict reading that is appended to a vector: that of a few bytes, and of more. Where the
 //! characters that change stand far apart, what is between them is found by the test of the front,
-//! and copied.
+//! and copied. Where none begins behind a front, the bytes are ill-formed.
 
-ghost use Rattle.std.specs.Prelude.{◌≡◌, ◌+◌, ◌<◌, ◌≤◌, length, vec_len, vec_capacity};
+ghost use Rattle.std.specs.Prelude.{◌≡◌, ◌+◌, ◌<◌, ◌≤◌, length, vec_len, vec_capacity, IfNone, IfSome};
+ghost use Rattle.cesu8_text.specs.Reading.{HasNoStrictReading};
 ghost use Rattle.cesu8_bytes.specs.TextChunks.{IsReadSoFar};
 ghost use Rattle.cesu8_bytes.specs.declared.strictness.Strictness.TheVariants.{Strict};
 ghost use Rattle.cesu8_decode.specs.Decoding.{AppendsReading};
@@ -10,27 +11,27 @@ ghost use Rattle.cesu8_decode.specs.Following.{Unchanged as AllUnchanged, HasSto
 ghost use Rattle.cesu8_decode.specs.Front.{IsFront};
 
 use super::chunks::append_chunks;
-use crate::changed::{begins_changed, prefix_of};
+use crate::changed::{changes, prefix_of};
 use crate::front::front;
 use crate::lanes::character_set::Unchanged;
 use crate::lanes::stops::stops_of_few;
 use crate::pass::strict_few::{STRICT_TEXT, write_few_strictly};
-use crate::way::{FEW_BYTES, are_few};
+use crate::way::are_few;
 use cesu8_bytes::flavor::Flavor;
 use cesu8_bytes::pairs::{PAIR, PAIR_READ, utf8_of_pair};
 use cesu8_bytes::strictness::StrictReading;
 use cesu8_bytes::writing::copies::{append, append_few};
 
-/// Behind a front of so many bytes a first character that changes seems to stand alone.
+/// Behind a front of so many bytes the first character that changes seems to stand alone.
 const FRONT: usize = 16;
 
 /// The least front between two of them behind which another is looked for. Where they stand closer
 /// together, blocks take less time.
 const LONG_FRONT: usize = 64;
 
-/// Appends the strict reading of more than a few bytes, of which so many at the front are whole
-/// characters that are the same in UTF-8: from one character that changes to the next, as long as
-/// they stand far apart. It is not inlined, so that few bytes have few registers to save.
+/// Appends the strict reading of more than a few bytes, of which `len` at the front stay in UTF-8:
+/// from one character that changes to the next, while they stand far apart; a rest goes by stops if
+/// it is few, else by blocks. It is not inlined, so that few bytes have few registers to save.
 #[inline(never)]
 pub fn append_many<F: Flavor>(bytes: &[u8], len: usize, before: Vec<u8>) -> Option<Vec<u8>>
     requires front { IsFront AllUnchanged F.flavor bytes.now len }
@@ -41,20 +42,20 @@ pub fn append_many<F: Flavor>(bytes: &[u8], len: usize, before: Vec<u8>) -> Opti
     let mut rest = bytes;
     let mut len = len;
     let mut least = FRONT;
-    while least <= len && len < rest.len() {
-        rest = append_to_next::<F>(rest, len, &mut text);
+    while len < rest.len() {
+        let is_long = least <= len;
+        rest = append_to_next::<F>(rest, len, &mut text)?;
+        if are_few(rest) {
+            return append_few_strictly::<F>(rest, stops_of_few::<F, Unchanged>(rest), text);
+        }
+        if !is_long {
+            return append_chunks::<F, StrictReading>(rest, text);
+        }
         len = front::<F, Unchanged>(rest).len;
         least = LONG_FRONT;
     }
-    append(&rest[..len], &mut text);
-    let rest = &rest[len..];
-    if rest.is_empty() {
-        return Some(text);
-    }
-    if are_few(rest) {
-        return append_few_strictly::<F>(rest, stops_of_few::<F, Unchanged>(rest), text);
-    }
-    append_chunks::<F, StrictReading>(rest, text)
+    append(rest, &mut text);
+    Some(text)
 }
 
 /// Appends the strict reading of a few bytes, by the set of those that may not follow, and by an array.
@@ -71,28 +72,30 @@ pub fn append_few_strictly<F: Flavor>(bytes: &[u8], stops: u64, before: Vec<u8>)
     Some(text)
 }
 
-/// Appends the front, and the character behind it in UTF-8, if it changes. Returns the bytes behind
-/// these.
+/// Appends the front, and the character behind it in UTF-8. Returns the bytes behind these, or
+/// `None` where none that changes begins there, so that the bytes have no strict reading.
 #[inline(always)]
-fn append_to_next<'a, F: Flavor>(bytes: &'a [u8], len: usize, out: &mut Vec<u8>) -> &'a [u8]
-    requires front { IsFront AllUnchanged F.flavor bytes.now len }
+fn append_to_next<'a, F: Flavor>(bytes: &'a [u8], len: usize, out: &mut Vec<u8>) -> Option<&'a [u8]>
+    requires front { IsFront AllUnchanged F.flavor bytes.now len × (len < length bytes.now) }
     requires room { vec_len out.old + length bytes.now ≤ vec_capacity out.old }
-    ensures read { IsReadSoFar F.flavor Strict bytes.now result.now out.old.items out.new.items }
-    ensures room { vec_len out.new + length result.now ≤ vec_capacity out.new }
-    ensures within { (length result.now ≤ length bytes.now)
-        × (0 < len → length result.now < length bytes.now) }
+    ensures none { IfNone result (HasNoStrictReading F.flavor bytes.now) }
+    ensures read { IfSome result (λ rest.
+        IsReadSoFar F.flavor Strict bytes.now rest.now out.old.items out.new.items) }
+    ensures room { IfSome result (λ rest. vec_len out.new + length rest.now ≤ vec_capacity out.new) }
+    ensures within { IfSome result (λ rest. length rest.now < length bytes.now) }
     ensures capacity { vec_capacity out.new ≡ vec_capacity out.old }
 {
-    append(&bytes[..len], out);
-    let rest = &bytes[len..];
-    if !begins_changed::<F>(rest) {
-        return rest;
-    }
-    if rest[0] == 0xC0 {
-        append(&[0], out);
-        return &rest[2..];
-    }
+    let behind = &bytes[len..];
     let mut padded = [0; PAIR_READ];
-    append(&utf8_of_pair(prefix_of(rest, &mut padded)), out);
-    &rest[PAIR..]
+    let prefix = prefix_of(behind, &mut padded);
+    if !changes::<F>(prefix) {
+        return None;
+    }
+    append(&bytes[..len], out);
+    if prefix[0] == 0xC0 {
+        append(&[0], out);
+        return Some(&behind[2..]);
+    }
+    append(&utf8_of_pair(prefix), out);
+    Some(&behind[PAIR..])
 }

@@ -1,6 +1,6 @@
 //! Decodes to a caller's buffer, with no request.
 //!
-//! What an array on the stack has room for is decoded to it, and copied. Of more bytes, first
+//! Up to 1,024 bytes, or 4,096 in lossy reading, are decoded to an array and copied. Of more, first
 //! passes find whether they are ill-formed and, if needed, how long their text is.
 
 ghost use Rattle.std.specs.Prelude.{◌+◌, ◌≤◌, ◌<◌, length};
@@ -150,8 +150,8 @@ fn put_by_array<F: Flavor, S: Reading, const WRITTEN: usize>(
     copy_to_slice(&written[..end], buf).map_err(Unwritten::NoRoom)
 }
 
-/// Writes the text of still more bytes, chunk by chunk. First passes find whether there is one, and
-/// how long it is: in strict reading it is no longer than the bytes.
+/// Writes the text of still more bytes by `put_chunks`, whose lossy reading is the strict one where
+/// none is ill-formed, as a first pass finds. Another finds its length, if it may not fit.
 #[inline(never)]
 fn put_many<F: Flavor, S: Reading>(bytes: &[u8], buf: &mut [u8]) -> Result<usize, Unwritten>
     ensures { PutsReading F.flavor S.which bytes.now result buf.old buf.new }

@@ -14,7 +14,7 @@ ghost use Rattle.cesu8_decode.specs.Front.{IsFront, IsPartialFront};
 
 use super::chunks::append_chunks;
 use super::fronts::{append_few_strictly, append_many};
-use crate::changed::{begins_changed, may_lead_changed};
+use crate::changed::may_lead_changed;
 use crate::front::FoundFront;
 use crate::lengths::lossy_len;
 use crate::pass::blocks::{
@@ -49,13 +49,10 @@ pub fn write_strictly<F: Flavor>(bytes: &[u8], front: FoundFront, empty: Vec<u8>
 /// cleared where the calling function starts, so this is its own, and few bytes clear nothing.
 #[inline(always)]
 fn write_many<F: Flavor>(bytes: &[u8], front: usize, empty: Vec<u8>) -> Option<Vec<u8>>
-    requires front { IsFront Unchanged F.flavor bytes.now front × (front < length bytes.now) }
+    requires front { IsFront Unchanged F.flavor bytes.now front }
     requires empty { (empty.items ≡ []) × (length bytes.now ≤ vec_capacity empty) }
     ensures { AppendsReading F.flavor Strict bytes.now empty result }
 {
-    if !begins_changed::<F>(&bytes[front..]) {
-        return None;
-    }
     append_many::<F>(bytes, front, empty)
 }
 

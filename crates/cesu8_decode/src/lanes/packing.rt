@@ -71,7 +71,7 @@ pub fn store_whole(parts: Parts, out: &mut [u8], at: usize) -> usize
     store_kept(parts.bytes, gone, out, at)
 }
 
-/// The replacement character, U+FFFD, twice, each in four lanes.
+/// The replacement character, U+FFFD, four times, each in four lanes. Two of them are used.
 const REPLACEMENTS: [u8; 16] = [
     0xEF, 0xBF, 0xBD, 0, 0xEF, 0xBF, 0xBD, 0, 0xEF, 0xBF, 0xBD, 0, 0xEF, 0xBF, 0xBD, 0,
 ];

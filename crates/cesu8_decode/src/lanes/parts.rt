@@ -5,8 +5,8 @@
 //!
 //! ```text
 //! first, second ──► nothing                       fifth ──► two bits of the third, four of its own
-//! third ──► F0 and three bits of the second       sixth ──► itself
-//! fourth ──► two bits of the second, four of the third
+//! third ──► F0 and three bits of the second + 1   sixth ──► itself
+//! fourth ──► two bits of the second + 1, four of the third
 //! ```
 
 ghost use Rattle.std.specs.Prelude.{◌≡◌, ℕ, List, ◌+◌, ◌-◌, ◌*◌, ◌^◌, ◌%◌, ◌<◌, ◌≤◌, ◌++◌, nat_le, true, false, length, take, map, replicate, slice_index};
@@ -145,7 +145,7 @@ fn behind(count: u8) -> u8x32
 }
 
 /// Returns the bytes, with those of surrogate pairs and of C0 80 replaced by what they become. Most
-/// texts of MUTF-8 have only one of the two.
+/// MUTF-8 has one of the two, so it skips pairs where none is; CESU-8 comes here for pairs alone.
 #[inline(always)]
 fn changed_bytes<F: Flavor>(bytes: &[u8], at: usize, kinds: &Kinds) -> u8x32
     requires block { (at + BLOCK ≤ length bytes.now) × (at < DECIDING → at ≡ 0) }

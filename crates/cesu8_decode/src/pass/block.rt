@@ -34,7 +34,7 @@ pub struct Written {
     pub kinds: u8x32,
 }
 
-/// Copies at most 64 bytes to zeros, so that a block can be loaded from any of them.
+/// Copies at most two blocks (64 bytes) to zeros, so that a load may pass the end of the bytes.
 #[inline(always)]
 pub fn load(bytes: &[u8], source: &mut [u8])
     requires bytes { length bytes.now ≤ FEW_BYTES }

@@ -35,7 +35,7 @@ pub const LARGE_LOSSY: usize = WIDEST * LARGE_ARRAY + ROOM;
 
 pub const LARGEST_LOSSY: usize = WIDEST * LARGEST_ARRAY + ROOM;
 
-/// The length of an array for the last bytes, the five before them and zeros behind.
+/// The length of an array for the last bytes, five before and zeros. `load` may store two blocks.
 const AROUND: usize = BEHIND + FEW_BYTES;
 
 /// How far the pass came: how many bytes were read, and of the last block what `Written` has.
@@ -94,7 +94,7 @@ pub fn write_all<F: Flavor, S: Reading>(bytes: &[u8], out: &mut [u8]) -> Option<
     (!is_refused).then_some(end)
 }
 
-/// Writes the surrogate pairs that come next, one after another, if no character begins shortly
+/// Writes the surrogate pairs that come next, one after another, if only ASCII begins in the block
 /// before. Where most bytes are of pairs, that takes less time than to change all bytes of a block.
 #[inline(always)]
 fn write_pairs<F: Flavor, S: Reading>(
@@ -129,7 +129,7 @@ fn write_pairs<F: Flavor, S: Reading>(
     }
 }
 
-/// Writes what becomes of the last bytes, of 32 at most, which are copied to an array.
+/// Writes what becomes of the first 32 of the last bytes, which are all copied to an array.
 #[inline(always)]
 fn write_last<F: Flavor, S: Reading>(bytes: &[u8], before: Pass, out: &mut [u8]) -> Pass
     requires pass { IsPass F.flavor bytes.now before.read before.kinds × (before.read < length bytes.now) }

@@ -58,7 +58,7 @@ pub fn write_few_strictly<F: Flavor>(bytes: &[u8], stops: u64, out: &mut [u8]) -
     Some(put_between(&source, read, bytes.len() - read, out, end))
 }
 
-/// Writes at most 64 bytes of the source, and others behind them, and returns the end of these.
+/// Writes `count` bytes of the source, at most 64, and returns their end. Others come behind them.
 #[inline(always)]
 fn put_between(source: &[u8], read: usize, count: usize, out: &mut [u8], end: usize) -> usize
     requires count { count ≤ FEW_BYTES }
@@ -74,7 +74,7 @@ fn put_between(source: &[u8], read: usize, count: usize, out: &mut [u8], end: us
     end + count
 }
 
-/// Writes the C0 80 or surrogate pair that begins the bytes, in UTF-8; returns its length and the end.
+/// Writes the C0 80 or pair at the front of the bytes in UTF-8. Returns its length and the end.
 #[inline(always)]
 fn write_changed<F: Flavor>(bytes: &[u8], out: &mut [u8], end: usize) -> (usize, usize)
     requires bytes { PAIR_READ ≤ length bytes.now }

@@ -5,14 +5,13 @@ use Rattle.cesu8_decode.specs.Following.{Unchanged}
 use Rattle.cesu8_decode.specs.Front.{IsFront}
 use Rattle.cesu8_decode.proofs.destinations.fronts.append_many.Given as goal
 
-abbrev pub decreases-loop-least : goal.decreases-loop-least
-decreases-loop-least g l = length l.rest
+abbrev pub decreases-loop-len : goal.decreases-loop-len
+decreases-loop-len g l = length l.rest
 
-abbrev pub invariant-loop-least : goal.invariant-loop-least
-invariant-loop-least g l = record {
+abbrev pub invariant-loop-len : goal.invariant-loop-len
+invariant-loop-len g l = record {
   read : IsReadSoFar g.F.Flavor.flavor Strict l.fn.bytes l.rest l.fn.before.items l.text.items;
   front : IsFront Unchanged g.F.Flavor.flavor l.rest l.len;
   room : vec_len l.text + length l.rest ≤ vec_capacity l.text;
-  least : 16 ≤ l.least;
   capacity : vec_capacity l.text ≡ vec_capacity l.fn.before;
 }

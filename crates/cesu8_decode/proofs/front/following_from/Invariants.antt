@@ -1,6 +1,6 @@
 use Rattle.std.proofs.Common.{◌-◌, ◌≤◌, length}
 use Rattle.cesu8_decode.specs.Following.{FirstFollow}
-use Rattle.cesu8_decode.proofs.front.following_last.Given as goal
+use Rattle.cesu8_decode.proofs.front.following_from.Given as goal
 
 abbrev pub decreases-loop-at : goal.decreases-loop-at
 decreases-loop-at g l = length l.bytes - l.at

@@ -1,7 +1,7 @@
 use Rattle.std.proofs.Common.{◌≡◌, ◌+◌, ◌-◌, ◌<◌, length, subst, arith}
 use Rattle.cesu8_decode.specs.Following.{FirstFollow, FollowUpTo}
 use Rattle.cesu8_decode.proofs.decoder.FollowingBlocks.{follow_up_to, stop_behind}
-use Rattle.cesu8_decode.proofs.front.following_last.Goals as goal
+use Rattle.cesu8_decode.proofs.front.following_from.Goals as goal
 
 pub returns-then-len-ne-BLOCK : goal.returns-then-len-ne-BLOCK
 returns-then-len-ne-BLOCK g c =
