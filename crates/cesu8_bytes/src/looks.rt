@@ -49,9 +49,9 @@ pub fn is_short_unchanged_ascii<F: Flavor>(bytes: &[u8]) -> bool
     bytes.len() <= SHORT && !any_in_first_look::<Either<F::Null, NonAscii>>(bytes)
 }
 
-/// Returns whether the first bytes are few, and all ASCII that does not change, as far as one vector
-/// shows. It may have more bytes than these, so no branch depends on how many they are, which a
-/// processor could guess wrong.
+/// Returns whether the first bytes are few, and all ASCII that does not change, as far as one
+/// vector shows. It may have more bytes than these, so no branch depends on how many they are,
+/// which a processor could guess wrong.
 #[inline(always)]
 pub fn begins_with_unchanged_ascii<F: Flavor>(bytes: &[u8], len: usize) -> bool
     ensures ascii { IsTrue result → IsAscii (take len bytes.now) }

@@ -1,5 +1,5 @@
-//! Strict and lossy reading, as values and as types. A loop over blocks is compiled for each type, so
-//! that in strict reading it has nothing of what replaces ill-formed bytes.
+//! Strict and lossy reading, as values and as types. A loop over blocks is compiled for each type,
+//! so that in strict reading it has nothing of what replaces ill-formed bytes.
 
 ghost use Rattle.std.specs.Prelude.{◌≡◌};
 ghost use Rattle.cesu8_bytes.specs.declared.strictness.Strictness.{Strictness};

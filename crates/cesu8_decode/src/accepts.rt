@@ -39,7 +39,8 @@ pub trait Accepts {
         → KnowsTexts f bytes (keeps f bytes) (reads f bytes) (reads_lossily f bytes) };
 }
 
-/// Returns how many bytes at the front stay in UTF-8, or `None` where `A` keeps all bytes.
+/// Returns `None` where `A` keeps all bytes, or a part at the front: `len` bytes, not all, that
+/// stay in UTF-8. Of at most 64, `stops` has a bit for each that may not follow those before it.
 #[inline(always)]
 pub fn front_unless_kept<F: Flavor, A: Accepts>(bytes: &[u8]) -> Option<FoundFront>
     ensures kept { IfNone result (A.keeps F.flavor bytes.now) }

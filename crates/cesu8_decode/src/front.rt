@@ -22,8 +22,8 @@ use cesu8_bytes::lanes::class::{Either, NonAscii};
 use cesu8_bytes::lanes::runs::run_of_groups;
 use cesu8_bytes::looks::is_short_unchanged_ascii;
 
-/// How many bytes at the front are whole characters of a set. Of at most 64 bytes `stops` has a bit
-/// for each that may not follow those before it, as for the zeros that fill their last block.
+/// How many bytes at the front are whole characters of a set. For at most 64, `stops` has a bit for
+/// each that may not follow, as of the zeros that fill their block; for more it means nothing.
 #[derive(Clone, Copy)]
 pub struct FoundFront {
     pub len: usize,

@@ -45,8 +45,8 @@ use destinations::strings::{build_lossily, write_strictly};
 pub use lengths::{decoded_len, lossy_len};
 use std::alloc::{AllocError, Global};
 
-/// Returns the strict reading of bytes, after one request for their length. `front` tells where the test
-/// of the front stopped: before are whole characters that are the same in UTF-8, but these are not all.
+/// Returns the strict reading of bytes, after one request for their length. `front` tells where its
+/// test stopped: before are whole characters that are the same in UTF-8, but not all bytes.
 #[inline(never)]
 pub fn decode_strict<F: Flavor>(
     alloc: Global,

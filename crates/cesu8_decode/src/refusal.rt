@@ -1,9 +1,9 @@
-//! Why the decoder returns or writes no text. `simd_cesu8` turns these into the faults of its calls.
+//! Why the decoder returns or writes no text. `simd_cesu8` turns these into faults of its calls.
 
 use cesu8_bytes::writing::copies::NoRoom;
 use std::alloc::AllocError;
 
-/// Why strict reading builds no text. Lossy reading always has one, and fails by `AllocError` alone.
+/// Why strict reading builds no text. Lossy reading always has one, and fails by `AllocError`.
 #[derive(Drop)]
 pub enum Refusal {
     /// The bytes have no text.

@@ -1,5 +1,5 @@
 //! Which way bytes are decoded that do not all stay, by how many they are: in lossy reading all of
-//! them, and in strict reading to a slice those from the front on.
+//! them, and in strict reading of more than 64 to a slice those from the front on.
 //!
 //! | bytes | way | strict | lossy |
 //! |---|---|---|---|
@@ -13,14 +13,16 @@
 //! - By stops: `strict_few` goes from one character that changes to the next. Up to 64 bytes go so
 //!   in lossy reading too, where ED or C0 stands behind the front, and none is ill-formed.
 //! - The arrays: one pass, 32 bytes at a time with no branch on a byte, which would be guessed
-//!   wrong. The text is copied from the array. A smaller one is made in less time.
-//! - Chunks: the pass stops where a buffer is full, and goes on from there. A `String` is written in
+//!   wrong. The text is copied from there. The lengths are for speed alone: a larger array takes
+//!   longer to clear, and more stack, for lossy text three bytes for each.
+//! - Chunks: the pass stops where a buffer is full, and goes on there. A `String` is written in
 //!   place, over as many zeros at once as `CLEARED_AT_ONCE` of `chunks`. A slice, which may be too
-//!   short, is copied from a large array, after a test of all in strict reading, and their length if
-//!   needed. In lossy reading to a `String` only what is behind 4,096 bytes is counted.
+//!   short, is copied from a large array, after a test of all in strict reading, and their length
+//!   if needed. In lossy reading to a `String` only what is behind 4,096 bytes is counted.
 //!
 //! In strict reading to a `String`, `fronts` of `destinations` reads more than 64 bytes, as long as
-//! changes stand far apart: 16 bytes (`FRONT`), then 64 (`LONG_FRONT`). A rest goes as above.
+//! changes stand far apart: 16 bytes (`FRONT`), then 64 (`LONG_FRONT`). Of a rest, at most 64 bytes
+//! go by stops, and more by chunks, from a small array where little room is left.
 
 ghost use Rattle.std.specs.Prelude.{◌≤◌, ◌↔◌, IsTrue, length};
 ghost use Rattle.cesu8_decode.specs.Decoding.{Takes};

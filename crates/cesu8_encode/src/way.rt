@@ -1,19 +1,16 @@
 //! Which way a text is encoded. No other file of this crate decides that.
 //!
-//! A text of at most a block, 32 bytes, is encoded as one block, and a longer one by blocks in turn.
+//! A text of at most a block, 32 bytes, is encoded as one block, and a longer one by several.
 //!
 //! An encoding has at most twice the bytes of its text. So `encode` writes one of at most 128 bytes
-//! to an array on the stack before its length is known, and copies it: to count it first takes
-//! longer. For a block or less that is an array of 64 bytes, since a larger one takes longer to
-//! clear. Others are counted, and written where they stay. Where the length is known, as in
-//! `encode_into`, all are written so.
+//! to the stack before its length is known, and copies it: to count it first takes longer. A block
+//! or less goes to an array of 64 bytes, since a larger one takes longer to clear. Others are
+//! counted, and written where they stay, as all are where the length is known (`encode_into`).
 //!
-//! To a slice, a text of more than a block is counted, and written in place. A block or less goes
-//! to the stack, from where it is copied: the rows of a block are stored whole, and what is behind
-//! the encoding in the slice has to stay, since other threads may read it.
+//! To a slice, more than a block is counted, and written in place. A block or less goes to the
+//! stack, and is copied: its rows are stored whole, and what is behind the encoding has to stay.
 //!
-//! These ways are tests and no enum: `encode` asked for the value of one, which cost 13
-//! instructions.
+//! These ways are tests and no enum: `encode` asked for the value of one, for 13 instructions.
 //!
 //! Between its first block and its last, a text has blocks that have the bytes around them beside
 //! them. What changes in the text says how these are written. The first row that fits decides:
@@ -31,9 +28,8 @@
 //! average of the text decides: one that is dense with pairs in a part alone may have its other
 //! blocks written where they could be copied.
 //!
-//! `NullChange` makes texts with a null in 2 to 50 bytes faster, `AnyChange` those of 512 bytes and
-//! more with a pair in 20 to 50 bytes or of all widths, and `CopyUnchanged` those with a pair in
-//! 300 bytes or more. A way of its own for nulls that are few gained nothing.
+//! `NullChange` gains for a null in 2 to 50 bytes, `AnyChange` from 512 bytes on for a pair in 20
+//! to 50 bytes or all widths, and `CopyUnchanged` for a pair in 300 bytes or more.
 //!
 //! Other lengths choose no way: `append` and the vectors of `cesu8_bytes` have widths, and `looks`
 //! there sees whether a byte changes.

@@ -1,8 +1,8 @@
 //! Tests of four vectors at once, which cost less than a test of each.
 //!
-//! The greatest and the least byte of each lane show most of four vectors: if the greatest are below
-//! F0 (hexadecimal), none leads four bytes, and if the least are above 00, none is null. Otherwise a
-//! byte may lead four or not, since F8 to FF are F0 or more and lead none. UTF-8 has none of these.
+//! The greatest and the least byte of each lane show most of four vectors: if the greatest are
+//! below F0 (hexadecimal), none leads four bytes, and if the least are above 00, none is null. Else
+//! a byte may lead four or not, since F8 to FF are above F0 and lead none. UTF-8 has none of these.
 
 ghost use Rattle.std.specs.Prelude.{◌==◌, ◌||◌, ◌≤◌, [], ◌∷◌, false, IsTrue, Any, nat_le};
 ghost use Rattle.cesu8_text.specs.Class.{is_four};

@@ -1,5 +1,5 @@
-//! Copies to the end of a buffer with enough capacity, or to a caller's, which may be too short, and
-//! copies that are owned, with one request each.
+//! Copies to the end of a buffer with enough capacity, or to a caller's, which may be too short,
+//! and copies that are owned, with one request each.
 
 ghost use Rattle.std.specs.Prelude.{◌≡◌, ℕ, List, ◌+◌, ◌*◌, ◌≤◌, ◌++◌, [], length, replicate, take, IfOk, IsOk, vec_len, vec_capacity};
 ghost use Rattle.std.specs.String.{string_bytes, string_capacity};
@@ -102,8 +102,8 @@ fn append_at<const N: usize>(bytes: &[u8], at: usize, start: usize, out: &mut Ve
 }
 
 /// Appends bytes one by one. That is compiled to a call of `memcpy` where the buffer is known to be
-/// apart from the bytes, as a new one is, for an array to a vector that is stored, and else to larger
-/// steps with the last bytes one by one.
+/// apart from the bytes, as a new one is, for an array to a vector that is stored, and else to
+/// larger steps with the last bytes one by one.
 #[inline(always)]
 fn append_each(bytes: &[u8], out: &mut Vec<u8>)
     requires { vec_len out.old + length bytes.now ≤ vec_capacity out.old }

@@ -58,7 +58,8 @@ pub fn append_many<F: Flavor>(bytes: &[u8], len: usize, before: Vec<u8>) -> Opti
     Some(text)
 }
 
-/// Appends the strict reading of a few bytes, by the set of those that may not follow, and by an array.
+/// Appends the strict reading of a few bytes by an array, and by `stops`, the set of those that may
+/// not follow those before them in text that stays.
 #[inline(always)]
 pub fn append_few_strictly<F: Flavor>(bytes: &[u8], stops: u64, before: Vec<u8>) -> Option<Vec<u8>>
     requires stops { HasStops AllUnchanged F.flavor bytes.now stops }

@@ -116,8 +116,8 @@ fn build_chunks<F: Flavor>(alloc: Global, bytes: &[u8]) -> Result<Vec<u8>, Alloc
     append_chunks::<F, LossyReading>(rest, text).ok_or(AllocError)
 }
 
-/// Returns the first of many bytes, up to an offset that no encoded character crosses, and the others.
-/// That is looked for in the last of those that an array takes; where they show none, none are first.
+/// Returns the first of many bytes, up to an offset that no encoded character crosses, and others.
+/// It is looked for in the last of those that an array takes; where they show none, none are first.
 #[inline(always)]
 fn first_part(bytes: &[u8]) -> (&[u8], &[u8])
     requires { LARGEST_ARRAY < length bytes.now }

@@ -28,7 +28,7 @@ pub const KIND_OF_NULL: u8 = 0x80;
 
 /// The kinds of what two bytes begin are the common bits of three tables: by the upper half of the
 /// first byte, by its lower half, and by the upper half of the second. There `KIND_OF_NULL` is the
-/// kind of C0 80 to C0 8F, and `second_of_null` then clears that bit alone, but for C0 80 in MUTF-8.
+/// kind of C0 80 to C0 8F, and `second_of_null` then clears that bit, but for C0 80 in MUTF-8.
 const KINDS_BY_HIGH: [u8; 16] = [0, 0, 0, 0, 0, 0, 0, 0, 0, 0, 0, 0, 0x81, 0x02, 0x3C, 0];
 
 const KINDS_BY_LOW: [u8; 16] = [

@@ -5,8 +5,8 @@ ghost use Rattle.cesu8_decode.specs.DecodedLanes.{AreShufflesOfFour};
 use cesu8_bytes::Rows;
 
 /// Lanes 0 to 3 have the bytes, and lanes 4 to 6 the replacement character. In row `d` byte `i` is
-/// replaced if bit `4 + i` of `d` is set, and else goes if bit `i` is. The last number is how many bytes
-/// are written. The zeros before it are what the contract has; what they pack is written over.
+/// replaced if bit `4 + i` of `d` is set, and else goes if bit `i` is. The last number is how many
+/// bytes are written. The zeros before it are what the contract has; what they pack goes again.
 const ROWS: Rows = [
     [0, 1, 2, 3, 0, 0, 0, 0, 0, 0, 0, 0, 0, 0, 0, 4],
     [1, 2, 3, 0, 0, 0, 0, 0, 0, 0, 0, 0, 0, 0, 0, 3],
