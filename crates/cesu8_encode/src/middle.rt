@@ -32,7 +32,7 @@ pub struct AnyChange;
 /// Null characters alone can change, since the text has no byte of F0 or more (hexadecimal).
 pub struct NullChange;
 
-/// A block is copied if no byte of it changes. Most text has runs of blocks that stay.
+/// A block is copied if no byte of it, or of the two before, changes. Most text has runs of these.
 pub struct CopyUnchanged;
 
 impl BlockWriter for AnyChange {

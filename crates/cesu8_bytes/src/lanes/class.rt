@@ -24,7 +24,7 @@ pub trait InVectors<const N: usize>: Class {
         ensures { result ≡ map (λ b. lane (Self.class b)) bytes.entry };
 }
 
-/// A class that is found by vectors of each width.
+/// A class found at each width: `by_two_vectors` takes the one that fits a value up to 64 bytes.
 pub trait InAllVectors: InVectors<LANES>
     + InVectors<32>
     + InVectors<16>
@@ -70,7 +70,7 @@ pub fn mask<C: InVectors<32>>(bytes: u8x32) -> u8x32
     C::marks(bytes).select(u8x32::splat(0xFF), u8x32::splat(0))
 }
 
-/// No byte.
+/// No byte: what CESU-8 writes as C0 80. `flavor` takes it where MUTF-8 has `Null`.
 pub struct NoByte;
 
 /// One byte.

@@ -32,7 +32,7 @@ impl CountsOne for OneUnit {
     ghost at_most_two = { λ b. Prim.grind (arith, nat_tests) };
 }
 
-/// How many vectors are counted in lanes.
+/// How many vectors are counted in lanes. More would save sums, but leave more bytes to masks.
 const VECTORS_IN_LANES: usize = 16;
 
 /// How many bytes are counted in lanes.

@@ -1,7 +1,7 @@
 //! Decodes to a caller's buffer, with no request.
 //!
-//! Up to 1,024 bytes, or 4,096 in lossy reading, are decoded to an array and copied. Of more, first
-//! passes find whether they are ill-formed and, if needed, how long their text is.
+//! Up to 1,024 bytes, or 4,096 in lossy reading, are decoded to an array and copied. Of more,
+//! strict reading tests all first, and counts where the input may not fit; lossy reading counts.
 
 ghost use Rattle.std.specs.Prelude.{◌+◌, ◌≤◌, ◌<◌, length};
 ghost use Rattle.cesu8_text.specs.Reading.{reading};
@@ -150,8 +150,8 @@ fn put_by_array<F: Flavor, S: Reading, const WRITTEN: usize>(
     copy_to_slice(&written[..end], buf).map_err(Unwritten::NoRoom)
 }
 
-/// Writes the text of still more bytes by `put_chunks`, whose lossy reading is the strict one where
-/// none is ill-formed, as a first pass finds. Another finds its length, if it may not fit.
+/// Writes the lossy reading by `put_chunks`. It is the strict one too where a first pass finds none
+/// ill-formed. Another pass finds its length, but not of a strict one where the input would fit.
 #[inline(never)]
 fn put_many<F: Flavor, S: Reading>(bytes: &[u8], buf: &mut [u8]) -> Result<usize, Unwritten>
     ensures { PutsReading F.flavor S.which bytes.now result buf.old buf.new }
