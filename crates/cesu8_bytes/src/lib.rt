@@ -23,8 +23,8 @@ pub mod strictness;
 pub mod utf8;
 pub mod writing;
 
-/// How many bytes form a block, which one vector holds.
+/// The bytes of a block, the lanes of a `u8x32`. Types, shuffles and proofs have that 32 too.
 pub const BLOCK: usize = 32;
 
-/// A shuffle for each of 256 sets.
+/// 256 shuffles of 16 lanes, 4 KiB: one for each eight bits that say what becomes of some bytes.
 pub type Rows = [[u8; 16]; 256];

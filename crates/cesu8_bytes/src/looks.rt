@@ -28,7 +28,7 @@ const SHORT: usize = 4 * LANES;
 /// The most bytes that are tested for all ASCII before anything is called.
 const TESTED_AT_ONCE: usize = 16 * LANES;
 
-/// How many bytes one look shows at the front of others.
+/// How many bytes `begins_with_unchanged_ascii` loads: one vector. Longer ones have no such look.
 const SHOWN_AT_ONCE: usize = LANES;
 
 /// Returns whether the bytes are few and all ASCII. More have no first look.
@@ -83,8 +83,8 @@ pub fn needs_encoded<F: Flavor>(value: &str) -> bool
     contains_changed::<F>(value.as_bytes())
 }
 
-/// Returns whether a few bytes of a text change. It has no way for many, so it is short enough to
-/// be inlined. A text has no byte above F7 (hexadecimal), so one comparison finds a lead of four.
+/// Returns whether a text changes. `encode_to_slice` asks for a block at most, so no loop is
+/// inlined. A text has no byte above F7 (hexadecimal), so one comparison finds a lead of four.
 #[inline(always)]
 pub fn few_need_encoded<F: Flavor>(value: &str) -> bool
     ensures { NeedsEncoding F.flavor (chars value.now) → IsTrue result }

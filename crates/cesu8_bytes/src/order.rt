@@ -84,7 +84,7 @@ fn same_in_front<const N: usize>(bytes: &[u8], other: &[u8], offset: usize) -> u
     first_bit::<N>(lanes.simd_ne(other_lanes).to_bitmask())
 }
 
-/// Returns a byte of UTF-8 as a number, so that these compare as UTF-16 code units do.
+/// Ranks a byte of UTF-8 as UTF-16 orders it: EE and EF become FE and FF, above the leads of four.
 #[inline(always)]
 fn rank(byte: u8) -> u8
     ensures { result ≡ utf16_rank byte }

@@ -11,10 +11,10 @@ pub const PAIR: usize = 6;
 /// How many bytes the UTF-8 of its character has.
 pub const PAIR_UTF8: usize = 4;
 
-/// How many bytes are read to find a surrogate pair: those of a word.
+/// How many bytes a look for a pair reads: a `u64`, of which the last two bytes decide nothing.
 pub const PAIR_READ: usize = 8;
 
-/// The bits that all surrogate pairs share.
+/// What all pairs share of ED, A0 to AF, 80 to BF, ED, B0 to BF, 80 to BF, the first byte lowest.
 const PAIR_BITS: u64 = 0x0000_80B0_ED80_A0ED;
 
 /// Returns whether a surrogate pair begins the bytes.
@@ -34,7 +34,7 @@ pub fn utf8_of_pair(bytes: &[u8]) -> [u8; PAIR_UTF8]
 {
     // The plane offset: one more than the last four bits of the second byte.
     let word = first_word(bytes).wrapping_add(0x100);
-    // Digits that move by the same number of bits move together.
+    // To the marks F0 80 80 80 each term adds the digits that move by its number of bits.
     let utf8 = 0x8080_80F0
         + (word >> 10 & 0x0000_0F07)
         + ((word & 0x0003_0300) << 4)

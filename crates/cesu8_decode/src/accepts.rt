@@ -16,7 +16,7 @@ use crate::way::are_few;
 use cesu8_bytes::flavor::Flavor;
 use cesu8_bytes::looks::{is_short_ascii, is_short_unchanged_ascii};
 
-/// What a call takes.
+/// What a call takes: `Lenient` for `decode` and `decode_lossy`, else `EncodingAlone`.
 pub trait Accepts {
     /// The bytes that it returns as they are.
     ghost keeps: { AnyFlavor → List ℕ → Type 0 };
@@ -26,7 +26,7 @@ pub trait Accepts {
 
     ghost reads_lossily: { AnyFlavor → List ℕ → List ℕ → Type 0 };
 
-    /// Returns whether the bytes are short, and all ASCII that stays.
+    /// Returns whether all is ASCII that stays, tested inline: no more bytes than `looks` chooses.
     fn is_short_kept_ascii<F: Flavor>(bytes: &[u8]) -> bool
         ensures { IsTrue result → keeps F.flavor bytes.now };
 

@@ -41,8 +41,8 @@ pub fn valid_up_to<F: Flavor>(bytes: &[u8]) -> usize
     valid_up_to_other::<F>(bytes)
 }
 
-/// Does so for bytes that are not short ASCII. It is not inlined, so that the test for that stays
-/// small.
+/// Does so for any bytes, with no test for short ASCII; `is_ill_formed` begins here. It is not
+/// inlined, so that `valid_up_to`, which makes that test first, stays small.
 #[inline(never)]
 pub fn valid_up_to_other<F: Flavor>(bytes: &[u8]) -> usize
     ensures { IsValidUpTo F.flavor bytes.now result }

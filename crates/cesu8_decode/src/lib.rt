@@ -67,8 +67,8 @@ pub fn decode_strict<F: Flavor>(
 }
 
 /// Returns the lossy reading of the bytes, behind a front as above, after one request for its
-/// length. A length that does not fit counts as refused. The text of the first 4,096 bytes is
-/// decoded before that, so that these need no pass for their length.
+/// length. A length over `usize` counts as refused. Up to 4,096 bytes (`LARGEST_ARRAY`) in front
+/// are decoded to the stack before that, so that these need no pass for their length.
 #[inline(never)]
 pub fn decode_lossy<F: Flavor>(
     alloc: Global,

@@ -25,7 +25,7 @@ use std::simd::prelude::*;
 /// How many bytes before a block are read with it, since they decide what its bytes become.
 pub const READ_BEFORE: usize = 2;
 
-/// How many bytes after a block are read with it.
+/// How many bytes after a block are read with it: of `a b c d`, `a` and `b` take bits of the next.
 pub const READ_AFTER: usize = 1;
 
 /// How many bytes are read to encode a block.

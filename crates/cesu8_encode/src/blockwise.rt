@@ -88,7 +88,7 @@ fn write_middle<F: Flavor>(
     }
 }
 
-/// Does so in one way.
+/// Does so by `W`, whose `write` is inlined: each way has its own loop, so no block asks for it.
 #[inline(always)]
 fn write_middle_by<F: Flavor, W: BlockWriter>(
     text: &[u8],

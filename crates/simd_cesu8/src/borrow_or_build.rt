@@ -2,7 +2,7 @@
 //!
 //! Decoding begins with the front, the characters that are the same in UTF-8. A call borrows if it
 //! keeps all bytes, and else what stands behind the front decides. What it takes is a type,
-//! `Lenient` or `EncodingAlone`. Of strings in a row one look shows short ASCII.
+//! `Lenient` or `EncodingAlone`. In `decode_strict_front` one vector first shows short ASCII.
 
 ghost use Rattle.std.specs.Prelude.{take};
 ghost use Rattle.simd_cesu8.specs.Calls.{Encodes, DecodesAs, DecodesLossily, DecodesStrictly};

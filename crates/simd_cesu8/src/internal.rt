@@ -83,7 +83,7 @@ pub fn decode_to_slice<F: Flavor, A: Accepts>(
     }
 }
 
-/// Does so, and replaces what is ill-formed.
+/// Does so, with U+FFFD for what is ill-formed: three bytes for one, so `usize` may be too small.
 #[inline(always)]
 pub fn decode_lossy_to_slice<F: Flavor, A: Accepts>(
     bytes: &[u8],

@@ -1,4 +1,4 @@
-//! Up to 64 bytes at a time, as the lanes of a vector.
+//! Up to 64 bytes as the lanes of a vector, and more by four vectors. `active` has these kernels.
 
 ghost use Rattle.std.specs.Prelude.{◌↔◌, IsTrue, Any};
 ghost use Rattle.cesu8_text.specs.Class.{IsFour, IsNullFour};

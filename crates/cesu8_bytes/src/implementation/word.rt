@@ -1,4 +1,4 @@
-//! Eight bytes at a time, as one word.
+//! Eight bytes at a time, as one word. `active` has `simd` instead, so tests and users call these.
 //!
 //! A word has a byte 00 exactly where subtracting 1 from each byte sets the high bit of some byte
 //! that did not have it. Through the borrow, a byte 01 above a 00 may get its high bit too. So the

@@ -62,7 +62,7 @@ pub fn bits<C: InVectors<N>, const N: usize>(bytes: Simd<u8, N>) -> u64
     C::marks(bytes).to_bitmask()
 }
 
-/// Returns all ones for each byte of the class, and zeros for the others.
+/// Returns all ones for each byte of the class, and zeros for the others, in a block of 32 bytes.
 #[inline(always)]
 pub fn mask<C: InVectors<32>>(bytes: u8x32) -> u8x32
     ensures { result ≡ map (λ b. mask (C.class b)) bytes }
@@ -79,13 +79,13 @@ pub struct Equal<const BYTE: u8>;
 /// 00.
 pub type Null = Equal<0>;
 
-/// F0 to F7 (hexadecimal): those whose upper five bits are those of F0.
+/// F0 to F7 (hexadecimal), by the upper five bits of F0. The kernels take it, for any bytes.
 pub struct FourByteLead;
 
 /// A byte and all above it.
 pub struct AtLeast<const BYTE: u8>;
 
-/// F0 (hexadecimal) or more.
+/// F0 (hexadecimal) or more: in UTF-8 just `FourByteLead`. `groups` tests for it first, by maxima.
 pub type AtLeastF0 = AtLeast<0xF0>;
 
 /// 80 (hexadecimal) or more: what is not ASCII.

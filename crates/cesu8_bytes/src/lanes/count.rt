@@ -80,7 +80,7 @@ fn block_weight<C: CountsOne>(block: &[u8]) -> usize
     lane_sum(ones) + 2 * lane_sum(fours)
 }
 
-/// Returns the sum of the lanes.
+/// Returns the sum of the lanes, by fours in wider lanes: 64 lanes of up to 16 overflow a byte.
 #[inline(always)]
 fn lane_sum(lanes: u8x64) -> usize
     ensures { result ≡ sum_l lanes }

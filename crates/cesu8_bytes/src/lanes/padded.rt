@@ -10,13 +10,13 @@ use super::short::end_vector;
 use crate::BLOCK;
 use std::simd::prelude::*;
 
-/// How many bytes are half a block.
+/// Half a block: 16 bytes, the lanes that a `swizzle_dyn_within` picks from. The tables fit it.
 const HALF: usize = BLOCK / 2;
 
 /// The index of an empty lane, which gives 0.
 const E: u8 = 128;
 
-/// The indices of a half, then as many that give 0.
+/// The indices of a half, then as many that give 0. The 16 from `i` on move lanes `i` places down.
 const INDICES: [u8; 2 * HALF] = [
     0, 1, 2, 3, 4, 5, 6, 7, 8, 9, 10, 11, 12, 13, 14, 15, E, E, E, E, E, E, E, E, E, E, E, E, E, E,
     E, E,
@@ -90,7 +90,7 @@ fn ends(bytes: &[u8]) -> u8x16
     u8x16::splat(bytes[0])
 }
 
-/// Returns at most 32 bytes with zeros behind them.
+/// Returns at most a block (32 bytes) with zeros behind: half of the 64 that `cesu8_decode` loads.
 #[inline(always)]
 pub fn padded_half(bytes: &[u8]) -> u8x32
     requires { length bytes.now ≤ BLOCK }

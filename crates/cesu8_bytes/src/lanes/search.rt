@@ -24,7 +24,7 @@ pub fn any_in_bytes<C: InAllVectors + InGroups<LANES>>(bytes: &[u8]) -> bool
     by_two_vectors!(bytes, any_in_ends[C](bytes), false)
 }
 
-/// Does so, with 65 to 128 bytes by two vectors too. It is longer, so one look alone has it.
+/// Does so, by two vectors up to 128 bytes. It is longer: `is_short_unchanged_ascii` alone has it.
 #[inline(always)]
 pub fn any_in_first_look<C: InAllVectors + InGroups<LANES>>(bytes: &[u8]) -> bool
     ensures { IsTrue result ↔ AnyIn C.class bytes.now }

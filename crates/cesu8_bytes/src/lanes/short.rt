@@ -10,8 +10,8 @@ use super::class::{InVectors, LANES, has};
 use crate::writing::put::put_lanes;
 use std::simd::prelude::*;
 
-/// From this length on bytes are copied as one slice. Where both may overlap, for all that the
-/// compiler knows, that is larger steps, and up to 127 bytes one by one.
+/// From 1,024 bytes on, `copy_short` and `append` copy one slice, in larger steps. Where both may
+/// overlap, for all that the compiler knows, up to 127 bytes are then copied one by one.
 pub(crate) const LONG: usize = 16 * LANES;
 
 /// Returns whether there are at most 64 bytes, which two vectors of one width up to 32 cover.
@@ -47,7 +47,7 @@ macro_rules! by_two_vectors {
 pub(crate) use by_two_vectors;
 
 /// Returns whether some byte is in the class, by a vector at the front and one at the end, which
-/// together cover all.
+/// together cover all. It joins both answers by `|`, so that no branch lies between the tests.
 #[inline(always)]
 pub fn any_in_ends<C: InVectors<N>, const N: usize>(bytes: &[u8]) -> bool
     requires { (N ≤ LANES) × (N ≤ length bytes.now) × (length bytes.now ≤ 2 * N) }

@@ -12,10 +12,10 @@ use std::alloc::{AllocError, Global};
 use std::mem;
 use std::simd::prelude::*;
 
-/// The lanes of the vectors that append 17 to 64 bytes.
+/// The lanes of the vectors that append 17 to 64 bytes. Four of them have to reach `LANES`.
 const WIDE: usize = 16;
 
-/// The lanes of those that append 4 to 16 bytes.
+/// The lanes of those that append 4 to 16 bytes. Four have to reach `WIDE`; fewer go one by one.
 const NARROW: usize = 4;
 
 /// Appends bytes to a buffer with enough capacity. Short values have two widths of vectors alone,

@@ -11,7 +11,7 @@ use crate::BLOCK;
 use rows_of_eight::rows_of_eight;
 use std::simd::prelude::*;
 
-/// How many bytes are stored at once. The last of them may be of no use.
+/// How many bytes a packed row stores, of which the last may not count: buffers have room for them.
 pub const STORED: usize = 16;
 
 /// How many bytes are half a block.

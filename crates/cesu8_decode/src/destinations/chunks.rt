@@ -14,8 +14,8 @@ use cesu8_bytes::writing::copies::{append, append_zeros};
 use cesu8_bytes::writing::put::put;
 use std::simd::prelude::*;
 
-/// So many bytes of a vector are cleared and written at once. More would be cleared for nothing
-/// where an ill-formed byte is near.
+/// So many bytes of a vector are cleared and written at once, at least `ROOM`. Fewer take more
+/// calls of the pass; more are cleared for nothing where strict reading refuses a byte soon.
 const CLEARED_AT_ONCE: usize = 4096;
 
 /// Appends the text of the bytes to a vector, unless strict reading refuses one of them.
@@ -36,8 +36,8 @@ pub fn append_chunks<F: Flavor, S: Reading>(bytes: &[u8], before: Vec<u8>) -> Op
     Some(text)
 }
 
-/// Appends the text of the next bytes. It is written over zeros, of which those behind it go; where
-/// few would fit, it comes from an array, since a block may be written behind its text.
+/// Appends the text of the next bytes. It is written over zeros, of which those behind it go. Where
+/// less than `SMALL_STRICT` is spare, an array takes it, since a block is stored beyond its text.
 #[inline(always)]
 fn append_next<F: Flavor, S: Reading>(
     bytes: &[u8],

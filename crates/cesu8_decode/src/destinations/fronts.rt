@@ -22,11 +22,11 @@ use cesu8_bytes::pairs::{PAIR, PAIR_READ, utf8_of_pair};
 use cesu8_bytes::strictness::StrictReading;
 use cesu8_bytes::writing::copies::{append, append_few};
 
-/// Behind a front of so many bytes the first character that changes seems to stand alone.
+/// Behind a first front shorter than this, blocks read the rest, if not few: for speed alone.
 const FRONT: usize = 16;
 
-/// The least front between two of them behind which another is looked for. Where they stand closer
-/// together, blocks take less time.
+/// The least front between two that change behind which another is looked for, for speed alone:
+/// where they stand closer together, blocks take less time.
 const LONG_FRONT: usize = 64;
 
 /// Appends the strict reading of more than a few bytes, of which `len` at the front stay in UTF-8:

@@ -83,7 +83,7 @@ pub fn build_lossily<F: Flavor>(
     }
 }
 
-/// Returns the lossy reading of bytes, decoded to an array of this length, which has room for it.
+/// Returns the lossy reading, by an array with room for it. Not inlined, so only a call clears it.
 #[inline(never)]
 fn build_by_array<F: Flavor, const WRITTEN: usize>(
     alloc: Global,
@@ -117,7 +117,7 @@ fn build_chunks<F: Flavor>(alloc: Global, bytes: &[u8]) -> Result<Vec<u8>, Alloc
 }
 
 /// Returns the first of many bytes, up to an offset that no encoded character crosses, and others.
-/// It is looked for in the last of those that an array takes; where they show none, none are first.
+/// It is sought in the last 32 that an array takes, a choice; without it all go to the second part.
 #[inline(always)]
 fn first_part(bytes: &[u8]) -> (&[u8], &[u8])
     requires { LARGEST_ARRAY < length bytes.now }

@@ -31,7 +31,7 @@ const BY_LOW: [u8; 16] = [
     0xD7, 0xCB, 0xC3, 0xC3, 0xC3, 0xC3, 0xC3, 0xC3, 0xC3, 0xC3, 0xC3, 0xC3, 0xC3, 0xE3, 0xC3, 0xC3,
 ];
 
-/// A0 to AF behind ED begin a high surrogate.
+/// Only the entry for A0 to AF differs from `UNCHANGED`: behind ED they begin a high surrogate.
 const ENCODED: Rule = Rule {
     has_changed: true,
     has_four: false,

@@ -21,10 +21,10 @@ use cesu8_bytes::lanes::class::{Equal, NonAscii, bits, mask};
 use cesu8_bytes::lanes::runs::lanes_before;
 use std::simd::prelude::*;
 
-/// How many bytes before a byte decide whether it may follow them.
+/// How many bytes before a byte decide whether it may follow: a pair's fifth needs its first, ED.
 pub const DECIDING: usize = 4;
 
-/// What stands for bytes before the first: some character of one byte.
+/// What stands for bytes before the first: of ASCII, any would do, if `after_fillers` has it too.
 pub const FILLER: u8 = 0x61;
 
 /// 32 bytes, and those one to four before each of them.
@@ -52,7 +52,7 @@ pub fn block_at(bytes: &[u8], at: usize) -> Block
     }
 }
 
-/// Returns a block of a slice by what it loaded at its offset. Before the first block stand zeros.
+/// Returns the block at an offset, whose 32 bytes the caller loaded. Zeros precede the first block.
 #[inline(always)]
 pub fn block_around(block: u8x32, bytes: &[u8], at: usize) -> Block
     requires at { (at + BLOCK ≤ length bytes.now) × (at < DECIDING → at ≡ 0) }

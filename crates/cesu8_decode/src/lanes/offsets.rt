@@ -14,16 +14,16 @@ use cesu8_bytes::flavor::{Flavor, second_of_null};
 use cesu8_bytes::lanes::class::{AtLeast, Continuation, Equal, bits, mask};
 use std::simd::prelude::*;
 
-/// The kinds of characters of two bytes.
+/// The kinds of characters of two bytes: 01 if C2 to CF lead them, and 02 if D0 to DF do.
 const KINDS_OF_TWO: u8 = 0x03;
 
-/// Those of characters of three bytes: led by E0, by ED, and by another byte.
+/// Those of characters of three bytes: 04 led by E0, 08 by a byte not E0 or ED, and 10 by ED.
 pub const KINDS_OF_THREE: u8 = 0x1C;
 
-/// That of a surrogate pair.
+/// That of a surrogate pair. Here, in `parts` and in `block` shifts by two make it the highest bit.
 pub const KIND_OF_PAIR: u8 = 0x20;
 
-/// That of C0 80 in MUTF-8.
+/// That of C0 80 in MUTF-8: the highest bit, as `second_of_null`, `parts` and `block` rely on.
 pub const KIND_OF_NULL: u8 = 0x80;
 
 /// The kinds of what two bytes begin are the common bits of three tables: by the upper half of the

@@ -16,7 +16,7 @@ use std::simd::prelude::*;
 /// The most bytes that are written for one byte: those of the replacement character.
 pub const WIDEST: usize = 3;
 
-/// How long the buffer for a block must be.
+/// The room `store` needs for a block: its longest text, and the excess of the last 16-byte store.
 pub const ROOM: usize = WIDEST * BLOCK + STORED;
 
 /// The lanes whose highest bit is set.

@@ -15,13 +15,13 @@ use std::simd::prelude::*;
 /// What a character of one byte saves.
 const SAVED_BY_ONE: u8 = 2;
 
-/// What another saves, by the lower half of its kind.
+/// What others save, by the lower half of the kind: two bytes 6 - 2, and three 9 - 3.
 const SAVED_BY_LOW: [u8; 16] = [0, 4, 4, 0, 6, 0, 0, 0, 6, 0, 0, 0, 0, 0, 0, 0];
 
-/// The same by the upper half.
+/// By the upper half: three bytes led by ED 9 - 3, a surrogate pair 18 - 4, and C0 80 6 - 1.
 const SAVED_BY_HIGH: [u8; 16] = [0, 6, 14, 0, 0, 0, 0, 0, 5, 0, 0, 0, 0, 0, 0, 0];
 
-/// The most blocks of 32 offsets that each lane sums up: an offset saves at most 14.
+/// The most blocks that a lane sums up. An offset saves at most 14, so up to 18 would fit a `u8`.
 const BLOCKS: usize = 16;
 
 /// Returns what the first offsets save, of some blocks or of all if they are few, and the bytes

@@ -26,7 +26,7 @@ use cesu8_bytes::writing::put::put_lanes;
 use std::simd::prelude::*;
 
 /// What came of a block: the end of what is written for it, whether strict reading refuses one of
-/// its bytes, and the kinds of their offsets.
+/// its bytes, and what begins at the offset of each, as bits that `lanes::offsets` names.
 #[derive(Drop)]
 pub struct Written {
     pub end: usize,
@@ -51,8 +51,8 @@ pub fn load(bytes: &[u8], source: &mut [u8])
     put_lanes(padded_half(&bytes[BLOCK..]), source, BLOCK);
 }
 
-/// Writes what becomes of the first `count` bytes of the block at an offset. The kinds of the five
-/// offsets before it come last in `before`. The other bytes go.
+/// Writes what becomes of the first `count` bytes of the block at an offset, and of no others. In
+/// `before` the last five kinds count: those of the block before, or zeros where there is none.
 ///
 /// Most blocks are copied: those of characters of one byte, whatever comes before, and those that
 /// are well-formed and near no surrogate pair and no C0 80. Others are packed, by more bytes at

@@ -20,7 +20,7 @@ use cesu8_bytes::strictness::Reading;
 use cesu8_bytes::writing::put::put;
 use std::simd::prelude::*;
 
-// The lengths of buffers for the strict and for the lossy reading of so many bytes.
+// Buffers for the text of so many bytes of `way`, and `ROOM` behind it, as the pass needs to go on.
 pub const SMALL_STRICT: usize = SMALL_ARRAY + ROOM;
 
 pub const LARGE_STRICT: usize = LARGE_ARRAY + ROOM;
