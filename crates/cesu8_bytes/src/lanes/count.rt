@@ -15,7 +15,7 @@ use super::class::{FourByteLead, InAllVectors, InVectors, LANES, NoByte, Null, O
 use super::short::by_two_vectors;
 use std::simd::prelude::*;
 
-/// A class of bytes that count one. None of them leads four bytes, which counts two.
+/// A class of bytes that count one, none a lead of four: two for each byte of a slice fit `usize`.
 pub trait CountsOne: InAllVectors {
     ghost at_most_two: { (b : ℕ) → weight_of Self.class b ≤ 2 };
 }
@@ -127,7 +127,7 @@ fn pair_weight<C: CountsOne + InVectors<N>, const N: usize>(value: &[u8]) -> usi
     first + end_weight::<C, N>(value, value.len() - N)
 }
 
-/// Counts in the last `len` bytes, by a vector of the last `N`. Less than 64 bits are shifted out.
+/// Counts in the last `len` bytes, by a vector of the last `N`. Fewer than 64 bits are shifted out.
 #[inline(always)]
 fn end_weight<C: CountsOne + InVectors<N>, const N: usize>(value: &[u8], len: usize) -> usize
     requires lanes { N ≤ LANES }

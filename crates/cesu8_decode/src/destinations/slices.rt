@@ -1,6 +1,7 @@
 //! Decodes to a caller's buffer, with no request.
 //!
-//! Up to 1,024 bytes, or 4,096 in lossy reading, are decoded to an array and copied. Of more,
+//! The text of up to 1,024 bytes, or 4,096 in lossy reading, goes to an array first. Vectors reach
+//! beyond a text, where the buffer has to keep its bytes; after an error it keeps all. Of more,
 //! strict reading tests all first, and counts where the input may not fit; lossy reading counts.
 
 ghost use Rattle.std.specs.Prelude.{◌+◌, ◌≤◌, ◌<◌, length};
@@ -133,8 +134,7 @@ fn put_few<F: Flavor, S: Reading>(
     }
 }
 
-/// Writes the reading of bytes to an array first, which has room for it. It is not inlined, so that
-/// the array is made only when it is called.
+/// Writes the reading to an array first, with room for it. Not inlined, so only a call clears it.
 #[inline(never)]
 fn put_by_array<F: Flavor, S: Reading, const WRITTEN: usize>(
     bytes: &[u8],

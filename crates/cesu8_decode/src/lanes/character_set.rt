@@ -8,13 +8,13 @@ ghost use Rattle.cesu8_decode.specs.Following.{CharacterSet as AnySet, Encoded a
 /// half of the second.
 ///
 /// Bits 80 and 20 (hexadecimal) are those of `wanted_by` in `following`. Each other is of a second
-/// byte that no character has there: 01 begins one behind a lead byte, and 02 is a continuation
-/// byte behind ASCII, 04 behind E0 in an overlong form, 08 behind C1, 10 behind C0 but where C0 80
-/// is 00, and 40 any byte behind F0 or more. In UTF-8 it is 08 behind C0, and behind F0 or more it
-/// is of what no character of four bytes has: 40 below 90, and 10 from there on.
+/// byte that no character has there: 01 begins one behind a lead byte. A continuation byte is 02
+/// behind ASCII, 04 behind E0 in an overlong form, 08 behind C1, and 10 behind C0; `following`
+/// clears 10 for C0 80 if a set has it. 40 is any byte behind F0 or more. In UTF-8 a continuation
+/// byte is 08 behind C0, 40 below 90 behind F0 or from F5 on, and 10 from 90 on behind F4 or more.
 #[derive(Clone, Copy)]
 pub struct Rule {
-    /// Surrogate pairs and C0 80 are passed over too.
+    /// Surrogate pairs, and in MUTF-8 C0 80, are passed over too.
     pub has_changed: bool,
     /// Characters of four bytes are, as in UTF-8.
     pub has_four: bool,
