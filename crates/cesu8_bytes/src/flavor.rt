@@ -13,7 +13,7 @@ use std::simd::prelude::*;
 
 /// One of the two encodings.
 pub trait Flavor {
-    /// The bytes 00 that are written as C0 80.
+    /// The bytes 00 that are written as C0 80: `lengths` counts them, and `search` finds them.
     type Null: CountsOne + InGroups<LANES>;
 
     ghost flavor: { AnyFlavor };

@@ -3,7 +3,7 @@
 //!
 //! | bytes | look | for |
 //! |---|---|---|
-//! | at most 256 | are all ASCII that does not change? | what takes the encoding alone |
+//! | at most 256 | are all ASCII that does not change? | what takes the encoding alone, `text_of` |
 //! | at most 1,024 | are all ASCII? | what takes UTF-8 as well |
 //! | at most 64, with more behind them | that of the first row, by one vector | strings in a row |
 //! | below 256 | does a byte change? up to 64 by two vectors, else by more | what encodes |
@@ -31,7 +31,8 @@ const TESTED_AT_ONCE: usize = 16 * LANES;
 /// How many bytes `begins_with_unchanged_ascii` loads: one vector. Longer ones have no such look.
 const SHOWN_AT_ONCE: usize = LANES;
 
-/// Returns whether the bytes are few and all ASCII. More have no first look.
+/// Returns whether the bytes are few and all ASCII. More have no first look. `any_in_first_look`,
+/// with two vectors up to 128 bytes, is longer code, so the next look alone has it.
 #[inline(always)]
 pub fn is_short_ascii(bytes: &[u8]) -> bool
     ensures { IsTrue result → IsAscii bytes.now }
@@ -50,8 +51,8 @@ pub fn is_short_unchanged_ascii<F: Flavor>(bytes: &[u8]) -> bool
 }
 
 /// Returns whether the first bytes are few, and all ASCII that does not change, as far as one
-/// vector shows. It may have more bytes than these, so no branch depends on how many they are,
-/// which a processor could guess wrong.
+/// vector shows. It may have more bytes than these, so no branch chooses a width by how many they
+/// are, which a processor could guess wrong.
 #[inline(always)]
 pub fn begins_with_unchanged_ascii<F: Flavor>(bytes: &[u8], len: usize) -> bool
     ensures ascii { IsTrue result → IsAscii (take len bytes.now) }

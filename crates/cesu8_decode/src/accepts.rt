@@ -16,7 +16,7 @@ use crate::way::are_few;
 use cesu8_bytes::flavor::Flavor;
 use cesu8_bytes::looks::{is_short_ascii, is_short_unchanged_ascii};
 
-/// What a call takes: `Lenient` for `decode` and `decode_lossy`, else `EncodingAlone`.
+/// What a call takes: `EncodingAlone` where its name has `strict`, else `Lenient`.
 pub trait Accepts {
     /// The bytes that it returns as they are.
     ghost keeps: { AnyFlavor → List ℕ → Type 0 };

@@ -296,10 +296,9 @@ pub fn lossy_len(bytes: &[u8]) -> Option<usize>
     internal::lossy_len::<Mutf8Flavor>(bytes)
 }
 
-/// Returns how many bytes at the front are whole encoded characters of MUTF-8
-/// (Java's `DataInput`): the length of all
-/// where [`decode_strict`] returns a text, and otherwise the offset of the first byte for which
-/// [`decode_lossy_strict`] has U+FFFD. It stops soon after that offset. It requests no memory.
+/// Returns how many bytes at the front are whole encoded characters of MUTF-8 (Java's `DataInput`):
+/// all where [`decode_strict`] returns a text, else those before the first byte for which
+/// [`decode_lossy_strict`] has U+FFFD. It stops soon after them. It requests no memory.
 ///
 /// The bytes from there on may begin with damage, or with a part of a character whose other bytes
 /// follow in the next read: of at most five bytes.

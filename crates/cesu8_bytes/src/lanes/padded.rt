@@ -22,7 +22,7 @@ const INDICES: [u8; 2 * HALF] = [
     E, E,
 ];
 
-/// By length, which lanes of `ends` are less than half a block, in their order.
+/// By their number, which lanes of `ends` give less than half a block of bytes, in their order.
 const IN_ENDS: [[u8; HALF]; HALF] = [
     [E, E, E, E, E, E, E, E, E, E, E, E, E, E, E, E],
     [0, E, E, E, E, E, E, E, E, E, E, E, E, E, E, E],

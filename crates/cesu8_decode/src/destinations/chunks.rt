@@ -69,7 +69,8 @@ fn append_next<F: Flavor, S: Reading>(
 }
 
 /// Writes the lossy reading at the front of a slice that is long enough, and returns its length. It
-/// goes by an array: a block is stored beyond its text, where a caller's bytes have to stay.
+/// goes by an array: a block is stored beyond its text, where a caller's bytes have to stay. It is
+/// not inlined: two calls need it, and the array is cleared only where it is called.
 #[inline(never)]
 pub fn put_chunks<F: Flavor>(bytes: &[u8], out: &mut [u8]) -> usize
     requires { lossy_length F.flavor bytes.now ≤ length out.old }

@@ -28,7 +28,7 @@ use cesu8_bytes::strictness::LossyReading;
 use cesu8_bytes::writing::copies::{append, copy};
 use std::alloc::{AllocError, Global};
 
-/// Writes the strict reading of bytes to an empty vector that has capacity for as many.
+/// Writes the strict reading of bytes, of which `len` in front, not all, stay, to an empty vector.
 #[inline(always)]
 pub fn write_strictly<F: Flavor>(bytes: &[u8], front: FoundFront, empty: Vec<u8>) -> Option<Vec<u8>>
     requires front { IsPartialFront F.flavor bytes.now front }
@@ -39,7 +39,7 @@ pub fn write_strictly<F: Flavor>(bytes: &[u8], front: FoundFront, empty: Vec<u8>
         return None;
     }
     if are_few(bytes) {
-        // They are read whole, in less time than their front is copied.
+        // They are read whole, by `stops`, in less time than their front is copied.
         return append_few_strictly::<F>(bytes, front.stops, empty);
     }
     write_many::<F>(bytes, front.len, empty)
