@@ -13,7 +13,7 @@ use crate::lanes::character_set::Unchanged;
 use cesu8_bytes::flavor::Flavor;
 use sums::sum_first;
 
-/// Returns the length of the strict reading, in bytes of UTF-8, if there is one.
+/// Returns the length of the strict reading, if any. The longest front that stays counts as it is.
 pub fn decoded_len<F: Flavor>(bytes: &[u8]) -> Option<usize>
     ensures some { IfSome result (λ len.
         ReadsAtLength (IsStrictReading F.flavor bytes.now) (λ text_len. len ≡ text_len)) }

@@ -24,7 +24,7 @@ pub trait InVectors<const N: usize>: Class {
         ensures { result ≡ map (λ b. lane (Self.class b)) bytes.entry };
 }
 
-/// A class found at each width: `by_two_vectors` takes the one that fits a value up to 64 bytes.
+/// A class found at each width: up to 64 bytes go by two vectors of one up to 32, more by `LANES`.
 pub trait InAllVectors: InVectors<LANES>
     + InVectors<32>
     + InVectors<16>

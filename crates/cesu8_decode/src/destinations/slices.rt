@@ -2,7 +2,7 @@
 //!
 //! The text of up to 1,024 bytes, or 4,096 in lossy reading, goes to an array first. Vectors reach
 //! beyond a text, where the buffer has to keep its bytes; after an error it keeps all. Of more,
-//! strict reading tests all first, and counts where the input may not fit; lossy reading counts.
+//! strict reading tests all first, and counts where the input would not fit; lossy reading counts.
 
 ghost use Rattle.std.specs.Prelude.{◌+◌, ◌≤◌, ◌<◌, length};
 ghost use Rattle.cesu8_text.specs.Reading.{reading};
@@ -43,7 +43,7 @@ pub fn put_strictly<F: Flavor>(
     if !may_lead_changed(bytes[front.len]) {
         return Err(Unwritten::NoText);
     }
-    // A few bytes are read whole, in less time than their front is copied.
+    // `stops` holds for at most 64 bytes alone. They are read whole: to copy a front takes longer.
     if are_few(bytes) {
         return put_few::<F, StrictReading>(bytes, front.stops, buf);
     }

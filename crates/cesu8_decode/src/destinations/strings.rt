@@ -39,14 +39,14 @@ pub fn write_strictly<F: Flavor>(bytes: &[u8], front: FoundFront, empty: Vec<u8>
         return None;
     }
     if are_few(bytes) {
-        // They are read whole, by `stops`, in less time than their front is copied.
+        // `stops` holds for at most 64 bytes alone. They are read whole: to copy a front is slower.
         return append_few_strictly::<F>(bytes, front.stops, empty);
     }
     write_many::<F>(bytes, front.len, empty)
 }
 
-/// Does so for more than a few bytes, of which the first `front` stay. The room for the result is
-/// cleared where the calling function starts, so this is its own, and few bytes clear nothing.
+/// Does so for more than a few bytes, `front` of which stay. It is apart for speed alone: where a
+/// function starts, even an inlined one, it clears room for its calls' results. Few bytes skip it.
 #[inline(always)]
 fn write_many<F: Flavor>(bytes: &[u8], front: usize, empty: Vec<u8>) -> Option<Vec<u8>>
     requires front { IsFront Unchanged F.flavor bytes.now front }
