@@ -97,7 +97,7 @@ marked_if_not_one f b = bit_or b (if is_null f b then 0xFF else 0)
 
 -- The window on some bytes: four characters of one byte go before them.
 abbrev pub after_fillers : List ℕ → List ℕ
-after_fillers bytes = 0x61 ∷ 0x61 ∷ 0x61 ∷ 0x61 ∷ bytes
+after_fillers bytes = 0 ∷ 0 ∷ 0 ∷ 0 ∷ bytes
 
 -- The bits of a set are those of the n bytes of a window from byte i + 4 on that may not follow.
 pub record AreStops (s : CharacterSet) (f : Flavor) (window : List ℕ) (i n set : ℕ) : Type 0 where

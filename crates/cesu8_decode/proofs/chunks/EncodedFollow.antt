@@ -159,6 +159,6 @@ written_fit s f (c ∷ text) is_text inside a b d e ends =
 pub whole_follow : (s : CharacterSet) (f : Flavor) (bytes : List ℕ) (m : ℕ) → m ≤ length bytes → AreWhole s f (take m bytes) →
     FollowBefore s f (after_fillers bytes) m
 whole_follow s f bytes m within whole =
-    by_index s f 0x61 0x61 0x61 0x61 m bytes within
-    (subst (FollowToEnd s f 0x61 0x61 0x61 0x61) whole.reads.1
-    (written_fit s f whole.text whole.reads.0 whole.inside 0x61 0x61 0x61 0x61 (start s)))
+    by_index s f 0 0 0 0 m bytes within
+    (subst (FollowToEnd s f 0 0 0 0) whole.reads.1
+    (written_fit s f whole.text whole.reads.0 whole.inside 0 0 0 0 (start s)))

@@ -189,12 +189,12 @@ are_whole s f (suc n) a b d e (g ∷ bytes) few ends all =
     (if_nothing s f e g (grind (arith, nat_tests)))
 
 -- A boundary stands before the first byte, behind fillers.
-pub start : (s : CharacterSet) → Ends s 0x61 0x61 0x61 0x61
+pub start : (s : CharacterSet) → Ends s 0 0 0 0
 start s = grind (arith, nat_tests)
 
 -- Bytes of which each may follow those before it are whole characters up to a boundary that none crosses.
 pub followed_whole : (s : CharacterSet) (f : Flavor) (bytes : List ℕ) (m n : ℕ) → FirstFollow s f bytes m → n ≤ m →
     crosses_at s (after_fillers bytes) n ≡ false → AreWhole s f (take n bytes)
 followed_whole s f bytes m n first fits none =
-    are_whole s f (length (take n bytes)) 0x61 0x61 0x61 0x61 (take n bytes) (omega arith) (start s)
-    (in_turn s f 0x61 0x61 0x61 0x61 n bytes (omega (arith, first.within)) (λ i before. first.follow i (omega arith), none))
+    are_whole s f (length (take n bytes)) 0 0 0 0 (take n bytes) (omega arith) (start s)
+    (in_turn s f 0 0 0 0 n bytes (omega (arith, first.within)) (λ i before. first.follow i (omega arith), none))

@@ -75,9 +75,9 @@ module _ (s : CharacterSet) (f : Flavor) (bytes before block : List ℕ) (at : �
       }
 
 -- Behind fillers a block begins as the bytes do.
-pub behind_none : (bytes : List ℕ) (j : ℕ) → j < 4 → get_or (replicate 32 0x61) (28 + j) 0 ≡ get_or (after_fillers bytes) (0 + j) 0
+pub behind_none : (bytes : List ℕ) (j : ℕ) → j < 4 → get_or (replicate 32 0) (28 + j) 0 ≡ get_or (after_fillers bytes) (0 + j) 0
 behind_none bytes j few =
-    eqb-true _ _ (agree_below_at (λ j. eqb (get_or (replicate 32 0x61) (28 + j) 0) (get_or (after_fillers bytes) (0 + j) 0)) (λ _. true) 4 j refl few)
+    eqb-true _ _ (agree_below_at (λ j. eqb (get_or (replicate 32 0) (28 + j) 0) (get_or (after_fillers bytes) (0 + j) 0)) (λ _. true) 4 j refl few)
 
 -- The bytes behind an offset with zeros have each of them.
 pub with_zeros : (bytes block : List ℕ) (at : ℕ) → block ≡ drop at bytes ++ replicate (32 - length (drop at bytes)) 0 → (j : ℕ) → j < 32 →

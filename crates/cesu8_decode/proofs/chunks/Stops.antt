@@ -29,7 +29,7 @@ unfolding shown
 second_of_changed f x y a b d e g begins first second = grind (arith, nat_tests)
 
 -- A continuation byte before it decides as a filler does.
-behind_continuation : (f : Flavor) (e g : ℕ) → 0x80 ≤ e → e < 0xC0 → eqb (shown Unchanged f 0x61 g) 0 ≡ eqb (shown Unchanged f e g) 0
+behind_continuation : (f : Flavor) (e g : ℕ) → 0x80 ≤ e → e < 0xC0 → eqb (shown Unchanged f 0 g) 0 ≡ eqb (shown Unchanged f e g) 0
 unfolding shown
 behind_continuation f e g low high = grind (arith, nat_tests)
 
@@ -172,7 +172,7 @@ seam_behind f bytes n low high second = record { follows = by_offset; crosses = 
     by_offset : (k : ℕ) → follows_at Unchanged f (after_fillers rest) k ≡ follows_at Unchanged f (after_fillers bytes) (n + 2 + k)
     by_offset zero =
         let last = at (n + 2 + 0 + 3) (n + 1) (omega arith) in
-        ap (λ g. eqb (shown Unchanged f 0x61 g) 0) (there (n + 2 + 0 + 4) 0 (omega arith))
+        ap (λ g. eqb (shown Unchanged f 0 g) 0) (there (n + 2 + 0 + 4) 0 (omega arith))
         ∙ behind_continuation f (w (n + 2 + 0 + 3)) (w (n + 2 + 0 + 4)) (omega (arith, last, low)) (omega (arith, last, high))
         ∙ rw (lt-leb 0xE0 (w (n + 2 + 0 + 2)) (omega (arith, at (n + 2 + 0 + 2) n (omega arith), second))) refl
     by_offset (suc zero) =

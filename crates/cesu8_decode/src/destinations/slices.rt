@@ -31,7 +31,7 @@ use cesu8_bytes::strictness::{LossyReading, Reading, StrictReading, Strictness};
 use cesu8_bytes::writing::copies::{NoRoom, copy_to_slice};
 
 /// Writes the strict reading of bytes to a caller's buffer, if it fits.
-#[inline(never)]
+#[inline(always)]
 pub fn put_strictly<F: Flavor>(
     bytes: &[u8],
     front: FoundFront,
@@ -43,6 +43,20 @@ pub fn put_strictly<F: Flavor>(
     if !may_lead_changed(bytes[front.len]) {
         return Err(Unwritten::NoText);
     }
+    put_changed::<F>(bytes, front, buf)
+}
+
+/// Does so where a character that changes may begin behind the front. It is not inlined, so that
+/// what is refused by its first byte has few registers to save.
+#[inline(never)]
+fn put_changed<F: Flavor>(
+    bytes: &[u8],
+    front: FoundFront,
+    buf: &mut [u8],
+) -> Result<usize, Unwritten>
+    requires { IsPartialFront F.flavor bytes.now front }
+    ensures { PutsReading F.flavor Strict bytes.now result buf.old buf.new }
+{
     // `stops` holds for at most 64 bytes alone. They are read whole: to copy a front takes longer.
     if are_few(bytes) {
         return put_few::<F, StrictReading>(bytes, front.stops, buf);

@@ -25,7 +25,7 @@ use std::simd::prelude::*;
 pub const DECIDING: usize = 4;
 
 /// What stands for bytes before the first: of ASCII, any would do, if `after_fillers` has it too.
-pub const FILLER: u8 = 0x61;
+pub const FILLER: u8 = 0;
 
 /// 32 bytes, and those one to four before each of them.
 #[derive(Clone, Copy)]

@@ -8,8 +8,8 @@ use Rattle.cesu8_decode.proofs.decoder.FollowingBlocks.{behind_fillers}
 use Rattle.cesu8_decode.proofs.front.last_boundary.Goals as goal
 
 -- Before the bytes stand four fillers,
-filler : (bytes : List ℕ) (i : ℕ) → i < 4 → get_or (after_fillers bytes) i 0 ≡ 0x61
-filler bytes i near = eqb-true _ _ (agree_below_at (λ i. eqb (get_or (after_fillers bytes) i 0) 0x61) (λ _. true) 4 i refl near)
+filler : (bytes : List ℕ) (i : ℕ) → i < 4 → get_or (after_fillers bytes) i 0 ≡ 0
+filler bytes i near = eqb-true _ _ (agree_below_at (λ i. eqb (get_or (after_fillers bytes) i 0) 0) (λ _. true) 4 i refl near)
 
 -- and behind them each byte.
 there : (bytes : List ℕ) (i j : ℕ) → i + 4 ≡ j → get_or (after_fillers bytes) j 0 ≡ get_or bytes i 0

@@ -1,10 +1,8 @@
-use borrow.Rule.Slice.PartMut.{put_mid}
-use Rattle.std.proofs.Common.{add-zero, get_or, ◌≡◌, ℕ, ◌-◌, ◌≤◌, List, ◌++◌, refl, ap, ◌∙◌, append-nil, arith, length, take, drop, length-drop, length-append}
-use Rattle.std.proofs.Math.Seq.{drop-append_seam}
+use Rattle.std.proofs.Common.{add-zero, get_or, refl, ap, ◌∙◌, drop}
 use Rattle.std.proofs.lemmas.Bool.{both_ways}
-use Rattle.std.proofs.lemmas.List.{get_or-drop, take_rest, drop_all, take-append-drop, length-take-le}
+use Rattle.std.proofs.lemmas.List.{get_or-drop}
 use Rattle.cesu8_bytes.specs.declared.strictness.Strictness.TheVariants.{Strict}
-use Rattle.cesu8_decode.proofs.chunks.FrontReadings.{unless_begun, written_length, needed_length, front_put, front_lacks_room, front_lacks_text}
+use Rattle.cesu8_decode.proofs.chunks.FrontReadings.{unless_begun}
 use Rattle.cesu8_decode.proofs.chunks.SliceReadings.{no_strict_text}
 use Rattle.cesu8_decode.proofs.destinations.slices.put_strictly.Goals as goal
 
@@ -19,83 +17,3 @@ returns-then-not-may_lead_changed g c =
           (λ begun. both_ways c.may_lead_changed.result c.if-not-may_lead_changed.true
           (c.may_lead_changed.ensures f (drop n bytes) begun (get_or-drop n bytes 0 0 ∙ ap (λ k. get_or bytes k 0) (add-zero n)))) c.requires.more,
     )
-
-pub returns-then-not-begins_changed : goal.returns-then-not-begins_changed
-returns-then-not-begins_changed g c =
-    let f = g.F.Flavor.flavor in
-    let bytes = c.args.bytes.now in
-    let tells = rw take_rest at c.begins_changed.ensures in
-    no_strict_text f Strict bytes c.args.buf.now (
-      refl,
-      unless_begun f bytes c.args.front.len c.requires.found.len (λ begun. both_ways c.begins_changed.result c.if-not-begins_changed.true (tells.1 begun)) c.requires.more,
-    )
-
--- Nothing stands behind what is written from an offset to the end.
-to_end : (start : ℕ) (buf new : List ℕ) → put_mid start (length buf - start) buf new ≡ take start buf ++ new
-to_end start buf new =
-    ap (λ bs. take start buf ++ bs) (ap (λ bs. new ++ bs) (drop_all (length buf - start) (drop start buf) (omega (arith, length-drop start buf))) ∙ append-nil new)
-
--- So all stays where that stays.
-stays : (start : ℕ) (buf new : List ℕ) → new ≡ drop start buf → put_mid start (length buf - start) buf new ≡ buf
-stays start buf new same = to_end start buf new ∙ ap (λ bs. take start buf ++ bs) same ∙ take-append-drop start buf
-
-pub copy_short-requires : goal.copy_short-requires
-copy_short-requires g c =
-    let bytes = c.args.bytes.now in
-    let buf = c.args.buf.now in
-    let n = c.args.front.len in
-    let start = c.min-start.result in
-    let room = (written_length _ (drop n bytes) (drop start buf) _ _ (simp take_rest at c.in-Ok.ensures)).0 (omega (arith, length-drop n bytes, c.requires.more)) in
-    omega (
-      arith,
-      ap length (to_end start buf c.put_strictly_whole.new.buf),
-      length-append (take start buf) c.put_strictly_whole.new.buf,
-      room,
-      length-drop start buf,
-      c.min-start.ensures,
-      length-take-le n bytes c.requires.found.len.within,
-      length-take-le start buf (omega (arith, room, length-drop start buf)),
-    )
-
-pub returns-in-Ok : goal.returns-in-Ok
-returns-in-Ok g c =
-    let f = g.F.Flavor.flavor in
-    let bytes = c.args.bytes.now in
-    let buf = c.args.buf.now in
-    let n = c.args.front.len in
-    let start = c.min-start.result in
-    let new = c.put_strictly_whole.new.buf in
-    let puts = simp take_rest at c.in-Ok.ensures in
-    let room = (written_length f (drop n bytes) (drop start buf) _ _ puts).0 (omega (arith, length-drop n bytes, c.requires.more)) in
-    let is : start ≡ n = omega (arith, room, length-drop start buf, c.min-start.ensures) in
-    let long : length (take n bytes) ≡ length (take start buf) =
-    omega (arith, is, room, length-drop start buf, length-take-le n bytes c.requires.found.len.within, length-take-le start buf (omega (arith, room, length-drop start buf))) in
-    front_put f bytes buf n c.requires.found.len (omega arith) start c.in-Ok.len new c.copy_short.new.buf
-    (omega (arith, is, room, length-drop start buf)) is puts
-    (c.copy_short.ensures ∙ ap (λ bs. take n bytes ++ bs)
-    (ap (drop (length (take n bytes))) (to_end start buf new) ∙ ap (λ m. drop m (take start buf ++ new)) long ∙ drop-append_seam (take start buf) new))
-
-pub overflow_add-result-in-Err-NoRoom : goal.overflow_add-result-in-Err-NoRoom
-overflow_add-result-in-Err-NoRoom g c =
-    let n = c.args.front.len in
-    let puts = rw c.in-Err-NoRoom.field-0-is at (simp take_rest at c.in-Err-NoRoom.ensures) in
-    let needed = needed_length g.F.Flavor.flavor (drop n c.args.bytes.now) (drop c.min-start.result c.args.buf.now) _ c.in-Err-NoRoom.no_room puts in
-    omega (arith, needed.0, length-drop n c.args.bytes.now, c.requires.more)
-
-pub returns-in-Err-NoRoom : goal.returns-in-Err-NoRoom
-returns-in-Err-NoRoom g c =
-    let f = g.F.Flavor.flavor in
-    let buf = c.args.buf.now in
-    let start = c.min-start.result in
-    let puts = rw c.in-Err-NoRoom.field-0-is at (simp take_rest at c.in-Err-NoRoom.ensures) in
-    front_lacks_room f c.args.bytes.now buf c.args.front.len c.requires.found.len (omega arith) start c.put_strictly_whole.new.buf _ c.in-Err-NoRoom.no_room _
-    (λ (fits : c.args.front.len ≤ length buf). omega (arith, c.min-start.ensures)) c.requires.more puts refl (stays start buf c.put_strictly_whole.new.buf puts.unchanged)
-
-pub returns-in-Err-NoText : goal.returns-in-Err-NoText
-returns-in-Err-NoText g c =
-    let f = g.F.Flavor.flavor in
-    let buf = c.args.buf.now in
-    let start = c.min-start.result in
-    let puts = rw c.in-Err-NoText.field-0-is at (simp take_rest at c.in-Err-NoText.ensures) in
-    front_lacks_text f c.args.bytes.now buf c.args.front.len c.requires.found.len (omega arith) (drop start buf) c.put_strictly_whole.new.buf _ puts
-    (stays start buf c.put_strictly_whole.new.buf puts.unchanged)

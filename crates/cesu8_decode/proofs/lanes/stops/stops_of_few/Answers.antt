@@ -6,7 +6,7 @@ pub returns-then-is_one_block : goal.returns-then-is_one_block
 returns-then-is_one_block g c =
     let bytes = c.args.bytes.now in
     let block = c.padded_half.result in
-    let fillers = replicate {A = ℕ} 32 0x61 in
+    let fillers = replicate {A = ℕ} 32 0 in
     record {
       n = 32;
       within = (omega (arith, c.is_one_block.ensures.0 c.if-is_one_block.true), omega arith);

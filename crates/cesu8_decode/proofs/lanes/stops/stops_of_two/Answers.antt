@@ -12,7 +12,7 @@ joined g c =
     let s = g.S.CharacterSet.set in
     let f = g.F.Flavor.flavor in
     let bytes = c.args.bytes.now in
-    let fillers = replicate {A = ℕ} 32 0x61 in
+    let fillers = replicate {A = ℕ} 32 0 in
     let first = take 32 bytes in
     let second = c.padded_half-second.result in
     let long = length-take-le 32 bytes (omega (arith, c.requires)) in
