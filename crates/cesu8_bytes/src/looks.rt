@@ -4,21 +4,22 @@
 //! | bytes | look | for |
 //! |---|---|---|
 //! | at most 256 | are all ASCII that does not change? | what takes the encoding alone, `text_of` |
-//! | at most 1,024 | are all ASCII? | what takes UTF-8 as well |
-//! | at most 64, with more behind them | that of the first row, by one vector | strings in a row |
+//! | at most 1,024 | how many are ASCII? | what takes UTF-8 as well |
+//! | at most 64, in front of a slice of 64 or more | that of the first row, by one vector | strings in a row |
 //! | below 256 | does a byte change? up to 64 by two vectors, else by more | what encodes |
 //! | 256 and more | the same, by a call of the kernels, so that the short way has few registers to save | the same |
 
-ghost use Rattle.std.specs.Prelude.{◌↔◌, IsTrue, Any, length, take};
+ghost use Rattle.std.specs.Prelude.{◌↔◌, ◌≤◌, IsTrue, Any, length, take, IfNone, IfSome};
 ghost use Rattle.std.specs.Str.{chars, IsAscii};
 ghost use Rattle.cesu8_text.specs.Class.{IsChangedByte};
 ghost use Rattle.cesu8_text.specs.Encoding.{NeedsEncoding};
 
 use crate::flavor::Flavor;
 use crate::implementation::active;
-use crate::lanes::class::{AtLeastF0, Either, FourByteLead, LANES, NonAscii};
-use crate::lanes::runs::lanes_before;
+use crate::lanes::class::{AtLeastF0, Either, FourByteLead, LANES, NonAscii, has};
+use crate::lanes::runs::{lanes_before, run_of_vectors};
 use crate::lanes::search::{any_in_bytes, any_in_first_look};
+use crate::lanes::short::are_short;
 use std::simd::prelude::*;
 
 /// The most bytes that are tested for ASCII that does not change before anything is called. From
@@ -31,13 +32,30 @@ const TESTED_AT_ONCE: usize = 16 * LANES;
 /// How many bytes `begins_with_unchanged_ascii` loads: one vector. Longer ones have no such look.
 const SHOWN_AT_ONCE: usize = LANES;
 
-/// Returns whether the bytes are few and all ASCII. More have no first look. `any_in_first_look`,
-/// with two vectors up to 128 bytes, is longer code, so the next look alone has it.
+/// Returns `None` where the bytes are few and all ASCII, or how many at the front are, by vectors of
+/// 64 bytes. More have no first look. The run is found behind the test, which is shorter for ASCII
+/// as it counts nothing. `any_in_first_look`, with two vectors up to 128 bytes, is longer code, so
+/// the next look alone has it.
 #[inline(always)]
-pub fn is_short_ascii(bytes: &[u8]) -> bool
-    ensures { IsTrue result → IsAscii bytes.now }
+pub fn ascii_unless_all(bytes: &[u8]) -> Option<usize>
+    ensures all { IfNone result (IsAscii bytes.now) }
+    ensures within { IfSome result (λ len. len ≤ length bytes.now) }
+    ensures front { IfSome result (λ len. IsAscii (take len bytes.now)) }
 {
-    bytes.len() <= TESTED_AT_ONCE && !any_in_bytes::<NonAscii>(bytes)
+    if bytes.len() > TESTED_AT_ONCE {
+        return Some(0);
+    }
+    if are_short(bytes) {
+        return any_in_bytes::<NonAscii>(bytes).then_some(0);
+    }
+    // Most others show it in the first vector.
+    if has::<NonAscii, LANES>(u8x64::from_slice(bytes)) {
+        return Some(0);
+    }
+    if !any_in_bytes::<NonAscii>(bytes) {
+        return None;
+    }
+    Some(run_of_vectors::<NonAscii>(bytes))
 }
 
 /// Returns whether the bytes are few and all ASCII that does not change: in MUTF-8 00 does, and in

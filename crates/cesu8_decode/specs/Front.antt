@@ -1,5 +1,6 @@
 -- Bytes at the front that are whole characters of a set.
 use Rattle.std.specs.Prelude.{◌≡◌, ℕ, ◌<◌, ◌≤◌, List, length, take, Any, IsTrue}
+use Rattle.std.specs.Str.{IsAscii}
 use Rattle.cesu8_text.specs.Class.{is_null}
 use Rattle.cesu8_text.specs.Encoding.{Flavor, encoding, IsEncodedOtherwise}
 use Rattle.cesu8_text.specs.Text.{IsText, utf8}
@@ -40,3 +41,8 @@ pub record IsFrontOf (s : CharacterSet) (f : Flavor) (bytes : List ℕ) (front :
 pub record IsPartialFront (f : Flavor) (bytes : List ℕ) (front : FoundFront) : Type 0 where
   pub found : IsFrontOf Unchanged f bytes front
   pub more : front.len < length bytes
+
+-- So many bytes at the front are ASCII.
+pub record BeginsWithAscii (bytes : List ℕ) (n : ℕ) : Type 0 where
+  pub within : n ≤ length bytes
+  pub ascii : IsAscii (take n bytes)

@@ -1,20 +1,20 @@
 //! What a call that decodes takes, as types.
 
-ghost use Rattle.std.specs.Prelude.{◌≡◌, ◌↔◌, ℕ, ◌≤◌, List, IsTrue, IfNone, IfSome, IsUtf8, length};
+ghost use Rattle.std.specs.Prelude.{◌≡◌, ◌↔◌, ℕ, ◌<◌, ◌≤◌, List, IsTrue, IfNone, IfSome, IsUtf8, length};
 ghost use Rattle.cesu8_text.specs.Class.{IsUnchangedUtf8};
 ghost use Rattle.cesu8_text.specs.Encoding.{Flavor as AnyFlavor};
 ghost use Rattle.cesu8_text.specs.Reading.{IsStrictReading, IsLenientReading, reading, IsLenientLossyReading};
 ghost use Rattle.cesu8_text.specs.Kept.{KnowsTexts};
 ghost use Rattle.cesu8_text.proofs.reading.KeptTexts.{encoding_texts, lenient_texts};
 ghost use Rattle.cesu8_decode.specs.Following.{Unchanged as AllUnchanged};
-ghost use Rattle.cesu8_decode.specs.Front.{IsFront, IsPartialFront};
+ghost use Rattle.cesu8_decode.specs.Front.{IsFront, IsPartialFront, BeginsWithAscii};
 
 use crate::front::{FoundFront, front, is_utf8, is_utf8_from};
 use crate::lanes::character_set::Unchanged;
 use crate::lanes::following::DECIDING;
-use crate::way::are_few;
+use crate::way::{FEW_BYTES, are_few};
 use cesu8_bytes::flavor::Flavor;
-use cesu8_bytes::looks::{is_short_ascii, is_short_unchanged_ascii};
+use cesu8_bytes::looks::{ascii_unless_all, is_short_unchanged_ascii};
 
 /// What a call takes: `EncodingAlone` where its name has `strict`, else `Lenient`.
 pub trait Accepts {
@@ -26,14 +26,20 @@ pub trait Accepts {
 
     ghost reads_lossily: { AnyFlavor → List ℕ → List ℕ → Type 0 };
 
-    /// Returns whether all is ASCII that stays, tested inline: no more bytes than `looks` chooses.
-    fn is_short_kept_ascii<F: Flavor>(bytes: &[u8]) -> bool
-        ensures { IsTrue result → keeps F.flavor bytes.now };
+    /// Returns `None` where a look that is inlined shows that all are ASCII, and kept, or how many at
+    /// the front it shows to be. `looks` chooses of how many bytes there is one.
+    fn ascii_unless_kept<F: Flavor>(bytes: &[u8]) -> Option<usize>
+        ensures kept { IfNone result (keeps F.flavor bytes.now) }
+        ensures ascii { IfSome result (BeginsWithAscii bytes.now) };
 
-    /// Returns whether all bytes are kept. So many at the front, and no more, stay in UTF-8.
-    fn keeps_all<F: Flavor>(bytes: &[u8], front: usize) -> bool
-        requires { IsFront AllUnchanged F.flavor bytes.now front }
-        ensures { IsTrue result ↔ keeps F.flavor bytes.now };
+    /// Returns the front of what stays in UTF-8, or all bytes if they are kept. The first `ascii` are
+    /// ASCII. It is not inlined, so that the look before stays small, and returns two words, which
+    /// stay in registers.
+    fn front_of_other<F: Flavor>(bytes: &[u8], ascii: usize) -> FoundFront
+        requires { BeginsWithAscii bytes.now ascii }
+        ensures kept { result.len ≡ length bytes.now ↔ keeps F.flavor bytes.now }
+        ensures front { ¬ (result.len ≡ length bytes.now)
+            → IsPartialFront F.flavor bytes.now result };
 
     ghost known: { (f : AnyFlavor) (bytes : List ℕ)
         → KnowsTexts f bytes (keeps f bytes) (reads f bytes) (reads_lossily f bytes) };
@@ -47,31 +53,12 @@ pub fn front_unless_kept<F: Flavor, A: Accepts>(bytes: &[u8]) -> Option<FoundFro
     ensures other { IfSome result (λ _. ¬ (A.keeps F.flavor bytes.now)) }
     ensures front { IfSome result (IsPartialFront F.flavor bytes.now) }
 {
-    if A::is_short_kept_ascii::<F>(bytes) {
-        return None;
-    }
-    let front = front_of_other::<F, A>(bytes);
+    let ascii = A::ascii_unless_kept::<F>(bytes)?;
+    let front = A::front_of_other::<F>(bytes, ascii);
     if front.len == bytes.len() {
         return None;
     }
     Some(front)
-}
-
-/// Returns that front, or all bytes if they are kept. It is not inlined, so that the test for short
-/// ASCII stays small, and returns two words, which stay in registers.
-#[inline(never)]
-pub fn front_of_other<F: Flavor, A: Accepts>(bytes: &[u8]) -> FoundFront
-    ensures kept { result.len ≡ length bytes.now ↔ A.keeps F.flavor bytes.now }
-    ensures front { ¬ (result.len ≡ length bytes.now) → IsPartialFront F.flavor bytes.now result }
-{
-    let front = front::<F, Unchanged>(bytes);
-    if A::keeps_all::<F>(bytes, front.len) {
-        return FoundFront {
-            len: bytes.len(),
-            stops: front.stops,
-        };
-    }
-    front
 }
 
 /// UTF-8 as a whole, or else the encoding.
@@ -85,28 +72,70 @@ impl Accepts for Lenient {
     ghost reads_lossily = { IsLenientLossyReading };
 
     #[inline(always)]
-    fn is_short_kept_ascii<F: Flavor>(bytes: &[u8]) -> bool {
-        is_short_ascii(bytes)
+    fn ascii_unless_kept<F: Flavor>(bytes: &[u8]) -> Option<usize> {
+        ascii_unless_all(bytes)
     }
 
-    #[inline(always)]
-    fn keeps_all<F: Flavor>(bytes: &[u8], front: usize) -> bool {
-        if front == bytes.len() {
-            return true;
+    #[inline(never)]
+    fn front_of_other<F: Flavor>(bytes: &[u8], ascii: usize) -> FoundFront {
+        if ascii >= DECIDING && !are_few(bytes) {
+            return front_behind_ascii::<F>(bytes, ascii);
         }
-        // Where all is UTF-8, a character that changes begins there: of four bytes, or 00.
-        if !matches!(bytes[front], 0 | 0xF0..=0xF7) {
-            return false;
+        let front = front::<F, Unchanged>(bytes);
+        if is_utf8_behind::<F>(bytes, front.len) {
+            return all_of(bytes);
         }
-        // A few bytes are tested whole, so that no branch depends on the front. So are more, where
-        // less stands before the others than decides about the first of them.
-        if are_few(bytes) || front < DECIDING {
-            return is_utf8(bytes);
-        }
-        is_utf8_from(bytes, front)
+        front
     }
 
     ghost known = { lenient_texts };
+}
+
+/// Returns the front of more than 64 bytes that stays, or all if they are UTF-8. That is tested
+/// first, from the end of the ASCII that the look showed on.
+#[inline(never)]
+fn front_behind_ascii<F: Flavor>(bytes: &[u8], ascii: usize) -> FoundFront
+    requires ascii { BeginsWithAscii bytes.now ascii }
+    requires many { (DECIDING ≤ ascii) × (FEW_BYTES < length bytes.now) }
+    ensures kept { result.len ≡ length bytes.now ↔ IsUtf8 bytes.now }
+    ensures front { ¬ (result.len ≡ length bytes.now) → IsPartialFront F.flavor bytes.now result }
+{
+    if is_utf8_from(bytes, ascii) {
+        return all_of(bytes);
+    }
+    front::<F, Unchanged>(bytes)
+}
+
+/// Returns what stands for the front where all bytes are kept.
+#[inline(always)]
+fn all_of(bytes: &[u8]) -> FoundFront
+    ensures { result.len ≡ length bytes.now }
+{
+    FoundFront {
+        len: bytes.len(),
+        stops: 0,
+    }
+}
+
+/// Returns whether all bytes are UTF-8. So many at the front, and no more, stay.
+#[inline(always)]
+fn is_utf8_behind<F: Flavor>(bytes: &[u8], front: usize) -> bool
+    requires { IsFront AllUnchanged F.flavor bytes.now front }
+    ensures { IsTrue result ↔ IsUtf8 bytes.now }
+{
+    if front == bytes.len() {
+        return true;
+    }
+    // Where all is UTF-8, a character that changes begins there: of four bytes, or 00.
+    if !matches!(bytes[front], 0 | 0xF0..=0xF7) {
+        return false;
+    }
+    // A few bytes are tested whole, so that no branch depends on the front. So are more, where less
+    // stands before the others than decides about the first of them.
+    if are_few(bytes) || front < DECIDING {
+        return is_utf8(bytes);
+    }
+    is_utf8_from(bytes, front)
 }
 
 /// The encoding alone. UTF-8 is one if no byte of it changes.
@@ -120,13 +149,15 @@ impl Accepts for EncodingAlone {
     ghost reads_lossily = { λ f bytes text. text ≡ reading f bytes };
 
     #[inline(always)]
-    fn is_short_kept_ascii<F: Flavor>(bytes: &[u8]) -> bool {
-        is_short_unchanged_ascii::<F>(bytes)
+    fn ascii_unless_kept<F: Flavor>(bytes: &[u8]) -> Option<usize> {
+        (!is_short_unchanged_ascii::<F>(bytes)).then_some(0)
     }
 
-    #[inline(always)]
-    fn keeps_all<F: Flavor>(bytes: &[u8], front: usize) -> bool {
-        front == bytes.len()
+    #[inline(never)]
+    fn front_of_other<F: Flavor>(bytes: &[u8], ascii: usize) -> FoundFront {
+        // The look above shows all or none to be ASCII.
+        let _ = ascii;
+        front::<F, Unchanged>(bytes)
     }
 
     ghost known = { encoding_texts };

@@ -13,7 +13,7 @@ ghost use Rattle.cesu8_decode.specs.Following.{FirstFollow, FollowUpTo, Encoded 
 ghost use Rattle.cesu8_decode.specs.Front.{IsFront, IsFrontOf};
 
 use crate::lanes::character_set::{CharacterSet, Encoded, Utf8};
-use crate::lanes::following::{DECIDING, FILLER, block_at, following_len, two_follow};
+use crate::lanes::following::{DECIDING, block_at, following_len, two_follow};
 use crate::lanes::stops::{next_stop, stops_of_few};
 use crate::way::{FEW_BYTES, are_few};
 use cesu8_bytes::BLOCK;
@@ -250,13 +250,13 @@ fn begins_high_surrogate(first: u8, second: u8) -> bool
     first == 0xED && matches!(second, 0xA0..=0xAF)
 }
 
-/// Returns the byte so many before an offset, or the filler if there is none. The four before an
-/// offset decide whether a character may cross it.
+/// Returns the byte so many before an offset, or 0 if there is none. The four before an offset decide
+/// whether a character may cross it.
 #[inline(always)]
 fn byte_before(bytes: &[u8], at: usize, back: usize) -> u8
     requires at { at ≤ length bytes.now }
     requires back { (0 < back) × (back ≤ 4) }
     ensures { result ≡ slice_index (after_fillers bytes.now) (at + (4 - back)) }
 {
-    if back <= at { bytes[at - back] } else { FILLER }
+    if back <= at { bytes[at - back] } else { 0 }
 }

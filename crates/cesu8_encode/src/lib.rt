@@ -7,8 +7,8 @@
 //! The four bytes `a b c d` of one character become a surrogate pair, ED and two bytes each:
 //!
 //! ```text
-//! a ──► ED, four bits of a and two of b      c ──► ED, four bits of c
-//! b ──► four bits of b and two of c          d ──► d
+//! a ──► ED, three bits of a and two of b, less 1     c ──► ED, four bits of c
+//! b ──► four bits of b and two of c                  d ──► d
 //! ```
 //!
 //! In MUTF-8 the byte 00 becomes C0 80, and every other byte stays. So a row of eight bytes becomes
@@ -47,7 +47,7 @@ const ON_STACK_ENCODED: usize = 2 * ON_STACK;
 
 /// Returns the encoding of a text, after one request for exactly its length. A short text goes to
 /// an array, and is not counted; a block to a smaller one, cleared in less time. It is not inlined:
-/// to borrow then uses no stack. `encode_on_stack` is, so that `write` asks for no block again.
+/// to borrow then uses no stack. `encode_on_stack` is, so that `write` tests no length again.
 #[inline(never)]
 pub fn encode<F: Flavor>(alloc: Global, text: &str) -> Result<Vec<u8>, AllocError>
     ensures { BuildsEncoding F.flavor text.now result }
@@ -75,6 +75,7 @@ fn encode_on_stack<F: Flavor, const N: usize>(
     ensures { BuildsEncoding F.flavor text.now result }
 {
     let mut written = [0; N];
+    // The encoding is not counted before.
     let len = write::<F>(text, 0, &mut written);
     copy(alloc, &written[..len])
 }

@@ -57,7 +57,7 @@ pub null_lead : (f : Flavor) (a b : ℕ) → null_at f a b ≡ true → a ≡ 0x
 null_lead f a b null = grind (arith, nat_tests)
 
 -- So 00 is written for it.
-pub null_read : (f : Flavor) (which : Strictness) (bytes old new : List ℕ) → null_at f (get_or bytes 0 0) (get_or bytes 1 0) ≡ true →
+null_read : (f : Flavor) (which : Strictness) (bytes old new : List ℕ) → null_at f (get_or bytes 0 0) (get_or bytes 1 0) ≡ true →
     new ≡ old ++ 0 ∷ [] → IsReadSoFar f which bytes (drop 2 bytes) old new
 null_read f which bytes old new null new_is =
     let width_is = null_found f bytes null in

@@ -2,7 +2,7 @@
 use Rattle.std.proofs.Common.{◌≡◌, ℕ, ◌+◌, ◌/◌, ◌<◌, ◌↔◌, List, [], ◌∷◌, ◌++◌, refl, sym, ap, ◌∙◌, subst, arith, add-zero, length, get_or, take, drop, length-drop, true≢false}
 use Rattle.std.specs.Str.{chars, IsUtf8}
 use Rattle.std.proofs.lemmas.Bool.Decides.{nat_tests}
-use Rattle.std.proofs.lemmas.List.{get_or-drop}
+use Rattle.std.proofs.lemmas.List.{get_or-drop, get_or-take}
 use Rattle.std.proofs.lemmas.Str.{IsUtf8-drop, IsCharBoundary-from_take}
 use Rattle.cesu8_text.specs.Class.{IsChangedByte, IsUnchangedUtf8}
 use Rattle.cesu8_text.specs.Encoding.{Flavor, Cesu8, IsEncodedOtherwise, NeedsEncoding}
@@ -16,9 +16,10 @@ use Rattle.cesu8_text.proofs.encoding.Unique.{no_reading}
 use Rattle.cesu8_text.proofs.reading.Borrowing.{unchanged_reading}
 use Rattle.cesu8_bytes.specs.declared.strictness.Strictness.{Strictness}
 use Rattle.cesu8_decode.specs.Following.{Encoded, Unchanged, Utf8, FirstFollow}
-use Rattle.cesu8_decode.specs.Front.{AreWhole, IsFront}
+use Rattle.cesu8_decode.specs.Front.{AreWhole, IsFront, BeginsWithAscii}
 use Rattle.cesu8_decode.proofs.by_offset.IllFormed.{IsChunk, chunk_of_text}
 use Rattle.cesu8_decode.proofs.chunks.EncodedFollow.{whole_follow}
+use Rattle.cesu8_decode.proofs.decoder.FollowingBlocks.{ones_follow}
 use Rattle.cesu8_decode.proofs.chunks.WholeBytes.{none_outside}
 use Rattle.cesu8_decode.proofs.chunks.Fronts.{all_front, front_of_all, bytes_are, none_behind}
 
@@ -54,6 +55,11 @@ utf8_whole bytes = (
   λ whole. subst IsUtf8 whole.reads.1 (IsUtf8_utf8 whole.text whole.reads.0),
   λ is_utf8. record { text = chars bytes; reads = IsUtf8Of_chars bytes is_utf8; inside = none_outside _ (λ c null. true≢false (sym null)) (chars bytes) },
 )
+
+-- ASCII may follow ASCII there.
+pub ascii_followed : (bytes : List ℕ) (n : ℕ) → BeginsWithAscii bytes n → FirstFollow Utf8 Cesu8 bytes n
+ascii_followed bytes n begins =
+    ones_follow Utf8 Cesu8 bytes n begins.within (λ i before. (subst (λ b. b < 0x80) (get_or-take n bytes i 0 before) (begins.ascii i), refl))
 
 -- ---- characters
 

@@ -24,9 +24,6 @@ use std::simd::prelude::*;
 /// How many bytes before a byte decide whether it may follow: a pair's fifth needs its first, ED.
 pub const DECIDING: usize = 4;
 
-/// What stands for bytes before the first: of ASCII, any would do, if `after_fillers` has it too.
-pub const FILLER: u8 = 0;
-
 /// 32 bytes, and those one to four before each of them.
 #[derive(Clone, Copy)]
 pub struct Block {
@@ -65,7 +62,8 @@ pub fn block_around(block: u8x32, bytes: &[u8], at: usize) -> Block
     block_at(bytes, at - DECIDING)
 }
 
-/// Returns 32 bytes, behind the last ones of as many.
+/// Returns 32 bytes, behind the last ones of as many. Zeros stand before the first: any ASCII would
+/// do, if `after_fillers` has it too, but they take the fewest instructions.
 #[inline(always)]
 pub fn block_behind(before: u8x32, bytes: u8x32) -> Block
     ensures { IsBlockAt (drop (BLOCK - DECIDING) (before ++ bytes)) 0 result }

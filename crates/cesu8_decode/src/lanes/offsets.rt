@@ -14,7 +14,7 @@ use cesu8_bytes::flavor::{Flavor, second_of_null};
 use cesu8_bytes::lanes::class::{AtLeast, Continuation, Equal, bits, mask};
 use std::simd::prelude::*;
 
-/// The kinds of characters of two bytes: 01 if C2 to CF lead them, and 02 if D0 to DF do.
+/// The kinds of characters of two bytes: 01 for a lead byte of C2 to CF, and 02 for one above.
 const KINDS_OF_TWO: u8 = 0x03;
 
 /// Those of characters of three bytes: 04 led by E0, 08 by a byte not E0 or ED, and 10 by ED.

@@ -4,7 +4,7 @@ ghost use Rattle.std.specs.Prelude.{◌+◌, ◌-◌, ◌<◌, ◌≤◌, length
 ghost use Rattle.cesu8_decode.specs.Following.{FollowUpTo, HasStops, IsSeam};
 
 use super::character_set::CharacterSet;
-use super::following::{FILLER, block_behind, stops};
+use super::following::{block_behind, stops};
 use crate::way::{FEW_BYTES, is_one_block};
 use cesu8_bytes::BLOCK;
 use cesu8_bytes::flavor::Flavor;
@@ -19,7 +19,7 @@ pub fn stops_of_few<F: Flavor, S: CharacterSet>(bytes: &[u8]) -> u64
     ensures { HasStops S.set F.flavor bytes.now result }
 {
     if is_one_block(bytes) {
-        return stops::<F, S>(block_behind(u8x32::splat(FILLER), padded_half(bytes)));
+        return stops::<F, S>(block_behind(u8x32::splat(0), padded_half(bytes)));
     }
     stops_of_two::<F, S>(bytes)
 }
@@ -33,7 +33,7 @@ fn stops_of_two<F: Flavor, S: CharacterSet>(bytes: &[u8]) -> u64
     let first = u8x32::from_slice(bytes);
     let second = padded_half(&bytes[BLOCK..]);
     let behind = stops::<F, S>(block_behind(first, second));
-    stops::<F, S>(block_behind(u8x32::splat(FILLER), first)) + (behind << BLOCK)
+    stops::<F, S>(block_behind(u8x32::splat(0), first)) + (behind << BLOCK)
 }
 
 /// Returns the index of the first byte from a seam on that may not follow, or the length. At a seam

@@ -2,9 +2,9 @@ use Rattle.std.proofs.Common.{arith}
 use Rattle.cesu8_decode.proofs.chunks.SliceReadings.{kept_put}
 use Rattle.cesu8_decode.proofs.copy_or_write.decode_to_slice.Goals as goal
 
-pub returns-then-is_short_kept_ascii : goal.returns-then-is_short_kept_ascii
-returns-then-is_short_kept_ascii g c =
+pub returns-in-None : goal.returns-in-None
+returns-in-None g c =
     let f = g.F.Flavor.flavor in
     let bytes = c.args.bytes.now in
-    kept_put f bytes _ _ _ (g.met.A.Accepts.known f bytes) g.S.Reading.which (c.is_short_kept_ascii.ensures c.if-is_short_kept_ascii.true) c.copy_to_slice.result
+    kept_put f bytes _ _ _ (g.met.A.Accepts.known f bytes) g.S.Reading.which c.in-None.ensures.kept c.copy_to_slice.result
     c.map_err.result c.args.buf.now c.copy_to_slice.new.buf (omega arith) c.map_err.ensures.cases c.copy_to_slice.ensures

@@ -1,8 +1,8 @@
 use borrow.Rule.Slice.PartMut.{put_mid}
-use Rattle.std.proofs.Common.{add-zero, get_or, ◌≡◌, ℕ, ◌-◌, ◌≤◌, List, ◌++◌, refl, ap, ◌∙◌, append-nil, arith, length, take, drop, length-drop, length-append}
+use Rattle.std.proofs.Common.{◌≡◌, ℕ, ◌-◌, ◌≤◌, List, ◌++◌, refl, ap, ◌∙◌, append-nil, arith, length, take, drop, length-drop, length-append}
 use Rattle.std.proofs.Math.Seq.{drop-append_seam}
 use Rattle.std.proofs.lemmas.Bool.{both_ways}
-use Rattle.std.proofs.lemmas.List.{get_or-drop, take_rest, drop_all, take-append-drop, length-take-le}
+use Rattle.std.proofs.lemmas.List.{take_rest, drop_all, take-append-drop, length-take-le}
 use Rattle.cesu8_bytes.specs.declared.strictness.Strictness.TheVariants.{Strict}
 use Rattle.cesu8_decode.proofs.chunks.FrontReadings.{unless_begun, written_length, needed_length, front_put, front_lacks_room, front_lacks_text}
 use Rattle.cesu8_decode.proofs.chunks.SliceReadings.{no_strict_text}

@@ -6,8 +6,8 @@ use Rattle.std.proofs.lemmas.Bool.{both_ways}
 use Rattle.cesu8_decode.specs.Following.{Unchanged}
 use Rattle.cesu8_decode.proofs.chunks.Fronts.{more_behind}
 use Rattle.cesu8_decode.proofs.chunks.UnchangedFronts.{all_unchanged, changed_behind, followed_in_utf8}
-use Rattle.cesu8_decode.proofs.accepts.LenientAccepts.keeps_all.Goals as goal
-use Rattle.cesu8_decode.proofs.accepts.LenientAccepts.keeps_all.Goals.{in_default, in_default-2, in-0, in-0-2}
+use Rattle.cesu8_decode.proofs.accepts.is_utf8_behind.Goals as goal
+use Rattle.cesu8_decode.proofs.accepts.is_utf8_behind.Goals.{in_default, in_default-2, in-0, in-0-2}
 
 pub returns-then-front-bytes : goal.returns-then-front-bytes
 returns-then-front-bytes g c = (
