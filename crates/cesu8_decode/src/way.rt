@@ -22,7 +22,8 @@
 //!
 //! In strict reading to a `String`, `fronts` of `destinations` reads more than 64 bytes, as long as
 //! changes stand far apart: 16 bytes (`FRONT`), then 64 (`LONG_FRONT`). Of a rest, at most 64 bytes
-//! go by stops, and more by chunks, from a small array where little room is left.
+//! go by stops, and more by chunks, from a small array where little room is left. In all strict
+//! reading, more that end within a character are refused before an array or chunks read them.
 
 ghost use Rattle.std.specs.Prelude.{◌≤◌, ◌↔◌, IsTrue, length};
 ghost use Rattle.cesu8_decode.specs.Decoding.{Takes};
@@ -30,6 +31,7 @@ ghost use Rattle.cesu8_decode.specs.Decoding.{Takes};
 use cesu8_bytes::BLOCK;
 
 /// Which way bytes are decoded.
+#[derive(Clone, Copy)]
 pub enum Way {
     OneBlock,
     Few,

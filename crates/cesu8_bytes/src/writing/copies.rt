@@ -36,6 +36,27 @@ pub fn append(bytes: &[u8], out: &mut Vec<u8>)
     *out = taken;
 }
 
+/// Appends the first `len` of 64 bytes or more to a buffer with enough capacity for all of them. Up
+/// to 64 are appended as one vector, which is then cut, since how many they are is guessed wrong.
+#[inline(always)]
+pub fn append_front(bytes: &[u8], len: usize, out: &mut Vec<u8>)
+    requires lanes { LANES ≤ length bytes.now }
+    requires len { len ≤ length bytes.now }
+    requires room { vec_len out.old + length bytes.now ≤ vec_capacity out.old }
+    ensures { Appends (take len bytes.now) out.old out.new }
+{
+    if len > LANES {
+        append(&bytes[..len], out);
+        return;
+    }
+    // As above.
+    let mut taken = mem::replace(out, Vec::new(*out.allocator()));
+    let start = taken.len();
+    append_at::<LANES>(bytes, 0, start, &mut taken);
+    taken.truncate(start + len);
+    *out = taken;
+}
+
 /// Appends at most 64 bytes: for `append`, and for callers that know that there are no more.
 #[inline(always)]
 pub fn append_few(bytes: &[u8], out: &mut Vec<u8>)

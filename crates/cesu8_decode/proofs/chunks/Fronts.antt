@@ -5,11 +5,11 @@ use Rattle.std.proofs.lemmas.Bool.{agree_below_at, cases_lt, ltb-true}
 use Rattle.std.proofs.lemmas.Bool.Decides.{nat_tests}
 use Rattle.std.proofs.lemmas.List.{take_all, take-append-drop, length-take-le}
 use Rattle.cesu8_text.specs.Encoding.{Flavor, encoding}
-use Rattle.cesu8_text.specs.Reading.{BeginsWith, NoneBegins, StandsAt, width, LiesWithin, Damaged}
+use Rattle.cesu8_text.specs.Reading.{BeginsWith, NoneBegins, StandsAt, width, LiesWithin, Damaged, HasNoStrictReading}
 use Rattle.cesu8_text.specs.Fronts.{IsValidUpTo}
 use Rattle.cesu8_text.proofs.encoding.Lengths.{length_of_character}
 use Rattle.cesu8_text.proofs.reading.Marks.{mark_from}
-use Rattle.cesu8_decode.specs.Following.{CharacterSet, Encoded, has_changed, has_four, shown, follows, crosses, after_fillers, FollowUpTo, crosses_at}
+use Rattle.cesu8_decode.specs.Following.{CharacterSet, Encoded, Unchanged, has_changed, has_four, shown, follows, crosses, after_fillers, FollowUpTo, crosses_at}
 use Rattle.cesu8_decode.specs.Front.{AreWhole, IsFront, written, IsOutside}
 use Rattle.cesu8_decode.proofs.by_offset.IllFormed.{none_crosses_encoding}
 use Rattle.cesu8_decode.proofs.chunks.WholeBytes.{none_outside, character_whole, parts_whole}
@@ -128,3 +128,14 @@ valid_up_to_of f bytes n front = record {
         let long : length (encoding f text) ≡ n = ap length front.whole.reads.1 ∙ length-take-le n bytes front.within in
         let there : StandsAt f (encoding f text ++ drop n bytes) j c = subst (λ bs. StandsAt f bs j c) (bytes_are Encoded f bytes n front) stands in
         omega (arith, none_crosses_encoding f text (drop n bytes) front.whole.reads.0 j c there (omega arith))
+
+-- Where an unchanged character crosses a boundary, an encoded one does.
+crosses_encoded : (window : List ℕ) (i : ℕ) → crosses_at Unchanged window i ≡ true → crosses_at Encoded window i ≡ true
+crosses_encoded window i crossed = grind (arith, nat_tests)
+
+-- Bytes whose end one crosses have no strict reading, since it is cut off.
+pub none_cut_off : (f : Flavor) (bytes : List ℕ) → crosses_at Unchanged (after_fillers bytes) (length bytes) ≡ true → HasNoStrictReading f bytes
+none_cut_off f bytes crossed text reads =
+    let whole : AreWhole Encoded f bytes = record { text = text; reads = reads; inside = none_outside _ (λ c none. none) text } in
+    true≢false (sym (crosses_encoded (after_fillers bytes) (length bytes) crossed)
+    ∙ (whole_follow Encoded f bytes (length bytes) (omega arith) (subst (AreWhole Encoded f) (sym (take-length bytes)) whole)).1)

@@ -1,6 +1,6 @@
 //! The strict reading that is appended to a vector: that of a few bytes, and of more. Where the
 //! characters that change stand far apart, what is between them is found by the test of the front,
-//! and copied. Where none begins behind a front, the bytes are ill-formed.
+//! and copied. Where none begins behind a front, or the last one is cut off, the bytes are ill-formed.
 
 ghost use Rattle.std.specs.Prelude.{◌≡◌, ◌+◌, ◌<◌, ◌≤◌, length, vec_len, vec_capacity, IfNone, IfSome};
 ghost use Rattle.cesu8_text.specs.Reading.{HasNoStrictReading};
@@ -12,15 +12,15 @@ ghost use Rattle.cesu8_decode.specs.Front.{IsFront};
 
 use super::chunks::append_chunks;
 use crate::changed::{changes, prefix_of};
-use crate::front::front;
+use crate::front::{front, may_be_crossed};
 use crate::lanes::character_set::Unchanged;
 use crate::lanes::stops::stops_of_few;
 use crate::pass::strict_few::{STRICT_TEXT, write_few_strictly};
-use crate::way::are_few;
+use crate::way::{FEW_BYTES, are_few};
 use cesu8_bytes::flavor::Flavor;
 use cesu8_bytes::pairs::{PAIR, PAIR_READ, utf8_of_pair};
 use cesu8_bytes::strictness::StrictReading;
-use cesu8_bytes::writing::copies::{append, append_few};
+use cesu8_bytes::writing::copies::{append, append_few, append_front};
 
 /// Behind a first front shorter than this, blocks read the rest, if not few: for speed alone.
 const FRONT: usize = 16;
@@ -34,6 +34,7 @@ const LONG_FRONT: usize = 64;
 /// it is few, else by blocks. It is not inlined, so that few bytes have few registers to save.
 #[inline(never)]
 pub fn append_many<F: Flavor>(bytes: &[u8], len: usize, before: Vec<u8>) -> Option<Vec<u8>>
+    requires many { FEW_BYTES < length bytes.now }
     requires front { IsFront AllUnchanged F.flavor bytes.now len }
     requires room { vec_len before + length bytes.now ≤ vec_capacity before }
     ensures { AppendsReading F.flavor Strict bytes.now before result }
@@ -49,6 +50,10 @@ pub fn append_many<F: Flavor>(bytes: &[u8], len: usize, before: Vec<u8>) -> Opti
             return append_few_strictly::<F>(rest, stops_of_few::<F, Unchanged>(rest), text);
         }
         if !is_long {
+            // What is cut off at the end is refused before all of it is read.
+            if may_be_crossed::<Unchanged>(rest, rest.len()) {
+                return None;
+            }
             return append_chunks::<F, StrictReading>(rest, text);
         }
         len = front::<F, Unchanged>(rest).len;
@@ -77,6 +82,7 @@ pub fn append_few_strictly<F: Flavor>(bytes: &[u8], stops: u64, before: Vec<u8>)
 /// `None` where none that changes begins there, so that the bytes have no strict reading.
 #[inline(always)]
 fn append_to_next<'a, F: Flavor>(bytes: &'a [u8], len: usize, out: &mut Vec<u8>) -> Option<&'a [u8]>
+    requires many { FEW_BYTES < length bytes.now }
     requires front { IsFront AllUnchanged F.flavor bytes.now len × (len < length bytes.now) }
     requires room { vec_len out.old + length bytes.now ≤ vec_capacity out.old }
     ensures none { IfNone result (HasNoStrictReading F.flavor bytes.now) }
@@ -92,7 +98,7 @@ fn append_to_next<'a, F: Flavor>(bytes: &'a [u8], len: usize, out: &mut Vec<u8>)
     if !changes::<F>(prefix) {
         return None;
     }
-    append(&bytes[..len], out);
+    append_front(bytes, len, out);
     if prefix[0] == 0xC0 {
         append(&[0], out);
         return Some(&behind[2..]);

@@ -14,7 +14,7 @@ ghost use Rattle.cesu8_decode.specs.PutReadings.{PutsReading};
 
 use super::chunks::put_chunks;
 use crate::changed::{begins_changed, may_lead_changed};
-use crate::front::{FoundFront, is_ill_formed};
+use crate::front::{FoundFront, is_ill_formed, may_be_crossed};
 use crate::lanes::character_set::Unchanged;
 use crate::lanes::stops::stops_of_few;
 use crate::lengths::lossy_len;
@@ -105,6 +105,8 @@ fn put_strictly_whole<F: Flavor>(bytes: &[u8], buf: &mut [u8]) -> Result<usize, 
             let stops = stops_of_few::<F, Unchanged>(bytes);
             put_few::<F, StrictReading>(bytes, stops, buf)
         }
+        // What is cut off at the end is refused before all of it is read.
+        _ if may_be_crossed::<Unchanged>(bytes, bytes.len()) => Err(Unwritten::NoText),
         Way::SmallArray => put_by_array::<F, StrictReading, SMALL_STRICT>(bytes, buf),
         Way::LargeArray => put_by_array::<F, StrictReading, LARGE_STRICT>(bytes, buf),
         Way::LargestArray | Way::Chunks => put_many::<F, StrictReading>(bytes, buf),

@@ -21,7 +21,7 @@ use crate::pass::blocks::{
     BLOCK_LOSSY, FEW_LOSSY, LARGE_LOSSY, LARGEST_LOSSY, SMALL_LOSSY, write_all,
 };
 use crate::pass::strict_few::{STRICT_TEXT, write_few_strictly};
-use crate::way::{LARGEST_ARRAY, Way, are_few, way_of};
+use crate::way::{FEW_BYTES, LARGEST_ARRAY, Way, are_few, way_of};
 use cesu8_bytes::BLOCK;
 use cesu8_bytes::flavor::Flavor;
 use cesu8_bytes::strictness::LossyReading;
@@ -49,6 +49,7 @@ pub fn write_strictly<F: Flavor>(bytes: &[u8], front: FoundFront, empty: Vec<u8>
 /// function starts, even an inlined one, it clears room for its calls' results. Few bytes skip it.
 #[inline(always)]
 fn write_many<F: Flavor>(bytes: &[u8], front: usize, empty: Vec<u8>) -> Option<Vec<u8>>
+    requires many { FEW_BYTES < length bytes.now }
     requires front { IsFront Unchanged F.flavor bytes.now front }
     requires empty { (empty.items ≡ []) × (length bytes.now ≤ vec_capacity empty) }
     ensures { AppendsReading F.flavor Strict bytes.now empty result }

@@ -1,8 +1,9 @@
-use Rattle.std.proofs.Common.{◌∙◌, ◌++◌, refl, sym, ap, subst, arith, drop, length-drop}
+use Rattle.std.proofs.Common.{◌∙◌, ◌++◌, refl, sym, ap, subst, arith, drop, length-drop, rules}
 use Rattle.std.proofs.lemmas.List.{take_all}
 use Rattle.cesu8_bytes.specs.declared.strictness.Strictness.TheVariants.{Strict}
 use Rattle.cesu8_decode.specs.Decoding.{AppendsReading}
 use Rattle.cesu8_decode.proofs.chunks.FrontReadings.{appended_behind, front_appended}
+use Rattle.cesu8_decode.proofs.chunks.Fronts.{none_cut_off}
 use Rattle.cesu8_decode.proofs.chunks.ReadChunks.{more_read, none_left, nothing_read}
 use Rattle.cesu8_decode.proofs.destinations.fronts.append_many.Goals as goal
 
@@ -10,6 +11,7 @@ pub loop-len-init : goal.loop-len-init
 loop-len-init g c = record {
   read = nothing_read g.F.Flavor.flavor Strict c.args.bytes.now c.args.before.items;
   front = c.requires.front;
+  many = c.requires.many;
   room = c.requires.room;
   capacity = refl;
 }
@@ -32,6 +34,17 @@ returns-then-are_few g c =
     (step.capacity ∙ inv.capacity)
     c.append_few_strictly.ensures
 
+pub returns-then-may_be_crossed : goal.returns-then-may_be_crossed
+returns-then-may_be_crossed g c =
+    let f = g.F.Flavor.flavor in
+    let inv = c.loop-len.invariant in
+    let step = c.in_ok-rest.ensures in
+    let rest = c.in_ok-rest.rest.now in
+    appended_behind f c.args.bytes.now rest c.args.before c.append_to_next.new.out _
+    (more_read f Strict c.args.bytes.now _ _ _ _ _ inv.read step.read)
+    (step.capacity ∙ inv.capacity)
+    (record { text = tt; capacity = tt; none = (refl, none_cut_off f rest (sym c.may_be_crossed.ensures ∙ c.if-may_be_crossed.true)) })
+
 pub returns-then-not-is_long : goal.returns-then-not-is_long
 returns-then-not-is_long g c =
     let f = g.F.Flavor.flavor in
@@ -49,6 +62,7 @@ loop-len-preserved g c =
     record {
       read = more_read g.F.Flavor.flavor Strict c.args.bytes.now _ _ _ _ _ inv.read step.read;
       front = c.front-len.ensures.len;
+      many = search rules;
       room = step.room;
       capacity = step.capacity ∙ inv.capacity;
     }

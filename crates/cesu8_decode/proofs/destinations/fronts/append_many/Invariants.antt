@@ -1,4 +1,4 @@
-use Rattle.std.proofs.Common.{◌≡◌, ◌+◌, ◌≤◌, length, vec_len, vec_capacity}
+use Rattle.std.proofs.Common.{◌≡◌, ◌+◌, ◌<◌, ◌≤◌, length, vec_len, vec_capacity}
 use Rattle.cesu8_bytes.specs.TextChunks.{IsReadSoFar}
 use Rattle.cesu8_bytes.specs.declared.strictness.Strictness.TheVariants.{Strict}
 use Rattle.cesu8_decode.specs.Following.{Unchanged}
@@ -12,6 +12,7 @@ abbrev pub invariant-loop-len : goal.invariant-loop-len
 invariant-loop-len g l = record {
   read : IsReadSoFar g.F.Flavor.flavor Strict l.fn.bytes l.rest l.fn.before.items l.text.items;
   front : IsFront Unchanged g.F.Flavor.flavor l.rest l.len;
+  many : 64 < length l.rest;
   room : vec_len l.text + length l.rest ≤ vec_capacity l.text;
   capacity : vec_capacity l.text ≡ vec_capacity l.fn.before;
 }

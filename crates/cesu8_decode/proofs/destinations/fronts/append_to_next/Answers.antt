@@ -29,8 +29,8 @@ returns-then-prefix-clause-read g c =
     let same : IsPrefixOf rest prefix = rw take_rest at c.prefix_of-prefix.ensures.prefix in
     let null = changed_null f prefix (c.changes.ensures.0 c.if-not-changes.false) c.if-prefix.true in
     rw (take_rest, take_rest) (more_read f Strict bytes rest _ _ _ _
-    (front_appended f bytes c.args.len c.requires.front.0 bytes before before c.append.new.out.items (nothing_read f Strict bytes before) c.append.ensures.bytes)
-    (seen_null_read f rest prefix same Strict _ _ null c.append-then-prefix.ensures.bytes))
+    (front_appended f bytes c.args.len c.requires.front.0 bytes before before c.append_front.new.out.items (nothing_read f Strict bytes before) c.append_front.ensures.bytes)
+    (seen_null_read f rest prefix same Strict _ _ null c.append.ensures.bytes))
 
 pub returns-clause-read : goal.returns-clause-read
 returns-clause-read g c =
@@ -42,5 +42,5 @@ returns-clause-read g c =
     let same : IsPrefixOf rest prefix = rw take_rest at c.prefix_of-prefix.ensures.prefix in
     let pair = changed_pair f prefix (c.changes.ensures.0 c.if-not-changes.false) c.if-prefix.false in
     rw (take_rest, take_rest) (more_read f Strict bytes rest _ _ _ _
-    (front_appended f bytes c.args.len c.requires.front.0 bytes before before c.append.new.out.items (nothing_read f Strict bytes before) c.append.ensures.bytes)
+    (front_appended f bytes c.args.len c.requires.front.0 bytes before before c.append_front.new.out.items (nothing_read f Strict bytes before) c.append_front.ensures.bytes)
     (seen_pair_read f rest prefix same Strict _ _ pair c.utf8_of_pair.result c.utf8_of_pair.ensures c.append-2.ensures.bytes))
