@@ -1,5 +1,5 @@
 -- Bytes at the front that are whole characters of a set.
-use Rattle.std.specs.Prelude.{◌≡◌, ℕ, ◌<◌, ◌≤◌, List, length, take, Any, IsTrue}
+use Rattle.std.specs.Prelude.{◌≡◌, ◌↔◌, ℕ, ◌<◌, ◌≤◌, List, length, take, Any, IsTrue}
 use Rattle.std.specs.Str.{IsAscii}
 use Rattle.cesu8_text.specs.Class.{is_null}
 use Rattle.cesu8_text.specs.Encoding.{Flavor, encoding, IsEncodedOtherwise}
@@ -41,6 +41,11 @@ pub record IsFrontOf (s : CharacterSet) (f : Flavor) (bytes : List ℕ) (front :
 pub record IsPartialFront (f : Flavor) (bytes : List ℕ) (front : FoundFront) : Type 0 where
   pub found : IsFrontOf Unchanged f bytes front
   pub more : front.len < length bytes
+
+-- It is of all bytes exactly if a call keeps them, and else of those characters.
+pub record IsFrontUnlessKept (f : Flavor) (are_kept : Type 0) (bytes : List ℕ) (found : FoundFront) : Type 0 where
+  pub kept : (found.len ≡ length bytes) ↔ are_kept
+  pub front : ¬ (found.len ≡ length bytes) → IsPartialFront f bytes found
 
 -- So many bytes at the front are ASCII.
 pub record BeginsWithAscii (bytes : List ℕ) (n : ℕ) : Type 0 where

@@ -7,7 +7,7 @@ ghost use Rattle.cesu8_text.specs.Reading.{IsStrictReading, IsLenientReading, re
 ghost use Rattle.cesu8_text.specs.Kept.{KnowsTexts};
 ghost use Rattle.cesu8_text.proofs.reading.KeptTexts.{encoding_texts, lenient_texts};
 ghost use Rattle.cesu8_decode.specs.Following.{Unchanged as AllUnchanged};
-ghost use Rattle.cesu8_decode.specs.Front.{IsFront, IsPartialFront, BeginsWithAscii};
+ghost use Rattle.cesu8_decode.specs.Front.{IsFront, IsPartialFront, IsFrontUnlessKept, BeginsWithAscii};
 
 use crate::front::{FoundFront, front, is_utf8, is_utf8_from};
 use crate::lanes::character_set::Unchanged;
@@ -33,13 +33,10 @@ pub trait Accepts {
         ensures ascii { IfSome result (BeginsWithAscii bytes.now) };
 
     /// Returns the front of what stays in UTF-8, or all bytes if they are kept. The first `ascii` are
-    /// ASCII. It is not inlined, so that the look before stays small, and returns two words, which
-    /// stay in registers.
+    /// ASCII.
     fn front_of_other<F: Flavor>(bytes: &[u8], ascii: usize) -> FoundFront
         requires { BeginsWithAscii bytes.now ascii }
-        ensures kept { result.len ≡ length bytes.now ↔ keeps F.flavor bytes.now }
-        ensures front { ¬ (result.len ≡ length bytes.now)
-            → IsPartialFront F.flavor bytes.now result };
+        ensures { IsFrontUnlessKept F.flavor (keeps F.flavor bytes.now) bytes.now result };
 
     ghost known: { (f : AnyFlavor) (bytes : List ℕ)
         → KnowsTexts f bytes (keeps f bytes) (reads f bytes) (reads_lossily f bytes) };
@@ -54,11 +51,21 @@ pub fn front_unless_kept<F: Flavor, A: Accepts>(bytes: &[u8]) -> Option<FoundFro
     ensures front { IfSome result (IsPartialFront F.flavor bytes.now) }
 {
     let ascii = A::ascii_unless_kept::<F>(bytes)?;
-    let front = A::front_of_other::<F>(bytes, ascii);
+    let front = front_by_call::<F, A>(bytes, ascii);
     if front.len == bytes.len() {
         return None;
     }
     Some(front)
+}
+
+/// Returns the front that `A` tells. It is not inlined, so that the look before stays small, and
+/// returns two words, which stay in registers. To a slice the look is followed by a call anyway.
+#[inline(never)]
+fn front_by_call<F: Flavor, A: Accepts>(bytes: &[u8], ascii: usize) -> FoundFront
+    requires { BeginsWithAscii bytes.now ascii }
+    ensures { IsFrontUnlessKept F.flavor (A.keeps F.flavor bytes.now) bytes.now result }
+{
+    A::front_of_other::<F>(bytes, ascii)
 }
 
 /// UTF-8 as a whole, or else the encoding.
@@ -76,14 +83,17 @@ impl Accepts for Lenient {
         ascii_unless_all(bytes)
     }
 
-    #[inline(never)]
+    #[inline(always)]
     fn front_of_other<F: Flavor>(bytes: &[u8], ascii: usize) -> FoundFront {
         if ascii >= DECIDING && !are_few(bytes) {
             return front_behind_ascii::<F>(bytes, ascii);
         }
         let front = front::<F, Unchanged>(bytes);
         if is_utf8_behind::<F>(bytes, front.len) {
-            return all_of(bytes);
+            return FoundFront {
+                len: bytes.len(),
+                stops: 0,
+            };
         }
         front
     }
@@ -97,24 +107,15 @@ impl Accepts for Lenient {
 fn front_behind_ascii<F: Flavor>(bytes: &[u8], ascii: usize) -> FoundFront
     requires ascii { BeginsWithAscii bytes.now ascii }
     requires many { (DECIDING ≤ ascii) × (FEW_BYTES < length bytes.now) }
-    ensures kept { result.len ≡ length bytes.now ↔ IsUtf8 bytes.now }
-    ensures front { ¬ (result.len ≡ length bytes.now) → IsPartialFront F.flavor bytes.now result }
+    ensures { IsFrontUnlessKept F.flavor (IsUtf8 bytes.now) bytes.now result }
 {
     if is_utf8_from(bytes, ascii) {
-        return all_of(bytes);
+        return FoundFront {
+            len: bytes.len(),
+            stops: 0,
+        };
     }
     front::<F, Unchanged>(bytes)
-}
-
-/// Returns what stands for the front where all bytes are kept.
-#[inline(always)]
-fn all_of(bytes: &[u8]) -> FoundFront
-    ensures { result.len ≡ length bytes.now }
-{
-    FoundFront {
-        len: bytes.len(),
-        stops: 0,
-    }
 }
 
 /// Returns whether all bytes are UTF-8. So many at the front, and no more, stay.
@@ -153,7 +154,7 @@ impl Accepts for EncodingAlone {
         (!is_short_unchanged_ascii::<F>(bytes)).then_some(0)
     }
 
-    #[inline(never)]
+    #[inline(always)]
     fn front_of_other<F: Flavor>(bytes: &[u8], ascii: usize) -> FoundFront {
         // The look above shows all or none to be ASCII.
         let _ = ascii;

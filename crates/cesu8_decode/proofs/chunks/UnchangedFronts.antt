@@ -16,12 +16,13 @@ use Rattle.cesu8_text.proofs.encoding.Unique.{no_reading}
 use Rattle.cesu8_text.proofs.reading.Borrowing.{unchanged_reading}
 use Rattle.cesu8_bytes.specs.declared.strictness.Strictness.{Strictness}
 use Rattle.cesu8_decode.specs.Following.{Encoded, Unchanged, Utf8, FirstFollow}
-use Rattle.cesu8_decode.specs.Front.{AreWhole, IsFront, BeginsWithAscii}
+use Rattle.cesu8_decode.specs.Front.{AreWhole, IsFront, IsFrontOf, IsFrontUnlessKept, BeginsWithAscii}
+use Rattle.cesu8_decode.specs.declared.front.FoundFront.{FoundFront}
 use Rattle.cesu8_decode.proofs.by_offset.IllFormed.{IsChunk, chunk_of_text}
 use Rattle.cesu8_decode.proofs.chunks.EncodedFollow.{whole_follow}
 use Rattle.cesu8_decode.proofs.decoder.FollowingBlocks.{ones_follow}
 use Rattle.cesu8_decode.proofs.chunks.WholeBytes.{none_outside}
-use Rattle.cesu8_decode.proofs.chunks.Fronts.{all_front, front_of_all, bytes_are, none_behind}
+use Rattle.cesu8_decode.proofs.chunks.Fronts.{all_front, front_of_all, more_behind, bytes_are, none_behind}
 
 -- ---- bytes
 
@@ -137,3 +138,18 @@ module _ (f : Flavor) (bytes : List ℕ) (n : ℕ) (front : IsFront Unchanged f 
     no_strict_reading more =
         no_reading f bytes front.whole.text (drop n bytes) front.whole.reads.0 (bytes_are Unchanged f bytes n front)
         (omega (arith, length-drop n bytes)) none_unless_changed
+
+-- ---- what a call keeps
+
+-- It is all that a call has to know of the bytes, unless they are kept for another reason,
+pub front_unless_kept : (f : Flavor) (are_kept : Type 0) (bytes : List ℕ) (front : FoundFront) → IsFrontOf Unchanged f bytes front →
+    (IsUnchangedUtf8 f bytes → are_kept) → (are_kept → front.len ≡ length bytes) → IsFrontUnlessKept f are_kept bytes front
+front_unless_kept f are_kept bytes front found stays only = record {
+  kept = (λ all. stays ((all_unchanged f bytes front.len found.len).0 all), only);
+  front = λ other. record { found = found; more = more_behind Unchanged f bytes front.len found.len other };
+}
+
+-- and then all bytes stand for it.
+pub all_kept : (f : Flavor) (are_kept : Type 0) (bytes : List ℕ) (front : FoundFront) → front.len ≡ length bytes → are_kept →
+    IsFrontUnlessKept f are_kept bytes front
+all_kept f are_kept bytes front all is = record { kept = (λ _. is, λ _. all); front = λ other. absurd (other all) }
