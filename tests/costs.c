@@ -300,6 +300,12 @@ KIND(wrong_in_front)
     put_wrong_byte(out, 64);
 }
 
+KIND(cut_off)
+{
+    any_in_cesu8(out, length - 1);
+    out[length - 1] = 0xE2;
+}
+
 KIND(damaged_in_50)
 {
     any_in_cesu8(out, length);
@@ -396,6 +402,9 @@ static const struct row {
      {ONE(decode_strict), ONE(decode), WRITE(decode_strict), WRITE(decode)}},
     {"wrong-in-front", wrong_in_front, 262144, 262144, 8, REFUSED,
      {ONE(decode_strict), ONE(decode), WRITE(decode_strict), WRITE(decode)}},
+
+    // Refused since the last character is cut off: how much is read before it?
+    {"cut-off", cut_off, 1024, 1024, 64, REFUSED, {ONE(decode_strict), WRITE(decode_strict)}},
 
     // Texts that stay, and texts that change.
     {"up-to-three-bytes", all_up_to_three, 200, 200, 256, OTHER,
