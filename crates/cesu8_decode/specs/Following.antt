@@ -1,5 +1,5 @@
 -- Which bytes may follow which in whole encoded characters.
-use Rattle.std.specs.Prelude.{◌≡◌, ℕ, ◌+◌, ◌%◌, map, drop, ◌<◌, ◌≤◌, ◌&&◌, ◌||◌, ◌==◌, nat_le, nat_lt, if◌then◌else◌, not, Bool, true, false, List, ◌∷◌, length, slice_index, bit_or}
+use Rattle.std.specs.Prelude.{◌≡◌, ℕ, ◌+◌, ◌%◌, map, drop, ◌<◌, ◌≤◌, ◌&&◌, ◌||◌, ◌==◌, nat_le, nat_lt, if◌then◌else◌, not, Bool, true, false, List, ◌∷◌, length, slice_index}
 use Rattle.std.specs.List.{range_with_len}
 use Rattle.std.specs.Simd.Lanes.{chunk, mask_l}
 use Rattle.cesu8_text.specs.Class.{is_null}
@@ -7,7 +7,7 @@ use Rattle.cesu8_text.specs.Encoding.{Flavor}
 use Rattle.cesu8_bytes.specs.Pairs.{null_at}
 use Rattle.cesu8_bytes.specs.declared.TheConstants.{BLOCK}
 use Rattle.cesu8_decode.specs.DecodedOffsets.{continues}
-use Rattle.cesu8_decode.specs.declared.lanes.following.Block.{Block}
+use Rattle.cesu8_decode.specs.declared.lanes.character_set.Block.{Block}
 use Rattle.cesu8_decode.specs.declared.lanes.character_set.Rule.{Rule}
 use Rattle.cesu8_decode.specs.declared.lanes.character_set.TheConstants.{ENCODED, UNCHANGED, UTF8}
 
@@ -82,18 +82,14 @@ follows_at s f window i =
     let w = slice_index window in
     follows s f (w i) (w (i + 1)) (w (i + 2)) (w (i + 3)) (w (i + 4))
 
--- A block has the 32 bytes of a window from byte i + 4 on, and those before each of them.
-pub record IsBlockAt (window : List ℕ) (i : ℕ) (block : Block) : Type 0 where
+-- A block has the 32 bytes of a window from byte i + 4 on, and those before each of them that a set needs.
+pub record IsBlockAt (s : CharacterSet) (window : List ℕ) (i : ℕ) (block : Block) : Type 0 where
   pub room : i + 36 ≤ length window
   pub bytes : block.bytes ≡ chunk (i + 4) 32 window
   pub one_before : block.one_before ≡ chunk (i + 3) 32 window
   pub two_before : block.two_before ≡ chunk (i + 2) 32 window
-  pub three_before : block.three_before ≡ chunk (i + 1) 32 window
-  pub four_before : block.four_before ≡ chunk i 32 window
-
--- A byte, below 80 (hexadecimal) only where it is a character of one byte.
-abbrev pub marked_if_not_one : Flavor → ℕ → ℕ
-marked_if_not_one f b = bit_or b (if is_null f b then 0xFF else 0)
+  pub three_before : has_four s || has_changed s ≡ true → block.three_before ≡ chunk (i + 1) 32 window
+  pub four_before : has_changed s ≡ true → block.four_before ≡ chunk i 32 window
 
 -- The window on some bytes: four characters of one byte go before them.
 abbrev pub after_fillers : List ℕ → List ℕ

@@ -1,17 +1,15 @@
 //! What a call that decodes takes, as types.
 
-ghost use Rattle.std.specs.Prelude.{◌≡◌, ◌↔◌, ℕ, ◌<◌, ◌≤◌, List, IsTrue, IfNone, IfSome, IsUtf8, length};
+ghost use Rattle.std.specs.Prelude.{◌≡◌, ℕ, ◌<◌, ◌≤◌, List, IfNone, IfSome, IsUtf8, length};
 ghost use Rattle.cesu8_text.specs.Class.{IsUnchangedUtf8};
 ghost use Rattle.cesu8_text.specs.Encoding.{Flavor as AnyFlavor};
 ghost use Rattle.cesu8_text.specs.Reading.{IsStrictReading, IsLenientReading, reading, IsLenientLossyReading};
 ghost use Rattle.cesu8_text.specs.Kept.{KnowsTexts};
 ghost use Rattle.cesu8_text.proofs.reading.KeptTexts.{encoding_texts, lenient_texts};
-ghost use Rattle.cesu8_decode.specs.Following.{Unchanged as AllUnchanged};
-ghost use Rattle.cesu8_decode.specs.Front.{IsFront, IsPartialFront, IsFrontUnlessKept, BeginsWithAscii};
+ghost use Rattle.cesu8_decode.specs.Front.{IsPartialFront, IsFrontUnlessKept, BeginsWithAscii};
 
 use crate::front::{FoundFront, front, is_utf8, is_utf8_from};
-use crate::lanes::character_set::Unchanged;
-use crate::lanes::following::DECIDING;
+use crate::lanes::character_set::{DECIDING, Unchanged};
 use crate::way::{FEW_BYTES, are_few};
 use cesu8_bytes::flavor::Flavor;
 use cesu8_bytes::looks::{ascii_unless_all, is_short_unchanged_ascii};
@@ -89,13 +87,24 @@ impl Accepts for Lenient {
             return front_behind_ascii::<F>(bytes, ascii);
         }
         let front = front::<F, Unchanged>(bytes);
-        if is_utf8_behind::<F>(bytes, front.len) {
-            return FoundFront {
-                len: bytes.len(),
-                stops: 0,
-            };
+        // Where all is UTF-8, a character that changes begins there: of four bytes, or 00.
+        if front.len == bytes.len() || !matches!(bytes[front.len], 0 | 0xF0..=0xF7) {
+            return front;
         }
-        front
+        // A few bytes are tested whole, so that no branch depends on the front. So are more, where
+        // less stands before the others than decides about the first of them.
+        let is_utf8 = if are_few(bytes) || front.len < DECIDING {
+            is_utf8(bytes)
+        } else {
+            is_utf8_from(bytes, front.len)
+        };
+        if !is_utf8 {
+            return front;
+        }
+        FoundFront {
+            len: bytes.len(),
+            stops: 0,
+        }
     }
 
     ghost known = { lenient_texts };
@@ -109,34 +118,13 @@ fn front_behind_ascii<F: Flavor>(bytes: &[u8], ascii: usize) -> FoundFront
     requires many { (DECIDING ≤ ascii) × (FEW_BYTES < length bytes.now) }
     ensures { IsFrontUnlessKept F.flavor (IsUtf8 bytes.now) bytes.now result }
 {
-    if is_utf8_from(bytes, ascii) {
-        return FoundFront {
-            len: bytes.len(),
-            stops: 0,
-        };
+    if !is_utf8_from(bytes, ascii) {
+        return front::<F, Unchanged>(bytes);
     }
-    front::<F, Unchanged>(bytes)
-}
-
-/// Returns whether all bytes are UTF-8. So many at the front, and no more, stay.
-#[inline(always)]
-fn is_utf8_behind<F: Flavor>(bytes: &[u8], front: usize) -> bool
-    requires { IsFront AllUnchanged F.flavor bytes.now front }
-    ensures { IsTrue result ↔ IsUtf8 bytes.now }
-{
-    if front == bytes.len() {
-        return true;
+    FoundFront {
+        len: bytes.len(),
+        stops: 0,
     }
-    // Where all is UTF-8, a character that changes begins there: of four bytes, or 00.
-    if !matches!(bytes[front], 0 | 0xF0..=0xF7) {
-        return false;
-    }
-    // A few bytes are tested whole, so that no branch depends on the front. So are more, where less
-    // stands before the others than decides about the first of them.
-    if are_few(bytes) || front < DECIDING {
-        return is_utf8(bytes);
-    }
-    is_utf8_from(bytes, front)
 }
 
 /// The encoding alone. UTF-8 is one if no byte of it changes.

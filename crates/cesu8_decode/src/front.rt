@@ -5,15 +5,15 @@
 //! Vectors find the first byte that may not follow those before it. The front ends there, or at the
 //! last boundary before, if a character is cut off there.
 
-ghost use Rattle.std.specs.Prelude.{◌≡◌, ◌+◌, ◌-◌, ◌<◌, ◌≤◌, ◌↔◌, IsTrue, IsUtf8, true, false, length, slice_index, IfOk, IfErr};
+ghost use Rattle.std.specs.Prelude.{◌≡◌, ◌+◌, ◌-◌, ◌<◌, ◌≤◌, ◌↔◌, IsTrue, IsUtf8, true, false, length, slice_index};
 ghost use Rattle.cesu8_text.specs.Encoding.{Cesu8};
 ghost use Rattle.cesu8_text.specs.Fronts.{IsValidUpTo};
 ghost use Rattle.cesu8_text.specs.Reading.{IsStrictReading, HasNoStrictReading, reading};
 ghost use Rattle.cesu8_decode.specs.Following.{FirstFollow, FollowUpTo, Encoded as AllEncoded, Utf8 as AllUtf8, after_fillers, crosses_at, is_high_surrogate};
 ghost use Rattle.cesu8_decode.specs.Front.{IsFront, IsFrontOf};
 
-use crate::lanes::character_set::{CharacterSet, Encoded, Utf8};
-use crate::lanes::following::{DECIDING, block_at, following_len, two_follow};
+use crate::lanes::character_set::{CharacterSet, DECIDING, Encoded, Utf8};
+use crate::lanes::following::{block_behind, following_len, two_follow};
 use crate::lanes::stops::{next_stop, stops_of_few};
 use crate::way::{FEW_BYTES, are_few};
 use cesu8_bytes::BLOCK;
@@ -21,6 +21,7 @@ use cesu8_bytes::flavor::{Cesu8Flavor, Flavor};
 use cesu8_bytes::lanes::class::{Either, NonAscii};
 use cesu8_bytes::lanes::runs::run_of_groups;
 use cesu8_bytes::looks::is_short_unchanged_ascii;
+use std::simd::prelude::*;
 
 /// How many bytes at the front are whole characters of a set. For at most 64, `stops` has a bit for
 /// each that may not follow, as of the zeros that fill their block; for more it means nothing.
@@ -107,34 +108,22 @@ pub fn is_utf8_from(bytes: &[u8], start: usize) -> bool
 }
 
 /// Returns how many of more than 64 bytes may follow those before them, up to the first that may
-/// not. It is not inlined, since it is long.
+/// not: first those of whole groups of ASCII that stays, or else of one block. It is not inlined,
+/// since it is long.
 #[inline(never)]
 fn following_many<F: Flavor, S: CharacterSet>(bytes: &[u8]) -> usize
     requires { FEW_BYTES < length bytes.now }
     ensures { FollowUpTo S.set F.flavor bytes.now result }
 {
-    match following_first::<F, S>(bytes) {
-        Ok(start) => following_from::<F, S>(bytes, start),
-        Err(stop) => stop,
-    }
-}
-
-/// Returns how many bytes at the front are ASCII that stays, in whole groups, or else one block, if
-/// its bytes may follow those before them. If not, it fails with how many may.
-#[inline(always)]
-fn following_first<F: Flavor, S: CharacterSet>(bytes: &[u8]) -> Result<usize, usize>
-    requires { BLOCK < length bytes.now }
-    ensures follow { IfOk result (λ start.
-        FirstFollow S.set F.flavor bytes.now start × (BLOCK ≤ start)) }
-    ensures stops { IfErr result (FollowUpTo S.set F.flavor bytes.now) }
-{
     let run = run_of_groups::<Either<F::Null, NonAscii>>(bytes);
-    if run > 0 {
-        return Ok(run);
+    if run == 0 {
+        let block = u8x32::from_slice(bytes);
+        let len = following_len::<F, S>(block_behind(u8x32::splat(0), block));
+        if len != BLOCK {
+            return len;
+        }
     }
-    let first = &bytes[..BLOCK];
-    let len = next_stop::<F, S>(first, stops_of_few::<F, S>(first), 0);
-    if len == BLOCK { Ok(BLOCK) } else { Err(len) }
+    following_from::<F, S>(bytes, run.max(BLOCK))
 }
 
 /// Returns how many bytes may follow those before them, up to the first that may not. It goes on
@@ -147,7 +136,8 @@ fn following_from<F: Flavor, S: CharacterSet>(bytes: &[u8], start: usize) -> usi
 {
     let mut at = following_twos::<F, S>(bytes, start);
     while bytes.len() - at >= BLOCK {
-        let len = following_len::<F, S>(block_at(bytes, at - DECIDING));
+        let block = u8x32::from_slice(&bytes[at..]);
+        let len = following_len::<F, S>(S::block_at(block, bytes, at));
         if len != BLOCK {
             return at + len;
         }
@@ -157,8 +147,9 @@ fn following_from<F: Flavor, S: CharacterSet>(bytes: &[u8], start: usize) -> usi
     if at == bytes.len() {
         return at;
     }
-    let before = bytes.len() - (DECIDING + BLOCK);
-    before + DECIDING + following_len::<F, S>(block_at(bytes, before))
+    let last = bytes.len() - BLOCK;
+    let block = u8x32::from_slice(&bytes[last..]);
+    last + following_len::<F, S>(S::block_at(block, bytes, last))
 }
 
 /// Returns an offset before which all bytes may follow those before them. It goes on from `start`
@@ -171,7 +162,7 @@ fn following_twos<F: Flavor, S: CharacterSet>(bytes: &[u8], start: usize) -> usi
     ensures start { start ≤ result }
 {
     let mut at = start;
-    while bytes.len() - at >= 2 * BLOCK && two_follow::<F, S>(bytes, at - DECIDING) {
+    while bytes.len() - at >= 2 * BLOCK && two_follow::<F, S>(bytes, at) {
         at += 2 * BLOCK;
     }
     at

@@ -3,7 +3,7 @@
 //! A block that is copied to a buffer and read from there at once waits for its bytes to be stored.
 //! So shuffles make it in registers.
 
-ghost use Rattle.std.specs.Prelude.{◌≡◌, ◌<◌, ◌≤◌, ◌-◌, ◌++◌, length, drop, replicate};
+ghost use Rattle.std.specs.Prelude.{◌≡◌, ◌<◌, ◌≤◌, ◌-◌, ◌++◌, length, replicate};
 ghost use Rattle.cesu8_bytes.specs.Padded.{ends_of};
 
 use super::short::end_vector;
@@ -20,6 +20,12 @@ const E: u8 = 128;
 const INDICES: [u8; 2 * HALF] = [
     0, 1, 2, 3, 4, 5, 6, 7, 8, 9, 10, 11, 12, 13, 14, 15, E, E, E, E, E, E, E, E, E, E, E, E, E, E,
     E, E,
+];
+
+/// The indices of two halves, one behind the other.
+const BOTH_HALVES: [usize; BLOCK] = [
+    0, 1, 2, 3, 4, 5, 6, 7, 8, 9, 10, 11, 12, 13, 14, 15, 16, 17, 18, 19, 20, 21, 22, 23, 24, 25, 26,
+    27, 28, 29, 30, 31,
 ];
 
 /// By their number, which lanes of `ends` give less than half a block of bytes, in their order.
@@ -97,32 +103,12 @@ pub fn padded_half(bytes: &[u8]) -> u8x32
     ensures { result ≡ bytes.now ++ replicate (BLOCK - length bytes.now) 0 }
 {
     if bytes.len() < HALF {
-        return joined(padded_few(bytes), u8x16::splat(0));
+        return padded_few(bytes).shuffle::<BLOCK>(u8x16::splat(0), BOTH_HALVES);
     }
-    joined(u8x16::from_slice(bytes), second_half(bytes))
-}
-
-/// Returns two halves, one behind the other.
-#[inline(always)]
-fn joined(first: u8x16, second: u8x16) -> u8x32
-    ensures { result ≡ first ++ second }
-{
-    first.shuffle::<BLOCK>(
-        second,
-        [
-            0, 1, 2, 3, 4, 5, 6, 7, 8, 9, 10, 11, 12, 13, 14, 15, 16, 17, 18, 19, 20, 21, 22, 23,
-            24, 25, 26, 27, 28, 29, 30, 31,
-        ],
-    )
-}
-
-/// Returns the bytes behind the first half of a block, with zeros behind them.
-#[inline(always)]
-fn second_half(bytes: &[u8]) -> u8x16
-    requires { (HALF ≤ length bytes.now) × (length bytes.now ≤ BLOCK) }
-    ensures { result ≡ drop HALF bytes.now ++ replicate (BLOCK - length bytes.now) 0 }
-{
-    // A load lies in the slice, so it begins before them, and the shuffle moves them to the front.
+    // A load lies in the slice, so it begins before what is behind the first half, and the shuffle
+    // moves that to the front.
     let indices = u8x16::from_slice(&INDICES[BLOCK - bytes.len()..]);
-    end_vector::<HALF>(bytes).swizzle_dyn_within::<16>(indices)
+    let last = u8x16::from_slice(&bytes[bytes.len() - HALF..]);
+    let second = last.swizzle_dyn_within::<16>(indices);
+    u8x16::from_slice(bytes).shuffle::<BLOCK>(second, BOTH_HALVES)
 }

@@ -76,27 +76,21 @@ pub fn copy_short(bytes: &[u8], buf: &mut [u8])
 {
     if bytes.len() >= LONG {
         buf[..bytes.len()].copy_from_slice(bytes);
-    } else if are_short(bytes) {
-        by_two_vectors!(bytes, copy_ends[](bytes, buf), ());
-    } else {
-        copy_many(bytes, buf);
+        return;
     }
-}
-
-/// Copies 64 bytes or more by vectors in turn, the last of which overlaps where needed.
-#[inline(always)]
-fn copy_many(bytes: &[u8], buf: &mut [u8])
-    requires lanes { LANES ≤ length bytes.now }
-    requires room { length bytes.now ≤ length buf.old }
-    ensures { buf.new ≡ bytes.now ++ drop (length bytes.now) buf.old }
-{
+    if are_short(bytes) {
+        by_two_vectors!(bytes, copy_ends[](bytes, buf), ());
+        return;
+    }
+    // Others go by vectors in turn, of which the last overlaps where needed.
     let last = bytes.len() - LANES;
     let mut at = 0;
     while at < last {
         let lanes: Simd<u8, LANES> = Simd::from_slice(&bytes[at..]);
         at = put_lanes(lanes, buf, at);
     }
-    put_lanes(end_vector::<LANES>(bytes), buf, last);
+    let lanes: Simd<u8, LANES> = Simd::from_slice(&bytes[last..]);
+    put_lanes(lanes, buf, last);
 }
 
 /// Copies by a vector at the front and one at the end, which together cover all.

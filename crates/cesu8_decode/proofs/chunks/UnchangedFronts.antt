@@ -142,9 +142,9 @@ module _ (f : Flavor) (bytes : List ℕ) (n : ℕ) (front : IsFront Unchanged f 
 -- ---- what a call keeps
 
 -- It is all that a call has to know of the bytes, unless they are kept for another reason,
-pub front_unless_kept : (f : Flavor) (are_kept : Type 0) (bytes : List ℕ) (front : FoundFront) → IsFrontOf Unchanged f bytes front →
+pub found_unless_kept : (f : Flavor) (are_kept : Type 0) (bytes : List ℕ) (front : FoundFront) → IsFrontOf Unchanged f bytes front →
     (IsUnchangedUtf8 f bytes → are_kept) → (are_kept → front.len ≡ length bytes) → IsFrontUnlessKept f are_kept bytes front
-front_unless_kept f are_kept bytes front found stays only = record {
+found_unless_kept f are_kept bytes front found stays only = record {
   kept = (λ all. stays ((all_unchanged f bytes front.len found.len).0 all), only);
   front = λ other. record { found = found; more = more_behind Unchanged f bytes front.len found.len other };
 }

@@ -6,13 +6,13 @@ use Rattle.std.proofs.lemmas.Bool.Decides.{nat_tests}
 use Rattle.std.proofs.lemmas.List.{get_or_append_left, length-take-le, take-append-drop}
 use Rattle.std.proofs.lemmas.List.FromFn.{get_or-map-range_with_len, length-map-range_with_len}
 use Rattle.std.proofs.lemmas.List.Sums.{prefix_len-le-length, prefix_len_passes, prefix_len_stops}
-use Rattle.std.proofs.lemmas.Simd.{pick_l-range_with_len, map-map}
-use lib.Lanes.{zip2, sel_l, mask_l, top}
+use Rattle.std.proofs.lemmas.Simd.{pick_l-range_with_len, map-map, length-chunk}
+use lib.Lanes.{zip2, sel_l, mask_l, top, chunk}
 use Rattle.cesu8_text.specs.Class.{is_null}
 use Rattle.cesu8_text.specs.Encoding.{Flavor}
 use Rattle.cesu8_bytes.specs.Kernels.{mask}
-use Rattle.cesu8_decode.specs.Following.{CharacterSet, IsBlockAt, shown, wanted, follows, follows_at, after_fillers, AllFollow, FirstFollow, FollowUpTo, marked_if_not_one}
-use Rattle.cesu8_decode.specs.declared.lanes.following.Block.{Block}
+use Rattle.cesu8_decode.specs.Following.{CharacterSet, Encoded, Unchanged, Utf8, IsBlockAt, shown, wanted, follows, follows_at, after_fillers, AllFollow, FirstFollow, FollowUpTo}
+use Rattle.cesu8_decode.specs.declared.lanes.character_set.Block.{Block}
 use Rattle.cesu8_bytes.proofs.lists.Lanes.{ones}
 use Rattle.cesu8_bytes.proofs.vectors.Loads.{loaded}
 use Rattle.cesu8_decode.proofs.decoder.FirstLanes.{no_lane, on_range}
@@ -25,6 +25,10 @@ unlike t = grind arith
 
 of_mask : (t : Bool) → leb 0x80 (mask t) ≡ t
 of_mask t = grind arith
+
+-- A byte, below 80 (hexadecimal) only where it is a character of one byte.
+abbrev pub marked_if_not_one : Flavor → ℕ → ℕ
+marked_if_not_one f b = bit_or b (cond (is_null f b) 0xFF 0)
 
 low_lane : (f : Flavor) (b : ℕ) → leb 0x80 (marked_if_not_one f b) ≡ false → (b < 0x80) × (is_null f b ≡ false)
 low_lane f b low =
@@ -41,20 +45,45 @@ pub marks_are : (t : ℕ → Bool) (lanes ns : List ℕ) → lanes ≡ map (λ i
 marks_are t lanes ns is =
     ap (map (leb 0x80)) is ∙ map-map (leb 0x80) (λ i. mask (t i)) ns ∙ ap (λ test. map test ns) (λ i k. of_mask (t k) i)
 
+first_alike : {A : Type 0} (g : ℕ → ℕ → A) → ((a c b : ℕ) → g a b ≡ g c b) → (xs us ys : List ℕ) → length xs ≡ length us → zip2 g xs ys ≡ zip2 g us ys
+first_alike g alike [] [] ys long = refl
+first_alike g alike [] (u ∷ us) ys long = absurd (omega (arith, long))
+first_alike g alike (x ∷ xs) [] ys long = absurd (omega (arith, long))
+first_alike g alike (x ∷ xs) (u ∷ us) [] long = refl
+first_alike g alike (x ∷ xs) (u ∷ us) (y ∷ ys) long = (λ i. alike x u y i ∷ first_alike g alike xs us ys (omega (arith, long)) i)
+
+second_alike : {A : Type 0} (g : ℕ → ℕ → A) → ((a b d : ℕ) → g a b ≡ g a d) → (xs ys vs : List ℕ) → length ys ≡ length vs → zip2 g xs ys ≡ zip2 g xs vs
+second_alike g alike [] ys vs long = refl
+second_alike g alike (x ∷ xs) [] [] long = refl
+second_alike g alike (x ∷ xs) [] (v ∷ vs) long = absurd (omega (arith, long))
+second_alike g alike (x ∷ xs) (y ∷ ys) [] long = absurd (omega (arith, long))
+second_alike g alike (x ∷ xs) (y ∷ ys) (v ∷ vs) long = (λ i. alike x y v i ∷ second_alike g alike xs ys vs (omega (arith, long)) i)
+
+-- What a block's bytes want does not rest on those before that the set does not need.
+wanted_by_needed : (s : CharacterSet) (window : List ℕ) (at : ℕ) (block : Block) → IsBlockAt s window at block → length block.four_before ≡ 32 → length block.three_before ≡ 32 →
+    zip2 (wanted s) block.four_before block.three_before ≡ zip2 (wanted s) (chunk at 32 window) (chunk (at + 1) 32 window)
+wanted_by_needed Encoded window at block is long_four long_three = rw (is.four_before refl, is.three_before refl) refl
+wanted_by_needed Unchanged window at block is long_four long_three =
+    first_alike (wanted Unchanged) (λ a c b. refl) block.four_before (chunk at 32 window) block.three_before (long_four ∙ sym (length-chunk at 32 window (omega (arith, is.room))))
+    ∙ second_alike (wanted Unchanged) (λ a b d. refl) (chunk at 32 window) block.three_before (chunk (at + 1) 32 window)
+    (long_three ∙ sym (length-chunk (at + 1) 32 window (omega (arith, is.room))))
+wanted_by_needed Utf8 window at block is long_four long_three =
+    rw (is.three_before refl) (first_alike (wanted Utf8) (λ a c b. refl) block.four_before (chunk at 32 window) (chunk (at + 1) 32 window)
+    (long_four ∙ sym (length-chunk at 32 window (omega (arith, is.room)))))
+
 -- The vectors of a block tell which bytes may not follow those before them.
-pub misplaced_are : (s : CharacterSet) (f : Flavor) (window : List ℕ) (at : ℕ) (block : Block) → IsBlockAt window at block →
-    (here want : List ℕ) → here ≡ zip2 (shown s f) block.one_before block.bytes →
+pub misplaced_are : (s : CharacterSet) (f : Flavor) (window : List ℕ) (at : ℕ) (block : Block) → IsBlockAt s window at block →
+    length block.four_before ≡ 32 → length block.three_before ≡ 32 → (here want : List ℕ) → here ≡ zip2 (shown s f) block.one_before block.bytes →
     want ≡ zip2 (λ want d. want d) (zip2 (wanted s) block.four_before block.three_before) block.two_before →
     sel_l (map (top 7) (zip2 (λ a b. ones (eqb a b)) here want)) (replicate 32 0) (replicate 32 0xFF)
     ≡ map (λ i. mask (not (follows_at s f window i))) (range_with_len at 32)
-misplaced_are s f window at block is here want here_is by_bytes =
-    let four : block.four_before ≡ map (λ i. get_or window i 0) (range_with_len at 32) =
-    is.four_before ∙ sym (pick_l-range_with_len 0 window at 32 (omega (arith, is.room))) in
+misplaced_are s f window at block is long_four long_three here want here_is by_bytes =
     rw (
       here_is,
       by_bytes,
-      four,
-      is.three_before ∙ loaded window at 1 32 (omega (arith, is.room)),
+      wanted_by_needed s window at block is long_four long_three,
+      sym (pick_l-range_with_len 0 window at 32 (omega (arith, is.room))),
+      loaded window at 1 32 (omega (arith, is.room)),
       is.two_before ∙ loaded window at 2 32 (omega (arith, is.room)),
       is.one_before ∙ loaded window at 3 32 (omega (arith, is.room)),
       is.bytes ∙ loaded window at 4 32 (omega (arith, is.room)),
@@ -71,10 +100,10 @@ marked_are f bytes nulls is = rw is (each bytes)
     each (b ∷ bytes) = ap (λ l. marked_if_not_one f b ∷ l) (each bytes)
 
 -- by their offsets.
-pub marked_at : (f : Flavor) (window : List ℕ) (at : ℕ) (block : Block) → IsBlockAt window at block → (lanes : List ℕ) →
-    lanes ≡ map (marked_if_not_one f) block.bytes → lanes ≡ map (λ i. marked_if_not_one f (get_or window (i + 4) 0)) (range_with_len at 32)
-marked_at f window at block is lanes lanes_are =
-    lanes_are ∙ ap (map (marked_if_not_one f)) (is.bytes ∙ loaded window at 4 32 (omega (arith, is.room)))
+pub marked_at : (f : Flavor) (window : List ℕ) (at : ℕ) → at + 36 ≤ length window → (lanes : List ℕ) →
+    lanes ≡ map (marked_if_not_one f) (chunk (at + 4) 32 window) → lanes ≡ map (λ i. marked_if_not_one f (get_or window (i + 4) 0)) (range_with_len at 32)
+marked_at f window at room lanes lanes_are =
+    lanes_are ∙ ap (map (marked_if_not_one f)) (loaded window at 4 32 (omega (arith, room)))
     ∙ map-map (marked_if_not_one f) (λ i. get_or window (i + 4) 0) (range_with_len at 32)
 
 -- Where none is marked, each may follow those before it:

@@ -1,6 +1,6 @@
 -- What bytes show behind others, and what these want, lane by lane.
 use Rattle.std.proofs.Common.{◌≡◌, ℕ, ◌+◌, ◌%◌, ◌^◌, ◌<◌, ⊎_elim, Bool, true, false, cond, ◌&&◌, ◌||◌, List, map, length, replicate, eqb, leb, ltb, bit_and, bit_or, refl, sym, ap, ◌∙◌, arith, Fits, w8, ◌-◌, add-zero, get_or}
-use Rattle.std.proofs.lemmas.Bool.{agree_below, agree_below_at, and_parts, eqb-true, ne_eqb, cases_eq, cases_Bool}
+use Rattle.std.proofs.lemmas.Bool.{agree_below, agree_below_at, and_parts, eqb-true, ne_eqb, cases_eq, cases_Bool, false≢true}
 use lib.Lanes.{zip2, sel_l, top, Each1}
 use Rattle.cesu8_text.specs.Class.{is_null}
 use Rattle.cesu8_text.specs.Encoding.{Flavor, Cesu8, Mutf8}
@@ -119,6 +119,12 @@ module _ (less lead : ℕ) (agree : agree_below (λ b. eqb (left_of less b) (con
   led_are bytes long fits =
       rw (lanes_are bytes long) (on_range (λ i. left_of less (get_or bytes i 0)) (λ i. cond (leb lead (get_or bytes i 0)) 0x80 0) 0 32
       (λ i low inside. eqb-true _ _ (agree_below_at (λ b. eqb (left_of less b) (cond (leb lead b) 0x80 0)) (λ _. true) 0x100 _ agree (lane_fits bytes long fits i inside))))
+
+-- No set has characters of four bytes and those that change.
+pub none_changed : (s : CharacterSet) → has_four s ≡ true → has_changed s ≡ false
+none_changed Encoded four = absurd (false≢true four)
+none_changed Unchanged four = refl
+none_changed Utf8 four = refl
 
 -- The third byte of a character is later, and the fourth.
 module _ (s : CharacterSet) where

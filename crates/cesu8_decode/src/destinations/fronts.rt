@@ -1,6 +1,8 @@
-//! The strict reading that is appended to a vector: that of a few bytes, and of more. Where the
-//! characters that change stand far apart, what is between them is found by the test of the front,
-//! and copied. Where none begins behind a front, or the last one is cut off, the bytes are ill-formed.
+//! The strict reading that is appended to a vector: that of a few bytes, and of more.
+//!
+//! Where the characters that change stand far apart, what is between them is found by the test of
+//! the front, and copied. Where none begins behind a front, or the last one is cut off, the bytes
+//! are ill-formed.
 
 ghost use Rattle.std.specs.Prelude.{◌≡◌, ◌+◌, ◌<◌, ◌≤◌, length, vec_len, vec_capacity, IfNone, IfSome};
 ghost use Rattle.cesu8_text.specs.Reading.{HasNoStrictReading};

@@ -1,7 +1,10 @@
 //! Which characters a test of the front passes over, as types.
 
-ghost use Rattle.std.specs.Prelude.{◌≡◌};
-ghost use Rattle.cesu8_decode.specs.Following.{CharacterSet as AnySet, Encoded as AllEncoded, Unchanged as AllUnchanged, Utf8 as AllUtf8, rule};
+ghost use Rattle.std.specs.Prelude.{◌≡◌, ◌+◌, ◌-◌, ◌≤◌, length, take, drop};
+ghost use Rattle.cesu8_decode.specs.Following.{CharacterSet as AnySet, Encoded as AllEncoded, Unchanged as AllUnchanged, Utf8 as AllUtf8, IsBlockAt, rule};
+
+use cesu8_bytes::BLOCK;
+use std::simd::prelude::*;
 
 /// What a set has beside characters of one, two and three bytes, and what two bytes show, as the
 /// common bits of three tables: by the upper half of the first, by its lower half, and by the upper
@@ -71,12 +74,33 @@ const UTF8: Rule = Rule {
     ],
 };
 
+/// How many bytes before a byte decide whether it may follow: a pair's fifth needs its first, ED.
+pub const DECIDING: usize = 4;
+
+/// 32 bytes, and those one to four before each of them. Those three before mean something only to a
+/// set with characters of four bytes or surrogate pairs, and those four before only to the latter.
+#[derive(Clone, Copy)]
+pub struct Block {
+    pub bytes: u8x32,
+    pub one_before: u8x32,
+    pub two_before: u8x32,
+    pub three_before: u8x32,
+    pub four_before: u8x32,
+}
+
 /// A set of characters, which its rule tells.
 pub trait CharacterSet {
     ghost set: { AnySet };
 
     fn rule() -> Rule
         ensures { result ≡ rule set };
+
+    /// Returns the block at an offset, whose 32 bytes the caller loaded, with those before that the
+    /// rule needs. No others are loaded.
+    fn block_at(block: u8x32, bytes: &[u8], at: usize) -> Block
+        requires at { (DECIDING ≤ at) × (at + BLOCK ≤ length bytes.now) }
+        requires block { block ≡ take BLOCK (drop at bytes.now) }
+        ensures { IsBlockAt set bytes.now (at - DECIDING) result };
 }
 
 /// All encoded characters.
@@ -88,6 +112,17 @@ impl CharacterSet for Encoded {
     #[inline(always)]
     fn rule() -> Rule {
         ENCODED
+    }
+
+    #[inline(always)]
+    fn block_at(block: u8x32, bytes: &[u8], at: usize) -> Block {
+        Block {
+            bytes: block,
+            one_before: u8x32::from_slice(&bytes[at - 1..]),
+            two_before: u8x32::from_slice(&bytes[at - 2..]),
+            three_before: u8x32::from_slice(&bytes[at - 3..]),
+            four_before: u8x32::from_slice(&bytes[at - DECIDING..]),
+        }
     }
 }
 
@@ -101,6 +136,17 @@ impl CharacterSet for Unchanged {
     fn rule() -> Rule {
         UNCHANGED
     }
+
+    #[inline(always)]
+    fn block_at(block: u8x32, bytes: &[u8], at: usize) -> Block {
+        Block {
+            bytes: block,
+            one_before: u8x32::from_slice(&bytes[at - 1..]),
+            two_before: u8x32::from_slice(&bytes[at - 2..]),
+            three_before: u8x32::splat(0),
+            four_before: u8x32::splat(0),
+        }
+    }
 }
 
 /// All of UTF-8, but for 00 in MUTF-8.
@@ -112,5 +158,16 @@ impl CharacterSet for Utf8 {
     #[inline(always)]
     fn rule() -> Rule {
         UTF8
+    }
+
+    #[inline(always)]
+    fn block_at(block: u8x32, bytes: &[u8], at: usize) -> Block {
+        Block {
+            bytes: block,
+            one_before: u8x32::from_slice(&bytes[at - 1..]),
+            two_before: u8x32::from_slice(&bytes[at - 2..]),
+            three_before: u8x32::from_slice(&bytes[at - 3..]),
+            four_before: u8x32::splat(0),
+        }
     }
 }

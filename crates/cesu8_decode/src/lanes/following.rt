@@ -5,14 +5,13 @@
 //! all are in characters, but for those of the last one, which may be cut off. What is in no
 //! character of a set shows what nothing wants.
 
-ghost use Rattle.std.specs.Prelude.{◌≡◌, ◌⊎◌, ℕ, List, ◌+◌, ◌*◌, ◌-◌, ◌<◌, ◌≤◌, ◌++◌, ◌==◌, ◌&&◌, IsTrue, false, length, take, map, drop, nat_le, if◌then◌else◌, not};
+ghost use Rattle.std.specs.Prelude.{◌≡◌, ℕ, List, ◌+◌, ◌*◌, ◌-◌, ◌<◌, ◌≤◌, ◌++◌, ◌==◌, ◌&&◌, IsTrue, false, length, take, map, drop, if◌then◌else◌, not};
 ghost use Rattle.std.specs.List.{range_with_len};
 ghost use Rattle.std.specs.Simd.Lanes.{zip2};
 ghost use Rattle.cesu8_bytes.specs.Kernels.{mask};
-ghost use Rattle.cesu8_decode.specs.DecodedOffsets.{window_of};
-ghost use Rattle.cesu8_decode.specs.Following.{has_changed, shown, later, wanted, follows_at, AllFollow, AreStops, IsBlockAt, marked_if_not_one};
+ghost use Rattle.cesu8_decode.specs.Following.{CharacterSet as AnySet, has_changed, shown, wanted, follows_at, AllFollow, AreStops, IsBlockAt};
 
-use super::character_set::CharacterSet;
+use super::character_set::{Block, CharacterSet, DECIDING};
 use super::offsets::{FROM_28, FROM_29, FROM_30, FROM_31, common_bits};
 use super::packing::HighestBit;
 use cesu8_bytes::BLOCK;
@@ -21,52 +20,11 @@ use cesu8_bytes::lanes::class::{Equal, NonAscii, bits, mask};
 use cesu8_bytes::lanes::runs::lanes_before;
 use std::simd::prelude::*;
 
-/// How many bytes before a byte decide whether it may follow: a pair's fifth needs its first, ED.
-pub const DECIDING: usize = 4;
-
-/// 32 bytes, and those one to four before each of them.
-#[derive(Clone, Copy)]
-pub struct Block {
-    pub bytes: u8x32,
-    pub one_before: u8x32,
-    pub two_before: u8x32,
-    pub three_before: u8x32,
-    pub four_before: u8x32,
-}
-
-/// Returns 32 bytes of a slice, four behind an index.
-#[inline(always)]
-pub fn block_at(bytes: &[u8], at: usize) -> Block
-    requires { at + DECIDING + BLOCK ≤ length bytes.now }
-    ensures { IsBlockAt bytes.now at result }
-{
-    Block {
-        bytes: u8x32::from_slice(&bytes[at + DECIDING..]),
-        one_before: u8x32::from_slice(&bytes[at + 3..]),
-        two_before: u8x32::from_slice(&bytes[at + 2..]),
-        three_before: u8x32::from_slice(&bytes[at + 1..]),
-        four_before: u8x32::from_slice(&bytes[at..]),
-    }
-}
-
-/// Returns the block at an offset, whose 32 bytes the caller loaded. Zeros precede the first block.
-#[inline(always)]
-pub fn block_around(block: u8x32, bytes: &[u8], at: usize) -> Block
-    requires at { (at + BLOCK ≤ length bytes.now) × (at < DECIDING → at ≡ 0) }
-    requires block { block ≡ take BLOCK (drop at bytes.now) }
-    ensures { IsBlockAt (window_of bytes.now) (at + 1) result }
-{
-    if at < DECIDING {
-        return block_behind(u8x32::splat(0), block);
-    }
-    block_at(bytes, at - DECIDING)
-}
-
 /// Returns 32 bytes, behind the last ones of as many. Zeros stand before the first: any ASCII would
 /// do, if `after_fillers` has it too, but they take the fewest instructions.
 #[inline(always)]
 pub fn block_behind(before: u8x32, bytes: u8x32) -> Block
-    ensures { IsBlockAt (drop (BLOCK - DECIDING) (before ++ bytes)) 0 result }
+    ensures { (set : AnySet) → IsBlockAt set (drop (BLOCK - DECIDING) (before ++ bytes)) 0 result }
 {
     Block {
         bytes,
@@ -80,10 +38,10 @@ pub fn block_behind(before: u8x32, bytes: u8x32) -> Block
 /// Returns how many bytes of a block may follow those before them, up to the first that may not.
 #[inline(always)]
 pub fn following_len<F: Flavor, S: CharacterSet>(block: Block) -> usize
-    ensures within { (window : List ℕ) (at : ℕ) → IsBlockAt window at block → result ≤ BLOCK }
-    ensures follow { (window : List ℕ) (at : ℕ) → IsBlockAt window at block
+    ensures within { (window : List ℕ) (at : ℕ) → IsBlockAt S.set window at block → result ≤ BLOCK }
+    ensures follow { (window : List ℕ) (at : ℕ) → IsBlockAt S.set window at block
         → AllFollow S.set F.flavor window at result }
-    ensures stops { (window : List ℕ) (at : ℕ) → IsBlockAt window at block → result < BLOCK
+    ensures stops { (window : List ℕ) (at : ℕ) → IsBlockAt S.set window at block → result < BLOCK
         → follows_at S.set F.flavor window (at + result) ≡ false }
 {
     lanes_before::<HighestBit, BLOCK>(misplaced::<F, S>(block))
@@ -92,43 +50,36 @@ pub fn following_len<F: Flavor, S: CharacterSet>(block: Block) -> usize
 /// Returns the set of a block's bytes that may not follow those before them.
 #[inline(always)]
 pub fn stops<F: Flavor, S: CharacterSet>(block: Block) -> u64
-    ensures { (window : List ℕ) (at : ℕ) → IsBlockAt window at block
+    ensures { (window : List ℕ) (at : ℕ) → IsBlockAt S.set window at block
         → AreStops S.set F.flavor window at BLOCK result }
 {
     bits::<HighestBit, BLOCK>(misplaced::<F, S>(block))
 }
 
-/// Returns whether each of the 64 bytes four behind an index may follow those before it.
+/// Returns whether each of the 64 bytes from an offset on may follow those before it.
 #[inline(always)]
 pub fn two_follow<F: Flavor, S: CharacterSet>(bytes: &[u8], at: usize) -> bool
-    requires { at + DECIDING + 2 * BLOCK ≤ length bytes.now }
-    ensures { IsTrue result → AllFollow S.set F.flavor bytes.now at (2 * BLOCK) }
+    requires { (DECIDING ≤ at) × (at + 2 * BLOCK ≤ length bytes.now) }
+    ensures { IsTrue result → AllFollow S.set F.flavor bytes.now (at - DECIDING) (2 * BLOCK) }
 {
+    let first = u8x32::from_slice(&bytes[at..]);
+    let second = u8x32::from_slice(&bytes[at + BLOCK..]);
     // What stands before each byte is loaded only behind this test.
-    let above = above_ascii::<F>(block_at(bytes, at).bytes)
-        | above_ascii::<F>(block_at(bytes, at + BLOCK).bytes);
-    let deciding = u8x4::from_slice(&bytes[at..]);
+    let above = (first | nulls::<F>(first)) | (second | nulls::<F>(second));
+    let deciding = u8x4::from_slice(&bytes[at - DECIDING..]);
     if bits::<NonAscii, BLOCK>(above) == 0 && bits::<NonAscii, DECIDING>(deciding) == 0 {
         return true;
     }
-    let first = block_at(bytes, at);
-    let second = block_at(bytes, at + BLOCK);
+    let first = S::block_at(first, bytes, at);
+    let second = S::block_at(second, bytes, at + BLOCK);
     bits::<HighestBit, BLOCK>(misplaced::<F, S>(first) | misplaced::<F, S>(second)) == 0
-}
-
-/// Marks, with the highest bit, the bytes that are no characters of one byte.
-#[inline(always)]
-fn above_ascii<F: Flavor>(bytes: u8x32) -> u8x32
-    ensures { result ≡ map (marked_if_not_one F.flavor) bytes }
-{
-    bytes | nulls::<F>(bytes)
 }
 
 /// Returns all ones for each byte of a block that may not follow those before it, and zeros for the
 /// others.
 #[inline(always)]
 fn misplaced<F: Flavor, S: CharacterSet>(block: Block) -> u8x32
-    ensures { (window : List ℕ) (at : ℕ) → IsBlockAt window at block
+    ensures { (window : List ℕ) (at : ℕ) → IsBlockAt S.set window at block
         → result ≡ map (λ i. mask (not (follows_at S.set F.flavor window i)))
         (range_with_len at BLOCK) }
 {
@@ -165,41 +116,24 @@ fn kept_of_null<S: CharacterSet>(bytes: u8x32) -> u8x32
     u8x32::splat(0xFF)
 }
 
-/// Returns what bytes have to show, by those four, three and two before them.
+/// Returns what bytes have to show, by those four, three and two before them: 80 (hexadecimal) for
+/// the third or fourth byte of a character, 20 for the second of a low surrogate, and else 0.
 #[inline(always)]
 fn wanted_by<S: CharacterSet>(four_before: u8x32, three_before: u8x32, two_before: u8x32) -> u8x32
     ensures { result ≡ zip2 (λ wants d. wants d)
         (zip2 (wanted S.set) four_before three_before) two_before }
 {
-    let later = later_by::<S>(three_before, two_before);
+    // The highest bit is left from a lead byte of three on, or of four.
+    let highest = u8x32::splat(0x80);
+    let third = two_before.saturating_sub(u8x32::splat(0xE0 - 0x80)) & highest;
+    // No set has characters of four bytes and those that change.
+    if S::rule().has_four {
+        return third | (three_before.saturating_sub(u8x32::splat(0xF0 - 0x80)) & highest);
+    }
     if !S::rule().has_changed {
-        return later;
+        return third;
     }
     let is_high = mask::<Equal<0xED>>(four_before)
         & mask::<Equal<0xA0>>(three_before & u8x32::splat(0xF0));
-    later | (is_high & u8x32::splat(0x20))
-}
-
-/// Returns 80 (hexadecimal) for each third or fourth byte of a character, and zeros for the others,
-/// by the bytes three and two before them.
-#[inline(always)]
-fn later_by<S: CharacterSet>(three_before: u8x32, two_before: u8x32) -> u8x32
-    ensures { result ≡ zip2 (later S.set) three_before two_before }
-{
-    let third = led_from(two_before, 0xE0);
-    if S::rule().has_four {
-        return third | led_from(three_before, 0xF0);
-    }
-    third
-}
-
-/// Returns 80 (hexadecimal) for each byte from a lead byte of three or four on, and zeros for the
-/// others.
-#[inline(always)]
-fn led_from(bytes: u8x32, lead: u8) -> u8x32
-    requires { (lead ≡ 0xE0) ⊎ (lead ≡ 0xF0) }
-    ensures { result ≡ map (λ b. if nat_le lead b then 0x80 else 0) bytes }
-{
-    // The highest bit is left from the lead byte on.
-    bytes.saturating_sub(u8x32::splat(lead - 0x80)) & u8x32::splat(0x80)
+    third | (is_high & u8x32::splat(0x20))
 }

@@ -15,9 +15,10 @@ ghost use Rattle.std.specs.Simd.Lanes.{sel_l};
 ghost use Rattle.cesu8_text.specs.Encoding.{Flavor};
 ghost use Rattle.cesu8_bytes.specs.Kernels.{mask};
 ghost use Rattle.cesu8_decode.specs.DecodedOffsets.{window_of, is_ill_formed_at};
-ghost use Rattle.cesu8_decode.specs.DecodedLanes.{AreKindsNear, AreNear, TellChanges, NoneBeginsChanged, AreParts, is_high, goes_at, byte_at};
+ghost use Rattle.cesu8_decode.specs.DecodedLanes.{AreKindsNear, TellChanges, NoneBeginsChanged, AreParts, is_high, byte_at};
 
-use super::following::{DECIDING, block_around};
+use super::character_set::{CharacterSet, DECIDING, Unchanged};
+use super::following::block_behind;
 use super::offsets::{BEHIND, KIND_OF_PAIR, KINDS_OF_THREE, Kinds, NUMBERS, look_up};
 use super::packing::{HighestBit, Parts};
 use cesu8_bytes::BLOCK;
@@ -79,27 +80,15 @@ pub fn changed_parts<F: Flavor>(
     // What is known of the marks, as that none is set, is known of these.
     ensures ill_formed { result.ill_formed ≡ ill_formed }
 {
-    Parts {
-        bytes: changed_bytes::<F>(bytes, at, kinds),
-        gone: gone(kinds, count),
-        ill_formed,
-    }
-}
-
-/// Marks, with the highest bit, those of the first `count` bytes that go, and all later bytes. The
-/// highest bit of a kind is that of C0 80, whose first byte goes. `KIND_OF_PAIR` is two bits below,
-/// and the first two bytes of a pair go. No other kind has either bit.
-#[inline(always)]
-fn gone(kinds: &Kinds, count: usize) -> u8x32
-    requires count { count ≤ BLOCK }
-    ensures { (f : Flavor) (window : List ℕ) (at : ℕ) (kind : ℕ → ℕ)
-        → TellChanges f window at kind → AreNear kind at kinds.now
-        → map is_high result
-        ≡ map (goes_at f window) (range_with_len at count) ++ replicate (BLOCK - count) true }
-{
+    // The highest bit of a kind is that of C0 80, whose first byte goes. `KIND_OF_PAIR` is two bits
+    // below, and the first two bytes of a pair go. No other kind has either bit.
     let here = kinds[5];
     let near = here | kinds[4];
-    (here | (near << u8x32::splat(2))) | behind(count as u8)
+    Parts {
+        bytes: changed_bytes::<F>(bytes, at, kinds),
+        gone: (here | (near << u8x32::splat(2))) | behind(count as u8),
+        ill_formed,
+    }
 }
 
 /// Marks, with the highest bit, those of the first `count` bytes that no encoded character covers.
@@ -159,7 +148,12 @@ fn changed_bytes<F: Flavor>(bytes: &[u8], at: usize, kinds: &Kinds) -> u8x32
     if F::has_long_null() && bits::<HighestBit, BLOCK>(pairs << u8x32::splat(2)) == 0 {
         return changed;
     }
-    let block = block_around(here, bytes, at);
+    // Zeros precede the first block.
+    let block = if at < DECIDING {
+        block_behind(u8x32::splat(0), here)
+    } else {
+        Unchanged::block_at(here, bytes, at)
+    };
     let half = u8x32::splat(0x0F);
     let first = look_up(FIRST_BY_SECOND, block.one_before);
     let second = look_up(SECOND_BY_SECOND, block.two_before)

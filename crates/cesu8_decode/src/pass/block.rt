@@ -1,18 +1,14 @@
 //! Writes what becomes of 32 bytes, a block.
 
-ghost use Rattle.std.specs.Prelude.{◌≡◌, ℕ, List, ◌+◌, ◌-◌, ◌<◌, ◌≤◌, ◌++◌, IsTrue, false, length, take, map, replicate, bit_or};
+ghost use Rattle.std.specs.Prelude.{◌≡◌, ◌+◌, ◌-◌, ◌<◌, ◌≤◌, ◌++◌, false, length, take, map, replicate};
 ghost use Rattle.std.specs.List.{range_with_len};
-ghost use Rattle.std.specs.Simd.Lanes.{mask_l, zip2};
-ghost use Rattle.cesu8_text.specs.Class.{is_null};
-ghost use Rattle.cesu8_text.specs.Encoding.{Flavor};
-ghost use Rattle.cesu8_bytes.specs.Kernels.{mask};
 ghost use Rattle.cesu8_bytes.specs.Puts.{WritesAt};
 ghost use Rattle.cesu8_decode.specs.Decoding.{WritesDecoded, most_written};
 ghost use Rattle.cesu8_decode.specs.DecodedOffsets.{window_of};
-ghost use Rattle.cesu8_decode.specs.DecodedLanes.{start_kind, AreFiveKinds, AreKindsNear, NoneBeginsChanged, is_high};
+ghost use Rattle.cesu8_decode.specs.DecodedLanes.{start_kind, AreFiveKinds};
 
-use crate::lanes::following::DECIDING;
-use crate::lanes::offsets::{BEHIND, Kinds, LEAD, REACH, near, starts};
+use crate::lanes::character_set::DECIDING;
+use crate::lanes::offsets::{BEHIND, LEAD, REACH, near, starts};
 use crate::lanes::packing::{HighestBit, store, store_whole};
 use crate::lanes::parts::{changed_parts, ill_formed, kept_parts};
 use crate::way::{FEW_BYTES, is_one_block};
@@ -76,12 +72,20 @@ pub fn write_block<F: Flavor, S: Reading>(
         ≡ map (start_kind F.flavor bytes.now) (range_with_len at BLOCK) }
 {
     let block = u8x32::from_slice(&bytes[at..]);
-    if are_ones::<F>(block, count) {
+    // No byte leads others, and the first are characters of one byte. The compiler makes the first
+    // test once, since `starts` makes it too. The second is made only where it decides.
+    if bits::<AtLeast<LEAD>, BLOCK>(block) == 0
+        && bits::<HighestBit, BLOCK>(block | nulls::<F>(block)) & ((1 << count) - 1) == 0
+    {
         return copy_block(block, u8x32::splat(0), count, out, end);
     }
     let here = starts::<F>(bytes, at, true);
     let kinds = near(before, here);
-    let parts = if changes_none(&kinds) {
+    // The first and the last have all offsets around the block. Where nothing that changes begins
+    // there, its bytes stay, but for those that are ill-formed.
+    let around = kinds[0] | kinds[5];
+    let is_kept = bits::<HighestBit, BLOCK>(around | (around << u8x32::splat(2))) == 0;
+    let parts = if is_kept {
         let marks = ill_formed::<F>(bytes, &kinds, at, count, true);
         if bits::<HighestBit, BLOCK>(marks) == 0 {
             return copy_block(block, here, count, out, end);
@@ -122,19 +126,6 @@ pub fn write_block<F: Flavor, S: Reading>(
     }
 }
 
-/// Returns whether no byte leads others and the first `count` are characters of one byte.
-#[inline(always)]
-fn are_ones<F: Flavor>(bytes: u8x32, count: usize) -> bool
-    requires { count ≤ BLOCK }
-    ensures { IsTrue result → mask_l (take count (map is_high
-        (zip2 bit_or bytes (map (λ b. mask (is_null F.flavor b)) bytes)))) ≡ 0 }
-{
-    // `starts` makes the same test, so the compiler makes it once.
-    let leads = bits::<AtLeast<LEAD>, BLOCK>(bytes) != 0;
-    // The second test is made only where it decides: both at once are one test more for others.
-    !leads && bits::<HighestBit, BLOCK>(bytes | nulls::<F>(bytes)) & ((1 << count) - 1) == 0
-}
-
 /// Copies the first `count` bytes of a block, which stay as they are.
 #[inline(always)]
 fn copy_block(bytes: u8x32, kinds: u8x32, count: usize, out: &mut [u8], end: usize) -> Written
@@ -150,16 +141,4 @@ fn copy_block(bytes: u8x32, kinds: u8x32, count: usize, out: &mut [u8], end: usi
         is_refused: false,
         kinds,
     }
-}
-
-/// Returns whether neither a surrogate pair nor C0 80 begins at the offsets around a block. Then
-/// its bytes stay, but for those that are ill-formed.
-#[inline(always)]
-fn changes_none(kinds: &Kinds) -> bool
-    ensures { (f : Flavor) (window : List ℕ) (at : ℕ) → AreKindsNear f window at kinds.now
-        → IsTrue result → NoneBeginsChanged f window at }
-{
-    // The first and the last have all of these offsets.
-    let around = kinds[0] | kinds[5];
-    bits::<HighestBit, BLOCK>(around | (around << u8x32::splat(2))) == 0
 }

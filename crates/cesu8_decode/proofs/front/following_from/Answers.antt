@@ -41,12 +41,12 @@ returns g c =
     let s = g.S.CharacterSet.set in
     let f = g.F.Flavor.flavor in
     let bytes = c.args.bytes.now in
-    let at = length bytes - 36 in
+    let at = length bytes - 32 - 4 in
     let len = c.following_len.result in
     let is = c.block_at-2.ensures in
     let within = c.following_len.ensures.within bytes at is in
     let long = c.requires.start.1 in
-    let end : at + len + 4 ≡ at + 4 + len = omega (arith, long) in
+    let end : at + len + 4 ≡ length bytes - 32 + len = omega (arith, long) in
     subst (FollowUpTo s f bytes) end
     (stop_behind s f bytes c.loop-at.at at len c.loop-at.invariant.first (omega (arith, c.loop-at-test.false, long, c.loop-at.invariant.start))
     (omega (arith, long, within)) (c.following_len.ensures.follow bytes at is)

@@ -14,7 +14,7 @@ behind [] bytes = refl
 behind (b ∷ before) bytes = behind before bytes
 
 pub returns : goal.returns
-returns c =
+returns c s =
     let lanes = c.args.before ++ c.args.bytes in
     let long : length lanes ≡ 64 = omega (arith, length-append c.args.before c.args.bytes, c.fits-before.0, c.fits-bytes.0) in
     record {
@@ -23,6 +23,6 @@ returns c =
           ∙ take_all 32 c.args.bytes (omega (arith, c.fits-bytes.0)));
       one_before = picked lanes 3 (omega (arith, long));
       two_before = picked lanes 2 (omega (arith, long));
-      three_before = picked lanes 1 (omega (arith, long));
-      four_before = picked lanes 0 (omega (arith, long));
+      three_before = λ _. picked lanes 1 (omega (arith, long));
+      four_before = λ _. picked lanes 0 (omega (arith, long));
     }

@@ -12,5 +12,5 @@ returns-then-is_one_block g c =
       within = (omega (arith, c.is_one_block.ensures.0 c.if-is_one_block.true), omega arith);
       behind = λ part. omega (arith, part, c.is_one_block.ensures.0 c.if-is_one_block.true);
       stops = stops_here g.S.CharacterSet.set g.F.Flavor.flavor bytes fillers block 0 refl (behind_none bytes) (with_zeros bytes block 0 c.padded_half.ensures)
-          c.stops.result (c.stops.ensures (drop 28 (fillers ++ block)) 0 c.block_behind.ensures);
+          c.stops.result (c.stops.ensures (drop 28 (fillers ++ block)) 0 (c.block_behind.ensures g.S.CharacterSet.set));
     }

@@ -19,12 +19,12 @@ joined g c =
     let of_first = stops_here s f bytes fillers first 0 refl (behind_none bytes) (λ j few.
     let here : j ≡ 0 + j = omega arith in
     get_or-take 32 bytes j 0 few ∙ ap (λ k. get_or bytes k 0) here) c.stops.result
-    (c.stops.ensures (drop 28 (fillers ++ first)) 0 c.block_behind-2.ensures) in
+    (c.stops.ensures (drop 28 (fillers ++ first)) 0 (c.block_behind-2.ensures g.S.CharacterSet.set)) in
     let before = λ (j : ℕ) (few : j < 4).
     let here : 28 + j + 4 ≡ 32 + j = omega arith in
     get_or-take 32 bytes (28 + j) 0 (omega (arith, few)) ∙ sym (behind_fillers bytes (28 + j)) ∙ ap (λ k. get_or (after_fillers bytes) k 0) here in
     let of_second = stops_here s f bytes first second 32 long before (with_zeros bytes second 32 (rw take_rest at c.padded_half-second.ensures)) c.stops-behind.result
-    (c.stops-behind.ensures (drop 28 (first ++ second)) 0 c.block_behind.ensures) in
+    (c.stops-behind.ensures (drop 28 (first ++ second)) 0 (c.block_behind.ensures g.S.CharacterSet.set)) in
     joined_stops s f (after_fillers bytes) 32 c.stops.result c.stops-behind.result (omega arith) of_first of_second
 
 pub overflow_add-result : goal.overflow_add-result

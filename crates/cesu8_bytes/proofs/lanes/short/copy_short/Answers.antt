@@ -1,8 +1,9 @@
-use Rattle.std.proofs.Common.{◌≡◌, ◌∙◌, ◌+◌, ◌-◌, ◌≤◌, ◌++◌, sym, ap, arith, length, take, drop, length-drop}
+use Rattle.std.proofs.Common.{◌≡◌, ◌∙◌, ◌+◌, ◌-◌, ◌≤◌, ◌++◌, sym, ap, arith, length, take, take_all, drop, length-drop}
 use Rattle.std.proofs.Math.Seq.{take-add}
+use Rattle.std.proofs.lemmas.Bool.{iff_false}
 use Rattle.std.proofs.lemmas.List.{take-append-drop, take-take, length-take-le}
 use Rattle.cesu8_bytes.proofs.lists.Ends.{stays_behind}
-use Rattle.cesu8_bytes.proofs.lanes.short.copy_many.Goals as goal
+use Rattle.cesu8_bytes.proofs.lanes.short.copy_short.Goals as goal
 
 pub loop-at-preserved : goal.loop-at-preserved
 loop-at-preserved c =
@@ -27,10 +28,10 @@ returns c =
     let last = length bytes - 64 in
     let inv = c.loop-at.invariant in
     let put = c.put_lanes.ensures in
-    let end = c.end_vector.ensures in
     let old = c.loop-at.buf in
     let new = c.put_lanes.new.out in
+    let many = iff_false c.are_short.ensures c.if-are_short.false in
     let reached : last ≤ at = omega arith in
     let first : take last old ≡ take last bytes = sym (take-take last at old reached) ∙ ap (take last) inv.copied ∙ take-take last at bytes reached in
-    let all : c.put_lanes.result ≡ length bytes = omega (arith, ap length end, length-drop last bytes) in
-    grind (arith, take-append-drop last bytes, take-append-drop (length bytes) new, first, all, end, put.writes.bytes, put.behind, inv.behind)
+    let all : c.put_lanes.result ≡ length bytes = omega (arith, many, length-drop last bytes, length-take-le 64 (drop last bytes) (omega (arith, many, length-drop last bytes))) in
+    grind (arith, take-append-drop last bytes, take-append-drop (length bytes) new, first, all, take_all 64 (drop last bytes) (omega (arith, many, length-drop last bytes)), put.writes.bytes, put.behind, inv.behind)

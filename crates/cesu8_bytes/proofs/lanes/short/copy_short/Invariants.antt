@@ -1,5 +1,5 @@
 use Rattle.std.proofs.Common.{◌-◌, ◌≡◌, ◌≤◌, length, take, drop}
-use Rattle.cesu8_bytes.proofs.lanes.short.copy_many.Given as goal
+use Rattle.cesu8_bytes.proofs.lanes.short.copy_short.Given as goal
 
 abbrev pub decreases-loop-at : goal.decreases-loop-at
 decreases-loop-at l = l.last - l.at
