@@ -24,8 +24,8 @@ const INDICES: [u8; 2 * HALF] = [
 
 /// The indices of two halves, one behind the other.
 const BOTH_HALVES: [usize; BLOCK] = [
-    0, 1, 2, 3, 4, 5, 6, 7, 8, 9, 10, 11, 12, 13, 14, 15, 16, 17, 18, 19, 20, 21, 22, 23, 24, 25, 26,
-    27, 28, 29, 30, 31,
+    0, 1, 2, 3, 4, 5, 6, 7, 8, 9, 10, 11, 12, 13, 14, 15, 16, 17, 18, 19, 20, 21, 22, 23, 24, 25,
+    26, 27, 28, 29, 30, 31,
 ];
 
 /// By their number, which lanes of `ends` give less than half a block of bytes, in their order.
