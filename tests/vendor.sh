@@ -158,7 +158,7 @@ libraries=(cesu8_text cesu8_bytes cesu8_encode cesu8_decode simd_cesu8 java_text
 lines='cesu8_text:
 cesu8_bytes: cesu8_text
 cesu8_encode: cesu8_bytes cesu8_text
-cesu8_decode: cesu8_bytes cesu8_text
+cesu8_decode: cesu8_bytes cesu8_text simdutf8
 simd_cesu8: cesu8_encode cesu8_decode cesu8_bytes cesu8_text
 java_text: simd_cesu8'
 new=$scratch/new

@@ -1,11 +1,10 @@
--- Lists of bytes, vectors and words, and results, with nothing of an encoding.
+-- Lists of bytes, vectors and words, with nothing of an encoding.
 pub mod Walks
 pub mod EightElements
 pub mod Ends
 pub mod Stored
 pub mod Chunks
 pub mod Lanes
-pub mod Options
 pub mod Classes
 pub mod Words
 pub mod Ascii

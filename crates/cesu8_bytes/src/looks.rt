@@ -4,12 +4,12 @@
 //! | bytes | look | for |
 //! |---|---|---|
 //! | at most 256 | are all ASCII that does not change? | what takes the encoding alone, `text_of` |
-//! | at most 1,024 | how many are ASCII? | what takes UTF-8 as well |
+//! | at most 1,024 | are all ASCII? | what takes UTF-8 as well |
 //! | at most 64, in front of a slice of 64 or more | that of the first row, by one vector | strings in a row |
 //! | below 256 | does a byte change? up to 64 by two vectors, else by more | what encodes |
 //! | 256 and more | the same, by a call of the kernels, so that the short way has few registers to save | the same |
 
-ghost use Rattle.std.specs.Prelude.{◌↔◌, ◌≤◌, IsTrue, Any, length, take, IfNone, IfSome};
+ghost use Rattle.std.specs.Prelude.{◌↔◌, IsTrue, Any, take};
 ghost use Rattle.std.specs.Str.{chars, IsAscii};
 ghost use Rattle.cesu8_text.specs.Class.{IsChangedByte};
 ghost use Rattle.cesu8_text.specs.Encoding.{NeedsEncoding};
@@ -17,7 +17,7 @@ ghost use Rattle.cesu8_text.specs.Encoding.{NeedsEncoding};
 use crate::flavor::Flavor;
 use crate::implementation::active;
 use crate::lanes::class::{AtLeastF0, Either, FourByteLead, LANES, NonAscii, has};
-use crate::lanes::runs::{lanes_before, run_of_vectors};
+use crate::lanes::runs::lanes_before;
 use crate::lanes::search::{any_in_bytes, any_in_first_look};
 use crate::lanes::short::are_short;
 use std::simd::prelude::*;
@@ -32,30 +32,20 @@ const TESTED_AT_ONCE: usize = 16 * LANES;
 /// How many bytes `begins_with_unchanged_ascii` loads: one vector. Longer ones have no such look.
 const SHOWN_AT_ONCE: usize = LANES;
 
-/// Returns `None` where the bytes are few and all ASCII, or how many at the front are, by vectors of
-/// 64 bytes. More have no first look. The run is found behind the test, which is shorter for ASCII
-/// as it counts nothing. `any_in_first_look`, with two vectors up to 128 bytes, is longer code, so
-/// the next look alone has it.
+/// Returns whether there are at most 1,024 bytes, all ASCII. `any_in_first_look`, which tests up to
+/// 128 bytes with two vectors, is larger code, so only `is_short_unchanged_ascii` uses it.
 #[inline(always)]
-pub fn ascii_unless_all(bytes: &[u8]) -> Option<usize>
-    ensures all { IfNone result (IsAscii bytes.now) }
-    ensures within { IfSome result (λ len. len ≤ length bytes.now) }
-    ensures front { IfSome result (λ len. IsAscii (take len bytes.now)) }
+pub fn is_short_ascii(bytes: &[u8]) -> bool
+    ensures { IsTrue result → IsAscii bytes.now }
 {
     if bytes.len() > TESTED_AT_ONCE {
-        return Some(0);
+        return false;
     }
-    if are_short(bytes) {
-        return any_in_bytes::<NonAscii>(bytes).then_some(0);
+    // Most other input has a byte that is not ASCII in the first 64.
+    if !are_short(bytes) && has::<NonAscii, LANES>(u8x64::from_slice(bytes)) {
+        return false;
     }
-    // Most others show it in the first vector.
-    if has::<NonAscii, LANES>(u8x64::from_slice(bytes)) {
-        return Some(0);
-    }
-    if !any_in_bytes::<NonAscii>(bytes) {
-        return None;
-    }
-    Some(run_of_vectors::<NonAscii>(bytes))
+    !any_in_bytes::<NonAscii>(bytes)
 }
 
 /// Returns whether the bytes are few and all ASCII that does not change: in MUTF-8 00 does, and in

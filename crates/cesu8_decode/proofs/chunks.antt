@@ -12,6 +12,7 @@ pub mod ShownBytes
 pub mod FollowingBytes
 pub mod EncodedFollow
 pub mod Fronts
+pub mod Utf8Parts
 pub mod UnchangedFronts
 pub mod FrontReadings
 pub mod Stops

@@ -9,32 +9,25 @@ use Rattle.cesu8_bytes.specs.declared.TheConstants.{BLOCK}
 use Rattle.cesu8_decode.specs.DecodedOffsets.{continues}
 use Rattle.cesu8_decode.specs.declared.lanes.character_set.Block.{Block}
 use Rattle.cesu8_decode.specs.declared.lanes.character_set.Rule.{Rule}
-use Rattle.cesu8_decode.specs.declared.lanes.character_set.TheConstants.{ENCODED, UNCHANGED, UTF8}
+use Rattle.cesu8_decode.specs.declared.lanes.character_set.TheConstants.{ENCODED, UNCHANGED}
 
--- The characters that are meant: all that are encoded, those of them that are the same in UTF-8, or all
--- of UTF-8, but for 00 in MUTF-8.
+-- The characters that are meant: all that are encoded, or those of them that are the same in UTF-8.
 pub data CharacterSet : Type 0 where
   Encoded : CharacterSet
   Unchanged : CharacterSet
-  Utf8 : CharacterSet
 
--- What tells them: whether surrogate pairs and C0 80 are meant, and characters of four bytes, and tables.
+-- What tells them: whether surrogate pairs and C0 80 are meant, and tables.
 abbrev pub rule : CharacterSet → Rule
 rule Encoded = ENCODED
 rule Unchanged = UNCHANGED
-rule Utf8 = UTF8
 
 abbrev pub has_changed : CharacterSet → Bool
 has_changed s = (rule s).has_changed
-
-abbrev pub has_four : CharacterSet → Bool
-has_four s = (rule s).has_four
 
 -- From this second byte on a surrogate is none that begins a character.
 abbrev pub first_low : CharacterSet → ℕ
 first_low Encoded = 0xB0
 first_low Unchanged = 0xA0
-first_low Utf8 = 0xA0
 
 -- What byte b shows behind byte a: 80 (hexadecimal) behind a continuation byte, as the third byte of
 -- a character has it, 20 as the second byte of a low surrogate, or of any where none is meant, and 0
@@ -43,34 +36,27 @@ first_low Utf8 = 0xA0
 unfoldable pub shown : CharacterSet → Flavor → ℕ → ℕ → ℕ
 shown s f a b =
     if is_null f b then 0xFF
-    else if nat_le 0xF0 a && not (has_four s) then 0x40
+    else if nat_le 0xF0 a then 0x40
     else if not (continues b) then (if nat_le 0xC0 a then 0x01 else 0)
     else if nat_lt a 0x80 then 0x02
     else if nat_lt a 0xC0 then 0x80
-    else if a == 0xC0 then (if has_changed s && null_at f 0xC0 b then 0 else if has_four s then 0x08 else 0x10)
+    else if a == 0xC0 then (if has_changed s && null_at f 0xC0 b then 0 else 0x10)
     else if a == 0xC1 then 0x08
     else if a == 0xE0 && nat_lt b 0xA0 then 0x04
     else if a == 0xED && nat_le (first_low s) b then 0x20
-    else if nat_le 0xF4 a && nat_le 0x90 b then 0x10
-    else if (nat_le 0xF5 a || a == 0xF0) && nat_lt b 0x90 then 0x40
     else 0
 
 -- Two bytes begin a high surrogate, and pairs are meant.
 abbrev pub is_high_surrogate : CharacterSet → ℕ → ℕ → Bool
 is_high_surrogate s a b = has_changed s && (a == 0xED && (nat_le 0xA0 b && nat_lt b 0xB0))
 
--- A byte leads four, and such characters are meant.
-abbrev pub leads_four : CharacterSet → ℕ → Bool
-leads_four s b = has_four s && nat_le 0xF0 b
+-- What a byte has to show by the one two before it: the third byte of a character that this leads.
+abbrev pub later : ℕ → ℕ
+later d = if nat_le 0xE0 d then 0x80 else 0
 
--- What a byte has to show by those three and two before it, b and d: the third byte of a character that
--- d leads, and the fourth of one that b leads.
-abbrev pub later : CharacterSet → (b d : ℕ) → ℕ
-later s b d = if leads_four s b || nat_le 0xE0 d then 0x80 else 0
-
--- The same by the one before these too: the second byte of a low surrogate behind a high one.
+-- The same by the two before that too: the second byte of a low surrogate behind a high one.
 abbrev pub wanted : CharacterSet → (a b d : ℕ) → ℕ
-wanted s a b d = later s b d + (if is_high_surrogate s a b then 0x20 else 0)
+wanted s a b d = later d + (if is_high_surrogate s a b then 0x20 else 0)
 
 -- Byte g may follow four others.
 abbrev pub follows : CharacterSet → Flavor → (a b d e g : ℕ) → Bool
@@ -88,7 +74,7 @@ pub record IsBlockAt (s : CharacterSet) (window : List ℕ) (i : ℕ) (block : B
   pub bytes : block.bytes ≡ chunk (i + 4) 32 window
   pub one_before : block.one_before ≡ chunk (i + 3) 32 window
   pub two_before : block.two_before ≡ chunk (i + 2) 32 window
-  pub three_before : has_four s || has_changed s ≡ true → block.three_before ≡ chunk (i + 1) 32 window
+  pub three_before : has_changed s ≡ true → block.three_before ≡ chunk (i + 1) 32 window
   pub four_before : has_changed s ≡ true → block.four_before ≡ chunk i 32 window
 
 -- The window on some bytes: four characters of one byte go before them.
@@ -123,7 +109,7 @@ pub record FollowUpTo (s : CharacterSet) (f : Flavor) (bytes : List ℕ) (n : �
 -- By the four bytes before a boundary, a character may cross it, or a surrogate pair.
 abbrev pub crosses : CharacterSet → (a b d e : ℕ) → Bool
 crosses s a b d e =
-    nat_le 0xC0 e || (nat_le 0xE0 d || (leads_four s b || (is_high_surrogate s b d || is_high_surrogate s a b)))
+    nat_le 0xC0 e || (nat_le 0xE0 d || (is_high_surrogate s b d || is_high_surrogate s a b))
 
 -- The boundary behind so many bytes of the window's.
 abbrev pub crosses_at : CharacterSet → List ℕ → ℕ → Bool

@@ -1,29 +1,20 @@
 -- Bytes at the front that are whole characters of a set.
-use Rattle.std.specs.Prelude.{◌≡◌, ◌↔◌, ℕ, ◌<◌, ◌≤◌, List, length, take, Any, IsTrue}
-use Rattle.std.specs.Str.{IsAscii}
-use Rattle.cesu8_text.specs.Class.{is_null}
+use Rattle.std.specs.Prelude.{◌≡◌, ◌↔◌, ℕ, ◌<◌, ◌≤◌, List, length, take, Any}
 use Rattle.cesu8_text.specs.Encoding.{Flavor, encoding, IsEncodedOtherwise}
-use Rattle.cesu8_text.specs.Text.{IsText, utf8}
-use Rattle.cesu8_decode.specs.Following.{CharacterSet, Encoded, Unchanged, Utf8, HasStops}
+use Rattle.cesu8_text.specs.Text.{IsText}
+use Rattle.cesu8_decode.specs.Following.{CharacterSet, Encoded, Unchanged, HasStops}
 use Rattle.cesu8_decode.specs.declared.front.FoundFront.{FoundFront}
 use Rattle.cesu8_decode.specs.declared.way.TheConstants.{FEW_BYTES}
-
--- The bytes of a text in a set.
-abbrev pub written : CharacterSet → Flavor → List ℕ → List ℕ
-written Encoded f text = encoding f text
-written Unchanged f text = encoding f text
-written Utf8 f text = utf8 text
 
 -- A scalar value is none of the set.
 abbrev pub IsOutside : CharacterSet → Flavor → ℕ → Type 0
 IsOutside Encoded f = λ c. ⊥
 IsOutside Unchanged f = IsEncodedOtherwise f
-IsOutside Utf8 f = λ c. IsTrue (is_null f c)
 
 -- The bytes are those of a text in the set.
 pub record AreWhole (s : CharacterSet) (f : Flavor) (bytes : List ℕ) : Type 0 where
   pub text : List ℕ
-  pub reads : IsText text × (written s f text ≡ bytes)
+  pub reads : IsText text × (encoding f text ≡ bytes)
   pub inside : ¬ (Any (IsOutside s f) text)
 
 -- So many bytes at the front are, and no more.
@@ -46,8 +37,3 @@ pub record IsPartialFront (f : Flavor) (bytes : List ℕ) (front : FoundFront) :
 pub record IsFrontUnlessKept (f : Flavor) (are_kept : Type 0) (bytes : List ℕ) (found : FoundFront) : Type 0 where
   pub kept : (found.len ≡ length bytes) ↔ are_kept
   pub front : ¬ (found.len ≡ length bytes) → IsPartialFront f bytes found
-
--- So many bytes at the front are ASCII.
-pub record BeginsWithAscii (bytes : List ℕ) (n : ℕ) : Type 0 where
-  pub within : n ≤ length bytes
-  pub ascii : IsAscii (take n bytes)

@@ -1,6 +1,5 @@
 //! Decodes to a caller's buffer: copies bytes that a call keeps, and writes the text of others.
 
-ghost use Rattle.cesu8_decode.specs.Front.{BeginsWithAscii};
 ghost use Rattle.cesu8_decode.specs.PutReadings.{PutsText, ReadsAs};
 
 use crate::accepts::Accepts;
@@ -20,25 +19,23 @@ pub fn decode_to_slice<F: Flavor, A: Accepts, S: Reading>(
     ensures { PutsText S.which (ReadsAs S.which (A.reads F.flavor bytes.now)
         (A.reads_lossily F.flavor bytes.now)) result buf.old buf.new }
 {
-    match A::ascii_unless_kept::<F>(bytes) {
-        None => copy_to_slice(bytes, buf).map_err(Unwritten::NoRoom),
-        Some(ascii) => decode_other_to_slice::<F, A, S>(bytes, ascii, buf),
+    if A::is_short_kept::<F>(bytes) {
+        return copy_to_slice(bytes, buf).map_err(Unwritten::NoRoom);
     }
+    decode_other_to_slice::<F, A, S>(bytes, buf)
 }
 
-/// Does so for bytes of which the first `ascii` are ASCII, but not all. It is not inlined, so that
-/// short ASCII has few registers to save.
+/// Like `decode_to_slice`, without the fast path. It is not inlined, so that short ASCII has few
+/// registers to save.
 #[inline(never)]
 fn decode_other_to_slice<F: Flavor, A: Accepts, S: Reading>(
     bytes: &[u8],
-    ascii: usize,
     buf: &mut [u8],
 ) -> Result<usize, Unwritten>
-    requires { BeginsWithAscii bytes.now ascii }
     ensures { PutsText S.which (ReadsAs S.which (A.reads F.flavor bytes.now)
         (A.reads_lossily F.flavor bytes.now)) result buf.old buf.new }
 {
-    let front = A::front_of_other::<F>(bytes, ascii);
+    let front = A::front_of_other::<F>(bytes);
     if front.len == bytes.len() {
         return copy_to_slice(bytes, buf).map_err(Unwritten::NoRoom);
     }

@@ -1,23 +1,22 @@
-//! How many bytes at the front are whole characters: all that are encoded, those of them that are
-//! the same in UTF-8, or all of UTF-8. Decoding begins with this test, unless it is short ASCII.
-//! Strict reading of more than 64 bytes goes on where it stopped; other reading begins again.
+//! How many bytes at the front are whole characters: all that are encoded, or those of them that
+//! are the same in UTF-8. Decoding begins with this test, unless it is short ASCII. Strict reading
+//! of more than 64 bytes goes on where it stopped; other reading begins again.
 //!
 //! Vectors find the first byte that may not follow those before it. The front ends there, or at the
 //! last boundary before, if a character is cut off there.
 
-ghost use Rattle.std.specs.Prelude.{◌≡◌, ◌+◌, ◌-◌, ◌<◌, ◌≤◌, ◌↔◌, IsTrue, IsUtf8, true, false, length, slice_index};
-ghost use Rattle.cesu8_text.specs.Encoding.{Cesu8};
+ghost use Rattle.std.specs.Prelude.{◌≡◌, ◌+◌, ◌-◌, ◌<◌, ◌≤◌, IsTrue, true, false, length, slice_index};
 ghost use Rattle.cesu8_text.specs.Fronts.{IsValidUpTo};
 ghost use Rattle.cesu8_text.specs.Reading.{IsStrictReading, HasNoStrictReading, reading};
-ghost use Rattle.cesu8_decode.specs.Following.{FirstFollow, FollowUpTo, Encoded as AllEncoded, Utf8 as AllUtf8, after_fillers, crosses_at, is_high_surrogate};
+ghost use Rattle.cesu8_decode.specs.Following.{FirstFollow, FollowUpTo, Encoded as AllEncoded, after_fillers, crosses_at, is_high_surrogate};
 ghost use Rattle.cesu8_decode.specs.Front.{IsFront, IsFrontOf};
 
-use crate::lanes::character_set::{CharacterSet, DECIDING, Encoded, Utf8};
+use crate::lanes::character_set::{CharacterSet, DECIDING, Encoded};
 use crate::lanes::following::{block_behind, following_len, two_follow};
 use crate::lanes::stops::{next_stop, stops_of_few};
 use crate::way::{FEW_BYTES, are_few};
 use cesu8_bytes::BLOCK;
-use cesu8_bytes::flavor::{Cesu8Flavor, Flavor};
+use cesu8_bytes::flavor::Flavor;
 use cesu8_bytes::lanes::class::{Either, NonAscii};
 use cesu8_bytes::lanes::runs::run_of_groups;
 use cesu8_bytes::looks::is_short_unchanged_ascii;
@@ -86,27 +85,6 @@ pub fn is_ill_formed<F: Flavor>(bytes: &[u8]) -> bool
     valid_up_to_other::<F>(bytes) < bytes.len()
 }
 
-/// Returns whether the bytes are UTF-8. It is not inlined, so that what calls it stays short.
-#[inline(never)]
-pub fn is_utf8(bytes: &[u8]) -> bool
-    ensures { IsTrue result ↔ IsUtf8 bytes.now }
-{
-    // In CESU-8 no ASCII changes.
-    front::<Cesu8Flavor, Utf8>(bytes).len == bytes.len()
-}
-
-/// Returns whether more than 64 bytes are UTF-8, of which those before an offset may follow each
-/// other. It is not inlined, as above.
-#[inline(never)]
-pub fn is_utf8_from(bytes: &[u8], start: usize) -> bool
-    requires first { FirstFollow AllUtf8 Cesu8 bytes.now start }
-    requires start { (DECIDING ≤ start) × (FEW_BYTES < length bytes.now) }
-    ensures { IsTrue result ↔ IsUtf8 bytes.now }
-{
-    let stop = following_from::<Cesu8Flavor, Utf8>(bytes, start);
-    last_boundary::<Cesu8Flavor, Utf8>(bytes, stop) == bytes.len()
-}
-
 /// Returns how many of more than 64 bytes may follow those before them, up to the first that may
 /// not: first those of whole groups of ASCII that stays, or else of one block. It is not inlined,
 /// since it is long.
@@ -170,7 +148,7 @@ fn following_twos<F: Flavor, S: CharacterSet>(bytes: &[u8], start: usize) -> usi
 
 /// Returns the last boundary up to `at` that no character crosses. The bytes before may follow each
 /// other, and the one at `at`, if there is one, may not. Where no character changes, one that is
-/// cut off begins in the last three. They are read first, so fewer branches may be guessed wrong.
+/// cut off begins in the last two. They are read first, so fewer branches may be guessed wrong.
 #[inline(always)]
 fn last_boundary<F: Flavor, S: CharacterSet>(bytes: &[u8], at: usize) -> usize
     requires { FollowUpTo S.set F.flavor bytes.now at }
@@ -182,16 +160,13 @@ fn last_boundary<F: Flavor, S: CharacterSet>(bytes: &[u8], at: usize) -> usize
     if at == 0 {
         return at;
     }
-    // Where fewer stand before, the first of them is read again, which is no lead byte by then.
+    // If there is only one byte before, it is read again, and is known to be no lead byte by then.
     let last = bytes[at - 1];
     let second = bytes[at.max(2) - 2];
-    let third = bytes[at.max(3) - 3];
     if last >= 0xC0 {
         at - 1
     } else if second >= 0xE0 {
         at - 2
-    } else if S::rule().has_four && third >= 0xF0 {
-        at - 3
     } else {
         at
     }
@@ -221,14 +196,10 @@ pub fn may_be_crossed<S: CharacterSet>(bytes: &[u8], at: usize) -> bool
     if last >= 0xC0 || second_last >= 0xE0 {
         return true;
     }
-    let third_last = byte_before(bytes, at, 3);
-    // No set has characters of four bytes and those that change.
-    if S::rule().has_four {
-        return third_last >= 0xF0;
-    }
     if !S::rule().has_changed {
         return false;
     }
+    let third_last = byte_before(bytes, at, 3);
     begins_high_surrogate(third_last, second_last)
         || begins_high_surrogate(byte_before(bytes, at, 4), third_last)
 }

@@ -9,6 +9,7 @@
 //! - `accepts`: what a call takes
 //! - `lanes`: what vectors tell of 32 bytes, with no branch on a single byte
 //! - `front`: how many bytes are whole characters of a set, with which each call begins
+//! - `utf8`: whether bytes are UTF-8, which lenient calls test from the end of the front on
 //! - `lengths`: the lengths of the readings
 //! - `way`: which way other bytes go
 //! - `changed`: whether bytes begin with a character that changes
@@ -35,6 +36,7 @@ mod lanes;
 mod lengths;
 mod pass;
 pub mod refusal;
+mod utf8;
 mod way;
 
 use crate::front::FoundFront;

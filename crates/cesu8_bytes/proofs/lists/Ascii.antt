@@ -1,6 +1,6 @@
 -- ASCII: bytes of which none is 80 (hexadecimal) or more.
 use Rattle.std.proofs.lemmas.Bool.Decides.{nat_tests}
-use Rattle.std.proofs.Common.{◌≡◌, ◌∙◌, ℕ, Bool, true, false, not, ◌||◌, ◌<◌, ◌≤◌, List, sym, ap, arith, leb, length, take, get_or}
+use Rattle.std.proofs.Common.{◌≡◌, ◌∙◌, ℕ, Bool, true, not, ◌||◌, ◌<◌, ◌≤◌, List, sym, ap, arith, leb, length, take, get_or}
 use Rattle.std.specs.List.{Any, prefix_len}
 use Rattle.std.specs.Str.{IsAscii}
 use Rattle.std.proofs.lemmas.Bool.{both_ways, leb-false, false_from_ne_true, not-true, or_right}
@@ -20,12 +20,6 @@ pub ascii_of_none : (xs : List ℕ) → (AnyIn is_non_ascii xs → ⊥) → IsAs
 ascii_of_none xs none = IsAscii-from_reads xs (length xs) (omega arith) (λ k inside.
     leb-false 0x80 (get_or xs k 0) (false_from_ne_true _ (λ high.
     none (k, get_or xs k 0, inside, get_or_default xs k (get_or xs k 0) 0 inside, high))))
-
--- So are those at the front where none of them is.
-pub ascii_in_run : (xs : List ℕ) (n : ℕ) → ((i : ℕ) → i < n → is_non_ascii (get_or xs i 0) ≡ false) → IsAscii (take n xs)
-ascii_in_run xs n none = IsAscii-from_reads (take n xs) (length (take n xs)) (omega arith) (λ k inside.
-    let before : k < n = omega (arith, inside, length-take n xs) in
-    leb-false 0x80 (get_or (take n xs) k 0) (ap is_non_ascii (get_or-take n xs k 0 before) ∙ none k before))
 
 -- So are they where none is of another class either.
 pub ascii_of_neither : (other : ℕ → Bool) (xs : List ℕ) → (AnyIn (λ b. other b || is_non_ascii b) xs → ⊥) → IsAscii xs

@@ -50,19 +50,6 @@ pub fn run_of_groups<C: InGroups<LANES>>(bytes: &[u8]) -> usize
     run
 }
 
-/// Returns the length of whole vectors of 64 bytes at the front without one of the class.
-#[inline(always)]
-pub fn run_of_vectors<C: InVectors<LANES>>(bytes: &[u8]) -> usize
-    ensures within { result ≤ length bytes.now }
-    ensures run { (i : ℕ) → i < result → C.class (slice_index bytes.now i) ≡ false }
-{
-    let mut run = 0;
-    while bytes.len() - run >= LANES && !has::<C, LANES>(u8x64::from_slice(&bytes[run..])) {
-        run += LANES;
-    }
-    run
-}
-
 /// Returns whether one of the first 256 bytes may be in the class, and true if one is.
 #[inline(always)]
 fn group_may_have<C: InGroups<LANES>>(bytes: &[u8]) -> bool

@@ -1,23 +1,22 @@
 -- The bytes of whole characters may follow each other.
-use Rattle.std.proofs.Common.{◌≡◌, ℕ, ◌+◌, ◌*◌, ◌/◌, ◌%◌, ◌<◌, ◌≤◌, ◌⊎◌, inl, inr, true, false, List, [], ◌∷◌, ◌++◌, refl, subst, arith, length, take}
+use Rattle.std.proofs.Common.{◌≡◌, ℕ, ◌+◌, ◌<◌, ◌≤◌, ◌⊎◌, inl, inr, true, false, List, [], ◌∷◌, ◌++◌, refl, subst, arith, length, take}
 use Rattle.std.specs.List.{Any}
 use Rattle.std.proofs.lemmas.Bool.{lt-leb, le-leb, le-ltb, cases_Bool}
 use Rattle.std.proofs.lemmas.Bool.Decides.{nat_tests}
-use Rattle.std.proofs.lemmas.List.{append-nil}
 use Rattle.cesu8_text.specs.Class.{is_null}
-use Rattle.cesu8_text.specs.Text.{IsScalarValue, IsText, utf8_of}
+use Rattle.cesu8_text.specs.Text.{IsScalarValue, IsText}
 use Rattle.cesu8_text.specs.Encoding.{Flavor, short_form, encoding, IsEncodedOtherwise}
 use Rattle.cesu8_text.proofs.lists.Elements.{any_here, any_there}
-use Rattle.cesu8_text.proofs.text.Shapes.{IsThree, Shape, one, two, three, pair, shape, utf8_of_pair}
+use Rattle.cesu8_text.proofs.text.Shapes.{IsThree, Shape, one, two, three, pair, shape}
+use Rattle.cesu8_text.proofs.encoding.Encodings.{encoding_nil, encoding_append}
 use Rattle.cesu8_text.proofs.encoding.Forms.{encoding_one, encoding_two, encoding_three, encoding_pair}
-use Rattle.cesu8_text.proofs.encoding.Lengths.{Change, same, longer, change, otherwise, not_otherwise}
+use Rattle.cesu8_text.proofs.encoding.Lengths.{otherwise}
 use Rattle.cesu8_bytes.specs.Pairs.{null_at}
 use Rattle.cesu8_decode.specs.DecodedOffsets.{continues}
-use Rattle.cesu8_decode.specs.Following.{CharacterSet, Encoded, Unchanged, Utf8, has_changed, has_four, first_low, shown, after_fillers, follows}
-use Rattle.cesu8_decode.specs.Front.{AreWhole, written, IsOutside}
+use Rattle.cesu8_decode.specs.Following.{CharacterSet, Encoded, Unchanged, has_changed, first_low, shown, after_fillers, follows}
+use Rattle.cesu8_decode.specs.Front.{AreWhole, IsOutside}
 use Rattle.cesu8_decode.proofs.by_offset.WidthTests.{is_continuation}
 use Rattle.cesu8_decode.proofs.chunks.FollowingBytes.{Ends, FollowToEnd, FollowBefore, by_index, start, short_of, low_if_meant}
-use Rattle.cesu8_decode.proofs.chunks.WholeBytes.{written_nil, written_append}
 
 -- ---- what a byte shows
 
@@ -34,12 +33,12 @@ unfolding shown
 shows_begin s f a b behind null other = rw (null, lt-leb 0xF0 a (omega arith), other, lt-leb 0xC0 a behind) refl
 
 -- the second byte of a character,
-shows_second : (s : CharacterSet) (f : Flavor) (a b : ℕ) → 0xC2 ≤ a → a < 0xF5 → 0x80 ≤ b → b < 0xC0 → (a ≡ 0xE0 → 0xA0 ≤ b) → (a ≡ 0xED → b < first_low s) →
-    (a ≡ 0xF0 → 0x90 ≤ b) → (a ≡ 0xF4 → b < 0x90) → (0xF0 ≤ a → has_four s ≡ true) → shown s f a b ≡ 0
+shows_second : (s : CharacterSet) (f : Flavor) (a b : ℕ) → 0xC2 ≤ a → a < 0xF0 → 0x80 ≤ b → b < 0xC0 → (a ≡ 0xE0 → 0xA0 ≤ b) → (a ≡ 0xED → b < first_low s) →
+    shown s f a b ≡ 0
 unfolding shown
-shows_second s f a b leads fits low high no_overlong no_low needs last meant = grind (arith, nat_tests)
+shows_second s f a b leads fits low high no_overlong no_low = grind (arith, nat_tests)
 
--- the third or fourth,
+-- the third,
 shows_third : (s : CharacterSet) (f : Flavor) (a b : ℕ) → 0x80 ≤ a → a < 0xC0 → 0x80 ≤ b → b < 0xC0 → shown s f a b ≡ 0x80
 unfolding shown
 shows_third s f a b a_low a_high low high = grind (arith, nat_tests)
@@ -71,12 +70,6 @@ module _ (s : CharacterSet) (f : Flavor) (rest : List ℕ) (then : (a b d e : �
       let last : follows s f d e g h i ≡ true = grind (arith, nat_tests, shows_third) in
       let after = then e g h i (grind (arith, nat_tests)) in
       (grind (arith, nat_tests, no_null, shows_begin), (grind (arith, nat_tests), (last, after)))
-
-  fit_four : (g h i j : ℕ) → has_four s ≡ true → 0xF0 ≤ g → g < 0xF5 → 0x80 ≤ h → h < 0xC0 → (g ≡ 0xF0 → 0x90 ≤ h) → (g ≡ 0xF4 → h < 0x90) →
-      0x80 ≤ i → i < 0xC0 → 0x80 ≤ j → j < 0xC0 → FollowToEnd s f a b d e (g ∷ h ∷ i ∷ j ∷ rest)
-  fit_four g h i j meant leads small h_low h_high needs last i_low i_high j_low j_high =
-      let after = then g h i j (grind (arith, nat_tests)) in
-      grind (arith, nat_tests, no_null, shows_begin, shows_second, shows_third)
 
   fit_pair : (h i l m : ℕ) → has_changed s ≡ true → 0xA0 ≤ h → h < 0xB0 → 0x80 ≤ i → i < 0xC0 → 0xB0 ≤ l → l < 0xC0 → 0x80 ≤ m → m < 0xC0 →
       FollowToEnd s f a b d e (0xED ∷ h ∷ i ∷ 0xED ∷ l ∷ m ∷ rest)
@@ -116,43 +109,20 @@ module _ (s : CharacterSet) (f : Flavor) (c : ℕ) (meant : IsEncodedOtherwise f
       (fit_pair s f rest then a b d e ends (0xA0 + w) (0x80 + x) (0xB0 + y) (0x80 + z) (meant (otherwise f c (omega arith))) (omega arith) (omega arith) (omega arith) (omega arith)
       (omega arith) (omega arith) (omega arith) (omega arith))
 
--- and by its UTF-8, which is its encoding or has four bytes,
-changed_ascii : (f : Flavor) (c : ℕ) → c < 0x80 → IsEncodedOtherwise f c → is_null f c ≡ true
-changed_ascii f c ascii needs = grind (arith, nat_tests)
-
-module _ (f : Flavor) (c : ℕ) (scalar : IsScalarValue c) (some : ¬ (IsOutside Utf8 f c)) (rest : List ℕ) (then : (a b d e : ℕ) → Ends Utf8 a b d e → FollowToEnd Utf8 f a b d e rest) (a b d e : ℕ) (ends : Ends Utf8 a b d e) where
-  fit_changed : IsEncodedOtherwise f c → Shape c → FollowToEnd Utf8 f a b d e (utf8_of c ++ rest)
-  fit_changed needs (one ascii) = absurd (some (changed_ascii f c ascii needs))
-  fit_changed needs (two x y digits) = absurd (not_otherwise f c (omega arith) (omega arith) needs)
-  fit_changed needs (three x y z digits) = absurd (not_otherwise f c (omega arith) (omega arith) needs)
-  fit_changed needs (pair w x y z digits) =
-      rw (utf8_of_pair c w x y z digits)
-      (fit_four Utf8 f rest then a b d e ends (0xF0 + (w + 1) / 4) (0x80 + ((w + 1) % 4 * 0x10 + x / 4)) (0x80 + (x % 4 * 0x10 + y)) (0x80 + z) refl
-      (omega arith) (omega arith) (omega arith) (omega arith) (λ e. omega (arith, e)) (λ e. omega (arith, e))
-      (omega arith) (omega arith) (omega arith) (omega arith))
-
-  fit_utf8 : Change f c → FollowToEnd Utf8 f a b d e (utf8_of c ++ rest)
-  fit_utf8 (same usual encoded) =
-      subst (λ bs. FollowToEnd Utf8 f a b d e (bs ++ rest)) encoded
-      (fit_character Utf8 f c (λ needs. absurd (usual needs)) rest then a b d e ends scalar (shape c scalar))
-  fit_utf8 (longer needs _ _) = fit_changed needs (shape c scalar)
-
--- so by what is written for it,
+-- by the set,
 character_fits : (s : CharacterSet) (f : Flavor) (c : ℕ) → IsScalarValue c → ¬ (IsOutside s f c) → (rest : List ℕ) →
-    ((a b d e : ℕ) → Ends s a b d e → FollowToEnd s f a b d e rest) → (a b d e : ℕ) → Ends s a b d e → FollowToEnd s f a b d e (written s f (c ∷ []) ++ rest)
+    ((a b d e : ℕ) → Ends s a b d e → FollowToEnd s f a b d e rest) → (a b d e : ℕ) → Ends s a b d e → FollowToEnd s f a b d e (encoding f (c ∷ []) ++ rest)
 character_fits Encoded f c scalar inside rest then a b d e ends = fit_character Encoded f c (λ _. refl) rest then a b d e ends scalar (shape c scalar)
 character_fits Unchanged f c scalar inside rest then a b d e ends =
     fit_character Unchanged f c (λ needs. absurd (inside needs)) rest then a b d e ends scalar (shape c scalar)
-character_fits Utf8 f c scalar inside rest then a b d e ends =
-    rw (append-nil (utf8_of c)) (fit_utf8 f c scalar inside rest then a b d e ends (change f c scalar))
 
 -- and so do those of a text.
 written_fit : (s : CharacterSet) (f : Flavor) (text : List ℕ) → IsText text → ¬ (Any (IsOutside s f) text) →
-    (a b d e : ℕ) → Ends s a b d e → FollowToEnd s f a b d e (written s f text)
-written_fit s f [] is_text inside a b d e ends = rw (written_nil s f) ends
+    (a b d e : ℕ) → Ends s a b d e → FollowToEnd s f a b d e (encoding f text)
+written_fit s f [] is_text inside a b d e ends = rw (encoding_nil f) ends
 written_fit s f (c ∷ text) is_text inside a b d e ends =
-    rw (written_append s f (c ∷ []) text)
-    (character_fits s f c is_text.0 (λ out. inside (any_here _ c text out)) (written s f text)
+    rw (encoding_append f (c ∷ []) text)
+    (character_fits s f c is_text.0 (λ out. inside (any_here _ c text out)) (encoding f text)
     (written_fit s f text is_text.1 (λ any. inside (any_there _ c text any))) a b d e ends)
 
 -- The bytes of whole characters at the front may follow each other, and none crosses their end.

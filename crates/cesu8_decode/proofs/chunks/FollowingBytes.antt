@@ -7,11 +7,11 @@ use Rattle.cesu8_text.specs.Encoding.{Flavor, Cesu8, Mutf8, short_form}
 use Rattle.cesu8_text.specs.Patterns.{IsContinuation}
 use Rattle.cesu8_text.proofs.encoding.Found.{BeginsInLengths, found_one, found_null, found_two, found_three, found_pair}
 use Rattle.cesu8_bytes.specs.Pairs.{null_at}
-use Rattle.cesu8_decode.specs.Following.{CharacterSet, has_changed, has_four, first_low, is_high_surrogate, leads_four, follows, follows_at, after_fillers, FirstFollow, crosses, crosses_at}
+use Rattle.cesu8_decode.specs.Following.{CharacterSet, has_changed, first_low, is_high_surrogate, follows, follows_at, after_fillers, FirstFollow, crosses, crosses_at}
 use Rattle.cesu8_decode.specs.Front.{AreWhole}
 use Rattle.cesu8_decode.proofs.by_offset.WidthTests.{continuation}
 use Rattle.cesu8_decode.proofs.chunks.ShownBytes.{Begins, IsSecond, if_nothing, if_third, if_low}
-use Rattle.cesu8_decode.proofs.chunks.WholeBytes.{none_whole, whole_with, whole_with_four}
+use Rattle.cesu8_decode.proofs.chunks.WholeBytes.{none_whole, whole_with}
 
 -- A high surrogate has ED and A0 to AF.
 high_bytes : (s : CharacterSet) (a b : ℕ) → is_high_surrogate s a b ≡ true → (has_changed s ≡ true) × (a ≡ 0xED) × (0xA0 ≤ b) × (b < 0xB0)
@@ -43,7 +43,6 @@ null_of Mutf8 a b bytes lead null = found_null Mutf8 (a ∷ b ∷ bytes) refl (o
 pub record Ends (s : CharacterSet) (a b d e : ℕ) : Type 0 where
   pub last : e < 0xC0
   pub second_last : d < 0xE0
-  pub third_last : leads_four s b ≡ false
   pub no_high : is_high_surrogate s b d ≡ false
   pub no_higher : is_high_surrogate s a b ≡ false
 
@@ -132,18 +131,6 @@ module _ (s : CharacterSet) (f : Flavor) (n : ℕ) (later : AreWholeFrom s f n) 
       (later e g h j bytes (omega arith) (grind (arith, nat_tests)) all.1))
       (cases_Bool (is_high_surrogate s g h))
 
-  -- of one of four,
-  in_four : (d e g h : ℕ) (bytes : List ℕ) → length bytes ≤ n → d < 0xE0 → e < 0xC0 → 0xF0 ≤ g → has_four s ≡ true → IsSecond s f g h →
-      FollowToEnd s f d e g h bytes → AreWhole s f (g ∷ h ∷ bytes)
-  in_four d e g h [] few before last lead meant two all = absurd (omega (arith, all.second_last))
-  in_four d e g h (j ∷ []) few before last lead meant two all = absurd (grind (arith, nat_tests))
-  in_four d e g h (j ∷ k ∷ bytes) few before last lead meant two all =
-      let next = continuation h two.continuing in
-      let third = third_byte s f d e g h j before (omega arith) all.0 in
-      let fourth = continuation k (if_third s f j k (grind (arith, nat_tests))) in
-      whole_with_four s f g h j k bytes meant lead (grind (arith, nat_tests)) next third fourth (λ same. grind (arith, nat_tests)) (λ same. grind (arith, nat_tests))
-      (later g h j k bytes (omega arith) (grind (arith, nat_tests)) all.1.1)
-
   -- of one of two,
   in_two : (d e g h : ℕ) (bytes : List ℕ) → length bytes ≤ n → d < 0xE0 → e < 0xC0 → g < 0xE0 → IsSecond s f g h →
       FollowToEnd s f d e g h bytes → AreWhole s f (g ∷ h ∷ bytes)
@@ -166,10 +153,7 @@ module _ (s : CharacterSet) (f : Flavor) (n : ℕ) (later : AreWholeFrom s f n) 
       ⊎_elim (λ (found : Begins f g h). absurd (omega (arith, found.behind)))
       (λ (found : IsSecond s f g h).
       ⊎_elim (λ (low : g < 0xE0). in_two d e g h bytes (omega arith) before last low found all.1)
-      (λ (high : 0xE0 ≤ g).
-      ⊎_elim (λ (small : g < 0xF0). in_three d e g h bytes (omega arith) before last high small found all.1)
-      (λ (four : 0xF0 ≤ g). in_four d e g h bytes (omega arith) before last four (grind (arith, nat_tests)) found all.1)
-      (cases_lt g 0xF0))
+      (λ (high : 0xE0 ≤ g). in_three d e g h bytes (omega arith) before last high found.fits found all.1)
       (cases_lt g 0xE0))
       (if_nothing s f g h (grind (arith, nat_tests)))
 

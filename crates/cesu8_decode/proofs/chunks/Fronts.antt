@@ -1,5 +1,5 @@
 -- How many bytes at the front are whole characters of a set.
-use Rattle.std.proofs.Common.{◌≡◌, ℕ, ◌+◌, ◌<◌, ◌≤◌, ◌↔◌, ⊎_elim, true, false, true≢false, not, cond, leb, ◌&&◌, get_or, ltb, List, [], ◌∷◌, ◌++◌, refl, sym, ap, ◌∙◌, subst, arith, length, take, drop, length-append, length-drop}
+use Rattle.std.proofs.Common.{◌≡◌, ℕ, ◌+◌, ◌<◌, ◌≤◌, ◌↔◌, ⊎_elim, true, false, true≢false, cond, leb, get_or, ltb, List, [], ◌∷◌, ◌++◌, refl, sym, ap, ◌∙◌, subst, arith, length, take, drop, length-append, length-drop}
 use Rattle.std.proofs.Math.Seq.{take-add, take-append_seam, take-length}
 use Rattle.std.proofs.lemmas.Bool.{agree_below_at, cases_lt, ltb-true}
 use Rattle.std.proofs.lemmas.Bool.Decides.{nat_tests}
@@ -9,8 +9,8 @@ use Rattle.cesu8_text.specs.Reading.{BeginsWith, NoneBegins, StandsAt, width, Li
 use Rattle.cesu8_text.specs.Fronts.{IsValidUpTo}
 use Rattle.cesu8_text.proofs.encoding.Lengths.{length_of_character}
 use Rattle.cesu8_text.proofs.reading.Marks.{mark_from}
-use Rattle.cesu8_decode.specs.Following.{CharacterSet, Encoded, Unchanged, has_changed, has_four, shown, follows, crosses, after_fillers, FollowUpTo, crosses_at}
-use Rattle.cesu8_decode.specs.Front.{AreWhole, IsFront, written, IsOutside}
+use Rattle.cesu8_decode.specs.Following.{CharacterSet, Encoded, Unchanged, has_changed, shown, follows, crosses, after_fillers, FollowUpTo, crosses_at}
+use Rattle.cesu8_decode.specs.Front.{AreWhole, IsFront, IsOutside}
 use Rattle.cesu8_decode.proofs.by_offset.IllFormed.{none_crosses_encoding}
 use Rattle.cesu8_decode.proofs.chunks.WholeBytes.{none_outside, character_whole, parts_whole}
 use Rattle.cesu8_decode.proofs.chunks.FollowingBytes.{followed_whole}
@@ -31,7 +31,7 @@ front_at s f bytes m n follow fits none crossed = record {
 
 -- A byte from C0 on shows whether a lead byte stands before it.
 pub lead_shown : (s : CharacterSet) (f : Flavor) (e g : ℕ) → 0xC0 ≤ g →
-    shown s f e g ≡ cond (leb 0xF0 e && not (has_four s)) 0x40 (cond (leb 0xC0 e) 0x01 0)
+    shown s f e g ≡ cond (leb 0xF0 e) 0x40 (cond (leb 0xC0 e) 0x01 0)
 unfolding shown
 lead_shown s f e g high = grind (arith, nat_tests)
 
@@ -59,9 +59,6 @@ module _ (s : CharacterSet) (bytes : List ℕ) (n : ℕ) where
   pub crosses_second : 0xE0 ≤ get_or (after_fillers bytes) (n + 4) 0 → crosses_at s (after_fillers bytes) (n + 2) ≡ true
   crosses_second high = let lead = byte (n + 2 + 2) (omega arith) in grind (arith, nat_tests)
 
-  pub crosses_third : has_four s ≡ true → 0xF0 ≤ get_or (after_fillers bytes) (n + 4) 0 → crosses_at s (after_fillers bytes) (n + 3) ≡ true
-  crosses_third four high = let lead = byte (n + 3 + 1) (omega arith) in grind (arith, nat_tests)
-
 -- and is none of the fillers.
 pub behind_fillers : (bytes : List ℕ) (i : ℕ) → 0xC0 ≤ get_or (after_fillers bytes) i 0 → 4 ≤ i
 behind_fillers bytes i high =
@@ -88,13 +85,13 @@ module _ (s : CharacterSet) (f : Flavor) (bytes : List ℕ) (n : ℕ) (front : I
   pub more_behind : ¬ (n ≡ length bytes) → n < length bytes
   more_behind other = omega (arith, front.within, other)
 
-  -- A front is its text as it is written, at the front of all bytes.
-  pub bytes_are : bytes ≡ written s f front.whole.text ++ drop n bytes
+  -- A front is the encoding of its text, at the front of all bytes.
+  pub bytes_are : bytes ≡ encoding f front.whole.text ++ drop n bytes
   bytes_are = sym (take-append-drop n bytes) ∙ ap (λ bs. bs ++ drop n bytes) (sym front.whole.reads.1)
 
   -- No character of the set begins behind a front, as it would make a longer one.
-  pub none_behind : (c : ℕ) (rest : List ℕ) → written s f (c ∷ []) ≡ encoding f (c ∷ []) → ¬ (IsOutside s f c) → ¬ (BeginsWith f (drop n bytes) c rest)
-  none_behind c rest encoded inside begins =
+  pub none_behind : (c : ℕ) (rest : List ℕ) → ¬ (IsOutside s f c) → ¬ (BeginsWith f (drop n bytes) c rest)
+  none_behind c rest inside begins =
       let character = encoding f (c ∷ []) in
       let k = width f c in
       let long = length_of_character f c begins.scalar in
@@ -103,7 +100,7 @@ module _ (s : CharacterSet) (f : Flavor) (bytes : List ℕ) (n : ℕ) (front : I
       take-add n k bytes ∙ ap (λ bs. take n bytes ++ bs) (ap (take k) begins.bytes_are ∙ take-append_seam character rest) in
       front.greatest (n + k) (omega (arith, long.some, long.fits)) (omega (arith, front.within, fits, length-drop n bytes))
       (subst (AreWhole s f) (sym are)
-      (parts_whole s f (take n bytes) character front.whole (subst (AreWhole s f) encoded (character_whole s f c begins.scalar inside))))
+      (parts_whole s f (take n bytes) character front.whole (character_whole s f c begins.scalar inside)))
 
 -- The front of all encoded characters is what `valid_up_to` gives: none begins behind it, so the lossy
 -- reading replaces the byte there.
@@ -121,7 +118,7 @@ valid_up_to_of f bytes n front = record {
     text = front.whole.text
 
     none : NoneBegins f (drop n bytes)
-    none c rest = none_behind Encoded f bytes n front c rest refl (λ none. none)
+    none c rest = none_behind Encoded f bytes n front c rest (λ none. none)
 
     not_within : ¬ (LiesWithin f bytes n)
     not_within (j, c, stands, before, past) =

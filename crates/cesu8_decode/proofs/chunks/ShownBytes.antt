@@ -1,12 +1,12 @@
 -- What two bytes show of each other, and what that says of them.
-use Rattle.std.proofs.Common.{◌≡◌, ℕ, ◌<◌, ◌≤◌, ◌⊎◌, inl, inr, Bool, true, false, ◌&&◌, ◌||◌, not, cond, eqb, leb, ltb, ⊎_elim, arith}
+use Rattle.std.proofs.Common.{◌≡◌, ℕ, ◌<◌, ◌≤◌, ◌⊎◌, inl, inr, Bool, true, false, ◌&&◌, not, cond, eqb, leb, ltb, ⊎_elim, arith}
 use Rattle.std.proofs.lemmas.Bool.{cases_lt, le-leb, le-ltb}
 use Rattle.std.proofs.lemmas.Bool.Decides.{nat_tests}
 use Rattle.cesu8_text.specs.Class.{is_null}
 use Rattle.cesu8_text.specs.Encoding.{Flavor}
 use Rattle.cesu8_bytes.specs.Pairs.{null_at}
 use Rattle.cesu8_decode.specs.DecodedOffsets.{continues}
-use Rattle.cesu8_decode.specs.Following.{CharacterSet, has_changed, has_four, first_low, shown}
+use Rattle.cesu8_decode.specs.Following.{CharacterSet, has_changed, first_low, shown}
 
 -- Byte b begins a character behind byte a, which leads none.
 pub record Begins (f : Flavor) (a b : ℕ) : Type 0 where
@@ -17,36 +17,33 @@ pub record Begins (f : Flavor) (a b : ℕ) : Type 0 where
 -- Byte b is the second byte of a character that byte a leads, or of a high surrogate.
 pub record IsSecond (s : CharacterSet) (f : Flavor) (a b : ℕ) : Type 0 where
   pub leads : 0xC0 ≤ a
-  pub fits : (leb 0xF0 a && not (has_four s)) ≡ false
+  pub fits : a < 0xF0
   pub continuing : continues b ≡ true
   pub null : a ≡ 0xC0 → (has_changed s && null_at f 0xC0 b) ≡ true
   pub no_c1 : ¬ (a ≡ 0xC1)
   pub no_overlong : (eqb a 0xE0 && ltb b 0xA0) ≡ false
   pub no_low : (eqb a 0xED && leb (first_low s) b) ≡ false
-  pub no_large : (leb 0xF4 a && leb 0x90 b) ≡ false
-  pub no_other : ((leb 0xF5 a || eqb a 0xF0) && ltb b 0x90) ≡ false
 
 -- what is shown, by the tests one after another
-abbrev shown_by : (nul above on led ascii behind c0 long four c1 overlong low large other : Bool) → ℕ
-shown_by nul above on led ascii behind c0 long four c1 overlong low large other =
+abbrev shown_by : (nul above on led ascii behind c0 long c1 overlong low : Bool) → ℕ
+shown_by nul above on led ascii behind c0 long c1 overlong low =
     cond nul 0xFF (cond above 0x40 (cond (not on) (cond led 0x01 0) (cond ascii 0x02 (cond behind 0x80
-    (cond c0 (cond long 0 (cond four 0x08 0x10)) (cond c1 0x08 (cond overlong 0x04 (cond low 0x20 (cond large 0x10 (cond other 0x40 0))))))))))
+    (cond c0 (cond long 0 0x10) (cond c1 0x08 (cond overlong 0x04 (cond low 0x20 0))))))))
 
-by_tests : (nul above on led ascii behind c0 long four c1 overlong low large other : Bool) →
-    let n = shown_by nul above on led ascii behind c0 long four c1 overlong low large other in
+by_tests : (nul above on led ascii behind c0 long c1 overlong low : Bool) →
+    let n = shown_by nul above on led ascii behind c0 long c1 overlong low in
     (n ≡ 0x20 → (on ≡ true) × (low ≡ true))
     × (n ≡ 0 → led ≡ true → behind ≡ false → (above ≡ false) × (on ≡ true) × (c0 ≡ true → long ≡ true)
-    × (c0 ≡ false → (c1 ≡ false) × (overlong ≡ false) × (low ≡ false) × (large ≡ false) × (other ≡ false)))
-by_tests nul above on led ascii behind c0 long four c1 overlong low large other = grind arith
+    × (c0 ≡ false → (c1 ≡ false) × (overlong ≡ false) × (low ≡ false)))
+by_tests nul above on led ascii behind c0 long c1 overlong low = grind arith
 
 tests : (s : CharacterSet) (f : Flavor) (a b : ℕ) → (shown s f a b ≡ 0x20 → (continues b ≡ true) × ((eqb a 0xED && leb (first_low s) b) ≡ true))
-    × (shown s f a b ≡ 0 → leb 0xC0 a ≡ true → ltb a 0xC0 ≡ false → ((leb 0xF0 a && not (has_four s)) ≡ false) × (continues b ≡ true) × (eqb a 0xC0 ≡ true → (has_changed s && null_at f 0xC0 b) ≡ true)
-    × (eqb a 0xC0 ≡ false → (eqb a 0xC1 ≡ false) × ((eqb a 0xE0 && ltb b 0xA0) ≡ false) × ((eqb a 0xED && leb (first_low s) b) ≡ false)
-    × ((leb 0xF4 a && leb 0x90 b) ≡ false) × (((leb 0xF5 a || eqb a 0xF0) && ltb b 0x90) ≡ false)))
+    × (shown s f a b ≡ 0 → leb 0xC0 a ≡ true → ltb a 0xC0 ≡ false → (leb 0xF0 a ≡ false) × (continues b ≡ true) × (eqb a 0xC0 ≡ true → (has_changed s && null_at f 0xC0 b) ≡ true)
+    × (eqb a 0xC0 ≡ false → (eqb a 0xC1 ≡ false) × ((eqb a 0xE0 && ltb b 0xA0) ≡ false) × ((eqb a 0xED && leb (first_low s) b) ≡ false)))
 unfolding shown
 tests s f a b =
-    by_tests (is_null f b) (leb 0xF0 a && not (has_four s)) (continues b) (leb 0xC0 a) (ltb a 0x80) (ltb a 0xC0) (eqb a 0xC0) (has_changed s && null_at f 0xC0 b) (has_four s)
-    (eqb a 0xC1) (eqb a 0xE0 && ltb b 0xA0) (eqb a 0xED && leb (first_low s) b) (leb 0xF4 a && leb 0x90 b) ((leb 0xF5 a || eqb a 0xF0) && ltb b 0x90)
+    by_tests (is_null f b) (leb 0xF0 a) (continues b) (leb 0xC0 a) (ltb a 0x80) (ltb a 0xC0) (eqb a 0xC0) (has_changed s && null_at f 0xC0 b)
+    (eqb a 0xC1) (eqb a 0xE0 && ltb b 0xA0) (eqb a 0xED && leb (first_low s) b)
 
 -- Behind a byte below C0 a byte that shows nothing begins a character, and else it is the second of one,
 second : (s : CharacterSet) (f : Flavor) (a b : ℕ) → 0xC0 ≤ a → shown s f a b ≡ 0 → IsSecond s f a b

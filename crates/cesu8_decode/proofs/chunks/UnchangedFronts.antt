@@ -1,11 +1,11 @@
 -- Characters at the front that are the same in UTF-8, and what stops them.
-use Rattle.std.proofs.Common.{◌≡◌, ℕ, ◌+◌, ◌/◌, ◌<◌, ◌↔◌, List, [], ◌∷◌, ◌++◌, refl, sym, ap, ◌∙◌, subst, arith, add-zero, length, get_or, take, drop, length-drop, true≢false}
+use Rattle.std.proofs.Common.{◌≡◌, ℕ, ◌+◌, ◌/◌, ◌<◌, ◌↔◌, List, [], ◌∷◌, ◌++◌, refl, sym, ap, ◌∙◌, subst, arith, add-zero, length, get_or, take, drop, length-drop}
 use Rattle.std.specs.Str.{chars, IsUtf8}
 use Rattle.std.proofs.lemmas.Bool.Decides.{nat_tests}
-use Rattle.std.proofs.lemmas.List.{get_or-drop, get_or-take}
-use Rattle.std.proofs.lemmas.Str.{IsUtf8-drop, IsCharBoundary-from_take}
+use Rattle.std.proofs.lemmas.List.{get_or-drop, take-append-drop}
+use Rattle.std.proofs.lemmas.Str.{IsUtf8-drop, IsUtf8-append, IsCharBoundary-from_take}
 use Rattle.cesu8_text.specs.Class.{IsChangedByte, IsUnchangedUtf8}
-use Rattle.cesu8_text.specs.Encoding.{Flavor, Cesu8, IsEncodedOtherwise, NeedsEncoding}
+use Rattle.cesu8_text.specs.Encoding.{Flavor, IsEncodedOtherwise, NeedsEncoding}
 use Rattle.cesu8_text.specs.Reading.{BeginsWith, NoneBegins, HasNoStrictReading}
 use Rattle.cesu8_text.specs.Text.{IsText, utf8_of, utf8}
 use Rattle.cesu8_text.proofs.StdUtf8.{IsUtf8Of_chars, IsUtf8_utf8, chars_utf8}
@@ -15,12 +15,10 @@ use Rattle.cesu8_text.proofs.encoding.NeedsEncoding.{encoding_same, needs_by_byt
 use Rattle.cesu8_text.proofs.encoding.Unique.{no_reading}
 use Rattle.cesu8_text.proofs.reading.Borrowing.{unchanged_reading}
 use Rattle.cesu8_bytes.specs.declared.strictness.Strictness.{Strictness}
-use Rattle.cesu8_decode.specs.Following.{Encoded, Unchanged, Utf8, FirstFollow}
-use Rattle.cesu8_decode.specs.Front.{AreWhole, IsFront, IsFrontOf, IsFrontUnlessKept, BeginsWithAscii}
+use Rattle.cesu8_decode.specs.Following.{Encoded, Unchanged}
+use Rattle.cesu8_decode.specs.Front.{AreWhole, IsFront, IsFrontOf, IsFrontUnlessKept}
 use Rattle.cesu8_decode.specs.declared.front.FoundFront.{FoundFront}
 use Rattle.cesu8_decode.proofs.by_offset.IllFormed.{IsChunk, chunk_of_text}
-use Rattle.cesu8_decode.proofs.chunks.EncodedFollow.{whole_follow}
-use Rattle.cesu8_decode.proofs.decoder.FollowingBlocks.{ones_follow}
 use Rattle.cesu8_decode.proofs.chunks.WholeBytes.{none_outside}
 use Rattle.cesu8_decode.proofs.chunks.Fronts.{all_front, front_of_all, more_behind, bytes_are, none_behind}
 
@@ -50,18 +48,6 @@ whole_unchanged f bytes whole =
     let text : chars bytes ≡ whole.text = ap chars (sym is) ∙ chars_utf8 whole.text whole.reads.0 in
     (is_utf8, λ changes. whole.inside (subst (NeedsEncoding f) text ((needs_by_bytes f bytes is_utf8).0 changes)))
 
--- Whole characters of UTF-8 are UTF-8.
-utf8_whole : (bytes : List ℕ) → AreWhole Utf8 Cesu8 bytes ↔ IsUtf8 bytes
-utf8_whole bytes = (
-  λ whole. subst IsUtf8 whole.reads.1 (IsUtf8_utf8 whole.text whole.reads.0),
-  λ is_utf8. record { text = chars bytes; reads = IsUtf8Of_chars bytes is_utf8; inside = none_outside _ (λ c null. true≢false (sym null)) (chars bytes) },
-)
-
--- ASCII may follow ASCII there.
-pub ascii_followed : (bytes : List ℕ) (n : ℕ) → BeginsWithAscii bytes n → FirstFollow Utf8 Cesu8 bytes n
-ascii_followed bytes n begins =
-    ones_follow Utf8 Cesu8 bytes n begins.within (λ i before. (subst (λ b. b < 0x80) (get_or-take n bytes i 0 before) (begins.ascii i), refl))
-
 -- ---- characters
 
 -- UTF-8 that begins with a character that changes begins with a byte that does.
@@ -74,24 +60,10 @@ first_changed f c rest (pair w x y z digits) needs =
 
 -- ---- fronts
 
--- The front of UTF-8 is of all bytes exactly if they are UTF-8.
-module _ (bytes : List ℕ) (n : ℕ) (front : IsFront Utf8 Cesu8 bytes n) where
-  pub all_utf8 : (n ≡ length bytes) ↔ IsUtf8 bytes
-  all_utf8 =
-      let of_all = front_of_all Utf8 Cesu8 bytes n front in
-      (λ all. (utf8_whole bytes).0 (of_all.0 all), λ is_utf8. of_all.1 ((utf8_whole bytes).1 is_utf8))
-
 -- That of unchanged characters is UTF-8 in which nothing changes,
 module _ (f : Flavor) (bytes : List ℕ) (n : ℕ) (front : IsFront Unchanged f bytes n) where
   pub front_unchanged : IsUnchangedUtf8 f (take n bytes)
   front_unchanged = whole_unchanged f (take n bytes) front.whole
-
-  -- whose bytes may follow each other there,
-  pub followed_in_utf8 : FirstFollow Utf8 Cesu8 bytes n
-  followed_in_utf8 = record {
-    within = front.within;
-    follow = (whole_follow Utf8 Cesu8 bytes n front.within ((utf8_whole (take n bytes)).1 front_unchanged.0)).0;
-  }
 
   -- and is of all bytes exactly if they are.
   pub all_unchanged : (n ≡ length bytes) ↔ IsUnchangedUtf8 f bytes
@@ -100,8 +72,12 @@ module _ (f : Flavor) (bytes : List ℕ) (n : ℕ) (front : IsFront Unchanged f 
       (λ all. whole_unchanged f bytes (of_all.0 all), λ unchanged. of_all.1 (unchanged_whole f bytes unchanged))
 
   -- If all bytes are UTF-8, those behind it are too,
-  rest_utf8 : IsUtf8 bytes → IsUtf8 (drop n bytes)
+  pub rest_utf8 : IsUtf8 bytes → IsUtf8 (drop n bytes)
   rest_utf8 is_utf8 = IsUtf8-drop bytes n is_utf8 (IsCharBoundary-from_take bytes n is_utf8 front.within front_unchanged.0)
+
+  -- and so are all, if these are.
+  pub utf8_with_rest : IsUtf8 (drop n bytes) → IsUtf8 bytes
+  utf8_with_rest is_utf8 = subst IsUtf8 (take-append-drop n bytes) (IsUtf8-append (take n bytes) (drop n bytes) front_unchanged.0 is_utf8)
 
   by_text : (text : List ℕ) → IsText text → utf8 text ≡ drop n bytes → n < length bytes → IsChangedByte f (get_or (drop n bytes) 0 0)
   by_text [] is_text are more = absurd (omega (arith, ap length are, length-drop n bytes))
@@ -109,10 +85,10 @@ module _ (f : Flavor) (bytes : List ℕ) (n : ℕ) (front : IsFront Unchanged f 
     where
       by_first : Change f c → IsChangedByte f (get_or (drop n bytes) 0 0)
       by_first (same stays encoded) =
-          absurd (none_behind Unchanged f bytes n front c (utf8 text) refl stays (record { scalar = is_text.0; bytes_are = sym are ∙ ap (λ bs. bs ++ utf8 text) (sym encoded) }))
+          absurd (none_behind Unchanged f bytes n front c (utf8 text) stays (record { scalar = is_text.0; bytes_are = sym are ∙ ap (λ bs. bs ++ utf8 text) (sym encoded) }))
       by_first (longer needs _ _) = subst (λ bs. IsChangedByte f (get_or bs 0 0)) are (first_changed f c (utf8 text) (shape c is_text.0) needs)
 
-  -- and these begin with a byte that changes.
+  -- They begin with a byte that changes.
   pub changed_behind : n < length bytes → IsUtf8 bytes → IsChangedByte f (get_or bytes n 0)
   changed_behind more is_utf8 =
       let rest = IsUtf8Of_chars (drop n bytes) (rest_utf8 is_utf8) in
@@ -127,7 +103,7 @@ module _ (f : Flavor) (bytes : List ℕ) (n : ℕ) (front : IsFront Unchanged f 
   -- No character that stays begins behind it, so none does at all if none does that is encoded otherwise,
   module _ (no_change : (c : ℕ) (rest : List ℕ) → IsEncodedOtherwise f c → ¬ (BeginsWith f (drop n bytes) c rest)) where
     by_change : (c : ℕ) (rest : List ℕ) → BeginsWith f (drop n bytes) c rest → Change f c → ⊥
-    by_change c rest begins (same stays _) = none_behind Unchanged f bytes n front c rest refl stays begins
+    by_change c rest begins (same stays _) = none_behind Unchanged f bytes n front c rest stays begins
     by_change c rest begins (longer needs _ _) = no_change c rest needs begins
 
     pub none_unless_changed : NoneBegins f (drop n bytes)

@@ -11,7 +11,7 @@ use lib.Lanes.{zip2, sel_l, mask_l, top, chunk}
 use Rattle.cesu8_text.specs.Class.{is_null}
 use Rattle.cesu8_text.specs.Encoding.{Flavor}
 use Rattle.cesu8_bytes.specs.Kernels.{mask}
-use Rattle.cesu8_decode.specs.Following.{CharacterSet, Encoded, Unchanged, Utf8, IsBlockAt, shown, wanted, follows, follows_at, after_fillers, AllFollow, FirstFollow, FollowUpTo}
+use Rattle.cesu8_decode.specs.Following.{CharacterSet, Encoded, Unchanged, IsBlockAt, shown, wanted, follows, follows_at, after_fillers, AllFollow, FirstFollow, FollowUpTo}
 use Rattle.cesu8_decode.specs.declared.lanes.character_set.Block.{Block}
 use Rattle.cesu8_bytes.proofs.lists.Lanes.{ones}
 use Rattle.cesu8_bytes.proofs.vectors.Loads.{loaded}
@@ -67,9 +67,6 @@ wanted_by_needed Unchanged window at block is long_four long_three =
     first_alike (wanted Unchanged) (λ a c b. refl) block.four_before (chunk at 32 window) block.three_before (long_four ∙ sym (length-chunk at 32 window (omega (arith, is.room))))
     ∙ second_alike (wanted Unchanged) (λ a b d. refl) (chunk at 32 window) block.three_before (chunk (at + 1) 32 window)
     (long_three ∙ sym (length-chunk (at + 1) 32 window (omega (arith, is.room))))
-wanted_by_needed Utf8 window at block is long_four long_three =
-    rw (is.three_before refl) (first_alike (wanted Utf8) (λ a c b. refl) block.four_before (chunk at 32 window) (chunk (at + 1) 32 window)
-    (long_four ∙ sym (length-chunk at 32 window (omega (arith, is.room)))))
 
 -- The vectors of a block tell which bytes may not follow those before them.
 pub misplaced_are : (s : CharacterSet) (f : Flavor) (window : List ℕ) (at : ℕ) (block : Block) → IsBlockAt s window at block →

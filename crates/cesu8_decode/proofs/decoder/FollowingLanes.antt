@@ -1,6 +1,6 @@
 -- What bytes show behind others, and what these want, lane by lane.
-use Rattle.std.proofs.Common.{◌≡◌, ℕ, ◌+◌, ◌%◌, ◌^◌, ◌<◌, ⊎_elim, Bool, true, false, cond, ◌&&◌, ◌||◌, List, map, length, replicate, eqb, leb, ltb, bit_and, bit_or, refl, sym, ap, ◌∙◌, arith, Fits, w8, ◌-◌, add-zero, get_or}
-use Rattle.std.proofs.lemmas.Bool.{agree_below, agree_below_at, and_parts, eqb-true, ne_eqb, cases_eq, cases_Bool, false≢true}
+use Rattle.std.proofs.Common.{◌≡◌, ℕ, ◌+◌, ◌%◌, ◌^◌, ◌<◌, ⊎_elim, Bool, true, false, cond, ◌&&◌, List, map, length, replicate, eqb, leb, ltb, bit_and, bit_or, refl, sym, ap, ◌∙◌, arith, Fits, w8, ◌-◌, add-zero, get_or}
+use Rattle.std.proofs.lemmas.Bool.{agree_below, agree_below_at, and_parts, eqb-true, ne_eqb, cases_eq, cases_Bool}
 use lib.Lanes.{zip2, sel_l, top, Each1}
 use Rattle.cesu8_text.specs.Class.{is_null}
 use Rattle.cesu8_text.specs.Encoding.{Flavor, Cesu8, Mutf8}
@@ -8,9 +8,9 @@ use Rattle.cesu8_bytes.specs.Kernels.{mask}
 use Rattle.cesu8_decode.specs.DecodedLanes.{told}
 use Rattle.cesu8_decode.proofs.decoder.Kinds.{half, half_tests, told_alike, and_false}
 use Rattle.cesu8_decode.proofs.decoder.FirstLanes.{on_range, lanes_are, lane_fits}
-use Rattle.cesu8_decode.specs.Following.{CharacterSet, Encoded, Unchanged, Utf8, has_changed, has_four, first_low, rule, shown, leads_four, later}
+use Rattle.cesu8_decode.specs.Following.{CharacterSet, Encoded, Unchanged, has_changed, first_low, rule, shown, later}
 use Rattle.cesu8_decode.specs.declared.lanes.character_set.Rule.{Rule}
-use Rattle.cesu8_decode.specs.declared.lanes.character_set.TheConstants.{ENCODED, UNCHANGED, UTF8}
+use Rattle.cesu8_decode.specs.declared.lanes.character_set.TheConstants.{ENCODED, UNCHANGED}
 use Rattle.cesu8_bytes.proofs.lists.Lanes.{ones}
 
 -- ---- what two bytes show, by three look-ups
@@ -22,19 +22,17 @@ told_by t = told t.by_high t.by_low t.by_next
 low_half : (s : CharacterSet) (b : ℕ) → leb (first_low s) (half b) ≡ leb (first_low s) b
 low_half Encoded b = (half_tests b 0xB).0
 low_half Unchanged b = (half_tests b 0xA).0
-low_half Utf8 b = (half_tests b 0xA).0
 
 by_half : (s : CharacterSet) (a b : ℕ) → shown s Cesu8 a (half b) ≡ shown s Cesu8 a b
 unfolding shown
 by_half s a b =
     let test = half_tests b in
-    rw ((test 8).0, (test 9).0, low_half s b, (test 9).1, (test 0xA).1, (test 0xC).1) refl
+    rw ((test 8).0, low_half s b, (test 0xA).1, (test 0xC).1) refl
 
 told_is : (s : CharacterSet) (a b : ℕ) → a < 0x100 → b < 0x100 → told_by (rule s) a b ≡ shown s Cesu8 a b
 unfolding shown
 told_is Encoded = told_alike ENCODED.by_high ENCODED.by_low ENCODED.by_next (shown Encoded Cesu8) refl (by_half Encoded)
 told_is Unchanged = told_alike UNCHANGED.by_high UNCHANGED.by_low UNCHANGED.by_next (shown Unchanged Cesu8) refl (by_half Unchanged)
-told_is Utf8 = told_alike UTF8.by_high UTF8.by_low UTF8.by_next (shown Utf8 Cesu8) refl (by_half Utf8)
 
 -- In MUTF-8 a byte 00 is none of a character, and 80 behind C0 is, where that is meant.
 abbrev kept_of : CharacterSet → ℕ → ℕ
@@ -55,7 +53,6 @@ nulls_agree : (s : CharacterSet) (a : ℕ) → a < 0x100 → null_agrees s a ≡
 unfolding shown null_agrees
 nulls_agree Encoded a h = agree_below_at (null_agrees Encoded) (λ _. true) 0x100 a refl h
 nulls_agree Unchanged a h = agree_below_at (null_agrees Unchanged) (λ _. true) 0x100 a refl h
-nulls_agree Utf8 a h = agree_below_at (null_agrees Utf8) (λ _. true) 0x100 a refl h
 
 mutf8_is : (s : CharacterSet) (a b : ℕ) → a < 0x100 → in_mutf8 s (shown s Cesu8 a b) b ≡ shown s Mutf8 a b
 unfolding shown null_agrees
@@ -120,31 +117,12 @@ module _ (less lead : ℕ) (agree : agree_below (λ b. eqb (left_of less b) (con
       rw (lanes_are bytes long) (on_range (λ i. left_of less (get_or bytes i 0)) (λ i. cond (leb lead (get_or bytes i 0)) 0x80 0) 0 32
       (λ i low inside. eqb-true _ _ (agree_below_at (λ b. eqb (left_of less b) (cond (leb lead b) 0x80 0)) (λ _. true) 0x100 _ agree (lane_fits bytes long fits i inside))))
 
--- No set has characters of four bytes and those that change.
-pub none_changed : (s : CharacterSet) → has_four s ≡ true → has_changed s ≡ false
-none_changed Encoded four = absurd (false≢true four)
-none_changed Unchanged four = refl
-none_changed Utf8 four = refl
-
--- The third byte of a character is later, and the fourth.
-module _ (s : CharacterSet) where
-  pub third_are : has_four s ≡ false → (three two third : List ℕ) → length three ≡ 32 → length two ≡ 32 → third ≡ led_lanes 0xE0 two →
-      third ≡ zip2 (later s) three two
-  third_are none three two third long_three long_two is =
-      is ∙ rw (lanes_are three long_three, lanes_are two long_two)
-      (on_range (λ i. cond (leb 0xE0 (get_or two i 0)) 0x80 0) (λ i. later s (get_or three i 0) (get_or two i 0)) 0 32 (λ i low inside. rw none refl))
-
-  either : (leads third : Bool) → bit_or (cond third 0x80 0) (cond leads 0x80 0) ≡ cond (leads || third) 0x80 0
-  either leads third = grind (arith, cases_Bool)
-
-  pub later_are : has_four s ≡ true → (three two third fourth : List ℕ) → length three ≡ 32 → length two ≡ 32 → third ≡ led_lanes 0xE0 two → fourth ≡ led_lanes 0xF0 three →
-      zip2 bit_or third fourth ≡ zip2 (later s) three two
-  later_are meant three two third fourth long_three long_two third_is fourth_is =
-      let b = λ (i : ℕ). get_or three i 0 in
-      let d = λ (i : ℕ). get_or two i 0 in
-      rw (third_is, fourth_is, lanes_are three long_three, lanes_are two long_two)
-      (on_range (λ i. bit_or (cond (leb 0xE0 (d i)) 0x80 0) (cond (leb 0xF0 (b i)) 0x80 0)) (λ i. later s (b i) (d i)) 0 32
-      (λ i low inside. rw meant (either (leb 0xF0 (b i)) (leb 0xE0 (d i)))))
+-- The third byte of a character is later.
+pub third_are : (three two third : List ℕ) → length three ≡ 32 → length two ≡ 32 → third ≡ led_lanes 0xE0 two →
+    third ≡ zip2 (λ b d. later d) three two
+third_are three two third long_three long_two is =
+    is ∙ rw (lanes_are three long_three, lanes_are two long_two)
+    (on_range (λ i. cond (leb 0xE0 (get_or two i 0)) 0x80 0) (λ i. later (get_or two i 0)) 0 32 (λ i low inside. refl))
 
 both : (third lead second : Bool) →
     bit_or (cond third 0x80 0) (bit_and (bit_and (mask lead) (mask second)) 0x20) ≡ cond third 0x80 0 + cond (lead && second) 0x20 0
@@ -156,7 +134,7 @@ wanted_lanes n later lead second =
 
 -- What is wanted by three bytes, with pairs or without, and its lanes.
 abbrev wanted_if : CharacterSet → Bool → (a b d : ℕ) → ℕ
-wanted_if s pairs a b d = later s b d + cond (pairs && (eqb a 0xED && (leb 0xA0 b && ltb b 0xB0))) 0x20 0
+wanted_if s pairs a b d = later d + cond (pairs && (eqb a 0xED && (leb 0xA0 b && ltb b 0xB0))) 0x20 0
 
 abbrev wants : CharacterSet → Bool → (four three two : List ℕ) → List ℕ
 wants s pairs four three two = zip2 (λ want d. want d) (zip2 (wanted_if s pairs) four three) two
@@ -164,22 +142,22 @@ wants s pairs four three two = zip2 (λ want d. want d) (zip2 (wanted_if s pairs
 module _ (s : CharacterSet) where
   -- Without pairs no other byte is wanted.
   pub alone_are : has_changed s ≡ false → (four three two later_lanes : List ℕ) → length four ≡ 32 → length three ≡ 32 → length two ≡ 32 →
-      later_lanes ≡ zip2 (later s) three two → later_lanes ≡ wants s (has_changed s) four three two
+      later_lanes ≡ zip2 (λ b d. later d) three two → later_lanes ≡ wants s (has_changed s) four three two
   alone_are none four three two later_lanes long_four long_three long_two is =
-      let alone = λ (i : ℕ). later s (get_or three i 0) (get_or two i 0) in
+      let alone = λ (i : ℕ). later (get_or two i 0) in
       rw (none, is, lanes_are four long_four, lanes_are three long_three, lanes_are two long_two)
       (on_range alone (λ i. alone i + 0) 0 32 (λ i low inside. sym (add-zero (alone i))))
 
   -- With pairs, so is the second byte of a low surrogate.
   pub wanted_are : has_changed s ≡ true → (four three two later_lanes lead second : List ℕ) → length four ≡ 32 → length three ≡ 32 → length two ≡ 32 → Each1 (Fits w8) three →
-      later_lanes ≡ zip2 (later s) three two → lead ≡ map (λ b. mask (eqb b 0xED)) four →
+      later_lanes ≡ zip2 (λ b d. later d) three two → lead ≡ map (λ b. mask (eqb b 0xED)) four →
       second ≡ map (λ b. mask (eqb b 0xA0)) (zip2 bit_and three (replicate 32 0xF0)) → wanted_lanes 32 later_lanes lead second ≡ wants s (has_changed s) four three two
   wanted_are meant four three two later_lanes lead second long_four long_three long_two fits later_is lead_is second_is =
       let a = λ (i : ℕ). get_or four i 0 in
       let b = λ (i : ℕ). get_or three i 0 in
       let d = λ (i : ℕ). get_or two i 0 in
       rw (meant, later_is, lead_is, second_is, lanes_are four long_four, lanes_are three long_three, lanes_are two long_two)
-      (on_range (λ i. bit_or (later s (b i) (d i)) (bit_and (bit_and (mask (eqb (a i) 0xED)) (mask (eqb (bit_and (b i) 0xF0) 0xA0))) 0x20))
+      (on_range (λ i. bit_or (later (d i)) (bit_and (bit_and (mask (eqb (a i) 0xED)) (mask (eqb (bit_and (b i) 0xF0) 0xA0))) 0x20))
       (λ i. wanted_if s true (a i) (b i) (d i)) 0 32
-      (λ i low inside. both (leads_four s (b i) || leb 0xE0 (d i)) (eqb (a i) 0xED) (eqb (bit_and (b i) 0xF0) 0xA0)
-      ∙ ap (λ t. later s (b i) (d i) + cond (eqb (a i) 0xED && t) 0x20 0) (is_high_lane (b i) (lane_fits three long_three fits i inside))))
+      (λ i low inside. both (leb 0xE0 (d i)) (eqb (a i) 0xED) (eqb (bit_and (b i) 0xF0) 0xA0)
+      ∙ ap (λ t. later (d i) + cond (eqb (a i) 0xED && t) 0x20 0) (is_high_lane (b i) (lane_fits three long_three fits i inside))))

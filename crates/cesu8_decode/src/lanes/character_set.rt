@@ -1,7 +1,7 @@
 //! Which characters a test of the front passes over, as types.
 
 ghost use Rattle.std.specs.Prelude.{◌≡◌, ◌+◌, ◌-◌, ◌≤◌, length, take, drop};
-ghost use Rattle.cesu8_decode.specs.Following.{CharacterSet as AnySet, Encoded as AllEncoded, Unchanged as AllUnchanged, Utf8 as AllUtf8, IsBlockAt, rule};
+ghost use Rattle.cesu8_decode.specs.Following.{CharacterSet as AnySet, Encoded as AllEncoded, Unchanged as AllUnchanged, IsBlockAt, rule};
 
 use cesu8_bytes::BLOCK;
 use std::simd::prelude::*;
@@ -13,14 +13,11 @@ use std::simd::prelude::*;
 /// Bits 80 and 20 (hexadecimal) are those of `wanted_by` in `following`. Each other is of a second
 /// byte that no character has there: 01 begins one behind a lead byte. A continuation byte is 02
 /// behind ASCII, 04 behind E0 in an overlong form, 08 behind C1, and 10 behind C0; `following`
-/// clears 10 for C0 80 if a set has it. 40 is any byte behind F0 or more. In UTF-8 a continuation
-/// byte is 08 behind C0, 40 below 90 behind F0 or from F5 on, and 10 from 90 on behind F4 or more.
+/// clears 10 for C0 80 if a set has it. 40 is any byte after F0 or more.
 #[derive(Clone, Copy)]
 pub struct Rule {
     /// Surrogate pairs, and in MUTF-8 C0 80, are passed over too.
     pub has_changed: bool,
-    /// Characters of four bytes are, as in UTF-8.
-    pub has_four: bool,
     pub by_high: [u8; 16],
     pub by_low: [u8; 16],
     pub by_next: [u8; 16],
@@ -37,7 +34,6 @@ const BY_LOW: [u8; 16] = [
 /// Only the entry for A0 to AF differs from `UNCHANGED`: behind ED they begin a high surrogate.
 const ENCODED: Rule = Rule {
     has_changed: true,
-    has_four: false,
     by_high: BY_HIGH,
     by_low: BY_LOW,
     by_next: [
@@ -48,7 +44,6 @@ const ENCODED: Rule = Rule {
 
 const UNCHANGED: Rule = Rule {
     has_changed: false,
-    has_four: false,
     by_high: BY_HIGH,
     by_low: BY_LOW,
     by_next: [
@@ -57,28 +52,11 @@ const UNCHANGED: Rule = Rule {
     ],
 };
 
-const UTF8: Rule = Rule {
-    has_changed: false,
-    has_four: true,
-    by_high: [
-        0x02, 0x02, 0x02, 0x02, 0x02, 0x02, 0x02, 0x02, 0x80, 0x80, 0x80, 0x80, 0x09, 0x01, 0x25,
-        0x51,
-    ],
-    by_low: [
-        0xCF, 0x8B, 0x83, 0x83, 0x93, 0xD3, 0xD3, 0xD3, 0xD3, 0xD3, 0xD3, 0xD3, 0xD3, 0xF3, 0xD3,
-        0xD3,
-    ],
-    by_next: [
-        0x01, 0x01, 0x01, 0x01, 0x01, 0x01, 0x01, 0x01, 0xCE, 0x9E, 0xBA, 0xBA, 0x01, 0x01, 0x01,
-        0x01,
-    ],
-};
-
 /// How many bytes before a byte decide whether it may follow: a pair's fifth needs its first, ED.
 pub const DECIDING: usize = 4;
 
-/// 32 bytes, and those one to four before each of them. Those three before mean something only to a
-/// set with characters of four bytes or surrogate pairs, and those four before only to the latter.
+/// 32 bytes, and those one to four before each of them. Only a set with surrogate pairs uses those
+/// three and four before.
 #[derive(Clone, Copy)]
 pub struct Block {
     pub bytes: u8x32,
@@ -144,29 +122,6 @@ impl CharacterSet for Unchanged {
             one_before: u8x32::from_slice(&bytes[at - 1..]),
             two_before: u8x32::from_slice(&bytes[at - 2..]),
             three_before: u8x32::splat(0),
-            four_before: u8x32::splat(0),
-        }
-    }
-}
-
-/// All of UTF-8, but for 00 in MUTF-8.
-pub struct Utf8;
-
-impl CharacterSet for Utf8 {
-    ghost set = { AllUtf8 };
-
-    #[inline(always)]
-    fn rule() -> Rule {
-        UTF8
-    }
-
-    #[inline(always)]
-    fn block_at(block: u8x32, bytes: &[u8], at: usize) -> Block {
-        Block {
-            bytes: block,
-            one_before: u8x32::from_slice(&bytes[at - 1..]),
-            two_before: u8x32::from_slice(&bytes[at - 2..]),
-            three_before: u8x32::from_slice(&bytes[at - 3..]),
             four_before: u8x32::splat(0),
         }
     }

@@ -1,7 +1,7 @@
 //! Which bytes may follow which in whole characters, by vectors.
 //!
-//! What two bytes show is compared with what the three before them want: the third or fourth byte
-//! of a character, and the second half of a surrogate pair. Where both are the same for each byte,
+//! What two bytes show is compared with what the three before them want: the third byte of a
+//! character, and the second half of a surrogate pair. Where both are the same for each byte,
 //! all are in characters, but for those of the last one, which may be cut off. What is in no
 //! character of a set shows what nothing wants.
 
@@ -117,19 +117,14 @@ fn kept_of_null<S: CharacterSet>(bytes: u8x32) -> u8x32
 }
 
 /// Returns what bytes have to show, by those four, three and two before them: 80 (hexadecimal) for
-/// the third or fourth byte of a character, 20 for the second of a low surrogate, and else 0.
+/// the third byte of a character, 20 for the second of a low surrogate, and else 0.
 #[inline(always)]
 fn wanted_by<S: CharacterSet>(four_before: u8x32, three_before: u8x32, two_before: u8x32) -> u8x32
     ensures { result ≡ zip2 (λ wants d. wants d)
         (zip2 (wanted S.set) four_before three_before) two_before }
 {
-    // The highest bit is left from a lead byte of three on, or of four.
-    let highest = u8x32::splat(0x80);
-    let third = two_before.saturating_sub(u8x32::splat(0xE0 - 0x80)) & highest;
-    // No set has characters of four bytes and those that change.
-    if S::rule().has_four {
-        return third | (three_before.saturating_sub(u8x32::splat(0xF0 - 0x80)) & highest);
-    }
+    // The highest bit is left from a lead byte of three on.
+    let third = two_before.saturating_sub(u8x32::splat(0xE0 - 0x80)) & u8x32::splat(0x80);
     if !S::rule().has_changed {
         return third;
     }

@@ -1,9 +1,9 @@
-use Rattle.std.proofs.Common.{◌≡◌, ℕ, ◌+◌, ◌-◌, ◌<◌, ◌≤◌, ◌&&◌, eqb, leb, ⊎_elim, List, true, false, ◌∙◌, sym, ap, get_or, arith, refl}
-use Rattle.std.proofs.lemmas.Bool.{agree_below_at, cases_eq, cases_lt, and_right, eqb-true, lt-leb}
+use Rattle.std.proofs.Common.{◌≡◌, ℕ, ◌+◌, ◌-◌, ◌<◌, ◌≤◌, eqb, ⊎_elim, List, true, false, ◌∙◌, sym, ap, get_or, arith, refl}
+use Rattle.std.proofs.lemmas.Bool.{agree_below_at, cases_eq, cases_lt, eqb-true, lt-leb}
 use Rattle.cesu8_text.specs.Encoding.{Flavor}
-use Rattle.cesu8_decode.specs.Following.{CharacterSet, FollowUpTo, has_changed, has_four, leads_four, after_fillers, crosses_at}
+use Rattle.cesu8_decode.specs.Following.{CharacterSet, FollowUpTo, has_changed, after_fillers, crosses_at}
 use Rattle.cesu8_decode.specs.Front.{IsFront}
-use Rattle.cesu8_decode.proofs.chunks.Fronts.{crosses_next, crosses_second, crosses_third, cut_at, front_at}
+use Rattle.cesu8_decode.proofs.chunks.Fronts.{crosses_next, crosses_second, cut_at, front_at}
 use Rattle.cesu8_decode.proofs.decoder.FollowingBlocks.{behind_fillers}
 use Rattle.cesu8_decode.proofs.front.last_boundary.Goals as goal
 
@@ -15,12 +15,11 @@ filler bytes i near = eqb-true _ _ (agree_below_at (λ i. eqb (get_or (after_fil
 there : (bytes : List ℕ) (i j : ℕ) → i + 4 ≡ j → get_or (after_fillers bytes) j 0 ≡ get_or bytes i 0
 there bytes i j here = ap (λ k. get_or (after_fillers bytes) k 0) (sym here) ∙ behind_fillers bytes i
 
--- None is cut off where the last three lead to nothing behind.
+-- None is cut off where the last two lead to nothing behind.
 none_cut : (s : CharacterSet) (f : Flavor) (bytes : List ℕ) (at : ℕ) → FollowUpTo s f bytes at → has_changed s ≡ false →
-    get_or (after_fillers bytes) (at + 3) 0 < 0xC0 → get_or (after_fillers bytes) (at + 2) 0 < 0xE0 →
-    leads_four s (get_or (after_fillers bytes) (at + 1) 0) ≡ false → IsFront s f bytes at
-none_cut s f bytes at up_to none last second four =
-    front_at s f bytes at at up_to (omega arith) (rw (lt-leb 0xC0 _ last, lt-leb 0xE0 _ second, four, none) refl) (λ k past inside. absurd (omega (arith, past, inside)))
+    get_or (after_fillers bytes) (at + 3) 0 < 0xC0 → get_or (after_fillers bytes) (at + 2) 0 < 0xE0 → IsFront s f bytes at
+none_cut s f bytes at up_to none last second =
+    front_at s f bytes at at up_to (omega arith) (rw (lt-leb 0xC0 _ last, lt-leb 0xE0 _ second, none) refl) (λ k past inside. absurd (omega (arith, past, inside)))
 
 pub returns-then-at-eq0 : goal.returns-then-at-eq0
 returns-then-at-eq0 g c =
@@ -28,10 +27,8 @@ returns-then-at-eq0 g c =
     let bytes = c.args.bytes.now in
     let at = c.args.at in
     let zero = c.if-at-eq0.true in
-    let third = filler bytes (at + 1) (omega (arith, zero)) in
     none_cut s g.F.Flavor.flavor bytes at c.requires (sym (ap (λ rule. rule.has_changed) c.rule.ensures) ∙ c.if-rule.false)
     (omega (arith, filler bytes (at + 3) (omega (arith, zero)))) (omega (arith, filler bytes (at + 2) (omega (arith, zero))))
-    (and_right (has_four s) _ (lt-leb 0xF0 _ (omega (arith, third))))
 
 pub returns-then-last-ge192 : goal.returns-then-last-ge192
 returns-then-last-ge192 g c =
@@ -60,44 +57,12 @@ returns-then-second-ge224 g c =
     (λ k past inside. ⊎_elim (λ (here : k ≡ n + 1). ap crosses here ∙ crosses_next s bytes n (omega (arith, high)))
     (λ other. let here : k ≡ n + 2 = omega (arith, other, past, inside, some) in ap crosses here ∙ crosses_second s bytes n high) (cases_eq k (n + 1)))
 
-pub returns-then-third-ge240 : goal.returns-then-third-ge240
-returns-then-third-ge240 g c =
-    let s = g.S.CharacterSet.set in
-    let bytes = c.args.bytes.now in
-    let crosses = crosses_at s (after_fillers bytes) in
-    let at = c.args.at in
-    let n = at - 3 in
-    let byte : ℕ → ℕ = λ i. get_or bytes i 0 in
-    let four : has_four s ≡ true = sym (ap (λ rule. rule.has_four) c.rule-else-second-ge224.ensures) ∙ c.if-rule-2.true in
-    let some : 3 ≤ at =
-    ⊎_elim (λ (few : at < 2).
-    let again : c.max-2.result - 3 ≡ at - 1 = omega (arith, few, c.max-2.ensures, c.if-at-eq0.false) in
-    absurd (omega (arith, ap byte again, c.if-last-ge192.false, c.if-third-ge240.true)))
-    (λ (more : 2 ≤ at). ⊎_elim (λ (few : at < 3).
-    let again : c.max-2.result - 3 ≡ c.max.result - 2 = omega (arith, few, more, c.max.ensures, c.max-2.ensures) in
-    absurd (omega (arith, ap byte again, c.if-second-ge224.false, c.if-third-ge240.true))) (λ enough. enough) (cases_lt at 3)) (cases_lt at 2) in
-    let here : c.max-2.result - 3 ≡ n = omega (arith, some, c.max-2.ensures) in
-    let high : 0xF0 ≤ get_or (after_fillers bytes) (n + 4) 0 = omega (arith, behind_fillers bytes n, ap byte here, c.if-third-ge240.true) in
-    cut_at s g.F.Flavor.flavor bytes at n (sym (ap (λ rule. rule.has_changed) c.rule.ensures) ∙ c.if-rule.false) c.requires (omega (arith, some)) (omega (arith, high))
-    (λ k past inside. ⊎_elim (λ (here : k ≡ n + 1). ap crosses here ∙ crosses_next s bytes n (omega (arith, high)))
-    (λ other. ⊎_elim (λ (here : k ≡ n + 2). ap crosses here ∙ crosses_second s bytes n (omega (arith, high)))
-    (λ third. let here : k ≡ n + 3 = omega (arith, other, third, past, inside, some) in ap crosses here ∙ crosses_third s bytes n four high) (cases_eq k (n + 2)))
-    (cases_eq k (n + 1)))
-
-pub returns-else-rule-2 : goal.returns-else-rule-2
-returns-else-rule-2 g c =
-    let s = g.S.CharacterSet.set in
+pub returns-else-second-ge224 : goal.returns-else-second-ge224
+returns-else-second-ge224 g c =
     let bytes = c.args.bytes.now in
     let at = c.args.at in
-    let byte : ℕ → ℕ = λ i. get_or bytes i 0 in
-    let third = get_or (after_fillers bytes) (at + 1) 0 in
-    let has = sym (ap (λ rule. rule.has_four) c.rule-else-second-ge224.ensures) in
     let second : get_or (after_fillers bytes) (at + 2) 0 < 0xE0 =
     ⊎_elim (λ (few : at < 2). omega (arith, filler bytes (at + 2) (omega (arith, few))))
     (λ (more : 2 ≤ at). omega (arith, there bytes (c.max.result - 2) (at + 2) (omega (arith, more, c.max.ensures)), c.if-second-ge224.false)) (cases_lt at 2) in
-    none_cut s g.F.Flavor.flavor bytes at c.requires (sym (ap (λ rule. rule.has_changed) c.rule.ensures) ∙ c.if-rule.false)
+    none_cut g.S.CharacterSet.set g.F.Flavor.flavor bytes at c.requires (sym (ap (λ rule. rule.has_changed) c.rule.ensures) ∙ c.if-rule.false)
     (omega (arith, there bytes (at - 1) (at + 3) (omega (arith, c.if-at-eq0.false)), c.if-last-ge192.false)) second
-    (⊎_elim (λ both. and_right (has_four s) _ (lt-leb 0xF0 third
-    (⊎_elim (λ (few : at < 3). omega (arith, filler bytes (at + 1) (omega (arith, few))))
-    (λ (more : 3 ≤ at). omega (arith, there bytes (c.max-2.result - 3) (at + 1) (omega (arith, more, c.max-2.ensures)), both.1)) (cases_lt at 3))))
-    (λ no_four. ap (λ t. t && leb 0xF0 third) (has ∙ no_four)) c.else-rule-2.either)

@@ -1,6 +1,6 @@
 use Rattle.std.proofs.Common.{◌≡◌, ◌∙◌, ℕ, refl, sym, ap, List, ⊎_elim, false, arith}
 use Rattle.std.proofs.lemmas.Bool.{cases_eq}
-use Rattle.cesu8_decode.specs.Following.{CharacterSet, Encoded, Unchanged, Utf8, after_fillers, crosses_at}
+use Rattle.cesu8_decode.specs.Following.{CharacterSet, Encoded, Unchanged, after_fillers, crosses_at}
 use Rattle.cesu8_decode.proofs.chunks.Fronts.{front_at}
 use Rattle.cesu8_decode.proofs.front.last_uncrossed.Goals as goal
 
@@ -20,7 +20,6 @@ loop-end-preserved g c =
 start_none : (s : CharacterSet) (bytes : List ℕ) → crosses_at s (after_fillers bytes) 0 ≡ false
 start_none Encoded bytes = refl
 start_none Unchanged bytes = refl
-start_none Utf8 bytes = refl
 
 pub returns-after-loop-end : goal.returns-after-loop-end
 returns-after-loop-end g c =

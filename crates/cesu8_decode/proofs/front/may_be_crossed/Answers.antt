@@ -1,31 +1,12 @@
-use Rattle.std.proofs.Common.{◌≡◌, ◌+◌, ◌∙◌, Bool, true, false, ◌||◌, leb, get_or, refl, sym, ap, add-zero, arith, true≢false}
+use Rattle.std.proofs.Common.{◌≡◌, ◌+◌, ◌∙◌, true, false, leb, get_or, refl, sym, ap, add-zero, arith, true≢false}
 use Rattle.std.proofs.lemmas.Bool.{lt-leb, not-true, not-false}
-use Rattle.cesu8_decode.specs.Following.{CharacterSet, Encoded, Unchanged, Utf8, has_changed, has_four, is_high_surrogate, after_fillers}
+use Rattle.cesu8_decode.specs.Following.{CharacterSet, Encoded, Unchanged, has_changed, is_high_surrogate, after_fillers}
 use Rattle.cesu8_decode.proofs.front.may_be_crossed.Goals as goal
 
-or_none : (t : Bool) → (t || false) ≡ t
-or_none true = refl
-or_none false = refl
-
--- Each set without what changes, or with characters of four bytes, is one.
-utf8_if : (s : CharacterSet) → has_four s ≡ true → s ≡ Utf8
-utf8_if Encoded meant = absurd (true≢false (sym meant))
-utf8_if Unchanged meant = absurd (true≢false (sym meant))
-utf8_if Utf8 meant = refl
-
+-- A set with what changes is one.
 encoded_if : (s : CharacterSet) → has_changed s ≡ true → s ≡ Encoded
 encoded_if Encoded meant = refl
 encoded_if Unchanged meant = absurd (true≢false (sym meant))
-encoded_if Utf8 meant = absurd (true≢false (sym meant))
-
-pub returns-then-rule : goal.returns-then-rule
-returns-then-rule g c =
-    let window = after_fillers c.args.bytes.now in
-    let at = c.args.at in
-    let last : leb 0xC0 (get_or window (at + 3) 0) ≡ false = lt-leb 0xC0 _ (omega (arith, c.if-last-ge192.false, c.byte_before-last.ensures)) in
-    let second_last : leb 0xE0 (get_or window (at + 2) 0) ≡ false = lt-leb 0xE0 _ (omega (arith, c.if-second_last-ge224.false, c.byte_before-second_last.ensures)) in
-    let is_utf8 : g.S.CharacterSet.set ≡ Utf8 = utf8_if g.S.CharacterSet.set (ap (λ r. r.has_four) (sym c.rule.ensures) ∙ c.if-rule.true) in
-    ap (leb 0xF0) c.byte_before-third_last.ensures ∙ sym (rw (is_utf8, last, second_last) (or_none (leb 0xF0 (get_or window (at + 1) 0))))
 
 pub returns-then-not-rule : goal.returns-then-not-rule
 returns-then-not-rule g c =
@@ -33,9 +14,8 @@ returns-then-not-rule g c =
     let at = c.args.at in
     let last : leb 0xC0 (get_or window (at + 3) 0) ≡ false = lt-leb 0xC0 _ (omega (arith, c.if-last-ge192.false, c.byte_before-last.ensures)) in
     let second_last : leb 0xE0 (get_or window (at + 2) 0) ≡ false = lt-leb 0xE0 _ (omega (arith, c.if-second_last-ge224.false, c.byte_before-second_last.ensures)) in
-    let no_four : has_four g.S.CharacterSet.set ≡ false = ap (λ r. r.has_four) (sym c.rule.ensures) ∙ c.if-rule.false in
-    let unmeant : has_changed g.S.CharacterSet.set ≡ false = ap (λ r. r.has_changed) (sym c.rule-2.ensures) ∙ not-true _ c.if-not-rule.true in
-    rw (no_four, unmeant, last, second_last) refl
+    let unmeant : has_changed g.S.CharacterSet.set ≡ false = ap (λ r. r.has_changed) (sym c.rule.ensures) ∙ not-true _ c.if-not-rule.true in
+    rw (unmeant, last, second_last) refl
 
 pub returns-else-begins_high_surrogate : goal.returns-else-begins_high_surrogate
 returns-else-begins_high_surrogate g c =
@@ -43,7 +23,7 @@ returns-else-begins_high_surrogate g c =
     let at = c.args.at in
     let last : leb 0xC0 (get_or window (at + 3) 0) ≡ false = lt-leb 0xC0 _ (omega (arith, c.if-last-ge192.false, c.byte_before-last.ensures)) in
     let second_last : leb 0xE0 (get_or window (at + 2) 0) ≡ false = lt-leb 0xE0 _ (omega (arith, c.if-second_last-ge224.false, c.byte_before-second_last.ensures)) in
-    let is_encoded : g.S.CharacterSet.set ≡ Encoded = encoded_if g.S.CharacterSet.set (ap (λ r. r.has_changed) (sym c.rule-2.ensures) ∙ not-false _ c.if-not-rule.false) in
+    let is_encoded : g.S.CharacterSet.set ≡ Encoded = encoded_if g.S.CharacterSet.set (ap (λ r. r.has_changed) (sym c.rule.ensures) ∙ not-false _ c.if-not-rule.false) in
     let no_high : is_high_surrogate Encoded (get_or window (at + 1) 0) (get_or window (at + 2) 0) ≡ false =
     (λ i. is_high_surrogate Encoded (sym c.byte_before-third_last.ensures i) (sym c.byte_before-second_last.ensures i)) ∙ sym c.begins_high_surrogate.ensures ∙ c.if-begins_high_surrogate.false in
     c.begins_high_surrogate-else-begins_high_surrogate.ensures

@@ -1,0 +1,71 @@
+-- UTF-8 that is cut between two characters, and UTF-8 with zeros after it.
+use Rattle.std.proofs.Common.{◌≡◌, ℕ, ◌+◌, ◌-◌, ◌<◌, ◌≤◌, ◌↔◌, ◌⊎◌, ◌∙◌, ⊎_elim, List, [], ◌∷◌, ◌++◌, arith, get_or, length, length-append, replicate, subst, sym}
+use Rattle.std.specs.Str.{IsUtf8, IsCharBoundary, chars}
+use Rattle.std.proofs.Math.Seq.{take-append_seam}
+use Rattle.std.proofs.lemmas.Bool.{cases_lt, cases_eq}
+use Rattle.std.proofs.lemmas.Bool.Decides.{nat_tests}
+use Rattle.std.proofs.lemmas.List.{get_or-append-add, get_or_past}
+use Rattle.std.proofs.lemmas.Str.{IsUtf8-append, IsUtf8-take, IsUtf8-from_ascii, IsCharBoundary-start}
+use Rattle.cesu8_text.specs.Patterns.{IsContinuation}
+use Rattle.cesu8_text.specs.Text.{IsText, utf8_of, utf8}
+use Rattle.cesu8_text.proofs.StdUtf8.{IsUtf8Of_chars, IsUtf8_utf8}
+use Rattle.cesu8_bytes.proofs.vectors.Loads.{padded, zeros_at}
+
+-- Zeros after bytes decide nothing.
+pub with_zeros : (bytes : List ℕ) (n : ℕ) → IsUtf8 (bytes ++ replicate n 0) ↔ IsUtf8 bytes
+with_zeros bytes n =
+    let zeros = replicate {A = ℕ} n 0 in
+    let zero = padded bytes zeros (zeros_at n) (length bytes) ∙ get_or_past bytes (length bytes) 0 (omega arith) in (
+      λ whole. subst IsUtf8 (take-append_seam bytes zeros)
+          (IsUtf8-take (bytes ++ zeros) (length bytes) whole (omega (arith, length-append bytes zeros), λ _ high. absurd (omega (arith, high, zero)))),
+      λ is_utf8. IsUtf8-append bytes zeros is_utf8 (IsUtf8-from_ascii zeros (λ i. omega (arith, zeros_at n i))),
+    )
+
+-- ---- where a part may end
+
+-- A text's UTF-8 begins with no continuation byte,
+begins : (text : List ℕ) → IsText text → ¬ (IsContinuation (get_or (utf8 text) 0 0))
+begins text is_text continues =
+    ⊎_elim (λ (some : 0 < length (utf8 text)). absurd (omega (arith, (IsCharBoundary-start (utf8 text) (IsUtf8_utf8 text is_text)).1 some continues.0, continues)))
+    (λ (none : length (utf8 text) ≤ 0). absurd (omega (arith, get_or_past (utf8 text) 0 0 none, continues)))
+    (cases_lt 0 (length (utf8 text)))
+
+at_most_four : (c : ℕ) → length (utf8_of c) ≤ 4
+unfolding utf8_of
+at_most_four c = grind (arith, nat_tests)
+
+-- so no four of them follow each other in it.
+abbrev FourContinue : List ℕ → ℕ → Type 0
+FourContinue bytes i = (k : ℕ) → i ≤ k → k ≤ i + 3 → IsContinuation (get_or bytes k 0)
+
+no_four : (text : List ℕ) → IsText text → (i : ℕ) → ¬ (FourContinue (utf8 text) i)
+no_four [] is_text i four = omega (arith, (four i (omega arith) (omega arith)).0)
+no_four (c ∷ text) is_text i four =
+    let n = length (utf8_of c) in
+    let behind = λ (k : ℕ) (low : i ≤ n + k) (high : n + k ≤ i + 3).
+    subst IsContinuation (get_or-append-add (utf8_of c) (utf8 text) k 0) (four (n + k) low high) in
+    ⊎_elim (λ (within : i < n).
+    ⊎_elim (λ (first : i ≡ 0). begins (c ∷ text) is_text (four 0 (omega (arith, first)) (omega arith)))
+    (λ (later : i ≡ 0 → ⊥). begins text is_text.1 (behind 0 (omega (arith, within)) (omega (arith, later, at_most_four c))))
+    (cases_eq i 0))
+    (λ (past : n ≤ i). no_four text is_text.1 (i - n) (λ k low high. behind k (omega (arith, low, past)) (omega (arith, high, past))))
+    (cases_lt i n)
+
+-- Before continuation bytes alone, and at most three of them, a character of UTF-8 begins.
+pub start_is_boundary : (bytes : List ℕ) (at back : ℕ) → at < length bytes → 3 ≤ at → back ≤ 3 →
+    ((k : ℕ) → k < back → IsContinuation (get_or bytes (at - k) 0)) → (¬ (IsContinuation (get_or bytes (at - back) 0))) ⊎ (back ≡ 3) →
+    IsUtf8 bytes → IsCharBoundary bytes (at - back)
+start_is_boundary bytes at back inside far few continue ends is_utf8 = (
+  omega (arith, inside),
+  λ _ high.
+      ⊎_elim (λ (low : get_or bytes (at - back) 0 < 0xC0).
+      ⊎_elim (λ (other : ¬ (IsContinuation (get_or bytes (at - back) 0))). absurd (other (high, low)))
+      (λ (three : back ≡ 3). absurd (no_four (chars bytes) (IsUtf8Of_chars bytes is_utf8).0 (at - 3) (λ k from to.
+      subst (λ bs. IsContinuation (get_or bs k 0)) (sym (IsUtf8Of_chars bytes is_utf8).1)
+      (⊎_elim (λ (more : at - 3 < k). subst (λ (j : ℕ). IsContinuation (get_or bytes j 0)) (omega (arith, to, far)) (continue (at - k) (omega (arith, more, three))))
+      (λ (same : k ≤ at - 3). subst (λ (j : ℕ). IsContinuation (get_or bytes j 0)) (omega (arith, same, from, three)) (high, low))
+      (cases_lt (at - 3) k)))))
+      ends)
+      (λ (lead : 0xC0 ≤ get_or bytes (at - back) 0). lead)
+      (cases_lt (get_or bytes (at - back) 0) 0xC0),
+)

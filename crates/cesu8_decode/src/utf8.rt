@@ -1,0 +1,121 @@
+//! Whether bytes are UTF-8, by the `Checker` of `simdutf8`.
+//!
+//! A `Checker` takes 64 bytes at a time, and reports an error only at the end. So bytes are tested
+//! in parts that end between characters, and nothing is read after the first part with an error.
+//! `simdutf8::is_utf8` reads all bytes, and copies the last ones to a buffer.
+
+ghost use Rattle.std.specs.Prelude.{◌≡◌, ◌↔◌, ℕ, ◌+◌, ◌-◌, ◌<◌, ◌≤◌, List, ◌++◌, IsTrue, IsUtf8, length, replicate};
+ghost use Rattle.std.specs.Str.{IsCharBoundary};
+ghost use Rattle.simdutf8.specs.Tracks.{HasRead};
+ghost use Rattle.cesu8_text.specs.Patterns.{IsContinuation};
+
+use crate::way::is_one_block;
+use cesu8_bytes::BLOCK;
+use cesu8_bytes::lanes::class::LANES;
+use cesu8_bytes::lanes::padded::padded_half;
+use simdutf8::Checker;
+use std::simd::prelude::*;
+
+/// The most bytes of a part.
+const PART: usize = 16 * LANES;
+
+/// The indices of two blocks, one after the other.
+const BOTH_BLOCKS: [usize; LANES] = [
+    0, 1, 2, 3, 4, 5, 6, 7, 8, 9, 10, 11, 12, 13, 14, 15, 16, 17, 18, 19, 20, 21, 22, 23, 24, 25,
+    26, 27, 28, 29, 30, 31, 32, 33, 34, 35, 36, 37, 38, 39, 40, 41, 42, 43, 44, 45, 46, 47, 48, 49,
+    50, 51, 52, 53, 54, 55, 56, 57, 58, 59, 60, 61, 62, 63,
+];
+
+/// Returns whether the bytes are UTF-8. It is not inlined, so that its callers stay short.
+#[inline(never)]
+pub fn is_utf8_by_parts(bytes: &[u8]) -> bool
+    ensures { IsTrue result ↔ IsUtf8 bytes.now }
+{
+    // The compiler knows half of the vector to be zero here, so this is shorter than the loop.
+    if is_one_block(bytes) {
+        return is_rest_utf8(Checker::new(), bytes);
+    }
+    let mut start = 0;
+    while start < bytes.len() {
+        let end = part_end(bytes, start);
+        if !is_part_utf8(&bytes[start..end]) {
+            return false;
+        }
+        start = end;
+    }
+    true
+}
+
+/// Returns where a part ends that begins at `start`. In UTF-8 that is between two characters.
+#[inline(always)]
+fn part_end(bytes: &[u8], start: usize) -> usize
+    requires { start < length bytes.now }
+    ensures within { (start < result) × (result ≤ length bytes.now) }
+    ensures boundary { IsUtf8 bytes.now → IsCharBoundary bytes.now result }
+{
+    if bytes.len() - start <= PART {
+        return bytes.len();
+    }
+    character_start(bytes, start + PART)
+}
+
+/// Returns where the character begins that has a byte at `at`, if the bytes are UTF-8: up to three
+/// bytes before, since no more than three continuation bytes follow each other.
+#[inline(always)]
+fn character_start(bytes: &[u8], at: usize) -> usize
+    requires { (3 ≤ at) × (at < length bytes.now) }
+    ensures near { (result ≤ at) × (at ≤ result + 3) }
+    ensures boundary { IsUtf8 bytes.now → IsCharBoundary bytes.now result }
+{
+    for back in 0..3 {
+        if !is_continuation(bytes[at - back]) {
+            return at - back;
+        }
+    }
+    at - 3
+}
+
+/// Returns whether a byte is a continuation byte.
+#[inline(always)]
+fn is_continuation(byte: u8) -> bool
+    ensures { IsTrue result ↔ IsContinuation byte }
+{
+    matches!(byte, 0x80..=0xBF)
+}
+
+/// Returns whether a part is UTF-8.
+#[inline(always)]
+fn is_part_utf8(bytes: &[u8]) -> bool
+    ensures { IsTrue result ↔ IsUtf8 bytes.now }
+{
+    let mut checker = Checker::new();
+    let mut at = 0;
+    while bytes.len() - at > LANES {
+        checker = checker.step(u8x64::from_slice(&bytes[at..]));
+        at += LANES;
+    }
+    is_rest_utf8(checker, &bytes[at..])
+}
+
+/// Returns whether what a checker has read is UTF-8 together with the rest, at most 64 bytes.
+#[inline(always)]
+fn is_rest_utf8(checker: Checker, rest: &[u8]) -> bool
+    requires { length rest.now ≤ LANES }
+    ensures { (read : List ℕ) → HasRead checker read
+        → (IsTrue result ↔ IsUtf8 (read ++ rest.now)) }
+{
+    checker.step(padded(rest)).finish()
+}
+
+/// Returns at most 64 bytes with zeros after them.
+#[inline(always)]
+fn padded(bytes: &[u8]) -> u8x64
+    requires { length bytes.now ≤ LANES }
+    ensures { result ≡ bytes.now ++ replicate (LANES - length bytes.now) 0 }
+{
+    if is_one_block(bytes) {
+        return padded_half(bytes).shuffle::<LANES>(u8x32::splat(0), BOTH_BLOCKS);
+    }
+    let second = padded_half(&bytes[BLOCK..]);
+    u8x32::from_slice(bytes).shuffle::<LANES>(second, BOTH_BLOCKS)
+}
