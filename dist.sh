@@ -39,6 +39,7 @@ mkdir -p "$1"
 folder=$(cd "$1" && pwd)
 top=$(cd "$(dirname "${BASH_SOURCE[0]}")" && pwd)
 crate=$top/crates/cesu8_static
+kit=$(dirname "$(dirname "$(readlink -f "$(command -v rt)")")")
 version=$(<"$top/VERSION")
 major=${version%%.*}
 name=cesu8-$version-x86_64-linux
@@ -240,6 +241,8 @@ for file in "${pages[@]}"; do
     page "$file"
 done
 cp "$top/LICENSE-APACHE" "$top/LICENSE-MIT" "$release"
+# The library contains code of this crate of the kit.
+cp "$kit/rattle/simdutf8/LICENSE" "$release/LICENSE-simdutf8"
 {
     printf '%s\n' "cesu8 $version" "commit $commit$changes" "kit $identity"
     built_for x86-64 'Linux on x86-64-v2 or later' "$compiler" "$release"/bin/* \

@@ -115,7 +115,7 @@ path_without_kit() {
 
 look_at_files() {
     local wanted=(BUILT-FROM C.md CHANGELOG.md LICENSE-APACHE LICENSE-MIT
-        PROGRAM.md README.md SECURITY.md bin/cesu8_cli bin/cesu8_damage
+        LICENSE-simdutf8 PROGRAM.md README.md SECURITY.md bin/cesu8_cli bin/cesu8_damage
         examples/cesu8_damage.c examples/class_constants.c examples/java_strings.sh
         examples/java_units.c examples/keys.c examples/keys.rs
         include/cesu8.h install.sh

@@ -43,7 +43,7 @@ with zipfile.ZipFile(sys.argv[1]) as wheel:
     contents = {name: wheel.read(name) for name in names}
 metadata = next(contents[name] for name in names if name.endswith("/METADATA"))
 folder = re.match(r"(cesu8-[0-9.]+\.dist-info)/", names[0])[1]
-licences = ["APACHE", "MIT"]
+licences = ["APACHE", "MIT", "simdutf8"]
 wanted = [f"{folder}/{name}" for name in ("METADATA", "RECORD", "WHEEL")]
 wanted += [f"{folder}/licenses/LICENSE-{name}" for name in licences]
 package = ["BUILT-FROM", "__init__.py", "_codec.py", "_native.abi3.so", "_native.pyi", "py.typed"]
