@@ -7,7 +7,7 @@
 //! | at most 1,024 | are all ASCII? | what takes UTF-8 as well |
 //! | at most 64, in front of a slice of 64 or more | that of the first row, by one vector | strings in a row |
 //! | below 256 | does a byte change? up to 64 by two vectors, else by more | what encodes |
-//! | 256 and more | the same, by a call of the kernels, so that the short way has few registers to save | the same |
+//! | 256 and more | the same, by four vectors at once, in a way of its own, so that the short one has few registers to save | the same |
 
 ghost use Rattle.std.specs.Prelude.{◌↔◌, IsTrue, Any, take};
 ghost use Rattle.std.specs.Str.{chars, IsAscii};
@@ -15,15 +15,14 @@ ghost use Rattle.cesu8_text.specs.Class.{IsChangedByte};
 ghost use Rattle.cesu8_text.specs.Encoding.{NeedsEncoding};
 
 use crate::flavor::Flavor;
-use crate::implementation::active;
 use crate::lanes::class::{AtLeastF0, Either, FourByteLead, LANES, NonAscii, has};
 use crate::lanes::runs::lanes_before;
-use crate::lanes::search::{any_in_bytes, any_in_first_look};
+use crate::lanes::search::{any_in_bytes, any_in_first_look, any_in_long};
 use crate::lanes::short::are_short;
 use std::simd::prelude::*;
 
 /// The most bytes that are tested for ASCII that does not change before anything is called. From
-/// this length on the kernels search for what changes.
+/// this length on four vectors at once are searched for what changes.
 const SHORT: usize = 4 * LANES;
 
 /// The most bytes that are tested for all ASCII before anything is called.
@@ -78,10 +77,8 @@ fn contains_changed<F: Flavor>(bytes: &[u8]) -> bool
 {
     if bytes.len() < SHORT {
         any_in_bytes::<Either<F::Null, FourByteLead>>(bytes)
-    } else if F::has_long_null() {
-        active::contains_null_or_utf8_4_byte_char_header(bytes)
     } else {
-        active::contains_utf8_4_byte_char_header(bytes)
+        any_in_long::<Either<F::Null, FourByteLead>>(bytes)
     }
 }
 

@@ -2,7 +2,7 @@
 use Rattle.std.proofs.Common.{◌≡◌, ℕ, Bool, true, false, IsTrue, ◌+◌, ◌*◌, ◌/◌, ◌↔◌, ◌⊎◌, List, [], ◌∷◌, length, take, drop, refl, sym, ap, ◌∙◌, subst, zero, suc, inl, inr, ⊎_elim, arith}
 use Rattle.std.specs.List.{Any}
 use Rattle.std.specs.Simd.{first_chunks}
-use Rattle.std.proofs.lemmas.Bool.{iff_false}
+use Rattle.std.proofs.lemmas.Bool.{iff_false, false≢true}
 use Rattle.std.proofs.lemmas.List.{take-append-drop, drop-drop}
 use Rattle.cesu8_text.proofs.lists.Elements.{any_nil, any_here, any_there, any_cons, any_left, any_right, any_append}
 
@@ -46,6 +46,10 @@ module _ {X : Type 0} (P : X → Type 0) (n : ℕ) (xs : List X) (chunks : List 
   left_by_chunks none =
       let cut = chunked P n xs chunks rest front back in
       ((λ p. cut.1 (inr p)), (λ p. ⊎_elim (λ q. absurd (iff_false tells none q)) (λ q. q) (cut.0 p)))
+
+-- Where nothing is left, the answer is no.
+pub nothing_left : {X : Type 0} (P : X → Type 0) (rest : List X) → length rest ≡ 0 → IsTrue false ↔ Any P rest
+nothing_left P rest none = ((λ t. absurd (false≢true t)), (λ h. absurd (omega (arith, none, h.2))))
 
 -- P holds of one of four elements where it holds of one of the first two or of the others.
 pub group_elements : {X : Type 0} (P : X → Type 0) (a b c d : X) → Any P (a ∷ b ∷ c ∷ d ∷ []) ↔ ((P a ⊎ P b) ⊎ (P c ⊎ P d))

@@ -95,9 +95,9 @@ inverse : (bytes : List ℕ) → AreBytes bytes → word_of bytes + inverted byt
 inverse [] h = refl
 inverse (b ∷ bytes) h = omega (arith, inverse bytes h.1)
 
--- The test of a word tells whether one of its bytes is 0.
+-- The marks of a word tell whether one of its bytes is 0.
 pub zero_test : (w : ℕ) → w < 2 ^ 64 →
-    IsTrue (not (eqb (bit_and (bit_and ((w + 0xFEFEFEFEFEFEFEFF) % 2 ^ 64) (0xFFFFFFFFFFFFFFFF - w)) 0x8080808080808080) 0))
+    (bit_and (bit_and ((w + 0xFEFEFEFEFEFEFEFF) % 2 ^ 64) (0xFFFFFFFFFFFFFFFF - w)) 0x8080808080808080 ≡ 0 → ⊥)
     ↔ Any (λ b. b ≡ 0) (to_le_bytes w64 w)
 zero_test w l =
     let d = (w + 0xFEFEFEFEFEFEFEFF) % 2 ^ 64 in
@@ -106,10 +106,12 @@ zero_test w l =
     let flipped : inverted bytes ≡ 0xFFFFFFFFFFFFFFFF - w = omega (arith, inverse bytes (are_bytes w)) in
     let tells = zero_marks bytes (are_bytes w) d (1 - (w + 0xFEFEFEFEFEFEFEFF) / 2 ^ 64) (omega arith) in
     let same : marked d bytes ≡ bit_and (bit_and d (0xFFFFFFFFFFFFFFFF - w)) 0x8080808080808080 =
-    ap (λ x. bit_and (bit_and d x) 0x8080808080808080) flipped in (
-      (λ t. tells.0 (λ none. eqb-false _ _ (not-true _ t) (sym same ∙ none))),
-      (λ p. ap not (ne_eqb _ _ (λ none. tells.1 p (same ∙ none)))),
-    )
+    ap (λ x. bit_and (bit_and d x) 0x8080808080808080) flipped in
+    ((λ some. tells.0 (λ none. some (sym same ∙ none))), (λ p none. tells.1 p (same ∙ none)))
+
+-- Whether a number is other than 0, as code tests it.
+pub not_zero : (n : ℕ) → IsTrue (not (eqb n 0)) ↔ (n ≡ 0 → ⊥)
+not_zero n = ((λ t. eqb-false _ _ (not-true _ t)), (λ some. ap not (ne_eqb _ _ some)))
 
 -- What is left of a byte: 0 where its upper five bits are those of F0.
 abbrev masked : ℕ → ℕ

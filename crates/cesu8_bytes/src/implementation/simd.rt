@@ -1,10 +1,13 @@
-//! Up to 64 bytes as the lanes of a vector, and more by four vectors. `active` has these kernels.
+//! Up to 64 bytes at a time, as the lanes of a vector. `active` has these kernels.
 
-ghost use Rattle.std.specs.Prelude.{◌↔◌, IsTrue, Any};
-ghost use Rattle.cesu8_text.specs.Class.{IsFour, IsNullFour};
+ghost use Rattle.std.specs.Prelude.{◌≡◌, ◌≤◌, ◌<◌, ◌↔◌, IsTrue, Any, IfSome, IfNone, length};
+ghost use Rattle.cesu8_text.specs.Class.{is_four, is_null_four, IsFour, IsNullFour};
+ghost use Rattle.cesu8_bytes.specs.Kernels.{AnyIn, MayTest, Finds};
 
-use crate::lanes::class::{Either, FourByteLead, Null};
-use crate::lanes::search::any_in_bytes;
+use super::fallback;
+use crate::lanes::class::{Either, FourByteLead, LANES, Null};
+use crate::lanes::groups::InGroups;
+use crate::lanes::search::any_in_chunks;
 
 /// Returns whether some byte is F0 to F7 (hexadecimal). In UTF-8 these are the lead bytes of
 /// characters of four bytes.
@@ -18,7 +21,7 @@ use crate::lanes::search::any_in_bytes;
 pub fn contains_utf8_4_byte_char_header(value: &[u8]) -> bool
     ensures { IsTrue result ↔ Any IsFour value.now }
 {
-    any_in_bytes::<FourByteLead>(value)
+    lanes_four(value, fallback::contains_utf8_4_byte_char_header)
 }
 
 /// Returns whether some byte is 00, or F0 to F7 (hexadecimal).
@@ -32,5 +35,81 @@ pub fn contains_utf8_4_byte_char_header(value: &[u8]) -> bool
 pub fn contains_null_or_utf8_4_byte_char_header(value: &[u8]) -> bool
     ensures { IsTrue result ↔ Any IsNullFour value.now }
 {
-    any_in_bytes::<Either<Null, FourByteLead>>(value)
+    lanes_null_four(value, fallback::contains_null_or_utf8_4_byte_char_header)
+}
+
+/// Returns whether some byte is in a class: the chunks of each width are tested in turn, of what the
+/// wider ones leave, and the fallback tests a single byte that is left.
+macro_rules! any_by_widths {
+    ($value:ident, $class:ty, $fallback:ident, $($width:literal),*) => {{
+        let rest = $value;
+        $(
+            let Some(rest) = left_by::<$class, $width>(rest) else {
+                return true;
+            };
+        )*
+        !rest.is_empty() && $fallback(rest)
+    }};
+}
+
+/// Returns whether some byte is F0 to F7 (hexadecimal), where the fallback tests a single byte that
+/// is left.
+#[inline(always)]
+fn lanes_four<F: Fn(&[u8]) -> bool>(value: &[u8], fallback: F) -> bool
+    requires { MayTest (λ len. len ≡ 1) F.Fn fallback }
+    ensures { Finds (λ len. len ≡ 1) F.Fn fallback is_four
+        → IsTrue result ↔ AnyIn is_four value.now }
+{
+    any_by_widths!(value, FourByteLead, fallback, 64, 32, 16, 8, 4, 2)
+}
+
+/// Returns whether some byte is 00, or F0 to F7 (hexadecimal), where the fallback tests a single
+/// byte that is left.
+#[inline(always)]
+fn lanes_null_four<F: Fn(&[u8]) -> bool>(value: &[u8], fallback: F) -> bool
+    requires { MayTest (λ len. len ≡ 1) F.Fn fallback }
+    ensures { Finds (λ len. len ≡ 1) F.Fn fallback is_null_four
+        → IsTrue result ↔ AnyIn is_null_four value.now }
+{
+    any_by_widths!(value, Either<Null, FourByteLead>, fallback, 64, 32, 16, 8, 4, 2)
+}
+
+/// Returns what the chunks of a width leave, or none if a byte of theirs is in the class.
+#[inline(always)]
+fn left_by<C: InGroups<N>, const N: usize>(bytes: &[u8]) -> Option<&[u8]>
+    requires { (0 < N) × (N ≤ LANES) }
+    ensures left { IfSome result (λ rest. (length rest.now < N)
+        × (AnyIn C.class rest.now ↔ AnyIn C.class bytes.now)) }
+    ensures found { IfNone result (AnyIn C.class bytes.now) }
+{
+    let (chunks, rest) = bytes.as_chunks::<N>();
+    if any_in_chunks::<C, N>(chunks) {
+        return None;
+    }
+    Some(rest)
+}
+
+#[cfg(test)]
+mod tests {
+    use super::{lanes_four, lanes_null_four};
+
+    /// The fallback is called if one byte is left, and only then.
+    #[test]
+    fn asks_the_fallback_of_a_last_byte(rt: HostRuntime) {
+        let cases = [
+            (0, false),
+            (1, true),
+            (2, false),
+            (3, true),
+            (126, false),
+            (127, true),
+        ];
+        let bytes = [0x61; 127];
+        for (len, answer) in cases {
+            let bytes = &bytes[..len];
+            let found = lanes_four(bytes, |_: &[u8]| true);
+            let null_found = lanes_null_four(bytes, |_: &[u8]| true);
+            assert_eq!(rt; (found, null_found), (answer, answer), "{len} bytes");
+        }
+    }
 }

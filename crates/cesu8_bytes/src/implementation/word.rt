@@ -8,7 +8,7 @@
 ghost use Rattle.std.specs.Prelude.{◌≡◌, ◌<◌, ◌≤◌, ◌+◌, ◌↔◌, ℕ, Bool, IsTrue, Any, length, slice_range};
 ghost use Rattle.std.specs.Int.{to_le_bytes, w64};
 ghost use Rattle.cesu8_text.specs.Class.{IsFour, IsNullFour};
-ghost use Rattle.cesu8_bytes.specs.Kernels.{AnyIn, MayTestWords, FindsInWords};
+ghost use Rattle.cesu8_bytes.specs.Kernels.{AnyIn, MayTest, Finds, MayTestWords, FindsInWords};
 
 use super::fallback;
 use std::simd::prelude::*;
@@ -27,10 +27,11 @@ const WORD: usize = 8;
 pub fn contains_utf8_4_byte_char_header(value: &[u8]) -> bool
     ensures { IsTrue result ↔ Any IsFour value.now }
 {
-    match value.len() {
-        0..WORD => fallback::contains_utf8_4_byte_char_header(value),
-        _ => test_word_any(value, contains_four),
-    }
+    test_word_any(
+        value,
+        fallback::contains_utf8_4_byte_char_header,
+        contains_four,
+    )
 }
 
 /// Returns whether some byte is 00, or F0 to F7 (hexadecimal).
@@ -43,22 +44,27 @@ pub fn contains_utf8_4_byte_char_header(value: &[u8]) -> bool
 pub fn contains_null_or_utf8_4_byte_char_header(value: &[u8]) -> bool
     ensures { IsTrue result ↔ Any IsNullFour value.now }
 {
-    match value.len() {
-        0..WORD => fallback::contains_null_or_utf8_4_byte_char_header(value),
-        _ => test_word_any(value, contains_null_or_four),
-    }
+    test_word_any(
+        value,
+        fallback::contains_null_or_utf8_4_byte_char_header,
+        contains_null_or_four,
+    )
 }
 
 /// Returns whether a word passes the test: that of the first eight bytes, of each eight that
-/// follow, or of the last eight, which may overlap.
-fn test_word_any<T>(value: &[u8], test: T) -> bool
+/// follow, or of the last eight, which may overlap. Fewer than eight bytes are for the fallback.
+fn test_word_any<F, T>(value: &[u8], fallback: F, test: T) -> bool
 where
+    F: Fn(&[u8]) -> bool,
     T: Fn(u64) -> bool,
-    requires long { WORD ≤ length value.now }
+    requires short { MayTest (λ len. len < WORD) F.Fn fallback }
     requires words { MayTestWords T.Fn test }
-    ensures { (class : ℕ → Bool) → FindsInWords T.Fn test class
-        → IsTrue result ↔ AnyIn class value.now }
+    ensures { (class : ℕ → Bool) → Finds (λ len. len < WORD) F.Fn fallback class
+        → FindsInWords T.Fn test class → IsTrue result ↔ AnyIn class value.now }
 {
+    if value.len() < WORD {
+        return fallback(value);
+    }
     if test(word_at(value, 0)) {
         return true;
     }
@@ -85,31 +91,32 @@ fn word_at(value: &[u8], offset: usize) -> u64
 fn contains_four(word: u64) -> bool
     ensures { IsTrue result ↔ Any IsFour (to_le_bytes w64 word) }
 {
-    contains_zero((word & 0xF8F8_F8F8_F8F8_F8F8) ^ 0xF0F0_F0F0_F0F0_F0F0)
+    zero_marks((word & 0xF8F8_F8F8_F8F8_F8F8) ^ 0xF0F0_F0F0_F0F0_F0F0) != 0
 }
 
 /// Whether some byte of the word is 00, or F0 to F7 (hexadecimal).
 fn contains_null_or_four(word: u64) -> bool
     ensures { IsTrue result ↔ Any IsNullFour (to_le_bytes w64 word) }
 {
-    contains_zero(word) || contains_four(word)
+    zero_marks(word) != 0 || contains_four(word)
 }
 
-/// Whether some byte of the word is 00.
-fn contains_zero(word: u64) -> bool
-    ensures { IsTrue result ↔ Any (λ byte. byte ≡ 0) (to_le_bytes w64 word) }
+/// Returns a word that is 0 exactly where no byte of this one is 00.
+fn zero_marks(word: u64) -> u64
+    ensures { ¬ (result ≡ 0) ↔ Any (λ byte. byte ≡ 0) (to_le_bytes w64 word) }
 {
-    word.wrapping_sub(0x0101_0101_0101_0101) & !word & 0x8080_8080_8080_8080 != 0
+    word.wrapping_sub(0x0101_0101_0101_0101) & !word & 0x8080_8080_8080_8080
 }
 
 #[cfg(test)]
 mod tests {
-    use super::{WORD, contains_four, test_word_any};
+    use super::{contains_four, test_word_any, zero_marks};
     use std::cell::Cell;
 
     const ONES: u64 = 0x0101_0101_0101_0101;
 
     /// The words are those of the first eight bytes, of each eight that follow, and of the last.
+    /// Fewer bytes have none, and the fallback, which always finds something, answers for them.
     #[test]
     fn tests_each_word(rt: HostRuntime) {
         // Each byte is its own index.
@@ -119,6 +126,7 @@ mod tests {
         ];
         // The number of bytes, and the words that are tested, less that at 0, followed by zeros.
         let cases = [
+            (7, 0, [0, 0, 0, 0]),
             (8, 2, [0, 0, 0, 0]),
             (9, 2, [0, ONES, 0, 0]),
             (16, 2, [0, 8 * ONES, 0, 0]),
@@ -127,23 +135,34 @@ mod tests {
             (25, 4, [0, 8 * ONES, 16 * ONES, 17 * ONES]),
         ];
         for (len, count, words) in cases {
-            assert!(rt; WORD <= len);
             let tested = Cell::new(0usize);
             let seen = Cell::new([0u64; 4]);
-            let found = test_word_any(&bytes[..len], |word| {
-                let mut words = seen.get();
-                if let Some(slot) = words.get_mut(tested.get()) {
-                    *slot = word.wrapping_sub(0x0706_0504_0302_0100);
-                }
-                seen.set(words);
-                tested.set(tested.get().wrapping_add(1));
-                contains_four(word)
-            });
+            let found = test_word_any(
+                &bytes[..len],
+                |_: &[u8]| true,
+                |word| {
+                    let mut words = seen.get();
+                    if let Some(slot) = words.get_mut(tested.get()) {
+                        *slot = word.wrapping_sub(0x0706_0504_0302_0100);
+                    }
+                    seen.set(words);
+                    tested.set(tested.get().wrapping_add(1));
+                    contains_four(word)
+                },
+            );
             assert_eq!(rt;
                 (found, tested.get(), seen.get()),
-                (false, count, words),
+                (count == 0, count, words),
                 "{len} bytes"
             );
         }
+    }
+
+    /// The borrow goes on through bytes 01, and no byte 81 is marked, whose high bit is set anyway.
+    #[test]
+    fn marks_bytes_above_a_zero(rt: HostRuntime) {
+        let marks = zero_marks(u64::from_le_bytes([0, 1, 1, 1, 1, 1, 1, 1]));
+        assert_eq!(rt; marks, 0x8080_8080_8080_8080);
+        assert_eq!(rt; zero_marks(u64::from_le_bytes([0x81; 8])), 0);
     }
 }

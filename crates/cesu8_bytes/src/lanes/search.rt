@@ -5,7 +5,7 @@
 //!
 //! Everything is inlined: a call would pass vectors through memory, and most values are short.
 
-ghost use Rattle.std.specs.Prelude.{◌<◌, ◌↔◌, IsTrue, Any, length};
+ghost use Rattle.std.specs.Prelude.{◌<◌, ◌≤◌, ◌↔◌, IsTrue, Any, length};
 ghost use Rattle.cesu8_bytes.specs.Kernels.{AnyIn};
 
 use super::class::{InAllVectors, InVectors, LANES, has};
@@ -40,29 +40,32 @@ pub fn any_in_first_look<C: InAllVectors + InGroups<LANES>>(bytes: &[u8]) -> boo
 
 /// Returns whether some byte of a whole vector is in the class, or of the last 64 bytes.
 #[inline(always)]
-fn any_in_long<C: InGroups<LANES>>(bytes: &[u8]) -> bool
+pub fn any_in_long<C: InGroups<LANES>>(bytes: &[u8]) -> bool
     requires { LANES < length bytes.now }
     ensures { IsTrue result ↔ AnyIn C.class bytes.now }
 {
     let (chunks, _) = bytes.as_chunks::<LANES>();
     let end = end_vector::<LANES>(bytes);
-    any_in_chunks::<C>(chunks) || has::<C, LANES>(end)
+    any_in_chunks::<C, LANES>(chunks) || has::<C, LANES>(end)
 }
 
+/// Returns whether some byte of the chunks is in the class, by four of them at once.
 #[inline(always)]
-fn any_in_chunks<C: InGroups<LANES>>(chunks: &[[u8; LANES]]) -> bool
+pub fn any_in_chunks<C: InGroups<N>, const N: usize>(chunks: &[[u8; N]]) -> bool
+    requires { N ≤ LANES }
     ensures { IsTrue result ↔ Any (AnyIn C.class) chunks.now }
 {
     let (groups, rest) = chunks.as_chunks::<4>();
-    any_in_groups::<C>(groups) || any_in_each::<C>(rest)
+    any_in_groups::<C, N>(groups) || any_in_each::<C, N>(rest)
 }
 
 #[inline(always)]
-fn any_in_groups<C: InGroups<LANES>>(groups: &[[[u8; LANES]; 4]]) -> bool
+fn any_in_groups<C: InGroups<N>, const N: usize>(groups: &[[[u8; N]; 4]]) -> bool
+    requires { N ≤ LANES }
     ensures { IsTrue result ↔ Any (Any (AnyIn C.class)) groups.now }
 {
     for group in groups {
-        if any_in_group::<C>(group) {
+        if any_in_group::<C, N>(group) {
             return true;
         }
     }
@@ -71,22 +74,24 @@ fn any_in_groups<C: InGroups<LANES>>(groups: &[[[u8; LANES]; 4]]) -> bool
 
 /// Most groups have no byte that may be in the class; the others are tested again.
 #[inline(always)]
-fn any_in_group<C: InGroups<LANES>>(group: &[[u8; LANES]; 4]) -> bool
+fn any_in_group<C: InGroups<N>, const N: usize>(group: &[[u8; N]; 4]) -> bool
+    requires { N ≤ LANES }
     ensures { IsTrue result ↔ Any (AnyIn C.class) group.now }
 {
     let [a, b, c, d] = *group;
     let (a, b) = (Simd::from_array(a), Simd::from_array(b));
     let (c, d) = (Simd::from_array(c), Simd::from_array(d));
-    C::may_have(a, b, c, d) && any_in_each::<C>(group)
+    C::may_have(a, b, c, d) && any_in_each::<C, N>(group)
 }
 
 /// Returns whether some byte of the chunks is in the class, by a test of each chunk.
 #[inline(always)]
-fn any_in_each<C: InVectors<LANES>>(chunks: &[[u8; LANES]]) -> bool
+fn any_in_each<C: InVectors<N>, const N: usize>(chunks: &[[u8; N]]) -> bool
+    requires { N ≤ LANES }
     ensures { IsTrue result ↔ Any (AnyIn C.class) chunks.now }
 {
     for chunk in chunks {
-        if has::<C, LANES>(Simd::from_array(*chunk)) {
+        if has::<C, N>(Simd::from_array(*chunk)) {
             return true;
         }
     }

@@ -10,7 +10,7 @@ loop-offset-init g c class tests =
     none_further class c.args.value.now 0 (omega arith) (λ i before. absurd (omega arith)) (iff_false here c.if-test.false)
 
 pub returns-then-test-2 : goal.returns-then-test-2
-returns-then-test-2 g c class tests =
+returns-then-test-2 g c class short tests =
     let here = tested class c.word_at-in-loop-offset.result _ c.test-in-loop-offset.result
     (tests c.word_at-in-loop-offset.result c.test-in-loop-offset.result c.word_at-in-loop-offset.type_inv c.test-in-loop-offset.ensures)
     c.word_at-in-loop-offset.ensures in (
@@ -26,7 +26,7 @@ loop-offset-preserved g c class tests =
     none_further class c.args.value.now c.loop-offset.offset (omega arith) (c.loop-offset.invariant class tests) (iff_false here c.if-test-2.false)
 
 pub returns : goal.returns
-returns g c class tests =
+returns g c class short tests =
     let here = tested class c.word_at-2.result _ c.test-2.result
     (tests c.word_at-2.result c.test-2.result c.word_at-2.type_inv c.test-2.ensures) c.word_at-2.ensures in (
       (λ t. of_eight class c.args.value.now _ (here.0 t)),
