@@ -3,6 +3,7 @@
 from __future__ import annotations
 
 import codecs
+import operator
 import re
 from typing import Any
 
@@ -91,14 +92,10 @@ def _pass(error: UnicodeError) -> tuple[bytes, int]:
 
 
 def _handled(answer: Any, replaces: Any, error: UnicodeError) -> Any:
-    """What an error handler returned: a replacement and the place to go on at."""
-    if (
-        isinstance(answer, tuple)
-        and len(answer) == 2
-        and isinstance(answer[0], replaces)
-        and isinstance(answer[1], int)
-    ):
-        return answer
+    """What an error handler returned: a replacement and the place to go on at. As with Python's own
+    codecs, the place can be any integer, also one of NumPy's, which is no `int`."""
+    if isinstance(answer, tuple) and len(answer) == 2 and isinstance(answer[0], replaces):
+        return answer[0], operator.index(answer[1])
     if isinstance(error, UnicodeDecodeError):
         raise TypeError("decoding error handler must return (str, int) tuple")
     raise TypeError("encoding error handler must return (str/bytes, int) tuple")

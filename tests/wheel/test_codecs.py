@@ -32,6 +32,16 @@ SURROGATES = (
 )
 
 
+class Place:
+    """An integer that is no `int`, as NumPy's are none."""
+
+    def __init__(self, place: int) -> None:
+        self.place = place
+
+    def __index__(self) -> int:
+        return self.place
+
+
 class Names(unittest.TestCase):
     def test_lookup(self) -> None:
         for name in ("cesu-8", "CESU-8", "cesu_8", "cesu 8", "cesu8", "CESU8"):
@@ -143,12 +153,15 @@ class Decoding(unittest.TestCase):
             (lambda error: ("!", -1 if error.start > 1 else error.end), "A!BC!D"),
             (lambda error: ("!", len(error.object)), "A!"),
             (lambda error: ("\ud800\U0001f496", error.end), "A\ud800\U0001f496BC\ud800\U0001f496D"),
+            (lambda error: ("!", Place(error.end)), "A!BC!D"),
             (lambda error: ("!", 1 << 70), IndexError),
             (lambda error: ("!", 7), IndexError),
             (lambda error: ("!", -7), IndexError),
+            (lambda error: ("!", Place(7)), IndexError),
             (lambda error: (b"!", error.end), TypeError),
             (lambda error: ["!", error.end], TypeError),
             (lambda error: ("!", None), TypeError),
+            (lambda error: ("!", float(error.end)), TypeError),
             (lambda error: None, TypeError),
             (lambda error: 1 // 0, ZeroDivisionError),
         ):
@@ -159,6 +172,41 @@ class Decoding(unittest.TestCase):
                 with self.assertRaises((wanted, RuntimeError)) as caught:
                     data.decode("mutf-8", "cesu8.own")
                 self.assertIsInstance(caught.exception, wanted)
+
+    def test_what_is_said_of_wrong_answers(self) -> None:
+        """What Python's own codecs say, without what they put around it."""
+        for answer, said in (
+            (("!", 7), "position 7 from error handler out of bounds"),
+            (("!", -7), "position -1 from error handler out of bounds"),
+            ((b"!", 2), "decoding error handler must return (str, int) tuple"),
+            (["!", 2], "decoding error handler must return (str, int) tuple"),
+        ):
+            codecs.register_error("cesu8.own", lambda error: answer)
+            with self.assertRaises((IndexError, TypeError)) as caught:
+                cesu8.decode(b"A\xffBC\xffD", "mutf-8", "cesu8.own")
+            self.assertEqual(str(caught.exception), said)
+        for answer, said in (
+            (("!", 6), "position 6 from error handler out of bounds"),
+            ((5, 2), "encoding error handler must return (str/bytes, int) tuple"),
+            ("!", "encoding error handler must return (str/bytes, int) tuple"),
+        ):
+            codecs.register_error("cesu8.own", lambda error: answer)
+            with self.assertRaises((IndexError, TypeError)) as caught:
+                cesu8.encode("a\ud800b\ud801c", "mutf-8", "cesu8.own")
+            self.assertEqual(str(caught.exception), said)
+
+    def test_handlers_registered_anew(self) -> None:
+        """Decoding does not call them if they have the name of one of Python's own."""
+        data = b"A\xff\xed\xa0\x80B"
+        for errors in HANDLERS:
+            wanted = model.decoded(data, "mutf-8", errors)
+            self.addCleanup(codecs.register_error, errors, codecs.lookup_error(errors))
+            codecs.register_error(errors, lambda error: ("anew", error.end))
+            if isinstance(wanted, str):
+                self.assertEqual(data.decode("mutf-8", errors), wanted)
+            else:
+                with self.assertRaises(UnicodeDecodeError):
+                    data.decode("mutf-8", errors)
 
     def test_handler_with_other_input(self) -> None:
         def mend(error: UnicodeError) -> tuple[str, int]:
@@ -259,6 +307,7 @@ class Encoding(unittest.TestCase):
             (lambda error: ("\0\U0001f496", error.end), "a\0\U0001f496b\0\U0001f496c"),
             (lambda error: ("!", error.end + 1), b"a!!"),
             (lambda error: ("!", -1), b"a!c"),
+            (lambda error: ("!", Place(error.end)), b"a!b!c"),
             (lambda error: ("!", 6), IndexError),
             (lambda error: ("\ud800", error.end), UnicodeEncodeError),
             (lambda error: (5, error.end), TypeError),
