@@ -5,6 +5,7 @@ from __future__ import annotations
 import array
 import codecs
 import functools
+import itertools
 import mmap
 import threading
 import unittest
@@ -240,8 +241,11 @@ class JavaStrings(unittest.TestCase):
 
     def test_handlers_stay_in_the_string(self) -> None:
         """A character that the string cuts is cut, though the data goes on with its last byte."""
-        data = b"front" + bytes.fromhex("00 04 41 FF E2 82") + b"\xacrest"
-        for row, first in ((data, 7), (bytearray(data), 0)):
+        string = bytes.fromhex("00 04 41 FF E2 82")
+        for front, kind in itertools.product((b"", b"front"), (bytes, bytearray)):
+            row = kind(front + string + b"\xacrest")
+            # In bytes a place is of the data, and else of the string.
+            first = len(front) + 2 if kind is bytes else 0
             asked = []
             answers = [first + 2, -1, first + 4]
 
@@ -250,14 +254,17 @@ class JavaStrings(unittest.TestCase):
                 return "!", answers[len(asked) - 1]
 
             codecs.register_error("cesu8.own", handler)
-            self.assertEqual(cesu8.read_utf(row, 5, "cesu8.own"), ("A!!!", 11))
+            found = cesu8.read_utf(row, len(front), "cesu8.own")
+            self.assertEqual(found, ("A!!!", len(front) + 6))
             reasons = ["invalid start byte", "unexpected end of data", "invalid start byte"]
             self.assertEqual(asked, list(enumerate(reasons, 1)))
-            for place in (first + 5, first - 1 if first else -5, -20):
+            # Every place before the string, and one behind it. From its end the first is at -4.
+            for place in (*range(first), first + 5, -5, -20):
                 asked.clear()
                 answers = [place]
-                with self.assertRaises(IndexError):
-                    cesu8.read_utf(row, 5, "cesu8.own")
+                # The handler itself raises another one if it is asked again.
+                with self.assertRaisesRegex(IndexError, "position -?[0-9]+ from error handler"):
+                    cesu8.read_utf(row, len(front), "cesu8.own")
 
     def test_places(self) -> None:
         self.assertEqual(cesu8.read_utf(bytes.fromhex("00 00 07")), ("", 2))

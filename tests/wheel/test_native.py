@@ -18,6 +18,7 @@ COUNTS = (0, 1, 100, 4000)
 TEXTS = [count * text for count in COUNTS for text in ("a", "\xe4", "\u20ac", tables.PATTERN[0])]
 
 DATA = b"\0\x02data"
+WIDE = memoryview(bytes(8)).cast("I")
 HANDLERS = ("replace", "ignore", "backslashreplace", "surrogateescape", "cesu8.own")
 CODECS = (
     (_native.cesu_8_encode, _native.cesu_8_decode),
@@ -34,7 +35,12 @@ CALLS = [
     (_native.write_utf, {"text": "a", "errors": "strict"}, 1),
     (_native.read_utf, {"data": b"\0\x01a", "start": 0, "errors": "strict"}, 1),
     *((encode, {"input": "a", "errors": "strict"}, 1) for encode, _ in CODECS),
-    *((decode, {"input": b"a", "errors": "strict", "final": True}, 1) for _, decode in CODECS),
+    # Of a view alone the text is found another way.
+    *(
+        (decode, {"input": data, "errors": "strict", "final": True}, 1)
+        for _, decode in CODECS
+        for data in (b"a", memoryview(b"a"))
+    ),
 ]
 
 
@@ -55,7 +61,7 @@ class Arguments(unittest.TestCase):
                 call(*values, values[0])
             with self.assertRaises(TypeError):
                 call(*values, **{next(iter(arguments)): values[0]})
-            with self.assertRaises(TypeError):
+            with self.assertRaisesRegex(TypeError, "unknown name"):
                 call(*values[:needed], unknown=values[0])
 
     def test_types(self) -> None:
@@ -78,6 +84,20 @@ class Arguments(unittest.TestCase):
             for name in arguments.keys() & {"encoding", "errors"}:
                 with self.assertRaisesRegex(ValueError, "null"):
                     call(**{**arguments, name: arguments[name] + "\0"})
+
+    def test_what_is_said(self) -> None:
+        """The name or the numbers that are refused are named."""
+        for error, said, call, *arguments in (
+            (LookupError, "cesu8 has no encoding 'utf-8'", _native.encode, "a", "utf-8"),
+            (LookupError, "cesu8 has no encoding ''", _native.decode, b"a", ""),
+            (EOFError, "the string at 3 is cut: 3 bytes are there", _native.read_utf, DATA, 3),
+            (EOFError, "the string at 0 is cut: 1 bytes are there", _native.read_utf, bytearray(1)),
+            (ValueError, "start is 7, and the data has 6 bytes", _native.read_utf, DATA, 7),
+            (ValueError, "start is -1, and the data has 8 bytes", _native.read_utf, WIDE, -1),
+        ):
+            with self.assertRaises(error) as caught:
+                call(*arguments)
+            self.assertEqual(str(caught.exception), said)
 
     def test_values_that_raise(self) -> None:
         class Raises:
@@ -102,9 +122,10 @@ class Results(unittest.TestCase):
                 for encoding, (encode, decode) in zip(model.ENCODINGS, CODECS):
                     encoded = len(text) * model.encoded(character, encoding)
                     self.assertEqual(encode(text), (encoded, len(text)))
-                    for errors in ("strict", "replace"):
-                        for data in (encoded, memoryview(encoded)):
-                            self.assertEqual(decode(data, errors), (text, len(encoded)))
+                    for data in (encoded, memoryview(encoded)):
+                        # A view alone goes another way than one with a handler.
+                        for handler in ((), ("strict",), ("replace",)):
+                            self.assertEqual(decode(data, *handler), (text, len(encoded)))
 
     def test_changes_that_keep_the_length(self) -> None:
         data = 200 * (b"\xff" + bytes.fromhex(tables.PAIR))
@@ -173,12 +194,14 @@ class Objects(unittest.TestCase):
                 string = _native.write_utf(text)
                 reversed_view = memoryview(string[::-1])[::-1]
                 column = memoryview(string).cast("B", [len(string), 1])
-                for data in (string, bytearray(string), reversed_view, column):
+                # Only items of more bytes that are not contiguous are copied as a whole.
+                items = (string[at : at + 2].ljust(2) + b"--" for at in range(0, len(string), 2))
+                spread = memoryview(b"".join(items)).cast("H")[::2]
+                for data in (string, bytearray(string), reversed_view, column, spread):
                     _native.read_utf(data, start=0, errors="ignore")
                 _native.write_utf(text + "\udcff", "ignore")
 
     def refuse(self) -> None:
-        wide = memoryview(bytes(8)).cast("I")
         for error, call, *arguments in (
             (UnicodeEncodeError, _native.encode, "a\ud800", "cesu-8"),
             (UnicodeEncodeError, _native.mutf_8_encode, "a\ud800"),
@@ -199,7 +222,8 @@ class Objects(unittest.TestCase):
             (LookupError, _native.decoded_len, b"a", "utf-8"),
             (TypeError, _native.decode, "a", "mutf-8"),
             (ValueError, _native.read_utf, DATA, 7),
-            (ValueError, _native.read_utf, wide, 9),
+            (ValueError, _native.read_utf, WIDE, 9),
+            (ValueError, _native.read_utf, WIDE[::2], 9),
             (EOFError, _native.read_utf, DATA, 2),
             (EOFError, _native.read_utf, bytearray(DATA), 5),
             (UnicodeDecodeError, _native.read_utf, b"\0\x01\xff"),

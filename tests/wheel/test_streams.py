@@ -207,14 +207,14 @@ class Streams(unittest.TestCase):
             self.assertEqual(list(reader), text.splitlines(keepends=True))
 
     def test_reader_at_the_end(self) -> None:
-        for count in range(1, 6):
+        for encoding, count in itertools.product(model.ENCODINGS, range(1, 6)):
             cut = b"line\n" + bytes.fromhex(tables.PAIR)[:count]
+            reader = codecs.getreader(encoding)
             with self.assertRaises(UnicodeDecodeError):
-                codecs.getreader("cesu-8")(io.BytesIO(cut)).read()
-            reader = codecs.getreader("cesu-8")(io.BytesIO(cut), "replace")
-            self.assertEqual(reader.read(), "line\n" + count * tables.R)
+                reader(io.BytesIO(cut)).read()
+            self.assertEqual(reader(io.BytesIO(cut), "replace").read(), "line\n" + count * tables.R)
             with self.assertRaises(UnicodeDecodeError):
-                list(codecs.getreader("cesu-8")(io.BytesIO(cut)))
+                list(reader(io.BytesIO(cut)))
 
     def test_writer(self) -> None:
         raw = io.BytesIO()
