@@ -3,11 +3,13 @@
 #   tests/clauses.sh            compares, and prints what is wrong and then the counts
 #   tests/clauses.sh --write    writes tests/clauses.txt again from the sources
 # These have to hold:
-# - docs/PROVED.md names each public clause, and none that is not in the sources;
+# - docs/PROVED.md names each public clause, and none that is not in the sources, and its words have the
+#   names, numbers and faults of the clauses beside them, as tests/words.awk tells;
 # - each clause and law that README.md names is in the sources, and each function that a page has `rt check`
 #   look at;
 # - a public function has an `ensures` and no `requires`;
-# - what is there twice, for each encoding or kernel, is the same;
+# - what is there twice, for each encoding or kernel, is the same, and what is there once, for both
+#   encodings, names neither in its clauses;
 # - tests/clauses.txt has each public clause, signature and type, and the definitions that they
 #   cite, so that a change of these is a changed line there.
 # What a crate hands on from one below it is told as its own.
@@ -103,10 +105,10 @@ of_cesu8() {
     sed 's/Cesu8/(Cesu8 of mutf8)/g; s/Mutf8/Cesu8/g; s/cesu8_mutf8_/cesu8_/g'
 }
 
-# What is said of encodings: code units are the same in both, so what is said of them is in the root
-# alone.
+# What has to be said of MUTF-8 too: all that names an encoding, and what mutf8 has of the rest, as the file
+# tells: `of_encodings FILE`.
 of_encodings() {
-    awk -F '\t' '$2 !~ /utf16/'
+    awk -F '\t' 'FNR == NR { is_in_mutf8[$2]; next } $2 in is_in_mutf8 || /Cesu8/' "$1" -
 }
 
 # What stands twice has to say the same: `same WHAT FILE FILE`, the files of what is told.
@@ -118,8 +120,8 @@ same() {
 sources() {
     local kernel
     everything >"$scratch/everything"
-    those simd_cesu8 '' | of_encodings >"$scratch/root"
     those simd_cesu8 mutf8:: | of_cesu8 | sort >"$scratch/mutf8"
+    those simd_cesu8 '' | of_encodings "$scratch/mutf8" >"$scratch/root"
     same 'the calls of the root and of mutf8' "$scratch/root" "$scratch/mutf8"
     those simd_cesu8 implementation::simd:: >"$scratch/simd"
     for kernel in $(told '!fn' | sed -n 's,^simd_cesu8 implementation::\([a-z]*\)::.*,\1,p' |
@@ -127,8 +129,8 @@ sources() {
         those simd_cesu8 "implementation::$kernel::" >"$scratch/kernel"
         same "the kernels simd and $kernel" "$scratch/simd" "$scratch/kernel"
     done
-    those cesu8_static '' | of_encodings >"$scratch/exports"
     those cesu8_static mutf8:: | of_cesu8 | sort >"$scratch/exports_mutf8"
+    those cesu8_static '' | of_encodings "$scratch/exports_mutf8" >"$scratch/exports"
     same 'the exports of the two encodings' "$scratch/exports" "$scratch/exports_mutf8"
     awk -F '\t' -v OFS='\t' '
         $3 != "!item" {
@@ -193,6 +195,7 @@ page() {
     ' docs/PROVED.md | sort -u >"$scratch/page"
     comm -13 "$scratch/sources" "$scratch/page" | none 'named in docs/PROVED.md, and not there'
     comm -23 "$scratch/sources" "$scratch/page" | none 'not named in docs/PROVED.md'
+    awk -f tests/words.awk "$scratch/clauses.txt" docs/PROVED.md | none 'in docs/PROVED.md'
 }
 
 # The README names functions with clauses of theirs, in code with a colon between, and laws.

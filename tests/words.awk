@@ -1,0 +1,202 @@
+# Compares the words of docs/PROVED.md with the clauses that stand beside them:
+#   awk -f words.awk tests/clauses.txt docs/PROVED.md
+# A row's text is the signatures and clauses that its last cell names, with all definitions that these cite.
+# A line is printed for each of these:
+# - the words have a name in code or a hexadecimal number that is not in the row's text;
+# - a clause names a fault, or `None`, that the words do not name;
+# - by the words a case comes "exactly where" something is so, and no clause says that both ways.
+# Nothing else of the words is compared.
+
+# The lines of clauses.txt: of a public item by its crate and name, of a definition by its name.
+FNR == NR && /^#/ { next }
+FNR == NR {
+    crate = $1
+    item = $2
+    sub(/:$/, "", item)
+    text = substr($0, length($1 " " $2) + 2)
+    if (item ~ /\.antt$/) define()
+    else keep()
+    next
+}
+
+/^## / {
+    crate = $2
+    gsub(/`/, "", crate)
+}
+/^\|/ && !/^\|---/ && !/\| clause \|$/ { row() }
+
+# Keeps a line of an item by its clause. A line without one is a signature or the head of a type.
+function keep(clause) {
+    clause = ""
+    if (text ~ /^ensures \{/) clause = "-"
+    else if (text ~ /^ensures /) clause = word(text, 2)
+    else if (match(text, /, ghost [a-z_]+ = /)) clause = word(substr(text, RSTART), 3)
+    lines[crate, item, clause] = lines[crate, item, clause] "\n" text
+    is_crate[crate]
+    sub(/.*::/, "", item)
+    if (text ~ /^pub (extern "C" )?fn /) signature_of[item] = text
+    if (match(text, /^pub enum [^{]*\{/)) keep_cases(item, substr(text, RLENGTH + 1))
+}
+
+BEGIN { keep_cases("Option", "None") }
+
+# Keeps the cases of a type. Those of a fault, and `None`, the words have to name.
+function keep_cases(type, list, words, count, i) {
+    gsub(/\([^()]*\)/, "", list)
+    gsub(/[^A-Za-z0-9_]+/, " ", list)
+    cases_in[type] = list
+    count = split(list, words, " ")
+    for (i = 1; i <= count && type ~ /^Option$|Fault$/; i++) is_fault[words[i]]
+}
+
+function word(line, number, words) {
+    split(line, words, " ")
+    return words[number]
+}
+
+# A definition's head is followed by its lines, which begin with two spaces.
+function define(words, i) {
+    if (text ~ / is Rattle\./) return
+    if (text !~ /^ /) {
+        split(text, words, " ")
+        for (i = 1; words[i] ~ /^(abbrev|unfoldable|pub|data|record)$/;) i++
+        name = words[i]
+        crates_of[name] = crates_of[name] " " crate
+    }
+    body_of[crate, name] = body_of[crate, name] "\n" text
+}
+
+# Adds a piece to the row's text, with the definitions that it cites: the crate's own, or another's.
+function add(piece, crate, words, count, i, at) {
+    row_text = row_text "\n" piece
+    gsub(/[^A-Za-z0-9_]+/, " ", piece)
+    count = split(piece, words, " ")
+    for (i = 1; i <= count; i++) {
+        if (!(words[i] in crates_of)) continue
+        at = crate
+        if (!((at, words[i]) in body_of)) at = word(crates_of[words[i]], 1)
+        if ((at, words[i]) in is_cited) continue
+        is_cited[at, words[i]]
+        add(body_of[at, words[i]], at)
+    }
+}
+
+# Compares a row.
+function row(cells, cell, place) {
+    cells = split($0, cell, "|")
+    row_text = named = cases = ""
+    split("", is_cited)
+    read_names(cell[cells - 1])
+    words = cell[2]
+    place = crate ", \"" substr(words, 2, 40) "..\": "
+    compare_code(place)
+    compare_numbers(place)
+    compare_cases(place)
+    compare_both_ways(place)
+}
+
+# Reads a row's last cell: `named` has the clauses, `row_text` also the rest, `cases` those of the types.
+function read_names(names, entry, entries, owner, owners, clause, clauses, at, i, j, k) {
+    gsub(/[` ]/, "", names)
+    entries = split(names, entry, ";")
+    for (i = 1; i <= entries; i++) {
+        at = match(entry[i], /[^:]:[^:]/)
+        owners = split(at ? substr(entry[i], 1, at) : entry[i], owner, ",")
+        clauses = split(at ? substr(entry[i], at + 2) : "-", clause, ",")
+        for (j = 1; j <= owners; j++) {
+            add(lines[crate, owner[j], ""], crate)
+            cases = cases " " cases_of(lines[crate, owner[j], ""])
+            for (k = 1; k <= clauses; k++) {
+                named = named lines[crate, owner[j], clause[k]]
+                add(lines[crate, owner[j], clause[k]], crate)
+            }
+        }
+    }
+}
+
+# Whether the row's text has a word.
+function has(name) {
+    return row_text ~ ("[^A-Za-z0-9_]" name "[^A-Za-z0-9_]")
+}
+
+# The names in code. The name of a case may also be in a type that a function returns which the row or its
+# words name.
+function compare_code(place, rest, code) {
+    rest = words
+    while (match(rest, /`[^`]+`/)) {
+        code = substr(rest, RSTART + 1, RLENGTH - 2)
+        rest = substr(rest, RSTART + RLENGTH)
+        if (code in signature_of) cases = cases " " cases_of(signature_of[code])
+        if (!is_right(code)) print place "no clause has `" code "`"
+    }
+}
+
+# Whether a name is a function's, the end of one, a crate's, or in the row's text. Rust's types and `{}` are
+# not compared.
+function is_right(code, name) {
+    if (code ~ /^[&{]/ || code in signature_of || code in is_crate) return 1
+    if (code ~ /^_/) {
+        for (name in signature_of) if (index(name, code) > 1) return 1
+        return 0
+    }
+    if (code ~ /^(usize::MAX|SIZE_MAX)$/) return has("(2 \\^ 64|usize\\.MAX)")
+    if (code == "cmp") return has("slice_cmp")
+    return has(code) || has(camel(code)) || index(cases, " " code " ") > 0
+}
+
+# The case that stands for a word of a command: JavaWrite for java-write.
+function camel(code, parts, part, i, name) {
+    parts = split(code, part, "-")
+    for (i = 1; i <= parts; i++) name = name toupper(substr(part[i], 1, 1)) substr(part[i], 2)
+    return name
+}
+
+# The cases of the types that a signature names.
+function cases_of(signature, words, count, i, all) {
+    gsub(/[^A-Za-z0-9_]+/, " ", signature)
+    count = split(signature, words, " ")
+    for (i = 1; i <= count; i++) all = all " " cases_in[words[i]] " "
+    return all
+}
+
+# The hexadecimal numbers: those of a character, 00, and those with a letter or before "(hexadecimal)".
+function compare_numbers(place, rest, number) {
+    rest = words
+    gsub(/`[^`]*`|UTF-(8|16)|[CM][A-Z]+-8/, "", rest)
+    while (match(rest, /(U\+)?[0-9A-F][0-9A-F]+/)) {
+        number = substr(rest, RSTART, RLENGTH)
+        rest = substr(rest, RSTART + RLENGTH)
+        if (!sub(/^U\+/, "", number) && rest !~ /^ \(hexadecimal\)/ && number != "00" &&
+            number !~ /[0-9][A-F]|[A-F][0-9]/) continue
+        if (number ~ /^0+$/ ? has("0") : has("0x" number)) continue
+        print place "no clause has " number
+    }
+}
+
+# The faults that the row's clauses name by On, If or a type, and `None`. `Memory` is not compared, since
+# some rows call it out of memory, and others leave it out.
+function compare_cases(place, rest, name) {
+    rest = named
+    while (match(rest, /(On|If)[A-Z][a-z]+|Fault\.[A-Z][A-Za-z]+/)) {
+        name = substr(rest, RSTART, RLENGTH)
+        rest = substr(rest, RSTART + RLENGTH)
+        sub(/^(On|If|Fault\.)/, "", name)
+        if (!(name in is_fault) || name == "Memory" || tolower(words) ~ tolower(name)) continue
+        print place "the words do not name " name
+    }
+}
+
+# A case that comes "exactly where" something is so: an equivalence has it on its left, or both cases of
+# an `Option` have clauses, or a clause leaves no other fault than out of memory.
+function compare_both_ways(place, rest, name) {
+    rest = words
+    while (match(rest, /`[A-Za-z_]+`( [a-z]+)? exactly (where|when|if|for)/)) {
+        name = substr(rest, RSTART + 1)
+        sub(/`.*/, "", name)
+        rest = substr(rest, RSTART + RLENGTH)
+        if (row_text ~ (name "[^\n→]* ↔")) continue
+        if (name == "None" && named ~ /IfNone/ && named ~ /IfSome/) continue
+        if (named ~ /IsOkUnless/) continue
+        print place "no clause says both ways where `" name "` comes"
+    }
+}
