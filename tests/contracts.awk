@@ -138,6 +138,9 @@ function item(    taken) {
         open_impl()
     else if (text ~ /^(pub(\([a-z: ]*\))? )?mod [A-Za-z0-9_]+ *[{]/)
         open_module()
+    else if (text ~ /^macro_rules! [a-z_]+ *[{]/)
+        # A macro has no contract, and other crates can't see it.
+        take(end_of("{", "}"))
     else if (text ~ /^ghost [a-z_]+ *=/)
         ghost_member()
     else if (text ~ /^(pub|ghost|mod|use|type|const|static|extern|struct|enum|trait)[ (]/)
