@@ -12,8 +12,8 @@ ghost use Rattle.cesu8_cli.specs.Answer.{IsAnswer, TakesNoMemory, IsUtf8Fault, I
 use crate::command::{Command, FlavorWord};
 use crate::fault::RunFault;
 use java_text::{read_utf, write_utf};
-use simd_cesu8::implementation::text_of;
 use simd_cesu8::{CowBytes, CowText, laws, mutf8};
+use simdutf8::compat;
 use std::alloc::Global;
 
 /// Returns the output of the command, or the fault.
@@ -76,9 +76,9 @@ fn input_text(input: &[u8]) -> Result<&str, RunFault>
     ensures ok { IfOk result (λ text. IsUtf8Of (chars text.now) input.now) }
     ensures err { IfErr result (λ fault. IsUtf8Fault input.now fault) }
 {
-    match text_of(input) {
-        Some(text) => Ok(text),
-        None => Err(RunFault::NotUtf8),
+    match compat::from_utf8(input) {
+        Ok(text) => Ok(text),
+        Err(_) => Err(RunFault::NotUtf8),
     }
 }
 
