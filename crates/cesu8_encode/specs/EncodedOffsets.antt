@@ -24,7 +24,7 @@ six_bits b next = bit_or (bit_and (b * 4 % 0x100) 0x3C) (bit_and (next / 0x10) 3
 abbrev pub changed : Flavor → ℕ → ℕ → ℕ → ℕ → ℕ
 changed f two_before before b next =
     if is_at_least_f0 b || is_at_least_f0 before
-    then (six_bits b next + (if is_at_least_f0 b then 0x9F else 0x80)) % 0x100
+    then six_bits b next + (if is_at_least_f0 b then 0x9F else 0x80)
     else bit_or (bit_or b (if is_at_least_f0 two_before then 0x30 else 0)) (if is_null f b then 0x80 else 0)
 
 -- What is written for a byte.

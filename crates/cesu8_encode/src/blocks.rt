@@ -110,11 +110,11 @@ fn encode_block<F: Flavor>(window: &[u8], at: usize) -> EncodedBlock
     let six_bits = ((bytes << u8x32::splat(2)) & u8x32::splat(0x3C))
         | ((next >> u8x32::splat(4)) & u8x32::splat(0x03));
     // For a lead byte 80 becomes 9F: A0, the least second byte of a pair, less the plane offset.
-    let of_high = six_bits + (u8x32::splat(0x80) + (lead & u8x32::splat(0x1F)));
+    let of_high = six_bits.strict_add(u8x32::splat(0x80) | (lead & u8x32::splat(0x1F)));
     let other = bytes | (lead_two_before & u8x32::splat(0x30)) | (null & u8x32::splat(0x80));
     let is_of_high = lead | lead_before;
-    // No byte is both, so `+` joins the tests. `|` would do so too, but compiles to a third test.
-    let doubled = (lead + null) | lead_two_before;
+    // No byte is both, so a sum joins the tests. `|` would do so too, but compiles to a third test.
+    let doubled = lead.strict_add(null) | lead_two_before;
     EncodedBlock {
         seconds: is_of_high.simd_eq(u8x32::splat(0)).select(other, of_high),
         firsts: null

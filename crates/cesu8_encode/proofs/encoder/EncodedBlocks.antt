@@ -1,15 +1,43 @@
 -- What the encoder's vectors say of the offsets of a block.
-use Rattle.std.proofs.Common.{◌≡◌, ℕ, ◌+◌, ◌%◌, ◌^◌, ◌≤◌, List, map, length, get_or, replicate, arith}
+use Rattle.std.proofs.Common.{◌≡◌, ℕ, ◌+◌, ◌%◌, ◌^◌, ◌≤◌, ◌∙◌, List, map, length, get_or, replicate, arith, w8, Fits}
 use Rattle.std.specs.List.{range_with_len}
 use Rattle.std.proofs.lemmas.List.FromFn.{length-range_with_len}
-use lib.Lanes.{zip2, mask_l, chunk, top}
+use Rattle.std.proofs.lemmas.Simd.{length-chunk, zip2_of_maps}
+use lib.Lanes.{zip2, mask_l, chunk, top, Each2}
 use Rattle.cesu8_text.specs.Encoding.{Flavor}
 use Rattle.cesu8_text.specs.Class.{is_at_least_f0, is_null}
 use Rattle.cesu8_bytes.specs.Kernels.{mask}
 use Rattle.cesu8_encode.specs.EncodedOffsets.{six_bits, changed_at, inserted_at, is_doubled_at}
 use Rattle.cesu8_bytes.proofs.lists.Lanes.{equal}
 use Rattle.cesu8_bytes.proofs.vectors.Loads.{loaded}
-use Rattle.cesu8_encode.proofs.encoder.EncodedLanes.{second_vector, second_lanes, first_vector, first_lanes, doubled_vector, doubled_bits, lead_or_null}
+use Rattle.cesu8_encode.proofs.encoder.EncodedLanes.{six_bit_lanes, six_bits_are, high_starts, highs_fit, second_vector, second_lanes, first_vector, first_lanes, doubled_vector, eithers_fit, doubled_bits, lead_or_null}
+
+module _ (window : List ℕ) (at : ℕ) (room : at + 35 ≤ length window) where
+  -- Two loads have the six bits of each byte of a block,
+  pub six_at : six_bit_lanes 32 (chunk (at + 2) 32 window) (chunk (at + 3) 32 window)
+      ≡ map (λ i. six_bits (get_or window (i + 2) 0) (get_or window (i + 3) 0)) (range_with_len at 32)
+  six_at =
+      six_bits_are (chunk (at + 2) 32 window) (chunk (at + 3) 32 window)
+      (length-chunk (at + 2) 32 window (omega arith)) (length-chunk (at + 3) 32 window (omega arith))
+      ∙ zip2_of_maps six_bits (λ i. get_or window (i + 2) 0) (λ i. get_or window (i + 3) 0) (range_with_len at 32)
+      (loaded window at 2 32 (omega arith)) (loaded window at 3 32 (omega arith))
+
+  -- and what these are added to leaves room for them.
+  pub highs_fit_at : (lead : List ℕ) → lead ≡ map (λ i. mask (is_at_least_f0 (get_or window (i + 2) 0))) (range_with_len at 32) →
+      Each2 (λ a b. Fits w8 (a + b)) (six_bit_lanes 32 (chunk (at + 2) 32 window) (chunk (at + 3) 32 window)) (high_starts 32 lead)
+  highs_fit_at lead lead_is =
+      rw (six_at, lead_is)
+      (highs_fit (λ i. is_at_least_f0 (get_or window (i + 2) 0)) (λ i. get_or window (i + 2) 0) (λ i. get_or window (i + 3) 0) (range_with_len at 32))
+
+-- No byte leads four and is null, so one sum joins both tests.
+pub eithers_fit_at : (f : Flavor) (window : List ℕ) (at : ℕ) (lead null : List ℕ) →
+    lead ≡ map (λ i. mask (is_at_least_f0 (get_or window (i + 2) 0))) (range_with_len at 32) →
+    null ≡ map (λ i. mask (is_null f (get_or window (i + 2) 0))) (range_with_len at 32) →
+    Each2 (λ a b. Fits w8 (a + b)) lead null
+eithers_fit_at f window at lead null lead_is null_is =
+    rw (lead_is, null_is)
+    (eithers_fit (λ i. is_at_least_f0 (get_or window (i + 2) 0)) (λ i. is_null f (get_or window (i + 2) 0))
+    (λ i. lead_or_null f (get_or window (i + 2) 0)) (range_with_len at 32))
 
 -- The vectors of a block, from which its lanes are made.
 pub record AreMarks (f : Flavor) (window : List ℕ) (at : ℕ) (lead before two_before null six : List ℕ) : Type 0 where

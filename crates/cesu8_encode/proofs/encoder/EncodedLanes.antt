@@ -1,11 +1,13 @@
 -- What the vectors of the encoder hold, lane by lane.
 use Rattle.std.proofs.lemmas.Grind.{common_steps}
-use Rattle.std.proofs.Common.{◌≡◌, ℕ, ◌+◌, ◌*◌, ◌/◌, ◌%◌, ◌^◌, Bool, false, cond, ◌||◌, ◌&&◌, List, [], ◌∷◌, map, length, replicate, eqb, bit_and, bit_or, refl, sym, ap, ◌∙◌, subst, arith, w8}
+use Rattle.std.proofs.Common.{◌≡◌, ℕ, ◌+◌, ◌*◌, ◌/◌, ◌%◌, ◌^◌, ◌<◌, Bool, true, false, cond, ◌||◌, ◌&&◌, List, [], ◌∷◌, map, length, replicate, eqb, bit_and, bit_or, refl, sym, ap, ◌∙◌, subst, arith, w8, Fits}
 use Rattle.std.specs.List.{flat_map}
+use Rattle.std.proofs.lemmas.Bool.{true≢false}
 use Rattle.std.proofs.lemmas.Bool.Decides.{nat_tests}
 use Rattle.std.proofs.lemmas.List.{length-map}
 use Rattle.std.proofs.lemmas.Simd.{bitmask_splat}
-use lib.Lanes.{zip2, sel_l, mask_l, top}
+use Rattle.std.proofs.lemmas.Nat.{or_lt, and_le_r}
+use lib.Lanes.{zip2, sel_l, mask_l, top, Each2}
 use Rattle.cesu8_text.specs.Encoding.{Flavor, Cesu8, Mutf8}
 use Rattle.cesu8_text.specs.Class.{is_at_least_f0, is_null}
 use Rattle.cesu8_bytes.specs.Kernels.{mask}
@@ -18,7 +20,7 @@ shl a b = a * 2 ^ b % 2 ^ 8
 abbrev shr : ℕ → ℕ → ℕ
 shr a b = a / 2 ^ b
 
-abbrev six_bit_lanes : ℕ → List ℕ → List ℕ → List ℕ
+abbrev pub six_bit_lanes : ℕ → List ℕ → List ℕ → List ℕ
 six_bit_lanes n bytes next =
     zip2 bit_or (zip2 bit_and (zip2 shl bytes (replicate n 2)) (replicate n 0x3C)) (zip2 bit_and (zip2 shr next (replicate n 4)) (replicate n 3))
 
@@ -35,21 +37,25 @@ six_bits_are bytes next long long_next =
 
 -- ---- what becomes of the bytes, at offsets vs
 
+-- 80, and 9F for a lead byte: what the six bits are added to.
+abbrev pub high_starts : ℕ → List ℕ → List ℕ
+high_starts n lead = zip2 bit_or (replicate n 0x80) (zip2 bit_and lead (replicate n 0x1F))
+
 abbrev pub second_vector : ℕ → List ℕ → List ℕ → List ℕ → List ℕ → List ℕ → List ℕ → List ℕ
 second_vector n lead before two_before null bytes six =
     sel_l (map (top 7) (zip2 equal (zip2 bit_or lead before) (replicate n 0)))
     (zip2 bit_or (zip2 bit_or bytes (zip2 bit_and two_before (replicate n 0x30))) (zip2 bit_and null (replicate n 0x80)))
-    (zip2 (λ a b. (a + b) % 2 ^ 8) six (zip2 (λ a b. (a + b) % 2 ^ 8) (replicate n 0x80) (zip2 bit_and lead (replicate n 0x1F))))
+    (zip2 (λ a b. a + b) six (high_starts n lead))
 
 -- the second byte, from four tests, the byte and the six bits
 abbrev second : Bool → Bool → Bool → Bool → ℕ → ℕ → ℕ
 second lead before two_before null b six =
-    cond (lead || before) ((six + cond lead 0x9F 0x80) % 0x100) (bit_or (bit_or b (cond two_before 0x30 0)) (cond null 0x80 0))
+    cond (lead || before) (six + cond lead 0x9F 0x80) (bit_or (bit_or b (cond two_before 0x30 0)) (cond null 0x80 0))
 
 second_lane : (lead before two_before null : Bool) (b six : ℕ) →
     cond (top 7 (equal (bit_or (mask lead) (mask before)) 0))
     (bit_or (bit_or b (bit_and (mask two_before) 0x30)) (bit_and (mask null) 0x80))
-    ((six + (0x80 + bit_and (mask lead) 0x1F) % 2 ^ 8) % 2 ^ 8)
+    (six + bit_or 0x80 (bit_and (mask lead) 0x1F))
     ≡ second lead before two_before null b six
 second_lane lead before two_before null b six = grind (arith, nat_tests, common_steps)
 
@@ -61,6 +67,21 @@ module _ (lead before two_before null : ℕ → Bool) (byte six : ℕ → ℕ) w
       ≡ map (λ v. second (lead v) (before v) (two_before v) (null v) (byte v) (six v)) vs
   second_lanes [] = refl
   second_lanes (v ∷ vs) = λ i. second_lane (lead v) (before v) (two_before v) (null v) (byte v) (six v) i ∷ second_lanes vs i
+
+six_bits_low : (b next : ℕ) → six_bits b next < 0x40
+six_bits_low b next =
+    or_lt 6 (bit_and (b * 4 % 0x100) 0x3C) (bit_and (next / 0x10) 3)
+    (omega (arith, and_le_r (b * 4 % 0x100) 0x3C)) (omega (arith, and_le_r (next / 0x10) 3))
+
+high_fits : (lead : Bool) (six : ℕ) → six < 0x40 → Fits w8 (six + bit_or 0x80 (bit_and (mask lead) 0x1F))
+high_fits true six low = record { fits = omega arith }
+high_fits false six low = record { fits = omega arith }
+
+-- Six bits added to these fit a byte.
+pub highs_fit : (lead : ℕ → Bool) (b next : ℕ → ℕ) (vs : List ℕ) →
+    Each2 (λ a b. Fits w8 (a + b)) (map (λ v. six_bits (b v) (next v)) vs) (high_starts (length vs) (map (λ v. mask (lead v)) vs))
+highs_fit lead b next [] = tt
+highs_fit lead b next (v ∷ vs) = (high_fits (lead v) _ (six_bits_low (b v) (next v)), highs_fit lead b next vs)
 
 abbrev pub first_vector : ℕ → List ℕ → List ℕ
 first_vector n null = sel_l (map (top 7) (zip2 equal null (replicate n 0))) (replicate n 0xED) (replicate n 0xC0)
@@ -74,11 +95,23 @@ pub first_lanes : (null : ℕ → Bool) (vs : List ℕ) →
 first_lanes null [] = refl
 first_lanes null (v ∷ vs) = λ i. first_lane (null v) i ∷ first_lanes null vs i
 
-doubled_lane : (a b c : Bool) → (a && c) ≡ false → eqb (bit_or ((mask a + mask c) % 2 ^ 8) (mask b)) 0xFF ≡ ((a || b) || c)
+either_fits : (a c : Bool) → (a && c) ≡ false → Fits w8 (mask a + mask c)
+either_fits true true apart = absurd (true≢false apart)
+either_fits true false apart = record { fits = omega arith }
+either_fits false true apart = record { fits = omega arith }
+either_fits false false apart = record { fits = omega arith }
+
+-- The sums of two tests fit a byte where they never hold together.
+pub eithers_fit : (a c : ℕ → Bool) → ((v : ℕ) → (a v && c v) ≡ false) → (vs : List ℕ) →
+    Each2 (λ a b. Fits w8 (a + b)) (map (λ v. mask (a v)) vs) (map (λ v. mask (c v)) vs)
+eithers_fit a c apart [] = tt
+eithers_fit a c apart (v ∷ vs) = (either_fits (a v) (c v) (apart v), eithers_fit a c apart vs)
+
+doubled_lane : (a b c : Bool) → (a && c) ≡ false → eqb (bit_or (mask a + mask c) (mask b)) 0xFF ≡ ((a || b) || c)
 doubled_lane a b c apart = grind (arith, nat_tests)
 
 abbrev pub doubled_vector : List ℕ → List ℕ → List ℕ → List ℕ
-doubled_vector lead two_before null = zip2 bit_or (zip2 (λ a b. (a + b) % 2 ^ 8) lead null) two_before
+doubled_vector lead two_before null = zip2 bit_or (zip2 (λ a b. a + b) lead null) two_before
 
 doubled_lanes : (a b c : ℕ → Bool) → ((v : ℕ) → (a v && c v) ≡ false) → (vs : List ℕ) →
     map (λ x. eqb x 0xFF) (doubled_vector (map (λ v. mask (a v)) vs) (map (λ v. mask (b v)) vs) (map (λ v. mask (c v)) vs))

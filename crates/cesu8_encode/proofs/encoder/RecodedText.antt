@@ -76,10 +76,10 @@ low_surrogate : (c : ℕ) → c < 0x40 → bit_or (0x80 + c) 0x30 ≡ 0xB0 + c %
 low_surrogate c h = eqb-true _ _ (agree_below_at (λ c. eqb (bit_or (0x80 + c) 0x30) (0xB0 + c % 0x10)) (λ _. true) 0x40 c refl h)
 
 -- The first byte of four, the second and the third.
-lead_offset : (f : Flavor) (x y a b : ℕ) → 0xF0 ≤ a → encoded_byte f x y a b ≡ 0xED ∷ ((six_bits a b + 0x9F) % 0x100) ∷ []
+lead_offset : (f : Flavor) (x y a b : ℕ) → 0xF0 ≤ a → encoded_byte f x y a b ≡ 0xED ∷ (six_bits a b + 0x9F) ∷ []
 lead_offset f x y a b h = rw (le-leb 0xF0 a h, not_null f a (omega arith)) refl
 
-second_offset : (f : Flavor) (x a b c : ℕ) → x < 0xF0 → 0xF0 ≤ a → b < 0xF0 → 0 < b → encoded_byte f x a b c ≡ ((six_bits b c + 0x80) % 0x100) ∷ []
+second_offset : (f : Flavor) (x a b c : ℕ) → x < 0xF0 → 0xF0 ≤ a → b < 0xF0 → 0 < b → encoded_byte f x a b c ≡ (six_bits b c + 0x80) ∷ []
 second_offset f x a b c hx ha hb some = rw (lt-leb 0xF0 x hx, le-leb 0xF0 a ha, lt-leb 0xF0 b hb, not_null f b some) refl
 
 third_offset : (f : Flavor) (a b c d : ℕ) → 0xF0 ≤ a → b < 0xF0 → c < 0xF0 → 0 < c → encoded_byte f a b c d ≡ 0xED ∷ bit_or c 0x30 ∷ []
