@@ -1,5 +1,5 @@
 -- What decoding promises: a chunk of text at the front of bytes, all of it, and what is written for a window.
-use Rattle.std.specs.Prelude.{◌≡◌, ℕ, ◌+◌, ◌*◌, ◌<◌, ◌≤◌, Bool, true, false, List, [], ◌++◌, Vec, length, take, vec_capacity, Option, IfSome, IfNone, Result, IfOk}
+use Rattle.std.specs.Prelude.{◌≡◌, ℕ, ◌+◌, ◌*◌, ◌<◌, ◌≤◌, Bool, true, false, List, [], ◌++◌, Vec, length, take, vec_capacity, Result, IfOk, OnErr}
 use Rattle.cesu8_text.specs.Reading.{HasNoStrictReading, lossy_length}
 use Rattle.cesu8_text.specs.Encoding.{Flavor}
 use Rattle.cesu8_bytes.specs.declared.strictness.Strictness.{Strictness}
@@ -38,17 +38,17 @@ most_of_text f Strict bytes = length bytes
 most_of_text f Lossy bytes = lossy_length f bytes
 
 -- The text of the bytes is written to the front of a slice, unless strict reading refuses one of them.
-pub record WritesReading (f : Flavor) (which : Strictness) (bytes : List ℕ) (result : Option ℕ) (old new : List ℕ) : Type 0 where
-  pub text : IfSome result (λ end. IsReadSoFar f which bytes [] [] (take end new))
-  pub end : IfSome result (λ end. end ≤ most_written which (length bytes))
-  pub none : IfNone result ((which ≡ Strict) × HasNoStrictReading f bytes)
+pub record WritesReading {E : Type 0} (f : Flavor) (which : Strictness) (bytes : List ℕ) (result : Result ℕ E) (old new : List ℕ) : Type 0 where
+  pub text : IfOk result (λ end. IsReadSoFar f which bytes [] [] (take end new))
+  pub end : IfOk result (λ end. end ≤ most_written which (length bytes))
+  pub none : OnErr result ((which ≡ Strict) × HasNoStrictReading f bytes)
   pub len : length new ≡ length old
 
 -- The text of the bytes is appended to a vector, unless strict reading refuses one of them.
-pub record AppendsReading {Z : Type 0} (f : Flavor) (which : Strictness) (bytes : List ℕ) (before : Vec ℕ Z) (result : Option (Vec ℕ Z)) : Type 0 where
-  pub text : IfSome result (λ text. IsReadSoFar f which bytes [] before.items text.items)
-  pub capacity : IfSome result (λ text. vec_capacity text ≡ vec_capacity before)
-  pub none : IfNone result ((which ≡ Strict) × HasNoStrictReading f bytes)
+pub record AppendsReading {Z E : Type 0} (f : Flavor) (which : Strictness) (bytes : List ℕ) (before : Vec ℕ Z) (result : Result (Vec ℕ Z) E) : Type 0 where
+  pub text : IfOk result (λ text. IsReadSoFar f which bytes [] before.items text.items)
+  pub capacity : IfOk result (λ text. vec_capacity text ≡ vec_capacity before)
+  pub none : OnErr result ((which ≡ Strict) × HasNoStrictReading f bytes)
 
 -- The lossy reading is all that a vector has, and fills what was requested.
 pub record BuildsReading {Z E : Type 0} (f : Flavor) (bytes : List ℕ) (result : Result (Vec ℕ Z) E) : Type 0 where

@@ -42,6 +42,7 @@ mod way;
 use crate::front::FoundFront;
 use crate::refusal::Refusal;
 use cesu8_bytes::flavor::Flavor;
+use cesu8_bytes::strictness::NoText;
 use cesu8_bytes::utf8::known_string;
 use destinations::strings::{build_lossily, write_strictly};
 pub use lengths::{decoded_len, lossy_len};
@@ -63,8 +64,8 @@ pub fn decode_strict<F: Flavor>(
 {
     let empty = Vec::with_capacity(alloc, bytes.len()).map_err(Refusal::Memory)?;
     match write_strictly::<F>(bytes, front, empty) {
-        Some(text) => Ok(known_string(text)),
-        None => Err(Refusal::NoText),
+        Ok(text) => Ok(known_string(text)),
+        Err(NoText) => Err(Refusal::NoText),
     }
 }
 

@@ -1,6 +1,6 @@
 -- What bytes are read as behind a front in which nothing changes.
-use Rattle.std.proofs.Common.{◌≡◌, ℕ, ◌+◌, ◌^◌, ◌<◌, ◌≤◌, inl, inr, ⊎_elim, List, [], ◌∷◌, ◌++◌, refl, sym, ap, ◌∙◌, subst, arith, append_assoc, length, take, drop, length-drop, length-append, Ok, Err, Option, Some, None, Vec, vec_capacity}
-use Rattle.std.proofs.lemmas.Bool.{cases_lt}
+use Rattle.std.proofs.Common.{◌≡◌, ℕ, ◌+◌, ◌^◌, ◌<◌, ◌≤◌, inl, inr, ⊎_elim, List, [], ◌∷◌, ◌++◌, refl, sym, ap, ◌∙◌, subst, arith, append_assoc, length, take, drop, length-drop, length-append, Ok, Err, Result, IsErr, Vec, vec_capacity}
+use Rattle.std.proofs.lemmas.Bool.{cases_lt, false≢true}
 use Rattle.std.proofs.lemmas.Bool.Decides.{nat_tests}
 use Rattle.std.proofs.lemmas.List.{drop-drop, length-take-le}
 use Rattle.cesu8_text.specs.Encoding.{Flavor, Cesu8, Mutf8, encoding, IsEncodedOtherwise}
@@ -14,6 +14,7 @@ use Rattle.cesu8_text.proofs.encoding.Unique.{after_text}
 use Rattle.cesu8_text.proofs.reading.Decoding.{IsText_append, utf8_append}
 use Rattle.cesu8_text.proofs.reading.KeptTexts.{strict_only}
 use Rattle.cesu8_bytes.specs.TextChunks.{IsReadSoFar}
+use Rattle.cesu8_bytes.specs.declared.strictness.Strictness.{Strictness}
 use Rattle.cesu8_bytes.specs.declared.strictness.Strictness.TheVariants.{Strict}
 use Rattle.cesu8_bytes.specs.declared.writing.copies.NoRoom.{NoRoom}
 use Rattle.cesu8_decode.specs.declared.refusal.Unwritten.TheVariants as unwritten
@@ -72,16 +73,22 @@ module _ (f : Flavor) (bytes rest chunk : List ℕ) (read : IsChunk f Strict byt
 chunk_of : (f : Flavor) (bytes rest old new : List ℕ) (so_far : IsReadSoFar f Strict bytes rest old new) → IsChunk f Strict bytes rest (utf8 so_far.text)
 chunk_of f bytes rest old new so_far = grind arith
 
+-- Nothing is appended where there is no strict reading.
+pub none_appended : {Z E : Type 0} (f : Flavor) (which : Strictness) (bytes : List ℕ) (before : Vec ℕ Z) (result : Result (Vec ℕ Z) E) → IsErr result →
+    (which ≡ Strict) × HasNoStrictReading f bytes → AppendsReading f which bytes before result
+none_appended f which bytes before (Ok text) err none = absurd (false≢true err)
+none_appended f which bytes before (Err refusal) err none = record { text = tt; capacity = tt; none = none }
+
 -- Where the strict reading of the rest is appended behind what is read so far, that of all bytes is.
-pub appended_behind : {Z : Type 0} (f : Flavor) (bytes rest : List ℕ) (before between : Vec ℕ Z) (result : Option (Vec ℕ Z)) →
+pub appended_behind : {Z E : Type 0} (f : Flavor) (bytes rest : List ℕ) (before between : Vec ℕ Z) (result : Result (Vec ℕ Z) E) →
     IsReadSoFar f Strict bytes rest before.items between.items → vec_capacity between ≡ vec_capacity before →
     AppendsReading f Strict rest between result → AppendsReading f Strict bytes before result
-appended_behind f bytes rest before between None read same appends = record {
+appended_behind f bytes rest before between (Err refusal) read same appends = record {
   text = tt;
   capacity = tt;
   none = (refl, none_before f bytes rest _ (chunk_of f bytes rest before.items between.items read) appends.none.1);
 }
-appended_behind f bytes rest before between (Some text) read same appends = record {
+appended_behind f bytes rest before between (Ok text) read same appends = record {
   text = more_read f Strict bytes rest [] before.items between.items text.items read appends.text;
   capacity = appends.capacity ∙ same;
   none = tt;

@@ -1,5 +1,5 @@
 -- Text that a vector has.
-use Rattle.std.proofs.Common.{◌≡◌, ◌∙◌, sym, ap, arith, ℕ, ◌+◌, List, [], ◌++◌, length, length-append, append-nil, Vec, vec_capacity, Option, None, Some, Result, IfOk}
+use Rattle.std.proofs.Common.{◌≡◌, ◌∙◌, sym, ap, arith, ℕ, ◌+◌, List, [], ◌++◌, length, length-append, append-nil, Vec, vec_capacity, Result, Ok, IfOk}
 use Rattle.std.proofs.lemmas.Bool.Decides.{nat_tests}
 use Rattle.cesu8_text.specs.Encoding.{Flavor}
 use Rattle.cesu8_bytes.specs.TextChunks.{IsReadSoFar}
@@ -9,7 +9,6 @@ use Rattle.cesu8_bytes.specs.declared.strictness.Strictness.TheVariants.{Lossy}
 use Rattle.cesu8_text.specs.Reading.{lossy_length}
 use Rattle.cesu8_text.proofs.reading.Splits.{split}
 use Rattle.cesu8_text.proofs.reading.Steps.{reading_nil}
-use Rattle.std.specs.Option.{ok_or}
 use Rattle.cesu8_decode.specs.Decoding.{AppendsReading, BuildsReading}
 use Rattle.cesu8_decode.proofs.by_offset.IllFormed.{IsChunk}
 use Rattle.cesu8_decode.proofs.chunks.ReadChunks.{lossy_text_length, more_read}
@@ -31,12 +30,10 @@ appended_length f bytes old new read =
     ap length read.written ∙ length-append old (utf8 read.text) ∙ ap (λ n. length old + n) (sym (lossy_text_length f bytes (utf8 read.text) chunk))
 
 -- The whole is built where the rest is appended to that, in a vector with capacity for both.
-pub built_behind : {Z E : Type 0} (f : Flavor) (bytes first rest : List ℕ) (before : Vec ℕ Z) (appended : Option (Vec ℕ Z)) (fault : E)
-    (result : Result (Vec ℕ Z) E) → first ++ rest ≡ bytes → NoneCrosses f first rest → IsChunk f Lossy first [] before.items →
-    vec_capacity before ≡ length before.items + lossy_length f rest → AppendsReading f Lossy rest before appended →
-    result ≡ ok_or appended fault → BuildsReading f bytes result
-built_behind f bytes first rest before None fault result whole apart read exact appends is = rw is (record { text = tt; capacity = tt })
-built_behind f bytes first rest before (Some text) fault result whole apart read exact appends is = rw is (record {
+pub built_behind : {Z E X : Type 0} (f : Flavor) (bytes first rest : List ℕ) (before text : Vec ℕ Z) → first ++ rest ≡ bytes →
+    NoneCrosses f first rest → IsChunk f Lossy first [] before.items → vec_capacity before ≡ length before.items + lossy_length f rest →
+    AppendsReading {E = E} f Lossy rest before (Ok text) → BuildsReading {E = X} f bytes (Ok text)
+built_behind f bytes first rest before text whole apart read exact appends = record {
   text = more_read f Lossy bytes rest [] [] before.items text.items (read_apart f bytes first rest before.items whole apart read) appends.text;
   capacity = appends.capacity ∙ exact ∙ sym (appended_length f rest before.items text.items appends.text);
-})
+}

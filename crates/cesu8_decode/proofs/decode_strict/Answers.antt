@@ -8,11 +8,11 @@ use Rattle.cesu8_decode.proofs.decode_strict.Goals as goal
 pub known_string-requires : goal.known_string-requires
 known_string-requires g c =
     let none : c.in_ok-empty.empty.items ≡ [] = search rules in
-    chunk_utf8 g.F.Flavor.flavor Strict c.args.bytes.now [] _ (rw none at c.in-Some.ensures.text)
+    chunk_utf8 g.F.Flavor.flavor Strict c.args.bytes.now [] _ (rw none at c.in-Ok.ensures.text)
 
-pub returns-in-Some-clause-text : goal.returns-in-Some-clause-text
-returns-in-Some-clause-text g c =
+pub returns-in-Ok-clause-text : goal.returns-in-Ok-clause-text
+returns-in-Ok-clause-text g c =
     let none : c.in_ok-empty.empty.items ≡ [] = search rules in
-    let read = whole_text g.F.Flavor.flavor Strict c.args.bytes.now _ (rw none at c.in-Some.ensures.text) in
+    let read = whole_text g.F.Flavor.flavor Strict c.args.bytes.now _ (rw none at c.in-Ok.ensures.text) in
     subst (λ bytes. IsStrictReading g.F.Flavor.flavor c.args.bytes.now (chars bytes)) (sym c.known_string.ensures.bytes)
     (read.0, read.2 refl)

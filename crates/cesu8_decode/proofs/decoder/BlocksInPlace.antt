@@ -177,6 +177,16 @@ all_decoded f which bytes start text n is all =
     chunk Strict is = strict_chunk f bytes (window_of bytes) n padded (omega arith) boundary Strict (λ i small. is.strict refl refl i (omega arith) (omega arith))
     chunk Lossy is = lossy_chunk f bytes (window_of bytes) n padded (omega arith) boundary
 
+-- as none is unless strict reading refuses it,
+pub none_refused : (f : Flavor) (which : Strictness) (window old new : List ℕ) (at n : ℕ) (is_refused : Bool) →
+    IsDecoded f which window at n old new is_refused → (which ≡ Strict → is_refused ≡ false) → is_refused ≡ false
+none_refused f Strict window old new at n is_refused is strict = strict refl
+none_refused f Lossy window old new at n is_refused is strict = is.lossy refl
+
+pub some_refused : (which : Strictness) (is_refused : Bool) → ¬ (which ≡ Strict → is_refused ≡ false) → is_refused ≡ true
+some_refused which true some = refl
+some_refused which false some = absurd (some (λ _. refl))
+
 -- and they have no strict reading where one is.
 pub refused_decoded : (f : Flavor) (which : Strictness) (bytes start text : List ℕ) (n : ℕ) → IsDecoded f which (window_of bytes) 0 n start text true →
     n ≤ length bytes → (which ≡ Strict) × HasNoStrictReading f bytes

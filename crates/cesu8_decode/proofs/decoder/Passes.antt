@@ -1,7 +1,6 @@
 -- The pass from block to block.
-use Rattle.std.proofs.Common.{◌≡◌, ℕ, zero, suc, ◌+◌, ◌*◌, ◌<◌, ◌≤◌, Bool, true, false, true≢false, cond, not, eqb, leb, List, [], ◌∷◌, ◌++◌, refl, sym, ap, ◌∙◌, subst, arith, map, get_or, length, take, drop, replicate, append-nil, append_assoc, length-drop}
+use Rattle.std.proofs.Common.{◌≡◌, ℕ, zero, suc, ◌+◌, ◌*◌, ◌<◌, ◌≤◌, Bool, true, false, true≢false, cond, eqb, leb, List, [], ◌∷◌, ◌++◌, refl, sym, ap, ◌∙◌, subst, arith, map, get_or, length, take, drop, replicate, append-nil, append_assoc, length-drop, Result, Ok, Err, OkIff}
 use Rattle.std.proofs.lemmas.Bool.{eqb-true, leb-true, leb-false}
-use Rattle.std.specs.Bool.{then_some}
 use lib.Lanes.{mask_l}
 use Rattle.cesu8_text.specs.Encoding.{Flavor}
 use Rattle.cesu8_bytes.specs.Pairs.{IsUtf8OfDigits, second_third_fifth_sixth, HasPair}
@@ -94,13 +93,17 @@ module _ (f : Flavor) (which : Strictness) (bytes : List ℕ) where
       (more.text start text (subst (λ bs. IsDecoded f which (window_of bytes) 0 before.read start bs false) none so_far))
 
 -- The text of all bytes is written, or strict reading refuses one of them.
-pub writes_reading : (f : Flavor) (which : Strictness) (bytes old new : List ℕ) (n end : ℕ) (is_refused : Bool) →
+pub writes_reading : {E : Type 0} (f : Flavor) (which : Strictness) (bytes old new : List ℕ) (n end : ℕ) (is_refused : Bool) →
     IsDecoded f which (window_of bytes) 0 n [] (take end new) is_refused → n ≤ length bytes → (is_refused ≡ false → n ≡ length bytes) →
-    end ≤ most_written which n → length new ≡ length old → WritesReading f which bytes (then_some (not is_refused) end) old new
-writes_reading f which bytes old new n end true is inside all fits long =
+    end ≤ most_written which n → length new ≡ length old → (result : Result ℕ E) → OkIff result (which ≡ Strict → is_refused ≡ false) end →
+    WritesReading f which bytes result old new
+writes_reading f which bytes old new n end true is inside all fits long (Ok len) ok =
+    absurd (true≢false (ok.0 (refused_decoded f which bytes [] _ n is inside).0))
+writes_reading f which bytes old new n end true is inside all fits long (Err refusal) refused =
     record { text = tt; end = tt; none = refused_decoded f which bytes [] _ n is inside; len = long }
-writes_reading f which bytes old new n end false is inside all fits long =
-    record { text = all_decoded f which bytes [] _ n is (all refl); end = omega (arith, fits, ap (most_written which) (all refl)); none = tt; len = long }
+writes_reading f which bytes old new n end false is inside all fits long (Ok len) ok =
+    rw ok.1 (record { text = all_decoded f which bytes [] _ n is (all refl); end = omega (arith, fits, ap (most_written which) (all refl)); none = tt; len = long })
+writes_reading f which bytes old new n end false is inside all fits long (Err refusal) refused = absurd (refused (λ _. refl))
 
 -- ---- pairs
 

@@ -20,7 +20,10 @@ const CLEARED_AT_ONCE: usize = 4096;
 
 /// Appends the text of the bytes to a vector, unless strict reading refuses one of them.
 #[inline(never)]
-pub fn append_chunks<F: Flavor, S: Reading>(bytes: &[u8], before: Vec<u8>) -> Option<Vec<u8>>
+pub fn append_chunks<F: Flavor, S: Reading>(
+    bytes: &[u8],
+    before: Vec<u8>,
+) -> Result<Vec<u8>, S::Refusal>
     requires { vec_len before + most_of_text F.flavor S.which bytes.now ≤ vec_capacity before }
     ensures { AppendsReading F.flavor S.which bytes.now before result }
 {
@@ -28,12 +31,10 @@ pub fn append_chunks<F: Flavor, S: Reading>(bytes: &[u8], before: Vec<u8>) -> Op
     let (mut read, mut kinds) = (0, u8x32::splat(0));
     while read < bytes.len() {
         let pass = append_next::<F, S>(bytes, read, kinds, &mut text);
-        if pass.is_refused {
-            return None;
-        }
+        S::unless_refused(pass.is_refused, ())?;
         (read, kinds) = (pass.read, pass.kinds);
     }
-    Some(text)
+    Ok(text)
 }
 
 /// Appends the text of the next bytes. It is written over zeros, of which those behind it go. Where

@@ -4,7 +4,7 @@
 //! the front, and copied. Where none begins behind a front, or the last one is cut off, the bytes
 //! are ill-formed.
 
-ghost use Rattle.std.specs.Prelude.{◌≡◌, ◌+◌, ◌<◌, ◌≤◌, length, vec_len, vec_capacity, IfNone, IfSome};
+ghost use Rattle.std.specs.Prelude.{◌≡◌, ◌+◌, ◌<◌, ◌≤◌, length, vec_len, vec_capacity, OnErr, IfOk};
 ghost use Rattle.cesu8_text.specs.Reading.{HasNoStrictReading};
 ghost use Rattle.cesu8_bytes.specs.TextChunks.{IsReadSoFar};
 ghost use Rattle.cesu8_bytes.specs.declared.strictness.Strictness.TheVariants.{Strict};
@@ -21,7 +21,7 @@ use crate::pass::strict_few::{STRICT_TEXT, write_few_strictly};
 use crate::way::{FEW_BYTES, are_few};
 use cesu8_bytes::flavor::Flavor;
 use cesu8_bytes::pairs::{PAIR, PAIR_READ, utf8_of_pair};
-use cesu8_bytes::strictness::StrictReading;
+use cesu8_bytes::strictness::{NoText, StrictReading};
 use cesu8_bytes::writing::copies::{append, append_few, append_front};
 
 /// Behind a first front shorter than this, blocks read the rest, if not few: for speed alone.
@@ -35,7 +35,7 @@ const LONG_FRONT: usize = 64;
 /// from one character that changes to the next, while they stand far apart; a rest goes by stops if
 /// it is few, else by blocks. It is not inlined, so that few bytes have few registers to save.
 #[inline(never)]
-pub fn append_many<F: Flavor>(bytes: &[u8], len: usize, before: Vec<u8>) -> Option<Vec<u8>>
+pub fn append_many<F: Flavor>(bytes: &[u8], len: usize, before: Vec<u8>) -> Result<Vec<u8>, NoText>
     requires many { FEW_BYTES < length bytes.now }
     requires front { IsFront AllUnchanged F.flavor bytes.now len }
     requires room { vec_len before + length bytes.now ≤ vec_capacity before }
@@ -54,7 +54,7 @@ pub fn append_many<F: Flavor>(bytes: &[u8], len: usize, before: Vec<u8>) -> Opti
         if !is_long {
             // What is cut off at the end is refused before all of it is read.
             if may_be_crossed::<Unchanged>(rest, rest.len()) {
-                return None;
+                return Err(NoText);
             }
             return append_chunks::<F, StrictReading>(rest, text);
         }
@@ -62,13 +62,17 @@ pub fn append_many<F: Flavor>(bytes: &[u8], len: usize, before: Vec<u8>) -> Opti
         least = LONG_FRONT;
     }
     append(rest, &mut text);
-    Some(text)
+    Ok(text)
 }
 
 /// Appends the strict reading of a few bytes by an array, and by `stops`, the set of those that may
 /// not follow those before them in text that stays.
 #[inline(always)]
-pub fn append_few_strictly<F: Flavor>(bytes: &[u8], stops: u64, before: Vec<u8>) -> Option<Vec<u8>>
+pub fn append_few_strictly<F: Flavor>(
+    bytes: &[u8],
+    stops: u64,
+    before: Vec<u8>,
+) -> Result<Vec<u8>, NoText>
     requires stops { HasStops AllUnchanged F.flavor bytes.now stops }
     requires room { vec_len before + length bytes.now ≤ vec_capacity before }
     ensures { AppendsReading F.flavor Strict bytes.now before result }
@@ -77,34 +81,38 @@ pub fn append_few_strictly<F: Flavor>(bytes: &[u8], stops: u64, before: Vec<u8>)
     let end = write_few_strictly::<F>(bytes, stops, &mut written)?;
     let mut text = before;
     append_few(&written[..end], &mut text);
-    Some(text)
+    Ok(text)
 }
 
 /// Appends the front, and the character behind it in UTF-8. Returns the bytes behind these, or
-/// `None` where none that changes begins there, so that the bytes have no strict reading.
+/// an error where none that changes begins there, so that the bytes have no strict reading.
 #[inline(always)]
-fn append_to_next<'a, F: Flavor>(bytes: &'a [u8], len: usize, out: &mut Vec<u8>) -> Option<&'a [u8]>
+fn append_to_next<'a, F: Flavor>(
+    bytes: &'a [u8],
+    len: usize,
+    out: &mut Vec<u8>,
+) -> Result<&'a [u8], NoText>
     requires many { FEW_BYTES < length bytes.now }
     requires front { IsFront AllUnchanged F.flavor bytes.now len × (len < length bytes.now) }
     requires room { vec_len out.old + length bytes.now ≤ vec_capacity out.old }
-    ensures none { IfNone result (HasNoStrictReading F.flavor bytes.now) }
-    ensures read { IfSome result (λ rest.
+    ensures none { OnErr result (HasNoStrictReading F.flavor bytes.now) }
+    ensures read { IfOk result (λ rest.
         IsReadSoFar F.flavor Strict bytes.now rest.now out.old.items out.new.items) }
-    ensures room { IfSome result (λ rest. vec_len out.new + length rest.now ≤ vec_capacity out.new) }
-    ensures within { IfSome result (λ rest. length rest.now < length bytes.now) }
+    ensures room { IfOk result (λ rest. vec_len out.new + length rest.now ≤ vec_capacity out.new) }
+    ensures within { IfOk result (λ rest. length rest.now < length bytes.now) }
     ensures capacity { vec_capacity out.new ≡ vec_capacity out.old }
 {
     let behind = &bytes[len..];
     let mut padded = [0; PAIR_READ];
     let prefix = prefix_of(behind, &mut padded);
     if !changes::<F>(prefix) {
-        return None;
+        return Err(NoText);
     }
     append_front(bytes, len, out);
     if prefix[0] == 0xC0 {
         append(&[0], out);
-        return Some(&behind[2..]);
+        return Ok(&behind[2..]);
     }
     append(&utf8_of_pair(prefix), out);
-    Some(&behind[PAIR..])
+    Ok(&behind[PAIR..])
 }

@@ -27,7 +27,7 @@ use crate::refusal::Unwritten;
 use crate::way::{FEW_BYTES, Way, are_few, way_of};
 use cesu8_bytes::flavor::Flavor;
 use cesu8_bytes::lanes::short::copy_short;
-use cesu8_bytes::strictness::{LossyReading, Reading, StrictReading, Strictness};
+use cesu8_bytes::strictness::{LossyReading, NoText, Reading, StrictReading, Strictness};
 use cesu8_bytes::writing::copies::{NoRoom, copy_to_slice};
 
 /// Writes the strict reading of bytes to a caller's buffer, if it fits.
@@ -142,8 +142,8 @@ fn put_few<F: Flavor, S: Reading>(
 {
     let mut written = [0; STRICT_TEXT];
     match write_few_strictly::<F>(bytes, stops, &mut written) {
-        Some(end) => copy_to_slice(&written[..end], buf).map_err(Unwritten::NoRoom),
-        None => match S::strictness() {
+        Ok(end) => copy_to_slice(&written[..end], buf).map_err(Unwritten::NoRoom),
+        Err(NoText) => match S::strictness() {
             Strictness::Strict => Err(Unwritten::NoText),
             Strictness::Lossy => put_by_blocks::<F>(bytes, buf),
         },
@@ -160,7 +160,7 @@ fn put_by_array<F: Flavor, S: Reading, const WRITTEN: usize>(
     ensures { PutsReading F.flavor S.which bytes.now result buf.old buf.new }
 {
     let mut written = [0; WRITTEN];
-    let Some(end) = write_all::<F, S>(bytes, &mut written) else {
+    let Ok(end) = write_all::<F, S>(bytes, &mut written) else {
         return Err(Unwritten::NoText);
     };
     copy_to_slice(&written[..end], buf).map_err(Unwritten::NoRoom)

@@ -24,19 +24,23 @@ use crate::pass::strict_few::{STRICT_TEXT, write_few_strictly};
 use crate::way::{FEW_BYTES, LARGEST_ARRAY, Way, are_few, way_of};
 use cesu8_bytes::BLOCK;
 use cesu8_bytes::flavor::Flavor;
-use cesu8_bytes::strictness::LossyReading;
+use cesu8_bytes::strictness::{LossyReading, NoText};
 use cesu8_bytes::writing::copies::{append, copy};
 use std::alloc::{AllocError, Global};
 
 /// Writes the strict reading of bytes, of which `len` in front, not all, stay, to an empty vector.
 #[inline(always)]
-pub fn write_strictly<F: Flavor>(bytes: &[u8], front: FoundFront, empty: Vec<u8>) -> Option<Vec<u8>>
+pub fn write_strictly<F: Flavor>(
+    bytes: &[u8],
+    front: FoundFront,
+    empty: Vec<u8>,
+) -> Result<Vec<u8>, NoText>
     requires front { IsPartialFront F.flavor bytes.now front }
     requires empty { (empty.items ≡ []) × (length bytes.now ≤ vec_capacity empty) }
     ensures { AppendsReading F.flavor Strict bytes.now empty result }
 {
     if !may_lead_changed(bytes[front.len]) {
-        return None;
+        return Err(NoText);
     }
     if are_few(bytes) {
         // `stops` holds for at most 64 bytes alone. They are read whole: to copy a front is slower.
@@ -48,7 +52,7 @@ pub fn write_strictly<F: Flavor>(bytes: &[u8], front: FoundFront, empty: Vec<u8>
 /// Does so for more than a few bytes, `front` of which stay. It is apart for speed alone: where a
 /// function starts, even an inlined one, it clears room for its calls' results. Few bytes skip it.
 #[inline(always)]
-fn write_many<F: Flavor>(bytes: &[u8], front: usize, empty: Vec<u8>) -> Option<Vec<u8>>
+fn write_many<F: Flavor>(bytes: &[u8], front: usize, empty: Vec<u8>) -> Result<Vec<u8>, NoText>
     requires many { FEW_BYTES < length bytes.now }
     requires front { IsFront Unchanged F.flavor bytes.now front }
     requires empty { (empty.items ≡ []) × (length bytes.now ≤ vec_capacity empty) }
@@ -70,7 +74,7 @@ pub fn build_lossily<F: Flavor>(
     // A few bytes take the time of strict reading where none is ill-formed.
     if are_few(bytes) && may_lead_changed(bytes[front.len]) {
         let mut written = [0; STRICT_TEXT];
-        if let Some(end) = write_few_strictly::<F>(bytes, front.stops, &mut written) {
+        if let Ok(end) = write_few_strictly::<F>(bytes, front.stops, &mut written) {
             return copy(alloc, &written[..end]);
         }
     }
@@ -94,8 +98,7 @@ fn build_by_array<F: Flavor, const WRITTEN: usize>(
     ensures { BuildsReading F.flavor bytes.now result }
 {
     let mut written = [0; WRITTEN];
-    // Lossy reading refuses no byte.
-    let end = write_all::<F, LossyReading>(bytes, &mut written).ok_or(AllocError)?;
+    let Ok(end) = write_all::<F, LossyReading>(bytes, &mut written);
     copy(alloc, &written[..end])
 }
 
@@ -108,13 +111,13 @@ fn build_chunks<F: Flavor>(alloc: Global, bytes: &[u8]) -> Result<Vec<u8>, Alloc
 {
     let (first, rest) = first_part(bytes);
     let mut written = [0; LARGEST_LOSSY];
-    // Lossy reading refuses no byte.
-    let end = write_all::<F, LossyReading>(first, &mut written).ok_or(AllocError)?;
+    let Ok(end) = write_all::<F, LossyReading>(first, &mut written);
     let rest_len = lossy_len::<F>(rest).ok_or(AllocError)?;
     let len = end.checked_add(rest_len).ok_or(AllocError)?;
     let mut text = Vec::with_capacity(alloc, len)?;
     append(&written[..end], &mut text);
-    append_chunks::<F, LossyReading>(rest, text).ok_or(AllocError)
+    let Ok(text) = append_chunks::<F, LossyReading>(rest, text);
+    Ok(text)
 }
 
 /// Returns the first of many bytes, up to an offset that no encoded character crosses, and others.

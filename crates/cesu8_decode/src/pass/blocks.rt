@@ -77,7 +77,7 @@ pub fn write_blocks<F: Flavor, S: Reading>(
 /// Writes the text of all bytes to a buffer that has room for it, unless strict reading refuses one
 /// of them. One block takes no loop, if the buffer is one for it.
 #[inline(always)]
-pub fn write_all<F: Flavor, S: Reading>(bytes: &[u8], out: &mut [u8]) -> Option<usize>
+pub fn write_all<F: Flavor, S: Reading>(bytes: &[u8], out: &mut [u8]) -> Result<usize, S::Refusal>
     requires { room_for S.which (length bytes.now) ≤ length out.old }
     ensures { WritesReading F.flavor S.which bytes.now result out.old out.new }
 {
@@ -91,7 +91,7 @@ pub fn write_all<F: Flavor, S: Reading>(bytes: &[u8], out: &mut [u8]) -> Option<
         let pass = write_blocks::<F, S>(bytes, 0, none, out);
         (pass.end, pass.is_refused)
     };
-    (!is_refused).then_some(end)
+    S::unless_refused(is_refused, end)
 }
 
 /// Writes the surrogate pairs that come next, one after another, if only ASCII begins in the block

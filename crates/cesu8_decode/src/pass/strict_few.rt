@@ -21,6 +21,7 @@ use crate::way::FEW_BYTES;
 use cesu8_bytes::BLOCK;
 use cesu8_bytes::flavor::Flavor;
 use cesu8_bytes::pairs::{PAIR, PAIR_READ, PAIR_UTF8, utf8_of_pair};
+use cesu8_bytes::strictness::NoText;
 use cesu8_bytes::writing::put::{put, put_lanes};
 use std::simd::prelude::*;
 
@@ -30,7 +31,11 @@ pub const STRICT_TEXT: usize = FEW_BYTES + BLOCK;
 /// Writes the strict reading of at most 64 bytes to the front of an array, by the set of those that
 /// may not follow.
 #[inline(always)]
-pub fn write_few_strictly<F: Flavor>(bytes: &[u8], stops: u64, out: &mut [u8]) -> Option<usize>
+pub fn write_few_strictly<F: Flavor>(
+    bytes: &[u8],
+    stops: u64,
+    out: &mut [u8],
+) -> Result<usize, NoText>
     requires stops { HasStops AllUnchanged F.flavor bytes.now stops }
     requires room { STRICT_TEXT ≤ length out.old }
     ensures { WritesReading F.flavor Strict bytes.now result out.old out.new }
@@ -41,11 +46,11 @@ pub fn write_few_strictly<F: Flavor>(bytes: &[u8], stops: u64, out: &mut [u8]) -
     let mut stop = next_stop::<F, Unchanged>(bytes, stops, 0);
     while stop < bytes.len() {
         if stop == read {
-            return None;
+            return Err(NoText);
         }
         let changed = &source[stop - 1..];
         if !changes::<F>(changed) {
-            return None;
+            return Err(NoText);
         }
         let copied = put_between(&source, read, stop - 1 - read, out, end);
         let (len, behind) = write_changed::<F>(changed, out, copied);
@@ -53,9 +58,9 @@ pub fn write_few_strictly<F: Flavor>(bytes: &[u8], stops: u64, out: &mut [u8]) -
         stop = next_stop::<F, Unchanged>(bytes, stops, read);
     }
     if may_be_crossed::<Unchanged>(bytes, bytes.len()) {
-        return None;
+        return Err(NoText);
     }
-    Some(put_between(&source, read, bytes.len() - read, out, end))
+    Ok(put_between(&source, read, bytes.len() - read, out, end))
 }
 
 /// Writes `count` bytes of the source, at most 64, and returns their end. Others come behind them.

@@ -1,8 +1,7 @@
-use Rattle.std.proofs.Common.{◌∙◌, ◌++◌, refl, sym, ap, subst, arith, drop, length-drop, rules}
+use Rattle.std.proofs.Common.{◌∙◌, ◌++◌, refl, sym, ap, arith, drop, length-drop, rules}
 use Rattle.std.proofs.lemmas.List.{take_all}
 use Rattle.cesu8_bytes.specs.declared.strictness.Strictness.TheVariants.{Strict}
-use Rattle.cesu8_decode.specs.Decoding.{AppendsReading}
-use Rattle.cesu8_decode.proofs.chunks.FrontReadings.{appended_behind, front_appended}
+use Rattle.cesu8_decode.proofs.chunks.FrontReadings.{appended_behind, front_appended, none_appended}
 use Rattle.cesu8_decode.proofs.chunks.Fronts.{none_cut_off}
 use Rattle.cesu8_decode.proofs.chunks.ReadChunks.{more_read, none_left, nothing_read}
 use Rattle.cesu8_decode.proofs.destinations.fronts.append_many.Goals as goal
@@ -20,9 +19,8 @@ pub returns-in_err-rest : goal.returns-in_err-rest
 returns-in_err-rest g c =
     let f = g.F.Flavor.flavor in
     let inv = c.loop-len.invariant in
-    subst (AppendsReading f Strict c.args.bytes.now c.args.before) (sym c.from_residual.ensures)
-    (appended_behind f c.args.bytes.now c.loop-len.rest.now c.args.before c.loop-len.text _ inv.read inv.capacity
-    (record { text = tt; capacity = tt; none = (refl, c.in_err-rest.ensures.none) }))
+    appended_behind f c.args.bytes.now c.loop-len.rest.now c.args.before c.loop-len.text _ inv.read inv.capacity
+    (none_appended f Strict c.loop-len.rest.now c.loop-len.text _ c.from_residual.ensures.0 (refl, c.in_err-rest.ensures.none))
 
 pub returns-then-are_few : goal.returns-then-are_few
 returns-then-are_few g c =

@@ -1,4 +1,4 @@
-use Rattle.std.proofs.Common.{◌≡◌, ◌≤◌, ◌+◌, ◌*◌, ◌<◌, ◌^◌, ◌∙◌, sym, subst, ap, arith, [], ◌++◌, length, take, IfSome}
+use Rattle.std.proofs.Common.{◌≡◌, ◌+◌, ◌<◌, ◌^◌, ◌∙◌, sym, subst, ap, arith, [], ◌++◌, length, take, IfSome}
 use Rattle.std.proofs.lemmas.List.{length-take-le}
 use Rattle.std.specs.Option.{SomeIff}
 use Rattle.cesu8_text.specs.Reading.{lossy_length}
@@ -13,18 +13,14 @@ returns g c =
     let bytes = c.args.bytes.now in
     let first = c.first_part.result.0.now in
     let rest = c.first_part.result.1.now in
-    let end = c.in_ok-end.end in
+    let end = c.in-Ok.end in
     let chunk = take end c.write_all.new.out in
-    let read : IsReadSoFar f Lossy first [] [] chunk =
-    subst (λ r. IfSome r (λ end. IsReadSoFar f Lossy first [] [] (take end c.write_all.new.out))) c.in_ok-end.ensures.ok_part c.write_all.ensures.text in
-    let most : end ≤ 3 * length first =
-    subst (λ r. IfSome r (λ end. end ≤ 3 * length first)) c.in_ok-end.ensures.ok_part c.write_all.ensures.end in
     let rest_len : c.in_ok-rest_len.rest_len ≡ lossy_length f rest =
     subst (λ r. IfSome r (λ len. len ≡ lossy_length f rest)) c.in_ok-rest_len.ensures.ok_part c.lossy_len.ensures.some in
     let sum = subst (λ r. SomeIff r (end + c.in_ok-rest_len.rest_len < 2 ^ 64) (end + c.in_ok-rest_len.rest_len)) c.in_ok-len.ensures.ok_part c.checked_add.ensures in
     let items : c.append.new.out.items ≡ chunk = c.append.ensures.bytes ∙ ap (λ old. old ++ chunk) c.in_ok-text.ensures.items in
     let long : length c.append.new.out.items ≡ end =
-    ap length items ∙ length-take-le end c.write_all.new.out (omega (arith, most, c.write_all.auto.out, c.first_part.ensures.first)) in
-    built_behind f bytes first rest c.append.new.out c.append_chunks.result _ c.ok_or-4.result c.first_part.ensures.parts (c.first_part.ensures.apart f)
-    (subst (IsReadSoFar f Lossy first [] []) (sym items) read)
-    (omega (arith, c.append.ensures.capacity, c.in_ok-text.ensures.exact, sum.1, rest_len, long)) c.append_chunks.ensures c.ok_or-4.ensures.value
+    ap length items ∙ length-take-le end c.write_all.new.out (omega (arith, c.in-Ok.ensures.end, c.write_all.auto.out, c.first_part.ensures.first)) in
+    built_behind f bytes first rest c.append.new.out _ c.first_part.ensures.parts (c.first_part.ensures.apart f)
+    (subst (IsReadSoFar f Lossy first [] []) (sym items) c.in-Ok.ensures.text)
+    (omega (arith, c.append.ensures.capacity, c.in_ok-text.ensures.exact, sum.1, rest_len, long)) c.in-Ok-append_chunks.ensures

@@ -30,15 +30,16 @@ returns g c =
     let f = g.F.Flavor.flavor in
     let which = g.S.Reading.which in
     let bytes = c.args.bytes.now in
-    rw c.then_some.ensures (elim c.if-is_one_block.branch [
+    let told = c.unless_refused.ensures in
+    elim c.if-is_one_block.branch [
       | then-is_one_block+then-out-le-BLOCK_LOSSY w ↦
           let block = w.write_block-block.ensures.written in
-          rw (w.out-is, w.end-is) (writes_reading f which bytes _ _ (length bytes) _ _
+          rw w.out-is (writes_reading f which bytes _ _ (length bytes) _ _
           (of_all f which bytes w.load_last.new.window _ _ (c.is_one_block.ensures.0 w.if-is_one_block.true) w.load_last.ensures.bytes block.text)
-          (omega arith) (λ _. refl) (omega (arith, block.end)) block.len)
+          (omega arith) (λ _. refl) (omega (arith, block.end)) block.len _ (rw w.end-is at told))
       | else-is_one_block w ↦
           let pass = w.write_blocks-pass.ensures in
-          rw (w.out-is, w.end-is) (writes_reading f which bytes _ _ _ _ _
+          rw w.out-is (writes_reading f which bytes _ _ _ _ _
           (reads_on f which bytes _ _ _ _ [] [] _ pass.more refl refl (none_decoded f which (window_of bytes) []))
-          pass.more.within.1 (pass.all refl c.requires) (omega (arith, pass.more.end)) pass.more.len)
-    ])
+          pass.more.within.1 (pass.all refl c.requires) (omega (arith, pass.more.end)) pass.more.len _ (rw w.end-is at told))
+    ]
