@@ -13,6 +13,27 @@ class_file() {
     printf '\1\0\4a\355\240\275'
 }
 
+# That an example fails and says why if it can't read, as from a folder, or can't write the strings of
+# a file: `fails_with_system NAME PROGRAM FILE`.
+fails_with_system() {
+    "$2" "$scratch" >"$scratch/printed" 2>"$scratch/said" &&
+        wrong "$1 takes a folder for an empty file"
+    grep -q 'Is a directory' "$scratch/said" || wrong "$1 does not say that a read failed"
+    [[ ! -s $scratch/printed ]] || wrong "$1 prints something of a folder"
+    "$2" "$3" >/dev/full 2>"$scratch/said" && wrong "$1 succeeds if a write fails"
+    grep -qE 'No space left|output failed|I/O error' "$scratch/said" ||
+        wrong "$1 does not say that a write failed"
+}
+
+# That a program stops reading once a write has failed. It has endless input, and has to end with this
+# status: `stops_reading NAME STATUS PROGRAM WORD..`.
+stops_reading() {
+    local name=$1 wanted=$2 status=0
+    shift 2
+    timeout 60 "$@" >/dev/full 2>"$scratch/said" || status=$?
+    ((status == wanted)) || wrong "$name ends with status $status after a write that failed"
+}
+
 in_class_file() {
     local program=$scratch/class_constants
     compile -std=c99 -Wall -Wextra -Wconversion -pedantic -Werror -I "$unpacked/include" \
@@ -29,6 +50,7 @@ in_class_file() {
     diff <(echo "$scratch/constants.class: constant 22, offset 113: invalid input") "$scratch/said" ||
         wrong 'class_constants.c does not tell a fault'
     in_damaged_class_files "$program"
+    fails_with_system class_constants.c "$program" "$scratch/constants.class"
     echo 'class_constants.c was built and run'
 }
 
@@ -182,6 +204,10 @@ in_java_file() {
         cmp "$scratch/printed" "$scratch/seen" ||
             wrong "java_strings.sh prints other strings before $damage"
     done
+    fails_with_system java_strings.sh "$script" "$strings"
+    # Of an empty string only the end of its line is written.
+    printf '\0\0' >"$scratch/empty_string"
+    fails_with_system java_strings.sh "$script" "$scratch/empty_string"
     unset CESU8_CLI
     echo 'java_strings.sh was run'
 }
@@ -208,6 +234,8 @@ in_java_units() {
         '\0\4\360\237\222\226' '\0\3\355\240a' '\0\3\355\300\200'; do
         refuses_units "$damage" 'invalid input'
     done
+    fails_with_system java_units.c "$program" "$strings"
+    stops_reading java_units.c 1 "$program" /dev/zero
     if ! can_build 'java_units.c with the strings of a JDK' java -version; then return; fi
     mkdir "$scratch/jdk" || exit 2
     count=$(cd "$scratch/jdk" && java "$top/tests/peers/Constants.java" 2>"$scratch/said") ||

@@ -138,8 +138,11 @@ int main(int count, char **words)
     }
     struct file file = {words[1], bytes, length, 0};
     bool is_whole = print_strings(&file);
-    free(bytes);
+    bool is_written = fflush(stdout) == 0 && !ferror(stdout);
+    if (!is_written)
+        perror("standard output");
     if (!is_whole)
         fprintf(stderr, "%s: no class file, from offset %zu on\n", words[1], file.at);
-    return is_whole ? 0 : 1;
+    free(bytes);
+    return is_written && is_whole ? 0 : 1;
 }

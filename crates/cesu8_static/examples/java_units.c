@@ -7,7 +7,9 @@
 
 #include "cesu8.h"
 
+#include <errno.h>
 #include <stdio.h>
+#include <string.h>
 
 enum { LONGEST = 65535 };
 
@@ -54,8 +56,8 @@ static size_t read_units(const uint8_t *bytes, size_t length, uint16_t *units, s
     return at;
 }
 
-// Prints the next string of a file. It returns false at its end, and where that or damage cuts a string
-// off, which `problem` says then.
+// Prints the next string of a file. It returns false at the end of the file, and if the string is cut
+// off or damaged or a read fails, which `problem` says then.
 static bool print_string(FILE *file, const char **problem)
 {
     static uint8_t bytes[LONGEST];
@@ -73,7 +75,9 @@ static bool print_string(FILE *file, const char **problem)
         printf("\n");
         return true;
     }
-    if (got > 0)
+    if (ferror(file))
+        *problem = strerror(errno);
+    else if (got > 0)
         *problem = cesu8_status_text(CESU8_TRUNCATED);
     return false;
 }
@@ -90,10 +94,13 @@ int main(int count, char **words)
         return 1;
     }
     const char *problem = NULL;
-    while (print_string(file, &problem)) {
+    while (!ferror(stdout) && print_string(file, &problem)) {
     }
+    bool is_written = fflush(stdout) == 0 && !ferror(stdout);
+    if (!is_written)
+        perror("standard output");
     if (problem != NULL)
         fprintf(stderr, "%s: %s\n", words[1], problem);
     fclose(file);
-    return problem == NULL ? 0 : 1;
+    return is_written && problem == NULL ? 0 : 1;
 }
