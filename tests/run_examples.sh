@@ -107,25 +107,18 @@ damage_fails() {
 # Files with no damage, with some of each kind, and of more than one piece, so that the end of a piece cuts
 # a pair in each way, and a stretch: `in_damaged_file PROGRAM`.
 in_damaged_file() {
-    local teller=$1 pairs=$scratch/pairs file=$scratch/damaged front
+    local teller=$1 pairs=$scratch/pairs file=$scratch/damaged shown
     printf 'ab\n\377c\n\n\355\240\275d\300\200\0e\342\202' >"$file"
     diff <(damage cesu8 "$file") <(printf '%s\t%s\t%s\t%s\n' 3 2 1 ff 7 4 3 'ed a0 bd' 11 4 2 'c0 80' \
         15 4 2 'e2 82' && echo 1) || wrong 'cesu8_damage finds other damage in CESU-8'
     diff <(damage mutf8 <"$file") <(printf '%s\t%s\t%s\t%s\n' 3 2 1 ff 7 4 3 'ed a0 bd' 13 4 1 00 \
         15 4 2 'e2 82' && echo 1) || wrong 'cesu8_damage finds other damage in MUTF-8'
-    {
-        printf 'a\n'
-        repeated 30000 '\xED\xA0\xBD\xED\xB2\x96'
-    } >"$pairs"
-    diff <(damage cesu8 <"$pairs"; damage mutf8 "$pairs"; damage cesu8 </dev/null) <(printf '0\n0\n0\n') ||
-        wrong 'cesu8_damage finds damage where there is none'
-    for front in '' a aa aaa aaaa aaaaa; do
-        diff <({ printf '%s' "$front" && tail -c +3 "$pairs"; } | damage mutf8) <(echo 0) ||
-            wrong "cesu8_damage finds damage behind ${#front} letters"
-    done
-    diff <(head -c -1 "$pairs" | damage cesu8; head -c 100000 "$pairs" | damage mutf8) \
-        <(printf '179996\t2\t5\ted a0 bd ed b2\n1\n99998\t2\t2\ted a0\n1\n') ||
-        wrong 'cesu8_damage does not find a cut pair'
+    # The longest stretch that is shown as a whole has 16 bytes.
+    shown=ff$(repeated 15 ' ff')
+    diff <({ filled 16 '\xFF' && printf '\n' && filled 17 '\xFF'; } | damage cesu8) \
+        <(printf '%s\t%s\t%s\t%s\n' 0 1 16 "$shown" 17 2 17 "$shown .." && echo 1) ||
+        wrong 'cesu8_damage shows stretches of 16 and 17 bytes otherwise'
+    in_pieces
     { cat "$pairs" && filled 100000 '\xFF' && cat "$pairs"; } >"$file"
     diff <(damage mutf8 "$file") \
         <(printf '180002\t2\t100000\tff%s ..\n1\n' "$(repeated 15 ' ff')") ||
@@ -139,12 +132,47 @@ in_damaged_file() {
     "$teller" cesu8 "$file" >/dev/full 2>"$scratch/said"
     [[ $? == 4 && $(<"$scratch/said") == 'cesu8_damage: standard output: No space left on device' ]] ||
         wrong 'cesu8_damage does not tell that it can not write'
+    stops_reading cesu8_damage 4 "$teller" cesu8 < <(yes $'\xFF' 2>/dev/null)
     # An emulator has memory of its own.
     if ((${#emulator[@]} == 0)); then
         refuse_memory "$file"
         limit_memory
+        sanitize_pieces
     fi
     echo 'cesu8_damage was run'
+}
+
+# Pairs in several pieces: whole, after up to five letters, and cut at the end.
+in_pieces() {
+    local front
+    {
+        printf 'a\n'
+        repeated 30000 '\xED\xA0\xBD\xED\xB2\x96'
+    } >"$pairs"
+    diff <(damage cesu8 <"$pairs"; damage mutf8 "$pairs"; damage cesu8 </dev/null) <(printf '0\n0\n0\n') ||
+        wrong 'cesu8_damage finds damage where there is none'
+    for front in '' a aa aaa aaaa aaaaa; do
+        diff <({ printf '%s' "$front" && tail -c +3 "$pairs"; } | damage mutf8) <(echo 0) ||
+            wrong "cesu8_damage finds damage behind ${#front} letters"
+    done
+    diff <(head -c -1 "$pairs" | damage cesu8; head -c 100000 "$pairs" | damage mutf8) \
+        <(printf '179996\t2\t5\ted a0 bd ed b2\n1\n99998\t2\t2\ted a0\n1\n') ||
+        wrong 'cesu8_damage does not find a cut pair'
+}
+
+# Runs in_pieces by a build that fails if it touches bytes outside its arrays.
+sanitize_pieces() {
+    local teller=$scratch/sanitized flags=(-fsanitize=address -O1 -g)
+    # What looks for leaks does not run everywhere.
+    local -x ASAN_OPTIONS=detect_leaks=0
+    local what='cesu8_damage with the address sanitizer'
+    if can_build "$what" "$c_compiler" "${flags[@]}" -o "$scratch/probe" "$scratch/probe.c" &&
+        can_build "$what" "$scratch/probe"; then
+        quietly "$c_compiler" -std=c99 "${flags[@]}" -I "$unpacked/include" -o "$teller" \
+            "$unpacked/examples/cesu8_damage.c" "$unpacked/lib/libcesu8.a" ||
+            { wrong 'cesu8_damage.c does not build with the address sanitizer'; return; }
+        in_pieces
+    fi
 }
 
 # Where each of its requests for memory is refused in turn, cesu8_damage says so, or does without:
