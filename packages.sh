@@ -143,7 +143,7 @@ symbols() {
 pack() {
     local tree=$scratch/$2 control=$scratch/$2/DEBIAN size files=("${@:3}")
     add_common "$2"
-    size=$(cd "$tree" && find . -mindepth 1 -printf '%y %s\n' |
+    size=$(cd "$tree" && find . -mindepth 1 -path ./DEBIAN -prune -o -printf '%y %s\n' |
         awk '{ sum += $1 == "f" ? int(($2 + 1023) / 1024) : 1 } END { print sum }')
     mkdir -p "$control"
     sed -e "s/@MAJOR@/$major/; s/@VERSION@/$version/; s/@SIZE@/$size/; s/@ARCHITECTURE@/$architecture/" \

@@ -46,6 +46,14 @@ c_library() {
         sed 's/^@GLIBC_//'
 }
 
+# What a package takes when it is installed, in KiB, as deb-substvars(7) counts: the bytes of each
+# file, rounded up, and 1 for each folder and link: `installed_size FILE`.
+installed_size() {
+    dpkg-deb --contents "$1" | awk '
+        $NF != "./" { sum += /^-/ ? int(($3 + 1023) / 1024) : 1 }
+        END { print sum }'
+}
+
 look_at_fields() {
     local name library=${names[0]} unpacked_name
     for name in "${names[@]}"; do
@@ -53,6 +61,7 @@ look_at_fields() {
         expect_field "$name" Source cesu8
         expect_field "$name" Version "$debian"
         expect_field "$name" Architecture amd64
+        expect_field "$name" Installed-Size "$(installed_size "$(file_of "$name")")"
         [[ $(dpkg-deb --field "$(file_of "$name")" Maintainer) =~ ^[^\<\>]+\ \<[^\<\>\ ]+@[^\<\>\ ]+\>$ ]] ||
             wrong "$name has no maintainer with an address"
         [[ $(dpkg-deb --field "$(file_of "$name")" Description | wc -l) -gt 3 ]] ||
@@ -282,6 +291,9 @@ look_at_cross_packages() {
         done
         [[ $(dpkg-deb --field "$(cross_file_of "$name")" Architecture) == arm64 ]] ||
             wrong "$name for arm64 is for another architecture"
+        [[ $(dpkg-deb --field "$(cross_file_of "$name")" Installed-Size) == \
+            "$(installed_size "$(cross_file_of "$name")")" ]] ||
+            wrong "$name for arm64 has another Installed-Size"
         diff <(files_of "$name" | grep -v '/examples/.*\.sh$' | sed "s,^$libdir/,$cross_libdir/," | sort) \
             <(files_of "arm64/$name") || wrong "$name for arm64 has other files"
         (cd "$scratch/arm64/$name" && quietly md5sum --strict --check DEBIAN/md5sums) ||
