@@ -350,6 +350,7 @@ look_at_refusals
 install_to lib ''
 install_to lib64 lib64/
 install_to lib/x86_64-linux-gnu PREFIX/lib/x86_64-linux-gnu
+install_beside
 install_twice
 install_half
 install_below

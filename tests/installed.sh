@@ -86,6 +86,21 @@ uninstall() {
         wrong 'uninstall.sh leaves other files'
 }
 
+# Installs to a folder that is named from the one in which install.sh is called, which is another
+# than the release's.
+install_beside() {
+    local folder=$scratch/beside
+    mkdir "$folder" && cp -a "$unpacked" "$folder/release" || exit 2
+    (cd "$folder" && quietly sh release/install.sh to/prefix) ||
+        wrong 'install.sh fails for a relative PREFIX'
+    diff <(find "$folder/to/prefix" ! -type d | sort) <(sort "$scratch/said") ||
+        wrong 'install.sh prints other files than it installs for a relative PREFIX'
+    [[ -x $folder/to/prefix/bin/cesu8_cli ]] || wrong 'install.sh takes a relative PREFIX otherwise'
+    diff -r "$unpacked" "$folder/release" ||
+        wrong 'install.sh writes to the release for a relative PREFIX'
+    uninstall "$folder/to/prefix"
+}
+
 # What was installed twice, with the libraries in two folders, is taken away by one run. Of what the
 # first run prints, only a line is read.
 install_twice() {
