@@ -11,7 +11,7 @@ set -euo pipefail
 unset CDPATH
 export LC_ALL=C
 
-top=$(cd "$(dirname "${BASH_SOURCE[0]}")" && pwd)
+top=$(dirname "$(readlink -f "${BASH_SOURCE[0]}")")
 
 fail() {
     echo "vendor.sh: $1" >&2
@@ -60,7 +60,7 @@ if (($# != 1)); then
     exit 2
 fi
 [[ -d $1 ]] || fail "$1 is no folder"
-target=$(cd "$1" && pwd)
+target=$(cd "$1" && pwd -P)
 [[ $target != "$top" ]] || fail "$1 is this repository"
 
 # Crates lie in the folder crates, or beside a crates.txt that is in use where there is none.

@@ -174,14 +174,42 @@ look_at_git
 echo 'old' >"$new/crates/simd_cesu8/src/old.rt"
 copy "$lines"$'\n'"$own"
 
+# That vendor.sh refuses a folder with status 2, and changes nothing in it:
+# `refuses WHAT VENDOR FOLDER`.
+refuses() {
+    local status=0
+    rm -rf "$scratch/before" && cp -a "$3/." "$scratch/before" || exit 2
+    "$2" "$3" >"$scratch/printed" 2>"$scratch/said" || status=$?
+    [[ $status == 2 && ! -s $scratch/printed && -s $scratch/said ]] || wrong "vendor.sh takes $1"
+    diff -r "$scratch/before" "$3/." || wrong "vendor.sh writes to $1"
+}
+
 # A repository with no folder crates, and one with a library of this name that is its own.
 mkdir -p "$scratch/flat" "$scratch/other/crates/simd_cesu8/src" || exit 2
 printf 'keys: simd_cesu8' >"$scratch/flat/crates.txt"
-"$top/vendor.sh" "$scratch/flat" >>"$scratch/flat/crates.txt" || wrong 'vendor.sh fails beside crates.txt'
+# It is called by a link.
+ln -s "$top/vendor.sh" "$scratch/vendor" || exit 2
+"$scratch/vendor" "$scratch/flat" >>"$scratch/flat/crates.txt" ||
+    wrong 'vendor.sh fails beside crates.txt'
 [[ $(head -n 2 "$scratch/flat/crates.txt") == $'keys: simd_cesu8\ncesu8_text:' ]] ||
     wrong 'a line of crates.txt without an end is lengthened'
 [[ -f $scratch/flat/java_text/src/lib.rt ]] || wrong 'the copy does not stand beside crates.txt'
-"$top/vendor.sh" "$scratch/other" >/dev/null 2>&1 && wrong 'vendor.sh replaces what it did not copy'
+refuses 'a library that it did not copy' "$top/vendor.sh" "$scratch/other"
+
+# A copy that is a link: what it leads to may belong to others.
+mkdir -p "$scratch/linked/crates" || exit 2
+ln -s "$scratch/flat/simd_cesu8" "$scratch/linked/crates/simd_cesu8" || exit 2
+echo 'own' >"$scratch/flat/simd_cesu8/src/own.rt"
+refuses 'a link to a copy' "$top/vendor.sh" "$scratch/linked"
+[[ -f $scratch/flat/simd_cesu8/src/own.rt ]] || wrong 'vendor.sh writes through a link'
+
+# Its own repository, by its name and by a link: here one whose libraries are copies themselves.
+mkdir -p "$scratch/own/crates" || exit 2
+cp "$top"/{vendor.sh,crates.txt,VERSION,LICENSE-APACHE,LICENSE-MIT} "$scratch/own" || exit 2
+cp -R "${libraries[@]/#/$scratch/flat/}" "$scratch/own/crates" || exit 2
+ln -s own "$scratch/link" || exit 2
+refuses 'its own repository' "$scratch/own/vendor.sh" "$scratch/own"
+refuses 'a link to its own repository' "$scratch/own/vendor.sh" "$scratch/link"
 
 ((failed == 0)) || exit 1
 echo 'a new repository with a copy of the libraries is proved'
