@@ -2,15 +2,16 @@
 # Installs the wheel of the release into a fresh environment, and tests it there by the files of
 # tests/wheel: on the standards' tables, all inputs of two bytes and all scalar values beside a plain
 # model, every error handler, every split of damaged bytes, files and streams, and Java's own bytes.
-# It also checks what the wheel holds, and that wheel.py writes the same bytes again. It then tests the
-# wheel once more in each other Python from 3.10 on that is there as python3.N and in the debug build
-# that Debian's python3-dbg has, and the module in C by itself under valgrind; and the wheel for aarch64 in
-# the Python of AARCH64_ROOT (tests/cross.sh), in an emulator.
+# It also checks what the wheel holds, what its module shows, its alignment and its mark, and that
+# wheel.py writes the same bytes again. It then tests the wheel once more in each other Python from
+# 3.10 on that is there as python3.N and in the debug build that Debian's python3-dbg has, and the
+# module in C by itself under valgrind and with the address sanitizer; and the wheel for aarch64 in the
+# Python of AARCH64_ROOT (tests/cross.sh), in an emulator.
 #
 # RELEASE names the folder that dist.sh has filled; where it is not set, dist.sh is run. Without
 # python3 with venv and the header that dist.sh needs, it says that it skipped everything; without Java,
-# a debug build, valgrind or what it needs for aarch64, what it skipped. The status is 0 if nothing is
-# wrong. It needs what tests/release.sh does.
+# a debug build, valgrind, the sanitizer or what it needs for aarch64, what it skipped. The status is 0 if
+# nothing is wrong. It needs readelf, nm, and what tests/release.sh does.
 unset "${!PYTHON@}"
 # shellcheck source=tests/lib.sh
 source "$(dirname "${BASH_SOURCE[0]}")/lib.sh" || exit 2
@@ -81,6 +82,29 @@ look_at_tag() {
     grep -qx "Tag: ${tag%.whl}" "$2"/cesu8-*.dist-info/WHEEL || wrong "${1##*/} has another tag within"
     objdump -p "$2/cesu8/_native.abi3.so" | grep NEEDED | grep -vw libc.so.6 &&
         wrong "the module of ${1##*/} needs more than the C library"
+}
+
+# Where the functions of a module begin, by the frames that readelf prints: `functions_of MODULE`.
+functions_of() {
+    local text
+    text=$(readelf -SW "$1" | sed -n 's/.* \.text *PROGBITS *\([0-9a-f]*\) .*/\1/p')
+    # What stands before is the linker's.
+    readelf -wf "$1" | sed -n 's/.* FDE .* pc=\([0-9a-f]*\)\.\..*/\1/p' |
+        awk -v text="$text" '$1 "" >= text ""'
+}
+
+# That a module shows no name but the one by which Python loads it, that its functions begin at
+# multiples of 32 bytes, and that it is marked as code for a level of x86-64, if one is named:
+# `look_at_module MODULE [LEVEL]`.
+look_at_module() {
+    diff <(echo 'T PyInit__native') <(nm -D --defined-only "$1" | cut -d ' ' -f 2-) ||
+        wrong "$1 shows other names"
+    functions_of "$1" >"$scratch/functions"
+    (($(wc -l <"$scratch/functions") > 15)) || wrong "$1 has few functions"
+    grep -v '[02468ace]0$' "$scratch/functions" &&
+        wrong "these functions of $1 begin elsewhere than at multiples of 32 bytes"
+    [[ -z ${2-} ]] || readelf -nW "$1" | grep -q "x86 ISA needed: $2\$" ||
+        wrong "$1 is not marked as $2"
 }
 
 # A fresh environment with the wheel, without a network.
@@ -163,6 +187,29 @@ test_by() {
     fi
 }
 
+# Tests the module in C by a build that fails if it touches bytes outside its arrays. Valgrind does not
+# know where those on the stack end.
+test_sanitized() {
+    local what='the module with the address sanitizer' site=$scratch/sanitized
+    local flags=(-fsanitize=address -O1 -g) preload environment
+    can_build_c "$what" || return 0
+    can_build "$what" cc "${flags[@]}" -o "$scratch/probe" "$scratch/probe.c" || return 0
+    preload=$(cc -print-file-name=libasan.so)
+    if [[ ! -f $preload ]]; then
+        echo "libasan.so is missing: $what skipped"
+        return
+    fi
+    # A look for leaks would find those of Python itself.
+    environment=(ASAN_OPTIONS=detect_leaks=0 "LD_PRELOAD=$preload" PYTHONMALLOC=malloc)
+    can_build "$what" env "${environment[@]}" "$python" -c '' || return 0
+    cp -R "$scratch/site-packages" "$site" || exit 2
+    quietly cc -std=c11 "${flags[@]}" -fPIC -shared -o "$site/cesu8/_native.abi3.so" \
+        "$top/python/native.c" -I "$unpacked/include" "$unpacked/lib/libcesu8.a" \
+        -isystem "$(python3 -c 'import sysconfig; print(sysconfig.get_path("include"))')" ||
+        { wrong 'the module does not build with the address sanitizer'; return; }
+    run_tests test_native.py "$site" env "${environment[@]}" "$python" -s
+}
+
 # Tests the wheel for aarch64 in an emulator, in a Python for arm64. It leaves out what takes minutes there,
 # and is about the Python of the package more than about the module.
 test_on_aarch64() {
@@ -180,6 +227,7 @@ test_on_aarch64() {
     fi
     mkdir "$folder" && tar xzf "$release/$cross_name.tar.gz" -C "$scratch/unpacked" || exit 2
     look_at_wheel "$wheel" "$unpacked" "$folder"
+    look_at_module "$folder/site-packages/cesu8/_native.abi3.so"
     # By the first argument Python knows how it is called, and calls itself so.
     # shellcheck disable=SC2016
     printf '#!/bin/sh\nexec "%s" -0 "$0" -L "%s" "%s" "$@"\n' "$AARCH64_EMULATOR" "$AARCH64_ROOT" "$python" \
@@ -203,6 +251,7 @@ if [[ ! -f $wheel ]]; then
     exit 1
 fi
 look_at_wheel "$wheel" "$unpacked" "$scratch"
+look_at_module "$scratch/site-packages/cesu8/_native.abi3.so" x86-64-v2
 install_wheel
 run_java
 run_tests 'test_*.py' '' "$python" -I
@@ -221,5 +270,6 @@ if can_build 'the module under valgrind' valgrind --version; then
         END { exit found }
     ' "$scratch/valgrind" || wrong 'valgrind finds errors of the module'
 fi
+test_sanitized
 test_on_aarch64
 ((failed == 0))
