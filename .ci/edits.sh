@@ -114,6 +114,18 @@ try_round() {
     fi
 }
 
+# Prints a file with the lines that edits change in it, as rounds.awk has written them: `print_changed FILE
+# PATH NAME.lines..`.
+print_changed() {
+    awk -F '\t' -v file="$1" '
+        FILENAME ~ /\.lines$/ {
+            if ($1 == file) changed[$2] = substr($0, length($1 $2) + 3)
+            next
+        }
+        { print FNR in changed ? changed[FNR] : $0 }
+    ' "${@:3}" "$2"
+}
+
 # Changes the lines of these edits in the crate's tree: `lay_lines CRATE NAME..`.
 lay_lines() {
     local crate=$1 tree=$scratch/rounds/$1/crates/$1 plan=$scratch/rounds/$1.plan file
@@ -123,13 +135,7 @@ lay_lines() {
     lines=("${lines[@]/#/$plan/}")
     cut -f 1 "${lines[@]}" | sort -u >"$plan/files"
     while read -r file; do
-        awk -F '\t' -v file="$file" '
-            FILENAME ~ /\.lines$/ {
-                if ($1 == file) changed[$2] = substr($0, length($1 $2) + 3)
-                next
-            }
-            { print FNR in changed ? changed[FNR] : $0 }
-        ' "${lines[@]}" "$scratch/scripts/crates/$crate/$file" >"$plan/file"
+        print_changed "$file" "$scratch/scripts/crates/$crate/$file" "${lines[@]}" >"$plan/file"
         # The file may be the second name of one in the copy, so it is replaced.
         mv "$plan/file" "$tree/$file"
     done <"$plan/files"

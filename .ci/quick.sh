@@ -5,7 +5,8 @@
 # - it proves the crates that differ, and those above them that have `specs`, which promise something. What
 #   is below is proved only where this clone has no proof of it as it stands;
 # - the tests of all crates that differ or stand above run, without proof;
-# - the edits of files that differ are tried. All of these crates can be applied;
+# - the edits of files that differ are tried, but .ci/shows.sh is left to the gate. All of these crates can
+#   be applied;
 # - where the program is among what is proved, it is linked, and cli.sh and requests.sh run.
 #
 # What it has proved of crates of which this clone had nothing, as `uses` or tests, it leaves in their `out`

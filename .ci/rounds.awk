@@ -3,8 +3,8 @@
 # It writes to FOLDER, with tabs between:
 #   NAME.lines   each line that an edit changes: FILE LINE TEXT
 #   NAME.owners  each function that it changes: NAME FILE FIRST LAST FOLDER, its lines and the folder of its
-#                proof, or NAME FILE 0 0 any where it changes something else; and EXCHANGE, `exchange` where
-#                its lines have the same characters as before, in another order
+#                proof, or NAME FILE 0 0 any where it changes something else; and SHOWN, `shown` where the
+#                edit has a line `shows:`
 #   rounds       the names of each round
 #   bad          each edit that can't be applied: NAME WHY
 #
@@ -36,11 +36,14 @@ BEGIN {
 function apply(edit,    line, path, old, pairs, why) {
     delete now
     delete paths
+    shown = ""
     while (why == "" && (getline line < edit) > 0) {
         if (line ~ /^file: /) {
             path = substr(line, 7)
             gsub(/^ +| +$/, "", path)
             why = open(path)
+        } else if (line ~ /^shows: /) {
+            shown = "shown"
         } else if (line ~ /^old: /) {
             old = substr(line, 6)
         } else if (line ~ /^new:/) {
@@ -150,34 +153,22 @@ function word(path) {
     return path
 }
 
-# Keeps in `owners` what the edit changes, in `is_alone` whether it wants a round of its own, and in `order`
-# whether it only exchanges what is there. Returns what is wrong with it.
+# Keeps in `owners` what the edit changes, and in `is_alone` whether it wants a round of its own. Returns
+# what is wrong with it.
 function find_owners(    path, k, at, changes) {
     delete owners
-    delete count_of
     is_alone = 0
     for (path in paths)
         for (k = 1; k <= size[path]; k++) {
             if (now[path, k] == was[path, k]) continue
             changes++
             print path "\t" k "\t" now[path, k] > (to "/" name ".lines")
-            count(was[path, k], 1)
-            count(now[path, k], -1)
             at = owner(path, k)
             if (at) owners[path "\t" first_of[path, at] "\t" last_of[path, at] "\t" folder_of[path, at]]
             else owners[path "\t0\t0\tany"]
             if (!at) is_alone = 1
         }
-    order = "exchange"
-    for (k in count_of) if (count_of[k]) order = ""
     return changes ? "" : "it changes nothing"
-}
-
-# Counts each character of a line, but for spaces. A test counts as the one from its other side.
-function count(line, by,    k) {
-    gsub(/ /, "", line)
-    gsub(/>/, "<", line)
-    for (k = length(line); k > 0; k--) count_of[substr(line, k, 1)] += by
 }
 
 # The function in whose body a line is, or 0.
@@ -195,7 +186,7 @@ function lay(    it, round, parts) {
     members[round] = members[round] (members[round] == "" ? "" : " ") name
     is_closed[round] = is_alone
     for (it in owners) {
-        print name "\t" it "\t" order > (to "/" name ".owners")
+        print name "\t" it "\t" shown > (to "/" name ".owners")
         split(it, parts, "\t")
         taken[round, parts[1], parts[2]]
         taken[round, parts[4]]

@@ -7,10 +7,10 @@
 # of the function's code, or in its file of answers or invariants. Any goal counts for an edit of what is
 # no function's body, since nothing else is changed in its round.
 #
-# That a goal is false is told by values that break it, by a search that tried every way in vain, or by the
-# type of a proof by hand, where it is not the goal's. A goal at which a search met a limit counts for
-# nothing, since it may be true. An edit that only exchanges what is in its lines, as the operands of a test,
-# may leave it true too. So there the type of a proof counts only if it has another constant.
+# That a goal is false is told by values that break it, or by a search that tried every way in vain. A goal
+# at which a search met a limit may be true, and so may one that a proof by hand does not fit: its form
+# changes with the code. Such a goal counts only for an edit with a line `shows:`, by which shows.sh shows
+# that the edit is a mistake.
 
 FNR == 1 { FS = FILENAME ~ /\.owners$/ ? "\t" : " "; $0 = $0 }
 
@@ -21,7 +21,7 @@ FILENAME ~ /\.owners$/ {
     first[owners] = $3
     last[owners] = $4
     folder[owners] = $5
-    is_exchange[owners] = $6 != ""
+    is_shown[owners] = $6 != ""
     is_changed[$2]
     next
 }
@@ -80,8 +80,7 @@ function judge(    path, line, rest, i) {
         if (is_of(i, path, line + 0)) {
             if (text ~ /has no field|is not in scope|has no `|was not admitted/) vanished[i] = short(text)
             else if (!tells_goal(text)) continue
-            else if (tells_types(text) ? is_exchange[i] && !tells_constant(text) : tells_limit(text))
-                vague[i] = short(text)
+            else if (!is_shown[i] && (tells_types(text) || tells_limit(text))) vague[i] = short(text)
             else if (!(i in goal)) goal[i] = short(text)
         }
 }
@@ -114,11 +113,6 @@ function tells_limit(text) {
 # Whether a message tells of a proof by hand with another type than its goal.
 function tells_types(text) {
     return beginning(text) ~ /the two (types|sides)|: expected type/
-}
-
-# Whether such a message shows a constant on one side that the other has not.
-function tells_constant(text) {
-    return text ~ / has `\(?(mathlib\.Core\.Bool\.)?(true|false|[0-9]+)\)?`/
 }
 
 # Whether a message tells that code, a spec or an edited file can't be read. One of a goal begins with the
