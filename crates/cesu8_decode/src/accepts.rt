@@ -1,6 +1,6 @@
 //! What a call that decodes takes, as types.
 
-ghost use Rattle.std.specs.Prelude.{◌≡◌, ◌↔◌, ◌⊎◌, ℕ, List, IfNone, IfSome, IsTrue, IsUtf8};
+ghost use Rattle.std.specs.Prelude.{◌≡◌, ◌↔◌, ◌⊎◌, ℕ, ◌≤◌, List, IfNone, IfSome, IsTrue, IsUtf8, length, take};
 ghost use Rattle.cesu8_text.specs.Class.{IsUnchangedUtf8};
 ghost use Rattle.cesu8_text.specs.Encoding.{Flavor as AnyFlavor};
 ghost use Rattle.cesu8_text.specs.Reading.{IsStrictReading, IsLenientReading, reading, IsLenientLossyReading};
@@ -87,16 +87,27 @@ impl Accepts for Lenient {
         if front.len == bytes.len() || !matches!(bytes[front.len], 0 | 0xF0..=0xF7) {
             return front;
         }
-        if !is_utf8_by_parts(&bytes[first_tested(bytes, front.len)..]) {
-            return front;
-        }
-        FoundFront {
-            len: bytes.len(),
-            stops: 0,
-        }
+        all_if_utf8(bytes, front)
     }
 
     ghost known = { lenient_texts };
+}
+
+/// Returns all bytes if they are UTF-8, as they are up to the end of the front, or else the front.
+/// It is not inlined, so that text that stays has few registers to save.
+#[inline(never)]
+fn all_if_utf8(bytes: &[u8], front: FoundFront) -> FoundFront
+    requires { (front.len ≤ length bytes.now) × IsUtf8 (take front.len bytes.now) }
+    ensures { ((result.len ≡ length bytes.now) × IsUtf8 bytes.now)
+        ⊎ ((result ≡ front) × ¬ (IsUtf8 bytes.now)) }
+{
+    if !is_utf8_by_parts(&bytes[first_tested(bytes, front.len)..]) {
+        return front;
+    }
+    FoundFront {
+        len: bytes.len(),
+        stops: 0,
+    }
 }
 
 /// Returns where the test for UTF-8 begins: after the front, which is UTF-8. At most 64 bytes are

@@ -11,12 +11,13 @@ ghost use Rattle.cesu8_text.specs.Patterns.{IsContinuation};
 
 use crate::way::is_one_block;
 use cesu8_bytes::BLOCK;
-use cesu8_bytes::lanes::class::LANES;
+use cesu8_bytes::lanes::class::{LANES, NonAscii};
 use cesu8_bytes::lanes::padded::padded_half;
+use cesu8_bytes::lanes::search::any_in_bytes;
 use simdutf8::Checker;
 use std::simd::prelude::*;
 
-/// The most bytes of a part.
+/// The most bytes of a part after the first, which has at most 64.
 const PART: usize = 16 * LANES;
 
 /// The indices of two blocks, one after the other.
@@ -31,13 +32,29 @@ const BOTH_BLOCKS: [usize; LANES] = [
 pub fn is_utf8_by_parts(bytes: &[u8]) -> bool
     ensures { IsTrue result ↔ IsUtf8 bytes.now }
 {
-    // The compiler knows half of the vector to be zero here, so this is shorter than the loop.
+    // The compiler knows half of the vector to be zero here.
     if is_one_block(bytes) {
         return is_rest_utf8(Checker::new(), bytes);
     }
+    let first = part_end(bytes, 0, LANES);
+    if !is_rest_utf8(Checker::new(), &bytes[..first]) {
+        return false;
+    }
+    // A character of four bytes often stands alone in ASCII, which needs no `Checker`.
+    if !any_in_bytes::<NonAscii>(&bytes[first..]) {
+        return true;
+    }
+    are_parts_utf8(&bytes[first..])
+}
+
+/// Like `is_utf8_by_parts`, by parts of `PART` bytes alone.
+#[inline(always)]
+fn are_parts_utf8(bytes: &[u8]) -> bool
+    ensures { IsTrue result ↔ IsUtf8 bytes.now }
+{
     let mut start = 0;
     while start < bytes.len() {
-        let end = part_end(bytes, start);
+        let end = part_end(bytes, start, PART);
         if !is_part_utf8(&bytes[start..end]) {
             return false;
         }
@@ -46,17 +63,19 @@ pub fn is_utf8_by_parts(bytes: &[u8]) -> bool
     true
 }
 
-/// Returns where a part ends that begins at `start`. In UTF-8 that is between two characters.
+/// Returns where a part of at most `most` bytes ends. In UTF-8 that is between two characters.
 #[inline(always)]
-fn part_end(bytes: &[u8], start: usize) -> usize
-    requires { start < length bytes.now }
+fn part_end(bytes: &[u8], start: usize, most: usize) -> usize
+    requires start { start < length bytes.now }
+    requires most { 4 ≤ most }
     ensures within { (start < result) × (result ≤ length bytes.now) }
+    ensures most { result ≤ start + most }
     ensures boundary { IsUtf8 bytes.now → IsCharBoundary bytes.now result }
 {
-    if bytes.len() - start <= PART {
+    if bytes.len() - start <= most {
         return bytes.len();
     }
-    character_start(bytes, start + PART)
+    character_start(bytes, start + most)
 }
 
 /// Returns where the character begins that has a byte at `at`, if the bytes are UTF-8: up to three

@@ -1,11 +1,11 @@
 -- UTF-8 that is cut between two characters, and UTF-8 with zeros after it.
-use Rattle.std.proofs.Common.{◌≡◌, ℕ, ◌+◌, ◌-◌, ◌<◌, ◌≤◌, ◌↔◌, ◌⊎◌, ◌∙◌, ⊎_elim, List, [], ◌∷◌, ◌++◌, arith, get_or, length, length-append, replicate, subst, sym}
+use Rattle.std.proofs.Common.{◌≡◌, ℕ, ◌+◌, ◌-◌, ◌<◌, ◌≤◌, ◌↔◌, ◌⊎◌, ◌∙◌, ⊎_elim, List, [], ◌∷◌, ◌++◌, arith, get_or, length, length-append, replicate, subst, sym, take, drop}
 use Rattle.std.specs.Str.{IsUtf8, IsCharBoundary, chars}
 use Rattle.std.proofs.Math.Seq.{take-append_seam}
 use Rattle.std.proofs.lemmas.Bool.{cases_lt, cases_eq}
 use Rattle.std.proofs.lemmas.Bool.Decides.{nat_tests}
-use Rattle.std.proofs.lemmas.List.{get_or-append-add, get_or_past}
-use Rattle.std.proofs.lemmas.Str.{IsUtf8-append, IsUtf8-take, IsUtf8-from_ascii, IsCharBoundary-start}
+use Rattle.std.proofs.lemmas.List.{get_or-append-add, get_or_past, take-append-drop}
+use Rattle.std.proofs.lemmas.Str.{IsUtf8-append, IsUtf8-drop, IsUtf8-take, IsUtf8-from_ascii, IsCharBoundary-start, IsCharBoundary-from_take}
 use Rattle.cesu8_text.specs.Patterns.{IsContinuation}
 use Rattle.cesu8_text.specs.Text.{IsText, utf8_of, utf8}
 use Rattle.cesu8_text.proofs.StdUtf8.{IsUtf8Of_chars, IsUtf8_utf8}
@@ -20,6 +20,19 @@ with_zeros bytes n =
           (IsUtf8-take (bytes ++ zeros) (length bytes) whole (omega (arith, length-append bytes zeros), λ _ high. absurd (omega (arith, high, zero)))),
       λ is_utf8. IsUtf8-append bytes zeros is_utf8 (IsUtf8-from_ascii zeros (λ i. omega (arith, zeros_at n i))),
     )
+
+-- Bytes that end a part between two characters, if they are UTF-8, are that exactly if the part and the rest are.
+pub both_parts : (bytes : List ℕ) (n : ℕ) → (IsUtf8 bytes → IsCharBoundary bytes n) → IsUtf8 bytes ↔ (IsUtf8 (take n bytes) × IsUtf8 (drop n bytes))
+both_parts bytes n boundary = (
+  λ whole. (IsUtf8-take bytes n whole (boundary whole), IsUtf8-drop bytes n whole (boundary whole)),
+  λ parts. subst IsUtf8 (take-append-drop n bytes) (IsUtf8-append (take n bytes) (drop n bytes) parts.0 parts.1),
+)
+
+-- After UTF-8, bytes are UTF-8 exactly if all are.
+pub after_utf8 : (bytes : List ℕ) (n : ℕ) → n ≤ length bytes → IsUtf8 (take n bytes) → IsUtf8 (drop n bytes) ↔ IsUtf8 bytes
+after_utf8 bytes n within front =
+    let same = both_parts bytes n (λ whole. IsCharBoundary-from_take bytes n whole within front) in
+    (λ rest. same.1 (front, rest), λ whole. (same.0 whole).1)
 
 -- ---- where a part may end
 

@@ -1,29 +1,29 @@
-use Rattle.std.proofs.Common.{◌-◌, arith, drop, subst, sym, take, take-add, true≢false}
-use Rattle.std.specs.Str.{IsUtf8}
+use Rattle.std.proofs.Common.{[], refl, sym, true≢false}
 use Rattle.std.proofs.lemmas.Bool.{both_ways}
-use Rattle.std.proofs.lemmas.Str.{IsUtf8-append, IsUtf8-between, IsCharBoundary-from_take}
+use Rattle.std.proofs.lemmas.List.{take_rest}
+use Rattle.std.proofs.lemmas.Str.{IsUtf8-from_ascii}
+use Rattle.cesu8_bytes.proofs.lists.Ascii.{ascii_of_none}
+use Rattle.cesu8_decode.proofs.chunks.Utf8Parts.{both_parts}
 use Rattle.cesu8_decode.proofs.utf8.is_utf8_by_parts.Goals as goal
 
-pub returns-then-not-is_part_utf8 : goal.returns-then-not-is_part_utf8
-returns-then-not-is_part_utf8 c =
-    let bytes = c.args.bytes.now in
-    let start = c.loop-start.start in
-    let end = c.part_end-end.result in
-    let before = c.part_end-end.ensures.within.0 in (
+pub returns-then-not-is_rest_utf8 : goal.returns-then-not-is_rest_utf8
+returns-then-not-is_rest_utf8 c =
+    let same = both_parts c.args.bytes.now c.part_end-first.result c.part_end-first.ensures.boundary in (
       λ passes. absurd (true≢false (sym passes)),
-      λ is_utf8. absurd (both_ways _ c.if-not-is_part_utf8.true (c.is_part_utf8.ensures.1
-          (IsUtf8-between bytes start end is_utf8 (omega (arith, before))
-          (IsCharBoundary-from_take bytes start is_utf8 c.loop-start.invariant.0 c.loop-start.invariant.1) (c.part_end-end.ensures.boundary is_utf8)))),
+      λ is_utf8. absurd (both_ways _ c.if-not-is_rest_utf8.true ((c.is_rest_utf8-2.ensures [] c.new-2.ensures).1 (same.0 is_utf8).0)),
     )
 
-pub loop-start-preserved : goal.loop-start-preserved
-loop-start-preserved c =
-    let bytes = c.args.bytes.now in
-    let start = c.loop-start.start in
-    let end = c.part_end-end.result in (
-      c.part_end-end.ensures.within.1,
-      subst (λ n. IsUtf8 (take n bytes)) (omega (arith, c.part_end-end.ensures.within.0))
-          (subst IsUtf8 (sym (take-add start (end - start) bytes))
-          (IsUtf8-append (take start bytes) (take (end - start) (drop start bytes)) c.loop-start.invariant.1
-          (c.is_part_utf8.ensures.0 c.if-not-is_part_utf8.false))),
-    )
+pub returns-then-not-any_in_bytes : goal.returns-then-not-any_in_bytes
+returns-then-not-any_in_bytes c =
+    let same = both_parts c.args.bytes.now c.part_end-first.result c.part_end-first.ensures.boundary in
+    let first = (c.is_rest_utf8-2.ensures [] c.new-2.ensures).0 c.if-not-is_rest_utf8.false in
+    let found = rw take_rest at c.any_in_bytes.ensures in
+    let ascii = ascii_of_none _ (λ any. both_ways _ c.if-not-any_in_bytes.true (found.1 any)) in
+    (λ _. same.1 (first, IsUtf8-from_ascii _ ascii), λ _. refl)
+
+pub returns : goal.returns
+returns c =
+    let same = both_parts c.args.bytes.now c.part_end-first.result c.part_end-first.ensures.boundary in
+    let first = (c.is_rest_utf8-2.ensures [] c.new-2.ensures).0 c.if-not-is_rest_utf8.false in
+    let rest = rw take_rest at c.are_parts_utf8.ensures in
+    (λ parts. same.1 (first, rest.0 parts), λ is_utf8. rest.1 (same.0 is_utf8).1)

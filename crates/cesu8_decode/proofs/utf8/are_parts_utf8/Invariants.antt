@@ -1,6 +1,6 @@
 use Rattle.std.proofs.Common.{◌-◌, ◌≤◌, length, take}
 use Rattle.std.specs.Str.{IsUtf8}
-use Rattle.cesu8_decode.proofs.utf8.is_utf8_by_parts.Given as goal
+use Rattle.cesu8_decode.proofs.utf8.are_parts_utf8.Given as goal
 
 abbrev pub invariant-loop-start : goal.invariant-loop-start
 invariant-loop-start l = (l.start ≤ length l.bytes) × IsUtf8 (take l.start l.bytes)
