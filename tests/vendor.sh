@@ -57,7 +57,8 @@ pub fn key_of(alloc: Global, text: &str) -> Result<Vec<u8>, AllocError>
 pub fn text_of(alloc: Global, key: &[u8]) -> Result<String, DecodeFault>
     ensures { IfOk result (λ text. IsStrictReading Cesu8 key.now (chars (string_bytes text))) }
 {
-    Ok(simd_cesu8::decode_strict(alloc, key)?.into_string(alloc)?)
+    let text = simd_cesu8::decode_strict(alloc, key)?;
+    text.into_string(alloc).map_err(DecodeFault::Memory)
 }
 LIBRARY
     cat >>"$1/sorted/src/lib.rt" <<'FUNCTION'
@@ -69,7 +70,7 @@ pub fn there_and_back(alloc: Global, text: &str) -> Result<String, DecodeFault>
     ensures { IfOk result (λ back. string_bytes back ≡ text.now) }
 {
     laws::inverse();
-    let key = key_of(alloc, text)?;
+    let key = key_of(alloc, text).map_err(DecodeFault::Memory)?;
     text_of(alloc, key.as_slice())
 }
 FUNCTION

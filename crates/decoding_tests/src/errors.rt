@@ -1,7 +1,7 @@
 //! What the errors show.
 
 use simd_cesu8::{DecodeFault, encode_to_slice};
-use std::alloc::{AllocError, AllocFailed, Global};
+use std::alloc::{AllocError, Global};
 use std::error::Error;
 use std::test::Fail;
 use test_cases::flavors::{Flavor, decode};
@@ -31,24 +31,5 @@ fn errors_are_shown(rt: HostRuntime) -> Result<(), Fail> {
     assert_eq!(rt; plain.as_str(), "DecodingError");
     let wide = format!(in rt.alloc(); "{error:20?}")?;
     assert_eq!(rt; wide.as_str(), "DecodingError");
-    Ok(())
-}
-
-/// Copies bytes one by one: `?` makes a fault of each request for memory that is refused.
-fn copied(alloc: Global, bytes: &[u8]) -> Result<Vec<u8>, DecodeFault> {
-    let mut copy = Vec::with_capacity(alloc, 1)?;
-    for byte in bytes {
-        copy.push(*byte)?;
-    }
-    Ok(copy)
-}
-
-#[test]
-fn a_refused_request_becomes_a_fault(rt: HostRuntime) -> Result<(), Fail> {
-    assert_eq!(rt; copied(rt.alloc(), b"ab")?.as_slice(), b"ab".as_slice());
-    let fault = DecodeFault::from(AllocError);
-    assert!(rt; matches!(fault, DecodeFault::Memory(_)));
-    let fault = DecodeFault::from(AllocFailed { value: b'a' });
-    assert!(rt; matches!(fault, DecodeFault::Memory(_)));
     Ok(())
 }

@@ -1,11 +1,10 @@
 //! The errors of this crate's calls.
 
-ghost use Rattle.std.specs.Prelude.{◌≡◌, Some, alloc_error, codes, true};
+ghost use Rattle.std.specs.Prelude.{Some, codes, true};
 ghost use Rattle.std.proofs.Common.{rules};
 ghost use Rattle.simd_cesu8.specs.Fault.{message_of, slice_message_of, lossy_message_of};
-ghost use Rattle.simd_cesu8.specs.declared.error.DecodeFault.TheVariants.{Memory};
 
-use std::alloc::{AllocError, AllocFailed};
+use std::alloc::AllocError;
 use std::error::Error;
 use std::fmt;
 use std::fmt::{Debug, Display, Formatter};
@@ -75,23 +74,6 @@ pub enum DecodeFault {
     Invalid(DecodingError),
     /// A request for memory was refused.
     Memory(AllocError),
-}
-
-impl From<AllocError> for DecodeFault {
-    ghost from_gives = { λ error fault. fault ≡ Memory error };
-
-    fn from(error: AllocError) -> DecodeFault {
-        DecodeFault::Memory(error)
-    }
-}
-
-/// So that `push(byte)?` works where a `DecodeFault` is returned. The value is dropped.
-impl<T: Drop> From<AllocFailed<T>> for DecodeFault {
-    ghost from_gives = { λ _ fault. fault ≡ Memory alloc_error };
-
-    fn from(_: AllocFailed<T>) -> DecodeFault {
-        DecodeFault::Memory(AllocError)
-    }
 }
 
 impl Display for DecodeFault {

@@ -1,5 +1,5 @@
 -- Keys that are encodings, and their order.
-use Rattle.std.proofs.Common.{◌≡◌, ◌≢◌, ℕ, true, false, List, Option, Ordering, Less, get_or, refl, sym, ◌∙◌}
+use Rattle.std.proofs.Common.{◌≡◌, ◌≢◌, ℕ, true, false, List, Option, Ordering, refl, sym, ◌∙◌}
 use Rattle.std.specs.Global.{Vec}
 use Rattle.std.specs.BTreeMap.{BTreeMap, keys, IsOrdered, UpdatesBy}
 use Rattle.std.specs.Cmp.Lexicographic.{slice_cmp, same_text, texts_ties}
@@ -10,7 +10,7 @@ use Rattle.std.proofs.lemmas.Map.Keys.{Less-from_sorted}
 use Rattle.simd_cesu8.specs.Text.{IsText}
 use Rattle.simd_cesu8.specs.Encoding.{Cesu8, encoding}
 use Rattle.simd_cesu8.specs.Laws.{RoundTrip, KeyOrder}
-use Rattle.uses.specs.KeyStore.{value_at, IsBelowInUtf16, IsInUtf16Order}
+use Rattle.uses.specs.KeyStore.{value_at, IsInUtf16Order}
 
 -- How the store compares two keys.
 abbrev key_cmp : Vec ℕ → Vec ℕ → Ordering

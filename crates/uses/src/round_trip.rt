@@ -43,7 +43,8 @@ pub fn decode_and_encode(alloc: Global, bytes: &[u8]) -> Result<Vec<u8>, DecodeF
     ensures invalid { OnInvalid result (HasNoStrictReading Cesu8 bytes.now) }
 {
     let text = simd_cesu8::decode_strict(alloc, bytes)?;
-    Ok(simd_cesu8::encode(alloc, text.as_str())?.into_vec(alloc)?)
+    let encoded = simd_cesu8::encode(alloc, text.as_str()).map_err(DecodeFault::Memory)?;
+    encoded.into_vec(alloc).map_err(DecodeFault::Memory)
 }
 
 /// Encodes a text and decodes the result lossily: returns the text.
