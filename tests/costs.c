@@ -2,10 +2,10 @@
 //
 // A row of the table below has a kind of input, its lengths, how many inputs there are, and calls.
 // Each call is made on all inputs of its row in turn, so that no predictor of branches learns one.
-// That is done once uncounted, and then between begin_counting, where callgrind forgets what it has
-// counted, and end_counting, where it writes it. The program prints for each call its name and how
-// many calls were counted. Where a call does not answer as its row says, it tells so, and the
-// status is 1.
+// That is done twice uncounted, so that the predictor keeps nothing of the code that ran before,
+// and then between begin_counting, where callgrind forgets what it has counted, and end_counting,
+// where it writes it. The program prints for each call its name and how many calls were counted.
+// Where a call does not answer as its row says, it tells so, and the status is 1.
 //
 // The inputs come from a fixed seed, by a generator of this file. Memory and copies come from this
 // file too. callgrind has one predictor for all code, so branches in the C library would change how
@@ -488,6 +488,7 @@ static size_t make(const struct call *call, struct inputs inputs)
 static size_t count(const struct call *call, struct inputs inputs, enum outcome outcome)
 {
     size_t wrong = 0;
+    make(call, inputs);
     make(call, inputs);
     begin_counting();
     size_t answers = make(call, inputs);

@@ -4,11 +4,18 @@
 #   tests/costs.sh --show     prints them too, and beside each what memory and copies took
 #   tests/costs.sh --write    writes bench/costs.txt anew
 #
-# A cost is a number of instructions, and 15 for each branch that is guessed wrong. callgrind
+# A cost is a number of instructions, and 15 for each branch that is mispredicted. callgrind
 # simulates both, so they are the same in each run, whatever else the machine does. It fails where a
 # cost is more than a fiftieth above its line, and says by how much. It also fails where one is more
 # than a fiftieth below, which wants a new line, and where a line is missing or too much. How long
 # an instruction takes is not seen: bench/run and bench/run.sh tell that.
+#
+# callgrind predicts a branch by the last bits of its address and by the branches before it. So where
+# a function begins decides which branches share a counter, and that depends on all functions before
+# it: the same functions in another order had half of the costs changed, one by 15 of 452. Therefore
+# each function begins at a multiple of 512 bytes here, and the order of functions changes no cost.
+# Neither do the folder and the environment: a program gets none, and before a call is counted it is
+# made so often that the predictor keeps nothing of the code that started the program.
 #
 # tests/costs.c makes the single calls, each on many different inputs. Only what the library does is
 # judged; requests for memory and copies are counted apart. Of each workload in bench/workloads.txt
@@ -19,7 +26,7 @@
 # proves the libraries first. After that it takes some two minutes of one processor. Without
 # valgrind or a C compiler it says that it skipped all, and on a processor without AVX2 that it
 # skipped x86-64-v3. The status is 0 if nothing is wrong. It needs the kit's `rt`, valgrind, `cc`,
-# bash, awk and the core utilities.
+# objcopy, bash, awk and the core utilities.
 # shellcheck source=tests/lib.sh
 source "$(dirname "${BASH_SOURCE[0]}")/lib.sh" || exit 2
 # shellcheck source=tests/kit.sh
@@ -44,14 +51,20 @@ build_crate() {
     fi
 }
 
-# Builds all for a level. Calls within the shared object go straight, and not by the linker's table.
+# Builds all for a level, each function at a multiple of 512 bytes. Calls within the shared object go
+# straight, and not by the linker's table.
 build_level() {
-    local at=$scratch/$1
+    local at=$scratch/$1 file
     mkdir "$at" || exit 2
     build_crate "$1" measured libmeasured.a lib
-    build_crate "$1" workloads workloads run -- every 1 1
+    build_crate "$1" workloads workloads.o run -- every 1 1
+    cp "$kit"/c/lib{libc,os}_c.a "$at" || exit 2
+    for file in "$at"/*.[ao]; do
+        objcopy --set-section-alignment '.text*=512' "$file" || exit 2
+    done
     quietly cc -shared -o "$at/measured.so" -Wl,-Bsymbolic -Wl,--whole-archive \
-        "$at/libmeasured.a" -Wl,--no-whole-archive "$kit/c/liblibc_c.a" || exit 2
+        "$at/libmeasured.a" -Wl,--no-whole-archive "$at/liblibc_c.a" || exit 2
+    quietly cc -o "$at/workloads" "$at/workloads.o" "$at/libos_c.a" "$at/liblibc_c.a" || exit 2
 }
 
 # Builds the program of the single calls. It takes the shared object of the folder that it runs in.
