@@ -29,11 +29,12 @@ pub fn is_pair(bytes: &[u8]) -> bool
 /// Returns the UTF-8 of the character whose surrogate pair begins the bytes.
 #[inline(always)]
 pub fn utf8_of_pair(bytes: &[u8]) -> [u8; PAIR_UTF8]
-    requires { PAIR_READ ≤ length bytes.now }
+    requires long { PAIR_READ ≤ length bytes.now }
+    requires pair { HasPair bytes.now }
     ensures { IsUtf8OfDigits (second_third_fifth_sixth bytes.now) result }
 {
-    // The plane offset: one more than the last four bits of the second byte.
-    let word = first_word(bytes).wrapping_add(0x100);
+    // The plane offset: one more than the last four bits of the second byte, which is below B0.
+    let word = first_word(bytes) + 0x100;
     // To the marks F0 80 80 80 each term adds the digits that move by its number of bits.
     let utf8 = 0x8080_80F0
         + (word >> 10 & 0x0000_0F07)

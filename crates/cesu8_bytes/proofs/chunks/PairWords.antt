@@ -51,9 +51,9 @@ word_tells bytes more byte =
 -- The word of the UTF-8 that is written for the word of a surrogate pair.
 abbrev utf8_word : ℕ → ℕ
 utf8_word word =
-    0x808080F0 + bit_and ((word + 0x100) % 2 ^ 64 / 2 ^ 10) 0x0F07
-    + bit_and ((word + 0x100) % 2 ^ 64) 0x30300 * 2 ^ 4 % 2 ^ 64
-    + bit_and ((word + 0x100) % 2 ^ 64 / 2 ^ 16) 0x3F0F0000
+    0x808080F0 + bit_and ((word + 0x100) / 2 ^ 10) 0x0F07
+    + bit_and (word + 0x100) 0x30300 * 2 ^ 4 % 2 ^ 64
+    + bit_and ((word + 0x100) / 2 ^ 16) 0x3F0F0000
 
 -- A word has its bytes.
 bytes_of_word : (p q r s : ℕ) → p < 0x100 → q < 0x100 → r < 0x100 → s < 0x100 →
@@ -95,10 +95,10 @@ module _ (a w x e y z more : ℕ) (a_byte : a < 0x100) (w_low : w < 0x10) (x_low
       ) (omega (arith, and_mask high 6, and_mask (0xB0 + y) 4, and_le_r low 0))
 
 -- Its bytes are the UTF-8 of the character.
-pub utf8_word_is : (c w x y z a e more word : ℕ) → IsPair c w x y z → a < 0x100 → e < 0x100 → more < 0x10000 →
+pub utf8_word_is : (c w x y z a e more word : ℕ) → IsPair c w x y z → a < 0x100 → e < 0x100 →
     word ≡ word_of a (0xA0 + w) (0x80 + x) e (0xB0 + y) (0x80 + z) more → to_le_bytes w32 (utf8_word word) ≡ utf8_of c
-utf8_word_is c w x y z a e more word digits a_byte e_byte more_low word_is =
-    let next : (word + 0x100) % 2 ^ 64 ≡ word_of a (0xA1 + w) (0x80 + x) e (0xB0 + y) (0x80 + z) more = omega arith in
+utf8_word_is c w x y z a e more word digits a_byte e_byte word_is =
+    let next : word + 0x100 ≡ word_of a (0xA1 + w) (0x80 + x) e (0xB0 + y) (0x80 + z) more = omega arith in
     let moved : ((w + 1) % 4 * 0x100 + x % 4 * 0x10000) * 2 ^ 4 % 2 ^ 64 ≡ (w + 1) % 4 * 0x1000 + x % 4 * 0x100000 = omega arith in
     let flat : 0x808080F0 + ((w + 1) / 4 + x / 4 * 0x100) + ((w + 1) % 4 * 0x1000 + x % 4 * 0x100000) + (y * 0x10000 + z * 0x1000000)
     ≡ 0xF0 + (w + 1) / 4 + (0x80 + ((w + 1) % 4 * 0x10 + x / 4)) * 0x100 + (0x80 + (x % 4 * 0x10 + y)) * 0x10000 + (0x80 + z) * 0x1000000 =

@@ -12,4 +12,4 @@ returns c scalar w x y z digits four_is =
     let sixth : b 5 0 ≡ 0x80 + z = cc in
     c.to_le_bytes.ensures
     ∙ utf8_word_is scalar w x y z (b 0 0) (b 3 0) (b 6 0 + b 7 0 * 0x100) c.first_word-word.result digits
-    (byte 0) (byte 3) (omega (arith, byte 6, byte 7)) (c.first_word-word.ensures ∙ rw (second, third, fifth, sixth) refl)
+    (byte 0) (byte 3) (c.first_word-word.ensures ∙ rw (second, third, fifth, sixth) refl)
