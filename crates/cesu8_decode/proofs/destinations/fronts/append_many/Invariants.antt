@@ -3,6 +3,7 @@ use Rattle.cesu8_bytes.specs.TextChunks.{IsReadSoFar}
 use Rattle.cesu8_bytes.specs.declared.strictness.Strictness.TheVariants.{Strict}
 use Rattle.cesu8_decode.specs.Following.{Unchanged}
 use Rattle.cesu8_decode.specs.Front.{IsFront}
+use Rattle.cesu8_decode.specs.declared.way.TheConstants.{FEW_BYTES}
 use Rattle.cesu8_decode.proofs.destinations.fronts.append_many.Given as goal
 
 abbrev pub decreases-loop-len : goal.decreases-loop-len
@@ -12,7 +13,7 @@ abbrev pub invariant-loop-len : goal.invariant-loop-len
 invariant-loop-len g l = record {
   read : IsReadSoFar g.F.Flavor.flavor Strict l.fn.bytes l.rest l.fn.before.items l.text.items;
   front : IsFront Unchanged g.F.Flavor.flavor l.rest l.len;
-  many : 64 < length l.rest;
+  many : FEW_BYTES < length l.rest;
   room : vec_len l.text + length l.rest ≤ vec_capacity l.text;
   capacity : vec_capacity l.text ≡ vec_capacity l.fn.before;
 }

@@ -1,9 +1,10 @@
 use Rattle.std.proofs.Common.{◌≤◌}
+use Rattle.cesu8_decode.specs.declared.way.TheConstants.{LARGEST_ARRAY}
 use Rattle.cesu8_decode.proofs.destinations.strings.first_part.Given as goal
 
 abbrev pub invariant-loop-at : goal.invariant-loop-at
 invariant-loop-at l = record {
-  fits : l.at ≤ 4096;
+  fits : l.at ≤ LARGEST_ARRAY;
 }
 
 abbrev pub decreases-loop-at : goal.decreases-loop-at
