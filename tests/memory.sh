@@ -9,7 +9,8 @@
 # - what is built, copied or refused takes one, and so does what is appended if the buffer is full;
 # - what is appended leaves a full buffer with twice its capacity, with what is needed, or with 8 bytes,
 #   whichever is most, as `Vec::push` does; one with enough room keeps its capacity;
-# - an empty copy, a length, a comparison, and a Java string that is too long or cut short take none.
+# - an empty copy, a length, a comparison, a result in a slice, and a Java string that is too long or
+#   cut short take none.
 #
 # The program of crates/memory_calls makes the calls that its standard input names, on one input. It
 # prints each result, and how many of three further requests are granted before one is refused.
@@ -17,10 +18,11 @@
 # some itself.
 #
 # Each request of a call is refused in turn. Then the call has to return out of memory for any input,
-# and a caller's buffer keeps its content. Each call is also made where the first request after its
-# own is refused, and has to succeed. So it makes exactly as many requests as its row says. One
-# process asks both, of two calls on an input: the first makes all of its requests, and the next is
-# refused its own. Calls without a request come between. What several rows ask is asked once.
+# a caller's buffer keeps its content, and what a refused copy borrows is still there. Each call is also
+# made where the first request after its own is refused, and has to succeed. So it makes exactly as many
+# requests as its row says. One process asks both, of two calls on an input: the first makes all of its
+# requests, and the next is refused its own. Calls without a request come between. What several rows ask
+# is asked once.
 #
 # In which order a call makes its requests, and what it has read or written before, is not seen. The
 # capacity of what is built is stated by a clause, and tests/requests.sh sees how much is requested where
@@ -68,33 +70,42 @@ row() {
     fi
 }
 
-# The characters that are told apart here, in UTF-8, CESU-8 and MUTF-8: a letter, and two of the table
+# The characters that are told apart here, in UTF-8, CESU-8 and MUTF-8: two letters, and the scalar values
 # of test_cases. And the reading of their UTF-8 as each encoding: where it is none, U+FFFD for each byte.
 mark='\xEF\xBF\xBD'
-declare -A in_utf8=([a]=a) in_cesu8=([a]=a) in_mutf8=([a]=a) damaged_cesu8=([a]=a) damaged_mutf8=([a]=a)
+declare -A in_utf8 in_cesu8 in_mutf8 damaged_cesu8 damaged_mutf8
 
-# Adds a character of that table, whose rows leave out what is as before: `add_character WORD NAME`.
+# Adds a character by its bytes in the three forms: `add_character NAME UTF8 CESU8 MUTF8`.
 add_character() {
-    local forms bytes
-    read -r -a forms < <(
-        sed -n "s/.*border!(\"$2\", \(.*\)),\$/\1/p" "$top/crates/test_cases/src/borders.rt" |
-            sed 's/b"\([^"]*\)",*/\1/g'
-    )
-    if ((${#forms[@]} == 0)); then
-        echo "$2 was not read from crates/test_cases/src/borders.rt" >&2
-        exit 2
-    fi
-    in_utf8[$1]=${forms[0]}
-    in_cesu8[$1]=${forms[1]-${forms[0]}}
-    in_mutf8[$1]=${forms[2]-${in_cesu8[$1]}}
-    repeat $((${#forms[0]} / 4)) "$mark"
+    local bytes
+    in_utf8[$1]=$2 in_cesu8[$1]=$3 in_mutf8[$1]=$4
+    repeat $((${#2} / 4)) "$mark"
     damaged_cesu8[$1]=$bytes damaged_mutf8[$1]=$bytes
-    [[ ${in_cesu8[$1]} == "${forms[0]}" ]] && damaged_cesu8[$1]=${forms[0]}
-    [[ ${in_mutf8[$1]} == "${forms[0]}" ]] && damaged_mutf8[$1]=${forms[0]}
+    [[ $3 == "$2" ]] && damaged_cesu8[$1]=$2
+    [[ $4 == "$2" ]] && damaged_mutf8[$1]=$2
 }
 
-add_character null U+0000
-add_character heart U+1F496
+# Adds the scalar values of test_cases, whose rows leave out what is as before, and keeps their names in
+# `scalars`.
+add_scalars() {
+    local name utf8 cesu8 mutf8
+    while read -r name utf8 cesu8 mutf8; do
+        cesu8=${cesu8:-$utf8}
+        add_character "$name" "$utf8" "$cesu8" "${mutf8:-$cesu8}"
+        scalars+=("$name")
+    done < <(
+        sed -n 's/.*border!("\(U+[0-9A-F]*\)", \(.*\)),$/\1 \2/p' \
+            "$top/crates/test_cases/src/borders.rt" | sed 's/b"\([^"]*\)",*/\1/g'
+    )
+    ((${#scalars[@]} == 21)) && return
+    echo "${#scalars[@]} of 21 rows were read from crates/test_cases/src/borders.rt" >&2
+    exit 2
+}
+
+scalars=()
+add_scalars
+add_character a a a a
+add_character A A A A
 
 # Keeps the text of these characters in each form, each as many times: `text TIMES CHARACTER..`.
 text() {
@@ -118,18 +129,22 @@ grow() {
     ((grown >= 8)) || grown=8
 }
 
-# The calls that take a text, of the text that is kept: `text_rows ENCODING..`. In CESU-8 each of its
-# code units has one byte that is not 80 to BF.
+# The calls that take a text, of the text that is kept: `text_rows ENCODING..`.
 text_rows() {
-    local encoding encoded length any less grown
+    encode_rows "$@"
+    append_rows "$@"
+}
+
+# Those that encode or measure it. In CESU-8 each of its code units has one byte that is not 80 to BF.
+encode_rows() {
+    local encoding encoded length
     measure "${cesu8//\\x[89AB]?/}"
     row 'utf16_len cesu8' "$utf8" "$length" 0 ''
     row 'compare_as_utf16 cesu8' "$utf8" yes 0 ''
+    row 'text_of cesu8' "$utf8" text 0 "$utf8"
     for encoding in "$@"; do
         encoded=${!encoding}
         measure "$encoded"
-        any=$((length > 0))
-        less=$((length > 1 ? 2 : length))
         if [[ $encoded == "$utf8" ]]; then
             row "needs_encoded $encoding" "$utf8" no 0 ''
             row "encode $encoding" "$utf8" borrowed 0 "$utf8"
@@ -138,6 +153,19 @@ text_rows() {
             row "encode $encoding" "$utf8" owned 1 "$encoded"
         fi
         row "encoded_len $encoding" "$utf8" "$length" 0 ''
+        row "counted_len $encoding" "$utf8" "$length" 0 ''
+        row "encode_to_slice $encoding" "$utf8" written 0 "$encoded"
+    done
+}
+
+# Those that copy or append it.
+append_rows() {
+    local encoding encoded length any less grown
+    for encoding in "$@"; do
+        encoded=${!encoding}
+        measure "$encoded"
+        any=$((length > 0))
+        less=$((length > 1 ? 2 : length))
         row "into_vec $encoding" "$utf8" owned "$any" "$encoded"
         row "encode_into_room $encoding" "$utf8" "appended, capacity $length" "$any" "$encoded"
         grow 0 "$length"
@@ -173,9 +201,12 @@ encoding_rows() {
         outcome=owned
         requests=1
         [[ $encoded == "$utf8" ]] && outcome=borrowed requests=0
-        for call in decode decode_strict decode_strict_front decode_lossy decode_lossy_strict; do
+        for call in decode decode_strict decode_lossy decode_lossy_strict; do
             row "$call $encoding" "$encoded" "$outcome" "$requests" "$utf8"
+            row "${call}_to_slice $encoding" "$encoded" written 0 "$utf8"
         done
+        row "decode_strict_front $encoding" "$encoded" "$outcome" "$requests" "$utf8"
+        if ((requests > 0)); then row 'text_of cesu8' "$encoded" none 0 ''; fi
         row "decoded_len $encoding" "$encoded" "$length" 0 ''
         row "lossy_len $encoding" "$encoded" "$length" 0 ''
         measure "$encoded"
@@ -188,16 +219,20 @@ encoding_rows() {
 # The calls that take bytes, on the UTF-8 of the text that is kept, which is no encoding of a text:
 # what a lenient call borrows, a strict one refuses: `utf8_rows ENCODING..`.
 utf8_rows() {
-    local encoding name reading length
+    local encoding name reading length call
     for encoding in "$@"; do
         name=read_as_$encoding
         reading=${!name}
-        row "decode $encoding" "$utf8" borrowed 0 "$utf8"
-        row "decode_lossy $encoding" "$utf8" borrowed 0 "$utf8"
+        for call in decode decode_lossy; do
+            row "$call $encoding" "$utf8" borrowed 0 "$utf8"
+            row "${call}_to_slice $encoding" "$utf8" written 0 "$utf8"
+        done
         row "into_string $encoding" "$utf8" owned 1 "$utf8"
         row "decode_strict $encoding" "$utf8" invalid 1 ''
         row "decode_strict_front $encoding" "$utf8" invalid 1 ''
+        row "decode_strict_to_slice $encoding" "$utf8" invalid 0 ''
         row "decode_lossy_strict $encoding" "$utf8" owned 1 "$reading"
+        row "decode_lossy_strict_to_slice $encoding" "$utf8" written 0 "$reading"
         measure "$reading"
         row "decoded_len $encoding" "$utf8" none 0 ''
         row "lossy_len $encoding" "$utf8" "$length" 0 ''
@@ -216,8 +251,12 @@ damage_rows() {
         damaged=${!encoding}$2
         for call in decode decode_strict; do
             row "$call $encoding" "$damaged" invalid 1 ''
-            row "${call/decode/decode_lossy} $encoding" "$damaged" owned 1 "$reading"
+            row "${call}_to_slice $encoding" "$damaged" invalid 0 ''
+            call=${call/decode/decode_lossy}
+            row "$call $encoding" "$damaged" owned 1 "$reading"
+            row "${call}_to_slice $encoding" "$damaged" written 0 "$reading"
         done
+        row 'text_of cesu8' "$damaged" none 0 ''
         row "decode_strict_front $encoding" "$damaged" invalid 1 ''
         row "decoded_len $encoding" "$damaged" none 0 ''
         row "lossy_len $encoding" "$damaged" "$length" 0 ''
@@ -239,9 +278,11 @@ write_rows() {
     if ((length > 65535)); then
         row 'write_utf mutf8' "$utf8" too_long 0 ''
         row 'write_utf_full mutf8' "$utf8" too_long 1 '\x01\x02'
+        row 'write_utf_to_slice mutf8' "$utf8" too_long 0 ''
         return
     fi
     form "$mutf8" "$length"
+    row 'write_utf_to_slice mutf8' "$utf8" written 0 "$written"
     row 'write_utf_room mutf8' "$utf8" "written, capacity $((2 + length))" 1 "$written"
     grow 0 $((2 + length))
     row 'write_utf mutf8' "$utf8" "written, capacity $grown" 1 "$written"
@@ -260,9 +301,11 @@ read_rows() {
     for call in read_utf read_utf_lossy; do
         form "$mutf8" "$length"
         row "$call mutf8" "${written}rest" "$outcome" "$requests" "$utf8\\nrest"
+        row "${call}_to_slice mutf8" "${written}rest" written 0 "$utf8\\nrest"
         ((length < 65535)) || continue
         form "$mutf8" "$((length + 1))"
         row "$call mutf8" "$written" truncated 0 ''
+        row "${call}_to_slice mutf8" "$written" truncated 0 ''
     done
 }
 
@@ -274,10 +317,13 @@ damaged_read_rows() {
     ((length > 65534)) && return
     form "$mutf8\\xED" "$((length + 1))"
     row 'read_utf mutf8' "${written}rest" invalid 1 ''
+    row 'read_utf_to_slice mutf8' "${written}rest" invalid 0 ''
     row 'read_utf_lossy mutf8' "${written}rest" owned 1 "$utf8$mark\\nrest"
+    row 'read_utf_lossy_to_slice mutf8' "${written}rest" written 0 "$utf8$mark\\nrest"
 }
 
-# A text that stays as it is in both encodings, and one that is other bytes in each.
+# Keeps a text that stays as it is in both encodings, or one that is other bytes in each, so many times:
+# `keep_pattern stays` or `keep_pattern changes TIMES`.
 keep_pattern() {
     local bytes
     text 0 a
@@ -286,9 +332,9 @@ keep_pattern() {
         cesu8=$utf8
         mutf8=$utf8
     else
-        repeat 3 "$(pattern UTF8)" && utf8=$bytes
-        repeat 3 "$(pattern CESU8)" && cesu8=$bytes
-        repeat 3 "$(pattern MUTF8)" && mutf8=$bytes
+        repeat "$2" "$(pattern UTF8)" && utf8=$bytes
+        repeat "$2" "$(pattern CESU8)" && cesu8=$bytes
+        repeat "$2" "$(pattern MUTF8)" && mutf8=$bytes
     fi
     if ((${#utf8} == 0 || ${#cesu8} < ${#utf8} || ${#mutf8} < ${#cesu8})); then
         echo 'the pattern was not read from crates/test_cases/src/pattern.rt' >&2
@@ -300,7 +346,7 @@ keep_pattern() {
 short_rows() {
     local kept
     for kept in empty stays changes; do
-        if [[ $kept == empty ]]; then text 0 a; else keep_pattern "$kept"; fi
+        if [[ $kept == empty ]]; then text 0 a; else keep_pattern "$kept" 3; fi
         text_rows cesu8 mutf8
         kernel_rows cesu8 mutf8
         encoding_rows cesu8 mutf8
@@ -310,14 +356,32 @@ short_rows() {
         read_rows
         damaged_read_rows
     done
-    text 1 a 1 null 2 heart
+    text 1 a 1 U+0000 2 U+1F496
     utf8_rows cesu8 mutf8
-    text 1 a 1 null
+    text 1 a 1 U+0000
     text_rows cesu8 mutf8
     encoding_rows cesu8 mutf8
     utf8_rows mutf8
     row 'read_utf mutf8' '' truncated 0 ''
+    row 'read_utf_to_slice mutf8' '' truncated 0 ''
     row 'read_utf_lossy mutf8' '\x00' truncated 0 ''
+    row 'read_utf_lossy_to_slice mutf8' '\x00' truncated 0 ''
+    text 1 A
+    row 'into_string cesu8' "$utf8" owned 1 "$utf8"
+}
+
+# Each scalar value of test_cases, and two texts that append it: to an empty buffer that has the room for
+# them, and behind other bytes.
+scalar_rows() {
+    local name
+    for name in "${scalars[@]}"; do
+        text 1 "$name"
+        encode_rows cesu8 mutf8
+    done
+    text 1 a 1 U+10FFFF
+    append_rows cesu8
+    text 1 a 1 U+1F496
+    append_rows cesu8
 }
 
 # Calls that have no input, or show what they refuse, which comes before the outcome.
@@ -326,7 +390,11 @@ other_rows() {
     local all
     faults=$'text is too long, out of memory\ninput is truncated, out of memory\n'
     all=$'invalid input, out of memory\n'$faults
-    all+=$'invalid input, DecodingError, invalid input\nyes'
+    all+=$'invalid input, DecodingError, invalid input\n'
+    all+=$'buffer too short, buffer too short\ninvalid input\n'
+    all+=$'buffer too short, text is too long\n'
+    all+=$'buffer too short, text is too long\n'
+    all+=$'buffer too short, input is truncated\ninvalid input\nyes'
     row 'faults cesu8' '\xED\xA0\xBD' "$all" 1 ''
     row 'faults mutf8' '\x00' "$all" 1 ''
 }
@@ -342,16 +410,16 @@ border_rows() {
     write_rows
     read_rows
 
-    text "$((length - 4))" a 1 heart
+    text "$((length - 4))" a 1 U+1F496
     ((length >= 4)) && text_rows cesu8 && kernel_rows cesu8
-    text "$((length - 6))" a 1 heart
+    text "$((length - 6))" a 1 U+1F496
     ((length >= 6)) && encoding_rows cesu8
-    text "$((length - 1))" a 1 null
+    text "$((length - 1))" a 1 U+0000
     ((length >= 1)) && text_rows mutf8 && kernel_rows mutf8
-    text "$((length - 2))" a 1 null
+    text "$((length - 2))" a 1 U+0000
     ((length >= 2)) && encoding_rows mutf8 && write_rows && read_rows
 
-    text "$front" a 1 heart 9 a
+    text "$front" a 1 U+1F496 9 a
     text_rows cesu8 mutf8
     encoding_rows cesu8 mutf8
     utf8_rows cesu8 mutf8
@@ -369,17 +437,19 @@ border_rows() {
 # inputs, and the longest Java string.
 long_rows() {
     local bytes
-    text 16384 heart
+    keep_pattern changes 819
+    encode_rows cesu8 mutf8
+    text 16384 U+1F496
     text_rows cesu8 mutf8
-    text 10922 heart 4 a
+    text 10922 U+1F496 4 a
     encoding_rows cesu8 mutf8
-    text 65536 null
+    text 65536 U+0000
     text_rows mutf8
     write_rows
-    text 32768 null
+    text 32768 U+0000
     encoding_rows mutf8
     write_rows
-    text 32767 null 1 a
+    text 32767 U+0000 1 a
     write_rows
     read_rows
     text 65534 a
@@ -393,17 +463,19 @@ long_rows() {
 }
 
 short_rows
+scalar_rows
 other_rows
 for border in 0 1 63 64 65 256 257 1023 1024 1025 65536; do
     border_rows "$border"
 done
 long_rows
 
-# Keeps in refusal what a call prints if its request of this place is refused: `refuse CALL PLACE`.
-# The first of a call on a full buffer is the buffer's own.
+# Keeps in refusal what a call on an input prints if its request of this place is refused:
+# `refuse CALL PLACE INPUT`. The first of a call on a full buffer is the buffer's own.
 refuse() {
     refusal=$'memory\n\n'
     case $1:$2 in
+    into_*) refusal=$'memory\n'$3$'\n' ;;
     *_full*:2) refusal=$'memory\n\\x01\\x02\n' ;;
     faults*) refusal=$'out of memory, out of memory\n'$faults$refusal ;;
     esac
@@ -419,30 +491,44 @@ process() {
     printf '%b%s more\n' "$5" "$6" >"$file.stdout"
 }
 
+# Takes the first so many calls from `waiting`, which make no request, and keeps them in `between`, in
+# lines, with what they print in `printed`: `take COUNT NUMBER`.
+take() {
+    local call
+    between='' printed=''
+    for call in "${waiting[@]:0:$1}"; do
+        between+=$call$'\n'
+        printed+=${printed_by[$2 $call]}
+    done
+    waiting=("${waiting[@]:$1}")
+}
+
 # The processes for all calls on the input of this number: `processes_on NUMBER`. Before a call that
-# is refused its first request comes the one that was refused before, and in the first process the
-# last, with all calls that make no request.
+# is refused its first request comes the one that was refused before, in the first process the last.
+# The calls that make no request come between, as many in each process, since `rt try` takes no more
+# than 1 MiB of output from one.
 processes_on() {
-    local number=$1 input=${inputs[$1]} between=${silent[$1]}
-    local printed='' calls=() call previous place
-    while read -r call; do
-        [[ -n $call ]] && printed+=${printed_by[$number $call]}
-    done <<<"$between"
-    if [[ -z ${asking[number]} ]]; then
+    local number=$1 input=${inputs[$1]}
+    local waiting=() calls=() between printed call previous place share
+    mapfile -t waiting < <(printf %s "${silent[number]}")
+    mapfile -t calls < <(printf %s "${asking[number]}")
+    if ((${#calls[@]} == 0)); then
+        take "${#waiting[@]}" "$number"
         process none "$between" "$input" 0 "$printed" 0
         return
     fi
-    mapfile -t calls <<<"${asking[number]%$'\n'}"
+    share=$(((${#waiting[@]} + ${#calls[@]} - 1) / ${#calls[@]}))
     previous=${calls[-1]}
     for call in "${calls[@]}"; do
-        refuse "$call" 1
+        refuse "$call" 1 "$input"
+        take "$share" "$number"
         process "$call 1" "$previous"$'\n'"$between$call" "$input" "${made_by[$number $previous]}" \
             "${printed_by[$number $previous]}$printed$refusal" 3
         for ((place = 2; place <= ${made_by[$number $call]}; place++)); do
-            refuse "$call" "$place"
+            refuse "$call" "$place" "$input"
             process "$call $place" "$call" "$input" "$((place - 1))" "$refusal" 3
         done
-        between='' printed='' previous=$call
+        previous=$call
     done
 }
 

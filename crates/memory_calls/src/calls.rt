@@ -1,10 +1,12 @@
 //! The calls, by their names, and what came of each.
 
+use crate::prints::{tell, tell_bytes, tell_length, yes_or_no};
+use crate::{faults, slices};
 use java_text::{ReadFault, WriteFault, read_utf, read_utf_lossy, write_utf};
-use simd_cesu8::implementation::{active, fallback, simd, word};
-use simd_cesu8::{CountedText, CowBytes, CowText, DecodeFault, DecodingError, laws};
+use simd_cesu8::implementation::{active, fallback, simd, text_of, word};
+use simd_cesu8::{CountedText, CowBytes, CowText, DecodeFault, laws};
 use std::alloc::{AllocError, Global};
-use std::io::{ErrorKind, Write};
+use std::io::ErrorKind;
 use std::{io, str};
 use test_cases::flavors;
 use test_cases::flavors::Flavor;
@@ -35,6 +37,9 @@ fn make(rt: &HostRuntime, call: &str, bytes: &[u8]) -> io::Result<()> {
     let Some((call, flavor)) = parse(call) else {
         return Err(ErrorKind::InvalidInput.into());
     };
+    if let Some(call) = slices::Call::of(call, flavor, bytes) {
+        return call.make(rt);
+    }
     match call {
         "decode" => tell_text(rt, flavors::decode(rt.alloc(), flavor, bytes)),
         "decode_strict" => tell_text(rt, flavors::decode_strict(rt.alloc(), flavor, bytes)),
@@ -54,11 +59,15 @@ fn make(rt: &HostRuntime, call: &str, bytes: &[u8]) -> io::Result<()> {
         "lossy_len" => tell_length(rt, flavors::lossy_len(flavor, bytes)),
         "valid_up_to" => tell_length(rt, Some(flavors::valid_up_to(flavor, bytes))),
         "active" | "fallback" | "simd" | "word" => ask_kernel(rt, call, flavor, bytes),
-        "faults" => show_faults(rt, flavors::decode_strict(rt.alloc(), flavor, bytes)),
+        "faults" => faults::show(rt, flavors::decode_strict(rt.alloc(), flavor, bytes)),
         "laws" => {
             use_laws();
             tell(rt, "true", &[])
         }
+        "text_of" => match text_of(bytes) {
+            Some(text) => tell(rt, "text", text.as_bytes()),
+            None => tell(rt, "none", &[]),
+        },
         "read_utf" => tell_read(rt, read_utf(rt.alloc(), bytes)),
         "read_utf_lossy" => tell_read(rt, read_utf_lossy(rt.alloc(), bytes)),
         _ => match str::from_utf8(bytes) {
@@ -90,6 +99,10 @@ fn make_of_text(rt: &HostRuntime, call: &str, flavor: Flavor, text: &str) -> io:
         }
         "encode" => tell_encoded(rt, flavors::encode(rt.alloc(), flavor, text)),
         "into_vec" => make_into_vec(rt, flavor, text),
+        "counted_len" => {
+            let counted = flavors::counted(flavor, text);
+            tell_length(rt, Some(counted.encoded_len()))
+        }
         "counted" => append_counted(rt, Vec::new(rt.alloc()), flavors::counted(flavor, text)),
         "encode_into" => append(rt, Ok(Vec::new(rt.alloc())), flavor, text),
         "encode_into_full" => {
@@ -134,25 +147,6 @@ fn ask_kernel(rt: &HostRuntime, module: &str, flavor: Flavor, bytes: &[u8]) -> i
         (_, Flavor::Mutf8) => active::contains_null_or_utf8_4_byte_char_header(bytes),
     };
     tell(rt, yes_or_no(found), &[])
-}
-
-/// Prints each fault, that of the result first, and whether the error equals itself.
-fn show_faults(rt: &HostRuntime, decoded: Result<CowText<'_>, DecodeFault>) -> io::Result<()> {
-    let Err(fault) = decoded else {
-        return Err(ErrorKind::InvalidInput.into());
-    };
-    println!(rt; "{fault}, {}", DecodeFault::Memory(AllocError))?;
-    println!(rt; "{}, {}", WriteFault::TooLong(65_536), WriteFault::Memory)?;
-    println!(rt; "{}, {}", ReadFault::Truncated, ReadFault::Memory)?;
-    match fault {
-        DecodeFault::Invalid(error) => show_error(rt, error),
-        DecodeFault::Memory(_) => tell(rt, "memory", &[]),
-    }
-}
-
-fn show_error(rt: &HostRuntime, error: DecodingError) -> io::Result<()> {
-    println!(rt; "{error}, {error:?}, {}", ReadFault::Invalid(error))?;
-    tell(rt, yes_or_no(error == error), &[])
 }
 
 /// Calls the function of each law.
@@ -216,7 +210,7 @@ fn write(rt: &HostRuntime, buf: Result<Vec<u8>, AllocError>, text: &str) -> io::
     }
 }
 
-/// Makes a vector of an encoder's result.
+/// Makes a vector of an encoder's result. After a refusal it prints the caller's text.
 fn make_into_vec(rt: &HostRuntime, flavor: Flavor, text: &str) -> io::Result<()> {
     let copied = match flavors::encode(rt.alloc(), flavor, text) {
         Ok(encoded) => encoded.into_vec(rt.alloc()),
@@ -224,18 +218,20 @@ fn make_into_vec(rt: &HostRuntime, flavor: Flavor, text: &str) -> io::Result<()>
     };
     match copied {
         Ok(bytes) => tell(rt, "owned", bytes.as_slice()),
-        Err(_) => tell(rt, "memory", &[]),
+        Err(_) => tell(rt, "memory", text.as_bytes()),
     }
 }
 
-/// Makes a string of the result of lenient decoding.
+/// Makes a string of the result of lenient decoding. After a refusal it prints the caller's bytes.
 fn make_into_string(rt: &HostRuntime, flavor: Flavor, bytes: &[u8]) -> io::Result<()> {
-    match flavors::decode(rt.alloc(), flavor, bytes) {
-        Ok(decoded) => match decoded.into_string(rt.alloc()) {
-            Ok(text) => tell(rt, "owned", text.as_bytes()),
-            Err(_) => tell(rt, "memory", &[]),
-        },
-        refused => tell_text(rt, refused),
+    let copied = match flavors::decode(rt.alloc(), flavor, bytes) {
+        Ok(decoded) => decoded.into_string(rt.alloc()),
+        Err(DecodeFault::Memory(error)) => Err(error),
+        Err(DecodeFault::Invalid(_)) => return tell(rt, "invalid", &[]),
+    };
+    match copied {
+        Ok(text) => tell(rt, "owned", text.as_bytes()),
+        Err(_) => tell(rt, "memory", bytes),
     }
 }
 
@@ -279,21 +275,6 @@ fn case_of(is_borrowed: bool) -> &'static str {
     if is_borrowed { "borrowed" } else { "owned" }
 }
 
-fn yes_or_no(fact: bool) -> &'static str {
-    if fact { "yes" } else { "no" }
-}
-
-/// Prints a length as the outcome.
-fn tell_length(rt: &HostRuntime, len: Option<usize>) -> io::Result<()> {
-    match len {
-        Some(len) => {
-            println!(rt; "{len}")?;
-            tell_bytes(rt, &[])
-        }
-        None => tell(rt, "none", &[]),
-    }
-}
-
 fn tell_lossy(rt: &HostRuntime, decoded: Result<CowText<'_>, AllocError>) -> io::Result<()> {
     tell_text(rt, decoded.map_err(DecodeFault::Memory))
 }
@@ -309,19 +290,6 @@ fn tell_read(rt: &HostRuntime, read: Result<(CowText<'_>, &[u8]), ReadFault>) ->
         Err(ReadFault::Invalid(_)) => tell(rt, "invalid", &[]),
         Err(ReadFault::Memory) => tell(rt, "memory", &[]),
     }
-}
-
-/// Prints what came of a call, and its bytes as a line of their own.
-fn tell(rt: &HostRuntime, outcome: &str, bytes: &[u8]) -> io::Result<()> {
-    println!(rt; "{outcome}")?;
-    tell_bytes(rt, bytes)
-}
-
-/// Prints bytes as a line.
-fn tell_bytes(rt: &HostRuntime, bytes: &[u8]) -> io::Result<()> {
-    let mut stdout = io::writer(rt);
-    stdout.write_all(bytes)?;
-    stdout.write_all(b"\n")
 }
 
 /// How many of three requests are granted before one is refused.

@@ -8,12 +8,15 @@
 #![tactic(auto)]
 
 mod calls;
+mod faults;
+mod prints;
+mod slices;
 
 use std::io;
 use std::io::{ErrorKind, Read};
 
 /// More than any input has: 65,536 bytes, a surrogate pair and the line before them.
-const ROOM: usize = 66_500;
+const ROOM: usize = 67_000;
 
 fn main(rt: HostRuntime) -> io::Result<()> {
     let mut room = [0; ROOM];

@@ -1,5 +1,5 @@
 //! Scalar values at the borders of the forms, with their bytes in UTF-8 and in both encodings.
-//! tests/peers.sh reads their names here, and tests/memory.sh the bytes of two.
+//! tests/peers.sh reads their names here, and tests/memory.sh their bytes too.
 
 use crate::flavors::Flavor;
 

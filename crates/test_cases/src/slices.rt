@@ -80,7 +80,8 @@ impl SliceCall<'_> {
         }
     }
 
-    fn write(self, flavor: Flavor, buf: &mut [u8]) -> Result<usize, SliceFault> {
+    /// Makes the call, with this buffer.
+    pub fn write(self, flavor: Flavor, buf: &mut [u8]) -> Result<usize, SliceFault> {
         Ok(match self {
             SliceCall::Encode(text) => encode_to_slice(flavor, text, buf)?,
             SliceCall::Decode(decoder, bytes) => match decoder {
