@@ -1,7 +1,7 @@
 #!/usr/bin/env bash
 # Builds the driver of bench by bench/run.sh, and runs it for one round. Before that, the driver
 # compares what each measured call returns for many inputs. No time is looked at. It also looks at which
-# words bench/run.sh refuses before it builds.
+# words bench/run.sh refuses before it builds, and at how the measured functions are aligned.
 #
 # In a clean clone it proves the libraries first. If there is no rustc that knows the edition 2024, it
 # says that it skipped all. The status is 0 if nothing is wrong. It needs the kit's `rt`, rustc, bash,
@@ -31,6 +31,10 @@ refuses --cpu x86-64-v2 --help
 can_build_rust "bench's driver" || exit 0
 if quietly "$top/bench/run.sh" --rounds 1; then
     echo "bench's driver was built and run"
+    readelf -SW "$top/bench/out/x86-64-v2/libmeasured.a" >"$scratch/parts"
+    grep -q ' \.text\.' "$scratch/parts" || wrong "bench's library has no functions of their own"
+    grep ' \.text.* AX ' "$scratch/parts" | grep -v ' 32$' &&
+        wrong "these functions of bench's library begin elsewhere than at multiples of 32 bytes"
 else
     wrong "bench's driver does not build, or does not run"
 fi
