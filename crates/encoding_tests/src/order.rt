@@ -9,10 +9,13 @@ use std::test::Fail;
 use test_cases::borders::{BORDERS, Border};
 use test_cases::comparisons::{Difference, expect};
 use test_cases::flavors::{Flavor, encode};
+use test_cases::plain::units;
 
 /// How the code units of two texts compare.
-fn compare_units(first: &str, second: &str) -> Ordering {
-    first.encode_utf16().cmp(second.encode_utf16())
+fn compare_units(alloc: Global, first: &str, second: &str) -> Result<Ordering, AllocError> {
+    let first = units(alloc, first)?;
+    let second = units(alloc, second)?;
+    Ok(first.as_slice().cmp(second.as_slice()))
 }
 
 /// How the encodings of two texts compare.
@@ -43,7 +46,7 @@ fn expect_as_units(
     second: &Border,
 ) -> Result<(), Difference> {
     let (one, other) = (text_of(first), text_of(second));
-    let units = compare_units(one, other);
+    let units = compare_units(alloc, one, other)?;
     let reversed = is_reversed(flavor, first, second);
     let expected = if reversed { units.reverse() } else { units };
     let order = compare_encodings(alloc, flavor, one, other)?;
@@ -76,13 +79,8 @@ fn expect_orders(
 ) -> Result<(), Difference> {
     let flavor = Flavor::Cesu8;
     expect(alloc, flavor, "cmp", first.cmp(second), utf8)?;
-    expect(
-        alloc,
-        flavor,
-        "encode_utf16",
-        compare_units(first, second),
-        units,
-    )?;
+    let ordering = compare_units(alloc, first, second)?;
+    expect(alloc, flavor, "units", ordering, units)?;
     let ordering = simd_cesu8::compare_as_utf16(first, second);
     expect(alloc, flavor, "compare_as_utf16", ordering, units)?;
     for (flavor, expected) in [(Flavor::Cesu8, cesu8), (Flavor::Mutf8, mutf8)] {
@@ -120,7 +118,7 @@ fn with_front(alloc: Global, front: char, len: usize, end: &str) -> Result<Strin
 
 /// Compares `compare_as_utf16` of two texts with how their code units compare, both ways.
 fn expect_order(alloc: Global, first: &str, second: &str) -> Result<(), Difference> {
-    let units = compare_units(first, second);
+    let units = compare_units(alloc, first, second)?;
     for (one, other, expected) in [(first, second, units), (second, first, units.reverse())] {
         let ordering = simd_cesu8::compare_as_utf16(one, other);
         expect(alloc, Flavor::Cesu8, "compare_as_utf16", ordering, expected)?;

@@ -1,5 +1,5 @@
-//! A plain codec, one character after another, by the standards' tables of byte patterns. It shares
-//! no code with the library.
+//! A plain codec, one character after another, by the standards' tables of byte patterns and of code
+//! units. It shares no code with the library.
 
 ghost use Rattle.std.specs.Prelude.{◌≤◌};
 
@@ -24,23 +24,34 @@ fn push_unit(bytes: &mut Vec<u8>, flavor: Flavor, unit: u16) -> Result<(), Alloc
     }
 }
 
-/// Appends the bytes of a character's one or two code units.
-fn push_character(bytes: &mut Vec<u8>, flavor: Flavor, character: char) -> Result<(), AllocError> {
+/// Appends the one or two code units of a character.
+fn push_units(units: &mut Vec<u16>, character: char) -> Result<(), AllocError> {
     let scalar = u32::from(character);
     if scalar < 0x10000 {
-        push_unit(bytes, flavor, scalar as u16)
+        units.push(scalar as u16)?;
     } else {
         let offset = scalar - 0x10000;
-        push_unit(bytes, flavor, (0xD800 + offset / 0x400) as u16)?;
-        push_unit(bytes, flavor, (0xDC00 + offset % 0x400) as u16)
+        units.push((0xD800 + offset / 0x400) as u16)?;
+        units.push((0xDC00 + offset % 0x400) as u16)?;
     }
+    Ok(())
+}
+
+/// The UTF-16 code units of a text.
+pub fn units(alloc: Global, text: &str) -> Result<Vec<u16>, AllocError> {
+    let mut units = Vec::new(alloc);
+    for character in text.chars() {
+        push_units(&mut units, character)?;
+    }
+    Ok(units)
 }
 
 /// The encoding of a text.
 pub fn encoded(alloc: Global, flavor: Flavor, text: &str) -> Result<Vec<u8>, AllocError> {
     let mut bytes = Vec::new(alloc);
-    for character in text.chars() {
-        push_character(&mut bytes, flavor, character)?;
+    let units = units(alloc, text)?;
+    for unit in units.as_slice() {
+        push_unit(&mut bytes, flavor, *unit)?;
     }
     Ok(bytes)
 }
