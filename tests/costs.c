@@ -385,6 +385,10 @@ static const struct row {
     {"one-wrong-byte", one_wrong_byte, 64, 64, 256, OTHER, {ONE(decode_lossy_strict)}},
     {"everything", everything, 4000, 4000, 64, OTHER, {ONE(lossy_len), ONE(mutf8_lossy_len)}},
 
+    // The kernels: no clause keeps one from testing byte by byte, but that costs several times as much.
+    {"ascii", all_ascii, 1000, 1000, 64, OTHER,
+     {ONE(contains_utf8_4_byte_char_header), ONE(contains_null_or_utf8_4_byte_char_header)}},
+
     // Refused.
     {"stray-first", stray_first, 20, 63, 256, REFUSED, {ONE(decode_strict)}},
     {"one-wrong-byte", one_wrong_byte, 20, 20, 256, REFUSED, {ONE(decode_strict), ONE(decode)}},
