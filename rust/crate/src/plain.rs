@@ -1,0 +1,362 @@
+//! The calls without vectors, in safe Rust, for machines that no other level is for.
+//!
+//! It goes from piece to piece: UTF-8 of characters that stay, a character that the encoding writes otherwise, and
+//! bytes in no encoded character. It is written by hand and tested, and no part of it is proved.
+#![forbid(unsafe_code)]
+
+use alloc::borrow::Cow;
+use alloc::string::String;
+use alloc::vec::Vec;
+use core::cmp::Ordering;
+
+use crate::utf8;
+use crate::{DecodingError, SliceError};
+
+/// The bytes of a surrogate pair.
+const PAIR: usize = 6;
+
+const REPLACEMENT: &str = "\u{FFFD}";
+
+/// Returns the offset of the first byte that leads four bytes, or, in MUTF-8, is 00.
+fn first_changed<const IS_MUTF8: bool>(bytes: &[u8]) -> usize {
+    const HIGH: u64 = 0x8080_8080_8080_8080;
+    let is_changed = |byte: &u8| *byte >= 0xF0 || IS_MUTF8 && *byte == 0;
+    let (mut at, mut words) = (0, bytes.chunks_exact(8));
+    for word in &mut words {
+        let word = u64::from_le_bytes([word[0], word[1], word[2], word[3], word[4], word[5], word[6], word[7]]);
+        let leads = word & word << 1 & word << 2 & word << 3 & HIGH;
+        let nulls = if IS_MUTF8 { word.wrapping_sub(HIGH >> 7) & !word & HIGH } else { 0 };
+        if leads | nulls != 0 {
+            break;
+        }
+        at += 8;
+    }
+    at + bytes[at..].iter().position(is_changed).unwrap_or(bytes.len() - at)
+}
+
+fn contains_changed<const IS_MUTF8: bool>(bytes: &[u8]) -> bool {
+    first_changed::<IS_MUTF8>(bytes) < bytes.len()
+}
+
+fn encoded_len<const IS_MUTF8: bool>(text: &str) -> usize {
+    let more = |byte: u8| 2 * usize::from(byte >= 0xF0) + usize::from(IS_MUTF8 && byte == 0);
+    text.len() + text.bytes().map(more).sum::<usize>()
+}
+
+/// Calls `write` with each part of the encoding in turn.
+fn encode_by<const IS_MUTF8: bool>(text: &str, mut write: impl FnMut(&[u8])) {
+    let mut rest = text;
+    loop {
+        let (same, changed) = rest.split_at(first_changed::<IS_MUTF8>(rest.as_bytes()));
+        write(same.as_bytes());
+        let mut characters = changed.chars();
+        let Some(character) = characters.next() else { return };
+        match character {
+            '\0' => write(&[0xC0, 0x80]),
+            _ => {
+                let mut bytes = [0; PAIR];
+                let mut units = [0; 2];
+                for (bytes, unit) in bytes.chunks_exact_mut(3).zip(character.encode_utf16(&mut units)) {
+                    let unit = *unit;
+                    bytes[0] = 0xE0 | (unit >> 12) as u8;
+                    bytes[1] = 0x80 | (unit >> 6 & 0x3F) as u8;
+                    bytes[2] = 0x80 | (unit & 0x3F) as u8;
+                }
+                write(&bytes);
+            }
+        }
+        rest = characters.as_str();
+    }
+}
+
+/// What follows in bytes that are decoded.
+enum Piece<'a> {
+    /// Characters that are the same in UTF-8.
+    Same(&'a str),
+    /// A character that the encoding writes otherwise.
+    Changed(char),
+    /// So many bytes in no encoded character.
+    IllFormed(usize),
+}
+
+/// The pieces of bytes.
+struct Pieces<'a, const IS_MUTF8: bool> {
+    /// What is known to be UTF-8.
+    text: &'a str,
+    /// What follows it.
+    rest: &'a [u8],
+}
+
+impl<'a, const IS_MUTF8: bool> Iterator for Pieces<'a, IS_MUTF8> {
+    type Item = Piece<'a>;
+
+    fn next(&mut self) -> Option<Piece<'a>> {
+        if self.text.is_empty() {
+            if let Some((character, len)) = changed_at::<IS_MUTF8>(self.rest) {
+                self.rest = &self.rest[len..];
+                return Some(Piece::Changed(character));
+            }
+            let (text, rest) = utf8::split_valid(self.rest);
+            (self.text, self.rest) = (text, rest);
+        }
+        let Some(first) = self.text.as_bytes().first() else {
+            let (_, rest) = self.rest.split_first()?;
+            self.rest = rest;
+            return Some(Piece::IllFormed(1));
+        };
+        let (same, changed) = self.text.split_at(first_changed::<IS_MUTF8>(self.text.as_bytes()));
+        if !same.is_empty() {
+            self.text = changed;
+            return Some(Piece::Same(same));
+        }
+        // UTF-8 that the encoding lacks: 00, or a character of four bytes.
+        let len = if *first == 0 { 1 } else { 4 };
+        self.text = &changed[len..];
+        Some(Piece::IllFormed(len))
+    }
+}
+
+fn pieces<const IS_MUTF8: bool>(bytes: &[u8]) -> Pieces<'_, IS_MUTF8> {
+    Pieces { text: "", rest: bytes }
+}
+
+/// Returns the character that begins the bytes as a surrogate pair, or as C0 80 in MUTF-8, and how many bytes it has.
+fn changed_at<const IS_MUTF8: bool>(bytes: &[u8]) -> Option<(char, usize)> {
+    match *bytes {
+        [0xC0, 0x80, ..] if IS_MUTF8 => Some(('\0', 2)),
+        [0xED, b @ 0xA0..=0xAF, c @ 0x80..=0xBF, 0xED, e @ 0xB0..=0xBF, f @ 0x80..=0xBF, ..] => {
+            let digits = |byte: u8, mask: u8| u32::from(byte & mask);
+            let high = digits(b, 0x0F) << 6 | digits(c, 0x3F);
+            let low = digits(e, 0x0F) << 6 | digits(f, 0x3F);
+            Some((char::from_u32(0x1_0000 + (high << 10 | low))?, PAIR))
+        }
+        _ => None,
+    }
+}
+
+fn valid_up_to<const IS_MUTF8: bool>(bytes: &[u8]) -> usize {
+    let mut len = 0;
+    for piece in pieces::<IS_MUTF8>(bytes) {
+        len += match piece {
+            Piece::Same(text) => text.len(),
+            Piece::Changed('\0') => 2,
+            Piece::Changed(_) => PAIR,
+            Piece::IllFormed(_) => break,
+        };
+    }
+    len
+}
+
+/// Returns the length of the decoded text, with U+FFFD for each byte in no encoded character, if it fits.
+fn lossy_len<const IS_MUTF8: bool>(bytes: &[u8]) -> Option<usize> {
+    let mut len = 0usize;
+    for piece in pieces::<IS_MUTF8>(bytes) {
+        len = len.checked_add(match piece {
+            Piece::Same(text) => text.len(),
+            Piece::Changed(character) => character.len_utf8(),
+            Piece::IllFormed(count) => REPLACEMENT.len() * count,
+        })?;
+    }
+    Some(len)
+}
+
+/// Returns the length of the decoded text, unless a byte is in no encoded character.
+fn decoded_len<const IS_MUTF8: bool>(bytes: &[u8]) -> Option<usize> {
+    let mut len = 0;
+    for piece in pieces::<IS_MUTF8>(bytes) {
+        len += match piece {
+            Piece::Same(text) => text.len(),
+            Piece::Changed(character) => character.len_utf8(),
+            Piece::IllFormed(_) => return None,
+        };
+    }
+    Some(len)
+}
+
+/// Returns the bytes as a text if they are UTF-8 of which nothing changes.
+fn same_text<const IS_MUTF8: bool>(bytes: &[u8]) -> Option<&str> {
+    if contains_changed::<IS_MUTF8>(bytes) {
+        return None;
+    }
+    utf8::from_utf8(bytes)
+}
+
+/// Returns the decoded text, which has this length.
+fn build<const IS_MUTF8: bool>(bytes: &[u8], len: usize) -> String {
+    let mut text = String::with_capacity(len);
+    for piece in pieces::<IS_MUTF8>(bytes) {
+        match piece {
+            Piece::Same(same) => text.push_str(same),
+            Piece::Changed(character) => text.push(character),
+            Piece::IllFormed(count) => (0..count).for_each(|_| text.push_str(REPLACEMENT)),
+        }
+    }
+    text
+}
+
+/// Copies to the front of a slice.
+fn put(bytes: &[u8], buf: &mut [u8]) -> Result<usize, SliceError> {
+    let needed = bytes.len();
+    buf.get_mut(..needed).ok_or(SliceError::TooShort { needed })?.copy_from_slice(bytes);
+    Ok(needed)
+}
+
+/// Writes the decoded text, which has this length, to the front of a slice.
+fn put_text<const IS_MUTF8: bool>(bytes: &[u8], needed: usize, buf: &mut [u8]) -> Result<usize, SliceError> {
+    let mut out = buf.get_mut(..needed).ok_or(SliceError::TooShort { needed })?;
+    let mut write = |bytes: &[u8]| {
+        let (front, rest) = core::mem::take(&mut out).split_at_mut(bytes.len());
+        front.copy_from_slice(bytes);
+        out = rest;
+    };
+    for piece in pieces::<IS_MUTF8>(bytes) {
+        match piece {
+            Piece::Same(same) => write(same.as_bytes()),
+            Piece::Changed(character) => write(character.encode_utf8(&mut [0; 4]).as_bytes()),
+            Piece::IllFormed(count) => (0..count).for_each(|_| write(REPLACEMENT.as_bytes())),
+        }
+    }
+    Ok(needed)
+}
+
+#[cold]
+#[inline(never)]
+fn capacity_overflow() -> ! {
+    panic!("capacity overflow")
+}
+
+/// Defines the calls of an encoding.
+macro_rules! calls_of {
+    ($module:ident, $is_mutf8:literal) => {
+        pub mod $module {
+            use super::*;
+
+            pub fn needs_encoded(text: &str) -> bool {
+                super::contains_changed::<$is_mutf8>(text.as_bytes())
+            }
+
+            /// Whether a byte leads four bytes, F0 to F7, or is 00 in MUTF-8. The bytes need not be UTF-8.
+            pub fn contains_changed(bytes: &[u8]) -> bool {
+                bytes.iter().any(|byte| (0xF0..=0xF7).contains(byte) || $is_mutf8 && *byte == 0)
+            }
+
+            pub fn encoded_len(text: &str) -> usize {
+                super::encoded_len::<$is_mutf8>(text)
+            }
+
+            pub fn encode(text: &str) -> Cow<'_, [u8]> {
+                if !needs_encoded(text) {
+                    return Cow::Borrowed(text.as_bytes());
+                }
+                let mut encoded = Vec::with_capacity(encoded_len(text));
+                encode_by::<$is_mutf8>(text, |bytes| encoded.extend_from_slice(bytes));
+                Cow::Owned(encoded)
+            }
+
+            pub fn encode_into(text: &str, buf: &mut Vec<u8>) {
+                buf.reserve(encoded_len(text));
+                encode_by::<$is_mutf8>(text, |bytes| buf.extend_from_slice(bytes));
+            }
+
+            pub fn decode_strict(bytes: &[u8]) -> Result<Cow<'_, str>, DecodingError> {
+                if let Some(text) = same_text::<$is_mutf8>(bytes) {
+                    return Ok(Cow::Borrowed(text));
+                }
+                match super::decoded_len::<$is_mutf8>(bytes) {
+                    Some(len) => Ok(Cow::Owned(build::<$is_mutf8>(bytes, len))),
+                    None => Err(DecodingError(())),
+                }
+            }
+
+            pub fn decode(bytes: &[u8]) -> Result<Cow<'_, str>, DecodingError> {
+                match utf8::from_utf8(bytes) {
+                    Some(text) => Ok(Cow::Borrowed(text)),
+                    None => decode_strict(bytes),
+                }
+            }
+
+            pub fn decode_lossy_strict(bytes: &[u8]) -> Cow<'_, str> {
+                if let Some(text) = same_text::<$is_mutf8>(bytes) {
+                    return Cow::Borrowed(text);
+                }
+                match super::lossy_len::<$is_mutf8>(bytes) {
+                    Some(len) => Cow::Owned(build::<$is_mutf8>(bytes, len)),
+                    None => capacity_overflow(),
+                }
+            }
+
+            pub fn decode_lossy(bytes: &[u8]) -> Cow<'_, str> {
+                match utf8::from_utf8(bytes) {
+                    Some(text) => Cow::Borrowed(text),
+                    None => decode_lossy_strict(bytes),
+                }
+            }
+
+            pub fn decoded_len(bytes: &[u8]) -> Option<usize> {
+                super::decoded_len::<$is_mutf8>(bytes)
+            }
+
+            pub fn lossy_len(bytes: &[u8]) -> Option<usize> {
+                super::lossy_len::<$is_mutf8>(bytes)
+            }
+
+            pub fn valid_up_to(bytes: &[u8]) -> usize {
+                super::valid_up_to::<$is_mutf8>(bytes)
+            }
+
+            pub fn encode_to_slice(text: &str, buf: &mut [u8]) -> Result<usize, SliceError> {
+                let needed = encoded_len(text);
+                let out = buf.get_mut(..needed).ok_or(SliceError::TooShort { needed })?;
+                let mut end = 0;
+                encode_by::<$is_mutf8>(text, |bytes| {
+                    out[end..end + bytes.len()].copy_from_slice(bytes);
+                    end += bytes.len();
+                });
+                Ok(needed)
+            }
+
+            pub fn decode_strict_to_slice(bytes: &[u8], buf: &mut [u8]) -> Result<usize, SliceError> {
+                let needed = decoded_len(bytes).ok_or(SliceError::Invalid)?;
+                put_text::<$is_mutf8>(bytes, needed, buf)
+            }
+
+            pub fn decode_to_slice(bytes: &[u8], buf: &mut [u8]) -> Result<usize, SliceError> {
+                match utf8::from_utf8(bytes) {
+                    Some(text) => put(text.as_bytes(), buf),
+                    None => decode_strict_to_slice(bytes, buf),
+                }
+            }
+
+            pub fn decode_lossy_strict_to_slice(bytes: &[u8], buf: &mut [u8]) -> Result<usize, SliceError> {
+                let needed = lossy_len(bytes).ok_or(SliceError::TooLong)?;
+                put_text::<$is_mutf8>(bytes, needed, buf)
+            }
+
+            pub fn decode_lossy_to_slice(bytes: &[u8], buf: &mut [u8]) -> Result<usize, SliceError> {
+                match utf8::from_utf8(bytes) {
+                    Some(text) => put(text.as_bytes(), buf),
+                    None => decode_lossy_strict_to_slice(bytes, buf),
+                }
+            }
+        }
+    };
+}
+
+calls_of!(of_cesu8, false);
+calls_of!(of_mutf8, true);
+
+pub fn utf16_len(text: &str) -> usize {
+    // One code unit for each lead byte, and one more for each that leads four bytes.
+    let units = |byte: u8| usize::from(byte & 0xC0 != 0x80) + usize::from(byte >= 0xF0);
+    text.bytes().map(units).sum()
+}
+
+pub fn compare_as_utf16(text: &str, other: &str) -> Ordering {
+    // In UTF-16 the characters of four bytes are below U+E000, whose lead byte is EE, and what follows.
+    let rank = |byte: u8| if matches!(byte, 0xEE | 0xEF) { byte + 0x10 } else { byte };
+    let differing = text.bytes().zip(other.bytes()).find(|(byte, other)| byte != other);
+    match differing {
+        Some((byte, other)) => rank(byte).cmp(&rank(other)),
+        None => text.len().cmp(&other.len()),
+    }
+}

@@ -1,0 +1,26 @@
+//! The test for UTF-8: that of the crate `simdutf8` if its feature is on, and else that of `core`.
+
+/// Returns bytes that are UTF-8 as a text.
+#[cfg(feature = "simdutf8")]
+#[inline]
+pub(crate) fn from_utf8(bytes: &[u8]) -> Option<&str> {
+    simdutf8::basic::from_utf8(bytes).ok()
+}
+
+/// Returns bytes that are UTF-8 as a text.
+#[cfg(not(feature = "simdutf8"))]
+#[inline]
+pub(crate) fn from_utf8(bytes: &[u8]) -> Option<&str> {
+    core::str::from_utf8(bytes).ok()
+}
+
+/// Splits bytes after the whole characters of UTF-8 with which they begin.
+pub(crate) fn split_valid(bytes: &[u8]) -> (&str, &[u8]) {
+    match core::str::from_utf8(bytes) {
+        Ok(text) => (text, &[]),
+        Err(error) => {
+            let (valid, rest) = bytes.split_at(error.valid_up_to());
+            (core::str::from_utf8(valid).unwrap_or_default(), rest)
+        }
+    }
+}

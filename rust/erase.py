@@ -1,0 +1,579 @@
+#!/usr/bin/env python3
+"""Erases the contracts of the proved library, and leaves ordinary Rust.
+
+    erase.py CRATES OUT    writes a module of OUT for each crate in the folder CRATES that the Rust crate needs
+    erase.py --rules       prints each rule and why it is needed
+
+It works in two steps. The first removes what Rattle adds to Rust, character by character, since contracts hold
+text that is no Rust. The second rewrites tokens of Rust. Each change belongs to a rule in RULES. It stops at
+what no rule knows, and it puts no text of its own in place of a function's body.
+"""
+import collections
+import pathlib
+import re
+import sys
+
+# The crates, and the modules that they become.
+MODULES = {
+    "cesu8_bytes": "bytes",
+    "cesu8_encode": "encode",
+    "cesu8_decode": "decode",
+    "simd_cesu8": "calls",
+}
+
+# The crates of Rattle's kit that these use, for which the shim has a module each.
+KIT = {"simdutf8"}
+
+# Each rule and why it is needed.
+RULES = {
+    "ghost use": "imports names for contracts alone",
+    "ghost member": "a member of a trait, an impl or a struct that contracts alone name",
+    "clause": "`requires` and `ensures`: the checker has proved them, and Rust has no place for them",
+    "comment among clauses": "a comment between clauses is about one of them",
+    "tactic": "tells the prover how to search",
+    "unit test": "Rattle's tests take a runtime as an argument; tests/ has Rust's own",
+    "example": "an example in a doc comment is Rattle, with an allocator: it stays as text",
+    "derive(Drop)": "in Rattle a type says that it may be dropped; every type of Rust may",
+    "bound Drop": "the same, for a parameter",
+    "crate path": "crates become modules, named by `super`, as they stand in the crate once for each level",
+    "std path": "`std::simd` and `std::alloc` are modules of the shim; the rest is in `core`",
+    "kit crate": "a crate of Rattle's kit becomes the module of the shim with the same name",
+    "prelude": "`core` has no `Vec` and `String` in its prelude",
+    "allocator": "Rattle passes the allocator to each call that builds; Rust has one",
+    "reserve": "a request for memory returns a `Result` in Rattle",
+    "push_reserved": "`push` to a vector with enough capacity, which Rust does not prove",
+    "append loop": "a loop of `push_reserved` is one call for Rust, which would test the capacity for each byte",
+    "fmt parameter": "the formatter has a parameter in Rattle",
+    "vector width": "an impl or a function for vectors of any width says that the machine has that width",
+    "constant lanes": "the positions of a shuffle are a constant for `rustc` too",
+    "load at": "a load or store at an offset tests the bounds once, in place of a slice's and a vector's",
+    "array by reference": "`rustc` passes an array of 16 bytes as one integer, and takes it apart byte by byte",
+    "as_chunks": "it came with Rust 1.88, and the crate is for 1.85",
+    "level": "a function that is not inlined is compiled with the features of its level",
+    "method": "a method is inlined, since it can't have a function with features in it",
+    "inline": "without optimization, inlining everything takes minutes to compile",
+}
+
+WORD = re.compile(r"[A-Za-z_][A-Za-z0-9_]*")
+TOKEN = re.compile(
+    r"\s+|'[A-Za-z_]\w*|[A-Za-z_]\w*|\d\w*(?:\.\d\w*)?|::|->|=>|\.\.=|\.\.|[^\s\w]"
+)
+OPEN, CLOSE = set("{(["), set("})]")
+RAW_STRING = re.compile(r'b?r(#*)"')
+STRING = re.compile(r'b?"(?:\\.|[^"\\])*"', re.S)
+CHARACTER = re.compile(r"b?'(?:\\(?:x[0-9A-Fa-f]{2}|u\{[0-9A-Fa-f]+\}|.)|[^'\\\n])'")
+HEAD = re.compile(r"(?:[ \t]*//![^\n]*\n|[ \t]*\n)*")
+
+
+class Unknown(Exception):
+    """A form that no rule knows."""
+
+
+def literal_end(text, at):
+    """Returns the end of the comment or literal that begins at `at`, or `at` if none does."""
+    if text.startswith("//", at):
+        end = text.find("\n", at)
+        return len(text) if end < 0 else end
+    if text.startswith("/*", at):
+        return text.index("*/", at) + 2
+    if at and text[at] in "br" and (text[at - 1].isalnum() or text[at - 1] == "_"):
+        return at
+    raw = RAW_STRING.match(text, at)
+    if raw:
+        return text.index('"' + raw[1], raw.end()) + 1 + len(raw[1])
+    found = STRING.match(text, at) or CHARACTER.match(text, at)
+    return found.end() if found else at
+
+
+def braces_end(text, at):
+    """Returns the offset after the brace that closes the one at `at`, in text of contracts."""
+    depth = 0
+    for i in range(at, len(text)):
+        depth += (text[i] == "{") - (text[i] == "}")
+        if depth == 0:
+            return i + 1
+    raise Unknown(f"no brace closes {text[at:at + 40]!r}")
+
+
+def is_blank(token):
+    return not token.strip() or token.startswith(("//", "/*"))
+
+
+def next_solid(tokens, at):
+    """Returns the index of the first token from `at` on that is no space or comment."""
+    while at < len(tokens) and is_blank(tokens[at]):
+        at += 1
+    return at
+
+
+def closing(tokens, at):
+    """Returns the index of the token that closes the bracket at `at`."""
+    depth = 0
+    for i in range(at, len(tokens)):
+        depth += (tokens[i] in OPEN) - (tokens[i] in CLOSE)
+        if depth == 0:
+            return i
+    raise Unknown(f"no bracket closes {''.join(tokens[at:at + 12])!r}")
+
+
+def closing_angle(tokens, at):
+    depth = 0
+    for i in range(at, len(tokens)):
+        depth += (tokens[i] == "<") - (tokens[i] == ">")
+        if depth == 0:
+            return i
+    raise Unknown(f"no > closes {''.join(tokens[at:at + 12])!r}")
+
+
+def parts(tokens):
+    """Splits at the commas outside brackets."""
+    found, part, depth = [], [], 0
+    for token in tokens:
+        depth += (token in OPEN or token == "<") - (token in CLOSE or token == ">")
+        if token == "," and depth == 0:
+            found.append(part)
+            part = []
+        else:
+            part.append(token)
+    if "".join(part).strip():
+        found.append(part)
+    return found
+
+
+def tokenize(text):
+    tokens, at = [], 0
+    while at < len(text):
+        end = literal_end(text, at)
+        if end == at:
+            end = TOKEN.match(text, at).end()
+        tokens.append(text[at:end])
+        at = end
+    return tokens
+
+
+class Eraser:
+    def __init__(self):
+        self.uses = collections.Counter()
+
+    def use(self, rule):
+        if rule not in RULES:
+            raise KeyError(rule)
+        self.uses[rule] += 1
+
+    # The first step, by characters.
+
+    def without_ghosts(self, text):
+        out, at = [], 0
+        while at < len(text):
+            end = literal_end(text, at)
+            if end > at:
+                out.append(text[at:end])
+                at = end
+                continue
+            word = WORD.match(text, at)
+            if not word or (at and (text[at - 1].isalnum() or text[at - 1] in "_'")):
+                out.append(text[at])
+                at += 1
+                continue
+            end = self.ghost_end(text, word[0], word.end(), out)
+            if end is None:
+                out.append(word[0])
+                end = word.end()
+            at = end
+        text = "".join(out)
+        text = re.sub(r"\n[ \t]+(?=\n)", "\n", text)
+        text = re.sub(r"\n+[ \t]*;", ";", text)
+        return re.sub(r"\n{3,}", "\n\n", text)
+
+    def ghost_end(self, text, word, after, out):
+        """Returns the end of the ghost item or clause that a word begins, or None."""
+        if word == "ghost":
+            if re.compile(r"\s+use\b").match(text, after):
+                self.use("ghost use")
+                return text.index(";", after) + 1
+            member = re.compile(r"\s+\w+\s*[:=]\s*\{").match(text, after)
+            if member:
+                self.use("ghost member")
+                out[:] = [self.without_attributes("".join(out))]
+                end = braces_end(text, member.end() - 1)
+                return re.compile(r"\s*[;,]?").match(text, end).end()
+        if word in ("requires", "ensures"):
+            clause = re.compile(r"\s*(\w+\s*)?\{").match(text, after)
+            if clause:
+                self.use("clause")
+                return braces_end(text, clause.end() - 1)
+        return None
+
+    @staticmethod
+    def without_attributes(text):
+        """Takes back the doc comment and the attributes at the end, which are a ghost member's."""
+        lines = text.rstrip().split("\n")
+        while lines and re.match(r"\s*(///|#\[)", lines[-1]):
+            lines.pop()
+        return "\n".join(lines) + "\n"
+
+    # The second step, by tokens.
+
+    def attributes(self, tokens):
+        """Drops tactics, unit tests and what is derived for Rattle alone."""
+        out, at = [], 0
+        while at < len(tokens):
+            inner = tokens[at + 1:at + 2] == ["!"]
+            start = at + 2 if inner else at + 1
+            if tokens[at] != "#" or tokens[start:start + 1] != ["["]:
+                out.append(tokens[at])
+                at += 1
+                continue
+            end = closing(tokens, start)
+            attribute = "".join(tokens[at:end + 1])
+            at = end + 1
+            if re.match(r"#!?\[tactic\b", attribute):
+                self.use("tactic")
+                attribute = ""
+            elif attribute == "#[cfg(test)]":
+                self.use("unit test")
+                at = next_solid(tokens, at)
+                if tokens[at] != "mod":
+                    raise Unknown("a #[cfg(test)] that is no module")
+                while tokens[at] != "{":
+                    at += 1
+                at = closing(tokens, at) + 1
+                attribute = ""
+            elif re.match(r"#\[derive\(.*\bDrop\b", attribute):
+                self.use("derive(Drop)")
+                attribute = re.sub(r",?\s*\bDrop\b,?", "", attribute)
+                attribute = "" if attribute == "#[derive()]" else attribute
+            if attribute:
+                out.append(attribute)
+            elif at < len(tokens) and tokens[at].startswith("\n"):
+                tokens[at] = tokens[at].replace("\n", "", 1)
+        return out
+
+    def paths(self, tokens, crate, depth):
+        """Makes the names of crates those of modules."""
+        root, out, at = "super::" * depth, [], 0
+        while at < len(tokens):
+            token = tokens[at]
+            is_path = tokens[at + 1:at + 2] == ["::"] and tokens[max(at - 1, 0)] != "::"
+            if is_path and token in ("crate", *MODULES):
+                self.use("crate path")
+                token = root + MODULES[crate if token == "crate" else token]
+            elif is_path and token in KIT:
+                self.use("kit crate")
+                token = root + token
+            elif is_path and token == "std":
+                self.use("std path")
+                rest = tokens[at + 2:at + 5]
+                if rest[0] == "simd":
+                    token, at = root + "simd", at + 2 + 2 * (rest[2] == "prelude")
+                elif rest[0] == "alloc":
+                    token, at = root + "memory", at + 2
+                else:
+                    token = "core"
+            out.append(token)
+            at += 1
+        return out
+
+    def calls(self, tokens, depth):
+        """Rewrites what takes an allocator, and what has another name or another result in Rust."""
+        root, out, at = "super::" * depth, [], 0
+        while at < len(tokens):
+            rest = "".join(tokens[at:at + 12])
+            end, text = self.call(tokens, at, rest, root, depth)
+            if end is None:
+                end, text = at + 1, tokens[at]
+            out.append(text)
+            at = end
+        return tokenize("".join(out))
+
+    def call(self, tokens, at, rest, root, depth):
+        """Returns the end of a form that begins at `at`, and what it becomes, or None."""
+        def inside(start, end):
+            return "".join(self.calls(tokens[start:end], depth))
+
+        if rest.startswith("Vec::with_capacity("):
+            self.use("allocator")
+            return at + 3, root + "memory::with_capacity"
+        if rest.startswith("Vec::new("):
+            self.use("allocator")
+            return closing(tokens, at + 3) + 1, "Vec::new()"
+        if re.match(r"\w+\.reserve\(", rest):
+            self.use("reserve")
+            return at + 4, f"{root}memory::reserve({tokens[at]}, "
+        if rest.startswith(".push_reserved("):
+            self.use("push_reserved")
+            return at + 2, ".push"
+        if tokens[at] == "for":
+            return self.append_loop(tokens, at)
+        if re.match(r"(from_slice\(&|copy_to_slice\(&mut )\w+\[", rest):
+            load = tokens[at] == "from_slice"
+            name = at + (3 if load else 5)
+            end = closing(tokens, name + 1)
+            if tokens[end - 1] == ".." and tokens[end + 1] == ")":
+                self.use("load at")
+                borrow = "&" if load else "&mut "
+                offset = inside(name + 2, end - 1)
+                return end + 2, f"{tokens[at]}_at({borrow}{tokens[name]}[..], {offset})"
+        if rest.startswith("from_array(*"):
+            self.use("array by reference")
+            return at + 3, "from_ref("
+        if rest.startswith(".as_chunks::<"):
+            self.use("as_chunks")
+            return at + 2, ".in_chunks"
+        if rest.startswith("fmt<W: "):
+            self.use("fmt parameter")
+            return closing_angle(tokens, at + 1) + 1, "fmt"
+        if rest.startswith("Formatter<W>"):
+            return at + 4, "Formatter<'_>"
+        if rest.startswith(": Drop>"):
+            self.use("bound Drop")
+            return at + 3, ""
+        if re.match(r"\.(shuffle|swizzle)::<", rest):
+            return self.shuffle(tokens, at, depth)
+        return None, None
+
+    def append_loop(self, tokens, at):
+        """`for byte in bytes { out.push_reserved(*byte); }`, or `for _ in 0..count` with one value."""
+        body = at
+        while tokens[body] != "{":
+            body += 1
+        end = closing(tokens, body)
+        text = " ".join("".join(t for t in tokens[at:end + 1] if not t.startswith("//")).split())
+        each = re.fullmatch(r"for (\w+) in (\w+) \{ (\w+)\.push_reserved\(\*\1\); \}", text)
+        if each:
+            self.use("append loop")
+            return end + 1, f"{each[3]}.extend_from_slice({each[2]});"
+        same = re.fullmatch(r"for _ in 0\.\.(\w+) \{ (\w+)\.push_reserved\((\w+)\); \}", text)
+        if same:
+            self.use("append loop")
+            return end + 1, f"{same[2]}.resize({same[2]}.len() + {same[1]}, {same[3]});"
+        return None, None
+
+    def shuffle(self, tokens, at, depth):
+        """`a.shuffle::<M>(b, POSITIONS)` names a type that has the positions."""
+        self.use("constant lanes")
+        angle = closing_angle(tokens, at + 3)
+        width = "".join(tokens[at + 4:angle]).strip()
+        end = closing(tokens, angle + 1)
+        arguments = ["".join(self.calls(part, depth)).strip() for part in parts(tokens[angle + 2:end])]
+        arguments[-1] = f"positions!({width}, {arguments[-1]})"
+        return end + 1, f".{tokens[at + 1]}({', '.join(arguments)})"
+
+    def widths(self, tokens):
+        """Adds `where Width<N>: Lanes` to an item that is generic over the width of vectors."""
+        out, at = [], 0
+        while at < len(tokens):
+            names, body = [], at
+            if tokens[at] in ("fn", "impl", "trait"):
+                names, body = self.widths_of(tokens, at)
+            if not names:
+                out.append(tokens[at])
+                at += 1
+                continue
+            self.use("vector width")
+            head = tokens[at:body]
+            while head and not head[-1].strip():
+                head.pop()
+            bounds = ", ".join(f"Width<{name}>: Lanes" for name in names)
+            if "where" in head:
+                where = head.index("where")
+                head[where + 1:where + 1] = [f" {bounds},"]
+            else:
+                line = "".join(out).rsplit("\n", 1)[-1]
+                indent = line[:len(line) - len(line.lstrip())]
+                head.append(f"\n{indent}where\n{indent}    {bounds},")
+                head.append(f"\n{indent}" if tokens[body] == "{" else "")
+            out += head
+            at = body
+        return tokenize("".join(out))
+
+    def widths_of(self, tokens, at):
+        """Returns the parameters of an item that are widths of vectors, and where its body begins."""
+        start = next_solid(tokens, at + 1)
+        if tokens[at] != "impl":
+            start = next_solid(tokens, start + 1)
+        body = start
+        while body < len(tokens) and tokens[body] not in ("{", ";"):
+            body = closing(tokens, body) + 1 if tokens[body] in OPEN else body + 1
+        if tokens[start:start + 1] != ["<"] or body == len(tokens):
+            return [], body
+        generics = parts(tokens[start + 1:closing_angle(tokens, start)])
+        solid = [[t for t in generic if not is_blank(t)] for generic in generics]
+        names = [g[1] for g in solid if g[0] == "const" and g[3] == "usize"]
+        end = closing(tokens, body) if tokens[body] == "{" else body
+        item = "".join(tokens[start:end + 1])
+        return [name for name in names if self.is_width(name, item)], body
+
+    @staticmethod
+    def is_width(name, item):
+        """Whether a parameter is passed on as one, as to `Simd<u8, N>`. The length of an array is not."""
+        return bool(re.search(rf"[<,]\s*{name}\s*>", item))
+
+    def functions(self, tokens):
+        """Puts the body of each function that is not always inlined into one with its level's features.
+
+        `at_level!` of the shim makes that one, and calls it. A method is inlined instead.
+        """
+        out, at, open_items, item, start = [], 0, [], [], None
+        while at < len(tokens):
+            token = tokens[at]
+            if token == "{":
+                open_items.append("methods" if item and item[0] in ("impl", "trait") else "other")
+            elif token == "}":
+                open_items.pop()
+            if token in ("{", "}", ";"):
+                item = []
+            elif not is_blank(token) and token not in ("pub", "unsafe"):
+                item.append(token)
+            if token == "#" and tokens[at + 1] == "[":
+                end = closing(tokens, at + 1)
+                start = len(out) if start is None else start
+                out.append("".join(tokens[at:end + 1]))
+                item, at = [], end + 1
+                continue
+            if token == "pub":
+                start = len(out) if start is None else start
+                end = closing(tokens, at + 1) if tokens[at + 1] == "(" else at
+                out.append("".join(tokens[at:end + 1]))
+                at = end + 1
+                continue
+            name = next_solid(tokens, at + 1)
+            is_item = token == "fn" and "other" not in open_items and WORD.fullmatch(tokens[name])
+            if not is_item:
+                if not is_blank(token):
+                    start = None
+                out.append(token)
+                at += 1
+                continue
+            at, start, item = self.function(tokens, at, name, out, start, open_items), None, []
+        return out
+
+    def function(self, tokens, at, name, out, start, open_items):
+        """Writes a function, and returns the index after it."""
+        begin, generics = next_solid(tokens, name + 1), []
+        if tokens[begin] == "<":
+            end = closing_angle(tokens, begin)
+            generics = parts(tokens[begin + 1:end])
+            begin = next_solid(tokens, end + 1)
+        end_of_parameters = closing(tokens, begin)
+        parameters = parts(tokens[begin + 1:end_of_parameters])
+        body = end_of_parameters
+        while tokens[body] not in ("{", ";"):
+            body += 1
+        for i in range(end_of_parameters, body):
+            if tokens[i].startswith("//"):
+                self.use("comment among clauses")
+                tokens[i] = ""
+        signature = "".join(tokens[name:body]).rstrip()
+        signature = re.sub(r"\s*\n\s*\n\s*", "\n", signature)
+        if tokens[body] == ";":
+            out += ["fn ", signature, ";"]
+            return body + 1
+        end = closing(tokens, body)
+        text = "".join(tokens[body:end + 1])
+        first = len(out) if start is None else start
+        head = "".join(out[first:])
+        if "#[inline(always)]" in head:
+            out += ["fn ", signature, " ", text]
+            return end + 1
+        attribute = re.search(r"#\[inline(\(never\))?\]", head)
+        indent = "    " if open_items else ""
+        if attribute:
+            head = head.replace(attribute[0], "#[inline(always)]")
+        else:
+            visibility = re.search(r"(pub(\([a-z]+\))?\s+)?$", head).start()
+            head = head[:visibility] + "#[inline(always)]\n" + indent + head[visibility:]
+        out[first:] = [head]
+        if open_items:
+            self.use("method")
+            out += ["fn ", signature, " ", text]
+            return end + 1
+        self.use("level")
+        solid = [[t for t in g if not is_blank(t)] for g in generics]
+        names = [g[1] if g[0] == "const" else g[0] for g in solid if not g[0].startswith("'")]
+        solid = [[t for t in p if not is_blank(t)] for p in parameters]
+        arguments = ", ".join(p[1] if p[0] == "mut" else p[0] for p in solid)
+        turbofish = "::<" + ", ".join(names) + ">" if names else ""
+        inner = signature[len(tokens[name]):].strip()
+        hint = attribute[0] if attribute else "#[inline]"
+        out += [
+            "fn ", signature, " {\n    at_level! {\n        ", hint, " {\n        fn at_level", inner, " ",
+            text, "\n        } at_level", turbofish, "(", arguments, ")\n    }\n}",
+        ]
+        return end + 1
+
+    # Both.
+
+    def erase(self, source, crate="simd_cesu8", depth=1):
+        """Returns a file of a crate as Rust. `depth` is how many modules are around it."""
+        text = self.without_ghosts(source)
+        if re.search(r"//[/!] ```rust\b", text):
+            self.use("example")
+            text = re.sub(r"(//[/!] ```)rust\b", r"\1text", text)
+        tokens = self.attributes(tokenize(text))
+        tokens = self.calls(self.paths(tokens, crate, depth), depth)
+        tokens = self.widths(tokens)
+        text = "".join(self.functions(tokens))
+        self.refuse(text)
+        text = self.with_prelude(text)
+        if "#[inline(always)]" in text:
+            self.use("inline")
+            text = text.replace(
+                "#[inline(always)]", "#[cfg_attr(not(debug_assertions), inline(always))]"
+            )
+        return re.sub(r"\n{3,}", "\n\n", text).lstrip("\n")
+
+    @staticmethod
+    def refuse(text):
+        """Stops at what is left of Rattle."""
+        for token in tokenize(text):
+            is_literal = token[:1] in "\"'" or token[:2] in ('b"', "b'", 'r"', "r#")
+            if is_blank(token) or is_literal:
+                continue
+            rattle = ("ghost", "requires", "ensures", "prove", "lemma", "invariant", "decreases")
+            rattle += ("push_reserved", "allocator", "tactic", "HostRuntime")
+            if token in rattle or not token.isascii():
+                line = text[:text.index(token)].count("\n") + 1
+                raise Unknown(f"{token!r} in line {line} of what is left")
+
+    def with_prelude(self, text):
+        code = re.sub(r"//[^\n]*", "", text)
+        names = [n for n in ("Vec", "String") if re.search(rf"\b{n}\b", code)]
+        if not names:
+            return text
+        self.use("prelude")
+        at = HEAD.match(text).end()
+        uses = "".join(f"use alloc::{n.lower()}::{n};\n" for n in names)
+        return text[:at] + uses + text[at:]
+
+
+def main(arguments):
+    if arguments == ["--rules"]:
+        print("\n".join(f"{rule}: {why}" for rule, why in RULES.items()))
+        return 0
+    if len(arguments) != 2 or arguments[0].startswith("-"):
+        print("usage: erase.py CRATES OUT | erase.py --rules", file=sys.stderr)
+        return 2
+    crates, out = map(pathlib.Path, arguments)
+    eraser = Eraser()
+    for crate, module in MODULES.items():
+        source = crates / crate / "src"
+        for path in sorted(source.rglob("*.rt")):
+            part = path.relative_to(source)
+            is_root = part.name == "lib.rt"
+            to = out / module / part.with_name("mod.rs" if is_root else part.stem + ".rs")
+            depth = len(part.parts) + (0 if is_root else 1)
+            try:
+                text = eraser.erase(path.read_text(), crate, depth)
+            except Unknown as unknown:
+                print(f"{path}: erase.py does not know {unknown}", file=sys.stderr)
+                return 1
+            to.parent.mkdir(parents=True, exist_ok=True)
+            to.write_text(text)
+    for rule in RULES:
+        print(f"{eraser.uses[rule]:5} {rule}")
+    return 0
+
+
+if __name__ == "__main__":
+    sys.exit(main(sys.argv[1:]))
