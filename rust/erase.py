@@ -21,8 +21,8 @@ MODULES = {
     "simd_cesu8": "calls",
 }
 
-# The crates of Rattle's kit that these use, for which the shim has a module each.
-KIT = {"simdutf8"}
+# The crates of Rattle's kit that these use. They are not ours to erase.
+KIT = ("simdutf8",)
 
 # Each rule and why it is needed.
 RULES = {
@@ -37,7 +37,7 @@ RULES = {
     "bound Drop": "the same, for a parameter",
     "crate path": "crates become modules, named by `super`, as they stand in the crate once for each level",
     "std path": "`std::simd` and `std::alloc` are modules of the shim; the rest is in `core`",
-    "kit crate": "a crate of Rattle's kit becomes the module of the shim with the same name",
+    "kit": "a file that uses a crate of Rattle's kit gives way to the shim's functions of the same names",
     "prelude": "`core` has no `Vec` and `String` in its prelude",
     "allocator": "Rattle passes the allocator to each call that builds; Rust has one",
     "reserve": "a request for memory returns a `Result` in Rattle",
@@ -259,8 +259,7 @@ class Eraser:
                 self.use("crate path")
                 token = root + MODULES[crate if token == "crate" else token]
             elif is_path and token in KIT:
-                self.use("kit crate")
-                token = root + token
+                raise Unknown(f"a use of {token}")
             elif is_path and token == "std":
                 self.use("std path")
                 rest = tokens[at + 2:at + 5]
@@ -473,11 +472,12 @@ class Eraser:
         text = "".join(tokens[body:end + 1])
         first = len(out) if start is None else start
         head = "".join(out[first:])
+        indent = "    " if open_items else ""
+        before_body = f"\n{indent}" if re.search(r"\n\s*where\n", signature) else " "
         if "#[inline(always)]" in head:
-            out += ["fn ", signature, " ", text]
+            out += ["fn ", signature, before_body, text]
             return end + 1
         attribute = re.search(r"#\[inline(\(never\))?\]", head)
-        indent = "    " if open_items else ""
         if attribute:
             head = head.replace(attribute[0], "#[inline(always)]")
         else:
@@ -486,7 +486,7 @@ class Eraser:
         out[first:] = [head]
         if open_items:
             self.use("method")
-            out += ["fn ", signature, " ", text]
+            out += ["fn ", signature, before_body, text]
             return end + 1
         self.use("level")
         solid = [[t for t in g if not is_blank(t)] for g in generics]
@@ -497,8 +497,8 @@ class Eraser:
         inner = signature[len(tokens[name]):].strip()
         hint = attribute[0] if attribute else "#[inline]"
         out += [
-            "fn ", signature, " {\n    at_level! {\n        ", hint, " {\n        fn at_level", inner, " ",
-            text, "\n        } at_level", turbofish, "(", arguments, ")\n    }\n}",
+            "fn ", signature, before_body, "{\n    at_level! {\n        ", hint, " {\n        fn at_level", inner,
+            before_body, text, "\n        } at_level", turbofish, "(", arguments, ")\n    }\n}",
         ]
         return end + 1
 
@@ -507,6 +507,8 @@ class Eraser:
     def erase(self, source, crate="simd_cesu8", depth=1):
         """Returns a file of a crate as Rust. `depth` is how many modules are around it."""
         text = self.without_ghosts(source)
+        if re.search(rf"^use ({'|'.join(KIT)})::", text, re.M):
+            return self.shim_file(text, depth)
         if re.search(r"//[/!] ```rust\b", text):
             self.use("example")
             text = re.sub(r"(//[/!] ```)rust\b", r"\1text", text)
@@ -515,13 +517,20 @@ class Eraser:
         tokens = self.widths(tokens)
         text = "".join(self.functions(tokens))
         self.refuse(text)
-        text = self.with_prelude(text)
+        text = self.with_imports(text, depth)
         if "#[inline(always)]" in text:
             self.use("inline")
             text = text.replace(
                 "#[inline(always)]", "#[cfg_attr(not(debug_assertions), inline(always))]"
             )
         return re.sub(r"\n{3,}", "\n\n", text).lstrip("\n")
+
+    def shim_file(self, text, depth):
+        """Returns a file with the public functions of the shim that have the names of this one's."""
+        self.use("kit")
+        head = "".join(line + "\n" for line in text.split("\n") if line.startswith("//!"))
+        names = ", ".join(re.findall(r"^pub fn (\w+)", text, re.M))
+        return f"{head}\npub use {'super::' * depth}kit::{{{names}}};\n"
 
     @staticmethod
     def refuse(text):
@@ -536,15 +545,19 @@ class Eraser:
                 line = text[:text.index(token)].count("\n") + 1
                 raise Unknown(f"{token!r} in line {line} of what is left")
 
-    def with_prelude(self, text):
+    def with_imports(self, text, depth):
+        """Imports what Rattle's prelude has, and what the rule on widths names."""
         code = re.sub(r"//[^\n]*", "", text)
-        names = [n for n in ("Vec", "String") if re.search(rf"\b{n}\b", code)]
-        if not names:
-            return text
-        self.use("prelude")
+        uses = [f"alloc::{n.lower()}::{n}" for n in ("Vec", "String") if re.search(rf"\b{n}\b", code)]
+        if uses:
+            self.use("prelude")
+        if "simd::*;" not in code:
+            shim = {"Width<": "Lanes, Width", ".in_chunks": "InChunks", "positions!": "Positions, positions"}
+            names = [names for form, names in shim.items() if form in code]
+            if names:
+                uses.append("super::" * depth + "simd::{" + ", ".join(names) + "}")
         at = HEAD.match(text).end()
-        uses = "".join(f"use alloc::{n.lower()}::{n};\n" for n in names)
-        return text[:at] + uses + text[at:]
+        return text[:at] + "".join(f"use {path};\n" for path in uses) + text[at:]
 
 
 def main(arguments):
