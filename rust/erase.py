@@ -41,8 +41,8 @@ RULES = {
     "prelude": "`core` has no `Vec` and `String` in its prelude",
     "allocator": "Rattle passes the allocator to each call that builds; Rust has one",
     "reserve": "a request for memory returns a `Result` in Rattle",
-    "push_reserved": "`push` to a vector with enough capacity, which Rust does not prove",
-    "append loop": "a loop of `push_reserved` is one call for Rust, which would test the capacity for each byte",
+    "push_reserved": "`push` to a vector that has the capacity, which Rust does not know",
+    "append loop": "a loop of `push_reserved` is one call of the shim; `rustc` would test the capacity for each byte",
     "fmt parameter": "the formatter has a parameter in Rattle",
     "vector width": "an impl or a function for vectors of any width says that the machine has that width",
     "constant lanes": "the positions of a shuffle are a constant for `rustc` too",
@@ -341,11 +341,11 @@ class Eraser:
         each = re.fullmatch(r"for (\w+) in (\w+) \{ (\w+)\.push_reserved\(\*\1\); \}", text)
         if each:
             self.use("append loop")
-            return end + 1, f"{each[3]}.extend_from_slice({each[2]});"
+            return end + 1, f"{each[3]}.append_bytes({each[2]});"
         same = re.fullmatch(r"for _ in 0\.\.(\w+) \{ (\w+)\.push_reserved\((\w+)\); \}", text)
         if same:
             self.use("append loop")
-            return end + 1, f"{same[2]}.resize({same[2]}.len() + {same[1]}, {same[3]});"
+            return end + 1, f"{same[2]}.append_times({same[3]}, {same[1]});"
         return None, None
 
     def shuffle(self, tokens, at, depth):
@@ -551,6 +551,8 @@ class Eraser:
         uses = [f"alloc::{n.lower()}::{n}" for n in ("Vec", "String") if re.search(rf"\b{n}\b", code)]
         if uses:
             self.use("prelude")
+        if ".append_bytes(" in code or ".append_times(" in code:
+            uses.append("super::" * depth + "memory::Append")
         if "simd::*;" not in code:
             shim = {"Width<": "Lanes, Width", ".in_chunks": "InChunks", "positions!": "Positions, positions"}
             names = [names for form, names in shim.items() if form in code]

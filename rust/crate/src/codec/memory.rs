@@ -27,3 +27,46 @@ pub fn reserve(out: &mut Vec<u8>, more: usize) -> Result<(), AllocError> {
     out.reserve(more);
     Ok(())
 }
+
+#[cold]
+#[inline(never)]
+fn no_capacity() -> ! {
+    panic!("a vector lacks capacity")
+}
+
+/// Appends to a vector that has the capacity. The methods of `Vec` would have code to grow it at each call.
+pub trait Append {
+    fn append_bytes(&mut self, bytes: &[u8]);
+
+    /// Appends a byte so many times.
+    fn append_times(&mut self, byte: u8, count: usize);
+}
+
+impl Append for Vec<u8> {
+    #[cfg_attr(not(debug_assertions), inline(always))]
+    fn append_bytes(&mut self, bytes: &[u8]) {
+        let len = self.len();
+        if bytes.len() > self.capacity() - len {
+            no_capacity();
+        }
+        // SAFETY: there is capacity for so many bytes, by the test, and `bytes` are none of this vector's, which is
+        // borrowed mutably.
+        unsafe {
+            bytes.as_ptr().copy_to_nonoverlapping(self.as_mut_ptr().add(len), bytes.len());
+            self.set_len(len + bytes.len());
+        }
+    }
+
+    #[cfg_attr(not(debug_assertions), inline(always))]
+    fn append_times(&mut self, byte: u8, count: usize) {
+        let len = self.len();
+        if count > self.capacity() - len {
+            no_capacity();
+        }
+        // SAFETY: there is capacity for so many bytes, by the test.
+        unsafe {
+            self.as_mut_ptr().add(len).write_bytes(byte, count);
+            self.set_len(len + count);
+        }
+    }
+}

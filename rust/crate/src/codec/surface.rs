@@ -12,7 +12,7 @@ use super::calls::implementation::active;
 use super::calls::{self, CowBytes, CowText, DecodeSliceFault, LossySliceFault, TooShort, mutf8};
 use super::decode;
 use super::decode::accepts::{Accepts, EncodingAlone, Lenient, front_unless_kept};
-use super::decode::front::valid_up_to;
+use super::decode::front::valid_up_to_other;
 use super::memory::{AllocError, Global};
 use crate::{DecodingError, SliceError};
 
@@ -39,7 +39,7 @@ fn strict<F: Flavor, A: Accepts>(bytes: &[u8]) -> Result<Cow<'_, str>, DecodingE
         return Ok(Cow::Borrowed(known_text(bytes)));
     };
     let rest = &bytes[front.len..];
-    if valid_up_to::<F>(rest) < rest.len() {
+    if valid_up_to_other::<F>(rest) < rest.len() {
         return Err(DecodingError(()));
     }
     match decode::decode_strict::<F>(Global, bytes, front) {

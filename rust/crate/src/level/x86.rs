@@ -17,6 +17,7 @@ macro_rules! block {
 #[path = "../codec/mod.rs"]
 pub(crate) mod v3;
 
+#[allow(unused_macros)] // A build for v3 has no v2.
 macro_rules! at_level {
     (#[$hint:meta] { $($function:tt)* } $call:expr) => {
         #[target_feature(enable = "sse3,ssse3,sse4.1,sse4.2,popcnt")]
@@ -26,11 +27,22 @@ macro_rules! at_level {
         unsafe { $call }
     };
 }
+#[allow(unused_macros)]
 macro_rules! block {
     () => {
         Pair<core::arch::x86_64::__m128i>
     };
 }
+#[cfg(any(
+    cesu8_level = "v2",
+    not(all(
+        target_feature = "avx2",
+        target_feature = "bmi1",
+        target_feature = "bmi2",
+        target_feature = "lzcnt",
+        target_feature = "popcnt"
+    ))
+))]
 #[path = "../codec/mod.rs"]
 pub(crate) mod v2;
 
