@@ -6,8 +6,9 @@
 # on one commit give the same bytes, with the same kit and C compiler: names are sorted, times are the
 # commit's, and owners are 0. BUILT-FROM in the archive says what it was built from and what it needs.
 #
-# Where dpkg-deb is there, FOLDER gets the Debian packages too, by packages.sh. Where python3 and its
-# header are there, as python3-dev of Debian has them, it gets the wheel, by python/wheel.py.
+# Where dpkg-deb is there, FOLDER gets the Debian packages too, by packages.sh. Where python3 is there, it gets
+# the Rust crates, by rust/pack.sh, and with its header, as python3-dev of Debian has it, the wheel, by
+# python/wheel.py.
 #
 # Where the tools are there that tests/cross.sh names, FOLDER gets the same for aarch64, without the
 # programs, since the kit has the parts in C of cesu8_cli for x86-64 alone.
@@ -267,6 +268,7 @@ make_more() {
     mapfile -t -O "${#made[@]}" made <<<"$names"
 }
 make_more dpkg-deb 'the Debian packages' "$top/packages.sh"
+make_more python3 'the Rust crates' "$top/rust/pack.sh"
 if ! command -v python3 >/dev/null || has_python_header; then
     make_more python3 'the wheel' "$top/python/wheel.py"
 else

@@ -145,7 +145,10 @@ def tokenize(text):
     while at < len(text):
         end = literal_end(text, at)
         if end == at:
-            end = TOKEN.match(text, at).end()
+            token = TOKEN.match(text, at)
+            if not token:
+                raise Unknown(repr(text[at:at + 40]))
+            end = token.end()
         tokens.append(text[at:end])
         at = end
     return tokens
