@@ -1,17 +1,21 @@
-//! The fast path: up to 64 bytes are tested word by word before a level is called, since most strings are short and
-//! need no conversion. It is inlined into the caller.
+//! The fast path: up to 64 bytes are tested before a level is called, since most strings are short and need no
+//! conversion. It is inlined into the caller.
 
 /// The most bytes that are tested.
 const SHORT: usize = 64;
 
 const HIGH: u64 = 0x8080_8080_8080_8080;
 
+/// The least byte that is not ASCII.
+const NON_ASCII: u8 = 0x80;
+
+/// The least byte that leads four bytes of UTF-8.
+const LEAD_OF_FOUR: u8 = 0xF0;
+
 /// Returns the bytes as a text if they are few and all ASCII. With `WITHOUT_NULL` no byte may be 00.
 #[inline]
 pub(crate) fn ascii<const WITHOUT_NULL: bool>(bytes: &[u8]) -> Option<&str> {
-    // If no byte has its high bit, subtracting 1 from each sets one exactly if some byte is 00.
-    let test = |word: u64| if WITHOUT_NULL { word | word.wrapping_sub(HIGH >> 7) } else { word };
-    if bytes.len() > SHORT || any_word(bytes, test) {
+    if bytes.len() > SHORT || any_in_short::<NON_ASCII, WITHOUT_NULL>(bytes) {
         return None;
     }
     // SAFETY: ASCII is UTF-8.
@@ -21,18 +25,29 @@ pub(crate) fn ascii<const WITHOUT_NULL: bool>(bytes: &[u8]) -> Option<&str> {
 /// Returns whether a text is short, and no byte of it changes: none leads four bytes, or with `WITHOUT_NULL` is 00.
 #[inline]
 pub(crate) fn is_unchanged<const WITHOUT_NULL: bool>(text: &str) -> bool {
-    let test = |word: u64| {
-        let leads = word & word << 1 & word << 2 & word << 3;
-        let nulls = if WITHOUT_NULL { word.wrapping_sub(HIGH >> 7) & !word } else { 0 };
-        leads | nulls
-    };
-    text.len() <= SHORT && !any_word(text.as_bytes(), test)
+    text.len() <= SHORT && !any_in_short::<LEAD_OF_FOUR, WITHOUT_NULL>(text.as_bytes())
 }
 
-/// Returns whether the test sets the high bit of some byte, in words that cover up to 64 bytes, and overlap.
+/// Returns whether one of at most 64 bytes is `LEAST`, which is 80 or F0, or more, or with `OR_NULL` is 00.
 #[inline]
-fn any_word(bytes: &[u8], test: impl Fn(u64) -> u64) -> bool {
+fn any_in_short<const LEAST: u8, const OR_NULL: bool>(bytes: &[u8]) -> bool {
+    #[cfg(all(any(target_arch = "x86_64", all(target_arch = "aarch64", target_endian = "little")), not(miri)))]
+    if bytes.len() >= 16 {
+        return vectors::any_at_least::<LEAST>(bytes) || OR_NULL && vectors::any_null(bytes);
+    }
+    any_in_words::<LEAST, OR_NULL>(bytes)
+}
+
+/// The same, by words of eight bytes that cover all, and may overlap.
+#[inline]
+fn any_in_words<const LEAST: u8, const OR_NULL: bool>(bytes: &[u8]) -> bool {
     let len = bytes.len();
+    // The high bit of a byte tells.
+    let test = |word: u64| {
+        let least = if LEAST == NON_ASCII { word } else { word & word << 1 & word << 2 & word << 3 };
+        // If 00 is there, the subtraction sets the high bit of the lowest byte that is.
+        least | if OR_NULL { word.wrapping_sub(HIGH >> 7) & !word } else { 0 }
+    };
     let word = |at: usize| match bytes[at..].first_chunk() {
         Some(word) => test(u64::from_le_bytes(*word)),
         None => HIGH,
@@ -45,12 +60,87 @@ fn any_word(bytes: &[u8], test: impl Fn(u64) -> u64) -> bool {
             test(u64::from_le_bytes([first, middle, last, last, last, last, last, last]))
         }
         4..8 => test(half(0) | half(len - 4) << 32),
-        8..16 => word(0) | word(len - 8),
-        16..=32 => word(0) | word(8) | word(len - 16) | word(len - 8),
+        8..=16 => word(0) | word(len - 8),
         _ => {
-            let front = word(0) | word(8) | word(16) | word(24);
-            front | word(len - 32) | word(len - 24) | word(len - 16) | word(len - 8)
+            let mut found = word(len - 8);
+            for at in (0..len - 8).step_by(8) {
+                found |= word(at);
+            }
+            found
         }
     };
     found & HIGH != 0
+}
+
+/// 16 to 64 bytes by vectors of 16, which cover all, and may overlap. The instructions are those that every processor of
+/// the architecture has.
+#[cfg(all(target_arch = "x86_64", not(miri)))]
+mod vectors {
+    use core::arch::x86_64::*;
+
+    /// Joins the vectors by `join`.
+    #[inline]
+    fn joined(bytes: &[u8], join: impl Fn(__m128i, __m128i) -> __m128i) -> __m128i {
+        let load = |at: usize| match bytes[at..].first_chunk::<16>() {
+            // SAFETY: 16 bytes, and SSE2.
+            Some(bytes) => unsafe { _mm_loadu_si128(bytes.as_ptr().cast()) },
+            None => unreachable!(),
+        };
+        let len = bytes.len();
+        let ends = join(load(0), load(len - 16));
+        if len <= 32 { ends } else { join(ends, join(load(16), load(len - 32))) }
+    }
+
+    #[inline]
+    pub fn any_at_least<const LEAST: u8>(bytes: &[u8]) -> bool {
+        // SAFETY: SSE2.
+        unsafe {
+            let most = joined(bytes, |a, b| _mm_max_epu8(a, b));
+            if LEAST == 0x80 {
+                return _mm_movemask_epi8(most) != 0;
+            }
+            let least = _mm_set1_epi8(LEAST as i8);
+            _mm_movemask_epi8(_mm_cmpeq_epi8(_mm_max_epu8(most, least), most)) != 0
+        }
+    }
+
+    #[inline]
+    pub fn any_null(bytes: &[u8]) -> bool {
+        // SAFETY: SSE2.
+        unsafe {
+            let least = joined(bytes, |a, b| _mm_min_epu8(a, b));
+            _mm_movemask_epi8(_mm_cmpeq_epi8(least, _mm_setzero_si128())) != 0
+        }
+    }
+}
+
+/// The same on aarch64.
+#[cfg(all(target_arch = "aarch64", target_endian = "little", not(miri)))]
+mod vectors {
+    use core::arch::aarch64::*;
+
+    /// Joins the vectors by `join`.
+    #[inline]
+    fn joined(bytes: &[u8], join: impl Fn(uint8x16_t, uint8x16_t) -> uint8x16_t) -> uint8x16_t {
+        let load = |at: usize| match bytes[at..].first_chunk::<16>() {
+            // SAFETY: 16 bytes, and NEON.
+            Some(bytes) => unsafe { vld1q_u8(bytes.as_ptr()) },
+            None => unreachable!(),
+        };
+        let len = bytes.len();
+        let ends = join(load(0), load(len - 16));
+        if len <= 32 { ends } else { join(ends, join(load(16), load(len - 32))) }
+    }
+
+    #[inline]
+    pub fn any_at_least<const LEAST: u8>(bytes: &[u8]) -> bool {
+        // SAFETY: NEON.
+        unsafe { vmaxvq_u8(joined(bytes, |a, b| vmaxq_u8(a, b))) >= LEAST }
+    }
+
+    #[inline]
+    pub fn any_null(bytes: &[u8]) -> bool {
+        // SAFETY: NEON.
+        unsafe { vminvq_u8(joined(bytes, |a, b| vminq_u8(a, b))) == 0 }
+    }
 }

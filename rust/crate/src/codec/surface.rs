@@ -7,11 +7,13 @@ use alloc::vec::Vec;
 use core::cmp::Ordering;
 
 use super::bytes::flavor::{Cesu8Flavor, Flavor, Mutf8Flavor};
-use super::bytes::utf8::known_text;
+use super::bytes::strictness::StrictReading;
+use super::bytes::utf8::{known_string, known_text};
 use super::calls::implementation::active;
 use super::calls::{self, CowBytes, CowText, DecodeSliceFault, LossySliceFault, TooShort, mutf8};
 use super::decode;
 use super::decode::accepts::{Accepts, EncodingAlone, Lenient, front_unless_kept};
+use super::decode::copy_or_write::decode_to_slice;
 use super::decode::front::valid_up_to_other;
 use super::memory::{AllocError, Global};
 use crate::{DecodingError, SliceError};
@@ -32,9 +34,15 @@ fn bytes_of(result: Result<CowBytes<'_>, AllocError>) -> Cow<'_, [u8]> {
     }
 }
 
+/// The most bytes that are decoded on the stack.
+const FEW: usize = 64;
+
 /// Decodes strictly what a call that takes `A` takes. Input is rejected before memory is allocated.
 #[cfg_attr(not(debug_assertions), inline(always))]
 fn strict<F: Flavor, A: Accepts>(bytes: &[u8]) -> Result<Cow<'_, str>, DecodingError> {
+    if bytes.len() <= FEW {
+        return strict_few::<F, A>(bytes);
+    }
     let Some(front) = front_unless_kept::<F, A>(bytes) else {
         return Ok(Cow::Borrowed(known_text(bytes)));
     };
@@ -44,6 +52,17 @@ fn strict<F: Flavor, A: Accepts>(bytes: &[u8]) -> Result<Cow<'_, str>, DecodingE
     }
     match decode::decode_strict::<F>(Global, bytes, front) {
         Ok(text) => Ok(Cow::Owned(text)),
+        Err(_) => Err(DecodingError(())),
+    }
+}
+
+/// The same, for at most 64 bytes. What changes gets shorter, so a text of the same length is the bytes.
+#[cfg_attr(not(debug_assertions), inline(always))]
+fn strict_few<F: Flavor, A: Accepts>(bytes: &[u8]) -> Result<Cow<'_, str>, DecodingError> {
+    let mut text = [0; FEW];
+    match decode_to_slice::<F, A, StrictReading>(bytes, &mut text) {
+        Ok(len) if len == bytes.len() => Ok(Cow::Borrowed(known_text(bytes))),
+        Ok(len) => Ok(Cow::Owned(known_string(text[..len].to_vec()))),
         Err(_) => Err(DecodingError(())),
     }
 }

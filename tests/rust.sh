@@ -1,0 +1,192 @@
+#!/usr/bin/env bash
+# Tests the Rust crate: the eraser's rules, and the packages that rust/make.sh makes:
+# - each level, and the plain form, beside a codec by the standards' tables, on hostile inputs, with debug
+#   assertions and overflow checks; the cases of tests/cli_cases.txt; allocations, types and borrowing; the
+#   examples of the documentation;
+# - the same calls beside the library for C of RELEASE, optimized;
+# - a build for x86-64-v3, one without std, and one with the feature simdutf8, over a crate of that name and API
+#   that stands in, since no registry is asked; rustc 1.85 if RUSTC_1_85 names it;
+# - programs as a user writes them, from the .crate files of RELEASE, offline: the dependency in one line,
+#   [patch.crates-io], panic = "abort", fat LTO, a static relocation model;
+# - no warning of rustc, rustdoc and clippy, and rustfmt of what is written by hand;
+# - that the v3 code of the pass puts no vector together byte by byte.
+#
+# RELEASE names the folder that dist.sh has filled; without it the crates come from rust/make.sh, and nothing
+# is compared with the library for C. It says what it skipped. It needs cargo and python3, bash, awk, sed, tar
+# and the core utilities; without cargo or python3 it skips everything. The status is 0 if nothing is wrong.
+#
+#   rust.sh [--inputs N]    N inputs for each comparison, in place of few
+unset "${!CARGO_@}" RUSTFLAGS
+# shellcheck source=tests/lib.sh
+source "$(dirname "${BASH_SOURCE[0]}")/lib.sh" || exit 2
+
+debug_inputs=300
+inputs=20000
+if [[ ${1-} == --inputs && ${2-} =~ ^[0-9]+$ && $# == 2 ]]; then
+    debug_inputs=$2
+    inputs=$2
+elif (($# > 0)); then
+    echo 'usage: rust.sh [--inputs N]' >&2
+    exit 2
+fi
+for tool in cargo python3; do
+    if ! command -v "$tool" >/dev/null; then
+        echo "$tool is missing: the Rust crate skipped"
+        finish
+        exit
+    fi
+done
+export CARGO_NET_OFFLINE=true
+version=$(<"$top/VERSION")
+packages=$scratch/packages
+crate=$packages/cesu8_rattle-$version
+# Where no registry is asked, the optional dependency has to be somewhere.
+stand_in="patch.crates-io.simdutf8.path='$top/rust/tests/simdutf8'"
+
+# Runs cargo in the crate: `in_crate ARGUMENT..`. What is built is kept in $scratch/NAME of `target`.
+in_crate() {
+    (cd "$crate" && CARGO_TARGET_DIR=$scratch/${target:-target} quietly cargo --config "$stand_in" "$@")
+}
+
+# The packages: those of the release, or new ones.
+lay_out() {
+    local name
+    mkdir "$packages" || exit 2
+    if [[ -z ${RELEASE-} ]]; then
+        quietly "$top/rust/make.sh" "$packages" || exit 2
+        return
+    fi
+    for name in "cesu8_rattle-$version" simd_cesu8-1.2.0; do
+        tar xzf "$RELEASE/$name.crate" -C "$packages" || exit 2
+    done
+}
+
+# Makes a package in a folder, as a user does: `user_package NAME DEPENDENCY [LINE..]`.
+user_package() {
+    local name=$1 dependency=$2
+    shift 2
+    mkdir -p "$scratch/users/$name/src" || exit 2
+    {
+        printf '%s\n' '[package]' "name = \"$name\"" 'version = "0.1.0"' 'edition = "2021"' '' '[dependencies]'
+        printf '%s\n' "$dependency" "$@" '' '[workspace]'
+    } >"$scratch/users/$name/Cargo.toml"
+    cat >"$scratch/users/$name/src/main.rs" <<'RUST'
+fn main() {
+    let text = "caf\u{E9} \u{1F496}";
+    let encoded = simd_cesu8::encode(text);
+    assert_eq!(*encoded, *b"caf\xC3\xA9 \xED\xA0\xBD\xED\xB2\x96");
+    assert_eq!(simd_cesu8::mutf8::decode(&encoded).unwrap(), text);
+    println!("{}", simd_cesu8::decode_lossy(b"a\xFF"));
+}
+
+#[test]
+fn encodes() {
+    assert_eq!(*simd_cesu8::mutf8::encode("a\0"), *b"a\xC0\x80");
+}
+RUST
+}
+
+# Runs a user's package: `run_user NAME WHAT ARGUMENT..`, the arguments of cargo.
+run_user() {
+    local name=$1 what=$2
+    shift 2
+    if (cd "$scratch/users/$name" && CARGO_TARGET_DIR=$scratch/users/target quietly cargo "$@"); then
+        pass
+    else
+        wrong "$what"
+    fi
+}
+
+test_eraser() {
+    if quietly python3 "$top/rust/tests/test_erase.py"; then pass; else wrong "the eraser's rules"; fi
+}
+
+test_levels() {
+    export CESU8_INPUTS=$debug_inputs
+    if in_crate test; then pass; else wrong 'the tests with debug assertions'; fi
+    export CESU8_INPUTS=$inputs
+    [[ -n ${CESU8_LIBRARY-} ]] || echo 'RELEASE is not set: the Rust crate not compared with the library for C'
+    if CARGO_PROFILE_RELEASE_OVERFLOW_CHECKS=true in_crate test --release --lib --tests; then
+        pass
+    else
+        wrong 'the tests, optimized, with overflow checks'
+    fi
+}
+
+# Builds other forms of the crate, which are run if the processor has their level.
+test_forms() {
+    local v3_tests=(test --release --tests)
+    grep -q '\bavx2\b' /proc/cpuinfo || v3_tests=(test --release --tests --no-run)
+    target=v3 RUSTFLAGS='-C target-cpu=x86-64-v3' in_crate "${v3_tests[@]}" || wrong 'the build for x86-64-v3'
+    target=none in_crate check --no-default-features || wrong 'the build without std'
+    target=simdutf8 in_crate test --features simdutf8 --lib --test cases || wrong 'the feature simdutf8'
+    target=plain RUSTFLAGS='--cfg cesu8_level="plain"' in_crate test --tests || wrong 'the plain form'
+    if [[ -n ${RUSTC_1_85-} ]]; then
+        target=old RUSTC=$RUSTC_1_85 in_crate test --lib --test cases || wrong 'rustc 1.85'
+    else
+        echo 'RUSTC_1_85 is not set: rustc 1.85 skipped'
+    fi
+    pass
+}
+
+test_users() {
+    local line="simd_cesu8 = { package = \"cesu8_rattle\", path = \"$crate\" }"
+    user_package one_line "$line"
+    run_user one_line 'a program with the one line, tested' test
+    run_user one_line 'a program with the one line' run --release
+    user_package patched 'simd_cesu8 = "1"' '' '[patch.crates-io]' \
+        "simd_cesu8 = { path = \"$packages/simd_cesu8-1.2.0\" }"
+    run_user patched 'a program with [patch.crates-io]' run --release
+    user_package both "$line" "other = { package = \"simd_cesu8\", path = \"$packages/simd_cesu8-1.2.0\" }"
+    run_user both 'two packages in one program' check
+    user_package abort "$line" '' '[profile.release]' 'panic = "abort"' 'lto = "fat"' 'codegen-units = 1'
+    RUSTFLAGS='-C relocation-model=static' run_user abort 'panic = "abort", fat LTO, static' run --release
+}
+
+look_at_style() {
+    local files
+    if RUSTDOCFLAGS='-D warnings' in_crate doc --no-deps; then pass; else wrong 'warnings of rustdoc'; fi
+    if ! command -v cargo-clippy >/dev/null; then
+        echo 'clippy is missing: skipped'
+    elif in_crate clippy --all-targets -- -D warnings; then
+        pass
+    else
+        wrong 'warnings of clippy'
+    fi
+    if ! command -v rustfmt >/dev/null; then
+        echo 'rustfmt is missing: skipped'
+        return
+    fi
+    mapfile -t files < <(cd "$top" && find rust -name '*.rs' | sort)
+    if (cd "$top" && quietly rustfmt --edition 2024 --config-path rust/rustfmt.toml --check "${files[@]}"); then
+        pass
+    else
+        wrong 'rustfmt'
+    fi
+}
+
+# Of arrays that overlap, rustc may make copies byte by byte.
+look_at_assembly() {
+    if [[ $(uname -m) != x86_64 ]]; then
+        echo 'not x86-64: the assembly skipped'
+        return
+    fi
+    target=v3 RUSTFLAGS='-C target-cpu=x86-64-v3' in_crate rustc --release --lib -- --emit asm ||
+        wrong 'the assembly for x86-64-v3'
+    awk '/^[_A-Za-z].*:/ { is_pass = /write_blocks/ } is_pass && /vpinsrb/ { print; found = 1 }
+        END { exit found }' "$scratch/v3/release/deps"/*.s || wrong 'vpinsrb in the pass'
+    pass
+}
+
+lay_out
+if [[ -n ${RELEASE-} ]]; then
+    mkdir "$scratch/release" && tar xzf "$RELEASE/cesu8-$version-x86_64-linux.tar.gz" -C "$scratch/release" || exit 2
+    export CESU8_LIBRARY=$scratch/release/cesu8-$version-x86_64-linux/lib/libcesu8.so
+fi
+test_eraser
+test_levels
+test_forms
+test_users
+look_at_style
+look_at_assembly
+finish
