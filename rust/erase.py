@@ -1,12 +1,13 @@
 #!/usr/bin/env python3
 """Erases the contracts of the proved library, and leaves ordinary Rust.
 
-    erase.py CRATES OUT    writes a module of OUT for each crate in the folder CRATES that the Rust crate needs
+    erase.py CRATES OUT    writes a module of OUT for each crate in CRATES that the Rust crate needs
     erase.py --rules       prints each rule and why it is needed
 
-It works in two steps. The first removes what Rattle adds to Rust, character by character, since contracts hold
-text that is no Rust. The second rewrites tokens of Rust. Each change belongs to a rule in RULES. It stops at
-what no rule knows, and it puts no text of its own in place of a function's body.
+It works in two steps. The first removes what Rattle adds to Rust, character by character, since
+contracts hold text that is no Rust. The second rewrites tokens of Rust. Each change belongs to a
+rule in RULES. It stops at what no rule knows, and it puts no text of its own in place of a
+function's body.
 """
 import collections
 import pathlib
@@ -28,26 +29,26 @@ KIT = ("simdutf8",)
 RULES = {
     "ghost use": "imports names for contracts alone",
     "ghost member": "a member of a trait, an impl or a struct that contracts alone name",
-    "clause": "`requires` and `ensures`: the checker has proved them, and Rust has no place for them",
+    "clause": "`requires` and `ensures`: they are proved, and Rust has no place for them",
     "comment among clauses": "a comment between clauses is about one of them",
     "tactic": "tells the prover how to search",
     "unit test": "Rattle's tests take a runtime as an argument; tests/ has Rust's own",
     "example": "an example in a doc comment is Rattle, with an allocator: it stays as text",
     "derive(Drop)": "in Rattle a type says that it may be dropped; every type of Rust may",
     "bound Drop": "the same, for a parameter",
-    "crate path": "crates become modules, named by `super`, as they stand in the crate once for each level",
+    "crate path": "crates become modules, named by `super`, as there is a copy for each level",
     "std path": "`std::simd` and `std::alloc` are modules of the shim; the rest is in `core`",
-    "kit": "a file that uses a crate of Rattle's kit gives way to the shim's functions of the same names",
+    "kit": "a file that uses a crate of Rattle's kit gives way to the shim's functions of its names",
     "prelude": "`core` has no `Vec` and `String` in its prelude",
     "allocator": "Rattle passes the allocator to each call that builds; Rust has one",
     "reserve": "a request for memory returns a `Result` in Rattle",
     "push_reserved": "`push` to a vector that has the capacity, which Rust does not know",
-    "append loop": "a loop of `push_reserved` is one call of the shim; `rustc` would test the capacity for each byte",
+    "append loop": "a loop of `push_reserved` is one call of the shim, with one test of the capacity",
     "fmt parameter": "the formatter has a parameter in Rattle",
-    "vector width": "an impl or a function for vectors of any width says that the machine has that width",
+    "vector width": "an item for vectors of any width says that the machine has that width",
     "constant lanes": "the positions of a shuffle are a constant for `rustc` too",
-    "load at": "a load or store at an offset tests the bounds once, in place of a slice's and a vector's",
-    "array by reference": "`rustc` passes an array of 16 bytes as one integer, and takes it apart byte by byte",
+    "load at": "a load or store at an offset tests its bounds once, not a slice's and a vector's",
+    "array by reference": "`rustc` takes an array of 16 bytes that it passes apart byte by byte",
     "as_chunks": "it came with Rust 1.88, and the crate is for 1.85",
     "level": "a function that is not inlined is compiled with the features of its level",
     "method": "a method is inlined, since it can't have a function with features in it",
@@ -335,7 +336,7 @@ class Eraser:
         return None, None
 
     def append_loop(self, tokens, at):
-        """`for byte in bytes { out.push_reserved(*byte); }`, or `for _ in 0..count` with one value."""
+        """`for byte in bytes { out.push_reserved(*byte); }`, or `for _ in 0..count` with a value."""
         body = at
         while tokens[body] != "{":
             body += 1
@@ -357,7 +358,8 @@ class Eraser:
         angle = closing_angle(tokens, at + 3)
         width = "".join(tokens[at + 4:angle]).strip()
         end = closing(tokens, angle + 1)
-        arguments = ["".join(self.calls(part, depth)).strip() for part in parts(tokens[angle + 2:end])]
+        arguments = parts(tokens[angle + 2:end])
+        arguments = ["".join(self.calls(part, depth)).strip() for part in arguments]
         arguments[-1] = f"positions!({width}, {arguments[-1]})"
         return end + 1, f".{tokens[at + 1]}({', '.join(arguments)})"
 
@@ -390,7 +392,7 @@ class Eraser:
         return tokenize("".join(out))
 
     def widths_of(self, tokens, at):
-        """Returns the parameters of an item that are widths of vectors, and where its body begins."""
+        """Returns the parameters of an item that are widths, and where its body begins."""
         start = next_solid(tokens, at + 1)
         if tokens[at] != "impl":
             start = next_solid(tokens, start + 1)
@@ -408,11 +410,11 @@ class Eraser:
 
     @staticmethod
     def is_width(name, item):
-        """Whether a parameter is passed on as one, as to `Simd<u8, N>`. The length of an array is not."""
+        """Whether a parameter is passed on as one, as to `Simd<u8, N>`, and not as in `[u8; N]`."""
         return bool(re.search(rf"[<,]\s*{name}\s*>", item))
 
     def functions(self, tokens):
-        """Puts the body of each function that is not always inlined into one with its level's features.
+        """Puts the body of each function that is not always inlined into one of its level.
 
         `at_level!` of the shim makes that one, and calls it. A method is inlined instead.
         """
@@ -500,8 +502,8 @@ class Eraser:
         inner = signature[len(tokens[name]):].strip()
         hint = attribute[0] if attribute else "#[inline]"
         out += [
-            "fn ", signature, before_body, "{\n    at_level! {\n        ", hint, " {\n        fn at_level", inner,
-            before_body, text, "\n        } at_level", turbofish, "(", arguments, ")\n    }\n}",
+            "fn ", signature, before_body, "{\n    at_level! {\n        ", hint, " {\n        fn at_level",
+            inner, before_body, text, "\n        } at_level", turbofish, "(", arguments, ")\n    }\n}",
         ]
         return end + 1
 
@@ -529,7 +531,7 @@ class Eraser:
         return re.sub(r"\n{3,}", "\n\n", text).lstrip("\n")
 
     def shim_file(self, text, depth):
-        """Returns a file with the public functions of the shim that have the names of this one's."""
+        """Returns a file that has the shim's functions with the names of this one's."""
         self.use("kit")
         head = "".join(line + "\n" for line in text.split("\n") if line.startswith("//!"))
         names = ", ".join(re.findall(r"^pub fn (\w+)", text, re.M))
@@ -551,13 +553,18 @@ class Eraser:
     def with_imports(self, text, depth):
         """Imports what Rattle's prelude has, and what the rule on widths names."""
         code = re.sub(r"//[^\n]*", "", text)
-        uses = [f"alloc::{n.lower()}::{n}" for n in ("Vec", "String") if re.search(rf"\b{n}\b", code)]
+        names = [name for name in ("Vec", "String") if re.search(rf"\b{name}\b", code)]
+        uses = [f"alloc::{name.lower()}::{name}" for name in names]
         if uses:
             self.use("prelude")
         if ".append_bytes(" in code or ".append_times(" in code:
             uses.append("super::" * depth + "memory::Append")
         if "simd::*;" not in code:
-            shim = {"Width<": "Lanes, Width", ".in_chunks": "InChunks", "positions!": "Positions, positions"}
+            shim = {
+                "Width<": "Lanes, Width",
+                ".in_chunks": "InChunks",
+                "positions!": "Positions, positions",
+            }
             names = [names for form, names in shim.items() if form in code]
             if names:
                 uses.append("super::" * depth + "simd::{" + ", ".join(names) + "}")

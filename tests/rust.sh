@@ -1,19 +1,20 @@
 #!/usr/bin/env bash
 # Tests the Rust crate: the eraser's rules, and the packages that rust/make.sh makes:
-# - each level, and the plain form, beside a codec by the standards' tables, on hostile inputs, with debug
-#   assertions and overflow checks; the cases of tests/cli_cases.txt; allocations, types and borrowing; the
-#   examples of the documentation;
+# - each level, and the plain form, beside a codec by the standards' tables, on hostile inputs, with
+#   debug assertions and overflow checks; the cases of tests/cli_cases.txt; allocations, types and
+#   borrowing; the examples of the documentation;
 # - the same calls beside the library for C of RELEASE, optimized;
-# - a build for x86-64-v3, one without std, and one with the feature simdutf8, over a crate of that name and API
-#   that stands in, since no registry is asked; rustc 1.85 if RUSTC_1_85 names it;
-# - programs as a user writes them, from the .crate files of RELEASE, offline: the dependency in one line,
-#   [patch.crates-io], panic = "abort", fat LTO, a static relocation model;
+# - a build for x86-64-v3, one without std, and one with the feature simdutf8, over a crate of that
+#   name and API that stands in, since no registry is asked; rustc 1.85 if RUSTC_1_85 names it;
+# - programs as a user writes them, from the .crate files of RELEASE, offline: the dependency in one
+#   line, [patch.crates-io], panic = "abort", fat LTO, a static relocation model;
 # - no warning of rustc, rustdoc and clippy, and rustfmt of what is written by hand;
 # - that the v3 code of the pass puts no vector together byte by byte.
 #
-# RELEASE names the folder that dist.sh has filled; without it the crates come from rust/make.sh, and nothing
-# is compared with the library for C. It says what it skipped. It needs cargo and python3, bash, awk, sed, tar
-# and the core utilities; without cargo or python3 it skips everything. The status is 0 if nothing is wrong.
+# RELEASE names the folder that dist.sh has filled; without it the crates come from rust/make.sh,
+# and nothing is compared with the library for C. It says what it skipped. It needs cargo and
+# python3, bash, awk, sed, tar and the core utilities; without cargo or python3 it skips everything.
+# The status is 0 if nothing is wrong.
 #
 #   rust.sh [--inputs N]    N inputs for each comparison, in place of few
 unset "${!CARGO_@}" RUSTFLAGS
@@ -43,7 +44,8 @@ crate=$packages/cesu8_rattle-$version
 # Where no registry is asked, the optional dependency has to be somewhere.
 stand_in="patch.crates-io.simdutf8.path='$top/rust/tests/simdutf8'"
 
-# Runs cargo in the crate: `in_crate ARGUMENT..`. What is built is kept in $scratch/NAME of `target`.
+# Runs cargo in the crate: `in_crate ARGUMENT..`. What is built is kept in $scratch/NAME of
+# `target`.
 in_crate() {
     (cd "$crate" && CARGO_TARGET_DIR=$scratch/${target:-target} quietly cargo --config "$stand_in" "$@")
 }
@@ -144,7 +146,7 @@ test_users() {
 }
 
 look_at_style() {
-    local files
+    local file
     if RUSTDOCFLAGS='-D warnings' in_crate doc --no-deps; then pass; else wrong 'warnings of rustdoc'; fi
     if ! command -v cargo-clippy >/dev/null; then
         echo 'clippy is missing: skipped'
@@ -157,12 +159,12 @@ look_at_style() {
         echo 'rustfmt is missing: skipped'
         return
     fi
-    mapfile -t files < <(cd "$top" && find rust -name '*.rs' | sort)
-    if (cd "$top" && quietly rustfmt --edition 2024 --config-path rust/rustfmt.toml --check "${files[@]}"); then
-        pass
-    else
-        wrong 'rustfmt'
-    fi
+    # By standard input, since rustfmt would look for the modules that are made.
+    while read -r file; do
+        rustfmt --edition 2024 --config-path "$top/rust/rustfmt.toml" <"$file" >"$scratch/formatted" &&
+            cmp -s "$file" "$scratch/formatted" || wrong "${file#"$top/"} is not what rustfmt makes of it"
+    done < <(find "$top/rust" -name '*.rs' | sort)
+    pass
 }
 
 # Of arrays that overlap, rustc may make copies byte by byte.

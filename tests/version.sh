@@ -78,6 +78,12 @@ fi
 # wheel.
 package_version=$(sed -n 's/^__version__ = "\(.*\)"$/\1/p' python/cesu8/__init__.py)
 expect python/cesu8/__init__.py version "$version" "$package_version"
+expect rust/crate/Cargo.toml version "$version" "$(sed -n 's/^version = "\(.*\)"$/\1/p' rust/crate/Cargo.toml)"
+for file in rust/README.md rust/simd_cesu8/Cargo.toml; do
+    while read -r named; do
+        expect "$file" package "$version" "$named"
+    done < <(grep -o 'cesu8_rattle-[0-9.]*[0-9]' "$file" | sed 's/^cesu8_rattle-//' | sort -u)
+done
 for control in crates/cesu8_static/package/debian/*.control; do
     expect "$control" version '@VERSION@-1' "$(sed -n 's/^Version: //p' "$control")"
     while read -r named; do

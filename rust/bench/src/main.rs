@@ -2,9 +2,10 @@
 //!
 //!     bench ROUNDS FILE.so..
 //!
-//! Each row has an input set, a call, and for each codec the nanoseconds of one call: the least of the rounds, in which
-//! the codecs take turns on many different inputs. Last come the families: the median of their rows' quotients, the
-//! faster of the other codecs by the crate. All are called through the same interface of C, with no copy of the result.
+//! Each row has an input set, a call, and for each codec the nanoseconds of one call: the least of
+//! the rounds, in which the codecs take turns on many different inputs. Last come the families: the
+//! median of their rows' quotients, the faster of the other codecs by the crate. All are called
+//! through the same interface of C, with no copy of the result.
 
 use std::borrow::Cow;
 use std::collections::BTreeMap;
@@ -159,7 +160,9 @@ fn time(codecs: &[Call], inputs: &[Vec<u8>], rounds: usize) -> Vec<f64> {
                 for input in *batch {
                     let input = black_box(input);
                     // SAFETY: a buffer of no bytes is not written.
-                    black_box(unsafe { codecs[codec](input.as_ptr(), input.len(), std::ptr::dangling_mut(), 0) });
+                    black_box(unsafe {
+                        codecs[codec](input.as_ptr(), input.len(), std::ptr::dangling_mut(), 0)
+                    });
                 }
                 let time = start.elapsed().as_nanos() as f64;
                 times[codec][number] = times[codec][number].min(time);
@@ -206,16 +209,39 @@ impl Bench {
             for len in lens {
                 let count = (120_000 / len).clamp(8, 1000);
                 let texts: Vec<String> = (0..count).map(|_| random.text(kind, *len)).collect();
-                let utf8: Vec<Vec<u8>> = texts.iter().map(|text| text.clone().into_bytes()).collect();
+                let utf8: Vec<Vec<u8>> =
+                    texts.iter().map(|text| text.clone().into_bytes()).collect();
                 for is_mutf8 in [false, true] {
                     let prefix = if is_mutf8 { "mutf8_" } else { "" };
-                    let bytes: Vec<Vec<u8>> = texts.iter().map(|text| encoded(text, is_mutf8)).collect();
-                    let what = if bytes != utf8 { "built" } else if *kind == "ascii" { "ASCII" } else { "unchanged" };
+                    let bytes: Vec<Vec<u8>> =
+                        texts.iter().map(|text| encoded(text, is_mutf8)).collect();
+                    let what = if bytes != utf8 {
+                        "built"
+                    } else if *kind == "ascii" {
+                        "ASCII"
+                    } else {
+                        "unchanged"
+                    };
                     let set = format!("{kind} {len}");
                     let size = size_class(*len);
-                    self.row(&set, &format!("{prefix}encode_text"), &utf8, format!("encode {what} {size}"));
-                    self.row(&set, &format!("{prefix}decode_strict"), &bytes, format!("decode_strict {what} {size}"));
-                    self.row(&set, &format!("{prefix}decode"), &bytes, format!("decode {what} {size}"));
+                    self.row(
+                        &set,
+                        &format!("{prefix}encode_text"),
+                        &utf8,
+                        format!("encode {what} {size}"),
+                    );
+                    self.row(
+                        &set,
+                        &format!("{prefix}decode_strict"),
+                        &bytes,
+                        format!("decode_strict {what} {size}"),
+                    );
+                    self.row(
+                        &set,
+                        &format!("{prefix}decode"),
+                        &bytes,
+                        format!("decode {what} {size}"),
+                    );
                     let call = format!("{prefix}decode_lossy_strict");
                     self.row(&set, &call, &bytes, format!("decode_lossy_strict {what} {size}"));
                     // UTF-8 with characters of four bytes, which a lenient call borrows.
@@ -229,10 +255,20 @@ impl Bench {
                         bytes[at] = 0xFF;
                     }
                     let call = format!("{prefix}decode_strict");
-                    self.row(&format!("{set} damaged"), &call, &damaged, format!("rejected {size}"));
+                    self.row(
+                        &format!("{set} damaged"),
+                        &call,
+                        &damaged,
+                        format!("rejected {size}"),
+                    );
                     let mut damaged = bytes;
                     damaged.iter_mut().for_each(|bytes| bytes[0] = 0xFF);
-                    self.row(&format!("{set} damaged at 0"), &call, &damaged, format!("rejected at once {size}"));
+                    self.row(
+                        &format!("{set} damaged at 0"),
+                        &call,
+                        &damaged,
+                        format!("rejected at once {size}"),
+                    );
                 }
             }
         }
@@ -241,7 +277,8 @@ impl Bench {
 
 fn main() {
     let arguments: Vec<String> = env::args().skip(1).collect();
-    let rounds = arguments.first().and_then(|rounds| rounds.parse().ok()).expect("bench ROUNDS FILE.so..");
+    let rounds =
+        arguments.first().and_then(|rounds| rounds.parse().ok()).expect("bench ROUNDS FILE.so..");
     let open = |file: &String| {
         let file = CString::new(file.as_str()).unwrap();
         // SAFETY: a file's name, with RTLD_NOW.

@@ -2,7 +2,8 @@ use core::{error, fmt};
 
 /// The bytes are not the encoding of a text.
 ///
-/// It prints as `invalid input`, and with `{:?}` as `DecodingError`. It holds nothing, so all its values are equal.
+/// It prints as `invalid input`, and with `{:?}` as `DecodingError`. It holds nothing, so all its
+/// values are equal.
 #[derive(Clone, Copy, PartialEq, Eq)]
 pub struct DecodingError(pub(crate) ());
 

@@ -34,10 +34,14 @@ pub mod active {
 
 /// In `simd_cesu8` a word at a time. Here it is [`active`].
 pub mod word {
-    pub use super::active::{contains_null_or_utf8_4_byte_char_header, contains_utf8_4_byte_char_header};
+    pub use super::active::{
+        contains_null_or_utf8_4_byte_char_header, contains_utf8_4_byte_char_header,
+    };
 }
 
 /// In `simd_cesu8` by vectors. Here it is [`active`].
 pub mod simd {
-    pub use super::active::{contains_null_or_utf8_4_byte_char_header, contains_utf8_4_byte_char_header};
+    pub use super::active::{
+        contains_null_or_utf8_4_byte_char_header, contains_utf8_4_byte_char_header,
+    };
 }

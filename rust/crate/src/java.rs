@@ -1,5 +1,6 @@
-//! Java's length-prefixed strings, as `DataOutput.writeUTF` writes and `DataInput.readUTF` reads them: two bytes with
-//! the length of the string's MUTF-8, the high byte first, and then the MUTF-8.
+//! Java's length-prefixed strings, as `DataOutput.writeUTF` writes and `DataInput.readUTF` reads
+//! them: two bytes with the length of the string's MUTF-8, the high byte first, and then the
+//! MUTF-8.
 //!
 //! ```
 //! use simd_cesu8::java;
@@ -85,12 +86,13 @@ pub fn write_utf(text: &str, buf: &mut Vec<u8>) -> Result<(), TooLong> {
     Ok(())
 }
 
-/// Reads the string that begins the bytes, as `DataInput.readUTF` does but strictly, and returns it with the bytes
-/// after it. It borrows the counted bytes if and only if they are the text's UTF-8.
+/// Reads the string that begins the bytes, as `DataInput.readUTF` does but strictly, and returns it
+/// with the bytes after it. It borrows the counted bytes if and only if they are the text's UTF-8.
 ///
 /// # Errors
 ///
-/// [`ReadError::Truncated`] if bytes are missing, and [`ReadError::Invalid`] if the counted bytes are not MUTF-8.
+/// [`ReadError::Truncated`] if bytes are missing, and [`ReadError::Invalid`] if the counted bytes
+/// are not MUTF-8.
 ///
 /// ```
 /// let (text, rest) = simd_cesu8::java::read_utf(b"\0\x01AB")?;
@@ -103,8 +105,8 @@ pub fn read_utf(bytes: &[u8]) -> Result<(Cow<'_, str>, &[u8]), ReadError> {
     Ok((text, rest))
 }
 
-/// Reads the string that begins the bytes, which may be damaged, with U+FFFD for each byte in no encoded character. It
-/// borrows as [`read_utf`] does.
+/// Reads the string that begins the bytes, which may be damaged, with U+FFFD for each byte in no
+/// encoded character. It borrows as [`read_utf`] does.
 ///
 /// # Errors
 ///

@@ -1,12 +1,12 @@
 //! CESU-8 and Modified UTF-8 (MUTF-8): a drop-in for `simd_cesu8` 1.2, from a proved library.
 //!
-//! Both encodings write each UTF-16 code unit of a string separately. A character with four bytes in UTF-8 becomes a
-//! surrogate pair of three bytes each. MUTF-8 also writes U+0000 as C0 80. CESU-8 is that of Unicode Technical Report
-//! 26, MUTF-8 that of Java's `DataInput`, class files and JNI. The calls at the root are for CESU-8, those of [`mutf8`]
-//! for MUTF-8.
+//! Both encodings write each UTF-16 code unit of a string separately. A character with four bytes
+//! in UTF-8 becomes a surrogate pair of three bytes each. MUTF-8 also writes U+0000 as C0 80.
+//! CESU-8 is that of Unicode Technical Report 26, MUTF-8 that of Java's `DataInput`, class files
+//! and JNI. The calls at the root are for CESU-8, those of [`mutf8`] for MUTF-8.
 //!
-//! A result borrows the input if and only if no byte changes. Otherwise it takes one allocation, and input that is
-//! rejected takes none.
+//! A result borrows the input if and only if no byte changes. Otherwise it takes one allocation,
+//! and input that is rejected takes none.
 //!
 //! ```
 //! use std::borrow::Cow;
@@ -20,8 +20,8 @@
 //! # Ok::<(), simd_cesu8::DecodingError>(())
 //! ```
 //!
-//! What `simd_cesu8` 1.2.0 lacks: [`encoded_len`], [`decoded_len`], [`lossy_len`], [`valid_up_to`], [`utf16_len`],
-//! [`compare_as_utf16`], the calls that write to a slice, and [`java`].
+//! What `simd_cesu8` 1.2.0 lacks: [`encoded_len`], [`decoded_len`], [`lossy_len`], [`valid_up_to`],
+//! [`utf16_len`], [`compare_as_utf16`], the calls that write to a slice, and [`java`].
 #![cfg_attr(not(feature = "std"), no_std)]
 #![warn(missing_docs)]
 
@@ -47,7 +47,8 @@ use core::cmp::Ordering;
 pub use self::error::{DecodingError, SliceError};
 use self::level::by_level;
 
-/// Returns whether the CESU-8 of a string differs from its UTF-8: whether a character is U+10000 or above.
+/// Returns whether the CESU-8 of a string differs from its UTF-8: whether a character is U+10000 or
+/// above.
 ///
 /// ```
 /// assert!(!simd_cesu8::needs_encoded("caf\u{E9}"));
@@ -61,7 +62,8 @@ pub fn needs_encoded(value: &str) -> bool {
 
 /// Encodes a string to CESU-8.
 ///
-/// It borrows the string's bytes if they are its CESU-8. Otherwise it allocates exactly the length of the CESU-8.
+/// It borrows the string's bytes if they are its CESU-8. Otherwise it allocates exactly the length
+/// of the CESU-8.
 ///
 /// ```
 /// use std::borrow::Cow;
@@ -102,7 +104,8 @@ pub fn encode_into(value: &str, buf: &mut Vec<u8>) {
 
 /// Decodes CESU-8 strictly: returns the string whose CESU-8 the bytes are.
 ///
-/// It borrows the bytes if they are the string's UTF-8. Otherwise it allocates at most their length, once.
+/// It borrows the bytes if they are the string's UTF-8. Otherwise it allocates at most their
+/// length, once.
 ///
 /// ```
 /// assert_eq!(simd_cesu8::decode_strict(b"\xED\xA0\xBD\xED\xB2\x96")?, "\u{1F496}");
@@ -112,8 +115,9 @@ pub fn encode_into(value: &str, buf: &mut Vec<u8>) {
 ///
 /// # Errors
 ///
-/// [`DecodingError`] if the bytes are not the CESU-8 of a string: they are damaged, or have an unpaired surrogate, an
-/// overlong form, or a character of four bytes. It is returned before memory is allocated.
+/// [`DecodingError`] if the bytes are not the CESU-8 of a string: they are damaged, or have an
+/// unpaired surrogate, an overlong form, or a character of four bytes. It is returned before memory
+/// is allocated.
 #[inline]
 pub fn decode_strict(bytes: &[u8]) -> Result<Cow<'_, str>, DecodingError> {
     if let Some(text) = short::ascii::<false>(bytes) {
@@ -122,7 +126,8 @@ pub fn decode_strict(bytes: &[u8]) -> Result<Cow<'_, str>, DecodingError> {
     by_level!(of_cesu8::decode_strict(bytes))
 }
 
-/// Decodes bytes that are UTF-8 as a whole, or else CESU-8. It reads no input partly as one and partly as the other.
+/// Decodes bytes that are UTF-8 as a whole, or else CESU-8. It reads no input partly as one and
+/// partly as the other.
 ///
 /// It borrows the bytes if they are UTF-8. Otherwise it allocates at most their length, once.
 ///
@@ -134,8 +139,8 @@ pub fn decode_strict(bytes: &[u8]) -> Result<Cow<'_, str>, DecodingError> {
 ///
 /// # Errors
 ///
-/// [`DecodingError`] if the bytes are neither UTF-8 nor the CESU-8 of a string. It is returned before memory is
-/// allocated.
+/// [`DecodingError`] if the bytes are neither UTF-8 nor the CESU-8 of a string. It is returned
+/// before memory is allocated.
 #[inline]
 pub fn decode(bytes: &[u8]) -> Result<Cow<'_, str>, DecodingError> {
     if let Some(text) = short::ascii::<false>(bytes) {
@@ -146,7 +151,8 @@ pub fn decode(bytes: &[u8]) -> Result<Cow<'_, str>, DecodingError> {
 
 /// Decodes CESU-8 that may be damaged: each encoded character, and U+FFFD for each byte in none.
 ///
-/// It borrows the bytes if they are the string's UTF-8. Otherwise it allocates exactly the string's length.
+/// It borrows the bytes if they are the string's UTF-8. Otherwise it allocates exactly the string's
+/// length.
 ///
 /// ```
 /// assert_eq!(simd_cesu8::decode_lossy_strict(b"\xE2\x82A"), "\u{FFFD}\u{FFFD}A");
@@ -164,8 +170,8 @@ pub fn decode_lossy_strict(bytes: &[u8]) -> Cow<'_, str> {
     by_level!(of_cesu8::decode_lossy_strict(bytes))
 }
 
-/// Decodes bytes that are UTF-8 as a whole, or else CESU-8 that may be damaged, with U+FFFD for each byte in no encoded
-/// character.
+/// Decodes bytes that are UTF-8 as a whole, or else CESU-8 that may be damaged, with U+FFFD for
+/// each byte in no encoded character.
 ///
 /// It borrows the bytes if they are UTF-8. Otherwise it allocates exactly the string's length.
 ///
@@ -198,7 +204,8 @@ pub fn encoded_len(value: &str) -> usize {
     by_level!(of_cesu8::encoded_len(value))
 }
 
-/// Returns the length in bytes of the string that [`decode_strict`] returns, or `None` if that is an error.
+/// Returns the length in bytes of the string that [`decode_strict`] returns, or `None` if that is
+/// an error.
 ///
 /// ```
 /// assert_eq!(simd_cesu8::decoded_len(b"\xED\xA0\xBD\xED\xB2\x96"), Some(4));
@@ -210,7 +217,8 @@ pub fn decoded_len(bytes: &[u8]) -> Option<usize> {
     by_level!(of_cesu8::decoded_len(bytes))
 }
 
-/// Returns the length in bytes of the string that [`decode_lossy_strict`] returns, or `None` if it exceeds `usize`.
+/// Returns the length in bytes of the string that [`decode_lossy_strict`] returns, or `None` if it
+/// exceeds `usize`.
 ///
 /// ```
 /// assert_eq!(simd_cesu8::lossy_len(b"\xE2\x82A"), Some(7));
@@ -221,7 +229,8 @@ pub fn lossy_len(bytes: &[u8]) -> Option<usize> {
     by_level!(of_cesu8::lossy_len(bytes))
 }
 
-/// Returns how many bytes at the start are whole encoded characters: the offset of the first damage, or the length.
+/// Returns how many bytes at the start are whole encoded characters: the offset of the first
+/// damage, or the length.
 ///
 /// ```
 /// assert_eq!(simd_cesu8::valid_up_to(b"id=\xED\xA0\xBD\xED\xB2\x96\xFF"), 9);
@@ -232,7 +241,8 @@ pub fn valid_up_to(bytes: &[u8]) -> usize {
     by_level!(of_cesu8::valid_up_to(bytes))
 }
 
-/// Encodes a string to CESU-8, in a slice. It returns how many bytes it wrote at the start; the rest is unchanged.
+/// Encodes a string to CESU-8, in a slice. It returns how many bytes it wrote at the start; the
+/// rest is unchanged.
 ///
 /// ```
 /// let mut buf = [0xEE; 8];
@@ -243,14 +253,15 @@ pub fn valid_up_to(bytes: &[u8]) -> usize {
 ///
 /// # Errors
 ///
-/// [`SliceError::TooShort`] with the length of the CESU-8, if the slice is shorter. It is then unchanged.
+/// [`SliceError::TooShort`] with the length of the CESU-8, if the slice is shorter. It is then
+/// unchanged.
 #[inline]
 pub fn encode_to_slice(value: &str, buf: &mut [u8]) -> Result<usize, SliceError> {
     by_level!(of_cesu8::encode_to_slice(value, buf))
 }
 
-/// Decodes CESU-8 as [`decode_strict`] does, and writes the string to a slice. It returns how many bytes it wrote at the
-/// start; the rest is unchanged.
+/// Decodes CESU-8 as [`decode_strict`] does, and writes the string to a slice. It returns how many
+/// bytes it wrote at the start; the rest is unchanged.
 ///
 /// ```
 /// let mut buf = [0xEE; 6];
@@ -261,15 +272,15 @@ pub fn encode_to_slice(value: &str, buf: &mut [u8]) -> Result<usize, SliceError>
 ///
 /// # Errors
 ///
-/// [`SliceError::Invalid`] if [`decode_strict`] returns an error, and [`SliceError::TooShort`] with the string's length
-/// if the slice is shorter. The slice is then unchanged.
+/// [`SliceError::Invalid`] if [`decode_strict`] returns an error, and [`SliceError::TooShort`] with
+/// the string's length if the slice is shorter. The slice is then unchanged.
 #[inline]
 pub fn decode_strict_to_slice(bytes: &[u8], buf: &mut [u8]) -> Result<usize, SliceError> {
     by_level!(of_cesu8::decode_strict_to_slice(bytes, buf))
 }
 
-/// Decodes UTF-8 or CESU-8 as [`decode`] does, and writes the string to a slice. It returns how many bytes it wrote at
-/// the start; the rest is unchanged.
+/// Decodes UTF-8 or CESU-8 as [`decode`] does, and writes the string to a slice. It returns how
+/// many bytes it wrote at the start; the rest is unchanged.
 ///
 /// ```
 /// let mut buf = [0xEE; 6];
@@ -280,15 +291,15 @@ pub fn decode_strict_to_slice(bytes: &[u8], buf: &mut [u8]) -> Result<usize, Sli
 ///
 /// # Errors
 ///
-/// [`SliceError::Invalid`] if [`decode`] returns an error, and [`SliceError::TooShort`] with the string's length if the
-/// slice is shorter. The slice is then unchanged.
+/// [`SliceError::Invalid`] if [`decode`] returns an error, and [`SliceError::TooShort`] with the
+/// string's length if the slice is shorter. The slice is then unchanged.
 #[inline]
 pub fn decode_to_slice(bytes: &[u8], buf: &mut [u8]) -> Result<usize, SliceError> {
     by_level!(of_cesu8::decode_to_slice(bytes, buf))
 }
 
-/// Decodes CESU-8 as [`decode_lossy_strict`] does, and writes the string to a slice. It returns how many bytes it wrote
-/// at the start; the rest is unchanged.
+/// Decodes CESU-8 as [`decode_lossy_strict`] does, and writes the string to a slice. It returns how
+/// many bytes it wrote at the start; the rest is unchanged.
 ///
 /// ```
 /// let mut buf = [0xEE; 6];
@@ -299,15 +310,15 @@ pub fn decode_to_slice(bytes: &[u8], buf: &mut [u8]) -> Result<usize, SliceError
 ///
 /// # Errors
 ///
-/// [`SliceError::TooShort`] with the string's length if the slice is shorter, and [`SliceError::TooLong`] if that
-/// exceeds `usize`. The slice is then unchanged.
+/// [`SliceError::TooShort`] with the string's length if the slice is shorter, and
+/// [`SliceError::TooLong`] if that exceeds `usize`. The slice is then unchanged.
 #[inline]
 pub fn decode_lossy_strict_to_slice(bytes: &[u8], buf: &mut [u8]) -> Result<usize, SliceError> {
     by_level!(of_cesu8::decode_lossy_strict_to_slice(bytes, buf))
 }
 
-/// Decodes UTF-8 or CESU-8 as [`decode_lossy`] does, and writes the string to a slice. It returns how many bytes it
-/// wrote at the start; the rest is unchanged.
+/// Decodes UTF-8 or CESU-8 as [`decode_lossy`] does, and writes the string to a slice. It returns
+/// how many bytes it wrote at the start; the rest is unchanged.
 ///
 /// ```
 /// let mut buf = [0xEE; 6];
@@ -318,8 +329,8 @@ pub fn decode_lossy_strict_to_slice(bytes: &[u8], buf: &mut [u8]) -> Result<usiz
 ///
 /// # Errors
 ///
-/// [`SliceError::TooShort`] with the string's length if the slice is shorter, and [`SliceError::TooLong`] if that
-/// exceeds `usize`. The slice is then unchanged.
+/// [`SliceError::TooShort`] with the string's length if the slice is shorter, and
+/// [`SliceError::TooLong`] if that exceeds `usize`. The slice is then unchanged.
 #[inline]
 pub fn decode_lossy_to_slice(bytes: &[u8], buf: &mut [u8]) -> Result<usize, SliceError> {
     by_level!(of_cesu8::decode_lossy_to_slice(bytes, buf))
@@ -336,8 +347,8 @@ pub fn utf16_len(value: &str) -> usize {
     by_level!(utf16_len(value))
 }
 
-/// Compares two strings by their UTF-16 code units, as Java's `compareTo`, JavaScript and the canonical JSON of RFC 8785
-/// do. Their encodings in CESU-8 compare alike.
+/// Compares two strings by their UTF-16 code units, as Java's `compareTo`, JavaScript and the
+/// canonical JSON of RFC 8785 do. Their encodings in CESU-8 compare alike.
 ///
 /// ```
 /// use std::cmp::Ordering;

@@ -6,8 +6,8 @@ use alloc::vec::Vec;
 use crate::level::by_level;
 use crate::{DecodingError, SliceError, short};
 
-/// Returns whether the MUTF-8 of a string differs from its UTF-8: whether a character is U+0000, or U+10000 or
-/// above.
+/// Returns whether the MUTF-8 of a string differs from its UTF-8: whether a character is U+0000, or
+/// U+10000 or above.
 ///
 /// ```
 /// assert!(!simd_cesu8::mutf8::needs_encoded("caf\u{E9}"));
@@ -21,7 +21,8 @@ pub fn needs_encoded(value: &str) -> bool {
 
 /// Encodes a string to MUTF-8.
 ///
-/// It borrows the string's bytes if they are its MUTF-8. Otherwise it allocates exactly the length of the MUTF-8.
+/// It borrows the string's bytes if they are its MUTF-8. Otherwise it allocates exactly the length
+/// of the MUTF-8.
 ///
 /// ```
 /// use std::borrow::Cow;
@@ -62,7 +63,8 @@ pub fn encode_into(value: &str, buf: &mut Vec<u8>) {
 
 /// Decodes MUTF-8 strictly: returns the string whose MUTF-8 the bytes are.
 ///
-/// It borrows the bytes if they are the string's UTF-8. Otherwise it allocates at most their length, once.
+/// It borrows the bytes if they are the string's UTF-8. Otherwise it allocates at most their
+/// length, once.
 ///
 /// ```
 /// assert_eq!(simd_cesu8::mutf8::decode_strict(b"\xED\xA0\xBD\xED\xB2\x96")?, "\u{1F496}");
@@ -72,8 +74,9 @@ pub fn encode_into(value: &str, buf: &mut Vec<u8>) {
 ///
 /// # Errors
 ///
-/// [`DecodingError`] if the bytes are not the MUTF-8 of a string: they are damaged, or have an unpaired surrogate, an
-/// overlong form but C0 80, a byte 00, or a character of four bytes. It is returned before memory is allocated.
+/// [`DecodingError`] if the bytes are not the MUTF-8 of a string: they are damaged, or have an
+/// unpaired surrogate, an overlong form but C0 80, a byte 00, or a character of four bytes. It is
+/// returned before memory is allocated.
 #[inline]
 pub fn decode_strict(bytes: &[u8]) -> Result<Cow<'_, str>, DecodingError> {
     if let Some(text) = short::ascii::<true>(bytes) {
@@ -82,7 +85,8 @@ pub fn decode_strict(bytes: &[u8]) -> Result<Cow<'_, str>, DecodingError> {
     by_level!(of_mutf8::decode_strict(bytes))
 }
 
-/// Decodes bytes that are UTF-8 as a whole, or else MUTF-8. It reads no input partly as one and partly as the other.
+/// Decodes bytes that are UTF-8 as a whole, or else MUTF-8. It reads no input partly as one and
+/// partly as the other.
 ///
 /// It borrows the bytes if they are UTF-8. Otherwise it allocates at most their length, once.
 ///
@@ -94,8 +98,8 @@ pub fn decode_strict(bytes: &[u8]) -> Result<Cow<'_, str>, DecodingError> {
 ///
 /// # Errors
 ///
-/// [`DecodingError`] if the bytes are neither UTF-8 nor the MUTF-8 of a string. It is returned before memory is
-/// allocated.
+/// [`DecodingError`] if the bytes are neither UTF-8 nor the MUTF-8 of a string. It is returned
+/// before memory is allocated.
 #[inline]
 pub fn decode(bytes: &[u8]) -> Result<Cow<'_, str>, DecodingError> {
     if let Some(text) = short::ascii::<false>(bytes) {
@@ -106,7 +110,8 @@ pub fn decode(bytes: &[u8]) -> Result<Cow<'_, str>, DecodingError> {
 
 /// Decodes MUTF-8 that may be damaged: each encoded character, and U+FFFD for each byte in none.
 ///
-/// It borrows the bytes if they are the string's UTF-8. Otherwise it allocates exactly the string's length.
+/// It borrows the bytes if they are the string's UTF-8. Otherwise it allocates exactly the string's
+/// length.
 ///
 /// ```
 /// assert_eq!(simd_cesu8::mutf8::decode_lossy_strict(b"\xE2\x82A"), "\u{FFFD}\u{FFFD}A");
@@ -124,8 +129,8 @@ pub fn decode_lossy_strict(bytes: &[u8]) -> Cow<'_, str> {
     by_level!(of_mutf8::decode_lossy_strict(bytes))
 }
 
-/// Decodes bytes that are UTF-8 as a whole, or else MUTF-8 that may be damaged, with U+FFFD for each byte in no encoded
-/// character.
+/// Decodes bytes that are UTF-8 as a whole, or else MUTF-8 that may be damaged, with U+FFFD for
+/// each byte in no encoded character.
 ///
 /// It borrows the bytes if they are UTF-8. Otherwise it allocates exactly the string's length.
 ///
@@ -158,7 +163,8 @@ pub fn encoded_len(value: &str) -> usize {
     by_level!(of_mutf8::encoded_len(value))
 }
 
-/// Returns the length in bytes of the string that [`decode_strict`] returns, or `None` if that is an error.
+/// Returns the length in bytes of the string that [`decode_strict`] returns, or `None` if that is
+/// an error.
 ///
 /// ```
 /// assert_eq!(simd_cesu8::mutf8::decoded_len(b"\xED\xA0\xBD\xED\xB2\x96"), Some(4));
@@ -170,7 +176,8 @@ pub fn decoded_len(bytes: &[u8]) -> Option<usize> {
     by_level!(of_mutf8::decoded_len(bytes))
 }
 
-/// Returns the length in bytes of the string that [`decode_lossy_strict`] returns, or `None` if it exceeds `usize`.
+/// Returns the length in bytes of the string that [`decode_lossy_strict`] returns, or `None` if it
+/// exceeds `usize`.
 ///
 /// ```
 /// assert_eq!(simd_cesu8::mutf8::lossy_len(b"\xE2\x82A"), Some(7));
@@ -181,7 +188,8 @@ pub fn lossy_len(bytes: &[u8]) -> Option<usize> {
     by_level!(of_mutf8::lossy_len(bytes))
 }
 
-/// Returns how many bytes at the start are whole encoded characters: the offset of the first damage, or the length.
+/// Returns how many bytes at the start are whole encoded characters: the offset of the first
+/// damage, or the length.
 ///
 /// ```
 /// assert_eq!(simd_cesu8::mutf8::valid_up_to(b"id=\xED\xA0\xBD\xED\xB2\x96\xFF"), 9);
@@ -192,7 +200,8 @@ pub fn valid_up_to(bytes: &[u8]) -> usize {
     by_level!(of_mutf8::valid_up_to(bytes))
 }
 
-/// Encodes a string to MUTF-8, in a slice. It returns how many bytes it wrote at the start; the rest is unchanged.
+/// Encodes a string to MUTF-8, in a slice. It returns how many bytes it wrote at the start; the
+/// rest is unchanged.
 ///
 /// ```
 /// let mut buf = [0xEE; 8];
@@ -203,33 +212,34 @@ pub fn valid_up_to(bytes: &[u8]) -> usize {
 ///
 /// # Errors
 ///
-/// [`SliceError::TooShort`] with the length of the MUTF-8, if the slice is shorter. It is then unchanged.
+/// [`SliceError::TooShort`] with the length of the MUTF-8, if the slice is shorter. It is then
+/// unchanged.
 #[inline]
 pub fn encode_to_slice(value: &str, buf: &mut [u8]) -> Result<usize, SliceError> {
     by_level!(of_mutf8::encode_to_slice(value, buf))
 }
 
-/// Decodes MUTF-8 as [`decode_strict`] does, and writes the string to a slice. It returns how many bytes it wrote at the
-/// start; the rest is unchanged.
+/// Decodes MUTF-8 as [`decode_strict`] does, and writes the string to a slice. It returns how many
+/// bytes it wrote at the start; the rest is unchanged.
 ///
 /// ```
 /// let mut buf = [0xEE; 6];
-/// assert_eq!(simd_cesu8::mutf8::decode_strict_to_slice(b"\xED\xA0\xBD\xED\xB2\x96", &mut buf)?, 4);
-/// assert_eq!(buf, *b"\xF0\x9F\x92\x96\xEE\xEE");
+/// assert_eq!(simd_cesu8::mutf8::decode_strict_to_slice(b"a\xC0\x80", &mut buf)?, 2);
+/// assert_eq!(buf, *b"a\0\xEE\xEE\xEE\xEE");
 /// # Ok::<(), simd_cesu8::SliceError>(())
 /// ```
 ///
 /// # Errors
 ///
-/// [`SliceError::Invalid`] if [`decode_strict`] returns an error, and [`SliceError::TooShort`] with the string's length
-/// if the slice is shorter. The slice is then unchanged.
+/// [`SliceError::Invalid`] if [`decode_strict`] returns an error, and [`SliceError::TooShort`] with
+/// the string's length if the slice is shorter. The slice is then unchanged.
 #[inline]
 pub fn decode_strict_to_slice(bytes: &[u8], buf: &mut [u8]) -> Result<usize, SliceError> {
     by_level!(of_mutf8::decode_strict_to_slice(bytes, buf))
 }
 
-/// Decodes UTF-8 or MUTF-8 as [`decode`] does, and writes the string to a slice. It returns how many bytes it wrote at
-/// the start; the rest is unchanged.
+/// Decodes UTF-8 or MUTF-8 as [`decode`] does, and writes the string to a slice. It returns how
+/// many bytes it wrote at the start; the rest is unchanged.
 ///
 /// ```
 /// let mut buf = [0xEE; 6];
@@ -240,15 +250,15 @@ pub fn decode_strict_to_slice(bytes: &[u8], buf: &mut [u8]) -> Result<usize, Sli
 ///
 /// # Errors
 ///
-/// [`SliceError::Invalid`] if [`decode`] returns an error, and [`SliceError::TooShort`] with the string's length if the
-/// slice is shorter. The slice is then unchanged.
+/// [`SliceError::Invalid`] if [`decode`] returns an error, and [`SliceError::TooShort`] with the
+/// string's length if the slice is shorter. The slice is then unchanged.
 #[inline]
 pub fn decode_to_slice(bytes: &[u8], buf: &mut [u8]) -> Result<usize, SliceError> {
     by_level!(of_mutf8::decode_to_slice(bytes, buf))
 }
 
-/// Decodes MUTF-8 as [`decode_lossy_strict`] does, and writes the string to a slice. It returns how many bytes it wrote
-/// at the start; the rest is unchanged.
+/// Decodes MUTF-8 as [`decode_lossy_strict`] does, and writes the string to a slice. It returns how
+/// many bytes it wrote at the start; the rest is unchanged.
 ///
 /// ```
 /// let mut buf = [0xEE; 6];
@@ -259,15 +269,15 @@ pub fn decode_to_slice(bytes: &[u8], buf: &mut [u8]) -> Result<usize, SliceError
 ///
 /// # Errors
 ///
-/// [`SliceError::TooShort`] with the string's length if the slice is shorter, and [`SliceError::TooLong`] if that
-/// exceeds `usize`. The slice is then unchanged.
+/// [`SliceError::TooShort`] with the string's length if the slice is shorter, and
+/// [`SliceError::TooLong`] if that exceeds `usize`. The slice is then unchanged.
 #[inline]
 pub fn decode_lossy_strict_to_slice(bytes: &[u8], buf: &mut [u8]) -> Result<usize, SliceError> {
     by_level!(of_mutf8::decode_lossy_strict_to_slice(bytes, buf))
 }
 
-/// Decodes UTF-8 or MUTF-8 as [`decode_lossy`] does, and writes the string to a slice. It returns how many bytes it
-/// wrote at the start; the rest is unchanged.
+/// Decodes UTF-8 or MUTF-8 as [`decode_lossy`] does, and writes the string to a slice. It returns
+/// how many bytes it wrote at the start; the rest is unchanged.
 ///
 /// ```
 /// let mut buf = [0xEE; 6];
@@ -278,8 +288,8 @@ pub fn decode_lossy_strict_to_slice(bytes: &[u8], buf: &mut [u8]) -> Result<usiz
 ///
 /// # Errors
 ///
-/// [`SliceError::TooShort`] with the string's length if the slice is shorter, and [`SliceError::TooLong`] if that
-/// exceeds `usize`. The slice is then unchanged.
+/// [`SliceError::TooShort`] with the string's length if the slice is shorter, and
+/// [`SliceError::TooLong`] if that exceeds `usize`. The slice is then unchanged.
 #[inline]
 pub fn decode_lossy_to_slice(bytes: &[u8], buf: &mut [u8]) -> Result<usize, SliceError> {
     by_level!(of_mutf8::decode_lossy_to_slice(bytes, buf))

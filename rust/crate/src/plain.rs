@@ -1,7 +1,8 @@
 //! The calls without vectors, in safe Rust, for machines that no other level is for.
 //!
-//! It goes from piece to piece: UTF-8 of characters that stay, a character that the encoding writes otherwise, and
-//! bytes in no encoded character. It is written by hand and tested, and no part of it is proved.
+//! It goes from piece to piece: UTF-8 of characters that stay, a character that the encoding writes
+//! otherwise, and bytes in no encoded character. It is written by hand and tested, and no part of
+//! it is proved.
 #![forbid(unsafe_code)]
 
 use alloc::borrow::Cow;
@@ -23,7 +24,9 @@ fn first_changed<const IS_MUTF8: bool>(bytes: &[u8]) -> usize {
     let is_changed = |byte: &u8| *byte >= 0xF0 || IS_MUTF8 && *byte == 0;
     let (mut at, mut words) = (0, bytes.chunks_exact(8));
     for word in &mut words {
-        let word = u64::from_le_bytes([word[0], word[1], word[2], word[3], word[4], word[5], word[6], word[7]]);
+        let word = u64::from_le_bytes([
+            word[0], word[1], word[2], word[3], word[4], word[5], word[6], word[7],
+        ]);
         let leads = word & word << 1 & word << 2 & word << 3 & HIGH;
         let nulls = if IS_MUTF8 { word.wrapping_sub(HIGH >> 7) & !word & HIGH } else { 0 };
         if leads | nulls != 0 {
@@ -56,7 +59,9 @@ fn encode_by<const IS_MUTF8: bool>(text: &str, mut write: impl FnMut(&[u8])) {
             _ => {
                 let mut bytes = [0; PAIR];
                 let mut units = [0; 2];
-                for (bytes, unit) in bytes.chunks_exact_mut(3).zip(character.encode_utf16(&mut units)) {
+                for (bytes, unit) in
+                    bytes.chunks_exact_mut(3).zip(character.encode_utf16(&mut units))
+                {
                     let unit = *unit;
                     bytes[0] = 0xE0 | (unit >> 12) as u8;
                     bytes[1] = 0x80 | (unit >> 6 & 0x3F) as u8;
@@ -120,7 +125,8 @@ fn pieces<const IS_MUTF8: bool>(bytes: &[u8]) -> Pieces<'_, IS_MUTF8> {
     Pieces { text: "", rest: bytes }
 }
 
-/// Returns the character that begins the bytes as a surrogate pair, or as C0 80 in MUTF-8, and how many bytes it has.
+/// Returns the character that begins the bytes as a surrogate pair, or as C0 80 in MUTF-8, and how
+/// many bytes it has.
 fn changed_at<const IS_MUTF8: bool>(bytes: &[u8]) -> Option<(char, usize)> {
     match *bytes {
         [0xC0, 0x80, ..] if IS_MUTF8 => Some(('\0', 2)),
@@ -147,7 +153,8 @@ fn valid_up_to<const IS_MUTF8: bool>(bytes: &[u8]) -> usize {
     len
 }
 
-/// Returns the length of the decoded text, with U+FFFD for each byte in no encoded character, if it fits.
+/// Returns the length of the decoded text, with U+FFFD for each byte in no encoded character, if it
+/// fits.
 fn lossy_len<const IS_MUTF8: bool>(bytes: &[u8]) -> Option<usize> {
     let mut len = 0usize;
     for piece in pieces::<IS_MUTF8>(bytes) {
@@ -202,7 +209,11 @@ fn put(bytes: &[u8], buf: &mut [u8]) -> Result<usize, SliceError> {
 }
 
 /// Writes the decoded text, which has this length, to the front of a slice.
-fn put_text<const IS_MUTF8: bool>(bytes: &[u8], needed: usize, buf: &mut [u8]) -> Result<usize, SliceError> {
+fn put_text<const IS_MUTF8: bool>(
+    bytes: &[u8],
+    needed: usize,
+    buf: &mut [u8],
+) -> Result<usize, SliceError> {
     let mut out = buf.get_mut(..needed).ok_or(SliceError::TooShort { needed })?;
     let mut write = |bytes: &[u8]| {
         let (front, rest) = core::mem::take(&mut out).split_at_mut(bytes.len());
@@ -235,7 +246,8 @@ macro_rules! calls_of {
                 super::contains_changed::<$is_mutf8>(text.as_bytes())
             }
 
-            /// Whether a byte leads four bytes, F0 to F7, or is 00 in MUTF-8. The bytes need not be UTF-8.
+            /// Whether a byte leads four bytes, F0 to F7, or is 00 in MUTF-8. The bytes need not be
+            /// UTF-8.
             pub fn contains_changed(bytes: &[u8]) -> bool {
                 bytes.iter().any(|byte| (0xF0..=0xF7).contains(byte) || $is_mutf8 && *byte == 0)
             }
@@ -315,7 +327,10 @@ macro_rules! calls_of {
                 Ok(needed)
             }
 
-            pub fn decode_strict_to_slice(bytes: &[u8], buf: &mut [u8]) -> Result<usize, SliceError> {
+            pub fn decode_strict_to_slice(
+                bytes: &[u8],
+                buf: &mut [u8],
+            ) -> Result<usize, SliceError> {
                 let needed = decoded_len(bytes).ok_or(SliceError::Invalid)?;
                 put_text::<$is_mutf8>(bytes, needed, buf)
             }
@@ -327,12 +342,18 @@ macro_rules! calls_of {
                 }
             }
 
-            pub fn decode_lossy_strict_to_slice(bytes: &[u8], buf: &mut [u8]) -> Result<usize, SliceError> {
+            pub fn decode_lossy_strict_to_slice(
+                bytes: &[u8],
+                buf: &mut [u8],
+            ) -> Result<usize, SliceError> {
                 let needed = lossy_len(bytes).ok_or(SliceError::TooLong)?;
                 put_text::<$is_mutf8>(bytes, needed, buf)
             }
 
-            pub fn decode_lossy_to_slice(bytes: &[u8], buf: &mut [u8]) -> Result<usize, SliceError> {
+            pub fn decode_lossy_to_slice(
+                bytes: &[u8],
+                buf: &mut [u8],
+            ) -> Result<usize, SliceError> {
                 match utf8::from_utf8(bytes) {
                     Some(text) => put(text.as_bytes(), buf),
                     None => decode_lossy_strict_to_slice(bytes, buf),
@@ -352,7 +373,8 @@ pub fn utf16_len(text: &str) -> usize {
 }
 
 pub fn compare_as_utf16(text: &str, other: &str) -> Ordering {
-    // In UTF-16 the characters of four bytes are below U+E000, whose lead byte is EE, and what follows.
+    // In UTF-16 the characters of four bytes are below U+E000, whose lead byte is EE, and what
+    // follows.
     let rank = |byte: u8| if matches!(byte, 0xEE | 0xEF) { byte + 0x10 } else { byte };
     let differing = text.bytes().zip(other.bytes()).find(|(byte, other)| byte != other);
     match differing {

@@ -1,5 +1,5 @@
-//! The fast path: up to 64 bytes are tested before a level is called, since most strings are short and need no
-//! conversion. It is inlined into the caller.
+//! The fast path: up to 64 bytes are tested before a level is called, since most strings are short
+//! and need no conversion. It is inlined into the caller.
 
 /// The most bytes that are tested.
 const SHORT: usize = 64;
@@ -12,7 +12,8 @@ const NON_ASCII: u8 = 0x80;
 /// The least byte that leads four bytes of UTF-8.
 const LEAD_OF_FOUR: u8 = 0xF0;
 
-/// Returns the bytes as a text if they are few and all ASCII. With `WITHOUT_NULL` no byte may be 00.
+/// Returns the bytes as a text if they are few and all ASCII. With `WITHOUT_NULL` no byte may be
+/// 00.
 #[inline]
 pub(crate) fn ascii<const WITHOUT_NULL: bool>(bytes: &[u8]) -> Option<&str> {
     if bytes.len() > SHORT || any_in_short::<NON_ASCII, WITHOUT_NULL>(bytes) {
@@ -22,16 +23,21 @@ pub(crate) fn ascii<const WITHOUT_NULL: bool>(bytes: &[u8]) -> Option<&str> {
     Some(unsafe { core::str::from_utf8_unchecked(bytes) })
 }
 
-/// Returns whether a text is short, and no byte of it changes: none leads four bytes, or with `WITHOUT_NULL` is 00.
+/// Returns whether a text is short, and no byte of it changes: none leads four bytes, or with
+/// `WITHOUT_NULL` is 00.
 #[inline]
 pub(crate) fn is_unchanged<const WITHOUT_NULL: bool>(text: &str) -> bool {
     text.len() <= SHORT && !any_in_short::<LEAD_OF_FOUR, WITHOUT_NULL>(text.as_bytes())
 }
 
-/// Returns whether one of at most 64 bytes is `LEAST`, which is 80 or F0, or more, or with `OR_NULL` is 00.
+/// Returns whether one of at most 64 bytes is `LEAST`, which is 80 or F0, or more, or with
+/// `OR_NULL` is 00.
 #[inline]
 fn any_in_short<const LEAST: u8, const OR_NULL: bool>(bytes: &[u8]) -> bool {
-    #[cfg(all(any(target_arch = "x86_64", all(target_arch = "aarch64", target_endian = "little")), not(miri)))]
+    #[cfg(all(
+        any(target_arch = "x86_64", all(target_arch = "aarch64", target_endian = "little")),
+        not(miri)
+    ))]
     if bytes.len() >= 16 {
         return vectors::any_at_least::<LEAST>(bytes) || OR_NULL && vectors::any_null(bytes);
     }
@@ -44,7 +50,8 @@ fn any_in_words<const LEAST: u8, const OR_NULL: bool>(bytes: &[u8]) -> bool {
     let len = bytes.len();
     // The high bit of a byte tells.
     let test = |word: u64| {
-        let least = if LEAST == NON_ASCII { word } else { word & word << 1 & word << 2 & word << 3 };
+        let least =
+            if LEAST == NON_ASCII { word } else { word & word << 1 & word << 2 & word << 3 };
         // If 00 is there, the subtraction sets the high bit of the lowest byte that is.
         least | if OR_NULL { word.wrapping_sub(HIGH >> 7) & !word } else { 0 }
     };
@@ -52,7 +59,9 @@ fn any_in_words<const LEAST: u8, const OR_NULL: bool>(bytes: &[u8]) -> bool {
         Some(word) => test(u64::from_le_bytes(*word)),
         None => HIGH,
     };
-    let half = |at: usize| bytes[at..].first_chunk().map_or(0, |half| u64::from(u32::from_le_bytes(*half)));
+    let half = |at: usize| {
+        bytes[at..].first_chunk().map_or(0, |half| u64::from(u32::from_le_bytes(*half)))
+    };
     let found = match len {
         0 => 0,
         1..4 => {
@@ -72,8 +81,8 @@ fn any_in_words<const LEAST: u8, const OR_NULL: bool>(bytes: &[u8]) -> bool {
     found & HIGH != 0
 }
 
-/// 16 to 64 bytes by vectors of 16, which cover all, and may overlap. The instructions are those that every processor of
-/// the architecture has.
+/// 16 to 64 bytes by vectors of 16, which cover all, and may overlap. The instructions are those
+/// that every processor of the architecture has.
 #[cfg(all(target_arch = "x86_64", not(miri)))]
 mod vectors {
     use core::arch::x86_64::*;

@@ -1,6 +1,8 @@
-//! Each level beside a codec that reads one character after another by the standards' tables, on hostile inputs.
+//! Each level beside a codec that reads one character after another by the standards' tables, on
+//! hostile inputs.
 //!
-//! `CESU8_INPUTS` says how many inputs. Without it they are few, so that a debug build is done soon.
+//! `CESU8_INPUTS` says how many inputs. Without it they are few, so that a debug build is done
+//! soon.
 
 use std::borrow::Cow;
 use std::string::String;
@@ -48,14 +50,19 @@ mod standard {
 
     fn character(bytes: &[u8]) -> char {
         let digits = |bytes: &[u8], first: u8| {
-            bytes[1..].iter().fold(u32::from(bytes[0] % first), |n, byte| n * 0x40 + u32::from(byte % 0x40))
+            bytes[1..]
+                .iter()
+                .fold(u32::from(bytes[0] % first), |n, byte| n * 0x40 + u32::from(byte % 0x40))
         };
         let scalar = match bytes.len() {
             0 => 0xFFFD,
             1 => u32::from(bytes[0]),
             2 => digits(bytes, 0x20),
             3 => digits(bytes, 0x10),
-            _ => 0x10000 + (digits(&bytes[..3], 0x10) - 0xD800) * 0x400 + digits(&bytes[3..], 0x10) - 0xDC00,
+            _ => {
+                0x10000 + (digits(&bytes[..3], 0x10) - 0xD800) * 0x400 + digits(&bytes[3..], 0x10)
+                    - 0xDC00
+            }
         };
         char::from_u32(scalar).unwrap()
     }
@@ -186,7 +193,13 @@ fn inputs() -> u64 {
 }
 
 /// Fails with the input, unless two values are equal and both are borrowed or owned.
-fn assert_same<T: ?Sized + ToOwned + PartialEq>(result: &Cow<T>, expected: &T, borrows: bool, what: &str, bytes: &[u8]) {
+fn assert_same<T: ?Sized + ToOwned + PartialEq>(
+    result: &Cow<T>,
+    expected: &T,
+    borrows: bool,
+    what: &str,
+    bytes: &[u8],
+) {
     let right = **result == *expected && matches!(result, Cow::Borrowed(_)) == borrows;
     assert!(right, "{what} of {}", hexadecimal(bytes));
 }
@@ -196,21 +209,47 @@ fn hexadecimal(bytes: &[u8]) -> String {
     bytes.iter().take(200).map(|byte| format!("{byte:02X} ")).collect::<String>() + end
 }
 
-/// Fails unless a call writes `expected` to a slice of its length, and nothing to one that is shorter.
-fn assert_puts(call: impl Fn(&mut [u8]) -> Result<usize, SliceError>, expected: &[u8], what: &str, bytes: &[u8]) {
+/// Fails unless a call writes `expected` to a slice of its length, and nothing to one that is
+/// shorter.
+fn assert_puts(
+    call: impl Fn(&mut [u8]) -> Result<usize, SliceError>,
+    expected: &[u8],
+    what: &str,
+    bytes: &[u8],
+) {
     let needed = expected.len();
     let mut buf = vec![0xEE; needed + 40];
     let result = call(&mut buf);
     assert!(result == Ok(needed) && buf[..needed] == *expected, "{what} of {}", hexadecimal(bytes));
-    assert!(buf[needed..].iter().all(|byte| *byte == 0xEE), "{what} after its end of {}", hexadecimal(bytes));
+    assert!(
+        buf[needed..].iter().all(|byte| *byte == 0xEE),
+        "{what} after its end of {}",
+        hexadecimal(bytes)
+    );
     buf.fill(0xEE);
-    assert!(call(&mut buf[..needed]) == Ok(needed), "{what} in its length of {}", hexadecimal(bytes));
-    assert!(buf[needed..].iter().all(|byte| *byte == 0xEE), "{what} after its end of {}", hexadecimal(bytes));
+    assert!(
+        call(&mut buf[..needed]) == Ok(needed),
+        "{what} in its length of {}",
+        hexadecimal(bytes)
+    );
+    assert!(
+        buf[needed..].iter().all(|byte| *byte == 0xEE),
+        "{what} after its end of {}",
+        hexadecimal(bytes)
+    );
     if needed > 0 {
         buf.fill(0xEE);
         let result = call(&mut buf[..needed - 1]);
-        assert!(result == Err(SliceError::TooShort { needed }), "{what} in less of {}", hexadecimal(bytes));
-        assert!(buf.iter().all(|byte| *byte == 0xEE), "{what} writes to a short slice, of {}", hexadecimal(bytes));
+        assert!(
+            result == Err(SliceError::TooShort { needed }),
+            "{what} in less of {}",
+            hexadecimal(bytes)
+        );
+        assert!(
+            buf.iter().all(|byte| *byte == 0xEE),
+            "{what} writes to a short slice, of {}",
+            hexadecimal(bytes)
+        );
     }
 }
 
@@ -224,7 +263,13 @@ macro_rules! test_encoding {
         let utf8 = core::str::from_utf8(bytes).ok();
         let stays = lossy.as_bytes() == bytes;
 
-        assert_same(&calls::decode_lossy_strict(bytes), &lossy, stays, "decode_lossy_strict", bytes);
+        assert_same(
+            &calls::decode_lossy_strict(bytes),
+            &lossy,
+            stays,
+            "decode_lossy_strict",
+            bytes,
+        );
         let lenient = utf8.unwrap_or(&lossy);
         assert_same(&calls::decode_lossy(bytes), lenient, utf8.is_some(), "decode_lossy", bytes);
         match calls::decode_strict(bytes) {
@@ -233,15 +278,33 @@ macro_rules! test_encoding {
             _ => panic!("decode_strict of {}", hexadecimal(bytes)),
         }
         match calls::decode(bytes) {
-            Ok(text) if is_valid || utf8.is_some() => assert_same(&text, lenient, utf8.is_some(), "decode", bytes),
+            Ok(text) if is_valid || utf8.is_some() => {
+                assert_same(&text, lenient, utf8.is_some(), "decode", bytes)
+            }
             Err(DecodingError(())) if !is_valid && utf8.is_none() => {}
             _ => panic!("decode of {}", hexadecimal(bytes)),
         }
         assert_eq!(calls::valid_up_to(bytes), valid, "valid_up_to of {}", hexadecimal(bytes));
-        assert_eq!(calls::lossy_len(bytes), Some(lossy.len()), "lossy_len of {}", hexadecimal(bytes));
-        assert_eq!(calls::decoded_len(bytes), is_valid.then_some(lossy.len()), "decoded_len of {}", hexadecimal(bytes));
-        let has_changed = bytes.iter().any(|byte| (0xF0..=0xF7).contains(byte) || $is_mutf8 && *byte == 0);
-        assert_eq!(calls::contains_changed(bytes), has_changed, "contains_changed of {}", hexadecimal(bytes));
+        assert_eq!(
+            calls::lossy_len(bytes),
+            Some(lossy.len()),
+            "lossy_len of {}",
+            hexadecimal(bytes)
+        );
+        assert_eq!(
+            calls::decoded_len(bytes),
+            is_valid.then_some(lossy.len()),
+            "decoded_len of {}",
+            hexadecimal(bytes)
+        );
+        let has_changed =
+            bytes.iter().any(|byte| (0xF0..=0xF7).contains(byte) || $is_mutf8 && *byte == 0);
+        assert_eq!(
+            calls::contains_changed(bytes),
+            has_changed,
+            "contains_changed of {}",
+            hexadecimal(bytes)
+        );
 
         let put = |buf: &mut [u8]| calls::decode_lossy_strict_to_slice(bytes, buf);
         assert_puts(put, lossy.as_bytes(), "decode_lossy_strict_to_slice", bytes);
@@ -251,13 +314,23 @@ macro_rules! test_encoding {
         if is_valid {
             assert_puts(put, lossy.as_bytes(), "decode_strict_to_slice", bytes);
         } else {
-            assert_eq!(put(&mut [0xEE; 8]), Err(SliceError::Invalid), "decode_strict_to_slice of {}", hexadecimal(bytes));
+            assert_eq!(
+                put(&mut [0xEE; 8]),
+                Err(SliceError::Invalid),
+                "decode_strict_to_slice of {}",
+                hexadecimal(bytes)
+            );
         }
         let put = |buf: &mut [u8]| calls::decode_to_slice(bytes, buf);
         if is_valid || utf8.is_some() {
             assert_puts(put, lenient.as_bytes(), "decode_to_slice", bytes);
         } else {
-            assert_eq!(put(&mut [0xEE; 8]), Err(SliceError::Invalid), "decode_to_slice of {}", hexadecimal(bytes));
+            assert_eq!(
+                put(&mut [0xEE; 8]),
+                Err(SliceError::Invalid),
+                "decode_to_slice of {}",
+                hexadecimal(bytes)
+            );
         }
 
         if let Some(text) = utf8 {
@@ -268,12 +341,31 @@ macro_rules! test_encoding {
             if let Cow::Owned(owned) = &result {
                 assert_eq!(owned.capacity(), encoded.len(), "capacity of {}", hexadecimal(bytes));
             }
-            assert_eq!(calls::needs_encoded(text), !stays, "needs_encoded of {}", hexadecimal(bytes));
-            assert_eq!(calls::encoded_len(text), encoded.len(), "encoded_len of {}", hexadecimal(bytes));
+            assert_eq!(
+                calls::needs_encoded(text),
+                !stays,
+                "needs_encoded of {}",
+                hexadecimal(bytes)
+            );
+            assert_eq!(
+                calls::encoded_len(text),
+                encoded.len(),
+                "encoded_len of {}",
+                hexadecimal(bytes)
+            );
             let mut buf = b"id=".to_vec();
             calls::encode_into(text, &mut buf);
-            assert!(buf[..3] == *b"id=" && buf[3..] == encoded[..], "encode_into of {}", hexadecimal(bytes));
-            assert_puts(|buf| calls::encode_to_slice(text, buf), &encoded, "encode_to_slice", bytes);
+            assert!(
+                buf[..3] == *b"id=" && buf[3..] == encoded[..],
+                "encode_into of {}",
+                hexadecimal(bytes)
+            );
+            assert_puts(
+                |buf| calls::encode_to_slice(text, buf),
+                &encoded,
+                "encode_to_slice",
+                bytes,
+            );
         }
     }};
 }
@@ -302,7 +394,8 @@ macro_rules! test_level {
                     other.push(character);
                     for other in [&other, &last] {
                         let expected = text.encode_utf16().cmp(other.encode_utf16());
-                        assert_eq!(calls::compare_as_utf16(text, other), expected, "{text:?} {other:?}");
+                        let order = calls::compare_as_utf16(text, other);
+                        assert_eq!(order, expected, "{text:?} {other:?}");
                     }
                     last = other;
                 }
@@ -316,10 +409,15 @@ test_level!(plain, true, crate::plain);
 test_level!(v2, is_x86_feature_detected!("sse4.2"), crate::level::x86::v2::surface);
 #[cfg(all(target_arch = "x86_64", not(any(miri, cesu8_level = "plain"))))]
 test_level!(v3, is_x86_feature_detected!("avx2"), crate::level::x86::v3::surface);
-#[cfg(all(target_arch = "aarch64", target_endian = "little", not(any(miri, cesu8_level = "plain"))))]
+#[cfg(all(
+    target_arch = "aarch64",
+    target_endian = "little",
+    not(any(miri, cesu8_level = "plain"))
+))]
 test_level!(neon, true, crate::level::aarch64::neon::surface);
 
-/// The public calls, with their fast path, of every short input of a few bytes at each offset of ASCII.
+/// The public calls, with their fast path, of every short input of a few bytes at each offset of
+/// ASCII.
 #[test]
 fn fast_path() {
     let odd: [&[u8]; 6] = [b"", b"\0", b"\x80", b"\xF0\x9F\x92\x96", b"\x7F", b"\xC0\x80"];
@@ -340,7 +438,8 @@ fn test_public(bytes: &[u8]) {
         pub use crate::*;
     }
     mod public_mutf8 {
-        pub use crate::implementation::active::contains_null_or_utf8_4_byte_char_header as contains_changed;
+        pub use crate::implementation::active;
+        pub use active::contains_null_or_utf8_4_byte_char_header as contains_changed;
         pub use crate::mutf8::*;
     }
     test_encoding!(public, false, bytes);

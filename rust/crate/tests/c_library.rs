@@ -1,5 +1,6 @@
-//! The crate beside the library for C of the same commit, which is proved: `CESU8_LIBRARY` names its shared object, and
-//! `CESU8_INPUTS` says how many inputs. Without the first nothing is compared.
+//! The crate beside the library for C of the same commit, which is proved: `CESU8_LIBRARY` names
+//! its shared object, and `CESU8_INPUTS` says how many inputs. Without the first nothing is
+//! compared.
 #![cfg(target_os = "linux")]
 
 use std::borrow::Cow;
@@ -57,14 +58,26 @@ impl Random {
             match self.below(kinds) {
                 0 => bytes.resize(bytes.len() + 1 + self.below(50) as usize, b'a'),
                 1 => bytes.extend("\u{E9}\u{20AC}".bytes()),
-                2 => bytes.extend([0xED, 0xA0 + self.below(16) as u8, 0x80 + self.below(64) as u8, 0xED, 0xB2, 0x96]),
+                2 => bytes.extend([
+                    0xED,
+                    0xA0 + self.below(16) as u8,
+                    0x80 + self.below(64) as u8,
+                    0xED,
+                    0xB2,
+                    0x96,
+                ]),
                 3 => bytes.extend([0xC0, 0x80]),
                 4 => bytes.extend("\u{1F496}".bytes()),
                 5 => bytes.push(0),
                 6 => bytes.extend([0xED, 0xA0 + self.below(32) as u8, 0x80 + self.below(64) as u8]),
                 7 => bytes.push(0x80 + self.below(128) as u8),
                 8 => bytes.extend([0xE0, 0x80 + self.below(64) as u8, 0x80 + self.below(64) as u8]),
-                9 => bytes.extend([0xF0 + self.below(8) as u8, 0x80 + self.below(64) as u8, 0x80, 0x80]),
+                9 => bytes.extend([
+                    0xF0 + self.below(8) as u8,
+                    0x80 + self.below(64) as u8,
+                    0x80,
+                    0x80,
+                ]),
                 _ => bytes.push(self.below(256) as u8),
             }
         }
@@ -72,8 +85,12 @@ impl Random {
     }
 }
 
-/// What a call of the crate returns for a slice of this length, as the library for C tells it, and the slice.
-fn told(call: impl FnOnce(&mut [u8]) -> Result<usize, SliceError>, room: usize) -> (Answer, Vec<u8>) {
+/// What a call of the crate returns for a slice of this length, as the library for C tells it, and
+/// the slice.
+fn told(
+    call: impl FnOnce(&mut [u8]) -> Result<usize, SliceError>,
+    room: usize,
+) -> (Answer, Vec<u8>) {
     let mut buf = vec![0xEE; room];
     let answer = match call(&mut buf) {
         Ok(length) => Answer { status: OK, length },
@@ -92,20 +109,38 @@ fn told_by(call: Call, input: &[u8], room: usize) -> (Answer, Vec<u8>) {
     (answer, buf)
 }
 
-/// Compares a call on slices with its export, in slices of enough bytes, of just enough, and of one less.
-fn compare(export: Call, input: &[u8], call: &dyn Fn(&mut [u8]) -> Result<usize, SliceError>, what: &str) -> Option<Vec<u8>> {
+/// Compares a call on slices with its export, in slices of enough bytes, of just enough, and of one
+/// less.
+fn compare(
+    export: Call,
+    input: &[u8],
+    call: &dyn Fn(&mut [u8]) -> Result<usize, SliceError>,
+    what: &str,
+) -> Option<Vec<u8>> {
     let room = 3 * input.len() + 5;
     let (answer, buf) = told(call, room);
     assert_eq!(told_by(export, input, room), (answer, buf.clone()), "{what} of {input:02X?}");
     for room in [answer.length, answer.length.saturating_sub(1)] {
-        assert!(told(call, room) == told_by(export, input, room), "{what} of {input:02X?} to {room} bytes");
+        assert!(
+            told(call, room) == told_by(export, input, room),
+            "{what} of {input:02X?} to {room} bytes"
+        );
     }
     (answer.status == OK).then(|| buf[..answer.length].to_vec())
 }
 
-/// Asserts that a call that builds returns what its call on slices wrote, and borrows if and only if no byte changes.
-fn assert_built<T: ?Sized + ToOwned + AsRef<[u8]>>(result: Option<Cow<T>>, written: &Option<Vec<u8>>, input: &[u8]) {
-    assert_eq!(result.as_ref().map(|value| (**value).as_ref()), written.as_deref(), "of {input:02X?}");
+/// Asserts that a call that builds returns what its call on slices wrote, and borrows if and only
+/// if no byte changes.
+fn assert_built<T: ?Sized + ToOwned + AsRef<[u8]>>(
+    result: Option<Cow<T>>,
+    written: &Option<Vec<u8>>,
+    input: &[u8],
+) {
+    assert_eq!(
+        result.as_ref().map(|value| (**value).as_ref()),
+        written.as_deref(),
+        "of {input:02X?}"
+    );
     if let (Some(value), Some(written)) = (result, written) {
         assert_eq!(matches!(value, Cow::Borrowed(_)), written == input, "of {input:02X?}");
     }
@@ -130,17 +165,31 @@ fn agrees_with_the_library_for_c() {
             let input: &[u8] = $input;
             macro_rules! of_bytes {
                 ($name:ident, $slice:ident) => {
-                    compare(export(concat!($prefix, stringify!($name))), input, &|buf| calls::$slice(input, buf), stringify!($name))
+                    compare(
+                        export(concat!($prefix, stringify!($name))),
+                        input,
+                        &|buf| calls::$slice(input, buf),
+                        stringify!($name),
+                    )
                 };
             }
-            assert_built(calls::decode_strict(input).ok(), &of_bytes!(decode_strict, decode_strict_to_slice), input);
+            assert_built(
+                calls::decode_strict(input).ok(),
+                &of_bytes!(decode_strict, decode_strict_to_slice),
+                input,
+            );
             assert_built(calls::decode(input).ok(), &of_bytes!(decode, decode_to_slice), input);
-            assert_built(Some(calls::decode_lossy(input)), &of_bytes!(decode_lossy, decode_lossy_to_slice), input);
+            assert_built(
+                Some(calls::decode_lossy(input)),
+                &of_bytes!(decode_lossy, decode_lossy_to_slice),
+                input,
+            );
             let written = of_bytes!(decode_lossy_strict, decode_lossy_strict_to_slice);
             assert_built(Some(calls::decode_lossy_strict(input)), &written, input);
             if let Ok(text) = std::str::from_utf8(input) {
                 let call = export(concat!($prefix, "encode"));
-                let written = compare(call, input, &|buf| calls::encode_to_slice(text, buf), "encode");
+                let written =
+                    compare(call, input, &|buf| calls::encode_to_slice(text, buf), "encode");
                 assert_built(Some(calls::encode(text)), &written, input);
             }
         }};

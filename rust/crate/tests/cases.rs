@@ -25,8 +25,15 @@ fn text(text: Cow<str>) -> Outcome {
     (OK, text.into_owned().into_bytes())
 }
 
-/// What a command of the program should do, by the calls, or `None` for a command that is none of theirs.
-fn outcome(command: &str, flavor: &str, input: &[u8], not_utf8: u8, invalid: u8) -> Option<Outcome> {
+/// What a command of the program should do, by the calls, or `None` for a command that is none of
+/// theirs.
+fn outcome(
+    command: &str,
+    flavor: &str,
+    input: &[u8],
+    not_utf8: u8,
+    invalid: u8,
+) -> Option<Outcome> {
     let is_mutf8 = match flavor {
         "cesu8" => false,
         "mutf8" => true,
@@ -70,10 +77,15 @@ fn cases_of_the_program() {
         if line.starts_with('#') || fields.len() < 4 || words.len() != 2 {
             continue;
         }
-        let (Some(input), Some(output)) = (bytes_of(fields[1]), bytes_of(fields[3])) else { continue };
+        let (Some(input), Some(output)) = (bytes_of(fields[1]), bytes_of(fields[3])) else {
+            continue;
+        };
         let (status, _) = status_of(&format!("{}|", fields[2]));
-        // The program's status says why; the crate tells of the same inputs that they are not decoded.
-        let Some((found, result)) = outcome(words[0], words[1], &input, status, status) else { continue };
+        // The program's status says why; the crate tells of the same inputs that they are not
+        // decoded.
+        let Some((found, result)) = outcome(words[0], words[1], &input, status, status) else {
+            continue;
+        };
         assert_eq!((found, result), (status, output), "{line}");
         tested += 1;
     }
@@ -90,7 +102,9 @@ fn java_cases() {
         if fields.len() < 4 || line.starts_with('#') {
             continue;
         }
-        let (Some(input), Some(output)) = (bytes_of(fields[1]), bytes_of(fields[3])) else { continue };
+        let (Some(input), Some(output)) = (bytes_of(fields[1]), bytes_of(fields[3])) else {
+            continue;
+        };
         let is_ok = fields[2] == "0";
         match fields[0] {
             "java-read mutf8" => {
@@ -101,7 +115,8 @@ fn java_cases() {
             }
             "java-write mutf8" => {
                 let mut buf = Vec::new();
-                let written = std::str::from_utf8(&input).is_ok_and(|text| java::write_utf(text, &mut buf).is_ok());
+                let written = std::str::from_utf8(&input)
+                    .is_ok_and(|text| java::write_utf(text, &mut buf).is_ok());
                 assert_eq!((written, buf), (is_ok, output), "{line}");
             }
             _ => continue,

@@ -55,14 +55,17 @@ fn requests<T>(call: impl FnOnce() -> T) -> (usize, usize) {
 }
 
 /// Lengths around the borders between the ways that the codec goes.
-const LENGTHS: [usize; 17] = [0, 1, 7, 15, 26, 31, 32, 33, 63, 64, 65, 127, 129, 255, 1025, 4097, 70_000];
+const LENGTHS: [usize; 17] =
+    [0, 1, 7, 15, 26, 31, 32, 33, 63, 64, 65, 127, 129, 255, 1025, 4097, 70_000];
 
 #[test]
 fn allocations() {
     for len in LENGTHS {
         let ascii = "a".repeat(len);
         let pair = "\u{1F496}";
-        for text in [format!("{ascii}{pair}"), format!("{pair}{ascii}"), format!("{ascii}{pair}{ascii}\0")] {
+        for text in
+            [format!("{ascii}{pair}"), format!("{pair}{ascii}"), format!("{ascii}{pair}{ascii}\0")]
+        {
             let encoded = simd_cesu8::encode(&text).into_owned();
             let encoded_mutf8 = mutf8::encode(&text).into_owned();
             assert_eq!(requests(|| simd_cesu8::encode(&text)), (1, encoded.len()), "{len}");
@@ -81,7 +84,11 @@ fn allocations() {
                 assert_eq!(requests(|| simd_cesu8::decode_strict(&damaged)).0, 0, "{len} at {at}");
                 assert_eq!(requests(|| mutf8::decode(&damaged)).0, 0, "{len} at {at}");
                 let lossy = simd_cesu8::lossy_len(&damaged).unwrap();
-                assert_eq!(requests(|| simd_cesu8::decode_lossy(&damaged)), (1, lossy), "{len} at {at}");
+                assert_eq!(
+                    requests(|| simd_cesu8::decode_lossy(&damaged)),
+                    (1, lossy),
+                    "{len} at {at}"
+                );
             }
         }
         let same = format!("{ascii}\u{20AC}\u{E9}");
@@ -101,8 +108,14 @@ fn errors() {
     let copy = error;
     assert_eq!(error, copy.clone());
     assert_eq!(size_of::<DecodingError>(), 0);
-    assert_eq!((format!("{error}"), format!("{error:>20}")), ("invalid input".into(), "invalid input".into()));
-    assert_eq!((format!("{error:?}"), format!("{error:20?}")), ("DecodingError".into(), "DecodingError".into()));
+    assert_eq!(
+        (format!("{error}"), format!("{error:>20}")),
+        ("invalid input".into(), "invalid input".into())
+    );
+    assert_eq!(
+        (format!("{error:?}"), format!("{error:20?}")),
+        ("DecodingError".into(), "DecodingError".into())
+    );
     let error: Box<dyn Error + Send + Sync> = Box::new(error);
     assert!(error.source().is_none());
     let error: Box<dyn Error + Send + Sync> = Box::new(SliceError::TooShort { needed: 3 });
@@ -124,9 +137,15 @@ fn types() {
     assert!(std::ptr::eq(decoded, text.as_str()));
     let calls: [fn(&[u8]) -> Result<Cow<str>, DecodingError>; 4] =
         [simd_cesu8::decode, simd_cesu8::decode_strict, mutf8::decode, mutf8::decode_strict];
-    let lossy: [fn(&[u8]) -> Cow<str>; 4] =
-        [simd_cesu8::decode_lossy, simd_cesu8::decode_lossy_strict, mutf8::decode_lossy, mutf8::decode_lossy_strict];
-    assert!(calls.iter().all(|call| call(b"a").is_ok()) && lossy.iter().all(|call| call(b"a") == "a"));
+    let lossy: [fn(&[u8]) -> Cow<str>; 4] = [
+        simd_cesu8::decode_lossy,
+        simd_cesu8::decode_lossy_strict,
+        mutf8::decode_lossy,
+        mutf8::decode_lossy_strict,
+    ];
+    assert!(
+        calls.iter().all(|call| call(b"a").is_ok()) && lossy.iter().all(|call| call(b"a") == "a")
+    );
 }
 
 /// Slices of no bytes may be at any address.
@@ -148,7 +167,8 @@ fn empty_slices() {
 fn first_calls_at_once() {
     let text = "caf\u{E9} \u{1F496}\0".repeat(40);
     let encoded: Vec<Vec<u8>> = thread::scope(|scope| {
-        let threads: Vec<_> = (0..8).map(|_| scope.spawn(|| mutf8::encode(&text).into_owned())).collect();
+        let threads: Vec<_> =
+            (0..8).map(|_| scope.spawn(|| mutf8::encode(&text).into_owned())).collect();
         threads.into_iter().map(|thread| thread.join().unwrap()).collect()
     });
     assert!(encoded.iter().all(|bytes| mutf8::decode(bytes).unwrap() == text));
@@ -156,6 +176,7 @@ fn first_calls_at_once() {
 
 #[test]
 fn in_a_static() {
-    static TEXT: std::sync::LazyLock<Vec<u8>> = std::sync::LazyLock::new(|| mutf8::encode("\0\u{1F496}").into_owned());
+    static TEXT: std::sync::LazyLock<Vec<u8>> =
+        std::sync::LazyLock::new(|| mutf8::encode("\0\u{1F496}").into_owned());
     assert_eq!(TEXT[..], *b"\xC0\x80\xED\xA0\xBD\xED\xB2\x96");
 }

@@ -1,4 +1,5 @@
-//! Stands for `simd_cesu8` 1.2.0 if another crate depends on it, by `[patch.crates-io]`: hands on `cesu8_rattle`.
+//! Stands for `simd_cesu8` 1.2.0 if another crate depends on it, by `[patch.crates-io]`: hands on
+//! `cesu8_rattle`.
 #![no_std]
 
 #[doc(hidden)]

@@ -1,5 +1,6 @@
-//! What the codec uses of Rattle's `std::alloc`. There an allocator is an argument, and memory may be refused. Here it
-//! is the global one, and a refused request ends the process, as with every collection of Rust.
+//! What the codec uses of Rattle's `std::alloc`. There an allocator is an argument, and memory may
+//! be refused. Here it is the global one, and a refused request ends the process, as with every
+//! collection of Rust.
 
 use alloc::vec::Vec;
 
@@ -7,7 +8,8 @@ use alloc::vec::Vec;
 #[derive(Clone, Copy, Debug)]
 pub struct Global;
 
-/// A request for memory was refused, or would exceed what an address can be. No call of this module returns it.
+/// A request for memory was refused, or would exceed what an address can be. No call of this module
+/// returns it.
 #[derive(Clone, Copy, Debug, PartialEq, Eq)]
 pub struct AllocError;
 
@@ -34,7 +36,8 @@ fn no_capacity() -> ! {
     panic!("a vector lacks capacity")
 }
 
-/// Appends to a vector that has the capacity. The methods of `Vec` would have code to grow it at each call.
+/// Appends to a vector that has the capacity. The methods of `Vec` would have code to grow it at
+/// each call.
 pub trait Append {
     fn append_bytes(&mut self, bytes: &[u8]);
 
@@ -49,8 +52,8 @@ impl Append for Vec<u8> {
         if bytes.len() > self.capacity() - len {
             no_capacity();
         }
-        // SAFETY: there is capacity for so many bytes, by the test, and `bytes` are none of this vector's, which is
-        // borrowed mutably.
+        // SAFETY: there is capacity for so many bytes, by the test, and `bytes` are none of this
+        // vector's, which is borrowed mutably.
         unsafe {
             bytes.as_ptr().copy_to_nonoverlapping(self.as_mut_ptr().add(len), bytes.len());
             self.set_len(len + bytes.len());

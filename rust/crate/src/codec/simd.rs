@@ -1,7 +1,7 @@
 //! What the codec uses of `std::simd`, on stable Rust: vectors of bytes, as vectors of the machine.
 //!
-//! Each level has its own copy of this module. `block!()` is its vector of 32 bytes: one of the machine where it has
-//! one, and else a pair of 16.
+//! Each level has its own copy of this module. `block!()` is its vector of 32 bytes: one of the
+//! machine where it has one, and else a pair of 16.
 
 use core::marker::PhantomData;
 use core::ops::{Add, BitAnd, BitOr, BitXor, Not, Shl, Shr, Sub};
@@ -47,7 +47,8 @@ pub trait Vector: Copy {
     /// Marks the lanes that are equal.
     fn eq(self, other: Self) -> Self;
 
-    /// Takes each lane of 16 from as many lanes of `self`, by an index below 16; one from 128 on gives 0.
+    /// Takes each lane of 16 from as many lanes of `self`, by an index below 16; one from 128 on
+    /// gives 0.
     fn look_up(self, indices: Self) -> Self;
 
     /// Takes the lanes of `yes` where `self` has a mark, and else those of `no`.
@@ -71,7 +72,8 @@ pub trait Vector: Copy {
     /// Returns these lanes, as far as it has so many.
     fn of_halves(first: Half, second: Half) -> Self;
 
-    /// Returns lanes of `self` and `second` in a row, from lane `R::BY` of the last 16 of `self` on.
+    /// Returns lanes of `self` and `second` in a row, from lane `R::BY` of the last 16 of `self`
+    /// on.
     fn run<R: Run>(self, second: Self) -> Self;
 }
 
@@ -530,7 +532,9 @@ where
     #[cfg_attr(not(debug_assertions), inline(always))]
     pub fn swizzle_dyn_within<const K: usize>(self, indices: Self) -> Self {
         const { assert!(K == 16 && N >= 16) };
-        debug_assert!(!(indices.simd_ge(Simd::splat(16)) & indices.simd_lt(Simd::splat(128))).any());
+        debug_assert!(
+            !(indices.simd_ge(Simd::splat(16)) & indices.simd_lt(Simd::splat(128))).any()
+        );
         simd(self.0.look_up(indices.0))
     }
 
@@ -635,7 +639,8 @@ macro_rules! positions {
 }
 pub(crate) use positions;
 
-/// Where 16 lanes of a shuffle come from, those from `16 * PART` on: the vectors are parts of at most 16 lanes in a row.
+/// Where 16 lanes of a shuffle come from, those from `16 * PART` on: the vectors are parts of at
+/// most 16 lanes in a row.
 struct Plan<P, const N: usize, const M: usize, const PART: usize>(PhantomData<P>);
 
 impl<P: Positions<M>, const N: usize, const M: usize, const PART: usize> Plan<P, N, M, PART> {
@@ -643,7 +648,8 @@ impl<P: Positions<M>, const N: usize, const M: usize, const PART: usize> Plan<P,
 
     const FIRST: usize = Self::position(0);
 
-    /// Where lane `i` comes from. Of 16 lanes there is one part, and the compiler evaluates the other too.
+    /// Where lane `i` comes from. Of 16 lanes there is one part, and the compiler evaluates the
+    /// other too.
     const fn position(i: usize) -> usize {
         let position = P::POSITIONS[(16 * PART + i) % M];
         assert!(position < 2 * N);
@@ -682,7 +688,9 @@ impl<P: Positions<M>, const N: usize, const M: usize, const PART: usize> Plan<P,
     };
 }
 
-impl<P: Positions<M>, const N: usize, const M: usize, const PART: usize> Run for Plan<P, N, M, PART> {
+impl<P: Positions<M>, const N: usize, const M: usize, const PART: usize> Run
+    for Plan<P, N, M, PART>
+{
     const BY: usize = Self::FIRST % 16;
 }
 
@@ -721,7 +729,10 @@ const fn is_late_run<P: Positions<M>, const M: usize>() -> bool {
 
 /// Returns the lanes from 16 on, if there are so many.
 #[cfg_attr(not(debug_assertions), inline(always))]
-fn second_half_of<P: Positions<M>, const N: usize, const M: usize>(first: Simd<u8, N>, second: Simd<u8, N>) -> Half
+fn second_half_of<P: Positions<M>, const N: usize, const M: usize>(
+    first: Simd<u8, N>,
+    second: Simd<u8, N>,
+) -> Half
 where
     Width<N>: Lanes,
 {

@@ -1,6 +1,7 @@
 //! The calls of one level, with Rust's types and without an allocator.
 //!
-//! No function here has a type parameter, so that the codec is compiled once, in this crate, and not in its users'.
+//! No function here has a type parameter, so that the codec is compiled once, in this crate, and
+//! not in its users'.
 
 use alloc::borrow::Cow;
 use alloc::vec::Vec;
@@ -56,7 +57,8 @@ fn strict<F: Flavor, A: Accepts>(bytes: &[u8]) -> Result<Cow<'_, str>, DecodingE
     }
 }
 
-/// The same, for at most 64 bytes. What changes gets shorter, so a text of the same length is the bytes.
+/// The same, for at most 64 bytes. What changes gets shorter, so a text of the same length is the
+/// bytes.
 #[cfg_attr(not(debug_assertions), inline(always))]
 fn strict_few<F: Flavor, A: Accepts>(bytes: &[u8]) -> Result<Cow<'_, str>, DecodingError> {
     let mut text = [0; FEW];
@@ -125,9 +127,12 @@ macro_rules! calls_of {
                     $calls::encode_into(text, buf).unwrap_or_else(|_| capacity_overflow());
                 decode_strict(bytes: &[u8]) -> Result<Cow<'_, str>, DecodingError> =
                     strict::<$flavor, EncodingAlone>(bytes);
-                decode(bytes: &[u8]) -> Result<Cow<'_, str>, DecodingError> = strict::<$flavor, Lenient>(bytes);
-                decode_lossy_strict(bytes: &[u8]) -> Cow<'_, str> = lossy($calls::decode_lossy_strict(Global, bytes));
-                decode_lossy(bytes: &[u8]) -> Cow<'_, str> = lossy($calls::decode_lossy(Global, bytes));
+                decode(bytes: &[u8]) -> Result<Cow<'_, str>, DecodingError> =
+                    strict::<$flavor, Lenient>(bytes);
+                decode_lossy_strict(bytes: &[u8]) -> Cow<'_, str> =
+                    lossy($calls::decode_lossy_strict(Global, bytes));
+                decode_lossy(bytes: &[u8]) -> Cow<'_, str> =
+                    lossy($calls::decode_lossy(Global, bytes));
                 decoded_len(bytes: &[u8]) -> Option<usize> = $calls::decoded_len(bytes);
                 lossy_len(bytes: &[u8]) -> Option<usize> = $calls::lossy_len(bytes);
                 valid_up_to(bytes: &[u8]) -> usize = $calls::valid_up_to(bytes);
@@ -137,8 +142,8 @@ macro_rules! calls_of {
                     $calls::decode_strict_to_slice(bytes, buf).map_err(strict_fault);
                 decode_to_slice(bytes: &[u8], buf: &mut [u8]) -> Result<usize, SliceError> =
                     $calls::decode_to_slice(bytes, buf).map_err(strict_fault);
-                decode_lossy_strict_to_slice(bytes: &[u8], buf: &mut [u8]) -> Result<usize, SliceError> =
-                    $calls::decode_lossy_strict_to_slice(bytes, buf).map_err(lossy_fault);
+                decode_lossy_strict_to_slice(bytes: &[u8], buf: &mut [u8])
+                    -> Result<usize, SliceError> = $calls::decode_lossy_strict_to_slice(bytes, buf).map_err(lossy_fault);
                 decode_lossy_to_slice(bytes: &[u8], buf: &mut [u8]) -> Result<usize, SliceError> =
                     $calls::decode_lossy_to_slice(bytes, buf).map_err(lossy_fault);
             }

@@ -1,7 +1,7 @@
 //! Vectors of 16 bytes by SSE2, SSSE3 and SSE4.1, and of 32 by AVX2.
 //!
-//! Each function is inlined into one that has the features of its level (`at_level!`), which runs only after the
-//! processor was asked for them. Level v2 has no vectors of 32 bytes.
+//! Each function is inlined into one that has the features of its level (`at_level!`), which runs
+//! only after the processor was asked for them. Level v2 has no vectors of 32 bytes.
 #![allow(unused_unsafe)] // Later compilers call some of these without `unsafe`.
 
 use core::arch::x86_64::*;
@@ -86,7 +86,8 @@ impl Vector for __m128i {
         unsafe { _mm_blendv_epi8(no, yes, self) }
     }
 
-    // There is no shift of bytes: words are shifted, and the bits that cross into a neighbour are cleared.
+    // There is no shift of bytes: words are shifted, and the bits that cross into a neighbour are
+    // cleared.
     #[cfg_attr(not(debug_assertions), inline(always))]
     fn shl(self, by: u32) -> Self {
         // SAFETY: the level has the instruction.
@@ -210,7 +211,9 @@ impl Vector for __m256i {
     #[cfg_attr(not(debug_assertions), inline(always))]
     fn half(self, at: usize) -> Half {
         // SAFETY: the level has the instructions.
-        unsafe { if at == 0 { _mm256_castsi256_si128(self) } else { _mm256_extracti128_si256::<1>(self) } }
+        unsafe {
+            if at == 0 { _mm256_castsi256_si128(self) } else { _mm256_extracti128_si256::<1>(self) }
+        }
     }
 
     #[cfg_attr(not(debug_assertions), inline(always))]
