@@ -328,9 +328,9 @@ class Eraser:
             return closing_angle(tokens, at + 1) + 1, "fmt"
         if rest.startswith("Formatter<W>"):
             return at + 4, "Formatter<'_>"
-        if rest.startswith(": Drop>"):
+        if re.match(r"(: | \+ )Drop[>;,]", rest):
             self.use("bound Drop")
-            return at + 3, ""
+            return at + (3 if tokens[at] == ":" else 4), ""
         if re.match(r"\.(shuffle|swizzle)::<", rest):
             return self.shuffle(tokens, at, depth)
         return None, None

@@ -33,7 +33,10 @@ FORMS = {
     "unit test": ("struct A;\n\n#[cfg(test)]\nmod tests {\n    fn f() { '}'; \"}\"; }\n}\n", "struct A;"),
     "example": ("/// ```rust\n/// f(alloc)?;\n/// ```\nstruct A;", "/// ```text /// f(alloc)?; /// ``` struct A;"),
     "derive(Drop)": ("#[derive(Debug, Drop)]\nstruct A;\n#[derive(Drop)]\nstruct B;", "#[derive(Debug)] struct A; struct B;"),
-    "bound Drop": ("impl<T: Drop> From<T> for A {}", "impl<T> From<T> for A {}"),
+    "bound Drop": (
+        "impl<T: Drop> From<T> for A {}\ntrait B {\n    type C: Drop;\n    type D: Copy + Drop;\n}",
+        "impl<T> From<T> for A {} trait B { type C; type D: Copy; }",
+    ),
     "crate path": (
         "use crate::a::b;\nuse cesu8_bytes::c;\nuse super::d;",
         "use super::calls::a::b; use super::bytes::c; use super::d;",

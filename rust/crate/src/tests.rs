@@ -439,8 +439,8 @@ fn test_public(bytes: &[u8]) {
     }
     mod public_mutf8 {
         pub use crate::implementation::active;
-        pub use active::contains_null_or_utf8_4_byte_char_header as contains_changed;
         pub use crate::mutf8::*;
+        pub use active::contains_null_or_utf8_4_byte_char_header as contains_changed;
     }
     test_encoding!(public, false, bytes);
     test_encoding!(public_mutf8, true, bytes);
