@@ -41,19 +41,20 @@ export CARGO_NET_OFFLINE=true
 version=$(<"$top/VERSION")
 packages=$scratch/packages
 crate=$packages/cesu8_rattle-$version
-# Where no registry is asked, the optional dependency has to be somewhere.
-stand_in="patch.crates-io.simdutf8.path='$top/rust/tests/simdutf8'"
-
 # Runs cargo in the crate: `in_crate ARGUMENT..`. What is built is kept in $scratch/NAME of
 # `target`.
 in_crate() {
-    (cd "$crate" && CARGO_TARGET_DIR=$scratch/${target:-target} quietly cargo --config "$stand_in" "$@")
+    (cd "$crate" && CARGO_TARGET_DIR=$scratch/${target:-target} quietly cargo "$@")
 }
 
 # The packages: those of the release, or new ones.
 lay_out() {
     local name
-    mkdir "$packages" || exit 2
+    mkdir -p "$packages/.cargo" || exit 2
+    # Where no registry is asked, the optional dependency has to be somewhere for a test of the crate. A program
+    # that depends on it needs no such line.
+    printf '%s\n' '[patch.crates-io]' "simdutf8 = { path = \"$top/rust/tests/simdutf8\" }" \
+        >"$packages/.cargo/config.toml" || exit 2
     if [[ -z ${RELEASE-} ]]; then
         quietly "$top/rust/make.sh" "$packages" || exit 2
         return

@@ -19,7 +19,7 @@ mod standard {
         let mut bytes = Vec::new();
         for unit in text.encode_utf16() {
             match unit {
-                0 if is_mutf8 => bytes.extend([0xC0, 0x80]),
+                _ if is_mutf8 && unit == 0 => bytes.extend([0xC0, 0x80]),
                 ..0x80 => bytes.push(unit as u8),
                 ..0x800 => bytes.extend([(0xC0 + unit / 0x40) as u8, (0x80 + unit % 0x40) as u8]),
                 _ => bytes.extend([
@@ -193,6 +193,7 @@ fn inputs() -> u64 {
 }
 
 /// Fails with the input, unless two values are equal and both are borrowed or owned.
+#[allow(clippy::ptr_arg)] // Whether it is borrowed is tested.
 fn assert_same<T: ?Sized + ToOwned + PartialEq>(
     result: &Cow<T>,
     expected: &T,

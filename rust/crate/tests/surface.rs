@@ -135,9 +135,11 @@ fn types() {
     let Cow::Borrowed(bytes) = encode(&text) else { panic!() };
     let Ok(Cow::Borrowed(decoded)) = decode(bytes) else { panic!() };
     assert!(std::ptr::eq(decoded, text.as_str()));
-    let calls: [fn(&[u8]) -> Result<Cow<str>, DecodingError>; 4] =
+    type Strict = fn(&[u8]) -> Result<Cow<str>, DecodingError>;
+    type Lossy = fn(&[u8]) -> Cow<str>;
+    let calls: [Strict; 4] =
         [simd_cesu8::decode, simd_cesu8::decode_strict, mutf8::decode, mutf8::decode_strict];
-    let lossy: [fn(&[u8]) -> Cow<str>; 4] = [
+    let lossy: [Lossy; 4] = [
         simd_cesu8::decode_lossy,
         simd_cesu8::decode_lossy_strict,
         mutf8::decode_lossy,
