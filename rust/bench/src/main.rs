@@ -67,6 +67,7 @@ unsafe fn text(bytes: &[u8]) -> &str {
 calls! {
     encode_text: |bytes| Some(simd_cesu8::encode(unsafe { text(bytes) }));
     mutf8_encode_text: |bytes| Some(mutf8::encode(unsafe { text(bytes) }));
+    utf8: |bytes| str::from_utf8(bytes).ok().map(|text| Cow::Borrowed(text.as_bytes()));
     decode: |bytes| simd_cesu8::decode(bytes).ok().map(bytes_of);
     mutf8_decode: |bytes| mutf8::decode(bytes).ok().map(bytes_of);
     decode_strict: |bytes| simd_cesu8::decode_strict(bytes).ok().map(bytes_of);
@@ -203,6 +204,15 @@ impl Bench {
         self.families.entry(family).or_default().push(fastest / times[0]);
     }
 
+    /// Compares lenient decoding of UTF-8 with `core::str::from_utf8` alone.
+    fn row_of_utf8(&mut self, set: &str, name: &str, inputs: &[Vec<u8>], size: &str) {
+        let call_of = |name| CALLS.iter().find(|(call, _)| *call == name).unwrap().1;
+        let times = time(&[call_of(name), call_of("utf8")], inputs, self.rounds);
+        println!("{set}\t{name}, core\t{:.1}\t{:.1}", times[0], times[1]);
+        let family = format!("decode UTF-8 of four bytes, core {size}");
+        self.families.entry(family).or_default().push(times[1] / times[0]);
+    }
+
     fn sets(&mut self, kinds: &[&str], lens: &[usize]) {
         let mut random = Random(0x1234_5678_9ABC_DEF1);
         for kind in kinds {
@@ -246,6 +256,7 @@ impl Bench {
                     self.row(&set, &call, &bytes, format!("decode_lossy_strict {what} {size}"));
                     // UTF-8 with characters of four bytes, which a lenient call borrows.
                     if what == "built" {
+                        self.row_of_utf8(&set, &format!("{prefix}decode"), &utf8, size);
                         let family = format!("decode UTF-8 of four bytes {size}");
                         self.row(&set, &format!("{prefix}decode"), &utf8, family);
                     }

@@ -38,21 +38,6 @@ fn bytes_of(result: Result<CowBytes<'_>, AllocError>) -> Cow<'_, [u8]> {
 /// The most bytes that are decoded on the stack.
 const FEW: usize = 64;
 
-/// The most bytes that a lenient call first tests for UTF-8. Of more, vectors are faster.
-const FEWEST: usize = 16;
-
-/// Decodes UTF-8, or else strictly. Input is rejected before memory is allocated.
-#[cfg_attr(not(debug_assertions), inline(always))]
-fn lenient<F: Flavor>(bytes: &[u8]) -> Result<Cow<'_, str>, DecodingError> {
-    if bytes.len() > FEWEST {
-        return strict::<F, Lenient>(bytes);
-    }
-    match crate::utf8::from_utf8(bytes) {
-        Some(text) => Ok(Cow::Borrowed(text)),
-        None => strict_few::<F, EncodingAlone>(bytes),
-    }
-}
-
 /// Decodes strictly what a call that takes `A` takes. Input is rejected before memory is allocated.
 #[cfg_attr(not(debug_assertions), inline(always))]
 fn strict<F: Flavor, A: Accepts>(bytes: &[u8]) -> Result<Cow<'_, str>, DecodingError> {
@@ -143,7 +128,7 @@ macro_rules! calls_of {
                 decode_strict(bytes: &[u8]) -> Result<Cow<'_, str>, DecodingError> =
                     strict::<$flavor, EncodingAlone>(bytes);
                 decode(bytes: &[u8]) -> Result<Cow<'_, str>, DecodingError> =
-                    lenient::<$flavor>(bytes);
+                    strict::<$flavor, Lenient>(bytes);
                 decode_lossy_strict(bytes: &[u8]) -> Cow<'_, str> =
                     lossy($calls::decode_lossy_strict(Global, bytes));
                 decode_lossy(bytes: &[u8]) -> Cow<'_, str> =
