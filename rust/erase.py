@@ -38,12 +38,12 @@ RULES = {
     "bound Drop": "the same, for a parameter",
     "crate path": "crates become modules, named by `super`, as there is a copy for each level",
     "std path": "`std::simd` and `std::alloc` are modules of the shim; the rest is in `core`",
-    "kit": "a file that uses a crate of Rattle's kit gives way to the shim's functions of its names",
+    "kit": "a file that uses a crate of the kit gives way to the shim's functions of its names",
     "prelude": "`core` has no `Vec` and `String` in its prelude",
     "allocator": "Rattle passes the allocator to each call that builds; Rust has one",
     "reserve": "a request for memory returns a `Result` in Rattle",
     "push_reserved": "`push` to a vector that has the capacity, which Rust does not know",
-    "append loop": "a loop of `push_reserved` is one call of the shim, with one test of the capacity",
+    "append loop": "a loop of `push_reserved` is one call, with one test of the capacity",
     "fmt parameter": "the formatter has a parameter in Rattle",
     "vector width": "an item for vectors of any width says that the machine has that width",
     "constant lanes": "the positions of a shuffle are a constant for `rustc` too",
@@ -336,7 +336,7 @@ class Eraser:
         return None, None
 
     def append_loop(self, tokens, at):
-        """`for byte in bytes { out.push_reserved(*byte); }`, or `for _ in 0..count` with a value."""
+        """`for a in b { out.push_reserved(*a); }`, or `for _ in 0..count` with one value."""
         body = at
         while tokens[body] != "{":
             body += 1
@@ -502,8 +502,9 @@ class Eraser:
         inner = signature[len(tokens[name]):].strip()
         hint = attribute[0] if attribute else "#[inline]"
         out += [
-            "fn ", signature, before_body, "{\n    at_level! {\n        ", hint, " {\n        fn at_level",
-            inner, before_body, text, "\n        } at_level", turbofish, "(", arguments, ")\n    }\n}",
+            f"fn {signature}{before_body}{{\n    at_level! {{\n        {hint} {{\n        ",
+            f"fn at_level{inner}{before_body}{text}",
+            f"\n        }} at_level{turbofish}({arguments})\n    }}\n}}",
         ]
         return end + 1
 

@@ -51,8 +51,8 @@ in_crate() {
 lay_out() {
     local name
     mkdir -p "$packages/.cargo" || exit 2
-    # Where no registry is asked, the optional dependency has to be somewhere for a test of the crate. A program
-    # that depends on it needs no such line.
+    # Where no registry is asked, the optional dependency has to be somewhere for a test of the
+    # crate. A program that depends on it needs no such line.
     printf '%s\n' '[patch.crates-io]' "simdutf8 = { path = \"$top/rust/tests/simdutf8\" }" \
         >"$packages/.cargo/config.toml" || exit 2
     if [[ -z ${RELEASE-} ]]; then
@@ -70,8 +70,8 @@ user_package() {
     shift 2
     mkdir -p "$scratch/users/$name/src" || exit 2
     {
-        printf '%s\n' '[package]' "name = \"$name\"" 'version = "0.1.0"' 'edition = "2021"' '' '[dependencies]'
-        printf '%s\n' "$dependency" "$@" '' '[workspace]'
+        printf '%s\n' '[package]' "name = \"$name\"" 'version = "0.1.0"' 'edition = "2021"' ''
+        printf '%s\n' '[dependencies]' "$dependency" "$@" '' '[workspace]'
     } >"$scratch/users/$name/Cargo.toml"
     cat >"$scratch/users/$name/src/main.rs" <<'RUST'
 fn main() {
@@ -93,7 +93,8 @@ RUST
 run_user() {
     local name=$1 what=$2
     shift 2
-    if (cd "$scratch/users/$name" && CARGO_TARGET_DIR=$scratch/users/target quietly cargo "$@"); then
+    if (cd "$scratch/users/$name" &&
+        CARGO_TARGET_DIR=$scratch/users/target quietly cargo "$@"); then
         pass
     else
         wrong "$what"
@@ -101,14 +102,19 @@ run_user() {
 }
 
 test_eraser() {
-    if quietly python3 "$top/rust/tests/test_erase.py"; then pass; else wrong "the eraser's rules"; fi
+    if quietly python3 "$top/rust/tests/test_erase.py"; then
+        pass
+    else
+        wrong "the eraser's rules"
+    fi
 }
 
 test_levels() {
     export CESU8_INPUTS=$debug_inputs
     if in_crate test; then pass; else wrong 'the tests with debug assertions'; fi
     export CESU8_INPUTS=$inputs
-    [[ -n ${CESU8_LIBRARY-} ]] || echo 'RELEASE is not set: the Rust crate not compared with the library for C'
+    [[ -n ${CESU8_LIBRARY-} ]] ||
+        echo 'RELEASE is not set: the Rust crate not compared with the library for C'
     if CARGO_PROFILE_RELEASE_OVERFLOW_CHECKS=true in_crate test --release --lib --tests; then
         pass
     else
@@ -120,9 +126,11 @@ test_levels() {
 test_forms() {
     local v3_tests=(test --release --tests)
     grep -q '\bavx2\b' /proc/cpuinfo || v3_tests=(test --release --tests --no-run)
-    target=v3 RUSTFLAGS='-C target-cpu=x86-64-v3' in_crate "${v3_tests[@]}" || wrong 'the build for x86-64-v3'
+    target=v3 RUSTFLAGS='-C target-cpu=x86-64-v3' in_crate "${v3_tests[@]}" ||
+        wrong 'the build for x86-64-v3'
     target=none in_crate check --no-default-features || wrong 'the build without std'
-    target=simdutf8 in_crate test --features simdutf8 --lib --test cases || wrong 'the feature simdutf8'
+    target=simdutf8 in_crate test --features simdutf8 --lib --test cases ||
+        wrong 'the feature simdutf8'
     target=plain RUSTFLAGS='--cfg cesu8_level="plain"' in_crate test --tests || wrong 'the plain form'
     if [[ -n ${RUSTC_1_85-} ]]; then
         target=old RUSTC=$RUSTC_1_85 in_crate test --lib --test cases || wrong 'rustc 1.85'
@@ -183,8 +191,10 @@ look_at_assembly() {
 
 lay_out
 if [[ -n ${RELEASE-} ]]; then
-    mkdir "$scratch/release" && tar xzf "$RELEASE/cesu8-$version-x86_64-linux.tar.gz" -C "$scratch/release" || exit 2
-    export CESU8_LIBRARY=$scratch/release/cesu8-$version-x86_64-linux/lib/libcesu8.so
+    archive=cesu8-$version-x86_64-linux
+    mkdir "$scratch/release" || exit 2
+    tar xzf "$RELEASE/$archive.tar.gz" -C "$scratch/release" || exit 2
+    export CESU8_LIBRARY=$scratch/release/$archive/lib/libcesu8.so
 fi
 test_eraser
 test_levels
