@@ -131,7 +131,8 @@ test_forms() {
     target=none in_crate check --no-default-features || wrong 'the build without std'
     target=simdutf8 in_crate test --features simdutf8 --lib --test cases ||
         wrong 'the feature simdutf8'
-    target=plain RUSTFLAGS='--cfg cesu8_level="plain"' in_crate test --tests || wrong 'the plain form'
+    target=plain RUSTFLAGS='--cfg cesu8_level="plain"' in_crate test --tests ||
+        wrong 'the plain form'
     if [[ -n ${RUSTC_1_85-} ]]; then
         target=old RUSTC=$RUSTC_1_85 in_crate test --lib --test cases || wrong 'rustc 1.85'
     else
@@ -148,15 +149,22 @@ test_users() {
     user_package patched 'simd_cesu8 = "1"' '' '[patch.crates-io]' \
         "simd_cesu8 = { path = \"$packages/simd_cesu8-1.2.0\" }"
     run_user patched 'a program with [patch.crates-io]' run --release
-    user_package both "$line" "other = { package = \"simd_cesu8\", path = \"$packages/simd_cesu8-1.2.0\" }"
+    user_package both "$line" \
+        "other = { package = \"simd_cesu8\", path = \"$packages/simd_cesu8-1.2.0\" }"
     run_user both 'two packages in one program' check
-    user_package abort "$line" '' '[profile.release]' 'panic = "abort"' 'lto = "fat"' 'codegen-units = 1'
-    RUSTFLAGS='-C relocation-model=static' run_user abort 'panic = "abort", fat LTO, static' run --release
+    user_package abort "$line" '' '[profile.release]' 'panic = "abort"' 'lto = "fat"' \
+        'codegen-units = 1'
+    RUSTFLAGS='-C relocation-model=static' \
+        run_user abort 'panic = "abort", fat LTO, static' run --release
 }
 
 look_at_style() {
     local file
-    if RUSTDOCFLAGS='-D warnings' in_crate doc --no-deps; then pass; else wrong 'warnings of rustdoc'; fi
+    if RUSTDOCFLAGS='-D warnings' in_crate doc --no-deps; then
+        pass
+    else
+        wrong 'warnings of rustdoc'
+    fi
     if ! command -v cargo-clippy >/dev/null; then
         echo 'clippy is missing: skipped'
     elif in_crate clippy --all-targets -- -D warnings; then
@@ -170,8 +178,8 @@ look_at_style() {
     fi
     # By standard input, since rustfmt would look for the modules that are made.
     while read -r file; do
-        rustfmt --edition 2024 --config-path "$top/rust/rustfmt.toml" <"$file" >"$scratch/formatted" &&
-            cmp -s "$file" "$scratch/formatted" || wrong "${file#"$top/"} is not what rustfmt makes of it"
+        rustfmt --edition 2024 --config-path "$top/rust/rustfmt.toml" <"$file" >"$scratch/formatted"
+        cmp -s "$file" "$scratch/formatted" || wrong "${file#"$top/"} is not what rustfmt makes of it"
     done < <(find "$top/rust" -name '*.rs' | sort)
     pass
 }

@@ -65,7 +65,7 @@ class Rules(unittest.TestCase):
         self.assertEqual(text, "use super::super::super::decode::a;")
 
     def test_a_body_is_not_replaced(self):
-        form = "#[inline(always)]\nfn append_each(a: usize) {\n    if a == 0 {\n        f(a);\n    }\n}"
+        form = "#[inline(always)]\nfn append_each(a: usize) {\n    if a == 0 {\n        f();\n    }\n}"
         body = form[form.index("{\n"):]
         self.assertTrue(erased(form).endswith(body))
 

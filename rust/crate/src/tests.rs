@@ -21,7 +21,9 @@ mod standard {
             match unit {
                 _ if is_mutf8 && unit == 0 => bytes.extend([0xC0, 0x80]),
                 ..0x80 => bytes.push(unit as u8),
-                ..0x800 => bytes.extend([(0xC0 + unit / 0x40) as u8, (0x80 + unit % 0x40) as u8]),
+                0x80..0x800 => {
+                    bytes.extend([(0xC0 + unit / 0x40) as u8, (0x80 + unit % 0x40) as u8])
+                }
                 _ => bytes.extend([
                     (0xE0 + unit / 0x1000) as u8,
                     (0x80 + unit / 0x40 % 0x40) as u8,

@@ -96,6 +96,8 @@ fn lossy_fault(fault: LossySliceFault) -> SliceError {
     }
 }
 
+type SliceResult = Result<usize, SliceError>;
+
 /// Defines functions with the features of this level.
 macro_rules! at_this_level {
     ($($name:ident($($argument:ident: $type:ty),*) -> $result:ty = $value:expr;)*) => {
@@ -136,15 +138,15 @@ macro_rules! calls_of {
                 decoded_len(bytes: &[u8]) -> Option<usize> = $calls::decoded_len(bytes);
                 lossy_len(bytes: &[u8]) -> Option<usize> = $calls::lossy_len(bytes);
                 valid_up_to(bytes: &[u8]) -> usize = $calls::valid_up_to(bytes);
-                encode_to_slice(text: &str, buf: &mut [u8]) -> Result<usize, SliceError> =
+                encode_to_slice(text: &str, buf: &mut [u8]) -> SliceResult =
                     $calls::encode_to_slice(text, buf).map_err(too_short);
-                decode_strict_to_slice(bytes: &[u8], buf: &mut [u8]) -> Result<usize, SliceError> =
+                decode_strict_to_slice(bytes: &[u8], buf: &mut [u8]) -> SliceResult =
                     $calls::decode_strict_to_slice(bytes, buf).map_err(strict_fault);
-                decode_to_slice(bytes: &[u8], buf: &mut [u8]) -> Result<usize, SliceError> =
+                decode_to_slice(bytes: &[u8], buf: &mut [u8]) -> SliceResult =
                     $calls::decode_to_slice(bytes, buf).map_err(strict_fault);
-                decode_lossy_strict_to_slice(bytes: &[u8], buf: &mut [u8])
-                    -> Result<usize, SliceError> = $calls::decode_lossy_strict_to_slice(bytes, buf).map_err(lossy_fault);
-                decode_lossy_to_slice(bytes: &[u8], buf: &mut [u8]) -> Result<usize, SliceError> =
+                decode_lossy_strict_to_slice(bytes: &[u8], buf: &mut [u8]) -> SliceResult =
+                    $calls::decode_lossy_strict_to_slice(bytes, buf).map_err(lossy_fault);
+                decode_lossy_to_slice(bytes: &[u8], buf: &mut [u8]) -> SliceResult =
                     $calls::decode_lossy_to_slice(bytes, buf).map_err(lossy_fault);
             }
         }
