@@ -50,6 +50,7 @@ RULES = {
     "load at": "a load or store at an offset tests its bounds once, not a slice's and a vector's",
     "array by reference": "`rustc` takes an array of 16 bytes that it passes apart byte by byte",
     "as_chunks": "it came with Rust 1.88, and the crate is for 1.85",
+    "table": "a constant that is only borrowed is a static, of which a program has one copy",
     "level": "a function that is not inlined is compiled with the features of its level",
     "method": "a method is inlined, since it can't have a function with features in it",
     "inline": "without optimization, inlining everything takes minutes to compile",
@@ -521,7 +522,7 @@ class Eraser:
         tokens = self.attributes(tokenize(text))
         tokens = self.calls(self.paths(tokens, crate, depth), depth)
         tokens = self.widths(tokens)
-        text = "".join(self.functions(tokens))
+        text = self.tables("".join(self.functions(tokens)))
         self.refuse(text)
         text = self.with_imports(text, depth)
         if "#[inline(always)]" in text:
@@ -530,6 +531,16 @@ class Eraser:
                 "#[inline(always)]", "#[cfg_attr(not(debug_assertions), inline(always))]"
             )
         return re.sub(r"\n{3,}", "\n\n", text).lstrip("\n")
+
+    def tables(self, text):
+        """Makes constants of arrays static if each use of them in the file borrows them."""
+        for name in re.findall(r"^const (\w+): [^=]*= \[", text, re.M):
+            code = re.sub(r"//[^\n]*", "", text)
+            uses = len(re.findall(rf"\b{name}\b", code)) - 1
+            if uses == len(re.findall(rf"&{name}\b", code)):
+                self.use("table")
+                text = re.sub(rf"^const {name}:", f"static {name}:", text, flags=re.M)
+        return text
 
     def shim_file(self, text, depth):
         """Returns a file that has the shim's functions with the names of this one's."""
