@@ -34,6 +34,7 @@ macro_rules! block {
     };
 }
 #[cfg(any(
+    test,
     cesu8_level = "v2",
     not(all(
         target_feature = "avx2",
@@ -111,7 +112,17 @@ macro_rules! by_level {
 
 pub(crate) use by_level;
 
-#[cfg(feature = "std")]
+#[cfg(all(
+    feature = "std",
+    not(all(
+        target_feature = "avx2",
+        target_feature = "bmi1",
+        target_feature = "bmi2",
+        target_feature = "lzcnt",
+        target_feature = "popcnt",
+        not(cesu8_level = "v2")
+    ))
+))]
 pub(crate) mod detected {
     use core::sync::atomic::{AtomicU8, Ordering};
 
