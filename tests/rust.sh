@@ -113,28 +113,30 @@ test_levels() {
     export CESU8_INPUTS=$debug_inputs
     if in_crate test; then pass; else wrong 'the tests with debug assertions'; fi
     export CESU8_INPUTS=$inputs
-    [[ -n ${CESU8_LIBRARY-} ]] ||
-        echo 'RELEASE is not set: the Rust crate not compared with the library for C'
-    if CARGO_PROFILE_RELEASE_OVERFLOW_CHECKS=true in_crate test --release --lib --tests; then
+    if CARGO_PROFILE_RELEASE_OVERFLOW_CHECKS=true in_crate test --release --lib; then
         pass
     else
-        wrong 'the tests, optimized, with overflow checks'
+        wrong 'the levels, optimized, with overflow checks'
     fi
 }
 
-# Builds other forms of the crate, which are run if the processor has their level.
+# Builds other forms of the crate. That for x86-64-v3 takes least, so it is the one that is compared
+# with the library for C, if this processor has its level.
 test_forms() {
-    local v3_tests=(test --release --tests)
-    grep -q '\bavx2\b' /proc/cpuinfo || v3_tests=(test --release --tests --no-run)
-    target=v3 RUSTFLAGS='-C target-cpu=x86-64-v3' in_crate "${v3_tests[@]}" ||
-        wrong 'the build for x86-64-v3'
+    local compared=(test --release --test c_library --test cases --test surface)
+    local flags='-C target-cpu=x86-64-v3'
+    [[ -n ${CESU8_LIBRARY-} ]] ||
+        echo 'RELEASE is not set: the Rust crate not compared with the library for C'
+    if ! grep -q '\bavx2\b' /proc/cpuinfo; then
+        flags=''
+    fi
+    target=v3 RUSTFLAGS=$flags in_crate "${compared[@]}" || wrong 'the build for x86-64-v3'
     target=none in_crate check --no-default-features || wrong 'the build without std'
-    target=simdutf8 in_crate test --features simdutf8 --lib --test cases ||
-        wrong 'the feature simdutf8'
+    target=simdutf8 in_crate test --features simdutf8 --test cases || wrong 'the feature simdutf8'
     target=plain RUSTFLAGS='--cfg cesu8_level="plain"' in_crate test --tests ||
         wrong 'the plain form'
     if [[ -n ${RUSTC_1_85-} ]]; then
-        target=old RUSTC=$RUSTC_1_85 in_crate test --lib --test cases || wrong 'rustc 1.85'
+        target=old RUSTC=$RUSTC_1_85 in_crate test --test cases || wrong 'rustc 1.85'
     else
         echo 'RUSTC_1_85 is not set: rustc 1.85 skipped'
     fi
@@ -153,7 +155,7 @@ test_users() {
         "other = { package = \"simd_cesu8\", path = \"$packages/simd_cesu8-1.2.0\" }"
     run_user both 'two packages in one program' check
     user_package abort "$line" '' '[profile.release]' 'panic = "abort"' 'lto = "fat"' \
-        'codegen-units = 1'
+        'codegen-units = 1' 'opt-level = 1'
     RUSTFLAGS='-C relocation-model=static' \
         run_user abort 'panic = "abort", fat LTO, static' run --release
 }

@@ -3,5 +3,5 @@
 #![no_std]
 
 #[doc(hidden)]
-pub use cesu8_rattle::implementation;
-pub use cesu8_rattle::*;
+pub use codec::implementation;
+pub use codec::*;
