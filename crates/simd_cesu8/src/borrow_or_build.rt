@@ -4,7 +4,9 @@
 //! keeps all bytes, and else what stands behind the front decides. What it takes is a type,
 //! `Lenient` or `EncodingAlone`. In `decode_strict_front` one vector first shows short ASCII.
 
-ghost use Rattle.std.specs.Prelude.{take};
+ghost use Rattle.std.specs.Prelude.{◌↔◌, IsTrue, take};
+ghost use Rattle.std.specs.Str.{chars};
+ghost use Rattle.simd_cesu8.specs.Encoding.{NeedsEncoding};
 ghost use Rattle.simd_cesu8.specs.Calls.{Encodes, DecodesAs, DecodesLossily, DecodesStrictly};
 
 use crate::cow::{CowBytes, CowText};
@@ -21,11 +23,20 @@ use std::alloc::{AllocError, Global};
 pub fn encode<F: Flavor>(alloc: Global, value: &str) -> Result<CowBytes<'_>, AllocError>
     ensures { Encodes F.flavor value.now result }
 {
-    if !needs_encoded::<F>(value) {
+    if !is_changed::<F>(value) {
         return Ok(CowBytes::Borrowed(value.as_bytes()));
     }
     let encoded = internal::encode::<F>(alloc, value)?;
     Ok(CowBytes::Owned(encoded))
+}
+
+/// Returns whether the encoding differs from the UTF-8. It is not inlined, so that `encode` is small
+/// enough to be inlined by its callers.
+#[inline(never)]
+fn is_changed<F: Flavor>(value: &str) -> bool
+    ensures { IsTrue result ↔ NeedsEncoding F.flavor (chars value.now) }
+{
+    needs_encoded::<F>(value)
 }
 
 /// Decodes what a call of this kind takes.
