@@ -70,7 +70,10 @@ pub fn there_and_back(alloc: Global, text: &str) -> Result<String, DecodeFault>
     ensures { IfOk result (λ back. string_bytes back ≡ text.now) }
 {
     laws::inverse();
-    let key = key_of(alloc, text).map_err(DecodeFault::Memory)?;
+    let key = match key_of(alloc, text) {
+        Ok(key) => key,
+        Err(error) => return Err(DecodeFault::Memory(error)),
+    };
     text_of(alloc, key.as_slice())
 }
 FUNCTION
@@ -85,7 +88,7 @@ use Rattle.sorted.proofs.there_and_back.Goals as goal
 pub returns : goal.returns
 returns c =
     IfOk-weaker _ _ _ (λ back. c.inverse.ensures.decoded Cesu8 c.args.text.now _ (string_bytes back) c.utf8.text
-    (IsUtf8-string_bytes back) (c.as_slice.ensures.value ∙ c.in_ok-key.ensures)) c.text_of.ensures
+    (IsUtf8-string_bytes back) (c.as_slice.ensures.value ∙ c.in-Ok.ensures)) c.text_of.ensures
 ANSWERS
 }
 
