@@ -7,10 +7,10 @@
 # of the function's code, or in its file of answers or invariants. Any goal counts for an edit of what is
 # no function's body, since nothing else is changed in its round.
 #
-# That a goal is false is told by values that break it, or by a search that tried every way in vain. A goal
-# at which a search met a limit may be true, and so may one that a proof by hand does not fit: its form
-# changes with the code. Such a goal counts only for an edit with a line `shows:`, by which shows.sh shows
-# that the edit is a mistake.
+# A goal counts if the check shows values that break it, or says that it is not proved and names no limit
+# of its search. One at which a search met a limit may be true, and so may one that a proof by hand does not
+# fit: its form changes with the code. Such a goal counts only for an edit with a line `shows:`, by which
+# shows.sh shows that the edit is a mistake.
 
 FNR == 1 { FS = FILENAME ~ /\.owners$/ ? "\t" : " "; $0 = $0 }
 
