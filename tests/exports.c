@@ -368,6 +368,18 @@ static const struct row rows[] = {
     {CALL(java_read), BYTES("\x05\x78" TIMES_100(ALIKE C0_80 SURROGATES) "\0"), OK,
      BYTES(TIMES_100(ALIKE ZERO FOUR_BYTES)), 1402},
     {CALL(java_read), BYTES("\x03\x21" TIMES_100(ALIKE C0_80) ZERO), INVALID, NOTHING, 803},
+    // Up to 64 bytes with more behind them, of which one vector shows whether they are ASCII.
+    {CALL(java_read), BYTES("\0\0" TIMES_20(ALIKE)), OK, BYTES(""), 2},
+    {CALL(java_read), BYTES("\0\x05" "abcde" TIMES_20(ALIKE)), OK, BYTES("abcde"), 7},
+    {CALL(java_read), BYTES("\0\x3C" TIMES_20("abc") ZERO TIMES_20(ALIKE)), OK,
+     BYTES(TIMES_20("abc")), 62},
+    {CALL(java_read), BYTES("\0\x40" TIMES_20("abc") "abcd" "\xFF"), OK,
+     BYTES(TIMES_20("abc") "abcd"), 66},
+    {CALL(java_read), BYTES("\0\x41" TIMES_20("abc") "abcde" "\xFF"), OK,
+     BYTES(TIMES_20("abc") "abcde"), 67},
+    {CALL(java_read), BYTES("\0\x06" "abcd" C0_80 TIMES_20(ALIKE)), OK, BYTES("abcd" ZERO), 8},
+    {CALL(java_read), BYTES("\0\x05" "abcd" ZERO TIMES_20(ALIKE)), INVALID, NOTHING, 7},
+    {CALL(java_read), BYTES("\0\x05" "abcd" "\xC0" TIMES_20(ALIKE)), INVALID, NOTHING, 7},
     {CALL(java_read_lossy), BYTES("\x03\x20" TIMES_100(ALIKE ZERO "\xFF") "a"), OK,
      BYTES(TIMES_100(ALIKE REPLACEMENT REPLACEMENT)), 802},
 };
@@ -585,12 +597,14 @@ int main(void)
     look_at_plain_calls();
     for (const struct row *row = rows; row < rows + sizeof rows / sizeof *rows; row++) {
         size_t needed = row->status == OK ? row->answer.length : row->input.length;
-        // Each length up to one more than is needed; of the longest ones the first and the last.
+        // Each length up to one more than is needed; of the longest ones the first and the last. And
+        // one with room for a vector behind the result.
         for (size_t length = 0; length <= needed + 1; length++) {
             if (length == 100 && needed > 10000)
                 length = needed - 100;
             call_row(row, length);
         }
+        call_row(row, needed + 64);
     }
     printf("%d passed, %d failed\n", passed, failed);
     return failed != 0;

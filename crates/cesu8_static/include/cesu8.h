@@ -194,9 +194,9 @@ CESU8_WRITES struct cesu8_answer cesu8_java_write(
     const uint8_t *text, size_t text_length, uint8_t *buffer, size_t buffer_length);
 
 // Reads the string with which the input begins: a count in two bytes, as cesu8_java_write writes
-// it, and as many bytes of MUTF-8, which are decoded to UTF-8. What comes after them is not read.
-// `taken` is 2 and the count together, whether or not the counted bytes could be decoded; only
-// with CESU8_TRUNCATED it is 0. The next string begins after so many bytes of the input.
+// it, and as many bytes of MUTF-8, which are decoded to UTF-8. What comes after them changes no
+// result. `taken` is 2 and the count together, whether or not the counted bytes could be decoded;
+// only with CESU8_TRUNCATED it is 0. The next string begins after so many bytes of the input.
 //
 // cesu8_java_read decodes as cesu8_mutf8_decode_strict does: CESU8_OK, CESU8_TRUNCATED,
 // CESU8_INVALID, CESU8_TOO_SMALL. cesu8_java_read_lossy decodes as

@@ -1,12 +1,12 @@
 //! The calls for Java strings with their length in front.
 
-ghost use Rattle.std.specs.Prelude.{◌≡◌, ◌≤◌, length, IfSome, IfNone};
+ghost use Rattle.std.specs.Prelude.{◌≡◌, ◌≤◌, length, take, IfSome, IfNone};
 ghost use Rattle.java_text.specs.Form.{count_in, counted, IsTruncated};
 ghost use Rattle.cesu8_static.specs.Answers.{WritesForm, ReadsForm, ReadsFormLossily};
 
 use crate::answer::{Answer, NOT_UTF8, Reading, TOO_LONG, TRUNCATED};
 use java_text::{WriteSliceFault, write_utf_to_slice};
-use simd_cesu8::implementation::text_of;
+use simd_cesu8::implementation::{decode_mutf8_front_to_slice, text_of};
 use simd_cesu8::mutf8;
 
 /// Writes UTF-8 as `java_text::write_utf_to_slice` does (Java's `DataOutput.writeUTF`): the length
@@ -34,10 +34,11 @@ pub extern "C" fn cesu8_java_read(bytes: &[u8], buf: &mut [u8]) -> Reading
     ensures { ReadsForm bytes.now result buf.old buf.new }
 {
     java_text::laws::parts();
-    match counted_bytes(bytes) {
-        Some(counted) => {
-            let answer = Answer::of_text(mutf8::decode_strict_to_slice(counted, buf));
-            Reading::of(answer, 2 + counted.len())
+    match counted_front(bytes) {
+        Some((after, count)) => {
+            // Other strings mostly follow, so a short one is read with what is behind it.
+            let answer = Answer::of_text(decode_mutf8_front_to_slice(after, count, buf));
+            Reading::of(answer, 2 + count)
         }
         None => Reading::of(Answer::without(TRUNCATED), 0),
     }
@@ -50,20 +51,21 @@ pub extern "C" fn cesu8_java_read(bytes: &[u8], buf: &mut [u8]) -> Reading
 pub extern "C" fn cesu8_java_read_lossy(bytes: &[u8], buf: &mut [u8]) -> Reading
     ensures { ReadsFormLossily bytes.now result buf.old buf.new }
 {
-    match counted_bytes(bytes) {
-        Some(counted) => {
-            let answer = Answer::of_lossy_text(mutf8::decode_lossy_strict_to_slice(counted, buf));
-            Reading::of(answer, 2 + counted.len())
+    match counted_front(bytes) {
+        Some((after, count)) => {
+            let outcome = mutf8::decode_lossy_strict_to_slice(&after[..count], buf);
+            Reading::of(Answer::of_lossy_text(outcome), 2 + count)
         }
         None => Reading::of(Answer::without(TRUNCATED), 0),
     }
 }
 
-/// Returns the bytes that the first two count, if the input has them.
-fn counted_bytes(bytes: &[u8]) -> Option<&[u8]>
-    ensures some { IfSome result (λ part. part.now ≡ counted bytes.now) }
-    ensures length { IfSome result (λ part. length part.now ≡ count_in bytes.now) }
-    ensures count { count_in bytes.now ≤ 65535 }
+/// Returns the bytes after the first two, and how many of them these count, if there are so many.
+fn counted_front(bytes: &[u8]) -> Option<(&[u8], usize)>
+    ensures counted { IfSome result (λ front. take front.1 front.0.now ≡ counted bytes.now) }
+    ensures count { IfSome result (λ front. front.1 ≡ count_in bytes.now) }
+    ensures within { IfSome result (λ front. front.1 ≤ length front.0.now) }
+    ensures most { count_in bytes.now ≤ 65535 }
     ensures whole { IfSome result (λ _. ¬ (IsTruncated bytes.now)) }
     ensures none { IfNone result (IsTruncated bytes.now) }
 {
@@ -71,5 +73,8 @@ fn counted_bytes(bytes: &[u8]) -> Option<&[u8]>
         return None;
     };
     let count = usize::from(u16::from_be_bytes([*high, *low]));
-    after.get(..count)
+    if count > after.len() {
+        return None;
+    }
+    Some((after, count))
 }

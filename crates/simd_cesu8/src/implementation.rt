@@ -1,9 +1,15 @@
 //! What the crates of this repository above this one use beside its calls: the kernels, which find
-//! a byte that encoding changes, and the test for UTF-8. Their names may change.
+//! a byte that encoding changes, the test for UTF-8, and what reads strings that follow one another
+//! to a caller's buffer. Their names may change.
 
-ghost use Rattle.std.specs.Prelude.{◌≡◌, IfSome, IfNone, IsUtf8};
+ghost use Rattle.std.specs.Prelude.{◌≡◌, IfSome, IfNone, IsUtf8, take};
+ghost use Rattle.simd_cesu8.specs.Encoding.{Mutf8};
+ghost use Rattle.simd_cesu8.specs.Reading.{IsStrictReading};
+ghost use Rattle.simd_cesu8.specs.Slices.{WritesReading};
 
-use crate::internal::{Cesu8Flavor, is_short_unchanged_ascii, is_utf8, known_text};
+use crate::error::DecodeSliceFault;
+use crate::front_to_slice;
+use crate::internal::{Cesu8Flavor, Mutf8Flavor, is_short_unchanged_ascii, is_utf8, known_text};
 pub use cesu8_bytes::implementation::{active, fallback, simd, word};
 
 /// Returns the bytes as a text if they are UTF-8, as the calls that decode test them. It requests
@@ -28,4 +34,30 @@ pub fn text_of(bytes: &[u8]) -> Option<&str>
         return Some(known_text(bytes));
     }
     None
+}
+
+/// Decodes the MUTF-8 (Java's `DataInput`, without a length in front) at the front of the bytes
+/// strictly, and writes the UTF-8 of the text to the caller's buffer: does what
+/// `mutf8::decode_strict_to_slice` does with the first `len` bytes, or with all if there are fewer.
+///
+/// It may look at the bytes after them, which change no result, so the time for short ASCII depends
+/// less on its length.
+///
+/// ```rust
+/// use simd_cesu8::implementation::decode_mutf8_front_to_slice;
+///
+/// let mut buf = [0xEE; 4];
+/// assert_eq!(rt; decode_mutf8_front_to_slice(b"a\xC0\x80b", 3, &mut buf)?, 2);
+/// assert_eq!(rt; buf.as_slice(), b"a\0\xEE\xEE".as_slice());
+/// ```
+#[inline(always)]
+pub fn decode_mutf8_front_to_slice(
+    bytes: &[u8],
+    len: usize,
+    buf: &mut [u8],
+) -> Result<usize, DecodeSliceFault>
+    ensures { WritesReading (λ text. IsStrictReading Mutf8 (take len bytes.now) text)
+        result buf.old buf.new }
+{
+    front_to_slice::decode_strict_front_to_slice::<Mutf8Flavor>(bytes, len, buf)
 }

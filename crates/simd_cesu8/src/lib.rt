@@ -63,6 +63,7 @@ mod borrow_or_build;
 mod counted_text;
 mod cow;
 mod error;
+mod front_to_slice;
 pub mod implementation;
 mod internal;
 pub mod laws;
