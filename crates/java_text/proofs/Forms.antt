@@ -5,8 +5,10 @@ use Rattle.std.proofs.lemmas.List.{take-append-drop, take_min, take_rest, length
 use Rattle.simd_cesu8.specs.Encoding.{Mutf8, encoding}
 use Rattle.simd_cesu8.specs.Reading.{IsStrictReading, HasNoStrictReading}
 use Rattle.simd_cesu8.specs.Laws.{RoundTrip}
+use Rattle.simd_cesu8.specs.Slices.{WritesReading}
 use Rattle.simd_cesu8.specs.Fault as decoding
 use Rattle.simd_cesu8.specs.declared.error.DecodeFault.{DecodeFault}
+use Rattle.simd_cesu8.specs.declared.error.DecodeSliceFault.{DecodeSliceFault}
 use Rattle.simd_cesu8.specs.declared.error.DecodeFault.TheVariants.{Invalid, Memory}
 use Rattle.java_text.specs.Fault.{IfRefused, read_fault_of}
 use Rattle.java_text.specs.declared.fault.ReadFault.{ReadFault}
@@ -42,6 +44,13 @@ counted_behind_two bytes some are =
     let after = drop 2 bytes in
     rw take_rest
     (ap (λ bs. take (length bs) after) are ∙ ap (λ n. take n after) (length-take (count_in bytes) after) ∙ take_min (count_in bytes) after)
+
+-- So what is written of them is what is written of the counted bytes.
+pub counted_written : (bytes some : List ℕ) (result : Result ℕ DecodeSliceFault) (old new : List ℕ) → some ≡ counted bytes →
+    WritesReading (IsStrictReading Mutf8 (take (length some) (take (length bytes - 2) (drop 2 bytes)))) result old new →
+    WritesReading (IsStrictReading Mutf8 (counted bytes)) result old new
+counted_written bytes some result old new are writes =
+    subst (λ front. WritesReading (IsStrictReading Mutf8 front) result old new) (counted_behind_two bytes some are) writes
 
 -- No form begins bytes that are too few.
 pub none_begins_truncated : (bytes : List ℕ) → IsTruncated bytes → NoFormBegins bytes

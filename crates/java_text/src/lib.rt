@@ -42,6 +42,7 @@ ghost use Rattle.std.specs.Str.{chars};
 ghost use Rattle.simd_cesu8.specs.Encoding.{Mutf8};
 ghost use Rattle.simd_cesu8.specs.Class.{IsUnchangedUtf8};
 ghost use Rattle.simd_cesu8.specs.Reading.{IsStrictReading, HasNoStrictReading, reading, lossy_length};
+ghost use Rattle.simd_cesu8.specs.Slices.{WritesReading};
 ghost use Rattle.simd_cesu8.specs.Cow.{BorrowsTextWhere, BuildsTextOfCapacity};
 ghost use Rattle.java_text.specs.Form.{mutf8_len, HasForm, java_form, BeginsWithForm, BeginsOnlyWithForm, NoFormBegins, count_in, counted, rest_in, IsTruncated};
 ghost use Rattle.java_text.specs.Read.{IfRead, text_of};
@@ -52,7 +53,8 @@ mod fault;
 pub mod laws;
 
 pub use crate::fault::{ReadFault, ReadSliceFault, WriteFault, WriteSliceFault};
-use simd_cesu8::{CowText, LossySliceFault, mutf8};
+use simd_cesu8::implementation::decode_mutf8_front_to_slice;
+use simd_cesu8::{CowText, DecodeSliceFault, LossySliceFault, mutf8};
 use std::alloc::Global;
 
 /// Appends the form of a text (Java's `DataOutput.writeUTF`) to the buffer.
@@ -246,7 +248,18 @@ pub fn read_utf_to_slice<'b>(
     let Ok((counted, rest)) = split_counted(bytes) else {
         return Err(ReadSliceFault::Truncated);
     };
-    Ok((mutf8::decode_strict_to_slice(counted, buf)?, rest))
+    Ok((decode_counted(bytes, counted, buf)?, rest))
+}
+
+/// Decodes the counted bytes strictly to the caller's buffer. Other forms mostly follow them, so a
+/// short text is read with what is behind it.
+#[inline(always)]
+fn decode_counted(bytes: &[u8], part: &[u8], buf: &mut [u8]) -> Result<usize, DecodeSliceFault>
+    requires counted { part.now ≡ counted bytes.now }
+    requires whole { 2 ≤ length bytes.now }
+    ensures { WritesReading (λ text. IsStrictReading Mutf8 part.now text) result buf.old buf.new }
+{
+    decode_mutf8_front_to_slice(&bytes[2..], part.len(), buf)
 }
 
 /// Reads the count that begins the bytes (Java's `DataInput.readUTF`), and as many bytes of MUTF-8,
