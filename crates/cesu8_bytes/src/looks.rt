@@ -7,7 +7,7 @@
 //! | at most 1,024 | are all ASCII? | what takes UTF-8 as well |
 //! | at most 64, in front of a slice of 64 or more | that of the first row, by one vector | strings in a row |
 //! | below 256 | does a byte change? up to 64 by two vectors, else by more | what encodes |
-//! | 256 and more | the same, by four vectors at once, in a way of its own, so that the short one has few registers to save | the same |
+//! | 256 and more | the same, by four vectors at once. It is a branch of its own, which spares 65 to 255 bytes the test for four vectors: 5 or 6 instructions of 40 to 75 | the same |
 
 ghost use Rattle.std.specs.Prelude.{◌↔◌, IsTrue, Any, take};
 ghost use Rattle.std.specs.Str.{chars, IsAscii};

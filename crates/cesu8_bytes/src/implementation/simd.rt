@@ -38,20 +38,6 @@ pub fn contains_null_or_utf8_4_byte_char_header(value: &[u8]) -> bool
     lanes_null_four(value, fallback::contains_null_or_utf8_4_byte_char_header)
 }
 
-/// Returns whether some byte is in a class: the chunks of each width are tested in turn, of what the
-/// wider ones leave, and the fallback tests a single byte that is left.
-macro_rules! any_by_widths {
-    ($value:ident, $class:ty, $fallback:ident, $($width:literal),*) => {{
-        let rest = $value;
-        $(
-            let Some(rest) = left_by::<$class, $width>(rest) else {
-                return true;
-            };
-        )*
-        !rest.is_empty() && $fallback(rest)
-    }};
-}
-
 /// Returns whether some byte is F0 to F7 (hexadecimal), where the fallback tests a single byte that
 /// is left.
 #[inline(always)]
@@ -60,7 +46,7 @@ fn lanes_four<F: Fn(&[u8]) -> bool>(value: &[u8], fallback: F) -> bool
     ensures { Finds (λ len. len ≡ 1) F.Fn fallback is_four
         → IsTrue result ↔ AnyIn is_four value.now }
 {
-    any_by_widths!(value, FourByteLead, fallback, 64, 32, 16, 8, 4, 2)
+    any_by_widths::<FourByteLead, F>(value, fallback)
 }
 
 /// Returns whether some byte is 00, or F0 to F7 (hexadecimal), where the fallback tests a single
@@ -71,7 +57,38 @@ fn lanes_null_four<F: Fn(&[u8]) -> bool>(value: &[u8], fallback: F) -> bool
     ensures { Finds (λ len. len ≡ 1) F.Fn fallback is_null_four
         → IsTrue result ↔ AnyIn is_null_four value.now }
 {
-    any_by_widths!(value, Either<Null, FourByteLead>, fallback, 64, 32, 16, 8, 4, 2)
+    any_by_widths::<Either<Null, FourByteLead>, F>(value, fallback)
+}
+
+/// Returns whether some byte is in a class: the chunks of each width are tested in turn, of what the
+/// wider ones leave, and the fallback tests a single byte that is left.
+#[inline(always)]
+fn any_by_widths<C, F: Fn(&[u8]) -> bool>(value: &[u8], fallback: F) -> bool
+where
+    C: InGroups<64> + InGroups<32> + InGroups<16> + InGroups<8> + InGroups<4> + InGroups<2>,
+    requires { MayTest (λ len. len ≡ 1) F.Fn fallback }
+    ensures { Finds (λ len. len ≡ 1) F.Fn fallback C.class
+        → IsTrue result ↔ AnyIn C.class value.now }
+{
+    let Some(rest) = left_by::<C, 64>(value) else {
+        return true;
+    };
+    let Some(rest) = left_by::<C, 32>(rest) else {
+        return true;
+    };
+    let Some(rest) = left_by::<C, 16>(rest) else {
+        return true;
+    };
+    let Some(rest) = left_by::<C, 8>(rest) else {
+        return true;
+    };
+    let Some(rest) = left_by::<C, 4>(rest) else {
+        return true;
+    };
+    let Some(rest) = left_by::<C, 2>(rest) else {
+        return true;
+    };
+    !rest.is_empty() && fallback(rest)
 }
 
 /// Returns what the chunks of a width leave, or none if a byte of theirs is in the class.

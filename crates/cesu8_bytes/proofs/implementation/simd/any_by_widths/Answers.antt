@@ -1,10 +1,9 @@
 use Rattle.std.proofs.Common.{◌≡◌, not, length, refl, sym, ap, ◌∙◌, arith, eqb-true, IsTrue}
 use Rattle.std.proofs.lemmas.Bool.{eqb-false}
 use mathlib.Core.Logic.Iff.{trans}
-use Rattle.cesu8_text.specs.Class.{is_null_four}
 use Rattle.cesu8_bytes.proofs.lists.Chunks.{nothing_left}
-use Rattle.cesu8_bytes.proofs.implementation.simd.lanes_null_four.Goals as goal
-use Rattle.cesu8_bytes.proofs.implementation.simd.lanes_null_four.Goals.{then-not-is_empty, else-not-is_empty}
+use Rattle.cesu8_bytes.proofs.implementation.simd.any_by_widths.Goals as goal
+use Rattle.cesu8_bytes.proofs.implementation.simd.any_by_widths.Goals.{then-not-is_empty, else-not-is_empty}
 
 pub returns-in_default-left_by-3 : goal.returns-in_default-left_by-3
 returns-in_default-left_by-3 g c _ =
@@ -35,5 +34,5 @@ returns g c finds =
       | else-not-is_empty w ↦ (
           let none = eqb-true _ _ (sym c.is_empty.ensures ∙ w.if-not-is_empty.false) in
           rw (w.result-is ∙ ap not w.if-not-is_empty.false)
-          (trans (nothing_left (λ b. IsTrue (is_null_four b)) rest.now none) (trans last left)))
+          (trans (nothing_left (λ b. IsTrue (g.C.Class.class b)) rest.now none) (trans last left)))
     ]
