@@ -1,5 +1,6 @@
--- These goals are also found with no answer. Where an edit of must-fail makes one false, a search for
--- its proof meets a limit, and tells nothing.
+-- The check proves these goals without an answer too. They have one for the edits in must-fail: if an
+-- edit makes such a goal false, a search for its proof stops at a limit and shows nothing, but an answer
+-- by hand is refused.
 use Rattle.cesu8_encode.proofs.make_room.Goals as goal
 
 pub returns-then-len-capacity-clause-full : goal.returns-then-len-capacity-clause-full
