@@ -1,0 +1,59 @@
+-- What two calls in a row read and wrote.
+use Rattle.std.proofs.Common.{◌≡◌, ℕ, ◌+◌, ◌<◌, ◌≤◌, List, [], ◌∷◌, ◌++◌, refl, sym, ap, ◌∙◌, arith, length, take, drop, append-nil, append_assoc, length-append}
+use Rattle.std.proofs.lemmas.Grind.{common_steps}
+use Rattle.std.proofs.Math.Seq.{take-add}
+use Rattle.simd_cesu8.specs.Text.{IsScalarValue, IsText}
+use Rattle.simd_cesu8.specs.Slices.{StandsAtFront}
+use Rattle.cesu8_stream.specs.Written.{IsWritten, Converts}
+
+-- A way of writing writes a concatenation as the concatenation of what it writes.
+abbrev pub Appends : (List ℕ → List ℕ) → Type 0
+Appends write = (s t : List ℕ) → write (s ++ t) ≡ write s ++ write t
+
+-- Two texts, joined, are a text.
+pub joined_text : (s t : List ℕ) → IsText s → IsText t → IsText (s ++ t)
+joined_text [] t is_text other = other
+joined_text (c ∷ s) t is_text other = (is_text.0, joined_text s t is_text.1 other)
+
+-- The bytes from one place on, and of these from another on.
+pub drop_more : (m n : ℕ) (bytes : List ℕ) → drop (m + n) bytes ≡ drop n (drop m bytes)
+drop_more m n bytes = grind (arith, common_steps)
+
+-- The text of what two calls read is what both read, joined.
+pub joined_written : (write : List ℕ → List ℕ) (m n : ℕ) (bytes s t : List ℕ) → Appends write →
+    IsWritten write (take m bytes) s → IsWritten write (take n (drop m bytes)) t →
+    IsWritten write (take (m + n) bytes) (s ++ t)
+joined_written write m n bytes s t append first second =
+    (joined_text s t first.0 second.0,
+    append s t ∙ (λ i. first.1 i ++ second.1 i) ∙ sym (take-add m n bytes))
+
+-- What two calls wrote stands at the front of the buffer, joined.
+pub joined_front : (a b : List ℕ) (w v : ℕ) (old mid new : List ℕ) → StandsAtFront a w old mid →
+    StandsAtFront b v (drop w mid) new → StandsAtFront (a ++ b) (w + v) old (take w mid ++ new)
+joined_front a b w v old mid new first second =
+    let before : take w mid ≡ a = ap (take w) first.1 ∙ rw (first.0) (grind (arith, common_steps)) in
+    let after : drop w mid ≡ drop w old = ap (drop w) first.1 ∙ rw (first.0) (grind (arith, common_steps)) in
+    (rw (first.0, second.0) (sym (length-append a b)),
+    rw (before, second.1, after, drop_more w v old) (sym (append_assoc a b (drop v (drop w old)))))
+
+-- Two calls in a row are one.
+pub joined : (from to : List ℕ → List ℕ) (bytes old mid new : List ℕ) (m w n v : ℕ) → Appends from → Appends to →
+    Converts from to bytes m w old mid → Converts from to (drop m bytes) n v (drop w mid) new →
+    Converts from to bytes (m + n) (w + v) old (take w mid ++ new)
+joined from to bytes old mid new m w n v append_from append_to first second = (
+  first.0 ++ second.0,
+  joined_written from m n bytes first.0 second.0 append_from first.1 second.1,
+  rw (append_to first.0 second.0) (joined_front (to first.0) (to second.0) w v old mid new first.2 second.2),
+)
+
+-- A call that reads nothing.
+pub nothing : (from to : List ℕ → List ℕ) (bytes old new : List ℕ) → from [] ≡ [] → to [] ≡ [] → new ≡ old →
+    Converts from to bytes 0 0 old new
+nothing from to bytes old new from_empty to_empty same =
+    ([], (tt, from_empty), (rw to_empty refl, rw (to_empty, same) refl))
+
+-- What was read is the whole input of another call, at whose front it stands.
+pub of_whole : (from to : List ℕ → List ℕ) (bytes part old new : List ℕ) (n w : ℕ) → part ≡ take n bytes →
+    (text : List ℕ) × IsWritten from part text × StandsAtFront (to text) w old new →
+    Converts from to bytes n w old new
+of_whole from to bytes part old new n w is found = (found.0, (found.1.0, found.1.1 ∙ is), found.2)

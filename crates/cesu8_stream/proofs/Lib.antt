@@ -1,0 +1,9 @@
+pub mod Characters
+pub mod Shapes
+pub mod Completions
+pub mod Utf8Completions
+pub mod Joined
+pub mod First
+pub mod Utf8
+pub mod States
+pub mod Pieces

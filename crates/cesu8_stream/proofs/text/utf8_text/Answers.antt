@@ -1,0 +1,5 @@
+use Rattle.simd_cesu8.proofs.StdUtf8.{not_utf8_of}
+use Rattle.cesu8_stream.proofs.text.utf8_text.Goals as goal
+
+pub returns-in-Err-clause-none : goal.returns-in-Err-clause-none
+returns-in-Err-clause-none c = not_utf8_of c.args.bytes.now c.in-Err.ensures

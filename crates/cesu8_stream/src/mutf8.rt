@@ -1,0 +1,53 @@
+//! The calls of the root, for Modified UTF-8 (MUTF-8) in place of CESU-8.
+
+ghost use Rattle.simd_cesu8.specs.Text.{utf8};
+ghost use Rattle.simd_cesu8.specs.Encoding.{Mutf8, encoding};
+ghost use Rattle.cesu8_stream.specs.Streams.{ConvertsPiece};
+
+use crate::conversion::{FromMutf8, ToMutf8};
+use crate::engine::convert;
+use crate::progress::Progress;
+
+/// Decodes a piece of MUTF-8 (Java's `DataInput`) strictly, and writes the UTF-8 of its text to the
+/// caller's buffer, as much as fits.
+///
+/// The state is `Malformed` if the bytes from `read` on begin with no encoded character, whatever
+/// follows them. Only the caller knows whether more bytes follow: if none do, `Incomplete` means
+/// that the input ends within a character. With a buffer of at least four bytes, `OutputFull` means
+/// that something was read. The call requests no memory.
+///
+/// ```rust
+/// use cesu8_stream::State;
+///
+/// let mut buf = [0xEE; 4];
+/// let progress = cesu8_stream::mutf8::decode_strict(b"a\xC0\x80\xC0", &mut buf);
+/// assert_eq!(rt; (progress.read, progress.written), (3, 2));
+/// assert_eq!(rt; progress.state, State::Incomplete);
+/// assert_eq!(rt; buf.as_slice(), b"a\0\xEE\xEE".as_slice());
+/// ```
+pub fn decode_strict(bytes: &[u8], buf: &mut [u8]) -> Progress
+    ensures { ConvertsPiece (encoding Mutf8) utf8 4 bytes.now result buf.old buf.new }
+{
+    convert::<FromMutf8>(bytes, buf)
+}
+
+/// Encodes a piece of UTF-8 to MUTF-8 (Java's `DataInput`), in the caller's buffer, as much as fits.
+///
+/// The state is `Malformed` if the bytes from `read` on begin with no character of UTF-8, whatever
+/// follows them. With a buffer of at least six bytes, `OutputFull` means that something was read.
+/// The call requests no memory.
+///
+/// ```rust
+/// use cesu8_stream::State;
+///
+/// let mut buf = [0xEE; 4];
+/// let progress = cesu8_stream::mutf8::encode(b"\0ab\0", &mut buf);
+/// assert_eq!(rt; (progress.read, progress.written), (3, 4));
+/// assert_eq!(rt; progress.state, State::OutputFull);
+/// assert_eq!(rt; buf.as_slice(), b"\xC0\x80ab".as_slice());
+/// ```
+pub fn encode(bytes: &[u8], buf: &mut [u8]) -> Progress
+    ensures { ConvertsPiece utf8 (encoding Mutf8) 6 bytes.now result buf.old buf.new }
+{
+    convert::<ToMutf8>(bytes, buf)
+}
