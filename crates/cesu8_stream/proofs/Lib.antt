@@ -7,3 +7,5 @@ pub mod First
 pub mod Utf8
 pub mod States
 pub mod Pieces
+pub mod LossyReadings
+pub mod InPieces

@@ -1,2 +1,4 @@
 pub mod Written
 pub mod Streams
+pub mod Lossy
+pub mod Laws

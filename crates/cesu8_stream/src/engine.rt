@@ -56,7 +56,7 @@ pub fn convert_rest<C: Conversion>(bytes: &[u8], buf: &mut [u8]) -> Progress
 
 /// Converts the whole characters of the input, if they are no longer than the buffer. It converts
 /// nothing if the bytes are ill-formed: then they are looked at twice.
-fn convert_window<C: Conversion>(bytes: &[u8], buf: &mut [u8]) -> Moved
+pub fn convert_window<C: Conversion>(bytes: &[u8], buf: &mut [u8]) -> Moved
     ensures moves { Converts C.from C.to bytes.now result.read result.written buf.old buf.new }
     ensures within { result.read ≤ length bytes.now }
 {

@@ -27,11 +27,15 @@
 
 ghost use Rattle.simd_cesu8.specs.Text.{utf8};
 ghost use Rattle.simd_cesu8.specs.Encoding.{Cesu8, encoding};
+ghost use Rattle.simd_cesu8.specs.Reading.{reading};
 ghost use Rattle.cesu8_stream.specs.Streams.{ConvertsPiece};
+ghost use Rattle.cesu8_stream.specs.Lossy.{DecodesPiece};
 
 mod completion;
 mod conversion;
 mod engine;
+pub mod laws;
+mod lossy;
 pub mod mutf8;
 mod progress;
 mod text;
@@ -39,6 +43,7 @@ mod window;
 
 use crate::conversion::{FromCesu8, ToCesu8};
 use crate::engine::convert;
+use crate::lossy::decode_lossy;
 pub use crate::progress::{Progress, State};
 
 /// Decodes a piece of CESU-8 (Unicode Technical Report 26) strictly, and writes the UTF-8 of its
@@ -62,6 +67,30 @@ pub fn decode_strict(bytes: &[u8], buf: &mut [u8]) -> Progress
     ensures { ConvertsPiece (encoding Cesu8) utf8 4 bytes.now result buf.old buf.new }
 {
     convert::<FromCesu8>(bytes, buf)
+}
+
+/// Decodes a piece of CESU-8 (Unicode Technical Report 26) that may be damaged, and writes to
+/// the caller's buffer, as much as fits: the UTF-8 of each encoded character, and U+FFFD for each byte
+/// in none.
+///
+/// `is_last` says that no more bytes follow. Otherwise a part of a character at the end is left for
+/// the next piece: the state is then `Incomplete`. It is never `Malformed`. With a buffer of at least
+/// four bytes, `OutputFull` means that something was read. The call requests no memory.
+///
+/// ```rust
+/// use cesu8_stream::State;
+///
+/// let mut buf = [0xEE; 8];
+/// let progress = cesu8_stream::decode_lossy_strict(b"a\xFF\xED\xA0", false, &mut buf);
+/// assert_eq!(rt; (progress.read, progress.written), (2, 4));
+/// assert_eq!(rt; progress.state, State::Incomplete);
+/// assert_eq!(rt; &buf[..5], b"a\xEF\xBF\xBD\xEE".as_slice());
+/// ```
+pub fn decode_lossy_strict(bytes: &[u8], is_last: bool, buf: &mut [u8]) -> Progress
+    ensures { DecodesPiece (encoding Cesu8) (reading Cesu8) is_last bytes.now
+        result buf.old buf.new }
+{
+    decode_lossy::<FromCesu8>(bytes, is_last, buf)
 }
 
 /// Encodes a piece of UTF-8 to CESU-8 (Unicode Technical Report 26), in the caller's buffer, as much

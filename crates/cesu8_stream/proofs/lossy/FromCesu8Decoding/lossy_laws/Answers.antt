@@ -1,0 +1,10 @@
+use Rattle.std.proofs.Common.{refl}
+use Rattle.simd_cesu8.specs.Encoding.{Cesu8}
+use Rattle.cesu8_stream.proofs.LossyReadings.{text_read, damage_read}
+use Rattle.cesu8_stream.proofs.lossy.FromCesu8Decoding.lossy_laws.Goals as goal
+
+pub returns-clause-text : goal.returns-clause-text
+returns-clause-text c = text_read c.around.ensures Cesu8
+
+pub returns-clause-damage : goal.returns-clause-damage
+returns-clause-damage c = damage_read c.split.ensures.parts c.places.ensures.text Cesu8
