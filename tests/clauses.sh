@@ -83,6 +83,7 @@ everything() {
     local file
     public_items simd_cesu8 '' lib.rt
     public_items java_text '' lib.rt
+    public_items cesu8_stream '' lib.rt
     for file in crates/cesu8_cli/src/*.rt; do
         [[ $file == */main.rt ]] || items cesu8_cli '' "${file##*/}"
     done
@@ -123,6 +124,9 @@ sources() {
     those simd_cesu8 mutf8:: | of_cesu8 | sort >"$scratch/mutf8"
     those simd_cesu8 '' | of_encodings "$scratch/mutf8" >"$scratch/root"
     same 'the calls of the root and of mutf8' "$scratch/root" "$scratch/mutf8"
+    those cesu8_stream mutf8:: | of_cesu8 | sort >"$scratch/stream_mutf8"
+    those cesu8_stream '' | of_encodings "$scratch/stream_mutf8" >"$scratch/stream"
+    same 'the streams of the two encodings' "$scratch/stream" "$scratch/stream_mutf8"
     those simd_cesu8 implementation::simd:: >"$scratch/simd"
     for kernel in $(told '!fn' | sed -n 's,^simd_cesu8 implementation::\([a-z]*\)::.*,\1,p' |
         sort -u); do
@@ -167,7 +171,7 @@ texts() {
     awk -F '\t' '$3 !~ /^!(fn|item)$/ { print $4 }' "$scratch/items" >"$scratch/cited"
     mapfile -t files < <(sort -u "$scratch/files")
     awk -f tests/definitions.awk "$scratch/cited" "${files[@]}" \
-        crates/{cesu8_text,cesu8_bytes,simd_cesu8,java_text,cesu8_cli,cesu8_static}/specs/*.antt |
+        crates/{cesu8_text,cesu8_bytes,simd_cesu8,java_text,cesu8_stream,cesu8_cli,cesu8_static}/specs/*.antt |
         sed 's,^crates/\([a-z0-9_]*\)/\([^\t]*\)\t,\1 \2: ,'
 }
 

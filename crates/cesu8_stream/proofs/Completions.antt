@@ -1,15 +1,15 @@
 -- A part of a character is completed by the bytes of a fixed one.
-use Rattle.std.proofs.Common.{◌≡◌, ℕ, ◌+◌, ◌-◌, ◌*◌, ◌/◌, ◌%◌, ◌<◌, ◌≤◌, ◌⊎◌, List, [], ◌∷◌, ◌++◌, refl, sym, ap, ◌∙◌, subst, inl, inr, arith, length, drop, take, append-nil, append_assoc, length-append}
+use Rattle.std.proofs.Common.{◌≡◌, ℕ, ◌+◌, ◌*◌, ◌<◌, ◌≤◌, ◌⊎◌, List, [], ◌∷◌, ◌++◌, refl, sym, ap, ◌∙◌, subst, inl, inr, arith, length, drop, take, length-append}
 use Rattle.std.proofs.lemmas.Bool.{cases_eq, cases_lt}
 use Rattle.std.proofs.lemmas.Grind.{common_steps}
 use Rattle.std.proofs.lemmas.List.{take-append-drop}
 use Rattle.std.proofs.lemmas.Bool.Decides.{nat_tests}
-use Rattle.simd_cesu8.specs.Text.{IsScalarValue, utf8}
+use Rattle.simd_cesu8.specs.Text.{IsScalarValue}
 use Rattle.simd_cesu8.specs.Encoding.{Flavor, Cesu8, Mutf8, short_form, encoding}
 use Rattle.cesu8_stream.specs.Written.{IsWritten, Begins, BeginsNone, MayBegin}
 use Rattle.cesu8_stream.proofs.Joined.{Appends}
 use Rattle.cesu8_stream.proofs.First.{text_begins, begins_longer}
-use Rattle.cesu8_stream.proofs.Shapes.{IsTwo, IsThree, IsPair, IsFour, Shape, one, two, three, pair, shape, encoding_one, encoding_two, encoding_three, encoding_pair, utf8_one, utf8_two, utf8_three, utf8_four}
+use Rattle.cesu8_stream.proofs.Shapes.{IsTwo, IsThree, IsPair, Shape, one, two, three, pair, shape, encoding_one, encoding_two, encoding_three, encoding_pair}
 
 -- The fixed characters: U+10000 and U+0000, and in UTF-8 U+100000 and U+20000.
 abbrev pub pair_bytes : List ℕ
@@ -71,7 +71,10 @@ two_completes f c x y scalar digits (a ∷ b ∷ bytes) more rest part same =
     let first = cons_parts a (0xC0 + x) (b ∷ bytes ++ more) ((0x80 + y) ∷ rest) same in
     let second = cons_parts b (0x80 + y) (bytes ++ more) rest first.1 in
     absurd (part.none_begins c (record {
-      scalar = scalar; rest = bytes; bytes_are = rw (encoding_two f c x y digits, first.0, second.0) refl }))
+      scalar = scalar;
+      rest = bytes;
+      bytes_are = rw (encoding_two f c x y digits, first.0, second.0) refl;
+    }))
 
 -- One of three bytes is its first one or two bytes.
 three_completes : (f : Flavor) (c x y z : ℕ) → IsScalarValue c → IsThree c x y z → (bytes more rest : List ℕ) → IsPart f bytes →
@@ -100,7 +103,10 @@ three_completes f c x y z scalar digits (a ∷ b ∷ d ∷ bytes) more rest part
     let second = cons_parts b (0x80 + y) (d ∷ bytes ++ more) ((0x80 + z) ∷ rest) first.1 in
     let third = cons_parts d (0x80 + z) (bytes ++ more) rest second.1 in
     absurd (part.none_begins c (record {
-      scalar = scalar; rest = bytes; bytes_are = rw (encoding_three f c x y z digits, first.0, second.0, third.0) refl }))
+      scalar = scalar;
+      rest = bytes;
+      bytes_are = rw (encoding_three f c x y z digits, first.0, second.0, third.0) refl;
+    }))
 
 -- One of a surrogate pair is its first one to five bytes.
 pair_completes : (f : Flavor) (c w x y z : ℕ) → IsScalarValue c → IsPair c w x y z → (bytes more rest : List ℕ) → IsPart f bytes →
@@ -140,13 +146,21 @@ pair_completes f c w x y z scalar digits (a1 ∷ a2 ∷ a3 ∷ a4 ∷ a5 ∷ a6 
     let e5 = cons_parts a5 (0xB0 + y) _ _ e4.1 in
     let e6 = cons_parts a6 (0x80 + z) _ _ e5.1 in
     absurd (part.none_begins c (record {
-      scalar = scalar; rest = bytes;
-      bytes_are = rw (encoding_pair f c w x y z digits, e1.0, e2.0, e3.0, e4.0, e5.0, e6.0) refl }))
+      scalar = scalar;
+      rest = bytes;
+      bytes_are = rw (encoding_pair f c w x y z digits, e1.0, e2.0, e3.0, e4.0, e5.0, e6.0) refl;
+    }))
 
 -- U+0000 begins C0 80 in MUTF-8.
 null_begins : (rest : List ℕ) → BeginsSome (encoding Mutf8) (0xC0 ∷ 0x80 ∷ rest)
-null_begins rest = (0, record {
-  scalar = inl (omega arith); rest = rest; bytes_are = rw (encoding_one Mutf8 0 (omega arith)) refl })
+null_begins rest = (
+  0,
+  record {
+    scalar = inl (omega arith);
+    rest = rest;
+    bytes_are = rw (encoding_one Mutf8 0 (omega arith)) refl;
+  },
+)
 
 -- A part of a character below 80 (hexadecimal) is C0 in MUTF-8.
 one_completes : (f : Flavor) (c : ℕ) → IsScalarValue c → c < 0x80 → (bytes more rest : List ℕ) → IsPart f bytes →
@@ -155,7 +169,10 @@ one_completes f c scalar low [] more rest part same = absurd (let h = part.some 
 one_completes Cesu8 c scalar low (a ∷ bytes) more rest part same =
     let first = cons_parts a c (bytes ++ more) rest same in
     absurd (part.none_begins c (record {
-      scalar = scalar; rest = bytes; bytes_are = rw (encoding_one Cesu8 c low, first.0) refl }))
+      scalar = scalar;
+      rest = bytes;
+      bytes_are = rw (encoding_one Cesu8 c low, first.0) refl;
+    }))
 one_completes Mutf8 c scalar low (a ∷ bytes) more rest part same = by bytes part (cases_eq c 0) same
   where
     by : (bytes : List ℕ) → IsPart Mutf8 (a ∷ bytes) → (c ≡ 0) ⊎ (c ≡ 0 → ⊥) → (a ∷ bytes) ++ more ≡ short_form Mutf8 c ++ rest →
@@ -167,13 +184,18 @@ one_completes Mutf8 c scalar low (a ∷ bytes) more rest part same = by bytes pa
         let first = cons_parts a 0xC0 (b ∷ bytes ++ more) (0x80 ∷ rest) (rw null at same) in
         let second = cons_parts b 0x80 (bytes ++ more) rest first.1 in
         absurd (part.none_begins 0 (record {
-          scalar = inl (omega arith); rest = bytes;
-          bytes_are = rw (encoding_one Mutf8 0 (omega arith), first.0, second.0) refl }))
+          scalar = inl (omega arith);
+          rest = bytes;
+          bytes_are = rw (encoding_one Mutf8 0 (omega arith), first.0, second.0) refl;
+        }))
     by bytes part (inr other) same =
         let short : short_form Mutf8 c ≡ c ∷ [] = grind (arith, nat_tests) in
         let first = cons_parts a c (bytes ++ more) rest (same ∙ ap (λ bs. bs ++ rest) short) in
         absurd (part.none_begins c (record {
-          scalar = scalar; rest = bytes; bytes_are = rw (encoding_one Mutf8 c low, short, first.0) refl }))
+          scalar = scalar;
+          rest = bytes;
+          bytes_are = rw (encoding_one Mutf8 c low, short, first.0) refl;
+        }))
 
 -- A part of a character is completed by U+10000, and in MUTF-8 by that or by U+0000.
 pub part_completes : (f : Flavor) (bytes more : List ℕ) (c : ℕ) → 0 < length bytes → BeginsNone (encoding f) bytes →
@@ -184,8 +206,10 @@ part_completes f bytes more c some none begins = by (shape c begins.scalar)
   where
     part : IsPart f bytes
     part = record { some = some; none_begins = none }
+
     along : (e : List ℕ) → encoding f (c ∷ []) ≡ e → bytes ++ more ≡ e ++ begins.rest
     along e is = begins.bytes_are ∙ ap (λ bs. bs ++ begins.rest) is
+
     by : Shape c →
         BeginsSome (encoding f) (with_pair bytes) ⊎ ((f ≡ Mutf8) × BeginsSome (encoding f) (with_null bytes))
     by (one low) = inr (one_completes f c begins.scalar low bytes more begins.rest part (along _ (encoding_one f c low)))
@@ -227,6 +251,7 @@ begins_found write bytes tail whole n test some = by (cases_lt 0 n)
         let long = test.nonempty in
         let is_zero : n ≡ 0 = omega arith in
         subst (λ k. BeginsNone write (drop k whole)) is_zero (test.stops (omega arith))
+
     by : (0 < n) ⊎ (n ≤ 0) → 0 < n
     by (inl found) = found
     by (inr zero) =

@@ -1,10 +1,9 @@
 -- The first character of bytes.
-use Rattle.std.proofs.Common.{◌≡◌, ℕ, min, ◌+◌, ◌-◌, ◌<◌, ◌≤◌, ◌⊎◌, List, [], ◌∷◌, ◌++◌, refl, sym, ap, ◌∙◌, subst, inl, inr, arith, length, take, drop, append-nil, append_assoc, length-append}
+use Rattle.std.proofs.Common.{◌≡◌, ℕ, min, ◌+◌, ◌-◌, ◌<◌, ◌≤◌, ◌⊎◌, List, [], ◌∷◌, ◌++◌, sym, ap, ◌∙◌, subst, inl, inr, arith, length, take, drop, append_assoc, length-append}
 use Rattle.std.proofs.lemmas.Grind.{common_steps}
 use Rattle.std.proofs.Math.Seq.{take-append-add}
 use Rattle.std.proofs.lemmas.Bool.{cases_lt}
-use Rattle.simd_cesu8.specs.Text.{IsScalarValue, IsText}
-use Rattle.cesu8_stream.specs.Written.{IsWritten, Begins, BeginsNone, NeverBegins, MayBegin, IsPartial}
+use Rattle.cesu8_stream.specs.Written.{IsWritten, Begins, BeginsNone, NeverBegins}
 use Rattle.cesu8_stream.proofs.Joined.{Appends}
 
 -- A character has at least one byte, and at most six.
@@ -36,7 +35,7 @@ begins_front write bytes n c b enough =
       scalar = b.scalar;
       rest = take (n - len) b.rest;
       bytes_are = ap (take n) b.bytes_are ∙ ap (λ k. take k (write (c ∷ []) ++ b.rest)) more
-        ∙ take-append-add (write (c ∷ [])) b.rest (n - len);
+          ∙ take-append-add (write (c ∷ [])) b.rest (n - len);
     }
 
 -- and if more bytes follow.
@@ -69,12 +68,14 @@ pub text_begins : (write : List ℕ → List ℕ) (bytes text : List ℕ) → Ap
     IsWritten write bytes text → (c : ℕ) × Begins write bytes c
 text_begins write bytes [] append empty some written =
     absurd (let e : bytes ≡ [] = sym written.1 ∙ empty in let n = ap length e in omega (arith, n))
-text_begins write bytes (c ∷ text) append empty some written =
-    (c, record {
-      scalar = written.0.0;
-      rest = write text;
-      bytes_are = sym written.1 ∙ append (c ∷ []) text;
-    })
+text_begins write bytes (c ∷ text) append empty some written = (
+  c,
+  record {
+    scalar = written.0.0;
+    rest = write text;
+    bytes_are = sym written.1 ∙ append (c ∷ []) text;
+  },
+)
 
 -- The shortest text at the front of bytes is the first character: if another character's text does
 -- not fit, neither does it.
@@ -89,6 +90,7 @@ shortest_is_first from to bytes n c room append sizes empty some one least text 
   where
     len : ℕ
     len = length (from (c ∷ []))
+
     by_first : n ≤ len → (d : ℕ) → Begins from (take n bytes) d → room < length (to (c ∷ []))
     by_first longer d front =
         let whole : Begins from bytes d =
@@ -98,6 +100,7 @@ shortest_is_first from to bytes n c room append sizes empty some one least text 
         let few : length (take n bytes) ≤ n = grind (arith, common_steps) in
         let exact : n ≡ len = omega arith in
         long (c ∷ []) ((b.scalar, tt), sym (ap (λ k. take k bytes) exact ∙ first_bytes from bytes c b))
+
     by : (len < n) ⊎ (n ≤ len) → room < length (to (c ∷ []))
     by (inl shorter) = absurd (least len (sizes.some c) shorter c (begins_front from bytes len c b (omega arith)))
     by (inr longer) =

@@ -2,7 +2,7 @@
 use Rattle.std.proofs.Common.{◌≡◌, ℕ, List, [], ◌∷◌, ◌++◌, refl, sym, ap, ◌∙◌, take, drop, append-nil, append_assoc}
 use Rattle.std.proofs.lemmas.List.{take-append-drop}
 use Rattle.simd_cesu8.specs.Text.{IsText, utf8}
-use Rattle.simd_cesu8.specs.Encoding.{Flavor, encoding}
+use Rattle.simd_cesu8.specs.Encoding.{encoding}
 use Rattle.simd_cesu8.specs.Reading.{reading}
 use Rattle.simd_cesu8.specs.Laws.{Concat}
 use Rattle.cesu8_stream.specs.Laws.{Call, pieces, texts, outputs, ConvertInTurn, ReadInTurn, StrictInPieces, EncodedInPieces, LossyInPieces}

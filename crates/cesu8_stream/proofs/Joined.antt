@@ -1,8 +1,8 @@
 -- What two calls in a row read and wrote.
-use Rattle.std.proofs.Common.{◌≡◌, ℕ, ◌+◌, ◌<◌, ◌≤◌, List, [], ◌∷◌, ◌++◌, refl, sym, ap, ◌∙◌, arith, length, take, drop, append-nil, append_assoc, length-append}
+use Rattle.std.proofs.Common.{◌≡◌, ℕ, ◌+◌, List, [], ◌∷◌, ◌++◌, refl, sym, ap, ◌∙◌, arith, take, drop, append_assoc, length-append}
 use Rattle.std.proofs.lemmas.Grind.{common_steps}
 use Rattle.std.proofs.Math.Seq.{take-add}
-use Rattle.simd_cesu8.specs.Text.{IsScalarValue, IsText}
+use Rattle.simd_cesu8.specs.Text.{IsText}
 use Rattle.simd_cesu8.specs.Slices.{StandsAtFront}
 use Rattle.cesu8_stream.specs.Written.{IsWritten, Converts}
 
@@ -23,18 +23,20 @@ drop_more m n bytes = grind (arith, common_steps)
 pub joined_written : (write : List ℕ → List ℕ) (m n : ℕ) (bytes s t : List ℕ) → Appends write →
     IsWritten write (take m bytes) s → IsWritten write (take n (drop m bytes)) t →
     IsWritten write (take (m + n) bytes) (s ++ t)
-joined_written write m n bytes s t append first second =
-    (joined_text s t first.0 second.0,
-    append s t ∙ (λ i. first.1 i ++ second.1 i) ∙ sym (take-add m n bytes))
+joined_written write m n bytes s t append first second = (
+  joined_text s t first.0 second.0,
+  append s t ∙ (λ i. first.1 i ++ second.1 i) ∙ sym (take-add m n bytes),
+)
 
 -- What two calls wrote stands at the front of the buffer, joined.
 pub joined_front : (a b : List ℕ) (w v : ℕ) (old mid new : List ℕ) → StandsAtFront a w old mid →
     StandsAtFront b v (drop w mid) new → StandsAtFront (a ++ b) (w + v) old (take w mid ++ new)
 joined_front a b w v old mid new first second =
     let before : take w mid ≡ a = ap (take w) first.1 ∙ rw (first.0) (grind (arith, common_steps)) in
-    let after : drop w mid ≡ drop w old = ap (drop w) first.1 ∙ rw (first.0) (grind (arith, common_steps)) in
-    (rw (first.0, second.0) (sym (length-append a b)),
-    rw (before, second.1, after, drop_more w v old) (sym (append_assoc a b (drop v (drop w old)))))
+    let after : drop w mid ≡ drop w old = ap (drop w) first.1 ∙ rw (first.0) (grind (arith, common_steps)) in (
+      rw (first.0, second.0) (sym (length-append a b)),
+      rw (before, second.1, after, drop_more w v old) (sym (append_assoc a b (drop v (drop w old)))),
+    )
 
 -- Two calls in a row are one.
 pub joined : (from to : List ℕ → List ℕ) (bytes old mid new : List ℕ) (m w n v : ℕ) → Appends from → Appends to →

@@ -1,23 +1,21 @@
 -- What the loop of the lossy decoder has read, step by step.
-use borrow.Rule.Slice.PartMut.{put_mid}
 use Rattle.std.proofs.Common.{◌≡◌, ℕ, ◌+◌, ◌-◌, ◌<◌, ◌≤◌, ◌⊎◌, ◌↔◌, List, [], ◌∷◌, ◌++◌, Bool, true, false, refl, sym, ap, ◌∙◌, subst, inl, inr, arith, length, take, drop, append-nil, append_assoc, length-append}
 use Rattle.std.proofs.lemmas.Grind.{common_steps}
 use Rattle.std.proofs.lemmas.Bool.{cases_lt}
 use Rattle.std.proofs.lemmas.List.{take-append-drop}
-use Rattle.simd_cesu8.specs.Text.{IsScalarValue, IsText, utf8_of, utf8}
+use Rattle.simd_cesu8.specs.Text.{IsText, utf8_of, utf8}
 use Rattle.simd_cesu8.specs.Encoding.{Flavor, encoding}
 use Rattle.simd_cesu8.specs.Reading.{reading}
-use Rattle.simd_cesu8.specs.Cutting.{Piece, Replaced}
+use Rattle.simd_cesu8.specs.Cutting.{Replaced}
 use Rattle.simd_cesu8.specs.Laws.{Around, Split, Places}
-use Rattle.simd_cesu8.specs.Slices.{StandsAtFront}
-use Rattle.cesu8_stream.specs.Written.{IsWritten, Begins, BeginsNone, IsPartial, Converts, NeverBegins, BeginsLonger}
+use Rattle.cesu8_stream.specs.Written.{BeginsNone, IsPartial, Converts, NeverBegins, BeginsLonger}
 use Rattle.cesu8_stream.specs.Streams.{ConvertsPiece}
 use Rattle.cesu8_stream.specs.Lossy.{MayFollow, ReadsOn, StaysForNext, IsReplaced, NextIsLonger, is_damage, DecodesPiece}
 use Rattle.cesu8_stream.specs.declared.progress.Progress.{Progress}
 use Rattle.cesu8_stream.specs.declared.progress.State.{State}
 use Rattle.cesu8_stream.specs.declared.progress.State.TheVariants.{InputEmpty, Incomplete, OutputFull, Malformed}
 use Rattle.cesu8_stream.proofs.Characters.{utf8_few, encoding_empty}
-use Rattle.cesu8_stream.proofs.Joined.{Appends, joined_text, joined_front, drop_more}
+use Rattle.cesu8_stream.proofs.Joined.{joined_text, joined_front, drop_more}
 use Rattle.cesu8_stream.proofs.First.{begins_longer}
 use Rattle.cesu8_stream.proofs.Utf8.{utf8_appends}
 
@@ -39,10 +37,12 @@ damage_read split places f byte more none =
     places f (byte ∷ []) (Replaced byte ∷ []) ((tt, tt), refl)
     ((λ c rest b. alone c (record { scalar = b.scalar; rest = rest; bytes_are = b.bytes_are })), tt) in
     (split f (byte ∷ []) more).1 (λ i c stands low.
-      let first : i ≡ 0 = omega arith in
-      absurd (none c (record {
-        scalar = stands.1.scalar; rest = stands.0;
-        bytes_are = ap (λ k. drop k (byte ∷ more)) (sym first) ∙ stands.1.bytes_are })))
+    let first : i ≡ 0 = omega arith in
+    absurd (none c (record {
+      scalar = stands.1.scalar;
+      rest = stands.0;
+      bytes_are = ap (λ k. drop k (byte ∷ more)) (sym first) ∙ stands.1.bytes_are;
+    })))
     ∙ ap (λ bs. bs ++ reading f more) (sym mark)
 
 -- What is known of a lossy reading.
@@ -58,10 +58,10 @@ converted_on from reading is_last bytes old new n w facts moves = (
   moves.1.0,
   moves.2,
   (λ more may.
-    let whole : bytes ++ more ≡ from moves.0 ++ (drop n bytes ++ more) =
-    ap (λ bs. bs ++ more) (sym (take-append-drop n bytes)) ∙ append_assoc (take n bytes) (drop n bytes) more
-    ∙ ap (λ bs. bs ++ (drop n bytes ++ more)) (sym moves.1.1) in
-    ap reading whole ∙ facts.text moves.0 (drop n bytes ++ more) moves.1.0),
+      let whole : bytes ++ more ≡ from moves.0 ++ (drop n bytes ++ more) =
+      ap (λ bs. bs ++ more) (sym (take-append-drop n bytes)) ∙ append_assoc (take n bytes) (drop n bytes) more
+      ∙ ap (λ bs. bs ++ (drop n bytes ++ more)) (sym moves.1.1) in
+      ap reading whole ∙ facts.text moves.0 (drop n bytes ++ more) moves.1.0),
 )
 
 -- Two steps in a row are one.
@@ -73,9 +73,9 @@ read_on reading is_last bytes old mid new m w n v first second = (
   joined_text first.0 second.0 first.1 second.1,
   rw (utf8_appends first.0 second.0) (joined_front (utf8 first.0) (utf8 second.0) w v old mid new first.2 second.2),
   (λ more may.
-    first.3 more may ∙ ap (λ bs. first.0 ++ bs) (second.3 more may)
-    ∙ sym (append_assoc first.0 second.0 (reading (drop n (drop m bytes) ++ more)))
-    ∙ ap (λ bs. (first.0 ++ second.0) ++ reading (bs ++ more)) (sym (drop_more m n bytes))),
+      first.3 more may ∙ ap (λ bs. first.0 ++ bs) (second.3 more may)
+      ∙ sym (append_assoc first.0 second.0 (reading (drop n (drop m bytes) ++ more)))
+      ∙ ap (λ bs. (first.0 ++ second.0) ++ reading (bs ++ more)) (sym (drop_more m n bytes))),
 )
 
 -- U+FFFD in UTF-8.
@@ -133,6 +133,7 @@ kept_full from is_last rest room state left kept = ((λ s. inl (left.output_full
         absurd (replaced.none_stays ((kept_incomplete from is_last rest room state left kept).0 s))
     by replaced (inr (inr (inl s))) = s
     by replaced (inr (inr (inr s))) = absurd (kept_malformed is_last state kept s)
+
     back : NextIsLonger from is_last rest room → state ≡ OutputFull
     back (inl longer) = left.output_full.1 longer
     back (inr replaced) = by replaced.0 (which state)
@@ -157,12 +158,12 @@ pub is_replaced : (from : List ℕ → List ℕ) (is_last : Bool) (rest : List �
     IsLeft from rest room state → is_damage state is_last ≡ true → IsReplaced from is_last rest
 is_replaced from is_last rest room state left damage = record {
   nonempty = (λ empty.
-    absurd (let e = subst (λ st. is_damage st is_last ≡ true) (left.input_empty.1 empty) damage in cc));
+      absurd (let e = subst (λ st. is_damage st is_last ≡ true) (left.input_empty.1 empty) damage in cc));
   none_begins = subst (λ bs. BeginsNone from bs) (append-nil rest)
-    (never_follows from is_last rest room state left damage [] (λ _. refl));
+      (never_follows from is_last rest room state left damage [] (λ _. refl));
   none_stays = (λ stays.
-    absurd (let e = subst (λ st. is_damage st is_last ≡ true) (left.incomplete.1 stays.1) damage in
-    let is_false = stays.0 in cc));
+      absurd (let e = subst (λ st. is_damage st is_last ≡ true) (left.incomplete.1 stays.1) damage in
+      let is_false = stays.0 in cc));
 }
 
 -- What a strict call on the rest says, of the whole input.

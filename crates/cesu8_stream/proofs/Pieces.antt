@@ -1,17 +1,15 @@
 -- What the loops of the engine convert, step by step.
 use borrow.Rule.Slice.PartMut.{put_mid}
-use Rattle.std.proofs.Common.{◌≡◌, ℕ, ◌+◌, ◌-◌, ◌<◌, ◌≤◌, ◌⊎◌, ◌↔◌, List, [], ◌∷◌, ◌++◌, refl, sym, ap, ◌∙◌, subst, inl, inr, arith, length, take, drop, append-nil}
+use Rattle.std.proofs.Common.{◌≡◌, ℕ, ◌+◌, ◌-◌, ◌<◌, ◌≤◌, ◌⊎◌, List, [], ◌∷◌, ◌++◌, refl, sym, ap, ◌∙◌, inl, inr, arith, length, take, drop}
 use Rattle.std.proofs.lemmas.Grind.{common_steps}
 use Rattle.std.proofs.lemmas.Bool.{cases_lt}
-use Rattle.std.proofs.lemmas.List.{take-append-drop}
-use Rattle.simd_cesu8.specs.Text.{IsText}
-use Rattle.cesu8_stream.specs.Written.{IsWritten, Begins, Converts, BeginsLonger}
+use Rattle.cesu8_stream.specs.Written.{Begins, Converts}
 use Rattle.cesu8_stream.specs.Streams.{IsStateOf, ConvertsPiece}
 use Rattle.cesu8_stream.specs.declared.progress.Progress.{Progress}
 use Rattle.cesu8_stream.specs.declared.progress.State.{State}
-use Rattle.cesu8_stream.specs.declared.progress.State.TheVariants.{InputEmpty, Incomplete, OutputFull, Malformed}
+use Rattle.cesu8_stream.specs.declared.progress.State.TheVariants.{OutputFull}
 use Rattle.cesu8_stream.proofs.Joined.{Appends, joined, drop_more}
-use Rattle.cesu8_stream.proofs.First.{Sizes, text_begins, first_length}
+use Rattle.cesu8_stream.proofs.First.{Sizes}
 
 -- What is known of a conversion.
 pub record IsConversion (from to : List ℕ → List ℕ) (widest : ℕ) : Type 0 where

@@ -4,7 +4,7 @@ use Rattle.std.proofs.Common.{◌≡◌, ℕ, ◌+◌, ◌-◌, ◌*◌, ◌/◌
 use Rattle.std.proofs.lemmas.Bool.{cases_lt}
 use Rattle.simd_cesu8.specs.Text.{IsScalarValue, utf8_of, utf8}
 use Rattle.simd_cesu8.specs.Utf16.{units_of}
-use Rattle.simd_cesu8.specs.Encoding.{Flavor, Mutf8, short_form, form, encoding}
+use Rattle.simd_cesu8.specs.Encoding.{Flavor, short_form, form, encoding}
 
 -- Of two bytes, of three, and a surrogate pair.
 pub record IsTwo (c x y : ℕ) : Type 0 where

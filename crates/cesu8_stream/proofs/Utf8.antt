@@ -1,10 +1,10 @@
 -- What the tests for UTF-8 say of text.
-use Rattle.std.proofs.Common.{◌≡◌, ℕ, ◌+◌, ◌<◌, ◌≤◌, List, [], ◌∷◌, ◌++◌, refl, sym, ap, ◌∙◌, arith, length, take, drop}
+use Rattle.std.proofs.Common.{◌≡◌, ℕ, ◌+◌, List, [], ◌∷◌, ◌++◌, sym, ap, ◌∙◌, arith, length, take, drop}
 use Rattle.std.proofs.lemmas.Grind.{flat_map-append}
-use Rattle.std.specs.Str.{chars, IsUtf8, IsValidUpTo}
-use Rattle.simd_cesu8.specs.Text.{IsText, utf8_of, utf8}
+use Rattle.std.specs.Str.{chars, IsValidUpTo}
+use Rattle.simd_cesu8.specs.Text.{utf8_of, utf8}
 use Rattle.simd_cesu8.proofs.StdUtf8.{IsUtf8Of_chars, std_utf8, chars_utf8}
-use Rattle.cesu8_stream.specs.Written.{IsWritten, Begins, BeginsNone}
+use Rattle.cesu8_stream.specs.Written.{IsWritten, BeginsNone}
 use Rattle.cesu8_stream.proofs.Joined.{Appends, joined_written}
 use Rattle.cesu8_stream.proofs.First.{first_bytes}
 use Rattle.cesu8_stream.proofs.Characters.{utf8_some}

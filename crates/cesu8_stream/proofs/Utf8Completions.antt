@@ -52,7 +52,10 @@ one_completes : (c : ℕ) → IsScalarValue c → c < 0x80 → (bytes more rest 
 one_completes c scalar low [] more rest part same = absurd (let h = part.some in omega arith)
 one_completes c scalar low (a ∷ bytes) more rest part same =
     absurd (part.none_begins c (record {
-      scalar = scalar; rest = bytes; bytes_are = rw (utf8_one c low, (cons_parts a c (bytes ++ more) rest same).0) refl }))
+      scalar = scalar;
+      rest = bytes;
+      bytes_are = rw (utf8_one c low, (cons_parts a c (bytes ++ more) rest same).0) refl;
+    }))
 
 -- A part of a character of two bytes is its first byte.
 two_completes : (c x y : ℕ) → IsScalarValue c → IsTwo c x y → (bytes more rest : List ℕ) → IsPart bytes →
@@ -65,7 +68,10 @@ two_completes c x y scalar digits (a ∷ b ∷ bytes) more rest part same =
     let first = cons_parts a (0xC0 + x) (b ∷ bytes ++ more) ((0x80 + y) ∷ rest) same in
     let second = cons_parts b (0x80 + y) (bytes ++ more) rest first.1 in
     absurd (part.none_begins c (record {
-      scalar = scalar; rest = bytes; bytes_are = rw (utf8_two c x y digits, first.0, second.0) refl }))
+      scalar = scalar;
+      rest = bytes;
+      bytes_are = rw (utf8_two c x y digits, first.0, second.0) refl;
+    }))
 
 -- One of three bytes is its first one or two bytes.
 three_completes : (c x y z : ℕ) → IsScalarValue c → IsThree c x y z → (bytes more rest : List ℕ) → IsPart bytes →
@@ -75,6 +81,7 @@ three_completes c x y z scalar digits (a ∷ []) more rest part same = by (cases
   where
     first : a ≡ 0xE0 + x
     first = (cons_parts a (0xE0 + x) more ((0x80 + y) ∷ (0x80 + z) ∷ rest) same).0
+
     by : (x ≡ 0) ⊎ (x ≡ 0 → ⊥) → Completes (a ∷ [])
     by (inl zero) =
         inr (rw (first, zero)
@@ -96,7 +103,10 @@ three_completes c x y z scalar digits (a ∷ b ∷ d ∷ bytes) more rest part s
     let second = cons_parts b (0x80 + y) (d ∷ bytes ++ more) ((0x80 + z) ∷ rest) first.1 in
     let third = cons_parts d (0x80 + z) (bytes ++ more) rest second.1 in
     absurd (part.none_begins c (record {
-      scalar = scalar; rest = bytes; bytes_are = rw (utf8_three c x y z digits, first.0, second.0, third.0) refl }))
+      scalar = scalar;
+      rest = bytes;
+      bytes_are = rw (utf8_three c x y z digits, first.0, second.0, third.0) refl;
+    }))
 
 -- One of four bytes is its first one to three bytes.
 four_completes : (c w x y z : ℕ) → IsScalarValue c → IsFour c w x y z → (bytes more rest : List ℕ) → IsPart bytes →
@@ -106,6 +116,7 @@ four_completes c w x y z scalar digits (a ∷ []) more rest part same = by (case
   where
     first : a ≡ 0xF0 + w
     first = (cons_parts a (0xF0 + w) more ((0x80 + x) ∷ (0x80 + y) ∷ (0x80 + z) ∷ rest) same).0
+
     by : (w ≡ 0) ⊎ (w ≡ 0 → ⊥) → Completes (a ∷ [])
     by (inl zero) =
         inr (rw (first, zero)
@@ -142,8 +153,10 @@ four_completes c w x y z scalar digits (a ∷ b ∷ d ∷ e ∷ bytes) more rest
     let third = cons_parts d (0x80 + y) (e ∷ bytes ++ more) ((0x80 + z) ∷ rest) second.1 in
     let fourth = cons_parts e (0x80 + z) (bytes ++ more) rest third.1 in
     absurd (part.none_begins c (record {
-      scalar = scalar; rest = bytes;
-      bytes_are = rw (utf8_four c w x y z digits, first.0, second.0, third.0, fourth.0) refl }))
+      scalar = scalar;
+      rest = bytes;
+      bytes_are = rw (utf8_four c w x y z digits, first.0, second.0, third.0, fourth.0) refl;
+    }))
 
 -- A scalar value from 10000 (hexadecimal) on, by the digits of UTF-8.
 four : (c w x y z : ℕ) → IsPair c w x y z → IsFour c (c / 0x40000) (c / 0x1000 % 0x40) (c / 0x40 % 0x40) (c % 0x40)
@@ -157,8 +170,10 @@ utf8_part_completes bytes more c some none begins = by (shape c begins.scalar)
   where
     part : IsPart bytes
     part = record { some = some; none_begins = none }
+
     along : (e : List ℕ) → utf8 (c ∷ []) ≡ e → bytes ++ more ≡ e ++ begins.rest
     along e is = begins.bytes_are ∙ ap (λ bs. bs ++ begins.rest) is
+
     by : Shape c → Completes bytes
     by (one low) = one_completes c begins.scalar low bytes more begins.rest part (along _ (utf8_one c low))
     by (two x y digits) =

@@ -1,9 +1,5 @@
 -- What the calls of this crate promise.
-use Rattle.std.specs.Prelude.{◌≡◌, ℕ, ◌+◌, ◌-◌, ◌<◌, ◌≤◌, ◌↔◌, List, [], ◌∷◌, ◌++◌, Bool, true, false, length, drop}
-use Rattle.simd_cesu8.specs.Text.{utf8}
-use Rattle.simd_cesu8.specs.Encoding.{Flavor, encoding}
-use Rattle.simd_cesu8.specs.Reading.{mark, reading}
-use Rattle.simd_cesu8.specs.Slices.{StandsAtFront}
+use Rattle.std.specs.Prelude.{◌≡◌, ℕ, ◌+◌, ◌-◌, ◌<◌, ◌≤◌, ◌↔◌, List, [], length, drop}
 use Rattle.cesu8_stream.specs.Written.{Begins, Converts, NeverBegins, IsPartial, BeginsLonger}
 use Rattle.cesu8_stream.specs.declared.progress.Progress.{Progress}
 use Rattle.cesu8_stream.specs.declared.progress.State.{State}

@@ -1,6 +1,6 @@
-//! Whether bytes are a part of a character, from its first byte on. They are if the bytes of a fixed
-//! character, from there on, complete them: which bytes may follow depends on the first two alone,
-//! and the fixed characters have a second byte for each first one.
+//! Whether bytes are a part of a character, from its first byte on. They are if the bytes of a
+//! fixed character, from there on, complete them: which bytes may follow depends on the first two
+//! alone, and the fixed characters have a second byte for each first one.
 
 ghost use Rattle.std.specs.Prelude.{◌≡◌, ◌<◌, ◌≤◌, ◌↔◌, ◌++◌, length, drop, IsTrue};
 ghost use Rattle.simd_cesu8.specs.Text.{utf8};

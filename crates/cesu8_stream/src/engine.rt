@@ -1,6 +1,6 @@
 //! Converts as much of the input as fits in the buffer. `convert_window` takes in one call what the
-//! buffer surely holds. `convert_rest` repeats `step`, which converts some characters, until none is
-//! left that is whole and fits, and then says why it stopped.
+//! buffer surely holds. `convert_rest` repeats `step`, which converts some characters, until none
+//! is left that is whole and fits, and then says why it stopped.
 
 ghost use Rattle.std.specs.Prelude.{◌≡◌, ℕ, ◌<◌, ◌≤◌, List, ◌∷◌, [], length, take};
 ghost use Rattle.cesu8_stream.specs.Written.{IsWritten, Begins, BeginsNone, Converts};
@@ -131,8 +131,8 @@ fn first_len<C: Conversion>(bytes: &[u8]) -> usize
     0
 }
 
-/// Says of the bytes that are left why no more was converted. If a character begins them, it did not
-/// fit.
+/// Says of the bytes that are left why no more was converted. If a character begins them, it did
+/// not fit.
 fn state_of<C: Conversion>(rest: &[u8]) -> State
     ensures { IsStateOf C.from rest.now result }
 {

@@ -1,11 +1,11 @@
-//! The law of calls in a row, in both encodings. The function does nothing: its contract is the law,
-//! for every list of calls.
+//! The law of calls in a row, in both encodings. The function does nothing: its contract is the
+//! law, for every list of calls.
 
 ghost use Rattle.cesu8_stream.specs.Laws.{StrictInPieces, EncodedInPieces, LossyInPieces};
 
-/// However the input is cut and whatever buffers are given, the texts that the calls wrote, one after
-/// another, are the text of the pieces joined. Each call is given what the one before left, and then
-/// a piece, which may be empty. If nothing is left at the end, all was read.
+/// However the input is cut and whatever buffers are given, the texts that the calls wrote, one
+/// after another, are the text of the pieces joined. Each call is given what the one before left,
+/// and then a piece, which may be empty. If nothing is left at the end, all was read.
 pub fn in_pieces()
     ensures strict { StrictInPieces }
     ensures encoded { EncodedInPieces }

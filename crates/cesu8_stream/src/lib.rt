@@ -7,11 +7,11 @@
 //! | pieces of the encoding, perhaps damaged | a text in any case | [`decode_lossy_strict`] |
 //! | pieces of UTF-8 | its encoding | [`encode`] |
 //!
-//! The root's calls are for CESU-8, and those of [`mutf8`] for MUTF-8. A call reads as much as fits in
-//! the buffer, and returns how many bytes it read and wrote and why it stopped. Call again with the
-//! bytes from `read` on, and after `Incomplete` with more bytes behind these. However the input is
-//! cut and whatever buffers are given, what the calls write, one after another, is the text of the
-//! pieces joined: [`laws`] says so.
+//! The root's calls are for CESU-8, and those of [`mutf8`] for MUTF-8. A call reads as much as fits
+//! in the buffer, and returns how many bytes it read and wrote and why it stopped. Call again with
+//! the bytes from `read` on, and after `Incomplete` with more bytes behind these. However the input
+//! is cut and whatever buffers are given, what the calls write, one after another, is the text of
+//! the pieces joined: [`laws`] says so.
 //!
 //! ```rust
 //! use cesu8_stream::State;
@@ -69,13 +69,13 @@ pub fn decode_strict(bytes: &[u8], buf: &mut [u8]) -> Progress
     convert::<FromCesu8>(bytes, buf)
 }
 
-/// Decodes a piece of CESU-8 (Unicode Technical Report 26) that may be damaged, and writes to
-/// the caller's buffer, as much as fits: the UTF-8 of each encoded character, and U+FFFD for each byte
+/// Decodes a piece of CESU-8 (Unicode Technical Report 26) that may be damaged, and writes to the
+/// caller's buffer, as much as fits: the UTF-8 of each encoded character, and U+FFFD for each byte
 /// in none.
 ///
 /// `is_last` says that no more bytes follow. Otherwise a part of a character at the end is left for
-/// the next piece: the state is then `Incomplete`. It is never `Malformed`. With a buffer of at least
-/// four bytes, `OutputFull` means that something was read. The call requests no memory.
+/// the next piece: the state is then `Incomplete`. It is never `Malformed`. With a buffer of at
+/// least four bytes, `OutputFull` means that something was read. The call requests no memory.
 ///
 /// ```rust
 /// use cesu8_stream::State;
@@ -93,8 +93,8 @@ pub fn decode_lossy_strict(bytes: &[u8], is_last: bool, buf: &mut [u8]) -> Progr
     decode_lossy::<FromCesu8>(bytes, is_last, buf)
 }
 
-/// Encodes a piece of UTF-8 to CESU-8 (Unicode Technical Report 26), in the caller's buffer, as much
-/// as fits.
+/// Encodes a piece of UTF-8 to CESU-8 (Unicode Technical Report 26), in the caller's buffer, as
+/// much as fits.
 ///
 /// The state is `Malformed` if the bytes from `read` on begin with no character of UTF-8, whatever
 /// follows them. With a buffer of at least six bytes, `OutputFull` means that something was read.

@@ -1,6 +1,6 @@
-//! Decodes bytes that may be damaged: converts what is well-formed, writes U+FFFD for the byte at which
-//! that stops, and goes on after it. That is the lossy reading, since it replaces each byte that is in
-//! no encoded character, and only these.
+//! Decodes bytes that may be damaged: converts what is well-formed, writes U+FFFD for the byte at
+//! which that stops, and goes on after it. That is the lossy reading, since it replaces each byte
+//! that is in no encoded character, and only these.
 
 ghost use Rattle.std.specs.Prelude.{◌≡◌, ℕ, ◌<◌, ◌≤◌, ◌+◌, List, [], ◌∷◌, ◌++◌, true, false, length, drop};
 ghost use Rattle.simd_cesu8.specs.Text.{IsText, utf8};

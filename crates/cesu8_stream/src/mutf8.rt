@@ -34,13 +34,12 @@ pub fn decode_strict(bytes: &[u8], buf: &mut [u8]) -> Progress
     convert::<FromMutf8>(bytes, buf)
 }
 
-/// Decodes a piece of MUTF-8 (Java's `DataInput`) that may be damaged, and writes to
-/// the caller's buffer, as much as fits: the UTF-8 of each encoded character, and U+FFFD for each byte
-/// in none.
+/// Decodes a piece of MUTF-8 (Java's `DataInput`) that may be damaged, and writes to the caller's
+/// buffer, as much as fits: the UTF-8 of each encoded character, and U+FFFD for each byte in none.
 ///
 /// `is_last` says that no more bytes follow. Otherwise a part of a character at the end is left for
-/// the next piece: the state is then `Incomplete`. It is never `Malformed`. With a buffer of at least
-/// four bytes, `OutputFull` means that something was read. The call requests no memory.
+/// the next piece: the state is then `Incomplete`. It is never `Malformed`. With a buffer of at
+/// least four bytes, `OutputFull` means that something was read. The call requests no memory.
 ///
 /// ```rust
 /// use cesu8_stream::State;
@@ -58,7 +57,8 @@ pub fn decode_lossy_strict(bytes: &[u8], is_last: bool, buf: &mut [u8]) -> Progr
     decode_lossy::<FromMutf8>(bytes, is_last, buf)
 }
 
-/// Encodes a piece of UTF-8 to MUTF-8 (Java's `DataInput`), in the caller's buffer, as much as fits.
+/// Encodes a piece of UTF-8 to MUTF-8 (Java's `DataInput`), in the caller's buffer, as much as
+/// fits.
 ///
 /// The state is `Malformed` if the bytes from `read` on begin with no character of UTF-8, whatever
 /// follows them. With a buffer of at least six bytes, `OutputFull` means that something was read.

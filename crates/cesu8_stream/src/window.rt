@@ -1,5 +1,5 @@
-//! Where the last whole character of a window ends, if the window is well-formed. It is a guess from
-//! the last bytes alone: its caller tests it, so a wrong one costs time and nothing else.
+//! Where the last whole character of a window ends, if the window is well-formed. It is a guess
+//! from the last bytes alone: its caller tests it, so a wrong one costs time and nothing else.
 
 ghost use Rattle.std.specs.Prelude.{◌≤◌, length};
 

@@ -1,8 +1,7 @@
-use Rattle.std.proofs.Common.{◌<◌, ◌⊎◌, List, ℕ, ◌++◌, drop, length, refl, inl, inr, arith}
+use Rattle.std.proofs.Common.{◌<◌, drop, length, refl, inl, inr, arith}
 use Rattle.std.proofs.lemmas.Bool.Decides.{nat_tests}
 use Rattle.simd_cesu8.specs.Text.{utf8}
-use Rattle.cesu8_stream.specs.Written.{MayBegin}
-use Rattle.cesu8_stream.proofs.Completions.{BeginsSome, IsTested, found_begins, begins_found}
+use Rattle.cesu8_stream.proofs.Completions.{IsTested, found_begins, begins_found}
 use Rattle.cesu8_stream.proofs.Utf8Completions.{low_bytes, high_bytes, utf8_part_completes}
 use Rattle.cesu8_stream.proofs.Utf8.{utf8_appends}
 use Rattle.cesu8_stream.proofs.completion.utf8_may_begin.Goals as goal
@@ -17,9 +16,10 @@ returns-then-utf8_valid_up_to-gt0 c =
       valid = c.utf8_valid_up_to.ensures.valid;
       stops = c.utf8_valid_up_to.ensures.stops;
     } in
-    let found = c.if-utf8_valid_up_to-gt0.true in
-    ((λ _. found_begins utf8 bytes tail c.completed.result c.utf8_valid_up_to.result utf8_appends refl test found),
-    (λ _. grind (arith, nat_tests)))
+    let found = c.if-utf8_valid_up_to-gt0.true in (
+      (λ _. found_begins utf8 bytes tail c.completed.result c.utf8_valid_up_to.result utf8_appends refl test found),
+      (λ _. grind (arith, nat_tests)),
+    )
 
 pub returns-else-utf8_valid_up_to-gt0 : goal.returns-else-utf8_valid_up_to-gt0
 returns-else-utf8_valid_up_to-gt0 c =
@@ -40,15 +40,16 @@ returns-else-utf8_valid_up_to-gt0 c =
       nonempty = c.requires.nonempty;
       valid = c.utf8_valid_up_to-else-utf8_valid_up_to-gt0.ensures.valid;
       stops = c.utf8_valid_up_to-else-utf8_valid_up_to-gt0.ensures.stops;
-    } in
-    ((λ t. found_begins utf8 bytes high whole m utf8_appends refl second (grind (arith, nat_tests))),
-    (λ may.
-      let found : 0 < m =
-      elim (utf8_part_completes bytes may.0 may.1 c.requires.nonempty c.requires.none_begins may.2) [
-        inl b ↦
-          let f = begins_found utf8 bytes low c.completed.result n first b in
-          let none = c.if-utf8_valid_up_to-gt0.false in
-          omega arith
-      | inr b ↦ begins_found utf8 bytes high whole m second b
-      ] in
-      grind (arith, nat_tests)))
+    } in (
+      (λ t. found_begins utf8 bytes high whole m utf8_appends refl second (grind (arith, nat_tests))),
+      (λ may.
+          let found : 0 < m =
+          elim (utf8_part_completes bytes may.0 may.1 c.requires.nonempty c.requires.none_begins may.2) [
+            | inl b ↦
+                let f = begins_found utf8 bytes low c.completed.result n first b in
+                let none = c.if-utf8_valid_up_to-gt0.false in
+                omega arith
+            | inr b ↦ begins_found utf8 bytes high whole m second b
+          ] in
+          grind (arith, nat_tests)),
+    )

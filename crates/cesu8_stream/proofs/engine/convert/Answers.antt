@@ -9,8 +9,12 @@ returns g c =
     let first = c.convert_window-first in
     let sizes : Sizes g.C.Conversion.from = record { some = laws.at_least_one; few = laws.at_most_six } in
     let facts : IsConversion g.C.Conversion.from g.C.Conversion.to g.C.Conversion.widest = record {
-      append_from = laws.append_from; append_to = laws.append_to; from_empty = laws.from_empty;
-      to_empty = laws.to_empty; sizes = sizes; wide = laws.widest;
+      append_from = laws.append_from;
+      append_to = laws.append_to;
+      from_empty = laws.from_empty;
+      to_empty = laws.to_empty;
+      sizes = sizes;
+      wide = laws.widest;
     } in
     rw (to_end first.result.written first.new.buf c.convert_rest-rest.new.buf)
     (continued g.C.Conversion.from g.C.Conversion.to g.C.Conversion.widest c.args.bytes.now c.args.buf.now first.new.buf

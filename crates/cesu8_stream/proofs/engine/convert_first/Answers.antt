@@ -1,4 +1,4 @@
-use Rattle.std.proofs.Common.{◌≡◌, ◌<◌, ◌≤◌, ◌⊎◌, ℕ, ◌∷◌, [], length, inl, inr, arith}
+use Rattle.std.proofs.Common.{◌≡◌, length, inl, inr, arith}
 use Rattle.std.proofs.lemmas.Bool.{cases_lt}
 use Rattle.cesu8_stream.proofs.First.{Sizes, shortest_is_first}
 use Rattle.cesu8_stream.proofs.engine.convert_first.Goals as goal
@@ -13,9 +13,9 @@ returns-in-None-clause-stuck g c = λ _ d b.
     let sizes : Sizes g.C.Conversion.from = record { some = laws.at_least_one; few = laws.at_most_six } in
     let valid = c.first_len-len.ensures.valid in
     elim (cases_lt 0 len) [
-      inl some ↦
-        shortest_is_first g.C.Conversion.from g.C.Conversion.to c.args.bytes.now len d (length c.args.buf.now)
-        laws.append_from sizes laws.from_empty some laws.one_begins c.first_len-len.ensures.least
-        valid.0 valid.1 c.first_len-len.ensures.within b c.in-None.ensures.none
-    | inr none ↦ absurd (c.first_len-len.ensures.none (let zero : len ≡ 0 = omega arith in zero) d b)
+      | inl some ↦
+          shortest_is_first g.C.Conversion.from g.C.Conversion.to c.args.bytes.now len d (length c.args.buf.now)
+          laws.append_from sizes laws.from_empty some laws.one_begins c.first_len-len.ensures.least
+          valid.0 valid.1 c.first_len-len.ensures.within b c.in-None.ensures.none
+      | inr none ↦ absurd (c.first_len-len.ensures.none (let zero : len ≡ 0 = omega arith in zero) d b)
     ]

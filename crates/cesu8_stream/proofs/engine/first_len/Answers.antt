@@ -1,4 +1,4 @@
-use Rattle.std.proofs.Common.{◌+◌, ◌<◌, ◌≤◌, ℕ, length, take, arith}
+use Rattle.std.proofs.Common.{◌+◌, arith}
 use Rattle.std.proofs.lemmas.Grind.{common_steps}
 use Rattle.cesu8_stream.proofs.First.{Sizes, none_up_to, none_of_six}
 use Rattle.cesu8_stream.proofs.engine.first_len.Goals as goal

@@ -1,8 +1,7 @@
-use Rattle.std.proofs.Common.{◌≡◌, ◌<◌, ◌≤◌, ◌⊎◌, ◌≢◌, ℕ, List, [], ◌∷◌, length, take, inl, inr, arith, sym, ap}
+use Rattle.std.proofs.Common.{◌≡◌, length, arith, ap}
 use Rattle.std.proofs.lemmas.Bool.Decides.{nat_tests}
-use Rattle.std.proofs.lemmas.Grind.{common_steps}
-use Rattle.cesu8_stream.specs.Written.{Begins, BeginsNone, IsPartial}
-use Rattle.cesu8_stream.proofs.First.{Sizes, never_begins, text_begins, begins_longer}
+use Rattle.cesu8_stream.specs.Written.{IsPartial}
+use Rattle.cesu8_stream.proofs.First.{Sizes, never_begins}
 use Rattle.cesu8_stream.proofs.States.{empty_state, full_state, partial_state, malformed_state, valid_begins, empty_length}
 use Rattle.cesu8_stream.proofs.engine.state_of.Goals as goal
 use Rattle.cesu8_stream.proofs.engine.state_of.Goals.{else-rest-lt-LONGEST-via-then-rest-lt-LONGEST+else-may_begin, else-rest-lt-LONGEST-via-else-rest-lt-LONGEST}
@@ -42,10 +41,10 @@ returns g c =
     let none = c.if-first_len-gt0.false in
     let zero : c.first_len.result ≡ 0 = omega arith in
     elim c.else-rest-lt-LONGEST.branch [
-      else-rest-lt-LONGEST-via-then-rest-lt-LONGEST+else-may_begin w ↦
-        malformed_state g.C.Conversion.from c.args.rest.now
-        (λ more d b. absurd (let may = w.may_begin.ensures.1 (more, d, b) in let is_false = w.if-may_begin.false in cc))
-    | else-rest-lt-LONGEST-via-else-rest-lt-LONGEST w ↦
-        malformed_state g.C.Conversion.from c.args.rest.now
-        (never_begins g.C.Conversion.from c.args.rest.now sizes (c.first_len.ensures.none zero) w.if-rest-lt-LONGEST.false)
+      | else-rest-lt-LONGEST-via-then-rest-lt-LONGEST+else-may_begin w ↦
+          malformed_state g.C.Conversion.from c.args.rest.now
+          (λ more d b. absurd (let may = w.may_begin.ensures.1 (more, d, b) in let is_false = w.if-may_begin.false in cc))
+      | else-rest-lt-LONGEST-via-else-rest-lt-LONGEST w ↦
+          malformed_state g.C.Conversion.from c.args.rest.now
+          (never_begins g.C.Conversion.from c.args.rest.now sizes (c.first_len.ensures.none zero) w.if-rest-lt-LONGEST.false)
     ]

@@ -1,13 +1,12 @@
 use borrow.Rule.Slice.PartMut.{put_mid}
-use Rattle.std.proofs.Common.{subst, ◌≡◌, ◌<◌, ◌≤◌, ◌+◌, ◌-◌, ℕ, List, [], ◌∷◌, ◌++◌, length, take, drop, length-drop, arith, sym, ap, ◌∙◌, refl, true, false}
-use Rattle.std.proofs.lemmas.Grind.{common_steps}
+use Rattle.std.proofs.Common.{subst, ◌≡◌, ◌<◌, ◌+◌, ◌-◌, ◌∷◌, ◌++◌, length, take, drop, length-drop, arith, sym, ap, ◌∙◌, refl, true}
 use Rattle.std.proofs.lemmas.List.{take_rest, take-append-drop}
 use Rattle.simd_cesu8.specs.Text.{utf8}
 use Rattle.cesu8_stream.specs.Written.{Converts}
 use Rattle.cesu8_stream.specs.Streams.{ConvertsPiece}
-use Rattle.cesu8_stream.specs.Lossy.{ReadsOn, IsReplaced, is_damage}
+use Rattle.cesu8_stream.specs.Lossy.{ReadsOn, is_damage}
 use Rattle.cesu8_stream.proofs.Pieces.{to_end}
-use Rattle.cesu8_stream.proofs.LossyReadings.{IsReading, IsLeft, converted_on, read_on, replaced_on, never_follows, is_replaced, left_by, reads_by, stopped, filled, one_left, same_length}
+use Rattle.cesu8_stream.proofs.LossyReadings.{IsReading, converted_on, read_on, replaced_on, never_follows, is_replaced, left_by, reads_by, stopped, filled, one_left, same_length}
 use Rattle.cesu8_stream.proofs.lossy.decode_lossy.Goals as goal
 
 pub loop-found-init : goal.loop-found-init
@@ -22,7 +21,7 @@ loop-found-init g c =
     record {
       within = first.ensures.within;
       reads = converted_on from reading c.args.is_last c.args.bytes.now c.args.buf.now first.new.buf first.result.read
-        first.result.written facts converts;
+          first.result.written facts converts;
     }
 
 pub returns-then-not-is_damage : goal.returns-then-not-is_damage
@@ -48,7 +47,7 @@ returns-then-not-is_damage g c =
     (stopped from reading c.args.is_last bytes old (take w buf ++ new) (m + found.read) (w + found.written) found.state
     (omega arith)
     (reads_by from to reading widest c.args.is_last bytes old buf new m w found facts c.lossy_laws.ensures.to_utf8
-      c.loop-found.invariant.reads piece)
+    c.loop-found.invariant.reads piece)
     (left_by from to widest bytes old buf new m w found c.lossy_laws.ensures.to_utf8 (c.loop-found.auto.buf ∙ c.convert_window-first.auto.buf) piece)
     (λ s. let few = piece.few_left s in omega arith)
     (sym c.is_damage.ensures ∙ c.if-not-is_damage.true))
@@ -131,5 +130,5 @@ loop-found-preserved g c =
     record {
       within = one_left from c.args.is_last bytes m1 replaced;
       reads = rw (to_end w1 whole rest)
-        (read_on reading c.args.is_last bytes old whole rest m1 w1 1 3 before step);
+          (read_on reading c.args.is_last bytes old whole rest m1 w1 1 3 before step);
     }

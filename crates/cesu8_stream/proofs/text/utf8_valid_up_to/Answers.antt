@@ -1,7 +1,6 @@
-use Rattle.std.proofs.Common.{length, take, subst, sym, ap}
+use Rattle.std.proofs.Common.{take}
 use Rattle.std.proofs.Math.Seq.{take-length}
 use Rattle.std.specs.Str.{chars}
-use Rattle.simd_cesu8.specs.Text.{utf8}
 use Rattle.simd_cesu8.proofs.StdUtf8.{IsUtf8Of_chars}
 use Rattle.cesu8_stream.proofs.Utf8.{utf8_stops}
 use Rattle.cesu8_stream.proofs.text.utf8_valid_up_to.Goals as goal

@@ -1,4 +1,4 @@
-use Rattle.std.proofs.Common.{◌≤◌, arith}
+use Rattle.std.proofs.Common.{arith}
 use Rattle.simd_cesu8.specs.Encoding.{Cesu8}
 use Rattle.cesu8_stream.proofs.Characters.{encoding_empty, encoding_few, utf8_some, utf8_few, one_utf8_begins}
 use Rattle.cesu8_stream.proofs.conversion.ToCesu8Conversion.laws.Goals as goal

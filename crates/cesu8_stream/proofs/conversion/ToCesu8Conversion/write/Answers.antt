@@ -1,4 +1,4 @@
-use Rattle.std.proofs.Common.{◌≡◌, ◌<◌, ◌≤◌, ◌⊎◌, length, inl, inr, sym, ap}
+use Rattle.std.proofs.Common.{◌≡◌, length, inl, inr}
 use Rattle.std.proofs.lemmas.Bool.{cases_lt}
 use Rattle.std.specs.Str.{chars}
 use Rattle.simd_cesu8.specs.Encoding.{Cesu8, encoding}
@@ -16,6 +16,6 @@ returns-in-Err-clause-none c = λ text written.
     let same : chars c.in_ok-text.text.now ≡ text =
     rw (c.in_ok-text.ensures.some.0) (chars_are_text c.args.bytes.now text written) in
     elim (cases_lt (length c.args.buf.now) (length (encoding Cesu8 text))) [
-      inl long ↦ long
-    | inr short ↦ absurd (let fits = c.in-Err.ensures.fits.1 (rw same short) in cc)
+      | inl long ↦ long
+      | inr short ↦ absurd (let fits = c.in-Err.ensures.fits.1 (rw same short) in cc)
     ]

@@ -1,4 +1,3 @@
-use Rattle.std.proofs.Common.{refl}
 use Rattle.simd_cesu8.specs.Encoding.{Mutf8}
 use Rattle.cesu8_stream.proofs.LossyReadings.{text_read, damage_read}
 use Rattle.cesu8_stream.proofs.lossy.FromMutf8Decoding.lossy_laws.Goals as goal
