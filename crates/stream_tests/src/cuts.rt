@@ -2,6 +2,9 @@
 //! expected is written by hand, from the tables of UTR 26, of Java's `DataInput` and of RFC 3629.
 
 use cesu8_stream::{Progress, State, mutf8};
+use std::alloc::{AllocError, Global};
+use std::process::Abort;
+use std::test::Fail;
 
 /// A character in CESU-8, in MUTF-8 and in UTF-8.
 const CHARACTERS: [[&[u8]; 3]; 13] = [
@@ -32,125 +35,191 @@ const CHARACTERS: [[&[u8]; 3]; 13] = [
     ],
 ];
 
-/// The columns of the input and of the output, for each call.
-const CALLS: [(usize, usize); 4] = [(0, 2), (1, 2), (2, 0), (2, 1)];
-
-/// Calls what converts from one column to the other.
-fn convert(from: usize, to: usize, bytes: &[u8], buf: &mut [u8]) -> Progress {
-    if from == 0 {
-        cesu8_stream::decode_strict(bytes, buf)
-    } else if from == 1 {
-        mutf8::decode_strict(bytes, buf)
-    } else if to == 0 {
-        cesu8_stream::encode(bytes, buf)
-    } else {
-        mutf8::encode(bytes, buf)
-    }
+/// A call of the crate.
+#[derive(Clone, Copy)]
+enum Call {
+    DecodeCesu8,
+    DecodeMutf8,
+    EncodeCesu8,
+    EncodeMutf8,
 }
 
-/// Writes two parts, one after the other, and returns the length of both.
-fn join(first: &[u8], second: &[u8], buf: &mut [u8; 12]) -> usize {
-    let len = first.len() + second.len();
-    buf[..first.len()].copy_from_slice(first);
-    buf[first.len()..len].copy_from_slice(second);
-    len
-}
-
-#[test]
-fn reads_whole_characters_before_each_cut(rt: HostRuntime) {
-    for (from, to) in CALLS {
-        for first in &CHARACTERS {
-            for second in &CHARACTERS {
-                let mut bytes = [0; 12];
-                let len = join(first[from], second[from], &mut bytes);
-                for cut in 0..len + 1 {
-                    let (read, written) = if cut < first[from].len() {
-                        (0, 0)
-                    } else if cut < len {
-                        (first[from].len(), first[to].len())
-                    } else {
-                        (len, first[to].len() + second[to].len())
-                    };
-                    let state = if read == cut {
-                        State::InputEmpty
-                    } else {
-                        State::Incomplete
-                    };
-                    let mut buf = [0xEE; 12];
-                    let progress = convert(from, to, &bytes[..cut], &mut buf);
-                    assert_eq!(rt; progress.read, read, "{cut} of {bytes:?}");
-                    assert_eq!(rt; progress.written, written, "{cut} of {bytes:?}");
-                    assert_eq!(rt; progress.state, state, "{cut} of {bytes:?}");
-                }
-            }
-        }
-    }
-}
-
-#[test]
-fn writes_what_fits_in_each_buffer(rt: HostRuntime) {
-    for (from, to) in CALLS {
-        for first in &CHARACTERS {
-            for second in &CHARACTERS {
-                let mut bytes = [0; 12];
-                let mut text = [0; 12];
-                let len = join(first[from], second[from], &mut bytes);
-                let text_len = join(first[to], second[to], &mut text);
-                for room in 0..text_len + 9 {
-                    let (read, written, state) = if room < first[to].len() {
-                        (0, 0, State::OutputFull)
-                    } else if room < text_len {
-                        (first[from].len(), first[to].len(), State::OutputFull)
-                    } else {
-                        (len, text_len, State::InputEmpty)
-                    };
-                    let mut buf = [0xEE; 24];
-                    let progress = convert(from, to, &bytes[..len], &mut buf[..room]);
-                    assert_eq!(rt; progress.read, read, "{room} for {bytes:?}");
-                    assert_eq!(rt; progress.written, written, "{room} for {bytes:?}");
-                    assert_eq!(rt; progress.state, state, "{room} for {bytes:?}");
-                    assert_eq!(rt; &buf[..written], &text[..written]);
-                    assert_eq!(rt; &buf[written..], &[0xEE; 24][written..]);
-                }
-            }
-        }
-    }
-}
-
-/// Bytes that begin with no character, whatever follows: the columns in which they are malformed,
-/// and the bytes.
-const MALFORMED: [(&[usize], &[u8]); 16] = [
-    (&[0, 1, 2], b"\x80"),
-    (&[0, 1, 2], b"\xBF\x80"),
-    (&[0, 2], b"\xC0"),
-    (&[1], b"\xC0\x81"),
-    (&[1], b"\0"),
-    (&[0, 1, 2], b"\xC1"),
-    (&[0, 1, 2], b"\xC3A"),
-    (&[0, 1, 2], b"\xE0\x80"),
-    (&[0, 1, 2], b"\xE2\x82A"),
-    (&[0, 1], b"\xED\xB0"),
-    (&[0, 1], b"\xED\xA0\x80A"),
-    (&[0, 1], b"\xED\xA0\x80\xED\xA0"),
-    (&[0, 1], b"\xF0"),
-    (&[2], b"\xED\xA0"),
-    (&[2], b"\xF0\x8F"),
-    (&[2], b"\xF4\x90"),
+const CALLS: [Call; 4] = [
+    Call::DecodeCesu8,
+    Call::DecodeMutf8,
+    Call::EncodeCesu8,
+    Call::EncodeMutf8,
 ];
 
-#[test]
-fn stops_at_malformed_bytes(rt: HostRuntime) {
-    for (columns, damage) in &MALFORMED {
-        for column in *columns {
-            let mut bytes = [0; 12];
-            let len = join(b"a", damage, &mut bytes);
-            let mut buf = [0xEE; 12];
-            let progress = convert(*column, 2, &bytes[..len], &mut buf);
-            assert_eq!(rt; progress.read, 1, "{damage:?}");
-            assert_eq!(rt; progress.written, 1, "{damage:?}");
-            assert_eq!(rt; progress.state, State::Malformed, "{damage:?}");
+impl Call {
+    fn run(self, bytes: &[u8], buf: &mut [u8]) -> Progress {
+        match self {
+            Call::DecodeCesu8 => cesu8_stream::decode_strict(bytes, buf),
+            Call::DecodeMutf8 => mutf8::decode_strict(bytes, buf),
+            Call::EncodeCesu8 => cesu8_stream::encode(bytes, buf),
+            Call::EncodeMutf8 => mutf8::encode(bytes, buf),
         }
     }
+
+    /// Returns a character as the call reads it.
+    fn input<'a>(self, character: &[&'a [u8]; 3]) -> &'a [u8] {
+        match self {
+            Call::DecodeCesu8 => character[0],
+            Call::DecodeMutf8 => character[1],
+            Call::EncodeCesu8 | Call::EncodeMutf8 => character[2],
+        }
+    }
+
+    /// Returns a character as the call writes it.
+    fn output<'a>(self, character: &[&'a [u8]; 3]) -> &'a [u8] {
+        match self {
+            Call::EncodeCesu8 => character[0],
+            Call::EncodeMutf8 => character[1],
+            Call::DecodeCesu8 | Call::DecodeMutf8 => character[2],
+        }
+    }
+}
+
+/// Returns two parts, one after the other.
+fn join(alloc: Global, first: &[u8], second: &[u8]) -> Result<Vec<u8>, AllocError> {
+    let mut both = Vec::from_slice(alloc, first)?;
+    both.extend_from_slice(second)?;
+    Ok(both)
+}
+
+/// Tests each cut of two characters.
+fn expect_cuts(
+    rt: &impl Abort,
+    alloc: Global,
+    call: Call,
+    first: &[&[u8]; 3],
+    second: &[&[u8]; 3],
+) -> Result<(), Fail> {
+    let bytes = join(alloc, call.input(first), call.input(second))?;
+    let text = join(alloc, call.output(first), call.output(second))?;
+    for cut in 0..13 {
+        let Some(piece) = bytes.as_slice().get(..cut) else {
+            break;
+        };
+        let (read, written) = if cut < call.input(first).len() {
+            (0, 0)
+        } else if cut < bytes.len() {
+            (call.input(first).len(), call.output(first).len())
+        } else {
+            (bytes.len(), text.len())
+        };
+        let state = if read == cut {
+            State::InputEmpty
+        } else {
+            State::Incomplete
+        };
+        let progress = call.run(piece, &mut [0xEE; 12]);
+        let expected = Progress {
+            read,
+            written,
+            state,
+        };
+        assert_eq!(rt; progress, expected, "{cut} of {bytes:?}");
+    }
+    Ok(())
+}
+
+#[test]
+fn reads_whole_characters_before_each_cut(rt: HostRuntime) -> Result<(), Fail> {
+    for call in CALLS {
+        for first in &CHARACTERS {
+            for second in &CHARACTERS {
+                expect_cuts(&rt, rt.alloc(), call, first, second)?;
+            }
+        }
+    }
+    Ok(())
+}
+
+/// Tests two characters and a buffer of each size.
+fn expect_sizes(
+    rt: &impl Abort,
+    alloc: Global,
+    call: Call,
+    first: &[&[u8]; 3],
+    second: &[&[u8]; 3],
+) -> Result<(), Fail> {
+    let bytes = join(alloc, call.input(first), call.input(second))?;
+    let text = join(alloc, call.output(first), call.output(second))?;
+    for size in 0..21 {
+        let (read, written, state) = if size < call.output(first).len() {
+            (0, 0, State::OutputFull)
+        } else if size < text.len() {
+            let (read, written) = (call.input(first).len(), call.output(first).len());
+            (read, written, State::OutputFull)
+        } else {
+            (bytes.len(), text.len(), State::InputEmpty)
+        };
+        let mut buf = [0xEE; 24];
+        let progress = call.run(&bytes, &mut buf[..size]);
+        let expected = Progress {
+            read,
+            written,
+            state,
+        };
+        assert_eq!(rt; progress, expected, "{size} for {bytes:?}");
+        assert_eq!(rt; buf.get(..written), text.as_slice().get(..written));
+        assert_eq!(rt; buf.get(written..), [0xEE; 24].get(written..));
+    }
+    Ok(())
+}
+
+#[test]
+fn writes_what_fits_in_each_buffer(rt: HostRuntime) -> Result<(), Fail> {
+    for call in CALLS {
+        for first in &CHARACTERS {
+            for second in &CHARACTERS {
+                expect_sizes(&rt, rt.alloc(), call, first, second)?;
+            }
+        }
+    }
+    Ok(())
+}
+
+/// Bytes that begin with no character, whatever follows, and the calls that say so.
+const MALFORMED: [(&[Call], &[u8]); 16] = [
+    (&DECODE_AND_ENCODE, b"\x80"),
+    (&DECODE_AND_ENCODE, b"\xBF\x80"),
+    (&[Call::DecodeCesu8, Call::EncodeCesu8], b"\xC0"),
+    (&[Call::DecodeMutf8], b"\xC0\x81"),
+    (&[Call::DecodeMutf8], b"\0"),
+    (&DECODE_AND_ENCODE, b"\xC1"),
+    (&DECODE_AND_ENCODE, b"\xC3A"),
+    (&DECODE_AND_ENCODE, b"\xE0\x80"),
+    (&DECODE_AND_ENCODE, b"\xE2\x82A"),
+    (&DECODE, b"\xED\xB0"),
+    (&DECODE, b"\xED\xA0\x80A"),
+    (&DECODE, b"\xED\xA0\x80\xED\xA0"),
+    (&DECODE, b"\xF0"),
+    (&[Call::EncodeMutf8], b"\xED\xA0"),
+    (&[Call::EncodeMutf8], b"\xF0\x8F"),
+    (&[Call::EncodeCesu8], b"\xF4\x90"),
+];
+
+const DECODE: [Call; 2] = [Call::DecodeCesu8, Call::DecodeMutf8];
+
+const DECODE_AND_ENCODE: [Call; 3] = [Call::DecodeCesu8, Call::DecodeMutf8, Call::EncodeCesu8];
+
+#[test]
+fn stops_at_malformed_bytes(rt: HostRuntime) -> Result<(), Fail> {
+    for (calls, damage) in &MALFORMED {
+        let bytes = join(rt.alloc(), b"a", damage)?;
+        for call in *calls {
+            let progress = call.run(&bytes, &mut [0xEE; 12]);
+            let expected = Progress {
+                read: 1,
+                written: 1,
+                state: State::Malformed,
+            };
+            assert_eq!(rt; progress, expected, "{damage:?}");
+        }
+    }
+    Ok(())
 }
 
 /// Damaged bytes of both encodings, and their lossy reading in UTF-8.
@@ -167,10 +236,7 @@ const DAMAGED: [(&[u8], &str); 8] = [
         b"\xED\xA0\x80\xED\xA0\x80\xED\xB0\x80",
         "\u{FFFD}\u{FFFD}\u{FFFD}\u{10000}",
     ),
-    (
-        b"\xF0\x9F\x92\x96",
-        "\u{FFFD}\u{FFFD}\u{FFFD}\u{FFFD}",
-    ),
+    (b"\xF0\x9F\x92\x96", "\u{FFFD}\u{FFFD}\u{FFFD}\u{FFFD}"),
     (b"x\xC3", "x\u{FFFD}"),
 ];
 
@@ -183,45 +249,74 @@ fn decode_lossy(is_mutf8: bool, bytes: &[u8], is_last: bool, buf: &mut [u8]) -> 
     }
 }
 
-#[test]
-fn reads_damage_in_two_pieces(rt: HostRuntime) {
-    for is_mutf8 in [false, true] {
-        for (bytes, text) in &DAMAGED {
-            for cut in 0..bytes.len() + 1 {
-                let mut buf = [0xEE; 32];
-                let first = decode_lossy(is_mutf8, &bytes[..cut], false, &mut buf);
-                let (at, rest) = (first.written, &bytes[first.read..]);
-                let second = decode_lossy(is_mutf8, rest, true, &mut buf[at..]);
-                assert!(rt; first.state != State::Malformed && first.state != State::OutputFull);
-                assert_eq!(rt; second.state, State::InputEmpty, "{cut} of {bytes:?}");
-                let len = at + second.written;
-                assert_eq!(rt; &buf[..len], text.as_bytes(), "{cut} of {bytes:?}");
-            }
-        }
-    }
+/// Tests one cut of damaged bytes.
+fn expect_damage(
+    rt: &impl Abort,
+    alloc: Global,
+    is_mutf8: bool,
+    bytes: &[u8],
+    cut: usize,
+    text: &str,
+) -> Result<(), Fail> {
+    let mut buf = [0xEE; 32];
+    let piece = bytes.get(..cut).ok_or("no cut")?;
+    let first = decode_lossy(is_mutf8, piece, false, &mut buf);
+    assert!(rt; first.state != State::Malformed && first.state != State::OutputFull);
+    let mut whole = Vec::from_slice(alloc, buf.get(..first.written).ok_or("too long")?)?;
+    let rest = bytes.get(first.read..).ok_or("too far")?;
+    let second = decode_lossy(is_mutf8, rest, true, &mut buf);
+    assert_eq!(rt; second.state, State::InputEmpty, "{cut} of {bytes:?}");
+    whole.extend_from_slice(buf.get(..second.written).ok_or("too long")?)?;
+    assert_eq!(rt; whole.as_slice(), text.as_bytes(), "{cut} of {bytes:?}");
+    Ok(())
 }
 
 #[test]
-fn reads_damage_through_a_small_buffer(rt: HostRuntime) {
+fn reads_damage_in_two_pieces(rt: HostRuntime) -> Result<(), Fail> {
     for is_mutf8 in [false, true] {
         for (bytes, text) in &DAMAGED {
-            for size in 4..9 {
-                let mut read = 0;
-                let mut len = 0;
-                let mut whole = [0; 40];
-                for _ in 0..16 {
-                    let mut buf = [0; 8];
-                    let rest = &bytes[read..];
-                    let progress = decode_lossy(is_mutf8, rest, true, &mut buf[..size]);
-                    let end = len + progress.written;
-                    whole[len..end].copy_from_slice(&buf[..progress.written]);
-                    read += progress.read;
-                    len = end;
-                    assert!(rt; progress.read > 0 || progress.state == State::InputEmpty);
+            for cut in 0..10 {
+                if cut <= bytes.len() {
+                    expect_damage(&rt, rt.alloc(), is_mutf8, bytes, cut, text)?;
                 }
-                assert_eq!(rt; read, bytes.len(), "{size} for {bytes:?}");
-                assert_eq!(rt; &whole[..len], text.as_bytes(), "{size} for {bytes:?}");
             }
         }
     }
+    Ok(())
+}
+
+/// Reads damaged bytes through a buffer of this size.
+fn expect_through(
+    rt: &impl Abort,
+    alloc: Global,
+    is_mutf8: bool,
+    bytes: &[u8],
+    size: usize,
+    text: &str,
+) -> Result<(), Fail> {
+    let mut rest = bytes;
+    let mut whole = Vec::new(alloc);
+    for _ in 0..16 {
+        let mut buf = [0; 8];
+        let part = buf.get_mut(..size).ok_or("too long")?;
+        let progress = decode_lossy(is_mutf8, rest, true, part);
+        assert!(rt; progress.read > 0 || progress.state == State::InputEmpty);
+        whole.extend_from_slice(buf.get(..progress.written).ok_or("too long")?)?;
+        rest = rest.get(progress.read..).ok_or("too far")?;
+    }
+    assert!(rt; rest.is_empty());
+    assert_eq!(rt; whole.as_slice(), text.as_bytes(), "{size} for {bytes:?}");
+    Ok(())
+}
+
+#[test]
+fn reads_damage_through_a_small_buffer(rt: HostRuntime) -> Result<(), Fail> {
+    for is_mutf8 in [false, true] {
+        for (bytes, text) in &DAMAGED {
+            for size in 4..9 {
+                expect_through(&rt, rt.alloc(), is_mutf8, bytes, size, text)?;
+            }
+        }
+    }
+    Ok(())
 }
