@@ -52,6 +52,8 @@ RULES = {
     "as_chunks": "it came with Rust 1.88, and the crate is for 1.85",
     "table": "a constant that is only borrowed is a static, of which a program has one copy",
     "level": "a function that is not inlined is compiled with the features of its level",
+    "reader": "always inlined, a function that passes no vector and writes nothing is much code",
+    "writer": "one that writes is always inlined, but in a level for which size counts more",
     "method": "a method is inlined, since it can't have a function with features in it",
     "inline": "without optimization, inlining everything takes minutes to compile",
 }
@@ -64,6 +66,7 @@ OPEN, CLOSE = set("{(["), set("})]")
 RAW_STRING = re.compile(r'b?r(#*)"')
 STRING = re.compile(r'b?"(?:\\.|[^"\\])*"', re.S)
 CHARACTER = re.compile(r"b?'(?:\\(?:x[0-9A-Fa-f]{2}|u\{[0-9A-Fa-f]+\}|.)|[^'\\\n])'")
+VECTOR = r"\b(?:Simd|Mask|u8x\d+)\b"
 HEAD = re.compile(r"(?:[ \t]*//![^\n]*\n|[ \t]*\n)*")
 
 
@@ -159,6 +162,18 @@ def tokenize(text):
 class Eraser:
     def __init__(self):
         self.uses = collections.Counter()
+        # A pattern of the types that are vectors, or have some.
+        self.vectors = VECTOR
+
+    def know(self, source):
+        """Finds the structs of a source that have vectors."""
+        structs = re.findall(r"\bstruct (\w+)[^;{]*(\{[^}]*\}|;)", source)
+        found = None
+        while found != self.vectors:
+            found = self.vectors
+            for name, fields in structs:
+                if re.search(self.vectors, fields) and not re.search(self.vectors, name):
+                    self.vectors += rf"|\b{name}\b"
 
     def use(self, rule):
         if rule not in RULES:
@@ -480,11 +495,17 @@ class Eraser:
         head = "".join(out[first:])
         indent = "    " if open_items else ""
         before_body = f"\n{indent}" if re.search(r"\n\s*where\n", signature) else " "
-        if "#[inline(always)]" in head:
+        always = "#[inline(always)]" in head
+        if always and (open_items or re.search(self.vectors, signature)):
             out += ["fn ", signature, before_body, text]
             return end + 1
         attribute = re.search(r"#\[inline(\(never\))?\]", head)
-        if attribute:
+        hint = f"{attribute[0]} " if attribute else ""
+        if always:
+            is_writer = "&mut" in signature
+            self.use("writer" if is_writer else "reader")
+            hint = "always " if is_writer else "#[inline] "
+        elif attribute:
             head = head.replace(attribute[0], "#[inline(always)]")
         else:
             visibility = re.search(r"(pub(\([a-z]+\))?\s+)?$", head).start()
@@ -494,16 +515,16 @@ class Eraser:
             self.use("method")
             out += ["fn ", signature, before_body, text]
             return end + 1
-        self.use("level")
+        if not always:
+            self.use("level")
         solid = [[t for t in g if not is_blank(t)] for g in generics]
         names = [g[1] if g[0] == "const" else g[0] for g in solid if not g[0].startswith("'")]
         solid = [[t for t in p if not is_blank(t)] for p in parameters]
         arguments = ", ".join(p[1] if p[0] == "mut" else p[0] for p in solid)
         turbofish = "::<" + ", ".join(names) + ">" if names else ""
         inner = signature[len(tokens[name]):].strip()
-        hint = attribute[0] if attribute else "#[inline]"
         out += [
-            f"fn {signature}{before_body}{{\n    at_level! {{\n        {hint} {{\n        ",
+            f"fn {signature}{before_body}{{\n    at_level! {{\n        {hint}{{\n        ",
             f"fn at_level{inner}{before_body}{text}",
             f"\n        }} at_level{turbofish}({arguments})\n    }}\n}}",
         ]
@@ -511,8 +532,9 @@ class Eraser:
 
     # Both.
 
-    def erase(self, source, crate="simd_cesu8", depth=1):
-        """Returns a file of a crate as Rust. `depth` is how many modules are around it."""
+    def erase(self, source, crate="simd_cesu8", depth=1, module="calls"):
+        """Returns a file of a crate as Rust: a module with `depth` modules around it."""
+        self.know(source)
         text = self.without_ghosts(source)
         if re.search(rf"^use ({'|'.join(KIT)})::", text, re.M):
             return self.shim_file(text, depth)
@@ -522,7 +544,8 @@ class Eraser:
         tokens = self.attributes(tokenize(text))
         tokens = self.calls(self.paths(tokens, crate, depth), depth)
         tokens = self.widths(tokens)
-        text = self.tables("".join(self.functions(tokens)))
+        text = self.tables("".join(self.functions(tokens)), module)
+        text = re.sub(r"^mod (\w+);", r"pub(crate) mod \1;", text, flags=re.M)
         self.refuse(text)
         text = self.with_imports(text, depth)
         if "#[inline(always)]" in text:
@@ -532,14 +555,23 @@ class Eraser:
             )
         return re.sub(r"\n{3,}", "\n\n", text).lstrip("\n")
 
-    def tables(self, text):
-        """Makes constants of arrays static if each use of them in the file borrows them."""
+    def tables(self, text, module):
+        """Makes constants of arrays static if each use of them in the file borrows them.
+
+        `table!` of a level defines the static, or imports that of another level, for which modules
+        are visible in the crate.
+        """
         for name in re.findall(r"^const (\w+): [^=]*= \[", text, re.M):
             code = re.sub(r"//[^\n]*", "", text)
             uses = len(re.findall(rf"\b{name}\b", code)) - 1
             if uses == len(re.findall(rf"&{name}\b", code)):
                 self.use("table")
-                text = re.sub(rf"^const {name}:", f"static {name}:", text, flags=re.M)
+                text = re.sub(
+                    rf"((?:^(?:///|#\[).*\n)*)^const ({name}: [^=]*=[^;]*\[[^=]*;)$",
+                    rf"table! {{ ({module})\n\1static \2\n}}",
+                    text,
+                    flags=re.M,
+                )
         return text
 
     def shim_file(self, text, depth):
@@ -593,6 +625,9 @@ def main(arguments):
         return 2
     crates, out = map(pathlib.Path, arguments)
     eraser = Eraser()
+    for crate in MODULES:
+        for path in sorted((crates / crate / "src").rglob("*.rt")):
+            eraser.know(path.read_text())
     for crate, module in MODULES.items():
         source = crates / crate / "src"
         for path in sorted(source.rglob("*.rt")):
@@ -601,7 +636,9 @@ def main(arguments):
             to = out / module / part.with_name("mod.rs" if is_root else part.stem + ".rs")
             depth = len(part.parts) + (0 if is_root else 1)
             try:
-                text = eraser.erase(path.read_text(), crate, depth)
+                parts_of_path = part.parent.parts if is_root else part.with_suffix("").parts
+                path_of_module = "::".join((module, *parts_of_path))
+                text = eraser.erase(path.read_text(), crate, depth, path_of_module)
             except Unknown as unknown:
                 print(f"{path}: erase.py does not know {unknown}", file=sys.stderr)
                 return 1

@@ -65,9 +65,11 @@ class Rules(unittest.TestCase):
         self.assertEqual(text, "use super::super::super::decode::a;")
 
     def test_a_body_is_not_replaced(self):
-        form = "#[inline(always)]\nfn append_each(a: usize) {\n    if a == 0 {\n        f();\n    }\n}"
-        body = form[form.index("{\n"):]
-        self.assertTrue(erased(form).endswith(body))
+        for parameter in ["a: usize", "a: &mut A", "a: u8x16"]:
+            body = "{\n    if a == b {\n        f();\n    }\n}"
+            form = f"#[inline(always)]\nfn append_each({parameter}) {body}"
+            with self.subTest(form):
+                self.assertIn(body, erased(form))
 
 
 if __name__ == "__main__":

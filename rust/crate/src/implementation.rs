@@ -17,18 +17,18 @@ pub mod fallback {
 
 /// With the instructions of the processor.
 pub mod active {
-    use crate::level::by_level;
+    use crate::level;
 
     /// Returns whether some byte is F0 to F7 (hexadecimal).
     #[must_use]
     pub fn contains_utf8_4_byte_char_header(value: &[u8]) -> bool {
-        by_level!(of_cesu8::contains_changed(value))
+        level::of_cesu8::contains_changed(value)
     }
 
     /// Returns whether some byte is 00, or F0 to F7 (hexadecimal).
     #[must_use]
     pub fn contains_null_or_utf8_4_byte_char_header(value: &[u8]) -> bool {
-        by_level!(of_mutf8::contains_changed(value))
+        level::of_mutf8::contains_changed(value)
     }
 }
 

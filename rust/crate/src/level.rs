@@ -7,14 +7,18 @@
 //!
 //! For tests, `--cfg cesu8_level="v2"` or `"plain"` leaves out the levels above it.
 //!
-//! Two macros tell a copy of the codec its level. `at_level!` defines a function with the features
-//! of the level and calls it; `block!` is the vector of 32 bytes. A copy whose functions are not
+//! The functions of this module are the calls of the crate at the level that is chosen: `by_level!`
+//! defines each.
+//!
+//! Four macros tell a copy of the codec its level. `at_level!` defines a function with the features of
+//! the level and calls it, and `call_at_level!` one that others call; `table!` defines a static, of
+//! which two levels have one; `block!` is the vector of 32 bytes. A copy whose functions are not
 //! called leaves no machine code.
 
 #[cfg(all(target_arch = "x86_64", not(any(miri, cesu8_level = "plain"))))]
 pub(crate) mod x86;
 #[cfg(all(target_arch = "x86_64", not(any(miri, cesu8_level = "plain"))))]
-pub(crate) use self::x86::by_level;
+use self::x86::by_level;
 
 #[cfg(all(
     target_arch = "aarch64",
@@ -27,7 +31,7 @@ pub(crate) mod aarch64;
     target_endian = "little",
     not(any(miri, cesu8_level = "plain"))
 ))]
-pub(crate) use self::aarch64::by_level;
+use self::aarch64::by_level;
 
 #[cfg(any(
     miri,
@@ -35,13 +39,70 @@ pub(crate) use self::aarch64::by_level;
     not(any(target_arch = "x86_64", all(target_arch = "aarch64", target_endian = "little")))
 ))]
 macro_rules! by_level {
-    ($($call:tt)*) => {
-        crate::plain::$($call)*
+    ($name:ident($($argument:ident: $type:ty),*) -> $result:ty, $($path:tt)*) => {
+        pub(crate) use crate::plain::$($path)*;
     };
 }
-#[cfg(any(
-    miri,
-    cesu8_level = "plain",
-    not(any(target_arch = "x86_64", all(target_arch = "aarch64", target_endian = "little")))
-))]
-pub(crate) use by_level;
+
+// Where there is one level, `by_level!` needs no types.
+#[allow(unused_imports)]
+use alloc::{borrow::Cow, vec::Vec};
+#[allow(unused_imports)]
+use core::cmp::Ordering;
+
+#[allow(unused_imports)]
+use crate::{DecodingError, SliceError};
+
+/// Defines functions by the level that is chosen: those of a module there, or of none.
+macro_rules! chosen {
+    ($($module:ident)? { $($name:ident($($argument:ident: $type:ty),*) -> $result:ty;)* }) => {
+        chosen! { @ ($($module::)?) $($name($($argument: $type),*) -> $result;)* }
+    };
+    (@ $path:tt $($name:ident($($argument:ident: $type:ty),*) -> $result:ty;)*) => {
+        $(chosen! { @each $path $name($($argument: $type),*) -> $result })*
+    };
+    (@each ($($path:tt)*) $name:ident $($signature:tt)*) => {
+        by_level! { $name $($signature)*, $($path)* $name }
+    };
+}
+
+/// Defines the calls of an encoding.
+macro_rules! calls_of {
+    ($module:ident) => {
+        pub(crate) mod $module {
+            #[allow(unused_imports)]
+            use super::*;
+
+            chosen! { $module {
+                needs_encoded(text: &str) -> bool;
+                contains_changed(bytes: &[u8]) -> bool;
+                encoded_len(text: &str) -> usize;
+                encode(text: &str) -> Cow<'_, [u8]>;
+                encode_into(text: &str, buf: &mut Vec<u8>) -> ();
+                decode_strict(bytes: &[u8]) -> Result<Cow<'_, str>, DecodingError>;
+                decode(bytes: &[u8]) -> Result<Cow<'_, str>, DecodingError>;
+                decode_lossy_strict(bytes: &[u8]) -> Cow<'_, str>;
+                decode_lossy(bytes: &[u8]) -> Cow<'_, str>;
+                decoded_len(bytes: &[u8]) -> Option<usize>;
+                lossy_len(bytes: &[u8]) -> Option<usize>;
+                valid_up_to(bytes: &[u8]) -> usize;
+                encode_to_slice(text: &str, buf: &mut [u8]) -> SliceResult;
+                decode_strict_to_slice(bytes: &[u8], buf: &mut [u8]) -> SliceResult;
+                decode_to_slice(bytes: &[u8], buf: &mut [u8]) -> SliceResult;
+                decode_lossy_strict_to_slice(bytes: &[u8], buf: &mut [u8]) -> SliceResult;
+                decode_lossy_to_slice(bytes: &[u8], buf: &mut [u8]) -> SliceResult;
+            } }
+        }
+    };
+}
+
+#[allow(dead_code)]
+type SliceResult = Result<usize, SliceError>;
+
+calls_of!(of_cesu8);
+calls_of!(of_mutf8);
+
+chosen! { {
+    utf16_len(text: &str) -> usize;
+    compare_as_utf16(text: &str, other: &str) -> Ordering;
+} }

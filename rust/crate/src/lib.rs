@@ -45,7 +45,6 @@ use alloc::vec::Vec;
 use core::cmp::Ordering;
 
 pub use self::error::{DecodingError, SliceError};
-use self::level::by_level;
 
 /// Returns whether the CESU-8 of a string differs from its UTF-8: whether a character is U+10000 or
 /// above.
@@ -57,7 +56,7 @@ use self::level::by_level;
 #[must_use]
 #[inline]
 pub fn needs_encoded(value: &str) -> bool {
-    !short::is_unchanged::<false>(value) && by_level!(of_cesu8::needs_encoded(value))
+    !short::is_unchanged::<false>(value) && level::of_cesu8::needs_encoded(value)
 }
 
 /// Encodes a string to CESU-8.
@@ -81,7 +80,7 @@ pub fn encode(value: &str) -> Cow<'_, [u8]> {
     if short::is_unchanged::<false>(value) {
         return Cow::Borrowed(value.as_bytes());
     }
-    by_level!(of_cesu8::encode(value))
+    level::of_cesu8::encode(value)
 }
 
 /// Appends the CESU-8 of a string to a buffer.
@@ -99,7 +98,7 @@ pub fn encode(value: &str) -> Cow<'_, [u8]> {
 /// If the buffer would have more than `isize::MAX` bytes.
 #[inline]
 pub fn encode_into(value: &str, buf: &mut Vec<u8>) {
-    by_level!(of_cesu8::encode_into(value, buf));
+    level::of_cesu8::encode_into(value, buf);
 }
 
 /// Decodes CESU-8 strictly: returns the string whose CESU-8 the bytes are.
@@ -123,7 +122,7 @@ pub fn decode_strict(bytes: &[u8]) -> Result<Cow<'_, str>, DecodingError> {
     if let Some(text) = short::ascii::<false>(bytes) {
         return Ok(Cow::Borrowed(text));
     }
-    by_level!(of_cesu8::decode_strict(bytes))
+    level::of_cesu8::decode_strict(bytes)
 }
 
 /// Decodes bytes that are UTF-8 as a whole, or else CESU-8. It reads no input partly as one and
@@ -146,7 +145,7 @@ pub fn decode(bytes: &[u8]) -> Result<Cow<'_, str>, DecodingError> {
     if let Some(text) = short::ascii::<false>(bytes) {
         return Ok(Cow::Borrowed(text));
     }
-    by_level!(of_cesu8::decode(bytes))
+    level::of_cesu8::decode(bytes)
 }
 
 /// Decodes CESU-8 that may be damaged: each encoded character, and U+FFFD for each byte in none.
@@ -167,7 +166,7 @@ pub fn decode_lossy_strict(bytes: &[u8]) -> Cow<'_, str> {
     if let Some(text) = short::ascii::<false>(bytes) {
         return Cow::Borrowed(text);
     }
-    by_level!(of_cesu8::decode_lossy_strict(bytes))
+    level::of_cesu8::decode_lossy_strict(bytes)
 }
 
 /// Decodes bytes that are UTF-8 as a whole, or else CESU-8 that may be damaged, with U+FFFD for
@@ -190,7 +189,7 @@ pub fn decode_lossy(bytes: &[u8]) -> Cow<'_, str> {
     if let Some(text) = short::ascii::<false>(bytes) {
         return Cow::Borrowed(text);
     }
-    by_level!(of_cesu8::decode_lossy(bytes))
+    level::of_cesu8::decode_lossy(bytes)
 }
 
 /// Returns the length in bytes of the CESU-8 of a string.
@@ -201,7 +200,7 @@ pub fn decode_lossy(bytes: &[u8]) -> Cow<'_, str> {
 #[must_use]
 #[inline]
 pub fn encoded_len(value: &str) -> usize {
-    by_level!(of_cesu8::encoded_len(value))
+    level::of_cesu8::encoded_len(value)
 }
 
 /// Returns the length in bytes of the string that [`decode_strict`] returns, or `None` if that is
@@ -214,7 +213,7 @@ pub fn encoded_len(value: &str) -> usize {
 #[must_use]
 #[inline]
 pub fn decoded_len(bytes: &[u8]) -> Option<usize> {
-    by_level!(of_cesu8::decoded_len(bytes))
+    level::of_cesu8::decoded_len(bytes)
 }
 
 /// Returns the length in bytes of the string that [`decode_lossy_strict`] returns, or `None` if it
@@ -226,7 +225,7 @@ pub fn decoded_len(bytes: &[u8]) -> Option<usize> {
 #[must_use]
 #[inline]
 pub fn lossy_len(bytes: &[u8]) -> Option<usize> {
-    by_level!(of_cesu8::lossy_len(bytes))
+    level::of_cesu8::lossy_len(bytes)
 }
 
 /// Returns how many bytes at the start are whole encoded characters: the offset of the first
@@ -238,7 +237,7 @@ pub fn lossy_len(bytes: &[u8]) -> Option<usize> {
 #[must_use]
 #[inline]
 pub fn valid_up_to(bytes: &[u8]) -> usize {
-    by_level!(of_cesu8::valid_up_to(bytes))
+    level::of_cesu8::valid_up_to(bytes)
 }
 
 /// Encodes a string to CESU-8, in a slice. It returns how many bytes it wrote at the start; the
@@ -257,7 +256,7 @@ pub fn valid_up_to(bytes: &[u8]) -> usize {
 /// unchanged.
 #[inline]
 pub fn encode_to_slice(value: &str, buf: &mut [u8]) -> Result<usize, SliceError> {
-    by_level!(of_cesu8::encode_to_slice(value, buf))
+    level::of_cesu8::encode_to_slice(value, buf)
 }
 
 /// Decodes CESU-8 as [`decode_strict`] does, and writes the string to a slice. It returns how many
@@ -276,7 +275,7 @@ pub fn encode_to_slice(value: &str, buf: &mut [u8]) -> Result<usize, SliceError>
 /// the string's length if the slice is shorter. The slice is then unchanged.
 #[inline]
 pub fn decode_strict_to_slice(bytes: &[u8], buf: &mut [u8]) -> Result<usize, SliceError> {
-    by_level!(of_cesu8::decode_strict_to_slice(bytes, buf))
+    level::of_cesu8::decode_strict_to_slice(bytes, buf)
 }
 
 /// Decodes UTF-8 or CESU-8 as [`decode`] does, and writes the string to a slice. It returns how
@@ -295,7 +294,7 @@ pub fn decode_strict_to_slice(bytes: &[u8], buf: &mut [u8]) -> Result<usize, Sli
 /// string's length if the slice is shorter. The slice is then unchanged.
 #[inline]
 pub fn decode_to_slice(bytes: &[u8], buf: &mut [u8]) -> Result<usize, SliceError> {
-    by_level!(of_cesu8::decode_to_slice(bytes, buf))
+    level::of_cesu8::decode_to_slice(bytes, buf)
 }
 
 /// Decodes CESU-8 as [`decode_lossy_strict`] does, and writes the string to a slice. It returns how
@@ -314,7 +313,7 @@ pub fn decode_to_slice(bytes: &[u8], buf: &mut [u8]) -> Result<usize, SliceError
 /// [`SliceError::TooLong`] if that exceeds `usize`. The slice is then unchanged.
 #[inline]
 pub fn decode_lossy_strict_to_slice(bytes: &[u8], buf: &mut [u8]) -> Result<usize, SliceError> {
-    by_level!(of_cesu8::decode_lossy_strict_to_slice(bytes, buf))
+    level::of_cesu8::decode_lossy_strict_to_slice(bytes, buf)
 }
 
 /// Decodes UTF-8 or CESU-8 as [`decode_lossy`] does, and writes the string to a slice. It returns
@@ -333,7 +332,7 @@ pub fn decode_lossy_strict_to_slice(bytes: &[u8], buf: &mut [u8]) -> Result<usiz
 /// [`SliceError::TooLong`] if that exceeds `usize`. The slice is then unchanged.
 #[inline]
 pub fn decode_lossy_to_slice(bytes: &[u8], buf: &mut [u8]) -> Result<usize, SliceError> {
-    by_level!(of_cesu8::decode_lossy_to_slice(bytes, buf))
+    level::of_cesu8::decode_lossy_to_slice(bytes, buf)
 }
 
 /// Returns how many UTF-16 code units a string has, as Java and JavaScript count its length.
@@ -344,7 +343,7 @@ pub fn decode_lossy_to_slice(bytes: &[u8], buf: &mut [u8]) -> Result<usize, Slic
 #[must_use]
 #[inline]
 pub fn utf16_len(value: &str) -> usize {
-    by_level!(utf16_len(value))
+    level::utf16_len(value)
 }
 
 /// Compares two strings by their UTF-16 code units, as Java's `compareTo`, JavaScript and the
@@ -359,5 +358,5 @@ pub fn utf16_len(value: &str) -> usize {
 #[must_use]
 #[inline]
 pub fn compare_as_utf16(value: &str, other: &str) -> Ordering {
-    by_level!(compare_as_utf16(value, other))
+    level::compare_as_utf16(value, other)
 }

@@ -3,7 +3,7 @@
 use alloc::borrow::Cow;
 use alloc::vec::Vec;
 
-use crate::level::by_level;
+use crate::level;
 use crate::{DecodingError, SliceError, short};
 
 /// Returns whether the MUTF-8 of a string differs from its UTF-8: whether a character is U+0000, or
@@ -16,7 +16,7 @@ use crate::{DecodingError, SliceError, short};
 #[must_use]
 #[inline]
 pub fn needs_encoded(value: &str) -> bool {
-    !short::is_unchanged::<true>(value) && by_level!(of_mutf8::needs_encoded(value))
+    !short::is_unchanged::<true>(value) && level::of_mutf8::needs_encoded(value)
 }
 
 /// Encodes a string to MUTF-8.
@@ -40,7 +40,7 @@ pub fn encode(value: &str) -> Cow<'_, [u8]> {
     if short::is_unchanged::<true>(value) {
         return Cow::Borrowed(value.as_bytes());
     }
-    by_level!(of_mutf8::encode(value))
+    level::of_mutf8::encode(value)
 }
 
 /// Appends the MUTF-8 of a string to a buffer.
@@ -58,7 +58,7 @@ pub fn encode(value: &str) -> Cow<'_, [u8]> {
 /// If the buffer would have more than `isize::MAX` bytes.
 #[inline]
 pub fn encode_into(value: &str, buf: &mut Vec<u8>) {
-    by_level!(of_mutf8::encode_into(value, buf));
+    level::of_mutf8::encode_into(value, buf);
 }
 
 /// Decodes MUTF-8 strictly: returns the string whose MUTF-8 the bytes are.
@@ -82,7 +82,7 @@ pub fn decode_strict(bytes: &[u8]) -> Result<Cow<'_, str>, DecodingError> {
     if let Some(text) = short::ascii::<true>(bytes) {
         return Ok(Cow::Borrowed(text));
     }
-    by_level!(of_mutf8::decode_strict(bytes))
+    level::of_mutf8::decode_strict(bytes)
 }
 
 /// Decodes bytes that are UTF-8 as a whole, or else MUTF-8. It reads no input partly as one and
@@ -105,7 +105,7 @@ pub fn decode(bytes: &[u8]) -> Result<Cow<'_, str>, DecodingError> {
     if let Some(text) = short::ascii::<false>(bytes) {
         return Ok(Cow::Borrowed(text));
     }
-    by_level!(of_mutf8::decode(bytes))
+    level::of_mutf8::decode(bytes)
 }
 
 /// Decodes MUTF-8 that may be damaged: each encoded character, and U+FFFD for each byte in none.
@@ -126,7 +126,7 @@ pub fn decode_lossy_strict(bytes: &[u8]) -> Cow<'_, str> {
     if let Some(text) = short::ascii::<true>(bytes) {
         return Cow::Borrowed(text);
     }
-    by_level!(of_mutf8::decode_lossy_strict(bytes))
+    level::of_mutf8::decode_lossy_strict(bytes)
 }
 
 /// Decodes bytes that are UTF-8 as a whole, or else MUTF-8 that may be damaged, with U+FFFD for
@@ -149,7 +149,7 @@ pub fn decode_lossy(bytes: &[u8]) -> Cow<'_, str> {
     if let Some(text) = short::ascii::<false>(bytes) {
         return Cow::Borrowed(text);
     }
-    by_level!(of_mutf8::decode_lossy(bytes))
+    level::of_mutf8::decode_lossy(bytes)
 }
 
 /// Returns the length in bytes of the MUTF-8 of a string.
@@ -160,7 +160,7 @@ pub fn decode_lossy(bytes: &[u8]) -> Cow<'_, str> {
 #[must_use]
 #[inline]
 pub fn encoded_len(value: &str) -> usize {
-    by_level!(of_mutf8::encoded_len(value))
+    level::of_mutf8::encoded_len(value)
 }
 
 /// Returns the length in bytes of the string that [`decode_strict`] returns, or `None` if that is
@@ -173,7 +173,7 @@ pub fn encoded_len(value: &str) -> usize {
 #[must_use]
 #[inline]
 pub fn decoded_len(bytes: &[u8]) -> Option<usize> {
-    by_level!(of_mutf8::decoded_len(bytes))
+    level::of_mutf8::decoded_len(bytes)
 }
 
 /// Returns the length in bytes of the string that [`decode_lossy_strict`] returns, or `None` if it
@@ -185,7 +185,7 @@ pub fn decoded_len(bytes: &[u8]) -> Option<usize> {
 #[must_use]
 #[inline]
 pub fn lossy_len(bytes: &[u8]) -> Option<usize> {
-    by_level!(of_mutf8::lossy_len(bytes))
+    level::of_mutf8::lossy_len(bytes)
 }
 
 /// Returns how many bytes at the start are whole encoded characters: the offset of the first
@@ -197,7 +197,7 @@ pub fn lossy_len(bytes: &[u8]) -> Option<usize> {
 #[must_use]
 #[inline]
 pub fn valid_up_to(bytes: &[u8]) -> usize {
-    by_level!(of_mutf8::valid_up_to(bytes))
+    level::of_mutf8::valid_up_to(bytes)
 }
 
 /// Encodes a string to MUTF-8, in a slice. It returns how many bytes it wrote at the start; the
@@ -216,7 +216,7 @@ pub fn valid_up_to(bytes: &[u8]) -> usize {
 /// unchanged.
 #[inline]
 pub fn encode_to_slice(value: &str, buf: &mut [u8]) -> Result<usize, SliceError> {
-    by_level!(of_mutf8::encode_to_slice(value, buf))
+    level::of_mutf8::encode_to_slice(value, buf)
 }
 
 /// Decodes MUTF-8 as [`decode_strict`] does, and writes the string to a slice. It returns how many
@@ -235,7 +235,7 @@ pub fn encode_to_slice(value: &str, buf: &mut [u8]) -> Result<usize, SliceError>
 /// the string's length if the slice is shorter. The slice is then unchanged.
 #[inline]
 pub fn decode_strict_to_slice(bytes: &[u8], buf: &mut [u8]) -> Result<usize, SliceError> {
-    by_level!(of_mutf8::decode_strict_to_slice(bytes, buf))
+    level::of_mutf8::decode_strict_to_slice(bytes, buf)
 }
 
 /// Decodes UTF-8 or MUTF-8 as [`decode`] does, and writes the string to a slice. It returns how
@@ -254,7 +254,7 @@ pub fn decode_strict_to_slice(bytes: &[u8], buf: &mut [u8]) -> Result<usize, Sli
 /// string's length if the slice is shorter. The slice is then unchanged.
 #[inline]
 pub fn decode_to_slice(bytes: &[u8], buf: &mut [u8]) -> Result<usize, SliceError> {
-    by_level!(of_mutf8::decode_to_slice(bytes, buf))
+    level::of_mutf8::decode_to_slice(bytes, buf)
 }
 
 /// Decodes MUTF-8 as [`decode_lossy_strict`] does, and writes the string to a slice. It returns how
@@ -273,7 +273,7 @@ pub fn decode_to_slice(bytes: &[u8], buf: &mut [u8]) -> Result<usize, SliceError
 /// [`SliceError::TooLong`] if that exceeds `usize`. The slice is then unchanged.
 #[inline]
 pub fn decode_lossy_strict_to_slice(bytes: &[u8], buf: &mut [u8]) -> Result<usize, SliceError> {
-    by_level!(of_mutf8::decode_lossy_strict_to_slice(bytes, buf))
+    level::of_mutf8::decode_lossy_strict_to_slice(bytes, buf)
 }
 
 /// Decodes UTF-8 or MUTF-8 as [`decode_lossy`] does, and writes the string to a slice. It returns
@@ -292,5 +292,5 @@ pub fn decode_lossy_strict_to_slice(bytes: &[u8], buf: &mut [u8]) -> Result<usiz
 /// [`SliceError::TooLong`] if that exceeds `usize`. The slice is then unchanged.
 #[inline]
 pub fn decode_lossy_to_slice(bytes: &[u8], buf: &mut [u8]) -> Result<usize, SliceError> {
-    by_level!(of_mutf8::decode_lossy_to_slice(bytes, buf))
+    level::of_mutf8::decode_lossy_to_slice(bytes, buf)
 }

@@ -19,16 +19,16 @@ const PAIR: usize = 6;
 const REPLACEMENT: &str = "\u{FFFD}";
 
 /// Returns the offset of the first byte that leads four bytes, or, in MUTF-8, is 00.
-fn first_changed<const IS_MUTF8: bool>(bytes: &[u8]) -> usize {
+fn first_changed(is_mutf8: bool, bytes: &[u8]) -> usize {
     const HIGH: u64 = 0x8080_8080_8080_8080;
-    let is_changed = |byte: &u8| *byte >= 0xF0 || IS_MUTF8 && *byte == 0;
+    let is_changed = |byte: &u8| *byte >= 0xF0 || is_mutf8 && *byte == 0;
     let (mut at, mut words) = (0, bytes.chunks_exact(8));
     for word in &mut words {
         let word = u64::from_le_bytes([
             word[0], word[1], word[2], word[3], word[4], word[5], word[6], word[7],
         ]);
         let leads = word & word << 1 & word << 2 & word << 3 & HIGH;
-        let nulls = if IS_MUTF8 { word.wrapping_sub(HIGH >> 7) & !word & HIGH } else { 0 };
+        let nulls = if is_mutf8 { word.wrapping_sub(HIGH >> 7) & !word & HIGH } else { 0 };
         if leads | nulls != 0 {
             break;
         }
@@ -37,20 +37,20 @@ fn first_changed<const IS_MUTF8: bool>(bytes: &[u8]) -> usize {
     at + bytes[at..].iter().position(is_changed).unwrap_or(bytes.len() - at)
 }
 
-fn contains_changed<const IS_MUTF8: bool>(bytes: &[u8]) -> bool {
-    first_changed::<IS_MUTF8>(bytes) < bytes.len()
+fn contains_changed(is_mutf8: bool, bytes: &[u8]) -> bool {
+    first_changed(is_mutf8, bytes) < bytes.len()
 }
 
-fn encoded_len<const IS_MUTF8: bool>(text: &str) -> usize {
-    let more = |byte: u8| 2 * usize::from(byte >= 0xF0) + usize::from(IS_MUTF8 && byte == 0);
+fn encoded_len(is_mutf8: bool, text: &str) -> usize {
+    let more = |byte: u8| 2 * usize::from(byte >= 0xF0) + usize::from(is_mutf8 && byte == 0);
     text.len() + text.bytes().map(more).sum::<usize>()
 }
 
 /// Calls `write` with each part of the encoding in turn.
-fn encode_by<const IS_MUTF8: bool>(text: &str, mut write: impl FnMut(&[u8])) {
+fn encode_by(is_mutf8: bool, text: &str, write: &mut dyn FnMut(&[u8])) {
     let mut rest = text;
     loop {
-        let (same, changed) = rest.split_at(first_changed::<IS_MUTF8>(rest.as_bytes()));
+        let (same, changed) = rest.split_at(first_changed(is_mutf8, rest.as_bytes()));
         write(same.as_bytes());
         let mut characters = changed.chars();
         let Some(character) = characters.next() else { return };
@@ -85,19 +85,20 @@ enum Piece<'a> {
 }
 
 /// The pieces of bytes.
-struct Pieces<'a, const IS_MUTF8: bool> {
+struct Pieces<'a> {
+    is_mutf8: bool,
     /// What is known to be UTF-8.
     text: &'a str,
     /// What follows it.
     rest: &'a [u8],
 }
 
-impl<'a, const IS_MUTF8: bool> Iterator for Pieces<'a, IS_MUTF8> {
+impl<'a> Iterator for Pieces<'a> {
     type Item = Piece<'a>;
 
     fn next(&mut self) -> Option<Piece<'a>> {
         if self.text.is_empty() {
-            if let Some((character, len)) = changed_at::<IS_MUTF8>(self.rest) {
+            if let Some((character, len)) = changed_at(self.is_mutf8, self.rest) {
                 self.rest = &self.rest[len..];
                 return Some(Piece::Changed(character));
             }
@@ -109,7 +110,8 @@ impl<'a, const IS_MUTF8: bool> Iterator for Pieces<'a, IS_MUTF8> {
             self.rest = rest;
             return Some(Piece::IllFormed(1));
         };
-        let (same, changed) = self.text.split_at(first_changed::<IS_MUTF8>(self.text.as_bytes()));
+        let (same, changed) =
+            self.text.split_at(first_changed(self.is_mutf8, self.text.as_bytes()));
         if !same.is_empty() {
             self.text = changed;
             return Some(Piece::Same(same));
@@ -121,15 +123,15 @@ impl<'a, const IS_MUTF8: bool> Iterator for Pieces<'a, IS_MUTF8> {
     }
 }
 
-fn pieces<const IS_MUTF8: bool>(bytes: &[u8]) -> Pieces<'_, IS_MUTF8> {
-    Pieces { text: "", rest: bytes }
+fn pieces(is_mutf8: bool, bytes: &[u8]) -> Pieces<'_> {
+    Pieces { is_mutf8, text: "", rest: bytes }
 }
 
 /// Returns the character that begins the bytes as a surrogate pair, or as C0 80 in MUTF-8, and how
 /// many bytes it has.
-fn changed_at<const IS_MUTF8: bool>(bytes: &[u8]) -> Option<(char, usize)> {
+fn changed_at(is_mutf8: bool, bytes: &[u8]) -> Option<(char, usize)> {
     match *bytes {
-        [0xC0, 0x80, ..] if IS_MUTF8 => Some(('\0', 2)),
+        [0xC0, 0x80, ..] if is_mutf8 => Some(('\0', 2)),
         [0xED, b @ 0xA0..=0xAF, c @ 0x80..=0xBF, 0xED, e @ 0xB0..=0xBF, f @ 0x80..=0xBF, ..] => {
             let digits = |byte: u8, mask: u8| u32::from(byte & mask);
             let high = digits(b, 0x0F) << 6 | digits(c, 0x3F);
@@ -140,9 +142,9 @@ fn changed_at<const IS_MUTF8: bool>(bytes: &[u8]) -> Option<(char, usize)> {
     }
 }
 
-fn valid_up_to<const IS_MUTF8: bool>(bytes: &[u8]) -> usize {
+fn valid_up_to(is_mutf8: bool, bytes: &[u8]) -> usize {
     let mut len = 0;
-    for piece in pieces::<IS_MUTF8>(bytes) {
+    for piece in pieces(is_mutf8, bytes) {
         len += match piece {
             Piece::Same(text) => text.len(),
             Piece::Changed('\0') => 2,
@@ -155,9 +157,9 @@ fn valid_up_to<const IS_MUTF8: bool>(bytes: &[u8]) -> usize {
 
 /// Returns the length of the decoded text, with U+FFFD for each byte in no encoded character, if it
 /// fits.
-fn lossy_len<const IS_MUTF8: bool>(bytes: &[u8]) -> Option<usize> {
+fn lossy_len(is_mutf8: bool, bytes: &[u8]) -> Option<usize> {
     let mut len = 0usize;
-    for piece in pieces::<IS_MUTF8>(bytes) {
+    for piece in pieces(is_mutf8, bytes) {
         len = len.checked_add(match piece {
             Piece::Same(text) => text.len(),
             Piece::Changed(character) => character.len_utf8(),
@@ -168,9 +170,9 @@ fn lossy_len<const IS_MUTF8: bool>(bytes: &[u8]) -> Option<usize> {
 }
 
 /// Returns the length of the decoded text, unless a byte is in no encoded character.
-fn decoded_len<const IS_MUTF8: bool>(bytes: &[u8]) -> Option<usize> {
+fn decoded_len(is_mutf8: bool, bytes: &[u8]) -> Option<usize> {
     let mut len = 0;
-    for piece in pieces::<IS_MUTF8>(bytes) {
+    for piece in pieces(is_mutf8, bytes) {
         len += match piece {
             Piece::Same(text) => text.len(),
             Piece::Changed(character) => character.len_utf8(),
@@ -181,17 +183,17 @@ fn decoded_len<const IS_MUTF8: bool>(bytes: &[u8]) -> Option<usize> {
 }
 
 /// Returns the bytes as a text if they are UTF-8 of which nothing changes.
-fn same_text<const IS_MUTF8: bool>(bytes: &[u8]) -> Option<&str> {
-    if contains_changed::<IS_MUTF8>(bytes) {
+fn same_text(is_mutf8: bool, bytes: &[u8]) -> Option<&str> {
+    if contains_changed(is_mutf8, bytes) {
         return None;
     }
     utf8::from_utf8(bytes)
 }
 
 /// Returns the decoded text, which has this length.
-fn build<const IS_MUTF8: bool>(bytes: &[u8], len: usize) -> String {
+fn build(is_mutf8: bool, bytes: &[u8], len: usize) -> String {
     let mut text = String::with_capacity(len);
-    for piece in pieces::<IS_MUTF8>(bytes) {
+    for piece in pieces(is_mutf8, bytes) {
         match piece {
             Piece::Same(same) => text.push_str(same),
             Piece::Changed(character) => text.push(character),
@@ -209,7 +211,8 @@ fn put(bytes: &[u8], buf: &mut [u8]) -> Result<usize, SliceError> {
 }
 
 /// Writes the decoded text, which has this length, to the front of a slice.
-fn put_text<const IS_MUTF8: bool>(
+fn put_text(
+    is_mutf8: bool,
     bytes: &[u8],
     needed: usize,
     buf: &mut [u8],
@@ -220,7 +223,7 @@ fn put_text<const IS_MUTF8: bool>(
         front.copy_from_slice(bytes);
         out = rest;
     };
-    for piece in pieces::<IS_MUTF8>(bytes) {
+    for piece in pieces(is_mutf8, bytes) {
         match piece {
             Piece::Same(same) => write(same.as_bytes()),
             Piece::Changed(character) => write(character.encode_utf8(&mut [0; 4]).as_bytes()),
@@ -243,7 +246,7 @@ macro_rules! calls_of {
             use super::*;
 
             pub fn needs_encoded(text: &str) -> bool {
-                super::contains_changed::<$is_mutf8>(text.as_bytes())
+                super::contains_changed($is_mutf8, text.as_bytes())
             }
 
             /// Whether a byte leads four bytes, F0 to F7, or is 00 in MUTF-8. The bytes need not be
@@ -253,7 +256,7 @@ macro_rules! calls_of {
             }
 
             pub fn encoded_len(text: &str) -> usize {
-                super::encoded_len::<$is_mutf8>(text)
+                super::encoded_len($is_mutf8, text)
             }
 
             pub fn encode(text: &str) -> Cow<'_, [u8]> {
@@ -261,21 +264,21 @@ macro_rules! calls_of {
                     return Cow::Borrowed(text.as_bytes());
                 }
                 let mut encoded = Vec::with_capacity(encoded_len(text));
-                encode_by::<$is_mutf8>(text, |bytes| encoded.extend_from_slice(bytes));
+                encode_by($is_mutf8, text, &mut |bytes| encoded.extend_from_slice(bytes));
                 Cow::Owned(encoded)
             }
 
             pub fn encode_into(text: &str, buf: &mut Vec<u8>) {
                 buf.reserve(encoded_len(text));
-                encode_by::<$is_mutf8>(text, |bytes| buf.extend_from_slice(bytes));
+                encode_by($is_mutf8, text, &mut |bytes| buf.extend_from_slice(bytes));
             }
 
             pub fn decode_strict(bytes: &[u8]) -> Result<Cow<'_, str>, DecodingError> {
-                if let Some(text) = same_text::<$is_mutf8>(bytes) {
+                if let Some(text) = same_text($is_mutf8, bytes) {
                     return Ok(Cow::Borrowed(text));
                 }
-                match super::decoded_len::<$is_mutf8>(bytes) {
-                    Some(len) => Ok(Cow::Owned(build::<$is_mutf8>(bytes, len))),
+                match super::decoded_len($is_mutf8, bytes) {
+                    Some(len) => Ok(Cow::Owned(build($is_mutf8, bytes, len))),
                     None => Err(DecodingError(())),
                 }
             }
@@ -288,11 +291,11 @@ macro_rules! calls_of {
             }
 
             pub fn decode_lossy_strict(bytes: &[u8]) -> Cow<'_, str> {
-                if let Some(text) = same_text::<$is_mutf8>(bytes) {
+                if let Some(text) = same_text($is_mutf8, bytes) {
                     return Cow::Borrowed(text);
                 }
-                match super::lossy_len::<$is_mutf8>(bytes) {
-                    Some(len) => Cow::Owned(build::<$is_mutf8>(bytes, len)),
+                match super::lossy_len($is_mutf8, bytes) {
+                    Some(len) => Cow::Owned(build($is_mutf8, bytes, len)),
                     None => capacity_overflow(),
                 }
             }
@@ -305,22 +308,22 @@ macro_rules! calls_of {
             }
 
             pub fn decoded_len(bytes: &[u8]) -> Option<usize> {
-                super::decoded_len::<$is_mutf8>(bytes)
+                super::decoded_len($is_mutf8, bytes)
             }
 
             pub fn lossy_len(bytes: &[u8]) -> Option<usize> {
-                super::lossy_len::<$is_mutf8>(bytes)
+                super::lossy_len($is_mutf8, bytes)
             }
 
             pub fn valid_up_to(bytes: &[u8]) -> usize {
-                super::valid_up_to::<$is_mutf8>(bytes)
+                super::valid_up_to($is_mutf8, bytes)
             }
 
             pub fn encode_to_slice(text: &str, buf: &mut [u8]) -> Result<usize, SliceError> {
                 let needed = encoded_len(text);
                 let out = buf.get_mut(..needed).ok_or(SliceError::TooShort { needed })?;
                 let mut end = 0;
-                encode_by::<$is_mutf8>(text, |bytes| {
+                encode_by($is_mutf8, text, &mut |bytes| {
                     out[end..end + bytes.len()].copy_from_slice(bytes);
                     end += bytes.len();
                 });
@@ -332,7 +335,7 @@ macro_rules! calls_of {
                 buf: &mut [u8],
             ) -> Result<usize, SliceError> {
                 let needed = decoded_len(bytes).ok_or(SliceError::Invalid)?;
-                put_text::<$is_mutf8>(bytes, needed, buf)
+                put_text($is_mutf8, bytes, needed, buf)
             }
 
             pub fn decode_to_slice(bytes: &[u8], buf: &mut [u8]) -> Result<usize, SliceError> {
@@ -347,7 +350,7 @@ macro_rules! calls_of {
                 buf: &mut [u8],
             ) -> Result<usize, SliceError> {
                 let needed = lossy_len(bytes).ok_or(SliceError::TooLong)?;
-                put_text::<$is_mutf8>(bytes, needed, buf)
+                put_text($is_mutf8, bytes, needed, buf)
             }
 
             pub fn decode_lossy_to_slice(

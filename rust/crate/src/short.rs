@@ -64,9 +64,11 @@ fn any_in_words<const LEAST: u8, const OR_NULL: bool>(bytes: &[u8]) -> bool {
     };
     let found = match len {
         0 => 0,
+        // A text that is so short has no character of four bytes.
+        1..4 if LEAST == LEAD_OF_FOUR && !OR_NULL => 0,
         1..4 => {
             let (first, middle, last) = (bytes[0], bytes[len / 2], bytes[len - 1]);
-            test(u64::from_le_bytes([first, middle, last, last, last, last, last, last]))
+            test(u64::from(u32::from_le_bytes([first, middle, last, last])) | HIGH >> 7 << 32)
         }
         4..8 => test(half(0) | half(len - 4) << 32),
         8..=16 => word(0) | word(len - 8),

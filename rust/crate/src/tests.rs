@@ -387,17 +387,26 @@ macro_rules! test_level {
             for _ in 0..inputs() {
                 // Where the allocation ends, the bytes end.
                 let bytes = random.bytes().into_boxed_slice();
-                test_encoding!($($surface)::*::of_cesu8, false, &bytes);
-                test_encoding!($($surface)::*::of_mutf8, true, &bytes);
+                // SAFETY: the processor has the level's features.
+                #[allow(unused_unsafe)]
+                unsafe {
+                    test_encoding!($($surface)::*::of_cesu8, false, &bytes);
+                    test_encoding!($($surface)::*::of_mutf8, true, &bytes);
+                }
                 if let Ok(text) = core::str::from_utf8(&bytes) {
                     use $($surface)::* as calls;
-                    assert_eq!(calls::utf16_len(text), text.encode_utf16().count());
+                    // SAFETY: the processor has the level's features.
+                    #[allow(unused_unsafe)]
+                    let units = unsafe { calls::utf16_len(text) };
+                    assert_eq!(units, text.encode_utf16().count());
                     let mut other = String::from(text);
                     let character = random.character(1 + random.0 % 4);
                     other.push(character);
                     for other in [&other, &last] {
                         let expected = text.encode_utf16().cmp(other.encode_utf16());
-                        let order = calls::compare_as_utf16(text, other);
+                        // SAFETY: the processor has the level's features.
+                        #[allow(unused_unsafe)]
+                        let order = unsafe { calls::compare_as_utf16(text, other) };
                         assert_eq!(order, expected, "{text:?} {other:?}");
                     }
                     last = other;

@@ -6,6 +6,7 @@
 use alloc::borrow::Cow;
 use alloc::vec::Vec;
 use core::cmp::Ordering;
+use core::marker::PhantomData;
 
 use super::bytes::flavor::{Cesu8Flavor, Flavor, Mutf8Flavor};
 use super::bytes::strictness::StrictReading;
@@ -15,7 +16,7 @@ use super::calls::{self, CowBytes, CowText, DecodeSliceFault, LossySliceFault, T
 use super::decode;
 use super::decode::accepts::{Accepts, EncodingAlone, Lenient, front_unless_kept};
 use super::decode::copy_or_write::decode_to_slice;
-use super::decode::front::valid_up_to_other;
+use super::decode::front::{FoundFront, valid_up_to_other};
 use super::memory::{AllocError, Global};
 use crate::{DecodingError, SliceError};
 
@@ -38,13 +39,31 @@ fn bytes_of(result: Result<CowBytes<'_>, AllocError>) -> Cow<'_, [u8]> {
 /// The most bytes that are decoded on the stack.
 const FEW: usize = 64;
 
+/// What `A` takes, of bytes that were tested for short ASCII before.
+struct Tested<A>(PhantomData<A>);
+
+impl<A: Accepts> Accepts for Tested<A> {
+    #[cfg_attr(not(debug_assertions), inline(always))]
+    fn is_short_kept<F: Flavor>(_: &[u8]) -> bool {
+        false
+    }
+
+    #[cfg_attr(not(debug_assertions), inline(always))]
+    fn front_of_other<F: Flavor>(bytes: &[u8]) -> FoundFront {
+        A::front_of_other::<F>(bytes)
+    }
+}
+
 /// Decodes strictly what a call that takes `A` takes. Input is rejected before memory is allocated.
 #[cfg_attr(not(debug_assertions), inline(always))]
 fn strict<F: Flavor, A: Accepts>(bytes: &[u8]) -> Result<Cow<'_, str>, DecodingError> {
     if bytes.len() <= FEW {
-        return strict_few::<F, A>(bytes);
+        return strict_few::<F, Tested<A>>(bytes);
     }
-    let Some(front) = front_unless_kept::<F, A>(bytes) else {
+    if A::is_short_kept::<F>(bytes) {
+        return Ok(Cow::Borrowed(known_text(bytes)));
+    }
+    let Some(front) = front_unless_kept::<F, Tested<A>>(bytes) else {
         return Ok(Cow::Borrowed(known_text(bytes)));
     };
     let rest = &bytes[front.len..];
@@ -69,11 +88,17 @@ fn strict_few<F: Flavor, A: Accepts>(bytes: &[u8]) -> Result<Cow<'_, str>, Decod
     }
 }
 
+/// Decodes what a call that takes `A` takes, and replaces what is ill-formed.
 #[cfg_attr(not(debug_assertions), inline(always))]
-fn lossy(result: Result<CowText<'_>, AllocError>) -> Cow<'_, str> {
-    match result {
-        Ok(CowText::Borrowed(text)) => Cow::Borrowed(text),
-        Ok(CowText::Owned(text)) => Cow::Owned(text),
+fn lossy<F: Flavor, A: Accepts>(bytes: &[u8]) -> Cow<'_, str> {
+    if bytes.len() > FEW && A::is_short_kept::<F>(bytes) {
+        return Cow::Borrowed(known_text(bytes));
+    }
+    let Some(front) = front_unless_kept::<F, Tested<A>>(bytes) else {
+        return Cow::Borrowed(known_text(bytes));
+    };
+    match decode::decode_lossy::<F>(Global, bytes, front) {
+        Ok(text) => Cow::Owned(text),
         Err(AllocError) => capacity_overflow(),
     }
 }
@@ -101,14 +126,9 @@ type SliceResult = Result<usize, SliceError>;
 /// Defines functions with the features of this level.
 macro_rules! at_this_level {
     ($($name:ident($($argument:ident: $type:ty),*) -> $result:ty = $value:expr;)*) => {
-        $(#[cfg_attr(not(debug_assertions), inline(always))]
-        pub fn $name($($argument: $type),*) -> $result {
-            at_level! {
-                #[inline(never)] {
-                    fn at_level($($argument: $type),*) -> $result {
-                        $value
-                    }
-                } at_level($($argument),*)
+        $(call_at_level! {
+            fn $name($($argument: $type),*) -> $result {
+                $value
             }
         })*
     };
@@ -132,9 +152,9 @@ macro_rules! calls_of {
                 decode(bytes: &[u8]) -> Result<Cow<'_, str>, DecodingError> =
                     strict::<$flavor, Lenient>(bytes);
                 decode_lossy_strict(bytes: &[u8]) -> Cow<'_, str> =
-                    lossy($calls::decode_lossy_strict(Global, bytes));
+                    lossy::<$flavor, EncodingAlone>(bytes);
                 decode_lossy(bytes: &[u8]) -> Cow<'_, str> =
-                    lossy($calls::decode_lossy(Global, bytes));
+                    lossy::<$flavor, Lenient>(bytes);
                 decoded_len(bytes: &[u8]) -> Option<usize> = $calls::decoded_len(bytes);
                 lossy_len(bytes: &[u8]) -> Option<usize> = $calls::lossy_len(bytes);
                 valid_up_to(bytes: &[u8]) -> usize = $calls::valid_up_to(bytes);

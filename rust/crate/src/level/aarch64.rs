@@ -1,10 +1,29 @@
 //! The level of aarch64: NEON, which every build for it may use.
 
 macro_rules! at_level {
-    (#[$hint:meta] { $($function:tt)* } $call:expr) => {
-        #[$hint]
+    (always { $($function:tt)* } $call:expr) => {
+        #[cfg_attr(not(debug_assertions), inline(always))]
         $($function)*
         $call
+    };
+    ($(#[$hint:meta])? { $($function:tt)* } $call:expr) => {
+        $(#[$hint])?
+        $($function)*
+        $call
+    };
+}
+
+macro_rules! call_at_level {
+    ($($function:tt)*) => {
+        #[inline(never)]
+        pub $($function)*
+    };
+}
+
+macro_rules! table {
+    ($module:tt $(#[$doc:meta])* static $($table:tt)*) => {
+        $(#[$doc])*
+        pub(crate) static $($table)*
     };
 }
 
@@ -18,8 +37,8 @@ macro_rules! block {
 pub(crate) mod neon;
 
 macro_rules! by_level {
-    ($($call:tt)*) => {
-        $crate::level::aarch64::neon::surface::$($call)*
+    ($name:ident($($argument:ident: $type:ty),*) -> $result:ty, $($path:tt)*) => {
+        pub(crate) use $crate::level::aarch64::neon::surface::$($path)*;
     };
 }
 pub(crate) use by_level;

@@ -1,12 +1,30 @@
 //! The levels of x86-64.
 
 macro_rules! at_level {
-    (#[$hint:meta] { $($function:tt)* } $call:expr) => {
+    (always { $($function:tt)* } $call:expr) => {
+        #[cfg_attr(not(debug_assertions), inline(always))]
+        $($function)*
+        $call
+    };
+    ($(#[$hint:meta])? { $($function:tt)* } $call:expr) => {
         #[target_feature(enable = "avx2,bmi1,bmi2,lzcnt,popcnt")]
-        #[$hint]
+        $(#[$hint])?
         unsafe $($function)*
         // SAFETY: this level is called only if the processor has its features.
         unsafe { $call }
+    };
+}
+macro_rules! call_at_level {
+    ($($function:tt)*) => {
+        #[target_feature(enable = "avx2,bmi1,bmi2,lzcnt,popcnt")]
+        #[inline(never)]
+        pub unsafe $($function)*
+    };
+}
+macro_rules! table {
+    ($module:tt $(#[$doc:meta])* static $($table:tt)*) => {
+        $(#[$doc])*
+        pub(crate) static $($table)*
     };
 }
 macro_rules! block {
@@ -17,14 +35,29 @@ macro_rules! block {
 #[path = "../codec/mod.rs"]
 pub(crate) mod v3;
 
+// Few processors have this level and not v3, so no function is inlined for speed alone.
 #[allow(unused_macros)] // A build for v3 has no v2.
 macro_rules! at_level {
-    (#[$hint:meta] { $($function:tt)* } $call:expr) => {
+    ($(always)? $(#[inline $($never:tt)?])? { $($function:tt)* } $call:expr) => {
         #[target_feature(enable = "sse3,ssse3,sse4.1,sse4.2,popcnt")]
-        #[$hint]
+        $($(#[inline $never])?)?
         unsafe $($function)*
         // SAFETY: this level is called only if the processor has its features.
         unsafe { $call }
+    };
+}
+#[allow(unused_macros)]
+macro_rules! call_at_level {
+    ($($function:tt)*) => {
+        #[target_feature(enable = "sse3,ssse3,sse4.1,sse4.2,popcnt")]
+        #[inline(never)]
+        pub unsafe $($function)*
+    };
+}
+#[allow(unused_macros)]
+macro_rules! table {
+    (($($module:tt)*) $(#[$doc:meta])* static $name:ident: $($value:tt)*) => {
+        use crate::level::x86::v3::$($module)*::$name;
     };
 }
 #[allow(unused_macros)]
@@ -57,12 +90,17 @@ pub(crate) mod v2;
     not(cesu8_level = "v2")
 ))]
 macro_rules! by_level {
-    ($($call:tt)*) => {
-        $crate::level::x86::v3::surface::$($call)*
+    ($name:ident($($argument:ident: $type:ty),*) -> $result:ty, $($path:tt)*) => {
+        #[inline]
+        pub(crate) fn $name($($argument: $type),*) -> $result {
+            // SAFETY: the build is for processors with the level's features.
+            unsafe { $crate::level::x86::v3::surface::$($path)*($($argument),*) }
+        }
     };
 }
 
-// Others, if the processor can be asked.
+// Others, if the processor can be asked. The function that is called is in a static; at first it is
+// one that asks the processor, and puts that of the level there.
 #[cfg(all(
     feature = "std",
     not(all(
@@ -75,12 +113,34 @@ macro_rules! by_level {
     ))
 ))]
 macro_rules! by_level {
-    ($($call:tt)*) => {
-        match $crate::level::x86::detected::level() {
-            #[cfg(not(cesu8_level = "v2"))]
-            $crate::level::x86::detected::V3 => $crate::level::x86::v3::surface::$($call)*,
-            $crate::level::x86::detected::V2 => $crate::level::x86::v2::surface::$($call)*,
-            _ => $crate::plain::$($call)*,
+    ($name:ident($($argument:ident: $type:ty),*) -> $result:ty, $($path:tt)*) => {
+        #[inline]
+        pub(crate) fn $name($($argument: $type),*) -> $result {
+            use core::sync::atomic;
+
+            use $crate::level::x86::Level;
+
+            type Call = unsafe fn($($type),*) -> $result;
+
+            static CALL: atomic::AtomicPtr<()> = atomic::AtomicPtr::new(choose as Call as *mut ());
+
+            #[cold]
+            #[inline(never)]
+            fn choose($($argument: $type),*) -> $result {
+                let call: Call = match $crate::level::x86::detected() {
+                    #[cfg(not(cesu8_level = "v2"))]
+                    Level::V3 => $crate::level::x86::v3::surface::$($path)*,
+                    Level::V2 => $crate::level::x86::v2::surface::$($path)*,
+                    Level::Plain => $crate::plain::$($path)*,
+                };
+                CALL.store(call as *mut (), atomic::Ordering::Relaxed);
+                // SAFETY: the processor has the level's features.
+                unsafe { call($($argument),*) }
+            }
+
+            let call = CALL.load(atomic::Ordering::Relaxed);
+            // SAFETY: a `Call`: `choose`, or that of a level whose features the processor has.
+            unsafe { core::mem::transmute::<*mut (), Call>(call)($($argument),*) }
         }
     };
 }
@@ -99,67 +159,49 @@ macro_rules! by_level {
     ))
 ))]
 macro_rules! by_level {
-    ($($call:tt)*) => {
-        $crate::level::x86::v2::surface::$($call)*
+    ($name:ident($($argument:ident: $type:ty),*) -> $result:ty, $($path:tt)*) => {
+        #[inline]
+        pub(crate) fn $name($($argument: $type),*) -> $result {
+            // SAFETY: the build is for processors with the level's features.
+            unsafe { $crate::level::x86::v2::surface::$($path)*($($argument),*) }
+        }
     };
 }
 #[cfg(all(not(feature = "std"), not(all(target_feature = "sse4.2", target_feature = "popcnt"))))]
 macro_rules! by_level {
-    ($($call:tt)*) => {
-        $crate::plain::$($call)*
+    ($name:ident($($argument:ident: $type:ty),*) -> $result:ty, $($path:tt)*) => {
+        pub(crate) use $crate::plain::$($path)*;
     };
 }
 
 pub(crate) use by_level;
 
-#[cfg(all(
-    feature = "std",
-    not(all(
-        target_feature = "avx2",
-        target_feature = "bmi1",
-        target_feature = "bmi2",
-        target_feature = "lzcnt",
-        target_feature = "popcnt",
-        not(cesu8_level = "v2")
-    ))
-))]
-pub(crate) mod detected {
-    use core::sync::atomic::{AtomicU8, Ordering};
+/// A level that a processor may have.
+#[cfg(feature = "std")]
+#[allow(dead_code)] // A build for v3 asks no processor.
+pub(crate) enum Level {
+    #[cfg(not(cesu8_level = "v2"))]
+    V3,
+    V2,
+    Plain,
+}
 
-    const UNKNOWN: u8 = 0;
-    pub(crate) const PLAIN: u8 = 1;
-    pub(crate) const V2: u8 = 2;
-    pub(crate) const V3: u8 = 3;
-
-    static LEVEL: AtomicU8 = AtomicU8::new(UNKNOWN);
-
-    /// Returns the level of the processor. Threads that ask at the same time get the same answer.
-    #[inline]
-    pub(crate) fn level() -> u8 {
-        match LEVEL.load(Ordering::Relaxed) {
-            UNKNOWN => detect(),
-            level => level,
-        }
+/// Returns the level of the processor. `std` asks it once.
+#[cfg(feature = "std")]
+#[allow(dead_code)]
+pub(crate) fn detected() -> Level {
+    let has_v2 = is_x86_feature_detected!("ssse3")
+        && is_x86_feature_detected!("sse4.1")
+        && is_x86_feature_detected!("sse4.2")
+        && is_x86_feature_detected!("popcnt");
+    #[cfg(not(cesu8_level = "v2"))]
+    if has_v2
+        && is_x86_feature_detected!("avx2")
+        && is_x86_feature_detected!("bmi1")
+        && is_x86_feature_detected!("bmi2")
+        && is_x86_feature_detected!("lzcnt")
+    {
+        return Level::V3;
     }
-
-    #[cold]
-    #[inline(never)]
-    fn detect() -> u8 {
-        let has_v2 = is_x86_feature_detected!("ssse3")
-            && is_x86_feature_detected!("sse4.1")
-            && is_x86_feature_detected!("sse4.2")
-            && is_x86_feature_detected!("popcnt");
-        let has_v3 = has_v2
-            && is_x86_feature_detected!("avx2")
-            && is_x86_feature_detected!("bmi1")
-            && is_x86_feature_detected!("bmi2")
-            && is_x86_feature_detected!("lzcnt");
-        let level = match (has_v2, has_v3) {
-            (_, true) => V3,
-            (true, false) => V2,
-            (false, false) => PLAIN,
-        };
-        LEVEL.store(level, Ordering::Relaxed);
-        level
-    }
+    if has_v2 { Level::V2 } else { Level::Plain }
 }
