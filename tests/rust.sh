@@ -5,7 +5,9 @@
 #   borrowing; the examples of the documentation;
 # - the same calls beside the library for C of RELEASE, optimized;
 # - a build for x86-64-v3, one without std, and one with the feature simdutf8, over a crate of that
-#   name and API that stands in, since no registry is asked; rustc 1.85 if RUSTC_1_85 names it;
+#   name and API that stands in, since no registry is asked; rustc 1.85 if RUSTC_1_85 names it, as
+#   tests/rust_1_85.sh gets it;
+# - the levels under the address sanitizer, if rustup has a nightly compiler;
 # - programs as a user writes them, from the .crate files of RELEASE, offline: the dependency in one
 #   line, [patch.crates-io], panic = "abort", fat LTO, a static relocation model;
 # - no warning of rustc, rustdoc and clippy, and rustfmt of what is written by hand;
@@ -143,6 +145,21 @@ test_forms() {
     pass
 }
 
+# The sanitizer sees what the shim reads and writes, at each level.
+test_addresses() {
+    if ! cargo +nightly --version >/dev/null 2>&1 || [[ $(uname -m) != x86_64 ]]; then
+        echo 'no nightly cargo for x86-64: the address sanitizer skipped'
+        return
+    fi
+    export CESU8_INPUTS=$debug_inputs
+    if target=sanitized RUSTFLAGS=-Zsanitizer=address in_crate +nightly test \
+        --target x86_64-unknown-linux-gnu --lib -- --skip fast_path; then
+        pass
+    else
+        wrong 'the levels under the address sanitizer'
+    fi
+}
+
 test_users() {
     local line="simd_cesu8 = { package = \"cesu8_rattle\", path = \"$crate\" }"
     user_package one_line "$line"
@@ -210,6 +227,7 @@ fi
 test_eraser
 test_levels
 test_forms
+test_addresses
 test_users
 look_at_style
 look_at_assembly

@@ -6,7 +6,7 @@ use std::cell::Cell;
 use std::error::Error;
 use std::thread;
 
-use simd_cesu8::{DecodingError, SliceError, mutf8};
+use simd_cesu8::{DecodingError, SliceError, java, mutf8};
 
 /// Counts the requests of a thread.
 struct Counting;
@@ -100,6 +100,64 @@ fn allocations() {
         let mut buf = Vec::new();
         assert_eq!(requests(|| mutf8::encode_into(&same, &mut buf)).0, 1, "{len}");
     }
+}
+
+/// Bytes that no call decodes strictly: of so many characters, with damage at the start, in the
+/// middle or at the end.
+fn rejected(len: usize) -> Vec<Vec<u8>> {
+    let damage: [&[u8]; 6] =
+        [b"\xFF", b"\xED\xA0\xBD", b"\xED\xB2\x96", b"\xC1\x80", b"\xE2\x82", b"\x80"];
+    let mut all = Vec::new();
+    for character in ["a", "\u{E9}", "\u{1F496}"] {
+        let text = simd_cesu8::encode(&character.repeat(len)).into_owned();
+        let width = simd_cesu8::encode(character).len();
+        for damage in damage {
+            for at in [0, len / 2, len] {
+                let mut bytes = text.clone();
+                bytes.splice(width * at..width * at, damage.iter().copied());
+                all.push(bytes);
+            }
+        }
+    }
+    all
+}
+
+/// Each call that may reject its input does so before it requests memory.
+#[test]
+fn rejected_without_memory() {
+    let lengths = LENGTHS.into_iter().filter(|len| *len < 5000);
+    for bytes in lengths.flat_map(rejected) {
+        macro_rules! rejects {
+            ($($call:expr;)*) => {
+                $({
+                    let mut is_error = false;
+                    let (count, _) = requests(|| is_error = $call.is_err());
+                    assert!(is_error && count == 0, "{} of {bytes:02X?}", stringify!($call));
+                })*
+            };
+        }
+        let mut buf = vec![0xEE; 3 * bytes.len()];
+        rejects! {
+            simd_cesu8::decode_strict(&bytes);
+            simd_cesu8::decode(&bytes);
+            simd_cesu8::decode_strict_to_slice(&bytes, &mut buf);
+            simd_cesu8::decode_to_slice(&bytes, &mut buf);
+            mutf8::decode_strict(&bytes);
+            mutf8::decode(&bytes);
+            mutf8::decode_strict_to_slice(&bytes, &mut buf);
+            mutf8::decode_to_slice(&bytes, &mut buf);
+        }
+        if let Ok(count) = u16::try_from(bytes.len()) {
+            let counted = [&count.to_be_bytes()[..], &bytes].concat();
+            rejects! {
+                java::read_utf(&counted);
+                java::read_utf(&counted[..counted.len() - 1]);
+            }
+        }
+    }
+    let (text, mut buf) = ("a".repeat(0x1_0000), Vec::new());
+    let (count, _) = requests(|| assert!(java::write_utf(&text, &mut buf).is_err()));
+    assert_eq!(count, 0);
 }
 
 #[test]
