@@ -34,7 +34,10 @@ function keep(clause) {
     lines[crate, item, clause] = lines[crate, item, clause] "\n" text
     is_crate[crate]
     sub(/.*::/, "", item)
-    if (text ~ /^pub (extern "C" )?fn /) signature_of[item] = text
+    if (text ~ /^pub (extern "C" )?fn /) {
+        if (!(item in signature_of)) signature_of[item] = text
+        signature_in[crate, item] = text
+    }
     if (match(text, /^pub enum [^{]*\{/)) keep_cases(item, substr(text, RLENGTH + 1))
 }
 
@@ -47,6 +50,11 @@ function keep_cases(type, list, words, count, i) {
     cases_in[type] = list
     count = split(list, words, " ")
     for (i = 1; i <= count && type ~ /^Option$|Fault$/; i++) is_fault[words[i]]
+}
+
+# The signature of a function: that of the row's crate, or else of another that has the name.
+function told_signature(name) {
+    return (crate, name) in signature_in ? signature_in[crate, name] : signature_of[name]
 }
 
 function word(line, number, words) {
@@ -126,7 +134,7 @@ function compare_code(place, rest, code) {
     while (match(rest, /`[^`]+`/)) {
         code = substr(rest, RSTART + 1, RLENGTH - 2)
         rest = substr(rest, RSTART + RLENGTH)
-        if (code in signature_of) cases = cases " " cases_of(signature_of[code])
+        if (code in signature_of) cases = cases " " cases_of(told_signature(code))
         if (!is_right(code)) print place "no clause has `" code "`"
     }
 }
