@@ -52,8 +52,8 @@ RULES = {
     "as_chunks": "it came with Rust 1.88, and the crate is for 1.85",
     "table": "a constant that is only borrowed is a static, of which a program has one copy",
     "level": "a function that is not inlined is compiled with the features of its level",
-    "reader": "always inlined, a function that passes no vector and writes nothing is much code",
-    "writer": "one that writes is always inlined, but in a level for which size counts more",
+    "reader": "a level may leave to the compiler where what passes no vector is inlined",
+    "writer": "the same, for a function that writes: a level may inline it and no reader",
     "method": "a method is inlined, since it can't have a function with features in it",
     "inline": "without optimization, inlining everything takes minutes to compile",
 }
@@ -504,7 +504,7 @@ class Eraser:
         if always:
             is_writer = "&mut" in signature
             self.use("writer" if is_writer else "reader")
-            hint = "always " if is_writer else "#[inline] "
+            hint = "writer " if is_writer else "reader "
         elif attribute:
             head = head.replace(attribute[0], "#[inline(always)]")
         else:

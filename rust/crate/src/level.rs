@@ -13,7 +13,8 @@
 //! Four macros tell a copy of the codec its level. `at_level!` defines a function with the features of
 //! the level and calls it, and `call_at_level!` one that others call; `table!` defines a static, of
 //! which two levels have one; `block!` is the vector of 32 bytes. A copy whose functions are not
-//! called leaves no machine code.
+//! called leaves no machine code. What passes no vector is always inlined in v3 and NEON, and in v2
+//! if the compiler finds it worth its code.
 
 #[cfg(all(target_arch = "x86_64", not(any(miri, cesu8_level = "plain"))))]
 pub(crate) mod x86;

@@ -1,7 +1,7 @@
 //! The level of aarch64: NEON, which every build for it may use.
 
 macro_rules! at_level {
-    (always { $($function:tt)* } $call:expr) => {
+    ($passes:ident { $($function:tt)* } $call:expr) => {
         #[cfg_attr(not(debug_assertions), inline(always))]
         $($function)*
         $call

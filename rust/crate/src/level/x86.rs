@@ -1,7 +1,7 @@
 //! The levels of x86-64.
 
 macro_rules! at_level {
-    (always { $($function:tt)* } $call:expr) => {
+    ($passes:ident { $($function:tt)* } $call:expr) => {
         #[cfg_attr(not(debug_assertions), inline(always))]
         $($function)*
         $call
@@ -38,7 +38,7 @@ pub(crate) mod v3;
 // Few processors have this level and not v3, so no function is inlined for speed alone.
 #[allow(unused_macros)] // A build for v3 has no v2.
 macro_rules! at_level {
-    ($(always)? $(#[inline $($never:tt)?])? { $($function:tt)* } $call:expr) => {
+    ($($passes:ident)? $(#[inline $($never:tt)?])? { $($function:tt)* } $call:expr) => {
         #[target_feature(enable = "sse3,ssse3,sse4.1,sse4.2,popcnt")]
         $($(#[inline $never])?)?
         unsafe $($function)*
