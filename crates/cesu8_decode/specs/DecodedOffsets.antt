@@ -86,6 +86,17 @@ unfoldable pub decoded_byte : (w0 w1 w2 w3 w4 w5 two_before before b : ℕ) → 
 decoded_byte w0 w1 w2 w3 w4 w5 two_before before b =
     written_for (goes_by w0 w1 b) (ill_formed_by w0 w1 w2 w3 w4 w5) (byte_by w1 w2 w3 w4 two_before before b)
 
+-- Whether the byte of a window goes that follows the first i bytes and five more, and the byte that is
+-- written if it stays.
+abbrev pub goes_at : Flavor → List ℕ → ℕ → Bool
+goes_at f window i =
+    goes_by (width_at f window (i + 5)) (width_at f window (i + 4)) (slice_index window (i + 5))
+
+abbrev pub byte_at : Flavor → List ℕ → ℕ → ℕ
+byte_at f window i =
+    byte_by (width_at f window (i + 4)) (width_at f window (i + 3)) (width_at f window (i + 2)) (width_at f window (i + 1))
+    (slice_index window (i + 3)) (slice_index window (i + 4)) (slice_index window (i + 5))
+
 -- What the byte of a window becomes that follows the first i bytes and five more.
 abbrev pub decoded_at : Flavor → List ℕ → ℕ → List ℕ
 decoded_at f window i =
@@ -105,6 +116,15 @@ abbrev pub is_ill_formed_at : Flavor → List ℕ → ℕ → Bool
 is_ill_formed_at f window i =
     ill_formed_by (width_at f window (i + 5)) (width_at f window (i + 4)) (width_at f window (i + 3)) (width_at f window (i + 2))
     (width_at f window (i + 1)) (width_at f window i)
+
+-- No encoded character crosses a boundary from the five offsets before it, by their widths.
+abbrev pub boundary_by : (w1 w2 w3 w4 w5 : ℕ) → Bool
+boundary_by w1 w2 w3 w4 w5 = nat_le w1 1 && (nat_le w2 2 && (nat_le w3 3 && (nat_le w4 4 && nat_le w5 5)))
+
+-- The boundary before the byte of a window that follows the first i bytes and five more.
+abbrev pub is_boundary_at : Flavor → List ℕ → ℕ → Bool
+is_boundary_at f window i =
+    boundary_by (width_at f window (i + 4)) (width_at f window (i + 3)) (width_at f window (i + 2)) (width_at f window (i + 1)) (width_at f window i)
 
 -- How many bytes an offset saves: three times the bytes of the character that begins there, less
 -- those of its UTF-8. An ill-formed byte saves none.

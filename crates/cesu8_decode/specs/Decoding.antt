@@ -4,19 +4,16 @@ use Rattle.cesu8_text.specs.Reading.{HasNoStrictReading, lossy_length}
 use Rattle.cesu8_text.specs.Encoding.{Flavor}
 use Rattle.cesu8_bytes.specs.declared.strictness.Strictness.{Strictness}
 use Rattle.cesu8_bytes.specs.declared.strictness.Strictness.TheVariants.{Strict, Lossy}
-use Rattle.cesu8_bytes.specs.declared.TheConstants.{BLOCK}
 use Rattle.cesu8_decode.specs.declared.way.TheConstants.{FEW_BYTES, SMALL_ARRAY, LARGE_ARRAY, LARGEST_ARRAY}
 use Rattle.cesu8_decode.specs.declared.way.Way.{Way}
-use Rattle.cesu8_decode.specs.declared.way.Way.TheVariants.{OneBlock, Few, SmallArray, LargeArray, LargestArray, Chunks}
-use Rattle.cesu8_decode.specs.declared.lanes.packing.TheConstants.{WIDEST, ROOM}
-use Rattle.cesu8_decode.specs.declared.pass.blocks.Pass.{Pass}
-use Rattle.cesu8_decode.specs.DecodedOffsets.{window_of, decoded, is_ill_formed_at}
-use Rattle.cesu8_decode.specs.DecodedLanes.{AreFiveKinds}
+use Rattle.cesu8_decode.specs.declared.way.Way.TheVariants.{Few, SmallArray, LargeArray, LargestArray, Chunks}
+use Rattle.cesu8_decode.specs.declared.pass.window.TheConstants.{WIDEST, ROOM}
+use Rattle.cesu8_decode.specs.declared.pass.windows.Pass.{Pass}
+use Rattle.cesu8_decode.specs.DecodedOffsets.{window_of, decoded, is_ill_formed_at, is_boundary_at}
 use Rattle.cesu8_bytes.specs.TextChunks.{IsReadSoFar}
 
 -- Bytes are no more than the way takes that they go, and by chunks more than all others take.
 abbrev pub Takes : Way → List ℕ → Type 0
-Takes OneBlock bytes = length bytes ≤ BLOCK
 Takes Few bytes = length bytes ≤ FEW_BYTES
 Takes SmallArray bytes = length bytes ≤ SMALL_ARRAY
 Takes LargeArray bytes = length bytes ≤ LARGE_ARRAY
@@ -28,7 +25,7 @@ abbrev pub most_written : Strictness → ℕ → ℕ
 most_written Strict n = n
 most_written Lossy n = WIDEST * n
 
--- A buffer has room for the text of n bytes, and behind it for that of a block.
+-- A buffer has room for the text of n bytes, and after it for that of a window.
 abbrev pub room_for : Strictness → ℕ → ℕ
 room_for which n = most_written which n + ROOM
 
@@ -69,19 +66,18 @@ pub record WritesDecoded (f : Flavor) (which : Strictness) (window : List ℕ) (
   pub end : new_end ≤ start + most_written which n
   pub len : length new ≡ length old
 
--- The pass goes on behind some bytes, where the kinds of the five offsets before are known,
-pub record IsPass (f : Flavor) (bytes : List ℕ) (read : ℕ) (kinds : List ℕ) : Type 0 where
+-- The pass goes on after some bytes, at a boundary that no character crosses,
+pub record IsPass (f : Flavor) (bytes : List ℕ) (read : ℕ) : Type 0 where
   pub within : read ≤ length bytes
-  pub start : read < length bytes → read < 5 → read ≡ 0
-  pub before : read < length bytes → AreFiveKinds f (window_of bytes) read kinds 27
+  pub boundary : is_boundary_at f (window_of bytes) read ≡ true
 
 -- and nothing is in the buffer.
-abbrev pub pass_from : ℕ → List ℕ → Pass
-pass_from read kinds = record { read = read; end = 0; is_refused = false; kinds = kinds }
+abbrev pub pass_from : ℕ → Pass
+pass_from read = record { read = read; end = 0; is_refused = false }
 
 -- It came further, and the text of what was read meanwhile is written behind that of what was read before.
 pub record GoesOn (f : Flavor) (which : Strictness) (bytes : List ℕ) (before after : Pass) (old new : List ℕ) : Type 0 where
-  pub pass : after.is_refused ≡ false → IsPass f bytes after.read after.kinds
+  pub pass : after.is_refused ≡ false → IsPass f bytes after.read
   pub within : (before.read ≤ after.read) × (after.read ≤ length bytes)
   pub text : (start text : List ℕ) → IsDecoded f which (window_of bytes) 0 before.read start (text ++ take before.end old) false →
       IsDecoded f which (window_of bytes) 0 after.read start (text ++ take after.end new) after.is_refused
@@ -90,9 +86,9 @@ pub record GoesOn (f : Flavor) (which : Strictness) (bytes : List ℕ) (before a
   pub len : length new ≡ length old
 
 -- A vector gets what the pass writes next to some buffer.
-pub record AppendsNext {Z : Type 0} (f : Flavor) (which : Strictness) (bytes : List ℕ) (read : ℕ) (kinds : List ℕ) (after : Pass) (before out : Vec ℕ Z) : Type 0 where
+pub record AppendsNext {Z : Type 0} (f : Flavor) (which : Strictness) (bytes : List ℕ) (read : ℕ) (after : Pass) (before out : Vec ℕ Z) : Type 0 where
   pub old : List ℕ
   pub new : List ℕ
-  pub more : GoesOn f which bytes (pass_from read kinds) after old new
+  pub more : GoesOn f which bytes (pass_from read) after old new
   pub text : after.is_refused ≡ false → out.items ≡ before.items ++ take after.end new
   pub capacity : vec_capacity out ≡ vec_capacity before

@@ -1,5 +1,5 @@
 -- Which bytes may follow which in whole encoded characters.
-use Rattle.std.specs.Prelude.{◌≡◌, ℕ, ◌+◌, ◌%◌, map, drop, ◌<◌, ◌≤◌, ◌&&◌, ◌||◌, ◌==◌, nat_le, nat_lt, if◌then◌else◌, not, Bool, true, false, List, ◌∷◌, length, slice_index}
+use Rattle.std.specs.Prelude.{◌≡◌, ℕ, ◌+◌, ◌/◌, ◌%◌, map, drop, ◌<◌, ◌≤◌, ◌&&◌, ◌||◌, ◌==◌, nat_le, nat_lt, if◌then◌else◌, not, Bool, true, false, List, ◌∷◌, length, slice_index, bit_and}
 use Rattle.std.specs.List.{range_with_len}
 use Rattle.std.specs.Simd.Lanes.{chunk, mask_l}
 use Rattle.cesu8_text.specs.Class.{is_null}
@@ -28,6 +28,12 @@ has_changed s = (rule s).has_changed
 abbrev pub first_low : CharacterSet → ℕ
 first_low Encoded = 0xB0
 first_low Unchanged = 0xA0
+
+-- What three tables tell of two bytes: the common bits of their entries, by the upper half of the
+-- first byte, by its lower half, and by the upper half of the second.
+abbrev pub told : (by_high by_low by_next : List ℕ) → ℕ → ℕ → ℕ
+told by_high by_low by_next a b =
+    bit_and (bit_and (slice_index by_high (a / 0x10 % 0x10)) (slice_index by_low (a % 0x10))) (slice_index by_next (b / 0x10 % 0x10))
 
 -- What byte b shows behind byte a: 80 (hexadecimal) behind a continuation byte, as the third byte of
 -- a character has it, 20 as the second byte of a low surrogate, or of any where none is meant, and 0

@@ -1,5 +1,5 @@
 pub mod DecodedOffsets
-pub mod DecodedLanes
+pub mod Masks
 pub mod Refusals
 pub mod Following
 pub mod Decoding

@@ -1,15 +1,14 @@
-//! What vectors tell of 32 bytes, with no branch on a single byte, in the order of the data:
+//! What vectors tell of 32 or 64 bytes, with no branch on a single byte, in the order of the data:
 //!
-//! - `offsets`: what begins at each offset
+//! - `tables`: tables of sixteen entries, and bytes moved from one vector to the next
 //! - `character_set`, `following`: which byte may follow which in whole characters of a set
 //! - `stops`: which of a few bytes may not, as the bits of a word
-//! - `parts`: what becomes of each byte
-//! - `rows`, `packing`: the shuffles that pack this, and the calls that store it
+//! - `masks`: what begins at each offset, as the bits of words
+//! - `windows`: what changes in 64 bytes, and where the last character ends
 
 pub mod character_set;
 pub mod following;
-pub mod offsets;
-pub mod packing;
-pub mod parts;
-mod rows;
+pub mod masks;
 pub mod stops;
+pub mod tables;
+pub mod windows;

@@ -5,13 +5,15 @@ ghost use Rattle.std.specs.Prelude.{◌≡◌, ◌<◌, IfSome, IfNone};
 ghost use Rattle.cesu8_text.specs.Reading.{IsStrictReading, HasNoStrictReading, lossy_length};
 ghost use Rattle.cesu8_text.specs.Slices.{ReadsAtLength};
 
-mod sums;
+mod counts;
 
 use crate::changed::begins_changed;
 use crate::front::{front, is_ill_formed};
 use crate::lanes::character_set::Unchanged;
+use crate::lanes::masks::STEP;
 use cesu8_bytes::flavor::Flavor;
-use sums::sum_first;
+use cesu8_bytes::lanes::class::LANES;
+use counts::{saved_by_few, saved_by_last, saved_by_step};
 
 /// Returns the length of the strict reading, if any. The longest front that stays counts as it is.
 pub fn decoded_len<F: Flavor>(bytes: &[u8]) -> Option<usize>
@@ -36,12 +38,15 @@ pub fn lossy_len<F: Flavor>(bytes: &[u8]) -> Option<usize>
     ensures some { IfSome result (λ len. len ≡ lossy_length F.flavor bytes.now) }
     ensures none { IfNone result (usize.MAX < lossy_length F.flavor bytes.now) }
 {
-    let mut len = 3 * bytes.len() as u128;
-    let mut rest = bytes;
-    while !rest.is_empty() {
-        let (saved, behind) = sum_first::<F>(rest);
-        len -= saved as u128;
-        rest = behind;
+    if bytes.len() <= LANES {
+        return Some(3 * bytes.len() - saved_by_few::<F>(bytes));
     }
+    let mut len = 3 * bytes.len() as u128;
+    let mut at = 0;
+    while bytes.len() - at > LANES {
+        len -= saved_by_step::<F>(bytes, at) as u128;
+        at += STEP;
+    }
+    len -= saved_by_last::<F>(bytes, bytes.len() - at) as u128;
     usize::try_from(len).ok()
 }

@@ -7,13 +7,13 @@
 //! In the order of the data:
 //!
 //! - `accepts`: what a call takes
-//! - `lanes`: what vectors tell of 32 bytes, with no branch on a single byte
+//! - `lanes`: what vectors tell of 32 or 64 bytes, with no branch on a single byte
 //! - `front`: how many bytes are whole characters of a set, with which each call begins
 //! - `utf8`: whether bytes are UTF-8, which lenient calls test from the end of the front on
 //! - `lengths`: the lengths of the readings
 //! - `way`: which way other bytes go
 //! - `changed`: whether bytes begin with a character that changes
-//! - `pass`: a few bytes by the first that may not follow, and more in one pass by blocks
+//! - `pass`: a few bytes by the first that may not follow, and more in one pass by windows
 //! - `destinations`: the text of a `String` or of a caller's slice
 //! - `copy_or_write`: a slice again, with what stays copied
 //!

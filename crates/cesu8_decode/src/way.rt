@@ -3,18 +3,18 @@
 //!
 //! | bytes | way | strict | lossy |
 //! |---|---|---|---|
-//! | at most 32 (`BLOCK` of `cesu8_bytes`) | `OneBlock` | by stops | an array of one block |
-//! | at most 64 (`FEW_BYTES`) | `Few` | by stops | an array of two blocks |
+//! | at most 64 (`FEW_BYTES`) | `Few` | by stops | one window |
 //! | at most 256 (`SMALL_ARRAY`) | `SmallArray` | a small array | a small array |
 //! | at most 1,024 (`LARGE_ARRAY`) | `LargeArray` | a large array | a large array |
 //! | at most 4,096 (`LARGEST_ARRAY`) | `LargestArray` | chunks | the largest array |
 //! | more | `Chunks` | chunks | chunks |
 //!
-//! - By stops: `strict_few` goes from one character that changes to the next. Up to 64 bytes go so
-//!   in lossy reading too, where ED or C0 stands behind the front, and none is ill-formed.
-//! - The arrays: one pass, 32 bytes at a time with no branch on a byte, which would be guessed
-//!   wrong. The text is copied from there. The lengths are for speed alone: a larger array takes
-//!   longer to clear, and more stack, for lossy text three bytes for each.
+//! - By stops: `strict_few` goes from one character that changes to the next. Up to 64 bytes are
+//!   read like this in lossy reading too, if ED or C0 comes after the front and none is
+//!   ill-formed.
+//! - The arrays: one pass, window after window of 64 bytes, with few branches on what is in them,
+//!   which would be guessed wrong. The text is copied from there. The lengths are for speed alone:
+//!   a larger array takes longer to clear, and more stack, for lossy text three bytes for each.
 //! - Chunks: the pass stops where a buffer is full, and goes on there. A `String` is written in
 //!   place, over as many zeros at once as `CLEARED_AT_ONCE` of `chunks`. A slice, which may be too
 //!   short, is copied from a large array, after a test of all in strict reading, and their length
@@ -33,7 +33,6 @@ use cesu8_bytes::BLOCK;
 /// Which way bytes are decoded.
 #[derive(Clone, Copy)]
 pub enum Way {
-    OneBlock,
     Few,
     SmallArray,
     LargeArray,
@@ -59,7 +58,6 @@ pub fn way_of(bytes: &[u8]) -> Way
     ensures { Takes result bytes.now }
 {
     match bytes.len() {
-        0..=BLOCK => Way::OneBlock,
         0..=FEW_BYTES => Way::Few,
         0..=SMALL_ARRAY => Way::SmallArray,
         0..=LARGE_ARRAY => Way::LargeArray,

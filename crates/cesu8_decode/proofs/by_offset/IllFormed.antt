@@ -164,7 +164,7 @@ covered_in_front f front back i crosses inside covered =
 -- ---- by widths
 
 -- a byte that is not ill-formed is in reach of a character
-reached : (w0 w1 w2 w3 w4 w5 : ℕ) → ill_formed_by w0 w1 w2 w3 w4 w5 ≡ false →
+pub reached : (w0 w1 w2 w3 w4 w5 : ℕ) → ill_formed_by w0 w1 w2 w3 w4 w5 ≡ false →
     (1 ≤ w0) ⊎ ((2 ≤ w1) ⊎ ((3 ≤ w2) ⊎ ((w3 ≡ 6) ⊎ ((w4 ≡ 6) ⊎ (w5 ≡ 6)))))
 reached w0 w1 w2 w3 w4 w5 fine = grind (arith, nat_tests)
 

@@ -48,8 +48,8 @@ three_found f bytes t =
     let long = long_by bytes 2 (omega (arith, parts.3)) in
     by_found f bytes 3 3 (found_three f bytes (omega arith) parts.0 parts.1 parts.2 parts.3 parts.4 parts.5)
 
--- bytes that pass the test of a pair begin with one
-pair_of_test : (bytes : List ℕ) →
+-- Bytes that pass the test of a pair begin with one.
+pub pair_of_test : (bytes : List ℕ) →
     pair_at (get_or bytes 0 0) (get_or bytes 1 0) (get_or bytes 2 0) (get_or bytes 3 0) (get_or bytes 4 0) (get_or bytes 5 0) ≡ true → HasPair bytes
 pair_of_test bytes t = grind (arith, and_parts, continuation, eqb-true, leb-true, ltb-true)
 

@@ -1,19 +1,10 @@
 -- What is told of the offsets of a window rests on its bytes there and a few more.
-use Rattle.std.specs.Prelude.{Bool, ◌&&◌, nat_le}
 use Rattle.std.proofs.Common.{◌≡◌, ℕ, zero, suc, ◌+◌, ◌<◌, ◌≤◌, List, ◌++◌, refl, sym, ap, ◌∙◌, arith, get_or, append_assoc, add-zero, zero-add, suc-add, length, drop, length-drop, get_or-drop, ◌∷◌}
 use lib.Lanes.{chunk}
 use Rattle.cesu8_text.specs.Encoding.{Flavor}
-use Rattle.cesu8_decode.specs.DecodedOffsets.{first_width, first_width_by, width_at, decoded_byte, decoded_at, decoded, is_ill_formed_at, ill_formed_by, saved_between}
+use Rattle.cesu8_decode.specs.DecodedOffsets.{first_width, first_width_by, width_at, decoded_byte, decoded_at, decoded, is_ill_formed_at, ill_formed_by, saved, saved_between}
+pub use Rattle.cesu8_decode.specs.DecodedOffsets.{boundary_by, is_boundary_at}
 use Rattle.cesu8_decode.proofs.by_offset.WidthTests.{width_by_six}
-
--- No encoded character crosses a boundary from the five offsets before it, by their widths.
-abbrev pub boundary_by : (w1 w2 w3 w4 w5 : ℕ) → Bool
-boundary_by w1 w2 w3 w4 w5 = nat_le w1 1 && (nat_le w2 2 && (nat_le w3 3 && (nat_le w4 4 && nat_le w5 5)))
-
--- The boundary before the byte of a window that follows the first i bytes and five more.
-abbrev pub is_boundary_at : Flavor → List ℕ → ℕ → Bool
-is_boundary_at f window i =
-    boundary_by (width_at f window (i + 4)) (width_at f window (i + 3)) (width_at f window (i + 2)) (width_at f window (i + 1)) (width_at f window i)
 
 -- Two windows have the same n bytes, one from i on and the other from j on.
 abbrev pub Agree : (a b : List ℕ) (i j n : ℕ) → Type 0
@@ -30,7 +21,7 @@ first_agrees : (a b : List ℕ) (i j n : ℕ) → 0 < n → Agree a b i j n → 
 first_agrees a b i j n some agree = ap (λ p. get_or a p 0) (sym (add-zero i)) ∙ agree 0 some ∙ ap (λ p. get_or b p 0) (add-zero j)
 
 -- The width at an offset rests on six bytes,
-width_agrees : (f : Flavor) (a b : List ℕ) (i j : ℕ) → Agree a b i j 6 → width_at f a i ≡ width_at f b j
+pub width_agrees : (f : Flavor) (a b : List ℕ) (i j : ℕ) → Agree a b i j 6 → width_at f a i ≡ width_at f b j
 width_agrees f a b i j agree =
     (λ k. first_width_by f (first_agrees a b i j 6 (omega arith) agree k) (agree 1 (omega arith) k) (agree 2 (omega arith) k)
     (agree 3 (omega arith) k) (agree 4 (omega arith) k) (agree 5 (omega arith) k))
@@ -89,6 +80,16 @@ saved_split f window i zero n = rw (add-zero i, zero-add n) (sym (zero-add (save
 saved_split f window i (suc m) n =
     let offset : i + 1 + m ≡ i + suc m = omega arith in
     rw (suc-add m n, saved_split f window (i + 1) m n, offset) (omega arith)
+
+-- What n offsets save rests on five more bytes.
+pub saved_agrees : (f : Flavor) (a b : List ℕ) (i j n : ℕ) → Agree a b i j (n + 5) → saved_between f a i n ≡ saved_between f b j n
+unfolding saved_between
+saved_agrees f a b i j zero agree = refl
+saved_agrees f a b i j (suc n) agree =
+    let here = width_agrees f a b i j (λ k small. agree k (omega arith)) in
+    let first = first_agrees a b i j (suc n + 5) (omega arith) agree in
+    let rest = saved_agrees f a b (i + 1) (j + 1) n (agree_later a b i j (suc n + 5) 1 (n + 5) (omega arith) agree) in
+    (λ k. saved (here k) (first k) + rest k)
 
 -- From an offset on a window has the bytes, and zeros behind them.
 abbrev pub Follows : (window bytes : List ℕ) (i : ℕ) → Type 0

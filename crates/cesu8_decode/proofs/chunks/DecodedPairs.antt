@@ -1,4 +1,4 @@
--- What a surrogate pair becomes where no character of two bytes or more begins shortly before.
+-- What a surrogate pair becomes at a boundary.
 use Rattle.std.proofs.Common.{◌≡◌, ℕ, ◌+◌, ◌-◌, ◌<◌, ◌≤◌, true, false, List, [], ◌++◌, ⊎_elim, refl, sym, ap, ◌∙◌, arith, length, drop, length-drop}
 use Rattle.std.proofs.lemmas.Bool.{cases_Bool}
 use Rattle.std.proofs.lemmas.List.{drop-drop, append_cancel_right}
@@ -40,15 +40,18 @@ module _ (f : Flavor) (bytes : List ℕ) (at : ℕ) (has : HasPair (drop at byte
       absurd (omega (arith, six, not_reached f (window_of bytes) i ill_formed (at + 5 - i) (omega arith), ap w there))) (λ fine. fine)
       (cases_Bool (is_ill_formed_at f (window_of bytes) i))
 
-  -- They become its UTF-8.
-  pub pair_decoded : ((s : ℕ) → s < 5 → w (at + s) ≤ 1) → (four : List ℕ) → IsUtf8OfDigits (second_third_fifth_sixth (drop at bytes)) four →
+  -- No character crosses its end.
+  pub boundary_after_pair : is_boundary_at f (window_of bytes) (at + 6) ≡ true
+  boundary_after_pair = boundary_where f (window_of bytes) (at + 6) (λ s small. omega (arith, none_inside s small))
+
+  -- At a boundary they become its UTF-8.
+  pub pair_at_boundary : is_boundary_at f (window_of bytes) at ≡ true → (four : List ℕ) → IsUtf8OfDigits (second_third_fifth_sixth (drop at bytes)) four →
       decoded f (window_of bytes) at 6 ≡ four
-  pair_decoded before four is_utf8 =
+  pair_at_boundary here four is_utf8 =
       let window = window_of bytes in
       let rest = drop at bytes in
       let behind = drop (at + 6) bytes in
-      let here : is_boundary_at f window at ≡ true = boundary_where f window at (λ s small. omega (arith, before s small)) in
-      let there : is_boundary_at f window (at + 6) ≡ true = boundary_where f window (at + 6) (λ s small. omega (arith, none_inside s small)) in
+      let there = boundary_after_pair in
       let read = pair_read f Lossy rest [] four four (pair_width f rest long has) is_utf8 refl in
       let all : 6 + length behind ≡ length rest = omega (arith, length-drop at bytes, length-drop (at + 6) bytes, long) in
       append_cancel_right (decoded f window at 6) four (utf8 (reading f behind))

@@ -1,5 +1,5 @@
 -- The set of a few bytes that may not follow, as the bits of a word.
-use Rattle.std.proofs.Common.{replicate, subst, eqb, ◌≡◌, ℕ, zero, suc, ◌+◌, ◌-◌, ◌*◌, ◌/◌, ◌%◌, ◌^◌, ◌<◌, ◌≤◌, ⊎_elim, Bool, true, false, not, List, ◌++◌, refl, sym, ap, ◌∙◌, arith, length, drop, get_or, map, length-drop, pow-suc}
+use Rattle.std.proofs.Common.{replicate, subst, eqb, ◌≡◌, ℕ, zero, suc, ◌+◌, ◌-◌, ◌*◌, ◌/◌, ◌%◌, ◌^◌, ◌<◌, ◌≤◌, ⊎_elim, Bool, true, false, not, List, ◌∷◌, ◌++◌, add-zero, refl, sym, ap, ◌∙◌, arith, length, drop, get_or, map, length-drop, pow-suc}
 use Rattle.std.specs.Int.Count.{count_trailing_zeros}
 use Rattle.std.specs.List.{range_with_len, prefix_len}
 use Rattle.std.specs.Simd.Lanes.{mask_l}
@@ -15,9 +15,20 @@ use Rattle.cesu8_text.specs.Encoding.{Flavor}
 use Rattle.cesu8_bytes.proofs.vectors.Loads.{padded, zeros_at}
 use Rattle.std.proofs.lemmas.Nat.{div-mul-add}
 use Rattle.cesu8_decode.specs.Following.{CharacterSet, follows_at, crosses_at, after_fillers, AreStops, IsSeam, FollowUpTo}
-use Rattle.cesu8_decode.proofs.decoder.DecodedBlocks.{map_ranges}
 use Rattle.cesu8_decode.proofs.decoder.FirstLanes.{no_lane}
 use Rattle.cesu8_decode.proofs.decoder.FollowingBlocks.{behind_fillers, follows_agrees}
+
+-- Maps over two ranges agree where their lanes do.
+map_ranges : {X : Type 0} (g h : ℕ → X) (a b n : ℕ) → ((k : ℕ) → k < n → g (a + k) ≡ h (b + k)) →
+    map g (range_with_len a n) ≡ map h (range_with_len b n)
+map_ranges g h a b zero same = refl
+map_ranges g h a b (suc n) same =
+    let first = ap g (sym (add-zero a)) ∙ same 0 (omega arith) ∙ ap h (add-zero b) in
+    let rest = map_ranges g h (a + 1) (b + 1) n (λ k small.
+    let left : a + 1 + k ≡ a + (1 + k) = omega arith in
+    let right : b + (1 + k) ≡ b + 1 + k = omega arith in
+    ap g left ∙ same (1 + k) (omega arith) ∙ ap h right) in
+    λ k. first k ∷ rest k
 
 -- The set of those of n numbers that pass a test, with the set of those behind them.
 pub joined_sets : (t : ℕ → Bool) (a n m : ℕ) →

@@ -1,9 +1,8 @@
--- Blocks that are read where they stand.
+-- What is written window by window, and what was read.
 use Rattle.std.proofs.lemmas.Bool.Decides.{nat_tests}
 use Rattle.std.proofs.lemmas.Grind.{common_steps}
-use Rattle.std.proofs.Common.{◌≡◌, ℕ, zero, suc, ◌+◌, ◌-◌, ◌<◌, ◌≤◌, Bool, true, false, true≢false, List, [], ◌++◌, refl, sym, ap, ◌∙◌, arith, map, get_or, length, drop, replicate, add-zero}
-use Rattle.std.specs.List.{range_with_len}
-use Rattle.std.proofs.lemmas.List.{length-append, length-drop}
+use Rattle.std.proofs.Common.{◌≡◌, ℕ, zero, suc, ◌+◌, ◌-◌, ◌<◌, ◌≤◌, ◌⊎◌, ⊎_elim, Bool, true, false, true≢false, List, [], ◌++◌, refl, sym, ap, ◌∙◌, arith, get_or, length, drop, replicate, zero-add, append_assoc}
+use Rattle.std.proofs.lemmas.List.{length-append, length-drop, get_or-drop, get_or_past}
 use Rattle.std.proofs.Math.Seq.{take-length}
 use Rattle.std.proofs.lemmas.Bool.{cases_lt}
 use Rattle.cesu8_text.specs.Encoding.{Flavor}
@@ -14,16 +13,14 @@ use Rattle.cesu8_bytes.specs.declared.strictness.Strictness.{Strictness}
 use Rattle.cesu8_bytes.specs.declared.strictness.Strictness.TheVariants.{Strict, Lossy}
 use Rattle.cesu8_bytes.specs.Puts.{WritesAt}
 use Rattle.cesu8_bytes.specs.TextChunks.{IsReadSoFar}
-use Rattle.cesu8_decode.specs.DecodedOffsets.{window_of, is_ill_formed_at, decoded_byte, decoded_at, decoded}
-use Rattle.cesu8_decode.specs.DecodedLanes.{start_kind_by, start_kind, AreFiveKinds, goes_at, byte_at}
+use Rattle.cesu8_bytes.proofs.vectors.Loads.{padded, zeros_at}
+use Rattle.cesu8_decode.specs.DecodedOffsets.{goes_at, byte_at, window_of, is_ill_formed_at, decoded_byte, decoded_at, decoded}
 use Rattle.cesu8_decode.specs.Decoding.{IsDecoded, WritesDecoded, most_written, most_of_text}
 use Rattle.cesu8_decode.proofs.by_offset.IllFormed.{IsChunk}
 use Rattle.cesu8_decode.proofs.by_offset.WindowOffsets.{is_boundary_at, Agree, agree_later, follows_zeros, ill_formed_agrees, decoded_agrees, decoded_split}
 use Rattle.cesu8_decode.proofs.by_offset.DecodedText.{decoded_between}
 use Rattle.cesu8_decode.proofs.chunks.ReadChunks.{fault_of_whole, none_left, chunk_appended}
 use Rattle.cesu8_decode.proofs.chunks.DecodedChunks.{IsPaddedFor, padded_for, fault_at, lossy_chunk, strict_chunk}
-use Rattle.cesu8_decode.proofs.decoder.DecodedBlocks.{map_ranges}
-use Rattle.cesu8_decode.proofs.decoder.DecodedWindows.{five_kinds, kinds_of_zeros, more_written}
 use Rattle.cesu8_decode.proofs.by_offset.CharacterBoundaries.{boundary_of_zeros, boundary_at_end}
 
 -- ---- lengths
@@ -64,38 +61,58 @@ pub most_of_more : (which : Strictness) (n m : ℕ) → most_written which (n + 
 most_of_more Strict n m = refl
 most_of_more Lossy n m = omega arith
 
--- ---- windows that agree
+-- ---- the last bytes
 
-turned : (a b : List ℕ) (i j n : ℕ) → Agree a b i j n → Agree b a j i n
-turned a b i j n agree k small = sym (agree k small)
+-- Bytes that are alike have windows that are alike.
+pub windows_alike : (a b : List ℕ) → ((k : ℕ) → get_or a k 0 ≡ get_or b k 0) → (j : ℕ) → get_or (window_of a) j 0 ≡ get_or (window_of b) j 0
+windows_alike a b alike zero = refl
+windows_alike a b alike (suc zero) = refl
+windows_alike a b alike (suc (suc zero)) = refl
+windows_alike a b alike (suc (suc (suc zero))) = refl
+windows_alike a b alike (suc (suc (suc (suc zero)))) = refl
+windows_alike a b alike (suc (suc (suc (suc (suc k))))) = alike k
 
--- The kind of what begins at an offset rests on six bytes.
-kind_agrees : (f : Flavor) (a b : List ℕ) (i j : ℕ) → Agree a b i j 6 → start_kind f a i ≡ start_kind f b j
-kind_agrees f a b i j agree =
-    let first = ap (λ p. get_or a p 0) (sym (add-zero i)) ∙ agree 0 (omega arith) ∙ ap (λ p. get_or b p 0) (add-zero j) in
-    (λ k. start_kind_by f (first k) (agree 1 (omega arith) k) (agree 2 (omega arith) k) (agree 3 (omega arith) k) (agree 4 (omega arith) k)
-    (agree 5 (omega arith) k))
+-- The window on the last bytes, with zeros after them, agrees with that on all of them from an offset
+-- on, if it has the five bytes before that offset, or all.
+pub last_agrees : (bytes last : List ℕ) (first at n : ℕ) → ((k : ℕ) → get_or last k 0 ≡ get_or bytes (first + k) 0) →
+    first ≤ at → (first ≡ 0) ⊎ (first + 5 ≤ at) → Agree (window_of last) (window_of bytes) (at - first) at n
+last_agrees bytes last first at n are inside either k small =
+    ⊎_elim
+    (λ (all : first ≡ 0).
+    let here : at - first + k ≡ at + k = omega arith in
+    ap (λ j. get_or (window_of last) j 0) here
+    ∙ windows_alike last bytes (λ j. are j ∙ ap (λ i. get_or bytes i 0) (ap (λ m. m + j) all ∙ zero-add j)) (at + k))
+    (λ (before : first + 5 ≤ at).
+    let here : at - first + k ≡ 5 + (at - first + k - 5) = omega arith in
+    let there : at + k ≡ 5 + (at + k - 5) = omega arith in
+    let same : first + (at - first + k - 5) ≡ at + k - 5 = omega arith in
+    ap (λ j. get_or (window_of last) j 0) here ∙ follows_zeros last (at - first + k - 5) ∙ are (at - first + k - 5)
+    ∙ ap (λ i. get_or bytes i 0) same ∙ sym (follows_zeros bytes (at + k - 5)) ∙ sym (ap (λ j. get_or (window_of bytes) j 0) there))
+    either
 
--- So the kinds of five offsets are those of a window that has ten bytes in common.
-pub kinds_agree : (f : Flavor) (a b : List ℕ) (i j : ℕ) (kinds : List ℕ) (p : ℕ) → Agree a b i j 10 → AreFiveKinds f b j kinds p → AreFiveKinds f a i kinds p
-kinds_agree f a b i j kinds p agree told k small =
-    told k small ∙ sym (kind_agrees f a b (i + k) (j + k) (agree_later a b i j 10 k 6 (omega arith) agree))
+-- From where the bytes end on it has zeros.
+pub last_zeros : (bytes last : List ℕ) (first i : ℕ) → ((k : ℕ) → get_or last k 0 ≡ get_or bytes (first + k) 0) → length bytes ≤ first + i →
+    get_or last i 0 ≡ 0
+last_zeros bytes last first i are beyond = are i ∙ get_or_past bytes (first + i) 0 beyond
 
--- The last kinds of a block are those before the next one.
-pub kinds_behind : (f : Flavor) (a b : List ℕ) (i j : ℕ) (kinds : List ℕ) → Agree a b i j 42 →
-    kinds ≡ map (start_kind f a) (range_with_len (i + 5) 32) → AreFiveKinds f b (j + 32) kinds 27
-kinds_behind f a b i j kinds agree are =
-    kinds_agree f b a (j + 32) (i + 32) kinds 27 (turned a b (i + 32) (j + 32) 10 (agree_later a b i j 42 32 10 (omega arith) agree))
-    (five_kinds f a kinds (i + 5) 27 (i + 32) are (omega arith) (omega arith))
-
--- The kinds of bytes are those of their window, five offsets further on.
-pub kinds_in_window : (f : Flavor) (bytes : List ℕ) (at n : ℕ) →
-    map (start_kind f bytes) (range_with_len at n) ≡ map (start_kind f (window_of bytes)) (range_with_len (at + 5) n)
-kinds_in_window f bytes at n = map_ranges _ _ at (at + 5) n (λ k small. kind_agrees f bytes (window_of bytes) (at + k) (at + 5 + k) (λ j near.
-    let there : 5 + (at + k + j) ≡ at + 5 + k + j = omega arith in
-    sym (follows_zeros bytes (at + k + j)) ∙ ap (λ p. get_or (window_of bytes) p 0) there))
+-- Bytes that are copied to zeros are followed by zeros.
+pub copied_to_zeros : (bytes last : List ℕ) (first m : ℕ) (zeros : List ℕ) → zeros ≡ replicate m 0 → last ≡ drop first bytes ++ drop (length (drop first bytes)) zeros →
+    (k : ℕ) → get_or last k 0 ≡ get_or bytes (first + k) 0
+copied_to_zeros bytes last first m zeros is copied k =
+    let rest = drop first bytes in
+    let n = length rest in
+    ap (λ bs. get_or bs k 0) copied
+    ∙ padded rest (drop n zeros) (λ i. get_or-drop n zeros i 0 ∙ ap (λ bs. get_or bs (n + i) 0) is ∙ zeros_at m (n + i)) k
+    ∙ get_or-drop first bytes k 0
 
 -- ---- what is written
+
+-- What more bytes become is written after what the first ones become.
+more_written : (f : Flavor) (window before old new : List ℕ) (at len : ℕ) → old ≡ before ++ decoded f window 0 at →
+    new ≡ old ++ decoded f window at len → new ≡ before ++ decoded f window 0 (at + len)
+more_written f window before old new at len old_is new_is =
+    new_is ∙ ap (λ l. l ++ decoded f window at len) old_is ∙ append_assoc before (decoded f window 0 at) (decoded f window at len)
+    ∙ ap (λ bs. before ++ bs) (ap (λ i. decoded f window 0 at ++ decoded f window i len) (sym (zero-add at)) ∙ sym (decoded_split f window 0 at len))
 
 -- Nothing is written for no bytes.
 pub none_decoded : (f : Flavor) (which : Strictness) (window before : List ℕ) → IsDecoded f which window 0 0 before before false
@@ -140,24 +157,6 @@ writes_decoded f which window bytes old new at n end new_end is_refused is fine 
 pub writes_none : (f : Flavor) (which : Strictness) (window old : List ℕ) (at n end : ℕ) → which ≡ Strict →
     (i : ℕ) × (at ≤ i) × (i < at + n) × (is_ill_formed_at f window i ≡ true) → WritesDecoded f which window at n end old old end true
 writes_none f which window old at n end strict found = grind (arith, nat_tests)
-
--- Nothing begins in the zeros before the first block.
-pub first_kinds : (f : Flavor) (bytes : List ℕ) → AreFiveKinds f (window_of bytes) 0 (replicate 32 0) 27
-first_kinds f bytes = kinds_of_zeros f (window_of bytes) (replicate 32 0) refl zeros
-  where
-    zeros : (k : ℕ) → k < 5 → get_or (window_of bytes) k 0 ≡ 0
-    zeros zero small = refl
-    zeros (suc zero) small = refl
-    zeros (suc (suc zero)) small = refl
-    zeros (suc (suc (suc zero))) small = refl
-    zeros (suc (suc (suc (suc zero)))) small = refl
-    zeros (suc (suc (suc (suc (suc k))))) small = absurd (omega arith)
-
--- ---- bytes that are copied to zeros
-
--- The window on an array agrees with that on all bytes as far as the array has what is there.
-pub around_agrees : (a b : List ℕ) (at n : ℕ) → ((k : ℕ) → k < n → get_or a k 0 ≡ get_or b (at + k) 0) → Agree (window_of a) b 5 at n
-around_agrees a b at n around k small = follows_zeros a k ∙ around k small
 
 -- ---- what was read
 

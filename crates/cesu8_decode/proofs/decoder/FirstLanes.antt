@@ -1,92 +1,18 @@
--- The first lanes of the decoder's vectors, of which the others go and are not ill-formed.
-use Rattle.std.proofs.lemmas.Bool.Decides.{nat_tests}
-use Rattle.std.proofs.lemmas.Grind.{common_steps}
-use Rattle.std.proofs.Common.{◌≡◌, ◌≢◌, ℕ, zero, suc, ◌+◌, ◌-◌, ◌*◌, ◌^◌, ◌%◌, ◌<◌, ◌≤◌, Bool, true, false, leb, List, [], ◌∷◌, ◌++◌, refl, sym, ap, ◌∙◌, arith, map, take, length, replicate, bit_and, bit_or, append-nil, get_or, take_all, Fits, w8}
+-- What the bits of tests tell of the lanes of a vector.
+use Rattle.std.proofs.Common.{◌≡◌, ℕ, zero, suc, ◌+◌, ◌-◌, ◌<◌, ◌≤◌, Bool, false, leb, List, ◌∷◌, ◌++◌, refl, sym, ap, ◌∙◌, arith, map, length, replicate, append-nil, get_or, take_all, Fits, w8}
 use Rattle.std.specs.List.{range_with_len}
-use Rattle.std.proofs.lemmas.Bool.{cases_Bool, le-leb, lt-leb, leb-false}
-use Rattle.std.proofs.lemmas.Nat.{le_or_r, and_mask}
-use Rattle.std.proofs.Math.Nat.{mod-eq_of_lt}
-use lib.Pow.{pow_mono}
+use Rattle.std.proofs.lemmas.Bool.{cases_Bool, leb-false}
 use Rattle.std.proofs.lemmas.Simd.{Each1-get_or, map-map, pick_l-range_with_len}
 use Rattle.cesu8_bytes.proofs.vectors.Loads.{loaded}
-use Rattle.cesu8_bytes.proofs.vectors.Rows.{mask_prefix}
-use Rattle.std.specs.Int.Bits.{or_zero_r}
-use lib.Lanes.{zip2, mask_l, Each1, chunk}
-use Rattle.cesu8_bytes.specs.Kernels.{mask}
-use Rattle.cesu8_bytes.specs.Packing.{written}
-use Rattle.cesu8_decode.specs.DecodedLanes.{is_high}
+use lib.Lanes.{mask_l, Each1, chunk}
 
--- ---- the highest bits
-
-pub or_no : (x : ℕ) → leb 0x80 (bit_or x 0) ≡ leb 0x80 x
-or_no x = ap (leb 0x80) (or_zero_r x)
-
-pub or_all : (x : ℕ) → leb 0x80 (bit_or x 0xFF) ≡ true
-or_all x = le-leb 0x80 (bit_or x 0xFF) (omega (arith, le_or_r x 0xFF))
-
-abbrev pub behind_lanes : (count start n : ℕ) → List ℕ
-behind_lanes count start n = map (λ lane. mask (leb count lane)) (range_with_len start n)
-
--- Where the lanes behind the first ones are marked, what is told of a lane with no mark is of the first ones, and what is of one with a mark of the others.
-module _ (g : ℕ → ℕ → ℕ) (lane : ℕ → ℕ) (tells : ℕ → Bool) (t : Bool) (count : ℕ) where
-  marked : (at start k n m : ℕ) → k ≡ n + m → n ≡ count - start →
-      ((i : ℕ) → at ≤ i → i < at + k → (is_high (g (lane i) 0) ≡ tells i) × (is_high (g (lane i) 0xFF) ≡ t)) →
-      map is_high (zip2 g (map lane (range_with_len at k)) (behind_lanes count start k)) ≡ map tells (range_with_len at n) ++ replicate m t
-  marked at start zero zero zero long e told = refl
-  marked at start zero zero (suc m) long e told = absurd (omega arith)
-  marked at start zero (suc n) m long e told = absurd (omega arith)
-  marked at start (suc k) zero zero long e told = absurd (omega arith)
-  marked at start (suc k) zero (suc m) long e told =
-      let first = ap (λ t. is_high (g (lane at) (mask t))) (le-leb count start (omega arith)) ∙ (told at (omega arith) (omega arith)).1 in
-      let rest = marked (at + 1) (start + 1) k zero m (omega arith) (omega arith) (λ i low inside. told i (omega arith) (omega arith)) in
-      λ j. first j ∷ rest j
-  marked at start (suc k) (suc n) m long e told =
-      let first = ap (λ t. is_high (g (lane at) (mask t))) (lt-leb count start (omega arith)) ∙ (told at (omega arith) (omega arith)).0 in
-      let rest = marked (at + 1) (start + 1) k n m (omega arith) (omega arith) (λ i low inside. told i (omega arith) (omega arith)) in
-      λ j. first j ∷ rest j
-
-  pub first_marked : (at : ℕ) → count ≤ 32 → ((i : ℕ) → at ≤ i → i < at + 32 → (is_high (g (lane i) 0) ≡ tells i) × (is_high (g (lane i) 0xFF) ≡ t)) →
-      map is_high (zip2 g (map lane (range_with_len at 32)) (behind_lanes count 0 32)) ≡ map tells (range_with_len at count) ++ replicate (32 - count) t
-  first_marked at small told = marked at 0 32 count (32 - count) (omega arith) (omega arith) told
-
--- ---- what is written
-
-all_go : (m n : ℕ) (bytes : List ℕ) → written (replicate m true) (replicate n false) bytes ≡ []
-all_go zero n bytes = refl
-all_go (suc m) zero bytes = refl
-all_go (suc m) (suc n) [] = refl
-all_go (suc m) (suc n) (b ∷ bytes) = all_go m n bytes
-
--- For what goes behind the first ones nothing is written.
-pub written_first : (gone ill_formed : List Bool) (m n count : ℕ) (bytes : List ℕ) → length gone ≡ count → length ill_formed ≡ count →
-    written (gone ++ replicate m true) (ill_formed ++ replicate n false) bytes ≡ written gone ill_formed (take count bytes)
-written_first [] ill_formed m n count bytes e e' = grind (arith, common_steps, all_go)
-written_first (g ∷ gone) ill_formed m n count bytes e e' = grind (arith, common_steps, written_first gone)
-
--- ---- the bits of the first lanes
-
-ones_are : (n : ℕ) → n ≤ 32 → 1 * 2 ^ n % 0x10000000000000000 - 1 ≡ 2 ^ n - 1
-ones_are n le = grind (arith, nat_tests, common_steps, mod-eq_of_lt, pow_mono)
-
--- So many ones leave the bits of the first tests.
-pub first_bits_are : (tests : List Bool) (bits n : ℕ) → n ≤ 32 → n ≤ length tests → bits ≡ mask_l tests →
-    bit_and bits (1 * 2 ^ n % 0x10000000000000000 - 1) ≡ mask_l (take n tests)
-first_bits_are tests bits n le fits bits_are =
-    ap (bit_and bits) (ones_are n le) ∙ and_mask bits n ∙ ap (λ m. m % 2 ^ n) bits_are ∙ mask_prefix n tests fits
-
--- ---- the bits of the ill-formed
+-- ---- the bits of tests
 
 no_bits : (m : ℕ) → mask_l (replicate m false) ≡ 0
 no_bits zero = refl
 no_bits (suc m) = omega (arith, no_bits m)
 
--- Where the bits of tests are not all 0, a test holds,
-pub some_bit : (p : ℕ → Bool) (a n m : ℕ) → mask_l (map p (range_with_len a n) ++ replicate m false) ≢ 0 →
-    (i : ℕ) × (a ≤ i) × (i < a + n) × (p i ≡ true)
-some_bit p a zero m some = absurd (some (no_bits m))
-some_bit p a (suc n) m some = grind (arith, cases_Bool, some_bit p (a + 1) n m)
-
--- and where they are, none.
+-- Where the bits of tests are all 0, none holds.
 pub no_bit : (p : ℕ → Bool) (a n m : ℕ) → mask_l (map p (range_with_len a n) ++ replicate m false) ≡ 0 →
     (i : ℕ) → a ≤ i → i < a + n → p i ≡ false
 no_bit p a zero m none i from before = absurd (omega arith)

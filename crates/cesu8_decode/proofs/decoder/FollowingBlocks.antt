@@ -1,5 +1,5 @@
 -- Which bytes of a block may follow those before them.
-use Rattle.std.proofs.Common.{◌≡◌, ℕ, suc, ◌+◌, ◌<◌, ◌≤◌, ⊎_elim, Bool, true, false, cond, List, [], ◌∷◌, map, length, get_or, replicate, eqb, leb, ltb, bit_or, refl, sym, ap, ◌∙◌, subst, arith, drop, ◌-◌, ◌++◌, not, add-zero, take}
+use Rattle.std.proofs.Common.{◌≡◌, ℕ, suc, ◌+◌, ◌<◌, ◌≤◌, ◌||◌, ⊎_elim, Bool, true, false, cond, List, [], ◌∷◌, map, length, get_or, replicate, eqb, leb, ltb, bit_or, refl, sym, ap, ◌∙◌, subst, arith, drop, ◌-◌, ◌++◌, not, add-zero, take}
 use Rattle.std.specs.List.{range_with_len, prefix_len}
 use Rattle.std.proofs.lemmas.Bool.{agree_below_at, leb-false, ltb-true, not-false, not-true, or_parts, cases_lt}
 use Rattle.std.proofs.lemmas.Bool.Decides.{nat_tests}
@@ -16,9 +16,13 @@ use Rattle.cesu8_decode.specs.declared.lanes.character_set.Block.{Block}
 use Rattle.cesu8_bytes.proofs.lists.Lanes.{ones}
 use Rattle.cesu8_bytes.proofs.vectors.Loads.{loaded}
 use Rattle.cesu8_decode.proofs.decoder.FirstLanes.{no_lane, on_range}
-use Rattle.cesu8_decode.proofs.decoder.LaneTests.{high_or}
+use Rattle.std.proofs.lemmas.Nat.{le_or_l, le_or_r, or_lt}
 
 -- ---- whether they show it
+
+-- The highest bit is set where one of two has it.
+high_or : (a b : ℕ) → leb 0x80 (bit_or a b) ≡ (leb 0x80 a || leb 0x80 b)
+high_or a b = grind (arith, nat_tests, or_lt 7 a b, le_or_l a b, le_or_r a b)
 
 unlike : (t : Bool) → cond (top 7 (ones t)) 0 0xFF ≡ mask (not t)
 unlike t = grind arith

@@ -5,8 +5,8 @@ use lib.Lanes.{zip2, sel_l, top, Each1}
 use Rattle.cesu8_text.specs.Class.{is_null}
 use Rattle.cesu8_text.specs.Encoding.{Flavor, Cesu8, Mutf8}
 use Rattle.cesu8_bytes.specs.Kernels.{mask}
-use Rattle.cesu8_decode.specs.DecodedLanes.{told}
-use Rattle.cesu8_decode.proofs.decoder.Kinds.{half, half_tests, told_alike, and_false}
+use Rattle.cesu8_decode.specs.Following.{told}
+use Rattle.cesu8_decode.proofs.decoder.LookUps.{half, half_tests, told_alike, and_false}
 use Rattle.cesu8_decode.proofs.decoder.FirstLanes.{on_range, lanes_are, lane_fits}
 use Rattle.cesu8_decode.specs.Following.{CharacterSet, Encoded, Unchanged, has_changed, first_low, rule, shown, later}
 use Rattle.cesu8_decode.specs.declared.lanes.character_set.Rule.{Rule}

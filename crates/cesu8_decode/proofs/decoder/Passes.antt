@@ -1,29 +1,26 @@
--- The pass from block to block.
-use Rattle.std.proofs.Common.{◌≡◌, ℕ, zero, suc, ◌+◌, ◌*◌, ◌<◌, ◌≤◌, Bool, true, false, true≢false, cond, eqb, leb, List, [], ◌∷◌, ◌++◌, refl, sym, ap, ◌∙◌, subst, arith, map, get_or, length, take, drop, replicate, append-nil, append_assoc, length-drop, Result, Ok, Err, OkIff}
-use Rattle.std.proofs.lemmas.Bool.{eqb-true, leb-true, leb-false}
-use lib.Lanes.{mask_l}
+-- The pass from window to window.
+use Rattle.std.proofs.Common.{◌≡◌, ℕ, ◌+◌, ◌≤◌, Bool, true, false, true≢false, List, [], ◌++◌, refl, sym, ap, ◌∙◌, subst, arith, length, take, drop, append-nil, append_assoc, length-drop, Result, Ok, Err, OkIff}
 use Rattle.cesu8_text.specs.Encoding.{Flavor}
 use Rattle.cesu8_bytes.specs.Pairs.{IsUtf8OfDigits, second_third_fifth_sixth, HasPair}
 use Rattle.cesu8_bytes.specs.Puts.{PutsAt}
 use Rattle.cesu8_bytes.specs.declared.strictness.Strictness.{Strictness}
 use Rattle.cesu8_bytes.specs.declared.strictness.Strictness.TheVariants.{Strict, Lossy}
 use Rattle.cesu8_decode.specs.Decoding.{IsDecoded, WritesDecoded, WritesReading, IsPass, GoesOn, most_written}
-use Rattle.cesu8_decode.specs.DecodedOffsets.{window_of, width_at}
-use Rattle.cesu8_decode.specs.DecodedLanes.{start_kind}
-use Rattle.cesu8_decode.specs.declared.pass.blocks.Pass.{Pass}
+use Rattle.cesu8_decode.specs.DecodedOffsets.{window_of}
+use Rattle.cesu8_decode.specs.declared.pass.windows.Pass.{Pass}
 use Rattle.cesu8_decode.proofs.by_offset.WindowOffsets.{Agree}
-use Rattle.cesu8_decode.proofs.chunks.DecodedPairs.{none_inside, pair_fine, pair_decoded}
-use Rattle.cesu8_decode.proofs.decoder.BlocksInPlace.{first_kinds, more_decoded, decoded_in, most_of_more, all_decoded, refused_decoded}
-use Rattle.cesu8_decode.proofs.decoder.StartKinds.{start_at, over_one}
+use Rattle.cesu8_decode.proofs.by_offset.CharacterBoundaries.{boundary_of_zeros}
+use Rattle.cesu8_decode.proofs.chunks.DecodedPairs.{pair_fine, boundary_after_pair, pair_at_boundary}
+use Rattle.cesu8_decode.proofs.decoder.BlocksInPlace.{more_decoded, decoded_in, most_of_more, all_decoded, refused_decoded}
 
 -- A pass that came so far.
-abbrev pub pass_at : (read end : ℕ) → List ℕ → Pass
-pass_at read end kinds = record { read = read; end = end; is_refused = false; kinds = kinds }
+abbrev pub pass_at : (read end : ℕ) → Pass
+pass_at read end = record { read = read; end = end; is_refused = false }
 
--- A block becomes at most three bytes for each of its own.
-pub most_of_block : (which : Strictness) (n : ℕ) → n ≤ 32 → most_written which n ≤ 96
-most_of_block Strict n small = omega arith
-most_of_block Lossy n small = omega arith
+-- A window becomes at most three bytes for each of its own.
+pub most_of_window : (which : Strictness) (n : ℕ) → n ≤ 64 → most_written which n ≤ 192
+most_of_window Strict n small = omega arith
+most_of_window Lossy n small = omega arith
 
 -- Text may stand before what is written.
 behind_text : (f : Flavor) (which : Strictness) (window text old new : List ℕ) (at n : ℕ) (is_refused : Bool) →
@@ -35,17 +32,17 @@ behind_text f which window text old new at n is_refused is = record {
   strict = is.strict;
 }
 
--- Before the first block, nothing begins.
-pub at_start : (f : Flavor) (bytes : List ℕ) → IsPass f bytes 0 (replicate 32 0)
-at_start f bytes = record { within = omega arith; start = λ more small. refl; before = λ more. first_kinds f bytes }
+-- It begins at the first byte.
+pub at_start : (f : Flavor) (bytes : List ℕ) → IsPass f bytes 0
+at_start f bytes = record { within = omega arith; boundary = boundary_of_zeros f bytes }
 
 module _ (f : Flavor) (which : Strictness) (bytes : List ℕ) where
   -- Before it goes on, nothing is read and written.
-  pub goes_nowhere : (pass : Pass) (is_refused : Bool) (out : List ℕ) → IsPass f bytes pass.read pass.kinds → is_refused ≡ false → pass.end ≤ length out →
-      GoesOn f which bytes pass (record { read = pass.read; end = pass.end; is_refused = is_refused; kinds = pass.kinds }) out out
-  goes_nowhere pass is_refused out is fine inside = record {
-    pass = λ _. is;
-    within = (omega arith, is.within);
+  pub goes_nowhere : (pass : Pass) (out : List ℕ) → (pass.is_refused ≡ false → IsPass f bytes pass.read) → pass.read ≤ length bytes →
+      pass.is_refused ≡ false → pass.end ≤ length out → GoesOn f which bytes pass pass out out
+  goes_nowhere pass out is within fine inside = record {
+    pass = is;
+    within = (omega arith, within);
     text = λ start text so_far. subst (IsDecoded f which (window_of bytes) 0 pass.read start (text ++ take pass.end out)) (sym fine) so_far;
     end = omega arith;
     inside = inside;
@@ -67,7 +64,7 @@ module _ (f : Flavor) (which : Strictness) (bytes : List ℕ) where
 
   -- It does by what n bytes of a window become.
   pub goes_on_by : (before after : Pass) (window old new : List ℕ) (p n : ℕ) → after.read ≡ before.read + n → after.read ≤ length bytes →
-      (after.is_refused ≡ false → IsPass f bytes after.read after.kinds) → Agree window (window_of bytes) p before.read (n + 10) →
+      (after.is_refused ≡ false → IsPass f bytes after.read) → Agree window (window_of bytes) p before.read (n + 10) →
       WritesDecoded f which window p n before.end old new after.end after.is_refused → after.end ≤ length new →
       GoesOn f which bytes before after old new
   goes_on_by before after window old new p n read_is inside is agree writes fits = record {
@@ -107,55 +104,31 @@ writes_reading f which bytes old new n end false is inside all fits long (Err re
 
 -- ---- pairs
 
-unset : (t : Bool) (m : ℕ) → cond t 1 0 + 2 * m ≡ 0 → (t ≡ false) × (m ≡ 0)
-unset true m e = absurd (omega arith)
-unset false m e = (refl, omega arith)
-
--- Where no lane is one at least, all are zero.
-pub all_zero : (lanes : List ℕ) → mask_l (map (leb 1) lanes) ≡ 0 → (k : ℕ) → get_or lanes k 0 ≡ 0
-all_zero [] none k = refl
-all_zero (d ∷ lanes) none zero = omega (arith, leb-false 1 d (unset (leb 1 d) (mask_l (map (leb 1) lanes)) none).0)
-all_zero (d ∷ lanes) none (suc k) = all_zero lanes (unset (leb 1 d) (mask_l (map (leb 1) lanes)) none).1 k
-
 most_of_pair : (which : Strictness) (n : ℕ) → most_written which n + 4 ≤ most_written which (n + 6)
 most_of_pair Strict n = omega arith
 most_of_pair Lossy n = omega arith
 
-module _ (f : Flavor) (which : Strictness) (bytes : List ℕ) (read end new_end : ℕ) (kinds : List ℕ) (is : IsPass f bytes read kinds)
-    (zeros : (k : ℕ) → get_or kinds k 0 ≡ 0) (long : 6 ≤ length (drop read bytes)) (has : HasPair (drop read bytes)) where
-  inside : read + 6 ≤ length bytes
-  inside = omega (arith, long, length-drop read bytes)
-
-  -- No character of two bytes or more begins at the five offsets before a pair,
-  low : (s : ℕ) → s < 5 → width_at f (window_of bytes) (read + s) ≤ 1
-  low s small =
-      let none = sym (is.before (omega (arith, inside)) s small) ∙ zeros (27 + s) in
-      leb-true (width_at f (window_of bytes) (read + s)) 1 (sym (over_one _ _ _ (start_at f (window_of bytes) (read + s))) ∙ ap (λ c. eqb c 0) none)
-
-  -- and none in it.
-  none_next : (k : ℕ) → k < 5 → start_kind f (window_of bytes) (read + 6 + k) ≡ 0
-  none_next k small =
-      eqb-true _ _ (over_one _ _ _ (start_at f (window_of bytes) (read + 6 + k)) ∙ ap (λ w. leb w 1) (none_inside f bytes read has long k small))
-
-  -- So it is read, and its UTF-8 is written.
-  pub pair_goes_on : (four old new : List ℕ) → IsUtf8OfDigits (second_third_fifth_sixth (drop read bytes)) four → length four ≡ 4 → PutsAt four end old new new_end →
-      new_end ≤ length new → GoesOn f which bytes (pass_at read end kinds) (pass_at (read + 6) new_end kinds) old new
-  pair_goes_on four old new is_utf8 size put fits = record {
-    pass = λ _. record {
-      within = inside;
-      start = λ more small. absurd (omega arith);
-      before = λ more k small. zeros (27 + k) ∙ sym (none_next k small);
-    };
-    within = (omega arith, inside);
-    text = λ start text so_far.
-        more_decoded f which (window_of bytes) start _ _ read 6 false so_far
-        (behind_text f which (window_of bytes) text _ _ read 6 false (record {
-          bytes = λ _. put.writes.bytes ∙ ap (λ bs. take end old ++ bs) (sym (pair_decoded f bytes read has long low four is_utf8));
-          refused = λ never. absurd (true≢false (sym never));
-          lossy = λ _. refl;
-          strict = λ _ _ i from to. pair_fine f bytes read has long i from to;
-        }));
-    end = omega (arith, put.writes.end, size, most_of_pair which read);
-    inside = fits;
-    len = put.writes.len;
-  }
+-- A pair that begins at the boundary is read, and its UTF-8 is written.
+pub pair_goes_on : (f : Flavor) (which : Strictness) (bytes : List ℕ) (read end new_end : ℕ) → IsPass f bytes read → 6 ≤ length (drop read bytes) →
+    HasPair (drop read bytes) → (four old new : List ℕ) → IsUtf8OfDigits (second_third_fifth_sixth (drop read bytes)) four → length four ≡ 4 →
+    PutsAt four end old new new_end → new_end ≤ length new → GoesOn f which bytes (pass_at read end) (pass_at (read + 6) new_end) old new
+pair_goes_on f which bytes read end new_end is long has four old new is_utf8 size put fits =
+    let inside : read + 6 ≤ length bytes = omega (arith, long, length-drop read bytes) in
+    record {
+      pass = λ _. record {
+        within = inside;
+        boundary = boundary_after_pair f bytes read has long;
+      };
+      within = (omega arith, inside);
+      text = λ start text so_far.
+          more_decoded f which (window_of bytes) start _ _ read 6 false so_far
+          (behind_text f which (window_of bytes) text _ _ read 6 false (record {
+            bytes = λ _. put.writes.bytes ∙ ap (λ bs. take end old ++ bs) (sym (pair_at_boundary f bytes read has long is.boundary four is_utf8));
+            refused = λ never. absurd (true≢false (sym never));
+            lossy = λ _. refl;
+            strict = λ _ _ i from to. pair_fine f bytes read has long i from to;
+          }));
+      end = omega (arith, put.writes.end, size, most_of_pair which read);
+      inside = fits;
+      len = put.writes.len;
+    }

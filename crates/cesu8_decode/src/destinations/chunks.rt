@@ -1,18 +1,17 @@
 //! The text of many bytes, which the pass writes chunk by chunk, in place or to a stack array.
 
 ghost use Rattle.std.specs.Prelude.{◌≡◌, ℕ, List, ◌+◌, ◌<◌, ◌≤◌, false, length, vec_len, vec_capacity};
-ghost use Rattle.cesu8_decode.specs.declared.pass.blocks.Pass.{Pass};
+ghost use Rattle.cesu8_decode.specs.declared.pass.windows.Pass.{Pass};
 ghost use Rattle.cesu8_text.specs.Reading.{reading, lossy_length};
 ghost use Rattle.cesu8_text.specs.Slices.{StandsAtFront};
 ghost use Rattle.cesu8_text.specs.Text.{utf8};
 ghost use Rattle.cesu8_decode.specs.Decoding.{AppendsReading, AppendsNext, GoesOn, IsPass, pass_from, most_of_text};
 
-use crate::pass::blocks::{LARGE_LOSSY, Pass, SMALL_STRICT, write_blocks};
+use crate::pass::windows::{LARGE_LOSSY, Pass, SMALL_STRICT, write_windows};
 use cesu8_bytes::flavor::Flavor;
 use cesu8_bytes::strictness::{LossyReading, Reading};
 use cesu8_bytes::writing::copies::{append, append_zeros};
 use cesu8_bytes::writing::put::put;
-use std::simd::prelude::*;
 
 /// So many bytes of a vector are cleared and written at once, at least `ROOM`. Fewer take more
 /// calls of the pass; more are cleared for nothing where strict reading refuses a byte soon.
@@ -28,49 +27,44 @@ pub fn append_chunks<F: Flavor, S: Reading>(
     ensures { AppendsReading F.flavor S.which bytes.now before result }
 {
     let mut text = before;
-    let (mut read, mut kinds) = (0, u8x32::splat(0));
+    let mut read = 0;
     while read < bytes.len() {
-        let pass = append_next::<F, S>(bytes, read, kinds, &mut text);
+        let pass = append_next::<F, S>(bytes, read, &mut text);
         S::unless_refused(pass.is_refused, ())?;
-        (read, kinds) = (pass.read, pass.kinds);
+        read = pass.read;
     }
     Ok(text)
 }
 
 /// Appends the text of the next bytes. It is written over zeros, of which those behind it go. Where
-/// less than `SMALL_STRICT` is spare, an array takes it, since a block is stored beyond its text.
+/// less than `SMALL_STRICT` is spare, an array takes it, since bytes are stored after the text.
 #[inline(always)]
-fn append_next<F: Flavor, S: Reading>(
-    bytes: &[u8],
-    read: usize,
-    kinds: u8x32,
-    out: &mut Vec<u8>,
-) -> Pass
-    requires pass { IsPass F.flavor bytes.now read kinds × (read < length bytes.now) }
+fn append_next<F: Flavor, S: Reading>(bytes: &[u8], read: usize, out: &mut Vec<u8>) -> Pass
+    requires pass { IsPass F.flavor bytes.now read × (read < length bytes.now) }
     requires fits { (after : Pass) (old : List ℕ) (new : List ℕ) → after.is_refused ≡ false
-        → GoesOn F.flavor S.which bytes.now (pass_from read kinds) after old new
+        → GoesOn F.flavor S.which bytes.now (pass_from read) after old new
         → vec_len out.old + after.end ≤ vec_capacity out.old }
-    ensures next { AppendsNext F.flavor S.which bytes.now read kinds result out.old out.new }
+    ensures next { AppendsNext F.flavor S.which bytes.now read result out.old out.new }
     ensures some { read < result.read }
 {
     let start = out.len();
     let spare = out.capacity() - start;
     if spare < SMALL_STRICT {
         let mut written = [0; SMALL_STRICT];
-        let pass = write_blocks::<F, S>(bytes, read, kinds, &mut written);
+        let pass = write_windows::<F, S>(bytes, read, &mut written);
         if !pass.is_refused {
             append(&written[..pass.end], out);
         }
         return pass;
     }
     append_zeros(spare.min(CLEARED_AT_ONCE), out);
-    let pass = write_blocks::<F, S>(bytes, read, kinds, &mut out[start..]);
+    let pass = write_windows::<F, S>(bytes, read, &mut out[start..]);
     out.truncate(start + pass.end);
     pass
 }
 
 /// Writes the lossy reading at the front of a slice that is long enough, and returns its length. It
-/// goes by an array: a block is stored beyond its text, where a caller's bytes have to stay. It is
+/// goes by an array: bytes are stored after the text, where a caller's have to stay. It is
 /// not inlined: two calls need it, and the array is cleared only where it is called.
 #[inline(never)]
 pub fn put_chunks<F: Flavor>(bytes: &[u8], out: &mut [u8]) -> usize
@@ -78,11 +72,11 @@ pub fn put_chunks<F: Flavor>(bytes: &[u8], out: &mut [u8]) -> usize
     ensures { StandsAtFront (utf8 (reading F.flavor bytes.now)) result out.old out.new }
 {
     let mut written = [0; LARGE_LOSSY];
-    let (mut read, mut kinds, mut end) = (0, u8x32::splat(0), 0);
+    let (mut read, mut end) = (0, 0);
     while read < bytes.len() {
-        let pass = write_blocks::<F, LossyReading>(bytes, read, kinds, &mut written);
+        let pass = write_windows::<F, LossyReading>(bytes, read, &mut written);
         end = put(&written[..pass.end], out, end);
-        (read, kinds) = (pass.read, pass.kinds);
+        read = pass.read;
     }
     end
 }

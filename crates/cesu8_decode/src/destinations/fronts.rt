@@ -24,16 +24,16 @@ use cesu8_bytes::pairs::{PAIR, PAIR_READ, utf8_of_pair};
 use cesu8_bytes::strictness::{NoText, StrictReading};
 use cesu8_bytes::writing::copies::{append, append_few, append_front};
 
-/// Behind a first front shorter than this, blocks read the rest, if not few: for speed alone.
+/// After a first front shorter than this, windows read the rest, if not few: for speed alone.
 const FRONT: usize = 16;
 
 /// The least front between two that change behind which another is looked for, for speed alone:
-/// where they stand closer together, blocks take less time.
+/// if they stand closer together, windows take less time.
 const LONG_FRONT: usize = 64;
 
 /// Appends the strict reading of more than a few bytes, of which `len` at the front stay in UTF-8:
 /// from one character that changes to the next, while they stand far apart; a rest goes by stops if
-/// it is few, else by blocks. It is not inlined, so that few bytes have few registers to save.
+/// it is few, else by windows. It is not inlined, so that few bytes have few registers to save.
 #[inline(never)]
 pub fn append_many<F: Flavor>(bytes: &[u8], len: usize, before: Vec<u8>) -> Result<Vec<u8>, NoText>
     requires many { FEW_BYTES < length bytes.now }

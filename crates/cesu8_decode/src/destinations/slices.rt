@@ -18,11 +18,10 @@ use crate::front::{FoundFront, is_ill_formed, may_be_crossed};
 use crate::lanes::character_set::Unchanged;
 use crate::lanes::stops::stops_of_few;
 use crate::lengths::lossy_len;
-use crate::pass::blocks::{
-    BLOCK_LOSSY, FEW_LOSSY, LARGE_LOSSY, LARGE_STRICT, LARGEST_LOSSY, SMALL_LOSSY, SMALL_STRICT,
-    write_all,
-};
 use crate::pass::strict_few::{STRICT_TEXT, write_few_strictly};
+use crate::pass::windows::{
+    FEW_LOSSY, LARGE_LOSSY, LARGE_STRICT, LARGEST_LOSSY, SMALL_LOSSY, SMALL_STRICT, write_all,
+};
 use crate::refusal::Unwritten;
 use crate::way::{FEW_BYTES, Way, are_few, way_of};
 use cesu8_bytes::flavor::Flavor;
@@ -92,7 +91,7 @@ pub fn put_lossily<F: Flavor>(
     if are_few(bytes) && may_lead_changed(bytes[front.len]) {
         return put_few::<F, LossyReading>(bytes, front.stops, buf);
     }
-    put_by_blocks::<F>(bytes, buf)
+    put_by_windows::<F>(bytes, buf)
 }
 
 /// Writes the strict reading of the bytes, which is no longer than they are.
@@ -101,7 +100,7 @@ fn put_strictly_whole<F: Flavor>(bytes: &[u8], buf: &mut [u8]) -> Result<usize, 
     ensures { PutsReading F.flavor Strict bytes.now result buf.old buf.new }
 {
     match way_of(bytes) {
-        Way::OneBlock | Way::Few => {
+        Way::Few => {
             let stops = stops_of_few::<F, Unchanged>(bytes);
             put_few::<F, StrictReading>(bytes, stops, buf)
         }
@@ -113,14 +112,13 @@ fn put_strictly_whole<F: Flavor>(bytes: &[u8], buf: &mut [u8]) -> Result<usize, 
     }
 }
 
-/// Writes the lossy reading of the bytes, read block by block. To clear a longer array than is
+/// Writes the lossy reading of the bytes, read window by window. To clear a longer array than is
 /// needed takes time.
 #[inline(always)]
-fn put_by_blocks<F: Flavor>(bytes: &[u8], buf: &mut [u8]) -> Result<usize, Unwritten>
+fn put_by_windows<F: Flavor>(bytes: &[u8], buf: &mut [u8]) -> Result<usize, Unwritten>
     ensures { PutsReading F.flavor Lossy bytes.now result buf.old buf.new }
 {
     match way_of(bytes) {
-        Way::OneBlock => put_by_array::<F, LossyReading, BLOCK_LOSSY>(bytes, buf),
         Way::Few => put_by_array::<F, LossyReading, FEW_LOSSY>(bytes, buf),
         Way::SmallArray => put_by_array::<F, LossyReading, SMALL_LOSSY>(bytes, buf),
         Way::LargeArray => put_by_array::<F, LossyReading, LARGE_LOSSY>(bytes, buf),
@@ -145,7 +143,7 @@ fn put_few<F: Flavor, S: Reading>(
         Ok(end) => copy_to_slice(&written[..end], buf).map_err(Unwritten::NoRoom),
         Err(NoText) => match S::strictness() {
             Strictness::Strict => Err(Unwritten::NoText),
-            Strictness::Lossy => put_by_blocks::<F>(bytes, buf),
+            Strictness::Lossy => put_by_windows::<F>(bytes, buf),
         },
     }
 }

@@ -17,10 +17,8 @@ use super::fronts::{append_few_strictly, append_many};
 use crate::changed::may_lead_changed;
 use crate::front::FoundFront;
 use crate::lengths::lossy_len;
-use crate::pass::blocks::{
-    BLOCK_LOSSY, FEW_LOSSY, LARGE_LOSSY, LARGEST_LOSSY, SMALL_LOSSY, write_all,
-};
 use crate::pass::strict_few::{STRICT_TEXT, write_few_strictly};
+use crate::pass::windows::{FEW_LOSSY, LARGE_LOSSY, LARGEST_LOSSY, SMALL_LOSSY, write_all};
 use crate::way::{FEW_BYTES, LARGEST_ARRAY, Way, are_few, way_of};
 use cesu8_bytes::BLOCK;
 use cesu8_bytes::flavor::Flavor;
@@ -79,7 +77,6 @@ pub fn build_lossily<F: Flavor>(
         }
     }
     match way_of(bytes) {
-        Way::OneBlock => build_by_array::<F, BLOCK_LOSSY>(alloc, bytes),
         Way::Few => build_by_array::<F, FEW_LOSSY>(alloc, bytes),
         Way::SmallArray => build_by_array::<F, SMALL_LOSSY>(alloc, bytes),
         Way::LargeArray => build_by_array::<F, LARGE_LOSSY>(alloc, bytes),

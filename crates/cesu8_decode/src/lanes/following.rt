@@ -12,8 +12,7 @@ ghost use Rattle.cesu8_bytes.specs.Kernels.{mask};
 ghost use Rattle.cesu8_decode.specs.Following.{CharacterSet as AnySet, has_changed, shown, wanted, follows_at, AllFollow, AreStops, IsBlockAt};
 
 use super::character_set::{Block, CharacterSet, DECIDING};
-use super::offsets::{FROM_28, FROM_29, FROM_30, FROM_31, common_bits};
-use super::packing::HighestBit;
+use super::tables::{FROM_28, FROM_29, FROM_30, FROM_31, HighestBit, common_bits};
 use cesu8_bytes::BLOCK;
 use cesu8_bytes::flavor::{Flavor, nulls};
 use cesu8_bytes::lanes::class::{Equal, NonAscii, bits, mask};

@@ -4,7 +4,7 @@
 //! encoded text all of them are in characters that do, and the first in each is its second byte. So
 //! they tell where the next one begins, and what is before it is copied.
 
-ghost use Rattle.std.specs.Prelude.{◌≡◌, ℕ, List, ◌+◌, ◌-◌, ◌<◌, ◌≤◌, length, take, drop, replicate};
+ghost use Rattle.std.specs.Prelude.{◌≡◌, ℕ, List, ◌+◌, ◌-◌, ◌<◌, ◌≤◌, ◌++◌, length, take, drop, replicate};
 ghost use Rattle.cesu8_bytes.specs.Puts.{WritesAt};
 ghost use Rattle.cesu8_bytes.specs.TextChunks.{IsReadSoFar};
 ghost use Rattle.cesu8_bytes.specs.declared.strictness.Strictness.TheVariants.{Strict};
@@ -12,14 +12,14 @@ ghost use Rattle.cesu8_decode.specs.Decoding.{WritesReading};
 ghost use Rattle.cesu8_decode.specs.DecodedOffsets.{IsPrefixOf, BeginsChanged};
 ghost use Rattle.cesu8_decode.specs.Following.{Unchanged as AllUnchanged, HasStops, IsSeam};
 
-use super::block::load;
 use crate::changed::changes;
 use crate::front::may_be_crossed;
 use crate::lanes::character_set::Unchanged;
 use crate::lanes::stops::next_stop;
-use crate::way::FEW_BYTES;
+use crate::way::{FEW_BYTES, is_one_block};
 use cesu8_bytes::BLOCK;
 use cesu8_bytes::flavor::Flavor;
+use cesu8_bytes::lanes::padded::padded_half;
 use cesu8_bytes::pairs::{PAIR, PAIR_READ, PAIR_UTF8, utf8_of_pair};
 use cesu8_bytes::strictness::NoText;
 use cesu8_bytes::writing::put::{put, put_lanes};
@@ -61,6 +61,23 @@ pub fn write_few_strictly<F: Flavor>(
         return Err(NoText);
     }
     Ok(put_between(&source, read, bytes.len() - read, out, end))
+}
+
+/// Copies at most 64 bytes to zeros, so that a load may pass the end of the bytes.
+#[inline(always)]
+pub fn load(bytes: &[u8], source: &mut [u8])
+    requires bytes { length bytes.now ≤ FEW_BYTES }
+    requires zeros { source.old ≡ replicate (length source.old) 0 }
+    requires room { FEW_BYTES ≤ length source.old }
+    ensures { source.new ≡ bytes.now ++ replicate (length source.old - length bytes.now) 0 }
+{
+    // Up to 32 bytes are stored at once, so that a load of them need not wait for two stores.
+    if is_one_block(bytes) {
+        put_lanes(padded_half(bytes), source, 0);
+        return;
+    }
+    put_lanes(u8x32::from_slice(bytes), source, 0);
+    put_lanes(padded_half(&bytes[BLOCK..]), source, BLOCK);
 }
 
 /// Writes `count` bytes of the source, at most 64, and returns their end. Others come behind them.

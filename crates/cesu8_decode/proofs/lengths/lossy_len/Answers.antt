@@ -1,22 +1,42 @@
-use Rattle.std.proofs.Common.{◌≡◌, ◌∙◌, sym, arith, length}
-use Rattle.std.proofs.lemmas.Bool.{eqb-true}
+use Rattle.std.proofs.Common.{◌≡◌, ◌-◌, ◌∙◌, ap, arith, length, drop}
+use Rattle.cesu8_decode.specs.DecodedOffsets.{total_saved}
 use Rattle.cesu8_decode.proofs.by_offset.Savings.{lossy_length_by_savings, length_given}
-use Rattle.cesu8_decode.proofs.by_offset.SavedTotals.{empty_saves}
+use Rattle.cesu8_decode.proofs.decoder.MaskCounts.{saved_next}
 use Rattle.cesu8_decode.proofs.lengths.lossy_len.Goals as goal
+
+pub overflow_sub-result : goal.overflow_sub-result
+overflow_sub-result g c = omega (arith, c.saved_by_few.ensures, lossy_length_by_savings g.F.Flavor.flavor c.args.bytes.now)
+
+pub returns-then-bytes-le-LANES-clause-some : goal.returns-then-bytes-le-LANES-clause-some
+returns-then-bytes-le-LANES-clause-some g c =
+    omega (arith, c.saved_by_few.ensures, lossy_length_by_savings g.F.Flavor.flavor c.args.bytes.now)
 
 pub overflow_sub-len : goal.overflow_sub-len
 overflow_sub-len g c =
-    omega (arith, c.loop-rest.invariant, c.sum_first-saved.ensures.sum, lossy_length_by_savings g.F.Flavor.flavor c.args.bytes.now)
+    let f = g.F.Flavor.flavor in
+    let next = saved_next f c.args.bytes.now c.loop-at.at 59 (omega arith) in
+    omega (arith, next, c.saved_by_step.ensures, c.loop-at.invariant.1, lossy_length_by_savings f c.args.bytes.now)
+
+pub loop-at-preserved : goal.loop-at-preserved
+loop-at-preserved g c =
+    let f = g.F.Flavor.flavor in
+    let next = saved_next f c.args.bytes.now c.loop-at.at 59 (omega arith) in
+    (omega arith, omega (arith, next, c.saved_by_step.ensures, c.loop-at.invariant.1, lossy_length_by_savings f c.args.bytes.now))
+
+pub overflow_sub-len-2 : goal.overflow_sub-len-2
+overflow_sub-len-2 g c =
+    let f = g.F.Flavor.flavor in
+    let bytes = c.args.bytes.now in
+    let left : length bytes - (length bytes - c.loop-at.at) ≡ c.loop-at.at = omega (arith, c.loop-at.invariant.0) in
+    let last = c.saved_by_last.ensures ∙ ap (λ n. total_saved f (drop n bytes)) left in
+    omega (arith, last, c.loop-at.invariant.1, lossy_length_by_savings f bytes)
 
 pub returns : goal.returns
 returns g c =
     let f = g.F.Flavor.flavor in
-    let none : length c.loop-rest.rest.now ≡ 0 = eqb-true _ _ (sym c.is_empty.ensures ∙ c.loop-rest-test.false) in
-    let whole = lossy_length_by_savings f c.args.bytes.now in
+    let bytes = c.args.bytes.now in
+    let left : length bytes - (length bytes - c.loop-at.at) ≡ c.loop-at.at = omega (arith, c.loop-at.invariant.0) in
+    let last = c.saved_by_last.ensures ∙ ap (λ n. total_saved f (drop n bytes)) left in
     let given = length_given c.try_from.result _ _ c.try_from.ensures
-    (omega (arith, whole, c.loop-rest.invariant, empty_saves f c.loop-rest.rest.now none)) in
+    (omega (arith, last, c.loop-at.invariant.1, lossy_length_by_savings f bytes)) in
     rw c.ok.ensures.value (record { some = given.0; none = given.1 })
-
-pub loop-rest-preserved : goal.loop-rest-preserved
-loop-rest-preserved g c =
-    omega (arith, c.loop-rest.invariant, c.sum_first-saved.ensures.sum, lossy_length_by_savings g.F.Flavor.flavor c.args.bytes.now)

@@ -8,7 +8,7 @@ decreases-loop-read g l = length l.fn.bytes - l.read
 
 abbrev pub invariant-loop-read : goal.invariant-loop-read
 invariant-loop-read g l = record {
-  pass : IsPass g.F.Flavor.flavor l.fn.bytes l.read l.kinds;
+  pass : IsPass g.F.Flavor.flavor l.fn.bytes l.read;
   text : IsDecoded g.F.Flavor.flavor g.S.Reading.which (window_of l.fn.bytes) 0 l.read l.fn.before.items l.text.items false;
   capacity : vec_capacity l.text ≡ vec_capacity l.fn.before;
 }

@@ -15,7 +15,7 @@ written_behind start end len front new other more long inside fits =
 
 pub returns-clause-next : goal.returns-clause-next
 returns-clause-next g c =
-    let more = c.write_blocks-pass-2.ensures.more in
+    let more = c.write_windows-pass-2.ensures.more in
     let start = c.len-start.result in
     let old = c.args.out.now.items in
     let cleared = c.deref_mut.result.now in
@@ -23,13 +23,13 @@ returns-clause-next g c =
     let zeros = replicate {A = ℕ} c.min.result 0 in
     let front : take start cleared ≡ old =
     ap (take start) (c.deref_mut.ensures.value ∙ c.append_zeros.ensures.bytes) ∙ ap (λ n. take n (old ++ zeros)) long ∙ take-append_seam old zeros in
-    let chunk = take c.write_blocks-pass-2.result.end c.write_blocks-pass-2.new.out in
+    let chunk = take c.write_windows-pass-2.result.end c.write_windows-pass-2.new.out in
     record {
       old = _;
-      new = c.write_blocks-pass-2.new.out;
+      new = c.write_windows-pass-2.new.out;
       more = more;
       text = λ fine. c.truncate.ensures.items
-          ∙ written_behind start _ _ (take start cleared) c.write_blocks-pass-2.new.out _ _ (ap length front ∙ sym long) more.inside
+          ∙ written_behind start _ _ (take start cleared) c.write_windows-pass-2.new.out _ _ (ap length front ∙ sym long) more.inside
           (omega (arith, more.inside, more.len, c.append_zeros.ensures.len, c.deref_mut.ensures))
           ∙ ap (λ bs. bs ++ chunk) front;
       capacity = c.truncate.ensures.capacity ∙ c.append_zeros.ensures.capacity;

@@ -34,7 +34,7 @@ put-end-requires g c =
     let f = g.F.Flavor.flavor in
     let bytes = c.args.bytes.now in
     let inv = c.loop-read.invariant in
-    let more = c.write_blocks-pass.ensures.more in
+    let more = c.write_windows-pass.ensures.more in
     let read = reads_on f Lossy bytes _ _ _ _ [] (take c.loop-read.end c.loop-read.out) _ more refl refl inv.text in
     fits f bytes c.loop-read.out _ c.loop-read.end _ (subst (IsDecoded f Lossy (window_of bytes) 0 _ [] _) (read.lossy refl) read) more.within.1
     (omega (arith, c.requires, inv.len)) inv.inside
@@ -43,7 +43,7 @@ pub loop-read-preserved : goal.loop-read-preserved
 loop-read-preserved g c =
     let f = g.F.Flavor.flavor in
     let inv = c.loop-read.invariant in
-    let more = c.write_blocks-pass.ensures.more in
+    let more = c.write_windows-pass.ensures.more in
     let put = c.put-end.ensures in
     let read = reads_on f Lossy c.args.bytes.now _ _ _ _ [] (take c.loop-read.end c.loop-read.out) _ more refl refl inv.text in
     let fine = subst (IsDecoded f Lossy (window_of c.args.bytes.now) 0 _ [] _) (read.lossy refl) read in

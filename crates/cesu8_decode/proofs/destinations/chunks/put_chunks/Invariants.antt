@@ -9,7 +9,7 @@ decreases-loop-read g l = length l.fn.bytes - l.read
 
 abbrev pub invariant-loop-read : goal.invariant-loop-read
 invariant-loop-read g l = record {
-  pass : IsPass g.F.Flavor.flavor l.fn.bytes l.read l.kinds;
+  pass : IsPass g.F.Flavor.flavor l.fn.bytes l.read;
   text : IsDecoded g.F.Flavor.flavor Lossy (window_of l.fn.bytes) 0 l.read [] (take l.end l.out) false;
   inside : l.end ≤ length l.out;
   behind : drop l.end l.out ≡ drop l.end l.initial.out;

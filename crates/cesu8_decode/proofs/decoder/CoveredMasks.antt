@@ -1,0 +1,240 @@
+-- Which offsets the characters of a window cover, by masks of where they begin.
+use Rattle.std.proofs.Common.{◌≡◌, ℕ, zero, suc, ◌+◌, ◌-◌, ◌*◌, ◌%◌, ◌^◌, ◌<◌, ◌≤◌, ◌⊎◌, ⊎_elim, inl, inr, Bool, cond, true, false, ◌&&◌, ◌||◌, eqb, leb, ltb, List, get_or, bit_or, refl, sym, ap, ◌∙◌, arith}
+use Rattle.std.proofs.lemmas.Bool.{cases_lt, or_cases, and_parts, and_from, lt-ltb, le-leb, ltb-true, leb-true, or_left, or_right, eq-eqb}
+use Rattle.std.proofs.lemmas.Bool.Decides.{nat_tests}
+use Rattle.cesu8_text.specs.Encoding.{Flavor}
+use Rattle.cesu8_bytes.specs.Pairs.{null_at}
+use Rattle.cesu8_decode.specs.DecodedOffsets.{one_at, two_at, three_at, pair_at, first_width_by, width_at}
+use Rattle.cesu8_decode.specs.Masks.{HasBits, is_two_at, is_three_at, is_pair_at, is_null_at}
+use Rattle.cesu8_decode.proofs.by_offset.CharacterBoundaries.{width_bounds}
+use Rattle.cesu8_decode.proofs.decoder.MaskBits.{or_bits, earlier_bits}
+
+-- ---- the widths of forms
+
+-- The width by the form that begins.
+pub record Forms (w : ℕ) (one null two three pair : Bool) : Type 0 where
+  pub is_one : one ≡ true → w ≡ 1
+  pub is_null : null ≡ true → w ≡ 2
+  pub is_two : two ≡ true → w ≡ 2
+  pub is_three : three ≡ true → w ≡ 3
+  pub is_pair : pair ≡ true → w ≡ 6
+  pub some : ((w ≡ 0) × (one ≡ false)) ⊎ ((one ≡ true) ⊎ ((null ≡ true) ⊎ ((two ≡ true) ⊎ ((three ≡ true) ⊎ (pair ≡ true)))))
+
+chain : (one null two three six : Bool) →
+    (null ≡ true → one ≡ false) → (two ≡ true → (one ≡ false)) → (three ≡ true → (one ≡ false) × (null ≡ false) × (two ≡ false)) →
+    let w : ℕ = cond one 1 (cond null 2 (cond two 2 (cond three 3 (cond six 6 0)))) in
+    (one ≡ true → w ≡ 1) × (null ≡ true → w ≡ 2) × (two ≡ true → w ≡ 2) × (three ≡ true → w ≡ 3) × (eqb w 6 ≡ true → w ≡ 6)
+    × (((w ≡ 0) × (one ≡ false)) ⊎ ((one ≡ true) ⊎ ((null ≡ true) ⊎ ((two ≡ true) ⊎ ((three ≡ true) ⊎ (eqb w 6 ≡ true))))))
+chain true null two three six h1 h2 h3 = grind arith
+chain false true two three six h1 h2 h3 = grind arith
+chain false false true three six h1 h2 h3 = grind arith
+chain false false false true six h1 h2 h3 = grind arith
+chain false false false false true h1 h2 h3 = grind arith
+chain false false false false false h1 h2 h3 = grind arith
+
+pub forms : (f : Flavor) (a b d e g h : ℕ) → let w = first_width_by f a b d e g h in
+    Forms w (one_at f a) (null_at f a b) (two_at a b) (three_at a b d) (eqb w 6)
+unfolding first_width_by
+forms f a b d e g h =
+    let c = chain (one_at f a) (null_at f a b) (two_at a b) (three_at a b d) (pair_at a b d e g h)
+    (λ null. grind (arith, nat_tests)) (λ two. grind (arith, nat_tests))
+    (λ three. (grind (arith, nat_tests), grind (arith, nat_tests), grind (arith, nat_tests))) in
+    record { is_one = c.0; is_null = c.1; is_two = c.2; is_three = c.3; is_pair = c.4; some = c.5 }
+
+-- ---- covered offsets
+
+module _ (f : Flavor) (bytes : List ℕ) (at n : ℕ) where
+  abbrev w : ℕ → ℕ
+  w i = width_at f bytes (at + i)
+
+  pub formed : (i : ℕ) →
+      Forms (w i) (one_at f (get_or bytes (at + i) 0)) (is_null_at f bytes (at + i)) (is_two_at bytes (at + i)) (is_three_at bytes (at + i)) (is_pair_at f bytes (at + i))
+  formed i =
+      let b = λ (k : ℕ). get_or bytes k 0 in
+      forms f (b (at + i)) (b (at + i + 1)) (b (at + i + 2)) (b (at + i + 3)) (b (at + i + 4)) (b (at + i + 5))
+
+  -- What begins at one of the n offsets,
+  abbrev first : (ℕ → Bool) → ℕ → Bool
+  first test i = ltb i n && test (at + i)
+
+  -- an offset that some bytes before it passes a test,
+  abbrev pub after : ℕ → (ℕ → Bool) → ℕ → Bool
+  after k test i = ltb i 64 && (leb k i && test (i - k))
+
+  -- where three bytes begin, of which a pair has two times three,
+  abbrev pub threes_by : ℕ → Bool
+  threes_by i = (first (is_three_at bytes) i || first (is_pair_at f bytes) i) || after 3 (first (is_pair_at f bytes)) i
+
+  -- where two or more begin,
+  abbrev pub begins_by : ℕ → Bool
+  begins_by i = (first (is_two_at bytes) i || first (is_null_at f bytes) i) || threes_by i
+
+  -- and what these cover.
+  abbrev pub covered_by : ℕ → Bool
+  covered_by i = (begins_by i || after 1 begins_by i) || after 2 threes_by i
+
+  -- A character that begins s bytes before an offset has m bytes at least from there on.
+  pub record Part (m i : ℕ) : Type 0 where
+    pub s : ℕ
+    pub near : s ≤ i
+    pub begins : i - s < n
+    pub reaches : s + m ≤ w (i - s)
+
+  -- ---- what is marked is covered
+
+  part_here : (m i : ℕ) → i < n → m ≤ w i → Part m i
+  part_here m i inside wide =
+      let same : i - 0 ≡ i = omega arith in
+      record { s = 0; near = omega arith; begins = omega arith; reaches = omega (arith, ap w same) }
+
+  part_after : (k m i : ℕ) → k ≤ i → Part (m + k) (i - k) → Part m i
+  part_after k m i low part =
+      let s = part.s in
+      let near = part.near in
+      let begins = part.begins in
+      let same : i - k - s ≡ i - (s + k) = omega arith in
+      record { s = s + k; near = omega arith; begins = omega arith; reaches = omega (arith, part.reaches, ap w same) }
+
+  marked : (test : ℕ → Bool) (i : ℕ) → first test i ≡ true → (i < n) × (test (at + i) ≡ true)
+  marked test i set = let parts = and_parts (ltb i n) (test (at + i)) set in (ltb-true i n parts.0, parts.1)
+
+  marked_after : (k : ℕ) (test : ℕ → Bool) (i : ℕ) → after k test i ≡ true → (k ≤ i) × (test (i - k) ≡ true)
+  marked_after k test i set =
+      let parts = and_parts (leb k i) (test (i - k)) (and_parts (ltb i 64) (leb k i && test (i - k)) set).1 in
+      (leb-true k i parts.0, parts.1)
+
+  from_threes : (i : ℕ) → threes_by i ≡ true → Part 3 i
+  from_threes i set =
+      let three = first (is_three_at bytes) in
+      let pair = first (is_pair_at f bytes) in
+      ⊎_elim (λ (whole : (three i || pair i) ≡ true).
+      ⊎_elim (λ (h : three i ≡ true). let m = marked (is_three_at bytes) i h in part_here 3 i m.0 (omega (arith, (formed i).is_three m.1)))
+      (λ (h : pair i ≡ true). let m = marked (is_pair_at f bytes) i h in part_here 3 i m.0 (omega (arith, (formed i).is_pair m.1)))
+      (or_cases (three i) (pair i) whole))
+      (λ (second : after 3 pair i ≡ true).
+      let later = marked_after 3 pair i second in
+      let m = marked (is_pair_at f bytes) (i - 3) later.1 in
+      part_after 3 3 i later.0 (part_here 6 (i - 3) m.0 (omega (arith, (formed (i - 3)).is_pair m.1))))
+      (or_cases (three i || pair i) (after 3 pair i) set)
+
+  fewer : (m k i : ℕ) → m ≤ k → Part k i → Part m i
+  fewer m k i low part = record { s = part.s; near = part.near; begins = part.begins; reaches = omega (arith, part.reaches) }
+
+  from_begins : (i : ℕ) → begins_by i ≡ true → Part 2 i
+  from_begins i set =
+      let two = first (is_two_at bytes) in
+      let null = first (is_null_at f bytes) in
+      ⊎_elim (λ (h : (two i || null i) ≡ true).
+      ⊎_elim (λ (h : two i ≡ true). let m = marked (is_two_at bytes) i h in part_here 2 i m.0 (omega (arith, (formed i).is_two m.1)))
+      (λ (h : null i ≡ true). let m = marked (is_null_at f bytes) i h in part_here 2 i m.0 (omega (arith, (formed i).is_null m.1)))
+      (or_cases (two i) (null i) h))
+      (λ (h : threes_by i ≡ true). fewer 2 3 i (omega arith) (from_threes i h))
+      (or_cases (two i || null i) (threes_by i) set)
+
+  pub from_covered : (i : ℕ) → covered_by i ≡ true → Part 1 i
+  from_covered i set =
+      ⊎_elim (λ (h : (begins_by i || after 1 begins_by i) ≡ true).
+      ⊎_elim (λ (h : begins_by i ≡ true). fewer 1 2 i (omega arith) (from_begins i h))
+      (λ (h : after 1 begins_by i ≡ true). let later = marked_after 1 begins_by i h in part_after 1 1 i later.0 (from_begins (i - 1) later.1))
+      (or_cases (begins_by i) (after 1 begins_by i) h))
+      (λ (h : after 2 threes_by i ≡ true). let later = marked_after 2 threes_by i h in part_after 2 1 i later.0 (from_threes (i - 2) later.1))
+      (or_cases (begins_by i || after 1 begins_by i) (after 2 threes_by i) set)
+
+  -- ---- what is covered is marked
+
+  mark : (test : ℕ → Bool) (i : ℕ) → i < n → test (at + i) ≡ true → first test i ≡ true
+  mark test i inside passes = and_from (ltb i n) (test (at + i)) (lt-ltb i n inside) passes
+
+  mark_after : (k : ℕ) (test : ℕ → Bool) (i j : ℕ) → i ≡ j + k → i < 64 → test j ≡ true → after k test i ≡ true
+  mark_after k test i j there small passes =
+      let place : i - k ≡ j = omega (arith, there) in
+      and_from (ltb i 64) (leb k i && test (i - k)) (lt-ltb i 64 small)
+      (and_from (leb k i) (test (i - k)) (le-leb k i (omega arith)) (ap test place ∙ passes))
+
+  to_threes : (i : ℕ) → i < n → 3 ≤ w i → threes_by i ≡ true
+  to_threes i inside wide =
+      let three = first (is_three_at bytes) in
+      let pair = first (is_pair_at f bytes) in
+      let form = formed i in
+      or_left (three i || pair i) (after 3 pair i) (long form.some)
+    where
+      long : ((w i ≡ 0) × (one_at f (get_or bytes (at + i) 0) ≡ false)) ⊎ ((one_at f (get_or bytes (at + i) 0) ≡ true) ⊎ ((is_null_at f bytes (at + i) ≡ true)
+          ⊎ ((is_two_at bytes (at + i) ≡ true) ⊎ ((is_three_at bytes (at + i) ≡ true) ⊎ (is_pair_at f bytes (at + i) ≡ true))))) →
+          (first (is_three_at bytes) i || first (is_pair_at f bytes) i) ≡ true
+      long (inl none) = absurd (omega (arith, none.0, wide))
+      long (inr (inl one)) = absurd (omega (arith, (formed i).is_one one, wide))
+      long (inr (inr (inl null))) = absurd (omega (arith, (formed i).is_null null, wide))
+      long (inr (inr (inr (inl two)))) = absurd (omega (arith, (formed i).is_two two, wide))
+      long (inr (inr (inr (inr (inl three))))) = or_left (first (is_three_at bytes) i) (first (is_pair_at f bytes) i) (mark (is_three_at bytes) i inside three)
+      long (inr (inr (inr (inr (inr pair))))) = or_right (first (is_three_at bytes) i) (first (is_pair_at f bytes) i) (mark (is_pair_at f bytes) i inside pair)
+
+  abbrev two : ℕ → Bool
+  two = first (is_two_at bytes)
+
+  abbrev null : ℕ → Bool
+  null = first (is_null_at f bytes)
+
+  to_begins : (i : ℕ) → i < n → 2 ≤ w i → begins_by i ≡ true
+  to_begins i inside wide =
+      ⊎_elim (λ (short : w i < 3). or_left (two i || null i) (threes_by i) (narrow short (formed i).some))
+      (λ (long : 3 ≤ w i). or_right (two i || null i) (threes_by i) (to_threes i inside long))
+      (cases_lt (w i) 3)
+    where
+      narrow : w i < 3 → ((w i ≡ 0) × (one_at f (get_or bytes (at + i) 0) ≡ false)) ⊎ ((one_at f (get_or bytes (at + i) 0) ≡ true) ⊎ ((is_null_at f bytes (at + i) ≡ true)
+          ⊎ ((is_two_at bytes (at + i) ≡ true) ⊎ ((is_three_at bytes (at + i) ≡ true) ⊎ (is_pair_at f bytes (at + i) ≡ true))))) →
+          (two i || null i) ≡ true
+      narrow short (inl none) = absurd (omega (arith, none.0, wide))
+      narrow short (inr (inl one)) = absurd (omega (arith, (formed i).is_one one, wide))
+      narrow short (inr (inr (inl h))) = or_right (two i) (null i) (mark (is_null_at f bytes) i inside h)
+      narrow short (inr (inr (inr (inl h)))) = or_left (two i) (null i) (mark (is_two_at bytes) i inside h)
+      narrow short (inr (inr (inr (inr (inl three))))) = absurd (omega (arith, (formed i).is_three three, short))
+      narrow short (inr (inr (inr (inr (inr pair))))) = absurd (omega (arith, (formed i).is_pair pair, short))
+
+  pub widths : (i : ℕ) → (w i ≤ 3) ⊎ (w i ≡ 6)
+  widths i = width_bounds f bytes (at + i)
+
+  -- The second three bytes of a pair.
+  threes_later : (j i : ℕ) → j < n → 4 ≤ w j → i ≡ j + 3 → i < 64 → threes_by i ≡ true
+  threes_later j i inside wide there small =
+      let three = first (is_three_at bytes) in
+      let pair = first (is_pair_at f bytes) in
+      let six : w j ≡ 6 = ⊎_elim (λ (low : w j ≤ 3). absurd (omega arith)) (λ (six : w j ≡ 6). six) (widths j) in
+      or_right (three i || pair i) (after 3 pair i)
+      (mark_after 3 pair i j there small (mark (is_pair_at f bytes) j inside (eq-eqb (w j) 6 six)))
+
+  from_begin : (i : ℕ) → begins_by i ≡ true → covered_by i ≡ true
+  from_begin i set = or_left (begins_by i || after 1 begins_by i) (after 2 threes_by i) (or_left (begins_by i) (after 1 begins_by i) set)
+
+  from_next : (j i : ℕ) → i ≡ j + 1 → i < 64 → begins_by j ≡ true → covered_by i ≡ true
+  from_next j i there small set =
+      or_left (begins_by i || after 1 begins_by i) (after 2 threes_by i) (or_right (begins_by i) (after 1 begins_by i) (mark_after 1 begins_by i j there small set))
+
+  from_third : (j i : ℕ) → i ≡ j + 2 → i < 64 → threes_by j ≡ true → covered_by i ≡ true
+  from_third j i there small set = or_right (begins_by i || after 1 begins_by i) (after 2 threes_by i) (mark_after 2 threes_by i j there small set)
+
+  three_begins : (i : ℕ) → threes_by i ≡ true → begins_by i ≡ true
+  three_begins i set = or_right (first (is_two_at bytes) i || first (is_null_at f bytes) i) (threes_by i) set
+
+  -- So each offset is that a character of two bytes or more covers.
+  pub to_covered : (j s i : ℕ) → j < n → s < w j → 2 ≤ w j → i ≡ j + s → i < 64 → covered_by i ≡ true
+  to_covered j zero i inside reach wide there small =
+      let same : j ≡ i = omega (arith, there) in ap covered_by (sym same) ∙ from_begin j (to_begins j inside wide)
+  to_covered j (suc zero) i inside reach wide there small = from_next j i there small (to_begins j inside wide)
+  to_covered j (suc (suc zero)) i inside reach wide there small = from_third j i there small (to_threes j inside (omega arith))
+  to_covered j (suc (suc (suc zero))) i inside reach wide there small = from_begin i (three_begins i (threes_later j i inside (omega arith) there small))
+  to_covered j (suc (suc (suc (suc zero)))) i inside reach wide there small =
+      from_next (j + 3) i (omega (arith, there)) small (three_begins (j + 3) (threes_later j (j + 3) inside (omega arith) refl (omega arith)))
+  to_covered j (suc (suc (suc (suc (suc zero))))) i inside reach wide there small =
+      from_third (j + 3) i (omega (arith, there)) small (threes_later j (j + 3) inside (omega arith) refl (omega arith))
+  to_covered j (suc (suc (suc (suc (suc (suc s)))))) i inside reach wide there small =
+      absurd (⊎_elim (λ (low : w j ≤ 3). omega (arith, low, reach)) (λ (six : w j ≡ 6). omega (arith, six, reach)) (widths j))
+
+  -- ---- the masks of the code
+
+  pub threes_mask : {threes pairs : ℕ} → HasBits threes (first (is_three_at bytes)) → HasBits pairs (first (is_pair_at f bytes)) →
+      HasBits (bit_or (bit_or threes pairs) (pairs * 2 ^ 3 % 2 ^ 64)) threes_by
+  threes_mask of_threes of_pairs = or_bits (or_bits of_threes of_pairs) (earlier_bits 3 of_pairs)
+
+  pub covered_mask : {begins threes : ℕ} → HasBits begins begins_by → HasBits threes threes_by →
+      HasBits (bit_or (bit_or begins (begins * 2 ^ 1 % 2 ^ 64)) (threes * 2 ^ 2 % 2 ^ 64)) covered_by
+  covered_mask of_begins of_threes = or_bits (or_bits of_begins (earlier_bits 1 of_begins)) (earlier_bits 2 of_threes)

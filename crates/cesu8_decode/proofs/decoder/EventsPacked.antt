@@ -1,0 +1,411 @@
+-- What is packed for a window, byte by byte.
+use Rattle.std.proofs.Common.{◌≡◌, ◌≢◌, ℕ, zero, suc, ◌+◌, ◌-◌, ◌*◌, ◌/◌, ◌%◌, ◌^◌, ◌<◌, ◌≤◌, ⊎_elim, Bool, true, false, true≢false, cond, eqb, List, [], ◌∷◌, ◌++◌, refl, sym, ap, ◌∙◌, subst, arith, length, take, get_or, map, replicate, length-append, append_assoc, add-zero, zero-add, suc-add}
+use Rattle.std.specs.Int.{bit_at}
+use Rattle.std.specs.List.{flat_map, range_with_len}
+use Rattle.std.specs.Simd.Lanes.{mask_l}
+use Rattle.std.proofs.lemmas.Bool.{cases_lt}
+use Rattle.std.proofs.lemmas.Bool.Decides.{nat_tests}
+use Rattle.std.proofs.lemmas.List.{get_or_past}
+use Rattle.std.proofs.lemmas.List.FromFn.{get_or-map-range_with_len, length-map-range_with_len}
+use Rattle.std.proofs.lemmas.Nat.Bits.{bit_at-lt, bit_at_above, same_from_bits}
+use Rattle.std.proofs.lemmas.Simd.{bit_mask_l}
+use lib.Lanes.{sel_l, chunk}
+use Rattle.std.proofs.Math.Seq.{take-append_seam}
+use Rattle.std.proofs.lemmas.Simd.{map-map, mask_l-lt}
+use Rattle.std.proofs.Math.Pow.{pow_mono}
+use Rattle.std.proofs.lemmas.List.FromFn.{take-map-range_with_len}
+use Rattle.cesu8_bytes.specs.Puts.{WritesAt}
+use Rattle.cesu8_bytes.proofs.lists.Stored.{first_written, written_behind}
+use Rattle.cesu8_bytes.proofs.vectors.Loads.{loaded}
+use Rattle.std.proofs.lemmas.Bool.{ne_eqb, cases_eq}
+use Rattle.std.proofs.lemmas.Nat.Bits.{bit_at-zero}
+use Rattle.std.proofs.Math.Nat.{div-le_self}
+use Rattle.cesu8_text.specs.Encoding.{Flavor}
+use Rattle.cesu8_bytes.specs.declared.strictness.Strictness.TheVariants.{Lossy}
+use Rattle.cesu8_decode.specs.DecodedOffsets.{window_of, is_boundary_at, is_ill_formed_at, decoded_at, decoded}
+use Rattle.cesu8_decode.specs.Masks.{IsWindow, is_null_at, is_pair_at}
+use Rattle.cesu8_decode.specs.declared.lanes.windows.Window.{Window}
+use Rattle.cesu8_decode.proofs.by_offset.WindowOffsets.{decoded_split}
+use Rattle.cesu8_decode.proofs.chunks.Changed.{null_lead}
+use Rattle.cesu8_decode.proofs.decoder.EventBits.{unset}
+use Rattle.cesu8_decode.proofs.decoder.Events.{marked, unmarked, shifted_first, shifted_next, none_changes, no_pair_begins, ends_within, none_inside, rest_bit}
+use Rattle.cesu8_decode.proofs.decoder.EventsDecoded.{plain_at, no_lone_lead, null_wide, null_at_decoded, replaced_at}
+use Rattle.cesu8_bytes.specs.Packing.{written_for, written}
+
+-- ---- ranges
+
+-- What more offsets give is what the first ones give, and then the others.
+pub range_split : (h : ℕ → List ℕ) (i m n : ℕ) → flat_map h (range_with_len i (m + n)) ≡ flat_map h (range_with_len i m) ++ flat_map h (range_with_len (i + m) n)
+range_split h i zero n = rw (add-zero i, zero-add n) refl
+range_split h i (suc m) n =
+    let offset : i + 1 + m ≡ i + suc m = omega arith in
+    rw (suc-add m n, range_split h (i + 1) m n, offset) (sym (append_assoc (h i) _ _))
+
+-- Ranges give the same if their offsets do.
+pub range_same : (g h : ℕ → List ℕ) (a b n : ℕ) → ((k : ℕ) → k < n → g (a + k) ≡ h (b + k)) → flat_map g (range_with_len a n) ≡ flat_map h (range_with_len b n)
+range_same g h a b zero same = refl
+range_same g h a b (suc n) same =
+    let first = ap g (sym (add-zero a)) ∙ same 0 (omega arith) ∙ ap h (add-zero b) in
+    let rest = range_same g h (a + 1) (b + 1) n (λ k small.
+    let here : a + 1 + k ≡ a + (k + 1) = omega arith in
+    let there : b + (k + 1) ≡ b + 1 + k = omega arith in
+    ap g here ∙ same (k + 1) (omega arith) ∙ ap h there) in
+    λ k. first k ++ rest k
+
+-- One byte for each offset are as many.
+pub range_length : (h : ℕ → List ℕ) (a n : ℕ) → ((i : ℕ) → a ≤ i → i < a + n → length (h i) ≡ 1) → length (flat_map h (range_with_len a n)) ≡ n
+range_length h a zero one = refl
+range_length h a (suc n) one =
+    omega (
+      arith,
+      length-append (h a) (flat_map h (range_with_len (a + 1) n)),
+      one a (omega arith) (omega arith),
+      range_length h (a + 1) n (λ i low inside. one i (omega arith) (omega arith)),
+    )
+
+-- One byte at most for each are no more.
+pub range_few : (h : ℕ → List ℕ) (a n : ℕ) → ((i : ℕ) → length (h i) ≤ 1) → length (flat_map h (range_with_len a n)) ≤ n
+range_few h a zero few = omega arith
+range_few h a (suc n) few = omega (arith, length-append (h a) (flat_map h (range_with_len (a + 1) n)), few a, range_few h (a + 1) n few)
+
+-- Where one byte is written for each of the last offsets, it is cut back by as many.
+cut_back : (h : ℕ → List ℕ) (n m end last : ℕ) (old new : List ℕ) → n ≤ m → ((i : ℕ) → n ≤ i → i < m → length (h i) ≡ 1) →
+    WritesAt (flat_map h (range_with_len 0 m)) end old new last →
+    (m - n ≤ last) × (end ≤ length old → WritesAt (flat_map h (range_with_len 0 n)) end old new (last - (m - n)))
+cut_back h n m end last old new covered one text =
+    let first = flat_map h (range_with_len 0 n) in
+    let others = flat_map h (range_with_len (0 + n) (m - n)) in
+    let all : n + (m - n) ≡ m = omega arith in
+    let split : flat_map h (range_with_len 0 m) ≡ first ++ others =
+    ap (λ k. flat_map h (range_with_len 0 k)) (sym all) ∙ range_split h 0 n (m - n) in
+    let few = range_length h (0 + n) (m - n) (λ i low inside. one i (omega arith) (omega arith)) in
+    let both = length-append first others in
+    let lengths : end + length first + (m - n) ≡ last = omega (arith, text.end, ap length split, both, few) in (
+      omega (arith, lengths),
+      λ room.
+          let cut = first_written (length first) end last (first ++ others) old new (omega (arith, both)) room (subst (λ bs. WritesAt bs end old new last) split text) in
+          let is_end : end + length first ≡ last - (m - n) = omega (arith, lengths) in
+          subst (λ k. WritesAt first end old new k) is_end (subst (λ bs. WritesAt bs end old new (end + length first)) (take-append_seam first others) cut),
+    )
+
+-- What is written for lanes, by their offsets.
+pub written_on_range : (g d : ℕ → Bool) (b : ℕ → ℕ) (a n : ℕ) →
+    written (map g (range_with_len a n)) (map d (range_with_len a n)) (map b (range_with_len a n)) ≡ flat_map (λ i. written_for (g i) (d i) (b i)) (range_with_len a n)
+written_on_range g d b a zero = refl
+written_on_range g d b a (suc n) = (λ k. written_for (g a) (d a) (b a) ++ written_on_range g d b (a + 1) n k)
+
+-- ---- bits
+
+one_bit : (b : ℕ) → b < 2 → cond (eqb b 1) 1 0 ≡ b
+one_bit b small = grind (arith, nat_tests)
+
+-- A word is the mask of its bits.
+pub bits_are : (word n : ℕ) → word < 2 ^ n → word ≡ mask_l (map (λ i. eqb (bit_at word i) 1) (range_with_len 0 n))
+bits_are word n fits =
+    let t : ℕ → Bool = λ i. eqb (bit_at word i) 1 in
+    let ms = map t (range_with_len 0 n) in
+    same_from_bits word (mask_l ms) (λ i.
+    ⊎_elim (λ (inside : i < n).
+    sym (one_bit (bit_at word i) (bit_at-lt word i))
+    ∙ ap {B = ℕ} (λ t. cond t 1 0) (sym (get_or-map-range_with_len t 0 n i i false inside (zero-add i)))
+    ∙ sym (bit_mask_l ms i))
+    (λ (past : n ≤ i).
+    bit_at_above word n i fits past
+    ∙ ap {B = ℕ} (λ t. cond t 1 0) (sym (get_or_past ms i false (omega (arith, length-map-range_with_len t 0 n))))
+    ∙ sym (bit_mask_l ms i))
+    (cases_lt i n))
+
+-- Zeros for the lanes that pass a test.
+pub zeroed_of : (p : ℕ → Bool) (size : ℕ) (xs : List ℕ) → length xs ≡ size → sel_l (map p xs) (replicate size 0) xs ≡ map (λ x. cond (p x) 0 x) xs
+zeroed_of p size [] long = refl
+zeroed_of p zero (x ∷ xs) long = absurd (omega arith)
+zeroed_of p (suc size) (x ∷ xs) long = ap (λ l. cond (p x) 0 x ∷ l) (zeroed_of p size xs (omega arith))
+
+few_for : (t : Bool) (b : ℕ) → length (written_for t false b) ≤ 1
+few_for true b = omega arith
+few_for false b = omega arith
+
+most_for : (t : Bool) (b : ℕ) → length (written_for false t b) ≤ 3
+most_for true b = omega arith
+most_for false b = omega arith
+
+-- Three at most for each are no more than three times as many.
+range_most : (h : ℕ → List ℕ) (a n : ℕ) → ((i : ℕ) → length (h i) ≤ 3) → length (flat_map h (range_with_len a n)) ≤ 3 * n
+range_most h a zero few = omega arith
+range_most h a (suc n) few = omega (arith, length-append (h a) (flat_map h (range_with_len (a + 1) n)), few a, range_most h (a + 1) n few)
+
+-- ---- C0 80
+
+-- What is written for an offset, by the mask of C0 80.
+abbrev pub null_packed : (bytes : List ℕ) (at nulls : ℕ) → ℕ → List ℕ
+null_packed bytes at nulls i =
+    written_for (eqb (bit_at (nulls * 2 % 2 ^ 64) i) 1) false (cond (eqb (get_or bytes (at + i) 0) 0xC0) 0 (get_or bytes (at + i) 0))
+
+module _ (f : Flavor) (bytes : List ℕ) (at : ℕ) (window : Window) (is : IsWindow f bytes at window) (long : at + window.len + 64 ≤ length bytes)
+    (no_pairs : window.pairs ≡ 0) (none : window.ill_formed ≡ 0) (boundary : is_boundary_at f (window_of bytes) at ≡ true) where
+  abbrev left_out : ℕ
+  left_out = window.nulls * 2 % 2 ^ 64
+
+  abbrev byte : ℕ → ℕ
+  byte i = get_or bytes (at + i) 0
+
+  abbrev packed : ℕ → List ℕ
+  packed = null_packed bytes at window.nulls
+
+  fine_at : (i : ℕ) → at ≤ i → i < at + window.len → is_ill_formed_at f (window_of bytes) i ≡ false
+  fine_at i low inside =
+      let there : at + (i - at) ≡ i = omega arith in
+      ⊎_elim (λ (begins : i - at < is.n).
+      ap (is_ill_formed_at f (window_of bytes)) (sym there)
+      ∙ unmarked window.ill_formed (is_ill_formed_at f (window_of bytes)) at is.n is.ill_formed (i - at) (ap (λ m. bit_at m (i - at)) none ∙ bit_at-zero (i - at)) begins)
+      (λ (past : is.n ≤ i - at). (is.rest i (omega arith) inside).1)
+      (cases_lt (i - at) is.n)
+
+  pair_none : (i : ℕ) → at ≤ i → i < at + window.len → is_pair_at f bytes i ≡ false
+  pair_none = no_pair_begins Lossy is long no_pairs
+
+  null_none : (i : ℕ) → i < window.len → bit_at window.nulls i ≡ 0 → is_null_at f bytes (at + i) ≡ false
+  null_none i inside unset =
+      ⊎_elim (λ (begins : i < is.n). unmarked window.nulls (is_null_at f bytes) at is.n is.nulls i unset begins)
+      (λ (past : is.n ≤ i). (none_changes Lossy is long (at + i) (is.rest (at + i) (omega arith) (omega arith)).0).1)
+      (cases_lt i is.n)
+
+  next_bit : (i : ℕ) → i < 64 → bit_at window.nulls i ≡ 0 → bit_at left_out (i + 1) ≡ 0
+  next_bit i small unset =
+      ⊎_elim (λ (inside : i + 1 < 64). shifted_next window.nulls (i + 1) i inside refl ∙ unset)
+      (λ (past : 64 ≤ i + 1). bit_at_above left_out 64 (i + 1) (omega arith) past)
+      (cases_lt (i + 1) 64)
+
+  stays_packed : (i : ℕ) → bit_at left_out i ≡ 0 → byte i ≢ 0xC0 → packed i ≡ byte i ∷ []
+  stays_packed i unset other = rw (unset, ne_eqb (byte i) 0xC0 other) refl
+
+  lead_packed : (i : ℕ) → bit_at left_out i ≡ 0 → byte i ≡ 0xC0 → packed i ≡ 0 ∷ []
+  lead_packed i unset lead = rw (unset, lead) refl
+
+  second_packed : (i : ℕ) → bit_at left_out i ≡ 1 → packed i ≡ []
+  second_packed i set = rw set refl
+
+  -- From an offset on that is not the second of C0 80, the bytes are packed.
+  packed_from : (m r i : ℕ) → r ≤ m → i + r ≡ window.len → bit_at left_out i ≡ 0 → ((j : ℕ) → i ≡ j + 1 → is_null_at f bytes (at + j) ≡ false) →
+      flat_map packed (range_with_len i r) ≡ decoded f (window_of bytes) (at + i) r
+  unfolding decoded
+  packed_from m zero i few there clear before = refl
+  packed_from zero (suc r) i few there clear before = absurd (omega arith)
+  packed_from (suc m) (suc r) i few there clear before =
+      ⊎_elim (λ (set : bit_at window.nulls i ≡ 1).
+      let begins = marked window.nulls (is_null_at f bytes) at is.n is.nulls i set in
+      let fits : at + i + 2 ≤ length bytes = omega (arith, long, begins.0, is.len) in
+      let wide = null_wide f bytes (at + i) fits begins.1 in
+      let within = ends_within Lossy is long i 2 (omega arith) wide begins.0 in
+      let next : bit_at window.nulls (i + 1) ≡ 0 = unset window.nulls (i + 1) (λ set.
+      true≢false (sym (marked window.nulls (is_null_at f bytes) at is.n is.nulls (i + 1) set).1
+      ∙ (none_changes Lossy is long (at + (i + 1)) (none_inside Lossy is long i 2 (omega arith) wide begins.0 (i + 1) (omega arith) (omega arith))).1)) in
+      let all : 2 + (r - 1) ≡ suc r = omega arith in
+      let after : at + (i + 2) ≡ at + i + 2 = omega arith in
+      let second : i + 1 + 1 ≡ i + 2 = omega arith in
+      let lead = lead_packed i clear (null_lead f (byte i) (get_or bytes (at + i + 1) 0) begins.1) in
+      let gone = second_packed (i + 1) (shifted_next window.nulls (i + 1) i (omega (arith, within, is.fits)) refl ∙ set) in
+      let first : flat_map packed (range_with_len i 2) ≡ decoded f (window_of bytes) (at + i) 2 =
+      (λ k. lead k ++ (gone k ++ [])) ∙ sym (null_at_decoded f bytes (at + i) fits begins.1) in
+      let rest : flat_map packed (range_with_len (i + 2) (r - 1)) ≡ decoded f (window_of bytes) (at + i + 2) (r - 1) =
+      packed_from m (r - 1) (i + 2) (omega arith) (omega arith)
+      (ap (bit_at left_out) (sym second) ∙ next_bit (i + 1) (omega (arith, within, is.fits)) next)
+      (λ j there. let here : j ≡ i + 1 = omega arith in
+      ap (λ j. is_null_at f bytes (at + j)) here ∙ null_none (i + 1) (omega arith) next)
+      ∙ ap (λ k. decoded f (window_of bytes) k (r - 1)) after in
+      ap (λ n. flat_map packed (range_with_len i n)) (sym all) ∙ range_split packed i 2 (r - 1) ∙ (λ k. first k ++ rest k)
+      ∙ sym (decoded_split f (window_of bytes) (at + i) 2 (r - 1)) ∙ ap (decoded f (window_of bytes) (at + i)) all)
+      (λ (other : ¬ (bit_at window.nulls i ≡ 1)).
+      let none_here : bit_at window.nulls i ≡ 0 = unset window.nulls i other in
+      let null = null_none i (omega arith) none_here in
+      let fine = fine_at (at + i) (omega arith) (omega arith) in
+      let lone = no_lone_lead f bytes at window.len boundary pair_none (at + i) (omega arith) (omega arith) null fine in
+      let plain = plain_at f bytes at window.len boundary pair_none (at + i) (omega arith) (omega arith) null
+      (λ j low there. let here : j ≡ at + (j - at) = omega arith in
+      ap (is_null_at f bytes) here ∙ before (j - at) (omega arith)) fine in
+      let first = stays_packed i clear lone ∙ sym plain in
+      let after : at + (i + 1) ≡ at + i + 1 = omega arith in
+      let rest =
+      packed_from m r (i + 1) (omega arith) (omega arith) (next_bit i (omega (arith, is.fits)) none_here)
+      (λ j there. let here : j ≡ i = omega arith in ap (λ j. is_null_at f bytes (at + j)) here ∙ null)
+      ∙ ap (λ k. decoded f (window_of bytes) k r) after in
+      (λ k. first k ++ rest k))
+      (cases_eq (bit_at window.nulls i) 1)
+
+  -- So are all of the window,
+  pub packed_all : flat_map packed (range_with_len 0 window.len) ≡ decoded f (window_of bytes) at window.len
+  packed_all =
+      packed_from window.len window.len 0 (omega arith) (omega arith) (shifted_first window.nulls) (λ j never. absurd (omega arith))
+      ∙ ap (λ k. decoded f (window_of bytes) k window.len) (add-zero at)
+
+  -- and one byte is written for each after it.
+  one_after : (i : ℕ) → window.len ≤ i → i < 64 → length (packed i) ≡ 1
+  one_after i past small =
+      let clear : bit_at left_out i ≡ 0 =
+      ⊎_elim (λ (start : i ≡ 0). ap (bit_at left_out) start ∙ shifted_first window.nulls)
+      (λ (later : ¬ (i ≡ 0)).
+      let there : i ≡ i - 1 + 1 = omega (arith, later) in
+      ap (bit_at left_out) there
+      ∙ next_bit (i - 1) (omega arith) (unset window.nulls (i - 1) (λ set.
+      let begins = marked window.nulls (is_null_at f bytes) at is.n is.nulls (i - 1) set in
+      let fits : at + (i - 1) + 2 ≤ length bytes = omega (arith, long, begins.0, is.len) in
+      omega (arith, later, past, ends_within Lossy is long (i - 1) 2 (omega arith) (null_wide f bytes (at + (i - 1)) fits begins.1) begins.0))))
+      (cases_eq i 0) in
+      ap length (written_clear clear)
+    where
+      written_clear : bit_at left_out i ≡ 0 → packed i ≡ cond (eqb (byte i) 0xC0) 0 (byte i) ∷ []
+      written_clear clear = rw clear refl
+
+  module _ (m end last : ℕ) (old new : List ℕ) (covered : window.len ≤ m) (small : m ≤ 64) (text : WritesAt (flat_map packed (range_with_len 0 m)) end old new last) where
+    -- As many bytes are stored as follow the window, at least.
+    pub after_window : m - window.len ≤ last
+    after_window = (cut_back packed window.len m end last old new covered (λ i past inside. one_after i past (omega arith)) text).0
+
+    -- What is stored without these is what the window becomes.
+    pub window_written : end ≤ length old → WritesAt (decoded f (window_of bytes) at window.len) end old new (last - (m - window.len))
+    window_written room =
+        subst (λ bs. WritesAt bs end old new (last - (m - window.len))) packed_all
+        ((cut_back packed window.len m end last old new covered (λ i past inside. one_after i past (omega arith)) text).1 room)
+
+  -- A block is packed by the bits of its bytes.
+  pub block_packed : (k : ℕ) (block : List ℕ) → k + 32 ≤ 64 → block ≡ map (λ b. cond (eqb b 0xC0) 0 b) (chunk (at + k) 32 bytes) →
+      written (take 32 (map (λ i. eqb (bit_at (left_out / 2 ^ k) i) 1) (range_with_len 0 64))) (replicate 32 false) block ≡ flat_map packed (range_with_len k 32)
+  block_packed k block small block_is =
+      let t : ℕ → Bool = λ i. eqb (bit_at (left_out / 2 ^ k) i) 1 in
+      let z : ℕ → ℕ = λ i. cond (eqb (get_or bytes (i + (at + k)) 0) 0xC0) 0 (get_or bytes (i + (at + k)) 0) in
+      let tests = take-map-range_with_len t 0 64 32 (omega arith) in
+      let fits : left_out < 2 ^ 64 = omega arith in
+      let lanes : block ≡ map z (range_with_len 0 32) =
+      block_is ∙ ap (λ p. map (λ b. cond (eqb b 0xC0) 0 b) (chunk p 32 bytes)) (sym (zero-add (at + k)))
+      ∙ ap (map (λ b. cond (eqb b 0xC0) 0 b)) (loaded bytes 0 (at + k) 32 (omega (arith, long)))
+      ∙ map-map (λ b. cond (eqb b 0xC0) 0 b) (λ i. get_or bytes (i + (at + k)) 0) (range_with_len 0 32) in
+      (λ j. written (tests j) (replicate 32 false) (lanes j))
+      ∙ written_on_range t (λ _. false) z 0 32
+      ∙ range_same (λ i. written_for (t i) false (z i)) packed 0 k 32 (λ j inside.
+      let here : 0 + j ≡ j = zero-add j in
+      let offset : 0 + j + (at + k) ≡ at + (k + j) = omega arith in
+      let bit = ap (bit_at (left_out / 2 ^ k)) here ∙ rest_bit left_out k fits j in
+      (λ q. written_for (eqb (bit q) 1) false (cond (eqb (get_or bytes (offset q) 0) 0xC0) 0 (get_or bytes (offset q) 0))))
+
+  -- So the next block is written after those before.
+  pub block_written : (k end middle last : ℕ) (block old mid new : List ℕ) → k + 32 ≤ 64 → block ≡ map (λ b. cond (eqb b 0xC0) 0 b) (chunk (at + k) 32 bytes) →
+      WritesAt (flat_map packed (range_with_len 0 k)) end old mid middle →
+      ((tests : List Bool) → 32 ≤ length tests → left_out / 2 ^ k ≡ mask_l tests → WritesAt (written (take 32 tests) (replicate 32 false) block) middle mid new last) →
+      WritesAt (flat_map packed (range_with_len 0 (k + 32))) end old new last
+  block_written k end middle last block old mid new small block_is before stored =
+      let word = left_out / 2 ^ k in
+      let t : ℕ → Bool = λ i. eqb (bit_at word i) 1 in
+      let fits : word < 2 ^ 64 = omega (arith, div-le_self left_out (2 ^ k)) in
+      let store = stored (map t (range_with_len 0 64)) (omega (arith, length-map-range_with_len t 0 64)) (bits_are word 64 fits) in
+      let next = subst (λ bs. WritesAt bs middle mid new last) (block_packed k block small block_is) store in
+      let here : 0 + k ≡ k = zero-add k in
+      subst (λ bs. WritesAt bs end old new last)
+      (ap (λ n. flat_map packed (range_with_len 0 k) ++ flat_map packed (range_with_len n 32)) (sym here) ∙ sym (range_split packed 0 k 32))
+      (written_behind (flat_map packed (range_with_len 0 k)) (flat_map packed (range_with_len k 32)) old mid new end middle last before next)
+
+  pub few_packed : (n : ℕ) → length (flat_map packed (range_with_len 0 n)) ≤ n
+  few_packed n = range_few packed 0 n (λ i. few_for (eqb (bit_at left_out i) 1) (cond (eqb (byte i) 0xC0) 0 (byte i)))
+
+-- ---- replacement characters
+
+-- What is written for an offset, by the mask of ill-formed bytes.
+abbrev pub replaced : (bytes : List ℕ) (at ill : ℕ) → ℕ → List ℕ
+replaced bytes at ill i = written_for false (eqb (bit_at ill i) 1) (get_or bytes (at + i) 0)
+
+module _ (f : Flavor) (bytes : List ℕ) (at : ℕ) (window : Window) (is : IsWindow f bytes at window) (long : at + window.len + 64 ≤ length bytes)
+    (no_pairs : window.pairs ≡ 0) (no_nulls : window.nulls ≡ 0) (boundary : is_boundary_at f (window_of bytes) at ≡ true) where
+  abbrev stored : ℕ → List ℕ
+  stored = replaced bytes at window.ill_formed
+
+  pairless : (i : ℕ) → at ≤ i → i < at + window.len → is_pair_at f bytes i ≡ false
+  pairless = no_pair_begins Lossy is long no_pairs
+
+  nullless : (i : ℕ) → at ≤ i → i < at + window.len → is_null_at f bytes i ≡ false
+  nullless i low inside =
+      let there : at + (i - at) ≡ i = omega arith in
+      ⊎_elim (λ (begins : i - at < is.n).
+      ap (is_null_at f bytes) (sym there)
+      ∙ unmarked window.nulls (is_null_at f bytes) at is.n is.nulls (i - at) (ap (λ m. bit_at m (i - at)) no_nulls ∙ bit_at-zero (i - at)) begins)
+      (λ (past : is.n ≤ i - at). (none_changes Lossy is long i (is.rest i (omega arith) inside).0).1)
+      (cases_lt (i - at) is.n)
+
+  replaced_one : (i : ℕ) → bit_at window.ill_formed i ≡ 1 → stored i ≡ 0xEF ∷ 0xBF ∷ 0xBD ∷ []
+  replaced_one i set = rw set refl
+
+  kept_one : (i : ℕ) → bit_at window.ill_formed i ≡ 0 → stored i ≡ get_or bytes (at + i) 0 ∷ []
+  kept_one i clear = rw clear refl
+
+  -- Each byte is replaced, or becomes itself.
+  stored_at : (i : ℕ) → i < window.len → stored i ≡ decoded_at f (window_of bytes) (at + i)
+  stored_at i inside =
+      ⊎_elim (λ (set : bit_at window.ill_formed i ≡ 1).
+      replaced_one i set ∙ replaced_at f bytes (at + i) (marked window.ill_formed (is_ill_formed_at f (window_of bytes)) at is.n is.ill_formed i set).1)
+      (λ (other : ¬ (bit_at window.ill_formed i ≡ 1)).
+      let clear = unset window.ill_formed i other in
+      let fine : is_ill_formed_at f (window_of bytes) (at + i) ≡ false =
+      ⊎_elim (λ (begins : i < is.n). unmarked window.ill_formed (is_ill_formed_at f (window_of bytes)) at is.n is.ill_formed i clear begins)
+      (λ (past : is.n ≤ i). (is.rest (at + i) (omega arith) (omega arith)).1)
+      (cases_lt i is.n) in
+      kept_one i clear
+      ∙ sym (plain_at f bytes at window.len boundary pairless (at + i) (omega arith) (omega arith) (nullless (at + i) (omega arith) (omega arith))
+      (λ j low there. nullless j low (omega arith)) fine))
+      (cases_eq (bit_at window.ill_formed i) 1)
+
+  stored_all : flat_map stored (range_with_len 0 window.len) ≡ decoded f (window_of bytes) at window.len
+  unfolding decoded
+  stored_all =
+      range_same stored (decoded_at f (window_of bytes)) 0 at window.len (λ k small.
+      ap stored (zero-add k) ∙ stored_at k small)
+
+  one_stored : (i : ℕ) → window.len ≤ i → length (stored i) ≡ 1
+  one_stored i past =
+      ap length (kept_one i (unset window.ill_formed i (λ set.
+      omega (arith, past, is.len, (marked window.ill_formed (is_ill_formed_at f (window_of bytes)) at is.n is.ill_formed i set).0))))
+
+  module _ (m end last : ℕ) (old new : List ℕ) (covered : window.len ≤ m) (text : WritesAt (flat_map stored (range_with_len 0 m)) end old new last) where
+    -- As many bytes are stored as follow the window, at least.
+    pub replaced_after : m - window.len ≤ last
+    replaced_after = (cut_back stored window.len m end last old new covered (λ i past inside. one_stored i past) text).0
+
+    -- What is stored without these is what the window becomes.
+    pub replaced_written : end ≤ length old → WritesAt (decoded f (window_of bytes) at window.len) end old new (last - (m - window.len))
+    replaced_written room =
+        subst (λ bs. WritesAt bs end old new (last - (m - window.len))) stored_all
+        ((cut_back stored window.len m end last old new covered (λ i past inside. one_stored i past) text).1 room)
+
+  ill_fits : window.ill_formed < 2 ^ 64
+  ill_fits =
+      let t = is_ill_formed_at f (window_of bytes) in
+      let bits = ap (λ k. 2 ^ k) (length-map-range_with_len t at is.n) in
+      omega (arith, is.ill_formed, mask_l-lt (map t (range_with_len at is.n)), bits, pow_mono is.few)
+
+  -- The next sixteen bytes are written after those before.
+  pub half_written : (k end middle last : ℕ) (half old mid new : List ℕ) → k + 16 ≤ 64 → half ≡ chunk (at + k) 16 bytes →
+      WritesAt (flat_map stored (range_with_len 0 k)) end old mid middle →
+      ((tests : List Bool) → 16 ≤ length tests → window.ill_formed / 2 ^ k ≡ mask_l tests → WritesAt (written (replicate 16 false) (take 16 tests) half) middle mid new last) →
+      WritesAt (flat_map stored (range_with_len 0 (k + 16))) end old new last
+  half_written k end middle last half old mid new small half_is before put =
+      let word = window.ill_formed / 2 ^ k in
+      let t : ℕ → Bool = λ i. eqb (bit_at word i) 1 in
+      let z : ℕ → ℕ = λ i. get_or bytes (i + (at + k)) 0 in
+      let below : word < 2 ^ 64 = omega (arith, ill_fits, div-le_self window.ill_formed (2 ^ k)) in
+      let store = put (map t (range_with_len 0 64)) (omega (arith, length-map-range_with_len t 0 64)) (bits_are word 64 below) in
+      let tests = take-map-range_with_len t 0 64 16 (omega arith) in
+      let lanes : half ≡ map z (range_with_len 0 16) =
+      half_is ∙ ap (λ p. chunk p 16 bytes) (sym (zero-add (at + k))) ∙ loaded bytes 0 (at + k) 16 (omega (arith, long)) in
+      let block : written (replicate 16 false) (take 16 (map t (range_with_len 0 64))) half ≡ flat_map stored (range_with_len k 16) =
+      (λ j. written (replicate 16 false) (tests j) (lanes j))
+      ∙ written_on_range (λ _. false) t z 0 16
+      ∙ range_same (λ i. written_for false (t i) (z i)) stored 0 k 16 (λ j inside.
+      let here : 0 + j ≡ j = zero-add j in
+      let offset : 0 + j + (at + k) ≡ at + (k + j) = omega arith in
+      let bit = ap (bit_at word) here ∙ rest_bit window.ill_formed k ill_fits j in
+      (λ q. written_for false (eqb (bit q) 1) (get_or bytes (offset q) 0))) in
+      let next = subst (λ bs. WritesAt bs middle mid new last) block store in
+      let here : 0 + k ≡ k = zero-add k in
+      subst (λ bs. WritesAt bs end old new last)
+      (ap (λ n. flat_map stored (range_with_len 0 k) ++ flat_map stored (range_with_len n 16)) (sym here) ∙ sym (range_split stored 0 k 16))
+      (written_behind (flat_map stored (range_with_len 0 k)) (flat_map stored (range_with_len k 16)) old mid new end middle last before next)
+
+  pub few_replaced : (n : ℕ) → length (flat_map stored (range_with_len 0 n)) ≤ 3 * n
+  few_replaced n = range_most stored 0 n (λ i. most_for (eqb (bit_at window.ill_formed i) 1) (get_or bytes (at + i) 0))

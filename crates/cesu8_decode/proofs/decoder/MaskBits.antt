@@ -1,0 +1,227 @@
+-- Operations on masks, by the tests that their bits tell.
+use Rattle.std.proofs.Common.{◌≡◌, ℕ, ◌+◌, ◌-◌, ◌*◌, ◌/◌, ◌%◌, ◌^◌, ◌<◌, ◌≤◌, min, max, Bool, cond, true, false, not, ◌&&◌, ◌||◌, leb, ltb, ⊎_elim, List, map, length, get_or, bit_and, bit_or, pow-add, add_comm, one-mul, zero-mul, zero-add, add-zero, mod-eq_of_lt, mod-lt, refl, sym, ap, ◌∙◌, arith, Fits, w8, w64, replicate}
+use Rattle.std.specs.Int.{bit_at, bit_not}
+use Rattle.std.specs.List.{range_with_len}
+use Rattle.std.proofs.Math.Nat.{div-div-eq-div-mul}
+use Rattle.std.proofs.Math.Pow.{pow-lt}
+use Rattle.std.proofs.lemmas.Bool.{cases_lt, le-ltb, lt-ltb, le-leb, lt-leb}
+use Rattle.std.proofs.lemmas.List.{get_or-map, get_or_past, length-map}
+use Rattle.std.proofs.lemmas.List.FromFn.{get_or-map-range_with_len, length-map-range_with_len}
+use Rattle.std.proofs.lemmas.Nat.{pow_pos, and_mask}
+use Rattle.std.proofs.lemmas.Nat.Bits.{bit_at-zero, bit_at_and, bit_at_or, bit_at_not, bit_at_ones, bit_at_ones_above, bit_at_above, bit_at_cat_low, bit_at_cat_high, bit_at-lt, same_from_bits}
+use Rattle.std.proofs.lemmas.Simd.{bit_mask_l, Each1-get_or, zip2_splat, map-map}
+use lib.Lanes.{mask_l, zip2, Each1}
+use Rattle.cesu8_decode.specs.Masks.{HasBits, has_bit_below}
+
+-- ---- tests of a bit
+
+both : (s t : Bool) → min (cond s 1 0) (cond t 1 0) ≡ cond (s && t) 1 0
+both s t = grind arith
+
+either : (s t : Bool) → max (cond s 1 0) (cond t 1 0) ≡ cond (s || t) 1 0
+either s t = grind arith
+
+one_without : (s t : Bool) → min (cond s 1 0) (1 - cond t 1 0) ≡ cond (s && not t) 1 0
+one_without s t = grind arith
+
+outside : (s t : Bool) (n : ℕ) → n ≡ cond s 1 0 → n ≡ 0 → n ≡ cond (s && not t) 1 0
+outside s t n is none = grind arith
+
+pub unset : (t : Bool) (n : ℕ) → n ≡ cond t 1 0 → n ≡ 0 → t ≡ false
+unset t n is none = grind arith
+
+zero_min : (n m : ℕ) → n ≡ 0 → min n m ≡ n
+zero_min n m none = omega arith
+
+kept : (t : Bool) → (t && true) ≡ t
+kept t = grind arith
+
+pub dropped : (t : Bool) → (t && false) ≡ false
+dropped t = grind arith
+
+-- ---- operations
+
+-- Bits that two masks have,
+pub and_bits : {a b : ℕ} {p q : ℕ → Bool} → HasBits a p → HasBits b q → HasBits (bit_and a b) (λ i. p i && q i)
+and_bits {a = a} {b = b} {p = p} {q = q} h k = record {
+  bit = λ i. bit_at_and a b i ∙ (λ j. min (h.bit i j) (k.bit i j)) ∙ both (p i) (q i);
+}
+
+-- that one of them has,
+pub or_bits : {a b : ℕ} {p q : ℕ → Bool} → HasBits a p → HasBits b q → HasBits (bit_or a b) (λ i. p i || q i)
+or_bits {a = a} {b = b} {p = p} {q = q} h k = record {
+  bit = λ i. bit_at_or a b i ∙ (λ j. max (h.bit i j) (k.bit i j)) ∙ either (p i) (q i);
+}
+
+-- or the first alone.
+pub without_bits : {a b : ℕ} {p q : ℕ → Bool} → a < 2 ^ 64 → b < 2 ^ 64 → HasBits a p → HasBits b q →
+    HasBits (bit_and a (bit_not w64 b)) (λ i. p i && not (q i))
+without_bits {a = a} {b = b} {p = p} {q = q} small_a small_b h k = record {
+  bit = λ i. ⊎_elim (λ (inside : i < 64).
+      bit_at_and a (bit_not w64 b) i
+      ∙ ap (min (bit_at a i)) (bit_at_not w64 b i small_b inside ∙ ap (λ (n : ℕ). 1 - n) (k.bit i))
+      ∙ ap (λ n. min n (1 - cond (q i) 1 0)) (h.bit i)
+      ∙ one_without (p i) (q i))
+      (λ (above : 64 ≤ i).
+      bit_at_and a (bit_not w64 b) i
+      ∙ zero_min (bit_at a i) (bit_at (bit_not w64 b) i) (bit_at_above a 64 i small_a above)
+      ∙ outside (p i) (q i) (bit_at a i) (h.bit i) (bit_at_above a 64 i small_a above))
+      (cases_lt i 64);
+}
+
+pub bit_shifted : (a k i : ℕ) → bit_at (a / 2 ^ k) i ≡ bit_at a (i + k)
+bit_shifted a k i =
+    let steps : 2 ^ k * 2 ^ i ≡ 2 ^ (i + k) = sym (pow-add 2 k i) ∙ ap (λ n. 2 ^ n) (add_comm k i) in
+    ap (λ n. n % 2) (div-div-eq-div-mul a (2 ^ k) (2 ^ i) ∙ ap (λ n. a / n) steps)
+
+-- A shift tells of later offsets.
+pub later_bits : {a : ℕ} {p : ℕ → Bool} (k : ℕ) → HasBits a p → HasBits (a / 2 ^ k) (λ i. p (i + k))
+later_bits {a = a} k h = record { bit = λ i. bit_shifted a k i ∙ h.bit (i + k) }
+
+bit_kept : (n i : ℕ) → i < 64 → bit_at (n % 2 ^ 64) i ≡ bit_at n i
+bit_kept n i small =
+    ap (λ m. bit_at m i) (sym (and_mask n 64)) ∙ bit_at_and n (2 ^ 64 - 1) i
+    ∙ omega (arith, bit_at_ones 64 i small, bit_at-lt n i)
+
+-- One the other way tells of earlier ones.
+pub earlier_bits : {a : ℕ} {p : ℕ → Bool} (k : ℕ) → HasBits a p →
+    HasBits (a * 2 ^ k % 2 ^ 64) (λ i. ltb i 64 && (leb k i && p (i - k)))
+earlier_bits {a = a} {p = p} k h = record {
+  bit = λ i. ⊎_elim (λ (small : i < 64).
+      bit_kept (a * 2 ^ k) i small ∙ shifted i ∙ ap (λ t. cond (t && (leb k i && p (i - k))) 1 0) (sym (lt-ltb i 64 small)))
+      (λ (large : 64 ≤ i).
+      bit_at_above (a * 2 ^ k % 2 ^ 64) 64 i (mod-lt (a * 2 ^ k) (omega arith)) large
+      ∙ ap (λ t. cond (t && (leb k i && p (i - k))) 1 0) (sym (le-ltb i 64 large)))
+      (cases_lt i 64);
+}
+  where
+    sum : a * 2 ^ k ≡ a * 2 ^ k + 0
+    sum = sym (add-zero (a * 2 ^ k))
+
+    shifted : (i : ℕ) → bit_at (a * 2 ^ k) i ≡ cond (leb k i && p (i - k)) 1 0
+    shifted i =
+        ⊎_elim (λ (low : i < k).
+        ap (λ m. bit_at m i) sum ∙ bit_at_cat_low a k 0 i low ∙ bit_at-zero i ∙ ap (λ t. cond (t && p (i - k)) 1 0) (sym (lt-leb k i low)))
+        (λ (high : k ≤ i).
+        ap (λ m. bit_at m i) sum ∙ bit_at_cat_high a k 0 i (pow_pos k) high ∙ h.bit (i - k) ∙ ap (λ t. cond (t && p (i - k)) 1 0) (sym (le-leb k i high)))
+        (cases_lt i k)
+
+-- No bit is set in zero,
+pub no_bits : HasBits 0 (λ _. false)
+no_bits = record { bit = λ i. bit_at-zero i }
+
+-- and the lowest are in a power of two less one.
+pub first_have_bits : (n : ℕ) → HasBits (2 ^ n - 1) (λ i. ltb i n)
+first_have_bits n = record {
+  bit = λ i. ⊎_elim (λ (below : i < n). bit_at_ones n i below ∙ ap (λ t. cond t 1 0) (sym (lt-ltb i n below)))
+      (λ (above : n ≤ i). bit_at_ones_above n i above ∙ ap (λ t. cond t 1 0) (sym (le-ltb i n above))) (cases_lt i n);
+}
+
+-- As the code has that power.
+pub power_less_one : (n : ℕ) → n < 64 → 1 * 2 ^ n % 2 ^ 64 - 1 ≡ 2 ^ n - 1
+power_less_one n few =
+    let small : 2 ^ n < 2 ^ 64 = pow-lt few in
+    ap (λ m. m - 1) (ap (λ m. m % 18446744073709551616) (one-mul (2 ^ n)) ∙ mod-eq_of_lt small)
+
+-- A test may be told otherwise.
+pub told_by : {a : ℕ} {p : ℕ → Bool} (q : ℕ → Bool) → ((i : ℕ) → p i ≡ q i) → HasBits a p → HasBits a q
+told_by q same h = record { bit = λ i. h.bit i ∙ ap (λ t. cond t 1 0) (same i) }
+
+-- ---- masks of lanes
+
+-- The mask of a class tells of each lane, and of no offset after them.
+pub class_within : (class : ℕ → Bool) (xs : List ℕ) {a : ℕ} → a ≡ mask_l (map class xs) →
+    HasBits a (λ i. ltb i (length xs) && class (get_or xs i 0))
+class_within class xs is = record {
+  bit = λ i. ap (λ n. bit_at n i) is ∙ bit_mask_l (map class xs) i ∙ ap (λ t. cond t 1 0) (tested i);
+}
+  where
+    tested : (i : ℕ) → get_or (map class xs) i false ≡ (ltb i (length xs) && class (get_or xs i 0))
+    tested i =
+        ⊎_elim (λ (inside : i < length xs). get_or-map class xs i 0 false inside ∙ ap (λ t. t && class (get_or xs i 0)) (sym (lt-ltb i (length xs) inside)))
+        (λ (past : length xs ≤ i).
+        get_or_past (map class xs) i false (omega (arith, length-map xs class))
+        ∙ ap (λ t. t && class (get_or xs i 0)) (sym (le-ltb i (length xs) past)))
+        (cases_lt i (length xs))
+
+-- So it does as if zeros followed them, if zero is not in the class.
+pub class_bits : (class : ℕ → Bool) (xs : List ℕ) {a : ℕ} → class 0 ≡ false → a ≡ mask_l (map class xs) →
+    HasBits a (λ i. class (get_or xs i 0))
+class_bits class xs none is = told_by (λ i. class (get_or xs i 0)) same (class_within class xs is)
+  where
+    same : (i : ℕ) → (ltb i (length xs) && class (get_or xs i 0)) ≡ class (get_or xs i 0)
+    same i =
+        ⊎_elim (λ (inside : i < length xs). ap (λ t. t && class (get_or xs i 0)) (lt-ltb i (length xs) inside))
+        (λ (past : length xs ≤ i).
+        ap (λ t. t && class (get_or xs i 0)) (le-ltb i (length xs) past)
+        ∙ sym none ∙ ap class (sym (get_or_past xs i 0 past)))
+        (cases_lt i (length xs))
+
+-- A mask whose bits tell a test of n offsets, and of no other, marks these.
+range_tested : (test : ℕ → Bool) (at n i : ℕ) → get_or (map test (range_with_len at n)) i false ≡ (ltb i n && test (at + i))
+range_tested test at n i =
+    ⊎_elim (λ (inside : i < n). get_or-map-range_with_len test at n i (at + i) false inside refl ∙ ap (λ t. t && test (at + i)) (sym (lt-ltb i n inside)))
+    (λ (past : n ≤ i).
+    get_or_past (map test (range_with_len at n)) i false (omega (arith, length-map-range_with_len test at n))
+    ∙ ap (λ t. t && test (at + i)) (sym (le-ltb i n past)))
+    (cases_lt i n)
+
+pub marks_from : (test : ℕ → Bool) (at n : ℕ) {a : ℕ} → HasBits a (λ i. ltb i n && test (at + i)) →
+    a ≡ mask_l (map test (range_with_len at n))
+marks_from test at n {a = a} h =
+    same_from_bits a (mask_l (map test (range_with_len at n)))
+    (λ i. h.bit i ∙ ap (λ t. cond t 1 0) (sym (range_tested test at n i)) ∙ sym (bit_mask_l (map test (range_with_len at n)) i))
+
+-- and so does one that marks them.
+pub bits_from : (test : ℕ → Bool) (at n : ℕ) {a : ℕ} → a ≡ mask_l (map test (range_with_len at n)) →
+    HasBits a (λ i. ltb i n && test (at + i))
+bits_from test at n is = record {
+  bit = λ i. ap (λ m. bit_at m i) is ∙ bit_mask_l (map test (range_with_len at n)) i ∙ ap (λ t. cond t 1 0) (range_tested test at n i);
+}
+
+-- It marks the first offsets that pass,
+pub marks_first : (test : ℕ → Bool) (n : ℕ) {a b : ℕ} {p : ℕ → Bool} → HasBits a p → HasBits b (λ i. ltb i n) →
+    ((i : ℕ) → i < n → p i ≡ test i) → bit_and a b ≡ mask_l (map test (range_with_len 0 n))
+marks_first test n {p = p} h first same = marks_from test 0 n (told_by (λ i. ltb i n && test (0 + i)) tested (and_bits h first))
+  where
+    tested : (i : ℕ) → (p i && ltb i n) ≡ (ltb i n && test (0 + i))
+    tested i =
+        ⊎_elim (λ (inside : i < n).
+        ap (λ t. p i && t) (lt-ltb i n inside) ∙ kept (p i) ∙ same i inside ∙ ap test (sym (zero-add i))
+        ∙ ap (λ t. t && test (0 + i)) (sym (lt-ltb i n inside)))
+        (λ (past : n ≤ i). ap (λ t. p i && t) (le-ltb i n past) ∙ dropped (p i) ∙ ap (λ t. t && test (0 + i)) (sym (le-ltb i n past)))
+        (cases_lt i n)
+
+-- and is zero if none does.
+pub no_marks : (test : ℕ → Bool) (at n : ℕ) → ((i : ℕ) → i < n → test (at + i) ≡ false) → 0 ≡ mask_l (map test (range_with_len at n))
+no_marks test at n none = marks_from test at n (told_by (λ i. ltb i n && test (at + i)) same no_bits)
+  where
+    same : (i : ℕ) → false ≡ (ltb i n && test (at + i))
+    same i =
+        ⊎_elim (λ (inside : i < n). sym (none i inside) ∙ ap (λ t. t && test (at + i)) (sym (lt-ltb i n inside)))
+        (λ (past : n ≤ i). ap (λ t. t && test (at + i)) (sym (le-ltb i n past)))
+        (cases_lt i n)
+
+-- No offset passes the test of a mask that is zero.
+pub none_set : {a : ℕ} {p : ℕ → Bool} → a ≡ 0 → HasBits a p → (i : ℕ) → p i ≡ false
+none_set {a = a} {p = p} is h i = unset (p i) (bit_at a i) (h.bit i) (ap (λ n. bit_at n i) is ∙ bit_at-zero i)
+
+-- ---- bytes
+
+-- Each lane is below 100 (hexadecimal), and what follows them too.
+pub lanes_below : (xs : List ℕ) → Each1 (Fits w8) xs → (i : ℕ) → get_or xs i 0 < 256
+lanes_below xs fit i =
+    ⊎_elim (λ (inside : i < length xs). (Each1-get_or (Fits w8) xs i 0 inside fit).fits)
+    (λ (past : length xs ≤ i). omega (arith, get_or_past xs i 0 past)) (cases_lt i (length xs))
+
+-- A shift of each lane makes a lower bit the highest.
+pub shifted_bits : (xs : List ℕ) (n below : ℕ) {a : ℕ} → length xs ≡ n →
+    a ≡ mask_l (map (λ b. leb 0x80 b) (zip2 (λ x y. x * 2 ^ y % 2 ^ 8) xs (replicate n below))) →
+    HasBits a (λ i. has_bit_below below (get_or xs i 0))
+shifted_bits xs n below long is =
+    class_bits (has_bit_below below) xs (zero_has_none below)
+    (is ∙ ap (λ ys. mask_l (map (λ b. leb 0x80 b) ys)) (zip2_splat (λ x y. x * 2 ^ y % 2 ^ 8) xs n below long)
+    ∙ ap mask_l (map-map (λ b. leb 0x80 b) (λ x. x * 2 ^ below % 2 ^ 8) xs))
+  where
+    zero_has_none : (below : ℕ) → has_bit_below below 0 ≡ false
+    zero_has_none below = rw (zero-mul (2 ^ below)) refl

@@ -1,0 +1,169 @@
+-- What offsets save, by how many bits of each mask are set.
+use Rattle.std.proofs.Common.{◌≡◌, ℕ, zero, suc, ◌+◌, ◌-◌, ◌*◌, ◌/◌, ◌^◌, ◌<◌, ◌≤◌, Bool, cond, true, false, not, eqb, ⊎_elim, List, ◌++◌, map, drop, replicate, length, get_or, count_by, count_ones, refl, ap, sym, ◌∙◌, arith, add-zero, zero-add, suc-add}
+use Rattle.std.specs.List.{range_with_len}
+use Rattle.std.proofs.lemmas.Bool.Decides.{nat_tests}
+use Rattle.std.proofs.lemmas.List.Sums.{sum_by-cons}
+use Rattle.std.proofs.lemmas.Bool.{cases_lt}
+use Rattle.std.proofs.lemmas.List.{get_or_past, get_or_append_left, get_or-append_right, get_or-replicate, length-replicate, length-drop, get_or-drop, drop-drop}
+use Rattle.std.proofs.lemmas.List.FromFn.{length-range_with_len}
+use Rattle.std.proofs.lemmas.Simd.{get_or-chunk, length-chunk}
+use lib.Lanes.{mask_l, chunk}
+use Rattle.cesu8_text.specs.Encoding.{Flavor}
+use Rattle.cesu8_bytes.specs.Pairs.{null_at}
+use Rattle.cesu8_bytes.proofs.vectors.Counts.{bits_behind}
+use Rattle.cesu8_decode.specs.DecodedOffsets.{one_at, two_at, three_at, pair_at, first_width_by, saved, saved_between, total_saved}
+use Rattle.cesu8_decode.specs.Masks.{AreMasks, is_other_at, is_two_at, is_three_at, is_pair_at, is_null_at}
+use Rattle.cesu8_decode.specs.declared.lanes.masks.Masks.{Masks}
+use Rattle.cesu8_decode.proofs.by_offset.WindowOffsets.{saved_agrees}
+use Rattle.cesu8_decode.proofs.by_offset.SavedTotals.{all_offsets, all_between, saved_by_parts}
+use Rattle.cesu8_decode.proofs.decoder.MaskTests.{pair_width}
+
+-- ---- one offset
+
+abbrev one_if : Bool → ℕ
+one_if t = cond t 1 0
+
+-- A test that passes alone decides what is saved.
+by_forms : (one null two three pair is_c0 : Bool) →
+    (one ≡ true → (null ≡ false) × (two ≡ false) × (three ≡ false) × (pair ≡ false)) →
+    (null ≡ true → (two ≡ false) × (three ≡ false) × (pair ≡ false) × (is_c0 ≡ true)) →
+    (two ≡ true → (three ≡ false) × (pair ≡ false) × (is_c0 ≡ false)) → (three ≡ true → pair ≡ false) →
+    let w : ℕ = cond one 1 (cond null 2 (cond two 2 (cond three 3 (cond pair 6 0)))) in
+    (cond (eqb w 1) 2 (cond (eqb w 2) (cond is_c0 5 4) (cond (eqb w 3) 6 (cond (eqb w 6) 14 0))) + 2 * one_if (not one)
+    ≡ 2 + 4 * one_if two + 6 * one_if three + 14 * one_if pair + 5 * one_if null)
+    × (one_if two + one_if three + one_if pair + one_if null ≤ one_if (not one))
+by_forms one null two three pair is_c0 h1 h2 h3 h4 = grind arith
+
+-- An offset saves 2, less 2 if it is no character of one byte, and more by the form of what begins there.
+offset_saves : (f : Flavor) (a b d e g h : ℕ) →
+    (saved (first_width_by f a b d e g h) a + 2 * one_if (not (one_at f a))
+    ≡ 2 + 4 * one_if (two_at a b) + 6 * one_if (three_at a b d) + 14 * one_if (pair_at a b d e g h) + 5 * one_if (null_at f a b))
+    × (one_if (two_at a b) + one_if (three_at a b d) + one_if (pair_at a b d e g h) + one_if (null_at f a b) ≤ one_if (not (one_at f a)))
+unfolding first_width_by
+offset_saves f a b d e g h =
+    by_forms (one_at f a) (null_at f a b) (two_at a b) (three_at a b d) (pair_at a b d e g h) (eqb a 0xC0)
+    (λ one. (grind (arith, nat_tests), grind (arith, nat_tests), grind (arith, nat_tests), grind (arith, nat_tests)))
+    (λ null. (grind (arith, nat_tests), grind (arith, nat_tests), grind (arith, nat_tests), grind (arith, nat_tests)))
+    (λ two. (grind (arith, nat_tests), grind (arith, nat_tests), grind (arith, nat_tests)))
+    (λ three. grind (arith, nat_tests))
+
+at_most_one : (t : Bool) → one_if t ≤ 1
+at_most_one t = grind arith
+
+-- ---- many
+
+module _ (f : Flavor) (bytes : List ℕ) where
+  -- So do many, by how many there are of each form.
+  pub saved_by_counts : (i n : ℕ) →
+      let count : (ℕ → Bool) → ℕ = λ test. count_by test (range_with_len i n) in
+      (saved_between f bytes i n + 2 * count (is_other_at f bytes)
+      ≡ 2 * n + 4 * count (is_two_at bytes) + 6 * count (is_three_at bytes) + 14 * count (is_pair_at f bytes) + 5 * count (is_null_at f bytes))
+      × (count (is_two_at bytes) + count (is_three_at bytes) + count (is_pair_at f bytes) + count (is_null_at f bytes) ≤ count (is_other_at f bytes))
+      × (count (is_other_at f bytes) ≤ n)
+  unfolding saved_between
+  saved_by_counts i zero = (refl, omega arith, omega arith)
+  saved_by_counts i (suc n) =
+      let w = λ (k : ℕ). get_or bytes k 0 in
+      let first = offset_saves f (w i) (w (i + 1)) (w (i + 2)) (w (i + 3)) (w (i + 4)) (w (i + 5)) in
+      let pair = ap one_if (pair_width f (w i) (w (i + 1)) (w (i + 2)) (w (i + 3)) (w (i + 4)) (w (i + 5))) in
+      let rest = saved_by_counts (i + 1) n in
+      let others = sum_by-cons (λ k. one_if (is_other_at f bytes k)) i (range_with_len (i + 1) n) in
+      let twos = sum_by-cons (λ k. one_if (is_two_at bytes k)) i (range_with_len (i + 1) n) in
+      let threes = sum_by-cons (λ k. one_if (is_three_at bytes k)) i (range_with_len (i + 1) n) in
+      let pairs = sum_by-cons (λ k. one_if (is_pair_at f bytes k)) i (range_with_len (i + 1) n) in
+      let nulls = sum_by-cons (λ k. one_if (is_null_at f bytes k)) i (range_with_len (i + 1) n) in (
+        omega (arith, first.0, pair, rest.0, others, twos, threes, pairs, nulls),
+        omega (arith, first.1, pair, rest.1, others, twos, threes, pairs, nulls),
+        omega (arith, at_most_one (is_other_at f bytes i), rest.2, others),
+      )
+
+-- ---- bits
+
+later_range : (a k n : ℕ) → drop k (range_with_len a (k + n)) ≡ range_with_len (a + k) n
+later_range a zero n = rw (add-zero a, zero-add n) refl
+later_range a (suc k) n =
+    let offset : a + 1 + k ≡ a + suc k = omega arith in
+    rw (suc-add k n) (later_range (a + 1) k n ∙ ap (λ i. range_with_len i n) offset)
+
+-- The bits of a mask from the k-th on are as many as the offsets from there on that pass.
+pub bits_count : (test : ℕ → Bool) (k n mask : ℕ) → mask ≡ mask_l (map test (range_with_len 0 (k + n))) →
+    count_ones (mask / 2 ^ k) ≡ count_by test (range_with_len k n)
+bits_count test k n mask is =
+    let long = length-range_with_len 0 (k + n) in
+    bits_behind test (range_with_len 0 (k + n)) k mask (omega arith) is
+    ∙ ap (count_by test) (later_range 0 k n ∙ ap (λ i. range_with_len i n) (zero-add k))
+
+-- Masks of offsets tell what n of them save, after k others.
+pub saved_by_masks : (f : Flavor) (bytes : List ℕ) (k n : ℕ) (masks : Masks) → AreMasks f bytes 0 (k + n) masks →
+    let others = count_ones (masks.others / 2 ^ k) in
+    (others ≤ n)
+    × (2 * (n - others) + 4 * count_ones (masks.twos / 2 ^ k) + 6 * count_ones (masks.threes / 2 ^ k) + 14 * count_ones (masks.pairs / 2 ^ k)
+    + 5 * count_ones (masks.nulls / 2 ^ k) ≡ saved_between f bytes k n)
+    × (others ≡ 0 → 2 * n ≡ saved_between f bytes k n)
+saved_by_masks f bytes k n masks are =
+    let sums = saved_by_counts f bytes k n in
+    let others = bits_count (is_other_at f bytes) k n masks.others are.others in
+    let twos = bits_count (is_two_at bytes) k n masks.twos are.twos in
+    let threes = bits_count (is_three_at bytes) k n masks.threes are.threes in
+    let pairs = bits_count (is_pair_at f bytes) k n masks.pairs are.pairs in
+    let nulls = bits_count (is_null_at f bytes) k n masks.nulls are.nulls in (
+      omega (arith, sums.2, others),
+      omega (arith, sums.0, sums.2, others, twos, threes, pairs, nulls),
+      λ none. omega (arith, sums.0, sums.1, others, none),
+    )
+
+-- ---- vectors of bytes
+
+zeros : (n k : ℕ) → get_or {A = ℕ} (replicate n 0) k 0 ≡ 0
+zeros n k =
+    let none : List ℕ = replicate n 0 in
+    ⊎_elim (λ (inside : k < n). get_or-replicate n k 0 0 inside)
+    (λ (past : n ≤ k). get_or_past none k 0 (omega (arith, length-replicate {A = ℕ} n 0))) (cases_lt k n)
+
+-- Zeros after bytes change none of them.
+pub with_zeros : (bytes : List ℕ) (n k : ℕ) → get_or (bytes ++ replicate n 0) k 0 ≡ get_or bytes k 0
+with_zeros bytes n k =
+    ⊎_elim (λ (inside : k < length bytes). get_or_append_left bytes (replicate n 0) 0 k inside)
+    (λ (past : length bytes ≤ k).
+    get_or-append_right bytes (replicate n 0) (length bytes) k 0 refl past ∙ zeros n (k - length bytes) ∙ sym (get_or_past bytes k 0 past))
+    (cases_lt k (length bytes))
+
+module _ (f : Flavor) (bytes : List ℕ) where
+  -- So they save what they save without.
+  pub saved_before_zeros : (n : ℕ) → saved_between f (bytes ++ replicate n 0) 0 (length bytes) ≡ total_saved f bytes
+  saved_before_zeros n =
+      saved_agrees f (bytes ++ replicate n 0) bytes 0 0 (length bytes) (λ k small. with_zeros bytes n (0 + k)) ∙ all_offsets f bytes
+
+  -- A vector tells what its first offsets save,
+  pub saved_in_chunk : (at n : ℕ) → n + 5 ≤ 64 → saved_between f (chunk at 64 bytes) 0 n ≡ saved_between f bytes at n
+  saved_in_chunk at n few =
+      saved_agrees f (chunk at 64 bytes) bytes 0 at n
+      (λ k small. ap (λ i. get_or (chunk at 64 bytes) i 0) (zero-add k) ∙ get_or-chunk at 64 bytes k 0 (omega arith))
+
+  -- and one of the last bytes what its last ones do.
+  pub saved_in_last : (count : ℕ) → count ≤ 64 → 64 ≤ length bytes →
+      saved_between f (chunk (length bytes - 64) 64 bytes) (64 - count) count ≡ total_saved f (drop (length bytes - count) bytes)
+  saved_in_last count few many =
+      let from = length bytes - 64 in
+      let lanes = chunk from 64 bytes in
+      let long : length lanes ≡ 64 = length-chunk from 64 bytes (omega arith) in
+      let rest : length (drop (length bytes - count) bytes) ≡ count = omega (arith, length-drop (length bytes - count) bytes) in
+      saved_agrees f lanes bytes (64 - count) (length bytes - count) count (λ k small.
+      ⊎_elim (λ (inside : 64 - count + k < 64).
+      let place : from + (64 - count + k) ≡ length bytes - count + k = omega arith in
+      get_or-chunk from 64 bytes (64 - count + k) 0 inside ∙ ap (λ i. get_or bytes i 0) place)
+      (λ (past : 64 ≤ 64 - count + k).
+      get_or_past lanes (64 - count + k) 0 (omega arith) ∙ sym (get_or_past bytes (length bytes - count + k) 0 (omega arith)))
+      (cases_lt (64 - count + k) 64))
+      ∙ ap (saved_between f bytes (length bytes - count)) (sym rest)
+      ∙ all_between f bytes (drop (length bytes - count) bytes) (length bytes - count) (λ k. sym (get_or-drop (length bytes - count) bytes k 0))
+
+  -- What is left saves what n offsets more do, and what is left then.
+  pub saved_next : (at n : ℕ) → at + n ≤ length bytes →
+      total_saved f (drop at bytes) ≡ saved_between f bytes at n + total_saved f (drop (at + n) bytes)
+  saved_next at n fits =
+      let rest = drop at bytes in
+      let parts = saved_by_parts f rest n (omega (arith, length-drop at bytes)) in
+      let here = saved_agrees f rest bytes 0 at n (λ k small. ap (λ i. get_or rest i 0) (zero-add k) ∙ get_or-drop at bytes k 0) in
+      let there = ap (total_saved f) (drop-drop n at bytes) in
+      omega (arith, parts, here, there)

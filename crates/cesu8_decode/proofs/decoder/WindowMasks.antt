@@ -1,0 +1,399 @@
+-- What changes in a window, and where its last character ends, by masks of its characters.
+use Rattle.std.proofs.Common.{◌≡◌, ℕ, zero, suc, ◌+◌, ◌-◌, ◌*◌, ◌/◌, ◌%◌, ◌^◌, ◌<◌, ◌≤◌, ◌⊎◌, ⊎_elim, inl, inr, Bool, cond, true, false, not, ◌&&◌, ltb, List, [], ◌∷◌, length, get_or, bit_and, bit_or, refl, sym, ap, ◌∙◌, arith, subst, map, mod-lt, w64, zero-add, add-zero}
+use Rattle.std.specs.Int.{bit_at, bit_not, trailing_ones}
+use Rattle.std.proofs.lemmas.Bool.{cases_lt, cases_eq, cases_Bool, both_ways, le-ltb, eq-eqb}
+use Rattle.std.proofs.lemmas.Bool.Decides.{nat_tests}
+use Rattle.std.specs.List.{range_with_len}
+use Rattle.std.proofs.Math.Nat.{eq-or-lt_of_le}
+use Rattle.std.proofs.Math.Pow.{pow-lt}
+use Rattle.std.proofs.lemmas.Nat.{or_lt}
+use Rattle.std.proofs.lemmas.List.{get_or_past}
+use Rattle.std.proofs.lemmas.List.FromFn.{length-map-range_with_len}
+use Rattle.std.proofs.lemmas.Simd.{get_or-chunk, length-chunk, mask_l-lt}
+use lib.Lanes.{chunk}
+use Rattle.std.proofs.lemmas.Nat.Bits.{bit_at-trailing_ones, bit_at_ones, bit_at_above}
+use Rattle.cesu8_text.specs.Encoding.{Flavor}
+use Rattle.cesu8_decode.specs.DecodedOffsets.{one_at, three_at, pair_at, first_width_by, width_at, window_of, is_ill_formed_at, is_boundary_at}
+use Rattle.cesu8_decode.specs.Masks.{HasBits, Marks, AreMasks, IsWindow, is_other_at, is_two_at, is_three_at, is_pair_at, is_null_at}
+use Rattle.cesu8_decode.specs.declared.lanes.masks.Masks.{Masks}
+use Rattle.cesu8_decode.specs.declared.lanes.windows.Window.{Window}
+use Rattle.cesu8_decode.proofs.by_offset.WindowOffsets.{Agree, follows_zeros, width_agrees}
+use Rattle.cesu8_decode.proofs.by_offset.CharacterBoundaries.{boundary_ends, boundary_where, ends_before, width_bounds}
+use Rattle.cesu8_decode.proofs.by_offset.WidthTests.{width_tells}
+use Rattle.cesu8_decode.proofs.by_offset.IllFormed.{reached, not_reached}
+use Rattle.cesu8_decode.proofs.decoder.MaskBits.{bit_shifted, unset, told_by, or_bits, without_bits, marks_from, bits_from}
+use Rattle.cesu8_decode.proofs.decoder.FormMasks.{masks_moved}
+use Rattle.cesu8_decode.proofs.decoder.CoveredMasks.{Forms, forms, covered_by, threes_by, threes_mask, covered_mask, Part, formed, from_covered, to_covered, widths}
+
+-- The width at an offset is that five bytes further on in the window.
+width_there : (f : Flavor) (bytes : List ℕ) (p q : ℕ) → q ≡ p + 5 → width_at f (window_of bytes) q ≡ width_at f bytes p
+width_there f bytes p q is =
+    ap (width_at f (window_of bytes)) is
+    ∙ width_agrees f (window_of bytes) bytes (p + 5) p (λ k small.
+    let offset : p + 5 + k ≡ 5 + (p + k) = omega arith in
+    ap (λ i. get_or (window_of bytes) i 0) offset ∙ follows_zeros bytes (p + k))
+
+not_other : (one covered : Bool) → (one ≡ true) ⊎ (covered ≡ true) → (not one && not covered) ≡ false
+not_other one covered h = grind arith
+
+set_true : (t : Bool) (k : ℕ) → k ≡ cond t 1 0 → k ≡ 1 → t ≡ true
+set_true t k is one = grind arith
+
+less_than_all : (x : ℕ) → x < 2 ^ 64 → bit_at x 5 ≡ 0 → x + 1 < 2 ^ 64
+less_than_all x small none =
+    ⊎_elim (λ (less : x < 2 ^ 64 - 1). omega arith)
+    (λ (all : 2 ^ 64 - 1 ≤ x).
+    let is : x ≡ 2 ^ 64 - 1 = omega arith in
+    absurd (omega (arith, none, ap (λ n. bit_at n 5) is, bit_at_ones 64 5 (omega arith))))
+    (cases_lt x (2 ^ 64 - 1))
+
+marks_below : (n a : ℕ) → n ≤ 64 → a < 2 ^ n → a < 2 ^ 64
+marks_below n a few small =
+    ⊎_elim (λ (same : n ≡ 64). subst (λ k. a < 2 ^ k) same small) (λ (less : n < 64). omega (arith, small, pow-lt less)) (eq-or-lt_of_le few)
+
+-- ---- zeros after the bytes
+
+-- A zero is in no character but as its first byte.
+zero_second : (f : Flavor) (a b d e g h : ℕ) → b ≡ 0 → first_width_by f a b d e g h ≤ 1
+unfolding first_width_by
+zero_second f a b d e g h null = grind (arith, nat_tests)
+
+three_third : (a b d : ℕ) → three_at a b d ≡ true → 0x80 ≤ d
+three_third a b d three = grind (arith, nat_tests)
+
+pair_later : (a b d e g h : ℕ) → pair_at a b d e g h ≡ true → (0x80 ≤ d) × (e ≡ 0xED) × (0xB0 ≤ g) × (0x80 ≤ h)
+pair_later a b d e g h pair = grind (arith, nat_tests)
+
+by_three : (w : ℕ) (one null two three pair : Bool) → Forms w one null two three pair → w ≡ 3 → three ≡ true
+by_three w one null two three pair form is = go form.some
+  where
+    go : ((w ≡ 0) × (one ≡ false)) ⊎ ((one ≡ true) ⊎ ((null ≡ true) ⊎ ((two ≡ true) ⊎ ((three ≡ true) ⊎ (pair ≡ true))))) → three ≡ true
+    go (inl none) = absurd (omega (arith, none.0))
+    go (inr (inl h)) = absurd (omega (arith, form.is_one h))
+    go (inr (inr (inl h))) = absurd (omega (arith, form.is_null h))
+    go (inr (inr (inr (inl h)))) = absurd (omega (arith, form.is_two h))
+    go (inr (inr (inr (inr (inl h))))) = h
+    go (inr (inr (inr (inr (inr h))))) = absurd (omega (arith, form.is_pair h))
+
+zero_third : (f : Flavor) (a b d e g h : ℕ) → d ≡ 0 → first_width_by f a b d e g h ≤ 2
+zero_third f a b d e g h null =
+    let tells = width_tells f a b d e g h in
+    ⊎_elim (λ (low : first_width_by f a b d e g h ≤ 3).
+    ⊎_elim (λ (three : first_width_by f a b d e g h ≡ 3). absurd (omega (arith, three_third a b d (by_three _ _ _ _ _ _ (forms f a b d e g h) three))))
+    (λ (other : ¬ (first_width_by f a b d e g h ≡ 3)). omega (arith, low, other)) (cases_eq (first_width_by f a b d e g h) 3))
+    (λ (six : first_width_by f a b d e g h ≡ 6). absurd (omega (arith, pair_later a b d e g h (tells.3 six)))) tells.0
+
+zero_later : (f : Flavor) (a b d e g h : ℕ) → (e ≡ 0) ⊎ ((g ≡ 0) ⊎ (h ≡ 0)) → first_width_by f a b d e g h ≤ 3
+zero_later f a b d e g h null =
+    let tells = width_tells f a b d e g h in
+    ⊎_elim (λ (low : first_width_by f a b d e g h ≤ 3). low)
+    (λ (six : first_width_by f a b d e g h ≡ 6).
+    let pair = pair_later a b d e g h (tells.3 six) in
+    absurd (⊎_elim (λ (none : e ≡ 0). omega (arith, pair)) (λ (later : (g ≡ 0) ⊎ (h ≡ 0)). ⊎_elim (λ (none : g ≡ 0). omega (arith, pair)) (λ (none : h ≡ 0). omega (arith, pair)) later) null))
+    tells.0
+
+zero_ends : (f : Flavor) (a b d e g h s : ℕ) → 0 < s → s < 6 → get_or (a ∷ b ∷ d ∷ e ∷ g ∷ h ∷ []) s 0 ≡ 0 → first_width_by f a b d e g h ≤ s
+zero_ends f a b d e g h zero some few none = absurd (omega arith)
+zero_ends f a b d e g h (suc zero) some few none = omega (arith, zero_second f a b d e g h none)
+zero_ends f a b d e g h (suc (suc zero)) some few none = omega (arith, zero_third f a b d e g h none)
+zero_ends f a b d e g h (suc (suc (suc zero))) some few none = omega (arith, zero_later f a b d e g h (inl none))
+zero_ends f a b d e g h (suc (suc (suc (suc zero)))) some few none = omega (arith, zero_later f a b d e g h (inr (inl none)))
+zero_ends f a b d e g h (suc (suc (suc (suc (suc zero))))) some few none = omega (arith, zero_later f a b d e g h (inr (inr none)))
+zero_ends f a b d e g h (suc (suc (suc (suc (suc (suc s)))))) some few none = absurd (omega arith)
+
+byte_of_six : (bytes : List ℕ) (i s : ℕ) → s < 6 → let b = λ (k : ℕ). get_or bytes k 0 in
+    get_or (b i ∷ b (i + 1) ∷ b (i + 2) ∷ b (i + 3) ∷ b (i + 4) ∷ b (i + 5) ∷ []) s 0 ≡ b (i + s)
+byte_of_six bytes i zero few = ap (λ k. get_or bytes k 0) (sym (add-zero i))
+byte_of_six bytes i (suc zero) few = refl
+byte_of_six bytes i (suc (suc zero)) few = refl
+byte_of_six bytes i (suc (suc (suc zero))) few = refl
+byte_of_six bytes i (suc (suc (suc (suc zero)))) few = refl
+byte_of_six bytes i (suc (suc (suc (suc (suc zero))))) few = refl
+byte_of_six bytes i (suc (suc (suc (suc (suc (suc s)))))) few = absurd (omega arith)
+
+-- So a character ends before it.
+pub ends_at_zero : (f : Flavor) (bytes : List ℕ) (i m : ℕ) → i < m → get_or bytes m 0 ≡ 0 → i + width_at f bytes i ≤ m
+ends_at_zero f bytes i m before null =
+    let b = λ (k : ℕ). get_or bytes k 0 in
+    ⊎_elim (λ (crosses : m < i + width_at f bytes i).
+    let six : width_at f bytes i ≤ 6 = ⊎_elim (λ (low : width_at f bytes i ≤ 3). omega arith) (λ (is : width_at f bytes i ≡ 6). omega arith) (width_bounds f bytes i) in
+    let place : i + (m - i) ≡ m = omega arith in
+    let none = byte_of_six bytes i (m - i) (omega arith) ∙ ap b place ∙ null in
+    absurd (omega (arith, zero_ends f (b i) (b (i + 1)) (b (i + 2)) (b (i + 3)) (b (i + 4)) (b (i + 5)) (m - i) (omega arith) (omega arith) none)))
+    (λ (fine : i + width_at f bytes i ≤ m). fine)
+    (cases_lt m (i + width_at f bytes i))
+
+-- ---- windows
+
+module _ (f : Flavor) (bytes : List ℕ) (at n : ℕ) (boundary : is_boundary_at f (window_of bytes) at ≡ true) where
+  abbrev w : ℕ → ℕ
+  w i = width_at f bytes (at + i)
+
+  abbrev covered : ℕ → Bool
+  covered = covered_by f bytes at n
+
+  abbrev ill : ℕ → Bool
+  ill i = is_ill_formed_at f (window_of bytes) (at + i)
+
+  abbrev one : ℕ → Bool
+  one i = one_at f (get_or bytes (at + i) 0)
+
+  -- No part of a character is at an ill-formed byte.
+  ill_apart : (i s : ℕ) → ill i ≡ true → s ≤ i → s < 6 → w (i - s) ≤ s
+  ill_apart i s set near small =
+      let place : at + i + (5 - s) ≡ at + (i - s) + 5 = omega arith in
+      omega (arith, not_reached f (window_of bytes) (at + i) set (5 - s) (omega arith), width_there f bytes (at + (i - s)) (at + i + (5 - s)) place)
+
+  reach_fits : (i : ℕ) → Part f bytes at n 1 i → (s : ℕ) × (s ≤ i) × (i - s < n) × (s < w (i - s)) × (s < 6)
+  reach_fits i part =
+      let reaches = part.reaches in (
+        part.s,
+        part.near,
+        part.begins,
+        omega arith,
+        ⊎_elim (λ (low : w (i - part.s) ≤ 3). omega arith) (λ (six : w (i - part.s) ≡ 6). omega arith) (widths f bytes at n (i - part.s)),
+      )
+
+  pub not_ill : (i : ℕ) → covered i ≡ true → ill i ≡ false
+  not_ill i set =
+      let part = reach_fits i (from_covered f bytes at n i set) in
+      ⊎_elim (λ (bad : ill i ≡ true). absurd (omega (arith, ill_apart i part.0 bad part.1 part.4, part.3))) (λ (fine : ill i ≡ false). fine) (cases_Bool (ill i))
+
+  -- A character that reaches an offset begins at the boundary or after it.
+  reaching : (i s q : ℕ) → i < n → i < 64 → s < 6 → q ≡ at + i + (5 - s) → s < width_at f (window_of bytes) q → (one i ≡ true) ⊎ (covered i ≡ true)
+  reaching i s q inside small few is reach =
+      ⊎_elim (λ (early : i < s).
+      let place : q ≡ at + (i + 5 - s) = omega (arith, is) in
+      absurd (omega (arith, reach, boundary_ends f (window_of bytes) at boundary (i + 5 - s) (omega arith), ap (width_at f (window_of bytes)) place)))
+      (λ (later : s ≤ i).
+      let place : q ≡ at + (i - s) + 5 = omega (arith, is) in
+      let there = width_there f bytes (at + (i - s)) q place in
+      ⊎_elim (λ (some : 0 < s). inr (to_covered f bytes at n (i - s) s i (omega arith) (omega (arith, there, reach)) (omega (arith, there, reach)) (omega arith) small))
+      (λ (none : s ≤ 0).
+      let same : i - s ≡ i = omega arith in
+      ⊎_elim (λ (wide : 2 ≤ w i). inr (to_covered f bytes at n i 0 i inside (omega arith) wide (omega arith) small))
+      (λ (narrow : w i < 2). inl (one_wide i (omega (arith, there, reach, ap w same))))
+      (cases_lt' (w i)))
+      (cases_lt 0 s))
+      (cases_lt i s)
+    where
+      cases_lt' : (k : ℕ) → (2 ≤ k) ⊎ (k < 2)
+      cases_lt' k = ⊎_elim (λ (low : k < 2). inr low) (λ (high : 2 ≤ k). inl high) (cases_lt k 2)
+
+      one_wide : (i : ℕ) → w i ≡ 1 → one i ≡ true
+      one_wide i is =
+          let b = λ (k : ℕ). get_or bytes k 0 in
+          sym ((width_tells f (b (at + i)) (b (at + i + 1)) (b (at + i + 2)) (b (at + i + 3)) (b (at + i + 4)) (b (at + i + 5))).1) ∙ eq-eqb (w i) 1 is
+
+  abbrev v : ℕ → ℕ
+  v q = width_at f (window_of bytes) q
+
+  -- Bytes that are no character alone, and that none covers, are ill-formed.
+  ill_is : (i : ℕ) → i < n → i < 64 → (not (one i) && not (covered i)) ≡ ill i
+  ill_is i inside small =
+      ⊎_elim (λ (bad : ill i ≡ true).
+      let alone : one i ≡ false = ⊎_elim (λ (h : one i ≡ true). absurd (omega (arith, (formed f bytes at n i).is_one h, none bad))) (λ (h : one i ≡ false). h) (cases_Bool (one i)) in
+      let free : covered i ≡ false = ⊎_elim (λ (h : covered i ≡ true). absurd (both_ways (ill i) (not_ill i h) bad)) (λ (h : covered i ≡ false). h) (cases_Bool (covered i)) in
+      (λ k. not (alone k) && not (free k)) ∙ sym bad)
+      (λ (fine : ill i ≡ false).
+      let found = reached _ _ _ _ _ _ fine in
+      not_other (one i) (covered i) (by_reach found) ∙ sym fine)
+      (cases_Bool (ill i))
+    where
+      none : ill i ≡ true → w i ≤ 0
+      none bad = let same : i - 0 ≡ i = omega arith in omega (arith, ill_apart i 0 bad (omega arith) (omega arith), ap w same)
+
+      by_reach : (1 ≤ v (at + i + 5)) ⊎ ((2 ≤ v (at + i + 4)) ⊎ ((3 ≤ v (at + i + 3)) ⊎ ((v (at + i + 2) ≡ 6) ⊎ ((v (at + i + 1) ≡ 6) ⊎ (v (at + i) ≡ 6))))) →
+          (one i ≡ true) ⊎ (covered i ≡ true)
+      by_reach (inl h) = reaching i 0 (at + i + 5) inside small (omega arith) (omega arith) (omega (arith, h))
+      by_reach (inr (inl h)) = reaching i 1 (at + i + 4) inside small (omega arith) (omega arith) (omega (arith, h))
+      by_reach (inr (inr (inl h))) = reaching i 2 (at + i + 3) inside small (omega arith) (omega arith) (omega (arith, h))
+      by_reach (inr (inr (inr (inl h)))) = reaching i 3 (at + i + 2) inside small (omega arith) (omega arith) (omega (arith, h))
+      by_reach (inr (inr (inr (inr (inl h))))) = reaching i 4 (at + i + 1) inside small (omega arith) (omega arith) (omega (arith, h))
+      by_reach (inr (inr (inr (inr (inr h))))) = reaching i 5 (at + i) inside small (omega arith) (omega arith) (omega (arith, h))
+
+  pub ill_marks : (others mask : ℕ) → n ≤ 64 → others < 2 ^ 64 → mask < 2 ^ 64 →
+      HasBits others (λ i. ltb i n && is_other_at f bytes (at + i)) → HasBits mask covered →
+      Marks (bit_and others (bit_not w64 mask)) (is_ill_formed_at f (window_of bytes)) at n
+  ill_marks others mask few others_fit mask_fits of_others of_mask =
+      marks_from (is_ill_formed_at f (window_of bytes)) at n (told_by (λ i. ltb i n && ill i) tested (without_bits others_fit mask_fits of_others of_mask))
+    where
+      grouped : (s t u : Bool) → ((s && t) && u) ≡ (s && (t && u))
+      grouped s t u = grind arith
+
+      tested : (i : ℕ) → ((ltb i n && not (one i)) && not (covered i)) ≡ (ltb i n && ill i)
+      tested i =
+          ⊎_elim (λ (inside : i < n).
+          grouped (ltb i n) (not (one i)) (not (covered i)) ∙ ap (λ t. ltb i n && t) (ill_is i inside (omega arith)))
+          (λ (past : n ≤ i).
+          grouped (ltb i n) (not (one i)) (not (covered i))
+          ∙ ap (λ t. t && (not (one i) && not (covered i))) (le-ltb i n past) ∙ ap (λ t. t && ill i) (sym (le-ltb i n past)))
+          (cases_lt i n)
+
+  -- ---- the end
+
+  -- So many offsets follow that characters of the window cover.
+  pub record Ends (r : ℕ) : Type 0 where
+    pub inside : (i : ℕ) → n ≤ i → i < n + r → covered i ≡ true
+    pub stop : n + r < 64 → covered (n + r) ≡ false
+    pub few : r ≤ 5
+    pub fits : n + r ≤ 64
+
+  covered_near : (i : ℕ) → covered i ≡ true → i < n + 5
+  covered_near i set = let part = reach_fits i (from_covered f bytes at n i set) in omega (arith, part.1, part.2, part.4)
+
+  pub ends_of : (mask : ℕ) → n < 64 → mask < 2 ^ 64 → HasBits mask covered → Ends (trailing_ones w64 (mask / 2 ^ n))
+  ends_of mask few fits of_mask =
+      let x = mask / 2 ^ n in
+      let r = trailing_ones w64 x in
+      let told : (i : ℕ) → bit_at x i ≡ cond (covered (n + i)) 1 0 = λ i.
+      let place : i + n ≡ n + i = omega arith in
+      bit_shifted mask n i ∙ of_mask.bit (i + n) ∙ ap (λ j. cond (covered j) 1 0) place in
+      let fifth : bit_at x 5 ≡ 0 = ⊎_elim (λ (set : covered (n + 5) ≡ true). absurd (omega (arith, covered_near (n + 5) set)))
+      (λ (none : covered (n + 5) ≡ false). told 5 ∙ ap (λ t. cond t 1 0) none) (cases_Bool (covered (n + 5))) in
+      let some : x + 1 < 2 ^ 64 = less_than_all x (omega arith) fifth in
+      let ones = bit_at-trailing_ones w64 x some in
+      record {
+        inside = λ i from to.
+            let place : n + (i - n) ≡ i = omega arith in
+            ap covered (sym place) ∙ set_true (covered (n + (i - n))) (bit_at x (i - n)) (told (i - n)) (ones.2 (i - n) (omega arith));
+        stop = λ within. unset (covered (n + r)) (bit_at x r) (told r) ones.1;
+        few = ⊎_elim (λ (more : 5 < r). absurd (omega (arith, ones.2 5 more, fifth))) (λ (few : r ≤ 5). few) (cases_lt 5 r);
+        fits = ⊎_elim (λ (more : 64 - n < r).
+            let place : 64 - n + n ≡ 64 = omega arith in
+            let above = bit_shifted mask n (64 - n) ∙ ap (bit_at mask) place ∙ bit_at_above mask 64 64 fits (omega arith) in
+            absurd (omega (arith, ones.2 (64 - n) more, above)))
+            (λ (fits : r ≤ 64 - n). omega arith) (cases_lt (64 - n) r);
+      }
+
+  pub no_ends : n ≡ 64 → Ends 0
+  no_ends all = record { inside = λ i from to. absurd (omega arith); stop = λ within. absurd (omega arith); few = omega arith; fits = omega arith }
+
+  -- The rest of the last character is in the bytes that it covers.
+  module _ (r : ℕ) (ends : Ends r) (long : at + 64 ≤ length bytes) where
+    pub rest : (p : ℕ) → at + n ≤ p → p < at + (n + r) → (width_at f bytes p ≡ 0) × (is_ill_formed_at f (window_of bytes) p ≡ false)
+    rest p from to =
+        let i = p - at in
+        let place : at + i ≡ p = omega arith in
+        let set = ends.inside i (omega arith) (omega arith) in
+        let fits = ends.fits in
+        let part = reach_fits i (from_covered f bytes at n i set) in
+        let s = part.0 in
+        let there = width_there f bytes (at + (i - s)) (at + (i - s) + 5) refl in
+        let here = width_there f bytes p (p + 5) refl in (
+          ⊎_elim (λ (some : 0 < width_at f bytes p).
+              absurd (omega (arith, ends_before f (window_of bytes) bytes (at + (i - s)) p (follows_zeros bytes) (omega (arith, part)) (omega arith) (omega (arith, here, some)), there, part.3, part.1)))
+              (λ (none : width_at f bytes p ≤ 0). omega arith) (cases_lt 0 (width_at f bytes p)),
+          ap (is_ill_formed_at f (window_of bytes)) (sym place) ∙ not_ill i set,
+        )
+
+    -- No character crosses its end, if the next byte is no part of one.
+    pub boundary_after : ((i : ℕ) → i < n → i + w i ≤ 64) → is_boundary_at f (window_of bytes) (at + (n + r)) ≡ true
+    boundary_after whole = boundary_where f (window_of bytes) (at + (n + r)) (λ s small.
+        ⊎_elim (λ (early : n + r + s < 5).
+        let place : at + (n + r) + s ≡ at + (n + r + s) = omega arith in
+        omega (arith, boundary_ends f (window_of bytes) at boundary (n + r + s) early, ap (width_at f (window_of bytes)) place))
+        (λ (later : 5 ≤ n + r + s).
+        let j = n + r + s - 5 in
+        let place : at + (n + r) + s ≡ at + j + 5 = omega arith in
+        let there = width_there f bytes (at + j) (at + (n + r) + s) place in
+        ⊎_elim (λ (begun : j < n).
+        ⊎_elim (λ (crosses : 5 - s < w j).
+        let full : n + r ≡ j + (5 - s) = omega arith in
+        absurd (⊎_elim (λ (within : n + r < 64). both_ways (covered (n + r)) (ends.stop within) (to_covered f bytes at n j (5 - s) (n + r) begun crosses (omega arith) full within))
+        (λ (closed : 64 ≤ n + r). omega (arith, whole j begun, ends.fits)) (cases_lt (n + r) 64)))
+        (λ (fine : w j ≤ 5 - s). omega (arith, there)) (cases_lt (5 - s) (w j)))
+        (λ (past : n ≤ j). omega (arith, there, (rest (at + j) (omega arith) (omega arith)).0)) (cases_lt j n))
+        (cases_lt (n + r + s) 5))
+
+-- ---- the window of a vector
+
+module _ (f : Flavor) (bytes : List ℕ) (at n r : ℕ) (masks : Masks) (long : at + 64 ≤ length bytes) (boundary : is_boundary_at f (window_of bytes) at ≡ true)
+    (count : (n ≤ 59) ⊎ ((n ≤ 64) × ((i : ℕ) → at + 64 ≤ i → i < at + 64 + 5 → get_or bytes i 0 ≡ 0))) (given : AreMasks f (chunk at 64 bytes) 0 n masks) where
+  pub few : n ≤ 64
+  few = ⊎_elim (λ (few : n ≤ 59). omega arith) (λ ends. ends.0) count
+
+  agree : Agree (chunk at 64 bytes) bytes 0 at (n + 5)
+  agree k small =
+      ⊎_elim (λ (inside : k < 64). ap (λ i. get_or (chunk at 64 bytes) i 0) (zero-add k) ∙ get_or-chunk at 64 bytes k 0 inside)
+      (λ (past : 64 ≤ k).
+      get_or_past (chunk at 64 bytes) (0 + k) 0 (omega (arith, length-chunk at 64 bytes long))
+      ∙ sym (⊎_elim (λ (few : n ≤ 59). absurd (omega arith))
+      (λ (ends : (n ≤ 64) × ((i : ℕ) → at + 64 ≤ i → i < at + 64 + 5 → get_or bytes i 0 ≡ 0)). ends.1 (at + k) (omega arith) (omega (arith, ends.0))) count))
+      (cases_lt k 64)
+
+  are : AreMasks f bytes at n masks
+  are = masks_moved f (chunk at 64 bytes) bytes at n masks agree given
+
+  whole : (i : ℕ) → i < n → i + width_at f bytes (at + i) ≤ 64
+  whole i inside =
+      ⊎_elim (λ (few : n ≤ 59). ⊎_elim (λ (low : width_at f bytes (at + i) ≤ 3). omega arith) (λ (six : width_at f bytes (at + i) ≡ 6). omega arith) (widths f bytes at n i))
+      (λ (ends : (n ≤ 64) × ((i : ℕ) → at + 64 ≤ i → i < at + 64 + 5 → get_or bytes i 0 ≡ 0)).
+      omega (arith, ends_at_zero f bytes (at + i) (at + 64) (omega (arith, ends.0)) (ends.1 (at + 64) (omega arith) (omega arith))))
+      count
+
+  abbrev threes : ℕ
+  threes = bit_or (bit_or masks.threes masks.pairs) (masks.pairs * 2 ^ 3 % 2 ^ 64)
+
+  abbrev begins : ℕ
+  begins = bit_or (bit_or masks.twos masks.nulls) threes
+
+  abbrev mask : ℕ
+  mask = bit_or (bit_or begins (begins * 2 ^ 1 % 2 ^ 64)) (threes * 2 ^ 2 % 2 ^ 64)
+
+  fits : (test : ℕ → Bool) (a : ℕ) → Marks a test at n → a < 2 ^ 64
+  fits test a is =
+      let low = mask_l-lt (map test (range_with_len at n)) in
+      let long : length (map test (range_with_len at n)) ≡ n = length-map-range_with_len test at n in
+      marks_below n a few (subst (λ k. a < 2 ^ k) long (subst (λ m. m < 2 ^ length (map test (range_with_len at n))) (sym is) low))
+
+  shifted_fits : (a k : ℕ) → a * k % 2 ^ 64 < 2 ^ 64
+  shifted_fits a k = mod-lt (a * k) (omega arith)
+
+  threes_fit : threes < 2 ^ 64
+  threes_fit =
+      or_lt 64 (bit_or masks.threes masks.pairs) (masks.pairs * 2 ^ 3 % 2 ^ 64)
+      (or_lt 64 masks.threes masks.pairs (fits (is_three_at bytes) masks.threes are.threes) (fits (is_pair_at f bytes) masks.pairs are.pairs))
+      (shifted_fits masks.pairs (2 ^ 3))
+
+  begins_fit : begins < 2 ^ 64
+  begins_fit =
+      or_lt 64 (bit_or masks.twos masks.nulls) threes
+      (or_lt 64 masks.twos masks.nulls (fits (is_two_at bytes) masks.twos are.twos) (fits (is_null_at f bytes) masks.nulls are.nulls)) threes_fit
+
+  mask_fits : mask < 2 ^ 64
+  mask_fits =
+      or_lt 64 (bit_or begins (begins * 2 ^ 1 % 2 ^ 64)) (threes * 2 ^ 2 % 2 ^ 64)
+      (or_lt 64 begins (begins * 2 ^ 1 % 2 ^ 64) begins_fit (shifted_fits begins (2 ^ 1))) (shifted_fits threes (2 ^ 2))
+
+  of_threes : HasBits threes (threes_by f bytes at n)
+  of_threes = threes_mask f bytes at n (bits_from (is_three_at bytes) at n are.threes) (bits_from (is_pair_at f bytes) at n are.pairs)
+
+  of_mask : HasBits mask (covered_by f bytes at n)
+  of_mask =
+      covered_mask f bytes at n
+      (or_bits (or_bits (bits_from (is_two_at bytes) at n are.twos) (bits_from (is_null_at f bytes) at n are.nulls)) of_threes) of_threes
+
+  -- Its last character ends after so many bytes more,
+  pub by_ones : n < 64 → Ends f bytes at n boundary (trailing_ones w64 (mask / 2 ^ n))
+  by_ones less = ends_of f bytes at n boundary mask less mask_fits of_mask
+
+  -- and the rest of the window is as the masks tell.
+  pub window_is : Ends f bytes at n boundary r →
+      let window : Window = record { ill_formed = bit_and masks.others (bit_not w64 mask); pairs = masks.pairs; nulls = masks.nulls; len = n + r } in
+      (is : IsWindow f bytes at window) × (is.n ≡ n)
+  window_is ends = (
+    record {
+      n = n;
+      few = few;
+      ill_formed = ill_marks f bytes at n boundary masks.others mask few (fits (is_other_at f bytes) masks.others are.others) mask_fits
+          (bits_from (is_other_at f bytes) at n are.others) of_mask;
+      pairs = are.pairs;
+      nulls = are.nulls;
+      len = (omega arith, omega (arith, ends.few));
+      fits = ends.fits;
+      rest = rest f bytes at n boundary r ends long;
+      boundary = boundary_after f bytes at n boundary r ends long whole;
+    },
+    refl,
+  )

@@ -1,7 +1,0 @@
-use Rattle.cesu8_decode.proofs.decoder.StartLanes.{told_are}
-use Rattle.cesu8_decode.proofs.lanes.offsets.common_bits.Goals as goal
-
-pub returns : goal.returns
-returns c =
-    rw (c.look_up.ensures, c.look_up-2.ensures, c.look_up-3.ensures)
-    (told_are c.args.by_high c.args.by_low c.args.by_next c.args.first c.args.second c.fits-first.0 c.fits-second.0)

@@ -1,9 +1,0 @@
-use Rattle.std.proofs.Common.{arith}
-use Rattle.cesu8_decode.proofs.decoder.StartLanes.{halves_ok, entries}
-use Rattle.cesu8_decode.proofs.lanes.offsets.look_up.Goals as goal
-
-pub swizzle : goal.swizzle
-swizzle c = halves_ok c.args.lanes c.fits-lanes.0
-
-pub returns : goal.returns
-returns c = entries c.args.lanes c.fits-lanes.0 c.args.table (omega arith)

@@ -1,0 +1,9 @@
+use Rattle.std.proofs.Common.{arith}
+use Rattle.cesu8_decode.proofs.decoder.LookUps.{halves_ok, entries}
+use Rattle.cesu8_decode.proofs.lanes.tables.look_up.Goals as goal
+
+pub swizzle : goal.swizzle
+swizzle c = halves_ok c.args.lanes c.fits-lanes.0
+
+pub returns : goal.returns
+returns c = entries c.args.lanes c.fits-lanes.0 c.args.table (omega arith)

@@ -1,0 +1,5 @@
+use Rattle.cesu8_decode.proofs.decoder.EventsRows.{rows_are}
+use Rattle.cesu8_decode.proofs.pass.events.replaced.rows.Goals as goal
+
+pub returns : goal.returns
+returns c set l = rows_are set l

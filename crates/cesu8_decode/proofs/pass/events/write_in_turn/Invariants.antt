@@ -1,0 +1,9 @@
+use Rattle.cesu8_decode.proofs.decoder.Events.{AreRead}
+use Rattle.cesu8_decode.proofs.pass.events.write_in_turn.Given as goal
+
+abbrev pub invariant-loop-events : goal.invariant-loop-events
+invariant-loop-events g l =
+    AreRead g.F.Flavor.flavor g.S.Reading.which l.bytes l.at l.window l.initial.end l.initial.out l.ill_formed l.read l.events l.end l.out
+
+abbrev pub decreases-loop-events : goal.decreases-loop-events
+decreases-loop-events g l = l.events

@@ -1,0 +1,12 @@
+use Rattle.std.proofs.Common.{◌≡◌, ◌-◌, false, length}
+use Rattle.cesu8_decode.specs.Decoding.{GoesOn}
+use Rattle.cesu8_decode.proofs.pass.windows.write_in_place.Given as goal
+
+abbrev pub decreases-loop-pass : goal.decreases-loop-pass
+decreases-loop-pass g l = length l.fn.bytes - l.pass.read
+
+abbrev pub invariant-loop-pass : goal.invariant-loop-pass
+invariant-loop-pass g l = record {
+  more : GoesOn g.F.Flavor.flavor g.S.Reading.which l.fn.bytes l.fn.before l.pass l.initial.out l.out;
+  fresh : l.pass.read ≡ l.fn.before.read → l.pass.is_refused ≡ false;
+}

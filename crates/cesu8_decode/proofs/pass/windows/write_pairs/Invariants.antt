@@ -1,0 +1,13 @@
+use Rattle.std.proofs.Common.{◌-◌, ◌+◌, ◌*◌, ◌≤◌, length}
+use Rattle.cesu8_decode.specs.Decoding.{GoesOn, pass_from}
+use Rattle.cesu8_decode.proofs.decoder.Passes.{pass_at}
+use Rattle.cesu8_decode.proofs.pass.windows.write_pairs.Given as goal
+
+abbrev pub decreases-loop-at : goal.decreases-loop-at
+decreases-loop-at g l = length l.bytes - l.at
+
+abbrev pub invariant-loop-at : goal.invariant-loop-at
+invariant-loop-at g l = record {
+  used : 3 * l.end + 2 * l.read ≤ 2 * l.at;
+  more : GoesOn g.F.Flavor.flavor g.S.Reading.which l.bytes (pass_from l.read) (pass_at l.at l.end) l.initial.out l.out;
+}

@@ -1,0 +1,66 @@
+//! Looks bytes up in tables of sixteen entries, and moves bytes from one vector to the next.
+
+ghost use Rattle.std.specs.Prelude.{◌≡◌, ◌%◌, map, slice_index};
+ghost use Rattle.std.specs.Simd.Lanes.{zip2};
+ghost use Rattle.cesu8_decode.specs.Following.{told};
+
+use cesu8_bytes::BLOCK;
+use cesu8_bytes::lanes::class::AtLeast;
+use std::simd::prelude::*;
+
+/// The lanes whose highest bit is set.
+pub type HighestBit = AtLeast<0x80>;
+
+/// The indices of sixteen lanes, twice.
+const TWICE: [usize; BLOCK] = [
+    0, 1, 2, 3, 4, 5, 6, 7, 8, 9, 10, 11, 12, 13, 14, 15, 0, 1, 2, 3, 4, 5, 6, 7, 8, 9, 10, 11, 12,
+    13, 14, 15,
+];
+
+// The numbers of 32 lanes, from this one on.
+macro_rules! numbers_from {
+    ($n:literal) => {
+        numbers_from!(
+            $n; 0 1 2 3 4 5 6 7 8 9 10 11 12 13 14 15 16 17 18 19 20 21 22 23 24 25 26 27 28 29 30 31
+        )
+    };
+    ($n:literal; $($k:literal)+) => {
+        [$($n + $k),+]
+    };
+}
+
+// The indices of 32 lanes, from the number in the name on.
+pub const FROM_28: [usize; BLOCK] = numbers_from!(28);
+
+pub const FROM_29: [usize; BLOCK] = numbers_from!(29);
+
+pub const FROM_30: [usize; BLOCK] = numbers_from!(30);
+
+pub const FROM_31: [usize; BLOCK] = numbers_from!(31);
+
+/// Returns the common bits of three tables, for each two bytes: by the upper half of the first, by
+/// its lower half, and by the upper half of the second.
+#[inline(always)]
+pub fn common_bits(
+    by_high: [u8; 16],
+    by_low: [u8; 16],
+    by_next: [u8; 16],
+    first: u8x32,
+    second: u8x32,
+) -> u8x32
+    ensures { result ≡ zip2 (told by_high by_low by_next) first second }
+{
+    let four = u8x32::splat(4);
+    look_up(by_high, first >> four) & look_up(by_low, first) & look_up(by_next, second >> four)
+}
+
+/// Returns the entry of a table for the lower half of each lane.
+#[inline(always)]
+pub fn look_up(table: [u8; 16], lanes: u8x32) -> u8x32
+    ensures { result ≡ map (λ lane. slice_index table (lane % 16)) lanes }
+{
+    // Each half of the lanes looks into its own sixteen, so the table stands in both.
+    u8x16::from_array(table)
+        .swizzle::<32>(TWICE)
+        .swizzle_dyn_within::<16>(lanes & u8x32::splat(15))
+}

@@ -1,0 +1,56 @@
+//! What changes in a window of 64 bytes, and where its last character ends.
+//!
+//! A byte is ill-formed if no character covers it, and the masks of what begins at each offset
+//! tell which bytes are covered. The next window begins where the last character ends, so no
+//! window needs to know anything of the one before it.
+
+ghost use Rattle.std.specs.Prelude.{◌≡◌, ℕ, ◌+◌, ◌<◌, ◌≤◌, ◌⊎◌, true, length, slice_index};
+ghost use Rattle.cesu8_decode.specs.DecodedOffsets.{is_boundary_at, window_of};
+ghost use Rattle.cesu8_decode.specs.Masks.{IsWindow};
+
+pub use super::masks::STEP;
+use super::masks::masks_of;
+use cesu8_bytes::flavor::Flavor;
+use cesu8_bytes::lanes::class::LANES;
+use std::simd::prelude::*;
+
+/// What changes among the bytes of a window, as masks, and how many bytes these are.
+#[derive(Clone, Copy)]
+pub struct Window {
+    /// Bytes that no character covers.
+    pub ill_formed: u64,
+    /// Where surrogate pairs begin.
+    pub pairs: u64,
+    /// Where C0 80 begins, in MUTF-8.
+    pub nulls: u64,
+    /// Where the last character ends that begins in the window.
+    pub len: usize,
+}
+
+/// Returns the window at a boundary, of the characters that begin at the next `count` offsets.
+#[inline(always)]
+pub fn window_at<F: Flavor>(bytes: &[u8], at: usize, count: usize) -> Window
+    requires bytes { at + LANES ≤ length bytes.now }
+    requires boundary { is_boundary_at F.flavor (window_of bytes.now) at ≡ true }
+    requires count { (count ≤ STEP) ⊎ ((count ≤ LANES)
+        × ((i : ℕ) → at + LANES ≤ i → i < at + LANES + 5 → slice_index bytes.now i ≡ 0)) }
+    ensures window { (is : IsWindow F.flavor bytes.now at result) × (is.n ≡ count) }
+    ensures count { (count ≤ result.len) × (result.len ≤ count + 5) }
+{
+    let masks = masks_of::<F, LANES>(u8x64::from_slice(&bytes[at..]), count);
+    // A surrogate pair covers what two characters of three bytes do.
+    let threes = masks.threes | masks.pairs | (masks.pairs << 3);
+    let begins = masks.twos | masks.nulls | threes;
+    let covered = begins | (begins << 1) | (threes << 2);
+    let rest = if count == LANES {
+        0
+    } else {
+        (covered >> count).trailing_ones() as usize
+    };
+    Window {
+        ill_formed: masks.others & !covered,
+        pairs: masks.pairs,
+        nulls: masks.nulls,
+        len: count + rest,
+    }
+}

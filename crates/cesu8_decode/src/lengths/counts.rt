@@ -1,0 +1,82 @@
+//! By how much a lossy text is shorter than three bytes for each byte that is read.
+//!
+//! Each character saves some bytes, by its width, and an ill-formed byte saves none. So the masks
+//! of what begins at each offset give the sum, by how many of their bits are set.
+
+ghost use Rattle.std.specs.Prelude.{◌≡◌, ◌+◌, ◌-◌, ◌*◌, ◌<◌, ◌≤◌, ◌++◌, length, drop};
+ghost use Rattle.cesu8_decode.specs.DecodedOffsets.{total_saved, saved_between};
+
+use crate::lanes::masks::{STEP, masks_of};
+use cesu8_bytes::BLOCK;
+use cesu8_bytes::flavor::Flavor;
+use cesu8_bytes::lanes::class::LANES;
+use cesu8_bytes::lanes::padded::padded_half;
+use cesu8_bytes::writing::put::put_lanes;
+use std::simd::prelude::*;
+
+/// Returns what at most 64 bytes save.
+#[inline(always)]
+pub fn saved_by_few<F: Flavor>(bytes: &[u8]) -> usize
+    requires { length bytes.now ≤ LANES }
+    ensures { result ≡ total_saved F.flavor bytes.now }
+{
+    if bytes.len() <= BLOCK {
+        return saved_by_lanes::<F, BLOCK>(padded_half(bytes), 0, bytes.len());
+    }
+    let second = padded_half(&bytes[BLOCK..]);
+    let lanes = joined(u8x32::from_slice(bytes), second);
+    saved_by_lanes::<F, LANES>(lanes, 0, bytes.len())
+}
+
+/// Returns two blocks, one after the other.
+#[inline(always)]
+fn joined(first: u8x32, second: u8x32) -> u8x64
+    ensures { result ≡ first ++ second }
+{
+    let mut bytes = [0; LANES];
+    put_lanes(first, &mut bytes, 0);
+    put_lanes(second, &mut bytes, BLOCK);
+    u8x64::from_array(bytes)
+}
+
+/// Returns what the next offsets save, as many as are whole in a vector.
+#[inline(always)]
+pub fn saved_by_step<F: Flavor>(bytes: &[u8], at: usize) -> usize
+    requires { at + LANES ≤ length bytes.now }
+    ensures { result ≡ saved_between F.flavor bytes.now at STEP }
+{
+    saved_by_lanes::<F, LANES>(u8x64::from_slice(&bytes[at..]), 0, STEP)
+}
+
+/// Returns what the last `count` offsets save, by a vector of the last bytes.
+#[inline(always)]
+pub fn saved_by_last<F: Flavor>(bytes: &[u8], count: usize) -> usize
+    requires { (0 < count) × (count ≤ LANES) × (LANES ≤ length bytes.now) }
+    ensures { result ≡ total_saved F.flavor (drop (length bytes.now - count) bytes.now) }
+{
+    let lanes = u8x64::from_slice(&bytes[bytes.len() - LANES..]);
+    saved_by_lanes::<F, LANES>(lanes, LANES - count, count)
+}
+
+/// Returns what `count` offsets save, after those that were counted. Zeros follow the lanes.
+#[inline(always)]
+fn saved_by_lanes<F: Flavor, const N: usize>(
+    lanes: Simd<u8, N>,
+    counted: usize,
+    count: usize,
+) -> usize
+    requires lanes { N ≤ LANES }
+    requires count { (counted + count ≤ N) × (counted < LANES) }
+    ensures { result ≡ saved_between F.flavor lanes.entry counted count }
+{
+    let masks = masks_of::<F, N>(lanes, counted + count);
+    let others = (masks.others >> counted).count_ones() as usize;
+    if others == 0 {
+        return 2 * count;
+    }
+    let twos = (masks.twos >> counted).count_ones() as usize;
+    let threes = (masks.threes >> counted).count_ones() as usize;
+    let pairs = (masks.pairs >> counted).count_ones() as usize;
+    let nulls = (masks.nulls >> counted).count_ones() as usize;
+    2 * (count - others) + 4 * twos + 6 * threes + 14 * pairs + 5 * nulls
+}

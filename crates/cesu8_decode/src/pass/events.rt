@@ -1,0 +1,183 @@
+//! Writes what the bytes of a window become.
+//!
+//! An event is a surrogate pair, C0 80 in MUTF-8, or a run of ill-formed bytes. The masks of a
+//! window have a bit for each, so one loop over the set bits finds them in turn. What is between
+//! two events stays as it is, and is copied.
+
+ghost use Rattle.std.specs.Prelude.{◌≡◌, ◌+◌, ◌*◌, ◌<◌, ◌≤◌, true, false, length, take, drop, replicate};
+ghost use Rattle.cesu8_text.specs.Text.{utf8};
+ghost use Rattle.cesu8_bytes.specs.Puts.{WritesAt};
+ghost use Rattle.cesu8_bytes.specs.declared.strictness.Strictness.TheVariants.{Strict};
+ghost use Rattle.cesu8_decode.specs.DecodedOffsets.{decoded, window_of, is_boundary_at, width_at};
+ghost use Rattle.cesu8_decode.specs.Decoding.{most_written};
+ghost use Rattle.cesu8_decode.specs.Masks.{IsWindow, is_null_at, is_pair_at};
+
+mod changed;
+mod nulls;
+mod replaced;
+
+use crate::lanes::windows::Window;
+use cesu8_bytes::flavor::Flavor;
+use cesu8_bytes::lanes::class::LANES;
+use cesu8_bytes::pairs::{PAIR, PAIR_READ, PAIR_UTF8, utf8_of_pair};
+use cesu8_bytes::strictness::{LossyReading, Reading, StrictReading, Strictness};
+use cesu8_bytes::writing::put::{put, put_lanes};
+use changed::put_changed;
+use nulls::write_nulls;
+use replaced::{REPLACEMENT, write_replaced};
+use std::simd::prelude::*;
+
+/// How many bytes may be stored after the text of a window.
+pub const STORED_AFTER: usize = LANES;
+
+/// How many replacement characters one store writes.
+const AT_ONCE: usize = 10;
+
+/// The replacement character ten times, and the first two bytes of it.
+const REPLACEMENTS: [u8; 32] = [
+    0xEF, 0xBF, 0xBD, 0xEF, 0xBF, 0xBD, 0xEF, 0xBF, 0xBD, 0xEF, 0xBF, 0xBD, 0xEF, 0xBF, 0xBD, 0xEF,
+    0xBF, 0xBD, 0xEF, 0xBF, 0xBD, 0xEF, 0xBF, 0xBD, 0xEF, 0xBF, 0xBD, 0xEF, 0xBF, 0xBD, 0xEF, 0xBF,
+];
+
+/// From so many C0 80 on, a window without other events is packed by shuffles.
+const MANY_NULLS: u32 = 4;
+
+/// From so many surrogate pairs and C0 80 on, all bytes of a window without ill-formed ones are
+/// changed at once. Fewer are written faster one after another.
+const MANY_CHANGED: u32 = 4;
+
+/// From so many runs of ill-formed bytes on, a window without other events is packed by shuffles.
+/// The bytes of fewer runs are replaced faster by stores of the replacement character.
+const MANY_RUNS: u32 = 5;
+
+/// Writes what the bytes of a window become, and returns the end. No character crosses the front of
+/// the window. Strict reading has no byte that is ill-formed.
+#[inline(always)]
+pub fn write_events<F: Flavor, S: Reading>(
+    bytes: &[u8],
+    at: usize,
+    window: Window,
+    out: &mut [u8],
+    end: usize,
+) -> usize
+    requires window { IsWindow F.flavor bytes.now at window }
+    requires boundary { is_boundary_at F.flavor (window_of bytes.now) at ≡ true }
+    requires strict { S.which ≡ Strict → window.ill_formed ≡ 0 }
+    requires bytes { at + window.len + LANES ≤ length bytes.now }
+    requires room { end + most_written S.which LANES + STORED_AFTER ≤ length out.old }
+    ensures { WritesAt (decoded F.flavor (window_of bytes.now) at window.len)
+        end out.old out.new result }
+{
+    let changed = window.pairs | window.nulls;
+    if window.ill_formed == 0 {
+        if window.pairs == 0 && window.nulls.count_ones() >= MANY_NULLS {
+            return write_nulls::<F>(bytes, at, window, out, end);
+        }
+        if changed.count_ones() >= MANY_CHANGED {
+            return put_changed::<F>(bytes, at, window, out, end);
+        }
+        return write_in_turn::<F, StrictReading>(bytes, at, window, out, end);
+    }
+    let runs = window.ill_formed & !(window.ill_formed << 1);
+    if changed == 0 && runs.count_ones() >= MANY_RUNS {
+        return write_replaced::<F>(bytes, at, window, out, end);
+    }
+    write_in_turn::<F, LossyReading>(bytes, at, window, out, end)
+}
+
+/// Writes the events one after another, and copies what is between them.
+#[inline(always)]
+fn write_in_turn<F: Flavor, S: Reading>(
+    bytes: &[u8],
+    at: usize,
+    window: Window,
+    out: &mut [u8],
+    end: usize,
+) -> usize
+    requires window { IsWindow F.flavor bytes.now at window }
+    requires boundary { is_boundary_at F.flavor (window_of bytes.now) at ≡ true }
+    requires strict { S.which ≡ Strict → window.ill_formed ≡ 0 }
+    requires bytes { at + window.len + LANES ≤ length bytes.now }
+    requires room { end + most_written S.which window.len + STORED_AFTER ≤ length out.old }
+    ensures { WritesAt (decoded F.flavor (window_of bytes.now) at window.len)
+        end out.old out.new result }
+{
+    // Strict reading is compiled without what replaces ill-formed bytes.
+    let ill_formed = match S::strictness() {
+        Strictness::Strict => 0,
+        Strictness::Lossy => window.ill_formed,
+    };
+    let mut events = window.pairs | window.nulls | ill_formed & !(ill_formed << 1);
+    let mut read = 0;
+    let mut end = end;
+    while events != 0 {
+        let next = events.trailing_zeros() as usize;
+        events &= events - 1;
+        let copied = copy_between(bytes, at + read, next - read, out, end);
+        let run = (ill_formed >> next).trailing_ones() as usize;
+        (read, end) = if run != 0 {
+            (next + run, put_replacements(run, out, copied))
+        } else {
+            let is_null = window.nulls >> next & 1 != 0;
+            let (len, end) = write_changed::<F>(bytes, at + next, is_null, out, copied);
+            (next + len, end)
+        };
+    }
+    copy_between(bytes, at + read, window.len - read, out, end)
+}
+
+/// Copies `count` bytes from an offset on, at most 64, and returns their end. Others come after
+/// them, so that no branch depends on the count.
+#[inline(always)]
+fn copy_between(bytes: &[u8], at: usize, count: usize, out: &mut [u8], end: usize) -> usize
+    requires count { count ≤ LANES }
+    requires bytes { at + LANES ≤ length bytes.now }
+    requires room { end + LANES ≤ length out.old }
+    ensures { WritesAt (take count (drop at bytes.now)) end out.old out.new result }
+{
+    put_lanes(u8x64::from_slice(&bytes[at..]), out, end);
+    end + count
+}
+
+/// Writes the C0 80 or the surrogate pair at an offset in UTF-8. Returns its length and the end.
+#[inline(always)]
+fn write_changed<F: Flavor>(
+    bytes: &[u8],
+    at: usize,
+    is_null: bool,
+    out: &mut [u8],
+    end: usize,
+) -> (usize, usize)
+    requires bytes { at + PAIR_READ ≤ length bytes.now }
+    requires null { is_null ≡ true → is_null_at F.flavor bytes.now at ≡ true }
+    requires pair { is_null ≡ false → is_pair_at F.flavor bytes.now at ≡ true }
+    requires room { end + PAIR_UTF8 ≤ length out.old }
+    ensures width { (result.0 ≡ width_at F.flavor bytes.now at) × (0 < result.0) }
+    ensures written { WritesAt (decoded F.flavor (window_of bytes.now) at result.0)
+        end out.old out.new result.1 }
+    ensures end { result.1 ≤ end + result.0 }
+{
+    if is_null {
+        return (2, put(&[0], out, end));
+    }
+    (PAIR, put(&utf8_of_pair(&bytes[at..]), out, end))
+}
+
+/// Writes the replacement character so many times, and returns the end. Others come after them.
+#[inline(always)]
+fn put_replacements(count: usize, out: &mut [u8], end: usize) -> usize
+    requires count { count ≤ LANES }
+    requires room { end + REPLACEMENT * count + STORED_AFTER ≤ length out.old }
+    ensures { WritesAt (utf8 (replicate count 0xFFFD)) end out.old out.new result }
+{
+    let replacements = u8x32::from_array(REPLACEMENTS);
+    let mut left = count;
+    let mut end = end;
+    while left > AT_ONCE {
+        put_lanes(replacements, out, end);
+        end += REPLACEMENT * AT_ONCE;
+        left -= AT_ONCE;
+    }
+    put_lanes(replacements, out, end);
+    end + REPLACEMENT * left
+}

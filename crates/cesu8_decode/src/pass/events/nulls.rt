@@ -1,0 +1,56 @@
+//! Writes what the bytes of a window become if many of them are C0 80, and nothing else changes.
+//!
+//! C0 becomes 00 and 80 is left out, so shuffles pack the bytes eight at a time, with no branch on
+//! a byte.
+
+ghost use Rattle.std.specs.Prelude.{◌≡◌, ◌+◌, ◌≤◌, ◌==◌, if◌then◌else◌, true, length, map};
+ghost use Rattle.cesu8_bytes.specs.Puts.{WritesAt};
+ghost use Rattle.cesu8_decode.specs.DecodedOffsets.{decoded, window_of, is_boundary_at};
+ghost use Rattle.cesu8_decode.specs.Masks.{IsWindow};
+
+use crate::lanes::windows::Window;
+use cesu8_bytes::BLOCK;
+use cesu8_bytes::flavor::Flavor;
+use cesu8_bytes::lanes::class::LANES;
+use cesu8_bytes::writing::packing::store_kept;
+use std::simd::prelude::*;
+
+/// Writes what the bytes of a window become that has no other events than C0 80, and returns the
+/// end. No character crosses the front of the window.
+#[inline(always)]
+pub fn write_nulls<F: Flavor>(
+    bytes: &[u8],
+    at: usize,
+    window: Window,
+    out: &mut [u8],
+    end: usize,
+) -> usize
+    requires window { IsWindow F.flavor bytes.now at window }
+    requires boundary { is_boundary_at F.flavor (window_of bytes.now) at ≡ true }
+    requires nulls { (window.pairs ≡ 0) × (window.ill_formed ≡ 0) }
+    requires bytes { at + window.len + LANES ≤ length bytes.now }
+    requires room { end + LANES + LANES ≤ length out.old }
+    ensures { WritesAt (decoded F.flavor (window_of bytes.now) at window.len)
+        end out.old out.new result }
+{
+    let left_out = window.nulls << 1;
+    let mut written = 0;
+    let mut end = end;
+    while written < LANES {
+        let block = u8x32::from_slice(&bytes[at + written..]);
+        end = store_kept(zeroed(block), (left_out >> written) as usize, out, end);
+        written += BLOCK;
+    }
+    // Each byte that follows the window was stored too.
+    end - (written - window.len)
+}
+
+/// Returns the bytes with 00 for C0.
+#[inline(always)]
+fn zeroed(bytes: u8x32) -> u8x32
+    ensures { result ≡ map (λ b. if b == 0xC0 then 0 else b) bytes }
+{
+    bytes
+        .simd_eq(u8x32::splat(0xC0))
+        .select(u8x32::splat(0), bytes)
+}

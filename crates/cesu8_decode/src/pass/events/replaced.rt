@@ -1,0 +1,120 @@
+//! Writes what the bytes of a window become if many of them are ill-formed, and nothing else changes.
+//!
+//! Four bytes at a time are packed by the shuffle that puts the replacement character in place of
+//! each that is ill-formed, with no branch on a byte.
+
+ghost use Rattle.std.specs.Prelude.{◌≡◌, List, Bool, ◌+◌, ◌*◌, ◌<◌, ◌≤◌, true, false, length, take, replicate};
+ghost use Rattle.std.specs.Simd.Lanes.{mask_l};
+ghost use Rattle.cesu8_bytes.specs.Packing.{written, kept_of, lanes_at};
+ghost use Rattle.cesu8_bytes.specs.Puts.{WritesAt};
+ghost use Rattle.cesu8_decode.specs.DecodedOffsets.{decoded, window_of, is_boundary_at};
+ghost use Rattle.cesu8_decode.specs.Masks.{IsWindow, AreShufflesOfReplaced};
+
+use crate::lanes::windows::Window;
+use cesu8_bytes::flavor::Flavor;
+use cesu8_bytes::lanes::class::LANES;
+use cesu8_bytes::writing::packing::{HALF, STORED, picked, second_of};
+use std::simd::prelude::*;
+
+/// The shuffles for four bytes, in lanes 0 to 3. Lanes 4 to 6 have the replacement character, which
+/// takes the place of byte `i` in row `d` if bit `i` of `d` is set. The last number is how many
+/// bytes are written.
+const ROWS: [[u8; 16]; 16] = [
+    [0, 1, 2, 3, 0, 0, 0, 0, 0, 0, 0, 0, 0, 0, 0, 4],
+    [4, 5, 6, 1, 2, 3, 0, 0, 0, 0, 0, 0, 0, 0, 0, 6],
+    [0, 4, 5, 6, 2, 3, 0, 0, 0, 0, 0, 0, 0, 0, 0, 6],
+    [4, 5, 6, 4, 5, 6, 2, 3, 0, 0, 0, 0, 0, 0, 0, 8],
+    [0, 1, 4, 5, 6, 3, 0, 0, 0, 0, 0, 0, 0, 0, 0, 6],
+    [4, 5, 6, 1, 4, 5, 6, 3, 0, 0, 0, 0, 0, 0, 0, 8],
+    [0, 4, 5, 6, 4, 5, 6, 3, 0, 0, 0, 0, 0, 0, 0, 8],
+    [4, 5, 6, 4, 5, 6, 4, 5, 6, 3, 0, 0, 0, 0, 0, 10],
+    [0, 1, 2, 4, 5, 6, 0, 0, 0, 0, 0, 0, 0, 0, 0, 6],
+    [4, 5, 6, 1, 2, 4, 5, 6, 0, 0, 0, 0, 0, 0, 0, 8],
+    [0, 4, 5, 6, 2, 4, 5, 6, 0, 0, 0, 0, 0, 0, 0, 8],
+    [4, 5, 6, 4, 5, 6, 2, 4, 5, 6, 0, 0, 0, 0, 0, 10],
+    [0, 1, 4, 5, 6, 4, 5, 6, 0, 0, 0, 0, 0, 0, 0, 8],
+    [4, 5, 6, 1, 4, 5, 6, 4, 5, 6, 0, 0, 0, 0, 0, 10],
+    [0, 4, 5, 6, 4, 5, 6, 4, 5, 6, 0, 0, 0, 0, 0, 10],
+    [4, 5, 6, 4, 5, 6, 4, 5, 6, 4, 5, 6, 0, 0, 0, 12],
+];
+
+/// The replacement character, U+FFFD, four times, each in four lanes. Two of them are used.
+const REPLACEMENTS: [u8; 16] = [
+    0xEF, 0xBF, 0xBD, 0, 0xEF, 0xBF, 0xBD, 0, 0xEF, 0xBF, 0xBD, 0, 0xEF, 0xBF, 0xBD, 0,
+];
+
+/// How many bytes the replacement character has.
+pub const REPLACEMENT: usize = 3;
+
+/// Writes what the bytes of a window become that has no other events than ill-formed bytes, and
+/// returns the end. No character crosses the front of the window.
+#[inline(always)]
+pub fn write_replaced<F: Flavor>(
+    bytes: &[u8],
+    at: usize,
+    window: Window,
+    out: &mut [u8],
+    end: usize,
+) -> usize
+    requires window { IsWindow F.flavor bytes.now at window }
+    requires boundary { is_boundary_at F.flavor (window_of bytes.now) at ≡ true }
+    requires replaced { (window.pairs ≡ 0) × (window.nulls ≡ 0) }
+    requires bytes { at + window.len + LANES ≤ length bytes.now }
+    requires room { end + REPLACEMENT * LANES + LANES ≤ length out.old }
+    ensures { WritesAt (decoded F.flavor (window_of bytes.now) at window.len)
+        end out.old out.new result }
+{
+    let mut written = 0;
+    let mut end = end;
+    while written < LANES {
+        let half = u8x16::from_slice(&bytes[at + written..]);
+        end = store_replaced(half, (window.ill_formed >> written) as usize, out, end);
+        written += HALF;
+    }
+    // Each byte that follows the window was stored too.
+    end - (written - window.len)
+}
+
+/// Stores sixteen bytes with the replacement character for those whose bit is set, and returns the
+/// end. Bits above these tell nothing.
+#[inline(always)]
+fn store_replaced(bytes: u8x16, ill_formed: usize, out: &mut [u8], at: usize) -> usize
+    requires { at + REPLACEMENT * HALF + STORED ≤ length out.old }
+    ensures { (tests : List Bool) → HALF ≤ length tests → ill_formed ≡ mask_l tests
+        → WritesAt (written (replicate HALF false) (take HALF tests) bytes) at out.old out.new result }
+{
+    let replacements = u8x16::from_array(REPLACEMENTS);
+    let first = bytes.shuffle::<16>(
+        replacements,
+        [0, 1, 2, 3, 16, 17, 18, 19, 4, 5, 6, 7, 20, 21, 22, 23],
+    );
+    let third = bytes.shuffle::<16>(
+        replacements,
+        [8, 9, 10, 11, 16, 17, 18, 19, 12, 13, 14, 15, 20, 21, 22, 23],
+    );
+    let at = store_four(first, ill_formed & 0x0F, out, at);
+    let at = store_four(second_of(first), ill_formed >> 4 & 0x0F, out, at);
+    let at = store_four(third, ill_formed >> 8 & 0x0F, out, at);
+    store_four(second_of(third), ill_formed >> 12 & 0x0F, out, at)
+}
+
+/// Stores four bytes with the replacement character for those whose bit is set, and returns the end.
+#[inline(always)]
+fn store_four(lanes: u8x16, ill_formed: usize, out: &mut [u8], at: usize) -> usize
+    requires small { ill_formed < 0x10 }
+    requires room { at + STORED ≤ length out.old }
+    ensures kept { WritesAt (lanes_at lanes (kept_of 0 ill_formed 0 4)) at out.old out.new result }
+    ensures few { result ≤ at + REPLACEMENT * 4 }
+{
+    let row = &rows()[ill_formed];
+    let packed = picked(lanes, u8x16::from_array(*row));
+    packed.copy_to_slice(&mut out[at..]);
+    at + row[15] as usize
+}
+
+/// Returns a reference to the rows.
+fn rows() -> &'static [[u8; 16]; 16]
+    ensures { AreShufflesOfReplaced result.now }
+{
+    &ROWS
+}

@@ -1,0 +1,70 @@
+//! Writes what the bytes of one window become.
+//!
+//! `window_at` tells by masks what changes in them and where the last character ends, and
+//! `write_events` writes that. A window begins and ends where no character is crossed, so windows
+//! can be written one after another. Strict reading writes none that has an ill-formed byte.
+
+ghost use Rattle.std.specs.Prelude.{◌≡◌, ℕ, ◌+◌, ◌-◌, ◌≤◌, ◌⊎◌, true, false, length, slice_index};
+ghost use Rattle.cesu8_decode.specs.Decoding.{WritesDecoded, most_written};
+ghost use Rattle.cesu8_decode.specs.DecodedOffsets.{is_boundary_at, window_of};
+
+use crate::lanes::windows::{STEP, window_at};
+use crate::pass::events::{STORED_AFTER, write_events};
+use cesu8_bytes::flavor::Flavor;
+use cesu8_bytes::lanes::class::LANES;
+use cesu8_bytes::strictness::{Reading, Strictness};
+
+/// The most bytes that are written for one byte: those of the replacement character.
+pub const WIDEST: usize = 3;
+
+/// The room that `write_window` needs: for the longest text, and for what is stored after it.
+pub const ROOM: usize = WIDEST * LANES + STORED_AFTER;
+
+/// How many bytes a window reads at most after those that it is asked for. They are the last bytes
+/// of a character.
+pub const READ_AFTER: usize = LANES - STEP;
+
+/// What came of a window: how many bytes were read, the end of what is written for them, and
+/// whether strict reading refuses one of them.
+#[derive(Drop)]
+pub struct Written {
+    pub read: usize,
+    pub end: usize,
+    pub is_refused: bool,
+}
+
+/// Writes what becomes of the next `count` bytes, and of the last bytes of a character that begins
+/// in these. More than `STEP` have to be the last ones, with zeros after them.
+#[inline(always)]
+pub fn write_window<F: Flavor, S: Reading>(
+    bytes: &[u8],
+    at: usize,
+    count: usize,
+    out: &mut [u8],
+    end: usize,
+) -> Written
+    requires bytes { at + count + READ_AFTER + LANES ≤ length bytes.now }
+    requires boundary { is_boundary_at F.flavor (window_of bytes.now) at ≡ true }
+    requires count { (count ≤ STEP) ⊎ ((count ≤ LANES)
+        × ((i : ℕ) → at + count ≤ i → slice_index bytes.now i ≡ 0)) }
+    requires room { end + most_written S.which LANES + STORED_AFTER ≤ length out.old }
+    ensures written { WritesDecoded F.flavor S.which (window_of bytes.now) at result.read
+        end out.old out.new result.end result.is_refused }
+    ensures boundary { is_boundary_at F.flavor (window_of bytes.now) (at + result.read) ≡ true }
+    ensures count { (count ≤ result.read) × (result.read ≤ count + READ_AFTER) × (result.read ≤ LANES) }
+    ensures last { slice_index bytes.now (at + count) ≡ 0 → result.read ≡ count }
+{
+    let window = window_at::<F>(bytes, at, count);
+    if window.ill_formed != 0 && matches!(S::strictness(), Strictness::Strict) {
+        return Written {
+            read: window.len,
+            end,
+            is_refused: true,
+        };
+    }
+    Written {
+        read: window.len,
+        end: write_events::<F, S>(bytes, at, window, out, end),
+        is_refused: false,
+    }
+}
