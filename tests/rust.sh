@@ -211,7 +211,7 @@ look_at_assembly() {
     fi
     target=v3 RUSTFLAGS='-C target-cpu=x86-64-v3' in_crate rustc --release --lib -- --emit asm ||
         wrong 'the assembly for x86-64-v3'
-    awk '/^[_A-Za-z].*:/ { is_pass = /write_blocks/; passes += is_pass }
+    awk '/^[_A-Za-z].*:/ { is_pass = /write_windows/; passes += is_pass }
         is_pass && /vpinsrb/ { print; found = 1 }
         END { exit found || !passes }' "$scratch/v3/release/deps"/*.s || wrong 'vpinsrb in the pass'
     pass
