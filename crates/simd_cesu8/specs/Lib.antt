@@ -6,7 +6,6 @@ pub use Rattle.cesu8_text.specs.Class
 pub use Rattle.cesu8_bytes.specs.Kernels
 pub use Rattle.cesu8_text.specs.Reading
 pub use Rattle.cesu8_decode.specs.DecodedOffsets
-pub use Rattle.cesu8_decode.specs.DecodedLanes
 pub use Rattle.cesu8_text.specs.Fronts
 pub use Rattle.cesu8_text.specs.Cutting
 pub mod Cow
