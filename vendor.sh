@@ -3,10 +3,10 @@
 # that its crates.txt lacks:
 #   vendor.sh FOLDER >>FOLDER/crates.txt
 # FOLDER is the top of that repository. It gets the code, the definitions and the proofs of
-# `simd_cesu8` and `java_text`, and of the crates here that they stand on, with the licences, the
-# version, and a .gitignore for what `rt` makes there. Neither tests, with which a crate is proved
-# twice, nor wrong bodies are copied. An earlier copy is replaced, except its folder out. It needs
-# bash, awk, sed, grep and the core utilities, but no `rt`.
+# `simd_cesu8`, `java_text` and `cesu8_stream`, and of the crates here that they stand on, with the
+# licences, the version, and a .gitignore for what `rt` makes there. Neither tests, with which a
+# crate is proved twice, nor wrong bodies are copied. An earlier copy is replaced, except its folder
+# out. It needs bash, awk, sed, grep and the core utilities, but no `rt`.
 set -euo pipefail
 unset CDPATH
 export LC_ALL=C
@@ -53,7 +53,7 @@ without_tests() {
     ' "$1"
 }
 
-mapfile -t libraries < <(closure simd_cesu8 java_text)
+mapfile -t libraries < <(closure simd_cesu8 java_text cesu8_stream)
 
 if (($# != 1)); then
     echo 'usage: vendor.sh FOLDER' >&2

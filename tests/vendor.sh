@@ -158,13 +158,14 @@ look_at_git() {
     fi
 }
 
-libraries=(cesu8_text cesu8_bytes cesu8_encode cesu8_decode simd_cesu8 java_text)
+libraries=(cesu8_text cesu8_bytes cesu8_encode cesu8_decode simd_cesu8 java_text cesu8_stream)
 lines='cesu8_text:
 cesu8_bytes: cesu8_text
 cesu8_encode: cesu8_bytes cesu8_text
 cesu8_decode: cesu8_bytes cesu8_text simdutf8
 simd_cesu8: cesu8_encode cesu8_decode cesu8_bytes cesu8_text
-java_text: simd_cesu8'
+java_text: simd_cesu8
+cesu8_stream: simd_cesu8 simdutf8'
 new=$scratch/new
 mkdir "$new" || exit 2
 copy "$lines"
