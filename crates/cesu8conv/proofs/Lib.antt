@@ -1,0 +1,5 @@
+pub mod Joined
+pub mod Steps
+pub mod Pieces
+pub mod Streams
+pub mod Fronts

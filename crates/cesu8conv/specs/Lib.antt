@@ -1,0 +1,4 @@
+pub mod Conversion
+pub mod Library
+pub mod Steps
+pub mod Stream
