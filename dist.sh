@@ -11,7 +11,7 @@
 # python/wheel.py.
 #
 # Where the tools are there that tests/cross.sh names, FOLDER gets the same for aarch64, without the
-# programs, since the kit has the parts in C of programs for x86-64 alone.
+# programs, since the kit has the parts in C of cesu8_cli for x86-64 alone.
 #
 # It needs the kit's `rt`, git, a C compiler `cc` with GNU ld 2.36 or later, ar, ld, nm, objcopy,
 # objdump, strip, GNU tar, gzip, bash, awk, grep, sed and the core utilities.
@@ -93,17 +93,6 @@ link_shared() {
         -Wl,-z,defs,-z,relro,-z,now,-z,noexecstack \
         -Wl,--whole-archive "$folder/libcesu8.a" -Wl,--no-whole-archive
     ln -s "libcesu8.so.$major" "$folder/libcesu8.so"
-}
-
-# The program for files and streams, which the gate names if it has proved it: `build_conv`.
-build_conv() {
-    conv=${PROVED_CESU8CONV:-$top/crates/cesu8conv/out/cesu8conv}
-    [[ -z ${PROVED_CESU8CONV-} ]] || return 0
-    if ! (cd "$top/crates/cesu8conv" && rt run -- decode cesu8) </dev/null >"$scratch/build" 2>&1; then
-        cat "$scratch/build" >&2
-        echo 'cesu8conv was not built' >&2
-        exit 2
-    fi
 }
 
 # The program that tells where a file is damaged, in C over the static library.
@@ -230,9 +219,7 @@ else
 fi
 mkdir -p "$release/bin" "$release/include" "$release/lib" "$release/examples"
 build
-build_conv
 cp "$program" "$release/bin/cesu8_cli"
-cp "$conv" "$release/bin/cesu8conv"
 sh "$crate/archive.sh" "$release/lib/libcesu8.a"
 strip -D --strip-unneeded "$release/lib/libcesu8.a"
 # The loader refuses it on a processor before x86-64-v2.
@@ -245,12 +232,9 @@ fill cesu8.pc lib/pkgconfig/cesu8.pc
 fill cesu8-config.cmake lib/cmake/cesu8/cesu8-config.cmake
 fill cesu8-config-version.cmake lib/cmake/cesu8/cesu8-config-version.cmake
 fill cesu8_cli.1 share/man/man1/cesu8_cli.1
-fill cesu8conv.1 share/man/man1/cesu8conv.1
 fill cesu8_damage.1 share/man/man1/cesu8_damage.1
 write_call_pages
 fill cesu8_cli.bash share/bash-completion/completions/cesu8_cli
-# From the definition of its command line.
-"$release/bin/cesu8conv" --bash-completion >"$release/share/bash-completion/completions/cesu8conv"
 fill install.sh install.sh
 fill uninstall.sh uninstall.sh
 fill README.md README.md

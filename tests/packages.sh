@@ -98,8 +98,8 @@ wanted_files() {
             for file in "$unpacked"/share/man/man3/*; do echo "usr/share/man/man3/${file##*/}.gz"; done
             ;;
         cesu8-tools)
-            printf '%s\n' usr/{bin/,share/man/man1/}cesu8{_cli,_damage,conv} \
-                usr/share/bash-completion/completions/cesu8{_cli,conv} "$doc/PROGRAM.md" |
+            printf '%s\n' usr/{bin/,share/man/man1/}cesu8_{cli,damage} \
+                usr/share/bash-completion/completions/cesu8_cli "$doc/PROGRAM.md" |
                 sed '/man1/s/$/.1.gz/'
             ;;
         *) echo "$shared" ;;

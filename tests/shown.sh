@@ -54,6 +54,7 @@ shown_in_page() {
 shown_in_program_page() {
     local folder=$scratch/shown/program
     mkdir "$folder" || exit 2
+    printf '\355\240\275\355\262\226\n\0\n' >"$folder/dump"
     # shellcheck disable=SC2016
     sed -n '/^```sh$/,/^```$/{/^```/d;p;}' "$unpacked/PROGRAM.md" >"$folder/script"
     diff <(grep '^program=' "$folder/script" | tr -s ' ') \
@@ -62,6 +63,7 @@ shown_in_program_page() {
     (cd "$folder" && PATH=$unpacked/bin:$PATH bash ./script) 2>&1 | sed 's/^ //' >"$folder/printed"
     sed -nE '/^(printf|tail|\)) /s/.*  # //p' "$folder/script" | sed 's/, and /\n/' |
         diff - "$folder/printed" || wrong 'PROGRAM.md shows something else'
+    printf '\360\237\222\226\n\0\n' | cmp - "$folder/text" || wrong 'PROGRAM.md makes another text of a dump'
     echo 'what PROGRAM.md shows was run'
 }
 
@@ -102,7 +104,7 @@ look_at_call_pages() {
 look_at_words() {
     local page=$unpacked/share/man/man1/cesu8_cli.1 words
     # shellcheck disable=SC2016
-    sed -n '/^## `cesu8_cli`/,$s/^| `\([a-z-]*\)` |.*/\1/p' "$unpacked/PROGRAM.md" | sort >"$scratch/commands"
+    sed -n 's/^| `\([a-z-]*\)` |.*/\1/p' "$unpacked/PROGRAM.md" | sort >"$scratch/commands"
     (($(wc -l <"$scratch/commands") >= 8)) || wrong 'PROGRAM.md has few commands'
     diff "$scratch/commands" <(sed -n '/^\.SH COMMANDS/,/^\.SH EXIT/s/^\.B \([a-z].*\)/\1/p' "$page" |
         sed 's/\\-/-/g' | grep -vx yes | sort) || wrong 'the man page has other commands'
@@ -118,7 +120,7 @@ look_at_words() {
     done <"$scratch/commands"
     [[ -z $(complete_words 3 cesu8_cli encode cesu8 '') ]] || wrong 'the completion has a third word'
     if can_build 'the man pages of the programs' man --version; then
-        for words in cesu8_cli cesu8conv cesu8_damage; do
+        for words in cesu8_cli cesu8_damage; do
             reads_page "man1/$words.1"
             shown_lines "$scratch/shown_page"
         done

@@ -1,4 +1,0 @@
-pub mod Conversion
-pub mod Library
-pub mod Steps
-pub mod Stream
