@@ -36,7 +36,7 @@ pub extern "C" fn cesu8_java_read(bytes: &[u8], buf: &mut [u8]) -> Reading
     java_text::laws::parts();
     match counted_front(bytes) {
         Some((after, count)) => {
-            // Other strings mostly follow, so a short one is read with what is behind it.
+            // Other strings mostly follow, so a short one is read with the bytes after it.
             let answer = Answer::of_text(decode_mutf8_front_to_slice(after, count, buf));
             Reading::of(answer, 2 + count)
         }

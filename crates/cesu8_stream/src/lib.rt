@@ -9,7 +9,7 @@
 //!
 //! The root's calls are for CESU-8, and those of [`mutf8`] for MUTF-8. A call reads as much as fits
 //! in the buffer, and returns how many bytes it read and wrote and why it stopped. Call again with
-//! the bytes from `read` on, and after `Incomplete` with more bytes behind these. However the input
+//! the bytes from `read` on, and after `Incomplete` with more bytes after these. However the input
 //! is cut and whatever buffers are given, what the calls write, one after another, is the text of
 //! the pieces joined: [`laws`] says so.
 //!

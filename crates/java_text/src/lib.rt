@@ -141,7 +141,7 @@ pub fn read_utf(alloc: Global, bytes: &[u8]) -> Result<(CowText<'_>, &[u8]), Rea
     ensures capacity { BuildsTextOfCapacity (text_of result) (count_in bytes.now) }
 {
     let (counted, rest) = split_counted(bytes)?;
-    // Other forms mostly follow, so a short text is read with what is behind it.
+    // Other forms mostly follow, so a short text is read with the bytes after it.
     let text = mutf8::decode_strict_front(alloc, &bytes[2..], counted.len())?;
     Ok((text, rest))
 }
@@ -252,7 +252,7 @@ pub fn read_utf_to_slice<'b>(
 }
 
 /// Decodes the counted bytes strictly to the caller's buffer. Other forms mostly follow them, so a
-/// short text is read with what is behind it.
+/// short text is read with the bytes after it.
 #[inline(always)]
 fn decode_counted(bytes: &[u8], part: &[u8], buf: &mut [u8]) -> Result<usize, DecodeSliceFault>
     requires counted { part.now ≡ counted bytes.now }

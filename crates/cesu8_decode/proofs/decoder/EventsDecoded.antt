@@ -311,7 +311,7 @@ first_replacements n few =
     ∙ ap (λ m. take m (some ++ (others ++ 0xEF ∷ 0xBF ∷ []))) (sym (length_replacements n))
     ∙ take-append_seam some (others ++ 0xEF ∷ 0xBF ∷ [])
 
--- So many are written behind others by a store of ten.
+-- After m replacement characters a store of ten writes n more, since those after them do not count.
 pub replacements_stored : (m n start at last : ℕ) (lanes old mid new : List ℕ) → n ≤ 10 → lanes ≡ utf8 (replicate 10 0xFFFD) ++ 0xEF ∷ 0xBF ∷ [] →
     WritesAt (utf8 (replicate m 0xFFFD)) start old mid at → WritesAt lanes at mid new last → at ≤ length mid →
     WritesAt (utf8 (replicate (m + n) 0xFFFD)) start old new (at + 3 * n)
